@@ -1,21 +1,9 @@
 -- The operations of a job's actors go on as the script has it.
 use Rattle.std.proofs.Common.{◌≡◌, ℕ, zero, suc, ◌≤◌, nat_lt, Bool, true, false, cond, Option, None, refl, sym, ap, subst, ◌∙◌, arith}
-use Rattle.s3_types.specs.declared.request.Actor.{Actor}
-use Rattle.s3_types.specs.declared.request.Actor.TheVariants.{Driver, Attempt, Shell}
-use Rattle.s3_types.specs.declared.request.Request.{Request}
-use Rattle.s3_types.specs.declared.journal.Outcome.{Outcome}
-use Rattle.s3_types.specs.declared.journal.Outcome.TheVariants.{Answered, Slow, RequestLost}
-use Rattle.retries.specs.Retries.{Item, Got, WornOut, unanswered_by}
+use Rattle.job_steps.specs.Prelude.{Actor, Driver, Attempt, Shell, Request, Outcome, Answered, Slow, RequestLost, Item, Got, WornOut, unanswered_by, Known, Job, Task, Script, setup_asks, setup_after, clean_asks, clean_after, commit_asks, commit_tells, Setting, Operation, TheSetup, TheWrite, TheTaskCommit, TheTaskAbort, TheCommit, TheClean, Running, who, wants, advance, over, learn_of, Attempting, Driving, job_of, task_of, job_script, task_script, who_of, read_script, sets_in, sets_after, write_wants, write_told, task_commit_wants, task_commit_told, task_abort_wants, task_abort_told, setup_told, clean_told}
+use Rattle.job_protocol.specs.Prelude.{with_known}
+use Rattle.job_spec.proofs.Common.{jobs_tell}
 use Rattle.machine.specs.declared.retrying.Retrying.{Retrying}
-use Rattle.job_model.specs.Known.{Known}
-use Rattle.job_model.specs.Jobs.{Job, Task}
-use Rattle.job_model.specs.JobScript.{Script}
-use Rattle.job_protocol.specs.Setup.{setup_asks, setup_after}
-use Rattle.job_protocol.specs.Cleanups.{clean_asks, clean_after}
-use Rattle.job_protocol.specs.JobCommits.{commit_asks, commit_tells}
-use Rattle.job_protocol.specs.Operations.{Setting, Operation, TheSetup, TheWrite, TheTaskCommit, TheTaskAbort, TheCommit, TheClean, Running, who, wants, advance, over, learn_of}
-use Rattle.job_protocol.specs.AtWork.{Attempting, Driving, job_of, task_of, job_script, task_script, who_of, with_known, read_script, sets_in, sets_after, write_wants, write_told, task_commit_wants, task_commit_told, task_abort_wants, task_abort_told, setup_told, clean_told}
-use Rattle.job_protocol.proofs.Told.{jobs_tell}
 use Rattle.actor_operations.specs.declared.act.Act.{Act}
 use Rattle.actor_operations.specs.declared.act.Act.TheVariants.{Setup, Write, CommitTask, AbortTask, Commit, Clean}
 use Rattle.actor_operations.specs.Acts.{stepped, wants_of, tells_of, end_of}

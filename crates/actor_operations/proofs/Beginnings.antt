@@ -1,25 +1,8 @@
 -- Operations as they begin.
 use Rattle.std.proofs.Common.{◌≡◌, ℕ, false, cond, List, [], Option, Some, Result, Ok, Err, IfOk, refl, sym, ap, subst, ◌∙◌, arith}
-use Rattle.s3_types.specs.declared.request.Actor.{Actor}
-use Rattle.s3_types.specs.declared.request.Actor.TheVariants.{Driver, Attempt, Shell}
-use Rattle.s3_types.specs.declared.request.Request.{Request}
-use Rattle.s3_types.specs.declared.journal.Outcome.TheVariants.{RequestLost}
-use Rattle.retries.specs.Retries.{fresh}
-use Rattle.job_model.specs.Jobs.{Job, Task}
-use Rattle.proof_base.proofs.Members.{some_is}
-use Rattle.job_model.specs.Known.{Known}
-use Rattle.job_model.specs.Legal.{IsLegal}
-use Rattle.job_model.specs.declared.events.Op.{Op}
+use Rattle.job_steps.specs.Prelude.{Actor, Driver, Attempt, Shell, Request, RequestLost, fresh, Job, Task, Known, IsLegal, Op, setup_start, write_start, task_commit_start, task_abort_start, commit_start, clean_start, Setting, TheSetup, TheWrite, TheTaskCommit, TheTaskAbort, TheCommit, TheClean, who, learn_of, start_of, Attempting, job_of, task_of, task_script, who_of, read_script, write_wants, task_commit_wants, task_abort_wants}
+use Rattle.job_spec.proofs.Common.{some_is, tasks_tell}
 use Rattle.job_model.specs.declared.events.Op.TheVariants as ops
-use Rattle.job_protocol.specs.Setup.{setup_start}
-use Rattle.job_protocol.specs.Writes.{write_start}
-use Rattle.job_protocol.specs.TaskCommits.{task_commit_start}
-use Rattle.job_protocol.specs.TaskAborts.{task_abort_start}
-use Rattle.job_protocol.specs.JobCommits.{commit_start}
-use Rattle.job_protocol.specs.Cleanups.{clean_start}
-use Rattle.job_protocol.specs.Operations.{Setting, TheSetup, TheWrite, TheTaskCommit, TheTaskAbort, TheCommit, TheClean, who, learn_of, start_of}
-use Rattle.job_protocol.specs.AtWork.{Attempting, job_of, task_of, task_script, who_of, read_script, write_wants, task_commit_wants, task_abort_wants}
-use Rattle.job_protocol.proofs.Told.{tasks_tell}
 use Rattle.commit_laws.specs.Fitting.{least_missing}
 use Rattle.job_actor.specs.declared.plan.Plan.TheVariants as plans
 use Rattle.job_actor.specs.Plans.{IsPlanOf}

@@ -1,36 +1,21 @@
 -- What an attempt has left is not raised by a request that puts nothing below its directory.
 use Rattle.std.proofs.Common.{◌≡◌, ℕ, ◌+◌, ◌*◌, ◌≤◌, inl, Bool, false, ◌&&◌, List, [], ◌∷◌, length, Option, Some, None, Result, Ok, Err, refl, sym, ap, subst, ◌∙◌, arith}
+use Rattle.store_frame.specs.Prelude.{entries-insert}
+use Rattle.job_protocol.specs.Prelude.{put, keys_left, walk_left, sweep_left, thousands, sweep_start}
+use Rattle.job_spec.specs.Prelude.{by_order, Greater}
+use Rattle.job_facts.specs.Prelude.{Ordering, Less, Equal, text_cmp, text_total, Objects, new_bucket, completed, listed, live, joined, Object, Refusal, last_of}
+use Rattle.job_spec.proofs.Common.{exact_bytes}
+use Rattle.job_steps.specs.Prelude.{Scene, BucketContent, apply, begins, Committer, Magic, Request, PutObject, CopyObject, CompleteUpload, Script, Who, Sweep, Listing, Deleting, TaskCommit, attempt_prefix, TaskAbort, task_script, who_of}
+use Rattle.machine.specs.Prelude.{copied}
 use Rattle.std.specs.FinMap as fin
-use Rattle.std.specs.FinMap.{entries-insert}
-use Rattle.std.specs.FinMap.Entries.{put, by_order}
-use Rattle.std.specs.declared.cmp.Ordering.{Ordering}
-use Rattle.std.specs.declared.cmp.Ordering.TheVariants.{Less, Equal, Greater}
-use Rattle.std.proofs.lemmas.Map.Lookups.{exact_bytes}
-use Rattle.proof_base.specs.Order.{text_cmp, text_total}
 use Rattle.proof_base.proofs.Less.{lt}
 use Rattle.proof_base.proofs.Tree.{entries_empty}
-use Rattle.s3_types.specs.Store.{Scene, Objects, BucketContent, new_bucket}
-use Rattle.s3_types.specs.Answer.{apply, copied, completed}
-use Rattle.s3_types.specs.Pages.{begins, listed}
-use Rattle.s3_types.specs.Multipart.{live, joined}
-use Rattle.s3_types.specs.declared.object.Object.{Object}
-use Rattle.s3_types.specs.declared.reply.Refusal.{Refusal}
-use Rattle.s3_types.specs.declared.request.Committer.{Committer}
-use Rattle.s3_types.specs.declared.request.Committer.TheVariants.{Magic}
-use Rattle.s3_types.specs.declared.request.Request.{Request}
-use Rattle.s3_types.specs.declared.request.Request.TheVariants.{PutObject, CopyObject, CompleteUpload}
-use Rattle.list_walk.specs.Left.{keys_left, walk_left, sweep_left, thousands, one_if as one}
+use Rattle.list_walk.specs.Left.{one_if as one}
 use Rattle.list_walk.proofs.Counting.{count, count_more}
 use Rattle.list_walk.proofs.Listing.{is_left, listed_count}
 use Rattle.list_walk.proofs.Growing.{grows, growth}
-use Rattle.job_model.specs.JobScript.{Script}
-use Rattle.job_model.specs.Attempts.{Who}
-use Rattle.list_walk.specs.Walks.{Sweep, Listing, Deleting, last_of, sweep_start}
 use Rattle.job_protocol.specs.TaskCommits as commits
-use Rattle.job_protocol.specs.TaskCommits.{TaskCommit, attempt_prefix}
 use Rattle.job_protocol.specs.TaskAborts as aborts
-use Rattle.job_protocol.specs.TaskAborts.{TaskAbort}
-use Rattle.job_protocol.specs.AtWork.{task_script, who_of}
 use Rattle.task_machines.specs.Commits.{commit_left_at, commit_left}
 use Rattle.task_machines.specs.Aborts.{after_left, abort_left_at, abort_left}
 use Rattle.actor_operations.specs.Falls.{as_times}

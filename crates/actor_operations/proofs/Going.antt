@@ -1,27 +1,12 @@
 -- Machines under their retries go as the operations of the script.
 use Rattle.std.proofs.Common.{◌≡◌, ℕ, zero, suc, ◌≤◌, ◌||◌, nat_lt, Bool, true, false, cond, List, Option, Some, None, refl, sym, ap, subst, ◌∙◌, arith}
-use Rattle.std.proofs.lemmas.Bool.Decides.{nat_tests}
-use Rattle.s3_types.specs.declared.request.Request.{Request}
-use Rattle.s3_types.specs.declared.request.Request.TheVariants.{CreateUpload, UploadPart, PutObject, ClusterPut, ClusterRename}
-use Rattle.s3_types.specs.declared.reply.Reply.{Reply}
-use Rattle.s3_types.specs.declared.journal.Outcome.{Outcome}
-use Rattle.s3_types.specs.declared.journal.Outcome.TheVariants.{Answered, Slow, RequestLost, ReplyLost}
-use Rattle.retries.specs.Retries.{Item, Got, WornOut, step, unanswered_by}
+use Rattle.job_spec.proofs.Common.{nat_tests, tasks_tell, jobs_tell}
+use Rattle.job_steps.specs.Prelude.{Request, CreateUpload, UploadPart, PutObject, Reply, Outcome, Answered, Slow, RequestLost, ReplyLost, Item, Got, WornOut, step, unanswered_by, Who, Known, Drawn, Job, Script, learn, Creating, setup_after, clean_after, learn_of, Attempting, Driving, task_of, job_of, task_script, write_wants, write_told, task_commit_wants, task_commit_told, task_abort_wants, task_abort_told, setup_told, clean_told}
+use Rattle.job_facts.specs.Prelude.{ClusterPut, ClusterRename, is_set_key, Setup, Clean, learned}
 use Rattle.machine.specs.declared.retrying.Retrying.{Retrying}
-use Rattle.job_model.specs.Attempts.{Who}
-use Rattle.job_model.specs.Known.{Known, Drawn}
-use Rattle.job_model.specs.Jobs.{Job}
-use Rattle.job_model.specs.JobScript.{Script}
-use Rattle.job_protocol.specs.Knowledge.{learn, is_set_key}
-use Rattle.job_protocol.specs.Uploading.{Creating}
-use Rattle.job_protocol.specs.Setup.{Setup, setup_after}
-use Rattle.job_protocol.specs.Cleanups.{Clean, clean_after}
 use Rattle.job_protocol.specs.Writes as writes
 use Rattle.job_protocol.specs.TaskCommits as commits
 use Rattle.job_protocol.specs.TaskAborts as aborts
-use Rattle.job_protocol.specs.Operations.{learn_of}
-use Rattle.job_protocol.specs.AtWork.{Attempting, Driving, task_of, job_of, task_script, learned, write_wants, write_told, task_commit_wants, task_commit_told, task_abort_wants, task_abort_told, setup_told, clean_told}
-use Rattle.job_protocol.proofs.Told.{tasks_tell, jobs_tell}
 use Rattle.actor_operations.specs.Acts.{under, stepped}
 use Rattle.actor_operations.specs.Plans.{counted, known_now}
 

@@ -1,29 +1,13 @@
 -- What a job's operations have picked, beside what is seen.
 use Rattle.std.proofs.Common.{◌≡◌, ℕ, suc, ◌+◌, ◌||◌, false, List, [], ◌∷◌, ◌++◌, length, Option, Some, None, refl, sym, ap, subst, ◌∙◌, arith}
-use Rattle.std.specs.Option.{is_some}
-use Rattle.s3_types.specs.Store.{Content}
-use Rattle.s3_types.specs.declared.request.Request.{Request}
-use Rattle.s3_types.specs.declared.request.Actor.{Actor}
-use Rattle.s3_types.specs.declared.request.Actor.TheVariants.{Driver}
-use Rattle.s3_types.specs.declared.journal.Outcome.{Outcome}
-use Rattle.s3_types.specs.declared.journal.Outcome.TheVariants.{Answered, Slow, RequestLost, ReplyLost}
-use Rattle.s3_types.specs.declared.journal.Entry.{Entry}
-use Rattle.pending_json.specs.declared.records.PendingSet.{PendingSet}
-use Rattle.proof_base.proofs.Members.{some_is, none_some}
-use Rattle.job_model.specs.JobScript.{Script}
-use Rattle.job_model.specs.Known.{Known}
-use Rattle.job_model.specs.declared.ends.Pick.{Pick}
+use Rattle.job_steps.specs.Prelude.{is_some, Content, Request, Actor, Driver, Outcome, Answered, Slow, RequestLost, ReplyLost, Entry, PendingSet, Script, Known, Pick, setup_asks, clean_asks, Fetching, Replacing, Completing, Marking, Reverting, CommitOver, set_read, job_script, Setting, Seen, see, is_begun, is_reading, Play, Sends, MaySend, happen}
+use Rattle.job_spec.proofs.Common.{some_is, none_some}
+use Rattle.job_facts.specs.Prelude.{with_pick, picked_after}
 use Rattle.list_walk.specs.Walks as walks
 use Rattle.job_protocol.specs.Setup as setups
-use Rattle.job_protocol.specs.Setup.{setup_asks}
 use Rattle.job_protocol.specs.Cleanups as cleans
-use Rattle.job_protocol.specs.Cleanups.{clean_asks}
-use Rattle.job_protocol.specs.JobCommits.{Commit as JobCommit, Fetching, Replacing, Completing, Marking, Reverting, CommitOver, set_read}
-use Rattle.job_protocol.specs.AtWork.{job_script, with_pick, picked_after}
-use Rattle.job_protocol.specs.Operations.{Setting}
-use Rattle.job_spec.specs.Seen.{Seen, see, is_begun, is_reading}
+use Rattle.job_protocol.specs.JobCommits.{Commit as JobCommit}
 use Rattle.job_commit.specs.Holds.{picks_from}
-use Rattle.job_steps.specs.Transitions.{Play, Sends, MaySend, happen}
 use Rattle.job_actor.specs.Picks.{ArePicksOf, HasPicked, is_job_commit}
 use Rattle.job_actor.specs.Works.{IsAt}
 use Rattle.job_actor.proofs.Unread.{attempt_picks, left}

@@ -1,8 +1,7 @@
 -- Operations as they are told outcomes, and what want of memory leaves of them.
 use Rattle.std.proofs.Common.{◌≡◌, ℕ, refl, sym, ap, subst, ◌∙◌}
-use Rattle.std.specs.Option.{option_map}
-use Rattle.retries.specs.Retries.{Retried, OutOfMemory}
-use Rattle.machine.specs.Turns.{retried}
+use Rattle.job_steps.specs.Prelude.{option_map, Retried, OutOfMemory, Attempting, Driving, Committing, setup_wants, setup_told, write_wants, write_told, task_commit_wants, task_commit_told, task_abort_wants, task_abort_told, commit_wants, clean_wants, clean_told}
+use Rattle.machine.specs.Prelude.{retried}
 use Rattle.machine.specs.declared.retrying.Retrying.{Retrying}
 use Rattle.job_model.specs.declared.ends.OpEnd.TheVariants as ends
 use Rattle.job_protocol.specs.Setup as setups
@@ -11,7 +10,6 @@ use Rattle.job_protocol.specs.TaskCommits as commits
 use Rattle.job_protocol.specs.TaskAborts as aborts
 use Rattle.job_protocol.specs.JobCommits as jobs
 use Rattle.job_protocol.specs.Cleanups as cleans
-use Rattle.job_protocol.specs.AtWork.{Attempting, Driving, Committing, setup_wants, setup_told, write_wants, write_told, task_commit_wants, task_commit_told, task_abort_wants, task_abort_told, commit_wants, clean_wants, clean_told}
 use Rattle.commit_laws.specs.Fitting.{without_memory}
 use Rattle.job_actor.specs.Acts.{EndsWanting}
 use Rattle.actor_operations.specs.declared.act.Act.TheVariants.{Setup, Write, CommitTask, AbortTask, Commit, Clean}

@@ -1,52 +1,19 @@
 -- What a job's actor has left beside the requests of the others: an attempt's is not raised, and the driver's by no more than so much.
 use Rattle.std.proofs.Common.{◌≡◌, ℕ, ◌+◌, ◌*◌, ◌≤◌, inl, inr, true, false, List, [], ◌∷◌, ◌++◌, length, codes, Option, Some, None, refl, sym, ap, subst, ◌∙◌, arith, append_assoc, append-nil, length-append}
-use Rattle.std.specs.Fmt.{decimal}
-use Rattle.s3_types.specs.Store.{Content}
-use Rattle.s3_types.specs.Answer.{apply, bucket_of}
-use Rattle.s3_types.specs.Pages.{begins}
-use Rattle.s3_types.specs.declared.request.Actor.{Actor}
-use Rattle.s3_types.specs.declared.request.Actor.TheVariants.{Driver}
-use Rattle.s3_types.specs.declared.request.Committer.{Committer}
-use Rattle.s3_types.specs.declared.request.Committer.TheVariants.{Magic, Directory, Partitioned}
-use Rattle.s3_types.specs.declared.request.Request.{Request}
-use Rattle.s3_types.specs.declared.request.Request.TheVariants.{PutObject}
-use Rattle.magic_paths.specs.Layout.{set_key}
-use Rattle.magic_paths.proofs.Tails.{begins_behind, below_is}
-use Rattle.pending_json.specs.Pending.{Pending}
-use Rattle.proof_base.proofs.Members.{some_is, none_some, false_true, true_or_false}
-use Rattle.list_walk.specs.Left.{adds_key, one_if}
+use Rattle.job_facts.specs.Prelude.{decimal, bucket_of, Directory, Partitioned, set_key, Pending, attempt_dir, marker_key, Uploading, Sending, upload_asks, nth, is_magic, FitsWrite, FitsCommit, IsDriving}
+use Rattle.job_steps.specs.Prelude.{Content, apply, begins, Actor, Driver, Committer, Magic, Request, PutObject, adds_key, one_if, Who, actor_of, File, Job, Task, Known, IsLegal, Script, record_key, Creating, Sweep, Listing, Deleting, attempt_prefix, Sets, all_commits, set_request, Commit, Fetching, Replacing, Completing, Marking, Reverting, CommitOver, commit_asks, Setting, Committing, task_of, write_wants, task_commit_wants, Seen, Told, IsAttempt, Commits, Play, scene_of, knows_now}
+use Rattle.job_spec.proofs.Common.{begins_behind, below_is, some_is, none_some, false_true, true_or_false}
 use Rattle.commit_laws.specs.Laws.{widest, prefixes_most, if_staging, rise_of as commit_rise_of}
-use Rattle.job_model.specs.Attempts.{Who, actor_of}
-use Rattle.job_model.specs.Files.{File}
-use Rattle.job_model.specs.Jobs.{Job, Task}
-use Rattle.job_model.specs.Known.{Known}
-use Rattle.job_model.specs.Legal.{IsLegal}
-use Rattle.job_model.specs.JobScript.{Script}
-use Rattle.job_protocol.specs.Records.{attempt_dir, marker_key, record_key}
-use Rattle.job_protocol.specs.Uploading.{Uploading, Creating, Sending, upload_asks}
-use Rattle.list_walk.specs.Walks.{Sweep, Listing, Deleting}
 use Rattle.job_protocol.specs.Setup as setups
 use Rattle.job_protocol.specs.Writes as writes
 use Rattle.job_protocol.specs.TaskCommits as commits
-use Rattle.job_protocol.specs.TaskCommits.{attempt_prefix}
 use Rattle.job_protocol.specs.TaskAborts as aborts
 use Rattle.job_protocol.specs.Cleanups as cleans
-use Rattle.job_protocol.specs.Lanes.{nth}
-use Rattle.job_protocol.specs.JobCommits.{Sets, all_commits, set_request, Commit, Fetching, Replacing, Completing, Marking, Reverting, CommitOver, commit_asks}
-use Rattle.job_protocol.specs.Operations.{Setting}
-use Rattle.job_protocol.specs.AtWork.{Committing, task_of, write_wants, task_commit_wants}
-use Rattle.job_spec.specs.Seen.{Seen, is_magic}
-use Rattle.job_facts.specs.Told.{Told}
-use Rattle.job_facts.specs.Facts.{IsAttempt}
-use Rattle.job_facts.specs.Fits.{FitsWrite, FitsCommit}
-use Rattle.job_facts.specs.Foreign.{IsDriving}
-use Rattle.job_facts.specs.FiledLaws.{Commits}
 use Rattle.job_facts.proofs.Legal.{some_dest}
 use Rattle.job_facts.proofs.Owning.{own_directory}
 use Rattle.job_facts.proofs.Apart.{another}
 use Rattle.job_facts.proofs.JobCommitting.{begins_through, commit_drives}
 use Rattle.job_facts.proofs.Held.{nth_of, of_sets}
-use Rattle.job_steps.specs.Transitions.{Play, scene_of, knows_now}
 use Rattle.job_actor.specs.Works.{IsAt, rise_for}
 use Rattle.actor_operations.specs.declared.act.Act.{Act}
 use Rattle.actor_operations.specs.declared.act.Act.TheVariants as acts

@@ -1,38 +1,22 @@
 -- Each outcome that is due to what a job's actor asks fits.
 use Rattle.std.proofs.Common.{◌≡◌, ℕ, ◌<◌, ◌≤◌, inl, inr, nat_lt, Bool, Option, Some, sym, ap, subst, ◌∙◌, arith}
-use Rattle.s3_types.specs.Store.{Content, Scene}
-use Rattle.s3_types.specs.Answer.{answer}
-use Rattle.s3_types.specs.Moment.{IsHonestOutcome}
-use Rattle.s3_types.specs.declared.request.Actor.{Actor}
-use Rattle.s3_types.specs.declared.request.Request.{Request}
-use Rattle.s3_types.specs.declared.reply.Reply.{Reply}
-use Rattle.s3_types.specs.declared.journal.Outcome.{Outcome}
-use Rattle.s3_types.specs.declared.journal.Outcome.TheVariants.{Answered}
-use Rattle.machine.specs.Turns.{FitsOutcome}
+use Rattle.job_steps.specs.Prelude.{Content, Scene, answer, IsHonestOutcome, Actor, Request, Reply, Outcome, Answered, Who, actor_of, Job, Task, Known, commit_asks, Setting, Attempting, Driving, Committing, job_of, task_of, task_script, who_of, setup_wants, write_wants, task_commit_wants, task_abort_wants, commit_wants, clean_wants, known, Stand, is_set, Play, scene_of, knows_now}
+use Rattle.machine.specs.Prelude.{FitsOutcome}
+use Rattle.job_spec.proofs.Common.{none_some}
 use Rattle.machine.specs.declared.retrying.Retrying.{Retrying}
-use Rattle.job_model.specs.Attempts.{Who, actor_of}
-use Rattle.job_model.specs.Jobs.{Job, Task}
-use Rattle.job_model.specs.Known.{Known}
 use Rattle.job_model.specs.declared.ends.SetupEnd.TheVariants as ends
 use Rattle.job_protocol.specs.Setup as setups
 use Rattle.job_protocol.specs.Writes as writes
 use Rattle.job_protocol.specs.TaskCommits as commits
 use Rattle.job_protocol.specs.TaskAborts as aborts
 use Rattle.job_protocol.specs.Cleanups as cleans
-use Rattle.job_protocol.specs.JobCommits.{commit_asks}
-use Rattle.job_protocol.specs.Operations.{Setting}
-use Rattle.job_protocol.specs.AtWork.{Attempting, Driving, Committing, job_of, task_of, task_script, who_of, setup_wants, write_wants, task_commit_wants, task_abort_wants, commit_wants, clean_wants}
-use Rattle.proof_base.proofs.Members.{none_some}
 use Rattle.task_requests.specs.Writing.{write_fits}
 use Rattle.task_machines.specs.Commits.{commit_fits as task_commit_fits}
 use Rattle.task_machines.specs.Aborts.{abort_fits as task_abort_fits}
 use Rattle.job_setup.specs.Fits.{FitsDriving as setup_fits}
 use Rattle.cleanup.specs.Fits.{FitsDriving as clean_fits}
 use Rattle.commit_laws.specs.Fitting.{FitsCommit}
-use Rattle.job_facts.specs.Told.{known}
-use Rattle.job_traces.specs.Runs.{Stand, is_set}
 use Rattle.job_actor.specs.Posting.{DueFits}
-use Rattle.job_steps.specs.Transitions.{Play, scene_of, knows_now}
 use Rattle.job_actor.specs.Works.{IsAt}
 use Rattle.job_refinement.specs.Due.{FitsDue}
 use Rattle.job_refinement.proofs.Attempts.{write_due, commit_due, abort_due}

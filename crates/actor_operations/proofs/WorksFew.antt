@@ -1,29 +1,9 @@
 -- A set that the driver reads in a legal job has no more uploads than the job has files.
 use Rattle.std.proofs.Common.{◌≡◌, ℕ, suc, ◌+◌, ◌<◌, ◌≤◌, ◌^◌, inl, inr, Bool, true, false, cond, List, [], ◌∷◌, length, Option, Some, refl, sym, ap, subst, ◌∙◌, arith}
-use Rattle.std.specs.Option.{unwrap_or}
-use Rattle.std.specs.Map.{lookup}
-use Rattle.std.proofs.lemmas.List.{length-map}
-use Rattle.s3_types.specs.Store.{Scene}
-use Rattle.s3_types.specs.Answer.{answer}
-use Rattle.s3_types.specs.Moment.{IsHonestOutcome}
-use Rattle.s3_types.specs.declared.request.Request.{Request}
-use Rattle.s3_types.specs.declared.journal.Outcome.{Outcome}
-use Rattle.s3_types.specs.declared.journal.Outcome.TheVariants.{Answered, Slow, RequestLost, ReplyLost}
-use Rattle.proof_base.specs.Members.{IsIn}
-use Rattle.proof_base.proofs.Members.{some_is}
-use Rattle.job_model.specs.Files.{File}
-use Rattle.job_model.specs.Placed.{path_of}
-use Rattle.job_model.specs.Attempts.{Who, Declared, same_name}
-use Rattle.job_model.specs.Legal.{IsLegal, files_in}
-use Rattle.job_model.specs.JobScript.{Script}
-use Rattle.job_model.specs.Known.{Drawn}
-use Rattle.job_protocol.specs.Outputs.{files}
-use Rattle.job_protocol.specs.Knowledge.{drawn_for}
-use Rattle.job_protocol.specs.Records.{file_key, file_record, files_set}
-use Rattle.job_protocol.specs.JobCommits.{set_request, set_read, Commit, Fetching, Replacing, Completing, Marking, Reverting, CommitOver, commit_asks}
-use Rattle.job_facts.specs.Told.{Told}
-use Rattle.job_facts.specs.Facts.{ApartFiles, AreCommits, Facts, knowing}
-use Rattle.job_facts.specs.Driver.{FitsJobCommit}
+use Rattle.job_facts.specs.Prelude.{unwrap_or, path_of, drawn_for, file_key, file_record, ApartFiles, AreCommits, Facts, FitsJobCommit}
+use Rattle.job_steps.specs.Prelude.{lookup, Scene, answer, IsHonestOutcome, Request, Outcome, Answered, Slow, RequestLost, ReplyLost, IsIn, File, Who, Declared, same_name, IsLegal, Script, Drawn, files, files_set, set_request, set_read, Commit, Fetching, Replacing, Completing, Marking, Reverting, CommitOver, commit_asks, Told, knowing}
+use Rattle.job_spec.proofs.Common.{length-map, some_is}
+use Rattle.job_spec.specs.Prelude.{files_in}
 use Rattle.job_facts.proofs.Legal.{written, files_are}
 use Rattle.job_facts.proofs.Replies.{set_answered}
 use Rattle.commit_laws.specs.Laws.{HasFew, ReadsFew}

@@ -1,17 +1,7 @@
 -- The operations of a job's actors ask and go on as the script's.
 use Rattle.std.proofs.Common.{◌≡◌, ◌≤◌, ◌^◌, Some, sym, subst, ◌∙◌}
-use Rattle.s3_types.specs.Store.{Content, Scene}
-use Rattle.s3_types.specs.Answer.{answer}
-use Rattle.s3_types.specs.Moment.{IsHonestOutcome}
-use Rattle.s3_types.specs.declared.request.Actor.{Actor}
-use Rattle.s3_types.specs.declared.request.Request.{Request}
-use Rattle.s3_types.specs.declared.journal.Outcome.{Outcome}
-use Rattle.job_model.specs.Known.{Known}
-use Rattle.job_protocol.specs.JobCommits.{commit_asks}
+use Rattle.job_steps.specs.Prelude.{Content, Scene, answer, IsHonestOutcome, Actor, Request, Outcome, Known, commit_asks, Setting, advance, over, Committing, Play, scene_of, knows_now}
 use Rattle.job_protocol.specs.Operations as operations
-use Rattle.job_protocol.specs.Operations.{Setting, advance, over}
-use Rattle.job_protocol.specs.AtWork.{Committing}
-use Rattle.job_steps.specs.Transitions.{Play, scene_of, knows_now}
 use Rattle.job_actor.specs.Works.{IsAt}
 use Rattle.job_refinement.proofs.Telling.{asks_same, tells_same}
 use Rattle.actor_operations.specs.declared.act.Act.{Act}

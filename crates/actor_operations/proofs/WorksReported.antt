@@ -1,31 +1,7 @@
 -- Until the driver cleans up each task has a last publisher where the driver's commit reads sets.
 use Rattle.std.proofs.Common.{◌≡◌, ℕ, inl, inr, nat_lt, Bool, true, false, cond, List, [], ◌∷◌, ◌++◌, length, Option, Some, None, refl, sym, ap, subst, ◌∙◌, arith}
-use Rattle.s3_types.specs.Store.{Content}
-use Rattle.s3_types.specs.declared.request.Actor.TheVariants.{Driver}
-use Rattle.s3_types.specs.declared.reply.Reply.{Reply}
-use Rattle.s3_types.specs.declared.journal.Outcome.{Outcome}
-use Rattle.s3_types.specs.declared.journal.Outcome.TheVariants.{Answered, Slow}
-use Rattle.s3_types.specs.declared.journal.Entry.{Entry}
-use Rattle.s3_types.specs.declared.request.Request.{Request}
-use Rattle.job_model.specs.Known.{Known}
-use Rattle.job_model.specs.Legal.{IsLegal}
-use Rattle.job_model.specs.JobScript.{Script}
-use Rattle.job_model.specs.declared.events.Op.{Op}
+use Rattle.job_steps.specs.Prelude.{Content, Driver, Reply, Outcome, Answered, Slow, Entry, Request, Known, IsLegal, Script, Op, Event, Do, Start, EventEnd, Sweep, sweep_hears, Turn, again, follow, dealt, revert, Sets, all_commits, set_read, is_no_magic, Commit, Fetching, Replacing, Completing, Marking, Reverting, CommitOver, completing, replacing, fetching, fetched, swept, reverting, worn_completion, commit_misses, commit_tells, commit_start, Setting, Operation, TheCommit, who, tells, start_of, Seen, see_all, nothing_seen, missing, commit_event, IsOpening, HasPublished, Play, Refuses, Opens, Sends, Finishes, Closes, knows_now, begun, open_running, hear, happen, MaySend, Reachable, nothing_happened, happens, Strays, Ahead, operation_of, strange_entry}
 use Rattle.job_model.specs.declared.events.Op.TheVariants as ops
-use Rattle.job_model.specs.declared.events.Event.{Event}
-use Rattle.job_model.specs.declared.events.Event.TheVariants.{Do, Start}
-use Rattle.job_model.specs.declared.ends.EventEnd.{EventEnd}
-use Rattle.list_walk.specs.Walks.{Sweep, sweep_hears}
-use Rattle.job_protocol.specs.Lanes.{Turn, again, follow, dealt, revert}
-use Rattle.job_protocol.specs.JobCommits.{Sets, all_commits, set_read, is_no_magic, Commit, Fetching, Replacing, Completing, Marking, Reverting, CommitOver, completing, replacing, fetching, fetched, swept, reverting, worn_completion, commit_misses, commit_tells, commit_start}
-use Rattle.job_protocol.specs.Operations.{Setting, Operation, TheCommit, who, tells, start_of}
-use Rattle.job_spec.specs.Seen.{Seen, see_all, nothing_seen}
-use Rattle.job_spec.specs.States.{missing, commit_event}
-use Rattle.job_traces.specs.Runs.{IsOpening}
-use Rattle.job_facts.specs.Standing.{HasPublished}
-use Rattle.job_steps.specs.Transitions.{Play, Refuses, Opens, Sends, Finishes, Closes, knows_now, begun, open_running, hear, happen, MaySend, Reachable, nothing_happened, happens, Strays}
-use Rattle.job_steps.specs.Running.{Ahead, operation_of}
-use Rattle.job_facts.specs.Told.{strange_entry}
 use Rattle.job_steps.proofs.Actors.{same_or_not, put_here, put_other}
 use Rattle.job_steps.proofs.Running.{sent_ahead, finished_ahead, opened_ahead, refused_ahead, not_refused, closed_ahead, strayed_ahead}
 use Rattle.job_refinement.specs.Due.{AllPublished}

@@ -1,32 +1,13 @@
 -- What the actors of a job are at, request by request: as far as what has happened says.
 use Rattle.std.proofs.Common.{◌≡◌, ℕ, ◌⊎◌, inl, inr, true, List, [], ◌∷◌, ◌++◌, Option, Some, None, refl, sym, ap, subst, ◌∙◌}
-use Rattle.s3_types.specs.Store.{Content}
-use Rattle.s3_types.specs.declared.request.Actor.{Actor}
-use Rattle.s3_types.specs.declared.request.Actor.TheVariants.{Driver}
-use Rattle.s3_types.specs.declared.request.Committer.TheVariants.{Magic}
-use Rattle.retries.specs.Retries.{Retried}
-use Rattle.job_model.specs.Attempts.{Who, actor_of}
-use Rattle.job_model.specs.Legal.{IsLegal}
-use Rattle.job_model.specs.JobScript.{Script}
+use Rattle.job_steps.specs.Prelude.{Content, Actor, Driver, Magic, Retried, Who, actor_of, IsLegal, Script, Done, Sweep, Sets, picks_of, replaced, Commit, Fetching, Replacing, Setting, Operation, TheSetup, TheCommit, Running, Seen, commit_event, Told, tell_all, nothing_told, Commits, Stand, IsOpening, is_set, Play, Reachable, scene_of, times, IsRun, operation_of}
+use Rattle.job_facts.specs.Prelude.{Setup, SetupOver, SetsUp}
+use Rattle.job_spec.proofs.Common.{none_some}
 use Rattle.job_model.specs.declared.ends.SetupEnd.TheVariants as setups
-use Rattle.job_model.specs.declared.ends.EventEnd.TheVariants.{Done}
-use Rattle.job_protocol.specs.Setup.{Setup, SetupOver}
-use Rattle.list_walk.specs.Walks.{Sweep}
-use Rattle.job_protocol.specs.JobCommits.{Sets, picks_of, replaced, Commit, Fetching, Replacing}
-use Rattle.job_protocol.specs.Operations.{Setting, Operation, TheSetup, TheCommit, Running}
-use Rattle.job_spec.specs.Seen.{Seen}
-use Rattle.job_spec.specs.States.{commit_event}
-use Rattle.proof_base.proofs.Members.{none_some}
-use Rattle.job_facts.specs.Told.{Told, tell_all, nothing_told}
-use Rattle.job_facts.specs.Emptying.{SetsUp}
-use Rattle.job_facts.specs.FiledLaws.{Commits}
-use Rattle.job_traces.specs.Runs.{Stand, IsOpening, is_set}
 use Rattle.job_traces.proofs.Running.{Replaces, InCommit, At, Early, Late}
 use Rattle.job_traces.proofs.EveryRun.{good}
 use Rattle.job_traces.proofs.Entries.{sees, tells_so, late_now}
 use Rattle.job_traces.proofs.Changes.{moment_scene}
-use Rattle.job_steps.specs.Transitions.{Play, Reachable, scene_of}
-use Rattle.job_steps.specs.Running.{times, IsRun, operation_of}
 use Rattle.job_steps.proofs.Running.{is_run}
 use Rattle.job_steps.proofs.RunningCommits.{goes_on}
 use Rattle.job_refinement.specs.Due.{SetStands}

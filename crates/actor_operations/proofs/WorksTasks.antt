@@ -1,20 +1,8 @@
 -- What attempts are at in a run: a task's commit reads records of its own files alone.
 use Rattle.std.proofs.Common.{◌≡◌, ℕ, List, Option, Some, refl}
-use Rattle.s3_types.specs.Store.{Content}
-use Rattle.s3_types.specs.declared.journal.Outcome.{Outcome}
-use Rattle.s3_types.specs.declared.journal.Entry.{Entry}
-use Rattle.retries.specs.Retries.{fresh}
-use Rattle.job_model.specs.Attempts.{Who}
-use Rattle.job_model.specs.Legal.{IsLegal}
-use Rattle.job_model.specs.JobScript.{Script}
-use Rattle.job_protocol.specs.Writes.{write_start}
-use Rattle.job_protocol.specs.TaskCommits.{task_commit_start}
-use Rattle.job_protocol.specs.TaskAborts.{task_abort_start}
-use Rattle.job_protocol.specs.Operations.{Setting, Operation, TheWrite, TheTaskCommit, TheTaskAbort, tells}
-use Rattle.proof_base.proofs.Members.{none_some}
-use Rattle.job_facts.specs.Told.{known}
+use Rattle.job_steps.specs.Prelude.{Content, Outcome, Entry, fresh, Who, IsLegal, Script, write_start, task_commit_start, task_abort_start, Setting, Operation, TheWrite, TheTaskCommit, TheTaskAbort, tells, known, Stand, Runs, run_begins, driver_sends, attempt_sends, IsOpening, Beginning, BeginWrite, BeginPublish, BeginAbort, begin, actor_begins, strays}
+use Rattle.job_spec.proofs.Common.{none_some}
 use Rattle.job_facts.proofs.Whose.{put_at}
-use Rattle.job_traces.specs.Runs.{Stand, Runs, run_begins, driver_sends, attempt_sends, IsOpening, Beginning, BeginWrite, BeginPublish, BeginAbort, begin, actor_begins, strays}
 use Rattle.job_refinement.specs.Due.{ReadsOwn}
 use Rattle.job_refinement.proofs.Kept.{reads_begin, reads_go}
 

@@ -1,21 +1,13 @@
 -- What holds of every operation of a job's actors.
 use Rattle.std.specs.Prelude.{◌≡◌, ◌+◌, ◌<◌, ◌≤◌, Bool, not, Option, Some, None, is_some}
 use Rattle.std.proofs.Common.{refl, arith, sym, ◌∙◌}
-use Rattle.std.specs.Option.{option_map}
-use Rattle.s3_types.specs.Store.{Scene}
-use Rattle.s3_types.specs.Answer.{answer, apply}
-use Rattle.s3_types.specs.Moment.{effect, IsHonestOutcome}
-use Rattle.s3_types.specs.declared.request.Request.{Request}
-use Rattle.s3_types.specs.declared.reply.Reply.{Reply}
-use Rattle.s3_types.specs.declared.journal.Outcome.{Outcome}
-use Rattle.s3_types.specs.declared.journal.Outcome.TheVariants.{Answered, Slow, RequestLost, ReplyLost}
+use Rattle.job_steps.specs.Prelude.{option_map, Scene, answer, apply, effect, IsHonestOutcome, Request, Reply, Outcome, Answered, Slow, RequestLost, ReplyLost, Attempting, Driving, Committing, setup_wants, write_wants, task_commit_wants, task_abort_wants, commit_wants, clean_wants}
 use Rattle.job_protocol.specs.Setup as setups
 use Rattle.job_protocol.specs.Writes as writes
 use Rattle.job_protocol.specs.TaskCommits as commits
 use Rattle.job_protocol.specs.TaskAborts as aborts
 use Rattle.job_protocol.specs.JobCommits as jobs
 use Rattle.job_protocol.specs.Cleanups as cleans
-use Rattle.job_protocol.specs.AtWork.{Attempting, Driving, Committing, setup_wants, write_wants, task_commit_wants, task_abort_wants, commit_wants, clean_wants}
 use Rattle.job_setup.proofs.Falling.{set_ups_end}
 use Rattle.task_machines.proofs.WriteFalls.{write_falls}
 use Rattle.task_machines.proofs.CommitFalls.{commit_falls as task_commit_falls}

@@ -1,18 +1,9 @@
 -- What an attempt has left beside others that put nothing below its directory.
 use Rattle.std.specs.Prelude.{◌≡◌, ℕ, ◌≤◌, true, false, List}
-use Rattle.s3_types.specs.Store.{Scene}
-use Rattle.s3_types.specs.Answer.{apply}
-use Rattle.s3_types.specs.Pages.{begins}
-use Rattle.s3_types.specs.declared.request.Request.{Request}
-use Rattle.store_frame.specs.Frame.{changed_keys}
-use Rattle.proof_base.specs.Members.{IsIn}
-use Rattle.list_walk.specs.Left.{adds_key}
+use Rattle.job_steps.specs.Prelude.{Scene, apply, begins, Request, IsIn, adds_key, Task, TaskCommit, attempt_prefix, TaskAbort, Attempting, task_script, who_of}
+use Rattle.job_facts.specs.Prelude.{changed_keys}
 use Rattle.machine.specs.declared.retrying.Retrying.{Retrying}
-use Rattle.job_model.specs.Jobs.{Task}
 use Rattle.job_protocol.specs.Writes.{Write as Writing}
-use Rattle.job_protocol.specs.TaskCommits.{TaskCommit, attempt_prefix}
-use Rattle.job_protocol.specs.TaskAborts.{TaskAbort}
-use Rattle.job_protocol.specs.AtWork.{Attempting, task_script, who_of}
 use Rattle.actor_operations.specs.declared.act.Act.TheVariants.{Write, CommitTask, AbortTask}
 use Rattle.actor_operations.specs.Acts.{left_of}
 

@@ -1,18 +1,11 @@
 -- What a machine under its retries has left, among others that send.
 use Rattle.std.specs.Prelude.{◌≡◌, ℕ, zero, suc, ◌+◌, ◌*◌, ◌<◌, ◌≤◌, Bool, true, Option, Some}
 use Rattle.std.proofs.Common.{arith, sym, subst}
+use Rattle.job_steps.specs.Prelude.{Scene, answer, apply, effect, IsHonestOutcome, Request, Reply, Outcome, Answered, Slow, RequestLost, ReplyLost, Item, Got, WornOut, unanswered_by}
+use Rattle.machine.specs.Prelude.{FitsOutcome}
+use Rattle.job_protocol.specs.Prelude.{FallsAmong}
 use Rattle.std.proofs.Math.Nat.{add-mul}
-use Rattle.s3_types.specs.Store.{Scene}
-use Rattle.s3_types.specs.Answer.{answer, apply}
-use Rattle.s3_types.specs.Moment.{effect, IsHonestOutcome}
-use Rattle.s3_types.specs.declared.request.Request.{Request}
-use Rattle.s3_types.specs.declared.reply.Reply.{Reply}
-use Rattle.s3_types.specs.declared.journal.Outcome.{Outcome}
-use Rattle.s3_types.specs.declared.journal.Outcome.TheVariants.{Answered, Slow, RequestLost, ReplyLost}
-use Rattle.retries.specs.Retries.{Item, Got, WornOut, unanswered_by}
-use Rattle.machine.specs.Turns.{FitsOutcome}
 use Rattle.machine.specs.declared.retrying.Retrying.{Retrying}
-use Rattle.job_protocol.specs.Measures.{FallsAmong}
 use Rattle.actor_operations.specs.Acts.{under, stepped, sendings_left}
 
 more_times : (a b n : ℕ) → a < b → a * (n + 1) + (n + 1) ≤ b * (n + 1)

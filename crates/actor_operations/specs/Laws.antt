@@ -1,22 +1,8 @@
 -- The laws of the operations of a job's actors.
 use Rattle.std.specs.Prelude.{◌≡◌, ℕ, List, [], Option, Some, None}
-use Rattle.s3_types.specs.declared.request.Actor.{Actor}
-use Rattle.s3_types.specs.declared.journal.Outcome.{Outcome}
-use Rattle.retries.specs.Retries.{fresh}
+use Rattle.job_steps.specs.Prelude.{Actor, Outcome, fresh, Job, Task, Known, Script, Op, setup_start, write_start, task_commit_start, task_abort_start, commit_start, clean_start, Setting, wants, advance, over, start_of, task_script, who_of, read_script, job_of}
 use Rattle.machine.specs.declared.retrying.Retrying.{Retrying}
-use Rattle.job_model.specs.Jobs.{Job, Task}
-use Rattle.job_model.specs.Known.{Known}
-use Rattle.job_model.specs.JobScript.{Script}
-use Rattle.job_model.specs.declared.events.Op.{Op}
 use Rattle.job_model.specs.declared.events.Op.TheVariants as ops
-use Rattle.job_protocol.specs.Setup.{setup_start}
-use Rattle.job_protocol.specs.Writes.{write_start}
-use Rattle.job_protocol.specs.TaskCommits.{task_commit_start}
-use Rattle.job_protocol.specs.TaskAborts.{task_abort_start}
-use Rattle.job_protocol.specs.JobCommits.{commit_start}
-use Rattle.job_protocol.specs.Cleanups.{clean_start}
-use Rattle.job_protocol.specs.Operations.{Setting, wants, advance, over, start_of}
-use Rattle.job_protocol.specs.AtWork.{task_script, who_of, read_script, job_of}
 use Rattle.commit_laws.specs.Fitting.{least_missing}
 use Rattle.actor_operations.specs.declared.act.Act.{Act}
 use Rattle.actor_operations.specs.declared.act.Act.TheVariants.{Setup, Write, CommitTask, AbortTask, Commit, Clean}

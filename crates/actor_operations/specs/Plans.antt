@@ -1,18 +1,7 @@
 -- What the operations of a job's actors go by, and which the script gives.
 use Rattle.std.specs.Prelude.{◌≡◌, ℕ, ◌≤◌, nat_lt, Bool, cond, List, Option, Some, None}
-use Rattle.s3_types.specs.declared.request.Actor.{Actor}
-use Rattle.s3_types.specs.declared.request.Actor.TheVariants.{Driver, Attempt}
-use Rattle.s3_types.specs.declared.request.Request.{Request}
-use Rattle.s3_types.specs.declared.journal.Outcome.{Outcome}
-use Rattle.s3_types.specs.declared.journal.Outcome.TheVariants.{RequestLost}
-use Rattle.retries.specs.Retries.{Retried}
+use Rattle.job_steps.specs.Prelude.{Actor, Driver, Attempt, Request, Outcome, RequestLost, Retried, Known, Script, Pick, commit_asks, commit_tells, Setting, TheSetup, TheWrite, TheTaskCommit, TheTaskAbort, TheCommit, TheClean, Running, who, learn_of, Attempting, Driving, task_script, who_of, read_script, sets_in, sets_after, job_of, task_of, write_wants, task_commit_wants, task_abort_wants}
 use Rattle.machine.specs.declared.retrying.Retrying.{Retrying}
-use Rattle.job_model.specs.Known.{Known}
-use Rattle.job_model.specs.JobScript.{Script}
-use Rattle.job_model.specs.declared.ends.Pick.{Pick}
-use Rattle.job_protocol.specs.JobCommits.{commit_asks, commit_tells}
-use Rattle.job_protocol.specs.Operations.{Setting, TheSetup, TheWrite, TheTaskCommit, TheTaskAbort, TheCommit, TheClean, Running, who, learn_of}
-use Rattle.job_protocol.specs.AtWork.{Attempting, Driving, task_script, who_of, read_script, sets_in, sets_after, job_of, task_of, write_wants, task_commit_wants, task_abort_wants}
 use Rattle.job_commit.specs.Holds.{picks_from}
 use Rattle.actor_operations.specs.declared.act.Act.{Act}
 use Rattle.actor_operations.specs.declared.act.Act.TheVariants.{Setup, Write, CommitTask, AbortTask, Commit, Clean}

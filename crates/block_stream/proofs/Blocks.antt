@@ -1,8 +1,7 @@
 -- Blocks that are cut off what was written.
 use Rattle.std.proofs.Common.{◌≡◌, ℕ, ◌+◌, ◌-◌, ◌<◌, List, [], ◌∷◌, ◌++◌, length, take, drop, sym, ap, subst, ◌∙◌, arith, append_assoc, length-append}
-use Rattle.std.specs.List.{concat}
-use Rattle.std.proofs.lemmas.List.{append-nil, take-append-drop}
-use Rattle.std.proofs.lemmas.List.Folds.{concat-append}
+use Rattle.machine.specs.Prelude.{concat}
+use Rattle.proof_base.proofs.Common.{append-nil, take-append-drop, concat-append}
 use Rattle.block_stream.specs.Holds.{AreLong}
 use Rattle.block_stream.proofs.KeepingLaws.{long_more}
 

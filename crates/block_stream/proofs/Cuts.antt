@@ -1,15 +1,11 @@
 -- What a stream's blocks tell of what is pending.
 use Rattle.std.specs.Prelude.{◌≡◌, ℕ, ◌+◌, ◌<◌, ◌≤◌, ◌&&◌, ◌||◌, Bool, true, false, not, nat_le, nat_lt, cond, List, [], ◌∷◌, ◌++◌, length, take, drop, Option, Some, None}
 use Rattle.std.proofs.Common.{refl, sym, ap, subst, ◌∙◌, arith, append_assoc, length-append}
+use Rattle.machine.specs.Prelude.{concat, unwrap_or, Spelled}
+use Rattle.proof_base.proofs.Common.{append-nil, take_all, take-append-le, drop_all, drop-append_seam, nat_tests}
 use Rattle.block_stream.specs.Kept.{next_at}
-use Rattle.std.specs.List.{concat}
-use Rattle.std.specs.Option.{unwrap_or}
-use Rattle.std.proofs.lemmas.List.{append-nil, take_all, take-append-le, drop_all}
-use Rattle.std.proofs.Math.Seq.{drop-append_seam}
 use Rattle.std.proofs.lemmas.Bool.{or_right}
-use Rattle.std.proofs.lemmas.Bool.Decides.{nat_tests}
 use Rattle.proof_base.proofs.Numbers.{at_most_so, above_so}
-use Rattle.s3_types.specs.Tags.{Spelled}
 use Rattle.block_stream.specs.declared.mode.StreamMode.{StreamMode}
 use Rattle.block_stream.specs.declared.mode.StreamMode.TheVariants.{Direct, Delayed}
 use Rattle.block_stream.specs.declared.mode.StreamEnd.{StreamEnd}

@@ -1,21 +1,8 @@
 -- What driving a stream that is alone leaves.
 use Rattle.std.specs.Prelude.{◌≡◌, ℕ, Bool, true, false, cond, List, Option, Result, Ok, Err, IfOk}
 use Rattle.std.proofs.Common.{refl, sym, subst, ◌∙◌}
-use Rattle.s3_types.specs.Store.{Scene}
-use Rattle.s3_types.specs.Answer.{answer}
-use Rattle.s3_types.specs.declared.journal.Entry.{Entry}
-use Rattle.s3_types.specs.declared.fates.Fate.{Fate}
-use Rattle.s3_types.specs.declared.request.Actor.{Actor}
-use Rattle.s3_types.specs.declared.reply.Reply.{Reply}
-use Rattle.s3_types.specs.declared.reply.Reply.TheVariants.{Stored, Upload, Part, Completed, Refused}
-use Rattle.s3_types.specs.declared.reply.Refusal.{Refusal}
-use Rattle.s3_types.specs.declared.reply.Refusal.TheVariants.{NoSuchUpload}
-use Rattle.retries.specs.Operation.{run}
-use Rattle.retries.specs.Retries.{Got, Retried, step}
-use Rattle.machine.specs.Standing.{Fine}
+use Rattle.machine.specs.Prelude.{Scene, answer, Entry, Fate, Actor, Reply, Stored, Upload, Part, Completed, Refused, Refusal, NoSuchUpload, run, Got, Retried, step, Fine, Drove, retried}
 use Rattle.machine.proofs.Keeping.{Keeps}
-use Rattle.machine.specs.Drove.{Drove}
-use Rattle.machine.specs.Turns.{retried}
 use Rattle.machine.specs.declared.retrying.Retrying.{Retrying}
 use Rattle.machine.specs.declared.driving.DriveStop.{DriveStop}
 use Rattle.machine.proofs.Keeps.{kept_run}

@@ -1,9 +1,8 @@
 -- What a stream that has ended well has stored.
 use Rattle.std.specs.Prelude.{◌≡◌, ℕ, Bool, true, false, cond, List, Option, Some, None}
 use Rattle.std.proofs.Common.{refl, sym, ap, subst, ◌∙◌, true≢false}
-use Rattle.std.proofs.lemmas.Option.{none-some}
-use Rattle.s3_types.specs.Store.{Scene, BucketContent}
-use Rattle.machine.specs.Standing.{Fine}
+use Rattle.proof_base.proofs.Common.{none-some}
+use Rattle.machine.specs.Prelude.{Scene, BucketContent, Fine}
 use Rattle.block_stream.specs.declared.mode.StreamEnd.{StreamEnd}
 use Rattle.block_stream.specs.declared.mode.StreamEnd.TheVariants.{Done, Gone}
 use Rattle.block_stream.specs.declared.stage.Stage.TheVariants.{Putting, Sending}

@@ -1,26 +1,16 @@
 -- Laws of an upload that is being filled: its parts, its room, and what is known once all was sent. Contracts cite none of them.
 use Rattle.std.specs.Prelude.{◌≡◌, ◌⊎◌, ℕ, ◌+◌, ◌-◌, ◌*◌, ◌<◌, ◌≤◌, ◌&&◌, ◌||◌, Bool, true, false, not, nat_le, nat_lt, cond, List, [], ◌∷◌, ◌++◌, length, map, drop, Option, Some, None}
 use Rattle.std.proofs.Common.{refl, sym, ap, subst, ◌∙◌, arith, inl, inr, length-drop, true≢false}
-use Rattle.std.specs.List.{concat}
-use Rattle.std.proofs.lemmas.List.{drop_all, append-nil, length-map}
-use Rattle.std.proofs.lemmas.Bool.{and_parts, and_right, or_parts, true_from_ne_false}
-use Rattle.std.proofs.lemmas.Bool.Decides.{nat_tests}
-use Rattle.std.proofs.lemmas.Option.{none-some}
+use Rattle.machine.specs.Prelude.{concat, nat_cmp_total, Scene, Content, BucketContent, live, with_key, is_part_number, with_part, answer, apply, answer_in, apply_in, apply_at, answer_at, bucket_of, part_put, Spelled, Request, PutObject, CreateUpload, UploadPart, CompleteUpload, named_from}
+use Rattle.proof_base.proofs.Common.{drop_all, append-nil, length-map, and_parts, and_right, or_parts, nat_tests, none-some, exact_unsigned}
+use Rattle.retries.specs.Prelude.{text_eq, text_equiv, text_total, Upload}
+use Rattle.std.proofs.lemmas.Bool.{true_from_ne_false}
 use Rattle.proof_base.proofs.Bools.{not_so}
 use Rattle.proof_base.proofs.Numbers.{below_is, at_most_is, at_most_not}
 use Rattle.proof_base.proofs.Lists.{one_longer}
 use Rattle.std.specs.FinMap as fin
-use Rattle.std.specs.Cmp.{nat_cmp_total}
-use Rattle.std.proofs.lemmas.Map.Lookups.{exact_unsigned}
-use Rattle.proof_base.specs.Order.{text_eq, text_equiv, text_total}
 use Rattle.proof_base.proofs.Tree.{insert_same}
-use Rattle.s3_types.specs.Store.{Scene, Content, BucketContent, Upload}
-use Rattle.s3_types.specs.Multipart.{live, with_key, is_part_number, with_part}
-use Rattle.s3_types.specs.Answer.{answer, apply, answer_in, apply_in, apply_at, answer_at, bucket_of, part_put}
-use Rattle.s3_types.specs.Tags.{Spelled, plain_tag}
-use Rattle.s3_types.specs.declared.request.Request.{Request}
-use Rattle.s3_types.specs.declared.request.Request.TheVariants.{PutObject, CreateUpload, UploadPart, CompleteUpload}
-use Rattle.s3_types.specs.Blocks.{named_from}
+use Rattle.s3_types.specs.Tags.{plain_tag}
 use Rattle.block_stream.specs.declared.mode.StreamMode.{StreamMode}
 use Rattle.block_stream.specs.declared.mode.StreamMode.TheVariants.{Direct, Delayed}
 use Rattle.block_stream.specs.declared.mode.StreamEnd.{StreamEnd}

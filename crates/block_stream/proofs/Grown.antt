@@ -1,12 +1,11 @@
 -- A piece and the close keep what a stream holds.
 use Rattle.std.specs.Prelude.{◌≡◌, ℕ, ◌+◌, ◌*◌, ◌≤◌, ◌&&◌, ◌||◌, Bool, true, false, not, cond, List, [], ◌∷◌, ◌++◌, length, Option, Some, None}
 use Rattle.std.proofs.Common.{refl, sym, ap, subst, ◌∙◌, arith, inl, inr, append_assoc, length-append, true≢false}
+use Rattle.machine.specs.Prelude.{concat, Scene, BucketContent}
+use Rattle.proof_base.proofs.Common.{take-append-le}
 use Rattle.proof_base.proofs.Numbers.{at_most_so}
 use Rattle.block_stream.proofs.KeepingLaws.{unsettled}
 use Rattle.block_stream.proofs.Cuts.{first_part}
-use Rattle.std.specs.List.{concat}
-use Rattle.std.proofs.lemmas.List.{take-append-le}
-use Rattle.s3_types.specs.Store.{Scene, BucketContent}
 use Rattle.block_stream.specs.declared.mode.StreamEnd.{StreamEnd}
 use Rattle.block_stream.specs.declared.mode.StreamEnd.TheVariants.{Done, Gone, StoreFault, NoMemory}
 use Rattle.block_stream.specs.Stream.{Stream, is_direct, has_some, has_part, ended, is_settled, added, wrote, shut, closed_by, close}

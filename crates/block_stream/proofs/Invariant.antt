@@ -1,11 +1,8 @@
 -- Each change keeps what the fields of a stream keep.
 use Rattle.std.specs.Prelude.{◌≡◌, ℕ, ◌+◌, ◌-◌, ◌*◌, ◌<◌, ◌≤◌, ◌&&◌, ◌||◌, Bool, true, false, not, nat_le, cond, List, [], ◌∷◌, ◌++◌, length, drop, Option, Some, None}
 use Rattle.std.proofs.Common.{refl, sym, ap, subst, ◌∙◌, arith, append_assoc, length-append}
-use Rattle.std.specs.List.{concat}
-use Rattle.std.proofs.lemmas.List.{append-nil}
-use Rattle.std.proofs.lemmas.List.Folds.{concat-append}
-use Rattle.s3_types.specs.Tags.{Spelled}
-use Rattle.s3_types.specs.declared.request.Request.{Request}
+use Rattle.machine.specs.Prelude.{concat, Spelled, Request}
+use Rattle.proof_base.proofs.Common.{append-nil, concat-append, none-some}
 use Rattle.block_stream.specs.declared.mode.StreamMode.{StreamMode}
 use Rattle.block_stream.specs.declared.mode.StreamEnd.{StreamEnd}
 use Rattle.block_stream.specs.declared.mode.StreamEnd.TheVariants.{Done}
@@ -14,7 +11,6 @@ use Rattle.block_stream.specs.Stream.{Stream, has_some, has_part, stage, stage_o
 use Rattle.block_stream.specs.Holds.{AreLong, HasRoom}
 use Rattle.block_stream.specs.Kept.{AreCut, IsCutUp, CutUp, seen, IsKept, first_of, front_of, last_of, is_whole, next_by}
 use Rattle.block_stream.proofs.FillingLaws.{AtStage, at_stage, due, room_after, room_ended, room_begun}
-use Rattle.std.proofs.lemmas.Option.{none-some}
 use Rattle.block_stream.proofs.KeepingLaws.{unsettled}
 use Rattle.block_stream.proofs.Grown.{room_wrote, room_shut}
 use Rattle.block_stream.proofs.Cuts.{whole_is, first_is, drop_is, cut_rest, asks_is, next_is, first_part}

@@ -1,26 +1,12 @@
 -- Laws of a stream that is alone: it holds what was written, whatever the store loses. Contracts cite none of them.
 use Rattle.std.specs.Prelude.{◌≡◌, ◌⊎◌, ℕ, ◌+◌, ◌-◌, ◌<◌, ◌≤◌, ◌&&◌, Bool, true, false, not, cond, List, [], ◌∷◌, ◌++◌, length, map, drop, Option, Some, None, Ok, Err}
 use Rattle.std.proofs.Common.{refl, sym, ap, subst, ◌∙◌, arith, inl, inr, append_assoc, length-drop, true≢false}
-use Rattle.std.specs.List.{concat}
-use Rattle.std.specs.Option.{unwrap_or}
-use Rattle.std.proofs.lemmas.List.{map-append, take-append-drop, take_all, drop_all, append-nil, length-take-le}
-use Rattle.std.proofs.lemmas.List.Folds.{concat-append}
+use Rattle.machine.specs.Prelude.{concat, unwrap_or, nat_cmp_total, eq_by_cmp_equiv, Scene, BucketContent, live, with_key, joined, answer, apply, answer_in, apply_in, part_answer, complete_answer, completed, Spelled, Request, PutObject, CreateUpload, UploadPart, CompleteUpload, NamedPart, Reply, Part, Completed, Refused, NoSuchUpload, named_from}
+use Rattle.proof_base.proofs.Common.{map-append, take-append-drop, take_all, drop_all, append-nil, length-take-le, concat-append}
+use Rattle.retries.specs.Prelude.{get-remove, text_total}
 use Rattle.proof_base.proofs.Lists.{one_longer}
 use Rattle.std.specs.FinMap as fin
-use Rattle.std.specs.FinMap.{get-remove}
-use Rattle.std.specs.Cmp.{nat_cmp_total, eq_by_cmp_equiv}
-use Rattle.proof_base.specs.Order.{text_total}
-use Rattle.s3_types.specs.Store.{Scene, BucketContent}
-use Rattle.s3_types.specs.Multipart.{live, with_key, joined}
-use Rattle.s3_types.specs.Answer.{answer, apply, answer_in, apply_in, part_answer, complete_answer, completed}
-use Rattle.s3_types.specs.Tags.{Spelled, plain_tag, joined_tag}
-use Rattle.s3_types.specs.declared.request.Request.{Request}
-use Rattle.s3_types.specs.declared.request.Request.TheVariants.{PutObject, CreateUpload, UploadPart, CompleteUpload}
-use Rattle.s3_types.specs.declared.request.NamedPart.{NamedPart}
-use Rattle.s3_types.specs.declared.reply.Reply.{Reply}
-use Rattle.s3_types.specs.declared.reply.Reply.TheVariants.{Part, Completed, Refused}
-use Rattle.s3_types.specs.declared.reply.Refusal.TheVariants.{NoSuchUpload}
-use Rattle.s3_types.specs.Blocks.{named_from}
+use Rattle.s3_types.specs.Tags.{plain_tag, joined_tag}
 use Rattle.block_stream.specs.declared.mode.StreamEnd.{StreamEnd}
 use Rattle.block_stream.specs.declared.mode.StreamEnd.TheVariants.{Done, Gone, StoreFault, NoMemory}
 use Rattle.block_stream.specs.declared.stage.Stage.{Stage}

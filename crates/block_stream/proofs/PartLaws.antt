@@ -1,22 +1,13 @@
 -- Laws of numbered parts and of their completion. Contracts cite none of them.
 use Rattle.std.specs.Prelude.{◌≡◌, ℕ, suc, ◌+◌, ◌-◌, ◌<◌, ◌≤◌, ◌&&◌, Bool, true, false, nat_le, nat_eq, cond, List, [], ◌∷◌, ◌++◌, length, map, take, Option, Some, Ok, Err}
 use Rattle.std.proofs.Common.{refl, sym, ap, subst, ◌∙◌, arith}
-use Rattle.std.specs.List.{list_all, flat_map, concat}
-use Rattle.std.proofs.lemmas.List.{map-append}
-use Rattle.std.proofs.lemmas.Bool.Decides.{nat_tests}
+use Rattle.machine.specs.Prelude.{list_all, flat_map, concat, nat_cmp, Ordering, eq_by_cmp_equiv, nat_cmp_total, Parts, Spelled, joined, NamedPart, named_from}
+use Rattle.proof_base.proofs.Common.{map-append, nat_tests}
+use Rattle.retries.specs.Prelude.{FinMap, get-insert, eq_by_cmp, IsTotalOrder, text_equiv, Upload, rises_from, rises, is_sent, has_tag, tag_eq, is_large, bytes_of, is_none_named}
 use Rattle.std.specs.FinMap as fin
-use Rattle.std.specs.FinMap.{FinMap, get-insert}
-use Rattle.std.specs.Ordering.{nat_cmp, eq_by_cmp}
-use Rattle.std.specs.declared.cmp.Ordering.{Ordering}
-use Rattle.std.specs.Cmp.{IsTotalOrder, eq_by_cmp_equiv, nat_cmp_total}
-use Rattle.proof_base.specs.Order.{text_equiv}
 use Rattle.proof_base.proofs.Numbers.{below_so, at_most_so}
 use Rattle.proof_base.proofs.Lists.{one_longer}
-use Rattle.s3_types.specs.Store.{Parts, Upload}
-use Rattle.s3_types.specs.Tags.{Spelled, plain_tag}
-use Rattle.s3_types.specs.Multipart.{rises_from, rises, is_sent, has_tag, tag_eq, is_large, bytes_of, is_none_named, joined}
-use Rattle.s3_types.specs.declared.request.NamedPart.{NamedPart}
-use Rattle.s3_types.specs.Blocks.{named_from}
+use Rattle.s3_types.specs.Tags.{plain_tag}
 use Rattle.block_stream.specs.Holds.{numbered_from, numbered, AreLong, AreBlocks}
 
 -- what was put stands

@@ -1,11 +1,7 @@
 -- The laws of a stream as a machine. Contracts cite none of them; the machine names `stream_laws` as what holds of it.
 use Rattle.std.specs.Prelude.{◌≡◌, Bool, true, false, cond, Some}
 use Rattle.std.proofs.Common.{refl, sym, ap, ◌∙◌, arith}
-use Rattle.s3_types.specs.declared.reply.Reply.{Reply}
-use Rattle.s3_types.specs.declared.reply.Reply.TheVariants.{Stored, Upload, Part, Completed, Refused}
-use Rattle.s3_types.specs.declared.reply.Refusal.{Refusal}
-use Rattle.machine.specs.Standing.{Fine}
-use Rattle.machine.specs.Laws.{Laws}
+use Rattle.machine.specs.Prelude.{Reply, Stored, Upload, Part, Completed, Refused, Refusal, Fine, Laws}
 use Rattle.block_stream.specs.declared.mode.StreamEnd.TheVariants.{Done, Gone}
 use Rattle.block_stream.specs.declared.stage.Stage.{Stage}
 use Rattle.block_stream.specs.declared.stage.Stage.TheVariants.{Putting, Beginning, Sending, Completing}

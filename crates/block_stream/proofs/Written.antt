@@ -1,14 +1,10 @@
 -- What a write and the close keep.
 use Rattle.std.specs.Prelude.{◌≡◌, ◌+◌, ◌*◌, ◌≤◌, ◌&&◌, ℕ, Bool, true, false, nat_lt, cond, List, [], ◌++◌, length, take, Option, Some, None, Result, Ok, Err, OnOk, IsSome, is_some}
 use Rattle.std.proofs.Common.{refl, sym, ap, subst, ◌∙◌, arith, true≢false}
-use Rattle.std.proofs.lemmas.Bool.{and_right}
-use Rattle.std.proofs.lemmas.List.{take-append-le}
-use Rattle.std.proofs.lemmas.Bool.Decides.{nat_tests}
+use Rattle.proof_base.proofs.Common.{and_right, take-append-le, nat_tests}
+use Rattle.machine.specs.Prelude.{Scene, BucketContent, Spelled, Request}
 use Rattle.std.specs.FinMap as fin
-use Rattle.s3_types.specs.Store.{Scene, BucketContent}
-use Rattle.s3_types.specs.Tags.{Spelled}
 use Rattle.block_stream.specs.declared.mode.StreamMode.{StreamMode}
-use Rattle.s3_types.specs.declared.request.Request.{Request}
 use Rattle.block_stream.specs.declared.mode.StreamEnd.{StreamEnd}
 use Rattle.block_stream.specs.declared.mode.StreamEnd.TheVariants.{Done}
 use Rattle.block_stream.specs.declared.stage.Stage.{Stage}

@@ -1,8 +1,7 @@
 -- Codes, by which proofs tell streams apart; each stands with the law that it is read back.
 use Rattle.std.specs.Prelude.{◌≡◌, ℕ, Bool, true, false, List, Option, refl}
-use Rattle.std.specs.Coded.{Coded, code_by, coded×, coded_ℕ, coded_list, coded_option, coded_bool}
-use Rattle.s3_types.specs.Tags.{Spelled}
-use Rattle.s3_types.specs.Coded.{coded_text}
+use Rattle.s3_types.specs.Prelude.{Coded, code_by, coded×, coded_ℕ, coded_list, coded_option, coded_bool, coded_text}
+use Rattle.machine.specs.Prelude.{Spelled}
 use Rattle.block_stream.specs.declared.mode.StreamMode.{StreamMode}
 use Rattle.block_stream.specs.declared.mode.StreamMode.TheVariants.{Direct, Delayed}
 use Rattle.block_stream.specs.declared.mode.StreamEnd.{StreamEnd}

@@ -1,9 +1,8 @@
 -- What a stream that is alone has stored and still holds: all bytes that were written, at every moment.
 use Rattle.std.specs.Prelude.{◌≡◌, ◌⊎◌, ℕ, ◌+◌, ◌*◌, ◌≤◌, ◌<◌, Bool, true, false, List, [], ◌∷◌, ◌++◌, length, map, Option, Some, None}
-use Rattle.std.specs.List.{concat}
+use Rattle.machine.specs.Prelude.{concat, Scene, BucketContent, Parts, live}
+use Rattle.retries.specs.Prelude.{Upload}
 use Rattle.std.specs.FinMap as fin
-use Rattle.s3_types.specs.Store.{Scene, BucketContent, Upload, Parts}
-use Rattle.s3_types.specs.Multipart.{live}
 use Rattle.s3_types.specs.Tags.{plain_tag}
 use Rattle.s3_types.specs.declared.limits.TheConstants.{MOST_PARTS}
 use Rattle.block_stream.specs.declared.mode.StreamMode.{StreamMode}

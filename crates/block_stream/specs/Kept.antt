@@ -1,9 +1,6 @@
 -- How a stream keeps what is pending: blocks that are cut off, and a rest.
 use Rattle.std.specs.Prelude.{◌≡◌, ℕ, ◌<◌, ◌≤◌, ◌&&◌, ◌||◌, Bool, true, false, not, nat_le, cond, List, [], ◌∷◌, ◌++◌, length, Option, Some, None}
-use Rattle.std.specs.List.{concat}
-use Rattle.std.specs.Option.{unwrap_or}
-use Rattle.s3_types.specs.Tags.{Spelled}
-use Rattle.s3_types.specs.declared.request.Request.{Request}
+use Rattle.machine.specs.Prelude.{concat, unwrap_or, Spelled, Request}
 use Rattle.block_stream.specs.declared.mode.StreamMode.{StreamMode}
 use Rattle.block_stream.specs.declared.mode.StreamMode.TheVariants.{Delayed}
 use Rattle.block_stream.specs.declared.mode.StreamEnd.{StreamEnd}

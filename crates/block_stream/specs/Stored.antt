@@ -1,7 +1,7 @@
 -- What a stream that ended well leaves in a scene.
 use Rattle.std.specs.Prelude.{◌≡◌, ℕ, List, Some}
+use Rattle.machine.specs.Prelude.{Scene, BucketContent}
 use Rattle.std.specs.FinMap as fin
-use Rattle.s3_types.specs.Store.{Scene, BucketContent}
 use Rattle.block_stream.specs.declared.mode.StreamEnd.TheVariants.{Done}
 use Rattle.block_stream.specs.Stream.{Stream}
 use Rattle.block_stream.specs.Holds.{IsWritten}

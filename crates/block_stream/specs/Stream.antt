@@ -1,16 +1,6 @@
 -- A block output stream, as a state that pieces, replies and the close move on (Hadoop, S3A: fs.s3a.fast.upload, block output; Amazon S3 API: multipart upload).
 use Rattle.std.specs.Prelude.{◌≡◌, ℕ, ◌+◌, ◌&&◌, ◌||◌, Bool, true, false, not, nat_le, nat_lt, cond, List, [], ◌∷◌, ◌++◌, length, take, drop, Option, Some, None}
-use Rattle.std.specs.Option.{unwrap_or}
-use Rattle.s3_types.specs.Tags.{Spelled}
-use Rattle.s3_types.specs.declared.request.Request.{Request}
-use Rattle.s3_types.specs.declared.request.Request.TheVariants.{PutObject, CreateUpload, UploadPart, CompleteUpload}
-use Rattle.s3_types.specs.declared.reply.Reply.{Reply}
-use Rattle.s3_types.specs.declared.reply.Reply.TheVariants.{Stored, Upload, Part, Completed, Refused}
-use Rattle.s3_types.specs.declared.reply.Refusal.{Refusal}
-use Rattle.s3_types.specs.declared.reply.Refusal.TheVariants.{NoSuchUpload}
-use Rattle.retries.specs.Retries.{Item, Got, WornOut, OutOfMemory}
-use Rattle.machine.specs.Standing.{Standing, Fine, Faulted, Broken}
-use Rattle.s3_types.specs.Blocks.{named_from}
+use Rattle.machine.specs.Prelude.{unwrap_or, Spelled, Request, PutObject, CreateUpload, UploadPart, CompleteUpload, Reply, Stored, Upload, Part, Completed, Refused, Refusal, NoSuchUpload, Item, Got, WornOut, OutOfMemory, Standing, Fine, Faulted, Broken, named_from}
 use Rattle.block_stream.specs.declared.mode.StreamMode.{StreamMode}
 use Rattle.block_stream.specs.declared.mode.StreamMode.TheVariants.{Direct, Delayed}
 use Rattle.block_stream.specs.declared.mode.StreamEnd.{StreamEnd}

@@ -1,18 +1,13 @@
 -- What requests on the objects of one bucket do.
 use Rattle.std.specs.Prelude.{◌≡◌, ℕ, Bool, true, false, nat_lt, cond, List, [], ◌∷◌, Option, Some, None, length}
 use Rattle.std.proofs.Common.{refl, sym, ap, ◌∙◌, ◌⊎◌, inl, inr}
-use Rattle.std.proofs.lemmas.Map.Lookups.{exact_bytes}
+use Rattle.proof_base.proofs.Common.{exact_bytes}
+use Rattle.s3_types.specs.Prelude.{same_map}
+use Rattle.bucket_ops.specs.Prelude.{text_cmp, text_total, Objects, BucketContent, Buckets, Scene, answer, apply, answer_at, apply_at, copy_answer, copied, without, Object, Request, Ask, Head, Get, Page, Put, Drop, DropAll, Copy, request_of, reply_in, edited, reply_at, objects_at, with_objects_if, with_objects, Repeats}
 use Rattle.std.specs.FinMap as fin
-use Rattle.std.specs.FinMap.{same_map}
-use Rattle.proof_base.specs.Order.{text_cmp, text_total}
 use Rattle.proof_base.proofs.Tree.{insert_same}
-use Rattle.s3_types.specs.Store.{Objects, BucketContent, Buckets, Scene}
-use Rattle.s3_types.specs.Answer.{answer, apply, answer_at, apply_at, copy_answer, copied, without}
-use Rattle.s3_types.specs.declared.object.Object.{Object}
-use Rattle.s3_types.specs.declared.request.Request.{Request}
 use Rattle.proof_base.proofs.Members.{same_or_other, text_here, text_other, text_gone, text_left}
-use Rattle.bucket_ops.specs.Asks.{Ask, Head, Get, Page, Put, Drop, DropAll, Copy, request_of, reply_in, edited, reply_at, objects_of, objects_at, with_objects_if, with_objects}
-use Rattle.operations.specs.Plans.{Repeats}
+use Rattle.bucket_ops.specs.Asks.{objects_of}
 
 -- ---- finite maps
 

@@ -1,18 +1,11 @@
 -- An operation on the objects of one bucket is an operation.
 use Rattle.std.specs.Prelude.{◌≡◌, ℕ, ◌<◌, List, Option, Some, None}
 use Rattle.std.proofs.Common.{refl, sym, ap, subst, ◌∙◌}
-use Rattle.s3_types.specs.Store.{Objects, Scene}
-use Rattle.s3_types.specs.Answer.{answer, apply}
-use Rattle.s3_types.specs.declared.reply.Reply.{Reply}
-use Rattle.operations.specs.declared.plan.Step.{Step}
-use Rattle.operations.specs.declared.plan.Step.TheVariants.{Next, End}
+use Rattle.bucket_ops.specs.Prelude.{Objects, Scene, answer, apply, Reply, Step, Next, End, Ask, request_of, reply_in, edited, reply_at, objects_at, with_objects, Goes, Falls, IsPlan, MaySend, reached, IsPhases, MayAsk, InScene, SendsAt, SendsIn}
 use Rattle.bucket_ops.specs.declared.bucket.InBucket.{InBucket}
-use Rattle.bucket_ops.specs.Asks.{Ask, request_of, reply_in, edited, reply_at, objects_at, with_objects}
 use Rattle.bucket_ops.proofs.AskLaws.{answered, applied_none, applied_some, with_same, objects_with, with_with, repeats}
-use Rattle.operations.specs.Plans.{Goes, Falls, IsPlan}
-use Rattle.operations.specs.Courses.{MaySend, reached}
 use Rattle.operations.proofs.PlanLaws.{sends_of}
-use Rattle.bucket_ops.specs.Phases.{IsPhases, MayAsk, InScene, request, stepped, led, Holds, Gives, Always, SendsAt, SendsIn, Sends, left_at, left_in, Starts}
+use Rattle.bucket_ops.specs.Phases.{request, stepped, led, Holds, Gives, Always, Sends, left_at, left_in, Starts}
 
 in_scene : (x : Option Objects) (z s : Scene) (b : List ℕ) (H G : Objects → Objects → Type 0) (N : Type 0) → ((m n : Objects) → H m n → G m n) → InScene x H N z b s → InScene x G (Unit {0}) z b s
 in_scene None z s b H G N f h = (h.0, tt)

@@ -1,15 +1,9 @@
 -- Requests on the objects of one bucket, and what they do there.
 use Rattle.std.specs.Prelude.{ℕ, Bool, true, false, nat_lt, cond, List, Option, Some, None, length}
+use Rattle.machine.specs.Prelude.{Objects, BucketContent, Scene, page, listed, head, copy_answer, copied, without, Request, HeadObject, GetObject, ListPage, PutObject, DeleteObject, DeleteObjects, CopyObject, Reply, Stored, Deleted, Refused, NoSuchBucket, TooManyKeys}
 use Rattle.std.specs.FinMap as fin
-use Rattle.s3_types.specs.Store.{Objects, BucketContent, Scene}
 use Rattle.s3_types.specs.Tags.{plain_tag}
-use Rattle.s3_types.specs.Pages.{page, listed}
-use Rattle.s3_types.specs.Answer.{head, found, copy_answer, copied, without}
-use Rattle.s3_types.specs.declared.request.Request.{Request}
-use Rattle.s3_types.specs.declared.request.Request.TheVariants.{HeadObject, GetObject, ListPage, PutObject, DeleteObject, DeleteObjects, CopyObject}
-use Rattle.s3_types.specs.declared.reply.Reply.{Reply}
-use Rattle.s3_types.specs.declared.reply.Reply.TheVariants.{Stored, Deleted, Refused}
-use Rattle.s3_types.specs.declared.reply.Refusal.TheVariants.{NoSuchBucket, TooManyKeys}
+use Rattle.s3_types.specs.Answer.{found}
 
 -- what is asked of a bucket
 pub data Ask : Type 0 where

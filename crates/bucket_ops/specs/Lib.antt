@@ -1,3 +1,4 @@
 pub mod Asks
 pub mod Phases
 pub mod Looks
+pub mod Prelude

@@ -1,10 +1,6 @@
 -- Operations on the objects of one bucket.
 use Rattle.std.specs.Prelude.{◌≡◌, ℕ, List, Option, Some, None}
-use Rattle.s3_types.specs.Store.{Objects, Scene}
-use Rattle.s3_types.specs.declared.reply.Reply.{Reply}
-use Rattle.s3_types.specs.declared.reply.Reply.TheVariants.{Refused}
-use Rattle.s3_types.specs.declared.reply.Refusal.TheVariants.{NoSuchBucket}
-use Rattle.s3_types.specs.declared.request.Request.{Request}
+use Rattle.machine.specs.Prelude.{Objects, Scene, Reply, Refused, NoSuchBucket, Request}
 use Rattle.operations.specs.declared.plan.Step.{Step}
 use Rattle.operations.specs.declared.plan.Step.TheVariants.{Next, End}
 use Rattle.bucket_ops.specs.declared.bucket.InBucket.{InBucket}

@@ -1,13 +1,9 @@
 -- Keys are deleted batch by batch.
 use Rattle.std.proofs.Common.{◌≡◌, ℕ, ◌<◌, nat_lt, Bool, true, false, cond, List, [], ◌∷◌, ◌++◌, take, drop, length, Some, None, refl, sym, ap, subst, ◌∙◌, arith, append_assoc}
-use Rattle.std.proofs.lemmas.List.{append-nil, take-append-drop, length-take}
+use Rattle.proof_base.proofs.Common.{append-nil, take-append-drop, length-take}
+use Rattle.bucket_walks.specs.Prelude.{Objects, without, Deleting, deleting, DropAll, edited, IsDeleting, IsDeleted}
 use Rattle.std.specs.FinMap as fin
 use Rattle.proof_base.proofs.Numbers.{below_is}
-use Rattle.s3_types.specs.Store.{Objects}
-use Rattle.s3_types.specs.Answer.{without}
-use Rattle.list_walk.specs.Walks.{Deleting, deleting}
-use Rattle.bucket_ops.specs.Asks.{DropAll, edited}
-use Rattle.bucket_walks.specs.Sweeping.{IsDeleting, IsDeleted}
 
 without_append : (m : Objects) (ks qs : List (List ℕ)) → without m (ks ++ qs) ≡ without (without m ks) qs
 without_append m [] qs = refl

@@ -1,18 +1,11 @@
 -- The keys below a prefix, and objects without some keys.
 use Rattle.std.proofs.Common.{◌≡◌, ◌⊎◌, ℕ, true, false, List, [], ◌∷◌, length, Some, None, refl, sym, subst, ◌∙◌, inl, inr, arith}
-use Rattle.std.proofs.lemmas.Bool.{false≢true}
-use Rattle.std.proofs.lemmas.List.{take_all}
+use Rattle.proof_base.proofs.Common.{false≢true, take_all}
+use Rattle.bucket_walks.specs.Prelude.{Objects, without, begins, listed, Object, IsIn, keys_on, keys_below}
 use Rattle.std.specs.FinMap as fin
-use Rattle.s3_types.specs.Store.{Objects}
-use Rattle.s3_types.specs.Answer.{without}
-use Rattle.s3_types.specs.Pages.{begins, listed}
-use Rattle.s3_types.specs.declared.object.Object.{Object}
-use Rattle.proof_base.specs.Members.{IsIn}
 use Rattle.proof_base.proofs.Members.{same_or_other, text_gone, text_left}
 use Rattle.store_frame.proofs.Flat.{listed_all, page_begins}
-use Rattle.list_walk.specs.Walks.{keys_on}
 use Rattle.bucket_ops.proofs.AskLaws.{gone_still}
-use Rattle.bucket_walks.specs.Walking.{keys_below}
 
 -- a key is one of these or not
 pub is_in : (k : List ℕ) (ks : List (List ℕ)) → IsIn k ks ⊎ (IsIn k ks → ⊥)

@@ -1,11 +1,8 @@
 -- Texts that rise.
 use Rattle.std.specs.Prelude.{◌≡◌, ℕ, true, List, [], ◌∷◌}
-use Rattle.std.specs.List.{AllByRecursion}
+use Rattle.bucket_walks.specs.Prelude.{AllByRecursion, Less, text_cmp, text_total, RisesFrom}
 use Rattle.std.specs.List.Sorted.{IsStrictlySortedBy}
-use Rattle.std.specs.declared.cmp.Ordering.TheVariants.{Less}
-use Rattle.proof_base.specs.Order.{text_cmp, text_total}
 use Rattle.proof_base.proofs.Less.{lt, lt_trans, less_of}
-use Rattle.proof_base.specs.Members.{RisesFrom}
 
 -- what rises from a text rises from a lower one
 pub lower : (l k : List ℕ) (ks : List (List ℕ)) → lt text_cmp l k ≡ true → RisesFrom k ks → RisesFrom l ks

@@ -1,21 +1,12 @@
 -- A sweep lists all keys and deletes them, and ends.
 use Rattle.std.proofs.Common.{◌≡◌, ℕ, ◌+◌, ◌*◌, ◌<◌, suc, nat_lt, Bool, true, false, cond, List, [], ◌∷◌, map, take, drop, length, Option, Some, None, refl, sym, ap, subst, ◌∙◌, arith, length-drop}
-use Rattle.std.proofs.lemmas.Bool.{false≢true}
-use Rattle.std.specs.List.{filter}
+use Rattle.proof_base.proofs.Common.{false≢true}
+use Rattle.bucket_walks.specs.Prelude.{filter, Objects, Reply, Deleted, Refused, TooManyKeys, listed, PageEntry, keys_on, last_of, Walked, More, Whole, walked_entries, Listing, Deleting, sweep_start, sweep_hears, deleting, all_go, DropAll, reply_in, edited, fits, keys_below, walk_asks, IsWalking, IsWalked, walk_left, LessWalked, sweep_asks, IsDeleted, IsSweeping, IsSwept, sweep_left, LessLeft}
 use Rattle.proof_base.proofs.Tree.{filter_all}
-use Rattle.s3_types.specs.Store.{Objects}
-use Rattle.s3_types.specs.declared.reply.Reply.{Reply}
-use Rattle.s3_types.specs.declared.reply.Reply.TheVariants.{Deleted, Refused}
-use Rattle.s3_types.specs.declared.reply.Refusal.TheVariants.{TooManyKeys}
-use Rattle.s3_types.specs.Pages.{listed}
-use Rattle.s3_types.specs.declared.reply.PageEntry.{PageEntry}
 use Rattle.s3_types.specs.declared.reply.PageEntry.TheVariants.{Object as Single}
-use Rattle.list_walk.specs.Walks.{keys_on, last_of, Walked, More, Whole, walked, walked_entries, Sweep, Listing, Deleting, sweep_start, sweep_hears, swept, deleting, all_go}
+use Rattle.list_walk.specs.Walks.{walked, Sweep, swept}
 use Rattle.list_walk.specs.Fitting.{FitsSweep}
 use Rattle.list_walk.proofs.Keys.{on_keys, walked_keys}
-use Rattle.bucket_ops.specs.Asks.{DropAll, reply_in, edited}
-use Rattle.bucket_walks.specs.Walking.{fits, keys_below, walk_asks, IsWalking, IsWalked, walk_left, LessWalked}
-use Rattle.bucket_walks.specs.Sweeping.{sweep_asks, IsDeleted, IsSweeping, IsSwept, sweep_left, LessLeft}
 use Rattle.bucket_walks.proofs.Walks.{fits_decides, page_fits, walk_goes, walk_falls}
 use Rattle.bucket_walks.proofs.Batches.{within, deleting_all, batch_goes}
 

@@ -1,21 +1,18 @@
 -- The walk over live uploads is an operation whose requests may all be made again.
 use Rattle.std.specs.Prelude.{◌≡◌, nat_lt, Bool, true, false, List, [], ◌++◌, take, drop, length, Option, Some, None, option_map}
 use Rattle.std.proofs.Common.{refl, sym, ap, subst, ◌∙◌, arith, append_assoc, length-drop}
-use Rattle.std.proofs.lemmas.List.{take-append-drop, take_all}
+use Rattle.proof_base.proofs.Common.{take-append-drop, take_all}
+use Rattle.bucket_walks.specs.Prelude.{Scene, BucketContent, answer, answer_at, apply, UploadRef, Goes, Falls, MaySend, walked_by, uploads_from}
+use Rattle.bucket_ops.specs.Prelude.{Repeats, IsPlan, reached}
 use Rattle.std.specs.FinMap as fin
 use Rattle.proof_base.proofs.Numbers.{below_is, below_not}
-use Rattle.s3_types.specs.Store.{Scene, BucketContent}
-use Rattle.s3_types.specs.Answer.{answer, answer_at, apply}
 use Rattle.s3_types.specs.Multipart.{listed}
-use Rattle.s3_types.specs.declared.request.UploadRef.{UploadRef}
 use Rattle.store_frame.proofs.Reading.{reads_nothing}
-use Rattle.operations.specs.Plans.{Repeats, Goes, Falls, IsPlan}
-use Rattle.operations.specs.Courses.{MaySend, reached}
 use Rattle.operations.proofs.PlanLaws.{sends_of}
-use Rattle.list_walk.specs.Walks.{last_ref, walked_by}
+use Rattle.list_walk.specs.Walks.{last_ref}
 use Rattle.list_walk.proofs.Uploads.{behind_uploads, refs_append}
 use Rattle.bucket_walks.specs.declared.uploads.UploadsBelow.{UploadsBelow}
-use Rattle.bucket_walks.specs.Uploads.{uploads_from, asks, led, goes, Begins, IsListing, Gives, IsSame, Pages, size, left}
+use Rattle.bucket_walks.specs.Uploads.{asks, led, goes, Begins, IsListing, Gives, IsSame, Pages, size, left}
 
 none_found : (o : Option (List UploadRef)) → option_map (λ l. [] ++ l) o ≡ o
 none_found (Some l) = refl

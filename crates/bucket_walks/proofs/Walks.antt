@@ -1,23 +1,15 @@
 -- A walk goes on by pages, and ends.
 use Rattle.std.proofs.Common.{◌≡◌, ℕ, ◌+◌, ◌*◌, ◌<◌, suc, nat_lt, Bool, true, false, List, [], ◌∷◌, ◌++◌, take, drop, length, Decides, refl, sym, ap, ◌∙◌, arith, append_assoc, length-append, length-drop}
-use Rattle.std.proofs.lemmas.Bool.{true≢false}
-use Rattle.std.proofs.lemmas.List.{take-append-drop, take_all, length-take}
-use Rattle.std.specs.List.{list_all}
+use Rattle.proof_base.proofs.Common.{true≢false, take-append-drop, take_all, length-take}
+use Rattle.bucket_walks.specs.Prelude.{list_all, Objects, page, listed, Reply, Refused, Refusal, PageEntry, keys_on, last_of, Walked, More, Whole, walked_by, walked_entries, reply_in, fits, all_below, walk_asks, IsWalking, IsWalked, walk_left, LessWalked}
+use Rattle.machine.specs.Prelude.{Page}
+use Rattle.bucket_ops.specs.Prelude.{NoSuchBucket}
 use Rattle.proof_base.proofs.Numbers.{below_is, below_not}
-use Rattle.s3_types.specs.Store.{Objects}
-use Rattle.s3_types.specs.Pages.{page, listed}
-use Rattle.s3_types.specs.declared.reply.Reply.{Reply}
-use Rattle.s3_types.specs.declared.reply.Reply.TheVariants.{Page, Refused}
-use Rattle.s3_types.specs.declared.reply.Refusal.{Refusal}
-use Rattle.s3_types.specs.declared.reply.Refusal.TheVariants.{NoSuchBucket}
-use Rattle.s3_types.specs.declared.reply.PageEntry.{PageEntry}
-use Rattle.list_walk.specs.Walks.{keys_on, last_of, Walked, More, Whole, walked_by, walked_entries}
 use Rattle.list_walk.specs.Fitting.{FitsPage}
 use Rattle.list_walk.proofs.Fitted.{keys_decide}
 use Rattle.list_walk.proofs.Keys.{keys_joined, page_keys}
 use Rattle.list_walk.proofs.Listing.{last_append, behind_page}
-use Rattle.bucket_ops.specs.Asks.{reply_in}
-use Rattle.bucket_walks.specs.Walking.{is_there, fits, all_below, walk_asks, IsWalking, IsWalked, walk_left, LessWalked}
+use Rattle.bucket_walks.specs.Walking.{is_there}
 
 -- ---- replies that a walk may be told
 

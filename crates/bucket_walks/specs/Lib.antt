@@ -1,3 +1,4 @@
 pub mod Walking
 pub mod Sweeping
 pub mod Uploads
+pub mod Prelude

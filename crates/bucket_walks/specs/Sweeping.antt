@@ -1,11 +1,7 @@
 -- A sweep of all keys below a prefix: what is left of the objects while it lists and deletes in batches (Amazon S3 API: DeleteObjects).
 use Rattle.std.specs.Prelude.{◌≡◌, ℕ, ◌+◌, ◌*◌, ◌<◌, false, List, [], ◌∷◌, ◌++◌, take, length, Option, Some, None}
-use Rattle.s3_types.specs.Store.{Objects}
-use Rattle.s3_types.specs.Answer.{without}
-use Rattle.s3_types.specs.Pages.{listed}
-use Rattle.s3_types.specs.declared.reply.PageEntry.{PageEntry}
+use Rattle.bucket_ops.specs.Prelude.{Objects, without, listed, PageEntry, Ask, Page, DropAll}
 use Rattle.list_walk.specs.Walks.{keys_on, last_of, Sweep, Listing, Deleting}
-use Rattle.bucket_ops.specs.Asks.{Ask, Page, DropAll}
 use Rattle.bucket_walks.specs.Walking.{keys_below, IsWalking}
 
 -- what a sweep asks of the bucket

@@ -1,16 +1,8 @@
 -- A walk over the live uploads of a bucket below a prefix, as an operation (Amazon S3 API: ListMultipartUploads).
 use Rattle.std.specs.Prelude.{◌≡◌, ℕ, List, [], ◌++◌, length, Option, Some, None, option_map}
+use Rattle.bucket_ops.specs.Prelude.{Scene, Request, UploadRef, Reply, Refused, Refusal, NoSuchBucket, Step, Next, End}
 use Rattle.std.specs.FinMap as fin
-use Rattle.s3_types.specs.Store.{Scene}
 use Rattle.s3_types.specs.Multipart.{listed}
-use Rattle.s3_types.specs.declared.request.Request.{Request}
-use Rattle.s3_types.specs.declared.request.UploadRef.{UploadRef}
-use Rattle.s3_types.specs.declared.reply.Reply.{Reply}
-use Rattle.s3_types.specs.declared.reply.Reply.TheVariants.{Refused}
-use Rattle.s3_types.specs.declared.reply.Refusal.{Refusal}
-use Rattle.s3_types.specs.declared.reply.Refusal.TheVariants.{NoSuchBucket}
-use Rattle.operations.specs.declared.plan.Step.{Step}
-use Rattle.operations.specs.declared.plan.Step.TheVariants.{Next, End}
 use Rattle.list_walk.specs.Walks.{Walked, More, Whole, last_ref, uploads_after, walked_uploads}
 use Rattle.bucket_walks.specs.declared.uploads.UploadsBelow.{UploadsBelow}
 

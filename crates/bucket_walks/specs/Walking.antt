@@ -1,16 +1,9 @@
 -- A walk over all keys below a prefix, as a part of an operation on a bucket's objects (Amazon S3 API: ListObjectsV2).
 use Rattle.std.specs.Prelude.{◌≡◌, ℕ, ◌+◌, ◌*◌, ◌<◌, Bool, true, false, List, [], ◌++◌, length}
-use Rattle.std.specs.List.{list_all}
-use Rattle.s3_types.specs.Store.{Objects}
-use Rattle.s3_types.specs.Pages.{listed}
-use Rattle.s3_types.specs.declared.reply.Reply.{Reply}
-use Rattle.s3_types.specs.declared.reply.Reply.TheVariants.{Page as APage, Refused}
-use Rattle.s3_types.specs.declared.reply.Refusal.{Refusal}
-use Rattle.s3_types.specs.declared.reply.Refusal.TheVariants.{NoSuchBucket}
-use Rattle.s3_types.specs.declared.reply.PageEntry.{PageEntry}
+use Rattle.bucket_ops.specs.Prelude.{list_all, Objects, listed, Reply, Refused, Refusal, NoSuchBucket, PageEntry, Ask, Page}
+use Rattle.s3_types.specs.declared.reply.Reply.TheVariants.{Page as APage}
 use Rattle.list_walk.specs.Walks.{keys_on, last_of, Walked, More, Whole}
 use Rattle.list_walk.specs.Fitting.{is_key}
-use Rattle.bucket_ops.specs.Asks.{Ask, Page}
 
 -- the entries of all keys below a prefix, and the keys
 abbrev pub all_below : List ℕ → Objects → List PageEntry

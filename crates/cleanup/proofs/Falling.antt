@@ -1,24 +1,12 @@
 -- What a clean has left falls.
 use Rattle.std.proofs.Common.{◌≡◌, ℕ, ◌+◌, ◌<◌, ◌≤◌, Bool, true, false, List, [], ◌∷◌, ◌++◌, length, Option, Some, None, refl, sym, ap, subst, ◌∙◌, arith}
 use Rattle.std.specs.Prelude.{codes}
+use Rattle.job_protocol.specs.Prelude.{filter, Scene, answer, apply, begins, Committer, Magic, Directory, Partitioned, Request, AbortUpload, ClusterDelete, UploadRef, Job, job_script, Walked, More, Whole, Sweep, sweep_start, sweep_asks, sweep_hears, all_go, uploads_after, walked_uploads, Clean, Walking, Aborting, Naming, Removing, CleanOver, clean_asks, clean_hears, aborted, aborting, walking, sweeping, removing, FitsUploads, FitsSweep, uploads_left, left_of, adds_key, one_if}
 use Rattle.std.specs.FinMap as fin
-use Rattle.std.specs.List.{filter}
 use Rattle.proof_base.proofs.Options.{some_is}
-use Rattle.s3_types.specs.Store.{Scene}
-use Rattle.s3_types.specs.Answer.{answer, apply}
-use Rattle.s3_types.specs.Pages.{begins}
-use Rattle.s3_types.specs.declared.request.Committer.{Committer}
-use Rattle.s3_types.specs.declared.request.Committer.TheVariants.{Magic, Directory, Partitioned}
-use Rattle.s3_types.specs.declared.request.Request.{Request}
-use Rattle.s3_types.specs.declared.request.Request.TheVariants.{AbortUpload, ClusterDelete}
-use Rattle.s3_types.specs.declared.request.UploadRef.{UploadRef}
 use Rattle.magic_paths.specs.Layout as layout
-use Rattle.job_model.specs.Jobs.{Job}
-use Rattle.job_protocol.specs.AtWork.{job_script}
-use Rattle.list_walk.specs.Walks.{Walked, More, Whole, Sweep, sweep_start, sweep_asks, sweep_hears, all_go, uploads_after, walked_uploads}
-use Rattle.job_protocol.specs.Cleanups.{Clean, Walking, Aborting, Sweeping, Naming, Removing, CleanOver, clean_asks, clean_hears, aborted, aborting, walking, sweeping, removing}
-use Rattle.list_walk.specs.Fitting.{FitsUploads, FitsSweep}
-use Rattle.list_walk.specs.Left.{uploads_left, left_of, adds_key, sets_upload, one_if}
+use Rattle.job_protocol.specs.Cleanups.{Sweeping}
+use Rattle.list_walk.specs.Left.{sets_upload}
 use Rattle.list_walk.specs.Laws.{LessUploads}
 use Rattle.list_walk.proofs.Growing.{growth}
 use Rattle.list_walk.proofs.Falling.{sweep_laws, upload_laws}

@@ -1,18 +1,8 @@
 -- Places among uploads and paths.
 use Rattle.std.proofs.Common.{◌≡◌, ℕ, ◌+◌, suc, zero, ◌<◌, nat_lt, Bool, true, false, cond, List, [], ◌∷◌, length, drop, Option, Some, None, refl, sym, ap, ◌∙◌, arith, length-drop}
-use Rattle.std.specs.List.{slice_get}
-use Rattle.std.proofs.lemmas.List.{drop-drop}
-use Rattle.proof_base.proofs.Numbers.{below_is, below_not}
-use Rattle.s3_types.specs.declared.request.Committer.{Committer}
-use Rattle.s3_types.specs.declared.request.Committer.TheVariants.{Magic, Directory, Partitioned}
-use Rattle.s3_types.specs.declared.request.Request.TheVariants.{AbortUpload, ClusterDelete}
-use Rattle.s3_types.specs.declared.request.UploadRef.{UploadRef}
-use Rattle.s3_types.specs.declared.reply.Reply.{Reply}
-use Rattle.job_model.specs.JobScript.{Script}
-use Rattle.job_model.specs.declared.ends.CleanEnd.{CleanEnd}
+use Rattle.job_protocol.specs.Prelude.{slice_get, Committer, Magic, Directory, Partitioned, AbortUpload, ClusterDelete, UploadRef, Reply, Script, CleanEnd, Sweep, sweep_start, Clean, clean_asks, clean_hears, clean_over, aborted, aborting, removing}
+use Rattle.path_keys.proofs.Common.{drop-drop, below_is, below_not}
 use Rattle.job_model.specs.declared.ends.CleanEnd.TheVariants as ends
-use Rattle.list_walk.specs.Walks.{Sweep, sweep_start}
-use Rattle.job_protocol.specs.Cleanups.{Clean, clean_asks, clean_hears, clean_over, aborted, aborting, removing}
 use Rattle.cleanup.specs.Held.{clean_at, within, behind, abort_stage, stage_after, remove_stage, aborting_from, abort_asks, remove_asks}
 use Rattle.cleanup.specs.declared.held.Stage.{Stage}
 use Rattle.cleanup.specs.declared.held.Stage.TheVariants as stages

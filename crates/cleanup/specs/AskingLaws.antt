@@ -1,18 +1,9 @@
 -- How a clean stands.
 use Rattle.std.specs.Prelude.{◌≡◌, ℕ, List, [], ◌∷◌, Option, Some, None}
 use Rattle.std.proofs.Common.{refl}
-use Rattle.s3_types.specs.declared.request.Committer.{Committer}
-use Rattle.s3_types.specs.declared.request.Committer.TheVariants.{Magic, Directory, Partitioned}
-use Rattle.s3_types.specs.declared.request.Request.{Request}
-use Rattle.s3_types.specs.declared.request.UploadRef.{UploadRef}
-use Rattle.s3_types.specs.declared.reply.Reply.{Reply}
-use Rattle.s3_types.specs.declared.reply.Reply.TheVariants.{ClusterNames}
-use Rattle.machine.specs.Asks.{AskLaws}
-use Rattle.machine.specs.Standing.{Fine}
-use Rattle.job_model.specs.Jobs.{Job}
-use Rattle.job_protocol.specs.AtWork.{job_script, clean_wants, clean_told}
-use Rattle.list_walk.specs.Walks.{Walked, More, Whole, Sweep, walked_uploads, sweep_hears, all_go}
-use Rattle.job_protocol.specs.Cleanups.{Clean, Walking, Aborting, Sweeping, Naming, Removing, CleanOver, clean_asks, clean_hears, aborted, aborting, walking, sweeping, removing, naming}
+use Rattle.job_protocol.specs.Prelude.{Committer, Magic, Directory, Partitioned, Request, UploadRef, Reply, ClusterNames, Job, job_script, clean_wants, clean_told, Walked, More, Whole, Sweep, walked_uploads, sweep_hears, all_go, Clean, Walking, Aborting, Naming, Removing, CleanOver, clean_asks, clean_hears, aborted, aborting, walking, sweeping, removing, naming}
+use Rattle.machine.specs.Prelude.{AskLaws, Fine}
+use Rattle.job_protocol.specs.Cleanups.{Sweeping}
 use Rattle.cleanup.specs.Fits.{FitsDriving, standing, standing_of}
 
 fine_aborted : (c : Committer) → standing_of (aborted c) ≡ Fine

@@ -1,12 +1,9 @@
 -- The replies that fit a clean, and how it stands.
 use Rattle.std.specs.Prelude.{Bool}
-use Rattle.s3_types.specs.declared.reply.Reply.{Reply}
-use Rattle.job_model.specs.declared.ends.CleanEnd.{CleanEnd}
+use Rattle.job_protocol.specs.Prelude.{Reply, CleanEnd, Driving, Clean, Walking, Aborting, Naming, Removing, CleanOver, FitsUploads, FitsSweep}
+use Rattle.machine.specs.Prelude.{Standing, Fine, Faulted, Broken}
 use Rattle.job_model.specs.declared.ends.CleanEnd.TheVariants.{Done, StoreFault, NoMemory}
-use Rattle.machine.specs.Standing.{Standing, Fine, Faulted, Broken}
-use Rattle.job_protocol.specs.AtWork.{Driving}
-use Rattle.job_protocol.specs.Cleanups.{Clean, Walking, Aborting, Sweeping, Naming, Removing, CleanOver}
-use Rattle.list_walk.specs.Fitting.{FitsUploads, FitsSweep}
+use Rattle.job_protocol.specs.Cleanups.{Sweeping}
 
 -- the bucket is there, and a page that is not folded has keys alone
 abbrev pub FitsClean : Clean → Reply → Type 0

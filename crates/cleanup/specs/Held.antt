@@ -1,13 +1,8 @@
 -- A clean as it is kept.
 use Rattle.std.specs.Prelude.{ℕ, ◌+◌, nat_lt, Bool, true, cond, List, [], ◌∷◌, drop, length, Option, Some, None}
-use Rattle.s3_types.specs.declared.request.Committer.{Committer}
-use Rattle.s3_types.specs.declared.request.Committer.TheVariants.{Magic, Directory, Partitioned}
-use Rattle.s3_types.specs.declared.request.Request.{Request}
-use Rattle.s3_types.specs.declared.request.Request.TheVariants.{AbortUpload, ClusterDelete}
-use Rattle.s3_types.specs.declared.request.UploadRef.{UploadRef}
+use Rattle.job_protocol.specs.Prelude.{Committer, Magic, Directory, Partitioned, Request, AbortUpload, ClusterDelete, UploadRef, Sweep, Clean, Walking, Aborting, Naming, CleanOver, removing}
 use Rattle.job_model.specs.declared.ends.CleanEnd.TheVariants as ends
-use Rattle.list_walk.specs.Walks.{Sweep}
-use Rattle.job_protocol.specs.Cleanups.{Clean, Walking, Aborting, Sweeping, Naming, CleanOver, removing}
+use Rattle.job_protocol.specs.Cleanups.{Sweeping}
 use Rattle.cleanup.specs.declared.held.Held.{Held}
 use Rattle.cleanup.specs.declared.held.Stage.{Stage}
 use Rattle.cleanup.specs.declared.held.Stage.TheVariants as stages

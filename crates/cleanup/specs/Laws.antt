@@ -1,6 +1,5 @@
 -- A clean among others.
-use Rattle.job_protocol.specs.AtWork.{clean_wants, clean_told}
-use Rattle.job_protocol.specs.Measures.{FallsAmong}
+use Rattle.job_protocol.specs.Prelude.{clean_wants, clean_told, FallsAmong}
 use Rattle.cleanup.specs.Fits.{FitsDriving}
 use Rattle.cleanup.specs.Left.{clean_left}
 

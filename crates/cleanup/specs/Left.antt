@@ -1,14 +1,9 @@
 -- What a clean has left in a scene.
 use Rattle.std.specs.Prelude.{ℕ, ◌+◌, ◌++◌, length, codes}
-use Rattle.s3_types.specs.Store.{Scene}
-use Rattle.s3_types.specs.declared.request.Committer.{Committer}
-use Rattle.s3_types.specs.declared.request.Committer.TheVariants.{Magic, Directory, Partitioned}
+use Rattle.job_protocol.specs.Prelude.{Scene, Committer, Magic, Directory, Partitioned, Job, Driving, sweep_start, Clean, Walking, Aborting, Naming, Removing, CleanOver, uploads_left, sweep_left}
 use Rattle.magic_paths.specs.Layout as layout
-use Rattle.job_model.specs.Jobs.{Job}
-use Rattle.job_protocol.specs.AtWork.{Driving}
-use Rattle.list_walk.specs.Walks.{sweep_start}
-use Rattle.job_protocol.specs.Cleanups.{Clean, Walking, Aborting, Sweeping, Naming, Removing, CleanOver}
-use Rattle.list_walk.specs.Left.{uploads_left, sweep_left, files_left}
+use Rattle.job_protocol.specs.Cleanups.{Sweeping}
+use Rattle.list_walk.specs.Left.{files_left}
 
 -- once the uploads are aborted: the sweep, or the list of the files and each of them
 abbrev pub after_left : Committer → Job → Scene → ℕ

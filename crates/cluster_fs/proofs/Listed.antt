@@ -1,17 +1,10 @@
 -- The paths that begin with a text stand in a row.
 use Rattle.std.proofs.Common.{◌≡◌, ℕ, Bool, true, false, ◌&&◌, not, cond, List, [], ◌∷◌, ◌++◌, refl, sym, ap, ◌∙◌, subst}
-use Rattle.std.proofs.lemmas.Bool.{false≢true, not-true}
-use Rattle.std.proofs.lemmas.Map.Keys.{sorted_head, sorted_tail}
-use Rattle.std.specs.List.{filter}
+use Rattle.proof_base.proofs.Common.{false≢true, not-true, sorted_head, sorted_tail}
+use Rattle.s3_types.specs.Prelude.{filter, keys_of, entries_between, is_lt, is_le, Included, Unbounded, text_cmp, text_total, begins}
 use Rattle.std.specs.List.Sorted.{IsStrictlySortedBy}
-use Rattle.std.specs.Map.{keys_of}
-use Rattle.std.specs.BTreeMap.Range.{entries_between}
-use Rattle.std.specs.Ordering.{is_lt, is_le}
-use Rattle.std.specs.declared.ops.Bound.TheVariants.{Included, Unbounded}
 use Rattle.proof_base.proofs.Bools.{contrary, and_true}
-use Rattle.proof_base.specs.Order.{text_cmp, text_total}
 use Rattle.proof_base.proofs.Less.{lt, le_not, le_le, lt_not}
-use Rattle.s3_types.specs.Pages.{begins}
 use Rattle.s3_types.proofs.Begins.{between, from_prefix}
 use Rattle.cluster_fs.specs.Cluster.{Follows}
 

@@ -1,12 +1,8 @@
 -- A file that is put at the target and then taken from the source.
 use Rattle.std.proofs.Common.{◌≡◌, ℕ, Bool, true, false, cond, List, Option, Some, None, refl, sym, ap, ◌∙◌}
-use Rattle.std.specs.FinMap.{FinMap, insert, remove, get, get-insert, get-remove, same_map}
-use Rattle.std.specs.Ordering.{eq_by_cmp}
-use Rattle.std.proofs.lemmas.Bool.{false≢true}
-use Rattle.std.proofs.lemmas.Map.Lookups.{exact_bytes}
-use Rattle.proof_base.specs.Order.{text_cmp, text_eq, text_total, text_ties}
+use Rattle.s3_types.specs.Prelude.{FinMap, insert, remove, get, get-insert, get-remove, same_map, eq_by_cmp, text_cmp, text_eq, text_total, text_ties, Files}
+use Rattle.proof_base.proofs.Common.{false≢true, exact_bytes}
 use Rattle.proof_base.proofs.Tree.{tied}
-use Rattle.s3_types.specs.Store.{Files}
 
 -- whether two paths are one
 abbrev is_at : List ℕ → List ℕ → Bool

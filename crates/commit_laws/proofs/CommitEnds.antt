@@ -1,31 +1,10 @@
 -- a commit ends by its own entries
 use Rattle.std.proofs.Common.{◌≡◌, ℕ, ◌+◌, ◌<◌, ◌≤◌, ◌⊎◌, inl, inr, nat_lt, refl, ap, sym, subst, ◌∙◌, Bool, true, false, cond, arith, List, [], ◌∷◌, ◌++◌, map, length, slice_get, Option, Some, None, append_assoc, append-nil, length-append}
-use Rattle.std.proofs.lemmas.Bool.Decides.{nat_tests}
-use Rattle.s3_types.specs.declared.request.Committer.{Committer}
-use Rattle.s3_types.specs.declared.request.Committer.TheVariants.{Magic, Directory, Partitioned}
-use Rattle.s3_types.specs.declared.request.Request.{Request}
-use Rattle.s3_types.specs.declared.request.Request.TheVariants.{GetObject, ClusterGet}
-use Rattle.s3_types.specs.declared.reply.Reply.{Reply}
-use Rattle.s3_types.specs.declared.journal.Outcome.{Outcome}
-use Rattle.s3_types.specs.declared.journal.Outcome.TheVariants.{Answered, Slow, RequestLost, ReplyLost}
-use Rattle.s3_types.specs.declared.journal.Entry.{Entry}
-use Rattle.pending_json.specs.Pending.{Pending}
-use Rattle.pending_json.specs.declared.records.PendingSet.{PendingSet}
-use Rattle.retries.specs.Operation.{run, Follows}
-use Rattle.retries.specs.Worn.{WornFirst}
+use Rattle.path_keys.proofs.Common.{nat_tests, slice_get_within}
+use Rattle.job_protocol.specs.Prelude.{Committer, Magic, Directory, Partitioned, Request, GetObject, ClusterGet, Reply, Outcome, Answered, Slow, RequestLost, ReplyLost, Entry, Pending, PendingSet, run, Follows, WornFirst, Script, Job, CommitEnd, same_path, Sweep, Listing, Deleting, sweep_asks, sweep_hears, Turn, again, follow, dealt, chosen, undo, in_turn, abort, deletion, revert, is_tried, is_unsent, Sets, picks_of, all_commits, set_read, set_request, Commit, Fetching, Replacing, Completing, Marking, Reverting, CommitOver, completing, is_no_magic, replaced, replacing, swept, decided, fetching, fetched, reverting, worn_completion, commit_asks, commit_hears, commit_misses, commit_tells, commit_over, RequestsApart, Sound, AllSound, EndIs, Committing, read_script, sets_in, sets_after, with_set, with_pick, picked_after, commit_wants, commit_told}
 use Rattle.retries.proofs.First.{none_sent}
-use Rattle.job_model.specs.JobScript.{Script}
-use Rattle.job_model.specs.Jobs.{Job}
-use Rattle.job_model.specs.declared.ends.CommitEnd.{CommitEnd}
 use Rattle.job_model.specs.declared.ends.CommitEnd.TheVariants as ends
 use Rattle.job_model.specs.declared.ends.Stage.TheVariants as stages
-use Rattle.job_protocol.specs.Outputs.{same_path}
-use Rattle.list_walk.specs.Walks.{Sweep, Listing, Deleting, sweep_asks, sweep_hears}
-use Rattle.job_protocol.specs.Lanes.{Turn, again, follow, dealt, chosen, undo, in_turn, abort, deletion, revert, is_tried, is_unsent}
-use Rattle.job_protocol.specs.JobCommits.{Sets, picks_of, all_commits, set_read, set_request, Commit, Fetching, Replacing, Completing, Marking, Reverting, CommitOver, completing, is_no_magic, replaced, replacing, swept, decided, fetching, fetched, reverting, worn_completion, commit_asks, commit_hears, commit_misses, commit_tells, commit_over}
-use Rattle.job_protocol.specs.LaneTable.{RequestsApart, Sound, AllSound}
-use Rattle.job_protocol.specs.Laws.{EndIs}
-use Rattle.job_protocol.specs.AtWork.{Committing, read_script, sets_in, sets_after, with_set, with_pick, picked_after, commit_wants, commit_told}
 use Rattle.job_protocol.proofs.Members.{some_is, none_some, false_true}
 use Rattle.job_protocol.proofs.LaneEnds.{ends_by_worn}
 use Rattle.commit_parts.specs.Tables.{listed}
@@ -34,7 +13,6 @@ use Rattle.commit_laws.specs.Fitting.{SpellsSet, FitsCommit}
 use Rattle.commit_parts.specs.ReadSets.{AreRead}
 use Rattle.commit_laws.specs.Laws.{start, AllFit, set_heard, sets_heard, due}
 use Rattle.job_protocol.proofs.Members.{get_before}
-use Rattle.std.proofs.lemmas.Option.{slice_get_within}
 use Rattle.commit_parts.proofs.KeysApart.{sets_apart}
 
 less_or_same : (a b : ℕ) → a < b + 1 → (a < b) ⊎ (a ≡ b)

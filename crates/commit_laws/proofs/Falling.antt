@@ -1,52 +1,13 @@
 -- a commit has less left after each sending
 use Rattle.std.proofs.Common.{◌≡◌, ℕ, zero, suc, ◌+◌, ◌-◌, ◌*◌, ◌<◌, ◌≤◌, nat_lt, min, max, refl, ap, sym, subst, ◌∙◌, Bool, true, false, cond, arith, List, [], ◌∷◌, ◌++◌, map, length, Option, Some, None, length-append}
-use Rattle.std.specs.BTreeSet.{insert_key}
+use Rattle.job_protocol.specs.Prelude.{insert_key, lookup, unwrap_or, option_map, match_ordering, Ordering, Less, Equal, Greater, text_cmp, Path, Scene, BucketContent, answer, apply, effect, begins, listed, Object, Committer, Magic, Directory, Partitioned, Mode, Fail, Append, Replace, Request, Reply, Outcome, Answered, Slow, RequestLost, ReplyLost, Pending, PendingSet, File, Who, same_name, placed, Script, Job, CommitEnd, Picks, files_picked, wanted_below, wanted, ordered, wanted_paths, same_path, dir_of, with_dir, dirs_of, partitions, partition_prefix, Sweep, Listing, Deleting, sweep_start, sweep_asks, sweep_hears, Turn, fresh_turn, again, follow, first_turns, dealt, nth, chosen, undo, in_turn, abort, deletion, revert, is_tried, is_unsent, Sets, picks_of, all_commits, set_read, set_request, Commit, Fetching, Replacing, Completing, Marking, Reverting, CommitOver, completing, is_no_magic, replaced, replacing, swept, decided, fetched, reverting, worn_completion, commit_asks, commit_hears, commit_misses, Committing, declared_of, read_script, sets_in, sets_after, with_set, commit_wants, commit_told, FitsSweep, keys_left, sweep_left, thousands, adds_key, one_if}
+use Rattle.path_keys.proofs.Common.{and_parts, true≢false, nat_tests, lt, flat_map-append}
 use Rattle.std.specs.FinMap as fin
-use Rattle.std.specs.Map.{lookup}
-use Rattle.std.specs.Option.{unwrap_or, option_map}
-use Rattle.std.specs.Ordering.{match_ordering}
-use Rattle.std.specs.declared.cmp.Ordering.{Ordering}
-use Rattle.std.specs.declared.cmp.Ordering.TheVariants.{Less, Equal, Greater}
-use Rattle.std.proofs.lemmas.Bool.{and_parts, true≢false}
-use Rattle.std.proofs.lemmas.Bool.Decides.{nat_tests}
-use Rattle.proof_base.specs.Order.{text_cmp}
-use Rattle.proof_base.proofs.Less.{lt}
-use Rattle.path_keys.specs.Paths.{Path}
-use Rattle.s3_types.specs.Store.{Scene, BucketContent}
-use Rattle.s3_types.specs.Answer.{answer, apply}
-use Rattle.s3_types.specs.Moment.{effect}
-use Rattle.s3_types.specs.Pages.{begins, listed}
-use Rattle.s3_types.specs.declared.object.Object.{Object}
-use Rattle.s3_types.specs.declared.request.Committer.{Committer}
-use Rattle.s3_types.specs.declared.request.Committer.TheVariants.{Magic, Directory, Partitioned}
-use Rattle.s3_types.specs.declared.request.Mode.{Mode}
-use Rattle.s3_types.specs.declared.request.Mode.TheVariants.{Fail, Append, Replace}
-use Rattle.s3_types.specs.declared.request.Request.{Request}
-use Rattle.s3_types.specs.declared.reply.Reply.{Reply}
-use Rattle.s3_types.specs.declared.journal.Outcome.{Outcome}
-use Rattle.s3_types.specs.declared.journal.Outcome.TheVariants.{Answered, Slow, RequestLost, ReplyLost}
-use Rattle.pending_json.specs.Pending.{Pending}
-use Rattle.pending_json.specs.declared.records.PendingSet.{PendingSet}
-use Rattle.job_model.specs.Files.{File}
-use Rattle.job_model.specs.Attempts.{Who, same_name}
-use Rattle.job_model.specs.Placed.{placed}
-use Rattle.job_model.specs.JobScript.{Script}
-use Rattle.job_model.specs.Jobs.{Job}
-use Rattle.job_model.specs.declared.ends.CommitEnd.{CommitEnd}
-use Rattle.job_protocol.specs.Outputs.{Picks, files_picked, wanted_below, wanted, ordered, wanted_paths, same_path}
-use Rattle.job_protocol.specs.Conflicts.{dir_of, with_dir, dirs_of, partitions}
-use Rattle.job_protocol.specs.TaskCommits.{partition_prefix}
-use Rattle.list_walk.specs.Walks.{Sweep, Listing, Deleting, sweep_start, sweep_asks, sweep_hears}
-use Rattle.job_protocol.specs.Lanes.{Turn, fresh_turn, again, follow, first_turns, dealt, nth, chosen, undo, in_turn, abort, deletion, revert, is_tried, is_unsent}
-use Rattle.job_protocol.specs.JobCommits.{Sets, picks_of, all_commits, set_read, set_request, Commit, Fetching, Replacing, Completing, Marking, Reverting, CommitOver, completing, is_no_magic, replaced, replacing, swept, decided, fetched, reverting, worn_completion, commit_asks, commit_hears, commit_misses}
-use Rattle.job_protocol.specs.AtWork.{Committing, declared_of, read_script, sets_in, sets_after, with_set, commit_wants, commit_told}
 use Rattle.job_protocol.proofs.Members.{none_some, some_is}
-use Rattle.list_walk.specs.Fitting.{FitsSweep}
-use Rattle.list_walk.specs.Left.{count_in, keys_left, sweep_left, thousands, left_of as sweeps_left, adds_key, one_if}
+use Rattle.list_walk.specs.Left.{count_in, left_of as sweeps_left}
 use Rattle.list_walk.proofs.Counting.{count, count_more}
 use Rattle.list_walk.proofs.Listing.{is_left, listed_count}
 use Rattle.list_walk.proofs.Falling.{sweep_laws}
-use Rattle.std.proofs.lemmas.Grind.{flat_map-append}
 use Rattle.job_model.specs.declared.ends.CommitEnd.TheVariants as ends
 use Rattle.job_model.specs.declared.ends.Stage.TheVariants as stages
 use Rattle.commit_laws.specs.Fitting.{SpellsSet, FitsReply}

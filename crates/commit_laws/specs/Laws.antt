@@ -1,28 +1,7 @@
 -- What holds of a job's commit alone.
 use Rattle.std.specs.Prelude.{◌≡◌, ℕ, ◌+◌, ◌-◌, ◌*◌, ◌<◌, ◌≤◌, max, List, [], ◌∷◌, ◌++◌, length, Option, Some, None}
-use Rattle.s3_types.specs.Store.{Scene}
-use Rattle.s3_types.specs.declared.request.Request.{Request}
-use Rattle.s3_types.specs.declared.request.Request.TheVariants.{GetObject, ClusterGet}
-use Rattle.s3_types.specs.declared.journal.Outcome.{Outcome}
-use Rattle.s3_types.specs.declared.journal.Outcome.TheVariants.{Answered}
-use Rattle.s3_types.specs.declared.journal.Entry.{Entry}
-use Rattle.s3_types.specs.declared.reply.Reply.{Reply}
-use Rattle.s3_types.specs.declared.request.Committer.{Committer}
-use Rattle.s3_types.specs.declared.request.Committer.TheVariants.{Magic, Directory, Partitioned}
-use Rattle.s3_types.specs.Answer.{answer, apply}
-use Rattle.s3_types.specs.Moment.{effect}
-use Rattle.pending_json.specs.declared.records.PendingSet.{PendingSet}
-use Rattle.retries.specs.Operation.{run, Follows}
-use Rattle.retries.specs.Worn.{WornFirst}
-use Rattle.job_model.specs.Jobs.{Job}
-use Rattle.job_model.specs.declared.ends.CommitEnd.{CommitEnd}
+use Rattle.job_protocol.specs.Prelude.{Scene, Request, GetObject, ClusterGet, Outcome, Answered, Entry, Reply, Committer, Magic, Directory, Partitioned, answer, apply, effect, PendingSet, run, Follows, WornFirst, Job, CommitEnd, same_path, Sets, set_read, picks_of, all_commits, Commit, Fetching, Replacing, Completing, Marking, Reverting, CommitOver, commit_start, commit_over, stage_of, Turn, sweep_start, sweep_left, adds_key, one_if, Committing, read_script, commit_wants, commit_told}
 use Rattle.job_model.specs.declared.ends.CommitEnd.TheVariants as ends
-use Rattle.job_protocol.specs.Outputs.{same_path}
-use Rattle.job_protocol.specs.JobCommits.{Sets, set_read, picks_of, all_commits, Commit, Fetching, Replacing, Completing, Marking, Reverting, CommitOver, commit_start, commit_over, stage_of}
-use Rattle.job_protocol.specs.Lanes.{Turn}
-use Rattle.list_walk.specs.Walks.{sweep_start}
-use Rattle.list_walk.specs.Left.{sweep_left, adds_key, one_if}
-use Rattle.job_protocol.specs.AtWork.{Committing, read_script, commit_wants, commit_told}
 use Rattle.commit_parts.specs.Tables.{listed}
 use Rattle.commit_laws.specs.Fitting.{FitsCommit}
 

@@ -2,12 +2,10 @@
 use Rattle.std.proofs.Common.{◌≡◌, ℕ, ◌<◌, nat_eq, refl, ap, sym, subst, ◌∙◌, Bool, true, false, cond, arith, List, [], ◌∷◌, ◌++◌, length, take, drop, Option, Some, None, append_assoc}
 use Rattle.std.specs.Prelude.{MatchOption, option_map}
 use Rattle.std.proofs.Common.{Bor}
-use Rattle.std.specs.Str.Pattern.{StripsPrefix, FindsTextPrefix, LacksTextAt}
-use Rattle.std.specs.List.{starts_with}
-use Rattle.std.specs.Cmp.Lexicographic.{bytes_decides}
-use Rattle.std.proofs.lemmas.List.{take-append-drop}
-use Rattle.std.proofs.Math.Seq.{take-append_seam, drop-append_seam}
-use Rattle.path_keys.specs.Paths.{relative_in}
+use Rattle.s3_types.specs.Prelude.{StripsPrefix}
+use Rattle.job_protocol.specs.Prelude.{FindsTextPrefix, starts_with, bytes_decides, relative_in}
+use Rattle.path_keys.proofs.Common.{take-append-drop, take-append_seam, drop-append_seam}
+use Rattle.std.specs.Str.Pattern.{LacksTextAt}
 
 cut_yes : (pre rest : List ℕ) → cond (starts_with nat_eq (pre ++ rest) pre) (Some (drop (length pre) (pre ++ rest))) None ≡ Some rest
 cut_yes pre rest =

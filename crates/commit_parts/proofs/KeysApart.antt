@@ -1,13 +1,6 @@
 -- uploads of picks that write absent path twice are of different keys
 use Rattle.std.proofs.Common.{◌≡◌, ℕ, zero, suc, ◌+◌, ◌-◌, ◌<◌, ◌≤◌, ◌⊎◌, inl, inr, refl, ap, sym, subst, ◌∙◌, arith, List, [], ◌∷◌, ◌++◌, map, length, slice_get, Some, None, length-append}
-use Rattle.pending_json.specs.Pending.{Pending}
-use Rattle.pending_json.specs.declared.records.PendingSet.{PendingSet}
-use Rattle.job_model.specs.Jobs.{Job}
-use Rattle.job_protocol.specs.Lanes.{nth}
-use Rattle.job_protocol.specs.Outputs.{same_path}
-use Rattle.job_protocol.specs.JobCommits.{Sets, picks_of, all_commits}
-use Rattle.job_protocol.specs.LaneTable.{In, RequestsApart}
-use Rattle.job_protocol.specs.AtWork.{read_script}
+use Rattle.job_protocol.specs.Prelude.{Pending, PendingSet, Job, nth, same_path, Sets, picks_of, all_commits, In, RequestsApart, read_script}
 use Rattle.job_protocol.proofs.Members.{in_left, in_right, map_in}
 use Rattle.job_protocol.proofs.LaneEnds.{requests_apart}
 use Rattle.job_protocol.proofs.Shared.{shared_none}

@@ -1,10 +1,7 @@
 -- the places of uploads
 use Rattle.std.proofs.Common.{◌≡◌, ℕ, zero, suc, ◌+◌, ◌-◌, ◌<◌, ◌≤◌, ◌⊎◌, inl, inr, refl, ap, sym, subst, ◌∙◌, arith, List, [], ◌∷◌, ◌++◌, length, slice_get, get_or, Some, length-append}
-use Rattle.std.proofs.lemmas.Option.{slice_get_within}
-use Rattle.pending_json.specs.Pending.{Pending}
-use Rattle.pending_json.specs.declared.records.PendingSet.{PendingSet}
-use Rattle.job_protocol.specs.Lanes.{nth}
-use Rattle.job_protocol.specs.JobCommits.{Sets, all_commits}
+use Rattle.path_keys.proofs.Common.{slice_get_within}
+use Rattle.job_protocol.specs.Prelude.{Pending, PendingSet, nth, Sets, all_commits}
 use Rattle.job_protocol.proofs.Members.{get_left, some_is}
 use Rattle.commit_parts.specs.Places.{row, places_from}
 use Rattle.commit_parts.specs.declared.places.Place.{Place}

@@ -1,31 +1,8 @@
 -- what the picks of the sets that were read write
 use Rattle.std.proofs.Common.{◌≡◌, ℕ, zero, suc, ◌+◌, ◌<◌, ◌≤◌, ◌⊎◌, inl, inr, refl, ap, sym, subst, ◌∙◌, Bool, true, false, cond, ◌&&◌, nat_eq, arith, List, [], ◌∷◌, ◌++◌, map, length, slice_get, take, drop, Option, Some, None, is_some}
 use Rattle.std.specs.Prelude.{Result, Ok, Err, IfOk}
-use Rattle.std.specs.BTreeSet.{insert_key}
-use Rattle.std.proofs.Math.ListN.{drop_of_length-le}
-use Rattle.std.specs.List.{flat_map}
-use Rattle.std.specs.Map.{lookup}
-use Rattle.std.specs.Option.{unwrap_or, option_map}
-use Rattle.std.specs.Cmp.Lexicographic.{bytes_decides}
-use Rattle.std.proofs.lemmas.Bool.Decides.{nat_tests}
-use Rattle.std.proofs.lemmas.List.{map-append}
-use Rattle.std.proofs.lemmas.Grind.{flat_map-append}
-use Rattle.proof_base.specs.Order.{text_cmp, text_eq}
-use Rattle.path_keys.specs.Paths.{Path}
-use Rattle.pending_json.specs.Pending.{Pending}
-use Rattle.pending_json.specs.declared.records.PendingSet.{PendingSet}
-use Rattle.job_model.specs.Files.{File, has_path}
-use Rattle.job_model.specs.Attempts.{Who, same_name}
-use Rattle.job_model.specs.Placed.{placed}
-use Rattle.job_model.specs.Jobs.{Job}
-use Rattle.job_protocol.specs.Outputs.{files_picked, files, wanted_below, wanted, ordered, wanted_paths}
-use Rattle.job_protocol.specs.JobCommits.{Sets, picks_of, all_commits, Marking, commit_asks, set_request}
-use Rattle.job_protocol.specs.LaneTable.{In}
-use Rattle.job_protocol.specs.Records.{mark_text}
-use Rattle.serde_json.specs.Written.{compact_text}
-use Rattle.pending_json.specs.Trees.{success_tree}
-use Rattle.pending_json.specs.declared.records.SuccessMark.{SuccessMark}
-use Rattle.job_protocol.specs.AtWork.{declared_of, read_script, job_script}
+use Rattle.job_protocol.specs.Prelude.{insert_key, flat_map, lookup, unwrap_or, option_map, bytes_decides, text_cmp, text_eq, Path, Pending, PendingSet, File, has_path, Who, same_name, placed, Job, files_picked, files, wanted_below, wanted, ordered, wanted_paths, Sets, picks_of, all_commits, Marking, commit_asks, set_request, In, mark_text, compact_text, success_tree, SuccessMark, declared_of, read_script, job_script, Request, GetObject, PutObject, ClusterGet, Committer, Magic, Directory, Partitioned, nth}
+use Rattle.path_keys.proofs.Common.{drop_of_length-le, nat_tests, map-append, flat_map-append}
 use Rattle.job_protocol.proofs.Members.{in_left, in_right, in_append, in_map, map_in, some_is}
 use Rattle.commit_parts.specs.Relatives.{relative_of, paths_below}
 use Rattle.commit_parts.specs.Places.{places_from}
@@ -33,11 +10,6 @@ use Rattle.commit_parts.specs.declared.places.Place.{Place}
 use Rattle.commit_parts.proofs.Placing.{places_length}
 use Rattle.commit_parts.proofs.Undoing.{drop_nth}
 use Rattle.magic_paths.specs.Layout as layout
-use Rattle.s3_types.specs.declared.request.Request.{Request}
-use Rattle.s3_types.specs.declared.request.Request.TheVariants.{GetObject, PutObject, ClusterGet}
-use Rattle.s3_types.specs.declared.request.Committer.{Committer}
-use Rattle.s3_types.specs.declared.request.Committer.TheVariants.{Magic, Directory, Partitioned}
-use Rattle.job_protocol.specs.Lanes.{nth}
 use Rattle.commit_parts.specs.ReadSets.{AreRead, HasAll}
 use Rattle.commit_parts.specs.Clashes.{Item, items_from}
 

@@ -1,28 +1,7 @@
 -- the path that two picks write is below the key that the search finds
 use Rattle.std.proofs.Common.{◌≡◌, ℕ, suc, ◌+◌, ◌<◌, ◌⊎◌, inl, inr, refl, ap, sym, subst, ◌∙◌, Bool, true, false, cond, nat_eq, arith, List, [], ◌∷◌, ◌++◌, length, slice_get, take, drop, Option, Some, None, is_some}
-use Rattle.std.specs.declared.cmp.Ordering.{Ordering}
-use Rattle.std.specs.declared.cmp.Ordering.TheVariants.{Less, Equal, Greater}
-use Rattle.std.specs.Ordering.{is_lt, nat_cmp, ordering_reverse, ordering_then}
-use Rattle.std.specs.Option.{unwrap_or, option_map}
-use Rattle.std.specs.List.{starts_with}
-use Rattle.std.specs.FinMap.{nat_cmp-IsAntisymmetric, slice_cmp-IsAntisymmetric}
-use Rattle.std.specs.Cmp.Lexicographic.{bytes_decides}
-use Rattle.std.proofs.lemmas.Cmp.{nat_cmp_total}
-use Rattle.std.proofs.lemmas.List.{take-append-drop}
-use Rattle.std.proofs.lemmas.Option.{slice_get_within}
-use Rattle.proof_base.specs.Order.{text_cmp, text_total}
-use Rattle.path_keys.specs.Paths.{Path, below, relative_in}
-use Rattle.pending_json.specs.Pending.{Pending}
-use Rattle.pending_json.specs.declared.records.PendingSet.{PendingSet}
-use Rattle.job_model.specs.Files.{File, has_path}
-use Rattle.job_model.specs.Jobs.{Job}
-use Rattle.job_model.specs.declared.ends.CommitEnd.{CommitEnd}
-use Rattle.job_model.specs.declared.ends.CommitEnd.TheVariants.{SamePath}
-use Rattle.job_protocol.specs.Outputs.{files_picked, writes, same_path}
-use Rattle.job_protocol.specs.JobCommits.{Sets, picks_of}
-use Rattle.job_protocol.specs.LaneTable.{In}
-use Rattle.job_protocol.specs.Laws.{IsShared}
-use Rattle.job_protocol.specs.AtWork.{read_script}
+use Rattle.job_protocol.specs.Prelude.{Ordering, Less, Equal, Greater, is_lt, nat_cmp, ordering_reverse, ordering_then, unwrap_or, option_map, starts_with, nat_cmp-IsAntisymmetric, slice_cmp-IsAntisymmetric, bytes_decides, text_cmp, text_total, Path, below, relative_in, Pending, PendingSet, File, has_path, Job, CommitEnd, SamePath, files_picked, writes, same_path, Sets, picks_of, In, IsShared, read_script}
+use Rattle.path_keys.proofs.Common.{nat_cmp_total, take-append-drop, slice_get_within}
 use Rattle.job_protocol.proofs.Members.{false_true}
 use Rattle.job_protocol.proofs.Shared.{shared_found, shared_none}
 use Rattle.commit_parts.specs.Apart.{end_of}

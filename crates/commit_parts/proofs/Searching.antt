@@ -1,23 +1,11 @@
 -- the search for a key that two tasks write, upload by upload
 use Rattle.std.proofs.Common.{◌≡◌, ℕ, ◌<◌, ◌≤◌, ◌⊎◌, inl, inr, refl, ap, sym, subst, ◌∙◌, Bool, true, false, cond, arith, List, [], ◌∷◌, ◌++◌, map, not, ◌||◌, nat_eq, zero, suc, ◌+◌, length, take, get_or, append_assoc, Option, Some, None}
 use Rattle.std.specs.Prelude.{Result, Ok, Err, OnOk}
-use Rattle.std.specs.BTreeMap.{BTreeMap, get, Updates, is_at}
-use Rattle.std.specs.Option.{unwrap_or}
-use Rattle.std.specs.FinMap.{nat_cmp-IsAntisymmetric, slice_cmp-IsAntisymmetric}
-use Rattle.std.proofs.lemmas.Bool.Decides.{nat_tests}
-use Rattle.std.proofs.lemmas.List.{map-append}
-use Rattle.std.proofs.lemmas.Option.{slice_get_within}
-use Rattle.std.specs.Ordering.{is_lt, is_eq, ordering_reverse}
-use Rattle.pending_json.specs.Pending.{Pending}
-use Rattle.pending_json.specs.declared.records.PendingSet.{PendingSet}
+use Rattle.job_protocol.specs.Prelude.{get, unwrap_or, nat_cmp-IsAntisymmetric, slice_cmp-IsAntisymmetric, is_lt, is_eq, ordering_reverse, Pending, PendingSet, Ordering, Less, Equal, Greater, bytes_decides, text_cmp, text_eq, text_total, In}
+use Rattle.s3_types.specs.Prelude.{is_at}
+use Rattle.path_keys.proofs.Common.{nat_tests, map-append, slice_get_within, contrary, irrefl, lt_trans}
+use Rattle.std.specs.BTreeMap.{BTreeMap, Updates}
 use Rattle.commit_parts.proofs.ReadFiles.{item_at}
-use Rattle.std.specs.declared.cmp.Ordering.{Ordering}
-use Rattle.std.specs.declared.cmp.Ordering.TheVariants.{Less, Equal, Greater}
-use Rattle.std.specs.Cmp.Lexicographic.{bytes_decides}
-use Rattle.proof_base.specs.Order.{text_cmp, text_eq, text_total}
-use Rattle.proof_base.proofs.Bools.{contrary}
-use Rattle.proof_base.proofs.Less.{irrefl, lt_trans}
-use Rattle.job_protocol.specs.LaneTable.{In}
 use Rattle.job_protocol.proofs.Members.{in_left, in_push, in_last, in_append, in_map, false_true}
 use Rattle.commit_parts.specs.Clashes.{Item, items_from, IsBest, IsOwner, Finds, is_better, clash_of}
 use Rattle.commit_parts.specs.declared.sharing.Clash.{Clash}

@@ -1,8 +1,6 @@
 -- members by their numbers
 use Rattle.std.proofs.Common.{◌≡◌, ℕ, zero, suc, ◌<◌, ◌&&◌, ◌||◌, nat_eq, nat_lt, refl, ap, inl, inr, arith, List, [], ◌∷◌, length, get_or}
-use Rattle.std.specs.List.{list_any}
-use Rattle.job_protocol.specs.Lanes.{Turn, is_tried}
-use Rattle.job_protocol.specs.LaneTable.{In}
+use Rattle.job_protocol.specs.Prelude.{list_any, Turn, is_tried, In}
 
 pub tried_any : (xs : List Turn) (n : ℕ) → list_any (λ (x : Turn). nat_eq n x.number && nat_lt 0 x.missed) xs ≡ is_tried xs n
 tried_any [] n = refl

@@ -1,13 +1,8 @@
 -- the list of what is taken back, built from its end
 use Rattle.std.proofs.Common.{◌≡◌, ℕ, zero, suc, ◌+◌, ◌<◌, ◌||◌, not, nat_eq, refl, inl, inr, ap, sym, subst, ◌∙◌, Bool, true, false, cond, arith, List, [], ◌∷◌, ◌++◌, map, reverse, length, drop, get_or, append-nil}
-use Rattle.std.proofs.lemmas.List.{reverse-append}
-use Rattle.std.proofs.Math.Seq.{drop-cons}
-use Rattle.std.proofs.Math.ListN.{drop_of_length-le}
-use Rattle.s3_types.specs.declared.request.Request.{Request}
-use Rattle.pending_json.specs.Pending.{Pending}
-use Rattle.job_protocol.specs.Lanes.{Turn, nth, undo, chosen, is_tried, is_in, is_unsent, in_turn, abort, deletion}
+use Rattle.path_keys.proofs.Common.{reverse-append, drop-cons, drop_of_length-le}
+use Rattle.job_protocol.specs.Prelude.{Request, Pending, Turn, nth, undo, chosen, is_tried, is_in, is_unsent, in_turn, abort, deletion, In}
 use Rattle.commit_parts.specs.Undos.{undo_request, number_in, NumbersWithin, Adds, IsRevert, with_tried, with_unsent}
-use Rattle.job_protocol.specs.LaneTable.{In}
 use Rattle.commit_parts.proofs.Trying.{in_at}
 use Rattle.commit_parts.specs.declared.undo.Undo.{Undo}
 use Rattle.commit_parts.specs.declared.undo.Undo.TheVariants.{Abort, Delete}

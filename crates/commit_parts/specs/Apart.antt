@@ -1,13 +1,6 @@
 -- What a search for shared keys says of a job's paths.
 use Rattle.std.specs.Prelude.{◌≡◌, length, Option, Some, None}
-use Rattle.path_keys.specs.Paths.{Path}
-use Rattle.job_model.specs.Jobs.{Job}
-use Rattle.job_model.specs.declared.ends.CommitEnd.{CommitEnd}
-use Rattle.job_model.specs.declared.ends.CommitEnd.TheVariants.{SamePath}
-use Rattle.job_protocol.specs.Outputs.{same_path}
-use Rattle.job_protocol.specs.JobCommits.{Sets, picks_of}
-use Rattle.job_protocol.specs.LaneTable.{RequestsApart}
-use Rattle.job_protocol.specs.AtWork.{read_script}
+use Rattle.job_protocol.specs.Prelude.{Path, Job, CommitEnd, SamePath, same_path, Sets, picks_of, RequestsApart, read_script}
 use Rattle.commit_parts.specs.ReadSets.{AreRead}
 use Rattle.commit_parts.specs.Clashes.{items_from, IsBest}
 use Rattle.commit_parts.specs.Relatives.{relative_of}

@@ -1,9 +1,6 @@
 -- Two tasks that write one key, among uploads with the tasks that they are of.
 use Rattle.std.specs.Prelude.{◌≡◌, ℕ, ◌+◌, ◌<◌, ◌≤◌, nat_eq, ◌||◌, not, cond, Bool, true, false, List, [], ◌∷◌, ◌++◌, map, Option, Some, None}
-use Rattle.std.specs.Ordering.{is_lt}
-use Rattle.proof_base.specs.Order.{text_cmp}
-use Rattle.pending_json.specs.declared.records.PendingSet.{PendingSet}
-use Rattle.job_protocol.specs.LaneTable.{In}
+use Rattle.job_protocol.specs.Prelude.{is_lt, text_cmp, PendingSet, In}
 use Rattle.commit_parts.specs.declared.sharing.Clash.{Clash}
 
 -- a key and the task that writes it

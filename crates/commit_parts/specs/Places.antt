@@ -1,6 +1,6 @@
 -- Where an upload stands among the sets, by its number.
 use Rattle.std.specs.Prelude.{ℕ, zero, suc, ◌+◌, List, [], ◌∷◌, ◌++◌, length}
-use Rattle.pending_json.specs.declared.records.PendingSet.{PendingSet}
+use Rattle.job_protocol.specs.Prelude.{PendingSet}
 use Rattle.commit_parts.specs.declared.places.Place.{Place}
 
 -- the places of so many uploads of a set

@@ -1,10 +1,6 @@
 -- The sets that a job's commit has read.
 use Rattle.std.specs.Prelude.{◌≡◌, ℕ, true, List, length, slice_get, Some, is_some}
-use Rattle.path_keys.specs.Paths.{relative_in}
-use Rattle.pending_json.specs.Pending.{Pending}
-use Rattle.pending_json.specs.declared.records.PendingSet.{PendingSet}
-use Rattle.job_model.specs.Jobs.{Job}
-use Rattle.job_protocol.specs.JobCommits.{Sets}
+use Rattle.job_protocol.specs.Prelude.{relative_in, Pending, PendingSet, Job, Sets}
 use Rattle.commit_parts.specs.Places.{places_from}
 use Rattle.commit_parts.specs.declared.places.Place.{Place}
 

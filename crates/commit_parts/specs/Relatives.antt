@@ -1,8 +1,6 @@
 -- Paths of keys below a destination.
 use Rattle.std.specs.Prelude.{ℕ, List, [], map}
-use Rattle.std.specs.Option.{unwrap_or}
-use Rattle.path_keys.specs.Paths.{Path, relative_in}
-use Rattle.pending_json.specs.Pending.{Pending}
+use Rattle.job_protocol.specs.Prelude.{unwrap_or, Path, relative_in, Pending}
 
 -- the path of a key below the destination, or an empty one
 abbrev pub relative_of : Path → List ℕ → List ℕ

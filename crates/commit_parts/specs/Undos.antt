@@ -1,9 +1,6 @@
 -- What is taken back after a completion that wore out, by the numbers of uploads.
 use Rattle.std.specs.Prelude.{◌≡◌, ℕ, ◌<◌, Bool, true, false, List, ◌∷◌, ◌++◌, map, length}
-use Rattle.s3_types.specs.declared.request.Request.{Request}
-use Rattle.pending_json.specs.Pending.{Pending}
-use Rattle.job_protocol.specs.Lanes.{Turn, nth, abort, deletion, revert}
-use Rattle.job_protocol.specs.LaneTable.{In}
+use Rattle.job_protocol.specs.Prelude.{Request, Pending, Turn, nth, abort, deletion, revert, In}
 use Rattle.commit_parts.specs.declared.undo.Undo.{Undo}
 use Rattle.commit_parts.specs.declared.undo.Undo.TheVariants as undos
 

@@ -1,12 +1,9 @@
 -- The directory that a path is in, by where the path is cut; and what begins with a directory and a `/`.
 use Rattle.std.proofs.Common.{◌≡◌, ℕ, ◌&&◌, not, nat_eq, Bool, true, false, cond, List, [], ◌∷◌, ◌++◌, Option, Some, None, refl, sym, ap, ◌∙◌}
-use Rattle.std.specs.List.{list_all}
-use Rattle.std.proofs.lemmas.Bool.{and_parts, true≢false}
-use Rattle.std.proofs.lemmas.Bool.Decides.{Decides-eqb}
-use Rattle.words.specs.Parts.{is_other}
-use Rattle.s3_types.specs.Pages.{begins}
-use Rattle.job_protocol.specs.Outputs.{ordered}
-use Rattle.job_protocol.specs.Conflicts.{dir_from, dir_of, with_dir, dirs_of, partitions}
+use Rattle.job_protocol.specs.Prelude.{list_all, begins, ordered, dir_of, with_dir, dirs_of, partitions}
+use Rattle.path_keys.proofs.Common.{and_parts, true≢false, Decides-eqb}
+use Rattle.job_model.specs.Prelude.{is_other}
+use Rattle.job_protocol.specs.Conflicts.{dir_from}
 use Rattle.conflict.specs.Partitions.{with_partition}
 
 -- ---- a path that is cut at its last slash

@@ -1,11 +1,7 @@
 -- Where replies lead a deletion, by the prefixes and the place of the one that it has come to.
 use Rattle.std.proofs.Common.{◌≡◌, ℕ, zero, suc, ◌+◌, ◌<◌, ◌≤◌, nat_le, not, Bool, true, false, List, [], ◌∷◌, length, drop, refl, sym, ap, subst, ◌∙◌, arith, add-one}
-use Rattle.std.proofs.lemmas.List.{drop_all}
-use Rattle.proof_base.proofs.Numbers.{at_most_is, at_most_not}
-use Rattle.s3_types.specs.Pages.{begins}
-use Rattle.s3_types.specs.declared.reply.Reply.{Reply}
-use Rattle.list_walk.specs.Walks.{Sweep, sweep_start, sweep_hears}
-use Rattle.list_walk.specs.Fitting.{FitsSweep}
+use Rattle.path_keys.proofs.Common.{drop_all, at_most_is, at_most_not}
+use Rattle.job_protocol.specs.Prelude.{begins, Reply, Sweep, sweep_start, sweep_hears, FitsSweep}
 use Rattle.list_walk.specs.Kept.{kept}
 use Rattle.conflict.specs.Checks.{is_none}
 use Rattle.conflict.specs.Deletions.{Deletion, FitsDeletion, FitsBelow, hears_below, swept_on, deletion_hears}

@@ -1,13 +1,7 @@
 -- Texts in order are told by which they are.
 use Rattle.std.proofs.Common.{◌≡◌, ℕ, ◌⊎◌, inl, inr, List, [], ◌∷◌, refl, sym, ap, subst, ◌∙◌}
-use Rattle.std.specs.BTreeSet.{insert_key}
-use Rattle.std.specs.Ordering.{ordering_reverse, match_ordering}
-use Rattle.std.specs.declared.cmp.Ordering.{Ordering}
-use Rattle.std.specs.declared.cmp.Ordering.TheVariants.{Less, Equal, Greater}
-use Rattle.proof_base.specs.Order.{text_cmp, text_total}
-use Rattle.proof_base.specs.Members.{IsIn}
-use Rattle.proof_base.proofs.Members.{text_exact}
-use Rattle.job_protocol.specs.Outputs.{ordered}
+use Rattle.job_protocol.specs.Prelude.{insert_key, ordering_reverse, match_ordering, Ordering, Less, Equal, Greater, text_cmp, text_total, IsIn, ordered}
+use Rattle.path_keys.proofs.Common.{text_exact}
 
 abbrev Rises : List (List ℕ) → Type 0
 Rises [] = Unit {0}

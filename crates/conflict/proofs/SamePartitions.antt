@@ -1,8 +1,6 @@
 -- The partitions of paths are told by which paths they are.
 use Rattle.std.proofs.Common.{◌≡◌, ℕ, inl, inr, List, [], ◌∷◌, Option, Some, None, refl, sym, ap, subst, ◌∙◌}
-use Rattle.proof_base.specs.Members.{IsIn}
-use Rattle.job_protocol.specs.Outputs.{ordered}
-use Rattle.job_protocol.specs.Conflicts.{dir_of, with_dir, dirs_of, partitions}
+use Rattle.job_protocol.specs.Prelude.{IsIn, ordered, dir_of, with_dir, dirs_of, partitions}
 use Rattle.conflict.proofs.Rising.{in_ordered, from_ordered, ordered_same}
 
 dir_in : (d p : List ℕ) (ps : List (List ℕ)) → IsIn p ps → dir_of p ≡ Some d → IsIn d (dirs_of ps)

@@ -1,18 +1,6 @@
 -- Checks and deletions lead where the operations that hold them go.
 use Rattle.std.proofs.Common.{◌≡◌, ℕ, Bool, List, [], ◌∷◌, Option, Some, None, refl, ap, ◌∙◌}
-use Rattle.s3_types.specs.declared.request.Committer.{Committer}
-use Rattle.s3_types.specs.declared.request.Committer.TheVariants.{Magic, Directory, Partitioned}
-use Rattle.s3_types.specs.declared.request.Mode.{Mode}
-use Rattle.s3_types.specs.declared.request.Mode.TheVariants.{Replace}
-use Rattle.s3_types.specs.declared.reply.Reply.{Reply}
-use Rattle.s3_types.specs.declared.reply.Reply.TheVariants.{Page}
-use Rattle.job_model.specs.Attempts.{Who}
-use Rattle.job_model.specs.JobScript.{Script}
-use Rattle.job_protocol.specs.Outputs.{Picks, wanted_paths}
-use Rattle.job_protocol.specs.Conflicts.{partitions}
-use Rattle.list_walk.specs.Walks.{Sweep, sweep_start, sweep_hears}
-use Rattle.job_protocol.specs.TaskCommits.{Checking, task_commit_hears}
-use Rattle.job_protocol.specs.JobCommits.{Sets, is_no_magic, replaced, replacing, swept}
+use Rattle.job_protocol.specs.Prelude.{Committer, Magic, Directory, Partitioned, Mode, Replace, Reply, Page, Who, Script, Picks, wanted_paths, partitions, Sweep, sweep_start, sweep_hears, Checking, task_commit_hears, Sets, is_no_magic, replaced, replacing, swept}
 use Rattle.conflict.specs.Checks.{found_below, left_after}
 use Rattle.conflict.specs.Deletions.{deleted, swept_on}
 use Rattle.conflict.specs.Laws.{commit_after_check, ChecksTell, commit_deleting, deletion_of, DeletionsTell}

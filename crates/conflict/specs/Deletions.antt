@@ -1,13 +1,6 @@
 -- The deletion of what a replace mode does not keep, by the prefixes below which it still deletes.
 use Rattle.std.specs.Prelude.{ℕ, not, List, [], ◌∷◌, ◌++◌, codes, map, Option, Some, None}
-use Rattle.s3_types.specs.Pages.{begins}
-use Rattle.s3_types.specs.declared.request.Request.{Request}
-use Rattle.s3_types.specs.declared.request.Committer.{Committer}
-use Rattle.s3_types.specs.declared.request.Committer.TheVariants.{Magic, Directory, Partitioned}
-use Rattle.s3_types.specs.declared.reply.Reply.{Reply}
-use Rattle.path_keys.specs.Paths.{Path, below}
-use Rattle.list_walk.specs.Walks.{Sweep, sweep_start, sweep_asks, sweep_hears}
-use Rattle.list_walk.specs.Fitting.{FitsSweep}
+use Rattle.job_protocol.specs.Prelude.{begins, Request, Committer, Magic, Directory, Partitioned, Reply, Path, below, Sweep, sweep_start, sweep_asks, sweep_hears, FitsSweep}
 
 -- the prefixes, the sweep below the first of them, and the prefix of the keys that stay
 pub record Deletion : Type 0 where

@@ -1,16 +1,7 @@
 -- Checks and deletions beside the operations that hold them.
 use Rattle.std.specs.Prelude.{◌≡◌, ℕ, Bool, List, [], ◌∷◌, Option, Some, None}
-use Rattle.s3_types.specs.declared.request.Mode.TheVariants.{Replace}
-use Rattle.s3_types.specs.declared.reply.Reply.{Reply}
-use Rattle.job_model.specs.Attempts.{Who}
-use Rattle.job_model.specs.Known.{Known}
-use Rattle.job_model.specs.JobScript.{Script}
+use Rattle.job_protocol.specs.Prelude.{Replace, Reply, Who, Known, Script, Picks, ordered, wanted_paths, partitions, Sweep, sweep_start, TaskCommit, Checking, TaskCommitOver, checking, task_commit_asks, task_commit_hears, Sets, Commit, Replacing, replaced, replacing, commit_asks, commit_hears}
 use Rattle.job_model.specs.declared.ends.TaskEnd.TheVariants as ends
-use Rattle.job_protocol.specs.Outputs.{Picks, ordered, wanted_paths}
-use Rattle.job_protocol.specs.Conflicts.{partitions}
-use Rattle.list_walk.specs.Walks.{Sweep, sweep_start}
-use Rattle.job_protocol.specs.TaskCommits.{TaskCommit, Checking, TaskCommitOver, checking, task_commit_asks, task_commit_hears}
-use Rattle.job_protocol.specs.JobCommits.{Sets, Commit, Replacing, replaced, replacing, commit_asks, commit_hears}
 use Rattle.conflict.specs.Checks.{check_asks, found_below, left_after}
 use Rattle.conflict.specs.Deletions.{Deletion, deleted, spared, deletion_asks, deletion_hears}
 

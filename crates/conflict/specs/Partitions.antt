@@ -1,7 +1,6 @@
 -- Partitions one by one.
 use Rattle.std.specs.Prelude.{ℕ, List, Option, Some, None}
-use Rattle.std.specs.BTreeSet.{insert_key}
-use Rattle.proof_base.specs.Order.{text_cmp}
+use Rattle.job_protocol.specs.Prelude.{insert_key, text_cmp}
 
 -- partitions with one more, where there is one
 abbrev pub with_partition : Option (List ℕ) → List (List ℕ) → List (List ℕ)

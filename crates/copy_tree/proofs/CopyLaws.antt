@@ -1,18 +1,10 @@
 -- The stages of a copy keep what they promise.
 use Rattle.std.specs.Prelude.{◌≡◌, ◌⊎◌, ℕ, List, [], ◌∷◌, drop, None, Ok, Err}
 use Rattle.std.proofs.Common.{refl, sym, subst, ◌∙◌, inl, inr}
+use Rattle.fs_ops.specs.Prelude.{Objects, End, Goes, Falls, reply_in, edited, IsPhases, MayAsk, CopyCount, Overlap, SourceIsFile, Differs, Stands, IsMove, MayCopy, CopiesTree, Copies, IsCopiedInPart, MayStandCopied}
+use Rattle.path_keys.proofs.Common.{none_some}
 use Rattle.std.specs.FinMap as fin
-use Rattle.s3_types.specs.Store.{Objects}
-use Rattle.operations.specs.declared.plan.Step.TheVariants.{End}
-use Rattle.operations.specs.Plans.{Goes, Falls}
-use Rattle.bucket_ops.specs.Asks.{reply_in, edited}
-use Rattle.bucket_ops.specs.Phases.{IsPhases, MayAsk}
-use Rattle.proof_base.proofs.Members.{none_some}
-use Rattle.fs_tree.specs.declared.copy.CopyCount.{CopyCount}
-use Rattle.fs_tree.specs.declared.copy.CopyRefusal.TheVariants.{NoSuchBucket, Overlap, SourceIsFile, SourceMissing, TargetFile, TooLong, Differs}
-use Rattle.fs_tree.specs.Tree.{Stands}
-use Rattle.fs_tree.specs.Moves.{IsMove}
-use Rattle.fs_tree.specs.Copies.{MayCopy, CopiesTree, Copies, IsCopiedInPart, MayStandCopied}
+use Rattle.fs_tree.specs.declared.copy.CopyRefusal.TheVariants.{NoSuchBucket, SourceMissing, TargetFile, TooLong}
 use Rattle.fs_ops.proofs.AtPathLaws.{looks_there}
 use Rattle.fs_ops.proofs.StepLaws.{not_missing}
 use Rattle.copy_tree.specs.declared.stages.CopyStage.{CopyStage}

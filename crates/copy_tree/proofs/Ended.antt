@@ -1,11 +1,8 @@
 -- What the copy of a tree has done.
 use Rattle.std.proofs.Common.{◌≡◌, ℕ, List, Result, Err, IfOk, subst}
-use Rattle.s3_types.specs.Store.{Scene}
-use Rattle.s3_types.specs.declared.request.Actor.{Actor}
-use Rattle.machine.specs.declared.driving.DriveStop.{DriveStop}
-use Rattle.operations.specs.Performed.{Seen, Performed}
-use Rattle.bucket_ops.specs.Phases.{AlwaysIn, SendsIn}
-use Rattle.fs_tree.specs.declared.copy.CopyRefusal.TheVariants.{OtherBucket, NoSuchBucket}
+use Rattle.fs_ops.specs.Prelude.{Scene, Actor, Seen, Performed, AlwaysIn, SendsIn, OtherBucket}
+use Rattle.bucket_walks.specs.Prelude.{DriveStop}
+use Rattle.fs_tree.specs.declared.copy.CopyRefusal.TheVariants.{NoSuchBucket}
 use Rattle.fs_rename.specs.Between.{Route, GivesBetween}
 use Rattle.copy_tree.specs.code.Copy.{CopyPaths, Answer, first as first_stage, asks}
 use Rattle.copy_tree.specs.code.Meaning.{gives, always, sends}

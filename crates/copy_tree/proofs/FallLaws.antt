@@ -1,28 +1,13 @@
 -- A copy comes to an end.
 use Rattle.std.specs.Prelude.{◌≡◌, ℕ, ◌+◌, ◌*◌, ◌<◌, nat_lt, Bool, true, false, cond, List, [], ◌∷◌, length, drop, Option, Some, None, Result, Ok, Err}
 use Rattle.std.proofs.Common.{refl, sym, ap, subst, arith}
-use Rattle.std.proofs.lemmas.Bool.{ltb-true}
-use Rattle.std.proofs.lemmas.List.{length-drop}
-use Rattle.s3_types.specs.Store.{Objects}
-use Rattle.s3_types.specs.declared.reply.PageEntry.{PageEntry}
-use Rattle.s3_types.specs.declared.reply.Reply.{Reply}
+use Rattle.path_keys.proofs.Common.{ltb-true, length-drop}
+use Rattle.fs_ops.specs.Prelude.{Objects, PageEntry, Reply, Next, Falls, Look, There, Nothing, NoBucket, Other, look_of, reply_in, edited, marker_of, keys_on, Walked, More, Whole, walked_entries, CopyCount, prefix_of, look_asks, climbing, climbed, walk_asks, walk_left, LessWalked}
 use Rattle.s3_types.specs.declared.reply.Reply.TheVariants.{Object as Found}
-use Rattle.operations.specs.declared.plan.Step.TheVariants.{Next}
-use Rattle.operations.specs.Plans.{Falls}
-use Rattle.bucket_ops.specs.declared.look.Look.{Look}
-use Rattle.bucket_ops.specs.declared.look.Look.TheVariants.{There, Nothing, NoBucket, Other}
-use Rattle.bucket_ops.specs.Looks.{look_of}
-use Rattle.bucket_ops.specs.Asks.{reply_in, edited}
-use Rattle.dir_markers.specs.Markers.{marker_of}
-use Rattle.list_walk.specs.Walks.{keys_on, Walked, More, Whole, walked_entries}
-use Rattle.fs_tree.specs.declared.copy.CopyCount.{CopyCount}
-use Rattle.fs_ops.specs.Places.{prefix_of, look_asks}
 use Rattle.fs_ops.specs.declared.climb.Climbed.{Climbed}
 use Rattle.fs_ops.specs.declared.climb.Climbed.TheVariants.{File, On as Goes_on, Free}
-use Rattle.fs_ops.specs.code.Climbs.{climbing, climbed}
 use Rattle.fs_ops.proofs.AtPathLaws.{still_look}
 use Rattle.fs_ops.proofs.Climbing.{IsShorter, climbing_falls, climbed_falls}
-use Rattle.bucket_walks.specs.Walking.{walk_asks, walk_left, LessWalked}
 use Rattle.bucket_walks.proofs.Sweeps.{length_keys}
 use Rattle.bucket_walks.proofs.Walks.{walk_fits, walk_falls}
 use Rattle.fs_rename.specs.declared.copying.CopyStep.{CopyStep}

@@ -1,24 +1,12 @@
 -- The moves of a directory, in order, and those of them whose new key stands or is absent.
 use Rattle.std.specs.Prelude.{◌≡◌, ◌⊎◌, ℕ, true, false, List, [], ◌∷◌, ◌++◌, take, Some, None}
 use Rattle.std.proofs.Common.{refl, sym, ap, subst, ◌∙◌, inl, inr}
+use Rattle.fs_ops.specs.Prelude.{is_lt, text_cmp, Objects, begins, Object, marker_of, IsIn, RisesFrom, Stands, IsDirectory, IsMove, AreAll, MayCopy, CopiesTree, IsCopiedInPart, all_below, keys_below}
+use Rattle.path_keys.proofs.Common.{lt, none_some, none_or_some}
 use Rattle.std.specs.FinMap as fin
-use Rattle.std.specs.Ordering.{is_lt}
-use Rattle.proof_base.specs.Order.{text_cmp}
-use Rattle.proof_base.proofs.Less.{lt}
-use Rattle.s3_types.specs.Store.{Objects}
-use Rattle.s3_types.specs.Pages.{begins}
-use Rattle.s3_types.specs.declared.object.Object.{Object}
-use Rattle.dir_markers.specs.Markers.{marker_of}
-use Rattle.proof_base.specs.Members.{IsIn, RisesFrom}
-use Rattle.proof_base.proofs.Members.{none_some, none_or_some}
 use Rattle.store_frame.proofs.Flat.{listed_rises}
-use Rattle.fs_tree.specs.Tree.{Stands, IsDirectory}
-use Rattle.fs_tree.specs.Moves.{IsMove}
-use Rattle.fs_tree.specs.MarkerTool.{AreAll}
-use Rattle.fs_tree.specs.Copies.{MayCopy, CopiesTree, IsCopiedInPart}
 use Rattle.fs_tree.proofs.Moving.{rest_after}
 use Rattle.fs_ops.proofs.Showing.{cmp_behind}
-use Rattle.bucket_walks.specs.Walking.{all_below, keys_below}
 use Rattle.bucket_walks.proofs.Below.{is_in, below_stands}
 use Rattle.fs_rename.specs.Keys.{new_key}
 use Rattle.fs_rename.specs.Copies.{IsOneOf, sources, targets, copied_all, AreFree, moves_to}

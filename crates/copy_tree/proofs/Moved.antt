@@ -1,18 +1,9 @@
 -- The moves of a directory to a place, where neither path is the other or below it.
 use Rattle.std.specs.Prelude.{◌≡◌, ◌⊎◌, ℕ, ◌+◌, ◌≤◌, true, false, List, [], ◌∷◌, ◌++◌, length, Some, None}
 use Rattle.std.proofs.Common.{refl, sym, ap, ◌∙◌, inl, inr, arith, length-append}
-use Rattle.std.proofs.lemmas.Bool.{false≢true}
-use Rattle.std.proofs.lemmas.List.{append_cancel_left}
+use Rattle.path_keys.proofs.Common.{false≢true, append_cancel_left, none_some, true_or_false, none_or_some, in_append}
+use Rattle.fs_ops.specs.Prelude.{Objects, begins, Object, marker_of, keys_above, IsIn, Stands, IsDirectory, IsMove, IsOverlap, to_target}
 use Rattle.std.specs.FinMap as fin
-use Rattle.s3_types.specs.Store.{Objects}
-use Rattle.s3_types.specs.Pages.{begins}
-use Rattle.s3_types.specs.declared.object.Object.{Object}
-use Rattle.dir_markers.specs.Markers.{marker_of, keys_above}
-use Rattle.proof_base.specs.Members.{IsIn}
-use Rattle.proof_base.proofs.Members.{none_some, true_or_false, none_or_some, in_append}
-use Rattle.fs_tree.specs.Tree.{Stands, IsDirectory}
-use Rattle.fs_tree.specs.Moves.{IsMove}
-use Rattle.fs_tree.specs.Copies.{IsOverlap, to_target}
 use Rattle.fs_tree.proofs.Begins.{begins_more, begins_trans, begins_marker, begins_length, one_begins}
 use Rattle.fs_tree.proofs.Above.{above_begins}
 use Rattle.fs_tree.proofs.Moving.{rest_after}

@@ -1,19 +1,10 @@
 -- Of the moves those are kept whose new key stands, or those whose new key does not.
 use Rattle.std.specs.Prelude.{◌≡◌, ℕ, ◌+◌, ◌≤◌, Bool, true, false, cond, List, [], ◌∷◌, ◌++◌, map, length, Option, Some, None}
 use Rattle.std.proofs.Common.{refl, sym, ap, subst, ◌∙◌, inl, inr, arith}
-use Rattle.std.proofs.lemmas.Bool.{false≢true}
+use Rattle.path_keys.proofs.Common.{false≢true, lt, irrefl, lt_trans, lt_not, none_some, false_true, text_is, text_true}
+use Rattle.fs_ops.specs.Prelude.{text_cmp, text_total, Objects, begins, text_in, Object, PageEntry, IsIn, RisesFrom, Stands, all_below}
 use Rattle.std.specs.FinMap as fin
-use Rattle.proof_base.specs.Order.{text_cmp, text_total}
-use Rattle.proof_base.proofs.Less.{lt, irrefl, lt_trans, lt_not}
-use Rattle.s3_types.specs.Store.{Objects}
-use Rattle.s3_types.specs.Pages.{begins, text_in}
-use Rattle.s3_types.specs.declared.object.Object.{Object}
-use Rattle.s3_types.specs.declared.reply.PageEntry.{PageEntry}
-use Rattle.proof_base.specs.Members.{IsIn, RisesFrom}
-use Rattle.proof_base.proofs.Members.{none_some, false_true, text_is, text_true}
 use Rattle.store_frame.proofs.Flat.{behind, listed_rises}
-use Rattle.fs_tree.specs.Tree.{Stands}
-use Rattle.bucket_walks.specs.Walking.{all_below}
 use Rattle.bucket_walks.proofs.Below.{below_stands, stands_below}
 use Rattle.bucket_walks.proofs.Rising.{lower}
 use Rattle.fs_rename.specs.Copies.{Move, IsOneOf, sources, targets}

@@ -1,14 +1,8 @@
 -- A copy that was stopped is made again.
 use Rattle.std.proofs.Common.{◌≡◌, ◌⊎◌, inl, inr, ℕ, true, List, [], ◌∷◌, None, refl, sym, ◌∙◌}
+use Rattle.fs_ops.specs.Prelude.{Objects, begins, marker_of, IsIn, CopyCount, IsDirectory, NoFiles, IsMove, to_target, MayCopy, CopiesTree, IsCopiedInPart}
 use Rattle.std.specs.FinMap as fin
-use Rattle.s3_types.specs.Store.{Objects}
-use Rattle.s3_types.specs.Pages.{begins}
-use Rattle.dir_markers.specs.Markers.{marker_of}
-use Rattle.proof_base.specs.Members.{IsIn}
-use Rattle.fs_tree.specs.declared.copy.CopyCount.{CopyCount}
-use Rattle.fs_tree.specs.Tree.{IsDirectory, NoFiles}
-use Rattle.fs_tree.specs.Moves.{IsMove}
-use Rattle.fs_tree.specs.Copies.{to_target, MayCopy, CopiesTree, IsCopiedInPart, CopiesResume}
+use Rattle.fs_tree.specs.Copies.{CopiesResume}
 use Rattle.copy_tree.proofs.Moved.{begins_rest, moved_rest, is_move, move_below, is_new, not_above, source_not_new, path_not_new}
 
 module _ (x : ℕ) (p : List ℕ) (y : ℕ) (t : List ℕ) (z m : Objects) (may : MayCopy z (x ∷ p) (y ∷ t)) (part : IsCopiedInPart (x ∷ p) (y ∷ t) z m) where

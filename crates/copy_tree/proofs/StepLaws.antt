@@ -1,40 +1,18 @@
 -- A copy goes on, stage by stage.
 use Rattle.std.specs.Prelude.{◌≡◌, ◌⊎◌, ℕ, zero, suc, ◌+◌, ◌<◌, ◌≤◌, ◌||◌, ◌&&◌, nat_lt, Bool, true, false, cond, List, [], ◌∷◌, ◌++◌, length, drop, Option, Some, None, Result, Ok, Err}
 use Rattle.std.proofs.Common.{refl, sym, ap, subst, ◌∙◌, inl, inr, arith}
-use Rattle.std.proofs.lemmas.Bool.{false≢true, ltb-true, ltb-false}
-use Rattle.std.proofs.lemmas.List.{drop-map, length-drop, length-map}
+use Rattle.path_keys.proofs.Common.{false≢true, ltb-true, ltb-false, length-drop, length-map, lt, irrefl, lt_not, none_some, some_is, none_or_some, false_true, text_is, text_true, eq_nat, nat_true}
+use Rattle.fs_ops.specs.Prelude.{is_lt, text_cmp, text_total, text_eq, Objects, head, begins, Object, PageEntry, IsIn, RisesFrom, Step, Next, Goes, Look, There, Nothing, look_of, reply_in, edited, is_look, marker_of, keys_on, Walked, More, Whole, walked_entries, CopyCount, Stands, IsDirectory, IsMove, is_too_long, AllFit, IsFirstTooLong, IsOverlap, HasSource, HasPlace, MayCopy, CopiesTree, climbing, climbed, all_below, keys_below, walk_asks, fits, IsWalking, IsWalked}
+use Rattle.std.proofs.lemmas.List.{drop-map}
 use Rattle.std.specs.FinMap as fin
-use Rattle.std.specs.Ordering.{is_lt}
-use Rattle.proof_base.specs.Order.{text_cmp, text_total, text_eq}
-use Rattle.proof_base.proofs.Less.{lt, irrefl, lt_not}
-use Rattle.s3_types.specs.Store.{Objects}
-use Rattle.s3_types.specs.Answer.{head, found}
-use Rattle.s3_types.specs.Pages.{begins}
-use Rattle.s3_types.specs.declared.object.Object.{Object}
-use Rattle.s3_types.specs.declared.reply.PageEntry.{PageEntry}
-use Rattle.proof_base.specs.Members.{IsIn, RisesFrom}
-use Rattle.proof_base.proofs.Members.{none_some, some_is, none_or_some, false_true, text_is, text_true, eq_nat, nat_true}
+use Rattle.s3_types.specs.Answer.{found}
 use Rattle.store_frame.proofs.Flat.{behind, listed_rises}
-use Rattle.operations.specs.declared.plan.Step.{Step}
-use Rattle.operations.specs.declared.plan.Step.TheVariants.{Next}
-use Rattle.operations.specs.Plans.{Goes}
-use Rattle.bucket_ops.specs.declared.look.Look.{Look}
-use Rattle.bucket_ops.specs.declared.look.Look.TheVariants.{There, Nothing}
-use Rattle.bucket_ops.specs.Looks.{look_of}
-use Rattle.bucket_ops.specs.Asks.{reply_in, edited, is_look}
-use Rattle.dir_markers.specs.Markers.{marker_of}
-use Rattle.list_walk.specs.Walks.{keys_on, Walked, More, Whole, walked_entries}
-use Rattle.fs_tree.specs.declared.copy.CopyCount.{CopyCount}
-use Rattle.fs_tree.specs.Tree.{Stands, IsDirectory}
-use Rattle.fs_tree.specs.Moves.{IsMove, is_too_long, AllFit, IsFirstTooLong}
-use Rattle.fs_tree.specs.Copies.{IsOverlap, HasSource, HasPlace, MayCopy, IsFirstOther, CopiesTree}
+use Rattle.fs_tree.specs.Copies.{IsFirstOther}
 use Rattle.fs_tree.proofs.Begins.{both}
 use Rattle.fs_ops.proofs.Looks.{IsSeen, head_tells, none_listed, first_listed}
 use Rattle.fs_ops.specs.declared.climb.Climbed.{Climbed}
 use Rattle.fs_ops.specs.declared.climb.Climbed.TheVariants.{File, On as Goes_on, Free}
-use Rattle.fs_ops.specs.code.Climbs.{climbing, climbed}
 use Rattle.fs_ops.proofs.Climbing.{IsClimbed, seen_on as climb_on, all_on}
-use Rattle.bucket_walks.specs.Walking.{all_below, keys_below, walk_asks, fits, IsWalking, IsWalked}
 use Rattle.bucket_walks.proofs.Walks.{walk_fits, walk_begins, walk_goes}
 use Rattle.fs_rename.specs.declared.copying.Copying.{Copying}
 use Rattle.fs_rename.specs.declared.copying.CopyStep.{CopyStep}

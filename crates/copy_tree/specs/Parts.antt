@@ -1,9 +1,6 @@
 -- Which new keys stand, by the listing below their place.
 use Rattle.std.specs.Prelude.{ℕ, Bool, true, false, not, cond, List, [], ◌∷◌, ◌++◌}
-use Rattle.std.specs.Ordering.{is_lt}
-use Rattle.proof_base.specs.Order.{text_cmp, text_eq}
-use Rattle.s3_types.specs.Pages.{text_in}
-use Rattle.s3_types.specs.declared.reply.PageEntry.{PageEntry}
+use Rattle.fs_ops.specs.Prelude.{is_lt, text_cmp, text_eq, text_in, PageEntry}
 use Rattle.fs_rename.specs.Copies.{Move}
 
 -- the entries from the first that is not less than a text

@@ -1,10 +1,7 @@
 -- What the copy of all that is below a path to another one answers, and leaves (Hadoop FileSystem shell, cp).
 use Rattle.std.specs.Prelude.{Err}
-use Rattle.s3_types.specs.Store.{Scene}
-use Rattle.s3_types.specs.declared.request.Request.{Request}
-use Rattle.bucket_ops.specs.Phases.{AlwaysIn, SendsIn}
-use Rattle.fs_tree.specs.declared.copy.CopyRefusal.TheVariants.{OtherBucket, NoSuchBucket}
-use Rattle.fs_tree.specs.Copies.{Copies, MayStandCopied}
+use Rattle.fs_ops.specs.Prelude.{Scene, Request, AlwaysIn, SendsIn, OtherBucket, Copies, MayStandCopied}
+use Rattle.fs_tree.specs.declared.copy.CopyRefusal.TheVariants.{NoSuchBucket}
 use Rattle.fs_rename.specs.Between.{Route, GivesBetween}
 use Rattle.copy_tree.specs.code.Copy.{CopyPaths, Answer, first, asks}
 use Rattle.copy_tree.specs.code.Meaning.{sends}

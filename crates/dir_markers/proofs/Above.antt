@@ -1,16 +1,9 @@
 -- The directories above a key.
 use Rattle.std.proofs.Common.{◌≡◌, ℕ, suc, ◌+◌, ◌<◌, ◌≤◌, ◌-◌, ◌&&◌, ◌==◌, nat_le, nat_lt, slice_index, take, if◌then◌else◌, eq-eqb, Bool, true, false, List, [], ◌∷◌, ◌++◌, map, length, refl, sym, ap, subst, ◌∙◌, arith, length-append, append_assoc}
-use Rattle.std.specs.List.{list_all, join_with_byte}
-use Rattle.std.proofs.Math.Seq.{get_or-append_seam, take-append_seam}
-use Rattle.std.proofs.lemmas.Bool.{false≢true, and_parts, leb-true}
-use Rattle.std.proofs.lemmas.List.{append-nil, length-take}
-use Rattle.std.proofs.lemmas.List.Folds.{list_all-append}
-use Rattle.std.proofs.lemmas.Bool.Decides.{nat_tests}
-use Rattle.proof_base.proofs.Numbers.{at_most_so}
+use Rattle.s3_types.specs.Prelude.{list_all, join_with_byte, is_other, is_element, are_elements, is_key_path, trimmed}
+use Rattle.proof_base.proofs.Common.{get_or-append_seam, length-take}
+use Rattle.path_keys.proofs.Common.{take-append_seam, false≢true, and_parts, leb-true, append-nil, list_all-append, nat_tests, at_most_so, join_parts, one_part}
 use Rattle.words.specs.Parts.{parts_of, parts_from}
-use Rattle.words.proofs.Pieces.{join_parts, one_part}
-use Rattle.words.specs.Parts.{is_other}
-use Rattle.s3_types.specs.Names.{is_element, are_elements, is_key_path, trimmed}
 use Rattle.path_keys.specs.Paths.{is_key}
 use Rattle.path_keys.proofs.Keys.{some_key, key_from}
 use Rattle.path_keys.proofs.Last.{parts_round}

@@ -1,6 +1,6 @@
 -- The markers of directories (Hadoop, S3A: directory markers; Hadoop FileSystem specification, directories).
 use Rattle.std.specs.Prelude.{ℕ, ◌==◌, ◌||◌, Bool, true, false, List, [], ◌∷◌, ◌++◌, map, length, Option, Some, None, if◌then◌else◌}
-use Rattle.std.specs.List.{join_with_byte}
+use Rattle.s3_types.specs.Prelude.{join_with_byte}
 use Rattle.words.specs.Parts.{parts_of}
 use Rattle.path_keys.specs.Paths.{Path}
 use Rattle.dir_markers.specs.declared.status.Status.{Status}

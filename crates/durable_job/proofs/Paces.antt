@@ -1,22 +1,13 @@
 -- How a shelf goes on with a run, event by event.
 use Rattle.std.proofs.Common.{◌≡◌, ◌⊎◌, inl, inr, ℕ, ◌+◌, ◌-◌, ◌^◌, ◌<◌, ◌≤◌, List, [], ◌∷◌, ◌++◌, append-nil, length, length-append, drop, slice_get, Option, Some, None, Result, Ok, Err, OnOk, OnErr, IfErr, IsErrOf, refl, sym, ap, subst, ◌∙◌, arith}
-use Rattle.std.proofs.lemmas.List.{drop_at}
-use Rattle.std.specs.List.{AllByRecursion}
-use Rattle.s3_types.specs.Store.{Content}
-use Rattle.s3_types.specs.declared.request.Request.{Request}
-use Rattle.s3_types.specs.declared.journal.Entry.{Entry}
+use Rattle.job_spec.proofs.Common.{drop_at}
+use Rattle.job_spec.specs.Prelude.{AllByRecursion, Content, Request, Entry}
+use Rattle.journal_log.specs.Prelude.{Holding, Stored, fresh, HoldsFresh, IsDurable, LeavesOnly, AppendFault, Failed, NoMemory, image, Begins, IsMoment, kept, Holds, HoldsPart, HoldsGrownBy, HoldsSome, WhereTold, IsBetween, AreAnswered, Appended, LeftOut, Stopped}
 use Rattle.shelf.specs.Devices.{Rose}
-use Rattle.shelf.specs.Logged.{Holding, Stored, fresh, HoldsFresh, IsDurable, LeavesOnly}
-use Rattle.shelf.specs.declared.kept.AppendFault.{AppendFault}
-use Rattle.shelf.specs.declared.kept.AppendFault.TheVariants.{Failed, NoMemory}
-use Rattle.store_image.specs.Image.{image}
-use Rattle.journal_log.specs.Changes.{changes, Begins}
-use Rattle.journal_log.specs.Kept.{IsMoment, kept, Holds, HoldsPart, HoldsGrownBy, HoldsSome}
-use Rattle.journal_log.specs.Crashes.{WhereTold, IsBetween}
+use Rattle.journal_log.specs.Changes.{changes}
 use Rattle.journal_log.proofs.Journals.{changes_append, changes_none}
 use Rattle.journal_log.proofs.Standing.{begins_all, begins_more, begins_longer, holds_none, holds_more, short, some}
 use Rattle.journal_log.proofs.Leaving.{told_all, at_first, started, widened, on_and_on}
-use Rattle.journal_log.specs.Appends.{AreAnswered, Appended, LeftOut, Stopped}
 use Rattle.journal_log.proofs.Steps.{answered_then}
 use Rattle.job_world.specs.Worlds.{Run, WentOn, FoundNone}
 use Rattle.durable_job.specs.Played.{Counts}

@@ -1,14 +1,8 @@
 -- How a shelf keeps pace with a run, event by event.
 use Rattle.std.specs.Prelude.{◌≡◌, ◌⊎◌, ℕ, ◌+◌, List, [], ◌++◌, length, Option}
-use Rattle.std.specs.List.{AllByRecursion}
-use Rattle.s3_types.specs.Store.{Content}
-use Rattle.s3_types.specs.declared.request.Request.{Request}
-use Rattle.s3_types.specs.declared.journal.Entry.{Entry}
-use Rattle.shelf.specs.Logged.{Holding, Stored, IsDurable, LeavesOnly}
-use Rattle.journal_log.specs.Changes.{changes, Begins}
-use Rattle.journal_log.specs.Kept.{IsMoment, Holds, HoldsPart, HoldsSome}
-use Rattle.journal_log.specs.Crashes.{WhereTold, IsBetween}
-use Rattle.journal_log.specs.Appends.{AreAnswered, Appended}
+use Rattle.job_spec.specs.Prelude.{AllByRecursion, Content, Request, Entry}
+use Rattle.journal_log.specs.Prelude.{Holding, Stored, IsDurable, LeavesOnly, Begins, IsMoment, Holds, HoldsPart, HoldsSome, WhereTold, IsBetween, AreAnswered, Appended}
+use Rattle.journal_log.specs.Changes.{changes}
 use Rattle.job_world.specs.Worlds.{Run}
 
 -- the calls for the first of these changes were answered, and one call more came behind them at most

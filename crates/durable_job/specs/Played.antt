@@ -1,19 +1,9 @@
 -- What comes of a job that is played over a shelf.
 use Rattle.std.specs.Prelude.{◌≡◌, ◌⊎◌, ℕ, ◌<◌, [], length, Option, Some, None}
-use Rattle.s3_types.specs.Store.{Content}
-use Rattle.s3_types.specs.Moment.{moment}
-use Rattle.job_model.specs.JobScript.{Script}
-use Rattle.job_spec.specs.Entries.{AreOwn}
-use Rattle.job_spec.specs.Promise.{Promised, Sent, Finished}
+use Rattle.job_spec.specs.Prelude.{Content, moment, Script, AreOwn, Promised, Sent, Finished}
+use Rattle.journal_log.specs.Prelude.{Holding, Stored, fresh, IsDurable, LeavesOnly, AppendFault, Failed, NoMemory, image, IsMoment, Holds, HoldsPart, WhereTold, AreCalled}
 use Rattle.job_world.specs.declared.played.Played.{Played}
-use Rattle.shelf.specs.Logged.{Holding, Stored, fresh, IsDurable, LeavesOnly}
-use Rattle.shelf.specs.declared.kept.AppendFault.{AppendFault}
-use Rattle.shelf.specs.declared.kept.AppendFault.TheVariants.{Failed, NoMemory}
-use Rattle.store_image.specs.Image.{image}
 use Rattle.journal_log.specs.Changes.{changes}
-use Rattle.journal_log.specs.Kept.{IsMoment, Holds, HoldsPart}
-use Rattle.journal_log.specs.Crashes.{WhereTold}
-use Rattle.journal_log.specs.Appends.{AreCalled}
 use Rattle.durable_job.specs.Pace.{Stops}
 
 -- what was played of a script over this store keeps all that is promised of the job

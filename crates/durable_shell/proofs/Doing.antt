@@ -1,11 +1,6 @@
 -- A command that the shell did on a store, by what the shell says of it.
 use Rattle.std.proofs.Common.{◌≡◌, ◌≤◌, ◌^◌, ℕ, Bool, true, false, None, List, length, sym, subst, ◌∙◌}
-use Rattle.s3_types.specs.Store.{Content, opening}
-use Rattle.s3_types.specs.Moment.{moment, IsHonest}
-use Rattle.s3_types.specs.declared.request.Actor.TheVariants.{Shell}
-use Rattle.s3_types.specs.declared.journal.Entry.{Entry}
-use Rattle.machine.specs.Counted.{AreAnswered}
-use Rattle.machine.specs.Turns.{AreBy}
+use Rattle.machine.specs.Prelude.{Content, opening, moment, IsHonest, Shell, Entry, AreAnswered, AreBy}
 use Rattle.store_frame.specs.Held.{upload_at}
 use Rattle.s3a_words.specs.declared.command.Command.{Command}
 use Rattle.s3a_shell.specs.Doings.{only_looks, Does, MayStandAt}

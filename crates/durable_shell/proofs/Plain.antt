@@ -1,11 +1,6 @@
 -- What a command is to do is of one of the kinds that can be kept or said.
 use Rattle.std.proofs.Common.{◌≡◌, inl, inr, ℕ, Bool, true, false, List, [], ◌∷◌, Option, Result, Ok, Err, IfOk, refl, sym, subst}
-use Rattle.std.specs.List.{AllByRecursion}
-use Rattle.s3_types.specs.Store.{Content, new_content}
-use Rattle.s3_types.specs.declared.limits.TheConstants.{MOST_MINIMUM}
-use Rattle.s3_types.specs.declared.request.Actor.TheVariants.{Shell}
-use Rattle.s3_types.specs.declared.journal.Entry.{Entry}
-use Rattle.machine.specs.Turns.{AreBy}
+use Rattle.machine.specs.Prelude.{AllByRecursion, Content, new_content, MOST_MINIMUM, Shell, Entry, AreBy}
 use Rattle.s3a_words.specs.declared.command.Command.{Command}
 use Rattle.s3a_words.specs.declared.command.Command.TheVariants.{Init}
 use Rattle.durable_store.specs.Works.{Work, IsPlain}

@@ -1,12 +1,6 @@
 -- What a command is to do, by what is held.
 use Rattle.std.specs.Prelude.{◌≡◌, ℕ, ◌≤◌, Bool, true, false, List, [], length, codes, Option, Some, None}
-use Rattle.s3_types.specs.Store.{Content, opening, new_content}
-use Rattle.s3_types.specs.Moment.{moment, IsHonest}
-use Rattle.s3_types.specs.declared.limits.TheConstants.{MOST_MINIMUM}
-use Rattle.s3_types.specs.declared.request.Actor.TheVariants.{Shell}
-use Rattle.s3_types.specs.declared.journal.Entry.{Entry}
-use Rattle.machine.specs.Counted.{AreAnswered}
-use Rattle.machine.specs.Turns.{AreBy}
+use Rattle.machine.specs.Prelude.{Content, opening, new_content, moment, IsHonest, MOST_MINIMUM, Shell, Entry, AreAnswered, AreBy}
 use Rattle.s3a_words.specs.declared.command.Command.{Command}
 use Rattle.s3a_words.specs.declared.command.Command.TheVariants.{Init}
 use Rattle.s3a_words.specs.Kinds.{kind_of, is_put, is_play}

@@ -1,13 +1,8 @@
 -- What changes leave of a store.
 use Rattle.std.proofs.Common.{◌≡◌, ◌<◌, ◌^◌, true, false, List, [], Option, Some, None, refl, ap, ◌∙◌, arith}
+use Rattle.journal_log.specs.Prelude.{BucketContent, Content, opening, apply_store, apply_at, Request, GetObject, HeadObject, ListPage, ListParts, ListUploads, ClusterPut, ClusterRename, ClusterGet, ClusterDelete, ClusterList, is_changing, content_after}
 use Rattle.std.specs.FinMap as fin
-use Rattle.s3_types.specs.Store.{BucketContent, Content, opening}
 use Rattle.s3_types.specs.Requests.{is_cluster}
-use Rattle.s3_types.specs.Answer.{apply_store, apply_at}
-use Rattle.s3_types.specs.declared.request.Request.{Request}
-use Rattle.s3_types.specs.declared.request.Request.TheVariants.{GetObject, HeadObject, ListPage, ListParts, ListUploads, ClusterPut, ClusterRename, ClusterGet, ClusterDelete, ClusterList}
-use Rattle.log_format.specs.Change.{is_changing}
-use Rattle.journal_log.specs.Changes.{content_after}
 use Rattle.journal_log.proofs.Imaged.{on_and_on}
 use Rattle.journal_log.proofs.Journals.{others_leave}
 

@@ -1,27 +1,17 @@
 -- What is found on a shelf, by what was loaded.
 use Rattle.std.proofs.Common.{◌≡◌, ◌⊎◌, inl, inr, ℕ, ◌<◌, ◌≤◌, ◌^◌, ◌||◌, nat_lt, nat_le, Bool, true, false, cond, List, Option, Some, None, Result, Ok, Err, IfOk, length, refl, sym, ap, subst, ◌∙◌, arith}
-use Rattle.std.proofs.lemmas.Bool.Decides.{nat_tests}
-use Rattle.std.proofs.lemmas.Bool.{and_parts, leb-true}
+use Rattle.proof_base.proofs.Common.{nat_tests, and_parts, leb-true}
+use Rattle.journal_log.specs.Prelude.{AllByRecursion, text_cmp, text_total, is_bucket, is_key, Content, Request, Stored, most_base, most_file, IsSmall, image, IsObject, IsBucket, IsContent, content_after, IsMade, kept}
 use Rattle.std.specs.FinMap as fin
-use Rattle.std.specs.List.{AllByRecursion}
-use Rattle.proof_base.specs.Order.{text_cmp, text_total}
-use Rattle.s3_types.specs.Names.{is_bucket, is_key}
-use Rattle.s3_types.specs.Store.{Content}
-use Rattle.s3_types.specs.declared.request.Request.{Request}
 use Rattle.log_format.specs.declared.held.Held as logs
-use Rattle.shelf.specs.Logged.{Stored, most_base, most_file, IsSmall, IsLoaded, IsTooLarge, IsBad}
+use Rattle.shelf.specs.Logged.{IsLoaded, IsTooLarge, IsBad}
 use Rattle.shelf.specs.Logged.Holding.{Stands}
-use Rattle.store_image.specs.Image.{image}
-use Rattle.store_image.specs.Content.{IsObject, IsBucket, IsContent}
 use Rattle.store_image.proofs.Whole as images
 use Rattle.store_image.specs.Reading.{content_in}
-use Rattle.journal_log.specs.Changes.{content_after}
-use Rattle.journal_log.specs.Made.{IsMade}
 use Rattle.journal_log.proofs.Imaged.{all, at}
 use Rattle.durable_store.specs.declared.held.Held.{Held}
 use Rattle.durable_store.specs.declared.held.Held.TheVariants.{Nothing, Store, Faulty}
 use Rattle.durable_store.specs.Stores.{counted, unfolded, read_as, found}
-use Rattle.journal_log.specs.Kept.{kept}
 use Rattle.durable_store.specs.Outcomes.{IsSound, AreAtKeys, IsOf}
 
 -- ---- the store that is unfolded

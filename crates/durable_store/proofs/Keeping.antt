@@ -1,7 +1,6 @@
 -- What is answered, by what came of a save, and which statuses of what is said are none of the shelf.
 use Rattle.std.proofs.Common.{◌≡◌, ◌≢◌, ◌⊎◌, inl, inr, ℕ, List, [], Result, Ok, Err, cond, nat_eq, arith}
-use Rattle.s3_types.specs.Store.{Content}
-use Rattle.s3_types.specs.declared.journal.Entry.{Entry}
+use Rattle.journal_log.specs.Prelude.{Content, Entry}
 use Rattle.durable_store.specs.Works.{Saves}
 use Rattle.durable_store.specs.declared.held.ShelfStop.{ShelfStop}
 use Rattle.durable_store.specs.declared.held.ShelfStop.TheVariants.{Failed, NoMemory}

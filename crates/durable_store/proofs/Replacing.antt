@@ -1,14 +1,7 @@
 -- How a save goes on from one call to the next.
 use Rattle.std.proofs.Common.{◌≡◌, ◌⊎◌, inl, inr, ℕ, ◌≤◌, List, [], ◌++◌, Option, Some, None, refl, sym, ap, subst, ◌∙◌}
-use Rattle.std.specs.List.{AllByRecursion}
-use Rattle.s3_types.specs.Store.{Content}
-use Rattle.s3_types.specs.declared.request.Request.{Request}
-use Rattle.s3_types.specs.declared.journal.Entry.{Entry}
-use Rattle.shelf.specs.Logged.{Holding, Stored, fresh, HoldsFresh, IsDurable, LeavesOnly}
-use Rattle.store_image.specs.Image.{image}
+use Rattle.journal_log.specs.Prelude.{AllByRecursion, Content, Request, Entry, Holding, Stored, fresh, HoldsFresh, IsDurable, LeavesOnly, image, IsMoment, kept, Holds, HoldsPart, HoldsGrownBy, HoldsSome, WhereTold, IsBetween}
 use Rattle.journal_log.specs.Changes.{changes}
-use Rattle.journal_log.specs.Kept.{IsMoment, kept, Holds, HoldsPart, HoldsGrownBy, HoldsSome}
-use Rattle.journal_log.specs.Crashes.{WhereTold, IsBetween}
 use Rattle.journal_log.proofs.Journals.{changes_none}
 use Rattle.journal_log.proofs.Standing.{begins_all, holds_more, some, short}
 use Rattle.journal_log.proofs.Leaving.{told_all, started, widened, on_and_on, survives}

@@ -1,20 +1,10 @@
 -- What comes of a load and of a command, beside what the shelf holds.
 use Rattle.std.specs.Prelude.{◌≡◌, ◌≢◌, ℕ, ◌<◌, ◌≤◌, ◌^◌, ◌⊎◌, true, List, [], length, Option, Some, Result, Ok, Err}
+use Rattle.journal_log.specs.Prelude.{is_key, BucketContent, Content, Object, Entry, Request, Holding, Stored, fresh, IsSmall, IsDurable, LeavesOnly, image, IsContent, content_after, KeepsImages, StandsFor, IsMoment, kept, Holds, HoldsPart, WhereTold, AreCalled}
 use Rattle.std.specs.FinMap as fin
-use Rattle.s3_types.specs.Names.{is_key}
-use Rattle.s3_types.specs.Store.{BucketContent, Content}
-use Rattle.s3_types.specs.declared.object.Object.{Object}
-use Rattle.s3_types.specs.declared.journal.Entry.{Entry}
-use Rattle.s3_types.specs.declared.request.Request.{Request}
-use Rattle.shelf.specs.Logged.{Holding, Stored, fresh, IsSmall, IsDurable, LeavesOnly}
 use Rattle.shelf.specs.Logged.Holding.{Nothing as Absent}
-use Rattle.store_image.specs.Image.{image}
-use Rattle.store_image.specs.Content.{IsContent}
-use Rattle.journal_log.specs.Changes.{changes, content_after}
-use Rattle.journal_log.specs.Made.{KeepsImages}
-use Rattle.journal_log.specs.Kept.{StandsFor, IsMoment, kept, Holds, HoldsPart}
-use Rattle.journal_log.specs.Crashes.{WhereTold}
-use Rattle.journal_log.specs.Appends.{AreCalled, AreCut}
+use Rattle.journal_log.specs.Changes.{changes}
+use Rattle.journal_log.specs.Appends.{AreCut}
 use Rattle.durable_store.specs.Stores.{found}
 use Rattle.durable_store.specs.Works.{Work, Says, Saves}
 use Rattle.durable_store.specs.declared.held.Held.{Held}

@@ -1,8 +1,6 @@
 -- What a command is to do.
 use Rattle.std.specs.Prelude.{◌≡◌, ◌⊎◌, ℕ, List}
-use Rattle.std.specs.List.{AllByRecursion}
-use Rattle.s3_types.specs.Store.{Content}
-use Rattle.s3_types.specs.declared.journal.Entry.{Entry}
+use Rattle.journal_log.specs.Prelude.{AllByRecursion, Content, Entry}
 
 -- what is to be done: a text to be said, or a store to be kept
 pub data Work : Type 0 where

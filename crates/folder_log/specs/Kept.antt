@@ -1,7 +1,6 @@
 -- What a log file holds, and how it stands between two changes.
 use Rattle.std.specs.Prelude.{◌≡◌, ◌⊎◌, ℕ, ◌+◌, ◌<◌, ◌≤◌, ◌^◌, List, [], ◌∷◌, ◌++◌, length, Option, Some, None, Result, Ok, Err}
-use Rattle.std.specs.Option.{option_map}
-use Rattle.std.specs.List.{AllByRecursion}
+use Rattle.s3_types.specs.Prelude.{option_map, AllByRecursion}
 use Rattle.s3_types.specs.declared.request.Request.{Request}
 use Rattle.log_format.specs.Change.{IsChange}
 use Rattle.log_format.specs.Log.{headed, opened, record_of, log}

@@ -1,47 +1,27 @@
 -- Making a file, stage by stage.
 use Rattle.std.specs.Prelude.{◌≡◌, ◌⊎◌, ℕ, ◌+◌, ◌*◌, ◌<◌, ◌≤◌, nat_lt, Bool, true, false, cond, List, [], ◌∷◌, Ok, Err, Option, Some, None, length}
 use Rattle.std.proofs.Common.{refl, sym, ap, subst, ◌∙◌, inl, inr, arith}
-use Rattle.std.proofs.lemmas.Bool.{true≢false}
+use Rattle.path_keys.proofs.Common.{true≢false}
+use Rattle.fs_ops.specs.Prelude.{Objects, BucketContent, Scene, answer, apply, answer_at, apply_in, head, without, page, listed, only_reads, Request, DeleteObjects, Reply, Deleted, Refused, TooManyKeys, is_key, Step, Next, End, Goes, Falls, Look, There, Nothing, NoBucket, Other, look_of, Ask, Head, request_of, reply_in, objects_at, marker_of, keys_above, created, FsRefusal, AlreadyExists, NotDirectory, NoSuchBucket, Stands, SomeBelow, NoneBelow, HasFile, IsAbsent, Creates, look_asks, below_asks, NoFileAt, unless, climbing, climbed, upload_in}
+use Rattle.bucket_walks.specs.Prelude.{MaySend}
+use Rattle.bucket_ops.specs.Prelude.{reply_at}
 use Rattle.std.specs.FinMap as fin
-use Rattle.s3_types.specs.Store.{Objects, BucketContent, Scene}
-use Rattle.s3_types.specs.Answer.{answer, apply, answer_at, apply_in, head, without}
-use Rattle.s3_types.specs.Pages.{page, listed}
-use Rattle.s3_types.specs.Requests.{only_reads}
-use Rattle.s3_types.specs.declared.request.Request.{Request}
-use Rattle.s3_types.specs.declared.request.Request.TheVariants.{DeleteObjects}
-use Rattle.s3_types.specs.declared.reply.Reply.{Reply}
-use Rattle.s3_types.specs.declared.reply.Reply.TheVariants.{Deleted, Refused}
-use Rattle.s3_types.specs.declared.reply.Refusal.TheVariants.{TooManyKeys}
 use Rattle.store_frame.proofs.Reading.{reads_nothing}
-use Rattle.path_keys.specs.Paths.{is_key}
-use Rattle.operations.specs.declared.plan.Step.{Step}
-use Rattle.operations.specs.declared.plan.Step.TheVariants.{Next, End}
-use Rattle.operations.specs.Plans.{Goes, Falls}
-use Rattle.operations.specs.Courses.{IsCourse, MaySend, IsCalm}
-use Rattle.bucket_ops.specs.declared.look.Look.{Look}
-use Rattle.bucket_ops.specs.declared.look.Look.TheVariants.{There, Nothing, NoBucket, Other}
-use Rattle.bucket_ops.specs.Looks.{look_of}
-use Rattle.bucket_ops.specs.Asks.{Ask, Head, request_of, reply_in, reply_at, objects_of, objects_at}
+use Rattle.operations.specs.Courses.{IsCourse, IsCalm}
+use Rattle.bucket_ops.specs.Asks.{objects_of}
 use Rattle.bucket_ops.proofs.AskLaws.{get_put, answered, applied_none, all_gone, are_gone}
-use Rattle.dir_markers.specs.Markers.{marker_of, keys_above, created}
-use Rattle.fs_tree.specs.declared.answers.FsRefusal.{FsRefusal}
-use Rattle.fs_tree.specs.declared.answers.FsRefusal.TheVariants.{AlreadyExists, IsDirectory, NotDirectory, NoSuchBucket}
-use Rattle.fs_tree.specs.Tree.{Stands, SomeBelow, NoneBelow, HasFile, IsAbsent}
+use Rattle.fs_tree.specs.declared.answers.FsRefusal.TheVariants.{IsDirectory}
 use Rattle.fs_tree.specs.Tree as tree
-use Rattle.fs_tree.specs.Answers.{Creates}
 use Rattle.fs_tree.proofs.Above.{key_no_marker}
-use Rattle.fs_ops.specs.Places.{look_asks, below_asks, NoFileAt}
 use Rattle.fs_ops.proofs.Looks.{IsSeen, head_tells, page_tells}
-use Rattle.fs_ops.specs.code.Steps.{unless}
 use Rattle.fs_ops.proofs.StepLaws.{not_missing}
 use Rattle.fs_ops.specs.declared.climb.Climbed.{Climbed}
 use Rattle.fs_ops.specs.declared.climb.Climbed.TheVariants.{File, On as Goes_on, Free}
-use Rattle.fs_ops.specs.code.Climbs.{climbing, climbed}
 use Rattle.fs_ops.proofs.Climbing.{IsClimbed, seen_on, all_on, IsShorter, climbing_falls, climbed_falls}
 use Rattle.fs_files.specs.declared.create.CreateStage.{CreateStage}
 use Rattle.fs_files.specs.declared.create.CreateStage.TheVariants.{Here, Below, Up, Write, DropMarkers}
 use Rattle.fs_files.specs.declared.create.CreateFile.{CreateFile}
-use Rattle.store_frame.specs.Held.{upload_in, upload_at}
+use Rattle.store_frame.specs.Held.{upload_at}
 use Rattle.fs_files.specs.Placed.{placed, IsBeside, InFile, IsFileOrNot, NoneBut, NoneLeft, object_of}
 use Rattle.fs_files.specs.code.Writing as writing
 use Rattle.fs_files.specs.declared.writing.Heard.{Heard}

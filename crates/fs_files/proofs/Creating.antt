@@ -1,26 +1,12 @@
 -- Making a file, in the tree. Contracts cite none of these laws.
 use Rattle.std.specs.Prelude.{◌≡◌, ◌⊎◌, ℕ, zero, suc, ◌+◌, ◌*◌, ◌<◌, ◌≤◌, ◌&&◌, nat_lt, true, false, List, [], ◌∷◌, ◌++◌, length, Some}
 use Rattle.std.proofs.Common.{refl, sym, ap, subst, ◌∙◌, inl, inr, arith, length-append}
-use Rattle.std.specs.List.{list_all}
-use Rattle.std.proofs.lemmas.List.{length-map}
-use Rattle.std.proofs.lemmas.List.Folds.{list_all-append}
-use Rattle.std.proofs.lemmas.Bool.{false≢true}
-use Rattle.std.proofs.lemmas.Bool.Decides.{nat_tests}
+use Rattle.fs_ops.specs.Prelude.{list_all, is_element, Objects, without, begins, IsIn, Path, is_key, marker_of, keys_above, created, MarkerPolicy, Keep, Delete, is_marker, HasDir}
+use Rattle.path_keys.proofs.Common.{length-map, list_all-append, false≢true, nat_tests, none_some, same_or_other, text_here, text_other, in_map}
 use Rattle.std.specs.FinMap as fin
 use Rattle.words.specs.Parts.{parts_of}
-use Rattle.s3_types.specs.Names.{is_element}
-use Rattle.s3_types.specs.Store.{Objects}
-use Rattle.s3_types.specs.Answer.{without}
-use Rattle.s3_types.specs.Pages.{begins}
-use Rattle.proof_base.specs.Members.{IsIn}
-use Rattle.proof_base.proofs.Members.{none_some, same_or_other, text_here, text_other, in_map}
-use Rattle.path_keys.specs.Paths.{Path, is_key}
 use Rattle.path_keys.proofs.Keys.{some_key}
 use Rattle.path_keys.proofs.Last.{parts_round, front_is_key}
-use Rattle.dir_markers.specs.Markers.{marker_of, keys_above, created}
-use Rattle.dir_markers.specs.declared.marker.MarkerPolicy.{MarkerPolicy}
-use Rattle.dir_markers.specs.declared.marker.MarkerPolicy.TheVariants.{Keep, Delete}
-use Rattle.fs_tree.specs.Tree.{is_marker, HasDir}
 use Rattle.fs_tree.specs.Changes.{MakesFile}
 use Rattle.fs_tree.proofs.Begins.{both, begins_trans, begins_marker, marker_is, marker_at}
 use Rattle.fs_tree.proofs.Above.{NoSlash, Cut, cut, none_above, more_above, above_begins, begins_above}

@@ -1,8 +1,8 @@
 -- A file that is written after one part more.
 use Rattle.std.proofs.Common.{◌≡◌, ℕ, ◌+◌, ◌-◌, ◌≤◌, min, true, List, [], ◌∷◌, ◌++◌, length, drop, Option, Some, None, IsSome, sym, ap, subst, ◌∙◌, arith, length-drop}
-use Rattle.std.proofs.lemmas.Bool.{false≢true}
-use Rattle.std.proofs.lemmas.List.{drop-drop, drop_min}
-use Rattle.s3_types.specs.Tags.{Spelled}
+use Rattle.path_keys.proofs.Common.{false≢true, drop-drop}
+use Rattle.fs_ops.specs.Prelude.{Spelled}
+use Rattle.std.proofs.lemmas.List.{drop_min}
 use Rattle.block_stream.specs.Holds.{HasRoom}
 use Rattle.fs_files.specs.code.Writing.{Writing, stream_of, is_due, seen, IsKept}
 use Rattle.fs_files.proofs.WritingLaws.{parted_room}

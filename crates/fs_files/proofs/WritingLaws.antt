@@ -1,28 +1,12 @@
 -- A file that is written is a closed stream: its bytes are held, whatever the store loses, and nothing else changes. Contracts cite none of these laws.
 use Rattle.std.specs.Prelude.{◌≡◌, ◌⊎◌, ℕ, ◌+◌, ◌-◌, ◌<◌, ◌≤◌, ◌||◌, not, nat_lt, nat_le, Bool, true, false, cond, List, [], ◌∷◌, ◌++◌, take, drop, length, Option, Some, None, Result, Ok, Err}
 use Rattle.std.proofs.Common.{refl, sym, ap, subst, ◌∙◌, inl, inr, arith, length-drop}
-use Rattle.std.proofs.lemmas.Bool.Decides.{nat_tests}
-use Rattle.std.proofs.lemmas.List.{take_all}
-use Rattle.std.proofs.lemmas.Map.Lookups.{exact_bytes}
-use Rattle.std.specs.Option.{unwrap_or}
+use Rattle.path_keys.proofs.Common.{nat_tests, take_all, exact_bytes, insert_same, some_is, same_or_not, nat_other, nat_left, nat_gone}
+use Rattle.fs_ops.specs.Prelude.{unwrap_or, text_total, Objects, Uploads, Upload, BucketContent, Buckets, Scene, answer, apply, answer_at, apply_at, apply_in, bucket_of, part_put, complete_answer, completed, live, is_part_number, with_part, joined, Spelled, named_from, Request, PutObject, CreateUpload, UploadPart, CompleteUpload, Reply, Stored, Part, Completed, Refused, Refusal, NoSuchUpload, upload_in, NoBucket, look_of}
+use Rattle.store_frame.specs.Prelude.{draws}
 use Rattle.std.specs.FinMap as fin
-use Rattle.proof_base.specs.Order.{text_total}
-use Rattle.proof_base.proofs.Tree.{insert_same}
-use Rattle.s3_types.specs.Store.{Objects, Uploads, Upload, BucketContent, Buckets, Scene}
-use Rattle.s3_types.specs.Answer.{answer, apply, answer_at, apply_at, apply_in, bucket_of, draws, part_put, complete_answer, completed}
-use Rattle.s3_types.specs.Multipart.{live, is_part_number, with_part, joined}
-use Rattle.s3_types.specs.Tags.{Spelled}
-use Rattle.s3_types.specs.Blocks.{named_from}
-use Rattle.s3_types.specs.declared.request.Request.{Request}
-use Rattle.s3_types.specs.declared.request.Request.TheVariants.{PutObject, CreateUpload, UploadPart, CompleteUpload}
-use Rattle.s3_types.specs.declared.reply.Reply.{Reply}
-use Rattle.s3_types.specs.declared.reply.Reply.TheVariants.{Stored, Upload as Drawn, Part, Completed, Refused}
-use Rattle.s3_types.specs.declared.reply.Refusal.{Refusal}
-use Rattle.s3_types.specs.declared.reply.Refusal.TheVariants.{NoSuchUpload}
-use Rattle.store_frame.specs.Held.{upload_in, upload_at}
-use Rattle.proof_base.proofs.Members.{some_is, same_or_not, nat_other, nat_left, nat_gone}
-use Rattle.bucket_ops.specs.declared.look.Look.TheVariants.{NoBucket}
-use Rattle.bucket_ops.specs.Looks.{look_of}
+use Rattle.s3_types.specs.declared.reply.Reply.TheVariants.{Upload as Drawn}
+use Rattle.store_frame.specs.Held.{upload_at}
 use Rattle.bucket_ops.proofs.AskLaws.{get_put, put_put}
 use Rattle.block_stream.specs.declared.stage.Stage.{Stage}
 use Rattle.block_stream.specs.declared.stage.Stage.TheVariants.{Waiting, Putting, Beginning, Sending, Completing, Over}

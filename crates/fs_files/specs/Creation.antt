@@ -1,13 +1,9 @@
 -- What is asked of the making of a file.
 use Rattle.std.specs.Prelude.{◌≡◌, ℕ, ◌*◌, ◌≤◌, Bool, true, false, List, length}
-use Rattle.std.specs.Coded.{Coded, code_by, coded×, coded_ℕ, coded_bool}
 use Rattle.std.proofs.Common.{refl}
-use Rattle.s3_types.specs.Coded.{coded_text}
+use Rattle.fs_ops.specs.Prelude.{Coded, code_by, coded×, coded_ℕ, coded_text, Path, is_key, keys_above, created, MarkerPolicy, Keep, Delete}
+use Rattle.s3_types.specs.Prelude.{coded_bool}
 use Rattle.s3_types.specs.declared.limits.TheConstants.{MOST_PARTS}
-use Rattle.path_keys.specs.Paths.{Path, is_key}
-use Rattle.dir_markers.specs.Markers.{keys_above, created}
-use Rattle.dir_markers.specs.declared.marker.MarkerPolicy.{MarkerPolicy}
-use Rattle.dir_markers.specs.declared.marker.MarkerPolicy.TheVariants.{Keep, Delete}
 
 -- what is to be made: the file's path, its bytes, the length in bytes of its parts, whether a file that stands there is replaced, and what becomes of the markers above it
 pub record Creation : Type 0 where

@@ -1,8 +1,7 @@
 -- A scene of which one bucket changes.
 use Rattle.std.specs.Prelude.{◌≡◌, ◌⊎◌, ℕ, ◌≤◌, ◌<◌, List, Option, Some, None}
+use Rattle.fs_ops.specs.Prelude.{Objects, BucketContent, Scene, Object}
 use Rattle.std.specs.FinMap as fin
-use Rattle.s3_types.specs.Store.{Objects, BucketContent, Scene}
-use Rattle.s3_types.specs.declared.object.Object.{Object}
 use Rattle.store_frame.specs.Held.{upload_at}
 
 -- z with this in a bucket, and this as the next upload's id

@@ -1,27 +1,13 @@
 -- What stands at a path, stage by stage, whatever is asked of a file there.
 use Rattle.std.specs.Prelude.{◌≡◌, true, false, ℕ, List, [], ◌∷◌, Result, Err, Option, Some, None}
 use Rattle.std.proofs.Common.{refl, sym, subst, ◌∙◌, arith}
+use Rattle.fs_ops.specs.Prelude.{Objects, page, listed, Reply, Goes, Falls, Look, There, Nothing, look_of, Ask, reply_in, edited, is_look, IsPhases, MayAsk, marker_of, FsRefusal, NotFound, NoSuchBucket, SomeBelow, NoneBelow, IsDirectory, IsAbsent, look_asks, get_asks, goes_by, IsStages, IsStill, OnlyLooks, first, told, holds, left}
 use Rattle.std.specs.FinMap as fin
-use Rattle.s3_types.specs.Store.{Objects}
-use Rattle.s3_types.specs.Pages.{page, listed}
-use Rattle.s3_types.specs.declared.reply.Reply.{Reply}
-use Rattle.operations.specs.Plans.{Goes, Falls}
-use Rattle.bucket_ops.specs.declared.look.Look.{Look}
-use Rattle.bucket_ops.specs.declared.look.Look.TheVariants.{There, Nothing}
-use Rattle.bucket_ops.specs.Looks.{look_of}
-use Rattle.bucket_ops.specs.Asks.{Ask, reply_in, edited, is_look}
-use Rattle.bucket_ops.specs.Phases.{IsPhases, MayAsk}
-use Rattle.dir_markers.specs.Markers.{marker_of}
-use Rattle.fs_tree.specs.declared.answers.FsRefusal.{FsRefusal}
-use Rattle.fs_tree.specs.declared.answers.FsRefusal.TheVariants.{NotFound, NoSuchBucket}
-use Rattle.fs_tree.specs.Tree.{SomeBelow, NoneBelow, IsDirectory, IsAbsent}
 use Rattle.fs_ops.specs.declared.at_path.PathStage.{PathStage}
 use Rattle.fs_ops.specs.declared.at_path.PathStage.TheVariants.{Here, Below}
-use Rattle.fs_ops.specs.Places.{look_asks, get_asks}
-use Rattle.fs_ops.specs.code.Steps.{goes_by, IsStages, IsStill, OnlyLooks}
 use Rattle.fs_ops.proofs.StepLaws.{phases_of}
 use Rattle.fs_ops.proofs.Looks.{IsSeen, page_tells}
-use Rattle.fs_ops.specs.code.AtPath.{first, asks, told, on_here, on_below, on, holds, left}
+use Rattle.fs_ops.specs.code.AtPath.{asks, on_here, on_below, on}
 
 -- what a question owes that is asked of a file so, is told so, and answers so where a directory stands
 pub record IsQuestion {A : Type 0} (ask : List ℕ → Ask) (file : Reply → Option A) (directory : Result A FsRefusal) (gives : List ℕ → Objects → Result A FsRefusal → Objects → Type 0) : Type 0 where

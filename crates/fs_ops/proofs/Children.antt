@@ -1,32 +1,15 @@
 -- What a delimited listing has of a directory's children. Contracts cite none of these laws.
 use Rattle.std.specs.Prelude.{◌≡◌, ◌⊎◌, ℕ, ◌==◌, ◌&&◌, not, nat_eq, Bool, true, false, cond, List, [], ◌∷◌, ◌++◌, map, length, Option, Some, None}
 use Rattle.std.proofs.Common.{refl, sym, ap, subst, ◌∙◌, inl, inr, append_assoc}
-use Rattle.std.proofs.lemmas.Bool.{false≢true, eqb-true}
-use Rattle.std.proofs.lemmas.List.{append_cancel_left, append_cancel_right}
-use Rattle.std.specs.Option.{option_map}
-use Rattle.std.specs.List.{filter, list_all}
+use Rattle.path_keys.proofs.Common.{false≢true, eqb-true, append_cancel_left, append_cancel_right, not_so, lt, tied, map_sorted, some_is, none_some, nat_true, eq_nat, text_exact, in_map, map_in, in_filter, filter_in}
+use Rattle.store_frame.specs.Prelude.{option_map, before_slash, stem, entry_by}
+use Rattle.fs_ops.specs.Prelude.{filter, list_all, is_lt, text_cmp, is_other, Objects, begins, entry_of, listed, text_in, folded_from, is_again, Object, PageEntry, Prefix, IsIn, RisesFrom, Status, Directory, File, DirEntry, SomeBelow, NoneBelow}
 use Rattle.std.specs.FinMap as fin
-use Rattle.std.specs.Ordering.{is_lt}
-use Rattle.proof_base.specs.Order.{text_cmp}
-use Rattle.proof_base.proofs.Bools.{not_so}
-use Rattle.proof_base.proofs.Less.{lt}
-use Rattle.proof_base.proofs.Tree.{tied, map_sorted}
-use Rattle.words.specs.Parts.{is_other}
-use Rattle.s3_types.specs.Store.{Objects}
-use Rattle.s3_types.specs.Pages.{begins, before_slash, stem, entry_by, entry_of, listed, text_in, folded_from, is_again}
-use Rattle.s3_types.specs.declared.object.Object.{Object}
-use Rattle.s3_types.specs.declared.reply.PageEntry.{PageEntry}
-use Rattle.s3_types.specs.declared.reply.PageEntry.TheVariants.{Object as Single, Prefix}
-use Rattle.proof_base.specs.Members.{IsIn, RisesFrom}
-use Rattle.proof_base.proofs.Members.{some_is, none_some, nat_true, eq_nat, text_exact, in_map, map_in, in_filter, filter_in}
+use Rattle.s3_types.specs.declared.reply.PageEntry.TheVariants.{Object as Single}
 use Rattle.store_frame.proofs.Flat.{found_in, found_at}
 use Rattle.store_frame.specs.Walk.{walked, text_of as walked_text}
 use Rattle.store_frame.proofs.Listed.{walked_listed}
-use Rattle.dir_markers.specs.declared.status.Status.{Status}
-use Rattle.dir_markers.specs.declared.status.Status.TheVariants.{Directory, File}
 use Rattle.fs_tree.proofs.Begins.{both, begins_more}
-use Rattle.fs_tree.specs.declared.answers.DirEntry.{DirEntry}
-use Rattle.fs_tree.specs.Tree.{SomeBelow, NoneBelow}
 use Rattle.fs_tree.specs.Changes.{text_by}
 
 abbrev pub NoSlash : List ℕ → Type 0

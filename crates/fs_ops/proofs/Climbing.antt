@@ -1,16 +1,14 @@
 -- What a climb over the directories above a path has seen.
 use Rattle.std.specs.Prelude.{◌≡◌, ℕ, ◌<◌, List, [], ◌∷◌, None, length}
 use Rattle.std.proofs.Common.{refl, arith, inl, inr}
+use Rattle.fs_ops.specs.Prelude.{Objects, Look, There, Nothing, Stands, NoFiles, climbing, climbed, IsClimb}
+use Rattle.fs_tree.specs.Prelude.{IsFirstFile}
 use Rattle.std.specs.FinMap as fin
-use Rattle.s3_types.specs.Store.{Objects}
-use Rattle.bucket_ops.specs.declared.look.Look.{Look}
-use Rattle.bucket_ops.specs.declared.look.Look.TheVariants.{There, Nothing}
-use Rattle.fs_tree.specs.Tree.{Stands, NoFiles, IsFirstFile}
 use Rattle.fs_ops.proofs.Looks.{IsSeen}
 use Rattle.fs_ops.specs.declared.climb.Climb.{Climb}
 use Rattle.fs_ops.specs.declared.climb.Climbed.{Climbed}
 use Rattle.fs_ops.specs.declared.climb.Climbed.TheVariants.{File, On, Free}
-use Rattle.fs_ops.specs.code.Climbs.{climbing, climbed, Passed, IsClimb}
+use Rattle.fs_ops.specs.code.Climbs.{Passed}
 
 module _ (z : Objects) (all : List (List ℕ)) where
   -- what it leads to is so of all

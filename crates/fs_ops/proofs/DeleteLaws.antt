@@ -1,50 +1,26 @@
 -- Deleting a path, stage by stage.
 use Rattle.std.specs.Prelude.{◌≡◌, ◌⊎◌, ℕ, ◌+◌, ◌<◌, Bool, true, false, List, [], ◌∷◌, Option, Some, None, Ok, Err, take, if◌then◌else◌, map}
 use Rattle.std.proofs.Common.{refl, sym, ap, subst, ◌∙◌, arith, inl, inr}
-use Rattle.std.proofs.lemmas.Bool.{false≢true}
+use Rattle.path_keys.proofs.Common.{false≢true, irrefl, same_or_other, text_is, text_true, text_here, text_other, text_gone, text_left, in_front, true_or_false}
+use Rattle.fs_ops.specs.Prelude.{is_lt, text_cmp, text_eq, text_total, Objects, head, without, page, listed, begins, text_in, Object, PageEntry, IsIn, RisesFrom, Step, Next, End, Goes, Falls, Look, There, Nothing, NoBucket, Other, look_of, reply_in, edited, IsPhases, MayAsk, marker_of, sweep_start, sweep_hears, all_go, Listing, Deleting, NotFound, NotEmpty, IsRoot, NoSuchBucket, Stands, SomeBelow, NoneBelow, marker, parent, marker_if, IsMarked, look_asks, prefix_of, NoFileAt, goes_by, IsStages, sweep_asks, sweep_left, LessLeft, fits, keys_below, Deletion, Answer, entries_in, Removed, ends, gives}
+use Rattle.fs_tree.specs.Prelude.{IsEmpty, HasChildren, IsWithoutBelow}
+use Rattle.bucket_walks.specs.Prelude.{IsSweeping, IsSwept}
 use Rattle.std.specs.FinMap as fin
-use Rattle.std.specs.Ordering.{is_lt}
-use Rattle.proof_base.specs.Order.{text_cmp, text_eq, text_total}
-use Rattle.proof_base.proofs.Less.{irrefl}
-use Rattle.s3_types.specs.Store.{Objects}
-use Rattle.s3_types.specs.Answer.{head, without}
-use Rattle.s3_types.specs.Pages.{page, listed, begins, text_in}
-use Rattle.s3_types.specs.declared.object.Object.{Object}
-use Rattle.s3_types.specs.declared.reply.PageEntry.{PageEntry}
-use Rattle.proof_base.specs.Members.{IsIn, RisesFrom}
-use Rattle.proof_base.proofs.Members.{same_or_other, text_is, text_true, text_here, text_other, text_gone, text_left, in_front, true_or_false}
 use Rattle.store_frame.proofs.Flat.{listed_rises}
-use Rattle.operations.specs.declared.plan.Step.{Step}
-use Rattle.operations.specs.declared.plan.Step.TheVariants.{Next, End}
-use Rattle.operations.specs.Plans.{Goes, Falls}
-use Rattle.bucket_ops.specs.declared.look.Look.{Look}
-use Rattle.bucket_ops.specs.declared.look.Look.TheVariants.{There, Nothing, NoBucket, Other}
-use Rattle.bucket_ops.specs.Looks.{look_of}
-use Rattle.bucket_ops.specs.Asks.{reply_in, edited}
 use Rattle.bucket_ops.proofs.AskLaws.{gone_still}
-use Rattle.bucket_ops.specs.Phases.{IsPhases, MayAsk}
-use Rattle.dir_markers.specs.Markers.{marker_of}
-use Rattle.list_walk.specs.Walks.{sweep_start, sweep_hears, all_go, Listing, Deleting}
 use Rattle.list_walk.specs.Walks as walks
-use Rattle.fs_tree.specs.declared.answers.FsRefusal.TheVariants.{NotFound, NotEmpty, IsRoot, NoSuchBucket}
-use Rattle.fs_tree.specs.Tree.{Stands, SomeBelow, NoneBelow, marker, IsEmpty, HasChildren}
-use Rattle.fs_tree.specs.Changes.{parent, marker_if, IsMarked, IsWithoutBelow}
 use Rattle.fs_tree.proofs.Begins.{begins_all}
 use Rattle.fs_ops.specs.declared.delete.Inside.{Inside}
 use Rattle.fs_ops.specs.declared.delete.Inside.TheVariants.{Empty, MarkerAlone, Children}
 use Rattle.fs_ops.specs.declared.delete.DeleteStage.{DeleteStage}
 use Rattle.fs_ops.specs.declared.delete.DeleteStage.TheVariants.{Here, DropFile, Below, DropMarker, Sweep, Parent, PutMarker}
-use Rattle.fs_ops.specs.Places.{look_asks, prefix_of, NoFileAt}
-use Rattle.fs_ops.specs.code.Steps.{goes_by, IsStages}
 use Rattle.fs_ops.proofs.StepLaws.{phases_of}
 use Rattle.fs_ops.proofs.AtPathLaws.{looks_there}
 use Rattle.fs_ops.proofs.Looks.{IsSeen, head_tells, page_tells, none_listed}
-use Rattle.bucket_walks.specs.Sweeping.{sweep_asks, IsSweeping, IsSwept, sweep_left, LessLeft}
-use Rattle.bucket_walks.specs.Walking.{fits, keys_below}
 use Rattle.bucket_walks.proofs.Sweeps.{sweep_begins, sweep_goes, sweep_fits, sweep_falls, sweep_stays}
 use Rattle.bucket_walks.proofs.Below.{is_in, below_stands, stands_below, gone_in, kept_out}
 use Rattle.fs_ops.proofs.Deleting.{deletes}
-use Rattle.fs_ops.specs.code.Delete.{Deletion, Answer, first, asks, up_to, up, here as here_at, on_here, inside, children, entries_in, on_inside, swept, on_sweep, on_parent, on, Removed, holds, IsDue, sends, ends, GoesWith, IsKept, always, gives, left}
+use Rattle.fs_ops.specs.code.Delete.{first, asks, up_to, up, here as here_at, on_here, inside, children, on_inside, swept, on_sweep, on_parent, on, holds, IsDue, sends, GoesWith, IsKept, always, left}
 
 -- without all keys below a prefix none is left there, and the others are as they were
 without_below : (x : ℕ) (q : List ℕ) (z : Objects) → IsWithoutBelow (x ∷ q) z (without z (keys_below (x ∷ q) z))

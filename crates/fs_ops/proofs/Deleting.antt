@@ -1,16 +1,9 @@
 -- A deletion, in the tree.
 use Rattle.std.proofs.Common.{◌≡◌, inl, inr, ℕ, Bool, true, List, [], ◌∷◌, Ok, Err, refl, subst}
-use Rattle.s3_types.specs.Store.{Objects, Scene}
-use Rattle.path_keys.specs.Paths.{is_key}
-use Rattle.bucket_ops.specs.Asks.{objects_at}
-use Rattle.bucket_ops.specs.Phases.{GivesIn}
-use Rattle.fs_tree.specs.declared.answers.FsRefusal.TheVariants.{NotFound, NotEmpty, IsRoot, NoSuchBucket}
-use Rattle.fs_tree.specs.Changes.{parent, marker_if, IsMarked}
-use Rattle.fs_tree.specs.Answers.{Deletes}
+use Rattle.fs_ops.specs.Prelude.{Objects, Scene, is_key, objects_at, GivesIn, NotFound, NotEmpty, IsRoot, NoSuchBucket, parent, marker_if, IsMarked, Deletes, Deletion, Answer, Removed, ends, gives}
 use Rattle.fs_tree.proofs.Above.{key_no_marker}
 use Rattle.fs_tree.proofs.Dropping.{drops_file, drops_dir}
 use Rattle.fs_ops.proofs.StepLaws.{same_scene}
-use Rattle.fs_ops.specs.code.Delete.{Deletion, Answer, Removed, ends, gives}
 
 no_cons : {x : ℕ} {p : List ℕ} → x ∷ p ≡ [] → ⊥
 no_cons e = cc

@@ -1,37 +1,18 @@
 -- What a directory holds, stage by stage.
 use Rattle.std.specs.Prelude.{◌≡◌, ◌⊎◌, ℕ, zero, suc, ◌+◌, ◌<◌, ◌≤◌, nat_lt, Bool, true, false, List, [], ◌∷◌, ◌++◌, map, take, drop, length, Ok, Err, Option, Some, None}
 use Rattle.std.proofs.Common.{refl, sym, ap, subst, ◌∙◌, inl, inr, arith, length-drop}
-use Rattle.std.proofs.lemmas.Bool.Decides.{nat_tests}
-use Rattle.std.proofs.lemmas.List.{take_all}
-use Rattle.std.proofs.lemmas.Bool.{false≢true}
+use Rattle.path_keys.proofs.Common.{nat_tests, take_all, false≢true, lt}
+use Rattle.fs_ops.specs.Prelude.{text_cmp, Objects, head, listed, text_in, Object, PageEntry, RisesFrom, Step, Goes, Falls, reply_in, edited, is_look, IsPhases, MayAsk, DirEntry, NotFound, NoSuchBucket, SomeBelow, NoFile, HasDir, Lists, prefix_of, goes_by, IsStages, IsStill, OnlyLooks, shown, added, all_added, last_text, children}
 use Rattle.std.specs.FinMap as fin
-use Rattle.proof_base.specs.Order.{text_cmp}
-use Rattle.proof_base.proofs.Less.{lt}
-use Rattle.s3_types.specs.Store.{Objects}
-use Rattle.s3_types.specs.Answer.{head}
-use Rattle.s3_types.specs.Pages.{listed, text_in}
-use Rattle.s3_types.specs.declared.object.Object.{Object}
-use Rattle.s3_types.specs.declared.reply.PageEntry.{PageEntry}
-use Rattle.proof_base.specs.Members.{RisesFrom}
 use Rattle.store_frame.proofs.Listed.{listed_behind}
-use Rattle.operations.specs.declared.plan.Step.{Step}
-use Rattle.operations.specs.Plans.{Goes, Falls}
-use Rattle.bucket_ops.specs.Asks.{reply_in, edited, is_look}
-use Rattle.bucket_ops.specs.Phases.{IsPhases, MayAsk}
-use Rattle.fs_tree.specs.declared.answers.DirEntry.{DirEntry}
-use Rattle.fs_tree.specs.declared.answers.FsRefusal.TheVariants.{NotFound, NoSuchBucket}
-use Rattle.fs_tree.specs.Tree.{SomeBelow, NoFile, HasDir}
-use Rattle.fs_tree.specs.Answers.{Lists}
 use Rattle.fs_ops.specs.declared.list.ListStage.{ListStage}
 use Rattle.fs_ops.specs.declared.list.ListStage.TheVariants.{Here, Pages}
-use Rattle.fs_ops.specs.Places.{prefix_of}
 use Rattle.fs_ops.specs.code.Stat.{length_in}
-use Rattle.fs_ops.specs.code.Steps.{goes_by, IsStages, IsStill, OnlyLooks}
 use Rattle.fs_ops.proofs.StepLaws.{phases_of}
 use Rattle.fs_ops.proofs.AtPathLaws.{looks_there}
 use Rattle.fs_ops.proofs.Children.{some_listed, none_listed, listed_rises}
 use Rattle.fs_ops.proofs.Showing.{shows_children}
-use Rattle.fs_ops.specs.code.List.{Answer, shown, added, all_added, last_text, first, asks, told, whole, paged, on, children, holds, left}
+use Rattle.fs_ops.specs.code.List.{Answer, first, asks, told, whole, paged, on, holds, left}
 
 -- ---- pages
 

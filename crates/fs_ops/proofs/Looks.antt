@@ -1,20 +1,9 @@
 -- What looks tell where there is the bucket.
 use Rattle.std.specs.Prelude.{◌≡◌, ℕ, true, false, List, [], ◌∷◌, Option, Some, None, take, map}
 use Rattle.std.proofs.Common.{refl, sym, subst, inl}
+use Rattle.fs_ops.specs.Prelude.{is_lt, text_cmp, Objects, begins, page, listed, text_in, head, Object, PageEntry, IsIn, Look, There, Nothing, look_of, Stands, SomeBelow, NoneBelow}
 use Rattle.std.specs.FinMap as fin
-use Rattle.std.specs.Ordering.{is_lt}
-use Rattle.proof_base.specs.Order.{text_cmp}
-use Rattle.s3_types.specs.Store.{Objects}
-use Rattle.s3_types.specs.Pages.{begins, page, listed, text_in}
-use Rattle.s3_types.specs.Answer.{head}
-use Rattle.s3_types.specs.declared.object.Object.{Object}
-use Rattle.s3_types.specs.declared.reply.PageEntry.{PageEntry}
-use Rattle.proof_base.specs.Members.{IsIn}
 use Rattle.store_frame.proofs.Flat.{listed_all, page_begins}
-use Rattle.bucket_ops.specs.declared.look.Look.{Look}
-use Rattle.bucket_ops.specs.declared.look.Look.TheVariants.{There, Nothing}
-use Rattle.bucket_ops.specs.Looks.{look_of}
-use Rattle.fs_tree.specs.Tree.{Stands, SomeBelow, NoneBelow}
 
 -- what a look says is so
 abbrev pub IsSeen : Look → Type 0 → Type 0 → Type 0

@@ -1,32 +1,17 @@
 -- Making a directory, stage by stage.
 use Rattle.std.specs.Prelude.{◌≡◌, false, ◌⊎◌, ℕ, ◌+◌, List, [], ◌∷◌, Ok, Err, None, length}
 use Rattle.std.proofs.Common.{refl, sym, subst, arith, inl, inr}
+use Rattle.fs_ops.specs.Prelude.{Objects, head, page, listed, Reply, Step, Goes, Falls, Look, There, Nothing, look_of, reply_in, edited, IsPhases, MayAsk, marker_of, keys_above, AlreadyExists, NotDirectory, NoSuchBucket, Stands, SomeBelow, NoneBelow, marker, IsAbsent, IsDirectory, NoFiles, Makes, goes_by, IsStages, climbing, climbed}
+use Rattle.fs_tree.specs.Prelude.{PutsDir}
 use Rattle.std.specs.FinMap as fin
-use Rattle.s3_types.specs.Store.{Objects}
-use Rattle.s3_types.specs.Answer.{head}
-use Rattle.s3_types.specs.Pages.{page, listed}
-use Rattle.s3_types.specs.declared.reply.Reply.{Reply}
-use Rattle.operations.specs.declared.plan.Step.{Step}
-use Rattle.operations.specs.Plans.{Goes, Falls}
-use Rattle.bucket_ops.specs.declared.look.Look.{Look}
-use Rattle.bucket_ops.specs.declared.look.Look.TheVariants.{There, Nothing}
-use Rattle.bucket_ops.specs.Looks.{look_of}
-use Rattle.bucket_ops.specs.Asks.{reply_in, edited}
-use Rattle.bucket_ops.specs.Phases.{IsPhases, MayAsk}
-use Rattle.dir_markers.specs.Markers.{marker_of, keys_above}
-use Rattle.fs_tree.specs.declared.answers.FsRefusal.TheVariants.{AlreadyExists, NotDirectory, NoSuchBucket}
-use Rattle.fs_tree.specs.Tree.{Stands, SomeBelow, NoneBelow, marker, IsAbsent, IsDirectory, NoFiles}
-use Rattle.fs_tree.specs.Answers.{Makes, PutsDir}
 use Rattle.fs_tree.proofs.Making.{makes_dirs}
 use Rattle.fs_ops.specs.declared.make_dirs.MakeStage.{MakeStage}
 use Rattle.fs_ops.specs.declared.make_dirs.MakeStage.TheVariants.{Here, Below, Up, PutMarker}
-use Rattle.fs_ops.specs.code.Steps.{goes_by, IsStages}
 use Rattle.fs_ops.proofs.StepLaws.{phases_of}
 use Rattle.fs_ops.proofs.AtPathLaws.{looks_there}
 use Rattle.fs_ops.proofs.Looks.{IsSeen, head_tells, page_tells}
 use Rattle.fs_ops.specs.declared.climb.Climbed.{Climbed}
 use Rattle.fs_ops.specs.declared.climb.Climbed.TheVariants.{File, On as Goes_on, Free}
-use Rattle.fs_ops.specs.code.Climbs.{climbing, climbed}
 use Rattle.fs_ops.proofs.Climbing.{IsClimbed, seen_on, all_on, IsShorter, climbing_falls, climbed_falls}
 use Rattle.fs_ops.specs.code.Make.{Answer, first, asks, on_climb, here as here_at, on_here, on_below, on, holds, always, sends, left}
 

@@ -1,11 +1,8 @@
 -- The marker above a path.
 use Rattle.std.proofs.Common.{◌≡◌, Bool, true, false, ℕ, suc, List, [], ◌∷◌, ◌==◌, length, Option, Some, None, Result, IfOk, refl, sym, ap, subst, ◌∙◌, arith, if◌then◌else◌}
-use Rattle.std.proofs.lemmas.Bool.{eqb-true}
-use Rattle.proof_base.proofs.Members.{some_is}
-use Rattle.path_keys.specs.Paths.{Path, parent_of}
+use Rattle.path_keys.proofs.Common.{eqb-true, some_is}
+use Rattle.fs_ops.specs.Prelude.{Path, parent_of, marker_of, deleted, parent, marker_if}
 use Rattle.path_keys.proofs.Last.{before_none}
-use Rattle.dir_markers.specs.Markers.{marker_of, deleted}
-use Rattle.fs_tree.specs.Changes.{parent, marker_if}
 
 no_some : {X : Type 0} {x : X} → None ≡ Some x → ⊥
 no_some e = cc

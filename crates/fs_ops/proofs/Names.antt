@@ -1,24 +1,14 @@
 -- The keys of paths and of the directories above them, and what texts have behind a prefix.
 use Rattle.std.proofs.Common.{◌≡◌, ℕ, ◌<◌, ◌==◌, nat_eq, Bool, true, false, List, [], ◌∷◌, ◌++◌, drop, length, Option, Some, None, option_map, Bor, Result, IfOk, if◌then◌else◌, refl, sym, ap, subst, ◌∙◌, arith, append_assoc}
-use Rattle.std.specs.List.{list_all, starts_with}
-use Rattle.std.specs.Option.{MatchOption}
-use Rattle.std.specs.Str.Pattern.{FindsTextPrefix, StripsPrefix}
-use Rattle.std.proofs.lemmas.Bool.Decides.{Decides-eqb}
-use Rattle.std.proofs.lemmas.Slice.Eq.{starts_is}
-use Rattle.std.proofs.lemmas.List.{append-nil}
-use Rattle.words.specs.Parts.{parts_of, is_other}
-use Rattle.words.proofs.Pieces.{one_part}
-use Rattle.s3_types.specs.Names.{is_key_path}
-use Rattle.path_keys.specs.Paths.{is_key}
+use Rattle.fs_ops.specs.Prelude.{list_all, starts_with, is_other, is_key_path, is_key, marker_of, keys_above, marker_if, last_of, own_name, key_if, prefix_of, rest_of}
+use Rattle.s3_types.specs.Prelude.{MatchOption, FindsTextPrefix, StripsPrefix}
+use Rattle.path_keys.proofs.Common.{Decides-eqb, starts_is, append-nil, one_part}
+use Rattle.words.specs.Parts.{parts_of}
 use Rattle.path_keys.proofs.Keys.{some_key}
 use Rattle.path_keys.proofs.Last.{front_is_key, parts_round}
 use Rattle.path_keys.proofs.Beneath.{key_path_from}
-use Rattle.dir_markers.specs.Markers.{marker_of, keys_above}
 use Rattle.dir_markers.proofs.Above.{front_some}
-use Rattle.fs_tree.specs.Changes.{marker_if, last_of, own_name}
 use Rattle.fs_tree.proofs.Above.{none_above, more_above}
-use Rattle.fs_ops.specs.Places.{key_if, prefix_of}
-use Rattle.fs_ops.specs.code.List.{rest_of}
 
 -- a path that is not the root
 pub record IsPlace (key : List ℕ) : Type 0 where

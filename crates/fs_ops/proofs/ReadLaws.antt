@@ -1,18 +1,10 @@
 -- The bytes of a file are a question at its path.
 use Rattle.std.specs.Prelude.{◌≡◌, ℕ, List, [], ◌∷◌, Ok, Err, Option, Some, None}
 use Rattle.std.proofs.Common.{refl}
+use Rattle.fs_ops.specs.Prelude.{Objects, Object, Goes, edited, IsPhases, MayAsk, NotFound, NoSuchBucket, Reads, get_asks, goes_by, IsStill, OnlyLooks, first, told, holds, left}
 use Rattle.std.specs.FinMap as fin
-use Rattle.s3_types.specs.Store.{Objects}
 use Rattle.s3_types.specs.Answer.{found}
-use Rattle.s3_types.specs.declared.object.Object.{Object}
-use Rattle.operations.specs.Plans.{Goes}
-use Rattle.bucket_ops.specs.Asks.{edited}
-use Rattle.bucket_ops.specs.Phases.{IsPhases, MayAsk}
-use Rattle.fs_tree.specs.declared.answers.FsRefusal.TheVariants.{NotFound, NoSuchBucket, IsDirectory}
-use Rattle.fs_tree.specs.Answers.{Reads}
-use Rattle.fs_ops.specs.Places.{get_asks}
-use Rattle.fs_ops.specs.code.Steps.{goes_by, IsStill, OnlyLooks}
-use Rattle.fs_ops.specs.code.AtPath.{first, told, holds, left}
+use Rattle.fs_tree.specs.declared.answers.FsRefusal.TheVariants.{IsDirectory}
 use Rattle.fs_ops.proofs.AtPathLaws.{IsQuestion, question_laws, question_asked, gets_there}
 use Rattle.fs_ops.specs.code.Read.{Answer, asks, bytes_in, on}
 

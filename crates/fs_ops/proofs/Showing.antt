@@ -1,37 +1,20 @@
 -- The children that a listing shows are those of the directory. Contracts cite none of these laws.
 use Rattle.std.specs.Prelude.{◌≡◌, ◌⊎◌, ℕ, suc, ◌+◌, ◌<◌, ◌&&◌, ◌||◌, nat_eq, Bool, true, false, cond, List, [], ◌∷◌, ◌++◌, map, take, drop, take_while, reverse, length, Option, Some, None}
 use Rattle.std.proofs.Common.{refl, sym, ap, subst, ◌∙◌, inl, inr, arith, append_assoc}
-use Rattle.std.proofs.lemmas.Bool.{false≢true}
-use Rattle.std.proofs.lemmas.List.{append-nil, reverse-append}
-use Rattle.std.proofs.Math.Seq.{drop-append_seam}
-use Rattle.std.specs.List.{list_any, list_all, prefix_len, AllByRecursion}
-use Rattle.std.specs.Str.{is_utf8}
+use Rattle.path_keys.proofs.Common.{false≢true, append-nil, reverse-append, drop-append_seam, lt, irrefl, lt_trans, lt_not, one_part, parts_append, begins_is, between, none_some, false_true, eq_nat, text_is, text_true, in_append, in_front, in_back}
+use Rattle.fs_ops.specs.Prelude.{list_any, list_all, AllByRecursion, is_lt, nat_cmp, Less, text_cmp, text_eq, text_total, is_other, is_element, is_key_path, Objects, begins, text_in, listed, Object, below, IsIn, RisesFrom, marker_of, Status, Directory, File, DirEntry, SomeBelow, NoFile, HasDir, prefix_of, rest_of, shown, added, all_added, children}
+use Rattle.store_frame.specs.Prelude.{is_utf8, ordering_then, is_key}
+use Rattle.fs_tree.specs.Prelude.{IsStatus, IsName, HasOddKey}
+use Rattle.std.specs.List.{prefix_len}
 use Rattle.std.specs.List.Sorted.{IsStrictlySortedBy}
 use Rattle.std.specs.FinMap as fin
-use Rattle.std.specs.Ordering.{is_lt, nat_cmp, ordering_then}
-use Rattle.std.specs.declared.cmp.Ordering.TheVariants.{Less}
-use Rattle.proof_base.specs.Order.{text_cmp, text_eq, text_total}
-use Rattle.proof_base.proofs.Less.{lt, irrefl, lt_trans, lt_not, less_of}
-use Rattle.words.specs.Parts.{parts_of, is_other}
-use Rattle.words.proofs.Pieces.{one_part, parts_append}
-use Rattle.s3_types.specs.Names.{is_element, is_key, is_key_path}
-use Rattle.s3_types.specs.Store.{Objects}
-use Rattle.s3_types.specs.Pages.{begins, text_in, listed}
-use Rattle.s3_types.specs.declared.object.Object.{Object}
-use Rattle.s3_types.proofs.Begins.{begins_is, between}
-use Rattle.path_keys.specs.Paths.{below}
-use Rattle.proof_base.specs.Members.{IsIn, RisesFrom}
-use Rattle.proof_base.proofs.Members.{none_some, false_true, eq_nat, text_is, text_true, in_append, in_front, in_back}
-use Rattle.dir_markers.specs.Markers.{marker_of}
-use Rattle.dir_markers.specs.declared.status.Status.{Status}
-use Rattle.dir_markers.specs.declared.status.Status.TheVariants.{Directory, File}
+use Rattle.proof_base.proofs.Less.{less_of}
+use Rattle.words.specs.Parts.{parts_of}
 use Rattle.fs_tree.proofs.Begins.{both, begins_all, begins_more, begins_marker}
 use Rattle.fs_tree.proofs.Above.{file_element, dir_element}
-use Rattle.fs_tree.specs.declared.answers.DirEntry.{DirEntry}
-use Rattle.fs_tree.specs.Tree.{SomeBelow, NoFile, HasDir, IsFile, IsStatus}
-use Rattle.fs_tree.specs.Changes.{text_by, text_of, IsName, HasOddKey, HasEntries}
-use Rattle.fs_ops.specs.Places.{prefix_of}
-use Rattle.fs_ops.specs.code.List.{rest_of, is_file, is_file_named, has_file, file_by, first_of, dir_named, dir_by, shown, added, all_added, children}
+use Rattle.fs_tree.specs.Tree.{IsFile}
+use Rattle.fs_tree.specs.Changes.{text_by, text_of, HasEntries}
+use Rattle.fs_ops.specs.code.List.{is_file, is_file_named, has_file, file_by, first_of, dir_named, dir_by}
 use Rattle.fs_ops.proofs.Children.{NoSlash, Standing, behind, entry_at, entry_from, text_at, IsChild, shown_in, listed_rises, are_shown, file_listed, dir_listed}
 
 abbrev child_at : List ℕ → Status → DirEntry

@@ -1,18 +1,8 @@
 -- The status of a path is a question at it.
 use Rattle.std.specs.Prelude.{◌≡◌, ℕ, List, ◌∷◌, Ok, Err, Option, Some, None}
 use Rattle.std.proofs.Common.{refl}
+use Rattle.fs_ops.specs.Prelude.{Objects, head, Object, Goes, IsPhases, MayAsk, Directory, NotFound, NoSuchBucket, Stats, look_asks, goes_by, IsStill, OnlyLooks, first, told, holds, left}
 use Rattle.std.specs.FinMap as fin
-use Rattle.s3_types.specs.Store.{Objects}
-use Rattle.s3_types.specs.Answer.{head}
-use Rattle.s3_types.specs.declared.object.Object.{Object}
-use Rattle.operations.specs.Plans.{Goes}
-use Rattle.bucket_ops.specs.Phases.{IsPhases, MayAsk}
-use Rattle.dir_markers.specs.declared.status.Status.TheVariants.{Directory}
-use Rattle.fs_tree.specs.declared.answers.FsRefusal.TheVariants.{NotFound, NoSuchBucket}
-use Rattle.fs_tree.specs.Answers.{Stats}
-use Rattle.fs_ops.specs.Places.{look_asks}
-use Rattle.fs_ops.specs.code.Steps.{goes_by, IsStill, OnlyLooks}
-use Rattle.fs_ops.specs.code.AtPath.{first, told, holds, left}
 use Rattle.fs_ops.proofs.AtPathLaws.{IsQuestion, question_laws, question_asked, looks_there, still_look}
 use Rattle.fs_ops.specs.code.Stat.{Answer, asks, status_in, on}
 

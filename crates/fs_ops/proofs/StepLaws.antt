@@ -1,23 +1,9 @@
 -- Stages of file operations are phases of one bucket's operations.
 use Rattle.std.specs.Prelude.{◌≡◌, ℕ, Bool, true, false, cond, List, Result, Err, Option, Some, None, if◌then◌else◌}
 use Rattle.std.proofs.Common.{refl, sym, subst}
+use Rattle.fs_ops.specs.Prelude.{Objects, Scene, head, copy_answer, Object, Reply, Deleted, Refused, TooManyKeys, Step, End, Goes, Falls, There, Nothing, look_of, Ask, Head, Get, Page, DropAll, Copy, reply_in, edited, IsPhases, InScene, FsRefusal, NoSuchBucket, unless, goes_by, IsStages}
 use Rattle.std.specs.FinMap as fin
-use Rattle.s3_types.specs.Store.{Objects, Scene}
-use Rattle.s3_types.specs.Answer.{head, found, copy_answer}
-use Rattle.s3_types.specs.declared.object.Object.{Object}
-use Rattle.s3_types.specs.declared.reply.Reply.{Reply}
-use Rattle.s3_types.specs.declared.reply.Reply.TheVariants.{Deleted, Refused}
-use Rattle.s3_types.specs.declared.reply.Refusal.TheVariants.{TooManyKeys}
-use Rattle.operations.specs.declared.plan.Step.{Step}
-use Rattle.operations.specs.declared.plan.Step.TheVariants.{End}
-use Rattle.operations.specs.Plans.{Goes, Falls}
-use Rattle.bucket_ops.specs.declared.look.Look.TheVariants.{There, Nothing}
-use Rattle.bucket_ops.specs.Looks.{look_of}
-use Rattle.bucket_ops.specs.Asks.{Ask, Head, Get, Page, DropAll, Copy, reply_in, edited}
-use Rattle.bucket_ops.specs.Phases.{IsPhases, InScene}
-use Rattle.fs_tree.specs.declared.answers.FsRefusal.{FsRefusal}
-use Rattle.fs_tree.specs.declared.answers.FsRefusal.TheVariants.{NoSuchBucket}
-use Rattle.fs_ops.specs.code.Steps.{unless, goes_by, IsStages}
+use Rattle.s3_types.specs.Answer.{found}
 
 module _ {Y : Type 0} (absent y : Y) where
   page_look : (b : Bool) → unless (if b then Nothing else There) absent y ≡ y

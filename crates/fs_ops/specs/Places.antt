@@ -1,10 +1,9 @@
 -- What is asked of a path.
 use Rattle.std.specs.Prelude.{◌≡◌, ℕ, false, List, [], ◌∷◌, Option, Some, None}
+use Rattle.bucket_walks.specs.Prelude.{Objects, Ask, Head, Get, Page, Put}
+use Rattle.fs_tree.specs.Prelude.{below, marker_of}
+use Rattle.bucket_ops.specs.Prelude.{Drop}
 use Rattle.std.specs.FinMap as fin
-use Rattle.s3_types.specs.Store.{Objects}
-use Rattle.path_keys.specs.Paths.{below}
-use Rattle.dir_markers.specs.Markers.{marker_of}
-use Rattle.bucket_ops.specs.Asks.{Ask, Head, Get, Page, Put, Drop}
 
 -- the key of a path; the root has none
 abbrev pub key_if : List ℕ → Option (List ℕ)

@@ -1,19 +1,9 @@
 -- An operation in one bucket, or between two of them.
 use Rattle.std.proofs.Common.{◌≡◌, ℕ, zero, suc, ◌+◌, ◌<◌, Bool, true, false, not, List, [], ◌++◌, take, length, Some, None, Option, Ok, refl, sym, ap, subst, ◌∙◌, arith, length-append}
-use Rattle.std.specs.List.{slice_get}
-use Rattle.std.proofs.lemmas.Bool.{false≢true}
-use Rattle.std.proofs.lemmas.List.{append-nil}
-use Rattle.proof_base.specs.Order.{text_eq}
-use Rattle.s3_types.specs.Store.{Objects, Scene}
-use Rattle.s3_types.specs.Moment.{after_all}
-use Rattle.s3_types.specs.declared.request.Actor.{Actor}
-use Rattle.s3_types.specs.declared.request.Request.{Request}
-use Rattle.machine.specs.Tries.{HasUnanswered}
-use Rattle.proof_base.proofs.Members.{none_some, text_is, text_true}
-use Rattle.operations.specs.Performed.{Seen, Performed}
-use Rattle.bucket_ops.specs.Asks.{objects_at}
+use Rattle.fs_ops.specs.Prelude.{slice_get, text_eq, Objects, Scene, after_all, Actor, Request, Seen, Performed, objects_at, InScene, GivesIn, AlwaysIn}
+use Rattle.path_keys.proofs.Common.{false≢true, append-nil, none_some, text_is, text_true}
+use Rattle.machine.specs.Prelude.{HasUnanswered}
 use Rattle.bucket_ops.proofs.AskLaws.{with_same}
-use Rattle.bucket_ops.specs.Phases.{InScene, GivesIn, AlwaysIn}
 use Rattle.fs_rename.specs.Between.{GivesBetween}
 
 -- ---- in one bucket

@@ -1,15 +1,8 @@
 -- Copies of keys, one after another.
 use Rattle.std.proofs.Common.{◌≡◌, ◌⊎◌, inl, inr, ℕ, zero, suc, ◌+◌, ◌-◌, ◌<◌, ◌≤◌, ◌&&◌, nat_lt, Bool, true, false, List, [], ◌∷◌, ◌++◌, map, take, drop, length, Option, Some, None, refl, sym, ap, subst, ◌∙◌, arith}
-use Rattle.std.proofs.lemmas.Bool.Decides.{nat_tests}
-use Rattle.std.proofs.lemmas.List.{take_all}
+use Rattle.path_keys.proofs.Common.{nat_tests, take_all, same_or_other, text_here, text_other, none_some}
+use Rattle.fs_ops.specs.Prelude.{Objects, copied, Object, IsIn, edited, Stands}
 use Rattle.std.specs.FinMap as fin
-use Rattle.s3_types.specs.Store.{Objects}
-use Rattle.s3_types.specs.Answer.{copied}
-use Rattle.s3_types.specs.declared.object.Object.{Object}
-use Rattle.proof_base.specs.Members.{IsIn}
-use Rattle.proof_base.proofs.Members.{same_or_other, text_here, text_other, none_some}
-use Rattle.bucket_ops.specs.Asks.{edited}
-use Rattle.fs_tree.specs.Tree.{Stands}
 use Rattle.bucket_walks.proofs.Below.{is_in}
 use Rattle.fs_rename.specs.declared.copying.Copying.{Copying}
 use Rattle.fs_rename.specs.Copies.{Move, IsOneOf, sources, targets, copied_all, copy_of, copy_asks, has_more, copied_next, IsCopying, IsCopied, copies_left, LessCopies, AreFree}

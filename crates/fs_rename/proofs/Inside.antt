@@ -1,22 +1,13 @@
 -- The new place inside a directory, and the paths above the target.
 use Rattle.std.proofs.Common.{◌≡◌, inl, inr, ℕ, suc, ◌<◌, ◌&&◌, ◌==◌, Bool, true, false, List, [], ◌∷◌, ◌++◌, length, Option, Some, None, Result, IfOk, refl, sym, ap, subst, ◌∙◌, arith, if◌then◌else◌}
-use Rattle.std.specs.List.{list_all}
-use Rattle.std.proofs.lemmas.Bool.{false≢true, true≢false}
-use Rattle.std.proofs.lemmas.List.Folds.{list_all-append}
+use Rattle.fs_ops.specs.Prelude.{list_all, are_elements, is_element, Path, is_key, parent_of, is_marker, parent, last_of, own_name, inside, key_if, prefix_of}
+use Rattle.path_keys.proofs.Common.{false≢true, true≢false, list_all-append, one_part, parts_append, none_some, some_is}
 use Rattle.words.specs.Parts.{parts_of}
-use Rattle.words.proofs.Pieces.{one_part, parts_append}
-use Rattle.s3_types.specs.Names.{are_elements, is_element}
-use Rattle.path_keys.specs.Paths.{Path, is_key, parent_of}
 use Rattle.path_keys.proofs.Keys.{some_key}
 use Rattle.path_keys.proofs.Last.{parts_round, before_none}
 use Rattle.path_keys.proofs.Beneath.{below_elements}
-use Rattle.proof_base.proofs.Members.{none_some, some_is}
-use Rattle.fs_tree.specs.Tree.{is_marker}
-use Rattle.fs_tree.specs.Changes.{parent, last_of, own_name}
-use Rattle.fs_tree.specs.Moves.{inside}
 use Rattle.fs_tree.proofs.Begins.{both, marker_is}
 use Rattle.fs_tree.proofs.Above.{Cut, cut, marker_ends}
-use Rattle.fs_ops.specs.Places.{key_if, prefix_of}
 use Rattle.fs_rename.proofs.Places.{not_zero, some_long}
 use Rattle.fs_rename.specs.code.Rename.{inside_of, place_by}
 

@@ -1,17 +1,9 @@
 -- New keys are keys.
 use Rattle.std.proofs.Common.{◌≡◌, ℕ, zero, suc, ◌-◌, ◌≤◌, ◌&&◌, nat_eq, nat_lt, cond, Bool, true, false, List, [], ◌∷◌, ◌++◌, length, drop, Some, None, refl, sym, ap, ◌∙◌, arith, length-append, append_assoc, if◌then◌else◌}
-use Rattle.std.specs.List.{slice_get, starts_with}
-use Rattle.std.proofs.lemmas.Bool.{le-leb}
-use Rattle.std.proofs.lemmas.Bool.Decides.{nat_tests, Decides-eqb}
-use Rattle.std.proofs.lemmas.Slice.Eq.{starts_is}
-use Rattle.s3_types.specs.Names.{are_elements, is_key_path, trimmed}
+use Rattle.fs_ops.specs.Prelude.{slice_get, starts_with, are_elements, is_key_path, trimmed, marker_of, is_marker, is_too_long, rest_of}
+use Rattle.path_keys.proofs.Common.{le-leb, nat_tests, Decides-eqb, starts_is, some_is, none_some}
 use Rattle.path_keys.proofs.Beneath.{elements_append, key_path_from}
-use Rattle.dir_markers.specs.Markers.{marker_of}
-use Rattle.proof_base.proofs.Members.{some_is, none_some}
-use Rattle.fs_tree.specs.Tree.{is_marker}
-use Rattle.fs_tree.specs.Moves.{is_too_long}
 use Rattle.fs_tree.proofs.Above.{marker_ends, marker_behind, other_end, cut_elements, key_elements, marker_elements}
-use Rattle.fs_ops.specs.code.List.{rest_of}
 use Rattle.fs_ops.proofs.Showing.{rest_is as rest_follows}
 use Rattle.fs_rename.specs.Keys.{new_by, new_key}
 

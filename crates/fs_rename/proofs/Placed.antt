@@ -1,25 +1,12 @@
 -- The moves of a file, and of a directory with all that is below it.
 use Rattle.std.proofs.Common.{◌≡◌, ◌⊎◌, inl, inr, ℕ, cond, Bool, true, false, List, [], ◌∷◌, ◌++◌, Some, None, Result, Ok, Err, refl, sym, ap, subst, ◌∙◌}
-use Rattle.std.proofs.lemmas.Bool.{false≢true}
+use Rattle.path_keys.proofs.Common.{false≢true, irrefl, lt_not, none_some, true_or_false, none_or_some}
+use Rattle.fs_ops.specs.Prelude.{is_lt, text_cmp, text_total, Objects, without, begins, Object, IsIn, RisesFrom, marker_of, Stands, NoneBelow, is_marker, HasFile, IsDirectory, parent, marker_if, IsMove, is_too_long, IsFileMoved, IsDirMoved, keys_below}
 use Rattle.std.specs.FinMap as fin
-use Rattle.std.specs.Ordering.{is_lt}
-use Rattle.proof_base.specs.Order.{text_cmp, text_total}
-use Rattle.proof_base.proofs.Less.{irrefl, lt_not}
-use Rattle.s3_types.specs.Store.{Objects}
-use Rattle.s3_types.specs.Answer.{without}
-use Rattle.s3_types.specs.Pages.{begins}
-use Rattle.s3_types.specs.declared.object.Object.{Object}
-use Rattle.proof_base.specs.Members.{IsIn, RisesFrom}
-use Rattle.proof_base.proofs.Members.{none_some, true_or_false, none_or_some}
 use Rattle.store_frame.proofs.Flat.{listed_rises, behind}
-use Rattle.dir_markers.specs.Markers.{marker_of}
-use Rattle.fs_tree.specs.Tree.{Stands, NoneBelow, is_marker, HasFile, IsDirectory}
-use Rattle.fs_tree.specs.Changes.{parent, marker_if}
-use Rattle.fs_tree.specs.Moves.{IsMove, is_too_long, IsFileMoved, IsDirMoved}
 use Rattle.fs_tree.proofs.Begins.{begins_more, one_begins}
 use Rattle.fs_tree.proofs.Dropping.{marker_key}
 use Rattle.fs_tree.proofs.Moving.{rest_after, marker_not_below}
-use Rattle.bucket_walks.specs.Walking.{keys_below}
 use Rattle.bucket_walks.proofs.Below.{below_stands, stands_below}
 use Rattle.fs_rename.specs.Keys.{new_key, with_front, new_keys}
 use Rattle.fs_rename.specs.Copies.{Move, IsOneOf, sources, targets, copied_all, AreFree, moves_to, moves_of}

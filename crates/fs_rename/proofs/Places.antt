@@ -1,13 +1,9 @@
 -- The target as a new place.
 use Rattle.std.proofs.Common.{◌≡◌, ℕ, suc, ◌<◌, ◌==◌, true, false, List, [], ◌∷◌, length, Some, None, refl, arith}
-use Rattle.std.proofs.lemmas.Bool.{true≢false, eqb-true}
-use Rattle.s3_types.specs.Names.{are_elements}
-use Rattle.path_keys.specs.Paths.{is_key}
+use Rattle.path_keys.proofs.Common.{true≢false, eqb-true, none_some}
+use Rattle.fs_ops.specs.Prelude.{are_elements, is_key, is_marker, prefix_of}
 use Rattle.path_keys.proofs.Keys.{some_key}
-use Rattle.proof_base.proofs.Members.{none_some}
-use Rattle.fs_tree.specs.Tree.{is_marker}
 use Rattle.fs_tree.proofs.Begins.{marker_is}
-use Rattle.fs_ops.specs.Places.{prefix_of}
 use Rattle.fs_rename.specs.Keys.{place_of}
 
 pub not_zero : (n : ℕ) → (suc n == 0) ≡ true → ⊥

@@ -1,39 +1,17 @@
 -- Renaming, stage by stage.
 use Rattle.std.specs.Prelude.{◌≡◌, ◌⊎◌, ℕ, ◌+◌, Bool, true, false, List, [], ◌∷◌, Option, Some, None, Result, Ok, Err, cond, drop}
 use Rattle.std.proofs.Common.{refl, sym, ap, subst, ◌∙◌, arith, inl, inr}
-use Rattle.std.proofs.lemmas.Bool.{false≢true}
-use Rattle.std.proofs.lemmas.List.{append-nil}
+use Rattle.path_keys.proofs.Common.{false≢true, append-nil, irrefl}
+use Rattle.fs_ops.specs.Prelude.{is_lt, text_cmp, text_total, Objects, page, listed, begins, PageEntry, IsIn, Step, End, Goes, Falls, Look, There, NoBucket, Other, look_of, reply_in, edited, is_look, IsPhases, MayAsk, marker_of, keys_on, Walked, More, Whole, walked_entries, Listing, Deleting, sweep_hears, deleting, all_go, SourceMissing, UnderSource, TargetFile, TargetExists, ParentMissing, ParentIsFile, TooLong, SomeBelow, NoneBelow, marker, HasFile, IsDirectory, IsAbsent, parent, marker_if, IsMarked, IsAtOrBelow, inside, is_too_long, AllFit, IsFirstTooLong, RenameRefusal, Renames, key_if, prefix_of, keys_below, walk_asks, IsWalking, IsWalked, fits, IsDeleted, sweep_asks}
+use Rattle.fs_tree.specs.Prelude.{MayMove}
 use Rattle.std.specs.FinMap as fin
-use Rattle.std.specs.Ordering.{is_lt}
-use Rattle.proof_base.specs.Order.{text_cmp, text_total}
-use Rattle.proof_base.proofs.Less.{irrefl}
-use Rattle.s3_types.specs.Store.{Objects}
-use Rattle.s3_types.specs.Pages.{page, listed, begins}
-use Rattle.s3_types.specs.declared.reply.PageEntry.{PageEntry}
-use Rattle.proof_base.specs.Members.{IsIn}
 use Rattle.store_frame.proofs.Flat.{listed_rises}
-use Rattle.operations.specs.declared.plan.Step.{Step}
-use Rattle.operations.specs.declared.plan.Step.TheVariants.{End}
-use Rattle.operations.specs.Plans.{Goes, Falls}
-use Rattle.bucket_ops.specs.declared.look.Look.{Look}
-use Rattle.bucket_ops.specs.declared.look.Look.TheVariants.{There, Nothing as NothingThere, NoBucket, Other}
-use Rattle.bucket_ops.specs.Looks.{look_of}
-use Rattle.bucket_ops.specs.Asks.{reply_in, edited, is_look}
-use Rattle.bucket_ops.specs.Phases.{IsPhases, MayAsk}
-use Rattle.dir_markers.specs.Markers.{marker_of}
-use Rattle.list_walk.specs.Walks.{keys_on, Walked, More, Whole, walked_entries, Listing, Deleting, sweep_hears, deleting, all_go}
+use Rattle.bucket_ops.specs.declared.look.Look.TheVariants.{Nothing as NothingThere}
 use Rattle.list_walk.specs.Walks as walks
-use Rattle.fs_tree.specs.declared.rename.RenameRefusal.TheVariants.{SourceMissing, UnderSource, TargetFile, TargetExists, ParentMissing, ParentIsFile, NoSuchBucket, TooLong}
-use Rattle.fs_tree.specs.Tree.{SomeBelow, NoneBelow, marker, HasFile, IsDirectory, IsAbsent}
-use Rattle.fs_tree.specs.Changes.{parent, marker_if, IsMarked}
-use Rattle.fs_tree.specs.Moves.{IsAtOrBelow, MayMove, inside, is_too_long, AllFit, IsFirstTooLong}
-use Rattle.fs_tree.specs.declared.rename.RenameRefusal.{RenameRefusal}
-use Rattle.fs_tree.specs.Renames.{RenamesPath, Renames}
+use Rattle.fs_tree.specs.declared.rename.RenameRefusal.TheVariants.{NoSuchBucket}
+use Rattle.fs_tree.specs.Renames.{RenamesPath}
 use Rattle.fs_tree.proofs.Begins.{marker_at, begins_all, begins_trans, begins_marker}
-use Rattle.fs_ops.specs.Places.{key_if, prefix_of}
 use Rattle.fs_ops.proofs.StepLaws.{not_missing}
-use Rattle.bucket_walks.specs.Walking.{keys_below, walk_asks, IsWalking, IsWalked, fits}
-use Rattle.bucket_walks.specs.Sweeping.{IsDeleted, sweep_asks}
 use Rattle.bucket_walks.proofs.Sweeps.{sweep_fits, sweep_falls, sweep_stays}
 use Rattle.bucket_walks.proofs.Walks.{walk_fits, walk_goes, walk_falls}
 use Rattle.bucket_walks.proofs.Batches.{batch_goes, deleting_all}

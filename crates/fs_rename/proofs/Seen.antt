@@ -1,30 +1,14 @@
 -- What the looks of a renaming tell.
 use Rattle.std.proofs.Common.{◌≡◌, ◌⊎◌, inl, inr, ℕ, Bool, true, false, List, [], ◌∷◌, ◌++◌, map, take, Option, Some, None, refl, sym, ap, subst, ◌∙◌, if◌then◌else◌}
-use Rattle.std.proofs.lemmas.Bool.{false≢true}
-use Rattle.std.proofs.lemmas.List.{append-nil}
+use Rattle.path_keys.proofs.Common.{false≢true, append-nil, none_or_some, text_is, text_true}
+use Rattle.fs_ops.specs.Prelude.{is_lt, text_cmp, text_eq, Objects, head, page, listed, begins, text_in, Object, PageEntry, IsIn, RisesFrom, Look, There, NoBucket, Other, look_of, reply_in, marker_of, Stands, SomeBelow, NoneBelow, HasFile, IsDirectory, IsAbsent, NoFileAt, keys_below}
 use Rattle.std.specs.FinMap as fin
-use Rattle.std.specs.Ordering.{is_lt}
-use Rattle.proof_base.specs.Order.{text_cmp, text_eq}
-use Rattle.s3_types.specs.Store.{Objects}
-use Rattle.s3_types.specs.Answer.{head}
-use Rattle.s3_types.specs.Pages.{page, listed, begins, text_in}
-use Rattle.s3_types.specs.declared.object.Object.{Object}
-use Rattle.s3_types.specs.declared.reply.PageEntry.{PageEntry}
-use Rattle.proof_base.specs.Members.{IsIn, RisesFrom}
-use Rattle.proof_base.proofs.Members.{none_or_some, text_is, text_true}
 use Rattle.store_frame.proofs.Flat.{listed_rises, behind}
-use Rattle.bucket_ops.specs.declared.look.Look.{Look}
-use Rattle.bucket_ops.specs.declared.look.Look.TheVariants.{There, Nothing as NothingThere, NoBucket, Other}
-use Rattle.bucket_ops.specs.Looks.{look_of}
-use Rattle.bucket_ops.specs.Asks.{reply_in}
-use Rattle.dir_markers.specs.Markers.{marker_of}
-use Rattle.fs_tree.specs.Tree.{Stands, SomeBelow, NoneBelow, HasFile, IsDirectory, IsAbsent}
+use Rattle.bucket_ops.specs.declared.look.Look.TheVariants.{Nothing as NothingThere}
 use Rattle.fs_tree.proofs.Begins.{begins_all}
 use Rattle.fs_tree.proofs.Moving.{rest_after}
-use Rattle.fs_ops.specs.Places.{NoFileAt}
 use Rattle.fs_ops.proofs.Looks.{IsSeen, head_tells, page_tells}
 use Rattle.fs_ops.proofs.Showing.{cmp_behind}
-use Rattle.bucket_walks.specs.Walking.{keys_below}
 use Rattle.bucket_walks.proofs.Below.{below_stands, stands_below}
 use Rattle.fs_rename.specs.declared.stages.Kind.{Kind}
 use Rattle.fs_rename.specs.declared.stages.Kind.TheVariants.{File, Directory, Nothing}

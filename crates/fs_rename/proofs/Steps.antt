@@ -1,17 +1,8 @@
 -- A renaming comes to an end.
 use Rattle.std.specs.Prelude.{◌≡◌, ℕ, ◌+◌, ◌*◌, ◌<◌, Bool, true, false, List, [], ◌∷◌, Result, Ok, Err, Option, Some, None, length}
 use Rattle.std.proofs.Common.{refl, arith}
-use Rattle.s3_types.specs.Store.{Objects}
-use Rattle.operations.specs.Plans.{Falls}
-use Rattle.bucket_ops.specs.declared.look.Look.{Look}
-use Rattle.bucket_ops.specs.declared.look.Look.TheVariants.{There}
-use Rattle.s3_types.specs.declared.reply.PageEntry.{PageEntry}
-use Rattle.list_walk.specs.Walks.{keys_on, Walked, More, Whole, sweep_start, deleting}
+use Rattle.fs_ops.specs.Prelude.{Objects, Falls, Look, There, PageEntry, keys_on, Walked, More, Whole, sweep_start, deleting, parent, marker_if, prefix_of, key_if, sweep_left, LessLeft, LessWalked}
 use Rattle.list_walk.specs.Walks as walks
-use Rattle.fs_tree.specs.Changes.{parent, marker_if}
-use Rattle.fs_ops.specs.Places.{prefix_of, key_if}
-use Rattle.bucket_walks.specs.Sweeping.{sweep_left, LessLeft}
-use Rattle.bucket_walks.specs.Walking.{LessWalked}
 use Rattle.bucket_walks.proofs.Sweeps.{length_keys}
 use Rattle.fs_rename.specs.declared.copying.CopyStep.TheVariants.{All}
 use Rattle.fs_rename.specs.Keys.{fitting}

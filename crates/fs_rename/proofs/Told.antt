@@ -1,24 +1,14 @@
 -- A renaming, in the tree.
 use Rattle.std.proofs.Common.{◌≡◌, ◌⊎◌, inl, inr, ℕ, Bool, true, false, List, [], ◌∷◌, take, Option, Some, Ok, Err, refl, sym, ap, subst, ◌∙◌, arith}
-use Rattle.s3_types.specs.Store.{Objects, Scene}
-use Rattle.s3_types.specs.Pages.{begins}
-use Rattle.s3_types.specs.Answer.{without}
-use Rattle.proof_base.specs.Members.{IsIn}
-use Rattle.proof_base.proofs.Members.{none_some, in_front}
-use Rattle.path_keys.specs.Paths.{is_key}
-use Rattle.bucket_ops.specs.Asks.{objects_at}
-use Rattle.bucket_ops.specs.Phases.{GivesIn, AlwaysIn}
-use Rattle.dir_markers.specs.Markers.{marker_of}
+use Rattle.fs_ops.specs.Prelude.{Objects, Scene, begins, without, IsIn, is_key, objects_at, GivesIn, AlwaysIn, marker_of, is_marker, HasDir, HasFile, IsDirectory, IsAbsent, parent, marker_if, IsMarked, inside, IsPlace, IsFileMoved, IsDirMoved, IsWhole, MayStand, Renames, IsDeleting}
+use Rattle.path_keys.proofs.Common.{none_some, in_front}
 use Rattle.fs_tree.specs.declared.rename.RenameRefusal.TheVariants.{NoSuchBucket}
-use Rattle.fs_tree.specs.Tree.{is_marker, HasDir, HasFile, IsDirectory, IsAbsent}
-use Rattle.fs_tree.specs.Changes.{parent, marker_if, IsMarked}
-use Rattle.fs_tree.specs.Moves.{inside, IsPlace, IsFreePlace, IsFileMoved, IsDirMoved, IsWhole, MayStand}
-use Rattle.fs_tree.specs.Renames.{RenamesFile, RenamesDir, Renames}
+use Rattle.fs_tree.specs.Moves.{IsFreePlace}
+use Rattle.fs_tree.specs.Renames.{RenamesFile, RenamesDir}
 use Rattle.fs_tree.proofs.Begins.{begins_trans}
 use Rattle.fs_tree.proofs.Above.{key_no_marker}
 use Rattle.fs_tree.proofs.Moving.{place_above, place_apart, moves_file, moves_dir}
 use Rattle.fs_ops.proofs.StepLaws.{same_scene}
-use Rattle.bucket_walks.specs.Sweeping.{IsDeleting}
 use Rattle.fs_rename.specs.Copies.{Move, sources, copied_all, AreFree, moves_of}
 use Rattle.fs_rename.proofs.Whole.{AreWhole, whole_copying, whole_emptying, whole_marked, is_whole}
 use Rattle.fs_rename.proofs.Placed.{file_free, file_to, file_from, file_apart, file_moved, dir_free, dir_to, dir_from, dir_apart, dir_moved}

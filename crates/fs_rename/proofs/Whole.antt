@@ -1,18 +1,9 @@
 -- Each object stands whole while it is moved.
 use Rattle.std.proofs.Common.{◌≡◌, ◌⊎◌, inl, inr, ℕ, zero, suc, true, false, List, [], ◌∷◌, take, Option, Some, None, refl, sym, ap, subst, ◌∙◌}
-use Rattle.std.proofs.lemmas.Bool.{false≢true}
+use Rattle.path_keys.proofs.Common.{false≢true, lt_not, same_or_other, text_here, text_other, none_some}
+use Rattle.fs_ops.specs.Prelude.{is_lt, text_cmp, text_total, Objects, without, IsIn, RisesFrom, NoneBelow, is_marker, marker, parent, marker_if, IsMarked, IsMove, IsWhole}
 use Rattle.std.specs.FinMap as fin
-use Rattle.std.specs.Ordering.{is_lt}
-use Rattle.proof_base.specs.Order.{text_cmp, text_total}
-use Rattle.proof_base.proofs.Less.{lt_not}
-use Rattle.s3_types.specs.Store.{Objects}
-use Rattle.s3_types.specs.Answer.{without}
-use Rattle.proof_base.specs.Members.{IsIn, RisesFrom}
-use Rattle.proof_base.proofs.Members.{same_or_other, text_here, text_other, none_some}
 use Rattle.store_frame.proofs.Flat.{behind}
-use Rattle.fs_tree.specs.Tree.{NoneBelow, is_marker, marker}
-use Rattle.fs_tree.specs.Changes.{parent, marker_if, IsMarked}
-use Rattle.fs_tree.specs.Moves.{IsMove, IsWhole}
 use Rattle.fs_tree.proofs.Begins.{begins_all}
 use Rattle.fs_tree.proofs.Dropping.{marker_key}
 use Rattle.bucket_walks.proofs.Below.{is_in, gone_in, kept_out}

@@ -1,7 +1,6 @@
 -- Operations from one path to another, which work in one bucket.
 use Rattle.std.specs.Prelude.{◌≡◌, ℕ, List}
-use Rattle.s3_types.specs.Store.{Objects, Scene}
-use Rattle.bucket_ops.specs.Phases.{GivesIn}
+use Rattle.fs_ops.specs.Prelude.{Objects, Scene, GivesIn}
 
 -- two paths, each by its bucket and its key
 pub record Route : Type 0 where

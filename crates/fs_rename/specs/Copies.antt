@@ -1,14 +1,8 @@
 -- Keys that are copied one by one, and deleted when all are.
 use Rattle.std.specs.Prelude.{◌≡◌, ◌⊎◌, ℕ, ◌+◌, ◌-◌, ◌<◌, ◌&&◌, nat_lt, Bool, true, false, List, [], ◌∷◌, map, take, drop, length, None}
+use Rattle.fs_ops.specs.Prelude.{Objects, copied, RisesFrom, marker_of, Stands, keys_below, Ask, Copy, Page}
 use Rattle.std.specs.FinMap as fin
-use Rattle.s3_types.specs.Store.{Objects}
-use Rattle.s3_types.specs.Answer.{copied}
-use Rattle.proof_base.specs.Members.{RisesFrom}
-use Rattle.dir_markers.specs.Markers.{marker_of}
-use Rattle.fs_tree.specs.Tree.{Stands}
-use Rattle.bucket_walks.specs.Walking.{keys_below}
 use Rattle.fs_rename.specs.Keys.{new_key}
-use Rattle.bucket_ops.specs.Asks.{Ask, Copy, Page}
 use Rattle.fs_rename.specs.declared.copying.Copying.{Copying}
 use Rattle.fs_rename.specs.declared.copying.CopyStep.{CopyStep}
 use Rattle.fs_rename.specs.declared.copying.CopyStep.TheVariants.{Next, All}

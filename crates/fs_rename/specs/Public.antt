@@ -1,11 +1,7 @@
 -- What the renaming of a path to another one answers, and leaves (Hadoop FileSystem specification, rename).
 use Rattle.std.specs.Prelude.{Err}
-use Rattle.s3_types.specs.Store.{Scene}
-use Rattle.s3_types.specs.declared.request.Request.{Request}
-use Rattle.bucket_ops.specs.Phases.{AlwaysIn, SendsIn}
+use Rattle.fs_ops.specs.Prelude.{Scene, Request, AlwaysIn, SendsIn, MayStand, Renames}
 use Rattle.fs_tree.specs.declared.rename.RenameRefusal.TheVariants.{OtherBucket, NoSuchBucket}
-use Rattle.fs_tree.specs.Moves.{MayStand}
-use Rattle.fs_tree.specs.Renames.{Renames}
 use Rattle.fs_rename.specs.Between.{Route, GivesBetween}
 use Rattle.fs_rename.specs.code.Rename.{Renaming, Answer, first, asks}
 use Rattle.fs_rename.specs.code.Meaning.{sends}

@@ -1,22 +1,14 @@
 -- The paths above a path.
 use Rattle.std.proofs.Common.{◌≡◌, ◌⊎◌, inl, inr, ℕ, zero, suc, ◌<◌, ◌&&◌, ◌==◌, not, nat_eq, nat_le, Bool, true, false, List, [], ◌∷◌, ◌++◌, map, length, refl, sym, ap, subst, ◌∙◌, arith, length-append, append_assoc}
-use Rattle.std.specs.List.{list_all, join_with_byte}
-use Rattle.std.proofs.lemmas.Bool.{false≢true, eqb-true}
-use Rattle.std.proofs.lemmas.List.Folds.{list_all-append}
-use Rattle.words.specs.Parts.{parts_of, is_other}
-use Rattle.words.proofs.Pieces.{one_part, parts_append}
-use Rattle.s3_types.specs.Names.{is_element, are_elements, is_key_path, trimmed}
-use Rattle.s3_types.specs.Pages.{begins}
-use Rattle.path_keys.specs.Paths.{is_key, below}
+use Rattle.fs_tree.specs.Prelude.{list_all, is_other, is_element, are_elements, is_key_path, trimmed, begins, is_key, below, marker_of, keys_above, IsIn, is_marker, parent}
+use Rattle.s3_types.specs.Prelude.{join_with_byte}
+use Rattle.path_keys.proofs.Common.{false≢true, eqb-true, list_all-append, one_part, parts_append, eq_nat, in_append, in_front, in_last}
+use Rattle.words.specs.Parts.{parts_of}
 use Rattle.path_keys.proofs.Ends.{no_end}
 use Rattle.path_keys.proofs.Keys.{some_key}
 use Rattle.path_keys.proofs.Last.{parts_round, before_slash, before_none}
-use Rattle.dir_markers.specs.Markers.{marker_of, fronts, keys_above}
+use Rattle.dir_markers.specs.Markers.{fronts}
 use Rattle.dir_markers.proofs.Above.{above_more, trimmed_marker}
-use Rattle.proof_base.specs.Members.{IsIn}
-use Rattle.proof_base.proofs.Members.{eq_nat, in_append, in_front, in_last}
-use Rattle.fs_tree.specs.Tree.{is_marker}
-use Rattle.fs_tree.specs.Changes.{parent}
 use Rattle.fs_tree.proofs.Begins.{both, begins_more, begins_all, begins_trans, begins_marker, marker_is, marker_at, no_empty}
 
 -- ---- a text cut at its last `/`

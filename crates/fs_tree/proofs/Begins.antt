@@ -1,10 +1,7 @@
 -- Texts that begin with others, and markers.
 use Rattle.std.proofs.Common.{◌≡◌, ◌⊎◌, inl, inr, ℕ, ◌&&◌, ◌≤◌, nat_eq, Bool, true, false, List, [], ◌∷◌, ◌++◌, length, refl, sym, ap, ◌∙◌, arith}
-use Rattle.std.proofs.lemmas.Bool.{false≢true}
-use Rattle.s3_types.specs.Pages.{begins}
-use Rattle.dir_markers.specs.Markers.{marker_of}
-use Rattle.proof_base.proofs.Members.{eq_nat, nat_true}
-use Rattle.fs_tree.specs.Tree.{is_marker}
+use Rattle.path_keys.proofs.Common.{false≢true, eq_nat, nat_true}
+use Rattle.fs_tree.specs.Prelude.{begins, marker_of, is_marker}
 
 pub both : (a b : Bool) → (a && b) ≡ true → (a ≡ true) × (b ≡ true)
 both true b h = (refl, h)

@@ -1,13 +1,9 @@
 -- Deleting a file or a directory, in the tree.
 use Rattle.std.proofs.Common.{◌≡◌, ◌⊎◌, inl, inr, ℕ, true, false, List, [], ◌∷◌, Option, Some, None, refl, sym, ap, subst, ◌∙◌, arith, length-append}
-use Rattle.std.proofs.lemmas.Bool.{false≢true}
+use Rattle.path_keys.proofs.Common.{false≢true, none_some, some_is, true_or_false, same_or_other, text_gone, text_left, text_other}
+use Rattle.fs_tree.specs.Prelude.{Objects, begins, marker_of, Stands, SomeBelow, NoneBelow, is_marker, marker, HasDir, parent, marker_if, IsMarked, IsWithoutBelow}
 use Rattle.std.specs.FinMap as fin
-use Rattle.s3_types.specs.Store.{Objects}
-use Rattle.s3_types.specs.Pages.{begins}
-use Rattle.dir_markers.specs.Markers.{marker_of}
-use Rattle.proof_base.proofs.Members.{none_some, some_is, true_or_false, same_or_other, text_gone, text_left, text_other}
-use Rattle.fs_tree.specs.Tree.{Stands, SomeBelow, NoneBelow, is_marker, marker, HasDir}
-use Rattle.fs_tree.specs.Changes.{DropsFile, DropsDir, parent, marker_if, IsMarked, IsWithoutBelow}
+use Rattle.fs_tree.specs.Changes.{DropsFile, DropsDir}
 use Rattle.fs_tree.proofs.Begins.{begins_all, begins_trans, begins_marker, begins_length, one_begins, marker_is, marker_at}
 use Rattle.fs_tree.proofs.Above.{above_parent, parent_begins}
 use Rattle.fs_tree.proofs.Making.{put_stands, put_was, dir_of, has_marker}

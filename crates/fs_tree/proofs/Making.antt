@@ -1,16 +1,9 @@
 -- Making a directory, in the tree.
 use Rattle.std.proofs.Common.{◌≡◌, ◌⊎◌, inl, inr, ℕ, true, List, [], ◌∷◌, refl, sym, ap, subst, ◌∙◌}
-use Rattle.std.proofs.lemmas.Bool.{false≢true}
+use Rattle.path_keys.proofs.Common.{false≢true, same_or_other, text_here, text_other}
+use Rattle.fs_tree.specs.Prelude.{Objects, begins, Object, marker_of, keys_above, IsIn, Stands, SomeBelow, is_marker, marker, HasDir, PutsDir}
 use Rattle.std.specs.FinMap as fin
-use Rattle.s3_types.specs.Store.{Objects}
-use Rattle.s3_types.specs.Pages.{begins}
-use Rattle.s3_types.specs.declared.object.Object.{Object}
-use Rattle.dir_markers.specs.Markers.{marker_of, keys_above}
-use Rattle.proof_base.specs.Members.{IsIn}
-use Rattle.proof_base.proofs.Members.{same_or_other, text_here, text_other}
-use Rattle.fs_tree.specs.Tree.{Stands, SomeBelow, is_marker, marker, HasDir}
 use Rattle.fs_tree.specs.Changes.{SameFiles, MakesDirs}
-use Rattle.fs_tree.specs.Answers.{PutsDir}
 use Rattle.fs_tree.proofs.Begins.{begins_all, begins_trans, marker_is, marker_at, no_empty}
 use Rattle.fs_tree.proofs.Above.{above_begins, begins_above, above_marker}
 

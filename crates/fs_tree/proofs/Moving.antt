@@ -1,20 +1,12 @@
 -- Moving a file or a directory, in the tree.
 use Rattle.std.proofs.Common.{◌≡◌, ◌⊎◌, inl, inr, ℕ, ◌&&◌, ◌<◌, nat_eq, Bool, true, false, List, [], ◌∷◌, ◌++◌, length, Option, Some, None, refl, sym, ap, subst, ◌∙◌, arith, length-append, append_assoc}
-use Rattle.std.specs.List.{list_all}
-use Rattle.std.proofs.lemmas.Bool.{false≢true}
+use Rattle.fs_tree.specs.Prelude.{list_all, Objects, are_elements, is_element, begins, below, marker_of, Stands, SomeBelow, NoneBelow, is_marker, HasDir, HasFile, IsDirectory, IsAbsent, parent, marker_if, IsMarked, last_of, own_name, IsAtOrBelow, MayMove, inside, IsPlace, IsFileMoved, IsDirMoved}
+use Rattle.path_keys.proofs.Common.{false≢true, one_part, eq_nat, none_some, some_is, true_or_false, same_or_other}
 use Rattle.std.specs.FinMap as fin
 use Rattle.words.specs.Parts.{parts_of}
-use Rattle.words.proofs.Pieces.{one_part}
-use Rattle.s3_types.specs.Store.{Objects}
-use Rattle.s3_types.specs.Names.{are_elements, is_element}
-use Rattle.s3_types.specs.Pages.{begins}
-use Rattle.path_keys.specs.Paths.{below}
 use Rattle.path_keys.proofs.Last.{parts_round, before_slash, before_none}
-use Rattle.dir_markers.specs.Markers.{marker_of}
-use Rattle.proof_base.proofs.Members.{eq_nat, none_some, some_is, true_or_false, same_or_other}
-use Rattle.fs_tree.specs.Tree.{Stands, SomeBelow, NoneBelow, is_marker, HasDir, HasFile, IsDirectory, IsAbsent}
-use Rattle.fs_tree.specs.Changes.{parent, marker_if, IsMarked, IsMarkedAbove, last_of, own_name}
-use Rattle.fs_tree.specs.Moves.{IsAtOrBelow, MayMove, inside, IsPlace, IsFileMoved, IsDirMoved, MovesFile, MovesDir}
+use Rattle.fs_tree.specs.Changes.{IsMarkedAbove}
+use Rattle.fs_tree.specs.Moves.{MovesFile, MovesDir}
 use Rattle.fs_tree.proofs.Begins.{both, begins_all, begins_more, begins_trans, begins_marker, begins_length, one_begins, marker_at}
 use Rattle.fs_tree.proofs.Above.{NoSlash, Cut, cut, above_parent, parent_begins}
 use Rattle.fs_tree.proofs.Making.{put_was, dir_of}

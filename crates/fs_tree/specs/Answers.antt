@@ -1,9 +1,8 @@
 -- What each file operation answers among the objects z of its bucket, and leaves: refusals in their order, each of which changes nothing (Hadoop FileSystem specification: getFileStatus, open, listStatus, create, mkdirs, delete).
 use Rattle.std.specs.Prelude.{◌≡◌, ◌⊎◌, ℕ, Bool, true, false, List, [], ◌∷◌, Result, Ok, Err, None, length}
+use Rattle.s3_types.specs.Prelude.{Objects, without}
 use Rattle.std.specs.FinMap as fin
-use Rattle.s3_types.specs.Store.{Objects}
 use Rattle.s3_types.specs.declared.object.Object.{Object}
-use Rattle.s3_types.specs.Answer.{without}
 use Rattle.path_keys.specs.Paths.{Path}
 use Rattle.dir_markers.specs.Markers.{marker_of, keys_above, created}
 use Rattle.dir_markers.specs.declared.marker.MarkerPolicy.{MarkerPolicy}

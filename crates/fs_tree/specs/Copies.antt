@@ -1,10 +1,7 @@
 -- Copying all that is below a directory to another place of its bucket, so that a copy that was stopped can be made again (Hadoop FileSystem shell: cp).
 use Rattle.std.specs.Prelude.{◌≡◌, ◌⊎◌, ℕ, true, List, [], ◌∷◌, ◌++◌, length, None, Result, Ok, Err}
+use Rattle.s3_types.specs.Prelude.{is_lt, text_cmp, Objects, begins}
 use Rattle.std.specs.FinMap as fin
-use Rattle.std.specs.Ordering.{is_lt}
-use Rattle.proof_base.specs.Order.{text_cmp}
-use Rattle.s3_types.specs.Store.{Objects}
-use Rattle.s3_types.specs.Pages.{begins}
 use Rattle.path_keys.specs.Paths.{below}
 use Rattle.dir_markers.specs.Markers.{keys_above}
 use Rattle.fs_tree.specs.declared.copy.CopyRefusal.{CopyRefusal}

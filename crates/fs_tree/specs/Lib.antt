@@ -5,3 +5,4 @@ pub mod Answers
 pub mod Moves
 pub mod Renames
 pub mod Copies
+pub mod Prelude

@@ -1,13 +1,10 @@
 -- What the marker tool tells of the markers below a path, removes and puts (Hadoop, S3A: directory markers, the marker tool).
 use Rattle.std.specs.Prelude.{◌≡◌, ◌⊎◌, ℕ, ◌<◌, true, List, [], length, map, Some, None, Result, Ok, Err}
+use Rattle.s3_types.specs.Prelude.{text_cmp, Objects, begins, IsIn}
 use Rattle.std.specs.List.Sorted.{IsStrictlySortedBy}
 use Rattle.std.specs.FinMap as fin
-use Rattle.proof_base.specs.Order.{text_cmp}
-use Rattle.s3_types.specs.Store.{Objects}
-use Rattle.s3_types.specs.Pages.{begins}
 use Rattle.s3_types.specs.declared.object.Object.{Object}
 use Rattle.path_keys.specs.Paths.{below}
-use Rattle.proof_base.specs.Members.{IsIn}
 use Rattle.fs_tree.specs.declared.answers.FsRefusal.{FsRefusal}
 use Rattle.fs_tree.specs.declared.answers.FsRefusal.TheVariants.{NotFound, NotDirectory}
 use Rattle.fs_tree.specs.declared.markers.MarkerKind.{MarkerKind}

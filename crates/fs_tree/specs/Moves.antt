@@ -1,10 +1,7 @@
 -- Moving a file or a directory to another place of its bucket (Hadoop FileSystem specification: rename).
 use Rattle.std.specs.Prelude.{◌≡◌, ◌⊎◌, ℕ, Bool, true, false, nat_lt, cond, List, [], ◌∷◌, ◌++◌, Some, None, length}
+use Rattle.s3_types.specs.Prelude.{is_lt, text_cmp, Objects, begins}
 use Rattle.std.specs.FinMap as fin
-use Rattle.std.specs.Ordering.{is_lt}
-use Rattle.proof_base.specs.Order.{text_cmp}
-use Rattle.s3_types.specs.Store.{Objects}
-use Rattle.s3_types.specs.Pages.{begins}
 use Rattle.path_keys.specs.Paths.{below}
 use Rattle.dir_markers.specs.Markers.{marker_of}
 use Rattle.fs_tree.specs.Tree.{Stands, is_marker, marker, HasDir, HasFile, IsDirectory, IsAbsent}

@@ -1,8 +1,7 @@
 -- The tree of files and directories that a bucket's objects are (Hadoop FileSystem specification, the model of a file system; Hadoop, S3A, directory markers).
 use Rattle.std.specs.Prelude.{◌≡◌, ◌⊎◌, ℕ, ◌==◌, Bool, true, false, List, [], ◌∷◌, Some, None, length}
+use Rattle.s3_types.specs.Prelude.{Objects, begins}
 use Rattle.std.specs.FinMap as fin
-use Rattle.s3_types.specs.Store.{Objects}
-use Rattle.s3_types.specs.Pages.{begins}
 use Rattle.s3_types.specs.declared.object.Object.{Object}
 use Rattle.dir_markers.specs.Markers.{marker_of}
 use Rattle.dir_markers.specs.declared.status.Status.{Status}

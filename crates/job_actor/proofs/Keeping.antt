@@ -1,38 +1,12 @@
 -- That the picks which the job's commit keeps are those that are seen, after each of its sendings.
 use Rattle.std.proofs.Common.{◌≡◌, ℕ, ◌<◌, ◌≤◌, ◌^◌, inl, inr, ◌||◌, true, false, zero, suc, List, [], ◌∷◌, ◌++◌, length, take, Option, Some, None, refl, sym, ap, subst, ◌∙◌, arith}
-use Rattle.std.specs.Option.{is_some}
-use Rattle.s3_types.specs.Store.{Content, Scene}
-use Rattle.s3_types.specs.Answer.{answer}
-use Rattle.s3_types.specs.Moment.{IsHonestOutcome}
-use Rattle.s3_types.specs.declared.request.Request.{Request}
-use Rattle.s3_types.specs.declared.request.Actor.TheVariants.{Driver}
-use Rattle.s3_types.specs.declared.reply.Reply.{Reply}
-use Rattle.s3_types.specs.declared.journal.Outcome.{Outcome}
-use Rattle.s3_types.specs.declared.journal.Outcome.TheVariants.{Answered, Slow, RequestLost, ReplyLost}
-use Rattle.s3_types.specs.declared.journal.Entry.{Entry}
-use Rattle.pending_json.specs.declared.records.PendingSet.{PendingSet}
-use Rattle.job_model.specs.Known.{Known}
-use Rattle.job_model.specs.Legal.{IsLegal}
-use Rattle.job_model.specs.JobScript.{Script}
-use Rattle.job_model.specs.declared.ends.Pick.{Pick}
-use Rattle.list_walk.specs.Walks.{Listing}
-use Rattle.job_protocol.specs.JobCommits.{Sets, picks_of, set_request, set_read, Commit, Fetching, Replacing, Completing, Marking, Reverting, CommitOver, commit_asks}
-use Rattle.job_protocol.specs.Operations.{Setting, TheCommit, wants}
-use Rattle.job_spec.specs.Seen.{Seen, see, see_by, see_all, nothing_seen, is_begun, is_reading}
-use Rattle.job_spec.specs.States.{commit_event}
-use Rattle.job_spec.specs.Promise.{picks_below}
-use Rattle.proof_base.proofs.Members.{some_is, none_some, same_or_not}
-use Rattle.job_facts.specs.Told.{Told, driver_entry}
-use Rattle.job_facts.specs.Facts.{Hold}
-use Rattle.job_facts.specs.Filed.{Decides}
-use Rattle.job_traces.specs.Runs.{IsOpening, is_set}
+use Rattle.job_steps.specs.Prelude.{is_some, Content, Scene, answer, IsHonestOutcome, Request, Driver, Reply, Outcome, Answered, Slow, RequestLost, ReplyLost, Entry, PendingSet, Known, IsLegal, Script, Pick, Listing, Sets, picks_of, set_request, set_read, Commit, Fetching, Replacing, Completing, Marking, Reverting, CommitOver, commit_asks, Setting, TheCommit, wants, Seen, see, see_by, see_all, nothing_seen, is_begun, is_reading, commit_event, picks_below, Told, driver_entry, Hold, Decides, IsOpening, is_set, Play, Sends, happen, MaySend, Reachable, times, operation_of}
+use Rattle.job_spec.proofs.Common.{some_is, none_some, same_or_not}
 use Rattle.job_facts.proofs.Whose.{or_true}
 use Rattle.job_facts.proofs.Agreeing.{AgreeBelow, Agrees}
 use Rattle.job_traces.proofs.Running.{At, InCommit}
 use Rattle.job_traces.proofs.Entries.{take_all, see_more, sees, late_now}
 use Rattle.job_traces.proofs.Changes.{moment_scene}
-use Rattle.job_steps.specs.Transitions.{Play, Sends, happen, MaySend, Reachable}
-use Rattle.job_steps.specs.Running.{times, operation_of}
 use Rattle.job_steps.proofs.RunningNumbers.{begun_at}
 use Rattle.job_steps.proofs.RunningStages.{IsTimed}
 use Rattle.job_steps.proofs.Running.{number, carried, sent_ahead}

@@ -1,31 +1,11 @@
 -- That the driver's commit is at work exactly where it was begun last, and that nothing is picked before it.
 use Rattle.std.proofs.Common.{◌≡◌, ℕ, zero, suc, ◌+◌, true, [], ◌++◌, length, Option, Some, None, refl, sym, ap, subst, ◌∙◌, arith}
-use Rattle.std.proofs.lemmas.Bool.{false≢true}
-use Rattle.s3_types.specs.Store.{Content}
-use Rattle.s3_types.specs.declared.request.Actor.{Actor}
-use Rattle.s3_types.specs.declared.request.Actor.TheVariants.{Driver}
-use Rattle.s3_types.specs.declared.journal.Outcome.{Outcome}
-use Rattle.s3_types.specs.declared.journal.Entry.{Entry}
-use Rattle.job_model.specs.Known.{Known}
-use Rattle.job_model.specs.Legal.{IsLegal}
-use Rattle.job_model.specs.declared.events.Op.{Op}
-use Rattle.job_model.specs.declared.events.Op.TheVariants.{Setup, Commit}
-use Rattle.job_model.specs.declared.events.Event.{Event}
-use Rattle.job_model.specs.declared.events.Event.TheVariants.{Do, Start}
-use Rattle.job_model.specs.declared.states.ActorState.{ActorState}
-use Rattle.job_protocol.specs.Outputs.{Picks}
-use Rattle.job_protocol.specs.Operations.{Setting, Operation, TheSetup, Running, who, tells, start_of}
-use Rattle.job_spec.specs.Seen.{Seen, see_all, nothing_seen}
-use Rattle.job_spec.specs.States.{put, missing, open_event, refusal, driver_may, begins_commit, is_commit, commit_event}
-use Rattle.job_spec.specs.Promise.{picked, picks_below}
-use Rattle.proof_base.proofs.Members.{none_some}
-use Rattle.job_facts.specs.Told.{Told}
-use Rattle.job_traces.specs.Runs.{IsOpening, is_just_set}
+use Rattle.job_spec.proofs.Common.{false≢true, none_some}
+use Rattle.job_steps.specs.Prelude.{Content, Actor, Driver, Outcome, Entry, Known, IsLegal, Op, Setup, Event, Do, Start, ActorState, Picks, Setting, Operation, TheSetup, Running, who, tells, start_of, Seen, see_all, nothing_seen, put, missing, open_event, refusal, driver_may, begins_commit, is_commit, commit_event, picked, picks_below, Told, IsOpening, is_just_set, Play, Refuses, Opens, Sends, Finishes, Closes, Strays, begun, knows_now, open_running, hear, MayOpen, Reachable, nothing_happened, happens, operation_of}
+use Rattle.job_model.specs.declared.events.Op.TheVariants.{Commit}
 use Rattle.job_traces.proofs.Running.{At}
 use Rattle.job_traces.proofs.Entries.{take_all, sees, late_now}
 use Rattle.job_traces.proofs.EveryRun.{just_set}
-use Rattle.job_steps.specs.Transitions.{Play, Refuses, Opens, Sends, Finishes, Closes, Strays, begun, knows_now, open_running, hear, MayOpen, Reachable, nothing_happened, happens}
-use Rattle.job_steps.specs.Running.{operation_of}
 use Rattle.job_steps.proofs.RunningStages.{DriverAt, begins_so, may_commit_job}
 use Rattle.job_steps.proofs.Running.{carried}
 use Rattle.job_actor.specs.Picks.{PicksGo, ArePicksOf, is_job_commit, is_committing}

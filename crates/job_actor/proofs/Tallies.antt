@@ -1,10 +1,7 @@
 -- The picks of a report, as one more set is read.
 use Rattle.std.proofs.Common.{◌≡◌, ℕ, zero, suc, ◌<◌, ◌≤◌, ◌⊎◌, inl, inr, true, List, [], ◌∷◌, ◌++◌, length, Option, Some, None, refl, sym, ap, ◌∙◌, arith, length-append}
-use Rattle.std.specs.Option.{is_some}
-use Rattle.std.proofs.lemmas.List.{append-nil}
-use Rattle.job_model.specs.declared.ends.Pick.{Pick}
-use Rattle.job_protocol.specs.Outputs.{Picks}
-use Rattle.job_spec.specs.Promise.{picked, picks_below}
+use Rattle.job_steps.specs.Prelude.{is_some, Pick, Picks, picked, picks_below}
+use Rattle.job_spec.proofs.Common.{append-nil}
 
 pub below_same : (p q : Picks) (n : ℕ) → ((t : ℕ) → t < n → p t ≡ q t) → picks_below p n ≡ picks_below q n
 below_same p q zero h = refl

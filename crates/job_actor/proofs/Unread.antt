@@ -1,33 +1,9 @@
 -- While the job's commit reads, nothing is picked of the tasks whose sets it has yet to read.
 use Rattle.std.proofs.Common.{◌≡◌, ℕ, nat_lt, ◌<◌, ◌≤◌, ◌^◌, ◌⊎◌, inl, inr, ◌&&◌, ◌||◌, Bool, true, false, cond, List, [], ◌∷◌, ◌++◌, length, Option, Some, None, refl, sym, ap, subst, ◌∙◌, arith, length-append}
-use Rattle.s3_types.specs.Store.{Content}
-use Rattle.s3_types.specs.Answer.{answer}
-use Rattle.s3_types.specs.Moment.{IsHonestOutcome}
-use Rattle.s3_types.specs.declared.request.Request.{Request}
-use Rattle.s3_types.specs.declared.request.Actor.TheVariants.{Driver}
-use Rattle.s3_types.specs.declared.reply.Reply.{Reply}
-use Rattle.s3_types.specs.declared.journal.Outcome.{Outcome}
-use Rattle.s3_types.specs.declared.journal.Outcome.TheVariants.{Answered, Slow}
-use Rattle.s3_types.specs.declared.journal.Entry.{Entry}
-use Rattle.pending_json.specs.declared.records.PendingSet.{PendingSet}
-use Rattle.job_model.specs.Attempts.{Who}
-use Rattle.job_model.specs.Legal.{IsLegal}
-use Rattle.job_model.specs.JobScript.{Script}
-use Rattle.job_model.specs.declared.ends.CommitEnd.{CommitEnd}
-use Rattle.job_protocol.specs.Outputs.{Picks, same_path}
-use Rattle.job_protocol.specs.Records.{files_set}
-use Rattle.list_walk.specs.Walks.{Sweep, sweep_hears}
-use Rattle.job_protocol.specs.Lanes.{Turn, again, follow, dealt, revert}
-use Rattle.job_protocol.specs.JobCommits.{Sets, picks_of, all_commits, set_request, set_read, ok_set, Commit, Fetching, Replacing, Completing, Marking, Reverting, CommitOver, is_no_magic, completing, replaced, replacing, decided, fetching, fetched, swept, reverting, worn_completion, commit_start, commit_asks, commit_misses, commit_tells}
-use Rattle.job_protocol.specs.Operations.{Setting, Operation, TheSetup, TheCommit, who, asks, tells}
-use Rattle.job_spec.specs.Seen.{Seen, see, is_begun, picks_by}
-use Rattle.proof_base.proofs.Members.{some_is, none_some, none_or_some, same_or_not}
-use Rattle.job_facts.specs.Told.{Told, entry, driver_entry}
-use Rattle.job_facts.specs.Stores.{sets_at}
-use Rattle.job_facts.specs.Facts.{Hold, knowing}
-use Rattle.job_facts.specs.Laws.{IsSetAnswer}
-use Rattle.job_facts.specs.Filed.{Decides}
-use Rattle.job_traces.specs.Runs.{Stand, Beginning, BeginSetup, BeginCommit, BeginClean, begin, MayBegin, Runs, run_begins, actor_begins, driver_sends, attempt_sends, strays, IsOpening, IsTimely, nothing_learnt, is_set}
+use Rattle.job_steps.specs.Prelude.{Content, answer, IsHonestOutcome, Request, Driver, Reply, Outcome, Answered, Slow, Entry, PendingSet, Who, IsLegal, Script, CommitEnd, Picks, files_set, Sweep, sweep_hears, Turn, again, follow, dealt, revert, Sets, picks_of, all_commits, set_request, set_read, Commit, Fetching, Replacing, Completing, Marking, Reverting, CommitOver, is_no_magic, completing, replaced, replacing, fetching, fetched, swept, reverting, worn_completion, commit_start, commit_asks, commit_misses, commit_tells, Setting, Operation, TheSetup, TheCommit, who, asks, tells, Seen, see, is_begun, Told, entry, driver_entry, Hold, knowing, Decides, Stand, Beginning, BeginSetup, BeginCommit, BeginClean, begin, Runs, run_begins, actor_begins, driver_sends, attempt_sends, strays, IsOpening, IsTimely, nothing_learnt, is_set}
+use Rattle.job_facts.specs.Prelude.{same_path, ok_set, decided, picks_by, sets_at, IsSetAnswer}
+use Rattle.job_spec.proofs.Common.{some_is, none_some, none_or_some, same_or_not}
+use Rattle.job_traces.specs.Runs.{MayBegin}
 use Rattle.job_facts.proofs.Whose.{or_true}
 use Rattle.job_facts.proofs.Reading.{reads_it, reads_other}
 use Rattle.job_facts.proofs.Replies.{set_reply, bytes_read}

@@ -1,12 +1,6 @@
 -- What an actor is at, beside the contracts of its calls.
 use Rattle.std.specs.Prelude.{◌≡◌, ℕ, ◌+◌, ◌<◌, ◌≤◌, Bool, true, false, not, Option, Some, None, is_some}
-use Rattle.s3_types.specs.Store.{Scene}
-use Rattle.s3_types.specs.Answer.{answer, apply}
-use Rattle.s3_types.specs.Moment.{effect, IsHonestOutcome}
-use Rattle.s3_types.specs.declared.request.Request.{Request}
-use Rattle.s3_types.specs.declared.journal.Outcome.{Outcome}
-use Rattle.job_model.specs.declared.ends.OpEnd.{OpEnd}
-use Rattle.job_spec.specs.Turns.{is_memory}
+use Rattle.job_steps.specs.Prelude.{Scene, answer, apply, effect, IsHonestOutcome, Request, Outcome, OpEnd, is_memory}
 
 -- it ended, and for want of memory
 abbrev pub ends_wanting : Option OpEnd → Bool

@@ -1,17 +1,6 @@
 -- The picks of a job's commit, as a run goes on.
 use Rattle.std.specs.Prelude.{◌≡◌, Bool, true, false, List, [], Option, Some, None}
-use Rattle.s3_types.specs.Store.{Content}
-use Rattle.s3_types.specs.declared.request.Actor.TheVariants.{Driver}
-use Rattle.job_model.specs.Legal.{IsLegal}
-use Rattle.job_model.specs.declared.events.Event.{Event}
-use Rattle.job_model.specs.declared.ends.EventEnd.{EventEnd}
-use Rattle.job_model.specs.declared.ends.Pick.{Pick}
-use Rattle.job_protocol.specs.Operations.{Setting, Operation, Running, TheSetup, TheWrite, TheTaskCommit, TheTaskAbort, TheCommit, TheClean}
-use Rattle.job_spec.specs.States.{begins_commit, is_commit}
-use Rattle.job_spec.specs.Promise.{all_picks}
-use Rattle.job_traces.specs.Runs.{IsOpening}
-use Rattle.job_steps.specs.Transitions.{Play, Reachable, MayOpen}
-use Rattle.job_steps.specs.Running.{Ahead}
+use Rattle.job_steps.specs.Prelude.{Content, Driver, IsLegal, Event, EventEnd, Pick, Setting, Operation, Running, TheSetup, TheWrite, TheTaskCommit, TheTaskAbort, TheCommit, TheClean, begins_commit, is_commit, all_picks, IsOpening, Play, Reachable, MayOpen, Ahead}
 
 -- these are the picks that are seen so far, however the run goes on
 abbrev pub ArePicksOf : Setting → Content → Play → List Pick → Type 0

@@ -1,10 +1,6 @@
 -- The plans that a script gives to the actors of its job.
 use Rattle.std.specs.Prelude.{◌≡◌, ℕ}
-use Rattle.s3_types.specs.declared.request.Actor.{Actor}
-use Rattle.s3_types.specs.declared.request.Actor.TheVariants.{Driver, Attempt, Shell}
-use Rattle.job_model.specs.Known.{Known}
-use Rattle.job_protocol.specs.Operations.{Setting, who}
-use Rattle.job_protocol.specs.AtWork.{job_of, task_of}
+use Rattle.job_steps.specs.Prelude.{Actor, Driver, Attempt, Shell, Known, Setting, who, job_of, task_of}
 use Rattle.job_actor.specs.declared.plan.Plan.{Plan}
 use Rattle.job_actor.specs.declared.plan.Plan.TheVariants.{Job, Task}
 

@@ -1,15 +1,6 @@
 -- One sending of the request that an actor asks.
 use Rattle.std.specs.Prelude.{◌≡◌, ℕ, ◌+◌, List, [], ◌∷◌, ◌++◌, Option, Some}
-use Rattle.s3_types.specs.Store.{Scene}
-use Rattle.s3_types.specs.Answer.{answer}
-use Rattle.s3_types.specs.Moment.{effect, IsHonestOutcome}
-use Rattle.s3_types.specs.Foretold.{IsForetold}
-use Rattle.s3_types.specs.declared.fates.Fate.{Fate}
-use Rattle.s3_types.specs.declared.request.Request.{Request}
-use Rattle.s3_types.specs.declared.request.Actor.{Actor}
-use Rattle.s3_types.specs.declared.journal.Outcome.{Outcome}
-use Rattle.s3_types.specs.declared.journal.Entry.{Entry}
-use Rattle.job_model.specs.declared.ends.OpEnd.{OpEnd}
+use Rattle.job_steps.specs.Prelude.{Scene, answer, effect, IsHonestOutcome, IsForetold, Fate, Request, Actor, Outcome, Entry, OpEnd}
 use Rattle.job_actor.specs.Acts.{EndsWanting}
 use Rattle.job_actor.specs.declared.posting.Posted.{Posted}
 use Rattle.job_actor.specs.declared.posting.Posted.TheVariants.{Unsent, Broken, Heard}

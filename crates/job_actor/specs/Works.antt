@@ -1,26 +1,8 @@
 -- What the operations of a job's actors owe to a world.
 use Rattle.std.specs.Prelude.{◌≡◌, ℕ, ◌+◌, ◌≤◌, ◌^◌, List, [], Option, Some, None, is_some, slice_get}
-use Rattle.s3_types.specs.Store.{Content, Scene}
-use Rattle.s3_types.specs.Answer.{answer, apply}
-use Rattle.s3_types.specs.Moment.{IsHonestOutcome}
-use Rattle.s3_types.specs.declared.request.Request.{Request}
-use Rattle.s3_types.specs.declared.request.Actor.{Actor}
-use Rattle.s3_types.specs.declared.request.Actor.TheVariants.{Driver, Attempt, Shell}
-use Rattle.s3_types.specs.declared.journal.Outcome.{Outcome}
-use Rattle.s3_types.specs.declared.journal.Entry.{Entry}
-use Rattle.job_model.specs.Known.{Known}
-use Rattle.job_model.specs.Legal.{IsLegal}
-use Rattle.job_model.specs.JobScript.{Script}
-use Rattle.job_model.specs.declared.events.Op.{Op}
-use Rattle.job_model.specs.declared.ends.OpEnd.{OpEnd}
-use Rattle.job_model.specs.declared.ends.Pick.{Pick}
+use Rattle.job_steps.specs.Prelude.{Content, Scene, answer, apply, IsHonestOutcome, Request, Actor, Driver, Attempt, Shell, Outcome, Entry, Known, IsLegal, Script, Op, OpEnd, Pick, Setting, Running, advance, over, start_of, actors, Seen, see, IsOpening, Play, Reachable, Sends, MaySend, happen, scene_of, knows_now}
 use Rattle.job_protocol.specs.Operations as operations
-use Rattle.job_protocol.specs.Operations.{Setting, Running, advance, over, start_of}
-use Rattle.job_spec.specs.States.{actors}
-use Rattle.job_spec.specs.Seen.{Seen, see}
-use Rattle.job_traces.specs.Runs.{IsOpening}
 use Rattle.job_actor.specs.Posting.{DueFits}
-use Rattle.job_steps.specs.Transitions.{Play, Reachable, Sends, MaySend, happen, scene_of, knows_now}
 use Rattle.job_actor.specs.Picks.{HasPicked, is_job_commit}
 
 -- the actor at a place: the driver at 0, and then the attempts in script order

@@ -1,19 +1,10 @@
 -- where outcomes lead
 use Rattle.std.proofs.Common.{◌≡◌, ℕ, suc, ◌+◌, ◌<◌, ◌≤◌, refl, ap, sym, subst, ◌∙◌, Bool, true, false, nat_lt, cond, arith, List, [], ◌∷◌, ◌++◌, map, length, Option, Some, None, length-append, ◌^◌}
-use Rattle.std.proofs.lemmas.Bool.Decides.{nat_tests}
-use Rattle.std.proofs.lemmas.List.{map-append}
-use Rattle.s3_types.specs.declared.request.Request.{Request}
-use Rattle.pending_json.specs.declared.records.PendingSet.{PendingSet}
-use Rattle.job_model.specs.Jobs.{Job}
-use Rattle.job_model.specs.declared.ends.Pick.{Pick}
+use Rattle.path_keys.proofs.Common.{nat_tests, map-append, below_so}
+use Rattle.job_protocol.specs.Prelude.{Request, PendingSet, Job, Pick, Turn, Sweep, Sets, all_commits, Commit, Fetching, Replacing, Marking, Reverting, CommitOver, completing, commit_misses, read_script, sets_in}
 use Rattle.job_model.specs.declared.ends.CommitEnd.TheVariants as ends
 use Rattle.job_model.specs.declared.ends.Stage.TheVariants as stages
 use Rattle.conflict.specs.Deletions.{Deletion}
-use Rattle.job_protocol.specs.Lanes.{Turn}
-use Rattle.list_walk.specs.Walks.{Sweep}
-use Rattle.job_protocol.specs.JobCommits.{Sets, all_commits, Commit, Fetching, Replacing, Marking, Reverting, CommitOver, completing, commit_misses}
-use Rattle.job_protocol.specs.AtWork.{read_script, sets_in}
-use Rattle.proof_base.proofs.Numbers.{below_so}
 use Rattle.commit_parts.specs.Tables.{LaneTable, first_missed}
 use Rattle.commit_parts.specs.Undos.{undo_request}
 use Rattle.commit_parts.specs.ReadSets.{IsSetOf, AreRead}

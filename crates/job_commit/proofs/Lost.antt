@@ -1,13 +1,7 @@
 -- Whether a sending of the present completion was lost, by what the machine keeps.
 use Rattle.std.proofs.Common.{◌≡◌, ℕ, false, List, [], ◌∷◌, map, refl, ap, ◌∙◌}
-use Rattle.s3_types.specs.declared.request.Request.{Request}
-use Rattle.job_model.specs.Jobs.{Job}
-use Rattle.job_model.specs.declared.ends.Pick.{Pick}
-use Rattle.job_protocol.specs.Lanes.{Turn}
-use Rattle.job_protocol.specs.JobCommits.{Sets, all_commits, completing}
-use Rattle.job_protocol.specs.AtWork.{Committing}
+use Rattle.job_protocol.specs.Prelude.{Request, Job, Pick, Turn, Sets, all_commits, completing, Committing, Sweep}
 use Rattle.commit_parts.specs.Undos.{undo_request}
-use Rattle.list_walk.specs.Walks.{Sweep}
 use Rattle.job_commit.specs.Stages.{operation_of, replacing_at, reverting_from, first_lost, lost_in}
 use Rattle.job_commit.specs.Turns.{lost_of}
 use Rattle.job_commit.specs.Holds.{attempts_of}

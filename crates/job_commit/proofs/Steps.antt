@@ -1,34 +1,15 @@
 -- what is done next
 use Rattle.std.proofs.Common.{◌≡◌, ℕ, ◌+◌, ◌<◌, ◌≤◌, inl, inr, nat_lt, refl, ap, sym, subst, ◌∙◌, Bool, true, false, cond, arith, List, [], ◌∷◌, ◌++◌, map, length, drop, Option, Some, None, Result, OnOk}
 use Rattle.std.specs.Prelude.{⊤}
-use Rattle.std.proofs.lemmas.Result.{on_ok_weaker}
-use Rattle.s3_types.specs.declared.request.Request.{Request}
-use Rattle.s3_types.specs.declared.request.Committer.{Committer}
-use Rattle.s3_types.specs.declared.request.Committer.TheVariants.{Magic, Directory, Partitioned}
-use Rattle.s3_types.specs.declared.request.Mode.{Mode}
-use Rattle.s3_types.specs.declared.request.Mode.TheVariants.{Fail, Append, Replace}
-use Rattle.s3_types.specs.declared.reply.Reply.{Reply}
-use Rattle.path_keys.specs.Paths.{Path}
-use Rattle.job_model.specs.Jobs.{Job}
-use Rattle.job_model.specs.declared.ends.CommitEnd.{CommitEnd}
+use Rattle.path_keys.proofs.Common.{on_ok_weaker, below_is, below_so}
+use Rattle.job_protocol.specs.Prelude.{Request, Committer, Magic, Directory, Partitioned, Mode, Fail, Append, Replace, Reply, Path, Job, CommitEnd, Picks, same_path, wanted_paths, partitions, Sweep, sweep_start, sweep_hears, Turn, fresh_turn, again, follow, dealt, revert, Sets, all_commits, Commit, Fetching, completing, reverting, fetching, decided, replaced, replacing, worn_completion, picks_of, set_request, commit_hears, In, Table, read_script, job_script, sets_after, picked_after, Answered, Pick, Script}
 use Rattle.job_model.specs.declared.ends.CommitEnd.TheVariants as ends
-use Rattle.job_protocol.specs.Outputs.{Picks, same_path, wanted_paths}
-use Rattle.job_protocol.specs.Conflicts.{partitions}
-use Rattle.list_walk.specs.Walks.{Sweep, sweep_start, sweep_hears}
-use Rattle.job_protocol.specs.Lanes.{Turn, fresh_turn, again, follow, dealt, revert}
-use Rattle.job_protocol.specs.JobCommits.{Sets, all_commits, Commit, Fetching, completing, reverting, fetching, decided, replaced, replacing, worn_completion, picks_of, set_request, commit_hears}
-use Rattle.job_protocol.specs.LaneTable.{In, Table}
-use Rattle.job_protocol.specs.AtWork.{read_script, job_script, sets_after, picked_after}
-use Rattle.s3_types.specs.declared.journal.Outcome.TheVariants.{Answered}
-use Rattle.job_model.specs.declared.ends.Pick.{Pick}
-use Rattle.job_model.specs.JobScript.{Script}
 use Rattle.job_protocol.proofs.Members.{in_push, in_append, some_is}
 use Rattle.conflict.specs.Deletions.{Deletion, deleted, spared, asks_below, deletion_asks, swept_on, hears_below, deletion_hears, FitsDeletion}
 use Rattle.conflict.specs.Laws.{deleting_below, commit_deleting, deletion_of}
 use Rattle.conflict.proofs.Tells.{deletions_tell}
 use Rattle.commit_laws.specs.Fitting.{FitsReply}
 use Rattle.job_protocol.proofs.Tables.{table_dealt}
-use Rattle.proof_base.proofs.Numbers.{below_is, below_so}
 use Rattle.commit_parts.specs.Tables.{LaneTable, first_of, listed, next_turn}
 use Rattle.commit_parts.specs.Undos.{undo_request, IsRevert}
 use Rattle.commit_parts.specs.Places.{places_from}

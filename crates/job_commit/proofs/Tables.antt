@@ -1,11 +1,8 @@
 -- lanes after an outcome, with what each call gave
 use Rattle.std.proofs.Common.{◌≡◌, ℕ, ◌<◌, refl, ap, sym, subst, ◌∙◌, Bool, arith, List, [], ◌∷◌, ◌++◌, map, length, drop, Option, Some, None, Result, OnOk}
 use Rattle.std.specs.Prelude.{⊤}
-use Rattle.std.proofs.lemmas.Result.{on_ok_weaker}
-use Rattle.job_model.specs.Jobs.{Job}
-use Rattle.job_protocol.specs.Lanes.{Turn, again}
-use Rattle.job_protocol.specs.LaneTable.{In}
-use Rattle.job_protocol.specs.JobCommits.{Sets, all_commits, completing}
+use Rattle.path_keys.proofs.Common.{on_ok_weaker}
+use Rattle.job_protocol.specs.Prelude.{Job, Turn, again, In, Sets, all_commits, completing}
 use Rattle.commit_parts.specs.Tables.{LaneTable, first_of, listed, next_turn}
 use Rattle.commit_parts.specs.Undos.{undo_request, IsRevert, NumbersWithin}
 use Rattle.commit_parts.specs.Places.{places_from}

@@ -1,16 +1,10 @@
 -- the machine as a whole
 use Rattle.std.proofs.Common.{◌≡◌, ℕ, refl, ap, sym, ◌∙◌, List, [], ◌∷◌, map, Option, Some, None}
-use Rattle.job_model.specs.Jobs.{Job}
-use Rattle.job_model.specs.declared.ends.CommitEnd.{CommitEnd}
-use Rattle.job_model.specs.declared.ends.Pick.{Pick}
-use Rattle.job_protocol.specs.Lanes.{Turn}
-use Rattle.job_protocol.specs.JobCommits.{Sets, all_commits, Commit, completing, commit_over}
-use Rattle.job_protocol.specs.AtWork.{Committing}
+use Rattle.job_protocol.specs.Prelude.{Job, CommitEnd, Pick, Turn, Sets, all_commits, Commit, completing, commit_over, Committing, Sweep}
 use Rattle.commit_parts.specs.Undos.{undo_request}
 use Rattle.commit_parts.specs.declared.places.Place.{Place}
 use Rattle.commit_parts.specs.declared.undo.Undo.{Undo}
 use Rattle.commit_laws.specs.Fitting.{missed_of}
-use Rattle.list_walk.specs.Walks.{Sweep}
 use Rattle.job_commit.specs.Stages.{replacing_at, reverting_from, operation_of, missed_in}
 use Rattle.job_commit.specs.Holds.{attempts_of, StepHolds, Holds}
 use Rattle.job_commit.specs.declared.step.Step.{Step}

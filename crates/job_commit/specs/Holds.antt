@@ -1,16 +1,7 @@
 -- What a job's commit keeps true of its parts.
 use Rattle.std.specs.Prelude.{◌≡◌, ℕ, ◌+◌, ◌<◌, ◌≤◌, Bool, List, [], ◌∷◌, map, length, Option, Some, None}
-use Rattle.s3_types.specs.declared.request.Request.{Request}
-use Rattle.job_model.specs.Jobs.{Job}
-use Rattle.job_model.specs.JobScript.{Script}
-use Rattle.job_model.specs.declared.ends.Pick.{Pick}
-use Rattle.job_protocol.specs.Lanes.{Turn}
-use Rattle.s3_types.specs.declared.reply.Reply.{Reply}
-use Rattle.s3_types.specs.declared.reply.Reply.TheVariants.{Object, ClusterBytes}
-use Rattle.s3_types.specs.declared.journal.Outcome.TheVariants.{Answered}
-use Rattle.job_protocol.specs.JobCommits.{Sets, all_commits, Commit, commit_asks, commit_hears, commit_misses}
-use Rattle.job_protocol.specs.LaneTable.{In}
-use Rattle.job_protocol.specs.AtWork.{read_script, sets_in, sets_after, picked_after}
+use Rattle.job_protocol.specs.Prelude.{Request, Job, Script, Pick, Turn, Reply, ClusterBytes, Answered, Sets, all_commits, Commit, commit_asks, commit_hears, commit_misses, In, read_script, sets_in, sets_after, picked_after}
+use Rattle.s3_types.specs.declared.reply.Reply.TheVariants.{Object}
 use Rattle.conflict.specs.Deletions.{Deletion, spared}
 use Rattle.commit_parts.specs.Tables.{LaneTable}
 use Rattle.commit_parts.specs.Undos.{NumbersWithin}

@@ -1,12 +1,8 @@
 -- What a job's commit is doing, as the machine keeps it.
 use Rattle.std.specs.Prelude.{ℕ, ◌+◌, Bool, false, List, [], ◌∷◌, ◌++◌, map, None, length}
-use Rattle.s3_types.specs.declared.request.Request.{Request}
+use Rattle.job_protocol.specs.Prelude.{Request, Turn, follow, again, Sweep, Sets, all_commits, Commit, Fetching, Replacing, Marking, Reverting, CommitOver, completing, worn_completion, Job}
 use Rattle.job_model.specs.declared.ends.CommitEnd.TheVariants as ends
 use Rattle.job_model.specs.declared.ends.Stage.TheVariants as stages
-use Rattle.job_protocol.specs.Lanes.{Turn, follow, again}
-use Rattle.list_walk.specs.Walks.{Sweep}
-use Rattle.job_protocol.specs.JobCommits.{Sets, all_commits, Commit, Fetching, Replacing, Marking, Reverting, CommitOver, completing, worn_completion}
-use Rattle.job_model.specs.Jobs.{Job}
 use Rattle.commit_parts.specs.Tables.{first_missed}
 use Rattle.commit_parts.specs.Undos.{undo_request}
 use Rattle.job_commit.specs.declared.step.Step.{Step}

@@ -1,11 +1,8 @@
 -- What a sending was for a commit.
 use Rattle.std.specs.Prelude.{nat_lt, Bool, false, cond}
-use Rattle.s3_types.specs.declared.journal.Outcome.{Outcome}
-use Rattle.s3_types.specs.declared.journal.Outcome.TheVariants.{Answered}
+use Rattle.job_protocol.specs.Prelude.{Outcome, Answered, Commit, Fetching, Replacing, Completing, Marking, Reverting, CommitOver, Committing}
 use Rattle.machine.specs.declared.retrying.Turn.{Turn}
 use Rattle.machine.specs.declared.retrying.Turn.TheVariants as turns
-use Rattle.job_protocol.specs.JobCommits.{Commit, Fetching, Replacing, Completing, Marking, Reverting, CommitOver}
-use Rattle.job_protocol.specs.AtWork.{Committing}
 use Rattle.commit_laws.specs.Fitting.{missed_of}
 
 -- without an answer: the request is sent again, or was sent for the last time

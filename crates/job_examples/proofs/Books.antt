@@ -1,35 +1,18 @@
 -- A store of one bucket as lists: what it answers to requests, and what these leave of it, computed.
 use Rattle.std.proofs.Common.{◌≡◌, ℕ, ◌+◌, ◌-◌, Bool, true, false, nat_lt, nat_le, cond, not, List, [], ◌∷◌, length, map, take, Option, Some, None, Ok, Err, refl, sym, ap, ◌∙◌, T}
 use Rattle.std.specs.Prelude.{Result}
-use Rattle.std.specs.Option.{option_map, unwrap_or}
-use Rattle.std.specs.List.{filter, list_all, flat_map}
-use Rattle.std.specs.Cmp.{IsTotalOrder, nat_cmp_total}
-use Rattle.std.proofs.lemmas.Cmp.{then_total, on_total}
-use Rattle.std.proofs.lemmas.Map.Lookups.{exact_pairs, exact_bytes, exact_unsigned}
-use Rattle.std.specs.Ordering.{nat_cmp, eq_by_cmp, is_lt}
-use Rattle.std.specs.declared.cmp.Ordering.{Ordering}
-use Rattle.std.specs.declared.cmp.Ordering.TheVariants.{Greater}
-use Rattle.std.specs.FinMap.{insert, remove, get, empty, entries, from_entries, get-insert, get-empty, get-from_entries, nat_cmp-IsAntisymmetric, IsAntisymmetric}
-use Rattle.std.specs.FinMap.Entries.{put, by_order, where_key, find, is_sorted}
-use Rattle.proof_base.specs.Order.{text_cmp, text_eq, text_total, text_ties}
-use Rattle.s3_types.specs.Store.{Objects, Upload, Uploads, BucketContent, Buckets, Content, Files, Scene}
-use Rattle.s3_types.specs.Tags.{Spelled, plain_tag}
+use Rattle.job_spec.specs.Prelude.{option_map, unwrap_or, filter, list_all, flat_map, IsTotalOrder, nat_cmp_total, nat_cmp, eq_by_cmp, is_lt, Ordering, Greater, insert, get, entries, from_entries, get-insert, get-from_entries, nat_cmp-IsAntisymmetric, IsAntisymmetric, by_order, where_key, find, is_sorted, text_cmp, text_eq, text_total, text_ties, Objects, Upload, BucketContent, Content, Files, Scene, Spelled, begins, ref_cmp, live, with_key, with_part, is_part_number, rises, tag_eq, has_tag, joined, answer, answer_at, answer_in, head, part_answer, complete_answer, abort_answer, apply, apply_at, apply_in, bucket_of, without, part_put, completed, rename_answer, read_answer, Object, MOST_ENTRIES, NamedPart, Request, MakeBucket, PutObject, GetObject, HeadObject, DeleteObject, DeleteObjects, CopyObject, ListPage, CreateUpload, UploadPart, CompleteUpload, AbortUpload, ListParts, ListUploads, ClusterPut, ClusterRename, ClusterGet, ClusterDelete, ClusterList, UploadRef, PageEntry, Reply, Stored, Deleted, Part, ClusterDone, ClusterNames, Refused, Refusal, NoSuchUpload, BadPartNumber, TooManyKeys, NoSuchBucket}
+use Rattle.job_spec.proofs.Common.{then_total, on_total, exact_pairs, exact_bytes, exact_unsigned}
+use Rattle.job_protocol.specs.Prelude.{remove, put}
+use Rattle.s3_types.specs.Prelude.{empty, get-empty, Buckets, draws}
+use Rattle.job_model.specs.Prelude.{Uploads, aborted, renamed}
+use Rattle.retries.specs.Prelude.{is_none_named}
+use Rattle.s3_types.specs.Tags.{plain_tag}
 use Rattle.s3_types.specs.Pages as pages
-use Rattle.s3_types.specs.Pages.{begins}
 use Rattle.s3_types.specs.Multipart as uploads
-use Rattle.s3_types.specs.Multipart.{ref_cmp, live, with_key, with_part, is_part_number, is_none_named, rises, tag_eq, has_tag, joined}
-use Rattle.s3_types.specs.Answer.{answer, answer_at, answer_in, found, head, part_answer, complete_answer, abort_answer, apply, apply_at, apply_in, bucket_of, draws, without, part_put, completed, aborted, renamed, rename_answer, read_answer}
-use Rattle.s3_types.specs.declared.object.Object.{Object}
-use Rattle.s3_types.specs.declared.limits.TheConstants.{MOST_ENTRIES}
-use Rattle.s3_types.specs.declared.request.NamedPart.{NamedPart}
-use Rattle.s3_types.specs.declared.request.Request.{Request}
-use Rattle.s3_types.specs.declared.request.Request.TheVariants.{MakeBucket, PutObject, GetObject, HeadObject, DeleteObject, DeleteObjects, CopyObject, ListPage, CreateUpload, UploadPart, CompleteUpload, AbortUpload, ListParts, ListUploads, ClusterPut, ClusterRename, ClusterGet, ClusterDelete, ClusterList}
-use Rattle.s3_types.specs.declared.request.UploadRef.{UploadRef}
-use Rattle.s3_types.specs.declared.reply.PageEntry.{PageEntry}
-use Rattle.s3_types.specs.declared.reply.Reply.{Reply}
-use Rattle.s3_types.specs.declared.reply.Reply.TheVariants.{Stored, Deleted, Upload as Drawn, Part, ClusterDone, ClusterNames, Refused}
-use Rattle.s3_types.specs.declared.reply.Refusal.{Refusal}
-use Rattle.s3_types.specs.declared.reply.Refusal.TheVariants.{NoSuchUpload, BadPartNumber, MalformedList, InvalidPartOrder, InvalidPart, EntityTooSmall, TooManyKeys, NoSuchBucket}
+use Rattle.s3_types.specs.Answer.{found}
+use Rattle.s3_types.specs.declared.reply.Reply.TheVariants.{Upload as Drawn}
+use Rattle.s3_types.specs.declared.reply.Refusal.TheVariants.{MalformedList, InvalidPartOrder, InvalidPart, EntityTooSmall}
 use Rattle.job_examples.specs.Jobs.{lake}
 use Rattle.job_examples.proofs.Texts.{text_exact, same_text}
 use Rattle.job_examples.proofs.Tagged.{told_tag, told_is}

@@ -1,23 +1,11 @@
 -- What a store as lists shows, and what a journal makes of it.
 use Rattle.std.proofs.Common.{◌≡◌, ℕ, Bool, true, false, ◌&&◌, cond, List, [], ◌∷◌, ◌++◌, take, drop, Option, Some, None, refl, sym, ap, ◌∙◌, codes}
-use Rattle.std.specs.List.{list_all, starts_with}
-use Rattle.std.specs.Option.{option_map}
-use Rattle.std.specs.Ordering.{eq_by_cmp}
-use Rattle.std.specs.FinMap.Entries.{find}
-use Rattle.std.proofs.lemmas.Bool.{and_parts, true≢false, false≢true}
-use Rattle.std.proofs.lemmas.Bool.Decides.{Decides-eqb}
-use Rattle.std.proofs.lemmas.Slice.Eq.{starts_is}
 use Rattle.std.specs.Prelude.{nat_eq}
-use Rattle.proof_base.specs.Order.{text_cmp, text_eq}
-use Rattle.proof_base.proofs.Tree.{tied}
-use Rattle.s3_types.specs.Moment.{effect, after_all, moment}
-use Rattle.s3_types.specs.declared.object.Object.{Object}
-use Rattle.s3_types.specs.declared.request.Request.{Request}
-use Rattle.s3_types.specs.declared.journal.Outcome.{Outcome}
-use Rattle.s3_types.specs.declared.journal.Outcome.TheVariants.{Slow, RequestLost}
-use Rattle.s3_types.specs.declared.journal.Entry.{Entry}
-use Rattle.path_keys.specs.Paths.{Path, below, relative_in}
-use Rattle.job_protocol.specs.View.{is_file_path, object_in, object_at, view}
+use Rattle.job_spec.specs.Prelude.{list_all, option_map, eq_by_cmp, find, text_cmp, text_eq, effect, after_all, moment, Object, Request, Outcome, Slow, RequestLost, Entry, is_file_path, object_in, view}
+use Rattle.job_protocol.specs.Prelude.{starts_with, Path, below, relative_in}
+use Rattle.job_spec.proofs.Common.{and_parts, true≢false, false≢true, tied}
+use Rattle.path_keys.proofs.Common.{Decides-eqb, starts_is}
+use Rattle.job_protocol.specs.View.{object_at}
 use Rattle.job_examples.specs.Jobs.{lake}
 use Rattle.job_examples.proofs.Texts.{text_exact, same_text}
 use Rattle.job_examples.proofs.Books.{Book, scene_of, content_of, files_of, object_found, at_bucket, after, is_ours, applies}

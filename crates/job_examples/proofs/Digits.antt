@@ -1,7 +1,7 @@
 -- The texts of one digit.
 use Rattle.std.proofs.Common.{◌≡◌, [], ◌∷◌, lit<}
-use Rattle.std.specs.Fmt.{decimal}
-use Rattle.std.proofs.lemmas.Fmt.{decimal_digit}
+use Rattle.job_spec.specs.Prelude.{decimal}
+use Rattle.job_spec.proofs.Common.{decimal_digit}
 
 pub zero_digit : decimal 0 ≡ 48 ∷ []
 zero_digit = decimal_digit 0 (lit< tt)

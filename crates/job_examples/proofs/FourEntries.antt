@@ -1,9 +1,8 @@
 -- All that comes before the commit of four files goes as it should.
 use Rattle.std.proofs.Common.{ℕ, List, refl}
+use Rattle.job_spec.specs.Prelude.{FateMap, Event}
 use Rattle.std.specs.Fmt.{digits}
 use Rattle.s3_types.specs.Blocks.{block_of, parts_of}
-use Rattle.s3_types.specs.Fates.{FateMap}
-use Rattle.job_model.specs.declared.events.Event.{Event}
 use Rattle.job_examples.specs.FourFiles.{attempt_entries}
 use Rattle.job_examples.specs.FourFileLanes.{script, Prepared}
 

@@ -1,13 +1,11 @@
 -- A run that is killed between its completions.
 use Rattle.std.proofs.Common.{◌≡◌, ℕ, ◌^◌, ◌<◌, true, List, [], ◌∷◌, ◌++◌, Some, Ok, refl, codes, lit<}
+use Rattle.job_protocol.specs.Prelude.{compact_text, IsPending, set_tree}
+use Rattle.job_spec.specs.Prelude.{is_key_path, is_key}
 use Rattle.std.specs.Fmt.{digits}
 use Rattle.json.specs.Print.{escape_byte}
-use Rattle.serde_json.specs.Written.{compact_text}
 use Rattle.words.specs.Parts.{parts_from}
 use Rattle.s3_types.specs.Blocks.{block_of, parts_of}
-use Rattle.s3_types.specs.Names.{is_key_path, is_key}
-use Rattle.pending_json.specs.Records.{IsPending}
-use Rattle.pending_json.specs.Trees.{set_tree}
 use Rattle.pending_json.specs.Reading.{set_of}
 use Rattle.job_examples.specs.FourFiles.{script, of_file, the_set, journal, FourFiles}
 use Rattle.job_examples.specs.Runs.{hello}

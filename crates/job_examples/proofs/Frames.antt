@@ -1,29 +1,9 @@
 -- What each entry of a run over a store as lists may change, and what it was answered, as tests that compute.
 use Rattle.std.proofs.Common.{◌≡◌, ◌⊎◌, ℕ, zero, suc, ◌+◌, Bool, true, false, ◌&&◌, ◌||◌, not, cond, List, [], ◌∷◌, ◌++◌, map, take, Option, Some, None, refl, sym, ap, subst, ◌∙◌, codes, inl, inr, arith, T}
-use Rattle.std.specs.List.{list_all, slice_get}
-use Rattle.std.specs.Option.{option_map}
-use Rattle.std.specs.Ordering.{eq_by_cmp, nat_cmp}
-use Rattle.std.specs.FinMap.Entries.{where_key, find, find-where_key, is_sorted}
-use Rattle.std.proofs.lemmas.Bool.{and_parts, true≢false, false≢true}
-use Rattle.proof_base.specs.Order.{text_cmp, text_eq}
-use Rattle.proof_base.proofs.Bools.{not_so}
-use Rattle.s3_types.specs.Moment.{moment, is_effective, IsHonest, IsHonestOutcome, AreHonest}
-use Rattle.s3_types.specs.Multipart.{ref_cmp}
-use Rattle.s3_types.specs.Pages.{begins}
-use Rattle.s3_types.specs.declared.request.Actor.{Actor}
-use Rattle.s3_types.specs.declared.request.Actor.TheVariants.{Driver}
-use Rattle.s3_types.specs.declared.reply.Reply.{Reply}
-use Rattle.s3_types.specs.declared.journal.Outcome.{Outcome}
-use Rattle.s3_types.specs.declared.journal.Outcome.TheVariants.{Answered, Slow, RequestLost, ReplyLost}
-use Rattle.s3_types.specs.declared.journal.Entry.{Entry}
-use Rattle.job_model.specs.JobScript.{Script}
-use Rattle.job_protocol.specs.View.{view, object_at}
-use Rattle.job_protocol.specs.Setup.{dest_prefix}
-use Rattle.job_spec.specs.Headline.{Same}
-use Rattle.job_spec.specs.Ends.{is_driver}
-use Rattle.job_spec.specs.Turns.{is_own}
-use Rattle.job_spec.specs.Scope.{SameOutside, SameOutsideUpload, upload_at, upload_in}
-use Rattle.job_spec.specs.Entries.{is_copy, sends_data, may_show, IsZeroRename, ZeroRename, OutsideStays}
+use Rattle.job_spec.specs.Prelude.{list_all, slice_get, option_map, eq_by_cmp, nat_cmp, where_key, find, find-where_key, is_sorted, text_cmp, text_eq, moment, is_effective, IsHonest, IsHonestOutcome, AreHonest, ref_cmp, begins, Actor, Driver, Reply, Outcome, Answered, Slow, RequestLost, ReplyLost, Entry, Script, view, dest_prefix, Same, is_driver, is_own, SameOutside, SameOutsideUpload, upload_in, is_copy, sends_data, may_show, IsZeroRename, ZeroRename, OutsideStays}
+use Rattle.job_spec.proofs.Common.{and_parts, true≢false, false≢true, not_so}
+use Rattle.job_protocol.specs.View.{object_at}
+use Rattle.job_spec.specs.Scope.{upload_at}
 use Rattle.job_examples.specs.Jobs.{lake}
 use Rattle.job_examples.proofs.Texts.{text_exact}
 use Rattle.job_examples.proofs.Books.{Book, Draft, upload_of, scene_of, content_of, files_of, is_ours, reply, answers, ref_in, InOrder, at_bucket, no_other, upload_found}

@@ -1,28 +1,10 @@
 -- What whole runs over a store as lists keep and show, by tests that compute.
 use Rattle.std.proofs.Common.{◌≡◌, ℕ, zero, suc, ◌+◌, Bool, true, false, cond, ◌&&◌, List, [], ◌∷◌, take, Option, Some, refl, sym, ap, subst, ◌∙◌}
-use Rattle.std.specs.List.{list_all}
-use Rattle.std.specs.Map.{lookup}
-use Rattle.std.specs.Ordering.{nat_cmp, eq_by_cmp}
-use Rattle.std.specs.Option.{option_map}
-use Rattle.std.specs.Cmp.{nat_cmp_total}
-use Rattle.std.specs.FinMap.{from_entries, get-from_entries}
-use Rattle.std.specs.FinMap.Entries.{find}
-use Rattle.std.proofs.lemmas.Bool.{and_parts, false≢true}
-use Rattle.proof_base.specs.Order.{text_cmp, text_eq, text_ties}
-use Rattle.proof_base.proofs.Tree.{tied}
-use Rattle.s3_types.specs.Store.{Content}
-use Rattle.s3_types.specs.Fates.{fate_or, fate_at}
-use Rattle.s3_types.specs.Foretold.{AreForetold, fate_of}
-use Rattle.s3_types.specs.Moment.{moment, IsHonest}
-use Rattle.s3_types.specs.declared.fates.Fate.{Fate}
-use Rattle.s3_types.specs.declared.fates.Fate.TheVariants.{Answer, Slow, Before, After}
-use Rattle.s3_types.specs.declared.object.Object.{Object}
-use Rattle.s3_types.specs.declared.journal.Entry.{Entry}
-use Rattle.job_model.specs.JobScript.{Script}
-use Rattle.job_protocol.specs.View.{view, object_at}
-use Rattle.job_spec.specs.Headline.{Always}
-use Rattle.job_spec.specs.Entries.{ZeroRename, OutsideStays}
-use Rattle.job_spec.specs.Scope.{upload_at, upload_in}
+use Rattle.job_spec.specs.Prelude.{list_all, lookup, nat_cmp, eq_by_cmp, option_map, nat_cmp_total, from_entries, get-from_entries, find, text_cmp, text_eq, text_ties, Content, fate_or, fate_at, AreForetold, fate_of, moment, IsHonest, Fate, Answer, After, Object, Entry, Script, view, Always, ZeroRename, OutsideStays, upload_in}
+use Rattle.job_spec.proofs.Common.{and_parts, false≢true, tied}
+use Rattle.s3_types.specs.declared.fates.Fate.TheVariants.{Slow, Before}
+use Rattle.job_protocol.specs.View.{object_at}
+use Rattle.job_spec.specs.Scope.{upload_at}
 use Rattle.job_examples.specs.Jobs.{lake}
 use Rattle.job_examples.specs.OneFile.{opening}
 use Rattle.job_examples.specs.Runs.{Keeps}

@@ -1,9 +1,9 @@
 -- A run whose set's put wears out.
 use Rattle.std.proofs.Common.{[], ◌∷◌, Some, refl, codes}
+use Rattle.job_spec.specs.Prelude.{After}
 use Rattle.std.specs.Fmt.{digits}
 use Rattle.json.specs.Print.{escape_byte}
 use Rattle.s3_types.specs.Blocks.{block_of, parts_of}
-use Rattle.s3_types.specs.declared.fates.Fate.TheVariants.{After}
 use Rattle.job_examples.specs.LostSet.{script, journal, LostSet}
 use Rattle.job_examples.proofs.Kept.{Walk, nothing, keeps, shows_as, object_then, upload_then}
 

@@ -1,11 +1,9 @@
 -- Finite maps as lists of entries.
 use Rattle.std.proofs.Common.{◌≡◌, Bool, true, false, cond, not, List, [], ◌∷◌, map, Option, Some, None, refl, sym, ap, ◌∙◌, T}
-use Rattle.std.specs.Option.{option_map}
-use Rattle.std.specs.Ordering.{eq_by_cmp}
-use Rattle.std.specs.Cmp.{IsTotalOrder, eq_by_cmp_equiv}
-use Rattle.std.specs.declared.cmp.Ordering.{Ordering}
-use Rattle.std.specs.FinMap.{FinMap, IsAntisymmetric, insert, remove, get, from_entries, from_sorted, entries, get-insert, get-remove, get-from_entries, get-from_sorted, entries-from_sorted, same_map}
-use Rattle.std.specs.FinMap.Entries.{put, where_key, find, is_sorted, find-put, find-where_key}
+use Rattle.job_spec.specs.Prelude.{option_map, eq_by_cmp, IsTotalOrder, Ordering, IsAntisymmetric, insert, get, from_entries, entries, get-insert, get-from_entries, where_key, find, is_sorted, find-put, find-where_key}
+use Rattle.retries.specs.Prelude.{eq_by_cmp_equiv, FinMap, get-remove}
+use Rattle.job_protocol.specs.Prelude.{remove, put}
+use Rattle.s3_types.specs.Prelude.{from_sorted, get-from_sorted, entries-from_sorted, same_map}
 
 turned : {X : Type 0} (b : Bool) (x : Option X) → cond (not b) x None ≡ cond b None x
 turned true x = refl

@@ -2,44 +2,16 @@
 use Rattle.std.proofs.Common.{◌≡◌, ◌⊎◌, ℕ, zero, suc, ◌+◌, Bool, true, ◌&&◌, List, [], ◌∷◌, ◌++◌, length, take, Option, Some, None, is_some, refl, sym, ap, subst, ◌∙◌, codes, inr, arith}
 use Rattle.std.specs.Fmt.{digits}
 use Rattle.json.specs.Print.{escape_byte}
-use Rattle.std.specs.List.{slice_get}
 use Rattle.std.specs.Prelude.{IsSome}
-use Rattle.std.specs.FinMap.Entries.{find}
-use Rattle.proof_base.specs.Order.{text_cmp}
-use Rattle.s3_types.specs.Moment.{moment}
-use Rattle.s3_types.specs.declared.request.Actor.{Actor}
-use Rattle.s3_types.specs.declared.request.Actor.TheVariants.{Driver, Attempt}
-use Rattle.s3_types.specs.declared.request.Committer.TheVariants.{Magic}
-use Rattle.s3_types.specs.declared.request.Request.{Request}
-use Rattle.s3_types.specs.declared.reply.Refusal.{Refusal}
-use Rattle.s3_types.specs.declared.reply.Reply.{Reply}
-use Rattle.s3_types.specs.declared.reply.Reply.TheVariants.{Refused}
-use Rattle.s3_types.specs.declared.journal.Outcome.TheVariants.{Answered}
-use Rattle.s3_types.specs.declared.journal.Entry.{Entry}
-use Rattle.retries.specs.Worn.{WornFirst, first_worn}
-use Rattle.retries.proofs.First.{computed, none_sent}
-use Rattle.job_model.specs.declared.events.Op.{Op}
+use Rattle.job_spec.specs.Prelude.{slice_get, find, text_cmp, moment, Actor, Driver, Attempt, Magic, Request, Refusal, Reply, Refused, Answered, Entry, WornFirst, first_worn, Op, Event, Do, SetupEnd, TaskEnd, OpEnd, ActorEnd, Ended, set_request, set_read, ok_set, stage_of, Doing, past, after_event, told, clean_event, seen, see_all, is_marked, until, since, before, by_actor, until_last, EndedIn, is_mark_answered, has_cleaned, known_then, SetupIs, TaskIs, IsFree, WasPublished, CommitServed, SetupsEnd, CleansEnd, CommitEnds, CommitsEnd, Promised, seen_until, setting, all_picks}
+use Rattle.job_spec.proofs.Common.{computed, none_sent}
 use Rattle.job_model.specs.declared.events.Op.TheVariants as ops
-use Rattle.job_model.specs.declared.events.Event.{Event}
-use Rattle.job_model.specs.declared.events.Event.TheVariants.{Do}
-use Rattle.job_model.specs.declared.ends.SetupEnd.{SetupEnd}
 use Rattle.job_model.specs.declared.ends.SetupEnd.TheVariants as setups
-use Rattle.job_model.specs.declared.ends.TaskEnd.{TaskEnd}
 use Rattle.job_model.specs.declared.ends.TaskEnd.TheVariants as tasks
 use Rattle.job_model.specs.declared.ends.CommitEnd.TheVariants as commits
 use Rattle.job_model.specs.declared.ends.Stage.TheVariants as stages
-use Rattle.job_model.specs.declared.ends.OpEnd.{OpEnd}
 use Rattle.job_model.specs.declared.ends.OpEnd.TheVariants as ends
-use Rattle.job_model.specs.declared.ends.ActorEnd.{ActorEnd}
-use Rattle.job_model.specs.declared.ends.EventEnd.TheVariants.{Ended}
-use Rattle.job_protocol.specs.JobCommits.{set_request, set_read, ok_set, stage_of}
-use Rattle.job_spec.specs.States.{Doing, past, after_event, told, clean_event}
-use Rattle.job_spec.specs.Seen.{seen, see_all, is_marked}
-use Rattle.job_spec.specs.Turns.{until, since, before, by_actor, until_last}
-use Rattle.job_spec.specs.Ends.{EndedIn, is_mark_answered, has_cleaned}
-use Rattle.job_spec.specs.Follows.{known_then}
-use Rattle.job_spec.specs.OperationEnds.{SetupIs, TaskIs, IsFree, WasPublished, CommitServed}
-use Rattle.job_spec.specs.Promise.{SetupsEnd, TasksEnd, Publishes, CleansEnd, CommitEnds, CommitsEnd, Promised, seen_until, setting, all_picks}
+use Rattle.job_spec.specs.Promise.{TasksEnd, Publishes}
 use Rattle.job_examples.specs.Jobs.{worker}
 use Rattle.job_examples.specs.OneFile.{script, opening, journal, commit_entries, the_publishing}
 use Rattle.job_examples.specs.OneFinished.{the_ends, the_picks, OneFileFinished}

@@ -1,32 +1,15 @@
 -- The run of one attempt with one file plays as its script says.
 use Rattle.std.proofs.Common.{◌≡◌, ◌⊎◌, ℕ, zero, suc, ◌+◌, Bool, true, false, ◌&&◌, cond, List, [], ◌∷◌, ◌∙◌, length, take, Option, Some, None, refl, sym, ap, subst, inr, arith}
 use Rattle.std.specs.Fmt.{digits}
-use Rattle.std.specs.List.{list_all, slice_get}
 use Rattle.std.specs.Prelude.{nat_le, nat_eq}
-use Rattle.std.proofs.lemmas.Bool.{and_parts, true≢false}
-use Rattle.std.proofs.lemmas.Bool.Decides.{nat_tests}
-use Rattle.proof_base.proofs.Numbers.{at_most_is}
+use Rattle.job_spec.specs.Prelude.{list_all, slice_get, Actor, Driver, Attempt, Shell, Entry, Op, Event, Do, OpEnd, ActorEnd, EventEnd, Ended, EventFault, Setting, Doing, past, refusal, after_event, own, of_event, until, by_actor, AllBy, is_busy, is_wanting, AllFrom, IsRising, AllUpTo, OpFollows, op_over, Obeyed, AllObeyed, Plays}
+use Rattle.job_spec.proofs.Common.{and_parts, true≢false, nat_tests, at_most_is}
 use Rattle.s3_types.specs.Blocks.{block_of, parts_of}
-use Rattle.s3_types.specs.declared.request.Actor.{Actor}
-use Rattle.s3_types.specs.declared.request.Actor.TheVariants.{Driver, Attempt, Shell}
-use Rattle.s3_types.specs.declared.journal.Entry.{Entry}
-use Rattle.job_model.specs.declared.events.Op.{Op}
 use Rattle.job_model.specs.declared.events.Op.TheVariants as ops
-use Rattle.job_model.specs.declared.events.Event.{Event}
-use Rattle.job_model.specs.declared.events.Event.TheVariants.{Do}
 use Rattle.job_model.specs.declared.ends.SetupEnd.TheVariants as setups
 use Rattle.job_model.specs.declared.ends.TaskEnd.TheVariants as tasks
 use Rattle.job_model.specs.declared.ends.CommitEnd.TheVariants as commits
-use Rattle.job_model.specs.declared.ends.OpEnd.{OpEnd}
 use Rattle.job_model.specs.declared.ends.OpEnd.TheVariants as ends
-use Rattle.job_model.specs.declared.ends.ActorEnd.{ActorEnd}
-use Rattle.job_model.specs.declared.ends.EventEnd.{EventEnd}
-use Rattle.job_model.specs.declared.ends.EventEnd.TheVariants.{Ended}
-use Rattle.job_model.specs.declared.ends.EventFault.{EventFault}
-use Rattle.job_protocol.specs.Operations.{Setting}
-use Rattle.job_spec.specs.States.{Doing, past, refusal, after_event}
-use Rattle.job_spec.specs.Turns.{own, of_event, until, by_actor, AllBy, is_busy, is_wanting, AllFrom, IsRising, AllUpTo}
-use Rattle.job_spec.specs.Follows.{OpFollows, op_over, Obeyed, AllObeyed, Plays}
 use Rattle.job_examples.specs.Jobs.{worker}
 use Rattle.job_examples.specs.OneFile.{script, setting, doing, journal, OneFileRuns}
 use Rattle.job_examples.specs.OneFinished.{the_ends}

@@ -1,19 +1,12 @@
 -- Sets are read as they were put.
 use Rattle.std.proofs.Common.{◌≡◌, ℕ, ◌<◌, nat_lt, true, ◌^◌, List, [], ◌∷◌, ◌++◌, refl, Ok, lit<, arith, codes}
-use Rattle.std.proofs.lemmas.Bool.{and_parts}
-use Rattle.std.proofs.lemmas.Bool.Decides.{nat_tests}
+use Rattle.job_spec.proofs.Common.{and_parts, nat_tests, is_utf8-from_IsUtf8, IsUtf8-from_ascii, IsAscii-nil, IsAscii-cons}
+use Rattle.job_spec.specs.Prelude.{list_all, AllByRecursion, IsAscii, is_utf8, is_key_path, is_key}
+use Rattle.job_protocol.specs.Prelude.{compact_text, set_tree, IsPending, Pending, are_tags}
+use Rattle.pending_json.specs.Prelude.{IsSet}
 use Rattle.std.specs.Fmt.{digits}
-use Rattle.std.specs.List.{list_all, AllByRecursion}
-use Rattle.std.specs.Str.{IsAscii, is_utf8}
-use Rattle.std.proofs.lemmas.Str.{is_utf8-from_IsUtf8, IsUtf8-from_ascii}
-use Rattle.std.proofs.lemmas.Str.Ascii.{IsAscii-nil, IsAscii-cons}
 use Rattle.json.specs.Print.{escape_byte}
 use Rattle.words.specs.Parts.{parts_from}
-use Rattle.serde_json.specs.Written.{compact_text}
-use Rattle.s3_types.specs.Names.{is_key_path, is_key}
-use Rattle.pending_json.specs.Trees.{set_tree}
-use Rattle.pending_json.specs.Records.{IsPending, IsSet}
-use Rattle.pending_json.specs.Pending.{Pending, are_tags}
 use Rattle.pending_json.specs.Reading.{set_of as read}
 use Rattle.pending_json.proofs.RoundTrip.{set_text}
 use Rattle.job_examples.specs.OneFile.{the_record, the_set}

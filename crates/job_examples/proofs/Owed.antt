@@ -1,24 +1,10 @@
 -- What is owed at each moment of a run over a store as lists, as tests that compute.
 use Rattle.std.proofs.Common.{◌≡◌, ◌≤◌, ◌⊎◌, ℕ, zero, suc, Bool, true, false, ◌&&◌, ◌||◌, not, cond, List, [], ◌∷◌, ◌++◌, length, take, Option, Some, None, is_some, refl, sym, ap, subst, ◌∙◌, codes, inl, inr, arith}
-use Rattle.std.specs.List.{list_all}
-use Rattle.std.specs.Map.{lookup}
-use Rattle.std.specs.Ordering.{eq_by_cmp}
-use Rattle.std.specs.FinMap.Entries.{put, where_key, find, find-put, find-where_key}
-use Rattle.std.proofs.lemmas.Bool.{and_parts, true≢false, false≢true}
-use Rattle.proof_base.specs.Order.{text_cmp, text_eq, text_total, text_ties}
-use Rattle.proof_base.proofs.Tree.{tied}
-use Rattle.proof_base.proofs.Bools.{not_so}
+use Rattle.job_spec.specs.Prelude.{list_all, lookup, eq_by_cmp, where_key, find, find-put, find-where_key, text_cmp, text_eq, text_total, text_ties, Object, Entry, success_key, Script, view, Picks, wanted, wanted_at, is_picked, is_clash, is_decided, keeps_of, mark_text, see_all, Same, or_else, done, Kept, Always}
+use Rattle.job_protocol.specs.Prelude.{put}
+use Rattle.job_spec.proofs.Common.{and_parts, true≢false, false≢true, tied, not_so}
 use Rattle.proof_base.proofs.Options.{some_is}
-use Rattle.s3_types.specs.declared.object.Object.{Object}
-use Rattle.s3_types.specs.declared.journal.Entry.{Entry}
-use Rattle.magic_paths.specs.Layout.{success_key}
-use Rattle.job_model.specs.JobScript.{Script}
-use Rattle.job_protocol.specs.View.{view, object_at}
-use Rattle.job_protocol.specs.Outputs.{Picks, wanted, wanted_at, is_picked, is_clash, is_decided}
-use Rattle.job_protocol.specs.Conflicts.{keeps_of}
-use Rattle.job_protocol.specs.Records.{mark_text}
-use Rattle.job_spec.specs.Seen.{see_all}
-use Rattle.job_spec.specs.Headline.{Same, or_else, done, Kept, Always}
+use Rattle.job_protocol.specs.View.{object_at}
 use Rattle.job_examples.proofs.Texts.{text_exact, same_text}
 use Rattle.job_examples.proofs.Books.{Book, content_of, is_ours}
 use Rattle.job_examples.proofs.Checks.{Listed, same_files, files_are, dest, visible, views, objects_at, without_files}

@@ -1,15 +1,8 @@
 -- Journals that show what they should not.
 use Rattle.std.proofs.Common.{◌≡◌, ◌≤◌, ◌⊎◌, ℕ, true, ◌&&◌, List, [], ◌∷◌, length, take, Option, Some, None, is_some, refl, sym, ap, subst, ◌∙◌, codes, inl, inr, arith}
+use Rattle.job_spec.proofs.Common.{take_all, and_parts}
+use Rattle.job_spec.specs.Prelude.{list_all, Entry, Script, see_all, nothing_seen, is_marked, AreOwn, is_own, Kept, Always}
 use Rattle.std.specs.Fmt.{digits}
-use Rattle.std.proofs.lemmas.List.{take_all}
-use Rattle.std.proofs.lemmas.Bool.{and_parts}
-use Rattle.std.specs.List.{list_all}
-use Rattle.s3_types.specs.declared.journal.Entry.{Entry}
-use Rattle.job_model.specs.JobScript.{Script}
-use Rattle.job_spec.specs.Seen.{see_all, nothing_seen, is_marked}
-use Rattle.job_spec.specs.Entries.{AreOwn}
-use Rattle.job_spec.specs.Turns.{is_own}
-use Rattle.job_spec.specs.Headline.{Kept, Always}
 use Rattle.job_examples.specs.OneFile.{script, opening}
 use Rattle.job_examples.specs.Refused.{old_opening, foreign, torn, early, unread, marked_early, kept_gone, Misshown, MisshownRuns}
 use Rattle.job_examples.proofs.Books.{Book, objects_of, uploads_of, files_of, content_of}

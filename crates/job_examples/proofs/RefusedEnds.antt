@@ -1,30 +1,12 @@
 -- Ends that are not due.
 use Rattle.std.proofs.Common.{◌≡◌, ◌⊎◌, ℕ, zero, suc, ◌+◌, ◌≤◌, Bool, true, false, cond, ◌&&◌, List, [], ◌∷◌, Option, Some, None, is_some, refl, sym, ap, subst, ◌∙◌, codes, inl, inr, arith}
-use Rattle.std.specs.List.{slice_get}
-use Rattle.std.specs.FinMap.Entries.{find}
+use Rattle.job_spec.specs.Prelude.{slice_get, find, text_cmp, text_eq, moment, Driver, Request, Entry, Do, OpEnd, Ended, view, is_marked, op_over, Plays, Always, EndedIn, commit_due, NoDeletionWorn, CommitsEnd, Doing, until, since, by_actor, is_wanting}
 use Rattle.std.specs.Fmt.{digits}
-use Rattle.proof_base.specs.Order.{text_cmp, text_eq}
-use Rattle.s3_types.specs.Moment.{moment}
-use Rattle.s3_types.specs.declared.request.Actor.TheVariants.{Driver}
-use Rattle.s3_types.specs.declared.request.Request.{Request}
-use Rattle.s3_types.specs.declared.journal.Entry.{Entry}
 use Rattle.job_model.specs.declared.events.Op.TheVariants as ops
-use Rattle.job_model.specs.declared.events.Event.TheVariants.{Do}
 use Rattle.job_model.specs.declared.ends.CommitEnd.TheVariants as commits
 use Rattle.job_model.specs.declared.ends.CleanEnd.TheVariants as cleans
 use Rattle.job_model.specs.declared.ends.Stage.TheVariants as stages
-use Rattle.job_model.specs.declared.ends.OpEnd.{OpEnd}
 use Rattle.job_model.specs.declared.ends.OpEnd.TheVariants as ends
-use Rattle.job_model.specs.declared.ends.EventEnd.TheVariants.{Ended}
-use Rattle.job_protocol.specs.View.{view}
-use Rattle.job_spec.specs.Seen.{is_marked}
-use Rattle.job_spec.specs.Follows.{op_over, Plays}
-use Rattle.job_spec.specs.Headline.{Always}
-use Rattle.job_spec.specs.Ends.{EndedIn, commit_due}
-use Rattle.job_spec.specs.OperationEnds.{NoDeletionWorn}
-use Rattle.job_spec.specs.Promise.{CommitsEnd}
-use Rattle.job_spec.specs.States.{Doing}
-use Rattle.job_spec.specs.Turns.{until, since, by_actor, is_wanting}
 use Rattle.job_examples.specs.OneFile.{opening, setting, attempt_entries}
 use Rattle.job_examples.specs.RefusedEnds.{both_script, both_attempts, revert_script, half_reverted, revert_ends, anew_script, anew_ends, strange_ends, Misended}
 use Rattle.job_examples.proofs.Books.{content_of}

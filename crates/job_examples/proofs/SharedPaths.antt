@@ -1,12 +1,11 @@
 -- The run of two tasks that write one path.
 use Rattle.std.proofs.Common.{◌≡◌, true, [], ◌∷◌, Some, Ok, refl, codes, lit<}
+use Rattle.job_protocol.specs.Prelude.{compact_text, set_tree}
+use Rattle.job_spec.specs.Prelude.{is_key_path, is_key}
 use Rattle.std.specs.Fmt.{digits}
 use Rattle.json.specs.Print.{escape_byte}
-use Rattle.serde_json.specs.Written.{compact_text}
 use Rattle.s3_types.specs.Blocks.{block_of, parts_of}
 use Rattle.words.specs.Parts.{parts_from}
-use Rattle.s3_types.specs.Names.{is_key_path, is_key}
-use Rattle.pending_json.specs.Trees.{set_tree}
 use Rattle.pending_json.specs.Reading.{set_of}
 use Rattle.job_examples.specs.SharedPath.{script, journal, first_upload, second_upload, first_set, second_set, SharedPath}
 use Rattle.job_examples.specs.Runs.{hello}

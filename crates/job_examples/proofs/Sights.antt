@@ -1,21 +1,8 @@
 -- What is seen of a job, over a store as lists.
 use Rattle.std.proofs.Common.{◌≡◌, ℕ, Bool, true, false, ◌&&◌, ◌||◌, cond, List, [], ◌∷◌, Option, Some, None, is_some, refl, ap, ◌∙◌}
-use Rattle.std.specs.FinMap.Entries.{find}
-use Rattle.std.proofs.lemmas.Bool.{and_parts}
 use Rattle.std.specs.Prelude.{nat_eq}
-use Rattle.proof_base.specs.Order.{text_cmp}
-use Rattle.s3_types.specs.Answer.{apply}
-use Rattle.s3_types.specs.declared.request.Actor.{Actor}
-use Rattle.s3_types.specs.declared.request.Actor.TheVariants.{Driver, Attempt, Shell}
-use Rattle.s3_types.specs.declared.request.Request.{Request}
-use Rattle.s3_types.specs.declared.request.Request.TheVariants.{ClusterRename}
-use Rattle.s3_types.specs.declared.journal.Outcome.{Outcome}
-use Rattle.s3_types.specs.declared.journal.Outcome.TheVariants.{Answered, Slow, RequestLost, ReplyLost}
-use Rattle.s3_types.specs.declared.journal.Entry.{Entry}
-use Rattle.job_model.specs.JobScript.{Script}
-use Rattle.job_protocol.specs.Knowledge.{is_set_path}
-use Rattle.job_protocol.specs.Outputs.{Picks}
-use Rattle.job_spec.specs.Seen.{Seen, see_by, see_all, is_begun, is_staging, is_publishing, is_marking, picks_by}
+use Rattle.job_spec.specs.Prelude.{find, text_cmp, apply, Actor, Driver, Attempt, Shell, Request, ClusterRename, Outcome, Answered, Slow, RequestLost, ReplyLost, Entry, Script, is_set_path, Picks, Seen, see_by, see_all, is_begun, is_staging, is_publishing, is_marking, picks_by}
+use Rattle.job_spec.proofs.Common.{and_parts}
 use Rattle.job_examples.proofs.Books.{Book, scene_of, file_found, is_ours, after, applies}
 use Rattle.job_examples.proofs.Checks.{effect_on, effect_is, are_ours}
 

@@ -1,8 +1,7 @@
 -- entries that are nobody's turn
 use Rattle.std.proofs.Common.{◌≡◌, ◌≤◌, [], refl, arith}
+use Rattle.job_spec.specs.Prelude.{Do, Driver, Attempt}
 use Rattle.job_model.specs.declared.events.Op.TheVariants.{Setup}
-use Rattle.job_model.specs.declared.events.Event.TheVariants.{Do}
-use Rattle.s3_types.specs.declared.request.Actor.TheVariants.{Driver, Attempt}
 use Rattle.job_examples.specs.Jobs.{worker}
 use Rattle.job_examples.specs.Strays.{stray, StraysAreRefused}
 

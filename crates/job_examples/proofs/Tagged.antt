@@ -1,10 +1,11 @@
 -- Tags of short contents, computed.
 use Rattle.std.proofs.Common.{◌≡◌, ℕ, zero, suc, ◌*◌, ◌/◌, Bool, true, false, cond, List, refl, ap, ◌∙◌, take, drop, length, codes}
 use Rattle.std.specs.Prelude.{slice_index}
-use Rattle.hex.specs.Hex.{encode_lower, encode_with}
-use Rattle.proof_base.specs.Order.{text_eq}
+use Rattle.s3_types.specs.Prelude.{encode_lower}
+use Rattle.job_spec.specs.Prelude.{text_eq, Spelled}
+use Rattle.hex.specs.Hex.{encode_with}
 use Rattle.md5.specs.Md5.{md5, initial_hash, round, rounds, step_fn, step_constants, step_shifts, word_place, compress, add_state, block_words, hash_after, digest_bytes, padded_message}
-use Rattle.s3_types.specs.Tags.{Spelled, plain_tag}
+use Rattle.s3_types.specs.Tags.{plain_tag}
 use Rattle.job_examples.specs.Jobs.{hello_tag}
 use Rattle.job_examples.specs.TwoAttempts.{world}
 use Rattle.job_examples.proofs.Texts.{same_text}

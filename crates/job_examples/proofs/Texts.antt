@@ -1,8 +1,8 @@
 -- Texts that compare as equal are the same.
 use Rattle.std.proofs.Common.{◌≡◌, ℕ, true, List, sym, ◌∙◌}
-use Rattle.std.specs.FinMap.{IsAntisymmetric, slice_cmp-IsAntisymmetric, nat_cmp-IsAntisymmetric}
-use Rattle.proof_base.specs.Order.{text_cmp, text_eq, text_ties}
-use Rattle.proof_base.proofs.Tree.{tied}
+use Rattle.job_spec.specs.Prelude.{IsAntisymmetric, nat_cmp-IsAntisymmetric, text_cmp, text_eq, text_ties}
+use Rattle.job_protocol.specs.Prelude.{slice_cmp-IsAntisymmetric}
+use Rattle.job_spec.proofs.Common.{tied}
 
 pub text_exact : IsAntisymmetric text_cmp
 text_exact = slice_cmp-IsAntisymmetric nat_cmp-IsAntisymmetric

@@ -1,23 +1,14 @@
 -- Two jobs at one destination, as each of them sees it.
 use Rattle.std.proofs.Common.{◌≡◌, ℕ, List, true, false, [], Some, None, Ok, refl, codes, lit<}
+use Rattle.job_spec.specs.Prelude.{find, text_cmp, is_key_path, Driver, ListPage, ListUploads, OpFollows, by_actor}
+use Rattle.job_protocol.specs.Prelude.{compact_text, set_tree, IsPending, PendingSet}
 use Rattle.std.specs.Fmt.{digits}
-use Rattle.std.specs.FinMap.Entries.{find}
 use Rattle.json.specs.Print.{escape_byte}
-use Rattle.serde_json.specs.Written.{compact_text}
 use Rattle.words.specs.Parts.{parts_from}
-use Rattle.proof_base.specs.Order.{text_cmp}
 use Rattle.s3_types.specs.Blocks.{block_of, parts_of}
-use Rattle.s3_types.specs.Names.{is_key_path}
-use Rattle.s3_types.specs.declared.request.Actor.TheVariants.{Driver}
-use Rattle.s3_types.specs.declared.request.Request.TheVariants.{ListPage, ListUploads}
-use Rattle.pending_json.specs.Trees.{set_tree}
-use Rattle.pending_json.specs.Records.{IsPending}
-use Rattle.pending_json.specs.declared.records.PendingSet.{PendingSet}
 use Rattle.pending_json.specs.Reading as reading
 use Rattle.pending_json.proofs.RoundTrip.{set_text}
 use Rattle.job_model.specs.declared.events.Op.TheVariants as ops
-use Rattle.job_spec.specs.Follows.{OpFollows}
-use Rattle.job_spec.specs.Turns.{by_actor}
 use Rattle.job_examples.specs.Jobs.{lake}
 use Rattle.job_examples.specs.OneFile.{doing}
 use Rattle.job_examples.specs.FourFiles.{of_file}

@@ -1,21 +1,14 @@
 -- Runs of two attempts of one task, and their clean.
 use Rattle.std.proofs.Common.{◌≡◌, ℕ, true, not, List, [], ◌∷◌, Option, Some, None, Ok, refl, sym, ◌∙◌, codes, lit<}
+use Rattle.job_protocol.specs.Prelude.{compact_text, set_tree}
+use Rattle.job_spec.specs.Prelude.{list_all, moment, is_key_path, begins, Upload, Magic, Event, NothingLeft, NoneLive}
+use Rattle.job_spec.proofs.Common.{not_so}
 use Rattle.std.specs.Fmt.{digits}
 use Rattle.json.specs.Print.{escape_byte}
-use Rattle.serde_json.specs.Written.{compact_text}
-use Rattle.std.specs.List.{list_all}
 use Rattle.words.specs.Parts.{parts_from}
-use Rattle.proof_base.proofs.Bools.{not_so}
 use Rattle.s3_types.specs.Blocks.{block_of, parts_of}
-use Rattle.s3_types.specs.Moment.{moment}
-use Rattle.s3_types.specs.Names.{is_key_path}
-use Rattle.s3_types.specs.Pages.{begins}
-use Rattle.s3_types.specs.Store.{Upload}
-use Rattle.s3_types.specs.declared.request.Committer.TheVariants.{Magic}
-use Rattle.pending_json.specs.Trees.{set_tree}
 use Rattle.pending_json.specs.Reading.{set_of}
-use Rattle.job_model.specs.declared.events.Event.{Event}
-use Rattle.job_spec.specs.Scope.{NothingLeft, NoneLive, NoMagicKey}
+use Rattle.job_spec.specs.Scope.{NoMagicKey}
 use Rattle.job_examples.specs.OneFile.{opening}
 use Rattle.job_examples.specs.TwoAttempts.{world, with_events, script, second_upload, second_set, journal_of, journal, the_ends, Replaces, TwoAttempts}
 use Rattle.job_examples.proofs.OneSet.{key_by, set_by, pending_by}

@@ -1,38 +1,12 @@
 -- A job of one attempt with four files in lanes: its scripts, the entries of its commits, and what is said of its runs.
 use Rattle.std.specs.Prelude.{◌≡◌, ℕ, List, [], ◌∷◌, ◌++◌, Option, Some, None, codes}
-use Rattle.std.specs.Map.{lookup}
-use Rattle.serde_json.specs.Written.{compact_text}
-use Rattle.proof_base.specs.Order.{text_eq}
+use Rattle.job_spec.specs.Prelude.{lookup, text_eq, moment, FateMap, Actor, Driver, Request, CompleteUpload, Completed, Refused, NoSuchUpload, Magic, Append, ReplyLost, Entry, File, Script, Op, Event, Do, OpEnd, EventEnd, Ended, view, until, by_actor, OpFollows, op_over}
+use Rattle.job_protocol.specs.Prelude.{compact_text, pending_tree, set_tree, success_tree, SuccessMark}
 use Rattle.s3_types.specs.Tags.{joined_tag}
-use Rattle.s3_types.specs.Moment.{moment}
-use Rattle.s3_types.specs.Fates.{FateMap}
-use Rattle.s3_types.specs.declared.request.Actor.{Actor}
-use Rattle.s3_types.specs.declared.request.Actor.TheVariants.{Driver}
-use Rattle.s3_types.specs.declared.request.Request.{Request}
-use Rattle.s3_types.specs.declared.request.Request.TheVariants.{CompleteUpload}
-use Rattle.s3_types.specs.declared.reply.Reply.TheVariants.{Completed, Refused}
-use Rattle.s3_types.specs.declared.reply.Refusal.TheVariants.{NoSuchUpload}
-use Rattle.s3_types.specs.declared.request.Committer.TheVariants.{Magic}
-use Rattle.s3_types.specs.declared.request.Mode.TheVariants.{Append}
-use Rattle.s3_types.specs.declared.journal.Outcome.TheVariants.{ReplyLost}
-use Rattle.s3_types.specs.declared.journal.Entry.{Entry}
-use Rattle.pending_json.specs.Trees.{pending_tree, set_tree, success_tree}
-use Rattle.pending_json.specs.declared.records.SuccessMark.{SuccessMark}
-use Rattle.job_model.specs.Files.{File}
-use Rattle.job_model.specs.JobScript.{Script}
-use Rattle.job_model.specs.declared.events.Op.{Op}
 use Rattle.job_model.specs.declared.events.Op.TheVariants as ops
-use Rattle.job_model.specs.declared.events.Event.{Event}
-use Rattle.job_model.specs.declared.events.Event.TheVariants.{Do}
 use Rattle.job_model.specs.declared.ends.SetupEnd.TheVariants as setups
 use Rattle.job_model.specs.declared.ends.TaskEnd.TheVariants as tasks
-use Rattle.job_model.specs.declared.ends.OpEnd.{OpEnd}
 use Rattle.job_model.specs.declared.ends.OpEnd.TheVariants as ends
-use Rattle.job_model.specs.declared.ends.EventEnd.{EventEnd}
-use Rattle.job_model.specs.declared.ends.EventEnd.TheVariants.{Ended}
-use Rattle.job_protocol.specs.View.{view}
-use Rattle.job_spec.specs.Turns.{until, by_actor}
-use Rattle.job_spec.specs.Follows.{OpFollows, op_over}
 use Rattle.job_examples.specs.Jobs.{lake, job, attempt, worker, entry, said, hello_tag}
 use Rattle.job_examples.specs.OneFile.{opening, doing}
 use Rattle.job_examples.specs.Runs.{puts, reads_set, setting}

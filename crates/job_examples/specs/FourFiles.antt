@@ -1,29 +1,15 @@
 -- The run of one attempt with four files whose job's commit is killed after two completions.
 use Rattle.std.specs.Prelude.{◌≡◌, ℕ, true, false, List, [], ◌∷◌, ◌++◌, length, take, Some, None, codes}
-use Rattle.s3_types.specs.Moment.{moment}
-use Rattle.s3_types.specs.declared.request.Actor.TheVariants.{Driver}
-use Rattle.s3_types.specs.declared.request.Committer.TheVariants.{Magic}
-use Rattle.s3_types.specs.declared.request.Mode.TheVariants.{Append}
-use Rattle.s3_types.specs.declared.reply.PageEntry.{PageEntry}
+use Rattle.job_spec.specs.Prelude.{moment, Driver, Magic, Append, PageEntry, Entry, Script, Do, Start, Step, Kill, EventEnd, Done, Ended, view, OpFollows, op_over, Seen, seen, past, refusal, commit_event, verdict, dead, Turns, of_event, by_actor}
+use Rattle.job_protocol.specs.Prelude.{Pending, PendingSet}
 use Rattle.s3_types.specs.declared.reply.PageEntry.TheVariants.{Object as Listed}
-use Rattle.s3_types.specs.declared.journal.Entry.{Entry}
-use Rattle.pending_json.specs.Pending.{Pending}
-use Rattle.pending_json.specs.declared.records.PendingSet.{PendingSet}
-use Rattle.job_model.specs.JobScript.{Script}
 use Rattle.job_model.specs.declared.events.Op.TheVariants.{Setup, Write, Commit}
-use Rattle.job_model.specs.declared.events.Event.TheVariants.{Do, Start, Step, Kill}
 use Rattle.job_model.specs.declared.ends.SetupEnd.TheVariants as setups
 use Rattle.job_model.specs.declared.ends.TaskEnd.TheVariants as tasks
 use Rattle.job_model.specs.declared.ends.OpEnd.TheVariants as ends
-use Rattle.job_model.specs.declared.ends.EventEnd.{EventEnd}
-use Rattle.job_model.specs.declared.ends.EventEnd.TheVariants.{Done, Ended}
 use Rattle.job_model.specs.declared.states.ActorStage.TheVariants as stage
-use Rattle.job_protocol.specs.View.{view, object_at}
-use Rattle.job_spec.specs.Follows.{OpFollows, op_over}
+use Rattle.job_protocol.specs.View.{object_at}
 use Rattle.job_spec.specs.Scope.{upload_at}
-use Rattle.job_spec.specs.Seen.{Seen, seen}
-use Rattle.job_spec.specs.States.{past, refusal, commit_event, verdict, dead}
-use Rattle.job_spec.specs.Turns.{Turns, of_event, by_actor}
 use Rattle.job_examples.specs.Jobs.{lake, job, attempt, worker}
 use Rattle.job_examples.specs.OneFile.{opening, setup_entries, doing as begun_so}
 use Rattle.job_examples.specs.RefusedEnds.{completes}

@@ -1,20 +1,7 @@
 -- The job that the runs are of, and entries of its journals.
 use Rattle.std.specs.Prelude.{ℕ, List, None, codes, false}
+use Rattle.job_spec.specs.Prelude.{Spelled, Actor, Attempt, Request, Reply, Outcome, Answered, Entry, Committer, Mode, File, Declared, Script, Event}
 use Rattle.std.specs.FinMap as fin
-use Rattle.s3_types.specs.Tags.{Spelled}
-use Rattle.s3_types.specs.declared.request.Actor.{Actor}
-use Rattle.s3_types.specs.declared.request.Actor.TheVariants.{Attempt}
-use Rattle.s3_types.specs.declared.request.Request.{Request}
-use Rattle.s3_types.specs.declared.reply.Reply.{Reply}
-use Rattle.s3_types.specs.declared.journal.Outcome.{Outcome}
-use Rattle.s3_types.specs.declared.journal.Outcome.TheVariants.{Answered}
-use Rattle.s3_types.specs.declared.journal.Entry.{Entry}
-use Rattle.s3_types.specs.declared.request.Committer.{Committer}
-use Rattle.s3_types.specs.declared.request.Mode.{Mode}
-use Rattle.job_model.specs.Files.{File}
-use Rattle.job_model.specs.Attempts.{Declared}
-use Rattle.job_model.specs.JobScript.{Script}
-use Rattle.job_model.specs.declared.events.Event.{Event}
 
 -- the bucket
 abbrev pub lake : List ℕ

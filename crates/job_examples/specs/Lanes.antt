@@ -1,23 +1,10 @@
 -- A job's commit that completes four uploads, in one lane and in two, and its revert.
 use Rattle.std.specs.Prelude.{◌≡◌, ℕ, List, [], ◌∷◌, Option, Some, None, codes}
-use Rattle.s3_types.specs.declared.request.Actor.TheVariants.{Driver}
-use Rattle.s3_types.specs.declared.request.Request.{Request}
-use Rattle.s3_types.specs.declared.request.Request.TheVariants.{CompleteUpload, DeleteObject, AbortUpload, PutObject}
-use Rattle.s3_types.specs.declared.reply.Reply.TheVariants.{Stored, Deleted, Completed, Aborted, Refused}
-use Rattle.s3_types.specs.declared.reply.Refusal.TheVariants.{NoSuchUpload}
-use Rattle.s3_types.specs.declared.journal.Outcome.{Outcome}
-use Rattle.s3_types.specs.declared.journal.Outcome.TheVariants.{Answered, Slow, ReplyLost}
-use Rattle.s3_types.specs.declared.request.Committer.TheVariants.{Magic}
-use Rattle.s3_types.specs.declared.request.Mode.TheVariants.{Append}
-use Rattle.pending_json.specs.Pending.{Pending}
-use Rattle.job_model.specs.JobScript.{Script}
+use Rattle.job_spec.specs.Prelude.{Driver, Request, CompleteUpload, DeleteObject, AbortUpload, PutObject, Stored, Deleted, Completed, Aborted, Refused, NoSuchUpload, Outcome, Answered, Slow, ReplyLost, Magic, Append, Script, nothing_known, Sets, replacing, picks_of, mark_text, TheCommit}
+use Rattle.job_protocol.specs.Prelude.{Pending}
 use Rattle.job_model.specs.declared.ends.CommitEnd.TheVariants as commits
 use Rattle.job_model.specs.declared.ends.Stage.TheVariants as stages
 use Rattle.job_model.specs.declared.ends.OpEnd.TheVariants as ends
-use Rattle.job_model.specs.Known.{nothing_known}
-use Rattle.job_protocol.specs.JobCommits.{Sets, replacing, picks_of}
-use Rattle.job_protocol.specs.Records.{mark_text}
-use Rattle.job_protocol.specs.Operations.{TheCommit}
 use Rattle.job_examples.specs.Jobs.{lake, job, attempt, hello_tag}
 use Rattle.job_examples.specs.Steps.{Course, course_of}
 

@@ -1,21 +1,10 @@
 -- Four files, the reply to the first completion lost, and a commit whose driver is killed after five sendings: in two lanes and in one.
 use Rattle.std.specs.Prelude.{◌≡◌, ℕ, true, false, List, [], ◌∷◌, ◌++◌, length, Some, None, codes}
+use Rattle.job_spec.specs.Prelude.{IsHonest, moment, After, Driver, Entry, Script, Start, Step, Kill, EventEnd, Done, Always, ZeroRename, OutsideStays, Seen, seen, past, dead, verdict}
 use Rattle.std.specs.FinMap as fin
-use Rattle.s3_types.specs.Moment.{IsHonest, moment}
-use Rattle.s3_types.specs.declared.fates.Fate.TheVariants.{After}
-use Rattle.s3_types.specs.declared.request.Actor.TheVariants.{Driver}
-use Rattle.s3_types.specs.declared.journal.Entry.{Entry}
-use Rattle.job_model.specs.JobScript.{Script}
 use Rattle.job_model.specs.declared.events.Op.TheVariants as ops
-use Rattle.job_model.specs.declared.events.Event.TheVariants.{Start, Step, Kill}
-use Rattle.job_model.specs.declared.ends.EventEnd.{EventEnd}
-use Rattle.job_model.specs.declared.ends.EventEnd.TheVariants.{Done}
 use Rattle.job_model.specs.declared.states.ActorStage.TheVariants as stage
 use Rattle.job_protocol.specs.View.{object_at}
-use Rattle.job_spec.specs.Headline.{Always}
-use Rattle.job_spec.specs.Entries.{ZeroRename, OutsideStays}
-use Rattle.job_spec.specs.Seen.{Seen, seen}
-use Rattle.job_spec.specs.States.{past, dead, verdict}
 use Rattle.job_examples.specs.Jobs.{lake}
 use Rattle.job_examples.specs.OneFile.{opening}
 use Rattle.job_examples.specs.FourFileLanes as files

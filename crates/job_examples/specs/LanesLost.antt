@@ -1,26 +1,11 @@
 -- Four files in two lanes: the reply to the first completion is lost, and the commit ends all the same.
 use Rattle.std.specs.Prelude.{◌≡◌, ℕ, true, false, List, [], ◌∷◌, ◌++◌, length, Option, Some, None, codes}
+use Rattle.job_spec.specs.Prelude.{IsHonest, moment, After, Object, Driver, Entry, first_worn, Script, Do, EventEnd, Ended, Always, ZeroRename, OutsideStays, commit_due, is_mark_answered, Seen, seen, verdict, by_actor, since}
 use Rattle.std.specs.FinMap as fin
-use Rattle.s3_types.specs.Moment.{IsHonest, moment}
-use Rattle.s3_types.specs.declared.fates.Fate.TheVariants.{After}
-use Rattle.s3_types.specs.declared.object.Object.{Object}
-use Rattle.s3_types.specs.declared.request.Actor.TheVariants.{Driver}
-use Rattle.s3_types.specs.declared.journal.Entry.{Entry}
-use Rattle.retries.specs.Worn.{first_worn}
-use Rattle.job_model.specs.JobScript.{Script}
 use Rattle.job_model.specs.declared.events.Op.TheVariants as ops
-use Rattle.job_model.specs.declared.events.Event.TheVariants.{Do}
 use Rattle.job_model.specs.declared.ends.CommitEnd.TheVariants as commits
 use Rattle.job_model.specs.declared.ends.OpEnd.TheVariants as ends
-use Rattle.job_model.specs.declared.ends.EventEnd.{EventEnd}
-use Rattle.job_model.specs.declared.ends.EventEnd.TheVariants.{Ended}
 use Rattle.job_protocol.specs.View.{object_at}
-use Rattle.job_spec.specs.Headline.{Always}
-use Rattle.job_spec.specs.Entries.{ZeroRename, OutsideStays}
-use Rattle.job_spec.specs.Ends.{commit_due, is_mark_answered}
-use Rattle.job_spec.specs.Seen.{Seen, seen}
-use Rattle.job_spec.specs.States.{verdict}
-use Rattle.job_spec.specs.Turns.{by_actor, since}
 use Rattle.job_examples.specs.Jobs.{lake}
 use Rattle.job_examples.specs.OneFile.{opening}
 use Rattle.job_examples.specs.FourFileLanes as files

@@ -1,30 +1,12 @@
 -- The run of one file in which both sendings of the last put lose their replies: the commit ends at fault, the file and the marker stand.
 use Rattle.std.specs.Prelude.{◌≡◌, List, [], ◌∷◌, ◌++◌, Some, None, codes}
+use Rattle.job_protocol.specs.Prelude.{compact_text, success_tree}
+use Rattle.job_spec.specs.Prelude.{IsHonest, After, Driver, PutObject, ReplyLost, Entry, first_worn, Script, EventEnd, Ended, Setting, Always, ZeroRename, OutsideStays, commit_due, OpFollows, op_over, seen, verdict, by_actor, since}
 use Rattle.std.specs.FinMap as fin
-use Rattle.serde_json.specs.Written.{compact_text}
-use Rattle.s3_types.specs.Moment.{IsHonest}
-use Rattle.s3_types.specs.declared.fates.Fate.TheVariants.{After}
-use Rattle.s3_types.specs.declared.request.Actor.TheVariants.{Driver}
-use Rattle.s3_types.specs.declared.request.Request.TheVariants.{PutObject}
-use Rattle.s3_types.specs.declared.journal.Outcome.TheVariants.{ReplyLost}
-use Rattle.s3_types.specs.declared.journal.Entry.{Entry}
-use Rattle.retries.specs.Worn.{first_worn}
-use Rattle.pending_json.specs.Trees.{success_tree}
-use Rattle.job_model.specs.JobScript.{Script}
 use Rattle.job_model.specs.declared.events.Op.TheVariants as ops
 use Rattle.job_model.specs.declared.ends.CommitEnd.TheVariants as commits
 use Rattle.job_model.specs.declared.ends.Stage.TheVariants as stages
 use Rattle.job_model.specs.declared.ends.OpEnd.TheVariants as ends
-use Rattle.job_model.specs.declared.ends.EventEnd.{EventEnd}
-use Rattle.job_model.specs.declared.ends.EventEnd.TheVariants.{Ended}
-use Rattle.job_protocol.specs.Operations.{Setting}
-use Rattle.job_spec.specs.Headline.{Always}
-use Rattle.job_spec.specs.Entries.{ZeroRename, OutsideStays}
-use Rattle.job_spec.specs.Ends.{commit_due}
-use Rattle.job_spec.specs.Follows.{OpFollows, op_over}
-use Rattle.job_spec.specs.Seen.{seen}
-use Rattle.job_spec.specs.States.{verdict}
-use Rattle.job_spec.specs.Turns.{by_actor, since}
 use Rattle.job_examples.specs.Jobs.{lake, entry}
 use Rattle.job_examples.specs.Refused.{before_commit}
 use Rattle.job_examples.specs.OneFile as one

@@ -1,32 +1,16 @@
 -- The run of one file in which both sendings of the set's put lose their replies: the task is not reported, and the job's commit misses it.
 use Rattle.std.specs.Prelude.{◌≡◌, ℕ, false, List, [], ◌∷◌, ◌++◌, length, Some, None, codes}
+use Rattle.job_protocol.specs.Prelude.{compact_text, set_tree}
+use Rattle.job_spec.specs.Prelude.{moment, After, Driver, Request, PutObject, ReplyLost, Entry, first_worn, Script, Abort, Do, EventEnd, Ended, view, commit_due, Seen, seen, commit_event, verdict, by_actor, since}
 use Rattle.std.specs.FinMap as fin
-use Rattle.serde_json.specs.Written.{compact_text}
-use Rattle.s3_types.specs.Moment.{moment}
-use Rattle.s3_types.specs.declared.fates.Fate.TheVariants.{After}
-use Rattle.s3_types.specs.declared.request.Actor.TheVariants.{Driver}
-use Rattle.s3_types.specs.declared.request.Request.{Request}
-use Rattle.s3_types.specs.declared.request.Request.TheVariants.{PutObject}
-use Rattle.s3_types.specs.declared.journal.Outcome.TheVariants.{ReplyLost}
 use Rattle.s3_types.specs.declared.reply.PageEntry.TheVariants.{Object as Listed}
-use Rattle.s3_types.specs.declared.journal.Entry.{Entry}
-use Rattle.retries.specs.Worn.{first_worn}
-use Rattle.pending_json.specs.Trees.{set_tree}
-use Rattle.job_model.specs.JobScript.{Script}
-use Rattle.job_model.specs.declared.events.Op.TheVariants.{Setup, Write, Commit, Abort}
-use Rattle.job_model.specs.declared.events.Event.TheVariants.{Do}
+use Rattle.job_model.specs.declared.events.Op.TheVariants.{Setup, Write, Commit}
 use Rattle.job_model.specs.declared.ends.SetupEnd.TheVariants as setups
 use Rattle.job_model.specs.declared.ends.TaskEnd.TheVariants as tasks
 use Rattle.job_model.specs.declared.ends.CommitEnd.TheVariants as commits
 use Rattle.job_model.specs.declared.ends.OpEnd.TheVariants as ends
-use Rattle.job_model.specs.declared.ends.EventEnd.{EventEnd}
-use Rattle.job_model.specs.declared.ends.EventEnd.TheVariants.{Ended}
-use Rattle.job_protocol.specs.View.{view, object_at}
-use Rattle.job_spec.specs.Ends.{commit_due}
+use Rattle.job_protocol.specs.View.{object_at}
 use Rattle.job_spec.specs.Scope.{upload_at}
-use Rattle.job_spec.specs.Seen.{Seen, seen}
-use Rattle.job_spec.specs.States.{commit_event, verdict}
-use Rattle.job_spec.specs.Turns.{by_actor, since}
 use Rattle.job_examples.specs.Jobs.{lake, worker, entry}
 use Rattle.job_examples.specs.OneFile as one
 use Rattle.job_examples.specs.OneFile.{opening, setup_entries, write_entries, the_record, the_set}

@@ -1,33 +1,15 @@
 -- What conflict modes and committers make of operations.
 use Rattle.std.specs.Prelude.{◌≡◌, ℕ, true, false, List, [], ◌∷◌, ◌++◌, Option, Some, None, codes}
-use Rattle.s3_types.specs.declared.request.Actor.TheVariants.{Driver}
-use Rattle.s3_types.specs.declared.request.Request.{Request}
-use Rattle.s3_types.specs.declared.request.Request.TheVariants.{HeadObject, PutObject, DeleteObject, DeleteObjects, ListPage, CreateUpload, UploadPart, CompleteUpload, AbortUpload, ListUploads, ClusterPut, ClusterGet, ClusterRename, ClusterDelete, ClusterList}
-use Rattle.s3_types.specs.declared.reply.Reply.{Reply}
-use Rattle.s3_types.specs.declared.reply.Reply.TheVariants.{Head, Stored, Deleted, Page, Upload, Part, Completed, Aborted, Uploads, ClusterDone, ClusterBytes, ClusterNames, Refused}
-use Rattle.s3_types.specs.declared.reply.Refusal.TheVariants.{NoSuchBucket, NoSuchKey, NoSuchUpload, NoSuchFile}
-use Rattle.s3_types.specs.declared.reply.PageEntry.{PageEntry}
+use Rattle.job_spec.specs.Prelude.{Driver, Request, HeadObject, PutObject, DeleteObject, DeleteObjects, ListPage, CreateUpload, UploadPart, CompleteUpload, AbortUpload, ListUploads, ClusterPut, ClusterGet, ClusterRename, ClusterDelete, ClusterList, Reply, Head, Stored, Deleted, Page, Part, Completed, Aborted, ClusterDone, ClusterNames, Refused, NoSuchBucket, NoSuchKey, NoSuchUpload, NoSuchFile, PageEntry, Outcome, Answered, Slow, ReplyLost, Committer, Magic, Directory, Partitioned, Mode, Fail, Append, Replace, File, Script, Abort, same_path, Known, nothing_known, Sets, decided, Setting, TheCommit, start_of}
+use Rattle.job_protocol.specs.Prelude.{ClusterBytes, Pending, PendingSet}
+use Rattle.s3_types.specs.declared.reply.Reply.TheVariants.{Upload, Uploads}
 use Rattle.s3_types.specs.declared.reply.PageEntry.TheVariants.{Object as Listed}
-use Rattle.s3_types.specs.declared.journal.Outcome.{Outcome}
-use Rattle.s3_types.specs.declared.journal.Outcome.TheVariants.{Answered, Slow, ReplyLost}
-use Rattle.s3_types.specs.declared.request.Committer.{Committer}
-use Rattle.s3_types.specs.declared.request.Committer.TheVariants.{Magic, Directory, Partitioned}
-use Rattle.s3_types.specs.declared.request.Mode.{Mode}
-use Rattle.s3_types.specs.declared.request.Mode.TheVariants.{Fail, Append, Replace}
-use Rattle.pending_json.specs.Pending.{Pending}
-use Rattle.pending_json.specs.declared.records.PendingSet.{PendingSet}
-use Rattle.job_model.specs.Files.{File}
-use Rattle.job_model.specs.JobScript.{Script}
-use Rattle.job_model.specs.declared.events.Op.TheVariants.{Setup, Write, Commit, Abort, Clean}
+use Rattle.job_model.specs.declared.events.Op.TheVariants.{Setup, Write, Commit, Clean}
 use Rattle.job_model.specs.declared.ends.SetupEnd.TheVariants as setups
 use Rattle.job_model.specs.declared.ends.TaskEnd.TheVariants as tasks
 use Rattle.job_model.specs.declared.ends.CleanEnd.TheVariants as cleans
 use Rattle.job_model.specs.declared.ends.CommitEnd.TheVariants as commits
 use Rattle.job_model.specs.declared.ends.OpEnd.TheVariants as ends
-use Rattle.job_protocol.specs.Outputs.{same_path}
-use Rattle.job_model.specs.Known.{Known, nothing_known}
-use Rattle.job_protocol.specs.JobCommits.{Sets, decided}
-use Rattle.job_protocol.specs.Operations.{Setting, TheCommit, start_of}
 use Rattle.job_examples.specs.Jobs.{lake, job, attempt, worker, hello_tag}
 use Rattle.job_examples.specs.Steps.{Course, course, course_of}
 

@@ -1,28 +1,15 @@
 -- The run of one task with two attempts whose driver is killed and restarted between them: the new driver knows no report of the first one, and that of the second counts.
 use Rattle.std.specs.Prelude.{◌≡◌, ℕ, false, List, [], ◌∷◌, ◌++◌, length, take, Some, None}
-use Rattle.serde_json.specs.Written.{compact_text}
-use Rattle.s3_types.specs.Moment.{moment}
-use Rattle.s3_types.specs.declared.request.Actor.TheVariants.{Driver}
-use Rattle.s3_types.specs.declared.journal.Entry.{Entry}
-use Rattle.retries.specs.Worn.{first_worn}
-use Rattle.pending_json.specs.Trees.{set_tree}
-use Rattle.job_model.specs.JobScript.{Script}
+use Rattle.job_protocol.specs.Prelude.{compact_text, set_tree}
+use Rattle.job_spec.specs.Prelude.{moment, Driver, Entry, first_worn, Script, Do, Kill, Restart, EventEnd, Done, Ended, view, commit_due, all_picks, Seen, seen, past, refusal, missing, idle, dead, commit_event, verdict, Turns, of_event, by_actor, since}
 use Rattle.job_model.specs.declared.events.Op.TheVariants.{Setup, Write, Commit, Clean}
-use Rattle.job_model.specs.declared.events.Event.TheVariants.{Do, Kill, Restart}
 use Rattle.job_model.specs.declared.ends.SetupEnd.TheVariants as setups
 use Rattle.job_model.specs.declared.ends.TaskEnd.TheVariants as tasks
 use Rattle.job_model.specs.declared.ends.CommitEnd.TheVariants as commits
 use Rattle.job_model.specs.declared.ends.CleanEnd.TheVariants as cleans
 use Rattle.job_model.specs.declared.ends.OpEnd.TheVariants as ends
-use Rattle.job_model.specs.declared.ends.EventEnd.{EventEnd}
-use Rattle.job_model.specs.declared.ends.EventEnd.TheVariants.{Done, Ended}
 use Rattle.job_model.specs.declared.states.ActorStage.TheVariants as stage
-use Rattle.job_protocol.specs.View.{view, object_at}
-use Rattle.job_spec.specs.Ends.{commit_due}
-use Rattle.job_spec.specs.Promise.{all_picks}
-use Rattle.job_spec.specs.Seen.{Seen, seen}
-use Rattle.job_spec.specs.States.{past, refusal, missing, idle, dead, commit_event, verdict}
-use Rattle.job_spec.specs.Turns.{Turns, of_event, by_actor, since}
+use Rattle.job_protocol.specs.View.{object_at}
 use Rattle.job_examples.specs.Jobs.{lake, worker}
 use Rattle.job_examples.specs.OneFile.{opening}
 use Rattle.job_examples.specs.Runs.{Goes, Keeps}

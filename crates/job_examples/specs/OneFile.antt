@@ -1,40 +1,16 @@
 -- A job of one attempt with one file, from its set-up to its commit.
 use Rattle.std.specs.Prelude.{◌≡◌, ℕ, true, false, List, [], ◌∷◌, ◌++◌, Option, Some, None, codes}
-use Rattle.serde_json.specs.Written.{compact_text}
+use Rattle.job_protocol.specs.Prelude.{compact_text, Pending, pending_tree, set_tree, success_tree, PendingSet, SuccessMark}
+use Rattle.job_spec.specs.Prelude.{Actor, Driver, PutObject, GetObject, HeadObject, DeleteObject, ListPage, CreateUpload, UploadPart, CompleteUpload, Stored, Deleted, Page, Part, Completed, Refused, NoSuchKey, Magic, Append, Entry, Script, Op, Do, OpEnd, Setting, wanted_at, is_decided, keeps_of, Seen, seen, commit_due, in_eyes, Content, new_bucket, Doing, until, by_actor, OpFollows, op_over}
 use Rattle.s3_types.specs.Tags.{plain_tag, joined_tag}
-use Rattle.s3_types.specs.declared.request.Actor.{Actor}
-use Rattle.s3_types.specs.declared.request.Actor.TheVariants.{Driver}
-use Rattle.s3_types.specs.declared.request.Request.TheVariants.{PutObject, GetObject, HeadObject, DeleteObject, ListPage, CreateUpload, UploadPart, CompleteUpload}
-use Rattle.s3_types.specs.declared.reply.Reply.TheVariants.{Stored, Object, Deleted, Page, Upload, Part, Completed, Refused}
-use Rattle.s3_types.specs.declared.reply.Refusal.TheVariants.{NoSuchKey}
+use Rattle.s3_types.specs.declared.reply.Reply.TheVariants.{Object, Upload}
 use Rattle.s3_types.specs.declared.reply.PageEntry.TheVariants.{Object as Listed}
-use Rattle.s3_types.specs.declared.request.Committer.TheVariants.{Magic}
-use Rattle.s3_types.specs.declared.request.Mode.TheVariants.{Append}
-use Rattle.s3_types.specs.declared.journal.Entry.{Entry}
-use Rattle.pending_json.specs.Pending.{Pending}
-use Rattle.pending_json.specs.Trees.{pending_tree, set_tree, success_tree}
-use Rattle.pending_json.specs.declared.records.PendingSet.{PendingSet}
-use Rattle.pending_json.specs.declared.records.SuccessMark.{SuccessMark}
-use Rattle.job_model.specs.JobScript.{Script}
-use Rattle.job_model.specs.declared.events.Op.{Op}
 use Rattle.job_model.specs.declared.events.Op.TheVariants.{Setup, Write, Commit}
-use Rattle.job_model.specs.declared.events.Event.TheVariants.{Do}
 use Rattle.job_model.specs.declared.ends.SetupEnd.TheVariants as setups
 use Rattle.job_model.specs.declared.ends.TaskEnd.TheVariants as tasks
 use Rattle.job_model.specs.declared.ends.CommitEnd.TheVariants as commits
-use Rattle.job_model.specs.declared.ends.OpEnd.{OpEnd}
 use Rattle.job_model.specs.declared.ends.OpEnd.TheVariants as ends
-use Rattle.job_protocol.specs.Operations.{Setting}
-use Rattle.job_protocol.specs.Outputs.{wanted_at, is_decided}
-use Rattle.job_protocol.specs.Conflicts.{keeps_of}
-use Rattle.job_spec.specs.Seen.{Seen, seen}
-use Rattle.job_spec.specs.Ends.{commit_due}
-use Rattle.job_spec.specs.Eyes.{in_eyes}
-use Rattle.s3_types.specs.Store.{Content, new_bucket}
 use Rattle.std.specs.FinMap as fin
-use Rattle.job_spec.specs.States.{Doing}
-use Rattle.job_spec.specs.Turns.{until, by_actor}
-use Rattle.job_spec.specs.Follows.{OpFollows, op_over}
 use Rattle.job_examples.specs.Jobs.{lake, job, attempt, worker, said, hello_tag}
 
 -- the job's script

@@ -1,20 +1,11 @@
 -- Journals that a job's promise refuses, each by the part of it that is named.
 use Rattle.std.specs.Prelude.{ℕ, List, [], ◌∷◌, ◌++◌, Some, None, codes}
+use Rattle.job_spec.specs.Prelude.{Content, Driver, PutObject, DeleteObject, Stored, Deleted, Entry, Pick, EventEnd, Ended, Always, Promised}
 use Rattle.std.specs.FinMap as fin
-use Rattle.s3_types.specs.Store.{Content}
 use Rattle.s3_types.specs.Tags.{plain_tag}
-use Rattle.s3_types.specs.declared.request.Actor.TheVariants.{Driver}
-use Rattle.s3_types.specs.declared.request.Request.TheVariants.{PutObject, DeleteObject}
-use Rattle.s3_types.specs.declared.reply.Reply.TheVariants.{Stored, Deleted}
-use Rattle.s3_types.specs.declared.journal.Entry.{Entry}
-use Rattle.job_model.specs.declared.ends.Pick.{Pick}
 use Rattle.job_model.specs.declared.ends.SetupEnd.TheVariants as setups
 use Rattle.job_model.specs.declared.ends.TaskEnd.TheVariants as tasks
 use Rattle.job_model.specs.declared.ends.OpEnd.TheVariants as ends
-use Rattle.job_model.specs.declared.ends.EventEnd.{EventEnd}
-use Rattle.job_model.specs.declared.ends.EventEnd.TheVariants.{Ended}
-use Rattle.job_spec.specs.Headline.{Always}
-use Rattle.job_spec.specs.Promise.{Promised}
 use Rattle.job_examples.specs.Jobs.{lake, said}
 use Rattle.job_examples.specs.OneFile.{script, opening, setup_entries, write_entries, attempt_entries, the_read, the_completion, the_marking}
 

@@ -1,33 +1,16 @@
 -- Ends that are not those that are due, and a run that shows two attempts of one task.
 use Rattle.std.specs.Prelude.{ℕ, List, [], ◌∷◌, ◌++◌, Some, None, codes}
-use Rattle.serde_json.specs.Written.{compact_text}
+use Rattle.job_protocol.specs.Prelude.{compact_text, Pending, set_tree, success_tree, PendingSet, SuccessMark}
+use Rattle.job_spec.specs.Prelude.{Actor, Driver, Attempt, PutObject, GetObject, CreateUpload, UploadPart, CompleteUpload, AbortUpload, DeleteObject, Stored, Deleted, Part, Completed, Aborted, Magic, Append, ReplyLost, Entry, Script, Do, Kill, Restart, EventEnd, Done, Ended, Plays, Always, CommitsEnd}
 use Rattle.s3_types.specs.Tags.{plain_tag, joined_tag}
-use Rattle.s3_types.specs.declared.request.Actor.{Actor}
-use Rattle.s3_types.specs.declared.request.Actor.TheVariants.{Driver, Attempt}
-use Rattle.s3_types.specs.declared.request.Request.TheVariants.{PutObject, GetObject, CreateUpload, UploadPart, CompleteUpload, AbortUpload, DeleteObject}
-use Rattle.s3_types.specs.declared.reply.Reply.TheVariants.{Stored, Object, Deleted, Upload, Part, Completed, Aborted}
-use Rattle.s3_types.specs.declared.request.Committer.TheVariants.{Magic}
-use Rattle.s3_types.specs.declared.request.Mode.TheVariants.{Append}
-use Rattle.s3_types.specs.declared.journal.Outcome.TheVariants.{ReplyLost}
-use Rattle.s3_types.specs.declared.journal.Entry.{Entry}
-use Rattle.pending_json.specs.Pending.{Pending}
-use Rattle.pending_json.specs.Trees.{set_tree, success_tree}
-use Rattle.pending_json.specs.declared.records.PendingSet.{PendingSet}
-use Rattle.pending_json.specs.declared.records.SuccessMark.{SuccessMark}
-use Rattle.job_model.specs.JobScript.{Script}
+use Rattle.s3_types.specs.declared.reply.Reply.TheVariants.{Object, Upload}
 use Rattle.job_model.specs.declared.events.Op.TheVariants as ops
-use Rattle.job_model.specs.declared.events.Event.TheVariants.{Do, Kill, Restart}
 use Rattle.job_model.specs.declared.ends.SetupEnd.TheVariants as setups
 use Rattle.job_model.specs.declared.ends.TaskEnd.TheVariants as tasks
 use Rattle.job_model.specs.declared.ends.CommitEnd.TheVariants as commits
 use Rattle.job_model.specs.declared.ends.CleanEnd.TheVariants as cleans
 use Rattle.job_model.specs.declared.ends.Stage.TheVariants as stages
 use Rattle.job_model.specs.declared.ends.OpEnd.TheVariants as ends
-use Rattle.job_model.specs.declared.ends.EventEnd.{EventEnd}
-use Rattle.job_model.specs.declared.ends.EventEnd.TheVariants.{Done, Ended}
-use Rattle.job_spec.specs.Follows.{Plays}
-use Rattle.job_spec.specs.Headline.{Always}
-use Rattle.job_spec.specs.Promise.{CommitsEnd}
 use Rattle.job_examples.specs.Jobs.{lake, job, attempt, worker, entry, said, hello_tag}
 use Rattle.job_examples.specs.OneFile.{opening, journal, setting, attempt_entries}
 use Rattle.job_examples.specs.OneFinished.{the_ends}

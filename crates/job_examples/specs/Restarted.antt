@@ -1,30 +1,17 @@
 -- Four files, and a driver that is killed in its commit after two whole files and restarted: its abort leaves these two and no live upload.
 use Rattle.std.specs.Prelude.{◌≡◌, ℕ, true, false, List, [], ◌∷◌, ◌++◌, length, Some, None, codes}
+use Rattle.job_spec.specs.Prelude.{lookup, text_eq, Object, IsHonest, moment, Driver, AbortUpload, DeleteObjects, ListPage, ListUploads, Deleted, Aborted, Page, Entry, Script, Do, Start, Step, Kill, Restart, Recover, EventEnd, Done, Ended, Always, ZeroRename, OutsideStays, Seen, seen, past, refusal, idle, commit_event, verdict}
 use Rattle.std.specs.FinMap as fin
-use Rattle.std.specs.Map.{lookup}
-use Rattle.proof_base.specs.Order.{text_eq}
-use Rattle.s3_types.specs.declared.object.Object.{Object}
-use Rattle.s3_types.specs.Moment.{IsHonest, moment}
-use Rattle.s3_types.specs.declared.request.Actor.TheVariants.{Driver}
-use Rattle.s3_types.specs.declared.request.Request.TheVariants.{AbortUpload, DeleteObjects, ListPage, ListUploads}
-use Rattle.s3_types.specs.declared.reply.Reply.TheVariants.{Deleted, Aborted, Page, Uploads}
+use Rattle.s3_types.specs.declared.reply.Reply.TheVariants.{Uploads}
 use Rattle.s3_types.specs.declared.reply.PageEntry.TheVariants.{Object as Listed}
-use Rattle.s3_types.specs.declared.journal.Entry.{Entry}
-use Rattle.job_model.specs.JobScript.{Script}
 use Rattle.job_model.specs.declared.events.Op.TheVariants as ops
-use Rattle.job_model.specs.declared.events.Event.TheVariants.{Do, Start, Step, Kill, Restart, Recover}
 use Rattle.job_model.specs.declared.ends.CleanEnd.TheVariants as cleans
 use Rattle.job_model.specs.declared.ends.OpEnd.TheVariants as ends
-use Rattle.job_model.specs.declared.ends.EventEnd.{EventEnd}
-use Rattle.job_model.specs.declared.ends.EventEnd.TheVariants.{Done, Ended, Refused}
+use Rattle.job_model.specs.declared.ends.EventEnd.TheVariants.{Refused}
 use Rattle.job_model.specs.declared.ends.EventFault.TheVariants as faults
 use Rattle.job_model.specs.declared.states.ActorStage.TheVariants as stage
 use Rattle.job_protocol.specs.View.{object_at}
-use Rattle.job_spec.specs.Headline.{Always}
-use Rattle.job_spec.specs.Entries.{ZeroRename, OutsideStays}
 use Rattle.job_spec.specs.Scope.{upload_at}
-use Rattle.job_spec.specs.Seen.{Seen, seen}
-use Rattle.job_spec.specs.States.{past, refusal, idle, commit_event, verdict}
 use Rattle.job_examples.specs.Jobs.{lake, worker, said}
 use Rattle.job_examples.specs.OneFile.{opening}
 use Rattle.job_examples.specs.FourFiles.{set_key}

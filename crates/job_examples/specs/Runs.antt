@@ -1,31 +1,11 @@
 -- What attempts and the driver of a job send for files of five bytes, and what whole runs of them keep.
 use Rattle.std.specs.Prelude.{◌≡◌, ℕ, ◌-◌, false, List, [], ◌∷◌, ◌++◌, take, slice_get, Option, Some, None, codes}
+use Rattle.job_protocol.specs.Prelude.{compact_text, Pending, pending_tree, set_tree, PendingSet}
+use Rattle.job_spec.specs.Prelude.{Content, Spelled, Actor, Driver, PutObject, GetObject, ListPage, CreateUpload, UploadPart, Stored, Page, Part, PageEntry, Entry, Script, Op, Do, OpEnd, EventEnd, Ended, Setting, Always, ZeroRename, OutsideStays, Sent, OpFollows, op_over, past, refusal, until, of_event, by_actor, AllBy}
 use Rattle.std.specs.FinMap as fin
-use Rattle.serde_json.specs.Written.{compact_text}
-use Rattle.s3_types.specs.Store.{Content, Upload as Live}
-use Rattle.s3_types.specs.Tags.{Spelled, plain_tag}
-use Rattle.s3_types.specs.declared.request.Actor.{Actor}
-use Rattle.s3_types.specs.declared.request.Actor.TheVariants.{Driver}
-use Rattle.s3_types.specs.declared.request.Request.TheVariants.{PutObject, GetObject, ListPage, CreateUpload, UploadPart}
-use Rattle.s3_types.specs.declared.reply.Reply.TheVariants.{Stored, Object, Page, Upload, Part}
-use Rattle.s3_types.specs.declared.reply.PageEntry.{PageEntry}
-use Rattle.s3_types.specs.declared.journal.Entry.{Entry}
-use Rattle.pending_json.specs.Pending.{Pending}
-use Rattle.pending_json.specs.Trees.{pending_tree, set_tree}
-use Rattle.pending_json.specs.declared.records.PendingSet.{PendingSet}
-use Rattle.job_model.specs.JobScript.{Script}
-use Rattle.job_model.specs.declared.events.Op.{Op}
-use Rattle.job_model.specs.declared.events.Event.TheVariants.{Do}
-use Rattle.job_model.specs.declared.ends.OpEnd.{OpEnd}
-use Rattle.job_model.specs.declared.ends.EventEnd.{EventEnd}
-use Rattle.job_model.specs.declared.ends.EventEnd.TheVariants.{Ended}
-use Rattle.job_protocol.specs.Operations.{Setting}
-use Rattle.job_spec.specs.Headline.{Always}
-use Rattle.job_spec.specs.Entries.{ZeroRename, OutsideStays}
-use Rattle.job_spec.specs.Promise.{Sent}
-use Rattle.job_spec.specs.Follows.{OpFollows, op_over}
-use Rattle.job_spec.specs.States.{past, refusal}
-use Rattle.job_spec.specs.Turns.{until, of_event, by_actor, AllBy}
+use Rattle.s3_types.specs.Store.{Upload as Live}
+use Rattle.s3_types.specs.Tags.{plain_tag}
+use Rattle.s3_types.specs.declared.reply.Reply.TheVariants.{Object, Upload}
 use Rattle.job_examples.specs.Jobs.{lake, said, hello_tag}
 use Rattle.job_examples.specs.OneFile.{doing as begun_so}
 

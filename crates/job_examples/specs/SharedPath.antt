@@ -1,30 +1,14 @@
 -- The run of two tasks that both write the file `p`: the job's commit finds that they share it, and shows nothing.
 use Rattle.std.specs.Prelude.{◌≡◌, ℕ, List, [], ◌∷◌, ◌++◌, length, true, false, Some, None, codes}
-use Rattle.s3_types.specs.Moment.{moment}
-use Rattle.s3_types.specs.declared.request.Actor.{Actor}
-use Rattle.s3_types.specs.declared.request.Actor.TheVariants.{Driver, Attempt}
-use Rattle.s3_types.specs.declared.request.Committer.TheVariants.{Magic}
-use Rattle.s3_types.specs.declared.request.Mode.TheVariants.{Append}
+use Rattle.job_spec.specs.Prelude.{moment, Actor, Driver, Attempt, Magic, Append, Entry, first_worn, Script, Do, EventEnd, Ended, view, commit_due, Seen, seen, commit_event, verdict, by_actor, since}
+use Rattle.job_protocol.specs.Prelude.{Pending, PendingSet}
 use Rattle.s3_types.specs.declared.reply.PageEntry.TheVariants.{Object as Listed}
-use Rattle.s3_types.specs.declared.journal.Entry.{Entry}
-use Rattle.retries.specs.Worn.{first_worn}
-use Rattle.pending_json.specs.Pending.{Pending}
-use Rattle.pending_json.specs.declared.records.PendingSet.{PendingSet}
-use Rattle.job_model.specs.JobScript.{Script}
 use Rattle.job_model.specs.declared.events.Op.TheVariants.{Setup, Write, Commit}
-use Rattle.job_model.specs.declared.events.Event.TheVariants.{Do}
 use Rattle.job_model.specs.declared.ends.SetupEnd.TheVariants as setups
 use Rattle.job_model.specs.declared.ends.TaskEnd.TheVariants as tasks
 use Rattle.job_model.specs.declared.ends.CommitEnd.TheVariants as commits
 use Rattle.job_model.specs.declared.ends.OpEnd.TheVariants as ends
-use Rattle.job_model.specs.declared.ends.EventEnd.{EventEnd}
-use Rattle.job_model.specs.declared.ends.EventEnd.TheVariants.{Ended}
-use Rattle.job_protocol.specs.View.{view}
-use Rattle.job_spec.specs.Ends.{commit_due}
 use Rattle.job_spec.specs.Scope.{upload_at}
-use Rattle.job_spec.specs.Seen.{Seen, seen}
-use Rattle.job_spec.specs.States.{commit_event, verdict}
-use Rattle.job_spec.specs.Turns.{by_actor, since}
 use Rattle.job_examples.specs.Jobs.{lake, job, attempt, worker}
 use Rattle.job_examples.specs.OneFile.{opening, setup_entries}
 use Rattle.job_examples.specs.Runs.{hello, upload, set_of, held, writes, lists, reads_record, puts_set, reads_set, Goes, Keeps}

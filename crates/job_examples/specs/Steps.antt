@@ -1,11 +1,6 @@
 -- What an operation asks for and comes to, over outcomes that are given.
 use Rattle.std.specs.Prelude.{List, [], ◌∷◌, Option, Some, None}
-use Rattle.s3_types.specs.declared.request.Actor.{Actor}
-use Rattle.s3_types.specs.declared.request.Request.{Request}
-use Rattle.s3_types.specs.declared.journal.Outcome.{Outcome}
-use Rattle.job_model.specs.declared.ends.OpEnd.{OpEnd}
-use Rattle.job_model.specs.Known.{Known}
-use Rattle.job_protocol.specs.Operations.{Setting, Operation, Running, wants, advance, over}
+use Rattle.job_spec.specs.Prelude.{Actor, Request, Outcome, OpEnd, Known, Setting, Operation, Running, wants, advance, over}
 
 -- the requests that were asked, one for each outcome
 abbrev pub asked : Setting → Actor → Running → List Outcome → List (Option Request)

@@ -1,33 +1,13 @@
 -- The run of a staging attempt whose partition has a file already, in the mode fail: its task's commit finds the conflict, and nothing changes.
 use Rattle.std.specs.Prelude.{◌≡◌, ℕ, false, List, [], ◌∷◌, length, Some, None, codes}
+use Rattle.job_spec.specs.Prelude.{moment, Content, Object, Driver, HeadObject, DeleteObject, ListPage, Deleted, Page, Refused, NoSuchKey, Partitioned, Fail, Entry, first_worn, Script, Abort, Do, EventEnd, Ended, view, commit_due, Same, Seen, seen, commit_event, verdict, by_actor, since}
 use Rattle.std.specs.FinMap as fin
-use Rattle.s3_types.specs.Moment.{moment}
-use Rattle.s3_types.specs.Store.{Content}
-use Rattle.s3_types.specs.declared.object.Object.{Object}
-use Rattle.s3_types.specs.declared.request.Actor.TheVariants.{Driver}
-use Rattle.s3_types.specs.declared.request.Request.TheVariants.{HeadObject, DeleteObject, ListPage}
-use Rattle.s3_types.specs.declared.reply.Reply.TheVariants.{Deleted, Page, Refused}
-use Rattle.s3_types.specs.declared.reply.Refusal.TheVariants.{NoSuchKey}
 use Rattle.s3_types.specs.declared.reply.PageEntry.TheVariants.{Object as Listed}
-use Rattle.s3_types.specs.declared.request.Committer.TheVariants.{Partitioned}
-use Rattle.s3_types.specs.declared.request.Mode.TheVariants.{Fail}
-use Rattle.s3_types.specs.declared.journal.Entry.{Entry}
-use Rattle.retries.specs.Worn.{first_worn}
-use Rattle.job_model.specs.JobScript.{Script}
-use Rattle.job_model.specs.declared.events.Op.TheVariants.{Setup, Write, Commit, Abort}
-use Rattle.job_model.specs.declared.events.Event.TheVariants.{Do}
+use Rattle.job_model.specs.declared.events.Op.TheVariants.{Setup, Write, Commit}
 use Rattle.job_model.specs.declared.ends.SetupEnd.TheVariants as setups
 use Rattle.job_model.specs.declared.ends.TaskEnd.TheVariants as tasks
 use Rattle.job_model.specs.declared.ends.CommitEnd.TheVariants as commits
 use Rattle.job_model.specs.declared.ends.OpEnd.TheVariants as ends
-use Rattle.job_model.specs.declared.ends.EventEnd.{EventEnd}
-use Rattle.job_model.specs.declared.ends.EventEnd.TheVariants.{Ended}
-use Rattle.job_protocol.specs.View.{view}
-use Rattle.job_spec.specs.Ends.{commit_due}
-use Rattle.job_spec.specs.Headline.{Same}
-use Rattle.job_spec.specs.Seen.{Seen, seen}
-use Rattle.job_spec.specs.States.{commit_event, verdict}
-use Rattle.job_spec.specs.Turns.{by_actor, since}
 use Rattle.job_examples.specs.Jobs.{lake, job, attempt, worker, said}
 use Rattle.job_examples.specs.Runs.{Goes, Keeps}
 

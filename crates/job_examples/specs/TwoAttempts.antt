@@ -1,40 +1,17 @@
 -- The run of one task with two attempts that commit one after the other: the job's commit picks and shows the later one, and a clean leaves nothing behind.
 use Rattle.std.specs.Prelude.{◌≡◌, ℕ, true, false, List, [], ◌∷◌, ◌++◌, length, Some, None, codes}
-use Rattle.serde_json.specs.Written.{compact_text}
-use Rattle.s3_types.specs.Moment.{moment}
+use Rattle.job_protocol.specs.Prelude.{compact_text, Pending, success_tree, PendingSet, SuccessMark}
+use Rattle.job_spec.specs.Prelude.{moment, Actor, Driver, Attempt, DeleteObjects, CompleteUpload, AbortUpload, ListUploads, Deleted, Completed, Aborted, Magic, Append, Entry, first_worn, Script, Event, Do, Pick, EventEnd, Ended, view, commit_due, all_picks, NothingLeft, seen, commit_event, verdict, by_actor, since, until}
 use Rattle.s3_types.specs.Tags.{joined_tag}
-use Rattle.s3_types.specs.declared.request.Actor.{Actor}
-use Rattle.s3_types.specs.declared.request.Actor.TheVariants.{Driver, Attempt}
-use Rattle.s3_types.specs.declared.request.Request.TheVariants.{DeleteObjects, CompleteUpload, AbortUpload, ListUploads}
-use Rattle.s3_types.specs.declared.reply.Reply.TheVariants.{Deleted, Completed, Aborted, Uploads}
-use Rattle.s3_types.specs.declared.request.Committer.TheVariants.{Magic}
-use Rattle.s3_types.specs.declared.request.Mode.TheVariants.{Append}
+use Rattle.s3_types.specs.declared.reply.Reply.TheVariants.{Uploads}
 use Rattle.s3_types.specs.declared.reply.PageEntry.TheVariants.{Object as Listed}
-use Rattle.s3_types.specs.declared.journal.Entry.{Entry}
-use Rattle.retries.specs.Worn.{first_worn}
-use Rattle.pending_json.specs.Pending.{Pending}
-use Rattle.pending_json.specs.Trees.{success_tree}
-use Rattle.pending_json.specs.declared.records.PendingSet.{PendingSet}
-use Rattle.pending_json.specs.declared.records.SuccessMark.{SuccessMark}
-use Rattle.job_model.specs.JobScript.{Script}
 use Rattle.job_model.specs.declared.events.Op.TheVariants.{Setup, Write, Commit, Clean}
-use Rattle.job_model.specs.declared.events.Event.{Event}
-use Rattle.job_model.specs.declared.events.Event.TheVariants.{Do}
-use Rattle.job_model.specs.declared.ends.Pick.{Pick}
 use Rattle.job_model.specs.declared.ends.SetupEnd.TheVariants as setups
 use Rattle.job_model.specs.declared.ends.TaskEnd.TheVariants as tasks
 use Rattle.job_model.specs.declared.ends.CommitEnd.TheVariants as commits
 use Rattle.job_model.specs.declared.ends.CleanEnd.TheVariants as cleans
 use Rattle.job_model.specs.declared.ends.OpEnd.TheVariants as ends
-use Rattle.job_model.specs.declared.ends.EventEnd.{EventEnd}
-use Rattle.job_model.specs.declared.ends.EventEnd.TheVariants.{Ended}
-use Rattle.job_protocol.specs.View.{view, object_at}
-use Rattle.job_spec.specs.Ends.{commit_due}
-use Rattle.job_spec.specs.Promise.{all_picks}
-use Rattle.job_spec.specs.Scope.{NothingLeft}
-use Rattle.job_spec.specs.Seen.{seen}
-use Rattle.job_spec.specs.States.{commit_event, verdict}
-use Rattle.job_spec.specs.Turns.{by_actor, since, until}
+use Rattle.job_protocol.specs.View.{object_at}
 use Rattle.job_examples.specs.Jobs.{lake, job, attempt, worker, said}
 use Rattle.job_examples.specs.OneFile.{opening, setup_entries}
 use Rattle.job_examples.specs.Runs.{Text, hello, upload, set_of, writes, lists, reads_record, puts, puts_set, reads_set, Goes, Keeps}

@@ -1,38 +1,15 @@
 -- Two jobs at one destination, one file each, in one journal: what each of them sees.
 use Rattle.std.specs.Prelude.{◌≡◌, ℕ, ◌+◌, ◌||◌, not, nat_le, Bool, true, false, List, [], ◌∷◌, ◌++◌, length, Option, Some, None, codes}
-use Rattle.serde_json.specs.Written.{compact_text}
+use Rattle.job_protocol.specs.Prelude.{compact_text, set_tree, success_tree, PendingSet, SuccessMark}
+use Rattle.job_spec.specs.Prelude.{IsHonest, moment, Object, Driver, PutObject, GetObject, HeadObject, DeleteObject, DeleteObjects, ListPage, CreateUpload, UploadPart, CompleteUpload, AbortUpload, Stored, Deleted, Page, Part, Completed, Refused, NoSuchKey, NoSuchUpload, Magic, Append, Entry, first_worn, Script, Event, Do, EventEnd, Ended, ZeroRename, commit_due, in_eyes, OpFollows, Seen, seen, verdict, until, since, by_actor}
 use Rattle.s3_types.specs.Tags.{plain_tag, joined_tag}
-use Rattle.s3_types.specs.Moment.{IsHonest, moment}
-use Rattle.s3_types.specs.declared.object.Object.{Object}
-use Rattle.s3_types.specs.declared.request.Actor.TheVariants.{Driver}
-use Rattle.s3_types.specs.declared.request.Request.TheVariants.{PutObject, GetObject, HeadObject, DeleteObject, DeleteObjects, ListPage, CreateUpload, UploadPart, CompleteUpload, AbortUpload}
-use Rattle.s3_types.specs.declared.reply.Reply.TheVariants.{Stored, Object as Read, Deleted, Page, Upload, Part, Completed, Refused}
-use Rattle.s3_types.specs.declared.reply.Refusal.TheVariants.{NoSuchKey, NoSuchUpload}
+use Rattle.s3_types.specs.declared.reply.Reply.TheVariants.{Object as Read, Upload}
 use Rattle.s3_types.specs.declared.reply.PageEntry.TheVariants.{Object as Listed}
-use Rattle.s3_types.specs.declared.request.Committer.TheVariants.{Magic}
-use Rattle.s3_types.specs.declared.request.Mode.TheVariants.{Append}
-use Rattle.s3_types.specs.declared.journal.Entry.{Entry}
-use Rattle.retries.specs.Worn.{first_worn}
-use Rattle.pending_json.specs.Trees.{set_tree, success_tree}
-use Rattle.pending_json.specs.declared.records.PendingSet.{PendingSet}
-use Rattle.pending_json.specs.declared.records.SuccessMark.{SuccessMark}
-use Rattle.job_model.specs.JobScript.{Script}
 use Rattle.job_model.specs.declared.events.Op.TheVariants as ops
-use Rattle.job_model.specs.declared.events.Event.{Event}
-use Rattle.job_model.specs.declared.events.Event.TheVariants.{Do}
 use Rattle.job_model.specs.declared.ends.CommitEnd.TheVariants as commits
 use Rattle.job_model.specs.declared.ends.CleanEnd.TheVariants as cleans
 use Rattle.job_model.specs.declared.ends.OpEnd.TheVariants as ends
-use Rattle.job_model.specs.declared.ends.EventEnd.{EventEnd}
-use Rattle.job_model.specs.declared.ends.EventEnd.TheVariants.{Ended}
 use Rattle.job_protocol.specs.View.{object_at}
-use Rattle.job_spec.specs.Entries.{ZeroRename}
-use Rattle.job_spec.specs.Ends.{commit_due}
-use Rattle.job_spec.specs.Eyes.{in_eyes}
-use Rattle.job_spec.specs.Follows.{OpFollows}
-use Rattle.job_spec.specs.Seen.{Seen, seen}
-use Rattle.job_spec.specs.States.{verdict}
-use Rattle.job_spec.specs.Turns.{until, since, by_actor}
 use Rattle.job_examples.specs.Jobs.{lake, job, attempt, worker, said, hello_tag}
 use Rattle.job_examples.specs.OneFile.{opening, doing}
 use Rattle.job_examples.specs.Runs.{setting}

@@ -1,35 +1,13 @@
 -- An attempt's abort of its task keeps the facts with each of its requests, whatever becomes of it, and goes on as it should.
 use Rattle.std.proofs.Common.{◌≡◌, ℕ, zero, suc, inl, inr, nat_lt, Bool, true, false, List, [], ◌∷◌, ◌++◌, take, drop, length, Option, Some, refl, sym, subst, ◌∙◌}
-use Rattle.std.specs.List.{filter}
-use Rattle.s3_types.specs.Pages.{listed}
-use Rattle.s3_types.specs.Answer.{answer}
-use Rattle.s3_types.specs.Moment.{IsHonestOutcome}
-use Rattle.s3_types.specs.declared.request.Request.{Request}
-use Rattle.s3_types.specs.declared.request.Committer.{Committer}
-use Rattle.s3_types.specs.declared.request.Committer.TheVariants.{Magic}
-use Rattle.s3_types.specs.declared.reply.Reply.{Reply}
-use Rattle.s3_types.specs.declared.reply.Reply.TheVariants.{Page}
-use Rattle.s3_types.specs.declared.reply.PageEntry.{PageEntry}
-use Rattle.s3_types.specs.declared.journal.Outcome.{Outcome}
-use Rattle.s3_types.specs.declared.journal.Outcome.TheVariants.{Answered}
-use Rattle.retries.specs.Retries.{Retried, step}
-use Rattle.job_model.specs.Attempts.{Who}
-use Rattle.job_model.specs.Legal.{IsLegal}
-use Rattle.job_model.specs.JobScript.{Script}
-use Rattle.job_model.specs.declared.ends.TaskEnd.{TaskEnd}
+use Rattle.job_facts.specs.Prelude.{filter, listed, answer, IsHonestOutcome, Request, Committer, Magic, Reply, Page, PageEntry, Outcome, Answered, Retried, step, Who, IsLegal, Script, TaskEnd, Drawn, Known, learn, as_made, Listing, Deleting, walked_by, keys_on, last_of, page_after, deleting, all_go, attempt_prefix, TaskAbort, Dropping, TaskAbortOver, task_abort_asks, task_abort_after, task_abort_start, task_abort_by, Seen, see, IsIn, Told, known, entry, tell, IsAttempt, Hold, FitsAbort}
+use Rattle.job_protocol.specs.Prelude.{task_abort_hears, dropping}
+use Rattle.job_spec.proofs.Common.{some_is, false_true, in_append, in_filter}
 use Rattle.job_model.specs.declared.ends.TaskEnd.TheVariants as tasks
-use Rattle.job_model.specs.Known.{Drawn, Known}
-use Rattle.job_protocol.specs.Knowledge.{learn, as_made}
-use Rattle.list_walk.specs.Walks.{Listing, Deleting, walked, walked_by, keys_on, last_of, page_after, deleting, swept, all_go}
-use Rattle.job_protocol.specs.TaskCommits.{attempt_prefix}
-use Rattle.job_protocol.specs.TaskAborts.{TaskAbort, Dropping, Sweeping, Removing, TaskAbortOver, task_abort_asks, task_abort_after, task_abort_hears, task_abort_start, task_abort_by, removing, dropped, dropping, sweeping}
-use Rattle.job_spec.specs.Seen.{Seen, see}
-use Rattle.proof_base.specs.Members.{IsIn}
-use Rattle.proof_base.proofs.Members.{some_is, false_true, in_append, in_filter}
+use Rattle.list_walk.specs.Walks.{walked, swept}
+use Rattle.job_protocol.specs.TaskAborts.{Sweeping, Removing, removing, dropped, sweeping}
 use Rattle.store_frame.proofs.Flat.{page_begins}
-use Rattle.job_facts.specs.Told.{Told, known, entry, tell}
-use Rattle.job_facts.specs.Facts.{IsAttempt, Hold}
-use Rattle.job_facts.specs.Fits.{AllOwn, FitsAbort}
+use Rattle.job_facts.specs.Fits.{AllOwn}
 use Rattle.job_facts.proofs.Shapes.{answer_is}
 use Rattle.job_facts.proofs.Sent.{read_keeps}
 use Rattle.job_facts.proofs.Undone.{abort_keeps, delete_keeps, remove_keeps}

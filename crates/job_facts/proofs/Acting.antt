@@ -1,27 +1,9 @@
 -- Every operation of an attempt keeps the facts with each of its requests, and goes on as it should; and it names only what is its own.
 use Rattle.std.proofs.Common.{◌≡◌, ℕ, ◌||◌, false, Option, Some, refl, sym, ap, subst, ◌∙◌}
-use Rattle.s3_types.specs.Answer.{answer}
-use Rattle.s3_types.specs.Moment.{IsHonestOutcome}
-use Rattle.s3_types.specs.declared.request.Request.{Request}
-use Rattle.s3_types.specs.declared.journal.Outcome.{Outcome}
-use Rattle.retries.specs.Retries.{step}
-use Rattle.job_protocol.specs.TaskAborts.{task_abort_after}
-use Rattle.job_model.specs.Attempts.{Who}
-use Rattle.job_model.specs.Legal.{IsLegal}
-use Rattle.job_model.specs.JobScript.{Script}
-use Rattle.job_model.specs.Known.{Known}
-use Rattle.job_protocol.specs.Uploading.{Uploading, Creating, Sending, upload_asks}
-use Rattle.job_model.specs.Files.{File}
-use Rattle.job_protocol.specs.Writes.{Write, WriteOver, write_asks, write_after}
+use Rattle.job_facts.specs.Prelude.{answer, IsHonestOutcome, Request, Outcome, step, task_abort_after, Who, IsLegal, Script, Known, Uploading, Creating, Sending, upload_asks, File, Write, WriteOver, write_asks, write_after, TaskCommit, TaskCommitOver, task_commit_asks, task_commit_after, Setting, Operation, TheSetup, TheWrite, TheTaskCommit, TheTaskAbort, TheCommit, TheClean, asks, tells, Seen, Told, known, undoes, tell_attempt, IsAttempt, Hold, Fits, FitsWrite, FitsCommit, FitsAbort}
+use Rattle.job_spec.proofs.Common.{some_is}
 use Rattle.job_protocol.specs.Writes as writes
-use Rattle.job_protocol.specs.TaskCommits.{TaskCommit, TaskCommitOver, task_commit_asks, task_commit_after}
 use Rattle.job_protocol.specs.TaskCommits as commits
-use Rattle.job_protocol.specs.Operations.{Setting, Operation, TheSetup, TheWrite, TheTaskCommit, TheTaskAbort, TheCommit, TheClean, asks, tells}
-use Rattle.job_spec.specs.Seen.{Seen}
-use Rattle.proof_base.proofs.Members.{some_is}
-use Rattle.job_facts.specs.Told.{Told, known, undoes, tell_attempt}
-use Rattle.job_facts.specs.Facts.{IsAttempt, Hold}
-use Rattle.job_facts.specs.Fits.{Fits, FitsWrite, FitsCommit, FitsAbort}
 use Rattle.job_facts.specs.Laws.{Goes}
 use Rattle.job_facts.proofs.Whose.{or_false}
 use Rattle.job_facts.proofs.Going.{known_now, undone_now}

@@ -1,44 +1,14 @@
 -- The picks that are seen are those of the sets that the driver holds, as its commit goes on.
 use Rattle.std.proofs.Common.{◌≡◌, ℕ, zero, suc, ◌+◌, ◌<◌, ◌≤◌, inl, inr, not, nat_lt, ◌&&◌, ◌||◌, Bool, true, false, cond, List, [], ◌∷◌, ◌++◌, length, Option, Some, None, refl, sym, ap, subst, ◌∙◌, arith, codes}
-use Rattle.std.specs.Option.{is_some}
-use Rattle.std.proofs.lemmas.Bool.{ltb-false, not-false}
-use Rattle.s3_types.specs.Store.{Scene}
-use Rattle.s3_types.specs.declared.request.Request.{Request}
-use Rattle.s3_types.specs.declared.reply.Reply.{Reply}
-use Rattle.s3_types.specs.declared.journal.Outcome.{Outcome}
-use Rattle.s3_types.specs.declared.journal.Outcome.TheVariants.{Answered, Slow, RequestLost, ReplyLost}
-use Rattle.s3_types.specs.declared.request.Committer.{Committer}
-use Rattle.s3_types.specs.declared.request.Committer.TheVariants.{Magic, Directory, Partitioned}
-use Rattle.s3_types.specs.declared.request.Mode.{Mode}
-use Rattle.s3_types.specs.declared.request.Mode.TheVariants.{Replace, Append, Fail}
-use Rattle.s3_types.specs.Pages.{begins}
-use Rattle.path_keys.specs.Paths.{below}
-use Rattle.magic_paths.proofs.Tails.{begins_behind, below_is as paths_below}
-use Rattle.job_protocol.specs.Setup.{dest_prefix}
-use Rattle.job_protocol.specs.TaskCommits.{partition_prefix}
-use Rattle.list_walk.specs.Walks.{Sweep, sweep_hears}
+use Rattle.job_facts.specs.Prelude.{is_some, Scene, Request, Reply, Outcome, Answered, Slow, RequestLost, ReplyLost, Committer, Magic, Directory, Partitioned, Mode, Replace, Append, Fail, begins, below, dest_prefix, partition_prefix, Sweep, sweep_hears, Pending, IsLegal, Script, CommitEnd, Picks, files, wanted_paths, wanted_at, same_path, picked_below, is_picked, is_clash, is_decided, keeps, keeps_of, partitions, Turn, again, follow, dealt, revert, Sets, all_commits, picks_of, Commit, Fetching, Replacing, Completing, Marking, Reverting, CommitOver, commit_hears, commit_misses, commit_tells, commit_start, completing, is_no_magic, replaced, replacing, swept, decided, fetching, reverting, worn_completion, Tabled, is_untouched, IsIn, changed_keys, Told, Facts, Reads, FitsJobCommit, AreDecided, Decides}
+use Rattle.job_spec.proofs.Common.{ltb-false, begins_behind, shared_found, false_true, in_map, map_in}
+use Rattle.std.proofs.lemmas.Bool.{not-false}
+use Rattle.magic_paths.proofs.Tails.{below_is as paths_below}
 use Rattle.job_facts.proofs.Legal.{some_dest}
 use Rattle.job_facts.proofs.JobCommitting.{dest_below}
-use Rattle.pending_json.specs.Pending.{Pending}
-use Rattle.job_model.specs.Legal.{IsLegal}
-use Rattle.job_model.specs.JobScript.{Script}
-use Rattle.job_model.specs.declared.ends.CommitEnd.{CommitEnd}
 use Rattle.job_model.specs.declared.ends.CommitEnd.TheVariants as ends_of
 use Rattle.job_model.specs.declared.ends.Stage.TheVariants as stages
-use Rattle.job_protocol.specs.Outputs.{Picks, files, wanted_paths, wanted_at, same_path, picked_below, is_picked, is_clash, is_decided}
-use Rattle.job_protocol.specs.Conflicts.{keeps, keeps_of, is_below_any, partitions}
-use Rattle.job_protocol.specs.Lanes.{Turn, again, follow, dealt, revert}
-use Rattle.job_protocol.specs.JobCommits.{Sets, all_commits, picks_of, Commit, Fetching, Replacing, Completing, Marking, Reverting, CommitOver, commit_hears, commit_misses, commit_tells, commit_start, completing, is_no_magic, replaced, replacing, swept, decided, fetching, reverting, worn_completion}
-use Rattle.job_protocol.specs.LaneTable.{Tabled}
-use Rattle.job_protocol.proofs.Shared.{shared_found}
-use Rattle.job_spec.specs.OperationEnds.{is_untouched}
-use Rattle.proof_base.specs.Members.{IsIn}
-use Rattle.store_frame.specs.Frame.{changed_keys}
-use Rattle.proof_base.proofs.Members.{false_true, in_map, map_in}
-use Rattle.job_facts.specs.Told.{Told}
-use Rattle.job_facts.specs.Facts.{Facts}
-use Rattle.job_facts.specs.Driver.{Reads, FitsJobCommit}
-use Rattle.job_facts.specs.Filed.{AreDecided, Decides}
+use Rattle.job_protocol.specs.Conflicts.{is_below_any}
 use Rattle.job_facts.proofs.Whose.{attempt, or_true}
 use Rattle.job_facts.proofs.Held.{of_sets, task_low}
 use Rattle.job_facts.proofs.Wanted.{wanted_here, still_apart}

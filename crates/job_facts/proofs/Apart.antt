@@ -1,40 +1,14 @@
 -- What a request of an attempt leaves standing of another's, and of its own.
 use Rattle.std.proofs.Common.{◌≡◌, ℕ, ◌<◌, ◌≤◌, inl, inr, true, false, List, [], ◌∷◌, ◌++◌, take, length, Option, Some, refl, sym, ap, subst, ◌∙◌, arith, append_assoc, length-append, codes}
+use Rattle.job_facts.specs.Prelude.{decimal, Scene, begins, apply, bucket_of, Object, Request, PutObject, AbortUpload, DeleteObjects, ClusterPut, ClusterRename, ClusterDelete, magic_prefix, staged_set_path, TemporaryPlace, StagedSetPlace, File, Who, IsLegal, Script, Known, attempt_dir, record_key, Uploading, Creating, Sending, upload_asks, Listing, Deleting, Write, WriteOver, write_asks, TaskCommit, Publishing, Storing, Renaming, TaskCommitOver, task_commit_asks, attempt_prefix, temporary_path, TaskAbort, Dropping, TaskAbortOver, task_abort_asks, IsIn, HasBucket, changed_keys, changed_paths, at_key, IsAttempt, FitsAbort}
+use Rattle.job_spec.proofs.Common.{append_cancel_left, begins_behind, begins_back, below_is, decimal_without, some_is, false_true, true_or_false, same_or_other, text_here}
+use Rattle.path_keys.proofs.Common.{decimal_injective}
 use Rattle.std.specs.FinMap as fin
-use Rattle.std.specs.Fmt.{decimal}
-use Rattle.std.proofs.lemmas.List.{append_cancel_left}
-use Rattle.std.proofs.lemmas.Fmt.{decimal_injective}
-use Rattle.s3_types.specs.Store.{Scene}
-use Rattle.s3_types.specs.Pages.{begins}
-use Rattle.s3_types.specs.Answer.{apply, bucket_of}
-use Rattle.s3_types.specs.declared.object.Object.{Object}
-use Rattle.s3_types.specs.declared.request.Request.{Request}
-use Rattle.s3_types.specs.declared.request.Request.TheVariants.{PutObject, AbortUpload, DeleteObjects, ClusterPut, ClusterRename, ClusterDelete}
-use Rattle.magic_paths.specs.Layout.{magic_prefix, staged_set_path}
-use Rattle.magic_paths.specs.Places.{TemporaryPlace, StagedSetPlace}
-use Rattle.magic_paths.proofs.Tails.{begins_behind, begins_back, below_is, cut_once}
-use Rattle.magic_paths.proofs.Elements.{decimal_without}
-use Rattle.job_model.specs.Files.{File}
-use Rattle.job_model.specs.Attempts.{Who}
-use Rattle.job_model.specs.Legal.{IsLegal}
-use Rattle.job_model.specs.JobScript.{Script}
-use Rattle.job_model.specs.Known.{Known}
-use Rattle.job_protocol.specs.Records.{attempt_dir, record_key}
-use Rattle.job_protocol.specs.Uploading.{Uploading, Creating, Sending, upload_asks}
-use Rattle.list_walk.specs.Walks.{Listing, Deleting}
-use Rattle.job_protocol.specs.Writes.{Write, WriteOver, write_asks}
+use Rattle.magic_paths.proofs.Tails.{cut_once}
 use Rattle.job_protocol.specs.Writes as writes
-use Rattle.job_protocol.specs.TaskCommits.{TaskCommit, Publishing, Storing, Renaming, TaskCommitOver, task_commit_asks, attempt_prefix, temporary_path}
 use Rattle.job_protocol.specs.TaskCommits as commits
-use Rattle.job_protocol.specs.TaskAborts.{TaskAbort, Dropping, Sweeping, Removing, TaskAbortOver, task_abort_asks}
-use Rattle.proof_base.specs.Members.{IsIn}
-use Rattle.store_frame.specs.Held.{HasBucket}
-use Rattle.store_frame.specs.Frame.{changed_keys, changed_paths}
-use Rattle.proof_base.proofs.Members.{some_is, false_true, true_or_false, same_or_other, text_here}
+use Rattle.job_protocol.specs.TaskAborts.{Sweeping, Removing}
 use Rattle.store_frame.proofs.Framed.{frame}
-use Rattle.job_facts.specs.Stores.{at_key}
-use Rattle.job_facts.specs.Facts.{IsAttempt}
-use Rattle.job_facts.specs.Fits.{FitsAbort}
 use Rattle.job_facts.proofs.Whose.{attempt}
 use Rattle.job_facts.proofs.Legal.{some_dest, small_attempt}
 use Rattle.job_facts.proofs.Placed.{temporary_place, staged_place, one_path}

@@ -1,34 +1,12 @@
 -- Operations as they begin; and what an attempt sends leaves the driver's commit as it is.
 use Rattle.std.proofs.Common.{◌≡◌, ℕ, inl, inr, ◌||◌, true, List, [], Option, Some, None, refl, sym, ap, subst, ◌∙◌}
-use Rattle.s3_types.specs.declared.request.Request.{Request}
-use Rattle.s3_types.specs.declared.request.Request.TheVariants.{PutObject, ClusterRename}
-use Rattle.s3_types.specs.declared.request.Committer.{Committer}
-use Rattle.s3_types.specs.declared.request.Committer.TheVariants.{Magic}
-use Rattle.s3_types.specs.declared.journal.Outcome.{Outcome}
-use Rattle.job_model.specs.Attempts.{Who}
-use Rattle.job_model.specs.Legal.{IsLegal}
-use Rattle.job_model.specs.JobScript.{Script}
+use Rattle.job_facts.specs.Prelude.{Request, PutObject, ClusterRename, Committer, Magic, Outcome, Who, IsLegal, Script, PendingSet, files, Drawn, Known, learn, is_set_key, files_set, Deleting, Write, WriteOver, write_start_by, write_start, write_asks, TaskCommit, TaskCommitOver, to_check, task_commit_start_by, task_commit_start, task_commit_asks, TaskAbort, TaskAbortOver, task_abort_asks, Sets, Commit, Fetching, Replacing, Completing, Reverting, CommitOver, commit_start, Setting, Operation, TheWrite, TheTaskCommit, TheTaskAbort, asks, is_magic, is_staging, IsIn, Told, known, tell_attempt, AreCommits, knowing, Todo, IsOpen, Wrote, Fits, FitsWrite, FitsCommit, IsHeldSet, Reads, FitsJobCommit}
+use Rattle.job_spec.proofs.Common.{some_is, none_some, false_true}
 use Rattle.job_model.specs.declared.ends.TaskEnd.TheVariants as tasks
-use Rattle.pending_json.specs.declared.records.PendingSet.{PendingSet}
-use Rattle.job_protocol.specs.Outputs.{files}
-use Rattle.job_model.specs.Known.{Drawn, Known}
-use Rattle.job_protocol.specs.Knowledge.{learn, is_set_key}
-use Rattle.job_protocol.specs.Records.{files_set}
-use Rattle.list_walk.specs.Walks.{Deleting}
-use Rattle.job_protocol.specs.Writes.{Write, WriteOver, write_start_by, write_start, write_asks}
 use Rattle.job_protocol.specs.Writes as writes
-use Rattle.job_protocol.specs.TaskCommits.{TaskCommit, TaskCommitOver, to_check, task_commit_start_by, task_commit_start, task_commit_asks}
 use Rattle.job_protocol.specs.TaskCommits as commits
-use Rattle.job_protocol.specs.TaskAborts.{TaskAbort, Sweeping, TaskAbortOver, task_abort_asks}
-use Rattle.job_protocol.specs.JobCommits.{Sets, Commit, Fetching, Replacing, Completing, Marking as MarkingJob, Reverting, CommitOver, commit_start}
-use Rattle.job_protocol.specs.Operations.{Setting, Operation, TheWrite, TheTaskCommit, TheTaskAbort, asks}
-use Rattle.job_spec.specs.Seen.{is_magic, is_staging}
-use Rattle.proof_base.specs.Members.{IsIn}
-use Rattle.proof_base.proofs.Members.{some_is, none_some, false_true}
-use Rattle.job_facts.specs.Told.{Told, known, tell_attempt}
-use Rattle.job_facts.specs.Facts.{AreCommits, knowing}
-use Rattle.job_facts.specs.Fits.{Todo, IsOpen, Wrote, Fits, FitsWrite, FitsCommit}
-use Rattle.job_facts.specs.Driver.{IsHeldSet, Reads, FitsJobCommit}
+use Rattle.job_protocol.specs.TaskAborts.{Sweeping}
+use Rattle.job_protocol.specs.JobCommits.{Marking as MarkingJob}
 use Rattle.job_facts.proofs.Whose.{same_or_another, who_here, who_other}
 use Rattle.job_facts.proofs.Legal.{files_apart}
 use Rattle.job_facts.proofs.Writing.{fits_writing}

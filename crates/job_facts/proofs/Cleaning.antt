@@ -1,37 +1,15 @@
 -- The driver's abort or clean of the job keeps the facts with each of its requests, goes on as it should, and no reader of the destination sees it.
 use Rattle.std.proofs.Common.{◌≡◌, ℕ, zero, suc, inl, inr, nat_lt, ◌||◌, Bool, true, false, List, [], ◌∷◌, ◌++◌, take, drop, length, Option, Some, None, refl, sym, ap, subst, ◌∙◌}
+use Rattle.job_facts.specs.Prelude.{filter, begins, listed, answer, effect, IsHonestOutcome, Request, AbortUpload, DeleteObjects, ClusterList, ClusterDelete, UploadRef, Committer, Magic, Reply, Page, PageEntry, Outcome, Retried, step, magic_prefix, cluster_prefix, IsLegal, Script, dest_prefix, Listing, Deleting, walked_by, walked_uploads, keys_on, last_of, last_ref, page_after, uploads_after, deleting, all_go, Clean, Walking, Aborting, Naming, Removing, CleanOver, clean_asks, clean_after, clean_hears, aborted, aborting, walking, sweeping, removing, naming, Same, view, Seen, see, is_begun, IsIn, Told, tell, driver_entry, Hold, FitsClean}
+use Rattle.job_model.specs.Prelude.{Uploads}
+use Rattle.job_spec.proofs.Common.{some_is, nat_true, in_append, in_filter}
 use Rattle.std.specs.FinMap as fin
-use Rattle.std.specs.List.{filter}
-use Rattle.s3_types.specs.Store.{Uploads}
-use Rattle.s3_types.specs.Pages.{begins, listed}
 use Rattle.s3_types.specs.Multipart as multipart
-use Rattle.s3_types.specs.Answer.{answer}
-use Rattle.s3_types.specs.Moment.{effect, IsHonestOutcome}
-use Rattle.s3_types.specs.declared.request.Request.{Request}
-use Rattle.s3_types.specs.declared.request.Request.TheVariants.{AbortUpload, DeleteObjects, ClusterList, ClusterDelete}
-use Rattle.s3_types.specs.declared.request.UploadRef.{UploadRef}
-use Rattle.s3_types.specs.declared.request.Committer.{Committer}
-use Rattle.s3_types.specs.declared.request.Committer.TheVariants.{Magic}
-use Rattle.s3_types.specs.declared.reply.Reply.{Reply}
-use Rattle.s3_types.specs.declared.reply.Reply.TheVariants.{Page, Uploads as UploadsPage}
-use Rattle.s3_types.specs.declared.reply.PageEntry.{PageEntry}
-use Rattle.s3_types.specs.declared.journal.Outcome.{Outcome}
-use Rattle.retries.specs.Retries.{Retried, step}
-use Rattle.magic_paths.specs.Layout.{magic_prefix, cluster_prefix}
-use Rattle.job_model.specs.Legal.{IsLegal}
-use Rattle.job_model.specs.JobScript.{Script}
-use Rattle.job_protocol.specs.Setup.{dest_prefix}
-use Rattle.list_walk.specs.Walks.{Listing, Deleting, walked, walked_by, walked_uploads, keys_on, last_of, last_ref, page_after, uploads_after, deleting, swept, all_go}
-use Rattle.job_protocol.specs.Cleanups.{Clean, Walking, Aborting, Sweeping, Naming, Removing, CleanOver, clean_asks, clean_after, clean_hears, aborted, aborting, walking, sweeping, removing, naming}
-use Rattle.job_spec.specs.Headline.{Same}
-use Rattle.job_protocol.specs.View.{view}
-use Rattle.job_spec.specs.Seen.{Seen, see, is_begun}
-use Rattle.proof_base.specs.Members.{IsIn}
-use Rattle.proof_base.proofs.Members.{some_is, nat_true, in_append, in_filter}
+use Rattle.s3_types.specs.declared.reply.Reply.TheVariants.{Uploads as UploadsPage}
+use Rattle.list_walk.specs.Walks.{walked, swept}
+use Rattle.job_protocol.specs.Cleanups.{Sweeping}
 use Rattle.store_frame.proofs.Flat.{page_begins}
-use Rattle.job_facts.specs.Told.{Told, tell, driver_entry}
-use Rattle.job_facts.specs.Facts.{Hold}
-use Rattle.job_facts.specs.Driver.{AllMagic, AllCluster, AllBelow, FitsClean}
+use Rattle.job_facts.specs.Driver.{AllMagic, AllCluster, AllBelow}
 use Rattle.job_facts.proofs.Whose.{or_true}
 use Rattle.job_facts.proofs.Shapes.{answer_is}
 use Rattle.job_facts.proofs.Going.{step_so}

@@ -1,38 +1,16 @@
 -- The driver's abort or clean of the job leaves nothing of it, where nobody else sends.
 use Rattle.std.proofs.Common.{◌≡◌, ℕ, inl, inr, nat_lt, Bool, true, false, cond, List, [], ◌∷◌, ◌++◌, take, length, Option, Some, None, refl, sym, ap, subst, ◌∙◌}
+use Rattle.job_facts.specs.Prelude.{filter, text_cmp, text_eq, Content, Scene, Upload, begins, answer, apply, effect, IsHonestOutcome, only_reads, Committer, Magic, Request, AbortUpload, DeleteObjects, ClusterList, ClusterDelete, UploadRef, Reply, Outcome, Answered, Slow, RequestLost, ReplyLost, Retried, step, magic_prefix, cluster_prefix, Script, dest_prefix, Sweep, Listing, Deleting, walked_by, walked_uploads, last_ref, uploads_after, sweep_asks, sweep_hears, all_go, Clean, Walking, Aborting, Naming, Removing, CleanOver, clean_asks, clean_after, clean_hears, aborted, aborting, walking, sweeping, removing, naming, NoClusterFile, is_magic, is_staging, IsIn, HasBucket, at_id, end_left, ref_at, Clears}
+use Rattle.job_spec.specs.Prelude.{NoneLive, NothingLeft}
+use Rattle.job_spec.proofs.Common.{some_is, none_some, false_true, true_or_false, same_or_not, same_or_other, text_true, text_gone, text_left, in_front, in_back, map_in, filter_in}
+use Rattle.path_keys.proofs.Common.{text_exact}
 use Rattle.std.specs.FinMap as fin
-use Rattle.std.specs.List.{filter}
-use Rattle.proof_base.specs.Order.{text_cmp, text_eq}
-use Rattle.s3_types.specs.Store.{Content, Scene, Upload}
-use Rattle.s3_types.specs.Pages.{begins}
 use Rattle.s3_types.specs.Multipart as multipart
-use Rattle.s3_types.specs.Answer.{answer, apply}
-use Rattle.s3_types.specs.Moment.{effect, IsHonestOutcome}
-use Rattle.s3_types.specs.Requests.{only_reads}
-use Rattle.s3_types.specs.declared.request.Committer.{Committer}
-use Rattle.s3_types.specs.declared.request.Committer.TheVariants.{Magic}
-use Rattle.s3_types.specs.declared.request.Request.{Request}
-use Rattle.s3_types.specs.declared.request.Request.TheVariants.{AbortUpload, DeleteObjects, ClusterList, ClusterDelete}
-use Rattle.s3_types.specs.declared.request.UploadRef.{UploadRef}
-use Rattle.s3_types.specs.declared.reply.Reply.{Reply}
 use Rattle.s3_types.specs.declared.reply.Reply.TheVariants.{Uploads as UploadsPage}
-use Rattle.s3_types.specs.declared.journal.Outcome.{Outcome}
-use Rattle.s3_types.specs.declared.journal.Outcome.TheVariants.{Answered, Slow, RequestLost, ReplyLost}
-use Rattle.retries.specs.Retries.{Retried, step}
-use Rattle.magic_paths.specs.Layout.{magic_prefix, cluster_prefix}
-use Rattle.job_model.specs.JobScript.{Script}
-use Rattle.job_protocol.specs.Setup.{dest_prefix}
-use Rattle.list_walk.specs.Walks.{Sweep, Listing, Deleting, walked_by, walked_uploads, last_ref, uploads_after, sweep_asks, sweep_hears, all_go}
-use Rattle.job_protocol.specs.Cleanups.{Clean, Walking, Aborting, Sweeping, Naming, Removing, CleanOver, clean_asks, clean_after, clean_hears, aborted, aborting, walking, sweeping, removing, naming}
-use Rattle.job_spec.specs.Scope.{NoneLive, NoClusterFile, NothingLeft}
-use Rattle.job_spec.specs.Seen.{is_magic, is_staging}
-use Rattle.proof_base.specs.Members.{IsIn}
-use Rattle.store_frame.specs.Held.{HasBucket}
-use Rattle.proof_base.proofs.Members.{some_is, none_some, false_true, true_or_false, same_or_not, same_or_other, text_true, text_gone, text_left, in_front, in_back, map_in, filter_in, text_exact}
+use Rattle.job_protocol.specs.Cleanups.{Sweeping}
 use Rattle.store_frame.proofs.Reading.{reads_nothing}
-use Rattle.job_facts.specs.Stores.{at_id, end_left}
 use Rattle.job_facts.specs.Emptying.{OnlyThese}
-use Rattle.job_facts.specs.Clearing.{ref_at, LiveIn, LiveOrBehind, FilesIn, Clears}
+use Rattle.job_facts.specs.Clearing.{LiveIn, LiveOrBehind, FilesIn}
 use Rattle.job_facts.proofs.Shapes.{id_before, answer_is, abort_turns}
 use Rattle.job_facts.proofs.Going.{step_so}
 use Rattle.job_facts.proofs.Undone.{deletes_drop}

@@ -1,39 +1,10 @@
 -- Until it cleans up, the driver ends only uploads of attempts that have sent their publishing requests.
 use Rattle.std.proofs.Common.{◌≡◌, ℕ, ◌+◌, ◌<◌, inl, inr, nat_lt, nat_eq, ◌&&◌, ◌||◌, Bool, true, false, cond, List, [], ◌∷◌, ◌++◌, map, length, Option, Some, None, refl, sym, ap, subst, ◌∙◌}
-use Rattle.std.proofs.lemmas.Bool.{and_parts, or_parts, false≢true}
-use Rattle.s3_types.specs.Moment.{is_effective}
-use Rattle.s3_types.specs.declared.request.Committer.{Committer}
-use Rattle.s3_types.specs.declared.request.Committer.TheVariants.{Magic}
-use Rattle.s3_types.specs.declared.request.Request.{Request}
-use Rattle.s3_types.specs.declared.reply.Reply.{Reply}
-use Rattle.s3_types.specs.declared.journal.Outcome.{Outcome}
-use Rattle.s3_types.specs.declared.journal.Outcome.TheVariants.{Answered, Slow}
-use Rattle.pending_json.specs.Pending.{Pending}
-use Rattle.pending_json.specs.declared.records.PendingSet.{PendingSet}
-use Rattle.job_model.specs.Attempts.{Who}
-use Rattle.job_model.specs.Legal.{IsLegal}
-use Rattle.job_model.specs.JobScript.{Script}
-use Rattle.job_model.specs.Known.{Drawn}
-use Rattle.job_model.specs.declared.ends.CommitEnd.{CommitEnd}
+use Rattle.job_spec.proofs.Common.{and_parts, or_parts, false≢true, some_is, false_true, eq_nat, in_map}
+use Rattle.job_facts.specs.Prelude.{is_effective, Committer, Magic, Request, Reply, Outcome, Answered, Slow, Pending, PendingSet, Who, IsLegal, Script, Drawn, CommitEnd, same_path, drawn_for, drawn_in, file_key, file_record, Sweep, Listing, Deleting, sweep_asks, sweep_hears, Turn, nth, abort, deletion, again, follow, dealt, chosen, undo, in_turn, is_tried, is_unsent, revert, Sets, all_commits, picks_of, Commit, Fetching, Replacing, Completing, Marking, Reverting, CommitOver, set_request, set_read, commit_asks, commit_hears, commit_misses, commit_tells, commit_start, completing, is_no_magic, replaced, replacing, decided, fetching, fetched, swept, reverting, worn_completion, Seen, is_begun, Tabled, Setting, Operation, asks, IsIn, Scene, Told, known, ends, tell_driver, tell_attempt, at_event, Facts, Hold, knowing, Fits, Reads, FitsJobCommit, Closed, Reverts}
 use Rattle.job_model.specs.declared.ends.CommitEnd.TheVariants as ends_of
 use Rattle.job_model.specs.declared.ends.Stage.TheVariants as stages
-use Rattle.job_protocol.specs.Outputs.{same_path}
-use Rattle.job_protocol.specs.Knowledge.{drawn_for, drawn_in}
-use Rattle.job_protocol.specs.Records.{file_key, file_record}
-use Rattle.list_walk.specs.Walks.{Sweep, Listing, Deleting, sweep_asks, sweep_hears}
-use Rattle.job_protocol.specs.Lanes.{Turn, nth, abort, deletion, again, follow, dealt, chosen, undo, in_turn, is_tried, is_unsent, revert}
-use Rattle.job_protocol.specs.JobCommits.{Sets, all_commits, picks_of, Commit, Fetching, Replacing, Completing, Marking, Reverting, CommitOver, set_request, set_read, commit_asks, commit_hears, commit_misses, commit_tells, commit_start, completing, is_no_magic, replaced, replacing, decided, fetching, fetched, swept, reverting, worn_completion}
-use Rattle.job_spec.specs.Seen.{Seen, is_begun}
-use Rattle.job_protocol.specs.LaneTable.{Tabled}
-use Rattle.job_protocol.specs.Operations.{Setting, Operation, asks}
-use Rattle.proof_base.specs.Members.{IsIn}
-use Rattle.proof_base.proofs.Members.{some_is, false_true, eq_nat, in_map}
-use Rattle.s3_types.specs.Store.{Scene}
-use Rattle.job_facts.specs.Told.{Told, known, ends, tell_driver, tell_attempt, at_event}
-use Rattle.job_facts.specs.Facts.{Facts, Hold, knowing}
-use Rattle.job_facts.specs.Fits.{Fits}
-use Rattle.job_facts.specs.Driver.{Reads, FitsJobCommit}
-use Rattle.job_facts.specs.Standing.{IsSent, Closed, EndsSent, Reverts}
+use Rattle.job_facts.specs.Standing.{IsSent, EndsSent}
 use Rattle.job_facts.proofs.Whose.{or_true}
 use Rattle.job_facts.proofs.Legible.{drawn_is}
 use Rattle.job_facts.proofs.Held.{nth_of}

@@ -1,36 +1,10 @@
 -- An attempt's commit of its task keeps the facts with each of its requests, whatever becomes of it, and goes on as it should.
 use Rattle.std.proofs.Common.{◌≡◌, ℕ, nat_lt, ◌||◌, Bool, true, false, List, [], ◌∷◌, ◌++◌, map, take, length, Option, Some, None, refl, sym, ap, subst, ◌∙◌}
-use Rattle.s3_types.specs.Pages.{listed}
-use Rattle.s3_types.specs.Answer.{answer}
-use Rattle.s3_types.specs.Moment.{IsHonestOutcome}
-use Rattle.s3_types.specs.declared.request.Request.{Request}
-use Rattle.s3_types.specs.declared.request.Request.TheVariants.{PutObject, GetObject, ListPage, ClusterPut, ClusterRename}
-use Rattle.s3_types.specs.declared.reply.Reply.{Reply}
-use Rattle.s3_types.specs.declared.reply.Reply.TheVariants.{Page, Refused}
-use Rattle.s3_types.specs.declared.reply.PageEntry.{PageEntry}
-use Rattle.s3_types.specs.declared.reply.Refusal.TheVariants.{NoSuchKey, NoSuchFile}
-use Rattle.s3_types.specs.declared.journal.Outcome.{Outcome}
-use Rattle.s3_types.specs.declared.journal.Outcome.TheVariants.{Answered}
-use Rattle.retries.specs.Retries.{Retried, step}
+use Rattle.job_facts.specs.Prelude.{listed, answer, IsHonestOutcome, Request, PutObject, GetObject, ListPage, ClusterPut, ClusterRename, Reply, Page, Refused, PageEntry, NoSuchKey, NoSuchFile, Outcome, Answered, Retried, step, File, Who, IsLegal, Script, files, Drawn, Known, learn, is_set_key, record_key, set_text, walked_by, keys_on, last_of, page_after, Uploading, Uploaded, GoesOn, AllSent, IsGone, upload_asks, upload_hears, TaskCommit, Looking, Reading, Publishing, Checking, Uploads, Storing, Renaming, TaskCommitOver, task_commit_asks, task_commit_after, task_commit_hears, attempt_prefix, temporary_path, partition_prefix, reading, looked, looked_at, read_record, storing, checking, checked, uploaded, renamed, least_missing, in_order, Seen, see, is_magic, is_staging, RisesFrom, Told, known, entry, tell, IsAttempt, AreCommits, Hold, Todo, AllWritten, IsOpen, FitsCommit}
+use Rattle.job_spec.proofs.Common.{some_is, map_in}
 use Rattle.magic_paths.specs.Layout as layout
-use Rattle.job_model.specs.Files.{File}
-use Rattle.job_model.specs.Attempts.{Who}
-use Rattle.job_model.specs.Legal.{IsLegal}
-use Rattle.job_model.specs.JobScript.{Script}
-use Rattle.job_protocol.specs.Outputs.{files}
-use Rattle.job_model.specs.Known.{Drawn, Known}
-use Rattle.job_protocol.specs.Knowledge.{learn, is_set_key}
-use Rattle.job_protocol.specs.Records.{record_key, set_text}
-use Rattle.list_walk.specs.Walks.{walked, walked_by, keys_on, last_of, page_after}
-use Rattle.job_protocol.specs.Uploading.{Uploading, Uploaded, GoesOn, AllSent, IsGone, upload_asks, upload_hears}
-use Rattle.job_protocol.specs.TaskCommits.{TaskCommit, Looking, Reading, Publishing, Checking, Uploads, Storing, Renaming, TaskCommitOver, task_commit_asks, task_commit_after, task_commit_hears, attempt_prefix, temporary_path, partition_prefix, reading, looked, looked_at, read_record, storing, checking, checked, uploaded, renamed, least_missing, in_order}
-use Rattle.job_spec.specs.Seen.{Seen, see, is_magic, is_staging}
-use Rattle.proof_base.specs.Members.{RisesFrom}
-use Rattle.proof_base.proofs.Members.{some_is, map_in}
+use Rattle.list_walk.specs.Walks.{walked}
 use Rattle.store_frame.proofs.Flat.{page_rises, joins}
-use Rattle.job_facts.specs.Told.{Told, known, entry, tell}
-use Rattle.job_facts.specs.Facts.{IsAttempt, AreCommits, Hold}
-use Rattle.job_facts.specs.Fits.{Todo, AllWritten, IsOpen, FitsCommit}
 use Rattle.job_facts.proofs.Whose.{or_true}
 use Rattle.job_facts.proofs.Legal.{files_apart}
 use Rattle.job_facts.proofs.Ordered.{order_each, order_all, order_apart, none_missing}

@@ -1,11 +1,8 @@
 -- The parts of a file of a script.
 use Rattle.std.proofs.Common.{◌≡◌, ℕ, suc, ◌<◌, ◌≤◌, List, length, slice_get, Some, sym, subst}
-use Rattle.std.specs.List.{flat_map}
+use Rattle.job_facts.specs.Prelude.{flat_map, File, Script, file_parts}
 use Rattle.s3_types.specs.Blocks.{block_of}
 use Rattle.s3_types.proofs.Blocks as blocks
-use Rattle.job_model.specs.Files.{File}
-use Rattle.job_model.specs.JobScript.{Script}
-use Rattle.job_protocol.specs.Uploading.{file_parts}
 
 module _ (w : Script) (minimum : ℕ) (f : File) where
   abbrev size_of : ℕ

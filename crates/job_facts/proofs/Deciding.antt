@@ -1,31 +1,11 @@
 -- The driver's commit has decided as it goes on with its sets, and a revert names their uploads alone.
 use Rattle.std.proofs.Common.{◌≡◌, ℕ, ◌+◌, ◌<◌, ◌≤◌, inl, inr, nat_lt, Bool, true, false, cond, List, [], ◌∷◌, ◌++◌, length, Option, Some, None, refl, subst, arith, length-append}
-use Rattle.std.proofs.lemmas.Bool.{ltb-false}
-use Rattle.s3_types.specs.Store.{Scene}
-use Rattle.s3_types.specs.declared.request.Request.{Request}
-use Rattle.s3_types.specs.declared.reply.Reply.{Reply}
-use Rattle.s3_types.specs.declared.journal.Outcome.{Outcome}
-use Rattle.s3_types.specs.declared.journal.Outcome.TheVariants.{Answered, Slow}
-use Rattle.pending_json.specs.Pending.{Pending}
-use Rattle.pending_json.specs.declared.records.PendingSet.{PendingSet}
-use Rattle.proof_base.proofs.Numbers.{below_is}
-use Rattle.job_model.specs.Attempts.{Who}
-use Rattle.job_model.specs.Legal.{IsLegal}
-use Rattle.job_model.specs.JobScript.{Script}
-use Rattle.job_model.specs.Known.{Drawn}
-use Rattle.job_model.specs.declared.ends.CommitEnd.{CommitEnd}
+use Rattle.job_spec.proofs.Common.{ltb-false}
+use Rattle.job_facts.specs.Prelude.{Scene, Request, Reply, Outcome, Answered, Slow, Pending, PendingSet, Who, IsLegal, Script, Drawn, CommitEnd, same_path, Sweep, sweep_hears, Turn, again, follow, dealt, revert, Sets, all_commits, picks_of, Commit, Fetching, Replacing, Completing, Marking, Reverting, CommitOver, set_read, commit_hears, commit_misses, commit_tells, commit_start, completing, is_no_magic, replaced, replacing, decided, fetching, fetched, swept, reverting, worn_completion, Tabled, IsIn, Told, Facts, Reads, FitsJobCommit, IsCommit, AreDecided, Decides}
+use Rattle.path_keys.proofs.Common.{below_is}
 use Rattle.job_model.specs.declared.ends.CommitEnd.TheVariants as ends_of
 use Rattle.job_model.specs.declared.ends.Stage.TheVariants as stages
-use Rattle.job_protocol.specs.Outputs.{same_path}
-use Rattle.list_walk.specs.Walks.{Sweep, sweep_hears}
-use Rattle.job_protocol.specs.Lanes.{Turn, again, follow, dealt, revert}
-use Rattle.job_protocol.specs.JobCommits.{Sets, all_commits, picks_of, Commit, Fetching, Replacing, Completing, Marking, Reverting, CommitOver, set_read, commit_hears, commit_misses, commit_tells, commit_start, completing, is_no_magic, replaced, replacing, decided, fetching, fetched, swept, reverting, worn_completion}
-use Rattle.job_protocol.specs.LaneTable.{Tabled}
-use Rattle.proof_base.specs.Members.{IsIn}
-use Rattle.job_facts.specs.Told.{Told}
-use Rattle.job_facts.specs.Facts.{Facts}
-use Rattle.job_facts.specs.Driver.{Reads, FitsJobCommit}
-use Rattle.job_facts.specs.Filed.{IsCommit, AreReverts, AreDecided, Decides}
+use Rattle.job_facts.specs.Filed.{AreReverts}
 use Rattle.job_facts.proofs.Held.{of_sets}
 use Rattle.job_facts.proofs.Numbered.{revert_each}
 

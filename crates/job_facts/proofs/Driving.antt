@@ -1,23 +1,8 @@
 -- The driver's requests keep the facts: those of a commit, and those of an abort or clean of the job.
 use Rattle.std.proofs.Common.{◌≡◌, ℕ, ◌&&◌, Bool, true, false, List, Option, refl, sym, ap, ◌∙◌}
-use Rattle.std.proofs.lemmas.Bool.{or_parts}
-use Rattle.s3_types.specs.Store.{Scene}
-use Rattle.s3_types.specs.Answer.{apply}
-use Rattle.s3_types.specs.Moment.{effect, is_effective}
-use Rattle.s3_types.specs.Requests.{only_reads}
-use Rattle.s3_types.specs.declared.request.Request.{Request}
-use Rattle.s3_types.specs.declared.request.Request.TheVariants.{GetObject, HeadObject, ListPage, ListParts, ListUploads, DeleteObjects, ClusterGet, ClusterDelete, ClusterList}
-use Rattle.s3_types.specs.declared.journal.Outcome.{Outcome}
-use Rattle.s3_types.specs.declared.journal.Outcome.TheVariants.{Answered, Slow, RequestLost, ReplyLost}
-use Rattle.job_model.specs.Legal.{IsLegal}
-use Rattle.job_model.specs.JobScript.{Script}
-use Rattle.job_spec.specs.Seen.{Seen, see}
-use Rattle.proof_base.proofs.Members.{none_some, false_true}
+use Rattle.job_spec.proofs.Common.{or_parts, none_some, false_true}
+use Rattle.job_facts.specs.Prelude.{Scene, apply, effect, is_effective, only_reads, Request, GetObject, HeadObject, ListPage, ListParts, ListUploads, DeleteObjects, ClusterGet, ClusterDelete, ClusterList, Outcome, Answered, Slow, RequestLost, ReplyLost, IsLegal, Script, Seen, see, Told, ends, tell, tell_driver, at_event, driver_entry, Leaves, IsDriving, Facts, Hold}
 use Rattle.store_frame.proofs.Framed.{frame}
-use Rattle.job_facts.specs.Told.{Told, ends, tell, tell_driver, at_event, driver_entry}
-use Rattle.job_facts.specs.Stores.{Leaves}
-use Rattle.job_facts.specs.Foreign.{IsDriving}
-use Rattle.job_facts.specs.Facts.{Facts, Hold}
 use Rattle.job_facts.proofs.Keep.{Drops, leaves_keep, drops_keep}
 use Rattle.job_facts.proofs.Foreign.{stood}
 use Rattle.job_facts.proofs.Staged.{remove_drops}

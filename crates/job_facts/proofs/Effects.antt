@@ -1,22 +1,9 @@
 -- What the driver's completions, aborts and deletions leave of a file's key and of its upload.
 use Rattle.std.proofs.Common.{◌≡◌, ℕ, ◌<◌, ◌⊎◌, inl, inr, Bool, true, false, cond, List, Option, Some, None, refl, sym, ap, subst, ◌∙◌}
+use Rattle.job_facts.specs.Prelude.{Scene, named_from, apply, apply_store, apply_at, with_objects, DeleteObject, DeleteObjects, Pending, IsLegal, Script, file_key, completion, abort, deletion, HasBucket, Told, at_key, at_id, end_left, Facts, IsCommit, Gone, whole_of}
+use Rattle.job_spec.proofs.Common.{none_or_some, text_gone, text_true}
 use Rattle.std.specs.FinMap as fin
-use Rattle.s3_types.specs.Store.{Scene}
-use Rattle.s3_types.specs.Blocks.{named_from}
-use Rattle.s3_types.specs.Answer.{apply, apply_store, apply_at, with_objects}
-use Rattle.s3_types.specs.declared.request.Request.TheVariants.{DeleteObject, DeleteObjects}
-use Rattle.pending_json.specs.Pending.{Pending}
-use Rattle.job_model.specs.Legal.{IsLegal}
-use Rattle.job_model.specs.JobScript.{Script}
-use Rattle.job_protocol.specs.Records.{file_key}
-use Rattle.job_protocol.specs.Lanes.{completion, abort, deletion}
-use Rattle.store_frame.specs.Held.{HasBucket}
-use Rattle.proof_base.proofs.Members.{none_or_some, text_gone, text_true}
 use Rattle.store_frame.proofs.Framed.{with_bucket, frame}
-use Rattle.job_facts.specs.Told.{Told}
-use Rattle.job_facts.specs.Stores.{at_key, at_id, end_left}
-use Rattle.job_facts.specs.Facts.{Facts}
-use Rattle.job_facts.specs.Filed.{IsCommit, Gone, whole_of}
 use Rattle.job_facts.proofs.Shapes.{key_after, id_before, id_after, abort_turns}
 use Rattle.job_facts.proofs.Undone.{deletes_drop}
 use Rattle.job_facts.proofs.Ended.{completes_key, completes_id, refused_key, gone_stays}

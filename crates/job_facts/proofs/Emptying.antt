@@ -1,36 +1,15 @@
 -- A sweep of the job's magic directory leaves nothing there, where none but the driver changes it.
 use Rattle.std.proofs.Common.{◌≡◌, ℕ, zero, suc, ◌≤◌, ◌⊎◌, inl, inr, nat_lt, Bool, true, false, cond, List, [], ◌∷◌, ◌++◌, take, drop, length, Option, Some, None, refl, sym, ap, subst, ◌∙◌, arith, codes}
+use Rattle.job_facts.specs.Prelude.{filter, is_lt, eq_by_cmp, text_cmp, text_total, text_ties, Content, Objects, Scene, begins, listed, answer, apply, apply_store, apply_at, with_objects, without, effect, MOST_ENTRIES, Object, Request, DeleteObjects, Reply, Page, PageEntry, Outcome, Answered, Slow, RequestLost, ReplyLost, only_reads, magic_prefix, Script, Sweep, Listing, Deleting, walked_by, keys_on, last_of, page_after, deleting, sweep_asks, sweep_hears, all_go, IsIn, last_from, HasBucket, at_key, AllUnder, SweepsUnder, OnlyThose, ThoseOrBehind, EmptiesBy}
+use Rattle.job_spec.proofs.Common.{false≢true, none_some, text_true, in_append, in_front, in_back, in_filter, filter_in}
 use Rattle.std.specs.FinMap as fin
-use Rattle.std.specs.List.{filter}
-use Rattle.std.specs.Ordering.{is_lt, eq_by_cmp}
-use Rattle.std.proofs.lemmas.Bool.{le-ltb, false≢true}
-use Rattle.proof_base.specs.Order.{text_cmp, text_total, text_ties}
-use Rattle.s3_types.specs.Store.{Content, Objects, Scene}
-use Rattle.s3_types.specs.Pages.{begins, listed}
-use Rattle.s3_types.specs.Answer.{answer, apply, apply_store, apply_at, with_objects, without}
-use Rattle.s3_types.specs.Moment.{effect}
-use Rattle.s3_types.specs.declared.limits.TheConstants.{MOST_ENTRIES}
-use Rattle.s3_types.specs.declared.object.Object.{Object}
-use Rattle.s3_types.specs.declared.request.Request.{Request}
-use Rattle.s3_types.specs.declared.request.Request.TheVariants.{DeleteObjects}
-use Rattle.s3_types.specs.declared.reply.Reply.{Reply}
-use Rattle.s3_types.specs.declared.reply.Reply.TheVariants.{Page}
-use Rattle.s3_types.specs.declared.reply.PageEntry.{PageEntry}
-use Rattle.s3_types.specs.declared.journal.Outcome.{Outcome}
-use Rattle.s3_types.specs.declared.journal.Outcome.TheVariants.{Answered, Slow, RequestLost, ReplyLost}
-use Rattle.s3_types.specs.Requests.{only_reads}
-use Rattle.magic_paths.specs.Layout.{magic_prefix}
-use Rattle.job_model.specs.JobScript.{Script}
-use Rattle.list_walk.specs.Walks.{Sweep, Listing, Deleting, walked, walked_by, keys_on, last_of, page_after, deleting, swept, sweep_asks, sweep_hears, all_go}
-use Rattle.proof_base.specs.Members.{IsIn, last_from}
-use Rattle.store_frame.specs.Held.{HasBucket}
-use Rattle.proof_base.proofs.Members.{none_some, text_true, in_append, in_front, in_back, in_filter, filter_in}
+use Rattle.std.proofs.lemmas.Bool.{le-ltb}
+use Rattle.list_walk.specs.Walks.{walked, swept}
 use Rattle.store_frame.proofs.Framed.{with_bucket, frame}
 use Rattle.store_frame.proofs.Flat.{page_begins, page_covers, page_all, last_append}
 use Rattle.store_frame.proofs.Reading.{reads_nothing}
-use Rattle.job_facts.specs.Stores.{at_key}
-use Rattle.job_facts.specs.Driver.{AllUnder, SweepsUnder, FitsSweep}
-use Rattle.job_facts.specs.Emptying.{OnlyThose, ThoseOrBehind, EmptiesBy, Empties}
+use Rattle.job_facts.specs.Driver.{FitsSweep}
+use Rattle.job_facts.specs.Emptying.{Empties}
 use Rattle.job_facts.proofs.Shapes.{key_before, key_after, answer_is}
 use Rattle.job_facts.proofs.Aborting.{dropped_in}
 use Rattle.job_facts.proofs.Undone.{stood_before}

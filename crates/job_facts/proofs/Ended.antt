@@ -1,19 +1,9 @@
 -- A live upload keeps its key, and one that is gone never comes back; a completion that is due puts the file, and leaves its upload gone.
 use Rattle.std.proofs.Common.{◌≡◌, ℕ, ◌<◌, ◌⊎◌, inl, inr, ◌&&◌, Bool, true, false, cond, List, Option, Some, None, Result, Ok, Err, refl, sym, ap, subst, ◌∙◌}
+use Rattle.job_facts.specs.Prelude.{text_eq, BucketContent, Content, Scene, Upload, live, with_key, is_part_number, with_part, joined, apply, apply_store, apply_at, bucket_of, completed, Request, UploadPart, CompleteUpload, AbortUpload, NamedPart, Refusal, Script, HasBucket, at_key, at_id, part_left, end_left}
+use Rattle.job_spec.proofs.Common.{some_is, none_some, same_or_not, same_or_other, nat_gone, nat_left, text_here}
 use Rattle.std.specs.FinMap as fin
-use Rattle.proof_base.specs.Order.{text_eq}
-use Rattle.s3_types.specs.Store.{BucketContent, Content, Scene, Upload}
-use Rattle.s3_types.specs.Multipart.{live, with_key, is_part_number, with_part, joined}
-use Rattle.s3_types.specs.Answer.{apply, apply_store, apply_at, bucket_of, completed}
-use Rattle.s3_types.specs.declared.request.Request.{Request}
-use Rattle.s3_types.specs.declared.request.Request.TheVariants.{UploadPart, CompleteUpload, AbortUpload}
-use Rattle.s3_types.specs.declared.request.NamedPart.{NamedPart}
-use Rattle.s3_types.specs.declared.reply.Refusal.{Refusal}
-use Rattle.job_model.specs.JobScript.{Script}
-use Rattle.store_frame.specs.Held.{HasBucket}
-use Rattle.proof_base.proofs.Members.{some_is, none_some, same_or_not, same_or_other, nat_gone, nat_left, text_here}
 use Rattle.store_frame.proofs.Framed.{with_bucket, frame}
-use Rattle.job_facts.specs.Stores.{at_key, at_id, part_left, end_left}
 use Rattle.job_facts.proofs.Shapes.{key_before, key_after, id_before, id_after, part_turns, abort_turns}
 
 -- what stands at an upload's id stood before, with the same key

@@ -1,29 +1,8 @@
 -- Each upload that the driver has ended is gone; what stands where files go after each entry of its commit.
 use Rattle.std.proofs.Common.{◌≡◌, ℕ, ◌<◌, ◌≤◌, ◌⊎◌, inl, inr, ◌&&◌, ◌||◌, Bool, true, false, List, length, Option, Some, None, refl, sym, ap, subst, ◌∙◌, arith}
-use Rattle.std.proofs.lemmas.Bool.{and_parts, false≢true}
-use Rattle.s3_types.specs.Store.{Scene}
-use Rattle.s3_types.specs.Answer.{apply}
-use Rattle.s3_types.specs.Moment.{effect, is_effective}
-use Rattle.s3_types.specs.declared.request.Request.{Request}
-use Rattle.s3_types.specs.declared.request.Committer.{Committer}
-use Rattle.s3_types.specs.declared.request.Committer.TheVariants.{Magic}
-use Rattle.s3_types.specs.declared.journal.Outcome.{Outcome}
-use Rattle.s3_types.specs.declared.journal.Outcome.TheVariants.{Slow, RequestLost}
-use Rattle.pending_json.specs.Pending.{Pending}
-use Rattle.job_model.specs.Legal.{IsLegal}
-use Rattle.job_model.specs.JobScript.{Script}
-use Rattle.list_walk.specs.Walks.{Sweep, Listing, Deleting, sweep_asks}
-use Rattle.job_protocol.specs.Lanes.{nth, completion, abort, deletion}
-use Rattle.job_protocol.specs.JobCommits.{all_commits, Commit, Fetching, Replacing, Completing, Marking, Reverting, CommitOver, set_request, commit_asks}
-use Rattle.job_protocol.specs.LaneTable.{Tabled}
-use Rattle.store_frame.specs.Held.{HasBucket}
-use Rattle.proof_base.proofs.Members.{some_is, false_true, eq_nat}
+use Rattle.job_spec.proofs.Common.{and_parts, false≢true, some_is, false_true, eq_nat}
+use Rattle.job_facts.specs.Prelude.{Scene, apply, effect, is_effective, Request, Committer, Magic, Outcome, Slow, RequestLost, Pending, IsLegal, Script, Sweep, Listing, Deleting, sweep_asks, nth, completion, abort, deletion, all_commits, Commit, Fetching, Replacing, Completing, Marking, Reverting, CommitOver, set_request, commit_asks, Tabled, HasBucket, Told, ends, nothing_told, tell_driver, at_id, Facts, FitsJobCommit, IsCommit, Gone, Decides}
 use Rattle.store_frame.proofs.Framed.{frame}
-use Rattle.job_facts.specs.Told.{Told, ends, nothing_told, tell_driver}
-use Rattle.job_facts.specs.Stores.{at_id}
-use Rattle.job_facts.specs.Facts.{Facts}
-use Rattle.job_facts.specs.Driver.{FitsJobCommit}
-use Rattle.job_facts.specs.Filed.{IsCommit, Gone, Decides}
 use Rattle.job_facts.proofs.Held.{nth_of, of_sets}
 use Rattle.job_facts.proofs.Ended.{gone_stays}
 use Rattle.job_facts.proofs.Effects.{upload_low, completion_ends, abort_ends}

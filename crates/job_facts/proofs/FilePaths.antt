@@ -1,22 +1,9 @@
 -- The paths of the job's files are such as a reader of the destination is shown.
 use Rattle.std.proofs.Common.{◌≡◌, ℕ, ◌==◌, nat_eq, if◌then◌else◌, Bool, true, false, List, [], ◌∷◌, ◌++◌, length, inl, inr, refl, ap, ◌∙◌, arith}
-use Rattle.std.specs.List.{list_all}
-use Rattle.std.proofs.lemmas.Bool.{and_parts, lt-ltb, not-true, false≢true}
-use Rattle.std.proofs.lemmas.Bool.Decides.{nat_tests}
+use Rattle.job_facts.specs.Prelude.{list_all, is_open, File, Who, IsLegal, IsGiven, is_full, with_id, with_id_last, path_of, Script, files, is_folder, is_file_path, IsIn}
+use Rattle.job_spec.proofs.Common.{and_parts, lt-ltb, not-true, false≢true, nat_tests, true_or_false, false_true, id_bytes, unique_parts}
 use Rattle.words.specs.Parts.{parts_from, parts_of}
-use Rattle.magic_paths.specs.Places.{is_open}
-use Rattle.job_model.specs.Files.{File}
-use Rattle.job_model.specs.Attempts.{Who}
-use Rattle.job_model.specs.Legal.{IsLegal, IsGiven}
-use Rattle.job_model.specs.Paths.{is_full}
-use Rattle.job_model.specs.Placed.{with_id, with_id_last, path_of}
-use Rattle.job_model.specs.JobScript.{Script}
-use Rattle.job_protocol.specs.Outputs.{files}
-use Rattle.job_protocol.specs.View.{is_folder, is_file_path}
-use Rattle.proof_base.specs.Members.{IsIn}
-use Rattle.proof_base.proofs.Members.{true_or_false, false_true}
 use Rattle.job_facts.proofs.Legal.{from_script, given_of}
-use Rattle.job_model.proofs.Unique.{id_bytes, unique_parts}
 use Rattle.job_facts.proofs.JobCommitting.{file_open}
 
 -- a text that ends in `/` has an empty part

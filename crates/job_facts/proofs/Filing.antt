@@ -1,45 +1,13 @@
 -- What stands where the files of the sets go, while the driver's commit completes their uploads and where it reverts.
 use Rattle.std.proofs.Common.{◌≡◌, ℕ, ◌+◌, ◌<◌, ◌≤◌, ◌⊎◌, inl, inr, nat_lt, nat_eq, ◌&&◌, ◌||◌, Bool, true, false, cond, List, [], ◌∷◌, ◌++◌, length, slice_get, Option, Some, None, refl, sym, ap, subst, ◌∙◌, arith}
-use Rattle.std.specs.Option.{option_map}
-use Rattle.std.proofs.lemmas.Bool.{ltb-false}
-use Rattle.proof_base.proofs.Numbers.{below_is}
-use Rattle.s3_types.specs.Store.{Scene}
-use Rattle.s3_types.specs.Answer.{apply}
-use Rattle.s3_types.specs.Moment.{effect, is_effective}
-use Rattle.s3_types.specs.declared.object.Object.{Object}
-use Rattle.s3_types.specs.declared.request.Request.{Request}
-use Rattle.s3_types.specs.declared.request.Request.TheVariants.{DeleteObject}
-use Rattle.s3_types.specs.declared.reply.Reply.{Reply}
-use Rattle.s3_types.specs.declared.journal.Outcome.{Outcome}
-use Rattle.s3_types.specs.declared.journal.Outcome.TheVariants.{Answered, Slow, RequestLost, ReplyLost}
-use Rattle.s3_types.specs.declared.journal.Entry.{Entry}
-use Rattle.path_keys.specs.Paths.{below}
-use Rattle.pending_json.specs.Pending.{Pending}
-use Rattle.pending_json.specs.declared.records.PendingSet.{PendingSet}
-use Rattle.retries.specs.Worn.{was_answered, streak, IsWorn}
+use Rattle.job_facts.specs.Prelude.{option_map, Scene, apply, effect, is_effective, Object, Request, DeleteObject, Reply, Outcome, Answered, Slow, RequestLost, ReplyLost, Entry, below, Pending, PendingSet, IsWorn, IsLegal, Script, CommitEnd, wanted_at, same_path, files, Sweep, sweep_hears, Turn, nth, completion, abort, deletion, again, follow, dealt, revert, Sets, all_commits, picks_of, Commit, Fetching, Replacing, Completing, Marking, Reverting, CommitOver, set_read, commit_misses, commit_tells, completing, is_no_magic, replaced, replacing, decided, fetching, fetched, swept, reverting, worn_completion, In, Table, Tabled, IsIn, changed_upload, Told, driver_entry, tell_driver, at_key, Facts, Reads, FitsJobCommit, NoneEnded, Turned, IsCommit, Gone, AreDecided, whole_of, IsBefore, deletes, Wants, FileStands}
+use Rattle.job_spec.proofs.Common.{ltb-false, same_self, shared_found, some_is, none_some, false_true, true_or_false, same_or_not, same_or_other, nat_false, nat_true, in_append}
+use Rattle.path_keys.proofs.Common.{below_is}
+use Rattle.job_spec.specs.Prelude.{was_answered, streak}
 use Rattle.retries.proofs.Misses.{streak_same, worn_now, worn_more}
-use Rattle.retries.proofs.SameRequest.{same_self}
-use Rattle.job_model.specs.Legal.{IsLegal}
-use Rattle.job_model.specs.JobScript.{Script}
-use Rattle.job_model.specs.declared.ends.CommitEnd.{CommitEnd}
 use Rattle.job_model.specs.declared.ends.CommitEnd.TheVariants as ends_of
 use Rattle.job_model.specs.declared.ends.Stage.TheVariants as stages
-use Rattle.job_protocol.specs.Outputs.{wanted_at, same_path, files}
-use Rattle.list_walk.specs.Walks.{Sweep, sweep_hears}
-use Rattle.job_protocol.specs.Lanes.{Turn, nth, completion, abort, deletion, again, follow, dealt, revert}
-use Rattle.job_protocol.specs.JobCommits.{Sets, all_commits, picks_of, Commit, Fetching, Replacing, Completing, Marking, Reverting, CommitOver, set_read, commit_misses, commit_tells, completing, is_no_magic, replaced, replacing, decided, fetching, fetched, swept, reverting, worn_completion}
-use Rattle.job_protocol.specs.LaneTable.{In, Table, Tabled}
 use Rattle.job_protocol.proofs.Tables.{table_dealt, table_answered, table_again, all_done}
-use Rattle.job_protocol.proofs.Shared.{shared_found}
-use Rattle.proof_base.specs.Members.{IsIn}
-use Rattle.store_frame.specs.Frame.{changed_upload}
-use Rattle.proof_base.proofs.Members.{some_is, none_some, false_true, true_or_false, same_or_not, same_or_other, nat_false, nat_true, in_append}
-use Rattle.job_facts.specs.Told.{Told, driver_entry, tell_driver}
-use Rattle.job_facts.specs.Stores.{at_key}
-use Rattle.job_facts.specs.Facts.{Facts}
-use Rattle.job_facts.specs.Driver.{Reads, FitsJobCommit}
-use Rattle.job_facts.specs.Turning.{NoneEnded, Turned}
-use Rattle.job_facts.specs.Filed.{IsCommit, Gone, AreDecided, whole_of, IsBefore, deletes, Wants, FileStands}
 use Rattle.job_facts.proofs.Whose.{attempt, or_true, or_false}
 use Rattle.job_facts.proofs.Placed.{one_key}
 use Rattle.job_facts.proofs.Turning.{none_turned}

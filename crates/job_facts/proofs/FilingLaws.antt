@@ -1,46 +1,9 @@
 -- What stands where wanted files go, entry by entry: the driver's commit's, and those of others.
 use Rattle.std.proofs.Common.{◌≡◌, ℕ, ◌≤◌, ◌^◌, ◌⊎◌, inl, inr, true, List, [], ◌∷◌, ◌++◌, length, take, Option, Some, None, refl, sym, ap, subst, ◌∙◌}
-use Rattle.s3_types.specs.Store.{Scene}
-use Rattle.s3_types.specs.Answer.{answer, bucket_of}
-use Rattle.s3_types.specs.Moment.{effect, IsHonestOutcome}
-use Rattle.s3_types.specs.Requests.{only_reads}
-use Rattle.s3_types.specs.declared.object.Object.{Object}
-use Rattle.s3_types.specs.declared.request.Request.{Request}
-use Rattle.s3_types.specs.declared.request.Request.TheVariants.{PutObject}
-use Rattle.s3_types.specs.declared.request.Committer.{Committer}
-use Rattle.s3_types.specs.declared.request.Committer.TheVariants.{Magic}
-use Rattle.s3_types.specs.declared.journal.Outcome.{Outcome}
-use Rattle.s3_types.specs.declared.journal.Outcome.TheVariants.{Answered, Slow, RequestLost, ReplyLost}
-use Rattle.s3_types.specs.declared.journal.Entry.{Entry}
-use Rattle.path_keys.specs.Paths.{below}
-use Rattle.retries.specs.Worn.{IsWorn}
-use Rattle.magic_paths.specs.Layout.{success_key}
-use Rattle.magic_paths.specs.Places.{FilePlace, is_open}
-use Rattle.magic_paths.proofs.Tails.{key_magic}
-use Rattle.pending_json.specs.Pending.{Pending}
-use Rattle.job_model.specs.Attempts.{Who}
-use Rattle.job_model.specs.Legal.{IsLegal}
-use Rattle.job_model.specs.JobScript.{Script}
-use Rattle.job_protocol.specs.View.{is_file_path}
-use Rattle.job_protocol.specs.Records.{mark_text}
-use Rattle.list_walk.specs.Walks.{Sweep, Listing, Deleting, sweep_asks, page_after}
-use Rattle.job_protocol.specs.JobCommits.{picks_of, Commit, Fetching, Replacing, Completing, Marking, Reverting, CommitOver, set_request, commit_start, commit_asks, commit_tells}
-use Rattle.job_protocol.specs.Operations.{Setting, Operation, asks}
-use Rattle.job_spec.specs.Seen.{Seen}
-use Rattle.proof_base.specs.Members.{IsIn}
-use Rattle.store_frame.specs.Held.{HasBucket}
-use Rattle.store_frame.specs.Frame.{changed_keys}
-use Rattle.proof_base.proofs.Members.{some_is, false_true}
+use Rattle.job_facts.specs.Prelude.{Scene, answer, bucket_of, effect, IsHonestOutcome, only_reads, Object, Request, PutObject, Committer, Magic, Outcome, Answered, Slow, RequestLost, ReplyLost, Entry, below, IsWorn, success_key, FilePlace, is_open, Pending, Who, IsLegal, Script, is_file_path, mark_text, Sweep, Listing, Deleting, sweep_asks, page_after, picks_of, Commit, Fetching, Replacing, Completing, Marking, Reverting, CommitOver, set_request, commit_start, commit_asks, commit_tells, Setting, Operation, asks, Seen, IsIn, HasBucket, changed_keys, Told, known, ends, tell_driver, tell_attempt, driver_entry, at_key, IsAttempt, Hold, Fits, FitsJobCommit, NoneEnded, IsCommit, Decides, IsBefore, deletes, Wants, FileStands, whole_of, Commits}
+use Rattle.job_spec.proofs.Common.{key_magic, some_is, false_true}
 use Rattle.store_frame.proofs.Framed.{frame}
 use Rattle.store_frame.proofs.Reading.{reads_nothing}
-use Rattle.job_facts.specs.Told.{Told, known, ends, tell_driver, tell_attempt, driver_entry}
-use Rattle.job_facts.specs.Stores.{at_key}
-use Rattle.job_facts.specs.Facts.{IsAttempt, Hold}
-use Rattle.job_facts.specs.Fits.{Fits}
-use Rattle.job_facts.specs.Driver.{FitsJobCommit}
-use Rattle.job_facts.specs.Turning.{NoneEnded}
-use Rattle.job_facts.specs.Filed.{IsCommit, Decides, IsBefore, deletes, Wants, FileStands, whole_of}
-use Rattle.job_facts.specs.FiledLaws.{Commits}
 use Rattle.job_facts.proofs.Legal.{some_dest}
 use Rattle.job_facts.proofs.Beside.{still_sent, still_known, job_commit_begins}
 use Rattle.job_facts.proofs.Owning.{operation_own}

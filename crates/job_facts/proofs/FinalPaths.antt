@@ -1,24 +1,18 @@
 -- The final path of a file's marker is the file's.
 use Rattle.std.proofs.Common.{◌≡◌, ℕ, ◌-◌, ◌<◌, ◌≤◌, ◌^◌, Bool, true, false, List, [], ◌∷◌, ◌++◌, length, drop, codes, if◌then◌else◌}
 use Rattle.std.proofs.Common.{refl, sym, ap, ◌∙◌, arith, append_assoc}
-use Rattle.std.specs.Fmt.{decimal}
-use Rattle.std.specs.List.{list_all, list_any, after_first}
-use Rattle.std.proofs.lemmas.Bool.{and_parts, or_parts}
-use Rattle.std.proofs.lemmas.Fmt.{decimal_nonempty}
-use Rattle.std.proofs.lemmas.List.Folds.{list_all-append}
-use Rattle.proof_base.proofs.Bools.{not_so}
-use Rattle.words.specs.Parts.{parts_of, is_other}
-use Rattle.words.proofs.Pieces.{parts_append, one_part}
-use Rattle.s3_types.specs.Names.{is_job_id}
-use Rattle.path_keys.specs.Paths.{below}
+use Rattle.job_facts.specs.Prelude.{decimal, list_all, list_any, is_job_id, below, MarkerPlace}
+use Rattle.s3_types.specs.Prelude.{after_first}
+use Rattle.job_spec.proofs.Common.{and_parts, or_parts, list_all-append, not_so, decimal_without, below_is}
+use Rattle.path_keys.proofs.Common.{decimal_nonempty, parts_append, one_part}
+use Rattle.job_model.specs.Prelude.{is_other}
+use Rattle.job_protocol.specs.Prelude.{attempt_key, is_reserved}
+use Rattle.words.specs.Parts.{parts_of}
 use Rattle.magic_paths.specs.Finals.{is_word, has_magic, after_magic, kept, final_elements}
-use Rattle.magic_paths.specs.Layout.{attempt_key}
-use Rattle.magic_paths.specs.Places.{MarkerPlace}
-use Rattle.magic_paths.proofs.Elements.{decimal_without, id_others}
+use Rattle.magic_paths.proofs.Elements.{id_others}
 use Rattle.magic_paths.proofs.Kept.{some_parts, final_parts}
-use Rattle.magic_paths.proofs.Tails.{below_is, tail_is}
+use Rattle.magic_paths.proofs.Tails.{tail_is}
 use Rattle.magic_paths.proofs.Walked.{Walked, begun, stepped, has_word, front_at, behind_at}
-use Rattle.job_model.specs.Paths.{is_reserved}
 use Rattle.job_facts.specs.Laws.{MarkersLead}
 use Rattle.job_facts.proofs.Legal.{some_dest, is_attempt, small_attempt}
 

@@ -1,25 +1,10 @@
 -- A foreign request leaves the job alone; so does one that changes nothing, and one that begins an upload.
 use Rattle.std.proofs.Common.{◌≡◌, ℕ, ◌<◌, Bool, List, sym, subst}
-use Rattle.s3_types.specs.Store.{Scene, Upload}
-use Rattle.s3_types.specs.Answer.{apply}
-use Rattle.s3_types.specs.Requests.{only_reads}
-use Rattle.s3_types.specs.declared.request.Request.{Request}
-use Rattle.s3_types.specs.declared.journal.Outcome.{Outcome}
-use Rattle.s3_types.specs.declared.journal.Outcome.TheVariants.{Slow, RequestLost}
-use Rattle.job_model.specs.Attempts.{Who}
-use Rattle.job_model.specs.Legal.{IsLegal}
-use Rattle.job_model.specs.JobScript.{Script}
-use Rattle.job_model.specs.Known.{Drawn}
-use Rattle.job_spec.specs.Seen.{Seen, see}
-use Rattle.proof_base.proofs.Members.{false_true}
 use Rattle.store_frame.proofs.Framed.{frame}
 use Rattle.store_frame.proofs.Reading.{reads_nothing}
-use Rattle.store_frame.specs.Held.{HasBucket}
 use Rattle.std.proofs.Common.{true, Some, Option}
-use Rattle.job_facts.specs.Told.{Told, tell, strange_entry}
-use Rattle.job_facts.specs.Stores.{at_id, IsKnown, Leaves}
-use Rattle.job_facts.specs.Foreign.{IsForeign}
-use Rattle.job_facts.specs.Facts.{Facts, Hold}
+use Rattle.job_facts.specs.Prelude.{Scene, Upload, apply, only_reads, Request, Outcome, Slow, RequestLost, Who, IsLegal, Script, Drawn, Seen, see, HasBucket, Told, tell, strange_entry, at_id, IsKnown, Leaves, IsForeign, Facts, Hold}
+use Rattle.job_spec.proofs.Common.{false_true}
 use Rattle.job_facts.proofs.Keep.{leaves_keep}
 
 -- what is known of the scene before

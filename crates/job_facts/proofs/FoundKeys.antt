@@ -1,40 +1,19 @@
 -- What an abort or clean of the job found has the key that it was found with as long as it lives; so what its aborts end is gone.
 use Rattle.std.proofs.Common.{◌≡◌, ℕ, ◌<◌, ◌≤◌, inl, inr, nat_lt, ◌&&◌, ◌||◌, Bool, true, false, List, [], ◌∷◌, ◌++◌, take, length, Option, Some, None, refl, sym, ap, subst, ◌∙◌, arith, cond}
+use Rattle.job_facts.specs.Prelude.{filter, Content, Scene, Upload, begins, answer, apply, effect, is_effective, IsHonestOutcome, Request, AbortUpload, UploadRef, Committer, Magic, Reply, Outcome, Answered, Slow, RequestLost, Retried, step, Script, dest_prefix, Sweep, Listing, walked_by, walked_uploads, last_ref, uploads_after, sweep_hears, all_go, Clean, Walking, Aborting, Naming, Removing, CleanOver, clean_asks, clean_after, clean_hears, aborted, aborting, walking, sweeping, removing, naming, HasBucket, Told, ends, tell_driver, at_id, end_left, Gone, cluster_prefix}
+use Rattle.job_spec.proofs.Common.{and_parts, some_is, false_true, eq_nat, text_true, in_append}
 use Rattle.std.specs.FinMap as fin
-use Rattle.std.specs.List.{filter}
-use Rattle.std.proofs.lemmas.Bool.{and_parts}
-use Rattle.s3_types.specs.Store.{Content, Scene, Upload}
-use Rattle.s3_types.specs.Pages.{begins}
 use Rattle.s3_types.specs.Multipart.{listed}
-use Rattle.s3_types.specs.Answer.{answer, apply}
-use Rattle.s3_types.specs.Moment.{effect, is_effective, IsHonestOutcome}
-use Rattle.s3_types.specs.declared.request.Request.{Request}
-use Rattle.s3_types.specs.declared.request.Request.TheVariants.{AbortUpload}
-use Rattle.s3_types.specs.declared.request.UploadRef.{UploadRef}
-use Rattle.s3_types.specs.declared.request.Committer.{Committer}
-use Rattle.s3_types.specs.declared.request.Committer.TheVariants.{Magic}
-use Rattle.s3_types.specs.declared.reply.Reply.{Reply}
 use Rattle.s3_types.specs.declared.reply.Reply.TheVariants.{Uploads as UploadsPage}
-use Rattle.s3_types.specs.declared.journal.Outcome.{Outcome}
-use Rattle.s3_types.specs.declared.journal.Outcome.TheVariants.{Answered, Slow, RequestLost}
-use Rattle.retries.specs.Retries.{Retried, step}
-use Rattle.job_model.specs.JobScript.{Script}
-use Rattle.job_protocol.specs.Setup.{dest_prefix}
-use Rattle.list_walk.specs.Walks.{Sweep, Listing, walked_by, walked_uploads, last_ref, uploads_after, sweep_hears, all_go}
-use Rattle.job_protocol.specs.Cleanups.{Clean, Walking, Aborting, Sweeping, Naming, Removing, CleanOver, clean_asks, clean_after, clean_hears, aborted, aborting, walking, sweeping, removing, naming}
-use Rattle.store_frame.specs.Held.{HasBucket}
-use Rattle.proof_base.proofs.Members.{some_is, false_true, eq_nat, text_true, in_append}
+use Rattle.job_protocol.specs.Cleanups.{Sweeping}
 use Rattle.store_frame.proofs.Framed.{frame}
-use Rattle.job_facts.specs.Told.{Told, ends, tell_driver}
-use Rattle.job_facts.specs.Stores.{at_id, end_left}
-use Rattle.job_facts.specs.Filed.{Gone, HasItsKey, AllHaveKeys, FoundWithKeys}
+use Rattle.job_facts.specs.Filed.{HasItsKey, AllHaveKeys, FoundWithKeys}
 use Rattle.job_facts.proofs.Ended.{stood_so}
 use Rattle.job_facts.proofs.EndedGone.{stays_gone, effective_is}
 use Rattle.job_facts.proofs.Going.{step_so}
 use Rattle.job_facts.proofs.Live.{listed_live}
 use Rattle.job_facts.proofs.Shapes.{id_before, answer_is, abort_turns}
 use Rattle.job_facts.proofs.Cleaning.{taken_refs}
-use Rattle.magic_paths.specs.Layout.{cluster_prefix}
 
 -- ---- one upload
 

@@ -1,16 +1,6 @@
 -- What an attempt knows after one more of its own requests, and where a request that got no answer leads.
 use Rattle.std.proofs.Common.{◌≡◌, ℕ, zero, suc, ◌||◌, Bool, true, refl}
-use Rattle.s3_types.specs.declared.request.Request.{Request}
-use Rattle.s3_types.specs.declared.request.Request.TheVariants.{PutObject, CreateUpload, UploadPart, ClusterPut, ClusterRename}
-use Rattle.s3_types.specs.declared.reply.Reply.{Reply}
-use Rattle.s3_types.specs.declared.journal.Outcome.{Outcome}
-use Rattle.s3_types.specs.declared.journal.Outcome.TheVariants.{Answered, Slow, RequestLost, ReplyLost}
-use Rattle.retries.specs.Retries.{Retried, Item, Got, WornOut, step, unanswered_by}
-use Rattle.job_model.specs.Attempts.{Who}
-use Rattle.job_model.specs.JobScript.{Script}
-use Rattle.job_model.specs.Known.{Known}
-use Rattle.job_protocol.specs.Knowledge.{learn}
-use Rattle.job_facts.specs.Told.{Told, known, undoes, tell_attempt}
+use Rattle.job_facts.specs.Prelude.{Request, PutObject, CreateUpload, UploadPart, ClusterPut, ClusterRename, Reply, Outcome, Answered, Slow, RequestLost, ReplyLost, Retried, Item, Got, WornOut, step, unanswered_by, Who, Script, Known, learn, Told, known, undoes, tell_attempt}
 use Rattle.job_facts.proofs.Whose.{who_here}
 
 module _ (w : Script) (m : Told) (a : Who) (r : Request) (o : Outcome) where

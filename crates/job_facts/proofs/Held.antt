@@ -1,28 +1,7 @@
 -- The uploads of the sets that the driver holds: whose they are, and that no two have one upload or, where no two attempts write one path, one destination.
 use Rattle.std.proofs.Common.{◌≡◌, ℕ, zero, suc, ◌+◌, ◌<◌, ◌≤◌, ◌⊎◌, inl, inr, Bool, true, false, cond, List, [], ◌∷◌, ◌++◌, map, length, slice_get, Option, Some, None, refl, sym, ap, subst, ◌∙◌, arith}
-use Rattle.std.specs.Option.{option_map, is_some}
-use Rattle.std.specs.Map.{lookup}
-use Rattle.proof_base.specs.Order.{text_eq}
-use Rattle.s3_types.specs.Store.{Scene}
-use Rattle.pending_json.specs.Pending.{Pending}
-use Rattle.pending_json.specs.declared.records.PendingSet.{PendingSet}
-use Rattle.job_model.specs.Files.{File, has_path}
-use Rattle.job_model.specs.Attempts.{Who}
-use Rattle.job_model.specs.Legal.{IsLegal}
-use Rattle.job_model.specs.JobScript.{Script}
-use Rattle.job_model.specs.Known.{Drawn}
-use Rattle.job_protocol.specs.Outputs.{Picks, files, files_picked, writes, same_path}
-use Rattle.job_protocol.specs.Knowledge.{drawn_for, drawn_in}
-use Rattle.job_protocol.specs.Records.{file_key, file_record}
-use Rattle.job_protocol.specs.Lanes.{nth}
-use Rattle.job_protocol.specs.JobCommits.{Sets, all_commits, picks_of}
-use Rattle.job_protocol.proofs.Shared.{shared_none}
-use Rattle.proof_base.specs.Members.{IsIn}
-use Rattle.proof_base.proofs.Members.{some_is, none_some, text_true, in_map, map_in, in_append, in_front, in_back}
-use Rattle.job_facts.specs.Told.{Told}
-use Rattle.job_facts.specs.Facts.{ApartFiles, Facts, knowing}
-use Rattle.job_facts.specs.Driver.{IsHeldSet, Reads}
-use Rattle.job_facts.specs.Filed.{IsCommit}
+use Rattle.job_facts.specs.Prelude.{option_map, is_some, lookup, text_eq, Scene, Pending, PendingSet, File, has_path, Who, IsLegal, Script, Drawn, Picks, files, files_picked, writes, same_path, drawn_for, drawn_in, file_key, file_record, nth, Sets, all_commits, picks_of, IsIn, Told, ApartFiles, Facts, knowing, IsHeldSet, Reads, IsCommit}
+use Rattle.job_spec.proofs.Common.{shared_none, some_is, none_some, text_true, in_map, map_in, in_append, in_front, in_back}
 use Rattle.job_facts.proofs.Whose.{attempt}
 use Rattle.job_facts.proofs.Legal.{is_attempt}
 use Rattle.job_facts.proofs.Placed.{one_key}

@@ -1,60 +1,18 @@
 -- The driver's commit keeps the facts with each of its requests, holds the sets as it read them, and goes on as it should.
 use Rattle.std.proofs.Common.{◌≡◌, ℕ, zero, suc, ◌+◌, ◌<◌, ◌≤◌, ◌^◌, ◌⊎◌, inl, inr, nat_eq, nat_lt, Bool, true, false, cond, List, [], ◌∷◌, ◌++◌, map, take, drop, length, slice_get, Option, Some, None, refl, sym, ap, subst, ◌∙◌, codes, append_assoc}
-use Rattle.std.specs.List.{filter}
-use Rattle.std.proofs.lemmas.Bool.{and_parts, false≢true, not-true}
-use Rattle.s3_types.specs.Store.{Scene}
-use Rattle.s3_types.specs.Pages.{begins, listed}
-use Rattle.s3_types.specs.Names.{is_bucket}
-use Rattle.s3_types.specs.Answer.{answer}
-use Rattle.s3_types.specs.Moment.{IsHonestOutcome}
-use Rattle.s3_types.specs.declared.request.Request.{Request}
-use Rattle.s3_types.specs.declared.request.Committer.{Committer}
-use Rattle.s3_types.specs.declared.request.Committer.TheVariants.{Magic, Directory, Partitioned}
-use Rattle.s3_types.specs.declared.reply.Reply.{Reply}
-use Rattle.s3_types.specs.declared.reply.Reply.TheVariants.{Page}
-use Rattle.s3_types.specs.declared.reply.PageEntry.{PageEntry}
-use Rattle.s3_types.specs.declared.request.Mode.{Mode}
-use Rattle.s3_types.specs.declared.request.Mode.TheVariants.{Replace, Append, Fail}
-use Rattle.path_keys.specs.Paths.{below}
-use Rattle.magic_paths.proofs.Tails.{begins_behind, below_is as paths_below}
-use Rattle.store_frame.specs.Held.{HasBucket}
+use Rattle.job_facts.specs.Prelude.{filter, Scene, begins, listed, is_bucket, answer, IsHonestOutcome, Request, Committer, Magic, Directory, Partitioned, Reply, Page, PageEntry, Mode, Replace, Append, Fail, below, HasBucket, partitions, partition_prefix, Outcome, Answered, Slow, magic_prefix, FilePlace, SuccessPlace, is_open, Pending, PendingSet, File, Who, path_of, IsLegal, IsGiven, Script, CommitEnd, Picks, files, wanted_paths, same_path, Drawn, drawn_for, file_key, file_record, files_set, dest_prefix, Sweep, Listing, Deleting, walked_by, last_of, keys_on, sweep_asks, sweep_hears, deleting, page_after, Turn, nth, completion, abort, deletion, again, follow, dealt, chosen, undo, in_turn, is_tried, is_unsent, revert, Sets, all_commits, picks_of, Commit, Fetching, Replacing, Completing, Marking, Reverting, CommitOver, set_request, set_read, commit_asks, commit_hears, commit_misses, commit_tells, completing, is_no_magic, replaced, replacing, decided, fetching, fetched, swept, reverting, worn_completion, Seen, IsIn, Told, IsDriving, Hold, knowing, AllUnder, IsHeldSet, Reads, FitsJobCommit}
+use Rattle.job_spec.proofs.Common.{and_parts, false≢true, not-true, begins_behind, key_magic, some_is, none_some, false_true, true_or_false, eq_nat, nat_true, in_map, in_append, in_filter}
+use Rattle.job_protocol.specs.Prelude.{IsPlaced}
+use Rattle.path_keys.proofs.Common.{below_is}
+use Rattle.magic_paths.proofs.Tails.{below_is as paths_below}
 use Rattle.store_frame.proofs.Flat.{page_begins}
-use Rattle.job_protocol.specs.Conflicts.{partitions}
-use Rattle.job_protocol.specs.TaskCommits.{partition_prefix}
-use Rattle.s3_types.specs.declared.journal.Outcome.{Outcome}
-use Rattle.s3_types.specs.declared.journal.Outcome.TheVariants.{Answered, Slow}
-use Rattle.magic_paths.specs.Layout.{magic_prefix}
-use Rattle.magic_paths.specs.Places.{FilePlace, SuccessPlace, is_open}
-use Rattle.magic_paths.proofs.Tails.{key_magic}
-use Rattle.pending_json.specs.Pending.{Pending}
-use Rattle.pending_json.specs.declared.records.PendingSet.{PendingSet}
-use Rattle.job_model.specs.Files.{File}
-use Rattle.job_model.specs.Attempts.{Who}
-use Rattle.job_model.specs.Placed.{path_of}
-use Rattle.job_model.specs.Plans.{IsPlaced}
-use Rattle.job_model.specs.Legal.{IsLegal, IsGiven}
-use Rattle.job_model.specs.JobScript.{Script}
-use Rattle.job_model.specs.declared.ends.CommitEnd.{CommitEnd}
 use Rattle.job_model.specs.declared.ends.CommitEnd.TheVariants as ends
 use Rattle.job_model.specs.declared.ends.Stage.TheVariants as stages
 use Rattle.job_model.proofs.PathBounds.{placed_open}
-use Rattle.job_protocol.specs.Outputs.{Picks, files, wanted_paths, same_path}
-use Rattle.job_model.specs.Known.{Drawn}
-use Rattle.job_protocol.specs.Knowledge.{drawn_for}
-use Rattle.job_protocol.specs.Records.{file_key, file_record, files_set}
-use Rattle.job_protocol.specs.Setup.{dest_prefix}
-use Rattle.list_walk.specs.Walks.{Sweep, Listing, Deleting, walked, walked_by, last_of, keys_on, sweep_asks, sweep_hears, deleting, page_after}
+use Rattle.list_walk.specs.Walks.{walked}
 use Rattle.list_walk.specs.Walks as walks
-use Rattle.job_protocol.specs.Lanes.{Turn, nth, nothing_pending, completion, abort, deletion, again, follow, dealt, chosen, undo, in_turn, is_tried, is_unsent, revert}
-use Rattle.job_protocol.specs.JobCommits.{Sets, all_commits, picks_of, Commit, Fetching, Replacing, Completing, Marking, Reverting, CommitOver, set_request, set_read, commit_asks, commit_hears, commit_misses, commit_tells, completing, is_no_magic, replaced, replacing, decided, fetching, fetched, swept, reverting, worn_completion}
-use Rattle.job_spec.specs.Seen.{Seen}
-use Rattle.proof_base.proofs.Numbers.{below_is}
-use Rattle.proof_base.specs.Members.{IsIn}
-use Rattle.proof_base.proofs.Members.{some_is, none_some, false_true, true_or_false, eq_nat, nat_true, in_map, in_append, in_filter}
-use Rattle.job_facts.specs.Told.{Told}
-use Rattle.job_facts.specs.Foreign.{IsDriving}
-use Rattle.job_facts.specs.Facts.{Hold, knowing}
-use Rattle.job_facts.specs.Driver.{AllUnder, IsHeldSet, Reads, FitsReplace, AllDriving, FitsJobCommit}
+use Rattle.job_protocol.specs.Lanes.{nothing_pending}
+use Rattle.job_facts.specs.Driver.{FitsReplace, AllDriving}
 use Rattle.job_facts.proofs.Shapes.{answer_is}
 use Rattle.job_facts.proofs.Legal.{some_dest, from_script, given_of}
 use Rattle.job_facts.proofs.Driving.{reads_drive}

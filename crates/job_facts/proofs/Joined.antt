@@ -1,20 +1,11 @@
 -- The parts of a file's upload, joined by a completion, are the file's bytes.
 use Rattle.std.proofs.Common.{◌≡◌, ℕ, zero, suc, ◌+◌, ◌-◌, ◌<◌, ◌≤◌, ◌&&◌, true, List, [], ◌∷◌, ◌++◌, map, length, slice_get, take, Option, Some, Ok, refl, sym, ap, subst, ◌∙◌, arith}
+use Rattle.job_facts.specs.Prelude.{flat_map, list_all, named_from, Upload, Spelled, joined, NamedPart, File, Script, Drawn, file_parts, IsHeld}
+use Rattle.job_spec.proofs.Common.{le-leb, lt-ltb, slice_get_within, some_is, nat_true, text_true}
+use Rattle.job_spec.specs.Prelude.{Parts, rises, has_tag, tag_eq}
+use Rattle.retries.specs.Prelude.{rises_from, is_sent, is_large, bytes_of}
 use Rattle.std.specs.FinMap as fin
-use Rattle.std.specs.List.{flat_map, list_all}
-use Rattle.std.proofs.lemmas.Bool.{le-leb, lt-ltb}
-use Rattle.std.proofs.lemmas.Option.{slice_get_within}
-use Rattle.s3_types.specs.Blocks.{named_from}
-use Rattle.s3_types.specs.Store.{Upload, Parts}
-use Rattle.s3_types.specs.Tags.{Spelled, plain_tag}
-use Rattle.s3_types.specs.Multipart.{joined, rises, rises_from, is_sent, has_tag, tag_eq, is_large, bytes_of}
-use Rattle.s3_types.specs.declared.request.NamedPart.{NamedPart}
-use Rattle.job_model.specs.Files.{File}
-use Rattle.job_model.specs.JobScript.{Script}
-use Rattle.job_model.specs.Known.{Drawn}
-use Rattle.job_protocol.specs.Uploading.{file_parts}
-use Rattle.proof_base.proofs.Members.{some_is, nat_true, text_true}
-use Rattle.job_facts.specs.Facts.{IsHeld}
+use Rattle.s3_types.specs.Tags.{plain_tag}
 use Rattle.job_facts.proofs.Cut.{parts_some, parts_large, parts_joined}
 
 -- the parts from n on are these bytes, and have these tags

@@ -1,26 +1,10 @@
 -- How the facts are kept where a scene changes: where it leaves the job alone, where things are taken away, where an object or a file is put at a place, and where an upload changes.
 use Rattle.std.proofs.Common.{◌≡◌, ℕ, suc, ◌<◌, ◌≤◌, inl, inr, ◌&&◌, Bool, true, false, cond, List, slice_get, Option, Some, None, refl, sym, ap, subst, ◌∙◌, arith}
+use Rattle.job_facts.specs.Prelude.{option_map, Scene, Upload, Files, is_part_number, with_part, Object, Place, RecordPlace, SetPlace, TemporaryPlace, StagedSetPlace, key_at, path_at, File, Who, IsLegal, Script, files, Drawn, file_key, file_parts, is_magic, IsIn, HasBucket, Told, at_key, at_place, at_id, sets_at, Leaves, Puts, part_left, end_left, IsHeld, IsOwned, IsRecord, IsOwnPlace, IsSet, Facts}
+use Rattle.job_spec.proofs.Common.{some_is, none_some, false_true, same_or_not, same_or_other, text_true, nat_here, nat_other}
 use Rattle.std.specs.FinMap as fin
-use Rattle.std.specs.Option.{option_map}
-use Rattle.s3_types.specs.Store.{Scene, Upload, Files}
-use Rattle.s3_types.specs.Multipart.{is_part_number, with_part}
-use Rattle.s3_types.specs.declared.object.Object.{Object}
-use Rattle.magic_paths.specs.Places.{Place, RecordPlace, SetPlace, TemporaryPlace, StagedSetPlace, key_at, path_at}
-use Rattle.job_model.specs.Files.{File}
-use Rattle.job_model.specs.Attempts.{Who}
-use Rattle.job_model.specs.Legal.{IsLegal}
-use Rattle.job_model.specs.JobScript.{Script}
-use Rattle.job_protocol.specs.Outputs.{files}
-use Rattle.job_model.specs.Known.{Drawn}
-use Rattle.job_protocol.specs.Records.{file_key}
-use Rattle.job_protocol.specs.Uploading.{file_parts}
-use Rattle.job_spec.specs.Seen.{is_magic}
-use Rattle.proof_base.specs.Members.{IsIn}
-use Rattle.store_frame.specs.Held.{HasBucket}
-use Rattle.proof_base.proofs.Members.{some_is, none_some, false_true, same_or_not, same_or_other, text_true, nat_here, nat_other}
-use Rattle.job_facts.specs.Told.{Told}
-use Rattle.job_facts.specs.Stores.{at_key, at_place, at_id, sets_at, Leaves, Puts, Turns, part_left, end_left}
-use Rattle.job_facts.specs.Facts.{IsHeld, IsOwned, Owned, IsRecord, IsOwnPlace, IsSet, Facts}
+use Rattle.job_facts.specs.Stores.{Turns}
+use Rattle.job_facts.specs.Facts.{Owned}
 use Rattle.job_facts.proofs.Placed.{not_both, record_place, own_place, record_magic, set_magic, one_place, key_file, path_below, magic_set, set_same, set_stood, set_object}
 use Rattle.job_facts.proofs.Legal.{small_task}
 

@@ -1,31 +1,15 @@
 -- The keys of an attempt's files are keys, also where their names are made unique to the job.
 use Rattle.std.proofs.Common.{◌≡◌, ℕ, ◌+◌, ◌<◌, ◌≤◌, ◌==◌, inl, inr, nat_le, nat_eq, ◌&&◌, ◌||◌, Bool, true, false, List, [], ◌∷◌, ◌++◌, length, refl, sym, ap, subst, ◌∙◌, arith, length-append}
-use Rattle.std.specs.List.{list_all, list_any, join_with_byte}
-use Rattle.std.specs.Str.{IsUtf8, IsAscii, is_utf8}
-use Rattle.std.proofs.lemmas.Bool.{and_parts, or_parts, leb-true, false≢true}
-use Rattle.std.proofs.lemmas.Bool.Decides.{nat_tests}
-use Rattle.std.proofs.lemmas.List.{append-nil}
-use Rattle.std.proofs.lemmas.Str.{IsUtf8-from_is_utf8, is_utf8-from_IsUtf8, IsUtf8-from_ascii, IsUtf8-append}
-use Rattle.std.proofs.lemmas.Str.Ascii.{IsAscii-nil, IsAscii-cons}
+use Rattle.job_facts.specs.Prelude.{list_all, list_any, is_job_id, below, File, Who, is_full, with_id, with_id_last, path_of, IsLegal, IsGiven, Script, files, file_key, IsIn}
+use Rattle.job_protocol.specs.Prelude.{join_with_byte, is_element, are_elements, begins_hidden, unique_name}
+use Rattle.job_model.specs.Prelude.{IsUtf8, is_id_byte}
+use Rattle.job_spec.specs.Prelude.{IsAscii, is_utf8}
+use Rattle.job_spec.proofs.Common.{and_parts, or_parts, leb-true, false≢true, nat_tests, append-nil, is_utf8-from_IsUtf8, IsUtf8-from_ascii, IsAscii-nil, IsAscii-cons, below_is, unique_parts, id_bytes}
+use Rattle.path_keys.proofs.Common.{IsUtf8-from_is_utf8, IsUtf8-append, join_parts, utf8_cut, some_part}
 use Rattle.words.specs.Parts.{parts_of}
-use Rattle.words.proofs.Pieces.{join_parts}
-use Rattle.words.proofs.Utf8.{utf8_cut}
 use Rattle.s3_types.specs.Names as names
-use Rattle.s3_types.specs.Names.{is_element, are_elements, is_id_byte, is_job_id}
-use Rattle.path_keys.specs.Paths.{below}
 use Rattle.path_keys.proofs.Beneath.{below_elements, key_path_from}
-use Rattle.magic_paths.proofs.Tails.{below_is}
-use Rattle.job_model.specs.Files.{File}
-use Rattle.job_model.specs.Attempts.{Who}
-use Rattle.job_model.specs.Paths.{begins_hidden, is_full}
-use Rattle.job_model.specs.Placed.{with_id, with_id_last, unique_name, path_of}
-use Rattle.job_model.specs.Legal.{IsLegal, IsGiven}
-use Rattle.job_model.specs.JobScript.{Script}
-use Rattle.job_protocol.specs.Outputs.{files}
-use Rattle.job_protocol.specs.Records.{file_key}
-use Rattle.proof_base.specs.Members.{IsIn}
-use Rattle.words.proofs.Counts.{some_part}
-use Rattle.job_model.proofs.Unique.{Cut, cut_id, unique_parts, id_bytes}
+use Rattle.job_model.proofs.Unique.{Cut, cut_id}
 use Rattle.job_facts.proofs.Legal.{some_dest, from_script, given_of}
 
 -- ---- elements

@@ -1,23 +1,10 @@
 -- How the facts are kept while the scene stays: what an attempt has sent, and what it learns.
 use Rattle.std.proofs.Common.{◌≡◌, ℕ, zero, suc, ◌<◌, ◌≤◌, ◌⊎◌, inl, inr, nat_eq, Bool, true, false, cond, List, [], ◌∷◌, ◌++◌, map, length, take, slice_get, Option, Some, refl, sym, ap, subst, ◌∙◌, arith, length-append}
+use Rattle.job_facts.specs.Prelude.{nat_cmp, Scene, Upload, Spelled, File, Who, IsLegal, Script, files, Drawn, file_key, set_text, file_parts, IsIn, Told, put_who, at_id, IsKnown, IsHeld, IsOwned, IsWritten, AreCommits, IsSet, IsTemporary, Facts, knowing}
+use Rattle.job_spec.proofs.Common.{some_is, none_some, false_true, same_or_not, nat_true, nat_false, in_map, map_in}
 use Rattle.std.specs.FinMap as fin
-use Rattle.std.specs.Ordering.{nat_cmp}
-use Rattle.s3_types.specs.Store.{Scene, Upload}
-use Rattle.s3_types.specs.Tags.{Spelled, plain_tag}
-use Rattle.job_model.specs.Files.{File}
-use Rattle.job_model.specs.Attempts.{Who}
-use Rattle.job_model.specs.Legal.{IsLegal}
-use Rattle.job_model.specs.JobScript.{Script}
-use Rattle.job_protocol.specs.Outputs.{files}
-use Rattle.job_model.specs.Known.{Drawn}
+use Rattle.s3_types.specs.Tags.{plain_tag}
 use Rattle.job_protocol.specs.Knowledge.{with_part}
-use Rattle.job_protocol.specs.Records.{file_key, set_text}
-use Rattle.job_protocol.specs.Uploading.{file_parts}
-use Rattle.proof_base.specs.Members.{IsIn}
-use Rattle.proof_base.proofs.Members.{some_is, none_some, false_true, same_or_not, nat_true, nat_false, in_map, map_in}
-use Rattle.job_facts.specs.Told.{Told, put_who}
-use Rattle.job_facts.specs.Stores.{at_id, IsKnown}
-use Rattle.job_facts.specs.Facts.{IsHeld, IsOwned, IsWritten, AreCommits, IsSet, IsTemporary, Facts, knowing}
 use Rattle.job_facts.proofs.Whose.{same_or_another, who_here, who_other}
 use Rattle.job_facts.proofs.Placed.{key_file}
 

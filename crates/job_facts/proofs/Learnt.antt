@@ -1,21 +1,7 @@
 -- What is told of an attempt's knowledge is what its own entries say, and that the driver cleans up is what its entries say.
 use Rattle.std.proofs.Common.{◌≡◌, ℕ, inl, inr, nat_eq, ◌&&◌, ◌||◌, Bool, true, false, cond, List, [], ◌∷◌, refl, sym, ap, ◌∙◌}
-use Rattle.std.proofs.lemmas.Bool.{and_parts}
-use Rattle.s3_types.specs.declared.request.Actor.{Actor}
-use Rattle.s3_types.specs.declared.request.Actor.TheVariants.{Driver, Attempt, Shell}
-use Rattle.s3_types.specs.declared.request.Request.{Request}
-use Rattle.s3_types.specs.declared.journal.Outcome.{Outcome}
-use Rattle.s3_types.specs.declared.journal.Entry.{Entry}
-use Rattle.job_model.specs.Attempts.{Who, actor_of}
-use Rattle.job_model.specs.JobScript.{Script}
-use Rattle.job_protocol.specs.Knowledge.{learn, knows_from}
-use Rattle.job_spec.specs.States.{same_actor}
-use Rattle.job_spec.specs.Turns.{by_actor}
-use Rattle.job_spec.specs.Ends.{has_cleaned}
-use Rattle.job_spec.specs.Seen.{is_begun}
-use Rattle.job_spec.specs.Ends.{is_driver}
-use Rattle.proof_base.proofs.Members.{nat_true, eq_nat, true_or_false}
-use Rattle.job_facts.specs.Told.{Told, known, tell, tell_by, tell_driver, tell_attempt, at_event, tell_all}
+use Rattle.job_spec.proofs.Common.{and_parts, nat_true, eq_nat, true_or_false}
+use Rattle.job_facts.specs.Prelude.{Actor, Driver, Attempt, Shell, Request, Outcome, Entry, Who, actor_of, Script, learn, knows_from, same_actor, by_actor, has_cleaned, is_begun, is_driver, Told, known, tell, tell_by, tell_driver, tell_attempt, at_event, tell_all}
 use Rattle.job_facts.proofs.Whose.{attempt, same_or_another, who_here, who_other}
 
 module _ (w : Script) (a : Who) where

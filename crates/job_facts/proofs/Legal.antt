@@ -1,25 +1,10 @@
 -- What the bounds of a script give of its attempts' files.
 use Rattle.std.proofs.Common.{◌≡◌, ℕ, ◌<◌, ◌≤◌, ◌^◌, inl, inr, Bool, true, false, cond, is_some, List, [], ◌∷◌, ◌++◌, length, Option, Some, None, refl, sym, ap, subst, ◌∙◌, arith}
-use Rattle.std.specs.Map.{lookup}
-use Rattle.std.specs.Option.{unwrap_or, option_map}
-use Rattle.std.proofs.lemmas.Bool.{and_parts, leb-true, false≢true}
-use Rattle.proof_base.specs.Order.{text_eq}
-use Rattle.s3_types.specs.declared.request.Committer.{Committer}
-use Rattle.s3_types.specs.declared.request.Committer.TheVariants.{Magic}
-use Rattle.s3_types.specs.declared.request.Mode.{Mode}
-use Rattle.s3_types.specs.Names.{is_job_id}
-use Rattle.magic_paths.specs.Places.{is_record}
-use Rattle.job_model.specs.Files.{File, has_path}
-use Rattle.job_model.specs.Attempts.{Who, Declared, same_name}
-use Rattle.job_model.specs.Placed.{path_of, placed}
-use Rattle.job_model.specs.Legal.{IsLegal, IsGiven, FitsMagic, AreFiles, AreAttempts}
-use Rattle.job_model.specs.JobScript.{Script}
+use Rattle.job_facts.specs.Prelude.{lookup, unwrap_or, option_map, text_eq, Committer, Magic, Mode, is_job_id, is_record, File, has_path, Who, Declared, same_name, path_of, placed, IsLegal, IsGiven, AreAttempts, Script, files, is_magic, IsIn, IsAttempt, ApartFiles}
+use Rattle.job_spec.proofs.Common.{and_parts, leb-true, false≢true, eq_nat, false_true, text_true, in_front, in_last, in_map}
+use Rattle.job_model.specs.Prelude.{FitsMagic}
+use Rattle.job_spec.specs.Prelude.{AreFiles}
 use Rattle.job_model.proofs.PathBounds.{given_place}
-use Rattle.job_protocol.specs.Outputs.{files}
-use Rattle.job_spec.specs.Seen.{is_magic}
-use Rattle.proof_base.specs.Members.{IsIn}
-use Rattle.proof_base.proofs.Members.{eq_nat, false_true, text_true, in_front, in_last, in_map}
-use Rattle.job_facts.specs.Facts.{IsAttempt, ApartFiles}
 use Rattle.job_model.proofs.Unique.{path_same}
 
 -- ---- the destination's key is not empty

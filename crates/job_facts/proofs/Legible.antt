@@ -1,39 +1,19 @@
 -- The records and sets that attempts put are within their bounds, so that what reads them gets them back.
 use Rattle.std.proofs.Common.{◌≡◌, ℕ, zero, suc, ◌+◌, ◌<◌, ◌≤◌, ◌^◌, inl, inr, ◌&&◌, Bool, true, false, cond, List, [], ◌∷◌, ◌++◌, map, length, Option, Some, Ok, refl, sym, ap, subst, ◌∙◌, arith, length-append, eq-eqb}
-use Rattle.std.specs.List.{list_all, sum, flat_map, AllByRecursion}
-use Rattle.std.specs.Map.{lookup}
-use Rattle.std.specs.Option.{unwrap_or}
-use Rattle.std.proofs.lemmas.Bool.{le-leb}
-use Rattle.std.proofs.lemmas.List.Sums.{sum_by-cons}
-use Rattle.std.proofs.lemmas.Str.{is_utf8-from_IsUtf8}
-use Rattle.std.specs.Int.{to_le_bytes, w32}
+use Rattle.std.specs.Int.{to_le_bytes}
 use Rattle.std.specs.Prelude.{slice_index}
-use Rattle.hex.specs.Hex.{IsBytes}
+use Rattle.job_facts.specs.Prelude.{list_all, flat_map, AllByRecursion, lookup, unwrap_or, compact_text, File, Who, Declared, same_name, placed, IsLegal, Script, files, Drawn, drawn_in, file_key, file_record, files_set, file_parts, Scene, IsIn, Told, IsAttempt, IsWritten, AreCommits, Facts, knowing}
+use Rattle.job_protocol.specs.Prelude.{sum, is_plain_tag, are_sizes, IsPending, pending_tree, set_tree}
+use Rattle.job_spec.proofs.Common.{le-leb, is_utf8-from_IsUtf8, nat_true, text_true, text_false, same_or_other}
+use Rattle.words.proofs.Common.{sum_by-cons}
+use Rattle.s3_types.specs.Prelude.{w32, IsBytes, is_hex}
+use Rattle.job_spec.specs.Prelude.{bytes_of, bytes_in}
 use Rattle.md5.specs.Md5.{md5, digest_bytes}
 use Rattle.etag.proofs.Digits.{encoded_hex, plain_tag_length}
-use Rattle.serde_json.specs.Written.{compact_text}
-use Rattle.s3_types.specs.Tags.{plain_tag, is_plain_tag, is_hex}
-use Rattle.pending_json.specs.Pending.{are_sizes}
-use Rattle.pending_json.specs.Records.{IsPending}
+use Rattle.s3_types.specs.Tags.{plain_tag}
 use Rattle.pending_json.specs.Reading as reading
-use Rattle.pending_json.specs.Trees.{pending_tree, set_tree}
 use Rattle.pending_json.proofs.RoundTrip.{pending_text, set_text}
-use Rattle.job_model.specs.Files.{File}
-use Rattle.job_model.specs.Attempts.{Who, Declared, same_name}
-use Rattle.job_model.specs.Placed.{placed}
-use Rattle.job_model.specs.Legal.{IsLegal, bytes_of, bytes_in}
-use Rattle.job_model.specs.JobScript.{Script}
-use Rattle.job_protocol.specs.Outputs.{files}
-use Rattle.job_model.specs.Known.{Drawn}
-use Rattle.job_protocol.specs.Knowledge.{drawn_in}
-use Rattle.job_protocol.specs.Records.{file_key, file_record, files_set}
-use Rattle.job_protocol.specs.Uploading.{file_parts}
 use Rattle.job_protocol.proofs.Sizes.{sizes_told}
-use Rattle.s3_types.specs.Store.{Scene}
-use Rattle.proof_base.specs.Members.{IsIn}
-use Rattle.proof_base.proofs.Members.{nat_true, text_true, text_false, same_or_other}
-use Rattle.job_facts.specs.Told.{Told}
-use Rattle.job_facts.specs.Facts.{IsAttempt, IsWritten, AreCommits, Facts, knowing}
 use Rattle.job_facts.proofs.Cut.{parts_some, parts_few, parts_joined}
 use Rattle.job_facts.proofs.Joined.{all_tags, all_sizes}
 use Rattle.job_facts.proofs.KeyNames.{file_is_key, id_utf8}

@@ -1,31 +1,17 @@
 -- A walk over live uploads finds each of them.
 use Rattle.std.proofs.Common.{◌≡◌, ℕ, zero, suc, ◌⊎◌, inl, inr, nat_lt, Bool, true, false, cond, List, [], ◌∷◌, ◌++◌, map, take, length, Option, Some, refl, sym, ap, subst, ◌∙◌}
+use Rattle.job_spec.specs.Prelude.{find, IsTotalOrder, nat_cmp_total, ref_cmp, is_behind, keys_of}
+use Rattle.job_facts.specs.Prelude.{filter, AllByRecursion, eq_by_cmp, is_lt, nat_cmp, ordering_then, Ordering, Less, Equal, text_cmp, text_total, text_ties, Upload, begins, UploadRef, last_ref, IsIn, ref_at}
+use Rattle.job_protocol.specs.Prelude.{is_eq}
+use Rattle.job_spec.proofs.Common.{ltb-false, then_total, on_total, take_all, exact_pairs, exact_bytes, exact_unsigned, tied, some_is, none_some, nat_true, text_true, map_in, filter_in, in_map, in_filter}
+use Rattle.proof_base.proofs.Common.{IsStrictlySortedBy-filter, CmpEqualImpliesEq}
+use Rattle.path_keys.proofs.Common.{sorted_head, sorted_tail, map_sorted, find_head, find_other}
+use Rattle.job_model.specs.Prelude.{Uploads}
+use Rattle.store_frame.specs.Prelude.{ref_of, refs}
 use Rattle.std.specs.FinMap as fin
-use Rattle.std.specs.FinMap.Entries.{find}
-use Rattle.std.specs.Cmp.{IsTotalOrder, nat_cmp_total}
-use Rattle.std.specs.List.{filter, AllByRecursion}
 use Rattle.std.specs.List.Sorted.{IsStrictlySortedBy}
-use Rattle.std.specs.Ordering.{eq_by_cmp, is_eq, is_lt, nat_cmp, ordering_then}
-use Rattle.std.specs.declared.cmp.Ordering.{Ordering}
-use Rattle.std.specs.declared.cmp.Ordering.TheVariants.{Less, Equal}
-use Rattle.std.proofs.lemmas.Bool.{ltb-false}
-use Rattle.std.proofs.lemmas.Cmp.{then_total, on_total}
-use Rattle.std.proofs.lemmas.List.{take_all}
-use Rattle.std.proofs.lemmas.List.Kept.{IsStrictlySortedBy-filter}
-use Rattle.std.proofs.lemmas.Map.Keys.{sorted_head, sorted_tail}
-use Rattle.std.proofs.lemmas.Map.Lookups.{CmpEqualImpliesEq, exact_pairs, exact_bytes, exact_unsigned}
-use Rattle.proof_base.specs.Order.{text_cmp, text_total, text_ties}
-use Rattle.proof_base.proofs.Tree.{tied, map_sorted}
-use Rattle.s3_types.specs.Store.{Upload, Uploads}
-use Rattle.s3_types.specs.Pages.{begins}
-use Rattle.s3_types.specs.Multipart.{ref_cmp, ref_of, refs, is_behind, listed}
-use Rattle.s3_types.specs.declared.request.UploadRef.{UploadRef}
-use Rattle.list_walk.specs.Walks.{last_ref}
-use Rattle.proof_base.specs.Members.{IsIn}
-use Rattle.proof_base.proofs.Members.{some_is, none_some, nat_true, ties, text_true, map_in, filter_in, in_map, in_filter}
-use Rattle.job_facts.specs.Clearing.{ref_at}
-use Rattle.std.specs.Map.{keys_of}
-use Rattle.proof_base.proofs.EntriesFrom.{find_head, find_other}
+use Rattle.s3_types.specs.Multipart.{listed}
+use Rattle.proof_base.proofs.Members.{ties}
 
 refs_total : IsTotalOrder ref_cmp
 refs_total = then_total (on_total (λ r. r.key) text_total) (on_total (λ r. r.upload) nat_cmp_total)

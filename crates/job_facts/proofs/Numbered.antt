@@ -1,12 +1,7 @@
 -- Uploads by their numbers, and the requests of a revert.
 use Rattle.std.proofs.Common.{◌≡◌, ℕ, zero, suc, ◌+◌, ◌<◌, ◌⊎◌, inl, inr, ◌&&◌, ◌||◌, nat_eq, nat_lt, Bool, true, false, cond, List, [], ◌∷◌, map, length, refl, sym, ap, subst, ◌∙◌, arith}
-use Rattle.std.proofs.lemmas.Bool.Decides.{nat_tests}
-use Rattle.s3_types.specs.declared.request.Request.{Request}
-use Rattle.pending_json.specs.Pending.{Pending}
-use Rattle.job_protocol.specs.Lanes.{Turn, nth, abort, deletion, chosen, undo, in_turn, is_tried, is_unsent, revert}
-use Rattle.job_protocol.specs.LaneTable.{In}
-use Rattle.proof_base.specs.Members.{IsIn}
-use Rattle.proof_base.proofs.Members.{nat_true, in_map, map_in, in_append, in_front, in_back}
+use Rattle.job_spec.proofs.Common.{nat_tests, nat_true, in_map, map_in, in_append, in_front, in_back}
+use Rattle.job_facts.specs.Prelude.{Request, Pending, Turn, nth, abort, deletion, chosen, undo, in_turn, is_tried, is_unsent, revert, In, IsIn}
 use Rattle.job_facts.proofs.Held.{nth_of}
 
 -- ---- the two ways to say that something is a member

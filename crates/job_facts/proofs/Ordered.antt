@@ -1,18 +1,8 @@
 -- The files whose records are listed, in the order of the listing, are all of them and each once.
 use Rattle.std.proofs.Common.{◌≡◌, ℕ, inl, inr, ◌||◌, Bool, true, false, cond, List, [], ◌∷◌, ◌++◌, Some, None, refl, sym, ap, subst, ◌∙◌}
-use Rattle.std.specs.List.{filter, flat_map, list_any}
-use Rattle.std.proofs.lemmas.Bool.{false≢true}
-use Rattle.proof_base.specs.Order.{text_eq}
-use Rattle.job_model.specs.Files.{File}
-use Rattle.job_model.specs.Attempts.{Who}
-use Rattle.job_model.specs.JobScript.{Script}
-use Rattle.job_protocol.specs.Outputs.{files}
-use Rattle.job_protocol.specs.Records.{record_key}
-use Rattle.job_protocol.specs.TaskCommits.{least_of, least_missing, in_order}
-use Rattle.proof_base.specs.Members.{IsIn, RisesFrom}
-use Rattle.proof_base.proofs.Members.{text_true, text_is, in_front, in_back, in_append, in_filter, filter_in}
+use Rattle.job_facts.specs.Prelude.{filter, flat_map, list_any, text_eq, File, Who, Script, files, record_key, least_of, least_missing, in_order, IsIn, RisesFrom, ApartFiles}
+use Rattle.job_spec.proofs.Common.{false≢true, text_true, text_is, in_front, in_back, in_append, in_filter, filter_in}
 use Rattle.store_frame.proofs.Flat.{not_again}
-use Rattle.job_facts.specs.Facts.{ApartFiles}
 
 apart_filter : (f : File → Bool) (fs : List File) → ApartFiles fs → ApartFiles (filter f fs)
 apart_filter f [] h = tt

@@ -1,29 +1,10 @@
 -- What a request below the destination leaves outside it.
 use Rattle.std.proofs.Common.{◌≡◌, ℕ, ◌<◌, inl, inr, ◌&&◌, Bool, true, false, cond, List, [], ◌∷◌, Option, Some, None, refl, sym, ap, subst, ◌∙◌, arith}
+use Rattle.job_facts.specs.Prelude.{text_eq, BucketContent, Content, Scene, Upload, begins, is_part_number, with_part, apply, apply_at, bucket_of, effect, Request, NamedPart, MakeBucket, PutObject, GetObject, HeadObject, DeleteObject, DeleteObjects, CopyObject, ListPage, CreateUpload, UploadPart, CompleteUpload, AbortUpload, ListParts, ListUploads, Outcome, Slow, RequestLost, Script, dest_prefix, SameOutsideUpload, SameOutside, is_copy, IsIn, HasBucket, changed_keys, at_key, at_id, part_left, end_left, IsWithin}
+use Rattle.job_spec.proofs.Common.{false_true, same_or_not, text_is, text_true, text_other}
 use Rattle.std.specs.FinMap as fin
-use Rattle.proof_base.specs.Order.{text_eq}
-use Rattle.s3_types.specs.Store.{BucketContent, Content, Scene, Upload}
-use Rattle.s3_types.specs.Pages.{begins}
-use Rattle.s3_types.specs.Multipart.{is_part_number, with_part}
-use Rattle.s3_types.specs.Answer.{apply, apply_at, bucket_of}
-use Rattle.s3_types.specs.Moment.{effect}
-use Rattle.s3_types.specs.declared.request.Request.{Request}
-use Rattle.s3_types.specs.declared.request.NamedPart.{NamedPart}
-use Rattle.s3_types.specs.declared.request.Request.TheVariants.{MakeBucket, PutObject, GetObject, HeadObject, DeleteObject, DeleteObjects, CopyObject, ListPage, CreateUpload, UploadPart, CompleteUpload, AbortUpload, ListParts, ListUploads}
-use Rattle.s3_types.specs.declared.journal.Outcome.{Outcome}
-use Rattle.s3_types.specs.declared.journal.Outcome.TheVariants.{Slow, RequestLost}
-use Rattle.job_model.specs.JobScript.{Script}
-use Rattle.job_protocol.specs.Setup.{dest_prefix}
-use Rattle.job_spec.specs.Scope.{SameOutsideUpload, SameOutside}
-use Rattle.job_spec.specs.Entries.{is_copy}
-use Rattle.proof_base.specs.Members.{IsIn}
-use Rattle.store_frame.specs.Held.{HasBucket}
-use Rattle.store_frame.specs.Frame.{changed_keys}
-use Rattle.proof_base.proofs.Members.{false_true, same_or_not, text_is, text_true, text_other}
 use Rattle.store_frame.proofs.Framed.{frame}
 use Rattle.store_frame.proofs.Reading.{reads_nothing}
-use Rattle.job_facts.specs.Stores.{at_key, at_id, part_left, end_left}
-use Rattle.job_facts.specs.Within.{IsWithin}
 use Rattle.job_facts.proofs.Shapes.{puts, draws, part_turns, abort_turns}
 use Rattle.job_facts.proofs.Undone.{deletes_drop}
 use Rattle.job_facts.proofs.Ended.{completed_uploads}

@@ -1,58 +1,15 @@
 -- The requests of the job's actors: below the destination, and none but the driver's commit's changes what a reader is shown.
 use Rattle.std.proofs.Common.{◌≡◌, ℕ, ◌⊎◌, inl, inr, true, false, List, ◌∷◌, ◌++◌, take, length, Option, Some, None, refl, sym, ap, subst, ◌∙◌, codes}
-use Rattle.s3_types.specs.Store.{Scene}
-use Rattle.s3_types.specs.Pages.{begins}
-use Rattle.s3_types.specs.Answer.{apply}
-use Rattle.s3_types.specs.Moment.{effect, is_effective}
-use Rattle.s3_types.specs.Requests.{only_reads}
-use Rattle.s3_types.specs.declared.request.Actor.TheVariants.{Driver}
-use Rattle.s3_types.specs.declared.request.Request.{Request}
-use Rattle.s3_types.specs.declared.request.Request.TheVariants.{PutObject, DeleteObjects}
-use Rattle.s3_types.specs.declared.request.Committer.{Committer}
-use Rattle.s3_types.specs.declared.request.Committer.TheVariants.{Magic, Directory, Partitioned}
-use Rattle.s3_types.specs.declared.journal.Outcome.{Outcome}
-use Rattle.s3_types.specs.declared.journal.Outcome.TheVariants.{Answered, Slow, RequestLost, ReplyLost}
-use Rattle.magic_paths.specs.Layout.{magic_prefix, success_key}
-use Rattle.magic_paths.proofs.Tails.{begins_behind}
-use Rattle.pending_json.specs.Pending.{Pending}
-use Rattle.job_model.specs.Attempts.{Who}
-use Rattle.job_model.specs.Files.{File}
-use Rattle.job_model.specs.Legal.{IsLegal}
-use Rattle.job_model.specs.JobScript.{Script}
-use Rattle.job_model.specs.Known.{Known}
-use Rattle.job_protocol.specs.Setup.{dest_prefix, Setup, Clearing, Sweeping, SetupOver, setup_asks}
-use Rattle.job_protocol.specs.Uploading.{Uploading, Creating, Sending, upload_asks}
-use Rattle.list_walk.specs.Walks.{Listing, Deleting, page_after}
-use Rattle.job_protocol.specs.Writes.{Write, WriteOver, write_asks}
+use Rattle.job_facts.specs.Prelude.{Scene, begins, apply, effect, is_effective, only_reads, Driver, Request, PutObject, DeleteObjects, Committer, Magic, Directory, Partitioned, Outcome, Answered, Slow, RequestLost, ReplyLost, magic_prefix, success_key, Pending, Who, File, IsLegal, Script, Known, dest_prefix, Setup, Clearing, Sweeping, SetupOver, setup_asks, Uploading, Creating, Sending, upload_asks, Listing, Deleting, page_after, Write, WriteOver, write_asks, TaskCommit, Publishing, TaskCommitOver, task_commit_asks, TaskAbort, Dropping, TaskAbortOver, task_abort_asks, nth, abort, all_commits, Commit, Fetching, Replacing, Completing, Reverting, CommitOver, set_request, commit_asks, Clean, Aborting, CleanOver, clean_asks, Setting, Operation, TheWrite, TheTaskCommit, TheTaskAbort, asks, view, IsZeroRename, is_copy, SameOutside, Same, Seen, Told, known, entry, driver_entry, IsAttempt, Facts, Hold, Fits, FitsAbort, IsOwn, SetsUp, FitsClean, FitsJobCommit, IsCommit, Decides, Tabled, Commits, IsWithin}
+use Rattle.job_spec.proofs.Common.{begins_behind, some_is}
+use Rattle.job_spec.specs.Prelude.{sends_data, may_show}
 use Rattle.job_protocol.specs.Writes as writes
-use Rattle.job_protocol.specs.TaskCommits.{TaskCommit, Publishing, TaskCommitOver, task_commit_asks}
 use Rattle.job_protocol.specs.TaskCommits as tasks
-use Rattle.job_protocol.specs.TaskAborts.{TaskAbort, Dropping, TaskAbortOver, task_abort_asks}
 use Rattle.job_protocol.specs.TaskAborts as aborts
-use Rattle.job_protocol.specs.Lanes.{nth, abort}
-use Rattle.job_protocol.specs.JobCommits.{all_commits, Commit, Fetching, Replacing, Completing, Reverting, CommitOver, set_request, commit_asks}
 use Rattle.job_protocol.specs.JobCommits as commits
-use Rattle.job_protocol.specs.Cleanups.{Clean, Aborting, CleanOver, clean_asks}
 use Rattle.job_protocol.specs.Cleanups as cleanups
-use Rattle.job_protocol.specs.Operations.{Setting, Operation, TheWrite, TheTaskCommit, TheTaskAbort, asks}
-use Rattle.job_protocol.specs.View.{view}
-use Rattle.job_spec.specs.Entries.{IsZeroRename, is_copy, sends_data, may_show}
-use Rattle.job_spec.specs.Scope.{SameOutside}
-use Rattle.job_spec.specs.Headline.{Same}
-use Rattle.job_spec.specs.Seen.{Seen}
-use Rattle.proof_base.proofs.Members.{some_is}
 use Rattle.store_frame.proofs.Framed.{frame}
 use Rattle.store_frame.proofs.Reading.{reads_nothing}
-use Rattle.job_facts.specs.Told.{Told, known, entry, driver_entry}
-use Rattle.job_facts.specs.Facts.{IsAttempt, Facts, Hold}
-use Rattle.job_facts.specs.Fits.{Fits, FitsAbort}
-use Rattle.job_facts.specs.Foreign.{IsOwn}
-use Rattle.job_facts.specs.Emptying.{SetsUp}
-use Rattle.job_facts.specs.Driver.{FitsClean, FitsJobCommit}
-use Rattle.job_facts.specs.Filed.{IsCommit, Decides}
-use Rattle.job_protocol.specs.LaneTable.{Tabled}
-use Rattle.job_facts.specs.FiledLaws.{Commits}
-use Rattle.job_facts.specs.Within.{IsWithin}
 use Rattle.job_facts.proofs.Shows.{hidden_shows}
 use Rattle.job_facts.proofs.SettingUp.{setup_alone, view_but}
 use Rattle.job_facts.proofs.Aborting.{taken_in}

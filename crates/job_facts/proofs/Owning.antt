@@ -1,32 +1,11 @@
 -- An attempt names only what is its own, and takes nothing back once it has sent its publishing request.
 use Rattle.std.proofs.Common.{◌≡◌, ℕ, ◌+◌, inl, inr, true, false, List, [], ◌∷◌, length, Option, Some, None, refl, sym, ap, subst, ◌∙◌, append_assoc, codes, ◌++◌}
-use Rattle.std.specs.Fmt.{decimal}
-use Rattle.s3_types.specs.Pages.{begins}
-use Rattle.s3_types.specs.declared.request.Request.{Request}
-use Rattle.s3_types.specs.declared.request.Request.TheVariants.{PutObject, CreateUpload, UploadPart, AbortUpload}
-use Rattle.magic_paths.specs.Layout.{magic_prefix, cluster_prefix}
-use Rattle.magic_paths.specs.Places.{MarkerPlace, RecordPlace, TemporaryPlace, StagedSetPlace}
-use Rattle.job_model.specs.Files.{File}
-use Rattle.job_model.specs.Attempts.{Who}
-use Rattle.job_model.specs.Legal.{IsLegal}
-use Rattle.job_model.specs.JobScript.{Script}
-use Rattle.job_model.specs.Known.{Drawn, Known}
-use Rattle.job_protocol.specs.Records.{file_key}
-use Rattle.list_walk.specs.Walks.{Listing, Deleting}
-use Rattle.job_protocol.specs.Uploading.{Uploading, Creating, Sending, upload_asks}
-use Rattle.job_protocol.specs.Writes.{Write, Marking, Recording, WriteOver, write_asks}
+use Rattle.job_facts.specs.Prelude.{decimal, begins, Request, PutObject, CreateUpload, UploadPart, AbortUpload, magic_prefix, cluster_prefix, MarkerPlace, RecordPlace, TemporaryPlace, StagedSetPlace, File, Who, IsLegal, Script, Drawn, Known, file_key, Listing, Deleting, Uploading, Creating, Sending, upload_asks, Write, Recording, WriteOver, write_asks, TaskCommit, Publishing, Storing, Renaming, TaskCommitOver, task_commit_asks, attempt_prefix, TaskAbort, Dropping, TaskAbortOver, task_abort_asks, Setting, Operation, TheWrite, TheTaskCommit, TheTaskAbort, asks, IsIn, changed_keys, changed_upload, changed_paths, Told, known, undoes, IsOwn, IsAttempt, Fits, FitsUpload, FitsWrite, FitsCommit, FitsAbort}
+use Rattle.job_spec.proofs.Common.{some_is, none_some, false_true}
+use Rattle.job_protocol.specs.Writes.{Marking}
 use Rattle.job_protocol.specs.Writes as writes
-use Rattle.job_protocol.specs.TaskCommits.{TaskCommit, Publishing, Storing, Renaming, TaskCommitOver, task_commit_asks, attempt_prefix}
 use Rattle.job_protocol.specs.TaskCommits as commits
-use Rattle.job_protocol.specs.TaskAborts.{TaskAbort, Dropping, Sweeping, Removing, TaskAbortOver, task_abort_asks}
-use Rattle.job_protocol.specs.Operations.{Setting, Operation, TheWrite, TheTaskCommit, TheTaskAbort, asks}
-use Rattle.proof_base.specs.Members.{IsIn}
-use Rattle.store_frame.specs.Frame.{changed_keys, changed_upload, changed_paths}
-use Rattle.proof_base.proofs.Members.{some_is, none_some, false_true}
-use Rattle.job_facts.specs.Told.{Told, known, undoes}
-use Rattle.job_facts.specs.Foreign.{IsOwn}
-use Rattle.job_facts.specs.Facts.{IsAttempt}
-use Rattle.job_facts.specs.Fits.{Fits, FitsUpload, FitsWrite, FitsCommit, FitsAbort}
+use Rattle.job_protocol.specs.TaskAborts.{Sweeping, Removing}
 use Rattle.job_facts.proofs.Acting.{write_adds, commit_adds}
 use Rattle.job_facts.proofs.Aborting.{taken_in}
 use Rattle.job_facts.proofs.Placed.{own_magic, set_magic, path_below}

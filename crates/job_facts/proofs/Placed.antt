@@ -1,27 +1,10 @@
 -- Places of a job: where they are, and that they are apart.
 use Rattle.std.proofs.Common.{◌≡◌, ℕ, ◌<◌, true, List, [], ◌∷◌, ◌++◌, Option, Some, None, refl, sym, ap, ◌∙◌, codes}
-use Rattle.std.specs.Fmt.{decimal}
-use Rattle.std.specs.Option.{option_map}
-use Rattle.std.proofs.lemmas.Bool.{false≢true}
-use Rattle.std.proofs.lemmas.List.{append_cancel_left}
-use Rattle.s3_types.specs.Store.{Scene}
-use Rattle.s3_types.specs.Pages.{begins}
-use Rattle.s3_types.specs.declared.object.Object.{Object}
-use Rattle.s3_types.specs.declared.request.Committer.{Committer}
-use Rattle.s3_types.specs.declared.request.Committer.TheVariants.{Magic, Directory, Partitioned}
-use Rattle.magic_paths.specs.Layout.{magic_prefix, cluster_prefix}
-use Rattle.magic_paths.specs.Places.{Place, FilePlace, MarkerPlace, RecordPlace, SetPlace, SuccessPlace, ClusterPlace, TemporaryPlace, StagedSetPlace, IsPlace, IsClusterPlace, key_at, path_at, is_record, is_magic_place}
-use Rattle.magic_paths.proofs.Tails.{begins_behind, below_is, keys_apart, paths_apart, key_magic}
-use Rattle.job_model.specs.Files.{File}
-use Rattle.job_model.specs.Attempts.{Who}
-use Rattle.job_model.specs.Legal.{IsLegal}
-use Rattle.job_model.specs.JobScript.{Script}
-use Rattle.job_protocol.specs.Outputs.{files}
-use Rattle.job_protocol.specs.Records.{file_key}
-use Rattle.job_spec.specs.Seen.{is_magic, is_staging}
-use Rattle.proof_base.specs.Members.{IsIn}
-use Rattle.job_facts.specs.Facts.{IsAttempt, IsOwnPlace}
-use Rattle.job_facts.specs.Stores.{at_place, at_path, set_at}
+use Rattle.job_facts.specs.Prelude.{decimal, option_map, Scene, begins, Object, Committer, Magic, Directory, Partitioned, magic_prefix, cluster_prefix, Place, FilePlace, MarkerPlace, RecordPlace, SetPlace, SuccessPlace, TemporaryPlace, StagedSetPlace, key_at, path_at, is_record, File, Who, IsLegal, Script, files, file_key, is_magic, is_staging, IsIn, IsAttempt, IsOwnPlace, at_place, at_path, set_at}
+use Rattle.job_spec.proofs.Common.{false≢true, append_cancel_left, begins_behind, below_is, key_magic}
+use Rattle.job_spec.specs.Prelude.{ClusterPlace}
+use Rattle.magic_paths.specs.Places.{IsPlace, IsClusterPlace, is_magic_place}
+use Rattle.magic_paths.proofs.Tails.{keys_apart, paths_apart}
 use Rattle.job_facts.proofs.Whose.{attempt}
 use Rattle.job_facts.proofs.Legal.{some_dest, is_attempt, no_record, same_file, small_task, small_attempt}
 

@@ -1,27 +1,10 @@
 -- The requests of an attempt that publish its set keep the facts: the put of the set, and the put and the rename of a temporary file.
 use Rattle.std.proofs.Common.{◌≡◌, ℕ, ◌<◌, nat_eq, ◌&&◌, ◌||◌, Bool, true, false, cond, is_some, List, Option, Some, None, refl, sym, ap, subst, ◌∙◌}
+use Rattle.job_facts.specs.Prelude.{answer, apply, with_files, IsHonestOutcome, Request, PutObject, ClusterPut, ClusterRename, Outcome, Answered, Slow, RequestLost, ReplyLost, Object, SetPlace, File, Who, IsLegal, Script, files, is_set_key, is_set_path, set_text, temporary_path, Seen, see, is_magic, is_staging, last_by, Told, known, put_who, entry, tell, tell_attempt, IsAttempt, AreCommits, IsSet, Facts, Hold}
+use Rattle.job_model.specs.Prelude.{renamed}
+use Rattle.job_spec.proofs.Common.{text_true, nat_true, nat_false}
 use Rattle.std.specs.FinMap as fin
-use Rattle.s3_types.specs.Answer.{answer, apply, renamed, with_files}
-use Rattle.s3_types.specs.Moment.{IsHonestOutcome}
-use Rattle.s3_types.specs.declared.request.Request.{Request}
-use Rattle.s3_types.specs.declared.request.Request.TheVariants.{PutObject, ClusterPut, ClusterRename}
-use Rattle.s3_types.specs.declared.journal.Outcome.{Outcome}
-use Rattle.s3_types.specs.declared.journal.Outcome.TheVariants.{Answered, Slow, RequestLost, ReplyLost}
-use Rattle.s3_types.specs.declared.object.Object.{Object}
 use Rattle.magic_paths.specs.Layout as layout
-use Rattle.magic_paths.specs.Places.{SetPlace}
-use Rattle.job_model.specs.Files.{File}
-use Rattle.job_model.specs.Attempts.{Who}
-use Rattle.job_model.specs.Legal.{IsLegal}
-use Rattle.job_model.specs.JobScript.{Script}
-use Rattle.job_protocol.specs.Outputs.{files}
-use Rattle.job_protocol.specs.Knowledge.{is_set_key, is_set_path}
-use Rattle.job_protocol.specs.Records.{set_text}
-use Rattle.job_protocol.specs.TaskCommits.{temporary_path}
-use Rattle.job_spec.specs.Seen.{Seen, see, is_magic, is_staging, last_by}
-use Rattle.proof_base.proofs.Members.{text_true, nat_true, nat_false}
-use Rattle.job_facts.specs.Told.{Told, known, put_who, entry, tell, tell_attempt}
-use Rattle.job_facts.specs.Facts.{IsAttempt, AreCommits, IsSet, Facts, Hold}
 use Rattle.job_facts.proofs.Whose.{who_here, who_same, or_false, or_true}
 use Rattle.job_facts.proofs.Shapes.{puts}
 use Rattle.job_facts.proofs.Keep.{put_keep}

@@ -1,23 +1,8 @@
 -- The picks that are seen as the driver's commit reads the sets.
 use Rattle.std.proofs.Common.{◌≡◌, ℕ, zero, suc, ◌+◌, ◌<◌, ◌≤◌, ◌^◌, ◌⊎◌, inl, inr, ◌&&◌, Bool, true, false, cond, List, [], ◌∷◌, ◌++◌, length, slice_get, Option, Some, refl, sym, ap, subst, ◌∙◌, arith, length-append}
-use Rattle.std.specs.Option.{option_map}
-use Rattle.s3_types.specs.Store.{Scene}
-use Rattle.s3_types.specs.Answer.{answer}
-use Rattle.s3_types.specs.declared.request.Committer.{Committer}
-use Rattle.s3_types.specs.declared.request.Committer.TheVariants.{Magic}
-use Rattle.s3_types.specs.declared.reply.Reply.{Reply}
+use Rattle.job_facts.specs.Prelude.{option_map, Scene, answer, Committer, Magic, Reply, SetPlace, StagedSetPlace, PendingSet, IsLegal, Script, Picks, files_set, Sets, set_request, set_read, fetched, is_magic, is_staging, is_reading, picks_by, Told, Facts, knowing}
+use Rattle.job_spec.proofs.Common.{text_true, text_false, same_or_not}
 use Rattle.magic_paths.specs.Layout as layout
-use Rattle.magic_paths.specs.Places.{SetPlace, StagedSetPlace}
-use Rattle.pending_json.specs.declared.records.PendingSet.{PendingSet}
-use Rattle.job_model.specs.Legal.{IsLegal}
-use Rattle.job_model.specs.JobScript.{Script}
-use Rattle.job_protocol.specs.Outputs.{Picks}
-use Rattle.job_protocol.specs.Records.{files_set}
-use Rattle.job_protocol.specs.JobCommits.{Sets, set_request, set_read, fetched}
-use Rattle.job_spec.specs.Seen.{is_magic, is_staging, is_reading, picks_by}
-use Rattle.proof_base.proofs.Members.{text_true, text_false, same_or_not}
-use Rattle.job_facts.specs.Told.{Told}
-use Rattle.job_facts.specs.Facts.{Facts, knowing}
 use Rattle.job_facts.proofs.Legal.{small_task}
 use Rattle.job_facts.proofs.Placed.{one_place, one_path}
 use Rattle.job_facts.proofs.Replies.{set_answered}

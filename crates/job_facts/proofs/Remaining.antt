@@ -1,55 +1,20 @@
 -- What an attempt has written stands, whatever others send, until the driver cleans up; and so it goes on.
 use Rattle.std.proofs.Common.{◌≡◌, ℕ, zero, suc, ◌+◌, ◌⊎◌, inl, inr, nat_eq, nat_lt, ◌&&◌, ◌||◌, Bool, true, false, cond, List, [], ◌∷◌, ◌++◌, map, take, length, Option, Some, None, is_some, refl, sym, ap, subst, ◌∙◌}
+use Rattle.job_facts.specs.Prelude.{list_any, is_lt, text_cmp, text_eq, listed, answer, apply, is_effective, IsHonestOutcome, Object, Committer, Magic, Request, GetObject, UploadPart, Reply, Page, Part, Refused, NoSuchFile, PageEntry, Outcome, Answered, Slow, RequestLost, ReplyLost, Retried, Item, Got, WornOut, step, unanswered_by, set_key, staged_set_path, TemporaryPlace, File, Who, IsLegal, Script, Drawn, files, is_set_key, is_set_path, record_key, Uploading, Creating, Sending, Uploaded, GoesOn, AllSent, IsGone, sending, created, sent_part, upload_asks, upload_hears, file_parts, walked_by, keys_on, last_of, page_after, Write, Recording, WriteOver, writing, write_start_by, write_start, write_asks, write_over, write_after, TaskCommit, Looking, Reading, Publishing, Checking, Storing, Renaming, TaskCommitOver, reading, looked, looked_at, least_missing, least_of, in_order, read_record, storing, checking, checked, renamed, to_check, task_commit_start_by, task_commit_start, task_commit_asks, task_commit_over, task_commit_hears, task_commit_after, attempt_prefix, temporary_path, Setting, Operation, TheSetup, TheWrite, TheTaskCommit, TheTaskAbort, TheCommit, TheClean, asks, tells, Seen, see, is_magic, is_staging, is_publishing, last_by, IsIn, last_from, HasBucket, Told, known, entry, driver_entry, strange_entry, sets_at, IsForeign, IsDriving, IsAttempt, IsSet, Hold, IsOpen, Fits, FitsUpload, FitsWrite, FitsCommit, Closed, HasPublished, NotGone, CommitStandsBy, WriteStands}
+use Rattle.job_spec.proofs.Common.{false≢true, some_is, false_true, true_or_false, text_true, text_here, nat_true, in_map, in_front, in_back}
+use Rattle.job_spec.specs.Prelude.{rename_answer, ClusterDone}
+use Rattle.job_protocol.specs.Prelude.{write_hears}
 use Rattle.std.specs.FinMap as fin
-use Rattle.std.specs.List.{list_any}
-use Rattle.std.specs.Ordering.{is_lt}
-use Rattle.std.proofs.lemmas.Bool.{false≢true}
-use Rattle.proof_base.specs.Order.{text_cmp, text_eq}
-use Rattle.s3_types.specs.Pages.{listed}
 use Rattle.s3_types.specs.Tags.{plain_tag}
-use Rattle.s3_types.specs.Answer.{answer, apply, found, rename_answer}
-use Rattle.s3_types.specs.Moment.{is_effective, IsHonestOutcome}
-use Rattle.s3_types.specs.declared.object.Object.{Object}
-use Rattle.s3_types.specs.declared.request.Committer.{Committer}
-use Rattle.s3_types.specs.declared.request.Committer.TheVariants.{Magic}
-use Rattle.s3_types.specs.declared.request.Request.{Request}
-use Rattle.s3_types.specs.declared.request.Request.TheVariants.{GetObject, UploadPart}
-use Rattle.s3_types.specs.declared.reply.Reply.{Reply}
-use Rattle.s3_types.specs.declared.reply.Reply.TheVariants.{Page, Part, Upload, Refused, ClusterDone}
-use Rattle.s3_types.specs.declared.reply.Refusal.TheVariants.{NoSuchFile}
-use Rattle.s3_types.specs.declared.reply.PageEntry.{PageEntry}
-use Rattle.s3_types.specs.declared.journal.Outcome.{Outcome}
-use Rattle.s3_types.specs.declared.journal.Outcome.TheVariants.{Answered, Slow, RequestLost, ReplyLost}
-use Rattle.retries.specs.Retries.{Retried, Item, Got, WornOut, step, unanswered_by}
-use Rattle.magic_paths.specs.Layout.{set_key, staged_set_path}
-use Rattle.magic_paths.specs.Places.{TemporaryPlace}
-use Rattle.job_model.specs.Files.{File}
-use Rattle.job_model.specs.Attempts.{Who}
-use Rattle.job_model.specs.Legal.{IsLegal}
-use Rattle.job_model.specs.JobScript.{Script}
-use Rattle.job_model.specs.Known.{Drawn}
+use Rattle.s3_types.specs.Answer.{found}
+use Rattle.s3_types.specs.declared.reply.Reply.TheVariants.{Upload}
 use Rattle.job_model.specs.declared.ends.TaskEnd.TheVariants as tasks
-use Rattle.job_protocol.specs.Outputs.{files}
-use Rattle.job_protocol.specs.Knowledge.{is_set_key, is_set_path}
-use Rattle.job_protocol.specs.Records.{record_key}
-use Rattle.job_protocol.specs.Uploading.{Uploading, Creating, Sending, Uploaded, GoesOn, AllSent, IsGone, sending, created, sent_part, upload_asks, upload_hears, file_parts}
-use Rattle.list_walk.specs.Walks.{walked, walked_by, keys_on, last_of, page_after}
-use Rattle.job_protocol.specs.Writes.{Write, Marking, Recording, WriteOver, writing, write_start_by, write_start, write_asks, write_over, write_hears, write_after}
+use Rattle.list_walk.specs.Walks.{walked}
+use Rattle.job_protocol.specs.Writes.{Marking}
 use Rattle.job_protocol.specs.Writes as writes
-use Rattle.job_protocol.specs.TaskCommits.{TaskCommit, Looking, Reading, Publishing, Checking, Storing, Renaming, TaskCommitOver, reading, looked, looked_at, least_missing, least_of, in_order, read_record, storing, checking, checked, renamed, to_check, task_commit_start_by, task_commit_start, task_commit_asks, task_commit_over, task_commit_hears, task_commit_after, attempt_prefix, temporary_path}
 use Rattle.job_protocol.specs.TaskCommits as commits
-use Rattle.job_protocol.specs.Operations.{Setting, Operation, TheSetup, TheWrite, TheTaskCommit, TheTaskAbort, TheCommit, TheClean, asks, tells}
-use Rattle.job_spec.specs.Seen.{Seen, see, is_magic, is_staging, is_publishing, last_by}
-use Rattle.proof_base.specs.Members.{IsIn, last_from}
-use Rattle.store_frame.specs.Held.{HasBucket}
-use Rattle.proof_base.proofs.Members.{some_is, false_true, true_or_false, text_true, text_here, nat_true, in_map, in_front, in_back}
 use Rattle.store_frame.proofs.Flat.{page_covers, page_all, last_append}
-use Rattle.job_facts.specs.Told.{Told, known, entry, driver_entry, strange_entry}
-use Rattle.job_facts.specs.Stores.{sets_at}
-use Rattle.job_facts.specs.Foreign.{IsForeign, IsDriving}
-use Rattle.job_facts.specs.Facts.{IsAttempt, IsSet, Hold}
-use Rattle.job_facts.specs.Fits.{IsOpen, Fits, FitsUpload, FitsWrite, FitsCommit}
-use Rattle.job_facts.specs.Standing.{Closed, HasRecord, HasRecords, HasTemporary, HasPublished, Listed, NotGone, CommitStandsBy, WriteStands, CommitStands, Stands}
+use Rattle.job_facts.specs.Standing.{HasRecord, HasRecords, HasTemporary, Listed, CommitStands, Stands}
 use Rattle.job_facts.proofs.Placed.{path_below}
 use Rattle.job_facts.proofs.Shapes.{key_before, answer_is, puts}
 use Rattle.job_facts.proofs.Uploads.{drop_more, latest_in, asks_part}

@@ -1,37 +1,12 @@
 -- The answers that are due, where the facts hold.
 use Rattle.std.proofs.Common.{◌≡◌, ℕ, ◌+◌, ◌<◌, ◌≤◌, ◌^◌, ◌⊎◌, inl, inr, true, false, cond, List, map, length, slice_get, Option, Some, None, Ok, refl, sym, ap, subst, ◌∙◌, arith}
-use Rattle.std.specs.Option.{option_map}
-use Rattle.std.proofs.lemmas.Option.{slice_get_within}
-use Rattle.s3_types.specs.Blocks.{named_from}
-use Rattle.s3_types.specs.Store.{Scene}
+use Rattle.job_facts.specs.Prelude.{option_map, named_from, Scene, live, with_key, joined, answer, read_answer, part_answer, complete_answer, Object, GetObject, UploadPart, CompleteUpload, ClusterGet, Committer, Magic, Directory, Partitioned, Part, Completed, Refused, NoSuchKey, BadPartNumber, SetPlace, StagedSetPlace, key_at, path_at, File, Who, IsLegal, Script, files, Drawn, drawn_in, file_key, record_key, record_text, files_set, file_parts, set_request, set_read, ok_set, is_magic, IsIn, Told, at_key, at_id, at_path, at_place, sets_at, set_at, IsAttempt, IsHeld, IsWritten, IsSet, Facts, knowing, IsSetAnswer}
+use Rattle.job_spec.proofs.Common.{slice_get_within, none_or_some, text_true}
 use Rattle.s3_types.specs.Tags.{plain_tag, joined_tag}
-use Rattle.s3_types.specs.Multipart.{live, with_key, joined}
-use Rattle.s3_types.specs.Answer.{answer, found, read_answer, part_answer, complete_answer}
-use Rattle.s3_types.specs.declared.object.Object.{Object}
-use Rattle.s3_types.specs.declared.request.Request.TheVariants.{GetObject, UploadPart, CompleteUpload, ClusterGet}
-use Rattle.s3_types.specs.declared.request.Committer.{Committer}
-use Rattle.s3_types.specs.declared.request.Committer.TheVariants.{Magic, Directory, Partitioned}
-use Rattle.s3_types.specs.declared.reply.Reply.TheVariants.{Object as Found, Part, Completed, Refused}
-use Rattle.s3_types.specs.declared.reply.Refusal.TheVariants.{NoSuchKey, BadPartNumber}
-use Rattle.magic_paths.specs.Places.{SetPlace, StagedSetPlace, key_at, path_at}
+use Rattle.s3_types.specs.Answer.{found}
+use Rattle.s3_types.specs.declared.reply.Reply.TheVariants.{Object as Found}
 use Rattle.pending_json.specs.Reading as reading
-use Rattle.job_model.specs.Files.{File}
-use Rattle.job_model.specs.Attempts.{Who}
-use Rattle.job_model.specs.Legal.{IsLegal}
-use Rattle.job_model.specs.JobScript.{Script}
-use Rattle.job_protocol.specs.Outputs.{files}
-use Rattle.job_model.specs.Known.{Drawn}
-use Rattle.job_protocol.specs.Knowledge.{drawn_in}
-use Rattle.job_protocol.specs.Records.{file_key, record_key, record_text, files_set}
-use Rattle.job_protocol.specs.Uploading.{file_parts}
-use Rattle.job_protocol.specs.JobCommits.{set_request, set_read, ok_set}
-use Rattle.job_spec.specs.Seen.{is_magic}
-use Rattle.proof_base.specs.Members.{IsIn}
-use Rattle.proof_base.proofs.Members.{none_or_some, text_true}
-use Rattle.job_facts.specs.Told.{Told}
-use Rattle.job_facts.specs.Stores.{at_key, at_id, at_path, at_place, sets_at, set_at}
-use Rattle.job_facts.specs.Facts.{IsAttempt, IsHeld, IsWritten, IsSet, Facts, knowing}
-use Rattle.job_facts.specs.Laws.{IsSetAnswer, SetAnswered}
+use Rattle.job_facts.specs.Laws.{SetAnswered}
 use Rattle.job_facts.proofs.Cut.{parts_few}
 use Rattle.job_facts.proofs.Joined.{held_joined}
 use Rattle.job_facts.proofs.Legible as legible

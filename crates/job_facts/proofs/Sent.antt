@@ -1,37 +1,11 @@
 -- Each kind of request of an attempt keeps the facts, whatever becomes of it.
 use Rattle.std.proofs.Common.{◌≡◌, ℕ, suc, ◌+◌, ◌<◌, ◌⊎◌, inl, inr, nat_eq, ◌&&◌, ◌||◌, Bool, true, false, cond, List, [], length, slice_get, Option, Some, None, refl, sym, ap, subst, ◌∙◌, arith}
+use Rattle.job_spec.proofs.Common.{slice_get_within, some_is, none_some, false_true, text_false, nat_here}
+use Rattle.job_facts.specs.Prelude.{text_eq, Scene, Upload, Spelled, with_key, is_part_number, with_part, answer, apply, part_answer, IsHonestOutcome, only_reads, Request, PutObject, GetObject, HeadObject, ListPage, ListParts, ListUploads, CreateUpload, UploadPart, ClusterGet, ClusterList, Reply, Part, Refused, BadPartNumber, Outcome, Answered, Slow, RequestLost, ReplyLost, Place, MarkerPlace, RecordPlace, SetPlace, key_at, File, Who, IsLegal, Script, files, Drawn, Known, learn, is_set_key, file_key, marker_key, record_key, record_text, file_parts, Seen, see, is_magic, is_publishing, last_by, IsIn, Told, known, put_who, undoes, entry, tell, tell_attempt, at_id, IsKnown, part_left, IsWritten, IsRecord, IsOwnPlace, Facts, Hold}
+use Rattle.job_protocol.specs.Prelude.{learn_part}
 use Rattle.std.specs.FinMap as fin
-use Rattle.std.proofs.lemmas.Option.{slice_get_within}
-use Rattle.proof_base.specs.Order.{text_eq}
-use Rattle.s3_types.specs.Store.{Scene, Upload}
-use Rattle.s3_types.specs.Tags.{Spelled, plain_tag}
-use Rattle.s3_types.specs.Multipart.{with_key, is_part_number, with_part}
-use Rattle.s3_types.specs.Answer.{answer, apply, part_answer}
-use Rattle.s3_types.specs.Moment.{IsHonestOutcome}
-use Rattle.s3_types.specs.Requests.{only_reads}
-use Rattle.s3_types.specs.declared.request.Request.{Request}
-use Rattle.s3_types.specs.declared.request.Request.TheVariants.{PutObject, GetObject, HeadObject, ListPage, ListParts, ListUploads, CreateUpload, UploadPart, ClusterGet, ClusterList}
-use Rattle.s3_types.specs.declared.reply.Reply.{Reply}
-use Rattle.s3_types.specs.declared.reply.Reply.TheVariants.{Part, Refused}
-use Rattle.s3_types.specs.declared.reply.Refusal.TheVariants.{BadPartNumber}
-use Rattle.s3_types.specs.declared.journal.Outcome.{Outcome}
-use Rattle.s3_types.specs.declared.journal.Outcome.TheVariants.{Answered, Slow, RequestLost, ReplyLost}
-use Rattle.magic_paths.specs.Places.{Place, MarkerPlace, RecordPlace, SetPlace, key_at}
-use Rattle.job_model.specs.Files.{File}
-use Rattle.job_model.specs.Attempts.{Who}
-use Rattle.job_model.specs.Legal.{IsLegal}
-use Rattle.job_model.specs.JobScript.{Script}
-use Rattle.job_protocol.specs.Outputs.{files}
-use Rattle.job_model.specs.Known.{Drawn, Known}
-use Rattle.job_protocol.specs.Knowledge.{learn, learn_part, is_set_key}
-use Rattle.job_protocol.specs.Records.{file_key, marker_key, record_key, record_text}
-use Rattle.job_protocol.specs.Uploading.{file_parts}
-use Rattle.job_spec.specs.Seen.{Seen, see, is_magic, is_publishing, last_by}
-use Rattle.proof_base.specs.Members.{IsIn}
-use Rattle.proof_base.proofs.Members.{some_is, none_some, false_true, text_false, nat_here}
-use Rattle.job_facts.specs.Told.{Told, known, put_who, undoes, entry, tell, tell_attempt}
-use Rattle.job_facts.specs.Stores.{at_id, IsKnown, Turns, part_left}
-use Rattle.job_facts.specs.Facts.{IsWritten, IsRecord, IsOwnPlace, Facts, Hold}
+use Rattle.s3_types.specs.Tags.{plain_tag}
+use Rattle.job_facts.specs.Stores.{Turns}
 use Rattle.job_facts.proofs.Whose.{attempt, who_same, or_false}
 use Rattle.job_facts.proofs.Legal.{is_attempt, same_file, small_task}
 use Rattle.job_facts.proofs.Placed.{own_place, one_place}

@@ -1,53 +1,16 @@
 -- The driver's set-up leaves nothing in the job's magic directory, and changes nothing else but the marker of a committed job.
 use Rattle.std.proofs.Common.{◌≡◌, ℕ, inl, inr, ◌&&◌, not, Bool, true, false, cond, List, [], ◌∷◌, take, Option, Some, None, refl, sym, ap, subst, ◌∙◌, codes}
 use Rattle.std.specs.Prelude.{bytes_eq}
+use Rattle.job_facts.specs.Prelude.{option_map, BucketContent, Content, Files, Scene, begins, answer, apply, apply_store, apply_at, answer_at, head, with_objects, below, effect, IsHonestOutcome, only_reads, Object, Request, HeadObject, DeleteObject, DeleteObjects, ClusterPut, ClusterRename, ClusterDelete, Committer, Magic, Directory, Partitioned, Reply, Page, Outcome, Answered, Slow, RequestLost, ReplyLost, Retried, step, magic_prefix, success_key, cluster_prefix, text_cmp, Who, IsLegal, Script, Drawn, checks_all, view, is_folder, is_file_path, Setup, Heading, Clearing, Sweeping, SetupOver, dest_prefix, if_bucket, headed, checked_on, checked_by, first_shown, cleared, setup_asks, setup_hears, setup_after, Sweep, Listing, Deleting, Walked, More, Whole, keys_on, page_after, sweep_asks, sweep_hears, all_go, Same, NoClusterFile, is_magic, is_staging, IsIn, changed_paths, HasBucket, at_key, at_id, IsForeign, SetsUp, IsBare, ClearsAlone}
+use Rattle.job_spec.proofs.Common.{and_parts, not-true, false≢true, append_cancel_left, below_is, if_bucket_so, some_is, false_true, none_or_some, none_some, true_or_false, text_other, text_left}
+use Rattle.job_model.specs.Prelude.{renamed}
+use Rattle.job_protocol.specs.Prelude.{checked}
 use Rattle.std.specs.FinMap as fin
-use Rattle.std.specs.Option.{option_map}
-use Rattle.std.proofs.lemmas.Bool.{and_parts, not-true, false≢true}
-use Rattle.std.proofs.lemmas.List.{append_cancel_left}
-use Rattle.s3_types.specs.Store.{BucketContent, Content, Files, Scene}
-use Rattle.s3_types.specs.Pages.{begins}
-use Rattle.s3_types.specs.Answer.{answer, apply, apply_store, apply_at, answer_at, head, renamed, with_objects}
-use Rattle.path_keys.specs.Paths.{below}
-use Rattle.magic_paths.proofs.Tails.{below_is}
-use Rattle.s3_types.specs.Moment.{effect, IsHonestOutcome}
-use Rattle.s3_types.specs.Requests.{only_reads}
-use Rattle.s3_types.specs.declared.object.Object.{Object}
-use Rattle.s3_types.specs.declared.request.Request.{Request}
-use Rattle.s3_types.specs.declared.request.Request.TheVariants.{HeadObject, DeleteObject, DeleteObjects, ClusterPut, ClusterRename, ClusterDelete}
-use Rattle.s3_types.specs.declared.request.Committer.{Committer}
-use Rattle.s3_types.specs.declared.request.Committer.TheVariants.{Magic, Directory, Partitioned}
-use Rattle.s3_types.specs.declared.reply.Reply.{Reply}
-use Rattle.s3_types.specs.declared.reply.Reply.TheVariants.{Page}
-use Rattle.s3_types.specs.declared.journal.Outcome.{Outcome}
-use Rattle.s3_types.specs.declared.journal.Outcome.TheVariants.{Answered, Slow, RequestLost, ReplyLost}
-use Rattle.retries.specs.Retries.{Retried, step}
-use Rattle.magic_paths.specs.Layout.{magic_prefix, success_key, cluster_prefix}
-use Rattle.proof_base.specs.Order.{text_cmp}
-use Rattle.job_model.specs.Attempts.{Who}
-use Rattle.job_model.specs.Legal.{IsLegal}
-use Rattle.job_model.specs.JobScript.{Script}
-use Rattle.job_model.specs.Known.{Drawn}
 use Rattle.job_model.specs.declared.ends.SetupEnd.TheVariants as ends
-use Rattle.job_protocol.specs.Conflicts.{checks_all}
-use Rattle.job_protocol.specs.View.{view, is_folder, is_file_path}
-use Rattle.job_protocol.specs.Setup.{Setup, Heading, Checking, Clearing, Sweeping, SetupOver, dest_prefix, if_bucket, headed, checked, checked_on, checked_by, first_shown, cleared, sweeping, setup_asks, setup_hears, setup_after}
-use Rattle.list_walk.specs.Walks.{Sweep, Listing, Deleting, Walked, More, Whole, walked, keys_on, page_after, sweep_asks, sweep_hears, all_go}
-use Rattle.job_protocol.proofs.Faults.{if_bucket_so}
-use Rattle.job_spec.specs.Headline.{Same}
-use Rattle.job_spec.specs.Scope.{NoClusterFile}
-use Rattle.job_spec.specs.Seen.{is_magic, is_staging}
-use Rattle.proof_base.specs.Members.{IsIn}
-use Rattle.store_frame.specs.Frame.{changed_paths}
-use Rattle.store_frame.specs.Held.{HasBucket}
-use Rattle.proof_base.proofs.Members.{some_is, false_true, none_or_some, none_some, true_or_false, text_other, text_left}
+use Rattle.job_protocol.specs.Setup.{Checking, sweeping}
+use Rattle.list_walk.specs.Walks.{walked}
 use Rattle.store_frame.proofs.Framed.{with_bucket, frame}
 use Rattle.store_frame.proofs.Reading.{reads_nothing}
-use Rattle.job_facts.specs.Stores.{at_key, at_id}
-use Rattle.job_facts.specs.Foreign.{IsForeign}
-use Rattle.job_facts.specs.Emptying.{SetsUp}
-use Rattle.job_facts.specs.Laws.{IsBare}
-use Rattle.job_facts.specs.SetupLaws.{ClearsAlone}
 use Rattle.job_facts.proofs.Legal.{some_dest}
 use Rattle.job_facts.proofs.Shapes.{id_before, id_after}
 use Rattle.job_facts.proofs.Undone.{deletes_drop}

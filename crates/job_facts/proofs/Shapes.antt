@@ -1,19 +1,13 @@
 -- What each request leaves of a store and of the cluster's files, told at keys, ids and paths.
 use Rattle.std.proofs.Common.{◌≡◌, ℕ, ◌+◌, ◌&&◌, Bool, true, false, cond, List, Option, Some, None, refl, sym, ap, subst, ◌∙◌}
+use Rattle.job_facts.specs.Prelude.{text_eq, BucketContent, Content, Scene, Upload, live, with_key, is_part_number, with_part, apply, apply_store, apply_at, bucket_of, answer_at, with_objects, Object, Request, PutObject, CreateUpload, UploadPart, AbortUpload, Script, upload_in, at_key, at_id, Puts, part_left, end_left}
+use Rattle.job_model.specs.Prelude.{Uploads, aborted}
+use Rattle.job_spec.specs.Prelude.{answer_in, part_put, object_in}
+use Rattle.store_frame.specs.Prelude.{with_uploads}
+use Rattle.job_spec.proofs.Common.{nat_here, nat_other, nat_gone, nat_left, text_here, text_other}
 use Rattle.std.specs.FinMap as fin
-use Rattle.proof_base.specs.Order.{text_eq}
-use Rattle.s3_types.specs.Store.{BucketContent, Content, Scene, Upload, Uploads}
-use Rattle.s3_types.specs.Multipart.{live, with_key, is_part_number, with_part}
-use Rattle.s3_types.specs.Answer.{apply, apply_store, apply_at, bucket_of, answer_at, answer_in, with_objects, with_uploads, part_put, aborted}
-use Rattle.s3_types.specs.declared.object.Object.{Object}
-use Rattle.s3_types.specs.declared.request.Request.{Request}
-use Rattle.s3_types.specs.declared.request.Request.TheVariants.{PutObject, CreateUpload, UploadPart, AbortUpload}
-use Rattle.proof_base.proofs.Members.{nat_here, nat_other, nat_gone, nat_left, text_here, text_other}
 use Rattle.store_frame.proofs.Framed.{with_bucket, part_others}
-use Rattle.job_model.specs.JobScript.{Script}
-use Rattle.job_protocol.specs.View.{object_in}
-use Rattle.job_spec.specs.Scope.{upload_in}
-use Rattle.job_facts.specs.Stores.{at_key, at_id, Puts, Turns, Draws, part_left, end_left}
+use Rattle.job_facts.specs.Stores.{Turns, Draws}
 
 -- ---- a part, and an end, at its id and at others
 

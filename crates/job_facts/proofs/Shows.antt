@@ -1,29 +1,9 @@
 -- What is changed below the magic directory alone, no reader of the destination sees.
 use Rattle.std.proofs.Common.{◌≡◌, ℕ, inl, inr, not, ◌&&◌, nat_eq, Bool, true, false, cond, List, [], ◌∷◌, ◌++◌, None, refl, sym, ap, ◌∙◌, codes}
 use Rattle.std.specs.Prelude.{bytes_eq}
-use Rattle.std.specs.Option.{option_map}
-use Rattle.std.proofs.lemmas.Bool.{and_parts, not-true, false≢true}
-use Rattle.s3_types.specs.Store.{Content, Scene}
-use Rattle.s3_types.specs.Pages.{begins}
-use Rattle.s3_types.specs.Answer.{apply, bucket_of}
-use Rattle.s3_types.specs.Moment.{effect}
-use Rattle.s3_types.specs.declared.object.Object.{Object}
-use Rattle.s3_types.specs.declared.request.Request.{Request}
-use Rattle.s3_types.specs.declared.journal.Outcome.{Outcome}
-use Rattle.s3_types.specs.declared.journal.Outcome.TheVariants.{Slow, RequestLost}
-use Rattle.path_keys.specs.Paths.{below}
-use Rattle.magic_paths.specs.Layout.{magic_prefix}
-use Rattle.magic_paths.proofs.Tails.{begins_behind, below_is}
-use Rattle.job_model.specs.Legal.{IsLegal}
-use Rattle.job_model.specs.JobScript.{Script}
-use Rattle.job_protocol.specs.View.{view, is_folder, is_file_path}
-use Rattle.job_spec.specs.Headline.{Same}
-use Rattle.proof_base.specs.Members.{IsIn}
-use Rattle.store_frame.specs.Held.{HasBucket}
-use Rattle.store_frame.specs.Frame.{changed_keys}
-use Rattle.proof_base.proofs.Members.{false_true, true_or_false}
+use Rattle.job_facts.specs.Prelude.{option_map, Content, Scene, begins, apply, bucket_of, effect, Object, Request, Outcome, Slow, RequestLost, below, magic_prefix, IsLegal, Script, view, is_folder, is_file_path, Same, IsIn, HasBucket, changed_keys, at_key}
+use Rattle.job_spec.proofs.Common.{and_parts, not-true, false≢true, begins_behind, below_is, false_true, true_or_false}
 use Rattle.store_frame.proofs.Framed.{frame}
-use Rattle.job_facts.specs.Stores.{at_key}
 use Rattle.job_facts.proofs.Legal.{some_dest}
 
 pub begins_front : (a b q : List ℕ) → begins (a ++ b) q ≡ true → begins a q ≡ true

@@ -1,19 +1,8 @@
 -- How the facts of a staging job are kept where a file of the cluster is put, moved onto a task's set, or taken away.
 use Rattle.std.proofs.Common.{◌≡◌, ℕ, ◌<◌, inl, inr, true, List, Option, Some, None, refl, sym, ap, subst, ◌∙◌}
+use Rattle.job_facts.specs.Prelude.{Scene, Files, with_files, TemporaryPlace, StagedSetPlace, path_at, Who, IsLegal, Script, files, is_staging, HasBucket, Told, at_path, sets_at, IsAttempt, IsTemporary, Facts}
+use Rattle.job_spec.proofs.Common.{some_is, none_some, same_or_not, same_or_other, text_here, text_other, text_left, text_gone}
 use Rattle.std.specs.FinMap as fin
-use Rattle.s3_types.specs.Store.{Scene, Files}
-use Rattle.s3_types.specs.Answer.{with_files}
-use Rattle.magic_paths.specs.Places.{TemporaryPlace, StagedSetPlace, path_at}
-use Rattle.job_model.specs.Attempts.{Who}
-use Rattle.job_model.specs.Legal.{IsLegal}
-use Rattle.job_model.specs.JobScript.{Script}
-use Rattle.job_protocol.specs.Outputs.{files}
-use Rattle.job_spec.specs.Seen.{is_staging}
-use Rattle.store_frame.specs.Held.{HasBucket}
-use Rattle.proof_base.proofs.Members.{some_is, none_some, same_or_not, same_or_other, text_here, text_other, text_left, text_gone}
-use Rattle.job_facts.specs.Told.{Told}
-use Rattle.job_facts.specs.Stores.{at_path, sets_at}
-use Rattle.job_facts.specs.Facts.{IsAttempt, IsTemporary, Facts}
 use Rattle.job_facts.proofs.Whose.{attempt}
 use Rattle.job_facts.proofs.Keep.{Drops}
 use Rattle.job_facts.proofs.Placed.{temporary_place, staged_place, one_path, staged_set, set_same}

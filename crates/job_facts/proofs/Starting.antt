@@ -1,28 +1,7 @@
 -- The facts begin where the set-up is done; and what only reads keeps them, whoever sends it.
 use Rattle.std.proofs.Common.{◌≡◌, ℕ, ◌<◌, true, List, Option, Some, None, refl, ap}
-use Rattle.std.specs.Option.{option_map}
-use Rattle.s3_types.specs.Store.{Scene, Upload}
-use Rattle.s3_types.specs.Answer.{answer}
-use Rattle.s3_types.specs.Moment.{IsHonestOutcome}
-use Rattle.s3_types.specs.Requests.{only_reads}
-use Rattle.s3_types.specs.declared.request.Actor.{Actor}
-use Rattle.s3_types.specs.declared.request.Actor.TheVariants.{Driver, Attempt, Shell}
-use Rattle.s3_types.specs.declared.request.Committer.{Committer}
-use Rattle.s3_types.specs.declared.request.Committer.TheVariants.{Magic}
-use Rattle.s3_types.specs.declared.journal.Entry.{Entry}
-use Rattle.s3_types.specs.declared.journal.Outcome.{Outcome}
-use Rattle.s3_types.specs.declared.journal.Outcome.TheVariants.{Slow, RequestLost}
-use Rattle.s3_types.specs.declared.object.Object.{Object}
-use Rattle.magic_paths.specs.Places.{SetPlace, TemporaryPlace, StagedSetPlace}
-use Rattle.job_model.specs.Legal.{IsLegal}
-use Rattle.job_model.specs.JobScript.{Script}
-use Rattle.job_spec.specs.Seen.{Seen, see, is_magic, is_staging}
-use Rattle.store_frame.specs.Held.{HasBucket}
-use Rattle.proof_base.proofs.Members.{none_some}
-use Rattle.job_facts.specs.Told.{Told, tell, nothing_told}
-use Rattle.job_facts.specs.Stores.{at_id, at_path, at_place, set_at}
-use Rattle.job_facts.specs.Facts.{Facts, Hold}
-use Rattle.job_facts.specs.Laws.{IsBare}
+use Rattle.job_facts.specs.Prelude.{option_map, Scene, Upload, answer, IsHonestOutcome, only_reads, Actor, Driver, Attempt, Shell, Committer, Magic, Entry, Outcome, Slow, RequestLost, Object, SetPlace, TemporaryPlace, StagedSetPlace, IsLegal, Script, Seen, see, is_magic, is_staging, HasBucket, Told, tell, nothing_told, at_id, at_path, at_place, set_at, Facts, Hold, IsBare}
+use Rattle.job_spec.proofs.Common.{none_some}
 use Rattle.job_facts.proofs.Whose.{attempt}
 use Rattle.job_facts.proofs.Placed.{record_magic, set_magic, path_below}
 use Rattle.job_facts.proofs.Sent.{read_keeps}

@@ -1,36 +1,11 @@
 -- While the driver's commit completes: the uploads of its sets are apart, and an upload that is ended is done or had a sending lost.
 use Rattle.std.proofs.Common.{◌≡◌, ℕ, ◌+◌, ◌<◌, ◌⊎◌, inl, inr, nat_eq, nat_lt, ◌&&◌, ◌||◌, Bool, true, false, cond, List, [], ◌∷◌, ◌++◌, map, length, Option, Some, None, refl, sym, ap, subst, ◌∙◌}
-use Rattle.std.proofs.lemmas.Bool.{and_parts, false≢true}
-use Rattle.s3_types.specs.Answer.{answer}
-use Rattle.s3_types.specs.Blocks.{named_from}
+use Rattle.job_spec.proofs.Common.{and_parts, false≢true, some_is, false_true, true_or_false, eq_nat, nat_true, in_front, in_last}
+use Rattle.job_facts.specs.Prelude.{answer, named_from, is_effective, Committer, Magic, Request, Reply, Completed, Outcome, Answered, Slow, RequestLost, ReplyLost, Pending, PendingSet, IsLegal, Script, same_path, Sweep, Listing, Deleting, sweep_asks, sweep_hears, Turn, nth, completion, again, follow, dealt, revert, Setting, CommitEnd, Sets, all_commits, picks_of, Commit, Fetching, Replacing, Completing, Marking, Reverting, CommitOver, set_request, set_read, commit_asks, commit_misses, commit_tells, commit_start, completing, is_no_magic, replaced, replacing, decided, fetching, fetched, swept, reverting, worn_completion, Tabled, Seen, Told, ends, tell_driver, Hold, Reads, FitsJobCommit, NoneEnded, Turned}
 use Rattle.s3_types.specs.Tags.{joined_tag}
-use Rattle.s3_types.specs.Moment.{is_effective}
-use Rattle.s3_types.specs.declared.request.Committer.{Committer}
-use Rattle.s3_types.specs.declared.request.Committer.TheVariants.{Magic}
-use Rattle.s3_types.specs.declared.request.Request.{Request}
-use Rattle.s3_types.specs.declared.reply.Reply.{Reply}
-use Rattle.s3_types.specs.declared.reply.Reply.TheVariants.{Completed}
-use Rattle.s3_types.specs.declared.journal.Outcome.{Outcome}
-use Rattle.s3_types.specs.declared.journal.Outcome.TheVariants.{Answered, Slow, RequestLost, ReplyLost}
-use Rattle.pending_json.specs.Pending.{Pending}
-use Rattle.pending_json.specs.declared.records.PendingSet.{PendingSet}
-use Rattle.job_model.specs.Legal.{IsLegal}
-use Rattle.job_model.specs.JobScript.{Script}
-use Rattle.job_protocol.specs.Outputs.{same_path}
-use Rattle.list_walk.specs.Walks.{Sweep, Listing, Deleting, sweep_asks, sweep_hears}
-use Rattle.job_protocol.specs.Lanes.{Turn, nth, completion, again, follow, dealt, revert}
-use Rattle.job_protocol.specs.Operations.{Setting}
-use Rattle.job_model.specs.declared.ends.CommitEnd.{CommitEnd}
 use Rattle.job_model.specs.declared.ends.CommitEnd.TheVariants as ends_of
 use Rattle.job_model.specs.declared.ends.Stage.TheVariants as stages
-use Rattle.job_protocol.specs.JobCommits.{Sets, all_commits, picks_of, Commit, Fetching, Replacing, Completing, Marking, Reverting, CommitOver, set_request, set_read, commit_asks, commit_misses, commit_tells, commit_start, completing, is_no_magic, replaced, replacing, decided, fetching, fetched, swept, reverting, worn_completion}
-use Rattle.job_protocol.specs.LaneTable.{Tabled}
-use Rattle.job_spec.specs.Seen.{Seen}
-use Rattle.proof_base.proofs.Members.{some_is, false_true, true_or_false, eq_nat, nat_true, in_front, in_last}
-use Rattle.job_facts.specs.Told.{Told, ends, tell_driver}
-use Rattle.job_facts.specs.Facts.{Hold}
-use Rattle.job_facts.specs.Driver.{Reads, FitsJobCommit}
-use Rattle.job_facts.specs.Turning.{NoneEnded, Turned, Turns}
+use Rattle.job_facts.specs.Turning.{Turns}
 use Rattle.job_facts.proofs.Whose.{or_true}
 use Rattle.job_facts.proofs.Replies.{completed}
 use Rattle.job_facts.proofs.Held.{nth_of, of_sets, uploads_uniq}

@@ -1,33 +1,9 @@
 -- The requests by which an attempt takes back what it did keep the facts: aborts of its uploads, and deletions of its own keys and of its temporary file.
 use Rattle.std.proofs.Common.{◌≡◌, ℕ, ◌<◌, nat_lt, nat_eq, ◌&&◌, ◌||◌, Bool, true, false, cond, List, [], ◌∷◌, ◌++◌, length, Option, Some, None, refl, sym, ap, subst, ◌∙◌, codes, append_assoc}
+use Rattle.job_facts.specs.Prelude.{decimal, eq_by_cmp, text_cmp, text_total, Content, Scene, Objects, begins, apply, apply_store, apply_at, without, with_objects, Request, AbortUpload, DeleteObjects, ClusterDelete, Outcome, Answered, Slow, RequestLost, ReplyLost, Object, MOST_ENTRIES, SetPlace, TemporaryPlace, StagedSetPlace, key_at, path_at, Who, IsLegal, Script, Drawn, learn, attempt_prefix, temporary_path, Seen, see, is_publishing, last_by, IsIn, HasBucket, Told, known, put_who, undoes, entry, tell, tell_attempt, IsAttempt, Facts, Hold}
+use Rattle.job_spec.proofs.Common.{begins_behind, none_some, false_true, text_left}
 use Rattle.std.specs.FinMap as fin
-use Rattle.std.specs.Fmt.{decimal}
-use Rattle.std.specs.Ordering.{eq_by_cmp}
-use Rattle.proof_base.specs.Order.{text_cmp, text_total}
-use Rattle.s3_types.specs.Store.{Content, Scene, Objects}
-use Rattle.s3_types.specs.Pages.{begins}
-use Rattle.s3_types.specs.Answer.{apply, apply_store, apply_at, without, with_objects}
-use Rattle.s3_types.specs.declared.request.Request.{Request}
-use Rattle.s3_types.specs.declared.request.Request.TheVariants.{AbortUpload, DeleteObjects, ClusterDelete}
-use Rattle.s3_types.specs.declared.journal.Outcome.{Outcome}
-use Rattle.s3_types.specs.declared.journal.Outcome.TheVariants.{Answered, Slow, RequestLost, ReplyLost}
-use Rattle.s3_types.specs.declared.object.Object.{Object}
-use Rattle.s3_types.specs.declared.limits.TheConstants.{MOST_ENTRIES}
-use Rattle.magic_paths.specs.Places.{SetPlace, TemporaryPlace, StagedSetPlace, key_at, path_at}
-use Rattle.magic_paths.proofs.Tails.{begins_behind}
-use Rattle.job_model.specs.Attempts.{Who}
-use Rattle.job_model.specs.Legal.{IsLegal}
-use Rattle.job_model.specs.JobScript.{Script}
-use Rattle.job_model.specs.Known.{Drawn}
-use Rattle.job_protocol.specs.Knowledge.{learn}
-use Rattle.job_protocol.specs.TaskCommits.{attempt_prefix, temporary_path}
-use Rattle.job_spec.specs.Seen.{Seen, see, is_publishing, last_by}
-use Rattle.proof_base.specs.Members.{IsIn}
-use Rattle.store_frame.specs.Held.{HasBucket}
-use Rattle.proof_base.proofs.Members.{none_some, false_true, text_left}
 use Rattle.store_frame.proofs.Framed.{with_bucket, frame}
-use Rattle.job_facts.specs.Told.{Told, known, put_who, undoes, entry, tell, tell_attempt}
-use Rattle.job_facts.specs.Facts.{IsAttempt, Facts, Hold}
 use Rattle.job_facts.proofs.Whose.{who_here, who_same, or_true}
 use Rattle.job_facts.proofs.Shapes.{key_before, key_after, id_before, id_after, bucket_after, abort_turns, with_store}
 use Rattle.job_facts.proofs.Keep.{Drops, drops_keep, abort_keep}

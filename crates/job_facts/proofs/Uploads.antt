@@ -1,33 +1,10 @@
 -- How a file's upload goes on, of any committer: what it asks keeps the facts, and it comes as far as it says.
 use Rattle.std.proofs.Common.{◌≡◌, ℕ, zero, suc, ◌+◌, ◌-◌, ◌<◌, ◌≤◌, ◌⊎◌, inl, inr, true, cond, List, [], ◌∷◌, ◌++◌, map, length, drop, slice_get, Option, Some, None, refl, sym, ap, subst, ◌∙◌, arith, length-drop}
-use Rattle.std.proofs.lemmas.Bool.Decides.{nat_tests}
-use Rattle.s3_types.specs.Store.{Upload}
-use Rattle.s3_types.specs.Tags.{Spelled, plain_tag}
-use Rattle.s3_types.specs.Multipart.{live, is_part_number}
-use Rattle.s3_types.specs.Answer.{answer, part_answer}
-use Rattle.s3_types.specs.Moment.{IsHonestOutcome}
-use Rattle.s3_types.specs.declared.request.Request.{Request}
-use Rattle.s3_types.specs.declared.request.Request.TheVariants.{CreateUpload, UploadPart}
-use Rattle.s3_types.specs.declared.reply.Reply.{Reply}
-use Rattle.s3_types.specs.declared.reply.Reply.TheVariants.{Part, Refused, Upload as TheUpload}
-use Rattle.s3_types.specs.declared.reply.Refusal.TheVariants.{NoSuchUpload, BadPartNumber}
-use Rattle.s3_types.specs.declared.journal.Outcome.{Outcome}
-use Rattle.s3_types.specs.declared.journal.Outcome.TheVariants.{Answered}
-use Rattle.job_model.specs.Files.{File}
-use Rattle.job_model.specs.Attempts.{Who}
-use Rattle.job_model.specs.Legal.{IsLegal}
-use Rattle.job_model.specs.JobScript.{Script}
-use Rattle.job_protocol.specs.Outputs.{files}
-use Rattle.job_model.specs.Known.{Drawn, Known}
-use Rattle.job_protocol.specs.Knowledge.{learn, with_part, first_drawn}
-use Rattle.job_protocol.specs.Records.{file_key}
-use Rattle.job_protocol.specs.Uploading.{Uploading, Creating, Sending, Uploaded, GoesOn, AllSent, IsGone, upload_asks, upload_hears, file_parts, sending, created, sent_part}
-use Rattle.job_spec.specs.Seen.{Seen, see}
-use Rattle.proof_base.specs.Members.{IsIn}
-use Rattle.proof_base.proofs.Members.{in_map, map_in}
-use Rattle.job_facts.specs.Told.{Told, known, entry, tell}
-use Rattle.job_facts.specs.Facts.{IsWritten, AreCommits, Hold}
-use Rattle.job_facts.specs.Fits.{Todo, Begun, AllWritten, IsOpen, FitsUpload}
+use Rattle.job_spec.proofs.Common.{nat_tests, in_map, map_in}
+use Rattle.job_facts.specs.Prelude.{Upload, Spelled, live, is_part_number, answer, part_answer, IsHonestOutcome, Request, CreateUpload, UploadPart, Reply, Part, Refused, NoSuchUpload, BadPartNumber, Outcome, Answered, File, Who, IsLegal, Script, files, Drawn, Known, learn, first_drawn, file_key, Uploading, Creating, Sending, Uploaded, GoesOn, AllSent, IsGone, upload_asks, upload_hears, file_parts, sending, created, sent_part, Seen, see, IsIn, Told, known, entry, tell, IsWritten, AreCommits, Hold, Todo, Begun, AllWritten, IsOpen, FitsUpload}
+use Rattle.s3_types.specs.Tags.{plain_tag}
+use Rattle.s3_types.specs.declared.reply.Reply.TheVariants.{Upload as TheUpload}
+use Rattle.job_protocol.specs.Knowledge.{with_part}
 use Rattle.job_facts.proofs.Cut.{parts_few}
 use Rattle.job_facts.proofs.Legal.{files_apart}
 use Rattle.job_facts.proofs.Placed.{key_file, one_key}

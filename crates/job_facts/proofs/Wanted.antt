@@ -1,19 +1,7 @@
 -- The files that picks want, by task and attempt.
 use Rattle.std.proofs.Common.{◌≡◌, ℕ, zero, suc, ◌<◌, inl, inr, ◌&&◌, Bool, true, false, cond, List, [], ◌∷◌, ◌++◌, Option, Some, None, refl, sym, ap, subst, ◌∙◌, arith}
-use Rattle.std.specs.Option.{is_some}
-use Rattle.std.specs.Map.{lookup}
-use Rattle.proof_base.specs.Order.{text_eq}
-use Rattle.serde_json.specs.Written.{compact_text}
-use Rattle.pending_json.specs.Trees.{success_tree}
-use Rattle.job_model.specs.Files.{File}
-use Rattle.job_model.specs.Legal.{IsLegal}
-use Rattle.job_model.specs.JobScript.{Script}
-use Rattle.job_model.specs.declared.ends.CommitEnd.{CommitEnd}
-use Rattle.job_protocol.specs.Outputs.{Picks, files, files_picked, wanted, wanted_below, wanted_at, paths_of, writes, same_path, picked_below, is_picked}
-use Rattle.job_protocol.specs.Records.{mark_text}
-use Rattle.job_protocol.proofs.Shared.{shared_found, shared_none}
-use Rattle.proof_base.specs.Members.{IsIn}
-use Rattle.proof_base.proofs.Members.{some_is, none_some, same_or_not, text_is, text_true, in_append, in_front, in_back}
+use Rattle.job_facts.specs.Prelude.{is_some, lookup, text_eq, compact_text, success_tree, File, IsLegal, Script, CommitEnd, Picks, files, files_picked, wanted, wanted_below, wanted_at, paths_of, writes, same_path, picked_below, is_picked, mark_text, IsIn}
+use Rattle.job_spec.proofs.Common.{shared_found, shared_none, some_is, none_some, same_or_not, text_is, text_true, in_append, in_front, in_back}
 use Rattle.job_facts.proofs.Whose.{attempt}
 use Rattle.job_facts.proofs.Legal.{same_file}
 use Rattle.job_facts.proofs.Held.{has_in, one_writer}

@@ -1,9 +1,7 @@
 -- Attempts that are the same or not, and functions of them.
 use Rattle.std.proofs.Common.{◌≡◌, ℕ, ◌⊎◌, inl, inr, nat_eq, ◌||◌, Bool, true, false, cond, Option, Some, refl, sym, ap, subst, ◌∙◌}
-use Rattle.std.proofs.lemmas.Bool.{and_parts}
-use Rattle.proof_base.proofs.Members.{some_is, eq_nat, nat_true, false_true, true_or_false}
-use Rattle.job_model.specs.Attempts.{Who, same_name}
-use Rattle.job_facts.specs.Told.{put_who}
+use Rattle.job_spec.proofs.Common.{and_parts, some_is, eq_nat, nat_true, false_true, true_or_false}
+use Rattle.job_facts.specs.Prelude.{Who, same_name, put_who}
 
 abbrev pub attempt : ℕ → ℕ → Who
 attempt t n = record { task = t; attempt = n }

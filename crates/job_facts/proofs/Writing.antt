@@ -1,29 +1,8 @@
 -- An attempt's write keeps the facts with each of its requests, whatever becomes of it, and goes on as it should.
 use Rattle.std.proofs.Common.{◌≡◌, ℕ, inl, ◌||◌, Bool, true, List, [], ◌∷◌, length, Option, Some, None, refl, sym, ap, subst, ◌∙◌}
-use Rattle.std.proofs.lemmas.Bool.{false≢true}
-use Rattle.s3_types.specs.Answer.{answer}
-use Rattle.s3_types.specs.Moment.{IsHonestOutcome}
-use Rattle.s3_types.specs.declared.request.Request.{Request}
-use Rattle.s3_types.specs.declared.request.Request.TheVariants.{PutObject}
-use Rattle.s3_types.specs.declared.request.Committer.{Committer}
-use Rattle.s3_types.specs.declared.request.Committer.TheVariants.{Magic}
-use Rattle.s3_types.specs.declared.journal.Outcome.{Outcome}
-use Rattle.retries.specs.Retries.{Retried, step}
-use Rattle.magic_paths.specs.Places.{Place, MarkerPlace, RecordPlace, SetPlace, key_at}
-use Rattle.job_model.specs.Files.{File}
-use Rattle.job_model.specs.Attempts.{Who}
-use Rattle.job_model.specs.Legal.{IsLegal}
-use Rattle.job_model.specs.JobScript.{Script}
-use Rattle.job_model.specs.Known.{Drawn, Known}
-use Rattle.job_protocol.specs.Knowledge.{learn, first_drawn}
-use Rattle.job_protocol.specs.Records.{marker_key, record_key, record_text}
-use Rattle.job_protocol.specs.Uploading.{Uploading, Creating, Sending, Uploaded, IsGone, upload_asks, upload_hears}
-use Rattle.job_protocol.specs.Writes.{Write, Uploads, Marking, Recording, WriteOver, writing, write_asks, write_after, uploaded}
-use Rattle.job_spec.specs.Seen.{Seen, see, is_magic}
-use Rattle.proof_base.proofs.Members.{some_is}
-use Rattle.job_facts.specs.Told.{Told, known, entry, tell}
-use Rattle.job_facts.specs.Facts.{IsAttempt, IsOwnPlace, Hold}
-use Rattle.job_facts.specs.Fits.{Todo, Begun, AllWritten, IsOpen, FitsUpload, Wrote, FitsWrite}
+use Rattle.job_spec.proofs.Common.{false≢true, some_is}
+use Rattle.job_facts.specs.Prelude.{answer, IsHonestOutcome, Request, PutObject, Committer, Magic, Outcome, Retried, step, Place, MarkerPlace, RecordPlace, SetPlace, key_at, File, Who, IsLegal, Script, Drawn, Known, learn, first_drawn, marker_key, record_key, record_text, Uploading, Creating, Sending, Uploaded, IsGone, upload_asks, upload_hears, Write, Recording, WriteOver, writing, write_asks, write_after, Seen, see, is_magic, Told, known, entry, tell, IsAttempt, IsOwnPlace, Hold, Todo, Begun, AllWritten, IsOpen, FitsUpload, Wrote, FitsWrite}
+use Rattle.job_protocol.specs.Writes.{Uploads, Marking, uploaded}
 use Rattle.job_facts.proofs.Whose.{or_false}
 use Rattle.job_facts.proofs.Sent.{not_set, marker_keeps, record_keeps}
 use Rattle.job_facts.proofs.Uploads.{FitsUploaded, begun_written, next_todo, todo_none, upload_keeps, upload_goes, upload_flags}

@@ -1,25 +1,11 @@
 -- How far the driver's abort or clean of the job has come with what is to go, while nobody else sends.
 use Rattle.std.specs.Prelude.{◌≡◌, ℕ, ◌⊎◌, true, List, ◌∷◌, Some, None}
+use Rattle.job_spec.specs.Prelude.{Content, Scene, Upload, begins, is_behind, answer, effect, IsHonestOutcome, Request, UploadRef, Outcome, Retried, step, cluster_prefix, Script, dest_prefix, Clean, Walking, Aborting, Naming, Removing, CleanOver, clean_start, clean_asks, clean_after, NoneLive, NothingLeft, is_magic, is_staging, IsIn}
+use Rattle.job_protocol.specs.Prelude.{last_ref}
+use Rattle.store_frame.specs.Prelude.{HasBucket}
 use Rattle.std.specs.FinMap as fin
-use Rattle.s3_types.specs.Store.{Content, Scene, Upload}
-use Rattle.s3_types.specs.Pages.{begins}
-use Rattle.s3_types.specs.Multipart.{is_behind}
-use Rattle.s3_types.specs.Answer.{answer}
-use Rattle.s3_types.specs.Moment.{effect, IsHonestOutcome}
-use Rattle.s3_types.specs.declared.request.Request.{Request}
-use Rattle.s3_types.specs.declared.request.UploadRef.{UploadRef}
-use Rattle.s3_types.specs.declared.journal.Outcome.{Outcome}
-use Rattle.retries.specs.Retries.{Retried, step}
-use Rattle.magic_paths.specs.Layout.{cluster_prefix}
-use Rattle.job_model.specs.JobScript.{Script}
 use Rattle.job_model.specs.declared.ends.CleanEnd.TheVariants as ends
-use Rattle.job_protocol.specs.Setup.{dest_prefix}
-use Rattle.list_walk.specs.Walks.{last_ref}
-use Rattle.job_protocol.specs.Cleanups.{Clean, Walking, Aborting, Sweeping, Naming, Removing, CleanOver, clean_start, clean_asks, clean_after}
-use Rattle.job_spec.specs.Scope.{NoneLive, NothingLeft}
-use Rattle.job_spec.specs.Seen.{is_magic, is_staging}
-use Rattle.proof_base.specs.Members.{IsIn}
-use Rattle.store_frame.specs.Held.{HasBucket}
+use Rattle.job_protocol.specs.Cleanups.{Sweeping}
 use Rattle.job_facts.specs.Stores.{at_id}
 use Rattle.job_facts.specs.Driver.{FitsSweep}
 use Rattle.job_facts.specs.Emptying.{Empties}

@@ -1,20 +1,8 @@
 -- How far the driver's commit, and its abort or clean of the job, have come.
 use Rattle.std.specs.Prelude.{◌≡◌, ℕ, ◌<◌, ◌≤◌, Bool, true, List, [], ◌∷◌, length, slice_get, Some}
-use Rattle.s3_types.specs.Pages.{begins}
-use Rattle.s3_types.specs.declared.request.Request.{Request}
-use Rattle.s3_types.specs.declared.request.UploadRef.{UploadRef}
-use Rattle.proof_base.specs.Members.{IsIn}
-use Rattle.magic_paths.specs.Layout.{magic_prefix, cluster_prefix}
-use Rattle.pending_json.specs.declared.records.PendingSet.{PendingSet}
-use Rattle.job_model.specs.Files.{File}
-use Rattle.job_model.specs.Attempts.{Who}
-use Rattle.job_model.specs.JobScript.{Script}
-use Rattle.job_model.specs.Known.{Drawn}
-use Rattle.job_protocol.specs.Records.{files_set}
-use Rattle.job_protocol.specs.JobCommits.{Sets, Commit, Fetching, Replacing, Completing, Marking, Reverting, CommitOver, is_no_magic}
-use Rattle.job_protocol.specs.Setup.{dest_prefix}
-use Rattle.list_walk.specs.Walks.{Sweep, Listing, Deleting}
-use Rattle.job_protocol.specs.Cleanups.{Clean, Walking, Aborting, Sweeping, Naming, Removing, CleanOver}
+use Rattle.job_spec.specs.Prelude.{begins, Request, UploadRef, IsIn, magic_prefix, cluster_prefix, File, Who, Script, Drawn, files_set, Sets, Commit, Fetching, Replacing, Completing, Marking, Reverting, CommitOver, is_no_magic, dest_prefix, Clean, Walking, Aborting, Naming, Removing, CleanOver}
+use Rattle.job_protocol.specs.Prelude.{PendingSet, Sweep, Listing, Deleting}
+use Rattle.job_protocol.specs.Cleanups.{Sweeping}
 use Rattle.job_facts.specs.Foreign.{IsDriving}
 use Rattle.job_facts.specs.Facts.{AreCommits, knowing}
 

@@ -1,18 +1,10 @@
 -- How far a sweep of the job's magic directory has come, while none but the driver changes it; and the set-up, which begins with one.
 use Rattle.std.specs.Prelude.{◌≡◌, ℕ, Bool, ◌⊎◌, true, List, [], ◌∷◌, Some}
-use Rattle.std.specs.Ordering.{is_lt}
-use Rattle.proof_base.specs.Order.{text_cmp}
-use Rattle.s3_types.specs.Store.{Content}
-use Rattle.s3_types.specs.Pages.{begins}
-use Rattle.s3_types.specs.declared.object.Object.{Object}
-use Rattle.magic_paths.specs.Layout.{magic_prefix}
-use Rattle.job_model.specs.JobScript.{Script}
+use Rattle.job_spec.specs.Prelude.{is_lt, text_cmp, Content, begins, Object, magic_prefix, Script, Setup, Heading, Clearing, Sweeping, SetupOver, is_magic, IsIn}
+use Rattle.job_protocol.specs.Prelude.{Sweep, Listing, Deleting, last_of, all_go}
+use Rattle.store_frame.specs.Prelude.{HasBucket}
 use Rattle.job_model.specs.declared.ends.SetupEnd.TheVariants as ends
-use Rattle.job_protocol.specs.Setup.{Setup, Heading, Checking, Clearing, Sweeping, SetupOver}
-use Rattle.list_walk.specs.Walks.{Sweep, Listing, Deleting, last_of, all_go}
-use Rattle.job_spec.specs.Seen.{is_magic}
-use Rattle.proof_base.specs.Members.{IsIn}
-use Rattle.store_frame.specs.Held.{HasBucket}
+use Rattle.job_protocol.specs.Setup.{Checking}
 use Rattle.job_facts.specs.Stores.{at_key}
 use Rattle.job_facts.specs.Driver.{FitsSweep}
 

@@ -1,22 +1,9 @@
 -- What holds of one job's store, of the cluster and of what its attempts know, from the end of its set-up on, whatever strangers send.
 use Rattle.std.specs.Prelude.{◌≡◌, ℕ, suc, ◌<◌, ◌≤◌, Bool, true, false, List, [], ◌∷◌, length, map, take, slice_get, Option, Some}
+use Rattle.job_spec.specs.Prelude.{Scene, Upload, Parts, begins, Object, IsIn, magic_prefix, Place, MarkerPlace, RecordPlace, SetPlace, FilePlace, SuccessPlace, ClusterPlace, TemporaryPlace, key_at, File, Who, Script, files, Drawn, Known, file_key, record_text, set_text, file_parts, Seen, is_magic, is_staging}
+use Rattle.store_frame.specs.Prelude.{HasBucket}
 use Rattle.std.specs.FinMap as fin
-use Rattle.s3_types.specs.Store.{Scene, Upload, Parts}
 use Rattle.s3_types.specs.Tags.{plain_tag}
-use Rattle.s3_types.specs.Pages.{begins}
-use Rattle.s3_types.specs.declared.object.Object.{Object}
-use Rattle.proof_base.specs.Members.{IsIn}
-use Rattle.store_frame.specs.Held.{HasBucket}
-use Rattle.magic_paths.specs.Layout.{magic_prefix}
-use Rattle.magic_paths.specs.Places.{Place, MarkerPlace, RecordPlace, SetPlace, FilePlace, SuccessPlace, ClusterPlace, TemporaryPlace, key_at}
-use Rattle.job_model.specs.Files.{File}
-use Rattle.job_model.specs.Attempts.{Who}
-use Rattle.job_model.specs.JobScript.{Script}
-use Rattle.job_protocol.specs.Outputs.{files}
-use Rattle.job_model.specs.Known.{Drawn, Known}
-use Rattle.job_protocol.specs.Records.{file_key, record_text, set_text}
-use Rattle.job_protocol.specs.Uploading.{file_parts}
-use Rattle.job_spec.specs.Seen.{Seen, is_magic, is_staging}
 use Rattle.job_facts.specs.Told.{Told}
 use Rattle.job_facts.specs.Stores.{at_key, at_place, at_id, at_path, sets_at}
 

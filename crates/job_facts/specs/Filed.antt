@@ -1,30 +1,13 @@
 -- The uploads of the sets that the driver holds, and what stands where their files go while its commit runs.
 use Rattle.std.specs.Prelude.{◌≡◌, ℕ, ◌<◌, ◌≤◌, ◌⊎◌, Bool, true, false, List, ◌∷◌, length, Option, Some, None}
-use Rattle.s3_types.specs.Store.{Content, Upload}
-use Rattle.s3_types.specs.declared.object.Object.{Object}
-use Rattle.s3_types.specs.declared.journal.Entry.{Entry}
-use Rattle.s3_types.specs.declared.request.Request.{Request}
-use Rattle.s3_types.specs.declared.request.Request.TheVariants.{DeleteObject}
-use Rattle.path_keys.specs.Paths.{below}
-use Rattle.pending_json.specs.Pending.{Pending}
-use Rattle.retries.specs.Worn.{streak, IsWorn}
-use Rattle.job_model.specs.Files.{File}
-use Rattle.job_model.specs.Attempts.{Who}
-use Rattle.job_model.specs.JobScript.{Script}
-use Rattle.job_model.specs.Known.{Drawn}
-use Rattle.job_model.specs.declared.ends.CommitEnd.{CommitEnd}
+use Rattle.job_spec.specs.Prelude.{Content, Upload, Object, Entry, Request, DeleteObject, streak, IsWorn, File, Who, Script, Drawn, CommitEnd, files, wanted_at, same_path, file_record, abort, deletion, Sets, all_commits, picks_of, Commit, Fetching, Replacing, Completing, Marking, Reverting, CommitOver, IsIn, UploadRef, Clean, Walking, Aborting, Naming, Removing, CleanOver}
+use Rattle.job_protocol.specs.Prelude.{below, Pending}
 use Rattle.job_model.specs.declared.ends.CommitEnd.TheVariants as ends
 use Rattle.job_model.specs.declared.ends.Stage.TheVariants as stages
-use Rattle.job_protocol.specs.Outputs.{files, wanted_at, same_path}
-use Rattle.job_protocol.specs.Records.{file_record}
-use Rattle.job_protocol.specs.Lanes.{abort, deletion}
-use Rattle.job_protocol.specs.JobCommits.{Sets, all_commits, picks_of, Commit, Fetching, Replacing, Completing, Marking, Reverting, CommitOver}
-use Rattle.proof_base.specs.Members.{IsIn}
 use Rattle.job_facts.specs.Told.{Told}
 use Rattle.job_facts.specs.Stores.{at_id}
 use Rattle.job_facts.specs.Facts.{IsWritten}
-use Rattle.s3_types.specs.declared.request.UploadRef.{UploadRef}
-use Rattle.job_protocol.specs.Cleanups.{Clean, Walking, Aborting, Sweeping, Naming, Removing, CleanOver}
+use Rattle.job_protocol.specs.Cleanups.{Sweeping}
 
 -- ---- uploads
 

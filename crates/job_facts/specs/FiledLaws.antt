@@ -1,27 +1,10 @@
 -- The laws of what stands where the job's files go, and of uploads that are ended.
 use Rattle.std.specs.Prelude.{◌≡◌, ℕ, ◌<◌, ◌≤◌, ◌^◌, true, List, [], ◌∷◌, ◌++◌, Option, Some, None}
-use Rattle.s3_types.specs.Store.{Scene, Content}
-use Rattle.s3_types.specs.Answer.{apply, answer, bucket_of}
-use Rattle.s3_types.specs.Moment.{effect, IsHonestOutcome}
-use Rattle.s3_types.specs.declared.object.Object.{Object}
-use Rattle.s3_types.specs.declared.request.Request.{Request}
-use Rattle.s3_types.specs.declared.journal.Outcome.{Outcome}
-use Rattle.s3_types.specs.declared.journal.Entry.{Entry}
-use Rattle.path_keys.specs.Paths.{below}
-use Rattle.retries.specs.Worn.{IsWorn}
-use Rattle.magic_paths.specs.Places.{is_open}
-use Rattle.job_model.specs.Attempts.{Who}
-use Rattle.job_model.specs.Legal.{IsLegal}
-use Rattle.job_model.specs.JobScript.{Script}
+use Rattle.job_spec.specs.Prelude.{Scene, Content, apply, answer, bucket_of, effect, IsHonestOutcome, Object, Request, Outcome, Entry, IsWorn, is_open, Who, IsLegal, Script, Sets, Commit, Marking, CommitOver, commit_start, commit_asks, commit_tells, Tabled, Setting, Operation, asks, Seen, IsIn, Retried, step, Clean, clean_start, clean_asks, clean_after}
+use Rattle.job_protocol.specs.Prelude.{below}
+use Rattle.store_frame.specs.Prelude.{HasBucket, changed_keys}
 use Rattle.job_model.specs.declared.ends.CommitEnd.TheVariants as ends
 use Rattle.job_model.specs.declared.ends.Stage.TheVariants as stages
-use Rattle.job_protocol.specs.JobCommits.{Sets, Commit, Marking, CommitOver, commit_start, commit_asks, commit_tells}
-use Rattle.job_protocol.specs.LaneTable.{Tabled}
-use Rattle.job_protocol.specs.Operations.{Setting, Operation, asks}
-use Rattle.job_spec.specs.Seen.{Seen}
-use Rattle.proof_base.specs.Members.{IsIn}
-use Rattle.store_frame.specs.Held.{HasBucket}
-use Rattle.store_frame.specs.Frame.{changed_keys}
 use Rattle.job_facts.specs.Told.{Told, known, nothing_told, tell, entry, driver_entry, strange_entry}
 use Rattle.job_facts.specs.Stores.{at_key, at_id}
 use Rattle.job_facts.specs.Facts.{IsAttempt, Hold}
@@ -29,8 +12,6 @@ use Rattle.job_facts.specs.Fits.{Fits}
 use Rattle.job_facts.specs.Driver.{FitsJobCommit}
 use Rattle.job_facts.specs.Turning.{NoneEnded, Turns}
 use Rattle.job_facts.specs.Filed.{Gone, Decides, whole_of, IsBefore, deletes, Wants, FileStands, FoundWithKeys}
-use Rattle.retries.specs.Retries.{Retried, step}
-use Rattle.job_protocol.specs.Cleanups.{Clean, clean_start, clean_asks, clean_after}
 
 -- how far the driver's commit has come: with the sets that it holds, its lanes, and the uploads that it has ended
 pub record Commits (w : Script) (minimum : ℕ) (s : Seen) (m : Told) (c : Commit) : Type 0 where

@@ -1,25 +1,12 @@
 -- How far an attempt's operation has come, by what the attempt knows and has sent.
 use Rattle.std.specs.Prelude.{◌≡◌, ℕ, ◌≤◌, ◌⊎◌, true, false, List, [], ◌∷◌, length, drop}
-use Rattle.s3_types.specs.Pages.{begins}
-use Rattle.s3_types.specs.declared.request.Committer.{Committer}
-use Rattle.s3_types.specs.declared.request.Committer.TheVariants.{Magic, Directory, Partitioned}
-use Rattle.proof_base.specs.Members.{IsIn, RisesFrom}
-use Rattle.job_model.specs.Files.{File}
-use Rattle.job_model.specs.Attempts.{Who}
-use Rattle.job_model.specs.JobScript.{Script}
+use Rattle.job_spec.specs.Prelude.{begins, Committer, Magic, Directory, Partitioned, IsIn, RisesFrom, File, Who, Script, files, Drawn, Known, file_key, Uploading, Creating, Sending, file_parts, Write, Recording, WriteOver, TaskCommit, Looking, Reading, Publishing, Checking, Storing, Renaming, TaskCommitOver, attempt_prefix, TaskAbort, Dropping, TaskAbortOver, Operation, TheSetup, TheWrite, TheTaskCommit, TheTaskAbort, TheCommit, TheClean, is_magic, is_staging}
+use Rattle.job_protocol.specs.Prelude.{Sweep, Listing, Deleting}
 use Rattle.job_model.specs.declared.ends.TaskEnd.TheVariants as tasks
-use Rattle.job_protocol.specs.Outputs.{files}
-use Rattle.job_model.specs.Known.{Drawn, Known}
-use Rattle.job_protocol.specs.Records.{file_key}
-use Rattle.list_walk.specs.Walks.{Sweep, Listing, Deleting}
-use Rattle.job_protocol.specs.Uploading.{Uploading, Creating, Sending, file_parts}
-use Rattle.job_protocol.specs.Writes.{Write, Marking, Recording, WriteOver}
+use Rattle.job_protocol.specs.Writes.{Marking}
 use Rattle.job_protocol.specs.Writes as writes
-use Rattle.job_protocol.specs.TaskCommits.{TaskCommit, Looking, Reading, Publishing, Checking, Storing, Renaming, TaskCommitOver, attempt_prefix}
 use Rattle.job_protocol.specs.TaskCommits as commits
-use Rattle.job_protocol.specs.TaskAborts.{TaskAbort, Dropping, Sweeping, Removing, TaskAbortOver}
-use Rattle.job_protocol.specs.Operations.{Operation, TheSetup, TheWrite, TheTaskCommit, TheTaskAbort, TheCommit, TheClean}
-use Rattle.job_spec.specs.Seen.{is_magic, is_staging}
+use Rattle.job_protocol.specs.TaskAborts.{Sweeping, Removing}
 use Rattle.job_facts.specs.Told.{Told, known}
 use Rattle.job_facts.specs.Facts.{IsWritten, ApartFiles, AreCommits}
 

@@ -1,14 +1,7 @@
 -- Requests that leave a job's own keys, uploads and cluster files alone.
 use Rattle.std.specs.Prelude.{◌≡◌, ℕ, true, false, List, Some}
-use Rattle.s3_types.specs.Pages.{begins}
-use Rattle.s3_types.specs.Answer.{bucket_of}
-use Rattle.s3_types.specs.declared.request.Request.{Request}
-use Rattle.proof_base.specs.Members.{IsIn}
-use Rattle.store_frame.specs.Frame.{changed_keys, changed_upload, changed_paths}
-use Rattle.magic_paths.specs.Layout.{magic_prefix, cluster_prefix}
-use Rattle.job_model.specs.Attempts.{Who}
-use Rattle.job_model.specs.JobScript.{Script}
-use Rattle.job_model.specs.Known.{Drawn}
+use Rattle.job_spec.specs.Prelude.{begins, bucket_of, Request, IsIn, magic_prefix, cluster_prefix, Who, Script, Drawn}
+use Rattle.store_frame.specs.Prelude.{changed_keys, changed_upload, changed_paths}
 use Rattle.job_facts.specs.Told.{ends}
 use Rattle.job_facts.specs.Stores.{IsKnown}
 

@@ -1,49 +1,14 @@
 -- The laws of this crate.
 use Rattle.std.specs.Prelude.{◌≡◌, ℕ, ◌+◌, ◌<◌, ◌≤◌, ◌^◌, ◌⊎◌, true, false, List, [], map, length, slice_get, Option, Some, None, Ok}
+use Rattle.job_spec.specs.Prelude.{Scene, Upload, begins, effect, only_reads, Entry, named_from, GetObject, UploadPart, CompleteUpload, Reply, Part, Completed, Refused, NoSuchKey, NoSuchFile, File, files, Drawn, Known, knows, drawn_in, file_key, marker_key, record_key, file_record, record_text, files_set, file_parts, WriteOver, write_start, task_commit_start, task_abort_start, Commit, commit_start, commit_asks, commit_tells, set_request, set_read, ok_set, IsIn, Retried, step, magic_prefix, cluster_prefix, IsHonestOutcome, answer, Request, Outcome, Who, actor_of, IsLegal, Script, view, Clean, clean_asks, clean_after, Setting, Operation, asks, tells, has_cleaned, by_actor, Same, Seen, see, is_begun, is_magic, is_staging}
+use Rattle.store_frame.specs.Prelude.{HasBucket}
+use Rattle.job_protocol.specs.Prelude.{Path}
 use Rattle.std.specs.FinMap as fin
-use Rattle.s3_types.specs.Store.{Scene, Upload}
-use Rattle.s3_types.specs.Pages.{begins}
-use Rattle.s3_types.specs.Moment.{effect}
-use Rattle.s3_types.specs.Requests.{only_reads}
-use Rattle.s3_types.specs.declared.journal.Entry.{Entry}
-use Rattle.s3_types.specs.Blocks.{named_from}
 use Rattle.s3_types.specs.Tags.{plain_tag, joined_tag}
-use Rattle.s3_types.specs.declared.request.Request.TheVariants.{GetObject, UploadPart, CompleteUpload}
-use Rattle.s3_types.specs.declared.reply.Reply.{Reply}
-use Rattle.s3_types.specs.declared.reply.Reply.TheVariants.{Object as Found, Part, Completed, Refused}
-use Rattle.s3_types.specs.declared.reply.Refusal.TheVariants.{NoSuchKey, NoSuchFile}
+use Rattle.s3_types.specs.declared.reply.Reply.TheVariants.{Object as Found}
 use Rattle.pending_json.specs.Reading as reading
-use Rattle.job_model.specs.Files.{File}
-use Rattle.job_protocol.specs.Outputs.{files}
-use Rattle.job_model.specs.Known.{Drawn, Known}
-use Rattle.job_protocol.specs.Knowledge.{knows, drawn_in}
-use Rattle.job_protocol.specs.Records.{file_key, marker_key, record_key, file_record, record_text, files_set}
-use Rattle.job_protocol.specs.Uploading.{file_parts}
 use Rattle.job_model.specs.declared.ends.TaskEnd.TheVariants as tasks
-use Rattle.job_protocol.specs.Writes.{WriteOver, write_start}
-use Rattle.job_protocol.specs.TaskCommits.{task_commit_start}
-use Rattle.job_protocol.specs.TaskAborts.{task_abort_start}
-use Rattle.job_protocol.specs.JobCommits.{Commit, commit_start, commit_asks, commit_tells, set_request, set_read, ok_set}
-use Rattle.proof_base.specs.Members.{IsIn}
-use Rattle.retries.specs.Retries.{Retried, step}
-use Rattle.store_frame.specs.Held.{HasBucket}
-use Rattle.path_keys.specs.Paths.{Path}
-use Rattle.magic_paths.specs.Layout.{magic_prefix, cluster_prefix}
 use Rattle.magic_paths.specs.Finals as finals
-use Rattle.s3_types.specs.Moment.{IsHonestOutcome}
-use Rattle.s3_types.specs.Answer.{answer}
-use Rattle.s3_types.specs.declared.request.Request.{Request}
-use Rattle.s3_types.specs.declared.journal.Outcome.{Outcome}
-use Rattle.job_model.specs.Attempts.{Who, actor_of}
-use Rattle.job_model.specs.Legal.{IsLegal}
-use Rattle.job_model.specs.JobScript.{Script}
-use Rattle.job_protocol.specs.View.{view}
-use Rattle.job_protocol.specs.Cleanups.{Clean, clean_asks, clean_after}
-use Rattle.job_protocol.specs.Operations.{Setting, Operation, asks, tells}
-use Rattle.job_spec.specs.Ends.{has_cleaned}
-use Rattle.job_spec.specs.Turns.{by_actor}
-use Rattle.job_spec.specs.Headline.{Same}
-use Rattle.job_spec.specs.Seen.{Seen, see, is_begun, is_magic, is_staging}
 use Rattle.job_facts.specs.Told.{Told, known, undoes, nothing_told, tell, tell_all, entry, driver_entry, strange_entry}
 use Rattle.job_facts.specs.Stores.{at_key, at_id, sets_at}
 use Rattle.job_facts.specs.Foreign.{IsForeign, IsDriving, IsOwn}

@@ -1,25 +1,9 @@
 -- The laws of the driver's set-up.
 use Rattle.std.specs.Prelude.{◌≡◌, ℕ, true, false, List, Some}
+use Rattle.job_spec.specs.Prelude.{Scene, begins, answer, effect, IsHonestOutcome, Request, Outcome, Retried, step, magic_prefix, success_key, Who, IsLegal, Script, Drawn, view, Setup, SetupOver, setup_start, setup_asks, setup_after, NoClusterFile, Same, is_staging}
+use Rattle.store_frame.specs.Prelude.{HasBucket}
 use Rattle.std.specs.FinMap as fin
-use Rattle.s3_types.specs.Store.{Scene}
-use Rattle.s3_types.specs.Pages.{begins}
-use Rattle.s3_types.specs.Answer.{answer}
-use Rattle.s3_types.specs.Moment.{effect, IsHonestOutcome}
-use Rattle.s3_types.specs.declared.request.Request.{Request}
-use Rattle.s3_types.specs.declared.journal.Outcome.{Outcome}
-use Rattle.retries.specs.Retries.{Retried, step}
-use Rattle.magic_paths.specs.Layout.{magic_prefix, success_key}
-use Rattle.job_model.specs.Attempts.{Who}
-use Rattle.job_model.specs.Legal.{IsLegal}
-use Rattle.job_model.specs.JobScript.{Script}
-use Rattle.job_model.specs.Known.{Drawn}
 use Rattle.job_model.specs.declared.ends.SetupEnd.TheVariants as ends
-use Rattle.job_protocol.specs.View.{view}
-use Rattle.job_protocol.specs.Setup.{Setup, SetupOver, setup_start, setup_asks, setup_after}
-use Rattle.job_spec.specs.Scope.{NoClusterFile}
-use Rattle.job_spec.specs.Headline.{Same}
-use Rattle.job_spec.specs.Seen.{is_staging}
-use Rattle.store_frame.specs.Held.{HasBucket}
 use Rattle.job_facts.specs.Stores.{at_key, at_id}
 use Rattle.job_facts.specs.Foreign.{IsForeign}
 use Rattle.job_facts.specs.Emptying.{SetsUp}

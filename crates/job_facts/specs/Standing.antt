@@ -1,27 +1,12 @@
 -- Until the driver's abort or clean of the job begins, what an attempt has written stands, and the driver ends no upload that may still be sent to: so no write or commit finds its own gone.
 use Rattle.std.specs.Prelude.{◌≡◌, ℕ, ◌⊎◌, Bool, true, false, List, [], ◌∷◌, Some}
-use Rattle.std.specs.Ordering.{is_lt}
-use Rattle.proof_base.specs.Order.{text_cmp}
-use Rattle.s3_types.specs.declared.object.Object.{Object}
-use Rattle.s3_types.specs.declared.request.Request.{Request}
-use Rattle.magic_paths.specs.Places.{TemporaryPlace}
-use Rattle.job_model.specs.Files.{File}
-use Rattle.job_model.specs.Attempts.{Who}
-use Rattle.job_model.specs.JobScript.{Script}
-use Rattle.job_model.specs.Known.{Drawn}
-use Rattle.job_model.specs.declared.ends.TaskEnd.{TaskEnd}
+use Rattle.job_spec.specs.Prelude.{is_lt, text_cmp, Object, Request, TemporaryPlace, File, Who, Script, Drawn, TaskEnd, files, record_key, Write, Recording, WriteOver, TaskCommit, Looking, Reading, Publishing, Checking, Storing, Renaming, TaskCommitOver, Commit, Fetching, Replacing, Completing, Reverting, CommitOver, Operation, TheSetup, TheWrite, TheTaskCommit, TheTaskAbort, TheCommit, TheClean, Seen, is_magic, IsIn}
+use Rattle.job_protocol.specs.Prelude.{last_of}
 use Rattle.job_model.specs.declared.ends.TaskEnd.TheVariants as tasks
-use Rattle.job_protocol.specs.Outputs.{files}
-use Rattle.job_protocol.specs.Records.{record_key}
-use Rattle.list_walk.specs.Walks.{last_of}
-use Rattle.job_protocol.specs.Writes.{Write, Marking, Recording, WriteOver}
+use Rattle.job_protocol.specs.Writes.{Marking}
 use Rattle.job_protocol.specs.Writes as writes
-use Rattle.job_protocol.specs.TaskCommits.{TaskCommit, Looking, Reading, Publishing, Checking, Storing, Renaming, TaskCommitOver}
 use Rattle.job_protocol.specs.TaskCommits as commits
-use Rattle.job_protocol.specs.JobCommits.{Commit, Fetching, Replacing, Completing, Marking as MarkingJob, Reverting, CommitOver}
-use Rattle.job_protocol.specs.Operations.{Operation, TheSetup, TheWrite, TheTaskCommit, TheTaskAbort, TheCommit, TheClean}
-use Rattle.job_spec.specs.Seen.{Seen, is_magic}
-use Rattle.proof_base.specs.Members.{IsIn}
+use Rattle.job_protocol.specs.JobCommits.{Marking as MarkingJob}
 use Rattle.job_facts.specs.Told.{Told, ends}
 use Rattle.job_facts.specs.Stores.{at_key, at_path}
 

@@ -1,20 +1,7 @@
 -- The laws of what stands until the driver's abort or clean of the job begins.
 use Rattle.std.specs.Prelude.{◌≡◌, ℕ, Bool, true, false, List, Option, Some}
-use Rattle.s3_types.specs.Answer.{answer}
-use Rattle.s3_types.specs.Moment.{IsHonestOutcome}
-use Rattle.s3_types.specs.declared.request.Request.{Request}
-use Rattle.s3_types.specs.declared.journal.Outcome.{Outcome}
-use Rattle.job_model.specs.Attempts.{Who}
-use Rattle.job_model.specs.Legal.{IsLegal}
-use Rattle.job_model.specs.JobScript.{Script}
+use Rattle.job_spec.specs.Prelude.{answer, IsHonestOutcome, Request, Outcome, Who, IsLegal, Script, Write, WriteOver, write_start, write_over, TaskCommit, TaskCommitOver, task_commit_start, task_commit_over, Commit, commit_start, commit_asks, commit_tells, Clean, clean_asks, Tabled, Setting, Operation, asks, tells, Seen, see, is_begun}
 use Rattle.job_model.specs.declared.ends.TaskEnd.TheVariants as tasks
-use Rattle.job_protocol.specs.Writes.{Write, WriteOver, write_start, write_over}
-use Rattle.job_protocol.specs.TaskCommits.{TaskCommit, TaskCommitOver, task_commit_start, task_commit_over}
-use Rattle.job_protocol.specs.JobCommits.{Commit, commit_start, commit_asks, commit_tells}
-use Rattle.job_protocol.specs.Cleanups.{Clean, clean_asks}
-use Rattle.job_protocol.specs.LaneTable.{Tabled}
-use Rattle.job_protocol.specs.Operations.{Setting, Operation, asks, tells}
-use Rattle.job_spec.specs.Seen.{Seen, see, is_begun}
 use Rattle.job_facts.specs.Told.{Told, known, nothing_told, tell, entry, driver_entry, strange_entry}
 use Rattle.job_facts.specs.Stores.{sets_at}
 use Rattle.job_facts.specs.Foreign.{IsForeign}

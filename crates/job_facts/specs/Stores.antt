@@ -1,22 +1,9 @@
 -- What a store and the cluster have at the places of a job, and how a request may change it.
 use Rattle.std.specs.Prelude.{◌≡◌, ℕ, ◌+◌, ◌≤◌, ◌<◌, ◌&&◌, Bool, true, false, cond, List, Option, Some, None}
+use Rattle.job_spec.specs.Prelude.{option_map, text_eq, Content, Scene, Upload, begins, is_part_number, with_part, Object, Committer, Magic, Directory, Partitioned, IsIn, magic_prefix, cluster_prefix, Place, SetPlace, ClusterPlace, StagedSetPlace, key_at, path_at, Who, Script, Drawn}
+use Rattle.store_frame.specs.Prelude.{HasBucket}
 use Rattle.std.specs.FinMap as fin
-use Rattle.std.specs.Option.{option_map}
-use Rattle.proof_base.specs.Order.{text_eq}
-use Rattle.s3_types.specs.Store.{Content, Scene, Upload}
-use Rattle.s3_types.specs.Pages.{begins}
-use Rattle.s3_types.specs.Multipart.{is_part_number, with_part}
-use Rattle.s3_types.specs.declared.object.Object.{Object}
-use Rattle.s3_types.specs.declared.request.Committer.{Committer}
-use Rattle.s3_types.specs.declared.request.Committer.TheVariants.{Magic, Directory, Partitioned}
-use Rattle.proof_base.specs.Members.{IsIn}
-use Rattle.store_frame.specs.Held.{HasBucket}
-use Rattle.magic_paths.specs.Layout.{magic_prefix, cluster_prefix}
-use Rattle.magic_paths.specs.Places.{Place, SetPlace, ClusterPlace, StagedSetPlace, key_at, path_at}
-use Rattle.job_model.specs.Attempts.{Who}
-use Rattle.job_model.specs.JobScript.{Script}
 use Rattle.job_protocol.specs.View.{object_at}
-use Rattle.job_model.specs.Known.{Drawn}
 use Rattle.job_spec.specs.Scope.{upload_at}
 
 -- what stands at a key of the job's bucket, and at a place

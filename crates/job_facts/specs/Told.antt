@@ -1,17 +1,6 @@
 -- What a journal tells beside what is seen: of each attempt what it knows and has undone, and which uploads the driver has ended.
 use Rattle.std.specs.Prelude.{ℕ, ◌&&◌, ◌||◌, nat_eq, Bool, true, false, cond, List, [], ◌∷◌, Option}
-use Rattle.s3_types.specs.Moment.{is_effective}
-use Rattle.s3_types.specs.declared.request.Actor.{Actor}
-use Rattle.s3_types.specs.declared.request.Actor.TheVariants.{Driver, Attempt, Shell}
-use Rattle.s3_types.specs.declared.request.Request.{Request}
-use Rattle.s3_types.specs.declared.request.Request.TheVariants.{CompleteUpload, AbortUpload, DeleteObject, DeleteObjects, ClusterDelete}
-use Rattle.s3_types.specs.declared.journal.Outcome.{Outcome}
-use Rattle.s3_types.specs.declared.journal.Entry.{Entry}
-use Rattle.job_model.specs.Attempts.{Who, same_name, actor_of}
-use Rattle.job_model.specs.JobScript.{Script}
-use Rattle.job_model.specs.Known.{Drawn, Known}
-use Rattle.job_protocol.specs.Knowledge.{learn}
-use Rattle.job_spec.specs.Seen.{is_begun}
+use Rattle.job_spec.specs.Prelude.{is_effective, Actor, Driver, Attempt, Shell, Request, CompleteUpload, AbortUpload, DeleteObject, DeleteObjects, ClusterDelete, Outcome, Entry, Who, same_name, actor_of, Script, Drawn, Known, learn, is_begun}
 
 -- what a journal tells of a job's attempts and of what its driver ended
 pub record Told : Type 0 where

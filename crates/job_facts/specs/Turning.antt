@@ -1,20 +1,7 @@
 -- While the driver's commit completes the uploads of the sets that it holds: which of them it has ended.
 use Rattle.std.specs.Prelude.{◌≡◌, ℕ, ◌<◌, ◌⊎◌, Bool, true, false, map, length, List, ◌∷◌, Option, Some}
-use Rattle.s3_types.specs.Answer.{answer}
-use Rattle.s3_types.specs.Blocks.{named_from}
+use Rattle.job_spec.specs.Prelude.{answer, named_from, Request, Completed, Outcome, Who, IsLegal, Script, Turn, nth, completion, Sets, all_commits, Commit, Fetching, Replacing, Completing, Marking, Reverting, CommitOver, commit_start, commit_asks, commit_tells, Tabled, Setting, Seen, IsIn}
 use Rattle.s3_types.specs.Tags.{joined_tag}
-use Rattle.s3_types.specs.declared.request.Request.{Request}
-use Rattle.s3_types.specs.declared.reply.Reply.TheVariants.{Completed}
-use Rattle.s3_types.specs.declared.journal.Outcome.{Outcome}
-use Rattle.job_model.specs.Attempts.{Who}
-use Rattle.job_model.specs.Legal.{IsLegal}
-use Rattle.job_model.specs.JobScript.{Script}
-use Rattle.job_protocol.specs.Lanes.{Turn, nth, completion}
-use Rattle.job_protocol.specs.JobCommits.{Sets, all_commits, Commit, Fetching, Replacing, Completing, Marking, Reverting, CommitOver, commit_start, commit_asks, commit_tells}
-use Rattle.job_protocol.specs.LaneTable.{Tabled}
-use Rattle.job_protocol.specs.Operations.{Setting}
-use Rattle.job_spec.specs.Seen.{Seen}
-use Rattle.proof_base.specs.Members.{IsIn}
 use Rattle.job_facts.specs.Told.{Told, nothing_told, tell, entry, driver_entry, strange_entry}
 use Rattle.job_facts.specs.Facts.{Hold}
 use Rattle.job_facts.specs.Driver.{Reads, FitsJobCommit}

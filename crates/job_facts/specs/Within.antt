@@ -1,21 +1,6 @@
 -- Requests that leave all that is outside the destination as it is, and that no operation of the job sends others.
 use Rattle.std.specs.Prelude.{◌≡◌, ℕ, true, List, Some}
-use Rattle.s3_types.specs.Store.{Scene}
-use Rattle.s3_types.specs.Pages.{begins}
-use Rattle.s3_types.specs.Moment.{effect}
-use Rattle.s3_types.specs.declared.journal.Outcome.{Outcome}
-use Rattle.s3_types.specs.declared.request.Request.{Request}
-use Rattle.s3_types.specs.declared.request.Request.TheVariants.{MakeBucket, PutObject, DeleteObject, DeleteObjects, CopyObject, CreateUpload, UploadPart, CompleteUpload, AbortUpload}
-use Rattle.job_model.specs.Attempts.{Who}
-use Rattle.job_model.specs.Legal.{IsLegal}
-use Rattle.job_model.specs.JobScript.{Script}
-use Rattle.job_protocol.specs.Setup.{dest_prefix, Setup, setup_asks}
-use Rattle.job_protocol.specs.JobCommits.{Commit, commit_asks}
-use Rattle.job_protocol.specs.Cleanups.{Clean, clean_asks}
-use Rattle.job_protocol.specs.Operations.{Setting, Operation, asks}
-use Rattle.job_spec.specs.Entries.{IsZeroRename}
-use Rattle.job_spec.specs.Seen.{Seen}
-use Rattle.proof_base.specs.Members.{IsIn}
+use Rattle.job_spec.specs.Prelude.{Scene, begins, effect, Outcome, Request, MakeBucket, PutObject, DeleteObject, DeleteObjects, CopyObject, CreateUpload, UploadPart, CompleteUpload, AbortUpload, Who, IsLegal, Script, dest_prefix, Setup, setup_asks, Commit, commit_asks, Clean, clean_asks, Setting, Operation, asks, IsZeroRename, Seen, IsIn}
 use Rattle.job_facts.specs.Told.{Told, known, entry, driver_entry}
 use Rattle.job_facts.specs.Facts.{IsAttempt, Hold}
 use Rattle.job_facts.specs.Fits.{Fits}

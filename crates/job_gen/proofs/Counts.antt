@@ -1,14 +1,6 @@
 -- The bytes of the files that a script gives its attempts.
 use Rattle.std.proofs.Common.{◌≡◌, ℕ, ◌+◌, ◌≤◌, Bool, true, false, cond, List, [], ◌∷◌, length, Option, Some, None, refl, ap, ◌∙◌, arith}
-use Rattle.std.specs.Map.{lookup}
-use Rattle.std.specs.Option.{unwrap_or, option_map}
-use Rattle.s3_types.specs.declared.limits.TheConstants.{MOST_SCRIPT_BYTES}
-use Rattle.job_model.specs.Files.{File}
-use Rattle.job_model.specs.Attempts.{Who, Declared, same_name}
-use Rattle.job_model.specs.JobScript.{Script}
-use Rattle.job_model.specs.Legal.{IsLegal, bytes_of, bytes_in}
-use Rattle.job_model.specs.Placed.{placed}
-use Rattle.job_protocol.specs.Outputs.{files}
+use Rattle.job_spec.specs.Prelude.{lookup, unwrap_or, option_map, MOST_SCRIPT_BYTES, File, Who, Declared, same_name, Script, IsLegal, bytes_of, bytes_in, placed, files}
 
 -- files have the same bytes where they go
 as_long : (unique : Bool) (id : List ℕ) (fs : List File) → bytes_of (placed unique id fs) ≡ bytes_of fs

@@ -1,11 +1,8 @@
 -- The attempts of a made job.
 use Rattle.std.proofs.Common.{◌≡◌, ℕ, zero, suc, ◌+◌, ◌<◌, ◌≤◌, Bool, true, false, cond, is_some, ◌⊎◌, inl, inr, List, [], ◌∷◌, ◌++◌, Some, refl, sym, ap, subst, ◌∙◌, arith, append_assoc}
-use Rattle.std.specs.List.{flat_map, range_with_len}
-use Rattle.std.specs.Map.{lookup}
-use Rattle.std.proofs.lemmas.Bool.{eq-eqb, ne_eqb, cases_lt}
-use Rattle.job_model.specs.Files.{File}
-use Rattle.job_model.specs.Attempts.{Who, Declared, same_name, declares}
-use Rattle.job_model.specs.Legal.{AreFiles, AreAttempts}
+use Rattle.job_spec.specs.Prelude.{flat_map, range_with_len, lookup, File, Who, Declared, same_name, declares, AreFiles, AreAttempts}
+use Rattle.job_spec.proofs.Common.{eq-eqb, cases_lt}
+use Rattle.proof_base.proofs.Common.{ne_eqb}
 use Rattle.job_gen.specs.Made.{attempt_of, is_twice, attempts_of}
 use Rattle.job_gen.proofs.Ranges.{flat_map_next}
 

@@ -1,9 +1,10 @@
 -- The faults of a path that is one.
 use Rattle.std.proofs.Common.{◌≡◌, Ok, Err, refl}
 use Rattle.std.specs.Prelude.{Result}
-use Rattle.proof_base.specs.Reading.{Unless}
-use Rattle.path_keys.specs.Paths.{Path, wanting}
-use Rattle.path_keys.specs.declared.fault.PathFault.{PathFault}
+use Rattle.proof_base.specs.Prelude.{Unless}
+use Rattle.job_protocol.specs.Prelude.{Path}
+use Rattle.job_model.specs.Prelude.{PathFault}
+use Rattle.path_keys.specs.Paths.{wanting}
 use Rattle.path_keys.specs.declared.fault.PathFault.TheVariants.{NoMemory}
 
 abbrev Read : Path → PathFault → Type 0

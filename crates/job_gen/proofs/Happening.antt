@@ -1,13 +1,8 @@
 -- The events of a made job.
 use Rattle.std.proofs.Common.{◌≡◌, ℕ, zero, suc, ◌+◌, ◌*◌, ◌%◌, ◌^◌, ◌<◌, ◌≤◌, Bool, true, false, cond, List, [], ◌∷◌, ◌++◌, map, filter, length, length-append, refl, ap, ◌∙◌, arith, append_assoc}
-use Rattle.std.specs.List.{flat_map, range_with_len}
-use Rattle.std.proofs.lemmas.List.FromFn.{length-map-range_with_len}
-use Rattle.job_model.specs.Attempts.{Declared, declares, is_known}
-use Rattle.job_model.specs.Legal.{IsEvent, AreEvents}
-use Rattle.job_model.specs.declared.events.Event.{Event}
-use Rattle.job_model.specs.declared.events.Event.TheVariants.{Do, Mix}
+use Rattle.job_spec.specs.Prelude.{flat_map, range_with_len, Declared, declares, is_known, IsEvent, AreEvents, Event, Do, Mix, Driver}
+use Rattle.job_spec.proofs.Common.{length-map-range_with_len}
 use Rattle.job_model.specs.declared.events.Op.TheVariants.{Setup, Commit, Clean}
-use Rattle.s3_types.specs.declared.request.Actor.TheVariants.{Driver}
 use Rattle.job_gen.specs.Made.{below, attempt_of, is_twice, start_write, second_writes, committer_of, start_commit, mix_by, made_events}
 
 -- ---- they are such as a script may say

@@ -1,19 +1,13 @@
 -- A made script keeps the bounds of a script.
 use Rattle.std.proofs.Common.{◌≡◌, ℕ, ◌≤◌, false, List, length, None, refl, arith}
 use Rattle.std.specs.Prelude.{codes}
+use Rattle.job_spec.specs.Prelude.{FateMap, Magic, Append, Script, Event, Declared, IsLegal, nat_cmp}
+use Rattle.job_protocol.specs.Prelude.{Path}
+use Rattle.job_model.specs.Prelude.{IsDest, AreFates}
+use Rattle.job_spec.proofs.Common.{none_some}
 use Rattle.std.specs.FinMap as fin
 use Rattle.words.specs.Parts.{parts_from}
-use Rattle.s3_types.specs.Fates.{FateMap}
-use Rattle.s3_types.specs.declared.request.Committer.TheVariants.{Magic}
-use Rattle.s3_types.specs.declared.request.Mode.TheVariants.{Append}
-use Rattle.path_keys.specs.Paths.{Path}
-use Rattle.job_model.specs.JobScript.{Script}
-use Rattle.job_model.specs.declared.events.Event.{Event}
-use Rattle.job_model.specs.Attempts.{Declared}
-use Rattle.job_model.specs.Legal.{IsLegal, IsDest, AreFates}
 use Rattle.job_gen.specs.Made.{part_files, made_attempts, made_events, made_dest, made_script}
-use Rattle.std.specs.Ordering.{nat_cmp}
-use Rattle.proof_base.proofs.Members.{none_some}
 use Rattle.job_gen.proofs.PartPaths.{text_fits}
 use Rattle.job_gen.proofs.PartFiles.{files_fit, files_bytes}
 use Rattle.job_gen.proofs.PartFiles as made

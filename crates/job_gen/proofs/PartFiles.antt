@@ -1,11 +1,9 @@
 -- The files of a made job's task.
 use Rattle.std.proofs.Common.{◌≡◌, ℕ, zero, suc, ◌+◌, ◌*◌, ◌%◌, ◌<◌, ◌≤◌, true, List, [], ◌∷◌, ◌++◌, map, length, replicate, refl, sym, ap, ◌∙◌, arith}
-use Rattle.std.specs.List.{range_with_len}
-use Rattle.std.proofs.lemmas.List.{map-append, length-replicate}
-use Rattle.std.proofs.lemmas.List.FromFn.{length-map-range_with_len}
-use Rattle.proof_base.proofs.Numbers.{below_so}
-use Rattle.job_model.specs.Files.{File}
-use Rattle.job_model.specs.Legal.{are_bytes, IsFile, AreFiles, bytes_of}
+use Rattle.job_spec.specs.Prelude.{range_with_len, File, AreFiles, bytes_of}
+use Rattle.job_spec.proofs.Common.{map-append, length-map-range_with_len, below_so}
+use Rattle.job_model.specs.Prelude.{are_bytes, IsFile}
+use Rattle.std.proofs.lemmas.List.{length-replicate}
 use Rattle.job_gen.specs.Made.{below, number, part_path, content, part_file, part_files}
 use Rattle.job_gen.proofs.Ranges.{map_more}
 use Rattle.job_gen.proofs.PartPaths.{path_given, path_free}

@@ -1,21 +1,9 @@
 -- The paths of a made job's files.
 use Rattle.std.proofs.Common.{◌≡◌, ℕ, zero, suc, ◌+◌, ◌/◌, ◌%◌, ◌<◌, ◌≤◌, nat_lt, Bool, true, false, cond, is_some, ◌&&◌, List, [], ◌∷◌, ◌++◌, map, codes, Some, refl, ap, ◌∙◌, arith}
-use Rattle.std.specs.List.{list_all, range_with_len}
-use Rattle.std.specs.Map.{lookup}
-use Rattle.std.specs.Str.{IsAscii, is_utf8}
-use Rattle.std.proofs.lemmas.Bool.{and_parts}
-use Rattle.std.proofs.lemmas.Bool.Decides.{nat_tests}
-use Rattle.std.proofs.lemmas.List.Folds.{list_all-append}
-use Rattle.std.proofs.lemmas.Str.{is_utf8-from_IsUtf8, IsUtf8-from_ascii}
-use Rattle.std.proofs.lemmas.Str.Ascii.{IsAscii-nil, IsAscii-cons}
-use Rattle.proof_base.specs.Order.{text_eq}
-use Rattle.proof_base.proofs.Numbers.{below_is}
-use Rattle.words.specs.Parts.{is_other}
-use Rattle.words.specs.Words.{is_bare}
-use Rattle.words.proofs.Pieces.{one_part}
-use Rattle.proof_base.proofs.Members.{text_false}
-use Rattle.job_model.specs.Files.{File, has_path}
-use Rattle.job_model.specs.Legal.{IsGiven}
+use Rattle.job_spec.specs.Prelude.{list_all, range_with_len, lookup, IsAscii, is_utf8, text_eq, File, has_path, IsGiven}
+use Rattle.job_spec.proofs.Common.{and_parts, nat_tests, list_all-append, is_utf8-from_IsUtf8, IsUtf8-from_ascii, IsAscii-nil, IsAscii-cons, text_false}
+use Rattle.path_keys.proofs.Common.{below_is, one_part}
+use Rattle.job_model.specs.Prelude.{is_other, is_bare}
 use Rattle.job_gen.specs.Made.{two_digits, three_digits, part_path}
 
 -- a test that holds of the letters and of each digit holds of the whole path

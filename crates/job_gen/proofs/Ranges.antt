@@ -1,9 +1,8 @@
 -- The numbers below a number, and one more of them.
 use Rattle.std.proofs.Common.{◌≡◌, ℕ, zero, suc, ◌+◌, Bool, true, false, List, [], ◌∷◌, ◌++◌, map, filter, refl, sym, ap, ◌∙◌, arith, append_assoc, append-nil}
-use Rattle.std.specs.List.{flat_map, range_with_len}
-use Rattle.std.proofs.lemmas.List.{map-append}
-use Rattle.std.proofs.lemmas.List.Elements.{filter-append}
-use Rattle.std.proofs.lemmas.Grind.{flat_map-append}
+use Rattle.job_spec.specs.Prelude.{flat_map, range_with_len}
+use Rattle.job_spec.proofs.Common.{map-append, filter-append}
+use Rattle.path_keys.proofs.Common.{flat_map-append}
 use Rattle.job_gen.specs.Made.{below}
 
 range_more : (a n : ℕ) → range_with_len a (suc n) ≡ range_with_len a n ++ (a + n) ∷ []

@@ -1,9 +1,8 @@
 -- How many attempts, files and bytes a made job has.
 use Rattle.std.proofs.Common.{◌≡◌, ℕ, zero, suc, ◌+◌, ◌*◌, ◌%◌, ◌≤◌, Bool, true, false, List, [], ◌∷◌, ◌++◌, length, length-append, refl, ap, arith}
-use Rattle.std.proofs.lemmas.Bool.{eqb-true, eqb-false}
-use Rattle.job_model.specs.Files.{File}
-use Rattle.job_model.specs.Attempts.{Declared}
-use Rattle.job_model.specs.Legal.{files_in, bytes_of, bytes_in}
+use Rattle.job_spec.proofs.Common.{eqb-true}
+use Rattle.job_spec.specs.Prelude.{File, Declared, files_in, bytes_of, bytes_in}
+use Rattle.std.proofs.lemmas.Bool.{eqb-false}
 use Rattle.job_gen.specs.Made.{is_twice, attempts_of}
 use Rattle.job_gen.proofs.Declaring.{attempts_from, one_or_two}
 

@@ -1,8 +1,9 @@
 -- Numbers as they are written with zeros before them.
 use Rattle.std.proofs.Common.{◌≡◌, ℕ, ◌+◌, ◌-◌, ◌/◌, ◌%◌, ◌^◌, ◌<◌, ◌≤◌, inl, inr, false, [], ◌∷◌, ◌++◌, refl, ap, ◌∙◌, arith}
-use Rattle.std.specs.Fmt.{decimal, padded_integral, format_spec, char_count}
-use Rattle.std.proofs.lemmas.Fmt.{decimal_digit, decimal_step}
-use Rattle.std.proofs.lemmas.Bool.{cases_lt}
+use Rattle.job_spec.specs.Prelude.{decimal}
+use Rattle.job_spec.proofs.Common.{decimal_digit, cases_lt}
+use Rattle.std.specs.Fmt.{padded_integral, format_spec, char_count}
+use Rattle.std.proofs.lemmas.Fmt.{decimal_step}
 use Rattle.job_gen.specs.Made.{two_digits, three_digits}
 
 two_are : (n : ℕ) → 10 ≤ n → n < 100 → decimal n ≡ two_digits n

@@ -1,19 +1,9 @@
 -- The script that is made of a seed and the numbers of tasks and of files of each.
 use Rattle.std.specs.Prelude.{ℕ, ◌+◌, ◌*◌, ◌/◌, ◌%◌, ◌^◌, ◌==◌, Bool, false, List, [], ◌∷◌, ◌++◌, map, filter, None, codes, replicate, if◌then◌else◌}
-use Rattle.std.specs.List.{flat_map, range_with_len}
+use Rattle.job_spec.specs.Prelude.{flat_map, range_with_len, Actor, Driver, Magic, Append, File, Who, actor_of, Declared, Script, Event, Do, Start, Kill, Mix, draw}
+use Rattle.job_protocol.specs.Prelude.{Path}
 use Rattle.std.specs.FinMap as fin
-use Rattle.s3_types.specs.declared.request.Actor.{Actor}
-use Rattle.s3_types.specs.declared.request.Actor.TheVariants.{Driver}
-use Rattle.s3_types.specs.declared.request.Committer.TheVariants.{Magic}
-use Rattle.s3_types.specs.declared.request.Mode.TheVariants.{Append}
-use Rattle.path_keys.specs.Paths.{Path}
-use Rattle.job_model.specs.Files.{File}
-use Rattle.job_model.specs.Attempts.{Who, actor_of, Declared}
-use Rattle.job_model.specs.JobScript.{Script}
 use Rattle.job_model.specs.declared.events.Op.TheVariants.{Setup, Write, Commit, Clean}
-use Rattle.job_model.specs.declared.events.Event.{Event}
-use Rattle.job_model.specs.declared.events.Event.TheVariants.{Do, Start, Kill, Mix}
-use Rattle.job_spec.specs.Turns.{draw}
 
 -- the i-th number of a seed's sequence, from 1 on
 abbrev pub number : ℕ → ℕ → ℕ

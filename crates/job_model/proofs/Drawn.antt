@@ -1,14 +1,11 @@
 -- One more part of the upload that was drawn last.
 use Rattle.std.proofs.Common.{◌≡◌, ℕ, zero, suc, ◌+◌, ◌-◌, ◌<◌, Bool, true, false, map, get_or, List, [], ◌∷◌, ◌++◌, length, reverse, Option, Some, None, refl, sym, ap, ◌∙◌, arith, length-append, Result, Ok, Err}
 use Rattle.std.specs.Prelude.{OnOk, ⊤}
-use Rattle.std.specs.declared.alloc.AllocError.{AllocError}
+use Rattle.job_model.specs.Prelude.{AllocError, Spelled, Drawn, Known, with_last}
+use Rattle.path_keys.proofs.Common.{reverse-append, false≢true}
 use Rattle.std.proofs.Math.ListN.{set}
 use Rattle.std.proofs.Math.Seq.{set-append_seam}
-use Rattle.std.proofs.lemmas.List.{reverse-append}
-use Rattle.std.proofs.lemmas.Bool.{false≢true}
-use Rattle.s3_types.specs.Tags.{Spelled}
 use Rattle.job_model.specs.declared.known.DrawnPart.{DrawnPart}
-use Rattle.job_model.specs.Known.{Drawn, Known, with_last}
 
 record Ends (xs : List Drawn) (d : Drawn) : Type 0 where
   pub front : List Drawn

@@ -1,14 +1,13 @@
 -- New entries of an IndexMap, and the last one.
 use Rattle.std.proofs.Common.{◌≡◌, ℕ, zero, suc, ◌+◌, ◌-◌, ◌<◌, Bool, false, true≢false, List, [], ◌∷◌, ◌++◌, length, slice_get, Option, Some, None, is_some, refl, sym, ap, subst, ◌∙◌, arith, Result, Ok, Err}
 use Rattle.std.specs.Prelude.{OnOk, OnErr, ⊤}
-use Rattle.std.specs.declared.alloc.AllocError.{AllocError}
-use Rattle.proof_base.proofs.Options.{some_is, none_is}
+use Rattle.job_model.specs.Prelude.{AllocError, lookup, File, Declared, last_files, with_file}
+use Rattle.path_keys.proofs.Common.{none_is}
+use Rattle.proof_base.proofs.Options.{some_is}
 use Rattle.job_model.specs.declared.attempts.AttemptName.{AttemptName}
-use Rattle.std.specs.Map.{lookup, values_of}
+use Rattle.std.specs.Map.{values_of}
 use Rattle.indexmap.specs.IndexMap.{IndexMap, insert_entry, set_value_at}
 use Rattle.indexmap.proofs.CallerLemmas.{insert_entry-new}
-use Rattle.job_model.specs.Files.{File}
-use Rattle.job_model.specs.Attempts.{Declared, last_files, with_file}
 
 pub insert_new : {K X S : Type 0} (eq : K → K → Bool) (m : IndexMap K X S) (k : K) (v : X) (es : List (K × X)) → m.entries ≡ es → is_some (lookup (eq k) es) ≡ false → insert_entry eq m.entries k v ≡ es ++ (k, v) ∷ []
 insert_new {K} {X} eq m k v es e h =

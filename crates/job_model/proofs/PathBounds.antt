@@ -1,13 +1,8 @@
 -- The paths of files that scripts give keep the bounds of places.
 use Rattle.std.proofs.Common.{◌≡◌, ℕ, ◌==◌, ◌&&◌, ◌||◌, not, nat_eq, nat_le, Bool, true, false, List, [], ◌∷◌, ◌++◌, length, refl, sym, ap, ◌∙◌, codes, inl, inr}
-use Rattle.std.specs.List.{list_all, list_any, ends_with, join_with_byte}
-use Rattle.std.proofs.lemmas.Bool.{and_parts, or_parts, true≢false, not-true}
+use Rattle.job_model.specs.Prelude.{list_all, list_any, ends_with, join_with_byte, is_open, is_record, is_path, is_full, is_hidden, begins_hidden, with_id_last, unique_name, IsGiven, IsPlaced}
+use Rattle.path_keys.proofs.Common.{and_parts, or_parts, true≢false, not-true}
 use Rattle.words.specs.Parts.{parts_from, parts_of}
-use Rattle.magic_paths.specs.Places.{is_open, is_record}
-use Rattle.job_model.specs.Paths.{is_path, is_full, is_hidden, begins_hidden}
-use Rattle.job_model.specs.Placed.{with_id_last, unique_name}
-use Rattle.job_model.specs.Legal.{IsGiven}
-use Rattle.job_model.specs.Plans.{IsPlaced}
 
 -- the parts of a text that begins with a byte of its first part
 record Begins (x : ℕ) (parts : List (List ℕ)) : Type 0 where

@@ -1,15 +1,9 @@
 -- A path that is made unique to a job tells the path.
 use Rattle.std.proofs.Common.{◌≡◌, ℕ, ◌==◌, not, ◌⊎◌, inl, inr, Bool, true, false, List, [], ◌∷◌, ◌++◌, refl, sym, ap, ◌∙◌, subst}
-use Rattle.std.specs.List.{list_all, join_with_byte}
-use Rattle.std.proofs.lemmas.Bool.{and_parts, false≢true, eqb-true}
-use Rattle.std.proofs.lemmas.List.{append-nil, append_cancel_right}
-use Rattle.std.proofs.lemmas.List.Folds.{list_all-append}
-use Rattle.words.specs.Parts.{parts_of, parts_from, is_other}
-use Rattle.words.proofs.Counts.{some_part}
-use Rattle.words.proofs.Pieces.{join_parts, parts_append, one_part}
-use Rattle.s3_types.specs.Names.{is_job_id, is_id_byte}
+use Rattle.job_model.specs.Prelude.{list_all, join_with_byte, is_other, is_job_id, is_id_byte, with_id, with_id_last, unique_name, path_of}
+use Rattle.path_keys.proofs.Common.{and_parts, false≢true, eqb-true, append-nil, append_cancel_right, list_all-append, some_part, join_parts, parts_append, one_part}
+use Rattle.words.specs.Parts.{parts_of, parts_from}
 use Rattle.magic_paths.proofs.Tails.{cut_once}
-use Rattle.job_model.specs.Placed.{with_id, with_id_last, unique_name, path_of}
 
 -- ---- a job's id has neither a dot nor a slash
 

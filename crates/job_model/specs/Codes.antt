@@ -1,14 +1,7 @@
 -- The parts of a script as numbers and pairs, by which proofs tell scripts apart.
 use Rattle.std.specs.Prelude.{◌≡◌, ℕ, zero, suc, Bool, List, Option, refl}
-use Rattle.std.specs.Coded.{Coded, code_by, coded×, coded_ℕ, coded_bool, coded_list, coded_option}
-use Rattle.s3_types.specs.Coded.{coded_text}
-use Rattle.s3_types.specs.Fates.{FateMap, coded_fates}
-use Rattle.s3_types.specs.declared.request.Actor.{Actor}
-use Rattle.s3_types.specs.declared.request.Actor.TheVariants.{Driver, Attempt, Shell}
-use Rattle.s3_types.specs.declared.request.Committer.{Committer}
-use Rattle.s3_types.specs.declared.request.Committer.TheVariants.{Magic, Directory, Partitioned}
-use Rattle.s3_types.specs.declared.request.Mode.{Mode}
-use Rattle.s3_types.specs.declared.request.Mode.TheVariants.{Fail, Append, Replace}
+use Rattle.s3_types.specs.Prelude.{Coded, code_by, coded×, coded_ℕ, coded_bool, coded_list, coded_option, coded_text, coded_fates}
+use Rattle.pending_json.specs.Prelude.{FateMap, Actor, Driver, Attempt, Shell, Committer, Magic, Directory, Partitioned, Mode, Fail, Append, Replace}
 use Rattle.path_keys.specs.Paths.{Path}
 use Rattle.job_model.specs.Attempts.{Who, Declared}
 use Rattle.job_model.specs.JobScript.{Script}

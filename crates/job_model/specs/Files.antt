@@ -1,7 +1,6 @@
 -- The files of an attempt: paths with their bytes.
 use Rattle.std.specs.Prelude.{ℕ, List, Bool, is_some}
-use Rattle.std.specs.Map.{lookup}
-use Rattle.proof_base.specs.Order.{text_eq}
+use Rattle.pending_json.specs.Prelude.{lookup, text_eq}
 
 -- a file of an attempt: its path and its bytes
 abbrev pub File : Type 0

@@ -1,8 +1,6 @@
 -- What a job script says.
 use Rattle.std.specs.Prelude.{ℕ, Bool, List, Option}
-use Rattle.s3_types.specs.Fates.{FateMap}
-use Rattle.s3_types.specs.declared.request.Committer.{Committer}
-use Rattle.s3_types.specs.declared.request.Mode.{Mode}
+use Rattle.pending_json.specs.Prelude.{FateMap, Committer, Mode}
 use Rattle.path_keys.specs.Paths.{Path}
 use Rattle.job_model.specs.Attempts.{Declared}
 use Rattle.job_model.specs.declared.events.Event.{Event}

@@ -1,22 +1,13 @@
 -- The bounds of what a script says.
 use Rattle.std.specs.Prelude.{◌≡◌, ℕ, ◌+◌, ◌<◌, ◌≤◌, ◌^◌, Bool, true, false, List, [], ◌∷◌, ◌++◌, length, nat_lt, IfSome}
 use Rattle.std.specs.Prelude.{Some}
-use Rattle.std.specs.List.{list_all}
-use Rattle.std.specs.Str.{is_utf8}
+use Rattle.pending_json.specs.Prelude.{list_all, is_utf8, FateMap, is_answer, is_bucket, MOST_SCRIPT_BYTES, Fate, Actor, Committer, Mode, is_job_id}
+use Rattle.s3_types.specs.Prelude.{IsBare}
 use Rattle.std.specs.FinMap as map
-use Rattle.words.specs.Words.{IsBare}
-use Rattle.s3_types.specs.Fates.{FateMap, is_answer}
-use Rattle.s3_types.specs.Names.{is_bucket}
-use Rattle.s3_types.specs.declared.limits.TheConstants.{MOST_SCRIPT_BYTES}
-use Rattle.s3_types.specs.declared.fates.Fate.{Fate}
-use Rattle.s3_types.specs.declared.request.Actor.{Actor}
 use Rattle.s3_types.specs.declared.request.Actor.TheVariants as actor
-use Rattle.s3_types.specs.declared.request.Committer.{Committer}
 use Rattle.s3_types.specs.declared.request.Committer.TheVariants as committer
-use Rattle.s3_types.specs.declared.request.Mode.{Mode}
 use Rattle.s3_types.specs.declared.request.Mode.TheVariants as mode
 use Rattle.path_keys.specs.Paths.{Path, is_key}
-use Rattle.s3_types.specs.Names.{is_job_id}
 use Rattle.job_model.specs.Files.{File, has_path}
 use Rattle.job_model.specs.Attempts.{Declared, declares, is_known}
 use Rattle.job_model.specs.declared.events.Op.{Op}

@@ -10,3 +10,4 @@ pub mod Placed
 pub mod Plans
 pub mod PathLaws
 pub mod Words
+pub mod Prelude

@@ -1,6 +1,6 @@
 -- The paths of files, and the keys of destinations.
 use Rattle.std.specs.Prelude.{ℕ, Bool, false, not, ◌&&◌, ◌||◌, List, [], ◌∷◌, length, nat_le, nat_lt, nat_eq, codes, bytes_eq}
-use Rattle.std.specs.List.{list_all, list_any, ends_with}
+use Rattle.pending_json.specs.Prelude.{list_all, list_any, ends_with}
 use Rattle.words.specs.Parts.{parts_of}
 
 -- an element that is not empty

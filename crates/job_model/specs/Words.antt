@@ -1,8 +1,6 @@
 -- The words by which events, ends, faults and states are written.
 use Rattle.std.specs.Prelude.{ℕ, List, [], ◌∷◌, codes}
-use Rattle.std.specs.List.{join_with_byte}
-use Rattle.std.specs.Fmt.{decimal}
-use Rattle.s3_types.specs.Spelling.{actor_text}
+use Rattle.pending_json.specs.Prelude.{join_with_byte, decimal, actor_text}
 use Rattle.job_model.specs.declared.events.Op.{Op}
 use Rattle.job_model.specs.declared.events.Op.TheVariants as ops
 use Rattle.job_model.specs.declared.events.Event.{Event}

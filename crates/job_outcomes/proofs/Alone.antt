@@ -1,14 +1,6 @@
 -- The driver's operations do not ask what an attempt knows.
 use Rattle.std.proofs.Common.{◌≡◌, List, [], ◌∷◌, refl}
-use Rattle.s3_types.specs.declared.request.Actor.{Actor}
-use Rattle.s3_types.specs.declared.journal.Entry.{Entry}
-use Rattle.retries.specs.Operation.{run, Follows}
-use Rattle.retries.specs.Retries.{Retried, step, wants_of}
-use Rattle.job_model.specs.Known.{Known}
-use Rattle.job_protocol.specs.Setup.{Setup, setup_asks, setup_after}
-use Rattle.job_protocol.specs.Cleanups.{Clean, clean_asks, clean_after}
-use Rattle.job_protocol.specs.JobCommits.{Commit, commit_asks, commit_tells}
-use Rattle.job_protocol.specs.Operations.{Setting, TheSetup, TheCommit, TheClean, wants, advance}
+use Rattle.job_facts.specs.Prelude.{Actor, Entry, run, Follows, Retried, step, wants_of, Known, Setup, setup_asks, setup_after, Clean, clean_asks, clean_after, Commit, commit_asks, commit_tells, Setting, TheSetup, TheCommit, TheClean, wants, advance}
 use Rattle.job_outcomes.specs.Alone.{at, GoAlone}
 
 module _ (g : Setting) (a : Actor) where

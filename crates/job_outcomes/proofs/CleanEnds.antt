@@ -1,43 +1,13 @@
 -- How the driver's abort or clean of the job ends, by its own entries.
 use Rattle.std.proofs.Common.{◌≡◌, ℕ, ◌⊎◌, inl, inr, Bool, true, List, [], ◌∷◌, Option, Some, None, refl, sym, ap, subst, ◌∙◌}
-use Rattle.std.specs.Option.{is_some, option_map}
+use Rattle.job_facts.specs.Prelude.{is_some, option_map, BucketContent, Scene, answer, answer_at, apply, after_all, AreHonest, Actor, Committer, Magic, Request, UploadRef, Reply, Refused, NoSuchBucket, Outcome, Answered, ReplyLost, Entry, run, Follows, Retried, fresh, step, spent_in, WornFirst, IsLegal, Script, Known, CleanEnd, view, uploads_after, Walked, More, Whole, walked_uploads, Sweep, Listing, Deleting, sweep_hears, all_go, dest_prefix, Clean, Walking, Aborting, Naming, Removing, CleanOver, clean_start, clean_asks, clean_hears, clean_after, clean_over, aborted, aborting, walking, sweeping, removing, naming, Setting, wants, advance, over, is_fault, spare_of, Same, CleanIs, Cleaned, Clears}
+use Rattle.job_spec.specs.Prelude.{ClusterNames}
+use Rattle.job_spec.proofs.Common.{first_spent, faults, some_is, none_some, false_true}
 use Rattle.std.specs.FinMap as fin
-use Rattle.s3_types.specs.Store.{BucketContent, Scene}
-use Rattle.s3_types.specs.Answer.{answer, answer_at, apply}
-use Rattle.s3_types.specs.Moment.{after_all, AreHonest}
-use Rattle.s3_types.specs.declared.request.Actor.{Actor}
-use Rattle.s3_types.specs.declared.request.Committer.{Committer}
-use Rattle.s3_types.specs.declared.request.Committer.TheVariants.{Magic}
-use Rattle.s3_types.specs.declared.request.Request.{Request}
-use Rattle.s3_types.specs.declared.request.UploadRef.{UploadRef}
-use Rattle.s3_types.specs.declared.reply.Reply.{Reply}
-use Rattle.s3_types.specs.declared.reply.Reply.TheVariants.{ClusterNames, Refused}
-use Rattle.s3_types.specs.declared.reply.Refusal.TheVariants.{NoSuchBucket}
-use Rattle.s3_types.specs.declared.journal.Outcome.{Outcome}
-use Rattle.s3_types.specs.declared.journal.Outcome.TheVariants.{Answered, ReplyLost}
-use Rattle.s3_types.specs.declared.journal.Entry.{Entry}
-use Rattle.retries.specs.Operation.{run, Follows}
-use Rattle.retries.specs.Retries.{Retried, fresh, step, spent_in}
-use Rattle.retries.specs.Worn.{WornFirst}
-use Rattle.job_model.specs.Legal.{IsLegal}
-use Rattle.job_model.specs.JobScript.{Script}
-use Rattle.job_model.specs.Known.{Known}
-use Rattle.job_model.specs.declared.ends.CleanEnd.{CleanEnd}
 use Rattle.job_model.specs.declared.ends.CleanEnd.TheVariants as cleans
 use Rattle.job_model.specs.declared.ends.OpEnd.TheVariants as ends
-use Rattle.job_protocol.specs.View.{view}
-use Rattle.list_walk.specs.Walks.{uploads_after, Walked, More, Whole, walked_uploads, Sweep, Listing, Deleting, sweep_hears, all_go}
-use Rattle.job_protocol.specs.Setup.{dest_prefix}
-use Rattle.job_protocol.specs.Cleanups.{Clean, Walking, Aborting, Sweeping, Naming, Removing, CleanOver, clean_start, clean_asks, clean_hears, clean_after, clean_over, aborted, aborting, walking, sweeping, removing, naming}
-use Rattle.job_protocol.specs.Operations.{Setting, wants, advance, over}
-use Rattle.job_protocol.specs.Laws.{is_fault, spare_of}
-use Rattle.job_protocol.proofs.Wearing.{first_spent}
-use Rattle.job_protocol.proofs.Faults.{faults}
-use Rattle.job_spec.specs.Headline.{Same}
-use Rattle.job_spec.specs.OperationEnds.{CleanIs, Cleaned}
-use Rattle.proof_base.proofs.Members.{some_is, none_some, false_true}
+use Rattle.job_protocol.specs.Cleanups.{Sweeping}
 use Rattle.store_frame.proofs.Reading.{reads_nothing}
-use Rattle.job_facts.specs.Clearing.{Clears}
 use Rattle.job_facts.proofs.Aborting.{taken_in}
 use Rattle.job_facts.proofs.Clearing.{clean_clears}
 use Rattle.job_facts.proofs.Going.{step_so}

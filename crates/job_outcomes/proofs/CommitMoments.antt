@@ -1,32 +1,9 @@
 -- The picks at each moment of a run.
 use Rattle.std.proofs.Common.{◌≡◌, ℕ, zero, suc, ◌+◌, ◌-◌, ◌<◌, ◌≤◌, ◌^◌, ◌⊎◌, inl, inr, ◌&&◌, not, Bool, true, false, List, [], ◌∷◌, ◌++◌, length, slice_get, take, Option, Some, None, refl, sym, ap, subst, ◌∙◌, arith, length-append}
-use Rattle.std.specs.Option.{is_some, option_map}
-use Rattle.std.proofs.lemmas.Bool.{and_parts}
-use Rattle.s3_types.specs.Store.{Content, Scene}
-use Rattle.s3_types.specs.Answer.{answer}
-use Rattle.s3_types.specs.Moment.{effect, after_all, moment, IsHonestOutcome}
-use Rattle.s3_types.specs.declared.request.Actor.{Actor}
-use Rattle.s3_types.specs.declared.request.Actor.TheVariants.{Driver, Attempt, Shell}
-use Rattle.s3_types.specs.declared.request.Request.{Request}
-use Rattle.s3_types.specs.declared.journal.Outcome.{Outcome}
-use Rattle.s3_types.specs.declared.journal.Outcome.TheVariants.{Answered, Slow, RequestLost, ReplyLost}
-use Rattle.s3_types.specs.declared.journal.Entry.{Entry}
-use Rattle.pending_json.specs.declared.records.PendingSet.{PendingSet}
-use Rattle.job_model.specs.Legal.{IsLegal}
-use Rattle.job_model.specs.JobScript.{Script}
-use Rattle.job_model.specs.declared.ends.CommitEnd.{CommitEnd}
+use Rattle.job_facts.specs.Prelude.{is_some, option_map, Content, Scene, answer, effect, after_all, moment, IsHonestOutcome, Actor, Driver, Attempt, Shell, Request, Outcome, Answered, Slow, RequestLost, ReplyLost, Entry, PendingSet, IsLegal, Script, CommitEnd, Picks, same_path, picked_below, is_picked, is_clash, is_decided, view, Sets, picks_of, Commit, CommitOver, commit_tells, Setting, Operation, TheSetup, TheWrite, TheTaskCommit, TheTaskAbort, TheCommit, TheClean, who, asks, commit_due, end_or, Same, Always, Kept, is_untouched, Seen, see, is_reading, see_all, seen, nothing_seen, Told, entry, driver_entry, strange_entry}
+use Rattle.job_spec.proofs.Common.{and_parts, some_is, none_some, false_true, true_or_false, same_or_not}
 use Rattle.job_model.specs.declared.ends.CommitEnd.TheVariants as commits
 use Rattle.job_model.specs.declared.ends.Stage.TheVariants as stages
-use Rattle.job_protocol.specs.Outputs.{Picks, same_path, picked_below, is_picked, is_clash, is_decided}
-use Rattle.job_protocol.specs.View.{view}
-use Rattle.job_protocol.specs.JobCommits.{Sets, picks_of, Commit, CommitOver, commit_tells}
-use Rattle.job_protocol.specs.Operations.{Setting, Operation, TheSetup, TheWrite, TheTaskCommit, TheTaskAbort, TheCommit, TheClean, who, asks}
-use Rattle.job_spec.specs.Ends.{commit_due, end_or}
-use Rattle.job_spec.specs.Headline.{Same, Always, Kept}
-use Rattle.job_spec.specs.OperationEnds.{is_untouched}
-use Rattle.job_spec.specs.Seen.{Seen, see, is_reading, see_all, seen, nothing_seen}
-use Rattle.proof_base.proofs.Members.{some_is, none_some, false_true, true_or_false, same_or_not}
-use Rattle.job_facts.specs.Told.{Told, entry, driver_entry, strange_entry}
 use Rattle.job_traces.specs.Runs.{Stand, Runs, run_begins, actor_begins, driver_sends, attempt_sends, strays, IsOpening, IsTimely, nothing_learnt}
 use Rattle.job_facts.proofs.Wanted.{same_picked}
 use Rattle.job_traces.proofs.Running.{At}

@@ -1,46 +1,11 @@
 -- The driver's commit in every run.
 use Rattle.std.proofs.Common.{◌≡◌, ℕ, zero, suc, ◌<◌, ◌≤◌, ◌^◌, ◌⊎◌, inl, inr, ◌&&◌, ◌||◌, Bool, true, false, cond, List, [], ◌∷◌, ◌++◌, length, Option, Some, None, refl, sym, ap, subst, ◌∙◌, arith, append-nil}
-use Rattle.std.specs.Option.{is_some}
-use Rattle.s3_types.specs.Store.{Content}
-use Rattle.s3_types.specs.Pages.{begins}
-use Rattle.s3_types.specs.Answer.{answer}
-use Rattle.s3_types.specs.Moment.{IsHonestOutcome}
-use Rattle.s3_types.specs.declared.request.Actor.TheVariants.{Driver}
-use Rattle.s3_types.specs.declared.request.Request.{Request}
-use Rattle.s3_types.specs.declared.journal.Outcome.{Outcome}
-use Rattle.s3_types.specs.declared.journal.Outcome.TheVariants.{Answered}
-use Rattle.s3_types.specs.declared.journal.Entry.{Entry}
-use Rattle.magic_paths.specs.Layout.{magic_prefix, success_key}
-use Rattle.magic_paths.specs.Places.{SuccessPlace}
-use Rattle.magic_paths.proofs.Tails.{key_magic}
-use Rattle.retries.specs.Operation.{run, Follows}
-use Rattle.retries.specs.Retries.{Retried}
-use Rattle.retries.specs.Worn.{WornFirst}
-use Rattle.retries.proofs.First.{none_sent}
-use Rattle.retries.proofs.Runs.{run_more, follows_more}
-use Rattle.job_model.specs.Attempts.{Who}
-use Rattle.job_model.specs.Legal.{IsLegal}
-use Rattle.job_model.specs.JobScript.{Script}
-use Rattle.job_model.specs.declared.ends.CommitEnd.{CommitEnd}
+use Rattle.job_facts.specs.Prelude.{is_some, Content, begins, answer, IsHonestOutcome, Driver, Request, Outcome, Answered, Entry, magic_prefix, success_key, SuccessPlace, run, Follows, Retried, WornFirst, Who, IsLegal, Script, CommitEnd, Picks, same_path, Setup, Sweeping, SetupOver, setup_asks, Listing, Clean, CleanOver, clean_asks, picks_of, Commit, CommitOver, commit_start, commit_asks, commit_tells, commit_over, Sound, AllSound, Setting, Operation, TheSetup, TheCommit, who, asks, tells, AreOwn, commit_due, end_or, is_mark_answered, CommitEnded, picks_below, picked, Seen, see, is_begun, is_reading, is_marked, entry, driver_entry, at_key, Hold}
+use Rattle.job_spec.proofs.Common.{key_magic, none_sent, run_more, follows_more, some_is, none_some, false_true, same_or_not}
+use Rattle.job_protocol.specs.Prelude.{EndIs}
 use Rattle.job_model.specs.declared.ends.CommitEnd.TheVariants as commits
-use Rattle.job_protocol.specs.Outputs.{Picks, same_path}
-use Rattle.job_protocol.specs.Setup.{Setup, Sweeping, SetupOver, setup_asks}
-use Rattle.list_walk.specs.Walks.{Listing}
-use Rattle.job_protocol.specs.Cleanups.{Clean, CleanOver, clean_asks}
 use Rattle.job_protocol.specs.Cleanups as cleanups
-use Rattle.job_protocol.specs.JobCommits.{picks_of, Commit, CommitOver, commit_start, commit_asks, commit_tells, commit_over}
-use Rattle.job_protocol.specs.LaneTable.{Sound, AllSound}
-use Rattle.job_protocol.specs.Laws.{EndIs}
-use Rattle.job_protocol.specs.Operations.{Setting, Operation, TheSetup, TheCommit, who, asks, tells}
 use Rattle.job_protocol.proofs.LaneEnds.{ends_by_worn}
-use Rattle.job_spec.specs.Entries.{AreOwn}
-use Rattle.job_spec.specs.Ends.{commit_due, end_or, is_mark_answered, CommitEnded}
-use Rattle.job_spec.specs.Promise.{picks_below, picked}
-use Rattle.job_spec.specs.Seen.{Seen, see, is_begun, is_reading, is_marked}
-use Rattle.proof_base.proofs.Members.{some_is, none_some, false_true, same_or_not}
-use Rattle.job_facts.specs.Told.{entry, driver_entry}
-use Rattle.job_facts.specs.Stores.{at_key}
-use Rattle.job_facts.specs.Facts.{Hold}
 use Rattle.job_traces.specs.Runs.{Stand, Beginning, BeginSetup, BeginCommit, BeginClean, BeginWrite, BeginPublish, BeginAbort, begin, MayBegin, Runs, run_begins, actor_begins, driver_sends, attempt_sends, strays, IsOpening, is_set, is_just_set, IsTimely, nothing_learnt, with_driver, with_commit, commit_with, saw}
 use Rattle.job_facts.proofs.Legal.{some_dest}
 use Rattle.job_facts.proofs.Owning.{operation_own}

@@ -1,41 +1,12 @@
 -- One entry of the driver's commit, and where it leads with the sets that it holds.
 use Rattle.std.proofs.Common.{◌≡◌, ℕ, ◌<◌, ◌+◌, nat_lt, ◌&&◌, ◌||◌, not, Bool, true, false, cond, List, [], ◌∷◌, ◌++◌, length, Option, Some, None, refl, sym, ap, subst, ◌∙◌}
-use Rattle.std.specs.List.{list_any}
-use Rattle.std.specs.Option.{is_some}
-use Rattle.s3_types.specs.Answer.{apply}
-use Rattle.s3_types.specs.Moment.{is_unanswered}
-use Rattle.s3_types.specs.declared.request.Request.{Request}
-use Rattle.s3_types.specs.declared.request.Request.TheVariants.{CompleteUpload}
-use Rattle.s3_types.specs.declared.reply.Reply.{Reply}
-use Rattle.s3_types.specs.declared.journal.Outcome.{Outcome}
-use Rattle.s3_types.specs.declared.journal.Outcome.TheVariants.{Answered, Slow}
-use Rattle.s3_types.specs.declared.journal.Entry.{Entry}
+use Rattle.job_facts.specs.Prelude.{list_any, is_some, apply, Request, CompleteUpload, Reply, Outcome, Answered, Slow, Entry, PendingSet, run, IsLegal, Script, CommitEnd, same_path, mark_text, Sweep, sweep_hears, Turn, again, follow, dealt, nth, completion, revert, Sets, picks_of, all_commits, set_read, Commit, Fetching, Replacing, Completing, Marking, Reverting, CommitOver, completing, is_no_magic, replaced, replacing, decided, fetching, fetched, swept, reverting, worn_completion, commit_asks, commit_hears, commit_misses, commit_tells, commit_start, Sound, AllSound, commit_due, end_or, is_driver, is_mark_answered, Seen, see, is_marking, is_marked, HasBucket, Told, driver_entry, at_key, Hold, FitsJobCommit, Decides}
+use Rattle.job_protocol.specs.Prelude.{is_unanswered, Stage, RequestsApart}
+use Rattle.job_spec.proofs.Common.{shared_found, some_is, none_some, text_true}
 use Rattle.magic_paths.specs.Layout as layout
-use Rattle.pending_json.specs.declared.records.PendingSet.{PendingSet}
-use Rattle.retries.specs.Operation.{run}
 use Rattle.retries.proofs.SameRequest.{same_is}
-use Rattle.job_model.specs.Legal.{IsLegal}
-use Rattle.job_model.specs.JobScript.{Script}
-use Rattle.job_model.specs.declared.ends.CommitEnd.{CommitEnd}
 use Rattle.job_model.specs.declared.ends.CommitEnd.TheVariants as commits
-use Rattle.job_model.specs.declared.ends.Stage.{Stage}
 use Rattle.job_model.specs.declared.ends.Stage.TheVariants as stages
-use Rattle.job_protocol.specs.Outputs.{same_path}
-use Rattle.job_protocol.specs.Records.{mark_text}
-use Rattle.list_walk.specs.Walks.{Sweep, sweep_hears}
-use Rattle.job_protocol.specs.Lanes.{Turn, again, follow, dealt, nth, completion, revert}
-use Rattle.job_protocol.specs.JobCommits.{Sets, picks_of, all_commits, set_read, Commit, Fetching, Replacing, Completing, Marking, Reverting, CommitOver, completing, is_no_magic, replaced, replacing, decided, fetching, fetched, swept, reverting, worn_completion, commit_asks, commit_hears, commit_misses, commit_tells, commit_start}
-use Rattle.job_protocol.specs.LaneTable.{RequestsApart, Sound, AllSound}
-use Rattle.job_protocol.proofs.Shared.{shared_found}
-use Rattle.job_spec.specs.Ends.{commit_due, end_or, is_driver, is_mark_answered}
-use Rattle.job_spec.specs.Seen.{Seen, see, is_marking, is_marked}
-use Rattle.store_frame.specs.Held.{HasBucket}
-use Rattle.proof_base.proofs.Members.{some_is, none_some, text_true}
-use Rattle.job_facts.specs.Told.{Told, driver_entry}
-use Rattle.job_facts.specs.Stores.{at_key}
-use Rattle.job_facts.specs.Facts.{Hold}
-use Rattle.job_facts.specs.Driver.{FitsJobCommit}
-use Rattle.job_facts.specs.Filed.{Decides}
 use Rattle.job_facts.proofs.Whose.{or_true}
 use Rattle.job_facts.proofs.Shapes.{puts}
 use Rattle.job_facts.proofs.Turning.{uploads_apart}

@@ -1,15 +1,9 @@
 -- Entries whose events never fall, cut before an event and behind one.
 use Rattle.std.proofs.Common.{◌≡◌, ℕ, ◌+◌, ◌<◌, ◌≤◌, inl, inr, nat_lt, nat_le, nat_eq, ◌&&◌, Bool, true, false, cond, List, [], ◌∷◌, ◌++◌, length, take, refl, sym, ap, subst, ◌∙◌, arith}
-use Rattle.std.specs.List.{filter}
-use Rattle.proof_base.proofs.Numbers.{below_is, below_so, below_not, at_most_is, at_most_so, at_most_not, above_so}
-use Rattle.s3_types.specs.Store.{Content, Scene, opening as opening_scene}
-use Rattle.s3_types.specs.Moment.{effect, after_all, moment, AreHonest, IsHonest}
-use Rattle.s3_types.specs.declared.request.Actor.{Actor}
-use Rattle.s3_types.specs.declared.request.Actor.TheVariants.{Attempt}
-use Rattle.s3_types.specs.declared.journal.Entry.{Entry}
-use Rattle.job_spec.specs.States.{same_actor}
-use Rattle.job_spec.specs.Turns.{until, before, since, by_actor, AllBy, AllFrom, IsRising}
-use Rattle.proof_base.proofs.Members.{true_or_false, nat_true}
+use Rattle.job_facts.specs.Prelude.{filter, Content, Scene, effect, after_all, moment, AreHonest, IsHonest, Actor, Attempt, Entry, same_actor, until, before, since, by_actor, AllBy, AllFrom, IsRising}
+use Rattle.path_keys.proofs.Common.{below_is, below_not}
+use Rattle.job_spec.proofs.Common.{below_so, at_most_is, at_most_so, at_most_not, above_so, true_or_false, nat_true}
+use Rattle.s3_types.specs.Store.{opening as opening_scene}
 use Rattle.job_outcomes.specs.EventRows.{EventRows}
 
 -- ---- cut

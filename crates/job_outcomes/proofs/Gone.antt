@@ -1,36 +1,13 @@
 -- In a run, until the driver's abort or clean has begun an attempt's write or commit finds nothing gone, and a commit that is done has published.
 use Rattle.std.proofs.Common.{◌≡◌, ℕ, inl, inr, Bool, true, false, List, [], ◌∷◌, Option, Some, None, refl, sym, ap, subst, ◌∙◌}
-use Rattle.std.specs.Option.{option_map}
-use Rattle.s3_types.specs.Store.{Content}
-use Rattle.s3_types.specs.declared.request.Committer.{Committer}
-use Rattle.s3_types.specs.declared.request.Committer.TheVariants.{Magic, Directory, Partitioned}
-use Rattle.s3_types.specs.declared.journal.Entry.{Entry}
-use Rattle.retries.specs.Retries.{fresh}
-use Rattle.job_model.specs.Attempts.{Who, actor_of}
-use Rattle.job_model.specs.Files.{File}
-use Rattle.job_model.specs.Known.{Known}
-use Rattle.job_model.specs.Legal.{IsLegal}
-use Rattle.job_model.specs.declared.events.Op.{Op}
+use Rattle.job_facts.specs.Prelude.{option_map, Content, Committer, Magic, Directory, Partitioned, Entry, fresh, Who, actor_of, File, Known, IsLegal, Op, TaskEnd, OpEnd, setup_over, commit_over, clean_over, Setting, Operation, TheSetup, TheWrite, TheTaskCommit, TheTaskAbort, TheCommit, TheClean, start_of, over, files, has_cleaned, WasPublished, Seen, until_last, NotGone, WriteStands, CommitStandsBy, Told, nothing_told}
+use Rattle.job_spec.proofs.Common.{some_is, none_some, false_true, true_or_false}
 use Rattle.job_model.specs.declared.events.Op.TheVariants as ops
-use Rattle.job_model.specs.declared.ends.TaskEnd.{TaskEnd}
 use Rattle.job_model.specs.declared.ends.TaskEnd.TheVariants as tasks
-use Rattle.job_model.specs.declared.ends.OpEnd.{OpEnd}
 use Rattle.job_model.specs.declared.ends.OpEnd.TheVariants as ends
-use Rattle.job_protocol.specs.Setup.{setup_over}
-use Rattle.job_protocol.specs.JobCommits.{commit_over}
-use Rattle.job_protocol.specs.Cleanups.{clean_over}
 use Rattle.job_protocol.specs.Writes as writes
 use Rattle.job_protocol.specs.TaskCommits as commits
-use Rattle.job_protocol.specs.Operations.{Setting, Operation, TheSetup, TheWrite, TheTaskCommit, TheTaskAbort, TheCommit, TheClean, start_of, over}
-use Rattle.job_protocol.specs.Outputs.{files}
-use Rattle.job_spec.specs.Ends.{has_cleaned}
-use Rattle.job_spec.specs.OperationEnds.{WasPublished}
-use Rattle.job_spec.specs.Seen.{Seen}
-use Rattle.job_spec.specs.Turns.{until_last}
-use Rattle.proof_base.proofs.Members.{some_is, none_some, false_true, true_or_false}
-use Rattle.job_facts.specs.Standing.{NotGone, WriteStands, CommitStandsBy}
 use Rattle.job_traces.specs.Runs.{Runs, Stand, IsOpening}
-use Rattle.job_facts.specs.Told.{Told, nothing_told}
 use Rattle.job_traces.proofs.Entries.{tells_so}
 use Rattle.job_facts.proofs.Learnt.{cleaned_is}
 use Rattle.job_traces.proofs.Published.{Own, StandsBy, standing, has_published}

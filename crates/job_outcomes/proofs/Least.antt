@@ -1,21 +1,10 @@
 -- The first file that is shown among the keys below a destination, as they are listed page by page.
 use Rattle.std.proofs.Common.{◌≡◌, ℕ, ◌≤◌, ◌<◌, ◌⊎◌, inl, inr, Bool, true, false, cond, List, [], ◌∷◌, ◌++◌, Option, Some, None, refl, sym, ap, ◌∙◌, arith, codes, append_assoc}
-use Rattle.std.specs.declared.cmp.Ordering.{Ordering}
-use Rattle.std.specs.declared.cmp.Ordering.TheVariants.{Equal}
-use Rattle.std.specs.Ordering.{is_lt, nat_cmp, ordering_reverse, ordering_then}
-use Rattle.std.proofs.lemmas.Cmp.{nat_cmp_total}
-use Rattle.proof_base.specs.Order.{text_cmp, text_total}
-use Rattle.proof_base.proofs.Less.{irrefl, lt_not, le_lt}
-use Rattle.path_keys.specs.Paths.{below, relative_in}
+use Rattle.job_facts.specs.Prelude.{Ordering, Equal, is_lt, nat_cmp, ordering_then, text_cmp, text_total, below, relative_in, begins, IsLegal, Script, is_file_path, dest_prefix, shown_path, or_next, first_shown, IsIn, RisesFrom, last_from}
+use Rattle.job_protocol.specs.Prelude.{ordering_reverse}
+use Rattle.path_keys.proofs.Common.{nat_cmp_total, irrefl}
+use Rattle.job_spec.proofs.Common.{lt_not, le_lt, begins_back, below_is, some_is, none_some, true_or_false}
 use Rattle.path_keys.proofs.Beneath.{behind_some}
-use Rattle.magic_paths.proofs.Tails.{begins_back, below_is}
-use Rattle.s3_types.specs.Pages.{begins}
-use Rattle.job_model.specs.Legal.{IsLegal}
-use Rattle.job_model.specs.JobScript.{Script}
-use Rattle.job_protocol.specs.View.{is_file_path}
-use Rattle.job_protocol.specs.Setup.{dest_prefix, shown_path, or_next, first_shown}
-use Rattle.proof_base.specs.Members.{IsIn, RisesFrom, last_from}
-use Rattle.proof_base.proofs.Members.{some_is, none_some, true_or_false}
 use Rattle.store_frame.proofs.Flat.{behind}
 use Rattle.job_facts.proofs.Legal.{some_dest}
 

@@ -1,32 +1,8 @@
 -- The picks that are seen after one more entry of the driver's commit.
 use Rattle.std.proofs.Common.{◌≡◌, ℕ, zero, suc, ◌<◌, ◌≤◌, ◌^◌, ◌⊎◌, inl, inr, ◌&&◌, ◌||◌, Bool, true, false, cond, List, [], ◌∷◌, ◌++◌, length, slice_get, Option, Some, None, refl, sym, ap, subst, ◌∙◌, arith}
-use Rattle.std.specs.Option.{option_map}
-use Rattle.s3_types.specs.Answer.{answer, found, read_answer}
-use Rattle.s3_types.specs.Moment.{IsHonestOutcome}
-use Rattle.s3_types.specs.declared.object.Object.{Object}
-use Rattle.s3_types.specs.declared.request.Committer.{Committer}
-use Rattle.s3_types.specs.declared.request.Committer.TheVariants.{Magic, Directory, Partitioned}
-use Rattle.s3_types.specs.declared.request.Request.{Request}
-use Rattle.s3_types.specs.declared.reply.Reply.{Reply}
-use Rattle.s3_types.specs.declared.reply.Reply.TheVariants.{Refused}
-use Rattle.s3_types.specs.declared.reply.Refusal.TheVariants.{NoSuchKey, NoSuchFile}
-use Rattle.s3_types.specs.declared.journal.Outcome.{Outcome}
-use Rattle.s3_types.specs.declared.journal.Outcome.TheVariants.{Answered, Slow, RequestLost, ReplyLost}
-use Rattle.magic_paths.specs.Places.{SetPlace, key_at}
-use Rattle.pending_json.specs.declared.records.PendingSet.{PendingSet}
-use Rattle.job_model.specs.Legal.{IsLegal}
-use Rattle.job_protocol.specs.Records.{files_set}
-use Rattle.job_model.specs.JobScript.{Script}
-use Rattle.job_protocol.specs.Outputs.{Picks}
-use Rattle.list_walk.specs.Walks.{Sweep, Listing, Deleting, sweep_asks}
-use Rattle.job_protocol.specs.JobCommits.{Sets, picks_of, set_request, set_read, Commit, Fetching, Replacing, Completing, Marking, Reverting, CommitOver, fetched, commit_asks, commit_tells}
-use Rattle.job_protocol.specs.Operations.{Setting}
-use Rattle.job_spec.specs.Seen.{Seen, see, is_begun, is_reading, picks_by}
-use Rattle.proof_base.proofs.Members.{some_is, none_some, false_true, same_or_not, none_or_some}
-use Rattle.job_facts.specs.Told.{Told, driver_entry}
-use Rattle.job_facts.specs.Stores.{at_place, sets_at, set_at}
-use Rattle.job_facts.specs.Facts.{Hold, knowing}
-use Rattle.job_facts.specs.Filed.{Decides}
+use Rattle.job_facts.specs.Prelude.{option_map, answer, read_answer, IsHonestOutcome, Object, Committer, Magic, Directory, Partitioned, Request, Reply, Refused, NoSuchKey, NoSuchFile, Outcome, Answered, Slow, RequestLost, ReplyLost, SetPlace, key_at, PendingSet, IsLegal, files_set, Script, Picks, Sweep, Listing, Deleting, sweep_asks, Sets, picks_of, set_request, set_read, Commit, Fetching, Replacing, Completing, Marking, Reverting, CommitOver, fetched, commit_asks, commit_tells, Setting, Seen, see, is_begun, is_reading, picks_by, Told, driver_entry, at_place, sets_at, set_at, Hold, knowing, Decides}
+use Rattle.job_spec.proofs.Common.{some_is, none_some, false_true, same_or_not, none_or_some}
+use Rattle.s3_types.specs.Answer.{found}
 use Rattle.job_facts.proofs.Whose.{or_true}
 use Rattle.job_facts.proofs.Shapes.{answer_is, key_before}
 use Rattle.job_facts.proofs.Replies.{set_answered}

@@ -1,31 +1,9 @@
 -- Whose the entries of a run are.
 use Rattle.std.proofs.Common.{◌≡◌, ℕ, zero, suc, ◌<◌, ◌≤◌, ◌⊎◌, inl, inr, ◌||◌, Bool, true, false, cond, List, [], ◌∷◌, ◌++◌, length, slice_get, Option, Some, None, refl, sym, ap, subst, ◌∙◌, arith}
-use Rattle.std.specs.List.{filter, list_any}
-use Rattle.std.proofs.lemmas.List.{append-nil, take-append-le}
-use Rattle.std.proofs.lemmas.List.Elements.{filter-append}
-use Rattle.std.proofs.lemmas.List.Folds.{list_any-append}
-use Rattle.std.proofs.lemmas.Option.{slice_get_within}
-use Rattle.s3_types.specs.Store.{Content, opening as opening_scene}
-use Rattle.s3_types.specs.Moment.{after_all}
-use Rattle.s3_types.specs.declared.request.Actor.{Actor}
-use Rattle.s3_types.specs.declared.request.Actor.TheVariants.{Driver}
-use Rattle.s3_types.specs.declared.request.Request.{Request}
-use Rattle.s3_types.specs.declared.journal.Outcome.{Outcome}
-use Rattle.s3_types.specs.declared.journal.Entry.{Entry}
-use Rattle.job_model.specs.Attempts.{Who, actor_of}
-use Rattle.job_model.specs.JobScript.{Script}
-use Rattle.job_model.specs.Known.{Known}
-use Rattle.job_model.specs.declared.events.Op.{Op}
+use Rattle.job_facts.specs.Prelude.{filter, list_any, Content, after_all, Actor, Driver, Request, Outcome, Entry, Who, actor_of, Script, Known, Op, Setup, SetupOver, setup_asks, Commit, Setting, Operation, TheSetup, TheCommit, TheClean, who, asks, tells, start_of, WasPublished, is_begun, is_publishing, by_actor, until_last, AllBy, AllUpTo, is_own, own, same_actor, known, put_who, entry, driver_entry, strange_entry}
+use Rattle.job_spec.proofs.Common.{append-nil, take-append-le, filter-append, list_any-append, slice_get_within, some_is, none_some, false_true}
+use Rattle.s3_types.specs.Store.{opening as opening_scene}
 use Rattle.job_model.specs.declared.events.Op.TheVariants as ops
-use Rattle.job_protocol.specs.Setup.{Setup, SetupOver, setup_asks}
-use Rattle.job_protocol.specs.JobCommits.{Commit}
-use Rattle.job_protocol.specs.Operations.{Setting, Operation, TheSetup, TheCommit, TheClean, who, asks, tells, start_of}
-use Rattle.job_spec.specs.OperationEnds.{WasPublished}
-use Rattle.job_spec.specs.Seen.{is_begun, is_publishing}
-use Rattle.job_spec.specs.Turns.{by_actor, until_last, AllBy, AllUpTo, is_own, own}
-use Rattle.job_spec.specs.States.{same_actor}
-use Rattle.proof_base.proofs.Members.{some_is, none_some, false_true}
-use Rattle.job_facts.specs.Told.{known, put_who, entry, driver_entry, strange_entry}
 use Rattle.job_traces.specs.Runs.{Stand, Runs, run_begins, driver_sends, attempt_sends, is_set, is_done, is_just_set, MaySetUp, IsTimely, commit_with, nothing_learnt, Beginning, BeginSetup, BeginCommit, BeginClean, BeginWrite, BeginPublish, BeginAbort, begin, MayBegin, actor_begins, strays}
 use Rattle.job_facts.proofs.Whose.{same_or_another, who_true, who_false, who_here, who_other, or_false, or_true}
 use Rattle.job_outcomes.specs.RunEntries.{RunEntries}

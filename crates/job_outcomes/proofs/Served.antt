@@ -1,46 +1,13 @@
 -- What the driver's commit is answered in every run: a completion finds no upload only where an earlier sending of it was lost, and a read of a set finds it where its task has a last publisher.
 use Rattle.std.proofs.Common.{◌≡◌, ℕ, nat_lt, ◌≤◌, ◌^◌, ◌⊎◌, inl, inr, ◌&&◌, ◌||◌, Bool, true, false, cond, List, [], ◌∷◌, ◌++◌, length, Option, Some, None, IsSome, is_some, refl, sym, ap, subst, ◌∙◌}
-use Rattle.std.specs.List.{list_any}
-use Rattle.std.proofs.lemmas.List.Folds.{list_any-append}
-use Rattle.s3_types.specs.Blocks.{named_from}
-use Rattle.s3_types.specs.Store.{Content}
-use Rattle.s3_types.specs.Multipart.{live, with_key, joined}
-use Rattle.s3_types.specs.Answer.{answer, complete_answer}
-use Rattle.s3_types.specs.Moment.{IsHonestOutcome}
-use Rattle.s3_types.specs.declared.request.Actor.TheVariants.{Driver, Shell}
-use Rattle.s3_types.specs.declared.request.Request.{Request}
-use Rattle.s3_types.specs.declared.reply.Refusal.{Refusal}
-use Rattle.s3_types.specs.declared.reply.Refusal.TheVariants.{NoSuchUpload}
-use Rattle.s3_types.specs.declared.reply.Reply.{Reply}
-use Rattle.s3_types.specs.declared.reply.Reply.TheVariants.{Refused}
-use Rattle.s3_types.specs.declared.journal.Outcome.{Outcome}
-use Rattle.s3_types.specs.declared.journal.Outcome.TheVariants.{Answered, Slow}
-use Rattle.s3_types.specs.declared.journal.Entry.{Entry}
-use Rattle.pending_json.specs.Pending.{Pending}
-use Rattle.pending_json.specs.declared.records.PendingSet.{PendingSet}
-use Rattle.retries.specs.Same.{same_request}
-use Rattle.retries.proofs.SameRequest.{same_self}
-use Rattle.job_model.specs.Attempts.{Who, actor_of}
-use Rattle.job_model.specs.Legal.{IsLegal}
-use Rattle.job_model.specs.JobScript.{Script}
-use Rattle.job_model.specs.declared.ends.CommitEnd.{CommitEnd}
+use Rattle.job_facts.specs.Prelude.{list_any, named_from, Content, live, with_key, joined, answer, complete_answer, IsHonestOutcome, Driver, Shell, Request, Refusal, NoSuchUpload, Reply, Refused, Outcome, Answered, Slow, Entry, Pending, PendingSet, Who, actor_of, IsLegal, Script, CommitEnd, same_path, Sweep, Listing, sweep_hears, Turn, again, follow, dealt, nth, completion, revert, In, Tabled, Sets, picks_of, all_commits, set_request, set_read, Commit, Fetching, Replacing, Completing, Marking, Reverting, CommitOver, is_no_magic, completing, replaced, replacing, decided, fetching, fetched, swept, reverting, worn_completion, commit_start, commit_asks, commit_hears, commit_misses, commit_tells, stage_of, Setting, Operation, TheSetup, TheWrite, TheTaskCommit, TheTaskAbort, TheCommit, TheClean, who, asks, tells, was_lost, Seen, is_begun, is_reading, Told, entry, driver_entry, strange_entry, Hold, Gone, Reads}
+use Rattle.job_spec.proofs.Common.{list_any-append, same_self, some_is, none_some, false_true, true_or_false}
+use Rattle.job_spec.specs.Prelude.{same_request}
 use Rattle.job_model.specs.declared.ends.Stage.TheVariants as stages
-use Rattle.job_protocol.specs.Outputs.{same_path}
-use Rattle.list_walk.specs.Walks.{Sweep, Listing, sweep_hears}
-use Rattle.job_protocol.specs.Lanes.{Turn, again, follow, dealt, nth, completion, revert}
-use Rattle.job_protocol.specs.LaneTable.{In, Tabled}
-use Rattle.job_protocol.specs.JobCommits.{Sets, picks_of, all_commits, set_request, set_read, Commit, Fetching, Replacing, Completing, Marking, Reverting, CommitOver, is_no_magic, completing, replaced, replacing, decided, fetching, fetched, swept, reverting, worn_completion, commit_start, commit_asks, commit_hears, commit_misses, commit_tells, stage_of}
-use Rattle.job_protocol.specs.Operations.{Setting, Operation, TheSetup, TheWrite, TheTaskCommit, TheTaskAbort, TheCommit, TheClean, who, asks, tells}
 use Rattle.job_protocol.proofs.LaneEnds.{read_stage}
 use Rattle.job_protocol.proofs.Members.{in_append, in_push}
 use Rattle.job_protocol.proofs.Tables.{dealt_fresh, follow_cases}
-use Rattle.job_spec.specs.OperationEnds.{is_lost, was_lost}
-use Rattle.job_spec.specs.Seen.{Seen, is_begun, is_reading}
-use Rattle.proof_base.proofs.Members.{some_is, none_some, false_true, true_or_false}
-use Rattle.job_facts.specs.Told.{Told, entry, driver_entry, strange_entry}
-use Rattle.job_facts.specs.Facts.{Hold}
-use Rattle.job_facts.specs.Filed.{Gone}
-use Rattle.job_facts.specs.Driver.{Reads}
+use Rattle.job_spec.specs.OperationEnds.{is_lost}
 use Rattle.job_facts.specs.Turning.{Turns}
 use Rattle.job_traces.specs.Runs.{Stand, Runs, run_begins, actor_begins, driver_sends, attempt_sends, strays, Beginning, BeginSetup, BeginCommit, BeginClean, begin, IsOpening, is_set, IsTimely, nothing_learnt, with_commit, with_driver, commit_with, saw}
 use Rattle.job_facts.proofs.Whose.{or_true}

@@ -1,53 +1,16 @@
 -- How the driver's set-up ends, by its entries alone.
 use Rattle.std.proofs.Common.{◌≡◌, ℕ, inl, inr, nat_lt, Bool, true, false, cond, List, [], ◌∷◌, ◌++◌, take, length, Option, Some, None, IsSome, refl, sym, ap, subst, ◌∙◌, codes}
+use Rattle.job_facts.specs.Prelude.{is_some, option_map, is_lt, text_cmp, text_total, BucketContent, Content, Scene, begins, listed, answer, answer_at, apply, head, after_all, AreHonest, Object, Actor, Committer, Magic, Request, HeadObject, DeleteObject, Reply, Page, Deleted, Refused, PageEntry, Entry, Answered, ReplyLost, MOST_ENTRIES, below, magic_prefix, success_key, run, Follows, fresh, step, wants_of, worn_in, WornFirst, IsLegal, Script, Known, SetupEnd, view, is_file_path, checks_all, Sweep, Listing, Deleting, sweep_asks, walked_by, keys_on, last_of, page_after, sweep_hears, all_go, Setup, Heading, Clearing, Sweeping, SetupOver, dest_prefix, if_bucket, headed, checked_on, checked_by, first_shown, cleared, setup_start, setup_asks, setup_hears, setup_after, setup_over, Setting, wants, advance, over, SetupIs, last_from, HasBucket, at_key, ThoseOrBehind}
+use Rattle.job_spec.proofs.Common.{false≢true, lt_not, le_lt, counted_first, some_is, none_some, in_front, in_back}
+use Rattle.job_spec.specs.Prelude.{TooManyKeys, IsFree}
+use Rattle.job_protocol.specs.Prelude.{lacks_bucket, checked}
 use Rattle.std.specs.FinMap as fin
-use Rattle.std.specs.Option.{is_some, option_map}
-use Rattle.std.specs.Ordering.{is_lt}
-use Rattle.std.proofs.lemmas.Bool.{false≢true}
-use Rattle.proof_base.specs.Order.{text_cmp, text_total}
-use Rattle.proof_base.proofs.Less.{lt_not, le_lt}
-use Rattle.s3_types.specs.Store.{BucketContent, Content, Scene}
-use Rattle.s3_types.specs.Pages.{begins, listed}
-use Rattle.s3_types.specs.Answer.{answer, answer_at, apply, head}
-use Rattle.s3_types.specs.Moment.{after_all, AreHonest}
-use Rattle.s3_types.specs.declared.object.Object.{Object}
-use Rattle.s3_types.specs.declared.request.Actor.{Actor}
-use Rattle.s3_types.specs.declared.request.Committer.{Committer}
-use Rattle.s3_types.specs.declared.request.Committer.TheVariants.{Magic}
-use Rattle.s3_types.specs.declared.request.Request.{Request}
-use Rattle.s3_types.specs.declared.request.Request.TheVariants.{HeadObject, DeleteObject}
-use Rattle.s3_types.specs.declared.reply.Reply.{Reply}
-use Rattle.s3_types.specs.declared.reply.Reply.TheVariants.{Page, Deleted, Refused}
-use Rattle.s3_types.specs.declared.reply.Refusal.TheVariants.{TooManyKeys}
-use Rattle.s3_types.specs.declared.reply.PageEntry.{PageEntry}
-use Rattle.s3_types.specs.declared.journal.Entry.{Entry}
-use Rattle.s3_types.specs.declared.journal.Outcome.TheVariants.{Answered, ReplyLost}
-use Rattle.s3_types.specs.declared.limits.TheConstants.{MOST_ENTRIES}
-use Rattle.path_keys.specs.Paths.{below}
-use Rattle.magic_paths.specs.Layout.{magic_prefix, success_key}
-use Rattle.retries.specs.Operation.{run, Follows}
-use Rattle.retries.specs.Retries.{fresh, step, wants_of, worn_in}
-use Rattle.retries.specs.Worn.{WornFirst}
-use Rattle.retries.proofs.First.{counted_first}
-use Rattle.job_model.specs.Legal.{IsLegal}
-use Rattle.job_model.specs.JobScript.{Script}
-use Rattle.job_model.specs.Known.{Known}
 use Rattle.job_model.specs.declared.ends.OpEnd.TheVariants as op_ends
-use Rattle.job_model.specs.declared.ends.SetupEnd.{SetupEnd}
 use Rattle.job_model.specs.declared.ends.SetupEnd.TheVariants as setups
-use Rattle.job_protocol.specs.View.{view, is_file_path}
-use Rattle.job_protocol.specs.Conflicts.{checks_all}
-use Rattle.list_walk.specs.Walks.{Sweep, Listing, Deleting, sweep_asks, walked_by, keys_on, last_of, page_after, sweep_hears, all_go}
-use Rattle.job_protocol.specs.Setup.{Setup, Heading, Checking, Clearing, Sweeping, SetupOver, dest_prefix, lacks_bucket, if_bucket, headed, checked, checked_on, checked_by, first_shown, cleared, sweeping, setup_start, setup_asks, setup_hears, setup_after, setup_over}
-use Rattle.job_protocol.specs.Operations.{Setting, wants, advance, over}
-use Rattle.job_spec.specs.OperationEnds.{IsLeastShown, IsFree, SetupIs}
-use Rattle.proof_base.specs.Members.{last_from}
-use Rattle.store_frame.specs.Held.{HasBucket}
-use Rattle.proof_base.proofs.Members.{some_is, none_some, in_front, in_back}
+use Rattle.job_protocol.specs.Setup.{Checking, sweeping}
+use Rattle.job_spec.specs.OperationEnds.{IsLeastShown}
 use Rattle.store_frame.proofs.Flat.{page_rises, page_begins, page_covers, page_all, last_append}
 use Rattle.store_frame.proofs.Reading.{reads_nothing}
-use Rattle.job_facts.specs.Stores.{at_key}
-use Rattle.job_facts.specs.Emptying.{ThoseOrBehind}
 use Rattle.job_facts.proofs.Emptying.{last_so, still_there}
 use Rattle.job_facts.proofs.Shapes.{key_before, answer_is}
 use Rattle.job_facts.proofs.JobCommitting.{dest_below}

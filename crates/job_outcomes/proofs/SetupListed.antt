@@ -1,28 +1,10 @@
 -- How the driver's set-up ends by what its pages listed, whoever else sends.
 use Rattle.std.proofs.Common.{◌≡◌, ℕ, zero, suc, Bool, true, false, cond, List, [], ◌∷◌, ◌++◌, append-nil, append_assoc, Option, Some, None, refl, sym, ap, subst, ◌∙◌}
-use Rattle.std.proofs.lemmas.Bool.{false≢true}
-use Rattle.s3_types.specs.declared.request.Committer.{Committer}
-use Rattle.s3_types.specs.declared.request.Committer.TheVariants.{Magic}
-use Rattle.s3_types.specs.declared.request.Request.{Request}
-use Rattle.s3_types.specs.declared.reply.Reply.{Reply}
-use Rattle.s3_types.specs.declared.reply.Reply.TheVariants.{Head, Page, Refused}
-use Rattle.s3_types.specs.declared.reply.Refusal.TheVariants.{NoSuchBucket}
-use Rattle.s3_types.specs.declared.journal.Outcome.{Outcome}
-use Rattle.s3_types.specs.declared.journal.Outcome.TheVariants.{Answered, Slow}
-use Rattle.s3_types.specs.declared.journal.Entry.{Entry}
-use Rattle.path_keys.specs.Paths.{relative_in}
-use Rattle.retries.specs.Operation.{run, Follows}
-use Rattle.retries.specs.Retries.{Retried, fresh, step, unanswered_by, wants_of, is_zero, worn_in}
-use Rattle.retries.specs.Worn.{WornFirst}
-use Rattle.retries.proofs.First.{counted_first}
-use Rattle.proof_base.proofs.Members.{some_is, none_some}
-use Rattle.job_model.specs.JobScript.{Script}
-use Rattle.job_model.specs.declared.ends.SetupEnd.{SetupEnd}
+use Rattle.job_spec.proofs.Common.{false≢true, counted_first, some_is, none_some, if_bucket_so}
+use Rattle.job_facts.specs.Prelude.{Committer, Magic, Request, Reply, Page, Refused, NoSuchBucket, Outcome, Answered, Slow, Entry, relative_in, run, Follows, Retried, fresh, step, unanswered_by, wants_of, is_zero, worn_in, WornFirst, Script, SetupEnd, checks_all, Sweep, keys_on, page_after, walked_by, sweep_hears, all_go, Setup, Heading, Clearing, Sweeping, SetupOver, dest_prefix, headed, checked_on, checked_by, shown_path, or_next, first_shown, cleared, setup_start, setup_asks, setup_hears, setup_after, setup_over}
+use Rattle.job_spec.specs.Prelude.{Head}
 use Rattle.job_model.specs.declared.ends.SetupEnd.TheVariants as setups
-use Rattle.job_protocol.specs.Conflicts.{checks_all}
-use Rattle.list_walk.specs.Walks.{Sweep, keys_on, page_after, walked_by, sweep_hears, all_go}
-use Rattle.job_protocol.proofs.Faults.{if_bucket_so}
-use Rattle.job_protocol.specs.Setup.{Setup, Heading, Checking, Clearing, Sweeping, SetupOver, dest_prefix, headed, checked_on, checked_by, shown_path, or_next, first_shown, cleared, sweeping, setup_start, setup_asks, setup_hears, setup_after, setup_over}
+use Rattle.job_protocol.specs.Setup.{Checking, sweeping}
 use Rattle.job_outcomes.specs.SetupEnds.{keys_told, keys_listed, SetupListed}
 
 module _ (w : Script) where

@@ -1,9 +1,8 @@
 -- Picks that are the same of all tasks share the same path.
 use Rattle.std.proofs.Common.{◌≡◌, ℕ, zero, suc, ◌+◌, ◌-◌, ◌<◌, ◌≤◌, Bool, cond, List, [], ◌∷◌, Option, Some, None, refl, ap, ◌∙◌, arith}
-use Rattle.std.specs.Option.{option_map}
-use Rattle.job_model.specs.JobScript.{Script}
-use Rattle.job_protocol.specs.Outputs.{Picks, files_picked, paths_of, wanted_paths, writes, first_where, second_where, two_where, shared_by, first_shared, same_path}
-use Rattle.job_model.specs.Files.{has_path}
+use Rattle.job_facts.specs.Prelude.{option_map, Script, Picks, files_picked, paths_of, wanted_paths, writes, two_where, shared_by, first_shared, same_path, has_path}
+use Rattle.job_spec.specs.Prelude.{first_where}
+use Rattle.job_protocol.specs.Prelude.{second_where}
 use Rattle.job_facts.proofs.Wanted.{same_wanted}
 
 first_same : (a b : ℕ → Bool) (t n : ℕ) → ((u : ℕ) → t ≤ u → u < t + n → a u ≡ b u) → first_where a t n ≡ first_where b t n

@@ -1,48 +1,17 @@
 -- How an attempt's operations end, by its own entries alone.
 use Rattle.std.proofs.Common.{◌≡◌, ℕ, ◌⊎◌, inl, inr, Bool, true, false, cond, List, [], ◌∷◌, ◌++◌, map, Option, Some, None, refl, sym, ap, subst, ◌∙◌, append_assoc}
-use Rattle.std.specs.List.{All, Contains}
-use Rattle.std.specs.Option.{option_map}
-use Rattle.std.specs.Option.{is_some}
+use Rattle.job_protocol.specs.Prelude.{All, Contains, checks_partitions, is_serial}
+use Rattle.job_facts.specs.Prelude.{option_map, is_some, Actor, Attempt, Committer, Magic, Request, ListPage, PageEntry, Reply, Page, Refused, NoSuchKey, NoSuchFile, Answered, Entry, run, Follows, spent_in, WornFirst, File, Who, Script, Drawn, Known, Op, TaskEnd, files, paths_of, partitions, as_made, record_key, Walked, More, Whole, Sweep, sweep_hears, all_go, Uploaded, GoesOn, AllSent, IsGone, upload_hears, Setting, Operation, TheWrite, TheTaskCommit, TheTaskAbort, Running, who, asks, wants, advance, tells, start_of, over, spare_of, is_fault, TaskIs}
+use Rattle.job_spec.proofs.Common.{first_spent, faults, some_is, none_some, false_true}
 use Rattle.std.proofs.lemmas.List.Elements.{All-nil, All-push, Contains-append_left, Contains-append_right, Contains-push}
-use Rattle.s3_types.specs.declared.request.Actor.{Actor}
-use Rattle.s3_types.specs.declared.request.Actor.TheVariants.{Attempt}
-use Rattle.s3_types.specs.declared.request.Committer.{Committer}
-use Rattle.s3_types.specs.declared.request.Committer.TheVariants.{Magic}
-use Rattle.s3_types.specs.declared.request.Request.{Request}
-use Rattle.s3_types.specs.declared.request.Request.TheVariants.{ListPage}
-use Rattle.s3_types.specs.declared.reply.PageEntry.{PageEntry}
-use Rattle.s3_types.specs.declared.reply.Reply.{Reply}
-use Rattle.s3_types.specs.declared.reply.Reply.TheVariants.{Page, Refused}
-use Rattle.s3_types.specs.declared.reply.Refusal.TheVariants.{NoSuchKey, NoSuchFile}
-use Rattle.s3_types.specs.declared.journal.Outcome.TheVariants.{Answered}
-use Rattle.s3_types.specs.declared.journal.Entry.{Entry}
-use Rattle.retries.specs.Operation.{run, Follows}
-use Rattle.retries.specs.Retries.{spent_in}
-use Rattle.retries.specs.Worn.{WornFirst}
-use Rattle.job_model.specs.Files.{File}
-use Rattle.job_model.specs.Attempts.{Who}
-use Rattle.job_model.specs.JobScript.{Script}
-use Rattle.job_model.specs.Known.{Drawn, Known}
-use Rattle.job_model.specs.declared.events.Op.{Op}
 use Rattle.job_model.specs.declared.events.Op.TheVariants as ops
-use Rattle.job_model.specs.declared.ends.TaskEnd.{TaskEnd}
 use Rattle.job_model.specs.declared.ends.TaskEnd.TheVariants as tasks
 use Rattle.job_model.specs.declared.ends.OpEnd.TheVariants as ends
-use Rattle.job_protocol.specs.Outputs.{files, paths_of}
-use Rattle.job_protocol.specs.Conflicts.{partitions, checks_partitions}
-use Rattle.job_protocol.specs.Knowledge.{as_made}
-use Rattle.job_protocol.specs.Records.{record_key}
-use Rattle.list_walk.specs.Walks.{Walked, More, Whole, walked, Sweep, sweep_hears, all_go}
-use Rattle.job_protocol.specs.Uploading.{Uploaded, GoesOn, AllSent, IsGone, upload_hears}
+use Rattle.list_walk.specs.Walks.{walked}
 use Rattle.job_protocol.specs.Writes as writes
 use Rattle.job_protocol.specs.TaskCommits as commits
 use Rattle.job_protocol.specs.TaskAborts as aborts
-use Rattle.job_protocol.specs.Operations.{Setting, Operation, TheWrite, TheTaskCommit, TheTaskAbort, Running, who, asks, wants, advance, tells, start_of, over}
-use Rattle.job_protocol.specs.Laws.{is_serial, spare_of, is_fault}
-use Rattle.job_protocol.proofs.Wearing.{first_spent}
-use Rattle.job_protocol.proofs.Faults.{faults}
-use Rattle.job_spec.specs.OperationEnds.{WasListed, TaskMay, TaskIs}
-use Rattle.proof_base.proofs.Members.{some_is, none_some, false_true}
+use Rattle.job_spec.specs.OperationEnds.{WasListed, TaskMay}
 use Rattle.job_facts.proofs.Going.{step_so}
 
 -- a fault, or an end that may be

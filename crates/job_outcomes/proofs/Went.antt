@@ -1,16 +1,8 @@
 -- An operation of replies, by entries in a row: what holds as it begins holds at its end, or a request of it wore out.
 use Rattle.std.proofs.Common.{◌≡◌, ℕ, zero, suc, ◌⊎◌, inl, inr, Bool, true, cond, List, [], ◌∷◌, Option, Some, None, refl, ap, ◌∙◌}
-use Rattle.s3_types.specs.Store.{Scene}
-use Rattle.s3_types.specs.Answer.{answer, apply}
-use Rattle.s3_types.specs.Moment.{effect, after_all, IsHonestOutcome, AreHonest}
-use Rattle.s3_types.specs.declared.request.Request.{Request}
-use Rattle.s3_types.specs.declared.reply.Reply.{Reply}
-use Rattle.s3_types.specs.declared.journal.Outcome.{Outcome}
-use Rattle.s3_types.specs.declared.journal.Outcome.TheVariants.{Answered, Slow, RequestLost, ReplyLost}
-use Rattle.s3_types.specs.declared.journal.Entry.{Entry}
-use Rattle.retries.specs.Operation.{run, Follows}
-use Rattle.retries.specs.Retries.{Item, Got, WornOut, Retried, step, unanswered_by, wants_of, wears, is_zero, worn_in}
-use Rattle.proof_base.proofs.Members.{none_some}
+use Rattle.job_facts.specs.Prelude.{Scene, answer, apply, effect, after_all, IsHonestOutcome, AreHonest, Request, Reply, Outcome, Answered, Slow, RequestLost, ReplyLost, Entry, run, Follows, Item, Got, WornOut, Retried, step, unanswered_by, wants_of, is_zero, worn_in}
+use Rattle.retries.specs.Prelude.{wears}
+use Rattle.job_spec.proofs.Common.{none_some}
 
 module _ {M : Type 0} (retries : ℕ) (asks : M → Option Request) (after : M → Item → M) (holds : Scene → M → Type 0)
     (heard : (s : Scene) (m : M) → holds s m → (r : Request) → asks m ≡ Some r → (x : Reply) (repeated : Bool) → x ≡ answer s r → holds (apply s r) (after m (Got x repeated)))

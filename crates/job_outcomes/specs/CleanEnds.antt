@@ -1,21 +1,8 @@
 -- How the driver's abort or clean of the job ends.
 use Rattle.std.specs.Prelude.{◌≡◌, List, Option, Some}
-use Rattle.s3_types.specs.Store.{Scene}
-use Rattle.s3_types.specs.Moment.{after_all, AreHonest}
-use Rattle.s3_types.specs.declared.request.Actor.{Actor}
-use Rattle.s3_types.specs.declared.request.Request.{Request}
-use Rattle.s3_types.specs.declared.journal.Entry.{Entry}
-use Rattle.retries.specs.Operation.{run, Follows}
-use Rattle.retries.specs.Retries.{fresh}
-use Rattle.retries.specs.Worn.{WornFirst}
-use Rattle.job_model.specs.Legal.{IsLegal}
-use Rattle.job_model.specs.Known.{Known}
-use Rattle.job_model.specs.declared.ends.CleanEnd.{CleanEnd}
+use Rattle.job_facts.specs.Prelude.{Scene, after_all, AreHonest, Actor, Request, Entry, run, Follows, fresh, WornFirst, IsLegal, Known, CleanEnd, clean_start, Setting, Running, TheClean, wants, advance, over, CleanIs, Cleaned}
 use Rattle.job_model.specs.declared.ends.CleanEnd.TheVariants as cleans
 use Rattle.job_model.specs.declared.ends.OpEnd.TheVariants as op_ends
-use Rattle.job_protocol.specs.Cleanups.{clean_start}
-use Rattle.job_protocol.specs.Operations.{Setting, Running, TheClean, wants, advance, over}
-use Rattle.job_spec.specs.OperationEnds.{CleanIs, Cleaned}
 
 -- as it begins
 abbrev pub cleaning : Setting → Known → Running

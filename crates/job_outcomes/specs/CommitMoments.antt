@@ -1,21 +1,7 @@
 -- The picks at each moment of a run, and that a commit which ended before its first completion has hidden nothing.
 use Rattle.std.specs.Prelude.{◌≡◌, ℕ, ◌<◌, ◌≤◌, ◌⊎◌, true, false, List, [], ◌∷◌, ◌++◌, length, Option, Some, None}
-use Rattle.s3_types.specs.Store.{Content}
-use Rattle.s3_types.specs.Moment.{moment}
-use Rattle.s3_types.specs.declared.request.Actor.TheVariants.{Driver}
-use Rattle.s3_types.specs.declared.request.Request.{Request}
-use Rattle.s3_types.specs.declared.journal.Entry.{Entry}
-use Rattle.job_model.specs.Legal.{IsLegal}
-use Rattle.job_model.specs.JobScript.{Script}
-use Rattle.job_model.specs.declared.ends.CommitEnd.{CommitEnd}
+use Rattle.job_facts.specs.Prelude.{Content, moment, Driver, Request, Entry, IsLegal, Script, CommitEnd, view, Clean, clean_asks, CommitOver, Setting, TheCommit, Same, Always, is_untouched, Seen, is_reading, see_all, seen}
 use Rattle.job_model.specs.declared.ends.CommitEnd.TheVariants as commits
-use Rattle.job_protocol.specs.View.{view}
-use Rattle.job_protocol.specs.Cleanups.{Clean, clean_asks}
-use Rattle.job_protocol.specs.JobCommits.{CommitOver}
-use Rattle.job_protocol.specs.Operations.{Setting, TheCommit}
-use Rattle.job_spec.specs.Headline.{Same, Always}
-use Rattle.job_spec.specs.OperationEnds.{is_untouched}
-use Rattle.job_spec.specs.Seen.{Seen, is_reading, see_all, seen}
 use Rattle.job_traces.specs.Runs.{Stand, Runs, IsOpening}
 
 -- none of these reads a task's set for the driver

@@ -1,38 +1,8 @@
 -- The driver's commit in a run: by which entries it came where it stands, the sets that it holds and the picks that are seen; and how it ends.
 use Rattle.std.specs.Prelude.{◌≡◌, ℕ, ◌<◌, ◌≤◌, ◌^◌, ◌⊎◌, true, List, [], ◌∷◌, ◌++◌, length, Option, Some, None, IsSome}
-use Rattle.s3_types.specs.Store.{Content}
-use Rattle.s3_types.specs.Answer.{answer}
-use Rattle.s3_types.specs.Moment.{IsHonestOutcome}
-use Rattle.s3_types.specs.declared.request.Actor.TheVariants.{Driver}
-use Rattle.s3_types.specs.declared.request.Request.{Request}
-use Rattle.s3_types.specs.declared.reply.Refusal.{Refusal}
-use Rattle.s3_types.specs.declared.reply.Refusal.TheVariants.{NoSuchUpload}
-use Rattle.s3_types.specs.declared.reply.Reply.{Reply}
-use Rattle.s3_types.specs.declared.reply.Reply.TheVariants.{Refused}
-use Rattle.s3_types.specs.declared.journal.Outcome.{Outcome}
-use Rattle.s3_types.specs.declared.journal.Outcome.TheVariants.{Answered}
-use Rattle.s3_types.specs.declared.journal.Entry.{Entry}
-use Rattle.pending_json.specs.declared.records.PendingSet.{PendingSet}
-use Rattle.retries.specs.Operation.{run, Follows}
-use Rattle.retries.specs.Worn.{WornFirst}
-use Rattle.job_model.specs.Attempts.{Who}
-use Rattle.job_model.specs.Legal.{IsLegal}
-use Rattle.job_model.specs.JobScript.{Script}
-use Rattle.job_model.specs.declared.ends.CommitEnd.{CommitEnd}
+use Rattle.job_facts.specs.Prelude.{Content, answer, IsHonestOutcome, Driver, Request, Refusal, NoSuchUpload, Reply, Refused, Outcome, Answered, Entry, PendingSet, run, Follows, WornFirst, Who, IsLegal, Script, CommitEnd, Picks, Sets, picks_of, Commit, Fetching, Replacing, Completing, Marking, Reverting, CommitOver, commit_start, commit_asks, commit_tells, fetching, set_request, set_read, stage_of, Setup, setup_asks, Clean, clean_asks, AllSound, Setting, TheCommit, was_lost, AreOwn, commit_due, is_mark_answered, CommitEnded, picks_below, picked, Seen, see, see_all, nothing_seen, is_marked, is_begun, entry, driver_entry}
 use Rattle.job_model.specs.declared.ends.CommitEnd.TheVariants as commits
 use Rattle.job_model.specs.declared.ends.Stage.TheVariants as stages
-use Rattle.job_protocol.specs.Outputs.{Picks}
-use Rattle.job_protocol.specs.JobCommits.{Sets, picks_of, Commit, Fetching, Replacing, Completing, Marking, Reverting, CommitOver, commit_start, commit_asks, commit_tells, fetching, set_request, set_read, stage_of}
-use Rattle.job_protocol.specs.Setup.{Setup, setup_asks}
-use Rattle.job_protocol.specs.Cleanups.{Clean, clean_asks}
-use Rattle.job_protocol.specs.LaneTable.{AllSound}
-use Rattle.job_protocol.specs.Operations.{Setting, TheCommit}
-use Rattle.job_spec.specs.OperationEnds.{was_lost}
-use Rattle.job_spec.specs.Entries.{AreOwn}
-use Rattle.job_spec.specs.Ends.{commit_due, is_mark_answered, CommitEnded}
-use Rattle.job_spec.specs.Promise.{picks_below, picked}
-use Rattle.job_spec.specs.Seen.{Seen, see, see_all, nothing_seen, is_marked, is_begun}
-use Rattle.job_facts.specs.Told.{entry, driver_entry}
 use Rattle.job_traces.specs.Runs.{Stand, Runs, IsOpening}
 
 -- the end that is due with these sets, where no request wore out; of a read that wore out that not all were read

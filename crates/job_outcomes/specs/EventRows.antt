@@ -1,10 +1,6 @@
 -- Entries whose events never fall, cut before an event and behind one.
 use Rattle.std.specs.Prelude.{◌≡◌, ℕ, ◌+◌, ◌≤◌, List, ◌++◌, length}
-use Rattle.s3_types.specs.Store.{Content}
-use Rattle.s3_types.specs.Moment.{after_all, moment, AreHonest, IsHonest}
-use Rattle.s3_types.specs.declared.request.Actor.{Actor}
-use Rattle.s3_types.specs.declared.journal.Entry.{Entry}
-use Rattle.job_spec.specs.Turns.{until, before, since, by_actor, AllBy, IsRising}
+use Rattle.job_facts.specs.Prelude.{Content, after_all, moment, AreHonest, IsHonest, Actor, Entry, until, before, since, by_actor, AllBy, IsRising}
 
 pub record EventRows : Type 0 where
   pub parts : (k : ℕ) (es : List Entry) → IsRising es → before k es ++ since k es ≡ es

@@ -1,20 +1,6 @@
 -- Whose the entries of a run are.
 use Rattle.std.specs.Prelude.{◌≡◌, ℕ, false, List, ◌++◌, Option, Some, None}
-use Rattle.std.specs.List.{filter}
-use Rattle.s3_types.specs.Store.{Content}
-use Rattle.s3_types.specs.declared.request.Actor.TheVariants.{Driver}
-use Rattle.s3_types.specs.declared.journal.Entry.{Entry}
-use Rattle.retries.specs.Retries.{Retried}
-use Rattle.job_model.specs.Attempts.{Who, actor_of}
-use Rattle.job_model.specs.JobScript.{Script}
-use Rattle.job_model.specs.Known.{Known}
-use Rattle.job_model.specs.declared.events.Op.{Op}
-use Rattle.job_protocol.specs.Setup.{Setup}
-use Rattle.job_protocol.specs.JobCommits.{Commit}
-use Rattle.job_protocol.specs.Operations.{Setting, Operation, TheSetup, TheCommit, start_of}
-use Rattle.job_spec.specs.OperationEnds.{WasPublished}
-use Rattle.job_spec.specs.Seen.{is_begun}
-use Rattle.job_spec.specs.Turns.{by_actor, until_last, AllBy, AllUpTo, own}
+use Rattle.job_facts.specs.Prelude.{filter, Content, Driver, Entry, Retried, Who, actor_of, Script, Known, Op, Setup, Commit, Setting, Operation, TheSetup, TheCommit, start_of, WasPublished, is_begun, by_actor, until_last, AllBy, AllUpTo, own}
 use Rattle.job_traces.specs.Runs.{Stand, Runs, is_done}
 
 pub record RunEntries : Type 0 where

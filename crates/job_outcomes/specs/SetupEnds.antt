@@ -1,29 +1,8 @@
 -- How the driver's set-up ends, by its entries alone: by what its pages listed, and, where nobody else sends between them, by what stood as it began.
 use Rattle.std.specs.Prelude.{◌≡◌, ℕ, true, List, [], ◌∷◌, ◌++◌, Option, Some, None}
-use Rattle.s3_types.specs.Store.{Scene}
-use Rattle.s3_types.specs.Moment.{AreHonest}
-use Rattle.s3_types.specs.declared.request.Actor.{Actor}
-use Rattle.s3_types.specs.declared.request.Request.{Request}
-use Rattle.s3_types.specs.declared.request.Request.TheVariants.{ListPage}
-use Rattle.s3_types.specs.declared.reply.Reply.{Reply}
-use Rattle.s3_types.specs.declared.reply.Reply.TheVariants.{Page}
-use Rattle.s3_types.specs.declared.journal.Outcome.{Outcome}
-use Rattle.s3_types.specs.declared.journal.Outcome.TheVariants.{Answered}
-use Rattle.s3_types.specs.declared.journal.Entry.{Entry}
-use Rattle.retries.specs.Operation.{run, Follows}
-use Rattle.retries.specs.Retries.{fresh, step, wants_of}
-use Rattle.retries.specs.Worn.{WornFirst}
-use Rattle.job_model.specs.Legal.{IsLegal}
-use Rattle.job_model.specs.JobScript.{Script}
-use Rattle.job_model.specs.Known.{Known}
+use Rattle.job_facts.specs.Prelude.{Scene, AreHonest, Actor, Request, ListPage, Reply, Page, Outcome, Answered, Entry, run, Follows, fresh, step, wants_of, WornFirst, IsLegal, Script, Known, SetupEnd, checks_all, keys_on, first_shown, setup_start, setup_asks, setup_after, setup_over, Setting, Running, TheSetup, wants, advance, over, SetupIs}
 use Rattle.job_model.specs.declared.ends.OpEnd.TheVariants as op_ends
-use Rattle.job_model.specs.declared.ends.SetupEnd.{SetupEnd}
 use Rattle.job_model.specs.declared.ends.SetupEnd.TheVariants as setups
-use Rattle.job_protocol.specs.Conflicts.{checks_all}
-use Rattle.list_walk.specs.Walks.{keys_on}
-use Rattle.job_protocol.specs.Setup.{first_shown, setup_start, setup_asks, setup_after, setup_over}
-use Rattle.job_protocol.specs.Operations.{Setting, Running, TheSetup, wants, advance, over}
-use Rattle.job_spec.specs.OperationEnds.{SetupIs}
 
 -- a set-up as it begins
 abbrev pub setting_up : Setting → Known → Running

@@ -1,25 +1,9 @@
 -- How an attempt's operations end.
 use Rattle.std.specs.Prelude.{◌≡◌, ℕ, Bool, true, false, List, Option, Some}
-use Rattle.s3_types.specs.Store.{Content}
-use Rattle.s3_types.specs.declared.request.Actor.TheVariants.{Attempt}
-use Rattle.s3_types.specs.declared.request.Request.{Request}
-use Rattle.s3_types.specs.declared.journal.Entry.{Entry}
-use Rattle.retries.specs.Operation.{run, Follows}
-use Rattle.retries.specs.Worn.{WornFirst}
-use Rattle.job_model.specs.Attempts.{Who, actor_of}
-use Rattle.job_model.specs.Legal.{IsLegal}
-use Rattle.job_model.specs.JobScript.{Script}
-use Rattle.job_model.specs.Known.{Known}
-use Rattle.job_model.specs.declared.events.Op.{Op}
+use Rattle.job_facts.specs.Prelude.{Content, Attempt, Request, Entry, run, Follows, WornFirst, Who, actor_of, IsLegal, Script, Known, Op, TaskEnd, TaskCommitOver, Setting, Operation, TheTaskCommit, TheTaskAbort, wants, advance, start_of, over, has_cleaned, TaskIs, WasPublished, until_last}
 use Rattle.job_model.specs.declared.events.Op.TheVariants as ops
-use Rattle.job_model.specs.declared.ends.TaskEnd.{TaskEnd}
 use Rattle.job_model.specs.declared.ends.TaskEnd.TheVariants as tasks
 use Rattle.job_model.specs.declared.ends.OpEnd.TheVariants as op_ends
-use Rattle.job_protocol.specs.TaskCommits.{TaskCommitOver}
-use Rattle.job_protocol.specs.Operations.{Setting, Operation, TheTaskCommit, TheTaskAbort, wants, advance, start_of, over}
-use Rattle.job_spec.specs.Ends.{has_cleaned}
-use Rattle.job_spec.specs.OperationEnds.{TaskIs, WasPublished}
-use Rattle.job_spec.specs.Turns.{until_last}
 use Rattle.job_traces.specs.Runs.{Runs, Stand, IsOpening}
 
 -- the operation is a task's abort

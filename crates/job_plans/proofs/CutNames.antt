@@ -1,11 +1,9 @@
 -- A name with a job's id, by where it is cut, and a path by its last element.
 use Rattle.std.proofs.Common.{◌≡◌, ℕ, ◌==◌, not, Bool, true, false, List, [], ◌∷◌, ◌++◌, refl, sym, ap, ◌∙◌, append_assoc}
-use Rattle.std.specs.List.{list_all, join_with_byte}
-use Rattle.std.proofs.lemmas.Bool.{and_parts, true≢false}
-use Rattle.words.specs.Parts.{parts_of, is_other}
-use Rattle.words.proofs.Counts.{some_part}
-use Rattle.words.proofs.Pieces.{join_parts, parts_append, one_part}
-use Rattle.job_model.specs.Placed.{with_id, with_id_last, unique_name}
+use Rattle.job_protocol.specs.Prelude.{list_all, join_with_byte, with_id, with_id_last, unique_name}
+use Rattle.path_keys.proofs.Common.{and_parts, true≢false, some_part, join_parts, parts_append, one_part}
+use Rattle.job_model.specs.Prelude.{is_other}
+use Rattle.words.specs.Parts.{parts_of}
 
 -- ---- a name
 

@@ -1,14 +1,7 @@
 -- The files of a legal script at the paths where they go: each path stands once.
 use Rattle.std.proofs.Common.{◌≡◌, ℕ, ◌+◌, inl, inr, Bool, true, false, cond, is_some, List, [], ◌∷◌, ◌++◌, length, Some, refl, sym, ap, subst, ◌∙◌, append_assoc}
-use Rattle.std.specs.Map.{lookup}
-use Rattle.std.proofs.lemmas.List.{append-nil, map-append, length-map}
-use Rattle.proof_base.specs.Order.{text_eq}
-use Rattle.s3_types.specs.Names.{is_job_id}
-use Rattle.proof_base.proofs.Members.{text_is, text_true, false_true}
-use Rattle.job_model.specs.Files.{File, has_path}
-use Rattle.job_model.specs.Legal.{IsGiven, AreFiles, bytes_of}
-use Rattle.job_model.specs.Placed.{path_of, placed}
-use Rattle.job_model.specs.Plans.{IsPlaced, ArePlaced}
+use Rattle.job_protocol.specs.Prelude.{lookup, text_eq, is_job_id, File, has_path, IsGiven, AreFiles, bytes_of, path_of, placed, IsPlaced, ArePlaced}
+use Rattle.path_keys.proofs.Common.{append-nil, map-append, length-map, text_is, text_true, false_true}
 use Rattle.job_model.proofs.Unique.{path_same}
 
 -- a file at its path

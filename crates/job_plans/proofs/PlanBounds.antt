@@ -1,18 +1,6 @@
 -- The plans that a legal script gives keep their bounds.
 use Rattle.std.proofs.Common.{◌≡◌, ℕ, zero, suc, ◌<◌, ◌≤◌, List, [], ◌∷◌, ◌++◌, length, slice_get, Option, Some, refl, sym, subst, ap, ◌∙◌, arith}
-use Rattle.std.specs.Map.{lookup}
-use Rattle.std.specs.Option.{unwrap_or, option_map}
-use Rattle.s3_types.specs.declared.limits.TheConstants.{MOST_MINIMUM, MOST_SCRIPT_BYTES}
-use Rattle.job_model.specs.Files.{File}
-use Rattle.job_model.specs.Attempts.{Who, Declared, same_name}
-use Rattle.job_model.specs.Jobs.{Job, Task}
-use Rattle.job_model.specs.Known.{Known, nothing_known}
-use Rattle.job_model.specs.JobScript.{Script}
-use Rattle.job_model.specs.Legal.{IsLegal, AreFiles, AreAttempts, files_in, bytes_of, bytes_in}
-use Rattle.job_model.specs.Placed.{placed}
-use Rattle.job_model.specs.Plans.{IsTask}
-use Rattle.job_protocol.specs.AtWork.{job_of, task_of}
-use Rattle.job_protocol.specs.Outputs.{files}
+use Rattle.job_protocol.specs.Prelude.{lookup, unwrap_or, option_map, MOST_MINIMUM, MOST_SCRIPT_BYTES, File, Who, Declared, same_name, Job, Task, Known, nothing_known, Script, IsLegal, AreFiles, AreAttempts, files_in, bytes_of, bytes_in, placed, IsTask, job_of, task_of, files}
 use Rattle.job_plans.specs.AtPlace.{task_at}
 use Rattle.job_plans.proofs.FilePlans.{are_placed, as_many, as_long}
 

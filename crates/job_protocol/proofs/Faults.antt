@@ -1,38 +1,14 @@
 -- an operation of one request at a time is at fault exactly where a request of it wore out
 use Rattle.std.proofs.Common.{◌≡◌, ℕ, zero, suc, refl, ap, sym, ◌∙◌, Bool, true, false, cond, ◌&&◌, not, List, [], ◌∷◌, Option, Some, None, is_some}
-use Rattle.std.specs.Option.{option_map}
-use Rattle.s3_types.specs.declared.request.Actor.{Actor}
-use Rattle.s3_types.specs.declared.request.Committer.{Committer}
-use Rattle.s3_types.specs.declared.request.Committer.TheVariants.{Magic, Directory, Partitioned}
-use Rattle.s3_types.specs.declared.request.Request.{Request}
-use Rattle.s3_types.specs.declared.request.UploadRef.{UploadRef}
-use Rattle.s3_types.specs.declared.reply.Reply.{Reply}
-use Rattle.s3_types.specs.declared.reply.Reply.TheVariants.{Head, Page, ClusterNames, Refused}
-use Rattle.s3_types.specs.declared.reply.Refusal.TheVariants.{NoSuchKey, NoSuchFile}
-use Rattle.s3_types.specs.declared.journal.Outcome.{Outcome}
-use Rattle.s3_types.specs.declared.journal.Outcome.TheVariants.{Answered, Slow, RequestLost, ReplyLost}
-use Rattle.s3_types.specs.declared.journal.Entry.{Entry}
-use Rattle.retries.specs.Operation.{run, Follows}
-use Rattle.retries.specs.Retries.{Item, WornOut, Retried, step, unanswered_by, is_zero, spent_in}
-use Rattle.retries.specs.Worn.{was_answered}
-use Rattle.job_model.specs.Files.{File}
-use Rattle.job_model.specs.Attempts.{Who}
-use Rattle.job_model.specs.JobScript.{Script}
-use Rattle.job_model.specs.declared.ends.OpEnd.{OpEnd}
+use Rattle.job_protocol.specs.Prelude.{option_map, Actor, Committer, Magic, Directory, Partitioned, Request, UploadRef, Reply, Head, Page, ClusterNames, Refused, NoSuchKey, NoSuchFile, Outcome, Answered, Slow, RequestLost, ReplyLost, Entry, run, Follows, Item, WornOut, Retried, step, unanswered_by, is_zero, spent_in, was_answered, File, Who, Script, OpEnd, files, checks_all, Walked, More, Whole, walked_uploads, Sweep, sweep_hears, all_go, keys_on, Drawn, Uploaded, GoesOn, AllSent, IsGone, upload_hears, Setting, Operation, TheSetup, TheWrite, TheTaskCommit, TheTaskAbort, TheCommit, TheClean, Running, who, tells, over, wants, advance, OneOf, is_serial, spare_of, is_fault}
 use Rattle.job_model.specs.declared.ends.OpEnd.TheVariants as ends
 use Rattle.job_model.specs.declared.ends.SetupEnd.TheVariants as setups
-use Rattle.job_protocol.specs.Outputs.{files}
-use Rattle.job_protocol.specs.Conflicts.{checks_all}
-use Rattle.list_walk.specs.Walks.{Walked, More, Whole, walked, walked_uploads, Sweep, sweep_hears, all_go, keys_on}
-use Rattle.job_model.specs.Known.{Drawn}
-use Rattle.job_protocol.specs.Uploading.{Uploaded, GoesOn, AllSent, IsGone, upload_hears}
+use Rattle.list_walk.specs.Walks.{walked}
 use Rattle.job_protocol.specs.Setup as setup
 use Rattle.job_protocol.specs.Writes as writes
 use Rattle.job_protocol.specs.TaskCommits as tasks
 use Rattle.job_protocol.specs.TaskAborts as aborts
 use Rattle.job_protocol.specs.Cleanups as cleans
-use Rattle.job_protocol.specs.Operations.{Setting, Operation, TheSetup, TheWrite, TheTaskCommit, TheTaskAbort, TheCommit, TheClean, Running, who, tells, over, wants, advance}
-use Rattle.job_protocol.specs.Laws.{OneOf, is_serial, spare_of, is_fault}
 use Rattle.job_protocol.proofs.Tabled.{goes_on}
 use Rattle.job_protocol.proofs.Wearing.{false_true, step_again, stays_serial}
 

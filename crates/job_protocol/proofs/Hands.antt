@@ -1,12 +1,8 @@
 -- one more sending, and what is in hand
 use Rattle.std.proofs.Common.{◌≡◌, ℕ, ◌+◌, ◌<◌, ◌≤◌, refl, ap, sym, subst, ◌∙◌, inl, inr, true, false, cond, arith, List, [], ◌∷◌, ◌++◌, append_assoc}
-use Rattle.s3_types.specs.declared.request.Request.{Request}
-use Rattle.s3_types.specs.declared.journal.Entry.{Entry}
-use Rattle.retries.specs.Same.{same_request}
-use Rattle.retries.specs.Worn.{was_answered, streak, IsWorn, IsFirstWorn}
+use Rattle.job_protocol.specs.Prelude.{Request, Entry, same_request, was_answered, streak, IsWorn, IsFirstWorn, In}
 use Rattle.retries.proofs.SameRequest.{same_is}
 use Rattle.retries.proofs.Misses.{streak_same, streak_other, worn_now, worn_grows}
-use Rattle.job_protocol.specs.LaneTable.{In}
 use Rattle.job_protocol.proofs.Members.{true_or_false, none_some, false_true, in_append, in_left, in_push, in_last}
 
 -- a request that is in hand, and how many of its last sendings got no answer

@@ -1,31 +1,11 @@
 -- the counters of a job's commit agree with its entries, and it ends by its first worn request
 use Rattle.std.proofs.Common.{◌≡◌, ℕ, ◌+◌, ◌<◌, Option, Some, None, refl, ap, sym, subst, ◌∙◌, inl, inr, Bool, true, false, cond, nat_lt, List, [], ◌∷◌, ◌++◌, length, map, append_assoc, append-nil}
-use Rattle.s3_types.specs.declared.request.Committer.{Committer}
-use Rattle.s3_types.specs.declared.request.Committer.TheVariants.{Magic, Directory, Partitioned}
-use Rattle.s3_types.specs.declared.request.Request.{Request}
-use Rattle.s3_types.specs.declared.request.Request.TheVariants.{PutObject, CompleteUpload}
-use Rattle.s3_types.specs.declared.reply.Reply.{Reply}
-use Rattle.s3_types.specs.declared.journal.Outcome.{Outcome}
-use Rattle.s3_types.specs.declared.journal.Outcome.TheVariants.{Answered, Slow, RequestLost, ReplyLost}
-use Rattle.s3_types.specs.declared.journal.Entry.{Entry}
+use Rattle.job_protocol.specs.Prelude.{Committer, Magic, Directory, Partitioned, Request, PutObject, CompleteUpload, Reply, Outcome, Answered, Slow, RequestLost, ReplyLost, Entry, PendingSet, same_request, run, Follows, was_answered, IsFirstWorn, WornFirst, Script, CommitEnd, Stage, same_path, shared_by, first_shared, two_where, writes, wanted_paths, Picks, Sweep, Listing, Deleting, sweep_start, sweep_asks, sweep_hears, mark_text, Turn, fresh_turn, again, follow, dealt, nth, completion, revert, Sets, picks_of, all_commits, set_read, set_request, Commit, Fetching, Replacing, Completing, Marking, Reverting, CommitOver, completing, is_no_magic, replaced, replacing, decided, fetching, fetched, swept, reverting, worn_completion, commit_asks, commit_hears, commit_misses, commit_tells, commit_start, commit_over, stage_of, In, Table, Tabled, RequestsApart, Sound, AllSound, EndIs}
+use Rattle.retries.specs.Prelude.{NoneWorn}
 use Rattle.magic_paths.specs.Layout as layout
-use Rattle.pending_json.specs.declared.records.PendingSet.{PendingSet}
-use Rattle.retries.specs.Same.{same_request}
-use Rattle.retries.specs.Operation.{run, Follows}
-use Rattle.retries.specs.Worn.{was_answered, NoneWorn, IsFirstWorn, WornFirst}
 use Rattle.retries.proofs.SameRequest.{same_is, same_self}
-use Rattle.job_model.specs.JobScript.{Script}
-use Rattle.job_model.specs.declared.ends.CommitEnd.{CommitEnd}
 use Rattle.job_model.specs.declared.ends.CommitEnd.TheVariants as commits
-use Rattle.job_model.specs.declared.ends.Stage.{Stage}
 use Rattle.job_model.specs.declared.ends.Stage.TheVariants as stages
-use Rattle.job_protocol.specs.Outputs.{same_path, shared_by, first_shared, two_where, writes, wanted_paths, Picks}
-use Rattle.list_walk.specs.Walks.{Sweep, Listing, Deleting, sweep_start, sweep_asks, sweep_hears}
-use Rattle.job_protocol.specs.Records.{mark_text}
-use Rattle.job_protocol.specs.Lanes.{Turn, fresh_turn, again, follow, dealt, nth, completion, revert}
-use Rattle.job_protocol.specs.JobCommits.{Sets, picks_of, all_commits, set_read, set_request, Commit, Fetching, Replacing, Completing, Marking, Reverting, CommitOver, completing, is_no_magic, replaced, replacing, decided, fetching, fetched, swept, reverting, worn_completion, commit_asks, commit_hears, commit_misses, commit_tells, commit_start, commit_over, stage_of}
-use Rattle.job_protocol.specs.LaneTable.{In, Table, Tabled, RequestsApart, Sound, AllSound}
-use Rattle.job_protocol.specs.Laws.{EndIs}
 use Rattle.job_protocol.proofs.Members.{true_or_false, some_is, none_some, in_map, map_append}
 use Rattle.job_protocol.proofs.Tables.{lt_or_not, follow_cases, dealt_fresh, numbers_apart, next_apart}
 use Rattle.job_protocol.proofs.Hands.{Held, Counted, Quiet, hand_heard, hand_missed, hand_worn, quiet_at_first, quiet_heard, quiet_counted, worn_first_still}

@@ -1,19 +1,8 @@
 -- the table of lanes is kept by each sending
 use Rattle.std.proofs.Common.{◌≡◌, ℕ, ◌+◌, ◌<◌, refl, inl, inr, Bool, true, false, cond, nat_lt, List, [], ◌∷◌, ◌++◌, length, Option, Some, None}
-use Rattle.s3_types.specs.declared.request.Request.{Request}
-use Rattle.s3_types.specs.declared.reply.Reply.{Reply}
-use Rattle.s3_types.specs.declared.journal.Outcome.{Outcome}
-use Rattle.s3_types.specs.declared.journal.Outcome.TheVariants.{Answered, Slow, RequestLost, ReplyLost}
-use Rattle.pending_json.specs.declared.records.PendingSet.{PendingSet}
-use Rattle.job_model.specs.JobScript.{Script}
-use Rattle.job_model.specs.declared.ends.CommitEnd.{CommitEnd}
+use Rattle.job_protocol.specs.Prelude.{Request, Reply, Outcome, Answered, Slow, RequestLost, ReplyLost, PendingSet, Script, CommitEnd, same_path, Sweep, sweep_hears, Turn, again, follow, dealt, revert, Sets, picks_of, all_commits, set_read, Commit, Fetching, Replacing, Completing, Marking, Reverting, CommitOver, completing, is_no_magic, replaced, replacing, decided, fetching, fetched, swept, reverting, worn_completion, commit_hears, commit_misses, commit_tells, commit_start, Table, Tabled}
 use Rattle.job_model.specs.declared.ends.CommitEnd.TheVariants as ends
 use Rattle.job_model.specs.declared.ends.Stage.TheVariants as stages
-use Rattle.job_protocol.specs.Outputs.{same_path}
-use Rattle.list_walk.specs.Walks.{Sweep, sweep_hears}
-use Rattle.job_protocol.specs.Lanes.{Turn, again, follow, dealt, revert}
-use Rattle.job_protocol.specs.JobCommits.{Sets, picks_of, all_commits, set_read, Commit, Fetching, Replacing, Completing, Marking, Reverting, CommitOver, completing, is_no_magic, replaced, replacing, decided, fetching, fetched, swept, reverting, worn_completion, commit_hears, commit_misses, commit_tells, commit_start}
-use Rattle.job_protocol.specs.LaneTable.{Table, Tabled}
 use Rattle.job_protocol.proofs.Tables.{lt_or_not, table_dealt, table_answered, table_again}
 
 tabled_completing : (w : Script) (sets : Sets) (xs : List Turn) (done : List ℕ) → Table w.lanes w.retries (length (all_commits sets)) xs done → Tabled w (completing sets xs done)

@@ -1,6 +1,6 @@
 -- members, places and appended lists
 use Rattle.std.proofs.Common.{◌≡◌, ℕ, ◌<◌, zero, suc, Option, Some, None, refl, ap, ◌⊎◌, inl, inr, Bool, true, false, arith, List, [], ◌∷◌, ◌++◌, length, slice_get, map}
-use Rattle.job_protocol.specs.LaneTable.{In}
+use Rattle.job_protocol.specs.Prelude.{In}
 
 pub in_append : {X : Type 0} (x : X) (xs ys : List X) → In x (xs ++ ys) → In x xs ⊎ In x ys
 in_append x [] ys h = inr h

@@ -1,23 +1,11 @@
 -- the head of the table is the next upload by the numbers alone
 use Rattle.std.proofs.Common.{◌≡◌, ℕ, ◌+◌, ◌%◌, ◌<◌, ◌≤◌, zero, suc, min, Option, Some, None, refl, ap, sym, subst, ◌∙◌, inl, inr, Bool, true, false, cond, nat_lt, arith, List, [], ◌∷◌, ◌++◌, length, append-nil, mod-lt, mod-eq_of_lt}
+use Rattle.path_keys.proofs.Common.{nat_tests}
+use Rattle.job_protocol.specs.Prelude.{Request, Reply, Entry, Outcome, Answered, Slow, RequestLost, ReplyLost, PendingSet, run, Script, CommitEnd, same_path, Sweep, sweep_hears, Turn, fresh_turn, again, follow, first_turns, dealt, revert, Sets, picks_of, all_commits, set_read, Commit, Fetching, Replacing, Completing, Marking, Reverting, CommitOver, completing, is_no_magic, replaced, replacing, decided, fetching, fetched, swept, reverting, worn_completion, commit_hears, commit_misses, commit_tells, commit_start, In, ahead, Table, Tabled}
 use Rattle.std.proofs.Math.Nat.{add-mod_right}
-use Rattle.std.proofs.lemmas.Bool.Decides.{nat_tests}
-use Rattle.s3_types.specs.declared.request.Request.{Request}
-use Rattle.s3_types.specs.declared.reply.Reply.{Reply}
-use Rattle.s3_types.specs.declared.journal.Entry.{Entry}
-use Rattle.s3_types.specs.declared.journal.Outcome.{Outcome}
-use Rattle.s3_types.specs.declared.journal.Outcome.TheVariants.{Answered, Slow, RequestLost, ReplyLost}
-use Rattle.pending_json.specs.declared.records.PendingSet.{PendingSet}
-use Rattle.retries.specs.Operation.{run}
-use Rattle.job_model.specs.JobScript.{Script}
-use Rattle.job_model.specs.declared.ends.CommitEnd.{CommitEnd}
 use Rattle.job_model.specs.declared.ends.CommitEnd.TheVariants as commits
 use Rattle.job_model.specs.declared.ends.Stage.TheVariants as stages
-use Rattle.job_protocol.specs.Outputs.{same_path}
-use Rattle.list_walk.specs.Walks.{Sweep, sweep_hears}
-use Rattle.job_protocol.specs.Lanes.{Turn, fresh_turn, again, follow, first_turns, dealt, revert}
-use Rattle.job_protocol.specs.JobCommits.{Sets, picks_of, all_commits, set_read, Commit, Fetching, Replacing, Completing, Marking, Reverting, CommitOver, completing, is_no_magic, replaced, replacing, decided, fetching, fetched, swept, reverting, worn_completion, commit_hears, commit_misses, commit_tells, commit_start}
-use Rattle.job_protocol.specs.LaneTable.{In, ahead, After, Table, Tabled}
+use Rattle.job_protocol.specs.LaneTable.{After}
 use Rattle.job_protocol.specs.LaneOrder.{distance, after_lane, IsNext, next_lane, lane_after}
 use Rattle.job_protocol.proofs.Members.{in_push}
 use Rattle.job_protocol.proofs.Tables.{follow_cases, not_done}

@@ -1,20 +1,6 @@
 -- the least path that two picks write, with the two least tasks that do
 use Rattle.std.proofs.Common.{◌≡◌, ℕ, zero, suc, ◌+◌, ◌-◌, ◌<◌, ◌≤◌, ◌⊎◌, inl, inr, refl, ap, sym, subst, ◌∙◌, Bool, true, false, cond, arith, List, [], ◌∷◌, ◌++◌, map, Option, Some, None, is_some}
-use Rattle.std.specs.declared.cmp.Ordering.{Ordering}
-use Rattle.std.specs.declared.cmp.Ordering.TheVariants.{Less, Equal, Greater}
-use Rattle.std.specs.Ordering.{is_lt, ordering_reverse, match_ordering}
-use Rattle.std.specs.Option.{option_map}
-use Rattle.std.specs.Map.{lookup}
-use Rattle.std.specs.BTreeSet.{insert_key}
-use Rattle.std.specs.FinMap.{nat_cmp-IsAntisymmetric, slice_cmp-IsAntisymmetric}
-use Rattle.std.specs.Cmp.Lexicographic.{bytes_decides}
-use Rattle.proof_base.specs.Order.{text_cmp, text_eq, text_total}
-use Rattle.job_model.specs.Files.{File, has_path}
-use Rattle.job_model.specs.JobScript.{Script}
-use Rattle.job_model.specs.declared.ends.CommitEnd.{CommitEnd}
-use Rattle.job_model.specs.declared.ends.CommitEnd.TheVariants.{SamePath}
-use Rattle.job_protocol.specs.Outputs.{Picks, files_picked, wanted_below, wanted, ordered, wanted_paths, writes, first_where, second_where, two_where, shared_by, first_shared, same_path}
-use Rattle.job_protocol.specs.Laws.{IsShared}
+use Rattle.job_protocol.specs.Prelude.{Ordering, Less, Equal, Greater, is_lt, ordering_reverse, match_ordering, option_map, lookup, insert_key, nat_cmp-IsAntisymmetric, slice_cmp-IsAntisymmetric, bytes_decides, text_cmp, text_eq, text_total, File, has_path, Script, CommitEnd, SamePath, Picks, files_picked, wanted_below, wanted, ordered, wanted_paths, writes, first_where, second_where, two_where, shared_by, first_shared, same_path, IsShared}
 
 -- ---- the least number that passes a test
 

@@ -1,9 +1,6 @@
 -- sizes that fit a record are told by it or not
 use Rattle.std.proofs.Common.{◌≡◌, ℕ, true, List, Some, refl}
-use Rattle.s3_types.specs.Tags.{Spelled}
-use Rattle.s3_types.specs.declared.request.Committer.{Committer}
-use Rattle.s3_types.specs.declared.request.Committer.TheVariants.{Magic, Directory, Partitioned}
-use Rattle.pending_json.specs.Pending.{are_sizes}
+use Rattle.job_protocol.specs.Prelude.{Spelled, Committer, Magic, Directory, Partitioned, are_sizes}
 use Rattle.job_protocol.specs.Records.{sizes_by}
 
 pub sizes_told : (c : Committer) (sizes : List ℕ) (tags : List Spelled) (total : ℕ)

@@ -1,22 +1,14 @@
 -- an operation asks a request exactly until it is over, and each actor has its operations
 use Rattle.std.proofs.Common.{◌≡◌, ℕ, refl, Option, Some, None, is_some}
-use Rattle.std.specs.Option.{option_map}
-use Rattle.s3_types.specs.declared.request.Actor.{Actor}
-use Rattle.s3_types.specs.declared.request.Actor.TheVariants.{Driver, Attempt, Shell}
-use Rattle.s3_types.specs.declared.request.Request.{Request}
-use Rattle.job_model.specs.Attempts.{Who}
-use Rattle.job_model.specs.JobScript.{Script}
-use Rattle.job_model.specs.declared.events.Op.{Op}
+use Rattle.job_protocol.specs.Prelude.{option_map, Actor, Driver, Attempt, Shell, Request, Who, Script, Op, Known, Setting, Operation, TheSetup, TheWrite, TheTaskCommit, TheTaskAbort, TheCommit, TheClean, asks, over, start_of, OneOf}
 use Rattle.job_model.specs.declared.events.Op.TheVariants as ops
-use Rattle.job_model.specs.Known.{Known}
 use Rattle.job_protocol.specs.Setup as setup
 use Rattle.job_protocol.specs.Writes as writes
 use Rattle.job_protocol.specs.TaskCommits as tasks
 use Rattle.job_protocol.specs.TaskAborts as aborts
 use Rattle.job_protocol.specs.JobCommits as commits
 use Rattle.job_protocol.specs.Cleanups as cleans
-use Rattle.job_protocol.specs.Operations.{Setting, Operation, TheSetup, TheWrite, TheTaskCommit, TheTaskAbort, TheCommit, TheClean, asks, over, start_of}
-use Rattle.job_protocol.specs.Laws.{OneOf, has_op}
+use Rattle.job_protocol.specs.Laws.{has_op}
 
 mapped : {X Y : Type 0} (f : X → Y) (o : Option Request) (p : Option X) → OneOf o p → OneOf o (option_map f p)
 mapped f (Some r) (Some x) h = h

@@ -1,8 +1,8 @@
 -- the table of lanes as it is dealt, and after each outcome
 use Rattle.std.proofs.Common.{◌≡◌, ℕ, ◌+◌, ◌-◌, ◌<◌, ◌≤◌, zero, suc, min, refl, ap, sym, subst, ◌∙◌, ◌⊎◌, inl, inr, Bool, true, false, cond, nat_lt, arith, List, [], ◌∷◌, ◌++◌, append-nil}
-use Rattle.std.proofs.lemmas.Bool.Decides.{nat_tests}
-use Rattle.job_protocol.specs.Lanes.{Turn, fresh_turn, again, follow, first_turns, dealt}
-use Rattle.job_protocol.specs.LaneTable.{In, ahead, After, Apart, Table}
+use Rattle.path_keys.proofs.Common.{nat_tests}
+use Rattle.job_protocol.specs.Prelude.{Turn, fresh_turn, again, follow, first_turns, dealt, In, ahead, Table}
+use Rattle.job_protocol.specs.LaneTable.{After, Apart}
 use Rattle.job_protocol.proofs.Members.{in_left, in_right, in_push, in_last}
 
 pub lt_or_not : (a b : ℕ) → ((nat_lt a b ≡ true) × (a < b)) ⊎ ((nat_lt a b ≡ false) × (b ≤ a))

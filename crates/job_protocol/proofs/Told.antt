@@ -1,32 +1,13 @@
 -- plans tell what operations ask, and where they go
 use Rattle.std.proofs.Common.{◌≡◌, ℕ, nat_eq, refl, ap, ◌∙◌, true, false, cond, List, [], ◌∷◌, map, Some, arith}
-use Rattle.std.specs.List.{filter, flat_map}
-use Rattle.std.proofs.lemmas.Bool.Decides.{nat_tests}
-use Rattle.proof_base.specs.Order.{text_eq}
-use Rattle.s3_types.specs.declared.request.Committer.{Committer}
-use Rattle.s3_types.specs.declared.request.Committer.TheVariants.{Magic, Directory, Partitioned}
-use Rattle.s3_types.specs.declared.request.Request.TheVariants.{ClusterPut}
-use Rattle.s3_types.specs.declared.reply.Reply.{Reply}
-use Rattle.s3_types.specs.declared.reply.Reply.TheVariants.{Page}
-use Rattle.retries.specs.Retries.{Item, Got, WornOut, OutOfMemory}
-use Rattle.job_model.specs.Files.{File}
-use Rattle.job_model.specs.Attempts.{Who, same_name}
-use Rattle.job_model.specs.Known.{Known}
-use Rattle.job_model.specs.Placed.{placed}
-use Rattle.job_model.specs.JobScript.{Script}
-use Rattle.job_protocol.specs.Outputs.{files, paths_of}
-use Rattle.job_protocol.specs.Conflicts.{checks_partitions, partitions}
-use Rattle.job_protocol.specs.Records.{record_key, set_text}
-use Rattle.list_walk.specs.Walks.{Walked, More, Whole, walked, keys_on}
-use Rattle.job_protocol.specs.Uploading.{Creating, Sending}
-use Rattle.path_keys.specs.Paths.{relative_in}
-use Rattle.s3_types.specs.declared.reply.Reply.TheVariants.{Head}
-use Rattle.job_protocol.specs.Setup.{Setup, Heading, Checking, Clearing, Sweeping, SetupOver, setup_asks, setup_after, if_bucket, headed, checked, checked_by, first_shown, or_next, shown_path}
+use Rattle.job_protocol.specs.Prelude.{filter, flat_map, text_eq, Committer, Magic, Directory, Partitioned, ClusterPut, Reply, Page, Item, Got, WornOut, OutOfMemory, File, Who, same_name, Known, placed, Script, files, paths_of, checks_partitions, partitions, record_key, set_text, Walked, More, Whole, keys_on, Creating, Sending, relative_in, Head, Setup, Heading, Clearing, Sweeping, SetupOver, setup_asks, setup_after, if_bucket, headed, checked, checked_by, first_shown, or_next, shown_path, job_of, task_of, task_script, job_script}
+use Rattle.path_keys.proofs.Common.{nat_tests}
+use Rattle.list_walk.specs.Walks.{walked}
+use Rattle.job_protocol.specs.Setup.{Checking}
 use Rattle.job_protocol.specs.Writes as writes
 use Rattle.job_protocol.specs.TaskCommits as commits
 use Rattle.job_protocol.specs.TaskAborts as aborts
 use Rattle.job_protocol.specs.Cleanups as cleans
-use Rattle.job_protocol.specs.AtWork.{job_of, task_of, task_script, job_script}
 use Rattle.job_protocol.specs.PlanLaws.{TasksTell, JobsTell}
 
 placed_same : (id : List ℕ) (fs : List File) → placed false id fs ≡ fs

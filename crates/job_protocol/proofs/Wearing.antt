@@ -1,33 +1,15 @@
 -- an operation of one request at a time counts its sendings, and is at fault exactly where a request wore out
 use Rattle.std.proofs.Common.{◌≡◌, ℕ, zero, suc, ◌+◌, refl, ap, ◌∙◌, Bool, true, false, List, map, length, Option, Some, None}
-use Rattle.serde_json.specs.Written.{compact_text}
-use Rattle.s3_types.specs.declared.request.Actor.{Actor}
-use Rattle.s3_types.specs.declared.request.Request.{Request}
-use Rattle.s3_types.specs.declared.request.Request.TheVariants.{PutObject, CreateUpload, UploadPart, ClusterPut, ClusterRename}
-use Rattle.s3_types.specs.declared.journal.Outcome.{Outcome}
-use Rattle.s3_types.specs.declared.journal.Outcome.TheVariants.{Answered, Slow, RequestLost, ReplyLost}
-use Rattle.s3_types.specs.declared.journal.Entry.{Entry}
+use Rattle.job_protocol.specs.Prelude.{compact_text, Actor, Request, PutObject, CreateUpload, UploadPart, ClusterPut, ClusterRename, Outcome, Answered, Slow, RequestLost, ReplyLost, Entry, set_tree, Follows, Item, Retried, step, unanswered_by, spent_in, was_answered, WornFirst, File, Who, Script, files, Drawn, Known, learn, learn_part, drawn_in, first_drawn, file_key, record_key, file_record, record_text, Uploading, Creating, Sending, upload_asks, Setting, Operation, TheSetup, TheWrite, TheTaskCommit, TheTaskAbort, TheCommit, TheClean, Running, who, asks, tells, wants, learn_of, advance, is_serial, spare_of}
+use Rattle.retries.specs.Prelude.{Counting}
 use Rattle.magic_paths.specs.Layout as layout
-use Rattle.pending_json.specs.Trees.{set_tree}
-use Rattle.retries.specs.Operation.{Follows}
-use Rattle.retries.specs.Retries.{Item, Retried, step, unanswered_by, Counting, spent_in}
-use Rattle.retries.specs.Worn.{was_answered, WornFirst}
 use Rattle.retries.proofs.First.{spent_first}
-use Rattle.job_model.specs.Files.{File}
-use Rattle.job_model.specs.Attempts.{Who}
-use Rattle.job_model.specs.JobScript.{Script}
-use Rattle.job_protocol.specs.Outputs.{files}
-use Rattle.job_model.specs.Known.{Drawn, Known}
-use Rattle.job_protocol.specs.Knowledge.{learn, learn_upload, learn_part, drawn_in, first_drawn}
-use Rattle.job_protocol.specs.Records.{file_key, record_key, file_record, record_text}
-use Rattle.job_protocol.specs.Uploading.{Uploading, Creating, Sending, upload_asks}
+use Rattle.job_protocol.specs.Knowledge.{learn_upload}
 use Rattle.job_protocol.specs.Setup as setup
 use Rattle.job_protocol.specs.Writes as writes
 use Rattle.job_protocol.specs.TaskCommits as tasks
 use Rattle.job_protocol.specs.TaskAborts as aborts
 use Rattle.job_protocol.specs.Cleanups as cleans
-use Rattle.job_protocol.specs.Operations.{Setting, Operation, TheSetup, TheWrite, TheTaskCommit, TheTaskAbort, TheCommit, TheClean, Running, who, asks, tells, wants, learn_of, advance}
-use Rattle.job_protocol.specs.Laws.{is_serial, spare_of}
 
 pub false_true : {b : Bool} → b ≡ false → b ≡ true → ⊥
 false_true e f = cc

@@ -1,17 +1,8 @@
 -- Operations beside the plans that they are made from: what an actor knows of the job, in place of the job's whole script.
 use Rattle.std.specs.Prelude.{ℕ, false, List, [], ◌∷◌, ◌++◌, map, Option, Some, None}
+use Rattle.job_model.specs.Prelude.{unwrap_or, Request, Outcome, Answered, RequestLost, Path, relative_in, PendingSet, Who, Declared, Known, Job, Task, Script}
+use Rattle.retries.specs.Prelude.{Item, Got, WornOut, OutOfMemory}
 use Rattle.std.specs.FinMap as fin
-use Rattle.std.specs.Option.{unwrap_or}
-use Rattle.s3_types.specs.declared.request.Request.{Request}
-use Rattle.s3_types.specs.declared.journal.Outcome.{Outcome}
-use Rattle.s3_types.specs.declared.journal.Outcome.TheVariants.{Answered, RequestLost}
-use Rattle.path_keys.specs.Paths.{Path, relative_in}
-use Rattle.pending_json.specs.declared.records.PendingSet.{PendingSet}
-use Rattle.retries.specs.Retries.{Item, Got, WornOut, OutOfMemory}
-use Rattle.job_model.specs.Attempts.{Who, Declared}
-use Rattle.job_model.specs.Known.{Known}
-use Rattle.job_model.specs.Jobs.{Job, Task}
-use Rattle.job_model.specs.JobScript.{Script}
 use Rattle.job_protocol.specs.Knowledge.{learn}
 use Rattle.job_protocol.specs.Outputs.{files}
 use Rattle.job_protocol.specs.Setup.{Setup, setup_asks, setup_after}

@@ -1,12 +1,6 @@
 -- What a conflict mode checks and keeps (Hadoop, S3A committers: fs.s3a.committer.staging.conflict-mode).
 use Rattle.std.specs.Prelude.{ℕ, nat_eq, not, Bool, true, false, cond, List, [], ◌∷◌, ◌++◌, Option, Some, None}
-use Rattle.std.specs.List.{list_any}
-use Rattle.s3_types.specs.Pages.{begins}
-use Rattle.s3_types.specs.declared.request.Committer.{Committer}
-use Rattle.s3_types.specs.declared.request.Committer.TheVariants.{Directory, Partitioned}
-use Rattle.s3_types.specs.declared.request.Mode.{Mode}
-use Rattle.s3_types.specs.declared.request.Mode.TheVariants.{Fail, Replace}
-use Rattle.job_model.specs.JobScript.{Script}
+use Rattle.job_model.specs.Prelude.{list_any, begins, Committer, Directory, Partitioned, Mode, Fail, Replace, Script}
 use Rattle.job_protocol.specs.Outputs.{Picks, ordered, wanted_paths}
 
 -- the directory of a path with one more byte in front

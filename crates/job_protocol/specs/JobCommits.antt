@@ -1,25 +1,10 @@
 -- The driver's commit of a job (Hadoop, S3A committer architecture: job commit; fs.s3a.committer.staging.conflict-mode).
 use Rattle.std.specs.Prelude.{◌≡◌, ℕ, ◌+◌, not, nat_lt, Bool, true, false, cond, List, [], ◌∷◌, ◌++◌, map, length, codes, slice_get, Option, Some, None, Result, Ok, Err}
-use Rattle.std.specs.List.{flat_map}
-use Rattle.std.specs.Option.{option_map}
-use Rattle.s3_types.specs.Pages.{begins}
-use Rattle.s3_types.specs.declared.request.Request.{Request}
-use Rattle.s3_types.specs.declared.request.Request.TheVariants.{PutObject, GetObject, ClusterGet, ListPage, DeleteObjects, CompleteUpload}
-use Rattle.s3_types.specs.declared.request.Committer.{Committer}
-use Rattle.s3_types.specs.declared.request.Committer.TheVariants.{Magic, Directory, Partitioned}
-use Rattle.s3_types.specs.declared.request.Mode.{Mode}
-use Rattle.s3_types.specs.declared.request.Mode.TheVariants.{Replace}
-use Rattle.s3_types.specs.declared.reply.Reply.{Reply}
-use Rattle.s3_types.specs.declared.reply.Reply.TheVariants.{Object, ClusterBytes, Completed, Refused}
-use Rattle.s3_types.specs.declared.reply.Refusal.TheVariants.{NoSuchUpload}
-use Rattle.s3_types.specs.declared.journal.Outcome.{Outcome}
-use Rattle.s3_types.specs.declared.journal.Outcome.TheVariants.{Answered, Slow, RequestLost, ReplyLost}
+use Rattle.job_model.specs.Prelude.{flat_map, option_map, begins, Request, PutObject, GetObject, ClusterGet, ListPage, DeleteObjects, CompleteUpload, Committer, Magic, Directory, Partitioned, Mode, Replace, Reply, ClusterBytes, Completed, Refused, NoSuchUpload, Outcome, Answered, Slow, RequestLost, ReplyLost, Pending, PendingSet, Script}
+use Rattle.s3_types.specs.declared.reply.Reply.TheVariants.{Object}
 use Rattle.magic_paths.specs.Layout as layout
-use Rattle.pending_json.specs.Pending.{Pending}
 use Rattle.pending_json.specs.Reading as reading
 use Rattle.pending_json.specs.declared.fault.RecordFault.{RecordFault}
-use Rattle.pending_json.specs.declared.records.PendingSet.{PendingSet}
-use Rattle.job_model.specs.JobScript.{Script}
 use Rattle.job_model.specs.declared.ends.CommitEnd.{CommitEnd}
 use Rattle.job_model.specs.declared.ends.CommitEnd.TheVariants as ends
 use Rattle.job_model.specs.declared.ends.Stage.{Stage}

@@ -1,17 +1,8 @@
 -- What an attempt knows by its own sendings: a fold over its own entries.
 use Rattle.std.specs.Prelude.{ℕ, nat_eq, Bool, true, cond, ◌&&◌, ◌||◌, List, [], ◌∷◌, ◌++◌, map, length}
-use Rattle.proof_base.specs.Order.{text_eq}
-use Rattle.s3_types.specs.Tags.{Spelled}
-use Rattle.s3_types.specs.declared.request.Request.{Request}
-use Rattle.s3_types.specs.declared.request.Request.TheVariants.{CreateUpload, UploadPart, PutObject, ClusterPut, ClusterRename}
-use Rattle.s3_types.specs.declared.reply.Reply.TheVariants.{Upload, Part}
-use Rattle.s3_types.specs.declared.journal.Outcome.{Outcome}
-use Rattle.s3_types.specs.declared.journal.Outcome.TheVariants.{Answered}
-use Rattle.s3_types.specs.declared.journal.Entry.{Entry}
+use Rattle.job_model.specs.Prelude.{text_eq, Spelled, Request, CreateUpload, UploadPart, PutObject, ClusterPut, ClusterRename, Part, Outcome, Answered, Entry, Who, Drawn, Known, nothing_known, Script}
+use Rattle.s3_types.specs.declared.reply.Reply.TheVariants.{Upload}
 use Rattle.magic_paths.specs.Layout as layout
-use Rattle.job_model.specs.Attempts.{Who}
-use Rattle.job_model.specs.Known.{Drawn, Known, nothing_known}
-use Rattle.job_model.specs.JobScript.{Script}
 
 -- an upload with one more part that came back, where it is that upload
 abbrev pub with_part : ℕ → Spelled → ℕ → Drawn → Drawn

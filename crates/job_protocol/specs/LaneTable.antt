@@ -1,8 +1,7 @@
 -- What holds of the table of lanes, by numbers alone.
 use Rattle.std.specs.Prelude.{◌≡◌, ℕ, zero, suc, ◌+◌, ◌<◌, ◌≤◌, ◌⊎◌, true, false, List, [], ◌∷◌, length}
-use Rattle.job_model.specs.JobScript.{Script}
-use Rattle.s3_types.specs.declared.journal.Entry.{Entry}
-use Rattle.retries.specs.Same.{same_request}
+use Rattle.job_model.specs.Prelude.{Script, Entry}
+use Rattle.retries.specs.Prelude.{same_request}
 use Rattle.job_protocol.specs.Lanes.{Turn, nth, completion}
 use Rattle.job_protocol.specs.JobCommits.{Sets, all_commits, Commit, Fetching, Replacing, Completing, Marking, Reverting, CommitOver, commit_tells}
 

@@ -1,9 +1,6 @@
 -- The table of lanes in which a job's uploads are completed.
 use Rattle.std.specs.Prelude.{ℕ, zero, suc, ◌+◌, ◌&&◌, ◌||◌, not, min, nat_eq, nat_lt, Bool, false, cond, List, [], ◌∷◌, ◌++◌, map, None}
-use Rattle.s3_types.specs.Blocks.{named_from}
-use Rattle.s3_types.specs.declared.request.Request.{Request}
-use Rattle.s3_types.specs.declared.request.Request.TheVariants.{DeleteObject, CompleteUpload, AbortUpload}
-use Rattle.pending_json.specs.Pending.{Pending}
+use Rattle.job_model.specs.Prelude.{named_from, Request, DeleteObject, CompleteUpload, AbortUpload, Pending}
 
 -- A lane that has uploads to complete: the number of its least one that is not answered, how many sendings of that one got
 -- no answer, and whether one of these was lost and not merely slow. Its other uploads are its every further number.

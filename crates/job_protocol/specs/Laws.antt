@@ -1,34 +1,23 @@
 -- The laws of this crate.
 use Rattle.std.specs.Prelude.{◌≡◌, ℕ, ◌<◌, Bool, true, false, List, [], Option, Some, None, is_some, length}
-use Rattle.s3_types.specs.declared.request.Actor.{Actor}
-use Rattle.s3_types.specs.declared.request.Actor.TheVariants.{Driver, Attempt}
-use Rattle.s3_types.specs.declared.request.Request.{Request}
-use Rattle.job_model.specs.Attempts.{Who}
+use Rattle.job_model.specs.Prelude.{Actor, Driver, Attempt, Request, Who, Known, Entry, Script, text_cmp, is_lt, Outcome}
+use Rattle.retries.specs.Prelude.{run, Follows, spent_in, WornFirst}
 use Rattle.job_model.specs.declared.events.Op.{Op}
 use Rattle.job_model.specs.declared.events.Op.TheVariants as ops
-use Rattle.job_model.specs.Known.{Known}
 use Rattle.job_protocol.specs.Operations.{Setting, Operation, TheSetup, TheWrite, TheTaskCommit, TheTaskAbort, TheCommit, TheClean, Running, asks, over, wants, advance, start_of}
 use Rattle.job_model.specs.declared.ends.OpEnd.{OpEnd}
 use Rattle.job_model.specs.declared.ends.OpEnd.TheVariants as ends
 use Rattle.job_model.specs.declared.ends.SetupEnd.TheVariants as setups
 use Rattle.job_model.specs.declared.ends.TaskEnd.TheVariants as tasks
 use Rattle.job_model.specs.declared.ends.CleanEnd.TheVariants as cleans
-use Rattle.retries.specs.Operation.{run, Follows}
-use Rattle.retries.specs.Retries.{spent_in}
-use Rattle.retries.specs.Worn.{WornFirst}
-use Rattle.s3_types.specs.declared.journal.Entry.{Entry}
 use Rattle.job_protocol.specs.Outputs.{Picks, writes, same_path}
 use Rattle.job_model.specs.declared.ends.CommitEnd.TheVariants.{SamePath}
 use Rattle.job_model.specs.declared.ends.CommitEnd.TheVariants as commits
 use Rattle.job_model.specs.declared.ends.CommitEnd.{CommitEnd}
-use Rattle.job_model.specs.JobScript.{Script}
-use Rattle.proof_base.specs.Order.{text_cmp}
-use Rattle.std.specs.Ordering.{is_lt}
 use Rattle.job_protocol.specs.LaneTable.{In, Table, Tabled, AllSound, RequestsApart}
 use Rattle.job_protocol.specs.JobCommits.{Commit, commit_start, commit_asks, commit_tells, commit_over, stage_of, Sets, all_commits, Completing}
 use Rattle.job_protocol.specs.Lanes.{Turn, nth}
 use Rattle.job_protocol.specs.LaneOrder.{IsNext, lane_after}
-use Rattle.s3_types.specs.declared.journal.Outcome.{Outcome}
 
 -- a request is asked, or there is an end, and never both
 abbrev pub OneOf : {X : Type 0} → Option Request → Option X → Type 0

@@ -18,3 +18,4 @@ pub mod AtWork
 pub mod Measures
 pub mod PlanLaws
 pub mod Laws
+pub mod Prelude

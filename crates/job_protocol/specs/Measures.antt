@@ -1,13 +1,7 @@
 -- How much an operation has left, among others that send.
 use Rattle.std.specs.Prelude.{◌≡◌, ℕ, ◌+◌, ◌<◌, ◌≤◌, Bool, Option, Some}
-use Rattle.s3_types.specs.Store.{Scene}
-use Rattle.s3_types.specs.Answer.{answer, apply}
-use Rattle.s3_types.specs.declared.request.Request.{Request}
-use Rattle.s3_types.specs.declared.reply.Reply.{Reply}
-use Rattle.s3_types.specs.declared.journal.Outcome.{Outcome}
-use Rattle.s3_types.specs.declared.journal.Outcome.TheVariants.{Answered}
-use Rattle.s3_types.specs.Moment.{effect}
-use Rattle.retries.specs.Retries.{Item, Got, WornOut}
+use Rattle.job_model.specs.Prelude.{Scene, answer, apply, Request, Reply, Outcome, Answered, effect}
+use Rattle.retries.specs.Prelude.{Item, Got, WornOut}
 
 -- what is left of an operation of replies: at most so many answers and worn requests are to come where nobody else sends
 pub record FallsAmong {M : Type 0} (wants : M → Option Request) (after : M → Item → M) (fits : M → Reply → Bool → Type 0) (left : M → Scene → ℕ) (rise : ℕ) : Type 0 where

@@ -1,18 +1,11 @@
 -- All operations of a job's actors, by one table.
 use Rattle.std.specs.Prelude.{ℕ, Option, Some, None}
-use Rattle.std.specs.Option.{option_map}
-use Rattle.s3_types.specs.declared.request.Actor.{Actor}
-use Rattle.s3_types.specs.declared.request.Actor.TheVariants.{Driver, Attempt, Shell}
-use Rattle.s3_types.specs.declared.request.Request.{Request}
-use Rattle.s3_types.specs.declared.journal.Outcome.{Outcome}
-use Rattle.retries.specs.Retries.{Retried, fresh, step}
-use Rattle.job_model.specs.Attempts.{Who}
-use Rattle.job_model.specs.JobScript.{Script}
+use Rattle.job_model.specs.Prelude.{option_map, Actor, Driver, Attempt, Shell, Request, Outcome, Who, Script, Known}
+use Rattle.retries.specs.Prelude.{Retried, fresh, step}
 use Rattle.job_model.specs.declared.events.Op.{Op}
 use Rattle.job_model.specs.declared.events.Op.TheVariants as ops
 use Rattle.job_model.specs.declared.ends.OpEnd.{OpEnd}
 use Rattle.job_model.specs.declared.ends.OpEnd.TheVariants as ends
-use Rattle.job_model.specs.Known.{Known}
 use Rattle.job_protocol.specs.Knowledge.{learn}
 use Rattle.job_protocol.specs.Setup.{Setup, setup_start, setup_asks, setup_after, setup_over}
 use Rattle.job_protocol.specs.Writes.{Write, write_start, write_asks, write_after, write_over}

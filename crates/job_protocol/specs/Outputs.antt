@@ -1,13 +1,7 @@
 -- What the picked attempts of a job are to write below its destination.
 use Rattle.std.specs.Prelude.{ℕ, zero, suc, ◌+◌, ◌-◌, ◌&&◌, not, cond, Bool, true, List, [], ◌∷◌, ◌++◌, map, Option, Some, None, is_some}
-use Rattle.std.specs.BTreeSet.{insert_key}
-use Rattle.std.specs.Map.{lookup}
-use Rattle.std.specs.Option.{unwrap_or, option_map}
-use Rattle.proof_base.specs.Order.{text_cmp, text_eq}
-use Rattle.job_model.specs.Files.{File, has_path}
-use Rattle.job_model.specs.Attempts.{Who}
+use Rattle.job_model.specs.Prelude.{insert_key, lookup, unwrap_or, option_map, text_cmp, text_eq, File, has_path, Who, Script}
 use Rattle.job_model.specs.Placed.{files_of}
-use Rattle.job_model.specs.JobScript.{Script}
 use Rattle.job_model.specs.declared.ends.CommitEnd.{CommitEnd}
 use Rattle.job_model.specs.declared.ends.CommitEnd.TheVariants.{SamePath}
 use Rattle.job_protocol.specs.View.{Shown}

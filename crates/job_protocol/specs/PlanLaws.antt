@@ -1,9 +1,7 @@
 -- Plans tell of a script all that their operations ask.
 use Rattle.std.specs.Prelude.{◌≡◌, ℕ}
-use Rattle.retries.specs.Retries.{Item}
-use Rattle.job_model.specs.Attempts.{Who}
-use Rattle.job_model.specs.Known.{Known}
-use Rattle.job_model.specs.JobScript.{Script}
+use Rattle.retries.specs.Prelude.{Item}
+use Rattle.job_model.specs.Prelude.{Who, Known, Script}
 use Rattle.job_protocol.specs.Outputs.{files}
 use Rattle.job_protocol.specs.Setup.{Setup, setup_asks, setup_after}
 use Rattle.job_protocol.specs.Writes.{Write, write_start, write_asks, write_after}

@@ -1,19 +1,9 @@
 -- The records that a job's actors write (Hadoop, S3A committer architecture: SinglePendingCommit, PendingSet, SuccessData).
 use Rattle.std.specs.Prelude.{ℕ, List, ◌++◌, map, length, codes, Option, Some, None}
-use Rattle.serde_json.specs.Written.{compact_text}
-use Rattle.s3_types.specs.declared.request.Committer.{Committer}
-use Rattle.s3_types.specs.declared.request.Committer.TheVariants.{Magic, Directory, Partitioned}
-use Rattle.path_keys.specs.Paths.{below}
+use Rattle.pending_json.specs.Prelude.{compact_text}
+use Rattle.job_model.specs.Prelude.{Committer, Magic, Directory, Partitioned, below, Pending, pending_tree, set_tree, success_tree, PendingSet, SuccessMark, File, Who, Script, Drawn, Known}
 use Rattle.magic_paths.specs.Layout as layout
-use Rattle.pending_json.specs.Pending.{Pending}
-use Rattle.pending_json.specs.Trees.{pending_tree, set_tree, success_tree}
-use Rattle.pending_json.specs.declared.records.PendingSet.{PendingSet}
-use Rattle.pending_json.specs.declared.records.SuccessMark.{SuccessMark}
-use Rattle.job_model.specs.Files.{File}
-use Rattle.job_model.specs.Attempts.{Who}
-use Rattle.job_model.specs.JobScript.{Script}
 use Rattle.job_protocol.specs.Outputs.{Picks, wanted_paths}
-use Rattle.job_model.specs.Known.{Drawn, Known}
 use Rattle.job_protocol.specs.Knowledge.{drawn_for}
 
 -- ---- the keys of a file: its own, that of its marker and that of its record

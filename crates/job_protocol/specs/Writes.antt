@@ -1,18 +1,10 @@
 -- An attempt's write of its files (Hadoop, S3A committer architecture: the magic committer writes delayed uploads, the staging committers local files).
 use Rattle.std.specs.Prelude.{ℕ, List, [], ◌∷◌, length, Option, Some, None}
-use Rattle.s3_types.specs.declared.request.Request.{Request}
-use Rattle.s3_types.specs.declared.request.Request.TheVariants.{PutObject}
-use Rattle.s3_types.specs.declared.request.Committer.{Committer}
-use Rattle.s3_types.specs.declared.request.Committer.TheVariants.{Magic, Directory, Partitioned}
-use Rattle.s3_types.specs.declared.reply.Reply.{Reply}
-use Rattle.retries.specs.Retries.{Item, Got, WornOut, OutOfMemory}
-use Rattle.job_model.specs.Files.{File}
-use Rattle.job_model.specs.Attempts.{Who}
-use Rattle.job_model.specs.JobScript.{Script}
+use Rattle.job_model.specs.Prelude.{Request, PutObject, Committer, Magic, Directory, Partitioned, Reply, File, Who, Script, Known}
+use Rattle.retries.specs.Prelude.{Item, Got, WornOut, OutOfMemory}
 use Rattle.job_model.specs.declared.ends.TaskEnd.{TaskEnd}
 use Rattle.job_model.specs.declared.ends.TaskEnd.TheVariants as ends
 use Rattle.job_protocol.specs.Outputs.{files}
-use Rattle.job_model.specs.Known.{Known}
 use Rattle.job_protocol.specs.Knowledge.{drawn_last}
 use Rattle.job_protocol.specs.Records.{file_key, marker_key, record_key, record_text}
 use Rattle.job_protocol.specs.Uploading.{Uploading, Creating, Uploaded, GoesOn, AllSent, IsGone, upload_asks, upload_hears}

@@ -1,45 +1,18 @@
 -- The answers that are due to an attempt's machines.
 use Rattle.std.proofs.Common.{◌≡◌, ℕ, suc, ◌+◌, ◌<◌, ◌≤◌, ◌^◌, inl, inr, nat_eq, nat_lt, Bool, true, false, cond, List, [], ◌∷◌, ◌++◌, length, take, Option, Some, None, refl, sym, ap, subst, ◌∙◌, arith}
-use Rattle.s3_types.specs.Store.{Scene, Upload}
+use Rattle.job_facts.specs.Prelude.{Scene, Upload, listed, live, is_part_number, answer, part_answer, GetObject, ListPage, CreateUpload, UploadPart, Page, Part, Refused, PageEntry, BadPartNumber, HasBucket, IsIn, RisesFrom, File, Who, IsLegal, Script, Drawn, Known, files, drawn_in, first_drawn, file_key, record_key, record_text, keys_on, last_of, page_after, Creating, Sending, file_parts, Write, TaskCommit, Looking, Reading, Checking, attempt_prefix, partition_prefix, TaskAbort, write_wants, task_commit_wants, task_abort_wants, is_magic, FitsPage, Told, known, AreCommits, Facts, Begun, FitsWrite, FitsCommit}
+use Rattle.job_spec.proofs.Common.{some_is, nat_false}
 use Rattle.s3_types.specs.Tags.{plain_tag}
-use Rattle.s3_types.specs.Pages.{listed}
-use Rattle.s3_types.specs.Multipart.{live, is_part_number}
-use Rattle.s3_types.specs.Answer.{answer, part_answer}
-use Rattle.s3_types.specs.declared.request.Request.TheVariants.{GetObject, ListPage, CreateUpload, UploadPart}
-use Rattle.s3_types.specs.declared.reply.Reply.TheVariants.{Page, Part, Refused}
-use Rattle.s3_types.specs.declared.reply.PageEntry.{PageEntry}
-use Rattle.s3_types.specs.declared.reply.Refusal.TheVariants.{BadPartNumber}
-use Rattle.store_frame.specs.Held.{HasBucket}
-use Rattle.proof_base.specs.Members.{IsIn, RisesFrom}
-use Rattle.proof_base.proofs.Members.{some_is, nat_false}
 use Rattle.store_frame.proofs.Flat.{page_rises, joins}
-use Rattle.job_model.specs.Files.{File}
-use Rattle.job_model.specs.Attempts.{Who}
-use Rattle.job_model.specs.Legal.{IsLegal}
-use Rattle.job_model.specs.JobScript.{Script}
-use Rattle.job_model.specs.Known.{Drawn, Known}
-use Rattle.job_protocol.specs.Outputs.{files}
-use Rattle.job_protocol.specs.Knowledge.{drawn_in, first_drawn}
-use Rattle.job_protocol.specs.Records.{file_key, record_key, record_text}
-use Rattle.list_walk.specs.Walks.{keys_on, last_of, page_after}
 use Rattle.list_walk.specs.Walks as walks
-use Rattle.job_protocol.specs.Uploading.{Creating, Sending, file_parts}
 use Rattle.job_protocol.specs.Writes as writes
-use Rattle.job_protocol.specs.Writes.{Write}
 use Rattle.job_protocol.specs.TaskCommits as commits
-use Rattle.job_protocol.specs.TaskCommits.{TaskCommit, Looking, Reading, Checking, attempt_prefix, partition_prefix}
-use Rattle.job_protocol.specs.TaskAborts.{TaskAbort, Sweeping}
-use Rattle.job_protocol.specs.AtWork.{write_wants, task_commit_wants, task_abort_wants}
-use Rattle.job_spec.specs.Seen.{is_magic}
-use Rattle.list_walk.specs.Fitting.{FitsPage}
+use Rattle.job_protocol.specs.TaskAborts.{Sweeping}
 use Rattle.task_requests.specs.Writing.{is_new, FitsCreate, FitsPart, write_fits}
 use Rattle.task_requests.specs.Publishing.{IsPending, FitsRecord}
 use Rattle.task_machines.specs.Commits.{FitsListing, commit_fits}
 use Rattle.task_machines.specs.Aborts as undoing
 use Rattle.task_machines.specs.Aborts.{abort_fits}
-use Rattle.job_facts.specs.Told.{Told, known}
-use Rattle.job_facts.specs.Facts.{AreCommits, Facts}
-use Rattle.job_facts.specs.Fits.{Begun, FitsWrite, FitsCommit}
 use Rattle.job_facts.proofs.Cut.{parts_few}
 use Rattle.job_facts.proofs.Emptying.{last_so}
 use Rattle.job_facts.proofs.Legible.{plain_so, drawn_is, legal_record, written_sizes}

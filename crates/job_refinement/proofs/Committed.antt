@@ -1,33 +1,8 @@
 -- How far the driver's commit has come is kept, whoever sends.
 use Rattle.std.proofs.Common.{◌≡◌, ℕ, ◌<◌, ◌≤◌, ◌^◌, ◌⊎◌, inl, inr, nat_lt, ◌||◌, Bool, true, false, cond, List, [], ◌∷◌, Option, Some, None, refl, sym, ap, subst, ◌∙◌, arith}
-use Rattle.std.proofs.lemmas.Bool.Decides.{nat_tests}
-use Rattle.s3_types.specs.Store.{Scene}
-use Rattle.s3_types.specs.Answer.{answer}
-use Rattle.s3_types.specs.Moment.{effect, IsHonestOutcome}
-use Rattle.s3_types.specs.declared.request.Committer.{Committer}
-use Rattle.s3_types.specs.declared.request.Committer.TheVariants.{Magic}
-use Rattle.s3_types.specs.declared.request.Mode.{Mode}
-use Rattle.s3_types.specs.declared.request.Request.{Request}
-use Rattle.s3_types.specs.declared.journal.Outcome.{Outcome}
-use Rattle.s3_types.specs.declared.journal.Outcome.TheVariants.{Answered}
-use Rattle.proof_base.proofs.Members.{false_true}
-use Rattle.job_model.specs.Attempts.{Who}
-use Rattle.job_model.specs.Legal.{IsLegal}
-use Rattle.job_model.specs.JobScript.{Script}
-use Rattle.job_model.specs.declared.ends.CommitEnd.{CommitEnd}
-use Rattle.job_protocol.specs.Outputs.{same_path}
-use Rattle.job_protocol.specs.Lanes.{Turn, dealt}
-use Rattle.job_protocol.specs.JobCommits.{Commit, Fetching, Replacing, Completing, picks_of, completing, replaced, replacing, decided, commit_start, commit_asks, commit_tells}
-use Rattle.job_protocol.specs.Operations.{Setting, Operation, asks}
-use Rattle.job_protocol.proofs.LaneTables.{tabled_start, tabled_tells}
-use Rattle.job_spec.specs.Seen.{Seen, see, is_begun, is_magic}
-use Rattle.job_facts.specs.Told.{Told, known, tell, entry, driver_entry, strange_entry}
-use Rattle.job_facts.specs.Foreign.{IsForeign}
-use Rattle.job_facts.specs.Facts.{IsAttempt, Hold}
-use Rattle.job_facts.specs.Fits.{Fits}
-use Rattle.job_facts.specs.Filed.{Gone}
-use Rattle.job_facts.specs.FiledLaws.{Commits}
-use Rattle.job_facts.specs.Turning.{NoneEnded, Turned, Turns}
+use Rattle.job_spec.proofs.Common.{nat_tests, false_true, tabled_start, tabled_tells}
+use Rattle.job_facts.specs.Prelude.{Scene, answer, effect, IsHonestOutcome, Committer, Magic, Mode, Request, Outcome, Answered, Who, IsLegal, Script, CommitEnd, same_path, Turn, dealt, Commit, Fetching, Replacing, Completing, picks_of, completing, replaced, replacing, decided, commit_start, commit_asks, commit_tells, Setting, Operation, asks, Seen, see, is_begun, is_magic, Told, known, tell, entry, driver_entry, strange_entry, IsForeign, IsAttempt, Hold, Fits, Gone, Commits, NoneEnded, Turned}
+use Rattle.job_facts.specs.Turning.{Turns}
 use Rattle.job_facts.proofs.Acting.{operation_goes}
 use Rattle.job_facts.proofs.Beside.{beside, job_commit_begins}
 use Rattle.job_facts.proofs.Deciding.{d_start, decides_goes}

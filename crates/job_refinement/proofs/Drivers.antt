@@ -1,44 +1,16 @@
 -- The answers that are due to the driver's machines.
 use Rattle.std.proofs.Common.{◌≡◌, ℕ, ◌<◌, ◌≤◌, ◌^◌, ◌⊎◌, inl, inr, true, false, List, length, Option, Some, None, refl, sym, ap, subst, ◌∙◌}
-use Rattle.s3_types.specs.Blocks.{named_from}
-use Rattle.s3_types.specs.Store.{Scene, Upload}
-use Rattle.s3_types.specs.Multipart.{live, with_key, joined}
-use Rattle.s3_types.specs.Answer.{answer, abort_answer, complete_answer}
-use Rattle.s3_types.specs.Moment.{IsHonestOutcome}
+use Rattle.job_facts.specs.Prelude.{named_from, Scene, Upload, live, with_key, joined, answer, complete_answer, IsHonestOutcome, Request, PutObject, Deleted, Refused, NoSuchBucket, Outcome, Answered, Pending, HasBucket, IsLegal, Script, Turn, nth, completion, abort, deletion, Setup, dest_prefix, Clean, Sets, all_commits, set_request, set_read, ok_set, Commit, Fetching, Replacing, Completing, Marking, Reverting, CommitOver, job_of, setup_wants, clean_wants, commit_wants, Seen, magic_prefix, FitsSweep, Told, sets_at, Hold, SetsUp, IsCommit, Gone, Commits, Tabled, Reads}
+use Rattle.job_spec.specs.Prelude.{abort_answer, Stored}
+use Rattle.job_spec.proofs.Common.{some_is, none_some, true_or_false}
+use Rattle.job_protocol.specs.Prelude.{FitsCompletion}
 use Rattle.s3_types.specs.Tags.{plain_tag}
-use Rattle.s3_types.specs.declared.request.Request.{Request}
-use Rattle.s3_types.specs.declared.request.Request.TheVariants.{PutObject}
-use Rattle.s3_types.specs.declared.reply.Reply.TheVariants.{Stored, Deleted, Refused}
-use Rattle.s3_types.specs.declared.reply.Refusal.TheVariants.{NoSuchBucket}
-use Rattle.s3_types.specs.declared.journal.Outcome.{Outcome}
-use Rattle.s3_types.specs.declared.journal.Outcome.TheVariants.{Answered}
-use Rattle.pending_json.specs.Pending.{Pending}
-use Rattle.store_frame.specs.Held.{HasBucket}
-use Rattle.proof_base.proofs.Members.{some_is, none_some, true_or_false}
-use Rattle.job_model.specs.Legal.{IsLegal}
-use Rattle.job_model.specs.JobScript.{Script}
-use Rattle.job_protocol.specs.Lanes.{Turn, nth, completion, abort, deletion}
 use Rattle.job_protocol.specs.Setup as setup
-use Rattle.job_protocol.specs.Setup.{Setup, dest_prefix}
 use Rattle.job_protocol.specs.Cleanups as clean
-use Rattle.job_protocol.specs.Cleanups.{Clean}
-use Rattle.job_protocol.specs.JobCommits.{Sets, all_commits, set_request, set_read, ok_set, Commit, Fetching, Replacing, Completing, Marking, Reverting, CommitOver, FitsCompletion}
-use Rattle.job_protocol.specs.AtWork.{job_of, setup_wants, clean_wants, commit_wants}
-use Rattle.job_spec.specs.Seen.{Seen}
-use Rattle.magic_paths.specs.Layout.{magic_prefix}
 use Rattle.job_setup.specs.Fits as setups
 use Rattle.cleanup.specs.Fits as cleans
-use Rattle.list_walk.specs.Fitting.{FitsSweep}
 use Rattle.commit_laws.specs.Fitting.{SpellsSet, FitsReply, FitsCommit}
-use Rattle.job_facts.specs.Told.{Told}
-use Rattle.job_facts.specs.Stores.{sets_at}
-use Rattle.job_facts.specs.Facts.{Hold}
-use Rattle.job_facts.specs.Emptying.{SetsUp}
-use Rattle.job_facts.specs.Filed.{IsCommit, Gone}
-use Rattle.job_facts.specs.FiledLaws.{Commits}
 use Rattle.job_facts.specs.Turning.{Turns}
-use Rattle.job_protocol.specs.LaneTable.{Tabled}
-use Rattle.job_facts.specs.Driver.{Reads}
 use Rattle.job_facts.proofs.Held.{nth_of, of_sets}
 use Rattle.job_facts.proofs.Replies.{completed, set_reply, bytes_read}
 use Rattle.job_facts.proofs.Shapes.{id_before, answer_is}

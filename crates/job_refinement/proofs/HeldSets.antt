@@ -1,24 +1,8 @@
 -- The sets of attempts of the job are sets of its tasks.
 use Rattle.std.proofs.Common.{◌≡◌, ℕ, zero, suc, inl, inr, Bool, List, [], ◌∷◌, map, slice_get, Some, is_some, refl, sym, ap, subst, ◌∙◌}
-use Rattle.s3_types.specs.declared.request.Committer.{Committer}
-use Rattle.s3_types.specs.declared.request.Committer.TheVariants.{Magic}
-use Rattle.path_keys.specs.Paths.{relative_in}
+use Rattle.job_facts.specs.Prelude.{Committer, Magic, relative_in, Pending, IsIn, File, Who, IsLegal, Script, Drawn, drawn_for, file_key, file_record, files_set, Sets, set_request, job_of, read_script, ApartFiles, AreCommits, knowing, Reads}
+use Rattle.job_spec.proofs.Common.{below_is, some_is, none_some}
 use Rattle.path_keys.proofs.Beneath.{behind_some}
-use Rattle.pending_json.specs.Pending.{Pending}
-use Rattle.magic_paths.proofs.Tails.{below_is}
-use Rattle.proof_base.specs.Members.{IsIn}
-use Rattle.proof_base.proofs.Members.{some_is, none_some}
-use Rattle.job_model.specs.Files.{File}
-use Rattle.job_model.specs.Attempts.{Who}
-use Rattle.job_model.specs.Legal.{IsLegal}
-use Rattle.job_model.specs.JobScript.{Script}
-use Rattle.job_model.specs.Known.{Drawn}
-use Rattle.job_protocol.specs.Knowledge.{drawn_for}
-use Rattle.job_protocol.specs.Records.{file_key, file_record, files_set}
-use Rattle.job_protocol.specs.JobCommits.{Sets, set_request}
-use Rattle.job_protocol.specs.AtWork.{job_of, read_script}
-use Rattle.job_facts.specs.Facts.{ApartFiles, AreCommits, knowing}
-use Rattle.job_facts.specs.Driver.{Reads}
 use Rattle.job_facts.proofs.Legal.{some_dest}
 use Rattle.job_facts.proofs.Placed.{one_key}
 use Rattle.commit_parts.specs.ReadSets.{IsSetOf, AreRead}

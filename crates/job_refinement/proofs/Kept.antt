@@ -1,26 +1,7 @@
 -- What is to be known of operations beside the facts is kept.
 use Rattle.std.proofs.Common.{◌≡◌, ℕ, Bool, false, List, [], ◌∷◌, map, length, Option, Some, None, inr}
-use Rattle.s3_types.specs.declared.request.Committer.{Committer}
-use Rattle.s3_types.specs.declared.request.Committer.TheVariants.{Magic}
-use Rattle.s3_types.specs.declared.reply.Reply.{Reply}
-use Rattle.s3_types.specs.declared.reply.Reply.TheVariants.{Page, Refused}
-use Rattle.s3_types.specs.declared.reply.Refusal.TheVariants.{NoSuchKey, NoSuchFile}
-use Rattle.s3_types.specs.declared.journal.Outcome.{Outcome}
-use Rattle.retries.specs.Retries.{Retried, step}
-use Rattle.proof_base.specs.Members.{IsIn}
-use Rattle.job_model.specs.Files.{File}
-use Rattle.job_model.specs.Attempts.{Who}
-use Rattle.job_model.specs.JobScript.{Script}
-use Rattle.job_protocol.specs.Outputs.{files}
-use Rattle.job_protocol.specs.Records.{record_key}
-use Rattle.job_protocol.specs.Uploading.{Uploaded, AllSent, upload_hears}
-use Rattle.list_walk.specs.Walks.{Walked, More, Whole, walked}
-use Rattle.job_protocol.specs.TaskCommits.{TaskCommit, Looking, Reading, Checking, Uploads, Renaming, to_check, storing, checking, checked, reading, looked, looked_at, read_record, uploaded, renamed, least_missing, in_order, task_commit_start, task_commit_start_by, task_commit_hears, task_commit_after}
-use Rattle.job_protocol.specs.JobCommits.{Commit, Fetching}
-use Rattle.job_spec.specs.Seen.{Seen}
-use Rattle.job_facts.specs.Told.{Told}
-use Rattle.job_facts.specs.Facts.{Hold}
-use Rattle.job_facts.specs.Driver.{FitsJobCommit}
+use Rattle.job_facts.specs.Prelude.{Committer, Magic, Reply, Page, Refused, NoSuchKey, NoSuchFile, Outcome, Retried, step, IsIn, File, Who, Script, files, record_key, Uploaded, AllSent, upload_hears, Walked, More, Whole, TaskCommit, Looking, Reading, Checking, Uploads, Renaming, to_check, storing, checking, checked, reading, looked, looked_at, read_record, uploaded, renamed, least_missing, in_order, task_commit_start, task_commit_start_by, task_commit_hears, task_commit_after, Commit, Fetching, Seen, Told, Hold, FitsJobCommit}
+use Rattle.list_walk.specs.Walks.{walked}
 use Rattle.job_facts.proofs.Going.{step_so}
 use Rattle.job_facts.proofs.Ordered.{order_each}
 use Rattle.job_refinement.specs.Due.{ReadsOwn, SetStands, AllPublished}

@@ -1,14 +1,6 @@
 -- What others send leaves what is told of an attempt.
 use Rattle.std.proofs.Common.{◌≡◌, ℕ, refl, sym, subst, ◌∙◌}
-use Rattle.s3_types.specs.declared.request.Request.{Request}
-use Rattle.s3_types.specs.declared.journal.Outcome.{Outcome}
-use Rattle.job_model.specs.Attempts.{Who}
-use Rattle.job_model.specs.JobScript.{Script}
-use Rattle.job_model.specs.Known.{Known}
-use Rattle.job_protocol.specs.Knowledge.{learn}
-use Rattle.job_protocol.specs.Operations.{Operation, TheWrite, TheTaskCommit, TheTaskAbort}
-use Rattle.job_facts.specs.Told.{Told, known, tell, entry}
-use Rattle.job_facts.specs.Fits.{Fits, FitsWrite, FitsCommit, FitsAbort}
+use Rattle.job_facts.specs.Prelude.{Request, Outcome, Who, Script, Known, learn, Operation, TheWrite, TheTaskCommit, TheTaskAbort, Told, known, tell, entry, Fits, FitsWrite, FitsCommit, FitsAbort}
 use Rattle.job_facts.proofs.Whose.{who_other}
 use Rattle.job_refinement.specs.Due.{IsSameTold}
 use Rattle.job_refinement.specs.Laws.{OthersLeave}

@@ -1,20 +1,11 @@
 -- The answers to requests for pages, where their bucket is there.
 use Rattle.std.proofs.Common.{ℕ, zero, suc, Bool, true, false, cond, List, [], ◌∷◌, map, take, Option, Some, None, refl, sym, subst}
+use Rattle.job_facts.specs.Prelude.{filter, is_lt, text_cmp, Objects, Scene, begins, listed, answer, Object, UploadRef, PageEntry, HasBucket, Script, Sweep, Listing, Deleting, last_of, page_after, uploads_after, sweep_asks, FitsPage, FitsSweep}
+use Rattle.store_frame.specs.Prelude.{entry_of, text_in, is_again, folded_from}
+use Rattle.job_protocol.specs.Prelude.{FitsUploads}
 use Rattle.std.specs.FinMap as fin
-use Rattle.std.specs.List.{filter}
-use Rattle.std.specs.Ordering.{is_lt}
-use Rattle.proof_base.specs.Order.{text_cmp}
-use Rattle.s3_types.specs.Store.{Objects, Scene}
-use Rattle.s3_types.specs.Pages.{begins, entry_of, text_in, is_again, folded_from, listed}
-use Rattle.s3_types.specs.Answer.{answer}
-use Rattle.s3_types.specs.declared.object.Object.{Object}
-use Rattle.s3_types.specs.declared.request.UploadRef.{UploadRef}
-use Rattle.s3_types.specs.declared.reply.PageEntry.{PageEntry}
-use Rattle.store_frame.specs.Held.{HasBucket}
-use Rattle.job_model.specs.JobScript.{Script}
-use Rattle.list_walk.specs.Walks.{Sweep, Listing, Deleting, last_of, page_after, uploads_after, sweep_asks}
 use Rattle.job_facts.proofs.Shapes.{answer_is}
-use Rattle.list_walk.specs.Fitting.{AreKeys, FitsPage, FitsSweep, FitsUploads}
+use Rattle.list_walk.specs.Fitting.{AreKeys}
 use Rattle.list_walk.proofs.Keys.{page_keys}
 
 pub listed_keys : (p l : List ℕ) (m : Objects) → AreKeys (take 1000 (listed p false l m))

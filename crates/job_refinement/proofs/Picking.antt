@@ -1,29 +1,8 @@
 -- The attempts that the driver's commit has picked are those that are seen.
 use Rattle.std.proofs.Common.{◌≡◌, ℕ, zero, suc, ◌+◌, ◌<◌, ◌≤◌, ◌^◌, inl, inr, nat_lt, ◌&&◌, ◌||◌, Bool, true, false, cond, List, [], ◌∷◌, ◌++◌, length, slice_get, Option, Some, None, refl, sym, ap, subst, ◌∙◌, length-append}
-use Rattle.s3_types.specs.Answer.{answer}
-use Rattle.s3_types.specs.Moment.{IsHonestOutcome}
-use Rattle.s3_types.specs.declared.request.Request.{Request}
-use Rattle.s3_types.specs.declared.reply.Reply.{Reply}
-use Rattle.s3_types.specs.declared.journal.Outcome.{Outcome}
-use Rattle.s3_types.specs.declared.journal.Outcome.TheVariants.{Answered, Slow, RequestLost, ReplyLost}
+use Rattle.job_facts.specs.Prelude.{answer, IsHonestOutcome, Request, Reply, Outcome, Answered, Slow, RequestLost, ReplyLost, PendingSet, Who, IsLegal, Script, CommitEnd, same_path, files_set, Sweep, Listing, Deleting, sweep_hears, Turn, again, follow, dealt, revert, Sets, picks_of, all_commits, set_request, set_read, ok_set, Commit, Fetching, Replacing, Completing, Marking, Reverting, CommitOver, is_no_magic, completing, replaced, replacing, decided, fetching, fetched, swept, reverting, worn_completion, commit_start, commit_asks, commit_misses, commit_tells, with_pick, picked_after, Setting, Seen, see, is_begun, is_reading, Told, entry, driver_entry, knowing, Commits}
+use Rattle.job_spec.proofs.Common.{some_is, none_some, same_or_not}
 use Rattle.pending_json.specs.Reading as reading
-use Rattle.pending_json.specs.declared.records.PendingSet.{PendingSet}
-use Rattle.proof_base.proofs.Members.{some_is, none_some, same_or_not}
-use Rattle.job_model.specs.Attempts.{Who}
-use Rattle.job_model.specs.Legal.{IsLegal}
-use Rattle.job_model.specs.JobScript.{Script}
-use Rattle.job_model.specs.declared.ends.CommitEnd.{CommitEnd}
-use Rattle.job_protocol.specs.Outputs.{same_path}
-use Rattle.job_protocol.specs.Records.{files_set}
-use Rattle.list_walk.specs.Walks.{Sweep, Listing, Deleting, sweep_hears}
-use Rattle.job_protocol.specs.Lanes.{Turn, again, follow, dealt, revert}
-use Rattle.job_protocol.specs.JobCommits.{Sets, picks_of, all_commits, set_request, set_read, ok_set, Commit, Fetching, Replacing, Completing, Marking, Reverting, CommitOver, is_no_magic, completing, replaced, replacing, decided, fetching, fetched, swept, reverting, worn_completion, commit_start, commit_asks, commit_misses, commit_tells}
-use Rattle.job_protocol.specs.AtWork.{with_pick, picked_after}
-use Rattle.job_protocol.specs.Operations.{Setting}
-use Rattle.job_spec.specs.Seen.{Seen, see, is_begun, is_reading}
-use Rattle.job_facts.specs.Told.{Told, entry, driver_entry}
-use Rattle.job_facts.specs.Facts.{knowing}
-use Rattle.job_facts.specs.FiledLaws.{Commits}
 use Rattle.job_facts.proofs.Reading.{reads_it, reads_other}
 use Rattle.job_facts.proofs.Replies.{set_reply, bytes_read}
 use Rattle.job_refinement.specs.Due.{SetStands}

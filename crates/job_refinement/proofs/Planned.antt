@@ -1,28 +1,9 @@
 -- Machines that go by plans want what their operations ask by the script, and go where that is told.
 use Rattle.std.proofs.Common.{◌≡◌, ℕ, zero, suc, ◌+◌, Bool, true, [], length, Option, Some, None, refl, ap, ◌∙◌}
-use Rattle.s3_types.specs.declared.request.Request.{Request}
-use Rattle.s3_types.specs.declared.request.Request.TheVariants.{PutObject, CreateUpload, UploadPart, ClusterPut, ClusterRename}
-use Rattle.s3_types.specs.declared.journal.Outcome.{Outcome}
-use Rattle.s3_types.specs.declared.journal.Outcome.TheVariants.{Answered, Slow, RequestLost}
-use Rattle.retries.specs.Retries.{Item, Got, WornOut, OutOfMemory, Retried, fresh, step, unanswered_by, is_zero}
+use Rattle.job_facts.specs.Prelude.{Request, PutObject, CreateUpload, UploadPart, ClusterPut, ClusterRename, Outcome, Answered, Slow, RequestLost, Item, Got, WornOut, OutOfMemory, Retried, fresh, step, unanswered_by, is_zero, File, Who, Script, Known, files, learn, first_drawn, file_key, record_key, record_text, set_text, Uploading, Creating, Sending, upload_asks, setup_after, Write, write_asks, write_after, TaskCommit, Publishing, Uploads, Storing, task_commit_asks, task_commit_after, temporary_path, TaskAbort, task_abort_asks, task_abort_after, clean_after, Attempting, Driving, task_of, task_script, learned, write_wants, write_told, task_commit_wants, task_commit_told, task_abort_wants, task_abort_told, setup_told, clean_told, picked_after, knowing}
+use Rattle.job_spec.proofs.Common.{tasks_tell, jobs_tell}
 use Rattle.magic_paths.specs.Layout as layout
-use Rattle.job_model.specs.Files.{File}
-use Rattle.job_model.specs.Attempts.{Who}
-use Rattle.job_model.specs.JobScript.{Script}
-use Rattle.job_model.specs.Known.{Known}
-use Rattle.job_protocol.specs.Outputs.{files}
-use Rattle.job_protocol.specs.Knowledge.{learn, first_drawn}
-use Rattle.job_protocol.specs.Records.{file_key, record_key, record_text, set_text}
-use Rattle.job_protocol.specs.Uploading.{Uploading, Creating, Sending, upload_asks}
-use Rattle.job_protocol.specs.Setup.{setup_after}
 use Rattle.job_protocol.specs.Writes as writes
-use Rattle.job_protocol.specs.Writes.{Write, write_asks, write_after}
-use Rattle.job_protocol.specs.TaskCommits.{TaskCommit, Publishing, Uploads, Storing, task_commit_asks, task_commit_after, temporary_path}
-use Rattle.job_protocol.specs.TaskAborts.{TaskAbort, task_abort_asks, task_abort_after}
-use Rattle.job_protocol.specs.Cleanups.{clean_after}
-use Rattle.job_protocol.specs.AtWork.{Attempting, Driving, task_of, task_script, learned, write_wants, write_told, task_commit_wants, task_commit_told, task_abort_wants, task_abort_told, setup_told, clean_told, picked_after}
-use Rattle.job_protocol.proofs.Told.{tasks_tell, jobs_tell}
-use Rattle.job_facts.specs.Facts.{knowing}
 use Rattle.job_refinement.specs.Plans.{at_work, planned, driving, driven, committing, worn_if, heard, known_then}
 use Rattle.job_refinement.specs.Laws.{MachinesTell}
 use Rattle.job_refinement.proofs.Telling.{begins_same, asks_same, tells_same}

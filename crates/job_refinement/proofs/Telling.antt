@@ -1,46 +1,11 @@
 -- The script that the sets tell is as good as the job's for the commit that holds them.
 use Rattle.std.proofs.Common.{◌≡◌, ℕ, zero, suc, ◌<◌, ◌≤◌, ◌^◌, ◌⊎◌, inl, inr, nat_lt, Bool, true, false, cond, List, [], ◌∷◌, ◌++◌, map, length, slice_get, Option, Some, None, is_some, refl, sym, ap, subst, ◌∙◌}
-use Rattle.std.specs.Map.{lookup}
-use Rattle.std.specs.Option.{option_map, unwrap_or}
-use Rattle.std.proofs.lemmas.List.{map-append}
-use Rattle.proof_base.specs.Order.{text_eq}
-use Rattle.serde_json.specs.Written.{compact_text}
-use Rattle.s3_types.specs.Store.{Scene}
-use Rattle.s3_types.specs.Answer.{answer}
-use Rattle.s3_types.specs.Moment.{IsHonestOutcome}
-use Rattle.s3_types.specs.declared.request.Committer.{Committer}
-use Rattle.s3_types.specs.declared.request.Committer.TheVariants.{Magic, Directory, Partitioned}
-use Rattle.s3_types.specs.declared.request.Mode.{Mode}
-use Rattle.s3_types.specs.declared.request.Mode.TheVariants.{Append, Fail, Replace}
-use Rattle.s3_types.specs.declared.request.Request.{Request}
-use Rattle.s3_types.specs.declared.request.Request.TheVariants.{PutObject}
-use Rattle.s3_types.specs.declared.reply.Reply.{Reply}
-use Rattle.s3_types.specs.declared.journal.Outcome.{Outcome}
-use Rattle.s3_types.specs.declared.journal.Outcome.TheVariants.{Answered, Slow, RequestLost, ReplyLost}
+use Rattle.job_facts.specs.Prelude.{lookup, option_map, unwrap_or, text_eq, compact_text, Scene, answer, IsHonestOutcome, Committer, Magic, Directory, Partitioned, Mode, Append, Fail, Replace, Request, PutObject, Reply, Outcome, Answered, Slow, RequestLost, ReplyLost, Pending, success_tree, PendingSet, IsIn, File, has_path, Who, IsLegal, Script, Drawn, CommitEnd, Picks, files, files_picked, wanted_below, wanted, wanted_paths, writes, two_where, shared_by, first_shared, same_path, partitions, partition_prefix, file_key, mark_text, files_set, Sweep, Listing, sweep_hears, Sets, picks_of, set_request, set_read, Commit, Fetching, Replacing, Completing, Marking, Reverting, CommitOver, commit_asks, commit_tells, commit_start, is_no_magic, replaced, replacing, decided, fetching, fetched, swept, job_of, read_script, sets_in, sets_after, Told, Facts, knowing, IsHeldSet, Reads, FitsJobCommit}
+use Rattle.job_spec.proofs.Common.{map-append, some_is, none_some, false_true, text_is, text_true, in_map, map_in, in_append, in_front, in_back}
+use Rattle.job_protocol.specs.Prelude.{with_set}
 use Rattle.magic_paths.specs.Layout as layout
-use Rattle.pending_json.specs.Pending.{Pending}
-use Rattle.pending_json.specs.Trees.{success_tree}
-use Rattle.pending_json.specs.declared.records.PendingSet.{PendingSet}
-use Rattle.proof_base.specs.Members.{IsIn}
-use Rattle.proof_base.proofs.Members.{some_is, none_some, false_true, text_is, text_true, in_map, map_in, in_append, in_front, in_back}
-use Rattle.job_model.specs.Files.{File, has_path}
-use Rattle.job_model.specs.Attempts.{Who}
-use Rattle.job_model.specs.Legal.{IsLegal}
-use Rattle.job_model.specs.JobScript.{Script}
-use Rattle.job_model.specs.Known.{Drawn}
-use Rattle.job_model.specs.declared.ends.CommitEnd.{CommitEnd}
-use Rattle.job_protocol.specs.Outputs.{Picks, files, files_picked, wanted_below, wanted, wanted_paths, writes, two_where, shared_by, first_shared, same_path}
-use Rattle.job_protocol.specs.Conflicts.{partitions}
-use Rattle.job_protocol.specs.TaskCommits.{partition_prefix}
-use Rattle.job_protocol.specs.Records.{file_key, mark_text, files_set}
-use Rattle.list_walk.specs.Walks.{Sweep, Listing, sweep_hears}
-use Rattle.job_protocol.specs.JobCommits.{Sets, picks_of, set_request, set_read, Commit, Fetching, Replacing, Completing, Marking, Reverting, CommitOver, commit_asks, commit_tells, commit_start, is_no_magic, replaced, replacing, decided, fetching, fetched, swept}
-use Rattle.job_protocol.specs.AtWork.{job_of, read_script, sets_in, with_set, sets_after}
 use Rattle.commit_parts.specs.Relatives.{relative_of}
 use Rattle.commit_parts.proofs.ReadFiles.{file_of, files_at}
-use Rattle.job_facts.specs.Told.{Told}
-use Rattle.job_facts.specs.Facts.{Facts, knowing}
-use Rattle.job_facts.specs.Driver.{IsHeldSet, Reads, FitsJobCommit}
 use Rattle.job_facts.proofs.Whose.{attempt}
 use Rattle.job_facts.proofs.JobCommitting.{one_more_set}
 use Rattle.job_facts.proofs.Replies.{set_answered}

@@ -1,42 +1,12 @@
 -- The laws of this crate.
 use Rattle.std.specs.Prelude.{◌≡◌, ℕ, ◌<◌, ◌≤◌, ◌^◌, ◌⊎◌, ◌||◌, true, false, List, [], Option, Some, None}
-use Rattle.s3_types.specs.Store.{Scene}
-use Rattle.s3_types.specs.Answer.{answer}
-use Rattle.s3_types.specs.Moment.{IsHonestOutcome}
-use Rattle.s3_types.specs.declared.request.Request.{Request}
-use Rattle.s3_types.specs.declared.journal.Outcome.{Outcome}
-use Rattle.s3_types.specs.declared.journal.Entry.{Entry}
-use Rattle.store_frame.specs.Held.{HasBucket}
-use Rattle.retries.specs.Retries.{Item, Retried, step}
-use Rattle.job_model.specs.Attempts.{Who}
-use Rattle.job_model.specs.Legal.{IsLegal}
-use Rattle.job_model.specs.JobScript.{Script}
-use Rattle.job_model.specs.Known.{Known}
-use Rattle.job_protocol.specs.Setup.{Setup, setup_after}
-use Rattle.job_protocol.specs.Writes.{Write, write_start, write_asks, write_after}
-use Rattle.job_protocol.specs.TaskCommits.{TaskCommit, task_commit_start, task_commit_asks, task_commit_after}
-use Rattle.job_protocol.specs.TaskAborts.{TaskAbort, task_abort_start, task_abort_asks, task_abort_after}
-use Rattle.job_protocol.specs.Cleanups.{Clean, clean_after}
-use Rattle.job_protocol.specs.JobCommits.{Commit, commit_start, commit_asks, commit_tells}
-use Rattle.job_protocol.specs.Operations.{Setting, Operation, TheSetup, TheWrite, TheTaskCommit, TheTaskAbort, TheCommit, TheClean, asks}
-use Rattle.job_protocol.specs.AtWork.{job_of, task_of, task_script, who_of, learned, read_script, sets_in, sets_after, picked_after, write_wants, write_told, task_commit_wants, task_commit_told, task_abort_wants, task_abort_told, setup_wants, setup_told, clean_wants, clean_told, commit_wants, commit_told}
-use Rattle.job_spec.specs.Seen.{Seen, see, is_begun, is_magic}
+use Rattle.job_facts.specs.Prelude.{Scene, answer, IsHonestOutcome, Request, Outcome, Entry, HasBucket, Item, Retried, step, Who, IsLegal, Script, Known, Setup, setup_after, Write, write_start, write_asks, write_after, TaskCommit, task_commit_start, task_commit_asks, task_commit_after, TaskAbort, task_abort_start, task_abort_asks, task_abort_after, Clean, clean_after, Commit, commit_start, commit_asks, commit_tells, Setting, Operation, TheSetup, TheWrite, TheTaskCommit, TheTaskAbort, TheCommit, TheClean, asks, job_of, task_of, task_script, who_of, learned, read_script, sets_in, sets_after, picked_after, write_wants, write_told, task_commit_wants, task_commit_told, task_abort_wants, task_abort_told, setup_wants, setup_told, clean_wants, clean_told, commit_wants, commit_told, Seen, see, is_begun, is_magic, Told, known, tell, entry, driver_entry, strange_entry, IsAttempt, Facts, Hold, IsForeign, Fits, FitsWrite, FitsCommit, FitsJobCommit, SetsUp, HasPublished, NoneEnded, Gone, Commits}
 use Rattle.task_requests.specs.Writing.{write_fits}
 use Rattle.task_machines.specs.Commits.{commit_fits}
 use Rattle.task_machines.specs.Aborts.{abort_fits}
 use Rattle.job_setup.specs.Fits as setups
 use Rattle.cleanup.specs.Fits as cleans
 use Rattle.commit_laws.specs.Fitting as jobs
-use Rattle.job_facts.specs.Told.{Told, known, tell, entry, driver_entry, strange_entry}
-use Rattle.job_facts.specs.Facts.{IsAttempt, Facts, Hold}
-use Rattle.job_facts.specs.Foreign.{IsForeign}
-use Rattle.job_facts.specs.Fits.{Fits, FitsWrite, FitsCommit}
-use Rattle.job_facts.specs.Driver.{FitsJobCommit}
-use Rattle.job_facts.specs.Emptying.{SetsUp}
-use Rattle.job_facts.specs.Standing.{HasPublished}
-use Rattle.job_facts.specs.Turning.{NoneEnded}
-use Rattle.job_facts.specs.Filed.{Gone}
-use Rattle.job_facts.specs.FiledLaws.{Commits}
 use Rattle.job_refinement.specs.Plans.{at_work, planned, driving, driven, committing, heard, known_then}
 use Rattle.job_refinement.specs.Due.{FitsDue, ReadsOwn, SetStands, AllPublished, IsSameTold}
 use Rattle.job_refinement.specs.Picked.{ArePicked, IsEachPicked}

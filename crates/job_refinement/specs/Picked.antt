@@ -1,8 +1,6 @@
 -- The attempts that the driver's commit has picked, beside those that are seen.
 use Rattle.std.specs.Prelude.{◌≡◌, ℕ, ◌<◌, List, length, slice_get}
-use Rattle.job_model.specs.JobScript.{Script}
-use Rattle.job_protocol.specs.JobCommits.{Commit, Fetching, Replacing, Completing, Marking, Reverting, CommitOver}
-use Rattle.job_spec.specs.Seen.{Seen}
+use Rattle.job_facts.specs.Prelude.{Script, Commit, Fetching, Replacing, Completing, Marking, Reverting, CommitOver, Seen}
 
 -- of each task the attempt that was picked, or none, is the one that is seen; they stand by task from 0 on
 abbrev pub ArePicked : Script → Seen → List ℕ → Type 0

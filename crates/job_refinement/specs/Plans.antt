@@ -1,14 +1,6 @@
 -- Where the machines of a job's actors stand, by the script that their plans are of.
 use Rattle.std.specs.Prelude.{ℕ, Bool, true, false, List, Option, Some, None}
-use Rattle.s3_types.specs.declared.request.Request.{Request}
-use Rattle.s3_types.specs.declared.journal.Outcome.{Outcome}
-use Rattle.s3_types.specs.declared.journal.Outcome.TheVariants.{Answered, Slow, RequestLost, ReplyLost}
-use Rattle.retries.specs.Retries.{Item, Got, WornOut, Retried, is_zero}
-use Rattle.job_model.specs.Attempts.{Who}
-use Rattle.job_model.specs.Known.{Known}
-use Rattle.job_model.specs.JobScript.{Script}
-use Rattle.job_protocol.specs.JobCommits.{Commit}
-use Rattle.job_protocol.specs.AtWork.{Attempting, Driving, Committing, job_of, task_of, learned}
+use Rattle.job_facts.specs.Prelude.{Request, Outcome, Answered, Slow, RequestLost, ReplyLost, Item, Got, WornOut, Retried, is_zero, Who, Known, Script, Commit, Attempting, Driving, Committing, job_of, task_of, learned}
 
 -- ---- operations with the plans that the script gives
 

@@ -1,17 +1,10 @@
 -- The lines of a report as they are written one after another.
 use Rattle.std.proofs.Common.{◌≡◌, ℕ, ◌+◌, ◌≤◌, Bool, true, false, cond, List, [], ◌∷◌, ◌++◌, length, drop, refl, sym, ap, subst, ◌∙◌, append_assoc}
 use Rattle.std.specs.Prelude.{is_some, Some}
-use Rattle.std.specs.List.{flat_map, zip, enumerate_from}
-use Rattle.std.specs.Map.{lookup}
-use Rattle.std.proofs.lemmas.List.{drop_all, append-nil}
-use Rattle.std.proofs.lemmas.Bool.{eq-eqb}
-use Rattle.job_model.specs.Attempts.{Who, Declared, same_name, declares}
-use Rattle.job_model.specs.JobScript.{Script}
-use Rattle.job_model.specs.declared.events.Event.{Event}
-use Rattle.job_model.specs.declared.ends.EventEnd.{EventEnd}
-use Rattle.job_model.specs.declared.ends.Pick.{Pick}
-use Rattle.job_spec.specs.States.{past}
-use Rattle.job_spec.specs.ReportText.{event_lines, pick_line, driver_line, attempt_line, closing, report_text}
+use Rattle.job_spec.specs.Prelude.{flat_map, lookup, Who, Declared, same_name, declares, Script, Event, EventEnd, Pick, past, event_lines, pick_line, attempt_line}
+use Rattle.job_model.specs.Prelude.{zip, enumerate_from}
+use Rattle.job_spec.proofs.Common.{drop_all, append-nil, eq-eqb}
+use Rattle.job_spec.specs.ReportText.{driver_line, closing, report_text}
 
 -- nothing is left to write
 pub all_written : {X : Type 0} (f : X → List ℕ) (left : List X) (text all : List ℕ) → text ++ flat_map f left ≡ all → left ≡ [] → text ≡ all

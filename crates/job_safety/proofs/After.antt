@@ -1,24 +1,8 @@
 -- Once the job's commit is over, its driver does no more than abort and clean, and reads no set.
 use Rattle.std.proofs.Common.{◌≡◌, ℕ, inl, inr, true, false, List, [], ◌∷◌, ◌++◌, length, append_assoc, append-nil, Option, Some, None, refl, sym, ap, subst, ◌∙◌}
-use Rattle.s3_types.specs.Store.{Content}
-use Rattle.s3_types.specs.declared.request.Actor.TheVariants.{Driver, Shell}
-use Rattle.s3_types.specs.declared.request.Request.{Request}
-use Rattle.s3_types.specs.declared.journal.Entry.{Entry}
-use Rattle.job_model.specs.Legal.{IsLegal}
-use Rattle.job_model.specs.JobScript.{Script}
-use Rattle.job_model.specs.declared.events.Op.{Op}
+use Rattle.job_steps.specs.Prelude.{Content, Driver, Shell, Request, Entry, IsLegal, Script, Op, Event, Do, Start, Commit, Reverting, CommitOver, Setting, Operation, TheCommit, TheClean, Running, who, asks, tells, wants, is_reading, Past, put, strange_entry, IsOpening, is_just_set, Play, Transition, Refuses, Opens, Sends, Finishes, Closes, Strays, open_running, hear, happen, MayOpen, MaySend, Reachable, operation_of}
+use Rattle.job_spec.proofs.Common.{none_some, false_true}
 use Rattle.job_model.specs.declared.events.Op.TheVariants as ops
-use Rattle.job_model.specs.declared.events.Event.{Event}
-use Rattle.job_model.specs.declared.events.Event.TheVariants.{Do, Start}
-use Rattle.job_protocol.specs.JobCommits.{Commit, Reverting, CommitOver}
-use Rattle.job_protocol.specs.Operations.{Setting, Operation, TheCommit, TheClean, Running, who, asks, tells, wants}
-use Rattle.job_spec.specs.Seen.{is_reading}
-use Rattle.job_spec.specs.States.{Past, put}
-use Rattle.proof_base.proofs.Members.{none_some, false_true}
-use Rattle.job_facts.specs.Told.{strange_entry}
-use Rattle.job_traces.specs.Runs.{IsOpening, is_just_set}
-use Rattle.job_steps.specs.Transitions.{Play, Transition, Refuses, Opens, Sends, Finishes, Closes, Strays, open_running, hear, happen, MayOpen, MaySend, Reachable}
-use Rattle.job_steps.specs.Running.{operation_of}
 use Rattle.job_steps.proofs.Actors.{same_or_not, put_here, put_other}
 use Rattle.job_steps.proofs.Told.{told_all}
 use Rattle.job_steps.proofs.RunningStages.{DriverAt, IsSettingUp, Begins, begins_so, may_setup, may_commit_job}

@@ -1,29 +1,11 @@
 -- How the driver's abort or clean of the job ends in a run.
 use Rattle.std.proofs.Common.{◌≡◌, ℕ, ◌+◌, inl, inr, nat_le, List, [], ◌++◌, length, append-nil, Option, Some, None, refl, sym, ap, subst, ◌∙◌}
-use Rattle.std.proofs.lemmas.List.Elements.{filter-append}
-use Rattle.s3_types.specs.Store.{Content, Scene}
+use Rattle.job_spec.proofs.Common.{filter-append, false_true}
+use Rattle.job_steps.specs.Prelude.{Content, Scene, moment, after_all, AreHonest, Driver, Request, Entry, run, Follows, fresh, WornFirst, IsLegal, Known, CleanEnd, clean_start, Setting, Operation, TheClean, wants, advance, over, Doing, until, before, since, by_actor, is_memory, AllBy, known_then, CleansEnd, Play, Reachable}
+use Rattle.job_facts.specs.Prelude.{CleanIs, Cleaned}
 use Rattle.s3_types.specs.Store as store
-use Rattle.s3_types.specs.Moment.{moment, after_all, AreHonest}
-use Rattle.s3_types.specs.declared.request.Actor.TheVariants.{Driver}
-use Rattle.s3_types.specs.declared.request.Request.{Request}
-use Rattle.s3_types.specs.declared.journal.Entry.{Entry}
-use Rattle.retries.specs.Operation.{run, Follows}
-use Rattle.retries.specs.Retries.{fresh}
-use Rattle.retries.specs.Worn.{WornFirst}
-use Rattle.job_model.specs.Legal.{IsLegal}
-use Rattle.job_model.specs.Known.{Known}
-use Rattle.job_model.specs.declared.ends.CleanEnd.{CleanEnd}
 use Rattle.job_model.specs.declared.ends.CleanEnd.TheVariants as cleans
 use Rattle.job_model.specs.declared.ends.OpEnd.TheVariants as ends
-use Rattle.job_protocol.specs.Cleanups.{clean_start}
-use Rattle.job_protocol.specs.Operations.{Setting, Operation, TheClean, wants, advance, over}
-use Rattle.job_spec.specs.States.{Doing}
-use Rattle.job_spec.specs.Turns.{until, before, since, by_actor, is_memory, AllBy}
-use Rattle.job_spec.specs.Follows.{known_then}
-use Rattle.job_spec.specs.OperationEnds.{CleanIs, Cleaned}
-use Rattle.job_spec.specs.Promise.{CleansEnd}
-use Rattle.proof_base.proofs.Members.{false_true}
-use Rattle.job_steps.specs.Transitions.{Play, Reachable}
 use Rattle.job_steps.proofs.Parts.{from_part}
 use Rattle.job_outcomes.proofs.CleanEnds.{cleans_end}
 use Rattle.job_safety.proofs.Cuts.{by_all, moment_cut, all_by_back, since_later}

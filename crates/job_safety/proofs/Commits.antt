@@ -1,49 +1,16 @@
 -- How the driver's commit ends in a run, and what it leaves.
 use Rattle.std.proofs.Common.{◌≡◌, ℕ, zero, suc, ◌+◌, ◌<◌, ◌≤◌, ◌⊎◌, inl, inr, Bool, true, false, cond, List, [], ◌∷◌, ◌++◌, filter, length, take, Option, Some, None, IsSome, append_assoc, refl, sym, ap, subst, ◌∙◌, arith}
-use Rattle.std.specs.Option.{option_map}
-use Rattle.s3_types.specs.Store.{Content, Scene}
+use Rattle.job_steps.specs.Prelude.{option_map, Content, Scene, moment, after_all, Driver, Reply, Answered, Entry, run, Follows, IsLegal, Script, Known, Event, Do, Start, Op, CommitEnd, Commit, CommitOver, commit_start, commit_asks, commit_tells, commit_over, set_request, set_read, Setting, Operation, Running, start_of, TheSetup, TheCommit, advance, over, see_all, nothing_seen, is_begun, Seen, same_actor, refusal, Doing, missing, first_not, driver_may, commit_event, clean_event, until, by_actor, is_wanting, since, known_then, EndedIn, CommitEnded, CommitServed, AreOwn, seen_until, IsIn, Told, tell_all, nothing_told, HasPublished, IsOpening, is_just_set, Play, MayOpen, Opens, Closes, open_running, happen, Reachable, happens, Ahead, IsRun, operation_of, times}
+use Rattle.job_spec.specs.Prelude.{first_worn, CommitEnds, CommitsEnd}
+use Rattle.job_spec.proofs.Common.{computed, none_sent, at_most_is, at_most_not, some_is, none_some, false_true, in_back, in_filter}
+use Rattle.job_facts.specs.Prelude.{view, Same, Always, is_marked, commit_due, is_untouched, NoDeletionWorn, OnlyOpening}
 use Rattle.s3_types.specs.Store as store
-use Rattle.s3_types.specs.Moment.{moment, after_all}
-use Rattle.s3_types.specs.declared.request.Actor.TheVariants.{Driver}
-use Rattle.s3_types.specs.declared.reply.Reply.{Reply}
-use Rattle.s3_types.specs.declared.journal.Outcome.TheVariants.{Answered}
-use Rattle.s3_types.specs.declared.journal.Entry.{Entry}
-use Rattle.retries.specs.Operation.{run, Follows}
-use Rattle.retries.specs.Worn.{first_worn}
-use Rattle.retries.proofs.First.{computed, none_sent}
-use Rattle.proof_base.proofs.Numbers.{at_most_is, at_most_not}
-use Rattle.job_model.specs.Legal.{IsLegal}
-use Rattle.job_model.specs.JobScript.{Script}
-use Rattle.job_model.specs.Known.{Known}
-use Rattle.job_model.specs.declared.events.Event.{Event}
-use Rattle.job_model.specs.declared.events.Event.TheVariants.{Do, Start}
-use Rattle.job_model.specs.declared.events.Op.{Op}
 use Rattle.job_model.specs.declared.events.Op.TheVariants as ops
-use Rattle.job_model.specs.declared.ends.CommitEnd.{CommitEnd}
 use Rattle.job_model.specs.declared.ends.CommitEnd.TheVariants as commits
 use Rattle.job_model.specs.declared.ends.Stage.TheVariants as stages
 use Rattle.job_model.specs.declared.ends.OpEnd.TheVariants as ends
-use Rattle.job_protocol.specs.View.{view}
-use Rattle.job_protocol.specs.JobCommits.{Commit, CommitOver, commit_start, commit_asks, commit_tells, commit_over, set_request, set_read}
-use Rattle.job_protocol.specs.Operations.{Setting, Operation, Running, start_of, TheSetup, TheCommit, advance, over}
-use Rattle.job_spec.specs.Headline.{Same, Always}
-use Rattle.job_spec.specs.Seen.{see_all, nothing_seen, is_begun, is_marked, Seen}
-use Rattle.job_spec.specs.States.{same_actor, refusal, Doing, missing, first_not, driver_may, commit_event, clean_event}
-use Rattle.job_spec.specs.Turns.{until, by_actor, is_wanting, since}
-use Rattle.job_spec.specs.Follows.{known_then}
-use Rattle.job_spec.specs.Ends.{EndedIn, CommitEnded, commit_due}
-use Rattle.job_spec.specs.OperationEnds.{is_untouched, NoDeletionWorn, OnlyOpening, CommitServed}
-use Rattle.job_spec.specs.Entries.{AreOwn}
-use Rattle.job_spec.specs.Promise.{seen_until, CommitEnds, CommitsEnd}
-use Rattle.proof_base.specs.Members.{IsIn}
-use Rattle.proof_base.proofs.Members.{some_is, none_some, false_true, in_back, in_filter}
-use Rattle.job_facts.specs.Told.{Told, tell_all, nothing_told}
-use Rattle.job_facts.specs.Standing.{HasPublished}
-use Rattle.job_traces.specs.Runs.{IsOpening, is_just_set}
 use Rattle.job_traces.proofs.Entries.{take_all, sees, tells_so, always, reverted_now}
 use Rattle.job_traces.proofs.Changes.{moment_scene}
-use Rattle.job_steps.specs.Transitions.{Play, MayOpen, Opens, Closes, open_running, happen, Reachable, happens}
-use Rattle.job_steps.specs.Running.{Ahead, IsRun, operation_of, times}
 use Rattle.job_steps.proofs.RunningStages.{Begins, begins_so, IsSettingUp, IsTimed, timed_setting, may_commit_job, Begun}
 use Rattle.job_steps.proofs.Actors.{same_is}
 use Rattle.job_steps.proofs.Told.{told_all}

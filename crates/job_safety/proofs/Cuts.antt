@@ -1,15 +1,8 @@
 -- A journal that is cut in two where an event begins or ends: its parts by events and actors, and its moments.
 use Rattle.std.proofs.Common.{◌≡◌, ℕ, ◌+◌, ◌≤◌, nat_le, nat_lt, false, cond, List, [], ◌∷◌, ◌++◌, length, take, append-nil, refl, ap, ◌∙◌, arith}
-use Rattle.std.proofs.lemmas.Bool.Decides.{nat_tests}
-use Rattle.std.proofs.lemmas.List.Elements.{filter-append}
-use Rattle.proof_base.proofs.Numbers.{at_most_so}
-use Rattle.s3_types.specs.Store.{Content, Scene}
+use Rattle.job_spec.proofs.Common.{nat_tests, filter-append, at_most_so}
+use Rattle.job_steps.specs.Prelude.{Content, Scene, effect, after_all, moment, AreHonest, Actor, Entry, same_actor, before, since, by_actor, AllBy, AllFrom, AllUpTo}
 use Rattle.s3_types.specs.Store as store
-use Rattle.s3_types.specs.Moment.{effect, after_all, moment, AreHonest}
-use Rattle.s3_types.specs.declared.request.Actor.{Actor}
-use Rattle.s3_types.specs.declared.journal.Entry.{Entry}
-use Rattle.job_spec.specs.States.{same_actor}
-use Rattle.job_spec.specs.Turns.{before, since, by_actor, AllBy, AllFrom, AllUpTo}
 use Rattle.job_traces.proofs.Entries.{take_front, take_all}
 use Rattle.job_steps.proofs.Parts.{before_all, since_none, up_to_part, from_part}
 use Rattle.job_steps.proofs.Actors.{same_true}

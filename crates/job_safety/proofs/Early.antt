@@ -1,32 +1,10 @@
 -- Until the driver's set-up is over all of the job's entries are the driver's: no attempt has begun before.
 use Rattle.std.proofs.Common.{◌≡◌, ℕ, ◌⊎◌, inl, inr, ◌&&◌, true, false, cond, List, [], ◌∷◌, ◌++◌, length, slice_get, Option, Some, None, refl, sym, ap, subst, ◌∙◌}
-use Rattle.std.proofs.lemmas.List.Elements.{filter-append}
-use Rattle.s3_types.specs.Store.{Content}
-use Rattle.s3_types.specs.declared.request.Actor.{Actor}
-use Rattle.s3_types.specs.declared.request.Actor.TheVariants.{Driver, Attempt, Shell}
-use Rattle.s3_types.specs.declared.journal.Entry.{Entry}
-use Rattle.job_model.specs.Legal.{IsLegal}
-use Rattle.job_model.specs.JobScript.{Script}
-use Rattle.job_model.specs.declared.events.Op.{Op}
+use Rattle.job_spec.proofs.Common.{filter-append, none_some, false_true}
+use Rattle.job_steps.specs.Prelude.{Content, Actor, Driver, Attempt, Shell, Entry, IsLegal, Script, Op, Event, Do, Start, Kill, Restart, SetupEnd, ActorEnd, OpEnd, Done, Busy, ActorStage, ActorState, Setting, Operation, TheCommit, TheClean, Running, over, Past, put, ended, is_new, needs_set, stage_begun, refusal, open_event, is_own, own, is_memory, AllBy, IsOpening, Play, Refuses, Opens, Sends, Finishes, Closes, Strays, open_running, happen, MayOpen, MaySend, MayFinish, Reachable, nothing_happened, happens, Ahead, operation_of}
 use Rattle.job_model.specs.declared.events.Op.TheVariants as ops
-use Rattle.job_model.specs.declared.events.Event.{Event}
-use Rattle.job_model.specs.declared.events.Event.TheVariants.{Do, Start, Kill, Restart}
-use Rattle.job_model.specs.declared.ends.SetupEnd.{SetupEnd}
-use Rattle.job_model.specs.declared.ends.ActorEnd.{ActorEnd}
-use Rattle.job_model.specs.declared.ends.OpEnd.{OpEnd}
 use Rattle.job_model.specs.declared.ends.OpEnd.TheVariants as ends
-use Rattle.job_model.specs.declared.ends.EventEnd.TheVariants.{Done}
-use Rattle.job_model.specs.declared.states.Life.TheVariants.{Busy}
-use Rattle.job_model.specs.declared.states.ActorStage.{ActorStage}
 use Rattle.job_model.specs.declared.states.ActorStage.TheVariants as stage
-use Rattle.job_model.specs.declared.states.ActorState.{ActorState}
-use Rattle.job_protocol.specs.Operations.{Setting, Operation, TheCommit, TheClean, Running, over}
-use Rattle.job_spec.specs.States.{Past, put, ended, is_new, needs_set, stage_begun, refusal, open_event}
-use Rattle.job_spec.specs.Turns.{is_own, own, is_memory, AllBy}
-use Rattle.proof_base.proofs.Members.{none_some, false_true}
-use Rattle.job_traces.specs.Runs.{IsOpening}
-use Rattle.job_steps.specs.Transitions.{Play, Refuses, Opens, Sends, Finishes, Closes, Strays, open_running, happen, MayOpen, MaySend, MayFinish, Reachable, nothing_happened, happens}
-use Rattle.job_steps.specs.Running.{Ahead, operation_of}
 use Rattle.job_steps.proofs.Parts.{get_last, own_own}
 use Rattle.job_steps.proofs.Actors.{same_or_not, put_here, put_other}
 use Rattle.job_steps.proofs.RunningStages.{DriverAt, IsBehind, begins_so, memory_dies, may_end, restarted_new, driver_ends}

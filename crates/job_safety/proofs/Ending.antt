@@ -1,26 +1,8 @@
 -- An operation that ended in an event of a run, at the moment right before that event was over.
 use Rattle.std.proofs.Common.{◌≡◌, ℕ, ◌+◌, ◌≤◌, ◌⊎◌, inl, inr, true, false, List, [], ◌∷◌, ◌++◌, length, take, slice_get, append_assoc, append-nil, Option, Some, None, refl, sym, ap, subst, ◌∙◌, arith, nat_le}
-use Rattle.std.proofs.lemmas.List.{take-append-le}
-use Rattle.std.proofs.lemmas.List.Elements.{filter-append}
-use Rattle.s3_types.specs.Store.{Content}
-use Rattle.s3_types.specs.declared.request.Actor.{Actor}
-use Rattle.s3_types.specs.declared.journal.Entry.{Entry}
-use Rattle.retries.specs.Operation.{run, Follows}
-use Rattle.job_model.specs.JobScript.{Script}
-use Rattle.job_model.specs.declared.events.Event.{Event}
-use Rattle.job_model.specs.declared.ends.OpEnd.{OpEnd}
-use Rattle.job_model.specs.declared.ends.ActorEnd.{ActorEnd}
-use Rattle.job_model.specs.declared.ends.EventEnd.{EventEnd}
-use Rattle.job_model.specs.declared.ends.EventEnd.TheVariants.{Refused}
-use Rattle.job_protocol.specs.Operations.{Setting, Operation, Running, wants, advance, start_of, over}
-use Rattle.job_spec.specs.States.{Past, Doing, past, count, end_ops, open_event, after_event, told, is_refused}
-use Rattle.job_spec.specs.Entries.{AreOwn}
-use Rattle.job_spec.specs.Turns.{is_own, own, until, since, by_actor, is_memory, AllFrom, AllUpTo}
-use Rattle.job_spec.specs.Follows.{known_then}
-use Rattle.job_spec.specs.Ends.{EndedIn}
-use Rattle.proof_base.proofs.Members.{some_is, none_some}
-use Rattle.job_steps.specs.Transitions.{Play, Reachable}
-use Rattle.job_steps.specs.Running.{Ahead}
+use Rattle.job_spec.proofs.Common.{take-append-le, filter-append, some_is, none_some}
+use Rattle.job_steps.specs.Prelude.{Content, Actor, Entry, run, Follows, Script, Event, OpEnd, ActorEnd, EventEnd, Refused, Setting, Operation, Running, wants, advance, start_of, over, Past, Doing, past, end_ops, open_event, after_event, told, is_refused, AreOwn, is_own, own, until, since, by_actor, is_memory, AllFrom, AllUpTo, known_then, EndedIn, Play, Reachable, Ahead}
+use Rattle.job_spec.specs.States.{count}
 use Rattle.job_steps.proofs.Parts.{take_whole, until_all}
 use Rattle.job_steps.proofs.PastMore.{after_is, turns_refused}
 use Rattle.job_steps.proofs.RunningStages.{memory_or}

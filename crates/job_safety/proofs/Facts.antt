@@ -1,11 +1,7 @@
 -- That the facts of one job hold of what happened in its run, from the end of its set-up on.
 use Rattle.std.proofs.Common.{◌≡◌, ℕ, false, sym, ap, subst, ◌∙◌}
-use Rattle.proof_base.proofs.Bools.{not_so}
-use Rattle.s3_types.specs.declared.request.Actor.TheVariants.{Driver}
-use Rattle.job_spec.specs.Seen.{Seen, nothing_seen, see_all}
-use Rattle.job_spec.specs.States.{Past, is_new, past, commit_event, clean_event}
-use Rattle.job_facts.specs.Facts.{Hold}
-use Rattle.job_facts.specs.Told.{Told, nothing_told, tell_all}
+use Rattle.job_spec.proofs.Common.{not_so}
+use Rattle.job_steps.specs.Prelude.{Driver, Seen, nothing_seen, see_all, Past, is_new, past, commit_event, clean_event, Hold, Told, nothing_told, tell_all}
 use Rattle.job_traces.proofs.Entries.{sees, tells_so, late_now}
 use Rattle.job_steps.proofs.Played.{happenings_play}
 use Rattle.job_steps.proofs.Running.{is_run}

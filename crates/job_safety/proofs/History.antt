@@ -1,23 +1,7 @@
 -- What happened, looked back at: how an event came to its end, how an operation began, and what came later.
 use Rattle.std.proofs.Common.{◌≡◌, ℕ, ◌+◌, ◌<◌, ◌≤◌, ◌⊎◌, inl, inr, false, List, [], ◌∷◌, ◌++◌, length, slice_get, append_assoc, append-nil, Some, None, refl, sym, ap, subst, ◌∙◌, arith}
-use Rattle.std.proofs.lemmas.Option.{slice_get_within}
-use Rattle.s3_types.specs.Store.{Content}
-use Rattle.s3_types.specs.declared.request.Actor.{Actor}
-use Rattle.s3_types.specs.declared.request.Request.{Request}
-use Rattle.s3_types.specs.declared.journal.Outcome.{Outcome}
-use Rattle.s3_types.specs.declared.journal.Entry.{Entry}
-use Rattle.proof_base.proofs.Members.{some_is, none_some, false_true}
-use Rattle.job_model.specs.declared.events.Op.{Op}
-use Rattle.job_model.specs.declared.events.Event.{Event}
-use Rattle.job_model.specs.declared.events.Event.TheVariants.{Do, Start}
-use Rattle.job_model.specs.declared.ends.EventEnd.{EventEnd}
-use Rattle.job_model.specs.declared.ends.EventEnd.TheVariants.{Refused}
-use Rattle.job_protocol.specs.Operations.{Setting}
-use Rattle.job_spec.specs.States.{Past, Doing, put, missing, is_refused, open_event}
-use Rattle.job_spec.specs.Turns.{own, AllFrom}
-use Rattle.job_facts.specs.Told.{strange_entry}
-use Rattle.job_steps.specs.Transitions.{Play, Transition, Refuses, Opens, Sends, Finishes, Closes, Strays, happen, MayOpen, MaySend, MayClose, MayStray, Enabled, Reachable, nothing_happened, happens}
-use Rattle.job_steps.specs.Running.{Ahead}
+use Rattle.job_spec.proofs.Common.{slice_get_within, some_is, none_some, false_true}
+use Rattle.job_steps.specs.Prelude.{Content, Actor, Request, Outcome, Entry, Op, Event, Do, Start, EventEnd, Refused, Setting, Past, Doing, put, missing, is_refused, open_event, own, AllFrom, strange_entry, Play, Transition, Refuses, Opens, Sends, Finishes, Closes, Strays, happen, MayOpen, MaySend, MayClose, MayStray, Enabled, Reachable, nothing_happened, happens, Ahead}
 use Rattle.job_steps.proofs.Parts.{get_last, from_last, from_own, own_own}
 use Rattle.job_steps.proofs.Actors.{same_or_not, put_here, put_other}
 use Rattle.job_steps.proofs.Told.{told_all}

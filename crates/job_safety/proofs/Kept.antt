@@ -1,12 +1,6 @@
 -- That all that is promised of a job holds of what happened in its run.
 use Rattle.std.proofs.Common.{◌≡◌, ℕ, sym, ap, subst}
-use Rattle.job_model.specs.JobScript.{Script}
-use Rattle.s3_types.specs.Store.{Content}
-use Rattle.job_protocol.specs.Operations.{Setting}
-use Rattle.job_spec.specs.States.{commit_event}
-use Rattle.job_spec.specs.Follows.{Plays}
-use Rattle.job_spec.specs.Promise.{setting}
-use Rattle.job_traces.specs.Runs.{IsOpening}
+use Rattle.job_steps.specs.Prelude.{Script, Content, Setting, commit_event, Plays, setting, IsOpening}
 use Rattle.job_traces.proofs.Entries.{always}
 use Rattle.job_traces.proofs.Changes.{runs_rename, runs_outside}
 use Rattle.job_steps.proofs.Played.{happenings_play}

@@ -1,31 +1,13 @@
 -- How the driver's set-up ends in a run.
 use Rattle.std.proofs.Common.{◌≡◌, ℕ, inl, inr, true, List, length, Option, Some, None, refl, sym, subst, ◌∙◌}
-use Rattle.s3_types.specs.Store.{Content, Scene}
+use Rattle.job_steps.specs.Prelude.{Content, Scene, moment, after_all, AreHonest, Driver, Request, Entry, run, Follows, Retried, fresh, WornFirst, IsLegal, Known, SetupEnd, setup_start, Setting, Operation, TheSetup, wants, advance, over, Doing, is_new, before, by_actor, AllBy, known_then, AreOwn, IsOpening, Play, Reachable}
+use Rattle.job_facts.specs.Prelude.{Setup, SetupIs}
+use Rattle.job_spec.specs.Prelude.{SetupsEnd}
 use Rattle.s3_types.specs.Store as store
-use Rattle.s3_types.specs.Moment.{moment, after_all, AreHonest}
-use Rattle.s3_types.specs.declared.request.Actor.TheVariants.{Driver}
-use Rattle.s3_types.specs.declared.request.Request.{Request}
-use Rattle.s3_types.specs.declared.journal.Entry.{Entry}
-use Rattle.retries.specs.Operation.{run, Follows}
-use Rattle.retries.specs.Retries.{Retried, fresh}
-use Rattle.retries.specs.Worn.{WornFirst}
-use Rattle.job_model.specs.Legal.{IsLegal}
-use Rattle.job_model.specs.Known.{Known}
-use Rattle.job_model.specs.declared.ends.SetupEnd.{SetupEnd}
 use Rattle.job_model.specs.declared.ends.OpEnd.TheVariants as ends
-use Rattle.job_protocol.specs.Setup.{Setup, setup_start}
-use Rattle.job_protocol.specs.Operations.{Setting, Operation, TheSetup, wants, advance, over}
-use Rattle.job_spec.specs.States.{Doing, is_new}
-use Rattle.job_spec.specs.Turns.{before, by_actor, AllBy}
-use Rattle.job_spec.specs.Follows.{known_then}
-use Rattle.job_spec.specs.OperationEnds.{SetupIs}
-use Rattle.job_spec.specs.Entries.{AreOwn}
-use Rattle.job_spec.specs.Promise.{SetupsEnd}
 use Rattle.job_outcomes.specs.SetupEnds.{keys_listed, SetupListed}
 use Rattle.job_safety.specs.Laws.{SetupsEndAmong}
 use Rattle.job_traces.proofs.EveryRun.{own_front}
-use Rattle.job_traces.specs.Runs.{IsOpening}
-use Rattle.job_steps.specs.Transitions.{Play, Reachable}
 use Rattle.job_outcomes.proofs.SetupEnds.{setups_end}
 use Rattle.job_safety.proofs.Cuts.{all_by_back, by_all}
 use Rattle.job_safety.proofs.Strange.{own_all}

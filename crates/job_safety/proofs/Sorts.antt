@@ -1,35 +1,13 @@
 -- Of which kind an operation is, from its beginning to its end.
 use Rattle.std.proofs.Common.{◌≡◌, ℕ, true, List, [], ◌∷◌, Option, Some, None, refl, sym, ap, ◌∙◌}
-use Rattle.std.specs.Option.{option_map}
-use Rattle.s3_types.specs.declared.request.Actor.{Actor}
-use Rattle.s3_types.specs.declared.request.Actor.TheVariants.{Driver}
-use Rattle.s3_types.specs.declared.journal.Outcome.{Outcome}
-use Rattle.s3_types.specs.declared.journal.Entry.{Entry}
-use Rattle.retries.specs.Operation.{run}
-use Rattle.retries.specs.Retries.{fresh}
-use Rattle.job_model.specs.Attempts.{Who}
-use Rattle.job_model.specs.Known.{Known}
-use Rattle.job_model.specs.declared.events.Op.{Op}
+use Rattle.job_steps.specs.Prelude.{option_map, Actor, Driver, Outcome, Entry, run, fresh, Who, Known, Op, SetupEnd, TaskEnd, CommitEnd, CleanEnd, OpEnd, setup_start, setup_over, write_over, task_commit_over, task_abort_over, commit_start, commit_over, clean_start, clean_over, Setting, Operation, TheSetup, TheWrite, TheTaskCommit, TheTaskAbort, TheCommit, TheClean, Running, who, tells, advance, start_of, over, is_memory}
+use Rattle.job_spec.proofs.Common.{some_is, none_some, false_true}
 use Rattle.job_model.specs.declared.events.Op.TheVariants as ops
-use Rattle.job_model.specs.declared.ends.SetupEnd.{SetupEnd}
 use Rattle.job_model.specs.declared.ends.SetupEnd.TheVariants as setups
-use Rattle.job_model.specs.declared.ends.TaskEnd.{TaskEnd}
 use Rattle.job_model.specs.declared.ends.TaskEnd.TheVariants as tasks
-use Rattle.job_model.specs.declared.ends.CommitEnd.{CommitEnd}
 use Rattle.job_model.specs.declared.ends.CommitEnd.TheVariants as commits
-use Rattle.job_model.specs.declared.ends.CleanEnd.{CleanEnd}
 use Rattle.job_model.specs.declared.ends.CleanEnd.TheVariants as cleans
-use Rattle.job_model.specs.declared.ends.OpEnd.{OpEnd}
 use Rattle.job_model.specs.declared.ends.OpEnd.TheVariants as ends
-use Rattle.job_protocol.specs.Setup.{setup_start, setup_over}
-use Rattle.job_protocol.specs.Writes.{write_over}
-use Rattle.job_protocol.specs.TaskCommits.{task_commit_over}
-use Rattle.job_protocol.specs.TaskAborts.{task_abort_over}
-use Rattle.job_protocol.specs.JobCommits.{commit_start, commit_over}
-use Rattle.job_protocol.specs.Cleanups.{clean_start, clean_over}
-use Rattle.job_protocol.specs.Operations.{Setting, Operation, TheSetup, TheWrite, TheTaskCommit, TheTaskAbort, TheCommit, TheClean, Running, who, tells, advance, start_of, over}
-use Rattle.job_spec.specs.Turns.{is_memory}
-use Rattle.proof_base.proofs.Members.{some_is, none_some, false_true}
 
 pub data Kind : Type 0 where
   OfSetup : Kind

@@ -1,15 +1,7 @@
 -- The journal of a run where an operation began and ended: what was before, what was between, and what the actor itself sent.
 use Rattle.std.proofs.Common.{◌≡◌, ℕ, ◌+◌, ◌≤◌, List, ◌++◌, length, append_assoc, sym, ap, subst, ◌∙◌}
-use Rattle.s3_types.specs.Store.{Content}
+use Rattle.job_steps.specs.Prelude.{Content, moment, after_all, AreHonest, Actor, Entry, OpEnd, Setting, Doing, before, since, by_actor, AllFrom, AllUpTo, Play}
 use Rattle.s3_types.specs.Store as store
-use Rattle.s3_types.specs.Moment.{moment, after_all, AreHonest}
-use Rattle.s3_types.specs.declared.request.Actor.{Actor}
-use Rattle.s3_types.specs.declared.journal.Entry.{Entry}
-use Rattle.job_model.specs.declared.ends.OpEnd.{OpEnd}
-use Rattle.job_protocol.specs.Operations.{Setting}
-use Rattle.job_spec.specs.States.{Doing}
-use Rattle.job_spec.specs.Turns.{before, since, by_actor, AllFrom, AllUpTo}
-use Rattle.job_steps.specs.Transitions.{Play}
 use Rattle.job_steps.proofs.Told.{told_all}
 use Rattle.job_safety.proofs.Cuts.{from_more, before_front, before_cut, since_cut, before_by_front, since_by_cut, moment_cut, after_cut, honest_back}
 use Rattle.job_safety.proofs.History.{Began, began}

@@ -1,17 +1,8 @@
 -- Entries of strangers between the events of a run: no actor of the job sent them, and nothing is told of them.
 use Rattle.std.proofs.Common.{◌≡◌, ℕ, ◌+◌, ◌<◌, ◌≤◌, nat_le, ◌||◌, Bool, true, false, cond, List, [], ◌∷◌, ◌++◌, Option, refl, ap, ◌∙◌, arith}
-use Rattle.std.specs.List.{filter, list_any}
-use Rattle.std.proofs.lemmas.List.Folds.{list_any-append}
-use Rattle.proof_base.proofs.Numbers.{above_so}
-use Rattle.s3_types.specs.declared.request.Actor.{Actor}
-use Rattle.s3_types.specs.declared.request.Actor.TheVariants.{Driver, Shell}
-use Rattle.s3_types.specs.declared.journal.Entry.{Entry}
-use Rattle.proof_base.proofs.Members.{false_true}
-use Rattle.job_model.specs.JobScript.{Script}
-use Rattle.job_spec.specs.States.{same_actor}
-use Rattle.job_spec.specs.Entries.{AreOwn}
-use Rattle.job_spec.specs.Seen.{Seen, see, see_by, see_all}
-use Rattle.job_spec.specs.Turns.{is_own, own, until, by_actor, until_last, AllBy, AllFrom}
+use Rattle.job_steps.specs.Prelude.{filter, Actor, Driver, Shell, Entry, Script, same_actor, AreOwn, Seen, see, see_by, see_all, is_own, own, until, by_actor, until_last, AllBy, AllFrom}
+use Rattle.job_facts.specs.Prelude.{list_any}
+use Rattle.job_spec.proofs.Common.{list_any-append, above_so, false_true}
 use Rattle.job_facts.proofs.Whose.{or_false}
 use Rattle.job_steps.proofs.Actors.{same_false}
 

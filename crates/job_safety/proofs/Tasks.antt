@@ -1,36 +1,12 @@
 -- How attempts' operations end in a run, and that a commit that is done has published.
 use Rattle.std.proofs.Common.{◌≡◌, ℕ, ◌+◌, inl, inr, Bool, true, false, List, [], ◌∷◌, Option, Some, None, refl, sym, ap, subst, ◌∙◌}
-use Rattle.std.specs.Option.{option_map}
-use Rattle.s3_types.specs.Store.{Content}
-use Rattle.s3_types.specs.declared.request.Actor.TheVariants.{Attempt}
-use Rattle.s3_types.specs.declared.request.Request.{Request}
-use Rattle.s3_types.specs.declared.journal.Outcome.{Outcome}
-use Rattle.s3_types.specs.declared.journal.Entry.{Entry}
-use Rattle.retries.specs.Operation.{run}
-use Rattle.retries.specs.Worn.{WornFirst}
-use Rattle.job_model.specs.Attempts.{Who}
-use Rattle.job_model.specs.Legal.{IsLegal}
-use Rattle.job_model.specs.Known.{Known}
-use Rattle.job_model.specs.declared.events.Op.{Op}
+use Rattle.job_steps.specs.Prelude.{option_map, Content, Attempt, Request, Outcome, Entry, run, WornFirst, Who, IsLegal, Known, Op, TaskEnd, TaskCommit, TaskCommitOver, task_commit_over, knows, Setting, Operation, TheSetup, TheTaskCommit, Running, tells, advance, start_of, over, has_cleaned, Doing, commit_event, clean_event, until, by_actor, until_last, known_then, TaskIs, WasPublished, setting, IsOpening, Play, Closes, happen, Reachable, happens, times, IsRun, operation_of}
+use Rattle.job_spec.proofs.Common.{some_is, none_some, false_true}
 use Rattle.job_model.specs.declared.events.Op.TheVariants as ops
-use Rattle.job_model.specs.declared.ends.TaskEnd.{TaskEnd}
 use Rattle.job_model.specs.declared.ends.TaskEnd.TheVariants as tasks
 use Rattle.job_model.specs.declared.ends.OpEnd.TheVariants as ends
-use Rattle.job_protocol.specs.TaskCommits.{TaskCommit, TaskCommitOver, task_commit_over}
-use Rattle.job_protocol.specs.Knowledge.{knows}
-use Rattle.job_protocol.specs.Operations.{Setting, Operation, TheSetup, TheTaskCommit, Running, tells, advance, start_of, over}
-use Rattle.job_spec.specs.Ends.{has_cleaned}
-use Rattle.job_spec.specs.States.{Doing, commit_event, clean_event}
-use Rattle.job_spec.specs.Turns.{until, by_actor, until_last}
-use Rattle.job_spec.specs.Follows.{known_then}
-use Rattle.job_spec.specs.OperationEnds.{TaskIs, WasPublished}
-use Rattle.job_spec.specs.Promise.{setting}
 use Rattle.job_safety.specs.Laws.{TasksEndAmong, PublishesAmong}
-use Rattle.proof_base.proofs.Members.{some_is, none_some, false_true}
-use Rattle.job_traces.specs.Runs.{IsOpening}
 use Rattle.job_facts.proofs.Whose.{attempt}
-use Rattle.job_steps.specs.Transitions.{Play, Closes, happen, Reachable, happens}
-use Rattle.job_steps.specs.Running.{times, IsRun, operation_of}
 use Rattle.job_steps.proofs.Running.{is_run}
 use Rattle.job_outcomes.specs.TaskEnds.{is_abort}
 use Rattle.job_outcomes.proofs.TaskEnds.{task_ends, task_joined}

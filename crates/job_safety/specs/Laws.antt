@@ -1,34 +1,11 @@
 -- That every run keeps what is promised of its job.
 use Rattle.std.specs.Prelude.{◌≡◌, not, true, Bool, None, List, ℕ, ◌+◌, ◌⊎◌, false, Option}
-use Rattle.s3_types.specs.Store.{Content}
-use Rattle.s3_types.specs.declared.request.Actor.TheVariants.{Driver, Attempt}
-use Rattle.s3_types.specs.declared.journal.Entry.{Entry}
-use Rattle.job_model.specs.JobScript.{Script}
-use Rattle.s3_types.specs.declared.request.Request.{Request}
-use Rattle.retries.specs.Worn.{WornFirst}
-use Rattle.job_model.specs.Legal.{IsLegal}
+use Rattle.job_steps.specs.Prelude.{Content, Driver, Attempt, Entry, Script, Request, WornFirst, IsLegal, Pick, SetupEnd, TaskEnd, CommitEnd, EventEnd, Setting, Promised, ArePicked, all_picks, setting, seen_until, CleansEnd, nothing_seen, see_all, is_new, past, commit_event, Doing, clean_event, Hold, until, until_last, by_actor, Plays, known_then, EndedIn, CommitEnded, has_cleaned, TaskIs, WasPublished, CommitServed, IsOpening, nothing_told, tell_all, Play, Reachable}
+use Rattle.job_facts.specs.Prelude.{ZeroRename}
 use Rattle.job_model.specs.declared.events.Op.TheVariants as ops
-use Rattle.job_model.specs.declared.ends.Pick.{Pick}
-use Rattle.job_model.specs.declared.ends.SetupEnd.{SetupEnd}
 use Rattle.job_model.specs.declared.ends.SetupEnd.TheVariants as setups
-use Rattle.job_model.specs.declared.ends.TaskEnd.{TaskEnd}
 use Rattle.job_model.specs.declared.ends.TaskEnd.TheVariants as tasks
-use Rattle.job_model.specs.declared.ends.CommitEnd.{CommitEnd}
-use Rattle.job_model.specs.declared.ends.EventEnd.{EventEnd}
 use Rattle.job_model.specs.declared.ends.OpEnd.TheVariants as ends
-use Rattle.job_protocol.specs.Operations.{Setting}
-use Rattle.job_spec.specs.Entries.{ZeroRename}
-use Rattle.job_spec.specs.Promise.{Promised, ArePicked, all_picks, setting, seen_until, CleansEnd}
-use Rattle.job_spec.specs.Seen.{nothing_seen, see_all}
-use Rattle.job_spec.specs.States.{is_new, past, commit_event, Doing, clean_event}
-use Rattle.job_facts.specs.Facts.{Hold}
-use Rattle.job_spec.specs.Turns.{until, until_last, by_actor}
-use Rattle.job_spec.specs.Follows.{Plays, known_then}
-use Rattle.job_spec.specs.Ends.{EndedIn, CommitEnded, has_cleaned}
-use Rattle.job_spec.specs.OperationEnds.{TaskIs, WasPublished, CommitServed}
-use Rattle.job_traces.specs.Runs.{IsOpening}
-use Rattle.job_facts.specs.Told.{nothing_told, tell_all}
-use Rattle.job_steps.specs.Transitions.{Play, Reachable}
 use Rattle.job_outcomes.specs.SetupEnds.{keys_listed, SetupListed}
 
 -- ---- among strangers that leave the job's own alone

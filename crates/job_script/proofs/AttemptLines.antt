@@ -1,22 +1,11 @@
 -- The lines of attempts and their files: what is printed is read again, and what is read is within bounds.
 use Rattle.std.proofs.Common.{◌≡◌, ℕ, ◌+◌, ◌<◌, ◌≤◌, Bool, true, false, List, [], ◌∷◌, ◌++◌, length, map, Option, Some, None, Ok, refl, sym, ap, subst, ◌∙◌, arith, append_assoc, decimal, lit<}
 use Rattle.std.specs.Prelude.{codes, nat_le, nat_lt, not}
-use Rattle.std.specs.List.{flat_map, AllByRecursion}
-use Rattle.std.specs.Option.{option_or}
-use Rattle.std.proofs.lemmas.Bool.{leb-true, ltb-true, lt-ltb, le-leb}
-use Rattle.std.proofs.lemmas.List.{append-nil, length-append}
-use Rattle.proof_base.specs.Reading.{◌>>=◌, need, check}
-use Rattle.proof_base.proofs.Lists.{one_longer}
-use Rattle.proof_base.proofs.Reading.{parted, needed}
+use Rattle.job_model.specs.Prelude.{flat_map, AllByRecursion, option_or, ◌>>=◌, need, check, two_and_more, actor_text, File, has_path, Declared, declares, last_files, with_file, is_path, is_hidden, IsScriptWord, IsFile, AreFiles, AreAttempts, files_in, bytes_of, bytes_in}
+use Rattle.path_keys.proofs.Common.{leb-true, ltb-true, lt-ltb, le-leb, append-nil, one_longer, parted, needed, number_in-decimal, two_numbers}
+use Rattle.proof_base.proofs.Common.{length-append}
 use Rattle.words.specs.Parts.{parts_of}
-use Rattle.words.specs.Shapes.{two_and_more}
-use Rattle.words.proofs.Round.{number_in-decimal, two_numbers}
 use Rattle.s3_types.specs.declared.request.Actor.TheVariants as actor
-use Rattle.s3_types.specs.Spelling.{actor_text}
-use Rattle.job_model.specs.Files.{File, has_path}
-use Rattle.job_model.specs.Attempts.{Declared, declares, last_files, with_file}
-use Rattle.job_model.specs.Paths.{is_path, is_hidden}
-use Rattle.job_model.specs.Legal.{IsScriptWord, IsFile, AreFiles, AreAttempts, files_in, bytes_of, bytes_in}
 use Rattle.job_model.specs.declared.attempts.AttemptName.{AttemptName}
 use Rattle.job_script.specs.declared.fault.ScriptFault.{ScriptFault}
 use Rattle.job_script.specs.declared.fault.ScriptFault.TheVariants.{BadLine, RepeatedName, BadPath, HiddenPath, TooLarge}

@@ -1,38 +1,25 @@
 -- The text of a destination is read as it again, and what is read as a path.
 use Rattle.std.proofs.Common.{◌≡◌, ◌≢◌, ℕ, ◌<◌, true, false, not, List, [], ◌∷◌, ◌++◌, length, drop, Option, Some, None, Ok, refl, sym, ap, ◌∙◌, arith, append_assoc, subst, true≢false}
 use Rattle.std.specs.Prelude.{nat_eq, codes, nat_le}
-use Rattle.std.specs.List.{list_all, ends_with, starts_with, join_with_byte}
-use Rattle.std.specs.Option.{option_or}
-use Rattle.std.proofs.lemmas.Bool.{and_parts, leb-true}
-use Rattle.std.proofs.lemmas.List.Folds.{list_all-append}
-use Rattle.std.proofs.lemmas.Str.{IsUtf8-append, IsUtf8-nil, IsUtf8-from_is_utf8, is_utf8-from_IsUtf8}
-use Rattle.words.specs.Lines.{without_return}
-use Rattle.words.specs.Parts.{parts_of, is_other}
-use Rattle.std.proofs.lemmas.Bool.Decides.{Decides-eqb}
-use Rattle.std.proofs.lemmas.Slice.Eq.{starts_is, ends_is}
+use Rattle.job_model.specs.Prelude.{list_all, ends_with, starts_with, join_with_byte, option_or, without_return, is_other, is_bare, is_bucket, is_element, trimmed, Path, is_key, path_in, named, bucket_in, first_fault, PathFault, IsDest, IsScriptWord, need, is_dest_key}
+use Rattle.path_keys.proofs.Common.{and_parts, leb-true, list_all-append, IsUtf8-append, IsUtf8-from_is_utf8, is_utf8-from_IsUtf8, Decides-eqb, starts_is, join_parts, not_so, weaker, cond_some, parted, same_ok, needed}
+use Rattle.s3_types.specs.Prelude.{is_name_byte}
+use Rattle.std.proofs.lemmas.Str.{IsUtf8-nil}
+use Rattle.words.specs.Parts.{parts_of}
+use Rattle.std.proofs.lemmas.Slice.Eq.{ends_is}
 use Rattle.words.proofs.Cuts.{no_return}
-use Rattle.words.proofs.Pieces.{join_parts}
 use Rattle.words.proofs.Split.{part_from}
-use Rattle.words.specs.Words.{is_bare}
-use Rattle.s3_types.specs.Names.{is_bucket, is_name_byte, is_element, trimmed}
 use Rattle.s3_types.proofs.Utf8.{bucket_utf8}
-use Rattle.path_keys.specs.Paths.{Path, is_key, path_in, named, bucket_in, key_of, element_fault, first_fault, without_scheme}
-use Rattle.path_keys.specs.declared.fault.PathFault.{PathFault}
+use Rattle.path_keys.specs.Paths.{key_of, element_fault, without_scheme}
 use Rattle.path_keys.specs.declared.fault.PathFault.TheVariants.{BadScheme, BadBucket, TooLong}
 use Rattle.path_keys.proofs.Ends.{no_end}
 use Rattle.path_keys.proofs.Keys.{some_key}
 use Rattle.path_keys.proofs.Faults.{text_fits, key_is, key_of_text}
 use Rattle.path_keys.proofs.Last.{parts_round}
-use Rattle.job_model.specs.Legal.{IsDest, IsScriptWord}
 use Rattle.job_script.specs.HeadLines.{path_text}
-use Rattle.proof_base.proofs.Bools.{not_so}
-use Rattle.proof_base.proofs.Lists.{weaker}
 use Rattle.job_script.proofs.Words.{literal_word, IsClean, clean_cut, clean_end, script_word}
 use Rattle.job_script.proofs.Lines.{IsLast}
-use Rattle.std.proofs.lemmas.Option.{cond_some}
-use Rattle.proof_base.specs.Reading.{need}
-use Rattle.proof_base.proofs.Reading.{parted, same_ok, needed, passed}
-use Rattle.job_model.specs.Paths.{is_dest_key}
+use Rattle.proof_base.proofs.Reading.{passed}
 
 -- ---- what is printed is read again
 

@@ -1,25 +1,11 @@
 -- The lines of events: what is printed is read again, and what is read is within bounds.
 use Rattle.std.proofs.Common.{◌≡◌, ℕ, ◌+◌, ◌<◌, ◌≤◌, Bool, true, false, cond, List, [], ◌∷◌, ◌++◌, length, map, Option, Some, Ok, refl, sym, ap, subst, ◌∙◌, arith, decimal, lit<}
 use Rattle.std.specs.Prelude.{is_some, codes, nat_lt, if◌then◌else◌}
-use Rattle.std.specs.List.{AllByRecursion}
-use Rattle.std.proofs.lemmas.Bool.{ltb-true, lt-ltb}
-use Rattle.std.proofs.lemmas.List.{length-append}
-use Rattle.std.proofs.lemmas.Slice.Eq.{bytes_eq-Decides}
-use Rattle.proof_base.specs.Reading.{◌>>=◌, need, check}
-use Rattle.proof_base.proofs.Bools.{contrary}
-use Rattle.proof_base.proofs.Reading.{parted, same_ok, needed, checked, made_so}
+use Rattle.job_model.specs.Prelude.{AllByRecursion, ◌>>=◌, need, check, one, two, Actor, actor_text, lookup, File, Declared, actor_of, declares, is_known, same_name, AreAttempts, AreEvents, HasOp, IsEvent, op_word}
+use Rattle.path_keys.proofs.Common.{ltb-true, lt-ltb, bytes_eq-Decides, contrary, parted, same_ok, needed, checked, made_so, number_in-decimal, two_numbers, lone_from}
+use Rattle.proof_base.proofs.Common.{length-append}
 use Rattle.words.specs.Parts.{parts_of}
-use Rattle.words.specs.Shapes.{one, two}
-use Rattle.words.proofs.Round.{number_in-decimal, two_numbers}
-use Rattle.words.proofs.Split.{lone_from}
-use Rattle.s3_types.specs.declared.request.Actor.{Actor}
 use Rattle.s3_types.specs.declared.request.Actor.TheVariants as actor
-use Rattle.s3_types.specs.Spelling.{actor_text}
-use Rattle.std.specs.Map.{lookup}
-use Rattle.job_model.specs.Files.{File}
-use Rattle.job_model.specs.Attempts.{Declared, actor_of, declares, is_known, same_name}
-use Rattle.job_model.specs.Legal.{AreAttempts, AreEvents, HasOp, IsEvent}
-use Rattle.job_model.specs.Words.{op_word}
 use Rattle.job_model.specs.declared.attempts.AttemptName.{AttemptName}
 use Rattle.job_model.specs.declared.events.Op.{Op}
 use Rattle.job_model.specs.declared.events.Op.TheVariants as op

@@ -1,21 +1,18 @@
 -- The bytes of a file: what is printed is read again, and what is read are bytes.
 use Rattle.std.proofs.Common.{◌≡◌, ℕ, ◌+◌, ◌/◌, ◌%◌, ◌<◌, ◌≤◌, ◌==◌, Bool, true, false, List, [], ◌∷◌, ◌++◌, length, Some, None, refl, ap, subst, ◌∙◌, arith, zero, suc, Ok, ltb, slice_index, Result}
 use Rattle.std.specs.Prelude.{◌&&◌, nat_lt, if◌then◌else◌, replicate}
-use Rattle.std.specs.List.{list_all, AllByRecursion}
-use Rattle.std.specs.Str.{IsUtf8, chars}
-use Rattle.std.proofs.lemmas.Bool.{and_parts, ltb-true, lt-ltb}
-use Rattle.std.proofs.lemmas.Str.{encodes-chars, scalars-chars, IsUtf8-from_is_utf8}
+use Rattle.job_model.specs.Prelude.{list_all, AllByRecursion, IsUtf8, IsScriptWord, are_bytes, text}
+use Rattle.path_keys.proofs.Common.{and_parts, ltb-true, lt-ltb, IsUtf8-from_is_utf8, list_all-append, needed}
+use Rattle.s3_types.specs.Prelude.{encode_lower, lower_digits, IsBytes}
+use Rattle.std.specs.Str.{chars}
+use Rattle.std.proofs.lemmas.Str.{encodes-chars, scalars-chars}
 use Rattle.words.specs.Words.{joined}
-use Rattle.job_model.specs.Legal.{IsScriptWord, are_bytes}
 use Rattle.job_script.specs.Content.{hex_bytes, text_at, hex_at, fill_at, content_at}
 use Rattle.job_script.specs.Print.{hex_word}
-use Rattle.std.proofs.lemmas.List.Folds.{list_all-append}
 use Rattle.std.proofs.Math.Utf8.{encode, encodes, next, scalar, scalars, scalar_cases}
-use Rattle.proof_base.proofs.Reading.{needed}
-use Rattle.words.specs.Shapes.{text}
 use Rattle.job_script.specs.declared.fault.ScriptFault.TheVariants.{BadLine}
 use Rattle.job_script.proofs.Words.{either, is_lettered, lettered, is_letter, number_bounds}
-use Rattle.hex.specs.Hex.{encode_with, encode_lower, lower_digits, decode_of, IsBytes}
+use Rattle.hex.specs.Hex.{encode_with, decode_of}
 use Rattle.std.specs.Result.{result_ok}
 use Rattle.hex.specs.declared.error.FromHexError.{FromHexError}
 use Rattle.hex.proofs.HexLemmas.{decode_of-encode_lower, decode_of-ok}

@@ -1,25 +1,11 @@
 -- The lines of a script's head that give one value: what is printed is read again, and what is read is within bounds.
 use Rattle.std.proofs.Common.{◌≡◌, ℕ, ◌+◌, ◌<◌, ◌≤◌, ◌^◌, ◌==◌, Bool, true, false, List, [], ◌∷◌, ◌++◌, length, Option, Some, None, Result, Ok, refl, sym, ap, subst, ◌∙◌, arith, decimal, lit<}
 use Rattle.std.specs.Prelude.{codes, nat_lt, option_map, IfSome}
-use Rattle.std.specs.List.{flat_map, AllByRecursion}
-use Rattle.std.proofs.lemmas.Bool.{lt-ltb}
-use Rattle.proof_base.specs.Reading.{need, check}
+use Rattle.job_model.specs.Prelude.{flat_map, AllByRecursion, need, check, one, is_job_id, Committer, Mode, Path, path_in, PathFault, committer_word, Declared, Script, IsLegal, IsDest, IsScriptWord, AreFates, files_in, bytes_in, is_dest_key}
+use Rattle.path_keys.proofs.Common.{lt-ltb, parted, same_ok, needed, checked, number_in-decimal}
 use Rattle.proof_base.proofs.Numbers.{positive}
-use Rattle.proof_base.proofs.Reading.{parted, same_ok, needed, checked}
-use Rattle.words.specs.Shapes.{one}
-use Rattle.words.proofs.Round.{number_in-decimal}
-use Rattle.s3_types.specs.Names.{is_job_id}
-use Rattle.s3_types.specs.declared.request.Committer.{Committer}
 use Rattle.s3_types.specs.declared.request.Committer.TheVariants as committer
-use Rattle.s3_types.specs.declared.request.Mode.{Mode}
 use Rattle.s3_types.specs.declared.request.Mode.TheVariants as mode
-use Rattle.path_keys.specs.Paths.{Path, path_in}
-use Rattle.path_keys.specs.declared.fault.PathFault.{PathFault}
-use Rattle.pending_json.specs.Trees.{committer_word}
-use Rattle.job_model.specs.Attempts.{Declared}
-use Rattle.job_model.specs.JobScript.{Script}
-use Rattle.job_model.specs.Legal.{IsLegal, IsDest, IsScriptWord, AreFates, files_in, bytes_in}
-use Rattle.job_model.specs.Paths.{is_dest_key}
 use Rattle.job_model.specs.declared.events.Event.{Event}
 use Rattle.job_script.specs.declared.fault.ScriptFault.{ScriptFault}
 use Rattle.job_script.specs.declared.fault.ScriptFault.TheVariants.{BadLine, BadPath, DestIsRoot, BadNumber}

@@ -1,17 +1,12 @@
 -- The lines of a printed text are read again, one after another.
 use Rattle.std.proofs.Common.{◌≡◌, ℕ, ◌+◌, ◌<◌, true, false, List, [], ◌∷◌, ◌++◌, length, map, Some, Ok, sym, ap, subst, ◌∙◌, arith, append_assoc}
 use Rattle.std.specs.Prelude.{nat_lt}
-use Rattle.std.specs.List.{list_all, AllByRecursion}
-use Rattle.std.specs.Str.{IsUtf8, is_utf8}
-use Rattle.std.proofs.lemmas.Bool.{and_parts}
-use Rattle.std.proofs.lemmas.List.{append-nil, length-append, map-append}
-use Rattle.std.proofs.lemmas.Str.{IsUtf8-append, IsUtf8-nil, IsUtf8-from_ascii, IsUtf8-from_is_utf8, is_utf8-from_IsUtf8}
-use Rattle.std.proofs.lemmas.Str.Ascii.{IsAscii-nil, IsAscii-cons}
-use Rattle.proof_base.specs.Reading.{◌>>=◌}
-use Rattle.words.specs.Lines.{lines_of, without_return}
-use Rattle.words.specs.Words.{joined, ended, text_of, IsBare}
+use Rattle.job_model.specs.Prelude.{list_all, AllByRecursion, IsUtf8, is_utf8, ◌>>=◌, lines_of, without_return, ended, text_of, IsBare, IsScriptWord}
+use Rattle.path_keys.proofs.Common.{and_parts, append-nil, map-append, IsUtf8-append, IsUtf8-from_ascii, IsUtf8-from_is_utf8, is_utf8-from_IsUtf8, IsAscii-nil, IsAscii-cons}
+use Rattle.proof_base.proofs.Common.{length-append}
+use Rattle.std.proofs.lemmas.Str.{IsUtf8-nil}
+use Rattle.words.specs.Words.{joined}
 use Rattle.words.proofs.Round.{AreLines, lines_again, bare-joined, kept_end}
-use Rattle.job_model.specs.Legal.{IsScriptWord}
 use Rattle.job_script.specs.declared.draft.Draft.{Draft}
 use Rattle.job_script.specs.declared.draft.Group.{Group}
 use Rattle.job_script.specs.declared.kinds.Kind.{Kind}

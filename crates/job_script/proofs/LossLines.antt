@@ -1,41 +1,25 @@
 -- The lines of sendings that have a fate: what is printed is read again, and what is read is within bounds.
 use Rattle.std.proofs.Common.{◌≡◌, ℕ, ◌+◌, ◌<◌, ◌≤◌, Bool, true, false, cond, List, [], ◌∷◌, length, map, Option, Some, None, Ok, refl, sym, ap, subst, ◌∙◌, arith, decimal, lit<, Result, Err, inl, inr, ◌↔◌, zero, suc, ◌||◌, true≢false, is_some, ◌++◌, append_assoc}
 use Rattle.std.specs.Prelude.{IfSome, codes, is_some, ◌&&◌, nat_le, nat_lt, ⊤, IsErrOf, OnOk}
-use Rattle.std.specs.List.{AllByRecursion}
+use Rattle.job_model.specs.Prelude.{AllByRecursion, keys_of, find, nat_cmp, eq_by_cmp, nat_cmp_total, FateMap, is_answer, Fate, AreFates, ◌>>=◌, need, check, ended, text_of}
+use Rattle.path_keys.proofs.Common.{lt-ltb, le-leb, cases_lt, sorted_head, sorted_tail, exact_unsigned, nat_tests, map_sorted, number_in-decimal, find_head, find_other, parted, same_ok, contrary, none_is, append-nil}
+use Rattle.s3_types.specs.Prelude.{IsFirstNamed, IsFirstFrom}
+use Rattle.words.proofs.Common.{less_is}
 use Rattle.std.specs.List.Sorted.{IsStrictlySortedBy}
-use Rattle.std.specs.Map.{keys_of}
-use Rattle.std.specs.FinMap.Entries.{find}
-use Rattle.std.specs.Ordering.{nat_cmp, eq_by_cmp}
-use Rattle.std.proofs.lemmas.Bool.{lt-ltb, le-leb, cases_lt}
-use Rattle.std.proofs.lemmas.Map.Keys.{sorted_head, sorted_tail}
-use Rattle.std.proofs.lemmas.Map.Lookups.{exact_unsigned}
-use Rattle.std.specs.Cmp.{nat_cmp_total}
-use Rattle.std.proofs.lemmas.Bool.Decides.{nat_tests}
-use Rattle.proof_base.proofs.Tree.{map_sorted}
-use Rattle.words.proofs.Round.{number_in-decimal}
-use Rattle.s3_types.specs.Fates.{FateMap, with_fates, is_answer, IsFirstNamed, IsFirstFrom}
-use Rattle.s3_types.specs.declared.fates.Fate.{Fate}
-use Rattle.job_model.specs.Legal.{AreFates}
+use Rattle.s3_types.specs.Fates.{with_fates}
 use Rattle.job_script.specs.declared.head.Head.{Head}
 use Rattle.job_script.specs.declared.draft.Loss.{Loss}
 use Rattle.job_script.specs.Kinds.{fates, fate_word}
 use Rattle.job_script.specs.HeadLines.{loss_at, loss_of, named_at, has_one, count_of, row, loss_line, loss_lines}
-use Rattle.proof_base.proofs.Numbers.{less_is}
-use Rattle.proof_base.proofs.EntriesFrom.{AreAbove, other_key, find_head, find_other, not_found, entries_from, no_entry_from, entry_from, all_entries_from}
+use Rattle.proof_base.proofs.EntriesFrom.{AreAbove, other_key, not_found, entries_from, no_entry_from, entry_from, all_entries_from}
 use Rattle.job_script.proofs.Words.{number_bounds, decimal_lettered}
 use Rattle.job_script.proofs.Lines.{IsPrinted, printed, Goes, goes_nowhere, goes_on, said, goes_through}
-use Rattle.proof_base.specs.Reading.{◌>>=◌, need, check}
-use Rattle.proof_base.proofs.Reading.{parted, same_ok}
 use Rattle.s3_types.proofs.Spans.{get_with_fates}
 use Rattle.job_script.specs.declared.fault.ScriptFault.{ScriptFault}
 use Rattle.job_script.specs.declared.fault.ScriptFault.TheVariants.{RepeatedName, TooLarge}
 use Rattle.job_script.specs.declared.head.HeadWord.{HeadWord}
-use Rattle.proof_base.proofs.Bools.{contrary}
-use Rattle.proof_base.proofs.Options.{none_is}
 use Rattle.s3_types.specs.declared.fates.FateFault.{FateFault}
 use Rattle.s3_types.specs.declared.fates.FateFault.TheVariants.{Taken}
-use Rattle.std.proofs.lemmas.List.{append-nil}
-use Rattle.words.specs.Words.{ended, text_of}
 use Rattle.job_script.specs.Script.{words_at, said_at}
 use Rattle.job_script.proofs.HeadLines.{headed, Holds, IsName, IsSoundHead}
 use Rattle.std.specs.FinMap as fin

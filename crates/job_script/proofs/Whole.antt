@@ -1,25 +1,11 @@
 -- The whole script: its printed text is read again, and what is read has the bounds of a script.
 use Rattle.std.proofs.Common.{◌≡◌, ℕ, ◌+◌, ◌<◌, ◌≤◌, ◌^◌, ◌==◌, Bool, true, false, List, [], ◌∷◌, ◌++◌, length, map, Option, Some, None, Ok, refl, sym, ap, subst, ◌∙◌, arith}
 use Rattle.std.specs.Prelude.{⊤, IfSome, if◌then◌else◌}
-use Rattle.std.specs.List.{flat_map, AllByRecursion}
-use Rattle.std.specs.Option.{unwrap_or}
-use Rattle.std.specs.Ordering.{nat_cmp}
-use Rattle.std.specs.Str.{is_utf8}
+use Rattle.job_model.specs.Prelude.{flat_map, AllByRecursion, unwrap_or, nat_cmp, is_utf8, need, lines_of, is_inside, words_of, text_of, Fate, Committer, Mode, Path, Declared, Script, IsLegal, FitsMagic, AreEvents, AreFates, AreAttempts, IsScriptWord}
+use Rattle.path_keys.proofs.Common.{le-leb, one_longer, parted, same_ok, needed}
 use Rattle.std.specs.FinMap as fin
-use Rattle.std.proofs.lemmas.Bool.{le-leb}
-use Rattle.proof_base.specs.Reading.{need}
-use Rattle.proof_base.proofs.Lists.{one_longer}
-use Rattle.proof_base.proofs.Reading.{parted, same_ok, needed}
-use Rattle.words.specs.Lines.{lines_of, lines_from, is_inside}
-use Rattle.words.specs.Words.{words_of, text_of}
+use Rattle.words.specs.Lines.{lines_from}
 use Rattle.words.proofs.Split.{none_left}
-use Rattle.s3_types.specs.declared.fates.Fate.{Fate}
-use Rattle.s3_types.specs.declared.request.Committer.{Committer}
-use Rattle.s3_types.specs.declared.request.Mode.{Mode}
-use Rattle.path_keys.specs.Paths.{Path}
-use Rattle.job_model.specs.Attempts.{Declared}
-use Rattle.job_model.specs.JobScript.{Script}
-use Rattle.job_model.specs.Legal.{IsLegal, FitsMagic, AreEvents, AreFates, AreAttempts, IsScriptWord}
 use Rattle.job_model.specs.declared.events.Event.{Event}
 use Rattle.job_script.specs.declared.fault.ScriptFault.TheVariants.{BadLine, UnknownWord, MissingHead}
 use Rattle.job_script.specs.declared.draft.Draft.{Draft}

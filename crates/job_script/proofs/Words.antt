@@ -1,24 +1,14 @@
 -- Numbers and names that words tell, words of letters, and the words of a text in UTF-8.
 use Rattle.std.proofs.Common.{◌≡◌, ℕ, ◌-◌, ◌<◌, ◌≤◌, ◌^◌, ◌==◌, Bool, true, false, cond, List, [], ◌∷◌, ◌++◌, length, take, drop, get_or, Option, Some, refl, sym, ap, subst, ◌∙◌, arith, append_assoc, decimal}
 use Rattle.std.specs.Prelude.{◌&&◌, nat_lt, bytes_eq, slice_index, if◌then◌else◌}
-use Rattle.std.specs.List.{list_all, AllByRecursion}
-use Rattle.std.specs.Str.{IsAscii, IsUtf8, is_utf8}
-use Rattle.std.proofs.lemmas.Bool.{and_parts, eqb-true, leb-true, ltb-true, lt-ltb}
-use Rattle.std.proofs.lemmas.Bool.Decides.{nat_tests}
-use Rattle.std.proofs.lemmas.Fmt.{decimal_nonempty}
-use Rattle.std.proofs.lemmas.List.{append-nil, take-append-drop}
-use Rattle.std.proofs.lemmas.List.Folds.{list_all-append}
-use Rattle.std.proofs.lemmas.Str.{IsUtf8-take, IsCharBoundary-before_ascii, IsUtf8-from_ascii, is_utf8-from_IsUtf8, IsUtf8-from_is_utf8}
-use Rattle.std.proofs.lemmas.Str.Ascii.{IsAscii-nil, IsAscii-cons}
-use Rattle.proof_base.proofs.Lists.{weaker}
-use Rattle.words.specs.Lines.{lines_of, lines_from, unless_empty, is_inside, without_return}
+use Rattle.job_model.specs.Prelude.{list_all, AllByRecursion, IsAscii, IsUtf8, is_utf8, lines_of, is_inside, without_return, words_of, IsWord, is_bare, IsBare, is_job_id, is_id_byte, IsScriptWord}
+use Rattle.path_keys.proofs.Common.{and_parts, eqb-true, leb-true, ltb-true, lt-ltb, nat_tests, decimal_nonempty, append-nil, take-append-drop, list_all-append, IsUtf8-from_ascii, is_utf8-from_IsUtf8, IsUtf8-from_is_utf8, IsAscii-nil, IsAscii-cons, weaker, utf8_cut}
+use Rattle.proof_base.proofs.Common.{IsUtf8-take, IsCharBoundary-before_ascii}
+use Rattle.words.specs.Lines.{lines_from, unless_empty}
 use Rattle.words.specs.Numbers.{number_in, is_digit}
 use Rattle.words.specs.Parts.{parts_from}
-use Rattle.words.specs.Words.{words_of, is_plain, IsWord, is_bare, IsBare}
+use Rattle.words.specs.Words.{is_plain}
 use Rattle.words.proofs.Round.{word_bare, digit_inside}
-use Rattle.words.proofs.Utf8.{utf8_cut}
-use Rattle.s3_types.specs.Names.{is_job_id, is_id_byte}
-use Rattle.job_model.specs.Legal.{IsScriptWord}
 use Rattle.job_script.specs.Kinds.{Names, named}
 
 pub either : {A : Type 0} (P : A → Type 0) (b : Bool) (x y : A) → (b ≡ true → P x) → (b ≡ false → P y) → P (cond b x y)

@@ -1,18 +1,12 @@
 -- What an attempt's line and a file's line say.
 use Rattle.std.specs.Prelude.{ℕ, ◌+◌, not, List, [], ◌∷◌, ◌++◌, length, Option, Some, None, Result, Ok, nat_le, nat_lt, if◌then◌else◌}
-use Rattle.proof_base.specs.Reading.{◌>>=◌, need, check}
+use Rattle.job_model.specs.Prelude.{◌>>=◌, need, check, one, two, two_and_more, MOST_SCRIPT_BYTES, has_path, declares, last_files, with_file, option_or, is_path, is_hidden}
 use Rattle.words.specs.Parts.{parts_of}
 use Rattle.words.specs.Numbers.{number_in}
-use Rattle.words.specs.Shapes.{one, two, two_and_more}
-use Rattle.s3_types.specs.declared.limits.TheConstants.{MOST_SCRIPT_BYTES}
-use Rattle.job_model.specs.Files.{has_path}
-use Rattle.job_model.specs.Attempts.{declares, last_files, with_file}
 use Rattle.job_model.specs.declared.attempts.AttemptName.{AttemptName}
 use Rattle.job_script.specs.declared.fault.ScriptFault.{ScriptFault}
 use Rattle.job_script.specs.declared.fault.ScriptFault.TheVariants.{BadLine, RepeatedName, BadPath, HiddenPath, TooLarge, BadNumber}
 use Rattle.job_script.specs.declared.draft.Draft.{Draft}
-use Rattle.std.specs.Option.{option_or}
-use Rattle.job_model.specs.Paths.{is_path, is_hidden}
 use Rattle.job_script.specs.Content.{content_at}
 
 -- T.A

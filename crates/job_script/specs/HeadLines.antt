@@ -1,22 +1,9 @@
 -- What a head line with these values says, after the head lines before it, and how a script's head is printed.
 use Rattle.std.specs.Prelude.{ℕ, ◌+◌, ◌==◌, not, ◌||◌, Bool, zero, suc, false, is_some, List, [], ◌∷◌, ◌++◌, map, Option, Some, None, option_map, Result, Ok, Err, length, nat_le, nat_lt, codes, if◌then◌else◌}
-use Rattle.std.specs.List.{flat_map}
-use Rattle.std.specs.Fmt.{decimal}
+use Rattle.job_model.specs.Prelude.{flat_map, decimal, ◌>>=◌, need, check, free, one, two_and_more, at_most_one, FateMap, is_job_id, Fate, MOST_SCRIPT_BYTES, Committer, Mode, Path, path_in, PathFault, committer_word, Script, is_dest_key}
 use Rattle.std.specs.FinMap as fin
-use Rattle.proof_base.specs.Reading.{◌>>=◌, need, check, free}
 use Rattle.words.specs.Numbers.{number_in}
-use Rattle.words.specs.Shapes.{one, two_and_more, at_most_one}
-use Rattle.s3_types.specs.Fates.{FateMap, with_fates}
-use Rattle.s3_types.specs.Names.{is_job_id}
-use Rattle.s3_types.specs.declared.fates.Fate.{Fate}
-use Rattle.s3_types.specs.declared.limits.TheConstants.{MOST_SCRIPT_BYTES}
-use Rattle.s3_types.specs.declared.request.Committer.{Committer}
-use Rattle.s3_types.specs.declared.request.Mode.{Mode}
-use Rattle.path_keys.specs.Paths.{Path, path_in}
-use Rattle.path_keys.specs.declared.fault.PathFault.{PathFault}
-use Rattle.pending_json.specs.Trees.{committer_word}
-use Rattle.job_model.specs.JobScript.{Script}
-use Rattle.job_model.specs.Paths.{is_dest_key}
+use Rattle.s3_types.specs.Fates.{with_fates}
 use Rattle.job_script.specs.declared.fault.ScriptFault.{ScriptFault}
 use Rattle.job_script.specs.declared.fault.ScriptFault.TheVariants.{BadLine, RepeatedName, BadPath, DestIsRoot, TooLarge, BadNumber}
 use Rattle.job_script.specs.declared.draft.Loss.{Loss}

@@ -1,12 +1,10 @@
 -- The words of a script, and what they name.
 use Rattle.std.specs.Prelude.{ℕ, Bool, true, false, List, [], ◌∷◌, Option, Some, None, codes, bytes_eq, if◌then◌else◌}
+use Rattle.job_model.specs.Prelude.{Committer, Mode, Fate}
 use Rattle.job_script.specs.declared.kinds.EventWord.{EventWord}
 use Rattle.job_script.specs.declared.kinds.EventWord.TheVariants as event
-use Rattle.s3_types.specs.declared.request.Committer.{Committer}
 use Rattle.s3_types.specs.declared.request.Committer.TheVariants as committer
-use Rattle.s3_types.specs.declared.request.Mode.{Mode}
 use Rattle.s3_types.specs.declared.request.Mode.TheVariants as mode
-use Rattle.s3_types.specs.declared.fates.Fate.{Fate}
 use Rattle.s3_types.specs.declared.fates.Fate.TheVariants as fate
 use Rattle.job_model.specs.declared.events.Op.{Op}
 use Rattle.job_model.specs.declared.events.Op.TheVariants as op

@@ -1,21 +1,13 @@
 -- What the bytes of a script mean.
 use Rattle.std.specs.Prelude.{ℕ, ◌+◌, ◌==◌, Bool, true, false, List, [], ◌∷◌, length, Option, Some, None, Result, Ok, Err, nat_le, ⊤, option_map, codes, if◌then◌else◌}
-use Rattle.std.specs.Option.{unwrap_or, option_or}
-use Rattle.std.specs.Str.{is_utf8}
-use Rattle.proof_base.specs.Reading.{◌>>=◌, need, check}
-use Rattle.words.specs.Lines.{lines_of}
-use Rattle.words.specs.Words.{words_of}
-use Rattle.s3_types.specs.declared.limits.TheConstants.{MOST_SCRIPT_BYTES}
-use Rattle.s3_types.specs.declared.request.Committer.{Committer}
+use Rattle.job_model.specs.Prelude.{unwrap_or, option_or, is_utf8, ◌>>=◌, need, check, lines_of, words_of, MOST_SCRIPT_BYTES, Committer, Mode, Script}
 use Rattle.s3_types.specs.declared.request.Committer.TheVariants as committer
-use Rattle.s3_types.specs.declared.request.Mode.{Mode}
 use Rattle.s3_types.specs.declared.request.Mode.TheVariants as mode
 use Rattle.job_script.specs.declared.fault.ScriptFault.{ScriptFault}
 use Rattle.job_script.specs.declared.fault.ScriptFault.TheVariants.{NotUtf8, BadLine, UnknownWord, MissingHead, UnknownActor, TooLarge}
 use Rattle.job_script.specs.declared.draft.Draft.{Draft}
 use Rattle.job_script.specs.declared.draft.Group.{Group}
 use Rattle.job_script.specs.declared.draft.Group.TheVariants as group
-use Rattle.job_model.specs.JobScript.{Script}
 use Rattle.job_script.specs.declared.kinds.Kind.{Kind}
 use Rattle.job_script.specs.declared.kinds.Kind.TheVariants as kind
 use Rattle.job_script.specs.Kinds.{Names, named, event_words}

@@ -1,26 +1,13 @@
 -- What a set-up has left falls.
 use Rattle.std.proofs.Common.{◌≡◌, ℕ, ◌+◌, ◌<◌, ◌≤◌, inl, inr, Bool, true, false, cond, List, [], ◌++◌, Option, Some, None, refl, sym, ap, subst, ◌∙◌, arith}
 use Rattle.std.specs.Prelude.{codes}
+use Rattle.job_protocol.specs.Prelude.{Scene, answer, apply, Committer, Magic, Request, HeadObject, DeleteObject, Reply, Head, Page, Job, job_script, checks_all, Walked, More, Whole, keys_on, page_after, Sweep, sweep_start, sweep_asks, sweep_hears, all_go, Setup, Heading, Clearing, Sweeping, SetupOver, setup_asks, setup_hears, lacks_bucket, if_bucket, headed, first_shown, checked_on, checked_by, checked, cleared, FitsPage, FitsSweep, walk_left, left_of, adds_key, one_if, LessWalk}
 use Rattle.proof_base.proofs.Options.{some_is}
-use Rattle.s3_types.specs.Store.{Scene}
-use Rattle.s3_types.specs.Answer.{answer, apply}
-use Rattle.s3_types.specs.declared.request.Committer.{Committer}
-use Rattle.s3_types.specs.declared.request.Committer.TheVariants.{Magic}
-use Rattle.s3_types.specs.declared.request.Request.{Request}
-use Rattle.s3_types.specs.declared.request.Request.TheVariants.{HeadObject, DeleteObject}
-use Rattle.s3_types.specs.declared.reply.Reply.{Reply}
-use Rattle.s3_types.specs.declared.reply.Reply.TheVariants.{Head, Page}
 use Rattle.magic_paths.specs.Layout as layout
-use Rattle.job_model.specs.Jobs.{Job}
 use Rattle.job_model.specs.declared.ends.SetupEnd.TheVariants as ends
-use Rattle.job_protocol.specs.AtWork.{job_script}
-use Rattle.job_protocol.specs.Conflicts.{checks_all}
-use Rattle.list_walk.specs.Walks.{Walked, More, Whole, keys_on, walked, page_after, Sweep, sweep_start, sweep_asks, sweep_hears, all_go}
-use Rattle.job_protocol.specs.Setup.{Setup, Heading, Checking, Clearing, Sweeping, SetupOver, setup_asks, setup_hears, lacks_bucket, if_bucket, headed, first_shown, checked_on, checked_by, checked, cleared, sweeping}
+use Rattle.list_walk.specs.Walks.{walked}
+use Rattle.job_protocol.specs.Setup.{Checking, sweeping}
 use Rattle.job_protocol.proofs.Faults.{if_bucket_so}
-use Rattle.list_walk.specs.Fitting.{FitsPage, FitsSweep}
-use Rattle.list_walk.specs.Left.{walk_left, left_of, adds_key, one_if}
-use Rattle.list_walk.specs.Laws.{LessWalk}
 use Rattle.list_walk.proofs.Falling.{walk_laws, sweep_laws}
 use Rattle.job_setup.specs.Fits.{FitsSetup}
 use Rattle.job_setup.specs.Left.{cleared_left, left_at}

@@ -1,27 +1,12 @@
 -- The first file of a destination on a page.
 use Rattle.std.proofs.Common.{◌≡◌, ◌≢◌, ℕ, ◌+◌, ◌-◌, suc, zero, ◌≤◌, ◌==◌, nat_le, not, nat_eq, Bool, true, false, List, [], ◌∷◌, ◌++◌, length, drop, Option, Some, None, option_map, Bor, refl, sym, ap, ◌∙◌, arith}
 use Rattle.std.specs.Prelude.{codes}
-use Rattle.std.specs.List.{slice_get, starts_with, ends_with, list_any}
-use Rattle.std.specs.Option.{MatchOption}
-use Rattle.std.specs.Str.Pattern.{FindsTextPrefix}
-use Rattle.std.proofs.lemmas.Bool.Decides.{Decides-eqb}
-use Rattle.std.proofs.lemmas.Slice.Eq.{starts_is}
-use Rattle.std.proofs.lemmas.Bool.{and_parts}
-use Rattle.proof_base.proofs.Numbers.{at_most_is}
+use Rattle.job_protocol.specs.Prelude.{slice_get, starts_with, ends_with, list_any, FindsTextPrefix, PageEntry, Reply, Page, relative_in, Job, Script, is_reserved, IsJob, is_folder, SetupEnd, walked_by, keys_on, Sweep, Clearing, SetupOver, first_shown, shown_path, or_next, checked, checked_by, checked_on}
+use Rattle.s3_types.specs.Prelude.{MatchOption}
+use Rattle.path_keys.proofs.Common.{Decides-eqb, starts_is, and_parts, at_most_is}
 use Rattle.words.specs.Parts.{parts_of}
-use Rattle.s3_types.specs.declared.reply.PageEntry.{PageEntry}
-use Rattle.s3_types.specs.declared.reply.Reply.{Reply}
-use Rattle.s3_types.specs.declared.reply.Reply.TheVariants.{Page}
-use Rattle.path_keys.specs.Paths.{relative_in}
-use Rattle.job_model.specs.Jobs.{Job}
-use Rattle.job_model.specs.JobScript.{Script}
-use Rattle.job_model.specs.Paths.{is_reserved}
-use Rattle.job_model.specs.Plans.{IsJob}
-use Rattle.job_protocol.specs.View.{is_folder}
-use Rattle.job_model.specs.declared.ends.SetupEnd.{SetupEnd}
 use Rattle.job_model.specs.declared.ends.SetupEnd.TheVariants.{Conflict}
-use Rattle.list_walk.specs.Walks.{walked, walked_by, keys_on, Sweep}
-use Rattle.job_protocol.specs.Setup.{Clearing, SetupOver, first_shown, shown_path, or_next, checked, checked_by, checked_on}
+use Rattle.list_walk.specs.Walks.{walked}
 use Rattle.job_setup.specs.Files.{path_behind, first_of}
 use Rattle.job_setup.specs.Held.{setup_at}
 use Rattle.job_setup.specs.declared.held.Stage.{Stage}

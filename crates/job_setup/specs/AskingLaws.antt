@@ -1,19 +1,10 @@
 -- How a set-up stands.
 use Rattle.std.specs.Prelude.{◌≡◌, ℕ, Bool, true, false, cond, List, [], Option, Some, None}
 use Rattle.std.proofs.Common.{refl}
-use Rattle.s3_types.specs.declared.request.Committer.{Committer}
-use Rattle.s3_types.specs.declared.request.Committer.TheVariants.{Magic, Directory, Partitioned}
-use Rattle.s3_types.specs.declared.request.Request.{Request}
-use Rattle.s3_types.specs.declared.reply.Reply.{Reply}
-use Rattle.s3_types.specs.declared.reply.Reply.TheVariants.{Head, Page}
-use Rattle.machine.specs.Asks.{AskLaws}
-use Rattle.machine.specs.Standing.{Fine}
-use Rattle.job_model.specs.Jobs.{Job}
-use Rattle.job_model.specs.JobScript.{Script}
-use Rattle.job_protocol.specs.AtWork.{job_script, setup_wants, setup_told}
-use Rattle.job_protocol.specs.Conflicts.{checks_all}
-use Rattle.list_walk.specs.Walks.{Walked, More, Whole, keys_on, walked, Sweep, sweep_hears, all_go}
-use Rattle.job_protocol.specs.Setup.{Setup, Heading, Checking, Clearing, Sweeping, SetupOver, setup_asks, setup_hears, if_bucket, headed, first_shown, checked_on, checked_by, checked, cleared, sweeping}
+use Rattle.job_protocol.specs.Prelude.{Committer, Magic, Directory, Partitioned, Request, Reply, Head, Page, Job, Script, job_script, setup_wants, setup_told, checks_all, Walked, More, Whole, keys_on, Sweep, sweep_hears, all_go, Setup, Heading, Clearing, Sweeping, SetupOver, setup_asks, setup_hears, if_bucket, headed, first_shown, checked_on, checked_by, checked, cleared}
+use Rattle.machine.specs.Prelude.{AskLaws, Fine}
+use Rattle.list_walk.specs.Walks.{walked}
+use Rattle.job_protocol.specs.Setup.{Checking, sweeping}
 use Rattle.job_protocol.proofs.Faults.{if_bucket_so}
 use Rattle.job_setup.specs.Fits.{FitsDriving, standing, standing_of}
 

@@ -1,7 +1,6 @@
 -- Files of a destination among the keys below it.
 use Rattle.std.specs.Prelude.{ℕ, nat_eq, List, [], ◌∷◌, drop, length, Option, Some, None, if◌then◌else◌}
-use Rattle.std.specs.List.{starts_with}
-use Rattle.job_protocol.specs.Setup.{shown_path, or_next}
+use Rattle.job_protocol.specs.Prelude.{starts_with, shown_path, or_next}
 
 -- what stands behind a prefix in a text that begins so
 abbrev pub path_behind : List ℕ → List ℕ → Option (List ℕ)

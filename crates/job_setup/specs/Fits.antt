@@ -1,12 +1,9 @@
 -- The replies that fit a set-up, and how it stands.
 use Rattle.std.specs.Prelude.{◌≡◌, ◌⊎◌, Bool, true}
-use Rattle.s3_types.specs.declared.reply.Reply.{Reply}
-use Rattle.job_model.specs.declared.ends.SetupEnd.{SetupEnd}
+use Rattle.job_protocol.specs.Prelude.{Reply, SetupEnd, Driving, Setup, Heading, Clearing, Sweeping, SetupOver, lacks_bucket, FitsPage, FitsSweep}
+use Rattle.machine.specs.Prelude.{Standing, Fine, Faulted, Broken}
 use Rattle.job_model.specs.declared.ends.SetupEnd.TheVariants.{StoreFault, NoMemory}
-use Rattle.machine.specs.Standing.{Standing, Fine, Faulted, Broken}
-use Rattle.job_protocol.specs.AtWork.{Driving}
-use Rattle.job_protocol.specs.Setup.{Setup, Heading, Checking, Clearing, Sweeping, SetupOver, lacks_bucket}
-use Rattle.list_walk.specs.Fitting.{FitsPage, FitsSweep}
+use Rattle.job_protocol.specs.Setup.{Checking}
 
 -- a page that is not folded has keys alone; that the bucket is not there fits at each request
 abbrev pub FitsSetup : Setup → Reply → Type 0

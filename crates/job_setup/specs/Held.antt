@@ -1,10 +1,7 @@
 -- A set-up as it is kept.
 use Rattle.std.specs.Prelude.{ℕ, cond, List, []}
-use Rattle.job_model.specs.JobScript.{Script}
-use Rattle.job_model.specs.declared.ends.SetupEnd.{SetupEnd}
-use Rattle.job_protocol.specs.Conflicts.{checks_all}
-use Rattle.list_walk.specs.Walks.{keys_on, Sweep}
-use Rattle.job_protocol.specs.Setup.{Setup, Heading, Checking, Clearing, Sweeping, SetupOver}
+use Rattle.job_protocol.specs.Prelude.{Script, SetupEnd, checks_all, keys_on, Sweep, Setup, Heading, Clearing, Sweeping, SetupOver}
+use Rattle.job_protocol.specs.Setup.{Checking}
 use Rattle.job_setup.specs.declared.held.Held.{Held}
 use Rattle.job_setup.specs.declared.held.Stage.{Stage}
 use Rattle.job_setup.specs.declared.held.Stage.TheVariants as stages

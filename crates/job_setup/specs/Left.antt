@@ -1,14 +1,8 @@
 -- What a set-up has left in a scene.
 use Rattle.std.specs.Prelude.{ℕ, ◌+◌, ◌++◌, [], codes}
-use Rattle.s3_types.specs.Store.{Scene}
-use Rattle.s3_types.specs.declared.request.Committer.{Committer}
-use Rattle.s3_types.specs.declared.request.Committer.TheVariants.{Magic, Directory, Partitioned}
+use Rattle.job_protocol.specs.Prelude.{Scene, Committer, Magic, Directory, Partitioned, Job, Driving, sweep_start, Setup, Heading, Clearing, Sweeping, SetupOver, walk_left, sweep_left}
 use Rattle.magic_paths.specs.Layout as layout
-use Rattle.job_model.specs.Jobs.{Job}
-use Rattle.job_protocol.specs.AtWork.{Driving}
-use Rattle.list_walk.specs.Walks.{sweep_start}
-use Rattle.job_protocol.specs.Setup.{Setup, Heading, Checking, Clearing, Sweeping, SetupOver}
-use Rattle.list_walk.specs.Left.{walk_left, sweep_left}
+use Rattle.job_protocol.specs.Setup.{Checking}
 
 -- once the marker is deleted
 abbrev pub cleared_left : Committer → Job → Scene → ℕ

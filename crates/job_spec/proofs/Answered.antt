@@ -1,27 +1,9 @@
 -- where each sending is answered no request wears out
 use Rattle.std.proofs.Common.{◌≡◌, ℕ, zero, suc, ◌+◌, Bool, true, false, cond, List, [], ◌∷◌, slice_get, Some, None, refl, sym, ap, subst, ◌∙◌, arith}
 use Rattle.std.specs.Prelude.{nat_le}
-use Rattle.std.specs.List.{filter}
+use Rattle.job_spec.specs.Prelude.{filter, nat_cmp, Content, FateMap, fate_or, fate_at, fate_of, AreForetold, Answer, Actor, Request, Outcome, Answered, Entry, same_request, was_answered, WornFirst, Script, OpEnd, EventEnd, Doing, same_actor, until, by_actor, EndedIn, Sent}
+use Rattle.retries.specs.Prelude.{answers}
 use Rattle.std.specs.FinMap as fin
-use Rattle.std.specs.Ordering.{nat_cmp}
-use Rattle.s3_types.specs.Store.{Content}
-use Rattle.s3_types.specs.Fates.{FateMap, fate_or, fate_at}
-use Rattle.s3_types.specs.Foretold.{fate_of, AreForetold}
-use Rattle.s3_types.specs.declared.fates.Fate.TheVariants.{Answer}
-use Rattle.s3_types.specs.declared.request.Actor.{Actor}
-use Rattle.s3_types.specs.declared.request.Request.{Request}
-use Rattle.s3_types.specs.declared.journal.Outcome.{Outcome}
-use Rattle.s3_types.specs.declared.journal.Outcome.TheVariants.{Answered}
-use Rattle.s3_types.specs.declared.journal.Entry.{Entry}
-use Rattle.retries.specs.Same.{same_request}
-use Rattle.retries.specs.Worn.{was_answered, answers, WornFirst}
-use Rattle.job_model.specs.JobScript.{Script}
-use Rattle.job_model.specs.declared.ends.OpEnd.{OpEnd}
-use Rattle.job_model.specs.declared.ends.EventEnd.{EventEnd}
-use Rattle.job_spec.specs.States.{Doing, same_actor}
-use Rattle.job_spec.specs.Turns.{until, by_actor}
-use Rattle.job_spec.specs.Ends.{EndedIn}
-use Rattle.job_spec.specs.Promise.{Sent}
 
 abbrev AllAnswered : List Entry → Type 0
 AllAnswered [] = Unit {0}

@@ -1,10 +1,7 @@
 -- a commit that nothing hinders is due to end Committed
 use Rattle.std.proofs.Common.{◌≡◌, refl, Option, Some, None, false, is_some}
-use Rattle.job_model.specs.JobScript.{Script}
-use Rattle.job_model.specs.declared.ends.CommitEnd.{CommitEnd}
+use Rattle.job_spec.specs.Prelude.{Script, CommitEnd, Picks, same_path, is_clash, end_or, commit_due}
 use Rattle.job_model.specs.declared.ends.CommitEnd.TheVariants as commits
-use Rattle.job_protocol.specs.Outputs.{Picks, same_path, is_clash}
-use Rattle.job_spec.specs.Ends.{end_or, commit_due}
 
 by_path : (o : Option CommitEnd) → is_some o ≡ false → end_or o commits.Committed ≡ commits.Committed
 by_path None h = refl

@@ -2,3 +2,4 @@ pub mod Told
 mod Complete
 mod Restarted
 mod Answered
+pub mod Common

@@ -1,24 +1,13 @@
 -- what a restart leaves, and which operation decides a verdict
 use Rattle.std.proofs.Common.{◌≡◌, ℕ, suc, refl, ap, sym, ◌∙◌, ◌⊎◌, inl, inr, false, List, [], ◌∷◌, ◌++◌, length, Some}
-use Rattle.std.specs.List.{slice_get}
-use Rattle.s3_types.specs.declared.request.Actor.TheVariants.{Driver, Attempt}
-use Rattle.job_model.specs.JobScript.{Script}
+use Rattle.job_spec.specs.Prelude.{slice_get, Driver, Attempt, Script, Event, Start, Restart, SetupEnd, CommitEnd, OpEnd, EventEnd, Done, EventFault, Idle, ActorStage, Past, Decided, NotBegun, Unended, EndedSo, restarted, restart, first_not, missing, past, past_from, nothing_past, after_event, is_committing, end_verdict, verdict_or, verdict}
 use Rattle.job_model.specs.declared.events.Op.TheVariants.{Commit}
-use Rattle.job_model.specs.declared.events.Event.{Event}
-use Rattle.job_model.specs.declared.events.Event.TheVariants.{Start, Restart}
-use Rattle.job_model.specs.declared.ends.SetupEnd.{SetupEnd}
 use Rattle.job_model.specs.declared.ends.SetupEnd.TheVariants as setups
-use Rattle.job_model.specs.declared.ends.CommitEnd.{CommitEnd}
 use Rattle.job_model.specs.declared.ends.CommitEnd.TheVariants as commits
-use Rattle.job_model.specs.declared.ends.OpEnd.{OpEnd}
 use Rattle.job_model.specs.declared.ends.OpEnd.TheVariants as ends
-use Rattle.job_model.specs.declared.ends.EventEnd.{EventEnd}
-use Rattle.job_model.specs.declared.ends.EventEnd.TheVariants.{Done, Refused}
-use Rattle.job_model.specs.declared.ends.EventFault.{EventFault}
-use Rattle.job_model.specs.declared.states.Life.TheVariants.{Idle}
-use Rattle.job_model.specs.declared.states.ActorStage.{ActorStage}
+use Rattle.job_model.specs.declared.ends.EventEnd.TheVariants.{Refused}
 use Rattle.job_model.specs.declared.states.ActorStage.TheVariants as stage
-use Rattle.job_spec.specs.States.{Past, Decided, NotBegun, Unended, EndedSo, restarted, restart, count, first_not, missing, past, past_from, nothing_past, after_event, is_committing, end_verdict, verdict_or, verdict}
+use Rattle.job_spec.specs.States.{count}
 
 -- ---- one more event
 

@@ -1,17 +1,8 @@
 -- the folds and the journal in one job's eyes
 use Rattle.std.proofs.Common.{◌≡◌, ℕ, zero, suc, ◌+◌, ◌-◌, ◌≤◌, refl, ap, sym, subst, ◌∙◌, Bool, true, false, cond, arith, nat_eq, ◌&&◌, List, [], ◌∷◌, take, Option, Some}
-use Rattle.s3_types.specs.Store.{Content, Scene, opening}
-use Rattle.s3_types.specs.Moment.{effect, after_all, moment, AreHonest, IsHonest}
-use Rattle.s3_types.specs.declared.request.Actor.{Actor}
-use Rattle.s3_types.specs.declared.request.Actor.TheVariants.{Driver, Attempt, Shell}
-use Rattle.s3_types.specs.declared.request.Request.{Request}
-use Rattle.s3_types.specs.declared.journal.Outcome.{Outcome}
-use Rattle.s3_types.specs.declared.journal.Outcome.TheVariants.{Answered, Slow, RequestLost, ReplyLost}
-use Rattle.s3_types.specs.declared.journal.Entry.{Entry}
-use Rattle.job_model.specs.JobScript.{Script}
-use Rattle.job_spec.specs.Seen.{Seen, see, see_by, see_driver, see_attempt, see_all, nothing_seen, seen, is_publishing}
-use Rattle.job_spec.specs.Turns.{AllFrom, IsRising}
-use Rattle.job_spec.specs.Eyes.{number_in, entry_in, in_eyes}
+use Rattle.job_spec.specs.Prelude.{Content, Scene, opening, effect, after_all, moment, AreHonest, IsHonest, Actor, Driver, Attempt, Shell, Request, Outcome, Answered, Slow, RequestLost, ReplyLost, Entry, Script, Seen, see, see_by, see_all, nothing_seen, seen, is_publishing, AllFrom, IsRising, in_eyes}
+use Rattle.job_spec.specs.Seen.{see_driver, see_attempt}
+use Rattle.job_spec.specs.Eyes.{number_in, entry_in}
 
 -- ---- what is seen
 

@@ -1,20 +1,7 @@
 -- How operations end, by their entries and by what is seen.
 use Rattle.std.specs.Prelude.{◌≡◌, ℕ, ◌+◌, ◌⊎◌, ◌&&◌, not, Bool, true, false, List, take, slice_get, Option, Some, None}
-use Rattle.std.specs.List.{list_any}
-use Rattle.s3_types.specs.Moment.{is_unanswered}
-use Rattle.s3_types.specs.declared.request.Actor.{Actor}
-use Rattle.s3_types.specs.declared.request.Actor.TheVariants.{Driver}
-use Rattle.s3_types.specs.declared.request.Request.{Request}
-use Rattle.s3_types.specs.declared.journal.Entry.{Entry}
-use Rattle.retries.specs.Worn.{WornFirst}
-use Rattle.job_model.specs.JobScript.{Script}
-use Rattle.job_model.specs.declared.events.Event.{Event}
-use Rattle.job_model.specs.declared.ends.CommitEnd.{CommitEnd}
+use Rattle.job_protocol.specs.Prelude.{list_any, is_unanswered, Actor, Driver, Request, Entry, WornFirst, Script, Event, CommitEnd, OpEnd, EventEnd, Picks, same_path, stage_of}
 use Rattle.job_model.specs.declared.ends.CommitEnd.TheVariants as commits
-use Rattle.job_model.specs.declared.ends.OpEnd.{OpEnd}
-use Rattle.job_model.specs.declared.ends.EventEnd.{EventEnd}
-use Rattle.job_protocol.specs.Outputs.{Picks, same_path}
-use Rattle.job_protocol.specs.JobCommits.{stage_of}
 use Rattle.job_spec.specs.Seen.{Seen, is_begun, is_marking}
 use Rattle.job_spec.specs.States.{Doing, past, after_event, told}
 use Rattle.job_spec.specs.Turns.{until, since, by_actor}

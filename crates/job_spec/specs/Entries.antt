@@ -1,13 +1,6 @@
 -- What each of a job's own entries may be, and what it may change.
 use Rattle.std.specs.Prelude.{◌≡◌, ℕ, ◌+◌, ◌≤◌, ◌⊎◌, Bool, true, false, List, [], ◌∷◌, length, slice_get, Some}
-use Rattle.s3_types.specs.Store.{Content}
-use Rattle.s3_types.specs.Moment.{moment, is_effective}
-use Rattle.s3_types.specs.declared.request.Actor.TheVariants.{Driver}
-use Rattle.s3_types.specs.declared.request.Request.{Request}
-use Rattle.s3_types.specs.declared.request.Request.TheVariants.{CopyObject, CreateUpload, UploadPart, CompleteUpload, DeleteObject, DeleteObjects}
-use Rattle.s3_types.specs.declared.journal.Entry.{Entry}
-use Rattle.job_model.specs.JobScript.{Script}
-use Rattle.job_protocol.specs.View.{view}
+use Rattle.job_protocol.specs.Prelude.{Content, moment, is_effective, Driver, Request, CopyObject, CreateUpload, UploadPart, CompleteUpload, DeleteObject, DeleteObjects, Entry, Script, view}
 use Rattle.job_spec.specs.Headline.{Same}
 use Rattle.job_spec.specs.Scope.{SameOutside}
 use Rattle.job_spec.specs.Turns.{is_own}

@@ -1,17 +1,8 @@
 -- That a run does what its events say: each operation sends what is asked next and ends as it should.
 use Rattle.std.specs.Prelude.{◌≡◌, ℕ, ◌+◌, ◌≤◌, ◌⊎◌, true, List, [], length, take, slice_get, Option, Some, None}
-use Rattle.s3_types.specs.declared.request.Actor.{Actor}
-use Rattle.s3_types.specs.declared.journal.Entry.{Entry}
+use Rattle.job_protocol.specs.Prelude.{Actor, Entry, Event, OpEnd, ActorEnd, EventEnd, EventFault, Known, knows, Setting, Operation, Running, who, wants, advance, start_of, over}
 use Rattle.retries.specs.Operation as sendings
-use Rattle.job_model.specs.declared.events.Event.{Event}
-use Rattle.job_model.specs.declared.ends.OpEnd.{OpEnd}
-use Rattle.job_model.specs.declared.ends.ActorEnd.{ActorEnd}
-use Rattle.job_model.specs.declared.ends.EventEnd.{EventEnd}
 use Rattle.job_model.specs.declared.ends.EventEnd.TheVariants.{Refused}
-use Rattle.job_model.specs.declared.ends.EventFault.{EventFault}
-use Rattle.job_model.specs.Known.{Known}
-use Rattle.job_protocol.specs.Knowledge.{knows}
-use Rattle.job_protocol.specs.Operations.{Setting, Operation, Running, who, wants, advance, start_of, over}
 use Rattle.job_spec.specs.States.{Doing, past, refusal, after_event, open_event, told}
 use Rattle.job_spec.specs.Turns.{own, of_event, until, before, since, by_actor, is_busy, is_wanting, Turns, OpenTurns, AllFrom, IsRising, AllUpTo}
 

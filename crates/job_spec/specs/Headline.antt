@@ -1,14 +1,7 @@
 -- What a reader of a job's destination may rely on, at each moment of a run.
 use Rattle.std.specs.Prelude.{◌≡◌, ℕ, ◌≤◌, ◌⊎◌, true, false, cond, List, length, Option, Some, None}
-use Rattle.s3_types.specs.Store.{Content}
-use Rattle.s3_types.specs.declared.journal.Entry.{Entry}
-use Rattle.s3_types.specs.declared.object.Object.{Object}
-use Rattle.magic_paths.specs.Layout.{success_key}
-use Rattle.job_model.specs.JobScript.{Script}
-use Rattle.job_protocol.specs.View.{Shown, view, object_at}
-use Rattle.job_protocol.specs.Outputs.{Picks, wanted_at, is_picked, is_clash, is_decided}
-use Rattle.job_protocol.specs.Conflicts.{keeps_of}
-use Rattle.job_protocol.specs.Records.{mark_text}
+use Rattle.job_protocol.specs.Prelude.{Content, Entry, Object, success_key, Script, view, Picks, wanted_at, is_picked, is_clash, is_decided, keeps_of, mark_text}
+use Rattle.job_protocol.specs.View.{Shown, object_at}
 use Rattle.job_spec.specs.Seen.{Seen, seen, is_marked}
 
 -- two views show the same files

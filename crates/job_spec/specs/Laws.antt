@@ -1,25 +1,12 @@
 -- The laws of this crate.
 use Rattle.std.specs.Prelude.{◌≡◌, ℕ, suc, ◌⊎◌, Bool, true, false, List, [], ◌∷◌, ◌++◌, length, slice_get, Option, Some, None}
+use Rattle.job_protocol.specs.Prelude.{Content, effect, moment, IsHonest, Actor, Driver, Attempt, Shell, Entry, WornFirst, Script, Start, Restart, SetupEnd, OpEnd, EventEnd, Done, EventFault, Idle, Picks, is_clash}
 use Rattle.std.specs.FinMap as fin
-use Rattle.s3_types.specs.Store.{Content}
-use Rattle.s3_types.specs.Moment.{effect, moment, IsHonest}
-use Rattle.s3_types.specs.declared.request.Actor.{Actor}
-use Rattle.s3_types.specs.declared.request.Actor.TheVariants.{Driver, Attempt, Shell}
-use Rattle.s3_types.specs.declared.journal.Entry.{Entry}
-use Rattle.retries.specs.Worn.{WornFirst}
-use Rattle.job_model.specs.JobScript.{Script}
 use Rattle.job_model.specs.declared.events.Op.TheVariants.{Commit}
-use Rattle.job_model.specs.declared.events.Event.TheVariants.{Start, Restart}
-use Rattle.job_model.specs.declared.ends.SetupEnd.{SetupEnd}
 use Rattle.job_model.specs.declared.ends.CommitEnd.TheVariants as commits
-use Rattle.job_model.specs.declared.ends.OpEnd.{OpEnd}
 use Rattle.job_model.specs.declared.ends.OpEnd.TheVariants as ends
-use Rattle.job_model.specs.declared.ends.EventEnd.{EventEnd}
-use Rattle.job_model.specs.declared.ends.EventEnd.TheVariants.{Done, Refused}
-use Rattle.job_model.specs.declared.ends.EventFault.{EventFault}
-use Rattle.job_model.specs.declared.states.Life.TheVariants.{Idle}
+use Rattle.job_model.specs.declared.ends.EventEnd.TheVariants.{Refused}
 use Rattle.job_model.specs.declared.states.ActorStage.TheVariants as stage
-use Rattle.job_protocol.specs.Outputs.{Picks, is_clash}
 use Rattle.job_spec.specs.Ends.{EndedIn, commit_due}
 use Rattle.job_spec.specs.Seen.{Seen, see, seen}
 use Rattle.job_spec.specs.States.{Doing, NotBegun, Unended, EndedSo, past, missing, is_committing, end_verdict, verdict_or, verdict}

@@ -11,3 +11,4 @@ pub mod Promise
 pub mod ReportText
 pub mod Eyes
 pub mod Laws
+pub mod Prelude

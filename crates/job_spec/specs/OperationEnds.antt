@@ -1,42 +1,14 @@
 -- The causes of the ends of operations, and what holds at them.
 use Rattle.std.specs.Prelude.{◌≡◌, ℕ, ◌≤◌, ◌&&◌, Bool, true, false, List, [], ◌∷◌, ◌++◌, slice_get, Option, Some, None, IsSome}
+use Rattle.job_protocol.specs.Prelude.{All, Contains, list_any, is_lt, text_cmp, Content, Scene, moment, is_effective, Attempt, Request, DeleteObject, ListPage, PageEntry, Refusal, NoSuchUpload, Reply, Page, Refused, Outcome, Answered, RequestLost, ReplyLost, Entry, same_request, IsWorn, Who, Script, Op, SetupEnd, TaskEnd, CleanEnd, CommitEnd, view, files, paths_of, partitions, checks_all, checks_partitions, partition_prefix, set_request, set_read, stage_of}
 use Rattle.std.specs.FinMap as fin
-use Rattle.std.specs.List.{All, Contains, list_any}
-use Rattle.std.specs.Ordering.{is_lt}
-use Rattle.proof_base.specs.Order.{text_cmp}
-use Rattle.s3_types.specs.Store.{Content, Scene}
-use Rattle.s3_types.specs.Moment.{moment, is_effective}
-use Rattle.s3_types.specs.declared.request.Actor.TheVariants.{Attempt}
-use Rattle.s3_types.specs.declared.request.Request.{Request}
-use Rattle.s3_types.specs.declared.request.Request.TheVariants.{DeleteObject, ListPage}
-use Rattle.s3_types.specs.declared.reply.PageEntry.{PageEntry}
-use Rattle.s3_types.specs.declared.reply.Refusal.{Refusal}
-use Rattle.s3_types.specs.declared.reply.Refusal.TheVariants.{NoSuchUpload}
-use Rattle.s3_types.specs.declared.reply.Reply.{Reply}
-use Rattle.s3_types.specs.declared.reply.Reply.TheVariants.{Page, Refused}
-use Rattle.s3_types.specs.declared.journal.Outcome.{Outcome}
-use Rattle.s3_types.specs.declared.journal.Outcome.TheVariants.{Answered, RequestLost, ReplyLost}
-use Rattle.s3_types.specs.declared.journal.Entry.{Entry}
-use Rattle.retries.specs.Same.{same_request}
-use Rattle.retries.specs.Worn.{IsWorn}
-use Rattle.job_model.specs.Attempts.{Who}
-use Rattle.job_model.specs.JobScript.{Script}
-use Rattle.job_model.specs.declared.events.Op.{Op}
 use Rattle.job_model.specs.declared.events.Op.TheVariants as ops
-use Rattle.job_model.specs.declared.ends.SetupEnd.{SetupEnd}
 use Rattle.job_model.specs.declared.ends.SetupEnd.TheVariants as setups
-use Rattle.job_model.specs.declared.ends.TaskEnd.{TaskEnd}
 use Rattle.job_model.specs.declared.ends.TaskEnd.TheVariants as tasks
-use Rattle.job_model.specs.declared.ends.CleanEnd.{CleanEnd}
 use Rattle.job_model.specs.declared.ends.CleanEnd.TheVariants as cleans
-use Rattle.job_model.specs.declared.ends.CommitEnd.{CommitEnd}
 use Rattle.job_model.specs.declared.ends.CommitEnd.TheVariants as commits
 use Rattle.job_model.specs.declared.ends.Stage.TheVariants as stages
-use Rattle.job_protocol.specs.View.{view, object_at}
-use Rattle.job_protocol.specs.Outputs.{files, paths_of}
-use Rattle.job_protocol.specs.Conflicts.{partitions, checks_all, checks_partitions}
-use Rattle.job_protocol.specs.TaskCommits.{partition_prefix}
-use Rattle.job_protocol.specs.JobCommits.{set_request, set_read, stage_of}
+use Rattle.job_protocol.specs.View.{object_at}
 use Rattle.job_spec.specs.Headline.{Same}
 use Rattle.job_spec.specs.Seen.{is_publishing}
 use Rattle.job_spec.specs.Scope.{NothingLeft}

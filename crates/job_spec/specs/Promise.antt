@@ -1,30 +1,13 @@
 -- What a run promises of its job.
 use Rattle.std.specs.Prelude.{◌≡◌, ℕ, zero, suc, ◌+◌, ◌≤◌, ◌⊎◌, Bool, true, false, List, [], ◌∷◌, ◌++◌, length, Option, Some, None}
-use Rattle.s3_types.specs.Store.{Content}
-use Rattle.s3_types.specs.Moment.{IsHonest, moment}
-use Rattle.s3_types.specs.Fates.{fate_at}
-use Rattle.s3_types.specs.Foretold.{AreForetold}
-use Rattle.s3_types.specs.declared.request.Actor.TheVariants.{Driver, Attempt}
-use Rattle.s3_types.specs.declared.request.Request.{Request}
-use Rattle.s3_types.specs.declared.journal.Entry.{Entry}
-use Rattle.retries.specs.Worn.{WornFirst}
-use Rattle.job_model.specs.JobScript.{Script}
+use Rattle.job_protocol.specs.Prelude.{Content, IsHonest, moment, fate_at, AreForetold, Driver, Attempt, Request, Entry, WornFirst, Script, Pick, SetupEnd, TaskEnd, CleanEnd, CommitEnd, EventEnd, view, Picks, Setting}
 use Rattle.job_model.specs.declared.events.Op.TheVariants as ops
-use Rattle.job_model.specs.declared.ends.Pick.{Pick}
-use Rattle.job_model.specs.declared.ends.SetupEnd.{SetupEnd}
 use Rattle.job_model.specs.declared.ends.SetupEnd.TheVariants as setups
-use Rattle.job_model.specs.declared.ends.TaskEnd.{TaskEnd}
 use Rattle.job_model.specs.declared.ends.TaskEnd.TheVariants as tasks
-use Rattle.job_model.specs.declared.ends.CleanEnd.{CleanEnd}
 use Rattle.job_model.specs.declared.ends.CleanEnd.TheVariants as cleans
-use Rattle.job_model.specs.declared.ends.CommitEnd.{CommitEnd}
 use Rattle.job_model.specs.declared.ends.CommitEnd.TheVariants as commits
 use Rattle.job_model.specs.declared.ends.Stage.TheVariants as stages
-use Rattle.job_model.specs.declared.ends.EventEnd.{EventEnd}
 use Rattle.job_model.specs.declared.ends.OpEnd.TheVariants as ends
-use Rattle.job_protocol.specs.View.{view}
-use Rattle.job_protocol.specs.Outputs.{Picks}
-use Rattle.job_protocol.specs.Operations.{Setting}
 use Rattle.job_spec.specs.Seen.{Seen, seen, is_marked}
 use Rattle.job_spec.specs.Headline.{Same, Always}
 use Rattle.job_spec.specs.States.{Doing, Decided, NotBegun, Unended, EndedSo, past, commit_event, clean_event}

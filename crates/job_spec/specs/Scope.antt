@@ -1,16 +1,9 @@
 -- What of a store is a job's, and what is not.
 use Rattle.std.specs.Prelude.{◌≡◌, ℕ, true, false, List, Option, Some, None}
+use Rattle.job_protocol.specs.Prelude.{text_eq, BucketContent, Content, Scene, Upload, begins, Object, Committer, Magic, Directory, Partitioned, Script, dest_prefix}
 use Rattle.std.specs.FinMap as fin
-use Rattle.proof_base.specs.Order.{text_eq}
-use Rattle.s3_types.specs.Store.{BucketContent, Content, Scene, Upload}
-use Rattle.s3_types.specs.Pages.{begins}
-use Rattle.s3_types.specs.declared.object.Object.{Object}
-use Rattle.s3_types.specs.declared.request.Committer.{Committer}
-use Rattle.s3_types.specs.declared.request.Committer.TheVariants.{Magic, Directory, Partitioned}
 use Rattle.magic_paths.specs.Layout as layout
-use Rattle.job_model.specs.JobScript.{Script}
 use Rattle.job_protocol.specs.View.{object_at}
-use Rattle.job_protocol.specs.Setup.{dest_prefix}
 
 -- the live upload of an id in a bucket, or none
 abbrev pub upload_in : Option BucketContent → ℕ → Option Upload

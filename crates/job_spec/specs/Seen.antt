@@ -1,24 +1,9 @@
 -- What a journal says of a job: one fold over its entries, from the first on.
 use Rattle.std.specs.Prelude.{ℕ, ◌&&◌, ◌||◌, nat_eq, nat_le, Bool, true, false, cond, List, [], ◌∷◌, Option, Some, None, is_some, take}
+use Rattle.job_protocol.specs.Prelude.{text_eq, Content, Scene, opening, apply, effect, Request, PutObject, GetObject, ClusterRename, ClusterGet, Actor, Driver, Attempt, Shell, Committer, Magic, Directory, Partitioned, Outcome, Answered, Slow, RequestLost, ReplyLost, Entry, Script, Picks, is_set_key, is_set_path}
 use Rattle.std.specs.FinMap as fin
-use Rattle.proof_base.specs.Order.{text_eq}
-use Rattle.s3_types.specs.Store.{Content, Scene, opening}
-use Rattle.s3_types.specs.Answer.{apply}
-use Rattle.s3_types.specs.Moment.{effect}
-use Rattle.s3_types.specs.declared.request.Request.{Request}
-use Rattle.s3_types.specs.declared.request.Request.TheVariants.{PutObject, GetObject, ClusterRename, ClusterGet}
-use Rattle.s3_types.specs.declared.request.Actor.{Actor}
-use Rattle.s3_types.specs.declared.request.Actor.TheVariants.{Driver, Attempt, Shell}
-use Rattle.s3_types.specs.declared.request.Committer.{Committer}
-use Rattle.s3_types.specs.declared.request.Committer.TheVariants.{Magic, Directory, Partitioned}
-use Rattle.s3_types.specs.declared.journal.Outcome.{Outcome}
-use Rattle.s3_types.specs.declared.journal.Outcome.TheVariants.{Answered, Slow, RequestLost, ReplyLost}
-use Rattle.s3_types.specs.declared.journal.Entry.{Entry}
 use Rattle.magic_paths.specs.Layout as layout
-use Rattle.job_model.specs.JobScript.{Script}
 use Rattle.job_protocol.specs.View.{object_at}
-use Rattle.job_protocol.specs.Outputs.{Picks}
-use Rattle.job_protocol.specs.Knowledge.{is_set_key, is_set_path}
 
 -- ---- requests that publish, read and mark
 

@@ -1,33 +1,15 @@
 -- Lives and stages of a job's actors, what each began last, and what its driver knows: one fold over its events and their ends.
 use Rattle.std.specs.Prelude.{ℕ, zero, suc, ◌+◌, ◌&&◌, ◌||◌, nat_eq, not, Bool, true, false, cond, List, [], ◌∷◌, map, Option, Some, None, if◌then◌else◌}
-use Rattle.s3_types.specs.declared.request.Actor.{Actor}
-use Rattle.s3_types.specs.declared.request.Actor.TheVariants.{Driver, Attempt, Shell}
-use Rattle.job_model.specs.Attempts.{actor_of}
-use Rattle.job_model.specs.JobScript.{Script}
-use Rattle.job_model.specs.declared.events.Op.{Op}
-use Rattle.job_model.specs.declared.events.Op.TheVariants.{Setup, Write, Commit, Abort, Clean}
-use Rattle.job_model.specs.declared.events.Event.{Event}
-use Rattle.job_model.specs.declared.events.Event.TheVariants.{Do, Start, Step, Run, Kill, Mix, Restart, Recover}
-use Rattle.job_model.specs.declared.ends.SetupEnd.{SetupEnd}
+use Rattle.job_protocol.specs.Prelude.{Actor, Driver, Attempt, Shell, actor_of, Script, Op, Abort, Event, Do, Start, Step, Run, Kill, Mix, Restart, Recover, SetupEnd, TaskEnd, CommitEnd, CleanEnd, OpEnd, ActorEnd, EventEnd, Done, Ended, Mixed, EventFault, Life, Idle, Busy, Dead, ActorStage, ActorState}
+use Rattle.job_model.specs.declared.events.Op.TheVariants.{Setup, Write, Commit, Clean}
 use Rattle.job_model.specs.declared.ends.SetupEnd.TheVariants as setups
-use Rattle.job_model.specs.declared.ends.TaskEnd.{TaskEnd}
 use Rattle.job_model.specs.declared.ends.TaskEnd.TheVariants as tasks
-use Rattle.job_model.specs.declared.ends.CommitEnd.{CommitEnd}
 use Rattle.job_model.specs.declared.ends.CommitEnd.TheVariants as commits
-use Rattle.job_model.specs.declared.ends.CleanEnd.{CleanEnd}
 use Rattle.job_model.specs.declared.ends.CleanEnd.TheVariants as cleans
-use Rattle.job_model.specs.declared.ends.OpEnd.{OpEnd}
 use Rattle.job_model.specs.declared.ends.OpEnd.TheVariants as ends
-use Rattle.job_model.specs.declared.ends.ActorEnd.{ActorEnd}
-use Rattle.job_model.specs.declared.ends.EventEnd.{EventEnd}
-use Rattle.job_model.specs.declared.ends.EventEnd.TheVariants.{Done, Ended, Mixed, Refused}
-use Rattle.job_model.specs.declared.ends.EventFault.{EventFault}
+use Rattle.job_model.specs.declared.ends.EventEnd.TheVariants.{Refused}
 use Rattle.job_model.specs.declared.ends.EventFault.TheVariants as faults
-use Rattle.job_model.specs.declared.states.Life.{Life}
-use Rattle.job_model.specs.declared.states.Life.TheVariants.{Idle, Busy, Dead}
-use Rattle.job_model.specs.declared.states.ActorStage.{ActorStage}
 use Rattle.job_model.specs.declared.states.ActorStage.TheVariants as stage
-use Rattle.job_model.specs.declared.states.ActorState.{ActorState}
 
 -- ---- actors
 

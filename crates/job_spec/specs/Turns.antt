@@ -1,26 +1,13 @@
 -- Whose turn it is: which entries an event has.
 use Rattle.std.specs.Prelude.{◌≡◌, ℕ, zero, suc, ◌+◌, ◌*◌, ◌/◌, ◌%◌, ◌^◌, ◌<◌, ◌≤◌, ◌&&◌, nat_eq, nat_le, nat_lt, Some, Bool, true, false, cond, List, [], ◌∷◌, ◌++◌, length, slice_get}
-use Rattle.std.specs.List.{filter, list_any, remove}
-use Rattle.s3_types.specs.declared.request.Actor.{Actor}
-use Rattle.s3_types.specs.declared.request.Actor.TheVariants.{Driver, Attempt, Shell}
-use Rattle.s3_types.specs.declared.journal.Entry.{Entry}
-use Rattle.job_model.specs.JobScript.{Script}
-use Rattle.job_model.specs.declared.events.Op.{Op}
+use Rattle.job_protocol.specs.Prelude.{filter, list_any, Actor, Driver, Attempt, Shell, Entry, Script, Op, Event, Do, Start, Step, Run, Kill, Mix, Restart, Recover, OpEnd, EventEnd, Done, Ended, Mixed, ActorEnd, Life, Idle, Busy, Dead, ActorState}
+use Rattle.job_model.specs.Prelude.{remove}
 use Rattle.job_model.specs.declared.events.Op.TheVariants as ops
-use Rattle.job_model.specs.declared.events.Event.{Event}
-use Rattle.job_model.specs.declared.events.Event.TheVariants.{Do, Start, Step, Run, Kill, Mix, Restart, Recover}
-use Rattle.job_model.specs.declared.ends.OpEnd.{OpEnd}
 use Rattle.job_model.specs.declared.ends.OpEnd.TheVariants as ends
 use Rattle.job_model.specs.declared.ends.TaskEnd.TheVariants as tasks
 use Rattle.job_model.specs.declared.ends.SetupEnd.TheVariants as setups
 use Rattle.job_model.specs.declared.ends.CommitEnd.TheVariants as commits
 use Rattle.job_model.specs.declared.ends.CleanEnd.TheVariants as cleans
-use Rattle.job_model.specs.declared.ends.EventEnd.{EventEnd}
-use Rattle.job_model.specs.declared.ends.EventEnd.TheVariants.{Done, Ended, Mixed}
-use Rattle.job_model.specs.declared.ends.ActorEnd.{ActorEnd}
-use Rattle.job_model.specs.declared.states.Life.{Life}
-use Rattle.job_model.specs.declared.states.Life.TheVariants.{Idle, Busy, Dead}
-use Rattle.job_model.specs.declared.states.ActorState.{ActorState}
 use Rattle.job_spec.specs.States.{same_actor, actors}
 
 -- ---- parts of a journal

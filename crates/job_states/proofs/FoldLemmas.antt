@@ -1,14 +1,9 @@
 -- Events of a script, one after another.
 use Rattle.std.proofs.Common.{◌≡◌, ℕ, zero, suc, ◌+◌, ◌<◌, List, [], ◌∷◌, length, drop, get_or, refl, sym, ap, subst, ◌∙◌, arith}
-use Rattle.std.proofs.lemmas.List.{drop_more}
-use Rattle.job_model.specs.Attempts.{Declared}
-use Rattle.job_model.specs.JobScript.{Script}
-use Rattle.job_model.specs.Legal.{IsEvent, AreEvents}
-use Rattle.job_model.specs.declared.events.Event.{Event}
-use Rattle.job_model.specs.declared.ends.EventFault.{EventFault}
-use Rattle.job_model.specs.declared.ends.EventEnd.{EventEnd}
+use Rattle.proof_base.proofs.Common.{drop_more}
+use Rattle.job_spec.specs.Prelude.{Declared, Script, IsEvent, AreEvents, Event, EventFault, EventEnd, Past, open_event, told, end_ops, after_event}
 use Rattle.job_model.specs.declared.ends.EventEnd.TheVariants.{Refused}
-use Rattle.job_spec.specs.States.{Past, open_event, told, end_ops, count, after_event}
+use Rattle.job_spec.specs.States.{count}
 
 -- an event that is not refused is opened, and then its ends come
 pub after_played : (w : Script) (p : Past) (ev : Event) (end : EventEnd) → ((f : EventFault) → end ≡ Refused f → ⊥) → after_event w p ev end ≡ count (end_ops (open_event w p ev) (told ev end))

@@ -1,19 +1,11 @@
 -- Actors at their places.
 use Rattle.std.proofs.Common.{◌≡◌, ℕ, zero, suc, ◌<◌, nat_eq, eqb, Bool, true, false, true≢false, cond, ◌&&◌, ◌+◌, List, [], ◌∷◌, map, set, get_or, length, slice_get, Option, Some, None, refl, sym, ap, subst, ◌∙◌, arith}
 use Rattle.std.specs.Prelude.{is_some, option_map}
-use Rattle.std.specs.Map.{lookup, keys_of}
-use Rattle.std.specs.List.{position, AllByRecursion, IsDistinct}
-use Rattle.std.proofs.lemmas.List.Quantifiers.{position-Some}
-use Rattle.std.proofs.lemmas.Map.Keys.{IsDistinct-head, IsDistinct-tail}
-use Rattle.std.proofs.lemmas.Option.{slice_get-get_or}
-use Rattle.std.proofs.lemmas.Bool.{eqb-true, eq-eqb}
-use Rattle.std.proofs.lemmas.Bool.Decides.{nat_tests}
+use Rattle.job_spec.specs.Prelude.{lookup, keys_of, AllByRecursion, Actor, Driver, Attempt, Shell, Who, Declared, same_name, actor_of, is_known, Script, same_actor, actors}
+use Rattle.job_protocol.specs.Prelude.{position, IsDistinct}
+use Rattle.proof_base.proofs.Common.{position-Some, IsDistinct-head, IsDistinct-tail}
+use Rattle.job_spec.proofs.Common.{slice_get-get_or, eqb-true, eq-eqb, nat_tests}
 use Rattle.proof_base.proofs.Options.{some_is}
-use Rattle.s3_types.specs.declared.request.Actor.{Actor}
-use Rattle.s3_types.specs.declared.request.Actor.TheVariants.{Driver, Attempt, Shell}
-use Rattle.job_model.specs.Attempts.{Who, Declared, same_name, actor_of, is_known}
-use Rattle.job_model.specs.JobScript.{Script}
-use Rattle.job_spec.specs.States.{same_actor, actors}
 use Rattle.job_states.specs.declared.standing.Standing.{Standing}
 use Rattle.job_states.specs.Stands.{is_at, IsPlace, ChangesAt}
 

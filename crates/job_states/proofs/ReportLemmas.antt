@@ -1,19 +1,11 @@
 -- Which tasks are reported, as a list of truth values, and who is busy.
 use Rattle.std.proofs.Common.{◌≡◌, ℕ, zero, suc, ◌+◌, ◌<◌, ◌≤◌, nat_eq, nat_lt, Bool, true, false, true≢false, cond, ◌&&◌, ◌||◌, not, List, [], ◌∷◌, ◌++◌, map, set, length, take, replicate, get_or, slice_get, Option, Some, unwrap_or, refl, sym, ap, subst, ◌∙◌, arith, append_assoc, length-append}
-use Rattle.std.specs.List.{range_with_len, filter}
-use Rattle.std.specs.Ordering.{nat_cmp, match_ordering}
+use Rattle.job_spec.specs.Prelude.{range_with_len, filter, nat_cmp, Ordering, Less, Equal, Greater, first_where, has_task, first_not, is_busy}
+use Rattle.job_protocol.specs.Prelude.{match_ordering, insert_key}
+use Rattle.job_spec.proofs.Common.{eqb-true, nat_tests}
+use Rattle.proof_base.proofs.Common.{or-false}
 use Rattle.std.specs.Cmp.{ranked}
-use Rattle.std.specs.BTreeSet.{insert_key}
-use Rattle.std.specs.declared.cmp.Ordering.{Ordering}
-use Rattle.std.specs.declared.cmp.Ordering.TheVariants.{Less, Equal, Greater}
-use Rattle.std.proofs.lemmas.Bool.{eqb-true}
-use Rattle.std.proofs.lemmas.Bool.Decides.{nat_tests}
 use Rattle.std.proofs.lemmas.Option.{slice_get_past}
-use Rattle.std.proofs.Math.Bool.{or-false}
-use Rattle.job_protocol.specs.Outputs.{first_where}
-use Rattle.job_model.specs.Jobs.{has_task}
-use Rattle.job_spec.specs.States.{first_not}
-use Rattle.job_spec.specs.Turns.{is_busy}
 use Rattle.job_states.specs.declared.standing.Standing.{Standing}
 use Rattle.job_states.specs.Stands.{tested, first_false, busy_from}
 

@@ -1,24 +1,15 @@
 -- What is kept goes with the fold over events and ends.
 use Rattle.std.proofs.Common.{◌≡◌, ℕ, ◌+◌, Bool, true, false, true≢false, cond, ◌&&◌, ◌||◌, nat_eq, Option, Some, None, refl, sym, ap, subst, ◌∙◌}
 use Rattle.std.specs.Prelude.{option_map}
-use Rattle.s3_types.specs.declared.request.Actor.{Actor}
-use Rattle.s3_types.specs.declared.request.Actor.TheVariants.{Driver, Attempt, Shell}
-use Rattle.job_model.specs.Attempts.{is_known}
-use Rattle.job_model.specs.JobScript.{Script}
-use Rattle.job_model.specs.declared.events.Op.{Op}
+use Rattle.job_spec.specs.Prelude.{Actor, Driver, Attempt, Shell, is_known, Script, Op, OpEnd, ActorEnd, Busy, ActorStage, ActorState, Past, Doing, Decided, same_actor, put, idle, dead, ended, restarted, begin, kill, restart, end_op, report, is_committing, is_done, is_commit, decide, stage_begun, stage_done, missing}
 use Rattle.job_model.specs.declared.events.Op.TheVariants.{Setup, Commit}
 use Rattle.job_model.specs.declared.ends.SetupEnd.TheVariants as setups
 use Rattle.job_model.specs.declared.ends.TaskEnd.TheVariants as tasks
 use Rattle.job_model.specs.declared.ends.CommitEnd.TheVariants as commits
 use Rattle.job_model.specs.declared.ends.CleanEnd.TheVariants as cleans
-use Rattle.job_model.specs.declared.ends.OpEnd.{OpEnd}
 use Rattle.job_model.specs.declared.ends.OpEnd.TheVariants as ends
-use Rattle.job_model.specs.declared.ends.ActorEnd.{ActorEnd}
-use Rattle.job_model.specs.declared.states.Life.TheVariants.{Busy}
-use Rattle.job_model.specs.declared.states.ActorStage.{ActorStage}
 use Rattle.job_model.specs.declared.states.ActorStage.TheVariants as stage
-use Rattle.job_model.specs.declared.states.ActorState.{ActorState}
-use Rattle.job_spec.specs.States.{Past, Doing, Decided, same_actor, put, idle, dead, ended, restarted, begin, kill, restart, end_op, report, is_committing, is_done, is_setup, is_commit, decide, stage_begun, stage_done, missing}
+use Rattle.job_spec.specs.States.{is_setup}
 use Rattle.job_states.specs.declared.standing.Standing.{Standing}
 use Rattle.job_states.specs.Standing.{standing, fresh, begun_in, ended_in, killed_in, renewed_in, began, same_op, decision}
 use Rattle.job_states.specs.Stands.{tested, ChangesAt}

@@ -1,12 +1,9 @@
 -- How an actor stands, and what became of the driver's operations, as they are kept.
 use Rattle.std.specs.Prelude.{Bool, true, false, Option, Some, None, option_map}
-use Rattle.s3_types.specs.declared.request.Actor.{Actor}
-use Rattle.job_model.specs.declared.events.Op.{Op}
+use Rattle.job_spec.specs.Prelude.{Actor, Op, OpEnd, Past, Decided, NotBegun, Unended, EndedSo, idle, dead, stage_begun, ended, restarted, end_verdict}
 use Rattle.job_model.specs.declared.events.Op.TheVariants as ops
-use Rattle.job_model.specs.declared.ends.OpEnd.{OpEnd}
 use Rattle.job_model.specs.declared.states.Life.TheVariants as lives
 use Rattle.job_model.specs.declared.states.ActorStage.TheVariants as stages
-use Rattle.job_spec.specs.States.{Past, Decided, NotBegun, Unended, EndedSo, idle, dead, stage_begun, ended, restarted, end_verdict}
 use Rattle.job_states.specs.declared.standing.Standing.{Standing}
 use Rattle.job_states.specs.declared.standing.Decision.{Decision}
 use Rattle.job_states.specs.declared.standing.Decision.TheVariants as kept

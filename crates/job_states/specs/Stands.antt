@@ -1,11 +1,6 @@
 -- What is kept of a script's past.
 use Rattle.std.specs.Prelude.{◌≡◌, ℕ, ◌<◌, nat_eq, ◌+◌, Bool, true, false, List, [], ◌∷◌, map, length, slice_get, Option, Some, None, is_some, IfSome, cond}
-use Rattle.std.specs.List.{range_with_len}
-use Rattle.s3_types.specs.declared.request.Actor.{Actor}
-use Rattle.job_model.specs.Attempts.{is_known}
-use Rattle.job_model.specs.JobScript.{Script}
-use Rattle.job_spec.specs.States.{Past, same_actor, actors, is_committing}
-use Rattle.job_spec.specs.Turns.{is_busy}
+use Rattle.job_spec.specs.Prelude.{range_with_len, Actor, is_known, Script, Past, same_actor, actors, is_committing, is_busy}
 use Rattle.job_states.specs.declared.standing.Standing.{Standing}
 use Rattle.job_states.specs.declared.standing.Decision.{Decision}
 use Rattle.job_states.specs.Standing.{standing, decision}

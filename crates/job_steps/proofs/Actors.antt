@@ -1,10 +1,7 @@
 -- Actors that are the same or not, and what is put at one of them.
 use Rattle.std.proofs.Common.{◌≡◌, ℕ, ◌⊎◌, inl, inr, nat_eq, true, false, cond, refl, sym, ap, ◌∙◌}
-use Rattle.std.proofs.lemmas.Bool.{and_parts}
-use Rattle.proof_base.proofs.Members.{eq_nat, nat_true, false_true, true_or_false}
-use Rattle.s3_types.specs.declared.request.Actor.{Actor}
-use Rattle.s3_types.specs.declared.request.Actor.TheVariants.{Driver, Attempt, Shell}
-use Rattle.job_spec.specs.States.{same_actor, put}
+use Rattle.job_spec.proofs.Common.{and_parts, eq_nat, nat_true, false_true, true_or_false}
+use Rattle.job_steps.specs.Prelude.{Actor, Driver, Attempt, Shell, same_actor, put}
 
 same_itself : (a : Actor) → same_actor a a ≡ true
 same_itself (Attempt t n) = rw (nat_true t t refl, nat_true n n refl) refl

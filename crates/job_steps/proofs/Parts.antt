@@ -1,22 +1,7 @@
 -- Parts of a journal to which one entry is added.
 use Rattle.std.proofs.Common.{◌≡◌, ℕ, zero, suc, ◌+◌, ◌<◌, ◌≤◌, ◌⊎◌, inl, inr, ◌&&◌, nat_eq, nat_le, nat_lt, Bool, true, false, cond, List, [], ◌∷◌, ◌++◌, length, take, slice_get, append-nil, Some, refl, sym, ap, subst, ◌∙◌, arith}
-use Rattle.std.specs.List.{filter}
-use Rattle.std.proofs.lemmas.Bool.Decides.{nat_tests}
-use Rattle.std.proofs.lemmas.List.{take-append-le, take_all}
-use Rattle.std.proofs.lemmas.List.Elements.{filter-append}
-use Rattle.proof_base.proofs.Numbers.{below_so, at_most_so, above_so}
-use Rattle.proof_base.proofs.Members.{some_is, none_some, false_true}
-use Rattle.s3_types.specs.Store.{Scene}
-use Rattle.s3_types.specs.Answer.{answer}
-use Rattle.s3_types.specs.Moment.{effect, after_all, AreHonest, IsHonestOutcome}
-use Rattle.s3_types.specs.declared.request.Actor.{Actor}
-use Rattle.s3_types.specs.declared.request.Actor.TheVariants.{Driver, Attempt, Shell}
-use Rattle.s3_types.specs.declared.request.Request.{Request}
-use Rattle.s3_types.specs.declared.journal.Outcome.{Outcome}
-use Rattle.s3_types.specs.declared.journal.Entry.{Entry}
-use Rattle.job_facts.specs.Told.{strange_entry}
-use Rattle.job_spec.specs.States.{same_actor}
-use Rattle.job_spec.specs.Turns.{is_own, own, of_event, until, before, since, by_actor, AllFrom, IsRising, AllUpTo}
+use Rattle.job_steps.specs.Prelude.{filter, Scene, answer, effect, after_all, AreHonest, IsHonestOutcome, Actor, Driver, Attempt, Shell, Request, Outcome, Entry, strange_entry, same_actor, is_own, own, of_event, until, before, since, by_actor, AllFrom, IsRising, AllUpTo}
+use Rattle.job_spec.proofs.Common.{nat_tests, take-append-le, take_all, filter-append, below_so, at_most_so, above_so, some_is, none_some, false_true}
 
 -- ---- any lists
 

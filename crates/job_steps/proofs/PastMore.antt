@@ -1,39 +1,16 @@
 -- What is past after one more event or end, who is busy then, and which operations events begin.
 use Rattle.std.proofs.Common.{◌≡◌, ℕ, zero, suc, ◌≤◌, Bool, true, false, if◌then◌else◌, List, [], ◌∷◌, ◌++◌, length, slice_get, Option, Some, None, refl, ap, subst, arith}
-use Rattle.proof_base.proofs.Members.{some_is, none_some, false_true}
-use Rattle.s3_types.specs.declared.request.Actor.{Actor}
-use Rattle.s3_types.specs.declared.request.Actor.TheVariants.{Driver, Attempt, Shell}
-use Rattle.s3_types.specs.declared.journal.Entry.{Entry}
-use Rattle.job_model.specs.Attempts.{Declared}
-use Rattle.job_model.specs.JobScript.{Script}
-use Rattle.job_model.specs.Known.{Known}
-use Rattle.job_model.specs.Legal.{HasOp, IsEvent, AreEvents}
-use Rattle.job_model.specs.declared.events.Op.{Op}
+use Rattle.job_spec.proofs.Common.{some_is, none_some, false_true}
+use Rattle.job_steps.specs.Prelude.{Actor, Driver, Attempt, Shell, Entry, Declared, Script, Known, HasOp, IsEvent, AreEvents, Op, Event, Do, Start, Step, Run, Mix, SetupEnd, TaskEnd, CommitEnd, CleanEnd, OpEnd, ActorEnd, EventEnd, Refused, EventFault, Life, Idle, Busy, ActorStage, ActorState, Setting, Operation, start_of, Past, after_event, open_event, end_op, end_ops, told, ended, setup_ended, commit_ended, clean_ended, task_ended, may, refuse_op, refuse_begin, refusal, is_busy, busy_actors, Turns, OpenTurns}
+use Rattle.job_spec.specs.Prelude.{past_from, mix_begins}
 use Rattle.job_model.specs.declared.events.Op.TheVariants as ops
-use Rattle.job_model.specs.declared.events.Event.{Event}
-use Rattle.job_model.specs.declared.events.Event.TheVariants.{Do, Start, Step, Run, Mix}
-use Rattle.job_model.specs.declared.ends.SetupEnd.{SetupEnd}
 use Rattle.job_model.specs.declared.ends.SetupEnd.TheVariants as setups
-use Rattle.job_model.specs.declared.ends.TaskEnd.{TaskEnd}
 use Rattle.job_model.specs.declared.ends.TaskEnd.TheVariants as tasks
-use Rattle.job_model.specs.declared.ends.CommitEnd.{CommitEnd}
 use Rattle.job_model.specs.declared.ends.CommitEnd.TheVariants as commits
-use Rattle.job_model.specs.declared.ends.CleanEnd.{CleanEnd}
 use Rattle.job_model.specs.declared.ends.CleanEnd.TheVariants as cleans
-use Rattle.job_model.specs.declared.ends.OpEnd.{OpEnd}
 use Rattle.job_model.specs.declared.ends.OpEnd.TheVariants as ends
-use Rattle.job_model.specs.declared.ends.ActorEnd.{ActorEnd}
-use Rattle.job_model.specs.declared.ends.EventEnd.{EventEnd}
-use Rattle.job_model.specs.declared.ends.EventEnd.TheVariants.{Refused}
-use Rattle.job_model.specs.declared.ends.EventFault.{EventFault}
 use Rattle.job_model.specs.declared.ends.EventFault.TheVariants as faults
-use Rattle.job_model.specs.declared.states.Life.{Life}
-use Rattle.job_model.specs.declared.states.Life.TheVariants.{Idle, Busy}
-use Rattle.job_model.specs.declared.states.ActorStage.{ActorStage}
-use Rattle.job_model.specs.declared.states.ActorState.{ActorState}
-use Rattle.job_protocol.specs.Operations.{Setting, Operation, start_of}
-use Rattle.job_spec.specs.States.{Past, past_from, after_event, open_event, count, end_op, end_ops, told, ended, setup_ended, commit_ended, clean_ended, task_ended, may, refuse_op, refuse_begin, refusal}
-use Rattle.job_spec.specs.Turns.{is_busy, busy_actors, mix_begins, Turns, OpenTurns}
+use Rattle.job_spec.specs.States.{count}
 
 -- ---- one more
 

@@ -1,15 +1,7 @@
 -- Between events a run has done what its events say.
 use Rattle.std.proofs.Common.{◌≡◌, ◌+◌, [], length, slice_get, Some, None, sym, ap, subst, ◌∙◌}
-use Rattle.s3_types.specs.Store.{Content}
-use Rattle.s3_types.specs.declared.request.Actor.{Actor}
-use Rattle.job_model.specs.Legal.{IsLegal}
-use Rattle.job_model.specs.declared.events.Event.{Event}
-use Rattle.job_protocol.specs.Operations.{Setting}
-use Rattle.job_spec.specs.States.{Past, Doing, open_event, past}
-use Rattle.job_spec.specs.Turns.{of_event, by_actor, OpenTurns, AllUpTo}
-use Rattle.job_spec.specs.Follows.{OpFollows, IsUnended}
-use Rattle.job_steps.specs.Transitions.{Play, Reachable, open_running}
-use Rattle.job_steps.specs.Laws.{IsPlayed}
+use Rattle.job_steps.specs.Prelude.{Content, Actor, IsLegal, Event, Setting, Past, Doing, open_event, past, of_event, by_actor, OpenTurns, AllUpTo, OpFollows, Play, Reachable, open_running, IsPlayed}
+use Rattle.job_spec.specs.Follows.{IsUnended}
 use Rattle.job_steps.proofs.Parts.{event_none}
 use Rattle.job_steps.proofs.PastMore.{turns_open, legal_begins, event_at}
 use Rattle.job_steps.proofs.Told.{Told, AllRun, runs_follow, opened_run, told_all}

@@ -1,43 +1,15 @@
 -- Until the driver cleans up each task that is reported has a last publisher.
 use Rattle.std.proofs.Common.{◌≡◌, ℕ, zero, suc, ◌+◌, ◌<◌, ◌≤◌, ◌⊎◌, inl, inr, nat_eq, ◌&&◌, ◌||◌, Bool, true, false, cond, List, [], ◌∷◌, ◌++◌, Option, Some, None, refl, sym, ap, subst, ◌∙◌, arith, take, slice_get, length}
-use Rattle.std.specs.Option.{option_map}
-use Rattle.std.proofs.lemmas.Bool.{and_parts, or_cases}
-use Rattle.s3_types.specs.Store.{Content}
-use Rattle.s3_types.specs.declared.request.Actor.{Actor}
-use Rattle.s3_types.specs.declared.request.Actor.TheVariants.{Driver, Attempt}
-use Rattle.s3_types.specs.declared.journal.Outcome.{Outcome}
-use Rattle.s3_types.specs.declared.journal.Outcome.TheVariants.{Answered, Slow, RequestLost, ReplyLost}
-use Rattle.s3_types.specs.declared.journal.Entry.{Entry}
-use Rattle.s3_types.specs.declared.request.Request.{Request}
-use Rattle.job_model.specs.Attempts.{Who, actor_of}
-use Rattle.job_model.specs.Legal.{IsLegal}
-use Rattle.job_model.specs.JobScript.{Script}
-use Rattle.job_model.specs.declared.events.Event.{Event}
-use Rattle.job_model.specs.declared.events.Event.TheVariants.{Restart}
-use Rattle.job_model.specs.declared.ends.TaskEnd.{TaskEnd}
+use Rattle.job_steps.specs.Prelude.{option_map, Content, Actor, Driver, Attempt, Outcome, Answered, Slow, RequestLost, ReplyLost, Entry, Request, Who, actor_of, IsLegal, Script, Event, Restart, TaskEnd, OpEnd, ActorEnd, EventEnd, Busy, ActorStage, Retried, TaskCommit, TaskCommitOver, task_commit_over, Setting, Operation, TheSetup, TheTaskCommit, Running, over, Seen, see, see_all, nothing_seen, see_by, seen, is_begun, first_not, is_committing, open_event, commit_event, clean_event, is_memory, IsOpening, Stand, Runs, HasPublished, Told, tell_all, nothing_told, strange_entry, Play, Refuses, Opens, Sends, Finishes, Closes, Strays, happen, MayFinish, Reachable, nothing_happened, happens, times, Ahead, IsRun, operation_of}
+use Rattle.job_spec.proofs.Common.{and_parts, some_is, none_some, false_true, eq_nat, nat_true}
+use Rattle.job_facts.specs.Prelude.{is_publishing, tell, tell_by, is_effective}
+use Rattle.job_spec.specs.Prelude.{report, is_done}
+use Rattle.std.proofs.lemmas.Bool.{or_cases}
 use Rattle.job_model.specs.declared.ends.TaskEnd.TheVariants as tasks
-use Rattle.job_model.specs.declared.ends.OpEnd.{OpEnd}
 use Rattle.job_model.specs.declared.ends.OpEnd.TheVariants as ends
-use Rattle.job_model.specs.declared.ends.ActorEnd.{ActorEnd}
-use Rattle.job_model.specs.declared.ends.EventEnd.{EventEnd}
-use Rattle.job_model.specs.declared.states.Life.TheVariants.{Busy}
-use Rattle.job_model.specs.declared.states.ActorStage.{ActorStage}
-use Rattle.retries.specs.Retries.{Retried}
-use Rattle.job_protocol.specs.TaskCommits.{TaskCommit, TaskCommitOver, task_commit_over}
-use Rattle.job_protocol.specs.Operations.{Setting, Operation, TheSetup, TheTaskCommit, Running, over}
-use Rattle.job_spec.specs.Seen.{Seen, see, see_all, nothing_seen, see_by, seen, is_begun, is_publishing}
-use Rattle.job_spec.specs.States.{first_not, report, is_done, is_committing, open_event, commit_event, clean_event}
-use Rattle.job_spec.specs.Turns.{is_memory}
-use Rattle.proof_base.proofs.Members.{some_is, none_some, false_true, eq_nat, nat_true}
-use Rattle.job_traces.specs.Runs.{IsOpening, Stand, Runs}
-use Rattle.job_facts.specs.Standing.{HasPublished}
-use Rattle.job_facts.specs.Told.{Told, tell, tell_by, tell_all, nothing_told, strange_entry}
 use Rattle.job_traces.proofs.Entries.{see_more, sees, tells_so}
-use Rattle.job_steps.specs.Transitions.{Play, Refuses, Opens, Sends, Finishes, Closes, Strays, happen, MayFinish, Reachable, nothing_happened, happens}
-use Rattle.job_steps.specs.Running.{times, Ahead, IsRun, operation_of}
 use Rattle.job_steps.proofs.RunningStages.{may_end}
 use Rattle.job_steps.proofs.Running.{is_run, sent_ahead, strayed_ahead, finished_ahead, opened_ahead, refused_ahead, not_refused, closed_ahead}
-use Rattle.s3_types.specs.Moment.{is_effective}
 use Rattle.job_spec.proofs.Told.{scene_is, last_still}
 use Rattle.job_traces.proofs.Published.{has_published}
 use Rattle.job_steps.proofs.RunningCommits.{IsTaskCommit, StageBy, CommitAt, over_is, commits_at}

@@ -1,36 +1,10 @@
 -- What happens in a run is one of the job's runs, by each kind of happening.
 use Rattle.std.proofs.Common.{◌≡◌, ℕ, ◌+◌, ◌≤◌, ◌^◌, ◌⊎◌, inl, inr, ◌&&◌, ◌||◌, not, Bool, true, false, List, [], ◌∷◌, ◌++◌, length, Option, Some, None, refl, sym, ap, subst, ◌∙◌, length-append}
-use Rattle.s3_types.specs.Store.{Content}
-use Rattle.s3_types.specs.Answer.{answer}
-use Rattle.s3_types.specs.Moment.{moment, IsHonestOutcome}
-use Rattle.s3_types.specs.declared.request.Actor.{Actor}
-use Rattle.s3_types.specs.declared.request.Actor.TheVariants.{Driver, Attempt, Shell}
-use Rattle.s3_types.specs.declared.request.Request.{Request}
-use Rattle.s3_types.specs.declared.journal.Outcome.{Outcome}
-use Rattle.s3_types.specs.declared.journal.Entry.{Entry}
-use Rattle.job_model.specs.Attempts.{Who, actor_of}
-use Rattle.job_model.specs.Legal.{IsLegal, IsEvent}
-use Rattle.job_model.specs.JobScript.{Script}
-use Rattle.job_model.specs.declared.events.Op.{Op}
-use Rattle.job_model.specs.declared.events.Op.TheVariants.{Setup, Write, Commit, Abort, Clean}
-use Rattle.job_model.specs.declared.events.Event.{Event}
-use Rattle.job_model.specs.declared.events.Event.TheVariants.{Do, Start, Kill, Restart, Recover}
-use Rattle.job_model.specs.declared.ends.OpEnd.{OpEnd}
-use Rattle.job_model.specs.declared.ends.ActorEnd.{ActorEnd}
-use Rattle.job_model.specs.declared.ends.EventEnd.{EventEnd}
-use Rattle.job_model.specs.declared.ends.EventEnd.TheVariants.{Refused}
-use Rattle.job_model.specs.declared.ends.EventFault.{EventFault}
-use Rattle.job_model.specs.declared.states.Life.TheVariants.{Busy, Dead}
-use Rattle.job_model.specs.declared.states.ActorState.{ActorState}
-use Rattle.job_protocol.specs.Operations.{Setting, Running, wants, advance, over}
-use Rattle.job_spec.specs.Seen.{is_begun}
-use Rattle.job_spec.specs.States.{put, missing, dead, idle, restarted, ended, refusal, open_event, begins_commit, begins_clean, is_refused}
-use Rattle.job_spec.specs.Turns.{is_memory, Turns}
-use Rattle.proof_base.proofs.Members.{none_some}
-use Rattle.job_traces.specs.Runs.{run_begins, IsOpening, first_stand}
+use Rattle.job_steps.specs.Prelude.{Content, answer, moment, IsHonestOutcome, Actor, Driver, Attempt, Shell, Request, Outcome, Entry, Who, actor_of, IsLegal, IsEvent, Script, Op, Setup, Write, Abort, Clean, Event, Do, Start, Kill, Restart, Recover, OpEnd, ActorEnd, EventEnd, Refused, EventFault, Busy, Dead, ActorState, Setting, Running, wants, advance, over, is_begun, put, missing, dead, idle, restarted, ended, refusal, open_event, begins_commit, begins_clean, is_refused, is_memory, Turns, run_begins, IsOpening, Play, Refuses, Opens, Sends, Finishes, Closes, Strays, open_running, hear, happen, MayOpen, MaySend, MayFinish, MayClose, MayStray, Reachable, nothing_happened, happens, nothing_played, Ahead, IsRun, operation_of, Times, times}
+use Rattle.job_spec.proofs.Common.{none_some}
+use Rattle.job_model.specs.declared.events.Op.TheVariants.{Commit}
+use Rattle.job_traces.specs.Runs.{first_stand}
 use Rattle.job_facts.proofs.Whose.{attempt}
-use Rattle.job_steps.specs.Transitions.{Play, Refuses, Opens, Sends, Finishes, Closes, Strays, open_running, hear, happen, MayOpen, MaySend, MayFinish, MayClose, MayStray, Reachable, nothing_happened, happens, nothing_played}
-use Rattle.job_steps.specs.Running.{Ahead, IsRun, operation_of, Times, times}
 use Rattle.job_steps.proofs.RunningNumbers.{begun_next, unbegun, legal_event, begun_at}
 use Rattle.job_steps.proofs.RunningStages.{DriverAt, begins_so, memory_dies, may_end, driver_stops, driver_restarts, restarted_new, driver_ends, Begun, with_event, still_begun}
 use Rattle.job_steps.proofs.RunningTasks.{AttemptAt, attempt_dies, attempt_ends}

@@ -1,31 +1,13 @@
 -- How far a run has come with a job: it is one of the job's runs, and what its actors are at is by their lives and stages.
 use Rattle.std.proofs.Common.{◌≡◌, ℕ, ◌≤◌, ◌^◌, inl, inr, Bool, true, false, cond, List, [], ◌∷◌, ◌++◌, length, Option, Some, None, refl, sym, ap, subst, ◌∙◌}
-use Rattle.s3_types.specs.Store.{Content, Scene}
-use Rattle.s3_types.specs.Answer.{answer}
-use Rattle.s3_types.specs.Moment.{moment, IsHonestOutcome}
-use Rattle.s3_types.specs.declared.request.Actor.{Actor}
-use Rattle.s3_types.specs.declared.request.Actor.TheVariants.{Driver, Shell}
-use Rattle.s3_types.specs.declared.request.Request.{Request}
-use Rattle.s3_types.specs.declared.journal.Outcome.{Outcome}
-use Rattle.s3_types.specs.declared.journal.Entry.{Entry}
-use Rattle.job_model.specs.Attempts.{Who, actor_of, same_name}
-use Rattle.job_model.specs.Legal.{IsLegal}
-use Rattle.job_model.specs.Known.{Known}
-use Rattle.job_model.specs.declared.states.Life.TheVariants.{Busy}
-use Rattle.job_model.specs.declared.states.ActorState.{ActorState}
-use Rattle.job_protocol.specs.Knowledge.{knows, learn}
-use Rattle.job_protocol.specs.Operations.{Setting, Operation, Running, who, asks, tells, wants, learn_of, advance}
-use Rattle.job_spec.specs.States.{put, is_new}
-use Rattle.job_spec.specs.Turns.{by_actor}
-use Rattle.proof_base.proofs.Members.{some_is, none_some, false_true, true_or_false}
-use Rattle.job_facts.specs.Told.{Told, known, nothing_told, entry, driver_entry, strange_entry}
-use Rattle.job_facts.specs.Foreign.{IsForeign}
-use Rattle.job_traces.specs.Runs.{Stand, Runs, IsOpening, IsTimely, saw, with_attempt, with_driver, with_commit, commit_with, is_set, driver_sends, attempt_sends, strays}
+use Rattle.job_steps.specs.Prelude.{Content, Scene, answer, moment, IsHonestOutcome, Actor, Driver, Shell, Request, Outcome, Entry, Who, actor_of, same_name, IsLegal, Known, Busy, ActorState, knows, learn, Setting, Operation, Running, who, asks, tells, wants, learn_of, advance, put, is_new, by_actor, Told, known, nothing_told, entry, driver_entry, strange_entry, Stand, Runs, IsOpening, IsTimely, with_attempt, is_set, driver_sends, attempt_sends, strays, Times, operation_of}
+use Rattle.job_spec.proofs.Common.{some_is, none_some, false_true, true_or_false}
+use Rattle.job_facts.specs.Prelude.{IsForeign}
+use Rattle.job_traces.specs.Runs.{saw, with_driver, with_commit, commit_with}
 use Rattle.job_facts.proofs.Whose.{who_is}
 use Rattle.job_facts.proofs.Learnt.{known_is}
 use Rattle.job_traces.proofs.Entries.{tells_so}
 use Rattle.job_traces.proofs.Changes.{moment_scene}
-use Rattle.job_steps.specs.Running.{Times, operation_of}
 use Rattle.job_steps.proofs.RunningNumbers.{begun_at}
 use Rattle.job_steps.proofs.RunningStages.{Begun, DriverAt, IsTimed, driver_set, driver_kind, driver_asks, driver_hears, timed_sends, timed_tells}
 use Rattle.job_steps.proofs.RunningTasks.{AttemptAt, attempt_hears}

@@ -1,60 +1,21 @@
 -- In a run an attempt at the stage of its commit is at that commit, until it ends or dies.
 use Rattle.std.proofs.Common.{◌≡◌, ℕ, inl, inr, Bool, true, false, [], ◌∷◌, ◌++◌, Option, Some, None, refl, sym, ap, subst, ◌∙◌, List, map}
-use Rattle.s3_types.specs.Store.{Content}
-use Rattle.s3_types.specs.declared.request.Actor.{Actor}
-use Rattle.s3_types.specs.declared.request.Actor.TheVariants.{Driver}
-use Rattle.s3_types.specs.declared.journal.Outcome.{Outcome}
-use Rattle.s3_types.specs.declared.journal.Entry.{Entry}
-use Rattle.job_model.specs.Attempts.{Who, actor_of}
-use Rattle.job_model.specs.Known.{Known}
-use Rattle.job_model.specs.Legal.{IsLegal}
-use Rattle.job_model.specs.declared.events.Op.{Op}
+use Rattle.job_steps.specs.Prelude.{Content, Actor, Driver, Outcome, Entry, Who, actor_of, Known, IsLegal, Op, Event, Do, Start, Kill, SetupEnd, CommitEnd, CleanEnd, TaskEnd, OpEnd, ActorEnd, Done, Life, Idle, Busy, Dead, ActorStage, ActorState, TaskCommit, TaskCommitOver, task_commit_over, task_commit_start, Setting, Operation, TheSetup, TheWrite, TheTaskCommit, TheTaskAbort, TheCommit, TheClean, Running, tells, start_of, over, Past, put, missing, stage_begun, dead, setup_ended, commit_ended, clean_ended, task_ended, ended, is_committing, open_event, commit_event, IsOpening, Stand, Runs, run_begins, actor_begins, driver_sends, attempt_sends, strays, Beginning, BeginWrite, BeginPublish, BeginAbort, begin, Play, Refuses, Opens, Sends, Finishes, Closes, knows_now, begun, begin_running, open_running, hear, happen, MayOpen, MaySend, MayFinish, Reachable, nothing_happened, happens, Strays, Ahead, IsRun, operation_of, times, Committer, Magic, Reply, Retried, fresh, step, File, Script, files, record_key, Uploaded, upload_hears, write_start, task_abort_start, known}
+use Rattle.job_facts.specs.Prelude.{Looking, Reading, Checking, Uploads, Renaming, least_missing, in_order, reading, looked_at, looked, read_record, storing, checking, checked, to_check, uploaded, renamed, task_commit_start_by, task_commit_hears, task_commit_after, Page, Refused, NoSuchKey, NoSuchFile, AllSent, Walked, More, Whole}
+use Rattle.job_spec.specs.Prelude.{stage_done}
+use Rattle.job_spec.proofs.Common.{some_is, none_some, true_or_false}
 use Rattle.job_model.specs.declared.events.Op.TheVariants as ops
-use Rattle.job_model.specs.declared.events.Event.{Event}
-use Rattle.job_model.specs.declared.events.Event.TheVariants.{Do, Start, Kill}
-use Rattle.job_model.specs.declared.ends.SetupEnd.{SetupEnd}
 use Rattle.job_model.specs.declared.ends.SetupEnd.TheVariants as setups
-use Rattle.job_model.specs.declared.ends.CommitEnd.{CommitEnd}
 use Rattle.job_model.specs.declared.ends.CommitEnd.TheVariants as commits
-use Rattle.job_model.specs.declared.ends.CleanEnd.{CleanEnd}
 use Rattle.job_model.specs.declared.ends.CleanEnd.TheVariants as cleans
-use Rattle.job_model.specs.declared.ends.TaskEnd.{TaskEnd}
 use Rattle.job_model.specs.declared.ends.TaskEnd.TheVariants as tasks
-use Rattle.job_model.specs.declared.ends.OpEnd.{OpEnd}
 use Rattle.job_model.specs.declared.ends.OpEnd.TheVariants as ends
-use Rattle.job_model.specs.declared.ends.ActorEnd.{ActorEnd}
-use Rattle.job_model.specs.declared.ends.EventEnd.TheVariants.{Done}
-use Rattle.job_model.specs.declared.states.Life.{Life}
-use Rattle.job_model.specs.declared.states.Life.TheVariants.{Idle, Busy, Dead}
-use Rattle.job_model.specs.declared.states.ActorStage.{ActorStage}
 use Rattle.job_model.specs.declared.states.ActorStage.TheVariants as stage
-use Rattle.job_model.specs.declared.states.ActorState.{ActorState}
-use Rattle.job_protocol.specs.TaskCommits.{TaskCommit, Looking, Reading, Checking, Uploads, Renaming, TaskCommitOver, task_commit_over, least_missing, in_order, reading, looked_at, looked, read_record, storing, checking, checked, to_check, uploaded, renamed, task_commit_start_by, task_commit_start, task_commit_hears, task_commit_after}
-use Rattle.job_protocol.specs.Operations.{Setting, Operation, TheSetup, TheWrite, TheTaskCommit, TheTaskAbort, TheCommit, TheClean, Running, tells, start_of, over}
-use Rattle.job_spec.specs.States.{Past, put, missing, stage_begun, stage_done, dead, setup_ended, commit_ended, clean_ended, task_ended, ended, is_committing, open_event, commit_event}
-use Rattle.proof_base.proofs.Members.{some_is, none_some, true_or_false}
-use Rattle.job_traces.specs.Runs.{IsOpening, Stand, Runs, run_begins, actor_begins, driver_sends, attempt_sends, strays, Beginning, BeginWrite, BeginPublish, BeginAbort, begin}
-use Rattle.job_steps.specs.Transitions.{Play, Refuses, Opens, Sends, Finishes, Closes, knows_now, begun, begin_running, open_running, hear, happen, MayOpen, MaySend, MayFinish, Reachable, nothing_happened, happens, Strays}
-use Rattle.job_steps.specs.Running.{Ahead, IsRun, operation_of, times}
 use Rattle.job_steps.proofs.Actors.{same_or_not, put_here, put_other}
 use Rattle.job_steps.proofs.Told.{told_all}
 use Rattle.job_steps.proofs.RunningStages.{begins_so, memory_dies, may_end, mapped}
 use Rattle.job_steps.proofs.Running.{is_run}
-use Rattle.s3_types.specs.declared.request.Committer.{Committer}
-use Rattle.s3_types.specs.declared.request.Committer.TheVariants.{Magic}
-use Rattle.s3_types.specs.declared.reply.Reply.{Reply}
-use Rattle.s3_types.specs.declared.reply.Reply.TheVariants.{Page, Refused}
-use Rattle.s3_types.specs.declared.reply.Refusal.TheVariants.{NoSuchKey, NoSuchFile}
-use Rattle.retries.specs.Retries.{Retried, fresh, step}
-use Rattle.job_model.specs.Files.{File}
-use Rattle.job_model.specs.JobScript.{Script}
-use Rattle.job_protocol.specs.Outputs.{files}
-use Rattle.job_protocol.specs.Records.{record_key}
-use Rattle.job_protocol.specs.Uploading.{Uploaded, AllSent, upload_hears}
-use Rattle.list_walk.specs.Walks.{Walked, More, Whole, walked}
-use Rattle.job_protocol.specs.Writes.{write_start}
-use Rattle.job_protocol.specs.TaskAborts.{task_abort_start}
-use Rattle.job_facts.specs.Told.{known}
+use Rattle.list_walk.specs.Walks.{walked}
 use Rattle.job_facts.proofs.Whose.{put_at}
 use Rattle.job_facts.proofs.Going.{step_so}
 

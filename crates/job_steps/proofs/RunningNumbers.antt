@@ -1,20 +1,9 @@
 -- Where the event of the job's commit is, by the events and ends that are there and to come; and what a script's bounds say of its events.
 use Rattle.std.proofs.Common.{◌≡◌, ℕ, zero, suc, ◌+◌, ◌<◌, ◌≤◌, ◌&&◌, ◌||◌, not, Bool, true, false, cond, is_some, List, [], ◌∷◌, ◌++◌, length, slice_get, Option, Some, refl, sym, ap, subst, ◌∙◌, arith}
-use Rattle.std.specs.Map.{lookup}
-use Rattle.std.proofs.lemmas.Bool.{and_parts}
-use Rattle.s3_types.specs.declared.request.Actor.TheVariants.{Attempt}
-use Rattle.proof_base.proofs.Numbers.{at_most_so, above_so}
-use Rattle.job_model.specs.Attempts.{Who, Declared, is_known, same_name}
-use Rattle.job_model.specs.Legal.{IsLegal, AreAttempts, IsEvent, AreEvents}
-use Rattle.job_model.specs.JobScript.{Script}
-use Rattle.job_model.specs.declared.events.Event.{Event}
-use Rattle.job_model.specs.declared.ends.EventEnd.{EventEnd}
-use Rattle.job_spec.specs.Seen.{is_begun}
-use Rattle.job_spec.specs.States.{begins_commit, begins_clean, is_refused, event_from, commit_event, clean_event}
-use Rattle.job_steps.specs.Running.{Times, times}
+use Rattle.job_steps.specs.Prelude.{lookup, Attempt, Who, Declared, is_known, same_name, IsLegal, AreAttempts, IsEvent, AreEvents, Script, Event, EventEnd, is_begun, begins_commit, begins_clean, is_refused, commit_event, clean_event, Times, times, IsAttempt}
+use Rattle.job_spec.proofs.Common.{and_parts, at_most_so, above_so, some_is, none_some, eq_nat}
+use Rattle.job_spec.specs.States.{event_from}
 use Rattle.job_steps.proofs.RunningStages.{Begun, with_event}
-use Rattle.proof_base.proofs.Members.{some_is, none_some, eq_nat}
-use Rattle.job_facts.specs.Facts.{IsAttempt}
 use Rattle.job_facts.proofs.Whose.{attempt}
 
 -- ---- the first event that passes a test

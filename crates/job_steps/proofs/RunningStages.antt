@@ -1,45 +1,19 @@
 -- What the driver is at, by its life and stage.
 use Rattle.std.proofs.Common.{◌≡◌, ℕ, ◌⊎◌, inl, inr, ◌&&◌, ◌||◌, Bool, true, false, Option, Some, None, refl, sym, ap, subst}
 use Rattle.std.specs.Prelude.{if◌then◌else◌}
-use Rattle.std.specs.Option.{option_map}
-use Rattle.s3_types.specs.declared.request.Actor.{Actor}
-use Rattle.s3_types.specs.declared.request.Actor.TheVariants.{Driver, Attempt}
-use Rattle.s3_types.specs.declared.request.Request.{Request}
-use Rattle.s3_types.specs.declared.journal.Outcome.{Outcome}
-use Rattle.retries.specs.Retries.{Retried}
-use Rattle.job_model.specs.Known.{Known}
-use Rattle.job_model.specs.declared.events.Event.{Event}
-use Rattle.job_model.specs.declared.events.Op.{Op}
-use Rattle.job_model.specs.declared.events.Op.TheVariants.{Setup, Commit, Abort, Clean}
-use Rattle.job_model.specs.declared.ends.SetupEnd.{SetupEnd}
+use Rattle.job_steps.specs.Prelude.{option_map, Actor, Driver, Attempt, Request, Outcome, Retried, Known, Event, Op, Setup, Abort, Clean, SetupEnd, CommitEnd, CleanEnd, TaskEnd, OpEnd, ActorEnd, EventFault, Life, Idle, Busy, Dead, ActorStage, setup_over, commit_over, clean_over, Setting, Operation, TheSetup, TheWrite, TheTaskCommit, TheTaskAbort, TheCommit, TheClean, Running, who, asks, tells, over, is_begun, ended, setup_ended, commit_ended, clean_ended, dead, restarted, is_new, needs_set, may, driver_may, refuse_op, refuse_begin, begins_commit, begins_clean, is_busy, is_memory, is_wanting, is_set, is_just_set, IsTimely, nothing_learnt, Play, MayFinish}
+use Rattle.job_spec.proofs.Common.{some_is, none_some, false_true, true_or_false}
+use Rattle.job_model.specs.declared.events.Op.TheVariants.{Commit}
 use Rattle.job_model.specs.declared.ends.SetupEnd.TheVariants as setups
-use Rattle.job_model.specs.declared.ends.CommitEnd.{CommitEnd}
 use Rattle.job_model.specs.declared.ends.CommitEnd.TheVariants as commits
-use Rattle.job_model.specs.declared.ends.CleanEnd.{CleanEnd}
 use Rattle.job_model.specs.declared.ends.CleanEnd.TheVariants as cleans
-use Rattle.job_model.specs.declared.ends.TaskEnd.{TaskEnd}
 use Rattle.job_model.specs.declared.ends.TaskEnd.TheVariants as tasks
-use Rattle.job_model.specs.declared.ends.OpEnd.{OpEnd}
 use Rattle.job_model.specs.declared.ends.OpEnd.TheVariants as ends
-use Rattle.job_model.specs.declared.ends.ActorEnd.{ActorEnd}
-use Rattle.job_model.specs.declared.ends.EventFault.{EventFault}
 use Rattle.job_model.specs.declared.ends.EventFault.TheVariants as faults
-use Rattle.job_model.specs.declared.states.Life.{Life}
-use Rattle.job_model.specs.declared.states.Life.TheVariants.{Idle, Busy, Dead}
-use Rattle.job_model.specs.declared.states.ActorStage.{ActorStage}
 use Rattle.job_model.specs.declared.states.ActorStage.TheVariants as stage
 use Rattle.job_protocol.specs.Setup as setup
-use Rattle.job_protocol.specs.Setup.{setup_over}
-use Rattle.job_protocol.specs.JobCommits.{commit_over}
-use Rattle.job_protocol.specs.Cleanups.{clean_over}
-use Rattle.job_protocol.specs.Operations.{Setting, Operation, TheSetup, TheWrite, TheTaskCommit, TheTaskAbort, TheCommit, TheClean, Running, who, asks, tells, over}
-use Rattle.job_spec.specs.Seen.{is_begun}
-use Rattle.job_spec.specs.States.{ended, setup_ended, commit_ended, clean_ended, dead, restarted, is_new, needs_set, may, driver_may, refuse_op, refuse_begin, begins_commit, begins_clean}
-use Rattle.job_spec.specs.Turns.{is_busy, is_memory, is_wanting}
-use Rattle.proof_base.proofs.Members.{some_is, none_some, false_true, true_or_false}
-use Rattle.job_traces.specs.Runs.{is_set, is_just_set, is_done, IsTimely, nothing_learnt}
+use Rattle.job_traces.specs.Runs.{is_done}
 use Rattle.job_facts.proofs.Whose.{or_false}
-use Rattle.job_steps.specs.Transitions.{Play, MayFinish}
 
 -- ---- when an operation may begin
 

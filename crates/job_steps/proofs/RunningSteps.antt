@@ -1,39 +1,13 @@
 -- An actor's operation begins: it is one that the job's runs let begin.
 use Rattle.std.proofs.Common.{◌≡◌, ℕ, inl, inr, ◌||◌, true, false, List, Option, Some, None, refl, sym, ap, subst, ◌∙◌}
-use Rattle.s3_types.specs.Store.{Content}
-use Rattle.s3_types.specs.declared.request.Actor.{Actor}
-use Rattle.s3_types.specs.declared.request.Actor.TheVariants.{Driver, Attempt, Shell}
-use Rattle.s3_types.specs.declared.journal.Entry.{Entry}
-use Rattle.retries.specs.Retries.{Retried, fresh}
-use Rattle.job_model.specs.Attempts.{Who, actor_of, is_known}
-use Rattle.job_model.specs.Legal.{IsLegal, HasOp}
-use Rattle.job_model.specs.JobScript.{Script}
-use Rattle.job_model.specs.Known.{Known}
-use Rattle.job_model.specs.declared.events.Op.{Op}
-use Rattle.job_model.specs.declared.events.Op.TheVariants.{Setup, Write, Commit, Abort, Clean}
-use Rattle.job_model.specs.declared.events.Event.TheVariants.{Do}
+use Rattle.job_steps.specs.Prelude.{Content, Actor, Driver, Attempt, Shell, Entry, Retried, fresh, Who, actor_of, is_known, IsLegal, HasOp, Script, Known, Op, Setup, Write, Abort, Clean, Do, Idle, Busy, ActorStage, ActorState, setup_start, write_start, task_commit_start, TaskAbort, task_abort_start, commit_start, clean_start, knows, Setting, Operation, TheSetup, TheWrite, TheTaskCommit, TheTaskAbort, TheCommit, TheClean, Running, who, start_of, put, stage_begun, is_new, driver_may, attempt_may, by_actor, known, IsAttempt, Stand, BeginSetup, BeginCommit, BeginClean, BeginWrite, BeginPublish, BeginAbort, begin, Runs, actor_begins, IsOpening, with_attempt, is_set, is_just_set, begun, Times, operation_of}
+use Rattle.job_facts.specs.Prelude.{WriteOver}
+use Rattle.job_spec.proofs.Common.{false_true}
+use Rattle.job_model.specs.declared.events.Op.TheVariants.{Commit}
 use Rattle.job_model.specs.declared.ends.TaskEnd.TheVariants as tasks
-use Rattle.job_model.specs.declared.states.Life.TheVariants.{Idle, Busy}
-use Rattle.job_model.specs.declared.states.ActorStage.{ActorStage}
-use Rattle.job_model.specs.declared.states.ActorState.{ActorState}
-use Rattle.job_protocol.specs.Setup.{setup_start}
-use Rattle.job_protocol.specs.Writes.{WriteOver, write_start}
-use Rattle.job_protocol.specs.TaskCommits.{task_commit_start}
-use Rattle.job_protocol.specs.TaskAborts.{TaskAbort, task_abort_start}
-use Rattle.job_protocol.specs.JobCommits.{commit_start}
-use Rattle.job_protocol.specs.Cleanups.{clean_start}
-use Rattle.job_protocol.specs.Knowledge.{knows}
-use Rattle.job_protocol.specs.Operations.{Setting, Operation, TheSetup, TheWrite, TheTaskCommit, TheTaskAbort, TheCommit, TheClean, Running, who, start_of}
-use Rattle.job_spec.specs.States.{put, stage_begun, is_new, driver_may, attempt_may}
-use Rattle.job_spec.specs.Turns.{by_actor}
-use Rattle.proof_base.proofs.Members.{false_true}
-use Rattle.job_facts.specs.Told.{known}
-use Rattle.job_facts.specs.Facts.{IsAttempt}
-use Rattle.job_traces.specs.Runs.{Stand, BeginSetup, BeginCommit, BeginClean, BeginWrite, BeginPublish, BeginAbort, begin, Runs, actor_begins, IsOpening, with_attempt, is_set, is_just_set, MaySetUp}
+use Rattle.job_traces.specs.Runs.{MaySetUp}
 use Rattle.job_facts.proofs.Whose.{attempt, or_false, or_true}
 use Rattle.job_traces.proofs.Entries.{late_now}
-use Rattle.job_steps.specs.Transitions.{begun}
-use Rattle.job_steps.specs.Running.{Times, operation_of}
 use Rattle.job_steps.proofs.RunningNumbers.{known_attempt}
 use Rattle.job_steps.proofs.RunningStages.{Begun, with_event, still_begun, IsSettingUp, Begins, MaySet, IsBehind, DriverAt, may_setup, may_commit_job, new_at, behind_at, timed_setting, timed_on}
 use Rattle.job_steps.proofs.RunningTasks.{AttemptAt, FreeAbort, HasWritten, free_start, free_abort, may_write, written_is, may_publish, may_abort}

@@ -1,35 +1,14 @@
 -- What an attempt is at, by its life and stage.
 use Rattle.std.proofs.Common.{◌≡◌, ℕ, zero, suc, Bool, true, false, List, [], ◌∷◌, Option, Some, None, refl, sym, ap, subst}
-use Rattle.s3_types.specs.declared.request.Committer.{Committer}
-use Rattle.s3_types.specs.declared.request.Committer.TheVariants.{Magic}
-use Rattle.s3_types.specs.declared.journal.Outcome.{Outcome}
-use Rattle.s3_types.specs.declared.journal.Outcome.TheVariants.{Answered, Slow}
-use Rattle.retries.specs.Retries.{Item, Got, WornOut, OutOfMemory, Retried, step, unanswered_by}
-use Rattle.job_model.specs.Files.{File}
-use Rattle.job_model.specs.Attempts.{Who}
-use Rattle.job_model.specs.JobScript.{Script}
-use Rattle.job_model.specs.Known.{Drawn, Known}
-use Rattle.job_model.specs.declared.events.Op.TheVariants.{Write, Commit}
-use Rattle.job_model.specs.declared.ends.TaskEnd.{TaskEnd}
+use Rattle.job_steps.specs.Prelude.{Committer, Magic, Outcome, Answered, Slow, Item, Got, WornOut, OutOfMemory, Retried, step, unanswered_by, File, Who, Script, Drawn, Known, Write, TaskEnd, OpEnd, Life, Idle, Busy, Dead, ActorStage, files, Sweep, sweep_hears, Uploaded, upload_hears, write_start, write_over, task_commit_over, TaskAbort, task_abort_start, task_abort_over, Setting, Operation, TheSetup, TheWrite, TheTaskCommit, TheTaskAbort, TheCommit, TheClean, tells, over, ended, task_ended, attempt_may}
+use Rattle.job_facts.specs.Prelude.{as_made, all_go, GoesOn, write_after, task_abort_by, task_abort_after}
+use Rattle.job_spec.proofs.Common.{some_is, none_some, false_true}
+use Rattle.job_model.specs.declared.events.Op.TheVariants.{Commit}
 use Rattle.job_model.specs.declared.ends.TaskEnd.TheVariants as tasks
-use Rattle.job_model.specs.declared.ends.OpEnd.{OpEnd}
 use Rattle.job_model.specs.declared.ends.OpEnd.TheVariants as ends
-use Rattle.job_model.specs.declared.states.Life.{Life}
-use Rattle.job_model.specs.declared.states.Life.TheVariants.{Idle, Busy, Dead}
-use Rattle.job_model.specs.declared.states.ActorStage.{ActorStage}
 use Rattle.job_model.specs.declared.states.ActorStage.TheVariants as stage
-use Rattle.job_protocol.specs.Outputs.{files}
-use Rattle.job_protocol.specs.Knowledge.{as_made}
-use Rattle.list_walk.specs.Walks.{Sweep, sweep_hears, all_go}
-use Rattle.job_protocol.specs.Uploading.{Uploaded, GoesOn, upload_hears}
 use Rattle.job_protocol.specs.Writes as writes
-use Rattle.job_protocol.specs.Writes.{write_start, write_over, write_after}
-use Rattle.job_protocol.specs.TaskCommits.{task_commit_over}
 use Rattle.job_protocol.specs.TaskAborts as aborts
-use Rattle.job_protocol.specs.TaskAborts.{TaskAbort, task_abort_start, task_abort_by, task_abort_over, task_abort_after}
-use Rattle.job_protocol.specs.Operations.{Setting, Operation, TheSetup, TheWrite, TheTaskCommit, TheTaskAbort, TheCommit, TheClean, tells, over}
-use Rattle.job_spec.specs.States.{ended, task_ended, attempt_may}
-use Rattle.proof_base.proofs.Members.{some_is, none_some, false_true}
 use Rattle.job_steps.proofs.RunningStages.{mapped}
 
 -- ---- ends that are never Kept

@@ -1,36 +1,12 @@
 -- What happened so far is as the script's events say, by the journal and the ends alone: each happening keeps it.
 use Rattle.std.proofs.Common.{◌≡◌, ℕ, ◌+◌, ◌<◌, ◌≤◌, ◌⊎◌, inl, inr, true, false, List, [], ◌∷◌, ◌++◌, length, take, slice_get, length-append, Option, Some, None, refl, sym, ap, subst, ◌∙◌, arith}
-use Rattle.std.proofs.lemmas.Option.{slice_get_within}
-use Rattle.proof_base.proofs.Members.{some_is, none_some}
-use Rattle.retries.specs.Operation.{run, Follows}
-use Rattle.retries.proofs.Runs.{run_more, follows_more}
+use Rattle.job_spec.proofs.Common.{slice_get_within, some_is, none_some, run_more, follows_more}
+use Rattle.job_steps.specs.Prelude.{run, Follows, Content, answer, after_all, IsHonestOutcome, Actor, Driver, Shell, Request, Outcome, Entry, Script, Known, Op, Event, Do, Start, Kill, Restart, ActorEnd, EventEnd, Refused, EventFault, Busy, ActorState, knows, Setting, Operation, Running, who, wants, advance, start_of, over, Past, Doing, same_actor, put, idle, dead, restarted, missing, end_op, end_ops, open_event, after_event, refusal, nothing_past, past, of_event, until, before, since, by_actor, is_busy, is_wanting, Turns, AllFrom, IsRising, AllUpTo, own, strange_entry, known_then, OpFollows, Play, nothing_played, knows_now, Transition, Refuses, Opens, Sends, Finishes, Closes, Strays, begun, begin_running, open_running, hear, happen, MayOpen, MaySend, MayFinish, MayClose, MayStray, Enabled, Reachable, nothing_happened, happens}
+use Rattle.job_facts.specs.Prelude.{IsHonest}
+use Rattle.job_spec.specs.Prelude.{begin, op_over, Obeyed, AllObeyed}
 use Rattle.s3_types.specs.Store as store
-use Rattle.s3_types.specs.Store.{Content}
-use Rattle.s3_types.specs.Answer.{answer}
-use Rattle.s3_types.specs.Moment.{after_all, IsHonest, IsHonestOutcome}
-use Rattle.s3_types.specs.declared.request.Actor.{Actor}
-use Rattle.s3_types.specs.declared.request.Actor.TheVariants.{Driver, Shell}
-use Rattle.s3_types.specs.declared.request.Request.{Request}
-use Rattle.s3_types.specs.declared.journal.Outcome.{Outcome}
-use Rattle.s3_types.specs.declared.journal.Entry.{Entry}
-use Rattle.job_model.specs.JobScript.{Script}
-use Rattle.job_model.specs.Known.{Known}
-use Rattle.job_model.specs.declared.events.Op.{Op}
-use Rattle.job_model.specs.declared.events.Event.{Event}
-use Rattle.job_model.specs.declared.events.Event.TheVariants.{Do, Start, Kill, Restart}
-use Rattle.job_model.specs.declared.ends.ActorEnd.{ActorEnd}
-use Rattle.job_model.specs.declared.ends.EventEnd.{EventEnd}
-use Rattle.job_model.specs.declared.ends.EventEnd.TheVariants.{Refused}
-use Rattle.job_model.specs.declared.ends.EventFault.{EventFault}
-use Rattle.job_model.specs.declared.states.Life.TheVariants.{Busy}
-use Rattle.job_model.specs.declared.states.ActorState.{ActorState}
-use Rattle.job_protocol.specs.Knowledge.{knows}
-use Rattle.job_protocol.specs.Operations.{Setting, Operation, Running, who, wants, advance, start_of, over}
-use Rattle.job_spec.specs.States.{Past, Doing, same_actor, put, idle, dead, restarted, missing, begin, count, end_op, end_ops, open_event, after_event, refusal, nothing_past, past}
-use Rattle.job_spec.specs.Turns.{of_event, until, before, since, by_actor, is_busy, is_wanting, Turns, AllFrom, IsRising, AllUpTo, own}
-use Rattle.job_facts.specs.Told.{strange_entry}
-use Rattle.job_spec.specs.Follows.{known_then, FollowsFrom, OpFollows, over_from, op_over, Obeyed, AllObeyed}
-use Rattle.job_steps.specs.Transitions.{Play, nothing_played, knows_now, Transition, Refuses, Opens, Sends, Finishes, Closes, Strays, begun, begin_running, open_running, hear, happen, MayOpen, MaySend, MayFinish, MayClose, MayStray, Enabled, Reachable, nothing_happened, happens}
+use Rattle.job_spec.specs.States.{count}
+use Rattle.job_spec.specs.Follows.{FollowsFrom, over_from}
 use Rattle.job_steps.proofs.Parts.{get_last, take_less, take_whole, take_but_last, up_to_more, up_to_last, up_to_part, from_own, rising_last, until_all, before_all, since_none, event_none, before_late, since_late, until_late, until_either, by_itself, by_another, by_own, event_own, own_own, honest_last}
 use Rattle.job_steps.proofs.Actors.{same_true, same_false, same_or_not, put_here, put_other}
 use Rattle.job_steps.proofs.PastMore.{past_more, after_is, ends_more, opening_counts, busy_is, busy_not, ended_idle, turns_refused, Starts, Begins, fine_begins}

@@ -1,11 +1,6 @@
 -- The laws of this crate.
 use Rattle.std.specs.Prelude.{◌≡◌, None}
-use Rattle.s3_types.specs.Store.{Content}
-use Rattle.s3_types.specs.Moment.{IsHonest}
-use Rattle.job_model.specs.Legal.{IsLegal}
-use Rattle.job_protocol.specs.Operations.{Setting}
-use Rattle.job_spec.specs.States.{past}
-use Rattle.job_spec.specs.Follows.{Plays}
+use Rattle.job_facts.specs.Prelude.{Content, IsHonest, IsLegal, Setting, past, Plays}
 use Rattle.job_steps.specs.Transitions.{Play, Reachable}
 
 -- between events a run has done what its events say, by its journal and its ends alone

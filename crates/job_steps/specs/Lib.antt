@@ -1,3 +1,4 @@
 pub mod Transitions
 pub mod Laws
 pub mod Running
+pub mod Prelude

@@ -1,15 +1,6 @@
 -- That what happens in a run is one of the job's runs, whose every moment is known.
 use Rattle.std.specs.Prelude.{◌≡◌, ℕ, true, false, List, ◌∷◌, ◌++◌, Option, Some, None}
-use Rattle.s3_types.specs.Store.{Content}
-use Rattle.s3_types.specs.declared.request.Actor.TheVariants.{Driver}
-use Rattle.job_model.specs.Attempts.{Who, actor_of}
-use Rattle.job_model.specs.JobScript.{Script}
-use Rattle.job_model.specs.Legal.{IsLegal}
-use Rattle.job_model.specs.declared.events.Event.{Event}
-use Rattle.job_model.specs.declared.ends.EventEnd.{EventEnd}
-use Rattle.job_protocol.specs.Operations.{Setting, Operation, Running}
-use Rattle.job_spec.specs.States.{is_new, commit_event, is_refused, clean_event}
-use Rattle.job_facts.specs.Told.{known}
+use Rattle.job_facts.specs.Prelude.{Content, Driver, Who, actor_of, Script, IsLegal, Event, EventEnd, Setting, Operation, Running, is_new, commit_event, is_refused, clean_event, known}
 use Rattle.job_traces.specs.Runs.{Stand, Runs, IsOpening, is_set}
 use Rattle.job_steps.specs.Transitions.{Play, Reachable, knows_now}
 

@@ -1,28 +1,8 @@
 -- What happens in a run of a job, one thing after another, and where it leads. Between events strangers may send what leaves the job's own alone.
 use Rattle.std.specs.Prelude.{◌≡◌, ◌+◌, ◌≤◌, ◌^◌, ◌⊎◌, true, List, [], ◌∷◌, ◌++◌, length, slice_get, Option, Some, None}
-use Rattle.s3_types.specs.Store.{Content, Scene}
-use Rattle.s3_types.specs.Answer.{answer}
-use Rattle.s3_types.specs.Moment.{moment, IsHonestOutcome}
-use Rattle.s3_types.specs.declared.request.Actor.{Actor}
-use Rattle.s3_types.specs.declared.request.Request.{Request}
-use Rattle.s3_types.specs.declared.journal.Outcome.{Outcome}
-use Rattle.s3_types.specs.declared.journal.Entry.{Entry}
-use Rattle.job_model.specs.Attempts.{actor_of}
-use Rattle.job_model.specs.Known.{Known}
-use Rattle.job_model.specs.declared.events.Op.{Op}
-use Rattle.job_model.specs.declared.events.Event.{Event}
-use Rattle.job_model.specs.declared.events.Event.TheVariants.{Do, Start, Step, Run, Kill, Mix, Restart, Recover}
-use Rattle.job_model.specs.declared.ends.ActorEnd.{ActorEnd}
-use Rattle.job_model.specs.declared.ends.EventEnd.{EventEnd}
+use Rattle.job_facts.specs.Prelude.{Content, Scene, answer, moment, IsHonestOutcome, Actor, Request, Outcome, Entry, actor_of, Known, Op, Event, Do, Start, Step, Run, Kill, Mix, Restart, Recover, ActorEnd, EventEnd, EventFault, Busy, knows, Setting, Operation, Running, who, wants, advance, start_of, over, Past, Doing, put, missing, refusal, open_event, end_op, told, nothing_past, of_event, by_actor, is_wanting, Turns, strange_entry, IsForeign}
 use Rattle.job_model.specs.declared.ends.EventEnd.TheVariants.{Refused}
-use Rattle.job_model.specs.declared.ends.EventFault.{EventFault}
-use Rattle.job_model.specs.declared.states.Life.TheVariants.{Busy}
-use Rattle.job_protocol.specs.Knowledge.{knows}
-use Rattle.job_protocol.specs.Operations.{Setting, Operation, Running, who, wants, advance, start_of, over}
-use Rattle.job_spec.specs.States.{Past, Doing, put, missing, refusal, open_event, end_op, count, told, nothing_past}
-use Rattle.job_spec.specs.Turns.{of_event, by_actor, is_wanting, Turns}
-use Rattle.job_facts.specs.Told.{strange_entry}
-use Rattle.job_facts.specs.Foreign.{IsForeign}
+use Rattle.job_spec.specs.States.{count}
 
 -- ---- how far a run has come
 

@@ -1,29 +1,11 @@
 -- What the entries of a run change, one by one and together.
 use Rattle.std.proofs.Common.{◌≡◌, ℕ, zero, suc, ◌+◌, ◌<◌, ◌≤◌, ◌⊎◌, inl, inr, true, false, List, [], ◌∷◌, ◌++◌, length, slice_get, Option, Some, None, refl, sym, ap, subst, ◌∙◌, arith, length-append}
+use Rattle.job_facts.specs.Prelude.{text_eq, Content, Scene, Upload, begins, effect, moment, after_all, Driver, Request, Outcome, Answered, Slow, RequestLost, Entry, IsLegal, Script, dest_prefix, setup_asks, Setting, Operation, TheSetup, TheCommit, TheClean, who, asks, IsZeroRename, ZeroRename, AreOwn, is_own, SameOutsideUpload, SameOutside, see, HasBucket, Who, known, entry, driver_entry, strange_entry, at_id}
+use Rattle.job_spec.proofs.Common.{some_is, none_some, false_true, true_or_false}
 use Rattle.std.specs.FinMap as fin
-use Rattle.proof_base.specs.Order.{text_eq}
-use Rattle.s3_types.specs.Store.{Content, Scene, Upload, opening as opening_scene}
-use Rattle.s3_types.specs.Pages.{begins}
-use Rattle.s3_types.specs.Moment.{effect, moment, after_all}
-use Rattle.s3_types.specs.declared.request.Actor.TheVariants.{Driver}
-use Rattle.s3_types.specs.declared.request.Request.{Request}
-use Rattle.s3_types.specs.declared.journal.Outcome.{Outcome}
-use Rattle.s3_types.specs.declared.journal.Outcome.TheVariants.{Answered, Slow, RequestLost}
-use Rattle.s3_types.specs.declared.journal.Entry.{Entry}
-use Rattle.job_model.specs.Legal.{IsLegal}
-use Rattle.job_model.specs.JobScript.{Script}
-use Rattle.job_protocol.specs.Setup.{dest_prefix, setup_asks}
+use Rattle.s3_types.specs.Store.{opening as opening_scene}
 use Rattle.job_protocol.specs.View.{object_at}
-use Rattle.job_protocol.specs.Operations.{Setting, Operation, TheSetup, TheCommit, TheClean, who, asks}
-use Rattle.job_spec.specs.Entries.{IsZeroRename, ZeroRename, AreOwn}
-use Rattle.job_spec.specs.Turns.{is_own}
-use Rattle.job_spec.specs.Scope.{upload_at, SameOutsideUpload, SameOutside}
-use Rattle.job_spec.specs.Seen.{see}
-use Rattle.store_frame.specs.Held.{HasBucket}
-use Rattle.proof_base.proofs.Members.{some_is, none_some, false_true, true_or_false}
-use Rattle.job_model.specs.Attempts.{Who}
-use Rattle.job_facts.specs.Told.{known, entry, driver_entry, strange_entry}
-use Rattle.job_facts.specs.Stores.{at_id}
+use Rattle.job_spec.specs.Scope.{upload_at}
 use Rattle.job_facts.proofs.Ended.{stood_so}
 use Rattle.job_facts.proofs.SettingUp.{setup_alone}
 use Rattle.job_traces.specs.Runs.{Stand, Runs, run_begins, actor_begins, driver_sends, attempt_sends, strays, IsOpening, is_set, nothing_learnt}

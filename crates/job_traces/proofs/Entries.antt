@@ -1,20 +1,8 @@
 -- What a run's entries say, at each of its moments.
 use Rattle.std.proofs.Common.{◌≡◌, ℕ, zero, suc, ◌+◌, ◌<◌, ◌≤◌, ◌⊎◌, inl, inr, true, List, [], ◌∷◌, ◌++◌, length, take, Option, Some, refl, sym, ap, subst, ◌∙◌, arith, length-append}
-use Rattle.s3_types.specs.Store.{Content}
-use Rattle.s3_types.specs.declared.journal.Entry.{Entry}
-use Rattle.job_model.specs.Legal.{IsLegal}
-use Rattle.job_model.specs.JobScript.{Script}
-use Rattle.job_model.specs.declared.ends.CommitEnd.{CommitEnd}
+use Rattle.job_facts.specs.Prelude.{Content, Entry, IsLegal, Script, CommitEnd, view, CommitOver, Setting, TheCommit, AreOwn, Same, Kept, Always, is_untouched, NoDeletionWorn, OnlyOpening, Seen, see, see_all, nothing_seen, Told, entry, driver_entry, strange_entry, nothing_told, tell, tell_all}
 use Rattle.job_model.specs.declared.ends.CommitEnd.TheVariants as commits
 use Rattle.job_model.specs.declared.ends.Stage.TheVariants as stages
-use Rattle.job_protocol.specs.View.{view}
-use Rattle.job_protocol.specs.JobCommits.{CommitOver}
-use Rattle.job_protocol.specs.Operations.{Setting, TheCommit}
-use Rattle.job_spec.specs.Entries.{AreOwn}
-use Rattle.job_spec.specs.Headline.{Same, Kept, Always}
-use Rattle.job_spec.specs.OperationEnds.{is_untouched, NoDeletionWorn, OnlyOpening}
-use Rattle.job_spec.specs.Seen.{Seen, see, see_all, nothing_seen}
-use Rattle.job_facts.specs.Told.{Told, entry, driver_entry, strange_entry, nothing_told, tell, tell_all}
 use Rattle.job_traces.specs.Runs.{Stand, Runs, run_begins, actor_begins, driver_sends, attempt_sends, strays, IsOpening, is_set}
 use Rattle.job_traces.proofs.Running.{At, Late, Shows, untouched_shows, left_still, reverted_shows}
 use Rattle.job_traces.proofs.EveryRun.{good, shown, kept_now, late, own_front}

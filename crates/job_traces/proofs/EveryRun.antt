@@ -1,55 +1,18 @@
 -- Every run comes as far as it says, whatever strangers send that leave the job's own alone; and among none a reader is shown what the headline says.
 use Rattle.std.proofs.Common.{◌≡◌, ℕ, ◌<◌, ◌≤◌, ◌^◌, ◌⊎◌, inl, inr, ◌&&◌, ◌||◌, Bool, true, false, cond, List, [], ◌∷◌, ◌++◌, Option, Some, None, refl, sym, ap, subst, ◌∙◌}
+use Rattle.job_facts.specs.Prelude.{nat_cmp, is_bucket, BucketContent, Content, Scene, Upload, new_bucket, answer, apply, apply_at, bucket_of, effect, is_effective, IsHonestOutcome, only_reads, Driver, Request, MakeBucket, ClusterPut, ClusterRename, ClusterGet, ClusterDelete, ClusterList, Outcome, Answered, Slow, RequestLost, ReplyLost, Entry, below, magic_prefix, success_key, SuccessPlace, Retried, fresh, step, Who, IsLegal, Script, Known, Picks, Setup, Heading, Sweeping, SetupOver, setup_start, setup_asks, setup_after, Listing, Deleting, write_start, task_commit_start, task_abort_start, Clean, CleanOver, clean_asks, Setting, Operation, TheSetup, TheWrite, TheTaskCommit, TheTaskAbort, TheCommit, TheClean, who, asks, tells, AreOwn, Kept, NoClusterFile, is_own, Seen, see, is_begun, is_marking, is_reading, picks_by, HasBucket, ClearsAlone, Told, known, put_who, entry, driver_entry, strange_entry, ends, nothing_told, tell_driver, tell_attempt, at_event, at_id, IsAttempt, Facts, Hold, Fits, SetsUp, Gone, IsForeign}
+use Rattle.job_spec.specs.Prelude.{apply_in}
+use Rattle.job_spec.proofs.Common.{key_magic, some_is, none_some, none_or_some, false_true, same_or_other, text_here, text_other}
+use Rattle.store_frame.specs.Prelude.{upload_in}
 use Rattle.std.specs.FinMap as fin
-use Rattle.std.specs.Ordering.{nat_cmp}
-use Rattle.s3_types.specs.Names.{is_bucket}
-use Rattle.s3_types.specs.Store.{BucketContent, Content, Scene, Upload, new_bucket, opening as opening_scene}
+use Rattle.s3_types.specs.Store.{opening as opening_scene}
 use Rattle.s3_types.specs.Pages as pages
-use Rattle.s3_types.specs.Answer.{answer, apply, apply_at, apply_in, bucket_of, made}
-use Rattle.s3_types.specs.Moment.{effect, is_effective, IsHonestOutcome}
-use Rattle.s3_types.specs.Requests.{only_reads}
-use Rattle.s3_types.specs.declared.request.Actor.TheVariants.{Driver}
-use Rattle.s3_types.specs.declared.request.Request.{Request}
-use Rattle.s3_types.specs.declared.request.Request.TheVariants.{MakeBucket, ClusterPut, ClusterRename, ClusterGet, ClusterDelete, ClusterList}
-use Rattle.s3_types.specs.declared.journal.Outcome.{Outcome}
-use Rattle.s3_types.specs.declared.journal.Outcome.TheVariants.{Answered, Slow, RequestLost, ReplyLost}
-use Rattle.s3_types.specs.declared.journal.Entry.{Entry}
-use Rattle.path_keys.specs.Paths.{below}
-use Rattle.magic_paths.specs.Layout.{magic_prefix, success_key}
-use Rattle.magic_paths.specs.Places.{SuccessPlace}
-use Rattle.magic_paths.proofs.Tails.{key_magic}
-use Rattle.retries.specs.Retries.{Retried, fresh, step}
-use Rattle.job_model.specs.Attempts.{Who}
-use Rattle.job_model.specs.Legal.{IsLegal}
-use Rattle.job_model.specs.JobScript.{Script}
-use Rattle.job_model.specs.Known.{Known}
+use Rattle.s3_types.specs.Answer.{made}
 use Rattle.job_model.specs.declared.ends.SetupEnd.TheVariants as setups
-use Rattle.job_protocol.specs.Outputs.{Picks}
-use Rattle.job_protocol.specs.Setup.{Setup, Heading, Sweeping, SetupOver, setup_start, setup_asks, setup_after}
-use Rattle.list_walk.specs.Walks.{Listing, Deleting}
-use Rattle.job_protocol.specs.Writes.{write_start}
-use Rattle.job_protocol.specs.TaskCommits.{task_commit_start}
-use Rattle.job_protocol.specs.TaskAborts.{task_abort_start}
-use Rattle.job_protocol.specs.Cleanups.{Clean, CleanOver, clean_asks}
 use Rattle.job_protocol.specs.Cleanups as cleanups
-use Rattle.job_protocol.specs.Operations.{Setting, Operation, TheSetup, TheWrite, TheTaskCommit, TheTaskAbort, TheCommit, TheClean, who, asks, tells}
-use Rattle.job_spec.specs.Entries.{AreOwn}
-use Rattle.job_spec.specs.Headline.{Kept}
-use Rattle.job_spec.specs.Scope.{NoClusterFile}
-use Rattle.job_spec.specs.Turns.{is_own}
-use Rattle.job_spec.specs.Seen.{Seen, see, is_begun, is_marking, is_reading, picks_by}
-use Rattle.store_frame.specs.Held.{HasBucket, upload_in, upload_at}
-use Rattle.proof_base.proofs.Members.{some_is, none_some, none_or_some, false_true, same_or_other, text_here, text_other}
+use Rattle.store_frame.specs.Held.{upload_at}
 use Rattle.store_frame.proofs.Framed.{frame}
 use Rattle.store_frame.proofs.Reading.{reads_nothing}
-use Rattle.job_facts.specs.SetupLaws.{ClearsAlone}
-use Rattle.job_facts.specs.Told.{Told, known, put_who, entry, driver_entry, strange_entry, ends, nothing_told, tell_driver, tell_attempt, at_event}
-use Rattle.job_facts.specs.Stores.{at_id}
-use Rattle.job_facts.specs.Facts.{IsAttempt, Facts, Hold}
-use Rattle.job_facts.specs.Fits.{Fits}
-use Rattle.job_facts.specs.Emptying.{SetsUp}
-use Rattle.job_facts.specs.Filed.{Gone}
-use Rattle.job_facts.specs.Foreign.{IsForeign}
 use Rattle.job_traces.specs.Runs.{Stand, Beginning, BeginSetup, BeginCommit, BeginClean, BeginWrite, BeginPublish, BeginAbort, begin, MayBegin, Runs, run_begins, actor_begins, driver_sends, attempt_sends, strays, IsOpening, first_stand, with_attempt, with_driver, saw, commit_with, with_commit, is_done, is_set, is_just_set, MaySetUp, IsTimely, nothing_learnt}
 use Rattle.job_facts.proofs.Whose.{same_or_another, who_here, who_other, or_false}
 use Rattle.job_facts.proofs.Legal.{some_dest}

@@ -1,40 +1,11 @@
 -- What holds of a run's stand is kept by every step of the run.
 use Rattle.std.proofs.Common.{◌≡◌, ℕ, ◌<◌, ◌≤◌, inl, inr, ◌&&◌, Bool, true, false, List, [], ◌∷◌, Option, Some, None, refl, sym, ap, subst, ◌∙◌, arith}
-use Rattle.std.specs.Option.{is_some}
-use Rattle.s3_types.specs.Store.{Content}
-use Rattle.s3_types.specs.Pages.{begins}
-use Rattle.s3_types.specs.declared.request.Request.{Request}
-use Rattle.s3_types.specs.declared.journal.Outcome.{Outcome}
-use Rattle.s3_types.specs.declared.journal.Outcome.TheVariants.{Answered, ReplyLost}
-use Rattle.s3_types.specs.declared.journal.Entry.{Entry}
-use Rattle.path_keys.specs.Paths.{below}
-use Rattle.magic_paths.specs.Layout.{magic_prefix, success_key}
-use Rattle.magic_paths.specs.Places.{SuccessPlace}
-use Rattle.magic_paths.proofs.Tails.{key_magic}
-use Rattle.job_model.specs.Attempts.{Who}
-use Rattle.job_model.specs.Legal.{IsLegal}
-use Rattle.job_model.specs.JobScript.{Script}
-use Rattle.job_model.specs.declared.ends.CommitEnd.{CommitEnd}
+use Rattle.job_facts.specs.Prelude.{is_some, Content, begins, Request, Outcome, Answered, ReplyLost, Entry, below, magic_prefix, success_key, SuccessPlace, Who, IsLegal, Script, CommitEnd, Picks, learn, view, is_file_path, picks_of, is_no_magic, Commit, Replacing, Marking, CommitOver, commit_start, Setting, Operation, TheSetup, TheWrite, TheTaskCommit, TheTaskAbort, TheCommit, TheClean, asks, Same, Between, Kept, Seen, see, is_marked, HasBucket, Told, known, entry, tell_attempt, at_key, Hold, Fits, FitsWrite, FitsCommit, FitsAbort, FileStands, OnlyThose, EmptiesBy, Sweep, Listing, Deleting}
+use Rattle.job_spec.proofs.Common.{key_magic, tabled_start, false_true, true_or_false}
+use Rattle.job_spec.specs.Prelude.{Whole}
 use Rattle.job_model.specs.declared.ends.CommitEnd.TheVariants as commits
 use Rattle.job_model.specs.declared.ends.Stage.TheVariants as stages
-use Rattle.job_protocol.specs.Outputs.{Picks}
-use Rattle.job_protocol.specs.Knowledge.{learn}
-use Rattle.job_protocol.specs.View.{view, is_file_path}
-use Rattle.job_protocol.specs.JobCommits.{picks_of, is_no_magic, Commit, Replacing, Marking, CommitOver, commit_start}
-use Rattle.job_protocol.specs.Operations.{Setting, Operation, TheSetup, TheWrite, TheTaskCommit, TheTaskAbort, TheCommit, TheClean, asks}
-use Rattle.job_protocol.proofs.LaneTables.{tabled_start}
-use Rattle.job_spec.specs.Headline.{Same, Between, Whole, Kept}
-use Rattle.job_spec.specs.Seen.{Seen, see, is_marked}
-use Rattle.store_frame.specs.Held.{HasBucket}
-use Rattle.proof_base.proofs.Members.{false_true, true_or_false}
-use Rattle.job_facts.specs.Told.{Told, known, entry, tell_attempt}
-use Rattle.job_facts.specs.Stores.{at_key}
-use Rattle.job_facts.specs.Facts.{Hold}
-use Rattle.job_facts.specs.Fits.{Fits, FitsWrite, FitsCommit, FitsAbort}
 use Rattle.job_facts.specs.Turning.{Turns}
-use Rattle.job_facts.specs.Filed.{FileStands}
-use Rattle.job_facts.specs.Emptying.{OnlyThose, EmptiesBy}
-use Rattle.list_walk.specs.Walks.{Sweep, Listing, Deleting}
 use Rattle.job_facts.proofs.JobCommitting.{no_magic, replaced_under}
 use Rattle.job_traces.proofs.Replacing.{empty_fetching, others_fetching, start_replaces}
 use Rattle.job_facts.proofs.Whose.{who_other}

@@ -1,33 +1,8 @@
 -- In a run, until the driver cleans up, an attempt's commit that is done has published its own set.
 use Rattle.std.proofs.Common.{◌≡◌, ℕ, ◌<◌, ◌⊎◌, inl, inr, Bool, true, false, List, [], ◌∷◌, ◌++◌, length, slice_get, Option, Some, refl, sym, ap, subst, ◌∙◌, arith}
-use Rattle.std.proofs.lemmas.Bool.{false≢true}
-use Rattle.std.proofs.lemmas.Option.{slice_get_within}
-use Rattle.s3_types.specs.Store.{Content}
-use Rattle.s3_types.specs.Answer.{answer}
-use Rattle.s3_types.specs.Moment.{is_effective, IsHonestOutcome}
-use Rattle.s3_types.specs.declared.request.Actor.TheVariants.{Driver}
-use Rattle.s3_types.specs.declared.request.Request.{Request}
-use Rattle.s3_types.specs.declared.journal.Outcome.{Outcome}
-use Rattle.s3_types.specs.declared.journal.Entry.{Entry}
-use Rattle.retries.specs.Retries.{Retried, fresh}
-use Rattle.job_model.specs.Attempts.{Who}
-use Rattle.job_model.specs.Legal.{IsLegal}
-use Rattle.job_model.specs.JobScript.{Script}
+use Rattle.job_spec.proofs.Common.{false≢true, slice_get_within, some_is, none_some, false_true}
+use Rattle.job_facts.specs.Prelude.{Content, answer, is_effective, IsHonestOutcome, Driver, Request, Outcome, Entry, Retried, fresh, Who, IsLegal, Script, Setup, setup_asks, write_start, TaskCommitOver, task_commit_start, task_abort_start, Commit, Clean, Setting, Operation, TheSetup, TheWrite, TheTaskCommit, TheTaskAbort, TheCommit, TheClean, who, asks, tells, WasPublished, Seen, see, is_publishing, known, entry, driver_entry, strange_entry, Fits, Closed, Reverts, WriteStands, CommitStandsBy, IsForeign}
 use Rattle.job_model.specs.declared.ends.TaskEnd.TheVariants as tasks
-use Rattle.job_protocol.specs.Setup.{Setup, setup_asks}
-use Rattle.job_protocol.specs.Writes.{write_start}
-use Rattle.job_protocol.specs.TaskCommits.{TaskCommitOver, task_commit_start}
-use Rattle.job_protocol.specs.TaskAborts.{task_abort_start}
-use Rattle.job_protocol.specs.JobCommits.{Commit}
-use Rattle.job_protocol.specs.Cleanups.{Clean}
-use Rattle.job_protocol.specs.Operations.{Setting, Operation, TheSetup, TheWrite, TheTaskCommit, TheTaskAbort, TheCommit, TheClean, who, asks, tells}
-use Rattle.job_spec.specs.OperationEnds.{WasPublished}
-use Rattle.job_spec.specs.Seen.{Seen, see, is_publishing}
-use Rattle.proof_base.proofs.Members.{some_is, none_some, false_true}
-use Rattle.job_facts.specs.Told.{known, entry, driver_entry, strange_entry}
-use Rattle.job_facts.specs.Fits.{Fits}
-use Rattle.job_facts.specs.Standing.{Closed, Reverts, WriteStands, CommitStandsBy}
-use Rattle.job_facts.specs.Foreign.{IsForeign}
 use Rattle.job_traces.specs.Runs.{Stand, Beginning, BeginSetup, BeginCommit, BeginClean, BeginWrite, BeginPublish, BeginAbort, begin, MayBegin, Runs, run_begins, actor_begins, driver_sends, attempt_sends, strays, IsOpening, IsTimely, nothing_learnt, with_attempt, with_driver, with_commit, commit_with, saw}
 use Rattle.job_facts.proofs.Whose.{same_or_another, who_here, who_other}
 use Rattle.job_facts.proofs.Closing.{reverts_start, driver_closes, commit_closes, clean_closes, clean_begun, attempt_closes, attempt_reverts}

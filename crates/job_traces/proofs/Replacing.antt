@@ -1,42 +1,10 @@
 -- How far a replace mode has come with what it does not keep, and what becomes of paths that are not wanted.
 use Rattle.std.proofs.Common.{◌≡◌, ℕ, ◌+◌, ◌⊎◌, inl, inr, not, nat_lt, ◌&&◌, Bool, true, false, cond, List, [], ◌∷◌, ◌++◌, take, length, Option, Some, None, refl, sym, ap, subst, ◌∙◌, codes, append_assoc}
 use Rattle.std.specs.Prelude.{bytes_eq}
-use Rattle.std.specs.Ordering.{is_lt}
-use Rattle.std.proofs.lemmas.Bool.{and_parts, false≢true}
-use Rattle.proof_base.specs.Order.{text_cmp}
-use Rattle.s3_types.specs.Store.{Content, Scene}
-use Rattle.s3_types.specs.Pages.{begins}
-use Rattle.s3_types.specs.Answer.{apply}
-use Rattle.s3_types.specs.Moment.{effect}
-use Rattle.s3_types.specs.declared.object.Object.{Object}
-use Rattle.s3_types.specs.declared.request.Request.{Request}
-use Rattle.s3_types.specs.declared.request.Request.TheVariants.{DeleteObjects}
-use Rattle.s3_types.specs.declared.reply.Reply.{Reply}
-use Rattle.s3_types.specs.declared.journal.Outcome.{Outcome}
-use Rattle.s3_types.specs.declared.journal.Outcome.TheVariants.{Answered, Slow, RequestLost}
-use Rattle.path_keys.specs.Paths.{below}
-use Rattle.magic_paths.proofs.Tails.{begins_behind, below_is}
-use Rattle.pending_json.specs.declared.records.PendingSet.{PendingSet}
-use Rattle.job_model.specs.Legal.{IsLegal}
-use Rattle.job_model.specs.JobScript.{Script}
-use Rattle.job_model.specs.declared.ends.CommitEnd.{CommitEnd}
-use Rattle.job_protocol.specs.Outputs.{Picks, paths_of, same_path}
-use Rattle.job_protocol.specs.Conflicts.{partitions, keeps, keeps_of}
-use Rattle.job_protocol.specs.Setup.{dest_prefix}
-use Rattle.job_protocol.specs.View.{is_folder, is_file_path}
-use Rattle.list_walk.specs.Walks.{Sweep, Listing, Deleting, sweep_asks, page_after, sweep_hears}
-use Rattle.job_protocol.specs.Lanes.{Turn, dealt, again, follow, revert}
-use Rattle.job_protocol.specs.JobCommits.{Sets, all_commits, picks_of, Commit, Fetching, CommitOver, completing, is_no_magic, replaced, replacing, decided, fetching, fetched, set_read, Replacing, Completing, Marking, Reverting, swept, reverting, commit_start, commit_hears, commit_misses, commit_tells}
-use Rattle.job_protocol.specs.Operations.{Setting}
-use Rattle.job_protocol.proofs.Shared.{shared_found}
-use Rattle.proof_base.specs.Members.{IsIn}
-use Rattle.store_frame.specs.Held.{HasBucket}
-use Rattle.proof_base.proofs.Members.{none_or_some, false_true, true_or_false, same_or_other}
+use Rattle.job_facts.specs.Prelude.{is_lt, text_cmp, Content, Scene, begins, apply, effect, Object, Request, DeleteObjects, Reply, Outcome, Answered, Slow, RequestLost, below, PendingSet, IsLegal, Script, CommitEnd, Picks, paths_of, same_path, partitions, keeps, keeps_of, dest_prefix, is_folder, is_file_path, Sweep, Listing, Deleting, sweep_asks, page_after, sweep_hears, Turn, dealt, again, follow, revert, Sets, all_commits, picks_of, Commit, Fetching, CommitOver, completing, is_no_magic, replaced, replacing, decided, fetching, fetched, set_read, Replacing, Completing, Marking, Reverting, swept, reverting, commit_start, commit_hears, commit_misses, commit_tells, Setting, IsIn, HasBucket, at_key, AllUnder, SweepsUnder, OnlyThose}
+use Rattle.job_spec.proofs.Common.{and_parts, false≢true, begins_behind, below_is, shared_found, none_or_some, false_true, true_or_false, same_or_other}
 use Rattle.store_frame.proofs.Framed.{frame}
 use Rattle.store_frame.proofs.Reading.{reads_nothing}
-use Rattle.job_facts.specs.Stores.{at_key}
-use Rattle.job_facts.specs.Driver.{AllUnder, SweepsUnder}
-use Rattle.job_facts.specs.Emptying.{OnlyThose}
 use Rattle.job_facts.proofs.Legal.{some_dest}
 use Rattle.job_facts.proofs.Aborting.{taken_in}
 use Rattle.job_facts.proofs.Undone.{deletes_drop}

@@ -1,45 +1,13 @@
 -- What holds of a run's stand: before its set-up is done, while its commit goes on, and while it cleans up. How far the job has come no stranger can change; what a reader is shown is told of a run among no strangers.
 use Rattle.std.proofs.Common.{◌≡◌, ℕ, ◌<◌, ◌⊎◌, inl, inr, not, Bool, true, false, cond, List, [], ◌∷◌, ◌++◌, Option, Some, None, refl, sym, ap, subst, ◌∙◌}
-use Rattle.std.specs.Option.{option_map}
-use Rattle.std.specs.Map.{lookup}
-use Rattle.proof_base.specs.Order.{text_eq}
-use Rattle.std.proofs.lemmas.Bool.{and_parts, not-true}
-use Rattle.s3_types.specs.Store.{Content, Upload}
-use Rattle.s3_types.specs.declared.object.Object.{Object}
-use Rattle.s3_types.specs.declared.journal.Entry.{Entry}
-use Rattle.path_keys.specs.Paths.{below}
-use Rattle.magic_paths.specs.Layout.{success_key}
-use Rattle.retries.specs.Retries.{Retried}
-use Rattle.list_walk.specs.Walks.{Sweep}
-use Rattle.proof_base.specs.Members.{IsIn}
-use Rattle.job_model.specs.Attempts.{Who}
-use Rattle.job_model.specs.Legal.{IsLegal}
-use Rattle.job_model.specs.JobScript.{Script}
-use Rattle.job_model.specs.declared.ends.CommitEnd.{CommitEnd}
+use Rattle.job_facts.specs.Prelude.{option_map, lookup, text_eq, Content, Upload, Object, Entry, below, success_key, Retried, Sweep, IsIn, Who, IsLegal, Script, CommitEnd, Picks, wanted_at, is_decided, is_picked, is_clash, keeps_of, mark_text, Setup, SetupOver, view, is_file_path, Sets, picks_of, is_no_magic, replaced, Commit, Fetching, Replacing, Completing, Marking, Reverting, CommitOver, Tabled, Setting, Operation, TheSetup, TheCommit, TheClean, Same, Between, Kept, is_untouched, NoDeletionWorn, OnlyOpening, NoClusterFile, Seen, is_marked, Told, known, nothing_told, at_key, at_id, IsAttempt, Hold, Fits, OnlyThose, EmptiesBy, SetsUp, SweepsUnder, FitsClean, FitsJobCommit, NoneEnded, Gone, Decides, Wants, IsBefore, whole_of, FileStands}
+use Rattle.job_spec.proofs.Common.{and_parts, not-true, none_some, false_true, true_or_false}
+use Rattle.job_spec.specs.Prelude.{Whole, or_else, done}
 use Rattle.job_model.specs.declared.ends.CommitEnd.TheVariants as commits
 use Rattle.job_model.specs.declared.ends.Stage.TheVariants as stages
 use Rattle.job_model.specs.declared.ends.SetupEnd.TheVariants as setups
-use Rattle.job_protocol.specs.Outputs.{Picks, wanted_at, is_decided, is_picked, is_clash}
-use Rattle.job_protocol.specs.Conflicts.{keeps_of}
-use Rattle.job_protocol.specs.Records.{mark_text}
-use Rattle.job_protocol.specs.Setup.{Setup, SetupOver}
-use Rattle.job_protocol.specs.View.{view, is_file_path}
-use Rattle.job_protocol.specs.JobCommits.{Sets, picks_of, is_no_magic, replaced, Commit, Fetching, Replacing, Completing, Marking, Reverting, CommitOver}
-use Rattle.job_protocol.specs.LaneTable.{Tabled}
-use Rattle.job_protocol.specs.Operations.{Setting, Operation, TheSetup, TheCommit, TheClean}
-use Rattle.job_spec.specs.Headline.{Same, Between, Whole, Kept, or_else, done}
-use Rattle.job_spec.specs.OperationEnds.{is_untouched, NoDeletionWorn, OnlyOpening}
-use Rattle.job_spec.specs.Scope.{NoClusterFile}
-use Rattle.job_spec.specs.Seen.{Seen, is_marked}
-use Rattle.proof_base.proofs.Members.{none_some, false_true, true_or_false}
-use Rattle.job_facts.specs.Told.{Told, known, nothing_told}
-use Rattle.job_facts.specs.Stores.{at_key, at_id}
-use Rattle.job_facts.specs.Facts.{IsAttempt, Hold}
-use Rattle.job_facts.specs.Fits.{Fits}
-use Rattle.job_facts.specs.Emptying.{OnlyThose, EmptiesBy, SetsUp}
-use Rattle.job_facts.specs.Driver.{SweepsUnder, FitsClean, FitsJobCommit}
-use Rattle.job_facts.specs.Turning.{NoneEnded, Turns}
-use Rattle.job_facts.specs.Filed.{Gone, Decides, Wants, IsBefore, whole_of, FileStands, FileLeft}
+use Rattle.job_facts.specs.Turning.{Turns}
+use Rattle.job_facts.specs.Filed.{FileLeft}
 use Rattle.job_traces.specs.Runs.{Stand}
 use Rattle.job_facts.proofs.Agreeing.{AgreeBelow, Agrees, decided_so}
 use Rattle.job_facts.proofs.Wanted.{same_wanted, wanted_of}

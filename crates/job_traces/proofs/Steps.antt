@@ -1,49 +1,9 @@
 -- Each step of a run keeps what holds of its stand.
 use Rattle.std.proofs.Common.{◌≡◌, ℕ, ◌+◌, nat_lt, ◌<◌, ◌≤◌, ◌^◌, inl, inr, ◌&&◌, ◌||◌, Bool, true, false, cond, List, [], ◌∷◌, ◌++◌, length, Option, Some, None, refl, sym, ap, subst, ◌∙◌, arith, append_assoc}
-use Rattle.s3_types.specs.Store.{Content, Scene}
-use Rattle.s3_types.specs.Pages.{begins}
-use Rattle.s3_types.specs.Answer.{answer, apply}
-use Rattle.s3_types.specs.Moment.{effect, IsHonestOutcome}
-use Rattle.s3_types.specs.declared.object.Object.{Object}
-use Rattle.s3_types.specs.declared.request.Request.{Request}
-use Rattle.s3_types.specs.declared.request.Request.TheVariants.{PutObject}
-use Rattle.s3_types.specs.declared.request.Committer.{Committer}
-use Rattle.s3_types.specs.declared.request.Committer.TheVariants.{Magic}
-use Rattle.s3_types.specs.declared.reply.Reply.{Reply}
-use Rattle.s3_types.specs.declared.journal.Outcome.{Outcome}
-use Rattle.s3_types.specs.declared.journal.Outcome.TheVariants.{Answered, Slow, RequestLost, ReplyLost}
-use Rattle.s3_types.specs.declared.journal.Entry.{Entry}
-use Rattle.path_keys.specs.Paths.{below}
-use Rattle.magic_paths.specs.Layout.{magic_prefix, success_key}
-use Rattle.job_model.specs.Legal.{IsLegal}
-use Rattle.job_model.specs.JobScript.{Script}
+use Rattle.job_facts.specs.Prelude.{Content, Scene, begins, answer, apply, effect, IsHonestOutcome, Object, Request, PutObject, Committer, Magic, Reply, Outcome, Answered, Slow, RequestLost, ReplyLost, Entry, below, magic_prefix, success_key, IsLegal, Script, Picks, wanted_at, mark_text, is_file_path, Turn, nth, again, follow, Sets, all_commits, picks_of, Commit, Fetching, Replacing, Completing, Marking, Reverting, CommitOver, set_request, set_read, commit_asks, commit_misses, commit_tells, completing, fetched, reverting, replaced, worn_completion, is_no_magic, swept, Table, Tabled, Setting, Seen, see, is_begun, is_reading, is_marking, picks_by, IsIn, changed_keys, HasBucket, Told, tell_driver, at_event, driver_entry, at_key, Hold, FitsJobCommit, Gone, Decides, FileStands, Wants, Commits, AllUnder, OnlyThose, EmptiesBy, Sweep, Listing, Deleting, sweep_asks, sweep_hears, keeps_of, dest_prefix, PendingSet}
+use Rattle.job_spec.proofs.Common.{tabled_tells, some_is, none_some, false_true, in_append, in_back}
 use Rattle.job_model.specs.declared.ends.CommitEnd.TheVariants as commits
 use Rattle.job_model.specs.declared.ends.Stage.TheVariants as stages
-use Rattle.job_protocol.specs.Outputs.{Picks, wanted_at}
-use Rattle.job_protocol.specs.Records.{mark_text}
-use Rattle.job_protocol.specs.View.{is_file_path}
-use Rattle.job_protocol.specs.Lanes.{Turn, nth, again, follow}
-use Rattle.job_protocol.specs.JobCommits.{Sets, all_commits, picks_of, Commit, Fetching, Replacing, Completing, Marking, Reverting, CommitOver, set_request, set_read, commit_asks, commit_misses, commit_tells, completing, fetched, reverting, replaced, worn_completion, is_no_magic, swept}
-use Rattle.job_protocol.specs.LaneTable.{Table, Tabled}
-use Rattle.job_protocol.specs.Operations.{Setting}
-use Rattle.job_protocol.proofs.LaneTables.{tabled_tells}
-use Rattle.job_spec.specs.Seen.{Seen, see, is_begun, is_reading, is_marking, picks_by}
-use Rattle.proof_base.specs.Members.{IsIn}
-use Rattle.store_frame.specs.Frame.{changed_keys}
-use Rattle.store_frame.specs.Held.{HasBucket}
-use Rattle.proof_base.proofs.Members.{some_is, none_some, false_true, in_append, in_back}
-use Rattle.job_facts.specs.Told.{Told, tell_driver, at_event, driver_entry}
-use Rattle.job_facts.specs.Stores.{at_key}
-use Rattle.job_facts.specs.Facts.{Hold}
-use Rattle.job_facts.specs.Driver.{FitsJobCommit}
-use Rattle.job_facts.specs.Filed.{Gone, Decides, FileStands, Wants}
-use Rattle.job_facts.specs.FiledLaws.{Commits}
-use Rattle.job_facts.specs.Driver.{AllUnder}
-use Rattle.job_facts.specs.Emptying.{OnlyThose, EmptiesBy}
-use Rattle.list_walk.specs.Walks.{Sweep, Listing, Deleting, sweep_asks, sweep_hears}
-use Rattle.job_protocol.specs.Conflicts.{keeps_of}
-use Rattle.job_protocol.specs.Setup.{dest_prefix}
-use Rattle.pending_json.specs.declared.records.PendingSet.{PendingSet}
 use Rattle.job_facts.proofs.Whose.{or_true, or_false}
 use Rattle.job_facts.proofs.Placed.{one_key}
 use Rattle.job_facts.proofs.Shows.{HidesAll}

@@ -1,25 +1,9 @@
 -- The laws of whole runs: what a reader of the destination may rely on, at each of their moments.
 use Rattle.std.specs.Prelude.{◌≡◌, ℕ, ◌≤◌, Bool, true, false, List, length, Option, Some}
-use Rattle.s3_types.specs.Store.{Content}
-use Rattle.s3_types.specs.Moment.{moment}
-use Rattle.s3_types.specs.declared.journal.Entry.{Entry}
-use Rattle.job_model.specs.Legal.{IsLegal}
-use Rattle.job_model.specs.declared.ends.CommitEnd.{CommitEnd}
+use Rattle.job_facts.specs.Prelude.{Content, moment, Entry, IsLegal, CommitEnd, view, Who, TaskCommitOver, CommitOver, Setting, TheTaskCommit, TheCommit, ZeroRename, AreOwn, SameOutside, Same, Always, WasPublished, is_untouched, NoDeletionWorn, OnlyOpening, nothing_seen, see_all, nothing_told, tell_all, Hold}
 use Rattle.job_model.specs.declared.ends.CommitEnd.TheVariants as commits
 use Rattle.job_model.specs.declared.ends.Stage.TheVariants as stages
-use Rattle.job_protocol.specs.View.{view}
-use Rattle.job_model.specs.Attempts.{Who}
 use Rattle.job_model.specs.declared.ends.TaskEnd.TheVariants as tasks
-use Rattle.job_protocol.specs.TaskCommits.{TaskCommitOver}
-use Rattle.job_protocol.specs.JobCommits.{CommitOver}
-use Rattle.job_protocol.specs.Operations.{Setting, TheTaskCommit, TheCommit}
-use Rattle.job_spec.specs.Entries.{ZeroRename, AreOwn}
-use Rattle.job_spec.specs.Scope.{SameOutside}
-use Rattle.job_spec.specs.Headline.{Same, Always}
-use Rattle.job_spec.specs.OperationEnds.{WasPublished, is_untouched, NoDeletionWorn, OnlyOpening}
-use Rattle.job_spec.specs.Seen.{nothing_seen, see_all}
-use Rattle.job_facts.specs.Told.{nothing_told, tell_all}
-use Rattle.job_facts.specs.Facts.{Hold}
 use Rattle.job_traces.specs.Runs.{Stand, Runs, IsOpening, is_set}
 
 -- a run of a job, of every committer and mode, whose operations send what they ask and hear what is answered, in any order of its actors, among strangers that leave its own alone; what a reader is shown is told where none of them sends

@@ -1,29 +1,8 @@
 -- Runs of a job among strangers that leave its own alone, request by request, in any order of its actors. An operation may also stop at any time.
 use Rattle.std.specs.Prelude.{◌≡◌, ℕ, ◌≤◌, ◌<◌, ◌^◌, ◌⊎◌, Bool, true, false, List, [], ◌∷◌, ◌++◌, Option, Some, None}
-use Rattle.s3_types.specs.Store.{Content, Upload}
-use Rattle.s3_types.specs.Answer.{answer}
-use Rattle.s3_types.specs.Moment.{IsHonestOutcome}
-use Rattle.s3_types.specs.declared.request.Actor.TheVariants.{Driver}
-use Rattle.s3_types.specs.declared.request.Request.{Request}
-use Rattle.s3_types.specs.declared.journal.Outcome.{Outcome}
-use Rattle.s3_types.specs.declared.journal.Entry.{Entry}
-use Rattle.retries.specs.Retries.{fresh}
-use Rattle.job_model.specs.Attempts.{Who}
-use Rattle.job_model.specs.Known.{Known}
+use Rattle.job_facts.specs.Prelude.{Content, Upload, answer, IsHonestOutcome, Driver, Request, Outcome, Entry, fresh, Who, Known, Setup, SetupOver, setup_start, WriteOver, write_start, task_commit_start, task_abort_start, commit_start, clean_start, Setting, Operation, TheSetup, TheWrite, TheTaskCommit, TheTaskAbort, TheCommit, TheClean, who, asks, tells, Seen, see, is_begun, nothing_seen, Told, known, put_who, nothing_told, tell, entry, driver_entry, strange_entry, at_id, IsAttempt, IsForeign}
 use Rattle.job_model.specs.declared.ends.SetupEnd.TheVariants as setups
 use Rattle.job_model.specs.declared.ends.TaskEnd.TheVariants as tasks
-use Rattle.job_protocol.specs.Setup.{Setup, SetupOver, setup_start}
-use Rattle.job_protocol.specs.Writes.{WriteOver, write_start}
-use Rattle.job_protocol.specs.TaskCommits.{task_commit_start}
-use Rattle.job_protocol.specs.TaskAborts.{task_abort_start}
-use Rattle.job_protocol.specs.JobCommits.{commit_start}
-use Rattle.job_protocol.specs.Cleanups.{clean_start}
-use Rattle.job_protocol.specs.Operations.{Setting, Operation, TheSetup, TheWrite, TheTaskCommit, TheTaskAbort, TheCommit, TheClean, who, asks, tells}
-use Rattle.job_spec.specs.Seen.{Seen, see, is_begun, nothing_seen}
-use Rattle.job_facts.specs.Told.{Told, known, put_who, nothing_told, tell, entry, driver_entry, strange_entry}
-use Rattle.job_facts.specs.Stores.{at_id}
-use Rattle.job_facts.specs.Facts.{IsAttempt}
-use Rattle.job_facts.specs.Foreign.{IsForeign}
 
 -- where a run stands: what is seen and told, what each attempt and the driver began last and how far that has come, and what the driver's commit has sent
 pub record Stand : Type 0 where

@@ -1,8 +1,6 @@
 -- Turns of one actor, one after another.
 use Rattle.std.proofs.Common.{◌≡◌, ℕ, ◌+◌, ◌<◌, ◌≤◌, Bool, true, false, List, [], ◌∷◌, ◌++◌, length, length-append, append_assoc, append-nil, refl, sym, ap, ◌∙◌, arith}
-use Rattle.s3_types.specs.declared.request.Actor.{Actor}
-use Rattle.s3_types.specs.declared.journal.Entry.{Entry}
-use Rattle.job_spec.specs.Turns.{AllBy, StepEnds}
+use Rattle.job_spec.specs.Prelude.{Actor, Entry, AllBy, StepEnds}
 use Rattle.job_turns.specs.Turning.{Table, Turned, Going, Ran}
 use Rattle.job_turns.specs.declared.actors.Turn.TheVariants.{GoesOn, Ended, Died}
 

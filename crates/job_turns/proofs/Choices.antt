@@ -1,8 +1,7 @@
 -- The choice of who sends next in a mix.
 use Rattle.std.proofs.Common.{◌≡◌, ℕ, suc, ◌+◌, ◌*◌, ◌/◌, ◌%◌, ◌^◌, ◌==◌, ◌<◌, List, length, get_or, slice_get, Some, true, false, ap, sym, ◌∙◌, arith, rules}
-use Rattle.std.proofs.lemmas.Bool.Decides.{nat_tests}
-use Rattle.std.proofs.lemmas.Option.{slice_get-get_or}
-use Rattle.job_spec.specs.Turns.{draw, place}
+use Rattle.job_spec.proofs.Common.{nat_tests, slice_get-get_or}
+use Rattle.job_spec.specs.Prelude.{draw, place}
 
 pub mod_below : (x n : ℕ) → 0 < n → x % n < n
 mod_below x n h = search (arith, rules)

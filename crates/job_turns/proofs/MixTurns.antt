@@ -1,13 +1,9 @@
 -- Turns of actors that are mixed.
 use Rattle.std.proofs.Common.{◌≡◌, ℕ, ◌+◌, ◌*◌, ◌/◌, ◌%◌, ◌^◌, ◌<◌, ◌≤◌, ◌⊎◌, inl, inr, true, false, List, [], ◌∷◌, ◌++◌, map, length, length-append, append_assoc, append-nil, slice_get, Some, refl, sym, ap, subst, ◌∙◌, arith}
-use Rattle.std.specs.List.{remove}
-use Rattle.std.proofs.lemmas.Option.{slice_get_within}
+use Rattle.job_spec.specs.Prelude.{remove, Actor, Entry, ActorEnd, Mixing, mix_begins, draw, place}
+use Rattle.job_spec.proofs.Common.{slice_get_within, none_some}
 use Rattle.std.proofs.lemmas.List.Edits.{length-remove}
-use Rattle.proof_base.proofs.Members.{none_some}
-use Rattle.s3_types.specs.declared.request.Actor.{Actor}
-use Rattle.s3_types.specs.declared.journal.Entry.{Entry}
-use Rattle.job_model.specs.declared.ends.ActorEnd.{ActorEnd}
-use Rattle.job_spec.specs.Turns.{Mixing, mix_begins, mix_sends, mix_ends, mix_dies, draw, place}
+use Rattle.job_spec.specs.Turns.{mix_sends, mix_ends, mix_dies}
 use Rattle.job_turns.specs.Turning.{Table, Turned}
 use Rattle.job_turns.specs.Mixes.{AreApart, AreGoing, Mixed, Mixes}
 use Rattle.job_turns.specs.declared.actors.Turn.TheVariants.{GoesOn, Ended, Died}

@@ -1,8 +1,7 @@
 -- Lists of places that are apart, and their actors.
 use Rattle.std.proofs.Common.{◌≡◌, ℕ, zero, suc, ◌==◌, ◌⊎◌, inl, inr, Bool, true, false, arith, List, [], ◌∷◌, map, length, slice_get, Some, refl, sym, ap, ◌∙◌}
-use Rattle.std.specs.List.{remove}
-use Rattle.std.proofs.lemmas.Bool.Decides.{nat_tests}
-use Rattle.proof_base.proofs.Members.{some_is, none_some}
+use Rattle.job_spec.specs.Prelude.{remove}
+use Rattle.job_spec.proofs.Common.{nat_tests, some_is, none_some}
 use Rattle.job_turns.specs.Mixes.{IsNotIn, AreApart}
 
 eq_or : (a b : ℕ) (t : Bool) → (a == b) ≡ t → (a ≡ b) ⊎ (a ≡ b → ⊥)

@@ -1,8 +1,6 @@
 -- A mix of actors.
 use Rattle.std.specs.Prelude.{◌≡◌, ℕ, ◌^◌, ◌<◌, ◌≤◌, ◌⊎◌, true, false, List, [], ◌∷◌, ◌++◌, map, length, slice_get, Some}
-use Rattle.s3_types.specs.declared.journal.Entry.{Entry}
-use Rattle.job_model.specs.declared.ends.ActorEnd.{ActorEnd}
-use Rattle.job_spec.specs.Turns.{Mixing, draw}
+use Rattle.job_spec.specs.Prelude.{Entry, ActorEnd, Mixing, draw}
 use Rattle.job_turns.specs.Turning.{Table}
 
 -- a number is none of these

@@ -1,10 +1,6 @@
 -- What turns of actors come to.
 use Rattle.std.specs.Prelude.{◌≡◌, ℕ, ◌+◌, ◌<◌, ◌≤◌, Bool, true, false, List, [], ◌∷◌, ◌++◌, length}
-use Rattle.s3_types.specs.declared.request.Actor.{Actor}
-use Rattle.s3_types.specs.declared.journal.Entry.{Entry}
-use Rattle.job_model.specs.declared.ends.ActorEnd.{ActorEnd}
-use Rattle.job_model.specs.declared.ends.OpEnd.{OpEnd}
-use Rattle.job_spec.specs.Turns.{AllBy, StepEnds, is_memory}
+use Rattle.job_spec.specs.Prelude.{Actor, Entry, ActorEnd, OpEnd, AllBy, StepEnds, is_memory}
 use Rattle.job_turns.specs.declared.actors.Turn.{Turn}
 use Rattle.job_turns.specs.declared.actors.Turn.TheVariants.{GoesOn, Ended, Died}
 

@@ -1,12 +1,6 @@
 -- One more entry of a run in which nobody else sends.
 use Rattle.std.proofs.Common.{◌≡◌, ℕ, suc, ◌+◌, true, List, [], ◌∷◌, ◌++◌, length, Option, Some, subst, arith}
-use Rattle.s3_types.specs.Fates.{fate_at}
-use Rattle.s3_types.specs.Foretold.{IsForetold, AreForetold}
-use Rattle.s3_types.specs.declared.fates.Fate.{Fate}
-use Rattle.s3_types.specs.declared.journal.Entry.{Entry}
-use Rattle.job_model.specs.JobScript.{Script}
-use Rattle.job_spec.specs.Entries.{AreOwn}
-use Rattle.job_spec.specs.Turns.{is_own}
+use Rattle.job_steps.specs.Prelude.{fate_at, IsForetold, AreForetold, Fate, Entry, Script, AreOwn, is_own}
 use Rattle.job_world.specs.Holds.{IsAlone}
 
 own_last : (es : List Entry) (e : Entry) → AreOwn es → is_own e.actor ≡ true → AreOwn (es ++ e ∷ [])

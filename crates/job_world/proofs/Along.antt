@@ -1,25 +1,9 @@
 -- What is carried along a run of a job: what each actor knew as it last sent, who commits the job, and how many events there were.
 use Rattle.std.proofs.Common.{◌≡◌, ℕ, ◌<◌, inl, inr, false, List, [], ◌∷◌, ◌++◌, length, Option, Some, None, refl, sym, ap, ◌∙◌}
-use Rattle.proof_base.proofs.Members.{some_is, none_some}
-use Rattle.s3_types.specs.Store.{Content}
-use Rattle.s3_types.specs.declared.request.Actor.{Actor}
-use Rattle.s3_types.specs.declared.request.Actor.TheVariants.{Driver, Attempt, Shell}
-use Rattle.s3_types.specs.declared.journal.Outcome.{Outcome}
-use Rattle.s3_types.specs.declared.request.Request.{Request}
-use Rattle.s3_types.specs.declared.journal.Outcome.{Outcome}
-use Rattle.s3_types.specs.declared.journal.Entry.{Entry}
-use Rattle.job_model.specs.Attempts.{Who}
-use Rattle.job_model.specs.Known.{Known}
-use Rattle.job_model.specs.JobScript.{Script}
-use Rattle.job_model.specs.declared.events.Op.{Op}
+use Rattle.job_spec.proofs.Common.{some_is, none_some}
+use Rattle.job_steps.specs.Prelude.{Content, Actor, Driver, Attempt, Shell, Outcome, Request, Entry, Who, Known, Script, Op, Event, Do, Start, learn, knows, Setting, Operation, Running, TheSetup, who, tells, learn_of, advance, start_of, put, missing, by_actor, Play, Refuses, Opens, Sends, Finishes, Closes, Strays, begun, open_running, hear, happen, MayOpen, MaySend, Reachable, nothing_happened, happens, nothing_played, knows_now}
+use Rattle.job_facts.specs.Prelude.{knows_from}
 use Rattle.job_model.specs.declared.events.Op.TheVariants as ops
-use Rattle.job_model.specs.declared.events.Event.{Event}
-use Rattle.job_model.specs.declared.events.Event.TheVariants.{Do, Start}
-use Rattle.job_protocol.specs.Knowledge.{learn, knows, knows_from}
-use Rattle.job_protocol.specs.Operations.{Setting, Operation, Running, TheSetup, who, tells, learn_of, advance, start_of}
-use Rattle.job_spec.specs.States.{put, missing}
-use Rattle.job_spec.specs.Turns.{by_actor}
-use Rattle.job_steps.specs.Transitions.{Play, Refuses, Opens, Sends, Finishes, Closes, Strays, begun, open_running, hear, happen, MayOpen, MaySend, Reachable, nothing_happened, happens, nothing_played, knows_now}
 use Rattle.job_steps.proofs.Actors.{same_true, same_or_not, put_here, put_other, same_false}
 use Rattle.job_steps.proofs.Parts.{by_itself, by_another, by_own}
 use Rattle.job_actor.specs.Picks.{is_job_commit, is_committing}

@@ -1,32 +1,11 @@
 -- An actor of a world begins an operation: what it goes by, and that all holds but for its hand.
 use Rattle.std.proofs.Common.{◌≡◌, ℕ, ◌-◌, ◌^◌, ◌<◌, ◌⊎◌, inl, inr, not, true, false, List, [], length, slice_get, Option, Some, None, vec_len, vec_capacity, refl, sym, ap, subst, ◌∙◌, append-nil, arith}
 use Rattle.std.specs.Prelude.{IsSome, is_some, IfOk, Result, Ok, Err}
-use Rattle.std.proofs.lemmas.Option.{slice_get_within}
-use Rattle.proof_base.proofs.Members.{none_some, false_true}
-use Rattle.s3_types.specs.declared.request.Request.{Request}
-use Rattle.s3_types.specs.declared.request.Actor.{Actor}
-use Rattle.s3_types.specs.declared.request.Actor.TheVariants.{Driver, Attempt, Shell}
-use Rattle.job_model.specs.Attempts.{is_known}
-use Rattle.job_model.specs.Known.{Known}
-use Rattle.job_model.specs.JobScript.{Script}
-use Rattle.job_model.specs.Legal.{HasOp, IsEvent, IsLegal}
-use Rattle.job_model.specs.declared.events.Op.{Op}
+use Rattle.job_spec.proofs.Common.{slice_get_within, none_some, false_true}
+use Rattle.job_steps.specs.Prelude.{Request, Actor, Driver, Attempt, Shell, is_known, Known, Script, HasOp, IsEvent, IsLegal, Op, Event, Do, Start, EventFault, OpEnd, Pick, Life, Idle, Dead, knows, Setting, Running, who, start_of, over, Past, actors, missing, refusal, refuse_begin, open_event, by_actor, Play, Opens, MayOpen, begun, happen, knows_now, Ahead}
 use Rattle.job_model.specs.declared.events.Op.TheVariants as ops
-use Rattle.job_model.specs.declared.events.Event.{Event}
-use Rattle.job_model.specs.declared.events.Event.TheVariants.{Do, Start}
-use Rattle.job_model.specs.declared.ends.EventFault.{EventFault}
-use Rattle.job_model.specs.declared.ends.OpEnd.{OpEnd}
-use Rattle.job_model.specs.declared.ends.Pick.{Pick}
-use Rattle.job_model.specs.declared.states.Life.{Life}
-use Rattle.job_model.specs.declared.states.Life.TheVariants.{Idle, Dead}
-use Rattle.job_protocol.specs.Knowledge.{knows}
-use Rattle.job_protocol.specs.Operations.{Setting, Running, who, start_of, over}
-use Rattle.job_spec.specs.States.{Past, actors, missing, refusal, refuse_begin, open_event}
-use Rattle.job_spec.specs.Turns.{by_actor}
 use Rattle.job_actor.specs.Plans.{IsPlanOf}
 use Rattle.job_actor.specs.declared.plan.Plan as acting
-use Rattle.job_steps.specs.Transitions.{Play, Opens, MayOpen, begun, happen, knows_now}
-use Rattle.job_steps.specs.Running.{Ahead}
 use Rattle.job_steps.proofs.Running.{is_run}
 use Rattle.job_states.specs.Stands.{Stands, IsPlace}
 use Rattle.job_actor.specs.Works.{Starts}

@@ -1,12 +1,7 @@
 -- The places of the busy actors of a legal script's run.
 use Rattle.std.proofs.Common.{◌≡◌, ℕ, zero, suc, ◌≤◌, Bool, true, false, cond, List, [], ◌∷◌, map, length, slice_get, Option, Some, refl, sym, ap, ◌∙◌, arith}
-use Rattle.std.specs.List.{filter}
-use Rattle.proof_base.proofs.Members.{some_is, none_some}
-use Rattle.s3_types.specs.declared.request.Actor.{Actor}
-use Rattle.job_model.specs.JobScript.{Script}
-use Rattle.job_model.specs.Legal.{IsLegal}
-use Rattle.job_spec.specs.States.{Past, actors}
-use Rattle.job_spec.specs.Turns.{is_busy, busy_actors}
+use Rattle.job_steps.specs.Prelude.{filter, Actor, Script, IsLegal, Past, actors, is_busy, busy_actors}
+use Rattle.job_spec.proofs.Common.{some_is, none_some}
 use Rattle.job_states.specs.Stands.{Kept, Stands}
 use Rattle.job_turns.specs.Mixes.{IsNotIn, AreApart}
 use Rattle.job_world.specs.Holds.{is_busy_at}

@@ -1,22 +1,9 @@
 -- An event of a world has its end: all holds between events again.
 use Rattle.std.proofs.Common.{◌≡◌, ◌+◌, not, true, List, [], ◌∷◌, ◌++◌, length, Option, Some, None, refl, sym, ap, subst, ◌∙◌}
 use Rattle.std.specs.Prelude.{IsSome, is_some}
-use Rattle.proof_base.proofs.Members.{some_is, false_true}
-use Rattle.s3_types.specs.declared.request.Request.{Request}
-use Rattle.s3_types.specs.declared.request.Actor.{Actor}
-use Rattle.s3_types.specs.declared.request.Actor.TheVariants.{Driver}
-use Rattle.job_model.specs.Known.{Known}
-use Rattle.job_model.specs.declared.events.Event.{Event}
-use Rattle.job_model.specs.declared.ends.EventEnd.{EventEnd}
-use Rattle.job_model.specs.declared.ends.EventEnd.TheVariants.{Refused}
-use Rattle.job_model.specs.declared.ends.EventFault.{EventFault}
-use Rattle.job_model.specs.declared.ends.OpEnd.{OpEnd}
-use Rattle.job_model.specs.declared.ends.Pick.{Pick}
-use Rattle.job_model.specs.declared.states.Life.TheVariants.{Busy}
-use Rattle.job_protocol.specs.Operations.{Setting, Running, over}
-use Rattle.job_spec.specs.States.{Past, count}
-use Rattle.job_spec.specs.Turns.{is_busy, of_event, Turns}
-use Rattle.job_steps.specs.Transitions.{Play, Refuses, Closes, happen, happens, MayClose}
+use Rattle.job_spec.proofs.Common.{some_is, false_true}
+use Rattle.job_steps.specs.Prelude.{Request, Actor, Driver, Known, Event, EventEnd, Refused, EventFault, OpEnd, Pick, Busy, Setting, Running, over, Past, is_busy, of_event, Turns, Play, Refuses, Closes, happen, happens, MayClose}
+use Rattle.job_spec.specs.States.{count}
 use Rattle.job_steps.proofs.PastMore.{busy_so}
 use Rattle.job_states.specs.Stands.{Stands}
 use Rattle.job_world.specs.Sending.{Asks}

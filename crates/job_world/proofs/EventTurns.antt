@@ -1,17 +1,8 @@
 -- The entries that an event of a world has are by turns.
 use Rattle.std.proofs.Common.{◌≡◌, ℕ, Bool, true, false, List, [], ◌∷◌, ◌++◌, map, length, slice_get, Option, Some, refl, sym, ap, subst, ◌∙◌}
-use Rattle.proof_base.proofs.Members.{none_some}
-use Rattle.s3_types.specs.Store.{Scene}
-use Rattle.s3_types.specs.declared.request.Actor.{Actor}
-use Rattle.s3_types.specs.declared.journal.Entry.{Entry}
-use Rattle.job_model.specs.JobScript.{Script}
-use Rattle.job_model.specs.declared.events.Op.{Op}
-use Rattle.job_model.specs.declared.events.Event.{Event}
-use Rattle.job_model.specs.declared.events.Event.TheVariants.{Do, Start, Step, Run, Kill, Mix, Restart, Recover}
-use Rattle.job_model.specs.declared.ends.EventEnd.{EventEnd}
-use Rattle.job_model.specs.declared.ends.EventEnd.TheVariants.{Done, Ended}
-use Rattle.job_spec.specs.States.{actors, past, told}
-use Rattle.job_spec.specs.Turns.{Turns, AllBy, StepEnds, Mixing, is_memory, busy_actors}
+use Rattle.job_spec.proofs.Common.{none_some}
+use Rattle.job_steps.specs.Prelude.{Scene, Actor, Entry, Script, Op, Event, Do, Start, Step, Run, Kill, Mix, Restart, Recover, EventEnd, Done, Ended, actors, past, told, Turns, AllBy, is_memory, busy_actors}
+use Rattle.job_spec.specs.Prelude.{StepEnds, Mixing}
 use Rattle.job_turns.specs.Turning.{Ran, Stepped}
 use Rattle.job_turns.specs.Mixes as mixes
 use Rattle.job_world.specs.Holds.{Same, table_of, actor_or}

@@ -1,33 +1,16 @@
 -- What holds of a world where an operation of one of its actors ends.
 use Rattle.std.proofs.Common.{◌≡◌, ℕ, ◌<◌, ◌≤◌, ◌⊎◌, inl, inr, not, Bool, true, false, List, [], ◌∷◌, ◌++◌, length, slice_get, Option, Some, None, IsSome, Vec, Global, vec_capacity, refl, sym, ap, subst, ◌∙◌, append-nil, arith}
 use Rattle.std.specs.Prelude.{is_some}
-use Rattle.proof_base.proofs.Members.{some_is, none_some, false_true, none_or_some, nat_false, same_or_not as same_number}
-use Rattle.s3_types.specs.Store.{Content}
-use Rattle.s3_types.specs.declared.request.Actor.{Actor}
-use Rattle.s3_types.specs.declared.request.Actor.TheVariants.{Driver}
-use Rattle.job_model.specs.Known.{Known}
-use Rattle.job_model.specs.Legal.{IsLegal}
-use Rattle.job_model.specs.JobScript.{Script}
-use Rattle.job_model.specs.declared.events.Op.{Op}
+use Rattle.job_spec.proofs.Common.{some_is, none_some, false_true, none_or_some, nat_false}
+use Rattle.job_steps.specs.Prelude.{Content, Actor, Driver, Known, IsLegal, Script, Op, OpEnd, ActorEnd, Pick, Life, Busy, ActorStage, ActorState, Setting, Running, over, Past, actors, ended, is_commit, decide, end_op, is_busy, is_memory, is_wanting, lacked_memory, Play, Finishes, happen, MayFinish, Reachable, happens, knows_now}
+use Rattle.proof_base.proofs.Members.{same_or_not as same_number}
 use Rattle.job_model.specs.declared.ends.SetupEnd.TheVariants as setups
 use Rattle.job_model.specs.declared.ends.TaskEnd.TheVariants as tasks
 use Rattle.job_model.specs.declared.ends.CommitEnd.TheVariants as commits
 use Rattle.job_model.specs.declared.ends.CleanEnd.TheVariants as cleans
-use Rattle.job_model.specs.declared.ends.OpEnd.{OpEnd}
 use Rattle.job_model.specs.declared.ends.OpEnd.TheVariants as ends
-use Rattle.job_model.specs.declared.ends.ActorEnd.{ActorEnd}
-use Rattle.job_model.specs.declared.ends.Pick.{Pick}
-use Rattle.job_model.specs.declared.states.Life.{Life}
-use Rattle.job_model.specs.declared.states.Life.TheVariants.{Busy}
-use Rattle.job_model.specs.declared.states.ActorStage.{ActorStage}
-use Rattle.job_model.specs.declared.states.ActorState.{ActorState}
-use Rattle.job_protocol.specs.Operations.{Setting, Running, over}
-use Rattle.job_spec.specs.States.{Past, actors, ended, is_commit, decide, end_op}
-use Rattle.job_spec.specs.Turns.{is_busy, is_memory, is_wanting}
-use Rattle.job_spec.specs.Promise.{lacked_memory}
 use Rattle.job_states.specs.Standing.{standing}
 use Rattle.job_states.specs.Stands.{Kept, Stands}
-use Rattle.job_steps.specs.Transitions.{Play, Finishes, happen, MayFinish, Reachable, happens, knows_now}
 use Rattle.job_steps.proofs.Actors.{put_here, put_other}
 use Rattle.job_steps.proofs.Told.{told_all}
 use Rattle.job_actor.specs.Picks.{is_committing}

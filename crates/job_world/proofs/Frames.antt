@@ -1,8 +1,6 @@
 -- What an event of a world leaves as it was, step by step.
 use Rattle.std.proofs.Common.{◌≡◌, ℕ, ◌+◌, ◌<◌, [], ◌∷◌, ◌++◌, append_assoc, append-nil, length, Some, Vec, Global, vec_len, vec_capacity, refl, sym, ap, subst, ◌∙◌}
-use Rattle.job_model.specs.declared.events.Event.{Event}
-use Rattle.job_spec.specs.Turns.{of_event}
-use Rattle.job_model.specs.declared.ends.EventEnd.{EventEnd}
+use Rattle.job_steps.specs.Prelude.{Event, of_event, EventEnd}
 use Rattle.job_world.specs.Holds.{Same, AreOf, both_of}
 use Rattle.job_world.specs.Events.{IsOpened, Emptied, Entered, Grown, HasRoom, event_entries}
 use Rattle.job_world.specs.declared.body.Body.{Body}

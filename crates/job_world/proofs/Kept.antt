@@ -1,27 +1,8 @@
 -- What a hand and the picks that were put by keep from one moment of a run to a later one that leaves their actor.
 use Rattle.std.proofs.Common.{◌≡◌, inl, inr, Bool, true, false, List, [], ◌∷◌, append_assoc, Option, Some, None, refl, sym, ap, subst, ◌∙◌}
-use Rattle.proof_base.proofs.Members.{none_some}
-use Rattle.s3_types.specs.Store.{Content}
-use Rattle.s3_types.specs.declared.request.Actor.{Actor}
-use Rattle.s3_types.specs.declared.request.Actor.TheVariants.{Driver}
-use Rattle.job_model.specs.Known.{Known}
-use Rattle.job_model.specs.declared.events.Op.{Op}
-use Rattle.job_model.specs.declared.events.Event.{Event}
-use Rattle.job_model.specs.declared.events.Event.TheVariants.{Do, Start, Kill, Restart}
-use Rattle.job_model.specs.declared.ends.EventEnd.{EventEnd}
-use Rattle.job_model.specs.declared.ends.EventEnd.TheVariants.{Refused}
-use Rattle.job_model.specs.declared.ends.EventFault.{EventFault}
-use Rattle.job_model.specs.declared.ends.Pick.{Pick}
-use Rattle.job_model.specs.declared.states.Life.TheVariants.{Dead}
-use Rattle.job_model.specs.declared.states.ActorState.{ActorState}
-use Rattle.job_protocol.specs.Knowledge.{knows}
-use Rattle.job_protocol.specs.Operations.{Setting, Running, who}
-use Rattle.job_spec.specs.States.{Past, Decided, put, open_event, commit_begun, dead, idle, restarted, is_refused}
-use Rattle.job_spec.specs.Turns.{is_busy, by_actor}
-use Rattle.job_spec.specs.Promise.{ArePicked, all_picks, lacked_memory}
+use Rattle.job_spec.proofs.Common.{none_some}
+use Rattle.job_steps.specs.Prelude.{Content, Actor, Driver, Known, Op, Event, Do, Start, Kill, Restart, EventEnd, Refused, EventFault, Pick, Dead, ActorState, knows, Setting, Running, who, Past, Decided, put, open_event, commit_begun, dead, idle, restarted, is_refused, is_busy, by_actor, ArePicked, all_picks, lacked_memory, Play, Refuses, Opens, Closes, open_running, happen, MayClose, Ahead}
 use Rattle.job_actor.specs.Plans.{IsPlanOf}
-use Rattle.job_steps.specs.Transitions.{Play, Refuses, Opens, Closes, open_running, happen, MayClose}
-use Rattle.job_steps.specs.Running.{Ahead}
 use Rattle.job_steps.proofs.Actors.{same_or_not, put_here, put_other}
 use Rattle.job_steps.proofs.PastMore.{turns_refused}
 use Rattle.job_actor.specs.Picks.{ArePicksOf, HasPicked, is_committing}

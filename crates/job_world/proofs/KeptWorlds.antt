@@ -1,21 +1,9 @@
 -- That a world keeps what is promised of its job, between its events.
 use Rattle.std.proofs.Common.{◌≡◌, ◌<◌, inl, inr, Bool, true, false, List, [], ◌∷◌, ◌++◌, append-nil, length, slice_get, Option, Some, None, refl, sym, ap, subst, ◌∙◌, arith}
 use Rattle.std.specs.Prelude.{is_some, unwrap_or}
-use Rattle.proof_base.proofs.Members.{false_true}
-use Rattle.s3_types.specs.Store.{Content}
-use Rattle.s3_types.specs.declared.request.Request.{Request}
-use Rattle.s3_types.specs.declared.request.Actor.{Actor}
-use Rattle.s3_types.specs.declared.request.Actor.TheVariants.{Driver}
-use Rattle.job_model.specs.Known.{Known}
-use Rattle.job_model.specs.declared.ends.Pick.{Pick}
-use Rattle.job_protocol.specs.Operations.{Setting, Running}
-use Rattle.job_spec.specs.States.{Past, actors, past}
-use Rattle.job_spec.specs.Entries.{AreOwn}
-use Rattle.job_spec.specs.Promise.{Promised, Sent, Finished, ArePicked, all_picks, lacked_memory}
+use Rattle.job_spec.proofs.Common.{false_true}
+use Rattle.job_steps.specs.Prelude.{Content, Request, Actor, Driver, Known, Pick, Setting, Running, Past, actors, past, AreOwn, Promised, Sent, Finished, ArePicked, all_picks, lacked_memory, Play, knows_now, IsPlayed, Ahead}
 use Rattle.job_states.specs.Stands.{Stands}
-use Rattle.job_steps.specs.Transitions.{Play, knows_now}
-use Rattle.job_steps.specs.Laws.{IsPlayed}
-use Rattle.job_steps.specs.Running.{Ahead}
 use Rattle.job_steps.proofs.Played.{happenings_play}
 use Rattle.job_safety.specs.Laws.{FactsHold}
 use Rattle.job_safety.proofs.Ending.{ahead_none}

@@ -1,36 +1,13 @@
 -- Of a legal script's run: who is busy is of the job, an attempt that is idle has ended its operation, and restarts are few.
 use Rattle.std.proofs.Common.{◌≡◌, ◌+◌, ◌≤◌, inl, inr, true, false, List, [], ◌∷◌, ◌++◌, length, length-append, Option, Some, None, refl, sym, ap, subst, ◌∙◌, arith}
 use Rattle.std.specs.Prelude.{IsSome}
-use Rattle.proof_base.proofs.Members.{some_is, none_some, false_true}
-use Rattle.s3_types.specs.Store.{Content}
-use Rattle.s3_types.specs.declared.request.Actor.{Actor}
-use Rattle.s3_types.specs.declared.request.Actor.TheVariants.{Driver}
-use Rattle.job_model.specs.Attempts.{Declared, is_known}
-use Rattle.job_model.specs.JobScript.{Script}
-use Rattle.job_model.specs.Legal.{IsLegal, IsEvent}
-use Rattle.job_model.specs.declared.events.Event.{Event}
-use Rattle.job_model.specs.declared.events.Event.TheVariants.{Do, Start, Kill, Restart}
-use Rattle.job_model.specs.declared.ends.SetupEnd.{SetupEnd}
+use Rattle.job_spec.proofs.Common.{some_is, none_some, false_true}
+use Rattle.job_steps.specs.Prelude.{Content, Actor, Driver, Declared, is_known, Script, IsLegal, IsEvent, Event, Do, Start, Kill, Restart, SetupEnd, TaskEnd, CommitEnd, CleanEnd, OpEnd, ActorEnd, EventEnd, Refused, Life, Idle, Busy, Dead, ActorStage, ActorState, Setting, Running, over, Past, put, dead, idle, restarted, end_op, open_event, ended, is_busy, is_memory, Play, Transition, Refuses, Opens, Sends, Finishes, Closes, Strays, open_running, hear, happen, Enabled, Reachable, nothing_happened, happens}
 use Rattle.job_model.specs.declared.ends.SetupEnd.TheVariants as setups
-use Rattle.job_model.specs.declared.ends.TaskEnd.{TaskEnd}
 use Rattle.job_model.specs.declared.ends.TaskEnd.TheVariants as tasks
-use Rattle.job_model.specs.declared.ends.CommitEnd.{CommitEnd}
 use Rattle.job_model.specs.declared.ends.CommitEnd.TheVariants as commits
-use Rattle.job_model.specs.declared.ends.CleanEnd.{CleanEnd}
 use Rattle.job_model.specs.declared.ends.CleanEnd.TheVariants as cleans
-use Rattle.job_model.specs.declared.ends.OpEnd.{OpEnd}
 use Rattle.job_model.specs.declared.ends.OpEnd.TheVariants as ends
-use Rattle.job_model.specs.declared.ends.ActorEnd.{ActorEnd}
-use Rattle.job_model.specs.declared.ends.EventEnd.{EventEnd}
-use Rattle.job_model.specs.declared.ends.EventEnd.TheVariants.{Refused}
-use Rattle.job_model.specs.declared.states.Life.{Life}
-use Rattle.job_model.specs.declared.states.Life.TheVariants.{Idle, Busy, Dead}
-use Rattle.job_model.specs.declared.states.ActorStage.{ActorStage}
-use Rattle.job_model.specs.declared.states.ActorState.{ActorState}
-use Rattle.job_protocol.specs.Operations.{Setting, Running, over}
-use Rattle.job_spec.specs.States.{Past, put, dead, idle, restarted, end_op, open_event, ended}
-use Rattle.job_spec.specs.Turns.{is_busy, is_memory}
-use Rattle.job_steps.specs.Transitions.{Play, Transition, Refuses, Opens, Sends, Finishes, Closes, Strays, open_running, hear, happen, Enabled, Reachable, nothing_happened, happens}
 use Rattle.job_steps.proofs.Actors.{same_or_not, put_here, put_other}
 use Rattle.job_steps.proofs.PastMore.{event_at, ended_idle}
 use Rattle.job_steps.proofs.RunningStages.{may_end}

@@ -1,16 +1,7 @@
 -- What a world that holds says of its run: which event may begin, that its numbers are small, and what stands at its places.
 use Rattle.std.proofs.Common.{◌≡◌, ℕ, ◌+◌, ◌-◌, ◌^◌, ◌<◌, Bool, true, List, [], length, slice_get, Option, Some, None, sym, ap, ◌∙◌, arith}
-use Rattle.std.proofs.lemmas.Option.{slice_get_within}
-use Rattle.s3_types.specs.declared.request.Actor.{Actor}
-use Rattle.job_model.specs.Known.{Known}
-use Rattle.job_model.specs.Legal.{IsEvent}
-use Rattle.job_model.specs.declared.events.Event.{Event}
-use Rattle.job_model.specs.declared.ends.EventFault.{EventFault}
-use Rattle.job_model.specs.declared.ends.Pick.{Pick}
-use Rattle.job_protocol.specs.Operations.{Setting, Running}
-use Rattle.job_spec.specs.States.{Past, actors, refusal, past}
-use Rattle.job_spec.specs.Turns.{is_busy, of_event}
-use Rattle.job_steps.specs.Transitions.{Play, MayOpen}
+use Rattle.job_spec.proofs.Common.{slice_get_within}
+use Rattle.job_steps.specs.Prelude.{Actor, Known, IsEvent, Event, EventFault, Pick, Setting, Running, Past, actors, refusal, past, is_busy, of_event, Play, MayOpen}
 use Rattle.job_steps.proofs.Parts.{event_none}
 use Rattle.job_steps.proofs.PastMore.{event_at}
 use Rattle.job_steps.proofs.Told.{Told, told_all}

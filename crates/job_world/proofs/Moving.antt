@@ -1,21 +1,8 @@
 -- Events of a world that move busy actors, or nobody: what is asked of turns and of the event's end.
 use Rattle.std.proofs.Common.{◌≡◌, ℕ, ◌-◌, ◌<◌, ◌≤◌, true, List, [], map, length, slice_get, Option, Some, None, vec_len, vec_capacity, refl, sym, ap, subst, ◌∙◌, arith}
-use Rattle.proof_base.proofs.Members.{none_some}
-use Rattle.s3_types.specs.declared.request.Request.{Request}
-use Rattle.s3_types.specs.declared.request.Actor.{Actor}
-use Rattle.job_model.specs.Attempts.{is_known}
-use Rattle.job_model.specs.Known.{Known}
-use Rattle.job_model.specs.JobScript.{Script}
-use Rattle.job_model.specs.Legal.{IsEvent}
-use Rattle.job_model.specs.declared.events.Event.{Event}
-use Rattle.job_model.specs.declared.events.Event.TheVariants.{Do, Start, Step, Run, Mix}
-use Rattle.job_model.specs.declared.ends.Pick.{Pick}
-use Rattle.job_model.specs.declared.states.Life.{Life}
-use Rattle.job_model.specs.declared.states.Life.TheVariants.{Busy}
-use Rattle.job_model.specs.declared.states.ActorState.{ActorState}
-use Rattle.job_protocol.specs.Operations.{Setting, Running}
-use Rattle.job_spec.specs.States.{Past, actors, past, refusal, refuse_move, open_event}
-use Rattle.job_spec.specs.Turns.{is_busy, busy_actors}
+use Rattle.job_spec.proofs.Common.{none_some}
+use Rattle.job_steps.specs.Prelude.{Request, Actor, is_known, Known, Script, IsEvent, Event, Do, Start, Step, Run, Mix, Pick, Life, Busy, ActorState, Setting, Running, Past, actors, past, refusal, open_event, is_busy, busy_actors}
+use Rattle.job_spec.specs.States.{refuse_move}
 use Rattle.job_states.specs.Stands.{Stands, IsPlace}
 use Rattle.job_turns.specs.Mixes.{AreApart}
 use Rattle.job_world.specs.Holds.{Quiet, all_sound, is_busy_at}

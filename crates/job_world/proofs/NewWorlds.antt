@@ -1,33 +1,12 @@
 -- A world in which nothing has happened.
 use Rattle.std.proofs.Common.{◌≡◌, ℕ, zero, suc, ◌+◌, ◌<◌, ◌≤◌, ◌^◌, inl, inr, false, List, [], ◌∷◌, ◌++◌, map, take, length, slice_get, Option, Some, None, refl, sym, ap, subst, ◌∙◌, arith}
 use Rattle.std.specs.Prelude.{option_map}
+use Rattle.job_spec.proofs.Common.{cases_lt, map-append, take_all, some_is, none_some, false_true}
+use Rattle.job_steps.specs.Prelude.{Content, BucketContent, fate_at, Request, Entry, Actor, Driver, Declared, actor_of, Task, Known, nothing_known, Script, IsLegal, Pick, EventEnd, Setting, Running, task_of, Picks, picked, picks_below, all_picks, actors, nothing_past, IsOpening, nothing_played, nothing_happened}
+use Rattle.job_facts.specs.Prelude.{Upload, upload_in, at_id}
+use Rattle.job_spec.specs.Prelude.{opening}
 use Rattle.std.specs.FinMap as fin
-use Rattle.std.proofs.lemmas.Bool.{cases_lt}
-use Rattle.std.proofs.lemmas.List.{map-append, take_all}
 use Rattle.job_actor.proofs.Picking.{none_below}
-use Rattle.proof_base.proofs.Members.{some_is, none_some, false_true}
-use Rattle.s3_types.specs.Store.{Content, BucketContent, Upload, opening}
-use Rattle.s3_types.specs.Fates.{fate_at}
-use Rattle.s3_types.specs.declared.request.Request.{Request}
-use Rattle.s3_types.specs.declared.journal.Entry.{Entry}
-use Rattle.s3_types.specs.declared.request.Actor.{Actor}
-use Rattle.s3_types.specs.declared.request.Actor.TheVariants.{Driver}
-use Rattle.job_model.specs.Attempts.{Declared, actor_of}
-use Rattle.job_model.specs.Jobs.{Task}
-use Rattle.job_model.specs.Known.{Known, nothing_known}
-use Rattle.job_model.specs.JobScript.{Script}
-use Rattle.job_model.specs.Legal.{IsLegal}
-use Rattle.job_model.specs.declared.ends.Pick.{Pick}
-use Rattle.job_model.specs.declared.ends.EventEnd.{EventEnd}
-use Rattle.job_protocol.specs.Operations.{Setting, Running}
-use Rattle.job_protocol.specs.AtWork.{task_of}
-use Rattle.job_protocol.specs.Outputs.{Picks}
-use Rattle.job_spec.specs.Scope.{upload_in}
-use Rattle.job_spec.specs.Promise.{picked, picks_below, all_picks}
-use Rattle.job_spec.specs.States.{actors, nothing_past}
-use Rattle.job_traces.specs.Runs.{IsOpening}
-use Rattle.job_facts.specs.Stores.{at_id}
-use Rattle.job_steps.specs.Transitions.{nothing_played, nothing_happened}
 use Rattle.job_plans.specs.AtPlace.{task_at}
 use Rattle.job_states.specs.Standing.{standing}
 use Rattle.job_states.specs.Stands.{Stands}

@@ -1,19 +1,7 @@
 -- An event of a world begins: all holds then, but for the hand of one that begins an operation.
 use Rattle.std.proofs.Common.{◌≡◌, ℕ, inl, inr, not, Bool, true, List, length, slice_get, Option, Some, None, refl, sym, ap, subst, ◌∙◌}
-use Rattle.proof_base.proofs.Members.{false_true, true_or_false, nat_true}
-use Rattle.s3_types.specs.declared.request.Request.{Request}
-use Rattle.s3_types.specs.declared.request.Actor.{Actor}
-use Rattle.s3_types.specs.declared.request.Actor.TheVariants.{Driver}
-use Rattle.job_model.specs.Known.{Known}
-use Rattle.job_model.specs.declared.events.Op.{Op}
-use Rattle.job_model.specs.declared.events.Event.{Event}
-use Rattle.job_model.specs.declared.events.Event.TheVariants.{Do, Start}
-use Rattle.job_model.specs.declared.ends.Pick.{Pick}
-use Rattle.job_model.specs.declared.states.ActorState.{ActorState}
-use Rattle.job_protocol.specs.Operations.{Setting, Running}
-use Rattle.job_spec.specs.States.{Past, actors, open_event}
-use Rattle.job_spec.specs.Turns.{is_busy}
-use Rattle.job_steps.specs.Transitions.{Play, Opens, happen, happens}
+use Rattle.job_spec.proofs.Common.{false_true, true_or_false, nat_true}
+use Rattle.job_steps.specs.Prelude.{Request, Actor, Driver, Known, Op, Event, Do, Start, Pick, ActorState, Setting, Running, Past, actors, open_event, is_busy, Play, Opens, happen, happens}
 use Rattle.job_steps.proofs.Actors.{put_here}
 use Rattle.job_states.specs.Stands.{Stands}
 use Rattle.job_world.specs.Holds.{Holds, HandsAre, PutBy, Quiet, Going, all_sound, all_but, setting_of, is_busy_at}

@@ -1,24 +1,9 @@
 -- What the driver has picked, as it begins another operation.
 use Rattle.std.proofs.Common.{◌≡◌, ℕ, inl, inr, true, false, List, [], ◌∷◌, ◌++◌, append-nil, Option, Some, None, refl, sym, ap, subst, ◌∙◌}
 use Rattle.std.specs.Prelude.{is_some, unwrap_or}
-use Rattle.proof_base.proofs.Members.{none_some, false_true, true_or_false}
-use Rattle.s3_types.specs.Store.{Content}
-use Rattle.s3_types.specs.declared.request.Actor.{Actor}
-use Rattle.s3_types.specs.declared.request.Actor.TheVariants.{Driver, Attempt, Shell}
-use Rattle.job_model.specs.Known.{Known}
-use Rattle.job_model.specs.Legal.{IsLegal}
-use Rattle.job_model.specs.declared.events.Op.{Op}
+use Rattle.job_spec.proofs.Common.{none_some, false_true, true_or_false}
+use Rattle.job_steps.specs.Prelude.{Content, Actor, Driver, Attempt, Shell, Known, IsLegal, Op, Event, Do, Start, Step, EventEnd, Pick, Setting, Running, start_of, Past, Decided, open_event, commit_begun, begins_commit, missing, ArePicked, all_picks, lacked_memory, IsOpening, Play, Reachable, Opens, MayOpen, begun, open_running, happen, knows_now, Ahead}
 use Rattle.job_model.specs.declared.events.Op.TheVariants as ops
-use Rattle.job_model.specs.declared.events.Event.{Event}
-use Rattle.job_model.specs.declared.events.Event.TheVariants.{Do, Start, Step}
-use Rattle.job_model.specs.declared.ends.EventEnd.{EventEnd}
-use Rattle.job_model.specs.declared.ends.Pick.{Pick}
-use Rattle.job_protocol.specs.Operations.{Setting, Running, start_of}
-use Rattle.job_spec.specs.States.{Past, Decided, open_event, commit_begun, begins_commit, missing}
-use Rattle.job_spec.specs.Promise.{ArePicked, all_picks, lacked_memory}
-use Rattle.job_traces.specs.Runs.{IsOpening}
-use Rattle.job_steps.specs.Transitions.{Play, Reachable, Opens, MayOpen, begun, open_running, happen, knows_now}
-use Rattle.job_steps.specs.Running.{Ahead}
 use Rattle.job_steps.proofs.Actors.{put_here}
 use Rattle.job_actor.specs.Picks.{ArePicksOf, HasPicked, PicksGo, is_committing, is_job_commit}
 use Rattle.job_world.specs.Holds.{HandIs, IsLost, PutBy}

@@ -1,20 +1,7 @@
 -- The picks of a run stay while nobody sends who picks.
 use Rattle.std.proofs.Common.{◌≡◌, ℕ, inl, inr, Bool, true, false, List, [], ◌∷◌, ◌++◌, length, Option, Some, None, refl, sym, ap, subst, ◌∙◌}
-use Rattle.s3_types.specs.Store.{Content}
-use Rattle.s3_types.specs.declared.request.Actor.{Actor}
-use Rattle.s3_types.specs.declared.request.Actor.TheVariants.{Driver, Attempt, Shell}
-use Rattle.s3_types.specs.declared.journal.Entry.{Entry}
-use Rattle.job_model.specs.JobScript.{Script}
-use Rattle.job_model.specs.declared.ends.ActorEnd.{ActorEnd}
-use Rattle.job_model.specs.declared.ends.EventEnd.{EventEnd}
-use Rattle.job_model.specs.declared.ends.OpEnd.{OpEnd}
-use Rattle.job_model.specs.declared.ends.Pick.{Pick}
-use Rattle.job_protocol.specs.Operations.{Setting, who}
-use Rattle.job_spec.specs.Seen.{Seen, see, see_all, seen, nothing_seen}
-use Rattle.job_spec.specs.States.{Decided, is_commit, decide, commit_event}
-use Rattle.job_spec.specs.Promise.{ArePicked, all_picks, picks_below, lacked_memory}
+use Rattle.job_steps.specs.Prelude.{Content, Actor, Driver, Attempt, Shell, Entry, Script, ActorEnd, EventEnd, OpEnd, Pick, Setting, who, Seen, see, see_all, seen, nothing_seen, Decided, is_commit, decide, commit_event, ArePicked, all_picks, picks_below, lacked_memory, Play, Sends, Finishes, hear, happen, MaySend}
 use Rattle.job_traces.proofs.Entries.{see_more}
-use Rattle.job_steps.specs.Transitions.{Play, Sends, Finishes, hear, happen, MaySend}
 use Rattle.job_steps.proofs.Actors.{same_or_not, put_here, put_other}
 use Rattle.job_steps.proofs.Parts.{take_whole}
 use Rattle.job_steps.proofs.Running.{sent_ahead, finished_ahead}

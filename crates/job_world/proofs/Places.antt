@@ -1,15 +1,9 @@
 -- The actors of a legal script stand apart, each at one place.
 use Rattle.std.proofs.Common.{◌≡◌, ℕ, zero, suc, ◌<◌, ◌&&◌, nat_eq, Bool, true, false, cond, List, [], ◌∷◌, ◌++◌, map, length, slice_get, Some, None, refl, sym, ap, subst, ◌∙◌, arith}
 use Rattle.std.specs.Prelude.{is_some}
-use Rattle.std.specs.Map.{lookup}
-use Rattle.proof_base.proofs.Members.{some_is, none_some, false_true, nat_true}
-use Rattle.s3_types.specs.declared.request.Actor.{Actor}
-use Rattle.s3_types.specs.declared.request.Actor.TheVariants.{Driver}
-use Rattle.job_model.specs.Attempts.{Who, Declared, same_name, declares, actor_of}
-use Rattle.job_model.specs.Legal.{IsLegal, AreAttempts}
-use Rattle.job_model.specs.JobScript.{Script}
-use Rattle.job_spec.specs.States.{actors}
-use Rattle.job_spec.specs.Turns.{is_own}
+use Rattle.job_steps.specs.Prelude.{lookup, Actor, Driver, Who, Declared, same_name, actor_of, IsLegal, AreAttempts, Script, actors, is_own}
+use Rattle.job_spec.proofs.Common.{some_is, none_some, false_true, nat_true}
+use Rattle.job_spec.specs.Prelude.{declares}
 
 -- ---- lists
 

@@ -1,20 +1,8 @@
 -- What a sending of a busy actor leaves of a world, whatever became of it.
 use Rattle.std.proofs.Common.{◌≡◌, ℕ, ◌+◌, ◌<◌, ◌≤◌, ◌^◌, not, Bool, true, List, length, slice_get, Option, Some, IsSome, Vec, Global, refl, sym, ap, subst, ◌∙◌, arith}
-use Rattle.proof_base.proofs.Members.{some_is, false_true, nat_true}
-use Rattle.s3_types.specs.Store.{Scene}
-use Rattle.s3_types.specs.Moment.{effect}
-use Rattle.s3_types.specs.Fates.{fate_at}
-use Rattle.s3_types.specs.Ledger.{Ledger}
-use Rattle.s3_types.specs.declared.request.Actor.{Actor}
-use Rattle.s3_types.specs.declared.request.Request.{Request}
-use Rattle.s3_types.specs.declared.journal.Outcome.{Outcome}
+use Rattle.job_spec.proofs.Common.{some_is, false_true, nat_true}
+use Rattle.job_steps.specs.Prelude.{Scene, effect, fate_at, Ledger, Actor, Request, Outcome, Known, Script, OpEnd, Pick, Setting, Running, actors}
 use Rattle.store_link.specs.Link.{LossyLink}
-use Rattle.job_model.specs.Known.{Known}
-use Rattle.job_model.specs.JobScript.{Script}
-use Rattle.job_model.specs.declared.ends.OpEnd.{OpEnd}
-use Rattle.job_model.specs.declared.ends.Pick.{Pick}
-use Rattle.job_protocol.specs.Operations.{Setting, Running}
-use Rattle.job_spec.specs.States.{actors}
 use Rattle.job_actor.specs.Acts.{ActLaws}
 use Rattle.job_actor.specs.Posting.{Sight, sight, Grew, DueFits}
 use Rattle.job_actor.specs.declared.posting.Posted.{Posted}

@@ -1,14 +1,6 @@
 -- Room is taken in a world before its next event, which changes nothing else; and why that event is refused, if it is.
 use Rattle.std.proofs.Common.{◌≡◌, ◌+◌, List, [], ◌∷◌, ◌++◌, length, slice_get, Option, sym, ap, subst, ◌∙◌}
-use Rattle.s3_types.specs.declared.request.Request.{Request}
-use Rattle.s3_types.specs.declared.request.Actor.{Actor}
-use Rattle.job_model.specs.Known.{Known}
-use Rattle.job_model.specs.declared.events.Event.{Event}
-use Rattle.job_model.specs.declared.ends.EventEnd.{EventEnd}
-use Rattle.job_model.specs.declared.ends.EventFault.{EventFault}
-use Rattle.job_model.specs.declared.ends.Pick.{Pick}
-use Rattle.job_protocol.specs.Operations.{Setting, Running}
-use Rattle.job_spec.specs.States.{Past, past, refusal}
+use Rattle.job_steps.specs.Prelude.{Request, Actor, Known, Event, EventEnd, EventFault, Pick, Setting, Running, Past, past, refusal}
 use Rattle.job_states.specs.Stands.{Stands}
 use Rattle.job_world.specs.Holds.{Quiet, AreOf, all_sound}
 use Rattle.job_world.specs.Events.{Next, Grown, IsAsBefore}

@@ -1,30 +1,14 @@
 -- What holds of a world where one of its busy actors has sent a request.
 use Rattle.std.proofs.Common.{◌≡◌, ℕ, zero, suc, ◌+◌, ◌<◌, ◌≤◌, ◌^◌, inl, inr, Bool, true, false, List, [], ◌∷◌, ◌++◌, length, slice_get, Option, Some, None, IsSome, Vec, Global, refl, sym, ap, subst, ◌∙◌, arith, length-append}
+use Rattle.job_spec.proofs.Common.{some_is, false_true, true_or_false}
+use Rattle.job_steps.specs.Prelude.{Content, Scene, answer, apply, effect, after_all, IsHonestOutcome, fate_at, IsForetold, Ledger, Actor, Driver, Request, PutObject, CopyObject, CreateUpload, UploadPart, CompleteUpload, Outcome, Slow, RequestLost, Entry, Known, Script, OpEnd, Pick, Setting, Running, advance, actors, Play, Sends, hear, happen, scene_of, knows_now, MaySend, happens}
+use Rattle.job_facts.specs.Prelude.{MakeBucket, GetObject, HeadObject, DeleteObject, DeleteObjects, ListPage, AbortUpload, ListParts, ListUploads}
 use Rattle.proof_base.proofs.Options.{none_is}
-use Rattle.proof_base.proofs.Members.{some_is, false_true, true_or_false, same_or_not as same_number}
-use Rattle.s3_types.specs.Store.{Content, Scene, opening as scene_at_first}
-use Rattle.s3_types.specs.Answer.{answer, apply}
-use Rattle.s3_types.specs.Moment.{effect, after_all, IsHonestOutcome}
-use Rattle.s3_types.specs.Fates.{fate_at}
-use Rattle.s3_types.specs.Foretold.{IsForetold}
-use Rattle.s3_types.specs.Ledger.{Ledger}
-use Rattle.s3_types.specs.declared.request.Actor.{Actor}
-use Rattle.s3_types.specs.declared.request.Actor.TheVariants.{Driver}
-use Rattle.s3_types.specs.declared.request.Request.{Request}
-use Rattle.s3_types.specs.declared.request.Request.TheVariants.{MakeBucket, PutObject, GetObject, HeadObject, DeleteObject, DeleteObjects, CopyObject, ListPage, CreateUpload, UploadPart, CompleteUpload, AbortUpload, ListParts, ListUploads}
-use Rattle.s3_types.specs.declared.journal.Outcome.{Outcome}
-use Rattle.s3_types.specs.declared.journal.Outcome.TheVariants.{Slow, RequestLost}
-use Rattle.s3_types.specs.declared.journal.Entry.{Entry}
+use Rattle.proof_base.proofs.Members.{same_or_not as same_number}
+use Rattle.s3_types.specs.Store.{opening as scene_at_first}
 use Rattle.store_link.specs.Link.{LossyLink}
 use Rattle.store_link.proofs.Ids.{next_store}
-use Rattle.job_model.specs.Known.{Known}
-use Rattle.job_model.specs.JobScript.{Script}
-use Rattle.job_model.specs.declared.ends.OpEnd.{OpEnd}
-use Rattle.job_model.specs.declared.ends.Pick.{Pick}
-use Rattle.job_protocol.specs.Operations.{Setting, Running, advance}
-use Rattle.job_spec.specs.States.{actors}
 use Rattle.job_actor.specs.Plans.{IsPlanOf}
-use Rattle.job_steps.specs.Transitions.{Play, Sends, hear, happen, scene_of, knows_now, MaySend, happens}
 use Rattle.job_steps.proofs.Actors.{same_or_not, put_here, put_other}
 use Rattle.job_steps.proofs.Parts.{take_whole}
 use Rattle.job_actor.specs.Picks.{HasPicked, is_job_commit, is_committing}

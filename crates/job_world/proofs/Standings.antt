@@ -1,14 +1,8 @@
 -- Who is busy, by the standings that are kept of a run.
 use Rattle.std.proofs.Common.{◌≡◌, ℕ, zero, suc, Bool, true, false, cond, List, [], ◌∷◌, map, slice_get, Option, Some, None, refl, sym, ap, ◌∙◌, arith}
 use Rattle.std.specs.Prelude.{is_some, option_map}
-use Rattle.std.specs.Map.{lookup}
-use Rattle.proof_base.proofs.Members.{some_is, none_some, false_true, nat_true, nat_false}
-use Rattle.s3_types.specs.declared.request.Actor.{Actor}
-use Rattle.s3_types.specs.declared.request.Actor.TheVariants.{Driver, Attempt, Shell}
-use Rattle.job_model.specs.Attempts.{Who, Declared, same_name, actor_of, is_known}
-use Rattle.job_model.specs.JobScript.{Script}
-use Rattle.job_spec.specs.States.{Past, actors}
-use Rattle.job_spec.specs.Turns.{is_busy}
+use Rattle.job_steps.specs.Prelude.{lookup, Actor, Driver, Attempt, Shell, Who, Declared, same_name, actor_of, is_known, Script, Past, actors, is_busy}
+use Rattle.job_spec.proofs.Common.{some_is, none_some, false_true, nat_true, nat_false}
 use Rattle.job_steps.proofs.Actors.{same_true}
 use Rattle.job_states.specs.Standing.{standing}
 use Rattle.job_states.specs.Stands.{Kept, Stands, IsPlace}

@@ -1,16 +1,8 @@
 -- An actor of a world has the operation in hand that it began, which goes on or ends at once.
 use Rattle.std.proofs.Common.{◌≡◌, ℕ, ◌<◌, inl, inr, not, Bool, true, false, List, [], ◌∷◌, ◌++◌, length, slice_get, slice_set, Option, Some, None, refl, sym, ap, subst, ◌∙◌}
 use Rattle.std.specs.Prelude.{IsSome, is_some, Result, Ok}
-use Rattle.std.proofs.Math.ListN.{length-set}
-use Rattle.proof_base.proofs.Members.{some_is, false_true, nat_false, same_or_not}
-use Rattle.s3_types.specs.declared.request.Request.{Request}
-use Rattle.s3_types.specs.declared.request.Actor.{Actor}
-use Rattle.job_model.specs.Known.{Known}
-use Rattle.job_model.specs.declared.ends.OpEnd.{OpEnd}
-use Rattle.job_model.specs.declared.ends.Pick.{Pick}
-use Rattle.job_model.specs.declared.events.Event.{Event}
-use Rattle.job_protocol.specs.Operations.{Setting, Running}
-use Rattle.job_spec.specs.States.{actors}
+use Rattle.job_spec.proofs.Common.{length-set, some_is, false_true, nat_false, same_or_not}
+use Rattle.job_steps.specs.Prelude.{Request, Actor, Known, OpEnd, Pick, Event, Setting, Running, actors}
 use Rattle.job_world.specs.Sending.{Asks, hand_end}
 use Rattle.job_world.specs.Holds.{Holds, HandIs, HandsAre, Going, IsOver, all_sound, all_but, setting_of, is_busy_at}
 use Rattle.job_world.specs.Events.{Begun, InHand, Handed, TakenUp}

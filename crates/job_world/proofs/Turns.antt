@@ -1,24 +1,9 @@
 -- What a turn of a busy actor of a world comes to.
 use Rattle.std.proofs.Common.{◌≡◌, ℕ, ◌+◌, ◌-◌, ◌<◌, ◌≤◌, inl, inr, ◌&&◌, not, nat_eq, Bool, true, cond, List, [], ◌∷◌, ◌++◌, length, slice_get, Option, Some, None, IsSome, Vec, Global, vec_len, vec_capacity, refl, sym, ap, subst, ◌∙◌, arith, rules, length-append, append-nil}
 use Rattle.std.specs.Prelude.{is_some}
-use Rattle.std.specs.List.{filter}
-use Rattle.std.proofs.lemmas.List.{length-map}
-use Rattle.std.proofs.lemmas.List.Elements.{filter-append}
-use Rattle.proof_base.proofs.Members.{some_is, false_true, nat_true, same_or_not as same_number}
-use Rattle.s3_types.specs.Store.{Scene}
-use Rattle.s3_types.specs.declared.request.Actor.{Actor}
-use Rattle.s3_types.specs.declared.request.Request.{Request}
-use Rattle.s3_types.specs.declared.journal.Outcome.{Outcome}
-use Rattle.s3_types.specs.declared.journal.Entry.{Entry}
-use Rattle.job_model.specs.Known.{Known}
-use Rattle.job_model.specs.JobScript.{Script}
-use Rattle.job_model.specs.declared.ends.ActorEnd.{ActorEnd}
-use Rattle.job_model.specs.declared.ends.OpEnd.{OpEnd}
-use Rattle.job_model.specs.declared.ends.OpEnd.TheVariants.{NoMemory}
-use Rattle.job_model.specs.declared.ends.Pick.{Pick}
-use Rattle.job_protocol.specs.Operations.{Setting, Running}
-use Rattle.job_spec.specs.States.{actors}
-use Rattle.job_spec.specs.Turns.{is_own, of_event, is_memory}
+use Rattle.job_steps.specs.Prelude.{filter, Scene, Actor, Request, Outcome, Entry, Known, Script, ActorEnd, OpEnd, NoMemory, Pick, Setting, Running, actors, is_own, of_event, is_memory}
+use Rattle.job_spec.proofs.Common.{length-map, filter-append, some_is, false_true, nat_true}
+use Rattle.proof_base.proofs.Members.{same_or_not as same_number}
 use Rattle.job_actor.specs.Acts.{ActLaws}
 use Rattle.job_states.specs.Standing.{standing}
 use Rattle.job_states.specs.Stands.{Kept}

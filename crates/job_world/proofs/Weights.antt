@@ -1,8 +1,8 @@
 -- What the busy actors of a world weigh falls with each turn.
 use Rattle.std.proofs.Common.{◌≡◌, ℕ, zero, suc, ◌+◌, ◌<◌, ◌≤◌, ◌⊎◌, inl, inr, Bool, true, false, cond, List, [], ◌∷◌, length, slice_get, Some, refl, sym, subst, ◌∙◌, arith}
-use Rattle.std.proofs.Math.Nat.{mul-le-mul_left}
-use Rattle.proof_base.proofs.Members.{some_is}
-use Rattle.s3_types.specs.Store.{Scene}
+use Rattle.proof_base.proofs.Common.{mul-le-mul_left}
+use Rattle.job_spec.proofs.Common.{some_is}
+use Rattle.job_steps.specs.Prelude.{Scene}
 use Rattle.job_states.specs.declared.standing.Standing.{Standing}
 use Rattle.job_world.specs.Holds.{is_busy_at, hand_left, weight, weights}
 use Rattle.job_world.specs.Posts.{raised}

@@ -1,23 +1,7 @@
 -- The events of a world.
 use Rattle.std.specs.Prelude.{◌≡◌, ℕ, ◌+◌, ◌<◌, ◌≤◌, ◌-◌, Bool, true, false, List, [], ◌∷◌, ◌++◌, length, slice_get, Option, Some, None, IsSome, IfOk, unwrap_or, Result, vec_len, vec_capacity}
-use Rattle.s3_types.specs.declared.journal.Entry.{Entry}
-use Rattle.s3_types.specs.declared.request.Request.{Request}
-use Rattle.s3_types.specs.declared.request.Actor.{Actor}
-use Rattle.job_model.specs.Known.{Known}
-use Rattle.job_model.specs.declared.events.Op.{Op}
-use Rattle.job_model.specs.declared.events.Event.{Event}
-use Rattle.job_model.specs.declared.events.Event.TheVariants.{Do, Start, Step, Run, Kill, Mix, Restart, Recover}
-use Rattle.job_model.specs.declared.ends.ActorEnd.{ActorEnd}
-use Rattle.job_model.specs.declared.ends.EventEnd.{EventEnd}
-use Rattle.job_model.specs.declared.ends.EventEnd.TheVariants.{Done, Ended, Mixed}
-use Rattle.job_model.specs.declared.ends.EventFault.{EventFault}
-use Rattle.job_model.specs.declared.ends.OpEnd.{OpEnd}
-use Rattle.job_model.specs.declared.ends.Pick.{Pick}
-use Rattle.job_protocol.specs.Knowledge.{knows}
-use Rattle.job_protocol.specs.Operations.{Setting, Running, who, start_of}
-use Rattle.job_spec.specs.States.{Past, refusal, past, missing, told, open_event}
-use Rattle.job_spec.specs.Turns.{Turns, AllBy, of_event, by_actor}
-use Rattle.job_steps.specs.Transitions.{begun}
+use Rattle.job_steps.specs.Prelude.{Entry, Request, Actor, Known, Op, Event, Do, Start, Step, Run, Kill, Mix, Restart, Recover, ActorEnd, EventEnd, Done, Ended, EventFault, OpEnd, Pick, knows, Setting, Running, who, start_of, Past, refusal, past, missing, told, open_event, Turns, AllBy, of_event, by_actor, begun}
+use Rattle.job_protocol.specs.Prelude.{Mixed}
 use Rattle.job_states.specs.Stands.{Stands, IsPlace}
 use Rattle.job_actor.specs.Plans.{IsPlanOf}
 use Rattle.job_world.specs.Sending.{Asks}

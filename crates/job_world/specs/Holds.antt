@@ -1,33 +1,11 @@
 -- What a world keeps.
 use Rattle.std.specs.Prelude.{◌≡◌, ℕ, zero, suc, ◌+◌, ◌*◌, ◌-◌, ◌≤◌, ◌^◌, ◌⊎◌, not, nat_eq, Bool, true, false, cond, List, [], ◌∷◌, ◌++◌, length, slice_get, Option, Some, None, IsSome, vec_len, vec_capacity, refl}
-use Rattle.std.specs.List.{AllByRecursion}
 use Rattle.std.proofs.Common.{Vec, Global, ◌∙◌, sym, ap, subst, append-nil, append_assoc}
-use Rattle.s3_types.specs.Store.{Content, Scene}
-use Rattle.s3_types.specs.Fates.{fate_at}
-use Rattle.s3_types.specs.Foretold.{AreForetold}
-use Rattle.s3_types.specs.declared.request.Request.{Request}
-use Rattle.s3_types.specs.declared.request.Actor.{Actor}
-use Rattle.s3_types.specs.declared.request.Actor.TheVariants.{Driver, Shell}
-use Rattle.s3_types.specs.declared.journal.Entry.{Entry}
-use Rattle.job_model.specs.Known.{Known}
-use Rattle.job_model.specs.JobScript.{Script}
-use Rattle.job_model.specs.Legal.{IsLegal}
-use Rattle.job_model.specs.declared.ends.OpEnd.{OpEnd}
-use Rattle.job_model.specs.declared.ends.EventEnd.{EventEnd}
-use Rattle.job_model.specs.declared.ends.Pick.{Pick}
-use Rattle.job_model.specs.declared.states.Life.TheVariants.{Dead}
-use Rattle.job_protocol.specs.Operations.{Setting, Running}
-use Rattle.job_spec.specs.States.{actors}
-use Rattle.job_spec.specs.Entries.{AreOwn}
-use Rattle.job_spec.specs.Turns.{is_busy, of_event}
-use Rattle.job_spec.specs.Promise.{ArePicked, all_picks, lacked_memory}
-use Rattle.job_traces.specs.Runs.{IsOpening}
+use Rattle.job_steps.specs.Prelude.{AllByRecursion, Content, Scene, fate_at, AreForetold, Request, Actor, Driver, Shell, Entry, Known, Script, IsLegal, OpEnd, EventEnd, Pick, Dead, Setting, Running, actors, AreOwn, is_busy, of_event, ArePicked, all_picks, lacked_memory, IsOpening, Play, Reachable, scene_of, knows_now, Ahead}
 use Rattle.job_states.specs.Stands.{Stands}
 use Rattle.job_states.specs.declared.standing.Standing.{Standing}
 use Rattle.job_turns.specs.Turning.{Table, KeepsLaws}
-use Rattle.job_steps.specs.Transitions.{Play, Reachable, scene_of, knows_now}
 use Rattle.job_actor.specs.Plans.{IsPlanOf}
-use Rattle.job_steps.specs.Running.{Ahead}
 use Rattle.job_actor.specs.Picks.{ArePicksOf, HasPicked, is_committing}
 use Rattle.job_world.specs.Sending.{Asks}
 use Rattle.job_world.specs.declared.hands.Hand.{Hand}

@@ -1,10 +1,6 @@
 -- One sending of what an actor of a world has in hand.
 use Rattle.std.specs.Prelude.{ℕ, Option, Some, None, IsSome}
-use Rattle.s3_types.specs.Store.{Scene}
-use Rattle.s3_types.specs.declared.request.Request.{Request}
-use Rattle.s3_types.specs.declared.request.Actor.{Actor}
-use Rattle.s3_types.specs.declared.journal.Outcome.{Outcome}
-use Rattle.job_model.specs.declared.ends.OpEnd.{OpEnd}
+use Rattle.job_steps.specs.Prelude.{Scene, Request, Actor, Outcome, OpEnd}
 use Rattle.job_actor.specs.Posting.{Sight, PostedBy, DueFits}
 use Rattle.job_actor.specs.declared.posting.Posted.{Posted}
 use Rattle.job_world.specs.declared.hands.Hand.{Hand}

@@ -1,19 +1,7 @@
 -- A world as its callers see it.
 use Rattle.std.specs.Prelude.{◌≡◌, ℕ, ◌+◌, ◌≤◌, ◌^◌, [], ◌∷◌, ◌++◌, List, length, map, slice_get, Bool, true, false, Option, Some, None, unwrap_or}
-use Rattle.std.specs.List.{AllByRecursion}
-use Rattle.s3_types.specs.Store.{Content}
-use Rattle.s3_types.specs.declared.request.Request.{Request}
-use Rattle.s3_types.specs.declared.request.Actor.{Actor}
-use Rattle.s3_types.specs.declared.journal.Entry.{Entry}
-use Rattle.s3_types.specs.declared.limits.TheConstants.{MOST_MINIMUM}
-use Rattle.job_model.specs.Known.{Known, nothing_known}
-use Rattle.job_model.specs.JobScript.{Script}
-use Rattle.job_model.specs.declared.ends.EventEnd.{EventEnd}
-use Rattle.job_model.specs.declared.ends.Pick.{Pick}
-use Rattle.job_protocol.specs.Operations.{Setting, Running}
-use Rattle.job_protocol.specs.AtWork.{task_of}
-use Rattle.job_spec.specs.Entries.{AreOwn}
-use Rattle.job_spec.specs.Promise.{Promised, Sent}
+use Rattle.job_steps.specs.Prelude.{AllByRecursion, Content, Request, Actor, Entry, Known, nothing_known, Script, EventEnd, Pick, Setting, Running, task_of, AreOwn, Promised, Sent}
+use Rattle.job_spec.specs.Prelude.{MOST_MINIMUM}
 use Rattle.job_safety.specs.Laws.{FactsHold}
 use Rattle.job_actor.specs.declared.plan.Plan.TheVariants.{Task}
 use Rattle.job_world.specs.Holds.{Quiet}

@@ -1,35 +1,16 @@
 -- What requests leave of a content that an image can have.
 use Rattle.std.proofs.Common.{◌≡◌, ℕ, ◌+◌, ◌<◌, ◌≤◌, ◌^◌, ◌&&◌, nat_le, nat_lt, Bool, true, false, cond, T, List, [], ◌∷◌, ◌++◌, length, take, drop, Option, Some, None, Result, Ok, Err, refl, sym, ap, subst, ◌∙◌, arith}
+use Rattle.store_frame.specs.Prelude.{entries_sorted, find, is_lt, is_eq, eq_by_cmp, Ordering, Less, Equal, Greater, IsTotalOrder, nat_cmp_total, eq_by_cmp_equiv, text_eq, apply_in, draws}
+use Rattle.s3_types.specs.Prelude.{below_all, is_sorted}
+use Rattle.journal_log.specs.Prelude.{AllByRecursion, nat_cmp, text_cmp, text_total, is_bucket, is_key, Objects, Upload, Uploads, BucketContent, Content, new_bucket, new_content, is_part_number, with_key, with_part, live, joined, moment, apply_store, apply_at, bucket_of, without, copied, part_put, completed, aborted, MOST_ENTRIES, Object, Refusal, NamedPart, Request, MakeBucket, PutObject, DeleteObject, DeleteObjects, CopyObject, CreateUpload, UploadPart, CompleteUpload, AbortUpload, Entry, IsObject, IsBucket, IsContent, content_after, IsMade, KeepsImages}
+use Rattle.proof_base.proofs.Common.{and_parts, leb-true, le-leb, nat_tests, take_all, take-append-drop}
 use Rattle.std.specs.FinMap as fin
-use Rattle.std.specs.FinMap.{entries_sorted}
-use Rattle.std.specs.FinMap.Entries.{find, below_all, is_sorted}
-use Rattle.std.specs.List.{AllByRecursion}
-use Rattle.std.specs.Ordering.{is_lt, is_eq, eq_by_cmp, nat_cmp}
-use Rattle.std.specs.declared.cmp.Ordering.{Ordering}
-use Rattle.std.specs.declared.cmp.Ordering.TheVariants.{Less, Equal, Greater}
-use Rattle.std.specs.Cmp.{IsTotalOrder, nat_cmp_total, eq_by_cmp_equiv}
-use Rattle.std.proofs.lemmas.Bool.{and_parts, leb-true, le-leb}
-use Rattle.std.proofs.lemmas.Bool.Decides.{nat_tests}
-use Rattle.std.proofs.lemmas.List.{take_all, take-append-drop}
-use Rattle.proof_base.specs.Order.{text_cmp, text_eq, text_total}
 use Rattle.proof_base.proofs.Bools.{both_T}
 use Rattle.proof_base.proofs.Tree.{tied, entries_empty}
-use Rattle.s3_types.specs.Names.{is_bucket, is_key}
-use Rattle.s3_types.specs.Store.{Objects, Upload, Uploads, BucketContent, Content, new_bucket, new_content}
-use Rattle.s3_types.specs.Multipart.{is_part_number, with_key, with_part, live, joined}
-use Rattle.s3_types.specs.Moment.{moment}
-use Rattle.s3_types.specs.Answer.{apply_store, apply_at, apply_in, bucket_of, draws, made, without, copied, part_put, completed, aborted}
-use Rattle.s3_types.specs.declared.limits.TheConstants.{MOST_ENTRIES}
-use Rattle.s3_types.specs.declared.object.Object.{Object}
-use Rattle.s3_types.specs.declared.reply.Refusal.{Refusal}
-use Rattle.s3_types.specs.declared.request.NamedPart.{NamedPart}
-use Rattle.s3_types.specs.declared.request.Request.{Request}
-use Rattle.s3_types.specs.declared.request.Request.TheVariants.{MakeBucket, PutObject, DeleteObject, DeleteObjects, CopyObject, CreateUpload, UploadPart, CompleteUpload, AbortUpload}
-use Rattle.s3_types.specs.declared.journal.Entry.{Entry}
+use Rattle.s3_types.specs.Answer.{made}
 use Rattle.proof_base.proofs.Members.{some_is, none_some, false_true, text_is, text_exact}
-use Rattle.store_image.specs.Content.{is_minimum, is_counter, is_id, IsEntry, AreEntries, IsObject, IsPart, IsUpload, IsBucket, IsContent}
-use Rattle.journal_log.specs.Changes.{changes, content_after}
-use Rattle.journal_log.specs.Made.{IsMade, KeepsImages}
+use Rattle.store_image.specs.Content.{is_minimum, is_counter, is_id, IsEntry, AreEntries, IsPart, IsUpload}
+use Rattle.journal_log.specs.Changes.{changes}
 use Rattle.journal_log.proofs.Journals.{folded, changes_append, content_append}
 
 -- ---- the entries of a map

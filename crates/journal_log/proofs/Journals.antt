@@ -1,20 +1,11 @@
 -- The changes of journals, and what they make of a content.
 use Rattle.std.proofs.Common.{◌≡◌, ◌⊎◌, inl, inr, ℕ, suc, ◌≤◌, Bool, true, false, cond, List, [], ◌∷◌, ◌++◌, length, take, map, refl, sym, ap, subst, ◌∙◌, arith}
-use Rattle.std.specs.List.{filter}
-use Rattle.std.proofs.lemmas.List.{map-append}
-use Rattle.std.proofs.lemmas.List.Elements.{filter-append}
-use Rattle.s3_types.specs.Store.{Content, Scene, opening}
-use Rattle.s3_types.specs.Answer.{apply, apply_store}
-use Rattle.s3_types.specs.Moment.{is_effective, effect, after_all, moment}
-use Rattle.s3_types.specs.declared.request.Request.{Request}
-use Rattle.s3_types.specs.declared.request.Request.TheVariants.{MakeBucket, PutObject, GetObject, HeadObject, DeleteObject, DeleteObjects, CopyObject, ListPage, CreateUpload, UploadPart, CompleteUpload, AbortUpload, ListParts, ListUploads, ClusterPut, ClusterRename, ClusterGet, ClusterDelete, ClusterList}
-use Rattle.s3_types.specs.declared.journal.Entry.{Entry}
-use Rattle.s3_types.specs.declared.journal.Outcome.{Outcome}
-use Rattle.s3_types.specs.declared.journal.Outcome.TheVariants.{Answered, Slow, RequestLost, ReplyLost}
+use Rattle.store_frame.specs.Prelude.{filter, is_effective}
+use Rattle.proof_base.proofs.Common.{map-append, filter-append}
+use Rattle.journal_log.specs.Prelude.{Content, Scene, opening, apply, apply_store, effect, after_all, moment, Request, MakeBucket, PutObject, GetObject, HeadObject, DeleteObject, DeleteObjects, CopyObject, ListPage, CreateUpload, UploadPart, CompleteUpload, AbortUpload, ListParts, ListUploads, ClusterPut, ClusterRename, ClusterGet, ClusterDelete, ClusterList, Entry, Outcome, Answered, Slow, RequestLost, ReplyLost, is_changing, content_after, Begins}
 use Rattle.proof_base.proofs.Members.{false_true}
 use Rattle.store_frame.proofs.Reading.{reads_nothing}
-use Rattle.log_format.specs.Change.{is_changing}
-use Rattle.journal_log.specs.Changes.{changes, content_after, Begins}
+use Rattle.journal_log.specs.Changes.{changes}
 
 -- ---- the changes of a journal
 

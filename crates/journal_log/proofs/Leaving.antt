@@ -1,13 +1,9 @@
 -- How what crashes leave goes on from one call to the next.
 use Rattle.std.proofs.Common.{◌≡◌, ◌⊎◌, inl, inr, ⊎_elim, ℕ, ◌≤◌, List, [], ◌∷◌, ◌++◌, Option, Some, None, refl, sym, ap, subst, ◌∙◌, arith}
-use Rattle.s3_types.specs.Store.{Content}
-use Rattle.s3_types.specs.declared.request.Request.{Request}
-use Rattle.s3_types.specs.declared.journal.Entry.{Entry}
-use Rattle.shelf.specs.Logged.{Holding, Stored, fresh, IsBeforeOrAfter, IsDurable, LeavesOnly}
-use Rattle.store_image.specs.Image.{image}
-use Rattle.journal_log.specs.Changes.{changes, Begins}
-use Rattle.journal_log.specs.Kept.{IsMoment, Holds, grown_by, HoldsGrownBy, HoldsSome}
-use Rattle.journal_log.specs.Crashes.{WhereTold, IsBetween, IsAppended, AreAppended}
+use Rattle.journal_log.specs.Prelude.{Content, Request, Entry, Holding, Stored, fresh, IsDurable, LeavesOnly, image, Begins, IsMoment, Holds, grown_by, HoldsGrownBy, HoldsSome, WhereTold, IsBetween}
+use Rattle.shelf.specs.Logged.{IsBeforeOrAfter}
+use Rattle.journal_log.specs.Changes.{changes}
+use Rattle.journal_log.specs.Crashes.{IsAppended, AreAppended}
 use Rattle.journal_log.proofs.Standing.{begins_all, begins_more, begins_longer, grown_none, grown_one, grown_then, holds_one, some, longer, between}
 
 -- ---- what a crash left between changes

@@ -1,19 +1,13 @@
 -- What a shelf stands for that holds changes of a run.
 use Rattle.std.proofs.Common.{◌≡◌, ◌⊎◌, inl, inr, ℕ, ◌<◌, ◌^◌, List, [], ◌∷◌, ◌++◌, length, take, Option, Some, None, refl, sym, ap, subst, ◌∙◌, append_assoc, append-nil, arith, length-append}
-use Rattle.std.specs.List.{AllByRecursion}
-use Rattle.std.proofs.lemmas.List.{take-append-le, take_all}
-use Rattle.s3_types.specs.Store.{Content, opening}
-use Rattle.s3_types.specs.Moment.{moment, after_all}
-use Rattle.s3_types.specs.declared.request.Request.{Request}
-use Rattle.s3_types.specs.declared.journal.Entry.{Entry}
+use Rattle.journal_log.specs.Prelude.{AllByRecursion, Content, opening, moment, after_all, Request, Entry, Holding, Stored, HoldsGrown, IsDurable, IsContent, content_after, Begins, StandsFor, IsMoment, kept, Holds, HasEarlier, HoldsPart, grown_by, HoldsGrownBy, HoldsSome, WhereTold, IsBetween, IsLast}
+use Rattle.proof_base.proofs.Common.{take-append-le, take_all}
 use Rattle.log_format.specs.declared.held.Held.{Held}
-use Rattle.shelf.specs.Logged.{Holding, Stored, grown, HoldsGrown, IsDurable}
+use Rattle.shelf.specs.Logged.{grown}
 use Rattle.shelf.specs.Logged.Holding.{Nothing, Stands, BadAt}
-use Rattle.store_image.specs.Content.{IsContent}
 use Rattle.store_image.proofs.Whole as images
-use Rattle.journal_log.specs.Changes.{changes, content_after, Begins}
-use Rattle.journal_log.specs.Kept.{Unfolds, StandsFor, IsMoment, kept, Holds, last_event, HasEarlier, HoldsPart, grown_by, HoldsGrownBy, HoldsSome}
-use Rattle.journal_log.specs.Crashes.{WhereTold, IsBetween, IsLast}
+use Rattle.journal_log.specs.Changes.{changes}
+use Rattle.journal_log.specs.Kept.{Unfolds, last_event}
 use Rattle.journal_log.proofs.Journals.{changes_append, cut, folded}
 
 -- ---- first changes

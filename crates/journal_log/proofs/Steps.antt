@@ -1,18 +1,12 @@
 -- How a run of appends goes on by one entry.
 use Rattle.std.proofs.Common.{◌≡◌, inl, inr, ℕ, ◌+◌, ◌<◌, List, [], ◌∷◌, ◌++◌, length, get_or, take, drop, ◌-◌, length-drop, Option, Result, Ok, Err, OnOk, IfErr, IsErrOf, refl, sym, ap, subst, ◌∙◌, append_assoc, arith}
-use Rattle.std.proofs.lemmas.List.{take_all, take_more, take-append-drop}
-use Rattle.s3_types.specs.declared.request.Request.{Request}
-use Rattle.s3_types.specs.declared.journal.Entry.{Entry}
-use Rattle.shelf.specs.Logged.{Holding, Stored, told, IsDurable, HoldsGrown, HoldsOneOf, LeavesOnly}
-use Rattle.shelf.specs.declared.kept.AppendFault.{AppendFault}
-use Rattle.shelf.specs.declared.kept.AppendFault.TheVariants.{Failed, NoMemory}
+use Rattle.proof_base.proofs.Common.{take_all, take_more, take-append-drop}
+use Rattle.journal_log.specs.Prelude.{Request, Entry, Holding, Stored, IsDurable, HoldsGrown, LeavesOnly, AppendFault, Failed, NoMemory, HoldsGrownBy, HoldsSome, IsBetween, AreAnswered, Appended, LeftOut, Stopped}
+use Rattle.shelf.specs.Logged.{told, HoldsOneOf}
 use Rattle.journal_log.specs.Changes.{changes}
-use Rattle.journal_log.specs.Kept.{HoldsGrownBy, HoldsSome}
-use Rattle.journal_log.specs.Crashes.{IsBetween}
 use Rattle.journal_log.proofs.Journals.{changes_append, changes_none}
 use Rattle.journal_log.proofs.Standing.{holds_none, holds_one, holds_then}
 use Rattle.journal_log.proofs.Leaving.{at_first, so_far, started, widened, goes_on}
-use Rattle.journal_log.specs.Appends.{AreAnswered, Appended, LeftOut, Stopped}
 
 -- ---- changes of the first entries
 

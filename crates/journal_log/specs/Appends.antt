@@ -1,6 +1,6 @@
 -- How a run of appends goes, of which each call but the last was answered.
 use Rattle.std.specs.Prelude.{◌≡◌, ◌⊎◌, List, [], ◌∷◌, ◌++◌, Option}
-use Rattle.s3_types.specs.declared.request.Request.{Request}
+use Rattle.store_frame.specs.Prelude.{Request}
 use Rattle.shelf.specs.Logged.{Holding, Stored, IsDurable, HoldsOneOf}
 use Rattle.shelf.specs.declared.kept.AppendFault.{AppendFault}
 use Rattle.shelf.specs.declared.kept.AppendFault.TheVariants.{Failed, NoMemory}

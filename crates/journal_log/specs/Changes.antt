@@ -1,11 +1,6 @@
 -- What a journal changes of a store.
 use Rattle.std.specs.Prelude.{◌≡◌, List, [], ◌∷◌, ◌++◌, map}
-use Rattle.std.specs.List.{filter}
-use Rattle.s3_types.specs.Store.{Content}
-use Rattle.s3_types.specs.Answer.{apply_store}
-use Rattle.s3_types.specs.Moment.{is_effective}
-use Rattle.s3_types.specs.declared.request.Request.{Request}
-use Rattle.s3_types.specs.declared.journal.Entry.{Entry}
+use Rattle.store_frame.specs.Prelude.{filter, Content, apply_store, is_effective, Request, Entry}
 use Rattle.log_format.specs.Change.{is_changing}
 
 -- the requests of the effective entries that are changing, in order

@@ -1,9 +1,6 @@
 -- What a crash leaves of a run.
 use Rattle.std.specs.Prelude.{◌≡◌, ◌⊎◌, ℕ, List, [], ◌∷◌, length, Option, Some, None}
-use Rattle.s3_types.specs.Store.{Content}
-use Rattle.s3_types.specs.Moment.{moment}
-use Rattle.s3_types.specs.declared.request.Request.{Request}
-use Rattle.s3_types.specs.declared.journal.Entry.{Entry}
+use Rattle.store_frame.specs.Prelude.{Content, moment, Request, Entry}
 use Rattle.shelf.specs.Logged.{Holding, Stored, HoldsGrown, IsBeforeOrAfter, LeavesOnly}
 use Rattle.shelf.specs.Logged.Holding.{Nothing}
 use Rattle.journal_log.specs.Changes.{Begins}

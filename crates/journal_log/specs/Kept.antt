@@ -1,10 +1,6 @@
 -- What a shelf keeps of a run: the image of its opening content, and changes of its journal.
 use Rattle.std.specs.Prelude.{◌≡◌, ◌≢◌, ◌⊎◌, ℕ, ◌<◌, ◌≤◌, List, [], ◌∷◌, ◌++◌, length, Option, Some, None}
-use Rattle.std.specs.Option.{option_map}
-use Rattle.s3_types.specs.Store.{Content}
-use Rattle.s3_types.specs.Moment.{moment}
-use Rattle.s3_types.specs.declared.request.Request.{Request}
-use Rattle.s3_types.specs.declared.journal.Entry.{Entry}
+use Rattle.store_frame.specs.Prelude.{option_map, Content, moment, Request, Entry}
 use Rattle.log_format.specs.declared.held.Held.{Held}
 use Rattle.shelf.specs.Logged.{Holding, Stored, told}
 use Rattle.shelf.specs.Logged.Holding.{Nothing, Stands, BadAt}

@@ -1,11 +1,6 @@
 -- The laws of this crate.
 use Rattle.std.specs.Prelude.{◌≡◌, ◌⊎◌, ℕ, ◌<◌, ◌≤◌, ◌^◌, true, false, List, ◌++◌, length, take, Option}
-use Rattle.std.specs.List.{AllByRecursion}
-use Rattle.s3_types.specs.Store.{Content, Scene, new_content}
-use Rattle.s3_types.specs.Answer.{apply, apply_store}
-use Rattle.s3_types.specs.Moment.{moment}
-use Rattle.s3_types.specs.declared.request.Request.{Request}
-use Rattle.s3_types.specs.declared.journal.Entry.{Entry}
+use Rattle.store_frame.specs.Prelude.{AllByRecursion, Content, Scene, new_content, apply, apply_store, moment, Request, Entry}
 use Rattle.log_format.specs.Change.{is_changing}
 use Rattle.log_format.specs.declared.held.Held.{Held}
 use Rattle.shelf.specs.Logged.{Holding, Stored, fresh, IsDurable, LeavesOnly}

@@ -4,3 +4,4 @@ pub mod Kept
 pub mod Crashes
 pub mod Laws
 pub mod Appends
+pub mod Prelude

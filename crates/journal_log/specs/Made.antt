@@ -1,11 +1,6 @@
 -- Requests that keep a store one that an image can have.
 use Rattle.std.specs.Prelude.{◌≡◌, ℕ, ◌<◌, ◌≤◌, ◌^◌, true, List, length}
-use Rattle.s3_types.specs.Names.{is_key}
-use Rattle.s3_types.specs.Store.{Content}
-use Rattle.s3_types.specs.Moment.{moment}
-use Rattle.s3_types.specs.declared.request.Request.{Request}
-use Rattle.s3_types.specs.declared.request.Request.TheVariants.{PutObject, CopyObject, CreateUpload}
-use Rattle.s3_types.specs.declared.journal.Entry.{Entry}
+use Rattle.store_frame.specs.Prelude.{is_key, Content, moment, Request, PutObject, CopyObject, CreateUpload, Entry}
 use Rattle.store_image.specs.Image.{header}
 use Rattle.store_image.specs.Content.{IsContent}
 

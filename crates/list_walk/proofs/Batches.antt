@@ -1,8 +1,8 @@
 -- Batch after batch.
 use Rattle.std.proofs.Common.{◌≡◌, ℕ, ◌+◌, ◌-◌, ◌<◌, ◌≤◌, nat_lt, ◌&&◌, Bool, true, false, List, [], ◌∷◌, length, drop, Some, None, refl, sym, ap, ◌∙◌, arith, length-drop}
-use Rattle.std.proofs.lemmas.List.{drop-drop}
+use Rattle.proof_base.proofs.Common.{drop-drop}
+use Rattle.store_frame.specs.Prelude.{Reply}
 use Rattle.proof_base.proofs.Numbers.{below_is, below_not}
-use Rattle.s3_types.specs.declared.reply.Reply.{Reply}
 use Rattle.list_walk.specs.Walks.{deleting, sweep_hears}
 use Rattle.list_walk.specs.Kept.{deleting_from, sweep_at, from_if, next_from}
 

@@ -1,13 +1,10 @@
 -- How many entries of a finite map pass a test, before and after one is put in or taken out.
 use Rattle.std.proofs.Common.{◌≡◌, ℕ, ◌+◌, ◌≤◌, Bool, true, false, not, cond, List, [], ◌∷◌, length, Some, None, refl, sym, ap, subst, ◌∙◌, arith}
-use Rattle.std.specs.FinMap.{FinMap, insert, remove, entries, entries_sorted, from_entries, from_sorted, entries-from_sorted, get-from_sorted, get-from_entries, get-entries, get-remove, entries-insert, same_map}
-use Rattle.std.specs.FinMap.Entries.{find, put, by_order, where_key, is_sorted-where_key, find-where_key}
-use Rattle.std.specs.List.{filter}
-use Rattle.std.specs.Ordering.{eq_by_cmp, is_eq}
-use Rattle.std.specs.Cmp.{IsTotalOrder, alike_right, eq_by_cmp_equiv}
-use Rattle.std.specs.declared.cmp.Ordering.{Ordering}
-use Rattle.std.specs.declared.cmp.Ordering.TheVariants.{Less, Equal, Greater}
-use Rattle.std.proofs.lemmas.Map.Lookups.{CmpEqualImpliesEq}
+use Rattle.s3_types.specs.Prelude.{FinMap, insert, remove, from_sorted, entries-from_sorted, get-from_sorted, get-from_entries, get-entries, get-remove, same_map, where_key, find-where_key}
+use Rattle.store_frame.specs.Prelude.{entries, entries_sorted, from_entries, entries-insert, find, put, by_order, filter, eq_by_cmp, is_eq, IsTotalOrder, eq_by_cmp_equiv, Ordering, Less, Equal, Greater}
+use Rattle.proof_base.proofs.Common.{CmpEqualImpliesEq}
+use Rattle.std.specs.FinMap.Entries.{is_sorted-where_key}
+use Rattle.std.specs.Cmp.{alike_right}
 use Rattle.proof_base.proofs.Tree.{entries_empty}
 use Rattle.list_walk.specs.Left.{one_if as one}
 

@@ -1,17 +1,10 @@
 -- What walks and sweeps have left falls.
 use Rattle.std.proofs.Common.{◌≡◌, ℕ, ◌+◌, ◌*◌, ◌-◌, ◌<◌, ◌≤◌, Bool, true, false, cond, suc, nat_lt, List, [], ◌∷◌, ◌++◌, length, take, drop, Option, Some, None, refl, sym, ap, subst, ◌∙◌, arith, length-append, length-drop}
-use Rattle.std.proofs.lemmas.List.{length-take}
+use Rattle.proof_base.proofs.Common.{length-take}
+use Rattle.store_frame.specs.Prelude.{filter, option_map, Scene, BucketContent, answer, answer_at, apply, listed, Request, UploadRef, PageEntry}
 use Rattle.std.specs.FinMap as fin
-use Rattle.std.specs.List.{filter}
-use Rattle.std.specs.Option.{option_map}
 use Rattle.proof_base.proofs.Numbers.{below_is}
-use Rattle.s3_types.specs.Store.{Scene, BucketContent}
-use Rattle.s3_types.specs.Answer.{answer, answer_at, apply}
-use Rattle.s3_types.specs.Pages.{listed}
 use Rattle.s3_types.specs.Multipart as uploads
-use Rattle.s3_types.specs.declared.request.Request.{Request}
-use Rattle.s3_types.specs.declared.request.UploadRef.{UploadRef}
-use Rattle.s3_types.specs.declared.reply.PageEntry.{PageEntry}
 use Rattle.store_frame.proofs.Reading.{reads_nothing}
 use Rattle.list_walk.specs.Walks.{walked_by, keys_on, last_of, last_ref, page_after, walked, uploads_after, walked_uploads, Sweep, Listing, Deleting, sweep_asks, sweep_hears, swept, deleting}
 use Rattle.list_walk.specs.Fitting.{FitsPage, FitsSweep, FitsUploads}

@@ -1,12 +1,9 @@
 -- What the tests of replies say.
 use Rattle.std.proofs.Common.{◌≡◌, Bool, true, false, List, [], ◌∷◌, Decides, refl, sym, ap, subst, ◌∙◌}
-use Rattle.std.proofs.lemmas.Bool.{true≢false}
+use Rattle.proof_base.proofs.Common.{true≢false}
+use Rattle.store_frame.specs.Prelude.{list_all, Reply, Page, PageEntry, Prefix}
 use Rattle.std.proofs.lemmas.Bool.Decides.{Decides-at, Decides-and}
-use Rattle.std.specs.List.{list_all}
-use Rattle.s3_types.specs.declared.reply.Reply.{Reply}
-use Rattle.s3_types.specs.declared.reply.Reply.TheVariants.{Page}
-use Rattle.s3_types.specs.declared.reply.PageEntry.{PageEntry}
-use Rattle.s3_types.specs.declared.reply.PageEntry.TheVariants.{Object as Single, Prefix}
+use Rattle.s3_types.specs.declared.reply.PageEntry.TheVariants.{Object as Single}
 use Rattle.list_walk.specs.Fitting.{IsKey, is_key, AreKeys, FitsPage}
 
 key_decides : (e : PageEntry) → Decides (is_key e) (IsKey e)

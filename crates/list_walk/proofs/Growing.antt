@@ -1,26 +1,12 @@
 -- What one request adds to what is there.
 use Rattle.std.proofs.Common.{◌≡◌, ℕ, ◌+◌, ◌≤◌, Bool, true, false, cond, List, [], ◌∷◌, length, nat_lt, Option, Some, None, Result, Ok, Err, refl, sym, ap, subst, ◌∙◌, arith}
+use Rattle.s3_types.specs.Prelude.{get-insert}
+use Rattle.store_frame.specs.Prelude.{filter, eq_by_cmp, nat_cmp, nat_cmp_total, Equal, text_cmp, text_total, is_bucket, Scene, Objects, Files, Upload, Uploads, BucketContent, Content, new_bucket, apply, apply_at, apply_in, bucket_of, without, copied, completed, renamed, aborted, part_put, begins, listed, live, is_part_number, joined, ref_of, with_part, Object, MOST_ENTRIES, Refusal, Request, MakeBucket, PutObject, DeleteObject, DeleteObjects, CopyObject, CreateUpload, UploadPart, CompleteUpload, AbortUpload, ClusterPut, ClusterRename, ClusterGet, ClusterDelete, ClusterList, UploadRef}
+use Rattle.proof_base.proofs.Common.{exact_bytes}
 use Rattle.std.specs.FinMap as fin
-use Rattle.std.specs.FinMap.{get-insert}
-use Rattle.std.specs.List.{filter}
-use Rattle.std.specs.Ordering.{eq_by_cmp, nat_cmp}
-use Rattle.std.specs.Cmp.{nat_cmp_total}
-use Rattle.std.specs.declared.cmp.Ordering.TheVariants.{Equal}
-use Rattle.std.proofs.lemmas.Map.Lookups.{exact_bytes}
-use Rattle.proof_base.specs.Order.{text_cmp, text_total}
 use Rattle.proof_base.proofs.Tree.{tied, entries_empty}
-use Rattle.s3_types.specs.Names.{is_bucket}
-use Rattle.s3_types.specs.Store.{Scene, Objects, Files, Upload, Uploads, BucketContent, Content, new_bucket}
-use Rattle.s3_types.specs.Answer.{apply, apply_at, apply_in, bucket_of, made, without, copied, completed, renamed, aborted, part_put}
-use Rattle.s3_types.specs.Pages.{begins, listed}
+use Rattle.s3_types.specs.Answer.{made}
 use Rattle.s3_types.specs.Multipart as uploads
-use Rattle.s3_types.specs.Multipart.{live, is_part_number, joined, ref_of, with_part}
-use Rattle.s3_types.specs.declared.object.Object.{Object}
-use Rattle.s3_types.specs.declared.limits.TheConstants.{MOST_ENTRIES}
-use Rattle.s3_types.specs.declared.reply.Refusal.{Refusal}
-use Rattle.s3_types.specs.declared.request.Request.{Request}
-use Rattle.s3_types.specs.declared.request.Request.TheVariants.{MakeBucket, PutObject, DeleteObject, DeleteObjects, CopyObject, CreateUpload, UploadPart, CompleteUpload, AbortUpload, ClusterPut, ClusterRename, ClusterGet, ClusterDelete, ClusterList}
-use Rattle.s3_types.specs.declared.request.UploadRef.{UploadRef}
 use Rattle.list_walk.specs.Left.{count_in, in_bucket, files_left, adds_key, sets_upload, one_if}
 use Rattle.list_walk.specs.Laws.{Growth}
 use Rattle.list_walk.proofs.Counting.{count, count_insert, count_remove}

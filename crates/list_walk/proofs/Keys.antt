@@ -1,15 +1,7 @@
 -- Entries that are keys.
 use Rattle.std.proofs.Common.{◌≡◌, ℕ, zero, suc, Bool, true, false, cond, List, [], ◌∷◌, ◌++◌, map, take, Option, Some, None, Result, Ok, Err, IfOk, refl, sym, ap, ◌∙◌}
+use Rattle.store_frame.specs.Prelude.{filter, is_lt, text_cmp, Objects, begins, entry_of, listed, text_in, folded_from, is_again, Object, PageEntry, Reply, Page}
 use Rattle.std.specs.FinMap as fin
-use Rattle.std.specs.List.{filter}
-use Rattle.std.specs.Ordering.{is_lt}
-use Rattle.proof_base.specs.Order.{text_cmp}
-use Rattle.s3_types.specs.Store.{Objects}
-use Rattle.s3_types.specs.Pages.{begins, entry_of, listed, text_in, folded_from, is_again}
-use Rattle.s3_types.specs.declared.object.Object.{Object}
-use Rattle.s3_types.specs.declared.reply.PageEntry.{PageEntry}
-use Rattle.s3_types.specs.declared.reply.Reply.{Reply}
-use Rattle.s3_types.specs.declared.reply.Reply.TheVariants.{Page}
 use Rattle.list_walk.specs.Walks.{Walked, More, Whole, walked_by, keys_on, walked, walked_entries}
 use Rattle.list_walk.specs.Fitting.{IsKey, AreKeys}
 

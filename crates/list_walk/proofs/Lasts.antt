@@ -1,9 +1,6 @@
 -- The last of a list.
 use Rattle.std.proofs.Common.{◌≡◌, ℕ, ◌-◌, suc, zero, List, [], ◌∷◌, length, Option, Some, sym, ap, arith}
-use Rattle.std.specs.List.{slice_get}
-use Rattle.s3_types.specs.Pages.{text_in}
-use Rattle.s3_types.specs.declared.request.UploadRef.{UploadRef}
-use Rattle.s3_types.specs.declared.reply.PageEntry.{PageEntry}
+use Rattle.store_frame.specs.Prelude.{slice_get, text_in, UploadRef, PageEntry}
 use Rattle.list_walk.specs.Walks.{keys_on, last_of, last_ref}
 
 last_got : (es : List PageEntry) (n : ℕ) (e : PageEntry) → suc n ≡ length es → slice_get es n ≡ Some e → last_of (keys_on es) ≡ text_in e

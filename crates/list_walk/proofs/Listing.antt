@@ -1,26 +1,12 @@
 -- How many keys and uploads are listed.
 use Rattle.std.proofs.Common.{◌≡◌, ℕ, ◌+◌, zero, suc, Bool, true, false, ◌&&◌, cond, List, [], ◌∷◌, ◌++◌, length, map, take, drop, Option, Some, None, refl, sym, ap, ◌∙◌, arith}
+use Rattle.store_frame.specs.Prelude.{find, filter, AllByRecursion, keys_of, is_lt, is_eq, nat_cmp, ordering_then, IsTotalOrder, nat_cmp_total, Ordering, Less, Equal, Greater, text_cmp, text_total, Objects, Upload, Uploads, begins, entry_of, listed, text_in, ref_cmp, ref_of, refs, is_behind, Object, UploadRef, PageEntry}
+use Rattle.proof_base.proofs.Common.{then_total, on_total, sorted_head, sorted_tail}
 use Rattle.std.specs.FinMap as fin
-use Rattle.std.specs.FinMap.Entries.{find}
-use Rattle.std.specs.List.{filter, AllByRecursion}
 use Rattle.std.specs.List.Sorted.{IsStrictlySortedBy}
-use Rattle.std.specs.Map.{keys_of}
-use Rattle.std.specs.Ordering.{is_lt, is_eq, nat_cmp, ordering_then}
-use Rattle.std.specs.Cmp.{IsTotalOrder, nat_cmp_total}
-use Rattle.std.specs.declared.cmp.Ordering.{Ordering}
-use Rattle.std.specs.declared.cmp.Ordering.TheVariants.{Less, Equal, Greater}
-use Rattle.std.proofs.lemmas.Cmp.{then_total, on_total}
-use Rattle.std.proofs.lemmas.Map.Keys.{sorted_head, sorted_tail}
-use Rattle.proof_base.specs.Order.{text_cmp, text_total}
 use Rattle.proof_base.proofs.Less.{lt, lt_trans}
 use Rattle.proof_base.proofs.Tree.{map_sorted}
-use Rattle.s3_types.specs.Store.{Objects, Upload, Uploads}
-use Rattle.s3_types.specs.Pages.{begins, entry_of, listed, text_in}
 use Rattle.s3_types.specs.Multipart as uploads
-use Rattle.s3_types.specs.Multipart.{ref_cmp, ref_of, refs, is_behind}
-use Rattle.s3_types.specs.declared.object.Object.{Object}
-use Rattle.s3_types.specs.declared.request.UploadRef.{UploadRef}
-use Rattle.s3_types.specs.declared.reply.PageEntry.{PageEntry}
 use Rattle.store_frame.specs.Walk.{walked}
 use Rattle.store_frame.proofs.Listed.{walked_listed, listed_behind}
 use Rattle.list_walk.specs.Walks.{keys_on, last_of}

@@ -1,17 +1,12 @@
 -- What is left of the live uploads behind a page of them.
 use Rattle.std.proofs.Common.{◌≡◌, ℕ, zero, suc, Bool, true, false, cond, List, [], ◌∷◌, ◌++◌, length, take, drop, map, Option, Some, None, refl, sym, ap, subst, ◌∙◌}
-use Rattle.std.proofs.lemmas.Map.Keys.{sorted_head, sorted_tail}
-use Rattle.std.specs.List.{filter, AllByRecursion}
+use Rattle.proof_base.proofs.Common.{sorted_head, sorted_tail}
+use Rattle.store_frame.specs.Prelude.{filter, AllByRecursion, is_lt, Less, Uploads, begins, ref_cmp, refs, is_behind, UploadRef}
 use Rattle.std.specs.List.Sorted.{IsStrictlySortedBy}
 use Rattle.std.specs.FinMap as fin
-use Rattle.std.specs.Ordering.{is_lt}
-use Rattle.std.specs.declared.cmp.Ordering.TheVariants.{Less}
 use Rattle.proof_base.proofs.Less.{lt, irrefl, lt_trans, lt_not}
 use Rattle.proof_base.proofs.Tree.{map_sorted}
-use Rattle.s3_types.specs.Store.{Uploads}
-use Rattle.s3_types.specs.Pages.{begins}
-use Rattle.s3_types.specs.Multipart.{ref_cmp, refs, is_behind, listed}
-use Rattle.s3_types.specs.declared.request.UploadRef.{UploadRef}
+use Rattle.s3_types.specs.Multipart.{listed}
 use Rattle.list_walk.specs.Walks.{last_ref}
 use Rattle.list_walk.proofs.Listing.{refs_total}
 

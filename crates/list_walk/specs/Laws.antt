@@ -1,9 +1,6 @@
 -- Laws on what walks and sweeps have left.
 use Rattle.std.specs.Prelude.{◌≡◌, ℕ, ◌+◌, ◌*◌, ◌<◌, ◌≤◌, Bool, List, length, Option}
-use Rattle.s3_types.specs.Store.{Scene}
-use Rattle.s3_types.specs.Answer.{answer, apply}
-use Rattle.s3_types.specs.declared.request.Request.{Request}
-use Rattle.s3_types.specs.declared.request.UploadRef.{UploadRef}
+use Rattle.store_frame.specs.Prelude.{Scene, answer, apply, Request, UploadRef}
 use Rattle.list_walk.specs.Walks.{Walked, More, Whole, page_after, walked, uploads_after, walked_uploads, Sweep, sweep_asks, sweep_hears}
 use Rattle.list_walk.specs.Fitting.{FitsPage, FitsSweep, FitsUploads}
 use Rattle.list_walk.specs.Left.{keys_left, refs_left, files_left, walk_left, sweep_left, left_of, uploads_left, adds_key, sets_upload, one_if}

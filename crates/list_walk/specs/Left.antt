@@ -1,13 +1,8 @@
 -- What walks and sweeps have left in a scene.
 use Rattle.std.specs.Prelude.{ℕ, ◌+◌, ◌*◌, ◌/◌, Bool, true, false, List, ◌∷◌, length, Option, Some, None}
+use Rattle.store_frame.specs.Prelude.{filter, Scene, BucketContent, begins, listed, Request, PutObject, CopyObject, CompleteUpload, CreateUpload, UploadPart, UploadRef}
 use Rattle.std.specs.FinMap as fin
-use Rattle.std.specs.List.{filter}
-use Rattle.s3_types.specs.Store.{Scene, BucketContent}
-use Rattle.s3_types.specs.Pages.{begins, listed}
 use Rattle.s3_types.specs.Multipart as uploads
-use Rattle.s3_types.specs.declared.request.Request.{Request}
-use Rattle.s3_types.specs.declared.request.Request.TheVariants.{PutObject, CopyObject, CompleteUpload, CreateUpload, UploadPart}
-use Rattle.s3_types.specs.declared.request.UploadRef.{UploadRef}
 use Rattle.list_walk.specs.Walks.{Sweep, Listing, Deleting, last_of, last_ref}
 
 -- how many of something a bucket has: none where it is not there

@@ -1,13 +1,9 @@
 -- What is read of a change is spelled so, and what is spelled so is read.
 use Rattle.std.proofs.Common.{◌≡◌, ℕ, zero, suc, ◌+◌, ◌^◌, ◌<◌, false, eqb, ◌==◌, List, [], ◌∷◌, ◌++◌, length, Option, Some, None, Result, Ok, Err, refl, sym, ap, subst, ◌∙◌, arith, inl, inr}
-use Rattle.std.specs.Int.{w32, w64}
-use Rattle.std.specs.Str.{is_utf8}
-use Rattle.std.proofs.lemmas.Bool.{cases_eq, eqb-true}
-use Rattle.std.proofs.lemmas.Bool.Decides.{nat_tests}
-use Rattle.std.proofs.lemmas.List.{append-nil, nil_from_length}
+use Rattle.s3_types.specs.Prelude.{w32, w64, is_utf8, is_bucket, is_key}
+use Rattle.proof_base.proofs.Common.{cases_eq, eqb-true, nat_tests, append-nil, nil_from_length}
 use Rattle.proof_base.proofs.Reading.{parted, passed}
 use Rattle.proof_base.proofs.Bytes.{IsBytes, IsReader}
-use Rattle.s3_types.specs.Names.{is_bucket, is_key}
 use Rattle.s3_types.specs.declared.request.Request.{Request}
 use Rattle.s3_types.specs.declared.request.Request.TheVariants.{MakeBucket, PutObject, GetObject, HeadObject, DeleteObject, DeleteObjects, CopyObject, ListPage, CreateUpload, UploadPart, CompleteUpload, AbortUpload, ListParts, ListUploads, ClusterPut, ClusterRename, ClusterGet, ClusterDelete, ClusterList}
 use Rattle.log_format.specs.declared.fault.LogFault.{LogFault}

@@ -1,12 +1,7 @@
 -- What is read of a file is what it stands for, and what a file stands for is read.
 use Rattle.std.proofs.Common.{◌≡◌, ◌≢◌, ℕ, zero, suc, ◌^◌, ◌<◌, ◌≤◌, ◌==◌, Bool, true, false, if◌then◌else◌, List, [], ◌∷◌, ◌++◌, length, take, drop, Result, Ok, Err, refl, sym, ap, subst, ◌∙◌, append_assoc, arith, inl, inr}
-use Rattle.std.specs.List.{AllByRecursion}
-use Rattle.std.proofs.lemmas.Bool.{cases_eq}
-use Rattle.std.proofs.lemmas.Bool.Decides.{nat_tests}
-use Rattle.std.proofs.lemmas.List.{take_at, drop_at, take-append-drop, length-append, append-nil}
-use Rattle.std.proofs.lemmas.List.Concat.{flat_map-cons}
-use Rattle.std.proofs.lemmas.Slice.Eq.{bytes_eq-Decides}
-use Rattle.proof_base.specs.Reading.{◌>>=◌}
+use Rattle.s3_types.specs.Prelude.{AllByRecursion, ◌>>=◌}
+use Rattle.proof_base.proofs.Common.{cases_eq, nat_tests, take_at, drop_at, take-append-drop, length-append, append-nil, flat_map-cons, bytes_eq-Decides}
 use Rattle.proof_base.proofs.Reading.{parted, same_ok}
 use Rattle.proof_base.proofs.Bytes.{IsBytes, IsBytes-drop, Takes}
 use Rattle.s3_types.specs.declared.request.Request.{Request}

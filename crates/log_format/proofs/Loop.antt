@@ -1,7 +1,8 @@
 -- One more value of a list that is read.
 use Rattle.std.proofs.Common.{◌≡◌, ℕ, suc, ◌+◌, ◌-◌, ◌<◌, ◌≤◌, List, [], ◌∷◌, ◌++◌, ◌==◌, if◌then◌else◌, Ok, Err, Result, refl, sym, ap, subst, ◌∙◌, append_assoc, arith}
-use Rattle.std.proofs.lemmas.List.{append-nil}
-use Rattle.proof_base.specs.Reading.{◌>>=◌, made, Fails}
+use Rattle.proof_base.proofs.Common.{append-nil}
+use Rattle.s3_types.specs.Prelude.{◌>>=◌, Fails}
+use Rattle.proof_base.specs.Reading.{made}
 use Rattle.proof_base.proofs.Reading.{unless_more, unmade, with_front, listed, one_more as next_value}
 use Rattle.s3_types.specs.declared.request.Request.{Request}
 use Rattle.log_format.specs.declared.fault.LogFault.{LogFault}

@@ -1,13 +1,9 @@
 -- Steps of reading: what a step took from the front, and that it reads again what was written.
 use Rattle.std.proofs.Common.{◌≡◌, ℕ, zero, suc, ◌+◌, ◌^◌, ◌<◌, ◌≤◌, Bool, true, false, List, [], ◌∷◌, ◌++◌, length, slice_index, Ok, refl, sym, ap, subst, ◌∙◌, append_assoc, arith}
-use Rattle.std.specs.Int.{Width, w32, w64, byte_len, from_be_bytes, to_be_bytes}
-use Rattle.std.specs.List.{list_all, flat_map, AllByRecursion}
-use Rattle.std.proofs.lemmas.List.{length-append}
-use Rattle.std.proofs.lemmas.List.Concat.{flat_map-cons}
-use Rattle.proof_base.specs.Reading.{◌>>=◌}
+use Rattle.s3_types.specs.Prelude.{Width, w32, w64, byte_len, from_be_bytes, to_be_bytes, list_all, flat_map, AllByRecursion, ◌>>=◌, is_hex}
+use Rattle.proof_base.proofs.Common.{length-append, flat_map-cons}
 use Rattle.proof_base.proofs.Bytes.{IsBytes, Takes, Takes-then, IsReader, front_takes, front_again, IsWide, wide32, wide64}
 use Rattle.proof_base.proofs.Reading.{parted, same_ok, passed, unmade}
-use Rattle.s3_types.specs.Tags.{is_hex}
 use Rattle.s3_types.specs.declared.request.NamedPart.{NamedPart}
 use Rattle.log_format.specs.declared.fault.LogFault.TheVariants.{Bad}
 use Rattle.log_format.specs.Change.{IsAny, IsBelow, AreDigits, AreBoth, AreFew, IsNamed}

@@ -1,9 +1,6 @@
 -- Which requests change what a store holds, and what is known of the values in them.
 use Rattle.std.specs.Prelude.{◌≡◌, ℕ, ◌+◌, ◌<◌, ◌^◌, Bool, true, false, List, length, Option, Some, None}
-use Rattle.std.specs.List.{list_all, AllByRecursion}
-use Rattle.std.specs.Str.{is_utf8}
-use Rattle.s3_types.specs.Names.{is_bucket, is_key}
-use Rattle.s3_types.specs.Tags.{is_hex}
+use Rattle.s3_types.specs.Prelude.{list_all, AllByRecursion, is_utf8, is_bucket, is_key, is_hex}
 use Rattle.s3_types.specs.declared.request.NamedPart.{NamedPart}
 use Rattle.s3_types.specs.declared.request.Request.{Request}
 use Rattle.s3_types.specs.declared.request.Request.TheVariants.{MakeBucket, PutObject, DeleteObject, DeleteObjects, CopyObject, CreateUpload, UploadPart, CompleteUpload, AbortUpload}

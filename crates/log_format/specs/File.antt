@@ -1,6 +1,6 @@
 -- What a file's bytes stand for.
 use Rattle.std.specs.Prelude.{◌≡◌, ◌≢◌, ◌⊎◌, ℕ, false, List, [], ◌∷◌, ◌++◌}
-use Rattle.std.specs.List.{AllByRecursion}
+use Rattle.s3_types.specs.Prelude.{AllByRecursion}
 use Rattle.log_format.specs.Change.{IsChange}
 use Rattle.log_format.specs.Log.{headed, opened}
 use Rattle.log_format.specs.Reading.{is_log}

@@ -1,7 +1,6 @@
 -- How a base and the changes after it are written in a file. All numbers are big-endian.
 use Rattle.std.specs.Prelude.{ℕ, List, [], ◌∷◌, ◌++◌, length, codes}
-use Rattle.std.specs.Int.{w32, w64, to_be_bytes}
-use Rattle.std.specs.List.{flat_map}
+use Rattle.s3_types.specs.Prelude.{w32, w64, to_be_bytes, flat_map}
 use Rattle.s3_types.specs.declared.request.NamedPart.{NamedPart}
 use Rattle.s3_types.specs.declared.request.Request.{Request}
 use Rattle.s3_types.specs.declared.request.Request.TheVariants.{MakeBucket, PutObject, DeleteObject, DeleteObjects, CopyObject, CreateUpload, UploadPart, CompleteUpload, AbortUpload}

@@ -1,9 +1,6 @@
 -- Counts of sendings one after another.
 use Rattle.std.proofs.Common.{◌≡◌, ℕ, ◌+◌, ◌≤◌, false, List, [], ◌∷◌, ◌++◌, length, Option, sym, ap, subst, ◌∙◌, arith, append_assoc, length-append}
-use Rattle.s3_types.specs.Moment.{is_unanswered}
-use Rattle.s3_types.specs.declared.fates.Fate.{Fate}
-use Rattle.s3_types.specs.declared.journal.Entry.{Entry}
-use Rattle.machine.specs.Counted.{AreAnswered, Counted}
+use Rattle.machine.specs.Prelude.{is_unanswered, Fate, Entry, AreAnswered, Counted}
 
 cancel : (l a b : List Entry) → l ++ a ≡ l ++ b → a ≡ b
 cancel [] a b h = h

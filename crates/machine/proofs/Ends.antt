@@ -1,14 +1,7 @@
 -- A run whose machine asks nothing more is over, and whole where no request wore out.
 use Rattle.std.proofs.Common.{◌≡◌, ℕ, ◌<◌, Bool, true, false, List, Option, None, Ok, Err, sym, ap, subst, ◌∙◌}
-use Rattle.s3_types.specs.Store.{Scene}
-use Rattle.s3_types.specs.declared.fates.Fate.{Fate}
-use Rattle.s3_types.specs.declared.request.Request.{Request}
-use Rattle.s3_types.specs.declared.request.Actor.{Actor}
-use Rattle.s3_types.specs.declared.journal.Entry.{Entry}
-use Rattle.retries.specs.Retries.{Item}
-use Rattle.machine.specs.Standing.{Standing}
-use Rattle.machine.specs.Turns.{retried}
-use Rattle.machine.specs.Drove.{Drove, Driving, IsOver, IsRun, standing_after}
+use Rattle.machine.specs.Prelude.{Scene, Fate, Request, Actor, Entry, Item, Standing, retried, Drove, Driving, IsRun, standing_after}
+use Rattle.machine.specs.Drove.{IsOver}
 use Rattle.machine.specs.declared.retrying.Retrying.{Retrying}
 use Rattle.machine.specs.declared.driving.DriveStop.TheVariants.{StoreFault}
 use Rattle.machine.proofs.Tries.{tried_worn, tried_whole}

@@ -1,14 +1,6 @@
 -- What each sending keeps, a run of a machine that is alone keeps.
 use Rattle.std.proofs.Common.{◌≡◌, ℕ, zero, suc, Bool, true, false, List, Option, Some, sym, subst}
-use Rattle.s3_types.specs.Store.{Scene}
-use Rattle.s3_types.specs.Answer.{answer, apply}
-use Rattle.s3_types.specs.Moment.{effect, after_all, AreHonest, IsHonestOutcome}
-use Rattle.s3_types.specs.declared.request.Request.{Request}
-use Rattle.s3_types.specs.declared.journal.Outcome.{Outcome}
-use Rattle.s3_types.specs.declared.journal.Outcome.TheVariants.{Answered, Slow, RequestLost, ReplyLost}
-use Rattle.s3_types.specs.declared.journal.Entry.{Entry}
-use Rattle.retries.specs.Operation.{Follows, run}
-use Rattle.retries.specs.Retries.{Item, Retried, wants_of, step, unanswered_by}
+use Rattle.machine.specs.Prelude.{Scene, answer, apply, effect, after_all, AreHonest, IsHonestOutcome, Request, Outcome, Answered, Slow, RequestLost, ReplyLost, Entry, Follows, run, Item, Retried, wants_of, step, unanswered_by}
 use Rattle.machine.proofs.Keeping.{Keeps}
 use Rattle.machine.proofs.Runs.{run_keeps}
 

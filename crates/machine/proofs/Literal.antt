@@ -1,11 +1,8 @@
 -- Where nothing of the present request was sent before, a run wore out exactly where the entries alone say so.
 use Rattle.std.proofs.Common.{◌≡◌, ℕ, Bool, true, false, List, Option, Some, None, is_some, sym, ap, subst, ◌∙◌}
+use Rattle.machine.specs.Prelude.{Request, Entry, Follows, Item, Retried, wants_of, fresh, step, has_worn}
+use Rattle.retries.specs.Prelude.{worn_in, WornFirst}
 use Rattle.std.proofs.lemmas.Bool.{false≢true}
-use Rattle.s3_types.specs.declared.request.Request.{Request}
-use Rattle.s3_types.specs.declared.journal.Entry.{Entry}
-use Rattle.retries.specs.Operation.{Follows}
-use Rattle.retries.specs.Retries.{Item, Retried, wants_of, fresh, step, has_worn, worn_in}
-use Rattle.retries.specs.Worn.{WornFirst}
 use Rattle.retries.proofs.First.{counted_first, some_worn}
 
 first_worn : (retries : ℕ) (part : List Entry) (o : Option Request) (b : Bool) → WornFirst retries part o → b ≡ is_some o → b ≡ true → (r : Request) × WornFirst retries part (Some r)

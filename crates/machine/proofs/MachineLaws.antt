@@ -1,12 +1,7 @@
 -- The laws of a machine, for any operation that an actor holds.
 use Rattle.std.specs.Prelude.{ℕ, Bool, Option}
-use Rattle.s3_types.specs.Store.{Scene}
-use Rattle.s3_types.specs.declared.request.Request.{Request}
-use Rattle.s3_types.specs.declared.reply.Reply.{Reply}
-use Rattle.retries.specs.Retries.{Item}
-use Rattle.machine.specs.Standing.{Standing}
-use Rattle.machine.specs.Laws.{Laws}
-use Rattle.machine.specs.Asks.{AskLaws, never}
+use Rattle.machine.specs.Prelude.{Scene, Request, Reply, Item, Standing, Laws, AskLaws}
+use Rattle.machine.specs.Asks.{never}
 
 pub machine_laws : {O : Type 0} {wants : O → Option Request} {after : O → Item → O} {fits : O → Reply → Bool → Type 0} {standing : O → Standing} (left : O → Scene → ℕ) → AskLaws wants after fits standing → Laws wants after fits never left standing
 machine_laws left laws = record {

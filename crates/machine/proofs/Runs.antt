@@ -1,26 +1,11 @@
 -- A run goes on by one sending.
 use Rattle.std.proofs.Common.{◌≡◌, ℕ, zero, suc, take, ◌+◌, ◌*◌, ◌<◌, ◌≤◌, Bool, true, false, ◌||◌, List, [], ◌∷◌, ◌++◌, length, Option, Some, refl, sym, ap, subst, ◌∙◌, arith}
 use Rattle.std.specs.Prelude.{IsTrue}
-use Rattle.s3_types.specs.Store.{Scene}
-use Rattle.s3_types.specs.Answer.{answer, apply}
-use Rattle.s3_types.specs.Moment.{effect, after_all, AreHonest, IsHonestOutcome, is_unanswered}
-use Rattle.s3_types.specs.Foretold.{IsForetold, AreForetold}
-use Rattle.s3_types.specs.declared.fates.Fate.{Fate}
-use Rattle.s3_types.specs.declared.request.Request.{Request}
-use Rattle.s3_types.specs.declared.request.Actor.{Actor}
-use Rattle.s3_types.specs.declared.reply.Reply.{Reply}
-use Rattle.s3_types.specs.declared.journal.Outcome.{Outcome}
-use Rattle.s3_types.specs.declared.journal.Outcome.TheVariants.{Answered, Slow, RequestLost, ReplyLost}
-use Rattle.s3_types.specs.declared.journal.Entry.{Entry}
-use Rattle.retries.specs.Operation.{Follows, run}
-use Rattle.retries.specs.Retries.{Item, Got, WornOut, Retried, wants_of, step, wears, is_zero, has_worn, unanswered_by}
 use Rattle.retries.proofs.Runs.{run_more, follows_more, has_worn_more}
-use Rattle.machine.specs.Standing.{Standing}
-use Rattle.machine.specs.Laws.{Laws}
-use Rattle.machine.specs.Turns.{retried, AreBy, turn_if, turn_of, tells_worn}
+use Rattle.machine.specs.Turns.{turn_if, turn_of}
 use Rattle.std.proofs.Common.{append_assoc, length-append}
-use Rattle.machine.specs.Counted.{Counted}
-use Rattle.machine.specs.Drove.{IsRun, IsSent, Driving, standing_after}
+use Rattle.machine.specs.Prelude.{Scene, answer, apply, effect, after_all, AreHonest, IsHonestOutcome, is_unanswered, IsForetold, AreForetold, Fate, Request, Actor, Reply, Outcome, Answered, Slow, RequestLost, ReplyLost, Entry, Follows, run, Item, Got, WornOut, Retried, wants_of, step, wears, is_zero, has_worn, unanswered_by, Standing, Laws, retried, AreBy, tells_worn, Counted, IsRun, Driving, standing_after}
+use Rattle.machine.specs.Drove.{IsSent}
 use Rattle.machine.specs.declared.retrying.Retrying.{Retrying}
 use Rattle.machine.proofs.Counts.{counted_then}
 

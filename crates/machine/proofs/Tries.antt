@@ -1,14 +1,8 @@
 -- A run falls into tries, and wore out exactly where one of them did.
 use Rattle.std.proofs.Common.{◌≡◌, ℕ, zero, suc, ◌+◌, ◌<◌, ◌≤◌, Bool, true, false, ◌||◌, List, [], ◌∷◌, ◌++◌, length, Option, Some, None, Ok, Err, refl, sym, ap, subst, ◌∙◌, arith, append_assoc, append-nil}
+use Rattle.machine.specs.Prelude.{is_unanswered, Request, Outcome, Answered, Slow, Entry, Follows, run, Item, Retried, wants_of, step, wears, is_zero, has_worn, unanswered_by, some_worn, HasUnanswered, Tried}
 use Rattle.std.proofs.lemmas.Bool.{false≢true}
-use Rattle.s3_types.specs.Moment.{is_unanswered}
-use Rattle.s3_types.specs.declared.request.Request.{Request}
-use Rattle.s3_types.specs.declared.journal.Outcome.{Outcome}
-use Rattle.s3_types.specs.declared.journal.Outcome.TheVariants.{Answered, Slow}
-use Rattle.s3_types.specs.declared.journal.Entry.{Entry}
-use Rattle.retries.specs.Operation.{Follows, run}
-use Rattle.retries.specs.Retries.{Item, Retried, wants_of, step, wears, is_zero, has_worn, unanswered_by}
-use Rattle.machine.specs.Tries.{AreUnanswered, Try, IsTry, AreTries, IsClosed, spare_after, answer_in, sendings_of, is_worn, some_worn, IsBrokenOff, HasUnanswered, Tried}
+use Rattle.machine.specs.Tries.{AreUnanswered, Try, IsTry, AreTries, IsClosed, spare_after, answer_in, sendings_of, is_worn, IsBrokenOff}
 use Rattle.machine.specs.declared.driving.DriveStop.TheVariants.{StoreFault, NoMemory}
 
 -- the request that is present is the first of these

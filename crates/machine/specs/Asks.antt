@@ -1,9 +1,6 @@
 -- What an operation owes beside the contracts of its calls.
 use Rattle.std.specs.Prelude.{◌≡◌, Bool, Option, Some, None}
-use Rattle.s3_types.specs.Store.{Scene}
-use Rattle.s3_types.specs.declared.request.Request.{Request}
-use Rattle.s3_types.specs.declared.reply.Reply.{Reply}
-use Rattle.retries.specs.Retries.{Item, Got, WornOut, OutOfMemory}
+use Rattle.retries.specs.Prelude.{Scene, Request, Reply, Item, Got, WornOut, OutOfMemory}
 use Rattle.machine.specs.Standing.{Standing, Faulted, Broken}
 
 -- what an actor's operation owes as a machine

@@ -1,8 +1,6 @@
 -- What sendings leave of a store's counts, beside the journal that they are written into.
 use Rattle.std.specs.Prelude.{◌≡◌, ℕ, ◌+◌, ◌≤◌, false, List, [], ◌∷◌, ◌++◌, length, Option}
-use Rattle.s3_types.specs.Moment.{is_unanswered}
-use Rattle.s3_types.specs.declared.fates.Fate.{Fate}
-use Rattle.s3_types.specs.declared.journal.Entry.{Entry}
+use Rattle.retries.specs.Prelude.{is_unanswered, Fate, Entry}
 
 -- each got an answer
 abbrev pub AreAnswered : List Entry → Type 0

@@ -1,16 +1,6 @@
 -- What sending once, and driving a machine alone, have done.
 use Rattle.std.specs.Prelude.{◌≡◌, ℕ, ◌<◌, ◌≤◌, ◌+◌, ◌⊎◌, Bool, true, false, List, [], ◌∷◌, ◌++◌, length, Option, Some, None, Result, Ok, Err, IsTrue}
-use Rattle.s3_types.specs.Store.{Scene}
-use Rattle.s3_types.specs.Answer.{answer}
-use Rattle.s3_types.specs.Moment.{effect, after_all, AreHonest, IsHonestOutcome, is_unanswered}
-use Rattle.s3_types.specs.Foretold.{IsForetold, AreForetold}
-use Rattle.s3_types.specs.declared.fates.Fate.{Fate}
-use Rattle.s3_types.specs.declared.request.Request.{Request}
-use Rattle.s3_types.specs.declared.request.Actor.{Actor}
-use Rattle.s3_types.specs.declared.reply.Reply.{Reply}
-use Rattle.s3_types.specs.declared.journal.Entry.{Entry}
-use Rattle.retries.specs.Operation.{Follows, run}
-use Rattle.retries.specs.Retries.{Item, wants_of, fresh, step, has_worn}
+use Rattle.retries.specs.Prelude.{Scene, answer, effect, after_all, AreHonest, IsHonestOutcome, is_unanswered, IsForetold, AreForetold, Fate, Request, Actor, Reply, Entry, Follows, run, Item, wants_of, fresh, step, has_worn}
 use Rattle.machine.specs.Standing.{Standing, Faulted}
 use Rattle.machine.specs.Turns.{retried, broken, turn_of, AreBy}
 use Rattle.machine.specs.Counted.{Counted}

@@ -1,10 +1,6 @@
 -- What a machine owes beside the contracts of its calls.
 use Rattle.std.specs.Prelude.{◌≡◌, ℕ, ◌<◌, ◌≤◌, Bool, true, false, Option, Some, None}
-use Rattle.s3_types.specs.Store.{Scene}
-use Rattle.s3_types.specs.Answer.{answer, apply}
-use Rattle.s3_types.specs.declared.request.Request.{Request}
-use Rattle.s3_types.specs.declared.reply.Reply.{Reply}
-use Rattle.retries.specs.Retries.{Item, Got, WornOut, OutOfMemory}
+use Rattle.retries.specs.Prelude.{Scene, answer, apply, Request, Reply, Item, Got, WornOut, OutOfMemory}
 use Rattle.machine.specs.Standing.{Standing, Faulted, Broken}
 
 pub record Laws {M : Type 0} (wants : M → Option Request) (after : M → Item → M) (fits : M → Reply → Bool → Type 0) (ready : M → Scene → Bool → Type 0) (left : M → Scene → ℕ) (standing : M → Standing) : Type 0 where

@@ -1,12 +1,6 @@
 -- A machine under its retries as an operation of replies, and what its sendings are for it.
 use Rattle.std.specs.Prelude.{◌≡◌, ℕ, Bool, true, false, List, [], ◌∷◌}
-use Rattle.s3_types.specs.declared.request.Actor.{Actor}
-use Rattle.s3_types.specs.declared.reply.Reply.{Reply}
-use Rattle.s3_types.specs.declared.journal.Outcome.{Outcome}
-use Rattle.s3_types.specs.declared.journal.Outcome.TheVariants.{Answered, Slow, RequestLost, ReplyLost}
-use Rattle.s3_types.specs.declared.journal.Entry.{Entry}
-use Rattle.retries.specs.Worn.{was_answered}
-use Rattle.retries.specs.Retries.{Item, OutOfMemory, Retried, wears}
+use Rattle.retries.specs.Prelude.{Actor, Reply, Outcome, Answered, Slow, RequestLost, ReplyLost, Entry, was_answered, Item, OutOfMemory, Retried, wears}
 use Rattle.machine.specs.declared.retrying.Retrying.{Retrying}
 use Rattle.machine.specs.declared.retrying.Turn.{Turn}
 use Rattle.machine.specs.declared.retrying.Turn.TheVariants.{Again, Moved, WornOut as Worn}

@@ -1,14 +1,9 @@
 -- The elements of the layout's keys.
 use Rattle.std.proofs.Common.{◌≡◌, ◌≢◌, ℕ, ◌+◌, ◌<◌, ◌≤◌, ◌^◌, ◌%◌, ◌==◌, ◌&&◌, nat_le, Bool, true, false, List, [], ◌∷◌, ◌++◌, length, codes, refl, sym, ap, ◌∙◌, arith, append_assoc}
-use Rattle.std.specs.List.{list_all}
-use Rattle.std.specs.Fmt.{decimal}
-use Rattle.std.proofs.lemmas.Bool.{and_parts}
-use Rattle.std.proofs.lemmas.Bool.Decides.{nat_tests}
-use Rattle.std.proofs.lemmas.List.Folds.{list_all-append}
-use Rattle.std.proofs.lemmas.Fmt.{decimal_by_steps, decimal_nonempty}
-use Rattle.words.specs.Parts.{parts_from, is_other}
-use Rattle.words.proofs.Pieces.{one_part}
-use Rattle.s3_types.specs.Names.{are_elements, is_element, is_id_byte, is_job_id}
+use Rattle.s3_types.specs.Prelude.{list_all, decimal, is_other, are_elements, is_element, is_id_byte, is_job_id}
+use Rattle.path_keys.proofs.Common.{and_parts, nat_tests, list_all-append, decimal_nonempty, one_part}
+use Rattle.std.proofs.lemmas.Fmt.{decimal_by_steps}
+use Rattle.words.specs.Parts.{parts_from}
 use Rattle.path_keys.specs.Paths.{is_key}
 use Rattle.path_keys.proofs.Keys.{some_key}
 use Rattle.path_keys.proofs.Beneath.{elements_append}

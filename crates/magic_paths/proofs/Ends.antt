@@ -1,9 +1,8 @@
 -- The last element of a text.
 use Rattle.std.proofs.Common.{◌≡◌, ℕ, ◌+◌, ◌-◌, true, List, [], ◌∷◌, ◌++◌, length, drop, sym, ap, ◌∙◌, arith, length-append}
-use Rattle.std.specs.List.{list_all}
-use Rattle.std.proofs.Math.Seq.{drop-append_seam}
-use Rattle.words.specs.Parts.{parts_of, is_other}
-use Rattle.words.proofs.Pieces.{one_part}
+use Rattle.s3_types.specs.Prelude.{list_all, is_other}
+use Rattle.path_keys.proofs.Common.{drop-append_seam, one_part}
+use Rattle.words.specs.Parts.{parts_of}
 use Rattle.path_keys.proofs.Last.{parts_round}
 
 last_of : (es : List (List ℕ)) (e : List ℕ) → drop (length (es ++ e ∷ []) - 1) (es ++ e ∷ []) ≡ e ∷ []

@@ -1,11 +1,8 @@
 -- What is kept of a key's elements, and that it makes a key.
 use Rattle.std.proofs.Common.{◌≡◌, ◌≢◌, ℕ, ◌+◌, ◌<◌, ◌≤◌, ◌-◌, ◌==◌, Bool, true, false, List, [], ◌∷◌, ◌++◌, length, take, drop, codes, if◌then◌else◌, refl, sym, ap, ◌∙◌, arith, length-append}
-use Rattle.std.specs.List.{list_all, list_any, after_first, position_or_len}
-use Rattle.std.proofs.lemmas.Bool.{and_parts}
-use Rattle.std.proofs.lemmas.List.{take-append-drop}
-use Rattle.std.proofs.lemmas.List.Folds.{list_all-append}
+use Rattle.s3_types.specs.Prelude.{list_all, list_any, after_first, position_or_len, is_element}
+use Rattle.path_keys.proofs.Common.{and_parts, take-append-drop, list_all-append}
 use Rattle.words.specs.Parts.{parts_of, parts_from}
-use Rattle.s3_types.specs.Names.{is_element}
 use Rattle.path_keys.specs.Paths.{is_key}
 use Rattle.path_keys.proofs.Keys.{some_key, key_from}
 use Rattle.magic_paths.specs.Finals.{is_word, before_magic, after_magic, kept, final_elements}

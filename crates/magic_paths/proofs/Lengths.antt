@@ -1,9 +1,7 @@
 -- The lengths of the layout's keys.
 use Rattle.std.proofs.Common.{ℕ, ◌<◌, ◌≤◌, ◌^◌, ◌≡◌, true, List, length, arith, length-append}
-use Rattle.std.specs.Fmt.{decimal}
-use Rattle.std.proofs.lemmas.Bool.{and_parts, leb-true}
-use Rattle.std.proofs.lemmas.Fmt.{length-decimal-le}
-use Rattle.s3_types.specs.Names.{is_job_id}
+use Rattle.s3_types.specs.Prelude.{decimal, is_job_id}
+use Rattle.path_keys.proofs.Common.{and_parts, leb-true, length-decimal-le}
 use Rattle.magic_paths.specs.Layout.{attempt_key, set_key, success_key}
 
 short : (n : ℕ) → n < 2 ^ 32 → length (decimal n) ≤ 10

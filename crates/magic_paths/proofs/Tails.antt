@@ -1,15 +1,7 @@
 -- The keys and the cluster's paths of different places are different.
 use Rattle.std.proofs.Common.{◌≡◌, ℕ, ◌+◌, ◌-◌, ◌<◌, ◌≤◌, ◌^◌, not, nat_eq, true, false, cond, List, [], ◌∷◌, ◌++◌, length, drop, get_or, refl, sym, ap, ◌∙◌, arith, append_assoc, length-append, codes}
-use Rattle.std.specs.Fmt.{decimal}
-use Rattle.std.specs.List.{list_all, ends_with}
-use Rattle.std.proofs.lemmas.List.{append_cancel_left, append_cancel_right}
-use Rattle.std.proofs.lemmas.Fmt.{decimal_injective}
-use Rattle.std.proofs.lemmas.Bool.{and_parts, true≢false, eqb-true}
-use Rattle.std.proofs.lemmas.Bool.Decides.{nat_tests}
-use Rattle.proof_base.specs.Order.{text_eq, text_equiv}
-use Rattle.words.specs.Parts.{is_other}
-use Rattle.s3_types.specs.Names.{is_job_id}
-use Rattle.s3_types.specs.Pages.{begins}
+use Rattle.s3_types.specs.Prelude.{decimal, list_all, ends_with, text_eq, text_equiv, is_other, is_job_id, begins}
+use Rattle.path_keys.proofs.Common.{append_cancel_left, append_cancel_right, decimal_injective, and_parts, true≢false, eqb-true, nat_tests}
 use Rattle.path_keys.specs.Paths.{below}
 use Rattle.magic_paths.specs.Layout.{magic_prefix, attempt_key}
 use Rattle.magic_paths.specs.Places.{Place, FilePlace, MarkerPlace, RecordPlace, SetPlace, SuccessPlace, ClusterPlace, TemporaryPlace, StagedSetPlace, key_at, path_at, is_record, IsPlace, IsClusterPlace, is_magic_place}

@@ -1,11 +1,8 @@
 -- A walk over the elements of a text up to a word.
 use Rattle.std.proofs.Common.{◌≡◌, ℕ, ◌+◌, Bool, true, false, ◌||◌, List, [], ◌∷◌, ◌++◌, length, take, drop, refl, sym, ap, ◌∙◌, arith, append_assoc, length-append}
-use Rattle.std.specs.List.{list_any, position_or_len, before_first, after_first}
-use Rattle.std.proofs.lemmas.List.{append_cancel_right}
-use Rattle.std.proofs.lemmas.List.Folds.{list_any-append}
-use Rattle.std.proofs.Math.Seq.{take-append_seam, drop-append_seam}
+use Rattle.s3_types.specs.Prelude.{list_any, position_or_len, before_first, after_first}
+use Rattle.path_keys.proofs.Common.{append_cancel_right, list_any-append, take-append_seam, drop-append_seam, parts_append}
 use Rattle.words.specs.Parts.{parts_of}
-use Rattle.words.proofs.Pieces.{parts_append}
 use Rattle.magic_paths.specs.Finals.{is_word}
 
 -- a front of a text is passed, whose elements are seen, and none of these is the word

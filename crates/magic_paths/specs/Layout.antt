@@ -1,6 +1,6 @@
 -- Where the committers keep what they need: the magic committer below the key of a destination, the staging committers in the cluster's file system (Hadoop, S3A committer architecture).
 use Rattle.std.specs.Prelude.{ℕ, List, ◌++◌, codes}
-use Rattle.std.specs.Fmt.{decimal}
+use Rattle.s3_types.specs.Prelude.{decimal}
 
 -- what the keys below a job's magic directory begin with: DEST/__magic/job-ID/
 abbrev pub magic_prefix : List ℕ → List ℕ → List ℕ

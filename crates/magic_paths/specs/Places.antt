@@ -1,8 +1,6 @@
 -- Where a job keeps what it writes, as data: places in the store and in the cluster's file system.
 use Rattle.std.specs.Prelude.{◌≡◌, ℕ, ◌<◌, ◌≤◌, ◌^◌, Bool, true, false, not, nat_eq, List, [], ◌∷◌, ◌++◌, length, codes}
-use Rattle.std.specs.List.{ends_with}
-use Rattle.s3_types.specs.Names.{is_job_id}
-use Rattle.s3_types.specs.Pages.{begins}
+use Rattle.s3_types.specs.Prelude.{ends_with, is_job_id, begins}
 use Rattle.path_keys.specs.Paths.{below}
 use Rattle.magic_paths.specs.Layout as layout
 

@@ -1,22 +1,12 @@
 -- What a listing without a delimiter has: each object below a prefix behind a text, once and in order, with its length.
 use Rattle.std.specs.Prelude.{◌≡◌, ℕ, Bool, true, false, cond, List, [], ◌∷◌, ◌++◌, map, length, Option, Some, None}
 use Rattle.std.proofs.Common.{refl, sym, ap, subst, ◌∙◌, inl, inr}
+use Rattle.fs_ops.specs.Prelude.{filter, is_lt, Less, text_cmp, text_total, Objects, begins, entry_of, listed, text_in, folded_from, is_again, Object, PageEntry, IsIn, RisesFrom, last_from}
+use Rattle.store_frame.specs.Prelude.{Ordering, Equal, Greater}
+use Rattle.path_keys.proofs.Common.{lt, irrefl, lt_trans, map_sorted, from_prefix, some_is, false_true, text_exact, in_map, in_filter}
 use Rattle.std.specs.FinMap as fin
-use Rattle.std.specs.List.{filter}
-use Rattle.std.specs.Ordering.{is_lt}
-use Rattle.std.specs.declared.cmp.Ordering.{Ordering}
-use Rattle.std.specs.declared.cmp.Ordering.TheVariants.{Less, Equal, Greater}
-use Rattle.proof_base.specs.Order.{text_cmp, text_total}
-use Rattle.proof_base.proofs.Less.{lt, irrefl, lt_trans, lt_back}
-use Rattle.proof_base.proofs.Tree.{map_sorted}
-use Rattle.s3_types.specs.Store.{Objects}
-use Rattle.s3_types.specs.Pages.{begins, entry_of, listed, text_in, folded_from, is_again}
-use Rattle.s3_types.specs.declared.object.Object.{Object}
-use Rattle.s3_types.specs.declared.reply.PageEntry.{PageEntry}
+use Rattle.proof_base.proofs.Less.{lt_back}
 use Rattle.s3_types.specs.declared.reply.PageEntry.TheVariants.{Object as Single}
-use Rattle.s3_types.proofs.Begins.{from_prefix}
-use Rattle.proof_base.specs.Members.{IsIn, RisesFrom, last_from}
-use Rattle.proof_base.proofs.Members.{some_is, false_true, text_exact, in_map, in_filter}
 use Rattle.bucket_walks.proofs.Rising.{lower}
 use Rattle.store_frame.proofs.Flat.{listed_rises, listed_all, found_at}
 

@@ -1,26 +1,12 @@
 -- What the markers of a listing are where the objects stand that were listed.
 use Rattle.std.specs.Prelude.{◌≡◌, ℕ, zero, suc, ◌==◌, ◌<◌, Bool, true, false, cond, List, [], ◌∷◌, ◌++◌, map, length, Some, if◌then◌else◌}
 use Rattle.std.proofs.Common.{refl, sym, ap, subst, ◌∙◌, inl, inr, arith}
-use Rattle.std.proofs.lemmas.Bool.{false≢true, eqb-true}
+use Rattle.path_keys.proofs.Common.{false≢true, eqb-true, lt, irrefl, lt_not, between, false_true, some_is, in_front, in_back, in_map, map_in, in_filter, filter_in}
+use Rattle.fs_ops.specs.Prelude.{filter, text_cmp, text_total, Objects, begins, text_in, Object, PageEntry, Prefix, below, IsIn, RisesFrom, is_marker, Stands, HasMore, IsSurplus, AreAll, MarkerKind, Surplus, Leaf, Odd, MarkerEntry}
 use Rattle.std.specs.FinMap as fin
-use Rattle.std.specs.List.{filter}
-use Rattle.proof_base.specs.Order.{text_cmp, text_total}
-use Rattle.proof_base.proofs.Less.{lt, irrefl, lt_not}
-use Rattle.s3_types.specs.Store.{Objects}
-use Rattle.s3_types.specs.Pages.{begins, text_in}
-use Rattle.s3_types.specs.declared.object.Object.{Object}
-use Rattle.s3_types.specs.declared.reply.PageEntry.{PageEntry}
-use Rattle.s3_types.specs.declared.reply.PageEntry.TheVariants.{Object as Single, Prefix}
-use Rattle.s3_types.proofs.Begins.{between}
-use Rattle.path_keys.specs.Paths.{below}
-use Rattle.proof_base.specs.Members.{IsIn, RisesFrom}
-use Rattle.proof_base.proofs.Members.{false_true, some_is, in_front, in_back, in_map, map_in, in_filter, filter_in}
+use Rattle.s3_types.specs.declared.reply.PageEntry.TheVariants.{Object as Single}
 use Rattle.store_frame.proofs.Flat.{behind}
-use Rattle.fs_tree.specs.Tree.{is_marker, Stands}
-use Rattle.fs_tree.specs.MarkerTool.{IsBare, HasBytes, HasMore, IsKind, IsSurplus, AreAll, HasMarkers}
-use Rattle.fs_tree.specs.declared.markers.MarkerKind.{MarkerKind}
-use Rattle.fs_tree.specs.declared.markers.MarkerKind.TheVariants.{Surplus, Leaf, Odd}
-use Rattle.fs_tree.specs.declared.markers.MarkerEntry.{MarkerEntry}
+use Rattle.fs_tree.specs.MarkerTool.{IsBare, HasBytes, IsKind, HasMarkers}
 use Rattle.fs_tree.proofs.Begins.{begins_trans}
 use Rattle.marker_tool.specs.Markers.{goes_on, kind_of, marker_at, markers_in, is_surplus, surplus_in}
 use Rattle.bucket_walks.proofs.Rising.{lower, sorted}

@@ -1,28 +1,12 @@
 -- What the missing markers of a listing are where the objects stand that were listed.
 use Rattle.std.specs.Prelude.{◌≡◌, ◌⊎◌, ℕ, zero, suc, ◌<◌, ◌&&◌, not, Bool, true, false, List, [], ◌∷◌, ◌++◌, map, length, Option, Some, None}
 use Rattle.std.proofs.Common.{refl, sym, ap, subst, ◌∙◌, inl, inr, arith, length-append}
-use Rattle.std.proofs.lemmas.Bool.{false≢true}
-use Rattle.std.proofs.lemmas.List.{map-append}
+use Rattle.path_keys.proofs.Common.{false≢true, map-append, not_so, lt, irrefl, lt_trans, lt_not, between, false_true, true_or_false, none_some, in_append, in_front, in_back, in_map, map_in, in_filter, filter_in}
+use Rattle.fs_ops.specs.Prelude.{filter, text_cmp, text_total, trimmed, Objects, begins, text_in, Object, PageEntry, Prefix, below, marker_of, keys_above, IsIn, RisesFrom, last_from, is_marker, IsMissing, AreAll}
 use Rattle.std.specs.FinMap as fin
-use Rattle.std.specs.List.{filter}
-use Rattle.proof_base.specs.Order.{text_cmp, text_total}
-use Rattle.proof_base.proofs.Bools.{not_so}
-use Rattle.proof_base.proofs.Less.{lt, irrefl, lt_trans, lt_not}
-use Rattle.s3_types.specs.Names.{trimmed}
-use Rattle.s3_types.specs.Store.{Objects}
-use Rattle.s3_types.specs.Pages.{begins, text_in}
-use Rattle.s3_types.specs.declared.object.Object.{Object}
-use Rattle.s3_types.specs.declared.reply.PageEntry.{PageEntry}
-use Rattle.s3_types.specs.declared.reply.PageEntry.TheVariants.{Object as Single, Prefix}
-use Rattle.s3_types.proofs.Begins.{between}
-use Rattle.path_keys.specs.Paths.{below}
-use Rattle.dir_markers.specs.Markers.{marker_of, keys_above}
+use Rattle.s3_types.specs.declared.reply.PageEntry.TheVariants.{Object as Single}
 use Rattle.dir_markers.proofs.Above.{trimmed_marker}
-use Rattle.proof_base.specs.Members.{IsIn, RisesFrom, last_from}
-use Rattle.proof_base.proofs.Members.{false_true, true_or_false, none_some, in_append, in_front, in_back, in_map, map_in, in_filter, filter_in}
 use Rattle.store_frame.proofs.Flat.{behind, joins}
-use Rattle.fs_tree.specs.Tree.{is_marker}
-use Rattle.fs_tree.specs.MarkerTool.{IsMissing, AreAll}
 use Rattle.fs_tree.proofs.Begins.{both, begins_trans, begins_length, begins_all, begins_marker, marker_is, marker_at}
 use Rattle.fs_tree.proofs.Above.{Cut, cut, none_above, more_above, above_begins, begins_above, above_marker, marker_ends, other_end}
 use Rattle.marker_tool.specs.Markers.{markers_above, is_due, missing_at, missing_from, missing_in}

@@ -1,17 +1,11 @@
 -- The tree without surplus markers, and with missing ones put, is the same.
 use Rattle.std.specs.Prelude.{◌≡◌, ◌⊎◌, ℕ, true, List, [], ◌∷◌, ◌++◌, length, Some, None}
 use Rattle.std.proofs.Common.{refl, sym, subst, ◌∙◌, inl, inr}
+use Rattle.fs_ops.specs.Prelude.{Objects, without, begins, marker_of, IsIn, Stands, SomeBelow, marker, HasDir, IsDirectory, SameTree, HasMore, IsSurplus, IsMissing, AreAll, IsCleaning, IsFilling}
+use Rattle.path_keys.proofs.Common.{from_prefix, none_some, same_or_other, false_true, text_left, text_here, text_other}
 use Rattle.std.specs.FinMap as fin
-use Rattle.s3_types.specs.Store.{Objects}
-use Rattle.s3_types.specs.Answer.{without}
-use Rattle.s3_types.specs.Pages.{begins}
-use Rattle.s3_types.proofs.Begins.{from_prefix}
-use Rattle.dir_markers.specs.Markers.{marker_of}
-use Rattle.proof_base.specs.Members.{IsIn}
-use Rattle.proof_base.proofs.Members.{none_some, same_or_other, false_true, text_left, text_here, text_other}
 use Rattle.bucket_walks.proofs.Below.{is_in, gone_in, kept_out}
-use Rattle.fs_tree.specs.Tree.{Stands, SomeBelow, marker, HasDir, IsDirectory}
-use Rattle.fs_tree.specs.MarkerTool.{SameTree, HasMore, IsSurplus, IsMissing, AreAll, CleansMarkers, FillsMarkers, IsCleaning, IsFilling}
+use Rattle.fs_tree.specs.MarkerTool.{CleansMarkers, FillsMarkers}
 use Rattle.fs_tree.proofs.Begins.{begins_trans}
 use Rattle.marker_tool.specs.Works.{with_markers}
 use Rattle.marker_tool.proofs.Listing.{above}

@@ -1,33 +1,12 @@
 -- The stages of the marker tool keep what they promise, whatever is done in a directory.
 use Rattle.std.specs.Prelude.{◌≡◌, ◌⊎◌, ℕ, ◌+◌, ◌<◌, ◌≤◌, nat_lt, Bool, true, false, cond, List, [], ◌∷◌, ◌++◌, length, take, drop, Result, Ok, Err, Option, Some, None}
 use Rattle.std.proofs.Common.{refl, sym, ap, subst, ◌∙◌, inl, inr, arith}
+use Rattle.path_keys.proofs.Common.{ltb-true, ltb-false, take-append-drop, take_all, length-drop, in_front, in_back}
+use Rattle.fs_ops.specs.Prelude.{Objects, head, PageEntry, IsIn, Step, Next, End, Goes, Falls, Look, There, Nothing, NoBucket, Other, look_of, Ask, reply_in, edited, IsPhases, MayAsk, Walked, More, Whole, walked_entries, all_below, walk_asks, fits, IsWalking, IsWalked, walk_left, LessWalked, marker_of, Stands, NoFile, IsDirectory, FsRefusal, NotFound, NotDirectory, NoSuchBucket, key_if, look_asks, prefix_of, goes_by, IsStages}
 use Rattle.std.proofs.Math.Seq.{take-add}
-use Rattle.std.proofs.lemmas.Bool.{ltb-true, ltb-false}
-use Rattle.std.proofs.lemmas.List.{take-append-drop, take_all, length-drop}
 use Rattle.std.specs.FinMap as fin
-use Rattle.s3_types.specs.Store.{Objects}
-use Rattle.s3_types.specs.Answer.{head}
-use Rattle.s3_types.specs.declared.reply.PageEntry.{PageEntry}
-use Rattle.proof_base.specs.Members.{IsIn}
-use Rattle.proof_base.proofs.Members.{in_front, in_back}
-use Rattle.operations.specs.declared.plan.Step.{Step}
-use Rattle.operations.specs.declared.plan.Step.TheVariants.{Next, End}
-use Rattle.operations.specs.Plans.{Goes, Falls}
-use Rattle.bucket_ops.specs.declared.look.Look.{Look}
-use Rattle.bucket_ops.specs.declared.look.Look.TheVariants.{There, Nothing, NoBucket, Other}
-use Rattle.bucket_ops.specs.Looks.{look_of}
-use Rattle.bucket_ops.specs.Asks.{Ask, reply_in, edited}
-use Rattle.bucket_ops.specs.Phases.{IsPhases, MayAsk}
-use Rattle.list_walk.specs.Walks.{Walked, More, Whole, walked_entries}
-use Rattle.bucket_walks.specs.Walking.{all_below, walk_asks, fits, IsWalking, IsWalked, walk_left, LessWalked}
 use Rattle.bucket_walks.proofs.Walks.{walk_fits, walk_begins, walk_goes, walk_falls}
-use Rattle.dir_markers.specs.Markers.{marker_of}
-use Rattle.fs_tree.specs.Tree.{Stands, NoFile, IsDirectory}
-use Rattle.fs_tree.specs.declared.answers.FsRefusal.{FsRefusal}
-use Rattle.fs_tree.specs.declared.answers.FsRefusal.TheVariants.{NotFound, NotDirectory, NoSuchBucket}
-use Rattle.fs_ops.specs.Places.{key_if, look_asks, prefix_of}
 use Rattle.fs_ops.proofs.Looks.{IsSeen, head_tells, none_listed, first_listed}
-use Rattle.fs_ops.specs.code.Steps.{goes_by, IsStages}
 use Rattle.fs_ops.proofs.StepLaws.{phases_of}
 use Rattle.fs_ops.proofs.AtPathLaws.{looks_there, still_look}
 use Rattle.marker_tool.specs.declared.tool.ToolStage.{ToolStage}

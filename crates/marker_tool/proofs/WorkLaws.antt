@@ -1,18 +1,9 @@
 -- Telling, deleting and putting markers are such works.
 use Rattle.std.specs.Prelude.{◌≡◌, ℕ, List, [], ◌∷◌, length, take, drop, Result, Ok, Err}
 use Rattle.std.proofs.Common.{refl, sym, subst, inl, inr, arith}
-use Rattle.s3_types.specs.Store.{Objects}
-use Rattle.s3_types.specs.Answer.{without}
-use Rattle.proof_base.specs.Members.{IsIn}
-use Rattle.proof_base.proofs.Members.{in_front}
-use Rattle.std.proofs.lemmas.List.{take-append-drop}
-use Rattle.bucket_walks.specs.Walking.{all_below}
+use Rattle.fs_ops.specs.Prelude.{Objects, without, IsIn, all_below, SameTree, IsSurplus, IsMissing, AreAll, Audits, Cleans, Fills, IsCleaning, IsFilling, FsRefusal, MarkerEntry, prefix_of, IsStill, OnlyLooks}
+use Rattle.path_keys.proofs.Common.{in_front, take-append-drop}
 use Rattle.bucket_walks.proofs.Batches.{batch_deletes}
-use Rattle.fs_tree.specs.MarkerTool.{SameTree, IsSurplus, IsMissing, AreAll, Audits, Cleans, Fills, IsCleaning, IsFilling}
-use Rattle.fs_tree.specs.declared.answers.FsRefusal.{FsRefusal}
-use Rattle.fs_tree.specs.declared.markers.MarkerEntry.{MarkerEntry}
-use Rattle.fs_ops.specs.Places.{prefix_of}
-use Rattle.fs_ops.specs.code.Steps.{IsStill, OnlyLooks}
 use Rattle.marker_tool.specs.Markers.{markers_in, surplus_in, missing_in}
 use Rattle.marker_tool.proofs.Listing.{is_listing}
 use Rattle.marker_tool.proofs.MarkerLaws.{has_markers, all_surplus}

@@ -1,11 +1,7 @@
 -- What the marker tool asks in a directory, beside looks.
 use Rattle.std.specs.Prelude.{◌≡◌, ◌⊎◌, ℕ, true, false, List, [], ◌∷◌, take}
+use Rattle.fs_ops.specs.Prelude.{Objects, IsIn, Ask, Page, Put, DropAll, is_look, marker, IsDirectory, IsSurplus, IsMissing}
 use Rattle.std.specs.FinMap as fin
-use Rattle.s3_types.specs.Store.{Objects}
-use Rattle.proof_base.specs.Members.{IsIn}
-use Rattle.bucket_ops.specs.Asks.{Ask, Page, Put, DropAll, is_look}
-use Rattle.fs_tree.specs.Tree.{marker, IsDirectory}
-use Rattle.fs_tree.specs.MarkerTool.{IsSurplus, IsMissing}
 
 -- a look at the bucket
 abbrev pub bucket_asks : Ask

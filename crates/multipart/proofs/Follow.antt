@@ -1,26 +1,13 @@
 -- The listing of uploads, walked from a place on.
 use Rattle.std.proofs.Common.{◌≡◌, ℕ, ◌≤◌, nat_lt, Bool, true, false, ◌&&◌, not, cond, List, [], ◌∷◌, ◌++◌, Option, Some, None, map, refl, sym, ap, ◌∙◌, length, take, subst, arith, append-nil}
-use Rattle.std.proofs.lemmas.Bool.{false≢true, not-true}
-use Rattle.std.proofs.lemmas.Bool.Decides.{nat_tests}
-use Rattle.std.proofs.lemmas.List.{take_all}
-use Rattle.std.proofs.lemmas.Map.Keys.{sorted_head, sorted_tail}
+use Rattle.proof_base.proofs.Common.{false≢true, not-true, nat_tests, take_all, sorted_head, sorted_tail}
+use Rattle.s3_types.specs.Prelude.{filter, keys_of, entries_between, is_from_start, nat_cmp, ordering_then, is_lt, is_le, is_gt, Ordering, Less, Equal, Greater, Bound, Included, Excluded, Unbounded, text_cmp, text_total, begins, Uploads, ref_cmp, refs, is_behind}
 use Rattle.std.specs.FinMap as fin
-use Rattle.std.specs.List.{filter}
 use Rattle.std.specs.List.Sorted.{IsStrictlySortedBy}
-use Rattle.std.specs.Map.{keys_of}
-use Rattle.std.specs.BTreeMap.Range.{entries_between, is_from_start}
-use Rattle.std.specs.Ordering.{nat_cmp, ordering_then, is_lt, is_le, is_gt}
-use Rattle.std.specs.declared.cmp.Ordering.{Ordering}
-use Rattle.std.specs.declared.cmp.Ordering.TheVariants.{Less, Equal, Greater}
-use Rattle.std.specs.declared.ops.Bound.{Bound}
-use Rattle.std.specs.declared.ops.Bound.TheVariants.{Included, Excluded, Unbounded}
 use Rattle.proof_base.proofs.Bools.{contrary, and_true}
-use Rattle.proof_base.specs.Order.{text_cmp, text_total}
 use Rattle.proof_base.proofs.Less.{lt, lt_back, le_le, lt_le, less_of}
 use Rattle.proof_base.proofs.Tree.{map_sorted}
-use Rattle.s3_types.specs.Pages.{begins}
-use Rattle.s3_types.specs.Store.{Uploads}
-use Rattle.s3_types.specs.Multipart.{ref_cmp, refs, is_behind, listed}
+use Rattle.s3_types.specs.Multipart.{listed}
 use Rattle.s3_types.specs.declared.request.UploadRef.{UploadRef}
 use Rattle.multipart.specs.Index.{keyed}
 use Rattle.multipart.specs.Listing.{below, Follows, AreOwn}

@@ -1,25 +1,12 @@
 -- The index against the uploads.
 use Rattle.std.proofs.Common.{◌≡◌, ℕ, Bool, true, false, ◌&&◌, cond, List, [], ◌∷◌, Option, Some, None, map, refl, sym, ap, ◌∙◌, subst, T}
-use Rattle.std.specs.FinMap.{FinMap, from_entries, insert, remove, get, entries, empty, get-from_entries, get-insert, get-remove, get-entries, entries-insert, entries_sorted, same_map}
-use Rattle.std.specs.FinMap.Entries.{find, is_sorted}
 use Rattle.std.specs.FinMap.Entries as list
-use Rattle.std.specs.Ordering.{eq_by_cmp, is_eq, is_lt, nat_cmp, ordering_then}
-use Rattle.std.specs.declared.cmp.Ordering.{Ordering}
-use Rattle.std.specs.declared.cmp.Ordering.TheVariants.{Less, Equal, Greater}
-use Rattle.std.specs.Cmp.{IsTotalOrder, nat_cmp_total}
-use Rattle.std.specs.Option.{IsSomeAnd}
 use Rattle.std.specs.Prelude.{Result, Ok, Err, OnOk, OnErr}
-use Rattle.std.specs.declared.alloc.AllocError.{AllocError}
-use Rattle.std.proofs.lemmas.Cmp.{then_total, on_total}
-use Rattle.std.proofs.lemmas.Bool.{false≢true}
-use Rattle.std.proofs.lemmas.Map.Lookups.{CmpEqualImpliesEq, exact_pairs, exact_bytes, exact_unsigned}
+use Rattle.s3_types.specs.Prelude.{FinMap, from_entries, insert, remove, get, entries, empty, get-from_entries, get-insert, get-remove, get-entries, entries-insert, entries_sorted, same_map, find, is_sorted, eq_by_cmp, is_eq, is_lt, nat_cmp, ordering_then, Ordering, Less, Equal, Greater, IsTotalOrder, nat_cmp_total, IsSomeAnd, AllocError, text_cmp, text_total, Upload, Uploads, ref_cmp, ref_of, refs, with_part, keys_of}
+use Rattle.proof_base.proofs.Common.{then_total, on_total, false≢true, CmpEqualImpliesEq, exact_pairs, exact_bytes, exact_unsigned}
 use Rattle.proof_base.proofs.Bools.{and_true}
-use Rattle.proof_base.specs.Order.{text_cmp, text_total}
 use Rattle.proof_base.proofs.Tree.{entries_empty, tied}
-use Rattle.s3_types.specs.Store.{Upload, Uploads}
-use Rattle.s3_types.specs.Multipart.{ref_cmp, ref_of, refs, with_part}
 use Rattle.s3_types.specs.declared.request.UploadRef.{UploadRef}
-use Rattle.std.specs.Map.{keys_of}
 use Rattle.multipart.specs.Index.{keyed, keyed_of}
 use Rattle.multipart.specs.Listing.{AreOwn}
 

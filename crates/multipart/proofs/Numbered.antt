@@ -1,21 +1,11 @@
 -- Part numbers are 1 to 10,000, so that an upload has at most so many parts.
 use Rattle.std.proofs.Common.{◌≡◌, ℕ, ◌+◌, ◌<◌, ◌≤◌, Bool, true, false, cond, List, [], ◌∷◌, Option, Some, is_some, nat_lt, length, refl, sym, ap, ◌∙◌, arith}
-use Rattle.std.specs.List.{list_all, AllByRecursion}
+use Rattle.s3_types.specs.Prelude.{list_all, AllByRecursion, keys_of, insert, get, from_entries, get-insert, get-from_entries, get-entries, entries, find, nat_cmp, eq_by_cmp, nat_cmp_total, eq_by_cmp_equiv, Less, Parts, is_part_number, rises, rises_from}
+use Rattle.proof_base.specs.Prelude.{len, len-entries}
+use Rattle.proof_base.proofs.Common.{nat_tests, sorted_head, sorted_tail, false≢true, and_parts, exact_unsigned}
 use Rattle.std.specs.List.Sorted.{IsStrictlySortedBy}
-use Rattle.std.specs.Map.{keys_of}
-use Rattle.std.specs.FinMap.{insert, get, from_entries, get-insert, get-from_entries, get-entries, entries, len, len-entries}
-use Rattle.std.specs.FinMap.Entries.{find}
-use Rattle.std.specs.Ordering.{nat_cmp, eq_by_cmp}
-use Rattle.std.specs.Cmp.{nat_cmp_total, eq_by_cmp_equiv}
-use Rattle.std.specs.declared.cmp.Ordering.TheVariants.{Less}
-use Rattle.std.proofs.lemmas.Bool.Decides.{nat_tests}
 use Rattle.std.proofs.lemmas.Map.Entries.{length-keys_of}
-use Rattle.std.proofs.lemmas.Map.Keys.{sorted_head, sorted_tail}
-use Rattle.std.proofs.lemmas.Bool.{false≢true, and_parts}
-use Rattle.std.proofs.lemmas.Map.Lookups.{exact_unsigned}
 use Rattle.proof_base.proofs.Numbers.{less_is}
-use Rattle.s3_types.specs.Store.{Parts}
-use Rattle.s3_types.specs.Multipart.{is_part_number, rises, rises_from}
 use Rattle.s3_types.specs.declared.request.NamedPart.{NamedPart}
 use Rattle.multipart.specs.Numbers.{AreNumbered}
 use Rattle.proof_base.proofs.Tree.{tied, map_sorted}

@@ -1,9 +1,6 @@
 -- The listing of uploads as it is walked.
 use Rattle.std.specs.Prelude.{◌≡◌, ℕ, false, List, [], ◌∷◌}
-use Rattle.std.specs.List.{filter, AllByRecursion}
-use Rattle.std.specs.Ordering.{is_lt}
-use Rattle.proof_base.specs.Order.{text_cmp}
-use Rattle.s3_types.specs.Pages.{begins}
+use Rattle.s3_types.specs.Prelude.{filter, AllByRecursion, is_lt, text_cmp, begins}
 use Rattle.s3_types.specs.declared.request.UploadRef.{UploadRef}
 
 -- the uploads whose keys begin with p

@@ -1,8 +1,7 @@
 -- The numbers of parts.
 use Rattle.std.specs.Prelude.{◌≡◌, ℕ, true, is_some}
+use Rattle.s3_types.specs.Prelude.{Parts, is_part_number}
 use Rattle.std.specs.FinMap as fin
-use Rattle.s3_types.specs.Store.{Parts}
-use Rattle.s3_types.specs.Multipart.{is_part_number}
 
 -- each part has a number from 1 to 10,000
 abbrev pub AreNumbered : Parts → Type 0

@@ -1,31 +1,16 @@
 -- Pages of keys that are not folded, walked from the start on.
 use Rattle.std.proofs.Common.{◌≡◌, ℕ, ◌≤◌, nat_lt, Bool, true, false, ◌&&◌, cond, List, [], ◌∷◌, ◌++◌, map, refl, sym, ap, ◌∙◌, length, take, subst, arith, append-nil}
-use Rattle.std.proofs.lemmas.Bool.{and_from, and_parts}
-use Rattle.std.proofs.lemmas.Bool.Decides.{nat_tests}
-use Rattle.std.proofs.lemmas.List.{take_all}
-use Rattle.std.proofs.lemmas.List.Kept.{IsStrictlySortedBy-filter}
-use Rattle.std.proofs.lemmas.Map.Keys.{sorted_head, sorted_tail}
+use Rattle.proof_base.proofs.Common.{and_from, and_parts, nat_tests, take_all, IsStrictlySortedBy-filter, sorted_head, sorted_tail}
+use Rattle.store_frame.specs.Prelude.{filter, AllByRecursion, keys_of, is_lt, is_from_start, entries_between, Less, Bound, Unbounded, text_cmp, text_total, begins, stem_if, entry_of, Objects, Object, PageEntry, start}
 use Rattle.std.specs.FinMap as fin
-use Rattle.std.specs.List.{filter, AllByRecursion}
 use Rattle.std.specs.List.Sorted.{IsStrictlySortedBy}
-use Rattle.std.specs.Map.{keys_of}
-use Rattle.std.specs.Ordering.{is_lt}
-use Rattle.std.specs.BTreeMap.Range.{is_from_start, entries_between}
-use Rattle.std.specs.declared.cmp.Ordering.TheVariants.{Less}
-use Rattle.std.specs.declared.ops.Bound.{Bound}
-use Rattle.std.specs.declared.ops.Bound.TheVariants.{Unbounded}
-use Rattle.proof_base.specs.Order.{text_cmp, text_total}
 use Rattle.proof_base.proofs.Bools.{contrary}
 use Rattle.proof_base.proofs.Viewed.{filter_map_same, viewed_sorted, entries_viewed}
 use Rattle.s3_types.proofs.Begins.{between}
-use Rattle.s3_types.specs.Pages.{begins, stem_if, entry_of}
-use Rattle.s3_types.specs.Store.{Objects}
-use Rattle.s3_types.specs.declared.object.Object.{Object}
-use Rattle.s3_types.specs.declared.reply.PageEntry.{PageEntry}
 use Rattle.object_store.specs.declared.objects.Held.{Held}
 use Rattle.object_store.specs.Flat.{single, below, Follows}
 use Rattle.object_store.specs.Held.{contents, AreOwn}
-use Rattle.store_frame.specs.Walk.{start, walked}
+use Rattle.store_frame.specs.Walk.{walked}
 use Rattle.object_store.proofs.Own.{own_filter}
 use Rattle.store_frame.proofs.Prefix.{lt, le_le, lt_not}
 use Rattle.store_frame.proofs.Walked.{stems, from_start, start_ge, kept_between}

@@ -1,15 +1,10 @@
 -- The entries in turn.
 use Rattle.std.proofs.Common.{◌≡◌, ℕ, List, [], ◌∷◌, Option, Some, None, refl, sym, ap, ◌∙◌, subst}
+use Rattle.store_frame.specs.Prelude.{slice_get, filter, keys_of, is_lt, text_cmp, text_total, Objects, Object}
 use Rattle.std.specs.FinMap as map
-use Rattle.std.specs.List.{slice_get, filter}
 use Rattle.std.specs.List.Sorted.{IsStrictlySortedBy}
-use Rattle.std.specs.Map.{keys_of}
-use Rattle.std.specs.Ordering.{is_lt}
-use Rattle.proof_base.specs.Order.{text_cmp, text_total}
 use Rattle.proof_base.proofs.Rest.{after_first, after_found}
 use Rattle.proof_base.proofs.Tree.{map_sorted}
-use Rattle.s3_types.specs.Store.{Objects}
-use Rattle.s3_types.specs.declared.object.Object.{Object}
 use Rattle.object_store.specs.Objects.{rest_of, next_of, IsNext}
 
 -- what comes next is followed by the rest after it

@@ -1,19 +1,11 @@
 -- Entries whose keys have the texts that they stand at.
 use Rattle.std.proofs.Common.{◌≡◌, ℕ, Bool, true, false, List, [], ◌∷◌, Option, refl, sym, ap, ◌∙◌, cond}
-use Rattle.std.specs.declared.cmp.Ordering.{Ordering}
-use Rattle.std.specs.declared.cmp.Ordering.TheVariants.{Less, Equal, Greater}
-use Rattle.std.specs.declared.ops.Bound.{Bound}
-use Rattle.std.specs.List.{filter, slice_get}
-use Rattle.std.specs.FinMap.{get, from_entries}
-use Rattle.std.specs.Map.{lookup, remove_entry}
-use Rattle.std.specs.Option.{option_map}
-use Rattle.std.specs.Ordering.{match_ordering}
-use Rattle.std.specs.BTreeMap.{insert_entry, is_at}
-use Rattle.std.specs.BTreeMap.Range.{range_contains, entries_between}
-use Rattle.std.proofs.lemmas.Map.Lookups.{exact_bytes}
-use Rattle.proof_base.specs.Order.{text_cmp, text_total}
+use Rattle.store_frame.specs.Prelude.{Ordering, Less, Equal, Greater, Bound, filter, slice_get, from_entries, lookup, option_map, is_at, entries_between, text_cmp, text_total, Object}
+use Rattle.s3_types.specs.Prelude.{get, match_ordering, insert_entry}
+use Rattle.proof_base.specs.Prelude.{range_contains}
+use Rattle.proof_base.proofs.Common.{exact_bytes}
+use Rattle.std.specs.Map.{remove_entry}
 use Rattle.proof_base.proofs.Viewed.{first_map, first_between, get_viewed}
-use Rattle.s3_types.specs.declared.object.Object.{Object}
 use Rattle.object_store.specs.declared.objects.Held.{Held}
 use Rattle.object_store.specs.Held.{contents, lent, AreOwn}
 

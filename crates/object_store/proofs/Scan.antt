@@ -1,9 +1,7 @@
 -- What the walk over a text finds.
 use Rattle.std.proofs.Common.{◌≡◌, ◌≢◌, ℕ, ◌+◌, ◌<◌, ◌≤◌, Bool, true, false, ◌&&◌, nat_eq, List, [], ◌∷◌, ◌++◌, Option, Some, None, refl, sym, ap, ◌∙◌, cond, length, take, drop, get_or, append_assoc, append-nil}
-use Rattle.std.proofs.lemmas.Bool.{false≢true, true≢false, ne_eqb, and_parts, eq-eqb}
-use Rattle.std.proofs.lemmas.List.{take_more, drop_more, drop_all}
-use Rattle.std.specs.Option.{option_map}
-use Rattle.s3_types.specs.Pages.{begins, before_slash, stem}
+use Rattle.proof_base.proofs.Common.{false≢true, true≢false, ne_eqb, and_parts, eq-eqb, take_more, drop_more, drop_all}
+use Rattle.store_frame.specs.Prelude.{option_map, begins, before_slash, stem}
 
 pub stem_none : (p q : List ℕ) → begins p q ≡ false → stem p q ≡ None
 stem_none [] q h = absurd (true≢false h)

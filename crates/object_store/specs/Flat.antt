@@ -1,10 +1,6 @@
 -- Pages of keys that are not folded.
 use Rattle.std.specs.Prelude.{◌≡◌, ℕ, false, List, [], ◌∷◌, length, map}
-use Rattle.std.specs.List.{filter}
-use Rattle.std.specs.Ordering.{is_lt}
-use Rattle.proof_base.specs.Order.{text_cmp}
-use Rattle.s3_types.specs.Pages.{begins}
-use Rattle.s3_types.specs.declared.reply.PageEntry.{PageEntry}
+use Rattle.store_frame.specs.Prelude.{filter, is_lt, text_cmp, begins, PageEntry}
 use Rattle.s3_types.specs.declared.reply.PageEntry.TheVariants.{Object as Single}
 use Rattle.object_store.specs.declared.objects.Held.{Held}
 

@@ -1,11 +1,7 @@
 -- Single objects of a bucket.
 use Rattle.std.specs.Prelude.{◌≡◌, ℕ, List, [], ◌∷◌, Option, Some, None, length, slice_get}
+use Rattle.store_frame.specs.Prelude.{filter, is_lt, text_cmp, Objects, Object}
 use Rattle.std.specs.FinMap as map
-use Rattle.std.specs.List.{filter}
-use Rattle.std.specs.Ordering.{is_lt}
-use Rattle.proof_base.specs.Order.{text_cmp}
-use Rattle.s3_types.specs.Store.{Objects}
-use Rattle.s3_types.specs.declared.object.Object.{Object}
 use Rattle.s3_types.specs.declared.object.Head.{Head}
 
 -- the length of an object's bytes, and its header (Amazon S3 API, HeadObject)

@@ -1,12 +1,7 @@
 -- The laws of a machine, for any operation that is a course.
 use Rattle.std.specs.Prelude.{◌≡◌, ℕ, ◌+◌, ◌<◌, ◌≤◌, Bool, true, false, Some}
 use Rattle.std.proofs.Common.{refl, subst, arith}
-use Rattle.s3_types.specs.Store.{Scene}
-use Rattle.s3_types.specs.Answer.{answer, apply}
-use Rattle.s3_types.specs.declared.request.Request.{Request}
-use Rattle.s3_types.specs.declared.reply.Reply.{Reply}
-use Rattle.machine.specs.Standing.{Fine}
-use Rattle.machine.specs.Laws.{Laws}
+use Rattle.machine.specs.Prelude.{Scene, answer, apply, Request, Reply, Fine, Laws}
 use Rattle.machine.proofs.Keeping.{Keeps}
 use Rattle.operations.specs.declared.plan.Step.{Step}
 use Rattle.operations.specs.declared.plan.Step.TheVariants.{Next, End}

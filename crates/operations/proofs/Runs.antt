@@ -1,28 +1,12 @@
 -- What an operation keeps, a run of it that is alone keeps at every moment.
 use Rattle.std.proofs.Common.{append-nil, arith, ◌≡◌, ℕ, zero, suc, Bool, false, List, [], ◌∷◌, ◌++◌, take, Option, Some, refl, sym, ap, subst, ◌∙◌}
-use Rattle.s3_types.specs.Store.{Scene}
-use Rattle.s3_types.specs.Moment.{effect, after_all, IsHonestOutcome, AreHonest, is_unanswered}
-use Rattle.s3_types.specs.Answer.{answer, apply}
-use Rattle.s3_types.specs.declared.journal.Outcome.{Outcome}
-use Rattle.s3_types.specs.declared.journal.Outcome.TheVariants.{Answered, Slow}
-use Rattle.s3_types.specs.declared.request.Request.{Request}
-use Rattle.s3_types.specs.declared.reply.Reply.{Reply}
-use Rattle.s3_types.specs.declared.request.Actor.{Actor}
-use Rattle.s3_types.specs.declared.journal.Entry.{Entry}
-use Rattle.retries.specs.Operation.{Follows, run}
-use Rattle.retries.specs.Retries.{Retried, wants_of, step}
 use Rattle.retries.proofs.Runs.{follows_take}
-use Rattle.machine.specs.Drove.{IsRun}
-use Rattle.machine.specs.Counted.{AreAnswered, Counted}
-use Rattle.s3_types.specs.Foretold.{AreForetold}
-use Rattle.s3_types.specs.declared.fates.Fate.{Fate}
 use Rattle.std.specs.Prelude.{Result, Ok, Err, ◌+◌, length}
-use Rattle.std.specs.List.{AllByRecursion}
+use Rattle.machine.specs.Prelude.{Scene, effect, after_all, IsHonestOutcome, AreHonest, is_unanswered, answer, apply, Outcome, Answered, Slow, Request, Reply, Actor, Entry, Follows, run, Retried, wants_of, step, IsRun, AreAnswered, Counted, AreForetold, Fate, AllByRecursion, Tried, IsFaultBy, HasUnanswered, some_worn, retried}
 use Rattle.std.proofs.lemmas.List.{take_all, append_cancel_left}
-use Rattle.machine.specs.Tries.{Tried, IsToldBy, IsFaultWhere, IsFaultBy, HasUnanswered, some_worn}
+use Rattle.machine.specs.Tries.{IsToldBy, IsFaultWhere}
 use Rattle.machine.specs.declared.driving.DriveStop.{DriveStop}
 use Rattle.machine.specs.declared.driving.DriveStop.TheVariants.{StoreFault as Worn, NoMemory as NoRoom}
-use Rattle.machine.specs.Turns.{retried}
 use Rattle.machine.specs.declared.retrying.Retrying.{Retrying}
 use Rattle.machine.proofs.Counts.{counted_none}
 use Rattle.machine.proofs.Keeps.{kept_run}

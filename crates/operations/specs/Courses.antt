@@ -1,9 +1,6 @@
 -- What an operation owes, told by its phases, where a request may not be made twice alike: a phase says what holds where a sending was lost.
 use Rattle.std.specs.Prelude.{◌≡◌, ℕ, ◌≤◌, ◌⊎◌, Bool, true, false}
-use Rattle.s3_types.specs.Store.{Scene}
-use Rattle.s3_types.specs.Answer.{answer, apply}
-use Rattle.s3_types.specs.declared.request.Request.{Request}
-use Rattle.s3_types.specs.declared.reply.Reply.{Reply}
+use Rattle.machine.specs.Prelude.{Scene, answer, apply, Request, Reply}
 use Rattle.operations.specs.declared.plan.Step.{Step}
 use Rattle.operations.specs.Plans.{Goes, Falls}
 

@@ -1,10 +1,6 @@
 -- An operation as a machine.
 use Rattle.std.specs.Prelude.{ℕ, ◌+◌, Bool, Option, Some, None}
-use Rattle.s3_types.specs.Store.{Scene}
-use Rattle.s3_types.specs.declared.request.Request.{Request}
-use Rattle.s3_types.specs.declared.reply.Reply.{Reply}
-use Rattle.retries.specs.Retries.{Item, Got, WornOut, OutOfMemory}
-use Rattle.machine.specs.Standing.{Standing, Fine, Faulted, Broken}
+use Rattle.machine.specs.Prelude.{Scene, Request, Reply, Item, Got, WornOut, OutOfMemory, Standing, Fine, Faulted, Broken}
 use Rattle.operations.specs.declared.plan.Step.{Step}
 use Rattle.operations.specs.declared.plan.Step.TheVariants.{Next, End}
 use Rattle.operations.specs.declared.operation.Stage.{Stage}

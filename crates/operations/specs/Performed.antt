@@ -1,16 +1,6 @@
 -- What performing an operation has done.
 use Rattle.std.specs.Prelude.{◌≡◌, ℕ, ◌+◌, List, ◌++◌, take, Option, Result}
-use Rattle.std.specs.List.{AllByRecursion}
-use Rattle.s3_types.specs.Store.{Scene}
-use Rattle.s3_types.specs.Moment.{AreHonest, after_all}
-use Rattle.s3_types.specs.Foretold.{AreForetold}
-use Rattle.s3_types.specs.declared.fates.Fate.{Fate}
-use Rattle.s3_types.specs.declared.request.Actor.{Actor}
-use Rattle.s3_types.specs.declared.request.Request.{Request}
-use Rattle.s3_types.specs.declared.journal.Entry.{Entry}
-use Rattle.machine.specs.Counted.{Counted}
-use Rattle.machine.specs.Turns.{AreBy}
-use Rattle.machine.specs.Tries.{Tried, IsFaultBy}
+use Rattle.machine.specs.Prelude.{AllByRecursion, Scene, AreHonest, after_all, AreForetold, Fate, Actor, Request, Entry, Counted, AreBy, Tried, IsFaultBy}
 use Rattle.machine.specs.declared.driving.DriveStop.{DriveStop}
 
 -- a store and the journal beside it

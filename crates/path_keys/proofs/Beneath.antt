@@ -1,13 +1,9 @@
 -- Texts behind a key and a `/`.
 use Rattle.std.proofs.Common.{◌≡◌, ◌≢◌, ℕ, ◌<◌, ◌≤◌, ◌&&◌, nat_eq, Bool, true, false, List, [], ◌∷◌, ◌++◌, length, drop, Some, None, refl, sym, ap, ◌∙◌, arith, append_assoc}
-use Rattle.std.specs.List.{list_all, starts_with}
-use Rattle.std.proofs.lemmas.List.Folds.{list_all-append}
-use Rattle.std.proofs.lemmas.Bool.{and_parts, false≢true, le-leb}
-use Rattle.std.proofs.lemmas.Bool.Decides.{Decides-eqb}
-use Rattle.std.proofs.lemmas.Slice.Eq.{starts_is}
+use Rattle.s3_types.specs.Prelude.{list_all, starts_with, are_elements, is_element, is_key_path}
+use Rattle.words.proofs.Common.{list_all-append, and_parts, false≢true, le-leb, Decides-eqb, starts_is}
 use Rattle.words.specs.Parts.{parts_of, parts_from}
 use Rattle.words.proofs.Pieces.{parts_append}
-use Rattle.s3_types.specs.Names.{are_elements, is_element, is_key_path}
 use Rattle.path_keys.specs.Paths.{is_key, first_fault, below, relative_in}
 use Rattle.path_keys.proofs.Ends.{no_end}
 use Rattle.path_keys.proofs.Keys.{some_key, key_from}

@@ -1,12 +1,9 @@
 -- A text that ends without a `/`.
 use Rattle.std.proofs.Common.{◌≡◌, ◌≢◌, ℕ, suc, ◌<◌, ◌-◌, ◌&&◌, ◌==◌, nat_lt, Bool, true, false, List, [], ◌∷◌, ◌++◌, length, take, drop, get_or, slice_index, refl, sym, ap, ◌∙◌, arith}
-use Rattle.std.proofs.lemmas.Bool.{and_parts, eqb-true}
-use Rattle.std.proofs.lemmas.List.{take-append-drop}
-use Rattle.std.proofs.Math.ListN.{drop_of_length-le}
-use Rattle.std.proofs.Math.Seq.{drop-cons}
+use Rattle.words.proofs.Common.{and_parts, eqb-true, take-append-drop, drop_of_length-le, drop-cons}
+use Rattle.s3_types.specs.Prelude.{trimmed}
 use borrow.Author.Tests.{ltb-true}
 use Rattle.proof_base.proofs.Lists.{last_is}
-use Rattle.s3_types.specs.Names.{trimmed}
 
 pub no_end : (bs : List ℕ) → ((front : List ℕ) → bs ≢ front ++ 47 ∷ []) → bs ≡ trimmed bs
 no_end bs h = by (nat_lt 0 (length bs) && (slice_index bs (length bs - 1) == 47)) refl

@@ -1,10 +1,8 @@
 -- Faults of a key's elements.
 use Rattle.std.proofs.Common.{◌≡◌, ℕ, ◌==◌, ◌<◌, ◌≤◌, Bool, true, false, List, [], ◌∷◌, length, Option, Some, None, Ok, Err, if◌then◌else◌, refl, sym, ap, ◌∙◌, arith}
-use Rattle.std.specs.List.{list_all}
-use Rattle.std.specs.Option.{option_or}
+use Rattle.s3_types.specs.Prelude.{list_all, option_or, is_element}
 use Rattle.words.specs.Parts.{parts_of}
 use Rattle.words.proofs.Pieces.{join_parts}
-use Rattle.s3_types.specs.Names.{is_element}
 use Rattle.path_keys.specs.declared.fault.PathFault.{PathFault}
 use Rattle.path_keys.specs.declared.fault.PathFault.TheVariants.{EmptyElement, DotElement, TooLong}
 use Rattle.path_keys.specs.Paths.{first_fault, checked, key_of, is_key}

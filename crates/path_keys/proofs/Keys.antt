@@ -1,7 +1,7 @@
 -- What a path's key is.
 use Rattle.std.proofs.Common.{◌≡◌, ℕ, ◌<◌, ◌≤◌, nat_le, true, List, [], ◌∷◌, length, refl, arith}
-use Rattle.std.proofs.lemmas.Bool.{and_parts, leb-true, le-leb}
-use Rattle.s3_types.specs.Names.{are_elements}
+use Rattle.words.proofs.Common.{and_parts, leb-true, le-leb}
+use Rattle.s3_types.specs.Prelude.{are_elements}
 use Rattle.path_keys.specs.Paths.{is_key}
 
 -- a key that is not the root's has elements alone, and few bytes

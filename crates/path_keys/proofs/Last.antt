@@ -1,15 +1,12 @@
 -- A text cut at its last `/`.
 use Rattle.std.proofs.Common.{◌≡◌, ℕ, suc, ◌+◌, ◌==◌, true, List, [], ◌∷◌, ◌++◌, length, take, drop, refl, sym, ap, ◌∙◌, arith, length-append}
-use Rattle.std.specs.List.{list_all, join_with_byte}
+use Rattle.s3_types.specs.Prelude.{list_all, join_with_byte, is_other, are_elements, is_element}
+use Rattle.words.proofs.Common.{take-append-drop, list_all-append, and_parts}
 use Rattle.std.specs.Str.{NoCharPasses}
 use Rattle.std.specs.Str.Pattern.{RFindsChar, SplitsAroundMatch}
 use Rattle.std.proofs.lemmas.Str.Pattern.{drop_at_char, NoCharPasses-char}
-use Rattle.std.proofs.lemmas.List.{take-append-drop}
-use Rattle.std.proofs.lemmas.List.Folds.{list_all-append}
-use Rattle.std.proofs.lemmas.Bool.{and_parts}
-use Rattle.words.specs.Parts.{parts_of, is_other}
+use Rattle.words.specs.Parts.{parts_of}
 use Rattle.words.proofs.Pieces.{join_parts, parts_append, others_from_bytes, one_part}
-use Rattle.s3_types.specs.Names.{are_elements, is_element}
 use Rattle.path_keys.specs.Paths.{is_key, without_last}
 use Rattle.path_keys.proofs.Keys.{some_key, key_from}
 

@@ -1,11 +1,8 @@
 -- Paths `s3a://BUCKET/KEY` (Hadoop FileSystem specification, paths; Amazon S3, object key names).
 use Rattle.std.specs.Prelude.{ℕ, ◌==◌, ◌&&◌, nat_le, nat_eq, Bool, true, false, List, [], ◌∷◌, ◌++◌, length, drop, codes, Option, Some, None, Result, Ok, Err, if◌then◌else◌}
-use Rattle.std.specs.List.{starts_with, join_with_byte}
-use Rattle.std.specs.Option.{option_or}
+use Rattle.s3_types.specs.Prelude.{starts_with, join_with_byte, option_or, ◌>>=◌, need, are_elements, is_element, is_bucket, trimmed}
 use Rattle.proof_base.specs.Reading as reading
-use Rattle.proof_base.specs.Reading.{◌>>=◌, need}
 use Rattle.words.specs.Parts.{parts_of}
-use Rattle.s3_types.specs.Names.{are_elements, is_element, is_bucket, trimmed}
 use Rattle.path_keys.specs.declared.fault.PathFault.{PathFault}
 use Rattle.path_keys.specs.declared.fault.PathFault.TheVariants.{BadScheme, BadBucket, EmptyElement, DotElement, TooLong, NoMemory}
 

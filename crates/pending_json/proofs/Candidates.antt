@@ -1,11 +1,7 @@
 -- What a quick look makes of a text may be a record.
 use Rattle.std.proofs.Common.{◌≡◌, true, List, [], ◌∷◌, ◌++◌, length, leb, Some, refl, subst, ◌∙◌, ℕ}
-use Rattle.std.specs.List.{AllByRecursion, list_all}
-use Rattle.std.proofs.lemmas.List.Folds.{list_all-append}
-use Rattle.std.proofs.lemmas.Option.{cond_some}
-use Rattle.s3_types.specs.Tags.{Spelled, is_plain_tag}
-use Rattle.pending_json.specs.Fields.{is_count, is_tag_text, tag_of}
-use Rattle.pending_json.specs.Pending.{are_tags}
+use Rattle.pending_json.specs.Prelude.{AllByRecursion, list_all, Spelled, is_plain_tag, is_count, is_tag_text, tag_of, are_tags}
+use Rattle.proof_base.proofs.Common.{list_all-append, cond_some}
 use Rattle.pending_json.proofs.Values.{counted}
 
 -- one more of which P holds

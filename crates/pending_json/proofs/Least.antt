@@ -1,16 +1,13 @@
 -- The first name that a table has not is the least, where names rise.
 use Rattle.std.proofs.Common.{◌≡◌, ℕ, zero, suc, List, Bool, true, false, cond, Some, Result, Err, Ordering, Less, Equal, Greater, nat_cmp, true≢false, refl, sym, ap, subst, ◌∙◌}
 use Rattle.std.specs.Prelude.{⊤}
-use Rattle.std.specs.Ordering.{is_le}
-use Rattle.std.specs.Cmp.Lexicographic.{slice_cmp}
-use Rattle.serde_json.specs.Data.{Data, array, object, Items, no_items, item, Members, no_members, member}
-use Rattle.serde_json.specs.Find.{get, get_item, get_member}
+use Rattle.s3_types.specs.Prelude.{is_le}
+use Rattle.pending_json.specs.Prelude.{slice_cmp, Data, array, object, Items, no_items, item, Members, no_members, member, get_member, only_fields, is_field_of, Spell}
+use Rattle.serde_json.specs.Find.{get, get_item}
 use Rattle.pending_json.specs.declared.fault.RecordFault.{RecordFault}
 use Rattle.pending_json.specs.declared.fault.RecordFault.TheVariants.{ExtraField}
 use Rattle.pending_json.specs.declared.table.Table.{Table}
-use Rattle.pending_json.specs.Fields.{only_fields}
-use Rattle.pending_json.specs.Reading.{is_field_of}
-use Rattle.pending_json.specs.Records.{IsLeastOther, Spell}
+use Rattle.pending_json.specs.Records.{IsLeastOther}
 use Rattle.pending_json.proofs.Members.{Above, Rising, above_next, none_above, same, itself, turned, at_first, some_none}
 use Rattle.pending_json.proofs.Ordered.{Ordered, ItemsOrdered, tree_ordered, field_ordered}
 

@@ -1,19 +1,15 @@
 -- Members whose names rise by their bytes, each once.
 use Rattle.std.proofs.Common.{◌≡◌, ℕ, List, [], ◌∷◌, Bool, true, false, ◌||◌, ◌&&◌, cond, Some, None, Ok, Err, Ordering, Less, Equal, Greater, nat_cmp, is_eq, bytes_eq, true≢false, refl, sym, ap, ap₂, subst, ◌∙◌}
 use Rattle.std.specs.Prelude.{⊤}
-use Rattle.std.specs.List.{AllByRecursion}
-use Rattle.std.specs.Ordering.{match_ordering, ordering_reverse, is_lt}
-use Rattle.std.specs.Cmp.Lexicographic.{slice_cmp}
-use Rattle.std.proofs.lemmas.Bool.{and_parts}
+use Rattle.pending_json.specs.Prelude.{AllByRecursion, match_ordering, ordering_reverse, is_lt, slice_cmp, Data, null, boolean, number, string, array, object, Members, no_members, member, get_member, only_fields}
+use Rattle.proof_base.proofs.Common.{and_parts, bytes_eq-Decides}
 use Rattle.std.proofs.lemmas.Cmp.{nat_list_cmp_total, tied_itself}
 use Rattle.std.proofs.lemmas.Map.Text.{is_eq-slice_cmp}
-use Rattle.std.proofs.lemmas.Slice.Eq.{bytes_eq-Decides}
-use Rattle.serde_json.specs.Data.{Data, null, boolean, number, string, array, object, Members, no_members, member, put}
-use Rattle.serde_json.specs.Find.{get_member}
+use Rattle.serde_json.specs.Data.{put}
 use Rattle.proof_base.proofs.Less.{less_of}
 use Rattle.proof_base.proofs.Options.{some_is}
 use Rattle.pending_json.specs.declared.fault.RecordFault.TheVariants.{ExtraField}
-use Rattle.pending_json.specs.Fields.{is_one_of, only_fields}
+use Rattle.pending_json.specs.Fields.{is_one_of}
 
 -- every name is above this one
 abbrev pub Above : List ℕ → Members → Type 0

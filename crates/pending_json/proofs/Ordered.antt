@@ -1,15 +1,12 @@
 -- In a tree that serde_json reads, each object's names rise.
 use Rattle.std.proofs.Common.{◌≡◌, ℕ, List, Bool, true, false, cond, Option, Some, None, option_map, option_and_then, Ordering, Less, Equal, Greater, nat_cmp, refl, subst}
 use Rattle.std.specs.Prelude.{⊤}
-use Rattle.std.specs.Ordering.{match_ordering}
-use Rattle.std.specs.Cmp.Lexicographic.{slice_cmp}
-use Rattle.std.proofs.lemmas.Option.{option_and_then_some}
+use Rattle.pending_json.specs.Prelude.{match_ordering, slice_cmp, Data, null, boolean, number, string, array, object, Items, no_items, item, Members, no_members, member, of_json, of_items, max_depth, read, tokens, get_member, tree_read}
+use Rattle.proof_base.proofs.Common.{option_and_then_some}
 use Rattle.json.specs.Json as json
-use Rattle.serde_json.specs.Data.{Data, null, boolean, number, string, array, object, Items, no_items, item, Members, no_members, member, put}
-use Rattle.serde_json.specs.Read.{number_of, of_json, of_items, of_members, max_depth, read}
-use Rattle.json.specs.Lex.{tokens}
-use Rattle.serde_json.specs.Find.{get, get_member}
-use Rattle.pending_json.specs.Reading.{tree_read}
+use Rattle.serde_json.specs.Data.{put}
+use Rattle.serde_json.specs.Read.{number_of, of_members}
+use Rattle.serde_json.specs.Find.{get}
 use Rattle.pending_json.proofs.Members.{Rising, put_rising}
 
 abbrev mutual

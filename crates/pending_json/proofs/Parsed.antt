@@ -1,11 +1,8 @@
 -- What serde_json reads as a tree, and what it refuses.
 use Rattle.std.proofs.Common.{◌≡◌, ℕ, List, Bool, true, false, cond, Option, Some, None, Ok, Err, refl, ap}
-use Rattle.std.specs.Str.{IsUtf8, is_utf8}
-use Rattle.std.proofs.lemmas.Str.{IsUtf8-from_is_utf8, is_utf8-from_IsUtf8}
-use Rattle.serde_json.specs.Data.{Data}
-use Rattle.serde_json.specs.Read.{read}
+use Rattle.pending_json.specs.Prelude.{IsUtf8, is_utf8, Data, read, tree_read, parsed}
+use Rattle.proof_base.proofs.Common.{IsUtf8-from_is_utf8, is_utf8-from_IsUtf8}
 use Rattle.pending_json.specs.declared.fault.RecordFault.TheVariants.{NotJson}
-use Rattle.pending_json.specs.Reading.{tree_read, parsed}
 
 -- what is read of UTF-8 text
 pub tree_is : (bytes : List ℕ) (d : Data) → IsUtf8 bytes → read bytes ≡ Some d → tree_read bytes ≡ Some d

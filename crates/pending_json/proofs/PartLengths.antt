@@ -1,9 +1,7 @@
 -- Each part of a file is at most as long as the file.
 use Rattle.std.proofs.Common.{◌≡◌, ℕ, ◌+◌, ◌==◌, ◌<◌, ◌≤◌, ◌^◌, true, List, [], ◌∷◌, length, arith}
-use Rattle.std.specs.List.{AllByRecursion, sum}
-use Rattle.std.proofs.lemmas.Bool.{and_parts, eqb-true}
-use Rattle.std.proofs.lemmas.List.Sums.{sum_by-cons}
-use Rattle.pending_json.specs.Pending.{fit}
+use Rattle.pending_json.specs.Prelude.{AllByRecursion, sum, fit}
+use Rattle.proof_base.proofs.Common.{and_parts, eqb-true, sum_by-cons}
 
 -- the first and the others
 summed : (n : ℕ) (ns : List ℕ) → sum (n ∷ ns) ≡ n + sum ns

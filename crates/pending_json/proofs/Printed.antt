@@ -1,23 +1,19 @@
 -- What is printed of a tree of numbers and texts is read as that tree.
 use Rattle.std.proofs.Common.{◌≡◌, ℕ, ◌<◌, ◌≤◌, ◌^◌, [], ◌∷◌, ◌++◌, Bool, true, false, Some, option_and_then, decimal, refl, ap, sym, ◌∙◌}
 use Rattle.std.specs.Prelude.{⊤}
-use Rattle.std.specs.Str.{IsUtf8}
-use Rattle.std.proofs.lemmas.List.{append-nil}
-use Rattle.std.proofs.lemmas.Str.{IsUtf8-append, IsUtf8-from_ascii}
+use Rattle.pending_json.specs.Prelude.{IsUtf8, tokens, unsigned, Data, null, boolean, number, string, array, object, Items, no_items, item, Members, no_members, member, of_json, max_depth, outline, items_outline, compact_text, tree_read}
+use Rattle.proof_base.proofs.Common.{append-nil, IsUtf8-append, IsUtf8-from_ascii}
 use Rattle.std.proofs.lemmas.Fmt.{IsAscii-decimal}
 use Rattle.json.specs.Json as js
-use Rattle.json.specs.Lex.{tokens}
 use Rattle.json.specs.Print.{quoted}
 use Rattle.json.specs.Tree as tr
 use Rattle.json.proofs.Printed.Decimals.{IsNumber-decimal}
 use Rattle.json.proofs.Printed.Tokens.{tokens-print}
 use Rattle.json.proofs.Printed.Trees.{value-json_tokens, ArePrintable-json_tokens}
 use Rattle.json.proofs.Printed.Utf8.{IsUtf8-quoted, IsUtf8-are_ascii}
-use Rattle.serde_json.specs.Data.{unsigned, negative, float, Data, null, boolean, number, string, array, object, Items, no_items, item, Members, no_members, member}
-use Rattle.serde_json.specs.Read.{of_json, max_depth}
-use Rattle.serde_json.specs.Written.{outline, items_outline, members_outline, compact_text, items_text, members_text, comma_if}
+use Rattle.serde_json.specs.Data.{negative, float}
+use Rattle.serde_json.specs.Written.{members_outline, items_text, members_text, comma_if}
 use Rattle.serde_json.proofs.Texts.{print-outline}
-use Rattle.pending_json.specs.Reading.{tree_read}
 use Rattle.pending_json.proofs.Parsed.{tree_is}
 
 -- whole numbers of 64 bits and texts alone

@@ -1,23 +1,16 @@
 -- What is read is the one tree of its value, and the tree of a value is read as that value.
 use Rattle.std.proofs.Common.{◌≡◌, ℕ, ◌^◌, true, List, [], ◌∷◌, map, length, Option, Some, None, is_some, option_map, Result, Ok, Err, codes, refl, sym, ap, ap₂, subst, ◌∙◌}
-use Rattle.std.specs.List.{AllByRecursion}
-use Rattle.std.proofs.lemmas.Bool.{lt-ltb}
-use Rattle.proof_base.specs.Reading.{◌>>=◌}
+use Rattle.pending_json.specs.Prelude.{AllByRecursion, ◌>>=◌, Data, string, array, object, Items, no_items, item, Members, no_members, member, get_member, as_str, as_array, as_object, items_of, is_bucket, is_key, Pending, are_sizes, field, of_kind, as_whole, as_u32, as_word, as_bucket, as_key, as_committer, as_texts, as_tags, sizes_in, members_in, only_fields, is_field_of, tree_read, parsed, IsPending, IsSet, Spell, whole, wholes, version_of, texts, tag_digits, committer_word, with_stamp, pending_tree, set_tree, success_tree}
+use Rattle.proof_base.proofs.Common.{lt-ltb}
 use Rattle.proof_base.proofs.Reading.{parted, same_ok, needed}
-use Rattle.serde_json.specs.Data.{Data, string, array, object, Items, no_items, item, Members, no_members, member}
-use Rattle.serde_json.specs.Find.{get, get_member, as_str, as_array, as_object}
-use Rattle.serde_json.specs.View.{items_of}
-use Rattle.s3_types.specs.Names.{is_bucket, is_key}
+use Rattle.serde_json.specs.Find.{get}
 use Rattle.pending_json.specs.declared.fault.RecordFault.{RecordFault}
 use Rattle.pending_json.specs.declared.fault.RecordFault.TheVariants.{NotJson}
 use Rattle.pending_json.specs.declared.table.Table.TheVariants as tables
 use Rattle.pending_json.specs.declared.records.PendingSet.{PendingSet}
 use Rattle.pending_json.specs.declared.records.SuccessMark.{SuccessMark}
-use Rattle.pending_json.specs.Pending.{Pending, are_sizes}
-use Rattle.pending_json.specs.Fields.{field, of_kind, of_kind_if, as_whole, as_u32, as_word, as_bucket, as_key, as_committer, as_texts, as_tags, sizes_in, members_in, version_in, is_sized, only_fields}
-use Rattle.pending_json.specs.Reading.{field_names, is_field_of, pending_table, pending_in, pendings_in, set_in, success_in, tree_read, parsed, pending_of, set_of, success_of}
-use Rattle.pending_json.specs.Records.{IsPending, IsSet, Spell}
-use Rattle.pending_json.specs.Trees.{whole, wholes, version_of, texts, tag_digits, committer_word, with_stamp, pending_tree, set_tree, success_tree}
+use Rattle.pending_json.specs.Fields.{of_kind_if, version_in, is_sized}
+use Rattle.pending_json.specs.Reading.{field_names, pending_table, pending_in, pendings_in, set_in, success_in, pending_of, set_of, success_of}
 use Rattle.pending_json.proofs.Members.{Rising, one_table, rising_by, inside}
 use Rattle.pending_json.proofs.Ordered.{Ordered, ItemsOrdered, field_ordered, tree_ordered}
 use Rattle.pending_json.proofs.Values.{of_kind_ok, field_ok, is_number, is_string, is_array, is_an_object, is_u32, is_word, is_kept, is_committer, is_tags, is_texts, tags_again, sizes_again, texts_again, committer_again, version_ok, sized_ok, sizes_ok}

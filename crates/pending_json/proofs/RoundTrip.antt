@@ -1,27 +1,16 @@
 -- What is printed of a record is read as that record.
 use Rattle.std.proofs.Common.{◌≡◌, ℕ, ◌<◌, ◌≤◌, ◌^◌, lit≤, lit<, List, [], ◌∷◌, map, true, Option, Some, None, is_some, length, Ok, codes, refl, sym, subst, arith}
-use Rattle.std.specs.List.{AllByRecursion, list_all}
-use Rattle.std.specs.Str.{IsUtf8, is_utf8}
-use Rattle.std.proofs.lemmas.Bool.{and_parts}
-use Rattle.std.proofs.lemmas.Str.{IsUtf8-from_is_utf8}
+use Rattle.pending_json.specs.Prelude.{AllByRecursion, list_all, IsUtf8, is_utf8, no_members, member, Members, of_json, of_items, max_depth, items_of, outline, items_outline, compact_text, Spelled, is_plain_tag, Committer, Magic, Directory, Partitioned, is_count, Pending, are_sizes, IsPending, IsSet, whole, wholes, version_of, texts, tag_digits, committer_word, with_stamp, pending_tree, set_tree, success_tree}
+use Rattle.proof_base.proofs.Common.{and_parts, IsUtf8-from_is_utf8}
 use Rattle.json.specs.Tree as tr
 use Rattle.json.proofs.Printed.Utf8.{IsUtf8-are_ascii, are_ascii}
-use Rattle.serde_json.specs.Data.{no_members, member, Members}
-use Rattle.serde_json.specs.Read.{of_json, of_items, max_depth}
-use Rattle.serde_json.specs.View.{items_of}
-use Rattle.serde_json.specs.Written.{outline, items_outline, compact_text}
 use Rattle.serde_json.proofs.Numbers.{number_of-decimal}
-use Rattle.s3_types.specs.Tags.{Spelled, is_plain_tag}
-use Rattle.s3_types.specs.declared.request.Committer.{Committer}
-use Rattle.s3_types.specs.declared.request.Committer.TheVariants.{Magic, Directory, Partitioned}
 use Rattle.s3_types.proofs.Utf8.{bucket_utf8, hex_utf8}
 use Rattle.pending_json.specs.declared.records.PendingSet.{PendingSet}
 use Rattle.pending_json.specs.declared.records.SuccessMark.{SuccessMark}
-use Rattle.pending_json.specs.Fields.{is_count}
-use Rattle.pending_json.specs.Pending.{Pending, are_sizes}
 use Rattle.pending_json.specs.Reading.{pending_of, set_of, success_of}
-use Rattle.pending_json.specs.Records.{IsPending, IsSet, IsMark, IsStamp}
-use Rattle.pending_json.specs.Trees.{whole, wholes, with_sizes, version_of, texts, tag_digits, committer_word, with_stamp, pending_tree, set_tree, success_tree}
+use Rattle.pending_json.specs.Records.{IsMark, IsStamp}
+use Rattle.pending_json.specs.Trees.{with_sizes}
 use Rattle.pending_json.proofs.Printed.{Plain, PlainItems, PlainMembers, printed_is_read}
 use Rattle.pending_json.proofs.Relations.{pending_only, set_only, success_only}
 use Rattle.pending_json.proofs.PartLengths.{each_below}

@@ -1,22 +1,13 @@
 -- What a value of a kind is, and that it is read as such.
 use Rattle.std.proofs.Common.{◌≡◌, ℕ, ◌<◌, ◌==◌, ltb, leb, ◌^◌, Bool, true, false, ◌&&◌, cond, List, [], ◌∷◌, map, length, Option, Some, None, is_some, option_map, option_and_then, Result, Ok, Err, codes, bytes_eq, refl, sym, ap, ap₂, subst, ◌∙◌}
-use Rattle.std.specs.List.{list_all}
-use Rattle.std.proofs.lemmas.Bool.{ltb-true, and_parts, eqb-true}
-use Rattle.std.proofs.lemmas.Option.{cond_some, option_and_then_some}
-use Rattle.std.proofs.lemmas.Slice.Eq.{bytes_eq-Decides}
+use Rattle.pending_json.specs.Prelude.{list_all, unsigned, Data, number, string, array, object, Items, no_items, item, Members, as_str, as_array, as_object, items_of, Spelled, is_plain_tag, Committer, Magic, Directory, Partitioned, of_kind, field, as_whole, as_u32, as_word, as_committer, all_of, as_texts, is_tag_text, tag_of, as_tag, is_count, as_tags, sizes_in, are_tags, fit, whole, wholes, version_of, texts, tag_digits, committer_word}
+use Rattle.proof_base.proofs.Common.{ltb-true, and_parts, eqb-true, cond_some, option_and_then_some, bytes_eq-Decides}
 use Rattle.proof_base.proofs.Options.{some_is}
 use Rattle.proof_base.proofs.Reading.{parted, passed, same_ok}
-use Rattle.serde_json.specs.Data.{unsigned, Data, number, string, array, object, Items, no_items, item, Members}
-use Rattle.serde_json.specs.Find.{get, as_str, as_array, as_object}
-use Rattle.serde_json.specs.View.{items_of}
-use Rattle.s3_types.specs.Tags.{Spelled, is_plain_tag}
-use Rattle.s3_types.specs.declared.request.Committer.{Committer}
-use Rattle.s3_types.specs.declared.request.Committer.TheVariants.{Magic, Directory, Partitioned}
+use Rattle.serde_json.specs.Find.{get}
 use Rattle.pending_json.specs.declared.fault.RecordFault.{RecordFault}
 use Rattle.pending_json.specs.declared.fault.RecordFault.TheVariants.{WrongVersion}
-use Rattle.pending_json.specs.Fields.{of_kind, present, field, kept, as_whole, as_u32, as_word, committer_of, as_committer, all_of, as_texts, is_tag_text, tag_of, as_tag, is_count, as_tags, as_sizes, version_in, is_sized, sizes_in}
-use Rattle.pending_json.specs.Pending.{are_tags, fit}
-use Rattle.pending_json.specs.Trees.{whole, wholes, version_of, texts, tag_digits, committer_word}
+use Rattle.pending_json.specs.Fields.{present, kept, committer_of, as_sizes, version_in, is_sized}
 
 -- ---- steps that gave something
 

@@ -1,9 +1,7 @@
 -- A record that is read in groups of fields is what reading it whole gives.
 use Rattle.std.proofs.Common.{◌≡◌, length, Result, Ok, Err, codes, refl, ◌∙◌}
-use Rattle.proof_base.specs.Reading.{◌>>=◌}
-use Rattle.serde_json.specs.Data.{Data}
-use Rattle.serde_json.specs.Find.{as_str, as_array}
-use Rattle.pending_json.specs.Fields.{field, as_whole, as_u32, as_word, as_bucket, as_key, as_tags, sizes_in, members_in, version_in, is_sized}
+use Rattle.pending_json.specs.Prelude.{◌>>=◌, Data, as_str, as_array, field, as_whole, as_u32, as_word, as_bucket, as_key, as_tags, sizes_in, members_in}
+use Rattle.pending_json.specs.Fields.{version_in, is_sized}
 use Rattle.pending_json.specs.Groups.{target_in, parts_in, numbers_in, pending_by, attempt_in, commits_in, task_in, set_by}
 use Rattle.pending_json.specs.Reading.{pending_in, pendings_in, set_in}
 

@@ -1,11 +1,8 @@
 -- The fields of a JSON object and their kinds.
 use Rattle.std.specs.Prelude.{ℕ, ◌^◌, ◌==◌, ◌&&◌, nat_lt, nat_le, List, [], ◌∷◌, length, Bool, true, false, Option, Some, None, Result, Ok, Err, option_map, option_and_then, codes, bytes_eq, if◌then◌else◌, ⊤}
-use Rattle.std.specs.List.{list_all, list_any}
-use Rattle.proof_base.specs.Reading.{◌>>=◌}
+use Rattle.s3_types.specs.Prelude.{list_all, list_any, ◌>>=◌, is_bucket, is_key, Spelled, is_hex}
 use Rattle.serde_json.specs.Data.{Data, Items, no_items, item, Members, no_members, member}
 use Rattle.serde_json.specs.Find.{get, as_number, as_u64, as_str, as_array, as_object}
-use Rattle.s3_types.specs.Names.{is_bucket, is_key}
-use Rattle.s3_types.specs.Tags.{Spelled, is_hex}
 use Rattle.s3_types.specs.declared.limits.TheConstants.{MOST_PARTS}
 use Rattle.s3_types.specs.declared.request.Committer.{Committer}
 use Rattle.s3_types.specs.declared.request.Committer.TheVariants.{Magic, Directory, Partitioned}

@@ -6,3 +6,4 @@ pub mod Reading
 pub mod Records
 pub mod Trees
 pub mod Sending
+pub mod Prelude

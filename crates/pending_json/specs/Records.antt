@@ -1,12 +1,8 @@
 -- What records may hold, and what bytes spell one.
 use Rattle.std.specs.Prelude.{◌≡◌, ℕ, ◌<◌, ◌^◌, List, Option, Some, None, true, false, ⊤}
-use Rattle.std.specs.List.{AllByRecursion}
-use Rattle.std.specs.Ordering.{is_le}
-use Rattle.std.specs.Str.{is_utf8}
+use Rattle.s3_types.specs.Prelude.{AllByRecursion, is_le, is_utf8, text_cmp, is_bucket, is_key}
 use Rattle.serde_json.specs.Data.{Data}
 use Rattle.serde_json.specs.Find.{get}
-use Rattle.proof_base.specs.Order.{text_cmp}
-use Rattle.s3_types.specs.Names.{is_bucket, is_key}
 use Rattle.pending_json.specs.declared.table.Table.{Table}
 use Rattle.pending_json.specs.declared.records.PendingSet.{PendingSet}
 use Rattle.pending_json.specs.declared.records.SuccessMark.{SuccessMark}

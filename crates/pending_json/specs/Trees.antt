@@ -1,8 +1,8 @@
 -- The records as JSON, each object's members in the byte order of their names (Hadoop, S3A committer architecture).
 use Rattle.std.specs.Prelude.{ℕ, Bool, true, false, List, map, codes, Option, Some, None, is_some}
+use Rattle.s3_types.specs.Prelude.{Spelled}
 use Rattle.serde_json.specs.Data.{unsigned, Data, number, string, array, object, Items, Members, no_members, member}
 use Rattle.serde_json.specs.View.{items_of}
-use Rattle.s3_types.specs.Tags.{Spelled}
 use Rattle.s3_types.specs.declared.request.Committer.{Committer}
 use Rattle.s3_types.specs.declared.request.Committer.TheVariants.{Magic, Directory, Partitioned}
 use Rattle.pending_json.specs.Pending.{Pending}

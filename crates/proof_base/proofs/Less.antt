@@ -1,10 +1,7 @@
 -- A total order by the test whether one is less than another.
 use Rattle.std.proofs.Common.{◌≡◌, Bool, true, false, not, refl, sym, ap, ◌∙◌}
+use Rattle.proof_base.specs.Prelude.{Ordering, Less, Equal, Greater, is_lt, is_le, is_gt, ordering_reverse, IsTotalOrder}
 use Rattle.std.proofs.lemmas.Bool.{false≢true}
-use Rattle.std.specs.declared.cmp.Ordering.{Ordering}
-use Rattle.std.specs.declared.cmp.Ordering.TheVariants.{Less, Equal, Greater}
-use Rattle.std.specs.Ordering.{is_lt, is_le, is_gt, ordering_reverse}
-use Rattle.std.specs.Cmp.{IsTotalOrder}
 use Rattle.proof_base.proofs.Bools.{contrary}
 
 turned : (r : Ordering) → is_lt (ordering_reverse r) ≡ is_gt r

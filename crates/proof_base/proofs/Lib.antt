@@ -10,3 +10,4 @@ pub mod Tree
 pub mod Viewed
 pub mod Bytes
 pub mod Members
+pub mod Common

@@ -1,13 +1,8 @@
 -- What is one of a list, texts and numbers that are the same or not, and maps at a key.
 use Rattle.std.proofs.Common.{◌≡◌, ℕ, ◌⊎◌, inl, inr, nat_eq, Bool, true, false, cond, List, [], ◌∷◌, ◌++◌, map, Option, Some, None, refl, sym, ap, subst, ◌∙◌, arith}
-use Rattle.std.specs.List.{filter}
-use Rattle.std.specs.Ordering.{eq_by_cmp, nat_cmp}
-use Rattle.std.specs.Cmp.{nat_cmp_total}
-use Rattle.std.specs.FinMap.{FinMap, insert, remove, get, get-insert, get-remove, slice_cmp-IsAntisymmetric, nat_cmp-IsAntisymmetric, IsAntisymmetric}
+use Rattle.proof_base.specs.Prelude.{filter, eq_by_cmp, nat_cmp, nat_cmp_total, FinMap, insert, remove, get, get-insert, get-remove, slice_cmp-IsAntisymmetric, nat_cmp-IsAntisymmetric, IsAntisymmetric, text_cmp, text_eq, text_equiv, text_ties, text_total, IsIn}
 use Rattle.std.proofs.lemmas.Bool.Decides.{nat_tests}
-use Rattle.proof_base.specs.Order.{text_cmp, text_eq, text_equiv, text_ties, text_total}
 use Rattle.proof_base.proofs.Tree.{tied}
-use Rattle.proof_base.specs.Members.{IsIn}
 
 -- ---- plain facts
 

@@ -1,14 +1,9 @@
 -- The entries whose keys are greater than one of them.
 use Rattle.std.proofs.Common.{◌≡◌, Bool, true, false, List, [], ◌∷◌, refl, sym, ap, ◌∙◌, subst, cond}
+use Rattle.proof_base.specs.Prelude.{Ordering, Less, is_lt, IsTotalOrder, filter, AllByRecursion, keys_of}
 use Rattle.std.proofs.lemmas.Bool.{false≢true}
 use Rattle.std.proofs.lemmas.Map.Keys.{sorted_head, sorted_tail}
-use Rattle.std.specs.declared.cmp.Ordering.{Ordering}
-use Rattle.std.specs.declared.cmp.Ordering.TheVariants.{Less}
-use Rattle.std.specs.Ordering.{is_lt}
-use Rattle.std.specs.Cmp.{IsTotalOrder}
-use Rattle.std.specs.List.{filter, AllByRecursion}
 use Rattle.std.specs.List.Sorted.{IsStrictlySortedBy}
-use Rattle.std.specs.Map.{keys_of}
 use Rattle.proof_base.proofs.Less.{lt, irrefl, lt_trans}
 
 by_bool : (b : Bool) {G : Type 0} → (b ≡ true → G) → (b ≡ false → G) → G

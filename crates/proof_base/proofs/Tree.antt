@@ -1,15 +1,7 @@
 -- A `BTreeMap`'s entries seen as a finite map.
 use Rattle.std.proofs.Common.{◌≡◌, ℕ, Bool, List, [], ◌∷◌, Option, Some, None, refl, sym, ap, ◌∙◌, cond, length, arith, true, false, T, ◌&&◌}
-use Rattle.std.specs.FinMap.{FinMap, from_entries, insert, remove, get, entries, len, get-from_entries, get-insert, get-remove, same_map, entries-insert, len-entries, len-empty, empty, entries_sorted}
-use Rattle.std.specs.FinMap.Entries.{find, put, by_order, below_all, is_sorted}
-use Rattle.std.specs.Ordering.{eq_by_cmp, is_eq, is_lt}
-use Rattle.std.specs.declared.cmp.Ordering.{Ordering}
-use Rattle.std.specs.declared.cmp.Ordering.TheVariants.{Less, Equal, Greater}
-use Rattle.std.specs.Cmp.{IsTotalOrder, eq_by_cmp_equiv}
-use Rattle.std.specs.BTreeMap.{is_at}
-use Rattle.std.specs.Map.{lookup, keys_of}
-use Rattle.std.specs.List.{AllByRecursion, filter, slice_get}
-use Rattle.std.specs.Option.{option_map}
+use Rattle.proof_base.specs.Prelude.{FinMap, from_entries, insert, remove, get, entries, len, get-from_entries, get-insert, get-remove, same_map, entries-insert, len-entries, empty, entries_sorted, find, put, by_order, below_all, is_sorted, eq_by_cmp, is_eq, is_lt, Ordering, Less, Equal, Greater, IsTotalOrder, eq_by_cmp_equiv, is_at, lookup, keys_of, AllByRecursion, filter, slice_get, option_map}
+use Rattle.std.specs.FinMap.{len-empty}
 use Rattle.std.specs.Map.Iter.{TakesFirst}
 use Rattle.std.specs.List.Sorted.{IsStrictlySortedBy}
 use Rattle.std.proofs.lemmas.Map.Keys.{sorted_head, sorted_tail}

@@ -1,14 +1,6 @@
 -- A `BTreeMap`'s entries as a finite map, where each value is seen as another.
 use Rattle.std.proofs.Common.{◌≡◌, Bool, true, false, List, [], ◌∷◌, Option, Some, None, refl, sym, ap, ◌∙◌, subst, cond, length, map}
-use Rattle.std.specs.FinMap.{from_entries, insert, remove, get, entries, len}
-use Rattle.std.specs.declared.cmp.Ordering.{Ordering}
-use Rattle.std.specs.Cmp.{IsTotalOrder}
-use Rattle.std.specs.BTreeMap.{is_at}
-use Rattle.std.specs.BTreeMap.Range.{range_contains, entries_between}
-use Rattle.std.specs.declared.ops.Bound.{Bound}
-use Rattle.std.specs.Map.{lookup, keys_of}
-use Rattle.std.specs.List.{filter, slice_get}
-use Rattle.std.specs.Option.{option_map}
+use Rattle.proof_base.specs.Prelude.{from_entries, insert, remove, get, entries, len, Ordering, IsTotalOrder, is_at, range_contains, entries_between, Bound, lookup, keys_of, filter, slice_get, option_map}
 use Rattle.std.specs.List.Sorted.{IsStrictlySortedBy}
 use Rattle.std.proofs.lemmas.List.{length-map}
 use Rattle.std.proofs.lemmas.Map.Made.{lookup-map_values, keys_of-map_values}

@@ -1,14 +1,8 @@
 -- the first request that wore out: there is one answer, it is computed, and a counter of one request at a time finds it
 use Rattle.std.proofs.Common.{◌≡◌, ℕ, ◌+◌, ◌<◌, ◌&&◌, ◌||◌, not, zero, suc, refl, ap, sym, subst, ◌∙◌, inl, inr, Bool, true, false, cond, nat_lt, arith, List, [], ◌∷◌, ◌++◌, Option, Some, None, is_some, append_assoc, append-nil}
-use Rattle.std.proofs.lemmas.Bool.Decides.{nat_tests}
-use Rattle.s3_types.specs.declared.request.Request.{Request}
-use Rattle.s3_types.specs.declared.journal.Outcome.{Outcome}
-use Rattle.s3_types.specs.declared.journal.Outcome.TheVariants.{Answered, Slow, RequestLost, ReplyLost}
-use Rattle.s3_types.specs.declared.journal.Entry.{Entry}
-use Rattle.retries.specs.Same.{same_request}
-use Rattle.retries.specs.Operation.{Follows}
-use Rattle.retries.specs.Retries.{Item, Retried, wants_of, fresh, step, wears, unanswered_by, is_zero, has_worn, worn_in, Counting, spent_in}
-use Rattle.retries.specs.Worn.{was_answered, streak, IsWorn, NoneWorn, IsFirstWorn, WornFirst, first_worn_after}
+use Rattle.proof_base.proofs.Common.{nat_tests}
+use Rattle.retries.specs.Prelude.{Request, Outcome, Answered, Slow, RequestLost, ReplyLost, Entry, same_request, Follows, Item, Retried, wants_of, fresh, step, wears, unanswered_by, is_zero, has_worn, worn_in, Counting, spent_in, was_answered, streak, IsWorn, NoneWorn, IsFirstWorn, WornFirst}
+use Rattle.retries.specs.Worn.{first_worn_after}
 use Rattle.retries.proofs.Lists.{parted, true_or_false, false_true}
 use Rattle.retries.proofs.SameRequest.{same_is, same_self}
 use Rattle.retries.proofs.Misses.{streak_same, streak_other, worn_now, worn_more, worn_grows}

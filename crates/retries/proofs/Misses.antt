@@ -1,10 +1,8 @@
 -- the count of the last misses, and somewhere a row of them
 use Rattle.std.proofs.Common.{◌≡◌, ℕ, ◌+◌, ◌-◌, ◌<◌, ◌≤◌, zero, suc, Some, refl, ap, sym, subst, ◌∙◌, ◌⊎◌, inl, inr, Bool, true, false, cond, arith, List, [], ◌∷◌, ◌++◌, length, slice_get, length-append, append-nil}
-use Rattle.std.proofs.lemmas.Option.{slice_get_within}
-use Rattle.s3_types.specs.declared.request.Request.{Request}
-use Rattle.s3_types.specs.declared.journal.Entry.{Entry}
-use Rattle.retries.specs.Same.{same_request}
-use Rattle.retries.specs.Worn.{answers, was_answered, IsWorn, trail, streak}
+use Rattle.proof_base.proofs.Common.{slice_get_within}
+use Rattle.retries.specs.Prelude.{Request, Entry, same_request, answers, was_answered, IsWorn, streak}
+use Rattle.retries.specs.Worn.{trail}
 use Rattle.retries.proofs.Lists.{get_left, get_before}
 
 -- ---- lists of answers

@@ -1,10 +1,6 @@
 -- operations that go on by one sending
 use Rattle.std.proofs.Common.{◌≡◌, ℕ, zero, suc, ◌||◌, refl, ap, ◌∙◌, Bool, true, false, List, [], ◌∷◌, ◌++◌, take, Option, Some}
-use Rattle.s3_types.specs.declared.request.Request.{Request}
-use Rattle.s3_types.specs.declared.journal.Outcome.{Outcome}
-use Rattle.s3_types.specs.declared.journal.Entry.{Entry}
-use Rattle.retries.specs.Operation.{run, Follows}
-use Rattle.retries.specs.Retries.{Item, Retried, step, wears, has_worn}
+use Rattle.retries.specs.Prelude.{Request, Outcome, Entry, run, Follows, Item, Retried, step, wears, has_worn}
 
 pub run_more : {M : Type 0} (tells : M → Outcome → M) (m : M) (part : List Entry) (e : Entry) → run tells m (part ++ e ∷ []) ≡ tells (run tells m part) e.outcome
 run_more tells m [] e = refl

@@ -1,14 +1,8 @@
 -- requests that are the same by the test are equal
 use Rattle.std.proofs.Common.{◌≡◌, ℕ, refl, ap, ◌∙◌, Bool, true, false, nat_eq, ◌&&◌, arith, List, [], ◌∷◌, Option, Some, None}
-use Rattle.std.proofs.lemmas.Bool.Decides.{nat_tests}
-use Rattle.std.specs.Cmp.Lexicographic.{bytes_decides}
-use Rattle.proof_base.specs.Order.{text_eq}
-use Rattle.s3_types.specs.Tags.{Spelled}
-use Rattle.s3_types.specs.declared.request.NamedPart.{NamedPart}
-use Rattle.s3_types.specs.declared.request.UploadRef.{UploadRef}
-use Rattle.s3_types.specs.declared.request.Request.{Request}
-use Rattle.s3_types.specs.declared.request.Request.TheVariants.{MakeBucket, PutObject, GetObject, HeadObject, DeleteObject, DeleteObjects, CopyObject, ListPage, CreateUpload, UploadPart, CompleteUpload, AbortUpload, ListParts, ListUploads, ClusterPut, ClusterRename, ClusterGet, ClusterDelete, ClusterList}
-use Rattle.retries.specs.Same.{same_list, same_option, same_bool, same_part, same_ref, same_request}
+use Rattle.proof_base.proofs.Common.{nat_tests}
+use Rattle.retries.specs.Prelude.{bytes_decides, text_eq, Spelled, NamedPart, UploadRef, Request, MakeBucket, PutObject, GetObject, HeadObject, DeleteObject, DeleteObjects, CopyObject, ListPage, CreateUpload, UploadPart, CompleteUpload, AbortUpload, ListParts, ListUploads, ClusterPut, ClusterRename, ClusterGet, ClusterDelete, ClusterList, same_request}
+use Rattle.retries.specs.Same.{same_list, same_option, same_bool, same_part, same_ref}
 use Rattle.retries.proofs.Lists.{false_true}
 
 number_is : (a b : ℕ) → nat_eq a b ≡ true → a ≡ b

@@ -3,3 +3,4 @@ pub mod Operation
 pub mod Worn
 pub mod Retries
 pub mod Laws
+pub mod Prelude

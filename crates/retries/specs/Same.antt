@@ -1,6 +1,6 @@
 -- Whether two requests are the very same.
 use Rattle.std.specs.Prelude.{◌&&◌, nat_eq, Bool, true, false, List, [], ◌∷◌, Option, Some, None}
-use Rattle.proof_base.specs.Order.{text_eq}
+use Rattle.s3_types.specs.Prelude.{text_eq}
 use Rattle.s3_types.specs.declared.request.NamedPart.{NamedPart}
 use Rattle.s3_types.specs.declared.request.UploadRef.{UploadRef}
 use Rattle.s3_types.specs.declared.request.Request.{Request}

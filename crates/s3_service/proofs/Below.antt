@@ -1,15 +1,8 @@
 -- The ids of all uploads are below the next id.
 use Rattle.std.proofs.Common.{◌≡◌, ℕ, ◌≤◌, ◌+◌, Bool, true, false, cond, List, Option, Some, None, refl, sym, ap, ◌∙◌, subst, arith}
 use Rattle.std.specs.Prelude.{Result, Ok, Err}
-use Rattle.std.specs.Option.{IsSomeAnd}
-use Rattle.std.specs.FinMap.{insert, remove, get, empty, get-empty, get-insert, get-remove}
-use Rattle.std.specs.Ordering.{eq_by_cmp, nat_cmp}
-use Rattle.std.specs.Cmp.{nat_cmp_total}
-use Rattle.std.proofs.lemmas.Bool.Decides.{nat_tests}
-use Rattle.proof_base.specs.Order.{text_cmp, text_total}
-use Rattle.s3_types.specs.Store.{Objects, Upload, Uploads, BucketContent, Buckets, new_bucket}
-use Rattle.s3_types.specs.Multipart.{live, with_key, joined, is_part_number, with_part}
-use Rattle.s3_types.specs.Answer.{apply_in, completed, part_put, aborted, draws}
+use Rattle.s3_types.specs.Prelude.{IsSomeAnd, insert, remove, get, empty, get-empty, get-insert, get-remove, eq_by_cmp, nat_cmp, nat_cmp_total, text_cmp, text_total, Objects, Upload, Uploads, BucketContent, Buckets, new_bucket, live, with_key, joined, is_part_number, with_part, apply_in, completed, part_put, aborted, draws}
+use Rattle.proof_base.proofs.Common.{nat_tests}
 use Rattle.s3_types.specs.declared.reply.Refusal.{Refusal}
 use Rattle.s3_types.specs.declared.request.Request.{Request}
 use Rattle.s3_types.specs.declared.request.Request.TheVariants.{MakeBucket, PutObject, GetObject, HeadObject, DeleteObject, DeleteObjects, CopyObject, ListPage, CreateUpload, UploadPart, CompleteUpload, AbortUpload, ListParts, ListUploads, ClusterPut, ClusterRename, ClusterGet, ClusterDelete, ClusterList}

@@ -1,14 +1,10 @@
 -- The buckets in turn.
 use Rattle.std.proofs.Common.{◌≡◌, ℕ, List, [], ◌∷◌, Option, Some, None, refl, sym, ap, ◌∙◌, subst}
-use Rattle.std.specs.List.{slice_get, filter}
+use Rattle.s3_types.specs.Prelude.{slice_get, filter, keys_of, is_lt, text_cmp, text_total, BucketContent, Buckets}
 use Rattle.std.specs.List.Sorted.{IsStrictlySortedBy}
 use Rattle.std.specs.FinMap as fin
-use Rattle.std.specs.Map.{keys_of}
-use Rattle.std.specs.Ordering.{is_lt}
-use Rattle.proof_base.specs.Order.{text_cmp, text_total}
 use Rattle.proof_base.proofs.Rest.{after_first, after_found}
 use Rattle.proof_base.proofs.Tree.{map_sorted}
-use Rattle.s3_types.specs.Store.{BucketContent, Buckets}
 use Rattle.s3_service.specs.Next.{rest_of, next_of, IsNext}
 
 -- what comes next is followed by the rest after it

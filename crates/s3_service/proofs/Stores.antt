@@ -1,9 +1,8 @@
 -- A request that names a bucket.
 use Rattle.std.proofs.Common.{◌≡◌, ℕ, List, Some, refl, sym, ap, ◌∙◌}
-use Rattle.std.specs.FinMap.{get}
+use Rattle.s3_types.specs.Prelude.{get, Content, apply_store, answer_at, apply_at, bucket_of}
 use Rattle.proof_base.proofs.Options.{some_is}
-use Rattle.s3_types.specs.Store.{Content}
-use Rattle.s3_types.specs.Answer.{answer_store, apply_store, answer_at, apply_at, bucket_of}
+use Rattle.s3_types.specs.Answer.{answer_store}
 use Rattle.s3_types.specs.declared.request.Request.{Request}
 use Rattle.s3_types.specs.declared.request.Request.TheVariants.{MakeBucket, PutObject, GetObject, HeadObject, DeleteObject, DeleteObjects, CopyObject, ListPage, CreateUpload, UploadPart, CompleteUpload, AbortUpload, ListParts, ListUploads, ClusterPut, ClusterRename, ClusterGet, ClusterDelete, ClusterList}
 use Rattle.s3_service.specs.Named.{named}

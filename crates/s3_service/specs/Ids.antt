@@ -1,7 +1,7 @@
 -- The ids of uploads are below the next one.
 use Rattle.std.specs.Prelude.{◌≡◌, ℕ, ◌≤◌, List, Some, None}
+use Rattle.s3_types.specs.Prelude.{Uploads, BucketContent, Buckets}
 use Rattle.std.specs.FinMap as fin
-use Rattle.s3_types.specs.Store.{Uploads, BucketContent, Buckets}
 
 -- no upload has an id from n on
 abbrev pub IsFresh : Uploads → ℕ → Type 0

@@ -1,10 +1,7 @@
 -- The buckets one after another.
 use Rattle.std.specs.Prelude.{◌≡◌, ℕ, List, [], ◌∷◌, Option, Some, None, slice_get}
+use Rattle.s3_types.specs.Prelude.{filter, is_lt, text_cmp, BucketContent, Buckets}
 use Rattle.std.specs.FinMap as fin
-use Rattle.std.specs.List.{filter}
-use Rattle.std.specs.Ordering.{is_lt}
-use Rattle.proof_base.specs.Order.{text_cmp}
-use Rattle.s3_types.specs.Store.{BucketContent, Buckets}
 
 -- the buckets whose names are greater than a name, or all
 abbrev pub rest_of : Option (List ℕ) → Buckets → List (List ℕ × BucketContent)

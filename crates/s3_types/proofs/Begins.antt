@@ -1,13 +1,7 @@
 -- Texts in order, and what begins with what.
 use Rattle.std.proofs.Common.{◌≡◌, ℕ, Bool, true, false, ◌&&◌, nat_eq, arith, List, [], ◌∷◌, refl, ap}
-use Rattle.std.specs.List.{starts_with}
-use Rattle.std.proofs.lemmas.Bool.Decides.{nat_tests}
-use Rattle.std.proofs.lemmas.Bool.{false≢true, true≢false}
-use Rattle.std.specs.declared.cmp.Ordering.{Ordering}
-use Rattle.std.specs.Ordering.{nat_cmp, is_lt, ordering_then}
-use Rattle.proof_base.specs.Order.{text_cmp}
-use Rattle.proof_base.proofs.Less.{lt}
-use Rattle.s3_types.specs.Pages.{begins}
+use Rattle.s3_types.specs.Prelude.{starts_with, Ordering, nat_cmp, is_lt, ordering_then, text_cmp, begins}
+use Rattle.words.proofs.Common.{nat_tests, false≢true, true≢false, lt}
 
 pub begins_is : (p q : List ℕ) → starts_with nat_eq q p ≡ begins p q
 begins_is [] q = refl

@@ -1,12 +1,12 @@
 -- The laws of a file's parts: how many there are, how long each is, and that they are the file again.
 use Rattle.std.proofs.Common.{◌≡◌, ℕ, zero, suc, ◌+◌, ◌-◌, ◌*◌, ◌/◌, ◌<◌, ◌≤◌, ◌⊎◌, inl, inr, nat_lt, Bool, true, false, cond, List, [], ◌∷◌, ◌++◌, map, length, take, drop, slice_get, None, Some, refl, sym, ap, subst, ◌∙◌, arith, length-drop, length-take-le, length-append, add-one}
-use Rattle.std.specs.List.{flat_map, sum}
-use Rattle.std.proofs.Math.Nat.{mul-suc, suc-mul, mul_comm, mul-le-mul_left, mul-le-mul_right, div-lt_iff_lt-mul}
-use Rattle.std.proofs.lemmas.List.{take-append-drop, nil_from_length, drop-drop, take_all}
-use Rattle.std.proofs.lemmas.List.Sums.{sum-map, sum_by-cons}
-use Rattle.std.proofs.lemmas.Bool.Decides.{nat_tests}
+use Rattle.s3_types.specs.Prelude.{flat_map, sum, quotient_up, greater}
+use Rattle.proof_base.proofs.Common.{mul-le-mul_left, nil_from_length}
+use Rattle.words.proofs.Common.{mul-le-mul_right, take-append-drop, drop-drop, take_all, sum_by-cons, nat_tests}
+use Rattle.std.proofs.Math.Nat.{mul-suc, suc-mul, mul_comm, div-lt_iff_lt-mul}
+use Rattle.std.proofs.lemmas.List.Sums.{sum-map}
 use Rattle.proof_base.proofs.Options.{some_is}
-use Rattle.s3_types.specs.Blocks.{quotient_up, greater, block_of, blocks, parts_of}
+use Rattle.s3_types.specs.Blocks.{block_of, blocks, parts_of}
 
 -- ---- as they are defined
 

@@ -1,22 +1,10 @@
 -- Rows of sendings as the map of their fates.
 use Rattle.std.proofs.Common.{◌≡◌, ℕ, zero, suc, ◌+◌, ◌-◌, ◌<◌, ◌≤◌, Bool, true, false, ◌&&◌, nat_lt, nat_le, cond, max, List, [], ◌∷◌, Option, Some, None, refl, sym, ap, subst, ◌∙◌, arith, ◌↔◌}
-use Rattle.std.proofs.lemmas.Bool.Decides.{nat_tests}
-use Rattle.std.proofs.lemmas.Bool.{false≢true, true≢false}
-use Rattle.std.proofs.lemmas.Map.Lookups.{exact_unsigned}
 use Rattle.std.specs.Prelude.{IsSome}
-use Rattle.std.specs.FinMap.{get, get-insert, get-empty, same_map}
-use Rattle.std.specs.List.{slice_get}
-use Rattle.std.specs.Cmp.{nat_cmp_total}
-use Rattle.std.specs.Ordering.{nat_cmp, eq_by_cmp, is_le, match_ordering}
-use Rattle.std.specs.BTreeMap.{insert_entry}
-use Rattle.std.specs.BTreeMap.Range.{entries_between}
-use Rattle.std.specs.declared.cmp.Ordering.{Ordering}
-use Rattle.std.specs.declared.cmp.Ordering.TheVariants.{Less, Equal, Greater}
-use Rattle.std.specs.declared.ops.Bound.TheVariants.{Included, Unbounded}
-use Rattle.proof_base.proofs.Numbers.{less_is, below_is, below_not, at_most_so, at_most_not, above_so, at_most_is}
+use Rattle.words.proofs.Common.{nat_tests, false≢true, true≢false, exact_unsigned, less_is, below_is, below_not, at_most_so, at_most_not, above_so, at_most_is}
+use Rattle.s3_types.specs.Prelude.{get, get-insert, get-empty, same_map, slice_get, nat_cmp_total, nat_cmp, eq_by_cmp, is_le, match_ordering, insert_entry, entries_between, Ordering, Less, Equal, Greater, Included, Unbounded, FateMap, is_answer, IsFirstNamed, IsFirstFrom, named, AreApart, from_on, first_in}
 use Rattle.proof_base.proofs.Options.{some_is}
-use Rattle.s3_types.specs.Fates.{FateMap, with_fates, is_answer, IsFirstNamed, IsFirstFrom}
-use Rattle.s3_types.specs.Spans.{named, AreApart, from_on, first_in}
+use Rattle.s3_types.specs.Fates.{with_fates}
 use Rattle.s3_types.specs.declared.fates.Fate.{Fate}
 use Rattle.s3_types.specs.declared.fates.Span.{Span}
 

@@ -1,12 +1,7 @@
 -- Bytes that are UTF-8.
 use Rattle.std.proofs.Common.{◌≡◌, ℕ, ◌<◌, Bool, true, false, List, [], ◌∷◌, refl, arith}
-use Rattle.std.specs.List.{list_all}
-use Rattle.std.specs.Str.{IsUtf8, IsAscii, is_utf8}
-use Rattle.std.proofs.lemmas.Bool.{and_parts}
-use Rattle.std.proofs.lemmas.Str.{IsUtf8-from_is_utf8, is_utf8-from_IsUtf8, IsUtf8-from_ascii}
-use Rattle.std.proofs.lemmas.Str.Ascii.{IsAscii-nil, IsAscii-cons}
-use Rattle.s3_types.specs.Names.{is_bucket, is_name_byte}
-use Rattle.s3_types.specs.Tags.{is_hex}
+use Rattle.s3_types.specs.Prelude.{list_all, IsUtf8, IsAscii, is_utf8, is_bucket, is_name_byte, is_hex}
+use Rattle.words.proofs.Common.{and_parts, IsUtf8-from_is_utf8, is_utf8-from_IsUtf8, IsUtf8-from_ascii, IsAscii-nil, IsAscii-cons}
 
 -- what is not UTF-8 does not pass the test
 pub not_utf8 : (bs : List ℕ) → ¬ (IsUtf8 bs) → is_utf8 bs ≡ false

@@ -14,3 +14,4 @@ pub mod Spans
 pub mod Requests
 pub mod Spelling
 pub mod Blocks
+pub mod Prelude

@@ -1,11 +1,7 @@
 -- Multipart uploads (Amazon S3 API: UploadPart, CompleteMultipartUpload, ListParts, ListMultipartUploads).
 use Rattle.std.specs.Prelude.{ℕ, ◌-◌, Bool, true, false, ◌&&◌, nat_eq, nat_le, nat_lt, cond, List, [], ◌∷◌, Option, Some, None, Result, Ok, Err, length, take, map}
+use Rattle.proof_base.specs.Prelude.{filter, list_all, flat_map, unwrap_or, is_lt, nat_cmp, ordering_then, Ordering, text_cmp, text_eq}
 use Rattle.std.specs.FinMap as fin
-use Rattle.std.specs.List.{filter, list_all, flat_map}
-use Rattle.std.specs.Option.{unwrap_or}
-use Rattle.std.specs.Ordering.{is_lt, nat_cmp, ordering_then}
-use Rattle.std.specs.declared.cmp.Ordering.{Ordering}
-use Rattle.proof_base.specs.Order.{text_cmp, text_eq}
 use Rattle.s3_types.specs.Store.{Upload, Uploads, Parts}
 use Rattle.s3_types.specs.Tags.{Spelled, plain_tag}
 use Rattle.s3_types.specs.declared.limits.TheConstants.{MOST_PARTS}

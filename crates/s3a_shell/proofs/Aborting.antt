@@ -1,19 +1,13 @@
 -- What is left once uploads were aborted one by one.
 use Rattle.std.specs.Prelude.{◌≡◌, ◌⊎◌, ℕ, ◌+◌, List, [], ◌∷◌, ◌++◌, length, take, Option, Some, None, option_map}
 use Rattle.std.proofs.Common.{refl, sym, ap, subst, ◌∙◌, inl, inr}
+use Rattle.fs_ops.specs.Prelude.{Upload, Uploads, BucketContent, Scene, apply, aborted, with_uploads, live, AbortUpload, UploadRef, IsIn, Path, below, uploads_from}
+use Rattle.journal_log.specs.Prelude.{listed, with_key}
+use Rattle.path_keys.proofs.Common.{same_or_not, nat_gone, nat_left, some_is}
+use Rattle.bucket_walks.specs.Prelude.{IsStill}
 use Rattle.std.specs.FinMap as fin
-use Rattle.s3_types.specs.Store.{Upload, Uploads, BucketContent, Scene}
-use Rattle.s3_types.specs.Answer.{apply, aborted, with_uploads}
-use Rattle.s3_types.specs.Multipart.{live, listed, with_key}
-use Rattle.s3_types.specs.declared.request.Request.TheVariants.{AbortUpload}
-use Rattle.s3_types.specs.declared.request.UploadRef.{UploadRef}
-use Rattle.proof_base.specs.Members.{IsIn}
-use Rattle.proof_base.proofs.Members.{same_or_not, nat_gone, nat_left}
 use Rattle.fs_files.specs.Placed.{placed}
 use Rattle.fs_files.proofs.WritingLaws.{placed_same, placed_by}
-use Rattle.path_keys.specs.Paths.{Path, below}
-use Rattle.bucket_walks.specs.Uploads.{uploads_from, IsStill}
-use Rattle.proof_base.proofs.Members.{some_is}
 use Rattle.s3a_shell.specs.declared.said.Said.{Said}
 use Rattle.s3a_shell.specs.Texts.{fine}
 use Rattle.s3a_shell.specs.declared.session.Session.{Session}

@@ -1,13 +1,9 @@
 -- What a command's sendings lead to, from their beginning.
 use Rattle.std.specs.Prelude.{◌≡◌, ◌≤◌, ℕ, true, false, None, List, [], ◌++◌, take, length}
 use Rattle.std.proofs.Common.{sym, ap, subst, ◌∙◌, arith}
-use Rattle.std.proofs.lemmas.List.{take_all}
-use Rattle.s3_types.specs.Store.{Content, Scene, opening}
-use Rattle.s3_types.specs.Moment.{AreHonest, IsHonest, after_all, moment}
-use Rattle.s3_types.specs.declared.request.Actor.TheVariants.{Shell}
-use Rattle.s3_types.specs.declared.journal.Entry.{Entry}
-use Rattle.machine.specs.Counted.{AreAnswered}
-use Rattle.machine.specs.Turns.{AreBy}
+use Rattle.path_keys.proofs.Common.{take_all}
+use Rattle.fs_ops.specs.Prelude.{Content, Scene, opening, AreHonest, IsHonest, after_all, moment, Shell, Entry}
+use Rattle.bucket_walks.specs.Prelude.{AreAnswered, AreBy}
 use Rattle.s3a_words.specs.declared.command.Command.{Command}
 use Rattle.s3a_shell.specs.declared.said.Said.{Said}
 use Rattle.s3a_shell.specs.Sendings.{Sends, has_changed}

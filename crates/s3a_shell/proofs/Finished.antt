@@ -1,21 +1,11 @@
 -- No upload that a command began itself is live when it has ended.
 use Rattle.std.specs.Prelude.{◌≡◌, ℕ, ◌≤◌, nat_lt, Bool, true, false, cond, List, length, Option, Some, None, Result, Err}
 use Rattle.std.proofs.Common.{refl, ap, subst, ◌∙◌, ◌⊎◌, inl, inr}
+use Rattle.fs_ops.specs.Prelude.{is_bucket, Objects, BucketContent, Content, Scene, new_bucket, upload_in, with_objects_if, objects_at, InScene, GivesIn, MarkerPolicy, Keep, Delete, Stats, Reads, Lists, Makes, Deletes, Audits, Cleans, Fills, FsRefusal, NoSuchBucket, Path}
 use Rattle.std.specs.FinMap as fin
-use Rattle.s3_types.specs.Names.{is_bucket}
-use Rattle.s3_types.specs.Store.{Objects, BucketContent, Content, Scene, new_bucket}
 use Rattle.s3_types.specs.Answer.{made}
 use Rattle.s3_service.specs.Ids.{AreBelow}
-use Rattle.store_frame.specs.Held.{upload_in, upload_at}
-use Rattle.bucket_ops.specs.Asks.{with_objects_if, objects_at}
-use Rattle.bucket_ops.specs.Phases.{InScene, GivesIn}
-use Rattle.dir_markers.specs.declared.marker.MarkerPolicy.{MarkerPolicy}
-use Rattle.dir_markers.specs.declared.marker.MarkerPolicy.TheVariants.{Keep, Delete}
-use Rattle.fs_tree.specs.Answers.{Stats, Reads, Lists, Makes, Deletes}
-use Rattle.fs_tree.specs.MarkerTool.{Audits, Cleans, Fills}
-use Rattle.fs_tree.specs.declared.answers.FsRefusal.{FsRefusal}
-use Rattle.fs_tree.specs.declared.answers.FsRefusal.TheVariants.{NoSuchBucket}
-use Rattle.path_keys.specs.Paths.{Path}
+use Rattle.store_frame.specs.Held.{upload_at}
 use Rattle.s3a_words.specs.declared.command.Command.{Command}
 use Rattle.s3a_words.specs.declared.command.Command.TheVariants.{Mb, Ls, Stat, Cat, Put, PutForce, PutDrop, Mkdir, Mv, Cp, Rm, Rmr, Uploads, AbortUploads, Markers, CleanMarkers, FillMarkers}
 use Rattle.s3a_shell.specs.declared.said.Said.{Said}

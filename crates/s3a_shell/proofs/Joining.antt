@@ -1,19 +1,10 @@
 -- Sendings after sendings.
 use Rattle.std.specs.Prelude.{◌≡◌, ℕ, zero, suc, ◌+◌, true, List, [], ◌∷◌, ◌++◌, length, take}
 use Rattle.std.proofs.Common.{refl, sym, ap, subst, ◌∙◌, inl, inr, arith, append_assoc, append-nil, length-append}
-use Rattle.s3_types.specs.Store.{Scene}
-use Rattle.s3_types.specs.declared.request.Actor.TheVariants.{Shell}
-use Rattle.s3_types.specs.Answer.{answer, apply}
-use Rattle.s3_types.specs.declared.request.Request.{Request}
-use Rattle.s3_types.specs.Moment.{AreHonest, after_all, effect}
-use Rattle.s3_types.specs.declared.request.Actor.{Actor}
-use Rattle.s3_types.specs.declared.journal.Entry.{Entry}
-use Rattle.machine.specs.Counted.{AreAnswered}
-use Rattle.machine.specs.Turns.{AreBy}
+use Rattle.fs_ops.specs.Prelude.{Scene, Shell, answer, apply, Request, AreHonest, after_all, effect, Actor, Entry, only_reads}
+use Rattle.bucket_walks.specs.Prelude.{AreAnswered, AreBy, IsStill}
 use Rattle.s3a_shell.specs.declared.session.Session.{Session}
-use Rattle.s3_types.specs.Requests.{only_reads}
 use Rattle.store_frame.proofs.Reading.{reads_nothing}
-use Rattle.bucket_walks.specs.Uploads.{IsStill}
 use Rattle.s3a_shell.specs.Sendings.{Sends, Sent, IsCounted, AppliedOrNot, answered_by}
 
 after_both : (s : Scene) (es fs : List Entry) → after_all s (es ++ fs) ≡ after_all (after_all s es) fs

@@ -1,17 +1,12 @@
 -- What is listed of uploads.
 use Rattle.std.specs.Prelude.{◌≡◌, ℕ, ◌+◌, List, [], ◌∷◌, ◌++◌, drop, Option, Some, None, option_map}
 use Rattle.std.proofs.Common.{refl, sym, ap, ◌∙◌, append_assoc}
+use Rattle.fs_ops.specs.Prelude.{Upload, BucketContent, Scene, answer_at, live, ListParts, UploadRef, Path, below, uploads_from}
+use Rattle.journal_log.specs.Prelude.{listed}
+use Rattle.path_keys.proofs.Common.{some_is}
 use Rattle.std.specs.FinMap as fin
-use Rattle.s3_types.specs.Store.{Upload, BucketContent, Scene}
-use Rattle.s3_types.specs.Answer.{answer_at}
-use Rattle.s3_types.specs.Multipart.{live, listed}
-use Rattle.s3_types.specs.declared.request.Request.TheVariants.{ListParts}
-use Rattle.s3_types.specs.declared.request.UploadRef.{UploadRef}
-use Rattle.path_keys.specs.Paths.{Path, below}
 use Rattle.s3a_shell.specs.declared.said.Said.{Said}
 use Rattle.s3a_shell.specs.Texts.{fine}
-use Rattle.bucket_walks.specs.Uploads.{uploads_from}
-use Rattle.proof_base.proofs.Members.{some_is}
 use Rattle.s3a_shell.specs.Uploading.{sizes_of, sizes_in, upload_line, upload_lines, asked_line, asked_lines, ListedIn, DidList}
 
 -- the parts that are told are those of the upload that is live

@@ -1,19 +1,13 @@
 -- What only looks sends no change.
 use Rattle.std.specs.Prelude.{◌≡◌, ℕ, ◌++◌, ◌||◌, true, false, List, [], ◌∷◌, Option, Some, None}
 use Rattle.std.proofs.Common.{refl, ap, ◌∙◌}
-use Rattle.std.specs.List.{AllByRecursion}
-use Rattle.std.proofs.lemmas.List.Folds.{list_any-append}
-use Rattle.std.proofs.Math.Bool.{or-false}
-use Rattle.s3_types.specs.Store.{Objects, Scene}
-use Rattle.s3_types.specs.declared.request.Request.{Request}
-use Rattle.s3_types.specs.declared.journal.Entry.{Entry}
-use Rattle.log_format.specs.Change.{is_changing}
-use Rattle.bucket_ops.specs.Asks.{Ask, Head, Get, Page, is_look, request_of, objects_at}
-use Rattle.bucket_ops.specs.Phases.{SendsAt, SendsIn}
+use Rattle.fs_ops.specs.Prelude.{AllByRecursion, Objects, Scene, Request, Entry, Ask, Head, Get, Page, is_look, request_of, objects_at, SendsIn, Reply}
+use Rattle.path_keys.proofs.Common.{list_any-append, or-false}
+use Rattle.journal_log.specs.Prelude.{is_changing}
+use Rattle.bucket_ops.specs.Prelude.{SendsAt}
 use Rattle.bucket_walks.specs.Uploads.{IsPageOf}
 use Rattle.s3a_shell.specs.declared.session.Session.{Session}
 use Rattle.s3a_shell.specs.Sendings.{Asked, answered_by, is_change, has_changed}
-use Rattle.s3_types.specs.declared.reply.Reply.{Reply}
 
 -- a look is no change
 look_only : (b : List ℕ) (a : Ask) → is_look a ≡ true → is_changing (request_of b a) ≡ false

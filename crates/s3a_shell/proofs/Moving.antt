@@ -1,7 +1,6 @@
 -- What an operation from one path to another one gave was said.
 use Rattle.std.specs.Prelude.{◌≡◌, Result, Ok, Err, IfOk}
-use Rattle.s3_types.specs.Store.{Objects, Scene}
-use Rattle.path_keys.specs.Paths.{Path}
+use Rattle.fs_ops.specs.Prelude.{Objects, Scene, Path}
 use Rattle.fs_rename.specs.Between.{GivesBetween}
 use Rattle.s3a_shell.specs.declared.said.Said.{Said}
 use Rattle.s3a_shell.specs.Moving.{DidBetween}

@@ -1,32 +1,14 @@
 -- What performing an operation over a store that answers every request sends.
 use Rattle.std.specs.Prelude.{◌≡◌, ℕ, ◌+◌, ◌<◌, ◌≤◌, nat_lt, Bool, true, false, List, [], ◌∷◌, length, codes, Option, Some, None, Result, Ok, Err, IfOk, OnOk}
 use Rattle.std.proofs.Common.{refl, sym, ap, subst, ◌∙◌, inl, inr, arith}
-use Rattle.std.proofs.lemmas.Bool.Decides.{nat_tests}
+use Rattle.path_keys.proofs.Common.{nat_tests}
+use Rattle.fs_ops.specs.Prelude.{Objects, BucketContent, Scene, answer, apply, is_unanswered, Request, MakeBucket, Shell, Outcome, Answered, Entry, Path, is_key, Seen, Performed, InScene, GivesIn, AlwaysIn, objects_at, with_objects, MarkerPolicy, Creates, Deletes, FsRefusal, NoSuchBucket, Deletion, gives}
+use Rattle.s3_types.specs.Prelude.{fate_of}
+use Rattle.machine.specs.Prelude.{AreForetold}
+use Rattle.bucket_walks.specs.Prelude.{IsStill, AreAnswered, DriveStop}
 use Rattle.std.specs.FinMap as fin
-use Rattle.s3_types.specs.Store.{Objects, BucketContent, Scene}
-use Rattle.s3_types.specs.Answer.{answer, apply}
-use Rattle.s3_types.specs.Moment.{is_unanswered}
-use Rattle.s3_types.specs.declared.request.Request.{Request}
-use Rattle.s3_types.specs.declared.request.Request.TheVariants.{MakeBucket}
-use Rattle.s3_types.specs.Foretold.{fate_of, AreForetold}
 use Rattle.s3_types.specs.declared.fates.Fate.TheVariants.{Answer}
-use Rattle.s3_types.specs.declared.request.Actor.TheVariants.{Shell}
-use Rattle.s3_types.specs.declared.journal.Outcome.{Outcome}
-use Rattle.s3_types.specs.declared.journal.Outcome.TheVariants.{Answered}
-use Rattle.s3_types.specs.declared.journal.Entry.{Entry}
-use Rattle.path_keys.specs.Paths.{Path, is_key}
-use Rattle.bucket_walks.specs.Uploads.{IsStill}
-use Rattle.machine.specs.Counted.{AreAnswered}
-use Rattle.machine.specs.declared.driving.DriveStop.{DriveStop}
-use Rattle.operations.specs.Performed.{Seen, Performed}
-use Rattle.bucket_ops.specs.Phases.{InScene, GivesIn, AlwaysIn}
-use Rattle.bucket_ops.specs.Asks.{objects_at, with_objects}
 use Rattle.bucket_ops.proofs.AskLaws.{with_same}
-use Rattle.dir_markers.specs.declared.marker.MarkerPolicy.{MarkerPolicy}
-use Rattle.fs_tree.specs.Answers.{Creates, Deletes}
-use Rattle.fs_tree.specs.declared.answers.FsRefusal.{FsRefusal}
-use Rattle.fs_tree.specs.declared.answers.FsRefusal.TheVariants.{NoSuchBucket}
-use Rattle.fs_ops.specs.code.Delete.{Deletion, gives}
 use Rattle.fs_ops.proofs.Deleting.{deletes_in}
 use Rattle.fs_files.specs.Placed.{InFile, NoneLeft}
 use Rattle.fs_files.specs.code.Create.{IsUndone, GivesFile, least as least_of, always_in, AlwaysFile}

@@ -1,9 +1,8 @@
 -- Two buckets are one or not.
 use Rattle.std.specs.Prelude.{◌≡◌, ◌⊎◌, ℕ, Bool, true, false, List}
-use Rattle.std.specs.Str.{bytes_eq}
 use Rattle.std.proofs.Common.{refl, sym, ◌∙◌, inl, inr}
-use Rattle.std.proofs.lemmas.Bool.{true≢false}
-use Rattle.std.proofs.lemmas.Slice.Eq.{bytes_eq-Decides}
+use Rattle.s3_types.specs.Prelude.{bytes_eq}
+use Rattle.path_keys.proofs.Common.{true≢false, bytes_eq-Decides}
 
 pub same_or_not : (a b : List ℕ) → (a ≡ b) ⊎ (a ≡ b → ⊥)
 same_or_not a b = by (bytes_eq a b) refl

@@ -1,22 +1,12 @@
 -- What a command leaves as it was.
 use Rattle.std.specs.Prelude.{◌≡◌, ℕ, ◌<◌, ◌≤◌, nat_lt, Bool, true, false, cond, List, length, Option, Some, None, Result, Err}
 use Rattle.std.proofs.Common.{refl, sym, ap, subst, ◌∙◌, ◌⊎◌, inl, inr, arith}
+use Rattle.fs_ops.specs.Prelude.{nat_cmp, upload_in, is_bucket, Objects, BucketContent, Content, Scene, new_bucket, with_objects_if, with_objects, InScene, GivesIn, Path, MarkerPolicy, Keep, Delete, Stats, Reads, Lists, Creates, Makes, Deletes, Audits, Cleans, Fills, FsRefusal, NoSuchBucket}
+use Rattle.path_keys.proofs.Common.{text_here, text_other}
 use Rattle.std.specs.FinMap as fin
-use Rattle.std.specs.Ordering.{nat_cmp}
-use Rattle.proof_base.proofs.Members.{text_here, text_other}
-use Rattle.store_frame.specs.Held.{upload_in, upload_at}
-use Rattle.s3_types.specs.Names.{is_bucket}
-use Rattle.s3_types.specs.Store.{Objects, BucketContent, Content, Scene, new_bucket}
+use Rattle.store_frame.specs.Held.{upload_at}
 use Rattle.s3_types.specs.Answer.{made}
-use Rattle.bucket_ops.specs.Asks.{objects_of, with_objects_if, with_objects}
-use Rattle.bucket_ops.specs.Phases.{InScene, GivesIn}
-use Rattle.path_keys.specs.Paths.{Path}
-use Rattle.dir_markers.specs.declared.marker.MarkerPolicy.{MarkerPolicy}
-use Rattle.dir_markers.specs.declared.marker.MarkerPolicy.TheVariants.{Keep, Delete}
-use Rattle.fs_tree.specs.Answers.{Stats, Reads, Lists, Creates, Makes, Deletes}
-use Rattle.fs_tree.specs.MarkerTool.{Audits, Cleans, Fills}
-use Rattle.fs_tree.specs.declared.answers.FsRefusal.{FsRefusal}
-use Rattle.fs_tree.specs.declared.answers.FsRefusal.TheVariants.{NoSuchBucket}
+use Rattle.bucket_ops.specs.Asks.{objects_of}
 use Rattle.fs_files.specs.Placed.{InFile}
 use Rattle.s3a_words.specs.declared.command.Command.{Command}
 use Rattle.s3a_words.specs.declared.command.Command.TheVariants.{Mb, Ls, Stat, Cat, Put, PutForce, PutDrop, Mkdir, Mv, Cp, Rm, Rmr, Uploads, AbortUploads, Markers, CleanMarkers, FillMarkers}

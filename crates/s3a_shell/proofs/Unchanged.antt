@@ -1,31 +1,16 @@
 -- Where no sending changes anything, the store stays as it is.
 use Rattle.std.specs.Prelude.{◌≡◌, ℕ, ◌&&◌, ◌||◌, nat_lt, Bool, true, false, not, cond, List, [], ◌∷◌, length, Option, Some, None, Result, Ok, Err}
 use Rattle.std.proofs.Common.{refl, ap, subst, ◌∙◌}
-use Rattle.std.proofs.lemmas.Map.Lookups.{exact_bytes}
+use Rattle.path_keys.proofs.Common.{exact_bytes, insert_same}
+use Rattle.fs_ops.specs.Prelude.{text_total, is_bucket, Upload, BucketContent, Buckets, Content, Scene, new_bucket, answer, apply, answer_at, apply_at, make_answer, copied, copy_answer, part_put, complete_answer, completed, aborted, with_uploads, without, bucket_of, AreHonest, is_unanswered, effect, after_all, live, is_part_number, with_part, joined, Object, Request, MakeBucket, PutObject, DeleteObjects, CreateUpload, UploadPart, CompleteUpload, AbortUpload, Reply, Made, Part, Refused, Deleted, Refusal, TooManyKeys, BadName, Outcome, Answered, Entry}
+use Rattle.machine.specs.Prelude.{part_answer, IsHonestOutcome}
+use Rattle.store_frame.specs.Prelude.{abort_answer, with_objects, BadPartNumber}
+use Rattle.journal_log.specs.Prelude.{MOST_ENTRIES, NamedPart, DeleteObject, CopyObject, is_changing}
+use Rattle.bucket_walks.specs.Prelude.{AreAnswered}
 use Rattle.std.specs.FinMap as fin
-use Rattle.proof_base.specs.Order.{text_total}
-use Rattle.proof_base.proofs.Tree.{insert_same}
-use Rattle.s3_types.specs.Names.{is_bucket}
-use Rattle.s3_types.specs.Store.{Upload, BucketContent, Buckets, Content, Scene, new_bucket}
-use Rattle.s3_types.specs.Answer.{answer, apply, answer_at, apply_at, make_answer, made, copied, copy_answer, part_answer, part_put, complete_answer, completed, abort_answer, aborted, with_objects, with_uploads, without, bucket_of}
-use Rattle.s3_types.specs.Moment.{IsHonestOutcome, AreHonest, is_unanswered, effect, after_all}
-use Rattle.s3_types.specs.Multipart.{live, is_part_number, with_part, joined}
+use Rattle.s3_types.specs.Answer.{made}
 use Rattle.s3_types.specs.Tags.{plain_tag}
-use Rattle.s3_types.specs.declared.limits.TheConstants.{MOST_ENTRIES}
-use Rattle.s3_types.specs.declared.object.Object.{Object}
-use Rattle.s3_types.specs.declared.request.NamedPart.{NamedPart}
-use Rattle.s3_types.specs.declared.request.Request.{Request}
-use Rattle.s3_types.specs.declared.request.Request.TheVariants.{MakeBucket, PutObject, DeleteObject, DeleteObjects, CopyObject, CreateUpload, UploadPart, CompleteUpload, AbortUpload}
-use Rattle.s3_types.specs.declared.reply.Reply.{Reply}
-use Rattle.s3_types.specs.declared.reply.Reply.TheVariants.{Made, Part, Refused, Deleted}
-use Rattle.s3_types.specs.declared.reply.Refusal.{Refusal}
-use Rattle.s3_types.specs.declared.reply.Refusal.TheVariants.{TooManyKeys, BadPartNumber, BadName}
-use Rattle.s3_types.specs.declared.journal.Outcome.{Outcome}
-use Rattle.s3_types.specs.declared.journal.Outcome.TheVariants.{Answered}
-use Rattle.s3_types.specs.declared.journal.Entry.{Entry}
-use Rattle.log_format.specs.Change.{is_changing}
 use Rattle.journal_log.proofs.Journals.{others_leave}
-use Rattle.machine.specs.Counted.{AreAnswered}
 use Rattle.s3a_shell.specs.Sendings.{is_refusal, is_taken, is_change, has_changed}
 
 -- ---- a refused request

@@ -1,28 +1,13 @@
 -- A refused command leaves the scene as it was.
 use Rattle.std.specs.Prelude.{◌≡◌, ℕ, nat_lt, Bool, true, false, cond, List, [], ◌∷◌, length, Option, Some, None, Result, Ok, Err}
 use Rattle.std.proofs.Common.{refl, sym, ap, subst, ◌∙◌, ◌⊎◌, inl, inr}
-use Rattle.std.proofs.lemmas.Map.Lookups.{exact_bytes}
+use Rattle.path_keys.proofs.Common.{exact_bytes, insert_same}
+use Rattle.fs_ops.specs.Prelude.{text_total, is_bucket, Objects, BucketContent, Buckets, Content, Scene, new_bucket, make_answer, Made, Refused, BadName, Path, with_objects_if, with_objects, InScene, GivesIn, MarkerPolicy, Keep, Delete, Stats, Reads, Lists, Makes, Deletes, Audits, Cleans, Fills, FsRefusal, NotFound, AlreadyExists, NotDirectory, NotEmpty, NoSuchBucket, SourceMissing, UnderSource, TargetFile, TargetExists, ParentMissing, ParentIsFile, TooLong, Renames, Copies}
 use Rattle.std.specs.FinMap as fin
-use Rattle.proof_base.specs.Order.{text_total}
-use Rattle.proof_base.proofs.Tree.{insert_same}
-use Rattle.s3_types.specs.Names.{is_bucket}
-use Rattle.s3_types.specs.Store.{Objects, BucketContent, Buckets, Content, Scene, new_bucket}
-use Rattle.s3_types.specs.Answer.{make_answer, made}
-use Rattle.s3_types.specs.declared.reply.Reply.TheVariants.{Made, Refused}
-use Rattle.s3_types.specs.declared.reply.Refusal.TheVariants.{BadName}
-use Rattle.path_keys.specs.Paths.{Path}
-use Rattle.bucket_ops.specs.Asks.{objects_of, with_objects_if, with_objects}
-use Rattle.bucket_ops.specs.Phases.{InScene, GivesIn}
-use Rattle.dir_markers.specs.declared.marker.MarkerPolicy.{MarkerPolicy}
-use Rattle.dir_markers.specs.declared.marker.MarkerPolicy.TheVariants.{Keep, Delete}
-use Rattle.fs_tree.specs.Answers.{Stats, Reads, Lists, Makes, Deletes}
-use Rattle.fs_tree.specs.MarkerTool.{Audits, Cleans, Fills}
-use Rattle.fs_tree.specs.declared.answers.FsRefusal.{FsRefusal}
-use Rattle.fs_tree.specs.declared.answers.FsRefusal.TheVariants.{NotFound, AlreadyExists, IsDirectory, NotDirectory, NotEmpty, NoSuchBucket}
-use Rattle.fs_tree.specs.declared.rename.RenameRefusal.TheVariants.{SourceMissing, UnderSource, TargetFile, TargetExists, ParentMissing, ParentIsFile, TooLong}
-use Rattle.fs_tree.specs.Renames.{Renames}
+use Rattle.s3_types.specs.Answer.{made}
+use Rattle.bucket_ops.specs.Asks.{objects_of}
+use Rattle.fs_tree.specs.declared.answers.FsRefusal.TheVariants.{IsDirectory}
 use Rattle.fs_tree.specs.declared.copy.CopyRefusal.TheVariants as copy
-use Rattle.fs_tree.specs.Copies.{Copies}
 use Rattle.fs_files.specs.code.Create.{IsUndone}
 use Rattle.s3a_words.specs.declared.command.Command.{Command}
 use Rattle.s3a_words.specs.declared.command.Command.TheVariants.{Mb, Ls, Stat, Cat, Put, PutForce, PutDrop, Mkdir, Mv, Cp, Rm, Rmr, Uploads, AbortUploads, Markers, CleanMarkers, FillMarkers}

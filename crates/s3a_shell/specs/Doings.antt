@@ -1,21 +1,8 @@
 -- What each command does and says.
 use Rattle.std.specs.Prelude.{◌≡◌, ◌⊎◌, ℕ, nat_lt, Bool, true, false, List, [], length, codes, Option, Some, None, Result, Err}
+use Rattle.fs_ops.specs.Prelude.{Objects, Scene, answer, apply, without, MakeBucket, Reply, Refused, BadName, Path, GivesIn, AlwaysIn, created, MarkerPolicy, Keep, Delete, Stats, Reads, Lists, Creates, Makes, Deletes, Audits, Cleans, Fills, IsCleaning, IsFilling, FsRefusal, NoSuchBucket}
 use Rattle.std.specs.FinMap as fin
-use Rattle.s3_types.specs.Store.{Objects, Scene}
-use Rattle.s3_types.specs.Answer.{answer, apply, without}
-use Rattle.s3_types.specs.declared.request.Request.TheVariants.{MakeBucket}
-use Rattle.s3_types.specs.declared.reply.Reply.{Reply}
-use Rattle.s3_types.specs.declared.reply.Reply.TheVariants.{Refused}
-use Rattle.s3_types.specs.declared.reply.Refusal.TheVariants.{BadName, BucketExists}
-use Rattle.path_keys.specs.Paths.{Path}
-use Rattle.bucket_ops.specs.Phases.{GivesIn, AlwaysIn}
-use Rattle.dir_markers.specs.Markers.{created}
-use Rattle.dir_markers.specs.declared.marker.MarkerPolicy.{MarkerPolicy}
-use Rattle.dir_markers.specs.declared.marker.MarkerPolicy.TheVariants.{Keep, Delete}
-use Rattle.fs_tree.specs.Answers.{Stats, Reads, Lists, Creates, Makes, Deletes}
-use Rattle.fs_tree.specs.MarkerTool.{Audits, Cleans, Fills, IsCleaning, IsFilling}
-use Rattle.fs_tree.specs.declared.answers.FsRefusal.{FsRefusal}
-use Rattle.fs_tree.specs.declared.answers.FsRefusal.TheVariants.{NoSuchBucket}
+use Rattle.s3_types.specs.declared.reply.Refusal.TheVariants.{BucketExists}
 use Rattle.fs_ops.specs.code.Delete as delete
 use Rattle.fs_ops.specs.code.Make as make
 use Rattle.fs_files.specs.Placed.{InFile, NoneLeft, object_of}

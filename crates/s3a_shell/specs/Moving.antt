@@ -1,15 +1,8 @@
 -- Operations from one path to another one, renamings and copies: what is done and said.
 use Rattle.std.specs.Prelude.{◌≡◌, List, ℕ, ◌∷◌, [], ◌++◌, codes, Some, None, Result, Ok, Err}
-use Rattle.std.specs.Fmt.{decimal}
-use Rattle.s3_types.specs.Store.{Objects, Scene}
-use Rattle.path_keys.specs.Paths.{Path}
-use Rattle.fs_tree.specs.declared.rename.RenameRefusal.{RenameRefusal}
+use Rattle.fs_ops.specs.Prelude.{decimal, Objects, Scene, Path, RenameRefusal, Renames, CopyRefusal, CopyCount, Copies}
 use Rattle.fs_tree.specs.declared.rename.RenameRefusal.TheVariants as rename
-use Rattle.fs_tree.specs.Renames.{Renames}
-use Rattle.fs_tree.specs.declared.copy.CopyRefusal.{CopyRefusal}
 use Rattle.fs_tree.specs.declared.copy.CopyRefusal.TheVariants as copy
-use Rattle.fs_tree.specs.declared.copy.CopyCount.{CopyCount}
-use Rattle.fs_tree.specs.Copies.{Copies}
 use Rattle.fs_rename.specs.Between.{Route, GivesBetween}
 use Rattle.s3a_shell.specs.declared.said.Said.{Said}
 use Rattle.s3a_shell.specs.Texts.{fine, refusing}

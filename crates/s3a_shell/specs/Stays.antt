@@ -1,11 +1,8 @@
 -- What a command leaves as it was.
 use Rattle.std.specs.Prelude.{◌≡◌, ◌<◌, ◌≤◌, ℕ, List, Option, Some, None}
+use Rattle.fs_ops.specs.Prelude.{BucketContent, Content, UploadRef, Path, IsIn}
 use Rattle.std.specs.FinMap as fin
-use Rattle.s3_types.specs.Store.{BucketContent, Content}
-use Rattle.s3_types.specs.declared.request.UploadRef.{UploadRef}
-use Rattle.path_keys.specs.Paths.{Path}
 use Rattle.store_frame.specs.Held.{upload_at}
-use Rattle.proof_base.specs.Members.{IsIn}
 use Rattle.s3a_words.specs.declared.command.Command.{Command}
 use Rattle.s3a_words.specs.declared.kind.CommandKind.{CommandKind}
 use Rattle.s3a_words.specs.declared.kind.CommandKind.TheVariants.{Aborts}

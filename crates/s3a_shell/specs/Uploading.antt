@@ -1,19 +1,12 @@
 -- What the commands on uploads do and say (Amazon S3 API: ListMultipartUploads, ListParts, AbortMultipartUpload).
 use Rattle.std.specs.Prelude.{◌≡◌, ℕ, List, [], ◌∷◌, ◌++◌, length, take, codes, Option, Some, None}
+use Rattle.fs_ops.specs.Prelude.{decimal, flat_map, Upload, BucketContent, Scene, live, answer, apply, Request, ListParts, AbortUpload, UploadRef, Reply, Path, below, IsIn}
+use Rattle.journal_log.specs.Prelude.{listed}
+use Rattle.s3_types.specs.Prelude.{sizes}
 use Rattle.std.specs.FinMap as fin
-use Rattle.std.specs.Fmt.{decimal}
-use Rattle.std.specs.List.{flat_map, sum_by}
-use Rattle.s3_types.specs.Store.{Upload, BucketContent, Scene}
-use Rattle.s3_types.specs.Multipart.{live, listed, sizes}
-use Rattle.s3_types.specs.Answer.{answer, apply}
-use Rattle.s3_types.specs.declared.request.Request.{Request}
-use Rattle.s3_types.specs.declared.request.Request.TheVariants.{ListParts, AbortUpload}
-use Rattle.s3_types.specs.declared.request.UploadRef.{UploadRef}
-use Rattle.s3_types.specs.declared.reply.Reply.{Reply}
+use Rattle.std.specs.List.{sum_by}
 use Rattle.s3_types.specs.declared.reply.Reply.TheVariants.{Parts}
 use Rattle.s3_types.specs.declared.reply.PartSize.{PartSize}
-use Rattle.path_keys.specs.Paths.{Path, below}
-use Rattle.proof_base.specs.Members.{IsIn}
 use Rattle.fs_files.specs.Placed.{placed}
 use Rattle.s3a_shell.specs.declared.said.Said.{Said}
 use Rattle.s3a_shell.specs.Texts.{fine, refusing}

@@ -1,13 +1,10 @@
 -- Over which stores a job may begin.
 use Rattle.std.proofs.Common.{◌≡◌, ℕ, ◌≤◌, ◌^◌, nat_le, Bool, true, false, cond, List, Option, Some, None, refl, sym, subst, arith}
-use Rattle.std.proofs.lemmas.Bool.{and_parts, leb-true}
+use Rattle.job_spec.proofs.Common.{and_parts, leb-true}
+use Rattle.job_spec.specs.Prelude.{Content, BucketContent, new_bucket, new_content, apply_store, is_bucket, MOST_MINIMUM, MakeBucket}
+use Rattle.journal_log.specs.Prelude.{IsContent}
 use Rattle.std.specs.FinMap as map
-use Rattle.s3_types.specs.Store.{Content, BucketContent, new_bucket, new_content}
-use Rattle.s3_types.specs.Answer.{made, apply_store}
-use Rattle.s3_types.specs.Names.{is_bucket}
-use Rattle.s3_types.specs.declared.limits.TheConstants.{MOST_MINIMUM}
-use Rattle.s3_types.specs.declared.request.Request.TheVariants.{MakeBucket}
-use Rattle.store_image.specs.Content.{IsContent}
+use Rattle.s3_types.specs.Answer.{made}
 use Rattle.journal_log.proofs.Imaged.{new, one}
 use Rattle.durable_store.proofs.Found.{few_ids}
 use Rattle.job_world.specs.Worlds.{MayBegin}

@@ -1,14 +1,11 @@
 -- What crashes leave of a job and of a command, since the shelf was loaded and before.
 use Rattle.std.proofs.Common.{◌≡◌, ◌⊎◌, inl, inr, ⊎_elim, ℕ, ◌≤◌, List, Option, Some, None, refl, sym, ap, ◌∙◌}
-use Rattle.s3_types.specs.Store.{Content}
-use Rattle.job_model.specs.JobScript.{Script}
-use Rattle.shelf.specs.Logged.{Holding, Stored, fresh, LeavesOnly}
-use Rattle.store_image.specs.Image.{image}
+use Rattle.job_spec.specs.Prelude.{Content, Script}
+use Rattle.journal_log.specs.Prelude.{Holding, Stored, fresh, LeavesOnly, image, IsMoment}
 use Rattle.durable_store.specs.Stores.{found}
 use Rattle.durable_store.specs.Works.{Work, Says, Saves}
 use Rattle.durable_store.specs.Outcomes.{MightLeave}
 use Rattle.durable_store.specs.declared.held.Held.{Held}
-use Rattle.journal_log.specs.Kept.{IsMoment}
 use Rattle.journal_log.proofs.Leaving.{told_all, told_more, started, then_on, widened}
 use Rattle.s3a_words.specs.declared.command.Command.{Command}
 use Rattle.s3a_top.specs.Openings.{IsScriptOf, Opens, opening_in}

@@ -1,9 +1,7 @@
 -- What is told where the work stopped before anything was done.
 use Rattle.std.proofs.Common.{◌≡◌, ◌⊎◌, inl, inr, ⊎_elim, ℕ, ◌≤◌, List, Option, Some, None, refl, sym, ap, subst, ◌∙◌}
-use Rattle.s3_types.specs.declared.journal.Entry.{Entry}
-use Rattle.job_model.specs.declared.ends.Pick.{Pick}
-use Rattle.job_model.specs.declared.ends.EventEnd.{EventEnd}
-use Rattle.shelf.specs.Logged.{Holding, Stored, LeavesOnly}
+use Rattle.job_spec.specs.Prelude.{Entry, Pick, EventEnd}
+use Rattle.journal_log.specs.Prelude.{Holding, Stored, LeavesOnly}
 use Rattle.durable_store.specs.Outcomes.{Tells}
 use Rattle.durable_store.specs.declared.held.Held.{Held}
 use Rattle.durable_store.specs.declared.held.Held.TheVariants.{Faulty}

@@ -1,7 +1,7 @@
 -- What comes of a command but a job.
 use Rattle.std.proofs.Common.{◌≡◌, inl, inr, ℕ, ◌≤◌, Bool, true, false, List, Option, Result, Ok, Err, IfOk, IfErr, OnErr, refl, sym, subst}
-use Rattle.s3_types.specs.declared.journal.Entry.{Entry}
-use Rattle.shelf.specs.Logged.{Holding, Stored, IsDurable, LeavesOnly}
+use Rattle.job_spec.specs.Prelude.{Entry}
+use Rattle.journal_log.specs.Prelude.{Holding, Stored, IsDurable, LeavesOnly}
 use Rattle.durable_store.specs.Works.{Work as Doing, IsPlain}
 use Rattle.durable_store.specs.Outcomes.{IsAnswer, IsHeld, WhereSound, MightLeave, IsDurableNow, CallsBy, Tells, IsSound, HasImages}
 use Rattle.durable_store.specs.Outcomes.IsAnswer.{said, saved, failed, wanting}

@@ -1,11 +1,7 @@
 -- From what is to be said to what was written.
 use Rattle.std.proofs.Common.{◌≡◌, ◌⊎◌, inl, inr, ⊎_elim, ℕ, List, Option, sym, subst}
-use Rattle.s3_types.specs.Store.{Content}
-use Rattle.s3_types.specs.declared.journal.Entry.{Entry}
-use Rattle.job_model.specs.JobScript.{Script}
-use Rattle.job_model.specs.declared.ends.Pick.{Pick}
-use Rattle.job_model.specs.declared.ends.EventEnd.{EventEnd}
-use Rattle.shelf.specs.Logged.{Holding, Stored}
+use Rattle.job_spec.specs.Prelude.{Content, Entry, Script, Pick, EventEnd}
+use Rattle.journal_log.specs.Prelude.{Holding, Stored}
 use Rattle.durable_store.specs.Works.{Work as Doing}
 use Rattle.s3a_words.specs.declared.command.Command.{Command}
 use Rattle.s3a_top.specs.Statuses.{Writes}

@@ -1,7 +1,9 @@
 -- What was read and what was written so far.
 use Rattle.std.proofs.Common.{◌≡◌, ℕ, ◌+◌, ◌<◌, ◌≤◌, List, [], ◌++◌, length, take, drop, Option, Some, None, Result, Ok, Err, OnErr, refl, sym, ap, subst, ◌∙◌, arith, lit≤, append_assoc, length-append}
-use Rattle.std.proofs.lemmas.List.{append-nil, take-append-drop, take_at, drop_at, take_all, drop_all, length-take}
-use Rattle.shelf.specs.Devices.{Takes, Appends}
+use Rattle.job_spec.proofs.Common.{append-nil, drop_at, take_all, drop_all, length-take}
+use Rattle.proof_base.proofs.Common.{take-append-drop, take_at}
+use Rattle.journal_log.specs.Prelude.{Appends}
+use Rattle.shelf.specs.Devices.{Takes}
 use Rattle.s3a_top.specs.Bytes.{IsRead, IsTaken, TakesPart, WritesSome}
 
 -- what was left before is what was read so far and what is left, where the source tells it

@@ -1,21 +1,11 @@
 -- What is promised of a job that was played.
 use Rattle.std.proofs.Common.{◌≡◌, ◌⊎◌, inl, inr, ⊎_elim, ℕ, ◌≤◌, List, [], ◌∷◌, ◌++◌, length, Option, Some, None, sym, ap, subst, ◌∙◌, append_assoc, arith}
-use Rattle.s3_types.specs.Store.{Content}
-use Rattle.s3_types.specs.declared.journal.Entry.{Entry}
-use Rattle.job_model.specs.JobScript.{Script}
-use Rattle.job_model.specs.declared.ends.Pick.{Pick}
-use Rattle.job_model.specs.declared.ends.EventEnd.{EventEnd}
-use Rattle.job_spec.specs.States.{verdict}
+use Rattle.job_spec.specs.Prelude.{Content, Entry, Script, Pick, EventEnd, verdict}
+use Rattle.journal_log.specs.Prelude.{Holding, Stored, LeavesOnly, AppendFault, Failed, NoMemory, IsContent, KeepsImages, Holds, HasEarlier, HoldsPart, IsKept, IsLast}
 use Rattle.job_world.specs.declared.played.Played.{Played}
-use Rattle.shelf.specs.Logged.{Holding, Stored, LeavesOnly}
-use Rattle.shelf.specs.declared.kept.AppendFault.{AppendFault}
-use Rattle.shelf.specs.declared.kept.AppendFault.TheVariants.{Failed, NoMemory}
 use Rattle.durable_store.specs.declared.held.Held.{Held}
-use Rattle.store_image.specs.Content.{IsContent}
 use Rattle.journal_log.specs.Changes.{changes}
-use Rattle.journal_log.specs.Made.{KeepsImages}
-use Rattle.journal_log.specs.Kept.{Holds, HasEarlier, HoldsPart, IsToEnd, IsKept}
-use Rattle.journal_log.specs.Crashes.{IsLast}
+use Rattle.journal_log.specs.Kept.{IsToEnd}
 use Rattle.journal_log.proofs.Journals.{changes_append}
 use Rattle.journal_log.proofs.Standing.{begins_all, last}
 use Rattle.journal_log.proofs.Leaving.{survives}

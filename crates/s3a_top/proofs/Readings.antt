@@ -1,9 +1,9 @@
 -- What was read of the input, and what it is.
 use Rattle.std.proofs.Common.{◌≡◌, ◌≢◌, ◌≤◌, ◌<◌, ℕ, Bool, true, false, nat_le, List, length, take, Option, Some, None, Result, Ok, Err, refl, sym, ap, ◌∙◌, arith, lit≤}
-use Rattle.std.proofs.lemmas.Bool.Decides.{nat_tests}
-use Rattle.std.proofs.lemmas.List.{take_all, drop_all, length-take-le}
-use Rattle.proof_base.specs.Reading.{Fails}
-use Rattle.job_model.specs.JobScript.{Script}
+use Rattle.job_spec.proofs.Common.{nat_tests, take_all, drop_all}
+use Rattle.proof_base.proofs.Common.{length-take-le}
+use Rattle.s3_types.specs.Prelude.{Fails}
+use Rattle.job_spec.specs.Prelude.{Script}
 use Rattle.job_script.specs.Fault.{wanting}
 use Rattle.job_script.specs.Script.{script_of}
 use Rattle.job_script.specs.declared.fault.ScriptFault.{ScriptFault}

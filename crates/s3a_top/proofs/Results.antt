@@ -1,10 +1,8 @@
 -- What is known of a result by what its function's callee says of it.
 use Rattle.std.proofs.Common.{◌≡◌, ◌⊎◌, inr, ℕ, ◌≤◌, List, Option, Some, Result, Ok, Err, IfOk, IfErr, OnErr, refl, sym, ap, subst, ◌∙◌}
-use Rattle.s3_types.specs.Store.{Content}
-use Rattle.job_model.specs.JobScript.{Script}
+use Rattle.job_spec.specs.Prelude.{Content, Script}
+use Rattle.journal_log.specs.Prelude.{Holding, Stored, fresh, LeavesOnly, image}
 use Rattle.job_script.specs.Script.{script_of}
-use Rattle.shelf.specs.Logged.{Holding, Stored, fresh, LeavesOnly}
-use Rattle.store_image.specs.Image.{image}
 use Rattle.durable_store.specs.declared.held.Held.{Held}
 use Rattle.s3a_top.specs.Bytes.{IsRead}
 use Rattle.s3a_words.specs.declared.command.Command.{Command}

@@ -1,13 +1,13 @@
 -- Which counts of faults rise, and which causes stops have.
 use Rattle.std.proofs.Common.{◌≡◌, ◌≢◌, inl, inr, ℕ, ◌<◌, List, Option, Some, None, Result, Ok, Err, IfErr, refl, sym, subst, ◌∙◌}
-use Rattle.shelf.specs.declared.kept.AppendFault.{AppendFault}
+use Rattle.journal_log.specs.Prelude.{AppendFault}
+use Rattle.job_spec.specs.Prelude.{Script}
 use Rattle.shelf.specs.declared.kept.AppendFault.TheVariants as appends
 use Rattle.durable_store.specs.Outcomes.{Counts as CountsLoad, Tells}
 use Rattle.durable_store.specs.declared.held.Held.{Held}
 use Rattle.durable_store.specs.declared.held.ShelfStop.{ShelfStop}
 use Rattle.durable_store.specs.declared.held.ShelfStop.TheVariants as shelves
 use Rattle.durable_job.specs.Played.{Counts}
-use Rattle.job_model.specs.JobScript.{Script}
 use Rattle.s3a_words.specs.declared.command.Command.{Command}
 use Rattle.s3a_words.specs.declared.command.Command.TheVariants.{Job, Gen}
 use Rattle.s3a_top.specs.Openings.{IsScriptOf, TakesIfJob, is_sound}

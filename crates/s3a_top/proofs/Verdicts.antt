@@ -1,14 +1,9 @@
 -- Which statuses are due of a job and of a command.
 use Rattle.std.proofs.Common.{inl, inr, ℕ, List, refl}
-use Rattle.job_model.specs.JobScript.{Script}
-use Rattle.job_model.specs.declared.ends.SetupEnd.{SetupEnd}
+use Rattle.job_spec.specs.Prelude.{Script, SetupEnd, CommitEnd, OpEnd, EventEnd, Decided, NotBegun, Unended, EndedSo, past, end_verdict, verdict_or, verdict}
 use Rattle.job_model.specs.declared.ends.SetupEnd.TheVariants as setups
-use Rattle.job_model.specs.declared.ends.CommitEnd.{CommitEnd}
 use Rattle.job_model.specs.declared.ends.CommitEnd.TheVariants as commits
-use Rattle.job_model.specs.declared.ends.OpEnd.{OpEnd}
 use Rattle.job_model.specs.declared.ends.OpEnd.TheVariants as ends
-use Rattle.job_model.specs.declared.ends.EventEnd.{EventEnd}
-use Rattle.job_spec.specs.States.{Decided, NotBegun, Unended, EndedSo, past, end_verdict, verdict_or, verdict}
 use Rattle.s3a_top.specs.Plays.{IsFinal}
 
 -- ---- verdicts

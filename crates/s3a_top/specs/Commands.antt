@@ -1,9 +1,7 @@
 -- What comes of the other commands, and of words that are none.
 use Rattle.std.specs.Prelude.{◌≡◌, ◌⊎◌, ℕ, ◌==◌, Bool, true, false, List, [], Option, Some, None, if◌then◌else◌}
-use Rattle.s3_types.specs.declared.journal.Entry.{Entry}
-use Rattle.job_model.specs.declared.ends.Pick.{Pick}
-use Rattle.job_model.specs.declared.ends.EventEnd.{EventEnd}
-use Rattle.shelf.specs.Logged.{Holding, Stored, IsDurable, LeavesOnly}
+use Rattle.job_spec.specs.Prelude.{Entry, Pick, EventEnd}
+use Rattle.journal_log.specs.Prelude.{Holding, Stored, IsDurable, LeavesOnly}
 use Rattle.durable_store.specs.Works.{Work}
 use Rattle.durable_store.specs.Outcomes.{IsSound, IsAnswer, IsHeld, HasImages, WhereSound, MightLeave, IsDurableNow, CallsBy}
 use Rattle.durable_store.specs.declared.held.Held.{Held}

@@ -1,28 +1,16 @@
 -- What comes of a job: it was played, or it stopped before its first event.
 use Rattle.std.specs.Prelude.{◌≡◌, ◌≢◌, ◌⊎◌, ℕ, List, length, Option, Some, None, Err}
-use Rattle.s3_types.specs.Store.{Content}
-use Rattle.s3_types.specs.declared.journal.Entry.{Entry}
-use Rattle.job_model.specs.JobScript.{Script}
-use Rattle.job_model.specs.declared.ends.Pick.{Pick}
-use Rattle.job_model.specs.declared.ends.EventEnd.{EventEnd}
-use Rattle.job_spec.specs.Entries.{AreOwn}
-use Rattle.job_spec.specs.Promise.{Promised, Sent, Finished}
-use Rattle.job_spec.specs.States.{verdict}
+use Rattle.job_spec.specs.Prelude.{Content, Entry, Script, Pick, EventEnd, AreOwn, Promised, Sent, Finished, verdict}
+use Rattle.journal_log.specs.Prelude.{Holding, Stored, fresh, IsDurable, LeavesOnly, image, IsContent, KeepsImages, Holds, HoldsPart, IsKept, AreCalled}
 use Rattle.job_spec.specs.ReportText.{report_text}
 use Rattle.job_script.specs.Script.{script_of}
 use Rattle.job_script.specs.declared.fault.ScriptFault.{ScriptFault}
 use Rattle.job_script.specs.declared.fault.ScriptFault.TheVariants as faults
 use Rattle.job_gen.specs.Summary.{summary}
-use Rattle.shelf.specs.Logged.{Holding, Stored, fresh, IsDurable, LeavesOnly}
-use Rattle.store_image.specs.Image.{image}
 use Rattle.durable_store.specs.Stores.{found}
 use Rattle.durable_store.specs.declared.held.Held.TheVariants.{Faulty}
 use Rattle.journal_log.specs.Changes.{changes}
-use Rattle.store_image.specs.Content.{IsContent}
-use Rattle.journal_log.specs.Made.{KeepsImages}
-use Rattle.journal_log.specs.Kept.{Holds, HoldsPart, IsKept}
 use Rattle.journal_log.specs.Crashes.{SurvivesCrashes}
-use Rattle.journal_log.specs.Appends.{AreCalled}
 use Rattle.durable_job.specs.Pace.{Stops}
 use Rattle.s3a_words.specs.declared.command.Command.{Command}
 use Rattle.s3a_words.specs.declared.command.Command.TheVariants.{Job, Gen}

@@ -1,13 +1,9 @@
 -- What a run begins with, by what the shelf held and what the input had left.
 use Rattle.std.specs.Prelude.{◌≡◌, ◌⊎◌, ℕ, List, [], Option, Some, None, Ok}
-use Rattle.s3_types.specs.Store.{Content, new_content}
-use Rattle.s3_types.specs.Answer.{apply_store}
-use Rattle.s3_types.specs.declared.limits.TheConstants.{MOST_MINIMUM}
-use Rattle.s3_types.specs.declared.request.Request.TheVariants.{MakeBucket}
-use Rattle.job_model.specs.JobScript.{Script}
+use Rattle.job_spec.specs.Prelude.{Content, new_content, apply_store, MOST_MINIMUM, MakeBucket, Script}
+use Rattle.journal_log.specs.Prelude.{Stored}
 use Rattle.job_script.specs.Script.{script_of}
 use Rattle.job_gen.specs.Made.{made_script}
-use Rattle.shelf.specs.Logged.{Stored}
 use Rattle.durable_store.specs.Stores.{found}
 use Rattle.durable_store.specs.declared.held.Held.{Held}
 use Rattle.durable_store.specs.declared.held.Held.TheVariants.{Nothing, Store, Faulty}

@@ -1,21 +1,12 @@
 -- What comes of a job since its shelf was loaded, by what was found.
 use Rattle.std.specs.Prelude.{◌≡◌, ◌≢◌, ◌⊎◌, ℕ, List, length, Option, Some, None}
-use Rattle.s3_types.specs.Store.{Content}
-use Rattle.s3_types.specs.declared.journal.Entry.{Entry}
-use Rattle.job_model.specs.JobScript.{Script}
-use Rattle.job_model.specs.declared.ends.Pick.{Pick}
-use Rattle.job_model.specs.declared.ends.EventEnd.{EventEnd}
-use Rattle.job_spec.specs.States.{verdict}
+use Rattle.job_spec.specs.Prelude.{Content, Entry, Script, Pick, EventEnd, verdict}
+use Rattle.journal_log.specs.Prelude.{Holding, Stored, fresh, LeavesOnly, AppendFault, image, IsMoment, WhereTold}
 use Rattle.job_script.specs.declared.fault.ScriptFault.TheVariants as faults
 use Rattle.job_world.specs.declared.played.Played.{Played}
-use Rattle.shelf.specs.Logged.{Holding, Stored, fresh, LeavesOnly}
-use Rattle.shelf.specs.declared.kept.AppendFault.{AppendFault}
 use Rattle.shelf.specs.declared.kept.AppendFault.TheVariants as appends
-use Rattle.store_image.specs.Image.{image}
 use Rattle.durable_store.specs.declared.held.Held.{Held}
 use Rattle.durable_store.specs.declared.held.Held.TheVariants.{Faulty}
-use Rattle.journal_log.specs.Kept.{IsMoment}
-use Rattle.journal_log.specs.Crashes.{WhereTold}
 use Rattle.s3a_words.specs.declared.command.Command.{Command}
 use Rattle.s3a_words.specs.declared.command.Command.TheVariants.{Job}
 use Rattle.s3a_top.specs.Bytes.{IsTaken, TakesPart}

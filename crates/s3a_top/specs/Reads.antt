@@ -1,6 +1,6 @@
 -- What comes of the reading or the making of a script.
 use Rattle.std.specs.Prelude.{◌≡◌, ◌≢◌, ℕ, ◌<◌, List, Option, Result, Ok, Err}
-use Rattle.job_model.specs.JobScript.{Script}
+use Rattle.job_spec.specs.Prelude.{Script}
 use Rattle.job_script.specs.declared.fault.ScriptFault.TheVariants as faults
 use Rattle.job_script.specs.Script.{script_of}
 use Rattle.s3a_words.specs.declared.command.Command.{Command}

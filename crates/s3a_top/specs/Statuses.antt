@@ -1,13 +1,10 @@
 -- The statuses that the program ends with, and what is said with them.
 use Rattle.std.specs.Prelude.{◌≡◌, ◌≢◌, ℕ, ◌++◌, List, [], ◌∷◌, codes, Option, Some, None}
-use Rattle.std.specs.Fmt.{decimal}
 use Rattle.std.specs.Prelude.{unwrap_or}
-use Rattle.shelf.specs.Devices.{Appends}
+use Rattle.job_spec.specs.Prelude.{decimal, Pick, EventEnd, Entry}
+use Rattle.journal_log.specs.Prelude.{Appends}
 use Rattle.job_script.specs.Fault.{number_of, line_of}
 use Rattle.job_script.specs.declared.fault.ScriptFault.{ScriptFault}
-use Rattle.job_model.specs.declared.ends.Pick.{Pick}
-use Rattle.job_model.specs.declared.ends.EventEnd.{EventEnd}
-use Rattle.s3_types.specs.declared.journal.Entry.{Entry}
 use Rattle.s3a_top.specs.Bytes.{WritesSome}
 use Rattle.s3a_top.specs.declared.statuses.Status.{Status}
 use Rattle.s3a_top.specs.declared.statuses.Status.TheVariants.{Done, Refused, Usage, ReadFault, WriteFault, ShelfFault, BadScript, BadImage, StoreFault, NoMemory}

@@ -1,7 +1,7 @@
 -- What the work of the words gives before its text is made and written.
 use Rattle.std.specs.Prelude.{◌≡◌, ◌⊎◌, ◌<◌, ◌^◌, ◌-◌, ℕ, true, false, List, [], Option, Result, Ok, Err}
-use Rattle.s3_types.specs.declared.journal.Entry.{Entry}
-use Rattle.shelf.specs.Logged.{Holding, Stored, LeavesOnly}
+use Rattle.job_spec.specs.Prelude.{Entry}
+use Rattle.journal_log.specs.Prelude.{Holding, Stored, LeavesOnly}
 use Rattle.durable_store.specs.Works.{Work as Doing}
 use Rattle.durable_store.specs.Outcomes.{CallsBy, Tells}
 use Rattle.durable_store.specs.declared.held.Held.{Held}

@@ -1,8 +1,8 @@
 -- What clap makes of words that do not begin with `-`.
 use Rattle.std.proofs.Common.{◌≡◌, ◌∙◌, ℕ, ◌==◌, ◌&&◌, Bool, true, false, List, [], ◌∷◌, Option, None, is_some, refl, sym, ap, ap₂, subst, fold, arith, codes}
 use Rattle.std.specs.Prelude.{Err, IfOk, IsErr, Ok, Result}
-use Rattle.std.specs.List.{list_all}
-use Rattle.std.specs.Str.{bytes_eq}
+use Rattle.s3_types.specs.Prelude.{list_all, bytes_eq}
+use Rattle.path_keys.proofs.Common.{and_parts, nat_tests}
 use Rattle.clap.specs.Lexer.{long_of, short_of}
 use Rattle.clap.specs.Walk.{Held, Row, Text, Walk, arg_by_index, finished, first_of, idle, nothing_held, to_positional, value, walk, walked}
 use Rattle.clap.specs.Simple.{Shape, built, entered, is_simple, matches_of}
@@ -11,8 +11,6 @@ use Rattle.clap.specs.Faults.{fault_of, is_simple_and_free, step_fault, walk_fau
 use Rattle.clap.specs.Kinds.{Kinds, or_else}
 use Rattle.clap.specs.declared.error.kind.ErrorKind.{ErrorKind}
 use Rattle.clap.specs.declared.error.kind.ErrorKind.TheVariants as kind
-use Rattle.std.proofs.lemmas.Bool.{and_parts}
-use Rattle.std.proofs.lemmas.Bool.Decides.{nat_tests}
 use Rattle.clap.proofs.OnLiterals.{clap_on_literals}
 use Rattle.clap.specs.Words.{found_of, rows_of}
 use Rattle.clap.specs.declared.parser.matches.ArgMatches.{ArgMatches}

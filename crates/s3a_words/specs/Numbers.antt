@@ -1,8 +1,6 @@
 -- Numbers among the program's words.
 use Rattle.std.specs.Prelude.{◌≡◌, ◌↔◌, ◌<◌, ◌^◌, ℕ, ◌==◌, ◌&&◌, ◌||◌, nat_le, not, Bool, List, length, slice_index, Option, Some, None, option_and_then, if◌then◌else◌}
-use Rattle.std.specs.Fmt.{decimal}
-use Rattle.std.specs.Str.{all_ascii_digits}
-use Rattle.std.specs.Str.Parse.{digits_value}
+use Rattle.s3_types.specs.Prelude.{decimal, all_ascii_digits, digits_value}
 use Rattle.s3_types.specs.declared.limits.TheConstants.{MOST_MINIMUM}
 
 -- a number is 1 to 18 decimal digits, of which the first is no 0 unless it is the only one

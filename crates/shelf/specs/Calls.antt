@@ -1,6 +1,6 @@
 -- Which calls of a device in memory fail, and how its counts go on.
 use Rattle.std.specs.Prelude.{◌≡◌, ◌⊎◌, ℕ, ◌+◌, ◌-◌, ◌^◌, ◌==◌, ◌||◌, nat_lt, min, Bool, true, false, List, Option, Some, None}
-use Rattle.std.specs.List.{list_any}
+use Rattle.s3_types.specs.Prelude.{list_any}
 use Rattle.shelf.specs.declared.calls.Calls.{Calls}
 
 -- a count that rose by one, or stands at 2^64 - 1

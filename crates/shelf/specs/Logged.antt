@@ -1,6 +1,6 @@
 -- A shelf that takes changes one by one: what it holds, what its calls make of that, and what a crash leaves of it.
 use Rattle.std.specs.Prelude.{◌≡◌, ◌⊎◌, ℕ, ◌<◌, ◌≤◌, List, [], ◌∷◌, ◌++◌, Option, Some, None}
-use Rattle.std.specs.Option.{option_map}
+use Rattle.s3_types.specs.Prelude.{option_map}
 use Rattle.s3_types.specs.declared.request.Request.{Request}
 use Rattle.log_format.specs.declared.held.Held.{Held}
 

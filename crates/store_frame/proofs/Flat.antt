@@ -1,23 +1,11 @@
 -- A listing without a delimiter has the keys that stand, in order.
 use Rattle.std.proofs.Common.{◌≡◌, ℕ, zero, suc, ◌⊎◌, inl, inr, ◌≤◌, nat_lt, Bool, true, false, cond, List, [], ◌∷◌, ◌++◌, map, take, length, Some, None, refl, sym, ap, subst, ◌∙◌, arith}
+use Rattle.store_frame.specs.Prelude.{find, filter, AllByRecursion, keys_of, is_lt, eq_by_cmp, Ordering, Less, Equal, text_cmp, text_total, text_ties, Objects, begins, entry_of, listed, text_in, folded_from, is_again, Object, PageEntry, IsIn, RisesFrom, last_from}
+use Rattle.proof_base.proofs.Common.{ltb-false, false≢true, sorted_head, sorted_tail}
 use Rattle.std.specs.FinMap as fin
-use Rattle.std.specs.FinMap.Entries.{find}
-use Rattle.std.specs.List.{filter, AllByRecursion}
 use Rattle.std.specs.List.Sorted.{IsStrictlySortedBy}
-use Rattle.std.specs.Map.{keys_of}
-use Rattle.std.specs.Ordering.{is_lt, eq_by_cmp}
-use Rattle.std.specs.declared.cmp.Ordering.{Ordering}
-use Rattle.std.specs.declared.cmp.Ordering.TheVariants.{Less, Equal}
-use Rattle.std.proofs.lemmas.Bool.{ltb-false, false≢true}
-use Rattle.std.proofs.lemmas.Map.Keys.{sorted_head, sorted_tail}
-use Rattle.proof_base.specs.Order.{text_cmp, text_total, text_ties}
 use Rattle.proof_base.proofs.Less.{lt, irrefl, lt_trans}
 use Rattle.proof_base.proofs.Tree.{tied, map_sorted}
-use Rattle.s3_types.specs.Store.{Objects}
-use Rattle.s3_types.specs.Pages.{begins, entry_of, listed, text_in, folded_from, is_again}
-use Rattle.s3_types.specs.declared.object.Object.{Object}
-use Rattle.s3_types.specs.declared.reply.PageEntry.{PageEntry}
-use Rattle.proof_base.specs.Members.{IsIn, RisesFrom, last_from}
 use Rattle.store_frame.specs.Laws.{keys_listed}
 use Rattle.proof_base.proofs.Members.{some_is, none_some, false_true, text_exact, text_true, text_false, map_in, in_map, in_filter, filter_in}
 

@@ -1,18 +1,10 @@
 -- A request changes only the keys, the upload and the paths that it names, and the ids that it draws.
 use Rattle.std.proofs.Common.{◌≡◌, ℕ, ◌+◌, ◌<◌, ◌≤◌, ◌⊎◌, inl, inr, nat_lt, Bool, true, false, cond, List, [], ◌∷◌, length, Option, Some, None, Result, Ok, Err, refl, sym, ap, subst, ◌∙◌, arith}
+use Rattle.store_frame.specs.Prelude.{BucketContent, Content, Upload, Uploads, Objects, Files, Scene, new_bucket, is_bucket, live, with_key, with_part, is_part_number, joined, apply, apply_at, apply_in, bucket_of, draws, part_put, aborted, without, copied, completed, renamed, Object, MOST_ENTRIES, Refusal, Request, MakeBucket, PutObject, DeleteObject, DeleteObjects, CopyObject, CreateUpload, UploadPart, CompleteUpload, AbortUpload, ClusterPut, ClusterRename, ClusterGet, ClusterDelete, ClusterList, IsIn, HasBucket, upload_in, changed_keys, changed_upload, changed_paths}
 use Rattle.std.specs.FinMap as fin
-use Rattle.s3_types.specs.Store.{BucketContent, Content, Upload, Uploads, Objects, Files, Scene, new_bucket}
-use Rattle.s3_types.specs.Names.{is_bucket}
-use Rattle.s3_types.specs.Multipart.{live, with_key, with_part, is_part_number, joined}
-use Rattle.s3_types.specs.Answer.{apply, apply_at, apply_in, bucket_of, draws, part_put, aborted, without, copied, completed, made, renamed}
-use Rattle.s3_types.specs.declared.object.Object.{Object}
-use Rattle.s3_types.specs.declared.limits.TheConstants.{MOST_ENTRIES}
-use Rattle.s3_types.specs.declared.reply.Refusal.{Refusal}
-use Rattle.s3_types.specs.declared.request.Request.{Request}
-use Rattle.s3_types.specs.declared.request.Request.TheVariants.{MakeBucket, PutObject, DeleteObject, DeleteObjects, CopyObject, CreateUpload, UploadPart, CompleteUpload, AbortUpload, ClusterPut, ClusterRename, ClusterGet, ClusterDelete, ClusterList}
-use Rattle.proof_base.specs.Members.{IsIn}
-use Rattle.store_frame.specs.Held.{HasBucket, object_in, upload_in, upload_at}
-use Rattle.store_frame.specs.Frame.{Frame, changed_keys, changed_upload, changed_paths}
+use Rattle.s3_types.specs.Answer.{made}
+use Rattle.store_frame.specs.Held.{object_in, upload_at}
+use Rattle.store_frame.specs.Frame.{Frame}
 use Rattle.proof_base.proofs.Members.{none_some, same_or_not, same_or_other, nat_other, nat_gone, nat_left, text_here, text_other, text_left}
 
 -- a store with this in place of a bucket

@@ -1,22 +1,10 @@
 -- What the walk finds is what is listed.
 use Rattle.std.proofs.Common.{◌≡◌, ℕ, Bool, true, false, ◌&&◌, cond, List, [], ◌∷◌, ◌++◌, Option, Some, None, refl, sym, ap, ◌∙◌, subst, map, length}
-use Rattle.std.proofs.lemmas.Bool.{false≢true}
-use Rattle.std.proofs.lemmas.Map.Lookups.{exact_bytes}
-use Rattle.std.proofs.lemmas.Map.Keys.{sorted_head, sorted_tail}
-use Rattle.std.specs.List.{filter}
+use Rattle.proof_base.proofs.Common.{false≢true, exact_bytes, sorted_head, sorted_tail}
+use Rattle.store_frame.specs.Prelude.{filter, keys_of, is_lt, is_eq, is_gt, Ordering, Less, Equal, Greater, text_cmp, Object, PageEntry, begins, stem_if, entry_by, entry_of, text_in, is_again, folded_from, listed, text_of, entries, Objects}
 use Rattle.std.specs.List.Sorted.{IsStrictlySortedBy}
-use Rattle.std.specs.Map.{keys_of}
-use Rattle.std.specs.Ordering.{is_lt, is_eq, is_gt}
-use Rattle.std.specs.declared.cmp.Ordering.{Ordering}
-use Rattle.std.specs.declared.cmp.Ordering.TheVariants.{Less, Equal, Greater}
-use Rattle.proof_base.specs.Order.{text_cmp}
-use Rattle.s3_types.specs.declared.object.Object.{Object}
-use Rattle.s3_types.specs.declared.reply.PageEntry.{PageEntry}
-use Rattle.s3_types.specs.Pages.{begins, stem_if, entry_by, entry_of, text_in, is_again, folded_from, listed}
-use Rattle.store_frame.specs.Walk.{text_by, text_of, walked}
-use Rattle.std.specs.FinMap.{entries}
+use Rattle.store_frame.specs.Walk.{text_by, walked}
 use Rattle.proof_base.proofs.Tree.{map_sorted}
-use Rattle.s3_types.specs.Store.{Objects}
 use Rattle.s3_types.proofs.Begins.{between}
 use Rattle.store_frame.proofs.Prefix.{lt, lt_back, lt_le, le_lt, le_le, lt_not, irrefl}
 use Rattle.store_frame.proofs.Walked.{stems, text_le}

@@ -1,12 +1,9 @@
 -- What a text begins with, and the order of texts.
 use Rattle.std.proofs.Common.{◌≡◌, ℕ, Bool, true, false, ◌&&◌, not, nat_eq, List, [], ◌∷◌, ◌++◌, refl, arith}
-use Rattle.std.proofs.lemmas.Bool.Decides.{nat_tests}
-use Rattle.std.proofs.lemmas.Bool.{false≢true, true≢false}
-use Rattle.std.specs.declared.cmp.Ordering.{Ordering}
-use Rattle.std.specs.Ordering.{nat_cmp, is_lt, is_gt, is_le, ordering_then}
-use Rattle.proof_base.specs.Order.{text_cmp, text_total}
+use Rattle.proof_base.proofs.Common.{nat_tests, false≢true, true≢false}
+use Rattle.store_frame.specs.Prelude.{Ordering, nat_cmp, is_lt, is_gt, ordering_then, text_cmp, text_total, begins}
+use Rattle.s3_types.specs.Prelude.{is_le}
 use Rattle.proof_base.proofs.Less as less
-use Rattle.s3_types.specs.Pages.{begins}
 
 -- whether a text is less than another
 abbrev pub lt : List ℕ → List ℕ → Bool

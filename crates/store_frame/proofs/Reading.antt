@@ -1,13 +1,8 @@
 -- A request that only reads changes nothing.
 use Rattle.std.proofs.Common.{◌≡◌, ◌+◌, true, false, cond, List, ℕ, [], Option, Some, None, refl, ap, ◌∙◌}
+use Rattle.store_frame.specs.Prelude.{text_total, BucketContent, Content, Scene, apply, apply_at, apply_in, bucket_of, draws, only_reads, Request, GetObject, HeadObject, ListPage, ListParts, ListUploads, ClusterGet, ClusterList}
 use Rattle.std.specs.FinMap as fin
-use Rattle.proof_base.specs.Order.{text_total}
 use Rattle.proof_base.proofs.Tree.{insert_same}
-use Rattle.s3_types.specs.Store.{BucketContent, Content, Scene}
-use Rattle.s3_types.specs.Answer.{apply, apply_at, apply_in, bucket_of, draws}
-use Rattle.s3_types.specs.Requests.{only_reads}
-use Rattle.s3_types.specs.declared.request.Request.{Request}
-use Rattle.s3_types.specs.declared.request.Request.TheVariants.{GetObject, HeadObject, ListPage, ListParts, ListUploads, ClusterGet, ClusterList}
 use Rattle.proof_base.proofs.Members.{text_exact, false_true}
 
 same_bucket : (c : Content) (n : List ℕ) (r : Request) (o : Option BucketContent) → fin.get c.buckets (bucket_of r) ≡ o → draws r ≡ false → ((b : BucketContent) → apply_in b c.next c.minimum r ≡ b) → apply_at o c r ≡ c

@@ -1,8 +1,7 @@
 -- Common prefixes.
 use Rattle.std.proofs.Common.{◌≡◌, ℕ, Bool, true, false, ◌&&◌, nat_eq, List, [], ◌∷◌, ◌++◌, Option, Some, None, refl, sym, ap, ◌∙◌, subst, cond}
-use Rattle.std.proofs.lemmas.Bool.{and_parts, false≢true, eqb-true, eq-eqb}
-use Rattle.std.specs.Option.{option_map}
-use Rattle.s3_types.specs.Pages.{begins, before_slash, stem}
+use Rattle.proof_base.proofs.Common.{and_parts, false≢true, eqb-true, eq-eqb}
+use Rattle.store_frame.specs.Prelude.{option_map, begins, before_slash, stem}
 
 record Mapped {A : Type 0} (f : A → A) (o : Option A) (s : A) : Type 0 where
   pub from : A

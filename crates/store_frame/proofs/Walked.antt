@@ -1,18 +1,11 @@
 -- What is walked after a text begins at the first key from `start` on.
 use Rattle.std.proofs.Common.{◌≡◌, ℕ, Bool, true, false, ◌&&◌, not, List, [], ◌∷◌, ◌++◌, Option, Some, None, refl, sym, ap, ◌∙◌, subst, cond}
-use Rattle.std.proofs.lemmas.Bool.{and_parts, false≢true, and_left, and_right, and_from, eq-eqb, not-true}
-use Rattle.std.specs.Ordering.{is_lt}
-use Rattle.std.specs.List.{filter, slice_get, AllByRecursion}
+use Rattle.proof_base.proofs.Common.{and_parts, false≢true, and_right, and_from, eq-eqb, not-true, sorted_head, sorted_tail}
+use Rattle.store_frame.specs.Prelude.{is_lt, filter, slice_get, AllByRecursion, keys_of, Unbounded, Less, is_from_start, entries_between, text_cmp, Object, begins, stem_if, entry_of, text_of, start, ComesNext}
+use Rattle.s3_types.specs.Prelude.{Included, Excluded}
+use Rattle.std.proofs.lemmas.Bool.{and_left}
 use Rattle.std.specs.List.Sorted.{IsStrictlySortedBy}
-use Rattle.std.specs.Map.{keys_of}
-use Rattle.std.specs.declared.ops.Bound.TheVariants.{Included, Excluded, Unbounded}
-use Rattle.std.specs.declared.cmp.Ordering.TheVariants.{Less}
-use Rattle.std.specs.BTreeMap.Range.{is_from_start, entries_between}
-use Rattle.std.proofs.lemmas.Map.Keys.{sorted_head, sorted_tail}
-use Rattle.proof_base.specs.Order.{text_cmp}
-use Rattle.s3_types.specs.declared.object.Object.{Object}
-use Rattle.s3_types.specs.Pages.{begins, stem_if, entry_of}
-use Rattle.store_frame.specs.Walk.{text_by, text_of, start_by, start, walked, ComesNext}
+use Rattle.store_frame.specs.Walk.{text_by, start_by, walked}
 use Rattle.s3_types.proofs.Begins.{between, from_prefix}
 use Rattle.store_frame.proofs.Prefix.{lt, up_to_next, before_next, le_not, le_lt, lt_le, le_le, lt_not, irrefl, lt_trans}
 use Rattle.store_frame.proofs.Stem.{stem_below, stem_prefix, stem_same}

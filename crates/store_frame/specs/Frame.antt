@@ -1,11 +1,9 @@
 -- What a request names of a bucket and of the cluster's files, and that nothing else changes.
 use Rattle.std.specs.Prelude.{◌≡◌, ℕ, ◌<◌, ◌≤◌, List, [], ◌∷◌, Option, Some, None}
+use Rattle.s3_types.specs.Prelude.{BucketContent, Scene, Upload, bucket_of, IsIn}
 use Rattle.std.specs.FinMap as fin
-use Rattle.s3_types.specs.Store.{BucketContent, Scene, Upload}
-use Rattle.s3_types.specs.Answer.{bucket_of}
 use Rattle.s3_types.specs.declared.request.Request.{Request}
 use Rattle.s3_types.specs.declared.request.Request.TheVariants.{PutObject, DeleteObject, DeleteObjects, CopyObject, UploadPart, CompleteUpload, AbortUpload, ClusterPut, ClusterRename, ClusterDelete}
-use Rattle.proof_base.specs.Members.{IsIn}
 use Rattle.store_frame.specs.Held.{object_at, upload_at}
 
 -- the keys at which a request may change what stands

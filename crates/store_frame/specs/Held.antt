@@ -1,7 +1,7 @@
 -- What stands at a bucket's key, and the live upload of a bucket's id.
 use Rattle.std.specs.Prelude.{◌≡◌, ℕ, List, Option, Some, None}
+use Rattle.s3_types.specs.Prelude.{BucketContent, Content, Upload}
 use Rattle.std.specs.FinMap as fin
-use Rattle.s3_types.specs.Store.{BucketContent, Content, Upload}
 use Rattle.s3_types.specs.declared.object.Object.{Object}
 
 -- the object at a key of a bucket, or none

@@ -1,15 +1,9 @@
 -- The laws of this crate.
 use Rattle.std.specs.Prelude.{◌≡◌, ℕ, ◌⊎◌, false, true, nat_lt, List, length, map, take, Some}
+use Rattle.s3_types.specs.Prelude.{is_lt, text_cmp, Objects, Scene, begins, listed, text_in, apply, only_reads, IsIn, RisesFrom, last_from}
 use Rattle.std.specs.FinMap as fin
-use Rattle.std.specs.Ordering.{is_lt}
-use Rattle.proof_base.specs.Order.{text_cmp}
-use Rattle.s3_types.specs.Store.{Objects, Scene}
-use Rattle.s3_types.specs.Pages.{begins, listed, text_in}
-use Rattle.s3_types.specs.Answer.{apply}
-use Rattle.s3_types.specs.Requests.{only_reads}
 use Rattle.s3_types.specs.declared.object.Object.{Object}
 use Rattle.s3_types.specs.declared.request.Request.{Request}
-use Rattle.proof_base.specs.Members.{IsIn, RisesFrom, last_from}
 use Rattle.store_frame.specs.Held.{HasBucket}
 use Rattle.store_frame.specs.Frame.{Frame}
 

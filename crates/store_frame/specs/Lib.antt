@@ -2,3 +2,4 @@ pub mod Held
 pub mod Frame
 pub mod Walk
 pub mod Laws
+pub mod Prelude

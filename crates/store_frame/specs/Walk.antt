@@ -1,10 +1,6 @@
 -- Pages by a walk over the entries, which finds where each next entry stands.
 use Rattle.std.specs.Prelude.{◌≡◌, ℕ, Bool, ◌&&◌, cond, List, [], ◌∷◌, ◌++◌, Option, Some, None}
-use Rattle.std.specs.Ordering.{is_lt}
-use Rattle.std.specs.declared.ops.Bound.{Bound}
-use Rattle.std.specs.declared.ops.Bound.TheVariants.{Included, Excluded}
-use Rattle.proof_base.specs.Order.{text_cmp}
-use Rattle.s3_types.specs.Pages.{begins, stem_if, entry_of}
+use Rattle.s3_types.specs.Prelude.{is_lt, Bound, Included, Excluded, text_cmp, begins, stem_if, entry_of}
 use Rattle.s3_types.specs.declared.object.Object.{Object}
 use Rattle.s3_types.specs.declared.reply.PageEntry.{PageEntry}
 

@@ -1,17 +1,9 @@
 -- Entries that rise: they are taken and read again, and they are those of the map that they make.
 use Rattle.std.proofs.Common.{◌≡◌, ℕ, zero, suc, ◌+◌, ◌^◌, ◌<◌, ◌≤◌, Bool, true, false, T, List, [], ◌∷◌, ◌++◌, length, Option, Some, None, Ok, refl, sym, ap, subst, ◌∙◌, append_assoc, length-append, arith}
 use Rattle.std.specs.Prelude.{◌&&◌}
+use Rattle.s3_types.specs.Prelude.{entries_sorted, put, below_all, is_sorted, Width, to_be_bytes, flat_map, AllByRecursion, is_lt, ordering_reverse, Ordering, Greater, IsTotalOrder}
+use Rattle.proof_base.proofs.Common.{append-nil, flat_map-cons}
 use Rattle.std.specs.FinMap as fin
-use Rattle.std.specs.FinMap.{entries_sorted}
-use Rattle.std.specs.FinMap.Entries.{put, below_all, is_sorted}
-use Rattle.std.specs.Int.{Width, to_be_bytes}
-use Rattle.std.specs.List.{flat_map, AllByRecursion}
-use Rattle.std.specs.Ordering.{is_lt, ordering_reverse}
-use Rattle.std.specs.declared.cmp.Ordering.{Ordering}
-use Rattle.std.specs.declared.cmp.Ordering.TheVariants.{Greater}
-use Rattle.std.specs.Cmp.{IsTotalOrder}
-use Rattle.std.proofs.lemmas.List.{append-nil}
-use Rattle.std.proofs.lemmas.List.Concat.{flat_map-cons}
 use Rattle.proof_base.proofs.Bools.{both_T}
 use Rattle.proof_base.proofs.Less.{less_of}
 use Rattle.proof_base.proofs.Tree.{entries_empty}

@@ -1,16 +1,13 @@
 -- One more entry of a map that is read.
 use Rattle.std.proofs.Common.{◌≡◌, ℕ, suc, ◌+◌, ◌-◌, ◌<◌, ◌≤◌, List, ◌∷◌, Option, Some, None, Ok, Err, refl, sym, ap, ◌∙◌, arith}
+use Rattle.s3_types.specs.Prelude.{Ordering, ◌>>=◌, Fails, w16, w64, is_key, Parts, Uploads, Content}
+use Rattle.proof_base.proofs.Common.{nat_cmp_total}
 use Rattle.std.specs.FinMap as fin
-use Rattle.std.specs.declared.cmp.Ordering.{Ordering}
-use Rattle.proof_base.specs.Reading.{◌>>=◌, made, Fails}
+use Rattle.proof_base.specs.Reading.{made}
 use Rattle.proof_base.proofs.Reading.{unless_more}
 use Rattle.store_image.specs.declared.fault.ImageFault.{ImageFault}
 use Rattle.store_image.specs.Fault.{wanting}
 use Rattle.store_image.specs.Reading.{Read, number_at, block_at, name_at, part_number_at, rising_at, with_entries, map_at, counted_at, upload_at}
-use Rattle.std.specs.Int.{w16, w64}
-use Rattle.std.proofs.lemmas.Cmp.{nat_cmp_total}
-use Rattle.s3_types.specs.Names.{is_key}
-use Rattle.s3_types.specs.Store.{Parts, Uploads, Content}
 use Rattle.store_image.proofs.Maps.{insert_again}
 
 -- a map with the entries that are read put into it

@@ -1,18 +1,9 @@
 -- Maps that grow by keys that rise.
 use Rattle.std.proofs.Common.{◌≡◌, ℕ, ◌<◌, ◌≤◌, Bool, true, false, cond, List, Option, Some, None, refl, sym, ap, ◌∙◌, arith}
+use Rattle.s3_types.specs.Prelude.{is_lt, is_eq, eq_by_cmp, ordering_reverse, nat_cmp, Ordering, Less, Equal, Greater, IsTotalOrder, eq_by_cmp_equiv, text_equiv, Parts, Upload, Uploads, with_key, live, is_part_number, with_part, part_put}
+use Rattle.proof_base.proofs.Common.{nat_cmp_total, nat_tests}
 use Rattle.std.specs.FinMap as fin
-use Rattle.std.specs.Ordering.{is_lt, is_eq, eq_by_cmp, ordering_reverse, nat_cmp}
-use Rattle.std.specs.declared.cmp.Ordering.{Ordering}
-use Rattle.std.specs.declared.cmp.Ordering.TheVariants.{Less, Equal, Greater}
-use Rattle.std.specs.Cmp.{IsTotalOrder}
-use Rattle.std.specs.Cmp.{eq_by_cmp_equiv}
-use Rattle.std.proofs.lemmas.Cmp.{nat_cmp_total}
-use Rattle.std.proofs.lemmas.Bool.Decides.{nat_tests}
 use Rattle.proof_base.proofs.Less.{less_of}
-use Rattle.proof_base.specs.Order.{text_equiv}
-use Rattle.s3_types.specs.Store.{Parts, Upload, Uploads}
-use Rattle.s3_types.specs.Multipart.{with_key, live, is_part_number, with_part}
-use Rattle.s3_types.specs.Answer.{part_put}
 use Rattle.store_image.specs.Reading.{is_after}
 
 module _ {K : Type 0} {R : K → K → Ordering} (o : IsTotalOrder R) where

@@ -1,21 +1,12 @@
 -- What is read of each kind of value is spelled so, and what is spelled so is read.
 use Rattle.std.proofs.Common.{◌≡◌, ℕ, zero, suc, leb, ltb, ◌&&◌, ◌+◌, ◌-◌, ◌^◌, ◌<◌, ◌≤◌, Bool, true, List, [], ◌∷◌, ◌++◌, length, Option, Some, None, Ok, refl, sym, ap, subst, ◌∙◌, append_assoc, arith}
-use Rattle.std.proofs.lemmas.List.{length-append}
 use Rattle.std.specs.FinMap as fin
-use Rattle.std.specs.Int.{w16, w64, to_be_bytes}
-use Rattle.std.specs.List.{AllByRecursion, list_all}
 use Rattle.std.specs.Prelude.{slice_index}
-use Rattle.std.specs.Ordering.{nat_cmp}
-use Rattle.std.proofs.lemmas.Bool.{leb-true, ltb-true, and_parts}
-use Rattle.std.proofs.lemmas.Cmp.{nat_cmp_total}
-use Rattle.proof_base.specs.Order.{text_cmp, text_total}
-use Rattle.std.specs.Str.{is_utf8}
-use Rattle.proof_base.specs.Reading.{◌>>=◌}
+use Rattle.proof_base.proofs.Common.{length-append, leb-true, ltb-true, and_parts, nat_cmp_total}
+use Rattle.s3_types.specs.Prelude.{w16, w64, to_be_bytes, AllByRecursion, list_all, nat_cmp, text_cmp, text_total, is_utf8, ◌>>=◌, is_bucket, is_key, is_key_path, are_elements, trimmed, is_name_byte, is_part_number, Upload, BucketContent}
 use Rattle.proof_base.proofs.Reading.{parted, same_ok, tested, tested_again}
 use Rattle.proof_base.proofs.Bytes.{IsBytes, Takes, Takes-then, IsReader, wide16, wide64}
-use Rattle.s3_types.specs.Names.{is_bucket, is_key, is_key_path, are_elements, trimmed, is_name_byte, is_letter_or_digit}
-use Rattle.s3_types.specs.Multipart.{is_part_number}
-use Rattle.s3_types.specs.Store.{Upload, BucketContent}
+use Rattle.s3_types.specs.Names.{is_letter_or_digit}
 use Rattle.s3_types.specs.declared.object.Object.{Object}
 use Rattle.store_image.specs.Image.{name, block, counted, header, object, part, upload, bucket}
 use Rattle.store_image.specs.Content.{is_id, IsEntry, AreEntries, IsObject, IsPart, IsUpload, IsBucket}

@@ -1,8 +1,7 @@
 -- Steps of reading: what a step took from the front, and that it reads again what was written.
 use Rattle.std.proofs.Common.{◌≡◌, ℕ, ◌+◌, ◌^◌, ◌<◌, ◌≤◌, List, ◌++◌, length, Ok, refl, sym, ap, subst, ◌∙◌, append_assoc, arith}
-use Rattle.std.specs.Int.{Width, w64, byte_len, from_be_bytes, to_be_bytes}
-use Rattle.std.proofs.lemmas.List.{length-append}
-use Rattle.proof_base.specs.Reading.{◌>>=◌}
+use Rattle.s3_types.specs.Prelude.{Width, w64, byte_len, from_be_bytes, to_be_bytes, ◌>>=◌}
+use Rattle.proof_base.proofs.Common.{length-append}
 use Rattle.proof_base.proofs.Bytes.{IsBytes, Takes, Takes-then, IsReader, front_takes, front_again, IsWide, wide64}
 use Rattle.proof_base.proofs.Reading.{parted, same_ok}
 use Rattle.store_image.specs.declared.fault.ImageFault.TheVariants.{Short}

@@ -1,16 +1,10 @@
 -- The two laws of the whole: what is read is spelled so, and what is spelled so is read.
 use Rattle.std.proofs.Common.{◌≡◌, ℕ, ◌^◌, ◌<◌, ◌≤◌, true, cond, eqb, leb, List, [], ◌++◌, length, Ok, Err, refl, sym, ap, subst, ◌∙◌, append_assoc, arith}
 use Rattle.std.specs.Prelude.{bytes_eq}
-use Rattle.std.specs.Int.{w64, to_be_bytes}
-use Rattle.std.proofs.lemmas.Bool.{eqb-true, leb-true, and_parts}
-use Rattle.std.proofs.lemmas.List.{append-nil, nil_from_length, length-append}
-use Rattle.std.proofs.lemmas.Slice.Eq.{bytes_eq-Decides}
-use Rattle.proof_base.specs.Order.{text_cmp}
-use Rattle.proof_base.specs.Reading.{◌>>=◌, passing}
+use Rattle.s3_types.specs.Prelude.{w64, to_be_bytes, text_cmp, ◌>>=◌, passing, is_bucket, Content}
+use Rattle.proof_base.proofs.Common.{eqb-true, leb-true, and_parts, append-nil, nil_from_length, length-append, bytes_eq-Decides}
 use Rattle.proof_base.proofs.Reading.{parted, same_ok, passed}
 use Rattle.proof_base.proofs.Bytes.{IsBytes, Takes, Takes-then, wide64}
-use Rattle.s3_types.specs.Names.{is_bucket}
-use Rattle.s3_types.specs.Store.{Content}
 use Rattle.store_image.specs.declared.fault.ImageFault.TheVariants.{BadHead, CounterTooHigh, Trailing}
 use Rattle.store_image.specs.Image.{magic, counted, bucket, image}
 use Rattle.store_image.specs.Content.{is_minimum, is_counter, IsContent}

@@ -1,10 +1,7 @@
 -- The one image of what a store holds. All numbers are big-endian.
 use Rattle.std.specs.Prelude.{ℕ, ◌+◌, List, ◌++◌, length, codes, Option, Some, None}
+use Rattle.s3_types.specs.Prelude.{Width, w16, w64, to_be_bytes, flat_map, Ordering, Upload, BucketContent, Content}
 use Rattle.std.specs.FinMap as fin
-use Rattle.std.specs.Int.{Width, w16, w64, to_be_bytes}
-use Rattle.std.specs.List.{flat_map}
-use Rattle.std.specs.declared.cmp.Ordering.{Ordering}
-use Rattle.s3_types.specs.Store.{Upload, BucketContent, Content}
 use Rattle.s3_types.specs.declared.object.Object.{Object}
 
 -- a key or a name with its length before it

@@ -1,15 +1,9 @@
 -- Reading an image from left to right, with the first fault that is met. A field's place is how much of the whole, which is told by its length, stands before it.
 use Rattle.std.specs.Prelude.{ℕ, ◌-◌, zero, suc, ◌==◌, nat_lt, Bool, true, if◌then◌else◌, List, [], ◌∷◌, length, take, drop, bytes_eq, Option, Some, None, Result, Ok, Err}
+use Rattle.s3_types.specs.Prelude.{Width, w16, w64, byte_len, from_be_bytes, is_lt, nat_cmp, Ordering, text_cmp, ◌>>=◌, passing, is_bucket, is_key, is_part_number, Parts, Upload, BucketContent, Content}
 use Rattle.std.specs.FinMap as fin
-use Rattle.std.specs.Int.{Width, w16, w64, byte_len, from_be_bytes}
-use Rattle.std.specs.Ordering.{is_lt, nat_cmp}
-use Rattle.std.specs.declared.cmp.Ordering.{Ordering}
-use Rattle.proof_base.specs.Order.{text_cmp}
 use Rattle.proof_base.specs.Reading as reading
-use Rattle.proof_base.specs.Reading.{◌>>=◌, made, passing}
-use Rattle.s3_types.specs.Names.{is_bucket, is_key}
-use Rattle.s3_types.specs.Multipart.{is_part_number}
-use Rattle.s3_types.specs.Store.{Parts, Upload, BucketContent, Content}
+use Rattle.proof_base.specs.Reading.{made}
 use Rattle.s3_types.specs.declared.object.Object.{Object}
 use Rattle.store_image.specs.Image.{magic}
 use Rattle.store_image.specs.Content.{is_minimum, is_counter, is_id}

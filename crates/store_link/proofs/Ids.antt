@@ -1,9 +1,8 @@
 -- The next upload's id after a request.
 use Rattle.std.proofs.Common.{◌≤◌, ◌+◌, ℕ, Bool, true, false, cond, List, [], Option, Some, None, arith}
+use Rattle.s3_types.specs.Prelude.{is_bucket, Content, BucketContent, apply_store, apply_at, draws}
 use Rattle.std.specs.FinMap as fin
-use Rattle.s3_types.specs.Names.{is_bucket}
-use Rattle.s3_types.specs.Store.{Content, BucketContent}
-use Rattle.s3_types.specs.Answer.{apply_store, apply_at, made, draws}
+use Rattle.s3_types.specs.Answer.{made}
 use Rattle.s3_types.specs.declared.request.Request.{Request}
 use Rattle.s3_types.specs.declared.request.Request.TheVariants.{MakeBucket, PutObject, GetObject, HeadObject, DeleteObject, DeleteObjects, CopyObject, ListPage, CreateUpload, UploadPart, CompleteUpload, AbortUpload, ListParts, ListUploads, ClusterPut, ClusterRename, ClusterGet, ClusterDelete, ClusterList}
 

@@ -1,9 +1,7 @@
 -- A store with its cluster, as it answers requests.
 use Rattle.std.specs.Prelude.{ℕ, refl}
-use Rattle.std.specs.Coded.{Coded, code_by, coded×, coded_ℕ}
-use Rattle.s3_types.specs.Store.{Scene, Content, Files}
+use Rattle.s3_types.specs.Prelude.{Coded, code_by, coded×, coded_ℕ, Scene, Content, Files, FateMap, coded_fates}
 use Rattle.s3_types.specs.Coded.{coded_content, coded_files}
-use Rattle.s3_types.specs.Fates.{FateMap, coded_fates}
 
 -- the scene, and how many requests were made so far
 pub record Link : Type 0 where

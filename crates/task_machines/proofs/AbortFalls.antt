@@ -1,22 +1,8 @@
 -- What an abort has left falls.
 use Rattle.std.proofs.Common.{◌≡◌, ◌+◌, ◌<◌, ◌≤◌, Bool, true, false, List, [], ◌∷◌, length, Option, Some, None, refl, ap, subst, arith}
+use Rattle.job_protocol.specs.Prelude.{Scene, answer, apply, Committer, Magic, Request, AbortUpload, Who, Drawn, Script, task_script, who_of, task_abort_wants, task_abort_told, FallsAmong, Sweep, sweep_start, sweep_asks, sweep_hears, all_go, attempt_prefix, TaskAbort, Dropping, TaskAbortOver, task_abort_asks, task_abort_hears, dropping, FitsSweep, left_of, adds_key, one_if}
 use Rattle.proof_base.proofs.Options.{some_is}
-use Rattle.s3_types.specs.Store.{Scene}
-use Rattle.s3_types.specs.Answer.{answer, apply}
-use Rattle.s3_types.specs.declared.request.Committer.{Committer}
-use Rattle.s3_types.specs.declared.request.Committer.TheVariants.{Magic}
-use Rattle.s3_types.specs.declared.request.Request.{Request}
-use Rattle.s3_types.specs.declared.request.Request.TheVariants.{AbortUpload}
-use Rattle.job_model.specs.Attempts.{Who}
-use Rattle.job_model.specs.Known.{Drawn}
-use Rattle.job_model.specs.JobScript.{Script}
-use Rattle.job_protocol.specs.AtWork.{task_script, who_of, task_abort_wants, task_abort_told}
-use Rattle.job_protocol.specs.Measures.{FallsAmong}
-use Rattle.list_walk.specs.Walks.{Sweep, sweep_start, sweep_asks, sweep_hears, all_go}
-use Rattle.job_protocol.specs.TaskCommits.{attempt_prefix}
-use Rattle.job_protocol.specs.TaskAborts.{TaskAbort, Dropping, Sweeping, Removing, TaskAbortOver, task_abort_asks, task_abort_hears, removing, dropped, dropping, sweeping}
-use Rattle.list_walk.specs.Fitting.{FitsSweep}
-use Rattle.list_walk.specs.Left.{left_of, adds_key, one_if}
+use Rattle.job_protocol.specs.TaskAborts.{Sweeping, Removing, removing, dropped, sweeping}
 use Rattle.list_walk.proofs.Falling.{sweep_laws}
 use Rattle.task_machines.specs.Aborts.{FitsAbort, abort_fits, own_left, after_left, abort_left_at, abort_left}
 

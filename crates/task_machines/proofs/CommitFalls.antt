@@ -1,36 +1,14 @@
 -- What a commit has left falls.
 use Rattle.std.proofs.Common.{◌≡◌, ℕ, ◌+◌, ◌<◌, ◌≤◌, nat_lt, Bool, true, false, cond, List, [], ◌∷◌, map, length, take, length-append, Option, Some, None, refl, sym, ap, subst, ◌∙◌, arith, inl, inr}
-use Rattle.std.specs.List.{filter, flat_map}
-use Rattle.std.specs.Cmp.Lexicographic.{bytes_decides}
-use Rattle.proof_base.specs.Order.{text_eq}
+use Rattle.job_protocol.specs.Prelude.{filter, flat_map, bytes_decides, text_eq, Scene, BucketContent, answer, answer_at, apply, listed, Request, ListPage, Reply, Page, Part, Refused, PageEntry, NoSuchKey, NoSuchUpload, NoSuchFile, IsIn, RisesFrom, File, Who, Drawn, Known, Script, task_script, who_of, task_commit_wants, task_commit_told, FallsAmong, files, record_key, Uploading, Creating, Sending, file_parts, sending, created, sent_part, upload_hears, Walked, More, Whole, page_after, TaskCommit, Looking, Reading, Publishing, Checking, Storing, Renaming, TaskCommitOver, attempt_prefix, partition_prefix, task_commit_asks, task_commit_hears, in_order, reading, looked_at, looked, read_record, least_missing, storing, checking, uploaded, renamed, FitsPage, walk_left, adds_key, LessWalk}
+use Rattle.machine.specs.Prelude.{Upload}
 use Rattle.proof_base.proofs.Options.{some_is}
 use Rattle.std.specs.FinMap as fin
-use Rattle.s3_types.specs.Store.{Scene, BucketContent}
-use Rattle.s3_types.specs.Answer.{answer, answer_at, apply}
-use Rattle.s3_types.specs.Pages.{listed}
-use Rattle.s3_types.specs.declared.request.Request.{Request}
-use Rattle.s3_types.specs.declared.request.Request.TheVariants.{ListPage}
-use Rattle.s3_types.specs.declared.reply.Reply.{Reply}
-use Rattle.s3_types.specs.declared.reply.Reply.TheVariants.{Object, Page, Upload, Part, Refused}
-use Rattle.s3_types.specs.declared.reply.PageEntry.{PageEntry}
-use Rattle.s3_types.specs.declared.reply.Refusal.TheVariants.{NoSuchKey, NoSuchUpload, NoSuchFile}
-use Rattle.proof_base.specs.Members.{IsIn, RisesFrom}
+use Rattle.s3_types.specs.declared.reply.Reply.TheVariants.{Object}
 use Rattle.store_frame.proofs.Flat.{not_again}
-use Rattle.job_model.specs.Files.{File}
-use Rattle.job_model.specs.Attempts.{Who}
-use Rattle.job_model.specs.Known.{Drawn, Known}
-use Rattle.job_model.specs.JobScript.{Script}
-use Rattle.job_protocol.specs.AtWork.{task_script, who_of, task_commit_wants, task_commit_told}
-use Rattle.job_protocol.specs.Measures.{FallsAmong}
-use Rattle.job_protocol.specs.Outputs.{files}
-use Rattle.job_protocol.specs.Records.{record_key}
-use Rattle.job_protocol.specs.Uploading.{Uploading, Creating, Sending, file_parts, sending, created, sent_part, upload_hears}
-use Rattle.list_walk.specs.Walks.{Walked, More, Whole, page_after, walked}
+use Rattle.list_walk.specs.Walks.{walked}
 use Rattle.job_protocol.specs.TaskCommits as commits
-use Rattle.job_protocol.specs.TaskCommits.{TaskCommit, Looking, Reading, Publishing, Checking, Storing, Renaming, TaskCommitOver, attempt_prefix, partition_prefix, task_commit_asks, task_commit_hears, in_order, reading, looked_at, looked, read_record, least_missing, storing, checking, checked, uploaded, renamed}
-use Rattle.list_walk.specs.Fitting.{FitsPage}
-use Rattle.list_walk.specs.Left.{walk_left, adds_key}
-use Rattle.list_walk.specs.Laws.{LessWalk}
+use Rattle.job_protocol.specs.TaskCommits.{checked}
 use Rattle.list_walk.proofs.Falling.{walk_laws}
 use Rattle.task_requests.specs.Publishing.{FitsRecord}
 use Rattle.task_requests.specs.Writing.{FitsCreate, FitsPart, FitsUpload}

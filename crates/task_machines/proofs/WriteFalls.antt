@@ -1,19 +1,9 @@
 -- What is left of a write.
 use Rattle.std.proofs.Common.{◌≡◌, ℕ, ◌+◌, ◌<◌, ◌≤◌, Bool, List, [], ◌∷◌, length, Some, arith}
-use Rattle.s3_types.specs.Answer.{answer}
-use Rattle.s3_types.specs.declared.request.Request.{Request}
-use Rattle.s3_types.specs.declared.reply.Reply.{Reply}
-use Rattle.s3_types.specs.declared.reply.Reply.TheVariants.{Upload, Part, Refused}
-use Rattle.s3_types.specs.declared.reply.Refusal.TheVariants.{NoSuchUpload}
-use Rattle.job_model.specs.Files.{File}
-use Rattle.job_model.specs.Known.{Drawn}
-use Rattle.job_model.specs.Jobs.{Task}
-use Rattle.job_model.specs.JobScript.{Script}
-use Rattle.job_protocol.specs.AtWork.{task_script, write_wants, write_told}
-use Rattle.job_protocol.specs.Measures.{FallsAmong}
-use Rattle.job_protocol.specs.Uploading.{Creating, Sending, sending, file_parts, created, sent_part}
+use Rattle.job_protocol.specs.Prelude.{answer, Request, Reply, Part, Refused, NoSuchUpload, File, Drawn, Task, Script, task_script, write_wants, write_told, FallsAmong, Creating, Sending, sending, file_parts, created, sent_part, Write, writing, write_hears}
+use Rattle.machine.specs.Prelude.{Upload}
 use Rattle.job_protocol.specs.Writes as writes
-use Rattle.job_protocol.specs.Writes.{Write, uploaded, writing, write_hears}
+use Rattle.job_protocol.specs.Writes.{uploaded}
 use Rattle.task_requests.specs.Writing.{write_fits, FitsWrite, FitsCreate, FitsPart, files_left, left_of, write_left}
 
 sent_left : (w : Script) (minimum : ℕ) (f : File) (fs : List File) (ps : List (List ℕ)) → left_of w minimum (uploaded w f fs (sending ps)) ≤ 2 + length ps + files_left w minimum fs

@@ -1,16 +1,9 @@
 -- How an abort of a task stands.
 use Rattle.std.specs.Prelude.{◌≡◌, Bool, true, false, List, [], ◌∷◌, Option, Some, None}
 use Rattle.std.proofs.Common.{refl}
-use Rattle.s3_types.specs.declared.request.Committer.{Committer}
-use Rattle.s3_types.specs.declared.request.Committer.TheVariants.{Magic, Directory, Partitioned}
-use Rattle.s3_types.specs.declared.reply.Reply.{Reply}
-use Rattle.machine.specs.Standing.{Standing, Fine}
-use Rattle.job_model.specs.Known.{Drawn}
-use Rattle.job_model.specs.JobScript.{Script}
-use Rattle.job_protocol.specs.AtWork.{Attempting, task_script, task_abort_wants, task_abort_told}
-use Rattle.list_walk.specs.Walks.{Sweep, sweep_hears, all_go}
-use Rattle.job_protocol.specs.TaskAborts.{TaskAbort, Dropping, Sweeping, Removing, TaskAbortOver, task_abort_over, task_abort_hears, removing, dropped, dropping, sweeping}
-use Rattle.machine.specs.Asks.{AskLaws}
+use Rattle.job_protocol.specs.Prelude.{Committer, Magic, Directory, Partitioned, Reply, Drawn, Script, Attempting, task_script, task_abort_wants, task_abort_told, Sweep, sweep_hears, all_go, TaskAbort, Dropping, TaskAbortOver, task_abort_over, task_abort_hears, dropping}
+use Rattle.machine.specs.Prelude.{Standing, Fine, AskLaws}
+use Rattle.job_protocol.specs.TaskAborts.{Sweeping, Removing, removing, dropped, sweeping}
 use Rattle.task_machines.specs.Standing.{standing_by}
 use Rattle.task_machines.specs.Aborts.{abort_fits}
 

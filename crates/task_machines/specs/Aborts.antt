@@ -1,17 +1,7 @@
 -- The replies that fit an abort of a task, and what it has left, for every committer.
 use Rattle.std.specs.Prelude.{ℕ, ◌+◌, Bool, length}
-use Rattle.s3_types.specs.Store.{Scene}
-use Rattle.s3_types.specs.declared.request.Committer.{Committer}
-use Rattle.s3_types.specs.declared.request.Committer.TheVariants.{Magic, Directory, Partitioned}
-use Rattle.s3_types.specs.declared.reply.Reply.{Reply}
-use Rattle.job_model.specs.Attempts.{Who}
-use Rattle.job_model.specs.JobScript.{Script}
-use Rattle.job_protocol.specs.AtWork.{Attempting, task_script, who_of}
-use Rattle.list_walk.specs.Walks.{Sweep, sweep_start}
-use Rattle.job_protocol.specs.TaskCommits.{attempt_prefix}
-use Rattle.job_protocol.specs.TaskAborts.{TaskAbort, Dropping, Sweeping, Removing, TaskAbortOver}
-use Rattle.list_walk.specs.Fitting.{FitsSweep}
-use Rattle.list_walk.specs.Left.{sweep_left}
+use Rattle.job_protocol.specs.Prelude.{Scene, Committer, Magic, Directory, Partitioned, Reply, Who, Script, Attempting, task_script, who_of, Sweep, sweep_start, attempt_prefix, TaskAbort, Dropping, TaskAbortOver, FitsSweep, sweep_left}
+use Rattle.job_protocol.specs.TaskAborts.{Sweeping, Removing}
 
 -- a page that is not folded has keys alone, and the bucket is there
 abbrev pub FitsAbort : TaskAbort → Reply → Type 0

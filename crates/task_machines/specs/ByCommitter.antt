@@ -1,7 +1,7 @@
 -- An operation by the committer of its attempt's job.
 use Rattle.std.specs.Prelude.{◌≡◌}
+use Rattle.job_protocol.specs.Prelude.{Task}
 use Rattle.s3_types.specs.declared.request.Committer.TheVariants as committers
-use Rattle.job_model.specs.Jobs.{Task}
 use Rattle.task_machines.specs.declared.by_committer.ByCommitter.{ByCommitter}
 use Rattle.task_machines.specs.declared.by_committer.ByCommitter.TheVariants.{Magic, Staging}
 

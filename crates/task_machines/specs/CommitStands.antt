@@ -1,21 +1,12 @@
 -- How a commit of a task stands.
 use Rattle.std.specs.Prelude.{◌≡◌, ℕ, Bool, true, false, List, [], ◌∷◌, Option, Some, None}
 use Rattle.std.proofs.Common.{refl}
-use Rattle.s3_types.specs.declared.reply.Reply.{Reply}
-use Rattle.s3_types.specs.declared.reply.Reply.TheVariants.{Object, Page, Upload, Refused}
-use Rattle.s3_types.specs.declared.reply.Refusal.TheVariants.{NoSuchKey, NoSuchUpload, NoSuchFile}
-use Rattle.machine.specs.Standing.{Standing, Fine}
-use Rattle.job_model.specs.Files.{File}
-use Rattle.job_model.specs.Attempts.{Who}
-use Rattle.job_model.specs.Known.{Known}
-use Rattle.job_model.specs.JobScript.{Script}
-use Rattle.job_protocol.specs.AtWork.{Attempting, task_script, who_of, task_commit_wants, task_commit_told}
-use Rattle.job_protocol.specs.Outputs.{files}
-use Rattle.job_protocol.specs.Uploading.{Uploading, Creating, Sending, file_parts, sending, created, sent_part, upload_hears}
-use Rattle.list_walk.specs.Walks.{Walked, More, Whole, walked}
+use Rattle.job_protocol.specs.Prelude.{Reply, Page, Refused, NoSuchKey, NoSuchUpload, NoSuchFile, File, Who, Known, Script, Attempting, task_script, who_of, task_commit_wants, task_commit_told, files, Uploading, Creating, Sending, file_parts, sending, created, sent_part, upload_hears, Walked, More, Whole, TaskCommit, Looking, Reading, Publishing, Checking, Storing, Renaming, TaskCommitOver, task_commit_over, task_commit_hears, reading, looked_at, looked, read_record, storing, checking, uploaded, renamed}
+use Rattle.machine.specs.Prelude.{Upload, Standing, Fine, AskLaws}
+use Rattle.s3_types.specs.declared.reply.Reply.TheVariants.{Object}
+use Rattle.list_walk.specs.Walks.{walked}
 use Rattle.job_protocol.specs.TaskCommits as commits
-use Rattle.job_protocol.specs.TaskCommits.{TaskCommit, Looking, Reading, Publishing, Checking, Storing, Renaming, TaskCommitOver, task_commit_over, task_commit_hears, reading, looked_at, looked, read_record, storing, checking, checked, uploaded, renamed}
-use Rattle.machine.specs.Asks.{AskLaws}
+use Rattle.job_protocol.specs.TaskCommits.{checked}
 use Rattle.task_machines.specs.Standing.{standing_by}
 use Rattle.task_requests.specs.Publishing.{FitsRecord}
 use Rattle.task_machines.specs.Commits.{FitsCommit, commit_fits}

@@ -1,21 +1,10 @@
 -- What holds of an attempt's operations, for every committer.
 use Rattle.std.specs.Prelude.{◌≡◌, Bool, Option, Some, None}
 use Rattle.std.proofs.Common.{refl, ap}
-use Rattle.s3_types.specs.declared.request.Request.{Request}
-use Rattle.s3_types.specs.declared.reply.Reply.{Reply}
-use Rattle.retries.specs.Retries.{Item, WornOut, OutOfMemory}
-use Rattle.machine.specs.Standing.{Standing}
-use Rattle.job_model.specs.Attempts.{Who}
-use Rattle.job_model.specs.Known.{Known}
-use Rattle.job_model.specs.Jobs.{Task}
-use Rattle.job_model.specs.JobScript.{Script}
-use Rattle.job_model.specs.declared.ends.TaskEnd.{TaskEnd}
+use Rattle.job_protocol.specs.Prelude.{Request, Reply, Item, WornOut, OutOfMemory, Who, Known, Task, Script, TaskEnd, Attempting, task_script, who_of, with_known, learned, write_wants, write_told, task_commit_wants, task_commit_told, task_abort_wants, task_abort_told, WriteOver, TaskCommitOver, TaskAbortOver}
+use Rattle.machine.specs.Prelude.{Standing, AskLaws}
 use Rattle.job_model.specs.declared.ends.TaskEnd.TheVariants as ends
-use Rattle.job_protocol.specs.AtWork.{Attempting, task_script, who_of, with_known, learned, told, write_wants, write_told, task_commit_wants, task_commit_told, task_abort_wants, task_abort_told}
-use Rattle.job_protocol.specs.Writes.{WriteOver}
-use Rattle.job_protocol.specs.TaskCommits.{TaskCommitOver}
-use Rattle.job_protocol.specs.TaskAborts.{TaskAbortOver}
-use Rattle.machine.specs.Asks.{AskLaws}
+use Rattle.job_protocol.specs.AtWork.{told}
 use Rattle.task_requests.specs.Writing.{write_fits}
 use Rattle.task_machines.specs.Writes.{write_standing, write_asks}
 use Rattle.task_machines.specs.Commits.{commit_fits}

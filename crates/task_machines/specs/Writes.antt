@@ -1,20 +1,10 @@
 -- How a write stands, and its laws as a machine.
 use Rattle.std.specs.Prelude.{◌≡◌, ℕ, List, [], ◌∷◌, Some}
 use Rattle.std.proofs.Common.{refl}
-use Rattle.s3_types.specs.declared.request.Request.{Request}
-use Rattle.s3_types.specs.declared.reply.Reply.{Reply}
-use Rattle.s3_types.specs.declared.reply.Reply.TheVariants.{Upload, Part, Refused}
-use Rattle.s3_types.specs.declared.reply.Refusal.TheVariants.{NoSuchUpload}
-use Rattle.machine.specs.Standing.{Standing, Fine}
-use Rattle.machine.specs.Asks.{AskLaws}
-use Rattle.job_model.specs.Files.{File}
-use Rattle.job_model.specs.Known.{Drawn}
-use Rattle.job_model.specs.Jobs.{Task}
-use Rattle.job_model.specs.JobScript.{Script}
-use Rattle.job_protocol.specs.AtWork.{Attempting, task_script, write_wants, write_told}
-use Rattle.job_protocol.specs.Uploading.{Creating, Sending, sending, file_parts, created, sent_part}
+use Rattle.job_protocol.specs.Prelude.{Request, Reply, Part, Refused, NoSuchUpload, File, Drawn, Task, Script, Attempting, task_script, write_wants, write_told, Creating, Sending, sending, file_parts, created, sent_part, Write, writing, write_hears}
+use Rattle.machine.specs.Prelude.{Upload, Standing, Fine, AskLaws}
 use Rattle.job_protocol.specs.Writes as writes
-use Rattle.job_protocol.specs.Writes.{Write, uploaded, writing, write_hears}
+use Rattle.job_protocol.specs.Writes.{uploaded}
 use Rattle.task_machines.specs.Standing.{standing_of}
 use Rattle.task_requests.specs.Writing.{write_fits, FitsWrite, FitsCreate, FitsPart}
 

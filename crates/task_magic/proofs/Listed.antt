@@ -1,29 +1,11 @@
 -- Which files the keys of a listing are of.
 use Rattle.std.proofs.Common.{◌≡◌, ℕ, zero, suc, ◌+◌, ◌<◌, ◌≤◌, nat_eq, nat_lt, Bool, true, false, cond, ◌||◌, List, [], ◌∷◌, ◌++◌, map, length, drop, get_or, slice_get, Option, Some, None, codes, refl, sym, ap, subst, ◌∙◌, arith, add-one, append_assoc, length-append, replicate}
 use Rattle.std.specs.Prelude.{slice_set, is_some, IfSome}
-use Rattle.std.specs.List.{filter, list_any, AllByRecursion, IsDistinct, position}
-use Rattle.std.specs.Map.{keys_of, lookup}
-use Rattle.std.specs.Cmp.Lexicographic.{bytes_decides}
-use Rattle.std.proofs.lemmas.Bool.{true≢false}
-use Rattle.std.proofs.lemmas.Bool.Decides.{nat_tests}
-use Rattle.std.proofs.lemmas.Grind.{flat_map-append}
-use Rattle.std.proofs.lemmas.Option.{slice_get-get_or}
-use Rattle.std.proofs.lemmas.List.{append_cancel_left, append_cancel_right, map-append, drop_all, get_or-map}
-use Rattle.std.proofs.lemmas.List.Folds.{list_any-append, list_all-append}
-use Rattle.std.proofs.Math.Bool.{or-false}
-use Rattle.std.proofs.lemmas.List.Quantifiers.{position-Some}
-use Rattle.std.proofs.Math.Seq.{drop-cons}
-use Rattle.std.proofs.lemmas.Map.Keys.{IsDistinct-head, IsDistinct-tail}
-use Rattle.proof_base.proofs.Numbers.{below_so}
-use Rattle.proof_base.specs.Order.{text_eq}
-use Rattle.path_keys.specs.Paths.{below}
+use Rattle.job_protocol.specs.Prelude.{filter, list_any, AllByRecursion, IsDistinct, position, keys_of, lookup, bytes_decides, text_eq, below, File, Task, task_script, who_of, files, attempt_dir, attempt_prefix, in_order, least_missing, least_of}
+use Rattle.path_keys.proofs.Common.{true≢false, nat_tests, flat_map-append, append_cancel_left, append_cancel_right, map-append, drop_all, list_any-append, list_all-append, or-false, drop-cons, below_so}
+use Rattle.proof_base.proofs.Common.{slice_get-get_or, position-Some, IsDistinct-head, IsDistinct-tail}
+use Rattle.std.proofs.lemmas.List.{get_or-map}
 use Rattle.magic_paths.proofs.Tails.{below_is}
-use Rattle.job_model.specs.Files.{File}
-use Rattle.job_model.specs.Jobs.{Task}
-use Rattle.job_protocol.specs.AtWork.{task_script, who_of}
-use Rattle.job_protocol.specs.Outputs.{files}
-use Rattle.job_protocol.specs.Records.{attempt_dir}
-use Rattle.job_protocol.specs.TaskCommits.{attempt_prefix, in_order, least_missing, least_of}
 use Rattle.task_requests.specs.Publishing.{picked, are_places}
 use Rattle.task_magic.specs.Committing.{record_of, AreRecords, IsRecordAt, IsPlaceOf, is_at, places_in, records_in, set_at, seen_in, least_unseen}
 use Rattle.task_requests.proofs.Told.{own_files}

@@ -1,14 +1,6 @@
 -- Where replies lead an abort, by how many of its uploads are aborted.
 use Rattle.std.proofs.Common.{◌≡◌, ℕ, zero, suc, ◌+◌, ◌<◌, Bool, List, [], ◌∷◌, length, drop, Option, None, refl, sym, ap, ◌∙◌, arith, add-one}
-use Rattle.s3_types.specs.declared.request.Committer.{Committer}
-use Rattle.s3_types.specs.declared.request.Committer.TheVariants.{Magic}
-use Rattle.s3_types.specs.declared.reply.Reply.{Reply}
-use Rattle.job_model.specs.Known.{Drawn, Known}
-use Rattle.job_model.specs.JobScript.{Script}
-use Rattle.job_model.specs.declared.ends.TaskEnd.{TaskEnd}
-use Rattle.job_protocol.specs.Knowledge.{as_made}
-use Rattle.list_walk.specs.Walks.{Sweep, sweep_start}
-use Rattle.job_protocol.specs.TaskAborts.{task_abort_hears, dropping}
+use Rattle.job_protocol.specs.Prelude.{Committer, Magic, Reply, Drawn, Known, Script, TaskEnd, as_made, Sweep, sweep_start, task_abort_hears, dropping}
 use Rattle.task_magic.specs.Undoing.{abort_from, abort_by}
 
 -- ---- behind an upload

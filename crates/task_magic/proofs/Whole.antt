@@ -1,21 +1,10 @@
 -- A write as a whole: how it begins, and what it is told without a reply.
 use Rattle.std.proofs.Common.{◌≡◌, ℕ, ◌<◌, Bool, false, List, [], ◌∷◌, ◌++◌, length, drop, codes, Option, Some, None, refl, sym, ap, subst, ◌∙◌, arith, length-drop}
 use Rattle.std.specs.Prelude.{IsSome}
-use Rattle.std.proofs.lemmas.Bool.{false≢true}
-use Rattle.s3_types.specs.declared.request.Committer.{Committer}
-use Rattle.s3_types.specs.declared.request.Committer.TheVariants.{Magic}
-use Rattle.s3_types.specs.declared.reply.Reply.{Reply}
-use Rattle.path_keys.specs.Paths.{Path}
-use Rattle.retries.specs.Retries.{WornOut}
-use Rattle.job_model.specs.Files.{File}
-use Rattle.job_model.specs.Jobs.{Task}
-use Rattle.job_model.specs.declared.ends.TaskEnd.{TaskEnd}
+use Rattle.path_keys.proofs.Common.{false≢true}
+use Rattle.job_protocol.specs.Prelude.{Committer, Magic, Reply, Path, WornOut, File, Task, TaskEnd, Attempting, task_script, who_of, with_known, write_wants, write_told, files, Creating, Write, write_start, write_start_by, write_over, writing}
 use Rattle.job_model.specs.declared.ends.TaskEnd.TheVariants as ends
-use Rattle.job_protocol.specs.AtWork.{Attempting, task_script, who_of, with_known, write_wants, write_told}
-use Rattle.job_protocol.specs.Outputs.{files}
-use Rattle.job_protocol.specs.Uploading.{Creating}
 use Rattle.job_protocol.specs.Writes as writes
-use Rattle.job_protocol.specs.Writes.{Write, write_start, write_start_by, write_over, writing}
 use Rattle.task_requests.specs.declared.stage.WriteStage.{WriteStage}
 use Rattle.task_requests.specs.declared.stage.WriteStage.TheVariants as stage
 use Rattle.task_requests.specs.Writing.{at_parts, at_stage, write_by, seen_write, Holds, IsOpen, IsWrite, dir_of, write_fits}

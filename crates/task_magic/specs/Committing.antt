@@ -1,19 +1,7 @@
 -- A commit of a magic attempt, by the keys listed, the places of the files that it commits, and how many records were read.
 use Rattle.std.specs.Prelude.{◌≡◌, ℕ, nat_eq, Bool, true, false, List, [], ◌∷◌, ◌++◌, map, take, drop, length, slice_get, slice_set, codes, Option, Some, None}
-use Rattle.std.specs.List.{list_any}
-use Rattle.proof_base.specs.Order.{text_eq}
-use Rattle.s3_types.specs.declared.reply.Reply.{Reply}
-use Rattle.s3_types.specs.declared.reply.Reply.TheVariants.{Refused}
-use Rattle.s3_types.specs.declared.reply.Refusal.TheVariants.{NoSuchKey}
-use Rattle.job_model.specs.Files.{File}
-use Rattle.job_model.specs.Known.{Known}
-use Rattle.job_model.specs.Jobs.{Task}
-use Rattle.job_model.specs.declared.ends.TaskEnd.{TaskEnd}
-use Rattle.job_protocol.specs.AtWork.{task_script, who_of, with_known}
-use Rattle.job_protocol.specs.Records.{record_key}
-use Rattle.job_protocol.specs.TaskCommits.{TaskCommit, Looking, Publishing, TaskCommitOver, least_of, reading}
+use Rattle.job_protocol.specs.Prelude.{list_any, text_eq, Reply, Refused, NoSuchKey, File, Known, Task, TaskEnd, task_script, who_of, with_known, record_key, TaskCommit, Looking, Publishing, TaskCommitOver, least_of, reading, keys_on}
 use Rattle.task_magic.specs.declared.committing.Committing.{Committing}
-use Rattle.list_walk.specs.Walks.{keys_on}
 use Rattle.task_requests.specs.Publishing.{picked, AreReady, are_places}
 
 -- ---- where it stands

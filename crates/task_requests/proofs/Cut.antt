@@ -1,10 +1,10 @@
 -- What is cut of a plan's file, in numbers that fit.
 use Rattle.std.proofs.Common.{◌≡◌, ℕ, ◌+◌, ◌*◌, ◌<◌, ◌≤◌, ◌^◌, List, length, sym, ap, subst, ◌∙◌, arith}
-use Rattle.std.proofs.Math.Nat.{mul-le-mul_right}
-use Rattle.s3_types.specs.Blocks.{quotient_up, greater}
-use Rattle.s3_types.proofs.Blocks.{some_size, most_size, length-parts, few_parts}
-use Rattle.job_model.specs.Jobs.{Task}
-use Rattle.job_model.specs.Plans.{IsTask}
+use Rattle.words.proofs.Common.{mul-le-mul_right}
+use Rattle.s3_types.specs.Prelude.{quotient_up, greater}
+use Rattle.path_keys.proofs.Common.{some_size, few_parts}
+use Rattle.job_protocol.specs.Prelude.{Task, IsTask}
+use Rattle.s3_types.proofs.Blocks.{most_size, length-parts}
 use Rattle.task_requests.specs.Writing.{size_of, count_of}
 
 most : (t : Task) (bytes : List ℕ) → IsTask t → length bytes ≤ 67108864 → size_of t bytes ≤ 67108864

@@ -1,8 +1,7 @@
 -- The uploads of an attempt in the order of their making.
 use Rattle.std.proofs.Common.{◌≡◌, List, [], ◌∷◌, ◌++◌, reverse, refl, sym, ap, ◌∙◌}
-use Rattle.std.proofs.lemmas.List.{reverse-reverse, reverse-append}
-use Rattle.job_model.specs.Known.{Drawn}
-use Rattle.job_protocol.specs.Knowledge.{as_made}
+use Rattle.path_keys.proofs.Common.{reverse-reverse, reverse-append}
+use Rattle.job_protocol.specs.Prelude.{Drawn, as_made}
 
 pub made_reverse : (ds : List Drawn) → as_made ds ≡ reverse ds
 made_reverse [] = refl

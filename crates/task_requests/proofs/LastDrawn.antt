@@ -1,22 +1,9 @@
 -- Where the upload of a key that was drawn last stands.
 use Rattle.std.proofs.Common.{◌≡◌, ℕ, zero, suc, ◌+◌, ◌<◌, ◌≤◌, Bool, true, false, cond, List, [], ◌∷◌, ◌++◌, length, length-take-le, take, reverse, get_or, slice_get, Option, Some, None, refl, sym, ap, subst, ◌∙◌, arith}
-use Rattle.std.proofs.lemmas.Bool.{true≢false}
-use Rattle.std.proofs.lemmas.List.{reverse-reverse, reverse-append, take_more, map-append}
-use Rattle.proof_base.specs.Order.{text_eq}
-use Rattle.std.proofs.lemmas.Option.{get_or_from_slice_get}
+use Rattle.path_keys.proofs.Common.{true≢false, reverse-reverse, reverse-append, take_more, map-append, get_or_from_slice_get}
+use Rattle.job_protocol.specs.Prelude.{text_eq, Request, PutObject, Pending, are_tags, are_sizes, Task, task_script, who_of, Drawn, Known, File, Script, as_made, drawn_in, nothing_drawn, file_key, file_record, set_text, Publishing, task_commit_asks}
 use Rattle.proof_base.proofs.Options.{some_is}
-use Rattle.s3_types.specs.declared.request.Request.{Request}
-use Rattle.s3_types.specs.declared.request.Request.TheVariants.{PutObject}
 use Rattle.magic_paths.specs.Layout as layout
-use Rattle.pending_json.specs.Pending.{Pending, are_tags, are_sizes}
-use Rattle.job_model.specs.Jobs.{Task}
-use Rattle.job_protocol.specs.AtWork.{task_script, who_of}
-use Rattle.job_model.specs.Known.{Drawn, Known}
-use Rattle.job_model.specs.Files.{File}
-use Rattle.job_model.specs.JobScript.{Script}
-use Rattle.job_protocol.specs.Knowledge.{as_made, drawn_in, nothing_drawn}
-use Rattle.job_protocol.specs.Records.{file_key, file_record, set_text}
-use Rattle.job_protocol.specs.TaskCommits.{Publishing, task_commit_asks}
 use Rattle.task_requests.specs.Publishing.{IsLastAt, IsPending, AreReady, picked, drawn_of, records_of}
 use Rattle.task_requests.proofs.InOrder.{made_reverse}
 

@@ -1,30 +1,14 @@
 -- The paths of an attempt's files as parts of keys.
 use Rattle.std.proofs.Common.{◌≡◌, ℕ, zero, suc, ◌+◌, ◌<◌, ◌≤◌, ◌^◌, ◌==◌, ◌&&◌, ◌||◌, not, nat_eq, nat_le, Bool, true, false, List, [], ◌∷◌, ◌++◌, length, slice_get, Option, Some, None, codes, refl, sym, ap, subst, ◌∙◌, inl, inr, arith, length-append}
-use Rattle.std.specs.List.{list_all, list_any, join_with_byte, ends_with}
-use Rattle.std.proofs.lemmas.Bool.{and_parts, or_parts, leb-true}
-use Rattle.std.proofs.lemmas.Bool.Decides.{nat_tests}
-use Rattle.std.proofs.lemmas.List.Folds.{list_all-append}
-use Rattle.words.specs.Parts.{parts_from, parts_of, is_other}
-use Rattle.words.proofs.Pieces.{join_parts, one_part}
-use Rattle.words.proofs.Split.{lone_from}
-use Rattle.s3_types.specs.Names.{is_element, are_elements, is_job_id}
+use Rattle.words.specs.Parts.{parts_from, parts_of}
 use Rattle.path_keys.proofs.Beneath.{elements_append}
 use Rattle.magic_paths.proofs.Elements.{id_others}
 use Rattle.magic_paths.proofs.Kept.{some_parts}
-use Rattle.proof_base.proofs.Bools.{contrary}
 use Rattle.std.specs.Prelude.{bytes_eq, option_map, IfSome}
-use Rattle.std.proofs.lemmas.Slice.Eq.{bytes_eq-Decides}
-use Rattle.job_model.specs.Files.{File}
-use Rattle.job_model.specs.Legal.{IsGiven, bytes_of}
-use Rattle.job_model.specs.Paths.{is_dest_key, is_reserved, is_path, is_full, begins_hidden}
-use Rattle.job_model.specs.Placed.{with_id, with_id_last, unique_name}
-use Rattle.job_model.specs.Jobs.{Job, Task}
-use Rattle.job_model.specs.Plans.{IsJob, IsTask, IsPlaced, ArePlaced}
-use Rattle.path_keys.specs.Paths.{Path, below}
-use Rattle.magic_paths.specs.Layout.{attempt_key}
+use Rattle.job_protocol.specs.Prelude.{list_all, list_any, join_with_byte, ends_with, is_element, are_elements, is_job_id, File, IsGiven, bytes_of, is_reserved, is_full, begins_hidden, with_id, with_id_last, unique_name, Job, Task, IsJob, IsTask, IsPlaced, ArePlaced, Path, below, attempt_key, decimal}
+use Rattle.path_keys.proofs.Common.{and_parts, or_parts, leb-true, nat_tests, list_all-append, join_parts, one_part, lone_from, contrary, bytes_eq-Decides, length-decimal-le}
+use Rattle.job_model.specs.Prelude.{is_other, is_dest_key, is_path}
 use Rattle.magic_paths.proofs.Tails.{below_is}
-use Rattle.std.specs.Fmt.{decimal}
-use Rattle.std.proofs.lemmas.Fmt.{length-decimal-le}
 use Rattle.proof_base.proofs.Options.{some_is}
 use Rattle.task_requests.specs.Writing.{IsFile, IsNamed, dir_of}
 

@@ -1,34 +1,15 @@
 -- The steps of a write, by the parts that its machine keeps.
 use Rattle.std.proofs.Common.{◌≡◌, ℕ, zero, suc, ◌+◌, ◌<◌, ◌≤◌, nat_lt, nat_le, ◌==◌, Result, Ok, Err, Bool, true, false, cond, List, [], ◌∷◌, map, length, take, drop, get_or, slice_get, Option, Some, None, refl, sym, ap, subst, ◌∙◌, arith, length-take-le, length-drop}
-use Rattle.std.proofs.lemmas.List.{take_all}
-use Rattle.std.proofs.lemmas.Option.{get_or_from_slice_get, slice_get_within}
-use Rattle.proof_base.proofs.Numbers.{below_is, below_not, below_so, at_most_so}
 use Rattle.std.specs.Prelude.{option_map, IfOk}
-use Rattle.std.specs.List.{list_all, sum}
-use Rattle.pending_json.specs.Pending.{are_tags, fit}
-use Rattle.std.proofs.lemmas.Bool.Decides.{nat_tests}
-use Rattle.s3_types.specs.Tags.{Spelled, is_plain_tag}
-use Rattle.s3_types.specs.declared.reply.Reply.{Reply}
-use Rattle.s3_types.specs.declared.reply.Reply.TheVariants.{Upload, Part, Refused}
-use Rattle.s3_types.specs.declared.reply.Refusal.TheVariants.{NoSuchUpload}
-use Rattle.s3_types.specs.declared.request.Request.{Request}
-use Rattle.s3_types.specs.declared.request.Request.TheVariants.{CreateUpload, UploadPart, PutObject}
-use Rattle.path_keys.specs.Paths.{Path}
-use Rattle.retries.specs.Retries.{Got}
-use Rattle.job_model.specs.Files.{File}
-use Rattle.job_model.specs.Jobs.{Task}
-use Rattle.job_model.specs.Known.{Drawn, Known, with_last}
-use Rattle.job_model.specs.JobScript.{Script}
+use Rattle.path_keys.proofs.Common.{take_all, get_or_from_slice_get, slice_get_within, below_is, below_not, below_so, at_most_so, nat_tests, some_size, some_parts, few_parts}
+use Rattle.job_protocol.specs.Prelude.{list_all, sum, are_tags, fit, Spelled, is_plain_tag, Reply, Part, Refused, NoSuchUpload, Request, CreateUpload, UploadPart, PutObject, Path, Got, File, Task, Drawn, Known, with_last, Script, Attempting, task_script, who_of, with_known, write_wants, write_told, first_drawn, drawn_last, file_key, record_key, record_text, Write}
+use Rattle.s3_types.specs.declared.reply.Reply.TheVariants.{Upload}
 use Rattle.job_model.specs.declared.ends.TaskEnd.TheVariants as ends
-use Rattle.job_protocol.specs.AtWork.{Attempting, task_script, who_of, with_known, write_wants, write_told}
-use Rattle.job_protocol.specs.Knowledge.{first_drawn, drawn_last}
-use Rattle.job_protocol.specs.Records.{file_key, record_key, record_text}
 use Rattle.job_protocol.specs.Writes as writes
-use Rattle.job_protocol.specs.Writes.{Write}
 use Rattle.task_requests.specs.declared.stage.WriteStage.{WriteStage}
 use Rattle.task_requests.specs.declared.stage.WriteStage.TheVariants as stage
 use Rattle.task_requests.specs.Writing.{at_parts, at_stage, seen_write, is_new, HasSent, HoldsAt, Holds, IsWrite, dir_of, IsBehind, next_stage, with_drawn, with_tag, FitsCreate, FitsPart, write_fits, upload_in, tag_in, ended_by, part_behind, size_of, parts_in, asks_behind}
-use Rattle.s3_types.proofs.Blocks.{drop-parts, some_size, some_parts, few_parts, sum_parts}
+use Rattle.s3_types.proofs.Blocks.{drop-parts, sum_parts}
 use Rattle.task_requests.proofs.Told.{seen_at, front_is, none_left, created, part_gone, part_sent, has_more, take_next, marked, recorded}
 
 -- ---- where nothing is to be shown

@@ -1,39 +1,14 @@
 -- Where replies lead a write, at the file that it is about.
 use Rattle.std.proofs.Common.{◌≡◌, ℕ, zero, suc, ◌+◌, ◌<◌, ◌≤◌, ◌||◌, nat_eq, nat_lt, not, Bool, true, false, cond, List, [], ◌∷◌, ◌++◌, map, length, take, drop, slice_get, get_or, Some, None, codes, refl, sym, ap, ◌∙◌, arith, append_assoc, length-append, add-one, lit<}
-use Rattle.std.specs.List.{list_all}
-use Rattle.std.specs.Fmt.{decimal}
-use Rattle.std.proofs.lemmas.Bool.{and_parts}
-use Rattle.std.proofs.lemmas.Bool.Decides.{nat_tests}
-use Rattle.proof_base.proofs.Bools.{not_so, contrary}
-use Rattle.proof_base.proofs.Lists.{one_longer}
-use Rattle.proof_base.proofs.Numbers.{below_not}
-use Rattle.std.proofs.lemmas.List.{drop_all}
-use Rattle.std.proofs.lemmas.List.Folds.{list_all-append}
-use Rattle.std.proofs.Math.Bool.{or-false}
-use Rattle.proof_base.specs.Order.{text_eq}
-use Rattle.s3_types.specs.Tags.{Spelled, is_plain_tag}
-use Rattle.s3_types.specs.declared.reply.Reply.{Reply}
-use Rattle.s3_types.specs.declared.reply.Reply.TheVariants.{Upload, Part, Refused}
-use Rattle.s3_types.specs.declared.reply.Refusal.TheVariants.{NoSuchUpload}
-use Rattle.path_keys.specs.Paths.{below}
+use Rattle.job_protocol.specs.Prelude.{list_all, decimal, text_eq, Spelled, is_plain_tag, Reply, Part, Refused, NoSuchUpload, below, bytes_decides, Got, File, Who, same_name, placed, Task, Drawn, Known, with_last, Script, Attempting, task_script, who_of, with_known, write_told, first_drawn, is_set_key, files, file_key, sending, file_parts, Write, writing}
+use Rattle.path_keys.proofs.Common.{and_parts, nat_tests, not_so, contrary, one_longer, below_not, drop_all, list_all-append, or-false}
+use Rattle.s3_types.specs.declared.reply.Reply.TheVariants.{Upload}
 use Rattle.magic_paths.specs.Layout as layout
 use Rattle.magic_paths.proofs.Tails.{below_is}
-use Rattle.std.specs.Cmp.Lexicographic.{bytes_decides}
-use Rattle.retries.specs.Retries.{Got}
-use Rattle.job_model.specs.Files.{File}
-use Rattle.job_model.specs.Attempts.{Who, same_name}
-use Rattle.job_model.specs.Placed.{placed}
-use Rattle.job_model.specs.Jobs.{Task}
-use Rattle.job_model.specs.Known.{Drawn, Known, with_last}
-use Rattle.job_model.specs.JobScript.{Script}
 use Rattle.job_model.specs.declared.ends.TaskEnd.TheVariants as ends
-use Rattle.job_protocol.specs.AtWork.{Attempting, task_script, who_of, with_known, write_told}
-use Rattle.job_protocol.specs.Knowledge.{with_part, first_drawn, is_set_key}
-use Rattle.job_protocol.specs.Outputs.{files}
-use Rattle.job_protocol.specs.Records.{file_key}
-use Rattle.job_protocol.specs.Uploading.{sending, file_parts}
+use Rattle.job_protocol.specs.Knowledge.{with_part}
 use Rattle.job_protocol.specs.Writes as writes
-use Rattle.job_protocol.specs.Writes.{Write, uploaded, writing}
+use Rattle.job_protocol.specs.Writes.{uploaded}
 use Rattle.task_requests.specs.declared.stage.WriteStage.{WriteStage}
 use Rattle.task_requests.specs.declared.stage.WriteStage.TheVariants as stage
 use Rattle.task_requests.specs.Writing.{at_parts, at_stage, is_new, HasSent, next_stage, with_drawn, with_tag}

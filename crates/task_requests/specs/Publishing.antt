@@ -1,18 +1,7 @@
 -- What a set publishes: files by their places, and what an attempt knows of their uploads.
 use Rattle.std.specs.Prelude.{◌≡◌, ℕ, nat_lt, Bool, true, List, [], map, length, get_or, slice_get, reverse, Option, Some, None}
-use Rattle.std.specs.List.{list_all, AllByRecursion}
-use Rattle.s3_types.specs.declared.reply.Reply.{Reply}
-use Rattle.s3_types.specs.declared.reply.Reply.TheVariants.{Object, Refused}
-use Rattle.s3_types.specs.declared.reply.Refusal.TheVariants.{NoSuchKey}
-use Rattle.pending_json.specs.Pending.{Pending, are_tags, are_sizes}
-use Rattle.job_model.specs.Files.{File}
-use Rattle.job_model.specs.Attempts.{Who}
-use Rattle.job_model.specs.Known.{Drawn, Known}
-use Rattle.job_model.specs.Jobs.{Task}
-use Rattle.job_model.specs.JobScript.{Script}
-use Rattle.job_protocol.specs.AtWork.{task_script, who_of}
-use Rattle.job_protocol.specs.Knowledge.{nothing_drawn, drawn_in, drawn_for}
-use Rattle.job_protocol.specs.Records.{file_key, file_record, record_text}
+use Rattle.job_protocol.specs.Prelude.{list_all, AllByRecursion, Reply, Refused, NoSuchKey, Pending, are_tags, are_sizes, File, Who, Drawn, Known, Task, Script, task_script, who_of, nothing_drawn, drawn_in, drawn_for, file_key, file_record, record_text}
+use Rattle.s3_types.specs.declared.reply.Reply.TheVariants.{Object}
 
 -- the files at these places
 abbrev pub picked : List File → List ℕ → List File

@@ -1,30 +1,11 @@
 -- A write of a magic attempt's files, by how many files are whole and how far the next has come.
 use Rattle.std.specs.Prelude.{◌≡◌, ℕ, ◌+◌, ◌*◌, ◌<◌, ◌≤◌, not, nat_eq, nat_lt, cond, Bool, true, List, [], ◌∷◌, ◌++◌, length, map, take, drop, Option, Some, None}
-use Rattle.std.specs.List.{list_all}
-use Rattle.s3_types.specs.Store.{Scene}
-use Rattle.s3_types.specs.Tags.{Spelled, is_plain_tag}
-use Rattle.s3_types.specs.declared.request.Request.{Request}
-use Rattle.s3_types.specs.declared.reply.Reply.{Reply}
-use Rattle.s3_types.specs.declared.reply.Reply.TheVariants.{Upload, Part, Refused}
-use Rattle.s3_types.specs.declared.reply.Refusal.TheVariants.{NoSuchUpload}
+use Rattle.job_protocol.specs.Prelude.{list_all, Scene, Spelled, is_plain_tag, Request, Reply, Part, Refused, NoSuchUpload, MOST_SCRIPT_BYTES, Path, IsJob, IsTask, IsPlaced, File, Task, Drawn, Known, with_last, Script, TaskEnd, Attempting, task_script, who_of, write_wants, drawn_last, file_key, marker_key, UploadPart, PutObject, Uploading, Creating, Sending, file_parts, Write}
+use Rattle.s3_types.specs.declared.reply.Reply.TheVariants.{Upload}
 use Rattle.s3_types.specs.Blocks.{block_of, parts_of}
-use Rattle.s3_types.specs.declared.limits.TheConstants.{MOST_SCRIPT_BYTES}
-use Rattle.path_keys.specs.Paths.{Path}
-use Rattle.job_model.specs.Plans.{IsJob, IsTask, IsPlaced}
 use Rattle.magic_paths.specs.Layout as layout
-use Rattle.job_model.specs.Files.{File}
-use Rattle.job_model.specs.Jobs.{Task}
-use Rattle.job_model.specs.Known.{Drawn, Known, with_last}
-use Rattle.job_model.specs.JobScript.{Script}
-use Rattle.job_model.specs.declared.ends.TaskEnd.{TaskEnd}
 use Rattle.job_model.specs.declared.ends.TaskEnd.TheVariants as ends
-use Rattle.job_protocol.specs.AtWork.{Attempting, task_script, who_of, write_wants}
-use Rattle.job_protocol.specs.Knowledge.{drawn_last}
-use Rattle.job_protocol.specs.Records.{file_key, marker_key}
-use Rattle.s3_types.specs.declared.request.Request.TheVariants.{UploadPart, PutObject}
-use Rattle.job_protocol.specs.Uploading.{Uploading, Creating, Sending, file_parts}
 use Rattle.job_protocol.specs.Writes as writes
-use Rattle.job_protocol.specs.Writes.{Write}
 use Rattle.task_requests.specs.declared.stage.WriteStage.{WriteStage}
 use Rattle.task_requests.specs.declared.stage.WriteStage.TheVariants as stage
 

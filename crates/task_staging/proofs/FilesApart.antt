@@ -1,15 +1,7 @@
 -- The files of an attempt in order: each stands at a key of its own.
 use Rattle.std.proofs.Common.{◌≡◌, ℕ, zero, suc, ◌+◌, ◌<◌, Bool, true, false, cond, is_some, List, [], ◌∷◌, ◌++◌, length, take, drop, get_or, Some, refl, sym, ap, ◌∙◌, arith, add-one, append_assoc}
-use Rattle.std.specs.Map.{lookup}
-use Rattle.std.specs.Cmp.Lexicographic.{bytes_decides}
-use Rattle.std.proofs.lemmas.List.{append-nil, take-append-drop}
-use Rattle.proof_base.specs.Order.{text_eq}
-use Rattle.proof_base.proofs.Bools.{contrary}
-use Rattle.path_keys.specs.Paths.{below}
-use Rattle.job_model.specs.Files.{File, has_path}
-use Rattle.job_model.specs.Plans.{ArePlaced}
-use Rattle.job_model.specs.JobScript.{Script}
-use Rattle.job_protocol.specs.Records.{file_key}
+use Rattle.job_protocol.specs.Prelude.{lookup, bytes_decides, text_eq, below, File, has_path, ArePlaced, Script, file_key}
+use Rattle.path_keys.proofs.Common.{append-nil, take-append-drop, contrary}
 
 -- ---- the file at a place
 

@@ -1,12 +1,7 @@
 -- The partitions that an attempt's commit checks.
 use Rattle.std.proofs.Common.{◌≡◌, ℕ, ◌+◌, ◌<◌, Bool, true, false, cond, List, [], ◌∷◌, ◌++◌, map, take, get_or, length, sym, ap, ◌∙◌}
-use Rattle.std.proofs.lemmas.List.{take_more, map-append}
-use Rattle.job_model.specs.Files.{File}
-use Rattle.job_model.specs.Jobs.{Job, Task}
-use Rattle.job_protocol.specs.AtWork.{task_script, who_of}
-use Rattle.job_protocol.specs.Outputs.{files, paths_of}
-use Rattle.job_protocol.specs.Conflicts.{checks_partitions, partitions}
-use Rattle.job_protocol.specs.TaskCommits.{to_check}
+use Rattle.path_keys.proofs.Common.{take_more, map-append}
+use Rattle.job_protocol.specs.Prelude.{File, Job, Task, task_script, who_of, files, paths_of, checks_partitions, partitions, to_check}
 use Rattle.conflict.proofs.SamePartitions.{partitions_of_ordered}
 use Rattle.task_requests.proofs.Told.{own_files}
 

@@ -1,18 +1,7 @@
 -- The records of files that are uploaded stay while the next file is, and its own comes behind them.
 use Rattle.std.proofs.Common.{◌≡◌, ℕ, ◌+◌, ◌<◌, Bool, true, false, cond, List, [], ◌∷◌, ◌++◌, length, take, get_or, slice_get, Some, refl, sym, ap, subst, ◌∙◌}
-use Rattle.std.specs.Cmp.Lexicographic.{bytes_decides}
-use Rattle.std.proofs.lemmas.List.{take_more, map-append}
-use Rattle.proof_base.specs.Order.{text_eq}
-use Rattle.s3_types.specs.Tags.{Spelled}
-use Rattle.pending_json.specs.Pending.{Pending, are_tags, fit}
-use Rattle.pending_json.specs.declared.records.PendingSet.{PendingSet}
-use Rattle.job_model.specs.Files.{File}
-use Rattle.job_model.specs.Jobs.{Task}
-use Rattle.job_model.specs.Known.{Drawn, with_last}
-use Rattle.job_model.specs.Plans.{IsTask}
-use Rattle.job_protocol.specs.AtWork.{task_script, who_of, with_known}
-use Rattle.job_protocol.specs.Knowledge.{drawn_in, first_drawn, drawn_last}
-use Rattle.job_protocol.specs.Records.{file_key, file_record}
+use Rattle.job_protocol.specs.Prelude.{bytes_decides, text_eq, Spelled, Pending, are_tags, fit, PendingSet, File, Task, Drawn, with_last, IsTask, task_script, who_of, with_known, drawn_in, first_drawn, drawn_last, file_key, file_record}
+use Rattle.path_keys.proofs.Common.{take_more, map-append}
 use Rattle.task_requests.specs.Publishing.{drawn_of, records_of}
 use Rattle.task_requests.specs.Writing.{HasSent, one_more, parts_in, with_drawn, with_tag}
 use Rattle.task_requests.proofs.Steps.{record_tags, record_sizes}

@@ -1,34 +1,10 @@
 -- What a staged commit asks, and where replies lead it.
 use Rattle.std.proofs.Common.{◌≡◌, ℕ, suc, ◌+◌, ◌<◌, ◌≤◌, ◌&&◌, nat_le, nat_lt, cond, Bool, true, false, List, [], ◌∷◌, ◌++◌, length, take, drop, get_or, slice_get, Option, Some, None, Result, Ok, Err, OnOk, OnErr, refl, sym, ap, subst, ◌∙◌, arith, length-drop}
-use Rattle.std.proofs.lemmas.Bool.{true≢false}
-use Rattle.std.proofs.lemmas.List.{drop_all, take_all}
-use Rattle.proof_base.proofs.Numbers.{at_most_is, at_most_so, below_is, below_not}
-use Rattle.s3_types.specs.Tags.{Spelled, is_plain_tag}
-use Rattle.s3_types.specs.declared.request.Committer.{Committer}
-use Rattle.s3_types.specs.declared.request.Committer.TheVariants.{Magic}
-use Rattle.s3_types.specs.declared.request.Request.{Request}
-use Rattle.s3_types.specs.declared.request.Request.TheVariants.{CreateUpload, UploadPart, ClusterPut}
-use Rattle.s3_types.specs.declared.reply.Reply.{Reply}
-use Rattle.s3_types.specs.declared.reply.Reply.TheVariants.{Upload, Part, Refused}
-use Rattle.s3_types.specs.declared.reply.Refusal.TheVariants.{NoSuchUpload}
-use Rattle.s3_types.proofs.Blocks.{some_parts}
-use Rattle.retries.specs.Retries.{Got, WornOut}
-use Rattle.pending_json.specs.Pending.{Pending}
-use Rattle.pending_json.specs.declared.records.PendingSet.{PendingSet}
-use Rattle.job_model.specs.Files.{File}
-use Rattle.job_model.specs.Jobs.{Task}
-use Rattle.job_model.specs.Known.{Drawn, Known, with_last}
-use Rattle.job_model.specs.Plans.{IsTask}
-use Rattle.job_model.specs.JobScript.{Script}
-use Rattle.job_model.specs.declared.ends.TaskEnd.{TaskEnd}
+use Rattle.path_keys.proofs.Common.{true≢false, drop_all, take_all, at_most_is, at_most_so, below_is, below_not, some_parts}
+use Rattle.job_protocol.specs.Prelude.{Spelled, is_plain_tag, Committer, Magic, Request, CreateUpload, UploadPart, ClusterPut, Reply, Part, Refused, NoSuchUpload, Got, WornOut, Pending, PendingSet, File, Task, Drawn, Known, with_last, IsTask, Script, TaskEnd, Attempting, task_script, who_of, with_known, learned, task_commit_wants, task_commit_told, drawn_last, first_drawn, files, file_key, file_record, set_text, Creating, sending, TaskCommit, Storing, Renaming, TaskCommitOver, storing, checking, to_check, uploaded, renamed, temporary_path, task_commit_start, task_commit_start_by}
+use Rattle.machine.specs.Prelude.{Upload}
 use Rattle.job_model.specs.declared.ends.TaskEnd.TheVariants as ends
-use Rattle.job_protocol.specs.AtWork.{Attempting, task_script, who_of, with_known, learned, task_commit_wants, task_commit_told}
-use Rattle.job_protocol.specs.Knowledge.{drawn_last, first_drawn}
-use Rattle.job_protocol.specs.Outputs.{files}
-use Rattle.job_protocol.specs.Records.{file_key, file_record, set_text}
-use Rattle.job_protocol.specs.Uploading.{Creating, sending}
 use Rattle.job_protocol.specs.TaskCommits as commits
-use Rattle.job_protocol.specs.TaskCommits.{TaskCommit, Storing, Renaming, TaskCommitOver, storing, checking, to_check, uploaded, renamed, temporary_path, task_commit_start, task_commit_start_by}
 use Rattle.conflict.specs.Checks.{check_asks, found_below, left_after, is_none}
 use Rattle.conflict.specs.Laws.{commit_after_check}
 use Rattle.conflict.proofs.Tells.{checks_tell}

@@ -1,18 +1,10 @@
 -- Where replies lead an abort of a staging attempt, by how many of its uploads are aborted.
 use Rattle.std.proofs.Common.{◌≡◌, ℕ, ◌+◌, ◌<◌, ◌||◌, nat_lt, Bool, true, false, [], length, drop, Option, Some, None, refl, sym, ap, ◌∙◌, arith}
 use Rattle.std.specs.Prelude.{if◌then◌else◌}
-use Rattle.std.proofs.lemmas.List.{drop_all}
-use Rattle.proof_base.proofs.Numbers.{below_is, below_not}
-use Rattle.s3_types.specs.declared.request.Committer.{Committer}
-use Rattle.s3_types.specs.declared.request.Committer.TheVariants.{Magic, Directory, Partitioned}
-use Rattle.s3_types.specs.declared.reply.Reply.{Reply}
-use Rattle.job_model.specs.Known.{Known}
-use Rattle.job_model.specs.Jobs.{Task}
-use Rattle.job_model.specs.declared.ends.TaskEnd.{TaskEnd}
+use Rattle.path_keys.proofs.Common.{drop_all, below_is, below_not}
+use Rattle.job_protocol.specs.Prelude.{Committer, Magic, Directory, Partitioned, Reply, Known, Task, TaskEnd, task_script, as_made, dropping, task_abort_by, task_abort_start, task_abort_hears}
 use Rattle.job_model.specs.declared.ends.TaskEnd.TheVariants as ends
-use Rattle.job_protocol.specs.AtWork.{task_script}
-use Rattle.job_protocol.specs.Knowledge.{as_made}
-use Rattle.job_protocol.specs.TaskAborts.{dropped, dropping, task_abort_by, task_abort_start, task_abort_hears}
+use Rattle.job_protocol.specs.TaskAborts.{dropped}
 use Rattle.conflict.proofs.Deleting.{first_of}
 use Rattle.task_staging.specs.Undoing.{abort_from, abort_by, done_at, end_at}
 

@@ -1,16 +1,10 @@
 -- A staging attempt's write is done as it begins.
 use Rattle.std.proofs.Common.{◌≡◌, refl, sym, subst}
 use Rattle.std.specs.Prelude.{IsSome}
-use Rattle.std.proofs.lemmas.Bool.{false≢true}
-use Rattle.s3_types.specs.declared.request.Committer.{Committer}
-use Rattle.s3_types.specs.declared.request.Committer.TheVariants.{Magic}
-use Rattle.job_model.specs.Jobs.{Task}
-use Rattle.job_model.specs.declared.ends.TaskEnd.{TaskEnd}
+use Rattle.path_keys.proofs.Common.{false≢true}
+use Rattle.job_protocol.specs.Prelude.{Committer, Magic, Task, TaskEnd, task_script, who_of, write_wants, files, write_start, write_start_by}
 use Rattle.job_model.specs.declared.ends.TaskEnd.TheVariants as ends
-use Rattle.job_protocol.specs.AtWork.{task_script, who_of, write_wants}
-use Rattle.job_protocol.specs.Outputs.{files}
 use Rattle.job_protocol.specs.Writes as writes
-use Rattle.job_protocol.specs.Writes.{write_start, write_start_by}
 use Rattle.task_machines.specs.Tasks.{at}
 
 pub start_is : (t : Task) → (t.job.committer ≡ Magic → ⊥) → writes.WriteOver ends.Done ≡ write_start (task_script t) (who_of t)

@@ -1,26 +1,8 @@
 -- A commit of a staging attempt, by the partitions that are left to check, the records of the files that are uploaded, and how far the next file has come.
 use Rattle.std.specs.Prelude.{◌≡◌, ℕ, ◌<◌, ◌&&◌, nat_le, Bool, true, false, List, [], ◌∷◌, take, drop, length, get_or, Option, Some, None, Result, IfOk, OnOk, OnErr}
-use Rattle.serde_json.specs.Written.{compact_text}
-use Rattle.s3_types.specs.Tags.{Spelled, is_plain_tag}
-use Rattle.s3_types.specs.declared.request.Request.{Request}
-use Rattle.s3_types.specs.declared.request.Request.TheVariants.{CreateUpload, ClusterPut}
-use Rattle.s3_types.specs.declared.reply.Reply.{Reply}
-use Rattle.s3_types.specs.declared.reply.Reply.TheVariants.{Refused}
-use Rattle.s3_types.specs.declared.reply.Refusal.TheVariants.{NoSuchFile}
-use Rattle.retries.specs.Retries.{Got}
-use Rattle.pending_json.specs.Trees.{set_tree}
-use Rattle.pending_json.specs.declared.records.PendingSet.{PendingSet}
-use Rattle.job_model.specs.Files.{File}
-use Rattle.job_model.specs.Jobs.{Task}
-use Rattle.job_model.specs.Known.{Drawn, Known}
-use Rattle.job_model.specs.JobScript.{Script}
-use Rattle.job_model.specs.declared.ends.TaskEnd.{TaskEnd}
+use Rattle.job_protocol.specs.Prelude.{compact_text, Spelled, is_plain_tag, Request, CreateUpload, ClusterPut, Reply, Refused, NoSuchFile, Got, set_tree, PendingSet, File, Task, Drawn, Known, Script, TaskEnd, Attempting, task_script, who_of, task_commit_wants, task_commit_told, file_key, files_set, Sending, file_parts, TaskCommit, Checking, Storing, Renaming, TaskCommitOver, storing, temporary_path}
 use Rattle.job_model.specs.declared.known.DrawnPart.{DrawnPart}
-use Rattle.job_protocol.specs.AtWork.{Attempting, task_script, who_of, task_commit_wants, task_commit_told}
-use Rattle.job_protocol.specs.Records.{file_key, files_set}
-use Rattle.job_protocol.specs.Uploading.{Sending, file_parts}
 use Rattle.job_protocol.specs.TaskCommits as commits
-use Rattle.job_protocol.specs.TaskCommits.{TaskCommit, Checking, Storing, Renaming, TaskCommitOver, storing, temporary_path}
 use Rattle.conflict.specs.Checks.{is_none}
 use Rattle.task_requests.specs.Writing.{HasSent, part_behind, parts_in, with_tag}
 use Rattle.task_staging.specs.declared.staging.Stage.{Stage}

@@ -1,25 +1,10 @@
 -- How the check before a commit ends, by its entries alone.
 use Rattle.std.proofs.Common.{◌≡◌, ℕ, zero, suc, ◌⊎◌, inl, inr, Bool, true, false, cond, List, [], ◌∷◌, ◌++◌, Option, Some, None, refl, sym, ap, subst, ◌∙◌}
-use Rattle.s3_types.specs.declared.request.Request.{Request}
-use Rattle.s3_types.specs.declared.request.Request.TheVariants.{ListPage}
-use Rattle.s3_types.specs.declared.reply.Reply.{Reply}
-use Rattle.s3_types.specs.declared.reply.Reply.TheVariants.{Page}
-use Rattle.s3_types.specs.declared.reply.PageEntry.{PageEntry}
-use Rattle.s3_types.specs.declared.journal.Outcome.{Outcome}
-use Rattle.s3_types.specs.declared.journal.Outcome.TheVariants.{Answered, Slow, RequestLost, ReplyLost}
-use Rattle.s3_types.specs.declared.journal.Entry.{Entry}
-use Rattle.retries.specs.Operation.{Follows, run}
-use Rattle.retries.specs.Retries.{Retried, Item, Got, WornOut, wants_of, step, unanswered_by, wears, worn_in, is_zero}
-use Rattle.retries.specs.Worn.{WornFirst}
-use Rattle.retries.proofs.First.{counted_first}
-use Rattle.list_walk.specs.Walks.{Walked, More, Whole, keys_on, walked}
-use Rattle.job_model.specs.Attempts.{Who}
-use Rattle.job_model.specs.JobScript.{Script}
-use Rattle.job_protocol.specs.Conflicts.{partitions, checks_all, checks_partitions}
-use Rattle.job_protocol.specs.Outputs.{paths_of}
-use Rattle.job_protocol.specs.Setup.{first_shown}
-use Rattle.job_protocol.specs.TaskCommits.{partition_prefix}
-use Rattle.proof_base.proofs.Members.{some_is, none_some, false_true}
+use Rattle.job_facts.specs.Prelude.{Request, ListPage, Reply, Page, PageEntry, Outcome, Answered, Slow, RequestLost, ReplyLost, Entry, Follows, run, Retried, Item, Got, WornOut, wants_of, step, unanswered_by, worn_in, is_zero, WornFirst, Walked, More, Whole, keys_on, Who, Script, partitions, checks_all, paths_of, first_shown, partition_prefix}
+use Rattle.retries.specs.Prelude.{wears}
+use Rattle.job_spec.proofs.Common.{counted_first, some_is, none_some, false_true}
+use Rattle.job_protocol.specs.Prelude.{checks_partitions}
+use Rattle.list_walk.specs.Walks.{walked}
 use Rattle.twin_facts.specs.Rechecks.{Check, Looking, Probing, CheckOver, CheckEnd, Clear, Conflict, CheckFault, NoMemory, probing, files_of_all, check_by, check_start, check_asks, looked, probed, check_hears, check_over, check_after}
 use Rattle.twin_ends.specs.Checks.{checking, next, Checked, ShownBy, CheckIs}
 

@@ -1,29 +1,7 @@
 -- How the commit of the first of two jobs ends, in every run of both.
 use Rattle.std.proofs.Common.{◌≡◌, ℕ, ◌≤◌, ◌^◌, ◌⊎◌, inl, inr, not, ◌&&◌, Bool, true, false, cond, List, [], ◌∷◌, ◌++◌, Option, Some, None, refl, sym, ap, subst, ◌∙◌, append_assoc}
-use Rattle.s3_types.specs.Store.{Content}
-use Rattle.s3_types.specs.Answer.{answer}
-use Rattle.s3_types.specs.Moment.{IsHonestOutcome}
-use Rattle.s3_types.specs.declared.request.Actor.TheVariants.{Driver}
-use Rattle.s3_types.specs.declared.request.Mode.{Mode}
-use Rattle.s3_types.specs.declared.request.Mode.TheVariants.{Fail, Append, Replace}
-use Rattle.s3_types.specs.declared.request.Request.{Request}
-use Rattle.s3_types.specs.declared.journal.Outcome.{Outcome}
-use Rattle.s3_types.specs.declared.journal.Entry.{Entry}
-use Rattle.retries.specs.Operation.{run}
-use Rattle.retries.specs.Retries.{Retried, wants_of}
-use Rattle.retries.proofs.Runs.{run_more, follows_more}
-use Rattle.job_model.specs.Attempts.{Who}
-use Rattle.job_model.specs.JobScript.{Script}
-use Rattle.job_model.specs.Legal.{IsLegal}
-use Rattle.job_model.specs.declared.ends.CommitEnd.{CommitEnd}
-use Rattle.job_protocol.specs.Outputs.{Picks}
-use Rattle.job_protocol.specs.JobCommits.{Commit, CommitOver, commit_start, commit_asks, commit_tells}
-use Rattle.job_protocol.specs.LaneTable.{Sound}
-use Rattle.job_protocol.specs.Operations.{Setting, TheSetup, TheCommit, who}
-use Rattle.job_spec.specs.Ends.{is_mark_answered}
-use Rattle.job_spec.specs.Seen.{see, is_begun, nothing_seen}
-use Rattle.proof_base.proofs.Members.{false_true}
-use Rattle.job_facts.specs.Told.{nothing_told, entry, driver_entry}
+use Rattle.job_facts.specs.Prelude.{Content, answer, IsHonestOutcome, Driver, Mode, Fail, Append, Replace, Request, Outcome, Entry, run, Retried, wants_of, Who, Script, IsLegal, CommitEnd, Picks, Commit, CommitOver, commit_start, commit_asks, commit_tells, Sound, Setting, TheSetup, TheCommit, who, is_mark_answered, see, is_begun, nothing_seen, nothing_told, entry, driver_entry}
+use Rattle.job_spec.proofs.Common.{run_more, follows_more, false_true}
 use Rattle.job_traces.specs.Runs.{Stand, Beginning, BeginSetup, BeginCommit, BeginClean, nothing_learnt}
 use Rattle.job_outcomes.specs.CommitRuns.{CommitStands, WhereCommitted}
 use Rattle.job_outcomes.proofs.CommitRuns.{attempts_leave, ended_so}

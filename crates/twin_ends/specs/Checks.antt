@@ -1,20 +1,6 @@
 -- How the check before the commit of a job at a shared destination ends, by its entries alone.
 use Rattle.std.specs.Prelude.{◌≡◌, ℕ, false, Bool, List, [], ◌∷◌, ◌++◌, ◌⊎◌, Option, Some, None}
-use Rattle.s3_types.specs.declared.request.Request.{Request}
-use Rattle.s3_types.specs.declared.request.Request.TheVariants.{ListPage}
-use Rattle.s3_types.specs.declared.reply.Reply.TheVariants.{Page}
-use Rattle.s3_types.specs.declared.reply.PageEntry.{PageEntry}
-use Rattle.s3_types.specs.declared.journal.Outcome.{Outcome}
-use Rattle.s3_types.specs.declared.journal.Outcome.TheVariants.{Answered}
-use Rattle.s3_types.specs.declared.journal.Entry.{Entry}
-use Rattle.retries.specs.Operation.{Follows, run}
-use Rattle.retries.specs.Retries.{Retried, wants_of, fresh, step}
-use Rattle.retries.specs.Worn.{WornFirst}
-use Rattle.list_walk.specs.Walks.{keys_on, page_after}
-use Rattle.job_model.specs.Attempts.{Who}
-use Rattle.job_model.specs.JobScript.{Script}
-use Rattle.job_protocol.specs.Setup.{dest_prefix, first_shown}
-use Rattle.job_protocol.specs.TaskCommits.{partition_prefix}
+use Rattle.job_facts.specs.Prelude.{Request, ListPage, Page, PageEntry, Outcome, Answered, Entry, Follows, run, Retried, wants_of, fresh, step, WornFirst, keys_on, page_after, Who, Script, dest_prefix, first_shown, partition_prefix}
 use Rattle.twin_facts.specs.Rechecks.{Check, CheckOver, CheckEnd, Clear, Conflict, CheckFault, check_start, check_asks, check_after}
 
 -- the check of the files of these attempts, as it begins

@@ -1,19 +1,7 @@
 -- How the commit of the first of two jobs at one destination ends: by a missing task, by its check, or as that of a job alone.
 use Rattle.std.specs.Prelude.{◌≡◌, ℕ, not, ◌&&◌, Bool, true, cond, List, [], ◌∷◌, ◌++◌, Option, Some, None}
-use Rattle.s3_types.specs.declared.request.Mode.{Mode}
-use Rattle.s3_types.specs.declared.request.Mode.TheVariants.{Fail}
-use Rattle.s3_types.specs.declared.request.Request.{Request}
-use Rattle.s3_types.specs.declared.journal.Entry.{Entry}
-use Rattle.retries.specs.Retries.{Retried}
-use Rattle.retries.specs.Worn.{WornFirst}
-use Rattle.job_model.specs.Attempts.{Who}
-use Rattle.job_model.specs.JobScript.{Script}
-use Rattle.job_model.specs.declared.ends.CommitEnd.{CommitEnd}
+use Rattle.job_facts.specs.Prelude.{Mode, Fail, Request, Entry, Retried, WornFirst, Who, Script, CommitEnd, CommitOver, TheCommit, is_driver, is_mark_answered, is_begun}
 use Rattle.job_model.specs.declared.ends.CommitEnd.TheVariants as commits
-use Rattle.job_protocol.specs.JobCommits.{CommitOver}
-use Rattle.job_protocol.specs.Operations.{TheCommit}
-use Rattle.job_spec.specs.Ends.{is_driver, is_mark_answered}
-use Rattle.job_spec.specs.Seen.{is_begun}
 use Rattle.job_outcomes.specs.CommitRuns.{EndsDue}
 use Rattle.twin_facts.specs.Rechecks.{Check, CheckOver, CheckEnd, Clear}
 use Rattle.twin_facts.specs.SharedOperations.{Alone, TheCheck}

@@ -1,23 +1,10 @@
 -- What names only one job's own is a stranger's to the other.
 use Rattle.std.proofs.Common.{◌≡◌, ℕ, inl, inr, not, Bool, true, false, List, ◌∷◌, ◌++◌, Some, refl, sym, ap, ◌∙◌, append_assoc, codes}
-use Rattle.std.proofs.lemmas.List.{append_cancel_left}
-use Rattle.s3_types.specs.Names.{is_job_id}
-use Rattle.s3_types.specs.Pages.{begins}
-use Rattle.s3_types.specs.declared.request.Request.{Request}
-use Rattle.s3_types.specs.declared.request.Request.TheVariants.{PutObject, DeleteObject, DeleteObjects, CopyObject, UploadPart, CompleteUpload, AbortUpload, ClusterPut, ClusterRename, ClusterDelete}
-use Rattle.path_keys.specs.Paths.{Path}
-use Rattle.magic_paths.specs.Layout.{magic_prefix, cluster_prefix}
+use Rattle.job_spec.proofs.Common.{append_cancel_left, begins_back, false_true, none_some}
+use Rattle.job_facts.specs.Prelude.{is_job_id, begins, Request, PutObject, DeleteObject, DeleteObjects, CopyObject, UploadPart, CompleteUpload, AbortUpload, ClusterPut, ClusterRename, ClusterDelete, magic_prefix, cluster_prefix, Who, Script, Drawn, IsLegal, IsIn, changed_keys, changed_upload, changed_paths, IsKnown, IsForeign}
+use Rattle.job_protocol.specs.Prelude.{Path}
 use Rattle.magic_paths.proofs.Elements.{id_others}
-use Rattle.magic_paths.proofs.Tails.{begins_back, cut_once}
-use Rattle.job_model.specs.Attempts.{Who}
-use Rattle.job_model.specs.JobScript.{Script}
-use Rattle.job_model.specs.Known.{Drawn}
-use Rattle.job_model.specs.Legal.{IsLegal}
-use Rattle.proof_base.specs.Members.{IsIn}
-use Rattle.store_frame.specs.Frame.{changed_keys, changed_upload, changed_paths}
-use Rattle.proof_base.proofs.Members.{false_true, none_some}
-use Rattle.job_facts.specs.Stores.{IsKnown}
-use Rattle.job_facts.specs.Foreign.{IsForeign}
+use Rattle.magic_paths.proofs.Tails.{cut_once}
 use Rattle.job_facts.proofs.JobCommitting.{no_magic}
 use Rattle.twin_facts.specs.Names.{named_keys, named_upload, named_paths, NamesOwn, IsStranger, Ids}
 use Rattle.twin_facts.specs.Laws.{AreTwins}

@@ -1,13 +1,6 @@
 -- What is seen and told of each side of a run is what its journal says by events.
 use Rattle.std.proofs.Common.{◌≡◌, ℕ, ◌≤◌, cond, List, [], ◌∷◌, ◌++◌, map, take, length, Option, refl, sym, ap, subst, ◌∙◌}
-use Rattle.s3_types.specs.Store.{Content}
-use Rattle.s3_types.specs.declared.request.Request.{Request}
-use Rattle.s3_types.specs.declared.journal.Outcome.{Outcome}
-use Rattle.s3_types.specs.declared.journal.Entry.{Entry}
-use Rattle.job_model.specs.JobScript.{Script}
-use Rattle.job_protocol.specs.Operations.{Setting, TheSetup}
-use Rattle.job_spec.specs.Seen.{Seen, see, nothing_seen}
-use Rattle.job_facts.specs.Told.{Told, nothing_told, tell, driver_entry}
+use Rattle.job_facts.specs.Prelude.{Content, Request, Outcome, Entry, Script, Setting, TheSetup, Seen, see, nothing_seen, Told, nothing_told, tell, driver_entry}
 use Rattle.twin_facts.specs.SharedOperations.{SharedOperation, Alone, TheSparing}
 use Rattle.twin_facts.specs.Sides.{Side, First, Second, TwinEntry, SideState, IsInTime, sees, Sends, driver_sends, attempt_sends, TwinRun, twins_begin, first_begins, second_begins, first_sends, second_sends, IsTwinOpening}
 use Rattle.twin_facts.specs.TwinLaws.{is_side, other_side, turned_entry, MayBeTwins, Shows, Marked}

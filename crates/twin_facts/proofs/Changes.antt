@@ -1,38 +1,8 @@
 -- What one request changes of what stands where files are shown.
 use Rattle.std.proofs.Common.{◌≡◌, ℕ, inl, inr, true, List, [], ◌∷◌, length, Option, Some, refl, sym, ap, subst, ◌∙◌}
-use Rattle.s3_types.specs.Store.{Scene}
-use Rattle.s3_types.specs.Answer.{apply}
-use Rattle.s3_types.specs.Moment.{effect}
-use Rattle.s3_types.specs.Requests.{only_reads}
-use Rattle.s3_types.specs.declared.object.Object.{Object}
-use Rattle.s3_types.specs.declared.request.Request.{Request}
-use Rattle.s3_types.specs.declared.request.Committer.{Committer}
-use Rattle.s3_types.specs.declared.request.Committer.TheVariants.{Magic, Directory, Partitioned}
-use Rattle.s3_types.specs.declared.journal.Outcome.{Outcome}
-use Rattle.s3_types.specs.declared.journal.Outcome.TheVariants.{Answered, Slow, RequestLost, ReplyLost}
-use Rattle.path_keys.specs.Paths.{below}
-use Rattle.pending_json.specs.Pending.{Pending}
-use Rattle.job_model.specs.Legal.{IsLegal}
-use Rattle.job_model.specs.Attempts.{Who}
-use Rattle.job_model.specs.JobScript.{Script}
-use Rattle.job_protocol.specs.Lanes.{nth, completion, abort, deletion}
-use Rattle.job_protocol.specs.LaneTable.{Tabled}
-use Rattle.job_protocol.specs.Outputs.{Picks, files, wanted_at, is_decided}
-use Rattle.job_protocol.specs.View.{is_file_path}
-use Rattle.job_protocol.specs.JobCommits.{all_commits, picks_of, Commit, Fetching, Replacing, Completing, Marking, Reverting, CommitOver, set_request, commit_asks, replaced}
-use Rattle.job_protocol.specs.Operations.{Setting, Operation, asks}
-use Rattle.job_spec.specs.Seen.{Seen}
-use Rattle.proof_base.specs.Members.{IsIn}
-use Rattle.store_frame.specs.Frame.{changed_keys}
-use Rattle.proof_base.proofs.Members.{some_is, same_or_other, true_or_false}
+use Rattle.job_facts.specs.Prelude.{Scene, apply, effect, only_reads, Object, Request, Committer, Magic, Directory, Partitioned, Outcome, Answered, Slow, RequestLost, ReplyLost, below, Pending, IsLegal, Who, Script, nth, completion, abort, deletion, Tabled, Picks, files, wanted_at, is_decided, is_file_path, all_commits, picks_of, Commit, Fetching, Replacing, Completing, Marking, Reverting, CommitOver, set_request, commit_asks, replaced, Setting, Operation, asks, Seen, IsIn, changed_keys, Told, known, at_key, IsAttempt, Hold, Fits, FitsJobCommit, SweepsUnder, IsCommit, Decides, Commits}
+use Rattle.job_spec.proofs.Common.{some_is, same_or_other, true_or_false}
 use Rattle.store_frame.proofs.Reading.{reads_nothing}
-use Rattle.job_facts.specs.Told.{Told, known}
-use Rattle.job_facts.specs.Stores.{at_key}
-use Rattle.job_facts.specs.Facts.{IsAttempt, Hold}
-use Rattle.job_facts.specs.Fits.{Fits}
-use Rattle.job_facts.specs.Driver.{FitsJobCommit, SweepsUnder}
-use Rattle.job_facts.specs.Filed.{IsCommit, Decides}
-use Rattle.job_facts.specs.FiledLaws.{Commits}
 use Rattle.job_facts.proofs.Placed.{one_key}
 use Rattle.job_facts.proofs.Shows.{HidesAll, shown_key}
 use Rattle.job_facts.proofs.SettingUp.{setup_alone, no_success}

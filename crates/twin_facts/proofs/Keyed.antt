@@ -1,35 +1,12 @@
 -- An upload that an attempt knows has its key as long as it lives.
 use Rattle.std.proofs.Common.{◌≡◌, ℕ, ◌<◌, inl, inr, List, [], ◌∷◌, Option, Some, refl, sym, ap, subst, ◌∙◌, arith}
-use Rattle.s3_types.specs.Store.{Content, Scene, Upload}
-use Rattle.s3_types.specs.Answer.{answer, apply}
-use Rattle.s3_types.specs.Moment.{effect, IsHonestOutcome}
-use Rattle.s3_types.specs.declared.request.Request.{Request}
-use Rattle.s3_types.specs.declared.request.Request.TheVariants.{CreateUpload}
-use Rattle.s3_types.specs.declared.request.UploadRef.{UploadRef}
+use Rattle.job_facts.specs.Prelude.{Content, Scene, Upload, answer, apply, effect, IsHonestOutcome, Request, CreateUpload, UploadRef, Outcome, Entry, Who, File, Script, Drawn, Known, IsLegal, Uploading, Creating, Sending, upload_asks, Listing, Deleting, Write, WriteOver, write_asks, TaskCommit, TaskCommitOver, task_commit_asks, TaskAbort, Dropping, TaskAbortOver, task_abort_asks, Walking, Setting, Operation, TheWrite, TheTaskCommit, TheTaskAbort, asks, IsIn, HasBucket, Told, known, tell_attempt, at_id, Fits}
+use Rattle.job_spec.proofs.Common.{some_is}
 use Rattle.s3_types.specs.declared.reply.Reply.TheVariants.{Upload as DrawnUpload}
-use Rattle.s3_types.specs.declared.journal.Outcome.{Outcome}
-use Rattle.s3_types.specs.declared.journal.Entry.{Entry}
-use Rattle.job_model.specs.Attempts.{Who}
-use Rattle.job_model.specs.Files.{File}
-use Rattle.job_model.specs.JobScript.{Script}
-use Rattle.job_model.specs.Known.{Drawn, Known}
-use Rattle.job_model.specs.Legal.{IsLegal}
-use Rattle.job_protocol.specs.Uploading.{Uploading, Creating, Sending, upload_asks}
-use Rattle.list_walk.specs.Walks.{Listing, Deleting}
-use Rattle.job_protocol.specs.Writes.{Write, WriteOver, write_asks}
 use Rattle.job_protocol.specs.Writes as writes
-use Rattle.job_protocol.specs.TaskCommits.{TaskCommit, TaskCommitOver, task_commit_asks}
 use Rattle.job_protocol.specs.TaskCommits as tasks
-use Rattle.job_protocol.specs.TaskAborts.{TaskAbort, Dropping, Removing, TaskAbortOver, task_abort_asks}
+use Rattle.job_protocol.specs.TaskAborts.{Removing}
 use Rattle.job_protocol.specs.TaskAborts as aborts
-use Rattle.job_protocol.specs.Cleanups.{Walking}
-use Rattle.job_protocol.specs.Operations.{Setting, Operation, TheWrite, TheTaskCommit, TheTaskAbort, asks}
-use Rattle.proof_base.specs.Members.{IsIn}
-use Rattle.store_frame.specs.Held.{HasBucket}
-use Rattle.proof_base.proofs.Members.{some_is}
-use Rattle.job_facts.specs.Told.{Told, known, tell_attempt}
-use Rattle.job_facts.specs.Stores.{at_id}
-use Rattle.job_facts.specs.Fits.{Fits}
 use Rattle.job_facts.specs.Filed.{HasItsKey}
 use Rattle.job_facts.proofs.FoundKeys.{keys_stay}
 use Rattle.job_facts.proofs.Shapes.{draws}

@@ -1,23 +1,10 @@
 -- What an attempt learns from an entry of its own: an upload that it has begun, or more parts of one that it knows.
 use Rattle.std.proofs.Common.{◌≡◌, ℕ, ◌≤◌, ◌⊎◌, inl, inr, nat_eq, Bool, true, false, cond, List, [], ◌∷◌, ◌++◌, length, Option, Some, None, refl, sym, ap, subst, ◌∙◌, arith}
+use Rattle.job_facts.specs.Prelude.{BucketContent, Scene, Spelled, answer, answer_at, IsHonestOutcome, Request, CreateUpload, UploadPart, PutObject, ClusterPut, ClusterRename, Part, Outcome, Answered, Who, Script, Drawn, learn, IsIn, Told, known, tell_attempt, IsKnown}
+use Rattle.job_spec.proofs.Common.{map_in, in_map}
 use Rattle.std.specs.FinMap as fin
-use Rattle.s3_types.specs.Store.{BucketContent, Scene}
-use Rattle.s3_types.specs.Tags.{Spelled}
-use Rattle.s3_types.specs.Answer.{answer, answer_at}
-use Rattle.s3_types.specs.Moment.{IsHonestOutcome}
-use Rattle.s3_types.specs.declared.request.Request.{Request}
-use Rattle.s3_types.specs.declared.request.Request.TheVariants.{CreateUpload, UploadPart, PutObject, ClusterPut, ClusterRename}
-use Rattle.s3_types.specs.declared.reply.Reply.TheVariants.{Upload as DrawnUpload, Part}
-use Rattle.s3_types.specs.declared.journal.Outcome.{Outcome}
-use Rattle.s3_types.specs.declared.journal.Outcome.TheVariants.{Answered}
-use Rattle.job_model.specs.Attempts.{Who}
-use Rattle.job_model.specs.JobScript.{Script}
-use Rattle.job_model.specs.Known.{Drawn}
-use Rattle.job_protocol.specs.Knowledge.{learn, with_part}
-use Rattle.proof_base.specs.Members.{IsIn}
-use Rattle.proof_base.proofs.Members.{map_in, in_map}
-use Rattle.job_facts.specs.Told.{Told, known, tell_attempt}
-use Rattle.job_facts.specs.Stores.{IsKnown}
+use Rattle.s3_types.specs.declared.reply.Reply.TheVariants.{Upload as DrawnUpload}
+use Rattle.job_protocol.specs.Knowledge.{with_part}
 use Rattle.job_facts.proofs.Whose.{same_or_another, who_here, who_other}
 
 -- a part leaves the upload's id and its key

@@ -1,37 +1,15 @@
 -- How far an abort or clean at a shared destination has come with what is to go, while no attempt of its side sends.
 use Rattle.std.proofs.Common.{◌≡◌, ℕ, ◌<◌, ◌⊎◌, inl, inr, Bool, true, cond, List, [], ◌∷◌, ◌++◌, take, drop, Option, Some, None, refl, sym, ap, subst, ◌∙◌}
+use Rattle.job_facts.specs.Prelude.{filter, text_cmp, Scene, Upload, begins, answer, apply, read_answer, effect, IsHonestOutcome, only_reads, Request, GetObject, AbortUpload, DeleteObjects, ClusterList, ClusterDelete, UploadRef, Committer, Magic, Directory, Partitioned, Reply, Outcome, Answered, Slow, RequestLost, ReplyLost, step, magic_prefix, cluster_prefix, is_record, Who, Script, Drawn, Sweep, Listing, Deleting, Walked, More, Whole, page_after, sweep_hears, sweep_asks, all_go, is_magic, is_staging, IsIn, HasBucket, at_key, at_id, end_left}
+use Rattle.job_spec.proofs.Common.{some_is, none_some, false_true, same_or_other, text_true, text_gone, text_left, in_front, in_back, map_in, filter_in, in_filter}
+use Rattle.path_keys.proofs.Common.{text_exact}
 use Rattle.std.specs.FinMap as fin
-use Rattle.std.specs.List.{filter}
-use Rattle.proof_base.specs.Order.{text_cmp}
-use Rattle.s3_types.specs.Store.{Scene, Upload}
-use Rattle.s3_types.specs.Pages.{begins}
-use Rattle.s3_types.specs.Answer.{answer, apply, found, read_answer}
-use Rattle.s3_types.specs.Moment.{effect, IsHonestOutcome}
-use Rattle.s3_types.specs.Requests.{only_reads}
-use Rattle.s3_types.specs.declared.request.Request.{Request}
-use Rattle.s3_types.specs.declared.request.Request.TheVariants.{GetObject, AbortUpload, DeleteObjects, ClusterList, ClusterDelete}
-use Rattle.s3_types.specs.declared.request.UploadRef.{UploadRef}
-use Rattle.s3_types.specs.declared.request.Committer.{Committer}
-use Rattle.s3_types.specs.declared.request.Committer.TheVariants.{Magic, Directory, Partitioned}
-use Rattle.s3_types.specs.declared.reply.Reply.{Reply}
-use Rattle.s3_types.specs.declared.journal.Outcome.{Outcome}
-use Rattle.s3_types.specs.declared.journal.Outcome.TheVariants.{Answered, Slow, RequestLost, ReplyLost}
-use Rattle.retries.specs.Retries.{step}
-use Rattle.magic_paths.specs.Layout.{magic_prefix, cluster_prefix}
-use Rattle.magic_paths.specs.Places.{is_record}
-use Rattle.job_model.specs.Attempts.{Who}
-use Rattle.job_model.specs.JobScript.{Script}
-use Rattle.job_model.specs.Known.{Drawn}
+use Rattle.s3_types.specs.Answer.{found}
 use Rattle.job_model.specs.declared.ends.CleanEnd.TheVariants as ends
-use Rattle.list_walk.specs.Walks.{Sweep, Listing, Deleting, Walked, More, Whole, walked, page_after, sweep_hears, sweep_asks, all_go}
+use Rattle.list_walk.specs.Walks.{walked}
 use Rattle.list_walk.specs.Walks as walks
-use Rattle.job_spec.specs.Seen.{is_magic, is_staging}
-use Rattle.proof_base.specs.Members.{IsIn}
-use Rattle.store_frame.specs.Held.{HasBucket}
-use Rattle.proof_base.proofs.Members.{some_is, none_some, false_true, same_or_other, text_true, text_gone, text_left, text_exact, in_front, in_back, map_in, filter_in, in_filter}
 use Rattle.store_frame.proofs.Framed.{frame}
 use Rattle.store_frame.proofs.Reading.{reads_nothing}
-use Rattle.job_facts.specs.Stores.{at_key, at_id, end_left}
 use Rattle.job_facts.specs.Driver.{AllMagic}
 use Rattle.job_facts.specs.Emptying.{OnlyThese, Empties}
 use Rattle.job_facts.specs.Clearing.{FilesIn}

@@ -1,50 +1,13 @@
 -- The requests of a job name only what is its own, or nobody's.
 use Rattle.std.proofs.Common.{◌≡◌, ℕ, ◌+◌, ◌<◌, inl, inr, not, nat_eq, true, false, List, [], ◌∷◌, ◌++◌, take, length, Option, Some, None, refl, sym, ap, subst, ◌∙◌, append_assoc, codes}
-use Rattle.std.proofs.lemmas.Bool.{false≢true, not-true}
-use Rattle.s3_types.specs.Store.{Scene}
-use Rattle.s3_types.specs.Pages.{begins}
-use Rattle.s3_types.specs.declared.request.Actor.{Actor}
-use Rattle.s3_types.specs.declared.request.Request.{Request}
-use Rattle.s3_types.specs.declared.request.Request.TheVariants.{CreateUpload, UploadPart, AbortUpload}
-use Rattle.s3_types.specs.declared.request.Committer.{Committer}
-use Rattle.s3_types.specs.declared.request.Committer.TheVariants.{Magic, Directory, Partitioned}
-use Rattle.path_keys.specs.Paths.{below}
-use Rattle.magic_paths.specs.Layout.{cluster_prefix, success_key}
-use Rattle.magic_paths.specs.Places.{MarkerPlace, RecordPlace, TemporaryPlace, StagedSetPlace, is_open}
-use Rattle.magic_paths.proofs.Tails.{begins_behind, below_is}
-use Rattle.pending_json.specs.Pending.{Pending}
-use Rattle.job_model.specs.Attempts.{Who}
-use Rattle.job_model.specs.Files.{File}
-use Rattle.job_model.specs.JobScript.{Script}
-use Rattle.job_model.specs.Known.{Drawn}
-use Rattle.job_model.specs.Legal.{IsLegal}
-use Rattle.job_protocol.specs.Outputs.{files}
-use Rattle.job_protocol.specs.Records.{file_key}
-use Rattle.job_protocol.specs.Uploading.{Uploading, Creating, Sending, upload_asks}
-use Rattle.list_walk.specs.Walks.{Listing, Deleting}
-use Rattle.job_protocol.specs.Writes.{Write, Marking, Recording, WriteOver, write_asks}
+use Rattle.job_spec.proofs.Common.{false≢true, not-true, begins_behind, below_is, some_is, none_some, false_true, nat_true, nat_false}
+use Rattle.job_facts.specs.Prelude.{Scene, begins, Actor, Request, CreateUpload, UploadPart, AbortUpload, Committer, Magic, Directory, Partitioned, below, cluster_prefix, success_key, MarkerPlace, RecordPlace, TemporaryPlace, StagedSetPlace, is_open, Pending, Who, File, Script, Drawn, IsLegal, files, file_key, Uploading, Creating, Sending, upload_asks, Listing, Deleting, Write, Recording, WriteOver, write_asks, TaskCommit, Looking, Reading, Publishing, Checking, Storing, Renaming, TaskCommitOver, task_commit_asks, TaskAbort, Dropping, TaskAbortOver, task_abort_asks, dest_prefix, Setup, Heading, SetupOver, setup_asks, nth, completion, abort, deletion, Tabled, Sets, all_commits, Commit, Fetching, Replacing, Completing, Reverting, CommitOver, set_request, commit_asks, is_no_magic, Setting, Operation, TheWrite, TheTaskCommit, TheTaskAbort, asks, Seen, is_magic, is_staging, IsIn, Told, known, IsKnown, IsAttempt, Facts, Hold, Fits, FitsUpload, FitsWrite, FitsCommit, FitsAbort, SetsUp, FitsJobCommit, IsCommit, Decides, Commits}
+use Rattle.job_protocol.specs.Writes.{Marking}
 use Rattle.job_protocol.specs.Writes as writes
-use Rattle.job_protocol.specs.TaskCommits.{TaskCommit, Looking, Reading, Publishing, Checking, Storing, Renaming, TaskCommitOver, task_commit_asks}
 use Rattle.job_protocol.specs.TaskCommits as tasks
-use Rattle.job_protocol.specs.TaskAborts.{TaskAbort, Dropping, Sweeping, Removing, TaskAbortOver, task_abort_asks}
-use Rattle.job_protocol.specs.Setup.{dest_prefix, Setup, Heading, SetupOver, setup_asks}
+use Rattle.job_protocol.specs.TaskAborts.{Sweeping, Removing}
 use Rattle.job_protocol.specs.Setup as setups
-use Rattle.job_protocol.specs.Lanes.{nth, completion, abort, deletion}
-use Rattle.job_protocol.specs.LaneTable.{Tabled}
-use Rattle.job_protocol.specs.JobCommits.{Sets, all_commits, Commit, Fetching, Replacing, Completing, Reverting, CommitOver, set_request, commit_asks, is_no_magic}
 use Rattle.job_protocol.specs.JobCommits as commits
-use Rattle.job_protocol.specs.Operations.{Setting, Operation, TheWrite, TheTaskCommit, TheTaskAbort, asks}
-use Rattle.job_spec.specs.Seen.{Seen, is_magic, is_staging}
-use Rattle.proof_base.specs.Members.{IsIn}
-use Rattle.proof_base.proofs.Members.{some_is, none_some, false_true, nat_true, nat_false}
-use Rattle.job_facts.specs.Told.{Told, known}
-use Rattle.job_facts.specs.Stores.{IsKnown}
-use Rattle.job_facts.specs.Facts.{IsAttempt, Facts, Hold}
-use Rattle.job_facts.specs.Fits.{Fits, FitsUpload, FitsWrite, FitsCommit, FitsAbort}
-use Rattle.job_facts.specs.Emptying.{SetsUp}
-use Rattle.job_facts.specs.Driver.{FitsJobCommit}
-use Rattle.job_facts.specs.Filed.{IsCommit, Decides}
-use Rattle.job_facts.specs.FiledLaws.{Commits}
 use Rattle.job_facts.proofs.Legal.{some_dest}
 use Rattle.job_facts.proofs.Aborting.{taken_in}
 use Rattle.job_facts.proofs.Placed.{own_magic, set_magic, path_below}

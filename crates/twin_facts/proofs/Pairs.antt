@@ -1,25 +1,9 @@
 -- Of two sides at one destination the facts of both are kept by each step of either, and no upload is drawn by both.
 use Rattle.std.proofs.Common.{◌≡◌, ℕ, ◌<◌, ◌≤◌, ◌⊎◌, inl, inr, ◌&&◌, ◌||◌, nat_le, nat_lt, Bool, true, false, List, Option, Some, refl, sym, ap, subst, ◌∙◌, arith}
-use Rattle.std.proofs.lemmas.Bool.{and_parts}
-use Rattle.std.proofs.lemmas.Bool.Decides.{nat_tests}
-use Rattle.s3_types.specs.Store.{Scene}
-use Rattle.s3_types.specs.Moment.{effect}
-use Rattle.s3_types.specs.declared.request.Actor.TheVariants.{Driver}
-use Rattle.s3_types.specs.declared.request.Request.{Request}
-use Rattle.s3_types.specs.declared.journal.Outcome.{Outcome}
-use Rattle.s3_types.specs.declared.journal.Outcome.TheVariants.{Answered, Slow, RequestLost, ReplyLost}
-use Rattle.s3_types.specs.declared.journal.Entry.{Entry}
-use Rattle.path_keys.specs.Paths.{Path}
-use Rattle.job_model.specs.Attempts.{Who}
-use Rattle.job_model.specs.JobScript.{Script}
-use Rattle.job_model.specs.Legal.{IsLegal}
-use Rattle.job_protocol.specs.Setup.{setup_asks}
-use Rattle.job_protocol.specs.Operations.{Setting, TheSetup, TheCommit, who}
-use Rattle.store_frame.specs.Held.{HasBucket}
-use Rattle.proof_base.proofs.Members.{none_some, false_true}
+use Rattle.job_spec.proofs.Common.{and_parts, nat_tests, none_some, false_true}
+use Rattle.job_facts.specs.Prelude.{Scene, effect, Driver, Request, Outcome, Answered, Slow, RequestLost, ReplyLost, Entry, Who, Script, IsLegal, setup_asks, Setting, TheSetup, TheCommit, who, HasBucket, IsKnown, IsForeign}
+use Rattle.job_protocol.specs.Prelude.{Path}
 use Rattle.store_frame.proofs.Framed.{frame}
-use Rattle.job_facts.specs.Stores.{IsKnown}
-use Rattle.job_facts.specs.Foreign.{IsForeign}
 use Rattle.job_traces.specs.Runs.{Beginning, nothing_learnt}
 use Rattle.twin_facts.specs.Names.{NamesOwn, IsStranger}
 use Rattle.twin_facts.specs.Laws.{AreTwins}

@@ -1,39 +1,10 @@
 -- How far a job's commit has come beside another job, is kept by each of its own entries, and by those of the job's attempts; a stranger's leave it as it is.
 use Rattle.std.proofs.Common.{◌≡◌, ℕ, zero, suc, ◌+◌, nat_lt, ◌<◌, ◌≤◌, ◌^◌, inl, inr, not, ◌&&◌, ◌||◌, Bool, true, false, cond, List, [], ◌∷◌, ◌++◌, length, Option, Some, None, refl, sym, ap, subst, ◌∙◌, arith, length-append}
+use Rattle.job_facts.specs.Prelude.{is_some, Content, answer, IsHonestOutcome, Request, Committer, Magic, Directory, Partitioned, Mode, Replace, Append, Fail, Reply, Outcome, Answered, Slow, RequestLost, ReplyLost, IsLegal, Who, Script, CommitEnd, Sweep, Listing, Deleting, sweep_asks, sweep_hears, Picks, same_path, picked_below, is_decided, is_clash, Turn, again, follow, dealt, revert, Sets, all_commits, picks_of, Commit, Fetching, Replacing, Completing, Marking, Reverting, CommitOver, set_request, set_read, ok_set, commit_asks, commit_hears, commit_misses, commit_tells, commit_start, completing, is_no_magic, replaced, replacing, decided, fetching, fetched, swept, reverting, worn_completion, Setting, Operation, TheCommit, asks, files_set, Seen, see, is_begun, is_reading, is_marking, picks_by, Told, known, tell_driver, tell_attempt, at_event, entry, driver_entry, sets_at, Hold, knowing, Fits, NoneEnded, Decides, IsSetAnswer}
+use Rattle.job_spec.proofs.Common.{some_is, none_some, false_true, same_or_not}
 use Rattle.std.specs.FinMap as fin
-use Rattle.std.specs.Option.{is_some}
-use Rattle.s3_types.specs.Store.{Content}
-use Rattle.s3_types.specs.Answer.{answer}
-use Rattle.s3_types.specs.Moment.{IsHonestOutcome}
-use Rattle.s3_types.specs.declared.request.Request.{Request}
-use Rattle.s3_types.specs.declared.request.Committer.{Committer}
-use Rattle.s3_types.specs.declared.request.Committer.TheVariants.{Magic, Directory, Partitioned}
-use Rattle.s3_types.specs.declared.request.Mode.{Mode}
-use Rattle.s3_types.specs.declared.request.Mode.TheVariants.{Replace, Append, Fail}
-use Rattle.s3_types.specs.declared.reply.Reply.{Reply}
-use Rattle.s3_types.specs.declared.journal.Outcome.{Outcome}
-use Rattle.s3_types.specs.declared.journal.Outcome.TheVariants.{Answered, Slow, RequestLost, ReplyLost}
-use Rattle.job_model.specs.Legal.{IsLegal}
-use Rattle.job_model.specs.Attempts.{Who}
-use Rattle.job_model.specs.JobScript.{Script}
-use Rattle.job_model.specs.declared.ends.CommitEnd.{CommitEnd}
 use Rattle.job_model.specs.declared.ends.CommitEnd.TheVariants as ends
 use Rattle.job_model.specs.declared.ends.Stage.TheVariants as stages
-use Rattle.list_walk.specs.Walks.{Sweep, Listing, Deleting, sweep_asks, sweep_hears}
-use Rattle.job_protocol.specs.Outputs.{Picks, same_path, picked_below, is_decided, is_clash}
-use Rattle.job_protocol.specs.Lanes.{Turn, again, follow, dealt, revert}
-use Rattle.job_protocol.specs.JobCommits.{Sets, all_commits, picks_of, Commit, Fetching, Replacing, Completing, Marking, Reverting, CommitOver, set_request, set_read, ok_set, commit_asks, commit_hears, commit_misses, commit_tells, commit_start, completing, is_no_magic, replaced, replacing, decided, fetching, fetched, swept, reverting, worn_completion}
-use Rattle.job_protocol.specs.Operations.{Setting, Operation, TheCommit, asks}
-use Rattle.job_protocol.specs.Records.{files_set}
-use Rattle.job_spec.specs.Seen.{Seen, see, is_begun, is_reading, is_marking, picks_by}
-use Rattle.proof_base.proofs.Members.{some_is, none_some, false_true, same_or_not}
-use Rattle.job_facts.specs.Told.{Told, known, tell_driver, tell_attempt, at_event, entry, driver_entry}
-use Rattle.job_facts.specs.Stores.{sets_at}
-use Rattle.job_facts.specs.Facts.{Hold, knowing}
-use Rattle.job_facts.specs.Fits.{Fits}
-use Rattle.job_facts.specs.Turning.{NoneEnded}
-use Rattle.job_facts.specs.Filed.{Decides}
-use Rattle.job_facts.specs.Laws.{IsSetAnswer}
 use Rattle.job_facts.proofs.Whose.{or_false}
 use Rattle.job_facts.proofs.Replies.{set_reply, bytes_read}
 use Rattle.job_facts.proofs.Reading.{reads_other}

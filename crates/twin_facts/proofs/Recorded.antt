@@ -1,50 +1,17 @@
 -- Of the magic committer: as long as its upload lives, the record of a file that an attempt has written stands; an abort or clean of the job deletes none whose upload lives.
 use Rattle.std.proofs.Common.{◌≡◌, ℕ, ◌≤◌, ◌^◌, ◌⊎◌, inl, inr, nat_lt, ◌||◌, Bool, true, false, List, [], ◌∷◌, ◌++◌, take, drop, length, Option, Some, None, refl, sym, ap, subst, ◌∙◌}
-use Rattle.std.specs.List.{filter}
-use Rattle.s3_types.specs.Store.{Scene}
-use Rattle.s3_types.specs.Pages.{begins, listed}
-use Rattle.s3_types.specs.Answer.{answer, apply, found, bucket_of}
-use Rattle.s3_types.specs.Moment.{effect, IsHonestOutcome}
-use Rattle.s3_types.specs.declared.request.Request.{Request}
-use Rattle.s3_types.specs.declared.request.Request.TheVariants.{GetObject, AbortUpload}
-use Rattle.s3_types.specs.declared.request.UploadRef.{UploadRef}
-use Rattle.s3_types.specs.declared.request.Committer.{Committer}
-use Rattle.s3_types.specs.declared.request.Committer.TheVariants.{Magic, Directory, Partitioned}
-use Rattle.s3_types.specs.declared.reply.Reply.{Reply}
-use Rattle.s3_types.specs.declared.reply.Reply.TheVariants.{Page}
-use Rattle.s3_types.specs.declared.reply.PageEntry.{PageEntry}
-use Rattle.s3_types.specs.declared.journal.Outcome.{Outcome}
-use Rattle.s3_types.specs.declared.journal.Outcome.TheVariants.{Answered, Slow, RequestLost}
-use Rattle.retries.specs.Retries.{Retried, step}
-use Rattle.magic_paths.specs.Layout.{magic_prefix}
-use Rattle.magic_paths.specs.Places.{MarkerPlace, RecordPlace, is_record}
+use Rattle.job_facts.specs.Prelude.{filter, Scene, begins, listed, answer, apply, bucket_of, effect, IsHonestOutcome, Request, GetObject, AbortUpload, UploadRef, Committer, Magic, Directory, Partitioned, Reply, Page, PageEntry, Outcome, Answered, Slow, RequestLost, Retried, step, magic_prefix, MarkerPlace, RecordPlace, is_record, Listing, Deleting, walked_by, keys_on, last_of, page_after, Who, File, Script, Drawn, IsLegal, learn, files, file_key, record_key, record_text, file_record, Uploading, Uploaded, Creating, Sending, GoesOn, AllSent, IsGone, upload_asks, upload_hears, Write, Recording, WriteOver, writing, write_asks, write_after, write_start, write_start_by, TaskAbort, TaskAbortOver, task_abort_asks, Setting, Operation, TheWrite, TheTaskCommit, TheTaskAbort, asks, tells, is_magic, is_staging, IsIn, HasBucket, changed_keys, Told, known, undoes, tell_driver, tell_attempt, at_event, at_key, IsAttempt, Facts, Fits, FitsWrite}
+use Rattle.job_protocol.specs.Prelude.{drawn_last, write_hears}
+use Rattle.job_spec.proofs.Common.{some_is, false_true, in_append, in_front, in_back, filter_in}
+use Rattle.s3_types.specs.Answer.{found}
 use Rattle.pending_json.specs.Reading as reading
-use Rattle.list_walk.specs.Walks.{Listing, Deleting, walked, walked_by, keys_on, last_of, page_after}
-use Rattle.job_model.specs.Attempts.{Who}
-use Rattle.job_model.specs.Files.{File}
-use Rattle.job_model.specs.JobScript.{Script}
-use Rattle.job_model.specs.Known.{Drawn}
-use Rattle.job_model.specs.Legal.{IsLegal}
+use Rattle.list_walk.specs.Walks.{walked}
 use Rattle.job_model.specs.declared.ends.TaskEnd.TheVariants as ends
-use Rattle.job_protocol.specs.Knowledge.{learn, drawn_last}
-use Rattle.job_protocol.specs.Outputs.{files}
-use Rattle.job_protocol.specs.Records.{file_key, record_key, record_text, file_record}
-use Rattle.job_protocol.specs.Uploading.{Uploading, Uploaded, Creating, Sending, GoesOn, AllSent, IsGone, upload_asks, upload_hears}
-use Rattle.job_protocol.specs.Writes.{Write, Marking, Recording, WriteOver, writing, write_asks, write_after, write_hears, write_start, write_start_by, uploaded}
+use Rattle.job_protocol.specs.Writes.{Marking, uploaded}
 use Rattle.job_protocol.specs.Writes as writes
-use Rattle.job_protocol.specs.TaskAborts.{TaskAbort, Sweeping, TaskAbortOver, task_abort_asks}
-use Rattle.job_protocol.specs.Operations.{Setting, Operation, TheWrite, TheTaskCommit, TheTaskAbort, asks, tells}
-use Rattle.job_spec.specs.Seen.{is_magic, is_staging}
-use Rattle.proof_base.specs.Members.{IsIn}
-use Rattle.store_frame.specs.Held.{HasBucket}
-use Rattle.store_frame.specs.Frame.{changed_keys}
-use Rattle.proof_base.proofs.Members.{some_is, false_true, in_append, in_front, in_back, filter_in}
+use Rattle.job_protocol.specs.TaskAborts.{Sweeping}
 use Rattle.store_frame.proofs.Flat.{page_begins}
-use Rattle.job_facts.specs.Told.{Told, known, undoes, tell_driver, tell_attempt, at_event}
-use Rattle.job_facts.specs.Stores.{at_key}
-use Rattle.job_facts.specs.Facts.{IsAttempt, Facts}
 use Rattle.job_facts.specs.Filed.{HasItsKey}
-use Rattle.job_facts.specs.Fits.{Fits, FitsWrite}
 use Rattle.job_facts.proofs.Aborting.{taken_in, dropped_in}
 use Rattle.job_facts.proofs.Apart.{HasKey, key_left, write_keys, commit_keys, abort_keys, another, record_below}
 use Rattle.job_facts.proofs.EndedGone.{stays_gone}

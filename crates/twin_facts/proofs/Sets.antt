@@ -1,42 +1,8 @@
 -- In every run the records of files whose uploads live stand; so what a set names a record names too.
 use Rattle.std.proofs.Common.{◌≡◌, ℕ, ◌<◌, ◌≤◌, ◌^◌, ◌⊎◌, inl, inr, true, false, List, [], ◌∷◌, Option, Some, None, refl, sym, ap, subst, ◌∙◌}
-use Rattle.s3_types.specs.Store.{Scene}
-use Rattle.s3_types.specs.Pages.{begins}
-use Rattle.s3_types.specs.Answer.{answer, bucket_of}
-use Rattle.s3_types.specs.Moment.{effect, IsHonestOutcome}
-use Rattle.s3_types.specs.declared.request.Actor.TheVariants.{Driver}
-use Rattle.s3_types.specs.declared.request.Committer.{Committer}
-use Rattle.s3_types.specs.declared.request.Committer.TheVariants.{Magic, Directory, Partitioned}
-use Rattle.s3_types.specs.declared.request.Mode.{Mode}
-use Rattle.s3_types.specs.declared.request.Mode.TheVariants.{Fail}
-use Rattle.s3_types.specs.declared.request.Request.{Request}
-use Rattle.s3_types.specs.declared.request.UploadRef.{UploadRef}
-use Rattle.s3_types.specs.declared.journal.Outcome.{Outcome}
-use Rattle.s3_types.specs.declared.journal.Entry.{Entry}
-use Rattle.retries.specs.Retries.{Retried, fresh}
-use Rattle.magic_paths.specs.Layout.{magic_prefix, staged_set_path}
-use Rattle.magic_paths.specs.Places.{StagedSetPlace}
+use Rattle.job_facts.specs.Prelude.{Scene, begins, answer, bucket_of, effect, IsHonestOutcome, Driver, Committer, Magic, Directory, Partitioned, Mode, Fail, Request, UploadRef, Outcome, Entry, Retried, fresh, magic_prefix, staged_set_path, StagedSetPlace, Who, File, Script, Drawn, Known, IsLegal, files, record_key, file_record, setup_asks, writing, write_start, write_start_by, task_commit_start, task_abort_start, Setting, Operation, TheSetup, TheWrite, TheTaskCommit, TheTaskAbort, TheCommit, who, asks, tells, is_magic, is_staging, IsIn, HasBucket, changed_keys, Told, known, put_who, IsForeign, IsAttempt}
+use Rattle.job_spec.proofs.Common.{some_is, none_some, false_true}
 use Rattle.pending_json.specs.Reading as reading
-use Rattle.job_model.specs.Attempts.{Who}
-use Rattle.job_model.specs.Files.{File}
-use Rattle.job_model.specs.JobScript.{Script}
-use Rattle.job_model.specs.Known.{Drawn, Known}
-use Rattle.job_model.specs.Legal.{IsLegal}
-use Rattle.job_protocol.specs.Outputs.{files}
-use Rattle.job_protocol.specs.Records.{record_key, file_record}
-use Rattle.job_protocol.specs.Setup.{setup_asks}
-use Rattle.job_protocol.specs.Writes.{writing, write_start, write_start_by}
-use Rattle.job_protocol.specs.TaskCommits.{task_commit_start}
-use Rattle.job_protocol.specs.TaskAborts.{task_abort_start}
-use Rattle.job_protocol.specs.Operations.{Setting, Operation, TheSetup, TheWrite, TheTaskCommit, TheTaskAbort, TheCommit, who, asks, tells}
-use Rattle.job_spec.specs.Seen.{is_magic, is_staging}
-use Rattle.proof_base.specs.Members.{IsIn}
-use Rattle.store_frame.specs.Held.{HasBucket}
-use Rattle.store_frame.specs.Frame.{changed_keys}
-use Rattle.proof_base.proofs.Members.{some_is, none_some, false_true}
-use Rattle.job_facts.specs.Told.{Told, known, put_who}
-use Rattle.job_facts.specs.Foreign.{IsForeign}
-use Rattle.job_facts.specs.Facts.{IsAttempt}
 use Rattle.job_traces.specs.Runs.{Beginning, BeginSetup, BeginCommit, BeginClean, BeginWrite, BeginPublish, BeginAbort, nothing_learnt}
 use Rattle.job_facts.proofs.Apart.{HasKey, record_below}
 use Rattle.job_facts.proofs.Driving.{reads_drive}

@@ -1,31 +1,11 @@
 -- What an abort or clean at a shared destination leaves where it ends Done.
 use Rattle.std.proofs.Common.{◌≡◌, ℕ, ◌≤◌, ◌^◌, ◌⊎◌, inl, inr, true, List, [], ◌∷◌, ◌++◌, drop, Option, Some, refl, sym, ap, subst, ◌∙◌, arith}
-use Rattle.s3_types.specs.Store.{Content, Scene}
-use Rattle.s3_types.specs.Pages.{begins}
-use Rattle.s3_types.specs.Answer.{answer}
-use Rattle.s3_types.specs.Moment.{effect, IsHonestOutcome}
-use Rattle.s3_types.specs.declared.request.Actor.TheVariants.{Driver}
-use Rattle.s3_types.specs.declared.request.Request.{Request}
-use Rattle.s3_types.specs.declared.request.UploadRef.{UploadRef}
-use Rattle.s3_types.specs.declared.request.Committer.{Committer}
-use Rattle.s3_types.specs.declared.request.Committer.TheVariants.{Magic, Directory, Partitioned}
-use Rattle.s3_types.specs.declared.reply.Reply.{Reply}
-use Rattle.s3_types.specs.declared.reply.Reply.TheVariants.{ClusterNames}
-use Rattle.s3_types.specs.declared.journal.Outcome.{Outcome}
-use Rattle.s3_types.specs.declared.journal.Entry.{Entry}
-use Rattle.retries.specs.Retries.{Retried, fresh, step}
-use Rattle.magic_paths.specs.Places.{is_record}
-use Rattle.std.specs.List.{filter}
-use Rattle.job_model.specs.JobScript.{Script}
+use Rattle.job_facts.specs.Prelude.{Content, Scene, begins, answer, effect, IsHonestOutcome, Driver, Request, UploadRef, Committer, Magic, Directory, Partitioned, Reply, Outcome, Entry, Retried, fresh, step, is_record, filter, Script, Walked, More, Whole, Setting, who, is_staging, HasBucket, driver_entry, IsForeign}
+use Rattle.job_spec.specs.Prelude.{ClusterNames}
+use Rattle.job_spec.proofs.Common.{some_is, false_true}
 use Rattle.job_model.specs.declared.ends.CleanEnd.TheVariants as ends
-use Rattle.list_walk.specs.Walks.{Walked, More, Whole, walked}
-use Rattle.job_protocol.specs.Operations.{Setting, who}
-use Rattle.job_spec.specs.Seen.{is_staging}
-use Rattle.store_frame.specs.Held.{HasBucket}
-use Rattle.proof_base.proofs.Members.{some_is, false_true}
+use Rattle.list_walk.specs.Walks.{walked}
 use Rattle.store_frame.proofs.Framed.{frame}
-use Rattle.job_facts.specs.Told.{driver_entry}
-use Rattle.job_facts.specs.Foreign.{IsForeign}
 use Rattle.job_traces.specs.Runs.{BeginClean, nothing_learnt}
 use Rattle.job_facts.proofs.EndedGone.{stays_gone}
 use Rattle.job_facts.proofs.Going.{step_so}

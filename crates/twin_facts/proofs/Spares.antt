@@ -1,47 +1,13 @@
 -- A sparing abort or clean keeps the job's facts with each of its requests, and aborts only uploads that the job knows.
 use Rattle.std.proofs.Common.{◌≡◌, ℕ, ◌<◌, ◌≤◌, ◌^◌, ◌⊎◌, inl, inr, nat_lt, ◌||◌, Bool, true, false, List, [], ◌∷◌, ◌++◌, map, take, drop, length, Option, Some, None, Ok, refl, sym, ap, subst, ◌∙◌}
+use Rattle.job_facts.specs.Prelude.{filter, Scene, begins, listed, answer, apply, read_answer, effect, IsHonestOutcome, only_reads, Object, Request, GetObject, AbortUpload, DeleteObjects, ClusterGet, ClusterList, ClusterDelete, UploadRef, Committer, Magic, Directory, Partitioned, Reply, Page, PageEntry, Outcome, Answered, Slow, RequestLost, ReplyLost, Retried, step, magic_prefix, cluster_prefix, staged_set_path, Place, FilePlace, MarkerPlace, RecordPlace, SetPlace, SuccessPlace, key_at, is_record, Who, File, Script, Drawn, IsLegal, drawn_for, files, file_key, file_record, files_set, temporary_path, walked_by, keys_on, last_of, page_after, Seen, see, is_begun, is_magic, is_staging, IsIn, HasBucket, changed_paths, Told, tell_driver, at_event, driver_entry, at_key, IsAttempt, IsWritten, IsOwnPlace, AreCommits, Facts, Hold, knowing}
+use Rattle.job_spec.proofs.Common.{some_is, none_or_some, false_true, nat_true, in_append, in_filter, in_map, same_or_other}
 use Rattle.std.specs.FinMap as fin
-use Rattle.std.specs.List.{filter}
-use Rattle.s3_types.specs.Store.{Scene}
-use Rattle.s3_types.specs.Pages.{begins, listed}
-use Rattle.s3_types.specs.Answer.{answer, apply, found, read_answer}
-use Rattle.s3_types.specs.Moment.{effect, IsHonestOutcome}
-use Rattle.s3_types.specs.Requests.{only_reads}
-use Rattle.s3_types.specs.declared.object.Object.{Object}
-use Rattle.s3_types.specs.declared.request.Request.{Request}
-use Rattle.s3_types.specs.declared.request.Request.TheVariants.{GetObject, AbortUpload, DeleteObjects, ClusterGet, ClusterList, ClusterDelete}
-use Rattle.s3_types.specs.declared.request.UploadRef.{UploadRef}
-use Rattle.s3_types.specs.declared.request.Committer.{Committer}
-use Rattle.s3_types.specs.declared.request.Committer.TheVariants.{Magic, Directory, Partitioned}
-use Rattle.s3_types.specs.declared.reply.Reply.{Reply}
-use Rattle.s3_types.specs.declared.reply.Reply.TheVariants.{Page}
-use Rattle.s3_types.specs.declared.reply.PageEntry.{PageEntry}
-use Rattle.s3_types.specs.declared.journal.Outcome.{Outcome}
-use Rattle.s3_types.specs.declared.journal.Outcome.TheVariants.{Answered, Slow, RequestLost, ReplyLost}
-use Rattle.retries.specs.Retries.{Retried, step}
-use Rattle.magic_paths.specs.Layout.{magic_prefix, cluster_prefix, staged_set_path}
-use Rattle.magic_paths.specs.Places.{Place, FilePlace, MarkerPlace, RecordPlace, SetPlace, SuccessPlace, key_at, is_record}
+use Rattle.s3_types.specs.Answer.{found}
 use Rattle.pending_json.specs.Reading as reading
-use Rattle.job_model.specs.Attempts.{Who}
-use Rattle.job_model.specs.Files.{File}
-use Rattle.job_model.specs.JobScript.{Script}
-use Rattle.job_model.specs.Known.{Drawn}
-use Rattle.job_model.specs.Legal.{IsLegal}
-use Rattle.job_protocol.specs.Knowledge.{drawn_for}
-use Rattle.job_protocol.specs.Outputs.{files}
-use Rattle.job_protocol.specs.Records.{file_key, file_record, files_set}
-use Rattle.job_protocol.specs.TaskCommits.{temporary_path}
-use Rattle.list_walk.specs.Walks.{walked, walked_by, keys_on, last_of, page_after}
-use Rattle.job_spec.specs.Seen.{Seen, see, is_begun, is_magic, is_staging}
-use Rattle.proof_base.specs.Members.{IsIn}
-use Rattle.store_frame.specs.Held.{HasBucket}
-use Rattle.store_frame.specs.Frame.{changed_paths}
-use Rattle.proof_base.proofs.Members.{some_is, none_or_some, false_true, nat_true, in_append, in_filter, in_map, same_or_other}
+use Rattle.list_walk.specs.Walks.{walked}
 use Rattle.store_frame.proofs.Framed.{frame}
 use Rattle.store_frame.proofs.Flat.{page_begins}
-use Rattle.job_facts.specs.Told.{Told, tell_driver, at_event, driver_entry}
-use Rattle.job_facts.specs.Stores.{at_key}
-use Rattle.job_facts.specs.Facts.{IsAttempt, IsWritten, IsOwnPlace, AreCommits, Facts, Hold, knowing}
 use Rattle.job_facts.specs.Driver.{AllMagic, AllCluster}
 use Rattle.job_facts.proofs.Aborting.{dropped_in}
 use Rattle.job_facts.proofs.Driving.{driving_effect, reads_drive, sweep_keeps, remove_file_keeps}

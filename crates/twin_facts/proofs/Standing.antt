@@ -1,52 +1,13 @@
 -- What holds of one side of two, whatever the other sends, is kept by each step.
 use Rattle.std.proofs.Common.{◌≡◌, ℕ, ◌<◌, ◌≤◌, ◌^◌, ◌⊎◌, inl, inr, ◌&&◌, ◌||◌, Bool, true, false, cond, List, [], ◌∷◌, Option, Some, None, refl, sym, ap, subst, ◌∙◌}
-use Rattle.s3_types.specs.Store.{Content, Scene, Upload}
-use Rattle.s3_types.specs.Pages.{begins}
-use Rattle.s3_types.specs.Answer.{answer}
-use Rattle.s3_types.specs.Moment.{effect, is_effective, IsHonestOutcome}
-use Rattle.s3_types.specs.Requests.{only_reads}
-use Rattle.s3_types.specs.declared.request.Actor.TheVariants.{Driver}
-use Rattle.s3_types.specs.declared.request.Mode.{Mode}
-use Rattle.s3_types.specs.declared.request.Mode.TheVariants.{Fail}
-use Rattle.s3_types.specs.declared.request.Request.{Request}
-use Rattle.s3_types.specs.declared.request.Request.TheVariants.{ClusterPut, ClusterRename, ClusterDelete}
-use Rattle.s3_types.specs.declared.request.UploadRef.{UploadRef}
-use Rattle.s3_types.specs.declared.journal.Outcome.{Outcome}
-use Rattle.s3_types.specs.declared.journal.Outcome.TheVariants.{Answered, Slow, RequestLost}
-use Rattle.s3_types.specs.declared.journal.Entry.{Entry}
-use Rattle.retries.specs.Retries.{Retried, fresh, step}
-use Rattle.magic_paths.specs.Layout.{cluster_prefix}
-use Rattle.list_walk.specs.Walks.{Listing, Deleting}
-use Rattle.job_model.specs.Attempts.{Who}
-use Rattle.job_model.specs.Files.{File}
-use Rattle.job_model.specs.JobScript.{Script}
-use Rattle.job_model.specs.Known.{Known}
-use Rattle.job_model.specs.Legal.{IsLegal}
+use Rattle.job_facts.specs.Prelude.{Content, Scene, Upload, begins, answer, effect, is_effective, IsHonestOutcome, only_reads, Driver, Mode, Fail, Request, ClusterPut, ClusterRename, ClusterDelete, UploadRef, Outcome, Answered, Slow, RequestLost, Entry, Retried, fresh, step, cluster_prefix, Listing, Deleting, Who, File, Script, Known, IsLegal, Setup, Sweeping, SetupOver, setup_start, setup_asks, setup_after, Uploading, Creating, Sending, upload_asks, Write, WriteOver, write_start, write_asks, TaskCommit, Storing, Renaming, TaskCommitOver, task_commit_start, task_commit_asks, temporary_path, TaskAbort, TaskAbortOver, task_abort_start, task_abort_asks, Setting, Operation, TheSetup, TheWrite, TheTaskCommit, TheTaskAbort, TheCommit, who, asks, tells, NoClusterFile, Seen, see, is_begun, is_reading, is_marking, picks_by, IsIn, HasBucket, changed_paths, Told, known, put_who, nothing_told, ends, tell_driver, tell_attempt, at_event, entry, driver_entry, at_id, IsForeign, IsAttempt, Facts, Hold, Fits, SetsUp, NoneEnded, Gone}
+use Rattle.job_spec.proofs.Common.{some_is, none_some, false_true}
 use Rattle.job_model.specs.declared.ends.SetupEnd.TheVariants as setups
-use Rattle.job_protocol.specs.Setup.{Setup, Sweeping, SetupOver, setup_start, setup_asks, setup_after}
-use Rattle.job_protocol.specs.Uploading.{Uploading, Creating, Sending, upload_asks}
-use Rattle.job_protocol.specs.Writes.{Write, WriteOver, write_start, write_asks}
 use Rattle.job_protocol.specs.Writes as writes
-use Rattle.job_protocol.specs.TaskCommits.{TaskCommit, Storing, Renaming, TaskCommitOver, task_commit_start, task_commit_asks, temporary_path}
 use Rattle.job_protocol.specs.TaskCommits as tasks
-use Rattle.job_protocol.specs.TaskAborts.{TaskAbort, Removing, TaskAbortOver, task_abort_start, task_abort_asks}
+use Rattle.job_protocol.specs.TaskAborts.{Removing}
 use Rattle.job_protocol.specs.TaskAborts as aborts
-use Rattle.job_protocol.specs.Operations.{Setting, Operation, TheSetup, TheWrite, TheTaskCommit, TheTaskAbort, TheCommit, who, asks, tells}
-use Rattle.job_spec.specs.Scope.{NoClusterFile}
-use Rattle.job_spec.specs.Seen.{Seen, see, is_begun, is_reading, is_marking, picks_by}
-use Rattle.proof_base.specs.Members.{IsIn}
-use Rattle.store_frame.specs.Held.{HasBucket}
-use Rattle.store_frame.specs.Frame.{changed_paths}
-use Rattle.proof_base.proofs.Members.{some_is, none_some, false_true}
 use Rattle.store_frame.proofs.Framed.{frame}
-use Rattle.job_facts.specs.Told.{Told, known, put_who, nothing_told, ends, tell_driver, tell_attempt, at_event, entry, driver_entry}
-use Rattle.job_facts.specs.Stores.{at_id}
-use Rattle.job_facts.specs.Foreign.{IsForeign}
-use Rattle.job_facts.specs.Facts.{IsAttempt, Facts, Hold}
-use Rattle.job_facts.specs.Fits.{Fits}
-use Rattle.job_facts.specs.Emptying.{SetsUp}
-use Rattle.job_facts.specs.Turning.{NoneEnded}
-use Rattle.job_facts.specs.Filed.{Gone}
 use Rattle.job_traces.specs.Runs.{Beginning, BeginSetup, BeginCommit, BeginClean, BeginWrite, BeginPublish, BeginAbort, is_done, nothing_learnt}
 use Rattle.job_facts.proofs.Whose.{same_or_another, who_here, who_other, or_false}
 use Rattle.job_facts.proofs.Starting.{facts_begin}

@@ -1,40 +1,9 @@
 -- What one entry of a side leaves: of its picks, of what stands where files are shown, and of the marker.
 use Rattle.std.proofs.Common.{◌≡◌, ℕ, ◌≤◌, ◌^◌, ◌⊎◌, inl, inr, ◌||◌, Bool, true, false, cond, List, Option, Some, None, refl, sym, ap, subst, ◌∙◌}
-use Rattle.s3_types.specs.Store.{Content, Scene}
-use Rattle.s3_types.specs.Answer.{answer, apply}
-use Rattle.s3_types.specs.Moment.{effect, is_effective, IsHonestOutcome}
-use Rattle.s3_types.specs.declared.object.Object.{Object}
-use Rattle.s3_types.specs.declared.request.Actor.TheVariants.{Driver}
-use Rattle.s3_types.specs.declared.request.Request.{Request}
-use Rattle.s3_types.specs.declared.request.Request.TheVariants.{PutObject}
-use Rattle.s3_types.specs.declared.request.Mode.{Mode}
-use Rattle.s3_types.specs.declared.request.Mode.TheVariants.{Replace, Append, Fail}
-use Rattle.s3_types.specs.declared.request.Committer.{Committer}
-use Rattle.s3_types.specs.declared.request.Committer.TheVariants.{Magic, Directory, Partitioned}
-use Rattle.s3_types.specs.declared.journal.Outcome.{Outcome}
-use Rattle.s3_types.specs.declared.journal.Outcome.TheVariants.{Answered, Slow, RequestLost, ReplyLost}
-use Rattle.s3_types.specs.declared.journal.Entry.{Entry}
-use Rattle.path_keys.specs.Paths.{Path, below}
-use Rattle.magic_paths.specs.Layout.{success_key}
-use Rattle.retries.specs.Retries.{Retried}
-use Rattle.job_protocol.specs.Setup.{setup_asks}
-use Rattle.job_model.specs.JobScript.{Script}
-use Rattle.job_model.specs.Legal.{IsLegal}
-use Rattle.job_protocol.specs.Conflicts.{keeps, partitions}
-use Rattle.job_protocol.specs.Outputs.{wanted_at, wanted_paths, is_decided}
-use Rattle.job_protocol.specs.Records.{mark_text}
-use Rattle.job_protocol.specs.View.{is_file_path, object_at}
-use Rattle.job_protocol.specs.JobCommits.{Sets, picks_of, Commit, Fetching, Replacing, Marking, commit_asks, commit_tells}
-use Rattle.job_protocol.specs.Operations.{Setting, TheSetup, TheCommit, who}
-use Rattle.job_spec.specs.Ends.{is_driver}
-use Rattle.job_spec.specs.Seen.{Seen, see, is_begun, is_marking}
-use Rattle.proof_base.specs.Members.{IsIn}
-use Rattle.store_frame.specs.Frame.{changed_keys}
-use Rattle.proof_base.proofs.Members.{some_is, none_some, false_true, true_or_false, text_true}
-use Rattle.job_facts.specs.Told.{driver_entry}
-use Rattle.job_facts.specs.Stores.{at_key}
-use Rattle.job_facts.specs.Filed.{whole_of, Decides, FileStands, Wants}
-use Rattle.job_facts.specs.FiledLaws.{Commits}
+use Rattle.job_facts.specs.Prelude.{Content, Scene, answer, apply, effect, is_effective, IsHonestOutcome, Object, Driver, Request, PutObject, Mode, Replace, Append, Fail, Committer, Magic, Directory, Partitioned, Outcome, Answered, Slow, RequestLost, ReplyLost, Entry, below, success_key, Retried, setup_asks, Script, IsLegal, keeps, partitions, wanted_at, wanted_paths, is_decided, mark_text, is_file_path, Sets, picks_of, Commit, Fetching, Replacing, Marking, commit_asks, commit_tells, Setting, TheSetup, TheCommit, who, is_driver, Seen, see, is_begun, is_marking, IsIn, changed_keys, driver_entry, at_key, whole_of, Decides, FileStands, Wants, Commits}
+use Rattle.job_protocol.specs.Prelude.{Path}
+use Rattle.job_spec.proofs.Common.{some_is, none_some, false_true, true_or_false, text_true}
+use Rattle.job_protocol.specs.View.{object_at}
 use Rattle.job_traces.specs.Runs.{nothing_learnt}
 use Rattle.job_facts.proofs.Whose.{or_true}
 use Rattle.job_facts.proofs.Owning.{operation_own}

@@ -1,13 +1,10 @@
 -- Of the keys below a job's magic directory exactly those of records end as records do.
 use Rattle.std.proofs.Common.{◌≡◌, ℕ, ◌+◌, ◌-◌, ◌≤◌, ◌⊎◌, inl, inr, nat_eq, ◌||◌, Bool, true, false, List, [], ◌∷◌, ◌++◌, length, drop, take, refl, sym, ap, ◌∙◌, arith, append_assoc, length-append, codes}
-use Rattle.std.specs.Fmt.{decimal}
-use Rattle.std.proofs.lemmas.List.{take-append-drop}
-use Rattle.proof_base.specs.Order.{text_eq, text_equiv}
-use Rattle.path_keys.specs.Paths.{below}
-use Rattle.magic_paths.specs.Layout.{attempt_key, set_key}
-use Rattle.magic_paths.specs.Places.{is_record}
-use Rattle.magic_paths.proofs.Tails.{below_is}
-use Rattle.proof_base.proofs.Members.{text_is, false_true}
+use Rattle.job_facts.specs.Prelude.{decimal, text_eq, below, set_key, is_record}
+use Rattle.path_keys.proofs.Common.{take-append-drop}
+use Rattle.retries.specs.Prelude.{text_equiv}
+use Rattle.job_protocol.specs.Prelude.{attempt_key}
+use Rattle.job_spec.proofs.Common.{below_is, text_is, false_true}
 
 abbrev ending : List ℕ
 ending = codes ".pending"

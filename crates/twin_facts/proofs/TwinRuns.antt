@@ -1,26 +1,9 @@
 -- All runs of two jobs at one destination.
 use Rattle.std.proofs.Common.{◌≡◌, ℕ, zero, suc, ◌+◌, ◌<◌, ◌≤◌, ◌⊎◌, inl, inr, ◌&&◌, ◌||◌, Bool, true, false, cond, List, [], ◌∷◌, ◌++◌, map, take, length, Option, Some, refl, sym, ap, subst, ◌∙◌, arith, length-append}
-use Rattle.std.specs.List.{list_any}
-use Rattle.std.proofs.lemmas.Bool.{and_parts}
-use Rattle.std.proofs.lemmas.List.{take-append-le, take_all}
-use Rattle.proof_base.specs.Order.{text_eq}
-use Rattle.s3_types.specs.Store.{Content, Scene, Upload}
-use Rattle.s3_types.specs.Answer.{bucket_of}
-use Rattle.s3_types.specs.Moment.{effect, is_effective}
-use Rattle.s3_types.specs.declared.request.Request.{Request}
-use Rattle.s3_types.specs.declared.journal.Entry.{Entry}
-use Rattle.path_keys.specs.Paths.{Path}
-use Rattle.magic_paths.specs.Layout.{success_key}
-use Rattle.job_model.specs.Attempts.{Who}
-use Rattle.job_model.specs.JobScript.{Script}
-use Rattle.job_protocol.specs.Operations.{Setting}
-use Rattle.job_spec.specs.Ends.{is_driver}
+use Rattle.job_facts.specs.Prelude.{list_any, text_eq, Content, Scene, Upload, bucket_of, effect, is_effective, Request, Entry, success_key, Who, Script, Setting, is_driver, is_marking, IsIn, changed_keys, at_id}
+use Rattle.job_spec.proofs.Common.{and_parts, take-append-le, take_all, false_true, text_true}
+use Rattle.job_protocol.specs.Prelude.{Path}
 use Rattle.job_spec.specs.Scope.{upload_at}
-use Rattle.job_spec.specs.Seen.{is_marking}
-use Rattle.proof_base.specs.Members.{IsIn}
-use Rattle.store_frame.specs.Frame.{changed_keys}
-use Rattle.proof_base.proofs.Members.{false_true, text_true}
-use Rattle.job_facts.specs.Stores.{at_id}
 use Rattle.job_traces.specs.Runs.{Beginning}
 use Rattle.job_facts.proofs.SettingUp.{empty_none}
 use Rattle.twin_facts.specs.TwinLaws.{turned_entry, is_side, touches_mark, marks_by, is_marked_by, MayBeTwins, TwinsKeep}

@@ -1,32 +1,8 @@
 -- What readers of a destination of two jobs are shown is kept by each step of either.
 use Rattle.std.proofs.Common.{◌≡◌, ℕ, ◌⊎◌, inl, inr, not, Bool, true, false, cond, List, Option, Some, None, refl, sym, ap, subst, ◌∙◌}
-use Rattle.std.specs.Option.{option_map}
-use Rattle.std.proofs.lemmas.Bool.{and_parts, not-true}
-use Rattle.s3_types.specs.Store.{Content, Scene}
-use Rattle.s3_types.specs.Answer.{bucket_of}
-use Rattle.s3_types.specs.Moment.{effect, is_effective}
-use Rattle.s3_types.specs.declared.object.Object.{Object}
-use Rattle.s3_types.specs.declared.request.Request.{Request}
-use Rattle.s3_types.specs.declared.journal.Outcome.{Outcome}
-use Rattle.s3_types.specs.declared.journal.Outcome.TheVariants.{Answered, Slow, RequestLost, ReplyLost}
-use Rattle.s3_types.specs.declared.journal.Entry.{Entry}
-use Rattle.path_keys.specs.Paths.{Path}
-use Rattle.magic_paths.specs.Layout.{success_key}
-use Rattle.job_model.specs.Attempts.{Who}
-use Rattle.job_model.specs.JobScript.{Script}
-use Rattle.job_model.specs.Legal.{IsLegal}
-use Rattle.job_protocol.specs.Outputs.{Picks, wanted_at, is_decided, is_picked, is_clash}
-use Rattle.job_protocol.specs.Records.{mark_text}
-use Rattle.job_protocol.specs.View.{is_file_path, view}
-use Rattle.job_protocol.specs.JobCommits.{Commit, Marking}
-use Rattle.job_protocol.specs.Operations.{Setting, TheCommit}
-use Rattle.job_spec.specs.Ends.{is_driver}
-use Rattle.job_spec.specs.Seen.{is_marking}
-use Rattle.proof_base.specs.Members.{IsIn}
-use Rattle.store_frame.specs.Held.{HasBucket}
-use Rattle.store_frame.specs.Frame.{changed_keys}
-use Rattle.proof_base.proofs.Members.{some_is, none_some, none_or_some, false_true, true_or_false, same_or_other}
-use Rattle.job_facts.specs.Filed.{whole_of}
+use Rattle.job_facts.specs.Prelude.{option_map, Content, Scene, bucket_of, effect, is_effective, Object, Request, Outcome, Answered, Slow, RequestLost, ReplyLost, Entry, success_key, Who, Script, IsLegal, Picks, wanted_at, is_decided, is_picked, is_clash, mark_text, is_file_path, view, Commit, Marking, Setting, TheCommit, is_driver, is_marking, IsIn, HasBucket, changed_keys, whole_of}
+use Rattle.job_spec.proofs.Common.{and_parts, not-true, some_is, none_some, none_or_some, false_true, true_or_false, same_or_other}
+use Rattle.job_protocol.specs.Prelude.{Path}
 use Rattle.job_traces.specs.Runs.{Beginning, BeginSetup, BeginCommit, BeginClean}
 use Rattle.job_facts.proofs.FilePaths.{file_path}
 use Rattle.job_facts.proofs.FilingLaws.{stranger_same}

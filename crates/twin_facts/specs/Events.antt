@@ -1,12 +1,6 @@
 -- What is seen and told of a side by the numbers of events alone: its commit is event k if it is any, and its first abort or clean is event c.
 use Rattle.std.specs.Prelude.{◌≡◌, ℕ, ◌≤◌, true, false, cond, List, [], ◌∷◌, length, take, Option}
-use Rattle.s3_types.specs.Store.{Content}
-use Rattle.s3_types.specs.declared.journal.Entry.{Entry}
-use Rattle.job_model.specs.JobScript.{Script}
-use Rattle.job_protocol.specs.Operations.{Setting}
-use Rattle.job_spec.specs.Ends.{is_driver}
-use Rattle.job_spec.specs.Seen.{Seen, see, is_begun, nothing_seen}
-use Rattle.job_facts.specs.Told.{Told, strange_entry, nothing_told, tell}
+use Rattle.job_facts.specs.Prelude.{Content, Entry, Script, Setting, is_driver, Seen, see, is_begun, nothing_seen, Told, strange_entry, nothing_told, tell}
 use Rattle.twin_facts.specs.Sides.{Side, First, Second, TwinEntry, SideState, TwinRun}
 use Rattle.twin_facts.specs.TwinLaws.{is_side, InEachRun, Shows, Marked, is_marked_by}
 

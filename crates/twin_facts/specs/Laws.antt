@@ -1,17 +1,6 @@
 -- The laws of this crate.
 use Rattle.std.specs.Prelude.{◌≡◌, ℕ, true, false, List}
-use Rattle.s3_types.specs.declared.request.Actor.{Actor}
-use Rattle.s3_types.specs.declared.request.Request.{Request}
-use Rattle.job_model.specs.Attempts.{Who}
-use Rattle.job_model.specs.JobScript.{Script}
-use Rattle.job_model.specs.Known.{Drawn}
-use Rattle.job_model.specs.Legal.{IsLegal}
-use Rattle.job_protocol.specs.Operations.{Setting}
-use Rattle.job_spec.specs.Seen.{Seen}
-use Rattle.job_facts.specs.Told.{Told}
-use Rattle.job_facts.specs.Facts.{Hold}
-use Rattle.job_facts.specs.Stores.{IsKnown}
-use Rattle.job_facts.specs.Foreign.{IsForeign}
+use Rattle.job_facts.specs.Prelude.{Actor, Request, Who, Script, Drawn, IsLegal, Setting, Seen, Told, Hold, IsKnown, IsForeign}
 use Rattle.twin_facts.specs.Names.{NamesOwn, IsStranger, Ids}
 use Rattle.twin_facts.specs.Requests.{IsSentBy, SetsUpBy}
 

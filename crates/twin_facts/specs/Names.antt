@@ -1,16 +1,6 @@
 -- What a request names, and requests of a job that name only what is the job's own or nobody's.
 use Rattle.std.specs.Prelude.{◌≡◌, ℕ, ◌⊎◌, Bool, true, false, List, [], ◌∷◌, Option, Some, None}
-use Rattle.s3_types.specs.Pages.{begins}
-use Rattle.s3_types.specs.Answer.{bucket_of}
-use Rattle.s3_types.specs.declared.request.Request.{Request}
-use Rattle.s3_types.specs.declared.request.Request.TheVariants.{PutObject, GetObject, HeadObject, DeleteObject, DeleteObjects, CopyObject, CreateUpload, UploadPart, CompleteUpload, AbortUpload, ListParts, ClusterPut, ClusterRename, ClusterGet, ClusterDelete}
-use Rattle.proof_base.specs.Members.{IsIn}
-use Rattle.magic_paths.specs.Layout.{magic_prefix, cluster_prefix}
-use Rattle.job_model.specs.Attempts.{Who}
-use Rattle.job_model.specs.JobScript.{Script}
-use Rattle.job_model.specs.Known.{Drawn}
-use Rattle.job_protocol.specs.JobCommits.{is_no_magic}
-use Rattle.job_facts.specs.Stores.{IsKnown}
+use Rattle.job_facts.specs.Prelude.{begins, bucket_of, Request, PutObject, GetObject, HeadObject, DeleteObject, DeleteObjects, CopyObject, CreateUpload, UploadPart, CompleteUpload, AbortUpload, ListParts, ClusterPut, ClusterRename, ClusterGet, ClusterDelete, IsIn, magic_prefix, cluster_prefix, Who, Script, Drawn, is_no_magic, IsKnown}
 
 -- the keys that a request names; the prefix and the `after` of a listing name nothing
 abbrev pub named_keys : Request → List (List ℕ)

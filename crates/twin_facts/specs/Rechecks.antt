@@ -1,20 +1,8 @@
 -- The look for files of the destination before the commit of a job at a shared destination, for the mode fail alone (Hadoop, S3A committers: fs.s3a.committer.staging.conflict-mode; here the check is made a second time).
 use Rattle.std.specs.Prelude.{ℕ, Bool, true, false, List, [], ◌∷◌, Option, Some, None}
-use Rattle.std.specs.List.{flat_map}
-use Rattle.s3_types.specs.declared.request.Request.{Request}
-use Rattle.s3_types.specs.declared.request.Request.TheVariants.{ListPage}
-use Rattle.s3_types.specs.declared.reply.Reply.{Reply}
-use Rattle.s3_types.specs.declared.reply.Reply.TheVariants.{Page}
-use Rattle.s3_types.specs.declared.reply.PageEntry.{PageEntry}
-use Rattle.retries.specs.Retries.{Item, Got, WornOut, OutOfMemory}
-use Rattle.job_model.specs.Attempts.{Who}
-use Rattle.job_model.specs.Files.{File}
-use Rattle.job_model.specs.JobScript.{Script}
-use Rattle.job_protocol.specs.Outputs.{files, paths_of}
-use Rattle.job_protocol.specs.Conflicts.{partitions, checks_all, checks_partitions}
-use Rattle.job_protocol.specs.Setup.{dest_prefix, first_shown}
-use Rattle.job_protocol.specs.TaskCommits.{partition_prefix}
-use Rattle.list_walk.specs.Walks.{Walked, More, Whole, keys_on, page_after, walked}
+use Rattle.job_facts.specs.Prelude.{flat_map, Request, ListPage, Reply, Page, PageEntry, Item, Got, WornOut, OutOfMemory, Who, File, Script, files, paths_of, partitions, checks_all, dest_prefix, first_shown, partition_prefix, Walked, More, Whole, keys_on, page_after}
+use Rattle.job_protocol.specs.Prelude.{checks_partitions}
+use Rattle.list_walk.specs.Walks.{walked}
 
 -- how it ends: with none found, with a path or a partition where something stands, by a request that wore out, or for want of memory
 pub data CheckEnd : Type 0 where

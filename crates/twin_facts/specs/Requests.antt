@@ -1,24 +1,7 @@
 -- The requests that a side sends: those of its attempts, and those of its driver's set-up, check, commit, and abort or clean.
 use Rattle.std.specs.Prelude.{◌≡◌, ℕ, true, List, ◌∷◌, Some}
-use Rattle.s3_types.specs.declared.request.Actor.{Actor}
-use Rattle.s3_types.specs.declared.request.Actor.TheVariants.{Driver}
-use Rattle.s3_types.specs.declared.request.Request.{Request}
-use Rattle.s3_types.specs.declared.request.UploadRef.{UploadRef}
-use Rattle.proof_base.specs.Members.{IsIn}
-use Rattle.magic_paths.specs.Places.{is_record}
-use Rattle.job_model.specs.Attempts.{Who, actor_of}
-use Rattle.job_model.specs.JobScript.{Script}
-use Rattle.job_model.specs.Known.{Drawn}
-use Rattle.job_protocol.specs.Setup.{Setup, setup_asks}
-use Rattle.job_protocol.specs.JobCommits.{Commit, commit_asks}
-use Rattle.job_protocol.specs.Operations.{Setting, Operation, asks}
-use Rattle.job_spec.specs.Seen.{Seen, is_magic, is_staging}
-use Rattle.job_facts.specs.Told.{Told, known}
-use Rattle.job_facts.specs.Facts.{IsAttempt}
-use Rattle.job_facts.specs.Fits.{Fits}
-use Rattle.job_facts.specs.Emptying.{SetsUp}
+use Rattle.job_facts.specs.Prelude.{Actor, Driver, Request, UploadRef, IsIn, is_record, Who, actor_of, Script, Drawn, Setup, setup_asks, Commit, commit_asks, Setting, Operation, asks, Seen, is_magic, is_staging, Told, known, IsAttempt, Fits, SetsUp, Commits}
 use Rattle.job_facts.specs.Driver.{AllMagic, AllCluster}
-use Rattle.job_facts.specs.FiledLaws.{Commits}
 use Rattle.twin_facts.specs.Sparing.{Sparing, Walking, Naming, Reading, Aborting, Deleting, Removing, SparingOver, sparing_asks}
 use Rattle.twin_facts.specs.Rechecks.{Check, check_asks}
 

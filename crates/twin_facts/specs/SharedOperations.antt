@@ -1,21 +1,8 @@
 -- All operations of a job's actors at a destination that another job shares, by one table: those of a job alone, but that the commit of the mode fail begins with a check, and that an abort or clean of the job is a sparing one.
 use Rattle.std.specs.Prelude.{ℕ, List, Option, Some, None}
-use Rattle.std.specs.Option.{option_map}
-use Rattle.s3_types.specs.declared.request.Actor.{Actor}
-use Rattle.s3_types.specs.declared.request.Actor.TheVariants.{Driver}
-use Rattle.s3_types.specs.declared.request.Mode.{Mode}
-use Rattle.s3_types.specs.declared.request.Mode.TheVariants.{Fail}
-use Rattle.s3_types.specs.declared.request.Request.{Request}
-use Rattle.s3_types.specs.declared.journal.Outcome.{Outcome}
-use Rattle.retries.specs.Retries.{Retried, fresh, step}
-use Rattle.job_model.specs.Attempts.{Who}
-use Rattle.job_model.specs.Known.{Known}
-use Rattle.job_model.specs.declared.events.Op.{Op}
+use Rattle.job_facts.specs.Prelude.{option_map, Actor, Driver, Mode, Fail, Request, Outcome, Retried, fresh, step, Who, Known, Op, OpEnd, commit_start, Setting, Operation, TheCommit, asks, tells, over, start_of}
 use Rattle.job_model.specs.declared.events.Op.TheVariants as ops
-use Rattle.job_model.specs.declared.ends.OpEnd.{OpEnd}
 use Rattle.job_model.specs.declared.ends.OpEnd.TheVariants as ends
-use Rattle.job_protocol.specs.JobCommits.{commit_start}
-use Rattle.job_protocol.specs.Operations.{Setting, Operation, TheCommit, asks, tells, over, start_of}
 use Rattle.twin_facts.specs.Rechecks.{Check, CheckOver, CheckEnd, Clear, check_start, check_asks, check_after}
 use Rattle.twin_facts.specs.Sparing.{Sparing, sparing_start, sparing_asks, sparing_after, sparing_over}
 

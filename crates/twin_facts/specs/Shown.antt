@@ -1,33 +1,9 @@
 -- What one request of a job's driver changes of what stands where files are shown.
 use Rattle.std.specs.Prelude.{◌≡◌, ℕ, ◌<◌, ◌⊎◌, true, false, List, ◌∷◌, length, Option, Some, None}
-use Rattle.s3_types.specs.declared.object.Object.{Object}
-use Rattle.s3_types.specs.declared.request.Request.{Request}
-use Rattle.s3_types.specs.declared.journal.Outcome.{Outcome}
-use Rattle.s3_types.specs.Store.{Scene}
-use Rattle.s3_types.specs.Moment.{effect}
-use Rattle.path_keys.specs.Paths.{below}
-use Rattle.proof_base.specs.Members.{IsIn}
-use Rattle.store_frame.specs.Frame.{changed_keys}
-use Rattle.job_model.specs.JobScript.{Script}
-use Rattle.job_model.specs.Legal.{IsLegal}
-use Rattle.job_protocol.specs.Conflicts.{keeps_of}
-use Rattle.job_protocol.specs.JobCommits.{Sets, picks_of, Commit, Fetching, Replacing, Completing, Marking, Reverting, CommitOver, replaced, commit_asks}
-use Rattle.job_protocol.specs.Operations.{Setting, Operation, asks}
-use Rattle.job_model.specs.Attempts.{Who}
-use Rattle.job_spec.specs.OperationEnds.{is_untouched}
-use Rattle.job_facts.specs.Facts.{IsAttempt, Hold}
-use Rattle.job_facts.specs.Fits.{Fits}
+use Rattle.job_facts.specs.Prelude.{Object, Request, Outcome, Scene, effect, below, IsIn, changed_keys, Script, IsLegal, keeps_of, Sets, picks_of, Commit, Fetching, Replacing, Completing, Marking, Reverting, CommitOver, replaced, commit_asks, Setting, Operation, asks, Who, is_untouched, IsAttempt, Hold, Fits, Picks, wanted_at, is_decided, is_file_path, Seen, Told, known, at_key, SweepsUnder, whole_of, Commits}
 use Rattle.twin_facts.specs.Sparing.{Sparing, sparing_asks}
 use Rattle.twin_facts.specs.Rechecks.{Check, check_asks}
 use Rattle.twin_facts.specs.Requests.{FitsSparing, SetsUpBy}
-use Rattle.job_protocol.specs.Outputs.{Picks, wanted_at, is_decided}
-use Rattle.job_protocol.specs.View.{is_file_path}
-use Rattle.job_spec.specs.Seen.{Seen}
-use Rattle.job_facts.specs.Told.{Told, known}
-use Rattle.job_facts.specs.Stores.{at_key}
-use Rattle.job_facts.specs.Driver.{SweepsUnder}
-use Rattle.job_facts.specs.Filed.{whole_of}
-use Rattle.job_facts.specs.FiledLaws.{Commits}
 
 -- It stays as it is. Or the job's picks are decided, and it is the whole wanted file or nothing where one is wanted, or nothing where the mode does not keep what was there.
 abbrev pub Changed : Script → Picks → List ℕ → Option Object → Option Object → Type 0

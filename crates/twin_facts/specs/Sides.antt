@@ -1,24 +1,6 @@
 -- Runs of two jobs at one destination, request by request, in any order of their actors. An operation may also stop at any time.
 use Rattle.std.specs.Prelude.{◌≡◌, ℕ, ◌<◌, ◌≤◌, ◌^◌, ◌⊎◌, ◌||◌, ◌&&◌, nat_le, nat_lt, Bool, true, false, List, [], ◌∷◌, ◌++◌, Option, Some, None}
-use Rattle.s3_types.specs.Store.{Content, Scene, Upload}
-use Rattle.s3_types.specs.Answer.{answer}
-use Rattle.s3_types.specs.Moment.{effect, IsHonestOutcome}
-use Rattle.s3_types.specs.declared.request.Actor.TheVariants.{Driver}
-use Rattle.s3_types.specs.declared.request.Request.{Request}
-use Rattle.s3_types.specs.declared.journal.Outcome.{Outcome}
-use Rattle.s3_types.specs.declared.journal.Entry.{Entry}
-use Rattle.retries.specs.Retries.{fresh}
-use Rattle.store_frame.specs.Held.{HasBucket}
-use Rattle.job_model.specs.Attempts.{Who}
-use Rattle.job_protocol.specs.Setup.{setup_start}
-use Rattle.job_protocol.specs.Writes.{write_start}
-use Rattle.job_protocol.specs.TaskCommits.{task_commit_start}
-use Rattle.job_protocol.specs.TaskAborts.{task_abort_start}
-use Rattle.job_protocol.specs.Operations.{Setting, Operation, TheSetup, TheWrite, TheTaskCommit, TheTaskAbort, who, asks, tells}
-use Rattle.job_spec.specs.Seen.{Seen, see, is_begun, nothing_seen}
-use Rattle.job_facts.specs.Told.{Told, known, put_who, nothing_told, tell, entry, driver_entry, strange_entry}
-use Rattle.job_facts.specs.Stores.{at_id}
-use Rattle.job_facts.specs.Facts.{IsAttempt}
+use Rattle.job_facts.specs.Prelude.{Content, Scene, Upload, answer, effect, IsHonestOutcome, Driver, Request, Outcome, Entry, fresh, HasBucket, Who, setup_start, write_start, task_commit_start, task_abort_start, Setting, Operation, TheSetup, TheWrite, TheTaskCommit, TheTaskAbort, who, asks, tells, Seen, see, is_begun, nothing_seen, Told, known, put_who, nothing_told, tell, entry, driver_entry, strange_entry, at_id, IsAttempt}
 use Rattle.job_traces.specs.Runs.{Beginning, BeginSetup, BeginCommit, BeginClean, BeginWrite, BeginPublish, BeginAbort, WriteIsDone, commit_with, nothing_learnt}
 use Rattle.job_traces.specs.Runs as runs
 use Rattle.twin_facts.specs.Names.{Ids}

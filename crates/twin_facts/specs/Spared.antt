@@ -1,26 +1,10 @@
 -- What an abort or clean of a job at a shared destination leaves.
 use Rattle.std.specs.Prelude.{◌≡◌, ℕ, ◌<◌, true, List, [], Option, Some, None}
+use Rattle.job_facts.specs.Prelude.{Scene, begins, Object, Driver, UploadRef, Committer, Magic, Directory, Partitioned, Entry, Retried, IsIn, magic_prefix, cluster_prefix, is_record, Who, Script, Setting, NoClusterFile, is_magic, is_staging, at_key, at_id, sets_at}
 use Rattle.std.specs.FinMap as fin
-use Rattle.s3_types.specs.Store.{Scene}
-use Rattle.s3_types.specs.Pages.{begins}
-use Rattle.s3_types.specs.declared.object.Object.{Object}
-use Rattle.s3_types.specs.declared.request.Actor.TheVariants.{Driver}
-use Rattle.s3_types.specs.declared.request.UploadRef.{UploadRef}
-use Rattle.s3_types.specs.declared.request.Committer.{Committer}
-use Rattle.s3_types.specs.declared.request.Committer.TheVariants.{Magic, Directory, Partitioned}
-use Rattle.s3_types.specs.declared.journal.Entry.{Entry}
-use Rattle.retries.specs.Retries.{Retried}
-use Rattle.proof_base.specs.Members.{IsIn}
-use Rattle.magic_paths.specs.Layout.{magic_prefix, cluster_prefix}
-use Rattle.magic_paths.specs.Places.{is_record}
 use Rattle.pending_json.specs.Reading as reading
-use Rattle.job_model.specs.Attempts.{Who}
-use Rattle.job_model.specs.JobScript.{Script}
 use Rattle.job_model.specs.declared.ends.CleanEnd.TheVariants as ends
-use Rattle.job_protocol.specs.Operations.{Setting}
-use Rattle.job_spec.specs.Scope.{NoMagicKey, NoClusterFile}
-use Rattle.job_spec.specs.Seen.{is_magic, is_staging}
-use Rattle.job_facts.specs.Stores.{at_key, at_id, sets_at}
+use Rattle.job_spec.specs.Scope.{NoMagicKey}
 use Rattle.job_traces.specs.Runs.{Beginning, BeginClean}
 use Rattle.twin_facts.specs.Sparing.{Sparing, SparingOver, record_names, set_names}
 use Rattle.twin_facts.specs.SharedOperations.{TheSparing}

@@ -1,24 +1,14 @@
 -- The driver's abort or clean of a job at a shared destination: it aborts only the uploads that the job's own records and sets name, and lists no uploads (Hadoop, S3A committer architecture: cleanup by the job's own pending files).
 use Rattle.std.specs.Prelude.{ℕ, List, [], ◌∷◌, ◌++◌, take, drop, map, Option, Some, None, Result, Ok, Err}
-use Rattle.std.specs.List.{filter}
-use Rattle.s3_types.specs.declared.request.Request.{Request}
-use Rattle.s3_types.specs.declared.request.Request.TheVariants.{GetObject, DeleteObjects, AbortUpload, ClusterGet, ClusterList, ClusterDelete}
-use Rattle.s3_types.specs.declared.request.UploadRef.{UploadRef}
-use Rattle.s3_types.specs.declared.request.Committer.{Committer}
-use Rattle.s3_types.specs.declared.request.Committer.TheVariants.{Magic, Directory, Partitioned}
-use Rattle.s3_types.specs.declared.reply.Reply.{Reply}
-use Rattle.s3_types.specs.declared.reply.Reply.TheVariants.{Object, ClusterBytes, ClusterNames}
+use Rattle.job_facts.specs.Prelude.{filter, Request, GetObject, DeleteObjects, AbortUpload, ClusterGet, ClusterList, ClusterDelete, UploadRef, Committer, Magic, Directory, Partitioned, Reply, is_record, Pending, PendingSet, Item, Got, WornOut, OutOfMemory, Script, CleanEnd, Walked, More, Whole, page_after}
+use Rattle.job_protocol.specs.Prelude.{ClusterBytes}
+use Rattle.job_spec.specs.Prelude.{ClusterNames}
+use Rattle.s3_types.specs.declared.reply.Reply.TheVariants.{Object}
 use Rattle.magic_paths.specs.Layout as layout
-use Rattle.magic_paths.specs.Places.{is_record}
-use Rattle.pending_json.specs.Pending.{Pending}
 use Rattle.pending_json.specs.Reading as reading
 use Rattle.pending_json.specs.declared.fault.RecordFault.{RecordFault}
-use Rattle.pending_json.specs.declared.records.PendingSet.{PendingSet}
-use Rattle.retries.specs.Retries.{Item, Got, WornOut, OutOfMemory}
-use Rattle.job_model.specs.JobScript.{Script}
-use Rattle.job_model.specs.declared.ends.CleanEnd.{CleanEnd}
 use Rattle.job_model.specs.declared.ends.CleanEnd.TheVariants as ends
-use Rattle.list_walk.specs.Walks.{Walked, More, Whole, page_after, walked}
+use Rattle.list_walk.specs.Walks.{walked}
 
 pub data Sparing : Type 0 where
   -- magic: lists the keys below the job's magic directory, with those so far

@@ -1,27 +1,7 @@
 -- What readers of a destination may rely on while two jobs go on there.
 use Rattle.std.specs.Prelude.{◌≡◌, ℕ, ◌≤◌, ◌⊎◌, ◌&&◌, Bool, true, false, cond, List, [], ◌∷◌, length, map, take, Option, Some, None}
-use Rattle.std.specs.List.{list_any}
-use Rattle.proof_base.specs.Order.{text_eq}
-use Rattle.s3_types.specs.Store.{Content}
-use Rattle.s3_types.specs.Answer.{bucket_of}
-use Rattle.s3_types.specs.Moment.{is_effective}
-use Rattle.s3_types.specs.declared.object.Object.{Object}
-use Rattle.s3_types.specs.declared.request.Request.{Request}
-use Rattle.s3_types.specs.declared.journal.Entry.{Entry}
-use Rattle.store_frame.specs.Frame.{changed_keys}
-use Rattle.magic_paths.specs.Layout.{success_key}
-use Rattle.job_model.specs.JobScript.{Script}
-use Rattle.job_model.specs.Legal.{IsLegal}
-use Rattle.s3_types.specs.declared.request.Mode.{Mode}
-use Rattle.s3_types.specs.declared.request.Mode.TheVariants.{Replace}
-use Rattle.job_protocol.specs.Outputs.{Picks, wanted_at, is_picked, is_clash, is_decided}
-use Rattle.job_protocol.specs.Records.{mark_text}
-use Rattle.job_protocol.specs.View.{Shown, view, object_at}
-use Rattle.job_protocol.specs.Operations.{Setting}
-use Rattle.job_spec.specs.Ends.{is_driver}
-use Rattle.job_spec.specs.Seen.{Seen, is_marking}
-use Rattle.job_facts.specs.Facts.{Hold}
-use Rattle.job_facts.specs.Stores.{IsKnown}
+use Rattle.job_facts.specs.Prelude.{list_any, text_eq, Content, bucket_of, is_effective, Object, Request, Entry, changed_keys, success_key, Script, IsLegal, Mode, Replace, Picks, wanted_at, is_picked, is_clash, is_decided, mark_text, view, Setting, is_driver, Seen, is_marking, Hold, IsKnown}
+use Rattle.job_protocol.specs.View.{Shown, object_at}
 use Rattle.twin_facts.specs.Names.{IsStranger}
 use Rattle.twin_facts.specs.Laws.{AreTwins}
 use Rattle.twin_facts.specs.Sides.{Side, First, Second, TwinEntry, SideState, is_set, Sends, TwinRun, IsTwinOpening}

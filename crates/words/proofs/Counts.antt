@@ -1,8 +1,7 @@
 -- What lines of too many words are not, and the words of a text joined again.
 use Rattle.std.proofs.Common.{◌≡◌, ℕ, ◌==◌, Bool, true, false, cond, List, [], ◌∷◌, ◌++◌, refl, sym, ap, ◌∙◌, append_assoc, Bor}
 use Rattle.std.specs.Prelude.{Option, None, Some, option_map}
-use Rattle.std.proofs.lemmas.Bool.{eqb-true}
-use Rattle.std.proofs.lemmas.List.{append-nil}
+use Rattle.proof_base.proofs.Common.{eqb-true, append-nil}
 use Rattle.words.specs.Parts.{parts_of, parts_from}
 use Rattle.words.specs.Words.{joined, words_after}
 use Rattle.words.specs.Shapes.{one, two, at_most_one, text as text_of_words}

@@ -1,11 +1,8 @@
 -- Lines and parts of a text that is cut at its first separator.
 use Rattle.std.proofs.Common.{◌≡◌, ◌≢◌, ℕ, suc, ◌<◌, ◌-◌, ◌==◌, Bool, true, false, List, [], ◌∷◌, ◌++◌, length, take, drop, get_or, refl, sym, ap, ◌∙◌, arith}
 use Rattle.std.specs.Prelude.{◌&&◌, nat_lt, slice_index}
-use Rattle.std.specs.List.{list_all}
-use Rattle.std.proofs.lemmas.Bool.{and_parts, eqb-true, ltb-true, lt-ltb}
-use Rattle.std.proofs.lemmas.List.{take-append-drop, append-nil}
-use Rattle.std.proofs.Math.ListN.{drop_of_length-le}
-use Rattle.std.proofs.Math.Seq.{drop-cons}
+use Rattle.proof_base.specs.Prelude.{list_all}
+use Rattle.proof_base.proofs.Common.{and_parts, eqb-true, ltb-true, lt-ltb, take-append-drop, append-nil, drop_of_length-le, drop-cons}
 use Rattle.proof_base.proofs.Lists.{last_is}
 use Rattle.words.specs.Lines.{lines_of, is_inside, without_return}
 use Rattle.words.proofs.Split.{first_from, last_line}

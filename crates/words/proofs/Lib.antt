@@ -5,3 +5,4 @@ pub mod Digits
 pub mod Cuts
 pub mod Round
 pub mod Utf8
+pub mod Common

@@ -1,8 +1,7 @@
 -- The parts of a text: joined again, of two texts round a separator, and of a text without one.
 use Rattle.std.proofs.Common.{◌≡◌, ◌≢◌, ℕ, zero, suc, ◌+◌, ◌<◌, ◌==◌, Bool, true, false, not, List, [], ◌∷◌, ◌++◌, length, get_or, refl, sym, ap, ◌∙◌, arith, append_assoc, eq-eqb}
-use Rattle.std.specs.List.{list_all, join_with_byte}
-use Rattle.std.proofs.lemmas.Bool.{eqb-true}
-use Rattle.std.proofs.lemmas.List.{append-nil}
+use Rattle.proof_base.specs.Prelude.{list_all, join_with_byte}
+use Rattle.proof_base.proofs.Common.{eqb-true, append-nil}
 use Rattle.words.specs.Parts.{parts_of, parts_from, is_other}
 use Rattle.words.proofs.Split.{lone_from}
 

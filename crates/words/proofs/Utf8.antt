@@ -1,8 +1,9 @@
 -- A text in UTF-8 cut at an ASCII byte.
 use Rattle.std.proofs.Common.{◌≡◌, ℕ, ◌+◌, ◌<◌, List, [], ◌∷◌, ◌++◌, length, get_or, sym, subst, arith}
-use Rattle.std.specs.Str.{IsUtf8}
-use Rattle.std.proofs.lemmas.Str.{IsUtf8-take, IsUtf8-drop, IsCharBoundary-before_ascii, IsCharBoundary-after_ascii}
-use Rattle.std.proofs.Math.Seq.{take-append_seam, drop-append-add, get_or-append_seam}
+use Rattle.proof_base.specs.Prelude.{IsUtf8}
+use Rattle.proof_base.proofs.Common.{IsUtf8-take, IsCharBoundary-before_ascii, take-append_seam, get_or-append_seam}
+use Rattle.std.proofs.lemmas.Str.{IsUtf8-drop, IsCharBoundary-after_ascii}
+use Rattle.std.proofs.Math.Seq.{drop-append-add}
 
 shorter : (xs : List ℕ) (b : ℕ) (ys : List ℕ) → length xs < length (xs ++ b ∷ ys)
 shorter [] b ys = omega arith

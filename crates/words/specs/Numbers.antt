@@ -1,6 +1,6 @@
 -- The numbers that words write.
 use Rattle.std.specs.Prelude.{ℕ, ◌+◌, ◌*◌, ◌-◌, ◌&&◌, nat_le, List, [], ◌∷◌, length, Bool, Option, Some, None, if◌then◌else◌, option_and_then}
-use Rattle.std.specs.List.{list_all}
+use Rattle.proof_base.specs.Prelude.{list_all}
 
 -- a decimal digit
 abbrev pub is_digit : ℕ → Bool

@@ -1,6 +1,6 @@
 -- The words of a line, and the text of lines of words.
 use Rattle.std.specs.Prelude.{◌≡◌, true, ℕ, ◌==◌, ◌&&◌, not, List, [], ◌∷◌, ◌++◌, Bool, Option}
-use Rattle.std.specs.List.{list_all, flat_map, AllByRecursion}
+use Rattle.proof_base.specs.Prelude.{list_all, flat_map, AllByRecursion}
 use Rattle.words.specs.Parts.{parts_of, parts_after}
 
 -- one blank stands between two words

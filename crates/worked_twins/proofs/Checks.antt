@@ -1,28 +1,8 @@
 -- What the definitions of two jobs say of a journal, by tests that compute.
 use Rattle.std.proofs.Common.{◌≡◌, ℕ, zero, suc, inl, inr, ◌⊎◌, not, ◌&&◌, Bool, true, false, cond, List, [], ◌∷◌, take, Option, Some, None, refl, sym, ap, subst, ◌∙◌}
-use Rattle.std.proofs.lemmas.Bool.{and_parts, not-true}
-use Rattle.std.specs.Map.{lookup}
-use Rattle.proof_base.specs.Order.{text_eq}
-use Rattle.s3_types.specs.Store.{Content, Scene}
-use Rattle.s3_types.specs.Moment.{effect, after_all, moment}
-use Rattle.s3_types.specs.Pages.{begins}
-use Rattle.s3_types.specs.declared.object.Object.{Object}
-use Rattle.s3_types.specs.declared.request.Actor.{Actor}
-use Rattle.s3_types.specs.declared.request.Actor.TheVariants.{Driver, Attempt, Shell}
-use Rattle.s3_types.specs.declared.request.Request.{Request}
-use Rattle.s3_types.specs.declared.journal.Outcome.{Outcome}
-use Rattle.s3_types.specs.declared.journal.Outcome.TheVariants.{Answered}
-use Rattle.s3_types.specs.declared.journal.Entry.{Entry}
-use Rattle.proof_base.specs.Members.{IsIn}
-use Rattle.proof_base.proofs.Members.{none_some, some_is, text_is}
-use Rattle.magic_paths.specs.Layout.{magic_prefix, cluster_prefix, success_key}
-use Rattle.job_model.specs.Files.{File}
-use Rattle.job_model.specs.JobScript.{Script}
-use Rattle.job_protocol.specs.Outputs.{Picks, wanted_at, is_picked, is_clash}
-use Rattle.job_protocol.specs.Records.{mark_text}
-use Rattle.job_protocol.specs.View.{view, object_at}
-use Rattle.job_spec.specs.Ends.{is_driver}
-use Rattle.job_spec.specs.Seen.{Seen, see, see_by, is_begun, nothing_seen}
+use Rattle.job_spec.proofs.Common.{and_parts, not-true, none_some, some_is, text_is}
+use Rattle.job_spec.specs.Prelude.{lookup, text_eq, Content, Scene, effect, after_all, moment, begins, Object, Actor, Driver, Attempt, Shell, Request, Outcome, Answered, Entry, IsIn, magic_prefix, cluster_prefix, success_key, File, Script, Picks, wanted_at, is_picked, is_clash, mark_text, view, is_driver, Seen, see, see_by, is_begun, nothing_seen}
+use Rattle.job_protocol.specs.View.{object_at}
 use Rattle.twin_facts.specs.Names.{Ids, named_keys, named_upload, named_paths, IsStranger}
 use Rattle.twin_facts.specs.Sides.{Side, First, Second, TwinEntry}
 use Rattle.twin_facts.specs.TwinLaws.{Gives, Shows, Marked, is_side}

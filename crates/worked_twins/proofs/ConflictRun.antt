@@ -1,12 +1,10 @@
 -- A job of the directory committer whose check finds the other's file, by events.
 use Rattle.std.proofs.Common.{◌≡◌, ℕ, inr, List, [], ◌∷◌, Some, None, refl, codes}
+use Rattle.job_spec.specs.Prelude.{moment, Object, Seen}
+use Rattle.job_spec.proofs.Common.{false_true}
 use Rattle.std.specs.Fmt.{digits}
 use Rattle.json.specs.Print.{escape_byte}
 use Rattle.s3_types.specs.Blocks.{block_of, parts_of}
-use Rattle.s3_types.specs.Moment.{moment}
-use Rattle.s3_types.specs.declared.object.Object.{Object}
-use Rattle.proof_base.proofs.Members.{false_true}
-use Rattle.job_spec.specs.Seen.{Seen}
 use Rattle.job_examples.specs.OneFile.{opening}
 use Rattle.job_examples.proofs.Kept.{Sendings, nothing, is_honest, object_then}
 use Rattle.job_examples.specs.FourFileLanes.{hellos}

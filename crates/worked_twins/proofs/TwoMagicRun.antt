@@ -1,19 +1,13 @@
 -- Two jobs of the magic committer, by events.
 use Rattle.std.proofs.Common.{◌≡◌, ℕ, inl, inr, true, List, [], ◌∷◌, ◌++◌, Some, None, Ok, refl, ap, ◌∙◌, codes, lit<}
+use Rattle.job_spec.specs.Prelude.{Scene, moment, Object, Entry, view, Seen, is_key_path}
+use Rattle.job_spec.proofs.Common.{false_true, none_some}
 use Rattle.std.specs.Fmt.{digits}
 use Rattle.json.specs.Print.{escape_byte}
 use Rattle.s3_types.specs.Blocks.{block_of, parts_of}
-use Rattle.s3_types.specs.Store.{Scene}
-use Rattle.s3_types.specs.Moment.{moment}
-use Rattle.s3_types.specs.declared.object.Object.{Object}
-use Rattle.s3_types.specs.declared.journal.Entry.{Entry}
-use Rattle.proof_base.proofs.Members.{false_true, none_some}
-use Rattle.job_protocol.specs.View.{view}
-use Rattle.job_spec.specs.Seen.{Seen}
 use Rattle.job_examples.specs.OneFile.{opening}
 use Rattle.job_examples.proofs.Kept.{nothing, files_then, object_then}
 use Rattle.words.specs.Parts.{parts_from}
-use Rattle.s3_types.specs.Names.{is_key_path}
 use Rattle.pending_json.specs.Reading as reading
 use Rattle.pending_json.proofs.RoundTrip.{pending_text}
 use Rattle.job_examples.specs.Runs.{hello}

@@ -1,24 +1,10 @@
 -- Two jobs at one destination, of which the first is of the directory committer with the mode fail: the other's file is there before its commit.
 use Rattle.std.specs.Prelude.{◌≡◌, ℕ, nat_eq, nat_le, ◌||◌, Bool, true, false, List, [], ◌∷◌, ◌++◌, length, Option, Some, None, codes}
-use Rattle.serde_json.specs.Written.{compact_text}
-use Rattle.s3_types.specs.Moment.{IsHonest}
-use Rattle.s3_types.specs.declared.request.Actor.TheVariants.{Driver}
-use Rattle.s3_types.specs.declared.request.Committer.TheVariants.{Directory}
-use Rattle.s3_types.specs.declared.request.Mode.TheVariants.{Fail}
-use Rattle.s3_types.specs.declared.request.Request.TheVariants.{HeadObject, DeleteObject, ListPage, CreateUpload, UploadPart, ClusterPut, ClusterRename}
-use Rattle.s3_types.specs.declared.reply.Reply.{Reply}
-use Rattle.s3_types.specs.declared.reply.Reply.TheVariants.{Deleted, Page, Upload, Part, ClusterDone, Refused}
-use Rattle.s3_types.specs.declared.reply.Refusal.TheVariants.{NoSuchKey}
+use Rattle.job_protocol.specs.Prelude.{compact_text, set_tree, Pending, PendingSet, who}
+use Rattle.job_spec.specs.Prelude.{IsHonest, Driver, Directory, Fail, HeadObject, DeleteObject, ListPage, CreateUpload, UploadPart, ClusterPut, ClusterRename, Reply, Deleted, Page, Part, ClusterDone, Refused, NoSuchKey, Entry, Answered, Script, Do}
+use Rattle.s3_types.specs.declared.reply.Reply.TheVariants.{Upload}
 use Rattle.s3_types.specs.declared.reply.PageEntry.TheVariants.{Object as Listed}
-use Rattle.s3_types.specs.declared.journal.Entry.{Entry}
-use Rattle.s3_types.specs.declared.journal.Outcome.TheVariants.{Answered}
-use Rattle.pending_json.specs.Trees.{set_tree}
-use Rattle.pending_json.specs.Pending.{Pending}
-use Rattle.pending_json.specs.declared.records.PendingSet.{PendingSet}
-use Rattle.job_model.specs.JobScript.{Script}
 use Rattle.job_model.specs.declared.events.Op.TheVariants as ops
-use Rattle.job_model.specs.declared.events.Event.TheVariants.{Do}
-use Rattle.job_protocol.specs.Operations.{who}
 use Rattle.job_traces.specs.Runs.{nothing_learnt}
 use Rattle.job_examples.specs.Jobs.{lake, job, attempt, worker, said, hello_tag}
 use Rattle.job_examples.specs.OneFile.{opening}

@@ -1,8 +1,6 @@
 -- Journals of two jobs whose entries belong to a side by their events, and what the definitions say of them.
 use Rattle.std.specs.Prelude.{ℕ, Bool, cond, List, [], ◌∷◌}
-use Rattle.s3_types.specs.declared.request.Request.{Request}
-use Rattle.s3_types.specs.declared.journal.Entry.{Entry}
-use Rattle.job_model.specs.JobScript.{Script}
+use Rattle.job_spec.specs.Prelude.{Request, Entry, Script}
 use Rattle.twin_facts.specs.Names.{Ids, IsStranger}
 use Rattle.twin_facts.specs.Sides.{Side, First, Second, TwinEntry}
 

@@ -1,9 +1,8 @@
 -- Two jobs of the magic committer at one destination, one file each: three events of the first, four of the second, two of the first.
 use Rattle.std.specs.Prelude.{◌≡◌, ℕ, nat_eq, false, true, List, [], ◌∷◌, ◌++◌, length, take, Some, None, codes}
-use Rattle.s3_types.specs.declared.request.Request.TheVariants.{AbortUpload}
-use Rattle.s3_types.specs.declared.journal.Outcome.{Outcome}
-use Rattle.retries.specs.Operation.{Follows, run}
-use Rattle.retries.specs.Retries.{Retried, wants_of, fresh, step}
+use Rattle.job_spec.specs.Prelude.{AbortUpload, Outcome, Retried, step}
+use Rattle.job_protocol.specs.Prelude.{Follows, run}
+use Rattle.retries.specs.Prelude.{wants_of, fresh}
 use Rattle.job_model.specs.declared.ends.CleanEnd.TheVariants as cleans
 use Rattle.job_examples.specs.Jobs.{lake}
 use Rattle.job_examples.specs.OneFile.{opening}

@@ -1,27 +1,10 @@
 -- Copying all that is below a directory, by its stages.
 use Rattle.std.specs.Prelude.{ℕ, ◌+◌, ◌||◌, ◌&&◌, nat_lt, nat_eq, Bool, true, false, cond, List, [], ◌∷◌, ◌++◌, length, drop, Option, Some, None, Result, Ok, Err}
-use Rattle.proof_base.specs.Order.{text_eq}
-use Rattle.s3_types.specs.Pages.{begins}
-use Rattle.s3_types.specs.declared.reply.PageEntry.{PageEntry}
-use Rattle.s3_types.specs.declared.reply.Reply.{Reply}
+use Rattle.fs_ops.specs.Prelude.{text_eq, begins, PageEntry, Reply, Step, Next, End, Look, There, look_of, Ask, Head, Get, Page, marker_of, keys_above, keys_on, Walked, More, Whole, walked_entries, CopyRefusal, Overlap, SourceIsFile, Differs, CopyCount, key_if, prefix_of, look_asks, unless, climbing, climbed, walk_asks, fits}
 use Rattle.s3_types.specs.declared.reply.Reply.TheVariants.{Object as Found}
-use Rattle.operations.specs.declared.plan.Step.{Step}
-use Rattle.operations.specs.declared.plan.Step.TheVariants.{Next, End}
-use Rattle.bucket_ops.specs.declared.look.Look.{Look}
-use Rattle.bucket_ops.specs.declared.look.Look.TheVariants.{There}
-use Rattle.bucket_ops.specs.Looks.{look_of}
-use Rattle.bucket_ops.specs.Asks.{Ask, Head, Get, Page}
-use Rattle.dir_markers.specs.Markers.{marker_of, keys_above}
-use Rattle.list_walk.specs.Walks.{keys_on, Walked, More, Whole, walked_entries}
-use Rattle.fs_tree.specs.declared.copy.CopyRefusal.{CopyRefusal}
-use Rattle.fs_tree.specs.declared.copy.CopyRefusal.TheVariants.{NoSuchBucket, Overlap, SourceIsFile, SourceMissing, TargetFile, TooLong, Differs}
-use Rattle.fs_tree.specs.declared.copy.CopyCount.{CopyCount}
-use Rattle.fs_ops.specs.Places.{key_if, prefix_of, look_asks}
-use Rattle.fs_ops.specs.code.Steps.{unless}
+use Rattle.fs_tree.specs.declared.copy.CopyRefusal.TheVariants.{NoSuchBucket, SourceMissing, TargetFile, TooLong}
 use Rattle.fs_ops.specs.declared.climb.Climbed.{Climbed}
 use Rattle.fs_ops.specs.declared.climb.Climbed.TheVariants.{File, On as Goes_on, Free}
-use Rattle.fs_ops.specs.code.Climbs.{climbing, climbed}
-use Rattle.bucket_walks.specs.Walking.{walk_asks, fits}
 use Rattle.fs_rename.specs.declared.copying.CopyStep.{CopyStep}
 use Rattle.fs_rename.specs.declared.copying.CopyStep.TheVariants.{Next as NextCopy, All}
 use Rattle.fs_rename.specs.Keys.{place_of, new_keys}

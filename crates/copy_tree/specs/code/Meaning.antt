@@ -1,14 +1,8 @@
 -- What holds at each stage of a copy, and what is sent.
 use Rattle.std.specs.Prelude.{◌≡◌, ◌⊎◌, ℕ, ◌+◌, ◌*◌, ◌<◌, true, false, List, [], ◌∷◌, length, drop, Option, None, Some}
+use Rattle.fs_ops.specs.Prelude.{Objects, Ask, is_look, NoFile, IsMove, AllFit, IsOverlap, HasSource, HasPlace, MayCopy, Copies, MayStandCopied, prefix_of, IsClimb, all_below, keys_below, IsWalking, walk_left}
 use Rattle.std.specs.FinMap as fin
-use Rattle.s3_types.specs.Store.{Objects}
-use Rattle.bucket_ops.specs.Asks.{Ask, Copy as CopyKey, is_look}
-use Rattle.fs_tree.specs.Tree.{NoFile}
-use Rattle.fs_tree.specs.Moves.{IsMove, AllFit}
-use Rattle.fs_tree.specs.Copies.{IsOverlap, HasSource, HasPlace, MayCopy, Copies, MayStandCopied}
-use Rattle.fs_ops.specs.Places.{prefix_of}
-use Rattle.fs_ops.specs.code.Climbs.{IsClimb}
-use Rattle.bucket_walks.specs.Walking.{all_below, keys_below, IsWalking, walk_left}
+use Rattle.bucket_ops.specs.Asks.{Copy as CopyKey}
 use Rattle.fs_rename.specs.Copies.{Move, IsOneOf, sources, targets, IsCopying, copies_left, moves_of}
 use Rattle.copy_tree.specs.declared.stages.Parts.{Parts}
 use Rattle.copy_tree.specs.declared.stages.CopyStage.{CopyStage}

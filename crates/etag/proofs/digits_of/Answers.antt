@@ -1,6 +1,5 @@
 use Rattle.std.proofs.Common.{◌≡◌, true, subst, sym, List, ℕ}
-use Rattle.std.specs.List.{list_all}
-use Rattle.s3_types.specs.Tags.{is_hex}
+use Rattle.s3_types.specs.Prelude.{list_all, is_hex}
 use Rattle.etag.proofs.Digits.{encoded_hex}
 use Rattle.etag.proofs.digits_of.Goals as goal
 

@@ -1,5 +1,5 @@
 use Rattle.std.proofs.Common.{take}
-use Rattle.std.specs.List.{flat_map}
+use Rattle.s3_types.specs.Prelude.{flat_map}
 use Rattle.md5.specs.Md5.{Holds}
 use Rattle.s3_types.specs.Tags.{digest_of}
 use Rattle.etag.proofs.joined_tag.Given as goal

@@ -1,27 +1,10 @@
 -- Making a file, by its stages: look-ups, then its bytes, then the markers above it.
 use Rattle.std.specs.Prelude.{◌≡◌, ◌⊎◌, ℕ, ◌+◌, ◌≤◌, Bool, true, false, List, [], ◌∷◌, Result, Ok, Err, Option, Some, None, length}
+use Rattle.fs_ops.specs.Prelude.{Objects, BucketContent, Scene, without, only_reads, Request, Reply, Step, Next, End, Look, There, look_of, request_of, Head, DropAll, keys_above, created, FsRefusal, NotFound, AlreadyExists, NotDirectory, NoSuchBucket, HasFile, IsAbsent, NoFiles, Creates, look_asks, below_asks, NoFileAt, unless, climbing, climbed, IsClimb}
 use Rattle.std.specs.FinMap as fin
-use Rattle.s3_types.specs.Store.{Objects, BucketContent, Scene}
-use Rattle.s3_types.specs.Answer.{without}
-use Rattle.s3_types.specs.Requests.{only_reads}
-use Rattle.s3_types.specs.declared.request.Request.{Request}
-use Rattle.s3_types.specs.declared.reply.Reply.{Reply}
-use Rattle.operations.specs.declared.plan.Step.{Step}
-use Rattle.operations.specs.declared.plan.Step.TheVariants.{Next, End}
-use Rattle.bucket_ops.specs.declared.look.Look.{Look}
-use Rattle.bucket_ops.specs.declared.look.Look.TheVariants.{There}
-use Rattle.bucket_ops.specs.Looks.{look_of}
-use Rattle.bucket_ops.specs.Asks.{request_of, Head, DropAll}
-use Rattle.dir_markers.specs.Markers.{keys_above, created}
-use Rattle.fs_tree.specs.declared.answers.FsRefusal.{FsRefusal}
-use Rattle.fs_tree.specs.declared.answers.FsRefusal.TheVariants.{NotFound, AlreadyExists, IsDirectory, NotDirectory, NoSuchBucket}
-use Rattle.fs_tree.specs.Tree.{HasFile, IsAbsent, NoFiles}
-use Rattle.fs_tree.specs.Answers.{Creates}
-use Rattle.fs_ops.specs.Places.{look_asks, below_asks, NoFileAt}
-use Rattle.fs_ops.specs.code.Steps.{unless}
+use Rattle.fs_tree.specs.declared.answers.FsRefusal.TheVariants.{IsDirectory}
 use Rattle.fs_ops.specs.declared.climb.Climbed.{Climbed}
 use Rattle.fs_ops.specs.declared.climb.Climbed.TheVariants.{File, On as Goes_on, Free}
-use Rattle.fs_ops.specs.code.Climbs.{climbing, climbed, IsClimb}
 use Rattle.fs_files.specs.declared.create.CreateStage.{CreateStage}
 use Rattle.fs_files.specs.declared.create.CreateStage.TheVariants.{Here, Below, Up, Write, DropMarkers}
 use Rattle.fs_files.specs.declared.create.CreateFile.{CreateFile}

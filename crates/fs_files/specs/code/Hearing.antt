@@ -1,10 +1,7 @@
 -- Where replies lead a file that is written.
 use Rattle.std.specs.Prelude.{ℕ, ◌+◌, not, Bool, true, [], ◌∷◌, ◌++◌, drop, length, Some}
-use Rattle.s3_types.specs.Tags.{Spelled}
-use Rattle.s3_types.specs.declared.reply.Reply.{Reply}
-use Rattle.s3_types.specs.declared.reply.Reply.TheVariants.{Stored, Upload, Part, Completed, Refused}
-use Rattle.s3_types.specs.declared.reply.Refusal.{Refusal}
-use Rattle.s3_types.specs.declared.reply.Refusal.TheVariants.{NoSuchUpload}
+use Rattle.fs_ops.specs.Prelude.{Spelled, Reply, Stored, Part, Completed, Refused, Refusal, NoSuchUpload}
+use Rattle.s3_types.specs.declared.reply.Reply.TheVariants.{Upload}
 use Rattle.block_stream.specs.declared.stage.Stage.{Stage}
 use Rattle.block_stream.specs.declared.stage.Stage.TheVariants.{Putting, Beginning, Sending}
 use Rattle.block_stream.specs.Stream.{has_some, one_if, is_begun}

@@ -1,13 +1,8 @@
 -- A file's bytes as they are written: by one put, or by the parts of an upload that is completed (Hadoop, S3A: block output; Amazon S3 API: multipart upload).
 use Rattle.std.specs.Prelude.{◌≡◌, ℕ, ◌+◌, ◌≤◌, ◌||◌, not, nat_lt, Bool, true, false, List, [], take, drop, length, Option, Some, None}
-use Rattle.std.specs.Option.{unwrap_or}
-use Rattle.std.specs.Coded.{Coded, code_by, coded×, coded_ℕ, coded_list, coded_option}
 use Rattle.std.proofs.Common.{refl}
-use Rattle.s3_types.specs.Coded.{coded_text}
-use Rattle.s3_types.specs.Tags.{Spelled}
-use Rattle.s3_types.specs.Blocks.{named_from}
-use Rattle.s3_types.specs.declared.request.Request.{Request}
-use Rattle.s3_types.specs.declared.request.Request.TheVariants.{PutObject, CreateUpload, UploadPart, CompleteUpload}
+use Rattle.fs_ops.specs.Prelude.{unwrap_or, Coded, code_by, coded×, coded_ℕ, coded_text, Spelled, named_from, Request, PutObject, CreateUpload, UploadPart, CompleteUpload}
+use Rattle.s3_types.specs.Prelude.{coded_list, coded_option}
 use Rattle.block_stream.specs.declared.mode.StreamMode.TheVariants.{Direct}
 use Rattle.block_stream.specs.declared.stage.Stage.{Stage}
 use Rattle.block_stream.specs.declared.stage.Stage.TheVariants.{Putting, Beginning, Sending, Completing}

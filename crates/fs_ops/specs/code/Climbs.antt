@@ -1,9 +1,7 @@
 -- The directories above a path are looked at for a file one by one, from the root on.
 use Rattle.std.specs.Prelude.{ℕ, List, [], ◌∷◌}
-use Rattle.s3_types.specs.Store.{Objects}
-use Rattle.bucket_ops.specs.declared.look.Look.{Look}
-use Rattle.bucket_ops.specs.declared.look.Look.TheVariants.{There}
-use Rattle.fs_tree.specs.Tree.{NoFiles, IsFirstFile}
+use Rattle.bucket_walks.specs.Prelude.{Objects, Look, There}
+use Rattle.fs_tree.specs.Prelude.{NoFiles, IsFirstFile}
 use Rattle.fs_ops.specs.declared.climb.Climb.{Climb}
 use Rattle.fs_ops.specs.declared.climb.Climbed.{Climbed}
 use Rattle.fs_ops.specs.declared.climb.Climbed.TheVariants.{File, On, Free}

@@ -1,33 +1,17 @@
 -- Deleting a path, by its stages.
 use Rattle.std.specs.Prelude.{◌≡◌, ◌⊎◌, ℕ, ◌+◌, ◌==◌, ◌&&◌, Bool, true, false, List, [], ◌∷◌, Result, Ok, Err, Option, Some, None, length, if◌then◌else◌}
+use Rattle.bucket_walks.specs.Prelude.{text_eq, Objects, begins, text_in, PageEntry, Reply, Step, Next, End, Look, There, look_of, Ask, Page, Put, is_look, sweep_start, sweep_hears, all_go, sweep_asks, IsSweeping, sweep_left, fits}
+use Rattle.fs_tree.specs.Prelude.{is_key, SomeBelow, NoneBelow, marker, HasFile, IsAbsent, IsEmpty, HasChildren, Deletes, parent, marker_if, IsMarked, IsWithoutBelow}
 use Rattle.std.specs.FinMap as fin
-use Rattle.proof_base.specs.Order.{text_eq}
-use Rattle.s3_types.specs.Store.{Objects}
-use Rattle.s3_types.specs.Pages.{begins, text_in}
-use Rattle.s3_types.specs.declared.reply.PageEntry.{PageEntry}
-use Rattle.s3_types.specs.declared.reply.Reply.{Reply}
 use Rattle.s3_types.specs.declared.reply.Reply.TheVariants.{Page as APage}
-use Rattle.path_keys.specs.Paths.{is_key}
-use Rattle.operations.specs.declared.plan.Step.{Step}
-use Rattle.operations.specs.declared.plan.Step.TheVariants.{Next, End}
-use Rattle.bucket_ops.specs.declared.look.Look.{Look}
-use Rattle.bucket_ops.specs.declared.look.Look.TheVariants.{There}
-use Rattle.bucket_ops.specs.Looks.{look_of}
-use Rattle.bucket_ops.specs.Asks.{Ask, Page, Put, is_look}
-use Rattle.list_walk.specs.Walks.{sweep_start, sweep_hears, all_go}
 use Rattle.list_walk.specs.Walks as walks
 use Rattle.fs_tree.specs.declared.answers.FsRefusal.{FsRefusal}
 use Rattle.fs_tree.specs.declared.answers.FsRefusal.TheVariants.{NotFound, NotEmpty, IsRoot}
-use Rattle.fs_tree.specs.Tree.{SomeBelow, NoneBelow, marker, HasFile, IsAbsent, IsEmpty, HasChildren}
-use Rattle.fs_tree.specs.Answers.{Deletes}
-use Rattle.fs_tree.specs.Changes.{parent, marker_if, IsMarked, IsWithoutBelow}
 use Rattle.fs_ops.specs.declared.delete.Inside.{Inside}
 use Rattle.fs_ops.specs.declared.delete.Inside.TheVariants.{Empty, MarkerAlone, Children}
 use Rattle.fs_ops.specs.declared.delete.DeleteStage.{DeleteStage}
 use Rattle.fs_ops.specs.declared.delete.DeleteStage.TheVariants.{Here, DropFile, Below, DropMarker, Sweep, Parent, PutMarker}
 use Rattle.fs_ops.specs.Places.{look_asks, below_asks, drop_asks, drop_marker_asks, prefix_of, NoFileAt}
-use Rattle.bucket_walks.specs.Sweeping.{sweep_asks, IsSweeping, sweep_left}
-use Rattle.bucket_walks.specs.Walking.{fits}
 
 -- a path, and whether what is below it goes with it
 pub record Deletion : Type 0 where

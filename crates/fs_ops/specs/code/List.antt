@@ -1,24 +1,13 @@
 -- What a directory holds, by its stages.
 use Rattle.std.specs.Prelude.{◌≡◌, ◌⊎◌, ℕ, ◌+◌, ◌&&◌, nat_eq, Bool, true, false, List, [], ◌∷◌, ◌++◌, take_while, reverse, drop, length, Result, Ok, Err, Option, Some, None, if◌then◌else◌}
-use Rattle.std.specs.List.{starts_with, list_any}
-use Rattle.proof_base.specs.Order.{text_eq}
+use Rattle.bucket_walks.specs.Prelude.{starts_with, list_any, text_eq, Objects, begins, listed, text_in, PageEntry, Prefix, Reply, Step, Next, End, Ask, Page}
+use Rattle.fs_tree.specs.Prelude.{Status, Directory, File, NoFile, HasDir, own_name}
 use Rattle.words.specs.Parts.{parts_of}
-use Rattle.s3_types.specs.Store.{Objects}
-use Rattle.s3_types.specs.Pages.{begins, listed, text_in}
-use Rattle.s3_types.specs.declared.reply.PageEntry.{PageEntry}
-use Rattle.s3_types.specs.declared.reply.PageEntry.TheVariants.{Object as Single, Prefix}
-use Rattle.s3_types.specs.declared.reply.Reply.{Reply}
+use Rattle.s3_types.specs.declared.reply.PageEntry.TheVariants.{Object as Single}
 use Rattle.s3_types.specs.declared.reply.Reply.TheVariants.{Page as APage}
-use Rattle.operations.specs.declared.plan.Step.{Step}
-use Rattle.operations.specs.declared.plan.Step.TheVariants.{Next, End}
-use Rattle.bucket_ops.specs.Asks.{Ask, Page}
-use Rattle.dir_markers.specs.declared.status.Status.{Status}
-use Rattle.dir_markers.specs.declared.status.Status.TheVariants.{Directory, File}
 use Rattle.fs_tree.specs.declared.answers.DirEntry.{DirEntry}
 use Rattle.fs_tree.specs.declared.answers.FsRefusal.{FsRefusal}
 use Rattle.fs_tree.specs.declared.answers.FsRefusal.TheVariants.{NotFound}
-use Rattle.fs_tree.specs.Tree.{NoFile, HasDir}
-use Rattle.fs_tree.specs.Changes.{own_name}
 use Rattle.fs_ops.specs.declared.list.ListStage.{ListStage}
 use Rattle.fs_ops.specs.declared.list.ListStage.TheVariants.{Here, Pages}
 use Rattle.fs_ops.specs.Places.{look_asks, prefix_of}

@@ -1,18 +1,10 @@
 -- Making a directory, by its stages.
 use Rattle.std.specs.Prelude.{◌≡◌, ◌⊎◌, ℕ, ◌+◌, true, List, [], ◌∷◌, Result, Ok, Err, length}
+use Rattle.bucket_walks.specs.Prelude.{Objects, Reply, Step, Next, End, Look, There, look_of, Ask, Head, is_look}
+use Rattle.fs_tree.specs.Prelude.{marker_of, keys_above, marker, IsAbsent, NoFiles}
 use Rattle.std.specs.FinMap as fin
-use Rattle.s3_types.specs.Store.{Objects}
-use Rattle.s3_types.specs.declared.reply.Reply.{Reply}
-use Rattle.operations.specs.declared.plan.Step.{Step}
-use Rattle.operations.specs.declared.plan.Step.TheVariants.{Next, End}
-use Rattle.bucket_ops.specs.declared.look.Look.{Look}
-use Rattle.bucket_ops.specs.declared.look.Look.TheVariants.{There}
-use Rattle.bucket_ops.specs.Looks.{look_of}
-use Rattle.bucket_ops.specs.Asks.{Ask, Head, is_look}
-use Rattle.dir_markers.specs.Markers.{marker_of, keys_above}
 use Rattle.fs_tree.specs.declared.answers.FsRefusal.{FsRefusal}
 use Rattle.fs_tree.specs.declared.answers.FsRefusal.TheVariants.{AlreadyExists, NotDirectory}
-use Rattle.fs_tree.specs.Tree.{marker, IsAbsent, NoFiles}
 use Rattle.fs_ops.specs.declared.climb.Climbed.{Climbed}
 use Rattle.fs_ops.specs.declared.climb.Climbed.TheVariants.{File, On, Free}
 use Rattle.fs_ops.specs.code.Climbs.{climbing, climbed, IsClimb}

@@ -1,9 +1,7 @@
 -- The bytes of a file.
 use Rattle.std.specs.Prelude.{ℕ, List, Result, Err, Option, Some, None}
-use Rattle.s3_types.specs.declared.reply.Reply.{Reply}
+use Rattle.bucket_walks.specs.Prelude.{Reply, Step, Ask}
 use Rattle.s3_types.specs.declared.reply.Reply.TheVariants.{Object as Found}
-use Rattle.operations.specs.declared.plan.Step.{Step}
-use Rattle.bucket_ops.specs.Asks.{Ask}
 use Rattle.fs_tree.specs.declared.answers.FsRefusal.{FsRefusal}
 use Rattle.fs_tree.specs.declared.answers.FsRefusal.TheVariants.{IsDirectory}
 use Rattle.fs_ops.specs.declared.at_path.PathStage.{PathStage}

@@ -1,14 +1,6 @@
 -- Steps of file operations, all of which end where there is no bucket.
 use Rattle.std.specs.Prelude.{◌≡◌, ℕ, true, Result, Err}
-use Rattle.s3_types.specs.Store.{Objects}
-use Rattle.s3_types.specs.declared.reply.Reply.{Reply}
-use Rattle.operations.specs.declared.plan.Step.{Step}
-use Rattle.operations.specs.declared.plan.Step.TheVariants.{End}
-use Rattle.operations.specs.Plans.{Goes, Falls}
-use Rattle.bucket_ops.specs.declared.look.Look.{Look}
-use Rattle.bucket_ops.specs.declared.look.Look.TheVariants.{NoBucket}
-use Rattle.bucket_ops.specs.Looks.{look_of}
-use Rattle.bucket_ops.specs.Asks.{Ask, reply_in, edited, is_look}
+use Rattle.bucket_walks.specs.Prelude.{Objects, Reply, Step, End, Goes, Falls, Look, NoBucket, look_of, Ask, reply_in, edited, is_look}
 use Rattle.fs_tree.specs.declared.answers.FsRefusal.{FsRefusal}
 use Rattle.fs_tree.specs.declared.answers.FsRefusal.TheVariants.{NoSuchBucket}
 

@@ -1,16 +1,6 @@
 -- What holds at each stage of a renaming, what it gives, and what stands at any moment.
 use Rattle.std.specs.Prelude.{◌≡◌, ◌⊎◌, ℕ, ◌+◌, ◌*◌, Bool, true, false, List, length, Ok, Err, Some, take}
-use Rattle.s3_types.specs.Store.{Objects}
-use Rattle.s3_types.specs.Answer.{without}
-use Rattle.bucket_ops.specs.Asks.{Ask, is_look}
-use Rattle.fs_tree.specs.Tree.{NoneBelow, HasDir, HasFile, IsDirectory, IsAbsent}
-use Rattle.fs_tree.specs.Changes.{parent, marker_if, IsMarked}
-use Rattle.fs_tree.specs.Moves.{IsAtOrBelow, inside, IsPlace, AllFit}
-use Rattle.fs_tree.specs.Renames.{Renames}
-use Rattle.fs_ops.specs.Places.{prefix_of, NoFileAt}
-use Rattle.bucket_walks.specs.Walking.{IsWalking, walk_left}
-use Rattle.list_walk.specs.Walks.{sweep_start}
-use Rattle.bucket_walks.specs.Sweeping.{IsDeleting, IsDeleted, sweep_left}
+use Rattle.fs_ops.specs.Prelude.{Objects, without, Ask, is_look, NoneBelow, HasDir, HasFile, IsDirectory, IsAbsent, parent, marker_if, IsMarked, IsAtOrBelow, inside, IsPlace, AllFit, Renames, prefix_of, NoFileAt, IsWalking, walk_left, sweep_start, IsDeleting, IsDeleted, sweep_left}
 use Rattle.fs_rename.specs.Copies.{sources, copied_all, IsCopying, moves_of, copies_left}
 use Rattle.fs_rename.specs.declared.stages.Spot.{Spot}
 use Rattle.fs_rename.specs.declared.stages.Spot.TheVariants.{Source, Target, Inside, Above}

@@ -1,27 +1,9 @@
 -- Renaming a file or a directory, by its stages.
 use Rattle.std.specs.Prelude.{ℕ, Bool, true, false, List, [], ◌∷◌, Result, Ok, Err, Option, Some, None, if◌then◌else◌}
-use Rattle.proof_base.specs.Order.{text_eq}
-use Rattle.s3_types.specs.Pages.{begins, text_in}
-use Rattle.s3_types.specs.declared.reply.PageEntry.{PageEntry}
-use Rattle.s3_types.specs.declared.reply.Reply.{Reply}
-use Rattle.operations.specs.declared.plan.Step.{Step}
-use Rattle.operations.specs.declared.plan.Step.TheVariants.{Next, End}
-use Rattle.bucket_ops.specs.declared.look.Look.{Look}
-use Rattle.bucket_ops.specs.declared.look.Look.TheVariants.{There, Nothing as NothingThere}
-use Rattle.bucket_ops.specs.Looks.{look_of}
-use Rattle.bucket_ops.specs.Asks.{Ask, Page, Put}
-use Rattle.dir_markers.specs.Markers.{marker_of}
-use Rattle.list_walk.specs.Walks.{keys_on, Walked, More, Whole, walked_entries, sweep_hears, deleting, all_go}
+use Rattle.fs_ops.specs.Prelude.{text_eq, begins, text_in, PageEntry, Reply, Step, Next, End, Look, There, look_of, Ask, Page, Put, marker_of, keys_on, Walked, More, Whole, walked_entries, sweep_hears, deleting, all_go, RenameRefusal, SourceMissing, UnderSource, TargetFile, TargetExists, ParentMissing, ParentIsFile, TooLong, parent, marker_if, inside, key_if, prefix_of, look_asks, below_asks, entries_in, unless, sweep_asks, walk_asks, fits}
+use Rattle.bucket_ops.specs.declared.look.Look.TheVariants.{Nothing as NothingThere}
 use Rattle.list_walk.specs.Walks as walks
-use Rattle.fs_tree.specs.declared.rename.RenameRefusal.{RenameRefusal}
-use Rattle.fs_tree.specs.declared.rename.RenameRefusal.TheVariants.{SourceMissing, SourceRoot, UnderSource, TargetFile, TargetExists, ParentMissing, ParentIsFile, NoSuchBucket, TooLong}
-use Rattle.fs_tree.specs.Changes.{parent, marker_if}
-use Rattle.fs_tree.specs.Moves.{inside}
-use Rattle.fs_ops.specs.Places.{key_if, prefix_of, look_asks, below_asks}
-use Rattle.fs_ops.specs.code.Delete.{entries_in}
-use Rattle.fs_ops.specs.code.Steps.{unless}
-use Rattle.bucket_walks.specs.Sweeping.{sweep_asks}
-use Rattle.bucket_walks.specs.Walking.{walk_asks, fits}
+use Rattle.fs_tree.specs.declared.rename.RenameRefusal.TheVariants.{SourceRoot, NoSuchBucket}
 use Rattle.fs_rename.specs.declared.copying.CopyStep.{CopyStep}
 use Rattle.fs_rename.specs.declared.copying.CopyStep.TheVariants.{Next as NextCopy, All}
 use Rattle.fs_rename.specs.Keys.{place_of, fitting, new_keys}

@@ -1,12 +1,7 @@
 use Rattle.std.proofs.Common.{◌≡◌, ◌⊎◌, inl, inr, true, false, List, ℕ, sym, ◌∙◌}
-use Rattle.std.proofs.lemmas.Bool.{false≢true}
-use Rattle.s3_types.specs.Names.{is_key}
-use Rattle.s3_types.specs.Store.{Objects}
-use Rattle.path_keys.specs.Paths.{below}
-use Rattle.dir_markers.specs.declared.status.Status.{Status}
-use Rattle.dir_markers.specs.declared.status.Status.TheVariants.{Directory, File}
-use Rattle.fs_tree.specs.Tree.{Stands, IsStatus}
-use Rattle.fs_tree.specs.Changes.{IsName, HasOddKey}
+use Rattle.path_keys.proofs.Common.{false≢true}
+use Rattle.s3_types.specs.Prelude.{is_key}
+use Rattle.fs_tree.specs.Prelude.{Objects, below, Status, Directory, File, Stands, IsStatus, IsName, HasOddKey}
 use Rattle.fs_tree.proofs.listings.Goals as goal
 
 module _ (z : Objects) (keys : (k : List ℕ) → Stands z k → is_key k ≡ true) where

@@ -1,4 +1,4 @@
-use Rattle.job_facts.specs.Told.{nothing_told}
+use Rattle.job_facts.specs.Prelude.{nothing_told}
 use Rattle.job_facts.proofs.Learnt.{known_is, cleaned_is}
 use Rattle.job_facts.proofs.Starting.{facts_begin, idle_keeps}
 use Rattle.job_facts.proofs.beginning.Goals as goal

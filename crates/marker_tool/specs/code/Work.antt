@@ -1,14 +1,7 @@
 -- What is done below a directory once all keys there are listed.
 use Rattle.std.specs.Prelude.{◌≡◌, ℕ, ◌<◌, true, List, [], ◌∷◌, ◌++◌, take, Result, Ok, Err}
-use Rattle.s3_types.specs.Store.{Objects}
-use Rattle.s3_types.specs.declared.reply.PageEntry.{PageEntry}
-use Rattle.proof_base.specs.Members.{IsIn}
-use Rattle.bucket_ops.specs.Asks.{Ask, edited, is_look}
-use Rattle.bucket_walks.specs.Walking.{all_below}
-use Rattle.fs_tree.specs.Tree.{IsDirectory}
+use Rattle.fs_ops.specs.Prelude.{Objects, PageEntry, IsIn, Ask, edited, is_look, all_below, IsDirectory, FsRefusal, prefix_of}
 use Rattle.fs_tree.specs.MarkerTool.{IsNoDirectory}
-use Rattle.fs_tree.specs.declared.answers.FsRefusal.{FsRefusal}
-use Rattle.fs_ops.specs.Places.{prefix_of}
 
 -- what a work owes that changes these keys, so many by a request, and then answers so
 pub record IsWork {A : Type 0} (keys : List ℕ → List PageEntry → List (List ℕ)) (answer : List ℕ → List PageEntry → A) (batch : ℕ) (changes : List (List ℕ) → Ask) (changed : Objects → List (List ℕ) → Objects) (gives : List ℕ → Objects → Result A FsRefusal → Objects → Type 0) (always : List ℕ → Objects → Objects → Type 0) (sends : List ℕ → Objects → Ask → Type 0) : Type 0 where

@@ -1,5 +1,5 @@
 use Rattle.std.proofs.Common.{None}
-use Rattle.retries.specs.Retries.{fresh}
+use Rattle.retries.specs.Prelude.{fresh}
 use Rattle.retries.proofs.First.{counted_first, some_worn, exactly_worn, spent_first}
 use Rattle.retries.proofs.retries.Goals as goal
 

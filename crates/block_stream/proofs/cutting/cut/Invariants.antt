@@ -1,5 +1,5 @@
 use Rattle.std.proofs.Common.{◌≡◌, ◌++◌, ◌<◌, length}
-use Rattle.std.specs.List.{concat}
+use Rattle.machine.specs.Prelude.{concat}
 use Rattle.block_stream.specs.Holds.{AreLong}
 use Rattle.block_stream.proofs.cutting.cut.Given as goal
 

@@ -1,7 +1,5 @@
 use Rattle.std.proofs.Common.{◌≡◌, ℕ, List, ◌∷◌, [], ◌++◌, false, true, ap, sym, ◌∙◌, subst, cond, append_assoc, append-nil}
-use Rattle.std.specs.List.{filter}
-use Rattle.std.specs.Map.{keys_of}
-use Rattle.s3_types.specs.Pages.{begins}
+use Rattle.s3_types.specs.Prelude.{filter, keys_of, begins}
 use Rattle.cluster_fs.specs.Cluster.{Follows}
 use Rattle.cluster_fs.proofs.Listed.{none_left, follows_rest}
 use Rattle.cluster_fs.proofs.cluster.paths_of.Goals as goal

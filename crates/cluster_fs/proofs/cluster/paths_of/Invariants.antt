@@ -1,7 +1,5 @@
 use Rattle.std.proofs.Common.{◌≡◌, ◌++◌, length}
-use Rattle.std.specs.List.{filter}
-use Rattle.std.specs.Map.{keys_of}
-use Rattle.s3_types.specs.Pages.{begins}
+use Rattle.s3_types.specs.Prelude.{filter, keys_of, begins}
 use Rattle.cluster_fs.specs.Cluster.{Follows}
 use Rattle.cluster_fs.proofs.cluster.paths_of.Given as goal
 

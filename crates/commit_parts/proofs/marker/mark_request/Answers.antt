@@ -1,8 +1,5 @@
 use Rattle.std.proofs.Common.{◌≡◌, subst, IfOk, Some}
-use Rattle.job_model.specs.Jobs.{Job}
-use Rattle.job_protocol.specs.Outputs.{wanted_paths}
-use Rattle.job_protocol.specs.JobCommits.{Marking, commit_asks, picks_of}
-use Rattle.job_protocol.specs.AtWork.{read_script}
+use Rattle.job_protocol.specs.Prelude.{Job, wanted_paths, Marking, commit_asks, picks_of, read_script}
 use Rattle.commit_parts.proofs.ReadFiles.{mark_put}
 use Rattle.commit_parts.proofs.marker.mark_request.Goals as goal
 

@@ -1,6 +1,5 @@
 use Rattle.std.proofs.Common.{◌≡◌, ◌≤◌, drop, length}
-use Rattle.job_protocol.specs.Outputs.{ordered}
-use Rattle.job_protocol.specs.JobCommits.{all_commits}
+use Rattle.job_protocol.specs.Prelude.{ordered, all_commits}
 use Rattle.commit_parts.specs.Relatives.{paths_below}
 use Rattle.commit_parts.proofs.marker.ordered_paths.Given as goal
 

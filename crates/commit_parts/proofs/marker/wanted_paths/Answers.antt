@@ -1,8 +1,5 @@
 use Rattle.std.proofs.Common.{◌≡◌, subst, IfOk}
-use Rattle.job_model.specs.Jobs.{Job}
-use Rattle.job_protocol.specs.Outputs.{wanted_paths}
-use Rattle.job_protocol.specs.JobCommits.{picks_of}
-use Rattle.job_protocol.specs.AtWork.{read_script}
+use Rattle.job_protocol.specs.Prelude.{Job, wanted_paths, picks_of, read_script}
 use Rattle.commit_parts.specs.ReadSets.{HasAll}
 use Rattle.commit_parts.proofs.ReadFiles.{wanted_listed}
 use Rattle.commit_parts.proofs.marker.wanted_paths.Goals as goal

@@ -1,5 +1,5 @@
 use Rattle.std.proofs.Common.{inl, inr, ap}
-use Rattle.job_model.specs.Jobs.{Job}
+use Rattle.job_protocol.specs.Prelude.{Job}
 use Rattle.commit_parts.proofs.ReadFiles.{stored_asked, staged_asked}
 use Rattle.commit_parts.proofs.requests.set_request.Goals as goal
 

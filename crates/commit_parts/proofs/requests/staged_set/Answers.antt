@@ -1,7 +1,5 @@
 use Rattle.std.proofs.Common.{◌≡◌, subst, IfOk}
-use Rattle.s3_types.specs.declared.request.Request.TheVariants.{ClusterGet}
-use Rattle.magic_paths.specs.Layout.{staged_set_path}
-use Rattle.job_model.specs.Jobs.{Job}
+use Rattle.job_protocol.specs.Prelude.{ClusterGet, staged_set_path, Job}
 use Rattle.commit_parts.proofs.ReadFiles.{cluster_asked}
 use Rattle.commit_parts.proofs.requests.staged_set.Goals as goal
 

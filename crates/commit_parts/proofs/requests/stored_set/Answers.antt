@@ -1,7 +1,5 @@
 use Rattle.std.proofs.Common.{◌≡◌, subst, IfOk}
-use Rattle.s3_types.specs.declared.request.Request.TheVariants.{GetObject}
-use Rattle.magic_paths.specs.Layout.{set_key}
-use Rattle.job_model.specs.Jobs.{Job}
+use Rattle.job_protocol.specs.Prelude.{GetObject, set_key, Job}
 use Rattle.commit_parts.proofs.ReadFiles.{get_asked}
 use Rattle.commit_parts.proofs.requests.stored_set.Goals as goal
 

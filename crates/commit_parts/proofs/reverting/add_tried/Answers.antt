@@ -1,5 +1,5 @@
 use Rattle.std.proofs.Common.{◌≡◌, ◌+◌, ◌-◌, ◌<◌, ◌≤◌, arith}
-use Rattle.job_protocol.specs.Lanes.{is_tried}
+use Rattle.job_protocol.specs.Prelude.{is_tried}
 use Rattle.commit_parts.proofs.Undoing.{tried_begin, tried_turn, tried_below, tried_end}
 use Rattle.commit_parts.proofs.reverting.add_tried.Goals as goal
 

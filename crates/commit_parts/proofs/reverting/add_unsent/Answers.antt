@@ -1,5 +1,5 @@
 use Rattle.std.proofs.Common.{◌≡◌, ◌+◌, ◌-◌, ◌<◌, ◌≤◌, ◌||◌, nat_eq, arith, ap, ◌∙◌}
-use Rattle.job_protocol.specs.Lanes.{is_tried, is_in}
+use Rattle.job_protocol.specs.Prelude.{is_tried, is_in}
 use Rattle.commit_parts.proofs.Undoing.{unsent_begin, unsent_turn, unsent_below, unsent_end}
 use Rattle.commit_parts.proofs.reverting.add_unsent.Goals as goal
 

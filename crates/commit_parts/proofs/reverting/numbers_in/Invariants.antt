@@ -1,7 +1,6 @@
 use Rattle.std.proofs.Common.{◌≡◌, ℕ, reverse, take}
+use Rattle.job_protocol.specs.Prelude.{nat_cmp, is_in}
 use Rattle.std.specs.BTreeSet.{contains}
-use Rattle.std.specs.Ordering.{nat_cmp}
-use Rattle.job_protocol.specs.Lanes.{is_in}
 use Rattle.commit_parts.proofs.reverting.numbers_in.Given as goal
 
 abbrev pub invariant-loop-number : goal.invariant-loop-number

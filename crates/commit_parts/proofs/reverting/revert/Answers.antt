@@ -1,5 +1,5 @@
 use Rattle.std.proofs.Common.{◌∙◌, ap}
-use Rattle.job_protocol.specs.Lanes.{is_in}
+use Rattle.job_protocol.specs.Prelude.{is_in}
 use Rattle.commit_parts.proofs.Undoing.{all_reverted, all_within, in_front}
 use Rattle.commit_parts.proofs.reverting.revert.Goals as goal
 

@@ -1,6 +1,5 @@
 use Rattle.std.proofs.Common.{◌+◌, arith}
-use Rattle.std.specs.BTreeMap.{get}
-use Rattle.proof_base.specs.Order.{text_cmp}
+use Rattle.job_protocol.specs.Prelude.{get, text_cmp}
 use Rattle.commit_parts.proofs.Searching.{adds_one}
 use Rattle.commit_parts.proofs.sharing.add_all.Goals as goal
 

@@ -1,7 +1,5 @@
 use Rattle.std.proofs.Common.{ℕ, List, ◌++◌, ◌≤◌, map, take}
-use Rattle.std.specs.BTreeMap.{get}
-use Rattle.proof_base.specs.Order.{text_cmp}
-use Rattle.job_protocol.specs.LaneTable.{In}
+use Rattle.job_protocol.specs.Prelude.{get, text_cmp, In}
 use Rattle.commit_parts.specs.Clashes.{Item, Finds}
 use Rattle.commit_parts.proofs.sharing.add_all.Given as goal
 

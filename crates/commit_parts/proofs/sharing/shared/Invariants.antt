@@ -1,6 +1,5 @@
 use Rattle.std.proofs.Common.{take}
-use Rattle.std.specs.BTreeMap.{get}
-use Rattle.proof_base.specs.Order.{text_cmp}
+use Rattle.job_protocol.specs.Prelude.{get, text_cmp}
 use Rattle.commit_parts.specs.Clashes.{items_from, Finds}
 use Rattle.commit_parts.proofs.sharing.shared.Given as goal
 

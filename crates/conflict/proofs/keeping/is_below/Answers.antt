@@ -1,7 +1,6 @@
 use Rattle.std.proofs.Common.{◌∙◌, sym, Some, None, ◌∷◌, []}
-use Rattle.std.proofs.lemmas.Bool.Decides.{Decides-eqb}
-use Rattle.std.proofs.lemmas.Slice.Eq.{strip_prefix_is}
-use Rattle.s3_types.proofs.Begins.{begins_is}
+use Rattle.path_keys.proofs.Common.{Decides-eqb, begins_is}
+use Rattle.words.proofs.Common.{strip_prefix_is}
 use Rattle.conflict.proofs.CutPaths.{begins_so, begins_not}
 use Rattle.conflict.proofs.keeping.is_below.Goals as goal
 

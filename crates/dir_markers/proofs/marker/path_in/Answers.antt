@@ -1,6 +1,6 @@
 use Rattle.std.proofs.Common.{◌∙◌, None, ap, arith}
-use Rattle.std.proofs.lemmas.Str.Pattern.{strip_suffix_char}
-use Rattle.s3_types.specs.Names.{trimmed}
+use Rattle.path_keys.proofs.Common.{strip_suffix_char}
+use Rattle.s3_types.specs.Prelude.{trimmed}
 use Rattle.path_keys.proofs.Ends.{no_end}
 use Rattle.dir_markers.proofs.marker.path_in.Goals as goal
 

@@ -1,5 +1,5 @@
 use Rattle.std.proofs.Common.{◌∙◌}
-use Rattle.store_image.specs.Image.{image}
+use Rattle.journal_log.specs.Prelude.{image}
 use Rattle.durable_job.proofs.Paces.{opened}
 use Rattle.durable_job.proofs.playing.begin.Goals as goal
 

@@ -1,6 +1,6 @@
 use Rattle.std.proofs.Common.{drop}
+use Rattle.journal_log.specs.Prelude.{content_after}
 use Rattle.durable_store.proofs.Following.{high}
-use Rattle.journal_log.specs.Changes.{content_after}
 use Rattle.durable_store.proofs.folding.follow_all.Goals as goal
 
 pub returns-then-not-is_few-clause-many : goal.returns-then-not-is_few-clause-many

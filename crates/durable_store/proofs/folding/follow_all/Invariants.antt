@@ -1,7 +1,5 @@
 use Rattle.std.proofs.Common.{◌≡◌, drop}
-use Rattle.std.specs.List.{AllByRecursion}
-use Rattle.journal_log.specs.Changes.{content_after}
-use Rattle.journal_log.specs.Made.{IsMade}
+use Rattle.journal_log.specs.Prelude.{AllByRecursion, content_after, IsMade}
 use Rattle.durable_store.proofs.folding.follow_all.Given as goal
 
 abbrev pub invariant-loop-change : goal.invariant-loop-change

@@ -1,5 +1,5 @@
 use Rattle.std.proofs.Common.{◌≡◌, ◌∷◌, length, Result, OnOk, Ok, Err, ap, ◌∙◌, arith, length-append}
-use Rattle.s3_types.specs.Names.{is_key_path}
+use Rattle.fs_ops.specs.Prelude.{is_key_path}
 use Rattle.path_keys.proofs.Last.{cut_last, front_is_key, no_slash}
 use Rattle.fs_ops.proofs.Names.{none_more, one_more, front_key}
 use Rattle.fs_ops.proofs.above.+add_above.Goals as goal

@@ -1,6 +1,5 @@
 use Rattle.std.proofs.Common.{false}
-use Rattle.dir_markers.specs.Markers.{deleted}
-use Rattle.fs_tree.specs.Changes.{parent, marker_if}
+use Rattle.fs_ops.specs.Prelude.{deleted, parent, marker_if}
 use Rattle.fs_ops.proofs.MarkerAbove.{marker_parent, root_marker, marked_so}
 use Rattle.fs_ops.proofs.delete.marker_above.Goals as goal
 

@@ -1,6 +1,5 @@
 use Rattle.std.proofs.Common.{ap, sym, ◌∙◌}
-use Rattle.path_keys.specs.Paths.{is_key, below}
-use Rattle.fs_tree.specs.Changes.{own_name}
+use Rattle.fs_ops.specs.Prelude.{is_key, below, own_name}
 use Rattle.fs_rename.proofs.Inside.{inside_text}
 use Rattle.fs_rename.proofs.names.inside_base.Goals as goal
 

@@ -1,4 +1,4 @@
-use Rattle.fs_tree.specs.Changes.{parent}
+use Rattle.fs_ops.specs.Prelude.{parent}
 use Rattle.fs_rename.proofs.Inside.{above_some, above_none, is_above}
 use Rattle.fs_rename.proofs.names.place_above.Goals as goal
 

@@ -1,5 +1,5 @@
 use Rattle.std.proofs.Common.{◌∙◌, ◌≤◌, sym, arith}
-use Rattle.job_model.specs.Jobs.{has_task}
+use Rattle.job_protocol.specs.Prelude.{has_task}
 use Rattle.job_commit.proofs.Searches.{first_that_fails, none_fails}
 use Rattle.job_commit.proofs.commit.missing.Goals as goal
 

@@ -1,5 +1,5 @@
 use Rattle.std.proofs.Common.{◌≡◌, ◌<◌, ℕ, true}
-use Rattle.job_model.specs.Jobs.{has_task}
+use Rattle.job_protocol.specs.Prelude.{has_task}
 use Rattle.job_commit.proofs.commit.missing.Given as goal
 
 abbrev pub invariant-loop-task : goal.invariant-loop-task

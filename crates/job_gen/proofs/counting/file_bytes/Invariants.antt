@@ -1,5 +1,5 @@
 use Rattle.std.proofs.Common.{◌≡◌, ◌+◌}
-use Rattle.job_model.specs.Legal.{bytes_of}
+use Rattle.job_spec.specs.Prelude.{bytes_of}
 use Rattle.job_gen.proofs.counting.file_bytes.Given as goal
 
 abbrev pub invariant-loop-bytes : goal.invariant-loop-bytes

@@ -1,9 +1,5 @@
 use Rattle.std.proofs.Common.{◌≡◌, ◌≤◌, Some, sym, ap, subst, ◌∙◌, arith}
-use Rattle.std.specs.Map.{lookup}
-use Rattle.s3_types.specs.declared.limits.TheConstants.{MOST_SCRIPT_BYTES}
-use Rattle.job_model.specs.Attempts.{Who, same_name}
-use Rattle.job_model.specs.JobScript.{Script}
-use Rattle.job_model.specs.Legal.{IsLegal, bytes_of}
+use Rattle.job_spec.specs.Prelude.{lookup, MOST_SCRIPT_BYTES, Who, same_name, Script, IsLegal, bytes_of}
 use Rattle.job_gen.proofs.Counts.{bytes_found, few_bytes}
 use Rattle.job_gen.proofs.counting.pick_bytes.Goals as goal
 use Rattle.job_gen.proofs.counting.pick_bytes.Goals.{In-Some}

@@ -1,5 +1,5 @@
 use Rattle.std.proofs.Common.{◌≡◌, ◌++◌, filter}
-use Rattle.std.specs.List.{flat_map}
+use Rattle.job_spec.specs.Prelude.{flat_map}
 use Rattle.job_gen.specs.Made.{below, is_twice, second_writes}
 use Rattle.job_gen.proofs.events.push_seconds.Given as goal
 

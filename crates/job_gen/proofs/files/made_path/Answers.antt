@@ -1,6 +1,6 @@
 use Rattle.std.proofs.Common.{◌≡◌, ◌∙◌, refl}
 use Rattle.std.specs.Prelude.{string_bytes}
-use Rattle.std.proofs.lemmas.Result.{IfOk-weaker}
+use Rattle.job_spec.proofs.Common.{IfOk-weaker}
 use Rattle.job_gen.specs.Made.{part_path}
 use Rattle.job_gen.proofs.Written.{three_written, two_written}
 use Rattle.job_gen.proofs.files.made_path.Goals as goal

@@ -1,6 +1,5 @@
 use Rattle.std.proofs.Common.{◌≡◌, ◌+◌, ◌*◌, map, ap, ◌∙◌, arith}
-use Rattle.job_model.specs.Files.{has_path}
-use Rattle.job_spec.specs.Turns.{draw}
+use Rattle.job_spec.specs.Prelude.{has_path, draw}
 use Rattle.job_gen.specs.Made.{below, part_file, part_files}
 use Rattle.job_gen.proofs.PartPaths.{path_free}
 use Rattle.job_gen.proofs.PartFiles.{paths_on, files_on}

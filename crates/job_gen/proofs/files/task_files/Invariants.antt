@@ -1,5 +1,5 @@
 use Rattle.std.proofs.Common.{◌≡◌, ℕ, ◌+◌, ◌*◌, map}
-use Rattle.job_spec.specs.Turns.{draw}
+use Rattle.job_spec.specs.Prelude.{draw}
 use Rattle.job_gen.specs.Made.{below, part_path, part_file}
 use Rattle.job_gen.proofs.files.task_files.Given as goal
 

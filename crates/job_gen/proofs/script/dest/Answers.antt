@@ -1,6 +1,6 @@
 use Rattle.std.proofs.Common.{sym}
+use Rattle.path_keys.proofs.Common.{same_ok}
 use Rattle.words.specs.Parts.{parts_from}
-use Rattle.proof_base.proofs.Reading.{same_ok}
 use Rattle.job_gen.specs.Made.{made_dest}
 use Rattle.job_gen.proofs.Faults.{memory_alone}
 use Rattle.job_gen.proofs.script.dest.Goals as goal

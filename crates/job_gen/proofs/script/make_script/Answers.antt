@@ -1,5 +1,5 @@
 use Rattle.std.proofs.Common.{sym, subst}
-use Rattle.job_model.specs.Legal.{IsLegal}
+use Rattle.job_spec.specs.Prelude.{IsLegal}
 use Rattle.job_gen.proofs.LegalScript.{made_legal, script_is}
 use Rattle.job_gen.proofs.script.make_script.Goals as goal
 

@@ -1,6 +1,6 @@
 use Rattle.std.proofs.Common.{◌≡◌, ◌∙◌, length, append_assoc}
 use Rattle.std.specs.Prelude.{string_bytes}
-use Rattle.std.proofs.lemmas.Result.{IfOk-weaker}
+use Rattle.job_spec.proofs.Common.{IfOk-weaker}
 use Rattle.job_gen.specs.Summary.{summary}
 use Rattle.job_gen.proofs.summary.summary_text.Goals as goal
 

@@ -1,5 +1,5 @@
 use Rattle.std.proofs.Common.{◌∙◌, [], sym, ap}
-use Rattle.job_model.specs.Files.{File, has_path}
+use Rattle.job_protocol.specs.Prelude.{File, has_path}
 use Rattle.job_plans.proofs.FilePlans.{next_free, next_placed, all_placed}
 use Rattle.job_plans.proofs.files.placed.Goals as goal
 

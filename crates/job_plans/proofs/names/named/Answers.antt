@@ -1,9 +1,9 @@
 use Rattle.std.proofs.Common.{◌≡◌, ◌∙◌, None, Some, sym, arith}
 use Rattle.std.specs.Prelude.{string_bytes}
-use Rattle.std.proofs.lemmas.Result.{IfOk-weaker}
-use Rattle.std.proofs.lemmas.Str.Pattern.{split_parts}
+use Rattle.path_keys.proofs.Common.{IfOk-weaker}
+use Rattle.words.proofs.Common.{split_parts}
+use Rattle.job_protocol.specs.Prelude.{with_id}
 use Rattle.words.proofs.Pieces.{others_from_bytes}
-use Rattle.job_model.specs.Placed.{with_id}
 use Rattle.job_plans.proofs.CutNames.{dotted_name, dotless_name}
 use Rattle.job_plans.proofs.names.named.Goals as goal
 

@@ -1,8 +1,8 @@
 use Rattle.std.proofs.Common.{◌≡◌, ◌∙◌, sym}
 use Rattle.std.specs.Prelude.{string_bytes}
-use Rattle.std.proofs.lemmas.Result.{IfOk-weaker}
+use Rattle.path_keys.proofs.Common.{IfOk-weaker}
+use Rattle.job_protocol.specs.Prelude.{unique_name}
 use Rattle.path_keys.proofs.Last.{cut_last, no_slash}
-use Rattle.job_model.specs.Placed.{unique_name}
 use Rattle.job_plans.proofs.CutNames.{path_with_name, name_alone}
 use Rattle.job_plans.proofs.names.unique_text.Goals as goal
 

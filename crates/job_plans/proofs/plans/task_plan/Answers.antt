@@ -1,9 +1,5 @@
 use Rattle.std.proofs.Common.{◌≡◌, ◌∙◌, Some, slice_get, ap, subst}
-use Rattle.std.specs.Map.{lookup}
-use Rattle.job_model.specs.Attempts.{same_name}
-use Rattle.job_model.specs.JobScript.{Script}
-use Rattle.job_model.specs.Legal.{IsLegal}
-use Rattle.job_model.specs.Placed.{placed}
+use Rattle.job_protocol.specs.Prelude.{lookup, same_name, Script, IsLegal, placed}
 use Rattle.job_plans.proofs.PlanBounds.{legal_at, task_is, task_told}
 use Rattle.job_plans.proofs.plans.task_plan.Goals as goal
 

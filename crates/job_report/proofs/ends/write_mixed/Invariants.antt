@@ -1,5 +1,6 @@
 use Rattle.std.proofs.Common.{◌≡◌, ◌++◌, ◌∷◌, drop, codes, string_bytes}
-use Rattle.std.specs.List.{flat_map, join_by}
+use Rattle.job_spec.specs.Prelude.{flat_map}
+use Rattle.job_model.specs.Prelude.{join_by}
 use Rattle.job_spec.specs.ReportText.{actor_end_text}
 use Rattle.job_report.proofs.ends.write_mixed.Given as goal
 

@@ -1,8 +1,5 @@
 use Rattle.std.proofs.Common.{◌≡◌, ◌++◌, List, string_bytes}
-use Rattle.std.specs.List.{flat_map}
-use Rattle.job_model.specs.Attempts.{Declared}
-use Rattle.job_spec.specs.States.{Past}
-use Rattle.job_spec.specs.ReportText.{attempt_line}
+use Rattle.job_spec.specs.Prelude.{flat_map, Declared, Past, attempt_line}
 use Rattle.job_states.specs.Stands.{Stands}
 use Rattle.job_report.proofs.lines.write_attempts.Given as goal
 

@@ -1,4 +1,4 @@
-use Rattle.job_spec.specs.ReportText.{event_line}
+use Rattle.job_spec.specs.Prelude.{event_line}
 use Rattle.job_report.proofs.LineLemmas.{left_at, all_written, none_left}
 use Rattle.job_report.proofs.lines.write_events.Goals as goal
 

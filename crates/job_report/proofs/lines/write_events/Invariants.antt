@@ -1,6 +1,5 @@
 use Rattle.std.proofs.Common.{◌≡◌, ◌++◌, string_bytes}
-use Rattle.std.specs.List.{flat_map}
-use Rattle.job_spec.specs.ReportText.{event_line, event_lines}
+use Rattle.job_spec.specs.Prelude.{flat_map, event_line, event_lines}
 use Rattle.job_report.proofs.LineLemmas.{left_at}
 use Rattle.job_report.proofs.lines.write_events.Given as goal
 

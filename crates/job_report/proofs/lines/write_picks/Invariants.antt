@@ -1,6 +1,5 @@
 use Rattle.std.proofs.Common.{◌≡◌, ◌++◌, drop, string_bytes}
-use Rattle.std.specs.List.{flat_map}
-use Rattle.job_spec.specs.ReportText.{pick_line}
+use Rattle.job_spec.specs.Prelude.{flat_map, pick_line}
 use Rattle.job_report.proofs.lines.write_picks.Given as goal
 
 abbrev pub invariant-loop-pick : goal.invariant-loop-pick

@@ -1,6 +1,5 @@
 use Rattle.std.proofs.Common.{◌≡◌, ◌∙◌, ap, subst, IfOk}
-use Rattle.job_model.specs.JobScript.{Script}
-use Rattle.job_spec.specs.States.{past}
+use Rattle.job_spec.specs.Prelude.{Script, past}
 use Rattle.job_report.proofs.LineLemmas.{report_is}
 use Rattle.job_report.proofs.report.report_text.Goals as goal
 

@@ -1,5 +1,5 @@
 use Rattle.std.proofs.Common.{◌≡◌, ◌++◌, ◌∷◌, [], ◌∙◌, sym, subst, codes, string_bytes, append_assoc, OnOk}
-use Rattle.std.proofs.lemmas.List.{append-nil}
+use Rattle.path_keys.proofs.Common.{append-nil}
 use Rattle.job_script.proofs.head.put_dest.Goals as goal
 
 pub returns : goal.returns

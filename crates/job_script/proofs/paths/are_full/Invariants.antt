@@ -1,7 +1,6 @@
 use Rattle.std.proofs.Common.{◌≡◌, length}
-use Rattle.std.specs.List.{list_all}
+use Rattle.job_model.specs.Prelude.{list_all, is_full}
 use Rattle.words.specs.Parts.{parts_of}
-use Rattle.job_model.specs.Paths.{is_full}
 use Rattle.job_script.proofs.paths.are_full.Given as goal
 
 abbrev pub invariant-loop-more : goal.invariant-loop-more

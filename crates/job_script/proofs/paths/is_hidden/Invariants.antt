@@ -1,7 +1,6 @@
 use Rattle.std.proofs.Common.{◌≡◌, length}
-use Rattle.std.specs.List.{list_any}
+use Rattle.job_model.specs.Prelude.{list_any, begins_hidden}
 use Rattle.words.specs.Parts.{parts_of}
-use Rattle.job_model.specs.Paths.{begins_hidden}
 use Rattle.job_script.proofs.paths.is_hidden.Given as goal
 
 abbrev pub invariant-loop-more : goal.invariant-loop-more

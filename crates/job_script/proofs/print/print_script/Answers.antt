@@ -1,7 +1,7 @@
 use Rattle.std.proofs.Common.{◌≡◌, ◌≤◌, ◌∙◌, ℕ, List, length, Ok, ap, subst, IfOk}
+use Rattle.path_keys.proofs.Common.{IfOk-weaker}
+use Rattle.job_model.specs.Prelude.{IsLegal}
 use Rattle.std.specs.FinMap as map
-use Rattle.std.proofs.lemmas.Result.{IfOk-weaker}
-use Rattle.job_model.specs.Legal.{IsLegal}
 use Rattle.job_script.specs.Print.{script_text}
 use Rattle.job_script.specs.Script.{script_of}
 use Rattle.job_script.proofs.PrintLines.{script_is}

@@ -1,5 +1,5 @@
 use Rattle.std.proofs.Common.{◌≡◌, ◌++◌, map, drop, string_bytes}
-use Rattle.words.specs.Words.{text_of}
+use Rattle.job_model.specs.Prelude.{text_of}
 use Rattle.job_script.specs.Print.{event_line}
 use Rattle.job_script.proofs.print_events.put_events.Given as goal
 

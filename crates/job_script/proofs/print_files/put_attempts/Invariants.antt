@@ -1,6 +1,5 @@
 use Rattle.std.proofs.Common.{◌≡◌, ◌++◌, string_bytes}
-use Rattle.std.specs.List.{flat_map}
-use Rattle.words.specs.Words.{text_of}
+use Rattle.job_model.specs.Prelude.{flat_map, text_of}
 use Rattle.job_script.specs.Print.{attempt_lines}
 use Rattle.job_script.proofs.print_files.put_attempts.Given as goal
 

@@ -1,5 +1,5 @@
 use Rattle.std.proofs.Common.{◌≡◌, ◌++◌, map, string_bytes}
-use Rattle.words.specs.Words.{text_of}
+use Rattle.job_model.specs.Prelude.{text_of}
 use Rattle.job_script.specs.Print.{file_line}
 use Rattle.job_script.proofs.print_files.put_files.Given as goal
 

@@ -1,5 +1,5 @@
 use Rattle.std.proofs.Common.{◌≡◌, ◌++◌, ◌-◌, ◌≤◌, string_bytes}
-use Rattle.words.specs.Words.{text_of}
+use Rattle.job_model.specs.Prelude.{text_of}
 use Rattle.job_script.specs.HeadLines.{loss_lines}
 use Rattle.job_script.proofs.LossLines.{losses_from}
 use Rattle.job_script.proofs.print_losses.put_losses.Given as goal

@@ -1,7 +1,7 @@
 use Rattle.std.proofs.Common.{◌≡◌, ◌≤◌, ◌+◌, length}
+use Rattle.job_model.specs.Prelude.{lines_of}
 use denote.Shadow.{shadow}
 use denote.Text.{Utf8}
-use Rattle.words.specs.Lines.{lines_of}
 use Rattle.job_script.specs.Script.{lines_at, nothing}
 use Rattle.job_script.proofs.reading.draft_of.Given as goal
 

@@ -1,5 +1,5 @@
 use Rattle.std.proofs.Common.{sym, ap, ◌∙◌}
-use Rattle.std.specs.Str.{is_utf8}
+use Rattle.job_model.specs.Prelude.{is_utf8}
 use Rattle.job_script.proofs.Whole.{draft_legal}
 use Rattle.job_script.proofs.reading.script_in.Goals as goal
 

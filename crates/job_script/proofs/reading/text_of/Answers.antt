@@ -1,5 +1,5 @@
 use Rattle.std.proofs.Common.{sym}
-use Rattle.std.proofs.lemmas.Str.{is_utf8-from_IsUtf8}
+use Rattle.path_keys.proofs.Common.{is_utf8-from_IsUtf8}
 use Rattle.s3_types.proofs.Utf8.{not_utf8}
 use Rattle.job_script.proofs.reading.text_of.Goals as goal
 

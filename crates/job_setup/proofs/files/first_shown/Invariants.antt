@@ -1,5 +1,5 @@
 use Rattle.std.proofs.Common.{◌≡◌, drop}
-use Rattle.list_walk.specs.Walks.{keys_on}
+use Rattle.job_protocol.specs.Prelude.{keys_on}
 use Rattle.job_setup.specs.Files.{first_of}
 use Rattle.job_setup.proofs.files.first_shown.Given as goal
 

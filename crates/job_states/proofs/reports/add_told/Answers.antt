@@ -1,5 +1,5 @@
 use Rattle.std.proofs.Common.{◌∙◌, ◌&&◌, ◌||◌, ℕ, List, nat_eq, sym, ap}
-use Rattle.job_model.specs.Jobs.{has_task}
+use Rattle.job_spec.specs.Prelude.{has_task}
 use Rattle.job_states.proofs.ReportLemmas.{added_task}
 use Rattle.job_states.proofs.reports.add_told.Goals as goal
 

@@ -1,5 +1,5 @@
 use Rattle.std.proofs.Common.{◌∙◌, false, get_or, slice_get, unwrap_or}
-use Rattle.job_model.specs.Jobs.{has_task}
+use Rattle.job_spec.specs.Prelude.{has_task}
 use Rattle.std.proofs.lemmas.Option.{unwrap_or-slice_get}
 use Rattle.job_states.proofs.ReportLemmas.{grown, all_told}
 use Rattle.job_states.proofs.reports.told_tasks.Goals as goal

@@ -1,6 +1,5 @@
 use Rattle.std.proofs.Common.{◌∙◌, ◌+◌, length, ap}
-use Rattle.job_model.specs.JobScript.{Script}
-use Rattle.job_spec.specs.States.{actors}
+use Rattle.job_spec.specs.Prelude.{Script, actors}
 use Rattle.job_states.specs.Standing.{fresh}
 use Rattle.job_states.proofs.PlaceLemmas.{length_actors}
 use Rattle.job_states.proofs.ReportLemmas.{all_same}

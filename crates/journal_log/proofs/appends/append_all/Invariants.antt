@@ -1,8 +1,6 @@
 use Rattle.std.proofs.Common.{◌≡◌, take}
-use Rattle.shelf.specs.Logged.{LeavesOnly}
+use Rattle.journal_log.specs.Prelude.{LeavesOnly, IsBetween, Appended}
 use Rattle.journal_log.specs.Changes.{changes}
-use Rattle.journal_log.specs.Crashes.{IsBetween}
-use Rattle.journal_log.specs.Appends.{Appended}
 use Rattle.journal_log.proofs.appends.append_all.Given as goal
 
 abbrev pub invariant-loop-entry : goal.invariant-loop-entry

@@ -1,9 +1,6 @@
 use Rattle.std.proofs.Common.{List, OnOk, IfErr, sym, subst}
-use Rattle.s3_types.specs.declared.request.Request.{Request}
-use Rattle.shelf.specs.Logged.{LeavesOnly}
-use Rattle.journal_log.specs.Crashes.{IsBetween}
+use Rattle.journal_log.specs.Prelude.{Request, LeavesOnly, IsBetween, Appended, Stopped}
 use Rattle.journal_log.proofs.Leaving.{around, widened, started, at_first}
-use Rattle.journal_log.specs.Appends.{Appended, Stopped}
 use Rattle.journal_log.proofs.Steps.{nothing, appended_by, stopped_by}
 use Rattle.journal_log.proofs.appends.append_entry.Goals as goal
 

@@ -1,7 +1,5 @@
 use Rattle.std.proofs.Common.{List, sym, subst}
-use Rattle.std.specs.List.{AllByRecursion}
-use Rattle.s3_types.specs.declared.request.Request.{Request}
-use Rattle.journal_log.specs.Made.{IsMade}
+use Rattle.journal_log.specs.Prelude.{AllByRecursion, Request, IsMade}
 use Rattle.journal_log.proofs.images.entry_made.Goals as goal
 
 pub returns-in-Some : goal.returns-in-Some

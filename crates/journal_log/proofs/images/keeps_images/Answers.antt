@@ -1,9 +1,7 @@
 use Rattle.std.proofs.Common.{List, [], ◌∷◌, take, sym, subst, ◌∙◌}
-use Rattle.std.specs.List.{AllByRecursion}
-use Rattle.std.proofs.lemmas.List.{take_all}
-use Rattle.s3_types.specs.declared.journal.Entry.{Entry}
+use Rattle.journal_log.specs.Prelude.{AllByRecursion, Entry, IsMade}
+use Rattle.proof_base.proofs.Common.{take_all}
 use Rattle.journal_log.specs.Changes.{changes}
-use Rattle.journal_log.specs.Made.{IsMade}
 use Rattle.journal_log.proofs.Journals.{changes_none}
 use Rattle.journal_log.proofs.Imaged.{all_joined, moments}
 use Rattle.journal_log.proofs.Steps.{changes_more}

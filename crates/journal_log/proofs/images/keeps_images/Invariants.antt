@@ -1,7 +1,6 @@
 use Rattle.std.proofs.Common.{take}
-use Rattle.std.specs.List.{AllByRecursion}
+use Rattle.journal_log.specs.Prelude.{AllByRecursion, IsMade}
 use Rattle.journal_log.specs.Changes.{changes}
-use Rattle.journal_log.specs.Made.{IsMade}
 use Rattle.journal_log.proofs.images.keeps_images.Given as goal
 
 -- the changes of the entries so far

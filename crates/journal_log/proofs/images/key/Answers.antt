@@ -1,7 +1,6 @@
 use Rattle.std.proofs.Common.{◌≡◌, ◌&&◌, true, sym, ap, ◌∙◌}
-use Rattle.std.specs.Str.{is_utf8}
-use Rattle.std.proofs.lemmas.Str.{is_utf8-from_IsUtf8}
-use Rattle.s3_types.specs.Names.{is_key_path}
+use Rattle.store_frame.specs.Prelude.{is_utf8, is_key_path}
+use Rattle.proof_base.proofs.Common.{is_utf8-from_IsUtf8}
 use Rattle.journal_log.proofs.images.key.Goals as goal
 
 pub returns : goal.returns

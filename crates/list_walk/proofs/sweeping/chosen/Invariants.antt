@@ -1,5 +1,5 @@
 use Rattle.std.proofs.Common.{◌≡◌, ◌++◌, drop}
-use Rattle.std.specs.List.{filter}
+use Rattle.store_frame.specs.Prelude.{filter}
 use Rattle.list_walk.specs.Walks.{keys_on}
 use Rattle.list_walk.specs.Fitting.{AreKeys}
 use Rattle.list_walk.proofs.sweeping.chosen.Given as goal

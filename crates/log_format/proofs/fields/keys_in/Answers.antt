@@ -1,6 +1,6 @@
 use Rattle.std.proofs.Common.{rules, Err, ◌≡◌, ◌+◌, ◌-◌, ap, ◌∙◌}
+use Rattle.s3_types.specs.Prelude.{is_key}
 use Rattle.proof_base.proofs.Reading.{gives_fault}
-use Rattle.s3_types.specs.Names.{is_key}
 use Rattle.log_format.specs.Fault.{wanting}
 use Rattle.log_format.specs.Reading.{text_at, list_at}
 use Rattle.log_format.proofs.Loop.{in_front, one_more, ends}

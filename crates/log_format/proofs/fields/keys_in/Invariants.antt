@@ -1,5 +1,5 @@
 use Rattle.std.proofs.Common.{◌≡◌, ◌-◌}
-use Rattle.s3_types.specs.Names.{is_key}
+use Rattle.s3_types.specs.Prelude.{is_key}
 use Rattle.log_format.specs.Reading.{text_at, list_at}
 use Rattle.log_format.proofs.Loop.{in_front}
 use Rattle.log_format.proofs.fields.keys_in.Given as goal

@@ -1,5 +1,5 @@
 use Rattle.std.proofs.Common.{◌≡◌, ◌++◌, drop}
-use Rattle.std.specs.List.{flat_map, AllByRecursion}
+use Rattle.s3_types.specs.Prelude.{flat_map, AllByRecursion}
 use Rattle.log_format.specs.Change.{IsKey}
 use Rattle.log_format.specs.Log.{block, counted}
 use Rattle.log_format.proofs.writing.put_keys.Given as goal

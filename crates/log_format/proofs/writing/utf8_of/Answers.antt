@@ -1,5 +1,5 @@
 use Rattle.std.proofs.Common.{◌∙◌, subst}
-use Rattle.std.proofs.lemmas.Str.{is_utf8-from_IsUtf8}
+use Rattle.proof_base.proofs.Common.{is_utf8-from_IsUtf8}
 use Rattle.log_format.specs.Change.{IsText}
 use Rattle.log_format.proofs.writing.utf8_of.Goals as goal
 

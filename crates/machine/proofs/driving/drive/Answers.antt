@@ -1,8 +1,6 @@
 use Rattle.std.proofs.Common.{refl, ◌≡◌, ◌+◌, ◌∙◌, ap, sym, subst, ◌||◌, inl, inr, [], ◌<◌, ◌++◌, append_assoc, append-nil, ◌∷◌, length}
+use Rattle.machine.specs.Prelude.{step, retried, tells_worn, IsForetold}
 use Rattle.std.proofs.lemmas.Bool.{false≢true}
-use Rattle.retries.specs.Retries.{step}
-use Rattle.machine.specs.Turns.{retried, tells_worn}
-use Rattle.s3_types.specs.Foretold.{IsForetold}
 use Rattle.machine.proofs.Counts.{counted_none, counted_then}
 use Rattle.machine.proofs.Runs.{told_more, driving_more, next_number, falls_step, told, is_run_more, work}
 use Rattle.machine.proofs.Tries.{tried_short}

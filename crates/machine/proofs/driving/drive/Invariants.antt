@@ -1,5 +1,4 @@
-use Rattle.machine.specs.Turns.{retried}
-use Rattle.machine.specs.Drove.{Driving}
+use Rattle.machine.specs.Prelude.{retried, Driving}
 use Rattle.machine.proofs.Runs.{work}
 use Rattle.machine.proofs.driving.drive.Given as goal
 

@@ -1,5 +1,5 @@
 use Rattle.std.proofs.Common.{ap, sym, ◌∙◌, arith}
-use Rattle.s3_types.specs.Names.{is_key_path}
+use Rattle.s3_types.specs.Prelude.{is_key_path}
 use Rattle.path_keys.specs.Paths.{is_key}
 use Rattle.path_keys.proofs.Beneath.{key_path_from}
 use Rattle.magic_paths.specs.Layout.{set_key}

@@ -1,5 +1,5 @@
 use Rattle.std.proofs.Common.{◌≡◌, ◌++◌, drop}
-use Rattle.std.specs.List.{filter}
+use Rattle.fs_ops.specs.Prelude.{filter}
 use Rattle.marker_tool.specs.Markers.{is_due}
 use Rattle.marker_tool.proofs.listed.add_due.Given as goal
 

@@ -1,6 +1,6 @@
 use Rattle.std.proofs.Common.{◌≡◌, ◌∙◌, Bool, true, false, Some, None, refl, sym, ap, arith}
-use Rattle.std.proofs.lemmas.Str.Pattern.{strip_suffix_char}
-use Rattle.fs_tree.specs.Tree.{is_marker}
+use Rattle.path_keys.proofs.Common.{strip_suffix_char}
+use Rattle.fs_ops.specs.Prelude.{is_marker}
 use Rattle.fs_tree.proofs.Begins.{marker_is}
 use Rattle.fs_tree.proofs.Above.{marker_ends}
 use Rattle.marker_tool.proofs.listed.is_marker.Goals as goal

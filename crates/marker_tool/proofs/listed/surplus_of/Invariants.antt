@@ -1,5 +1,5 @@
 use Rattle.std.proofs.Common.{◌≡◌, ◌++◌, map, drop}
-use Rattle.std.specs.List.{filter}
+use Rattle.fs_ops.specs.Prelude.{filter}
 use Rattle.marker_tool.specs.Markers.{is_surplus}
 use Rattle.marker_tool.proofs.listed.surplus_of.Given as goal
 

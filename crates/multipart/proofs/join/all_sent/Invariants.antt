@@ -1,6 +1,5 @@
 use Rattle.std.proofs.Common.{◌≡◌, drop}
-use Rattle.std.specs.List.{list_all}
-use Rattle.s3_types.specs.Multipart.{is_sent, is_part_number}
+use Rattle.s3_types.specs.Prelude.{list_all, is_sent, is_part_number}
 use Rattle.multipart.proofs.join.all_sent.Given as goal
 
 abbrev pub invariant-loop-named : goal.invariant-loop-named

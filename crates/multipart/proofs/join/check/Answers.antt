@@ -1,5 +1,5 @@
 use Rattle.std.proofs.Common.{◌≡◌, true}
-use Rattle.s3_types.specs.Multipart.{rises}
+use Rattle.s3_types.specs.Prelude.{rises}
 use Rattle.multipart.proofs.Numbered.{few}
 use Rattle.multipart.proofs.join.check.Goals as goal
 

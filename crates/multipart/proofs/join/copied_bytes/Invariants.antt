@@ -1,6 +1,5 @@
 use Rattle.std.proofs.Common.{◌≡◌, drop, ◌++◌}
-use Rattle.std.specs.List.{flat_map}
-use Rattle.s3_types.specs.Multipart.{bytes_of}
+use Rattle.s3_types.specs.Prelude.{flat_map, bytes_of}
 use Rattle.multipart.proofs.join.copied_bytes.Given as goal
 
 abbrev pub invariant-loop-named : goal.invariant-loop-named

@@ -1,6 +1,5 @@
 use Rattle.std.proofs.Common.{◌≡◌, ℕ, List, [], ◌∷◌, ◌++◌, false, true, ap, sym, ◌∙◌, subst, cond, append_assoc, rules}
-use Rattle.std.specs.Map.{keys_of}
-use Rattle.s3_types.specs.Pages.{begins}
+use Rattle.s3_types.specs.Prelude.{keys_of, begins}
 use Rattle.s3_types.specs.declared.request.UploadRef.{UploadRef}
 use Rattle.multipart.specs.Listing.{below, Follows, AreOwn}
 use Rattle.multipart.proofs.Follow.{none_left, taken, no_more, follows_rest}

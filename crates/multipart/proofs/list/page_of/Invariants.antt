@@ -1,5 +1,5 @@
 use Rattle.std.proofs.Common.{◌≡◌, ◌≤◌, ◌++◌, length}
-use Rattle.std.specs.Map.{keys_of}
+use Rattle.s3_types.specs.Prelude.{keys_of}
 use Rattle.multipart.specs.Listing.{below, Follows, AreOwn}
 use Rattle.multipart.proofs.list.page_of.Given as goal
 

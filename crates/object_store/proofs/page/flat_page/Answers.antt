@@ -1,7 +1,5 @@
 use Rattle.std.proofs.Common.{◌≡◌, ℕ, List, [], ◌∷◌, ◌++◌, false, true, ap, sym, ◌∙◌, subst, cond, map, append_assoc, length, rules}
-use Rattle.std.specs.List.{filter}
-use Rattle.s3_types.specs.Pages.{begins}
-use Rattle.s3_types.specs.declared.reply.PageEntry.{PageEntry}
+use Rattle.store_frame.specs.Prelude.{filter, begins, PageEntry}
 use Rattle.object_store.specs.declared.objects.Held.{Held}
 use Rattle.object_store.specs.Flat.{single, below, Follows}
 use Rattle.object_store.specs.Held.{AreOwn}

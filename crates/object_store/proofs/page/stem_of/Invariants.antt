@@ -1,5 +1,5 @@
 use Rattle.std.proofs.Common.{◌≡◌}
-use Rattle.s3_types.specs.Pages.{stem}
+use Rattle.store_frame.specs.Prelude.{stem}
 use Rattle.object_store.proofs.Scan.{from}
 use Rattle.object_store.proofs.page.stem_of.Given as goal
 

@@ -1,5 +1,5 @@
 use Rattle.std.proofs.Common.{[], None, Some, ap, ◌∙◌, arith}
-use Rattle.std.proofs.lemmas.Str.Pattern.{split_parts}
+use Rattle.words.proofs.Common.{split_parts}
 use Rattle.words.specs.Parts.{parts_of}
 use Rattle.words.proofs.Split.{part_from}
 use Rattle.words.proofs.Pieces.{others_from_bytes, one_part}

@@ -1,5 +1,5 @@
 use Rattle.std.proofs.Common.{None, arith}
-use Rattle.std.proofs.lemmas.Str.Pattern.{strip_suffix_char}
+use Rattle.words.proofs.Common.{strip_suffix_char}
 use Rattle.path_keys.proofs.Ends.{no_end}
 use Rattle.path_keys.proofs.split.trimmed.Goals as goal
 

@@ -1,8 +1,6 @@
 use Rattle.std.proofs.Common.{Result, subst}
-use Rattle.serde_json.specs.View.{view}
+use Rattle.pending_json.specs.Prelude.{view, Gives, Pending}
 use Rattle.pending_json.specs.declared.fault.RecordFault.{RecordFault}
-use Rattle.pending_json.specs.Fault.{Gives}
-use Rattle.pending_json.specs.Pending.{Pending}
 use Rattle.pending_json.proofs.Whole.{pending_whole}
 use Rattle.pending_json.proofs.pending_reading.pending_in.Goals as goal
 

@@ -1,6 +1,5 @@
 use Rattle.std.proofs.Common.{◌∙◌, ap, rules}
-use Rattle.std.specs.List.{list_all}
-use Rattle.s3_types.specs.Tags.{is_plain_tag}
+use Rattle.pending_json.specs.Prelude.{list_all, is_plain_tag}
 use Rattle.pending_json.proofs.Candidates.{plain_more}
 use Rattle.pending_json.proofs.quick.plain_tags.Goals as goal
 

@@ -1,5 +1,5 @@
 use Rattle.std.proofs.Common.{◌≡◌, ◌∙◌, List, ℕ, Ok, subst, sym}
-use Rattle.std.proofs.lemmas.Slice.Eq.{bytes_eq-Decides}
+use Rattle.proof_base.proofs.Common.{bytes_eq-Decides}
 use Rattle.pending_json.specs.Reading.{pending_of}
 use Rattle.pending_json.proofs.RoundTrip.{pending_text}
 use Rattle.pending_json.proofs.quick.printed_upload.Goals as goal

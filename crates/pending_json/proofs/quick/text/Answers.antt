@@ -1,6 +1,6 @@
 use Rattle.std.proofs.Common.{◌∙◌, ap}
-use Rattle.std.proofs.lemmas.Str.{is_utf8-from_IsUtf8}
-use Rattle.std.specs.Str.{is_utf8}
+use Rattle.proof_base.proofs.Common.{is_utf8-from_IsUtf8}
+use Rattle.pending_json.specs.Prelude.{is_utf8}
 use Rattle.pending_json.proofs.quick.text.Goals as goal
 
 pub returns-in_ok-copied-in-Ok : goal.returns-in_ok-copied-in-Ok

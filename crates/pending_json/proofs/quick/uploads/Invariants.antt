@@ -1,6 +1,5 @@
 use Rattle.std.proofs.Common.{length}
-use Rattle.std.specs.List.{AllByRecursion}
-use Rattle.pending_json.specs.Records.{IsPending}
+use Rattle.pending_json.specs.Prelude.{AllByRecursion, IsPending}
 use Rattle.pending_json.proofs.quick.uploads.Given as goal
 
 abbrev pub invariant-loop-draft : goal.invariant-loop-draft

@@ -1,5 +1,5 @@
 use Rattle.std.proofs.Common.{take}
-use Rattle.serde.specs.Event.{WritesEach}
+use Rattle.pending_json.specs.Prelude.{WritesEach}
 use Rattle.pending_json.proofs.Sent.{WritesText}
 use Rattle.pending_json.proofs.sending.send_texts.Given as goal
 

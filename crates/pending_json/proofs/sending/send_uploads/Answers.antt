@@ -1,6 +1,5 @@
-use Rattle.std.proofs.lemmas.Result.{on_ok_weaker}
-use Rattle.serde_json.specs.Events.{SendsValue}
-use Rattle.pending_json.specs.Trees.{pending_tree}
+use Rattle.proof_base.proofs.Common.{on_ok_weaker}
+use Rattle.pending_json.specs.Prelude.{SendsValue, pending_tree}
 use Rattle.pending_json.proofs.Sent.{seq_sent}
 use Rattle.pending_json.proofs.sending.send_uploads.Goals as goal
 

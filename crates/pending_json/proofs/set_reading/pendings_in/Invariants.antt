@@ -1,6 +1,6 @@
 use Rattle.std.proofs.Common.{◌≡◌, drop}
+use Rattle.pending_json.specs.Prelude.{items_view}
 use Rattle.proof_base.proofs.Reading.{with_front}
-use Rattle.serde_json.specs.View.{items_view}
 use Rattle.pending_json.specs.Reading.{pendings_in}
 use Rattle.pending_json.proofs.set_reading.pendings_in.Given as goal
 

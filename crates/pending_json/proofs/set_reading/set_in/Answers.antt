@@ -1,8 +1,7 @@
 use Rattle.std.proofs.Common.{Result, subst}
-use Rattle.serde_json.specs.View.{view}
+use Rattle.pending_json.specs.Prelude.{view, Gives}
 use Rattle.pending_json.specs.declared.fault.RecordFault.{RecordFault}
 use Rattle.pending_json.specs.declared.records.PendingSet.{PendingSet}
-use Rattle.pending_json.specs.Fault.{Gives}
 use Rattle.pending_json.proofs.Whole.{set_whole}
 use Rattle.pending_json.proofs.set_reading.set_in.Goals as goal
 

@@ -1,7 +1,6 @@
 use Rattle.std.proofs.Common.{◌≡◌}
+use Rattle.pending_json.specs.Prelude.{only_fields, is_field_of}
 use Rattle.serde_json.specs.View.{members_view}
-use Rattle.pending_json.specs.Fields.{only_fields}
-use Rattle.pending_json.specs.Reading.{is_field_of}
 use Rattle.pending_json.proofs.table.no_others.Given as goal
 
 abbrev pub invariant-loop-name : goal.invariant-loop-name

@@ -1,6 +1,5 @@
 use Rattle.std.proofs.Common.{◌≡◌, ◌++◌, drop, option_map}
-use Rattle.serde_json.specs.View.{items_view}
-use Rattle.pending_json.specs.Fields.{all_of, as_tag}
+use Rattle.pending_json.specs.Prelude.{items_view, all_of, as_tag}
 use Rattle.pending_json.proofs.tags.tags.Given as goal
 
 abbrev pub invariant-loop-value : goal.invariant-loop-value

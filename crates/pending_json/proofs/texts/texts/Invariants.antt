@@ -1,7 +1,5 @@
 use Rattle.std.proofs.Common.{◌≡◌, ◌++◌, drop, option_map}
-use Rattle.serde_json.specs.Find.{as_str}
-use Rattle.serde_json.specs.View.{items_view}
-use Rattle.pending_json.specs.Fields.{all_of}
+use Rattle.pending_json.specs.Prelude.{as_str, items_view, all_of}
 use Rattle.pending_json.proofs.texts.texts.Given as goal
 
 abbrev pub invariant-loop-value : goal.invariant-loop-value

@@ -1,5 +1,5 @@
 use Rattle.std.proofs.Common.{◌≡◌, ◌++◌, drop, string_bytes}
-use Rattle.std.specs.List.{flat_map}
+use Rattle.fs_ops.specs.Prelude.{flat_map}
 use Rattle.s3a_shell.specs.Texts.{marker_line}
 use Rattle.s3a_shell.proofs.markers.marker_lines.Given as goal
 

@@ -1,9 +1,6 @@
 use Rattle.std.proofs.Common.{◌≡◌, ◌≤◌, ◌∙◌, ℕ, true, false, None, ap, length, sym, subst}
-use Rattle.s3_types.specs.Store.{Scene, opening}
-use Rattle.s3_types.specs.Moment.{moment, IsHonest}
-use Rattle.s3_types.specs.declared.request.Actor.TheVariants.{Shell}
-use Rattle.machine.specs.Counted.{AreAnswered}
-use Rattle.machine.specs.Turns.{AreBy}
+use Rattle.fs_ops.specs.Prelude.{Scene, opening, moment, IsHonest, Shell}
+use Rattle.bucket_walks.specs.Prelude.{AreAnswered, AreBy}
 use Rattle.s3a_shell.specs.declared.obeying.ShellEnd.{ShellEnd}
 use Rattle.s3a_shell.specs.Doings.{only_looks, Does, MayStandAt}
 use Rattle.s3_service.specs.Ids.{AreBelow}

@@ -1,5 +1,5 @@
 use Rattle.std.proofs.Common.{◌≡◌, ◌++◌, drop, string_bytes}
-use Rattle.std.specs.List.{flat_map}
+use Rattle.fs_ops.specs.Prelude.{flat_map}
 use Rattle.s3a_shell.specs.Texts.{entry_line}
 use Rattle.s3a_shell.proofs.statuses.entry_lines.Given as goal
 

@@ -1,5 +1,5 @@
 use Rattle.std.proofs.Common.{arith, rules}
-use Rattle.std.proofs.lemmas.List.{length-take}
+use Rattle.job_spec.proofs.Common.{length-take}
 use Rattle.s3a_top.proofs.Pieces.{full_read, ended_read, more_taken}
 use Rattle.s3a_top.proofs.input.read_input.Goals as goal
 

@@ -1,7 +1,5 @@
 use Rattle.std.proofs.Common.{ap, ◌∙◌}
-use Rattle.s3_types.specs.Store.{Content}
-use Rattle.s3_types.specs.Answer.{apply_store}
-use Rattle.s3_types.specs.declared.request.Request.TheVariants.{MakeBucket}
+use Rattle.job_spec.specs.Prelude.{Content, apply_store, MakeBucket}
 use Rattle.s3a_top.proofs.Beginning.{new_image}
 use Rattle.s3a_top.proofs.jobs.new_store.Goals as goal
 

@@ -1,5 +1,5 @@
 use Rattle.std.proofs.Common.{◌≡◌, ◌∙◌, ap, ap₂, codes, rules, true}
-use Rattle.std.proofs.lemmas.Result.{IfOk-weaker}
+use Rattle.path_keys.proofs.Common.{IfOk-weaker}
 use Rattle.clap.specs.Words.{app_of, new_rule, rule_of, with_rule}
 use Rattle.clap.specs.Simple.{app_of_fields, on_top}
 use Rattle.s3a_words.specs.Grammar.{bare, command_rule, grammar}

@@ -1,10 +1,8 @@
 use Rattle.std.proofs.Common.{◌≡◌, rules, ℕ, List, Option, None, Some, Ok, Err, refl, sym, ap, subst, ◌∙◌}
+use Rattle.s3_types.specs.Prelude.{text_cmp, text_total, Fails, is_bucket, BucketContent, Buckets, Content}
 use Rattle.std.specs.FinMap as fin
-use Rattle.proof_base.specs.Order.{text_cmp, text_total}
-use Rattle.proof_base.specs.Reading.{made, Fails}
+use Rattle.proof_base.specs.Reading.{made}
 use Rattle.proof_base.proofs.Reading.{gives_fault, made_fault}
-use Rattle.s3_types.specs.Names.{is_bucket}
-use Rattle.s3_types.specs.Store.{BucketContent, Buckets, Content}
 use Rattle.s3_service.specs.Ids.{IsFresh}
 use Rattle.store_image.specs.Fault.{wanting}
 use Rattle.store_image.specs.Reading.{name_at, bucket_at}

@@ -1,6 +1,5 @@
 use Rattle.std.proofs.Common.{◌≡◌, ◌-◌}
-use Rattle.proof_base.specs.Order.{text_cmp}
-use Rattle.s3_types.specs.Names.{is_bucket}
+use Rattle.s3_types.specs.Prelude.{text_cmp, is_bucket}
 use Rattle.store_image.specs.Reading.{name_at, bucket_at, rising_at, map_at}
 use Rattle.store_image.proofs.Loop.{built}
 use Rattle.store_image.proofs.Maps.{IsFree}

@@ -1,6 +1,6 @@
 use Rattle.std.proofs.Common.{◌≡◌, arith}
+use Rattle.s3_types.specs.Prelude.{Content}
 use Rattle.proof_base.proofs.Reading.{found_so, only}
-use Rattle.s3_types.specs.Store.{Content}
 use Rattle.store_image.specs.Content.{IsContent}
 use Rattle.store_image.specs.Fault.{wanting}
 use Rattle.store_image.specs.Image.{image}

@@ -1,6 +1,6 @@
 use Rattle.std.proofs.Common.{◌≡◌, rules, Some, Err}
+use Rattle.s3_types.specs.Prelude.{is_key}
 use Rattle.proof_base.proofs.Reading.{gives_fault}
-use Rattle.s3_types.specs.Names.{is_key}
 use Rattle.store_image.specs.Fault.{wanting}
 use Rattle.store_image.specs.Reading.{name_at, object_at}
 use Rattle.store_image.proofs.Loop.{first_step, one_more, last_step, value_fails}

@@ -1,11 +1,9 @@
 use Rattle.std.proofs.Common.{◌≡◌, Option, Some, Ok, ap, subst, sym, refl, ◌∙◌, nat_cmp}
-use Rattle.std.specs.Option.{IsSome}
+use Rattle.s3_types.specs.Prelude.{IsSome, w64, Parts, Upload}
+use Rattle.proof_base.proofs.Common.{nat_cmp_total}
 use Rattle.std.specs.FinMap as fin
-use Rattle.std.specs.Int.{w64}
-use Rattle.std.proofs.lemmas.Cmp.{nat_cmp_total}
 use Rattle.proof_base.specs.Reading.{made}
 use Rattle.proof_base.proofs.Tree.{insert_same}
-use Rattle.s3_types.specs.Store.{Parts, Upload}
 use Rattle.store_image.specs.Reading.{part_number_at, block_at}
 use Rattle.store_image.proofs.Loop.{first_step, one_more, last_step}
 use Rattle.store_image.proofs.Maps.{held_live, part_held}

@@ -1,7 +1,6 @@
 use Rattle.std.proofs.Common.{◌≡◌, ◌-◌}
+use Rattle.s3_types.specs.Prelude.{w64, Parts}
 use Rattle.std.specs.FinMap as fin
-use Rattle.std.specs.Int.{w64}
-use Rattle.s3_types.specs.Store.{Parts}
 use Rattle.store_image.specs.Reading.{part_number_at, block_at, rising_at, map_at}
 use Rattle.store_image.proofs.Loop.{built}
 use Rattle.store_image.proofs.reading.parts_of.Given as goal

@@ -1,6 +1,6 @@
 use Rattle.std.proofs.Common.{◌≡◌, ap, ◌∙◌, rules, subst, ℕ, List}
+use Rattle.s3_types.specs.Prelude.{Upload}
 use Rattle.std.specs.FinMap as fin
-use Rattle.s3_types.specs.Store.{Upload}
 use Rattle.store_image.specs.Fault.{GivesBy}
 use Rattle.store_image.proofs.Loop.{upload_is}
 use Rattle.store_image.proofs.Maps.{held_at}

@@ -1,8 +1,8 @@
 use Rattle.std.proofs.Common.{◌≡◌, rules, None, Some, Err, refl, sym, subst, nat_cmp}
+use Rattle.proof_base.proofs.Common.{nat_cmp_total}
+use Rattle.s3_types.specs.Prelude.{Upload}
 use Rattle.std.specs.FinMap as fin
-use Rattle.std.proofs.lemmas.Cmp.{nat_cmp_total}
 use Rattle.proof_base.proofs.Reading.{gives_fault, unmade, unmade_fault}
-use Rattle.s3_types.specs.Store.{Upload}
 use Rattle.s3_service.specs.Ids.{IsFresh}
 use Rattle.store_image.specs.Fault.{wanting}
 use Rattle.store_image.specs.Reading.{id_at, upload_at}

@@ -1,6 +1,5 @@
 use Rattle.std.proofs.Common.{◌≡◌, ◌++◌}
-use Rattle.std.specs.Int.{w64}
-use Rattle.std.specs.List.{flat_map}
+use Rattle.s3_types.specs.Prelude.{w64, flat_map}
 use Rattle.store_image.specs.Image.{counted, object}
 use Rattle.store_image.proofs.writing.put_objects.Given as goal
 

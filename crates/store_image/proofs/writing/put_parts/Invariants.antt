@@ -1,7 +1,5 @@
 use Rattle.std.proofs.Common.{◌≡◌, ◌++◌, true}
-use Rattle.std.specs.Int.{w16}
-use Rattle.std.specs.List.{flat_map, AllByRecursion}
-use Rattle.s3_types.specs.Multipart.{is_part_number}
+use Rattle.s3_types.specs.Prelude.{w16, flat_map, AllByRecursion, is_part_number}
 use Rattle.store_image.specs.Image.{counted, part}
 use Rattle.store_image.proofs.writing.put_parts.Given as goal
 

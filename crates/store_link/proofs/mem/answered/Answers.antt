@@ -1,7 +1,6 @@
 use Rattle.std.proofs.Common.{◌≡◌, ◌≤◌, ◌+◌, Result, Ok, Err, subst, sym}
 use Rattle.std.specs.Prelude.{OnOk}
-use Rattle.s3_types.specs.Store.{Content}
-use Rattle.s3_types.specs.Answer.{apply_store}
+use Rattle.s3_types.specs.Prelude.{Content, apply_store}
 use Rattle.s3_types.specs.declared.request.Request.{Request}
 use Rattle.store_link.proofs.Ids.{next_store}
 use Rattle.store_link.proofs.mem.answered.Goals as goal

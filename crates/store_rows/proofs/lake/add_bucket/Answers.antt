@@ -1,8 +1,6 @@
 use Rattle.std.proofs.Common.{◌∙◌, ap}
-use Rattle.std.specs.FinMap.{get, get-empty}
-use Rattle.std.specs.Ordering.{nat_cmp}
-use Rattle.proof_base.specs.Order.{text_cmp}
-use Rattle.s3_types.specs.Store.{Content, Uploads}
+use Rattle.s3_types.specs.Prelude.{get, get-empty}
+use Rattle.fs_ops.specs.Prelude.{nat_cmp, text_cmp, Content, Uploads}
 use Rattle.store_rows.proofs.lake.add_bucket.Goals as goal
 
 pub add_bucket-requires-clause-absent : goal.add_bucket-requires-clause-absent

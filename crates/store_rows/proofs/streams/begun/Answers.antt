@@ -1,7 +1,6 @@
 use Rattle.std.proofs.Common.{◌≤◌, [], arith, ap}
+use Rattle.fs_ops.specs.Prelude.{text_total, new_bucket}
 use Rattle.std.specs.FinMap as fin
-use Rattle.proof_base.specs.Order.{text_total}
-use Rattle.s3_types.specs.Store.{new_bucket}
 use Rattle.block_stream.proofs.PartLaws.{get_same}
 use Rattle.block_stream.specs.Stream.{Stream}
 use Rattle.store_rows.specs.Lake.{lake}

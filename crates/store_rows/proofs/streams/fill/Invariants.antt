@@ -1,5 +1,5 @@
 use Rattle.std.proofs.Common.{◌≡◌, Bool, false}
-use Rattle.s3_types.specs.Store.{Scene}
+use Rattle.fs_ops.specs.Prelude.{Scene}
 use Rattle.block_stream.specs.Holds.{IsReady}
 use Rattle.store_rows.proofs.streams.fill.Given as goal
 

@@ -1,6 +1,6 @@
 use Rattle.std.proofs.Common.{◌∙◌, ap, sym, length, take, List, ℕ, ◌++◌, ◌∷◌, [], ◌+◌, map}
-use Rattle.std.proofs.lemmas.List.{take_more}
-use Rattle.job_model.specs.Jobs.{Task}
+use Rattle.path_keys.proofs.Common.{take_more}
+use Rattle.job_protocol.specs.Prelude.{Task}
 use Rattle.task_requests.specs.Publishing.{are_places, picked}
 use Rattle.task_magic.specs.Committing.{record_of}
 use Rattle.task_magic.proofs.Listed.{first_seen, ordered_with, records_with, seen_with, places_with, within_seen}

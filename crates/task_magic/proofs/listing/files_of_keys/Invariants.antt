@@ -1,6 +1,5 @@
 use Rattle.std.proofs.Common.{◌≡◌, length, take, true}
-use Rattle.job_protocol.specs.AtWork.{task_script, who_of}
-use Rattle.job_protocol.specs.TaskCommits.{in_order}
+use Rattle.job_protocol.specs.Prelude.{task_script, who_of, in_order}
 use Rattle.task_requests.specs.Publishing.{picked, are_places}
 use Rattle.task_magic.specs.Committing.{AreRecords, seen_in}
 use Rattle.task_magic.proofs.listing.files_of_keys.Given as goal

@@ -1,6 +1,5 @@
 use Rattle.std.proofs.Common.{refl, get_or, []}
-use Rattle.job_protocol.specs.AtWork.{task_script}
-use Rattle.job_protocol.specs.Records.{file_key}
+use Rattle.job_protocol.specs.Prelude.{task_script, file_key}
 use Rattle.task_requests.proofs.Steps.{at_place, begun_told_by, begun_kept_by}
 use Rattle.task_magic.proofs.stepping.begin.Goals as goal
 

@@ -1,5 +1,5 @@
 use Rattle.std.proofs.Common.{ap, length, arith}
-use Rattle.job_model.specs.Jobs.{Task}
+use Rattle.job_protocol.specs.Prelude.{Task}
 use Rattle.task_magic.proofs.stepping.next_place.Goals as goal
 
 pub overflow_add-result : goal.overflow_add-result

@@ -1,6 +1,6 @@
 use Rattle.std.proofs.Common.{◌∙◌, ap}
+use Rattle.job_protocol.specs.Prelude.{Task}
 use Rattle.task_requests.proofs.Placed.{named_elements, named_short}
-use Rattle.job_model.specs.Jobs.{Task}
 use Rattle.task_requests.proofs.names.target.Goals as goal
 
 pub file_key-requires-clause-elements : goal.file_key-requires-clause-elements

@@ -1,5 +1,5 @@
 use Rattle.std.proofs.Common.{ℕ, List, take}
-use Rattle.proof_base.specs.Order.{text_eq}
+use Rattle.job_protocol.specs.Prelude.{text_eq}
 use Rattle.indexmap.specs.IndexMap.{get}
 use Rattle.task_requests.specs.Publishing.{IsLastAt}
 use Rattle.task_requests.proofs.publishing.last_places.Given as goal

@@ -1,8 +1,6 @@
 use Rattle.std.proofs.Common.{◌∙◌, ap, slice_get}
-use Rattle.proof_base.specs.Order.{text_eq}
+use Rattle.job_protocol.specs.Prelude.{text_eq, Task, as_made}
 use Rattle.indexmap.specs.IndexMap.{get}
-use Rattle.job_model.specs.Jobs.{Task}
-use Rattle.job_protocol.specs.Knowledge.{as_made}
 use Rattle.task_requests.proofs.Steps.{ok_as}
 use Rattle.task_requests.proofs.LastDrawn.{not_none, not_behind, drawn_tags, drawn_sizes, same_record}
 use Rattle.task_requests.proofs.publishing.pending_at.Goals as goal

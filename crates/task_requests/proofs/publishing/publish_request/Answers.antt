@@ -1,6 +1,6 @@
 use Rattle.std.proofs.Common.{◌∙◌, ap}
+use Rattle.job_protocol.specs.Prelude.{Job, Task}
 use Rattle.magic_paths.specs.Layout as layout
-use Rattle.job_model.specs.Jobs.{Job, Task}
 use Rattle.task_requests.specs.Publishing.{picked}
 use Rattle.task_requests.proofs.LastDrawn.{put_is}
 use Rattle.task_requests.proofs.publishing.publish_request.Goals as goal

@@ -1,10 +1,5 @@
 use Rattle.std.proofs.Common.{◌≡◌, ◌∙◌, ◌+◌, ap, List, [], ◌∷◌, ℕ, Some, slice_get}
-use Rattle.s3_types.specs.declared.request.Request.TheVariants.{UploadPart}
-use Rattle.job_model.specs.Jobs.{Task}
-use Rattle.job_model.specs.Known.{Drawn}
-use Rattle.job_protocol.specs.AtWork.{task_script}
-use Rattle.job_protocol.specs.Knowledge.{first_drawn}
-use Rattle.job_protocol.specs.Records.{file_key}
+use Rattle.job_protocol.specs.Prelude.{UploadPart, Task, Drawn, task_script, first_drawn, file_key}
 use Rattle.task_requests.specs.Writing.{part_behind}
 use Rattle.task_requests.proofs.Steps.{ok_as}
 use Rattle.task_requests.proofs.requests.ask_next.Goals as goal

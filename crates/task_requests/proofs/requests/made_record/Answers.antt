@@ -1,5 +1,5 @@
 use Rattle.std.proofs.Common.{◌≡◌, ℕ, true, List, length, Option, Some, sym, ap, subst, ◌∙◌}
-use Rattle.pending_json.specs.Pending.{are_sizes}
+use Rattle.job_protocol.specs.Prelude.{are_sizes}
 use Rattle.job_protocol.proofs.Sizes.{sizes_told}
 use Rattle.task_requests.proofs.requests.made_record.Goals as goal
 

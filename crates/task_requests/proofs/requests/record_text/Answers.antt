@@ -1,11 +1,5 @@
 use Rattle.std.proofs.Common.{◌∙◌, ap, slice_get}
-use Rattle.serde_json.specs.Written.{compact_text}
-use Rattle.pending_json.specs.Trees.{pending_tree}
-use Rattle.pending_json.specs.Pending.{Pending}
-use Rattle.job_model.specs.Jobs.{Task}
-use Rattle.job_model.specs.Known.{Drawn}
-use Rattle.job_protocol.specs.AtWork.{task_script, who_of}
-use Rattle.job_protocol.specs.Records.{record_text}
+use Rattle.job_protocol.specs.Prelude.{compact_text, pending_tree, Pending, Task, Drawn, task_script, who_of, record_text}
 use Rattle.task_requests.proofs.Steps.{record_tags, record_sizes, record_last, ok_as}
 use Rattle.task_requests.proofs.requests.record_text.Goals as goal
 

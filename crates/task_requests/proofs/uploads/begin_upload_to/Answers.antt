@@ -1,12 +1,7 @@
 use Rattle.std.proofs.Common.{◌∙◌, ap, sym, List, ℕ}
-use Rattle.s3_types.specs.declared.request.Request.TheVariants.{UploadPart}
-use Rattle.job_model.specs.Files.{File}
-use Rattle.job_model.specs.Jobs.{Task}
-use Rattle.job_model.specs.Known.{Known}
+use Rattle.job_protocol.specs.Prelude.{UploadPart, File, Task, Known, task_script, file_key}
+use Rattle.path_keys.proofs.Common.{some_parts}
 use Rattle.job_model.specs.contracts.plan.TaskPlan.{the_view}
-use Rattle.job_protocol.specs.AtWork.{task_script}
-use Rattle.job_protocol.specs.Records.{file_key}
-use Rattle.s3_types.proofs.Blocks.{some_parts}
 use Rattle.task_requests.specs.Writing.{size_of, part_behind, with_drawn}
 use Rattle.task_requests.proofs.Steps.{known_of, file_is, begun_asked, begun_drawn}
 use Rattle.task_requests.proofs.uploads.begin_upload_to.Goals as goal

@@ -1,6 +1,5 @@
 use Rattle.std.proofs.Common.{ap, ◌∙◌}
-use Rattle.job_model.specs.Jobs.{Job}
-use Rattle.job_protocol.specs.Conflicts.{checks_partitions}
+use Rattle.job_protocol.specs.Prelude.{Job, checks_partitions}
 use Rattle.task_staging.proofs.opening.is_checked.Goals as goal
 
 pub returns : goal.returns

@@ -1,5 +1,5 @@
 use Rattle.std.proofs.Common.{ap, sym, subst}
-use Rattle.job_model.specs.Files.{File}
+use Rattle.job_protocol.specs.Prelude.{File}
 use Rattle.task_requests.specs.Writing.{IsBehind, parts_in, asks_behind}
 use Rattle.task_requests.specs.declared.stage.WriteStage.TheVariants as write_stages
 use Rattle.task_requests.proofs.Steps.{file_is, ok_as}

@@ -1,5 +1,5 @@
 use Rattle.std.proofs.Common.{◌<◌, ap, sym, subst, ◌∙◌, length}
-use Rattle.job_model.specs.Files.{File}
+use Rattle.job_protocol.specs.Prelude.{File}
 use Rattle.task_requests.specs.Writing.{parts_in, part_behind, next_stage}
 use Rattle.task_requests.proofs.Steps.{file_is}
 use Rattle.task_staging.proofs.staging.behind_at.Goals as goal

@@ -1,8 +1,6 @@
 use Rattle.std.proofs.Common.{ap, ◌∙◌}
-use Rattle.job_model.specs.Files.{File}
+use Rattle.job_protocol.specs.Prelude.{File, task_script, file_key}
 use Rattle.job_model.specs.declared.ends.TaskEnd.TheVariants as ends
-use Rattle.job_protocol.specs.AtWork.{task_script}
-use Rattle.job_protocol.specs.Records.{file_key}
 use Rattle.task_requests.proofs.Steps.{file_is}
 use Rattle.task_staging.proofs.staging.gone_end.Goals as goal
 

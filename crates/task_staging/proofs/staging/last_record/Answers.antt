@@ -1,5 +1,5 @@
 use Rattle.std.proofs.Common.{ap, sym, ◌∙◌, slice_get}
-use Rattle.job_model.specs.Jobs.{Task}
+use Rattle.job_protocol.specs.Prelude.{Task}
 use Rattle.task_requests.proofs.Steps.{file_is, ok_as}
 use Rattle.task_staging.proofs.Records.{last_tags, last_sizes}
 use Rattle.task_staging.proofs.Staged.{record_at}

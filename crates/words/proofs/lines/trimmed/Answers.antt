@@ -1,5 +1,5 @@
 use Rattle.std.proofs.Common.{None, Some, arith}
-use Rattle.std.proofs.lemmas.Str.Pattern.{strip_suffix_char}
+use Rattle.proof_base.proofs.Common.{strip_suffix_char}
 use Rattle.words.proofs.Cuts.{no_return, one_return}
 use Rattle.words.proofs.lines.trimmed.Goals as goal
 

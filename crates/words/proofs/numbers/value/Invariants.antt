@@ -1,5 +1,5 @@
 use Rattle.std.proofs.Common.{◌≡◌, ◌<◌, ◌^◌, true, drop}
-use Rattle.std.specs.List.{list_all}
+use Rattle.proof_base.specs.Prelude.{list_all}
 use Rattle.words.specs.Numbers.{digits_from, is_digit}
 use Rattle.words.proofs.numbers.value.Given as goal
 

@@ -1,5 +1,5 @@
 use Rattle.std.proofs.Common.{◌≡◌, true, take}
-use Rattle.std.specs.List.{list_all}
+use Rattle.proof_base.specs.Prelude.{list_all}
 use Rattle.words.specs.Parts.{is_other}
 use Rattle.words.proofs.parts.part_end.Given as goal
 

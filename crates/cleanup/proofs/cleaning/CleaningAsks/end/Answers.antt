@@ -1,6 +1,5 @@
 use Rattle.std.proofs.Common.{◌≡◌, None, sym, subst, ◌∙◌}
-use Rattle.job_protocol.specs.AtWork.{Driving}
-use Rattle.job_protocol.specs.Cleanups.{Clean, clean_over}
+use Rattle.job_protocol.specs.Prelude.{Driving, Clean, clean_over}
 use Rattle.cleanup.proofs.Places.{over_is, not_over}
 use Rattle.cleanup.proofs.cleaning.CleaningAsks.end.Goals as goal
 

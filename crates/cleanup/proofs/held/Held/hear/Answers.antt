@@ -1,6 +1,5 @@
 use Rattle.std.proofs.Common.{ap, ◌∙◌, length}
-use Rattle.job_model.specs.Jobs.{Job}
-use Rattle.job_protocol.specs.AtWork.{job_script}
+use Rattle.job_protocol.specs.Prelude.{Job, job_script}
 use Rattle.cleanup.specs.Held.{clean_of, behind}
 use Rattle.cleanup.proofs.Places.{hears_aborting, hears_removing}
 use Rattle.cleanup.proofs.held.Held.hear.Goals as goal

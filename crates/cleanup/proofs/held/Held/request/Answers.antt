@@ -1,7 +1,5 @@
 use Rattle.std.proofs.Common.{◌≡◌, ap, ◌∙◌, subst, drop, IfOk, Option}
-use Rattle.s3_types.specs.declared.request.Request.{Request}
-use Rattle.job_model.specs.Jobs.{Job}
-use Rattle.job_protocol.specs.AtWork.{job_script}
+use Rattle.job_protocol.specs.Prelude.{Request, Job, job_script}
 use Rattle.cleanup.specs.Held.{abort_asks, remove_asks}
 use Rattle.cleanup.proofs.Places.{asks_at_aborting, asks_at_removing}
 use Rattle.cleanup.proofs.held.Held.request.Goals as goal

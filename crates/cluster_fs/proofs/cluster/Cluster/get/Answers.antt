@@ -1,6 +1,6 @@
 use Rattle.std.proofs.Common.{ap, ◌∙◌, sym}
+use Rattle.s3_types.specs.Prelude.{text_total}
 use Rattle.std.specs.FinMap as map
-use Rattle.proof_base.specs.Order.{text_total}
 use Rattle.proof_base.proofs.Tree.{get_made}
 use Rattle.cluster_fs.proofs.cluster.Cluster.get.Goals as goal
 

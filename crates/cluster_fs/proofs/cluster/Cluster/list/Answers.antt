@@ -1,11 +1,8 @@
 use Rattle.std.proofs.Common.{◌≡◌, ℕ, List, ap, sym, ◌∙◌, subst}
 use Rattle.std.specs.Prelude.{IfOk}
+use Rattle.s3_types.specs.Prelude.{filter, keys_of, text_total, begins}
 use Rattle.std.specs.FinMap as map
-use Rattle.std.specs.List.{filter}
-use Rattle.std.specs.Map.{keys_of}
-use Rattle.proof_base.specs.Order.{text_total}
 use Rattle.proof_base.proofs.Tree.{entries_made}
-use Rattle.s3_types.specs.Pages.{begins}
 use Rattle.cluster_fs.proofs.Listed.{is_rest}
 use Rattle.cluster_fs.proofs.cluster.Cluster.list.Goals as goal
 

@@ -1,7 +1,7 @@
 use Rattle.std.proofs.Common.{◌∙◌, ap}
+use Rattle.proof_base.proofs.Common.{exact_bytes}
+use Rattle.s3_types.specs.Prelude.{text_total}
 use Rattle.std.specs.FinMap as map
-use Rattle.std.proofs.lemmas.Map.Lookups.{exact_bytes}
-use Rattle.proof_base.specs.Order.{text_total}
 use Rattle.proof_base.proofs.Tree.{made_insert}
 use Rattle.cluster_fs.proofs.cluster.Cluster.put.Goals as goal
 

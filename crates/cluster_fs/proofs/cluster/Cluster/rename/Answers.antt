@@ -1,8 +1,6 @@
 use Rattle.std.proofs.Common.{◌≡◌, ℕ, List, Option, Some, Bool, true, false, not, ap, ◌∙◌, sym}
+use Rattle.s3_types.specs.Prelude.{text_eq, Files, renamed}
 use Rattle.std.specs.FinMap as map
-use Rattle.proof_base.specs.Order.{text_eq}
-use Rattle.s3_types.specs.Store.{Files}
-use Rattle.s3_types.specs.Answer.{renamed}
 use Rattle.cluster_fs.proofs.Renamed.{onto_itself, onto_another}
 use Rattle.cluster_fs.proofs.cluster.Cluster.rename.Goals as goal
 use Rattle.cluster_fs.proofs.cluster.Cluster.rename.Goals.{then-ne, else-ne}

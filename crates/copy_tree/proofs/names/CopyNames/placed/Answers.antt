@@ -1,7 +1,5 @@
 use Rattle.std.proofs.Common.{ap, sym, ◌∙◌}
-use Rattle.std.specs.Option.{option_copied}
-use Rattle.fs_tree.specs.Tree.{is_marker}
-use Rattle.fs_ops.specs.Places.{prefix_of}
+use Rattle.fs_ops.specs.Prelude.{option_copied, is_marker, prefix_of}
 use Rattle.copy_tree.specs.code.Copy.{CopyPaths}
 use Rattle.fs_rename.proofs.Places.{place_marker}
 use Rattle.copy_tree.proofs.names.CopyNames.placed.Goals as goal

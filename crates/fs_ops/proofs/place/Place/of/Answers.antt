@@ -1,6 +1,5 @@
 use Rattle.std.proofs.Common.{ap, sym, ◌∙◌}
-use Rattle.s3_types.specs.Names.{is_key_path}
-use Rattle.path_keys.specs.Paths.{is_key}
+use Rattle.fs_ops.specs.Prelude.{is_key_path, is_key}
 use Rattle.fs_ops.proofs.Names.{is_place, path_key, kept_as}
 use Rattle.fs_ops.proofs.place.Place.of.Goals as goal
 

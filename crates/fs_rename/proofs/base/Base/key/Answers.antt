@@ -1,5 +1,5 @@
 use Rattle.std.proofs.Common.{ap, ◌∙◌}
-use Rattle.s3_types.specs.Names.{are_elements}
+use Rattle.fs_ops.specs.Prelude.{are_elements}
 use Rattle.fs_rename.proofs.NewKeys.{base_key}
 use Rattle.fs_rename.proofs.base.Base.key.Goals as goal
 

@@ -1,6 +1,5 @@
 use Rattle.std.proofs.Common.{rules, ◌≡◌, ◌++◌, Some}
-use Rattle.dir_markers.specs.Markers.{marker_of}
-use Rattle.fs_ops.specs.code.List.{rest_of}
+use Rattle.fs_ops.specs.Prelude.{marker_of, rest_of}
 use Rattle.fs_rename.proofs.NewKeys.{new_legal}
 use Rattle.fs_rename.proofs.base.Base.new_key.Goals as goal
 

@@ -1,5 +1,5 @@
 use Rattle.std.proofs.Common.{◌≡◌, drop}
-use Rattle.dir_markers.specs.Markers.{marker_of}
+use Rattle.fs_ops.specs.Prelude.{marker_of}
 use Rattle.fs_rename.specs.Keys.{with_front, new_keys}
 use Rattle.fs_rename.proofs.base.Base.new_keys.Given as goal
 

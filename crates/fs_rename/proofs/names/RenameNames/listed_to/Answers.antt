@@ -1,7 +1,5 @@
 use Rattle.std.proofs.Common.{ap, sym, ◌∙◌}
-use Rattle.std.specs.Option.{option_copied}
-use Rattle.fs_tree.specs.Tree.{is_marker}
-use Rattle.fs_ops.specs.Places.{prefix_of}
+use Rattle.fs_ops.specs.Prelude.{option_copied, is_marker, prefix_of}
 use Rattle.fs_rename.specs.code.Rename.{Renaming}
 use Rattle.fs_rename.proofs.Inside.{place_marker}
 use Rattle.fs_rename.proofs.names.RenameNames.listed_to.Goals as goal

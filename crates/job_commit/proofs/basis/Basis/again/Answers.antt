@@ -1,5 +1,5 @@
 use Rattle.std.proofs.Common.{ap, ◌∙◌}
-use Rattle.job_model.specs.Jobs.{Job}
+use Rattle.job_protocol.specs.Prelude.{Job}
 use Rattle.job_commit.proofs.Goings.{count_fits, again_counted}
 use Rattle.job_commit.proofs.basis.Basis.again.Goals as goal
 

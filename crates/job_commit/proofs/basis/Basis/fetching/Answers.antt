@@ -1,5 +1,5 @@
 use Rattle.std.proofs.Common.{ap}
-use Rattle.job_model.specs.Jobs.{Job}
+use Rattle.job_protocol.specs.Prelude.{Job}
 use Rattle.job_commit.proofs.Steps.{fetching_is}
 use Rattle.job_commit.proofs.basis.Basis.fetching.Goals as goal
 

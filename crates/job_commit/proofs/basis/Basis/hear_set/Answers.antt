@@ -1,4 +1,4 @@
-use Rattle.job_protocol.specs.JobCommits.{set_read}
+use Rattle.job_protocol.specs.Prelude.{set_read}
 use Rattle.job_commit.proofs.Goings.{more_read, picks_of_more}
 use Rattle.job_commit.proofs.basis.Basis.hear_set.Goals as goal
 

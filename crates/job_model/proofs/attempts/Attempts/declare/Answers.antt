@@ -1,5 +1,5 @@
 use Rattle.std.proofs.Common.{◌∙◌}
-use Rattle.job_model.specs.Attempts.{same_name}
+use Rattle.job_model.specs.Prelude.{same_name}
 use Rattle.job_model.proofs.Entries.{insert_new}
 use Rattle.job_model.proofs.attempts.Attempts.declare.Goals as goal
 

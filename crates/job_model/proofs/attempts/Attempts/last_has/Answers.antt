@@ -1,5 +1,5 @@
 use Rattle.std.proofs.Common.{◌∙◌, ap, sym, List}
-use Rattle.job_model.specs.Files.{File, has_path}
+use Rattle.job_model.specs.Prelude.{File, has_path}
 use Rattle.job_model.proofs.Entries.{last_entry}
 use Rattle.job_model.proofs.attempts.Attempts.last_has.Goals as goal
 

@@ -1,5 +1,5 @@
 use Rattle.std.proofs.Common.{◌∙◌}
-use Rattle.proof_base.specs.Order.{text_eq}
+use Rattle.job_model.specs.Prelude.{text_eq}
 use Rattle.job_model.proofs.Entries.{insert_new}
 use Rattle.job_model.proofs.files.FileList.add.Goals as goal
 

@@ -1,9 +1,6 @@
 use Rattle.std.proofs.Common.{ap, subst, ◌∙◌, ◌++◌}
 use Rattle.std.specs.Prelude.{codes}
-use Rattle.job_model.specs.Jobs.{Job}
-use Rattle.job_model.specs.Plans.{IsJob}
-use Rattle.job_protocol.specs.AtWork.{job_script}
-use Rattle.list_walk.specs.Walks.{keys_on}
+use Rattle.job_protocol.specs.Prelude.{Job, IsJob, job_script, keys_on}
 use Rattle.job_setup.proofs.Shown.{dest_some, page_conflict, page_more, page_whole}
 use Rattle.job_setup.proofs.held.Held.hear_page.Goals as goal
 

@@ -1,9 +1,5 @@
 use Rattle.std.proofs.Common.{◌∙◌, List, sym, ap, subst, arith}
-use Rattle.job_model.specs.Attempts.{Declared}
-use Rattle.job_model.specs.JobScript.{Script}
-use Rattle.job_model.specs.Legal.{AreEvents}
-use Rattle.job_model.specs.declared.events.Event.{Event}
-use Rattle.job_spec.specs.States.{after_event, past_from}
+use Rattle.job_spec.specs.Prelude.{Declared, Script, AreEvents, Event, after_event, past_from}
 use Rattle.job_states.proofs.FoldLemmas.{event_at, left_from}
 use Rattle.job_states.proofs.states.States.after.Goals as goal
 

@@ -1,5 +1,5 @@
 use Rattle.std.proofs.Common.{◌≡◌, ◌+◌, ◌≤◌, drop}
-use Rattle.job_spec.specs.States.{Past, past_from, nothing_past}
+use Rattle.job_spec.specs.Prelude.{Past, past_from, nothing_past}
 use Rattle.job_states.specs.Stands.{Stands}
 use Rattle.job_states.proofs.states.States.after.Given as goal
 

@@ -1,5 +1,5 @@
 use Rattle.std.proofs.Common.{◌∙◌, List, ℕ, map, slice_get, sym, ap, subst}
-use Rattle.job_spec.specs.States.{actors}
+use Rattle.job_spec.specs.Prelude.{actors}
 use Rattle.job_states.specs.Standing.{standing}
 use Rattle.job_states.specs.Stands.{Kept, Stands}
 use Rattle.job_states.proofs.ReportLemmas.{busy_are}

@@ -1,5 +1,5 @@
 use Rattle.std.proofs.Common.{◌≡◌, drop}
-use Rattle.job_spec.specs.States.{Past, end_ops}
+use Rattle.job_spec.specs.Prelude.{Past, end_ops}
 use Rattle.job_states.specs.Stands.{Stands}
 use Rattle.job_states.proofs.states.States.end_all.Given as goal
 

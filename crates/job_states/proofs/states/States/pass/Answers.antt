@@ -1,5 +1,5 @@
 use Rattle.std.proofs.Common.{sym, subst}
-use Rattle.job_spec.specs.States.{Past}
+use Rattle.job_spec.specs.Prelude.{Past}
 use Rattle.job_states.specs.Stands.{Stands}
 use Rattle.job_states.proofs.states.States.pass.Goals as goal
 

@@ -1,5 +1,5 @@
 use Rattle.std.proofs.Common.{ap}
-use Rattle.job_spec.specs.States.{open_event, told, end_ops, after_event}
+use Rattle.job_spec.specs.Prelude.{open_event, told, end_ops, after_event}
 use Rattle.job_states.proofs.FoldLemmas.{after_played}
 use Rattle.job_states.proofs.states.States.play.Goals as goal
 

@@ -1,5 +1,5 @@
 use Rattle.std.proofs.Common.{Some, sym, subst}
-use Rattle.s3_types.specs.declared.request.Actor.{Actor}
+use Rattle.job_steps.specs.Prelude.{Actor}
 use Rattle.job_states.specs.Stands.{IsPlace}
 use Rattle.job_world.specs.Events.{BeginsBy, HasBegun}
 use Rattle.job_world.proofs.body.Body.begin.Goals as goal

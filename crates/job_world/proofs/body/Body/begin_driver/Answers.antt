@@ -1,5 +1,5 @@
 use Rattle.std.proofs.Common.{refl}
-use Rattle.s3_types.specs.declared.request.Actor.TheVariants.{Driver}
+use Rattle.job_steps.specs.Prelude.{Driver}
 use Rattle.job_actor.proofs.Picking.{picks_go}
 use Rattle.job_world.proofs.Moments.{event_of, no_entries}
 use Rattle.job_world.proofs.Frames.{begun_entered}

@@ -1,5 +1,5 @@
 use Rattle.std.proofs.Common.{refl}
-use Rattle.std.proofs.Math.ListN.{length-set}
+use Rattle.job_spec.proofs.Common.{length-set}
 use Rattle.job_world.specs.Holds.{all_but}
 use Rattle.job_world.specs.declared.hands.Hand.TheVariants.{Empty}
 use Rattle.job_world.proofs.Finishes.{has_hand, die_holds, finish_over}

@@ -1,6 +1,5 @@
 use Rattle.std.proofs.Common.{Some, sym, subst}
-use Rattle.job_model.specs.JobScript.{Script}
-use Rattle.job_model.specs.declared.events.Event.{Event}
+use Rattle.job_steps.specs.Prelude.{Script, Event}
 use Rattle.job_states.specs.Stands.{IsPlace}
 use Rattle.job_world.specs.Events.{ByTurns}
 use Rattle.job_world.proofs.Moments.{event_of}

@@ -1,4 +1,4 @@
-use Rattle.s3_types.specs.declared.request.Actor.TheVariants.{Driver}
+use Rattle.job_steps.specs.Prelude.{Driver}
 use Rattle.job_world.specs.Holds.{setting_of}
 use Rattle.job_world.specs.Events.{knows_of}
 use Rattle.job_world.proofs.Beginning.{works_of}

@@ -1,7 +1,6 @@
 use Rattle.std.proofs.Common.{◌∷◌, refl, ap, subst, ◌∙◌}
-use Rattle.s3_types.specs.Store.{Content}
+use Rattle.job_steps.specs.Prelude.{Content, IsLegal}
 use Rattle.s3_service.specs.Ids.{AreBelow}
-use Rattle.job_model.specs.Legal.{IsLegal}
 use Rattle.job_world.specs.declared.hands.Hand.TheVariants.{Empty}
 use Rattle.job_world.specs.Worlds.{planned}
 use Rattle.job_world.proofs.NewWorlds.{is_begun}

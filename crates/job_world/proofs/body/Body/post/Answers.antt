@@ -1,6 +1,5 @@
 use Rattle.std.proofs.Common.{◌≡◌, ◌+◌, ◌<◌, ◌^◌, length, Some, vec_len, sym, ap, ◌∙◌, rules, arith}
-use Rattle.std.proofs.Math.ListN.{length-set}
-use Rattle.std.proofs.lemmas.Option.{slice_get-get_or}
+use Rattle.job_spec.proofs.Common.{length-set, slice_get-get_or}
 use Rattle.job_world.specs.Holds.{all_sound}
 use Rattle.job_world.proofs.Finishes.{has_hand}
 use Rattle.job_world.proofs.Writes.{set_here, set_other}

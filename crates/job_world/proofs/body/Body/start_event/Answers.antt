@@ -1,5 +1,5 @@
 use Rattle.std.proofs.Common.{sym, subst}
-use Rattle.job_model.specs.declared.events.Event.{Event}
+use Rattle.job_steps.specs.Prelude.{Event}
 use Rattle.job_world.specs.Events.{ByTurns}
 use Rattle.job_world.proofs.Moments.{event_of}
 use Rattle.job_world.proofs.Frames.{same_itself, now_after, room_after, grown_after}

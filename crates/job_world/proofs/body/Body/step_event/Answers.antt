@@ -1,6 +1,5 @@
 use Rattle.std.proofs.Common.{sym, subst}
-use Rattle.job_model.specs.declared.events.Event.{Event}
-use Rattle.job_spec.specs.States.{past}
+use Rattle.job_steps.specs.Prelude.{Event, past}
 use Rattle.job_world.specs.Events.{ByTurns}
 use Rattle.job_world.proofs.Moments.{event_of, few_attempts, no_entries}
 use Rattle.job_world.proofs.Frames.{opened_entered, now_after, room_after, grown_after}

@@ -1,5 +1,5 @@
 use Rattle.std.proofs.Common.{refl, sym, ◌∙◌}
-use Rattle.job_model.specs.declared.ends.OpEnd.TheVariants.{NoMemory}
+use Rattle.job_steps.specs.Prelude.{NoMemory}
 use Rattle.job_world.specs.Holds.{same_laws}
 use Rattle.job_world.proofs.Turns.{same_wrote, same_unsent, going_on, going_over, goes_on, has_ended, has_died}
 use Rattle.job_world.proofs.turning.BodyActors.turn.Goals as goal

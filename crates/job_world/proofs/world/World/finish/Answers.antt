@@ -1,5 +1,5 @@
 use Rattle.std.proofs.Common.{◌≡◌, length, subst}
-use Rattle.job_spec.specs.Promise.{Finished}
+use Rattle.job_steps.specs.Prelude.{Finished}
 use Rattle.job_world.specs.Worlds.{Run, Keeps}
 use Rattle.job_world.proofs.KeptWorlds.{keeps, finished}
 use Rattle.job_world.proofs.world.World.finish.Goals as goal

@@ -1,5 +1,5 @@
 use Rattle.std.proofs.Common.{◌≡◌, subst}
-use Rattle.job_spec.specs.States.{past}
+use Rattle.job_steps.specs.Prelude.{past}
 use Rattle.job_world.specs.Worlds.{Run}
 use Rattle.job_world.proofs.KeptWorlds.{state_is}
 use Rattle.job_world.proofs.world.World.job_attempt.Goals as goal

@@ -1,7 +1,6 @@
 use Rattle.std.proofs.Common.{ap, ◌∙◌, sym, ◌≡◌, ◌≤◌, arith, subst}
+use Rattle.s3_types.specs.Prelude.{nat_cmp_total, nat_cmp}
 use Rattle.std.specs.FinMap as fin
-use Rattle.std.specs.Cmp.{nat_cmp_total}
-use Rattle.std.specs.Ordering.{nat_cmp}
 use Rattle.proof_base.proofs.Tree.{len_made}
 use Rattle.multipart.proofs.Numbered.{few_parts}
 use Rattle.multipart.proofs.part.Parts.count.Goals as goal

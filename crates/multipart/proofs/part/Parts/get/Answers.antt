@@ -1,7 +1,6 @@
 use Rattle.std.proofs.Common.{◌≡◌, ap, ◌∙◌, sym, refl, true, List, ℕ, Option, Some, None, is_some, Bor}
-use Rattle.std.specs.Option.{option_copied, IsSome}
+use Rattle.s3_types.specs.Prelude.{option_copied, IsSome, nat_cmp_total}
 use Rattle.std.specs.FinMap as fin
-use Rattle.std.specs.Cmp.{nat_cmp_total}
 use Rattle.proof_base.proofs.Tree.{get_made}
 use Rattle.multipart.proofs.part.Parts.get.Goals as goal
 

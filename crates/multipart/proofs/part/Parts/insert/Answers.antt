@@ -1,7 +1,7 @@
 use Rattle.std.proofs.Common.{ap, ◌∙◌, subst, sym}
+use Rattle.s3_types.specs.Prelude.{nat_cmp_total}
+use Rattle.proof_base.proofs.Common.{exact_unsigned}
 use Rattle.std.specs.FinMap as fin
-use Rattle.std.specs.Cmp.{nat_cmp_total}
-use Rattle.std.proofs.lemmas.Map.Lookups.{exact_unsigned}
 use Rattle.proof_base.proofs.Tree.{made_insert}
 use Rattle.multipart.specs.Numbers.{AreNumbered}
 use Rattle.multipart.proofs.Numbered.{numbered_insert}

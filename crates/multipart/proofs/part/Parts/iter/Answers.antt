@@ -1,9 +1,7 @@
 use Rattle.std.proofs.Common.{◌≡◌, true, ap, ◌∙◌, sym, subst, List, ℕ}
+use Rattle.s3_types.specs.Prelude.{AllByRecursion, nat_cmp_total, is_part_number}
 use Rattle.std.specs.FinMap as fin
-use Rattle.std.specs.List.{AllByRecursion}
-use Rattle.std.specs.Cmp.{nat_cmp_total}
 use Rattle.proof_base.proofs.Tree.{entries_made}
-use Rattle.s3_types.specs.Multipart.{is_part_number}
 use Rattle.multipart.proofs.Numbered.{all_numbered}
 use Rattle.multipart.proofs.part.Parts.iter.Goals as goal
 

@@ -1,7 +1,6 @@
 use Rattle.std.proofs.Common.{ap, ◌∙◌, sym, ◌≡◌, ◌++◌, map, List, rules}
+use Rattle.s3_types.specs.Prelude.{nat_cmp_total, size_of}
 use Rattle.std.specs.FinMap as fin
-use Rattle.std.specs.Cmp.{nat_cmp_total}
-use Rattle.s3_types.specs.Multipart.{size_of}
 use Rattle.s3_types.specs.declared.reply.PartSize.{PartSize}
 use Rattle.proof_base.proofs.Tree.{entries_made}
 use Rattle.multipart.proofs.part.Parts.sizes.Goals as goal

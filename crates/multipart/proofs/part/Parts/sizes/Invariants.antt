@@ -1,5 +1,5 @@
 use Rattle.std.proofs.Common.{◌≡◌, ◌++◌, map}
-use Rattle.s3_types.specs.Multipart.{size_of, sizes}
+use Rattle.s3_types.specs.Prelude.{size_of, sizes}
 use Rattle.multipart.proofs.part.Parts.sizes.Given as goal
 
 abbrev pub invariant-loop-number : goal.invariant-loop-number

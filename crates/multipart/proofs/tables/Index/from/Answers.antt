@@ -1,10 +1,7 @@
 use Rattle.std.proofs.Common.{ap, ◌∙◌, sym, List, ℕ}
+use Rattle.s3_types.specs.Prelude.{bound_map, entries_between, Unbounded, ref_cmp}
 use Rattle.std.specs.FinMap as fin
-use Rattle.std.specs.Range.Bound.{bound_map}
-use Rattle.std.specs.BTreeMap.Range.{entries_between}
-use Rattle.std.specs.declared.ops.Bound.TheVariants.{Unbounded}
 use Rattle.proof_base.proofs.Tree.{entries_made}
-use Rattle.s3_types.specs.Multipart.{ref_cmp}
 use Rattle.s3_types.specs.declared.request.UploadRef.{UploadRef}
 use Rattle.multipart.proofs.Keyed.{refs_total}
 use Rattle.multipart.proofs.tables.Index.from.Goals as goal

@@ -1,6 +1,6 @@
 use Rattle.std.proofs.Common.{ap, ◌∙◌, sym}
+use Rattle.s3_types.specs.Prelude.{nat_cmp_total}
 use Rattle.std.specs.FinMap as fin
-use Rattle.std.specs.Cmp.{nat_cmp_total}
 use Rattle.proof_base.proofs.Tree.{entries_made}
 use Rattle.multipart.proofs.tables.Lives.iter.Goals as goal
 

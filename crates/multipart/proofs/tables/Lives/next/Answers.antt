@@ -1,14 +1,7 @@
 use Rattle.std.proofs.Common.{ap, ◌∙◌, sym, List, ℕ}
+use Rattle.s3_types.specs.Prelude.{slice_get, option_map, nat_cmp, nat_cmp_total, deref_pair, entries_between, Excluded, Unbounded, Upload}
 use Rattle.std.specs.FinMap as fin
-use Rattle.std.specs.List.{slice_get}
-use Rattle.std.specs.Option.{option_map}
-use Rattle.std.specs.Ordering.{nat_cmp}
-use Rattle.std.specs.Cmp.{nat_cmp_total}
-use Rattle.std.specs.Map.Iter.{deref_pair}
-use Rattle.std.specs.BTreeMap.Range.{entries_between}
-use Rattle.std.specs.declared.ops.Bound.TheVariants.{Excluded, Unbounded}
 use Rattle.proof_base.proofs.Tree.{first_taken, entries_made}
-use Rattle.s3_types.specs.Store.{Upload}
 use Rattle.multipart.proofs.tables.Lives.next.Goals as goal
 
 pub returns-in-Some : goal.returns-in-Some

@@ -1,14 +1,8 @@
 use Rattle.std.proofs.Common.{ap, ◌∙◌, sym, subst, refl, ◌≡◌, Some, None, Option}
+use Rattle.s3_types.specs.Prelude.{IsSome, IsSomeAnd, nat_cmp, get_by, nat_cmp_total, Upload, with_part}
+use Rattle.proof_base.proofs.Common.{false≢true, exact_unsigned}
 use Rattle.std.specs.FinMap as fin
-use Rattle.std.specs.Option.{IsSome, IsSomeAnd}
-use Rattle.std.specs.Ordering.{nat_cmp}
-use Rattle.std.specs.BTreeMap.{get_by}
-use Rattle.std.specs.Cmp.{nat_cmp_total}
-use Rattle.std.proofs.lemmas.Bool.{false≢true}
-use Rattle.std.proofs.lemmas.Map.Lookups.{exact_unsigned}
 use Rattle.proof_base.proofs.Tree.{get_made, made_insert, insert_same}
-use Rattle.s3_types.specs.Store.{Upload}
-use Rattle.s3_types.specs.Multipart.{with_part}
 use Rattle.multipart.proofs.tables.Lives.put_part.Goals as goal
 
 pub returns-in_default-clause-ok : goal.returns-in_default-clause-ok

@@ -1,6 +1,6 @@
 use Rattle.std.proofs.Common.{List, subst, take, nat_lt, length, ◌≡◌, ◌∙◌, true, false}
 use Rattle.std.specs.Prelude.{IfOk}
-use Rattle.proof_base.specs.Order.{text_cmp}
+use Rattle.s3_types.specs.Prelude.{text_cmp}
 use Rattle.proof_base.proofs.Less.{lt}
 use Rattle.s3_types.specs.declared.request.UploadRef.{UploadRef}
 use Rattle.multipart.proofs.Follow.{later_rest, first_after}

@@ -1,6 +1,6 @@
 use Rattle.std.proofs.Common.{ap, ◌∙◌, sym}
+use Rattle.store_frame.specs.Prelude.{text_total}
 use Rattle.std.specs.FinMap as map
-use Rattle.proof_base.specs.Order.{text_total}
 use Rattle.proof_base.proofs.Viewed.{len_viewed}
 use Rattle.object_store.specs.declared.objects.Held.{Held}
 use Rattle.object_store.proofs.objects.Objects.count.Goals as goal

@@ -1,8 +1,7 @@
 use Rattle.std.proofs.Common.{◌∙◌, sym, subst}
-use Rattle.std.specs.BTreeMap.{is_at}
+use Rattle.store_frame.specs.Prelude.{is_at, text_total, text_cmp}
+use Rattle.proof_base.proofs.Common.{exact_bytes}
 use Rattle.std.specs.FinMap as map
-use Rattle.std.proofs.lemmas.Map.Lookups.{exact_bytes}
-use Rattle.proof_base.specs.Order.{text_total, text_cmp}
 use Rattle.proof_base.proofs.Viewed.{viewed_remove}
 use Rattle.object_store.specs.declared.objects.Held.{Held}
 use Rattle.object_store.specs.Held.{AreOwn}

@@ -1,5 +1,5 @@
 use Rattle.std.proofs.Common.{◌≡◌, drop}
-use Rattle.s3_types.specs.Answer.{without}
+use Rattle.store_frame.specs.Prelude.{without}
 use Rattle.object_store.proofs.objects.Objects.delete_many.Given as goal
 
 -- what is left to remove, removed, leaves what all of them leave

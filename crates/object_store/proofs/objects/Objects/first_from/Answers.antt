@@ -1,13 +1,7 @@
 use Rattle.std.proofs.Common.{ap, ◌∙◌, sym, List, ℕ, ◌≡◌, Some, None}
+use Rattle.store_frame.specs.Prelude.{slice_get, option_map, bound_map, entries_between, Unbounded, text_total, text_cmp, Object}
 use Rattle.std.specs.FinMap as map
-use Rattle.std.specs.List.{slice_get}
-use Rattle.std.specs.Option.{option_map}
-use Rattle.std.specs.Range.Bound.{bound_map}
-use Rattle.std.specs.BTreeMap.Range.{entries_between}
-use Rattle.std.specs.declared.ops.Bound.TheVariants.{Unbounded}
-use Rattle.proof_base.specs.Order.{text_total, text_cmp}
 use Rattle.proof_base.proofs.Viewed.{entries_viewed}
-use Rattle.s3_types.specs.declared.object.Object.{Object}
 use Rattle.object_store.specs.declared.objects.Held.{Held}
 use Rattle.object_store.proofs.Own.{first_lent, by_own_key}
 use Rattle.object_store.proofs.objects.Objects.first_from.Goals as goal

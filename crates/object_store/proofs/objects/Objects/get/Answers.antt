@@ -1,7 +1,7 @@
 use Rattle.std.proofs.Common.{ap, ◌∙◌, Some, None}
+use Rattle.s3_types.specs.Prelude.{get_by}
+use Rattle.store_frame.specs.Prelude.{text_cmp}
 use Rattle.std.specs.FinMap as map
-use Rattle.std.specs.BTreeMap.{get_by}
-use Rattle.proof_base.specs.Order.{text_cmp}
 use Rattle.object_store.proofs.Own.{got}
 use Rattle.object_store.proofs.objects.Objects.get.Goals as goal
 

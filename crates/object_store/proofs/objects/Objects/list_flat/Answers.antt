@@ -1,7 +1,6 @@
 use Rattle.std.proofs.Common.{◌≡◌, List, subst, take, length}
 use Rattle.std.specs.Prelude.{IfOk, nat_lt}
-use Rattle.std.specs.Range.Bound.{bound_map}
-use Rattle.s3_types.specs.declared.reply.PageEntry.{PageEntry}
+use Rattle.store_frame.specs.Prelude.{bound_map, PageEntry}
 use Rattle.object_store.proofs.Flat.{flat_rest}
 use Rattle.object_store.proofs.objects.Objects.list_flat.Goals as goal
 

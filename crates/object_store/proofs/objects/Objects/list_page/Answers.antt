@@ -1,10 +1,8 @@
 use Rattle.std.proofs.Common.{◌≡◌, ◌∙◌, ℕ, Bool, List, sym, ap, subst, take, length}
 use Rattle.std.specs.FinMap as map
 use Rattle.std.specs.Prelude.{IfOk, nat_lt, Result}
-use Rattle.std.specs.declared.alloc.AllocError.{AllocError}
-use Rattle.s3_types.specs.Pages.{listed}
-use Rattle.s3_types.specs.Store.{Objects}
-use Rattle.s3_types.specs.declared.reply.PageEntry.{PageEntry}
+use Rattle.s3_types.specs.Prelude.{AllocError}
+use Rattle.store_frame.specs.Prelude.{listed, Objects, PageEntry}
 use Rattle.object_store.specs.declared.page.Page.{Page}
 use Rattle.store_frame.specs.Walk.{walked}
 use Rattle.store_frame.proofs.Listed.{walked_listed}

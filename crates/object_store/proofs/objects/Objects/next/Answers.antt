@@ -1,9 +1,7 @@
 use Rattle.std.proofs.Common.{ap, ◌∙◌, sym, subst, ◌≡◌, List, ℕ, rules}
+use Rattle.store_frame.specs.Prelude.{option_copied, option_map, slice_get, Object}
 use Rattle.std.specs.FinMap as map
-use Rattle.std.specs.Option.{option_copied, option_map}
-use Rattle.std.specs.List.{slice_get}
 use Rattle.proof_base.proofs.Tree.{filter_all}
-use Rattle.s3_types.specs.declared.object.Object.{Object}
 use Rattle.object_store.specs.Objects.{next_of, IsNext}
 use Rattle.object_store.proofs.Next.{is_next}
 use Rattle.object_store.proofs.objects.Objects.next.Goals as goal

@@ -1,11 +1,7 @@
 use Rattle.std.proofs.Common.{ap, ◌∙◌, sym, List, ℕ, ◌≡◌, subst, true, false, cond, Some, None}
+use Rattle.store_frame.specs.Prelude.{option_map, text_cmp, begins, Object, ComesNext}
 use Rattle.std.specs.FinMap as map
-use Rattle.std.specs.Option.{option_map}
-use Rattle.proof_base.specs.Order.{text_cmp}
 use Rattle.proof_base.proofs.Tree.{map_sorted}
-use Rattle.s3_types.specs.Pages.{begins}
-use Rattle.s3_types.specs.declared.object.Object.{Object}
-use Rattle.store_frame.specs.Walk.{ComesNext}
 use Rattle.store_frame.proofs.Walked.{found_next}
 use Rattle.object_store.proofs.objects.Objects.next_listed.Goals as goal
 

@@ -1,7 +1,7 @@
 use Rattle.std.proofs.Common.{◌∙◌, sym, subst, ◌≡◌}
+use Rattle.proof_base.proofs.Common.{exact_bytes}
+use Rattle.store_frame.specs.Prelude.{text_total}
 use Rattle.std.specs.FinMap as map
-use Rattle.std.proofs.lemmas.Map.Lookups.{exact_bytes}
-use Rattle.proof_base.specs.Order.{text_total}
 use Rattle.proof_base.proofs.Viewed.{viewed_insert}
 use Rattle.object_store.specs.declared.objects.Held.{Held}
 use Rattle.object_store.specs.Held.{AreOwn}

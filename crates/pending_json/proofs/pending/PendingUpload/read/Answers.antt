@@ -1,8 +1,5 @@
+use Rattle.pending_json.specs.Prelude.{Pending, wanting, Spell, pending_tree}
 use Rattle.proof_base.proofs.Reading.{found_so, only}
-use Rattle.pending_json.specs.Pending.{Pending}
-use Rattle.pending_json.specs.Fault.{wanting}
-use Rattle.pending_json.specs.Records.{Spell}
-use Rattle.pending_json.specs.Trees.{pending_tree}
 use Rattle.pending_json.proofs.Relations.{pending_found, pending_only}
 use Rattle.pending_json.proofs.pending.PendingUpload.read.Goals as goal
 

@@ -1,8 +1,6 @@
+use Rattle.pending_json.specs.Prelude.{wanting, Spell, set_tree}
 use Rattle.proof_base.proofs.Reading.{found_so, only}
 use Rattle.pending_json.specs.declared.records.PendingSet.{PendingSet}
-use Rattle.pending_json.specs.Fault.{wanting}
-use Rattle.pending_json.specs.Records.{Spell}
-use Rattle.pending_json.specs.Trees.{set_tree}
 use Rattle.pending_json.proofs.Relations.{set_found, set_only}
 use Rattle.pending_json.proofs.records.PendingSet.read.Goals as goal
 

@@ -1,8 +1,6 @@
+use Rattle.pending_json.specs.Prelude.{wanting, Spell, success_tree}
 use Rattle.proof_base.proofs.Reading.{found_so, only}
 use Rattle.pending_json.specs.declared.records.SuccessMark.{SuccessMark}
-use Rattle.pending_json.specs.Fault.{wanting}
-use Rattle.pending_json.specs.Records.{Spell}
-use Rattle.pending_json.specs.Trees.{success_tree}
 use Rattle.pending_json.proofs.Relations.{success_found, success_only}
 use Rattle.pending_json.proofs.records.SuccessMark.read.Goals as goal
 

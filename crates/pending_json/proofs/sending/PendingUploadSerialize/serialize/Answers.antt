@@ -1,6 +1,6 @@
 use Rattle.std.proofs.Common.{◌≡◌, is_some, cond, ap, sym, ◌∙◌}
-use Rattle.std.proofs.lemmas.Result.{on_ok_weaker}
-use Rattle.pending_json.specs.Trees.{version_of}
+use Rattle.proof_base.proofs.Common.{on_ok_weaker}
+use Rattle.pending_json.specs.Prelude.{version_of}
 use Rattle.pending_json.proofs.Sent.{text_is, whole_is, tags_are, sizes_are, begun_with, told, upload_sent}
 use Rattle.pending_json.proofs.sending.PendingUploadSerialize.serialize.Goals as goal
 

@@ -1,12 +1,8 @@
 use Rattle.std.proofs.Common.{ap, ◌∙◌, sym, subst, refl, ◌≡◌, Some, Option}
+use Rattle.s3_types.specs.Prelude.{IsSome, IsSomeAnd, get_by, text_cmp, text_total, BucketContent, answer_in, apply_in}
+use Rattle.proof_base.proofs.Common.{exact_bytes}
 use Rattle.std.specs.FinMap as map
-use Rattle.std.specs.Option.{IsSome, IsSomeAnd}
-use Rattle.std.specs.BTreeMap.{get_by}
-use Rattle.std.proofs.lemmas.Map.Lookups.{exact_bytes}
-use Rattle.proof_base.specs.Order.{text_cmp, text_total}
 use Rattle.proof_base.proofs.Tree.{get_made, made_insert, insert_same}
-use Rattle.s3_types.specs.Store.{BucketContent}
-use Rattle.s3_types.specs.Answer.{answer_in, apply_in}
 use Rattle.s3_service.proofs.buckets.Buckets.apply.Goals as goal
 
 pub apply-requires : goal.apply-requires

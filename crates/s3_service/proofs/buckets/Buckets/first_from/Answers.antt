@@ -1,14 +1,7 @@
 use Rattle.std.proofs.Common.{ap, ◌∙◌, sym, List, ℕ, Some, ◌≡◌}
+use Rattle.s3_types.specs.Prelude.{slice_get, option_map, bound_map, deref_pair, entries_between, Unbounded, text_total, text_cmp, BucketContent}
 use Rattle.std.specs.FinMap as fin
-use Rattle.std.specs.List.{slice_get}
-use Rattle.std.specs.Option.{option_map}
-use Rattle.std.specs.Range.Bound.{bound_map}
-use Rattle.std.specs.Map.Iter.{deref_pair}
-use Rattle.std.specs.BTreeMap.Range.{entries_between}
-use Rattle.std.specs.declared.ops.Bound.TheVariants.{Unbounded}
-use Rattle.proof_base.specs.Order.{text_total, text_cmp}
 use Rattle.proof_base.proofs.Tree.{first_taken, entries_made}
-use Rattle.s3_types.specs.Store.{BucketContent}
 use Rattle.s3_service.proofs.buckets.Buckets.first_from.Goals as goal
 
 pub returns-in-Some : goal.returns-in-Some

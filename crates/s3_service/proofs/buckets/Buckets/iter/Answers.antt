@@ -1,6 +1,6 @@
 use Rattle.std.proofs.Common.{ap, ◌∙◌, sym}
+use Rattle.s3_types.specs.Prelude.{text_total}
 use Rattle.std.specs.FinMap as map
-use Rattle.proof_base.specs.Order.{text_total}
 use Rattle.proof_base.proofs.Tree.{entries_made}
 use Rattle.s3_service.proofs.buckets.Buckets.iter.Goals as goal
 

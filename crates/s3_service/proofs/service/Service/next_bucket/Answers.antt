@@ -1,9 +1,7 @@
 use Rattle.std.proofs.Common.{ap, ◌∙◌, sym, subst, ◌≡◌, List, ℕ, rules}
+use Rattle.s3_types.specs.Prelude.{option_copied, option_map, slice_get, BucketContent, Content}
 use Rattle.std.specs.FinMap as fin
-use Rattle.std.specs.Option.{option_copied, option_map}
-use Rattle.std.specs.List.{slice_get}
 use Rattle.proof_base.proofs.Tree.{filter_all}
-use Rattle.s3_types.specs.Store.{BucketContent, Content}
 use Rattle.s3_service.specs.Next.{next_of, IsNext}
 use Rattle.s3_service.proofs.Next.{is_next}
 use Rattle.s3_service.proofs.service.Service.next_bucket.Goals as goal

@@ -1,7 +1,7 @@
 use Rattle.std.proofs.Common.{◌≡◌, ◌≤◌, ◌+◌, ◌-◌, ◌↔◌, ℕ, List, ap, ◌∙◌, sym, subst, Some, None, Result, Ok, Err, arith}
 use Rattle.std.specs.Prelude.{IsErrOf, IsErrAnd}
-use Rattle.s3_types.specs.Fates.{FateMap, with_fates, IsFirstNamed}
-use Rattle.s3_types.specs.Spans.{named, AreApart, from_on, first_in}
+use Rattle.s3_types.specs.Prelude.{FateMap, IsFirstNamed, named, AreApart, from_on, first_in}
+use Rattle.s3_types.specs.Fates.{with_fates}
 use Rattle.s3_types.specs.declared.fates.FateFault.{FateFault}
 use Rattle.s3_types.specs.declared.fates.FateFault.TheVariants.{Taken, NoMemory}
 use Rattle.s3_types.specs.declared.fates.Span.{Span}

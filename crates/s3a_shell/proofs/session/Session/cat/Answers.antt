@@ -1,4 +1,4 @@
-use Rattle.fs_tree.specs.Answers.{Reads}
+use Rattle.fs_ops.specs.Prelude.{Reads}
 use Rattle.s3a_shell.specs.Texts.{bytes_alone}
 use Rattle.fs_ops.proofs.AtPathLaws.{gets_there}
 use Rattle.s3a_shell.proofs.Looking.{looked_same}

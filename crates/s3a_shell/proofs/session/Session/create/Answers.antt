@@ -1,5 +1,5 @@
 use Rattle.std.proofs.Common.{◌≤◌, ◌*◌, ◌+◌, ◌∙◌, ℕ, List, length, sym, ap, subst}
-use Rattle.s3_types.specs.Store.{Content}
+use Rattle.fs_ops.specs.Prelude.{Content}
 use Rattle.s3a_shell.proofs.Blocks.{some_block, least_block, has_room}
 use Rattle.fs_files.specs.code.Create.{AlwaysFile}
 use Rattle.s3a_shell.specs.Doings.{FileOrNot}

@@ -1,4 +1,4 @@
-use Rattle.fs_tree.specs.Answers.{Lists}
+use Rattle.fs_ops.specs.Prelude.{Lists}
 use Rattle.s3a_shell.specs.Texts.{entry_lines}
 use Rattle.fs_ops.proofs.ListLaws.{first_looks}
 use Rattle.s3a_shell.proofs.Looking.{looked_same}

@@ -1,4 +1,4 @@
-use Rattle.fs_tree.specs.MarkerTool.{Audits}
+use Rattle.fs_ops.specs.Prelude.{Audits}
 use Rattle.s3a_shell.specs.Texts.{marker_lines}
 use Rattle.s3a_shell.proofs.Looking.{looked_same}
 use Rattle.s3a_shell.proofs.Performing.{did_at, on_ok, sent_still}

@@ -1,4 +1,4 @@
-use Rattle.fs_tree.specs.Answers.{Makes}
+use Rattle.fs_ops.specs.Prelude.{Makes}
 use Rattle.fs_ops.specs.code.Make as make
 use Rattle.s3a_shell.specs.Texts.{nothing}
 use Rattle.s3a_shell.proofs.Performing.{did_at, on_ok, sent_of}

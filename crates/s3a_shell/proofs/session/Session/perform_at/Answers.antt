@@ -1,7 +1,5 @@
 use Rattle.std.proofs.Common.{◌≡◌, ℕ, List, subst, ◌∙◌}
-use Rattle.s3_types.specs.Store.{Objects, Scene}
-use Rattle.bucket_ops.specs.Asks.{Ask}
-use Rattle.bucket_ops.specs.Phases.{AlwaysIn, SendsIn}
+use Rattle.fs_ops.specs.Prelude.{Objects, Scene, Ask, AlwaysIn, SendsIn}
 use Rattle.s3a_shell.specs.declared.session.Session.{Session}
 use Rattle.s3a_shell.specs.Sendings.{Sent, Asked}
 use Rattle.s3a_shell.proofs.Performing.{sent, asked}

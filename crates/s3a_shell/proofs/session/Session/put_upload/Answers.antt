@@ -1,10 +1,8 @@
 use Rattle.std.proofs.Common.{List, [], ◌∷◌, ◌++◌, ap, ◌∙◌}
-use Rattle.s3_types.specs.Requests.{only_reads}
-use Rattle.s3_types.specs.declared.journal.Entry.{Entry}
-use Rattle.s3_types.specs.declared.reply.Reply.{Reply}
+use Rattle.fs_ops.specs.Prelude.{only_reads, Entry, Reply}
+use Rattle.journal_log.specs.Prelude.{is_changing}
 use Rattle.store_frame.proofs.Reading.{reads_nothing}
 use Rattle.s3a_shell.specs.Sendings.{answered_by}
-use Rattle.log_format.specs.Change.{is_changing}
 use Rattle.s3a_shell.proofs.Looking.{read_same}
 use Rattle.s3a_shell.proofs.Performing.{on_ok}
 use Rattle.s3a_shell.proofs.Joining.{sent_read, sent_one}

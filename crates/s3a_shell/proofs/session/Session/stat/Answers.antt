@@ -1,4 +1,4 @@
-use Rattle.fs_tree.specs.Answers.{Stats}
+use Rattle.fs_ops.specs.Prelude.{Stats}
 use Rattle.s3a_shell.specs.Texts.{status_line}
 use Rattle.fs_ops.proofs.AtPathLaws.{looks_there}
 use Rattle.s3a_shell.proofs.Looking.{looked_same}

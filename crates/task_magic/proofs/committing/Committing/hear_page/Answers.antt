@@ -1,5 +1,5 @@
 use Rattle.std.proofs.Common.{◌∙◌, ap}
-use Rattle.list_walk.specs.Walks.{keys_on}
+use Rattle.job_protocol.specs.Prelude.{keys_on}
 use Rattle.task_requests.specs.Publishing.{picked}
 use Rattle.task_magic.specs.Committing.{commit_of}
 use Rattle.task_magic.proofs.Committed.{page_missing, page_whole}

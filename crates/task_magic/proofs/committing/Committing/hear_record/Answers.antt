@@ -1,6 +1,6 @@
 use Rattle.std.proofs.Common.{◌∙◌, ap, sym, length, arith, subst}
-use Rattle.std.proofs.lemmas.Option.{slice_get_within}
-use Rattle.list_walk.specs.Walks.{keys_on}
+use Rattle.path_keys.proofs.Common.{slice_get_within}
+use Rattle.job_protocol.specs.Prelude.{keys_on}
 use Rattle.task_requests.specs.Publishing.{picked}
 use Rattle.task_magic.specs.Committing.{commit_by, commit_of, HoldsCommit}
 use Rattle.task_magic.proofs.Committed.{within_at, goes_gone_at, goes_read_at, keeps_read_at}

@@ -1,4 +1,4 @@
-use Rattle.list_walk.specs.Walks.{keys_on}
+use Rattle.job_protocol.specs.Prelude.{keys_on}
 use Rattle.task_magic.proofs.Committed.{publishes_by}
 use Rattle.task_magic.proofs.committing.Committing.publishes.Goals as goal
 

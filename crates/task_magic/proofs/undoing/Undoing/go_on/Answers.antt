@@ -1,7 +1,5 @@
 use Rattle.std.proofs.Common.{ap, ◌∙◌, length, arith}
-use Rattle.job_model.specs.Jobs.{Task}
-use Rattle.job_protocol.specs.AtWork.{task_script}
-use Rattle.job_protocol.specs.Knowledge.{as_made}
+use Rattle.job_protocol.specs.Prelude.{Task, task_script, as_made}
 use Rattle.task_magic.proofs.Undone.{goes_drawn}
 use Rattle.task_magic.proofs.undoing.Undoing.go_on.Goals as goal
 

@@ -1,5 +1,5 @@
 use Rattle.std.proofs.Common.{refl, false, ap, sym, subst, ◌∙◌}
-use Rattle.job_protocol.specs.AtWork.{task_commit_wants}
+use Rattle.job_protocol.specs.Prelude.{task_commit_wants}
 use Rattle.task_staging.specs.declared.staging.Staging.{Staging}
 use Rattle.task_staging.specs.Staging.{seen, Keeps}
 use Rattle.task_staging.proofs.Staged.{keeps_open, holds_open, found_told, passed_told, passed_holds, at_ok, at_err}

@@ -1,5 +1,5 @@
 use Rattle.std.proofs.Common.{ap, sym, subst, ◌∙◌}
-use Rattle.job_protocol.specs.AtWork.{task_commit_wants}
+use Rattle.job_protocol.specs.Prelude.{task_commit_wants}
 use Rattle.task_staging.specs.declared.staging.Staging.{Staging}
 use Rattle.task_staging.specs.Staging.{seen, Keeps}
 use Rattle.task_requests.proofs.Steps.{tag_plain, tag_none}

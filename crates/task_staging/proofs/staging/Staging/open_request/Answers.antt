@@ -1,5 +1,5 @@
 use Rattle.std.proofs.Common.{◌≡◌, ◌∙◌, true, sym, ap, Some}
-use Rattle.s3_types.specs.declared.request.Request.{Request}
+use Rattle.job_protocol.specs.Prelude.{Request}
 use Rattle.task_requests.proofs.Steps.{ok_as}
 use Rattle.task_staging.proofs.Staged.{holds_open, asks_check, asks_next}
 use Rattle.task_staging.proofs.staging.Staging.open_request.Goals as goal

@@ -1,5 +1,5 @@
 use Rattle.std.proofs.Common.{ap, Some, ◌∙◌}
-use Rattle.s3_types.specs.declared.request.Request.{Request}
+use Rattle.job_protocol.specs.Prelude.{Request}
 use Rattle.task_staging.proofs.Staged.{holds_open, is_sent, part_within, part_behind_is, asks_part}
 use Rattle.task_staging.proofs.staging.Staging.part_request.Goals as goal
 

@@ -1,5 +1,5 @@
 use Rattle.std.proofs.Common.{ap, Some}
-use Rattle.s3_types.specs.declared.request.Request.{Request}
+use Rattle.job_protocol.specs.Prelude.{Request}
 use Rattle.task_staging.proofs.Staged.{asks_rename}
 use Rattle.task_staging.proofs.staging.Staging.rename_request.Goals as goal
 

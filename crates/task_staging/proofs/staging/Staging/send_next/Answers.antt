@@ -1,5 +1,5 @@
 use Rattle.std.proofs.Common.{refl, ◌∙◌, arith}
-use Rattle.s3_types.proofs.Blocks.{few_parts}
+use Rattle.path_keys.proofs.Common.{few_parts}
 use Rattle.task_staging.proofs.Staged.{keeps_open, file_at, holds_open, is_sent, part_within, next_behind, send_told, send_holds, send_next}
 use Rattle.task_staging.proofs.staging.Staging.send_next.Goals as goal
 

@@ -1,5 +1,5 @@
 use Rattle.std.proofs.Common.{ap, ◌∙◌, length, true, ◌≡◌}
-use Rattle.job_model.specs.Jobs.{Task}
+use Rattle.job_protocol.specs.Prelude.{Task}
 use Rattle.task_staging.proofs.Staged.{stores_not, stores_all}
 use Rattle.task_staging.proofs.staging.Staging.stores.Goals as goal
 

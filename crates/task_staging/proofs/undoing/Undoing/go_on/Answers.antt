@@ -1,6 +1,5 @@
 use Rattle.std.proofs.Common.{ap, ◌∙◌, length}
-use Rattle.job_model.specs.Jobs.{Task}
-use Rattle.job_protocol.specs.Knowledge.{as_made}
+use Rattle.job_protocol.specs.Prelude.{Task, as_made}
 use Rattle.task_staging.proofs.Undone.{goes_drawn}
 use Rattle.task_staging.proofs.undoing.Undoing.go_on.Goals as goal
 

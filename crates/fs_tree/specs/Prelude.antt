@@ -1,0 +1,16 @@
+-- Definitions of this crate and of those below it that specifications and proofs cite, passed on from one place. Declares nothing.
+pub use Rattle.dir_markers.specs.Markers.{keys_above, marker_of}
+pub use Rattle.dir_markers.specs.declared.status.Status.{Status}
+pub use Rattle.dir_markers.specs.declared.status.Status.TheVariants.{Directory, File}
+pub use Rattle.fs_tree.specs.Answers.{Deletes, PutsDir}
+pub use Rattle.fs_tree.specs.Changes.{HasOddKey, IsMarked, IsName, IsWithoutBelow, last_of, marker_if, own_name, parent}
+pub use Rattle.fs_tree.specs.Moves.{IsAtOrBelow, IsDirMoved, IsFileMoved, IsPlace, MayMove, inside}
+pub use Rattle.fs_tree.specs.Tree.{HasChildren, HasDir, HasFile, IsAbsent, IsDirectory, IsEmpty, IsFirstFile, IsStatus, NoFile, NoFiles, NoneBelow, SomeBelow, Stands, is_marker, marker}
+pub use Rattle.path_keys.specs.Paths.{below, is_key}
+pub use Rattle.proof_base.specs.Members.{IsIn}
+pub use Rattle.s3_types.specs.Names.{are_elements, is_element, is_key_path, trimmed}
+pub use Rattle.s3_types.specs.Pages.{begins}
+pub use Rattle.s3_types.specs.Store.{Objects}
+pub use Rattle.s3_types.specs.declared.object.Object.{Object}
+pub use Rattle.std.specs.List.{list_all}
+pub use Rattle.words.specs.Parts.{is_other}

@@ -1,0 +1,41 @@
+-- Definitions of this crate and of those below it that specifications and proofs cite, passed on from one place. Declares nothing.
+pub use Rattle.hex.specs.Hex.{IsBytes, encode_lower, lower_digits}
+pub use Rattle.proof_base.specs.Members.{IsIn, RisesFrom, last_from}
+pub use Rattle.proof_base.specs.Order.{text_cmp, text_eq, text_equiv, text_ties, text_total}
+pub use Rattle.proof_base.specs.Reading.{Fails, need, passing, ◌>>=◌}
+pub use Rattle.s3_types.specs.Answer.{aborted, answer_at, answer_in, apply, apply_at, apply_in, apply_store, bucket_of, completed, draws, part_put, renamed, without}
+pub use Rattle.s3_types.specs.Blocks.{greater, named_from, quotient_up}
+pub use Rattle.s3_types.specs.Coded.{coded_text}
+pub use Rattle.s3_types.specs.Fates.{FateMap, IsFirstFrom, IsFirstNamed, coded_fates, fate_or, is_answer}
+pub use Rattle.s3_types.specs.Foretold.{fate_of}
+pub use Rattle.s3_types.specs.Multipart.{bytes_of, is_behind, is_large, is_part_number, is_sent, joined, live, ref_cmp, ref_of, refs, rises, rises_from, size_of, sizes, with_key, with_part}
+pub use Rattle.s3_types.specs.Names.{are_elements, is_bucket, is_element, is_id_byte, is_job_id, is_key, is_key_path, is_name_byte, trimmed}
+pub use Rattle.s3_types.specs.Pages.{begins, entry_of, listed, stem_if, text_in}
+pub use Rattle.s3_types.specs.Requests.{only_reads}
+pub use Rattle.s3_types.specs.Spans.{AreApart, first_in, from_on, named}
+pub use Rattle.s3_types.specs.Store.{BucketContent, Buckets, Content, Files, Objects, Parts, Scene, Upload, Uploads, new_bucket}
+pub use Rattle.s3_types.specs.Tags.{Spelled, is_hex, is_plain_tag}
+pub use Rattle.std.specs.BTreeMap.{get_by, insert_entry, is_at}
+pub use Rattle.std.specs.BTreeMap.Range.{entries_between, is_from_start}
+pub use Rattle.std.specs.Cmp.{IsTotalOrder, eq_by_cmp_equiv, nat_cmp_total}
+pub use Rattle.std.specs.Coded.{Coded, code_by, coded_bool, coded_list, coded_option, coded_ℕ, coded×}
+pub use Rattle.std.specs.FinMap.{FinMap, empty, entries, entries-from_sorted, entries-insert, entries_sorted, from_entries, from_sorted, get, get-empty, get-entries, get-from_entries, get-from_sorted, get-insert, get-remove, insert, remove, same_map}
+pub use Rattle.std.specs.FinMap.Entries.{below_all, find, find-where_key, is_sorted, put, where_key}
+pub use Rattle.std.specs.Fmt.{decimal}
+pub use Rattle.std.specs.Int.{Width, byte_len, from_be_bytes, to_be_bytes, w16, w32, w64}
+pub use Rattle.std.specs.List.{AllByRecursion, after_first, before_first, ends_with, filter, flat_map, join_with_byte, list_all, list_any, position_or_len, slice_get, starts_with, sum}
+pub use Rattle.std.specs.Map.{keys_of}
+pub use Rattle.std.specs.Map.Iter.{deref_pair}
+pub use Rattle.std.specs.Option.{IsSome, IsSomeAnd, MatchOption, option_copied, option_map, option_or}
+pub use Rattle.std.specs.Ordering.{eq_by_cmp, is_eq, is_gt, is_le, is_lt, match_ordering, nat_cmp, ordering_reverse, ordering_then}
+pub use Rattle.std.specs.Range.Bound.{bound_map}
+pub use Rattle.std.specs.Str.{IsAscii, IsUtf8, all_ascii_digits, bytes_eq, is_utf8}
+pub use Rattle.std.specs.Str.Parse.{digits_value}
+pub use Rattle.std.specs.Str.Pattern.{FindsTextPrefix, StripsPrefix}
+pub use Rattle.std.specs.declared.alloc.AllocError.{AllocError}
+pub use Rattle.std.specs.declared.cmp.Ordering.{Ordering}
+pub use Rattle.std.specs.declared.cmp.Ordering.TheVariants.{Equal, Greater, Less}
+pub use Rattle.std.specs.declared.ops.Bound.{Bound}
+pub use Rattle.std.specs.declared.ops.Bound.TheVariants.{Excluded, Included, Unbounded}
+pub use Rattle.words.specs.Parts.{is_other}
+pub use Rattle.words.specs.Words.{IsBare}
