@@ -138,8 +138,7 @@ late_missed j s w (CommitOver end) lost h = h
 late_next : (j : Job) (s : Sets) (w : Script) (c : Commit) (o : Outcome) → IsLate j s c → IsLate j s (commit_tells w c o)
 late_next j s w c (Answered r) h = late_heard j s w c r h
 late_next j s w c Slow h = late_missed j s w c false h
-late_next j s w c RequestLost h = late_missed j s w c true h
-late_next j s w c ReplyLost h = late_missed j s w c true h
+late_next j s w c _ h = late_missed j s w c true h
 
 -- the script of these sets tells it the same
 late_tells : (j : Job) (s : Sets) (c : Commit) (o : Outcome) → IsLate j s c → commit_tells (read_script j (sets_after c o)) c o ≡ commit_tells (read_script j s) c o
@@ -158,28 +157,21 @@ late_tells j s (CommitOver end) ReplyLost h = refl
 
 late_asks : (j : Job) (s : Sets) (c : Commit) → IsLate j s c → commit_asks (read_script j (sets_in c)) c ≡ commit_asks (read_script j s) c
 late_asks j s (Fetching sets m) h = absurd h
-late_asks j s (Replacing sets p ps x m) h = refl
-late_asks j s (Completing sets x xs done) h = refl
 late_asks j s (Marking sets m) h = ap (λ t. commit_asks (read_script j t) (Marking sets m)) h.0
-late_asks j s (Reverting q qs m) h = refl
-late_asks j s (CommitOver end) h = refl
+late_asks j s _ h = refl
 
 late_sound : (j : Job) (s : Sets) (c : Commit) → IsLate j s c → Sound c
 late_sound j s (Fetching sets m) h = absurd h
-late_sound j s (Replacing sets p ps x m) h = tt
 late_sound j s (Completing sets x xs done) h = subst RequestsApart (sym h.0) h.1
-late_sound j s (Marking sets m) h = tt
-late_sound j s (Reverting q qs m) h = tt
-late_sound j s (CommitOver end) h = tt
+late_sound j s _ h = tt
 
 -- it reads no more
 late_quiet : (j : Job) (s : Sets) (p : List ℕ) (c : Commit) (e : Entry) → IsLate j s c → commit_wants (at j p c) ≡ Some e.request → reads e.request ≡ false
 late_quiet j s p (Fetching sets m) e h f = absurd h
 late_quiet j s p (Replacing sets q qs x m) e h f = ap reads (sym (some_is f)) ∙ sweep_reads j.dest.bucket q x
-late_quiet j s p (Completing sets x xs done) e h f = ap reads (sym (some_is f))
-late_quiet j s p (Marking sets m) e h f = ap reads (sym (some_is f))
 late_quiet j s p (Reverting q qs m) e h f = ap reads (sym (some_is f)) ∙ h.0
 late_quiet j s p (CommitOver end) e h f = absurd (none_some refl f)
+late_quiet j s p _ e h f = ap reads (sym (some_is f))
 
 -- ---- a run by one script
 
@@ -202,11 +194,8 @@ ran_step j s p q c d e es asks sound tells told r =
 
 over_is : (j : Job) (s : Sets) (c : Commit) → IsLate j s c → (end : CommitEnd) → commit_over c ≡ Some end → EndOk j s end
 over_is j s (Fetching sets m) h end e = absurd h
-over_is j s (Replacing sets p ps x m) h end e = absurd (none_some refl e)
-over_is j s (Completing sets x xs done) h end e = absurd (none_some refl e)
-over_is j s (Marking sets m) h end e = absurd (none_some refl e)
-over_is j s (Reverting q qs m) h end e = absurd (none_some refl e)
 over_is j s (CommitOver x) h end e = let P : CommitEnd → Type 0 = λ v. EndOk j s v in subst P (some_is e) h
+over_is j s _ h end e = absurd (none_some refl e)
 
 record Late (j : Job) (s : Sets) (p : List ℕ) (c : Commit) (es : List Entry) : Type 0 where
   pub ran : Ran j s p c es
@@ -237,10 +226,7 @@ decided_late j s (Some x) each all e = decided_ok j s x (ap (due None None) (sym
   where
     decided_ok : (j : Job) (s : Sets) (x : CommitEnd) → x ≡ due None None (shared_of j s) → EndOk j s x
     decided_ok j s (ends.StoreFault stage) h = tt
-    decided_ok j s ends.Committed h = h
-    decided_ok j s (ends.Missing t) h = h
-    decided_ok j s (ends.SamePath p t u) h = h
-    decided_ok j s ends.NoMemory h = h
+    decided_ok j s _ h = h
 
 -- the run of a commit that has read these and reads on
 record Fetched (j : Job) (sets : Sets) (p : List ℕ) (c : Commit) (es : List Entry) : Type 0 where
@@ -273,13 +259,11 @@ after_set j es later s p false e each few f k =
 -- the request of a read is the same by each script of the job
 asks_any : (c : Committer) (j : Job) (s t : Sets) (n : ℕ) → set_request c (read_script j s) n ≡ set_request c (read_script j t) n
 asks_any Magic j s t n = refl
-asks_any Directory j s t n = refl
-asks_any Partitioned j s t n = refl
+asks_any _ j s t n = refl
 
 heard_base : (c : Committer) (w : Script) (n : ℕ) (r : Reply) → set_heard (set_request c w n) (Answered r) ≡ set_read r
 heard_base Magic w n r = refl
-heard_base Directory w n r = refl
-heard_base Partitioned w n r = refl
+heard_base _ w n r = refl
 
 -- nothing is heard of a set by this outcome
 abbrev Unheard : Outcome → Type 0
@@ -287,18 +271,15 @@ Unheard o = (c : Committer) (w : Script) (n : ℕ) → set_heard (set_request c 
 
 slow_unheard : Unheard Slow
 slow_unheard Magic w n = refl
-slow_unheard Directory w n = refl
-slow_unheard Partitioned w n = refl
+slow_unheard _ w n = refl
 
 lost_unheard : Unheard RequestLost
 lost_unheard Magic w n = refl
-lost_unheard Directory w n = refl
-lost_unheard Partitioned w n = refl
+lost_unheard _ w n = refl
 
 reply_unheard : Unheard ReplyLost
 reply_unheard Magic w n = refl
-reply_unheard Directory w n = refl
-reply_unheard Partitioned w n = refl
+reply_unheard _ w n = refl
 
 record Missed (c : Commit) (o : Outcome) (lost : Bool) : Type 0 where
   pub tells : (w : Script) → commit_tells w c o ≡ commit_misses w c lost

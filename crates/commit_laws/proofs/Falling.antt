@@ -209,8 +209,7 @@ sweep_adds bucket prefix (Deleting k ks) = refl
 
 read_adds : (c : Committer) (w : Script) (n : ℕ) → adds_key (set_request c w n) ≡ false
 read_adds Magic w n = refl
-read_adds Directory w n = refl
-read_adds Partitioned w n = refl
+read_adds _ w n = refl
 
 -- numbers
 
@@ -222,8 +221,7 @@ three_le a b x y r h k = let one : a * x ≤ b * x = times_le a b x h in let two
 
 staging_le : (c : Committer) (a b : ℕ) → a ≤ b → if_staging c a ≤ if_staging c b
 staging_le Magic a b h = omega arith
-staging_le Directory a b h = h
-staging_le Partitioned a b h = h
+staging_le _ a b h = h
 
 deletion_le : (j : Job) (a b : ℕ) (s t : Scene) → a ≤ b → any_sweep j s ≤ any_sweep j t → deletion_left j a s ≤ deletion_left j b t
 deletion_le j a b s t h k =
@@ -238,8 +236,7 @@ insert_length (x ∷ xs) k = by (text_cmp k x) (insert_length xs k)
   where
     by : (o : Ordering) → length (insert_key text_cmp xs k) ≤ length xs + 1 → length (match_ordering o (k ∷ x ∷ xs) (x ∷ xs) (x ∷ insert_key text_cmp xs k)) ≤ length (x ∷ xs) + 1
     by Less h = omega arith
-    by Equal h = omega arith
-    by Greater h = omega arith
+    by _ h = omega arith
 
 ordered_length : (ps : List (List ℕ)) → length (ordered ps) ≤ length ps
 ordered_length [] = omega arith
@@ -505,8 +502,7 @@ grown_by p s t r a h =
 
 staging_grown : (c : Committer) (x y z a : ℕ) → x ≤ y + z * a → if_staging c x ≤ if_staging c y + if_staging c z * a
 staging_grown Magic x y z a h = omega arith
-staging_grown Directory x y z a h = h
-staging_grown Partitioned x y z a h = h
+staging_grown _ x y z a h = h
 
 others_by : (most : ℕ) (j : Job) (c : Commit) (s : Scene) (r : Request) → left_of most j c (apply s r) ≤ left_of most j c s + rise_of most j c * one_if (adds_key r)
 others_by most j (Fetching sets m) s r =
@@ -536,9 +532,7 @@ others_by most j (Replacing sets p ps w m) s r =
     sums : (x y z u l w : ℕ) → x ≤ y → y ≡ z + w → x + u + l ≤ z + u + l + w
     sums _ _ _ _ _ _ t g = omega arith
 others_by most j (Completing sets x xs done) s r = omega arith
-others_by most j (Marking sets m) s r = omega arith
-others_by most j (Reverting q qs m) s r = omega arith
-others_by most j (CommitOver end) s r = omega arith
+others_by most j _ s r = omega arith
 
 pub commit_falls : CommitFalls
 commit_falls = record {

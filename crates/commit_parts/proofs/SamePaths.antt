@@ -22,9 +22,8 @@ pub key_parts : (dest : Path) (key : List ℕ) → is_some (relative_in dest.key
 key_parts dest key h = split_by (below dest.key []) key (starts_with nat_eq key (below dest.key [])) refl h
 
 equal_self : (o : Ordering) → o ≡ ordering_reverse o → o ≡ Equal
-equal_self Less e = absurd (cc)
 equal_self Equal e = refl
-equal_self Greater e = absurd (cc)
+equal_self _ e = absurd (cc)
 
 -- a common front does not matter
 front_cmp : (pre p q : List ℕ) → text_cmp (pre ++ p) (pre ++ q) ≡ text_cmp p q

@@ -197,9 +197,8 @@ finds_by items q x f owner best false false e g some most s = finds_kept items q
 finds_by items q x f owner best false true e g some most s = finds_better items q x f owner best some most (eq_not f x e) g s
 
 self_by : (o : Ordering) → o ≡ ordering_reverse o → is_eq o ≡ true
-self_by Less e = absurd (cc)
 self_by Equal e = refl
-self_by Greater e = absurd (cc)
+self_by _ e = absurd (cc)
 
 at_self : (q : List ℕ) → is_at (text_cmp q) q ≡ true
 at_self q = self_by (text_cmp q q) (text_total.antisymm q q)
@@ -208,9 +207,8 @@ at_other : (q k : List ℕ) → (q ≡ k → ⊥) → is_at (text_cmp q) k ≡ f
 at_other q k ne = by (text_cmp q k) refl
   where
     by : (o : Ordering) → text_cmp q k ≡ o → is_eq o ≡ false
-    by Less e = refl
     by Equal e = absurd (ne (slice_cmp-IsAntisymmetric nat_cmp-IsAntisymmetric q k e))
-    by Greater e = refl
+    by _ e = refl
 
 -- the owner of the key is what it was, or this task
 owner_stays : (q : List ℕ) (x : ℕ) (o : Option ℕ) (m n : BTreeMap (List ℕ) ℕ) → get text_cmp m q ≡ o → Updates text_cmp m n q (Some (unwrap_or o x)) → get text_cmp n q ≡ Some (unwrap_or o x)

@@ -15,8 +15,7 @@ not_self x e = by (text_cmp x x) e (text_total.antisymm x x)
   where
     by : (o : Ordering) → o ≡ Less → o ≡ ordering_reverse o → ⊥
     by Less e g = cc
-    by Equal e g = cc
-    by Greater e g = cc
+    by _ e g = cc
 
 -- ---- one more in its place
 

@@ -23,8 +23,7 @@ same_prefixes w picks c m e = ap (λ m. replaced c m w picks) e ∙ by c
   where
     by : (c : Committer) → replaced c Replace w picks ≡ deleted c w.dest (partitions (wanted_paths w picks))
     by Magic = refl
-    by Directory = refl
-    by Partitioned = refl
+    by _ = refl
 
 starts : (w : Script) (sets : Sets) (prefixes : List (List ℕ)) → replacing w sets prefixes ≡ commit_deleting w sets (deletion_of w prefixes sweep_start)
 starts w sets [] = refl

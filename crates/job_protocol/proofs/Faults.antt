@@ -44,8 +44,7 @@ checked_calm w keys _ = refl
 
 cleared_calm : (c : Committer) → SetupCalm (setup.cleared c)
 cleared_calm Magic = refl
-cleared_calm Directory = refl
-cleared_calm Partitioned = refl
+cleared_calm _ = refl
 
 swept_calm : (s : Option Sweep) → SetupCalm (setup.sweeping s)
 swept_calm (Some s) = refl
@@ -63,8 +62,7 @@ WriteCalm s = is_fault (option_map ends.Task (writes.write_over s)) ≡ false
 
 uploaded_calm : (w : Script) (f : File) (fs : List File) (u : Uploaded) → WriteCalm (writes.uploaded w f fs u)
 uploaded_calm w f fs (GoesOn u) = refl
-uploaded_calm w f fs AllSent = refl
-uploaded_calm w f fs IsGone = refl
+uploaded_calm w f fs _ = refl
 
 writing_calm : (fs : List File) → WriteCalm (writes.writing fs)
 writing_calm [] = refl
@@ -109,9 +107,8 @@ partition_calm w a d ds (Page (x ∷ xs) more) = refl
 partition_calm w a d ds _ = refl
 
 sent_calm : (w : Script) (f : File) (fs : List File) (u : Uploaded) → TaskCalm (tasks.uploaded w f fs u)
-sent_calm w f fs (GoesOn u) = refl
 sent_calm w f fs AllSent = storing_calm fs
-sent_calm w f fs IsGone = refl
+sent_calm w f fs _ = refl
 
 renamed_calm : (w : Script) (a : Who) (r : Reply) (b : Bool) → TaskCalm (tasks.renamed w a r b)
 renamed_calm w a (Refused NoSuchFile) true = refl
@@ -121,12 +118,11 @@ renamed_calm w a _ b = refl
 task_calm : (w : Script) (minimum : ℕ) (a : Who) (s : tasks.TaskCommit) (r : Reply) (b : Bool) → TaskCalm s → TaskCalm (tasks.task_commit_hears w minimum a s r b)
 task_calm w minimum a (tasks.Looking keys) r b h = looked_calm w a (walked keys r)
 task_calm w minimum a (tasks.Reading cs f fs) r b h = record_calm w a cs f fs r
-task_calm w minimum a (tasks.Publishing cs) r b h = refl
 task_calm w minimum a (tasks.Checking d ds) r b h = partition_calm w a d ds r
 task_calm w minimum a (tasks.Uploads f fs u) r b h = sent_calm w f fs (upload_hears w minimum f u r)
-task_calm w minimum a tasks.Storing r b h = refl
 task_calm w minimum a tasks.Renaming r b h = renamed_calm w a r b
 task_calm w minimum a (tasks.TaskCommitOver end) r b h = h
+task_calm w minimum a _ r b h = refl
 
 abbrev AbortCalm : aborts.TaskAbort → Type 0
 AbortCalm s = is_fault (option_map ends.Task (aborts.task_abort_over s)) ≡ false
@@ -137,8 +133,7 @@ removing_calm false = refl
 
 dropped_calm : (c : Committer) (b : Bool) → AbortCalm (aborts.dropped c b)
 dropped_calm Magic b = refl
-dropped_calm Directory b = removing_calm b
-dropped_calm Partitioned b = removing_calm b
+dropped_calm _ b = removing_calm b
 
 dropping_calm : (c : Committer) (b : Bool) (ds : List Drawn) → AbortCalm (aborts.dropping c b ds)
 dropping_calm c b [] = dropped_calm c b
@@ -159,8 +154,7 @@ CleanCalm s = is_fault (option_map ends.Clean (cleans.clean_over s)) ≡ false
 
 aborted_calm : (c : Committer) → CleanCalm (cleans.aborted c)
 aborted_calm Magic = refl
-aborted_calm Directory = refl
-aborted_calm Partitioned = refl
+aborted_calm _ = refl
 
 aborting_calm : (c : Committer) (us : List UploadRef) → CleanCalm (cleans.aborting c us)
 aborting_calm c [] = aborted_calm c
@@ -203,9 +197,7 @@ answer_calm g a (TheClean t) r s h = clean_calm g.script t.operation r h
 
 answered_calm : (g : Setting) (a : Who) (op : Operation) (o : Outcome) → was_answered o ≡ true → is_serial op ≡ true → Calm op → Calm (tells g a op o)
 answered_calm g a op (Answered r) b s h = answer_calm g a op r s h
-answered_calm g a op Slow b s h = absurd (false_true refl b)
-answered_calm g a op RequestLost b s h = absurd (false_true refl b)
-answered_calm g a op ReplyLost b s h = absurd (false_true refl b)
+answered_calm g a op _ b s h = absurd (false_true refl b)
 
 -- ---- a sending without an answer, where some are spare and where none is
 
@@ -224,8 +216,7 @@ none_spare retries after m b (suc k) e = absurd (cc)
 step_worn : {M : Type 0} (retries : ℕ) (after : M → Item → M) (t : Retried M) (o : Outcome) → was_answered o ≡ false → t.spare ≡ zero → (step retries after t o).operation ≡ after t.operation WornOut
 step_worn retries after t (Answered r) h e = absurd (false_true h refl)
 step_worn retries after t Slow h e = none_spare retries after t.operation t.repeated t.spare e
-step_worn retries after t RequestLost h e = none_spare retries after t.operation true t.spare e
-step_worn retries after t ReplyLost h e = none_spare retries after t.operation true t.spare e
+step_worn retries after t _ h e = none_spare retries after t.operation true t.spare e
 
 worn_fault : (g : Setting) (a : Who) (op : Operation) (o : Outcome) → was_answered o ≡ false → spare_of op ≡ zero → is_serial op ≡ true → is_fault (over (tells g a op o)) ≡ true
 worn_fault g a (TheSetup t) o b e s = ap (λ x. is_fault (option_map ends.Setup (setup.setup_over x))) (step_worn g.script.retries (setup.setup_after g.script) t o b e)

@@ -27,8 +27,7 @@ hand w (Fetching sets m) = one (set_request w.committer w (length sets)) m
 hand w (Replacing sets p ps s m) = one (sweep_asks w.dest.bucket p s) m
 hand w (Completing sets x xs finished) = map (in_lane sets) (x ∷ xs)
 hand w (Marking sets m) = one (mark_request w sets) m
-hand w (Reverting q qs m) = []
-hand w (CommitOver end) = []
+hand w _ = []
 
 -- a request of this stage was worn first
 abbrev WornAt : ℕ → List Entry → Stage → Type 0
@@ -36,10 +35,7 @@ WornAt retries es stage = (q : Request) × IsFirstWorn retries es q × (stage_of
 
 abbrev EndsAs : ℕ → List Entry → CommitEnd → Type 0
 EndsAs retries es (commits.StoreFault stage) = WornAt retries es stage
-EndsAs retries es commits.Committed = NoneWorn retries es
-EndsAs retries es (commits.Missing t) = NoneWorn retries es
-EndsAs retries es (commits.SamePath p t u) = NoneWorn retries es
-EndsAs retries es commits.NoMemory = NoneWorn retries es
+EndsAs retries es _ = NoneWorn retries es
 
 -- what the commit is doing agrees with its entries
 abbrev Agreed : Script → List Entry → Commit → Type 0
@@ -52,8 +48,7 @@ Agreed w es (Marking sets m) = Counted w.retries es (hand w (Marking sets m))
 
 pub read_stage : (c : Committer) (w : Script) (t : ℕ) → stage_of (set_request c w t) ≡ stages.Read
 read_stage Magic w t = refl
-read_stage Directory w t = refl
-read_stage Partitioned w t = refl
+read_stage _ w t = refl
 
 delete_stage : (bucket p : List ℕ) (s : Sweep) → stage_of (sweep_asks bucket p s) ≡ stages.Delete
 delete_stage bucket p (Listing keys) = refl
@@ -195,8 +190,7 @@ agreed_missed w es (CommitOver end) e lost missed asked apart h a = absurd (none
 agreed_tells : (w : Script) (es : List Entry) (c : Commit) (e : Entry) (o : Outcome) → e.outcome ≡ o → commit_asks w c ≡ Some e.request → Sound c → Tabled w c → Agreed w es c → Agreed w (es ++ e ∷ []) (commit_tells w c o)
 agreed_tells w es c e (Answered r) is asked apart h a = agreed_heard w es c e r (ap was_answered is) asked apart h a
 agreed_tells w es c e Slow is asked apart h a = agreed_missed w es c e false (ap was_answered is) asked apart h a
-agreed_tells w es c e ReplyLost is asked apart h a = agreed_missed w es c e true (ap was_answered is) asked apart h a
-agreed_tells w es c e RequestLost is asked apart h a = agreed_missed w es c e true (ap was_answered is) asked apart h a
+agreed_tells w es c e _ is asked apart h a = agreed_missed w es c e true (ap was_answered is) asked apart h a
 
 -- ---- all of them
 
@@ -209,18 +203,11 @@ agreed_run w done (e ∷ es) c some s t a f =
 
 end_by : (w : Script) (es : List Entry) (x : CommitEnd) → EndsAs w.retries es x → (worn : Option Request) × WornFirst w.retries es worn × EndIs worn x
 end_by w es (commits.StoreFault stage) h = (Some h.0, h.1, ap commits.StoreFault (sym h.2))
-end_by w es commits.Committed n = (None, n, tt)
-end_by w es (commits.Missing t) n = (None, n, tt)
-end_by w es (commits.SamePath p t u) n = (None, n, tt)
-end_by w es commits.NoMemory n = (None, n, tt)
+end_by w es _ n = (None, n, tt)
 
 end_is : (w : Script) (es : List Entry) (c : Commit) (end : CommitEnd) → Agreed w es c → commit_over c ≡ Some end → (worn : Option Request) × WornFirst w.retries es worn × EndIs worn end
 end_is w es (CommitOver x) end a e = let P : CommitEnd → Type 0 = λ v. (worn : Option Request) × WornFirst w.retries es worn × EndIs worn v in subst P (some_is e) (end_by w es x a)
-end_is w es (Fetching sets m) end a e = absurd (none_some refl e)
-end_is w es (Replacing sets p ps s m) end a e = absurd (none_some refl e)
-end_is w es (Completing sets x xs done) end a e = absurd (none_some refl e)
-end_is w es (Marking sets m) end a e = absurd (none_some refl e)
-end_is w es (Reverting q qs m) end a e = absurd (none_some refl e)
+end_is w es _ end a e = absurd (none_some refl e)
 
 pub ends_by_worn : (w : Script) → 0 < w.lanes → (es : List Entry) → Follows (commit_asks w) (commit_tells w) (commit_start w None) es → AllSound w (commit_start w None) es
     → (end : CommitEnd) → commit_over (run (commit_tells w) (commit_start w None) es) ≡ Some end → (worn : Option Request) × WornFirst w.retries es worn × EndIs worn end

@@ -40,9 +40,8 @@ tabled_heard : (w : Script) (c : Commit) (r : Reply) → 0 < w.lanes → Tabled 
 tabled_heard w (Fetching sets m) r some h = tabled_fetched w sets (set_read r) some
 tabled_heard w (Replacing sets p ps s m) r some h = tabled_swept w sets p ps (sweep_hears (is_no_magic w) s r) some
 tabled_heard w (Completing sets x xs done) r some h = tabled_completing w sets (xs ++ follow w.lanes (length (all_commits sets)) x.number) (x.number ∷ done) (table_answered x some h)
-tabled_heard w (Marking sets m) r some h = tt
 tabled_heard w (Reverting q qs m) r some h = tabled_reverting w qs
-tabled_heard w (CommitOver end) r some h = tt
+tabled_heard w _ r some h = tt
 
 tabled_missed : (w : Script) (c : Commit) (lost : Bool) → Tabled w c → Tabled w (commit_misses w c lost)
 tabled_missed w (Fetching sets m) lost h = tabled_either w (nat_lt m w.retries) (Fetching sets (m + 1)) (CommitOver (ends.StoreFault stages.Read)) (λ e. tt) (λ e. tt)
@@ -61,8 +60,7 @@ tabled_missed w (CommitOver end) lost h = tt
 pub tabled_tells : (w : Script) (c : Commit) (o : Outcome) → 0 < w.lanes → Tabled w c → Tabled w (commit_tells w c o)
 tabled_tells w c (Answered r) some t = tabled_heard w c r some t
 tabled_tells w c Slow some t = tabled_missed w c false t
-tabled_tells w c ReplyLost some t = tabled_missed w c true t
-tabled_tells w c RequestLost some t = tabled_missed w c true t
+tabled_tells w c _ some t = tabled_missed w c true t
 
 pub tabled_start : (w : Script) (missing : Option ℕ) → 0 < w.lanes → Tabled w (commit_start w missing)
 tabled_start w (Some t) some = tt

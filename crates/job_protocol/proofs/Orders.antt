@@ -20,9 +20,7 @@ abbrev Ordered : Script → ℕ → Commit → Type 0
 Ordered w from (Completing sets x xs done) = (from < w.lanes) × InOrder w.lanes from (x ∷ xs)
 Ordered w from (Fetching sets m) = from ≡ 0
 Ordered w from (Replacing sets p ps s m) = from ≡ 0
-Ordered w from (Marking sets m) = Unit {0}
-Ordered w from (Reverting q qs m) = Unit {0}
-Ordered w from (CommitOver end) = Unit {0}
+Ordered w from _ = Unit {0}
 
 -- ---- lanes by remainders
 
@@ -136,9 +134,8 @@ ordered_heard w from (Fetching sets m) r some o = let P : ℕ → Type 0 = λ v.
 ordered_heard w from (Replacing sets p ps s m) r some o = let P : ℕ → Type 0 = λ v. Ordered w v (swept w sets p ps (sweep_hears (is_no_magic w) s r)) in subst P (sym o) (ordered_swept w sets p ps (sweep_hears (is_no_magic w) s r) some)
 ordered_heard w from (Completing sets x xs done) r some o =
     ordered_completing w (after_lane w.lanes (x.number % w.lanes)) sets (xs ++ follow w.lanes (length (all_commits sets)) x.number) (x.number ∷ done) (after_within w.lanes (x.number % w.lanes) (mod-lt x.number some)) (ordered_follow w.lanes (length (all_commits sets)) from x xs some o.0 o.1)
-ordered_heard w from (Marking sets m) r some o = tt
 ordered_heard w from (Reverting q qs m) r some o = ordered_reverting w from qs
-ordered_heard w from (CommitOver end) r some o = tt
+ordered_heard w from _ r some o = tt
 
 ordered_missed : (w : Script) (from : ℕ) (c : Commit) (lost : Bool) → 0 < w.lanes → Ordered w from c → Ordered w (next_lane w.lanes from c) (commit_misses w c lost)
 ordered_missed w from (Fetching sets m) lost some o = ordered_either w from (nat_lt m w.retries) (Fetching sets (m + 1)) (CommitOver (commits.StoreFault stages.Read)) o tt
@@ -154,8 +151,7 @@ ordered_missed w from (CommitOver end) lost some o = tt
 ordered_tells : (w : Script) (from : ℕ) (c : Commit) (o : Outcome) → 0 < w.lanes → Ordered w from c → Ordered w (next_lane w.lanes from c) (commit_tells w c o)
 ordered_tells w from c (Answered r) some d = ordered_heard w from c r some d
 ordered_tells w from c Slow some d = ordered_missed w from c false some d
-ordered_tells w from c ReplyLost some d = ordered_missed w from c true some d
-ordered_tells w from c RequestLost some d = ordered_missed w from c true some d
+ordered_tells w from c _ some d = ordered_missed w from c true some d
 
 ordered_run : (w : Script) (es : List Entry) (c : Commit) (from : ℕ) → 0 < w.lanes → Ordered w from c → Ordered w (lane_after w c from es) (run (commit_tells w) c es)
 ordered_run w [] c from some o = o

@@ -213,8 +213,7 @@ Found w picks ps e = (p : List ℕ) × (t : ℕ) × (u : ℕ) × (e ≡ SamePath
 
 self_by : (o : Ordering) → o ≡ ordering_reverse o → is_lt o ≡ false
 self_by Less e = absurd (cc)
-self_by Equal e = refl
-self_by Greater e = refl
+self_by _ e = refl
 
 not_before : (p q : List ℕ) → text_cmp p q ≡ Less → is_lt (text_cmp q p) ≡ false
 not_before p q e = ap is_lt (text_total.antisymm q p ∙ ap ordering_reverse e)

@@ -6,5 +6,4 @@ use Rattle.job_protocol.specs.Records.{sizes_by}
 pub sizes_told : (c : Committer) (sizes : List ℕ) (tags : List Spelled) (total : ℕ)
     → are_sizes (Some sizes) tags total ≡ true → are_sizes (sizes_by c sizes) tags total ≡ true
 sizes_told Magic sizes tags total h = h
-sizes_told Directory sizes tags total h = refl
-sizes_told Partitioned sizes tags total h = refl
+sizes_told _ sizes tags total h = refl

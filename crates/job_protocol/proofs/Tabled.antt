@@ -18,48 +18,27 @@ mapped f None None h = h
 
 of_setup : (w : Script) (s : setup.Setup) → OneOf (setup.setup_asks w s) (setup.setup_over s)
 of_setup w setup.Heading = tt
-of_setup w (setup.Checking keys) = tt
-of_setup w setup.Clearing = tt
-of_setup w (setup.Sweeping s) = tt
-of_setup w (setup.SetupOver end) = tt
+of_setup w _ = tt
 
 of_write : (w : Script) (a : Who) (k : Known) (s : writes.Write) → OneOf (writes.write_asks w a k s) (writes.write_over s)
 of_write w a k (writes.Uploads f fs u) = tt
-of_write w a k (writes.Marking f fs) = tt
-of_write w a k (writes.Recording f fs) = tt
-of_write w a k (writes.WriteOver end) = tt
+of_write w a k _ = tt
 
 of_task : (w : Script) (a : Who) (k : Known) (s : tasks.TaskCommit) → OneOf (tasks.task_commit_asks w a k s) (tasks.task_commit_over s)
 of_task w a k (tasks.Looking keys) = tt
-of_task w a k (tasks.Reading cs f fs) = tt
-of_task w a k (tasks.Publishing cs) = tt
-of_task w a k (tasks.Checking d ds) = tt
-of_task w a k (tasks.Uploads f fs u) = tt
-of_task w a k tasks.Storing = tt
-of_task w a k tasks.Renaming = tt
-of_task w a k (tasks.TaskCommitOver end) = tt
+of_task w a k _ = tt
 
 of_abort : (w : Script) (a : Who) (s : aborts.TaskAbort) → OneOf (aborts.task_abort_asks w a s) (aborts.task_abort_over s)
 of_abort w a (aborts.Dropping d ds sent) = tt
-of_abort w a (aborts.Sweeping s) = tt
-of_abort w a aborts.Removing = tt
-of_abort w a (aborts.TaskAbortOver end) = tt
+of_abort w a _ = tt
 
 of_commit : (w : Script) (s : commits.Commit) → OneOf (commits.commit_asks w s) (commits.commit_over s)
 of_commit w (commits.Fetching sets m) = tt
-of_commit w (commits.Replacing sets p ps s m) = tt
-of_commit w (commits.Completing sets x xs finished) = tt
-of_commit w (commits.Marking sets m) = tt
-of_commit w (commits.Reverting r rs m) = tt
-of_commit w (commits.CommitOver end) = tt
+of_commit w _ = tt
 
 of_clean : (w : Script) (s : cleans.Clean) → OneOf (cleans.clean_asks w s) (cleans.clean_over s)
 of_clean w (cleans.Walking found) = tt
-of_clean w (cleans.Aborting u us) = tt
-of_clean w (cleans.Sweeping s) = tt
-of_clean w cleans.Naming = tt
-of_clean w (cleans.Removing p ps) = tt
-of_clean w (cleans.CleanOver end) = tt
+of_clean w _ = tt
 
 pub goes_on : (g : Setting) (a : Who) (k : Known) (op : Operation) → OneOf (asks g a k op) (over op)
 goes_on g a k (TheSetup t) = mapped _ _ _ (of_setup g.script t.operation)

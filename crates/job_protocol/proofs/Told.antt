@@ -35,9 +35,7 @@ module _ (w : Script) (n : ℕ) (a : Who) (k : Known) where
   write_asks_same : (l : Known) (o : writes.Write) → writes.write_asks plan a l o ≡ writes.write_asks w a l o
   write_asks_same l (writes.Uploads f fs Creating) = refl
   write_asks_same l (writes.Uploads f fs (Sending p ps)) = refl
-  write_asks_same l (writes.Marking f fs) = refl
-  write_asks_same l (writes.Recording f fs) = refl
-  write_asks_same l (writes.WriteOver e) = refl
+  write_asks_same l _ = refl
 
   write_goes_same : (o : writes.Write) (i : Item) → writes.write_after plan n o i ≡ writes.write_after w n o i
   write_goes_same o WornOut = refl
@@ -62,19 +60,13 @@ module _ (w : Script) (n : ℕ) (a : Who) (k : Known) where
 
   start_same : (c : Committer) → commits.task_commit_start_by c plan a ≡ commits.task_commit_start_by c w a
   start_same Magic = refl
-  start_same Directory = ap (commits.checking plan a) to_check_same ∙ checking_same (commits.to_check w a)
-  start_same Partitioned = ap (commits.checking plan a) to_check_same ∙ checking_same (commits.to_check w a)
+  start_same _ = ap (commits.checking plan a) to_check_same ∙ checking_same (commits.to_check w a)
 
   commit_asks_same : (l : Known) (o : commits.TaskCommit) → commits.task_commit_asks plan a l o ≡ commits.task_commit_asks w a l o
-  commit_asks_same l (commits.Looking keys) = refl
-  commit_asks_same l (commits.Reading cs f fs) = refl
-  commit_asks_same l (commits.Publishing cs) = refl
-  commit_asks_same l (commits.Checking d ds) = refl
   commit_asks_same l (commits.Uploads f fs Creating) = refl
   commit_asks_same l (commits.Uploads f fs (Sending p ps)) = refl
   commit_asks_same l commits.Storing = ap (λ fs. Some (ClusterPut (commits.temporary_path w a) (set_text w a fs l))) files_same
-  commit_asks_same l commits.Renaming = refl
-  commit_asks_same l (commits.TaskCommitOver e) = refl
+  commit_asks_same l _ = refl
 
   looked_same : (x : Walked (List ℕ)) → commits.looked plan a x ≡ commits.looked w a x
   looked_same (More keys) = refl
@@ -102,9 +94,7 @@ module _ (w : Script) (n : ℕ) (a : Who) (k : Known) where
 
   abort_asks_same : (o : aborts.TaskAbort) → aborts.task_abort_asks plan a o ≡ aborts.task_abort_asks w a o
   abort_asks_same (aborts.Dropping d ds sent) = refl
-  abort_asks_same (aborts.Sweeping s) = refl
-  abort_asks_same aborts.Removing = refl
-  abort_asks_same (aborts.TaskAbortOver e) = refl
+  abort_asks_same _ = refl
 
   abort_goes_same : (o : aborts.TaskAbort) (i : Item) → aborts.task_abort_after plan o i ≡ aborts.task_abort_after w o i
   abort_goes_same o WornOut = refl
@@ -132,10 +122,7 @@ tasks_tell = record {
 
 setup_asks_same : (w : Script) (o : Setup) → setup_asks (job_script (job_of w)) o ≡ setup_asks w o
 setup_asks_same w Heading = refl
-setup_asks_same w (Checking keys) = refl
-setup_asks_same w Clearing = refl
-setup_asks_same w (Sweeping s) = refl
-setup_asks_same w (SetupOver e) = refl
+setup_asks_same w _ = refl
 
 first_same : (w : Script) (keys : List (List ℕ)) → first_shown (job_script (job_of w)) keys ≡ first_shown w keys
 first_same w [] = refl
@@ -160,11 +147,7 @@ setup_goes_same w (SetupOver e) (Got r b) = refl
 
 clean_asks_same : (w : Script) (o : cleans.Clean) → cleans.clean_asks (job_script (job_of w)) o ≡ cleans.clean_asks w o
 clean_asks_same w (cleans.Walking found) = refl
-clean_asks_same w (cleans.Aborting u us) = refl
-clean_asks_same w (cleans.Sweeping s) = refl
-clean_asks_same w cleans.Naming = refl
-clean_asks_same w (cleans.Removing p ps) = refl
-clean_asks_same w (cleans.CleanOver e) = refl
+clean_asks_same w _ = refl
 
 clean_goes_same : (w : Script) (o : cleans.Clean) (i : Item) → cleans.clean_after (job_script (job_of w)) o i ≡ cleans.clean_after w o i
 clean_goes_same w o WornOut = refl

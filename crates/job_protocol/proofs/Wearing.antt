@@ -18,15 +18,11 @@ false_true e f = cc
 
 upload_stays : (ds : List Drawn) (key : List ℕ) (o : Outcome) → was_answered o ≡ false → learn_upload ds key o ≡ ds
 upload_stays ds key (Answered r) h = absurd (false_true h refl)
-upload_stays ds key Slow h = refl
-upload_stays ds key RequestLost h = refl
-upload_stays ds key ReplyLost h = refl
+upload_stays ds key _ h = refl
 
 part_stays : (ds : List Drawn) (id size : ℕ) (o : Outcome) → was_answered o ≡ false → learn_part ds id size o ≡ ds
 part_stays ds id size (Answered r) h = absurd (false_true h refl)
-part_stays ds id size Slow h = refl
-part_stays ds id size RequestLost h = refl
-part_stays ds id size ReplyLost h = refl
+part_stays ds id size _ h = refl
 
 drawn_stays : (w : Script) (a : Who) (k : Known) (r : Request) (o : Outcome) → was_answered o ≡ false → (learn w a k r o).drawn ≡ k.drawn
 drawn_stays w a k (CreateUpload bucket key) o h = upload_stays k.drawn key o h
@@ -51,20 +47,15 @@ text_by w a cs ds = compact_text (set_tree (record { job = w.job; task = a.task;
 
 write_same : (w : Script) (a : Who) (k l : Known) (s : writes.Write) → k.drawn ≡ l.drawn → writes.write_asks w a k s ≡ writes.write_asks w a l s
 write_same w a k l (writes.Uploads f fs u) e = ap Some (upload_same w k l f u e)
-write_same w a k l (writes.Marking f fs) e = refl
 write_same w a k l (writes.Recording f fs) e = ap (λ ds. Some (PutObject w.dest.bucket (record_key w a f) (record_text w a f (first_drawn ds)) None)) e
-write_same w a k l (writes.WriteOver end) e = refl
+write_same w a k l _ e = refl
 
 task_same : (w : Script) (a : Who) (k l : Known) (s : tasks.TaskCommit) → k.drawn ≡ l.drawn → tasks.task_commit_asks w a k s ≡ tasks.task_commit_asks w a l s
 unfolding text_by
-task_same w a k l (tasks.Looking keys) e = refl
-task_same w a k l (tasks.Reading cs f fs) e = refl
 task_same w a k l (tasks.Publishing cs) e = ap (λ ds. Some (PutObject w.dest.bucket (layout.set_key w.dest.key w.job a.task) (text_by w a cs ds) None)) e
-task_same w a k l (tasks.Checking d ds) e = refl
 task_same w a k l (tasks.Uploads f fs u) e = ap Some (upload_same w k l f u e)
 task_same w a k l tasks.Storing e = ap (λ ds. Some (ClusterPut (tasks.temporary_path w a) (text_by w a (files w a) ds))) e
-task_same w a k l tasks.Renaming e = refl
-task_same w a k l (tasks.TaskCommitOver end) e = refl
+task_same w a k l _ e = refl
 
 -- ---- a step of an operation of replies
 
@@ -75,24 +66,17 @@ one_less retries after m b (suc k) n e = let i : k ≡ n = cc in (refl, i)
 pub step_again : {M : Type 0} (retries : ℕ) (after : M → Item → M) (t : Retried M) (o : Outcome) (n : ℕ) → was_answered o ≡ false → t.spare ≡ suc n → ((step retries after t o).operation ≡ t.operation) × ((step retries after t o).spare ≡ n)
 step_again retries after t (Answered r) n h e = absurd (false_true h refl)
 step_again retries after t Slow n h e = one_less retries after t.operation t.repeated t.spare n e
-step_again retries after t RequestLost n h e = one_less retries after t.operation true t.spare n e
-step_again retries after t ReplyLost n h e = one_less retries after t.operation true t.spare n e
+step_again retries after t _ n h e = one_less retries after t.operation true t.spare n e
 
 step_answered : {M : Type 0} (retries : ℕ) (after : M → Item → M) (t : Retried M) (o : Outcome) → was_answered o ≡ true → (step retries after t o).spare ≡ retries
 step_answered retries after t (Answered r) h = refl
-step_answered retries after t Slow h = absurd (false_true refl h)
-step_answered retries after t RequestLost h = absurd (false_true refl h)
-step_answered retries after t ReplyLost h = absurd (false_true refl h)
+step_answered retries after t _ h = absurd (false_true refl h)
 
 -- ---- an operation counts
 
 pub stays_serial : (g : Setting) (a : Who) (op : Operation) (o : Outcome) → is_serial op ≡ true → is_serial (tells g a op o) ≡ true
-stays_serial g a (TheSetup t) o h = refl
-stays_serial g a (TheWrite t) o h = refl
-stays_serial g a (TheTaskCommit t) o h = refl
-stays_serial g a (TheTaskAbort t) o h = refl
 stays_serial g a (TheCommit c) o h = absurd (false_true refl h)
-stays_serial g a (TheClean t) o h = refl
+stays_serial g a _ o h = refl
 
 all_spare : (g : Setting) (a : Who) (op : Operation) (o : Outcome) → is_serial op ≡ true → was_answered o ≡ true → spare_of (tells g a op o) ≡ g.script.retries
 all_spare g a (TheSetup t) o s h = step_answered g.script.retries (setup.setup_after g.script) t o h

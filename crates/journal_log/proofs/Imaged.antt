@@ -17,8 +17,7 @@ use Rattle.journal_log.proofs.Journals.{folded, changes_append, content_append}
 
 not_tied : (r : Ordering) → T (is_lt r) → is_eq r ≡ false
 not_tied Less h = refl
-not_tied Equal h = absurd h
-not_tied Greater h = absurd h
+not_tied _ h = absurd h
 
 module _ {K X : Type 0} {R : K → K → Ordering} (o : IsTotalOrder R) (exact : fin.IsAntisymmetric R) where
   -- a key that is below all others is none of them

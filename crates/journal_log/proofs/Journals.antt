@@ -111,10 +111,9 @@ applied s r = by (is_changing r) (store_alone s r) (others_leave s r)
     by false does leaves = leaves refl
 
 effect_of : (s : Scene) (r : Request) (o : Outcome) → (effect s r o).content ≡ content_after s.content (cond (is_effective o) (cond (is_changing r) (r ∷ []) []) [])
-effect_of s r (Answered a) = applied s r
 effect_of s r Slow = refl
 effect_of s r RequestLost = refl
-effect_of s r ReplyLost = applied s r
+effect_of s r _ = applied s r
 
 pub follows : (s : Scene) (es : List Entry) → content_after s.content (changes es) ≡ (after_all s es).content
 follows s [] = ap (content_after s.content) changes_none

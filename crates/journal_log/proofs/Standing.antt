@@ -24,19 +24,16 @@ begins_longer xs ys zs h = (h.0 ++ zs, sym (append_assoc xs h.0 zs) ∙ ap (λ (
 -- ---- growth
 
 pub grown_none : (h : Holding) → grown_by h [] ≡ h
-grown_none Nothing = refl
 grown_none (Stands held) = ap (λ (rs : List Request). Stands (record { base = held.base; changes = rs })) (append-nil held.changes)
-grown_none (BadAt place) = refl
+grown_none _ = refl
 
 pub grown_one : (h : Holding) (r : Request) → grown h r ≡ grown_by h (r ∷ [])
 grown_one Nothing r = refl
-grown_one (Stands held) r = refl
-grown_one (BadAt place) r = refl
+grown_one _ r = refl
 
 pub grown_then : (h : Holding) (rs qs : List Request) → grown_by (grown_by h rs) qs ≡ grown_by h (rs ++ qs)
-grown_then Nothing rs qs = refl
 grown_then (Stands held) rs qs = ap (λ (l : List Request). Stands (record { base = held.base; changes = l })) (append_assoc held.changes rs qs)
-grown_then (BadAt place) rs qs = refl
+grown_then _ rs qs = refl
 
 pub holds_none : (o : Option Stored) → HoldsGrownBy o o []
 holds_none None = refl

@@ -42,8 +42,7 @@ behind_too a k (q ∷ ks) l h = (less (text_cmp a q) (lt_trans text_total a k q 
   where
     less : (r : Ordering) → is_lt r ≡ true → r ≡ Less
     less Less e = refl
-    less Equal e = absurd (cc)
-    less Greater e = absurd (cc)
+    less _ e = absurd (cc)
 
 walked_count : (p a : List ℕ) (es : List (List ℕ × Object)) → IsStrictlySortedBy text_cmp (keys_of es) → length (walked p false a es) ≡ count (is_left p a) es
 walked_count p a [] s = refl
@@ -96,9 +95,8 @@ apart : (k q : List ℕ) (i j : ℕ) → nat_cmp i j ≡ Less → is_eq (orderin
 apart k q i j h = by (text_cmp k q) (nat_cmp i j) h
   where
     by : (r s : Ordering) → s ≡ Less → is_eq (ordering_then r s) ≡ false
-    by Less s e = refl
     by Equal s e = ap is_eq e
-    by Greater s e = refl
+    by _ s e = refl
 
 new_ref : (e : ℕ × Upload) (es : List (ℕ × Upload)) → AllByRecursion (λ j. nat_cmp e.0 j ≡ Less) (keys_of es) → find ref_cmp (ref_of e).0 (map ref_of es) ≡ None
 new_ref e [] h = refl

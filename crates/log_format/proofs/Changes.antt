@@ -219,13 +219,4 @@ change_again at (CompleteUpload b k id ps) is fits =
     kind_again at 8 (upload ((b, k), id) ++ counted named ps) (CompleteUpload b k id ps)
     (told_again (pair_at (upload_at at) (counted_at (named_at at) at)) (λ x. upload x.0 ++ counted named x.1) (AreBoth IsUpload (AreFew IsNamed)) (complete_reader at) (λ x. CompleteUpload x.0.0.0 x.0.0.1 x.0.1 x.1) at 8 (((b, k), id), ps) is fits)
 change_again at (AbortUpload b k id) is fits = kind_again at 9 (upload ((b, k), id)) (AbortUpload b k id) (told_again (upload_at at) upload IsUpload (upload_reader at) (λ x. AbortUpload x.0.0 x.0.1 x.1) at 9 ((b, k), id) is fits)
-change_again at (GetObject b k) is fits = absurd is
-change_again at (HeadObject b k) is fits = absurd is
-change_again at (ListPage b p d a l) is fits = absurd is
-change_again at (ListParts b k id) is fits = absurd is
-change_again at (ListUploads b p a l) is fits = absurd is
-change_again at (ClusterPut p bytes) is fits = absurd is
-change_again at (ClusterRename s t) is fits = absurd is
-change_again at (ClusterGet p) is fits = absurd is
-change_again at (ClusterDelete p) is fits = absurd is
-change_again at (ClusterList p) is fits = absurd is
+change_again at _ is fits = absurd is

@@ -79,11 +79,10 @@ abbrev set_in : ℕ → List ℕ
 set_in t = codes "sets/task_" ++ (decimal t ++ codes ".pendingset")
 
 abbrev inner : Place → List ℕ
-inner (FilePlace p) = []
 inner (MarkerPlace t a p) = attempt_in t a p
 inner (RecordPlace t a p) = attempt_in t a (p ++ codes ".pending")
 inner (SetPlace t) = set_in t
-inner SuccessPlace = []
+inner _ = []
 
 record SameAttempt (t a : ℕ) (p : List ℕ) (u b : ℕ) (q : List ℕ) : Type 0 where
   pub task : t ≡ u
@@ -142,15 +141,12 @@ pub tail_is : (dest id : List ℕ) (p : Place) → 1 ≤ length dest → key_at 
 tail_is dest id (FilePlace p) some = below_is dest p some
 tail_is dest id (MarkerPlace t a p) some = in_attempt dest id t a p some
 tail_is dest id (RecordPlace t a p) some = in_attempt dest id t a (p ++ codes ".pending") some
-tail_is dest id (SetPlace t) some = refl
-tail_is dest id SuccessPlace some = refl
+tail_is dest id _ some = refl
 
 tail_magic : (id : List ℕ) (p : Place) → is_magic_place p ≡ true → tail id p ≡ codes "/__magic/job-" ++ (id ++ 47 ∷ inner p)
 tail_magic id (FilePlace p) m = absurd (true≢false (sym m))
-tail_magic id (MarkerPlace t a p) m = refl
-tail_magic id (RecordPlace t a p) m = refl
-tail_magic id (SetPlace t) m = refl
 tail_magic id SuccessPlace m = absurd (true≢false (sym m))
+tail_magic id _ m = refl
 
 -- the second byte of a tail is `_` but for files, and then `S` for the marker of a committed job
 abbrev kind_of : List ℕ → ℕ
@@ -161,32 +157,23 @@ open_first b h = grind (arith, nat_tests)
 
 abbrev number : Place → ℕ
 number (FilePlace p) = 0
-number (MarkerPlace t a p) = 2
-number (RecordPlace t a p) = 2
-number (SetPlace t) = 2
 number SuccessPlace = 1
+number _ = 2
 
 number_is : (id : List ℕ) (p : Place) → IsPlace p → kind_of (tail id p) ≡ number p
 number_is id (FilePlace []) g = absurd (true≢false (sym g))
 number_is id (FilePlace (b ∷ bs)) g = rw (open_first b g) refl
-number_is id (MarkerPlace t a p) g = refl
-number_is id (RecordPlace t a p) g = refl
-number_is id (SetPlace t) g = refl
-number_is id SuccessPlace g = refl
+number_is id _ g = refl
 
 magic_number : (p : Place) → number p ≡ 2 → is_magic_place p ≡ true
 magic_number (FilePlace p) e = absurd (omega arith)
-magic_number (MarkerPlace t a p) e = refl
-magic_number (RecordPlace t a p) e = refl
-magic_number (SetPlace t) e = refl
 magic_number SuccessPlace e = absurd (omega arith)
+magic_number _ e = refl
 
 number_magic : (p : Place) → is_magic_place p ≡ true → number p ≡ 2
 number_magic (FilePlace p) m = absurd (true≢false (sym m))
-number_magic (MarkerPlace t a p) m = refl
-number_magic (RecordPlace t a p) m = refl
-number_magic (SetPlace t) m = refl
 number_magic SuccessPlace m = absurd (true≢false (sym m))
+number_magic _ m = refl
 
 same_number : (id other : List ℕ) (p q : Place) → IsPlace p → IsPlace q → tail id p ≡ tail other q → number p ≡ number q
 same_number id other p q g h e = sym (number_is id p g) ∙ ap kind_of e ∙ number_is other q h

@@ -70,9 +70,8 @@ not_falling : (a b : UploadRef) → ref_cmp a b ≡ Less → lt text_cmp b.key a
 not_falling a b h = lt_back text_total a.key b.key ∙ by (text_cmp a.key b.key) (nat_cmp a.upload b.upload) h
   where
     by : (r s : Ordering) → ordering_then r s ≡ Less → is_gt r ≡ false
-    by Less s h = refl
-    by Equal s h = refl
     by Greater s h = ap is_gt h
+    by _ s h = refl
 
 kept_follows : (f : UploadRef → Bool) (r : UploadRef) (rs : List UploadRef) → IsStrictlySortedBy ref_cmp (r ∷ rs) → Follows r.key (filter f rs)
 kept_follows f r [] s = tt
@@ -152,8 +151,7 @@ first_after p a m l = same_below p (is_behind None) (is_behind (Some a)) (map (�
   where
     by : (r s : Ordering) → is_lt r ≡ true → is_lt (ordering_then r s) ≡ true
     by Less s h = refl
-    by Equal s h = absurd (false≢true h)
-    by Greater s h = absurd (false≢true h)
+    by _ s h = absurd (false≢true h)
 
 filter_own : (f : UploadRef × List ℕ → Bool) (es : List (UploadRef × List ℕ)) → AreOwn es → AreOwn (filter f es)
 filter_own f [] h = tt

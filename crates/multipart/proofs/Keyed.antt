@@ -18,8 +18,7 @@ exact_refs a b h = ap (λ (p : List ℕ × ℕ). record { key = p.0; upload = p.
 
 both_tied : (r s : Ordering) → is_eq (ordering_then r s) ≡ (is_eq r && is_eq s)
 both_tied Less s = refl
-both_tied Equal s = refl
-both_tied Greater s = refl
+both_tied _ s = refl
 
 and_false : (b : Bool) → (b && false) ≡ false
 and_false true = refl
@@ -42,9 +41,8 @@ not_later i x [] e h = refl
 not_later i x (f ∷ es) e h = by (not_later i x es e) (is_lt (nat_cmp x f.0)) refl h
   where
     not_tied : (r : Ordering) → is_lt r ≡ true → is_eq r ≡ false
-    not_tied Less h = refl
     not_tied Equal h = absurd (false≢true h)
-    not_tied Greater h = refl
+    not_tied _ h = refl
 
     by : (T (list.below_all nat_cmp x es) → find nat_cmp i es ≡ None) → (b : Bool) → is_lt (nat_cmp x f.0) ≡ b → T (b && list.below_all nat_cmp x es) → find nat_cmp i (f ∷ es) ≡ None
     by ih true t h =
@@ -146,9 +144,8 @@ bare_put r k [] = refl
 bare_put r k (e ∷ es) = by (ref_cmp r e.0) (bare_put r k es)
   where
     by : (o : Ordering) → list.put ref_cmp r tt (bare es) ≡ bare (list.put ref_cmp r k es) → list.by_order o ((r, tt) ∷ bare (e ∷ es)) ((e.0, tt) ∷ bare es) ((e.0, tt) ∷ list.put ref_cmp r tt (bare es)) ≡ bare (list.by_order o ((r, k) ∷ e ∷ es) ((e.0, k) ∷ es) (e ∷ list.put ref_cmp r k es))
-    by Less ih = refl
-    by Equal ih = refl
     by Greater ih = ap (λ l. (e.0, tt) ∷ l) ih
+    by _ ih = refl
 
 entries_bare : (es : List (ℕ × Upload)) → entries (from_entries {R = ref_cmp} (map ref_of es)) ≡ bare (entries (from_entries {R = ref_cmp} (map keyed_of es)))
 entries_bare [] = entries_empty ref_cmp ∙ sym (ap bare (entries_empty ref_cmp))

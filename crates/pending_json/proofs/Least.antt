@@ -12,9 +12,8 @@ use Rattle.pending_json.proofs.Members.{Above, Rising, above_next, none_above, s
 use Rattle.pending_json.proofs.Ordered.{Ordered, ItemsOrdered, tree_ordered, field_ordered}
 
 passes_at : (k l : List ℕ) (e : Data) (ms : Members) → (k ≡ l → ⊥) → (o : Ordering) → slice_cmp nat_cmp k l ≡ o → get_member k (member l e ms) ≡ get_member k ms
-passes_at k l e ms apart Less is = rw is refl
 passes_at k l e ms apart Equal is = absurd (apart (same k l is))
-passes_at k l e ms apart Greater is = rw is refl
+passes_at k l e ms apart _ is = rw is refl
 
 passes : (k l : List ℕ) (e : Data) (ms : Members) → (k ≡ l → ⊥) → get_member k (member l e ms) ≡ get_member k ms
 passes k l e ms apart = passes_at k l e ms apart _ refl

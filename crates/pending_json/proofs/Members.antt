@@ -106,9 +106,8 @@ name_at names k l ms true is e = (is, e)
 name_at names k l ms false is e = absurd cc
 
 skipped : (names : List (List ℕ)) (k l : List ℕ) (e : Data) (ms : Members) → is_one_of names k ≡ false → is_one_of names l ≡ true → get_member k ms ≡ None → (o : Ordering) → slice_cmp nat_cmp k l ≡ o → get_member k (member l e ms) ≡ None
-skipped names k l e ms out inside later Less is = rw is later
-skipped names k l e ms out inside later Greater is = rw is later
 skipped names k l e ms out inside later Equal is = absurd (true≢false (sym inside ∙ sym (ap (is_one_of names) (same k l is)) ∙ out))
+skipped names k l e ms out inside later _ is = rw is later
 
 -- a name of no table is not there
 pub no_other : (names : List (List ℕ)) (k : List ℕ) (ms : Members) → only_fields (is_one_of names) ms ≡ Ok tt → is_one_of names k ≡ false → get_member k ms ≡ None

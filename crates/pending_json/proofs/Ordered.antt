@@ -73,9 +73,8 @@ pub tree_ordered : (bytes : List ℕ) (d : Data) → tree_read bytes ≡ Some d 
 tree_ordered bytes d e = at_read _ bytes d e
 
 member_ordered_at : (o : Ordering) (k l : List ℕ) (e v : Data) (ms : Members) → Ordered e → (get_member k ms ≡ Some v → Ordered v) → match_ordering o (get_member k ms) (Some e) (get_member k ms) ≡ Some v → Ordered v
-member_ordered_at Less k l e v ms a later h = later h
 member_ordered_at Equal k l e v ms a later h = some_to Ordered e v h a
-member_ordered_at Greater k l e v ms a later h = later h
+member_ordered_at _ k l e v ms a later h = later h
 
 member_ordered : (k : List ℕ) (ms : Members) (v : Data) → MembersOrdered ms → get_member k ms ≡ Some v → Ordered v
 member_ordered k no_members v o h = absurd cc

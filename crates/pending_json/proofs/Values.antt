@@ -156,8 +156,7 @@ sizes_again ns count total h = rw (wholes_again ns, h) refl
 
 pub committer_again : (c : Committer) → as_committer (string (committer_word c)) ≡ Some c
 committer_again Magic = refl
-committer_again Directory = refl
-committer_again Partitioned = refl
+committer_again _ = refl
 
 -- ---- the version
 

@@ -6,23 +6,19 @@ use Rattle.proof_base.proofs.Bools.{contrary}
 
 turned : (r : Ordering) → is_lt (ordering_reverse r) ≡ is_gt r
 turned Less = refl
-turned Equal = refl
-turned Greater = refl
+turned _ = refl
 
 le_is : (r : Ordering) → is_le r ≡ not (is_gt r)
 le_is Less = refl
-le_is Equal = refl
-le_is Greater = refl
+le_is _ = refl
 
 pub less_of : (r : Ordering) → is_lt r ≡ true → r ≡ Less
 less_of Less h = refl
-less_of Equal h = absurd (false≢true h)
-less_of Greater h = absurd (false≢true h)
+less_of _ h = absurd (false≢true h)
 
 flipped : (r : Ordering) → r ≡ ordering_reverse r → is_lt r ≡ false
 flipped Less e = ap is_lt e
-flipped Equal e = refl
-flipped Greater e = refl
+flipped _ e = refl
 
 not_false : (b : Bool) → (b ≡ false → false ≡ true) → b ≡ true
 not_false true f = refl

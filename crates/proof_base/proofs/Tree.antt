@@ -16,9 +16,8 @@ pub entries_empty : {K X : Type 0} (R : K → K → Ordering) → entries (empty
 entries_empty {K} {X} R = no_length _ (sym (len-entries (empty {X = X} {R = R})) ∙ len-empty R X)
 
 pub tied : (r : Ordering) → is_eq r ≡ true → r ≡ Equal
-tied Less h = absurd (cc)
 tied Equal h = refl
-tied Greater h = absurd (cc)
+tied _ h = absurd (cc)
 
 module _ {K X : Type 0} {R : K → K → Ordering} (o : IsTotalOrder R) (exact : CmpEqualImpliesEq R) where
   -- what is there already is put there
@@ -81,8 +80,7 @@ filter_all (e ∷ es) = ap (λ l. e ∷ l) (filter_all es)
 
 less_T : (r : Ordering) → T (is_lt r) → r ≡ Less
 less_T Less h = refl
-less_T Equal h = absurd h
-less_T Greater h = absurd h
+less_T _ h = absurd h
 
 module _ {K X : Type 0} (R : K → K → Ordering) where
   all_above : (k : K) (es : List (K × X)) → T (below_all R k es) → AllByRecursion (λ y. R k y ≡ Less) (keys_of es)

@@ -146,8 +146,7 @@ module _ {M : Type 0} (retries : ℕ) (asks : M → Option Request) (after : M �
       subst (λ l. WornFirst retries l (worn_in retries after (step retries after (record { operation = m; spare = n; repeated = repeated }) (Answered r)) es)) (snoc done e es)
       (later (step retries after (record { operation = m; spare = n; repeated = repeated }) (Answered r)) (answered_one retries n done (asks m) _ e c asked (ap was_answered is)) f)
   one_sent done m repeated n e Slow es is c asked later f = one_missed done m repeated repeated n e es c asked (ap was_answered is) later f
-  one_sent done m repeated n e RequestLost es is c asked later f = one_missed done m repeated true n e es c asked (ap was_answered is) later f
-  one_sent done m repeated n e ReplyLost es is c asked later f = one_missed done m repeated true n e es c asked (ap was_answered is) later f
+  one_sent done m repeated n e _ es is c asked later f = one_missed done m repeated true n e es c asked (ap was_answered is) later f
 
   counted : (done : List Entry) (t : Retried M) (es : List Entry) → Goes done t es
   counted done t [] c f = subst (λ l. NoneWorn retries l) (sym (append-nil done)) c.none

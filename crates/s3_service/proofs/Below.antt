@@ -71,26 +71,12 @@ completed_fresh b k id n (Ok j) f = removed_fresh b.uploads id n f
 completed_fresh b k id n (Err e) f = f
 
 pub kept_fresh : (b : BucketContent) (n minimum : ℕ) (r : Request) → IsFresh b.uploads n → IsFresh (apply_in b n minimum r).uploads (cond (draws r) (n + 1) n)
-kept_fresh b n minimum (MakeBucket x) f = f
-kept_fresh b n minimum (PutObject x k y z) f = f
-kept_fresh b n minimum (GetObject x k) f = f
-kept_fresh b n minimum (HeadObject x k) f = f
-kept_fresh b n minimum (DeleteObject x k) f = f
-kept_fresh b n minimum (DeleteObjects x ks) f = f
-kept_fresh b n minimum (CopyObject x s t) f = f
-kept_fresh b n minimum (ListPage x p d a l) f = f
 kept_fresh b n minimum (CreateUpload x k) f = λ i h.
     get-insert nat_cmp_total b.uploads n (record { key = k; parts = empty }) i ∙ ap (λ t. cond t (Some (record { key = k; parts = empty })) (get b.uploads i)) (not_same i n h) ∙ f i (omega arith)
 kept_fresh b n minimum (UploadPart x k id m y) f = put_fresh b.uploads k id n m y f
 kept_fresh b n minimum (CompleteUpload x k id ns) f = completed_fresh b k id n (joined (live b.uploads k id) ns minimum) f
 kept_fresh b n minimum (AbortUpload x k id) f = aborted_fresh b.uploads id n (live b.uploads k id) f
-kept_fresh b n minimum (ListParts x k id) f = f
-kept_fresh b n minimum (ListUploads x p a l) f = f
-kept_fresh b n minimum (ClusterPut p y) f = f
-kept_fresh b n minimum (ClusterRename s t) f = f
-kept_fresh b n minimum (ClusterGet p) f = f
-kept_fresh b n minimum (ClusterDelete p) f = f
-kept_fresh b n minimum (ClusterList p) f = f
+kept_fresh b n minimum _ f = f
 
 next_le : (t : Bool) (n : ℕ) → n ≤ cond t (n + 1) n
 next_le true n = omega arith

@@ -22,21 +22,9 @@ same c r n e a l = record {
 
 pub goes_to : (c : Content) (r : Request) (n : List ℕ) → Some n ≡ named r → GoesTo c r n
 goes_to c (MakeBucket x) n e = absurd cc
-goes_to c (PutObject x k y z) n e = same c _ n (some_is _ _ (sym e)) refl refl
-goes_to c (GetObject x k) n e = same c _ n (some_is _ _ (sym e)) refl refl
-goes_to c (HeadObject x k) n e = same c _ n (some_is _ _ (sym e)) refl refl
-goes_to c (DeleteObject x k) n e = same c _ n (some_is _ _ (sym e)) refl refl
-goes_to c (DeleteObjects x ks) n e = same c _ n (some_is _ _ (sym e)) refl refl
-goes_to c (CopyObject x s t) n e = same c _ n (some_is _ _ (sym e)) refl refl
-goes_to c (ListPage x p d a l) n e = same c _ n (some_is _ _ (sym e)) refl refl
-goes_to c (CreateUpload x k) n e = same c _ n (some_is _ _ (sym e)) refl refl
-goes_to c (UploadPart x k id m y) n e = same c _ n (some_is _ _ (sym e)) refl refl
-goes_to c (CompleteUpload x k id ns) n e = same c _ n (some_is _ _ (sym e)) refl refl
-goes_to c (AbortUpload x k id) n e = same c _ n (some_is _ _ (sym e)) refl refl
-goes_to c (ListParts x k id) n e = same c _ n (some_is _ _ (sym e)) refl refl
-goes_to c (ListUploads x p a l) n e = same c _ n (some_is _ _ (sym e)) refl refl
 goes_to c (ClusterPut p y) n e = absurd cc
 goes_to c (ClusterRename s t) n e = absurd cc
 goes_to c (ClusterGet p) n e = absurd cc
 goes_to c (ClusterDelete p) n e = absurd cc
 goes_to c (ClusterList p) n e = absurd cc
+goes_to c _ n e = same c _ n (some_is _ _ (sym e)) refl refl

@@ -94,9 +94,8 @@ not_again a None x h l = refl
 not_again a (Some t) x h l = by (text_cmp t (text_in x)) refl
   where
     by : (r : Ordering) → text_cmp t (text_in x) ≡ r → is_eq (text_cmp t (text_in x)) ≡ false
-    by Less e = ap is_eq e
     by Equal e = absurd (false≢true (sym h ∙ ap (lt a) (exact_bytes t (text_in x) e) ∙ l))
-    by Greater e = ap is_eq e
+    by _ e = ap is_eq e
 
 given_listed : (a : List ℕ) (o : Option (List ℕ)) (xs : List PageEntry) → Last a o → Started xs → given a xs ≡ folded_from o (filter (λ x. lt a (text_in x)) xs)
 given_listed a o [] h s = refl

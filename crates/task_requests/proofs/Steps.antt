@@ -122,10 +122,8 @@ same_upload tag size [] = refl
 same_upload tag size (d ∷ ds) = refl
 
 asks_same : (t : Task) (f : File) (tag : Spelled) (size : ℕ) (s : WriteStage) → asks_behind t f s ≡ asks_behind (with_known t (with_tag t.known tag size)) f s
-asks_same t f tag size stage.Creating = refl
 asks_same t f tag size (stage.Sending n) = ap (λ u. UploadPart t.job.dest.bucket (file_key (task_script t) f) u (n + 1) (part_behind t f.1 n)) (sym (same_upload tag size t.known.drawn))
-asks_same t f tag size stage.Marking = refl
-asks_same t f tag size stage.Recording = refl
+asks_same t f tag size _ = refl
 
 pub sent_kept : (t : Task) (dir : Path) (place n : ℕ) (f : File) (tag : Spelled) → slice_get t.files place ≡ Some f → dir ≡ dir_of t → Holds t place (stage.Sending n) → is_plain_tag tag ≡ true
     → IsWrite (with_known t (with_tag t.known tag (length (part_behind t f.1 n)))) dir place (next_stage n (length (parts_in t f))) None (Some (asks_behind t f (next_stage n (length (parts_in t f)))))
