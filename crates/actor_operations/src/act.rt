@@ -10,8 +10,8 @@ ghost use Rattle.actor_operations.specs.Acts.{stepped, most_commits, wants_of, t
 ghost use Rattle.actor_operations.specs.ActLaws.{act_laws};
 
 use crate::ends::{commit_end, setup_end, task_end};
-use job_actor::Acts;
 use cleanup::CleanJob;
+use job_actor::Acts;
 use job_commit::CommitJob;
 use job_model::{CleanEnd, CommitEnd, OpEnd, SetupEnd, TaskEnd};
 use job_setup::SetupJob;

@@ -14,9 +14,8 @@ use crate::act::Act;
 use crate::begun::{
     begin_abort_task, begin_clean, begin_commit, begin_commit_task, begin_setup, begin_write,
 };
-use job_actor::Plan;
+use job_actor::{Plan, Works};
 use job_model::{JobPlan, Op, PickList, TaskPlan, TaskSet};
-use job_actor::Works;
 use s3_types::Actor;
 use std::alloc::{AllocError, Global};
 

@@ -6,8 +6,8 @@ ghost use Rattle.cleanup.specs.Left.{clean_left};
 ghost use Rattle.cleanup.specs.AskingLaws.{clean_laws};
 
 use crate::held::{Held, Stage};
-use machine::{Asked, Asking, Asks};
 use job_model::{CleanEnd, JobPlan};
+use machine::{Asked, Asking, Asks};
 use s3_types::{Reply, Request, let_go};
 use std::alloc::{AllocError, Global};
 use std::marker::Model;

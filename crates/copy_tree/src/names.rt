@@ -3,8 +3,8 @@ ghost use Rattle.std.specs.Option.{option_copied};
 ghost use Rattle.fs_rename.specs.Keys.{place_of};
 ghost use Rattle.copy_tree.specs.code.Copy.{one_of};
 
-use fs_rename::Base;
 use fs_ops::{Place, keys_above};
+use fs_rename::Base;
 use path_keys::S3Path;
 use s3_types::{Key, KeyList};
 use std::alloc::{AllocError, Global};

@@ -1,6 +1,6 @@
 use crate::known::Known;
-use folder_log::{Choice, LogShelf, MemDisk};
 use durable_store::{Held, ShelfStop, load};
+use folder_log::{Choice, LogShelf, MemDisk};
 use log_format::{LogFault, read_log};
 use s3_types::{Bytes, let_go};
 use shelf::CallList;

@@ -5,8 +5,8 @@ ghost use Rattle.journal_log.specs.Kept.{Holds, IsMoment};
 ghost use Rattle.journal_log.specs.Crashes.{WhereTold};
 ghost use Rattle.durable_job.specs.Pace.{Follows, Falls, InPace, Behind};
 
-use job_model::Event;
 use job_actor::Works;
+use job_model::Event;
 use job_world::World;
 use journal_log::append_all;
 use shelf::kept::{AppendFault, Shelf};

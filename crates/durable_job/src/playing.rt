@@ -7,8 +7,8 @@ ghost use Rattle.job_world.specs.Worlds.{MayBegin, begun};
 ghost use Rattle.durable_job.specs.Played.{IsPlayed, IsHeld, Survives, Counts};
 
 use crate::events::play_events;
-use job_model::Script;
 use job_actor::Works;
+use job_model::Script;
 use job_world::{Played, World};
 use journal_log::keeps_images;
 use s3_service::Service;

@@ -4,8 +4,8 @@ ghost use Rattle.bucket_ops.specs.Asks.{request_of};
 ghost use Rattle.fs_tree.specs.Changes.{parent};
 ghost use Rattle.fs_rename.specs.code.Rename.{inside_of, place_at, asks_at, inside_asks, look_at_asks, is_root_at};
 
-use crate::stages::Spot;
 use crate::Base;
+use crate::stages::Spot;
 use fs_ops::{Place, last_element, marker_above};
 use path_keys::S3Path;
 use s3_types::{Bucket, Key, PageLimit, Request, Text};

@@ -12,9 +12,9 @@ ghost use Rattle.fs_rename.specs.code.Rename.{first_is, seen_inside, seen_at, ki
 ghost use Rattle.fs_rename.specs.code.Meaning.{holds, gives, always, sends, left};
 
 use crate::names::RenameNames;
+use crate::{Base, CopyStep, Copying};
 use bucket_ops::{Look, Phases, seen_in};
 use bucket_walks::fits;
-use crate::{Base, CopyStep, Copying};
 use fs_tree::RenameRefusal;
 use list_walk::{AllKeys, KeyWalk, Sweep, text_of};
 use operations::Step;

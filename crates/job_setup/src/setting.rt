@@ -6,8 +6,8 @@ ghost use Rattle.job_setup.specs.Left.{setup_left};
 ghost use Rattle.job_setup.specs.AskingLaws.{setup_laws};
 
 use crate::held::{Held, Stage};
-use machine::{Asked, Asking, Asks};
 use job_model::{JobPlan, SetupEnd};
+use machine::{Asked, Asking, Asks};
 use s3_types::{Reply, Request, let_go};
 use std::alloc::{AllocError, Global};
 use std::marker::Model;

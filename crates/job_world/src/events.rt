@@ -15,12 +15,11 @@ ghost use Rattle.job_world.specs.Events.{Next, Refuses, IsFine, HasRoom, end_of,
 
 use crate::body::Body;
 use crate::hands::Hand;
-use job_actor::Plan;
+use job_actor::{Plan, Works};
 use job_model::{ActorEnd, Event, EventEnd, EventFault, Op, TaskSet};
 use job_plans::job_plan;
 use job_states::place_of;
 use job_turns::{mix, run, step};
-use job_actor::Works;
 use s3_types::{Actor, Sequence, put};
 use std::alloc::{AllocError, Global};
 use std::mem;

@@ -3,8 +3,8 @@ ghost use Rattle.job_world.specs.Worlds.{picks_in};
 
 use crate::body::Body;
 use crate::hands::Hand;
-use job_model::{EndList, PickList, Script};
 use job_actor::Works;
+use job_model::{EndList, PickList, Script};
 use s3_service::Service;
 use s3_types::{Journal, Sequence};
 use std::mem;

@@ -6,11 +6,10 @@ ghost use Rattle.job_world.specs.Worlds.{MayBegin, IsBegun, planned};
 
 use crate::body::Body;
 use crate::hands::Hand;
-use job_actor::Plan;
+use job_actor::{Plan, Works};
 use job_model::{PickList, Script};
 use job_plans::task_plan;
 use job_states::States;
-use job_actor::Works;
 use s3_service::Service;
 use s3_types::Journal;
 use std::alloc::{AllocError, Global};

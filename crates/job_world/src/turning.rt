@@ -8,10 +8,9 @@ ghost use Rattle.job_world.specs.Posts.{Around, PostedAt};
 use crate::body::Body;
 use crate::hands::Hand;
 use crate::sending::{actor_at, post_hand};
-use job_actor::Posted;
+use job_actor::{Posted, Works, picks_go};
 use job_model::{ActorEnd, OpEnd};
 use job_turns::{Actors, Turn};
-use job_actor::{Works, picks_go};
 use s3_types::{Actor, put};
 use std::alloc::AllocError;
 

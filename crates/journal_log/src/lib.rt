@@ -22,10 +22,9 @@ mod appends;
 mod changing;
 mod images;
 
-use shelf::kept::Shelf;
-
 pub use appends::append_all;
 pub use images::{keeps_images, made};
+use shelf::kept::Shelf;
 
 /// The changes of a journal.
 pub fn changes()

@@ -3,8 +3,8 @@ ghost use Rattle.std.specs.Option.{option_copied};
 ghost use Rattle.retries.specs.Retries.{OutOfMemory};
 ghost use Rattle.machine.specs.Asks.{never};
 
-use crate::asks::{Asked, Asks};
 use crate::Machine;
+use crate::asks::{Asked, Asks};
 use s3_types::{Reply, Request, let_go, put};
 use std::alloc::{AllocError, Global};
 use std::marker::Model;

@@ -9,9 +9,9 @@ ghost use Rattle.s3a_top.specs.Reads.{IsReadStop, IsNone, CountsReads};
 
 use crate::input::{InputFault, read_input};
 use crate::stop::Stop;
+use job_gen::make_script;
 use job_model::Script;
 use job_script::{ScriptFault, read_script};
-use job_gen::make_script;
 use s3a_words::Command;
 use shelf::Source;
 use std::alloc::Global;

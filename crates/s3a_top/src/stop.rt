@@ -6,8 +6,8 @@ ghost use Rattle.s3a_top.specs.Workings.{IsMade, IsToldOf};
 
 use crate::statuses::Status;
 use crate::work::{Work, said};
-use job_script::ScriptFault;
 use durable_store::{ShelfStop, fault_text};
+use job_script::ScriptFault;
 use s3_types::Bytes;
 use std::alloc::{AllocError, Global};
 

@@ -14,13 +14,13 @@ use crate::input::{InputFault, read_input};
 use crate::statuses::Status;
 use crate::stop::Stop;
 use crate::work::Work;
-use job_model::{EndList, PickList};
+use durable_shell::{takes_input, work_of};
 use durable_store::{Answer, Held, Work as Doing, obey};
+use job_model::{EndList, PickList};
 use s3_types::{Bytes, let_go};
 use s3a_words::Command;
 use shelf::Source;
 use shelf::kept::Shelf;
-use durable_shell::{takes_input, work_of};
 use std::alloc::Global;
 
 /// The status that an answer's is: 0, 1, 5, 7 or 9.

@@ -15,13 +15,13 @@ use crate::statuses::Status;
 use crate::stop::{Stop, stopped};
 use crate::stores::commanded;
 use crate::work::Work;
-use job_report::Report;
+use durable_shell::plays;
 use durable_store::load;
+use job_report::Report;
 use s3_types::{Text, let_go};
 use s3a_words::{Command, WordFault, read_words};
 use shelf::kept::Shelf;
 use shelf::{Sink, Source};
-use durable_shell::plays;
 use std::alloc::Global;
 
 /// Plays the job of a command, `job` or `gen`, over what the shelf holds.

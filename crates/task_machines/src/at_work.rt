@@ -2,8 +2,8 @@ ghost use Rattle.task_machines.specs.Tasks.{at};
 
 use crate::holds::Holds;
 use crate::operation::TaskOperation;
-use machine::{Asked, Asking, Asks};
 use job_model::{TaskEnd, TaskPlan};
+use machine::{Asked, Asking, Asks};
 use s3_types::{Reply, let_go};
 use std::alloc::{AllocError, Global};
 use std::marker::{Model, PhantomData};

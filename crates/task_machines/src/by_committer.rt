@@ -2,8 +2,8 @@ ghost use Rattle.task_machines.specs.ByCommitter.{GoesBy, KeepsBy, operation_by}
 
 use crate::holds::Holds;
 use crate::operation::TaskOperation;
-use machine::Asked;
 use job_model::{TaskEnd, TaskPlan};
+use machine::Asked;
 use s3_types::{Committer, Reply};
 use std::alloc::{AllocError, Global};
 

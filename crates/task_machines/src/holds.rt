@@ -5,8 +5,8 @@ ghost use Rattle.job_model.specs.Jobs.{Task};
 ghost use Rattle.task_machines.specs.Tasks.{at};
 
 use crate::operation::TaskOperation;
-use machine::Asked;
 use job_model::{TaskEnd, TaskPlan};
+use machine::Asked;
 use s3_types::Reply;
 use std::alloc::{AllocError, Global};
 

@@ -9,9 +9,9 @@ ghost use Rattle.task_machines.specs.Commits.{FitsCommit};
 ghost use Rattle.task_magic.specs.Committing.{HoldsCommit, commit_of, Keeps, record_of, is_no_key, publishes, with_sent};
 
 use crate::listing::{Listed, files_of_keys, missing, record_at};
-use machine::Asked;
 use job_model::{TaskEnd, TaskPlan};
 use list_walk::KeyWalk;
+use machine::Asked;
 use s3_types::{Key, KeyList, Refusal, Reply, Request, Sequence, put};
 use std::alloc::{AllocError, Global};
 use task_machines::{Holds, TaskMachine, TheCommit};

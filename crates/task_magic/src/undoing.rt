@@ -7,9 +7,9 @@ ghost use Rattle.job_protocol.specs.TaskAborts.{task_abort_hears};
 ghost use Rattle.task_machines.specs.Aborts.{FitsAbort};
 ghost use Rattle.task_magic.specs.Undoing.{abort_of, kept_if};
 
-use machine::Asked;
 use job_model::{TaskEnd, TaskPlan};
 use list_walk::{AllKeys, Sweep};
+use machine::Asked;
 use s3_types::{Reply, put};
 use std::alloc::{AllocError, Global};
 use task_machines::{Holds, TaskMachine, TheAbort};

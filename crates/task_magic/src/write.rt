@@ -3,8 +3,8 @@ ghost use Rattle.s3_types.specs.declared.request.Committer.TheVariants.{Magic};
 ghost use Rattle.task_magic.specs.Writing.{Keeps, done_if_none, operation_of};
 
 use crate::stepping::{Turned, advance};
-use machine::Asked;
 use job_model::{TaskEnd, TaskPlan};
+use machine::Asked;
 use path_keys::S3Path;
 use s3_types::{Reply, Request, put};
 use std::alloc::{AllocError, Global};

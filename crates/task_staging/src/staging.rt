@@ -14,9 +14,9 @@ ghost use Rattle.task_staging.specs.Staging.{commit_of, seen, Keeps, IsAt, CameB
 
 use crate::opening::to_check;
 use crate::requests::{check_request, next_request, part_request, rename_request, temporary};
-use machine::Asked;
 use conflict::CheckAbsent;
 use job_model::{DrawnPart, TaskEnd, TaskPlan};
+use machine::Asked;
 use pending_json::{PendingSet, PendingUpload};
 use s3_types::{Refusal, Reply, Sequence, Tag, put};
 use std::alloc::{AllocError, Global};

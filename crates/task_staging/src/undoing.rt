@@ -7,8 +7,8 @@ ghost use Rattle.s3_types.specs.declared.request.Committer.TheVariants.{Magic};
 ghost use Rattle.task_staging.specs.Undoing.{abort_of, done_at, end_at};
 
 use crate::requests::temporary;
-use machine::Asked;
 use job_model::{TaskEnd, TaskPlan};
+use machine::Asked;
 use s3_types::{Reply, Request, put};
 use std::alloc::{AllocError, Global};
 use task_machines::{Holds, TaskMachine, TheAbort};

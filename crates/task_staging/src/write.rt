@@ -1,8 +1,8 @@
 ghost use Rattle.std.specs.Prelude.{◌≡◌, ⊤};
 ghost use Rattle.s3_types.specs.declared.request.Committer.TheVariants.{Magic};
 
-use machine::Asked;
 use job_model::{TaskEnd, TaskPlan};
+use machine::Asked;
 use s3_types::{Reply, put};
 use std::alloc::{AllocError, Global};
 use std::marker::Model;
