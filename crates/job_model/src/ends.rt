@@ -36,6 +36,18 @@ impl fmt::Display for SetupEnd {
     }
 }
 
+/// How the look for files before the commit of a job at a shared destination ended.
+#[derive(Drop)]
+pub enum CheckEnd {
+    /// Nothing stands there, and the commit goes on.
+    Clear,
+    /// A reader of the destination is shown a file at this path, or a key stands below this partition.
+    Conflict(Text),
+    /// A request was lost past its retries.
+    StoreFault,
+    NoMemory,
+}
+
 /// How an attempt's operation ended.
 #[derive(Drop)]
 pub enum TaskEnd {

@@ -21,7 +21,7 @@ mod states;
 
 pub use attempts::{AttemptName, Attempts};
 pub use ends::{
-    ActorEnd, ActorEndList, CleanEnd, CommitEnd, EndList, EventEnd, EventFault, OpEnd, Pick,
+    ActorEnd, ActorEndList, CheckEnd, CleanEnd, CommitEnd, EndList, EventEnd, EventFault, OpEnd, Pick,
     PickList, SetupEnd, Stage, TaskEnd,
 };
 pub use events::{Event, EventList, Op};

@@ -10,6 +10,7 @@ use Rattle.job_protocol.specs.Writes.{Write, write_asks, write_after}
 use Rattle.job_protocol.specs.TaskCommits.{TaskCommit, task_commit_asks, task_commit_after}
 use Rattle.job_protocol.specs.TaskAborts.{TaskAbort, task_abort_asks, task_abort_after}
 use Rattle.job_protocol.specs.Cleanups.{Clean, clean_asks, clean_after}
+use Rattle.job_protocol.specs.Sparing.{Sparing, sparing_asks, sparing_after}
 use Rattle.job_protocol.specs.JobCommits.{Sets, set_read, Commit, Fetching, Replacing, Completing, Marking, Reverting, CommitOver, commit_asks, commit_tells}
 
 -- ---- a script as far as a plan tells it
@@ -120,6 +121,14 @@ clean_wants m = clean_asks (job_script m.plan) m.operation
 -- the abort or clean once its request was answered or wore out
 abbrev pub clean_told : Driving Clean → Item → Driving Clean
 clean_told m i = record { plan = m.plan; operation = clean_after (job_script m.plan) m.operation i }
+
+-- what a sparing abort or clean asks next, by the job's plan
+abbrev pub sparing_wants : Driving Sparing → Option Request
+sparing_wants m = sparing_asks (job_script m.plan) m.operation
+
+-- the sparing abort or clean once its request was answered or wore out
+abbrev pub sparing_told : Driving Sparing → Item → Driving Sparing
+sparing_told m i = record { plan = m.plan; operation = sparing_after (job_script m.plan) m.operation i }
 
 -- ---- the driver's commit
 

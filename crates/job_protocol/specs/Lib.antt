@@ -9,6 +9,8 @@ pub mod Writes
 pub mod TaskCommits
 pub mod TaskAborts
 pub mod Cleanups
+pub mod Rechecks
+pub mod Sparing
 pub mod Lanes
 pub mod JobCommits
 pub mod LaneTable

@@ -5,7 +5,9 @@ use Rattle.retries.specs.Prelude.{wears}
 use Rattle.job_spec.proofs.Common.{counted_first, some_is, none_some, false_true}
 use Rattle.job_protocol.specs.Prelude.{checks_partitions}
 use Rattle.list_walk.specs.Walks.{walked}
-use Rattle.twin_facts.specs.Rechecks.{Check, Looking, Probing, CheckOver, CheckEnd, Clear, Conflict, CheckFault, NoMemory, probing, files_of_all, check_by, check_start, check_asks, looked, probed, check_hears, check_over, check_after}
+use Rattle.job_model.specs.declared.ends.CheckEnd.{CheckEnd}
+use Rattle.job_model.specs.declared.ends.CheckEnd.TheVariants.{Clear, Conflict, StoreFault, NoMemory}
+use Rattle.job_protocol.specs.Rechecks.{Check, Looking, Probing, CheckOver, probing, files_of_all, check_by, check_start, check_asks, looked, probed, check_hears, check_over, check_after}
 use Rattle.twin_ends.specs.Checks.{checking, next, Checked, ShownBy, CheckIs}
 
 -- ---- what one sending does
@@ -42,7 +44,7 @@ goes_so {M} retries after t o = by o
 
 -- no request wore out so far
 abbrev Fine : Check → Type 0
-Fine (CheckOver CheckFault) = ⊥
+Fine (CheckOver StoreFault) = ⊥
 Fine (CheckOver NoMemory) = ⊥
 Fine _ = Unit {0}
 
@@ -85,7 +87,7 @@ module _ (w : Script) where
 
   -- none wore out and it goes on so, or one did and ended it
   abbrev Either : Retried Check → List Entry → Type 0
-  Either t es = ((worn_by t es ≡ None) × Fine (run (next w) t es).operation) ⊎ ((r : Request) × (worn_by t es ≡ Some r) × ((run (next w) t es).operation ≡ CheckOver CheckFault))
+  Either t es = ((worn_by t es ≡ None) × Fine (run (next w) t es).operation) ⊎ ((r : Request) × (worn_by t es ≡ Some r) × ((run (next w) t es).operation ≡ CheckOver StoreFault))
 
   by_run : (t : Retried Check) (es : List Entry) → Fine t.operation → Follows (wants_of (check_asks w)) (next w) t es → Either t es
   by_run t [] fine f = inl (refl, fine)
@@ -96,8 +98,8 @@ module _ (w : Script) where
 
       by : (b : Bool) → wears t e.outcome ≡ b → (Fine (next w t e.outcome).operation → Either (next w t e.outcome) es) → Either t (e ∷ es)
       by true is more =
-          let over : u.operation ≡ CheckOver CheckFault = wears_so w.retries (check_after w) t e.outcome is in
-          let none : es ≡ [] = over_stops u CheckFault es over f.1 in
+          let over : u.operation ≡ CheckOver StoreFault = wears_so w.retries (check_after w) t e.outcome is in
+          let none : es ≡ [] = over_stops u StoreFault es over f.1 in
           inr (e.request, ap (λ b. cond b (Some e.request) (worn_by u es)) is, ap (λ fs. (run (next w) u fs).operation) none ∙ over)
       by false is more =
           let same : worn_by t (e ∷ es) ≡ worn_by u es = ap (λ b. cond b (Some e.request) (worn_by u es)) is in
@@ -131,7 +133,7 @@ module _ (w : Script) where
   step_conflict : (t : Retried Check) (e : Entry) (p : List ℕ) → check_over t.operation ≡ None → check_asks w t.operation ≡ Some e.request → (next w t e.outcome).operation ≡ CheckOver (Conflict p) → ShownBy w p e
   step_conflict t e p none asked h = by (wears t e.outcome) refl
     where
-      fault : CheckOver CheckFault ≡ CheckOver (Conflict p) → ⊥
+      fault : CheckOver StoreFault ≡ CheckOver (Conflict p) → ⊥
       fault z = cc
 
       by : (b : Bool) → wears t e.outcome ≡ b → ShownBy w p e

@@ -7,7 +7,9 @@ use Rattle.job_outcomes.specs.CommitRuns.{CommitStands, WhereCommitted}
 use Rattle.job_outcomes.proofs.CommitRuns.{attempts_leave, ended_so}
 use Rattle.job_outcomes.proofs.CommitSteps.{at_start, where_start, answered_next, sound_now, sound_more}
 use Rattle.job_outcomes.proofs.Picks.{after_entry}
-use Rattle.twin_facts.specs.Rechecks.{Check, CheckOver, CheckEnd, Clear, check_start, check_asks}
+use Rattle.job_model.specs.declared.ends.CheckEnd.{CheckEnd}
+use Rattle.job_model.specs.declared.ends.CheckEnd.TheVariants.{Clear}
+use Rattle.job_protocol.specs.Rechecks.{Check, CheckOver, check_start, check_asks}
 use Rattle.twin_facts.specs.SharedOperations.{SharedOperation, Alone, TheCheck, TheSparing, shared_asks, checked_by, commit_of}
 use Rattle.twin_facts.specs.Sides.{SideState, is_set, is_just_set, MayBegin, begin, IsInTime, driver_saw, attempt_saw, observed, Sends, driver_sends, attempt_sends, First, Second, TwinEntry, TwinRun, twins_begin, first_begins, second_begins, first_sends, second_sends, IsTwinOpening}
 use Rattle.twin_facts.specs.TwinLaws.{MayBeTwins}

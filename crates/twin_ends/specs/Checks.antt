@@ -1,7 +1,9 @@
 -- How the check before the commit of a job at a shared destination ends, by its entries alone.
 use Rattle.std.specs.Prelude.{◌≡◌, ℕ, false, Bool, List, [], ◌∷◌, ◌++◌, ◌⊎◌, Option, Some, None}
 use Rattle.job_facts.specs.Prelude.{Request, ListPage, Page, PageEntry, Outcome, Answered, Entry, Follows, run, Retried, wants_of, fresh, step, WornFirst, keys_on, page_after, Who, Script, dest_prefix, first_shown, partition_prefix}
-use Rattle.twin_facts.specs.Rechecks.{Check, CheckOver, CheckEnd, Clear, Conflict, CheckFault, check_start, check_asks, check_after}
+use Rattle.job_model.specs.declared.ends.CheckEnd.{CheckEnd}
+use Rattle.job_model.specs.declared.ends.CheckEnd.TheVariants.{Clear, Conflict, StoreFault}
+use Rattle.job_protocol.specs.Rechecks.{Check, CheckOver, check_start, check_asks, check_after}
 
 -- the check of the files of these attempts, as it begins
 abbrev pub checking : Script → List Who → Retried Check
@@ -22,7 +24,7 @@ ShownBy w p e = (page : List PageEntry) × (more : Bool) × (e.outcome ≡ Answe
 
 -- how it ends, by the first of its requests that wore out, and by its last entry
 abbrev pub CheckIs : Script → List Entry → Option Request → CheckEnd → Type 0
-CheckIs w es (Some r) end = end ≡ CheckFault
+CheckIs w es (Some r) end = end ≡ StoreFault
 CheckIs w es None Clear = Unit {0}
 CheckIs w es None (Conflict p) = (before : List Entry) × (e : Entry) × (es ≡ before ++ e ∷ []) × ShownBy w p e
 CheckIs w es None _ = ⊥

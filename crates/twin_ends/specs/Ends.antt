@@ -3,7 +3,9 @@ use Rattle.std.specs.Prelude.{◌≡◌, ℕ, not, ◌&&◌, Bool, true, cond, L
 use Rattle.job_facts.specs.Prelude.{Mode, Fail, Request, Entry, Retried, WornFirst, Who, Script, CommitEnd, CommitOver, TheCommit, is_driver, is_mark_answered, is_begun}
 use Rattle.job_model.specs.declared.ends.CommitEnd.TheVariants as commits
 use Rattle.job_outcomes.specs.CommitRuns.{EndsDue}
-use Rattle.twin_facts.specs.Rechecks.{Check, CheckOver, CheckEnd, Clear}
+use Rattle.job_model.specs.declared.ends.CheckEnd.{CheckEnd}
+use Rattle.job_model.specs.declared.ends.CheckEnd.TheVariants.{Clear}
+use Rattle.job_protocol.specs.Rechecks.{Check, CheckOver}
 use Rattle.twin_facts.specs.SharedOperations.{Alone, TheCheck}
 use Rattle.twin_facts.specs.Sides.{SideState, First, TwinEntry}
 use Rattle.twin_facts.specs.TwinLaws.{is_side, InEachRun}

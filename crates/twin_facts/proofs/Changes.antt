@@ -16,9 +16,9 @@ use Rattle.job_facts.proofs.Wanted.{wanted_here}
 use Rattle.job_facts.proofs.Whose.{attempt}
 use Rattle.job_traces.proofs.Replacing.{keeps_same, taken_after}
 use Rattle.job_traces.proofs.Steps.{hidden_same}
-use Rattle.twin_facts.specs.Sparing.{Sparing, Walking, Naming, Aborting, SparingOver, record_request, sparing_asks}
-use Rattle.twin_facts.specs.Sparing as sparing
-use Rattle.twin_facts.specs.Rechecks.{Check, Looking, Probing, CheckOver, check_asks}
+use Rattle.job_protocol.specs.Sparing.{Sparing, Walking, Naming, Aborting, SparingOver, record_request, sparing_asks}
+use Rattle.job_protocol.specs.Sparing as sparing
+use Rattle.job_protocol.specs.Rechecks.{Check, Looking, Probing, CheckOver, check_asks}
 use Rattle.twin_facts.specs.Requests.{FitsSparing, SetsUpBy}
 use Rattle.twin_facts.specs.Shown.{Changed, OfWanted, IsPickedSo}
 

@@ -19,8 +19,8 @@ use Rattle.job_facts.proofs.EndedGone.{stays_gone}
 use Rattle.job_facts.proofs.Going.{step_so}
 use Rattle.job_facts.proofs.Live.{find_in}
 use Rattle.job_facts.proofs.Shapes.{answer_is, key_before, abort_turns}
-use Rattle.twin_facts.specs.Sparing.{Sparing, Walking, Naming, Reading, Aborting, Removing, SparingOver, sparing_start, record_request, sparing_asks, sparing_hears, sparing_after, names, record_names, set_names, deleting, removing, emptying, aborting, reading_on, walking, naming}
-use Rattle.twin_facts.specs.Sparing as sparing
+use Rattle.job_protocol.specs.Sparing.{Sparing, Walking, Naming, Reading, Aborting, Removing, SparingOver, sparing_start, record_request, sparing_asks, sparing_hears, sparing_after, names, record_names, set_names, deleting, removing, emptying, aborting, reading_on, walking, naming}
+use Rattle.job_protocol.specs.Sparing as sparing
 use Rattle.twin_facts.specs.Requests.{AllKnown, FitsSparing}
 use Rattle.twin_facts.specs.Spared.{NamedAt}
 use Rattle.twin_facts.proofs.Keyed.{Keyed}

@@ -17,9 +17,9 @@ use Rattle.job_facts.proofs.Uploads.{latest_in, asks_part}
 use Rattle.job_facts.proofs.JobCommitting.{file_open}
 use Rattle.job_facts.proofs.Held.{nth_of, of_sets}
 use Rattle.twin_facts.specs.Names.{named_keys, named_upload, named_paths, IsOwnKey, NamesOwn}
-use Rattle.twin_facts.specs.Sparing.{Sparing, Walking, Naming, Aborting, SparingOver, record_request, sparing_asks}
-use Rattle.twin_facts.specs.Sparing as sparing
-use Rattle.twin_facts.specs.Rechecks.{Check, Looking as LooksAll, Probing, CheckOver, check_asks}
+use Rattle.job_protocol.specs.Sparing.{Sparing, Walking, Naming, Aborting, SparingOver, record_request, sparing_asks}
+use Rattle.job_protocol.specs.Sparing as sparing
+use Rattle.job_protocol.specs.Rechecks.{Check, Looking as LooksAll, Probing, CheckOver, check_asks}
 use Rattle.twin_facts.specs.Requests.{AllOwn, FitsSparing, IsSentBy, by_attempt, by_commit, by_check, by_clean, SetsUpBy}
 
 -- ---- keys outside the magic directories

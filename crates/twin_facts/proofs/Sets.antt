@@ -11,8 +11,9 @@ use Rattle.job_facts.proofs.Legal.{some_dest}
 use Rattle.job_facts.proofs.Legible.{record_read, set_read}
 use Rattle.job_facts.proofs.Placed.{staged_set, path_below}
 use Rattle.job_facts.proofs.Whose.{same_or_another, who_here, who_other}
-use Rattle.twin_facts.specs.Sparing.{Sparing, sparing_start, record_names, ref_of}
-use Rattle.twin_facts.specs.Rechecks.{Check, CheckOver, Clear, check_start}
+use Rattle.job_protocol.specs.Sparing.{Sparing, sparing_start, record_names, ref_of}
+use Rattle.job_model.specs.declared.ends.CheckEnd.TheVariants.{Clear}
+use Rattle.job_protocol.specs.Rechecks.{Check, CheckOver, check_start}
 use Rattle.twin_facts.specs.SharedOperations.{SharedOperation, Alone, TheCheck, TheSparing, shared_asks, shared_tells, checked_by, commit_of}
 use Rattle.twin_facts.specs.Sides.{SideState, MayBegin, begin, begun_attempts, begun_driver, driver_saw, attempt_saw, observed, Sends, driver_sends, attempt_sends}
 use Rattle.twin_facts.specs.Spared.{NamedAt, NamedBySet}

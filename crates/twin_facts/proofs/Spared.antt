@@ -9,8 +9,8 @@ use Rattle.store_frame.proofs.Framed.{frame}
 use Rattle.job_traces.specs.Runs.{BeginClean, nothing_learnt}
 use Rattle.job_facts.proofs.EndedGone.{stays_gone}
 use Rattle.job_facts.proofs.Going.{step_so}
-use Rattle.twin_facts.specs.Sparing.{Sparing, Walking, Naming, Reading, Aborting, Removing, SparingOver, sparing_start, sparing_asks, sparing_hears, sparing_after, names, deleting, removing, emptying, aborting, reading_on, walking, naming}
-use Rattle.twin_facts.specs.Sparing as spares
+use Rattle.job_protocol.specs.Sparing.{Sparing, Walking, Naming, Reading, Aborting, Removing, SparingOver, sparing_start, sparing_asks, sparing_hears, sparing_after, names, deleting, removing, emptying, aborting, reading_on, walking, naming}
+use Rattle.job_protocol.specs.Sparing as spares
 use Rattle.twin_facts.specs.SharedOperations.{SharedOperation, Alone, TheCheck, TheSparing, shared_asks}
 use Rattle.twin_facts.specs.Sides.{SideState, is_set, begin, IsInTime, driver_saw, Sends, driver_sends, attempt_sends, observed, First, Second, TwinEntry, TwinRun, twins_begin, first_begins, second_begins, first_sends, second_sends, IsTwinOpening}
 use Rattle.twin_facts.specs.TwinLaws.{MayBeTwins}

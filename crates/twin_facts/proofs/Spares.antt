@@ -17,7 +17,7 @@ use Rattle.job_facts.proofs.Legible.{drawn_is, record_read, set_read}
 use Rattle.job_facts.proofs.Placed.{staged_set, not_both}
 use Rattle.job_facts.proofs.Whose.{or_true}
 use Rattle.job_facts.proofs.Shapes.{answer_is, key_before}
-use Rattle.twin_facts.specs.Sparing.{Sparing, Walking, Naming, Reading, Aborting, Deleting, Removing, SparingOver, sparing_start, record_request, sparing_asks, sparing_hears, sparing_after, ref_of, names, record_names, set_names, deleting, removing, emptying, aborting, reading_on, walking, naming}
+use Rattle.job_protocol.specs.Sparing.{Sparing, Walking, Naming, Reading, Aborting, Deleting, Removing, SparingOver, sparing_start, record_request, sparing_asks, sparing_hears, sparing_after, ref_of, names, record_names, set_names, deleting, removing, emptying, aborting, reading_on, walking, naming}
 use Rattle.twin_facts.specs.Requests.{AllKnown, AllOwn, FitsSparing}
 use Rattle.twin_facts.proofs.Suffix.{set_no_record, marker_no_record}
 

@@ -25,9 +25,10 @@ use Rattle.job_facts.proofs.EndedGone.{commit_gone, first_gone, others_gone}
 use Rattle.job_facts.proofs.Shows.{HidesAll}
 use Rattle.job_traces.proofs.Keeping.{attempt_quiet, other_fits, other_known}
 use Rattle.job_facts.proofs.Turning.{still_none}
-use Rattle.twin_facts.specs.Sparing.{Sparing, sparing_start, sparing_asks, sparing_after, record_request}
-use Rattle.twin_facts.specs.Sparing as sparing
-use Rattle.twin_facts.specs.Rechecks.{Check, CheckOver, Clear, check_start, check_asks, check_after}
+use Rattle.job_protocol.specs.Sparing.{Sparing, sparing_start, sparing_asks, sparing_after, record_request}
+use Rattle.job_protocol.specs.Sparing as sparing
+use Rattle.job_model.specs.declared.ends.CheckEnd.TheVariants.{Clear}
+use Rattle.job_protocol.specs.Rechecks.{Check, CheckOver, check_start, check_asks, check_after}
 use Rattle.twin_facts.specs.SharedOperations.{SharedOperation, Alone, TheCheck, TheSparing, shared_asks, shared_tells, checked_by, commit_of}
 use Rattle.twin_facts.specs.Requests.{AllKnown, FitsSparing}
 use Rattle.twin_facts.specs.Sides.{SideState, is_set, is_just_set, MaySetUp, MayBegin, begin, IsInTime, sees, driver_saw, attempt_saw, observed, Sends, driver_sends, attempt_sends}

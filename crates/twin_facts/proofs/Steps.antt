@@ -14,7 +14,7 @@ use Rattle.job_facts.proofs.FilingLaws.{files_go, stranger_same}
 use Rattle.job_facts.proofs.Agreeing.{AgreeBelow, Agrees, decided_so}
 use Rattle.job_facts.proofs.Wanted.{same_mark, wanted_of}
 use Rattle.job_traces.proofs.Running.{InCommit, wants_of}
-use Rattle.twin_facts.specs.Sparing.{Sparing, Reading, SparingOver, record_request, sparing_asks}
+use Rattle.job_protocol.specs.Sparing.{Sparing, Reading, SparingOver, record_request, sparing_asks}
 use Rattle.twin_facts.specs.TwinLaws.{counted, is_replace}
 use Rattle.twin_facts.specs.Requests.{FitsSparing}
 use Rattle.twin_facts.specs.SharedOperations.{SharedOperation, Alone, TheCheck, TheSparing, shared_asks}

@@ -1,5 +1,3 @@
-pub mod Sparing
-pub mod Rechecks
 pub mod SharedOperations
 pub mod Names
 pub mod Requests

@@ -2,8 +2,8 @@
 use Rattle.std.specs.Prelude.{◌≡◌, ℕ, true, List, ◌∷◌, Some}
 use Rattle.job_facts.specs.Prelude.{Actor, Driver, Request, UploadRef, IsIn, is_record, Who, actor_of, Script, Drawn, Setup, setup_asks, Commit, commit_asks, Setting, Operation, asks, Seen, is_magic, is_staging, Told, known, IsAttempt, Fits, SetsUp, Commits}
 use Rattle.job_facts.specs.Driver.{AllMagic, AllCluster}
-use Rattle.twin_facts.specs.Sparing.{Sparing, Walking, Naming, Reading, Aborting, Deleting, Removing, SparingOver, sparing_asks}
-use Rattle.twin_facts.specs.Rechecks.{Check, check_asks}
+use Rattle.job_protocol.specs.Sparing.{Sparing, Walking, Naming, Reading, Aborting, Deleting, Removing, SparingOver, sparing_asks}
+use Rattle.job_protocol.specs.Rechecks.{Check, check_asks}
 
 -- each is an upload that an attempt of the job knows, with its key
 abbrev pub AllKnown : (Who → List Drawn) → List UploadRef → Type 0

@@ -3,8 +3,10 @@ use Rattle.std.specs.Prelude.{ℕ, List, Option, Some, None}
 use Rattle.job_facts.specs.Prelude.{option_map, Actor, Driver, Mode, Fail, Request, Outcome, Retried, fresh, step, Who, Known, Op, OpEnd, commit_start, Setting, Operation, TheCommit, asks, tells, over, start_of}
 use Rattle.job_model.specs.declared.events.Op.TheVariants as ops
 use Rattle.job_model.specs.declared.ends.OpEnd.TheVariants as ends
-use Rattle.twin_facts.specs.Rechecks.{Check, CheckOver, CheckEnd, Clear, check_start, check_asks, check_after}
-use Rattle.twin_facts.specs.Sparing.{Sparing, sparing_start, sparing_asks, sparing_after, sparing_over}
+use Rattle.job_model.specs.declared.ends.CheckEnd.{CheckEnd}
+use Rattle.job_model.specs.declared.ends.CheckEnd.TheVariants.{Clear}
+use Rattle.job_protocol.specs.Rechecks.{Check, CheckOver, check_start, check_asks, check_after}
+use Rattle.job_protocol.specs.Sparing.{Sparing, sparing_start, sparing_asks, sparing_after, sparing_over}
 
 pub data SharedOperation : Type 0 where
   -- as of a job alone

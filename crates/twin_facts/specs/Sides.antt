@@ -4,7 +4,7 @@ use Rattle.job_facts.specs.Prelude.{Content, Scene, Upload, answer, effect, IsHo
 use Rattle.job_traces.specs.Runs.{Beginning, BeginSetup, BeginCommit, BeginClean, BeginWrite, BeginPublish, BeginAbort, WriteIsDone, commit_with, nothing_learnt}
 use Rattle.job_traces.specs.Runs as runs
 use Rattle.twin_facts.specs.Names.{Ids}
-use Rattle.twin_facts.specs.Sparing.{sparing_start}
+use Rattle.job_protocol.specs.Sparing.{sparing_start}
 use Rattle.twin_facts.specs.SharedOperations.{SharedOperation, Alone, TheSparing, shared_asks, shared_tells, commit_of}
 
 -- ---- one side

@@ -6,7 +6,7 @@ use Rattle.pending_json.specs.Reading as reading
 use Rattle.job_model.specs.declared.ends.CleanEnd.TheVariants as ends
 use Rattle.job_spec.specs.Scope.{NoMagicKey}
 use Rattle.job_traces.specs.Runs.{Beginning, BeginClean}
-use Rattle.twin_facts.specs.Sparing.{Sparing, SparingOver, record_names, set_names}
+use Rattle.job_protocol.specs.Sparing.{Sparing, SparingOver, record_names, set_names}
 use Rattle.twin_facts.specs.SharedOperations.{TheSparing}
 use Rattle.twin_facts.specs.Sides.{SideState, is_set, begun_driver, begin, MayBegin, Sends, observed}
 use Rattle.twin_facts.specs.TwinLaws.{InEachRun}

@@ -12,7 +12,7 @@ use Rattle.job_examples.specs.Runs.{setting}
 use Rattle.job_examples.specs.FourFileLanes.{out}
 use Rattle.job_examples.specs.TwoJobs.{jb, set_key, below_attempt, pending, set_bytes, mark_bytes, prepares, reads, completes, marks}
 use Rattle.twin_facts.specs.Names.{Ids}
-use Rattle.twin_facts.specs.Rechecks.{Conflict}
+use Rattle.job_model.specs.declared.ends.CheckEnd.TheVariants.{Conflict}
 use Rattle.twin_facts.specs.SharedOperations.{SharedOperation, SharedEnd, CheckEnded, shared_asks, shared_tells, shared_over, commit_of}
 use Rattle.twin_facts.specs.Sides.{Second, TwinEntry}
 use Rattle.twin_facts.specs.TwinLaws.{is_marked_by}

@@ -11,7 +11,7 @@ use Rattle.job_examples.specs.TwoJobs.{ja, jb, marks, quiet_entries, clean_entri
 use Rattle.twin_facts.specs.Names.{Ids, IsStranger}
 use Rattle.twin_facts.specs.Sides.{First, Second, TwinEntry}
 use Rattle.twin_facts.specs.TwinLaws.{is_marked_by}
-use Rattle.twin_facts.specs.Sparing.{Sparing, SparingOver, sparing_start, sparing_asks, sparing_after}
+use Rattle.job_protocol.specs.Sparing.{Sparing, SparingOver, sparing_start, sparing_asks, sparing_after}
 use Rattle.twin_facts.specs.Events.{AtMoment}
 use Rattle.worked_twins.specs.Sided.{sided, AllStrange}
 

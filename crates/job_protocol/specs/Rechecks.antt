@@ -1,16 +1,17 @@
 -- The look for files of the destination before the commit of a job at a shared destination, for the mode fail alone (Hadoop, S3A committers: fs.s3a.committer.staging.conflict-mode; here the check is made a second time).
 use Rattle.std.specs.Prelude.{ℕ, Bool, true, false, List, [], ◌∷◌, Option, Some, None}
-use Rattle.job_facts.specs.Prelude.{flat_map, Request, ListPage, Reply, Page, PageEntry, Item, Got, WornOut, OutOfMemory, Who, File, Script, files, paths_of, partitions, checks_all, dest_prefix, first_shown, partition_prefix, Walked, More, Whole, keys_on, page_after}
-use Rattle.job_protocol.specs.Prelude.{checks_partitions}
-use Rattle.list_walk.specs.Walks.{walked}
+use Rattle.job_model.specs.Prelude.{flat_map, Request, ListPage, Reply, Page, Who, File, Script}
+use Rattle.s3_types.specs.declared.reply.PageEntry.{PageEntry}
+use Rattle.retries.specs.Prelude.{Item, Got, WornOut, OutOfMemory}
+use Rattle.job_model.specs.declared.ends.CheckEnd.{CheckEnd}
+use Rattle.job_model.specs.declared.ends.CheckEnd.TheVariants as ends
+use Rattle.job_protocol.specs.Outputs.{files, paths_of}
+use Rattle.job_protocol.specs.Conflicts.{partitions, checks_all, checks_partitions}
+use Rattle.job_protocol.specs.Setup.{dest_prefix, first_shown}
+use Rattle.job_protocol.specs.TaskCommits.{partition_prefix}
+use Rattle.list_walk.specs.Walks.{Walked, More, Whole, keys_on, page_after, walked}
 
--- how it ends: with none found, with a path or a partition where something stands, by a request that wore out, or for want of memory
-pub data CheckEnd : Type 0 where
-  Clear : CheckEnd
-  Conflict : (path : List ℕ) → CheckEnd
-  CheckFault : CheckEnd
-  NoMemory : CheckEnd
-
+-- how far the check has come
 pub data Check : Type 0 where
   -- directory: lists what is below the destination until a file of its view is found, with the keys so far
   Looking : (keys : List (List ℕ)) → Check
@@ -18,40 +19,46 @@ pub data Check : Type 0 where
   Probing : (partition : List ℕ) (others : List (List ℕ)) → Check
   CheckOver : (end : CheckEnd) → Check
 
+-- the next of these partitions is looked at; behind the last one it is clear
 abbrev pub probing : List (List ℕ) → Check
-probing [] = CheckOver Clear
+probing [] = CheckOver ends.Clear
 probing (d ∷ ds) = Probing d ds
 
 -- the files of attempts
 abbrev pub files_of_all : Script → List Who → List File
 files_of_all w reported = flat_map (files w) reported
 
+-- where it begins: with the whole destination, with these partitions, or with nothing to look at
 abbrev pub check_by : Bool → Bool → List (List ℕ) → Check
 check_by true b dirs = Looking []
 check_by false true dirs = probing dirs
-check_by false false dirs = CheckOver Clear
+check_by false false dirs = CheckOver ends.Clear
 
--- of the attempts that the reports stand on
 abbrev pub check_start : Script → List Who → Check
 check_start w reported = check_by (checks_all w.committer w.mode) (checks_partitions w.committer w.mode) (partitions (paths_of (files_of_all w reported)))
 
+-- what it asks next, or nothing where it is over
 abbrev pub check_asks : Script → Check → Option Request
 check_asks w (Looking keys) = Some (page_after w.dest.bucket (dest_prefix w) keys)
 check_asks w (Probing d ds) = Some (ListPage w.dest.bucket (partition_prefix w d) false [] 1)
 check_asks w (CheckOver end) = None
 
+-- where a page without a file of the view leads
 abbrev pub looked_on : Walked (List ℕ) → Check
 looked_on (More keys) = Looking keys
-looked_on (Whole keys) = CheckOver Clear
+looked_on (Whole keys) = CheckOver ends.Clear
 
+-- a file of the view ends it
 abbrev pub looked : Option (List ℕ) → Walked (List ℕ) → Check
-looked (Some p) next = CheckOver (Conflict p)
+looked (Some p) next = CheckOver (ends.Conflict p)
 looked None next = looked_on next
 
+-- a key below the partition ends it
 abbrev pub probed : List ℕ → List (List ℕ) → List PageEntry → Check
 probed d ds [] = probing ds
-probed d ds (e ∷ es) = CheckOver (Conflict d)
+probed d ds (e ∷ es) = CheckOver (ends.Conflict d)
 
+-- where an answer leads
 abbrev pub check_hears : Script → Check → Reply → Check
 check_hears w (Looking keys) (Page entries more) = looked (first_shown w (keys_on entries)) (walked keys (Page entries more))
 check_hears w (Looking keys) _ = Looking keys
@@ -59,11 +66,13 @@ check_hears w (Probing d ds) (Page entries more) = probed d ds entries
 check_hears w (Probing d ds) _ = Probing d ds
 check_hears w (CheckOver end) r = CheckOver end
 
+-- how it ended, if it has
 abbrev pub check_over : Check → Option CheckEnd
 check_over (CheckOver end) = Some end
 check_over _ = None
 
+-- where it stands after an answer, after a request that wore out, or after want of memory
 abbrev pub check_after : Script → Check → Item → Check
 check_after w c (Got r repeated) = check_hears w c r
-check_after w c WornOut = CheckOver CheckFault
-check_after w c OutOfMemory = CheckOver NoMemory
+check_after w c WornOut = CheckOver ends.StoreFault
+check_after w c OutOfMemory = CheckOver ends.NoMemory

@@ -1,15 +1,17 @@
 -- The driver's abort or clean of a job at a shared destination: it aborts only the uploads that the job's own records and sets name, and lists no uploads (Hadoop, S3A committer architecture: cleanup by the job's own pending files).
 use Rattle.std.specs.Prelude.{ℕ, List, [], ◌∷◌, ◌++◌, take, drop, map, Option, Some, None, Result, Ok, Err}
-use Rattle.job_facts.specs.Prelude.{filter, Request, GetObject, DeleteObjects, AbortUpload, ClusterGet, ClusterList, ClusterDelete, UploadRef, Committer, Magic, Directory, Partitioned, Reply, is_record, Pending, PendingSet, Item, Got, WornOut, OutOfMemory, Script, CleanEnd, Walked, More, Whole, page_after}
-use Rattle.job_protocol.specs.Prelude.{ClusterBytes}
-use Rattle.job_spec.specs.Prelude.{ClusterNames}
-use Rattle.s3_types.specs.declared.reply.Reply.TheVariants.{Object}
+use Rattle.job_model.specs.Prelude.{filter, Request, GetObject, DeleteObjects, AbortUpload, ClusterList, ClusterDelete, UploadRef, Committer, Magic, Directory, Partitioned, Reply, ClusterBytes, is_record, Pending, PendingSet, Script}
+use Rattle.s3_types.specs.declared.request.Request.TheVariants.{ClusterGet}
+use Rattle.s3_types.specs.declared.reply.Reply.TheVariants.{Object, ClusterNames}
+use Rattle.retries.specs.Prelude.{Item, Got, WornOut, OutOfMemory}
 use Rattle.magic_paths.specs.Layout as layout
 use Rattle.pending_json.specs.Reading as reading
 use Rattle.pending_json.specs.declared.fault.RecordFault.{RecordFault}
+use Rattle.job_model.specs.declared.ends.CleanEnd.{CleanEnd}
 use Rattle.job_model.specs.declared.ends.CleanEnd.TheVariants as ends
-use Rattle.list_walk.specs.Walks.{walked}
+use Rattle.list_walk.specs.Walks.{Walked, More, Whole, page_after, walked}
 
+-- how far a sparing abort or clean has come
 pub data Sparing : Type 0 where
   -- magic: lists the keys below the job's magic directory, with those so far
   Walking : (keys : List (List ℕ)) → Sparing
@@ -25,6 +27,7 @@ pub data Sparing : Type 0 where
   Removing : (path : List ℕ) (others : List (List ℕ)) → Sparing
   SparingOver : (end : CleanEnd) → Sparing
 
+-- it begins with the keys of the job's magic directory, or with the job's files in the cluster
 abbrev pub sparing_start : Committer → Sparing
 sparing_start Magic = Walking []
 sparing_start Directory = Naming
@@ -36,6 +39,7 @@ record_request Magic w place = GetObject w.dest.bucket place
 record_request Directory w place = ClusterGet place
 record_request Partitioned w place = ClusterGet place
 
+-- what it asks next, or nothing where it is over
 abbrev pub sparing_asks : Script → Sparing → Option Request
 sparing_asks w (Walking keys) = Some (page_after w.dest.bucket (layout.magic_prefix w.dest.key w.job) keys)
 sparing_asks w Naming = Some (ClusterList (layout.cluster_prefix w.job))
@@ -47,6 +51,7 @@ sparing_asks w (SparingOver end) = None
 
 -- ---- what records and sets name
 
+-- the upload that a record names
 abbrev pub ref_of : Pending → UploadRef
 ref_of p = record { key = p.destination; upload = p.upload }
 
@@ -67,35 +72,43 @@ names _ = []
 
 -- ---- where answers lead
 
+-- the next keys are deleted; behind the last one it is Done
 abbrev pub deleting : List (List ℕ) → Sparing
 deleting [] = SparingOver ends.Done
 deleting (k ∷ ks) = Deleting k ks
 
+-- the next of these cluster files is deleted; behind the last one it is Done
 abbrev pub removing : List (List ℕ) → Sparing
 removing [] = SparingOver ends.Done
 removing (p ∷ ps) = Removing p ps
 
+-- once all uploads are aborted, what was listed is deleted
 abbrev pub emptying : Committer → List (List ℕ) → Sparing
 emptying Magic all = deleting all
 emptying Directory all = removing all
 emptying Partitioned all = removing all
 
+-- the next of these uploads is aborted, until none is left
 abbrev pub aborting : Committer → List UploadRef → List (List ℕ) → Sparing
 aborting committer [] all = emptying committer all
 aborting committer (u ∷ us) all = Aborting u us all
 
+-- the next of these places is read, until none is left
 abbrev pub reading_on : Committer → List UploadRef → List (List ℕ) → List (List ℕ) → Sparing
 reading_on committer named [] all = aborting committer named all
 reading_on committer named (p ∷ ps) all = Reading named p ps all
 
+-- where a page of the keys leads
 abbrev pub walking : Committer → Walked (List ℕ) → Sparing
 walking committer (More keys) = Walking keys
 walking committer (Whole keys) = reading_on committer [] (filter is_record keys) keys
 
+-- where the list of the job's files in the cluster leads
 abbrev pub naming : Committer → Reply → Sparing
 naming committer (ClusterNames paths) = reading_on committer [] paths paths
 naming committer _ = Naming
 
+-- where an answer leads
 abbrev pub sparing_hears : Script → Sparing → Reply → Sparing
 sparing_hears w (Walking keys) r = walking w.committer (walked keys r)
 sparing_hears w Naming r = naming w.committer r
@@ -105,10 +118,12 @@ sparing_hears w (Deleting k ks) r = deleting (drop 1000 (k ∷ ks))
 sparing_hears w (Removing p ps) r = removing ps
 sparing_hears w (SparingOver end) r = SparingOver end
 
+-- how it ended, if it has
 abbrev pub sparing_over : Sparing → Option CleanEnd
 sparing_over (SparingOver end) = Some end
 sparing_over _ = None
 
+-- where it stands after an answer, after a request that wore out, or after want of memory
 abbrev pub sparing_after : Script → Sparing → Item → Sparing
 sparing_after w c (Got r repeated) = sparing_hears w c r
 sparing_after w c WornOut = SparingOver ends.StoreFault
