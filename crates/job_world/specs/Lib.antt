@@ -1,5 +1,2 @@
-pub mod Sending
-pub mod Holds
-pub mod Posts
-pub mod Events
+pub mod Alone
 pub mod Worlds

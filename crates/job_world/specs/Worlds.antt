@@ -1,13 +1,10 @@
 -- A world as its callers see it.
-use Rattle.std.specs.Prelude.{◌≡◌, ℕ, ◌+◌, ◌≤◌, ◌^◌, [], ◌∷◌, ◌++◌, List, length, map, slice_get, Bool, true, false, Option, Some, None, unwrap_or}
-use Rattle.job_steps.specs.Prelude.{AllByRecursion, Content, Request, Actor, Entry, Known, nothing_known, Script, EventEnd, Pick, Setting, Running, task_of, AreOwn, Promised, Sent}
+use Rattle.std.specs.Prelude.{◌≡◌, ◌+◌, ◌≤◌, ◌^◌, [], ◌∷◌, ◌++◌, List, length, slice_get, Bool, true, false, Option}
+use Rattle.job_steps.specs.Prelude.{AllByRecursion, Content, Entry, Script, EventEnd, Pick, AreOwn, Promised, Sent}
 use Rattle.job_spec.specs.Prelude.{MOST_MINIMUM}
 use Rattle.job_safety.specs.Laws.{FactsHold}
-use Rattle.job_actor.specs.declared.plan.Plan.TheVariants.{Task}
-use Rattle.job_world.specs.Holds.{Quiet}
-use Rattle.job_world.specs.declared.hands.Hand.{Hand}
-use Rattle.job_world.specs.declared.hands.Hand.TheVariants.{Plan, At, Empty}
-use Rattle.job_world.specs.declared.body.Body.{Body}
+use Rattle.job_side.specs.Events.{picks_in}
+use Rattle.job_side.specs.declared.body.Body.{Body}
 
 -- the script, the store's content as the run began, all entries, the picks of the job's commit, the ends of the events so far, and whether an event found no memory
 pub record Run : Type 0 where
@@ -18,16 +15,9 @@ pub record Run : Type 0 where
   pub ends : List EventEnd
   pub stuck : Bool
 
--- the picks that a hand has, or else those that were put by
-abbrev pub picks_in : {W : Type 0} → (W → Option (List Pick)) → List Pick → Option (Hand W) → List Pick
-picks_in picks_of ps (Some (At m)) = unwrap_or (picks_of m) ps
-picks_in picks_of ps (Some (Plan p)) = ps
-picks_in picks_of ps (Some Empty) = ps
-picks_in picks_of ps None = ps
-
 -- what callers see of a world
 abbrev pub run_of : {W : Type 0} → (W → Option (List Pick)) → Body W → Bool → Run
-run_of picks_of b stuck = record { script = b.script; opening = b.opening; journal = b.journal.entries; picks = picks_in picks_of b.picks (slice_get b.hands.items 0); ends = b.ends.items; stuck = stuck }
+run_of picks_of b stuck = record { script = b.side.script; opening = b.shared.opening; journal = b.shared.journal.entries; picks = picks_in picks_of b.side.picks (slice_get b.side.hands.items 0); ends = b.side.ends.items; stuck = stuck }
 
 -- a store over which a run may begin: its parts have a least size within the store's bounds, and ids are left
 pub record MayBegin (c : Content) : Type 0 where
@@ -38,15 +28,6 @@ pub record MayBegin (c : Content) : Type 0 where
 -- nothing has happened
 abbrev pub begun : Script → Content → Run
 begun w opening = record { script = w; opening = opening; journal = []; picks = []; ends = []; stuck = false }
-
--- the hands of a script's first attempts before any event: each is its plan
-abbrev pub planned : {W : Type 0} → Script → ℕ → List (Hand W)
-planned w minimum = map (λ a. Plan (Task (task_of w minimum a.0 nothing_known))) w.attempts
-
--- a world in which nothing has happened
-pub record IsBegun {W : Type 0} (wants : W → Option Request) (is_of : Setting → Actor → W → Type 0) (running : Known → W → Running) (picks_of : W → Option (List Pick)) (w : Script) (opening : Content) (b : Body W) : Type 0 where
-  pub quiet : Quiet wants is_of running picks_of b
-  pub is : run_of picks_of b false ≡ begun w opening
 
 -- the run keeps what is promised of its job, its entries are of the job's actors, each sending has the outcome that was due and foretold, and the facts of the job hold
 pub record Keeps (r : Run) : Type 0 where

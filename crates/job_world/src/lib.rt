@@ -13,16 +13,8 @@
 //! upload id is over 2^62.
 #![tactic(auto)]
 
-mod body;
-mod events;
-mod hands;
 mod played;
-mod sending;
-mod starting;
-mod turning;
 mod world;
 
-pub use body::Body;
-pub use hands::Hand;
 pub use played::Played;
 pub use world::World;

@@ -5,10 +5,10 @@ ghost use Rattle.job_spec.specs.States.{past, verdict};
 ghost use Rattle.job_spec.specs.Promise.{Finished};
 ghost use Rattle.job_world.specs.Worlds.{MayBegin, begun, Keeps, WentOn, FoundNone};
 
-use crate::body::Body;
-use crate::played::{Played, picks_in};
+use crate::played::{Played, left_by};
 use job_actor::Works;
 use job_model::{ActorState, Event, EventEnd, PickList, Script};
+use job_side::{Body, picks_in};
 use s3_service::Service;
 use s3_types::{Actor, Journal};
 use std::alloc::{AllocError, Global};
@@ -27,7 +27,7 @@ impl<W: Works> Model for World<W> {
     ghost use Rattle.std.specs.Coded.{codes};
     ghost use Rattle.s3_types.specs.Coded.{coded_content};
     ghost use Rattle.job_model.specs.Codes.{coded_script};
-    ghost use Rattle.job_world.specs.Holds.{Quiet};
+    ghost use Rattle.job_world.specs.Alone.{Rests};
     ghost use Rattle.job_world.specs.Worlds.{Run, run_of};
 
     ghost Value = { Run };
@@ -36,7 +36,7 @@ impl<W: Works> Model for World<W> {
 
     ghost view = { λ w. run_of W.picks_of w.body w.stuck };
 
-    ghost invariant = { λ w. Quiet W.wants W.is_of W.running W.picks_of w.body };
+    ghost invariant = { λ w. Rests W.wants W.is_of W.running W.picks_of w.body };
 }
 
 impl<W: Works> World<W> {
@@ -77,7 +77,7 @@ impl<W: Works> World<W> {
     pub fn script(&self) -> &Script
         ensures { result.now ≡ self.now.script }
     {
-        &self.body.script
+        &self.body.side.script
     }
 
     /// The script's next event, or None where all have their ends. Takes no memory.
@@ -85,10 +85,11 @@ impl<W: Works> World<W> {
         ensures { result ≡ slice_get self.now.script.events (length self.now.ends) }
     {
         self.body
+            .side
             .script
             .events
             .as_slice()
-            .get(self.body.ends.len())
+            .get(self.body.side.ends.len())
             .copied()
     }
 
@@ -105,49 +106,49 @@ impl<W: Works> World<W> {
         requires { is_known self.now.script.attempts actor ≡ true }
         ensures { result ≡ (past self.now.script self.now.ends).state actor }
     {
-        self.body.states.state(&self.body.script, actor)
+        self.body.side.states.state(&self.body.side.script, actor)
     }
 
     /// The status that is due by the ends so far: 0, 1, 8 or 9. Takes no memory.
     pub fn verdict(&self) -> u8
         ensures { result ≡ verdict self.now.script self.now.ends }
     {
-        self.body.states.verdict()
+        self.body.side.states.verdict()
     }
 
     /// The job attempt's number: one more than the restarts so far.
     pub fn job_attempt(&self) -> u32
         ensures { result ≡ (past self.now.script self.now.ends).attempt }
     {
-        self.body.states.attempt()
+        self.body.side.states.attempt()
     }
 
     /// Every sending so far, in order. Takes no memory.
     pub fn journal(&self) -> &Journal
         ensures { result.now.entries ≡ self.now.journal }
     {
-        &self.body.journal
+        &self.body.shared.journal
     }
 
     /// The attempts whose sets the job's commit has read, by task. Takes no memory.
     pub fn picks(&self) -> &PickList
         ensures { result.now ≡ self.now.picks }
     {
-        picks_in(&self.body.hands[0], &self.body.picks)
+        picks_in(&self.body.side.hands[0], &self.body.side.picks)
     }
 
     /// The ends of the events so far. Takes no memory.
     pub fn ends(&self) -> &[EventEnd]
         ensures { result.now ≡ self.now.ends }
     {
-        self.body.ends.as_slice()
+        self.body.side.ends.as_slice()
     }
 
     /// The store as the sendings so far have left it. Takes no memory.
     pub fn service(&self) -> &Service
         ensures { result.now ≡ (moment self.now.opening self.now.journal (length self.now.journal)).content }
     {
-        self.body.store.service()
+        self.body.shared.store.service()
     }
 
     /// Hands out what the run leaves. Takes no memory.
@@ -163,6 +164,6 @@ impl<W: Works> World<W> {
     {
         W::laws();
         let World { body, stuck: _ } = self;
-        body.finish()
+        left_by(body)
     }
 }

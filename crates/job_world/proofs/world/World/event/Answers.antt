@@ -1,13 +1,26 @@
-use Rattle.std.proofs.Common.{true, subst}
-use Rattle.job_world.specs.Worlds.{Keeps}
-use Rattle.job_world.proofs.KeptWorlds.{keeps}
+use Rattle.std.proofs.Common.{◌≡◌, true, length, slice_get, Some, sym, subst}
+use Rattle.job_world.specs.Worlds.{Run, WentOn, Keeps, run_of}
+use Rattle.job_world.proofs.KeptWorlds.{counts_is, its_turn, keeps, went_on, still_alone, alone_before, alone_after}
 use Rattle.job_world.proofs.world.World.event.Goals as goal
+
+pub event-requires-clause-turn : goal.event-requires-clause-turn
+event-requires-clause-turn g c =
+    its_turn g.W.Acts.wants g.W.Works.is_of g.W.Works.running g.W.Works.picks_of c.self.inside.body c.self.invariant c.args.event.now
+    (subst (λ (r : Run). slice_get r.script.events (length r.ends) ≡ Some c.args.event.now) (sym c.self.view_is) c.requires.next)
+
+pub invariant_of-self : goal.invariant_of-self
+invariant_of-self g c = record { quiet = c.event.ensures.quiet; alone = alone_after g.W.Works.picks_of c.self.inside.body c.event.new.self c.event.result c.self.invariant.alone c.event.ensures.grown c.event.ensures.err }
 
 pub returns-then-self-clause-keeps : goal.returns-then-self-clause-keeps
 returns-then-self-clause-keeps g c = subst Keeps c.self.view_is (keeps g.W.Acts.wants g.W.Works.is_of g.W.Works.running g.W.Works.picks_of c.self.inside.body c.self.invariant c.laws.ensures.has_picks c.self.inside.stuck)
 
 pub returns-in-Ok-clause-keeps : goal.returns-in-Ok-clause-keeps
-returns-in-Ok-clause-keeps g c = keeps g.W.Acts.wants g.W.Works.is_of g.W.Works.running g.W.Works.picks_of c.event.new.self c.event.ensures.quiet c.laws.ensures.has_picks c.self.inside.stuck
+returns-in-Ok-clause-keeps g c = keeps g.W.Acts.wants g.W.Works.is_of g.W.Works.running g.W.Works.picks_of c.event.new.self (record { quiet = c.event.ensures.quiet; alone = still_alone g.W.Works.picks_of c.self.inside.body c.event.new.self c.self.invariant.alone c.in-Ok.ensures.grown }) c.laws.ensures.has_picks c.self.inside.stuck
+
+pub returns-in-Ok-clause-ok : goal.returns-in-Ok-clause-ok
+returns-in-Ok-clause-ok g c =
+    subst (λ (r : Run). WentOn r (run_of g.W.Works.picks_of c.event.new.self c.self.inside.stuck)) c.self.view_is
+    (went_on g.W.Works.picks_of c.self.inside.body c.event.new.self c.self.inside.stuck (counts_is g.W.Acts.wants g.W.Works.is_of g.W.Works.running g.W.Works.picks_of c.self.inside.body c.self.invariant) c.in-Ok.ensures.grown)
 
 pub returns-in-Err-clause-keeps : goal.returns-in-Err-clause-keeps
-returns-in-Err-clause-keeps g c = keeps g.W.Acts.wants g.W.Works.is_of g.W.Works.running g.W.Works.picks_of c.event.new.self c.event.ensures.quiet c.laws.ensures.has_picks true
+returns-in-Err-clause-keeps g c = keeps g.W.Acts.wants g.W.Works.is_of g.W.Works.running g.W.Works.picks_of c.event.new.self (record { quiet = c.event.ensures.quiet; alone = alone_before g.W.Works.picks_of c.self.inside.body c.event.new.self c.self.invariant.alone c.in-Err.ensures.err }) c.laws.ensures.has_picks true

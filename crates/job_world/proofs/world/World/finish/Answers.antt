@@ -1,7 +1,7 @@
-use Rattle.std.proofs.Common.{◌≡◌, length, subst}
-use Rattle.job_steps.specs.Prelude.{Finished}
+use Rattle.std.proofs.Common.{◌≡◌, length, subst, ap, ◌∙◌}
+use Rattle.job_steps.specs.Prelude.{Scene, moment, Finished}
 use Rattle.job_world.specs.Worlds.{Run, Keeps}
-use Rattle.job_world.proofs.KeptWorlds.{keeps, finished}
+use Rattle.job_world.proofs.KeptWorlds.{scene_is, keeps, finished}
 use Rattle.job_world.proofs.world.World.finish.Goals as goal
 
 pub returns-clause-keeps : goal.returns-clause-keeps
@@ -11,3 +11,8 @@ pub returns-clause-finished : goal.returns-clause-finished
 returns-clause-finished g c =
     subst (λ (r : Run). length r.ends ≡ length r.script.events → Finished r.script r.opening r.journal r.picks r.ends) c.self.view_is
     (finished g.W.Acts.wants g.W.Works.is_of g.W.Works.running g.W.Works.picks_of c.self.inside.body c.self.invariant c.laws.ensures.has_picks)
+
+pub returns-clause-service : goal.returns-clause-service
+returns-clause-service g c =
+    subst (λ (r : Run). c.left_by.result.service ≡ (moment r.opening r.journal (length r.journal)).content) c.self.view_is
+    (c.left_by.ensures.service ∙ ap (λ (s : Scene). s.content) (scene_is g.W.Acts.wants g.W.Works.is_of g.W.Works.running g.W.Works.picks_of c.self.inside.body c.self.invariant))

@@ -1,0 +1,169 @@
+-- A job of which nothing has happened.
+use Rattle.std.proofs.Common.{◌≡◌, ℕ, zero, suc, ◌+◌, ◌<◌, ◌≤◌, ◌^◌, inl, inr, false, List, [], ◌∷◌, ◌++◌, map, take, length, slice_get, Option, Some, None, refl, sym, ap, subst, ◌∙◌, arith}
+use Rattle.std.specs.Prelude.{option_map, is_some}
+use Rattle.job_spec.proofs.Common.{cases_lt, map-append, take_all, some_is, none_some, false_true}
+use Rattle.job_steps.specs.Prelude.{Content, BucketContent, fate_at, AreForetold, Request, Entry, Actor, Driver, Declared, actor_of, Task, Known, nothing_known, Script, IsLegal, Pick, EventEnd, Setting, Running, task_of, all_picks, actors, nothing_past, IsOpening, nothing_played, nothing_happened}
+use Rattle.job_facts.specs.Prelude.{Upload, upload_in, at_id}
+use Rattle.job_spec.specs.Prelude.{opening, in_eyes}
+use Rattle.std.specs.FinMap as fin
+use Rattle.job_actor.proofs.Picking.{none_below}
+use Rattle.job_spec.specs.Eyes.{number_in}
+use Rattle.job_plans.specs.AtPlace.{task_at}
+use Rattle.job_states.specs.Standing.{standing}
+use Rattle.job_states.specs.Stands.{Stands}
+use Rattle.job_actor.specs.Picks.{ArePicksOf}
+use Rattle.job_actor.specs.declared.plan.Plan.TheVariants as plans
+use Rattle.s3_service.specs.Ids.{AreBelow}
+use Rattle.job_side.specs.Holds.{Holds, HandIs, HandsAre, PutBy, NoneOver, Quiet, is_mine, all_sound, setting_of, is_busy_at}
+use Rattle.job_side.specs.Firsts.{IsBegun, IsFirstShared, IsFirstSide, planned}
+use Rattle.job_side.specs.declared.hands.Hand.{Hand}
+use Rattle.job_side.specs.declared.hands.Hand.TheVariants.{Plan, Empty}
+use Rattle.job_side.specs.declared.body.Body.{Body}
+
+-- ---- hands
+
+abbrev pub plan_of : {W : Type 0} → Script → ℕ → Declared → Hand W
+plan_of w minimum a = Plan (plans.Task (task_of w minimum a.0 nothing_known))
+
+-- the driver's hand, and those of so many attempts
+abbrev pub hands_of : {W : Type 0} → Script → ℕ → ℕ → List (Hand W)
+hands_of w minimum n = Empty ∷ map (plan_of w minimum) (take n w.attempts)
+
+pub no_hands : {W : Type 0} (w : Script) (minimum : ℕ) (empty hands : List (Hand W)) → empty ≡ [] → hands ≡ empty ++ Empty ∷ [] → hands ≡ hands_of w minimum 0
+no_hands w minimum empty hands e h = h ∙ ap (λ hs. hs ++ Empty ∷ []) e
+
+take_more : {X : Type 0} (xs : List X) (n : ℕ) (x : X) → slice_get xs n ≡ Some x → take (suc n) xs ≡ take n xs ++ x ∷ []
+take_more [] n x e = absurd (none_some refl e)
+take_more (y ∷ ys) zero x e = ap (λ v. v ∷ []) (some_is e)
+take_more (y ∷ ys) (suc n) x e = ap (λ l. y ∷ l) (take_more ys n x e)
+
+declared_at : (w : Script) (minimum n : ℕ) (p : Task) → task_at w minimum n ≡ Some p → (d : Declared) × (slice_get w.attempts n ≡ Some d) × (task_of w minimum d.0 nothing_known ≡ p)
+declared_at w minimum n p e = by (slice_get w.attempts n) refl e
+  where
+    by : (o : Option Declared) → slice_get w.attempts n ≡ o → option_map (λ a. task_of w minimum a.0 nothing_known) o ≡ Some p → (d : Declared) × (slice_get w.attempts n ≡ Some d) × (task_of w minimum d.0 nothing_known ≡ p)
+    by None at f = absurd (none_some refl f)
+    by (Some d) at f = (d, at, some_is f)
+
+-- one more attempt has its plan
+pub more_hands : {W : Type 0} (w : Script) (minimum n : ℕ) (p : Task) (hands new : List (Hand W)) → task_at w minimum n ≡ Some p → hands ≡ hands_of w minimum n → new ≡ hands ++ Plan (plans.Task p) ∷ [] → new ≡ hands_of w minimum (n + 1)
+more_hands w minimum n p hands new at e f =
+    let d = declared_at w minimum n p at in
+    let s : suc n ≡ n + 1 = omega arith in
+    let last : Plan (plans.Task p) ∷ [] ≡ map (plan_of w minimum) (d.0 ∷ []) = ap (λ t. Plan (plans.Task t) ∷ []) (sym d.2) in
+    f ∙ ap (λ hs. hs ++ Plan (plans.Task p) ∷ []) e
+    ∙ ap (λ l. Empty ∷ (map (plan_of w minimum) (take n w.attempts) ++ l)) last
+    ∙ ap (λ l. Empty ∷ l) (sym (map-append (plan_of w minimum) (take n w.attempts) (d.0 ∷ [])))
+    ∙ ap (λ l. Empty ∷ map (plan_of w minimum) l) (sym (take_more w.attempts n d.0 d.1))
+    ∙ ap (hands_of w minimum) s
+
+pub all_hands : {W : Type 0} (w : Script) (minimum n : ℕ) (hands : List (Hand W)) → length w.attempts ≤ n → hands ≡ hands_of w minimum n → hands ≡ Empty ∷ planned w minimum
+all_hands w minimum n hands le e = e ∙ ap (λ ds. Empty ∷ map (plan_of w minimum) ds) (take_all n w.attempts le)
+
+-- ---- what the store and the standings say
+
+below_next : (w : Script) (c : Content) → AreBelow c.buckets c.next → (id : ℕ) (x : Upload) → at_id w c id ≡ Some x → id < c.next
+below_next w c below id x e = by (fin.get c.buckets w.dest.bucket) refl e
+  where
+    in_bucket : (b : BucketContent) → fin.get c.buckets w.dest.bucket ≡ Some b → fin.get b.uploads id ≡ Some x → id < c.next
+    in_bucket b at f = elim (cases_lt id c.next) [
+      | inl lt ↦ lt
+      | inr le ↦ absurd (none_some (below w.dest.bucket b at id le) f)
+    ]
+
+    by : (o : Option BucketContent) → fin.get c.buckets w.dest.bucket ≡ o → upload_in o id ≡ Some x → id < c.next
+    by None at f = absurd (none_some refl f)
+    by (Some b) at f = in_bucket b at f
+
+-- nobody is busy
+idle_at : (actors : List Actor) (place : ℕ) → is_busy_at (map (standing nothing_past) actors) place ≡ false
+idle_at [] place = refl
+idle_at (a ∷ more) zero = refl
+idle_at (a ∷ more) (suc place) = idle_at more place
+
+-- nothing is picked
+pub none_picked : (g : Setting) (opening : Content) → ArePicksOf g opening nothing_played []
+none_picked g opening xs a = sym (none_below _ (λ t. refl) g.script.tasks)
+
+nothing_put_by : (g : Setting) (opening : Content) (ps : List Pick) → ps ≡ [] → PutBy g opening nothing_played ps
+nothing_put_by g opening ps e = record {
+  none = λ c. e;
+  first = λ c xs a. (all_picks g.script opening [] xs, ap (λ l. l ++ all_picks g.script opening [] xs) e);
+  all = λ c m xs a. e ∙ none_picked g opening xs a;
+}
+
+-- ---- what is in hand
+
+as_many : {X Y Z : Type 0} (f : X → Y) (g : X → Z) (xs : List X) → length (map f xs) ≡ length (map g xs)
+as_many f g [] = refl
+as_many f g (x ∷ xs) = ap suc (as_many f g xs)
+
+module _ {W : Type 0} (is_of : Setting → Actor → W → Type 0) (running : Known → W → Running) (picks_of : W → Option (List Pick)) (g : Setting) (opening : Content) where
+  attempt_hand : (ds : List Declared) (q : ℕ) (a : Actor) (h : Hand W) → slice_get (map (λ d. actor_of d.0) ds) q ≡ Some a → slice_get (map (plan_of g.script g.minimum) ds) q ≡ Some h → HandIs is_of running picks_of g opening nothing_played a h
+  attempt_hand [] q a h e f = absurd (none_some refl e)
+  attempt_hand (d ∷ ds) zero a h e f =
+      subst (λ (k : Hand W). HandIs is_of running picks_of g opening nothing_played a k) (some_is f)
+      (subst (λ (b : Actor). HandIs is_of running picks_of g opening nothing_played b (plan_of g.script g.minimum d)) (some_is e) (refl, refl, λ s. cc))
+  attempt_hand (d ∷ ds) (suc q) a h e f = attempt_hand ds q a h e f
+
+  hands_are : (hands : List (Hand W)) → hands ≡ Empty ∷ planned g.script g.minimum → HandsAre is_of running picks_of all_sound g opening nothing_played hands
+  hands_are hands is zero a h sound e f =
+      let there : Empty ≡ h = some_is (sym (ap (λ hs. slice_get hs 0) is) ∙ f) in
+      let driver : Driver ≡ a = some_is e in
+      subst (λ (k : Hand W). HandIs is_of running picks_of g opening nothing_played a k) there (inr (sym driver, refl))
+  hands_are hands is (suc q) a h sound e f = attempt_hand g.script.attempts q a h e (sym (ap (λ hs. slice_get hs (suc q)) is) ∙ f)
+
+-- ---- all of it
+
+module _ {W : Type 0} (wants : W → Option Request) (is_of : Setting → Actor → W → Type 0) (running : Known → W → Running) (picks_of : W → Option (List Pick)) (b : Body W) (low : b.shared.opening.next ≤ 2 ^ 62) (below : AreBelow b.shared.opening.buckets b.shared.opening.next)
+    (side : IsFirstSide b.shared.opening.minimum b.side) (shared : IsFirstShared b.side.script b.shared) where
+  opens : IsOpening (setting_of b) b.shared.opening
+  opens = record { least = refl; fresh = below_next b.side.script b.shared.opening below }
+
+  few : b.shared.store.scene.content.next ≤ 2 ^ 62 + b.shared.store.requests
+  few =
+      let e : b.shared.store.scene.content.next ≡ b.shared.opening.next = ap (λ s. s.scene.content.next) shared.store in
+      omega (arith, e, low)
+
+  places : length b.side.hands.items ≡ length (actors b.side.script)
+  places = ap length side.hands ∙ ap suc (as_many (plan_of {W = W} b.side.script b.shared.opening.minimum) (λ d. actor_of d.0) b.side.script.attempts)
+
+  first_holds : Holds is_of running picks_of all_sound b
+  first_holds = record {
+    legal = side.legal;
+    opens = opens;
+    play = nothing_played;
+    happened = nothing_happened;
+    journal = ap (in_eyes (is_mine b.side.others.items)) shared.journal;
+    ends = side.ends;
+    counts = ap (number_in (is_mine b.side.others.items)) shared.events ∙ sym (ap length side.ends);
+    turn = λ e. absurd (false_true (ap is_some side.event) e);
+    now = side.event;
+    finished = side.finished;
+    scene = ap (λ s. s.scene) shared.store;
+    requests = ap (λ s. s.requests) shared.store ∙ sym (ap length shared.journal);
+    fated = subst (AreForetold (λ n. Some (fate_at b.shared.store.fates n)) 1) (sym shared.journal) tt;
+    few = few;
+    stands = side.states;
+    places = places;
+    hands = hands_are is_of running picks_of (setting_of b) b.shared.opening b.side.hands.items side.hands;
+    picks = nothing_put_by (setting_of b) b.shared.opening b.side.picks side.picks;
+  }
+
+  none_over : NoneOver wants b
+  none_over place k busy e = absurd (false_true (idle_at (actors b.side.script) place) (sym (ap (λ ss. is_busy_at ss place) side.states.actors) ∙ busy))
+
+  first_quiet : Quiet wants is_of running picks_of b
+  first_quiet = record { holds = first_holds; none_over = none_over; idle = side.event; none = side.finished }
+
+pub is_begun : {W : Type 0} (wants : W → Option Request) (is_of : Setting → Actor → W → Type 0) (running : Known → W → Running) (picks_of : W → Option (List Pick)) (w : Script) (c : Content) (b : Body W) → c.next ≤ 2 ^ 62 → AreBelow c.buckets c.next
+    → b.side.script ≡ w → b.shared.opening ≡ c → b.side.others.items ≡ [] → IsFirstSide c.minimum b.side → IsFirstShared b.side.script b.shared → IsBegun wants is_of running picks_of w c b
+is_begun wants is_of running picks_of w c b low below script opening others side shared = record {
+  quiet =
+      first_quiet wants is_of running picks_of b (let P : Content → Type 0 = λ v. v.next ≤ 2 ^ 62 in subst P (sym opening) low) (subst (λ (v : Content). AreBelow v.buckets v.next) (sym opening) below)
+      (subst (λ (v : Content). IsFirstSide v.minimum b.side) (sym opening) side) shared;
+  script = script;
+  opening = opening;
+  others = others;
+  side = side;
+  shared = shared;
+}

@@ -1,0 +1,96 @@
+-- What a world that holds says of its run: which event may begin, that its numbers are small, and what stands at its places.
+use Rattle.std.proofs.Common.{◌≡◌, ℕ, ◌+◌, ◌-◌, ◌^◌, ◌<◌, Bool, List, [], length, slice_get, Option, Some, None, sym, ap, subst, ◌∙◌, arith}
+use Rattle.job_spec.proofs.Common.{slice_get_within}
+use Rattle.job_steps.specs.Prelude.{Actor, Known, IsEvent, Event, EventFault, Pick, Setting, Running, Past, actors, refusal, past, is_busy, of_event, Play, MayOpen}
+use Rattle.job_steps.proofs.Parts.{event_none}
+use Rattle.job_steps.proofs.PastMore.{event_at}
+use Rattle.job_steps.proofs.Told.{Told, told_all}
+use Rattle.job_states.specs.Stands.{Stands}
+use Rattle.job_side.specs.Holds.{Holds, seen_by, setting_of, is_busy_at}
+use Rattle.job_side.specs.Events.{Next, event_entries}
+use Rattle.job_side.specs.declared.hands.Hand.{Hand}
+use Rattle.job_side.specs.declared.body.Body.{Body}
+use Rattle.job_side.proofs.Lives.{Lives, lives}
+use Rattle.job_side.proofs.Places.{there}
+use Rattle.job_side.proofs.Standings.{busy_at}
+
+module _ {W : Type 0} (is_of : Setting → Actor → W → Type 0) (running : Known → W → Running) (picks_of : W → Option (List Pick)) (sound : ℕ → Bool) (b : Body W) (h : Holds is_of running picks_of sound b) where
+  abbrev play : Play
+  play = h.play
+
+  pub told_of : Told (setting_of b) b.shared.opening h.play
+  told_of = told_all (setting_of b) b.shared.opening h.play h.happened
+
+  pub lives_of : Lives (setting_of b) h.play
+  lives_of = lives (setting_of b) b.shared.opening h.play h.legal h.happened
+
+  pub past_of : h.play.past ≡ past b.side.script b.side.ends.items
+  past_of = told_of.past_is ∙ ap (past b.side.script) (sym h.ends)
+
+  pub is_idle : b.side.event ≡ None → h.play.now ≡ None
+  is_idle idle = sym h.now ∙ idle
+
+  pub live_of : b.side.event ≡ None → h.play.live ≡ h.play.past
+  live_of idle = (told_of.closed (is_idle idle)).0
+
+  pub stands_of : b.side.event ≡ None → Stands b.side.script b.side.states (past b.side.script b.side.ends.items)
+  stands_of idle = subst (Stands b.side.script b.side.states) (live_of idle ∙ past_of) h.stands
+
+  -- ---- the event that is next
+
+  pub next_of : (ev : Event) → Next b ev → slice_get b.side.script.events (length h.play.ends) ≡ Some ev
+  next_of ev next = ap (λ xs. slice_get b.side.script.events (length xs)) (sym h.ends) ∙ next
+
+  pub may_open : (ev : Event) (f : Option EventFault) → b.side.event ≡ None → Next b ev → refusal (past b.side.script b.side.ends.items).state ev ≡ f → MayOpen (setting_of b) h.play ev f
+  may_open ev f idle next is = record {
+    idle = is_idle idle;
+    next = next_of ev next;
+    refusal_is = ap (λ (p : Past). refusal p.state ev) past_of ∙ is;
+  }
+
+  pub event_of : (ev : Event) → Next b ev → IsEvent b.side.script.attempts ev
+  event_of ev next = event_at b.side.script.attempts b.side.script.events (length b.side.ends.items) ev h.legal.events next
+
+  pub no_entries : b.side.event ≡ None → event_entries b ≡ []
+  no_entries idle =
+      ap (λ xs. of_event (length xs + 1) (seen_by b)) h.ends ∙ ap (of_event (length h.play.ends + 1)) h.journal
+      ∙ event_none (length h.play.ends) h.play.journal (told_of.closed (is_idle idle)).1
+
+  -- ---- numbers
+
+  few_ends : (ev : Event) → slice_get b.side.script.events (length h.play.ends) ≡ Some ev → length h.play.ends < 100000
+  few_ends ev next =
+      let within = slice_get_within b.side.script.events (length h.play.ends) ev next in
+      let few = h.legal.few_events in
+      omega arith
+
+  few_events : (ev : Event) → slice_get b.side.script.events (length h.play.ends) ≡ Some ev → b.side.states.events < 2 ^ 32 - 1
+  few_events ev next =
+      let few = few_ends ev next in
+      let lived = told_of.live_counts in
+      let kept = h.stands.events in
+      omega arith
+
+  pub few_events_next : (ev : Event) → Next b ev → b.side.states.events < 2 ^ 32 - 1
+  few_events_next ev next = few_events ev (next_of ev next)
+
+  pub few_events_now : (ev : Event) → b.side.event ≡ Some ev → b.side.states.events < 2 ^ 32 - 1
+  few_events_now ev now = few_events ev (told_of.opened ev (sym h.now ∙ now)).next
+
+  pub few_attempts : (ev : Event) → Next b ev → b.side.states.attempt < 2 ^ 32 - 1
+  few_attempts ev next =
+      let few = few_ends ev (next_of ev next) in
+      let lived = lives_of.live_few in
+      let kept = h.stands.attempt in
+      omega arith
+
+  -- ---- places
+
+  pub hand_at : (q : ℕ) (a : Actor) → slice_get (actors b.side.script) q ≡ Some a → (k : Hand W) × (slice_get b.side.hands.items q ≡ Some k)
+  hand_at q a at =
+      let within = slice_get_within (actors b.side.script) q a at in
+      let same = h.places in
+      there b.side.hands.items q (omega arith)
+
+  pub busy_of : (q : ℕ) (a : Actor) → slice_get (actors b.side.script) q ≡ Some a → is_busy_at b.side.states.actors q ≡ is_busy (h.play.live.state a).life
+  busy_of q a at = busy_at b.side.script b.side.states h.play.live h.stands q a at

@@ -1,0 +1,31 @@
+-- Another's event beside a side.
+use Rattle.std.specs.Prelude.{◌≡◌, ℕ, ◌+◌, ◌≤◌, ◌^◌, false, List, [], ◌∷◌, ◌++◌, length, Option, Some}
+use Rattle.job_steps.specs.Prelude.{Scene, answer, effect, after_all, IsHonestOutcome, fate_at, AreForetold, Request, Actor, Entry, Who, actor_of, Known, Drawn, Script, Pick, Setting, Running}
+use Rattle.job_facts.specs.Prelude.{IsForeign}
+use Rattle.job_side.specs.Holds.{Quiet, is_mine}
+use Rattle.job_side.specs.Events.{knows_of}
+use Rattle.job_side.specs.declared.body.Body.{Body}
+
+-- these were sent in event n, one after another from a scene on: each is foreign to a job whose attempts know this, and has an answer that is due
+abbrev pub AreForeign : Script → (Who → List Drawn) → ℕ → Scene → List Entry → Type 0
+AreForeign w drawn n s [] = Unit {0}
+AreForeign w drawn n s (e ∷ es) = (e.event ≡ n) × IsForeign w drawn e.request × IsHonestOutcome e.outcome (answer s e.request) × AreForeign w drawn n (effect s e.request e.outcome) es
+
+-- an event of another was played, which leaves all of the side's own
+pub record IsBeside {W : Type 0} (b c : Body W) : Type 0 where
+  pub side : c.side ≡ b.side
+  pub opening : c.shared.opening ≡ b.shared.opening
+  pub theirs : is_mine b.side.others.items (b.shared.events + 1) ≡ false
+  pub events : c.shared.events ≡ b.shared.events + 1
+  pub part : List Entry
+  pub appended : c.shared.journal.entries ≡ b.shared.journal.entries ++ part
+  pub foreign : AreForeign b.side.script (λ a. (knows_of b (actor_of a)).drawn) (b.shared.events + 1) b.shared.store.scene part
+  -- the store is as that leaves it
+  pub scene : c.shared.store.scene ≡ after_all b.shared.store.scene part
+  pub requests : c.shared.store.requests ≡ length c.shared.journal.entries
+  pub fated : AreForetold (λ n. Some (fate_at c.shared.store.fates n)) 1 c.shared.journal.entries
+  pub few : c.shared.store.scene.content.next ≤ 2 ^ 62 + c.shared.store.requests
+
+-- what a side keeps between its events it keeps beside another's
+abbrev pub RestsBeside : {W : Type 0} → (W → Option Request) → (Setting → Actor → W → Type 0) → (Known → W → Running) → (W → Option (List Pick)) → Type 0
+RestsBeside wants is_of running picks_of = (b c : Body _) → Quiet wants is_of running picks_of b → IsBeside b c → Quiet wants is_of running picks_of c

@@ -1,0 +1,228 @@
+-- The events of a world.
+use Rattle.std.specs.Prelude.{◌≡◌, ℕ, ◌+◌, ◌<◌, ◌≤◌, ◌-◌, Bool, true, false, List, [], ◌∷◌, ◌++◌, length, map, slice_get, Option, Some, None, IsSome, IfOk, unwrap_or, Result, vec_len, vec_capacity}
+use Rattle.job_steps.specs.Prelude.{Entry, Request, Actor, Known, Op, Event, Do, Start, Step, Run, Kill, Mix, Restart, Recover, ActorEnd, EventEnd, Done, Ended, EventFault, OpEnd, Pick, knows, Setting, Running, who, start_of, Past, actors, refusal, past, missing, told, open_event, Turns, AllBy, busy_actors, of_event, by_actor, begun}
+use Rattle.job_protocol.specs.Prelude.{Mixed}
+use Rattle.job_states.specs.Stands.{Stands, IsPlace}
+use Rattle.job_actor.specs.Plans.{IsPlanOf}
+use Rattle.job_side.specs.Sending.{Asks}
+use Rattle.job_side.specs.Holds.{Holds, Going, Quiet, IsTurn, Stays, HandIs, AreOf, seen_by, all_sound, all_but, setting_of, is_busy_at}
+use Rattle.job_side.specs.declared.hands.Hand.{Hand}
+use Rattle.job_side.specs.declared.hands.Hand.TheVariants.{Plan, At, Empty}
+use Rattle.job_side.specs.declared.body.Body.{Body}
+
+-- the event is the script's next one
+abbrev pub Next : {W : Type 0} → Body W → Event → Type 0
+Next b event = slice_get b.side.script.events (length b.side.ends.items) ≡ Some event
+
+-- the event is refused so
+abbrev pub Refuses : {W : Type 0} → Body W → Event → EventFault → Type 0
+Refuses b event fault = refusal (past b.side.script b.side.ends.items).state event ≡ Some fault
+
+-- the event is not refused
+abbrev pub IsFine : {W : Type 0} → Body W → Event → Type 0
+IsFine b event = refusal (past b.side.script b.side.ends.items).state event ≡ None
+
+-- there is room for the event's end, and for the ends of all actors' operations
+pub record HasRoom {W : Type 0} (b : Body W) : Type 0 where
+  pub ends : vec_len b.side.ends < vec_capacity b.side.ends
+  pub finished : length b.side.hands.items ≤ vec_capacity b.side.finished - vec_len b.side.finished
+
+-- the end that an event has by the operations that ended in it
+abbrev pub one_end : List ActorEnd → EventEnd
+one_end [] = Done
+one_end (x ∷ xs) = Ended x.end
+
+-- the end that an event has, by its kind and the operations that ended in it
+abbrev pub end_of : Event → List ActorEnd → EventEnd
+end_of (Mix seed) xs = Mixed xs
+end_of (Do a op) xs = one_end xs
+end_of (Start a op) xs = one_end xs
+end_of (Step a n) xs = one_end xs
+end_of (Run a) xs = one_end xs
+end_of (Kill a) xs = one_end xs
+end_of Restart xs = one_end xs
+end_of (Recover a) xs = one_end xs
+
+-- the entries of the event that goes on
+abbrev pub event_entries : {W : Type 0} → Body W → List Entry
+event_entries b = of_event (length b.side.ends.items + 1) (seen_by b)
+
+-- the event's entries are by turns, and its end tells what ended in it
+pub record ByTurns {W : Type 0} (b : Body W) (event : Event) : Type 0 where
+  pub turns : Turns b.side.script (past b.side.script b.side.ends.items).state event (end_of event b.side.finished.items) (event_entries b)
+  pub told : told event (end_of event b.side.finished.items) ≡ b.side.finished.items
+
+-- the script's next event has its end
+pub record Grown {W : Type 0} (b c : Body W) : Type 0 where
+  pub stays : Stays b c
+  pub end : EventEnd
+  pub ends : c.side.ends.items ≡ b.side.ends.items ++ end ∷ []
+  pub events : c.shared.events ≡ b.shared.events + 1
+  -- entries are only added, of this event
+  pub more : (part : List Entry) × (c.shared.journal.entries ≡ b.shared.journal.entries ++ part) × AreOf (b.shared.events + 1) part
+
+-- an event may be played: it is the script's next one and is not refused, and there is room for its end
+pub record MayPlay {W : Type 0} (wants : W → Option Request) (is_of : Setting → Actor → W → Type 0) (running : Known → W → Running) (picks_of : W → Option (List Pick)) (event : Event) (b : Body W) : Type 0 where
+  pub next : Next b event
+  pub fine : IsFine b event
+  pub turn : IsTurn b
+  pub room : HasRoom b
+  pub quiet : Quiet wants is_of running picks_of b
+
+-- the event is over, and has its end
+pub record IsPast {W : Type 0} (wants : W → Option Request) (is_of : Setting → Actor → W → Type 0) (running : Known → W → Running) (picks_of : W → Option (List Pick)) (b c : Body W) : Type 0 where
+  pub quiet : Quiet wants is_of running picks_of c
+  pub grown : Grown b c
+
+-- nothing but room was taken
+pub record IsAsBefore {W : Type 0} (b c : Body W) : Type 0 where
+  pub shared : c.shared ≡ b.shared
+  pub script : c.side.script ≡ b.side.script
+  pub others : c.side.others ≡ b.side.others
+  pub ends : c.side.ends.items ≡ b.side.ends.items
+  pub hands : c.side.hands ≡ b.side.hands
+  pub picks : c.side.picks ≡ b.side.picks
+
+-- ---- kinds of events
+
+-- the event begins this operation of an actor
+abbrev pub BeginsBy : Event → Actor → Op → Type 0
+BeginsBy (Do b o) a op = (b ≡ a) × (o ≡ op)
+BeginsBy (Start b o) a op = (b ≡ a) × (o ≡ op)
+BeginsBy (Step b n) a op = ⊥
+BeginsBy (Run b) a op = ⊥
+BeginsBy (Kill b) a op = ⊥
+BeginsBy (Mix seed) a op = ⊥
+BeginsBy Restart a op = ⊥
+BeginsBy (Recover b) a op = ⊥
+
+-- the event begins no operation
+abbrev pub BeginsNone : Event → Type 0
+BeginsNone (Do a op) = ⊥
+BeginsNone (Start a op) = ⊥
+BeginsNone (Step a n) = Unit {0}
+BeginsNone (Run a) = Unit {0}
+BeginsNone (Kill a) = Unit {0}
+BeginsNone (Mix seed) = Unit {0}
+BeginsNone Restart = Unit {0}
+BeginsNone (Recover a) = Unit {0}
+
+-- the event moves nobody
+abbrev pub IsStill : Event → Type 0
+IsStill (Do a op) = ⊥
+IsStill (Start a op) = ⊥
+IsStill (Step a n) = ⊥
+IsStill (Run a) = ⊥
+IsStill (Kill a) = Unit {0}
+IsStill (Mix seed) = ⊥
+IsStill Restart = Unit {0}
+IsStill (Recover a) = Unit {0}
+
+-- ---- an event begins
+
+-- the states are as the event leaves them before its requests, and it goes on
+pub record IsOpened {W : Type 0} (event : Event) (b c : Body W) : Type 0 where
+  pub is : c ≡ record b { side = record b.side { states = c.side.states; event = Some event } }
+  pub stands : (p : Past) → Stands b.side.script b.side.states p → Stands b.side.script c.side.states (open_event b.side.script p event)
+
+-- the hand at a place was taken out, and picks may have been put by
+pub record Emptied {W : Type 0} (place : ℕ) (b c : Body W) : Type 0 where
+  pub is : c ≡ record b { side = record b.side { hands = c.side.hands; picks = c.side.picks } }
+  pub places : length c.side.hands.items ≡ length b.side.hands.items
+  pub others : (q : ℕ) → (q ≡ place → ⊥) → slice_get c.side.hands.items q ≡ slice_get b.side.hands.items q
+
+-- the picks that a hand has, or else those that were put by
+abbrev pub picks_in : {W : Type 0} → (W → Option (List Pick)) → List Pick → Option (Hand W) → List Pick
+picks_in picks_of ps (Some (At m)) = unwrap_or (picks_of m) ps
+picks_in picks_of ps (Some (Plan p)) = ps
+picks_in picks_of ps (Some Empty) = ps
+picks_in picks_of ps None = ps
+
+-- what an actor knows by its own entries
+abbrev pub knows_of : {W : Type 0} → Body W → Actor → Known
+knows_of b a = knows b.side.script (who a) (by_actor a (seen_by b))
+
+-- a hand gives the plan that an attempt goes by, which knows this: it is at nothing, or its operation ended
+abbrev pub GivesPlan : {W : Type 0} → (W → Option Request) → (Setting → Actor → W → Type 0) → (Known → W → Running) → Setting → Actor → Known → Option (Hand W) → Type 0
+GivesPlan wants is_of running g a k (Some (Plan p)) = IsPlanOf g a k p
+GivesPlan wants is_of running g a k (Some (At m)) = is_of g a m × (wants m ≡ None) × ((running k m).known ≡ k)
+GivesPlan wants is_of running g a k (Some Empty) = ⊥
+GivesPlan wants is_of running g a k None = ⊥
+
+-- the operation that an actor begins, by what is past
+pub record IsWork {W : Type 0} (is_of : Setting → Actor → W → Type 0) (running : Known → W → Running) (picks_of : W → Option (List Pick)) (b : Body W) (a : Actor) (op : Op) (work : W) : Type 0 where
+  pub goes_by : is_of (setting_of b) a work
+  pub starts : (p : Past) → Stands b.side.script b.side.states p → begun (start_of (setting_of b) a op (missing b.side.script p.reported) (knows_of b a)) (knows_of b a) ≡ Some (running (knows_of b a) work)
+  pub picks : (ps : List Pick) → picks_of work ≡ Some ps → ps ≡ []
+
+-- An event goes on in which the actor at a place began an operation: all holds, but for its hand; and the operation, where memory was
+-- there for it, fits that.
+pub record Begun {W E : Type 0} (wants : W → Option Request) (is_of : Setting → Actor → W → Type 0) (running : Known → W → Running) (picks_of : W → Option (List Pick)) (place : ℕ) (a : Actor) (b : Body W) (work : Result W E) : Type 0 where
+  pub holds : Holds is_of running picks_of (all_but place) b
+  pub actor : IsPlace b.side.script a (Some place)
+  pub fits : IfOk work (λ m. HandIs is_of running picks_of (setting_of b) b.shared.opening holds.play a (At m))
+  pub busy : is_busy_at b.side.states.actors place ≡ true
+  pub others : (q : ℕ) (h : Hand W) → (q ≡ place → ⊥) → is_busy_at b.side.states.actors q ≡ true → slice_get b.side.hands.items q ≡ Some h → Asks wants h
+  pub during : IsSome b.side.event
+  pub none : b.side.finished.items ≡ []
+  pub room : vec_len b.side.finished < vec_capacity b.side.finished
+
+-- the hand at a place is another one
+pub record Handed {W : Type 0} (place : ℕ) (hand : Hand W) (b c : Body W) : Type 0 where
+  pub is : c ≡ record b { side = record b.side { hands = c.side.hands } }
+  pub places : length c.side.hands.items ≡ length b.side.hands.items
+  pub here : slice_get c.side.hands.items place ≡ Some hand
+  pub others : (q : ℕ) → (q ≡ place → ⊥) → slice_get c.side.hands.items q ≡ slice_get b.side.hands.items q
+
+-- all holds in it, and the actor at a place has the operation in hand
+pub record InHand {W : Type 0} (wants : W → Option Request) (is_of : Setting → Actor → W → Type 0) (running : Known → W → Running) (picks_of : W → Option (List Pick)) (place : ℕ) (a : Actor) (b : Body W) : Type 0 where
+  pub holds : Holds is_of running picks_of all_sound b
+  pub actor : IsPlace b.side.script a (Some place)
+  pub work : W
+  pub hand : slice_get b.side.hands.items place ≡ Some (At work)
+  pub busy : is_busy_at b.side.states.actors place ≡ true
+  pub others : (q : ℕ) (h : Hand W) → (q ≡ place → ⊥) → is_busy_at b.side.states.actors q ≡ true → slice_get b.side.hands.items q ≡ Some h → Asks wants h
+  pub during : IsSome b.side.event
+  pub none : b.side.finished.items ≡ []
+  pub room : vec_len b.side.finished < vec_capacity b.side.finished
+
+-- the actor at a place goes on, or its operation ended at once
+abbrev pub TakenUp : {W : Type 0} → ℕ → Actor → Body W → Bool → Type 0
+TakenUp place a b true = (is_busy_at b.side.states.actors place ≡ true) × (b.side.finished.items ≡ []) × (vec_len b.side.finished < vec_capacity b.side.finished)
+TakenUp place a b false = (end : OpEnd) × (b.side.finished.items ≡ record { actor = a; end = end } ∷ [])
+
+-- an event goes on that was opened, and has no entry yet
+pub record Entered {W : Type 0} (event : Event) (b c : Body W) : Type 0 where
+  pub stays : Stays b c
+  pub ends : c.side.ends ≡ b.side.ends
+  pub now : c.side.event ≡ Some event
+  pub events : c.shared.events ≡ b.shared.events
+  pub journal : c.shared.journal ≡ b.shared.journal
+  pub fresh : event_entries c ≡ []
+
+-- the actor at a place began an operation in the event, and goes on or not
+pub record HasBegun {W : Type 0} (wants : W → Option Request) (is_of : Setting → Actor → W → Type 0) (running : Known → W → Running) (picks_of : W → Option (List Pick)) (event : Event) (place : ℕ) (a : Actor) (b c : Body W) (goes_on : Bool) : Type 0 where
+  pub going : Going wants is_of running picks_of c
+  pub entered : Entered event b c
+  pub taken : TakenUp place a c goes_on
+
+-- these are the places of the busy actors
+abbrev pub AreBusy : {W : Type 0} → Body W → List ℕ → Type 0
+AreBusy b places = map (slice_get (actors b.side.script)) places ≡ map (λ x. Some x) (busy_actors b.side.script (past b.side.script b.side.ends.items).state)
+
+-- an event goes on that begins no operation: nothing was sent in it and nobody has ended yet, and there is room still
+pub record HasEntered {W : Type 0} (wants : W → Option Request) (is_of : Setting → Actor → W → Type 0) (running : Known → W → Running) (picks_of : W → Option (List Pick)) (event : Event) (b c : Body W) : Type 0 where
+  pub going : Going wants is_of running picks_of c
+  pub entered : Entered event b c
+  pub fine : IsFine c event
+  pub stands : Stands c.side.script c.side.states (open_event c.side.script (past c.side.script c.side.ends.items) event)
+  pub none : c.side.finished.items ≡ []
+  pub room : HasRoom c
+
+-- ---- an event ends
+
+-- all that was sent in it an actor sent, and its operation ended
+pub record AllOf {W : Type 0} (a : Actor) (b : Body W) : Type 0 where
+  pub by : AllBy a (event_entries b)
+  pub end : OpEnd
+  pub finished : b.side.finished.items ≡ record { actor = a; end = end } ∷ []

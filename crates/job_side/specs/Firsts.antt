@@ -1,0 +1,41 @@
+-- A job, and what it stands on, before any event.
+use Rattle.std.specs.Prelude.{◌≡◌, ℕ, [], ◌∷◌, List, map, Option, None}
+use Rattle.job_steps.specs.Prelude.{Content, Request, Actor, Known, nothing_known, Script, IsLegal, Pick, Setting, Running, task_of, nothing_past}
+use Rattle.job_spec.specs.Prelude.{opening}
+use Rattle.job_states.specs.Stands.{Stands}
+use Rattle.job_actor.specs.declared.plan.Plan.TheVariants.{Task}
+use Rattle.job_side.specs.Holds.{Quiet}
+use Rattle.job_side.specs.declared.hands.Hand.{Hand}
+use Rattle.job_side.specs.declared.hands.Hand.TheVariants.{Plan, Empty}
+use Rattle.job_side.specs.declared.body.Body.{Body}
+use Rattle.job_side.specs.declared.body.Side.{Side}
+use Rattle.job_side.specs.declared.body.Shared.{Shared}
+
+-- the hands of a script's first attempts: each is its plan
+abbrev pub planned : {W : Type 0} → Script → ℕ → List (Hand W)
+planned w minimum = map (λ a. Plan (Task (task_of w minimum a.0 nothing_known))) w.attempts
+
+-- no event of the job has happened
+pub record IsFirstSide {W : Type 0} (minimum : ℕ) (s : Side W) : Type 0 where
+  pub legal : IsLegal s.script
+  pub states : Stands s.script s.states nothing_past
+  pub hands : s.hands.items ≡ Empty ∷ planned s.script minimum
+  pub ends : s.ends.items ≡ []
+  pub event : s.event ≡ None
+  pub finished : s.finished.items ≡ []
+  pub picks : s.picks ≡ []
+
+-- nothing was sent, and the sendings are to have the script's fates
+pub record IsFirstShared (w : Script) (s : Shared) : Type 0 where
+  pub store : s.store ≡ record { scene = opening s.opening; fates = w.fates; requests = 0; losses = 0 }
+  pub journal : s.journal.entries ≡ []
+  pub events : s.events ≡ 0
+
+-- nothing has happened of this script over a store with this content, and all events are the job's
+pub record IsBegun {W : Type 0} (wants : W → Option Request) (is_of : Setting → Actor → W → Type 0) (running : Known → W → Running) (picks_of : W → Option (List Pick)) (w : Script) (c : Content) (b : Body W) : Type 0 where
+  pub quiet : Quiet wants is_of running picks_of b
+  pub script : b.side.script ≡ w
+  pub opening : b.shared.opening ≡ c
+  pub others : b.side.others.items ≡ []
+  pub side : IsFirstSide c.minimum b.side
+  pub shared : IsFirstShared b.side.script b.shared

@@ -1,0 +1,6 @@
+pub mod Sending
+pub mod Holds
+pub mod Posts
+pub mod Events
+pub mod Firsts
+pub mod Beside

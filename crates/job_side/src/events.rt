@@ -1,0 +1,414 @@
+ghost use Rattle.std.specs.Prelude.{◌≡◌, ◌⊎◌, ◌+◌, ◌<◌, ◌≤◌, ◌-◌, ◌^◌, [], ◌∷◌, ◌++◌, length, slice_get, Option, Some, None, IfOk, OnOk, OnErr, IsSome, true, vec_len, vec_capacity};
+ghost use Rattle.s3_types.specs.declared.request.Actor.TheVariants.{Driver};
+ghost use Rattle.job_model.specs.Known.{Known};
+ghost use Rattle.job_model.specs.Attempts.{is_known};
+ghost use Rattle.job_model.specs.Legal.{IsEvent, HasOp, IsLegal};
+ghost use Rattle.commit_laws.specs.Fitting.{least_missing};
+ghost use Rattle.job_protocol.specs.Operations.{start_of};
+ghost use Rattle.job_spec.specs.States.{Past, missing, told};
+ghost use Rattle.job_safety.specs.Laws.{KeptAmong};
+ghost use Rattle.job_states.specs.Stands.{Stands, IsPlace};
+ghost use Rattle.job_actor.specs.Plans.{IsPlanOf};
+ghost use Rattle.job_side.specs.Sending.{Asks, hand_end};
+ghost use Rattle.job_side.specs.Holds.{Holds, Going, Quiet, IsTurn, Same, seen_by, all_sound, setting_of, is_busy_at};
+ghost use Rattle.job_side.specs.Beside.{RestsBeside};
+ghost use Rattle.job_side.specs.Events.{Next, Refuses, IsFine, HasRoom, end_of, ByTurns, Grown, IsAsBefore, IsOpened, Emptied, picks_in, knows_of, GivesPlan, IsWork, Begun, InHand, TakenUp, AllOf, BeginsBy, BeginsNone, HasBegun, HasEntered, AreBusy, IsStill, MayPlay, IsPast, event_entries};
+
+use crate::body::Body;
+use crate::hands::Hand;
+use job_actor::{Plan, Works};
+use job_model::{ActorEnd, Event, EventEnd, EventFault, Op, TaskSet};
+use job_plans::job_plan;
+use job_states::place_of;
+use job_turns::{mix, run, step};
+use s3_types::{Actor, Sequence, put};
+use std::alloc::{AllocError, Global};
+use std::mem;
+
+/// The end that an event has by the operations that ended in it.
+fn taken_end(alloc: Global, finished: &mut Vec<ActorEnd>, event: Event) -> EventEnd
+    requires { told event (end_of event finished.old.items) ≡ finished.old.items }
+    ensures end { result ≡ end_of event finished.old.items }
+    ensures none { finished.new.items ≡ [] }
+{
+    match event {
+        Event::Mix { seed: _ } => {
+            EventEnd::Mixed(Sequence::from_vec(mem::replace(finished, Vec::new(alloc))))
+        }
+        _ => match finished.pop() {
+            Some(ended) => EventEnd::Ended(ended.end),
+            None => EventEnd::Done,
+        },
+    }
+}
+
+impl<W: Works> Body<W> {
+    /// The place of an actor of the job.
+    fn place(&self, actor: Actor) -> usize
+        requires { is_known self.now.side.script.attempts actor ≡ true }
+        ensures { IsPlace self.now.side.script actor (Some result) }
+    {
+        match place_of(&self.side.script, actor) {
+            Some(place) => place,
+            None => unreachable!(),
+        }
+    }
+
+    /// The script's next event is refused: it has that end, and nothing else changes.
+    fn refuse(&mut self, event: Event, fault: EventFault)
+        requires next { Next self.old event }
+        requires refused { Refuses self.old event fault }
+        requires turn { IsTurn self.old }
+        requires room { HasRoom self.old }
+        requires quiet { Quiet W.wants W.is_of W.running W.picks_of self.old }
+        ensures { IsPast W.wants W.is_of W.running W.picks_of self.old self.new }
+    {
+        self.side.ends.push_reserved(EventEnd::Refused(fault));
+        self.side.states.count();
+        self.shared.events += 1;
+    }
+
+    /// What the event does before its requests; it goes on.
+    fn open(&mut self, event: Event)
+        requires event { IsEvent self.old.side.script.attempts event }
+        requires few { self.old.side.states.attempt < 2 ^ 32 - 1 }
+        ensures { IsOpened event self.old self.new }
+    {
+        self.side.states.open(&self.side.script, event);
+        self.side.event = Some(event);
+    }
+
+    /// An event goes on that begins no operation, and nothing was sent in it yet.
+    fn enter(&mut self, event: Event)
+        requires none { BeginsNone event }
+        requires ready { MayPlay W.wants W.is_of W.running W.picks_of event self.old }
+        ensures { HasEntered W.wants W.is_of W.running W.picks_of event self.old self.new }
+    {
+        self.open(event);
+    }
+
+    /// The event is over.
+    fn close(&mut self, event: Event)
+        requires now { self.old.side.event ≡ Some event }
+        requires turns { ByTurns self.old event }
+        requires room { vec_len self.old.side.ends < vec_capacity self.old.side.ends }
+        requires going { Going W.wants W.is_of W.running W.picks_of self.old }
+        ensures { IsPast W.wants W.is_of W.running W.picks_of self.old self.new }
+    {
+        W::laws();
+        let end = taken_end(self.shared.alloc, &mut self.side.finished, event);
+        self.side.ends.push_reserved(end);
+        self.side.states.count();
+        self.side.event = None;
+        self.shared.events += 1;
+    }
+
+    /// Takes out the plan that an attempt goes by.
+    fn take_plan(&mut self, place: usize, actor: Actor) -> Plan
+        requires { GivesPlan W.wants W.is_of W.running (setting_of self.old) actor (knows_of self.old actor)
+            (slice_get self.old.side.hands.items place) }
+        ensures plan { IsPlanOf (setting_of self.old) actor (knows_of self.old actor) result }
+        ensures emptied { Emptied place self.old self.new }
+        ensures picks { self.new.side.picks ≡ self.old.side.picks }
+    {
+        match mem::replace(&mut self.side.hands[place], Hand::Empty) {
+            Hand::Plan(plan) => plan,
+            Hand::At(work) => work.into_plan(),
+            Hand::Empty => unreachable!(),
+        }
+    }
+
+    /// Takes out what the driver has in hand, and puts by what that picked.
+    fn put_by(&mut self, place: usize)
+        requires { place < length self.old.side.hands.items }
+        ensures emptied { Emptied place self.old self.new }
+        ensures picks { self.new.side.picks
+            ≡ picks_in W.picks_of self.old.side.picks (slice_get self.old.side.hands.items place) }
+    {
+        match mem::replace(&mut self.side.hands[place], Hand::Empty) {
+            Hand::At(work) => match work.into_picks() {
+                Some(picks) => put(&mut self.side.picks, picks),
+                None => {}
+            },
+            _ => {}
+        }
+    }
+
+    /// The tasks that are reported, where the job's commit begins.
+    fn reported_for(&self, op: Op) -> Result<TaskSet, AllocError>
+        ensures { (p : Past) (k : Known) → Stands self.now.side.script self.now.side.states p
+            → IfOk result (λ set. start_of (setting_of self.now) Driver op
+            (least_missing self.now.side.script.tasks set) k ≡
+            start_of (setting_of self.now) Driver op (missing self.now.side.script p.reported) k) }
+    {
+        match op {
+            Op::Commit => self.side.states.reported(self.shared.alloc),
+            _ => Ok(TaskSet::new(self.shared.alloc)),
+        }
+    }
+
+    /// The driver's operation, by the job's plan, which is made anew.
+    fn driver_work(&self, op: Op) -> Result<W, AllocError>
+        requires legal { IsLegal self.now.side.script }
+        requires op { HasOp Driver op }
+        ensures { IfOk result (IsWork W.is_of W.running W.picks_of self.now Driver op) }
+    {
+        let reported = self.reported_for(op)?;
+        let plan = job_plan(&self.side.script)?;
+        W::begin(
+            self.shared.alloc,
+            Plan::Job(plan),
+            Actor::Driver,
+            op,
+            &reported,
+        )
+    }
+
+    /// An attempt's operation, by its plan.
+    fn attempt_work(&self, plan: Plan, actor: Actor, op: Op) -> Result<W, AllocError>
+        requires legal { IsLegal self.now.side.script }
+        requires attempt { actor ≡ Driver → ⊥ }
+        requires op { HasOp actor op }
+        requires plan { IsPlanOf (setting_of self.now) actor (knows_of self.now actor) plan }
+        ensures { IfOk result (IsWork W.is_of W.running W.picks_of self.now actor op) }
+    {
+        let none = TaskSet::new(self.shared.alloc);
+        W::begin(self.shared.alloc, plan, actor, op, &none)
+    }
+
+    /// An operation that has nothing to send ends. Says whether it goes on.
+    fn goes_on(&mut self, place: usize, actor: Actor) -> bool
+        requires { InHand W.wants W.is_of W.running W.picks_of place actor self.old }
+        ensures going { Going W.wants W.is_of W.running W.picks_of self.new }
+        ensures same { Same self.old self.new }
+        ensures journal { self.new.shared.journal ≡ self.old.shared.journal }
+        ensures taken { TakenUp place actor self.new result }
+    {
+        match self.end_at(place) {
+            Ok(None) => true,
+            Ok(Some(end)) => {
+                self.over(place, actor, end);
+                false
+            }
+            Err(_) => {
+                self.die(place, actor);
+                false
+            }
+        }
+    }
+
+    /// The actor at a place has the operation in hand that it began, or is dead for want of memory. Says whether it
+    /// has more to send: an operation that has nothing to send ends at once.
+    fn take_up(&mut self, place: usize, actor: Actor, work: Result<W, AllocError>) -> bool
+        requires { Begun W.wants W.is_of W.running W.picks_of place actor self.old work }
+        ensures going { Going W.wants W.is_of W.running W.picks_of self.new }
+        ensures same { Same self.old self.new }
+        ensures journal { self.new.shared.journal ≡ self.old.shared.journal }
+        ensures taken { TakenUp place actor self.new result }
+    {
+        match work {
+            Ok(work) => {
+                put(&mut self.side.hands[place], Hand::At(work));
+                self.goes_on(place, actor)
+            }
+            Err(_) => {
+                self.die(place, actor);
+                false
+            }
+        }
+    }
+
+    /// The driver begins an operation; before that what it picked is put by.
+    fn begin_driver(&mut self, event: Event, place: usize, op: Op) -> bool
+        requires begins { BeginsBy event Driver op }
+        requires actor { IsPlace self.old.side.script Driver (Some place) }
+        requires ready { MayPlay W.wants W.is_of W.running W.picks_of event self.old }
+        ensures { HasBegun W.wants W.is_of W.running W.picks_of event place Driver self.old self.new result }
+    {
+        W::laws();
+        self.put_by(place);
+        self.open(event);
+        let work = self.driver_work(op);
+        self.take_up(place, Actor::Driver, work)
+    }
+
+    /// An attempt begins an operation.
+    fn begin_attempt(&mut self, event: Event, place: usize, actor: Actor, op: Op) -> bool
+        requires begins { BeginsBy event actor op }
+        requires attempt { actor ≡ Driver → ⊥ }
+        requires actor { IsPlace self.old.side.script actor (Some place) }
+        requires ready { MayPlay W.wants W.is_of W.running W.picks_of event self.old }
+        ensures { HasBegun W.wants W.is_of W.running W.picks_of event place actor self.old self.new result }
+    {
+        W::laws();
+        let plan = self.take_plan(place, actor);
+        self.open(event);
+        let work = self.attempt_work(plan, actor, op);
+        self.take_up(place, actor, work)
+    }
+
+    /// An actor begins an operation. Says whether it has more to send.
+    fn begin(&mut self, event: Event, place: usize, actor: Actor, op: Op) -> bool
+        requires begins { BeginsBy event actor op }
+        requires actor { IsPlace self.old.side.script actor (Some place) }
+        requires ready { MayPlay W.wants W.is_of W.running W.picks_of event self.old }
+        ensures { HasBegun W.wants W.is_of W.running W.picks_of event place actor self.old self.new result }
+    {
+        match actor {
+            Actor::Driver => self.begin_driver(event, place, op),
+            _ => self.begin_attempt(event, place, actor, op),
+        }
+    }
+
+    /// Where the actor at a place has more to send, it has turns until its operation ends.
+    fn carry_on(&mut self, place: usize, actor: Actor, goes_on: bool)
+        requires actor { IsPlace self.old.side.script actor (Some place) }
+        requires taken { TakenUp place actor self.old goes_on }
+        requires fresh { event_entries self.old ≡ [] }
+        requires going { Going W.wants W.is_of W.running W.picks_of self.old }
+        ensures going { Going W.wants W.is_of W.running W.picks_of self.new }
+        ensures same { Same self.old self.new }
+        ensures all { AllOf actor self.new }
+    {
+        if goes_on {
+            run(self, place);
+        }
+    }
+
+    /// An actor begins an operation, and has turns until it ends.
+    fn do_event(&mut self, event: Event, actor: Actor, op: Op)
+        requires is { event ≡ Event.Do actor op }
+        requires ready { MayPlay W.wants W.is_of W.running W.picks_of event self.old }
+        ensures { IsPast W.wants W.is_of W.running W.picks_of self.old self.new }
+    {
+        let place = self.place(actor);
+        let goes_on = self.begin(event, place, actor, op);
+        self.carry_on(place, actor, goes_on);
+        self.close(event);
+    }
+
+    /// An actor begins an operation, and has no turn yet.
+    fn start_event(&mut self, event: Event, actor: Actor, op: Op)
+        requires is { event ≡ Event.Start actor op }
+        requires ready { MayPlay W.wants W.is_of W.running W.picks_of event self.old }
+        ensures { IsPast W.wants W.is_of W.running W.picks_of self.old self.new }
+    {
+        let place = self.place(actor);
+        let _ = self.begin(event, place, actor, op);
+        self.close(event);
+    }
+
+    /// A busy actor has turns until its operation ends.
+    fn run_event(&mut self, event: Event, actor: Actor)
+        requires is { event ≡ Event.Run actor }
+        requires ready { MayPlay W.wants W.is_of W.running W.picks_of event self.old }
+        ensures { IsPast W.wants W.is_of W.running W.picks_of self.old self.new }
+    {
+        let place = self.place(actor);
+        self.enter(event);
+        run(self, place);
+        self.close(event);
+    }
+
+    /// A busy actor has up to so many turns.
+    fn step_event(&mut self, event: Event, actor: Actor, count: u32)
+        requires is { event ≡ Event.Step actor count }
+        requires ready { MayPlay W.wants W.is_of W.running W.picks_of event self.old }
+        ensures { IsPast W.wants W.is_of W.running W.picks_of self.old self.new }
+    {
+        let place = self.place(actor);
+        self.enter(event);
+        let _ = step(self, place, count);
+        self.close(event);
+    }
+
+    /// An event that moves nobody: a kill or a restart.
+    fn still_event(&mut self, event: Event)
+        requires still { IsStill event }
+        requires ready { MayPlay W.wants W.is_of W.running W.picks_of event self.old }
+        ensures { IsPast W.wants W.is_of W.running W.picks_of self.old self.new }
+    {
+        self.enter(event);
+        self.close(event);
+    }
+
+    /// The busy actors, at these places, have turns as the seed chooses until none is busy.
+    fn mix_event(&mut self, event: Event, seed: u32, busy: Vec<usize>)
+        requires is { event ≡ Event.Mix seed }
+        requires busy { AreBusy self.old busy.items }
+        requires ready { MayPlay W.wants W.is_of W.running W.picks_of event self.old }
+        ensures { IsPast W.wants W.is_of W.running W.picks_of self.old self.new }
+    {
+        self.enter(event);
+        mix(self, seed, busy);
+        self.close(event);
+    }
+
+    /// The script's next event, which is not refused.
+    fn play(&mut self, event: Event) -> Result<(), AllocError>
+        requires { MayPlay W.wants W.is_of W.running W.picks_of event self.old }
+        ensures quiet { Quiet W.wants W.is_of W.running W.picks_of self.new }
+        ensures grown { OnOk result (Grown self.old self.new) }
+        ensures err { OnErr result (self.new ≡ self.old) }
+    {
+        match event {
+            Event::Do { actor, op } => self.do_event(event, actor, op),
+            Event::Start { actor, op } => self.start_event(event, actor, op),
+            Event::Step { actor, count } => self.step_event(event, actor, count),
+            Event::Run { actor } => self.run_event(event, actor),
+            Event::Mix { seed } => {
+                let busy = self.side.states.busy(self.shared.alloc)?;
+                self.mix_event(event, seed, busy);
+            }
+            Event::Kill { actor: _ } | Event::Restart | Event::Recover { actor: _ } => {
+                self.still_event(event);
+            }
+        }
+        Ok(())
+    }
+
+    /// Takes room for the event's end, and for the ends of all actors' operations.
+    fn make_room(&mut self) -> Result<(), AllocError>
+        requires quiet { Quiet W.wants W.is_of W.running W.picks_of self.old }
+        ensures quiet { Quiet W.wants W.is_of W.running W.picks_of self.new }
+        ensures same { IsAsBefore self.old self.new }
+        ensures room { OnOk result (HasRoom self.new) }
+    {
+        self.side.ends.reserve(1)?;
+        self.side.finished.reserve(self.side.hands.len())
+    }
+
+    /// What holds of a job between its events, whoever else sends between them. Does nothing.
+    pub fn keeps(&self)
+        requires { Quiet W.wants W.is_of W.running W.picks_of self.now }
+        ensures { KeptAmong self.now.side.script self.now.shared.opening (seen_by self.now)
+            (picks_in W.picks_of self.now.side.picks (slice_get self.now.side.hands.items 0)) self.now.side.ends.items }
+    {
+        W::laws();
+    }
+
+    /// What a job keeps beside another's event. Does nothing.
+    pub fn beside()
+        ensures { RestsBeside W.wants W.is_of W.running W.picks_of }
+    {}
+
+    /// The script's next event. What it takes of memory for itself it takes before anything happens; after want
+    /// of that all is as before.
+    pub fn event(&mut self, event: Event) -> Result<(), AllocError>
+        requires next { Next self.old event }
+        requires turn { IsTurn self.old }
+        requires quiet { Quiet W.wants W.is_of W.running W.picks_of self.old }
+        ensures quiet { Quiet W.wants W.is_of W.running W.picks_of self.new }
+        ensures grown { OnOk result (Grown self.old self.new) }
+        ensures err { OnErr result (IsAsBefore self.old self.new) }
+    {
+        self.make_room()?;
+        match self.side.states.refusal(&self.side.script, event) {
+            Some(fault) => {
+                self.refuse(event, fault);
+                Ok(())
+            }
+            None => self.play(event),
+        }
+    }
+}

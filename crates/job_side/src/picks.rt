@@ -1,0 +1,32 @@
+ghost use Rattle.std.specs.Prelude.{◌≡◌, Some};
+ghost use Rattle.job_side.specs.Events.{picks_in};
+
+use crate::hands::Hand;
+use job_actor::Works;
+use job_model::PickList;
+
+/// The picks that a hand has, or else those that were put by.
+pub fn picks_in<'a, W: Works>(hand: &'a Hand<W>, put_by: &'a PickList) -> &'a PickList
+    ensures { result.now ≡ picks_in W.picks_of put_by.now (Some hand.now) }
+{
+    match hand {
+        Hand::At(work) => match work.picks() {
+            Some(picks) => picks,
+            None => put_by,
+        },
+        _ => put_by,
+    }
+}
+
+/// Gives them.
+pub fn into_picks<W: Works>(hand: Hand<W>, put_by: PickList) -> PickList
+    ensures { result ≡ picks_in W.picks_of put_by (Some hand) }
+{
+    match hand {
+        Hand::At(work) => match work.into_picks() {
+            Some(picks) => picks,
+            None => put_by,
+        },
+        _ => put_by,
+    }
+}

@@ -1,0 +1,114 @@
+ghost use Rattle.std.specs.Prelude.{◌≡◌, ◌∷◌, ◌≤◌, ◌^◌, IfOk};
+ghost use Rattle.s3_types.specs.Store.{opening};
+ghost use Rattle.s3_types.specs.declared.limits.TheConstants.{MOST_MINIMUM};
+ghost use Rattle.job_side.specs.declared.hands.Hand.TheVariants.{Empty};
+ghost use Rattle.job_side.specs.Firsts.{IsBegun, IsFirstShared, IsFirstSide, planned};
+
+use crate::body::{Body, Shared, Side};
+use crate::hands::Hand;
+use job_actor::{Plan, Works};
+use job_model::{PickList, Script};
+use job_plans::task_plan;
+use job_states::States;
+use s3_service::Service;
+use s3_types::Journal;
+use std::alloc::{AllocError, Global};
+use store_link::{Lossy, MemStore};
+
+/// What a script's actors have in hand before any event: the driver nothing, and each attempt its plan. The
+/// minimum is the store's, in bytes.
+fn first_hands<W: Drop>(
+    alloc: Global,
+    script: &Script,
+    minimum: u64,
+) -> Result<Vec<Hand<W>>, AllocError>
+    requires some { 1 ≤ minimum }
+    requires most { minimum ≤ MOST_MINIMUM }
+    ensures { IfOk result (λ hands. hands.items ≡ Empty ∷ planned script.now minimum) }
+{
+    let mut hands = Vec::new(alloc);
+    hands.push(Hand::Empty)?;
+    for place in 0..script.attempts.len() {
+        let plan = task_plan(alloc, script, place, minimum)?;
+        hands.push(Hand::Plan(Plan::Task(plan)))?;
+    }
+    Ok(hands)
+}
+
+/// A store with the same content, of which no request was made, and whose sendings have the script's fates.
+fn first_store(alloc: Global, script: &Script, service: &Service) -> Result<Lossy, AllocError>
+    requires few { service.now.next ≤ 2 ^ 62 }
+    ensures { IfOk result (λ store. store ≡ record {
+      scene = opening service.now;
+      fates = script.now.fates;
+      requests = 0;
+      losses = 0;
+    }) }
+{
+    let fates = script.fates.copied()?;
+    let copy = service.copy()?;
+    Ok(Lossy::new(MemStore::new(alloc, copy), fates))
+}
+
+impl<W: Drop> Side<W> {
+    /// No event of the script has happened yet; those of the run with these numbers are to be another's. The
+    /// minimum is the store's, in bytes. AllocError comes where memory ran out alone.
+    pub fn new(
+        alloc: Global,
+        script: Script,
+        others: Vec<u32>,
+        minimum: u64,
+    ) -> Result<Side<W>, AllocError>
+        requires some { 1 ≤ minimum }
+        requires most { minimum ≤ MOST_MINIMUM }
+        ensures script { IfOk result (λ side. side.script ≡ script) }
+        ensures others { IfOk result (λ side. side.others.items ≡ others.items) }
+        ensures first { IfOk result (IsFirstSide minimum) }
+    {
+        let hands = first_hands(alloc, &script, minimum)?;
+        let states = States::new(alloc, &script)?;
+        Ok(Side {
+            script,
+            others,
+            states,
+            hands,
+            ends: Vec::new(alloc),
+            event: None,
+            finished: Vec::new(alloc),
+            picks: PickList::new(alloc),
+        })
+    }
+}
+
+impl Shared {
+    /// Nothing was sent yet, and the sendings are to have the script's fates. The store's content is copied.
+    /// AllocError comes where memory ran out alone.
+    pub fn new(alloc: Global, script: &Script, service: Service) -> Result<Shared, AllocError>
+        requires few { service.next ≤ 2 ^ 62 }
+        ensures opening { IfOk result (λ shared. shared.opening ≡ service) }
+        ensures first { IfOk result (IsFirstShared script.now) }
+    {
+        let store = first_store(alloc, script, &service)?;
+        Ok(Shared {
+            alloc,
+            opening: service,
+            store,
+            journal: Journal::new(alloc),
+            events: 0,
+        })
+    }
+}
+
+impl<W: Works> Body<W> {
+    /// Nothing has happened yet, and all events are to be the job's. AllocError comes where memory ran out alone.
+    pub fn new(alloc: Global, script: Script, service: Service) -> Result<Body<W>, AllocError>
+        requires some { 1 ≤ service.minimum }
+        requires most { service.minimum ≤ MOST_MINIMUM }
+        requires few { service.next ≤ 2 ^ 62 }
+        ensures { IfOk result (IsBegun W.wants W.is_of W.running W.picks_of script service) }
+    {
+        let side = Side::new(alloc, script, Vec::new(alloc), service.minimum())?;
+        let shared = Shared::new(alloc, &side.script, service)?;
+        Ok(Body { side, shared })
+    }
+}

@@ -1,0 +1,16 @@
+-- A side that nobody else stands beside.
+use Rattle.std.specs.Prelude.{◌≡◌, ℕ, List, [], Option}
+use Rattle.job_steps.specs.Prelude.{fate_at, Request, Actor, Known, Pick, Setting, Running, AreOwn}
+use Rattle.job_side.specs.Holds.{Quiet}
+use Rattle.job_side.specs.declared.body.Body.{Body}
+
+-- all events and all entries are the job's own, and the sendings have the fates that its script names
+pub record IsAlone {W : Type 0} (b : Body W) : Type 0 where
+  pub others : b.side.others.items ≡ []
+  pub own : AreOwn b.shared.journal.entries
+  pub fates : (n : ℕ) → fate_at b.shared.store.fates n ≡ fate_at b.side.script.fates n
+
+-- what a world keeps between events
+pub record Rests {W : Type 0} (wants : W → Option Request) (is_of : Setting → Actor → W → Type 0) (running : Known → W → Running) (picks_of : W → Option (List Pick)) (b : Body W) : Type 0 where
+  pub quiet : Quiet wants is_of running picks_of b
+  pub alone : IsAlone b
