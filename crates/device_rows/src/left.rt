@@ -1,9 +1,10 @@
 use crate::known::Known;
-use durable_store::{Held, ShelfStop, load};
+use durable_store::{Held, load};
 use folder_log::{Choice, LogShelf, MemDisk};
 use log_format::{LogFault, read_log};
 use s3_types::{Bytes, let_go};
 use shelf::CallList;
+use shelf::kept::ShelfStop;
 use std::alloc::{AllocError, Global};
 use std::fmt;
 use store_image::encode;

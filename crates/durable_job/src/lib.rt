@@ -9,7 +9,7 @@
 //! change; it holds all of them, and a crash leaves that. Else it holds the first changes, with all of
 //! the events before (`held`). A crash meanwhile leaves what one before might or the opening image, and
 //! from some moment on a moment of the run (`survives`). After an error, with which no run is told, the
-//! shelf holds what it held (`same`). Its count of faults rose exactly where it failed (`counted`,
+//! shelf holds what it held (`err`). Its count of faults rose exactly where it failed (`counted`,
 //! `faults`). Left open: stores whose next upload id is over 2^62.
 #![tactic(auto)]
 

@@ -1,5 +1,5 @@
 -- What a command is to do is of one of the kinds that can be kept or said.
-use Rattle.std.proofs.Common.{◌≡◌, inl, inr, ℕ, Bool, true, false, List, [], ◌∷◌, Option, Result, Ok, Err, IfOk, refl, sym, subst}
+use Rattle.std.proofs.Common.{◌≡◌, ℕ, Bool, true, false, List, [], ◌∷◌, Option, Result, Ok, Err, IfOk, refl, sym, subst}
 use Rattle.machine.specs.Prelude.{AllByRecursion, Content, new_content, MOST_MINIMUM, Shell, Entry, AreBy}
 use Rattle.s3a_words.specs.declared.command.Command.{Command}
 use Rattle.s3a_words.specs.declared.command.Command.TheVariants.{Init}
@@ -12,17 +12,16 @@ use Rattle.durable_shell.specs.Commanded.{init_work, work_said, Done, DoneOn, Is
 pub init_plain : (minimum : Option ℕ) (held : Held) → IsPlain (init_work minimum held)
 unfolding init_work
 init_plain minimum Nothing = tt
-init_plain minimum (Store c) = inr (inl refl)
-init_plain minimum (Faulty number place) = inr (inr refl)
+init_plain minimum _ = tt
 
 events : (es : List Entry) → AreBy Shell 0 es → AllByRecursion (λ e. e.event ≡ 0) es
 events [] by = tt
 events (e ∷ es) by = (by.1, events es by.2)
 
 said_plain : (refused changed : Bool) (c : Content) (text : List ℕ) (es : List Entry) → AreBy Shell 0 es → IsPlain (work_said refused changed c text es)
-said_plain true changed c text es by = inr (inl refl)
+said_plain true changed c text es by = tt
 said_plain false true c text es by = events es by
-said_plain false false c text es by = inl refl
+said_plain false false c text es by = tt
 
 done_plain : (command : Command) (bytes : List ℕ) (c : Content) (work : Work) → Done command bytes c work → IsPlain work
 done_plain command bytes c work h = subst IsPlain (sym h.is) (said_plain h.what.refused (has_changed h.sent) c h.what.text h.sent h.by)
@@ -30,7 +29,7 @@ done_plain command bytes c work h = subst IsPlain (sym h.is) (said_plain h.what.
 on_plain : (command : Command) (bytes : List ℕ) (held : Held) (work : Work) → DoneOn command bytes held work → IsPlain work
 on_plain command bytes Nothing work h = done_plain command bytes (new_content MOST_MINIMUM) work h
 on_plain command bytes (Store c) work h = done_plain command bytes c work h
-on_plain command bytes (Faulty number place) work h = subst IsPlain (sym h) (inr (inr refl))
+on_plain command bytes (Faulty number place) work h = subst IsPlain (sym h) tt
 
 pub work_plain : (command : Command) (bytes : List ℕ) (held : Held) (work : Work) → IsWork command bytes held work → IsPlain work
 work_plain (Init minimum) bytes held work h = subst IsPlain (sym h) (init_plain minimum held)

@@ -10,6 +10,7 @@ use Rattle.s3a_shell.specs.Doings.{only_looks, Does, MayStandAt}
 use Rattle.s3a_shell.specs.Sendings.{has_changed}
 use Rattle.s3a_shell.specs.Stays.{OnlyIn, bucket_in, ended_by}
 use Rattle.s3a_shell.specs.Texts.{refused_line}
+use Rattle.exit_status.specs.declared.statuses.Status.TheVariants as statuses
 use Rattle.durable_store.specs.Stores.{fault_text}
 use Rattle.durable_store.specs.Works.{Work, Says, Saves}
 use Rattle.durable_store.specs.declared.held.Held.{Held}
@@ -31,14 +32,14 @@ minimum_of (Some bytes) = bytes
 -- `init`: a store with no bucket, where nothing is held
 unfoldable pub init_work : Option ℕ → Held → Work
 init_work minimum Nothing = Saves (new_content (minimum_of minimum)) [] []
-init_work minimum (Store c) = Says 1 (refused_line (codes "exists") None) []
-init_work minimum (Faulty number place) = Says 7 (fault_text number place) []
+init_work minimum (Store c) = Says statuses.Refused (Some (refused_line (codes "exists") None)) []
+init_work minimum (Faulty number place) = Says statuses.BadImage (Some (fault_text number place)) []
 
 -- what was said is to be written; a store that was changed is kept
 abbrev pub work_said : Bool → Bool → Content → List ℕ → List Entry → Work
-work_said true changed c text sent = Says 1 text sent
+work_said true changed c text sent = Says statuses.Refused (Some text) sent
 work_said false true c text sent = Saves c text sent
-work_said false false c text sent = Says 0 text sent
+work_said false false c text sent = Says statuses.Done (Some text) sent
 
 -- a command was done on a store, with the bytes of its input
 pub record Done (command : Command) (bytes : List ℕ) (c : Content) (work : Work) : Type 0 where
@@ -67,7 +68,7 @@ pub record Done (command : Command) (bytes : List ℕ) (c : Content) (work : Wor
 abbrev pub DoneOn : Command → List ℕ → Held → Work → Type 0
 DoneOn command bytes Nothing work = Done command bytes (new_content MOST_MINIMUM) work
 DoneOn command bytes (Store c) work = Done command bytes c work
-DoneOn command bytes (Faulty number place) work = work ≡ Says 7 (fault_text number place) []
+DoneOn command bytes (Faulty number place) work = work ≡ Says statuses.BadImage (Some (fault_text number place)) []
 
 -- what a command is to do
 abbrev pub IsWork : Command → List ℕ → Held → Work → Type 0

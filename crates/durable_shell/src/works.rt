@@ -1,4 +1,4 @@
-ghost use Rattle.std.specs.Prelude.{◌≡◌, ◌⊎◌, ◌≤◌, ◌^◌, true, false, [], codes, None, IfOk};
+ghost use Rattle.std.specs.Prelude.{◌≡◌, ◌⊎◌, ◌≤◌, ◌^◌, true, false, [], codes, Some, None, IfOk};
 ghost use Rattle.s3_types.specs.Store.{Content};
 ghost use Rattle.durable_store.specs.Stores.{fault_text};
 ghost use Rattle.durable_store.specs.Works as works;
@@ -9,18 +9,13 @@ ghost use Rattle.s3a_shell.specs.Doings.{is_of_shell, only_looks};
 ghost use Rattle.s3a_shell.specs.Texts.{refused_line};
 ghost use Rattle.durable_shell.specs.Commanded.{takes_input, plays, minimum_of, init_work, work_said, Done, DoneOn, IsWork};
 
-use durable_store::{Held, Work, fault_text};
+use durable_store::{Answer, Held, Work, fault_text};
+use exit_status::Status;
 use s3_service::Service;
 use s3_types::{Bytes, Journal, MOST_MINIMUM, let_go};
 use s3a_shell::{ShellEnd, only_looks, shell};
 use s3a_words::{Command, CommandKind};
 use std::alloc::{AllocError, Global};
-
-const DONE: u8 = 0;
-
-const REFUSED: u8 = 1;
-
-const IMAGE_FAULT: u8 = 7;
 
 /// Whether a command reads the input: `put`, `put-force` and `put-drop` do.
 pub fn takes_input(command: &Command) -> bool
@@ -38,24 +33,25 @@ pub fn plays(command: &Command) -> bool
 
 /// What is to be said where the shelf holds no store.
 fn faulty(alloc: Global, number: u8, place: u64) -> Result<Work, AllocError>
-    ensures { IfOk result (λ work. work_in work ≡ works.Says 7 (fault_text number place) []) }
+    ensures { IfOk result (λ work. work_in work ≡ works.Says Status.BadImage (Some (fault_text number place)) []) }
 {
-    Ok(Work::Says {
-        due: IMAGE_FAULT,
-        text: fault_text(alloc, number, place)?,
+    Ok(Work::Says(Answer {
+        due: Status::BadImage,
+        text: Some(fault_text(alloc, number, place)?),
         sent: Journal::new(alloc),
-    })
+    }))
 }
 
 /// What is to be said where a store stands already.
 fn exists(alloc: Global) -> Result<Work, AllocError>
-    ensures { IfOk result (λ work. work_in work ≡ works.Says 1 (refused_line (codes "exists") None) []) }
+    ensures { IfOk result (λ work.
+        work_in work ≡ works.Says Status.Refused (Some (refused_line (codes "exists") None)) []) }
 {
-    Ok(Work::Says {
-        due: REFUSED,
-        text: Bytes::from_slice(alloc, b"refused exists\n")?,
+    Ok(Work::Says(Answer {
+        due: Status::Refused,
+        text: Some(Bytes::from_slice(alloc, b"refused exists\n")?),
         sent: Journal::new(alloc),
-    })
+    }))
 }
 
 #[tactic(auto, unfolding(crate::specs::Commanded::init_work))]
@@ -91,11 +87,15 @@ fn said(end: ShellEnd) -> Work
         journal,
     } = end;
     let_go(service);
-    Work::Says {
-        due: if refused { REFUSED } else { DONE },
-        text,
+    Work::Says(Answer {
+        due: if refused {
+            Status::Refused
+        } else {
+            Status::Done
+        },
+        text: Some(text),
         sent: journal,
-    }
+    })
 }
 
 /// What is to be done of what a command left.

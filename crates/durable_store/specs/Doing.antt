@@ -4,5 +4,5 @@ use Rattle.durable_store.specs.declared.work.Work.TheVariants as doing
 use Rattle.durable_store.specs.Works.{Work, Says, Saves}
 
 abbrev pub work_in : Doing → Work
-work_in (doing.Says due text sent) = Says due text sent.entries
+work_in (doing.Says answer) = Says answer.due answer.text answer.sent.entries
 work_in (doing.Saves opening text sent) = Saves opening text sent.entries

@@ -1,24 +1,18 @@
 -- What comes of a load and of a command, beside what the shelf holds.
-use Rattle.std.specs.Prelude.{◌≡◌, ◌≢◌, ℕ, ◌<◌, ◌≤◌, ◌^◌, ◌⊎◌, true, List, [], length, Option, Some, Result, Ok, Err}
-use Rattle.journal_log.specs.Prelude.{is_key, BucketContent, Content, Object, Entry, Request, Holding, Stored, fresh, IsSmall, IsDurable, LeavesOnly, image, IsContent, content_after, KeepsImages, StandsFor, IsMoment, kept, Holds, HoldsPart, WhereTold, AreCalled}
+use Rattle.std.specs.Prelude.{◌≡◌, ◌≢◌, ℕ, ◌<◌, ◌≤◌, ◌^◌, ◌⊎◌, true, List, length, Option, Some, None, Result, Ok, Err}
+use Rattle.journal_log.specs.Prelude.{is_key, BucketContent, Content, Object, Entry, Request, Holding, Stored, IsSmall, IsDurable, Sight, image, IsContent, content_after, KeepsImages, StandsFor, IsMoment, kept, Holds, HoldsPart, WhereTold, AreCalled, AreCut, ShelfStop}
 use Rattle.std.specs.FinMap as fin
 use Rattle.shelf.specs.Logged.Holding.{Nothing as Absent}
 use Rattle.journal_log.specs.Changes.{changes}
-use Rattle.journal_log.specs.Appends.{AreCut}
 use Rattle.durable_store.specs.Stores.{found}
 use Rattle.durable_store.specs.Works.{Work, Says, Saves}
 use Rattle.durable_store.specs.declared.held.Held.{Held}
 use Rattle.durable_store.specs.declared.held.Held.TheVariants.{Nothing, Store, Faulty}
-use Rattle.durable_store.specs.declared.held.ShelfStop.{ShelfStop}
-use Rattle.durable_store.specs.declared.held.ShelfStop.TheVariants.{Failed, NoMemory}
+use Rattle.shelf.specs.declared.kept.ShelfStop.TheVariants as stops
+use Rattle.exit_status.specs.declared.statuses.Status.{Status}
+use Rattle.exit_status.specs.declared.statuses.Status.TheVariants.{Done, ShelfFault, NoMemory}
 
 -- ---- a load
-
--- the shelf's count of faults rose where it failed, and else stands
-abbrev pub Counts : {A : Type 0} → Result A ShelfStop → ℕ → ℕ → Type 0
-Counts (Ok x) before after = after ≡ before
-Counts (Err Failed) before after = before < after
-Counts (Err NoMemory) before after = after ≡ before
 
 -- the store that was found can have an image
 abbrev pub IsSound : Held → Type 0
@@ -47,35 +41,31 @@ WhereSound Nothing P = P
 WhereSound (Store c) P = P
 WhereSound (Faulty number place) P = Unit {0}
 
--- ---- a save
-
--- the image of a store was put in place of what was held
-pub record Replaced {S : Type 0} (held : S → Option Stored) (may_leave : S → Holding → Type 0) (answers : S → S → Type 0) (moment_of : S → ℕ) (left_since : S → ℕ → Holding → Type 0) (c : Content) (old new : S) : Type 0 where
-  pub holds : Holds (held new) c (changes [])
-  pub durable : IsDurable (held new) (may_leave new)
-  pub leaves : LeavesOnly moment_of left_since old new (λ h. may_leave old h ⊎ (h ≡ fresh (image c)))
-  pub answered : answers old new
-
 -- ---- a command
 
 -- the status of a save
-abbrev pub status_of : {A : Type 0} → Result A ShelfStop → ℕ
-status_of (Ok x) = 0
-status_of (Err Failed) = 5
-status_of (Err NoMemory) = 9
+abbrev pub status_of : {A : Type 0} → Result A ShelfStop → Status
+status_of (Ok x) = Done
+status_of (Err stops.Failed) = ShelfFault
+status_of (Err stops.NoMemory) = NoMemory
 
--- What is answered: what is to be said, with what was sent. What is saved is answered by 0 and its text, or by 5 where the shelf
--- failed and by 9 where memory was wanting, with no text, and in each case with what was sent.
-pub data IsAnswer : Work → (due : ℕ) (text : List ℕ) (sent : List Entry) → Type 0 where
-  said : (due : ℕ) (text : List ℕ) (es : List Entry) → IsAnswer (Says due text es) due text es
-  saved : (c : Content) (text : List ℕ) (es : List Entry) → IsAnswer (Saves c text es) 0 text es
-  failed : (c : Content) (text : List ℕ) (es : List Entry) → IsAnswer (Saves c text es) 5 [] es
-  wanting : (c : Content) (text : List ℕ) (es : List Entry) → IsAnswer (Saves c text es) 9 [] es
+-- a text, where what it tells of was done
+abbrev pub text_at : Status → List ℕ → Option (List ℕ)
+text_at Done text = Some text
+text_at _ text = None
 
--- what the shelf holds after a command: what it held, or the store that was to be saved with all that was sent, or, after 5 and 9, with the first of it
-abbrev pub IsHeld : Work → (due : ℕ) (before after : Option Stored) → Type 0
+-- What is answered: what is to be said, with what was sent. What is saved is answered by Done and its text, or by the fault of the
+-- shelf or the want of memory, with the text of that, and in each case with what was sent.
+pub data IsAnswer : Work → (due : Status) (text : Option (List ℕ)) (sent : List Entry) → Type 0 where
+  said : (due : Status) (text : Option (List ℕ)) (es : List Entry) → IsAnswer (Says due text es) due text es
+  saved : (c : Content) (text : List ℕ) (es : List Entry) → IsAnswer (Saves c text es) Done (Some text) es
+  failed : (c : Content) (text : List ℕ) (es : List Entry) → IsAnswer (Saves c text es) ShelfFault None es
+  wanting : (c : Content) (text : List ℕ) (es : List Entry) → IsAnswer (Saves c text es) NoMemory None es
+
+-- what the shelf holds after a command: what it held, or the store that was to be saved with all that was sent, or, where that was not done, with the first of it
+abbrev pub IsHeld : Work → (due : Status) (before after : Option Stored) → Type 0
 IsHeld (Says d text es) due before after = after ≡ before
-IsHeld (Saves c text es) due before after = (due ≡ 0 → Holds after c (changes es)) × (due ≢ 0 → (after ≡ before) ⊎ HoldsPart after c es)
+IsHeld (Saves c text es) due before after = (due ≡ Done → Holds after c (changes es)) × (due ≢ Done → (after ≡ before) ⊎ HoldsPart after c es)
 
 -- what is saved leads through stores that can have an image
 abbrev pub HasImages : Work → Type 0
@@ -88,15 +78,15 @@ MightLeave (Says d text es) told at_first h = at_first h
 MightLeave (Saves c text es) told at_first h = WhereTold told (at_first h ⊎ IsMoment c es h)
 
 -- what one after it may leave
-abbrev pub IsDurableNow : Work → (due : ℕ) (held : Option Stored) (leaves : Holding → Type 0) → Type 0
+abbrev pub IsDurableNow : Work → (due : Status) (held : Option Stored) (leaves : Holding → Type 0) → Type 0
 IsDurableNow (Says d text es) due held leaves = Unit {0}
-IsDurableNow (Saves c text es) due held leaves = due ≡ 0 → IsDurable held leaves
+IsDurableNow (Saves c text es) due held leaves = due ≡ Done → IsDurable held leaves
 
 -- How the shelf was called: not at all where something is said; once for the image and once for each change where all was kept; and
 -- else as far as to the call that failed.
-abbrev pub CallsBy : {S : Type 0} → (answers fails : S → S → Type 0) → Work → (due : ℕ) (old new : S) → Type 0
-CallsBy answers fails (Says d text es) due old new = old ≡ new
-CallsBy answers fails (Saves c text es) due old new = (due ≡ 0 → AreCalled answers (changes es) old new) × (due ≢ 0 → AreCut answers fails (changes es) old new)
+abbrev pub CallsBy : {S : Type 0} → Sight S → Work → (due : Status) (old new : S) → Type 0
+CallsBy F (Says d text es) due old new = old ≡ new
+CallsBy F (Saves c text es) due old new = (due ≡ Done → AreCalled F (changes es) old new) × (due ≢ Done → AreCut F (changes es) old new)
 
 -- a count of faults rose where this status is due, and else stands
 pub record Tells (status due before after : ℕ) : Type 0 where

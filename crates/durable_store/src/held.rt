@@ -1,18 +1,19 @@
 ghost use Rattle.std.specs.Prelude.{◌≡◌, ◌≢◌, ◌<◌, ◌-◌, ◌^◌, Some, IfOk, OnOk, IsErrOf};
-ghost use Rattle.shelf.specs.Logged.{Stored, IsDurable, LeavesOnly};
+ghost use Rattle.shelf.specs.Logged.{Stored, IsDurable, CrashesLeave};
 ghost use Rattle.shelf.specs.Logged.Holding.{Stands};
 ghost use Rattle.store_image.specs.Fault.{number_of, place_in};
 ghost use Rattle.store_image.specs.Reading.{content_in};
 ghost use Rattle.s3_types.specs.Store.{Content};
 ghost use Rattle.store_image.specs.Content.{IsContent};
 ghost use Rattle.journal_log.specs.Changes.{content_after};
+ghost use Rattle.journal_log.specs.Images.{Counts};
 ghost use Rattle.durable_store.specs.Stores.{counted, unfolded, found};
-ghost use Rattle.durable_store.specs.Outcomes.{Counts, IsSound, LoadsAgain, AreAtKeys, IsOf, WhereSound};
+ghost use Rattle.durable_store.specs.Outcomes.{IsSound, LoadsAgain, AreAtKeys, IsOf, WhereSound};
 
 use crate::folding::follow_all;
 use s3_service::Service;
 use s3_types::{Request, let_go};
-use shelf::kept::{Held as Kept, LoadFault, MOST_BASE, Shelf};
+use shelf::kept::{Held as Kept, LoadFault, MOST_BASE, Shelf, ShelfStop};
 use std::alloc::{AllocError, Global};
 use store_image::{ImageFault, decode};
 
@@ -25,13 +26,6 @@ pub enum Held {
     /// than are loaded are the fault 8, at the most bytes of a base; a bad log is 9; and a counter of uploads that is
     /// over 2^62 behind the changes is 5, at 0.
     Faulty { number: u8, place: u64 },
-}
-
-/// Why a shelf did not give or take a store.
-#[derive(Clone, Copy, Debug, PartialEq, Eq)]
-pub enum ShelfStop {
-    Failed,
-    NoMemory,
 }
 
 /// The number of a counter that is too high.
@@ -96,14 +90,15 @@ fn unfolded(alloc: Global, kept: &Kept) -> Result<Held, AllocError>
 /// none.
 pub fn load<F: Shelf>(alloc: Global, shelf: &mut F) -> Result<Held, ShelfStop>
     requires { F.faults shelf.old < 2 ^ 64 - 1 }
-    ensures exact { IfOk result (λ held. (s : Stored) → F.held shelf.old ≡ Some s → held ≡ found s) }
-    ensures stands { IfOk result (λ held. (s : Stored) → F.held shelf.old ≡ Some s → IsOf held s.holding) }
+    ensures exact { IfOk result (λ held. (s : Stored) → F.sight.held shelf.old ≡ Some s → held ≡ found s) }
+    ensures stands { IfOk result (λ held. (s : Stored) → F.sight.held shelf.old ≡ Some s → IsOf held s.holding) }
     ensures sound { IfOk result IsSound }
-    ensures same { F.held shelf.new ≡ F.held shelf.old }
-    ensures any_moment { LeavesOnly F.moment F.left_since shelf.old shelf.new (F.may_leave shelf.old) }
-    ensures durable { IfOk result (λ held. WhereSound held (IsDurable (F.held shelf.new) (F.may_leave shelf.new))) }
-    ensures answered { (IsErrOf result ShelfStop.Failed → ⊥) → F.answers shelf.old shelf.new }
-    ensures broken { IsErrOf result ShelfStop.Failed → F.fails shelf.old shelf.new }
+    ensures same { F.sight.held shelf.new ≡ F.sight.held shelf.old }
+    ensures any_moment { CrashesLeave F.sight shelf.old shelf.new (F.sight.may_leave shelf.old) }
+    ensures durable { IfOk result (λ held.
+        WhereSound held (IsDurable (F.sight.held shelf.new) (F.sight.may_leave shelf.new))) }
+    ensures answered { (IsErrOf result ShelfStop.Failed → ⊥) → F.sight.answers shelf.old shelf.new }
+    ensures broken { IsErrOf result ShelfStop.Failed → F.sight.fails shelf.old shelf.new }
     ensures counted { Counts result (F.faults shelf.old) (F.faults shelf.new) }
 {
     match shelf.load() {

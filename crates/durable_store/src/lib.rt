@@ -19,7 +19,7 @@ mod held;
 mod saving;
 mod work;
 
-pub use answers::{Answer, obey};
-pub use held::{Held, ShelfStop, load, loads};
+pub use answers::obey;
+pub use held::{Held, load, loads};
 pub use saving::save;
-pub use work::{Work, fault_text};
+pub use work::{Answer, Work, fault_text};

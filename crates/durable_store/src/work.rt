@@ -1,20 +1,26 @@
 ghost use Rattle.std.specs.Prelude.{◌≡◌, IfOk};
 ghost use Rattle.durable_store.specs.Stores.{fault_text};
 
+use exit_status::Status;
 use s3_service::Service;
 use s3_types::{Bytes, Journal};
 use std::alloc::{AllocError, Global};
 
+/// What is answered to a command: the status that is due, what is to be written, where that is not the status's own text, and
+/// what was sent.
+#[derive(Drop)]
+pub struct Answer {
+    pub due: Status,
+    pub text: Option<Bytes>,
+    pub sent: Journal,
+}
+
 /// What a command is to do.
 #[derive(Drop)]
 pub enum Work {
-    /// To end with a status and a text, after these sendings.
-    Says {
-        due: u8,
-        text: Bytes,
-        sent: Journal,
-    },
-    /// To keep a store with what the sendings changed of it, and then to end with 0 and a text.
+    /// To answer so.
+    Says(Answer),
+    /// To keep a store with what the sendings changed of it, and then to end with Done and a text.
     Saves {
         opening: Service,
         text: Bytes,

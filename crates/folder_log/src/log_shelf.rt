@@ -1,4 +1,4 @@
-ghost use Rattle.std.specs.Prelude.{◌≡◌, ℕ, ◌≤◌, ◌<◌, ◌^◌, ◌+◌, ◌⊎◌, [], ◌∷◌, ◌++◌, List, Option, Some, None, is_some, length, IfOk, IfSome, OnOk, OnErr, IsErrOf, true};
+ghost use Rattle.std.specs.Prelude.{◌≡◌, ℕ, ◌≤◌, ◌<◌, ◌^◌, ◌+◌, ◌⊎◌, ◌∷◌, ◌++◌, List, Option, Some, None, is_some, length, IfOk, IfSome, OnOk, OnErr, IsErrOf, true};
 ghost use Rattle.log_format.specs.Change.{is_changing};
 ghost use Rattle.shelf.specs.Devices.{Rose};
 ghost use Rattle.shelf.specs.Causes.{IfBadLog};
@@ -11,7 +11,7 @@ use crate::disk::{DiskFault, LogDisk};
 use log_format::{LogFault, base_length, can_write, head_of, read_log, record_of};
 use s3_types::{Bytes, Request};
 use shelf::Failed;
-use shelf::kept::{AppendFault, Held, LoadFault, MOST_BASE, Shelf};
+use shelf::kept::{Held, LoadFault, MOST_BASE, Shelf, ShelfStop};
 use std::alloc::Global;
 
 /// Writes bytes at a place and syncs them. A crash leaves the file with any bytes in the range.
@@ -129,25 +129,23 @@ impl<D: LogDisk + Drop> LogShelf<D> {
 }
 
 impl<D: LogDisk + Drop> Shelf for LogShelf<D> {
-    ghost held = { λ s. stored (D.seen s.disk) };
+    ghost sight = { record {
+      held = λ s. stored (D.seen s.disk);
+      answers = λ s t. Answers D.calls s t;
+      fails = λ s t. Fails D.calls s t;
+      may_leave = λ s h. Leaves (D.may_leave s.disk) h;
+      moment = λ s. D.moment s.disk;
+      left_since = λ s t h. Leaves (D.left_since s.disk t) h;
+    } };
 
     ghost faults = { λ s. D.faults s.disk };
 
-    ghost answers = { λ s t. Answers D.calls s t };
-
-    ghost fails = { λ s t. Fails D.calls s t };
-
     ghost takes_appends = { λ s. TakesAppends (D.seen s.disk) (D.may_leave s.disk) s.gate };
 
-    ghost may_leave = { λ s h. Leaves (D.may_leave s.disk) h };
-
-    ghost moment = { λ s. D.moment s.disk };
-
-    ghost left_since = { λ s t h. Leaves (D.left_since s.disk t) h };
-
-    ghost counts_now = { λ s t h le left. (left.0, D.counts_now s.disk t left.0 le left.1, left.2) };
-
-    ghost only_now = { λ s h left. (left.0, D.only_now s.disk left.0 left.1, left.2) };
+    ghost timed = { record {
+      counts_now = λ s t h le left. (left.0, D.counts_now s.disk t left.0 le left.1, left.2);
+      only_now = λ s h left. (left.0, D.only_now s.disk left.0 left.1, left.2);
+    } };
 
     /// Syncs, and then reads the file once: O(bytes), in memory for the file, its base and its changes.
     fn load(&mut self) -> Result<Option<Held>, LoadFault> {
@@ -182,13 +180,13 @@ impl<D: LogDisk + Drop> Shelf for LogShelf<D> {
     }
 
     /// Writes the record and two gates, whatever the file's length.
-    fn append(&mut self, change: &Request) -> Result<(), AppendFault> {
+    fn append(&mut self, change: &Request) -> Result<(), ShelfStop> {
         self.calls = self.calls.saturating_add(1);
         let Some(gate) = self.gate else {
             unreachable!();
         };
         let Some((written, end)) = prepared(self.alloc, gate, change) else {
-            return Err(AppendFault::NoMemory);
+            return Err(ShelfStop::NoMemory);
         };
         self.gate = None;
         match open_record(&mut self.disk, gate, written.as_slice()) {
@@ -196,7 +194,7 @@ impl<D: LogDisk + Drop> Shelf for LogShelf<D> {
                 self.gate = Some(end);
                 Ok(())
             }
-            Err(_) => Err(AppendFault::Failed),
+            Err(_) => Err(ShelfStop::Failed),
         }
     }
 }

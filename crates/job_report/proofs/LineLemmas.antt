@@ -51,14 +51,14 @@ line_more f left next d text now all h written rest =
 -- ---- the whole report
 
 -- what is written part by part is the report
-pub report_is : (w : Script) (events : List Event) (xs ends : List EventEnd) (picks chosen : List Pick) (due sent many : ℕ) (none first second third fourth all : List ℕ)
-    → events ≡ w.events → xs ≡ ends → chosen ≡ picks → sent ≡ many → none ≡ [] → first ≡ none ++ event_lines 1 events xs → second ≡ first ++ flat_map pick_line chosen → third ≡ second ++ driver_line (past w xs)
-    → fourth ≡ third ++ flat_map (λ a. attempt_line (past w xs).state a.0) w.attempts → all ≡ fourth ++ closing sent due → all ≡ report_text due many picks ends w
+pub report_is : (w : Script) (events : List Event) (xs ends : List EventEnd) (picks chosen : List Pick) (due sent : ℕ) (none first second third fourth all : List ℕ)
+    → events ≡ w.events → xs ≡ ends → chosen ≡ picks → none ≡ [] → first ≡ none ++ event_lines 1 events xs → second ≡ first ++ flat_map pick_line chosen → third ≡ second ++ driver_line (past w xs)
+    → fourth ≡ third ++ flat_map (λ a. attempt_line (past w xs).state a.0) w.attempts → all ≡ fourth ++ closing sent due → all ≡ report_text due sent picks ends w
 unfolding report_text
-report_is w events xs ends picks chosen due sent many none first second third fourth all same given given_picks counted start one two three four five =
+report_is w events xs ends picks chosen due sent none first second third fourth all same given given_picks start one two three four five =
     let by_ends : first ≡ event_lines 1 w.events ends = one ∙ (λ i. start i ++ event_lines 1 (same i) (given i)) in
     let by_picks : second ≡ event_lines 1 w.events ends ++ flat_map pick_line picks = two ∙ (λ i. by_ends i ++ flat_map pick_line (given_picks i)) in
     let by_driver : third ≡ event_lines 1 w.events ends ++ flat_map pick_line picks ++ driver_line (past w ends) = three ∙ (λ i. by_picks i ++ driver_line (past w (given i))) in
     let by_attempts : fourth ≡ event_lines 1 w.events ends ++ flat_map pick_line picks ++ driver_line (past w ends) ++ flat_map (λ a. attempt_line (past w ends).state a.0) w.attempts =
     four ∙ (λ i. by_driver i ++ flat_map (λ a. attempt_line (past w (given i)).state a.0) w.attempts) in
-    five ∙ (λ i. by_attempts i ++ closing (counted i) due)
+    five ∙ (λ i. by_attempts i ++ closing sent due)

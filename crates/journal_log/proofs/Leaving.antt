@@ -1,6 +1,6 @@
 -- How what crashes leave goes on from one call to the next.
-use Rattle.std.proofs.Common.{◌≡◌, ◌⊎◌, inl, inr, ⊎_elim, ℕ, ◌≤◌, List, [], ◌∷◌, ◌++◌, Option, Some, None, refl, sym, ap, subst, ◌∙◌, arith}
-use Rattle.journal_log.specs.Prelude.{Content, Request, Entry, Holding, Stored, fresh, IsDurable, LeavesOnly, image, Begins, IsMoment, Holds, grown_by, HoldsGrownBy, HoldsSome, WhereTold, IsBetween}
+use Rattle.std.proofs.Common.{◌≡◌, ◌⊎◌, inl, inr, ⊎_elim, List, [], ◌∷◌, ◌++◌, Option, Some, None, refl, sym, ap, subst, ◌∙◌, arith}
+use Rattle.journal_log.specs.Prelude.{Content, Request, Entry, Holding, Stored, fresh, IsDurable, Sight, CrashesLeave, IsTimed, image, Begins, IsMoment, Holds, grown_by, HoldsGrownBy, HoldsSome, WhereTold, IsBetween}
 use Rattle.shelf.specs.Logged.{IsBeforeOrAfter}
 use Rattle.journal_log.specs.Changes.{changes}
 use Rattle.journal_log.specs.Crashes.{IsAppended, AreAppended}
@@ -46,21 +46,21 @@ around None r h is = tt
 around (Some s) r h (inl is) = ([], (r ∷ [], refl), is ∙ sym (grown_none s.holding))
 around (Some s) r h (inr is) = (r ∷ [], begins_all (r ∷ []), is ∙ grown_one s.holding r)
 
-module _ {S C : Type 0} (moment_of : S → ℕ) (left_since : S → ℕ → C → Type 0) where
+module _ {S : Type 0} (F : Sight S) where
   -- before the first call
-  pub started : (old : S) (P : C → Type 0) → ((c : C) → left_since old (moment_of old) c → P c) → LeavesOnly moment_of left_since old old P
+  pub started : (old : S) (P : Holding → Type 0) → ((c : Holding) → F.left_since old (F.moment old) c → P c) → CrashesLeave F old old P
   started old P here = record { later = omega arith; each = here; before = λ t c le left. inl left }
 
   -- one run and then another
-  pub then_on : (old mid new : S) (P Q R : C → Type 0) → LeavesOnly moment_of left_since old mid P → LeavesOnly moment_of left_since mid new Q → ((c : C) → P c → R c) → ((c : C) → Q c → R c) → LeavesOnly moment_of left_since old new R
+  pub then_on : (old mid new : S) (P Q R : Holding → Type 0) → CrashesLeave F old mid P → CrashesLeave F mid new Q → ((c : Holding) → P c → R c) → ((c : Holding) → Q c → R c) → CrashesLeave F old new R
   then_on old mid new P Q R first second f g = record {
     later = omega (arith, first.later, second.later);
-    each = λ c left. ⊎_elim (λ was. f c (first.each c was)) (g c) (second.before (moment_of old) c first.later left);
+    each = λ c left. ⊎_elim (λ was. f c (first.each c was)) (g c) (second.before (F.moment old) c first.later left);
     before = λ t c le left. ⊎_elim (λ was. ⊎_elim (λ l. inl l) (λ p. inr (f c p)) (first.before t c le was)) (λ q. inr (g c q)) (second.before t c (omega (arith, le, first.later)) left);
   }
 
   -- what is known of less is known of more
-  pub widened : (old new : S) (P R : C → Type 0) → LeavesOnly moment_of left_since old new P → ((c : C) → P c → R c) → LeavesOnly moment_of left_since old new R
+  pub widened : (old new : S) (P R : Holding → Type 0) → CrashesLeave F old new P → ((c : Holding) → P c → R c) → CrashesLeave F old new R
   widened old new P R run f = record {
     later = run.later;
     each = λ c left. f c (run.each c left);
@@ -69,50 +69,49 @@ module _ {S C : Type 0} (moment_of : S → ℕ) (left_since : S → ℕ → C �
 
 -- ---- appends, one after the other
 
-module _ {S : Type 0} (held : S → Option Stored) (may_leave : S → Holding → Type 0) (moment_of : S → ℕ) (left_since : S → ℕ → Holding → Type 0) where
+module _ {S : Type 0} (F : Sight S) where
   -- changes that follow others
-  pub goes_on : (old mid new : S) (rs qs : List Request) → HoldsGrownBy (held old) (held mid) rs → LeavesOnly moment_of left_since old mid (IsBetween (held old) rs) → LeavesOnly moment_of left_since mid new (IsBetween (held mid) qs)
-      → LeavesOnly moment_of left_since old new (IsBetween (held old) (rs ++ qs))
+  pub goes_on : (old mid new : S) (rs qs : List Request) → HoldsGrownBy (F.held old) (F.held mid) rs → CrashesLeave F old mid (IsBetween (F.held old) rs) → CrashesLeave F mid new (IsBetween (F.held mid) qs)
+      → CrashesLeave F old new (IsBetween (F.held old) (rs ++ qs))
   goes_on old mid new rs qs grown first second =
-      then_on moment_of left_since old mid new (IsBetween (held old) rs) (IsBetween (held mid) qs) (IsBetween (held old) (rs ++ qs)) first second (so_far (held old) rs qs) (further_on (held old) (held mid) rs qs grown)
+      then_on F old mid new (IsBetween (F.held old) rs) (IsBetween (F.held mid) qs) (IsBetween (F.held old) (rs ++ qs)) first second (so_far (F.held old) rs qs) (further_on (F.held old) (F.held mid) rs qs grown)
 
-  one_append : (old new : S) (r : Request) → IsAppended held moment_of left_since old new r → LeavesOnly moment_of left_since old new (IsBetween (held old) (r ∷ []))
-  one_append old new r is = widened moment_of left_since old new (IsBeforeOrAfter (held old) r) (IsBetween (held old) (r ∷ [])) is.leaves (around (held old) r)
+  one_append : (old new : S) (r : Request) → IsAppended F old new r → CrashesLeave F old new (IsBetween (F.held old) (r ∷ []))
+  one_append old new r is = widened F old new (IsBeforeOrAfter (F.held old) r) (IsBetween (F.held old) (r ∷ [])) is.leaves (around (F.held old) r)
 
-  from_one : (old mid new : S) (r : Request) (rs : List Request) → IsAppended held moment_of left_since old mid r → AreAppended held moment_of left_since mid rs new → LeavesOnly moment_of left_since old new (IsBetween (held old) (r ∷ rs))
-  from_one old mid new r [] is are = subst (λ (s : S). LeavesOnly moment_of left_since old s (IsBetween (held old) (r ∷ []))) are (one_append old mid r is)
+  from_one : (old mid new : S) (r : Request) (rs : List Request) → IsAppended F old mid r → AreAppended F mid rs new → CrashesLeave F old new (IsBetween (F.held old) (r ∷ rs))
+  from_one old mid new r [] is are = subst (λ (s : S). CrashesLeave F old s (IsBetween (F.held old) (r ∷ []))) are (one_append old mid r is)
   from_one old mid new r (q ∷ rs) is are =
-      goes_on old mid new (r ∷ []) (q ∷ rs) (holds_one (held old) (held mid) r is.grown) (one_append old mid r is) (from_one mid are.0 new q rs are.1 are.2)
+      goes_on old mid new (r ∷ []) (q ∷ rs) (holds_one (F.held old) (F.held mid) r is.grown) (one_append old mid r is) (from_one mid are.0 new q rs are.1 are.2)
 
-  pub all_appended : ((s : S) (h : Holding) → left_since s (moment_of s) h → may_leave s h) → (old new : S) (rs : List Request) → IsDurable (held old) (may_leave old) → AreAppended held moment_of left_since old rs new → LeavesOnly moment_of left_since old new (IsBetween (held old) rs)
-  all_appended only_now old new [] durable are =
-      subst (λ (s : S). LeavesOnly moment_of left_since old s (IsBetween (held old) [])) are
-      (started moment_of left_since old (IsBetween (held old) []) (λ h left. at_first (held old) (may_leave old) h durable (only_now old h left)))
-  all_appended only_now old new (r ∷ rs) durable are = from_one old are.0 new r rs are.1 are.2
+  pub all_appended : IsTimed F → (old new : S) (rs : List Request) → IsDurable (F.held old) (F.may_leave old) → AreAppended F old rs new → CrashesLeave F old new (IsBetween (F.held old) rs)
+  all_appended timed old new [] durable are =
+      subst (λ (s : S). CrashesLeave F old s (IsBetween (F.held old) [])) are
+      (started F old (IsBetween (F.held old) []) (λ h left. at_first (F.held old) (F.may_leave old) h durable (timed.only_now old h left)))
+  all_appended timed old new (r ∷ rs) durable are = from_one old are.0 new r rs are.1 are.2
 
-  pub leaves_moments : ((s : S) (h : Holding) → left_since s (moment_of s) h → may_leave s h) → (c : Content) (es part : List Entry) (old new : S) (rs : List Request) → Holds (held old) c (changes es) → IsDurable (held old) (may_leave old) → AreAppended held moment_of left_since old rs new → Begins rs (changes part)
-      → LeavesOnly moment_of left_since old new (λ h. WhereTold (held old) (IsMoment c (es ++ part) h))
-  leaves_moments only_now c es part old new rs holds durable are begins =
-      widened moment_of left_since old new (IsBetween (held old) rs) (λ h. WhereTold (held old) (IsMoment c (es ++ part) h)) (all_appended only_now old new rs durable are)
-      (λ h is. between c es part (held old) h holds (subst (λ (l : List Request). IsBetween (held old) l h) begins.1 (so_far (held old) rs begins.0 h is)))
+  pub leaves_moments : IsTimed F → (c : Content) (es part : List Entry) (old new : S) (rs : List Request) → Holds (F.held old) c (changes es) → IsDurable (F.held old) (F.may_leave old) → AreAppended F old rs new → Begins rs (changes part)
+      → CrashesLeave F old new (λ h. WhereTold (F.held old) (IsMoment c (es ++ part) h))
+  leaves_moments timed c es part old new rs holds durable are begins =
+      widened F old new (IsBetween (F.held old) rs) (λ h. WhereTold (F.held old) (IsMoment c (es ++ part) h)) (all_appended timed old new rs durable are)
+      (λ h is. between c es part (F.held old) h holds (subst (λ (l : List Request). IsBetween (F.held old) l h) begins.1 (so_far (F.held old) rs begins.0 h is)))
 
-  pub on_and_on : (c : Content) (es part : List Entry) (first mid new : S) → Holds (held mid) c (changes es) → HoldsSome (held mid) (held new) (changes part) → LeavesOnly moment_of left_since first mid (λ h. WhereTold (held mid) (IsMoment c es h))
-      → LeavesOnly moment_of left_since mid new (IsBetween (held mid) (changes part)) → LeavesOnly moment_of left_since first new (λ h. WhereTold (held new) (IsMoment c (es ++ part) h))
+  pub on_and_on : (c : Content) (es part : List Entry) (first mid new : S) → Holds (F.held mid) c (changes es) → HoldsSome (F.held mid) (F.held new) (changes part) → CrashesLeave F first mid (λ h. WhereTold (F.held mid) (IsMoment c es h))
+      → CrashesLeave F mid new (IsBetween (F.held mid) (changes part)) → CrashesLeave F first new (λ h. WhereTold (F.held new) (IsMoment c (es ++ part) h))
   on_and_on c es part first mid new holds grew before after =
-      let still = λ (P : Type 0). told_still (held mid) (held new) grew.0 P grew.2 in
-      then_on moment_of left_since first mid new (λ h. WhereTold (held mid) (IsMoment c es h)) (IsBetween (held mid) (changes part)) (λ h. WhereTold (held new) (IsMoment c (es ++ part) h)) before after
-      (λ h is. still (IsMoment c (es ++ part) h) (told_more (held mid) (IsMoment c es h) (IsMoment c (es ++ part) h) (longer c es part h) is))
-      (λ h is. still (IsMoment c (es ++ part) h) (between c es part (held mid) h holds is))
+      let still = λ (P : Type 0). told_still (F.held mid) (F.held new) grew.0 P grew.2 in
+      then_on F first mid new (λ h. WhereTold (F.held mid) (IsMoment c es h)) (IsBetween (F.held mid) (changes part)) (λ h. WhereTold (F.held new) (IsMoment c (es ++ part) h)) before after
+      (λ h is. still (IsMoment c (es ++ part) h) (told_more (F.held mid) (IsMoment c es h) (IsMoment c (es ++ part) h) (longer c es part h) is))
+      (λ h is. still (IsMoment c (es ++ part) h) (between c es part (F.held mid) h holds is))
 
 -- a load, a replace by the opening's image, and then changes of the journal
-pub survives : {S : Type 0} (may_leave : S → Holding → Type 0) (moment_of : S → ℕ) (left_since : S → ℕ → Holding → Type 0)
-    → ((s : S) (t : ℕ) (h : Holding) → t ≤ moment_of s → may_leave s h → left_since s t h)
-    → (c : Content) (es : List Entry) (o : Option Stored) (first loaded replaced last : S) → LeavesOnly moment_of left_since first loaded (may_leave first)
-    → LeavesOnly moment_of left_since loaded replaced (λ h. may_leave loaded h ⊎ (h ≡ fresh (image c))) → LeavesOnly moment_of left_since replaced last (λ h. WhereTold o (IsMoment c es h))
-    → LeavesOnly moment_of left_since first last (λ h. WhereTold o (may_leave first h ⊎ IsMoment c es h))
-survives {S} may_leave moment_of left_since counts_now c es o first loaded replaced last load replace append =
-    let Or : Holding → Type 0 = λ h. may_leave first h ⊎ IsMoment c es h in
+pub survives : {S : Type 0} (F : Sight S) → IsTimed F
+    → (c : Content) (es : List Entry) (o : Option Stored) (first loaded replaced last : S) → CrashesLeave F first loaded (F.may_leave first)
+    → CrashesLeave F loaded replaced (λ h. F.may_leave loaded h ⊎ (h ≡ fresh (image c))) → CrashesLeave F replaced last (λ h. WhereTold o (IsMoment c es h))
+    → CrashesLeave F first last (λ h. WhereTold o (F.may_leave first h ⊎ IsMoment c es h))
+survives {S} F timed c es o first loaded replaced last load replace append =
+    let Or : Holding → Type 0 = λ h. F.may_leave first h ⊎ IsMoment c es h in
     let opened : (h : Holding) → h ≡ fresh (image c) → IsMoment c es h = λ h e. subst (IsMoment c es) (sym e) (some c es [] (changes es, refl)) in
-    let on = then_on moment_of left_since first loaded replaced (may_leave first) (λ h. may_leave loaded h ⊎ (h ≡ fresh (image c))) Or load replace
-    (λ h left. inl left) (λ h is. ⊎_elim (λ left. inl (load.each h (counts_now loaded (moment_of first) h load.later left))) (λ e. inr (opened h e)) is) in
-    then_on moment_of left_since first replaced last Or (λ h. WhereTold o (IsMoment c es h)) (λ h. WhereTold o (Or h)) on append (λ h is. told_all o (Or h) is) (λ h is. told_more o (IsMoment c es h) (Or h) (λ m. inr m) is)
+    let on = then_on F first loaded replaced (F.may_leave first) (λ h. F.may_leave loaded h ⊎ (h ≡ fresh (image c))) Or load replace
+    (λ h left. inl left) (λ h is. ⊎_elim (λ left. inl (load.each h (timed.counts_now loaded (F.moment first) h load.later left))) (λ e. inr (opened h e)) is) in
+    then_on F first replaced last Or (λ h. WhereTold o (IsMoment c es h)) (λ h. WhereTold o (Or h)) on append (λ h is. told_all o (Or h) is) (λ h is. told_more o (IsMoment c es h) (Or h) (λ m. inr m) is)

@@ -3,3 +3,4 @@ pub mod Standing
 pub mod Leaving
 pub mod Imaged
 pub mod Steps
+pub mod Replaces

@@ -1,45 +1,57 @@
 -- How a run of appends goes, of which each call but the last was answered.
-use Rattle.std.specs.Prelude.{◌≡◌, ◌⊎◌, List, [], ◌∷◌, ◌++◌, Option}
+use Rattle.std.specs.Prelude.{◌≡◌, ◌⊎◌, List, [], ◌∷◌, ◌++◌}
 use Rattle.store_frame.specs.Prelude.{Request}
-use Rattle.shelf.specs.Logged.{Holding, Stored, IsDurable, HoldsOneOf}
-use Rattle.shelf.specs.declared.kept.AppendFault.{AppendFault}
-use Rattle.shelf.specs.declared.kept.AppendFault.TheVariants.{Failed, NoMemory}
+use Rattle.shelf.specs.Logged.{IsDurable, HoldsOneOf, Sight}
+use Rattle.shelf.specs.declared.kept.ShelfStop.{ShelfStop}
+use Rattle.shelf.specs.declared.kept.ShelfStop.TheVariants.{Failed, NoMemory}
 use Rattle.journal_log.specs.Changes.{Begins}
 use Rattle.journal_log.specs.Kept.{HoldsGrownBy}
 
 -- one call was answered for each of these changes
-abbrev pub AreAnswered : {S : Type 0} → (S → S → Type 0) → List Request → S → S → Type 0
-AreAnswered answers [] old new = old ≡ new
-AreAnswered {S} answers (r ∷ rs) old new = (mid : S) × answers old mid × AreAnswered answers rs mid new
+abbrev pub AreAnswered : {S : Type 0} → Sight S → List Request → S → S → Type 0
+AreAnswered F [] old new = old ≡ new
+AreAnswered {S} F (r ∷ rs) old new = (mid : S) × F.answers old mid × AreAnswered F rs mid new
 
 -- all these changes were appended
-pub record Appended {S : Type 0} (held : S → Option Stored) (may_leave : S → Holding → Type 0) (answers : S → S → Type 0) (rs : List Request) (old new : S) : Type 0 where
-  pub grown : HoldsGrownBy (held old) (held new) rs
-  pub durable : IsDurable (held new) (may_leave new)
-  pub answered : AreAnswered answers rs old new
+pub record Appended {S : Type 0} (F : Sight S) (rs : List Request) (old new : S) : Type 0 where
+  pub grown : HoldsGrownBy (F.held old) (F.held new) rs
+  pub durable : IsDurable (F.held new) (F.may_leave new)
+  pub answered : AreAnswered F rs old new
 
 -- what a change leaves that was not appended, by the fault
-abbrev pub LeftOut : {S : Type 0} → (S → Option Stored) → (answers fails : S → S → Type 0) → AppendFault → Request → S → S → Type 0
-LeftOut held answers fails Failed r old new = HoldsOneOf (held old) (held new) r × fails old new
-LeftOut held answers fails NoMemory r old new = (held new ≡ held old) × answers old new
+abbrev pub LeftOut : {S : Type 0} → Sight S → ShelfStop → Request → S → S → Type 0
+LeftOut F Failed r old new = HoldsOneOf (F.held old) (F.held new) r × F.fails old new
+LeftOut F NoMemory r old new = (F.held new ≡ F.held old) × F.answers old new
 
 -- the first of these changes were appended, and the next one was not
-pub record Stopped {S : Type 0} (held : S → Option Stored) (answers fails : S → S → Type 0) (fault : AppendFault) (rs : List Request) (old new : S) : Type 0 where
+pub record Stopped {S : Type 0} (F : Sight S) (fault : ShelfStop) (rs : List Request) (old new : S) : Type 0 where
   pub front : List Request
   pub next : Request
   pub rest : List Request
   pub parts : rs ≡ front ++ next ∷ rest
   pub at : S
-  pub grown : HoldsGrownBy (held old) (held at) front
-  pub answered : AreAnswered answers front old at
-  pub left_out : LeftOut held answers fails fault next at new
+  pub grown : HoldsGrownBy (F.held old) (F.held at) front
+  pub answered : AreAnswered F front old at
+  pub left_out : LeftOut F fault next at new
 
--- ---- the calls of a shelf that was to be replaced, and then to take these changes
+-- ---- calls
 
--- each was answered
-abbrev pub AreCalled : {S : Type 0} → (S → S → Type 0) → List Request → S → S → Type 0
-AreCalled {S} answers rs old new = (mid : S) × answers old mid × AreAnswered answers rs mid new
+-- the calls for the first of these changes were answered, and one call more came behind them at most
+pub record Stops {S : Type 0} (F : Sight S) (rs : List Request) (old new : S) : Type 0 where
+  pub front : List Request
+  pub begins : Begins front rs
+  pub at : S
+  pub answered : AreAnswered F front old at
+  pub last : (at ≡ new) ⊎ (F.answers at new ⊎ F.fails at new)
 
--- each but the last was answered, and none came behind that
-abbrev pub AreCut : {S : Type 0} → (answers fails : S → S → Type 0) → List Request → S → S → Type 0
-AreCut {S} answers fails rs old new = (old ≡ new) ⊎ (fails old new ⊎ ((front : List Request) × (Begins front rs × ((at : S) × (AreCalled answers front old at × ((at ≡ new) ⊎ (answers at new ⊎ fails at new)))))))
+-- of a shelf that was replaced, and then took these changes
+abbrev pub AreCalled : {S : Type 0} → Sight S → List Request → S → S → Type 0
+AreCalled {S} F rs old new = (mid : S) × F.answers old mid × AreAnswered F rs mid new
+
+-- or the first of them
+abbrev pub AreStopped : {S : Type 0} → Sight S → List Request → S → S → Type 0
+AreStopped {S} F rs old new = (mid : S) × F.answers old mid × Stops F rs mid new
+
+-- or was not replaced, by one call at most, which failed
+abbrev pub AreCut : {S : Type 0} → Sight S → List Request → S → S → Type 0
+AreCut F rs old new = (old ≡ new) ⊎ (F.fails old new ⊎ AreStopped F rs old new)

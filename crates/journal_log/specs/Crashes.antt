@@ -1,7 +1,7 @@
 -- What a crash leaves of a run.
 use Rattle.std.specs.Prelude.{◌≡◌, ◌⊎◌, ℕ, List, [], ◌∷◌, length, Option, Some, None}
 use Rattle.store_frame.specs.Prelude.{Content, moment, Request, Entry}
-use Rattle.shelf.specs.Logged.{Holding, Stored, HoldsGrown, IsBeforeOrAfter, LeavesOnly}
+use Rattle.shelf.specs.Logged.{Holding, Stored, HoldsGrown, IsBeforeOrAfter, Sight, CrashesLeave}
 use Rattle.shelf.specs.Logged.Holding.{Nothing}
 use Rattle.journal_log.specs.Changes.{Begins}
 use Rattle.journal_log.specs.Kept.{StandsFor, IsMoment, IsToEnd, grown_by}
@@ -29,11 +29,11 @@ pub record SurvivesCrashes (due : ℕ) (held : Option Stored) (at_first since_th
   pub behind : IsToEnd due → (h : Holding) → at_last h → IsLast held opening es h
 
 -- a change was appended, and a crash meanwhile left it out or had it
-pub record IsAppended {S : Type 0} (held : S → Option Stored) (moment_of : S → ℕ) (left_since : S → ℕ → Holding → Type 0) (old new : S) (change : Request) : Type 0 where
-  pub grown : HoldsGrown (held old) (held new) change
-  pub leaves : LeavesOnly moment_of left_since old new (IsBeforeOrAfter (held old) change)
+pub record IsAppended {S : Type 0} (F : Sight S) (old new : S) (change : Request) : Type 0 where
+  pub grown : HoldsGrown (F.held old) (F.held new) change
+  pub leaves : CrashesLeave F old new (IsBeforeOrAfter (F.held old) change)
 
 -- these changes were appended, one after the other
-abbrev pub AreAppended : {S : Type 0} → (S → Option Stored) → (S → ℕ) → (S → ℕ → Holding → Type 0) → S → List Request → S → Type 0
-AreAppended held moment_of left_since old [] new = old ≡ new
-AreAppended {S} held moment_of left_since old (r ∷ rs) new = (mid : S) × IsAppended held moment_of left_since old mid r × AreAppended held moment_of left_since mid rs new
+abbrev pub AreAppended : {S : Type 0} → Sight S → S → List Request → S → Type 0
+AreAppended F old [] new = old ≡ new
+AreAppended {S} F old (r ∷ rs) new = (mid : S) × IsAppended F old mid r × AreAppended F mid rs new

@@ -3,7 +3,7 @@ use Rattle.std.specs.Prelude.{◌≡◌, ◌⊎◌, ℕ, ◌<◌, ◌≤◌, ◌
 use Rattle.store_frame.specs.Prelude.{AllByRecursion, Content, Scene, new_content, apply, apply_store, moment, Request, Entry}
 use Rattle.log_format.specs.Change.{is_changing}
 use Rattle.log_format.specs.declared.held.Held.{Held}
-use Rattle.shelf.specs.Logged.{Holding, Stored, fresh, IsDurable, LeavesOnly}
+use Rattle.shelf.specs.Logged.{Holding, Stored, fresh, IsDurable, Sight, CrashesLeave}
 use Rattle.store_image.specs.Image.{image}
 use Rattle.store_image.specs.Content.{is_minimum, IsContent}
 use Rattle.journal_log.specs.Changes.{changes, content_after, Begins}
@@ -52,18 +52,18 @@ pub record KeptStands : Type 0 where
   pub one : (held : Held) (c d : Content) (a : Unfolds held c) (b : Unfolds held d) → length held.base < 2 ^ 64 → IsContent a.first → IsContent b.first → c ≡ d
 
 -- from a shelf that is durable and holds the changes of a journal, first changes of the next entries were appended: a crash since then left a moment
-pub record CrashesLeaveMoments {S : Type 0} (held : S → Option Stored) (may_leave : S → Holding → Type 0) (moment_of : S → ℕ) (left_since : S → ℕ → Holding → Type 0) : Type 0 where
-  pub between : (old new : S) (rs : List Request) → IsDurable (held old) (may_leave old) → AreAppended held moment_of left_since old rs new → LeavesOnly moment_of left_since old new (IsBetween (held old) rs)
-  pub leave : (opening : Content) (es part : List Entry) (old new : S) (rs : List Request) → Holds (held old) opening (changes es) → IsDurable (held old) (may_leave old) → AreAppended held moment_of left_since old rs new → Begins rs (changes part)
-      → LeavesOnly moment_of left_since old new (λ h. WhereTold (held old) (IsMoment opening (es ++ part) h))
+pub record CrashesLeaveMoments {S : Type 0} (F : Sight S) : Type 0 where
+  pub between : (old new : S) (rs : List Request) → IsDurable (F.held old) (F.may_leave old) → AreAppended F old rs new → CrashesLeave F old new (IsBetween (F.held old) rs)
+  pub leave : (opening : Content) (es part : List Entry) (old new : S) (rs : List Request) → Holds (F.held old) opening (changes es) → IsDurable (F.held old) (F.may_leave old) → AreAppended F old rs new → Begins rs (changes part)
+      → CrashesLeave F old new (λ h. WhereTold (F.held old) (IsMoment opening (es ++ part) h))
   -- one at the end of a run that is held whole and is durable leaves its last moment
-  pub last : (opening : Content) (es : List Entry) (at_end : S) → Holds (held at_end) opening (changes es) → IsDurable (held at_end) (may_leave at_end) → (h : Holding) → may_leave at_end h → IsLast (held at_end) opening es h
+  pub last : (opening : Content) (es : List Entry) (at_end : S) → Holds (F.held at_end) opening (changes es) → IsDurable (F.held at_end) (F.may_leave at_end) → (h : Holding) → F.may_leave at_end h → IsLast (F.held at_end) opening es h
   -- and so from one event to the next, also where some of the next changes were appended alone
-  pub on : (opening : Content) (es part : List Entry) (first mid new : S) → Holds (held mid) opening (changes es) → HoldsSome (held mid) (held new) (changes part) → LeavesOnly moment_of left_since first mid (λ h. WhereTold (held mid) (IsMoment opening es h))
-      → LeavesOnly moment_of left_since mid new (IsBetween (held mid) (changes part)) → LeavesOnly moment_of left_since first new (λ h. WhereTold (held new) (IsMoment opening (es ++ part) h))
+  pub on : (opening : Content) (es part : List Entry) (first mid new : S) → Holds (F.held mid) opening (changes es) → HoldsSome (F.held mid) (F.held new) (changes part) → CrashesLeave F first mid (λ h. WhereTold (F.held mid) (IsMoment opening es h))
+      → CrashesLeave F mid new (IsBetween (F.held mid) (changes part)) → CrashesLeave F first new (λ h. WhereTold (F.held new) (IsMoment opening (es ++ part) h))
 
 -- a shelf was loaded, replaced by the image of the opening content, and took changes of the journal: a crash since the load began left what one before it may leave, or a moment
-pub record RunsSurvive {S : Type 0} (may_leave : S → Holding → Type 0) (moment_of : S → ℕ) (left_since : S → ℕ → Holding → Type 0) : Type 0 where
-  pub survive : (opening : Content) (es : List Entry) (told : Option Stored) (first loaded replaced last : S) → LeavesOnly moment_of left_since first loaded (may_leave first)
-      → LeavesOnly moment_of left_since loaded replaced (λ h. may_leave loaded h ⊎ (h ≡ fresh (image opening))) → LeavesOnly moment_of left_since replaced last (λ h. WhereTold told (IsMoment opening es h))
-      → LeavesOnly moment_of left_since first last (λ h. WhereTold told (may_leave first h ⊎ IsMoment opening es h))
+pub record RunsSurvive {S : Type 0} (F : Sight S) : Type 0 where
+  pub survive : (opening : Content) (es : List Entry) (told : Option Stored) (first loaded replaced last : S) → CrashesLeave F first loaded (F.may_leave first)
+      → CrashesLeave F loaded replaced (λ h. F.may_leave loaded h ⊎ (h ≡ fresh (image opening))) → CrashesLeave F replaced last (λ h. WhereTold told (IsMoment opening es h))
+      → CrashesLeave F first last (λ h. WhereTold told (F.may_leave first h ⊎ IsMoment opening es h))

@@ -4,4 +4,5 @@ pub mod Kept
 pub mod Crashes
 pub mod Laws
 pub mod Appends
+pub mod Images
 pub mod Prelude

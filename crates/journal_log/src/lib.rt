@@ -21,9 +21,11 @@ ghost use Rattle.journal_log.specs.Laws.{ChangesFollow, ContentStays, KeptStands
 mod appends;
 mod changing;
 mod images;
+mod replacing;
 
 pub use appends::append_all;
 pub use images::{keeps_images, made};
+pub use replacing::put_image;
 use shelf::kept::Shelf;
 
 /// The changes of a journal.
@@ -43,6 +45,6 @@ pub fn moments()
 
 /// What a crash leaves of a shelf that takes the changes of a journal one by one.
 pub fn crashes<F: Shelf>()
-    ensures leave { CrashesLeaveMoments F.held F.may_leave F.moment F.left_since }
-    ensures survive { RunsSurvive F.may_leave F.moment F.left_since }
+    ensures leave { CrashesLeaveMoments F.sight }
+    ensures survive { RunsSurvive F.sight }
 {}

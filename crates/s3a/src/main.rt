@@ -3,9 +3,10 @@
 
 ghost use Rattle.std.specs.Prelude.{◌≡◌, IfOk};
 
+use exit_status::Status;
 use folder_log::{FileDisk, Lockable, LogShelf};
 use s3_types::Text;
-use s3a_top::{Status, run};
+use s3a_top::run;
 use shelf::{StdSink, StdSource};
 use std::alloc::{AllocError, Global};
 use std::process::ExitCode;

@@ -4,6 +4,7 @@ use Rattle.std.proofs.Common.{sym, ap, subst, ◌∙◌, arith}
 use Rattle.path_keys.proofs.Common.{take_all}
 use Rattle.fs_ops.specs.Prelude.{Content, Scene, opening, AreHonest, IsHonest, after_all, moment, Shell, Entry}
 use Rattle.bucket_walks.specs.Prelude.{AreAnswered, AreBy}
+use Rattle.journal_log.specs.Prelude.{AreBelow}
 use Rattle.s3a_words.specs.declared.command.Command.{Command}
 use Rattle.s3a_shell.specs.declared.said.Said.{Said}
 use Rattle.s3a_shell.specs.Sendings.{Sends, has_changed}
@@ -12,7 +13,6 @@ use Rattle.s3a_shell.specs.Stays.{OnlyIn, bucket_in, ended_by}
 use Rattle.s3a_shell.proofs.Staying.{does_only}
 use Rattle.s3a_shell.proofs.Unchanged.{no_change}
 use Rattle.s3a_shell.proofs.Undone.{does_keeps}
-use Rattle.s3_service.specs.Ids.{AreBelow}
 use Rattle.store_frame.specs.Held.{upload_at}
 use Rattle.s3a_shell.proofs.Finished.{below_none, does_ended}
 

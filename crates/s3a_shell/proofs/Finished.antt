@@ -2,9 +2,9 @@
 use Rattle.std.specs.Prelude.{◌≡◌, ℕ, ◌≤◌, nat_lt, Bool, true, false, cond, List, length, Option, Some, None, Result, Err}
 use Rattle.std.proofs.Common.{refl, ap, subst, ◌∙◌, ◌⊎◌, inl, inr}
 use Rattle.fs_ops.specs.Prelude.{is_bucket, Objects, BucketContent, Content, Scene, new_bucket, upload_in, with_objects_if, objects_at, InScene, GivesIn, MarkerPolicy, Keep, Delete, Stats, Reads, Lists, Makes, Deletes, Audits, Cleans, Fills, FsRefusal, NoSuchBucket, Path}
+use Rattle.journal_log.specs.Prelude.{AreBelow}
 use Rattle.std.specs.FinMap as fin
 use Rattle.s3_types.specs.Answer.{made}
-use Rattle.s3_service.specs.Ids.{AreBelow}
 use Rattle.store_frame.specs.Held.{upload_at}
 use Rattle.s3a_words.specs.declared.command.Command.{Command}
 use Rattle.s3a_words.specs.declared.command.Command.TheVariants.{Mb, Ls, Stat, Cat, Put, PutForce, PutDrop, Mkdir, Mv, Cp, Rm, Rmr, Uploads, AbortUploads, Markers, CleanMarkers, FillMarkers}

@@ -1,7 +1,7 @@
 -- What crashes leave of a job and of a command, since the shelf was loaded and before.
-use Rattle.std.proofs.Common.{◌≡◌, ◌⊎◌, inl, inr, ⊎_elim, ℕ, ◌≤◌, List, Option, Some, None, refl, sym, ap, ◌∙◌}
+use Rattle.std.proofs.Common.{◌≡◌, ◌⊎◌, inl, inr, ⊎_elim, ℕ, List, Option, Some, None, refl, sym, ap, ◌∙◌}
 use Rattle.job_spec.specs.Prelude.{Content, Script}
-use Rattle.journal_log.specs.Prelude.{Holding, Stored, fresh, LeavesOnly, image, IsMoment}
+use Rattle.journal_log.specs.Prelude.{Holding, Stored, fresh, Sight, CrashesLeave, IsTimed, image, IsMoment}
 use Rattle.durable_store.specs.Stores.{found}
 use Rattle.durable_store.specs.Works.{Work, Says, Saves}
 use Rattle.durable_store.specs.Outcomes.{MightLeave}
@@ -11,7 +11,6 @@ use Rattle.s3a_words.specs.declared.command.Command.{Command}
 use Rattle.s3a_top.specs.Openings.{IsScriptOf, Opens, opening_in}
 use Rattle.s3a_top.specs.Jobs.{MayHaveLeft}
 use Rattle.s3a_top.specs.Openings.{IsFound}
-use Rattle.s3a_top.specs.Plays.{MayHaveLeftOver}
 
 -- ---- what was found
 
@@ -35,34 +34,34 @@ might_more (Saves c text es) told P Q h f is = told_more told (P h ⊎ IsMoment 
 
 -- ---- since the shelf was loaded, and before
 
-module _ {S : Type 0} (may_leave : S → Holding → Type 0) (moment_of : S → ℕ) (left_since : S → ℕ → Holding → Type 0) where
+module _ {S : Type 0} (F : Sight S) where
   -- nothing was called
-  pub unmoved : (s : S) (P : Holding → Type 0) → ((h : Holding) → left_since s (moment_of s) h → may_leave s h) → ((h : Holding) → may_leave s h → P h) → LeavesOnly moment_of left_since s s P
-  unmoved s P only_now f = started moment_of left_since s P (λ h left. f h (only_now h left))
+  pub unmoved : (s : S) (P : Holding → Type 0) → IsTimed F → ((h : Holding) → F.may_leave s h → P h) → CrashesLeave F s s P
+  unmoved s P timed f = started F s P (λ h left. f h (timed.only_now s h left))
 
   -- the shelf was loaded alone
-  pub loaded_alone : (old new : S) (command : Command) (told : Option Stored) (left rest : Option (List ℕ)) → LeavesOnly moment_of left_since old new (may_leave old) → LeavesOnly moment_of left_since old new (MayHaveLeft (may_leave old) command told left rest)
-  loaded_alone old new command told left rest load = widened moment_of left_since old new (may_leave old) (MayHaveLeft (may_leave old) command told left rest) load (λ h is. inl is)
+  pub loaded_alone : (old new : S) (command : Command) (told : Option Stored) (left rest : Option (List ℕ)) → CrashesLeave F old new (F.may_leave old) → CrashesLeave F old new (MayHaveLeft (F.may_leave old) command told left rest)
+  loaded_alone old new command told left rest load = widened F old new (F.may_leave old) (MayHaveLeft (F.may_leave old) command told left rest) load (λ h is. inl is)
 
   -- the image of the opening store was to be put in place of what was held
-  pub image_left : (old new : S) (command : Command) (before : Held) (left rest : Option (List ℕ)) (w : Script) (c : Content) → IsScriptOf command left rest w → opening_in before w ≡ Some c → LeavesOnly moment_of left_since old new (λ h. may_leave old h ⊎ (h ≡ fresh (image c)))
-      → LeavesOnly moment_of left_since old new (MayHaveLeftOver (may_leave old) command before left rest)
-  image_left old new command before left rest w c reads opens leaves =
-      widened moment_of left_since old new (λ h. may_leave old h ⊎ (h ≡ fresh (image c))) (MayHaveLeftOver (may_leave old) command before left rest) leaves (λ h is. ⊎_elim (λ l. inl l) (λ e. inr (w, (c, (reads, (opens, e))))) is)
+  pub image_left : (old new : S) (command : Command) (told : Option Stored) (left rest : Option (List ℕ)) (w : Script) (c : Content) → IsScriptOf command left rest w → Opens told w c → CrashesLeave F old new (λ h. F.may_leave old h ⊎ (h ≡ fresh (image c)))
+      → CrashesLeave F old new (MayHaveLeft (F.may_leave old) command told left rest)
+  image_left old new command told left rest w c reads opens leaves =
+      widened F old new (λ h. F.may_leave old h ⊎ (h ≡ fresh (image c))) (MayHaveLeft (F.may_leave old) command told left rest) leaves (λ h is. ⊎_elim (λ l. inl l) (λ e. inr (w, (c, (reads, (opens, e))))) is)
 
-  module _ (counts_now : (s : S) (t : ℕ) (h : Holding) → t ≤ moment_of s → may_leave s h → left_since s t h) where
+  module _ (timed : IsTimed F) where
     -- what one after the load may leave, one before it may
-    pub earlier : (old mid : S) → LeavesOnly moment_of left_since old mid (may_leave old) → (h : Holding) → may_leave mid h → may_leave old h
-    earlier old mid load h left = load.each h (counts_now mid (moment_of old) h load.later left)
+    pub earlier : (old mid : S) → CrashesLeave F old mid (F.may_leave old) → (h : Holding) → F.may_leave mid h → F.may_leave old h
+    earlier old mid load h left = load.each h (timed.counts_now mid (F.moment old) h load.later left)
 
-    pub loaded_first : (old mid new : S) (command : Command) (told : Option Stored) (before : Held) (left rest : Option (List ℕ)) → IsFound told before → LeavesOnly moment_of left_since old mid (may_leave old) → LeavesOnly moment_of left_since mid new (MayHaveLeftOver (may_leave mid) command before left rest)
-        → LeavesOnly moment_of left_since old new (MayHaveLeft (may_leave old) command told left rest)
-    loaded_first old mid new command told before left rest f load leaves =
-        then_on moment_of left_since old mid new (may_leave old) (MayHaveLeftOver (may_leave mid) command before left rest) (MayHaveLeft (may_leave old) command told left rest) load leaves (λ h is. inl is)
-        (λ h is. ⊎_elim (λ l. inl (earlier old mid load h l)) (λ o. inr (o.0, (o.1.0, (o.1.1.0, (opens_so told before o.0 o.1.0 f o.1.1.1.0, o.1.1.1.1))))) is)
+    pub loaded_first : (old mid new : S) (command : Command) (told : Option Stored) (left rest : Option (List ℕ)) → CrashesLeave F old mid (F.may_leave old) → CrashesLeave F mid new (MayHaveLeft (F.may_leave mid) command told left rest)
+        → CrashesLeave F old new (MayHaveLeft (F.may_leave old) command told left rest)
+    loaded_first old mid new command told left rest load leaves =
+        then_on F old mid new (F.may_leave old) (MayHaveLeft (F.may_leave mid) command told left rest) (MayHaveLeft (F.may_leave old) command told left rest) load leaves (λ h is. inl is)
+        (λ h is. ⊎_elim (λ l. inl (earlier old mid load h l)) (λ o. inr o) is)
 
-    pub command_since : (old mid new : S) (work : Work) (told : Option Stored) → LeavesOnly moment_of left_since old mid (may_leave old) → LeavesOnly moment_of left_since mid new (MightLeave work told (may_leave mid))
-        → LeavesOnly moment_of left_since old new (MightLeave work told (may_leave old))
+    pub command_since : (old mid new : S) (work : Work) (told : Option Stored) → CrashesLeave F old mid (F.may_leave old) → CrashesLeave F mid new (MightLeave work told (F.may_leave mid))
+        → CrashesLeave F old new (MightLeave work told (F.may_leave old))
     command_since old mid new work told load leaves =
-        then_on moment_of left_since old mid new (may_leave old) (MightLeave work told (may_leave mid)) (MightLeave work told (may_leave old)) load leaves (λ h is. might_first work told (may_leave old) h is)
-        (λ h is. might_more work told (may_leave mid) (may_leave old) h (earlier old mid load h) is)
+        then_on F old mid new (F.may_leave old) (MightLeave work told (F.may_leave mid)) (MightLeave work told (F.may_leave old)) load leaves (λ h is. might_first work told (F.may_leave old) h is)
+        (λ h is. might_more work told (F.may_leave mid) (F.may_leave old) h (earlier old mid load h) is)

@@ -1,34 +1,35 @@
 -- From what is to be said to what was written.
 use Rattle.std.proofs.Common.{◌≡◌, ◌⊎◌, inl, inr, ⊎_elim, ℕ, List, Option, sym, subst}
 use Rattle.job_spec.specs.Prelude.{Content, Entry, Script, Pick, EventEnd}
-use Rattle.journal_log.specs.Prelude.{Holding, Stored}
+use Rattle.journal_log.specs.Prelude.{Sight}
 use Rattle.durable_store.specs.Works.{Work as Doing}
 use Rattle.s3a_words.specs.declared.command.Command.{Command}
 use Rattle.s3a_top.specs.Statuses.{Writes}
 use Rattle.s3a_top.specs.Jobs.{JobEnded, JobCut, JobRan, JobPlayed, JobStopped}
-use Rattle.s3a_top.specs.Commands.{NoCommand, StoreStopped, WorkDone, StoreDone}
-
--- what was to be said was written
-pub written_so : (status : ℕ) (before after : Option (List ℕ)) (text : List ℕ) → Writes status before after text → (t : List ℕ) → text ≡ t → Writes status before after t
-written_so status before after text w t e = subst (Writes status before after) e w
+use Rattle.s3a_top.specs.Commands.{StoreStopped, WorkDone, StoreDone}
+use Rattle.s3a_top.specs.Works.{IsWritten}
+use Rattle.s3a_top.specs.Workings.{Comes}
+use Rattle.s3a_top.specs.declared.work.Work.{Work}
+use Rattle.exit_status.specs.Statuses.{code, written_text}
+use Rattle.exit_status.specs.declared.statuses.Status.{Status}
 
 -- one of two texts
 said_out : (P Q A B C D : Type 0) → (A → C) → (B → D) → (P × A) ⊎ (Q × B) → (P × C) ⊎ (Q × D)
 said_out P Q A B C D f g (inl h) = inl (h.0, f h.1)
 said_out P Q A B C D f g (inr h) = inr (h.0, g h.1)
 
-module _ (A B : List ℕ → Type 0) (f : (t : List ℕ) → A t → B t) {S : Type 0} (held : S → Option Stored) (may_leave : S → Holding → Type 0) (moment_of : S → ℕ) (left_since : S → ℕ → Holding → Type 0) where
-  module _ (answers fails : S → S → Type 0) (due : ℕ) (es : List Entry) (ps : List Pick) (xs : List EventEnd) where
-    ended_out : (command : Command) (w : Script) (c : Content) (loaded new : S) → JobEnded held may_leave answers command w c loaded new due es ps xs A → JobEnded held may_leave answers command w c loaded new due es ps xs B
+module _ (A B : List ℕ → Type 0) (f : (t : List ℕ) → A t → B t) {S : Type 0} (F : Sight S) where
+  module _ (due : ℕ) (es : List Entry) (ps : List Pick) (xs : List EventEnd) where
+    ended_out : (command : Command) (w : Script) (c : Content) (loaded new : S) → JobEnded F command w c loaded new due es ps xs A → JobEnded F command w c loaded new due es ps xs B
     ended_out command w c loaded new h = record { finished = h.finished; holds = h.holds; durable = h.durable; calls = h.calls; said = said_out _ _ _ _ _ _ (f _) (f _) h.said }
 
-    cut_out : (c : Content) (loaded new : S) → JobCut held answers fails c loaded new due es A → JobCut held answers fails c loaded new due es B
+    cut_out : (c : Content) (loaded new : S) → JobCut F c loaded new due es A → JobCut F c loaded new due es B
     cut_out c loaded new h = record { holds = h.holds; calls = h.calls; said = said_out _ _ _ _ _ _ (f _) (f _) h.said }
 
-    ran_out : (command : Command) (w : Script) (c : Content) (loaded new : S) → JobRan held may_leave answers fails command w c loaded new due es ps xs A → JobRan held may_leave answers fails command w c loaded new due es ps xs B
+    ran_out : (command : Command) (w : Script) (c : Content) (loaded new : S) → JobRan F command w c loaded new due es ps xs A → JobRan F command w c loaded new due es ps xs B
     ran_out command w c loaded new h = record { promised = h.promised; sent = h.sent; own = h.own; image = h.image; images = h.images; ended = ⊎_elim (λ e. inl (ended_out command w c loaded new e)) (λ e. inr (cut_out c loaded new e)) h.ended }
 
-    pub played_out : (command : Command) (left rest : Option (List ℕ)) (old new : S) → JobPlayed held may_leave answers fails moment_of left_since command left rest old new due es ps xs A → JobPlayed held may_leave answers fails moment_of left_since command left rest old new due es ps xs B
+    played_out : (command : Command) (left rest : Option (List ℕ)) (old new : S) → JobPlayed F command left rest old new due es ps xs A → JobPlayed F command left rest old new due es ps xs B
     played_out command left rest old new h = record {
       script = h.script;
       opening = h.opening;
@@ -41,20 +42,13 @@ module _ (A B : List ℕ → Type 0) (f : (t : List ℕ) → A t → B t) {S : T
       survives = h.survives;
     }
 
-    pub stopped_out : (command : Command) (left rest : Option (List ℕ)) (old new : S) → JobStopped held may_leave answers fails moment_of left_since command left rest old new due es ps xs A → JobStopped held may_leave answers fails moment_of left_since command left rest old new due es ps xs B
+    stopped_out : (command : Command) (left rest : Option (List ℕ)) (old new : S) → JobStopped F command left rest old new due es ps xs A → JobStopped F command left rest old new due es ps xs B
     stopped_out command left rest old new h = record { stop = h.stop; status = h.status; cause = h.cause; text = f _ h.text; idle = h.idle; same = h.same; calls = h.calls; leaves = h.leaves }
 
-    -- by its own number of the status
-    pub job_out : (command : Command) (left rest : Option (List ℕ)) (old new : S) (n : ℕ) → n ≡ due → JobPlayed held may_leave answers fails moment_of left_since command left rest old new due es ps xs A ⊎ JobStopped held may_leave answers fails moment_of left_since command left rest old new due es ps xs A
-        → JobPlayed held may_leave answers fails moment_of left_since command left rest old new n es ps xs B ⊎ JobStopped held may_leave answers fails moment_of left_since command left rest old new n es ps xs B
-    job_out command left rest old new n is h =
-        subst (λ (m : ℕ). JobPlayed held may_leave answers fails moment_of left_since command left rest old new m es ps xs B ⊎ JobStopped held may_leave answers fails moment_of left_since command left rest old new m es ps xs B) (sym is)
-        (⊎_elim (λ p. inl (played_out command left rest old new p)) (λ s. inr (stopped_out command left rest old new s)) h)
+    work_out : (work : Doing) (old new : S) (status : Status) → WorkDone F work old new status es A → WorkDone F work old new status es B
+    work_out work old new status h = record { text = h.text; answer = h.answer; said = f _ h.said; holds = h.holds; leaves = h.leaves; durable = h.durable; images = h.images }
 
-    work_out : (work : Doing) (old new : S) → WorkDone held may_leave moment_of left_since work old new due es A → WorkDone held may_leave moment_of left_since work old new due es B
-    work_out work old new h = record { text = h.text; answer = h.answer; said = f _ h.said; holds = h.holds; leaves = h.leaves; durable = h.durable; images = h.images }
-
-    done_out : (command : Command) (left rest : Option (List ℕ)) (old new : S) → StoreDone held may_leave answers fails moment_of left_since command left rest old new due es A → StoreDone held may_leave answers fails moment_of left_since command left rest old new due es B
+    done_out : (command : Command) (left rest : Option (List ℕ)) (old new : S) → StoreDone F command left rest old new due es A → StoreDone F command left rest old new due es B
     done_out command left rest old new h = record {
       before = h.before;
       found = h.found;
@@ -63,22 +57,33 @@ module _ (A B : List ℕ → Type 0) (f : (t : List ℕ) → A t → B t) {S : T
       input = h.input;
       work = h.work;
       does = h.does;
-      done = work_out h.work old new h.done;
+      status = h.status;
+      due_is = h.due_is;
+      done = work_out h.work old new h.status h.done;
       loaded = h.loaded;
       load = h.load;
       lasts = h.lasts;
       calls = h.calls;
     }
 
-    halted_out : (command : Command) (left rest : Option (List ℕ)) (old new : S) → StoreStopped held may_leave answers fails moment_of left_since command left rest old new due es A → StoreStopped held may_leave answers fails moment_of left_since command left rest old new due es B
+    halted_out : (command : Command) (left rest : Option (List ℕ)) (old new : S) → StoreStopped F command left rest old new due es A → StoreStopped F command left rest old new due es B
     halted_out command left rest old new h = record { stop = h.stop; status = h.status; reason = h.reason; text = f _ h.text; entries = h.entries; same = h.same; calls = h.calls; leaves = h.leaves }
 
-    pub store_out : (command : Command) (left rest : Option (List ℕ)) (old new : S) (n : ℕ) → n ≡ due
-        → StoreDone held may_leave answers fails moment_of left_since command left rest old new due es A ⊎ StoreStopped held may_leave answers fails moment_of left_since command left rest old new due es A
-        → StoreDone held may_leave answers fails moment_of left_since command left rest old new n es B ⊎ StoreStopped held may_leave answers fails moment_of left_since command left rest old new n es B
-    store_out command left rest old new n is h =
-        subst (λ (m : ℕ). StoreDone held may_leave answers fails moment_of left_since command left rest old new m es B ⊎ StoreStopped held may_leave answers fails moment_of left_since command left rest old new m es B) (sym is)
-        (⊎_elim (λ d. inl (done_out command left rest old new d)) (λ s. inr (halted_out command left rest old new s)) h)
+    comes_so : (said : Option Command) (left rest : Option (List ℕ)) (old new : S) (i j m n : ℕ) → Comes F said left rest old new i j m n due es ps xs A → Comes F said left rest old new i j m n due es ps xs B
+    comes_so said left rest old new i j m n h = record {
+      due = h.due;
+      read = h.read;
+      shelf = h.shelf;
+      job = λ c e p. ⊎_elim (λ x. inl (played_out c left rest old new x)) (λ x. inr (stopped_out c left rest old new x)) (h.job c e p);
+      store = λ c e p. ⊎_elim (λ x. inl (done_out c left rest old new x)) (λ x. inr (halted_out c left rest old new x)) (h.store c e p);
+      picks = h.picks;
+      usage = λ e. let n = h.usage e in record { said = said_out _ _ _ _ _ _ (f _) (f _) n.said; idle = n.idle; untouched = n.untouched };
+      command = h.command;
+    }
 
-pub none_out : (A B : List ℕ → Type 0) (f : (t : List ℕ) → A t → B t) {S : Type 0} (due : ℕ) (old new : S) (es : List Entry) (ps : List Pick) (xs : List EventEnd) → NoCommand due old new es ps xs A → NoCommand due old new es ps xs B
-none_out A B f due old new es ps xs h = record { said = said_out _ _ _ _ _ _ (f _) (f _) h.said; idle = h.idle; untouched = h.untouched }
+-- what was to be said was written, by its own number of the status
+pub comes_written : {S : Type 0} (F : Sight S) (said : Option Command) (left rest : Option (List ℕ)) (old new : S) (i j m n : ℕ) (work : Work) (status due : ℕ) (before after : Option (List ℕ)) → due ≡ code work.answer.due → Writes status before after (written_text work.answer.due work.answer.text)
+    → Comes F said left rest old new i j m n (code work.answer.due) work.answer.sent.entries work.picks work.ends (IsWritten work.answer) → Comes F said left rest old new i j m n due work.answer.sent.entries work.picks work.ends (Writes status before after)
+comes_written F said left rest old new i j m n work status due before after is written comes =
+    subst (λ (d : ℕ). Comes F said left rest old new i j m n d work.answer.sent.entries work.picks work.ends (Writes status before after)) (sym is)
+    (comes_so (IsWritten work.answer) (Writes status before after) (λ t e. subst (Writes status before after) e written) F (code work.answer.due) work.answer.sent.entries work.picks work.ends said left rest old new i j m n comes)

@@ -1,25 +1,29 @@
 -- Which counts of faults rise, and which causes stops have.
-use Rattle.std.proofs.Common.{◌≡◌, ◌≢◌, inl, inr, ℕ, ◌<◌, List, Option, Some, None, Result, Ok, Err, IfErr, refl, sym, subst, ◌∙◌}
-use Rattle.journal_log.specs.Prelude.{AppendFault}
+use Rattle.std.proofs.Common.{◌≡◌, ◌≢◌, inl, inr, ⊎_elim, ℕ, false, ◌<◌, List, Option, Some, None, Ok, Err, refl, sym, subst, ◌∙◌}
+use Rattle.journal_log.specs.Prelude.{ShelfStop, Stored}
 use Rattle.job_spec.specs.Prelude.{Script}
-use Rattle.shelf.specs.declared.kept.AppendFault.TheVariants as appends
-use Rattle.durable_store.specs.Outcomes.{Counts as CountsLoad, Tells}
+use Rattle.journal_log.specs.Images.{Counts as CountsLoad}
+use Rattle.durable_store.specs.Outcomes.{Tells}
 use Rattle.durable_store.specs.declared.held.Held.{Held}
-use Rattle.durable_store.specs.declared.held.ShelfStop.{ShelfStop}
-use Rattle.durable_store.specs.declared.held.ShelfStop.TheVariants as shelves
+use Rattle.shelf.specs.declared.kept.ShelfStop.TheVariants as shelves
 use Rattle.durable_job.specs.Played.{Counts}
 use Rattle.s3a_words.specs.declared.command.Command.{Command}
 use Rattle.s3a_words.specs.declared.command.Command.TheVariants.{Job, Gen}
-use Rattle.s3a_top.specs.Openings.{IsScriptOf, TakesIfJob, is_sound}
-use Rattle.s3a_top.specs.Statuses.{code, IsDue, IsWorked}
+use Rattle.s3a_top.specs.Openings.{IsScriptOf, TakesIfJob, IsSoundly}
+use Rattle.exit_status.specs.Statuses.{code}
+use Rattle.s3a_top.specs.Statuses.{IsDue, IsWorked}
 use Rattle.s3a_top.specs.Stops.{status_of, of_shelf}
+use Rattle.durable_shell.specs.Commanded.{takes_input}
+use Rattle.s3a_top.specs.Commands.{may_read}
 use Rattle.s3a_top.specs.Reads.{IsReadStop, CountsReads}
-use Rattle.s3a_top.specs.Plays.{IsVerdict, IsOfStop, HasCauseIn}
-use Rattle.s3a_top.specs.Workings.{IsOfShelf}
-use Rattle.s3a_top.specs.declared.statuses.Status.{Status}
-use Rattle.s3a_top.specs.declared.statuses.Status.TheVariants as statuses
+use Rattle.s3a_top.specs.Plays.{IsVerdict, IsOfStop}
+use Rattle.s3a_top.specs.Jobs.{HasCause}
+use Rattle.s3a_top.specs.Workings.{Counted, HasReasonIn}
+use Rattle.s3a_top.specs.declared.work.Work.{Work}
+use Rattle.exit_status.specs.declared.statuses.Status.{Status}
+use Rattle.exit_status.specs.declared.statuses.Status.TheVariants as statuses
 use Rattle.s3a_top.specs.declared.stop.Stop.{Stop}
-use Rattle.s3a_top.specs.declared.stop.Stop.TheVariants.{Usage, ReadFault, ShelfFault, Script as BadScript, Image, NoMemory}
+use Rattle.s3a_top.specs.declared.stop.Stop.TheVariants.{ReadFault, ShelfFault, Script as BadScript, NoMemory}
 use Rattle.s3a_top.proofs.Readings.{script_part}
 
 -- ---- counts of faults
@@ -72,10 +76,10 @@ verdict_counts statuses.NoMemory before after h same = tells_none 5 9 before aft
 verdict_counts _ before after h same = absurd h
 
 -- of a job that was played
-pub played_counts : (stop : Option AppendFault) (due : Status) (before after : ℕ) → IsOfStop stop due → Counts stop before after → Tells 5 (code due) before after
+pub played_counts : (stop : Option ShelfStop) (due : Status) (before after : ℕ) → IsOfStop stop due → Counts stop before after → Tells 5 (code due) before after
 played_counts None due before after h counts = verdict_counts due before after h counts
-played_counts (Some appends.Failed) due before after h counts = subst (λ (s : Status). Tells 5 (code s) before after) (sym h) (tells_one 5 before after counts)
-played_counts (Some appends.NoMemory) due before after h counts = subst (λ (s : Status). Tells 5 (code s) before after) (sym h) (tells_none 5 9 before after (λ e. cc) counts)
+played_counts (Some shelves.Failed) due before after h counts = subst (λ (s : Status). Tells 5 (code s) before after) (sym h) (tells_one 5 before after counts)
+played_counts (Some shelves.NoMemory) due before after h counts = subst (λ (s : Status). Tells 5 (code s) before after) (sym h) (tells_none 5 9 before after (λ e. cc) counts)
 
 pub verdict_worked : (s : Status) → IsVerdict s → IsWorked s
 verdict_worked statuses.Done h = tt
@@ -84,33 +88,12 @@ verdict_worked statuses.StoreFault h = tt
 verdict_worked statuses.NoMemory h = tt
 verdict_worked _ h = absurd h
 
-pub stop_worked : (stop : Option AppendFault) (due : Status) → IsOfStop stop due → IsWorked due
+pub stop_worked : (stop : Option ShelfStop) (due : Status) → IsOfStop stop due → IsWorked due
 stop_worked None due h = verdict_worked due h
-stop_worked (Some appends.Failed) due h = subst IsWorked (sym h) tt
-stop_worked (Some appends.NoMemory) due h = subst IsWorked (sym h) tt
+stop_worked (Some shelves.Failed) due h = subst IsWorked (sym h) tt
+stop_worked (Some shelves.NoMemory) due h = subst IsWorked (sym h) tt
 
--- ---- a script that was not read
-
-pub read_counts : (stop : Stop) (before after : ℕ) → CountsReads {A = ℕ} (Err stop) before after → Tells 3 (code (status_of stop)) before after
-read_counts ReadFault before after counts = tells_one 3 before after counts
-read_counts Usage before after counts = tells_none 3 2 before after (λ e. cc) counts
-read_counts ShelfFault before after counts = tells_none 3 5 before after (λ e. cc) counts
-read_counts (BadScript e) before after counts = tells_none 3 6 before after (λ e. cc) counts
-read_counts (Image number place) before after counts = tells_none 3 7 before after (λ e. cc) counts
-read_counts NoMemory before after counts = tells_none 3 9 before after (λ e. cc) counts
-
--- the shelf was not called
-pub read_calm : (stop : Stop) (command : Command) (left rest : Option (List ℕ)) (count : ℕ) → IsReadStop stop command left rest → Tells 5 (code (status_of stop)) count count
-read_calm ReadFault command left rest count h = tells_none 5 3 count count (λ e. cc) refl
-read_calm (BadScript e) command left rest count h = tells_none 5 6 count count (λ e. cc) refl
-read_calm NoMemory command left rest count h = tells_none 5 9 count count (λ e. cc) refl
-read_calm _ command left rest count h = absurd h
-
-pub read_cause : (stop : Stop) (command : Command) (before : Held) (left rest : Option (List ℕ)) → is_sound before → IsReadStop stop command left rest → HasCauseIn stop command before left rest
-read_cause ReadFault command before left rest sound h = (sound, h)
-read_cause (BadScript e) command before left rest sound h = (sound, h)
-read_cause NoMemory command before left rest sound h = (sound, h)
-read_cause _ command before left rest sound h = absurd h
+-- ---- causes
 
 -- what was taken from the input was the script of `job`
 pub script_taken : (command : Command) (left rest : Option (List ℕ)) (w : Script) → IsScriptOf command left rest w → TakesIfJob command left rest
@@ -118,25 +101,51 @@ script_taken Job left rest w h = inr (refl, script_part left rest w h)
 script_taken (Gen seed tasks files) left rest w h = inl h.1
 script_taken _ left rest w h = absurd h
 
--- ---- a stop of the shelf
+-- a command that may not read takes no input
+pub reads_less : (command : Command) → may_read (Some command) ≡ false → takes_input command ≡ false
+reads_less Job e = refl
+reads_less _ e = e
 
-shelf_cause : (stop : Stop) (command : Command) (before : Held) (left rest : Option (List ℕ)) → is_sound before → (w : Script) → IsScriptOf command left rest w → IsOfShelf stop → HasCauseIn stop command before left rest
-shelf_cause stop command before left rest sound w reads (inl e) = subst (λ (s : Stop). HasCauseIn s command before left rest) (sym e) (inr (w, reads))
-shelf_cause stop command before left rest sound w reads (inr e) = subst (λ (s : Stop). HasCauseIn s command before left rest) (sym e) (sound, script_taken command left rest w reads)
+module _ (command : Command) (told : Option Stored) (left rest : Option (List ℕ)) (sound : IsSoundly told) where
+  pub wanting_cause : TakesIfJob command left rest → HasCause NoMemory command told left rest
+  wanting_cause takes = ⊎_elim (λ e. inl e) (λ j. inr (sound, j)) takes
 
-pub shelf_causes : {T : Type 0} (result : Result T Stop) (command : Command) (before : Held) (left rest : Option (List ℕ)) → is_sound before → (w : Script) → IsScriptOf command left rest w → IfErr result IsOfShelf → IfErr result (λ stop. HasCauseIn stop command before left rest)
-shelf_causes (Ok work) command before left rest sound w reads h = h
-shelf_causes (Err stop) command before left rest sound w reads h = shelf_cause stop command before left rest sound w reads h
+  pub read_cause : (stop : Stop) → IsReadStop stop command left rest → HasCause stop command told left rest
+  read_cause ReadFault h = (sound, h)
+  read_cause (BadScript e) h = (sound, h)
+  read_cause NoMemory h = wanting_cause h
+  read_cause _ h = absurd h
 
--- the input did not fail
-pub shelf_read : (stop : Stop) (before after : ℕ) → IsOfShelf stop → after ≡ before → Tells 3 (code (status_of stop)) before after
-shelf_read stop before after (inl e) same = subst (λ (s : Stop). Tells 3 (code (status_of s)) before after) (sym e) (tells_none 3 5 before after (λ e. cc) same)
-shelf_read stop before after (inr e) same = subst (λ (s : Stop). Tells 3 (code (status_of s)) before after) (sym e) (tells_none 3 9 before after (λ e. cc) same)
+  pub shelf_cause : (stop : ShelfStop) (w : Script) → IsScriptOf command left rest w → HasCause (of_shelf stop) command told left rest
+  shelf_cause shelves.Failed w reads = inr (w, reads)
+  shelf_cause shelves.NoMemory w reads = wanting_cause (script_taken command left rest w reads)
 
-pub load_counts : (fault : ShelfStop) (before after : ℕ) → CountsLoad {A = ℕ} (Err fault) before after → Tells 5 (code (status_of (of_shelf fault))) before after
-load_counts shelves.Failed before after counts = tells_one 5 before after counts
-load_counts shelves.NoMemory before after counts = tells_none 5 9 before after (λ e. cc) counts
+-- ---- what is counted
 
-pub load_which : (fault : ShelfStop) → IsOfShelf (of_shelf fault)
-load_which shelves.Failed = inl refl
-load_which shelves.NoMemory = inr refl
+pub counted_done : (work : Work) (left rest before after : ℕ) → IsWorked work.answer.due → rest ≡ left → Tells 5 (code work.answer.due) before after → Counted (Ok work) left rest before after
+counted_done work left rest before after own same shelf = record { own = own; read = tells_none 3 (code work.answer.due) left rest (worked_read work.answer.due own) same; shelf = shelf }
+
+-- neither the input nor the shelf failed
+pub counted_none : (stop : Stop) (left rest before after : ℕ) → code (status_of stop) ≢ 3 → code (status_of stop) ≢ 5 → rest ≡ left → after ≡ before → Counted (Err stop) left rest before after
+counted_none stop left rest before after three five same still = record { own = tt; read = tells_none 3 (code (status_of stop)) left rest three same; shelf = tells_none 5 (code (status_of stop)) before after five still }
+
+pub counted_shelf : (stop : ShelfStop) (left rest before after : ℕ) → rest ≡ left → Counts (Some stop) before after → Counted (Err (of_shelf stop)) left rest before after
+counted_shelf shelves.Failed left rest before after same counts = record { own = tt; read = tells_none 3 5 left rest (λ e. cc) same; shelf = tells_one 5 before after counts }
+counted_shelf shelves.NoMemory left rest before after same counts = counted_none NoMemory left rest before after (λ e. cc) (λ e. cc) same counts
+
+pub load_counts : (A : Type 0) (stop : ShelfStop) (before after : ℕ) → CountsLoad {A = A} (Err stop) before after → Counts (Some stop) before after
+load_counts A shelves.Failed before after counts = counts
+load_counts A shelves.NoMemory before after counts = counts
+
+-- the script was not read
+pub counted_read : (A : Type 0) (stop : Stop) (command : Command) (left rest : Option (List ℕ)) (before after count : ℕ) → IsReadStop stop command left rest → CountsReads {A = A} (Err stop) before after → Counted (Err stop) before after count count
+counted_read A ReadFault command left rest before after count h counts = record { own = tt; read = tells_one 3 before after counts; shelf = tells_none 5 3 count count (λ e. cc) refl }
+counted_read A (BadScript e) command left rest before after count h counts = counted_none (BadScript e) before after count count (λ z. cc) (λ z. cc) counts refl
+counted_read A NoMemory command left rest before after count h counts = counted_none NoMemory before after count count (λ z. cc) (λ z. cc) counts refl
+counted_read A _ command left rest before after count h counts = absurd h
+
+-- nor were the bytes of a command's input
+pub counted_bytes : (A : Type 0) (stop : Stop) (command : Command) (held : Held) (left rest : Option (List ℕ)) (before after count : ℕ) → HasReasonIn stop command held left rest → CountsReads {A = A} (Err stop) before after → Counted (Err stop) before after count count
+counted_bytes A ReadFault command held left rest before after count h counts = record { own = tt; read = tells_one 3 before after counts; shelf = tells_none 5 3 count count (λ e. cc) refl }
+counted_bytes A NoMemory command held left rest before after count h counts = counted_none NoMemory before after count count (λ z. cc) (λ z. cc) counts refl
+counted_bytes A _ command held left rest before after count h counts = absurd h

@@ -1,7 +1,7 @@
 -- What comes of a job: it was played, or it stopped before its first event.
 use Rattle.std.specs.Prelude.{◌≡◌, ◌≢◌, ◌⊎◌, ℕ, List, length, Option, Some, None, Err}
 use Rattle.job_spec.specs.Prelude.{Content, Entry, Script, Pick, EventEnd, AreOwn, Promised, Sent, Finished, verdict}
-use Rattle.journal_log.specs.Prelude.{Holding, Stored, fresh, IsDurable, LeavesOnly, image, IsContent, KeepsImages, Holds, HoldsPart, IsKept, AreCalled}
+use Rattle.journal_log.specs.Prelude.{Holding, Stored, fresh, IsDurable, Sight, CrashesLeave, image, IsContent, KeepsImages, Holds, HoldsPart, IsKept, AreCalled, AreStopped}
 use Rattle.job_spec.specs.ReportText.{report_text}
 use Rattle.job_script.specs.Script.{script_of}
 use Rattle.job_script.specs.declared.fault.ScriptFault.{ScriptFault}
@@ -11,12 +11,12 @@ use Rattle.durable_store.specs.Stores.{found}
 use Rattle.durable_store.specs.declared.held.Held.TheVariants.{Faulty}
 use Rattle.journal_log.specs.Changes.{changes}
 use Rattle.journal_log.specs.Crashes.{SurvivesCrashes}
-use Rattle.durable_job.specs.Pace.{Stops}
 use Rattle.s3a_words.specs.declared.command.Command.{Command}
 use Rattle.s3a_words.specs.declared.command.Command.TheVariants.{Job, Gen}
 use Rattle.s3a_top.specs.Bytes.{IsTaken, TakesPart}
-use Rattle.s3a_top.specs.Openings.{IsScript, IsScriptOf, TakesScript, IsSoundly, Opens}
-use Rattle.s3a_top.specs.Statuses.{IsIdle, code, shelf_text, memory_text}
+use Rattle.s3a_top.specs.Openings.{IsScriptOf, TakesScript, IsSoundly, Opens}
+use Rattle.exit_status.specs.Statuses.{code, shelf_text, memory_text}
+use Rattle.s3a_top.specs.Statuses.{IsIdle}
 use Rattle.s3a_top.specs.Stops.{status_of, stop_text}
 use Rattle.s3a_top.specs.declared.stop.Stop.{Stop}
 use Rattle.s3a_top.specs.declared.stop.Stop.TheVariants.{Usage, ReadFault, ShelfFault, Script as BadScript, Image, NoMemory}
@@ -43,60 +43,51 @@ HasCause (Image number place) command told left rest = IsFaulty told number plac
 HasCause NoMemory command told left rest = (rest ≡ left) ⊎ (IsSoundly told × ((command ≡ Job) × TakesPart left rest))
 
 -- the shelf was called to load at most, and once more to take an image, which failed; a load that failed was before the input
-abbrev pub AreFew : {S : Type 0} → (answers fails : S → S → Type 0) → (left rest : Option (List ℕ)) → S → S → Type 0
-AreFew {S} answers fails left rest old new = ((old ≡ new) × (rest ≡ left)) ⊎ ((fails old new × (rest ≡ left)) ⊎ ((mid : S) × (answers old mid × ((mid ≡ new) ⊎ fails mid new))))
+abbrev pub AreFew : {S : Type 0} → Sight S → (left rest : Option (List ℕ)) → S → S → Type 0
+AreFew {S} F left rest old new = ((old ≡ new) × (rest ≡ left)) ⊎ ((F.fails old new × (rest ≡ left)) ⊎ ((mid : S) × (F.answers old mid × ((mid ≡ new) ⊎ F.fails mid new))))
 
 -- what a crash before a job's first event might have left: what one at the beginning may leave, or the image of the job's opening store
 abbrev pub MayHaveLeft : (at_first : Holding → Type 0) → Command → Option Stored → (left rest : Option (List ℕ)) → Holding → Type 0
 MayHaveLeft at_first command told left rest h = at_first h ⊎ ((w : Script) × ((c : Content) × (IsScriptOf command left rest w × (Opens told w c × (h ≡ fresh (image c))))))
 
--- a job stopped before its first event: nothing was sent, what was held is held, and its status has its cause
-pub record JobStopped {S : Type 0} (held : S → Option Stored) (may_leave : S → Holding → Type 0) (answers fails : S → S → Type 0) (moment_of : S → ℕ) (left_since : S → ℕ → Holding → Type 0) (command : Command) (left rest : Option (List ℕ)) (old new : S)
+pub record JobStopped {S : Type 0} (F : Sight S) (command : Command) (left rest : Option (List ℕ)) (old new : S)
     (due : ℕ) (es : List Entry) (ps : List Pick) (xs : List EventEnd) (Says : List ℕ → Type 0) : Type 0 where
   -- why it stopped
   pub stop : Stop
   pub status : due ≡ code (status_of stop)
-  pub cause : HasCause stop command (held old) left rest
+  pub cause : HasCause stop command (F.held old) left rest
   pub text : Says (stop_text stop)
   -- nothing was sent, and the shelf holds what it held
   pub idle : IsIdle es ps xs
-  pub same : held new ≡ held old
-  -- the shelf was called to load, and once more at most
-  pub calls : AreFew answers fails left rest old new
-  -- what a crash meanwhile might have left
-  pub leaves : LeavesOnly moment_of left_since old new (MayHaveLeft (may_leave old) command (held old) left rest)
+  pub same : F.held new ≡ F.held old
+  pub calls : AreFew F left rest old new
+  pub leaves : CrashesLeave F old new (MayHaveLeft (F.may_leave old) command (F.held old) left rest)
 
 -- ---- it was played
 
 -- what is said of it, by the status that is due: the report, or of a job that was made the line that sums it up
 abbrev pub job_text : Command → (due sent : ℕ) → List Pick → List EventEnd → Script → List ℕ
-job_text (Gen seed tasks files) due sent ps xs w = summary tasks files due sent ps xs w
+job_text (Gen seed tasks files) due sent ps xs w = summary tasks files due sent ps w
 job_text _ due sent ps xs w = report_text due sent ps xs w
 
 -- all events ended, all that was sent is kept, and the status is the verdict of the job's commit
-pub record JobEnded {S : Type 0} (held : S → Option Stored) (may_leave : S → Holding → Type 0) (answers : S → S → Type 0) (command : Command) (w : Script) (c : Content) (loaded new : S) (due : ℕ) (es : List Entry) (ps : List Pick) (xs : List EventEnd) (Says : List ℕ → Type 0) : Type 0 where
-  -- the promise of a run that went to its end
+pub record JobEnded {S : Type 0} (F : Sight S) (command : Command) (w : Script) (c : Content) (loaded new : S) (due : ℕ) (es : List Entry) (ps : List Pick) (xs : List EventEnd) (Says : List ℕ → Type 0) : Type 0 where
   pub finished : Finished w c es ps xs
-  -- the shelf holds the opening image with every change of the run
-  pub holds : Holds (held new) c (changes es)
-  -- a crash leaves that, and nothing else
-  pub durable : IsDurable (held new) (may_leave new)
+  pub holds : Holds (F.held new) c (changes es)
+  pub durable : IsDurable (F.held new) (F.may_leave new)
   -- the shelf was called to take the image, and once for each change
-  pub calls : AreCalled answers (changes es) loaded new
+  pub calls : AreCalled F (changes es) loaded new
   -- its text was written, unless that found no memory
   pub said : ((due ≡ verdict w xs) × Says (job_text command due (length es) ps xs w)) ⊎ ((due ≡ 9) × Says memory_text)
 
 -- an append failed, or memory was wanting between two events
-pub record JobCut {S : Type 0} (held : S → Option Stored) (answers fails : S → S → Type 0) (c : Content) (loaded new : S) (due : ℕ) (es : List Entry) (Says : List ℕ → Type 0) : Type 0 where
-  -- the shelf holds the first changes of the run, with those of all earlier events
-  pub holds : HoldsPart (held new) c es
-  -- the shelf was called for the first changes alone, and the last call may have failed
-  pub calls : (mid : S) × (answers loaded mid × Stops answers fails (changes es) mid new)
-  -- the status is that of the shelf, or of want of memory
+pub record JobCut {S : Type 0} (F : Sight S) (c : Content) (loaded new : S) (due : ℕ) (es : List Entry) (Says : List ℕ → Type 0) : Type 0 where
+  pub holds : HoldsPart (F.held new) c es
+  pub calls : AreStopped F (changes es) loaded new
   pub said : ((due ≡ 5) × Says shelf_text) ⊎ ((due ≡ 9) × Says memory_text)
 
 -- Of a script over a store with this content, since the shelf was loaded: what was sent keeps all that is promised of the job.
-pub record JobRan {S : Type 0} (held : S → Option Stored) (may_leave : S → Holding → Type 0) (answers fails : S → S → Type 0) (command : Command) (w : Script) (c : Content) (loaded new : S)
+pub record JobRan {S : Type 0} (F : Sight S) (command : Command) (w : Script) (c : Content) (loaded new : S)
     (due : ℕ) (es : List Entry) (ps : List Pick) (xs : List EventEnd) (Says : List ℕ → Type 0) : Type 0 where
   -- readers are shown what they may rely on at every moment, and each event, turn and operation is as the script says
   pub promised : Promised w c es ps xs
@@ -107,20 +98,19 @@ pub record JobRan {S : Type 0} (held : S → Option Stored) (may_leave : S → H
   -- its store can have an image at each moment, up to the most of its counter, so that the next run loads it where it is small
   pub image : IsContent c
   pub images : KeepsImages c es
-  pub ended : JobEnded held may_leave answers command w c loaded new due es ps xs Says ⊎ JobCut held answers fails c loaded new due es Says
+  pub ended : JobEnded F command w c loaded new due es ps xs Says ⊎ JobCut F c loaded new due es Says
 
 -- The headline. Of a job that was played: its script is the command's, the store that it opened with is the shelf's, and the promise holds of all that was sent.
-pub record JobPlayed {S : Type 0} (held : S → Option Stored) (may_leave : S → Holding → Type 0) (answers fails : S → S → Type 0) (moment_of : S → ℕ) (left_since : S → ℕ → Holding → Type 0) (command : Command) (left rest : Option (List ℕ)) (old new : S)
+pub record JobPlayed {S : Type 0} (F : Sight S) (command : Command) (left rest : Option (List ℕ)) (old new : S)
     (due : ℕ) (es : List Entry) (ps : List Pick) (xs : List EventEnd) (Says : List ℕ → Type 0) : Type 0 where
   -- the script that was played, and the store that it opened with
   pub script : Script
   pub opening : Content
   pub reads : IsScriptOf command left rest script
-  pub opens : Opens (held old) script opening
-  -- the shelf once it was loaded
+  pub opens : Opens (F.held old) script opening
   pub loaded : S
-  pub load : answers old loaded
-  pub ran : JobRan held may_leave answers fails command script opening loaded new due es ps xs Says
+  pub load : F.answers old loaded
+  pub ran : JobRan F command script opening loaded new due es ps xs Says
   -- what the shelf keeps of it, and what crashes leave
-  pub kept : IsKept due (held new) opening es
-  pub survives : SurvivesCrashes due (held new) (may_leave old) (left_since new (moment_of old)) (may_leave new) opening es
+  pub kept : IsKept due (F.held new) opening es
+  pub survives : SurvivesCrashes due (F.held new) (F.may_leave old) (F.left_since new (F.moment old)) (F.may_leave new) opening es

@@ -5,5 +5,6 @@ pub mod Stops
 pub mod Jobs
 pub mod Commands
 pub mod Reads
+pub mod Works
 pub mod Plays
 pub mod Workings

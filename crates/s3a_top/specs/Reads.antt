@@ -1,12 +1,11 @@
 -- What comes of the reading or the making of a script.
-use Rattle.std.specs.Prelude.{◌≡◌, ◌≢◌, ℕ, ◌<◌, List, Option, Result, Ok, Err}
-use Rattle.job_spec.specs.Prelude.{Script}
+use Rattle.std.specs.Prelude.{◌≡◌, ◌≢◌, ℕ, ◌<◌, List, Option, Result, Err}
 use Rattle.job_script.specs.declared.fault.ScriptFault.TheVariants as faults
 use Rattle.job_script.specs.Script.{script_of}
 use Rattle.s3a_words.specs.declared.command.Command.{Command}
 use Rattle.s3a_words.specs.declared.command.Command.TheVariants.{Job}
 use Rattle.s3a_top.specs.Bytes.{IsTaken, TakesPart}
-use Rattle.s3a_top.specs.Openings.{IsScript, TakesIfJob}
+use Rattle.s3a_top.specs.Openings.{TakesIfJob}
 use Rattle.s3a_top.specs.Jobs.{IsNoScript}
 use Rattle.s3a_top.specs.declared.stop.Stop.{Stop}
 use Rattle.s3a_top.specs.declared.stop.Stop.TheVariants.{Usage, ReadFault, ShelfFault, Script as BadScript, Image, NoMemory}

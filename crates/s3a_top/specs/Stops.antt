@@ -1,11 +1,12 @@
 -- The status and the text of each stop.
 use Rattle.std.specs.Prelude.{ℕ, List}
+use Rattle.journal_log.specs.Prelude.{ShelfStop}
 use Rattle.durable_store.specs.Stores.{fault_text}
-use Rattle.durable_store.specs.declared.held.ShelfStop.{ShelfStop}
-use Rattle.durable_store.specs.declared.held.ShelfStop.TheVariants as shelves
-use Rattle.s3a_top.specs.Statuses.{usage_text, read_text, shelf_text, memory_text, script_fault_text}
-use Rattle.s3a_top.specs.declared.statuses.Status.{Status}
-use Rattle.s3a_top.specs.declared.statuses.Status.TheVariants as statuses
+use Rattle.shelf.specs.declared.kept.ShelfStop.TheVariants as shelves
+use Rattle.exit_status.specs.Statuses.{usage_text, read_text, shelf_text, memory_text}
+use Rattle.s3a_top.specs.Statuses.{script_fault_text}
+use Rattle.exit_status.specs.declared.statuses.Status.{Status}
+use Rattle.exit_status.specs.declared.statuses.Status.TheVariants as statuses
 use Rattle.s3a_top.specs.declared.stop.Stop.{Stop}
 use Rattle.s3a_top.specs.declared.stop.Stop.TheVariants.{Usage, ReadFault, ShelfFault, Script as BadScript, Image, NoMemory}
 

@@ -1,5 +1,4 @@
-ghost use Rattle.std.specs.Prelude.{◌≡◌, ◌<◌, ◌≤◌, ◌^◌, ◌-◌, ◌+◌, length, IfOk, OnOk, OnErr, IsErrOf, vec_len, take, Some, Option, IfSome};
-ghost use Rattle.shelf.specs.Devices.{Rose};
+ghost use Rattle.std.specs.Prelude.{◌≡◌, ◌<◌, ◌≤◌, ◌^◌, ◌-◌, ◌+◌, IfOk, OnOk, IsErrOf, vec_len};
 ghost use Rattle.s3a_top.specs.Bytes.{IsRead, TakesPart};
 
 use s3_types::MOST_SCRIPT_BYTES;

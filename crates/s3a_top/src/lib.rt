@@ -25,11 +25,9 @@ mod input;
 mod jobs;
 mod output;
 mod script;
-mod statuses;
 mod stop;
 mod stores;
 mod top;
 mod work;
 
-pub use statuses::Status;
 pub use top::run;

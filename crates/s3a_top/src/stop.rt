@@ -1,14 +1,15 @@
-ghost use Rattle.std.specs.Prelude.{◌≡◌, ◌⊎◌, Some, IfOk, OnErr};
-ghost use Rattle.std.specs.Option.{unwrap_or};
-ghost use Rattle.s3a_top.specs.Statuses.{script_fault_text, own_text, IsIdle, written_text};
+ghost use Rattle.std.specs.Prelude.{◌≡◌, IfOk, OnErr};
+ghost use Rattle.exit_status.specs.Statuses.{written_text};
+ghost use Rattle.s3a_top.specs.Statuses.{script_fault_text, IsIdle};
 ghost use Rattle.s3a_top.specs.Stops.{status_of, of_shelf, stop_text};
-ghost use Rattle.s3a_top.specs.Workings.{IsMade, IsToldOf};
+ghost use Rattle.s3a_top.specs.Workings.{IsMade, IsStopped};
 
-use crate::statuses::Status;
-use crate::work::{Work, said};
-use durable_store::{ShelfStop, fault_text};
+use crate::work::{Work, quiet};
+use durable_store::{Answer, fault_text};
+use exit_status::Status;
 use job_script::ScriptFault;
-use s3_types::Bytes;
+use s3_types::{Bytes, Journal};
+use shelf::kept::ShelfStop;
 use std::alloc::{AllocError, Global};
 
 /// Why the work stopped before anything was sent.
@@ -39,7 +40,7 @@ fn script_fault_text(alloc: Global, fault: ScriptFault) -> Result<Bytes, AllocEr
 }
 
 impl Stop {
-    /// The stop of a load.
+    /// The stop that a shelf made.
     pub fn of_shelf(fault: ShelfStop) -> Stop
         ensures { result ≡ of_shelf fault }
     {
@@ -76,10 +77,19 @@ impl Stop {
     }
 }
 
-/// What is to be said of a stop: its text, or want of memory where there was none for that.
+/// A status and a text with nothing done.
+fn said(alloc: Global, due: Status, text: Option<Bytes>) -> Work
+    ensures due { result.answer.due ≡ due }
+    ensures text { result.answer.text ≡ text }
+    ensures idle { IsIdle result.answer.sent.entries result.picks result.ends }
+{
+    let sent = Journal::new(alloc);
+    quiet(alloc, Answer { due, text, sent })
+}
+
+/// What is answered to a stop: its text, or want of memory where there was none for that.
 pub fn stopped(alloc: Global, stop: Stop) -> Work
-    ensures told { IsToldOf stop result.due (written_text result.due result.text) }
-    ensures idle { IsIdle result.journal.entries result.picks result.ends }
+    ensures { IsStopped stop result }
 {
     match stop.text(alloc) {
         Ok(text) => said(alloc, stop.status(), text),

@@ -1,22 +1,24 @@
-ghost use Rattle.std.specs.Prelude.{◌≡◌, ◌≢◌, ◌⊎◌, ◌<◌, ◌^◌, ◌-◌, true, false, [], Some, None, IfOk, IsErrOf};
+ghost use Rattle.std.specs.Prelude.{◌≡◌, ◌≢◌, ◌⊎◌, ◌<◌, ◌^◌, ◌-◌, true, false, [], Some, None};
+ghost use Rattle.exit_status.specs.Statuses.{code, written_text};
 ghost use Rattle.durable_store.specs.Outcomes.{Tells};
 ghost use Rattle.s3a_words.specs.Words.{command_of};
 ghost use Rattle.s3a_words.specs.declared.command.Command as words_said;
-ghost use Rattle.durable_shell.specs.Commanded.{takes_input, plays};
-ghost use Rattle.s3a_top.specs.Statuses.{code, written_text, IsDue, IsWorked, Writes};
+ghost use Rattle.durable_shell.specs.Commanded.{plays};
+ghost use Rattle.s3a_top.specs.Statuses.{IsDue, Writes};
 ghost use Rattle.s3a_top.specs.Jobs.{JobPlayed, JobStopped};
 ghost use Rattle.s3a_top.specs.Commands.{may_read, NoCommand, StoreStopped, StoreDone};
-ghost use Rattle.s3a_top.specs.Workings.{MayDo, MayPlay, MayWork, CountsAs, IsNothing, IsWritten, JobGoes, StoreGoes, IsQuiet};
+ghost use Rattle.s3a_top.specs.Works.{IsWritten};
+ghost use Rattle.s3a_top.specs.Workings.{MayDo, Counted, IsAnswered, Goes, Comes};
 
 use crate::asked::Asked;
 use crate::jobs::job;
 use crate::output::write_output;
-use crate::statuses::Status;
 use crate::stop::{Stop, stopped};
 use crate::stores::commanded;
 use crate::work::Work;
 use durable_shell::plays;
 use durable_store::load;
+use exit_status::Status;
 use job_report::Report;
 use s3_types::{Text, let_go};
 use s3a_words::{Command, WordFault, read_words};
@@ -24,101 +26,37 @@ use shelf::kept::Shelf;
 use shelf::{Sink, Source};
 use std::alloc::Global;
 
-/// Plays the job of a command, `job` or `gen`, over what the shelf holds.
-fn do_job<Q: Source, F: Shelf>(input: &mut Q, shelf: &mut F, asked: Asked<'_>) -> Result<Work, Stop>
-    requires { MayPlay (Q.faults input.old) (F.faults shelf.old) asked.command.now }
-    ensures job { JobGoes F.held F.may_leave F.answers F.fails F.moment F.left_since asked.entry.command.now
-        (Q.left input.old) (Q.left input.new) shelf.old shelf.new result }
-    ensures due { IfOk result (λ work. IsWorked work.due) }
-    ensures unread { may_read (Some asked.entry.command.now) ≡ false → input.new ≡ input.old }
-    ensures read { CountsAs 3 result (Q.faults input.old) (Q.faults input.new) }
-    ensures shelf { CountsAs 5 result (F.faults shelf.old) (F.faults shelf.new) }
-{
-    match load(asked.alloc, shelf) {
-        Ok(held) => job(input, shelf, asked, held),
-        Err(fault) => Err(Stop::of_shelf(fault)),
-    }
-}
-
-/// Does a command but `job` and `gen` on what the shelf holds.
+/// Does a command on what the shelf holds.
 fn do_command<Q: Source, F: Shelf>(
     input: &mut Q,
     shelf: &mut F,
     asked: Asked<'_>,
 ) -> Result<Work, Stop>
-    requires { MayWork (Q.faults input.old) (F.faults shelf.old) asked.command.now }
-    ensures store { StoreGoes F.held F.may_leave F.answers F.fails F.moment F.left_since asked.entry.command.now
-        (Q.left input.old) (Q.left input.new) shelf.old shelf.new result }
-    ensures quiet { IsQuiet result }
-    ensures due { IfOk result (λ work. IsWorked work.due) }
-    ensures unread { takes_input asked.entry.command.now ≡ false → input.new ≡ input.old }
-    ensures read { CountsAs 3 result (Q.faults input.old) (Q.faults input.new) }
-    ensures shelf { CountsAs 5 result (F.faults shelf.old) (F.faults shelf.new) }
-{
-    match load(asked.alloc, shelf) {
-        Ok(held) => commanded(input, shelf, asked, held),
-        Err(fault) => Err(Stop::of_shelf(fault)),
-    }
-}
-
-/// Does a command.
-fn do_any<Q: Source, F: Shelf>(input: &mut Q, shelf: &mut F, asked: Asked<'_>) -> Result<Work, Stop>
     requires { MayDo (Q.faults input.old) (F.faults shelf.old) asked.command.now }
-    ensures job { plays asked.entry.command.now ≡ true
-        → JobGoes F.held F.may_leave F.answers F.fails F.moment F.left_since asked.entry.command.now (Q.left input.old)
-        (Q.left input.new) shelf.old shelf.new result }
-    ensures store { plays asked.entry.command.now ≡ false
-        → StoreGoes F.held F.may_leave F.answers F.fails F.moment F.left_since asked.entry.command.now
-        (Q.left input.old) (Q.left input.new) shelf.old shelf.new result }
-    ensures quiet { plays asked.entry.command.now ≡ false → IsQuiet result }
-    ensures due { IfOk result (λ work. IsWorked work.due) }
+    ensures goes { Goes F.sight asked.entry.command.now (Q.left input.old) (Q.left input.new)
+        shelf.old shelf.new result }
+    ensures counted { Counted result (Q.faults input.old) (Q.faults input.new) (F.faults shelf.old)
+        (F.faults shelf.new) }
     ensures unread { may_read (Some asked.entry.command.now) ≡ false → input.new ≡ input.old }
-    ensures read { CountsAs 3 result (Q.faults input.old) (Q.faults input.new) }
-    ensures shelf { CountsAs 5 result (F.faults shelf.old) (F.faults shelf.new) }
 {
+    let held = match load(asked.alloc, shelf) {
+        Ok(held) => held,
+        Err(stop) => return Err(Stop::of_shelf(stop)),
+    };
     if plays(asked.command) {
-        do_job(input, shelf, asked)
+        job(input, shelf, asked, held)
     } else {
-        do_command(input, shelf, asked)
+        commanded(input, shelf, asked, held)
     }
 }
 
-/// Does what the words say, up to the text.
-fn do_work<Q: Source, F: Shelf>(
-    alloc: Global,
-    words: &[Text],
-    input: &mut Q,
-    shelf: &mut F,
-) -> Result<Work, Stop>
-    requires source_count { Q.faults input.old < 2 ^ 64 - 1 }
-    requires shelf_count { F.faults shelf.old < 2 ^ 64 - 1 }
-    ensures job { (c : words_said.Command) → command_of words.now ≡ Some c → plays c ≡ true
-        → JobGoes F.held F.may_leave F.answers F.fails F.moment F.left_since c (Q.left input.old) (Q.left input.new)
-        shelf.old shelf.new result }
-    ensures store { (c : words_said.Command) → command_of words.now ≡ Some c → plays c ≡ false
-        → StoreGoes F.held F.may_leave F.answers F.fails F.moment F.left_since c (Q.left input.old) (Q.left input.new)
-        shelf.old shelf.new result }
-    ensures quiet { (c : words_said.Command) → command_of words.now ≡ Some c → plays c ≡ false → IsQuiet result }
-    ensures usage { command_of words.now ≡ None → IsNothing result }
-    ensures untouched { command_of words.now ≡ None → shelf.new ≡ shelf.old }
-    ensures command { IsErrOf result Stop.Usage → command_of words.now ≡ None }
-    ensures unread { may_read (command_of words.now) ≡ false → input.new ≡ input.old }
-    ensures due { IfOk result (λ work. IsWorked work.due) }
-    ensures read { CountsAs 3 result (Q.faults input.old) (Q.faults input.new) }
-    ensures shelf { CountsAs 5 result (F.faults shelf.old) (F.faults shelf.new) }
+/// What is answered to what was done, or to a stop.
+fn answered(alloc: Global, done: Result<Work, Stop>) -> Work
+    ensures { IsAnswered done result }
 {
-    match read_words(alloc, words) {
-        Ok(command) => {
-            let asked = Asked {
-                alloc,
-                command: &command,
-            };
-            let done = do_any(input, shelf, asked);
-            let_go(command);
-            done
-        }
-        Err(WordFault::Usage) => Err(Stop::Usage),
-        Err(WordFault::NoMemory) => Err(Stop::NoMemory),
+    match done {
+        Ok(work) => work,
+        Err(stop) => stopped(alloc, stop),
     }
 }
 
@@ -126,44 +64,38 @@ fn do_work<Q: Source, F: Shelf>(
 fn worked<Q: Source, F: Shelf>(alloc: Global, words: &[Text], input: &mut Q, shelf: &mut F) -> Work
     requires source_count { Q.faults input.old < 2 ^ 64 - 1 }
     requires shelf_count { F.faults shelf.old < 2 ^ 64 - 1 }
-    ensures job { (c : words_said.Command) → command_of words.now ≡ Some c → plays c ≡ true
-        → JobPlayed F.held F.may_leave F.answers F.fails F.moment F.left_since c (Q.left input.old) (Q.left input.new)
-        shelf.old shelf.new (code result.due) result.journal.entries result.picks result.ends (IsWritten result)
-        ⊎ JobStopped F.held F.may_leave F.answers F.fails F.moment F.left_since c (Q.left input.old) (Q.left input.new)
-        shelf.old shelf.new (code result.due) result.journal.entries result.picks result.ends (IsWritten result) }
-    ensures store { (c : words_said.Command) → command_of words.now ≡ Some c → plays c ≡ false
-        → StoreDone F.held F.may_leave F.answers F.fails F.moment F.left_since c (Q.left input.old) (Q.left input.new)
-        shelf.old shelf.new (code result.due) result.journal.entries (IsWritten result)
-        ⊎ StoreStopped F.held F.may_leave F.answers F.fails F.moment F.left_since c (Q.left input.old)
-        (Q.left input.new) shelf.old shelf.new (code result.due) result.journal.entries (IsWritten result) }
-    ensures picks { (c : words_said.Command) → command_of words.now ≡ Some c → plays c ≡ false → (result.picks ≡ [])
-        × (result.ends ≡ []) }
-    ensures usage { command_of words.now ≡ None
-        → NoCommand (code result.due) shelf.old shelf.new result.journal.entries result.picks result.ends
-        (IsWritten result) }
-    ensures command { code result.due ≡ 2 → command_of words.now ≡ None }
+    ensures comes { Comes F.sight (command_of words.now) (Q.left input.old) (Q.left input.new) shelf.old shelf.new
+        (Q.faults input.old) (Q.faults input.new) (F.faults shelf.old) (F.faults shelf.new) (code result.answer.due)
+        result.answer.sent.entries result.picks result.ends (IsWritten result.answer) }
     ensures unread { may_read (command_of words.now) ≡ false → input.new ≡ input.old }
-    ensures due { IsDue (code result.due) }
-    ensures read { Tells 3 (code result.due) (Q.faults input.old) (Q.faults input.new) }
-    ensures shelf { Tells 5 (code result.due) (F.faults shelf.old) (F.faults shelf.new) }
 {
-    match do_work(alloc, words, input, shelf) {
-        Ok(work) => work,
-        Err(stop) => stopped(alloc, stop),
+    match read_words(alloc, words) {
+        Ok(command) => {
+            let asked = Asked {
+                alloc,
+                command: &command,
+            };
+            let done = do_command(input, shelf, asked);
+            let_go(command);
+            answered(alloc, done)
+        }
+        Err(WordFault::Usage) => stopped(alloc, Stop::Usage),
+        Err(WordFault::NoMemory) => stopped(alloc, Stop::NoMemory),
     }
 }
 
 /// Writes the text that is due, and answers the status that comes of it.
 fn say<K: Sink>(out: &mut K, work: &Work) -> u8
     requires count { K.faults out.old < 2 ^ 64 - 1 }
-    requires due { IsDue (code work.now.due) }
+    requires due { IsDue (code work.now.answer.due) }
     ensures written { Tells 4 result (K.faults out.old) (K.faults out.new) }
-    ensures otherwise { result ≢ 4 → result ≡ code work.now.due }
+    ensures otherwise { result ≢ 4 → result ≡ code work.now.answer.due }
     ensures out { result ≢ 4 → K.is_out out.new }
-    ensures text { Writes result (K.written out.old) (K.written out.new) (written_text work.now.due work.now.text) }
+    ensures text { Writes result (K.written out.old) (K.written out.new)
+        (written_text work.now.answer.due work.now.answer.text) }
 {
     match write_output(out, work.written()) {
-        Ok(()) => work.due.code(),
+        Ok(()) => work.answer.due.code(),
         Err(_) => Status::WriteFault.code(),
     }
 }
@@ -201,21 +133,17 @@ pub fn run<Q: Source, F: Shelf, K: Sink>(
     // A job, by the input's script or by one that is made: it was played, and the promise holds of all that was sent, or it
     // stopped before its first event.
     ensures job { (c : words_said.Command) → command_of words.now ≡ Some c → plays c ≡ true
-        → JobPlayed F.held F.may_leave F.answers F.fails F.moment F.left_since c (Q.left input.old) (Q.left input.new)
-        shelf.old shelf.new result.due result.journal.entries result.picks result.ends
-        (Writes result.status (K.written out.old) (K.written out.new))
-        ⊎ JobStopped F.held F.may_leave F.answers F.fails F.moment F.left_since c (Q.left input.old) (Q.left input.new)
-        shelf.old shelf.new result.due result.journal.entries result.picks result.ends
-        (Writes result.status (K.written out.old) (K.written out.new)) }
+        → JobPlayed F.sight c (Q.left input.old) (Q.left input.new) shelf.old shelf.new result.due
+        result.journal.entries result.picks result.ends (Writes result.status (K.written out.old) (K.written out.new))
+        ⊎ JobStopped F.sight c (Q.left input.old) (Q.left input.new) shelf.old shelf.new result.due
+        result.journal.entries result.picks result.ends (Writes result.status (K.written out.old) (K.written out.new)) }
 
     // Another command: it was done on what the shelf holds, or it stopped before anything was done.
     ensures store { (c : words_said.Command) → command_of words.now ≡ Some c → plays c ≡ false
-        → StoreDone F.held F.may_leave F.answers F.fails F.moment F.left_since c (Q.left input.old) (Q.left input.new)
-        shelf.old shelf.new result.due result.journal.entries
-        (Writes result.status (K.written out.old) (K.written out.new))
-        ⊎ StoreStopped F.held F.may_leave F.answers F.fails F.moment F.left_since c (Q.left input.old)
-        (Q.left input.new) shelf.old shelf.new result.due result.journal.entries
-        (Writes result.status (K.written out.old) (K.written out.new)) }
+        → StoreDone F.sight c (Q.left input.old) (Q.left input.new) shelf.old shelf.new result.due
+        result.journal.entries (Writes result.status (K.written out.old) (K.written out.new))
+        ⊎ StoreStopped F.sight c (Q.left input.old) (Q.left input.new) shelf.old shelf.new result.due
+        result.journal.entries (Writes result.status (K.written out.old) (K.written out.new)) }
     ensures picks { (c : words_said.Command) → command_of words.now ≡ Some c → plays c ≡ false → (result.picks ≡ [])
         × (result.ends ≡ []) }
 
@@ -228,11 +156,16 @@ pub fn run<Q: Source, F: Shelf, K: Sink>(
 {
     let work = worked(alloc, words, input, shelf);
     let status = say(out, &work);
+    let Work {
+        answer,
+        picks,
+        ends,
+    } = work;
     Report {
         status,
-        due: work.due.code(),
-        journal: work.journal,
-        picks: work.picks,
-        ends: work.ends,
+        due: answer.due.code(),
+        journal: answer.sent,
+        picks,
+        ends,
     }
 }

@@ -1,32 +1,26 @@
 ghost use Rattle.std.specs.Prelude.{◌≡◌};
-ghost use Rattle.s3a_top.specs.Statuses.{IsIdle, written_text};
+ghost use Rattle.exit_status.specs.Statuses.{written_text};
+ghost use Rattle.s3a_top.specs.Workings.{IsQuiet};
 
-use crate::statuses::Status;
+use durable_store::Answer;
 use job_model::{EndList, PickList};
-use s3_types::{Bytes, Journal};
 use std::alloc::Global;
 
-/// What is to be written, and what was done.
+/// What is answered, and what became of a job's events.
 #[derive(Drop)]
 pub struct Work {
-    pub due: Status,
-    /// The text, or None for the status's own.
-    pub text: Option<Bytes>,
-    pub journal: Journal,
+    pub answer: Answer,
     pub picks: PickList,
     pub ends: EndList,
 }
 
-/// A status and a text with nothing done.
-pub fn said(alloc: Global, due: Status, text: Option<Bytes>) -> Work
-    ensures due { result.due ≡ due }
-    ensures text { result.text ≡ text }
-    ensures idle { IsIdle result.journal.entries result.picks result.ends }
+/// What is answered where no job was played.
+pub fn quiet(alloc: Global, answer: Answer) -> Work
+    ensures answer { result.answer ≡ answer }
+    ensures quiet { IsQuiet result }
 {
     Work {
-        due,
-        text,
-        journal: Journal::new(alloc),
+        answer,
         picks: PickList::new(alloc),
         ends: EndList::new(alloc),
     }
@@ -35,11 +29,11 @@ pub fn said(alloc: Global, due: Status, text: Option<Bytes>) -> Work
 impl Work {
     /// What is to be written. Takes no memory.
     pub fn written(&self) -> &[u8]
-        ensures { result.now ≡ written_text self.now.due self.now.text }
+        ensures { result.now ≡ written_text self.now.answer.due self.now.answer.text }
     {
-        match &self.text {
+        match &self.answer.text {
             Some(text) => text.as_slice(),
-            None => match self.due.own_text() {
+            None => match self.answer.due.own_text() {
                 Some(text) => text.as_bytes(),
                 None => &[],
             },

@@ -86,3 +86,27 @@ pub record LeavesOnly {S C : Type 0} (moment : S → ℕ) (left_since : S → �
   pub each : (c : C) → left_since new (moment old) c → P c
   -- for a run that began earlier
   pub before : (t : ℕ) (c : C) → t ≤ moment old → left_since new t c → left_since old t c ⊎ P c
+
+-- ---- what is told of a shelf
+
+pub record Sight (S : Type 0) : Type 1 where
+  -- what is held, however large, where it is told
+  pub held : S → Option Stored
+  -- what a call that did not fail may make of it, where it says which of its calls fail, and what one that failed may
+  pub answers : S → S → Type 0
+  pub fails : S → S → Type 0
+  -- what a crash at this moment may leave, where it is told
+  pub may_leave : S → Holding → Type 0
+  -- the moment, as a number that does not fall
+  pub moment : S → ℕ
+  -- what a crash at some moment from that one on might have left, during a call or between two
+  pub left_since : S → ℕ → Holding → Type 0
+
+-- a crash of a shelf at any moment since the first of two states leaves what has P
+abbrev pub CrashesLeave : {S : Type 0} → Sight S → (old new : S) → (Holding → Type 0) → Type 0
+CrashesLeave F old new P = LeavesOnly F.moment F.left_since old new P
+
+-- this moment is one of those since an earlier one, and since this one there is no other
+pub record IsTimed {S : Type 0} (F : Sight S) : Type 0 where
+  pub counts_now : (s : S) (t : ℕ) (h : Holding) → t ≤ F.moment s → F.may_leave s h → F.left_since s t h
+  pub only_now : (s : S) (h : Holding) → F.left_since s (F.moment s) h → F.may_leave s h

@@ -8,10 +8,10 @@ returns g c =
     let m = g.met.F.Shelf in
     record {
       leave = record {
-        between = all_appended s.held s.may_leave s.moment s.left_since m.only_now;
-        leave = leaves_moments s.held s.may_leave s.moment s.left_since m.only_now;
-        last = λ c es at_end. last c es (s.held at_end) (s.may_leave at_end);
-        on = on_and_on s.held s.may_leave s.moment s.left_since;
+        between = all_appended s.sight m.timed;
+        leave = leaves_moments s.sight m.timed;
+        last = λ c es at_end. last c es (s.sight.held at_end) (s.sight.may_leave at_end);
+        on = on_and_on s.sight;
       };
-      survive = record { survive = survives s.may_leave s.moment s.left_since m.counts_now };
+      survive = record { survive = survives s.sight m.timed };
     }

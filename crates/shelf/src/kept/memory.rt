@@ -1,13 +1,12 @@
 ghost use Rattle.std.specs.Prelude.{◌≡◌, ◌∷◌, [], ◌++◌, Some, None, IfOk, OnOk, OnErr, IsErrOf, true, false};
 ghost use Rattle.std.specs.Option.{option_copied};
-ghost use Rattle.shelf.specs.Devices.{Rose};
 ghost use Rattle.shelf.specs.Calls as calls_of;
 ghost use Rattle.shelf.specs.Calls.{unused};
 ghost use Rattle.shelf.specs.Logged.{IsLoaded, IsTooLarge};
 ghost use Rattle.shelf.specs.Causes.{IfBadLog};
 ghost use Rattle.shelf.specs.Memory.{stock};
 
-use super::{AppendFault, Held, LoadFault, MOST_BASE, RequestList, Shelf};
+use super::{Held, LoadFault, MOST_BASE, RequestList, Shelf, ShelfStop};
 use crate::calls::Calls;
 use crate::device::{CallList, Failed};
 use s3_types::{Bytes, Request, Sequence};
@@ -117,25 +116,20 @@ impl MemShelf {
 }
 
 impl Shelf for MemShelf {
-    ghost held = { λ s. Some (stock s.held) };
+    ghost sight = { record {
+      held = λ s. Some (stock s.held);
+      answers = λ s t. calls_of.Answers s.calls t.calls;
+      fails = λ s t. calls_of.Fails s.calls t.calls × (t.takes ≡ false);
+      may_leave = λ s h. ⊥;
+      moment = λ s. 0;
+      left_since = λ s t h. ⊥;
+    } };
 
     ghost faults = { λ s. s.calls.faults };
 
-    ghost answers = { λ s t. calls_of.Answers s.calls t.calls };
-
-    ghost fails = { λ s t. calls_of.Fails s.calls t.calls × (t.takes ≡ false) };
-
     ghost takes_appends = { λ s. s.takes ≡ true };
 
-    ghost may_leave = { λ s h. ⊥ };
-
-    ghost moment = { λ s. 0 };
-
-    ghost left_since = { λ s t h. ⊥ };
-
-    ghost counts_now = { λ s t h le left. left };
-
-    ghost only_now = { λ s h left. left };
+    ghost timed = { record { counts_now = λ s t h le left. left; only_now = λ s h left. left } };
 
     fn load(&mut self) -> Result<Option<Held>, LoadFault> {
         match self.calls.next() {
@@ -169,12 +163,12 @@ impl Shelf for MemShelf {
         }
     }
 
-    fn append(&mut self, change: &Request) -> Result<(), AppendFault> {
+    fn append(&mut self, change: &Request) -> Result<(), ShelfStop> {
         match self.calls.next() {
             Ok(()) => {}
             Err(_) => {
                 self.takes = false;
-                return Err(AppendFault::Failed);
+                return Err(ShelfStop::Failed);
             }
         }
         let Some(held) = &mut self.held else {
@@ -182,7 +176,7 @@ impl Shelf for MemShelf {
         };
         match grow(self.alloc, held, change) {
             Ok(()) => Ok(()),
-            Err(_) => Err(AppendFault::NoMemory),
+            Err(_) => Err(ShelfStop::NoMemory),
         }
     }
 }

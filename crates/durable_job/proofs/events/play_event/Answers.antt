@@ -6,4 +6,4 @@ pub returns-in-Err-clause-err : goal.returns-in-Err-clause-err
 returns-in-Err-clause-err g c =
     let s = g.F.Shelf in
     let here = c.args.shelf.now in
-    falls_at_once s.held s.may_leave s.answers s.fails s.moment s.left_since c.args.world.now c.event.new.self here here c.in-Err.ensures.err refl (g.met.F.Shelf.only_now here) c.requires.durable
+    falls_at_once s.sight c.args.world.now c.event.new.self here here c.in-Err.ensures.err refl g.met.F.Shelf.timed c.requires.durable

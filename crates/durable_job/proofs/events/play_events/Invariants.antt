@@ -9,7 +9,7 @@ invariant-loop g l =
       script : l.world.script ≡ l.fn.world.script;
       opening : l.world.opening ≡ l.fn.world.opening;
       ended : length l.world.ends ≡ l.counter;
-      pace : InPace s.held s.may_leave s.answers s.moment s.left_since l.fn.world.opening l.world.journal l.fn.shelf l.shelf;
+      pace : InPace s.sight l.fn.world.opening l.world.journal l.fn.shelf l.shelf;
       takes : s.takes_appends l.shelf;
       calm : s.faults l.shelf ≡ s.faults l.fn.shelf;
     }

@@ -8,7 +8,7 @@ pub returns-clause-survives : goal.returns-clause-survives
 returns-clause-survives g c =
     let s = g.F.Shelf in
     let opening = ap (λ (r : Run). r.opening) c.in_ok-world.ensures.world in
-    (c.begin.new.shelf, (c.in_ok-world.ensures.any_moment, moments_as s.held s.moment s.left_since c.begin.new.shelf c.play_events.new.shelf _ _ _ _ opening c.finish-played.ensures.journal c.play_events.ensures.any_moment))
+    (c.begin.new.shelf, (c.in_ok-world.ensures.ok.leaves, moments_as s.sight c.begin.new.shelf c.play_events.new.shelf _ _ _ _ opening c.finish-played.ensures.journal c.play_events.ensures.any_moment))
 
 pub returns-clause-images : goal.returns-clause-images
 returns-clause-images g c = c.keeps_images.ensures c.args.service
@@ -21,6 +21,6 @@ returns-clause-counted g c =
     let mid = s.faults c.begin.new.shelf in
     let after = s.faults c.play_events.new.shelf in
     elim c.match-play_events.branch [
-      | in-Ok w ↦ counts_none stop before mid after w.stop-is c.in_ok-world.ensures.calm (w.in-Ok.ensures.calm (λ e. cc))
-      | in-Err w ↦ counts_some stop w.in-Err.fault before mid after w.stop-is c.in_ok-world.ensures.calm c.requires.count w.in-Err.ensures.failed w.in-Err.ensures.calm
+      | in-Ok w ↦ counts_none stop before mid after w.stop-is c.in_ok-world.ensures.counted (w.in-Ok.ensures.calm (λ e. cc))
+      | in-Err w ↦ counts_some stop w.in-Err.fault before mid after w.stop-is c.in_ok-world.ensures.counted c.requires.count w.in-Err.ensures.failed w.in-Err.ensures.calm
     ]

@@ -8,8 +8,8 @@ loop-entry-init g c =
     let s = g.F.Shelf in
     let old = c.args.shelf.now in
     record {
-      appended = loop_first s.held s.may_leave s.answers s.fails s.moment s.left_since [] old c.requires.durable;
-      left = left_first s.held s.may_leave s.answers s.fails s.moment s.left_since [] old (g.met.F.Shelf.only_now old) c.requires.durable;
+      appended = loop_first s.sight [] old c.requires.durable;
+      left = left_first s.sight [] old g.met.F.Shelf.timed c.requires.durable;
       takes = c.requires.appends;
       calm = refl;
     }
@@ -20,8 +20,8 @@ loop-entry-preserved g c =
     let k = c.loop-entry.invariant in
     let es = rest_of c.as_slice.result.now c.args.from in
     record {
-      appended = loop_more s.held s.may_leave s.answers s.fails s.moment s.left_since es c.loop-entry.entry-index c.entry-item.result c.args.shelf.now c.loop-entry.shelf c.append_entry.new.shelf c.loop-entry-test.true c.entry-item.is k.appended c.in_ok-append_entry.ensures.ok;
-      left = left_more s.held s.may_leave s.answers s.fails s.moment s.left_since es c.loop-entry.entry-index c.entry-item.result c.args.shelf.now c.loop-entry.shelf c.append_entry.new.shelf c.loop-entry-test.true c.entry-item.is k.appended.grown k.left
+      appended = loop_more s.sight es c.loop-entry.entry-index c.entry-item.result c.args.shelf.now c.loop-entry.shelf c.append_entry.new.shelf c.loop-entry-test.true c.entry-item.is k.appended c.in_ok-append_entry.ensures.ok;
+      left = left_more s.sight es c.loop-entry.entry-index c.entry-item.result c.args.shelf.now c.loop-entry.shelf c.append_entry.new.shelf c.loop-entry-test.true c.entry-item.is k.appended.grown k.left
           c.append_entry.ensures.any_moment;
       takes = c.in_ok-append_entry.ensures.appends (λ e. cc);
       calm = c.in_ok-append_entry.ensures.calm (λ e. cc) ∙ k.calm;
@@ -33,7 +33,7 @@ returns-in_err-append_entry-clause-stopped g c =
     let fault = c.in_err-append_entry.field-0.0 in
     let is : c.from_residual.result ≡ Err fault = search rules in
     rw is
-    (stopped_at s.held s.may_leave s.answers s.fails s.moment s.left_since c.as_slice.result.now c.args.journal.now.entries c.args.from c.loop-entry.entry-index c.entry-item.result fault c.args.shelf.now c.loop-entry.shelf c.append_entry.new.shelf
+    (stopped_at s.sight c.as_slice.result.now c.args.journal.now.entries c.args.from c.loop-entry.entry-index c.entry-item.result fault c.args.shelf.now c.loop-entry.shelf c.append_entry.new.shelf
     c.as_slice.ensures.entries c.loop-entry-test.true c.entry-item.is c.loop-entry.invariant.appended c.in_err-append_entry.ensures.err)
 
 pub returns-in_err-append_entry-clause-partly : goal.returns-in_err-append_entry-clause-partly
@@ -42,13 +42,13 @@ returns-in_err-append_entry-clause-partly g c =
     let fault = c.in_err-append_entry.field-0.0 in
     let is : c.from_residual.result ≡ Err fault = search rules in
     rw is
-    (some_grown s.held s.answers s.fails fault (changes (drop c.args.from c.args.journal.now.entries)) c.args.shelf.now c.append_entry.new.shelf
-    (stopped_at s.held s.may_leave s.answers s.fails s.moment s.left_since c.as_slice.result.now c.args.journal.now.entries c.args.from c.loop-entry.entry-index c.entry-item.result fault c.args.shelf.now c.loop-entry.shelf c.append_entry.new.shelf
+    (some_grown s.sight fault (changes (drop c.args.from c.args.journal.now.entries)) c.args.shelf.now c.append_entry.new.shelf
+    (stopped_at s.sight c.as_slice.result.now c.args.journal.now.entries c.args.from c.loop-entry.entry-index c.entry-item.result fault c.args.shelf.now c.loop-entry.shelf c.append_entry.new.shelf
     c.as_slice.ensures.entries c.loop-entry-test.true c.entry-item.is c.loop-entry.invariant.appended c.in_err-append_entry.ensures.err))
 
 pub returns-in_err-append_entry-clause-any_moment : goal.returns-in_err-append_entry-clause-any_moment
 returns-in_err-append_entry-clause-any_moment g c =
     let s = g.F.Shelf in
     let k = c.loop-entry.invariant in
-    left_at s.held s.may_leave s.answers s.fails s.moment s.left_since c.as_slice.result.now c.args.journal.now.entries c.args.from c.loop-entry.entry-index c.entry-item.result c.args.shelf.now c.loop-entry.shelf c.append_entry.new.shelf
+    left_at s.sight c.as_slice.result.now c.args.journal.now.entries c.args.from c.loop-entry.entry-index c.entry-item.result c.args.shelf.now c.loop-entry.shelf c.append_entry.new.shelf
     c.as_slice.ensures.entries c.loop-entry-test.true c.entry-item.is k.appended.grown k.left c.append_entry.ensures.any_moment

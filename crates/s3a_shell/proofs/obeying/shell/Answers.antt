@@ -1,9 +1,9 @@
 use Rattle.std.proofs.Common.{◌≡◌, ◌≤◌, ◌∙◌, ℕ, true, false, None, ap, length, sym, subst}
 use Rattle.fs_ops.specs.Prelude.{Scene, opening, moment, IsHonest, Shell}
 use Rattle.bucket_walks.specs.Prelude.{AreAnswered, AreBy}
+use Rattle.journal_log.specs.Prelude.{AreBelow}
 use Rattle.s3a_shell.specs.declared.obeying.ShellEnd.{ShellEnd}
 use Rattle.s3a_shell.specs.Doings.{only_looks, Does, MayStandAt}
-use Rattle.s3_service.specs.Ids.{AreBelow}
 use Rattle.store_frame.specs.Held.{upload_at}
 use Rattle.s3a_shell.specs.Sendings.{has_changed}
 use Rattle.s3a_shell.specs.Stays.{OnlyIn, bucket_in, ended_by}

@@ -1,22 +1,34 @@
-use Rattle.s3a_top.specs.Statuses.{code, Writes, written_text}
-use Rattle.s3a_top.specs.Workings.{IsWritten}
-use Rattle.s3a_top.proofs.Outs.{written_so, job_out, store_out}
+use Rattle.s3a_top.proofs.Outs.{comes_written}
 use Rattle.s3a_top.proofs.top.run.Goals as goal
+
+pub returns-clause-due : goal.returns-clause-due
+returns-clause-due g c =
+    (comes_written g.F.Shelf.sight _ (g.Q.Source.left c.args.input.now) (g.Q.Source.left c.worked-work.new.input) c.args.shelf.now c.worked-work.new.shelf _ _ _ _ c.worked-work.result c.say-status.result c.code.result (g.K.Sink.written c.args.out.now) (g.K.Sink.written c.say-status.new.out) c.code.ensures c.say-status.ensures.text c.worked-work.ensures.comes).due
+
+pub returns-clause-read : goal.returns-clause-read
+returns-clause-read g c =
+    (comes_written g.F.Shelf.sight _ (g.Q.Source.left c.args.input.now) (g.Q.Source.left c.worked-work.new.input) c.args.shelf.now c.worked-work.new.shelf _ _ _ _ c.worked-work.result c.say-status.result c.code.result (g.K.Sink.written c.args.out.now) (g.K.Sink.written c.say-status.new.out) c.code.ensures c.say-status.ensures.text c.worked-work.ensures.comes).read
+
+pub returns-clause-shelf : goal.returns-clause-shelf
+returns-clause-shelf g c =
+    (comes_written g.F.Shelf.sight _ (g.Q.Source.left c.args.input.now) (g.Q.Source.left c.worked-work.new.input) c.args.shelf.now c.worked-work.new.shelf _ _ _ _ c.worked-work.result c.say-status.result c.code.result (g.K.Sink.written c.args.out.now) (g.K.Sink.written c.say-status.new.out) c.code.ensures c.say-status.ensures.text c.worked-work.ensures.comes).shelf
 
 pub returns-clause-job : goal.returns-clause-job
 returns-clause-job g c command is plays =
-    let s = g.F.Shelf in
-    let work = c.worked-work.result in
-    let before = g.K.Sink.written c.args.out.now in
-    let after = g.K.Sink.written c.say-status.new.out in
-    job_out (IsWritten work) (Writes c.say-status.result before after) (written_so c.say-status.result before after (written_text work.due work.text) c.say-status.ensures.text) s.held s.may_leave s.moment s.left_since s.answers s.fails (code work.due)
-    work.journal.entries work.picks work.ends command (g.Q.Source.left c.args.input.now) (g.Q.Source.left c.worked-work.new.input) c.args.shelf.now c.worked-work.new.shelf c.code.result c.code.ensures (c.worked-work.ensures.job command is plays)
+    (comes_written g.F.Shelf.sight _ (g.Q.Source.left c.args.input.now) (g.Q.Source.left c.worked-work.new.input) c.args.shelf.now c.worked-work.new.shelf _ _ _ _ c.worked-work.result c.say-status.result c.code.result (g.K.Sink.written c.args.out.now) (g.K.Sink.written c.say-status.new.out) c.code.ensures c.say-status.ensures.text c.worked-work.ensures.comes).job command is plays
 
 pub returns-clause-store : goal.returns-clause-store
 returns-clause-store g c command is other =
-    let s = g.F.Shelf in
-    let work = c.worked-work.result in
-    let before = g.K.Sink.written c.args.out.now in
-    let after = g.K.Sink.written c.say-status.new.out in
-    store_out (IsWritten work) (Writes c.say-status.result before after) (written_so c.say-status.result before after (written_text work.due work.text) c.say-status.ensures.text) s.held s.may_leave s.moment s.left_since s.answers s.fails (code work.due)
-    work.journal.entries work.picks work.ends command (g.Q.Source.left c.args.input.now) (g.Q.Source.left c.worked-work.new.input) c.args.shelf.now c.worked-work.new.shelf c.code.result c.code.ensures (c.worked-work.ensures.store command is other)
+    (comes_written g.F.Shelf.sight _ (g.Q.Source.left c.args.input.now) (g.Q.Source.left c.worked-work.new.input) c.args.shelf.now c.worked-work.new.shelf _ _ _ _ c.worked-work.result c.say-status.result c.code.result (g.K.Sink.written c.args.out.now) (g.K.Sink.written c.say-status.new.out) c.code.ensures c.say-status.ensures.text c.worked-work.ensures.comes).store command is other
+
+pub returns-clause-picks : goal.returns-clause-picks
+returns-clause-picks g c command is other =
+    (comes_written g.F.Shelf.sight _ (g.Q.Source.left c.args.input.now) (g.Q.Source.left c.worked-work.new.input) c.args.shelf.now c.worked-work.new.shelf _ _ _ _ c.worked-work.result c.say-status.result c.code.result (g.K.Sink.written c.args.out.now) (g.K.Sink.written c.say-status.new.out) c.code.ensures c.say-status.ensures.text c.worked-work.ensures.comes).picks command is other
+
+pub returns-clause-usage : goal.returns-clause-usage
+returns-clause-usage g c none =
+    (comes_written g.F.Shelf.sight _ (g.Q.Source.left c.args.input.now) (g.Q.Source.left c.worked-work.new.input) c.args.shelf.now c.worked-work.new.shelf _ _ _ _ c.worked-work.result c.say-status.result c.code.result (g.K.Sink.written c.args.out.now) (g.K.Sink.written c.say-status.new.out) c.code.ensures c.say-status.ensures.text c.worked-work.ensures.comes).usage none
+
+pub returns-clause-command : goal.returns-clause-command
+returns-clause-command g c is =
+    (comes_written g.F.Shelf.sight _ (g.Q.Source.left c.args.input.now) (g.Q.Source.left c.worked-work.new.input) c.args.shelf.now c.worked-work.new.shelf _ _ _ _ c.worked-work.result c.say-status.result c.code.result (g.K.Sink.written c.args.out.now) (g.K.Sink.written c.say-status.new.out) c.code.ensures c.say-status.ensures.text c.worked-work.ensures.comes).command is

@@ -1,20 +1,16 @@
-use Rattle.std.proofs.Common.{inr}
-use Rattle.s3a_top.specs.Statuses.{written_text}
-use Rattle.s3a_top.proofs.Halting.{halted_told, store_halted}
+use Rattle.s3a_top.proofs.Coming.{comes_of, usage_comes, wanting_comes}
 use Rattle.s3a_top.proofs.top.worked.Goals as goal
 
-pub returns-in-Err-clause-job : goal.returns-in-Err-clause-job
-returns-in-Err-clause-job g c command is plays =
-    let s = g.F.Shelf in
-    let work = c.stopped.result in
-    inr
-    (halted_told s.held s.may_leave s.answers s.fails s.moment s.left_since command (g.Q.Source.left c.args.input.now) (g.Q.Source.left c.do_work.new.input) c.args.shelf.now c.do_work.new.shelf c.in-Err.stop work.due (written_text work.due work.text)
-    work.journal.entries work.picks work.ends (c.in-Err.ensures.job command is plays) c.stopped.ensures.told c.stopped.ensures.idle)
+pub returns-in-Ok-clause-comes : goal.returns-in-Ok-clause-comes
+returns-in-Ok-clause-comes g c =
+    comes_of g.F.Shelf.sight _ (g.Q.Source.left c.args.input.now) (g.Q.Source.left c.do_command-done.new.input) c.args.shelf.now c.do_command-done.new.shelf (g.Q.Source.faults c.args.input.now) (g.Q.Source.faults c.do_command-done.new.input) (g.F.Shelf.faults c.args.shelf.now)
+    (g.F.Shelf.faults c.do_command-done.new.shelf) c.in-Ok.command c.do_command-done.result c.answered.result c.in-Ok.ensures.exact c.do_command-done.ensures.goes c.do_command-done.ensures.counted c.answered.ensures
 
-pub returns-in-Err-clause-store : goal.returns-in-Err-clause-store
-returns-in-Err-clause-store g c command is other =
-    let s = g.F.Shelf in
-    let work = c.stopped.result in
-    inr
-    (store_halted s.held s.may_leave s.answers s.fails s.moment s.left_since command (g.Q.Source.left c.args.input.now) (g.Q.Source.left c.do_work.new.input) c.args.shelf.now c.do_work.new.shelf c.in-Err.stop work.due (written_text work.due work.text)
-    work.journal.entries work.picks work.ends (c.in-Err.ensures.store command is other) c.stopped.ensures.told c.stopped.ensures.idle)
+pub returns-in-Err-Usage-clause-comes : goal.returns-in-Err-Usage-clause-comes
+returns-in-Err-Usage-clause-comes g c =
+    let none = rw c.in-Err-Usage.field-0-is at c.in-Err-Usage.ensures.exact in
+    usage_comes g.F.Shelf.sight _ (g.Q.Source.left c.args.input.now) c.args.shelf.now (g.Q.Source.faults c.args.input.now) (g.F.Shelf.faults c.args.shelf.now) c.stopped.result none c.stopped.ensures
+
+pub returns-in-Err-NoMemory-clause-comes : goal.returns-in-Err-NoMemory-clause-comes
+returns-in-Err-NoMemory-clause-comes g c =
+    wanting_comes g.F.Shelf.sight _ (g.Q.Source.left c.args.input.now) c.args.shelf.now (g.Q.Source.faults c.args.input.now) (g.F.Shelf.faults c.args.shelf.now) c.stopped-in-Err-NoMemory.result g.met.F.Shelf.timed c.stopped-in-Err-NoMemory.ensures

@@ -1,5 +1,5 @@
-ghost use Rattle.std.specs.Prelude.{◌≡◌, ◌≤◌, option_map};
-ghost use Rattle.s3a_top.specs.Statuses.{code, own_text};
+ghost use Rattle.std.specs.Prelude.{◌≡◌, option_map};
+ghost use Rattle.exit_status.specs.Statuses.{code, own_text};
 
 /// The statuses that the program ends with.
 #[derive(Clone, Copy, Debug, PartialEq, Eq)]

@@ -1,0 +1,27 @@
+-- What comes of putting the image of a store in place of what a shelf holds.
+use Rattle.std.specs.Prelude.{◌≡◌, ◌⊎◌, ℕ, ◌<◌, [], Result, Ok, Err}
+use Rattle.store_frame.specs.Prelude.{Content}
+use Rattle.shelf.specs.Logged.{fresh, IsDurable, Sight, CrashesLeave}
+use Rattle.shelf.specs.declared.kept.ShelfStop.{ShelfStop}
+use Rattle.shelf.specs.declared.kept.ShelfStop.TheVariants.{Failed, NoMemory}
+use Rattle.store_image.specs.Image.{image}
+use Rattle.journal_log.specs.Kept.{Holds}
+
+-- it was put there
+pub record Replaced {S : Type 0} (F : Sight S) (c : Content) (old new : S) : Type 0 where
+  pub holds : Holds (F.held new) c []
+  pub durable : IsDurable (F.held new) (F.may_leave new)
+  pub leaves : CrashesLeave F old new (λ h. F.may_leave old h ⊎ (h ≡ fresh (image c)))
+  pub answered : F.answers old new
+
+-- it was not: the shelf holds what it held, and was called once at most, and that failed
+pub record NotReplaced {S : Type 0} (F : Sight S) (c : Content) (old new : S) : Type 0 where
+  pub same : F.held new ≡ F.held old
+  pub calls : (old ≡ new) ⊎ F.fails old new
+  pub leaves : CrashesLeave F old new (λ h. F.may_leave old h ⊎ (h ≡ fresh (image c)))
+
+-- a shelf's count of faults rose where it failed, and else stands
+abbrev pub Counts : {A : Type 0} → Result A ShelfStop → ℕ → ℕ → Type 0
+Counts (Ok x) before after = after ≡ before
+Counts (Err Failed) before after = before < after
+Counts (Err NoMemory) before after = after ≡ before

@@ -1,0 +1,36 @@
+ghost use Rattle.std.specs.Prelude.{◌≡◌, ◌<◌, ◌-◌, ◌^◌, IfOk, OnOk, OnErr};
+ghost use Rattle.store_image.specs.Image.{image};
+ghost use Rattle.journal_log.specs.Images.{Replaced, NotReplaced, Counts};
+
+use s3_service::Service;
+use shelf::kept::{Shelf, ShelfStop};
+use std::alloc::{AllocError, Global};
+use store_image::encode;
+
+/// The image of a store.
+fn image_of(alloc: Global, store: &Service) -> Result<Vec<u8>, AllocError>
+    ensures { IfOk result (λ bytes. bytes.items ≡ image store.now) }
+{
+    let mut bytes = Vec::new(alloc);
+    encode(alloc, store, &mut bytes)?;
+    Ok(bytes)
+}
+
+/// Puts a store's image in place of what the shelf holds. After an error the shelf holds what it held. A crash within
+/// the call leaves what one before it may leave, or the image, and at Ok the image. Failed comes only where the shelf's
+/// count of faults rose, and NoMemory where the image found none.
+pub fn put_image<F: Shelf>(alloc: Global, shelf: &mut F, store: &Service) -> Result<(), ShelfStop>
+    requires { F.faults shelf.old < 2 ^ 64 - 1 }
+    ensures ok { OnOk result (Replaced F.sight store.now shelf.old shelf.new) }
+    ensures appends { OnOk result (F.takes_appends shelf.new) }
+    ensures err { OnErr result (NotReplaced F.sight store.now shelf.old shelf.new) }
+    ensures counted { Counts result (F.faults shelf.old) (F.faults shelf.new) }
+{
+    let Ok(bytes) = image_of(alloc, store) else {
+        return Err(ShelfStop::NoMemory);
+    };
+    match shelf.replace(bytes.as_slice()) {
+        Ok(()) => Ok(()),
+        Err(_) => Err(ShelfStop::Failed),
+    }
+}

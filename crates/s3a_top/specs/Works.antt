@@ -1,0 +1,7 @@
+-- What is written of an answer.
+use Rattle.std.specs.Prelude.{◌≡◌, ℕ, List}
+use Rattle.exit_status.specs.Statuses.{written_text}
+use Rattle.durable_store.specs.declared.work.Answer.{Answer}
+
+abbrev pub IsWritten : Answer → List ℕ → Type 0
+IsWritten answer text = written_text answer.due answer.text ≡ text
