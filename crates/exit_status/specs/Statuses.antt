@@ -3,6 +3,7 @@ use Rattle.std.specs.Prelude.{ℕ, ◌++◌, List, [], ◌∷◌, codes, Option,
 use Rattle.exit_status.specs.declared.statuses.Status.{Status}
 use Rattle.exit_status.specs.declared.statuses.Status.TheVariants.{Done, Refused, Usage, ReadFault, WriteFault, ShelfFault, BadScript, BadImage, StoreFault, NoMemory}
 
+-- the exit status as a number
 abbrev pub code : Status → ℕ
 code Done = 0
 code Refused = 1
@@ -17,15 +18,19 @@ code NoMemory = 9
 
 -- ---- texts
 
+-- what is said with the status of words that are no command
 abbrev pub usage_text : List ℕ
 usage_text = codes "usage: s3a FOLDER COMMAND WORDS" ++ 10 ∷ []
 
+-- what is said where the input failed
 abbrev pub read_text : List ℕ
 read_text = codes "read fault" ++ 10 ∷ []
 
+-- what is said where the shelf failed
 abbrev pub shelf_text : List ℕ
 shelf_text = codes "shelf fault" ++ 10 ∷ []
 
+-- what is said where memory was wanting
 abbrev pub memory_text : List ℕ
 memory_text = codes "no memory" ++ 10 ∷ []
 

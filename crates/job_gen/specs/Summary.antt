@@ -15,7 +15,7 @@ pick_bytes w p = bytes_of (files w (picked p))
 abbrev pub shown_bytes : (due : ℕ) → List Pick → Script → ℕ
 shown_bytes due picks w = if due == 0 then sum_by (pick_bytes w) picks else 0
 
--- of a job of so many tasks with so many files each: the status that was due, how many requests were sent and the picks, of a script
+-- the line that sums up a made job: its tasks and files, the bytes shown, the requests sent and the status that was due
 unfoldable pub summary : (tasks files due sent : ℕ) → List Pick → Script → List ℕ
 summary tasks files due sent picks w = line (
     codes "tasks" ∷ decimal tasks

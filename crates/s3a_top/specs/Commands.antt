@@ -51,6 +51,7 @@ HasReason ReadFault command told left rest = IsSoundly told × ((takes_input com
 HasReason NoMemory command told left rest = (rest ≡ left) ⊎ (IsSoundly told × ((takes_input command ≡ true) × TakesPart left rest))
 HasReason _ command told left rest = ⊥
 
+-- another command stopped before it did anything: its status has its cause, and what was held is held
 pub record StoreStopped {S : Type 0} (F : Sight S) (command : Command) (left rest : Option (List ℕ)) (old new : S)
     (due : ℕ) (es : List Entry) (Says : List ℕ → Type 0) : Type 0 where
   pub stop : Stop
@@ -71,6 +72,7 @@ pub record WorkDone {S : Type 0} (F : Sight S) (work : Work) (old new : S) (stat
   pub text : Option (List ℕ)
   pub answer : IsAnswer work status text es
   pub said : Says (written_text status text)
+  -- what the shelf holds then, what a crash meanwhile might have left, and what one leaves behind it
   pub holds : IsHeld work status (F.held old) (F.held new)
   pub leaves : CrashesLeave F old new (MightLeave work (F.held new) (F.may_leave old))
   pub durable : IsDurableNow work status (F.held new) (F.may_leave new)

@@ -50,6 +50,7 @@ AreFew {S} F left rest old new = ((old ≡ new) × (rest ≡ left)) ⊎ ((F.fail
 abbrev pub MayHaveLeft : (at_first : Holding → Type 0) → Command → Option Stored → (left rest : Option (List ℕ)) → Holding → Type 0
 MayHaveLeft at_first command told left rest h = at_first h ⊎ ((w : Script) × ((c : Content) × (IsScriptOf command left rest w × (Opens told w c × (h ≡ fresh (image c))))))
 
+-- a job stopped before its first event: nothing was sent, what was held is held, and its status has its cause
 pub record JobStopped {S : Type 0} (F : Sight S) (command : Command) (left rest : Option (List ℕ)) (old new : S)
     (due : ℕ) (es : List Entry) (ps : List Pick) (xs : List EventEnd) (Says : List ℕ → Type 0) : Type 0 where
   -- why it stopped
@@ -60,7 +61,9 @@ pub record JobStopped {S : Type 0} (F : Sight S) (command : Command) (left rest 
   -- nothing was sent, and the shelf holds what it held
   pub idle : IsIdle es ps xs
   pub same : F.held new ≡ F.held old
+  -- the shelf was called to load, and once more at most
   pub calls : AreFew F left rest old new
+  -- what a crash meanwhile might have left
   pub leaves : CrashesLeave F old new (MayHaveLeft (F.may_leave old) command (F.held old) left rest)
 
 -- ---- it was played
@@ -72,7 +75,9 @@ job_text _ due sent ps xs w = report_text due sent ps xs w
 
 -- all events ended, all that was sent is kept, and the status is the verdict of the job's commit
 pub record JobEnded {S : Type 0} (F : Sight S) (command : Command) (w : Script) (c : Content) (loaded new : S) (due : ℕ) (es : List Entry) (ps : List Pick) (xs : List EventEnd) (Says : List ℕ → Type 0) : Type 0 where
+  -- the promise of a run that went to its end
   pub finished : Finished w c es ps xs
+  -- the shelf holds the opening image with every change of the run, and a crash leaves that and nothing else
   pub holds : Holds (F.held new) c (changes es)
   pub durable : IsDurable (F.held new) (F.may_leave new)
   -- the shelf was called to take the image, and once for each change
@@ -82,8 +87,11 @@ pub record JobEnded {S : Type 0} (F : Sight S) (command : Command) (w : Script) 
 
 -- an append failed, or memory was wanting between two events
 pub record JobCut {S : Type 0} (F : Sight S) (c : Content) (loaded new : S) (due : ℕ) (es : List Entry) (Says : List ℕ → Type 0) : Type 0 where
+  -- the shelf holds the first changes of the run, with those of all earlier events
   pub holds : HoldsPart (F.held new) c es
+  -- the shelf was called for the first changes alone, and the last call may have failed
   pub calls : AreStopped F (changes es) loaded new
+  -- the status is that of the shelf, or of want of memory
   pub said : ((due ≡ 5) × Says shelf_text) ⊎ ((due ≡ 9) × Says memory_text)
 
 -- Of a script over a store with this content, since the shelf was loaded: what was sent keeps all that is promised of the job.
@@ -108,6 +116,7 @@ pub record JobPlayed {S : Type 0} (F : Sight S) (command : Command) (left rest :
   pub opening : Content
   pub reads : IsScriptOf command left rest script
   pub opens : Opens (F.held old) script opening
+  -- the shelf once it was loaded
   pub loaded : S
   pub load : F.answers old loaded
   pub ran : JobRan F command script opening loaded new due es ps xs Says

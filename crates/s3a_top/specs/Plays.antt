@@ -63,6 +63,7 @@ pub record JobBroke {S : Type 0} (F : Sight S) (command : Command) (left rest : 
   pub calls : (old ≡ new) ⊎ F.fails old new
   pub leaves : CrashesLeave F old new (MayHaveLeft (F.may_leave old) command (F.held old) left rest)
 
+-- what comes of a job behind the load
 abbrev pub JobSince : {S : Type 0} → Sight S → Command → (left rest : Option (List ℕ)) (old new : S) → Result Work Stop → Type 0
 JobSince F command left rest old new (Ok work) = JobOver F command left rest old new work
 JobSince F command left rest old new (Err stop) = JobBroke F command left rest old new stop

@@ -99,16 +99,19 @@ pub record StoreOver {S : Type 0} (F : Sight S) (command : Command) (before : He
 abbrev pub IsQuiet : Work → Type 0
 IsQuiet work = (work.picks ≡ []) × (work.ends ≡ [])
 
+-- what comes of another command behind the load
 abbrev pub StoreSince : {S : Type 0} → Sight S → Command → Held → (left rest : Option (List ℕ)) (old new : S) → Result Work Stop → Type 0
 StoreSince F command before left rest old new (Ok work) = StoreOver F command before left rest old new work.answer × IsQuiet work
 StoreSince F command before left rest old new (Err stop) = HasReasonIn stop command before left rest × (new ≡ old)
 
 -- ---- what comes of a command
 
+-- of a job, before the text of a stop is made
 abbrev pub JobGoes : {S : Type 0} → Sight S → Command → (left rest : Option (List ℕ)) (old new : S) → Result Work Stop → Type 0
 JobGoes F command left rest old new (Ok work) = JobPlayed F command left rest old new (code work.answer.due) work.answer.sent.entries work.picks work.ends (IsWritten work.answer)
 JobGoes F command left rest old new (Err stop) = JobHalted F command left rest old new stop
 
+-- of another command, before the text of a stop is made
 abbrev pub StoreGoes : {S : Type 0} → Sight S → Command → (left rest : Option (List ℕ)) (old new : S) → Result Work Stop → Type 0
 StoreGoes F command left rest old new (Ok work) = StoreDone F command left rest old new (code work.answer.due) work.answer.sent.entries (IsWritten work.answer) × IsQuiet work
 StoreGoes F command left rest old new (Err stop) = StoreHalted F command left rest old new stop
@@ -120,6 +123,7 @@ pub record Goes {S : Type 0} (F : Sight S) (command : Command) (left rest : Opti
 
 -- ---- what comes of words, where this is what they say, by the counts of faults of the input and of the shelf before and after
 
+-- the status that is due is one of the program's, and what was done or stopped is as the headline has it
 pub record Comes {S : Type 0} (F : Sight S) (said : Option Command) (left rest : Option (List ℕ)) (old new : S) (i j m n status : ℕ) (es : List Entry) (ps : List Pick) (xs : List EventEnd) (Says : List ℕ → Type 0) : Type 0 where
   pub due : IsDue status
   pub read : Tells 3 status i j

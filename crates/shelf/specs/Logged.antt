@@ -89,6 +89,7 @@ pub record LeavesOnly {S C : Type 0} (moment : S → ℕ) (left_since : S → �
 
 -- ---- what is told of a shelf
 
+-- what is told of a shelf: what it holds, what its calls make of it, and what a crash leaves
 pub record Sight (S : Type 0) : Type 1 where
   -- what is held, however large, where it is told
   pub held : S → Option Stored
