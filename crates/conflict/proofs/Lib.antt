@@ -3,3 +3,4 @@ pub mod Tells
 pub mod Deleting
 pub mod Rising
 pub mod SamePartitions
+pub mod Falling

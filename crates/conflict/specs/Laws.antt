@@ -1,9 +1,12 @@
 -- Checks and deletions beside the operations that hold them.
 use Rattle.std.specs.Prelude.{◌≡◌, ℕ, Bool, List, [], ◌∷◌, Option, Some, None}
-use Rattle.job_protocol.specs.Prelude.{Replace, Reply, Who, Known, Script, Picks, ordered, wanted_paths, partitions, Sweep, sweep_start, TaskCommit, Checking, TaskCommitOver, checking, task_commit_asks, task_commit_hears, Sets, Commit, Replacing, replaced, replacing, commit_asks, commit_hears}
+use Rattle.job_protocol.specs.Prelude.{FallsAmong, Replace, Reply, Who, Known, Script, Picks, ordered, wanted_paths, partitions, Sweep, sweep_start, TaskCommit, Checking, TaskCommitOver, checking, task_commit_asks, task_commit_hears, Sets, Commit, Replacing, replaced, replacing, commit_asks, commit_hears}
 use Rattle.job_model.specs.declared.ends.TaskEnd.TheVariants as ends
 use Rattle.conflict.specs.Checks.{check_asks, found_below, left_after}
 use Rattle.conflict.specs.Deletions.{Deletion, deleted, spared, deletion_asks, deletion_hears}
+use Rattle.conflict.specs.Rechecks.{check_wants, check_told}
+use Rattle.conflict.specs.Fits.{FitsCheck}
+use Rattle.conflict.specs.Left.{check_left}
 
 -- ---- partitions
 
@@ -46,3 +49,9 @@ pub record DeletionsTell : Type 0 where
   pub starts : (w : Script) (sets : Sets) (prefixes : List (List ℕ)) → replacing w sets prefixes ≡ commit_deleting w sets (deletion_of w prefixes sweep_start)
   pub asks : (w : Script) (sets : Sets) (p : List ℕ) (ps : List (List ℕ)) (sweep : Sweep) (missed : ℕ) → commit_asks w (Replacing sets p ps sweep missed) ≡ deletion_asks w.dest.bucket (deletion_of w (p ∷ ps) sweep)
   pub goes : (w : Script) (sets : Sets) (p : List ℕ) (ps : List (List ℕ)) (sweep : Sweep) (missed : ℕ) (r : Reply) → commit_hears w (Replacing sets p ps sweep missed) r ≡ commit_deleting w sets (deletion_hears (deletion_of w (p ∷ ps) sweep) r)
+
+-- ---- a check before a commit among others
+
+-- one request of another actor raises what is left by at most 1
+abbrev pub ChecksFall : Type 0
+ChecksFall = FallsAmong check_wants check_told FitsCheck check_left 1

@@ -1,4 +1,9 @@
 pub mod Partitions
 pub mod Checks
 pub mod Deletions
+pub mod Rechecks
+pub mod Held
+pub mod Fits
+pub mod Left
 pub mod Laws
+pub mod AskingLaws

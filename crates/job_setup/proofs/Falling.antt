@@ -13,7 +13,7 @@ use Rattle.job_setup.specs.Fits.{FitsSetup}
 use Rattle.job_setup.specs.Left.{cleared_left, left_at}
 use Rattle.job_setup.specs.Laws.{SetupsEnd}
 
-one_most : (b : Bool) → one_if b ≤ 1
+pub one_most : (b : Bool) → one_if b ≤ 1
 one_most true = omega arith
 one_most false = omega arith
 
@@ -54,7 +54,7 @@ by_left : (j : Job) (keys : List (List ℕ)) (s : Scene) (o : Option (List ℕ))
 by_left j keys s (Some p) x h = omega arith
 by_left j keys s None x h = on_left j keys s x h
 
-never_less : (n : ℕ) → n < n → ⊥
+pub never_less : (n : ℕ) → n < n → ⊥
 never_less n h = omega arith
 
 checked_left : (j : Job) (keys : List (List ℕ)) (s : Scene) (r : Reply) → LessWalk j.dest.bucket (j.dest.key ++ codes "/") s (walk_left j.dest.bucket (j.dest.key ++ codes "/") keys s) (walked keys r) → left_at j (checked (job_script j) keys r) s < left_at j (Checking keys) s

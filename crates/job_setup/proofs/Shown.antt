@@ -1,16 +1,11 @@
 -- The first file of a destination on a page.
 use Rattle.std.proofs.Common.{◌≡◌, ◌≢◌, ℕ, ◌+◌, ◌-◌, suc, zero, ◌≤◌, ◌==◌, nat_le, not, nat_eq, Bool, true, false, List, [], ◌∷◌, ◌++◌, length, drop, Option, Some, None, option_map, Bor, refl, sym, ap, ◌∙◌, arith}
 use Rattle.std.specs.Prelude.{codes}
-use Rattle.job_protocol.specs.Prelude.{slice_get, starts_with, ends_with, list_any, FindsTextPrefix, PageEntry, Reply, Page, relative_in, Job, Script, is_reserved, IsJob, is_folder, SetupEnd, walked_by, keys_on, Sweep, Clearing, SetupOver, first_shown, shown_path, or_next, checked, checked_by, checked_on}
+use Rattle.job_protocol.specs.Prelude.{slice_get, starts_with, ends_with, list_any, FindsTextPrefix, relative_in, Job, Script, is_reserved, IsJob, is_folder, first_shown, shown_path, or_next}
 use Rattle.s3_types.specs.Prelude.{MatchOption}
 use Rattle.path_keys.proofs.Common.{Decides-eqb, starts_is, and_parts, at_most_is}
 use Rattle.words.specs.Parts.{parts_of}
-use Rattle.job_model.specs.declared.ends.SetupEnd.TheVariants.{Conflict}
-use Rattle.list_walk.specs.Walks.{walked}
 use Rattle.job_setup.specs.Files.{path_behind, first_of}
-use Rattle.job_setup.specs.Held.{setup_at}
-use Rattle.job_setup.specs.declared.held.Stage.{Stage}
-use Rattle.job_setup.specs.declared.held.Stage.TheVariants as stages
 
 path_is : (key k : List ℕ) → 1 ≤ length key → path_behind (key ++ codes "/") k ≡ relative_in key k
 path_is [] k h = absurd (omega arith)
@@ -63,46 +58,6 @@ dest_most j h =
     let b = and_parts _ (not (ends_with nat_eq j.dest.key (13 ∷ []))) a.0 in
     let c = and_parts (nat_le 1 (length j.dest.key)) (nat_le (length j.dest.key) 400) b.0 in
     at_most_is (length j.dest.key) 400 c.1
-
--- ---- a page of keys
-
-shown_is : (w : Script) (ks : List (List ℕ)) (prefix : List ℕ) (o : Option (List ℕ)) → 1 ≤ length w.dest.key → prefix ≡ w.dest.key ++ codes "/" → o ≡ first_of prefix ks → first_shown w ks ≡ o
-shown_is w ks prefix o h p e = sym (e ∙ ap (λ q. first_of q ks) p ∙ first_is w ks h)
-
-pub conflict_is : (w : Script) (keys : List (List ℕ)) (entries : List PageEntry) (more : Bool) (prefix path : List ℕ) → 1 ≤ length w.dest.key → prefix ≡ w.dest.key ++ codes "/" → Some path ≡ first_of prefix (keys_on entries)
-    → checked w keys (Page entries more) ≡ SetupOver (Conflict path)
-conflict_is w keys entries more prefix path h p e = ap (λ o. checked_by o (walked keys (Page entries more))) (shown_is w (keys_on entries) prefix (Some path) h p e)
-
-pub free_is : (w : Script) (keys : List (List ℕ)) (entries : List PageEntry) (more : Bool) (prefix : List ℕ) (b : Bool) (ks : List (List ℕ)) → 1 ≤ length w.dest.key → prefix ≡ w.dest.key ++ codes "/" → None ≡ first_of prefix (keys_on entries)
-    → walked keys (Page entries more) ≡ walked_by b ks → checked w keys (Page entries more) ≡ checked_on (walked_by b ks)
-free_is w keys entries more prefix b ks h p e g = ap (λ o. checked_by o (walked keys (Page entries more))) (shown_is w (keys_on entries) prefix None h p e) ∙ ap checked_on g
-
-none_of : {X : Type 0} (o : Option X) → ((x : X) → o ≡ Some x → ⊥) → o ≡ None
-none_of None h = refl
-none_of (Some x) h = absurd (h x refl)
-
-pub page_conflict : (w : Script) (keys : List (List ℕ)) (r : Reply) (entries es : List PageEntry) (more : Bool) (prefix path : List ℕ) (o : Option (List ℕ))
-    → r ≡ Page entries more → es ≡ entries → 1 ≤ length w.dest.key → prefix ≡ w.dest.key ++ codes "/" → o ≡ first_of prefix (keys_on es) → o ≡ Some path → SetupOver (Conflict path) ≡ checked w keys r
-page_conflict w keys r entries es more prefix path o a b h p e f =
-    sym (ap (checked w keys) a ∙ conflict_is w keys entries more prefix path h p (sym f ∙ e ∙ ap (λ l. first_of prefix (keys_on l)) b))
-
-page_free : (w : Script) (keys : List (List ℕ)) (r : Reply) (entries es : List PageEntry) (more : Bool) (prefix : List ℕ) (o : Option (List ℕ)) (b : Bool) (ks : List (List ℕ))
-    → r ≡ Page entries more → es ≡ entries → 1 ≤ length w.dest.key → prefix ≡ w.dest.key ++ codes "/" → o ≡ first_of prefix (keys_on es) → ((path : List ℕ) → o ≡ Some path → ⊥) → walked keys r ≡ walked_by b ks
-    → checked w keys r ≡ checked_on (walked_by b ks)
-page_free w keys r entries es more prefix o b ks a d h p e f g =
-    ap (checked w keys) a
-    ∙ free_is w keys entries more prefix b ks h p (sym (none_of o f) ∙ e ∙ ap (λ l. first_of prefix (keys_on l)) d) (sym (ap (walked keys) a) ∙ g)
-
-pub page_more : (w : Script) (keys : List (List ℕ)) (r : Reply) (entries es : List PageEntry) (more : Bool) (prefix : List ℕ) (o : Option (List ℕ)) (b : Bool) (ks : List (List ℕ)) (stage : Stage) (sweep : Sweep) (end : SetupEnd)
-    → r ≡ Page entries more → es ≡ entries → 1 ≤ length w.dest.key → prefix ≡ w.dest.key ++ codes "/" → o ≡ first_of prefix (keys_on es) → ((path : List ℕ) → o ≡ Some path → ⊥) → walked keys r ≡ walked_by b ks
-    → b ≡ true → stage ≡ stages.Checking → setup_at stage ks sweep end ≡ checked w keys r
-page_more w keys r entries es more prefix o b ks stage sweep end a d h p e f g t s =
-    ap (λ s. setup_at s ks sweep end) s ∙ sym (page_free w keys r entries es more prefix o b ks a d h p e f g ∙ ap (λ b. checked_on (walked_by b ks)) t)
-
-pub page_whole : (w : Script) (keys : List (List ℕ)) (r : Reply) (entries es : List PageEntry) (more : Bool) (prefix : List ℕ) (o : Option (List ℕ)) (b : Bool) (ks : List (List ℕ))
-    → r ≡ Page entries more → es ≡ entries → 1 ≤ length w.dest.key → prefix ≡ w.dest.key ++ codes "/" → o ≡ first_of prefix (keys_on es) → ((path : List ℕ) → o ≡ Some path → ⊥) → walked keys r ≡ walked_by b ks
-    → b ≡ false → Clearing ≡ checked w keys r
-page_whole w keys r entries es more prefix o b ks a d h p e f g t = sym (page_free w keys r entries es more prefix o b ks a d h p e f g ∙ ap (λ b. checked_on (walked_by b ks)) t)
 
 -- ---- what stands behind a text
 

@@ -2,9 +2,13 @@ ghost use Rattle.std.specs.Prelude.{◌≡◌, nat_eq, codes, drop, length, opti
 ghost use Rattle.std.specs.List.{starts_with};
 ghost use Rattle.s3_types.specs.Pages.{begins, text_in};
 ghost use Rattle.job_protocol.specs.View.{is_folder, is_file_path};
+ghost use Rattle.job_protocol.specs.AtWork.{job_script};
+ghost use Rattle.job_protocol.specs.Setup.{first_shown};
 ghost use Rattle.list_walk.specs.Walks.{keys_on};
 ghost use Rattle.job_setup.specs.Files.{first_of, seen_at};
 
+use job_model::JobPlan;
+use magic_paths::dest_prefix;
 use s3_types::{PageEntry, Text};
 use std::alloc::{AllocError, Global};
 
@@ -67,8 +71,9 @@ fn shown<'a>(prefix: &str, text: &'a str) -> Option<&'a str>
     }
 }
 
-/// The first path among the entries at which a reader of the destination is shown a file.
-pub fn first_shown(
+/// The first path among the entries at which a reader of the destination is shown a file; the destination's
+/// prefix ends in `/`.
+fn first_behind(
     alloc: Global,
     prefix: &str,
     entries: &[PageEntry],
@@ -81,4 +86,16 @@ pub fn first_shown(
         }
     }
     Ok(None)
+}
+
+/// The first path among the entries of a page at which a reader of a job's destination is shown a file.
+pub fn first_shown(
+    alloc: Global,
+    plan: &JobPlan,
+    entries: &[PageEntry],
+) -> Result<Option<Text>, AllocError>
+    ensures { IfOk result (λ path. path ≡ first_shown (job_script plan.now) (keys_on entries.now)) }
+{
+    let prefix = dest_prefix(alloc, &plan.dest)?;
+    first_behind(alloc, prefix.as_str(), entries)
 }

@@ -11,7 +11,6 @@ use crate::files::first_shown;
 use crate::requests::{clear_request, head_request, page_request, sweep_request};
 use job_model::{JobPlan, SetupEnd};
 use list_walk::{AllKeys, KeyWalk, Sweep};
-use magic_paths::dest_prefix;
 use s3_types::{Committer, Mode, Refusal, Reply, Request, put};
 use std::alloc::{AllocError, Global};
 
@@ -38,8 +37,8 @@ pub struct Held {
     pub end: SetupEnd,
 }
 
-/// Whether the set-up looks for files of the destination.
-fn checks_all(committer: Committer, mode: Mode) -> bool
+/// Whether a job's set-up looks for files of the destination. Takes no memory.
+pub fn checks_all(committer: Committer, mode: Mode) -> bool
     ensures { result ≡ checks_all committer mode }
 {
     match committer {
@@ -129,8 +128,7 @@ impl Held {
         let Reply::Page { entries, .. } = reply else {
             return Ok(());
         };
-        let prefix = dest_prefix(alloc, &plan.dest)?;
-        if let Some(path) = first_shown(alloc, prefix.as_str(), entries.as_slice())? {
+        if let Some(path) = first_shown(alloc, plan, entries.as_slice())? {
             self.finish(SetupEnd::Conflict(path));
             return Ok(());
         }

@@ -1,7 +1,7 @@
 use Rattle.std.proofs.Common.{◌≡◌, drop}
 use Rattle.job_protocol.specs.Prelude.{keys_on}
 use Rattle.job_setup.specs.Files.{first_of}
-use Rattle.job_setup.proofs.files.first_shown.Given as goal
+use Rattle.job_setup.proofs.files.first_behind.Given as goal
 
 -- the first is behind those that were passed over
 abbrev pub invariant-loop-entry : goal.invariant-loop-entry

@@ -1,0 +1,15 @@
+-- What a check before a commit has left in a scene.
+use Rattle.std.specs.Prelude.{ℕ, ◌+◌, ◌++◌, length, codes}
+use Rattle.job_protocol.specs.Prelude.{Scene, Job, walk_left}
+use Rattle.job_protocol.specs.Rechecks.{Check, Looking, Probing, CheckOver}
+use Rattle.conflict.specs.Rechecks.{PlannedCheck}
+
+-- the requests that a check has yet to send: the pages, or one for each partition
+abbrev pub left_at : Job → Check → Scene → ℕ
+left_at j (Looking keys) s = walk_left j.dest.bucket (j.dest.key ++ codes "/") keys s
+left_at j (Probing d ds) s = 1 + length ds
+left_at j (CheckOver end) s = 0
+
+-- the requests that a check of a plan has yet to send
+abbrev pub check_left : PlannedCheck → Scene → ℕ
+check_left m s = left_at m.plan.job m.operation s
