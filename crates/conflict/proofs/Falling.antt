@@ -1,7 +1,7 @@
 -- What a check before a commit has left falls.
-use Rattle.std.proofs.Common.{◌≡◌, ℕ, ◌+◌, ◌<◌, ◌≤◌, Bool, true, false, List, [], ◌∷◌, ◌++◌, length, take, nat_lt, Option, Some, None, refl, sym, ap, subst, ◌∙◌, arith}
+use Rattle.std.proofs.Common.{◌≡◌, ℕ, ◌+◌, ◌<◌, ◌≤◌, false, List, [], ◌∷◌, ◌++◌, length, take, Option, Some, None, refl, sym, ap, subst, ◌∙◌, arith}
 use Rattle.std.specs.Prelude.{codes}
-use Rattle.job_protocol.specs.Prelude.{BucketContent, Scene, answer, answer_at, apply, Request, ListPage, PageEntry, Reply, Page, listed, below, Job, job_script, Walked, More, Whole, keys_on, page_after, first_shown, lacks_bucket, FitsPage, walk_left, adds_key, one_if, LessWalk}
+use Rattle.job_protocol.specs.Prelude.{BucketContent, Scene, answer, answer_at, apply, Request, ListPage, PageEntry, Reply, Page, listed, below, Job, job_script, Walked, More, Whole, keys_on, page_after, first_shown, lacks_bucket, FitsPage, walk_left, adds_key, LessWalk}
 use Rattle.std.specs.FinMap as fin
 use Rattle.proof_base.proofs.Members.{some_is, none_some, false_true}
 use Rattle.list_walk.specs.Walks.{walked}

@@ -1,6 +1,6 @@
 -- Checks and deletions lead where the operations that hold them go.
 use Rattle.std.proofs.Common.{◌≡◌, ℕ, Bool, List, [], ◌∷◌, Option, Some, None, refl, ap, ◌∙◌}
-use Rattle.job_protocol.specs.Prelude.{Committer, Magic, Directory, Partitioned, Mode, Replace, Reply, Page, Who, Script, Picks, wanted_paths, partitions, Sweep, sweep_start, sweep_hears, Checking, task_commit_hears, Sets, is_no_magic, replaced, replacing, swept}
+use Rattle.job_protocol.specs.Prelude.{Committer, Magic, Mode, Replace, Reply, Page, Who, Script, Picks, wanted_paths, partitions, Sweep, sweep_start, sweep_hears, Checking, task_commit_hears, Sets, is_no_magic, replaced, replacing, swept}
 use Rattle.conflict.specs.Checks.{found_below, left_after}
 use Rattle.conflict.specs.Deletions.{deleted, swept_on}
 use Rattle.conflict.specs.Laws.{commit_after_check, ChecksTell, commit_deleting, deletion_of, DeletionsTell}
