@@ -1,2 +1,5 @@
 pub mod Falling
 pub mod Places
+pub mod Pages
+pub mod SparingPlaces
+pub mod SparingFalls

@@ -1,9 +1,10 @@
 -- Places among uploads and paths.
-use Rattle.std.proofs.Common.{◌≡◌, ℕ, ◌+◌, suc, zero, ◌<◌, nat_lt, Bool, true, false, cond, List, [], ◌∷◌, length, drop, Option, Some, None, refl, sym, ap, ◌∙◌, arith, length-drop}
+use Rattle.std.proofs.Common.{◌≡◌, ℕ, ◌+◌, ◌-◌, suc, zero, ◌<◌, nat_lt, Bool, true, false, cond, List, [], ◌∷◌, length, drop, Option, Some, None, refl, sym, ap, ◌∙◌, arith, length-drop}
 use Rattle.job_protocol.specs.Prelude.{slice_get, Committer, Magic, Directory, Partitioned, AbortUpload, ClusterDelete, UploadRef, Reply, Script, CleanEnd, Sweep, sweep_start, Clean, clean_asks, clean_hears, clean_over, aborted, aborting, removing}
-use Rattle.path_keys.proofs.Common.{drop-drop, below_is, below_not}
+use Rattle.path_keys.proofs.Common.{drop-drop, drop_all, below_is, below_not}
 use Rattle.job_model.specs.declared.ends.CleanEnd.TheVariants as ends
-use Rattle.cleanup.specs.Held.{clean_at, within, behind, abort_stage, stage_after, remove_stage, aborting_from, abort_asks, remove_asks}
+use Rattle.cleanup.specs.Places.{behind, abort_asks, remove_asks}
+use Rattle.cleanup.specs.Held.{clean_at, within, abort_stage, stage_after, remove_stage, aborting_from}
 use Rattle.cleanup.specs.declared.held.Stage.{Stage}
 use Rattle.cleanup.specs.declared.held.Stage.TheVariants as stages
 
@@ -82,28 +83,33 @@ removes_within at uploads paths = by (nat_lt at paths) refl
 
 -- ---- one after another
 
-behind_is : (at len : ℕ) → nat_lt at len ≡ true → behind at len ≡ at + 1
-behind_is at len t = ap (λ b. cond b (at + 1) len) t
+-- what stands behind the place so many steps on
+pub drop_behind : {X : Type 0} (at step : ℕ) (xs : List X) → drop (behind at step (length xs)) xs ≡ drop step (drop at xs)
+drop_behind at step xs = by (nat_lt step (length xs - at)) refl
+  where
+    by : (b : Bool) → nat_lt step (length xs - at) ≡ b → drop (cond b (at + step) (length xs)) xs ≡ drop step (drop at xs)
+    by true t = sym (drop-drop step at xs)
+    by false t =
+        let i = below_not step (length xs - at) t in
+        drop_all (length xs) xs (omega arith) ∙ sym (drop_all step (drop at xs) (omega (arith, i, length-drop at xs)))
 
 next_aborting : (w : Script) (r : Reply) (l : List UploadRef) → 0 < length l → aborting w.committer (drop 1 l) ≡ clean_hears w (aborting_from l) r
 next_aborting w r [] h = absurd (omega arith)
 next_aborting w r (u ∷ us) h = refl
 
-pub abort_goes : (w : Script) (r : Reply) (found : List UploadRef) (at : ℕ) → nat_lt at (length found) ≡ true → aborting w.committer (drop (behind at (length found)) found) ≡ clean_hears w (aborting_from (drop at found)) r
+pub abort_goes : (w : Script) (r : Reply) (found : List UploadRef) (at : ℕ) → nat_lt at (length found) ≡ true → aborting w.committer (drop (behind at 1 (length found)) found) ≡ clean_hears w (aborting_from (drop at found)) r
 abort_goes w r found at t =
     let i = below_is at (length found) t in
-    ap (λ n. aborting w.committer (drop n found)) (behind_is at (length found) t) ∙ ap (aborting w.committer) (sym (drop-drop 1 at found))
-    ∙ next_aborting w r (drop at found) (omega (arith, i, length-drop at found))
+    ap (aborting w.committer) (drop_behind at 1 found) ∙ next_aborting w r (drop at found) (omega (arith, i, length-drop at found))
 
 next_removing : (w : Script) (r : Reply) (l : List (List ℕ)) → 0 < length l → removing (drop 1 l) ≡ clean_hears w (removing l) r
 next_removing w r [] h = absurd (omega arith)
 next_removing w r (p ∷ ps) h = refl
 
-pub remove_goes : (w : Script) (r : Reply) (paths : List (List ℕ)) (at : ℕ) → nat_lt at (length paths) ≡ true → removing (drop (behind at (length paths)) paths) ≡ clean_hears w (removing (drop at paths)) r
+pub remove_goes : (w : Script) (r : Reply) (paths : List (List ℕ)) (at : ℕ) → nat_lt at (length paths) ≡ true → removing (drop (behind at 1 (length paths)) paths) ≡ clean_hears w (removing (drop at paths)) r
 remove_goes w r paths at t =
     let i = below_is at (length paths) t in
-    ap (λ n. removing (drop n paths)) (behind_is at (length paths) t) ∙ ap removing (sym (drop-drop 1 at paths))
-    ∙ next_removing w r (drop at paths) (omega (arith, i, length-drop at paths))
+    ap removing (drop_behind at 1 paths) ∙ next_removing w r (drop at paths) (omega (arith, i, length-drop at paths))
 
 -- ---- none of these is over
 
@@ -154,14 +160,14 @@ aborts_to c found paths at stage sweep h e =
     ap (λ s. clean_at s found sweep paths at) h ∙ ap (λ w. clean_at (abort_stage c at (length found)) found w paths at) e ∙ aborts_from c found paths at
 
 pub hears_aborting : (w : Script) (r : Reply) (stage : Stage) (found : List UploadRef) (sweep : Sweep) (paths : List (List ℕ)) (at n : ℕ) (c : Committer) (new : Clean)
-    → stage ≡ stages.Aborting → within stage at (length found) (length paths) ≡ true → n ≡ behind at (length found) → c ≡ w.committer → new ≡ aborting c (drop n found) → new ≡ clean_hears w (clean_at stage found sweep paths at) r
+    → stage ≡ stages.Aborting → within stage at (length found) (length paths) ≡ true → n ≡ behind at 1 (length found) → c ≡ w.committer → new ≡ aborting c (drop n found) → new ≡ clean_hears w (clean_at stage found sweep paths at) r
 hears_aborting w r stage found sweep paths at n c new h t e k g =
     g ∙ ap (λ x. aborting x (drop n found)) k ∙ ap (λ m. aborting w.committer (drop m found)) e
     ∙ abort_goes w r found at (ap (λ s. within s at (length found) (length paths)) (sym h) ∙ t)
     ∙ ap (λ s. clean_hears w (clean_at s found sweep paths at) r) (sym h)
 
 pub hears_removing : (w : Script) (r : Reply) (stage : Stage) (found : List UploadRef) (sweep : Sweep) (paths : List (List ℕ)) (at n : ℕ) (new : Clean)
-    → stage ≡ stages.Removing → within stage at (length found) (length paths) ≡ true → n ≡ behind at (length paths) → new ≡ removing (drop n paths) → new ≡ clean_hears w (clean_at stage found sweep paths at) r
+    → stage ≡ stages.Removing → within stage at (length found) (length paths) ≡ true → n ≡ behind at 1 (length paths) → new ≡ removing (drop n paths) → new ≡ clean_hears w (clean_at stage found sweep paths at) r
 hears_removing w r stage found sweep paths at n new h t e g =
     g ∙ ap (λ m. removing (drop m paths)) e
     ∙ remove_goes w r paths at (ap (λ s. within s at (length found) (length paths)) (sym h) ∙ t)

@@ -1,6 +1,6 @@
 -- A clean as it is kept.
-use Rattle.std.specs.Prelude.{ℕ, ◌+◌, nat_lt, Bool, true, cond, List, [], ◌∷◌, drop, length, Option, Some, None}
-use Rattle.job_protocol.specs.Prelude.{Committer, Magic, Directory, Partitioned, Request, AbortUpload, ClusterDelete, UploadRef, Sweep, Clean, Walking, Aborting, Naming, CleanOver, removing}
+use Rattle.std.specs.Prelude.{ℕ, nat_lt, Bool, true, cond, List, [], ◌∷◌, drop, length}
+use Rattle.job_protocol.specs.Prelude.{Committer, Magic, Directory, Partitioned, UploadRef, Sweep, Clean, Walking, Aborting, Naming, CleanOver, removing}
 use Rattle.job_model.specs.declared.ends.CleanEnd.TheVariants as ends
 use Rattle.job_protocol.specs.Cleanups.{Sweeping}
 use Rattle.cleanup.specs.declared.held.Held.{Held}
@@ -38,10 +38,6 @@ within (stages.Over end) at uploads paths = true
 abbrev pub within_of : Held → Bool
 within_of h = within h.stage h.at (length h.uploads) (length h.paths)
 
--- the place behind one of so many
-abbrev pub behind : ℕ → ℕ → ℕ
-behind at len = cond (nat_lt at len) (at + 1) len
-
 -- the stage once all uploads are aborted
 abbrev pub stage_after : Committer → Stage
 stage_after Magic = stages.Sweeping
@@ -55,13 +51,3 @@ abort_stage committer at len = cond (nat_lt at len) stages.Aborting (stage_after
 -- the stage at a place among the cluster's files, or behind the last one
 abbrev pub remove_stage : ℕ → ℕ → Stage
 remove_stage at len = cond (nat_lt at len) stages.Removing (stages.Over ends.Done)
-
--- the requests for the first of these
-abbrev pub abort_asks : List ℕ → List UploadRef → Option Request
-abort_asks bucket [] = None
-abort_asks bucket (u ∷ us) = Some (AbortUpload bucket u.key u.upload)
-
--- the deletion of the first of these cluster files
-abbrev pub remove_asks : List (List ℕ) → Option Request
-remove_asks [] = None
-remove_asks (p ∷ ps) = Some (ClusterDelete p)

@@ -1,8 +1,16 @@
--- A clean among others.
+-- Cleans among others.
+use Rattle.std.specs.Prelude.{◌+◌}
 use Rattle.job_protocol.specs.Prelude.{clean_wants, clean_told, FallsAmong}
+use Rattle.job_protocol.specs.AtWork.{sparing_wants, sparing_told}
 use Rattle.cleanup.specs.Fits.{FitsDriving}
 use Rattle.cleanup.specs.Left.{clean_left}
+use Rattle.cleanup.specs.SparingFits.{FitsSparingDriving, most_commits}
+use Rattle.cleanup.specs.SparingLeft.{sparing_left}
 
 -- one request of another actor raises what is left by at most 3
 abbrev pub CleansEnd : Type 0
 CleansEnd = FallsAmong clean_wants clean_told FitsDriving clean_left 3
+
+-- one request of another actor raises what a sparing clean has left by at most a key or a file, with all that it may name
+abbrev pub SparingsEnd : Type 0
+SparingsEnd = FallsAmong sparing_wants sparing_told FitsSparingDriving sparing_left (3 + most_commits)

@@ -1,5 +1,10 @@
+pub mod Places
 pub mod Held
 pub mod Fits
 pub mod Left
+pub mod SparingHeld
+pub mod SparingFits
+pub mod SparingLeft
 pub mod Laws
 pub mod AskingLaws
+pub mod SparingAskingLaws

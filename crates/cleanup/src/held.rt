@@ -2,13 +2,14 @@ ghost use Rattle.std.specs.Prelude.{◌≡◌, drop, IfOk, OnOk, true};
 ghost use Rattle.job_protocol.specs.AtWork.{job_script};
 ghost use Rattle.list_walk.specs.Walks.{walked_uploads, sweep_hears, all_go};
 ghost use Rattle.job_protocol.specs.Cleanups.{clean_start, clean_asks, clean_hears, walking, aborting, sweeping, naming, removing};
-ghost use Rattle.cleanup.specs.Held.{clean_of, within_of, behind, stage_after, abort_stage, remove_stage};
+ghost use Rattle.cleanup.specs.Held.{clean_of, within_of, stage_after, abort_stage, remove_stage};
 ghost use Rattle.cleanup.specs.Fits.{FitsClean};
 
+use crate::listed::{next_place, shared_texts};
 use crate::requests::{abort_request, names_request, remove_request, sweep_request, walk_request};
 use job_model::{CleanEnd, JobPlan};
 use list_walk::{AllKeys, Sweep, UploadWalk};
-use s3_types::{Committer, Reply, Request, Sequence, Text, TextList, put};
+use s3_types::{Committer, Reply, Request, TextList, put};
 use std::alloc::{AllocError, Global};
 
 /// Where a clean stands.
@@ -36,24 +37,6 @@ pub struct Held {
     pub sweep: Sweep,
     pub paths: TextList,
     pub at: usize,
-}
-
-/// The same texts, which are shared.
-fn shared_texts(alloc: Global, texts: &[Text]) -> Result<TextList, AllocError>
-    ensures { IfOk result (λ copy. copy ≡ texts.now) }
-{
-    let mut copy = Vec::with_capacity(alloc, texts.len())?;
-    for text in texts {
-        copy.push(text.clone()?)?;
-    }
-    Ok(Sequence::from_vec(copy))
-}
-
-/// The place behind one of so many.
-fn next_place(at: usize, len: usize) -> usize
-    ensures { result ≡ behind at len }
-{
-    if at < len { at + 1 } else { len }
 }
 
 /// What follows the last upload.
@@ -195,14 +178,14 @@ impl Held {
         match self.stage {
             Stage::Walking => self.hear_uploads(alloc, plan.committer, reply),
             Stage::Aborting => {
-                let at = next_place(self.at, self.uploads.found().len());
+                let at = next_place(self.at, 1, self.uploads.found().len());
                 self.abort_from(alloc, plan.committer, at);
                 Ok(())
             }
             Stage::Sweeping => self.hear_sweep(alloc, reply),
             Stage::Naming => self.hear_names(alloc, reply),
             Stage::Removing => {
-                let at = next_place(self.at, self.paths.len());
+                let at = next_place(self.at, 1, self.paths.len());
                 self.remove_from(at);
                 Ok(())
             }

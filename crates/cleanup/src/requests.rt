@@ -1,13 +1,13 @@
 ghost use Rattle.std.specs.Prelude.{◌≡◌, ◌++◌, drop, codes, IfOk, Some};
 ghost use Rattle.s3_types.specs.declared.request.Request.TheVariants.{ClusterList};
 ghost use Rattle.magic_paths.specs.Layout as layout;
-ghost use Rattle.list_walk.specs.Walks.{uploads_after, sweep_asks};
-ghost use Rattle.cleanup.specs.Held.{abort_asks, remove_asks};
+ghost use Rattle.list_walk.specs.Walks.{keys_on, page_after, uploads_after, sweep_asks};
+ghost use Rattle.cleanup.specs.Places.{abort_asks, remove_asks, get_asks, get_file_asks, delete_asks};
 
-use list_walk::{Sweep, UploadWalk};
+use list_walk::{KeyWalk, Sweep, UploadWalk, batch_request, keys_behind};
 use magic_paths::{cluster_prefix, dest_prefix, magic_prefix};
 use path_keys::S3Path;
-use s3_types::{Bucket, Request, Text, UploadRef};
+use s3_types::{Bucket, Key, Request, Text, UploadRef};
 use std::alloc::{AllocError, Global};
 
 /// The request for the next page of live uploads below a destination.
@@ -79,4 +79,70 @@ pub fn sweep_request(
 {
     let prefix = magic_prefix(alloc, dest, job)?;
     sweep.ask(alloc, dest.bucket(), &prefix)
+}
+
+/// The request for the next page of keys below a job's magic directory.
+pub fn page_request(
+    alloc: Global,
+    dest: &S3Path,
+    job: &Text,
+    walk: &KeyWalk,
+) -> Result<Option<Request>, AllocError>
+    ensures { IfOk result (λ request. request ≡ Some (page_after dest.now.bucket
+        (layout.magic_prefix dest.now.key job.now) (keys_on walk.now))) }
+{
+    let prefix = magic_prefix(alloc, dest, job)?;
+    match walk.request(dest.bucket(), &prefix) {
+        Ok(request) => Ok(Some(request)),
+        Err(error) => Err(error),
+    }
+}
+
+/// The request that reads the object at the first key behind so many, where there is one.
+pub fn get_request(
+    bucket: &Bucket,
+    keys: &[Key],
+    at: usize,
+) -> Result<Option<Request>, AllocError>
+    ensures { IfOk result (λ request. request ≡ get_asks bucket.now (drop at keys.now)) }
+{
+    let Some(key) = keys.get(at) else {
+        return Ok(None);
+    };
+    match Request::get_object(bucket, key) {
+        Ok(request) => Ok(Some(request)),
+        Err(error) => Err(error),
+    }
+}
+
+/// The request that reads the first of the cluster's files behind so many, where there is one.
+pub fn get_file_request(paths: &[Text], at: usize) -> Result<Option<Request>, AllocError>
+    ensures { IfOk result (λ request. request ≡ get_file_asks (drop at paths.now)) }
+{
+    let Some(path) = paths.get(at) else {
+        return Ok(None);
+    };
+    match Request::cluster_get(path) {
+        Ok(request) => Ok(Some(request)),
+        Err(error) => Err(error),
+    }
+}
+
+/// The request that deletes the keys behind so many, at most 1,000 of them, where there are some.
+pub fn delete_request(
+    alloc: Global,
+    bucket: &Bucket,
+    keys: &[Key],
+    at: usize,
+) -> Result<Option<Request>, AllocError>
+    ensures { IfOk result (λ request. request ≡ delete_asks bucket.now (drop at keys.now)) }
+{
+    let keys = keys_behind(keys, at);
+    if keys.is_empty() {
+        return Ok(None);
+    }
+    match batch_request(alloc, bucket, keys) {
+        Ok(request) => Ok(Some(request)),
+        Err(error) => Err(error),
+    }
 }

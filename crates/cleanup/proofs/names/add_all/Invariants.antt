@@ -1,0 +1,7 @@
+use Rattle.std.proofs.Common.{◌≡◌, ◌++◌, map, drop}
+use Rattle.job_protocol.specs.Sparing.{ref_of}
+use Rattle.cleanup.proofs.names.add_all.Given as goal
+
+-- the uploads so far and those that are left are all
+abbrev pub invariant-loop-pending : goal.invariant-loop-pending
+invariant-loop-pending l = l.named ++ map ref_of (drop l.pending-index l.commits) ≡ l.fn.named ++ map ref_of l.commits

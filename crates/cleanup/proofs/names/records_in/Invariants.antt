@@ -1,0 +1,8 @@
+use Rattle.std.proofs.Common.{◌≡◌, ◌++◌, drop}
+use Rattle.job_protocol.specs.Prelude.{filter}
+use Rattle.magic_paths.specs.Places.{is_record}
+use Rattle.cleanup.proofs.names.records_in.Given as goal
+
+-- the records so far and those that are left are all
+abbrev pub invariant-loop-key : goal.invariant-loop-key
+invariant-loop-key l = l.records ++ filter is_record (drop l.key-index l.keys) ≡ filter is_record l.keys

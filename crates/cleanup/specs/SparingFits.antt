@@ -1,0 +1,39 @@
+-- The replies that fit a sparing clean, and how it stands.
+use Rattle.std.specs.Prelude.{ℕ, ◌≤◌, Bool, length}
+use Rattle.job_protocol.specs.Prelude.{Reply, ClusterBytes, Driving, FitsPage}
+use Rattle.machine.specs.Prelude.{Standing, Fine}
+use Rattle.pending_json.specs.Reading as reading
+use Rattle.job_protocol.specs.Sparing.{Sparing, Walking, Naming, Reading, Aborting, Deleting, Removing, SparingOver, set_names}
+use Rattle.cleanup.specs.Fits.{standing_at}
+
+-- the most uploads that a set names: those of an attempt's files
+abbrev pub most_commits : ℕ
+most_commits = 20000
+
+-- a set that is read names no more uploads than that
+abbrev pub NamesFew : Reply → Type 0
+NamesFew (ClusterBytes bytes) = length (set_names (reading.set_of bytes)) ≤ most_commits
+NamesFew _ = Unit {0}
+
+-- the bucket is there, a page that is not folded has keys alone, and a set names only so many uploads
+abbrev pub FitsSparing : Sparing → Reply → Type 0
+FitsSparing (Walking keys) r = FitsPage r
+FitsSparing Naming r = Unit {0}
+FitsSparing (Reading named p ps all) r = NamesFew r
+FitsSparing (Aborting u us all) r = Unit {0}
+FitsSparing (Deleting k ks) r = Unit {0}
+FitsSparing (Removing p ps) r = Unit {0}
+FitsSparing (SparingOver end) r = Unit {0}
+
+-- a reply that a sparing clean of a plan may be told
+abbrev pub FitsSparingDriving : Driving Sparing → Reply → Bool → Type 0
+FitsSparingDriving m r repeated = FitsSparing m.operation r
+
+-- how a sparing clean stands by its end
+abbrev pub sparing_standing_of : Sparing → Standing
+sparing_standing_of (SparingOver end) = standing_at end
+sparing_standing_of _ = Fine
+
+-- how a sparing clean of a plan stands by its end
+abbrev pub sparing_standing : Driving Sparing → Standing
+sparing_standing m = sparing_standing_of m.operation

@@ -1,0 +1,39 @@
+-- What a sparing clean has left in a scene.
+use Rattle.std.specs.Prelude.{ℕ, ◌+◌, ◌*◌, length}
+use Rattle.job_protocol.specs.Prelude.{Scene, Committer, Magic, Directory, Partitioned, Job, Driving, last_of, keys_left}
+use Rattle.magic_paths.specs.Layout as layout
+use Rattle.list_walk.specs.Left.{files_left}
+use Rattle.job_protocol.specs.Sparing.{Sparing, Walking, Naming, Reading, Aborting, Deleting, Removing, SparingOver}
+use Rattle.cleanup.specs.SparingFits.{most_commits}
+
+-- the most uploads that a place names: a record its own, a set those of an attempt's files
+abbrev pub named_most : Committer → ℕ
+named_most Magic = 1
+named_most Directory = most_commits
+named_most Partitioned = most_commits
+
+-- the reads of so many places, with the abort of all that they may name, of so many more uploads, and the deletion of so many things
+abbrev pub reading_left : Committer → (places named all : ℕ) → ℕ
+reading_left c places named all = (1 + named_most c) * places + named + all
+
+-- the list of so many things, and then for each its read, the abort of all that it may name, and its deletion
+abbrev pub listing_left : Committer → ℕ → ℕ
+listing_left c n = 1 + (2 + named_most c) * n
+
+-- the pages of a walk that knows so many keys where so many are to come, and then what is left of all of them
+abbrev pub walking_left : Committer → (known more : ℕ) → ℕ
+walking_left c known more = more + listing_left c (known + more)
+
+-- the requests that a sparing clean has yet to send: at most so many
+abbrev pub sparing_left_at : Job → Sparing → Scene → ℕ
+sparing_left_at j (Walking keys) s = walking_left j.committer (length keys) (keys_left j.dest.bucket (layout.magic_prefix j.dest.key j.job) (last_of keys) s)
+sparing_left_at j Naming s = listing_left j.committer (files_left (layout.cluster_prefix j.job) s)
+sparing_left_at j (Reading named p ps all) s = reading_left j.committer (1 + length ps) (length named) (length all)
+sparing_left_at j (Aborting u us all) s = 1 + length us + length all
+sparing_left_at j (Deleting k ks) s = 1 + length ks
+sparing_left_at j (Removing p ps) s = 1 + length ps
+sparing_left_at j (SparingOver end) s = 0
+
+-- the requests that a sparing clean of a plan has yet to send
+abbrev pub sparing_left : Driving Sparing → Scene → ℕ
+sparing_left m s = sparing_left_at m.plan m.operation s

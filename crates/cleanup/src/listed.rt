@@ -1,0 +1,27 @@
+ghost use Rattle.std.specs.Prelude.{◌≡◌, IfOk};
+ghost use Rattle.cleanup.specs.Places.{behind};
+
+use s3_types::{Sequence, Text, TextList};
+use std::alloc::{AllocError, Global};
+
+/// The same texts, which are shared.
+pub fn shared_texts(alloc: Global, texts: &[Text]) -> Result<TextList, AllocError>
+    ensures { IfOk result (λ copy. copy ≡ texts.now) }
+{
+    let mut copy = Vec::with_capacity(alloc, texts.len())?;
+    for text in texts {
+        copy.push(text.clone()?)?;
+    }
+    Ok(Sequence::from_vec(copy))
+}
+
+/// The place so many steps on, or the end of so many.
+pub fn next_place(at: usize, step: usize, len: usize) -> usize
+    ensures { result ≡ behind at step len }
+{
+    if step < len.saturating_sub(at) {
+        at + step
+    } else {
+        len
+    }
+}
