@@ -1,5 +1,5 @@
 -- A page moves keys from those that are to come to those that are known.
-use Rattle.std.proofs.Common.{◌≡◌, ℕ, ◌+◌, ◌-◌, ◌<◌, ◌≤◌, Bool, true, false, List, [], ◌++◌, length, nat_lt, take, Option, Some, None, refl, ap, ◌∙◌, arith, length-append, length-drop}
+use Rattle.std.proofs.Common.{◌≡◌, ℕ, ◌+◌, ◌-◌, ◌<◌, ◌≤◌, Bool, true, false, List, ◌++◌, length, nat_lt, take, Option, Some, None, refl, ap, ◌∙◌, arith, length-append, length-drop}
 use Rattle.proof_base.proofs.Common.{length-map, length-take}
 use Rattle.job_protocol.specs.Prelude.{Scene, BucketContent, answer, answer_at, listed, PageEntry, Walked, More, Whole, walked_by, keys_on, last_of, page_after, keys_left, FitsPage}
 use Rattle.std.specs.FinMap as fin

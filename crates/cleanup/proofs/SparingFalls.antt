@@ -1,6 +1,6 @@
 -- What a sparing clean has left falls.
 use Rattle.std.proofs.Common.{◌≡◌, ℕ, ◌+◌, ◌-◌, ◌<◌, ◌≤◌, Bool, true, false, not, List, [], ◌∷◌, ◌++◌, length, drop, Option, Some, None, Result, Ok, Err, refl, sym, ap, subst, ◌∙◌, arith, length-append, length-drop}
-use Rattle.job_protocol.specs.Prelude.{filter, Scene, BucketContent, Object, answer, answer_at, apply, begins, Committer, Magic, Directory, Partitioned, Request, GetObject, UploadRef, Reply, Job, Script, job_script, Walked, More, Whole, last_of, page_after, keys_left, FitsPage, Pending, adds_key, one_if}
+use Rattle.job_protocol.specs.Prelude.{filter, Scene, BucketContent, Object, answer, answer_at, apply, begins, Committer, Magic, Directory, Partitioned, Request, GetObject, UploadRef, Job, Script, job_script, Walked, More, Whole, last_of, page_after, keys_left, FitsPage, Pending, adds_key, one_if}
 use Rattle.std.specs.FinMap as fin
 use Rattle.proof_base.proofs.Options.{some_is}
 use Rattle.std.proofs.lemmas.List.Filters.{length-filter_both}

@@ -1,5 +1,5 @@
 -- How a sparing clean goes on.
-use Rattle.std.specs.Prelude.{◌≡◌, ℕ, List, [], ◌∷◌, ◌++◌, drop, Option, Some, None}
+use Rattle.std.specs.Prelude.{◌≡◌, ℕ, List, [], ◌∷◌, ◌++◌, drop, Some}
 use Rattle.std.proofs.Common.{refl}
 use Rattle.job_protocol.specs.Prelude.{Committer, Magic, Directory, Partitioned, Request, UploadRef, Reply, ClusterNames, Job, job_script, Walked, More, Whole}
 use Rattle.machine.specs.Prelude.{AskLaws, Fine}

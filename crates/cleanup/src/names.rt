@@ -92,11 +92,7 @@ fn add_set(alloc: Global, named: &mut UploadList, bytes: &[u8]) -> Result<(), Al
 }
 
 /// Adds the uploads that an answer names: a record its own, a set all of its uploads. Where nothing stands, none.
-pub fn add_names(
-    alloc: Global,
-    named: &mut UploadList,
-    reply: &Reply,
-) -> Result<(), AllocError>
+pub fn add_names(alloc: Global, named: &mut UploadList, reply: &Reply) -> Result<(), AllocError>
     ensures { OnOk result (named.new ≡ named.old ++ names reply.now) }
 {
     match reply {

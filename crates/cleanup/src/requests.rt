@@ -99,11 +99,7 @@ pub fn page_request(
 }
 
 /// The request that reads the object at the first key behind so many, where there is one.
-pub fn get_request(
-    bucket: &Bucket,
-    keys: &[Key],
-    at: usize,
-) -> Result<Option<Request>, AllocError>
+pub fn get_request(bucket: &Bucket, keys: &[Key], at: usize) -> Result<Option<Request>, AllocError>
     ensures { IfOk result (λ request. request ≡ get_asks bucket.now (drop at keys.now)) }
 {
     let Some(key) = keys.get(at) else {

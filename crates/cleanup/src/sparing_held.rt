@@ -104,9 +104,7 @@ impl Held {
             Stage::Walking => page_request(alloc, &plan.dest, &plan.job, &self.walk),
             Stage::Naming => names_request(alloc, &plan.job),
             Stage::Reading => self.read_request(plan),
-            Stage::Aborting => {
-                abort_request(plan.dest.bucket(), self.named.as_slice(), self.at)
-            }
+            Stage::Aborting => { abort_request(plan.dest.bucket(), self.named.as_slice(), self.at) }
             Stage::Deleting => {
                 delete_request(alloc, plan.dest.bucket(), self.keys.as_slice(), self.at)
             }
@@ -193,13 +191,7 @@ impl Held {
     }
 
     /// Reads these records, of these keys of a magic job.
-    fn read_records(
-        &mut self,
-        alloc: Global,
-        committer: Committer,
-        keys: KeyList,
-        records: KeyList,
-    )
+    fn read_records(&mut self, alloc: Global, committer: Committer, keys: KeyList, records: KeyList)
         requires { lists_keys committer ≡ true }
         ensures goes { sparing_of committer self.new ≡ reading_on committer [] records keys }
         ensures within { within_of committer self.new ≡ true }
