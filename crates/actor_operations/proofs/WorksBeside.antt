@@ -17,7 +17,8 @@ use Rattle.job_facts.proofs.Held.{nth_of, of_sets}
 use Rattle.job_actor.specs.Works.{IsAt, rise_for}
 use Rattle.actor_operations.specs.declared.act.Act.{Act}
 use Rattle.actor_operations.specs.declared.act.Act.TheVariants as acts
-use Rattle.actor_operations.specs.Acts.{most_commits, wants_of, left_of, rise_of}
+use Rattle.cleanup.specs.SparingFits.{most_commits}
+use Rattle.actor_operations.specs.Acts.{wants_of, left_of, rise_of}
 use Rattle.actor_operations.specs.ActLaws.{act_laws}
 use Rattle.actor_operations.specs.Plans.{known_now, running_of, IsOf}
 use Rattle.actor_operations.specs.Beside.{PutsNone, below}

@@ -7,7 +7,7 @@ use Rattle.job_spec.specs.Prelude.{files_in}
 use Rattle.job_facts.proofs.Legal.{written, files_are}
 use Rattle.job_facts.proofs.Replies.{set_answered}
 use Rattle.commit_laws.specs.Laws.{HasFew, ReadsFew}
-use Rattle.actor_operations.specs.Acts.{most_commits}
+use Rattle.cleanup.specs.SparingFits.{most_commits}
 
 -- ---- files apart among others are no more than those
 

@@ -17,7 +17,8 @@ use Rattle.cleanup.proofs.Falling.{cleans_end}
 use Rattle.job_actor.specs.Acts.{ActLaws}
 use Rattle.actor_operations.specs.declared.act.Act.{Act}
 use Rattle.actor_operations.specs.declared.act.Act.TheVariants.{Setup, Write, CommitTask, AbortTask, Commit, Clean}
-use Rattle.actor_operations.specs.Acts.{most_commits, wants_of, tells_of, FitsAct, end_of, left_of, rise_of}
+use Rattle.cleanup.specs.SparingFits.{most_commits}
+use Rattle.actor_operations.specs.Acts.{wants_of, tells_of, FitsAct, end_of, left_of, rise_of}
 use Rattle.actor_operations.specs.Falls.{sending_falls, sending_rises}
 
 -- ---- it asks exactly until it has ended

@@ -12,6 +12,7 @@ use Rattle.job_setup.specs.Fits.{FitsDriving as setup_fits}
 use Rattle.job_setup.specs.Left.{setup_left}
 use Rattle.cleanup.specs.Fits.{FitsDriving as clean_fits}
 use Rattle.cleanup.specs.Left.{clean_left}
+use Rattle.cleanup.specs.SparingFits.{most_commits}
 use Rattle.commit_laws.specs.Laws.{FitsFew, left, rise as commit_rise}
 use Rattle.actor_operations.specs.declared.act.Act.{Act}
 use Rattle.actor_operations.specs.declared.act.Act.TheVariants.{Setup, Write, CommitTask, AbortTask, Commit, Clean}
@@ -31,10 +32,6 @@ abbrev pub sendings_left : {M : Type 0} → (M → Scene → ℕ) → Retrying M
 sendings_left left t s = left t.machine s * (t.retries + 1) + t.spare
 
 -- ---- any operation
-
--- the most uploads of a task's set: those of an attempt's files
-abbrev pub most_commits : ℕ
-most_commits = 20000
 
 -- the request that it asks, if it does
 abbrev pub wants_of : Act → Option Request

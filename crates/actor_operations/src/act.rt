@@ -6,7 +6,8 @@ ghost use Rattle.job_model.specs.declared.ends.OpEnd.TheVariants as ends;
 ghost use Rattle.job_protocol.specs.AtWork.{commit_wants, commit_told};
 ghost use Rattle.commit_laws.specs.Fitting.{without_memory};
 ghost use Rattle.commit_laws.specs.Laws.{FitsFew};
-ghost use Rattle.actor_operations.specs.Acts.{stepped, most_commits, wants_of, tells_of, FitsAct, end_of, left_of, rise_of};
+ghost use Rattle.cleanup.specs.SparingFits.{most_commits};
+ghost use Rattle.actor_operations.specs.Acts.{stepped, wants_of, tells_of, FitsAct, end_of, left_of, rise_of};
 ghost use Rattle.actor_operations.specs.ActLaws.{act_laws};
 
 use crate::ends::{commit_end, setup_end, task_end};

@@ -3,26 +3,11 @@ ghost use Rattle.job_protocol.specs.AtWork.{task_script, who_of};
 ghost use Rattle.job_protocol.specs.Conflicts.{checks_partitions, partitions};
 ghost use Rattle.job_protocol.specs.TaskCommits.{to_check};
 
-use conflict::partitions;
+use conflict::{checks_partitions, partitions};
 use job_model::{JobPlan, TaskPlan};
-use s3_types::{Committer, Mode, Sequence, Text, TextList};
+use s3_types::{Sequence, Text, TextList};
 use std::alloc::{AllocError, Global};
 use task_requests::{file_at, job_of};
-
-/// Whether a task's commit looks for files of the partitions that it writes.
-fn checks_partitions(committer: Committer, mode: Mode) -> bool
-    ensures { result ≡ checks_partitions committer mode }
-{
-    match committer {
-        Committer::Magic => false,
-        Committer::Directory => false,
-        Committer::Partitioned => match mode {
-            Mode::Fail => true,
-            Mode::Append => false,
-            Mode::Replace => false,
-        },
-    }
-}
 
 /// Whether the commits of a job's tasks look for files of the partitions that they write.
 fn is_checked(job: &JobPlan) -> bool
