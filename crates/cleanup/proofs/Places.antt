@@ -1,25 +1,11 @@
 -- Places among uploads and paths.
-use Rattle.std.proofs.Common.{◌≡◌, ℕ, ◌+◌, ◌-◌, suc, zero, ◌<◌, nat_lt, Bool, true, false, cond, List, [], ◌∷◌, length, drop, Option, Some, None, refl, sym, ap, ◌∙◌, arith, length-drop}
-use Rattle.job_protocol.specs.Prelude.{slice_get, Committer, Magic, Directory, Partitioned, AbortUpload, ClusterDelete, UploadRef, Reply, Script, CleanEnd, Sweep, sweep_start, Clean, clean_asks, clean_hears, clean_over, aborted, aborting, removing}
+use Rattle.std.proofs.Common.{◌≡◌, ℕ, ◌+◌, ◌-◌, ◌<◌, nat_lt, Bool, true, false, cond, List, [], ◌∷◌, length, drop, Option, Some, None, refl, sym, ap, ◌∙◌, arith, length-drop}
+use Rattle.job_protocol.specs.Prelude.{Committer, Magic, Directory, Partitioned, UploadRef, Reply, Script, CleanEnd, Sweep, sweep_start, Clean, clean_asks, clean_hears, clean_over, aborted, aborting, removing}
 use Rattle.path_keys.proofs.Common.{drop-drop, drop_all, below_is, below_not}
-use Rattle.job_model.specs.declared.ends.CleanEnd.TheVariants as ends
 use Rattle.cleanup.specs.Places.{behind, abort_asks, remove_asks}
-use Rattle.cleanup.specs.Held.{clean_at, within, abort_stage, stage_after, remove_stage, aborting_from}
+use Rattle.cleanup.specs.Held.{clean_at, within, abort_stage, stage_after, aborting_from}
 use Rattle.cleanup.specs.declared.held.Stage.{Stage}
 use Rattle.cleanup.specs.declared.held.Stage.TheVariants as stages
-
--- what stands behind a place is the value there and the others
-pub got_drop : {X : Type 0} (xs : List X) (i : ℕ) (x : X) → slice_get xs i ≡ Some x → drop i xs ≡ x ∷ drop (suc i) xs
-got_drop [] zero x h = absurd (cc)
-got_drop [] (suc i) x h = absurd (cc)
-got_drop (y ∷ ys) zero x h = let e : y ≡ x = cc in ap (λ z. z ∷ ys) e
-got_drop (y ∷ ys) (suc i) x h = got_drop ys i x h
-
-pub past_drop : {X : Type 0} (xs : List X) (i : ℕ) → slice_get xs i ≡ None → drop i xs ≡ []
-past_drop [] zero h = refl
-past_drop [] (suc i) h = refl
-past_drop (y ∷ ys) zero h = absurd (cc)
-past_drop (y ∷ ys) (suc i) h = past_drop ys i h
 
 none_behind : {X : Type 0} (l : List X) → length l ≡ 0 → l ≡ []
 none_behind [] h = refl
@@ -47,39 +33,6 @@ aborts_from c found paths at =
     ∙ uploads_or c (drop at found) (nat_lt at (length found)) sweep_start paths
     (λ t. let i = below_is at (length found) t in omega (arith, i, length-drop at found))
     (λ t. let i = below_not at (length found) t in none_behind (drop at found) (omega (arith, i, length-drop at found))) refl
-
-pub aborts_within : (c : Committer) (at uploads paths : ℕ) → within (abort_stage c at uploads) at uploads paths ≡ true
-aborts_within c at uploads paths = by (nat_lt at uploads) refl
-  where
-    after : (c : Committer) → within (stage_after c) at uploads paths ≡ true
-    after Magic = refl
-    after _ = refl
-
-    by : (b : Bool) → nat_lt at uploads ≡ b → within (cond b stages.Aborting (stage_after c)) at uploads paths ≡ true
-    by true t = t
-    by false t = after c
-
--- ---- paths
-
-paths_or : (l : List (List ℕ)) (b : Bool) → (b ≡ false → l ≡ []) → cond b (removing l) (removing []) ≡ removing l
-paths_or l true g = refl
-paths_or l false g = ap removing (sym (g refl))
-
-paths_is : (found : List UploadRef) (sweep : Sweep) (paths : List (List ℕ)) (at : ℕ) (b : Bool) → clean_at (cond b stages.Removing (stages.Over ends.Done)) found sweep paths at ≡ cond b (removing (drop at paths)) (removing [])
-paths_is found sweep paths at true = refl
-paths_is found sweep paths at false = refl
-
-pub removes_from : (found : List UploadRef) (sweep : Sweep) (paths : List (List ℕ)) (at : ℕ) → clean_at (remove_stage at (length paths)) found sweep paths at ≡ removing (drop at paths)
-removes_from found sweep paths at =
-    paths_is found sweep paths at (nat_lt at (length paths))
-    ∙ paths_or (drop at paths) (nat_lt at (length paths)) (λ t. let i = below_not at (length paths) t in none_behind (drop at paths) (omega (arith, i, length-drop at paths)))
-
-pub removes_within : (at uploads paths : ℕ) → within (remove_stage at paths) at uploads paths ≡ true
-removes_within at uploads paths = by (nat_lt at paths) refl
-  where
-    by : (b : Bool) → nat_lt at paths ≡ b → within (cond b stages.Removing (stages.Over ends.Done)) at uploads paths ≡ true
-    by true t = t
-    by false t = refl
 
 -- ---- one after another
 
@@ -131,18 +84,6 @@ over_is stages.Removing found sweep paths at t = let i = below_is at (length pat
 over_is _ found sweep paths at t = refl
 
 -- ---- requests
-
-pub abort_got : (bucket : List ℕ) (found : List UploadRef) (at : ℕ) (u : UploadRef) → Some u ≡ slice_get found at → abort_asks bucket (drop at found) ≡ Some (AbortUpload bucket u.key u.upload)
-abort_got bucket found at u h = ap (abort_asks bucket) (got_drop found at u (sym h))
-
-pub abort_none : (bucket : List ℕ) (found : List UploadRef) (at : ℕ) → None ≡ slice_get found at → abort_asks bucket (drop at found) ≡ None
-abort_none bucket found at h = ap (abort_asks bucket) (past_drop found at (sym h))
-
-pub remove_got : (paths : List (List ℕ)) (at : ℕ) (p : List ℕ) → Some p ≡ slice_get paths at → remove_asks (drop at paths) ≡ Some (ClusterDelete p)
-remove_got paths at p h = ap remove_asks (got_drop paths at p (sym h))
-
-pub remove_none : (paths : List (List ℕ)) (at : ℕ) → None ≡ slice_get paths at → remove_asks (drop at paths) ≡ None
-remove_none paths at h = ap remove_asks (past_drop paths at (sym h))
 
 -- the requests of a clean by its stage
 pub asks_aborting : (w : Script) (l : List UploadRef) → clean_asks w (aborting_from l) ≡ abort_asks w.dest.bucket l

@@ -1,6 +1,6 @@
 -- What a sparing clean has left falls.
 use Rattle.std.proofs.Common.{◌≡◌, ℕ, ◌+◌, ◌-◌, ◌<◌, ◌≤◌, Bool, true, false, not, List, [], ◌∷◌, ◌++◌, length, drop, Option, Some, None, Result, Ok, Err, refl, sym, ap, subst, ◌∙◌, arith, length-append, length-drop}
-use Rattle.job_protocol.specs.Prelude.{filter, Scene, BucketContent, Object, answer, answer_at, apply, begins, Committer, Magic, Directory, Partitioned, Request, GetObject, UploadRef, Job, Script, job_script, Walked, More, Whole, last_of, page_after, keys_left, FitsPage, Pending, adds_key, one_if}
+use Rattle.job_protocol.specs.Prelude.{filter, Scene, BucketContent, Object, answer, answer_at, apply, begins, Committer, Magic, Request, GetObject, UploadRef, Job, Script, job_script, Walked, More, Whole, last_of, page_after, keys_left, FitsPage, Pending, adds_key, one_if}
 use Rattle.std.specs.FinMap as fin
 use Rattle.proof_base.proofs.Options.{some_is}
 use Rattle.std.proofs.lemmas.List.Filters.{length-filter_both}
@@ -29,26 +29,22 @@ one_most false = omega arith
 -- one more place is read, which named no more than it may
 read_less : (c : Committer) (places named new all : ℕ) → new ≤ named_most c → reading_left c places (named + new) all < reading_left c (1 + places) named all
 read_less Magic places named new all h = omega arith
-read_less Directory places named new all h = omega arith
-read_less Partitioned places named new all h = omega arith
+read_less _ places named new all h = omega arith
 
 -- a page is walked
 walk_less : (c : Committer) (known more known' more' : ℕ) → known' + more' ≤ known + more → more' < more → walking_left c known' more' < walking_left c known more
 walk_less Magic known more known' more' h l = omega arith
-walk_less Directory known more known' more' h l = omega arith
-walk_less Partitioned known more known' more' h l = omega arith
+walk_less _ known more known' more' h l = omega arith
 
 -- all was listed, and no more places are read
 list_less : (c : Committer) (places all most : ℕ) → places ≤ all → all ≤ most → reading_left c places 0 all < listing_left c most
 list_less Magic places all most h l = omega arith
-list_less Directory places all most h l = omega arith
-list_less Partitioned places all most h l = omega arith
+list_less _ places all most h l = omega arith
 
 -- one thing more is to be listed
 one_more : (c : Committer) (n n' : ℕ) → n' ≤ n + 1 → listing_left c n' ≤ listing_left c n + (2 + most_commits)
 one_more Magic n n' h = omega arith
-one_more Directory n n' h = omega arith
-one_more Partitioned n n' h = omega arith
+one_more _ n n' h = omega arith
 
 key_more : (c : Committer) (known more more' : ℕ) → more' ≤ more + 1 → walking_left c known more' ≤ walking_left c known more + (3 + most_commits)
 key_more c known more more' h = let l = one_more c (known + more) (known + more') (omega arith) in omega (arith, l)
@@ -65,8 +61,7 @@ removing_left j (p ∷ ps) s = omega arith
 
 emptying_left : (c : Committer) (j : Job) (all : List (List ℕ)) (s : Scene) → sparing_left_at j (emptying c all) s ≡ length all
 emptying_left Magic j all s = deleting_left j all s
-emptying_left Directory j all s = removing_left j all s
-emptying_left Partitioned j all s = removing_left j all s
+emptying_left _ j all s = removing_left j all s
 
 aborting_left : (j : Job) (us : List UploadRef) (all : List (List ℕ)) (s : Scene) → sparing_left_at j (aborting j.committer us all) s ≡ length us + length all
 aborting_left j [] all s = let e = emptying_left j.committer j all s in omega (arith, e)
@@ -74,8 +69,7 @@ aborting_left j (u ∷ us) all s = omega arith
 
 none_left : (c : Committer) (named all : ℕ) → named + all ≤ reading_left c 0 named all
 none_left Magic named all = omega arith
-none_left Directory named all = omega arith
-none_left Partitioned named all = omega arith
+none_left _ named all = omega arith
 
 same_places : (c : Committer) (n m named all : ℕ) → n ≡ m → reading_left c n named all ≤ reading_left c m named all
 same_places c n m named all e = let i = ap (λ x. reading_left c x named all) e in omega (arith, i)
@@ -104,8 +98,7 @@ file_few None h = omega arith
 
 named_few : (c : Committer) (w : Script) (p : List ℕ) (s : Scene) → NamesFew (answer s (record_request c w p)) → length (names (answer s (record_request c w p))) ≤ named_most c
 named_few Magic w p s h = object_few (fin.get s.content.buckets w.dest.bucket) s.content.next s.content.minimum w.dest.bucket p
-named_few Directory w p s h = file_few (fin.get s.files p) h
-named_few Partitioned w p s h = file_few (fin.get s.files p) h
+named_few _ w p s h = file_few (fin.get s.files p) h
 
 -- ---- it falls
 
@@ -126,8 +119,7 @@ to_come j keys s = keys_left j.dest.bucket (layout.magic_prefix j.dest.key j.job
 
 list_walked : (c : Committer) (known more n : ℕ) → n < listing_left c (known + more) → n < walking_left c known more
 list_walked Magic known more n h = omega arith
-list_walked Directory known more n h = omega arith
-list_walked Partitioned known more n h = omega arith
+list_walked _ known more n h = omega arith
 
 walked_left : (j : Job) (keys : List (List ℕ)) (s : Scene) (x : Walked (List ℕ)) → Moved j.dest.bucket (layout.magic_prefix j.dest.key j.job) s (length keys + to_come j keys s) (to_come j keys s) x
     → sparing_left_at j (walking j.committer x) s < sparing_left_at j (Walking keys) s
@@ -191,18 +183,15 @@ falls_at j (SparingOver end) s r e h = absurd (none_some e)
 
 some_walking : (c : Committer) (known more : ℕ) → 0 < walking_left c known more
 some_walking Magic known more = omega arith
-some_walking Directory known more = omega arith
-some_walking Partitioned known more = omega arith
+some_walking _ known more = omega arith
 
 some_listing : (c : Committer) (n : ℕ) → 0 < listing_left c n
 some_listing Magic n = omega arith
-some_listing Directory n = omega arith
-some_listing Partitioned n = omega arith
+some_listing _ n = omega arith
 
 some_reading : (c : Committer) (places named all : ℕ) → 0 < reading_left c (1 + places) named all
 some_reading Magic places named all = omega arith
-some_reading Directory places named all = omega arith
-some_reading Partitioned places named all = omega arith
+some_reading _ places named all = omega arith
 
 some_left : (j : Job) (x : Sparing) (s : Scene) (r : Request) → sparing_asks (job_script j) x ≡ Some r → 0 < sparing_left_at j x s
 some_left j (Walking keys) s r e = some_walking j.committer (length keys) (to_come j keys s)

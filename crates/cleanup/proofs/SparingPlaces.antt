@@ -1,29 +1,16 @@
 -- Places among what a sparing clean listed.
-use Rattle.std.proofs.Common.{◌≡◌, ℕ, ◌<◌, ◌≤◌, nat_lt, Bool, true, false, not, List, [], ◌∷◌, ◌++◌, length, drop, Option, Some, None, refl, sym, ap, ◌∙◌, arith, length-drop}
+use Rattle.std.proofs.Common.{◌≡◌, ℕ, ◌<◌, nat_lt, Bool, true, List, [], ◌∷◌, ◌++◌, length, drop, Option, Some, None, refl, sym, ap, ◌∙◌, arith, length-drop}
 use Rattle.job_protocol.specs.Prelude.{Committer, Magic, Directory, Partitioned, UploadRef, Reply, Script, CleanEnd, keys_on}
-use Rattle.path_keys.proofs.Common.{drop_all, below_is, false_true}
-use Rattle.job_model.specs.declared.ends.CleanEnd.TheVariants as ends
-use Rattle.job_protocol.specs.Sparing.{Sparing, SparingOver, sparing_asks, sparing_hears, sparing_over, names, deleting, removing, emptying, aborting, reading_on}
+use Rattle.path_keys.proofs.Common.{below_is}
+use Rattle.job_protocol.specs.Sparing.{Sparing, sparing_asks, sparing_hears, sparing_over, names, deleting, removing, aborting, reading_on}
 use Rattle.cleanup.specs.Places.{behind, abort_asks, remove_asks, get_asks, get_file_asks, delete_asks}
-use Rattle.cleanup.specs.SparingHeld.{lists_keys, by_committer, places_of, all_of, reading_from, aborting_from, sparing_at, sparing_of, within, within_of, read_asks}
+use Rattle.cleanup.specs.SparingHeld.{lists_keys, places_of, all_of, reading_from, aborting_from, sparing_at, sparing_of, within, within_of, read_asks}
 use Rattle.cleanup.proofs.Places.{drop_behind}
 use Rattle.cleanup.specs.declared.sparing_held.Held.{Held}
 use Rattle.cleanup.specs.declared.sparing_held.Stage.{Stage}
 use Rattle.cleanup.specs.declared.sparing_held.Stage.TheVariants as stages
 
--- ---- by the committer
-
-pub by_keys : {X : Type 0} (c : Committer) (x y : X) → lists_keys c ≡ true → by_committer c x y ≡ x
-by_keys Magic x y h = refl
-by_keys Directory x y h = absurd (false_true refl h)
-by_keys Partitioned x y h = absurd (false_true refl h)
-
-pub by_paths : {X : Type 0} (c : Committer) (x y : X) → lists_keys c ≡ false → by_committer c x y ≡ y
-by_paths Magic x y h = absurd (false_true h refl)
-by_paths Directory x y h = refl
-by_paths Partitioned x y h = refl
-
--- ---- a place that is there, or past the end
+-- ---- a place that is there
 
 some_read : (c : Committer) (named : List UploadRef) (ps all : List (List ℕ)) → 0 < length ps → reading_from named ps all ≡ reading_on c named ps all
 some_read c named [] all h = absurd (omega arith)
@@ -32,24 +19,12 @@ some_read c named (p ∷ ps) all h = refl
 pub reads_at : (c : Committer) (named : List UploadRef) (places all : List (List ℕ)) (at : ℕ) → at < length places → reading_from named (drop at places) all ≡ reading_on c named (drop at places) all
 reads_at c named places all at h = some_read c named (drop at places) all (omega (arith, h, length-drop at places))
 
-pub reads_past : (c : Committer) (named : List UploadRef) (places all : List (List ℕ)) (at : ℕ) → length places ≤ at → aborting c named all ≡ reading_on c named (drop at places) all
-reads_past c named places all at h = ap (λ ps. reading_on c named ps all) (sym (drop_all at places h))
-
 some_aborted : (c : Committer) (us : List UploadRef) (all : List (List ℕ)) → 0 < length us → aborting_from us all ≡ aborting c us all
 some_aborted c [] all h = absurd (omega arith)
 some_aborted c (u ∷ us) all h = refl
 
 pub aborts_at : (c : Committer) (named : List UploadRef) (all : List (List ℕ)) (at : ℕ) → at < length named → aborting_from (drop at named) all ≡ aborting c (drop at named) all
 aborts_at c named all at h = some_aborted c (drop at named) all (omega (arith, h, length-drop at named))
-
-pub aborts_past : (c : Committer) (named : List UploadRef) (all : List (List ℕ)) (at : ℕ) → length named ≤ at → emptying c all ≡ aborting c (drop at named) all
-aborts_past c named all at h = ap (λ us. aborting c us all) (sym (drop_all at named h))
-
-pub deletes_past : (keys : List (List ℕ)) (at : ℕ) → length keys ≤ at → SparingOver ends.Done ≡ deleting (drop at keys)
-deletes_past keys at h = ap deleting (sym (drop_all at keys h))
-
-pub removes_past : (paths : List (List ℕ)) (at : ℕ) → length paths ≤ at → SparingOver ends.Done ≡ removing (drop at paths)
-removes_past paths at h = ap removing (sym (drop_all at paths h))
 
 -- the place so many steps on, as it is counted
 pub next_behind : {X : Type 0} (at step n len : ℕ) (xs : List X) → n ≡ behind at step len → len ≡ length xs → drop n xs ≡ drop step (drop at xs)
@@ -78,10 +53,6 @@ reads_file w c h e = directory_read w (drop h.at h.paths) ∙ ap (λ c. read_ask
 pub reads_partition : (w : Script) (c : Committer) (h : Held) → c ≡ Partitioned → get_file_asks (drop h.at h.paths) ≡ read_asks c w (drop h.at (places_of c h))
 reads_partition w c h e = partitioned_read w (drop h.at h.paths) ∙ ap (λ c. read_asks c w (drop h.at (places_of c h))) (sym e)
 
-asks_reading : (w : Script) (named : List UploadRef) (ps all : List (List ℕ)) → read_asks w.committer w ps ≡ sparing_asks w (reading_from named ps all)
-asks_reading w named [] all = refl
-asks_reading w named (p ∷ ps) all = refl
-
 asks_aborting : (w : Script) (us : List UploadRef) (all : List (List ℕ)) → abort_asks w.dest.bucket us ≡ sparing_asks w (aborting_from us all)
 asks_aborting w [] all = refl
 asks_aborting w (u ∷ us) all = refl
@@ -103,14 +74,6 @@ hears_reading w r named (p ∷ ps) all h = refl
 hears_aborting : (w : Script) (r : Reply) (us : List UploadRef) (all : List (List ℕ)) → 0 < length us → aborting w.committer (drop 1 us) all ≡ sparing_hears w (aborting_from us all) r
 hears_aborting w r [] all h = absurd (omega arith)
 hears_aborting w r (u ∷ us) all h = refl
-
-hears_deleting : (w : Script) (r : Reply) (ks : List (List ℕ)) → 0 < length ks → deleting (drop 1000 ks) ≡ sparing_hears w (deleting ks) r
-hears_deleting w r [] h = absurd (omega arith)
-hears_deleting w r (k ∷ ks) h = refl
-
-hears_removing : (w : Script) (r : Reply) (ps : List (List ℕ)) → 0 < length ps → removing (drop 1 ps) ≡ sparing_hears w (removing ps) r
-hears_removing w r [] h = absurd (omega arith)
-hears_removing w r (p ∷ ps) h = refl
 
 -- ---- none of these is over
 
@@ -151,27 +114,11 @@ module _ (c : Committer) (h : Held) where
   abbrev there : Stage → Bool
   there s = within s (lists_keys c) h.at (length (places_of c h)) (length h.named) (length h.keys) (length h.paths)
 
-  pub lists_first : h.stage ≡ stages.Walking → within_of c h ≡ true → lists_keys c ≡ true
-  lists_first e t = ap there (sym e) ∙ t
-
-  pub names_first : h.stage ≡ stages.Naming → within_of c h ≡ true → lists_keys c ≡ false
-  names_first e t = by (lists_keys c) (ap there (sym e) ∙ t)
-    where
-      by : (b : Bool) → not b ≡ true → b ≡ false
-      by true i = absurd (false_true refl i)
-      by false i = refl
-
   some_places : h.stage ≡ stages.Reading → within_of c h ≡ true → 0 < length (drop h.at (places_of c h))
   some_places e t = some_behind h.at (places_of c h) (ap there (sym e) ∙ t)
 
   some_named : h.stage ≡ stages.Aborting → within_of c h ≡ true → 0 < length (drop h.at h.named)
   some_named e t = some_behind h.at h.named (ap there (sym e) ∙ t)
-
-  some_keys : h.stage ≡ stages.Deleting → within_of c h ≡ true → 0 < length (drop h.at h.keys)
-  some_keys e t = some_behind h.at h.keys (ap there (sym e) ∙ t)
-
-  some_paths : h.stage ≡ stages.Removing → within_of c h ≡ true → 0 < length (drop h.at h.paths)
-  some_paths e t = some_behind h.at h.paths (ap there (sym e) ∙ t)
 
   over_by : (s : Stage) → there s ≡ true → sparing_over (kept s) ≡ end_at s
   over_by stages.Reading t = goes_reading h.named (drop h.at (places_of c h)) (all_of c h) (some_behind h.at (places_of c h) t)
@@ -184,9 +131,6 @@ module _ (c : Committer) (h : Held) where
   over_is t = over_by h.stage t
 
   module _ (w : Script) where
-    pub asks_at_reading : h.stage ≡ stages.Reading → read_asks w.committer w (drop h.at (places_of c h)) ≡ sparing_asks w (sparing_of c h)
-    asks_at_reading e = asks_reading w h.named (drop h.at (places_of c h)) (all_of c h) ∙ ap (λ s. sparing_asks w (kept s)) (sym e)
-
     pub asks_at_aborting : h.stage ≡ stages.Aborting → abort_asks w.dest.bucket (drop h.at h.named) ≡ sparing_asks w (sparing_of c h)
     asks_at_aborting e = asks_aborting w (drop h.at h.named) (all_of c h) ∙ ap (λ s. sparing_asks w (kept s)) (sym e)
 
@@ -202,9 +146,3 @@ module _ (c : Committer) (h : Held) where
 
       pub hears_at_aborting : h.stage ≡ stages.Aborting → within_of c h ≡ true → aborting w.committer (drop 1 (drop h.at h.named)) (all_of c h) ≡ sparing_hears w (sparing_of c h) r
       hears_at_aborting e t = hears_aborting w r (drop h.at h.named) (all_of c h) (some_named e t) ∙ ap (λ s. sparing_hears w (kept s) r) (sym e)
-
-      pub hears_at_deleting : h.stage ≡ stages.Deleting → within_of c h ≡ true → deleting (drop 1000 (drop h.at h.keys)) ≡ sparing_hears w (sparing_of c h) r
-      hears_at_deleting e t = hears_deleting w r (drop h.at h.keys) (some_keys e t) ∙ ap (λ s. sparing_hears w (kept s) r) (sym e)
-
-      pub hears_at_removing : h.stage ≡ stages.Removing → within_of c h ≡ true → removing (drop 1 (drop h.at h.paths)) ≡ sparing_hears w (sparing_of c h) r
-      hears_at_removing e t = hears_removing w r (drop h.at h.paths) (some_paths e t) ∙ ap (λ s. sparing_hears w (kept s) r) (sym e)

@@ -1,12 +1,11 @@
 -- How a sparing clean goes on.
 use Rattle.std.specs.Prelude.{◌≡◌, ℕ, List, [], ◌∷◌, ◌++◌, drop, Some}
 use Rattle.std.proofs.Common.{refl}
-use Rattle.job_protocol.specs.Prelude.{Committer, Magic, Directory, Partitioned, Request, UploadRef, Reply, ClusterNames, Job, job_script, Walked, More, Whole}
+use Rattle.job_protocol.specs.Prelude.{filter, Committer, Magic, Request, UploadRef, Reply, ClusterNames, Job, job_script, Walked, More, Whole}
 use Rattle.machine.specs.Prelude.{AskLaws, Fine}
 use Rattle.list_walk.specs.Walks.{walked}
 use Rattle.job_protocol.specs.AtWork.{sparing_wants, sparing_told}
 use Rattle.magic_paths.specs.Places.{is_record}
-use Rattle.job_protocol.specs.Prelude.{filter}
 use Rattle.job_protocol.specs.Sparing.{Sparing, Walking, Naming, Reading, Aborting, Deleting, Removing, SparingOver, sparing_asks, sparing_hears, names, deleting, removing, emptying, aborting, reading_on, walking, naming}
 use Rattle.cleanup.specs.SparingFits.{FitsSparingDriving, sparing_standing, sparing_standing_of}
 
@@ -20,8 +19,7 @@ fine_removing (p ∷ ps) = refl
 
 fine_emptying : (c : Committer) (all : List (List ℕ)) → sparing_standing_of (emptying c all) ≡ Fine
 fine_emptying Magic all = fine_deleting all
-fine_emptying Directory all = fine_removing all
-fine_emptying Partitioned all = fine_removing all
+fine_emptying _ all = fine_removing all
 
 fine_aborting : (c : Committer) (us : List UploadRef) (all : List (List ℕ)) → sparing_standing_of (aborting c us all) ≡ Fine
 fine_aborting c [] all = fine_emptying c all

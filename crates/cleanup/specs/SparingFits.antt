@@ -3,7 +3,7 @@ use Rattle.std.specs.Prelude.{ℕ, ◌≤◌, Bool, length}
 use Rattle.job_protocol.specs.Prelude.{Reply, ClusterBytes, Driving, FitsPage}
 use Rattle.machine.specs.Prelude.{Standing, Fine}
 use Rattle.pending_json.specs.Reading as reading
-use Rattle.job_protocol.specs.Sparing.{Sparing, Walking, Naming, Reading, Aborting, Deleting, Removing, SparingOver, set_names}
+use Rattle.job_protocol.specs.Sparing.{Sparing, Walking, Reading, SparingOver, set_names}
 use Rattle.cleanup.specs.Fits.{standing_at}
 
 -- the most uploads that a set names: those of an attempt's files
@@ -18,12 +18,8 @@ NamesFew _ = Unit {0}
 -- the bucket is there, a page that is not folded has keys alone, and a set names only so many uploads
 abbrev pub FitsSparing : Sparing → Reply → Type 0
 FitsSparing (Walking keys) r = FitsPage r
-FitsSparing Naming r = Unit {0}
 FitsSparing (Reading named p ps all) r = NamesFew r
-FitsSparing (Aborting u us all) r = Unit {0}
-FitsSparing (Deleting k ks) r = Unit {0}
-FitsSparing (Removing p ps) r = Unit {0}
-FitsSparing (SparingOver end) r = Unit {0}
+FitsSparing _ r = Unit {0}
 
 -- a reply that a sparing clean of a plan may be told
 abbrev pub FitsSparingDriving : Driving Sparing → Reply → Bool → Type 0
