@@ -1,21 +1,24 @@
 -- The answers that are due to the driver's machines.
-use Rattle.std.proofs.Common.{◌≡◌, ℕ, ◌<◌, ◌≤◌, ◌^◌, ◌⊎◌, inl, inr, true, false, List, length, Option, Some, None, refl, sym, ap, subst, ◌∙◌}
-use Rattle.job_facts.specs.Prelude.{named_from, Scene, Upload, live, with_key, joined, answer, complete_answer, IsHonestOutcome, Request, PutObject, Deleted, Refused, NoSuchBucket, Outcome, Answered, Pending, HasBucket, IsLegal, Script, Turn, nth, completion, abort, deletion, Setup, dest_prefix, Clean, Sets, all_commits, set_request, set_read, ok_set, Commit, Fetching, Replacing, Completing, Marking, Reverting, CommitOver, job_of, setup_wants, clean_wants, commit_wants, Seen, magic_prefix, FitsSweep, Told, sets_at, Hold, SetsUp, IsCommit, Gone, Commits, Tabled, Reads}
+use Rattle.std.proofs.Common.{◌≡◌, ℕ, ◌<◌, ◌≤◌, ◌^◌, ◌⊎◌, inl, inr, true, false, List, [], length, Option, Some, None, refl, sym, ap, subst, ◌∙◌}
+use Rattle.job_facts.specs.Prelude.{named_from, Scene, Upload, live, with_key, joined, answer, complete_answer, IsHonestOutcome, Request, PutObject, ListPage, Deleted, Refused, NoSuchBucket, Outcome, Answered, Pending, HasBucket, IsLegal, Script, Turn, nth, completion, abort, deletion, Setup, dest_prefix, partition_prefix, Clean, Sets, all_commits, set_request, set_read, ok_set, Commit, Fetching, Replacing, Completing, Marking, Reverting, CommitOver, job_of, setup_wants, clean_wants, commit_wants, Seen, magic_prefix, FitsSweep, Told, sets_at, Hold, SetsUp, IsCommit, Gone, Commits, Tabled, Reads}
 use Rattle.job_spec.specs.Prelude.{abort_answer, Stored}
 use Rattle.job_spec.proofs.Common.{some_is, none_some, true_or_false}
-use Rattle.job_protocol.specs.Prelude.{FitsCompletion}
+use Rattle.job_protocol.specs.Prelude.{FitsCompletion, lacks_bucket}
 use Rattle.s3_types.specs.Tags.{plain_tag}
 use Rattle.job_protocol.specs.Setup as setup
 use Rattle.job_protocol.specs.Cleanups as clean
 use Rattle.job_setup.specs.Fits as setups
 use Rattle.cleanup.specs.Fits as cleans
+use Rattle.job_protocol.specs.Rechecks as checks
+use Rattle.conflict.specs.Rechecks.{check_wants}
+use Rattle.conflict.specs.Fits.{FitsLook, FitsCheck}
 use Rattle.commit_laws.specs.Fitting.{SpellsSet, FitsReply, FitsCommit}
 use Rattle.job_facts.specs.Turning.{Turns}
 use Rattle.job_facts.proofs.Held.{nth_of, of_sets}
 use Rattle.job_facts.proofs.Replies.{completed, set_reply, bytes_read}
 use Rattle.job_facts.proofs.Shapes.{id_before, answer_is}
 use Rattle.job_facts.proofs.Turning.{turn_answered}
-use Rattle.job_refinement.specs.Plans.{driving, committing}
+use Rattle.job_refinement.specs.Plans.{driving, committing, rechecking}
 use Rattle.job_refinement.specs.Due.{FitsDue, SetStands}
 use Rattle.job_refinement.proofs.Pages.{page_fits, sweep_fits, uploads_fit}
 use Rattle.job_refinement.proofs.HeldSets.{set_is, same_read}
@@ -31,6 +34,14 @@ pub clean_due : (w : Script) (s : Scene) → HasBucket s.content w.dest.bucket �
 clean_due w s there (clean.Walking found) r e repeated = subst (λ q. cleans.FitsClean (clean.Walking found) (answer s q)) (some_is e) (uploads_fit w s there (dest_prefix w) found)
 clean_due w s there (clean.Sweeping v) r e repeated = subst (λ q. cleans.FitsClean (clean.Sweeping v) (answer s q)) (some_is e) (sweep_fits w s there (magic_prefix w.dest.key w.job) v)
 clean_due w s there _ r e repeated = tt
+
+-- ---- a check before a commit
+
+pub check_due : (w : Script) (s : Scene) → HasBucket s.content w.dest.bucket → (partitions : List (List ℕ)) (c : checks.Check) → FitsDue check_wants FitsCheck (rechecking w partitions c) s
+check_due w s there ps (checks.Looking keys) r e repeated = subst (λ q. FitsLook (checks.Looking keys) (answer s q)) (some_is e) (page_fits w s there (dest_prefix w) keys)
+check_due w s there ps (checks.Probing d ds) r e repeated =
+    subst (λ q. FitsLook (checks.Probing d ds) (answer s q)) (some_is e) (ap lacks_bucket (answer_is w s there.0 there.1 (ListPage w.dest.bucket (partition_prefix w d) false [] 1) refl))
+check_due w s there ps _ r e repeated = tt
 
 -- ---- the job's commit
 

@@ -6,8 +6,11 @@ use Rattle.task_machines.specs.Commits.{commit_fits}
 use Rattle.task_machines.specs.Aborts.{abort_fits}
 use Rattle.job_setup.specs.Fits as setups
 use Rattle.cleanup.specs.Fits as cleans
+use Rattle.job_protocol.specs.Rechecks.{Check}
+use Rattle.conflict.specs.Rechecks.{check_wants}
+use Rattle.conflict.specs.Fits.{FitsCheck}
 use Rattle.commit_laws.specs.Fitting as jobs
-use Rattle.job_refinement.specs.Plans.{at_work, planned, driving, driven, committing, heard, known_then}
+use Rattle.job_refinement.specs.Plans.{at_work, planned, driving, driven, committing, rechecking, heard, known_then}
 use Rattle.job_refinement.specs.Due.{FitsDue, ReadsOwn, SetStands, AllPublished, IsSameTold}
 use Rattle.job_refinement.specs.Picked.{ArePicked, IsEachPicked}
 
@@ -23,6 +26,7 @@ pub record DueFits : Type 0 where
   -- these need the bucket alone
   pub abort : (w : Script) (minimum : ℕ) (s : Scene) → HasBucket s.content w.dest.bucket → (a : Who) (k : Known) (t : TaskAbort) → FitsDue task_abort_wants abort_fits (at_work w minimum a k t) s
   pub clean : (w : Script) (s : Scene) → HasBucket s.content w.dest.bucket → (t : Clean) → FitsDue clean_wants cleans.FitsDriving (driving w t) s
+  pub check : (w : Script) (s : Scene) → HasBucket s.content w.dest.bucket → (partitions : List (List ℕ)) (c : Check) → FitsDue check_wants FitsCheck (rechecking w partitions c) s
   -- a set-up finds out whether it is there
   pub setup : (w : Script) (s : Scene) (t : Setup) → SetsUp w s.content t → FitsDue setup_wants setups.FitsDriving (driving w t) s
   -- of the job's commit every outcome that is honest, where the set that it reads next stands; that a sending of a completion was lost

@@ -1,6 +1,8 @@
 -- Where the machines of a job's actors stand, by the script that their plans are of.
 use Rattle.std.specs.Prelude.{ℕ, Bool, true, false, List, Option, Some, None}
 use Rattle.job_facts.specs.Prelude.{Request, Outcome, Answered, Slow, RequestLost, ReplyLost, Item, Got, WornOut, Retried, is_zero, Who, Known, Script, Commit, Attempting, Driving, Committing, job_of, task_of, learned}
+use Rattle.job_protocol.specs.Rechecks.{Check}
+use Rattle.conflict.specs.Rechecks.{PlannedCheck}
 
 -- ---- operations with the plans that the script gives
 
@@ -23,6 +25,10 @@ driven w t = record { operation = driving w t.operation; spare = t.spare; repeat
 -- the driver's commit, with the attempts whose sets it has read
 abbrev pub committing : Script → List ℕ → Commit → Committing
 committing w picked c = record { plan = job_of w; picked = picked; operation = c }
+
+-- a check before a commit that goes by these partitions, with the driver's plan
+abbrev pub rechecking : Script → List (List ℕ) → Check → PlannedCheck
+rechecking w partitions c = record { plan = record { job = job_of w; partitions = partitions }; operation = c }
 
 -- ---- what a machine is told of a sending, and knows then
 

@@ -1,6 +1,6 @@
 use Rattle.job_spec.proofs.Told.{last_still}
 use Rattle.job_refinement.proofs.Attempts.{write_due, commit_due, abort_due}
-use Rattle.job_refinement.proofs.Drivers.{setup_due, clean_due, job_due}
+use Rattle.job_refinement.proofs.Drivers.{setup_due, clean_due, check_due, job_due}
 use Rattle.job_refinement.proofs.Committed.{commits_begin, commits_go, still_unclean, commits_beside, commits_foreign}
 use Rattle.job_refinement.proofs.Kept.{reads_begin, reads_go, set_stands}
 use Rattle.job_refinement.proofs.answers.Goals as goal
@@ -12,6 +12,7 @@ returns c = record {
     commit = λ w minimum s last m j f few a k e t fits own. commit_due w minimum s last m j f a k e few t fits own;
     abort = abort_due;
     clean = clean_due;
+    check = check_due;
     setup = setup_due;
     job_commit = λ w minimum s m c j v few stands picked r e o honest. job_due w minimum s m j few c v stands picked r e o honest;
   };
