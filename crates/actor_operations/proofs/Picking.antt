@@ -1,8 +1,8 @@
 -- What a job's operations have picked, beside what is seen.
 use Rattle.std.proofs.Common.{◌≡◌, ℕ, suc, ◌+◌, ◌||◌, false, List, [], ◌∷◌, ◌++◌, length, Option, Some, None, refl, sym, ap, subst, ◌∙◌, arith}
-use Rattle.job_steps.specs.Prelude.{is_some, Content, Request, Actor, Driver, Outcome, Answered, Slow, RequestLost, ReplyLost, Entry, PendingSet, Script, Known, Pick, setup_asks, clean_asks, Fetching, Replacing, Completing, Marking, Reverting, CommitOver, set_read, job_script, Setting, Seen, see, is_begun, is_reading, Play, Sends, MaySend, happen}
+use Rattle.job_steps.specs.Prelude.{is_some, Content, Request, Actor, Driver, Outcome, Answered, Slow, RequestLost, ReplyLost, Entry, PendingSet, Script, Known, Pick, setup_asks, clean_asks, Fetching, Replacing, Completing, Marking, Reverting, CommitOver, set_read, job_script, Setting, Seen, see, is_reading, Play, Sends, MaySend, happen}
 use Rattle.job_spec.proofs.Common.{some_is, none_some}
-use Rattle.job_facts.specs.Prelude.{with_pick, picked_after}
+use Rattle.job_facts.specs.Prelude.{with_pick, picked_after, Times, is_picking}
 use Rattle.list_walk.specs.Walks as walks
 use Rattle.job_protocol.specs.Setup as setups
 use Rattle.job_protocol.specs.Cleanups as cleans
@@ -73,7 +73,7 @@ clean_reads w v (cleans.Sweeping (walks.Listing keys)) r e t = ap (is_reading w 
 clean_reads w v (cleans.CleanOver end) r e t = absurd (none_some refl e)
 clean_reads w v _ r e t = ap (is_reading w t) (sym (some_is e))
 
-module _ (w : Script) (k : Option ℕ) (s : Seen) (n : ℕ) (r : Request) where
+module _ (w : Script) (k : Times) (s : Seen) (n : ℕ) (r : Request) where
   -- what is seen of the picks after the request
   abbrev Leaves : Actor → Outcome → Type 0
   Leaves a o = (see w k s (record { event = n; actor = a; request = r; outcome = o })).picks ≡ s.picks
@@ -82,14 +82,14 @@ module _ (w : Script) (k : Option ℕ) (s : Seen) (n : ℕ) (r : Request) where
   driver_leaves a is none o = subst (λ b. Leaves b o) (sym is) (by o)
     where
       by : (o : Outcome) → Leaves Driver o
-      by (Answered x) = λ i t. left (s.begun || is_begun k n) (is_reading w t r) (s.last t) (s.picks t) (none t) i
+      by (Answered x) = λ i t. left (is_picking k s.begun n) (is_reading w t r) (s.last t) (s.picks t) (none t) i
       by _ = refl
 
   attempt_leaves : (a : Actor) → IsAttempt a → (o : Outcome) → Leaves a o
   attempt_leaves a is o = subst (λ b. Leaves b o) (sym is.2) (attempt_picks w k s (record { task = is.0; attempt = is.1 }) n r o)
 
 pub act_leaves : (g : Setting) (opening : Content) (x : Play) (a : Actor) (work : Act) → IsAt IsOf running_of g opening x a work → picks_of work ≡ None → (r : Request) → wants_of work ≡ Some r
-    → (k : Option ℕ) (s : Seen) (n : ℕ) (o : Outcome) → (see g.script k s (record { event = n; actor = a; request = r; outcome = o })).picks ≡ s.picks
+    → (k : Times) (s : Seen) (n : ℕ) (o : Outcome) → (see g.script k s (record { event = n; actor = a; request = r; outcome = o })).picks ≡ s.picks
 act_leaves g opening x a (Setup t) at none r asked k s n o = driver_leaves g.script k s n r a at.goes_by.actor (setup_reads g.script (job_script t.machine.plan) t.machine.operation r asked) o
 act_leaves g opening x a (Commit c) at none r asked k s n o = absurd (none_some none refl)
 act_leaves g opening x a (Clean t) at none r asked k s n o = driver_leaves g.script k s n r a at.goes_by.actor (clean_reads g.script (job_script t.machine.plan) t.machine.operation r asked) o

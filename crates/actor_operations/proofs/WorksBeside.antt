@@ -132,11 +132,11 @@ module _ (w : Script) (b : Who) where
     job_none (Replacing sets p ps (Listing keys) n) v r q = free_of r (ap adds_key (sym (some_is q)))
     job_none (Replacing sets p ps (Deleting k ks) n) v r q = free_of r (ap adds_key (sym (some_is q)))
     job_none (Completing sets x xs finished) v r q =
-        let drives = commit_drives w minimum None s m 0 j v.hold (Completing sets x xs finished) v.fits r q in
+        let drives = commit_drives w minimum (record { commit = None; clean = None }) s m 0 j v.hold (Completing sets x xs finished) v.fits r q in
         let p = nth (all_commits sets) x.number in
         let o = of_sets j v.hold sets v.fits p (nth_of (all_commits sets) x.number (v.tabled.within x (inl refl))) in
         driving_none r drives (ap bucket_of (sym (some_is q)) ∙ ap (λ (z : Pending). z.bucket) o.1.commit.is)
-    job_none (Marking sets n) v r q = driving_none r (commit_drives w minimum None s m 0 j v.hold (Marking sets n) v.fits r q) (ap bucket_of (sym (some_is q)))
+    job_none (Marking sets n) v r q = driving_none r (commit_drives w minimum (record { commit = None; clean = None }) s m 0 j v.hold (Marking sets n) v.fits r q) (ap bucket_of (sym (some_is q)))
     job_none (Reverting z zs n) v r q = subst FreeOf (some_is q) (elim (v.decides z (inl refl)).2 [ inl is ↦ free_of z (ap adds_key is) | inr is ↦ free_of z (ap adds_key is) ])
     job_none (CommitOver end) v r q = absurd (none_some refl q)
 

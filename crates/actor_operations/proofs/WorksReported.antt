@@ -1,6 +1,6 @@
 -- Until the driver cleans up each task has a last publisher where the driver's commit reads sets.
 use Rattle.std.proofs.Common.{◌≡◌, ℕ, inl, inr, nat_lt, Bool, true, false, cond, List, [], ◌∷◌, ◌++◌, length, Option, Some, None, refl, sym, ap, subst, ◌∙◌, arith}
-use Rattle.job_steps.specs.Prelude.{Content, Driver, Reply, Outcome, Answered, Slow, Entry, Request, Known, IsLegal, Script, Op, Event, Do, Start, EventEnd, Sweep, sweep_hears, Turn, again, follow, dealt, revert, Sets, all_commits, set_read, is_no_magic, Commit, Fetching, Replacing, Completing, Marking, Reverting, CommitOver, completing, replacing, fetching, fetched, swept, reverting, worn_completion, commit_misses, commit_tells, commit_start, Setting, Operation, TheCommit, who, tells, start_of, Seen, see_all, nothing_seen, missing, commit_event, IsOpening, HasPublished, Play, Refuses, Opens, Sends, Finishes, Closes, knows_now, begun, open_running, hear, happen, MaySend, Reachable, nothing_happened, happens, Strays, Ahead, operation_of, strange_entry}
+use Rattle.job_steps.specs.Prelude.{Content, Driver, Reply, Outcome, Answered, Slow, Entry, Request, Known, IsLegal, Script, Op, Event, Do, Start, EventEnd, Sweep, sweep_hears, Turn, again, follow, dealt, revert, Sets, all_commits, set_read, is_no_magic, Commit, Fetching, Replacing, Completing, Marking, Reverting, CommitOver, completing, replacing, fetching, fetched, swept, reverting, worn_completion, commit_misses, commit_tells, commit_start, Setting, Operation, TheCommit, who, tells, start_of, Seen, see_all, nothing_seen, missing, IsOpening, HasPublished, Play, Refuses, Opens, Sends, Finishes, Closes, knows_now, begun, open_running, hear, happen, MaySend, Reachable, nothing_happened, happens, Strays, Ahead, operation_of, strange_entry, times}
 use Rattle.job_model.specs.declared.events.Op.TheVariants as ops
 use Rattle.job_steps.proofs.Actors.{same_or_not, put_here, put_other}
 use Rattle.job_steps.proofs.Running.{sent_ahead, finished_ahead, opened_ahead, refused_ahead, not_refused, closed_ahead, strayed_ahead}
@@ -97,7 +97,7 @@ module _ (g : Setting) (opening : Content) (j : IsLegal g.script) (is_opening : 
   w = g.script
 
   abbrev seen_by : Play → Seen
-  seen_by x = see_all w (commit_event w all_ends) (nothing_seen opening) x.journal
+  seen_by x = see_all w (times w all_ends) (nothing_seen opening) x.journal
 
   driver_opened : (y : Play) (ev : Event) → AllReported y.past.reported (seen_by y) → DriverReads w (seen_by y) (operation_of (y.running Driver)) → DriverReads w (seen_by y) (operation_of (open_running g y ev Driver))
   driver_opened y (Do Driver op) all old = driver_begins g y.past.reported (seen_by y) all op (knows_now g y Driver)

@@ -1,7 +1,7 @@
 -- What the actors of a job are at, request by request: as far as what has happened says.
 use Rattle.std.proofs.Common.{◌≡◌, ℕ, ◌⊎◌, inl, inr, true, List, [], ◌∷◌, ◌++◌, Option, Some, None, refl, sym, ap, subst, ◌∙◌}
-use Rattle.job_steps.specs.Prelude.{Content, Actor, Driver, Magic, Retried, Who, actor_of, IsLegal, Script, Done, Sweep, Sets, picks_of, replaced, Commit, Fetching, Replacing, Setting, Operation, TheSetup, TheCommit, Running, Seen, commit_event, Told, tell_all, nothing_told, Commits, Stand, IsOpening, is_set, Play, Reachable, scene_of, times, IsRun, operation_of}
-use Rattle.job_facts.specs.Prelude.{Setup, SetupOver, SetsUp}
+use Rattle.job_steps.specs.Prelude.{Content, Actor, Driver, Magic, Retried, Who, actor_of, IsLegal, Script, Done, Sweep, Sets, picks_of, replaced, Commit, Fetching, Replacing, Setting, Operation, TheSetup, TheCommit, Running, Seen, Told, tell_all, nothing_told, Commits, Stand, IsOpening, is_set, Play, Reachable, scene_of, times, IsRun, operation_of}
+use Rattle.job_facts.specs.Prelude.{Setup, SetupOver, SetsUp, Times}
 use Rattle.job_spec.proofs.Common.{none_some}
 use Rattle.job_model.specs.declared.ends.SetupEnd.TheVariants as setups
 use Rattle.job_traces.proofs.Running.{Replaces, InCommit, At, Early, Late}
@@ -28,8 +28,8 @@ module _ (g : Setting) (opening : Content) (x : Play) (j : IsLegal g.script) (is
   abbrev w : Script
   w = g.script
 
-  abbrev pub event : Option ℕ
-  event = commit_event w (x.ends ++ Done ∷ [])
+  abbrev pub event : Times
+  event = times w (x.ends ++ Done ∷ [])
 
   -- the same run, request by request
   pub run : IsRun g opening x (times w (x.ends ++ Done ∷ []))

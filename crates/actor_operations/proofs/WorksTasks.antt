@@ -1,6 +1,6 @@
 -- What attempts are at in a run: a task's commit reads records of its own files alone.
 use Rattle.std.proofs.Common.{◌≡◌, ℕ, List, Option, Some, refl}
-use Rattle.job_steps.specs.Prelude.{Content, Outcome, Entry, fresh, Who, IsLegal, Script, write_start, task_commit_start, task_abort_start, Setting, Operation, TheWrite, TheTaskCommit, TheTaskAbort, tells, known, Stand, Runs, run_begins, driver_sends, attempt_sends, IsOpening, Beginning, BeginWrite, BeginPublish, BeginAbort, begin, actor_begins, strays}
+use Rattle.job_steps.specs.Prelude.{Content, Outcome, Entry, fresh, Who, IsLegal, Script, write_start, task_commit_start, task_abort_start, Setting, Operation, TheWrite, TheTaskCommit, TheTaskAbort, tells, known, Stand, Runs, run_begins, driver_sends, attempt_sends, IsOpening, Beginning, BeginWrite, BeginPublish, BeginAbort, begin, actor_begins, strays, Times}
 use Rattle.job_spec.proofs.Common.{none_some}
 use Rattle.job_facts.proofs.Whose.{put_at}
 use Rattle.job_refinement.specs.Due.{ReadsOwn}
@@ -16,7 +16,7 @@ own_tells g a _ o h = tt
 
 -- ---- every run
 
-module _ (g : Setting) (k : Option ℕ) (opening : Content) (j : IsLegal g.script) (is_opening : IsOpening g opening) where
+module _ (g : Setting) (k : Times) (opening : Content) (j : IsLegal g.script) (is_opening : IsOpening g opening) where
   abbrev w : Script
   w = g.script
 
@@ -27,7 +27,7 @@ module _ (g : Setting) (k : Option ℕ) (opening : Content) (j : IsLegal g.scrip
   own_begin y _ old a op e = old a op e
 
   pub own_task : (es : List Entry) (x : Stand) → Runs g k opening es x → (a : Who) (op : Operation) → x.attempts a ≡ Some op → OwnTask w a op
-  own_task es x (run_begins c) a op e = absurd (none_some refl e)
+  own_task es x run_begins a op e = absurd (none_some refl e)
   own_task es x (actor_begins fs y b run may) a op e = own_begin y b (own_task fs y run) a op e
   own_task es x (driver_sends fs y v n r o run d asked timely few honest) a op e = own_task fs y run a op e
   own_task es x (attempt_sends fs y b v n r o run set at asked honest) a op e = put_at (OwnTask w) y.attempts b (tells g b v o) (own_tells g b v o (own_task fs y run b v at)) (own_task fs y run) a op e

@@ -1,10 +1,10 @@
 -- That the picks which the job's commit keeps are those that are seen, after each of its sendings.
-use Rattle.std.proofs.Common.{◌≡◌, ℕ, ◌<◌, ◌≤◌, ◌^◌, inl, inr, ◌||◌, true, false, zero, suc, List, [], ◌∷◌, ◌++◌, length, take, Option, Some, None, refl, sym, ap, subst, ◌∙◌, arith}
-use Rattle.job_steps.specs.Prelude.{is_some, Content, Scene, answer, IsHonestOutcome, Request, Driver, Reply, Outcome, Answered, Slow, RequestLost, ReplyLost, Entry, PendingSet, Known, IsLegal, Script, Pick, Listing, Sets, picks_of, set_request, set_read, Commit, Fetching, Replacing, Completing, Marking, Reverting, CommitOver, commit_asks, Setting, TheCommit, wants, Seen, see, see_by, see_all, nothing_seen, is_begun, is_reading, commit_event, picks_below, Told, driver_entry, Hold, Decides, IsOpening, is_set, Play, Sends, happen, MaySend, Reachable, times, operation_of}
+use Rattle.std.proofs.Common.{◌≡◌, ℕ, ◌<◌, ◌≤◌, ◌^◌, inl, inr, true, false, zero, suc, List, [], ◌∷◌, ◌++◌, length, take, Option, Some, None, refl, sym, ap, subst, ◌∙◌, arith}
+use Rattle.job_steps.specs.Prelude.{is_some, Content, Scene, answer, IsHonestOutcome, Request, Driver, Reply, Outcome, Answered, Slow, RequestLost, ReplyLost, Entry, PendingSet, Known, IsLegal, Script, Pick, Listing, Sets, picks_of, set_request, set_read, Commit, Fetching, Replacing, Completing, Marking, Reverting, CommitOver, commit_asks, Setting, TheCommit, wants, Seen, see, see_by, see_all, nothing_seen, is_begun, is_reading, picks_below, Told, driver_entry, Hold, Decides, IsOpening, is_set, Play, Sends, happen, MaySend, Reachable, times, operation_of, Times, is_picking}
 use Rattle.job_spec.proofs.Common.{some_is, none_some, same_or_not}
-use Rattle.job_facts.proofs.Whose.{or_true}
 use Rattle.job_facts.proofs.Agreeing.{AgreeBelow, Agrees}
 use Rattle.job_traces.proofs.Running.{At, InCommit}
+use Rattle.job_traces.proofs.Steps.{commit_picks}
 use Rattle.job_traces.proofs.Entries.{take_all, see_more, sees, late_now}
 use Rattle.job_traces.proofs.Changes.{moment_scene}
 use Rattle.job_steps.proofs.RunningNumbers.{begun_at}
@@ -26,7 +26,7 @@ abbrev pub picks_then : List Pick → Commit → Outcome → List Pick
 picks_then ps (Fetching sets n) (Answered x) = with_read ps (set_read x)
 picks_then ps c o = ps
 
-module _ (w : Script) (minimum : ℕ) (j : IsLegal w) (k : Option ℕ) (s : Seen) (m : Told) (n : ℕ) (hold : Hold w minimum s m) (uncleaned : m.cleaned ≡ false) (few : s.scene.content.next ≤ 2 ^ 64) (begun : (s.begun || is_begun k n) ≡ true)
+module _ (w : Script) (minimum : ℕ) (j : IsLegal w) (k : Times) (s : Seen) (m : Told) (n : ℕ) (hold : Hold w minimum s m) (uncleaned : m.cleaned ≡ false) (few : s.scene.content.next ≤ 2 ^ 64) (begun : is_picking k s.begun n ≡ true)
     (ps : List Pick) (are : ps ≡ picks_below s.picks w.tasks) where
   abbrev After : Commit → Request → Outcome → Type 0
   After c r o = picks_then ps c o ≡ picks_below (see w k s (driver_entry n r o)).picks w.tasks
@@ -38,10 +38,10 @@ module _ (w : Script) (minimum : ℕ) (j : IsLegal w) (k : Option ℕ) (s : Seen
 
   module _ (sets : Sets) (i : ℕ) (low : length sets < w.tasks) (agree : AgreeBelow w s.picks sets (length sets)) (free : Free w s.picks (Fetching sets i)) where
     abbrev now : ℕ → Option ℕ
-    now = next w j s (s.begun || is_begun k n) begun (length sets) low
+    now = next w j s (is_picking k s.begun n) begun (length sets) low
 
     other : (t : ℕ) → t < w.tasks → (t ≡ length sets → ⊥) → now t ≡ s.picks t
-    other = next_other w j s (s.begun || is_begun k n) begun (length sets) low
+    other = next_other w j s (is_picking k s.begun n) begun (length sets) low
 
     -- nothing was read, and nothing is picked
     none_read : s.last (length sets) ≡ None → ps ≡ picks_below now w.tasks
@@ -49,14 +49,14 @@ module _ (w : Script) (minimum : ℕ) (j : IsLegal w) (k : Option ℕ) (s : Seen
       where
         at : (t : ℕ) → t < w.tasks → now t ≡ s.picks t
         at t l = elim (same_or_not t (length sets)) [
-          | inl is ↦ ap now is ∙ next_here w j s (s.begun || is_begun k n) begun (length sets) low ∙ none ∙ sym (free (length sets) (omega arith) low) ∙ ap s.picks (sym is)
+          | inl is ↦ ap now is ∙ next_here w j s (is_picking k s.begun n) begun (length sets) low ∙ none ∙ sym (free (length sets) (omega arith) low) ∙ ap s.picks (sym is)
           | inr ne ↦ other t l ne
         ]
 
     one_read : (h : PendingSet) → s.last (length sets) ≡ Some h.attempt → with_read ps (Some h) ≡ picks_below now w.tasks
     one_read h latest =
         ap (λ (v : List Pick). v ++ record { task = length v; attempt = h.attempt } ∷ []) are
-        ∙ below_more s.picks now (length sets) w.tasks h.attempt low (λ t l. ap is_some (agree t l) ∙ there sets t l) free other (next_here w j s (s.begun || is_begun k n) begun (length sets) low ∙ latest)
+        ∙ below_more s.picks now (length sets) w.tasks h.attempt low (λ t l. ap is_some (agree t l) ∙ there sets t l) free other (next_here w j s (is_picking k s.begun n) begun (length sets) low ∙ latest)
 
     read : (x : Reply) → x ≡ answer s.scene (set_request w.committer w (length sets)) → After (Fetching sets i) (set_request w.committer w (length sets)) (Answered x)
     read x e = elim (reads_so w minimum j s m hold uncleaned few (length sets) low x e) [
@@ -67,7 +67,7 @@ module _ (w : Script) (minimum : ℕ) (j : IsLegal w) (k : Option ℕ) (s : Seen
   -- ---- what reads no set
 
   unread_so : (r : Request) (x : Reply) → ((t : ℕ) → is_reading w t r ≡ false) → ps ≡ picks_below (see w k s (driver_entry n r (Answered x))).picks w.tasks
-  unread_so r x none = are ∙ below_same s.picks (see w k s (driver_entry n r (Answered x))).picks w.tasks (λ t l. sym (left (s.begun || is_begun k n) (is_reading w t r) (s.last t) (s.picks t) (none t)))
+  unread_so r x none = are ∙ below_same s.picks (see w k s (driver_entry n r (Answered x))).picks w.tasks (λ t l. sym (left (is_picking k s.begun n) (is_reading w t r) (s.last t) (s.picks t) (none t)))
 
   heard : (c : Commit) → Decides w minimum m.publish_sent m.drawn c → Agrees w s.picks c → Free w s.picks c → (r : Request) → commit_asks w c ≡ Some r → (x : Reply) → x ≡ answer s.scene r → After c r (Answered x)
   heard (Fetching sets i) low agree free r e x honest =
@@ -101,13 +101,13 @@ module _ (g : Setting) (opening : Content) (j : IsLegal g.script) (is_opening : 
   abbrev w : Script
   w = g.script
 
-  whole : (k : Option ℕ) (es : List Entry) → picks_below (see_all w k (nothing_seen opening) (take (length es) es)).picks w.tasks ≡ picks_below (see_all w k (nothing_seen opening) es).picks w.tasks
+  whole : (k : Times) (es : List Entry) → picks_below (see_all w k (nothing_seen opening) (take (length es) es)).picks w.tasks ≡ picks_below (see_all w k (nothing_seen opening) es).picks w.tasks
   whole k es = ap (λ v. picks_below (see_all w k (nothing_seen opening) v).picks w.tasks) (take_all es (length es) (omega arith))
 
   pub picks_go_on : (c : Commit) (known : Known) → x.running Driver ≡ Some (record { operation = TheCommit c; known = known }) → (ps : List Pick) → ArePicksOf g opening x ps
       → (e : Entry) → e.actor ≡ Driver → MaySend g opening x e → ArePicksOf g opening (happen g x (Sends e)) (picks_then ps c e.outcome)
   picks_go_on c known at ps are e is may xs ahead =
-      let k = commit_event w xs in
+      let k = times w xs in
       let old = sent_ahead g x e xs ahead in
       let h = (carried g opening j is_opening x past xs old).along in
       let s = h.stand.seen in
@@ -122,9 +122,9 @@ module _ (g : Setting) (opening : Content) (j : IsLegal g.script) (is_opening : 
       let asked : commit_asks w c ≡ Some e.request = ap (wants g e.actor) (sym same) ∙ may.asked in
       let honest : IsHonestOutcome e.outcome (answer s.scene e.request) = subst (λ (v : Scene). IsHonestOutcome e.outcome (answer v e.request)) scene may.honest in
       let few : s.scene.content.next ≤ 2 ^ 64 = subst (λ (v : Scene). v.content.next ≤ 2 ^ 64) scene may.few in
-      let timed : is_begun k (number x.now (length x.ends)) ≡ true = (subst (IsTimed (begun_at (times w xs) (number x.now (length x.ends)))) (ap operation_of at) h.timed).0 in
+      let timed = subst (IsTimed (begun_at (times w xs) (number x.now (length x.ends)))) (ap operation_of at) h.timed in
       let here : e.event ≡ number x.now (length x.ends) = may.number ∙ sym (ap (λ o. number o (length x.ends)) may.during) in
-      let begun : (s.begun || is_begun k e.event) ≡ true = ap (λ v. s.begun || is_begun k v) here ∙ ap (λ b. s.begun || b) timed ∙ or_true s.begun in
+      let begun = commit_picks k s.begun e.event (ap (is_begun k.commit) here ∙ timed.0) (ap (is_begun k.clean) here ∙ timed.1) in
       let before : ps ≡ picks_below s.picks w.tasks = are xs old ∙ whole k x.journal ∙ ap (λ (v : Seen). picks_below v.picks w.tasks) (sym seen_is) in
       let after = sent_picks w g.minimum j k s m e.event l.hold i.uncleaned few begun ps before c i.decides i.agrees free e.request asked e.outcome honest in
       let by : see w k s e ≡ see w k s (driver_entry e.event e.request e.outcome) = ap (see_by w k s e.event e.request e.outcome) is in

@@ -1,7 +1,7 @@
 -- That the driver's commit is at work exactly where it was begun last, and that nothing is picked before it.
 use Rattle.std.proofs.Common.{◌≡◌, ℕ, zero, suc, ◌+◌, true, [], ◌++◌, length, Option, Some, None, refl, sym, ap, subst, ◌∙◌, arith}
 use Rattle.job_spec.proofs.Common.{false≢true, none_some}
-use Rattle.job_steps.specs.Prelude.{Content, Actor, Driver, Outcome, Entry, Known, IsLegal, Op, Setup, Event, Do, Start, ActorState, Picks, Setting, Operation, TheSetup, Running, who, tells, start_of, Seen, see_all, nothing_seen, put, missing, open_event, refusal, driver_may, begins_commit, is_commit, commit_event, picked, picks_below, Told, IsOpening, is_just_set, Play, Refuses, Opens, Sends, Finishes, Closes, Strays, begun, knows_now, open_running, hear, MayOpen, Reachable, nothing_happened, happens, operation_of}
+use Rattle.job_steps.specs.Prelude.{Content, Actor, Driver, Outcome, Entry, Known, IsLegal, Op, Setup, Event, Do, Start, ActorState, Picks, Setting, Operation, TheSetup, Running, who, tells, start_of, Seen, see_all, nothing_seen, put, missing, open_event, refusal, driver_may, begins_commit, is_commit, picked, picks_below, Told, IsOpening, is_just_set, Play, Refuses, Opens, Sends, Finishes, Closes, Strays, begun, knows_now, open_running, hear, MayOpen, Reachable, nothing_happened, happens, operation_of, times}
 use Rattle.job_model.specs.declared.events.Op.TheVariants.{Commit}
 use Rattle.job_traces.proofs.Running.{At}
 use Rattle.job_traces.proofs.Entries.{take_all, sees, late_now}
@@ -72,7 +72,7 @@ module _ (g : Setting) (opening : Content) (j : IsLegal g.script) (is_opening : 
 
   none_picked : (x : Play) → Reachable g opening x → (ev : Event) → begins_commit ev ≡ true → MayOpen g x ev None → ArePicksOf g opening x []
   none_picked x past ev begins may xs ahead =
-      let k = commit_event g.script xs in
+      let k = times g.script xs in
       let c = carried g opening j is_opening x past xs ahead in
       let h = c.along in
       let at : DriverAt (x.past.state Driver).stage (x.past.state Driver).life (operation_of (x.running Driver)) = subst (λ s. DriverAt (s Driver).stage (s Driver).life (operation_of (x.running Driver))) (c.rest may.idle) h.driver_at in

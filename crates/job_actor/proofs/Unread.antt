@@ -1,13 +1,13 @@
 -- While the job's commit reads, nothing is picked of the tasks whose sets it has yet to read.
-use Rattle.std.proofs.Common.{◌≡◌, ℕ, nat_lt, ◌<◌, ◌≤◌, ◌^◌, ◌⊎◌, inl, inr, ◌&&◌, ◌||◌, Bool, true, false, cond, List, [], ◌∷◌, ◌++◌, length, Option, Some, None, refl, sym, ap, subst, ◌∙◌, arith, length-append}
-use Rattle.job_steps.specs.Prelude.{Content, answer, IsHonestOutcome, Request, Driver, Reply, Outcome, Answered, Slow, Entry, PendingSet, Who, IsLegal, Script, CommitEnd, Picks, files_set, Sweep, sweep_hears, Turn, again, follow, dealt, revert, Sets, picks_of, all_commits, set_request, set_read, Commit, Fetching, Replacing, Completing, Marking, Reverting, CommitOver, is_no_magic, completing, replaced, replacing, fetching, fetched, swept, reverting, worn_completion, commit_start, commit_asks, commit_misses, commit_tells, Setting, Operation, TheSetup, TheCommit, who, asks, tells, Seen, see, is_begun, Told, entry, driver_entry, Hold, knowing, Decides, Stand, Beginning, BeginSetup, BeginCommit, BeginClean, begin, Runs, run_begins, actor_begins, driver_sends, attempt_sends, strays, IsOpening, IsTimely, nothing_learnt, is_set}
-use Rattle.job_facts.specs.Prelude.{same_path, ok_set, decided, picks_by, sets_at, IsSetAnswer}
+use Rattle.std.proofs.Common.{◌≡◌, ℕ, nat_lt, ◌<◌, ◌≤◌, ◌^◌, ◌⊎◌, inl, inr, ◌&&◌, Bool, true, false, cond, List, [], ◌∷◌, ◌++◌, length, Option, Some, None, refl, sym, ap, subst, ◌∙◌, arith, length-append}
+use Rattle.job_steps.specs.Prelude.{Content, answer, IsHonestOutcome, Request, Driver, Reply, Outcome, Answered, Slow, Entry, PendingSet, Who, IsLegal, Script, CommitEnd, Picks, files_set, Sweep, sweep_hears, Turn, again, follow, dealt, revert, Sets, picks_of, all_commits, set_request, set_read, Commit, Fetching, Replacing, Completing, Marking, Reverting, CommitOver, is_no_magic, completing, replaced, replacing, fetching, fetched, swept, reverting, worn_completion, commit_start, commit_asks, commit_misses, commit_tells, Setting, Operation, TheSetup, TheCommit, who, asks, tells, Seen, see, Told, entry, driver_entry, Hold, knowing, Decides, Stand, Beginning, BeginSetup, BeginCommit, BeginClean, begin, Runs, run_begins, actor_begins, driver_sends, attempt_sends, strays, IsOpening, IsTimely, nothing_learnt, is_set}
+use Rattle.job_facts.specs.Prelude.{same_path, ok_set, decided, picks_by, sets_at, IsSetAnswer, Times, is_picking}
 use Rattle.job_spec.proofs.Common.{some_is, none_some, none_or_some, same_or_not}
 use Rattle.job_traces.specs.Runs.{MayBegin}
-use Rattle.job_facts.proofs.Whose.{or_true}
 use Rattle.job_facts.proofs.Reading.{reads_it, reads_other}
 use Rattle.job_facts.proofs.Replies.{set_reply, bytes_read}
 use Rattle.job_traces.proofs.Running.{At, InCommit}
+use Rattle.job_traces.proofs.Steps.{commit_picks}
 use Rattle.job_traces.proofs.Entries.{late_now}
 use Rattle.job_traces.proofs.EveryRun.{just_set}
 use Rattle.job_actor.proofs.Picking.{unpicked}
@@ -105,7 +105,7 @@ module _ (w : Script) (p : Picks) where
   free_missed (Reverting r rs n) lost h = free_either (nat_lt n w.retries) _ _ tt (free_reverting rs)
   free_missed (CommitOver end) lost h = tt
 
-module _ (w : Script) (minimum : ℕ) (j : IsLegal w) (k : Option ℕ) (s : Seen) (m : Told) (n : ℕ) (hold : Hold w minimum s m) (uncleaned : m.cleaned ≡ false) (few : s.scene.content.next ≤ 2 ^ 64) (begun : (s.begun || is_begun k n) ≡ true) where
+module _ (w : Script) (minimum : ℕ) (j : IsLegal w) (k : Times) (s : Seen) (m : Told) (n : ℕ) (hold : Hold w minimum s m) (uncleaned : m.cleaned ≡ false) (few : s.scene.content.next ≤ 2 ^ 64) (begun : is_picking k s.begun n ≡ true) where
   abbrev picks_after : Request → Outcome → Picks
   picks_after r o = (see w k s (driver_entry n r o)).picks
 
@@ -114,14 +114,14 @@ module _ (w : Script) (minimum : ℕ) (j : IsLegal w) (k : Option ℕ) (s : Seen
 
   module _ (sets : Sets) (i : ℕ) (low : length sets < w.tasks) (free : Free w s.picks (Fetching sets i)) where
     abbrev now : Picks
-    now = next w j s (s.begun || is_begun k n) begun (length sets) low
+    now = next w j s (is_picking k s.begun n) begun (length sets) low
 
     other : (t : ℕ) → t < w.tasks → (t ≡ length sets → ⊥) → now t ≡ s.picks t
-    other = next_other w j s (s.begun || is_begun k n) begun (length sets) low
+    other = next_other w j s (is_picking k s.begun n) begun (length sets) low
 
     unpublished : s.last (length sets) ≡ None → (t : ℕ) → length sets ≤ t → t < w.tasks → now t ≡ None
     unpublished none t l h = elim (same_or_not t (length sets)) [
-      | inl is ↦ ap now is ∙ next_here w j s (s.begun || is_begun k n) begun (length sets) low ∙ none
+      | inl is ↦ ap now is ∙ next_here w j s (is_picking k s.begun n) begun (length sets) low ∙ none
       | inr ne ↦ other t h ne ∙ free t l h
     ]
 
@@ -149,26 +149,23 @@ module _ (w : Script) (minimum : ℕ) (j : IsLegal w) (k : Option ℕ) (s : Seen
   free_next c low free r e _ honest = free_missed w s.picks c true free
 
 -- an attempt picks nothing
-pub attempt_picks : (w : Script) (k : Option ℕ) (s : Seen) (a : Who) (n : ℕ) (r : Request) (o : Outcome) → (see w k s (entry a n r o)).picks ≡ s.picks
+pub attempt_picks : (w : Script) (k : Times) (s : Seen) (a : Who) (n : ℕ) (r : Request) (o : Outcome) → (see w k s (entry a n r o)).picks ≡ s.picks
 attempt_picks w k s a n r (Answered x) = refl
 attempt_picks w k s a n r _ = refl
 
 -- ---- every run
 
-module _ (g : Setting) (k : Option ℕ) (opening : Content) (j : IsLegal g.script) (is_opening : IsOpening g opening) where
+module _ (g : Setting) (k : Times) (opening : Content) (j : IsLegal g.script) (is_opening : IsOpening g opening) where
   abbrev w : Script
   w = g.script
 
-  begun_now : (s : Seen) (n : ℕ) → is_begun k n ≡ true → (s.begun || is_begun k n) ≡ true
-  begun_now s n e = ap (λ b. s.begun || b) e ∙ or_true s.begun
-
-  sent : (fs : List Entry) (y : Stand) (op : Operation) (n : ℕ) (r : Request) (o : Outcome) → Runs g k opening fs y → y.driver ≡ Some op → asks g (who Driver) nothing_learnt op ≡ Some r → IsTimely k y.told.cleans_at n op → y.seen.scene.content.next ≤ 2 ^ 64
+  sent : (fs : List Entry) (y : Stand) (op : Operation) (n : ℕ) (r : Request) (o : Outcome) → Runs g k opening fs y → y.driver ≡ Some op → asks g (who Driver) nothing_learnt op ≡ Some r → IsTimely k n op → y.seen.scene.content.next ≤ 2 ^ 64
       → IsHonestOutcome o (answer y.seen.scene r) → FreeAt w y.seen.picks y.driver → FreeAt w (see w k y.seen (driver_entry n r o)).picks (Some (tells g (who Driver) op o))
   sent fs y (TheSetup t) n r o run d asked timely few honest free = tt
   sent fs y (TheCommit c) n r o run d asked timely few honest free =
       let l = late_now g k opening j is_opening fs y run (ap is_set d) in
       let i : InCommit g opening y.seen.picks y.told c = subst (λ v. At g opening v y.seen y.told) d l.driver in
-      free_next w g.minimum j k y.seen y.told n l.hold i.uncleaned few (begun_now y.seen n timely.0) c i.decides (subst (FreeAt w y.seen.picks) d free) r asked o honest
+      free_next w g.minimum j k y.seen y.told n l.hold i.uncleaned few (commit_picks k y.seen.begun n timely.0 timely.1) c i.decides (subst (FreeAt w y.seen.picks) d free) r asked o honest
   sent fs y _ n r o run d asked timely few honest free = tt
 
   begin_unread : (fs : List Entry) (y : Stand) (b : Beginning) → Runs g k opening fs y → MayBegin g y b → FreeAt w y.seen.picks y.driver → FreeAt w y.seen.picks (begin g y b).driver
@@ -180,7 +177,7 @@ module _ (g : Setting) (k : Option ℕ) (opening : Content) (j : IsLegal g.scrip
   begin_unread fs y _ run may free = free
 
   pub unread : (es : List Entry) (x : Stand) → Runs g k opening es x → FreeAt w x.seen.picks x.driver
-  unread es x (run_begins c) = tt
+  unread es x run_begins = tt
   unread es x (actor_begins fs y b run may) = begin_unread fs y b run may (unread fs y run)
   unread es x (driver_sends fs y op n r o run d asked timely few honest) = sent fs y op n r o run d asked timely few honest (unread fs y run)
   unread es x (attempt_sends fs y a op n r o run set at asked honest) = subst (λ p. FreeAt w p y.driver) (sym (attempt_picks w k y.seen a n r o)) (unread fs y run)

@@ -1,6 +1,6 @@
 -- The plans that a script gives to the actors of its job.
-use Rattle.std.specs.Prelude.{◌≡◌, ℕ}
-use Rattle.job_steps.specs.Prelude.{Actor, Driver, Attempt, Shell, Known, Setting, who, job_of, task_of}
+use Rattle.std.specs.Prelude.{◌≡◌}
+use Rattle.job_steps.specs.Prelude.{Actor, Driver, Attempt, Known, Setting, who, job_of, task_of}
 use Rattle.job_actor.specs.declared.plan.Plan.{Plan}
 use Rattle.job_actor.specs.declared.plan.Plan.TheVariants.{Job, Task}
 

@@ -1,13 +1,14 @@
 -- Four files, and a driver that is killed in its commit, restarted, and aborts.
-use Rattle.std.proofs.Common.{Some, drop, refl, ◌∙◌}
+use Rattle.std.proofs.Common.{drop, refl, ◌∙◌}
 use Rattle.std.specs.Fmt.{digits}
 use Rattle.json.specs.Print.{escape_byte}
 use Rattle.job_examples.proofs.FourFileRuns.{set_is_read}
 use Rattle.job_examples.proofs.Kept.{Walk, nothing, always_kept, is_honest, no_rename, nothing_outside, files_then, object_then, upload_then, lookup_is}
 use Rattle.job_examples.specs.Restarted.{script, journal, two_objects, Restarted}
 use Rattle.job_examples.proofs.FourEntries.{prepared}
+use Rattle.job_examples.specs.Jobs.{commits_at}
 
-walk : Walk script (Some 4) nothing journal
+walk : Walk script (commits_at 4) nothing journal
 unfolding digits escape_byte
 walk = record { sendings = record { sound = refl; answered = refl }; good = refl }
 
@@ -15,7 +16,7 @@ pub restarted : Restarted
 unfolding digits escape_byte
 restarted = record {
   sent = refl;
-  always = always_kept nothing journal script refl (Some 4) walk;
+  always = always_kept nothing journal script refl (commits_at 4) walk;
   honest = is_honest nothing journal walk.sendings;
   zero_rename = no_rename nothing journal script refl walk.sendings;
   outside = nothing_outside nothing journal script refl walk.sendings;

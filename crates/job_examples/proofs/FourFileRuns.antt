@@ -1,5 +1,5 @@
 -- A run that is killed between its completions.
-use Rattle.std.proofs.Common.{◌≡◌, ℕ, ◌^◌, ◌<◌, true, List, [], ◌∷◌, ◌++◌, Some, Ok, refl, codes, lit<}
+use Rattle.std.proofs.Common.{◌≡◌, ℕ, ◌^◌, ◌<◌, true, List, [], ◌∷◌, ◌++◌, Ok, refl, codes, lit<}
 use Rattle.job_protocol.specs.Prelude.{compact_text, IsPending, set_tree}
 use Rattle.job_spec.specs.Prelude.{is_key_path, is_key}
 use Rattle.std.specs.Fmt.{digits}
@@ -11,8 +11,9 @@ use Rattle.job_examples.specs.FourFiles.{script, of_file, the_set, journal, Four
 use Rattle.job_examples.specs.Runs.{hello}
 use Rattle.job_examples.proofs.OneSet.{key_by, set_by, pending_by}
 use Rattle.job_examples.proofs.Kept.{Walk, nothing, keeps, file_then, object_then, upload_then}
+use Rattle.job_examples.specs.Jobs.{commits_at}
 
-walk : Walk script (Some 4) nothing journal
+walk : Walk script (commits_at 4) nothing journal
 unfolding digits escape_byte
 walk = record { sendings = record { sound = refl; answered = refl }; good = refl }
 
@@ -49,7 +50,7 @@ unfolding digits escape_byte block_of parts_of
 four_files = record {
   sent = refl;
   event = refl;
-  keeps = keeps nothing journal script refl (Some 4) walk [] refl refl;
+  keeps = keeps nothing journal script refl (commits_at 4) walk [] refl refl;
   setup = record { event = refl; may = refl; doing = refl; turns = (refl, (refl, (refl, tt))); follows = (refl, (refl, (refl, tt))); over = refl; has_ended = refl };
   write = record { event = refl; may = refl; doing = refl; turns = (refl, (refl, (refl, (refl, (refl, (refl, (refl, (refl, (refl, (refl, (refl, (refl, (refl, (refl, (refl, (refl, tt)))))))))))))))); follows = (refl, (refl, (refl, (refl, (refl, (refl, (refl, (refl, (refl, (refl, (refl, (refl, (refl, (refl, (refl, (refl, tt)))))))))))))))); over = refl; has_ended = refl };
   task = record { event = refl; may = refl; doing = refl; turns = (refl, (refl, (refl, (refl, (refl, (refl, tt)))))); follows = (refl, (refl, (refl, (refl, (refl, (refl, tt)))))); over = refl; has_ended = refl };

@@ -1,6 +1,6 @@
 -- What whole runs over a store as lists keep and show, by tests that compute.
-use Rattle.std.proofs.Common.{◌≡◌, ℕ, zero, suc, ◌+◌, Bool, true, false, cond, ◌&&◌, List, [], ◌∷◌, take, Option, Some, refl, sym, ap, subst, ◌∙◌}
-use Rattle.job_spec.specs.Prelude.{list_all, lookup, nat_cmp, eq_by_cmp, option_map, nat_cmp_total, from_entries, get-from_entries, find, text_cmp, text_eq, text_ties, Content, fate_or, fate_at, AreForetold, fate_of, moment, IsHonest, Fate, Answer, After, Object, Entry, Script, view, Always, ZeroRename, OutsideStays, upload_in}
+use Rattle.std.proofs.Common.{◌≡◌, ℕ, zero, suc, ◌+◌, Bool, true, false, cond, ◌&&◌, List, [], ◌∷◌, take, Some, refl, sym, ap, subst, ◌∙◌}
+use Rattle.job_spec.specs.Prelude.{list_all, lookup, nat_cmp, eq_by_cmp, option_map, nat_cmp_total, from_entries, get-from_entries, find, text_cmp, text_eq, text_ties, Content, fate_or, fate_at, AreForetold, fate_of, moment, IsHonest, Fate, Answer, After, Object, Entry, Script, view, Always, ZeroRename, OutsideStays, upload_in, Times}
 use Rattle.job_spec.proofs.Common.{and_parts, false≢true, tied}
 use Rattle.s3_types.specs.declared.fates.Fate.TheVariants.{Slow, Before}
 use Rattle.job_protocol.specs.View.{object_at}
@@ -38,7 +38,7 @@ pub record Sendings (s : Start) (es : List Entry) : Type 0 where
   pub answered : due_outcomes (without_files s.book) es ≡ outcomes es
 
 -- and at each moment a reader is shown what he may rely on
-pub record Walk (w : Script) (k : Option ℕ) (s : Start) (es : List Entry) : Type 0 where
+pub record Walk (w : Script) (k : Times) (s : Start) (es : List Entry) : Type 0 where
   pub sendings : Sendings s es
   pub good : all_good w k (visible s.book.objects) (opens (without_files s.book)) es ≡ true
 
@@ -82,10 +82,10 @@ module _ (s : Start) (es : List Entry) where
     pub nothing_outside : Sendings s es → OutsideStays w s.content es
     nothing_outside p = subst (λ c. OutsideStays w c es) s.starts (outside_stays w to s.book es p.sound)
 
-    pub always_kept : (k : Option ℕ) → Walk w k s es → Always w k s.content es
+    pub always_kept : (k : Times) → Walk w k s es → Always w k s.content es
     always_kept k h = subst (λ c. Always w k c es) s.starts (always w to k s.book es h.good)
 
-    pub keeps : (k : Option ℕ) → Walk w k s es → (fs : List (ℕ × Fate)) → w.fates ≡ from_entries fs → have_fates fs 1 es ≡ true → Keeps w k s.content es
+    pub keeps : (k : Times) → Walk w k s es → (fs : List (ℕ × Fate)) → w.fates ≡ from_entries fs → have_fates fs 1 es ≡ true → Keeps w k s.content es
     keeps k h fs named f = record {
       always = always_kept k h;
       sent = record { honest = is_honest h.sendings; fated = subst (λ m. AreForetold (λ n. Some (fate_at m n)) 1 es) (sym named) (fated fs 1 es f) };

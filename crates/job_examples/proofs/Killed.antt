@@ -1,17 +1,18 @@
 -- Four files, and a driver that is killed in its commit, in two lanes and in one.
-use Rattle.std.proofs.Common.{Some, [], ◌∷◌, drop, refl, codes}
+use Rattle.std.proofs.Common.{[], ◌∷◌, drop, refl, codes}
 use Rattle.std.specs.Fmt.{digits}
 use Rattle.json.specs.Print.{escape_byte}
 use Rattle.job_examples.proofs.FourFileRuns.{set_is_read}
 use Rattle.job_examples.proofs.Kept.{Walk, nothing, always_kept, is_honest, no_rename, nothing_outside, files_then, object_then}
 use Rattle.job_examples.specs.LanesKilled.{script, in_two, in_one, KilledWith, LanesKilled}
 use Rattle.job_examples.proofs.FourEntries.{prepared}
+use Rattle.job_examples.specs.Jobs.{commits_at}
 
-two_walk : Walk (script 2) (Some 4) nothing in_two
+two_walk : Walk (script 2) (commits_at 4) nothing in_two
 unfolding digits escape_byte
 two_walk = record { sendings = record { sound = refl; answered = refl }; good = refl }
 
-one_walk : Walk (script 1) (Some 4) nothing in_one
+one_walk : Walk (script 1) (commits_at 4) nothing in_one
 unfolding digits escape_byte
 one_walk = record { sendings = record { sound = refl; answered = refl }; good = refl }
 
@@ -19,7 +20,7 @@ killed_two : KilledWith 2 in_two (codes "a" ∷ codes "b" ∷ codes "d" ∷ [])
 unfolding digits escape_byte
 killed_two = record {
   sent = refl;
-  always = always_kept nothing in_two (script 2) refl (Some 4) two_walk;
+  always = always_kept nothing in_two (script 2) refl (commits_at 4) two_walk;
   honest = is_honest nothing in_two two_walk.sendings;
   zero_rename = no_rename nothing in_two (script 2) refl two_walk.sendings;
   outside = nothing_outside nothing in_two (script 2) refl two_walk.sendings;
@@ -38,7 +39,7 @@ killed_one : KilledWith 1 in_one (codes "a" ∷ codes "b" ∷ codes "c" ∷ [])
 unfolding digits escape_byte
 killed_one = record {
   sent = refl;
-  always = always_kept nothing in_one (script 1) refl (Some 4) one_walk;
+  always = always_kept nothing in_one (script 1) refl (commits_at 4) one_walk;
   honest = is_honest nothing in_one one_walk.sendings;
   zero_rename = no_rename nothing in_one (script 1) refl one_walk.sendings;
   outside = nothing_outside nothing in_one (script 1) refl one_walk.sendings;

@@ -1,13 +1,14 @@
 -- A run whose set's put wears out.
-use Rattle.std.proofs.Common.{[], ◌∷◌, Some, refl, codes}
+use Rattle.std.proofs.Common.{[], ◌∷◌, refl, codes}
 use Rattle.job_spec.specs.Prelude.{After}
 use Rattle.std.specs.Fmt.{digits}
 use Rattle.json.specs.Print.{escape_byte}
 use Rattle.s3_types.specs.Blocks.{block_of, parts_of}
 use Rattle.job_examples.specs.LostSet.{script, journal, LostSet}
 use Rattle.job_examples.proofs.Kept.{Walk, nothing, keeps, shows_as, object_then, upload_then}
+use Rattle.job_examples.specs.Jobs.{commits_at}
 
-walk : Walk script (Some 5) nothing journal
+walk : Walk script (commits_at 5) nothing journal
 unfolding digits escape_byte
 walk = record { sendings = record { sound = refl; answered = refl }; good = refl }
 
@@ -16,7 +17,7 @@ unfolding digits escape_byte block_of parts_of
 lost_set = record {
   sent = refl;
   event = refl;
-  keeps = keeps nothing journal script refl (Some 5) walk ((11, After) ∷ (10, After) ∷ []) refl refl;
+  keeps = keeps nothing journal script refl (commits_at 5) walk ((11, After) ∷ (10, After) ∷ []) refl refl;
   setup = record { event = refl; may = refl; doing = refl; turns = (refl, (refl, (refl, tt))); follows = (refl, (refl, (refl, tt))); over = refl; has_ended = refl };
   write = record { event = refl; may = refl; doing = refl; turns = (refl, (refl, (refl, (refl, tt)))); follows = (refl, (refl, (refl, (refl, tt)))); over = refl; has_ended = refl };
   task = record { event = refl; may = refl; doing = refl; turns = (refl, (refl, (refl, (refl, tt)))); follows = (refl, (refl, (refl, (refl, tt)))); over = refl; has_ended = refl };

@@ -12,7 +12,7 @@ use Rattle.job_model.specs.declared.ends.CommitEnd.TheVariants as commits
 use Rattle.job_model.specs.declared.ends.Stage.TheVariants as stages
 use Rattle.job_model.specs.declared.ends.OpEnd.TheVariants as ends
 use Rattle.job_spec.specs.Promise.{TasksEnd, Publishes}
-use Rattle.job_examples.specs.Jobs.{worker}
+use Rattle.job_examples.specs.Jobs.{worker, commits_at}
 use Rattle.job_examples.specs.OneFile.{script, opening, journal, commit_entries, the_publishing}
 use Rattle.job_examples.specs.OneFinished.{the_ends, the_picks, OneFileFinished}
 use Rattle.job_examples.proofs.Books.{content_of, at_bucket}
@@ -150,22 +150,22 @@ cleans_end (suc (suc (suc (suc j)))) d e es h = no_event j Driver d (ends.Clean 
 -- ---- the commit
 
 abbrev last : Saw
-last = saw_all script (Some 4) (opens empty_book) journal
+last = saw_all script (commits_at 4) (opens empty_book) journal
 
 mark_stands : is_some (find text_cmp (codes "out/_SUCCESS") last.book.objects) ≡ true
 unfolding digits
 mark_stands = refl
 
-marked_over : is_marked script (seen script (Some 4) (content_of empty_book) journal 13) ≡ true
+marked_over : is_marked script (seen script (commits_at 4) (content_of empty_book) journal 13) ≡ true
 unfolding digits
 marked_over =
-    ap (λ s. is_marked script (see_all script (Some 4) s journal)) (opens_is empty_book)
-    ∙ ap (λ s. is_marked script s) (sees script (Some 4) (opens empty_book) journal refl)
+    ap (λ s. is_marked script (see_all script (commits_at 4) s journal)) (opens_is empty_book)
+    ∙ ap (λ s. is_marked script s) (sees script (commits_at 4) (opens empty_book) journal refl)
     ∙ ap (λ o. true && is_some o) (objects_at last.book (codes "out/_SUCCESS"))
     ∙ mark_stands
 
 is_marked_last : is_marked script (seen_until script opening journal the_ends 4) ≡ true
-is_marked_last = subst (λ c. is_marked script (seen script (Some 4) c journal 13) ≡ true) opening_is marked_over
+is_marked_last = subst (λ c. is_marked script (seen script (commits_at 4) c journal 13) ≡ true) opening_is marked_over
 
 commit_worn : first_worn 3 (since 4 (by_actor Driver (until 4 journal))) ≡ None
 unfolding digits escape_byte

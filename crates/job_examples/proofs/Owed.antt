@@ -1,6 +1,6 @@
 -- What is owed at each moment of a run over a store as lists, as tests that compute.
 use Rattle.std.proofs.Common.{◌≡◌, ◌≤◌, ◌⊎◌, ℕ, zero, suc, Bool, true, false, ◌&&◌, ◌||◌, not, cond, List, [], ◌∷◌, ◌++◌, length, take, Option, Some, None, is_some, refl, sym, ap, subst, ◌∙◌, codes, inl, inr, arith}
-use Rattle.job_spec.specs.Prelude.{list_all, lookup, eq_by_cmp, where_key, find, find-put, find-where_key, text_cmp, text_eq, text_total, text_ties, Object, Entry, success_key, Script, view, Picks, wanted, wanted_at, is_picked, is_clash, is_decided, keeps_of, mark_text, see_all, Same, or_else, done, Kept, Always}
+use Rattle.job_spec.specs.Prelude.{list_all, lookup, eq_by_cmp, where_key, find, find-put, find-where_key, text_cmp, text_eq, text_total, text_ties, Object, Entry, success_key, Script, view, Picks, wanted, wanted_at, is_picked, is_clash, is_decided, keeps_of, mark_text, see_all, Same, or_else, done, Kept, Always, Times}
 use Rattle.job_protocol.specs.Prelude.{put}
 use Rattle.job_spec.proofs.Common.{and_parts, true≢false, false≢true, tied, not_so}
 use Rattle.proof_base.proofs.Options.{some_is}
@@ -173,11 +173,11 @@ module _ (w : Script) (to : w.dest ≡ dest) (b : Book) where
 
 -- ---- at all moments
 
-abbrev pub all_good : Script → Option ℕ → Listed → Saw → List Entry → Bool
+abbrev pub all_good : Script → Times → Listed → Saw → List Entry → Bool
 all_good w k os x [] = is_good w os x
 all_good w k os x (e ∷ es) = is_good w os x && (is_ours e.request && all_good w k os (saw w k x e) es)
 
-kept_from : (w : Script) (to : w.dest ≡ dest) (k : Option ℕ) (b : Book) (x : Saw) (es : List Entry) → all_good w k (visible b.objects) x es ≡ true → (m : ℕ) → m ≤ length es → Kept w (content_of b) (see_all w k (seen_of x) (take m es))
+kept_from : (w : Script) (to : w.dest ≡ dest) (k : Times) (b : Book) (x : Saw) (es : List Entry) → all_good w k (visible b.objects) x es ≡ true → (m : ℕ) → m ≤ length es → Kept w (content_of b) (see_all w k (seen_of x) (take m es))
 kept_from w to k b x [] h zero l = kept w to b x h
 kept_from w to k b x [] h (suc m) l = absurd (omega arith)
 kept_from w to k b x (e ∷ es) h zero l = kept w to b x (and_parts (is_good w (visible b.objects) x) _ h).0
@@ -187,5 +187,5 @@ kept_from w to k b x (e ∷ es) h (suc m) l =
     let rest : Kept w (content_of b) (see_all w k (seen_of (saw w k x e)) (take m es)) = kept_from w to k b (saw w k x e) es q.1 m (omega arith) in
     subst (λ s. Kept w (content_of b) (see_all w k s (take m es))) (sym (sees_by w k x e.event e.request e.outcome e.actor q.0)) rest
 
-pub always : (w : Script) (to : w.dest ≡ dest) (k : Option ℕ) (b : Book) (es : List Entry) → all_good w k (visible b.objects) (opens (without_files b)) es ≡ true → Always w k (content_of (without_files b)) es
+pub always : (w : Script) (to : w.dest ≡ dest) (k : Times) (b : Book) (es : List Entry) → all_good w k (visible b.objects) (opens (without_files b)) es ≡ true → Always w k (content_of (without_files b)) es
 always w to k b es h m l = subst (λ s. Kept w (content_of (without_files b)) (see_all w k s (take m es))) (sym (opens_is b)) (kept_from w to k (without_files b) (opens (without_files b)) es h m l)

@@ -14,16 +14,17 @@ use Rattle.job_examples.proofs.Checks.{views, objects_at, moment_is, book_after}
 use Rattle.job_examples.proofs.Sights.{Saw, seen_of, opens, saw_all}
 use Rattle.job_examples.proofs.Refusals.{empty_book, opening_is, at_end, not_none, owns_all}
 use Rattle.job_examples.proofs.OnePlays.{same_some, commit_doing}
+use Rattle.job_examples.specs.Jobs.{commits_at}
 
 -- ---- two attempts of one task
 
 abbrev both_end : Saw
-both_end = saw_all both_script (Some 6) (opens empty_book) both_attempts
+both_end = saw_all both_script (commits_at 6) (opens empty_book) both_attempts
 
-both_in : Always both_script (Some 6) (content_of empty_book) both_attempts → ⊥
+both_in : Always both_script (commits_at 6) (content_of empty_book) both_attempts → ⊥
 unfolding digits
 both_in a =
-    let k = at_end both_script (Some 6) empty_book both_attempts refl a in
+    let k = at_end both_script (commits_at 6) empty_book both_attempts refl a in
     let mark : is_some (find text_cmp (codes "out/_SUCCESS") both_end.book.objects) ≡ true = refl in
     let stands : is_marked both_script (seen_of both_end) ≡ true = ap (λ o. true && is_some o) (objects_at both_end.book (codes "out/_SUCCESS")) ∙ mark in
     not_none (codes "hello") ((k.whole stands).files (codes "a") ∙ ap (λ o. o) (views empty_book (codes "a"))) (views both_end.book (codes "a"))
@@ -114,7 +115,7 @@ strange_in p = let o = (p.obeyed 3 (Do Driver ops.Commit) (Ended memory) refl re
 
 pub misended : Misended
 misended = record {
-  both = λ a. both_in (subst (λ c. Always both_script (Some 6) c both_attempts) (sym opening_is) a);
+  both = λ a. both_in (subst (λ c. Always both_script (commits_at 6) c both_attempts) (sym opening_is) a);
   left = left_in;
   anew = anew_in;
   beyond = λ p. let h : 5 ≤ 4 = p.within in absurd (omega arith);

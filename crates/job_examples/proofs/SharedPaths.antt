@@ -1,5 +1,5 @@
 -- The run of two tasks that write one path.
-use Rattle.std.proofs.Common.{◌≡◌, true, [], ◌∷◌, Some, Ok, refl, codes, lit<}
+use Rattle.std.proofs.Common.{◌≡◌, true, [], ◌∷◌, Ok, refl, codes, lit<}
 use Rattle.job_protocol.specs.Prelude.{compact_text, set_tree}
 use Rattle.job_spec.specs.Prelude.{is_key_path, is_key}
 use Rattle.std.specs.Fmt.{digits}
@@ -11,8 +11,9 @@ use Rattle.job_examples.specs.SharedPath.{script, journal, first_upload, second_
 use Rattle.job_examples.specs.Runs.{hello}
 use Rattle.job_examples.proofs.OneSet.{key_by, set_by, pending_by}
 use Rattle.job_examples.proofs.Kept.{Walk, nothing, keeps, shows_as, upload_then}
+use Rattle.job_examples.specs.Jobs.{commits_at}
 
-walk : Walk script (Some 6) nothing journal
+walk : Walk script (commits_at 6) nothing journal
 unfolding digits escape_byte
 walk = record { sendings = record { sound = refl; answered = refl }; good = refl }
 
@@ -34,7 +35,7 @@ unfolding digits escape_byte block_of parts_of
 shared_path = record {
   sent = refl;
   event = refl;
-  keeps = keeps nothing journal script refl (Some 6) walk [] refl refl;
+  keeps = keeps nothing journal script refl (commits_at 6) walk [] refl refl;
   setup = record { event = refl; may = refl; doing = refl; turns = (refl, (refl, (refl, tt))); follows = (refl, (refl, (refl, tt))); over = refl; has_ended = refl };
   first_write = record { event = refl; may = refl; doing = refl; turns = (refl, (refl, (refl, (refl, tt)))); follows = (refl, (refl, (refl, (refl, tt)))); over = refl; has_ended = refl };
   second_write = record { event = refl; may = refl; doing = refl; turns = (refl, (refl, (refl, (refl, tt)))); follows = (refl, (refl, (refl, (refl, tt)))); over = refl; has_ended = refl };

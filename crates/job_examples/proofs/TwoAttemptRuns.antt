@@ -13,6 +13,7 @@ use Rattle.job_examples.specs.OneFile.{opening}
 use Rattle.job_examples.specs.TwoAttempts.{world, with_events, script, second_upload, second_set, journal_of, journal, the_ends, Replaces, TwoAttempts}
 use Rattle.job_examples.proofs.OneSet.{key_by, set_by, pending_by}
 use Rattle.job_examples.proofs.Kept.{Sendings, Walk, nothing, book_at, keeps, file_then, object_then, upload_then, key_found}
+use Rattle.job_examples.specs.Jobs.{commits_at}
 
 path_is : is_key_path (codes "out/p") ≡ true
 unfolding parts_from
@@ -45,13 +46,13 @@ module _ (events : List Event) (write task commit clean : ℕ) where
 
 -- ---- one after the other
 
-walk : Walk script (Some 6) nothing journal
+walk : Walk script (commits_at 6) nothing journal
 unfolding digits escape_byte
 walk = record { sendings = sendings script.events 4 5 6 7; good = refl }
 
 replaces : Replaces script 6 the_ends journal
 unfolding digits escape_byte
-replaces = record { sent = refl; event = refl; keeps = keeps nothing journal script refl (Some 6) walk [] refl refl; first_published = refl; second_published = refl; not_begun = refl; begun = refl; picked = refl; picks = refl; unmarked = refl; marked = refl; due = refl; nothing_left = nothing_left script.events 4 5 6 7; shown = file_then nothing journal refl 24 (codes "p"); stands = object_then nothing journal refl 24 (codes "out/_SUCCESS"); verdict = refl }
+replaces = record { sent = refl; event = refl; keeps = keeps nothing journal script refl (commits_at 6) walk [] refl refl; first_published = refl; second_published = refl; not_begun = refl; begun = refl; picked = refl; picks = refl; unmarked = refl; marked = refl; due = refl; nothing_left = nothing_left script.events 4 5 6 7; shown = file_then nothing journal refl 24 (codes "p"); stands = object_then nothing journal refl 24 (codes "out/_SUCCESS"); verdict = refl }
 
 pub two_attempts : TwoAttempts
 unfolding digits escape_byte block_of parts_of

@@ -10,7 +10,7 @@ use Rattle.job_model.specs.declared.ends.OpEnd.TheVariants as ends
 use Rattle.job_model.specs.declared.states.ActorStage.TheVariants as stage
 use Rattle.job_protocol.specs.View.{object_at}
 use Rattle.job_spec.specs.Scope.{upload_at}
-use Rattle.job_examples.specs.Jobs.{lake, job, attempt, worker}
+use Rattle.job_examples.specs.Jobs.{lake, job, attempt, worker, commits_at}
 use Rattle.job_examples.specs.OneFile.{opening, setup_entries, doing as begun_so}
 use Rattle.job_examples.specs.RefusedEnds.{completes}
 use Rattle.job_examples.specs.Runs.{hello, upload, set_of, held, writes, lists, reads_record, puts_set, reads_set, setting, Goes, Keeps}
@@ -67,13 +67,13 @@ the_ends = Ended (ends.Setup setups.Done) ∷ Ended (ends.Task tasks.Done) ∷ E
 
 -- what is seen after the first m entries
 abbrev pub at : ℕ → Seen
-at m = seen script (Some 4) opening journal m
+at m = seen script (commits_at 4) opening journal m
 
 -- the driver is killed behind two completions: two whole files are shown, and no marker
 pub record FourFiles : Type 0 where
   pub sent : length journal ≡ 28
   pub event : commit_event script the_ends ≡ Some 4
-  pub keeps : Keeps script (Some 4) opening journal
+  pub keeps : Keeps script (commits_at 4) opening journal
   pub setup : Goes script the_ends journal Driver Setup 1 (Some 0) (ends.Setup setups.Done)
   pub write : Goes script the_ends journal worker Write 2 (Some 0) (ends.Task tasks.Done)
   pub task : Goes script the_ends journal worker Commit 3 (Some 0) (ends.Task tasks.Done)

@@ -1,6 +1,6 @@
 -- The job that the runs are of, and entries of its journals.
-use Rattle.std.specs.Prelude.{ℕ, List, None, codes, false}
-use Rattle.job_spec.specs.Prelude.{Spelled, Actor, Attempt, Request, Reply, Outcome, Answered, Entry, Committer, Mode, File, Declared, Script, Event}
+use Rattle.std.specs.Prelude.{ℕ, List, None, codes, false, Some}
+use Rattle.job_spec.specs.Prelude.{Spelled, Actor, Attempt, Request, Reply, Outcome, Answered, Entry, Committer, Mode, File, Declared, Script, Event, Times}
 use Rattle.std.specs.FinMap as fin
 
 -- the bucket
@@ -44,3 +44,7 @@ entry k a r o = record { event = k; actor = a; request = r; outcome = o }
 -- an entry that was answered
 abbrev pub said : ℕ → Actor → Request → Reply → Entry
 said k a r reply = entry k a r (Answered reply)
+
+-- the commit is this event of the run, in which no abort or clean is begun
+abbrev pub commits_at : ℕ → Times
+commits_at k = record { commit = Some k; clean = None }

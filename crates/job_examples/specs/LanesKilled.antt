@@ -5,7 +5,7 @@ use Rattle.std.specs.FinMap as fin
 use Rattle.job_model.specs.declared.events.Op.TheVariants as ops
 use Rattle.job_model.specs.declared.states.ActorStage.TheVariants as stage
 use Rattle.job_protocol.specs.View.{object_at}
-use Rattle.job_examples.specs.Jobs.{lake}
+use Rattle.job_examples.specs.Jobs.{lake, commits_at}
 use Rattle.job_examples.specs.OneFile.{opening}
 use Rattle.job_examples.specs.FourFileLanes as files
 use Rattle.job_examples.specs.FourFileLanes.{read_entries, completes, loses, finds_none, done_events, Shows, hellos, Goes, Prepared}
@@ -36,12 +36,12 @@ the_ends = done_events ++ Done ∷ Done ∷ Done ∷ []
 
 -- what is seen after the first m entries
 abbrev pub at : ℕ → List Entry → ℕ → Seen
-at lanes journal m = seen (script lanes) (Some 4) opening journal m
+at lanes journal m = seen (script lanes) (commits_at 4) opening journal m
 
 -- of a job with so many lanes, its journal and the names of the files that are left
 pub record KilledWith (lanes : ℕ) (journal : List Entry) (names : List (List ℕ)) : Type 0 where
   pub sent : length journal ≡ 30
-  pub always : Always (script lanes) (Some 4) opening journal
+  pub always : Always (script lanes) (commits_at 4) opening journal
   pub honest : IsHonest opening journal
   pub zero_rename : ZeroRename (script lanes) opening journal
   pub outside : OutsideStays (script lanes) opening journal

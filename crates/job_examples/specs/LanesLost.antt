@@ -6,7 +6,7 @@ use Rattle.job_model.specs.declared.events.Op.TheVariants as ops
 use Rattle.job_model.specs.declared.ends.CommitEnd.TheVariants as commits
 use Rattle.job_model.specs.declared.ends.OpEnd.TheVariants as ends
 use Rattle.job_protocol.specs.View.{object_at}
-use Rattle.job_examples.specs.Jobs.{lake}
+use Rattle.job_examples.specs.Jobs.{lake, commits_at}
 use Rattle.job_examples.specs.OneFile.{opening}
 use Rattle.job_examples.specs.FourFileLanes as files
 use Rattle.job_examples.specs.FourFileLanes.{read_entries, completes, loses, finds_none, the_marking, mark_bytes, done_events, Shows, hellos, Goes, Prepared}
@@ -29,7 +29,7 @@ the_ends = done_events ++ Ended (ends.Commit commits.Committed) ∷ []
 
 -- what is seen after the first m entries
 abbrev pub at : ℕ → Seen
-at m = seen script (Some 4) opening journal m
+at m = seen script (commits_at 4) opening journal m
 
 -- the object at the key of the marker after the first m entries
 abbrev pub marker_at : ℕ → Option Object
@@ -38,7 +38,7 @@ marker_at m = object_at (moment opening journal m).content lake (codes "out/_SUC
 -- the commit ends committed, with all four files
 pub record LanesLost : Type 0 where
   pub sent : length journal ≡ 32
-  pub always : Always script (Some 4) opening journal
+  pub always : Always script (commits_at 4) opening journal
   pub honest : IsHonest opening journal
   pub zero_rename : ZeroRename script opening journal
   pub outside : OutsideStays script opening journal

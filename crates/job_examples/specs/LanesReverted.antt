@@ -6,7 +6,7 @@ use Rattle.job_model.specs.declared.events.Op.TheVariants as ops
 use Rattle.job_model.specs.declared.ends.CommitEnd.TheVariants as commits
 use Rattle.job_model.specs.declared.ends.Stage.TheVariants as stages
 use Rattle.job_model.specs.declared.ends.OpEnd.TheVariants as ends
-use Rattle.job_examples.specs.Jobs.{lake, said}
+use Rattle.job_examples.specs.Jobs.{lake, said, commits_at}
 use Rattle.job_examples.specs.OneFile.{opening}
 use Rattle.job_examples.specs.FourFileLanes as files
 use Rattle.job_examples.specs.FourFileLanes.{out, read_entries, completion, completes, loses, done_events, Shows, hellos, Goes, Prepared}
@@ -37,12 +37,12 @@ the_ends = done_events ++ Ended (ends.Commit (commits.StoreFault stages.Complete
 
 -- what is seen after the first m entries
 abbrev pub at : ℕ → Seen
-at m = seen script (Some 4) opening journal m
+at m = seen script (commits_at 4) opening journal m
 
 -- the commit is reverted, and nothing is shown
 pub record LanesReverted : Type 0 where
   pub sent : length journal ≡ 33
-  pub always : Always script (Some 4) opening journal
+  pub always : Always script (commits_at 4) opening journal
   pub honest : IsHonest opening journal
   pub zero_rename : ZeroRename script opening journal
   pub outside : OutsideStays script opening journal

@@ -7,7 +7,7 @@ use Rattle.job_model.specs.declared.events.Op.TheVariants as ops
 use Rattle.job_model.specs.declared.ends.CommitEnd.TheVariants as commits
 use Rattle.job_model.specs.declared.ends.Stage.TheVariants as stages
 use Rattle.job_model.specs.declared.ends.OpEnd.TheVariants as ends
-use Rattle.job_examples.specs.Jobs.{lake, entry}
+use Rattle.job_examples.specs.Jobs.{lake, entry, commits_at}
 use Rattle.job_examples.specs.Refused.{before_commit}
 use Rattle.job_examples.specs.OneFile as one
 use Rattle.job_examples.specs.OneFile.{opening, attempt_entries, the_read, the_completion, the_mark, doing}
@@ -35,7 +35,7 @@ setting = record { script = script; minimum = 5242880 }
 -- the commit is at fault, and the file and the marker stand
 pub record LostMark : Type 0 where
   -- at each moment a reader is shown what he may rely on: the marker stands from the thirteenth sending on, and with it the whole file
-  pub always : Always script (Some 4) opening journal
+  pub always : Always script (commits_at 4) opening journal
   pub honest : IsHonest opening journal
   pub zero_rename : ZeroRename script opening journal
   pub outside : OutsideStays script opening journal
@@ -43,5 +43,5 @@ pub record LostMark : Type 0 where
   pub follows : OpFollows setting Driver (doing ops.Commit 4 None) (by_actor Driver journal)
   pub over : op_over setting Driver (doing ops.Commit 4 None) (by_actor Driver journal) ≡ Some (ends.Commit (commits.StoreFault stages.Success))
   pub worn : first_worn 1 (since 4 (by_actor Driver journal)) ≡ Some (PutObject lake (codes "out/_SUCCESS") (compact_text (success_tree the_mark)) None)
-  pub due : commit_due script (seen script (Some 4) opening journal 14).picks None (first_worn 1 (since 4 (by_actor Driver journal))) ≡ commits.StoreFault stages.Success
+  pub due : commit_due script (seen script (commits_at 4) opening journal 14).picks None (first_worn 1 (since 4 (by_actor Driver journal))) ≡ commits.StoreFault stages.Success
   pub verdict : verdict script the_ends ≡ 8

@@ -11,7 +11,7 @@ use Rattle.job_model.specs.declared.ends.CommitEnd.TheVariants as commits
 use Rattle.job_model.specs.declared.ends.OpEnd.TheVariants as ends
 use Rattle.job_protocol.specs.View.{object_at}
 use Rattle.job_spec.specs.Scope.{upload_at}
-use Rattle.job_examples.specs.Jobs.{lake, worker, entry}
+use Rattle.job_examples.specs.Jobs.{lake, worker, entry, commits_at}
 use Rattle.job_examples.specs.OneFile as one
 use Rattle.job_examples.specs.OneFile.{opening, setup_entries, write_entries, the_record, the_set}
 use Rattle.job_examples.specs.Runs.{held, lists, reads_record, Goes, Keeps}
@@ -53,13 +53,13 @@ the_ends = Ended (ends.Setup setups.Done) ∷ Ended (ends.Task tasks.Done) ∷ E
 
 -- what is seen after the first m entries
 abbrev pub at : ℕ → Seen
-at m = seen script (Some 5) opening journal m
+at m = seen script (commits_at 5) opening journal m
 
 -- the set stands, its abort is kept, and the job's commit misses the task
 pub record LostSet : Type 0 where
   pub sent : length journal ≡ 11
   pub event : commit_event script the_ends ≡ Some 5
-  pub keeps : Keeps script (Some 5) opening journal
+  pub keeps : Keeps script (commits_at 5) opening journal
   pub setup : Goes script the_ends journal Driver Setup 1 (Some 0) (ends.Setup setups.Done)
   pub write : Goes script the_ends journal worker Write 2 (Some 0) (ends.Task tasks.Done)
   -- the put wears out with its second sending

@@ -10,7 +10,7 @@ use Rattle.job_model.specs.declared.ends.CleanEnd.TheVariants as cleans
 use Rattle.job_model.specs.declared.ends.OpEnd.TheVariants as ends
 use Rattle.job_model.specs.declared.states.ActorStage.TheVariants as stage
 use Rattle.job_protocol.specs.View.{object_at}
-use Rattle.job_examples.specs.Jobs.{lake, worker}
+use Rattle.job_examples.specs.Jobs.{lake, worker, commits_at}
 use Rattle.job_examples.specs.OneFile.{opening}
 use Rattle.job_examples.specs.Runs.{Goes, Keeps}
 use Rattle.job_examples.specs.TwoAttempts.{with_events, other, first_set, set_key, first_entries, journal_of, done_task, Replaces}
@@ -73,13 +73,13 @@ early_ends = restart_ends ++ Ended (ends.Commit (commits.Missing 0)) ∷ []
 
 -- what is seen after the first m entries
 abbrev pub early_at : ℕ → Seen
-early_at m = seen early_script (Some 6) opening first_entries m
+early_at m = seen early_script (commits_at 6) opening first_entries m
 
 -- the new driver's commit misses the task though its set stands
 pub record Forgotten : Type 0 where
   pub sent : length first_entries ≡ 10
   pub event : commit_event early_script early_ends ≡ Some 6
-  pub keeps : Keeps early_script (Some 6) opening first_entries
+  pub keeps : Keeps early_script (commits_at 6) opening first_entries
   pub setup : Goes early_script early_ends first_entries Driver Setup 1 (Some 0) (ends.Setup setups.Done)
   pub write : Goes early_script early_ends first_entries worker Write 2 (Some 0) (ends.Task tasks.Done)
   pub task : Goes early_script early_ends first_entries worker Commit 3 (Some 0) (ends.Task tasks.Done)

@@ -11,7 +11,7 @@ use Rattle.job_model.specs.declared.ends.TaskEnd.TheVariants as tasks
 use Rattle.job_model.specs.declared.ends.CommitEnd.TheVariants as commits
 use Rattle.job_model.specs.declared.ends.OpEnd.TheVariants as ends
 use Rattle.std.specs.FinMap as fin
-use Rattle.job_examples.specs.Jobs.{lake, job, attempt, worker, said, hello_tag}
+use Rattle.job_examples.specs.Jobs.{lake, job, attempt, worker, said, hello_tag, commits_at}
 
 -- the job's script
 abbrev pub script : Script
@@ -108,11 +108,11 @@ opening = record { buckets = fin.insert fin.empty lake new_bucket; next = 1; min
 
 -- what is seen after the first m entries
 abbrev pub at : ℕ → Seen
-at m = seen script (Some 4) opening journal m
+at m = seen script (commits_at 4) opening journal m
 
 -- what is seen where the job's entries are told as a stranger's
 abbrev pub strange : ℕ → Seen
-strange m = seen script (Some 4) opening (in_eyes (λ n. false) journal) m
+strange m = seen script (commits_at 4) opening (in_eyes (λ n. false) journal) m
 
 -- what is seen at each moment
 pub record OneFileSeen : Type 0 where

@@ -1,12 +1,12 @@
 -- Journals that a job's promise refuses, each by the part of it that is named.
-use Rattle.std.specs.Prelude.{ℕ, List, [], ◌∷◌, ◌++◌, Some, None, codes}
+use Rattle.std.specs.Prelude.{ℕ, List, [], ◌∷◌, ◌++◌, None, codes}
 use Rattle.job_spec.specs.Prelude.{Content, Driver, PutObject, DeleteObject, Stored, Deleted, Entry, Pick, EventEnd, Ended, Always, Promised}
 use Rattle.std.specs.FinMap as fin
 use Rattle.s3_types.specs.Tags.{plain_tag}
 use Rattle.job_model.specs.declared.ends.SetupEnd.TheVariants as setups
 use Rattle.job_model.specs.declared.ends.TaskEnd.TheVariants as tasks
 use Rattle.job_model.specs.declared.ends.OpEnd.TheVariants as ends
-use Rattle.job_examples.specs.Jobs.{lake, said}
+use Rattle.job_examples.specs.Jobs.{lake, said, commits_at}
 use Rattle.job_examples.specs.OneFile.{script, opening, setup_entries, write_entries, attempt_entries, the_read, the_completion, the_marking}
 
 -- the ends of the events before the commit
@@ -51,12 +51,12 @@ kept_gone = attempt_entries ++ the_read ∷ said 4 Driver (DeleteObject lake (co
 
 -- none of these is what a reader may rely on, so none is promised, whatever picks are told
 pub record Misshown : Type 0 where
-  pub foreign : Always script (Some 4) opening foreign → ⊥
-  pub torn : Always script (Some 4) opening torn → ⊥
-  pub early : Always script (Some 4) opening early → ⊥
-  pub unread : Always script (Some 4) opening unread → ⊥
-  pub marked_early : Always script (Some 4) opening marked_early → ⊥
-  pub kept_gone : Always script (Some 4) old_opening kept_gone → ⊥
+  pub foreign : Always script (commits_at 4) opening foreign → ⊥
+  pub torn : Always script (commits_at 4) opening torn → ⊥
+  pub early : Always script (commits_at 4) opening early → ⊥
+  pub unread : Always script (commits_at 4) opening unread → ⊥
+  pub marked_early : Always script (commits_at 4) opening marked_early → ⊥
+  pub kept_gone : Always script (commits_at 4) old_opening kept_gone → ⊥
 
 -- no such run is promised, whatever picks are told
 pub record MisshownRuns : Type 0 where

@@ -11,7 +11,7 @@ use Rattle.job_model.specs.declared.ends.CommitEnd.TheVariants as commits
 use Rattle.job_model.specs.declared.ends.CleanEnd.TheVariants as cleans
 use Rattle.job_model.specs.declared.ends.Stage.TheVariants as stages
 use Rattle.job_model.specs.declared.ends.OpEnd.TheVariants as ends
-use Rattle.job_examples.specs.Jobs.{lake, job, attempt, worker, entry, said, hello_tag}
+use Rattle.job_examples.specs.Jobs.{lake, job, attempt, worker, entry, said, hello_tag, commits_at}
 use Rattle.job_examples.specs.OneFile.{opening, journal, setting, attempt_entries}
 use Rattle.job_examples.specs.OneFinished.{the_ends}
 
@@ -108,7 +108,7 @@ strange_ends = done_setup ∷ done_task ∷ done_task ∷ Ended (ends.Clean clea
 -- no such end is due
 pub record Misended : Type 0 where
   -- the marker stands over the files of two attempts of one task
-  pub both : Always both_script (Some 6) opening both_attempts → ⊥
+  pub both : Always both_script (commits_at 6) opening both_attempts → ⊥
   -- an upload that a revert leaves completed
   pub left : CommitsEnd revert_script opening half_reverted revert_ends → ⊥
   -- a task is missing that was reported after the restart

@@ -12,7 +12,7 @@ use Rattle.job_model.specs.declared.ends.EventFault.TheVariants as faults
 use Rattle.job_model.specs.declared.states.ActorStage.TheVariants as stage
 use Rattle.job_protocol.specs.View.{object_at}
 use Rattle.job_spec.specs.Scope.{upload_at}
-use Rattle.job_examples.specs.Jobs.{lake, worker, said}
+use Rattle.job_examples.specs.Jobs.{lake, worker, said, commits_at}
 use Rattle.job_examples.specs.OneFile.{opening}
 use Rattle.job_examples.specs.FourFiles.{set_key}
 use Rattle.job_examples.specs.FourFileLanes as files
@@ -70,7 +70,7 @@ the_ends = abort_ends ++ Refused faults.NotDead ∷ Refused faults.NoRecovery �
 
 -- what is seen after the first m entries
 abbrev pub at : ℕ → Seen
-at m = seen script (Some 4) opening journal m
+at m = seen script (commits_at 4) opening journal m
 
 -- the two objects that are left
 abbrev pub two_objects : List (List ℕ × Object)
@@ -79,7 +79,7 @@ two_objects = (out (codes "a"), record { bytes = codes "hello"; header = None })
 -- the abort leaves two whole files, and no live upload
 pub record Restarted : Type 0 where
   pub sent : length journal ≡ 33
-  pub always : Always script (Some 4) opening journal
+  pub always : Always script (commits_at 4) opening journal
   pub honest : IsHonest opening journal
   pub zero_rename : ZeroRename script opening journal
   pub outside : OutsideStays script opening journal

@@ -1,7 +1,7 @@
 -- What attempts and the driver of a job send for files of five bytes, and what whole runs of them keep.
 use Rattle.std.specs.Prelude.{◌≡◌, ℕ, ◌-◌, false, List, [], ◌∷◌, ◌++◌, take, slice_get, Option, Some, None, codes}
 use Rattle.job_protocol.specs.Prelude.{compact_text, Pending, pending_tree, set_tree, PendingSet}
-use Rattle.job_spec.specs.Prelude.{Content, Spelled, Actor, Driver, PutObject, GetObject, ListPage, CreateUpload, UploadPart, Stored, Page, Part, PageEntry, Entry, Script, Op, Do, OpEnd, EventEnd, Ended, Setting, Always, ZeroRename, OutsideStays, Sent, OpFollows, op_over, past, refusal, until, of_event, by_actor, AllBy}
+use Rattle.job_spec.specs.Prelude.{Content, Spelled, Actor, Driver, PutObject, GetObject, ListPage, CreateUpload, UploadPart, Stored, Page, Part, PageEntry, Entry, Script, Op, Do, OpEnd, EventEnd, Ended, Setting, Always, ZeroRename, OutsideStays, Sent, OpFollows, op_over, past, refusal, until, of_event, by_actor, AllBy, Times}
 use Rattle.std.specs.FinMap as fin
 use Rattle.s3_types.specs.Store.{Upload as Live}
 use Rattle.s3_types.specs.Tags.{plain_tag}
@@ -82,10 +82,10 @@ pub record Goes (w : Script) (xs : List EventEnd) (journal : List Entry) (a : Ac
   pub over : op_over (setting w) a (begun_so op k missing) (by_actor a (until k journal)) ≡ Some end
   pub has_ended : slice_get xs (k - 1) ≡ Some (Ended end)
 
--- What is kept of a run whose commit is this event.
-pub record Keeps (w : Script) (commit : Option ℕ) (opening : Content) (journal : List Entry) : Type 0 where
+-- What is kept of a run with these times.
+pub record Keeps (w : Script) (k : Times) (opening : Content) (journal : List Entry) : Type 0 where
   -- at each moment a reader is shown what he may rely on
-  pub always : Always w commit opening journal
+  pub always : Always w k opening journal
   -- each answer is the one that was due, and each sending has the outcome that the script names for its number
   pub sent : Sent w opening journal
   -- nothing is copied, the driver sends no data, and only it shows files

@@ -9,7 +9,7 @@ use Rattle.job_model.specs.declared.ends.TaskEnd.TheVariants as tasks
 use Rattle.job_model.specs.declared.ends.CommitEnd.TheVariants as commits
 use Rattle.job_model.specs.declared.ends.OpEnd.TheVariants as ends
 use Rattle.job_spec.specs.Scope.{upload_at}
-use Rattle.job_examples.specs.Jobs.{lake, job, attempt, worker}
+use Rattle.job_examples.specs.Jobs.{lake, job, attempt, worker, commits_at}
 use Rattle.job_examples.specs.OneFile.{opening, setup_entries}
 use Rattle.job_examples.specs.Runs.{hello, upload, set_of, held, writes, lists, reads_record, puts_set, reads_set, Goes, Keeps}
 
@@ -77,13 +77,13 @@ the_ends = Ended (ends.Setup setups.Done) ∷ done_task ∷ done_task ∷ done_t
 
 -- what is seen after the first m entries
 abbrev pub at : ℕ → Seen
-at m = seen script (Some 6) opening journal m
+at m = seen script (commits_at 6) opening journal m
 
 -- the commit ends SamePath, and nothing is shown
 pub record SharedPath : Type 0 where
   pub sent : length journal ≡ 19
   pub event : commit_event script the_ends ≡ Some 6
-  pub keeps : Keeps script (Some 6) opening journal
+  pub keeps : Keeps script (commits_at 6) opening journal
   pub setup : Goes script the_ends journal Driver Setup 1 (Some 0) (ends.Setup setups.Done)
   pub first_write : Goes script the_ends journal worker Write 2 (Some 0) (ends.Task tasks.Done)
   pub second_write : Goes script the_ends journal other Write 3 (Some 0) (ends.Task tasks.Done)

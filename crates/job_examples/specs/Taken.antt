@@ -8,7 +8,7 @@ use Rattle.job_model.specs.declared.ends.SetupEnd.TheVariants as setups
 use Rattle.job_model.specs.declared.ends.TaskEnd.TheVariants as tasks
 use Rattle.job_model.specs.declared.ends.CommitEnd.TheVariants as commits
 use Rattle.job_model.specs.declared.ends.OpEnd.TheVariants as ends
-use Rattle.job_examples.specs.Jobs.{lake, job, attempt, worker, said}
+use Rattle.job_examples.specs.Jobs.{lake, job, attempt, worker, said, commits_at}
 use Rattle.job_examples.specs.Runs.{Goes, Keeps}
 
 -- the job's script
@@ -42,13 +42,13 @@ the_ends = Ended (ends.Setup setups.Done) ∷ Ended (ends.Task tasks.Done) ∷ E
 
 -- what is seen after the first m entries
 abbrev pub at : ℕ → Seen
-at m = seen script (Some 5) opening journal m
+at m = seen script (commits_at 5) opening journal m
 
 -- the task's commit ends with the conflict, and the destination shows what it showed
 pub record Taken : Type 0 where
   pub sent : length journal ≡ 3
   pub event : commit_event script the_ends ≡ Some 5
-  pub keeps : Keeps script (Some 5) opening journal
+  pub keeps : Keeps script (commits_at 5) opening journal
   pub setup : Goes script the_ends journal Driver Setup 1 (Some 0) (ends.Setup setups.Done)
   pub write : Goes script the_ends journal worker Write 2 (Some 0) (ends.Task tasks.Done)
   pub task : Goes script the_ends journal worker Commit 3 (Some 0) (ends.Task (tasks.Conflict (codes "d=1")))

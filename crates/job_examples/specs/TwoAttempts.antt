@@ -12,7 +12,7 @@ use Rattle.job_model.specs.declared.ends.CommitEnd.TheVariants as commits
 use Rattle.job_model.specs.declared.ends.CleanEnd.TheVariants as cleans
 use Rattle.job_model.specs.declared.ends.OpEnd.TheVariants as ends
 use Rattle.job_protocol.specs.View.{object_at}
-use Rattle.job_examples.specs.Jobs.{lake, job, attempt, worker, said}
+use Rattle.job_examples.specs.Jobs.{lake, job, attempt, worker, said, commits_at}
 use Rattle.job_examples.specs.OneFile.{opening, setup_entries}
 use Rattle.job_examples.specs.Runs.{Text, hello, upload, set_of, writes, lists, reads_record, puts, puts_set, reads_set, Goes, Keeps}
 
@@ -131,19 +131,19 @@ the_picks = record { task = 0; attempt = 1 } ∷ []
 pub record Replaces (w : Script) (k : ℕ) (xs : List EventEnd) (journal : List Entry) : Type 0 where
   pub sent : length journal ≡ 24
   pub event : commit_event w xs ≡ Some k
-  pub keeps : Keeps w (Some k) opening journal
+  pub keeps : Keeps w (commits_at k) opening journal
   -- the second attempt's set replaces that of the first
-  pub first_published : (seen w (Some k) opening journal 10).last 0 ≡ Some 0
-  pub second_published : (seen w (Some k) opening journal 17).last 0 ≡ Some 1
+  pub first_published : (seen w (commits_at k) opening journal 10).last 0 ≡ Some 0
+  pub second_published : (seen w (commits_at k) opening journal 17).last 0 ≡ Some 1
   -- the commit begins with the read of the set, and picks the attempt that published last
-  pub not_begun : (seen w (Some k) opening journal 17).begun ≡ false
-  pub begun : (seen w (Some k) opening journal 18).begun ≡ true
-  pub picked : (seen w (Some k) opening journal 18).picks 0 ≡ Some 1
+  pub not_begun : (seen w (commits_at k) opening journal 17).begun ≡ false
+  pub begun : (seen w (commits_at k) opening journal 18).begun ≡ true
+  pub picked : (seen w (commits_at k) opening journal 18).picks 0 ≡ Some 1
   pub picks : all_picks w opening journal xs ≡ the_picks
   -- the marker is put by its last entry, and its end is the one that is due
-  pub unmarked : (seen w (Some k) opening journal 19).put_mark ≡ false
-  pub marked : (seen w (Some k) opening journal 20).put_mark ≡ true
-  pub due : commit_due w (seen w (Some k) opening journal 20).picks None (first_worn 3 (since k (by_actor Driver (until k journal)))) ≡ commits.Committed
+  pub unmarked : (seen w (commits_at k) opening journal 19).put_mark ≡ false
+  pub marked : (seen w (commits_at k) opening journal 20).put_mark ≡ true
+  pub due : commit_due w (seen w (commits_at k) opening journal 20).picks None (first_worn 3 (since k (by_actor Driver (until k journal)))) ≡ commits.Committed
   -- no live upload is left, and no key in the job's magic directory; the file and the marker stand
   pub nothing_left : NothingLeft Magic w (moment opening journal 24)
   pub shown : view w.dest (moment opening journal 24).content (codes "p") ≡ Some (codes "world")

@@ -10,7 +10,7 @@ use Rattle.job_model.specs.declared.ends.CommitEnd.TheVariants as commits
 use Rattle.job_model.specs.declared.ends.CleanEnd.TheVariants as cleans
 use Rattle.job_model.specs.declared.ends.OpEnd.TheVariants as ends
 use Rattle.job_protocol.specs.View.{object_at}
-use Rattle.job_examples.specs.Jobs.{lake, job, attempt, worker, said, hello_tag}
+use Rattle.job_examples.specs.Jobs.{lake, job, attempt, worker, said, hello_tag, commits_at}
 use Rattle.job_examples.specs.OneFile.{opening, doing}
 use Rattle.job_examples.specs.Runs.{setting}
 use Rattle.job_examples.specs.FourFiles.{of_file}
@@ -141,7 +141,7 @@ the_ends = done_events ++ Ended (ends.Commit commits.Committed) ∷ Ended (ends.
 
 -- what is seen after the first m entries
 abbrev pub at : ℕ → Seen
-at m = seen ja (Some 4) opening eyes m
+at m = seen ja (commits_at 4) opening eyes m
 
 -- the object at a key after the first m entries
 abbrev pub object_then : ℕ → List ℕ → Option Object
@@ -198,6 +198,6 @@ pub record TheOther : Type 0 where
   pub zero_rename : ZeroRename jb opening other_eyes
   pub prepared : Prepared jb other_eyes
   pub commit : Goes jb other_eyes Driver ops.Commit 4 None 4 (Some (ends.Commit commits.Committed))
-  pub not_begun : (seen jb (Some 4) opening other_eyes 20).begun ≡ false
-  pub begun : (seen jb (Some 4) opening other_eyes 21).begun ≡ true
-  pub marked : (seen jb (Some 4) opening other_eyes 23).put_mark ≡ true
+  pub not_begun : (seen jb (commits_at 4) opening other_eyes 20).begun ≡ false
+  pub begun : (seen jb (commits_at 4) opening other_eyes 21).begun ≡ true
+  pub marked : (seen jb (commits_at 4) opening other_eyes 23).put_mark ≡ true

@@ -1,6 +1,6 @@
 -- An attempt's abort of its task keeps the facts with each of its requests, whatever becomes of it, and goes on as it should.
-use Rattle.std.proofs.Common.{◌≡◌, ℕ, zero, suc, inl, inr, nat_lt, Bool, true, false, List, [], ◌∷◌, ◌++◌, take, drop, length, Option, Some, refl, sym, subst, ◌∙◌}
-use Rattle.job_facts.specs.Prelude.{filter, listed, answer, IsHonestOutcome, Request, Committer, Magic, Reply, Page, PageEntry, Outcome, Answered, Retried, step, Who, IsLegal, Script, TaskEnd, Drawn, Known, learn, as_made, Listing, Deleting, walked_by, keys_on, last_of, page_after, deleting, all_go, attempt_prefix, TaskAbort, Dropping, TaskAbortOver, task_abort_asks, task_abort_after, task_abort_start, task_abort_by, Seen, see, IsIn, Told, known, entry, tell, IsAttempt, Hold, FitsAbort}
+use Rattle.std.proofs.Common.{◌≡◌, ℕ, zero, suc, inl, inr, nat_lt, Bool, true, false, List, [], ◌∷◌, ◌++◌, take, drop, length, Some, refl, sym, subst, ◌∙◌}
+use Rattle.job_facts.specs.Prelude.{filter, listed, answer, IsHonestOutcome, Request, Committer, Magic, Reply, Page, PageEntry, Outcome, Answered, Retried, step, Who, IsLegal, Script, TaskEnd, Drawn, Known, learn, as_made, Listing, Deleting, walked_by, keys_on, last_of, page_after, deleting, all_go, attempt_prefix, TaskAbort, Dropping, TaskAbortOver, task_abort_asks, task_abort_after, task_abort_start, task_abort_by, Seen, see, IsIn, Told, known, entry, tell, IsAttempt, Hold, FitsAbort, Times}
 use Rattle.job_protocol.specs.Prelude.{task_abort_hears, dropping}
 use Rattle.job_spec.proofs.Common.{some_is, false_true, in_append, in_filter}
 use Rattle.job_model.specs.declared.ends.TaskEnd.TheVariants as tasks
@@ -61,7 +61,7 @@ abort_fits w a k = by k.publish_sent refl
     by true e = (λ h. e, λ h. refl)
     by false e = fits_dropping w a k e w.committer k.put_sent (as_made k.drawn) (made_in k.drawn)
 
-module _ (w : Script) (minimum : ℕ) (k : Option ℕ) (s : Seen) (m : Told) (a : Who) (n : ℕ) (j : IsLegal w) (d : IsAttempt w a) (h : Hold w minimum s m) where
+module _ (w : Script) (minimum : ℕ) (k : Times) (s : Seen) (m : Told) (a : Who) (n : ℕ) (j : IsLegal w) (d : IsAttempt w a) (h : Hold w minimum s m) where
   abbrev Keeps : Outcome → Request → Type 0
   Keeps o q = IsHonestOutcome o (answer s.scene q) → Hold w minimum (see w k s (entry a n q o)) (tell w m (entry a n q o))
 

@@ -1,6 +1,6 @@
 -- Every operation of an attempt keeps the facts with each of its requests, and goes on as it should; and it names only what is its own.
-use Rattle.std.proofs.Common.{◌≡◌, ℕ, ◌||◌, false, Option, Some, refl, sym, ap, subst, ◌∙◌}
-use Rattle.job_facts.specs.Prelude.{answer, IsHonestOutcome, Request, Outcome, step, task_abort_after, Who, IsLegal, Script, Known, Uploading, Creating, Sending, upload_asks, File, Write, WriteOver, write_asks, write_after, TaskCommit, TaskCommitOver, task_commit_asks, task_commit_after, Setting, Operation, TheSetup, TheWrite, TheTaskCommit, TheTaskAbort, TheCommit, TheClean, asks, tells, Seen, Told, known, undoes, tell_attempt, IsAttempt, Hold, Fits, FitsWrite, FitsCommit, FitsAbort}
+use Rattle.std.proofs.Common.{◌≡◌, ℕ, ◌||◌, false, Some, refl, sym, ap, subst, ◌∙◌}
+use Rattle.job_facts.specs.Prelude.{answer, IsHonestOutcome, Request, Outcome, step, task_abort_after, Who, IsLegal, Script, Known, Uploading, Creating, Sending, upload_asks, File, Write, WriteOver, write_asks, write_after, TaskCommit, TaskCommitOver, task_commit_asks, task_commit_after, Setting, Operation, TheSetup, TheWrite, TheTaskCommit, TheTaskAbort, TheCommit, TheClean, asks, tells, Seen, Told, known, undoes, tell_attempt, IsAttempt, Hold, Fits, FitsWrite, FitsCommit, FitsAbort, Times}
 use Rattle.job_spec.proofs.Common.{some_is}
 use Rattle.job_protocol.specs.Writes as writes
 use Rattle.job_protocol.specs.TaskCommits as commits
@@ -29,7 +29,7 @@ commit_adds w a k _ r e = ap undoes (sym (some_is e))
 
 -- ---- all operations
 
-module _ (g : Setting) (j : IsLegal g.script) (k : Option ℕ) (s : Seen) (m : Told) (a : Who) (n : ℕ) (d : IsAttempt g.script a) (h : Hold g.script g.minimum s m) where
+module _ (g : Setting) (j : IsLegal g.script) (k : Times) (s : Seen) (m : Told) (a : Who) (n : ℕ) (d : IsAttempt g.script a) (h : Hold g.script g.minimum s m) where
   clean_now : (r : Request) (o : Outcome) → m.undone a ≡ false → undoes r ≡ false → (tell_attempt g.script m a r o).undone a ≡ false
   clean_now r o clean adds = undone_now g.script m a r o ∙ ap (λ b. m.undone a || b) adds ∙ or_false (m.undone a) ∙ clean
 

@@ -3,7 +3,6 @@ use Rattle.std.proofs.Common.{◌≡◌, ℕ, inl, inr, ◌||◌, true, List, []
 use Rattle.job_facts.specs.Prelude.{Request, PutObject, ClusterRename, Committer, Magic, Outcome, Who, IsLegal, Script, PendingSet, files, Drawn, Known, learn, is_set_key, files_set, Deleting, Write, WriteOver, write_start_by, write_start, write_asks, TaskCommit, TaskCommitOver, to_check, task_commit_start_by, task_commit_start, task_commit_asks, TaskAbort, TaskAbortOver, task_abort_asks, Sets, Commit, Fetching, Replacing, Completing, Reverting, CommitOver, commit_start, Setting, Operation, TheWrite, TheTaskCommit, TheTaskAbort, asks, is_magic, is_staging, IsIn, Told, known, tell_attempt, AreCommits, knowing, Todo, IsOpen, Wrote, Fits, FitsWrite, FitsCommit, IsHeldSet, Reads, FitsJobCommit}
 use Rattle.job_spec.proofs.Common.{some_is, none_some, false_true}
 use Rattle.job_model.specs.declared.ends.TaskEnd.TheVariants as tasks
-use Rattle.job_protocol.specs.Writes as writes
 use Rattle.job_protocol.specs.TaskCommits as commits
 use Rattle.job_protocol.specs.TaskAborts.{Sweeping}
 use Rattle.job_protocol.specs.JobCommits.{Marking as MarkingJob}

@@ -1,6 +1,6 @@
 -- The driver's abort or clean of the job keeps the facts with each of its requests, goes on as it should, and no reader of the destination sees it.
-use Rattle.std.proofs.Common.{◌≡◌, ℕ, zero, suc, inl, inr, nat_lt, ◌||◌, Bool, true, false, List, [], ◌∷◌, ◌++◌, take, drop, length, Option, Some, None, refl, sym, ap, subst, ◌∙◌}
-use Rattle.job_facts.specs.Prelude.{filter, begins, listed, answer, effect, IsHonestOutcome, Request, AbortUpload, DeleteObjects, ClusterList, ClusterDelete, UploadRef, Committer, Magic, Reply, Page, PageEntry, Outcome, Retried, step, magic_prefix, cluster_prefix, IsLegal, Script, dest_prefix, Listing, Deleting, walked_by, walked_uploads, keys_on, last_of, last_ref, page_after, uploads_after, deleting, all_go, Clean, Walking, Aborting, Naming, Removing, CleanOver, clean_asks, clean_after, clean_hears, aborted, aborting, walking, sweeping, removing, naming, Same, view, Seen, see, is_begun, IsIn, Told, tell, driver_entry, Hold, FitsClean}
+use Rattle.std.proofs.Common.{◌≡◌, ℕ, zero, suc, inl, inr, nat_lt, ◌||◌, Bool, true, false, List, [], ◌∷◌, ◌++◌, take, drop, length, Some, None, refl, sym, ap, subst, ◌∙◌}
+use Rattle.job_facts.specs.Prelude.{filter, begins, listed, answer, effect, IsHonestOutcome, Request, AbortUpload, DeleteObjects, ClusterList, ClusterDelete, UploadRef, Committer, Magic, Reply, Page, PageEntry, Outcome, Retried, step, magic_prefix, cluster_prefix, IsLegal, Script, dest_prefix, Listing, Deleting, walked_by, walked_uploads, keys_on, last_of, last_ref, page_after, uploads_after, deleting, all_go, Clean, Walking, Aborting, Naming, Removing, CleanOver, clean_asks, clean_after, clean_hears, aborted, aborting, walking, sweeping, removing, naming, Same, view, Seen, see, is_begun, IsIn, Told, tell, driver_entry, Hold, FitsClean, Times}
 use Rattle.job_model.specs.Prelude.{Uploads}
 use Rattle.job_spec.proofs.Common.{some_is, nat_true, in_append, in_filter}
 use Rattle.std.specs.FinMap as fin
@@ -59,7 +59,7 @@ module _ (w : Script) where
   fits_removing [] h = tt
   fits_removing (p ∷ ps) h = (refl, h)
 
-module _ (w : Script) (minimum : ℕ) (k : Option ℕ) (s : Seen) (m : Told) (n : ℕ) (j : IsLegal w) (h : Hold w minimum s m) where
+module _ (w : Script) (minimum : ℕ) (k : Times) (s : Seen) (m : Told) (n : ℕ) (j : IsLegal w) (h : Hold w minimum s m) where
   abbrev Keeps : Outcome → Request → Type 0
   Keeps o q = Hold w minimum (see w k s (driver_entry n q o)) (tell w m (driver_entry n q o))
 

@@ -1,6 +1,6 @@
 -- An attempt's commit of its task keeps the facts with each of its requests, whatever becomes of it, and goes on as it should.
 use Rattle.std.proofs.Common.{◌≡◌, ℕ, nat_lt, ◌||◌, Bool, true, false, List, [], ◌∷◌, ◌++◌, map, take, length, Option, Some, None, refl, sym, ap, subst, ◌∙◌}
-use Rattle.job_facts.specs.Prelude.{listed, answer, IsHonestOutcome, Request, PutObject, GetObject, ListPage, ClusterPut, ClusterRename, Reply, Page, Refused, PageEntry, NoSuchKey, NoSuchFile, Outcome, Answered, Retried, step, File, Who, IsLegal, Script, files, Drawn, Known, learn, is_set_key, record_key, set_text, walked_by, keys_on, last_of, page_after, Uploading, Uploaded, GoesOn, AllSent, IsGone, upload_asks, upload_hears, TaskCommit, Looking, Reading, Publishing, Checking, Uploads, Storing, Renaming, TaskCommitOver, task_commit_asks, task_commit_after, task_commit_hears, attempt_prefix, temporary_path, partition_prefix, reading, looked, looked_at, read_record, storing, checking, checked, uploaded, renamed, least_missing, in_order, Seen, see, is_magic, is_staging, RisesFrom, Told, known, entry, tell, IsAttempt, AreCommits, Hold, Todo, AllWritten, IsOpen, FitsCommit}
+use Rattle.job_facts.specs.Prelude.{listed, answer, IsHonestOutcome, Request, PutObject, GetObject, ListPage, ClusterPut, ClusterRename, Reply, Page, Refused, PageEntry, NoSuchKey, NoSuchFile, Outcome, Answered, Retried, step, File, Who, IsLegal, Script, files, Drawn, Known, learn, is_set_key, record_key, set_text, walked_by, keys_on, last_of, page_after, Uploading, Uploaded, GoesOn, AllSent, IsGone, upload_asks, upload_hears, TaskCommit, Looking, Reading, Publishing, Checking, Uploads, Storing, Renaming, TaskCommitOver, task_commit_asks, task_commit_after, task_commit_hears, attempt_prefix, temporary_path, partition_prefix, reading, looked, looked_at, read_record, storing, checking, checked, uploaded, renamed, least_missing, in_order, Seen, see, is_magic, is_staging, RisesFrom, Told, known, entry, tell, IsAttempt, AreCommits, Hold, Todo, AllWritten, IsOpen, FitsCommit, Times}
 use Rattle.job_spec.proofs.Common.{some_is, map_in}
 use Rattle.magic_paths.specs.Layout as layout
 use Rattle.list_walk.specs.Walks.{walked}
@@ -65,7 +65,7 @@ module _ (w : Script) (minimum : ℕ) (a : Who) (j : IsLegal w) where
   fits_renamed k sent (Refused NoSuchFile) repeated = λ e. sent
   fits_renamed k sent _ repeated = λ e. sent
 
-module _ (w : Script) (minimum : ℕ) (k : Option ℕ) (s : Seen) (m : Told) (a : Who) (n : ℕ) (j : IsLegal w) (d : IsAttempt w a) (clean : m.undone a ≡ false) (h : Hold w minimum s m) where
+module _ (w : Script) (minimum : ℕ) (k : Times) (s : Seen) (m : Told) (a : Who) (n : ℕ) (j : IsLegal w) (d : IsAttempt w a) (clean : m.undone a ≡ false) (h : Hold w minimum s m) where
   abbrev Keeps : Outcome → Request → Type 0
   Keeps o q = IsHonestOutcome o (answer s.scene q) → Hold w minimum (see w k s (entry a n q o)) (tell w m (entry a n q o))
 

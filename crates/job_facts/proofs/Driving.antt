@@ -1,7 +1,7 @@
 -- The driver's requests keep the facts: those of a commit, and those of an abort or clean of the job.
 use Rattle.std.proofs.Common.{◌≡◌, ℕ, ◌&&◌, Bool, true, false, List, Option, refl, sym, ap, ◌∙◌}
 use Rattle.job_spec.proofs.Common.{or_parts, none_some, false_true}
-use Rattle.job_facts.specs.Prelude.{Scene, apply, effect, is_effective, only_reads, Request, GetObject, HeadObject, ListPage, ListParts, ListUploads, DeleteObjects, ClusterGet, ClusterDelete, ClusterList, Outcome, Answered, Slow, RequestLost, ReplyLost, IsLegal, Script, Seen, see, Told, ends, tell, tell_driver, at_event, driver_entry, Leaves, IsDriving, Facts, Hold}
+use Rattle.job_facts.specs.Prelude.{Scene, apply, effect, is_effective, only_reads, Request, GetObject, HeadObject, ListPage, ListParts, ListUploads, DeleteObjects, ClusterGet, ClusterDelete, ClusterList, Outcome, Answered, Slow, RequestLost, ReplyLost, IsLegal, Script, Seen, see, Told, ends, tell, tell_driver, at_event, driver_entry, Leaves, IsDriving, Facts, Hold, Times}
 use Rattle.store_frame.proofs.Framed.{frame}
 use Rattle.job_facts.proofs.Keep.{Drops, leaves_keep, drops_keep}
 use Rattle.job_facts.proofs.Foreign.{stood}
@@ -69,11 +69,11 @@ module _ {w : Script} {minimum : ℕ} {last : ℕ → Option ℕ} {m : Told} (j 
   driving_effect ReplyLost = driving_acts ReplyLost refl
 
 -- what is seen after an entry of the driver
-driver_sees : {w : Script} {minimum : ℕ} (k : Option ℕ) (s : Seen) (m : Told) (n : ℕ) (r : Request) (o : Outcome) → Facts w minimum (effect s.scene r o) s.last (tell_driver m r o) → Hold w minimum (see w k s (driver_entry n r o)) (tell w m (driver_entry n r o))
+driver_sees : {w : Script} {minimum : ℕ} (k : Times) (s : Seen) (m : Told) (n : ℕ) (r : Request) (o : Outcome) → Facts w minimum (effect s.scene r o) s.last (tell_driver m r o) → Hold w minimum (see w k s (driver_entry n r o)) (tell w m (driver_entry n r o))
 driver_sees k s m n r (Answered x) f = told_at n f
 driver_sees k s m n r _ f = told_at n f
 
-pub driving_keeps : (w : Script) (minimum : ℕ) (k : Option ℕ) (s : Seen) (m : Told) (n : ℕ) (r : Request) (o : Outcome) → IsLegal w → IsDriving w r → Hold w minimum s m → Hold w minimum (see w k s (driver_entry n r o)) (tell w m (driver_entry n r o))
+pub driving_keeps : (w : Script) (minimum : ℕ) (k : Times) (s : Seen) (m : Told) (n : ℕ) (r : Request) (o : Outcome) → IsLegal w → IsDriving w r → Hold w minimum s m → Hold w minimum (see w k s (driver_entry n r o)) (tell w m (driver_entry n r o))
 driving_keeps w minimum k s m n r o j d f = driver_sees k s m n r o (driving_effect j s.scene r d f o)
 
 pub reads_drive : (w : Script) (r : Request) → only_reads r ≡ true → IsDriving w r
@@ -88,7 +88,7 @@ reads_drive w _ h = absurd (false_true refl h)
 
 -- ---- deletions of an abort or clean of the job, once it has listed the live uploads
 
-module _ (w : Script) (minimum : ℕ) (k : Option ℕ) (s : Seen) (m : Told) (n : ℕ) (begun : m.cleaned ≡ true) (f : Hold w minimum s m) where
+module _ (w : Script) (minimum : ℕ) (k : Times) (s : Seen) (m : Told) (n : ℕ) (begun : m.cleaned ≡ true) (f : Hold w minimum s m) where
   sweeps : (r : Request) → Drops w s.scene (apply s.scene r) → (o : Outcome) → Hold w minimum (see w k s (driver_entry n r o)) (tell w m (driver_entry n r o))
   sweeps r d o = driver_sees k s m n r o (by o)
     where

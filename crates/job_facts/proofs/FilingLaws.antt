@@ -134,4 +134,4 @@ pub files_go : (g : Setting) → IsLegal g.script → (s : Seen) (m : Told) (c :
     → (r : Request) → commit_asks g.script c ≡ Some r → (n : ℕ) (o : Outcome) → IsHonestOutcome o (answer s.scene r) → Wants g.script q b (commit_tells g.script c o)
     → FileStands g.script q b first (es ++ driver_entry n r o ∷ []) (at_key g.script (effect s.scene r o).content (below g.script.dest.key q)) (tell_driver m r o).ended (commit_tells g.script c o)
 files_go g j s m c h few q b first es wants old r e n o honest then =
-    go_by g j s m n few q b first es c h r e o (commit_fits g.script g.minimum None s m n j h.hold c h.fits few r e o honest) wants then old
+    go_by g j s m n few q b first es c h r e o (commit_fits g.script g.minimum (record { commit = None; clean = None }) s m n j h.hold c h.fits few r e o honest) wants then old

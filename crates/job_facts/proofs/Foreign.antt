@@ -3,7 +3,7 @@ use Rattle.std.proofs.Common.{◌≡◌, ℕ, ◌<◌, Bool, List, sym, subst}
 use Rattle.store_frame.proofs.Framed.{frame}
 use Rattle.store_frame.proofs.Reading.{reads_nothing}
 use Rattle.std.proofs.Common.{true, Some, Option}
-use Rattle.job_facts.specs.Prelude.{Scene, Upload, apply, only_reads, Request, Outcome, Slow, RequestLost, Who, IsLegal, Script, Drawn, Seen, see, HasBucket, Told, tell, strange_entry, at_id, IsKnown, Leaves, IsForeign, Facts, Hold}
+use Rattle.job_facts.specs.Prelude.{Scene, Upload, apply, only_reads, Request, Outcome, Slow, RequestLost, Who, IsLegal, Script, Drawn, Seen, see, HasBucket, Told, tell, strange_entry, at_id, IsKnown, Leaves, IsForeign, Facts, Hold, Times}
 use Rattle.job_spec.proofs.Common.{false_true}
 use Rattle.job_facts.proofs.Keep.{leaves_keep}
 
@@ -32,7 +32,7 @@ foreign_leaves w drawn ended s h r f =
 pub foreign_effect : {w : Script} {minimum : ℕ} {last : ℕ → Option ℕ} {m : Told} → IsLegal w → (s : Scene) (r : Request) → IsForeign w m.drawn r → Facts w minimum s last m → Facts w minimum (apply s r) last m
 foreign_effect {w = w} {m = m} j s r g f = leaves_keep j (foreign_leaves w m.drawn m.ended s (stood f) r g) f
 
-pub foreign_keeps : (w : Script) (minimum : ℕ) (k : Option ℕ) (s : Seen) (m : Told) (n : ℕ) (r : Request) (o : Outcome) → IsLegal w → IsForeign w m.drawn r
+pub foreign_keeps : (w : Script) (minimum : ℕ) (k : Times) (s : Seen) (m : Told) (n : ℕ) (r : Request) (o : Outcome) → IsLegal w → IsForeign w m.drawn r
     → Hold w minimum s m → Hold w minimum (see w k s (strange_entry n r o)) (tell w m (strange_entry n r o))
 foreign_keeps w minimum k s m n r Slow j g f = f
 foreign_keeps w minimum k s m n r RequestLost j g f = f

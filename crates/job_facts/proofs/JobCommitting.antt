@@ -1,6 +1,6 @@
 -- The driver's commit keeps the facts with each of its requests, holds the sets as it read them, and goes on as it should.
 use Rattle.std.proofs.Common.{◌≡◌, ℕ, zero, suc, ◌+◌, ◌<◌, ◌≤◌, ◌^◌, ◌⊎◌, inl, inr, nat_eq, nat_lt, Bool, true, false, cond, List, [], ◌∷◌, ◌++◌, map, take, drop, length, slice_get, Option, Some, None, refl, sym, ap, subst, ◌∙◌, codes, append_assoc}
-use Rattle.job_facts.specs.Prelude.{filter, Scene, begins, listed, is_bucket, answer, IsHonestOutcome, Request, Committer, Magic, Directory, Partitioned, Reply, Page, PageEntry, Mode, Replace, Append, Fail, below, HasBucket, partitions, partition_prefix, Outcome, Answered, Slow, magic_prefix, FilePlace, SuccessPlace, is_open, Pending, PendingSet, File, Who, path_of, IsLegal, IsGiven, Script, CommitEnd, Picks, files, wanted_paths, same_path, Drawn, drawn_for, file_key, file_record, files_set, dest_prefix, Sweep, Listing, Deleting, walked_by, last_of, keys_on, sweep_asks, sweep_hears, deleting, page_after, Turn, nth, completion, abort, deletion, again, follow, dealt, chosen, undo, in_turn, is_tried, is_unsent, revert, Sets, all_commits, picks_of, Commit, Fetching, Replacing, Completing, Marking, Reverting, CommitOver, set_request, set_read, commit_asks, commit_hears, commit_misses, commit_tells, completing, is_no_magic, replaced, replacing, decided, fetching, fetched, swept, reverting, worn_completion, Seen, IsIn, Told, IsDriving, Hold, knowing, AllUnder, IsHeldSet, Reads, FitsJobCommit}
+use Rattle.job_facts.specs.Prelude.{filter, Scene, begins, listed, is_bucket, answer, IsHonestOutcome, Request, Committer, Magic, Directory, Partitioned, Reply, Page, PageEntry, Mode, Replace, Append, Fail, below, HasBucket, partitions, partition_prefix, Outcome, Answered, Slow, magic_prefix, FilePlace, SuccessPlace, is_open, Pending, PendingSet, File, Who, path_of, IsLegal, IsGiven, Script, CommitEnd, Picks, files, wanted_paths, same_path, Drawn, drawn_for, file_key, file_record, files_set, dest_prefix, Sweep, Listing, Deleting, walked_by, last_of, keys_on, sweep_asks, sweep_hears, deleting, page_after, Turn, nth, completion, abort, deletion, again, follow, dealt, chosen, undo, in_turn, is_tried, is_unsent, revert, Sets, all_commits, picks_of, Commit, Fetching, Replacing, Completing, Marking, Reverting, CommitOver, set_request, set_read, commit_asks, commit_hears, commit_misses, commit_tells, completing, is_no_magic, replaced, replacing, decided, fetching, fetched, swept, reverting, worn_completion, Seen, IsIn, Told, IsDriving, Hold, knowing, AllUnder, IsHeldSet, Reads, FitsJobCommit, Times}
 use Rattle.job_spec.proofs.Common.{and_parts, false≢true, not-true, begins_behind, key_magic, some_is, none_some, false_true, true_or_false, eq_nat, nat_true, in_map, in_append, in_filter}
 use Rattle.job_protocol.specs.Prelude.{IsPlaced}
 use Rattle.path_keys.proofs.Common.{below_is}
@@ -258,7 +258,7 @@ module _ {w : Script} (j : IsLegal w) where
 
 -- ---- the request, and what follows
 
-module _ (w : Script) (minimum : ℕ) (k : Option ℕ) (s : Seen) (m : Told) (n : ℕ) (j : IsLegal w) (h : Hold w minimum s m) where
+module _ (w : Script) (minimum : ℕ) (k : Times) (s : Seen) (m : Told) (n : ℕ) (j : IsLegal w) (h : Hold w minimum s m) where
   abbrev Fits : Commit → Type 0
   Fits c = FitsJobCommit w minimum m.publish_sent m.drawn c
 

@@ -143,7 +143,7 @@ clean_changes g j s m h t fits r e n o =
     record {
       uncopied = within_uncopied g.script r x.0;
       no_data = λ is. x.1;
-      shows = inl (hidden_shows j s.scene r o h.there (clean_hides g.script g.minimum None s m n j h t fits r e));
+      shows = inl (hidden_shows j s.scene r o h.there (clean_hides g.script g.minimum (record { commit = None; clean = None }) s m n j h t fits r e));
       outside = within_outside g.script s.scene h.there h.ids.fresh r x.0 o;
     }
 

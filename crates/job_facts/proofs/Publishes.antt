@@ -1,6 +1,6 @@
 -- The requests of an attempt that publish its set keep the facts: the put of the set, and the put and the rename of a temporary file.
 use Rattle.std.proofs.Common.{◌≡◌, ℕ, ◌<◌, nat_eq, ◌&&◌, ◌||◌, Bool, true, false, cond, is_some, List, Option, Some, None, refl, sym, ap, subst, ◌∙◌}
-use Rattle.job_facts.specs.Prelude.{answer, apply, with_files, IsHonestOutcome, Request, PutObject, ClusterPut, ClusterRename, Outcome, Answered, Slow, RequestLost, ReplyLost, Object, SetPlace, File, Who, IsLegal, Script, files, is_set_key, is_set_path, set_text, temporary_path, Seen, see, is_magic, is_staging, last_by, Told, known, put_who, entry, tell, tell_attempt, IsAttempt, AreCommits, IsSet, Facts, Hold}
+use Rattle.job_facts.specs.Prelude.{answer, apply, with_files, IsHonestOutcome, Request, PutObject, ClusterPut, ClusterRename, Outcome, Answered, Slow, RequestLost, ReplyLost, Object, SetPlace, File, Who, IsLegal, Script, files, is_set_key, is_set_path, set_text, temporary_path, Seen, see, is_magic, is_staging, last_by, Told, known, put_who, entry, tell, tell_attempt, IsAttempt, AreCommits, IsSet, Facts, Hold, Times}
 use Rattle.job_model.specs.Prelude.{renamed}
 use Rattle.job_spec.proofs.Common.{text_true, nat_true, nat_false}
 use Rattle.std.specs.FinMap as fin
@@ -13,7 +13,7 @@ use Rattle.job_facts.proofs.Staged.{stage_keep, rename_keep}
 
 -- ---- the magic committer puts its set
 
-module _ (w : Script) (minimum : ℕ) (k : Option ℕ) (s : Seen) (m : Told) (a : Who) (n : ℕ) (j : IsLegal w) (magic : is_magic w.committer ≡ true) (d : IsAttempt w a) (clean : m.undone a ≡ false) where
+module _ (w : Script) (minimum : ℕ) (k : Times) (s : Seen) (m : Told) (a : Who) (n : ℕ) (j : IsLegal w) (magic : is_magic w.committer ≡ true) (d : IsAttempt w a) (clean : m.undone a ≡ false) where
   -- it has sent its publishing request
   abbrev has_sent : Told
   has_sent = record m { publish_sent = put_who m.publish_sent a true }
@@ -74,7 +74,7 @@ module _ (w : Script) (minimum : ℕ) (k : Option ℕ) (s : Seen) (m : Told) (a 
 
 -- ---- the staging committers put a temporary file
 
-module _ (w : Script) (minimum : ℕ) (k : Option ℕ) (s : Seen) (m : Told) (a : Who) (n : ℕ) (j : IsLegal w) (staging : is_staging w.committer ≡ true) (d : IsAttempt w a) where
+module _ (w : Script) (minimum : ℕ) (k : Times) (s : Seen) (m : Told) (a : Who) (n : ℕ) (j : IsLegal w) (staging : is_staging w.committer ≡ true) (d : IsAttempt w a) where
   module _ (are : AreCommits w minimum (m.drawn a) a (files w a)) where
     abbrev stage_put : Request
     stage_put = ClusterPut (temporary_path w a) (set_text w a (files w a) (known m a))

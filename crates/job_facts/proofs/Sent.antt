@@ -1,7 +1,7 @@
 -- Each kind of request of an attempt keeps the facts, whatever becomes of it.
 use Rattle.std.proofs.Common.{◌≡◌, ℕ, suc, ◌+◌, ◌<◌, ◌⊎◌, inl, inr, nat_eq, ◌&&◌, ◌||◌, Bool, true, false, cond, List, [], length, slice_get, Option, Some, None, refl, sym, ap, subst, ◌∙◌, arith}
 use Rattle.job_spec.proofs.Common.{slice_get_within, some_is, none_some, false_true, text_false, nat_here}
-use Rattle.job_facts.specs.Prelude.{text_eq, Scene, Upload, Spelled, with_key, is_part_number, with_part, answer, apply, part_answer, IsHonestOutcome, only_reads, Request, PutObject, GetObject, HeadObject, ListPage, ListParts, ListUploads, CreateUpload, UploadPart, ClusterGet, ClusterList, Reply, Part, Refused, BadPartNumber, Outcome, Answered, Slow, RequestLost, ReplyLost, Place, MarkerPlace, RecordPlace, SetPlace, key_at, File, Who, IsLegal, Script, files, Drawn, Known, learn, is_set_key, file_key, marker_key, record_key, record_text, file_parts, Seen, see, is_magic, is_publishing, last_by, IsIn, Told, known, put_who, undoes, entry, tell, tell_attempt, at_id, IsKnown, part_left, IsWritten, IsRecord, IsOwnPlace, Facts, Hold}
+use Rattle.job_facts.specs.Prelude.{text_eq, Scene, Upload, Spelled, with_key, is_part_number, with_part, answer, apply, part_answer, IsHonestOutcome, only_reads, Request, PutObject, GetObject, HeadObject, ListPage, ListParts, ListUploads, CreateUpload, UploadPart, ClusterGet, ClusterList, Reply, Part, Refused, BadPartNumber, Outcome, Answered, Slow, RequestLost, ReplyLost, Place, MarkerPlace, RecordPlace, SetPlace, key_at, File, Who, IsLegal, Script, files, Drawn, Known, learn, is_set_key, file_key, marker_key, record_key, record_text, file_parts, Seen, see, is_magic, is_publishing, last_by, IsIn, Told, known, put_who, undoes, entry, tell, tell_attempt, at_id, IsKnown, part_left, IsWritten, IsRecord, IsOwnPlace, Facts, Hold, Times}
 use Rattle.job_protocol.specs.Prelude.{learn_part}
 use Rattle.std.specs.FinMap as fin
 use Rattle.s3_types.specs.Tags.{plain_tag}
@@ -26,7 +26,7 @@ pub record IsPlain (w : Script) (s : Scene) (a : Who) (k : Known) (r : Request) 
   pub unsent : (learn w a k r RequestLost).drawn ≡ k.drawn
   pub unheard : (learn w a k r ReplyLost).drawn ≡ k.drawn
 
-module _ (w : Script) (minimum : ℕ) (k : Option ℕ) (s : Seen) (m : Told) (a : Who) (n : ℕ) (r : Request) where
+module _ (w : Script) (minimum : ℕ) (k : Times) (s : Seen) (m : Told) (a : Who) (n : ℕ) (r : Request) where
   -- it knows these uploads
   abbrev pub learning : List Drawn → Told
   learning ds = record m { drawn = put_who m.drawn a ds }
@@ -83,7 +83,7 @@ reads_plain w s a k (ClusterGet path) h = (record { put = λ o. refl; publish = 
 reads_plain w s a k (ClusterList p) h = (record { put = λ o. refl; publish = λ o. refl; undo = refl; publishing = refl; slow = refl; unsent = refl; unheard = refl }, λ o. refl)
 reads_plain w s a k _ h = absurd (false_true refl h)
 
-pub read_keeps : (w : Script) (minimum : ℕ) (k : Option ℕ) (s : Seen) (m : Told) (a : Who) (n : ℕ) (r : Request) (o : Outcome) → only_reads r ≡ true
+pub read_keeps : (w : Script) (minimum : ℕ) (k : Times) (s : Seen) (m : Told) (a : Who) (n : ℕ) (r : Request) (o : Outcome) → only_reads r ≡ true
     → IsHonestOutcome o (answer s.scene r) → Hold w minimum s m → Hold w minimum (see w k s (entry a n r o)) (tell w m (entry a n r o))
 read_keeps w minimum k s m a n r o reads honest f =
     let p = reads_plain w s.scene a (known m a) r reads in
@@ -93,7 +93,7 @@ read_keeps w minimum k s m a n r o reads honest f =
 
 -- ---- CreateUpload: of a file of which it knows no upload yet
 
-pub create_keeps : (w : Script) (minimum : ℕ) (k : Option ℕ) (s : Seen) (m : Told) (a : Who) (n : ℕ) (o : Outcome) → IsLegal w → (g : File)
+pub create_keeps : (w : Script) (minimum : ℕ) (k : Times) (s : Seen) (m : Told) (a : Who) (n : ℕ) (o : Outcome) → IsLegal w → (g : File)
     → IsIn g (files w a) → m.publish_sent a ≡ false → m.put_sent a ≡ false → ((d : Drawn) → IsIn d (m.drawn a) → d.key ≡ file_key w g → ⊥)
     → let r = CreateUpload w.dest.bucket (file_key w g) in
     IsHonestOutcome o (answer s.scene r) → Hold w minimum s m → Hold w minimum (see w k s (entry a n r o)) (tell w m (entry a n r o))
@@ -138,7 +138,7 @@ part_plain number bytes (Some y) tag e = by (is_part_number number) e
     by false e = absurd cc
 
 -- the next block of the file of an upload that it knows
-pub part_keeps : (w : Script) (minimum : ℕ) (k : Option ℕ) (s : Seen) (m : Told) (a : Who) (n : ℕ) (o : Outcome) → IsLegal w → (g : File) (x : Drawn) (bytes : List ℕ)
+pub part_keeps : (w : Script) (minimum : ℕ) (k : Times) (s : Seen) (m : Told) (a : Who) (n : ℕ) (o : Outcome) → IsLegal w → (g : File) (x : Drawn) (bytes : List ℕ)
     → IsIn g (files w a) → m.publish_sent a ≡ false → m.put_sent a ≡ false → IsIn x (m.drawn a) → x.key ≡ file_key w g → slice_get (file_parts w minimum g) (length x.tags) ≡ Some bytes
     → let r = UploadPart w.dest.bucket (file_key w g) x.upload (length x.tags + 1) bytes in
     IsHonestOutcome o (answer s.scene r) → Hold w minimum s m → Hold w minimum (see w k s (entry a n r o)) (tell w m (entry a n r o))
@@ -172,7 +172,7 @@ not_set {w = w} j magic t p own small ne =
     and_false true = refl
     and_false false = refl
 
-other_put_keeps : (w : Script) (minimum : ℕ) (k : Option ℕ) (s : Seen) (m : Told) (a : Who) (n : ℕ) (o : Outcome) → IsLegal w → is_magic w.committer ≡ true → (p : Place) (bytes : List ℕ) (header : Option ℕ)
+other_put_keeps : (w : Script) (minimum : ℕ) (k : Times) (s : Seen) (m : Told) (a : Who) (n : ℕ) (o : Outcome) → IsLegal w → is_magic w.committer ≡ true → (p : Place) (bytes : List ℕ) (header : Option ℕ)
     → IsOwnPlace w p → a.task < w.tasks → ((t : ℕ) → SetPlace t ≡ p → ⊥)
     → ((b : Who) (g : File) → IsIn g (files w b) → RecordPlace b.task b.attempt g.0 ≡ p → IsRecord w minimum (m.drawn b) b g (record { bytes = bytes; header = header }))
     → let r = PutObject w.dest.bucket (key_at w.dest.key w.job p) bytes header in
@@ -190,14 +190,14 @@ other_put_keeps w minimum k s m a n o j magic p bytes header own task no_set of_
     and_false true = refl
     and_false false = refl
 
-pub marker_keeps : (w : Script) (minimum : ℕ) (k : Option ℕ) (s : Seen) (m : Told) (a : Who) (n : ℕ) (o : Outcome) → IsLegal w → is_magic w.committer ≡ true → (g : File) → IsIn g (files w a)
+pub marker_keeps : (w : Script) (minimum : ℕ) (k : Times) (s : Seen) (m : Told) (a : Who) (n : ℕ) (o : Outcome) → IsLegal w → is_magic w.committer ≡ true → (g : File) → IsIn g (files w a)
     → let r = PutObject w.dest.bucket (marker_key w a g) [] (Some (length g.1)) in
     IsHonestOutcome o (answer s.scene r) → Hold w minimum s m → Hold w minimum (see w k s (entry a n r o)) (tell w m (entry a n r o))
 marker_keeps w minimum k s m a n o j magic g mine honest f =
     other_put_keeps w minimum k s m a n o j magic (MarkerPlace a.task a.attempt g.0) [] (Some (length g.1)) (g, mine, refl) (is_attempt j a g mine).task (λ t e. absurd cc) (λ b h i e. absurd cc) honest f
 
 -- the record of a file whose upload is complete
-pub record_keeps : (w : Script) (minimum : ℕ) (k : Option ℕ) (s : Seen) (m : Told) (a : Who) (n : ℕ) (o : Outcome) → IsLegal w → is_magic w.committer ≡ true → (g : File) → IsIn g (files w a) → (x : IsWritten w minimum (m.drawn a) g)
+pub record_keeps : (w : Script) (minimum : ℕ) (k : Times) (s : Seen) (m : Told) (a : Who) (n : ℕ) (o : Outcome) → IsLegal w → is_magic w.committer ≡ true → (g : File) → IsIn g (files w a) → (x : IsWritten w minimum (m.drawn a) g)
     → let r = PutObject w.dest.bucket (record_key w a g) (record_text w a g x.drawn) None in
     IsHonestOutcome o (answer s.scene r) → Hold w minimum s m → Hold w minimum (see w k s (entry a n r o)) (tell w m (entry a n r o))
 record_keeps w minimum k s m a n o j magic g mine x honest f =

@@ -1,6 +1,6 @@
 -- The facts begin where the set-up is done; and what only reads keeps them, whoever sends it.
 use Rattle.std.proofs.Common.{◌≡◌, ℕ, ◌<◌, true, List, Option, Some, None, refl, ap}
-use Rattle.job_facts.specs.Prelude.{option_map, Scene, Upload, answer, IsHonestOutcome, only_reads, Actor, Driver, Attempt, Shell, Committer, Magic, Entry, Outcome, Slow, RequestLost, Object, SetPlace, TemporaryPlace, StagedSetPlace, IsLegal, Script, Seen, see, is_magic, is_staging, HasBucket, Told, tell, nothing_told, at_id, at_path, at_place, set_at, Facts, Hold, IsBare}
+use Rattle.job_facts.specs.Prelude.{option_map, Scene, Upload, answer, IsHonestOutcome, only_reads, Actor, Driver, Attempt, Shell, Committer, Magic, Entry, Outcome, Slow, RequestLost, Object, SetPlace, TemporaryPlace, StagedSetPlace, IsLegal, Script, Seen, see, is_magic, is_staging, HasBucket, Told, tell, nothing_told, at_id, at_path, at_place, set_at, Facts, Hold, IsBare, Times}
 use Rattle.job_spec.proofs.Common.{none_some}
 use Rattle.job_facts.proofs.Whose.{attempt}
 use Rattle.job_facts.proofs.Placed.{record_magic, set_magic, path_below}
@@ -30,7 +30,7 @@ facts_begin w minimum s last j there least fresh bare none v = record {
 
 -- ---- what only reads
 
-pub idle_keeps : (w : Script) (minimum : ℕ) (k : Option ℕ) (s : Seen) (m : Told) (e : Entry) → IsLegal w → only_reads e.request ≡ true → IsHonestOutcome e.outcome (answer s.scene e.request) → Hold w minimum s m → Hold w minimum (see w k s e) (tell w m e)
+pub idle_keeps : (w : Script) (minimum : ℕ) (k : Times) (s : Seen) (m : Told) (e : Entry) → IsLegal w → only_reads e.request ≡ true → IsHonestOutcome e.outcome (answer s.scene e.request) → Hold w minimum s m → Hold w minimum (see w k s e) (tell w m e)
 idle_keeps w minimum k s m e j reads honest f = by e.actor
   where
     by : (a : Actor) → let x : Entry = record { event = e.event; actor = a; request = e.request; outcome = e.outcome } in Hold w minimum (see w k s x) (tell w m x)

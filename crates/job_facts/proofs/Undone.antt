@@ -1,6 +1,6 @@
 -- The requests by which an attempt takes back what it did keep the facts: aborts of its uploads, and deletions of its own keys and of its temporary file.
 use Rattle.std.proofs.Common.{◌≡◌, ℕ, ◌<◌, nat_lt, nat_eq, ◌&&◌, ◌||◌, Bool, true, false, cond, List, [], ◌∷◌, ◌++◌, length, Option, Some, None, refl, sym, ap, subst, ◌∙◌, codes, append_assoc}
-use Rattle.job_facts.specs.Prelude.{decimal, eq_by_cmp, text_cmp, text_total, Content, Scene, Objects, begins, apply, apply_store, apply_at, without, with_objects, Request, AbortUpload, DeleteObjects, ClusterDelete, Outcome, Answered, Slow, RequestLost, ReplyLost, Object, MOST_ENTRIES, SetPlace, TemporaryPlace, StagedSetPlace, key_at, path_at, Who, IsLegal, Script, Drawn, learn, attempt_prefix, temporary_path, Seen, see, is_publishing, last_by, IsIn, HasBucket, Told, known, put_who, undoes, entry, tell, tell_attempt, IsAttempt, Facts, Hold}
+use Rattle.job_facts.specs.Prelude.{decimal, eq_by_cmp, text_cmp, text_total, Content, Scene, Objects, begins, apply, apply_store, apply_at, without, with_objects, Request, AbortUpload, DeleteObjects, ClusterDelete, Outcome, Answered, Slow, RequestLost, ReplyLost, Object, MOST_ENTRIES, SetPlace, TemporaryPlace, StagedSetPlace, key_at, path_at, Who, IsLegal, Script, Drawn, learn, attempt_prefix, temporary_path, Seen, see, is_publishing, last_by, IsIn, HasBucket, Told, known, put_who, undoes, entry, tell, tell_attempt, IsAttempt, Facts, Hold, Times}
 use Rattle.job_spec.proofs.Common.{begins_behind, none_some, false_true, text_left}
 use Rattle.std.specs.FinMap as fin
 use Rattle.store_frame.proofs.Framed.{with_bucket, frame}
@@ -13,7 +13,7 @@ use Rattle.job_facts.proofs.Staged.{remove_drops}
 
 -- ---- a request that takes something away, before the attempt has sent its publishing request
 
-module _ (w : Script) (minimum : ℕ) (k : Option ℕ) (s : Seen) (m : Told) (a : Who) (n : ℕ) (unsent : m.publish_sent a ≡ false) (r : Request) where
+module _ (w : Script) (minimum : ℕ) (k : Times) (s : Seen) (m : Told) (a : Who) (n : ℕ) (unsent : m.publish_sent a ≡ false) (r : Request) where
   abbrev pub takes_back : Told
   takes_back = record m { undone = put_who m.undone a true }
 
@@ -53,7 +53,7 @@ module _ (w : Script) (minimum : ℕ) (k : Option ℕ) (s : Seen) (m : Told) (a 
 
 -- ---- an abort of an upload that it knows
 
-pub abort_keeps : (w : Script) (minimum : ℕ) (k : Option ℕ) (s : Seen) (m : Told) (a : Who) (n : ℕ) (o : Outcome) → IsLegal w → (x : Drawn) → IsIn x (m.drawn a) → m.publish_sent a ≡ false
+pub abort_keeps : (w : Script) (minimum : ℕ) (k : Times) (s : Seen) (m : Told) (a : Who) (n : ℕ) (o : Outcome) → IsLegal w → (x : Drawn) → IsIn x (m.drawn a) → m.publish_sent a ≡ false
     → let r = AbortUpload w.dest.bucket x.key x.upload in
     Hold w minimum s m → Hold w minimum (see w k s (entry a n r o)) (tell w m (entry a n r o))
 abort_keeps w minimum k s m a n o j x known_one unsent f =
@@ -100,7 +100,7 @@ set_apart w a t =
     ∙ begins_behind w.job ((codes "/tasks/" ++ rest) ++ codes "/") (codes "/sets/task_" ++ (decimal t ++ codes ".pendingset"))
 
 -- a batch of its own directory's keys
-pub delete_keeps : (w : Script) (minimum : ℕ) (k : Option ℕ) (s : Seen) (m : Told) (a : Who) (n : ℕ) (o : Outcome) → (keys : List (List ℕ)) → ((q : List ℕ) → IsIn q keys → begins (attempt_prefix w a) q ≡ true) → m.publish_sent a ≡ false
+pub delete_keeps : (w : Script) (minimum : ℕ) (k : Times) (s : Seen) (m : Told) (a : Who) (n : ℕ) (o : Outcome) → (keys : List (List ℕ)) → ((q : List ℕ) → IsIn q keys → begins (attempt_prefix w a) q ≡ true) → m.publish_sent a ≡ false
     → let r = DeleteObjects w.dest.bucket keys in
     Hold w minimum s m → Hold w minimum (see w k s (entry a n r o)) (tell w m (entry a n r o))
 delete_keeps w minimum k s m a n o keys own unsent f =
@@ -110,7 +110,7 @@ delete_keeps w minimum k s m a n o keys own unsent f =
     (λ h. drops_keep (deletes_drop w s.scene keys f.there) (λ c t lt. set_same w.committer w s.scene (apply s.scene r) t (g.keys (key_at w.dest.key w.job (SetPlace t)) (λ b i. false_true (set_apart w a t) (own _ i))) refl) h) o f
 
 -- its temporary file
-pub remove_keeps : (w : Script) (minimum : ℕ) (k : Option ℕ) (s : Seen) (m : Told) (a : Who) (n : ℕ) (o : Outcome) → IsLegal w → IsAttempt w a → m.publish_sent a ≡ false
+pub remove_keeps : (w : Script) (minimum : ℕ) (k : Times) (s : Seen) (m : Told) (a : Who) (n : ℕ) (o : Outcome) → IsLegal w → IsAttempt w a → m.publish_sent a ≡ false
     → let r = ClusterDelete (temporary_path w a) in
     Hold w minimum s m → Hold w minimum (see w k s (entry a n r o)) (tell w m (entry a n r o))
 remove_keeps w minimum k s m a n o j d unsent f =

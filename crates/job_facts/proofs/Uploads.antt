@@ -1,7 +1,7 @@
 -- How a file's upload goes on, of any committer: what it asks keeps the facts, and it comes as far as it says.
 use Rattle.std.proofs.Common.{◌≡◌, ℕ, zero, suc, ◌+◌, ◌-◌, ◌<◌, ◌≤◌, ◌⊎◌, inl, inr, true, cond, List, [], ◌∷◌, ◌++◌, map, length, drop, slice_get, Option, Some, None, refl, sym, ap, subst, ◌∙◌, arith, length-drop}
 use Rattle.job_spec.proofs.Common.{nat_tests, in_map, map_in}
-use Rattle.job_facts.specs.Prelude.{Upload, Spelled, live, is_part_number, answer, part_answer, IsHonestOutcome, Request, CreateUpload, UploadPart, Reply, Part, Refused, NoSuchUpload, BadPartNumber, Outcome, Answered, File, Who, IsLegal, Script, files, Drawn, Known, learn, first_drawn, file_key, Uploading, Creating, Sending, Uploaded, GoesOn, AllSent, IsGone, upload_asks, upload_hears, file_parts, sending, created, sent_part, Seen, see, IsIn, Told, known, entry, tell, IsWritten, AreCommits, Hold, Todo, Begun, AllWritten, IsOpen, FitsUpload}
+use Rattle.job_facts.specs.Prelude.{Upload, Spelled, live, is_part_number, answer, part_answer, IsHonestOutcome, Request, CreateUpload, UploadPart, Reply, Part, Refused, NoSuchUpload, BadPartNumber, Outcome, Answered, File, Who, IsLegal, Script, files, Drawn, Known, learn, first_drawn, file_key, Uploading, Creating, Sending, Uploaded, GoesOn, AllSent, IsGone, upload_asks, upload_hears, file_parts, sending, created, sent_part, Seen, see, IsIn, Told, known, entry, tell, IsWritten, AreCommits, Hold, Todo, Begun, AllWritten, IsOpen, FitsUpload, Times}
 use Rattle.s3_types.specs.Tags.{plain_tag}
 use Rattle.s3_types.specs.declared.reply.Reply.TheVariants.{Upload as TheUpload}
 use Rattle.job_protocol.specs.Knowledge.{with_part}
@@ -134,7 +134,7 @@ module _ (w : Script) (minimum : ℕ) (a : Who) where
 
 -- ---- the request keeps the facts
 
-module _ (w : Script) (minimum : ℕ) (k : Option ℕ) (s : Seen) (m : Told) (a : Who) (n : ℕ) (j : IsLegal w) (free : IsOpen (known m a)) (f : File) (fs : List File) where
+module _ (w : Script) (minimum : ℕ) (k : Times) (s : Seen) (m : Told) (a : Who) (n : ℕ) (j : IsLegal w) (free : IsOpen (known m a)) (f : File) (fs : List File) where
   pub upload_keeps : (u : Uploading) → FitsUpload w minimum a (known m a) f fs u → (o : Outcome) → IsHonestOutcome o (answer s.scene (upload_asks w (known m a) f u))
       → Hold w minimum s m → Hold w minimum (see w k s (entry a n (upload_asks w (known m a) f u) o)) (tell w m (entry a n (upload_asks w (known m a) f u) o))
   upload_keeps Creating t o honest h = create_keeps w minimum k s m a n o j f (t.each f (inl refl)) free.0 free.1 (t.unknown f (inl refl)) honest h

@@ -1,7 +1,7 @@
 -- An attempt's write keeps the facts with each of its requests, whatever becomes of it, and goes on as it should.
 use Rattle.std.proofs.Common.{◌≡◌, ℕ, inl, ◌||◌, Bool, true, List, [], ◌∷◌, length, Option, Some, None, refl, sym, ap, subst, ◌∙◌}
 use Rattle.job_spec.proofs.Common.{false≢true, some_is}
-use Rattle.job_facts.specs.Prelude.{answer, IsHonestOutcome, Request, PutObject, Committer, Magic, Outcome, Retried, step, Place, MarkerPlace, RecordPlace, SetPlace, key_at, File, Who, IsLegal, Script, Drawn, Known, learn, first_drawn, marker_key, record_key, record_text, Uploading, Creating, Sending, Uploaded, IsGone, upload_asks, upload_hears, Write, Recording, WriteOver, writing, write_asks, write_after, Seen, see, is_magic, Told, known, entry, tell, IsAttempt, IsOwnPlace, Hold, Todo, Begun, AllWritten, IsOpen, FitsUpload, Wrote, FitsWrite}
+use Rattle.job_facts.specs.Prelude.{answer, IsHonestOutcome, Request, PutObject, Committer, Magic, Outcome, Retried, step, Place, MarkerPlace, RecordPlace, SetPlace, key_at, File, Who, IsLegal, Script, Drawn, Known, learn, first_drawn, marker_key, record_key, record_text, Uploading, Creating, Sending, Uploaded, IsGone, upload_asks, upload_hears, Write, Recording, WriteOver, writing, write_asks, write_after, Seen, see, is_magic, Told, known, entry, tell, IsAttempt, IsOwnPlace, Hold, Todo, Begun, AllWritten, IsOpen, FitsUpload, Wrote, FitsWrite, Times}
 use Rattle.job_protocol.specs.Writes.{Uploads, Marking, uploaded}
 use Rattle.job_facts.proofs.Whose.{or_false}
 use Rattle.job_facts.proofs.Sent.{not_set, marker_keeps, record_keeps}
@@ -27,7 +27,7 @@ module _ (w : Script) (minimum : ℕ) (a : Who) where
   fits_upload_same k more f fs Creating e h = subst (λ ds. Todo w minimum a ds (f ∷ fs)) (sym e) h
   fits_upload_same k more f fs (Sending p ps) e h = subst (λ ds. Begun w minimum a ds f fs (p ∷ ps)) (sym e) h
 
-module _ (w : Script) (minimum : ℕ) (k : Option ℕ) (s : Seen) (m : Told) (a : Who) (n : ℕ) (j : IsLegal w) (d : IsAttempt w a) (h : Hold w minimum s m) where
+module _ (w : Script) (minimum : ℕ) (k : Times) (s : Seen) (m : Told) (a : Who) (n : ℕ) (j : IsLegal w) (d : IsAttempt w a) (h : Hold w minimum s m) where
   -- the facts are kept
   pub write_keeps : (t : Write) → FitsWrite w minimum a (known m a) t → (r : Request) → write_asks w a (known m a) t ≡ Some r → (o : Outcome) → IsHonestOutcome o (answer s.scene r)
       → Hold w minimum (see w k s (entry a n r o)) (tell w m (entry a n r o))

@@ -1,6 +1,6 @@
 -- The laws of this crate.
 use Rattle.std.specs.Prelude.{◌≡◌, ℕ, ◌+◌, ◌<◌, ◌≤◌, ◌^◌, ◌⊎◌, true, false, List, [], map, length, slice_get, Option, Some, None, Ok}
-use Rattle.job_spec.specs.Prelude.{Scene, Upload, begins, effect, only_reads, Entry, named_from, GetObject, UploadPart, CompleteUpload, Reply, Part, Completed, Refused, NoSuchKey, NoSuchFile, File, files, Drawn, Known, knows, drawn_in, file_key, marker_key, record_key, file_record, record_text, files_set, file_parts, WriteOver, write_start, task_commit_start, task_abort_start, Commit, commit_start, commit_asks, commit_tells, set_request, set_read, ok_set, IsIn, Retried, step, magic_prefix, cluster_prefix, IsHonestOutcome, answer, Request, Outcome, Who, actor_of, IsLegal, Script, view, Clean, clean_asks, clean_after, Setting, Operation, asks, tells, has_cleaned, by_actor, Same, Seen, see, is_begun, is_magic, is_staging}
+use Rattle.job_spec.specs.Prelude.{Scene, Upload, begins, effect, only_reads, Entry, named_from, GetObject, UploadPart, CompleteUpload, Reply, Part, Completed, Refused, NoSuchKey, NoSuchFile, File, files, Drawn, Known, knows, drawn_in, file_key, marker_key, record_key, file_record, record_text, files_set, file_parts, WriteOver, write_start, task_commit_start, task_abort_start, Commit, commit_start, commit_asks, commit_tells, set_request, set_read, ok_set, IsIn, Retried, step, magic_prefix, cluster_prefix, IsHonestOutcome, answer, Request, Outcome, Who, actor_of, IsLegal, Script, view, Clean, clean_asks, clean_after, Setting, Operation, asks, tells, has_cleaned, by_actor, Same, Seen, see, is_begun, is_magic, is_staging, Times}
 use Rattle.store_frame.specs.Prelude.{HasBucket}
 use Rattle.job_protocol.specs.Prelude.{Path}
 use Rattle.std.specs.FinMap as fin
@@ -37,25 +37,25 @@ FactsBegin = (w : Script) (minimum : ℕ) (s : Scene) (last : ℕ → Option ℕ
 
 -- a request that only reads keeps them, whoever sends it
 abbrev pub ReadsKeep : Type 0
-ReadsKeep = (w : Script) (minimum : ℕ) (k : Option ℕ) (s : Seen) (m : Told) (e : Entry) → IsLegal w → only_reads e.request ≡ true → IsHonestOutcome e.outcome (answer s.scene e.request) → Hold w minimum s m → Hold w minimum (see w k s e) (tell w m e)
+ReadsKeep = (w : Script) (minimum : ℕ) (k : Times) (s : Seen) (m : Told) (e : Entry) → IsLegal w → only_reads e.request ≡ true → IsHonestOutcome e.outcome (answer s.scene e.request) → Hold w minimum s m → Hold w minimum (see w k s e) (tell w m e)
 
 -- ---- strangers
 
 -- a foreign request keeps the facts, whatever becomes of it
 abbrev pub ForeignKeeps : Type 0
-ForeignKeeps = (w : Script) (minimum : ℕ) (k : Option ℕ) (s : Seen) (m : Told) (n : ℕ) (r : Request) (o : Outcome) → IsLegal w → IsForeign w m.drawn r
+ForeignKeeps = (w : Script) (minimum : ℕ) (k : Times) (s : Seen) (m : Told) (n : ℕ) (r : Request) (o : Outcome) → IsLegal w → IsForeign w m.drawn r
     → Hold w minimum s m → Hold w minimum (see w k s (strange_entry n r o)) (tell w m (strange_entry n r o))
 
 -- ---- attempts
 
 -- after an entry of an attempt the facts hold of what is seen and told then, and its operation is as far as it says
-pub record Goes (g : Setting) (k : Option ℕ) (s : Seen) (m : Told) (a : Who) (n : ℕ) (r : Request) (o : Outcome) (op : Operation) : Type 0 where
+pub record Goes (g : Setting) (k : Times) (s : Seen) (m : Told) (a : Who) (n : ℕ) (r : Request) (o : Outcome) (op : Operation) : Type 0 where
   pub hold : Hold g.script g.minimum (see g.script k s (entry a n r o)) (tell g.script m (entry a n r o))
   pub fits : Fits g.script g.minimum a (tell g.script m (entry a n r o)) op
 
 -- what an attempt's operation asks next keeps the facts, whatever becomes of it, for every committer
 abbrev pub AttemptGoes : Type 0
-AttemptGoes = (g : Setting) → IsLegal g.script → (k : Option ℕ) (s : Seen) (m : Told) (a : Who) (n : ℕ) → IsAttempt g.script a → Hold g.script g.minimum s m
+AttemptGoes = (g : Setting) → IsLegal g.script → (k : Times) (s : Seen) (m : Told) (a : Who) (n : ℕ) → IsAttempt g.script a → Hold g.script g.minimum s m
     → (op : Operation) → Fits g.script g.minimum a m op → (r : Request) → asks g a (known m a) op ≡ Some r → (o : Outcome) → IsHonestOutcome o (answer s.scene r)
     → Goes g k s m a n r o (tells g a op o)
 
@@ -90,29 +90,29 @@ MarkersLead = (w : Script) (a : Who) (f : File) → IsLegal w → IsIn f (files 
 
 -- a request of the driver that ends what uploads it changes, and changes nothing else of the job's own, keeps the facts
 abbrev pub DrivingKeeps : Type 0
-DrivingKeeps = (w : Script) (minimum : ℕ) (k : Option ℕ) (s : Seen) (m : Told) (n : ℕ) (r : Request) (o : Outcome) → IsLegal w → IsDriving w r → Hold w minimum s m → Hold w minimum (see w k s (driver_entry n r o)) (tell w m (driver_entry n r o))
+DrivingKeeps = (w : Script) (minimum : ℕ) (k : Times) (s : Seen) (m : Told) (n : ℕ) (r : Request) (o : Outcome) → IsLegal w → IsDriving w r → Hold w minimum s m → Hold w minimum (see w k s (driver_entry n r o)) (tell w m (driver_entry n r o))
 
 -- after an entry of its abort or clean the facts hold, that has come as far as it says, and the destination shows what it showed
-pub record Cleans (g : Setting) (k : Option ℕ) (s : Seen) (m : Told) (n : ℕ) (r : Request) (o : Outcome) (t : Retried Clean) : Type 0 where
+pub record Cleans (g : Setting) (k : Times) (s : Seen) (m : Told) (n : ℕ) (r : Request) (o : Outcome) (t : Retried Clean) : Type 0 where
   pub hold : Hold g.script g.minimum (see g.script k s (driver_entry n r o)) (tell g.script m (driver_entry n r o))
   pub fits : FitsClean g.script (tell g.script m (driver_entry n r o)).cleaned t.operation
   pub shows : Same (view g.script.dest (effect s.scene r o).content) (view g.script.dest s.scene.content)
 
 -- each request of an abort or clean of the job keeps the facts, and what a reader is shown
 abbrev pub CleanGoes : Type 0
-CleanGoes = (g : Setting) → IsLegal g.script → (k : Option ℕ) (s : Seen) (m : Told) (n : ℕ) → Hold g.script g.minimum s m
+CleanGoes = (g : Setting) → IsLegal g.script → (k : Times) (s : Seen) (m : Told) (n : ℕ) → Hold g.script g.minimum s m
     → is_begun m.cleans_at n ≡ true → (t : Retried Clean) → FitsClean g.script m.cleaned t.operation → (r : Request) → clean_asks g.script t.operation ≡ Some r → (o : Outcome) → IsHonestOutcome o (answer s.scene r)
     → Cleans g k s m n r o (step g.script.retries (clean_after g.script) t o)
 
 -- after an entry of its commit the facts hold, and it holds the sets as it read them and has come as far as it says
-pub record Commits (g : Setting) (k : Option ℕ) (s : Seen) (m : Told) (n : ℕ) (r : Request) (o : Outcome) (c : Commit) : Type 0 where
+pub record Commits (g : Setting) (k : Times) (s : Seen) (m : Told) (n : ℕ) (r : Request) (o : Outcome) (c : Commit) : Type 0 where
   pub hold : Hold g.script g.minimum (see g.script k s (driver_entry n r o)) (tell g.script m (driver_entry n r o))
   pub fits : FitsJobCommit g.script g.minimum (tell g.script m (driver_entry n r o)).publish_sent (tell g.script m (driver_entry n r o)).drawn c
 
 -- each request of the driver's commit keeps the facts, for every committer and every number of lanes
 pub record CommitGoes : Type 0 where
   pub begins : (w : Script) (minimum : ℕ) → IsLegal w → (m : Told) (missing : Option ℕ) → FitsJobCommit w minimum m.publish_sent m.drawn (commit_start w missing)
-  pub goes : (g : Setting) → IsLegal g.script → (k : Option ℕ) (s : Seen) (m : Told) (n : ℕ) → Hold g.script g.minimum s m → s.scene.content.next ≤ 2 ^ 64
+  pub goes : (g : Setting) → IsLegal g.script → (k : Times) (s : Seen) (m : Told) (n : ℕ) → Hold g.script g.minimum s m → s.scene.content.next ≤ 2 ^ 64
       → (c : Commit) → FitsJobCommit g.script g.minimum m.publish_sent m.drawn c → (r : Request) → commit_asks g.script c ≡ Some r → (o : Outcome) → IsHonestOutcome o (answer s.scene r)
       → Commits g k s m n r o (commit_tells g.script c o)
   -- what an attempt sends leaves it as it is

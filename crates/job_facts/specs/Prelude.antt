@@ -57,8 +57,8 @@ pub use Rattle.job_spec.specs.Headline.{Always, Between, Kept, Same}
 pub use Rattle.job_spec.specs.OperationEnds.{CleanIs, Cleaned, NoDeletionWorn, OnlyOpening, SetupIs, TaskIs, WasPublished, is_untouched, was_lost}
 pub use Rattle.job_spec.specs.Promise.{picked, picks_below}
 pub use Rattle.job_spec.specs.Scope.{NoClusterFile, SameOutside, SameOutsideUpload, upload_in}
-pub use Rattle.job_spec.specs.Seen.{Seen, is_begun, is_magic, is_marked, is_marking, is_publishing, is_reading, is_staging, last_by, nothing_seen, picks_by, see, see_all, seen}
-pub use Rattle.job_spec.specs.States.{Doing, Past, clean_event, commit_event, end_op, is_new, is_refused, missing, nothing_past, open_event, past, put, refusal, same_actor, told}
+pub use Rattle.job_spec.specs.Seen.{Seen, Times, is_begun, is_magic, is_marked, is_marking, is_picking, is_publishing, is_reading, is_staging, last_by, nothing_seen, picks_by, see, see_all, seen}
+pub use Rattle.job_spec.specs.States.{Doing, Past, clean_event, commit_event, end_op, is_new, is_refused, missing, nothing_past, open_event, past, put, refusal, same_actor, times, told}
 pub use Rattle.job_spec.specs.Turns.{AllBy, AllFrom, AllUpTo, IsRising, Turns, before, by_actor, is_own, is_wanting, of_event, own, since, until, until_last}
 pub use Rattle.list_walk.specs.Fitting.{FitsPage, FitsSweep}
 pub use Rattle.list_walk.specs.Walks.{Deleting, Listing, More, Sweep, Walked, Whole, all_go, deleting, keys_on, last_of, last_ref, page_after, sweep_asks, sweep_hears, uploads_after, walked_by, walked_uploads}

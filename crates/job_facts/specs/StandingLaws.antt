@@ -1,6 +1,6 @@
 -- The laws of what stands until the driver's abort or clean of the job begins.
 use Rattle.std.specs.Prelude.{◌≡◌, ℕ, Bool, true, false, List, Option, Some}
-use Rattle.job_spec.specs.Prelude.{answer, IsHonestOutcome, Request, Outcome, Who, IsLegal, Script, Write, WriteOver, write_start, write_over, TaskCommit, TaskCommitOver, task_commit_start, task_commit_over, Commit, commit_start, commit_asks, commit_tells, Clean, clean_asks, Tabled, Setting, Operation, asks, tells, Seen, see, is_begun}
+use Rattle.job_spec.specs.Prelude.{answer, IsHonestOutcome, Request, Outcome, Who, IsLegal, Script, Write, WriteOver, write_start, write_over, TaskCommit, TaskCommitOver, task_commit_start, task_commit_over, Commit, commit_start, commit_asks, commit_tells, Clean, clean_asks, Tabled, Setting, Operation, asks, tells, Seen, see, is_begun, Times}
 use Rattle.job_model.specs.declared.ends.TaskEnd.TheVariants as tasks
 use Rattle.job_facts.specs.Told.{Told, known, nothing_told, tell, entry, driver_entry, strange_entry}
 use Rattle.job_facts.specs.Stores.{sets_at}
@@ -25,16 +25,16 @@ pub record NothingGone : Type 0 where
   pub write : (w : Script) (s : Seen) (a : Who) → WriteStands w s a (write_start w a)
   pub commit : (w : Script) → IsLegal w → (s : Seen) (a : Who) → WriteStands w s a (WriteOver tasks.Done) → CommitStands w s a false (task_commit_start w a)
   -- its own requests, by each outcome
-  pub goes : (g : Setting) → IsLegal g.script → (k : Option ℕ) (s : Seen) (m : Told) (a : Who) (n : ℕ) → Hold g.script g.minimum s m → Closed m → m.cleaned ≡ false → (op : Operation) → Fits g.script g.minimum a m op → Stands g.script s a op
+  pub goes : (g : Setting) → IsLegal g.script → (k : Times) (s : Seen) (m : Told) (a : Who) (n : ℕ) → Hold g.script g.minimum s m → Closed m → m.cleaned ≡ false → (op : Operation) → Fits g.script g.minimum a m op → Stands g.script s a op
       → (r : Request) → asks g a (known m a) op ≡ Some r → (o : Outcome) → IsHonestOutcome o (answer s.scene r) → Stands g.script (see g.script k s (entry a n r o)) a (tells g a op o)
   -- another attempt's
-  pub others : (g : Setting) → IsLegal g.script → (k : Option ℕ) (s : Seen) (m : Told) (a b : Who) (n : ℕ) → Hold g.script g.minimum s m → IsAttempt g.script a → IsAttempt g.script b → (a ≡ b → ⊥) → (op : Operation) → Fits g.script g.minimum b m op
+  pub others : (g : Setting) → IsLegal g.script → (k : Times) (s : Seen) (m : Told) (a b : Who) (n : ℕ) → Hold g.script g.minimum s m → IsAttempt g.script a → IsAttempt g.script b → (a ≡ b → ⊥) → (op : Operation) → Fits g.script g.minimum b m op
       → (r : Request) → asks g b (known m b) op ≡ Some r → (o : Outcome) → (mine : Operation) → Stands g.script s a mine → Stands g.script (see g.script k s (entry b n r o)) a mine
   -- the driver's commit's
-  pub driver : (g : Setting) → IsLegal g.script → (k : Option ℕ) (s : Seen) (m : Told) (a : Who) (n : ℕ) → Hold g.script g.minimum s m → (c : Commit) → FitsJobCommit g.script g.minimum m.publish_sent m.drawn c
+  pub driver : (g : Setting) → IsLegal g.script → (k : Times) (s : Seen) (m : Told) (a : Who) (n : ℕ) → Hold g.script g.minimum s m → (c : Commit) → FitsJobCommit g.script g.minimum m.publish_sent m.drawn c
       → (r : Request) → commit_asks g.script c ≡ Some r → (o : Outcome) → (mine : Operation) → Stands g.script s a mine → Stands g.script (see g.script k s (driver_entry n r o)) a mine
   -- a stranger's
-  pub strangers : (w : Script) (minimum : ℕ) → IsLegal w → (k : Option ℕ) (s : Seen) (m : Told) (a : Who) (n : ℕ) → Hold w minimum s m → (r : Request) → IsForeign w m.drawn r → (o : Outcome) → (mine : Operation) → Stands w s a mine
+  pub strangers : (w : Script) (minimum : ℕ) → IsLegal w → (k : Times) (s : Seen) (m : Told) (a : Who) (n : ℕ) → Hold w minimum s m → (r : Request) → IsForeign w m.drawn r → (o : Outcome) → (mine : Operation) → Stands w s a mine
       → Stands w (see w k s (strange_entry n r o)) a mine
   pub never_write : (w : Script) (s : Seen) (a : Who) (t : Write) (name : List ℕ) → WriteStands w s a t → write_over t ≡ Some (tasks.Gone name) → ⊥
   pub never_commit : (w : Script) (s : Seen) (a : Who) (repeated : Bool) (t : TaskCommit) (name : List ℕ) → CommitStands w s a repeated t → task_commit_over t ≡ Some (tasks.Gone name) → ⊥

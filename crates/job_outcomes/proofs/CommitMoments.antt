@@ -1,6 +1,6 @@
 -- The picks at each moment of a run.
 use Rattle.std.proofs.Common.{◌≡◌, ℕ, zero, suc, ◌+◌, ◌-◌, ◌<◌, ◌≤◌, ◌^◌, ◌⊎◌, inl, inr, ◌&&◌, not, Bool, true, false, List, [], ◌∷◌, ◌++◌, length, slice_get, take, Option, Some, None, refl, sym, ap, subst, ◌∙◌, arith, length-append}
-use Rattle.job_facts.specs.Prelude.{is_some, option_map, Content, Scene, answer, effect, after_all, moment, IsHonestOutcome, Actor, Driver, Attempt, Shell, Request, Outcome, Answered, Slow, RequestLost, ReplyLost, Entry, PendingSet, IsLegal, Script, CommitEnd, Picks, same_path, picked_below, is_picked, is_clash, is_decided, view, Sets, picks_of, Commit, CommitOver, commit_tells, Setting, Operation, TheSetup, TheWrite, TheTaskCommit, TheTaskAbort, TheCommit, TheClean, who, asks, commit_due, end_or, Same, Always, Kept, is_untouched, Seen, see, is_reading, see_all, seen, nothing_seen, Told, entry, driver_entry, strange_entry}
+use Rattle.job_facts.specs.Prelude.{is_some, option_map, Content, Scene, answer, effect, after_all, moment, IsHonestOutcome, Actor, Driver, Attempt, Shell, Request, Outcome, Answered, Slow, RequestLost, ReplyLost, Entry, PendingSet, IsLegal, Script, CommitEnd, Picks, same_path, picked_below, is_picked, is_clash, is_decided, view, Sets, picks_of, Commit, CommitOver, commit_tells, Setting, Operation, TheSetup, TheWrite, TheTaskCommit, TheTaskAbort, TheCommit, TheClean, who, asks, commit_due, end_or, Same, Always, Kept, is_untouched, Seen, see, is_reading, see_all, seen, nothing_seen, Told, entry, driver_entry, strange_entry, Times}
 use Rattle.job_spec.proofs.Common.{and_parts, some_is, none_some, false_true, true_or_false, same_or_not}
 use Rattle.job_model.specs.declared.ends.CommitEnd.TheVariants as commits
 use Rattle.job_model.specs.declared.ends.Stage.TheVariants as stages
@@ -16,7 +16,7 @@ use Rattle.job_outcomes.proofs.CommitRuns.{stood, picks_on, attempts_leave, driv
 
 -- ---- the scene that is seen
 
-one_scene : (w : Script) (k : Option ℕ) (s : Seen) (e : Entry) → (see w k s e).scene ≡ effect s.scene e.request e.outcome
+one_scene : (w : Script) (k : Times) (s : Seen) (e : Entry) → (see w k s e).scene ≡ effect s.scene e.request e.outcome
 one_scene w k s e = by e.actor e.outcome
   where
     by : (a : Actor) (o : Outcome) → (see w k s (record { event = e.event; actor = a; request = e.request; outcome = o })).scene ≡ effect s.scene e.request o
@@ -30,13 +30,13 @@ one_scene w k s e = by e.actor e.outcome
     by (Attempt u a) ReplyLost = refl
     by Shell o = refl
 
-scene_is : (w : Script) (k : Option ℕ) (s : Seen) (es : List Entry) → (see_all w k s es).scene ≡ after_all s.scene es
+scene_is : (w : Script) (k : Times) (s : Seen) (es : List Entry) → (see_all w k s es).scene ≡ after_all s.scene es
 scene_is w k s [] = refl
 scene_is w k s (e ∷ es) = scene_is w k (see w k s e) es ∙ ap (λ v. after_all v es) (one_scene w k s e)
 
 -- ---- entries that read no set
 
-one_later : (w : Script) (k : Option ℕ) (s : Seen) (e : Entry) → (e.actor ≡ Driver → (t : ℕ) → is_reading w t e.request ≡ false) → (t : ℕ) → (see w k s e).picks t ≡ s.picks t
+one_later : (w : Script) (k : Times) (s : Seen) (e : Entry) → (e.actor ≡ Driver → (t : ℕ) → is_reading w t e.request ≡ false) → (t : ℕ) → (see w k s e).picks t ≡ s.picks t
 one_later w k s e h t = by e.actor refl e.outcome
   where
     by : (a : Actor) → e.actor ≡ a → (o : Outcome) → (see w k s (record { event = e.event; actor = a; request = e.request; outcome = o })).picks t ≡ s.picks t
@@ -47,7 +47,7 @@ one_later w k s e h t = by e.actor refl e.outcome
     by (Attempt u a) is ReplyLost = refl
     by Shell is o = refl
 
-pub later : (w : Script) (k : Option ℕ) (s : Seen) (es : List Entry) → NoneRead w es → (t : ℕ) → (see_all w k s es).picks t ≡ s.picks t
+pub later : (w : Script) (k : Times) (s : Seen) (es : List Entry) → NoneRead w es → (t : ℕ) → (see_all w k s es).picks t ≡ s.picks t
 later w k s [] h t = refl
 later w k s (e ∷ es) h t = later w k (see w k s e) es h.1 t ∙ one_later w k s e h.0 t
 
@@ -56,7 +56,7 @@ read_taken w es zero h = tt
 read_taken w [] (suc m) h = tt
 read_taken w (e ∷ es) (suc m) h = (h.0, read_taken w es m h.1)
 
-pub see_parts : (w : Script) (k : Option ℕ) (s : Seen) (es fs : List Entry) → see_all w k s (es ++ fs) ≡ see_all w k (see_all w k s es) fs
+pub see_parts : (w : Script) (k : Times) (s : Seen) (es fs : List Entry) → see_all w k s (es ++ fs) ≡ see_all w k (see_all w k s es) fs
 see_parts w k s [] fs = refl
 see_parts w k s (e ∷ es) fs = see_parts w k (see w k s e) es fs
 
@@ -99,7 +99,7 @@ module _ (w : Script) where
         absurd (false_true e (ap (λ b. b && not (is_clash w end)) picked ∙ ap (λ b. is_picked w now && not b) clash ∙ yes_all))
   ]
 
-module _ (g : Setting) (j : IsLegal g.script) (k : Option ℕ) (opening : Content) (is_opening : IsOpening g opening) where
+module _ (g : Setting) (j : IsLegal g.script) (k : Times) (opening : Content) (is_opening : IsOpening g opening) where
   abbrev w : Script
   w = g.script
 
@@ -134,10 +134,10 @@ module _ (g : Setting) (j : IsLegal g.script) (k : Option ℕ) (opening : Conten
     | inr late ↦ none (late_driver x.driver x.seen x.told late.driver op d)
   ]
 
-  driver_on : (es : List Entry) (x : Stand) → Runs g k opening es x → (op : Operation) → x.driver ≡ Some op → (n : ℕ) (r : Request) (o : Outcome) → asks g (who Driver) nothing_learnt op ≡ Some r → IsTimely k x.told.cleans_at n op → x.seen.scene.content.next ≤ 2 ^ 64 → IsHonestOutcome o (answer x.seen.scene r)
+  driver_on : (es : List Entry) (x : Stand) → Runs g k opening es x → (op : Operation) → x.driver ≡ Some op → (n : ℕ) (r : Request) (o : Outcome) → asks g (who Driver) nothing_learnt op ≡ Some r → IsTimely k n op → x.seen.scene.content.next ≤ 2 ^ 64 → IsHonestOutcome o (answer x.seen.scene r)
       → (t : ℕ) → t < w.tasks → ((see w k x.seen (driver_entry n r o)).picks t ≡ x.seen.picks t) ⊎ (x.seen.picks t ≡ None)
   driver_on es x run (TheCommit c) d n r o asked timely few honest t l =
-      grown x.seen.picks (see w k x.seen (driver_entry n r o)).picks c (commit_tells w c o) (picks_on g j k opening is_opening es x run c d (stood g j k opening is_opening es x run c d) n r o asked timely.0 few honest) t l
+      grown x.seen.picks (see w k x.seen (driver_entry n r o)).picks c (commit_tells w c o) (picks_on g j k opening is_opening es x run c d (stood g j k opening is_opening es x run c d) n r o asked timely few honest) t l
   driver_on es x run (TheSetup c) d n r o asked timely few honest t l = inl (driver_leaves w k x.seen n r o (setup_reads w c.operation r asked) t)
   driver_on es x run (TheClean c) d n r o asked timely few honest t l = inl (driver_leaves w k x.seen n r o (clean_reads w c.operation r asked) t)
   driver_on es x run (TheWrite c) d n r o asked timely few honest t l = absurd (no_driver es x run (TheWrite c) d (λ y. y))
@@ -169,7 +169,7 @@ module _ (g : Setting) (j : IsLegal g.script) (k : Option ℕ) (opening : Conten
   ]
 
   pub earlier : (es : List Entry) (x : Stand) → Runs g k opening es x → Earlier es x
-  earlier es x (run_begins c) = λ m l t low. inr (ap (λ (p : Picks). p t) (whole [] x (run_begins c) m (omega arith)))
+  earlier es x run_begins = λ m l t low. inr (ap (λ (p : Picks). p t) (whole [] x run_begins m (omega arith)))
   earlier es x (actor_begins fs y b run may) = earlier fs y run
   earlier es x (driver_sends fs y op n r o run d asked timely few honest) = earlier_more fs y (driver_entry n r o) x (driver_sends fs y op n r o run d asked timely few honest) (earlier fs y run) (driver_on fs y run op d n r o asked timely few honest)
   earlier es x (attempt_sends fs y a op n r o run set at asked honest) = earlier_more fs y (entry a n r o) x (attempt_sends fs y a op n r o run set at asked honest) (earlier fs y run) (λ t l. inl (ap (λ (p : Picks). p t) (attempts_leave w k y.seen a n r o)))

@@ -1,6 +1,6 @@
 -- The driver's commit in every run.
-use Rattle.std.proofs.Common.{◌≡◌, ℕ, zero, suc, ◌<◌, ◌≤◌, ◌^◌, ◌⊎◌, inl, inr, ◌&&◌, ◌||◌, Bool, true, false, cond, List, [], ◌∷◌, ◌++◌, length, Option, Some, None, refl, sym, ap, subst, ◌∙◌, arith, append-nil}
-use Rattle.job_facts.specs.Prelude.{is_some, Content, begins, answer, IsHonestOutcome, Driver, Request, Outcome, Answered, Entry, magic_prefix, success_key, SuccessPlace, run, Follows, Retried, WornFirst, Who, IsLegal, Script, CommitEnd, Picks, same_path, Setup, Sweeping, SetupOver, setup_asks, Listing, Clean, CleanOver, clean_asks, picks_of, Commit, CommitOver, commit_start, commit_asks, commit_tells, commit_over, Sound, AllSound, Setting, Operation, TheSetup, TheCommit, who, asks, tells, AreOwn, commit_due, end_or, is_mark_answered, CommitEnded, picks_below, picked, Seen, see, is_begun, is_reading, is_marked, entry, driver_entry, at_key, Hold}
+use Rattle.std.proofs.Common.{◌≡◌, ℕ, zero, suc, ◌<◌, ◌≤◌, ◌^◌, ◌⊎◌, inl, inr, ◌&&◌, Bool, true, false, cond, List, [], ◌∷◌, ◌++◌, length, Option, Some, None, refl, sym, ap, subst, ◌∙◌, arith, append-nil}
+use Rattle.job_facts.specs.Prelude.{is_some, Content, begins, answer, IsHonestOutcome, Driver, Request, Outcome, Answered, Entry, magic_prefix, success_key, SuccessPlace, run, Follows, Retried, WornFirst, Who, IsLegal, Script, CommitEnd, Picks, same_path, Setup, Sweeping, SetupOver, setup_asks, Listing, Clean, CleanOver, clean_asks, picks_of, Commit, CommitOver, commit_start, commit_asks, commit_tells, commit_over, Sound, AllSound, Setting, Operation, TheSetup, TheCommit, who, asks, tells, AreOwn, commit_due, end_or, is_mark_answered, CommitEnded, picks_below, picked, Seen, see, is_reading, is_marked, entry, driver_entry, at_key, Hold, Times, is_picking}
 use Rattle.job_spec.proofs.Common.{key_magic, none_sent, run_more, follows_more, some_is, none_some, false_true, same_or_not}
 use Rattle.job_protocol.specs.Prelude.{EndIs}
 use Rattle.job_model.specs.declared.ends.CommitEnd.TheVariants as commits
@@ -10,6 +10,7 @@ use Rattle.job_traces.specs.Runs.{Stand, Beginning, BeginSetup, BeginCommit, Beg
 use Rattle.job_facts.proofs.Legal.{some_dest}
 use Rattle.job_facts.proofs.Owning.{operation_own}
 use Rattle.job_traces.proofs.Keeping.{Quiet, attempt_quiet}
+use Rattle.job_traces.proofs.Steps.{commit_picks}
 use Rattle.job_traces.proofs.Running.{InCommit, At}
 use Rattle.job_traces.proofs.EveryRun.{good, just_set, just_idle, late, own_front, own_last}
 use Rattle.job_outcomes.specs.CommitRuns.{IsDue, WhereCommitted, CommitStands, PicksOneMore, PicksGrow, EndsDue, CommitRuns}
@@ -26,11 +27,11 @@ commit_is e = cc
 no_setup : {t : Retried Setup} {c : Commit} → Some (TheSetup t) ≡ Some (TheCommit c) → ⊥
 no_setup e = cc
 
-pub attempts_leave : (w : Script) (k : Option ℕ) (s : Seen) (a : Who) (n : ℕ) (r : Request) (o : Outcome) → (see w k s (entry a n r o)).picks ≡ s.picks
+pub attempts_leave : (w : Script) (k : Times) (s : Seen) (a : Who) (n : ℕ) (r : Request) (o : Outcome) → (see w k s (entry a n r o)).picks ≡ s.picks
 attempts_leave w k s a n r (Answered y) = refl
 attempts_leave w k s a n r _ = refl
 
-module _ (g : Setting) (j : IsLegal g.script) (k : Option ℕ) (opening : Content) (is_opening : IsOpening g opening) where
+module _ (g : Setting) (j : IsLegal g.script) (k : Times) (opening : Content) (is_opening : IsOpening g opening) where
   abbrev w : Script
   w = g.script
 
@@ -53,7 +54,7 @@ module _ (g : Setting) (j : IsLegal g.script) (k : Option ℕ) (opening : Conten
       let l = late g k opening j is_opening x (good g k opening j is_opening es x run) (ap is_set d) in
       (l.hold, subst (λ v. At g opening v x.seen x.told) d l.driver)
 
-  module _ (es : List Entry) (x : Stand) (runs : Runs g k opening es x) (c : Commit) (d : x.driver ≡ Some (TheCommit c)) (old : CommitStands g x c) (n : ℕ) (r : Request) (o : Outcome) (asked : commit_asks w c ≡ Some r) (timely : is_begun k n ≡ true) (few : x.seen.scene.content.next ≤ 2 ^ 64) (honest : IsHonestOutcome o (answer x.seen.scene r)) where
+  module _ (es : List Entry) (x : Stand) (runs : Runs g k opening es x) (c : Commit) (d : x.driver ≡ Some (TheCommit c)) (old : CommitStands g x c) (n : ℕ) (r : Request) (o : Outcome) (asked : commit_asks w c ≡ Some r) (timely : IsTimely k n (TheCommit c)) (few : x.seen.scene.content.next ≤ 2 ^ 64) (honest : IsHonestOutcome o (answer x.seen.scene r)) where
     abbrev next : Stand
     next = with_commit (with_driver (saw g k x (driver_entry n r o)) (TheCommit (commit_tells w c o))) (x.commit ++ driver_entry n r o ∷ [])
 
@@ -63,7 +64,7 @@ module _ (g : Setting) (j : IsLegal g.script) (k : Option ℕ) (opening : Conten
     sends_on : CommitStands g next (commit_tells w c o)
     sends_on =
         let l = late_at es x runs c d in
-        let a = after_entry g j k x.seen x.told l.0 l.1.uncleaned few n timely old.missing old.sets c l.1.decides old.at old.picks r asked o honest in
+        let a = after_entry g j k x.seen x.told l.0 l.1.uncleaned few n (commit_picks k x.seen.begun n timely.0 timely.1) old.missing old.sets c l.1.decides old.at old.picks r asked o honest in
         record {
           missing = old.missing;
           follows = follows_more (commit_asks w) (commit_tells w) first x.commit (driver_entry n r o) old.follows (ap (commit_asks w) old.leads ∙ asked);
@@ -76,11 +77,11 @@ module _ (g : Setting) (j : IsLegal g.script) (k : Option ℕ) (opening : Conten
         }
 
     pub picks_on : PicksGrow w x.seen.picks (see w k x.seen (driver_entry n r o)).picks c (commit_tells w c o)
-    picks_on = let l = late_at es x runs c d in (after_entry g j k x.seen x.told l.0 l.1.uncleaned few n timely old.missing old.sets c l.1.decides old.at old.picks r asked o honest).grows
+    picks_on = let l = late_at es x runs c d in (after_entry g j k x.seen x.told l.0 l.1.uncleaned few n (commit_picks k x.seen.begun n timely.0 timely.1) old.missing old.sets c l.1.decides old.at old.picks r asked o honest).grows
 
-  driver_on : (es : List Entry) (x : Stand) → Runs g k opening es x → Stood x → (op : Operation) (n : ℕ) (r : Request) (o : Outcome) → x.driver ≡ Some op → asks g (who Driver) nothing_learnt op ≡ Some r → IsTimely k x.told.cleans_at n op → x.seen.scene.content.next ≤ 2 ^ 64 → IsHonestOutcome o (answer x.seen.scene r)
+  driver_on : (es : List Entry) (x : Stand) → Runs g k opening es x → Stood x → (op : Operation) (n : ℕ) (r : Request) (o : Outcome) → x.driver ≡ Some op → asks g (who Driver) nothing_learnt op ≡ Some r → IsTimely k n op → x.seen.scene.content.next ≤ 2 ^ 64 → IsHonestOutcome o (answer x.seen.scene r)
       → Stood (with_commit (with_driver (saw g k x (driver_entry n r o)) (tells g (who Driver) op o)) (commit_with op x.commit (driver_entry n r o)))
-  driver_on es x runs old (TheCommit c) n r o d asked timely few honest v e = subst (CommitStands g _) (commit_is e) (sends_on es x runs c d (old c d) n r o asked timely.0 few honest)
+  driver_on es x runs old (TheCommit c) n r o d asked timely few honest v e = subst (CommitStands g _) (commit_is e) (sends_on es x runs c d (old c d) n r o asked timely few honest)
   driver_on es x runs old _ n r o d asked timely few honest v e = absurd cc
 
   -- ---- entries of others, and what begins beside it
@@ -108,7 +109,7 @@ module _ (g : Setting) (j : IsLegal g.script) (k : Option ℕ) (opening : Conten
   -- ---- every run
 
   pub stood : (es : List Entry) (x : Stand) → Runs g k opening es x → Stood x
-  stood es x (run_begins v) c e = absurd (none_some refl e)
+  stood es x run_begins c e = absurd (none_some refl e)
   stood es x (actor_begins fs y b runs may) c e = begins_on fs y runs (stood fs y runs) b may c e
   stood es x (driver_sends fs y op n r o runs d asked timely few honest) c e = driver_on fs y runs (stood fs y runs) op n r o d asked timely few honest c e
   stood es x (attempt_sends fs y a op n r o runs set at asked honest) c e = same_stand y x (λ t. ap (λ (p : Picks). p t) (attempts_leave w k y.seen a n r o)) refl c (stood fs y runs c e)
@@ -137,7 +138,7 @@ module _ (g : Setting) (j : IsLegal g.script) (k : Option ℕ) (opening : Conten
   mark_driver es x runs _ d n r o asked c e = absurd cc
 
   pub marks : (es : List Entry) (x : Stand) → Runs g k opening es x → AreOwn es → Marked x
-  marks es x (run_begins v) own c e = absurd (none_some refl e)
+  marks es x run_begins own c e = absurd (none_some refl e)
   marks es x (actor_begins fs y b runs may) own c e = mark_begins y (marks fs y runs own) b c e
   marks es x (driver_sends fs y op n r o runs d asked timely few honest) own c e = mark_driver fs y runs op d n r o asked c e
   marks es x (attempt_sends fs y a op n r o runs set at asked honest) own c e =
@@ -199,7 +200,7 @@ module _ (g : Setting) (j : IsLegal g.script) (x : Stand) (end : CommitEnd) (h :
 has_answered : (g : Setting) (x : Stand) (end : CommitEnd) → CommitStands g x (CommitOver end) → end ≡ commits.Committed → is_mark_answered g.script x.commit ≡ true
 has_answered g x end h e = subst (λ v. WhereCommitted (is_mark_answered g.script x.commit ≡ true) (CommitOver v)) e h.answered
 
-commit_ended : (g : Setting) → IsLegal g.script → (k : Option ℕ) (opening : Content) → IsOpening g opening → (es : List Entry) (x : Stand) → Runs g k opening es x → (end : CommitEnd) → x.driver ≡ Some (TheCommit (CommitOver end))
+commit_ended : (g : Setting) → IsLegal g.script → (k : Times) (opening : Content) → IsOpening g opening → (es : List Entry) (x : Stand) → Runs g k opening es x → (end : CommitEnd) → x.driver ≡ Some (TheCommit (CommitOver end))
     → (missing : Option ℕ) → run (commit_tells g.script) (commit_start g.script missing) x.commit ≡ CommitOver end → CommitEnded g.script x.seen missing x.commit end
 commit_ended g j k opening is_opening es x runs end d missing leads =
     let h = stood g j k opening is_opening es x runs (CommitOver end) d in
@@ -213,8 +214,8 @@ and_none : (b : Bool) → (b && false) ≡ false
 and_none true = refl
 and_none false = refl
 
-pub driver_leaves : (w : Script) (k : Option ℕ) (s : Seen) (n : ℕ) (r : Request) (o : Outcome) → ((t : ℕ) → is_reading w t r ≡ false) → (t : ℕ) → (see w k s (driver_entry n r o)).picks t ≡ s.picks t
-driver_leaves w k s n r (Answered y) e t = ap (λ b. cond ((s.begun || is_begun k n) && b) (s.last t) (s.picks t)) (e t) ∙ ap (λ b. cond b (s.last t) (s.picks t)) (and_none (s.begun || is_begun k n))
+pub driver_leaves : (w : Script) (k : Times) (s : Seen) (n : ℕ) (r : Request) (o : Outcome) → ((t : ℕ) → is_reading w t r ≡ false) → (t : ℕ) → (see w k s (driver_entry n r o)).picks t ≡ s.picks t
+driver_leaves w k s n r (Answered y) e t = ap (λ b. cond ((is_picking k s.begun n) && b) (s.last t) (s.picks t)) (e t) ∙ ap (λ b. cond b (s.last t) (s.picks t)) (and_none (is_picking k s.begun n))
 driver_leaves w k s n r _ e t = refl
 
 pub setup_reads : (w : Script) (c : Setup) (r : Request) → setup_asks w c ≡ Some r → (t : ℕ) → is_reading w t r ≡ false

@@ -1,6 +1,6 @@
 -- One entry of the driver's commit, and where it leads with the sets that it holds.
 use Rattle.std.proofs.Common.{◌≡◌, ℕ, ◌<◌, ◌+◌, nat_lt, ◌&&◌, ◌||◌, not, Bool, true, false, cond, List, [], ◌∷◌, ◌++◌, length, Option, Some, None, refl, sym, ap, subst, ◌∙◌}
-use Rattle.job_facts.specs.Prelude.{list_any, is_some, apply, Request, CompleteUpload, Reply, Outcome, Answered, Slow, Entry, PendingSet, run, IsLegal, Script, CommitEnd, same_path, mark_text, Sweep, sweep_hears, Turn, again, follow, dealt, nth, completion, revert, Sets, picks_of, all_commits, set_read, Commit, Fetching, Replacing, Completing, Marking, Reverting, CommitOver, completing, is_no_magic, replaced, replacing, decided, fetching, fetched, swept, reverting, worn_completion, commit_asks, commit_hears, commit_misses, commit_tells, commit_start, Sound, AllSound, commit_due, end_or, is_driver, is_mark_answered, Seen, see, is_marking, is_marked, HasBucket, Told, driver_entry, at_key, Hold, FitsJobCommit, Decides}
+use Rattle.job_facts.specs.Prelude.{list_any, is_some, apply, Request, CompleteUpload, Reply, Outcome, Answered, Slow, Entry, PendingSet, run, IsLegal, Script, CommitEnd, same_path, mark_text, Sweep, sweep_hears, Turn, again, follow, dealt, nth, completion, revert, Sets, picks_of, all_commits, set_read, Commit, Fetching, Replacing, Completing, Marking, Reverting, CommitOver, completing, is_no_magic, replaced, replacing, decided, fetching, fetched, swept, reverting, worn_completion, commit_asks, commit_hears, commit_misses, commit_tells, commit_start, Sound, AllSound, commit_due, end_or, is_driver, is_mark_answered, Seen, see, is_marking, is_marked, HasBucket, Told, driver_entry, at_key, Hold, FitsJobCommit, Decides, Times}
 use Rattle.job_protocol.specs.Prelude.{is_unanswered, Stage, RequestsApart}
 use Rattle.job_spec.proofs.Common.{shared_found, some_is, none_some, text_true}
 use Rattle.magic_paths.specs.Layout as layout
@@ -209,7 +209,7 @@ any_last : (p : Entry → Bool) (es : List Entry) (e : Entry) → p e ≡ true �
 any_last p [] e h = ap (λ b. b || false) h
 any_last p (x ∷ es) e h = ap (λ b. p x || b) (any_last p es e h) ∙ or_true (p x)
 
-module _ (w : Script) (k : Option ℕ) (s : Seen) (there : HasBucket s.scene.content w.dest.bucket) (n : ℕ) (r : Request) (es : List Entry) where
+module _ (w : Script) (k : Times) (s : Seen) (there : HasBucket s.scene.content w.dest.bucket) (n : ℕ) (r : Request) (es : List Entry) where
   marks_request : (sets : Sets) (x : ℕ) → commit_asks w (Marking sets x) ≡ Some r → is_marking w r ≡ true
   marks_request sets x asked = ap (is_marking w) (sym (some_is asked)) ∙ rw (text_true w.dest.bucket w.dest.bucket refl, text_true (layout.success_key w.dest.key) (layout.success_key w.dest.key) refl) refl
 

@@ -1,6 +1,6 @@
 -- In a run, until the driver's abort or clean has begun an attempt's write or commit finds nothing gone, and a commit that is done has published.
 use Rattle.std.proofs.Common.{◌≡◌, ℕ, inl, inr, Bool, true, false, List, [], ◌∷◌, Option, Some, None, refl, sym, ap, subst, ◌∙◌}
-use Rattle.job_facts.specs.Prelude.{option_map, Content, Committer, Magic, Directory, Partitioned, Entry, fresh, Who, actor_of, File, Known, IsLegal, Op, TaskEnd, OpEnd, setup_over, commit_over, clean_over, Setting, Operation, TheSetup, TheWrite, TheTaskCommit, TheTaskAbort, TheCommit, TheClean, start_of, over, files, has_cleaned, WasPublished, Seen, until_last, NotGone, WriteStands, CommitStandsBy, Told, nothing_told}
+use Rattle.job_facts.specs.Prelude.{option_map, Content, Committer, Magic, Directory, Partitioned, Entry, fresh, Who, actor_of, File, Known, IsLegal, Op, TaskEnd, OpEnd, setup_over, commit_over, clean_over, Setting, Operation, TheSetup, TheWrite, TheTaskCommit, TheTaskAbort, TheCommit, TheClean, start_of, over, files, has_cleaned, WasPublished, Seen, until_last, NotGone, WriteStands, CommitStandsBy, Told, nothing_told, Times}
 use Rattle.job_spec.proofs.Common.{some_is, none_some, false_true, true_or_false}
 use Rattle.job_model.specs.declared.events.Op.TheVariants as ops
 use Rattle.job_model.specs.declared.ends.TaskEnd.TheVariants as tasks
@@ -14,7 +14,7 @@ use Rattle.job_traces.proofs.Published.{Own, StandsBy, standing, has_published}
 use Rattle.job_outcomes.specs.TaskEnds.{is_abort}
 use Rattle.job_outcomes.proofs.RunEntries.{at_last, behind_last, longer_published}
 
-module _ (g : Setting) (k : Option ℕ) (opening : Content) (j : IsLegal g.script) (is_opening : IsOpening g opening) where
+module _ (g : Setting) (k : Times) (opening : Content) (j : IsLegal g.script) (is_opening : IsOpening g opening) where
   gone_is : {d : TaskEnd} {name : List ℕ} → Some (ends.Task d) ≡ Some (ends.Task (tasks.Gone name)) → d ≡ tasks.Gone name
   gone_is e = cc
 

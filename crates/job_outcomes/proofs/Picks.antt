@@ -1,9 +1,8 @@
 -- The picks that are seen after one more entry of the driver's commit.
-use Rattle.std.proofs.Common.{◌≡◌, ℕ, zero, suc, ◌<◌, ◌≤◌, ◌^◌, ◌⊎◌, inl, inr, ◌&&◌, ◌||◌, Bool, true, false, cond, List, [], ◌∷◌, ◌++◌, length, slice_get, Option, Some, None, refl, sym, ap, subst, ◌∙◌, arith}
-use Rattle.job_facts.specs.Prelude.{option_map, answer, read_answer, IsHonestOutcome, Object, Committer, Magic, Directory, Partitioned, Request, Reply, Refused, NoSuchKey, NoSuchFile, Outcome, Answered, Slow, RequestLost, ReplyLost, SetPlace, key_at, PendingSet, IsLegal, files_set, Script, Picks, Sweep, Listing, Deleting, sweep_asks, Sets, picks_of, set_request, set_read, Commit, Fetching, Replacing, Completing, Marking, Reverting, CommitOver, fetched, commit_asks, commit_tells, Setting, Seen, see, is_begun, is_reading, picks_by, Told, driver_entry, at_place, sets_at, set_at, Hold, knowing, Decides}
+use Rattle.std.proofs.Common.{◌≡◌, ℕ, zero, suc, ◌<◌, ◌≤◌, ◌^◌, ◌⊎◌, inl, inr, ◌&&◌, Bool, true, false, cond, List, [], ◌∷◌, ◌++◌, length, slice_get, Option, Some, None, refl, sym, ap, subst, ◌∙◌, arith}
+use Rattle.job_facts.specs.Prelude.{option_map, answer, read_answer, IsHonestOutcome, Object, Committer, Magic, Directory, Partitioned, Request, Reply, Refused, NoSuchKey, NoSuchFile, Outcome, Answered, Slow, RequestLost, ReplyLost, SetPlace, key_at, PendingSet, IsLegal, files_set, Script, Picks, Sweep, Listing, Deleting, sweep_asks, Sets, picks_of, set_request, set_read, Commit, Fetching, Replacing, Completing, Marking, Reverting, CommitOver, fetched, commit_asks, commit_tells, Setting, Seen, see, is_reading, picks_by, Told, driver_entry, at_place, sets_at, set_at, Hold, knowing, Decides, Times, is_picking}
 use Rattle.job_spec.proofs.Common.{some_is, none_some, false_true, same_or_not, none_or_some}
 use Rattle.s3_types.specs.Answer.{found}
-use Rattle.job_facts.proofs.Whose.{or_true}
 use Rattle.job_facts.proofs.Shapes.{answer_is, key_before}
 use Rattle.job_facts.proofs.Replies.{set_answered}
 use Rattle.job_facts.proofs.Reading.{reads_it, reads_other}
@@ -38,15 +37,12 @@ and_false : (b : Bool) → (b && false) ≡ false
 and_false true = refl
 and_false false = refl
 
-module _ (g : Setting) (j : IsLegal g.script) (k : Option ℕ) (s : Seen) (m : Told) (h : Hold g.script g.minimum s m) (before : m.cleaned ≡ false) (few : s.scene.content.next ≤ 2 ^ 64) (n : ℕ) (timely : is_begun k n ≡ true) where
+module _ (g : Setting) (j : IsLegal g.script) (k : Times) (s : Seen) (m : Told) (h : Hold g.script g.minimum s m) (before : m.cleaned ≡ false) (few : s.scene.content.next ≤ 2 ^ 64) (n : ℕ) (is_open : is_picking k s.begun n ≡ true) where
   abbrev w : Script
   w = g.script
 
-  abbrev begun_now : Bool
-  begun_now = s.begun || is_begun k n
-
-  has_begun : begun_now ≡ true
-  has_begun = ap (λ b. s.begun || b) timely ∙ or_true s.begun
+  abbrev picking : Bool
+  picking = is_picking k s.begun n
 
   abbrev after : Request → Outcome → Picks
   after r o = (see w k s (driver_entry n r o)).picks
@@ -61,7 +57,7 @@ module _ (g : Setting) (j : IsLegal g.script) (k : Option ℕ) (s : Seen) (m : T
   -- ---- what is no read
 
   unread : (r : Request) → ((t : ℕ) → is_reading w t r ≡ false) → (o : Outcome) (t : ℕ) → after r o t ≡ s.picks t
-  unread r e (Answered y) t = ap (λ b. cond (begun_now && b) (s.last t) (s.picks t)) (e t) ∙ ap (λ b. cond b (s.last t) (s.picks t)) (and_false begun_now)
+  unread r e (Answered y) t = ap (λ b. cond (picking && b) (s.last t) (s.picks t)) (e t) ∙ ap (λ b. cond b (s.last t) (s.picks t)) (and_false picking)
   unread r e _ t = refl
 
   sweep_unread : (p : List ℕ) (x : Sweep) (t : ℕ) → is_reading w t (sweep_asks w.dest.bucket p x) ≡ false
@@ -75,13 +71,13 @@ module _ (g : Setting) (j : IsLegal g.script) (k : Option ℕ) (s : Seen) (m : T
     r = set_request w.committer w (length sets)
 
     abbrev next : Picks
-    next = picks_by w begun_now s.last s.picks r
+    next = picks_by w picking s.last s.picks r
 
     here : next (length sets) ≡ s.last (length sets)
-    here = ap (λ b. cond (begun_now && b) (s.last (length sets)) (s.picks (length sets))) (reads_it j (length sets)) ∙ ap (λ b. cond (b && true) (s.last (length sets)) (s.picks (length sets))) has_begun
+    here = ap (λ b. cond (picking && b) (s.last (length sets)) (s.picks (length sets))) (reads_it j (length sets)) ∙ ap (λ b. cond (b && true) (s.last (length sets)) (s.picks (length sets))) is_open
 
     other : (t : ℕ) → t < w.tasks → (t ≡ length sets → ⊥) → next t ≡ s.picks t
-    other t l ne = ap (λ b. cond (begun_now && b) (s.last t) (s.picks t)) (reads_other j t (length sets) l low ne) ∙ ap (λ b. cond b (s.last t) (s.picks t)) (and_false begun_now)
+    other t l ne = ap (λ b. cond (picking && b) (s.last t) (s.picks t)) (reads_other j t (length sets) l low ne) ∙ ap (λ b. cond b (s.last t) (s.picks t)) (and_false picking)
 
     no_later : (t : ℕ) → t < w.tasks → length sets ≤ t → s.picks t ≡ None
     no_later t l high = agree t l ∙ ap (option_map (λ (v : PendingSet). v.attempt)) (slice_behind sets t high)

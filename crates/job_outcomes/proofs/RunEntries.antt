@@ -1,6 +1,6 @@
 -- Whose the entries of a run are.
 use Rattle.std.proofs.Common.{◌≡◌, ℕ, zero, suc, ◌<◌, ◌≤◌, ◌⊎◌, inl, inr, ◌||◌, Bool, true, false, cond, List, [], ◌∷◌, ◌++◌, length, slice_get, Option, Some, None, refl, sym, ap, subst, ◌∙◌, arith}
-use Rattle.job_facts.specs.Prelude.{filter, list_any, Content, after_all, Actor, Driver, Request, Outcome, Entry, Who, actor_of, Script, Known, Op, Setup, SetupOver, setup_asks, Commit, Setting, Operation, TheSetup, TheCommit, TheClean, who, asks, tells, start_of, WasPublished, is_begun, is_publishing, by_actor, until_last, AllBy, AllUpTo, is_own, own, same_actor, known, put_who, entry, driver_entry, strange_entry}
+use Rattle.job_facts.specs.Prelude.{filter, list_any, Content, after_all, Actor, Driver, Request, Outcome, Entry, Who, actor_of, Script, Known, Op, Setup, SetupOver, setup_asks, Commit, Setting, Operation, TheSetup, TheCommit, TheClean, who, asks, tells, start_of, WasPublished, is_begun, is_publishing, by_actor, until_last, AllBy, AllUpTo, is_own, own, same_actor, known, put_who, entry, driver_entry, strange_entry, Times}
 use Rattle.job_spec.proofs.Common.{append-nil, take-append-le, filter-append, list_any-append, slice_get_within, some_is, none_some, false_true}
 use Rattle.s3_types.specs.Store.{opening as opening_scene}
 use Rattle.job_model.specs.declared.events.Op.TheVariants as ops
@@ -32,26 +32,26 @@ behind_last a (e ∷ es) = by (list_any (λ x. same_actor x.actor a) (e ∷ es))
     by true h = (h.0, ap (λ l. e ∷ l) h.1)
     by false h = (e ∷ es, refl)
 
-module _ (g : Setting) (k : Option ℕ) (opening : Content) where
+module _ (g : Setting) (k : Times) (opening : Content) where
   -- ---- the commit's entries
 
   abbrev since_commit : List Entry → List Entry
-  since_commit es = filter (λ e. is_begun k e.event) (by_actor Driver es)
+  since_commit es = filter (λ e. is_begun k.commit e.event) (by_actor Driver es)
 
   -- one more of the driver's, and one of an attempt
-  driver_more : (es : List Entry) (n : ℕ) (r : Request) (o : Outcome) → since_commit (es ++ driver_entry n r o ∷ []) ≡ since_commit es ++ cond (is_begun k n) (driver_entry n r o ∷ []) []
+  driver_more : (es : List Entry) (n : ℕ) (r : Request) (o : Outcome) → since_commit (es ++ driver_entry n r o ∷ []) ≡ since_commit es ++ cond (is_begun k.commit n) (driver_entry n r o ∷ []) []
   driver_more es n r o =
-      ap (filter (λ e. is_begun k e.event)) (filter-append (λ e. same_actor e.actor Driver) es (driver_entry n r o ∷ []))
-      ∙ filter-append (λ e. is_begun k e.event) (by_actor Driver es) (driver_entry n r o ∷ [])
-      ∙ ap (λ l. since_commit es ++ l) (by (is_begun k n) refl)
+      ap (filter (λ e. is_begun k.commit e.event)) (filter-append (λ e. same_actor e.actor Driver) es (driver_entry n r o ∷ []))
+      ∙ filter-append (λ e. is_begun k.commit e.event) (by_actor Driver es) (driver_entry n r o ∷ [])
+      ∙ ap (λ l. since_commit es ++ l) (by (is_begun k.commit n) refl)
     where
-      by : (b : Bool) → is_begun k n ≡ b → filter (λ e. is_begun k e.event) (driver_entry n r o ∷ []) ≡ cond (is_begun k n) (driver_entry n r o ∷ []) []
+      by : (b : Bool) → is_begun k.commit n ≡ b → filter (λ e. is_begun k.commit e.event) (driver_entry n r o ∷ []) ≡ cond (is_begun k.commit n) (driver_entry n r o ∷ []) []
       by true e = rw e refl
       by false e = rw e refl
 
   other_more : (es : List Entry) (e : Entry) → same_actor e.actor Driver ≡ false → since_commit (es ++ e ∷ []) ≡ since_commit es
   other_more es e other =
-      ap (filter (λ e. is_begun k e.event)) (filter-append (λ e. same_actor e.actor Driver) es (e ∷ []) ∙ ap (λ l. by_actor Driver es ++ l) (rw other refl) ∙ append-nil (by_actor Driver es))
+      ap (filter (λ e. is_begun k.commit e.event)) (filter-append (λ e. same_actor e.actor Driver) es (e ∷ []) ∙ ap (λ l. by_actor Driver es ++ l) (rw other refl) ∙ append-nil (by_actor Driver es))
 
   abbrev Stood : Option Operation → List Entry → List Entry → Type 0
   Stood None es commit = since_commit es ≡ []
@@ -83,11 +83,11 @@ module _ (g : Setting) (k : Option ℕ) (opening : Content) where
   other_stood (Some (TheClean t)) es commit e other h = tt
   other_stood (Some _) es commit e other h = absurd h
 
-  driver_stood : (op : Operation) (es commit : List Entry) (c : Option ℕ) (n : ℕ) (r : Request) (o : Outcome) → IsTimely k c n op → Stood (Some op) es commit → Stood (Some (tells g (who Driver) op o)) (es ++ driver_entry n r o ∷ []) (commit_with op commit (driver_entry n r o))
-  driver_stood (TheSetup t) es commit v n r o timely h = driver_more es n r o ∙ ap (λ b. since_commit es ++ cond b (driver_entry n r o ∷ []) []) timely.0 ∙ ap (λ l. l ++ []) h
-  driver_stood (TheCommit c) es commit v n r o timely h = ap (λ l. l ++ driver_entry n r o ∷ []) h ∙ sym (driver_more es n r o ∙ ap (λ b. since_commit es ++ cond b (driver_entry n r o ∷ []) []) timely.0)
-  driver_stood (TheClean t) es commit v n r o timely h = tt
-  driver_stood _ es commit v n r o timely h = absurd h
+  driver_stood : (op : Operation) (es commit : List Entry) (n : ℕ) (r : Request) (o : Outcome) → IsTimely k n op → Stood (Some op) es commit → Stood (Some (tells g (who Driver) op o)) (es ++ driver_entry n r o ∷ []) (commit_with op commit (driver_entry n r o))
+  driver_stood (TheSetup t) es commit n r o timely h = driver_more es n r o ∙ ap (λ b. since_commit es ++ cond b (driver_entry n r o ∷ []) []) timely.0 ∙ ap (λ l. l ++ []) h
+  driver_stood (TheCommit c) es commit n r o timely h = ap (λ l. l ++ driver_entry n r o ∷ []) h ∙ sym (driver_more es n r o ∙ ap (λ b. since_commit es ++ cond b (driver_entry n r o ∷ []) []) timely.0)
+  driver_stood (TheClean t) es commit n r o timely h = tt
+  driver_stood _ es commit n r o timely h = absurd h
 
   begin_stood : (es : List Entry) (x : Stand) (b : Beginning) → MayBegin g x b → Stood x.driver es x.commit → Stood (begin g x b).driver es (begin g x b).commit
   begin_stood es x BeginSetup may h = may_so x es may h
@@ -96,9 +96,9 @@ module _ (g : Setting) (k : Option ℕ) (opening : Content) where
   begin_stood es x _ may h = h
 
   stood : (es : List Entry) (x : Stand) → Runs g k opening es x → Stood x.driver es x.commit
-  stood es x (run_begins v) = refl
+  stood es x run_begins = refl
   stood es x (actor_begins fs y b run may) = begin_stood fs y b may (stood fs y run)
-  stood es x (driver_sends fs y op n r o run d asked timely few honest) = driver_stood op fs y.commit y.told.cleans_at n r o timely (subst (λ v. Stood v fs y.commit) d (stood fs y run))
+  stood es x (driver_sends fs y op n r o run d asked timely few honest) = driver_stood op fs y.commit n r o timely (subst (λ v. Stood v fs y.commit) d (stood fs y run))
   stood es x (attempt_sends fs y a op n r o run set at asked honest) = other_stood y.driver fs y.commit (entry a n r o) refl (stood fs y run)
   stood es x (strays fs y n r o run f) = other_stood y.driver fs y.commit (strange_entry n r o) refl (stood fs y run)
 
@@ -129,7 +129,7 @@ module _ (g : Setting) (k : Option ℕ) (opening : Content) where
   begin_alone es x _ h = h
 
   alone : (es : List Entry) (x : Stand) → Runs g k opening es x → Alone es x
-  alone es x (run_begins v) = inl tt
+  alone es x run_begins = inl tt
   alone es x (actor_begins fs y b run may) = begin_alone fs y b (alone fs y run)
   alone es x (driver_sends fs y op n r o run d asked timely few honest) = driver_alone fs y n r o (alone fs y run)
   alone es x (attempt_sends fs y a op n r o run set at asked honest) = inr (a, _, who_here y.attempts a (Some _) a refl)
@@ -164,7 +164,7 @@ module _ (g : Setting) (k : Option ℕ) (opening : Content) where
   none_begin x (BeginAbort a) may old e = absurd (false_true e may.0)
 
   none_begun : (es : List Entry) (x : Stand) → Runs g k opening es x → is_set x.driver ≡ false → (a : Who) → x.attempts a ≡ None
-  none_begun es x (run_begins v) e b = refl
+  none_begun es x run_begins e b = refl
   none_begun es x (actor_begins fs y v run may) e b = none_begin y v may (none_begun fs y run) e b
   none_begun es x (driver_sends fs y op n r o run d asked timely few honest) e b = none_begun fs y run (ap is_set d ∙ was_unset op r o asked e) b
   none_begun es x (attempt_sends fs y a op n r o run set at asked honest) e b = absurd (false_true e set)
@@ -189,7 +189,7 @@ module _ (g : Setting) (k : Option ℕ) (opening : Content) where
     begun_at y _ at = at
 
     pub at_last : (es : List Entry) (x : Stand) → Runs g k opening es x → x.attempts a ≡ Some op → At a op x.told.cleans_at (until_last (actor_of a) es)
-    at_last es x (run_begins c) at = absurd (none_some refl at)
+    at_last es x run_begins at = absurd (none_some refl at)
     at_last es x (actor_begins fs y b run may) at = at_last fs y run (begun_at y b at)
     at_last es x (driver_sends fs y d n r o run is asked timely few honest) at = subst (At a op y.told.cleans_at) (sym (last_other (actor_of a) fs (driver_entry n r o) refl)) (at_last fs y run at)
     at_last es x (attempt_sends fs y b m n r o run set is asked honest) at = elim (same_or_another b a) [

@@ -1,6 +1,6 @@
 -- What the driver's commit is answered in every run: a completion finds no upload only where an earlier sending of it was lost, and a read of a set finds it where its task has a last publisher.
 use Rattle.std.proofs.Common.{◌≡◌, ℕ, nat_lt, ◌≤◌, ◌^◌, ◌⊎◌, inl, inr, ◌&&◌, ◌||◌, Bool, true, false, cond, List, [], ◌∷◌, ◌++◌, length, Option, Some, None, IsSome, is_some, refl, sym, ap, subst, ◌∙◌}
-use Rattle.job_facts.specs.Prelude.{list_any, named_from, Content, live, with_key, joined, answer, complete_answer, IsHonestOutcome, Driver, Shell, Request, Refusal, NoSuchUpload, Reply, Refused, Outcome, Answered, Slow, Entry, Pending, PendingSet, Who, actor_of, IsLegal, Script, CommitEnd, same_path, Sweep, Listing, sweep_hears, Turn, again, follow, dealt, nth, completion, revert, In, Tabled, Sets, picks_of, all_commits, set_request, set_read, Commit, Fetching, Replacing, Completing, Marking, Reverting, CommitOver, is_no_magic, completing, replaced, replacing, decided, fetching, fetched, swept, reverting, worn_completion, commit_start, commit_asks, commit_hears, commit_misses, commit_tells, stage_of, Setting, Operation, TheSetup, TheWrite, TheTaskCommit, TheTaskAbort, TheCommit, TheClean, who, asks, tells, was_lost, Seen, is_begun, is_reading, Told, entry, driver_entry, strange_entry, Hold, Gone, Reads}
+use Rattle.job_facts.specs.Prelude.{list_any, named_from, Content, live, with_key, joined, answer, complete_answer, IsHonestOutcome, Driver, Shell, Request, Refusal, NoSuchUpload, Reply, Refused, Outcome, Answered, Slow, Entry, Pending, PendingSet, Who, actor_of, IsLegal, Script, CommitEnd, same_path, Sweep, Listing, sweep_hears, Turn, again, follow, dealt, nth, completion, revert, In, Tabled, Sets, picks_of, all_commits, set_request, set_read, Commit, Fetching, Replacing, Completing, Marking, Reverting, CommitOver, is_no_magic, completing, replaced, replacing, decided, fetching, fetched, swept, reverting, worn_completion, commit_start, commit_asks, commit_hears, commit_misses, commit_tells, stage_of, Setting, Operation, TheSetup, TheWrite, TheTaskCommit, TheTaskAbort, TheCommit, TheClean, who, asks, tells, was_lost, Seen, is_reading, Told, entry, driver_entry, strange_entry, Hold, Gone, Reads, Times}
 use Rattle.job_spec.proofs.Common.{list_any-append, same_self, some_is, none_some, false_true, true_or_false}
 use Rattle.job_spec.specs.Prelude.{same_request}
 use Rattle.job_model.specs.declared.ends.Stage.TheVariants as stages
@@ -17,6 +17,7 @@ use Rattle.job_facts.proofs.Shapes.{id_before, answer_is}
 use Rattle.job_facts.proofs.Turning.{turn_answered}
 use Rattle.job_facts.proofs.Reading.{reads_it}
 use Rattle.job_traces.proofs.Entries.{late_now, sees}
+use Rattle.job_traces.proofs.Steps.{commit_picks}
 use Rattle.job_traces.proofs.Running.{At, InCommit}
 use Rattle.job_outcomes.specs.CommitRuns.{ArePicks, Unpublished, CommitAnswers}
 use Rattle.job_outcomes.proofs.Picks.{other_unread, brings}
@@ -179,7 +180,7 @@ module _ (w : Script) (minimum : ℕ) (s : Seen) (m : Told) (j : IsLegal w) (h :
 no_complete : stages.Read ≡ stages.Complete → ⊥
 no_complete e = cc
 
-module _ (g : Setting) (k : Option ℕ) (opening : Content) (j : IsLegal g.script) (is_opening : IsOpening g opening) where
+module _ (g : Setting) (k : Times) (opening : Content) (j : IsLegal g.script) (is_opening : IsOpening g opening) where
   abbrev w : Script
   w = g.script
 
@@ -231,7 +232,7 @@ module _ (g : Setting) (k : Option ℕ) (opening : Content) (j : IsLegal g.scrip
   begin_answers x _ old c e = old c e
 
   pub answers : (es : List Entry) (x : Stand) → Runs g k opening es x → Answers x
-  answers es x (run_begins v) c e = absurd (none_some refl e)
+  answers es x run_begins c e = absurd (none_some refl e)
   answers es x (actor_begins fs y b run may) c e = begin_answers y b (answers fs y run) c e
   answers es x (driver_sends fs y op n r o run d asked timely few honest) c e = driver_answers fs y run (answers fs y run) op n r o d asked honest c e
   answers es x (attempt_sends fs y a op n r o run set at asked honest) c e = answers fs y run c e
@@ -242,21 +243,21 @@ module _ (g : Setting) (k : Option ℕ) (opening : Content) (j : IsLegal g.scrip
   abbrev IsThere : List Entry → Entry → Type 0
   IsThere before e = e.actor ≡ Driver → (t : ℕ) (y : Reply) → e.request ≡ set_request w.committer w t → e.outcome ≡ Answered y → IsSome (set_read y) ⊎ Unpublished w k opening before
 
-  commit_there : (fs : List Entry) (x : Stand) → Runs g k opening fs x → (c : Commit) (n : ℕ) (r : Request) (o : Outcome) → x.driver ≡ Some (TheCommit c) → commit_asks w c ≡ Some r → is_begun k n ≡ true → x.seen.scene.content.next ≤ 2 ^ 64 → IsHonestOutcome o (answer x.seen.scene r) → IsThere fs (driver_entry n r o)
+  commit_there : (fs : List Entry) (x : Stand) → Runs g k opening fs x → (c : Commit) (n : ℕ) (r : Request) (o : Outcome) → x.driver ≡ Some (TheCommit c) → commit_asks w c ≡ Some r → IsTimely k n (TheCommit c) → x.seen.scene.content.next ≤ 2 ^ 64 → IsHonestOutcome o (answer x.seen.scene r) → IsThere fs (driver_entry n r o)
   commit_there fs x run (Fetching sets i) n r o d asked timely few honest by t y is got =
       let v = in_commit fs x run (Fetching sets i) d in
       let st = stood g j k opening is_opening fs x run (Fetching sets i) d in
       let due : y ≡ answer x.seen.scene (set_request w.committer w (length sets)) = subst (λ u. IsHonestOutcome u (answer x.seen.scene r)) got honest ∙ ap (answer x.seen.scene) (sym (some_is asked)) in
-      elim (brings g j k x.seen x.told v.0 v.2.uncleaned few n timely sets v.2.fits.0 (subst (ArePicks w x.seen.picks) (sym st.at.1) st.picks)) [
+      elim (brings g j k x.seen x.told v.0 v.2.uncleaned few n (commit_picks k x.seen.begun n timely.0 timely.1) sets v.2.fits.0 (subst (ArePicks w x.seen.picks) (sym st.at.1) st.picks)) [
         | inl none ↦ inr (length sets, v.2.fits.0, ap (λ (s : Seen). s.last (length sets)) (sym (sees g k opening j is_opening fs x run)) ∙ none.1)
         | inr z ↦ inl (ap is_some (ap set_read due ∙ z.1))
       ]
   commit_there fs x run c n r o d asked timely few honest by t y is got =
       let v = in_commit fs x run c d in
-      absurd (false_true (other_unread g j k x.seen x.told v.0 v.2.uncleaned few n timely c refl v.2.decides r asked t) (ap (is_reading w t) is ∙ reads_it j t))
+      absurd (false_true (other_unread g j k x.seen x.told v.0 v.2.uncleaned few n (commit_picks k x.seen.begun n timely.0 timely.1) c refl v.2.decides r asked t) (ap (is_reading w t) is ∙ reads_it j t))
 
-  driver_there : (fs : List Entry) (x : Stand) → Runs g k opening fs x → (op : Operation) (n : ℕ) (r : Request) (o : Outcome) → x.driver ≡ Some op → asks g (who Driver) nothing_learnt op ≡ Some r → IsTimely k x.told.cleans_at n op → x.seen.scene.content.next ≤ 2 ^ 64 → IsHonestOutcome o (answer x.seen.scene r) → IsThere fs (driver_entry n r o)
-  driver_there fs x run (TheCommit c) n r o d asked timely few honest by t y is got = commit_there fs x run c n r o d asked timely.0 few honest by t y is got
+  driver_there : (fs : List Entry) (x : Stand) → Runs g k opening fs x → (op : Operation) (n : ℕ) (r : Request) (o : Outcome) → x.driver ≡ Some op → asks g (who Driver) nothing_learnt op ≡ Some r → IsTimely k n op → x.seen.scene.content.next ≤ 2 ^ 64 → IsHonestOutcome o (answer x.seen.scene r) → IsThere fs (driver_entry n r o)
+  driver_there fs x run (TheCommit c) n r o d asked timely few honest by t y is got = commit_there fs x run c n r o d asked timely few honest by t y is got
   driver_there fs x run (TheSetup c) n r o d asked timely few honest by t y is got = absurd (false_true (setup_reads w c.operation r asked t) (ap (is_reading w t) is ∙ reads_it j t))
   driver_there fs x run (TheClean c) n r o d asked timely few honest by t y is got = absurd (false_true (clean_reads w c.operation r asked t) (ap (is_reading w t) is ∙ reads_it j t))
   driver_there fs x run (TheWrite c) n r o d asked timely few honest by t y is got = absurd (no_driver g j k opening is_opening fs x run (TheWrite c) d (λ z. z))
@@ -270,7 +271,7 @@ module _ (g : Setting) (k : Option ℕ) (opening : Content) (j : IsLegal g.scrip
   no_shell e = cc
 
   pub there : (es : List Entry) (x : Stand) → Runs g k opening es x → Each IsThere es
-  there es x (run_begins v) = λ before z later q. absurd (no_member before z later q)
+  there es x run_begins = λ before z later q. absurd (no_member before z later q)
   there es x (actor_begins fs y b run may) = there fs y run
   there es x (driver_sends fs y op n r o run d asked timely few honest) = each_more IsThere fs (driver_entry n r o) (there fs y run) (driver_there fs y run op n r o d asked timely few honest)
   there es x (attempt_sends fs y a op n r o run set at asked honest) = each_more IsThere fs (entry a n r o) (there fs y run) (λ by t v is got. absurd (not_driver a by))

@@ -1,6 +1,6 @@
 -- The picks at each moment of a run, and that a commit which ended before its first completion has hidden nothing.
-use Rattle.std.specs.Prelude.{◌≡◌, ℕ, ◌<◌, ◌≤◌, ◌⊎◌, true, false, List, [], ◌∷◌, ◌++◌, length, Option, Some, None}
-use Rattle.job_facts.specs.Prelude.{Content, moment, Driver, Request, Entry, IsLegal, Script, CommitEnd, view, Clean, clean_asks, CommitOver, Setting, TheCommit, Same, Always, is_untouched, Seen, is_reading, see_all, seen}
+use Rattle.std.specs.Prelude.{◌≡◌, ℕ, ◌<◌, ◌≤◌, ◌⊎◌, true, false, List, [], ◌∷◌, ◌++◌, length, Some, None}
+use Rattle.job_facts.specs.Prelude.{Content, moment, Driver, Request, Entry, IsLegal, Script, CommitEnd, view, Clean, clean_asks, CommitOver, Setting, TheCommit, Same, Always, is_untouched, Seen, is_reading, see_all, seen, Times}
 use Rattle.job_model.specs.declared.ends.CommitEnd.TheVariants as commits
 use Rattle.job_traces.specs.Runs.{Stand, Runs, IsOpening}
 
@@ -12,13 +12,13 @@ NoneRead w (e ∷ es) = (e.actor ≡ Driver → (t : ℕ) → is_reading w t e.r
 -- picks stay once they are made, and a commit that ended before its first completion has shown nothing
 pub record CommitMoments : Type 0 where
   -- each pick stays as it was made
-  pub earlier : (g : Setting) → IsLegal g.script → (k : Option ℕ) (opening : Content) → IsOpening g opening → (es : List Entry) (x : Stand) → Runs g k opening es x → (m : ℕ) → m ≤ length es
+  pub earlier : (g : Setting) → IsLegal g.script → (k : Times) (opening : Content) → IsOpening g opening → (es : List Entry) (x : Stand) → Runs g k opening es x → (m : ℕ) → m ≤ length es
       → (t : ℕ) → t < g.script.tasks → ((seen g.script k opening es m).picks t ≡ None) ⊎ ((seen g.script k opening es m).picks t ≡ x.seen.picks t)
   -- none is made where no set is read
-  pub later : (w : Script) (k : Option ℕ) (s : Seen) (es : List Entry) → NoneRead w es → (t : ℕ) → (see_all w k s es).picks t ≡ s.picks t
+  pub later : (w : Script) (k : Times) (s : Seen) (es : List Entry) → NoneRead w es → (t : ℕ) → (see_all w k s es).picks t ≡ s.picks t
   -- an abort or clean of the job reads none
   pub cleans : (w : Script) (c : Clean) (r : Request) → clean_asks w c ≡ Some r → (t : ℕ) → is_reading w t r ≡ false
   -- where the commit ended before its first completion, and the driver read no set after it, the opening files are shown at each moment
-  pub untouched : (g : Setting) → IsLegal g.script → (k : Option ℕ) (opening : Content) → IsOpening g opening → (es : List Entry) (x : Stand) → Runs g k opening es x
+  pub untouched : (g : Setting) → IsLegal g.script → (k : Times) (opening : Content) → IsOpening g opening → (es : List Entry) (x : Stand) → Runs g k opening es x
       → (end : CommitEnd) → x.driver ≡ Some (TheCommit (CommitOver end)) → is_untouched end ≡ true → ((t : ℕ) → end ≡ commits.Missing t → t < g.script.tasks)
       → (more : List Entry) → NoneRead g.script more → Always g.script k opening (es ++ more) → (m : ℕ) → m ≤ length (es ++ more) → Same (view g.script.dest (moment opening (es ++ more) m).content) (view g.script.dest opening)

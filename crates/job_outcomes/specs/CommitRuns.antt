@@ -1,9 +1,9 @@
 -- The driver's commit in a run: by which entries it came where it stands, the sets that it holds and the picks that are seen; and how it ends.
 use Rattle.std.specs.Prelude.{◌≡◌, ℕ, ◌<◌, ◌≤◌, ◌^◌, ◌⊎◌, true, List, [], ◌∷◌, ◌++◌, length, Option, Some, None, IsSome}
-use Rattle.job_facts.specs.Prelude.{Content, answer, IsHonestOutcome, Driver, Request, Refusal, NoSuchUpload, Reply, Refused, Outcome, Answered, Entry, PendingSet, run, Follows, WornFirst, Who, IsLegal, Script, CommitEnd, Picks, Sets, picks_of, Commit, Fetching, Replacing, Completing, Marking, Reverting, CommitOver, commit_start, commit_asks, commit_tells, fetching, set_request, set_read, stage_of, Setup, setup_asks, Clean, clean_asks, AllSound, Setting, TheCommit, was_lost, AreOwn, commit_due, is_mark_answered, CommitEnded, picks_below, picked, Seen, see, see_all, nothing_seen, is_marked, is_begun, entry, driver_entry}
+use Rattle.job_facts.specs.Prelude.{Content, answer, IsHonestOutcome, Driver, Request, Refusal, NoSuchUpload, Reply, Refused, Outcome, Answered, Entry, PendingSet, run, Follows, WornFirst, Who, IsLegal, Script, CommitEnd, Picks, Sets, picks_of, Commit, Fetching, Replacing, Completing, Marking, Reverting, CommitOver, commit_start, commit_asks, commit_tells, fetching, set_request, set_read, stage_of, Setup, setup_asks, Clean, clean_asks, AllSound, Setting, TheCommit, was_lost, AreOwn, commit_due, is_mark_answered, CommitEnded, picks_below, picked, Seen, see, see_all, nothing_seen, is_marked, entry, driver_entry, Times}
 use Rattle.job_model.specs.declared.ends.CommitEnd.TheVariants as commits
 use Rattle.job_model.specs.declared.ends.Stage.TheVariants as stages
-use Rattle.job_traces.specs.Runs.{Stand, Runs, IsOpening}
+use Rattle.job_traces.specs.Runs.{Stand, Runs, IsOpening, IsTimely}
 
 -- the end that is due with these sets, where no request wore out; of a read that wore out that not all were read
 abbrev pub IsDue : Script → Option ℕ → Sets → CommitEnd → Type 0
@@ -63,7 +63,7 @@ abbrev pub PicksGrow : Script → Picks → Picks → Commit → Commit → Type
 PicksGrow w before now c d = ((t : ℕ) → t < w.tasks → now t ≡ before t) ⊎ PicksOneMore w before now c d
 
 -- some task of the job has no last publisher behind these entries
-abbrev pub Unpublished : Script → Option ℕ → Content → List Entry → Type 0
+abbrev pub Unpublished : Script → Times → Content → List Entry → Type 0
 Unpublished w k opening es = (t : ℕ) × (t < w.tasks) × ((see_all w k (nothing_seen opening) es).last t ≡ None)
 
 -- the end that is due by these picks, by the first of these entries' requests that wore out
@@ -72,37 +72,37 @@ EndsDue w picks missing es end = (worn : Option Request) × WornFirst w.retries 
 
 -- In every run of a job, of every committer and mode, with every number of lanes, among strangers.
 pub record CommitRuns : Type 0 where
-  pub stands : (g : Setting) → IsLegal g.script → (k : Option ℕ) (opening : Content) → IsOpening g opening → (es : List Entry) (x : Stand) → Runs g k opening es x → (c : Commit) → x.driver ≡ Some (TheCommit c) → CommitStands g x c
+  pub stands : (g : Setting) → IsLegal g.script → (k : Times) (opening : Content) → IsOpening g opening → (es : List Entry) (x : Stand) → Runs g k opening es x → (c : Commit) → x.driver ≡ Some (TheCommit c) → CommitStands g x c
   -- where it stands tells which task it missed
   pub one_start : (w : Script) (a b : Option ℕ) (es : List Entry) → run (commit_tells w) (commit_start w a) es ≡ run (commit_tells w) (commit_start w b) es → a ≡ b
   -- it ends as is due by the picks that are seen then; where it ends Committed its marker was answered
   pub ends : (g : Setting) → IsLegal g.script → (x : Stand) (end : CommitEnd) → (h : CommitStands g x (CommitOver end)) → EndsDue g.script x.seen.picks h.missing x.commit end
   pub answered : (g : Setting) (x : Stand) (end : CommitEnd) → CommitStands g x (CommitOver end) → end ≡ commits.Committed → is_mark_answered g.script x.commit ≡ true
   -- and stands, where no stranger sends
-  pub marked : (g : Setting) → IsLegal g.script → (k : Option ℕ) (opening : Content) → IsOpening g opening → (es : List Entry) (x : Stand) → Runs g k opening es x → AreOwn es → x.driver ≡ Some (TheCommit (CommitOver commits.Committed)) → is_marked g.script x.seen ≡ true
+  pub marked : (g : Setting) → IsLegal g.script → (k : Times) (opening : Content) → IsOpening g opening → (es : List Entry) (x : Stand) → Runs g k opening es x → AreOwn es → x.driver ≡ Some (TheCommit (CommitOver commits.Committed)) → is_marked g.script x.seen ≡ true
   -- all of it, with the task that it missed as it began
-  pub ended : (g : Setting) → IsLegal g.script → (k : Option ℕ) (opening : Content) → IsOpening g opening → (es : List Entry) (x : Stand) → Runs g k opening es x → (end : CommitEnd) → x.driver ≡ Some (TheCommit (CommitOver end))
+  pub ended : (g : Setting) → IsLegal g.script → (k : Times) (opening : Content) → IsOpening g opening → (es : List Entry) (x : Stand) → Runs g k opening es x → (end : CommitEnd) → x.driver ≡ Some (TheCommit (CommitOver end))
       → (missing : Option ℕ) → run (commit_tells g.script) (commit_start g.script missing) x.commit ≡ CommitOver end → CommitEnded g.script x.seen missing x.commit end
   -- how the picks grow with its entries, and that those of other operations leave them
-  pub grows : (g : Setting) → IsLegal g.script → (k : Option ℕ) (opening : Content) → IsOpening g opening → (es : List Entry) (x : Stand) → Runs g k opening es x → (c : Commit) → x.driver ≡ Some (TheCommit c)
-      → (n : ℕ) (r : Request) (o : Outcome) → commit_asks g.script c ≡ Some r → is_begun k n ≡ true → x.seen.scene.content.next ≤ 2 ^ 64 → IsHonestOutcome o (answer x.seen.scene r)
+  pub grows : (g : Setting) → IsLegal g.script → (k : Times) (opening : Content) → IsOpening g opening → (es : List Entry) (x : Stand) → Runs g k opening es x → (c : Commit) → x.driver ≡ Some (TheCommit c)
+      → (n : ℕ) (r : Request) (o : Outcome) → commit_asks g.script c ≡ Some r → IsTimely k n (TheCommit c) → x.seen.scene.content.next ≤ 2 ^ 64 → IsHonestOutcome o (answer x.seen.scene r)
       → PicksGrow g.script x.seen.picks (see g.script k x.seen (driver_entry n r o)).picks c (commit_tells g.script c o)
   -- so does their list
   pub list : (w : Script) (before now : Picks) (c d : Commit) → (m : PicksOneMore w before now c d) → picks_below now w.tasks ≡ picks_below before w.tasks ++ picked (length m.sets) (Some m.set.attempt)
   pub same : (before now : Picks) (n : ℕ) → ((t : ℕ) → t < n → now t ≡ before t) → picks_below now n ≡ picks_below before n
-  pub attempts : (w : Script) (k : Option ℕ) (s : Seen) (a : Who) (n : ℕ) (r : Request) (o : Outcome) → (see w k s (entry a n r o)).picks ≡ s.picks
-  pub setup : (w : Script) (k : Option ℕ) (s : Seen) (n : ℕ) (c : Setup) (r : Request) (o : Outcome) → setup_asks w c ≡ Some r → (t : ℕ) → (see w k s (driver_entry n r o)).picks t ≡ s.picks t
-  pub clean : (w : Script) (k : Option ℕ) (s : Seen) (n : ℕ) (c : Clean) (r : Request) (o : Outcome) → clean_asks w c ≡ Some r → (t : ℕ) → (see w k s (driver_entry n r o)).picks t ≡ s.picks t
+  pub attempts : (w : Script) (k : Times) (s : Seen) (a : Who) (n : ℕ) (r : Request) (o : Outcome) → (see w k s (entry a n r o)).picks ≡ s.picks
+  pub setup : (w : Script) (k : Times) (s : Seen) (n : ℕ) (c : Setup) (r : Request) (o : Outcome) → setup_asks w c ≡ Some r → (t : ℕ) → (see w k s (driver_entry n r o)).picks t ≡ s.picks t
+  pub clean : (w : Script) (k : Times) (s : Seen) (n : ℕ) (c : Clean) (r : Request) (o : Outcome) → clean_asks w c ≡ Some r → (t : ℕ) → (see w k s (driver_entry n r o)).picks t ≡ s.picks t
 
 -- What it is answered in every run.
 pub record CommitAnswers : Type 0 where
   -- a refused completion found no upload, and an earlier sending of it was lost
-  pub refused : (g : Setting) → IsLegal g.script → (k : Option ℕ) (opening : Content) → IsOpening g opening → (es : List Entry) (x : Stand)
+  pub refused : (g : Setting) → IsLegal g.script → (k : Times) (opening : Content) → IsOpening g opening → (es : List Entry) (x : Stand)
       → Runs g k opening es x → (c : Commit) → x.driver ≡ Some (TheCommit c) → (before : List Entry) (e : Entry) (later : List Entry) (why : Refusal)
       → x.commit ≡ before ++ e ∷ later → stage_of e.request ≡ stages.Complete → e.outcome ≡ Answered (Refused why)
       → (why ≡ NoSuchUpload) × (was_lost e.request before ≡ true)
   -- a read of a set finds one where each task has a last publisher
-  pub there : (g : Setting) → IsLegal g.script → (k : Option ℕ) (opening : Content) → IsOpening g opening → (es : List Entry) (x : Stand)
+  pub there : (g : Setting) → IsLegal g.script → (k : Times) (opening : Content) → IsOpening g opening → (es : List Entry) (x : Stand)
       → Runs g k opening es x → (before : List Entry) (e : Entry) (later : List Entry) (t : ℕ) (r : Reply) → es ≡ before ++ e ∷ later
       → e.actor ≡ Driver → e.request ≡ set_request g.script.committer g.script t → e.outcome ≡ Answered r
       → IsSome (set_read r) ⊎ Unpublished g.script k opening before

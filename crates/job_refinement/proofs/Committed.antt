@@ -1,7 +1,7 @@
 -- How far the driver's commit has come is kept, whoever sends.
 use Rattle.std.proofs.Common.{◌≡◌, ℕ, ◌<◌, ◌≤◌, ◌^◌, ◌⊎◌, inl, inr, nat_lt, ◌||◌, Bool, true, false, cond, List, [], ◌∷◌, Option, Some, None, refl, sym, ap, subst, ◌∙◌, arith}
 use Rattle.job_spec.proofs.Common.{nat_tests, false_true, tabled_start, tabled_tells}
-use Rattle.job_facts.specs.Prelude.{Scene, answer, effect, IsHonestOutcome, Committer, Magic, Mode, Request, Outcome, Answered, Who, IsLegal, Script, CommitEnd, same_path, Turn, dealt, Commit, Fetching, Replacing, Completing, picks_of, completing, replaced, replacing, decided, commit_start, commit_asks, commit_tells, Setting, Operation, asks, Seen, see, is_begun, is_magic, Told, known, tell, entry, driver_entry, strange_entry, IsForeign, IsAttempt, Hold, Fits, Gone, Commits, NoneEnded, Turned}
+use Rattle.job_facts.specs.Prelude.{Scene, answer, effect, IsHonestOutcome, Committer, Magic, Mode, Request, Outcome, Answered, Who, IsLegal, Script, CommitEnd, same_path, Turn, dealt, Commit, Fetching, Replacing, Completing, picks_of, completing, replaced, replacing, decided, commit_start, commit_asks, commit_tells, Setting, Operation, asks, Seen, see, is_begun, is_magic, Told, known, tell, entry, driver_entry, strange_entry, IsForeign, IsAttempt, Hold, Fits, Gone, Commits, NoneEnded, Turned, Times}
 use Rattle.job_facts.specs.Turning.{Turns}
 use Rattle.job_facts.proofs.Acting.{operation_goes}
 use Rattle.job_facts.proofs.Beside.{beside, job_commit_begins}
@@ -53,11 +53,11 @@ commits_begin w minimum s m j h gone missing none = record {
 
 -- ---- its own requests
 
-driver_scene : (w : Script) (k : Option ℕ) (s : Seen) (n : ℕ) (r : Request) (o : Outcome) → (see w k s (driver_entry n r o)).scene ≡ effect s.scene r o
+driver_scene : (w : Script) (k : Times) (s : Seen) (n : ℕ) (r : Request) (o : Outcome) → (see w k s (driver_entry n r o)).scene ≡ effect s.scene r o
 driver_scene w k s n r (Answered x) = refl
 driver_scene w k s n r _ = refl
 
-pub commits_go : (g : Setting) → IsLegal g.script → (k : Option ℕ) (s : Seen) (m : Told) (n : ℕ) (c : Commit) → Commits g.script g.minimum s m c → s.scene.content.next ≤ 2 ^ 64
+pub commits_go : (g : Setting) → IsLegal g.script → (k : Times) (s : Seen) (m : Told) (n : ℕ) (c : Commit) → Commits g.script g.minimum s m c → s.scene.content.next ≤ 2 ^ 64
     → (r : Request) → commit_asks g.script c ≡ Some r → (o : Outcome) → IsHonestOutcome o (answer s.scene r) → Commits g.script g.minimum (see g.script k s (driver_entry n r o)) (tell g.script m (driver_entry n r o)) (commit_tells g.script c o)
 commits_go g j k s m n c v few r e o honest = record {
   hold = driving_keeps g.script g.minimum k s m n r o j (commit_drives g.script g.minimum k s m n j v.hold c v.fits r e) v.hold;
@@ -73,7 +73,7 @@ still_unclean w minimum s m n c v r e o h late = ap (λ b. b || is_begun m.clean
 
 -- ---- others'
 
-attempt_scene : (w : Script) (k : Option ℕ) (s : Seen) (a : Who) (n : ℕ) (r : Request) (o : Outcome) → (see w k s (entry a n r o)).scene ≡ effect s.scene r o
+attempt_scene : (w : Script) (k : Times) (s : Seen) (a : Who) (n : ℕ) (r : Request) (o : Outcome) → (see w k s (entry a n r o)).scene ≡ effect s.scene r o
 attempt_scene w k s a n r (Answered x) = refl
 attempt_scene w k s a n r _ = refl
 
@@ -84,7 +84,7 @@ same_turns m now (Replacing sets p ps v n) e h = λ id. ap (λ f. f id) e ∙ h 
 same_turns m now (Completing sets x xs finished) e h = subst (λ f. Turned f sets (x ∷ xs) finished) (sym e) h
 same_turns m now _ e h = tt
 
-pub commits_beside : (g : Setting) → IsLegal g.script → (k : Option ℕ) (s : Seen) (m : Told) (a : Who) (n : ℕ) (c : Commit) → Commits g.script g.minimum s m c → IsAttempt g.script a → (op : Operation) → Fits g.script g.minimum a m op
+pub commits_beside : (g : Setting) → IsLegal g.script → (k : Times) (s : Seen) (m : Told) (a : Who) (n : ℕ) (c : Commit) → Commits g.script g.minimum s m c → IsAttempt g.script a → (op : Operation) → Fits g.script g.minimum a m op
     → (r : Request) → asks g a (known m a) op ≡ Some r → (o : Outcome) → IsHonestOutcome o (answer s.scene r) → Commits g.script g.minimum (see g.script k s (entry a n r o)) (tell g.script m (entry a n r o)) c
 commits_beside g j k s m a n c v d op fits r e o honest = record {
   hold = (operation_goes g j k s m a n d v.hold op fits r e o honest).hold;
@@ -95,7 +95,7 @@ commits_beside g j k s m a n c v d op fits r e o honest = record {
   decides = decides_beside g m a op fits r e o c v.decides;
 }
 
-pub commits_foreign : (w : Script) (minimum : ℕ) → IsLegal w → (k : Option ℕ) (s : Seen) (m : Told) (n : ℕ) (c : Commit) → Commits w minimum s m c → (r : Request) → IsForeign w m.drawn r → (o : Outcome)
+pub commits_foreign : (w : Script) (minimum : ℕ) → IsLegal w → (k : Times) (s : Seen) (m : Told) (n : ℕ) (c : Commit) → Commits w minimum s m c → (r : Request) → IsForeign w m.drawn r → (o : Outcome)
     → Commits w minimum (see w k s (strange_entry n r o)) (tell w m (strange_entry n r o)) c
 commits_foreign w minimum j k s m n c v r f o = record {
   hold = foreign_keeps w minimum k s m n r o j f v.hold;

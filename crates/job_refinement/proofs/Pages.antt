@@ -1,9 +1,7 @@
 -- The answers to requests for pages, where their bucket is there.
-use Rattle.std.proofs.Common.{ℕ, zero, suc, Bool, true, false, cond, List, [], ◌∷◌, map, take, Option, Some, None, refl, sym, subst}
-use Rattle.job_facts.specs.Prelude.{filter, is_lt, text_cmp, Objects, Scene, begins, listed, answer, Object, UploadRef, PageEntry, HasBucket, Script, Sweep, Listing, Deleting, last_of, page_after, uploads_after, sweep_asks, FitsPage, FitsSweep}
-use Rattle.store_frame.specs.Prelude.{entry_of, text_in, is_again, folded_from}
+use Rattle.std.proofs.Common.{ℕ, false, List, [], take, refl, sym, subst}
+use Rattle.job_facts.specs.Prelude.{Objects, Scene, listed, answer, UploadRef, HasBucket, Script, Sweep, Listing, Deleting, last_of, page_after, uploads_after, sweep_asks, FitsPage, FitsSweep}
 use Rattle.job_protocol.specs.Prelude.{FitsUploads}
-use Rattle.std.specs.FinMap as fin
 use Rattle.job_facts.proofs.Shapes.{answer_is}
 use Rattle.list_walk.specs.Fitting.{AreKeys}
 use Rattle.list_walk.proofs.Keys.{page_keys}

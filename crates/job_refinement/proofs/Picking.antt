@@ -1,6 +1,6 @@
 -- The attempts that the driver's commit has picked are those that are seen.
-use Rattle.std.proofs.Common.{◌≡◌, ℕ, zero, suc, ◌+◌, ◌<◌, ◌≤◌, ◌^◌, inl, inr, nat_lt, ◌&&◌, ◌||◌, Bool, true, false, cond, List, [], ◌∷◌, ◌++◌, length, slice_get, Option, Some, None, refl, sym, ap, subst, ◌∙◌, length-append}
-use Rattle.job_facts.specs.Prelude.{answer, IsHonestOutcome, Request, Reply, Outcome, Answered, Slow, RequestLost, ReplyLost, PendingSet, Who, IsLegal, Script, CommitEnd, same_path, files_set, Sweep, Listing, Deleting, sweep_hears, Turn, again, follow, dealt, revert, Sets, picks_of, all_commits, set_request, set_read, ok_set, Commit, Fetching, Replacing, Completing, Marking, Reverting, CommitOver, is_no_magic, completing, replaced, replacing, decided, fetching, fetched, swept, reverting, worn_completion, commit_start, commit_asks, commit_misses, commit_tells, with_pick, picked_after, Setting, Seen, see, is_begun, is_reading, Told, entry, driver_entry, knowing, Commits}
+use Rattle.std.proofs.Common.{◌≡◌, ℕ, zero, suc, ◌+◌, ◌<◌, ◌≤◌, ◌^◌, inl, inr, nat_lt, ◌&&◌, Bool, true, false, cond, List, [], ◌∷◌, ◌++◌, length, slice_get, Option, Some, None, refl, sym, ap, subst, ◌∙◌, length-append}
+use Rattle.job_facts.specs.Prelude.{answer, IsHonestOutcome, Request, Reply, Outcome, Answered, Slow, RequestLost, ReplyLost, PendingSet, Who, IsLegal, Script, CommitEnd, same_path, files_set, Sweep, Listing, Deleting, sweep_hears, Turn, again, follow, dealt, revert, Sets, picks_of, all_commits, set_request, set_read, ok_set, Commit, Fetching, Replacing, Completing, Marking, Reverting, CommitOver, is_no_magic, completing, replaced, replacing, decided, fetching, fetched, swept, reverting, worn_completion, commit_start, commit_asks, commit_misses, commit_tells, with_pick, picked_after, Setting, Seen, see, is_reading, Told, entry, driver_entry, knowing, Commits, Times, is_picking}
 use Rattle.job_spec.proofs.Common.{some_is, none_some, same_or_not}
 use Rattle.pending_json.specs.Reading as reading
 use Rattle.job_facts.proofs.Reading.{reads_it, reads_other}
@@ -78,16 +78,16 @@ left true c x y h = ap (λ d. cond d x y) h
 left false c x y h = refl
 
 -- what is seen of the picks after a sending of the driver's
-module _ (w : Script) (k : Option ℕ) (s : Seen) (n : ℕ) (picked : List ℕ) (are : ArePicked w s picked) where
+module _ (w : Script) (k : Times) (s : Seen) (n : ℕ) (picked : List ℕ) (are : ArePicked w s picked) where
   abbrev now : Request → Outcome → Seen
   now r o = see w k s (driver_entry n r o)
 
   -- a request that reads no set
   other_picked : (r : Request) → ((t : ℕ) → is_reading w t r ≡ false) → (o : Outcome) → ArePicked w (now r o) picked
-  other_picked r not_one (Answered x) = λ t l. left (s.begun || is_begun k n) (is_reading w t r) (s.last t) (s.picks t) (not_one t) ∙ are t l
+  other_picked r not_one (Answered x) = λ t l. left (is_picking k s.begun n) (is_reading w t r) (s.last t) (s.picks t) (not_one t) ∙ are t l
   other_picked r not_one _ = are
 
-module _ (g : Setting) (j : IsLegal g.script) (k : Option ℕ) (s : Seen) (m : Told) (n : ℕ) (few : s.scene.content.next ≤ 2 ^ 64) (begun : (s.begun || is_begun k n) ≡ true) (picked : List ℕ) (are : ArePicked g.script s picked) where
+module _ (g : Setting) (j : IsLegal g.script) (k : Times) (s : Seen) (m : Told) (n : ℕ) (few : s.scene.content.next ≤ 2 ^ 64) (begun : is_picking k s.begun n ≡ true) (picked : List ℕ) (are : ArePicked g.script s picked) where
   abbrev w : Script
   w = g.script
 
@@ -102,9 +102,9 @@ module _ (g : Setting) (j : IsLegal g.script) (k : Option ℕ) (s : Seen) (m : T
     picked_now : (x : Reply) → ArePicked w (see w k s (driver_entry n read (Answered x))) (picked ++ attempt ∷ [])
     picked_now x t l = elim (same_or_not t (length sets)) [
       | inl same ↦
-          taken (s.begun || is_begun k n) (is_reading w t read) (s.last t) (s.picks t) begun (ap (λ i. is_reading w i read) same ∙ reads_it j (length sets))
+          taken (is_picking k s.begun n) (is_reading w t read) (s.last t) (s.picks t) begun (ap (λ i. is_reading w i read) same ∙ reads_it j (length sets))
           ∙ ap s.last same ∙ latest ∙ sym (ap (slice_get (picked ++ attempt ∷ [])) (same ∙ sym long) ∙ get_last picked attempt)
-      | inr ne ↦ left (s.begun || is_begun k n) (is_reading w t read) (s.last t) (s.picks t) (reads_other j t (length sets) l low ne) ∙ are t l ∙ sym (get_other picked attempt t (λ d. ne (d ∙ long)))
+      | inr ne ↦ left (is_picking k s.begun n) (is_reading w t read) (s.last t) (s.picks t) (reads_other j t (length sets) l low ne) ∙ are t l ∙ sym (get_other picked attempt t (λ d. ne (d ∙ long)))
     ]
 
     each_now : (h : PendingSet) (o : Option PendingSet) → o ≡ Some h → IsEachPicked (picked ++ attempt ∷ []) (fetched w sets o)
@@ -173,7 +173,7 @@ module _ (g : Setting) (j : IsLegal g.script) (k : Option ℕ) (s : Seen) (m : T
   goes_picked c v stands each r e RequestLost honest = missed_picked c r RequestLost (λ x d. absurd cc) each
   goes_picked c v stands each r e ReplyLost honest = missed_picked c r ReplyLost (λ x d. absurd cc) each
 
-attempt_picks : (w : Script) (k : Option ℕ) (s : Seen) (a : Who) (n : ℕ) (r : Request) (o : Outcome) → (see w k s (entry a n r o)).picks ≡ s.picks
+attempt_picks : (w : Script) (k : Times) (s : Seen) (a : Who) (n : ℕ) (r : Request) (o : Outcome) → (see w k s (entry a n r o)).picks ≡ s.picks
 attempt_picks w k s a n r (Answered x) = refl
 attempt_picks w k s a n r _ = refl
 

@@ -1,6 +1,6 @@
 -- The laws of this crate.
-use Rattle.std.specs.Prelude.{◌≡◌, ℕ, ◌<◌, ◌≤◌, ◌^◌, ◌⊎◌, ◌||◌, true, false, List, [], Option, Some, None}
-use Rattle.job_facts.specs.Prelude.{Scene, answer, IsHonestOutcome, Request, Outcome, Entry, HasBucket, Item, Retried, step, Who, IsLegal, Script, Known, Setup, setup_after, Write, write_start, write_asks, write_after, TaskCommit, task_commit_start, task_commit_asks, task_commit_after, TaskAbort, task_abort_start, task_abort_asks, task_abort_after, Clean, clean_after, Commit, commit_start, commit_asks, commit_tells, Setting, Operation, TheSetup, TheWrite, TheTaskCommit, TheTaskAbort, TheCommit, TheClean, asks, job_of, task_of, task_script, who_of, learned, read_script, sets_in, sets_after, picked_after, write_wants, write_told, task_commit_wants, task_commit_told, task_abort_wants, task_abort_told, setup_wants, setup_told, clean_wants, clean_told, commit_wants, commit_told, Seen, see, is_begun, is_magic, Told, known, tell, entry, driver_entry, strange_entry, IsAttempt, Facts, Hold, IsForeign, Fits, FitsWrite, FitsCommit, FitsJobCommit, SetsUp, HasPublished, NoneEnded, Gone, Commits}
+use Rattle.std.specs.Prelude.{◌≡◌, ℕ, ◌<◌, ◌≤◌, ◌^◌, ◌⊎◌, true, false, List, [], Option, Some, None}
+use Rattle.job_facts.specs.Prelude.{Scene, answer, IsHonestOutcome, Request, Outcome, Entry, HasBucket, Item, Retried, step, Who, IsLegal, Script, Known, Setup, setup_after, Write, write_start, write_asks, write_after, TaskCommit, task_commit_start, task_commit_asks, task_commit_after, TaskAbort, task_abort_start, task_abort_asks, task_abort_after, Clean, clean_after, Commit, commit_start, commit_asks, commit_tells, Setting, Operation, TheSetup, TheWrite, TheTaskCommit, TheTaskAbort, TheCommit, TheClean, asks, job_of, task_of, task_script, who_of, learned, read_script, sets_in, sets_after, picked_after, write_wants, write_told, task_commit_wants, task_commit_told, task_abort_wants, task_abort_told, setup_wants, setup_told, clean_wants, clean_told, commit_wants, commit_told, Seen, see, is_begun, is_magic, Told, known, tell, entry, driver_entry, strange_entry, IsAttempt, Facts, Hold, IsForeign, Fits, FitsWrite, FitsCommit, FitsJobCommit, SetsUp, HasPublished, NoneEnded, Gone, Commits, Times, is_picking}
 use Rattle.task_requests.specs.Writing.{write_fits}
 use Rattle.task_machines.specs.Commits.{commit_fits}
 use Rattle.task_machines.specs.Aborts.{abort_fits}
@@ -41,19 +41,19 @@ pub record PremisesKeep : Type 0 where
   -- the set that is read next stands until the driver cleans up, where each task has a last publisher
   pub stands : (w : Script) (minimum : ℕ) (s : Seen) (m : Told) (c : Commit) → Hold w minimum s m → FitsJobCommit w minimum m.publish_sent m.drawn c → m.cleaned ≡ false → AllPublished w s → SetStands w s c
   -- a task that has a last publisher has one ever after, whoever sends
-  pub published : (w : Script) (k : Option ℕ) (s : Seen) (e : Entry) (t : ℕ) → HasPublished s t → HasPublished (see w k s e) t
+  pub published : (w : Script) (k : Times) (s : Seen) (e : Entry) (t : ℕ) → HasPublished s t → HasPublished (see w k s e) t
 
 -- How far the driver's commit has come (`Commits`) is kept: from its beginning on, where the driver has ended no upload before it, or
 -- nothing is to be read or deleted, by each of its requests, which do not clean up, by attempts' and by strangers'.
 pub record CommitsKeep : Type 0 where
   pub begins : (w : Script) (minimum : ℕ) (s : Seen) (m : Told) → IsLegal w → Hold w minimum s m → Gone w s.scene.content m → (missing : Option ℕ) → (missing ≡ None → (0 < w.tasks) ⊎ (is_magic w.committer ≡ false) → NoneEnded m)
       → Commits w minimum s m (commit_start w missing)
-  pub goes : (g : Setting) → IsLegal g.script → (k : Option ℕ) (s : Seen) (m : Told) (n : ℕ) (c : Commit) → Commits g.script g.minimum s m c → s.scene.content.next ≤ 2 ^ 64
+  pub goes : (g : Setting) → IsLegal g.script → (k : Times) (s : Seen) (m : Told) (n : ℕ) (c : Commit) → Commits g.script g.minimum s m c → s.scene.content.next ≤ 2 ^ 64
       → (r : Request) → commit_asks g.script c ≡ Some r → (o : Outcome) → IsHonestOutcome o (answer s.scene r) → Commits g.script g.minimum (see g.script k s (driver_entry n r o)) (tell g.script m (driver_entry n r o)) (commit_tells g.script c o)
   pub unclean : (w : Script) (minimum : ℕ) (s : Seen) (m : Told) (n : ℕ) (c : Commit) → Commits w minimum s m c → (r : Request) → commit_asks w c ≡ Some r → (o : Outcome) → m.cleaned ≡ false → is_begun m.cleans_at n ≡ false → (tell w m (driver_entry n r o)).cleaned ≡ false
-  pub attempts : (g : Setting) → IsLegal g.script → (k : Option ℕ) (s : Seen) (m : Told) (a : Who) (n : ℕ) (c : Commit) → Commits g.script g.minimum s m c → IsAttempt g.script a → (op : Operation) → Fits g.script g.minimum a m op
+  pub attempts : (g : Setting) → IsLegal g.script → (k : Times) (s : Seen) (m : Told) (a : Who) (n : ℕ) (c : Commit) → Commits g.script g.minimum s m c → IsAttempt g.script a → (op : Operation) → Fits g.script g.minimum a m op
       → (r : Request) → asks g a (known m a) op ≡ Some r → (o : Outcome) → IsHonestOutcome o (answer s.scene r) → Commits g.script g.minimum (see g.script k s (entry a n r o)) (tell g.script m (entry a n r o)) c
-  pub strangers : (w : Script) (minimum : ℕ) → IsLegal w → (k : Option ℕ) (s : Seen) (m : Told) (n : ℕ) (c : Commit) → Commits w minimum s m c → (r : Request) → IsForeign w m.drawn r → (o : Outcome)
+  pub strangers : (w : Script) (minimum : ℕ) → IsLegal w → (k : Times) (s : Seen) (m : Told) (n : ℕ) (c : Commit) → Commits w minimum s m c → (r : Request) → IsForeign w m.drawn r → (o : Outcome)
       → Commits w minimum (see w k s (strange_entry n r o)) (tell w m (strange_entry n r o)) c
 
 -- ---- the driver's commit, which knows of the job's attempts their sets alone
@@ -70,12 +70,12 @@ pub record ReadsTell : Type 0 where
 -- ones, and the set that it reads next stands.
 pub record PicksTell : Type 0 where
   pub begins : (w : Script) (s : Seen) → ((t : ℕ) → s.picks t ≡ None) → (missing : Option ℕ) → ArePicked w s [] × IsEachPicked [] (commit_start w missing)
-  pub goes : (g : Setting) → IsLegal g.script → (k : Option ℕ) (s : Seen) (m : Told) (n : ℕ) (c : Commit) → Commits g.script g.minimum s m c → s.scene.content.next ≤ 2 ^ 64 → SetStands g.script s c → (s.begun || is_begun k n) ≡ true
+  pub goes : (g : Setting) → IsLegal g.script → (k : Times) (s : Seen) (m : Told) (n : ℕ) (c : Commit) → Commits g.script g.minimum s m c → s.scene.content.next ≤ 2 ^ 64 → SetStands g.script s c → is_picking k s.begun n ≡ true
       → (picked : List ℕ) → ArePicked g.script s picked → IsEachPicked picked c → (r : Request) → commit_asks g.script c ≡ Some r → (o : Outcome) → IsHonestOutcome o (answer s.scene r)
       → let now = picked_after picked c o in ArePicked g.script (see g.script k s (driver_entry n r o)) now × IsEachPicked now (commit_tells g.script c o)
   -- what others send leaves them
-  pub attempts : (w : Script) (k : Option ℕ) (s : Seen) (a : Who) (n : ℕ) (r : Request) (o : Outcome) → (see w k s (entry a n r o)).picks ≡ s.picks
-  pub strangers : (w : Script) (k : Option ℕ) (s : Seen) (n : ℕ) (r : Request) (o : Outcome) → (see w k s (strange_entry n r o)).picks ≡ s.picks
+  pub attempts : (w : Script) (k : Times) (s : Seen) (a : Who) (n : ℕ) (r : Request) (o : Outcome) → (see w k s (entry a n r o)).picks ≡ s.picks
+  pub strangers : (w : Script) (k : Times) (s : Seen) (n : ℕ) (r : Request) (o : Outcome) → (see w k s (strange_entry n r o)).picks ≡ s.picks
 
 -- ---- machines that go by plans
 

@@ -1,9 +1,9 @@
 -- How the driver's commit ends in a run, and what it leaves.
 use Rattle.std.proofs.Common.{◌≡◌, ℕ, zero, suc, ◌+◌, ◌<◌, ◌≤◌, ◌⊎◌, inl, inr, Bool, true, false, cond, List, [], ◌∷◌, ◌++◌, filter, length, take, Option, Some, None, IsSome, append_assoc, refl, sym, ap, subst, ◌∙◌, arith}
-use Rattle.job_steps.specs.Prelude.{option_map, Content, Scene, moment, after_all, Driver, Reply, Answered, Entry, run, Follows, IsLegal, Script, Known, Event, Do, Start, Op, CommitEnd, Commit, CommitOver, commit_start, commit_asks, commit_tells, commit_over, set_request, set_read, Setting, Operation, Running, start_of, TheSetup, TheCommit, advance, over, see_all, nothing_seen, is_begun, Seen, same_actor, refusal, Doing, missing, first_not, driver_may, commit_event, clean_event, until, by_actor, is_wanting, since, known_then, EndedIn, CommitEnded, CommitServed, AreOwn, seen_until, IsIn, Told, tell_all, nothing_told, HasPublished, IsOpening, is_just_set, Play, MayOpen, Opens, Closes, open_running, happen, Reachable, happens, Ahead, IsRun, operation_of, times}
+use Rattle.job_steps.specs.Prelude.{option_map, Content, Scene, moment, after_all, Driver, Reply, Answered, Entry, run, Follows, IsLegal, Script, Known, Event, Do, Start, Op, CommitEnd, Commit, CommitOver, commit_start, commit_asks, commit_tells, commit_over, set_request, set_read, Setting, Operation, Running, start_of, TheSetup, TheCommit, advance, over, see_all, nothing_seen, is_begun, Seen, same_actor, refusal, Doing, missing, first_not, driver_may, clean_event, until, by_actor, is_wanting, since, known_then, EndedIn, CommitEnded, CommitServed, AreOwn, seen_until, IsIn, Told, tell_all, nothing_told, HasPublished, IsOpening, is_just_set, Play, MayOpen, Opens, Closes, open_running, happen, Reachable, happens, Ahead, IsRun, operation_of, times}
 use Rattle.job_spec.specs.Prelude.{first_worn, CommitEnds, CommitsEnd}
 use Rattle.job_spec.proofs.Common.{computed, none_sent, at_most_is, at_most_not, some_is, none_some, false_true, in_back, in_filter}
-use Rattle.job_facts.specs.Prelude.{view, Same, Always, is_marked, commit_due, is_untouched, NoDeletionWorn, OnlyOpening}
+use Rattle.job_facts.specs.Prelude.{view, Same, Always, is_marked, commit_due, is_untouched, NoDeletionWorn, OnlyOpening, Times}
 use Rattle.s3_types.specs.Store as store
 use Rattle.job_model.specs.declared.events.Op.TheVariants as ops
 use Rattle.job_model.specs.declared.ends.CommitEnd.TheVariants as commits
@@ -94,8 +94,8 @@ module _ (g : Setting) (opening : Content) (j : IsLegal g.script) (is_opening : 
   w = g.script
 
   -- the event of the commit, if it is any
-  abbrev k : Option ℕ
-  k = commit_event w x.ends
+  abbrev k : Times
+  k = times w x.ends
 
   -- the scene after a whole journal is its last moment
   whole : (es : List Entry) → moment opening es (length es) ≡ after_all (store.opening opening) es
@@ -159,7 +159,7 @@ module _ (g : Setting) (opening : Content) (j : IsLegal g.script) (is_opening : 
     ahead_opened : Ahead (happen g s.at (Opens s.event)) x.ends
     ahead_opened = s.ahead x.ends ahead_z
 
-    timed_before : is_begun k (length s.at.ends) ≡ false
+    timed_before : is_begun k.commit (length s.at.ends) ≡ false
     timed_before =
         let h = (carried g opening j is_opening s.at s.happened x.ends (opened_ahead g s.at s.event x.ends s.may.idle ahead_opened)).along in
         let b = begins_at g s.at s.event d.op s.may s.begins in
@@ -174,13 +174,13 @@ module _ (g : Setting) (opening : Content) (j : IsLegal g.script) (is_opening : 
     begun_timed ev b (inl is) h = (subst (λ v. IsTimed b (operation_of (open_running g s.at v Driver))) is h).0
     begun_timed ev b (inr is) h = (subst (λ v. IsTimed b (operation_of (open_running g s.at v Driver))) is h).0
 
-    timed_now : is_begun k (length s.at.ends + 1) ≡ true
+    timed_now : is_begun k.commit (length s.at.ends + 1) ≡ true
     timed_now =
         let h = (carried g opening j is_opening (happen g s.at (Opens s.event)) (happens s.at (Opens s.event) s.happened s.may) x.ends ahead_opened).along in
         begun_timed s.event (begun_at (times w x.ends) (length s.at.ends + 1)) (subst (λ v. IsBegin s.event Driver v) begun.0 s.begins) h.timed
 
-    number_is : k ≡ Some d.since
-    number_is = commit_number k (length s.at.ends) timed_before timed_now ∙ ap (λ v. Some v) (sym s.since_is)
+    number_is : k.commit ≡ Some d.since
+    number_is = commit_number k.commit (length s.at.ends) timed_before timed_now ∙ ap (λ v. Some v) (sym s.since_is)
 
     -- ---- its entries and its missing task
 

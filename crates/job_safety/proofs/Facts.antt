@@ -1,7 +1,7 @@
 -- That the facts of one job hold of what happened in its run, from the end of its set-up on.
 use Rattle.std.proofs.Common.{◌≡◌, ℕ, false, sym, ap, subst, ◌∙◌}
 use Rattle.job_spec.proofs.Common.{not_so}
-use Rattle.job_steps.specs.Prelude.{Driver, Seen, nothing_seen, see_all, Past, is_new, past, commit_event, clean_event, Hold, Told, nothing_told, tell_all}
+use Rattle.job_steps.specs.Prelude.{Driver, Seen, nothing_seen, see_all, Past, is_new, past, clean_event, Hold, Told, nothing_told, tell_all, times}
 use Rattle.job_traces.proofs.Entries.{sees, tells_so, late_now}
 use Rattle.job_steps.proofs.Played.{happenings_play}
 use Rattle.job_steps.proofs.Running.{is_run}
@@ -11,7 +11,7 @@ use Rattle.job_safety.proofs.Ending.{ahead_none}
 pub runs_hold_facts : RunsHoldFacts
 runs_hold_facts g opening x j is_opening run idle done =
     let w = g.script in
-    let k = commit_event w x.ends in
+    let k = times w x.ends in
     let r = is_run g opening j is_opening x run x.ends (ahead_none x idle) in
     let p = happenings_play g opening x j run idle in
     let new : is_new (x.live.state Driver).stage ≡ false = ap (λ (q : Past). is_new (q.state Driver).stage) (p.live ∙ p.past) ∙ not_so (is_new ((past w x.ends).state Driver).stage) done in

@@ -1,6 +1,6 @@
 -- That all that is promised of a job holds of what happened in its run.
 use Rattle.std.proofs.Common.{◌≡◌, ℕ, sym, ap, subst}
-use Rattle.job_steps.specs.Prelude.{Script, Content, Setting, commit_event, Plays, setting, IsOpening}
+use Rattle.job_steps.specs.Prelude.{Script, Content, Setting, Plays, setting, IsOpening, times}
 use Rattle.job_traces.proofs.Entries.{always}
 use Rattle.job_traces.proofs.Changes.{runs_rename, runs_outside}
 use Rattle.job_steps.proofs.Played.{happenings_play}
@@ -25,7 +25,7 @@ kept_among g opening x j is_opening run idle ps are =
     record {
       plays = subst (λ s. Plays s x.ends x.journal) (sym (setting_is g opening is_opening)) (happenings_play g opening x j run idle).plays;
       picks = are;
-      zero_rename = runs_rename g (commit_event g.script x.ends) opening j is_opening x.journal r.stand r.runs;
+      zero_rename = runs_rename g (times g.script x.ends) opening j is_opening x.journal r.stand r.runs;
       setups = setups_among g opening j is_opening x run idle;
       tasks = tasks_kept g opening j is_opening x run idle;
       publishes = publishes_kept g opening j is_opening x run idle;
@@ -38,11 +38,11 @@ runs_are_kept g opening x j is_opening run idle ps are =
     let r = is_run g opening j is_opening x run x.ends (ahead_none x idle) in
     let among = kept_among g opening x j is_opening run idle ps are in
     record {
-      always = always g (commit_event g.script x.ends) opening j is_opening x.journal r.stand r.runs;
+      always = always g (times g.script x.ends) opening j is_opening x.journal r.stand r.runs;
       plays = among.plays;
       picks = among.picks;
       zero_rename = among.zero_rename;
-      outside = runs_outside g (commit_event g.script x.ends) opening j is_opening x.journal r.stand r.runs;
+      outside = runs_outside g (times g.script x.ends) opening j is_opening x.journal r.stand r.runs;
       setups = setups_kept g opening j is_opening x run idle;
       tasks = λ own. among.tasks;
       publishes = λ own. among.publishes;

@@ -1,7 +1,7 @@
 -- Entries of strangers between the events of a run: no actor of the job sent them, and nothing is told of them.
-use Rattle.std.proofs.Common.{◌≡◌, ℕ, ◌+◌, ◌<◌, ◌≤◌, nat_le, ◌||◌, Bool, true, false, cond, List, [], ◌∷◌, ◌++◌, Option, refl, ap, ◌∙◌, arith}
+use Rattle.std.proofs.Common.{◌≡◌, ℕ, ◌+◌, ◌<◌, ◌≤◌, nat_le, ◌||◌, Bool, true, false, cond, List, [], ◌∷◌, ◌++◌, refl, ap, ◌∙◌, arith}
 use Rattle.job_steps.specs.Prelude.{filter, Actor, Driver, Shell, Entry, Script, same_actor, AreOwn, Seen, see, see_by, see_all, is_own, own, until, by_actor, until_last, AllBy, AllFrom}
-use Rattle.job_facts.specs.Prelude.{list_any}
+use Rattle.job_facts.specs.Prelude.{list_any, Times}
 use Rattle.job_spec.proofs.Common.{list_any-append, above_so, false_true}
 use Rattle.job_facts.proofs.Whose.{or_false}
 use Rattle.job_steps.proofs.Actors.{same_false}
@@ -63,7 +63,7 @@ strange_last a own (e ∷ es) fs h =
     ap (λ b. cond b (e ∷ until_last a (es ++ fs)) []) any ∙ ap (λ l. cond (list_any (λ x. same_actor x.actor a) (e ∷ es)) (e ∷ l) []) (strange_last a own es fs h)
 
 -- and nothing is picked
-pub strange_picks : (w : Script) (k : Option ℕ) (s : Seen) (es : List Entry) → AreStrange es → (see_all w k s es).picks ≡ s.picks
+pub strange_picks : (w : Script) (k : Times) (s : Seen) (es : List Entry) → AreStrange es → (see_all w k s es).picks ≡ s.picks
 strange_picks w k s [] h = refl
 strange_picks w k s (e ∷ es) h = strange_picks w k (see w k s e) es h.1 ∙ by e.actor h.0
   where

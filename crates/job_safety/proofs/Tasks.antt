@@ -1,6 +1,6 @@
 -- How attempts' operations end in a run, and that a commit that is done has published.
 use Rattle.std.proofs.Common.{◌≡◌, ℕ, ◌+◌, inl, inr, Bool, true, false, List, [], ◌∷◌, Option, Some, None, refl, sym, ap, subst, ◌∙◌}
-use Rattle.job_steps.specs.Prelude.{option_map, Content, Attempt, Request, Outcome, Entry, run, WornFirst, Who, IsLegal, Known, Op, TaskEnd, TaskCommit, TaskCommitOver, task_commit_over, knows, Setting, Operation, TheSetup, TheTaskCommit, Running, tells, advance, start_of, over, has_cleaned, Doing, commit_event, clean_event, until, by_actor, until_last, known_then, TaskIs, WasPublished, setting, IsOpening, Play, Closes, happen, Reachable, happens, times, IsRun, operation_of}
+use Rattle.job_steps.specs.Prelude.{option_map, Content, Attempt, Request, Outcome, Entry, run, WornFirst, Who, IsLegal, Known, Op, TaskEnd, TaskCommit, TaskCommitOver, task_commit_over, knows, Setting, Operation, TheSetup, TheTaskCommit, Running, tells, advance, start_of, over, has_cleaned, Doing, clean_event, until, by_actor, until_last, known_then, TaskIs, WasPublished, setting, IsOpening, Play, Closes, happen, Reachable, happens, times, IsRun, operation_of}
 use Rattle.job_spec.proofs.Common.{some_is, none_some, false_true}
 use Rattle.job_model.specs.declared.events.Op.TheVariants as ops
 use Rattle.job_model.specs.declared.ends.TaskEnd.TheVariants as tasks
@@ -91,7 +91,7 @@ module _ (g : Setting) (opening : Content) (j : IsLegal g.script) (is_opening : 
     gone_so : over at ≡ Some (ends.Task e) → (d.op ≡ ops.Abort → ⊥) → (name : List ℕ) → e ≡ tasks.Gone name → cleaned ≡ true
     gone_so o not_abort name is =
         cleaned_then
-        ∙ gone_cleaned g (commit_event g.script x.ends) opening j is_opening z.journal then.stand then.runs (attempt t a) at name is_at (abort_run g t a (record { operation = n.op; known = k }) es ∙ no_abort g t a d.op d.missing k n.op n.begun_is not_abort) (o ∙ ap (λ v. Some (ends.Task v)) is)
+        ∙ gone_cleaned g (times g.script x.ends) opening j is_opening z.journal then.stand then.runs (attempt t a) at name is_at (abort_run g t a (record { operation = n.op; known = k }) es ∙ no_abort g t a d.op d.missing k n.op n.begun_is not_abort) (o ∙ ap (λ v. Some (ends.Task v)) is)
 
     known_so : k ≡ known_then (setting g.script opening) (Attempt t a) d (by_actor (Attempt t a) x.journal)
     known_so = ap (knows g.script (attempt t a)) (sym (known_is g opening x i (Attempt t a) d (ends.Task e) es n))
@@ -120,7 +120,7 @@ module _ (g : Setting) (opening : Content) (j : IsLegal g.script) (is_opening : 
     publishes_so is clean o =
         let r = then i t a d tasks.Done es n in
         let c = done_commit (at i t a d tasks.Done es n) (commit_run g t a (record { operation = n.op; known = k i t a d tasks.Done es n }) es (commit_begun is)) o in
-        let p = done_published g (commit_event g.script x.ends) opening j is_opening u.journal r.stand r.runs (attempt t a) c.0 c.1 (is_at i t a d tasks.Done es n ∙ ap (λ v. Some v) c.2) (sym (cleaned_then i t a d tasks.Done es n) ∙ clean) in
+        let p = done_published g (times g.script x.ends) opening j is_opening u.journal r.stand r.runs (attempt t a) c.0 c.1 (is_at i t a d tasks.Done es n ∙ ap (λ v. Some v) c.2) (sym (cleaned_then i t a d tasks.Done es n) ∙ clean) in
         subst (λ l. WasPublished g.script opening l t a (i + 1)) (sym n.closed.all) (run_entries.published g.script opening u.journal n.closed.entries t a p.0 (i + 1) p.1 n.up_to)
 
   pub publishes_kept : PublishesAmong g.script opening x.journal x.ends

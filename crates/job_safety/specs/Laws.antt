@@ -1,7 +1,7 @@
 -- That every run keeps what is promised of its job.
 use Rattle.std.specs.Prelude.{◌≡◌, not, true, Bool, None, List, ℕ, ◌+◌, ◌⊎◌, false, Option}
-use Rattle.job_steps.specs.Prelude.{Content, Driver, Attempt, Entry, Script, Request, WornFirst, IsLegal, Pick, SetupEnd, TaskEnd, CommitEnd, EventEnd, Setting, Promised, ArePicked, all_picks, setting, seen_until, CleansEnd, nothing_seen, see_all, is_new, past, commit_event, Doing, clean_event, Hold, until, until_last, by_actor, Plays, known_then, EndedIn, CommitEnded, has_cleaned, TaskIs, WasPublished, CommitServed, IsOpening, nothing_told, tell_all, Play, Reachable}
-use Rattle.job_facts.specs.Prelude.{ZeroRename}
+use Rattle.job_steps.specs.Prelude.{Content, Driver, Attempt, Entry, Script, Request, WornFirst, IsLegal, Pick, SetupEnd, TaskEnd, CommitEnd, EventEnd, Setting, Promised, ArePicked, all_picks, setting, seen_until, CleansEnd, nothing_seen, see_all, is_new, past, Doing, clean_event, Hold, until, until_last, by_actor, Plays, known_then, EndedIn, CommitEnded, has_cleaned, TaskIs, WasPublished, CommitServed, IsOpening, nothing_told, tell_all, Play, Reachable}
+use Rattle.job_facts.specs.Prelude.{ZeroRename, times}
 use Rattle.job_model.specs.declared.events.Op.TheVariants as ops
 use Rattle.job_model.specs.declared.ends.SetupEnd.TheVariants as setups
 use Rattle.job_model.specs.declared.ends.TaskEnd.TheVariants as tasks
@@ -60,7 +60,7 @@ is_set_up w xs = not (is_new ((past w xs).state Driver).stage)
 
 -- from then on what holds of one job between any two requests holds of what its journal leaves and tells
 abbrev pub FactsHold : Script → Content → List Entry → List EventEnd → Type 0
-FactsHold w opening journal xs = is_set_up w xs ≡ true → Hold w opening.minimum (see_all w (commit_event w xs) (nothing_seen opening) journal) (tell_all w (nothing_told (clean_event w xs)) journal)
+FactsHold w opening journal xs = is_set_up w xs ≡ true → Hold w opening.minimum (see_all w (times w xs) (nothing_seen opening) journal) (tell_all w (nothing_told (clean_event w xs)) journal)
 
 -- between events the facts hold of what has happened, from the end of a set-up on
 abbrev pub RunsHoldFacts : Type 0

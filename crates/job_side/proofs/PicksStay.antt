@@ -1,6 +1,6 @@
 -- The picks of a run stay while nobody sends who picks.
 use Rattle.std.proofs.Common.{◌≡◌, ℕ, inl, inr, Bool, true, false, List, [], ◌∷◌, ◌++◌, length, Option, Some, None, refl, sym, ap, subst, ◌∙◌}
-use Rattle.job_steps.specs.Prelude.{Content, Actor, Driver, Attempt, Shell, Entry, Script, ActorEnd, EventEnd, OpEnd, Pick, Setting, who, Seen, see, see_all, seen, nothing_seen, Decided, is_commit, decide, commit_event, ArePicked, all_picks, picks_below, lacked_memory, Play, Sends, Finishes, hear, happen, MaySend}
+use Rattle.job_steps.specs.Prelude.{Content, Actor, Driver, Attempt, Shell, Entry, Script, ActorEnd, EventEnd, OpEnd, Pick, Setting, who, Seen, see, see_all, seen, nothing_seen, Decided, is_commit, decide, ArePicked, all_picks, picks_below, lacked_memory, Play, Sends, Finishes, hear, happen, MaySend, Times, times}
 use Rattle.job_traces.proofs.Entries.{see_more}
 use Rattle.job_steps.proofs.Actors.{same_or_not, put_here, put_other}
 use Rattle.job_steps.proofs.Parts.{take_whole}
@@ -11,14 +11,14 @@ use Rattle.job_side.proofs.Along.{commit_stays}
 
 -- whatever was seen, this entry leaves the picks as they are
 abbrev pub LeavesPicks : Script → Entry → Type 0
-LeavesPicks w e = (k : Option ℕ) (s : Seen) → (see w k s e).picks ≡ s.picks
+LeavesPicks w e = (k : Times) (s : Seen) → (see w k s e).picks ≡ s.picks
 
-all_of : (w : Script) (k : Option ℕ) (opening : Content) (es : List Entry) → seen w k opening es (length es) ≡ see_all w k (nothing_seen opening) es
+all_of : (w : Script) (k : Times) (opening : Content) (es : List Entry) → seen w k opening es (length es) ≡ see_all w k (nothing_seen opening) es
 all_of w k opening es = ap (see_all w k (nothing_seen opening)) (take_whole es)
 
 pub picks_stay : (w : Script) (opening : Content) (es : List Entry) (e : Entry) (xs : List EventEnd) → LeavesPicks w e → all_picks w opening (es ++ e ∷ []) xs ≡ all_picks w opening es xs
 picks_stay w opening es e xs stays =
-    let k = commit_event w xs in
+    let k = times w xs in
     let s = see_all w k (nothing_seen opening) es in
     let now : (seen w k opening (es ++ e ∷ []) (length (es ++ e ∷ []))).picks ≡ s.picks =
     ap (λ (v : Seen). v.picks) (all_of w k opening (es ++ e ∷ []) ∙ see_more w k (nothing_seen opening) es e) ∙ stays k s in

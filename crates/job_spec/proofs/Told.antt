@@ -1,32 +1,32 @@
 -- the folds and the journal in one job's eyes
 use Rattle.std.proofs.Common.{◌≡◌, ℕ, zero, suc, ◌+◌, ◌-◌, ◌≤◌, refl, ap, sym, subst, ◌∙◌, Bool, true, false, cond, arith, nat_eq, ◌&&◌, List, [], ◌∷◌, take, Option, Some}
-use Rattle.job_spec.specs.Prelude.{Content, Scene, opening, effect, after_all, moment, AreHonest, IsHonest, Actor, Driver, Attempt, Shell, Request, Outcome, Answered, Slow, RequestLost, ReplyLost, Entry, Script, Seen, see, see_by, see_all, nothing_seen, seen, is_publishing, AllFrom, IsRising, in_eyes}
+use Rattle.job_spec.specs.Prelude.{Content, Scene, opening, effect, after_all, moment, AreHonest, IsHonest, Actor, Driver, Attempt, Shell, Request, Outcome, Answered, Slow, RequestLost, ReplyLost, Entry, Script, Seen, see, see_by, see_all, nothing_seen, seen, Times, is_publishing, AllFrom, IsRising, in_eyes}
 use Rattle.job_spec.specs.Seen.{see_driver, see_attempt}
 use Rattle.job_spec.specs.Eyes.{number_in, entry_in}
 
 -- ---- what is seen
 
-driver_scene : (w : Script) (b : Bool) (s : Seen) (r : Request) (o : Outcome) → (see_driver w b s r o).scene ≡ effect s.scene r o
-driver_scene w b s r (Answered x) = refl
-driver_scene w b s r _ = refl
+driver_scene : (w : Script) (b c : Bool) (s : Seen) (r : Request) (o : Outcome) → (see_driver w b c s r o).scene ≡ effect s.scene r o
+driver_scene w b c s r (Answered x) = refl
+driver_scene w b c s r _ = refl
 
 attempt_scene : (w : Script) (s : Seen) (t a : ℕ) (r : Request) (o : Outcome) → (see_attempt w s t a r o).scene ≡ effect s.scene r o
 attempt_scene w s t a r (Answered x) = refl
 attempt_scene w s t a r _ = refl
 
-by_scene : (w : Script) (k : Option ℕ) (s : Seen) (n : ℕ) (r : Request) (o : Outcome) (a : Actor) → (see_by w k s n r o a).scene ≡ effect s.scene r o
-by_scene w k s n r o Driver = driver_scene w _ s r o
+by_scene : (w : Script) (k : Times) (s : Seen) (n : ℕ) (r : Request) (o : Outcome) (a : Actor) → (see_by w k s n r o a).scene ≡ effect s.scene r o
+by_scene w k s n r o Driver = driver_scene w _ _ s r o
 by_scene w k s n r o (Attempt t a) = attempt_scene w s t a r o
 by_scene w k s n r o Shell = refl
 
-all_scene : (w : Script) (k : Option ℕ) (s : Seen) (es : List Entry) → (see_all w k s es).scene ≡ after_all s.scene es
+all_scene : (w : Script) (k : Times) (s : Seen) (es : List Entry) → (see_all w k s es).scene ≡ after_all s.scene es
 all_scene w k s [] = refl
 all_scene w k s (e ∷ es) = all_scene w k (see w k s e) es ∙ ap (λ c. after_all c es) (by_scene w k s e.event e.request e.outcome e.actor)
 
-pub scene_is : (w : Script) (k : Option ℕ) (content : Content) (journal : List Entry) (m : ℕ) → (seen w k content journal m).scene ≡ moment content journal m
+pub scene_is : (w : Script) (k : Times) (content : Content) (journal : List Entry) (m : ℕ) → (seen w k content journal m).scene ≡ moment content journal m
 scene_is w k content journal m = all_scene w k (nothing_seen content) (take m journal)
 
-pub of_stranger : (w : Script) (k : Option ℕ) (s : Seen) (e : Entry) → e.actor ≡ Shell
+pub of_stranger : (w : Script) (k : Times) (s : Seen) (e : Entry) → e.actor ≡ Shell
     → see w k s e ≡ record { scene = effect s.scene e.request e.outcome; begun = s.begun; last = s.last; picks = s.picks; put_mark = s.put_mark }
 of_stranger w k s e h = ap (see_by w k s e.event e.request e.outcome) h
 
@@ -95,7 +95,7 @@ one_more last attempt true h = (attempt, refl)
 one_more last attempt false h = h
 
 -- a task that has one has one ever after
-pub last_still : (w : Script) (k : Option ℕ) (s : Seen) (e : Entry) (t : ℕ) → (n : ℕ) × (s.last t ≡ Some n) → (n : ℕ) × ((see w k s e).last t ≡ Some n)
+pub last_still : (w : Script) (k : Times) (s : Seen) (e : Entry) (t : ℕ) → (n : ℕ) × (s.last t ≡ Some n) → (n : ℕ) × ((see w k s e).last t ≡ Some n)
 last_still w k s e t h = by e.actor e.outcome
   where
     by : (a : Actor) (o : Outcome) → (n : ℕ) × ((see_by w k s e.event e.request o a).last t ≡ Some n)

@@ -2,7 +2,7 @@
 use Rattle.std.specs.Prelude.{◌≡◌, ℕ, ◌≤◌, ◌⊎◌, true, false, cond, List, length, Option, Some, None}
 use Rattle.job_protocol.specs.Prelude.{Content, Entry, Object, success_key, Script, view, Picks, wanted_at, is_picked, is_clash, is_decided, keeps_of, mark_text}
 use Rattle.job_protocol.specs.View.{Shown, object_at}
-use Rattle.job_spec.specs.Seen.{Seen, seen, is_marked}
+use Rattle.job_spec.specs.Seen.{Seen, Times, seen, is_marked}
 
 -- two views show the same files
 abbrev pub Same : Shown → Shown → Type 0
@@ -48,5 +48,5 @@ pub record Kept (w : Script) (opening : Content) (s : Seen) : Type 0 where
   pub whole : is_marked w s ≡ true → Whole w (view w.dest opening) s.picks s.scene.content
 
 -- The promise: at each moment of the journal of a run over this content, in which the job's commit is event k if it is any
-abbrev pub Always : Script → Option ℕ → Content → List Entry → Type 0
+abbrev pub Always : Script → Times → Content → List Entry → Type 0
 Always w k opening journal = (m : ℕ) → m ≤ length journal → Kept w opening (seen w k opening journal m)

@@ -1,5 +1,5 @@
 -- The laws of this crate.
-use Rattle.std.specs.Prelude.{◌≡◌, ℕ, suc, ◌⊎◌, Bool, true, false, List, [], ◌∷◌, ◌++◌, length, slice_get, Option, Some, None}
+use Rattle.std.specs.Prelude.{◌≡◌, ℕ, suc, ◌⊎◌, Bool, true, false, List, [], ◌∷◌, ◌++◌, length, slice_get, Some, None}
 use Rattle.job_protocol.specs.Prelude.{Content, effect, moment, IsHonest, Actor, Driver, Attempt, Shell, Entry, WornFirst, Script, Start, Restart, SetupEnd, OpEnd, EventEnd, Done, EventFault, Idle, Picks, is_clash}
 use Rattle.std.specs.FinMap as fin
 use Rattle.job_model.specs.declared.events.Op.TheVariants.{Commit}
@@ -8,7 +8,7 @@ use Rattle.job_model.specs.declared.ends.OpEnd.TheVariants as ends
 use Rattle.job_model.specs.declared.ends.EventEnd.TheVariants.{Refused}
 use Rattle.job_model.specs.declared.states.ActorStage.TheVariants as stage
 use Rattle.job_spec.specs.Ends.{EndedIn, commit_due}
-use Rattle.job_spec.specs.Seen.{Seen, see, seen}
+use Rattle.job_spec.specs.Seen.{Seen, Times, see, seen}
 use Rattle.job_spec.specs.States.{Doing, NotBegun, Unended, EndedSo, past, missing, is_committing, end_verdict, verdict_or, verdict}
 use Rattle.job_spec.specs.Turns.{IsRising}
 use Rattle.job_spec.specs.Promise.{Sent}
@@ -16,8 +16,8 @@ use Rattle.job_spec.specs.Eyes.{in_eyes}
 
 -- what is seen of the store is its moment, and of a stranger nothing else is seen
 pub record SeenIsMoment : Type 0 where
-  pub scene : (w : Script) (k : Option ℕ) (opening : Content) (journal : List Entry) (m : ℕ) → (seen w k opening journal m).scene ≡ moment opening journal m
-  pub stranger : (w : Script) (k : Option ℕ) (s : Seen) (e : Entry) → e.actor ≡ Shell
+  pub scene : (w : Script) (k : Times) (opening : Content) (journal : List Entry) (m : ℕ) → (seen w k opening journal m).scene ≡ moment opening journal m
+  pub stranger : (w : Script) (k : Times) (s : Seen) (e : Entry) → e.actor ≡ Shell
       → see w k s e ≡ record { scene = effect s.scene e.request e.outcome; begun = s.begun; last = s.last; picks = s.picks; put_mark = s.put_mark }
 
 -- a job that is alone reads the journal as it is; what others send is told otherwise, but the store, the answers and the order of events stay

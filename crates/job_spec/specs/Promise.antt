@@ -10,7 +10,7 @@ use Rattle.job_model.specs.declared.ends.Stage.TheVariants as stages
 use Rattle.job_model.specs.declared.ends.OpEnd.TheVariants as ends
 use Rattle.job_spec.specs.Seen.{Seen, seen, is_marked}
 use Rattle.job_spec.specs.Headline.{Same, Always}
-use Rattle.job_spec.specs.States.{Doing, Decided, NotBegun, Unended, EndedSo, past, commit_event, clean_event}
+use Rattle.job_spec.specs.States.{Doing, Decided, NotBegun, Unended, EndedSo, past, clean_event, times}
 use Rattle.job_spec.specs.Turns.{until, before, since, by_actor, until_last, AllBy, is_memory}
 use Rattle.job_spec.specs.Follows.{Plays, known_then}
 use Rattle.job_spec.specs.Ends.{EndedIn, CommitEnded, has_cleaned}
@@ -31,11 +31,11 @@ picks_below picks (suc t) = picks_below picks t ++ picked t (picks t)
 
 -- what is seen of the job once these events are over
 abbrev pub seen_until : Script → Content → List Entry → List EventEnd → ℕ → Seen
-seen_until w opening journal xs k = seen w (commit_event w xs) opening journal (length (until k journal))
+seen_until w opening journal xs k = seen w (times w xs) opening journal (length (until k journal))
 
 -- all picks of a run, in the order of their tasks
 abbrev pub all_picks : Script → Content → List Entry → List EventEnd → List Pick
-all_picks w opening journal xs = picks_below (seen w (commit_event w xs) opening journal (length journal)).picks w.tasks
+all_picks w opening journal xs = picks_below (seen w (times w xs) opening journal (length journal)).picks w.tasks
 
 -- the first ones of these picks
 abbrev pub ArePicked : List Pick → List Pick → Type 0
@@ -90,7 +90,7 @@ CommitsEnd w opening journal xs = (j : ℕ) (d : Doing) (e : CommitEnd) (es : Li
 -- Of a job, over a store with this content: the journal of a run, the picks, and the ends of the job's events.
 pub record Promised (w : Script) (opening : Content) (journal : List Entry) (ps : List Pick) (xs : List EventEnd) : Type 0 where
   -- at each moment a reader of the destination is shown what he may rely on
-  pub always : AreOwn journal → Always w (commit_event w xs) opening journal
+  pub always : AreOwn journal → Always w (times w xs) opening journal
   -- events, turns and operations are as the script says
   pub plays : Plays (setting w opening) xs journal
   -- the picks that are told are those of the journal, or the first ones of them

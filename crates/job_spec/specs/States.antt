@@ -10,6 +10,7 @@ use Rattle.job_model.specs.declared.ends.OpEnd.TheVariants as ends
 use Rattle.job_model.specs.declared.ends.EventEnd.TheVariants.{Refused}
 use Rattle.job_model.specs.declared.ends.EventFault.TheVariants as faults
 use Rattle.job_model.specs.declared.states.ActorStage.TheVariants as stage
+use Rattle.job_spec.specs.Seen.{Times}
 
 -- ---- actors
 
@@ -403,6 +404,10 @@ commit_event w xs = commit_from 1 w.events xs
 -- the number of the first event that begins the driver's abort or clean and is not refused, if one does
 abbrev pub clean_event : Script → List EventEnd → Option ℕ
 clean_event w xs = event_from begins_clean 1 w.events xs
+
+-- both
+abbrev pub times : Script → List EventEnd → Times
+times w xs = record { commit = commit_event w xs; clean = clean_event w xs }
 
 -- ---- the verdict on a run
 

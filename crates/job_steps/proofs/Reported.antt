@@ -1,8 +1,8 @@
 -- Until the driver cleans up each task that is reported has a last publisher.
 use Rattle.std.proofs.Common.{◌≡◌, ℕ, zero, suc, ◌+◌, ◌<◌, ◌≤◌, ◌⊎◌, inl, inr, nat_eq, ◌&&◌, ◌||◌, Bool, true, false, cond, List, [], ◌∷◌, ◌++◌, Option, Some, None, refl, sym, ap, subst, ◌∙◌, arith, take, slice_get, length}
-use Rattle.job_steps.specs.Prelude.{option_map, Content, Actor, Driver, Attempt, Outcome, Answered, Slow, RequestLost, ReplyLost, Entry, Request, Who, actor_of, IsLegal, Script, Event, Restart, TaskEnd, OpEnd, ActorEnd, EventEnd, Busy, ActorStage, Retried, TaskCommit, TaskCommitOver, task_commit_over, Setting, Operation, TheSetup, TheTaskCommit, Running, over, Seen, see, see_all, nothing_seen, see_by, seen, is_begun, first_not, is_committing, open_event, commit_event, clean_event, is_memory, IsOpening, Stand, Runs, HasPublished, Told, tell_all, nothing_told, strange_entry, Play, Refuses, Opens, Sends, Finishes, Closes, Strays, happen, MayFinish, Reachable, nothing_happened, happens, times, Ahead, IsRun, operation_of}
+use Rattle.job_steps.specs.Prelude.{option_map, Content, Actor, Driver, Attempt, Outcome, Answered, Slow, RequestLost, ReplyLost, Entry, Request, Who, actor_of, IsLegal, Script, Event, Restart, TaskEnd, OpEnd, ActorEnd, EventEnd, Busy, ActorStage, Retried, TaskCommit, TaskCommitOver, task_commit_over, Setting, Operation, TheSetup, TheTaskCommit, Running, over, Seen, see, see_all, nothing_seen, see_by, seen, is_begun, first_not, is_committing, open_event, clean_event, is_memory, IsOpening, Stand, Runs, HasPublished, Told, tell_all, nothing_told, strange_entry, Play, Refuses, Opens, Sends, Finishes, Closes, Strays, happen, MayFinish, Reachable, nothing_happened, happens, times, Ahead, IsRun, operation_of}
 use Rattle.job_spec.proofs.Common.{and_parts, some_is, none_some, false_true, eq_nat, nat_true}
-use Rattle.job_facts.specs.Prelude.{is_publishing, tell, tell_by, is_effective}
+use Rattle.job_facts.specs.Prelude.{is_publishing, tell, tell_by, is_effective, Times}
 use Rattle.job_spec.specs.Prelude.{report, is_done}
 use Rattle.std.proofs.lemmas.Bool.{or_cases}
 use Rattle.job_model.specs.declared.ends.TaskEnd.TheVariants as tasks
@@ -33,11 +33,11 @@ cleaned_more w m (x ∷ es) e h = cleaned_more w (tell w m x) es e h
 -- ---- who has published
 
 -- what has a last publisher has one behind more entries
-pub last_more : (w : Script) (k : Option ℕ) (s : Seen) (es : List Entry) (t : ℕ) → HasPublished s t → HasPublished (see_all w k s es) t
+pub last_more : (w : Script) (k : Times) (s : Seen) (es : List Entry) (t : ℕ) → HasPublished s t → HasPublished (see_all w k s es) t
 last_more w k s [] t h = h
 last_more w k s (e ∷ es) t h = last_more w k (see w k s e) es t (last_still w k s e t h)
 
-module _ (w : Script) (k : Option ℕ) where
+module _ (w : Script) (k : Times) where
   -- a publishing request that took effect makes a last publisher
   published_here : (s : Seen) (n : ℕ) (r : Request) (o : Outcome) (t a : ℕ) → is_effective o ≡ true → is_publishing w s.scene t r ≡ true → HasPublished (see_by w k s n r o (Attempt t a)) t
   published_here s n r (Answered x) t a took h = (a, latest (is_publishing w s.scene t r) h)
@@ -60,7 +60,7 @@ module _ (w : Script) (k : Option ℕ) where
       last_more w k (see w k s x) es t (subst (λ v. HasPublished (see w k s v) t) (sym is) here)
   published_at s (x ∷ es) (suc m) e t a at by took h = published_at (see w k s x) es m e t a at by took h
 
-module _ (g : Setting) (k : Option ℕ) (opening : Content) (j : IsLegal g.script) (is_opening : IsOpening g opening) where
+module _ (g : Setting) (k : Times) (opening : Content) (j : IsLegal g.script) (is_opening : IsOpening g opening) where
   -- a task's commit that is done has made a last publisher, until the driver cleans up
   done_published : (es : List Entry) (x : Stand) → Runs g k opening es x → x.told.cleaned ≡ false → (a : Who) (t : Retried TaskCommit) → x.attempts a ≡ Some (TheTaskCommit t) → t.operation ≡ TaskCommitOver tasks.Done → HasPublished x.seen a.task
   done_published es x run clean a t at done =
@@ -135,8 +135,8 @@ module _ (g : Setting) (opening : Content) (j : IsLegal g.script) (is_opening : 
   abbrev w : Script
   w = g.script
 
-  abbrev k : Option ℕ
-  k = commit_event w all_ends
+  abbrev k : Times
+  k = times w all_ends
 
   abbrev pub seen_of : Play → Seen
   seen_of x = see_all w k (nothing_seen opening) x.journal

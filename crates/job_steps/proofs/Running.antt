@@ -208,7 +208,7 @@ module _ (g : Setting) (opening : Content) (j : IsLegal g.script) (is_opening : 
   first k e = record {
     along = record {
       stand = first_stand opening k.clean;
-      runs = run_begins k.clean;
+      runs = run_begins;
       cleans = refl;
       driver = refl;
       attempts = λ a. refl;

@@ -1,6 +1,6 @@
 -- How far a run has come with a job: it is one of the job's runs, and what its actors are at is by their lives and stages.
 use Rattle.std.proofs.Common.{◌≡◌, ℕ, ◌≤◌, ◌^◌, inl, inr, Bool, true, false, cond, List, [], ◌∷◌, ◌++◌, length, Option, Some, None, refl, sym, ap, subst, ◌∙◌}
-use Rattle.job_steps.specs.Prelude.{Content, Scene, answer, moment, IsHonestOutcome, Actor, Driver, Shell, Request, Outcome, Entry, Who, actor_of, same_name, IsLegal, Known, Busy, ActorState, knows, learn, Setting, Operation, Running, who, asks, tells, wants, learn_of, advance, put, is_new, by_actor, Told, known, nothing_told, entry, driver_entry, strange_entry, Stand, Runs, IsOpening, IsTimely, with_attempt, is_set, driver_sends, attempt_sends, strays, Times, operation_of}
+use Rattle.job_steps.specs.Prelude.{Content, Scene, answer, moment, IsHonestOutcome, Actor, Driver, Shell, Request, Outcome, Entry, Who, actor_of, same_name, IsLegal, Known, Busy, ActorState, knows, learn, Setting, Operation, Running, who, asks, tells, wants, learn_of, advance, put, is_new, by_actor, Told, known, nothing_told, entry, driver_entry, strange_entry, Stand, Runs, IsOpening, with_attempt, is_set, driver_sends, attempt_sends, strays, Times, operation_of}
 use Rattle.job_spec.proofs.Common.{some_is, none_some, false_true, true_or_false}
 use Rattle.job_facts.specs.Prelude.{IsForeign}
 use Rattle.job_traces.specs.Runs.{saw, with_driver, with_commit, commit_with}
@@ -15,7 +15,7 @@ use Rattle.job_steps.proofs.RunningTasks.{AttemptAt, attempt_hears}
 -- the driver and the attempts are in these states and at these operations; b says whether the commit has begun
 pub record Along (g : Setting) (opening : Content) (k : Times) (b : Begun) (journal : List Entry) (running : Actor → Option Running) (state : Actor → ActorState) : Type 0 where
   pub stand : Stand
-  pub runs : Runs g k.commit opening journal stand
+  pub runs : Runs g k opening journal stand
   pub cleans : stand.told.cleans_at ≡ k.clean
   pub driver : stand.driver ≡ operation_of (running Driver)
   pub attempts : (a : Who) → stand.attempts a ≡ operation_of (running (actor_of a))
@@ -30,8 +30,8 @@ pub record Along (g : Setting) (opening : Content) (k : Times) (b : Begun) (jour
 
 module _ (g : Setting) (opening : Content) (k : Times) (j : IsLegal g.script) (is_opening : IsOpening g opening) where
   -- what an attempt knows by its entries
-  pub told_known : (es : List Entry) (x : Stand) → Runs g k.commit opening es x → (a : Who) → known x.told a ≡ knows g.script a (by_actor (actor_of a) es)
-  told_known es x run a = ap (λ m. known m a) (tells_so g k.commit opening j is_opening es x run) ∙ known_is g.script a es (nothing_told x.told.cleans_at)
+  pub told_known : (es : List Entry) (x : Stand) → Runs g k opening es x → (a : Who) → known x.told a ≡ knows g.script a (by_actor (actor_of a) es)
+  told_known es x run a = ap (λ m. known m a) (tells_so g k opening j is_opening es x run) ∙ known_is g.script a es (nothing_told x.told.cleans_at)
 
   -- who is at something has a driver behind its first stage, whose set-up is done
   pub at_work : (b : Begun) (es : List Entry) (r : Actor → Option Running) (st : Actor → ActorState) (h : Along g opening k b es r st) (a : Who) (op : Operation) → operation_of (r (actor_of a)) ≡ Some op → is_new (st Driver).stage ≡ false
@@ -111,7 +111,7 @@ module _ (g : Setting) (opening : Content) (k : Times) (j : IsLegal g.script) (i
   -- ---- an operation begins
 
   pub driver_begins : (b c : Begun) (es : List Entry) (r : Actor → Option Running) (st : Actor → ActorState) (h : Along g opening k b es r st) (m : Running) (v : ActorState) (y : Stand)
-      → Runs g k.commit opening es y → y.driver ≡ Some m.operation → y.attempts ≡ h.stand.attempts → y.told ≡ h.stand.told → IsTimed c (Some m.operation) → DriverAt v.stage v.life (Some m.operation) → (is_new v.stage ≡ true → is_new (st Driver).stage ≡ true)
+      → Runs g k opening es y → y.driver ≡ Some m.operation → y.attempts ≡ h.stand.attempts → y.told ≡ h.stand.told → IsTimed c (Some m.operation) → DriverAt v.stage v.life (Some m.operation) → (is_new v.stage ≡ true → is_new (st Driver).stage ≡ true)
       → Along g opening k c es (put r Driver (Some m)) (put st Driver v)
   driver_begins b c es r st h m v y run d same told timed at new = record {
     stand = y;
@@ -128,7 +128,7 @@ module _ (g : Setting) (opening : Content) (k : Times) (j : IsLegal g.script) (i
   }
 
   pub attempt_begins : (b : Begun) (es : List Entry) (r : Actor → Option Running) (st : Actor → ActorState) (h : Along g opening k b es r st) (a : Who) (m : Running) (v : ActorState)
-      → Runs g k.commit opening es (with_attempt h.stand a m.operation) → is_new (st Driver).stage ≡ false → m.known ≡ known h.stand.told a → AttemptAt v.stage v.life (Some m.operation)
+      → Runs g k opening es (with_attempt h.stand a m.operation) → is_new (st Driver).stage ≡ false → m.known ≡ known h.stand.told a → AttemptAt v.stage v.life (Some m.operation)
       → Along g opening k b es (put r (actor_of a) (Some m)) (put st (actor_of a) v)
   attempt_begins b es r st h a m v run set learnt at = record {
     stand = with_attempt h.stand a m.operation;
@@ -158,8 +158,8 @@ module _ (g : Setting) (opening : Content) (k : Times) (j : IsLegal g.script) (i
 
   -- ---- a request is sent
 
-  scene_now : (es : List Entry) (x : Stand) → Runs g k.commit opening es x → x.seen.scene ≡ moment opening es (length es)
-  scene_now es x run = sym (moment_scene g k.commit opening j is_opening es x run)
+  scene_now : (es : List Entry) (x : Stand) → Runs g k opening es x → x.seen.scene ≡ moment opening es (length es)
+  scene_now es x run = sym (moment_scene g k opening j is_opening es x run)
 
   pub driver_sent : (b : Begun) (es : List Entry) (r : Actor → Option Running) (st : Actor → ActorState) (h : Along g opening k b es r st) (n : ℕ) (q : Request) (o : Outcome) (m : Running)
       → begun_at k n ≡ b → (st Driver).life ≡ Busy → r Driver ≡ Some m → wants g Driver m ≡ Some q → IsHonestOutcome o (answer (moment opening es (length es)) q) → (moment opening es (length es)).content.next ≤ 2 ^ 64
@@ -174,9 +174,9 @@ module _ (g : Setting) (opening : Content) (k : Times) (j : IsLegal g.script) (i
       let scene = scene_now es x h.runs in
       let due : IsHonestOutcome o (answer x.seen.scene q) = subst (λ s. IsHonestOutcome o (answer s q)) (sym scene) honest in
       let left : x.seen.scene.content.next ≤ 2 ^ 64 = subst (λ (s : Scene). s.content.next ≤ 2 ^ 64) (sym scene) few in
-      let timely = subst (λ v. IsTimely k.commit v n op) (sym h.cleans) (timed_sends k.commit k.clean n op (subst (λ c. IsTimed c (Some op)) (sym begun) timed)) in
+      let timely = timed_sends k n op (subst (λ c. IsTimed c (Some op)) (sym begun) timed) in
       record {
-        stand = with_commit (with_driver (saw g k.commit x (driver_entry n q o)) (tells g (who Driver) op o)) (commit_with op x.commit (driver_entry n q o));
+        stand = with_commit (with_driver (saw g k x (driver_entry n q o)) (tells g (who Driver) op o)) (commit_with op x.commit (driver_entry n q o));
         runs = driver_sends es x op n q o h.runs (h.driver ∙ here) asks_so timely left due;
         cleans = h.cleans;
         driver = refl;
@@ -205,7 +205,7 @@ module _ (g : Setting) (opening : Content) (k : Times) (j : IsLegal g.script) (i
       let learnt : next.known ≡ learn g.script a (known x.told a) q o = ap (λ v. learn_of g.script a m.known v o) asked ∙ ap (λ v. learn g.script a v q o) knew in
       let there : AttemptAt (st (actor_of a)).stage (st (actor_of a)).life (Some (tells g a op o)) = subst (λ l. AttemptAt (st (actor_of a)).stage l (Some (tells g a op o))) (sym busy) (attempt_hears g a (st (actor_of a)).stage op o at) in
       record {
-        stand = with_attempt (saw g k.commit x (entry a n q o)) a (tells g a op o);
+        stand = with_attempt (saw g k x (entry a n q o)) a (tells g a op o);
         runs = attempt_sends es x a op n q o h.runs (set_up b es r st h new) (h.attempts a ∙ here) asks_so due;
         cleans = h.cleans;
         driver = h.driver;
@@ -235,7 +235,7 @@ module _ (g : Setting) (opening : Content) (k : Times) (j : IsLegal g.script) (i
   pub strays_on : (b : Begun) (es : List Entry) (r : Actor → Option Running) (st : Actor → ActorState) (h : Along g opening k b es r st) (n : ℕ) (q : Request) (o : Outcome) → IsForeign g.script (λ a. (knows g.script a (by_actor (actor_of a) es)).drawn) q
       → Along g opening k b (es ++ strange_entry n q o ∷ []) r st
   strays_on b es r st h n q o foreign = record {
-    stand = saw g k.commit h.stand (strange_entry n q o);
+    stand = saw g k h.stand (strange_entry n q o);
     runs = strays es h.stand n q o h.runs (subst (λ v. IsForeign g.script v q) drawn_is foreign);
     cleans = h.cleans;
     driver = h.driver;

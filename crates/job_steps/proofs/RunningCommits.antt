@@ -1,7 +1,7 @@
 -- In a run an attempt at the stage of its commit is at that commit, until it ends or dies.
 use Rattle.std.proofs.Common.{◌≡◌, ℕ, inl, inr, Bool, true, false, [], ◌∷◌, ◌++◌, Option, Some, None, refl, sym, ap, subst, ◌∙◌, List, map}
-use Rattle.job_steps.specs.Prelude.{Content, Actor, Driver, Outcome, Entry, Who, actor_of, Known, IsLegal, Op, Event, Do, Start, Kill, SetupEnd, CommitEnd, CleanEnd, TaskEnd, OpEnd, ActorEnd, Done, Life, Idle, Busy, Dead, ActorStage, ActorState, TaskCommit, TaskCommitOver, task_commit_over, task_commit_start, Setting, Operation, TheSetup, TheWrite, TheTaskCommit, TheTaskAbort, TheCommit, TheClean, Running, tells, start_of, over, Past, put, missing, stage_begun, dead, setup_ended, commit_ended, clean_ended, task_ended, ended, is_committing, open_event, commit_event, IsOpening, Stand, Runs, run_begins, actor_begins, driver_sends, attempt_sends, strays, Beginning, BeginWrite, BeginPublish, BeginAbort, begin, Play, Refuses, Opens, Sends, Finishes, Closes, knows_now, begun, begin_running, open_running, hear, happen, MayOpen, MaySend, MayFinish, Reachable, nothing_happened, happens, Strays, Ahead, IsRun, operation_of, times, Committer, Magic, Reply, Retried, fresh, step, File, Script, files, record_key, Uploaded, upload_hears, write_start, task_abort_start, known}
-use Rattle.job_facts.specs.Prelude.{Looking, Reading, Checking, Uploads, Renaming, least_missing, in_order, reading, looked_at, looked, read_record, storing, checking, checked, to_check, uploaded, renamed, task_commit_start_by, task_commit_hears, task_commit_after, Page, Refused, NoSuchKey, NoSuchFile, AllSent, Walked, More, Whole}
+use Rattle.job_steps.specs.Prelude.{Content, Actor, Driver, Outcome, Entry, Who, actor_of, Known, IsLegal, Op, Event, Do, Start, Kill, SetupEnd, CommitEnd, CleanEnd, TaskEnd, OpEnd, ActorEnd, Done, Life, Idle, Busy, Dead, ActorStage, ActorState, TaskCommit, TaskCommitOver, task_commit_over, task_commit_start, Setting, Operation, TheSetup, TheWrite, TheTaskCommit, TheTaskAbort, TheCommit, TheClean, Running, tells, start_of, over, Past, put, missing, stage_begun, dead, setup_ended, commit_ended, clean_ended, task_ended, ended, is_committing, open_event, IsOpening, Stand, Runs, run_begins, actor_begins, driver_sends, attempt_sends, strays, Beginning, BeginWrite, BeginPublish, BeginAbort, begin, Play, Refuses, Opens, Sends, Finishes, Closes, knows_now, begun, begin_running, open_running, hear, happen, MayOpen, MaySend, MayFinish, Reachable, nothing_happened, happens, Strays, Ahead, IsRun, operation_of, times, Committer, Magic, Reply, Retried, fresh, step, File, Script, files, record_key, Uploaded, upload_hears, write_start, task_abort_start, known}
+use Rattle.job_facts.specs.Prelude.{Looking, Reading, Checking, Uploads, Renaming, least_missing, in_order, reading, looked_at, looked, read_record, storing, checking, checked, to_check, uploaded, renamed, task_commit_start_by, task_commit_hears, task_commit_after, Page, Refused, NoSuchKey, NoSuchFile, AllSent, Walked, More, Whole, Times}
 use Rattle.job_spec.specs.Prelude.{stage_done}
 use Rattle.job_spec.proofs.Common.{some_is, none_some, true_or_false}
 use Rattle.job_model.specs.declared.events.Op.TheVariants as ops
@@ -103,8 +103,8 @@ begin_ended g y (BeginPublish b) old a op e = put_at CommitEnded y.attempts b (T
 begin_ended g y (BeginAbort b) old a op e = put_at CommitEnded y.attempts b (TheTaskAbort (fresh g.script.retries (task_abort_start g.script (known y.told b)))) tt old a op e
 begin_ended g y _ old a op e = old a op e
 
-never_kept : (g : Setting) (k : Option ℕ) (opening : Content) (es : List Entry) (x : Stand) → Runs g k opening es x → (a : Who) (op : Operation) → x.attempts a ≡ Some op → CommitEnded a op
-never_kept g k opening es x (run_begins c) a op e = absurd (none_some refl e)
+never_kept : (g : Setting) (k : Times) (opening : Content) (es : List Entry) (x : Stand) → Runs g k opening es x → (a : Who) (op : Operation) → x.attempts a ≡ Some op → CommitEnded a op
+never_kept g k opening es x run_begins a op e = absurd (none_some refl e)
 never_kept g k opening es x (actor_begins fs y b run may) a op e = begin_ended g y b (never_kept g k opening fs y run) a op e
 never_kept g k opening es x (driver_sends fs y v n r o run d asked timely few honest) a op e = never_kept g k opening fs y run a op e
 never_kept g k opening es x (attempt_sends fs y b v n r o run set at asked honest) a op e = put_at CommitEnded y.attempts b (tells g b v o) (ended_tells g b v o (never_kept g k opening fs y run b v at)) (never_kept g k opening fs y run) a op e
@@ -280,7 +280,7 @@ module _ (g : Setting) (opening : Content) (j : IsLegal g.script) (is_opening : 
         | inr q ↦
             let m = q.0 in
             let here : y.running (actor_of b) ≡ Some m = ap y.running s ∙ q.1 in
-            let own = never_kept g (commit_event g.script (y.ends ++ Done ∷ [])) opening y.journal run.stand run.runs b m.operation (run.attempts b ∙ ap operation_of here) in
+            let own = never_kept g (times g.script (y.ends ++ Done ∷ [])) opening y.journal run.stand run.runs b m.operation (run.attempts b ∙ ap operation_of here) in
             let busy : (y.live.state (actor_of b)).life ≡ Busy = ap (λ a. (y.live.state a).life) s ∙ may.busy in
             let before : StageBy (is_committing (y.live.state (actor_of b)).stage) Busy (Some m.operation) = subst (λ l. StageBy (is_committing (y.live.state (actor_of b)).stage) l (Some m.operation)) busy (subst (λ r. At (y.live.state (actor_of b)) r) here (old b)) in
             subst (λ r. At (ended v.end (y.live.state v.actor).stage) r) (sym here) (subst (λ a. CommitAt (ended v.end (y.live.state a).stage) (Some m.operation)) s (ends_at g b v.end (y.live.state (actor_of b)).stage m.operation own before q.2))

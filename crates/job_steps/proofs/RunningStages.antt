@@ -1,7 +1,7 @@
 -- What the driver is at, by its life and stage.
 use Rattle.std.proofs.Common.{◌≡◌, ℕ, ◌⊎◌, inl, inr, ◌&&◌, ◌||◌, Bool, true, false, Option, Some, None, refl, sym, ap, subst}
 use Rattle.std.specs.Prelude.{if◌then◌else◌}
-use Rattle.job_steps.specs.Prelude.{option_map, Actor, Driver, Attempt, Request, Outcome, Retried, Known, Event, Op, Setup, Abort, Clean, SetupEnd, CommitEnd, CleanEnd, TaskEnd, OpEnd, ActorEnd, EventFault, Life, Idle, Busy, Dead, ActorStage, setup_over, commit_over, clean_over, Setting, Operation, TheSetup, TheWrite, TheTaskCommit, TheTaskAbort, TheCommit, TheClean, Running, who, asks, tells, over, is_begun, ended, setup_ended, commit_ended, clean_ended, dead, restarted, is_new, needs_set, may, driver_may, refuse_op, refuse_begin, begins_commit, begins_clean, is_busy, is_memory, is_wanting, is_set, is_just_set, IsTimely, nothing_learnt, Play, MayFinish}
+use Rattle.job_steps.specs.Prelude.{option_map, Actor, Driver, Attempt, Request, Outcome, Retried, Known, Event, Op, Setup, Abort, Clean, SetupEnd, CommitEnd, CleanEnd, TaskEnd, OpEnd, ActorEnd, EventFault, Life, Idle, Busy, Dead, ActorStage, setup_over, commit_over, clean_over, Setting, Operation, TheSetup, TheWrite, TheTaskCommit, TheTaskAbort, TheCommit, TheClean, Running, who, asks, tells, over, is_begun, ended, setup_ended, commit_ended, clean_ended, dead, restarted, is_new, needs_set, may, driver_may, refuse_op, refuse_begin, begins_commit, begins_clean, is_busy, is_memory, is_wanting, is_set, is_just_set, IsTimely, nothing_learnt, Play, MayFinish, Times}
 use Rattle.job_spec.proofs.Common.{some_is, none_some, false_true, true_or_false}
 use Rattle.job_model.specs.declared.events.Op.TheVariants.{Commit}
 use Rattle.job_model.specs.declared.ends.SetupEnd.TheVariants as setups
@@ -278,11 +278,11 @@ timed_setting b None h s = h
 timed_setting b (Some (TheSetup t)) h s = h
 timed_setting b (Some _) h s = absurd s
 
-pub timed_sends : (k c : Option ℕ) (n : ℕ) (op : Operation) → IsTimed (record { commit = is_begun k n; clean = is_begun c n }) (Some op) → IsTimely k c n op
-timed_sends k c n (TheSetup t) h = h
-timed_sends k c n (TheCommit v) h = h
-timed_sends k c n (TheClean t) h = h
-timed_sends k c n _ h = tt
+pub timed_sends : (k : Times) (n : ℕ) (op : Operation) → IsTimed (record { commit = is_begun k.commit n; clean = is_begun k.clean n }) (Some op) → IsTimely k n op
+timed_sends k n (TheSetup t) h = h
+timed_sends k n (TheCommit v) h = h
+timed_sends k n (TheClean t) h = h
+timed_sends k n _ h = tt
 
 pub timed_tells : (g : Setting) (b : Begun) (op : Operation) (o : Outcome) → IsTimed b (Some op) → IsTimed b (Some (tells g (who Driver) op o))
 timed_tells g b (TheWrite t) o h = tt

@@ -75,13 +75,13 @@ module _ (g : Setting) (opening : Content) (k : Times) (j : IsLegal g.script) (i
   -- ---- an attempt
 
   -- it has not sent its publishing request where it is at nothing, or where its write is done
-  none_sent : (es : List Entry) (x : Stand) → Runs g k.commit opening es x → is_set x.driver ≡ true → (a : Who) → x.attempts a ≡ None → (known x.told a).publish_sent ≡ false
-  none_sent es x run set a e = ap (λ (v : Known). v.publish_sent) ((late_now g k.commit opening j is_opening es x run set).new a e).0
+  none_sent : (es : List Entry) (x : Stand) → Runs g k opening es x → is_set x.driver ≡ true → (a : Who) → x.attempts a ≡ None → (known x.told a).publish_sent ≡ false
+  none_sent es x run set a e = ap (λ (v : Known). v.publish_sent) ((late_now g k opening j is_opening es x run set).new a e).0
 
-  written_sent : (es : List Entry) (x : Stand) → Runs g k.commit opening es x → is_set x.driver ≡ true → (a : Who) (d : Option Operation) → x.attempts a ≡ d → HasWritten d → (known x.told a).publish_sent ≡ false
+  written_sent : (es : List Entry) (x : Stand) → Runs g k opening es x → is_set x.driver ≡ true → (a : Who) (d : Option Operation) → x.attempts a ≡ d → HasWritten d → (known x.told a).publish_sent ≡ false
   written_sent es x run set a d e h =
       let at = written_is d h in
-      let f = (late_now g k.commit opening j is_opening es x run set).fine a (TheWrite (record { operation = WriteOver tasks.Done; spare = at.0; repeated = at.1 })) (e ∙ at.2) in
+      let f = (late_now g k opening j is_opening es x run set).fine a (TheWrite (record { operation = WriteOver tasks.Done; spare = at.0; repeated = at.1 })) (e ∙ at.2) in
       (f.1.1 refl).0.0
 
   starts_write : (b : Begun) (es : List Entry) (r : Actor → Option Running) (st : Actor → ActorState) (h : Along g opening k b es r st) (a : Who) (kn : Known) → kn ≡ known h.stand.told a → IsAttempt w a → is_new (st Driver).stage ≡ false
@@ -107,7 +107,7 @@ module _ (g : Setting) (opening : Content) (k : Times) (j : IsLegal g.script) (i
       let x = h.stand in
       let set = set_up g opening k j is_opening b es r st h new in
       let t : Retried TaskAbort = fresh w.retries (task_abort_start w kn) in
-      let run = subst (λ v. Runs g k.commit opening es (with_attempt x a (TheTaskAbort (fresh w.retries (task_abort_start w v))))) (sym learnt) (actor_begins es x (BeginAbort a) h.runs (set, is)) in
+      let run = subst (λ v. Runs g k opening es (with_attempt x a (TheTaskAbort (fresh w.retries (task_abort_start w v))))) (sym learnt) (actor_begins es x (BeginAbort a) h.runs (set, is)) in
       let unsent : (known x.told a).publish_sent ≡ false → FreeAbort (task_abort_start w kn) = λ e. free_abort w kn (ap (λ (v : Known). v.publish_sent) learnt ∙ e) in
       let free = may_abort (st (actor_of a)).stage (operation_of (r (actor_of a))) t at (λ e. unsent (none_sent es x h.runs set a (h.attempts a ∙ e))) (λ y. unsent (written_sent es x h.runs set a (operation_of (r (actor_of a))) (h.attempts a) y)) in
       attempt_begins g opening k j is_opening b es r st h a (record { operation = TheTaskAbort t; known = kn }) (busy_at (actor_of a) Abort (st (actor_of a)).stage) run new learnt free

@@ -47,11 +47,11 @@ pub use Rattle.job_spec.specs.Entries.{AreOwn}
 pub use Rattle.job_spec.specs.Follows.{OpFollows, Plays, known_then}
 pub use Rattle.job_spec.specs.OperationEnds.{CommitServed, TaskIs, WasPublished}
 pub use Rattle.job_spec.specs.Promise.{ArePicked, CleansEnd, Finished, Promised, Sent, all_picks, lacked_memory, picked, picks_below, seen_until, setting}
-pub use Rattle.job_spec.specs.Seen.{Seen, is_begun, is_reading, nothing_seen, see, see_all, see_by, seen}
-pub use Rattle.job_spec.specs.States.{Decided, Doing, Past, actors, after_event, attempt_may, begins_clean, begins_commit, clean_ended, clean_event, commit_begun, commit_ended, commit_event, dead, decide, driver_may, end_op, end_ops, ended, first_not, idle, is_commit, is_committing, is_new, is_refused, may, missing, needs_set, nothing_past, open_event, past, put, refusal, refuse_begin, refuse_op, restarted, same_actor, setup_ended, stage_begun, task_ended, told}
+pub use Rattle.job_spec.specs.Seen.{Seen, Times, is_begun, is_picking, is_reading, nothing_seen, see, see_all, see_by, seen}
+pub use Rattle.job_spec.specs.States.{Decided, Doing, Past, actors, after_event, attempt_may, begins_clean, begins_commit, clean_ended, clean_event, commit_begun, commit_ended, commit_event, dead, decide, driver_may, end_op, end_ops, ended, first_not, idle, is_commit, is_committing, is_new, is_refused, may, missing, needs_set, nothing_past, open_event, past, put, refusal, refuse_begin, refuse_op, restarted, same_actor, setup_ended, stage_begun, task_ended, times, told}
 pub use Rattle.job_spec.specs.Turns.{AllBy, AllFrom, AllUpTo, IsRising, OpenTurns, Turns, before, busy_actors, by_actor, is_busy, is_memory, is_own, is_wanting, of_event, own, since, until, until_last}
 pub use Rattle.job_steps.specs.Laws.{IsPlayed}
-pub use Rattle.job_steps.specs.Running.{Ahead, IsRun, Times, operation_of, times}
+pub use Rattle.job_steps.specs.Running.{Ahead, IsRun, operation_of}
 pub use Rattle.job_steps.specs.Transitions.{Closes, Enabled, Finishes, MayClose, MayFinish, MayOpen, MaySend, MayStray, Opens, Play, Reachable, Refuses, Sends, Strays, Transition, begin_running, begun, happen, happens, hear, knows_now, nothing_happened, nothing_played, open_running, scene_of}
 pub use Rattle.job_traces.specs.Runs.{BeginAbort, BeginClean, BeginCommit, BeginPublish, BeginSetup, BeginWrite, Beginning, IsOpening, IsTimely, Runs, Stand, actor_begins, attempt_sends, begin, driver_sends, is_just_set, is_set, nothing_learnt, run_begins, strays, with_attempt}
 pub use Rattle.list_walk.specs.Left.{adds_key, one_if}

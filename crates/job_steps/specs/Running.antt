@@ -1,6 +1,6 @@
 -- That what happens in a run is one of the job's runs, whose every moment is known.
-use Rattle.std.specs.Prelude.{◌≡◌, ℕ, true, false, List, ◌∷◌, ◌++◌, Option, Some, None}
-use Rattle.job_facts.specs.Prelude.{Content, Driver, Who, actor_of, Script, IsLegal, Event, EventEnd, Setting, Operation, Running, is_new, commit_event, is_refused, clean_event, known}
+use Rattle.std.specs.Prelude.{◌≡◌, true, false, List, ◌∷◌, ◌++◌, Option, Some, None}
+use Rattle.job_facts.specs.Prelude.{Content, Driver, Who, actor_of, IsLegal, Event, EventEnd, Setting, Operation, Running, is_new, Times, times, is_refused, known}
 use Rattle.job_traces.specs.Runs.{Stand, Runs, IsOpening, is_set}
 use Rattle.job_steps.specs.Transitions.{Play, Reachable, knows_now}
 
@@ -15,19 +15,10 @@ abbrev pub operation_of : Option Running → Option Operation
 operation_of None = None
 operation_of (Some m) = Some m.operation
 
--- the events of the job's commit and of its first abort or clean, if they are any
-pub record Times : Type 0 where
-  pub commit : Option ℕ
-  pub clean : Option ℕ
-
--- the events of the job's commit and of its first abort or clean, by the ends
-abbrev pub times : Script → List EventEnd → Times
-times w ends = record { commit = commit_event w ends; clean = clean_event w ends }
-
 -- what happened is one of the job's runs, told request by request
 pub record IsRun (g : Setting) (opening : Content) (x : Play) (k : Times) : Type 0 where
   pub stand : Stand
-  pub runs : Runs g k.commit opening x.journal stand
+  pub runs : Runs g k opening x.journal stand
   pub cleans : stand.told.cleans_at ≡ k.clean
   pub driver : stand.driver ≡ operation_of (x.running Driver)
   pub attempts : (a : Who) → stand.attempts a ≡ operation_of (x.running (actor_of a))

@@ -1,6 +1,6 @@
 -- What the entries of a run change, one by one and together.
 use Rattle.std.proofs.Common.{◌≡◌, ℕ, zero, suc, ◌+◌, ◌<◌, ◌≤◌, ◌⊎◌, inl, inr, true, false, List, [], ◌∷◌, ◌++◌, length, slice_get, Option, Some, None, refl, sym, ap, subst, ◌∙◌, arith, length-append}
-use Rattle.job_facts.specs.Prelude.{text_eq, Content, Scene, Upload, begins, effect, moment, after_all, Driver, Request, Outcome, Answered, Slow, RequestLost, Entry, IsLegal, Script, dest_prefix, setup_asks, Setting, Operation, TheSetup, TheCommit, TheClean, who, asks, IsZeroRename, ZeroRename, AreOwn, is_own, SameOutsideUpload, SameOutside, see, HasBucket, Who, known, entry, driver_entry, strange_entry, at_id}
+use Rattle.job_facts.specs.Prelude.{text_eq, Content, Scene, Upload, begins, effect, moment, after_all, Driver, Request, Outcome, Answered, Slow, RequestLost, Entry, IsLegal, Script, dest_prefix, setup_asks, Setting, Operation, TheSetup, TheCommit, TheClean, who, asks, IsZeroRename, ZeroRename, AreOwn, is_own, SameOutsideUpload, SameOutside, see, HasBucket, Who, known, entry, driver_entry, strange_entry, at_id, Times}
 use Rattle.job_spec.proofs.Common.{some_is, none_some, false_true, true_or_false}
 use Rattle.std.specs.FinMap as fin
 use Rattle.s3_types.specs.Store.{opening as opening_scene}
@@ -85,7 +85,7 @@ module _ (w : Script) where
 
 -- ---- runs
 
-module _ (g : Setting) (k : Option ℕ) (opening : Content) (j : IsLegal g.script) (is_opening : IsOpening g opening) where
+module _ (g : Setting) (k : Times) (opening : Content) (j : IsLegal g.script) (is_opening : IsOpening g opening) where
   abbrev w : Script
   w = g.script
 
@@ -140,7 +140,7 @@ module _ (g : Setting) (k : Option ℕ) (opening : Content) (j : IsLegal g.scrip
   attempt_content x a n r _ = refl
 
   after_is : (es : List Entry) (x : Stand) → Runs g k opening es x → x.seen.scene ≡ after_all (opening_scene opening) es
-  after_is es x (run_begins c) = refl
+  after_is es x run_begins = refl
   after_is es x (actor_begins fs y b run may) = after_is fs y run
   after_is es x (driver_sends fs y op n r o run d asked timely few honest) = driver_content y n r o ∙ ap (λ s. effect s r o) (after_is fs y run) ∙ sym (after_more (opening_scene opening) fs (driver_entry n r o))
   after_is es x (attempt_sends fs y a op n r o run set at asked honest) = attempt_content y a n r o ∙ ap (λ s. effect s r o) (after_is fs y run) ∙ sym (after_more (opening_scene opening) fs (entry a n r o))
@@ -209,7 +209,7 @@ module _ (g : Setting) (k : Option ℕ) (opening : Content) (j : IsLegal g.scrip
       now_leaves own = leaves_on w opening now next (h.whole (own_front es (e ∷ []) own)) (changes_leave w e now next (c (own_last es e own)))
 
   moments : (es : List Entry) (x : Stand) → Runs g k opening es x → Moments es x.seen.scene.content
-  moments es x (run_begins c) = record { entries = λ m e is own. absurd (none_some refl is); outside = λ own m l. subst (λ xs. Leaves w opening (after_all (opening_scene opening) xs).content) (sym (take_all [] m (omega arith))) (leaves_same w opening); whole = λ own. leaves_same w opening }
+  moments es x run_begins = record { entries = λ m e is own. absurd (none_some refl is); outside = λ own m l. subst (λ xs. Leaves w opening (after_all (opening_scene opening) xs).content) (sym (take_all [] m (omega arith))) (leaves_same w opening); whole = λ own. leaves_same w opening }
   moments es x (actor_begins fs y b run may) = moments fs y run
   moments es x (driver_sends fs y op n r o run d asked timely few honest) =
       one_more fs (driver_entry n r o) y.seen.scene.content x.seen.scene.content (moment_is fs y run) (moment_is es x (driver_sends fs y op n r o run d asked timely few honest))

@@ -1,6 +1,6 @@
 -- What a run's entries say, at each of its moments.
-use Rattle.std.proofs.Common.{◌≡◌, ℕ, zero, suc, ◌+◌, ◌<◌, ◌≤◌, ◌⊎◌, inl, inr, true, List, [], ◌∷◌, ◌++◌, length, take, Option, Some, refl, sym, ap, subst, ◌∙◌, arith, length-append}
-use Rattle.job_facts.specs.Prelude.{Content, Entry, IsLegal, Script, CommitEnd, view, CommitOver, Setting, TheCommit, AreOwn, Same, Kept, Always, is_untouched, NoDeletionWorn, OnlyOpening, Seen, see, see_all, nothing_seen, Told, entry, driver_entry, strange_entry, nothing_told, tell, tell_all}
+use Rattle.std.proofs.Common.{◌≡◌, ℕ, zero, suc, ◌+◌, ◌<◌, ◌≤◌, ◌⊎◌, inl, inr, true, List, [], ◌∷◌, ◌++◌, length, take, Some, refl, sym, ap, subst, ◌∙◌, arith, length-append}
+use Rattle.job_facts.specs.Prelude.{Content, Entry, IsLegal, Script, CommitEnd, view, CommitOver, Setting, TheCommit, AreOwn, Same, Kept, Always, is_untouched, NoDeletionWorn, OnlyOpening, Seen, see, see_all, nothing_seen, Told, entry, driver_entry, strange_entry, nothing_told, tell, tell_all, Times}
 use Rattle.job_model.specs.declared.ends.CommitEnd.TheVariants as commits
 use Rattle.job_model.specs.declared.ends.Stage.TheVariants as stages
 use Rattle.job_traces.specs.Runs.{Stand, Runs, run_begins, actor_begins, driver_sends, attempt_sends, strays, IsOpening, is_set}
@@ -9,7 +9,7 @@ use Rattle.job_traces.proofs.EveryRun.{good, shown, kept_now, late, own_front}
 
 -- ---- one more entry
 
-pub see_more : (w : Script) (k : Option ℕ) (s : Seen) (es : List Entry) (e : Entry) → see_all w k s (es ++ e ∷ []) ≡ see w k (see_all w k s es) e
+pub see_more : (w : Script) (k : Times) (s : Seen) (es : List Entry) (e : Entry) → see_all w k s (es ++ e ∷ []) ≡ see w k (see_all w k s es) e
 see_more w k s [] e = refl
 see_more w k s (x ∷ es) e = see_more w k (see w k s x) es e
 
@@ -33,7 +33,7 @@ take_all [] (suc m) l = refl
 take_all (e ∷ es) zero l = absurd (omega arith)
 take_all (e ∷ es) (suc m) l = ap (λ xs. e ∷ xs) (take_all es m (omega arith))
 
-module _ (g : Setting) (k : Option ℕ) (opening : Content) (j : IsLegal g.script) (is_opening : IsOpening g opening) where
+module _ (g : Setting) (k : Times) (opening : Content) (j : IsLegal g.script) (is_opening : IsOpening g opening) where
   abbrev w : Script
   w = g.script
 
@@ -59,14 +59,14 @@ module _ (g : Setting) (k : Option ℕ) (opening : Content) (j : IsLegal g.scrip
   sees_more y es is e = ap (λ s. see w k s e) is ∙ sym (see_more w k (nothing_seen opening) es e)
 
   pub sees : (es : List Entry) (x : Stand) → Runs g k opening es x → x.seen ≡ all es
-  sees es x (run_begins c) = refl
+  sees es x run_begins = refl
   sees es x (actor_begins fs y b run may) = sees fs y run
   sees es x (driver_sends fs y op n r o run d asked timely few honest) = sees_more y fs (sees fs y run) (driver_entry n r o)
   sees es x (attempt_sends fs y a op n r o run set at asked honest) = sees_more y fs (sees fs y run) (entry a n r o)
   sees es x (strays fs y n r o run f) = sees_more y fs (sees fs y run) (strange_entry n r o)
 
   pub tells_so : (es : List Entry) (x : Stand) → Runs g k opening es x → x.told ≡ tell_all w (nothing_told x.told.cleans_at) es
-  tells_so es x (run_begins c) = refl
+  tells_so es x run_begins = refl
   tells_so es x (actor_begins fs y b run may) = tells_so fs y run
   tells_so es x (driver_sends fs y op n r o run d asked timely few honest) = ap (λ m. tell w m (driver_entry n r o)) (tells_so fs y run) ∙ sym (tell_more w (nothing_told y.told.cleans_at) fs (driver_entry n r o))
   tells_so es x (attempt_sends fs y a op n r o run set at asked honest) = ap (λ m. tell w m (entry a n r o)) (tells_so fs y run) ∙ sym (tell_more w (nothing_told y.told.cleans_at) fs (entry a n r o))
@@ -76,7 +76,7 @@ module _ (g : Setting) (k : Option ℕ) (opening : Content) (j : IsLegal g.scrip
   kept_all es x run own = subst (Kept w opening) (sees es x run) (kept_now g k opening j is_opening x (good g k opening j is_opening es x run) (shown g k opening j is_opening es x run own))
 
   pub always : (es : List Entry) (x : Stand) → Runs g k opening es x → AreOwn es → Always w k opening es
-  always es x (run_begins c) own m l = subst (λ xs. Kept w opening (see_all w k (nothing_seen opening) xs)) (sym (take_all [] m (omega arith))) (kept_all es x (run_begins c) own)
+  always es x run_begins own m l = subst (λ xs. Kept w opening (see_all w k (nothing_seen opening) xs)) (sym (take_all [] m (omega arith))) (kept_all es x run_begins own)
   always es x (actor_begins fs y b run may) own m l = always fs y run own m l
   always es x (driver_sends fs y op n r o run d asked timely few honest) own m l = always_more fs (driver_entry n r o) (always fs y run (own_front fs _ own)) (kept_all es x (driver_sends fs y op n r o run d asked timely few honest) own) m l
   always es x (attempt_sends fs y a op n r o run set at asked honest) own m l = always_more fs (entry a n r o) (always fs y run (own_front fs _ own)) (kept_all es x (attempt_sends fs y a op n r o run set at asked honest) own) m l

@@ -1,6 +1,6 @@
 -- Every run comes as far as it says, whatever strangers send that leave the job's own alone; and among none a reader is shown what the headline says.
-use Rattle.std.proofs.Common.{◌≡◌, ℕ, ◌<◌, ◌≤◌, ◌^◌, ◌⊎◌, inl, inr, ◌&&◌, ◌||◌, Bool, true, false, cond, List, [], ◌∷◌, ◌++◌, Option, Some, None, refl, sym, ap, subst, ◌∙◌}
-use Rattle.job_facts.specs.Prelude.{nat_cmp, is_bucket, BucketContent, Content, Scene, Upload, new_bucket, answer, apply, apply_at, bucket_of, effect, is_effective, IsHonestOutcome, only_reads, Driver, Request, MakeBucket, ClusterPut, ClusterRename, ClusterGet, ClusterDelete, ClusterList, Outcome, Answered, Slow, RequestLost, ReplyLost, Entry, below, magic_prefix, success_key, SuccessPlace, Retried, fresh, step, Who, IsLegal, Script, Known, Picks, Setup, Heading, Sweeping, SetupOver, setup_start, setup_asks, setup_after, Listing, Deleting, write_start, task_commit_start, task_abort_start, Clean, CleanOver, clean_asks, Setting, Operation, TheSetup, TheWrite, TheTaskCommit, TheTaskAbort, TheCommit, TheClean, who, asks, tells, AreOwn, Kept, NoClusterFile, is_own, Seen, see, is_begun, is_marking, is_reading, picks_by, HasBucket, ClearsAlone, Told, known, put_who, entry, driver_entry, strange_entry, ends, nothing_told, tell_driver, tell_attempt, at_event, at_id, IsAttempt, Facts, Hold, Fits, SetsUp, Gone, IsForeign}
+use Rattle.std.proofs.Common.{not, ◌≡◌, ℕ, ◌<◌, ◌≤◌, ◌^◌, ◌⊎◌, inl, inr, ◌&&◌, ◌||◌, Bool, true, false, cond, List, [], ◌∷◌, ◌++◌, Option, Some, None, refl, sym, ap, subst, ◌∙◌}
+use Rattle.job_facts.specs.Prelude.{nat_cmp, is_bucket, BucketContent, Content, Scene, Upload, new_bucket, answer, apply, apply_at, bucket_of, effect, is_effective, IsHonestOutcome, only_reads, Driver, Request, MakeBucket, ClusterPut, ClusterRename, ClusterGet, ClusterDelete, ClusterList, Outcome, Answered, Slow, RequestLost, ReplyLost, Entry, below, magic_prefix, success_key, SuccessPlace, Retried, fresh, step, Who, IsLegal, Script, Known, Picks, Setup, Heading, Sweeping, SetupOver, setup_start, setup_asks, setup_after, Listing, Deleting, write_start, task_commit_start, task_abort_start, Clean, CleanOver, clean_asks, Setting, Operation, TheSetup, TheWrite, TheTaskCommit, TheTaskAbort, TheCommit, TheClean, who, asks, tells, AreOwn, Kept, NoClusterFile, is_own, Seen, see, is_begun, is_marking, is_reading, picks_by, HasBucket, ClearsAlone, Told, known, put_who, entry, driver_entry, strange_entry, ends, nothing_told, tell_driver, tell_attempt, at_event, at_id, IsAttempt, Facts, Hold, Fits, SetsUp, Gone, IsForeign, Times, is_picking}
 use Rattle.job_spec.specs.Prelude.{apply_in}
 use Rattle.job_spec.proofs.Common.{key_magic, some_is, none_some, none_or_some, false_true, same_or_other, text_here, text_other}
 use Rattle.store_frame.specs.Prelude.{upload_in}
@@ -81,7 +81,7 @@ module _ (n : List ℕ) where
   blank_left s (ClusterList p) e = (λ id. ap (λ o. upload_in o id) e, refl)
   blank_left s r e = blank_at s.content r e (fin.get s.content.buckets (bucket_of r)) refl
 
-module _ (g : Setting) (k : Option ℕ) (opening : Content) (j : IsLegal g.script) (is_opening : IsOpening g opening) where
+module _ (g : Setting) (k : Times) (opening : Content) (j : IsLegal g.script) (is_opening : IsOpening g opening) where
   abbrev w : Script
   w = g.script
 
@@ -179,18 +179,18 @@ module _ (g : Setting) (k : Option ℕ) (opening : Content) (j : IsLegal g.scrip
   setup_numbers s (SetupOver end) r o h e n = absurd cc
   setup_numbers s _ r o h e n = numbers s r o h n
 
-  early_sends : (x : Stand) → Early g opening x → (t : Retried Setup) → SetsUp w x.seen.scene.content t.operation → (n : ℕ) (r : Request) → setup_asks w t.operation ≡ Some r → (is_begun k n ≡ false) × (is_begun x.told.cleans_at n ≡ false) → (o : Outcome) → IsHonestOutcome o (answer x.seen.scene r)
+  early_sends : (x : Stand) → Early g opening x → (t : Retried Setup) → SetsUp w x.seen.scene.content t.operation → (n : ℕ) (r : Request) → setup_asks w t.operation ≡ Some r → (is_begun k.commit n ≡ false) × (is_begun x.told.cleans_at n ≡ false) → (o : Outcome) → IsHonestOutcome o (answer x.seen.scene r)
       → Early g opening (with_commit (with_driver (saw g k x (driver_entry n r o)) (TheSetup (step w.retries (setup_after w) t o))) x.commit)
   early_sends x e t sets n r asked timely o honest = by o honest (setup_goes w x.seen.scene w.retries t.spare t.repeated t.operation sets r asked o honest) (setup_no_file w j x.seen.scene t.operation sets r asked o e.files) (setup_numbers x.seen.scene t.operation r o sets asked (record { fresh = e.fresh; least = e.least }))
     where
       told_now : (o : Outcome) → at_event n (tell_driver x.told r o) ≡ nothing_told x.told.cleans_at
       told_now o = ap (λ m. at_event n (tell_driver m r o)) e.told ∙ still_nothing x.told.cleans_at n r o (setup_ends t.operation r asked) timely.1
 
-      begun_now : (x.seen.begun || is_begun k n) ≡ false
-      begun_now = ap (λ b. b || is_begun k n) e.unbegun ∙ timely.0
+      begun_now : (x.seen.begun || is_begun k.commit n) ≡ false
+      begun_now = ap (λ b. b || is_begun k.commit n) e.unbegun ∙ timely.0
 
-      picks_now : (t : ℕ) → picks_by w (x.seen.begun || is_begun k n) x.seen.last x.seen.picks r t ≡ None
-      picks_now t = ap (λ b. cond (b && is_reading w t r) (x.seen.last t) (x.seen.picks t)) begun_now ∙ e.unpicked t
+      picks_now : (t : ℕ) → picks_by w (is_picking k x.seen.begun n) x.seen.last x.seen.picks r t ≡ None
+      picks_now t = ap (λ b. cond ((b && not (is_begun k.clean n)) && is_reading w t r) (x.seen.last t) (x.seen.picks t)) begun_now ∙ e.unpicked t
 
       mark_now : (x.seen.put_mark || is_marking w r) ≡ false
       mark_now = ap (λ b. x.seen.put_mark || b) (setup_plain t.operation r asked) ∙ or_false x.seen.put_mark ∙ e.unmarked
@@ -198,7 +198,7 @@ module _ (g : Setting) (k : Option ℕ) (opening : Content) (j : IsLegal g.scrip
       -- what is seen and told then
       stand_of : Scene → Picks → Bool → Told → Retried Setup → Stand
       stand_of s picks mark m u = record {
-        seen = record { scene = s; begun = x.seen.begun || is_begun k n; last = x.seen.last; picks = picks; put_mark = mark };
+        seen = record { scene = s; begun = x.seen.begun || is_begun k.commit n; last = x.seen.last; picks = picks; put_mark = mark };
         told = m;
         attempts = x.attempts;
         driver = Some (TheSetup u);
@@ -290,15 +290,15 @@ module _ (g : Setting) (k : Option ℕ) (opening : Content) (j : IsLegal g.scrip
 
   -- ---- the driver
 
-  driver_late : (x : Stand) → Late g opening x → (op : Operation) → At g opening (Some op) x.seen x.told → (n : ℕ) (r : Request) → asks g (who Driver) nothing_learnt op ≡ Some r → IsTimely k x.told.cleans_at n op → x.seen.scene.content.next ≤ 2 ^ 64 → (o : Outcome) → IsHonestOutcome o (answer x.seen.scene r)
+  driver_late : (x : Stand) → x.told.cleans_at ≡ k.clean → Late g opening x → (op : Operation) → At g opening (Some op) x.seen x.told → (n : ℕ) (r : Request) → asks g (who Driver) nothing_learnt op ≡ Some r → IsTimely k n op → x.seen.scene.content.next ≤ 2 ^ 64 → (o : Outcome) → IsHonestOutcome o (answer x.seen.scene r)
       → Late g opening (with_commit (with_driver (saw g k x (driver_entry n r o)) (tells g (who Driver) op o)) (commit_with op x.commit (driver_entry n r o)))
-  driver_late x l (TheSetup t) y n r asked timely few o honest = absurd (none_some (ap (setup_asks w) y.0) asked)
-  driver_late x l (TheCommit c) y n r asked timely few o honest = record {
+  driver_late x at l (TheSetup t) y n r asked timely few o honest = absurd (none_some (ap (setup_asks w) y.0) asked)
+  driver_late x at l (TheCommit c) y n r asked timely few o honest = record {
     hold = driving_keeps w g.minimum k x.seen x.told n r o j (commit_drives w g.minimum k x.seen x.told n j l.hold c y.fits r asked) l.hold;
     gone = λ c. gone_by o (l.gone y.uncleaned);
     fine = l.fine;
     new = l.new;
-    driver = commit_next g j opening k x.seen x.told n timely.0 timely.1 few l.hold c y r asked o honest;
+    driver = commit_next g j opening k x.seen x.told n timely.0 timely.1 at few l.hold c y r asked o honest;
   }
     where
       gone_by : (o : Outcome) → Gone w x.seen.scene.content x.told → Gone w (see w k x.seen (driver_entry n r o)).scene.content (tell_driver x.told r o)
@@ -306,23 +306,23 @@ module _ (g : Setting) (k : Option ℕ) (opening : Content) (j : IsLegal g.scrip
       gone_by Slow gone = commit_gone j l.hold gone c y.fits y.tabled y.decides r asked Slow
       gone_by RequestLost gone = commit_gone j l.hold gone c y.fits y.tabled y.decides r asked RequestLost
       gone_by ReplyLost gone = commit_gone j l.hold gone c y.fits y.tabled y.decides r asked ReplyLost
-  driver_late x l (TheClean t) y n r asked timely few o honest = record {
+  driver_late x at l (TheClean t) y n r asked timely few o honest = record {
     hold = clean_keeps w g.minimum k x.seen x.told n j l.hold t.operation y r asked o;
-    gone = λ c. absurd (false_true c (clean_begun x.told n timely r o));
+    gone = λ c. absurd (false_true c (clean_begun x.told n (ap (λ c. is_begun c n) at ∙ timely) r o));
     fine = l.fine;
     new = l.new;
-    driver = clean_goes w g.minimum k x.seen x.told n j l.hold timely w.retries t.spare t.repeated t.operation y r asked o honest;
+    driver = clean_goes w g.minimum k x.seen x.told n j l.hold (ap (λ c. is_begun c n) at ∙ timely) w.retries t.spare t.repeated t.operation y r asked o honest;
   }
-  driver_late x l _ y n r asked timely few o honest = absurd y
+  driver_late x at l _ y n r asked timely few o honest = absurd y
 
-  driver_early : (x : Stand) → Early g opening x → (op : Operation) → x.driver ≡ Some op → (n : ℕ) (r : Request) → asks g (who Driver) nothing_learnt op ≡ Some r → IsTimely k x.told.cleans_at n op → (o : Outcome) → IsHonestOutcome o (answer x.seen.scene r)
+  driver_early : (x : Stand) → x.told.cleans_at ≡ k.clean → Early g opening x → (op : Operation) → x.driver ≡ Some op → (n : ℕ) (r : Request) → asks g (who Driver) nothing_learnt op ≡ Some r → IsTimely k n op → (o : Outcome) → IsHonestOutcome o (answer x.seen.scene r)
       → Early g opening (with_commit (with_driver (saw g k x (driver_entry n r o)) (tells g (who Driver) op o)) (commit_with op x.commit (driver_entry n r o)))
-  driver_early x e op d n r asked timely o honest = elim e.setup [
+  driver_early x at e op d n r asked timely o honest = elim e.setup [
     | inl none ↦ absurd (none_some none d)
     | inr y ↦
         let is : TheSetup y.0 ≡ op = some_is (sym y.1 ∙ d) in
-        let P : Operation → Type 0 = λ v. asks g (who Driver) nothing_learnt v ≡ Some r → IsTimely k x.told.cleans_at n v → Early g opening (with_commit (with_driver (saw g k x (driver_entry n r o)) (tells g (who Driver) v o)) (commit_with v x.commit (driver_entry n r o))) in
-        subst P is (λ a b. early_sends x e y.0 y.2 n r a b o honest) asked timely
+        let P : Operation → Type 0 = λ v. asks g (who Driver) nothing_learnt v ≡ Some r → IsTimely k n v → Early g opening (with_commit (with_driver (saw g k x (driver_entry n r o)) (tells g (who Driver) v o)) (commit_with v x.commit (driver_entry n r o))) in
+        subst P is (λ a b. early_sends x e y.0 y.2 n r a (b.0, ap (λ c. is_begun c n) at ∙ b.1) o honest) asked timely
   ]
 
   -- ---- a stranger
@@ -374,8 +374,8 @@ module _ (g : Setting) (k : Option ℕ) (opening : Content) (j : IsLegal g.scrip
 
   -- ---- every run
 
-  early_first : (c : Option ℕ) → Early g opening (first_stand opening c)
-  early_first c = record {
+  early_first : Early g opening (first_stand opening k.clean)
+  early_first = record {
     told = refl;
     last = λ t. refl;
     unmarked = refl;
@@ -421,10 +421,10 @@ module _ (g : Setting) (k : Option ℕ) (opening : Content) (j : IsLegal g.scrip
   moved : (x : Stand) (a : Who) (op : Operation) → NotMoved (with_attempt x a op)
   moved x a op just none = absurd (none_some (none a) (who_here x.attempts a (Some op) a refl))
 
-  driver_moved : (x : Stand) → Good x → (op : Operation) → x.driver ≡ Some op → (n : ℕ) (r : Request) → asks g (who Driver) nothing_learnt op ≡ Some r → IsTimely k x.told.cleans_at n op → (o : Outcome) → IsHonestOutcome o (answer x.seen.scene r)
+  driver_moved : (x : Stand) → x.told.cleans_at ≡ k.clean → Good x → (op : Operation) → x.driver ≡ Some op → (n : ℕ) (r : Request) → asks g (who Driver) nothing_learnt op ≡ Some r → IsTimely k n op → (o : Outcome) → IsHonestOutcome o (answer x.seen.scene r)
       → NotMoved (with_commit (with_driver (saw g k x (driver_entry n r o)) (tells g (who Driver) op o)) (commit_with op x.commit (driver_entry n r o)))
-  driver_moved x (inl e) op d n r asked timely o honest just none = driver_early x e op d n r asked timely o honest
-  driver_moved x (inr l) op d n r asked timely o honest just none = absurd (by op (subst (λ v. At g opening v x.seen x.told) d l.driver) asked just)
+  driver_moved x at (inl e) op d n r asked timely o honest just none = driver_early x at e op d n r asked timely o honest
+  driver_moved x at (inr l) op d n r asked timely o honest just none = absurd (by op (subst (λ v. At g opening v x.seen x.told) d l.driver) asked just)
     where
       by : (v : Operation) → At g opening (Some v) x.seen x.told → asks g (who Driver) nothing_learnt v ≡ Some r → is_just_set (Some (tells g (who Driver) v o)) ≡ true → ⊥
       by (TheSetup t) y asked just = none_some (ap (setup_asks w) y.0) asked
@@ -467,17 +467,25 @@ module _ (g : Setting) (k : Option ℕ) (opening : Content) (j : IsLegal g.scrip
   well_strays x (inl e) n r o f = inl (early_strays x e n r o f)
   well_strays x (inr l) n r o f = inr (late_strays x l n r o f)
 
-  driver_goes : (x : Stand) → Good x → (op : Operation) → x.driver ≡ Some op → (n : ℕ) (r : Request) → asks g (who Driver) nothing_learnt op ≡ Some r → IsTimely k x.told.cleans_at n op → x.seen.scene.content.next ≤ 2 ^ 64 → (o : Outcome) → IsHonestOutcome o (answer x.seen.scene r)
+  driver_goes : (x : Stand) → x.told.cleans_at ≡ k.clean → Good x → (op : Operation) → x.driver ≡ Some op → (n : ℕ) (r : Request) → asks g (who Driver) nothing_learnt op ≡ Some r → IsTimely k n op → x.seen.scene.content.next ≤ 2 ^ 64 → (o : Outcome) → IsHonestOutcome o (answer x.seen.scene r)
       → Good (with_commit (with_driver (saw g k x (driver_entry n r o)) (tells g (who Driver) op o)) (commit_with op x.commit (driver_entry n r o)))
-  driver_goes x (inr l) op d n r asked timely few o honest = inr (driver_late x l op (subst (λ v. At g opening v x.seen x.told) d l.driver) n r asked timely few o honest)
-  driver_goes x (inl e) op d n r asked timely few o honest = inl (driver_early x e op d n r asked timely o honest)
+  driver_goes x at (inr l) op d n r asked timely few o honest = inr (driver_late x at l op (subst (λ v. At g opening v x.seen x.told) d l.driver) n r asked timely few o honest)
+  driver_goes x at (inl e) op d n r asked timely few o honest = inl (driver_early x at e op d n r asked timely o honest)
+
+  pub cleans_is : (es : List Entry) (x : Stand) → Runs g k opening es x → x.told.cleans_at ≡ k.clean
+  cleans_is es x run_begins = refl
+  cleans_is es x (actor_begins fs y b run may) = cleans_is fs y run
+  cleans_is es x (driver_sends fs y op n r o run d asked timely few honest) = cleans_is fs y run
+  cleans_is es x (attempt_sends fs y a op n r o run set at asked honest) = cleans_is fs y run
+  cleans_is es x (strays fs y n r o run f) = cleans_is fs y run
 
   well : (es : List Entry) (x : Stand) → Runs g k opening es x → Well x
-  well es x (run_begins c) = (inl (early_first c), λ just none. early_first c)
+  well es x run_begins = (inl early_first, λ just none. early_first)
   well es x (actor_begins fs y b run may) = well_begins y (well fs y run) b may
   well es x (driver_sends fs y op n r o run d asked timely few honest) =
       let h = (well fs y run).0 in
-      (driver_goes y h op d n r asked timely few o honest, driver_moved y h op d n r asked timely o honest)
+      let at = cleans_is fs y run in
+      (driver_goes y at h op d n r asked timely few o honest, driver_moved y at h op d n r asked timely o honest)
   well es x (attempt_sends fs y a op n r o run set at asked honest) =
       let l = late y (well fs y run).0 set in
       (inr (attempt_goes y l a op at n r asked o honest), moved (saw g k y (entry a n r o)) a (tells g a op o))
@@ -501,14 +509,14 @@ module _ (g : Setting) (k : Option ℕ) (opening : Content) (j : IsLegal g.scrip
       success : pages.begins (magic_prefix w.dest.key w.job) (success_key w.dest.key) ≡ false
       success = key_magic w.dest.key w.job SuccessPlace (some_dest j) tt
 
-      begun : s.begun ≡ true → (s.begun || is_begun k n) ≡ true
-      begun e = ap (λ b. b || is_begun k n) e
+      begun : s.begun ≡ true → (s.begun || is_begun k.commit n) ≡ true
+      begun e = ap (λ b. b || is_begun k.commit n) e
 
-      picks : picks_by w (s.begun || is_begun k n) s.last s.picks r ≡ s.picks
+      picks : picks_by w (is_picking k s.begun n) s.last s.picks r ≡ s.picks
       picks = λ i t. at t i
         where
-          at : (t : ℕ) → picks_by w (s.begun || is_begun k n) s.last s.picks r t ≡ s.picks t
-          at t = ap (λ b. cond ((s.begun || is_begun k n) && b) (s.last t) (s.picks t)) (reads t) ∙ ap (λ b. cond b (s.last t) (s.picks t)) (and_false (s.begun || is_begun k n))
+          at : (t : ℕ) → picks_by w (is_picking k s.begun n) s.last s.picks r t ≡ s.picks t
+          at t = ap (λ b. cond ((is_picking k s.begun n) && b) (s.last t) (s.picks t)) (reads t) ∙ ap (λ b. cond b (s.last t) (s.picks t)) (and_false (is_picking k s.begun n))
 
       put : (s.put_mark || is_marking w r) ≡ s.put_mark
       put = ap (λ b. s.put_mark || b) mark ∙ or_false s.put_mark
@@ -573,24 +581,24 @@ module _ (g : Setting) (k : Option ℕ) (opening : Content) (j : IsLegal g.scrip
       by ReplyLost c = at (apply x.seen.scene r) (c ReplyLost)
       by _ c = v
 
-  driver_shown : (x : Stand) → Good x → (op : Operation) → x.driver ≡ Some op → (n : ℕ) (r : Request) → asks g (who Driver) nothing_learnt op ≡ Some r → IsTimely k x.told.cleans_at n op → x.seen.scene.content.next ≤ 2 ^ 64 → (o : Outcome) → IsHonestOutcome o (answer x.seen.scene r)
+  driver_shown : (x : Stand) → x.told.cleans_at ≡ k.clean → Good x → (op : Operation) → x.driver ≡ Some op → (n : ℕ) (r : Request) → asks g (who Driver) nothing_learnt op ≡ Some r → IsTimely k n op → x.seen.scene.content.next ≤ 2 ^ 64 → (o : Outcome) → IsHonestOutcome o (answer x.seen.scene r)
       → Shows g opening (Some op) x.seen x.told x.commit → Shown (with_commit (with_driver (saw g k x (driver_entry n r o)) (tells g (who Driver) op o)) (commit_with op x.commit (driver_entry n r o)))
-  driver_shown x h (TheSetup t) d n r asked timely few o honest v = setup_shown x t d h n r asked o v
-  driver_shown x h (TheCommit c) d n r asked timely few o honest v =
+  driver_shown x at h (TheSetup t) d n r asked timely few o honest v = setup_shown x t d h n r asked o v
+  driver_shown x at h (TheCommit c) d n r asked timely few o honest v =
       let l = late x h (ap is_set d) in
       let i = subst (λ v. At g opening v x.seen x.told) d l.driver in
-      commit_shown g j opening k x.seen x.told n timely.0 timely.1 few l.hold c i r asked (l.gone i.uncleaned) x.commit v o honest
-  driver_shown x h (TheClean t) d n r asked timely few o honest v =
+      commit_shown g j opening k x.seen x.told n timely.0 timely.1 at few l.hold c i r asked (l.gone i.uncleaned) x.commit v o honest
+  driver_shown x at h (TheClean t) d n r asked timely few o honest v =
       let l = late x h (ap is_set d) in
       let plain_one = clean_plain t.operation r asked in
       kept_clean x.seen l.hold.there n r o (clean_hides w g.minimum k x.seen x.told n j l.hold t.operation (subst (λ v. At g opening v x.seen x.told) d l.driver) r asked) plain_one.0 plain_one.1 v
-  driver_shown x h _ d n r asked timely few o honest v = absurd v
+  driver_shown x at h _ d n r asked timely few o honest v = absurd v
 
   pub shown : (es : List Entry) (x : Stand) → Runs g k opening es x → AreOwn es → Shown x
-  shown es x (run_begins c) own = λ q p. refl
+  shown es x run_begins own = λ q p. refl
   shown es x (actor_begins fs y b run may) own = shown_begins y (well fs y run) b may (shown fs y run own)
   shown es x (driver_sends fs y op n r o run d asked timely few honest) own =
-      driver_shown y (good fs y run) op d n r asked timely few o honest (subst (λ v. Shows g opening v y.seen y.told y.commit) d (shown fs y run (own_front fs _ own)))
+      driver_shown y (cleans_is fs y run) (good fs y run) op d n r asked timely few o honest (subst (λ v. Shows g opening v y.seen y.told y.commit) d (shown fs y run (own_front fs _ own)))
   shown es x (attempt_sends fs y a op n r o run set at asked honest) own =
       let l = late y (good fs y run) set in
       let f = l.fine a op at in

@@ -1,6 +1,6 @@
 -- What holds of a run's stand is kept by every step of the run.
 use Rattle.std.proofs.Common.{◌≡◌, ℕ, ◌<◌, ◌≤◌, inl, inr, ◌&&◌, Bool, true, false, List, [], ◌∷◌, Option, Some, None, refl, sym, ap, subst, ◌∙◌, arith}
-use Rattle.job_facts.specs.Prelude.{is_some, Content, begins, Request, Outcome, Answered, ReplyLost, Entry, below, magic_prefix, success_key, SuccessPlace, Who, IsLegal, Script, CommitEnd, Picks, learn, view, is_file_path, picks_of, is_no_magic, Commit, Replacing, Marking, CommitOver, commit_start, Setting, Operation, TheSetup, TheWrite, TheTaskCommit, TheTaskAbort, TheCommit, TheClean, asks, Same, Between, Kept, Seen, see, is_marked, HasBucket, Told, known, entry, tell_attempt, at_key, Hold, Fits, FitsWrite, FitsCommit, FitsAbort, FileStands, OnlyThose, EmptiesBy, Sweep, Listing, Deleting}
+use Rattle.job_facts.specs.Prelude.{is_some, Content, begins, Request, Outcome, Answered, ReplyLost, Entry, below, magic_prefix, success_key, SuccessPlace, Who, IsLegal, Script, CommitEnd, Picks, learn, view, is_file_path, picks_of, is_no_magic, Commit, Replacing, Marking, CommitOver, commit_start, Setting, Operation, TheSetup, TheWrite, TheTaskCommit, TheTaskAbort, TheCommit, TheClean, asks, Same, Between, Kept, Seen, see, is_marked, HasBucket, Told, known, entry, tell_attempt, at_key, Hold, Fits, FitsWrite, FitsCommit, FitsAbort, FileStands, OnlyThose, EmptiesBy, Sweep, Listing, Deleting, Times}
 use Rattle.job_spec.proofs.Common.{key_magic, tabled_start, false_true, true_or_false}
 use Rattle.job_spec.specs.Prelude.{Whole}
 use Rattle.job_model.specs.declared.ends.CommitEnd.TheVariants as commits
@@ -28,7 +28,7 @@ pub record Quiet (w : Script) (s u : Seen) : Type 0 where
   pub mark : u.put_mark ≡ s.put_mark
   pub begun : u.begun ≡ s.begun
 
-pub attempt_quiet : (w : Script) (k : Option ℕ) (s : Seen) (a : Who) (n : ℕ) (r : Request) → HasBucket s.scene.content w.dest.bucket → HidesAll w r → (o : Outcome) → Quiet w s (see w k s (entry a n r o))
+pub attempt_quiet : (w : Script) (k : Times) (s : Seen) (a : Who) (n : ℕ) (r : Request) → HasBucket s.scene.content w.dest.bucket → HidesAll w r → (o : Outcome) → Quiet w s (see w k s (entry a n r o))
 attempt_quiet w k s a n r there h (Answered y) = record { keys = hidden_same w s.scene there r h (Answered y); picks = refl; mark = refl; begun = refl }
 attempt_quiet w k s a n r there h ReplyLost = record { keys = hidden_same w s.scene there r h ReplyLost; picks = refl; mark = refl; begun = refl }
 attempt_quiet w k s a n r there h _ = record { keys = λ q e. refl; picks = refl; mark = refl; begun = refl }
@@ -117,7 +117,7 @@ kept_next g opening s u shows success picks mark begun kept = record {
 
 -- ---- an attempt's entry, in the eyes of the driver
 
-module _ (g : Setting) (j : IsLegal g.script) (opening : Content) (k : Option ℕ) (s : Seen) (m : Told) (h : Hold g.script g.minimum s m) (a : Who) (n : ℕ) (op : Operation) (fits : Fits g.script g.minimum a m op) (r : Request) (asked : asks g a (known m a) op ≡ Some r) (hides : HidesAll g.script r) (o : Outcome) (es : List Entry) where
+module _ (g : Setting) (j : IsLegal g.script) (opening : Content) (k : Times) (s : Seen) (m : Told) (h : Hold g.script g.minimum s m) (a : Who) (n : ℕ) (op : Operation) (fits : Fits g.script g.minimum a m op) (r : Request) (asked : asks g a (known m a) op ≡ Some r) (hides : HidesAll g.script r) (o : Outcome) (es : List Entry) where
   abbrev next : Seen
   next = see g.script k s (entry a n r o)
 

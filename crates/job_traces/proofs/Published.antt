@@ -1,7 +1,7 @@
 -- In a run, until the driver cleans up, an attempt's commit that is done has published its own set.
-use Rattle.std.proofs.Common.{◌≡◌, ℕ, ◌<◌, ◌⊎◌, inl, inr, Bool, true, false, List, [], ◌∷◌, ◌++◌, length, slice_get, Option, Some, refl, sym, ap, subst, ◌∙◌, arith}
+use Rattle.std.proofs.Common.{◌≡◌, ℕ, ◌<◌, ◌⊎◌, inl, inr, Bool, true, false, List, [], ◌∷◌, ◌++◌, length, slice_get, Some, refl, sym, ap, subst, ◌∙◌, arith}
 use Rattle.job_spec.proofs.Common.{false≢true, slice_get_within, some_is, none_some, false_true}
-use Rattle.job_facts.specs.Prelude.{Content, answer, is_effective, IsHonestOutcome, Driver, Request, Outcome, Entry, Retried, fresh, Who, IsLegal, Script, Setup, setup_asks, write_start, TaskCommitOver, task_commit_start, task_abort_start, Commit, Clean, Setting, Operation, TheSetup, TheWrite, TheTaskCommit, TheTaskAbort, TheCommit, TheClean, who, asks, tells, WasPublished, Seen, see, is_publishing, known, entry, driver_entry, strange_entry, Fits, Closed, Reverts, WriteStands, CommitStandsBy, IsForeign}
+use Rattle.job_facts.specs.Prelude.{Content, answer, is_effective, IsHonestOutcome, Driver, Request, Outcome, Entry, Retried, fresh, Who, IsLegal, Script, Setup, setup_asks, write_start, TaskCommitOver, task_commit_start, task_abort_start, Commit, Clean, Setting, Operation, TheSetup, TheWrite, TheTaskCommit, TheTaskAbort, TheCommit, TheClean, who, asks, tells, WasPublished, Seen, see, is_publishing, known, entry, driver_entry, strange_entry, Fits, Closed, Reverts, WriteStands, CommitStandsBy, IsForeign, Times, is_begun}
 use Rattle.job_model.specs.declared.ends.TaskEnd.TheVariants as tasks
 use Rattle.job_traces.specs.Runs.{Stand, Beginning, BeginSetup, BeginCommit, BeginClean, BeginWrite, BeginPublish, BeginAbort, begin, MayBegin, Runs, run_begins, actor_begins, driver_sends, attempt_sends, strays, IsOpening, IsTimely, nothing_learnt, with_attempt, with_driver, with_commit, commit_with, saw}
 use Rattle.job_facts.proofs.Whose.{same_or_another, who_here, who_other}
@@ -10,10 +10,10 @@ use Rattle.job_facts.proofs.JobCommitting.{commit_drives}
 use Rattle.job_facts.proofs.Remaining.{Stood, write_kept, commit_kept_by, other_stood, driver_stood, strange_stood, write_stands, commit_stands}
 use Rattle.job_facts.proofs.Remaining as remaining
 use Rattle.job_traces.proofs.Running.{At, Early, Late}
-use Rattle.job_traces.proofs.EveryRun.{good, late, setup_ends}
+use Rattle.job_traces.proofs.EveryRun.{good, cleans_is, late, setup_ends}
 use Rattle.job_traces.proofs.Changes.{earlier, slice_in, moment_scene}
 
-module _ (g : Setting) (k : Option ℕ) (opening : Content) (j : IsLegal g.script) (is_opening : IsOpening g opening) where
+module _ (g : Setting) (k : Times) (opening : Content) (j : IsLegal g.script) (is_opening : IsOpening g opening) where
   abbrev w : Script
   w = g.script
 
@@ -78,7 +78,7 @@ module _ (g : Setting) (k : Option ℕ) (opening : Content) (j : IsLegal g.scrip
   no_commit : {X : Type 0} {op : Operation} {c : Commit} → (op ≡ TheCommit c → X) → Some op ≡ Some (TheCommit c) → X
   no_commit h e = h (some_is e)
 
-  driver_stands : (es : List Entry) (x : Stand) → Runs g k opening es x → Standing es x → (op : Operation) → x.driver ≡ Some op → (n : ℕ) (r : Request) → asks g (who Driver) nothing_learnt op ≡ Some r → IsTimely k x.told.cleans_at n op → (o : Outcome)
+  driver_stands : (es : List Entry) (x : Stand) → Runs g k opening es x → Standing es x → (op : Operation) → x.driver ≡ Some op → (n : ℕ) (r : Request) → asks g (who Driver) nothing_learnt op ≡ Some r → IsTimely k n op → (o : Outcome)
       → Standing (es ++ driver_entry n r o ∷ []) (with_commit (with_driver (saw g k x (driver_entry n r o)) (tells g (who Driver) op o)) (commit_with op x.commit (driver_entry n r o)))
   driver_stands es x run h op d n r asked timely o = elim (good g k opening j is_opening es x run) [
     | inl e ↦ elim e.setup [
@@ -106,7 +106,10 @@ module _ (g : Setting) (k : Option ℕ) (opening : Content) (j : IsLegal g.scrip
       commit_is : {c d : Commit} → TheCommit c ≡ TheCommit d → c ≡ d
       commit_is e = cc
 
-      by : (op : Operation) → Late g opening x → At g opening (Some op) x.seen x.told → x.driver ≡ Some op → asks g (who Driver) nothing_learnt op ≡ Some r → IsTimely k x.told.cleans_at n op
+      at : is_begun k.clean n ≡ true → is_begun x.told.cleans_at n ≡ true
+      at e = ap (λ c. is_begun c n) (cleans_is g k opening j is_opening es x run) ∙ e
+
+      by : (op : Operation) → Late g opening x → At g opening (Some op) x.seen x.told → x.driver ≡ Some op → asks g (who Driver) nothing_learnt op ≡ Some r → IsTimely k n op
           → Standing (es ++ driver_entry n r o ∷ []) (with_commit (with_driver (saw g k x (driver_entry n r o)) (tells g (who Driver) op o)) (commit_with op x.commit (driver_entry n r o)))
       by (TheSetup t) l y d asked timely = absurd (none_some (ap (setup_asks w) y.0) asked)
       by (TheCommit c) l y d asked timely =
@@ -117,9 +120,9 @@ module _ (g : Setting) (k : Option ℕ) (opening : Content) (j : IsLegal g.scrip
             stands = λ v a mine z. stands_on (driver_stood w j k x.seen a n l.hold.there r (commit_drives w g.minimum k x.seen x.told n j l.hold c y.fits r asked) o) (own_more es (driver_entry n r o) a) mine (h.stands y.uncleaned a mine z);
           }
       by (TheClean t) l y d asked timely = record {
-        closed = clean_closes x.told n timely r o;
+        closed = clean_closes x.told n (at timely) r o;
         reverts = λ v z. absurd (clean_not (some_is z));
-        stands = λ v a mine z. absurd (false_true v (clean_begun x.told n timely r o));
+        stands = λ v a mine z. absurd (false_true v (clean_begun x.told n (at timely) r o));
       }
       by _ l y d asked timely = absurd y
 
@@ -172,7 +175,7 @@ module _ (g : Setting) (k : Option ℕ) (opening : Content) (j : IsLegal g.scrip
       by (inr l) c a op e = stands_on (strange_stood w j k x.seen a n l.hold.there r x.told.drawn f o) (own_more es (strange_entry n r o) a) op (h.stands c a op e)
 
   pub standing : (es : List Entry) (x : Stand) → Runs g k opening es x → Standing es x
-  standing es x (run_begins v) = record { closed = λ c id e. absurd (false≢true e); reverts = λ c e. absurd (none_some refl e); stands = λ c a op e. absurd (none_some refl e) }
+  standing es x run_begins = record { closed = λ c id e. absurd (false≢true e); reverts = λ c e. absurd (none_some refl e); stands = λ c a op e. absurd (none_some refl e) }
   standing es x (actor_begins fs y b run may) = stands_begin fs y (standing fs y run) b may
   standing es x (driver_sends fs y op n r o run d asked timely few honest) = driver_stands fs y run (standing fs y run) op d n r asked timely o
   standing es x (strays fs y n r o run f) = strays_stand fs y run (standing fs y run) n r o f

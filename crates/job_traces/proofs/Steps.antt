@@ -1,6 +1,6 @@
 -- Each step of a run keeps what holds of its stand.
-use Rattle.std.proofs.Common.{◌≡◌, ℕ, ◌+◌, nat_lt, ◌<◌, ◌≤◌, ◌^◌, inl, inr, ◌&&◌, ◌||◌, Bool, true, false, cond, List, [], ◌∷◌, ◌++◌, length, Option, Some, None, refl, sym, ap, subst, ◌∙◌, arith, append_assoc}
-use Rattle.job_facts.specs.Prelude.{Content, Scene, begins, answer, apply, effect, IsHonestOutcome, Object, Request, PutObject, Committer, Magic, Reply, Outcome, Answered, Slow, RequestLost, ReplyLost, Entry, below, magic_prefix, success_key, IsLegal, Script, Picks, wanted_at, mark_text, is_file_path, Turn, nth, again, follow, Sets, all_commits, picks_of, Commit, Fetching, Replacing, Completing, Marking, Reverting, CommitOver, set_request, set_read, commit_asks, commit_misses, commit_tells, completing, fetched, reverting, replaced, worn_completion, is_no_magic, swept, Table, Tabled, Setting, Seen, see, is_begun, is_reading, is_marking, picks_by, IsIn, changed_keys, HasBucket, Told, tell_driver, at_event, driver_entry, at_key, Hold, FitsJobCommit, Gone, Decides, FileStands, Wants, Commits, AllUnder, OnlyThose, EmptiesBy, Sweep, Listing, Deleting, sweep_asks, sweep_hears, keeps_of, dest_prefix, PendingSet}
+use Rattle.std.proofs.Common.{not, ◌≡◌, ℕ, ◌+◌, nat_lt, ◌<◌, ◌≤◌, ◌^◌, inl, inr, ◌&&◌, ◌||◌, Bool, true, false, cond, List, [], ◌∷◌, ◌++◌, length, Option, Some, None, refl, sym, ap, subst, ◌∙◌, arith, append_assoc}
+use Rattle.job_facts.specs.Prelude.{Content, Scene, begins, answer, apply, effect, IsHonestOutcome, Object, Request, PutObject, Committer, Magic, Reply, Outcome, Answered, Slow, RequestLost, ReplyLost, Entry, below, magic_prefix, success_key, IsLegal, Script, Picks, wanted_at, mark_text, is_file_path, Turn, nth, again, follow, Sets, all_commits, picks_of, Commit, Fetching, Replacing, Completing, Marking, Reverting, CommitOver, set_request, set_read, commit_asks, commit_misses, commit_tells, completing, fetched, reverting, replaced, worn_completion, is_no_magic, swept, Table, Tabled, Setting, Seen, see, is_begun, is_reading, is_marking, picks_by, IsIn, changed_keys, HasBucket, Told, tell_driver, at_event, driver_entry, at_key, Hold, FitsJobCommit, Gone, Decides, FileStands, Wants, Commits, AllUnder, OnlyThose, EmptiesBy, Sweep, Listing, Deleting, sweep_asks, sweep_hears, keeps_of, dest_prefix, PendingSet, Times, is_picking}
 use Rattle.job_spec.proofs.Common.{tabled_tells, some_is, none_some, false_true, in_append, in_back}
 use Rattle.job_model.specs.declared.ends.CommitEnd.TheVariants as commits
 use Rattle.job_model.specs.declared.ends.Stage.TheVariants as stages
@@ -25,16 +25,23 @@ use Rattle.job_traces.proofs.Replacing.{keeps_same, replaces_tells, cleared_so, 
 pub hidden_same : (w : Script) (s : Scene) → HasBucket s.content w.dest.bucket → (r : Request) → HidesAll w r → (o : Outcome) → (k : List ℕ) → begins (magic_prefix w.dest.key w.job) k ≡ false → at_key w (effect s r o).content k ≡ at_key w s.content k
 hidden_same w s there r h o k free = stranger_same w s there r o k (λ b i. false_true free (h b k i))
 
-module _ (g : Setting) (j : IsLegal g.script) (opening : Content) (k : Option ℕ) (s : Seen) (m : Told) (n : ℕ) (begins_it : is_begun k n ≡ true) (unclean : is_begun m.cleans_at n ≡ false) (few : s.scene.content.next ≤ 2 ^ 64) (h : Hold g.script g.minimum s m) (c : Commit)
+-- in its time a commit picks
+pub commit_picks : (k : Times) (begun : Bool) (n : ℕ) → is_begun k.commit n ≡ true → is_begun k.clean n ≡ false → is_picking k begun n ≡ true
+commit_picks k begun n e f = ap (λ b. b && not (is_begun k.clean n)) (ap (λ b. begun || b) e ∙ or_true begun) ∙ ap not f
+
+module _ (g : Setting) (j : IsLegal g.script) (opening : Content) (k : Times) (s : Seen) (m : Told) (n : ℕ) (begins_it : is_begun k.commit n ≡ true) (unclean : is_begun k.clean n ≡ false) (cleans : m.cleans_at ≡ k.clean) (few : s.scene.content.next ≤ 2 ^ 64) (h : Hold g.script g.minimum s m) (c : Commit)
     (i : InCommit g opening s.picks m c) (r : Request) (asked : commit_asks g.script c ≡ Some r) where
   abbrev w : Script
   w = g.script
 
-  abbrev begun_now : Bool
-  begun_now = s.begun || is_begun k n
+  abbrev picking : Bool
+  picking = is_picking k s.begun n
 
-  has_begun : begun_now ≡ true
+  has_begun : (s.begun || is_begun k.commit n) ≡ true
   has_begun = ap (λ b. s.begun || b) begins_it ∙ or_true s.begun
+
+  is_open : picking ≡ true
+  is_open = commit_picks k s.begun n begins_it unclean
 
   -- ---- what the request is
 
@@ -117,8 +124,8 @@ module _ (g : Setting) (j : IsLegal g.script) (opening : Content) (k : Option �
   picks_same : is_read_stage c ≡ false → (o : Outcome) → (u o).picks ≡ s.picks
   picks_same z (Answered y) = λ p t. at t p
     where
-      at : (t : ℕ) → picks_by w begun_now s.last s.picks r t ≡ s.picks t
-      at t = ap (λ b. cond (begun_now && b) (s.last t) (s.picks t)) (no_read_by c z i.agrees i.decides asked t) ∙ ap (λ b. cond b (s.last t) (s.picks t)) (and_false begun_now)
+      at : (t : ℕ) → picks_by w picking s.last s.picks r t ≡ s.picks t
+      at t = ap (λ b. cond (picking && b) (s.last t) (s.picks t)) (no_read_by c z i.agrees i.decides asked t) ∙ ap (λ b. cond b (s.last t) (s.picks t)) (and_false picking)
   picks_same z Slow = refl
   picks_same z _ = refl
 
@@ -144,7 +151,7 @@ module _ (g : Setting) (j : IsLegal g.script) (opening : Content) (k : Option �
       let is : r ≡ set_request w.committer w (length sets) = sym (some_is (ap (commit_asks w) v ∙ asked)) in
       let low : length sets < w.tasks = subst (Decides w g.minimum m.publish_sent m.drawn) (sym v) i.decides in
       let agree : AgreeBelow w s.picks sets (length sets) = subst (Agrees w s.picks) (sym v) i.agrees in
-      subst (λ z. Agrees w (picks_by w begun_now s.last s.picks z) (fetched w sets (set_read y))) (sym is) (agrees_read j h few s.picks sets low agree begun_now has_begun y (honest ∙ ap (answer s.scene) is))
+      subst (λ z. Agrees w (picks_by w picking s.last s.picks z) (fetched w sets (set_read y))) (sym is) (agrees_read j h few s.picks sets low agree picking is_open y (honest ∙ ap (answer s.scene) is))
   agrees_at (Fetching sets x) v Slow honest = subst (λ d. Agrees w s.picks (commit_tells w d Slow)) (sym v) (unanswered Slow (λ y. subst (λ d. IsRead w s.picks j h d Slow) (sym v) y) refl)
   agrees_at (Fetching sets x) v RequestLost honest = subst (λ d. Agrees w s.picks (commit_tells w d RequestLost)) (sym v) (unanswered RequestLost (λ y. subst (λ d. IsRead w s.picks j h d RequestLost) (sym v) y) refl)
   agrees_at (Fetching sets x) v ReplyLost honest = subst (λ d. Agrees w s.picks (commit_tells w d ReplyLost)) (sym v) (unanswered ReplyLost (λ y. subst (λ d. IsRead w s.picks j h d ReplyLost) (sym v) y) refl)
@@ -162,7 +169,7 @@ module _ (g : Setting) (j : IsLegal g.script) (opening : Content) (k : Option �
     tabled = tabled_tells w c o (some_lane j.one_lane) i.tabled;
     turns = commit_turns g j s m h c i.fits i.tabled i.turns r asked o;
     decides = decides_goes j h c i.fits i.tabled i.decides o;
-    uncleaned = ap (λ b. b || is_begun m.cleans_at n) i.uncleaned ∙ unclean;
+    uncleaned = ap (λ b. b || is_begun m.cleans_at n) i.uncleaned ∙ ap (λ c. is_begun c n) cleans ∙ unclean;
     agrees = agrees_at c refl o honest;
     replaces = replaces_tells g j opening c i.replaces o;
   }

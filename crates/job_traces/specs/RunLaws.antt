@@ -1,13 +1,13 @@
 -- The laws of whole runs: what a reader of the destination may rely on, at each of their moments.
-use Rattle.std.specs.Prelude.{◌≡◌, ℕ, ◌≤◌, Bool, true, false, List, length, Option, Some}
-use Rattle.job_facts.specs.Prelude.{Content, moment, Entry, IsLegal, CommitEnd, view, Who, TaskCommitOver, CommitOver, Setting, TheTaskCommit, TheCommit, ZeroRename, AreOwn, SameOutside, Same, Always, WasPublished, is_untouched, NoDeletionWorn, OnlyOpening, nothing_seen, see_all, nothing_told, tell_all, Hold}
+use Rattle.std.specs.Prelude.{◌≡◌, ℕ, ◌≤◌, Bool, true, false, List, length, Some}
+use Rattle.job_facts.specs.Prelude.{Content, moment, Entry, IsLegal, CommitEnd, view, Who, TaskCommitOver, CommitOver, Setting, TheTaskCommit, TheCommit, ZeroRename, AreOwn, SameOutside, Same, Always, WasPublished, is_untouched, NoDeletionWorn, OnlyOpening, nothing_seen, see_all, nothing_told, tell_all, Hold, Times}
 use Rattle.job_model.specs.declared.ends.CommitEnd.TheVariants as commits
 use Rattle.job_model.specs.declared.ends.Stage.TheVariants as stages
 use Rattle.job_model.specs.declared.ends.TaskEnd.TheVariants as tasks
 use Rattle.job_traces.specs.Runs.{Stand, Runs, IsOpening, is_set}
 
 -- a run of a job, of every committer and mode, whose operations send what they ask and hear what is answered, in any order of its actors, among strangers that leave its own alone; what a reader is shown is told where none of them sends
-pub record RunsKeep (g : Setting) (k : Option ℕ) (opening : Content) (es : List Entry) (x : Stand) : Type 0 where
+pub record RunsKeep (g : Setting) (k : Times) (opening : Content) (es : List Entry) (x : Stand) : Type 0 where
   -- what it says of its stand is what its entries say
   pub seen : x.seen ≡ see_all g.script k (nothing_seen opening) es
   pub told : x.told ≡ tell_all g.script (nothing_told x.told.cleans_at) es
@@ -28,4 +28,4 @@ pub record RunsKeep (g : Setting) (k : Option ℕ) (opening : Content) (es : Lis
 
 -- every run of a job keeps what is owed of runs
 abbrev pub AllRunsKeep : Type 0
-AllRunsKeep = (g : Setting) → IsLegal g.script → (k : Option ℕ) (opening : Content) → IsOpening g opening → (es : List Entry) (x : Stand) → Runs g k opening es x → RunsKeep g k opening es x
+AllRunsKeep = (g : Setting) → IsLegal g.script → (k : Times) (opening : Content) → IsOpening g opening → (es : List Entry) (x : Stand) → Runs g k opening es x → RunsKeep g k opening es x

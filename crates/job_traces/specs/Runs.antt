@@ -1,6 +1,6 @@
 -- Runs of a job among strangers that leave its own alone, request by request, in any order of its actors. An operation may also stop at any time.
 use Rattle.std.specs.Prelude.{◌≡◌, ℕ, ◌≤◌, ◌<◌, ◌^◌, ◌⊎◌, Bool, true, false, List, [], ◌∷◌, ◌++◌, Option, Some, None}
-use Rattle.job_facts.specs.Prelude.{Content, Upload, answer, IsHonestOutcome, Driver, Request, Outcome, Entry, fresh, Who, Known, Setup, SetupOver, setup_start, WriteOver, write_start, task_commit_start, task_abort_start, commit_start, clean_start, Setting, Operation, TheSetup, TheWrite, TheTaskCommit, TheTaskAbort, TheCommit, TheClean, who, asks, tells, Seen, see, is_begun, nothing_seen, Told, known, put_who, nothing_told, tell, entry, driver_entry, strange_entry, at_id, IsAttempt, IsForeign}
+use Rattle.job_facts.specs.Prelude.{Content, Upload, answer, IsHonestOutcome, Driver, Request, Outcome, Entry, fresh, Who, Known, Setup, SetupOver, setup_start, WriteOver, write_start, task_commit_start, task_abort_start, commit_start, clean_start, Setting, Operation, TheSetup, TheWrite, TheTaskCommit, TheTaskAbort, TheCommit, TheClean, who, asks, tells, Seen, Times, see, is_begun, nothing_seen, Told, known, put_who, nothing_told, tell, entry, driver_entry, strange_entry, at_id, IsAttempt, IsForeign}
 use Rattle.job_model.specs.declared.ends.SetupEnd.TheVariants as setups
 use Rattle.job_model.specs.declared.ends.TaskEnd.TheVariants as tasks
 
@@ -25,7 +25,7 @@ abbrev pub with_driver : Stand → Operation → Stand
 with_driver x op = record { seen = x.seen; told = x.told; attempts = x.attempts; driver = Some op; commit = x.commit }
 
 -- one more entry
-abbrev pub saw : Setting → Option ℕ → Stand → Entry → Stand
+abbrev pub saw : Setting → Times → Stand → Entry → Stand
 saw g k x e = record { seen = see g.script k x.seen e; told = tell g.script x.told e; attempts = x.attempts; driver = x.driver; commit = x.commit }
 
 -- what its commit has sent, with this entry where it is of the commit
@@ -60,11 +60,11 @@ abbrev pub MaySetUp : Stand → Type 0
 MaySetUp x = (is_set x.driver ≡ false) ⊎ ((is_just_set x.driver ≡ true) × ((a : Who) → x.attempts a ≡ None))
 
 -- the entries of a set-up are of events before that of the commit and that of the first abort or clean, those of the commit of it or of later ones before that, and those of an abort or clean of that or later ones
-abbrev pub IsTimely : Option ℕ → Option ℕ → ℕ → Operation → Type 0
-IsTimely k c n (TheSetup t) = (is_begun k n ≡ false) × (is_begun c n ≡ false)
-IsTimely k c n (TheCommit v) = (is_begun k n ≡ true) × (is_begun c n ≡ false)
-IsTimely k c n (TheClean t) = is_begun c n ≡ true
-IsTimely k c n _ = Unit {0}
+abbrev pub IsTimely : Times → ℕ → Operation → Type 0
+IsTimely k n (TheSetup t) = (is_begun k.commit n ≡ false) × (is_begun k.clean n ≡ false)
+IsTimely k n (TheCommit v) = (is_begun k.commit n ≡ true) × (is_begun k.clean n ≡ false)
+IsTimely k n (TheClean t) = is_begun k.clean n ≡ true
+IsTimely k n _ = Unit {0}
 
 -- what an attempt knows before it has sent anything
 abbrev pub nothing_learnt : Known
@@ -120,13 +120,13 @@ MayBegin g x (BeginWrite a) = (is_set x.driver ≡ true) × IsAttempt g.script a
 MayBegin g x (BeginPublish a) = (is_set x.driver ≡ true) × WriteIsDone (x.attempts a)
 MayBegin g x (BeginAbort a) = (is_set x.driver ≡ true) × IsAttempt g.script a
 
--- A run over this content, whose commit is event k if it is any: its entries so far, and where it stands. An actor that stops sends
+-- A run over this content, with these times: its entries so far, and where it stands. An actor that stops sends
 -- no more; what it was at is then as far as it had come.
-pub data Runs (g : Setting) (k : Option ℕ) (opening : Content) : List Entry → Stand → Type 0 where
-  run_begins : (c : Option ℕ) → Runs g k opening [] (first_stand opening c)
+pub data Runs (g : Setting) (k : Times) (opening : Content) : List Entry → Stand → Type 0 where
+  run_begins : Runs g k opening [] (first_stand opening k.clean)
   actor_begins : (es : List Entry) (x : Stand) (b : Beginning) → Runs g k opening es x → MayBegin g x b → Runs g k opening es (begin g x b)
   driver_sends : (es : List Entry) (x : Stand) (op : Operation) (n : ℕ) (r : Request) (o : Outcome) → Runs g k opening es x → x.driver ≡ Some op → asks g (who Driver) nothing_learnt op ≡ Some r
-      → IsTimely k x.told.cleans_at n op → x.seen.scene.content.next ≤ 2 ^ 64 → IsHonestOutcome o (answer x.seen.scene r)
+      → IsTimely k n op → x.seen.scene.content.next ≤ 2 ^ 64 → IsHonestOutcome o (answer x.seen.scene r)
       → Runs g k opening (es ++ driver_entry n r o ∷ []) (with_commit (with_driver (saw g k x (driver_entry n r o)) (tells g (who Driver) op o)) (commit_with op x.commit (driver_entry n r o)))
   attempt_sends : (es : List Entry) (x : Stand) (a : Who) (op : Operation) (n : ℕ) (r : Request) (o : Outcome) → Runs g k opening es x → is_set x.driver ≡ true → x.attempts a ≡ Some op → asks g a (known x.told a) op ≡ Some r
       → IsHonestOutcome o (answer x.seen.scene r) → Runs g k opening (es ++ entry a n r o ∷ []) (with_attempt (saw g k x (entry a n r o)) a (tells g a op o))

@@ -1,8 +1,9 @@
 -- How the commit of the first of two jobs ends, in every run of both.
 use Rattle.std.proofs.Common.{◌≡◌, ℕ, ◌≤◌, ◌^◌, ◌⊎◌, inl, inr, not, ◌&&◌, Bool, true, false, cond, List, [], ◌∷◌, ◌++◌, Option, Some, None, refl, sym, ap, subst, ◌∙◌, append_assoc}
-use Rattle.job_facts.specs.Prelude.{Content, answer, IsHonestOutcome, Driver, Mode, Fail, Append, Replace, Request, Outcome, Entry, run, Retried, wants_of, Who, Script, IsLegal, CommitEnd, Picks, Commit, CommitOver, commit_start, commit_asks, commit_tells, Sound, Setting, TheSetup, TheCommit, who, is_mark_answered, see, is_begun, nothing_seen, nothing_told, entry, driver_entry}
+use Rattle.job_facts.specs.Prelude.{Content, answer, IsHonestOutcome, Driver, Mode, Fail, Append, Replace, Request, Outcome, Entry, run, Retried, wants_of, Who, Script, IsLegal, CommitEnd, Picks, Commit, CommitOver, commit_start, commit_asks, commit_tells, Sound, Setting, TheSetup, TheCommit, who, is_mark_answered, see, is_begun, nothing_seen, nothing_told, entry, driver_entry, Times}
 use Rattle.job_spec.proofs.Common.{run_more, follows_more, false_true}
 use Rattle.job_traces.specs.Runs.{Stand, Beginning, BeginSetup, BeginCommit, BeginClean, nothing_learnt}
+use Rattle.job_traces.proofs.Steps.{commit_picks}
 use Rattle.job_outcomes.specs.CommitRuns.{CommitStands, WhereCommitted}
 use Rattle.job_outcomes.proofs.CommitRuns.{attempts_leave, ended_so}
 use Rattle.job_outcomes.proofs.CommitSteps.{at_start, where_start, answered_next, sound_now, sound_more}
@@ -22,12 +23,12 @@ use Rattle.twin_ends.proofs.Checking.{checks_end, checked_clear}
 
 -- ---- its entries
 
-snoc_entries : (k c : Option ℕ) (es : List TwinEntry) (t : TwinEntry) → commit_entries k c (es ++ t ∷ []) ≡ commit_entries k c es ++ cond (is_commits k c t) (t.entry ∷ []) []
-snoc_entries k c [] t = refl
-snoc_entries k c (e ∷ es) t = by (is_commits k c e) (snoc_entries k c es t)
+snoc_entries : (k : Times) (es : List TwinEntry) (t : TwinEntry) → commit_entries k (es ++ t ∷ []) ≡ commit_entries k es ++ cond (is_commits k t) (t.entry ∷ []) []
+snoc_entries k [] t = refl
+snoc_entries k (e ∷ es) t = by (is_commits k e) (snoc_entries k es t)
   where
-    by : (b : Bool) → commit_entries k c (es ++ t ∷ []) ≡ commit_entries k c es ++ cond (is_commits k c t) (t.entry ∷ []) []
-        → cond b (e.entry ∷ commit_entries k c (es ++ t ∷ [])) (commit_entries k c (es ++ t ∷ [])) ≡ cond b (e.entry ∷ commit_entries k c es) (commit_entries k c es) ++ cond (is_commits k c t) (t.entry ∷ []) []
+    by : (b : Bool) → commit_entries k (es ++ t ∷ []) ≡ commit_entries k es ++ cond (is_commits k t) (t.entry ∷ []) []
+        → cond b (e.entry ∷ commit_entries k (es ++ t ∷ [])) (commit_entries k (es ++ t ∷ [])) ≡ cond b (e.entry ∷ commit_entries k es) (commit_entries k es) ++ cond (is_commits k t) (t.entry ∷ []) []
     by true h = ap (λ l. e.entry ∷ l) h
     by false h = h
 
@@ -36,11 +37,11 @@ no_more [] = refl
 no_more (e ∷ l) = ap (λ m. e ∷ m) (no_more l)
 
 -- one more of it, and one of another
-own_more : (k c : Option ℕ) (es : List TwinEntry) (t : TwinEntry) → is_commits k c t ≡ true → commit_entries k c (es ++ t ∷ []) ≡ commit_entries k c es ++ t.entry ∷ []
-own_more k c es t own = snoc_entries k c es t ∙ ap (λ b. commit_entries k c es ++ cond b (t.entry ∷ []) []) own
+own_more : (k : Times) (es : List TwinEntry) (t : TwinEntry) → is_commits k t ≡ true → commit_entries k (es ++ t ∷ []) ≡ commit_entries k es ++ t.entry ∷ []
+own_more k es t own = snoc_entries k es t ∙ ap (λ b. commit_entries k es ++ cond b (t.entry ∷ []) []) own
 
-other_more : (k c : Option ℕ) (es : List TwinEntry) (t : TwinEntry) → is_commits k c t ≡ false → commit_entries k c (es ++ t ∷ []) ≡ commit_entries k c es
-other_more k c es t other = snoc_entries k c es t ∙ ap (λ b. commit_entries k c es ++ cond b (t.entry ∷ []) []) other ∙ no_more (commit_entries k c es)
+other_more : (k : Times) (es : List TwinEntry) (t : TwinEntry) → is_commits k t ≡ false → commit_entries k (es ++ t ∷ []) ≡ commit_entries k es
+other_more k es t other = snoc_entries k es t ∙ ap (λ b. commit_entries k es ++ cond b (t.entry ∷ []) []) other ∙ no_more (commit_entries k es)
 
 -- ---- where a commit stands
 
@@ -73,9 +74,9 @@ module _ (g : Setting) where
   Stands (Some (TheSparing t)) own picks es = Unit {0}
   Stands _ own picks es = ⊥
 
-  module _ (j : IsLegal w) (k : Option ℕ) where
+  module _ (j : IsLegal w) (k : Times) where
     abbrev own : List TwinEntry → SideState → List Entry
-    own es x = commit_entries k x.told.cleans_at es
+    own es x = commit_entries k es
 
     abbrev Now : List TwinEntry → SideState → Type 0
     Now es x = Stands x.driver (own es x) x.seen.picks x.commit
@@ -129,12 +130,12 @@ module _ (g : Setting) where
 
     -- ---- its own
 
-    commit_on : (x : SideState) → Late g x → (l : List Entry) (c : Commit) → At g (Some (Alone (TheCommit c))) x.seen x.told → Behind g l x.seen.picks x.commit c → (n : ℕ) (r : Request) (o : Outcome) → commit_asks w c ≡ Some r → is_begun k n ≡ true → x.seen.scene.content.next ≤ 2 ^ 64 → IsHonestOutcome o (answer x.seen.scene r)
+    commit_on : (x : SideState) → Late g x → (l : List Entry) (c : Commit) → At g (Some (Alone (TheCommit c))) x.seen x.told → Behind g l x.seen.picks x.commit c → (n : ℕ) (r : Request) (o : Outcome) → commit_asks w c ≡ Some r → (is_begun k.commit n ≡ true) × (is_begun k.clean n ≡ false) → x.seen.scene.content.next ≤ 2 ^ 64 → IsHonestOutcome o (answer x.seen.scene r)
         → let e = driver_entry n r o in Behind g (l ++ e ∷ []) (see w k x.seen e).picks (x.commit ++ e ∷ []) (commit_tells w c o)
     commit_on x late_x l c y h n r o asked timely few honest =
         let i = y.alone in
         let old = h.stands in
-        let a = after_entry g j k x.seen x.told late_x.hold i.uncleaned few n timely old.missing old.sets c i.decides old.at old.picks r asked o honest in
+        let a = after_entry g j k x.seen x.told late_x.hold i.uncleaned few n (commit_picks k x.seen.begun n timely.0 timely.1) old.missing old.sets c i.decides old.at old.picks r asked o honest in
         let first = commit_start w old.missing in
         record {
           stands = record {
@@ -170,17 +171,17 @@ module _ (g : Setting) where
     before_commit : (a b : Bool) → a ≡ false → (a && not b) ≡ false
     before_commit a b e = rw e refl
 
-    driver_on : (es : List TwinEntry) (x : SideState) → Late g x → (op : SharedOperation) → x.driver ≡ Some op → At g (Some op) x.seen x.told → Stands (Some op) (own es x) x.seen.picks x.commit → (n : ℕ) (r : Request) (o : Outcome) → shared_asks g (who Driver) nothing_learnt op ≡ Some r → IsInTime k x.told.cleans_at n op
+    driver_on : (es : List TwinEntry) (x : SideState) → Late g x → (op : SharedOperation) → x.driver ≡ Some op → At g (Some op) x.seen x.told → Stands (Some op) (own es x) x.seen.picks x.commit → (n : ℕ) (r : Request) (o : Outcome) → shared_asks g (who Driver) nothing_learnt op ≡ Some r → IsInTime k n op
         → x.seen.scene.content.next ≤ 2 ^ 64 → IsHonestOutcome o (answer x.seen.scene r) → Now (es ++ twin (driver_entry n r o) ∷ []) (driver_saw g k x op n r o)
-    driver_on es x l (Alone (TheSetup u)) d y h n r o asked timely few honest = other_more k x.told.cleans_at es (twin (driver_entry n r o)) (before_commit (is_begun k n) (is_begun x.told.cleans_at n) timely.0) ∙ h
+    driver_on es x l (Alone (TheSetup u)) d y h n r o asked timely few honest = other_more k es (twin (driver_entry n r o)) (before_commit (is_begun k.commit n) (is_begun k.clean n) timely.0) ∙ h
     driver_on es x l (Alone (TheCommit c)) d y h n r o asked timely few honest =
-        subst (λ m. Behind g m (see w k x.seen (driver_entry n r o)).picks (x.commit ++ driver_entry n r o ∷ []) (commit_tells w c o)) (sym (own_more k x.told.cleans_at es (twin (driver_entry n r o)) (in_commit (is_begun k n) (is_begun x.told.cleans_at n) timely.0 timely.1)))
-        (commit_on x l (own es x) c y h n r o asked timely.0 few honest)
+        subst (λ m. Behind g m (see w k x.seen (driver_entry n r o)).picks (x.commit ++ driver_entry n r o ∷ []) (commit_tells w c o)) (sym (own_more k es (twin (driver_entry n r o)) (in_commit (is_begun k.commit n) (is_begun k.clean n) timely.0 timely.1)))
+        (commit_on x l (own es x) c y h n r o asked timely few honest)
     driver_on es x l (Alone _) d y h n r o asked timely few honest = absurd h
     driver_on es x l (TheCheck t) d y h n r o asked timely few honest =
         let z = driver_saw g k x (TheCheck t) n r o in
         let same = plain_picks w k x.seen n r (check_plain w t.operation r asked) o in
-        subst (λ m. Stands z.driver m z.seen.picks x.commit) (sym (own_more k x.told.cleans_at es (twin (driver_entry n r o)) (in_commit (is_begun k n) (is_begun x.told.cleans_at n) timely.0 timely.1)))
+        subst (λ m. Stands z.driver m z.seen.picks x.commit) (sym (own_more k es (twin (driver_entry n r o)) (in_commit (is_begun k.commit n) (is_begun k.clean n) timely.0 timely.1)))
         (check_on x (own es x) t y h n r o asked z.seen.picks (λ u. ap (λ (p : Picks). p u) same ∙ y.unpicked u))
     driver_on es x l (TheSparing t) d y h n r o asked timely few honest = tt
 
@@ -192,32 +193,32 @@ module _ (g : Setting) where
         by (inl e) =
             let y = early_setup g j k x e op d in
             let old : own es x ≡ [] = subst (λ q. Stands q (own es x) x.seen.picks x.commit) (d ∙ ap (λ q. Some q) (sym y.1)) h in
-            let P : SharedOperation → Type 0 = λ q. IsInTime k x.told.cleans_at n q → Now (es ++ twin (driver_entry n r o) ∷ []) (driver_saw g k x q n r o) in
-            subst P y.1 (λ when. other_more k x.told.cleans_at es (twin (driver_entry n r o)) (before_commit (is_begun k n) (is_begun x.told.cleans_at n) when.0) ∙ old) timely
+            let P : SharedOperation → Type 0 = λ q. IsInTime k n q → Now (es ++ twin (driver_entry n r o) ∷ []) (driver_saw g k x q n r o) in
+            subst P y.1 (λ when. other_more k es (twin (driver_entry n r o)) (before_commit (is_begun k.commit n) (is_begun k.clean n) when.0) ∙ old) timely
     sends_on es x _ _ (attempt_sends _ a op n r o set at asked honest) well h =
         let z = attempt_saw g k x a op n r o in
-        subst (λ m. Stands x.driver m z.seen.picks x.commit) (sym (other_more k x.told.cleans_at es (twin (entry a n r o)) refl)) (picks_on x.driver (own es x) x.seen.picks z.seen.picks x.commit (attempts_leave w k x.seen a n r o) h)
+        subst (λ m. Stands x.driver m z.seen.picks x.commit) (sym (other_more k es (twin (entry a n r o)) refl)) (picks_on x.driver (own es x) x.seen.picks z.seen.picks x.commit (attempts_leave w k x.seen a n r o) h)
 
     others_on : (es : List TwinEntry) (x : SideState) (e : Entry) → Now es x → Now (es ++ record { side = Second; entry = e } ∷ []) (observed g k x e)
-    others_on es x e h = subst (λ m. Stands x.driver m x.seen.picks x.commit) (sym (other_more k x.told.cleans_at es (record { side = Second; entry = e }) refl)) h
+    others_on es x e h = subst (λ m. Stands x.driver m x.seen.picks x.commit) (sym (other_more k es (record { side = Second; entry = e }) refl)) h
 
 -- ---- every run
 
-module _ (g h : Setting) (m : MayBeTwins g.script h.script) (k l : Option ℕ) (opening : Content) (is : IsTwinOpening g h opening) where
+module _ (g h : Setting) (m : MayBeTwins g.script h.script) (k l : Times) (opening : Content) (is : IsTwinOpening g h opening) where
   stands_so : (es : List TwinEntry) (x y : SideState) → TwinRun g h k l opening es x y → Now g m.first k es x
-  stands_so es x y (twins_begin c d) = refl
+  stands_so es x y (twins_begin) = refl
   stands_so es x y (first_begins fs u v reported b run may) = begins_on g m.first k fs u (all_so g h m k l opening is fs u v run).pair.first reported b may (stands_so fs u v run)
   stands_so es x y (second_begins fs u v reported b run may) = stands_so fs u v run
   stands_so es x y (first_sends fs u v z e run sends) = sends_on g m.first k fs u z e sends (all_so g h m k l opening is fs u v run).pair.first (stands_so fs u v run)
   stands_so es x y (second_sends fs u v z e run sends) = others_on g m.first k fs u e (stands_so fs u v run)
 
-  pub by_check : (es : List TwinEntry) (x y : SideState) → TwinRun g h k l opening es x y → (t : Retried Check) (end : CheckEnd) → x.driver ≡ Some (TheCheck t) → t.operation ≡ CheckOver end → ByCheck g.script k x.told.cleans_at es end
+  pub by_check : (es : List TwinEntry) (x y : SideState) → TwinRun g h k l opening es x y → (t : Retried Check) (end : CheckEnd) → x.driver ≡ Some (TheCheck t) → t.operation ≡ CheckOver end → ByCheck g.script k es end
   by_check es x y run t end d over =
-      let s = subst (λ q. Stands g q (commit_entries k x.told.cleans_at es) x.seen.picks x.commit) d (stands_so es x y run) in
-      let o = checks_end g.script s.reported (commit_entries k x.told.cleans_at es) t s.checked end over in
+      let s = subst (λ q. Stands g q (commit_entries k es) x.seen.picks x.commit) d (stands_so es x y run) in
+      let o = checks_end g.script s.reported (commit_entries k es) t s.checked end over in
       record { fails = s.fails; worn = o.0; first = o.1; is = o.2 }
 
   pub behind_check : (es : List TwinEntry) (x y : SideState) → TwinRun g h k l opening es x y → (end : CommitEnd) → x.driver ≡ Some (Alone (TheCommit (CommitOver end))) → BehindCheck g.script k es x end
   behind_check es x y run end d =
-      let s = subst (λ q. Stands g q (commit_entries k x.told.cleans_at es) x.seen.picks x.commit) d (stands_so es x y run) in
+      let s = subst (λ q. Stands g q (commit_entries k es) x.seen.picks x.commit) d (stands_so es x y run) in
       record { missing = s.stands.missing; reported = s.reported; checks = s.checks; entries = s.entries; cleared = s.cleared; due = ended_so g m.first (stand_of x.seen.picks x.commit) end s.stands; answered = λ e. subst (λ v. WhereCommitted (is_mark_answered g.script x.commit ≡ true) (CommitOver v)) e s.stands.answered }

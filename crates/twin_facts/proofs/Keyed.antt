@@ -1,6 +1,6 @@
 -- An upload that an attempt knows has its key as long as it lives.
-use Rattle.std.proofs.Common.{◌≡◌, ℕ, ◌<◌, inl, inr, List, [], ◌∷◌, Option, Some, refl, sym, ap, subst, ◌∙◌, arith}
-use Rattle.job_facts.specs.Prelude.{Content, Scene, Upload, answer, apply, effect, IsHonestOutcome, Request, CreateUpload, UploadRef, Outcome, Entry, Who, File, Script, Drawn, Known, IsLegal, Uploading, Creating, Sending, upload_asks, Listing, Deleting, Write, WriteOver, write_asks, TaskCommit, TaskCommitOver, task_commit_asks, TaskAbort, Dropping, TaskAbortOver, task_abort_asks, Walking, Setting, Operation, TheWrite, TheTaskCommit, TheTaskAbort, asks, IsIn, HasBucket, Told, known, tell_attempt, at_id, Fits}
+use Rattle.std.proofs.Common.{◌≡◌, ℕ, ◌<◌, inl, inr, List, [], ◌∷◌, Some, refl, sym, ap, subst, ◌∙◌, arith}
+use Rattle.job_facts.specs.Prelude.{Content, Scene, Upload, answer, apply, effect, IsHonestOutcome, Request, CreateUpload, UploadRef, Outcome, Entry, Who, File, Script, Drawn, Known, IsLegal, Uploading, Creating, Sending, upload_asks, Listing, Deleting, Write, WriteOver, write_asks, TaskCommit, TaskCommitOver, task_commit_asks, TaskAbort, TaskAbortOver, task_abort_asks, Walking, Setting, Operation, TheWrite, TheTaskCommit, TheTaskAbort, asks, IsIn, HasBucket, Told, known, tell_attempt, at_id, Fits, Times}
 use Rattle.job_spec.proofs.Common.{some_is}
 use Rattle.s3_types.specs.declared.reply.Reply.TheVariants.{Upload as DrawnUpload}
 use Rattle.job_protocol.specs.Writes as writes
@@ -61,7 +61,7 @@ module _ (w : Script) where
 
 -- ---- it is kept
 
-module _ (g : Setting) (j : IsLegal g.script) (k : Option ℕ) where
+module _ (g : Setting) (j : IsLegal g.script) (k : Times) where
   abbrev w : Script
   w = g.script
 

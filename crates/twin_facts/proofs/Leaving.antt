@@ -1,6 +1,6 @@
 -- How far an abort or clean at a shared destination has come with what is to go, while no attempt of its side sends.
 use Rattle.std.proofs.Common.{◌≡◌, ℕ, ◌<◌, ◌⊎◌, inl, inr, Bool, true, cond, List, [], ◌∷◌, ◌++◌, take, drop, Option, Some, None, refl, sym, ap, subst, ◌∙◌}
-use Rattle.job_facts.specs.Prelude.{filter, text_cmp, Scene, Upload, begins, answer, apply, read_answer, effect, IsHonestOutcome, only_reads, Request, GetObject, AbortUpload, DeleteObjects, ClusterList, ClusterDelete, UploadRef, Committer, Magic, Directory, Partitioned, Reply, Outcome, Answered, Slow, RequestLost, ReplyLost, step, magic_prefix, cluster_prefix, is_record, Who, Script, Drawn, Sweep, Listing, Deleting, Walked, More, Whole, page_after, sweep_hears, sweep_asks, all_go, is_magic, is_staging, IsIn, HasBucket, at_key, at_id, end_left}
+use Rattle.job_facts.specs.Prelude.{filter, text_cmp, Scene, Upload, begins, answer, apply, read_answer, effect, IsHonestOutcome, only_reads, Request, GetObject, AbortUpload, DeleteObjects, ClusterList, ClusterDelete, UploadRef, Committer, Magic, Directory, Partitioned, Reply, Outcome, Answered, Slow, RequestLost, ReplyLost, step, magic_prefix, cluster_prefix, is_record, Who, Script, Drawn, Sweep, Listing, Deleting, Walked, More, Whole, page_after, all_go, is_magic, is_staging, IsIn, HasBucket, at_key, at_id, end_left}
 use Rattle.job_spec.proofs.Common.{some_is, none_some, false_true, same_or_other, text_true, text_gone, text_left, in_front, in_back, map_in, filter_in, in_filter}
 use Rattle.path_keys.proofs.Common.{text_exact}
 use Rattle.std.specs.FinMap as fin

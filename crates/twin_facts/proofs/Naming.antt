@@ -1,7 +1,7 @@
 -- The requests of a job name only what is its own, or nobody's.
 use Rattle.std.proofs.Common.{◌≡◌, ℕ, ◌+◌, ◌<◌, inl, inr, not, nat_eq, true, false, List, [], ◌∷◌, ◌++◌, take, length, Option, Some, None, refl, sym, ap, subst, ◌∙◌, append_assoc, codes}
 use Rattle.job_spec.proofs.Common.{false≢true, not-true, begins_behind, below_is, some_is, none_some, false_true, nat_true, nat_false}
-use Rattle.job_facts.specs.Prelude.{Scene, begins, Actor, Request, CreateUpload, UploadPart, AbortUpload, Committer, Magic, Directory, Partitioned, below, cluster_prefix, success_key, MarkerPlace, RecordPlace, TemporaryPlace, StagedSetPlace, is_open, Pending, Who, File, Script, Drawn, IsLegal, files, file_key, Uploading, Creating, Sending, upload_asks, Listing, Deleting, Write, Recording, WriteOver, write_asks, TaskCommit, Looking, Reading, Publishing, Checking, Storing, Renaming, TaskCommitOver, task_commit_asks, TaskAbort, Dropping, TaskAbortOver, task_abort_asks, dest_prefix, Setup, Heading, SetupOver, setup_asks, nth, completion, abort, deletion, Tabled, Sets, all_commits, Commit, Fetching, Replacing, Completing, Reverting, CommitOver, set_request, commit_asks, is_no_magic, Setting, Operation, TheWrite, TheTaskCommit, TheTaskAbort, asks, Seen, is_magic, is_staging, IsIn, Told, known, IsKnown, IsAttempt, Facts, Hold, Fits, FitsUpload, FitsWrite, FitsCommit, FitsAbort, SetsUp, FitsJobCommit, IsCommit, Decides, Commits}
+use Rattle.job_facts.specs.Prelude.{Scene, begins, Actor, Request, CreateUpload, UploadPart, AbortUpload, Committer, Magic, Directory, Partitioned, below, cluster_prefix, success_key, MarkerPlace, RecordPlace, TemporaryPlace, StagedSetPlace, is_open, Pending, Who, File, Script, Drawn, IsLegal, files, file_key, Uploading, Creating, Sending, upload_asks, Listing, Deleting, Write, Recording, WriteOver, write_asks, TaskCommit, Looking, Reading, Publishing, Checking, Storing, Renaming, TaskCommitOver, task_commit_asks, TaskAbort, Dropping, TaskAbortOver, task_abort_asks, Setup, Heading, SetupOver, setup_asks, nth, completion, abort, deletion, Tabled, all_commits, Commit, Fetching, Replacing, Completing, Reverting, CommitOver, set_request, commit_asks, is_no_magic, Setting, Operation, TheWrite, TheTaskCommit, TheTaskAbort, asks, Seen, is_magic, is_staging, IsIn, Told, known, IsKnown, IsAttempt, Facts, Hold, Fits, FitsUpload, FitsWrite, FitsCommit, FitsAbort, SetsUp, FitsJobCommit, IsCommit, Decides, Commits}
 use Rattle.job_protocol.specs.Writes.{Marking}
 use Rattle.job_protocol.specs.Writes as writes
 use Rattle.job_protocol.specs.TaskCommits as tasks

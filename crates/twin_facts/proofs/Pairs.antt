@@ -1,7 +1,7 @@
 -- Of two sides at one destination the facts of both are kept by each step of either, and no upload is drawn by both.
-use Rattle.std.proofs.Common.{◌≡◌, ℕ, ◌<◌, ◌≤◌, ◌⊎◌, inl, inr, ◌&&◌, ◌||◌, nat_le, nat_lt, Bool, true, false, List, Option, Some, refl, sym, ap, subst, ◌∙◌, arith}
+use Rattle.std.proofs.Common.{◌≡◌, ℕ, ◌<◌, ◌≤◌, ◌⊎◌, inl, inr, ◌&&◌, ◌||◌, nat_le, nat_lt, Bool, true, false, List, Some, refl, sym, ap, subst, ◌∙◌, arith}
 use Rattle.job_spec.proofs.Common.{and_parts, nat_tests, none_some, false_true}
-use Rattle.job_facts.specs.Prelude.{Scene, effect, Driver, Request, Outcome, Answered, Slow, RequestLost, ReplyLost, Entry, Who, Script, IsLegal, setup_asks, Setting, TheSetup, TheCommit, who, HasBucket, IsKnown, IsForeign}
+use Rattle.job_facts.specs.Prelude.{Scene, effect, Driver, Request, Outcome, Answered, Slow, RequestLost, ReplyLost, Entry, Who, Script, IsLegal, setup_asks, Setting, TheSetup, TheCommit, who, HasBucket, IsKnown, IsForeign, Times}
 use Rattle.job_protocol.specs.Prelude.{Path}
 use Rattle.store_frame.proofs.Framed.{frame}
 use Rattle.job_traces.specs.Runs.{Beginning, nothing_learnt}
@@ -32,7 +32,7 @@ effect_later s n r ReplyLost h = (frame s n r h).later
 
 -- ---- a side's steps
 
-module _ (g : Setting) (j : IsLegal g.script) (k : Option ℕ) where
+module _ (g : Setting) (j : IsLegal g.script) (k : Times) where
   -- what its driver asks names only its own
   asks_own : (x : SideState) → Late g x → (op : SharedOperation) → At g (Some op) x.seen x.told → (r : Request) → shared_asks g (who Driver) nothing_learnt op ≡ Some r → NamesOwn g.script x.told.drawn r
   asks_own x l (Alone (TheSetup u)) y r asked = absurd (none_some (ap (setup_asks g.script) y.0) asked)
@@ -62,12 +62,12 @@ module _ (g : Setting) (j : IsLegal g.script) (k : Option ℕ) where
   sends_drew x _ _ (attempt_sends _ a op n r o set at asked honest) = refl
 
   -- what is known then was known, or was drawn just now
-  sends_known : (x z : SideState) (e : Entry) → HasBucket x.seen.scene.content g.script.dest.bucket → Sends g k x e z → Well g x → (id : ℕ) → IsKnown z.told.drawn id → IsKnown x.told.drawn id ⊎ ((x.seen.scene.content.next ≤ id) × (id < z.seen.scene.content.next))
-  sends_known x _ _ there (driver_sends _ op n r o d asked timely few honest) h id y = inl y
-  sends_known x z _ there (attempt_sends _ a op n r o set at asked honest) h id y = elim (learnt g.script x.seen.scene x.told a r o honest id y) [
+  sends_known : (x z : SideState) (e : Entry) → x.told.cleans_at ≡ k.clean → HasBucket x.seen.scene.content g.script.dest.bucket → Sends g k x e z → Well g x → (id : ℕ) → IsKnown z.told.drawn id → IsKnown x.told.drawn id ⊎ ((x.seen.scene.content.next ≤ id) × (id < z.seen.scene.content.next))
+  sends_known x _ _ cleans there (driver_sends _ op n r o d asked timely few honest) h id y = inl y
+  sends_known x z _ cleans there (attempt_sends _ a op n r o set at asked honest) h id y = elim (learnt g.script x.seen.scene x.told a r o honest id y) [
     | inl old ↦ inl old
     | inr new ↦
-        let l = late g j z (sends_well g j k x z _ there (attempt_sends x a op n r o set at asked honest) h).0 set in
+        let l = late g j z (sends_well g j k x z _ cleans there (attempt_sends x a op n r o set at asked honest) h).0 set in
         inr (new, subst (λ q. q < z.seen.scene.content.next) y.3 (l.hold.ids.below y.0 y.1 y.2))
   ]
 
@@ -117,7 +117,7 @@ paired_begin {g = g} {x = x} j reported b may p = record {
   apart = p.apart;
 }
 
-module _ {g h : Setting} (m : MayBeTwins g.script h.script) (k l : Option ℕ) {x y z : SideState} (e : Entry) (sends : Sends g k x e z) (p : Pair g h x y) where
+module _ {g h : Setting} (m : MayBeTwins g.script h.script) (k l : Times) {x y z : SideState} (e : Entry) (sends : Sends g k x e z) (cleans : x.told.cleans_at ≡ k.clean) (p : Pair g h x y) where
   abbrev r : Request
   r = e.request
 
@@ -180,13 +180,13 @@ module _ {g h : Setting} (m : MayBeTwins g.script h.script) (k l : Option ℕ) {
 
   pub paired : Pair g h z (observed h l y e)
   paired = record {
-    first = sends_well g m.first k x z e p.there sends p.first;
+    first = sends_well g m.first k x z e cleans p.there sends p.first;
     second = observed_well h m.second l y e there_second foreign p.second;
     scenes = at ∙ ap (λ s. effect s r o) p.scenes;
     there = subst (λ (s : Scene). HasBucket s.content g.script.dest.bucket) (sym at) (effect_there x.seen.scene g.script.dest.bucket r o p.there);
     low_first = λ id d. elim (new_id id d) [ inl old ↦ (let a = p.low_first id old in let b = later in omega arith) | inr new ↦ new.1 ];
     low_second = λ id d. low_still id (p.low_second id d);
-    known_first = λ id d. elim (sends_known g m.first k x z e p.there sends p.first id d) [ inl old ↦ old_id id (p.known_first id old) | inr new ↦ just_drawn id new.0 new.1 ];
+    known_first = λ id d. elim (sends_known g m.first k x z e cleans p.there sends p.first id d) [ inl old ↦ old_id id (p.known_first id old) | inr new ↦ just_drawn id new.0 new.1 ];
     known_second = p.known_second;
     apart = λ id d. elim (new_id id d) [
       | inl old ↦ p.apart id old

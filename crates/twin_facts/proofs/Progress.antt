@@ -1,6 +1,6 @@
 -- How far a job's commit has come beside another job, is kept by each of its own entries, and by those of the job's attempts; a stranger's leave it as it is.
 use Rattle.std.proofs.Common.{◌≡◌, ℕ, zero, suc, ◌+◌, nat_lt, ◌<◌, ◌≤◌, ◌^◌, inl, inr, not, ◌&&◌, ◌||◌, Bool, true, false, cond, List, [], ◌∷◌, ◌++◌, length, Option, Some, None, refl, sym, ap, subst, ◌∙◌, arith, length-append}
-use Rattle.job_facts.specs.Prelude.{is_some, Content, answer, IsHonestOutcome, Request, Committer, Magic, Directory, Partitioned, Mode, Replace, Append, Fail, Reply, Outcome, Answered, Slow, RequestLost, ReplyLost, IsLegal, Who, Script, CommitEnd, Sweep, Listing, Deleting, sweep_asks, sweep_hears, Picks, same_path, picked_below, is_decided, is_clash, Turn, again, follow, dealt, revert, Sets, all_commits, picks_of, Commit, Fetching, Replacing, Completing, Marking, Reverting, CommitOver, set_request, set_read, ok_set, commit_asks, commit_hears, commit_misses, commit_tells, commit_start, completing, is_no_magic, replaced, replacing, decided, fetching, fetched, swept, reverting, worn_completion, Setting, Operation, TheCommit, asks, files_set, Seen, see, is_begun, is_reading, is_marking, picks_by, Told, known, tell_driver, tell_attempt, at_event, entry, driver_entry, sets_at, Hold, knowing, Fits, NoneEnded, Decides, IsSetAnswer}
+use Rattle.job_facts.specs.Prelude.{is_some, Content, answer, IsHonestOutcome, Request, Committer, Magic, Directory, Partitioned, Mode, Replace, Append, Fail, Reply, Outcome, Answered, Slow, RequestLost, ReplyLost, IsLegal, Who, Script, CommitEnd, Sweep, Listing, Deleting, sweep_asks, sweep_hears, Picks, same_path, picked_below, is_decided, is_clash, Turn, again, follow, dealt, revert, Sets, all_commits, picks_of, Commit, Fetching, Replacing, Completing, Marking, Reverting, CommitOver, set_request, set_read, ok_set, commit_asks, commit_hears, commit_misses, commit_tells, commit_start, completing, is_no_magic, replaced, replacing, decided, fetching, fetched, swept, reverting, worn_completion, Setting, Operation, TheCommit, asks, files_set, Seen, see, is_begun, is_reading, is_marking, picks_by, Told, known, tell_driver, tell_attempt, at_event, entry, driver_entry, sets_at, Hold, knowing, Fits, NoneEnded, Decides, IsSetAnswer, Times, is_picking}
 use Rattle.job_spec.proofs.Common.{some_is, none_some, false_true, same_or_not}
 use Rattle.std.specs.FinMap as fin
 use Rattle.job_model.specs.declared.ends.CommitEnd.TheVariants as ends
@@ -151,13 +151,13 @@ module _ (w : Script) where
 
 -- ---- an entry of the commit
 
-module _ (g : Setting) (j : IsLegal g.script) (k : Option ℕ) (s : Seen) (m : Told) (n : ℕ) (begins_it : is_begun k n ≡ true) (unclean : is_begun m.cleans_at n ≡ false) (few : s.scene.content.next ≤ 2 ^ 64) (h : Hold g.script g.minimum s m) (c : Commit) (i : Committing g m s.picks s.put_mark c) (r : Request)
+module _ (g : Setting) (j : IsLegal g.script) (k : Times) (s : Seen) (m : Told) (n : ℕ) (begins_it : is_begun k.commit n ≡ true) (unclean : is_begun k.clean n ≡ false) (cleans : m.cleans_at ≡ k.clean) (few : s.scene.content.next ≤ 2 ^ 64) (h : Hold g.script g.minimum s m) (c : Commit) (i : Committing g m s.picks s.put_mark c) (r : Request)
     (asked : commit_asks g.script c ≡ Some r) where
   abbrev w : Script
   w = g.script
 
-  abbrev begun_now : Bool
-  begun_now = s.begun || is_begun k n
+  abbrev picking : Bool
+  picking = is_picking k s.begun n
 
   abbrev u : Outcome → Seen
   u o = see w k s (driver_entry n r o)
@@ -203,8 +203,8 @@ module _ (g : Setting) (j : IsLegal g.script) (k : Option ℕ) (s : Seen) (m : T
   pub picks_same : is_fetching w c ≡ false → (o : Outcome) → (u o).picks ≡ s.picks
   picks_same z (Answered y) = λ p t. same t p
     where
-      same : (t : ℕ) → picks_by w begun_now s.last s.picks r t ≡ s.picks t
-      same t = ap (λ b. cond (begun_now && b) (s.last t) (s.picks t)) (kind.1 z t) ∙ ap (λ b. cond b (s.last t) (s.picks t)) (and_false begun_now)
+      same : (t : ℕ) → picks_by w picking s.last s.picks r t ≡ s.picks t
+      same t = ap (λ b. cond (picking && b) (s.last t) (s.picks t)) (kind.1 z t) ∙ ap (λ b. cond b (s.last t) (s.picks t)) (and_false picking)
   picks_same z Slow = refl
   picks_same z _ = refl
 
@@ -226,15 +226,15 @@ module _ (g : Setting) (j : IsLegal g.script) (k : Option ℕ) (s : Seen) (m : T
     unread = subst (Unread w s.picks) (sym v) i.unread
 
     abbrev next : Picks
-    next = picks_by w begun_now s.last s.picks (set_request w.committer w (length sets))
+    next = picks_by w picking s.last s.picks (set_request w.committer w (length sets))
 
     next_other : (t : ℕ) → t < w.tasks → (t ≡ length sets → ⊥) → next t ≡ s.picks t
-    next_other t l ne = ap (λ b. cond (begun_now && b) (s.last t) (s.picks t)) (reads_other j t (length sets) l low ne) ∙ ap (λ b. cond b (s.last t) (s.picks t)) (and_false begun_now)
+    next_other t l ne = ap (λ b. cond (picking && b) (s.last t) (s.picks t)) (reads_other j t (length sets) l low ne) ∙ ap (λ b. cond b (s.last t) (s.picks t)) (and_false picking)
 
     -- where no set stands nobody published
     next_none : s.last (length sets) ≡ None → (t : ℕ) → length sets ≤ t → t < w.tasks → next t ≡ None
     next_none none t l k = elim (same_or_not t (length sets)) [
-      | inl is ↦ elim_cond (begun_now && is_reading w t (set_request w.committer w (length sets))) (ap s.last is ∙ none) (unread t l k)
+      | inl is ↦ elim_cond (picking && is_reading w t (set_request w.committer w (length sets))) (ap s.last is ∙ none) (unread t l k)
       | inr ne ↦ next_other t k ne ∙ unread t l k
     ]
       where
@@ -272,11 +272,11 @@ module _ (g : Setting) (j : IsLegal g.script) (k : Option ℕ) (s : Seen) (m : T
   rest : Rest w s.picks c
   rest = (i.unread, i.never)
 
-  rest_answered : (d : Commit) → d ≡ c → (y : Reply) → y ≡ answer s.scene r → Rest w (picks_by w begun_now s.last s.picks r) (commit_hears w c y)
+  rest_answered : (d : Commit) → d ≡ c → (y : Reply) → y ≡ answer s.scene r → Rest w (picks_by w picking s.last s.picks r) (commit_hears w c y)
   rest_answered (Fetching sets x) v y honest =
       let is = is_read sets x v in
-      subst (λ d. Rest w (picks_by w begun_now s.last s.picks r) (commit_hears w d y)) v
-      (subst (λ z. Rest w (picks_by w begun_now s.last s.picks z) (fetched w sets (set_read y))) (sym is) (rest_read sets x v y (honest ∙ ap (answer s.scene) is)))
+      subst (λ d. Rest w (picks_by w picking s.last s.picks r) (commit_hears w d y)) v
+      (subst (λ z. Rest w (picks_by w picking s.last s.picks z) (fetched w sets (set_read y))) (sym is) (rest_read sets x v y (honest ∙ ap (answer s.scene) is)))
   rest_answered _ v y honest =
       let z = ap (is_fetching w) (sym v) in
       subst (λ p. Rest w p (commit_hears w c y)) (sym (picks_same z (Answered y))) (rest_heard w s.picks c z rest y)
@@ -312,7 +312,7 @@ module _ (g : Setting) (j : IsLegal g.script) (k : Option ℕ) (s : Seen) (m : T
   pub committing_next : (o : Outcome) → IsHonestOutcome o (answer s.scene r) → Committing g (at_event n (tell_driver m r o)) (u o).picks (u o).put_mark (commit_tells w c o)
   committing_next o honest =
       let next = rest_next o honest in
-      record { alone = commit_next g j no_content k s m n begins_it unclean few h c at r asked o honest; unread = next.0; unmarked = unmarked_next c refl o; never = next.1 }
+      record { alone = commit_next g j no_content k s m n begins_it unclean cleans few h c at r asked o honest; unread = next.0; unmarked = unmarked_next c refl o; never = next.1 }
 
 -- ---- as it begins, and entries of the job's attempts
 
@@ -324,7 +324,7 @@ committing_start g j s m none uncleaned unpicked unmarked missing = record {
   never = (rest_start g.script s.picks unpicked missing).1;
 }
 
-pub committing_beside : (g : Setting) → IsLegal g.script → (k : Option ℕ) (s : Seen) (m : Told) → Hold g.script g.minimum s m → (a : Who) (n : ℕ) (op : Operation) → Fits g.script g.minimum a m op → (r : Request) → asks g a (known m a) op ≡ Some r → HidesAll g.script r → (o : Outcome) (c : Commit)
+pub committing_beside : (g : Setting) → IsLegal g.script → (k : Times) (s : Seen) (m : Told) → Hold g.script g.minimum s m → (a : Who) (n : ℕ) (op : Operation) → Fits g.script g.minimum a m op → (r : Request) → asks g a (known m a) op ≡ Some r → HidesAll g.script r → (o : Outcome) (c : Commit)
     → Committing g m s.picks s.put_mark c → let u = see g.script k s (entry a n r o) in Committing g (tell_attempt g.script m a r o) u.picks u.put_mark c
 committing_beside g j k s m h a n op fits r asked hides o c i =
     let quiet = attempt_quiet g.script k s a n r h.there hides o in

@@ -1,6 +1,6 @@
 -- Of the magic committer: as long as its upload lives, the record of a file that an attempt has written stands; an abort or clean of the job deletes none whose upload lives.
 use Rattle.std.proofs.Common.{◌≡◌, ℕ, ◌≤◌, ◌^◌, ◌⊎◌, inl, inr, nat_lt, ◌||◌, Bool, true, false, List, [], ◌∷◌, ◌++◌, take, drop, length, Option, Some, None, refl, sym, ap, subst, ◌∙◌}
-use Rattle.job_facts.specs.Prelude.{filter, Scene, begins, listed, answer, apply, bucket_of, effect, IsHonestOutcome, Request, GetObject, AbortUpload, UploadRef, Committer, Magic, Directory, Partitioned, Reply, Page, PageEntry, Outcome, Answered, Slow, RequestLost, Retried, step, magic_prefix, MarkerPlace, RecordPlace, is_record, Listing, Deleting, walked_by, keys_on, last_of, page_after, Who, File, Script, Drawn, IsLegal, learn, files, file_key, record_key, record_text, file_record, Uploading, Uploaded, Creating, Sending, GoesOn, AllSent, IsGone, upload_asks, upload_hears, Write, Recording, WriteOver, writing, write_asks, write_after, write_start, write_start_by, TaskAbort, TaskAbortOver, task_abort_asks, Setting, Operation, TheWrite, TheTaskCommit, TheTaskAbort, asks, tells, is_magic, is_staging, IsIn, HasBucket, changed_keys, Told, known, undoes, tell_driver, tell_attempt, at_event, at_key, IsAttempt, Facts, Fits, FitsWrite}
+use Rattle.job_facts.specs.Prelude.{filter, Scene, begins, listed, answer, apply, bucket_of, effect, IsHonestOutcome, Request, GetObject, AbortUpload, UploadRef, Committer, Magic, Directory, Partitioned, Reply, Page, PageEntry, Outcome, Answered, Slow, RequestLost, Retried, step, magic_prefix, MarkerPlace, RecordPlace, is_record, Listing, Deleting, walked_by, keys_on, last_of, page_after, Who, File, Script, Drawn, IsLegal, learn, files, file_key, record_key, record_text, file_record, Uploading, Uploaded, Creating, Sending, GoesOn, AllSent, IsGone, upload_asks, upload_hears, Write, Recording, WriteOver, writing, write_asks, write_after, TaskAbort, TaskAbortOver, task_abort_asks, Setting, Operation, TheWrite, TheTaskCommit, TheTaskAbort, asks, tells, is_magic, is_staging, IsIn, HasBucket, changed_keys, Told, known, undoes, tell_driver, tell_attempt, at_event, at_key, IsAttempt, Facts, Fits, FitsWrite}
 use Rattle.job_protocol.specs.Prelude.{drawn_last, write_hears}
 use Rattle.job_spec.proofs.Common.{some_is, false_true, in_append, in_front, in_back, filter_in}
 use Rattle.s3_types.specs.Answer.{found}

@@ -1,6 +1,6 @@
 -- In every run the records of files whose uploads live stand; so what a set names a record names too.
 use Rattle.std.proofs.Common.{◌≡◌, ℕ, ◌<◌, ◌≤◌, ◌^◌, ◌⊎◌, inl, inr, true, false, List, [], ◌∷◌, Option, Some, None, refl, sym, ap, subst, ◌∙◌}
-use Rattle.job_facts.specs.Prelude.{Scene, begins, answer, bucket_of, effect, IsHonestOutcome, Driver, Committer, Magic, Directory, Partitioned, Mode, Fail, Request, UploadRef, Outcome, Entry, Retried, fresh, magic_prefix, staged_set_path, StagedSetPlace, Who, File, Script, Drawn, Known, IsLegal, files, record_key, file_record, setup_asks, writing, write_start, write_start_by, task_commit_start, task_abort_start, Setting, Operation, TheSetup, TheWrite, TheTaskCommit, TheTaskAbort, TheCommit, who, asks, tells, is_magic, is_staging, IsIn, HasBucket, changed_keys, Told, known, put_who, IsForeign, IsAttempt}
+use Rattle.job_facts.specs.Prelude.{Scene, begins, answer, bucket_of, effect, IsHonestOutcome, Driver, Committer, Magic, Directory, Partitioned, Mode, Fail, Request, UploadRef, Outcome, Entry, Retried, fresh, magic_prefix, staged_set_path, StagedSetPlace, Who, File, Script, Drawn, Known, IsLegal, files, record_key, file_record, setup_asks, writing, write_start, write_start_by, task_commit_start, task_abort_start, Setting, Operation, TheSetup, TheWrite, TheTaskCommit, TheTaskAbort, TheCommit, who, asks, tells, is_magic, is_staging, IsIn, HasBucket, changed_keys, Told, known, put_who, IsForeign, IsAttempt, Times}
 use Rattle.job_spec.proofs.Common.{some_is, none_some, false_true}
 use Rattle.pending_json.specs.Reading as reading
 use Rattle.job_traces.specs.Runs.{Beginning, BeginSetup, BeginCommit, BeginClean, BeginWrite, BeginPublish, BeginAbort, nothing_learnt}
@@ -47,7 +47,7 @@ module _ (g : Setting) where
   abbrev pub Standing : SideState → Type 0
   Standing x = w.committer ≡ Magic → Stands x.seen.scene x.told x.attempts x.driver
 
-  module _ (j : IsLegal w) (k : Option ℕ) where
+  module _ (j : IsLegal w) (k : Times) where
     -- ---- what begins
 
     started : w.committer ≡ Magic → (s : Scene) (m : Told) (a : Who) → WriteRecords w s m a (write_start w a)

@@ -1,6 +1,6 @@
 -- What an abort or clean at a shared destination leaves where it ends Done.
-use Rattle.std.proofs.Common.{◌≡◌, ℕ, ◌≤◌, ◌^◌, ◌⊎◌, inl, inr, true, List, [], ◌∷◌, ◌++◌, drop, Option, Some, refl, sym, ap, subst, ◌∙◌, arith}
-use Rattle.job_facts.specs.Prelude.{Content, Scene, begins, answer, effect, IsHonestOutcome, Driver, Request, UploadRef, Committer, Magic, Directory, Partitioned, Reply, Outcome, Entry, Retried, fresh, step, is_record, filter, Script, Walked, More, Whole, Setting, who, is_staging, HasBucket, driver_entry, IsForeign}
+use Rattle.std.proofs.Common.{◌≡◌, ℕ, ◌≤◌, ◌^◌, ◌⊎◌, inl, inr, true, List, [], ◌∷◌, ◌++◌, drop, Some, refl, sym, ap, subst, ◌∙◌, arith}
+use Rattle.job_facts.specs.Prelude.{Content, Scene, begins, answer, effect, IsHonestOutcome, Driver, Request, UploadRef, Committer, Magic, Directory, Partitioned, Reply, Outcome, Entry, Retried, fresh, step, is_record, filter, Script, Walked, More, Whole, Setting, who, is_staging, HasBucket, driver_entry, IsForeign, Times}
 use Rattle.job_spec.specs.Prelude.{ClusterNames}
 use Rattle.job_spec.proofs.Common.{some_is, false_true}
 use Rattle.job_model.specs.declared.ends.CleanEnd.TheVariants as ends
@@ -19,7 +19,7 @@ use Rattle.twin_facts.proofs.Standing.{At, late}
 use Rattle.twin_facts.proofs.Pairs.{swapped, swap_twins, foreign, not_true, effect_later}
 use Rattle.twin_facts.proofs.Keyed.{Keyed, keyed_sends, keyed_observed}
 use Rattle.twin_facts.proofs.Leaving.{Dead, Leaving, StageOf, LeftAlone, leaving_alone, alone_request, leaving_start, leaving_goes}
-use Rattle.twin_facts.proofs.TwinRuns.{all_so}
+use Rattle.twin_facts.proofs.TwinRuns.{all_so, cleans_are}
 use Rattle.twin_facts.proofs.Sets.{Standing, standing_begins, standing_sends, standing_observed, set_named}
 
 -- ---- the stages of each committer
@@ -76,7 +76,7 @@ module _ (w : Script) where
 
 -- ---- known uploads have their keys, in every run
 
-module _ (g h : Setting) (m : MayBeTwins g.script h.script) (k l : Option ℕ) (opening : Content) (is : IsTwinOpening g h opening) where
+module _ (g h : Setting) (m : MayBeTwins g.script h.script) (k l : Times) (opening : Content) (is : IsTwinOpening g h opening) where
   abbrev w : Script
   w = g.script
 
@@ -87,7 +87,7 @@ module _ (g h : Setting) (m : MayBeTwins g.script h.script) (k l : Option ℕ) (
   there_first {es = es} {x = x} {y = y} run = (all_so g h m k l opening is es x y run).pair.there
 
   pub keyed_so : (es : List TwinEntry) (x y : SideState) → TwinRun g h k l opening es x y → KeyedNow g x
-  keyed_so es x y (twins_begin c d) = λ a q i. absurd i
+  keyed_so es x y (twins_begin) = λ a q i. absurd i
   keyed_so es x y (first_begins fs u v reported b run may) = keyed_so fs u v run
   keyed_so es x y (second_begins fs u v reported b run may) = keyed_so fs u v run
   keyed_so es x y (first_sends fs u v z e run sends) = keyed_sends g m.first k u z e (there_first run) sends (all_so g h m k l opening is fs u v run).pair.first (keyed_so fs u v run)
@@ -97,13 +97,13 @@ module _ (g h : Setting) (m : MayBeTwins g.script h.script) (k l : Option ℕ) (
   turned = record { first = m.second; second = m.first; twins = swap_twins m.twins; keeps_first = m.keeps_second; keeps_second = m.keeps_first }
 
   pub standing_so : (es : List TwinEntry) (x y : SideState) → TwinRun g h k l opening es x y → Standing g x
-  standing_so es x y (twins_begin c d) = λ magic. record { records = λ a op e. absurd cc; covers = λ u e. absurd cc }
+  standing_so es x y (twins_begin) = λ magic. record { records = λ a op e. absurd cc; covers = λ u e. absurd cc }
   standing_so es x y (first_begins fs u v reported b run may) = standing_begins g m.first k u reported b may (all_so g h m k l opening is fs u v run).pair.first (standing_so fs u v run)
   standing_so es x y (second_begins fs u v reported b run may) = standing_so fs u v run
   standing_so es x y (first_sends fs u v z e run sends) = standing_sends g m.first k u z e sends (all_so g h m k l opening is fs u v run).pair.first (keyed_so fs u v run) (standing_so fs u v run)
   standing_so es x y (second_sends fs u v z e run sends) =
       let p = (all_so g h m k l opening is fs u v run).pair in
-      standing_observed g m.first k u e p.there (foreign turned l k e sends (swapped m.twins p)) (standing_so fs u v run)
+      standing_observed g m.first k u e p.there (foreign turned l k e sends (cleans_are g h m k l opening is fs u v run).1 (swapped m.twins p)) (standing_so fs u v run)
 
   -- ---- an abort or clean goes on
 
@@ -147,7 +147,7 @@ module _ (g h : Setting) (m : MayBeTwins g.script h.script) (k l : Option ℕ) (
   own_entry : (first : Scene) (u v z : SideState) (e : Entry) → Spared first u v → Sends g k u e z → e.actor ≡ Driver → Spared first z (observed h l v e)
   own_entry first u v z e x (driver_sends _ op n r o d asked timely few honest) f = by op (some_is (sym x.driver ∙ d)) d asked timely
     where
-      by : (q : SharedOperation) → TheSparing x.at ≡ q → u.driver ≡ Some q → shared_asks g (who Driver) nothing_learnt q ≡ Some r → IsInTime k u.told.cleans_at n q → Spared first (driver_saw g k u q n r o) (observed h l v (driver_entry n r o))
+      by : (q : SharedOperation) → TheSparing x.at ≡ q → u.driver ≡ Some q → shared_asks g (who Driver) nothing_learnt q ≡ Some r → IsInTime k n q → Spared first (driver_saw g k u q n r o) (observed h l v (driver_entry n r o))
       by (TheSparing q) same d asked timely =
           let y = going first u v x q r o d asked honest in
           record {
@@ -183,7 +183,7 @@ module _ (g h : Setting) (m : MayBeTwins g.script h.script) (k l : Option ℕ) (
         at = o.at;
         driver = o.driver;
         stage = o.stage;
-        leaving = leaving_alone w first a.seen.scene (effect a.seen.scene e.request e.outcome) (strange_alone a.seen.scene p.there a e (foreign turned l k e sends (swapped m.twins p))) o.at.operation o.leaving;
+        leaving = leaving_alone w first a.seen.scene (effect a.seen.scene e.request e.outcome) (strange_alone a.seen.scene p.there a e (foreign turned l k e sends (cleans_are g h m k l opening is o.entries a b o.run).1 (swapped m.twins p))) o.at.operation o.leaving;
         later = later_next o.later (effect_later a.seen.scene w.dest.bucket e.request e.outcome p.there);
         few = o.few;
         dead = λ id q. stays_gone w a.seen.scene p.there id e.request e.outcome (o.dead id q);

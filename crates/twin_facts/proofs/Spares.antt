@@ -70,7 +70,7 @@ module _ {w : Script} {minimum : ℕ} (j : IsLegal w) (s : Seen) (m : Told) (h :
   abbrev Keeps : Outcome → Request → Type 0
   Keeps o r = Facts w minimum (effect s.scene r o) s.last (tell_driver (cleaning m) r o)
 
-  from_driver : (r : Request) (o : Outcome) → Hold w minimum (see w None s (driver_entry 0 r o)) (tell_driver (cleaning m) r o) → Keeps o r
+  from_driver : (r : Request) (o : Outcome) → Hold w minimum (see w (record { commit = None; clean = None }) s (driver_entry 0 r o)) (tell_driver (cleaning m) r o) → Keeps o r
   from_driver r (Answered y) f = f
   from_driver r _ f = f
 
@@ -88,8 +88,8 @@ module _ {w : Script} {minimum : ℕ} (j : IsLegal w) (s : Seen) (m : Told) (h :
   keeps_by (Aborting u us all) r e o =
       subst (Keeps o) (some_is e) (driving_effect j s.scene (AbortUpload w.dest.bucket u.key u.upload) (record { keys = λ b q i. absurd i; uploads = λ id z. nat_true id u.upload (sym (some_is z)); paths = λ p i. absurd i }) cleans o)
   keeps_by (Deleting q qs) r e o =
-      subst (Keeps o) (some_is e) (from_driver (DeleteObjects w.dest.bucket (take 1000 (q ∷ qs))) o (sweep_keeps w minimum None s (cleaning m) 0 refl cleans (take 1000 (q ∷ qs)) o))
-  keeps_by (Removing p ps) r e o = subst (Keeps o) (some_is e) (from_driver (ClusterDelete p) o (remove_file_keeps w minimum None s (cleaning m) 0 refl cleans p o))
+      subst (Keeps o) (some_is e) (from_driver (DeleteObjects w.dest.bucket (take 1000 (q ∷ qs))) o (sweep_keeps w minimum (record { commit = None; clean = None }) s (cleaning m) 0 refl cleans (take 1000 (q ∷ qs)) o))
+  keeps_by (Removing p ps) r e o = subst (Keeps o) (some_is e) (from_driver (ClusterDelete p) o (remove_file_keeps w minimum (record { commit = None; clean = None }) s (cleaning m) 0 refl cleans p o))
   keeps_by (SparingOver end) r e o = absurd cc
 
   -- with an entry of its event or of a later one

@@ -1,6 +1,6 @@
 -- What holds of one side of two, whatever the other sends, is kept by each step.
 use Rattle.std.proofs.Common.{◌≡◌, ℕ, ◌<◌, ◌≤◌, ◌^◌, ◌⊎◌, inl, inr, ◌&&◌, ◌||◌, Bool, true, false, cond, List, [], ◌∷◌, Option, Some, None, refl, sym, ap, subst, ◌∙◌}
-use Rattle.job_facts.specs.Prelude.{Content, Scene, Upload, begins, answer, effect, is_effective, IsHonestOutcome, only_reads, Driver, Mode, Fail, Request, ClusterPut, ClusterRename, ClusterDelete, UploadRef, Outcome, Answered, Slow, RequestLost, Entry, Retried, fresh, step, cluster_prefix, Listing, Deleting, Who, File, Script, Known, IsLegal, Setup, Sweeping, SetupOver, setup_start, setup_asks, setup_after, Uploading, Creating, Sending, upload_asks, Write, WriteOver, write_start, write_asks, TaskCommit, Storing, Renaming, TaskCommitOver, task_commit_start, task_commit_asks, temporary_path, TaskAbort, TaskAbortOver, task_abort_start, task_abort_asks, Setting, Operation, TheSetup, TheWrite, TheTaskCommit, TheTaskAbort, TheCommit, who, asks, tells, NoClusterFile, Seen, see, is_begun, is_reading, is_marking, picks_by, IsIn, HasBucket, changed_paths, Told, known, put_who, nothing_told, ends, tell_driver, tell_attempt, at_event, entry, driver_entry, at_id, IsForeign, IsAttempt, Facts, Hold, Fits, SetsUp, NoneEnded, Gone}
+use Rattle.job_facts.specs.Prelude.{Content, Scene, Upload, begins, answer, effect, is_effective, IsHonestOutcome, only_reads, Driver, Mode, Fail, Request, ClusterPut, ClusterRename, ClusterDelete, UploadRef, Outcome, Answered, Slow, RequestLost, Entry, Retried, fresh, step, cluster_prefix, Listing, Deleting, Who, File, Script, Known, IsLegal, Setup, Sweeping, SetupOver, setup_start, setup_asks, setup_after, Uploading, Creating, Sending, upload_asks, Write, WriteOver, write_start, write_asks, TaskCommit, Storing, Renaming, TaskCommitOver, task_commit_start, task_commit_asks, temporary_path, TaskAbort, TaskAbortOver, task_abort_start, task_abort_asks, Setting, Operation, TheSetup, TheWrite, TheTaskCommit, TheTaskAbort, TheCommit, who, asks, tells, NoClusterFile, Seen, see, is_begun, is_reading, is_marking, picks_by, IsIn, HasBucket, changed_paths, Told, known, put_who, nothing_told, ends, tell_driver, tell_attempt, at_event, entry, driver_entry, at_id, IsForeign, IsAttempt, Facts, Hold, Fits, SetsUp, NoneEnded, Gone, Times, is_picking}
 use Rattle.job_spec.proofs.Common.{some_is, none_some, false_true}
 use Rattle.job_model.specs.declared.ends.SetupEnd.TheVariants as setups
 use Rattle.job_protocol.specs.Writes as writes
@@ -59,15 +59,15 @@ and_false : (b : Bool) → (b && false) ≡ false
 and_false true = refl
 and_false false = refl
 
-module _ (w : Script) (k : Option ℕ) (s : Seen) (n : ℕ) (r : Request) (p : Plain w r) where
+module _ (w : Script) (k : Times) (s : Seen) (n : ℕ) (r : Request) (p : Plain w r) where
   abbrev next : Outcome → Seen
   next o = see w k s (driver_entry n r o)
 
   pub plain_picks : (o : Outcome) → (next o).picks ≡ s.picks
   plain_picks (Answered y) = λ i t. same t i
     where
-      same : (t : ℕ) → picks_by w (s.begun || is_begun k n) s.last s.picks r t ≡ s.picks t
-      same t = ap (λ b. cond ((s.begun || is_begun k n) && b) (s.last t) (s.picks t)) (p.reads t) ∙ ap (λ b. cond b (s.last t) (s.picks t)) (and_false (s.begun || is_begun k n))
+      same : (t : ℕ) → picks_by w (is_picking k s.begun n) s.last s.picks r t ≡ s.picks t
+      same t = ap (λ b. cond ((is_picking k s.begun n) && b) (s.last t) (s.picks t)) (p.reads t) ∙ ap (λ b. cond b (s.last t) (s.picks t)) (and_false (is_picking k s.begun n))
   plain_picks Slow = refl
   plain_picks _ = refl
 
@@ -76,21 +76,21 @@ module _ (w : Script) (k : Option ℕ) (s : Seen) (n : ℕ) (r : Request) (p : P
   plain_mark RequestLost = refl
   plain_mark _ = ap (λ b. s.put_mark || b) p.marks ∙ or_false s.put_mark
 
-pub driver_scene : (w : Script) (k : Option ℕ) (s : Seen) (n : ℕ) (r : Request) (o : Outcome) → (see w k s (driver_entry n r o)).scene ≡ effect s.scene r o
+pub driver_scene : (w : Script) (k : Times) (s : Seen) (n : ℕ) (r : Request) (o : Outcome) → (see w k s (driver_entry n r o)).scene ≡ effect s.scene r o
 driver_scene w k s n r (Answered y) = refl
 driver_scene w k s n r _ = refl
 
 -- whatever the driver is at
-pub sees_scene : (g : Setting) (k : Option ℕ) (s : Seen) (op : SharedOperation) (n : ℕ) (r : Request) (o : Outcome) → (sees g k s op n r o).scene ≡ effect s.scene r o
+pub sees_scene : (g : Setting) (k : Times) (s : Seen) (op : SharedOperation) (n : ℕ) (r : Request) (o : Outcome) → (sees g k s op n r o).scene ≡ effect s.scene r o
 sees_scene g k s (TheSparing t) n r o = refl
 sees_scene g k s (Alone op) n r o = driver_scene g.script k s n r o
 sees_scene g k s (TheCheck t) n r o = driver_scene g.script k s n r o
 
-pub attempt_scene : (w : Script) (k : Option ℕ) (s : Seen) (a : Who) (n : ℕ) (r : Request) (o : Outcome) → (see w k s (entry a n r o)).scene ≡ effect s.scene r o
+pub attempt_scene : (w : Script) (k : Times) (s : Seen) (a : Who) (n : ℕ) (r : Request) (o : Outcome) → (see w k s (entry a n r o)).scene ≡ effect s.scene r o
 attempt_scene w k s a n r (Answered y) = refl
 attempt_scene w k s a n r _ = refl
 
-driver_last : (w : Script) (k : Option ℕ) (s : Seen) (n : ℕ) (r : Request) (o : Outcome) → (see w k s (driver_entry n r o)).last ≡ s.last
+driver_last : (w : Script) (k : Times) (s : Seen) (n : ℕ) (r : Request) (o : Outcome) → (see w k s (driver_entry n r o)).last ≡ s.last
 driver_last w k s n r (Answered y) = refl
 driver_last w k s n r _ = refl
 
@@ -331,7 +331,7 @@ module _ (w : Script) (minimum : ℕ) (m : Told) (a : Who) (d : IsAttempt w a) w
 
 -- ---- an entry of the side's own
 
-module _ (g : Setting) (j : IsLegal g.script) (k : Option ℕ) where
+module _ (g : Setting) (j : IsLegal g.script) (k : Times) where
   abbrev v : Script
   v = g.script
 
@@ -373,16 +373,16 @@ module _ (g : Setting) (j : IsLegal g.script) (k : Option ℕ) where
   pub early_setup : (x : SideState) → Early g x → (op : SharedOperation) → x.driver ≡ Some op → (u : Retried Setup) × (Alone (TheSetup u) ≡ op) × SetsUp v x.seen.scene.content u.operation
   early_setup x e op d = elim e.setup [ inl none ↦ absurd (none_some none d) | inr y ↦ (y.0, some_is (sym y.1 ∙ d), y.2) ]
 
-  driver_early : (x : SideState) → HasBucket x.seen.scene.content v.dest.bucket → Early g x → (op : SharedOperation) → x.driver ≡ Some op → (n : ℕ) (r : Request) (o : Outcome) → shared_asks g (who Driver) nothing_learnt op ≡ Some r → IsInTime k x.told.cleans_at n op → IsHonestOutcome o (answer x.seen.scene r)
+  driver_early : (x : SideState) → x.told.cleans_at ≡ k.clean → HasBucket x.seen.scene.content v.dest.bucket → Early g x → (op : SharedOperation) → x.driver ≡ Some op → (n : ℕ) (r : Request) (o : Outcome) → shared_asks g (who Driver) nothing_learnt op ≡ Some r → IsInTime k n op → IsHonestOutcome o (answer x.seen.scene r)
       → Early g (driver_saw g k x op n r o)
-  driver_early x there e op d n r o asked timely honest =
+  driver_early x at there e op d n r o asked timely honest =
       let y = early_setup x e op d in
-      let P : SharedOperation → Type 0 = λ q. shared_asks g (who Driver) nothing_learnt q ≡ Some r → IsInTime k x.told.cleans_at n q → Early g (driver_saw g k x q n r o) in
-      subst P y.1 (λ a t. setup_early x there e y.0 y.2 n r o a t.1 honest) asked timely
+      let P : SharedOperation → Type 0 = λ q. shared_asks g (who Driver) nothing_learnt q ≡ Some r → IsInTime k n q → Early g (driver_saw g k x q n r o) in
+      subst P y.1 (λ a t. setup_early x there e y.0 y.2 n r o a (ap (λ c. is_begun c n) at ∙ t.1) honest) asked timely
 
   -- ---- the driver, once the set-up is done
 
-  module _ (x : SideState) (l : Late g x) (n : ℕ) (r : Request) (o : Outcome) where
+  module _ (x : SideState) (at : x.told.cleans_at ≡ k.clean) (l : Late g x) (n : ℕ) (r : Request) (o : Outcome) where
     abbrev told_now : Told
     told_now = at_event n (tell_driver x.told r o)
 
@@ -407,7 +407,7 @@ module _ (g : Setting) (j : IsLegal g.script) (k : Option ℕ) where
     filed_by : ((p : List ℕ) → IsIn p (changed_paths r) → begins (cluster_prefix v.job) p ≡ false) → Filed v (effect x.seen.scene r o)
     filed_by free = filed_keeps v x.seen.scene l.hold.there r o (λ p i b. absurd (false_true (free p i) b)) l.filed
 
-    check_late : (u : Retried Check) → Idle x.seen x.told → check_asks v u.operation ≡ Some r → is_begun x.told.cleans_at n ≡ false → Late g (driver_saw g k x (TheCheck u) n r o)
+    check_late : (u : Retried Check) → Idle x.seen x.told → check_asks v u.operation ≡ Some r → is_begun k.clean n ≡ false → Late g (driver_saw g k x (TheCheck u) n r o)
     check_late u i asked unclean =
         let p = check_plain v u.operation r asked in
         let drives = reads_drive v r (check_reads g j u.operation r asked) in
@@ -415,14 +415,14 @@ module _ (g : Setting) (j : IsLegal g.script) (k : Option ℕ) where
         driver_late (TheCheck u) (driving_keeps v g.minimum k x.seen x.told n r o j drives l.hold) (λ c. others_gone v x.seen.scene l.hold.there (tell_driver x.told r o).ended (λ id e. absurd (false_true (none id) e)) r o) (filed_by drives.paths)
         (at_checked g j (see v k x.seen (driver_entry n r o)) told_now (record {
           none = none;
-          uncleaned = ap (λ b. b || is_begun x.told.cleans_at n) i.uncleaned ∙ unclean;
+          uncleaned = ap (λ b. b || is_begun x.told.cleans_at n) i.uncleaned ∙ ap (λ c. is_begun c n) at ∙ unclean;
           unmarked = plain_mark v k x.seen n r p o ∙ i.unmarked;
           unpicked = λ t. ap (λ f. f t) (plain_picks v k x.seen n r p o) ∙ i.unpicked t;
         }) (step v.retries (check_after v) u o) (step v.retries (check_after v) u o).operation)
 
-    sparing_late : (u : Retried Sparing) → FitsSparing v x.told.drawn u.operation → sparing_asks v u.operation ≡ Some r → is_begun x.told.cleans_at n ≡ true → x.seen.scene.content.next ≤ 2 ^ 64 → IsHonestOutcome o (answer x.seen.scene r) → Late g (driver_saw g k x (TheSparing u) n r o)
+    sparing_late : (u : Retried Sparing) → FitsSparing v x.told.drawn u.operation → sparing_asks v u.operation ≡ Some r → is_begun k.clean n ≡ true → x.seen.scene.content.next ≤ 2 ^ 64 → IsHonestOutcome o (answer x.seen.scene r) → Late g (driver_saw g k x (TheSparing u) n r o)
     sparing_late u fits asked timely few honest =
-        driver_late (TheSparing u) (sparing_keeps j x.seen x.told l.hold n timely u.operation r asked o) (λ c. absurd (false_true c (clean_begun x.told n timely r o))) (filed_now u.operation asked) (sparing_goes j x.seen.scene x.told l.hold l.filed few u fits r asked o honest)
+        driver_late (TheSparing u) (sparing_keeps j x.seen x.told l.hold n (ap (λ c. is_begun c n) at ∙ timely) u.operation r asked o) (λ c. absurd (false_true c (clean_begun x.told n (ap (λ c. is_begun c n) at ∙ timely) r o))) (filed_now u.operation asked) (sparing_goes j x.seen.scene x.told l.hold l.filed few u fits r asked o honest)
       where
         same_files : (y : Request) → changed_paths y ≡ [] → Filed v (effect x.seen.scene y o)
         same_files y e = filed_keeps v x.seen.scene l.hold.there y o (λ p i. absurd (subst (λ (q : List (List ℕ)). IsIn p q) e i)) l.filed
@@ -447,12 +447,12 @@ module _ (g : Setting) (j : IsLegal g.script) (k : Option ℕ) where
         filed_now (sparing.SparingOver end) e = absurd cc
         filed_now _ e = asked_so e refl
 
-    driver_by : (op : SharedOperation) → At g (Some op) x.seen x.told → shared_asks g (who Driver) nothing_learnt op ≡ Some r → IsInTime k x.told.cleans_at n op → x.seen.scene.content.next ≤ 2 ^ 64 → IsHonestOutcome o (answer x.seen.scene r) → Late g (driver_saw g k x op n r o)
+    driver_by : (op : SharedOperation) → At g (Some op) x.seen x.told → shared_asks g (who Driver) nothing_learnt op ≡ Some r → IsInTime k n op → x.seen.scene.content.next ≤ 2 ^ 64 → IsHonestOutcome o (answer x.seen.scene r) → Late g (driver_saw g k x op n r o)
     driver_by (Alone (TheSetup u)) y asked timely few honest = absurd (none_some (ap (setup_asks v) y.0) asked)
     driver_by (Alone (TheCommit c)) y asked timely few honest =
         let drives = commit_drives v g.minimum k x.seen x.told n j l.hold c y.alone.fits r asked in
         driver_late (Alone (TheCommit c)) (driving_keeps v g.minimum k x.seen x.told n r o j drives l.hold) (λ z. commit_gone j l.hold (l.gone y.alone.uncleaned) c y.alone.fits y.alone.tabled y.alone.decides r asked o) (filed_by drives.paths)
-        (committing_next g j k x.seen x.told n timely.0 timely.1 few l.hold c y r asked o honest)
+        (committing_next g j k x.seen x.told n timely.0 timely.1 at few l.hold c y r asked o honest)
     driver_by (Alone _) y asked timely few honest = absurd y
     driver_by (TheCheck u) y asked timely few honest = check_late u y asked timely.1
     driver_by (TheSparing u) y asked timely few honest = sparing_late u y asked timely few honest
@@ -491,13 +491,13 @@ module _ (g : Setting) (j : IsLegal g.script) (k : Option ℕ) where
       at_beside fits hides (Some (TheCheck u)) y = idle_beside hides y
       at_beside fits hides (Some (TheSparing u)) y = sparing_still v x.told a r o u.operation y
 
-  pub sends_well : (x z : SideState) (e : Entry) → HasBucket x.seen.scene.content v.dest.bucket → Sends g k x e z → Well g x → Well g z
-  sends_well x _ _ there (driver_sends _ op n r o d asked timely few honest) h = by h.0
+  pub sends_well : (x z : SideState) (e : Entry) → x.told.cleans_at ≡ k.clean → HasBucket x.seen.scene.content v.dest.bucket → Sends g k x e z → Well g x → Well g z
+  sends_well x _ _ at there (driver_sends _ op n r o d asked timely few honest) h = by h.0
     where
       by : Good g x → Well g (driver_saw g k x op n r o)
-      by (inl e) = let y = driver_early x there e op d n r o asked timely honest in (inl y, λ just none. y)
-      by (inr l) = let y = subst (λ q. At g q x.seen x.told) d l.driver in (inr (driver_by x l n r o op y asked timely few honest), λ just none. absurd (driver_on x l n r o op y asked just))
-  sends_well x _ _ there (attempt_sends _ a op n r o set at asked honest) h = (inr (attempt_late x (late g j x h.0 set) a op at n r o asked honest), moved g j x (attempt_saw g k x a op n r o) a (tells g a op o) refl)
+      by (inl e) = let y = driver_early x at there e op d n r o asked timely honest in (inl y, λ just none. y)
+      by (inr l) = let y = subst (λ q. At g q x.seen x.told) d l.driver in (inr (driver_by x at l n r o op y asked timely few honest), λ just none. absurd (driver_on x at l n r o op y asked just))
+  sends_well x _ _ at there (attempt_sends _ a op n r o set is asked honest) h = (inr (attempt_late x (late g j x h.0 set) a op is n r o asked honest), moved g j x (attempt_saw g k x a op n r o) a (tells g a op o) refl)
 
   -- ---- the other side's entry
 

@@ -1,6 +1,6 @@
 -- What one entry of a side leaves: of its picks, of what stands where files are shown, and of the marker.
 use Rattle.std.proofs.Common.{◌≡◌, ℕ, ◌≤◌, ◌^◌, ◌⊎◌, inl, inr, ◌||◌, Bool, true, false, cond, List, Option, Some, None, refl, sym, ap, subst, ◌∙◌}
-use Rattle.job_facts.specs.Prelude.{Content, Scene, answer, apply, effect, is_effective, IsHonestOutcome, Object, Driver, Request, PutObject, Mode, Replace, Append, Fail, Committer, Magic, Directory, Partitioned, Outcome, Answered, Slow, RequestLost, ReplyLost, Entry, below, success_key, Retried, setup_asks, Script, IsLegal, keeps, partitions, wanted_at, wanted_paths, is_decided, mark_text, is_file_path, Sets, picks_of, Commit, Fetching, Replacing, Marking, commit_asks, commit_tells, Setting, TheSetup, TheCommit, who, is_driver, Seen, see, is_begun, is_marking, IsIn, changed_keys, driver_entry, at_key, whole_of, Decides, FileStands, Wants, Commits}
+use Rattle.job_facts.specs.Prelude.{Content, Scene, answer, apply, effect, is_effective, IsHonestOutcome, Object, Driver, Request, PutObject, Mode, Replace, Append, Fail, Committer, Magic, Directory, Partitioned, Outcome, Answered, Slow, RequestLost, ReplyLost, Entry, below, success_key, Retried, setup_asks, Script, IsLegal, keeps, partitions, wanted_at, wanted_paths, is_decided, mark_text, is_file_path, Sets, picks_of, Commit, Fetching, Replacing, Marking, commit_asks, commit_tells, Setting, TheSetup, TheCommit, who, is_driver, Seen, see, is_begun, is_marking, IsIn, changed_keys, driver_entry, at_key, whole_of, Decides, FileStands, Wants, Commits, Times}
 use Rattle.job_protocol.specs.Prelude.{Path}
 use Rattle.job_spec.proofs.Common.{some_is, none_some, false_true, true_or_false, text_true}
 use Rattle.job_protocol.specs.View.{object_at}
@@ -67,7 +67,7 @@ keeps_all Directory Fail dirs q e = refl
 keeps_all Partitioned Append dirs q e = refl
 keeps_all Partitioned Fail dirs q e = refl
 
-driver_begun : (w : Script) (k : Option ℕ) (s : Seen) (n : ℕ) (r : Request) (o : Outcome) → (see w k s (driver_entry n r o)).begun ≡ (s.begun || is_begun k n)
+driver_begun : (w : Script) (k : Times) (s : Seen) (n : ℕ) (r : Request) (o : Outcome) → (see w k s (driver_entry n r o)).begun ≡ (s.begun || is_begun k.commit n)
 driver_begun w k s n r (Answered y) = refl
 driver_begun w k s n r _ = refl
 
@@ -75,7 +75,7 @@ or_first : (a b : Bool) → (a || b) ≡ false → a ≡ false
 or_first true b e = absurd (false_true e refl)
 or_first false b e = refl
 
-module _ (g : Setting) (j : IsLegal g.script) (k : Option ℕ) (keep : is_replace g.script.mode ≡ false) where
+module _ (g : Setting) (j : IsLegal g.script) (k : Times) (keep : is_replace g.script.mode ≡ false) where
   abbrev w : Script
   w = g.script
 
@@ -87,7 +87,7 @@ module _ (g : Setting) (j : IsLegal g.script) (k : Option ℕ) (keep : is_replac
       let mark = ap (λ (s : Seen). s.put_mark) is ∙ plain_mark w k x.seen n r p o in
       record {
         picks = inl picks;
-        unbegun = λ e. (or_first x.seen.begun (is_begun k n) (sym (ap (λ (s : Seen). s.begun) is ∙ driver_begun w k x.seen n r o) ∙ e), picks);
+        unbegun = λ e. (or_first x.seen.begun (is_begun k.commit n) (sym (ap (λ (s : Seen). s.begun) is ∙ driver_begun w k x.seen n r o) ∙ e), picks);
         shows = λ q path. inl (same q path);
         put_still = λ e. (mark ∙ e, same);
         put_now = λ e f. absurd (false_true e (sym mark ∙ f));
@@ -106,7 +106,7 @@ module _ (g : Setting) (j : IsLegal g.script) (k : Option ℕ) (keep : is_replac
 
   -- ---- an entry of the commit
 
-  module _ (x : SideState) (l : Late g x) (c : Commit) (is : x.driver ≡ Some (Alone (TheCommit c))) (n : ℕ) (r : Request) (o : Outcome) (asked : commit_asks w c ≡ Some r) (begun : is_begun k n ≡ true) (unclean : is_begun x.told.cleans_at n ≡ false) (few : x.seen.scene.content.next ≤ 2 ^ 64)
+  module _ (x : SideState) (l : Late g x) (c : Commit) (is : x.driver ≡ Some (Alone (TheCommit c))) (n : ℕ) (r : Request) (o : Outcome) (asked : commit_asks w c ≡ Some r) (begun : is_begun k.commit n ≡ true) (unclean : is_begun k.clean n ≡ false) (cleans : x.told.cleans_at ≡ k.clean) (few : x.seen.scene.content.next ≤ 2 ^ 64)
       (honest : IsHonestOutcome o (answer x.seen.scene r)) where
     abbrev s : Seen
     s = x.seen
@@ -141,7 +141,7 @@ module _ (g : Setting) (j : IsLegal g.script) (k : Option ℕ) (keep : is_replac
         by _ v z = absurd (false_true refl z)
 
     picks_now : is_fetching w c ≡ false → u.picks ≡ s.picks
-    picks_now y = picks_same g j k s x.told n begun unclean few l.hold c i r asked y o
+    picks_now y = picks_same g j k s x.told n begun unclean cleans few l.hold c i r asked y o
 
     shows_now : (q : List ℕ) → is_file_path q ≡ true → (after q ≡ before q) ⊎ ((b : List ℕ) × (count g x q ≡ Some b) × ((after q ≡ Some (whole_of b)) ⊎ (after q ≡ None)))
     shows_now q path = elim (commit_shows_by g j s x.told c all at.agrees q path (under c refl) r asked o) [
@@ -201,7 +201,7 @@ module _ (g : Setting) (j : IsLegal g.script) (k : Option ℕ) (keep : is_replac
           by ReplyLost t f = (subst (λ y. (see w k s (driver_entry n r y)).put_mark ≡ true) f (put marking s.put_mark), (record { bytes = mark_text w (picks_of sets); header = None }, subst (λ y. mark_at w.dest (effect s.scene r y).content ≡ Some (record { bytes = mark_text w (picks_of sets); header = None })) f there, text))
 
     unmarked_by : is_mark_stage w c ≡ false → u.put_mark ≡ s.put_mark
-    unmarked_by y = mark_same g j k s x.told n begun unclean few l.hold c i r asked y o
+    unmarked_by y = mark_same g j k s x.told n begun unclean cleans few l.hold c i r asked y o
 
     -- the stage, where the marker was put
     stage : (d : Commit) → d ≡ c → (is_mark_stage w d ≡ false) ⊎ ((sets : Sets) × (m : ℕ) × (Marking sets m ≡ c))
@@ -209,7 +209,7 @@ module _ (g : Setting) (j : IsLegal g.script) (k : Option ℕ) (keep : is_replac
     stage _ v = inl refl
 
     put_early : is_mark_stage w c ≡ false → s.put_mark ≡ false
-    put_early y = put_before g j k s x.told n begun unclean few l.hold c i r asked c y asked i.unmarked
+    put_early y = put_before g j k s x.told n begun unclean cleans few l.hold c i r asked c y asked i.unmarked
 
     still_put : s.put_mark ≡ true → u.put_mark ≡ true
     still_put e = by o refl
@@ -234,7 +234,7 @@ module _ (g : Setting) (j : IsLegal g.script) (k : Option ℕ) (keep : is_replac
       file_next =
           let y = stood c refl in
           files_go g j s x.told c all few q b first x.commit y.0 y.1 r asked n o honest
-          (wants_of g s.scene.content u.picks q b wants (commit_tells w c o) (committing_next g j k s x.told n begun unclean few l.hold c i r asked o honest).alone.agrees)
+          (wants_of g s.scene.content u.picks q b wants (commit_tells w c o) (committing_next g j k s x.told n begun unclean cleans few l.hold c i r asked o honest).alone.agrees)
 
     commit_is : {a b : Commit} → Some (Alone (TheCommit a)) ≡ Some (Alone (TheCommit b)) → a ≡ b
     commit_is e = cc
@@ -254,7 +254,7 @@ module _ (g : Setting) (j : IsLegal g.script) (k : Option ℕ) (keep : is_replac
       ];
       files = λ v d q b first path wants undone old. subst (FileAt g next q b first (after q)) (commit_is d) (file_next q b first path wants undone old);
       marks = λ a b t. elim (stage c refl) [
-        | inl y ↦ absurd (false_true ((kind g j k s x.told n begun unclean few l.hold c i r asked).0 y) b)
+        | inl y ↦ absurd (false_true ((kind g j k s x.told n begun unclean cleans few l.hold c i r asked).0 y) b)
         | inr y ↦ mark_put y.0 y.1 y.2 t
       ];
     }
@@ -277,26 +277,26 @@ module _ (g : Setting) (j : IsLegal g.script) (k : Option ℕ) (keep : is_replac
       no_commit : {a : Retried Sparing} {b : Commit} → Some (TheSparing a) ≡ Some (Alone (TheCommit b)) → ⊥
       no_commit e = absurd cc
 
-  driver_leaves : (x : SideState) → Late g x → (op : SharedOperation) → x.driver ≡ Some op → At g (Some op) x.seen x.told → (n : ℕ) (r : Request) (o : Outcome) → shared_asks g (who Driver) nothing_learnt op ≡ Some r → IsInTime k x.told.cleans_at n op → x.seen.scene.content.next ≤ 2 ^ 64 → IsHonestOutcome o (answer x.seen.scene r)
+  driver_leaves : (x : SideState) → x.told.cleans_at ≡ k.clean → Late g x → (op : SharedOperation) → x.driver ≡ Some op → At g (Some op) x.seen x.told → (n : ℕ) (r : Request) (o : Outcome) → shared_asks g (who Driver) nothing_learnt op ≡ Some r → IsInTime k n op → x.seen.scene.content.next ≤ 2 ^ 64 → IsHonestOutcome o (answer x.seen.scene r)
       → Leaves g x (driver_saw g k x op n r o) (driver_entry n r o)
-  driver_leaves x l (Alone (TheSetup u)) d y n r o asked timely few honest = absurd (none_some (ap (setup_asks w) y.0) asked)
-  driver_leaves x l (Alone (TheCommit c)) d y n r o asked timely few honest = commit_leaves x l c d n r o asked timely.0 timely.1 few honest
-  driver_leaves x l (Alone _) d y n r o asked timely few honest = absurd y
-  driver_leaves x l (TheCheck u) d y n r o asked timely few honest =
+  driver_leaves x cleans l (Alone (TheSetup u)) d y n r o asked timely few honest = absurd (none_some (ap (setup_asks w) y.0) asked)
+  driver_leaves x cleans l (Alone (TheCommit c)) d y n r o asked timely few honest = commit_leaves x l c d n r o asked timely.0 timely.1 cleans few honest
+  driver_leaves x cleans l (Alone _) d y n r o asked timely few honest = absurd y
+  driver_leaves x cleans l (TheCheck u) d y n r o asked timely few honest =
       plain_leaves x (driver_saw g k x (TheCheck u) n r o) n r o (check_plain w u.operation r asked) (λ q path. ap (λ (s : Scene). obj w.dest s.content q) (check_shows g j x.seen u.operation r asked o)) y.unpicked refl
-  driver_leaves x l (TheSparing u) d y n r o asked timely few honest = sparing_leaves x l u y n r o asked
+  driver_leaves x cleans l (TheSparing u) d y n r o asked timely few honest = sparing_leaves x l u y n r o asked
 
-  pub sends_leaves : (x z : SideState) (e : Entry) → Sends g k x e z → Well g x → Leaves g x z e
-  sends_leaves x _ _ (driver_sends _ op n r o d asked timely few honest) h = by h.0
+  pub sends_leaves : (x z : SideState) (e : Entry) → x.told.cleans_at ≡ k.clean → Sends g k x e z → Well g x → Leaves g x z e
+  sends_leaves x _ _ cleans (driver_sends _ op n r o d asked timely few honest) h = by h.0
     where
       by : Good g x → Leaves g x (driver_saw g k x op n r o) (driver_entry n r o)
-      by (inr l) = driver_leaves x l op d (subst (λ q. At g q x.seen x.told) d l.driver) n r o asked timely few honest
+      by (inr l) = driver_leaves x cleans l op d (subst (λ q. At g q x.seen x.told) d l.driver) n r o asked timely few honest
       by (inl e) =
           let y = early_setup g j k x e op d in
           let a : setup_asks w (y.0).operation ≡ Some r = ap (shared_asks g (who Driver) nothing_learnt) y.1 ∙ asked in
           subst (λ q. Leaves g x (driver_saw g k x q n r o) (driver_entry n r o)) y.1
           (plain_leaves x (driver_saw g k x (Alone (TheSetup y.0)) n r o) n r o (setup_plain w (y.0).operation r a) (λ q path. setup_shows g j x.seen r ((y.0).operation, y.2, a) o q path) e.unpicked refl)
-  sends_leaves x _ _ (attempt_sends _ a op n r o set at asked honest) h =
+  sends_leaves x _ _ cleans (attempt_sends _ a op n r o set at asked honest) h =
       let l = late g j x h.0 set in
       let f = l.fine a op at in
       let own = operation_own g j x.told a f.0 op f.1 r asked in

@@ -1,6 +1,6 @@
 -- All runs of two jobs at one destination.
 use Rattle.std.proofs.Common.{◌≡◌, ℕ, zero, suc, ◌+◌, ◌<◌, ◌≤◌, ◌⊎◌, inl, inr, ◌&&◌, ◌||◌, Bool, true, false, cond, List, [], ◌∷◌, ◌++◌, map, take, length, Option, Some, refl, sym, ap, subst, ◌∙◌, arith, length-append}
-use Rattle.job_facts.specs.Prelude.{list_any, text_eq, Content, Scene, Upload, bucket_of, effect, is_effective, Request, Entry, success_key, Who, Script, Setting, is_driver, is_marking, IsIn, changed_keys, at_id}
+use Rattle.job_facts.specs.Prelude.{list_any, text_eq, Content, Scene, Upload, bucket_of, effect, is_effective, Request, Entry, success_key, Who, Script, Setting, is_driver, is_marking, IsIn, changed_keys, at_id, Times}
 use Rattle.job_spec.proofs.Common.{and_parts, take-append-le, take_all, false_true, text_true}
 use Rattle.job_protocol.specs.Prelude.{Path}
 use Rattle.job_spec.specs.Scope.{upload_at}
@@ -54,13 +54,18 @@ other_marks w side other differ m e h = by (is_effective e.outcome && touches_ma
     by true t h = absurd (false_true differ (and_parts (is_side side other) _ h).0)
     by false t h = (h, λ took at. false_true t (both took (touched w e.request at)))
 
+-- a side keeps the event of its first abort or clean
+sends_event : (g : Setting) (k : Times) (x z : SideState) (e : Entry) → Sends g k x e z → z.told.cleans_at ≡ x.told.cleans_at
+sends_event g k x _ _ (driver_sends _ op n r o d asked timely few honest) = refl
+sends_event g k x _ _ (attempt_sends _ a op n r o set at asked honest) = refl
+
 -- ---- what holds of both
 
 pub record All (g h : Setting) (opening : Content) (es : List TwinEntry) (x y : SideState) : Type 0 where
   pub pair : Pair g h x y
   pub views : Views g h g.script.dest opening x.seen.scene.content x y (is_marked_by g.script First false es) (is_marked_by h.script Second false es)
 
-module _ (g h : Setting) (m : MayBeTwins g.script h.script) (k l : Option ℕ) (opening : Content) (is : IsTwinOpening g h opening) where
+module _ (g h : Setting) (m : MayBeTwins g.script h.script) (k l : Times) (opening : Content) (is : IsTwinOpening g h opening) where
   early : (f : Setting) (c : Option ℕ) → opening.minimum ≡ f.minimum → ((id : ℕ) (z : Upload) → at_id f.script opening id ≡ Some z → id < opening.next) → Early f (first_state opening c)
   early f c least fresh = record {
     told = refl;
@@ -74,17 +79,17 @@ module _ (g h : Setting) (m : MayBeTwins g.script h.script) (k l : Option ℕ) (
     setup = inl refl;
   }
 
-  first_early : (c : Option ℕ) → Early g (first_state opening c)
-  first_early c = early g c is.first is.fresh
+  first_early : Early g (first_state opening k.clean)
+  first_early = early g k.clean is.first is.fresh
 
-  second_early : (c : Option ℕ) → Early h (first_state opening c)
-  second_early c = early h c is.second (subst (λ (d : Path). (id : ℕ) (z : Upload) → upload_at opening d.bucket id ≡ Some z → id < opening.next) m.twins.dest is.fresh)
+  second_early : Early h (first_state opening l.clean)
+  second_early = early h l.clean is.second (subst (λ (d : Path). (id : ℕ) (z : Upload) → upload_at opening d.bucket id ≡ Some z → id < opening.next) m.twins.dest is.fresh)
 
-  all_begin : (c d : Option ℕ) → All g h opening [] (first_state opening c) (first_state opening d)
-  all_begin c d = record {
+  all_begin : All g h opening [] (first_state opening k.clean) (first_state opening l.clean)
+  all_begin = record {
     pair = record {
-      first = (inl (first_early c), λ just none. first_early c);
-      second = (inl (second_early d), λ just none. second_early d);
+      first = (inl first_early, λ just none. first_early);
+      second = (inl second_early, λ just none. second_early);
       scenes = refl;
       there = is.there;
       low_first = λ id e. absurd (false_true refl e);
@@ -137,40 +142,47 @@ module _ (g h : Setting) (m : MayBeTwins g.script h.script) (k l : Option ℕ) (
     views = back y.seen.scene (one es) (two es) a.pair.scenes (begins_views h g m.second h.script.dest opening y.seen.scene.content y x (two es) (one es) reported b may a.pair.second (flipped (one es) (two es) a.pair a.views));
   }
 
-  first_send_so : (es : List TwinEntry) (x y z : SideState) (e : Entry) → All g h opening es x y → Sends g k x e z → All g h opening (es ++ by_first e ∷ []) z (observed h l y e)
-  first_send_so es x y z e a sends =
+  first_send_so : (es : List TwinEntry) (x y z : SideState) (e : Entry) → x.told.cleans_at ≡ k.clean → All g h opening es x y → Sends g k x e z → All g h opening (es ++ by_first e ∷ []) z (observed h l y e)
+  first_send_so es x y z e cleans a sends =
       let now = snoc_marked g.script First false es (by_first e) in
       let then = snoc_marked h.script Second false es (by_first e) in
       record {
-        pair = paired m k l e sends a.pair;
+        pair = paired m k l e sends cleans a.pair;
         views = subst (λ (s : Scene). Views g h g.script.dest opening s.content z (observed h l y e) (one (es ++ by_first e ∷ [])) (two (es ++ by_first e ∷ []))) (sym (sends_scene g m.first k x z e sends))
-            (entry_views g h m.first opening x y z e (sends_leaves g m.first k m.keeps_first x z e sends a.pair.first) a.pair.there l (one es) (two es) (one (es ++ by_first e ∷ [])) (two (es ++ by_first e ∷ []))
+            (entry_views g h m.first opening x y z e (sends_leaves g m.first k m.keeps_first x z e cleans sends a.pair.first) a.pair.there l (one es) (two es) (one (es ++ by_first e ∷ [])) (two (es ++ by_first e ∷ []))
             (λ t. own_marks g.script First refl (one es) e (sym now ∙ t))
             (λ t. let o = other_marks h.script Second First refl (two es) e (sym then ∙ t) in (o.0, λ took. not_touched e.request (o.1 took)))
             a.views);
       }
 
-  second_send_so : (es : List TwinEntry) (x y z : SideState) (e : Entry) → All g h opening es x y → Sends h l y e z → All g h opening (es ++ by_second e ∷ []) (observed g k x e) z
-  second_send_so es x y z e a sends =
+  second_send_so : (es : List TwinEntry) (x y z : SideState) (e : Entry) → y.told.cleans_at ≡ l.clean → All g h opening es x y → Sends h l y e z → All g h opening (es ++ by_second e ∷ []) (observed g k x e) z
+  second_send_so es x y z e cleans a sends =
       let now = snoc_marked h.script Second false es (by_second e) in
       let then = snoc_marked g.script First false es (by_second e) in
       let turned : MayBeTwins h.script g.script = record { first = m.second; second = m.first; twins = swap_twins m.twins; keeps_first = m.keeps_second; keeps_second = m.keeps_first } in
       let p = swapped m.twins a.pair in
       record {
-        pair = swapped (swap_twins m.twins) (paired turned l k e sends p);
+        pair = swapped (swap_twins m.twins) (paired turned l k e sends cleans p);
         views = back (effect y.seen.scene e.request e.outcome) (one (es ++ by_second e ∷ [])) (two (es ++ by_second e ∷ [])) (ap (λ s. effect s e.request e.outcome) a.pair.scenes)
-            (entry_views h g m.second opening y x z e (sends_leaves h m.second l m.keeps_second y z e sends a.pair.second) p.there k (two es) (one es) (two (es ++ by_second e ∷ [])) (one (es ++ by_second e ∷ []))
+            (entry_views h g m.second opening y x z e (sends_leaves h m.second l m.keeps_second y z e cleans sends a.pair.second) p.there k (two es) (one es) (two (es ++ by_second e ∷ [])) (one (es ++ by_second e ∷ []))
             (λ t. own_marks h.script Second refl (two es) e (sym now ∙ t))
             (λ t. let o = other_marks g.script First Second refl (one es) e (sym then ∙ t) in (o.0, λ took. not_touched_back e.request (o.1 took)))
             (flipped (one es) (two es) a.pair a.views));
       }
 
+  pub cleans_are : (es : List TwinEntry) (x y : SideState) → TwinRun g h k l opening es x y → (x.told.cleans_at ≡ k.clean) × (y.told.cleans_at ≡ l.clean)
+  cleans_are es x y (twins_begin) = (refl, refl)
+  cleans_are es x y (first_begins fs u v reported b run may) = cleans_are fs u v run
+  cleans_are es x y (second_begins fs u v reported b run may) = cleans_are fs u v run
+  cleans_are es x y (first_sends fs u v z e run sends) = let old = cleans_are fs u v run in (sends_event g k u z e sends ∙ old.0, old.1)
+  cleans_are es x y (second_sends fs u v z e run sends) = let old = cleans_are fs u v run in (old.0, sends_event h l v z e sends ∙ old.1)
+
   pub all_so : (es : List TwinEntry) (x y : SideState) → TwinRun g h k l opening es x y → All g h opening es x y
-  all_so es x y (twins_begin c d) = all_begin c d
+  all_so es x y (twins_begin) = all_begin
   all_so es x y (first_begins fs u v reported b run may) = first_begin_so fs u v reported b (all_so fs u v run) may
   all_so es x y (second_begins fs u v reported b run may) = second_begin_so fs u v reported b (all_so fs u v run) may
-  all_so es x y (first_sends fs u v z e run sends) = first_send_so fs u v z e (all_so fs u v run) sends
-  all_so es x y (second_sends fs u v z e run sends) = second_send_so fs u v z e (all_so fs u v run) sends
+  all_so es x y (first_sends fs u v z e run sends) = first_send_so fs u v z e (cleans_are fs u v run).0 (all_so fs u v run) sends
+  all_so es x y (second_sends fs u v z e run sends) = second_send_so fs u v z e (cleans_are fs u v run).1 (all_so fs u v run) sends
 
   pub twins_keep : (es : List TwinEntry) (x y : SideState) → TwinRun g h k l opening es x y → TwinsKeep g h k l opening es x y
   twins_keep es x y run =
@@ -183,8 +195,8 @@ module _ (g h : Setting) (m : MayBeTwins g.script h.script) (k l : Option ℕ) (
         apart = a.pair.apart;
         known_first = a.pair.known_first;
         known_second = a.pair.known_second;
-        strange_first = λ e z sends. strange m k l e sends a.pair;
-        strange_second = λ e z sends. strange turned l k e sends (swapped m.twins a.pair);
+        strange_first = λ e z sends. strange m k l e sends (cleans_are es x y run).0 a.pair;
+        strange_second = λ e z sends. strange turned l k e sends (cleans_are es x y run).1 (swapped m.twins a.pair);
         one_scene = a.pair.scenes;
         shows = record { only = views_only a.views; kept = views_kept a.views };
         marked_first = λ t. let v = views_marked a.views m.first t in record { picked = v.0; apart = v.1; files = v.2; mark = v.3 };
@@ -193,20 +205,15 @@ module _ (g h : Setting) (m : MayBeTwins g.script h.script) (k l : Option ℕ) (
 
 -- ---- moments
 
--- a side keeps the event of its first abort or clean
-pub sends_event : (g : Setting) (k : Option ℕ) (x z : SideState) (e : Entry) → Sends g k x e z → z.told.cleans_at ≡ x.told.cleans_at
-sends_event g k x _ _ (driver_sends _ op n r o d asked timely few honest) = refl
-sends_event g k x _ _ (attempt_sends _ a op n r o set at asked honest) = refl
+module _ (g h : Setting) (k l : Times) (opening : Content) where
+  -- a run comes so far
+  abbrev Reached : List TwinEntry → Type 0
+  Reached es = (u v : SideState) × TwinRun g h k l opening es u v
 
-module _ (g h : Setting) (k l : Option ℕ) (opening : Content) where
-  -- a run comes so far, with the events of these
-  abbrev Reached : List TwinEntry → SideState → SideState → Type 0
-  Reached es x y = (u v : SideState) × TwinRun g h k l opening es u v × (u.told.cleans_at ≡ x.told.cleans_at) × (v.told.cleans_at ≡ y.told.cleans_at)
-
-  with_one : (es : List TwinEntry) (e : TwinEntry) (m : ℕ) (x y : SideState) → m ≤ length (es ++ e ∷ []) → (m ≤ length es → Reached (take m es) x y) → TwinRun g h k l opening (es ++ e ∷ []) x y → Reached (take m (es ++ e ∷ [])) x y
+  with_one : (es : List TwinEntry) (e : TwinEntry) (m : ℕ) (x y : SideState) → m ≤ length (es ++ e ∷ []) → (m ≤ length es → Reached (take m es)) → TwinRun g h k l opening (es ++ e ∷ []) x y → Reached (take m (es ++ e ∷ []))
   with_one es e m x y few before run = elim (at_most m (length es)) [
-    | inl low ↦ subst (λ fs. Reached fs x y) (sym (take-append-le m es (e ∷ []) low)) (before low)
-    | inr high ↦ subst (λ fs. Reached fs x y) (sym (take_all m (es ++ e ∷ []) (let n : length (es ++ e ∷ []) ≡ length es + 1 = length-append es (e ∷ []) in omega arith))) (x, y, run, refl, refl)
+    | inl low ↦ subst Reached (sym (take-append-le m es (e ∷ []) low)) (before low)
+    | inr high ↦ subst Reached (sym (take_all m (es ++ e ∷ []) (let n : length (es ++ e ∷ []) ≡ length es + 1 = length-append es (e ∷ []) in omega arith))) (x, y, run)
   ]
     where
       at_most : (a b : ℕ) → (a ≤ b) ⊎ (b < a)
@@ -214,24 +221,24 @@ module _ (g h : Setting) (k l : Option ℕ) (opening : Content) where
       at_most (suc a) zero = inr (omega arith)
       at_most (suc a) (suc b) = elim (at_most a b) [ inl x ↦ inl (omega arith) | inr x ↦ inr (omega arith) ]
 
-  pub moments : (es : List TwinEntry) (x y : SideState) → TwinRun g h k l opening es x y → (m : ℕ) → m ≤ length es → Reached (take m es) x y
-  moments es x y (twins_begin c d) m few = (x, y, subst (λ fs. TwinRun g h k l opening fs x y) (sym (take_all m [] (omega arith))) (twins_begin c d), refl, refl)
+  pub moments : (es : List TwinEntry) (x y : SideState) → TwinRun g h k l opening es x y → (m : ℕ) → m ≤ length es → Reached (take m es)
+  moments es x y (twins_begin) m few = (x, y, subst (λ fs. TwinRun g h k l opening fs x y) (sym (take_all m [] (omega arith))) (twins_begin))
   moments es x y (first_begins fs u v reported b run may) m few = moments fs u v run m few
   moments es x y (second_begins fs u v reported b run may) m few = moments fs u v run m few
   moments es x y (first_sends fs u v z e run sends) m few =
-      with_one fs (record { side = First; entry = e }) m z (observed h l v e) few (λ low. let r = moments fs u v run m low in (r.0, r.1, r.2, r.3 ∙ sym (sends_event g k u z e sends), r.4)) (first_sends fs u v z e run sends)
+      with_one fs (record { side = First; entry = e }) m z (observed h l v e) few (moments fs u v run m) (first_sends fs u v z e run sends)
   moments es x y (second_sends fs u v z e run sends) m few =
-      with_one fs (record { side = Second; entry = e }) m (observed g k u e) z few (λ low. let r = moments fs u v run m low in (r.0, r.1, r.2, r.3, r.4 ∙ sym (sends_event h l v z e sends))) (second_sends fs u v z e run sends)
+      with_one fs (record { side = Second; entry = e }) m (observed g k u e) z few (moments fs u v run m) (second_sends fs u v z e run sends)
 
 -- ---- which side is the first
 
-module _ (g h : Setting) (k l : Option ℕ) (opening : Content) where
+module _ (g h : Setting) (k l : Times) (opening : Content) where
   turned_one : (es : List TwinEntry) (e : TwinEntry) → map turned_entry (es ++ e ∷ []) ≡ map turned_entry es ++ turned_entry e ∷ []
   turned_one [] e = refl
   turned_one (x ∷ es) e = ap (λ l. turned_entry x ∷ l) (turned_one es e)
 
   pub turned : (es : List TwinEntry) (x y : SideState) → TwinRun g h k l opening es x y → TwinRun h g l k opening (map turned_entry es) y x
-  turned es x y (twins_begin c d) = twins_begin d c
+  turned es x y (twins_begin) = twins_begin
   turned es x y (first_begins fs u v reported b run may) = second_begins (map turned_entry fs) v u reported b (turned fs u v run) may
   turned es x y (second_begins fs u v reported b run may) = first_begins (map turned_entry fs) v u reported b (turned fs u v run) may
   turned es x y (first_sends fs u v z e run sends) = subst (λ q. TwinRun h g l k opening q (observed h l v e) z) (sym (turned_one fs (record { side = First; entry = e }))) (second_sends (map turned_entry fs) v u z e (turned fs u v run) sends)

@@ -1,6 +1,6 @@
 -- What readers of a destination of two jobs are shown is kept by each step of either.
 use Rattle.std.proofs.Common.{◌≡◌, ℕ, ◌⊎◌, inl, inr, not, Bool, true, false, cond, List, Option, Some, None, refl, sym, ap, subst, ◌∙◌}
-use Rattle.job_facts.specs.Prelude.{option_map, Content, Scene, bucket_of, effect, is_effective, Object, Request, Outcome, Answered, Slow, RequestLost, ReplyLost, Entry, success_key, Who, Script, IsLegal, Picks, wanted_at, is_decided, is_picked, is_clash, mark_text, is_file_path, view, Commit, Marking, Setting, TheCommit, is_driver, is_marking, IsIn, HasBucket, changed_keys, whole_of}
+use Rattle.job_facts.specs.Prelude.{option_map, Content, Scene, bucket_of, effect, is_effective, Object, Request, Outcome, Answered, Slow, RequestLost, ReplyLost, Entry, success_key, Who, Script, IsLegal, Picks, wanted_at, is_decided, is_picked, is_clash, mark_text, is_file_path, view, Commit, Marking, Setting, TheCommit, is_driver, is_marking, IsIn, HasBucket, changed_keys, whole_of, Times}
 use Rattle.job_spec.proofs.Common.{and_parts, not-true, some_is, none_some, none_or_some, false_true, true_or_false, same_or_other}
 use Rattle.job_protocol.specs.Prelude.{Path}
 use Rattle.job_traces.specs.Runs.{Beginning, BeginSetup, BeginCommit, BeginClean}
@@ -151,7 +151,7 @@ module _ (g h : Setting) (j : IsLegal g.script) (opening : Content) (x y z : Sid
 
   -- ---- and the other's, which sent nothing
 
-  other_now : (marked now : Bool) → (now ≡ true → (marked ≡ true) × ((is_effective e.outcome ≡ true) → Touches d e.request → ⊥)) → (k : Option ℕ) → SideViews h d opening s.content y (count g x) marked → SideViews h d opening u.content (observed h k y e) (count g z) now
+  other_now : (marked now : Bool) → (now ≡ true → (marked ≡ true) × ((is_effective e.outcome ≡ true) → Touches d e.request → ⊥)) → (k : Times) → SideViews h d opening s.content y (count g x) marked → SideViews h d opening u.content (observed h k y e) (count g z) now
   other_now marked now said k v = record {
     unpicked = v.unpicked;
     stood = λ put. let old = v.stood put in (old.0, λ q b path c none. left_alone q path none ∙ old.1 q b path c (not_counted q none));
@@ -180,7 +180,7 @@ begins_views g h j d opening c x y first second reported b may well v = record {
 
 -- ---- one entry
 
-pub entry_views : (g h : Setting) → IsLegal g.script → (opening : Content) (x y z : SideState) (e : Entry) → Leaves g x z e → HasBucket x.seen.scene.content g.script.dest.bucket → (k : Option ℕ) (first second now then : Bool)
+pub entry_views : (g h : Setting) → IsLegal g.script → (opening : Content) (x y z : SideState) (e : Entry) → Leaves g x z e → HasBucket x.seen.scene.content g.script.dest.bucket → (k : Times) (first second now then : Bool)
     → (now ≡ true → ((is_effective e.outcome ≡ true) × (is_driver e.actor ≡ true) × (is_marking g.script e.request ≡ true)) ⊎ ((first ≡ true) × ((is_effective e.outcome ≡ true) → Touches g.script.dest e.request → ⊥)))
     → (then ≡ true → (second ≡ true) × ((is_effective e.outcome ≡ true) → Touches g.script.dest e.request → ⊥))
     → Views g h g.script.dest opening x.seen.scene.content x y first second → Views g h g.script.dest opening (effect x.seen.scene e.request e.outcome).content z (observed h k y e) now then

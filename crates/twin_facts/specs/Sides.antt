@@ -1,6 +1,6 @@
 -- Runs of two jobs at one destination, request by request, in any order of their actors. An operation may also stop at any time.
 use Rattle.std.specs.Prelude.{◌≡◌, ℕ, ◌<◌, ◌≤◌, ◌^◌, ◌⊎◌, ◌||◌, ◌&&◌, nat_le, nat_lt, Bool, true, false, List, [], ◌∷◌, ◌++◌, Option, Some, None}
-use Rattle.job_facts.specs.Prelude.{Content, Scene, Upload, answer, effect, IsHonestOutcome, Driver, Request, Outcome, Entry, fresh, HasBucket, Who, setup_start, write_start, task_commit_start, task_abort_start, Setting, Operation, TheSetup, TheWrite, TheTaskCommit, TheTaskAbort, who, asks, tells, Seen, see, is_begun, nothing_seen, Told, known, put_who, nothing_told, tell, entry, driver_entry, strange_entry, at_id, IsAttempt}
+use Rattle.job_facts.specs.Prelude.{Content, Scene, Upload, answer, effect, IsHonestOutcome, Driver, Request, Outcome, Entry, fresh, HasBucket, Who, setup_start, write_start, task_commit_start, task_abort_start, Setting, Operation, TheSetup, TheWrite, TheTaskCommit, TheTaskAbort, who, asks, tells, Seen, see, is_begun, nothing_seen, Told, known, put_who, nothing_told, tell, entry, driver_entry, strange_entry, at_id, IsAttempt, Times}
 use Rattle.job_traces.specs.Runs.{Beginning, BeginSetup, BeginCommit, BeginClean, BeginWrite, BeginPublish, BeginAbort, WriteIsDone, commit_with, nothing_learnt}
 use Rattle.job_traces.specs.Runs as runs
 use Rattle.twin_facts.specs.Names.{Ids}
@@ -74,10 +74,10 @@ MayBegin g x (BeginAbort a) = (is_set x.driver ≡ true) × IsAttempt g.script a
 -- ---- what is sent
 
 -- The entries of an abort or clean are of the event of the first one or of later ones, and the others of events before that; of these a set-up's are of events before the commit's, and a check's and the commit's of that or of later ones.
-abbrev pub IsInTime : Option ℕ → Option ℕ → ℕ → SharedOperation → Type 0
-IsInTime k c n (TheSparing t) = is_begun c n ≡ true
-IsInTime k c n (Alone (TheSetup t)) = (is_begun k n ≡ false) × (is_begun c n ≡ false)
-IsInTime k c n _ = (is_begun k n ≡ true) × (is_begun c n ≡ false)
+abbrev pub IsInTime : Times → ℕ → SharedOperation → Type 0
+IsInTime k n (TheSparing t) = is_begun k.clean n ≡ true
+IsInTime k n (Alone (TheSetup t)) = (is_begun k.commit n ≡ false) × (is_begun k.clean n ≡ false)
+IsInTime k n _ = (is_begun k.commit n ≡ true) × (is_begun k.clean n ≡ false)
 
 -- the ids that a sending drew
 abbrev pub drawn_by : Scene → Request → Outcome → Ids
@@ -87,7 +87,7 @@ abbrev pub drew_more : SideState → Request → Outcome → Ids
 drew_more x r o id = x.drew id || drawn_by x.seen.scene r o id
 
 -- no read of an abort or clean counts as the commit's: its entries are seen as a stranger's are
-abbrev pub sees : Setting → Option ℕ → Seen → SharedOperation → ℕ → Request → Outcome → Seen
+abbrev pub sees : Setting → Times → Seen → SharedOperation → ℕ → Request → Outcome → Seen
 sees g k s (TheSparing t) n r o = see g.script k s (strange_entry n r o)
 sees g k s _ n r o = see g.script k s (driver_entry n r o)
 
@@ -97,7 +97,7 @@ sent_with (Alone op) es e = commit_with op es e
 sent_with _ es e = es
 
 -- after an entry of the driver, which is at this
-abbrev pub driver_saw : Setting → Option ℕ → SideState → SharedOperation → ℕ → Request → Outcome → SideState
+abbrev pub driver_saw : Setting → Times → SideState → SharedOperation → ℕ → Request → Outcome → SideState
 driver_saw g k x op n r o = record {
   seen = sees g k x.seen op n r o;
   told = tell g.script x.told (driver_entry n r o);
@@ -108,7 +108,7 @@ driver_saw g k x op n r o = record {
 }
 
 -- after one of an attempt
-abbrev pub attempt_saw : Setting → Option ℕ → SideState → Who → Operation → ℕ → Request → Outcome → SideState
+abbrev pub attempt_saw : Setting → Times → SideState → Who → Operation → ℕ → Request → Outcome → SideState
 attempt_saw g k x a op n r o = record {
   seen = see g.script k x.seen (entry a n r o);
   told = tell g.script x.told (entry a n r o);
@@ -119,12 +119,12 @@ attempt_saw g k x a op n r o = record {
 }
 
 -- after one of the other side, which is a stranger's
-abbrev pub observed : Setting → Option ℕ → SideState → Entry → SideState
+abbrev pub observed : Setting → Times → SideState → Entry → SideState
 observed g k x e = record { seen = see g.script k x.seen (strange_entry e.event e.request e.outcome); told = x.told; drew = x.drew; attempts = x.attempts; driver = x.driver; commit = x.commit }
 
--- an actor of the side sends what its operation asks, and hears an outcome; the commit is event k if it is any
-pub data Sends (g : Setting) (k : Option ℕ) : SideState → Entry → SideState → Type 0 where
-  driver_sends : (x : SideState) (op : SharedOperation) (n : ℕ) (r : Request) (o : Outcome) → x.driver ≡ Some op → shared_asks g (who Driver) nothing_learnt op ≡ Some r → IsInTime k x.told.cleans_at n op → x.seen.scene.content.next ≤ 2 ^ 64 → IsHonestOutcome o (answer x.seen.scene r)
+-- an actor of the side sends what its operation asks, and hears an outcome
+pub data Sends (g : Setting) (k : Times) : SideState → Entry → SideState → Type 0 where
+  driver_sends : (x : SideState) (op : SharedOperation) (n : ℕ) (r : Request) (o : Outcome) → x.driver ≡ Some op → shared_asks g (who Driver) nothing_learnt op ≡ Some r → IsInTime k n op → x.seen.scene.content.next ≤ 2 ^ 64 → IsHonestOutcome o (answer x.seen.scene r)
       → Sends g k x (driver_entry n r o) (driver_saw g k x op n r o)
   attempt_sends : (x : SideState) (a : Who) (op : Operation) (n : ℕ) (r : Request) (o : Outcome) → is_set x.driver ≡ true → x.attempts a ≡ Some op → asks g a (known x.told a) op ≡ Some r → IsHonestOutcome o (answer x.seen.scene r)
       → Sends g k x (entry a n r o) (attempt_saw g k x a op n r o)
@@ -140,9 +140,9 @@ pub record TwinEntry : Type 0 where
   pub side : Side
   pub entry : Entry
 
--- A run of two jobs over this content, whose commits are events k and l, if they are any: its entries so far, and where both stand.
-pub data TwinRun (g h : Setting) (k l : Option ℕ) (opening : Content) : List TwinEntry → SideState → SideState → Type 0 where
-  twins_begin : (c d : Option ℕ) → TwinRun g h k l opening [] (first_state opening c) (first_state opening d)
+-- A run of two jobs over this content, with these times of each: its entries so far, and where both stand.
+pub data TwinRun (g h : Setting) (k l : Times) (opening : Content) : List TwinEntry → SideState → SideState → Type 0 where
+  twins_begin : TwinRun g h k l opening [] (first_state opening k.clean) (first_state opening l.clean)
   first_begins : (es : List TwinEntry) (x y : SideState) (reported : List Who) (b : Beginning) → TwinRun g h k l opening es x y → MayBegin g x b → TwinRun g h k l opening es (begin g x reported b) y
   second_begins : (es : List TwinEntry) (x y : SideState) (reported : List Who) (b : Beginning) → TwinRun g h k l opening es x y → MayBegin h y b → TwinRun g h k l opening es x (begin h y reported b)
   first_sends : (es : List TwinEntry) (x y z : SideState) (e : Entry) → TwinRun g h k l opening es x y → Sends g k x e z → TwinRun g h k l opening (es ++ record { side = First; entry = e } ∷ []) z (observed h l y e)

@@ -1,6 +1,6 @@
 -- What an abort or clean of a job at a shared destination leaves.
-use Rattle.std.specs.Prelude.{◌≡◌, ℕ, ◌<◌, true, List, [], Option, Some, None}
-use Rattle.job_facts.specs.Prelude.{Scene, begins, Object, Driver, UploadRef, Committer, Magic, Directory, Partitioned, Entry, Retried, IsIn, magic_prefix, cluster_prefix, is_record, Who, Script, Setting, NoClusterFile, is_magic, is_staging, at_key, at_id, sets_at}
+use Rattle.std.specs.Prelude.{◌≡◌, ℕ, ◌<◌, true, List, [], Some, None}
+use Rattle.job_facts.specs.Prelude.{Scene, begins, Object, Driver, UploadRef, Committer, Magic, Directory, Partitioned, Entry, Retried, IsIn, magic_prefix, cluster_prefix, is_record, Who, Script, Setting, NoClusterFile, is_magic, is_staging, at_key, at_id, sets_at, Times}
 use Rattle.std.specs.FinMap as fin
 use Rattle.pending_json.specs.Reading as reading
 use Rattle.job_model.specs.declared.ends.CleanEnd.TheVariants as ends
@@ -29,7 +29,7 @@ pub record SparingLeaves (w : Script) (first s : Scene) : Type 0 where
   pub files : is_staging w.committer ≡ true → NoClusterFile w s
 
 -- A run goes on, in which of the first side only the driver sends, and begins nothing else.
-pub data SparesOn (g h : Setting) (k l : Option ℕ) (x y : SideState) : SideState → SideState → Type 0 where
+pub data SparesOn (g h : Setting) (k l : Times) (x y : SideState) : SideState → SideState → Type 0 where
   spares_begin : SparesOn g h k l x y x y
   it_begins : (u v : SideState) (reported : List Who) (b : Beginning) → SparesOn g h k l x y u v → MayBegin g u b → begun_driver g u reported b ≡ u.driver → SparesOn g h k l x y (begin g u reported b) v
   it_sends : (u v z : SideState) (t : Retried Sparing) (e : Entry) → SparesOn g h k l x y u v → u.driver ≡ Some (TheSparing t) → e.actor ≡ Driver → Sends g k u e z → SparesOn g h k l x y z (observed h l v e)

@@ -1,6 +1,6 @@
 -- What readers of a destination may rely on while two jobs go on there.
-use Rattle.std.specs.Prelude.{◌≡◌, ℕ, ◌≤◌, ◌⊎◌, ◌&&◌, Bool, true, false, cond, List, [], ◌∷◌, length, map, take, Option, Some, None}
-use Rattle.job_facts.specs.Prelude.{list_any, text_eq, Content, bucket_of, is_effective, Object, Request, Entry, changed_keys, success_key, Script, IsLegal, Mode, Replace, Picks, wanted_at, is_picked, is_clash, is_decided, mark_text, view, Setting, is_driver, Seen, is_marking, Hold, IsKnown}
+use Rattle.std.specs.Prelude.{◌≡◌, ℕ, ◌≤◌, ◌⊎◌, ◌&&◌, Bool, true, false, cond, List, [], ◌∷◌, length, map, take, Some, None}
+use Rattle.job_facts.specs.Prelude.{list_any, text_eq, Content, bucket_of, is_effective, Object, Request, Entry, changed_keys, success_key, Script, IsLegal, Mode, Replace, Picks, wanted_at, is_picked, is_clash, is_decided, mark_text, view, Setting, is_driver, Seen, is_marking, Hold, IsKnown, Times}
 use Rattle.job_protocol.specs.View.{Shown, object_at}
 use Rattle.twin_facts.specs.Names.{IsStranger}
 use Rattle.twin_facts.specs.Laws.{AreTwins}
@@ -60,10 +60,10 @@ pub record MayBeTwins (w v : Script) : Type 0 where
   pub keeps_second : is_replace v.mode ≡ false
 
 -- so it is in every run of two such jobs, with these events of their commits, from any content in which their bucket stands
-abbrev pub InEachRun : ((g h : Setting) (k l : Option ℕ) (opening : Content) (es : List TwinEntry) (x y : SideState) → Type 0) → Type 0
-InEachRun P = (g h : Setting) → MayBeTwins g.script h.script → (k l : Option ℕ) (opening : Content) → IsTwinOpening g h opening → (es : List TwinEntry) (x y : SideState) → TwinRun g h k l opening es x y → P g h k l opening es x y
+abbrev pub InEachRun : ((g h : Setting) (k l : Times) (opening : Content) (es : List TwinEntry) (x y : SideState) → Type 0) → Type 0
+InEachRun P = (g h : Setting) → MayBeTwins g.script h.script → (k l : Times) (opening : Content) → IsTwinOpening g h opening → (es : List TwinEntry) (x y : SideState) → TwinRun g h k l opening es x y → P g h k l opening es x y
 
-pub record TwinsKeep (g h : Setting) (k l : Option ℕ) (opening : Content) (es : List TwinEntry) (x y : SideState) : Type 0 where
+pub record TwinsKeep (g h : Setting) (k l : Times) (opening : Content) (es : List TwinEntry) (x y : SideState) : Type 0 where
   -- of each side the facts hold, once its set-up is done
   pub first : is_set x.driver ≡ true → Hold g.script g.minimum x.seen x.told
   pub second : is_set y.driver ≡ true → Hold h.script h.minimum y.seen y.told
@@ -84,10 +84,10 @@ pub record TwinsKeep (g h : Setting) (k l : Option ℕ) (opening : Content) (es 
 abbrev pub AllTwinsKeep : Type 0
 AllTwinsKeep = InEachRun TwinsKeep
 
--- each moment of such a run is the end of one, with the same events of both
+-- each moment of such a run is the end of one
 abbrev pub TwinMoments : Type 0
-TwinMoments = (g h : Setting) (k l : Option ℕ) (opening : Content) (es : List TwinEntry) (x y : SideState) → TwinRun g h k l opening es x y → (m : ℕ) → m ≤ length es
-    → (u v : SideState) × TwinRun g h k l opening (take m es) u v × (u.told.cleans_at ≡ x.told.cleans_at) × (v.told.cleans_at ≡ y.told.cleans_at)
+TwinMoments = (g h : Setting) (k l : Times) (opening : Content) (es : List TwinEntry) (x y : SideState) → TwinRun g h k l opening es x y → (m : ℕ) → m ≤ length es
+    → (u v : SideState) × TwinRun g h k l opening (take m es) u v
 
 -- ---- which side is the first
 
@@ -100,4 +100,4 @@ turned_entry e = record { side = other_side e.side; entry = e.entry }
 
 -- a run of two jobs is one of them in the other order
 abbrev pub TwinsTurn : Type 0
-TwinsTurn = (g h : Setting) (k l : Option ℕ) (opening : Content) (es : List TwinEntry) (x y : SideState) → TwinRun g h k l opening es x y → TwinRun h g l k opening (map turned_entry es) y x
+TwinsTurn = (g h : Setting) (k l : Times) (opening : Content) (es : List TwinEntry) (x y : SideState) → TwinRun g h k l opening es x y → TwinRun h g l k opening (map turned_entry es) y x

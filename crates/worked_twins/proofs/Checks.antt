@@ -1,7 +1,7 @@
 -- What the definitions of two jobs say of a journal, by tests that compute.
 use Rattle.std.proofs.Common.{◌≡◌, ℕ, zero, suc, inl, inr, ◌⊎◌, not, ◌&&◌, Bool, true, false, cond, List, [], ◌∷◌, take, Option, Some, None, refl, sym, ap, subst, ◌∙◌}
 use Rattle.job_spec.proofs.Common.{and_parts, not-true, none_some, some_is, text_is}
-use Rattle.job_spec.specs.Prelude.{lookup, text_eq, Content, Scene, effect, after_all, moment, begins, Object, Actor, Driver, Attempt, Shell, Request, Outcome, Answered, Entry, IsIn, magic_prefix, cluster_prefix, success_key, File, Script, Picks, wanted_at, is_picked, is_clash, mark_text, view, is_driver, Seen, see, see_by, is_begun, nothing_seen}
+use Rattle.job_spec.specs.Prelude.{Times, lookup, text_eq, Content, Scene, effect, after_all, moment, begins, Object, Actor, Driver, Attempt, Shell, Request, Outcome, Answered, Entry, IsIn, magic_prefix, cluster_prefix, success_key, File, Script, Picks, wanted_at, is_picked, is_clash, mark_text, view, is_driver, Seen, see, see_by, is_begun, nothing_seen}
 use Rattle.job_protocol.specs.View.{object_at}
 use Rattle.twin_facts.specs.Names.{Ids, named_keys, named_upload, named_paths, IsStranger}
 use Rattle.twin_facts.specs.Sides.{Side, First, Second, TwinEntry}
@@ -60,7 +60,7 @@ all_strange_so w v mine others (t ∷ ts) h =
 
 -- ---- the scene at a moment
 
-module _ (w : Script) (k c : Option ℕ) (side : Side) (mine : ℕ → Bool) where
+module _ (w : Script) (k : Times) (side : Side) (mine : ℕ → Bool) where
   seen_by : (s : Seen) (n : ℕ) (r : Request) (a : Actor) (o : Outcome) → (see_by w k s n r o a).scene ≡ effect s.scene r o
   seen_by s n r Driver (Answered y) = refl
   seen_by s n r Driver _ = refl
@@ -68,34 +68,34 @@ module _ (w : Script) (k c : Option ℕ) (side : Side) (mine : ℕ → Bool) whe
   seen_by s n r (Attempt t a) _ = refl
   seen_by s n r Shell o = refl
 
-  own_scene : (s : Seen) (e : Entry) → (see_own w k c s e).scene ≡ effect s.scene e.request e.outcome
-  own_scene s e = by (is_driver e.actor) (is_begun c e.event)
+  own_scene : (s : Seen) (e : Entry) → (see_own w k s e).scene ≡ effect s.scene e.request e.outcome
+  own_scene s e = by (is_driver e.actor) (is_begun k.clean e.event)
     where
       by : (a b : Bool) → (cond a (cond b (see_strange w k s e) (see w k s e)) (see w k s e)).scene ≡ effect s.scene e.request e.outcome
       by true true = refl
       by true false = seen_by s e.event e.request e.actor e.outcome
       by false b = seen_by s e.event e.request e.actor e.outcome
 
-  twin_scene : (s : Seen) (t : TwinEntry) → (see_twin w k c side s t).scene ≡ effect s.scene t.entry.request t.entry.outcome
+  twin_scene : (s : Seen) (t : TwinEntry) → (see_twin w k side s t).scene ≡ effect s.scene t.entry.request t.entry.outcome
   twin_scene s t = by (is_side side t.side)
     where
-      by : (a : Bool) → (cond a (see_own w k c s t.entry) (see_strange w k s t.entry)).scene ≡ effect s.scene t.entry.request t.entry.outcome
+      by : (a : Bool) → (cond a (see_own w k s t.entry) (see_strange w k s t.entry)).scene ≡ effect s.scene t.entry.request t.entry.outcome
       by true = own_scene s t.entry
       by false = refl
 
-  all_scene : (es : List Entry) (s : Seen) → (see_twins w k c side s (sided mine es)).scene ≡ after_all s.scene es
+  all_scene : (es : List Entry) (s : Seen) → (see_twins w k side s (sided mine es)).scene ≡ after_all s.scene es
   all_scene [] s = refl
   all_scene (e ∷ es) s =
       let t : TwinEntry = record { side = cond (mine e.event) First Second; entry = e } in
-      all_scene es (see_twin w k c side s t) ∙ ap (λ x. after_all x es) (twin_scene s t)
+      all_scene es (see_twin w k side s t) ∙ ap (λ x. after_all x es) (twin_scene s t)
 
   take_sided : (m : ℕ) (es : List Entry) → take m (sided mine es) ≡ sided mine (take m es)
   take_sided zero es = refl
   take_sided (suc m) [] = refl
   take_sided (suc m) (e ∷ es) = ap (λ l. record { side = cond (mine e.event) First Second; entry = e } ∷ l) (take_sided m es)
 
-  pub seen_scene : (content : Content) (es : List Entry) (m : ℕ) → (seen_twin w k c side content (sided mine es) m).scene ≡ moment content es m
-  seen_scene content es m = ap (λ l. (see_twins w k c side (nothing_seen content) l).scene) (take_sided m es) ∙ all_scene (take m es) (nothing_seen content)
+  pub seen_scene : (content : Content) (es : List Entry) (m : ℕ) → (seen_twin w k side content (sided mine es) m).scene ≡ moment content es m
+  seen_scene content es m = ap (λ l. (see_twins w k side (nothing_seen content) l).scene) (take_sided m es) ∙ all_scene (take m es) (nothing_seen content)
 
 -- ---- what is shown
 

@@ -1,5 +1,5 @@
 -- A job of the directory committer whose check finds the other's file, by events.
-use Rattle.std.proofs.Common.{◌≡◌, ℕ, inr, List, [], ◌∷◌, Some, None, refl, codes}
+use Rattle.std.proofs.Common.{◌≡◌, ℕ, inr, List, [], ◌∷◌, None, refl, codes}
 use Rattle.job_spec.specs.Prelude.{moment, Object, Seen}
 use Rattle.job_spec.proofs.Common.{false_true}
 use Rattle.std.specs.Fmt.{digits}
@@ -13,18 +13,19 @@ use Rattle.twin_facts.specs.Sides.{First, Second}
 use Rattle.twin_facts.specs.Events.{seen_twin}
 use Rattle.worked_twins.specs.Conflict.{ja, mine, journal, entries, drew_first, drew_second, Stands, FoundConflict}
 use Rattle.worked_twins.proofs.Checks.{all_strange_so, seen_scene, shows_so, marked_so}
+use Rattle.job_examples.specs.Jobs.{commits_at}
 
 abbrev first : ℕ → Seen
-first m = seen_twin ja (Some 8) None First opening entries m
+first m = seen_twin ja (commits_at 8) First opening entries m
 
 abbrev second : ℕ → Seen
-second m = seen_twin jb (Some 7) None Second opening entries m
+second m = seen_twin jb (commits_at 7) Second opening entries m
 
 first_scene : (m : ℕ) → (first m).scene ≡ moment opening journal m
-first_scene m = seen_scene ja (Some 8) None First mine opening journal m
+first_scene m = seen_scene ja (commits_at 8) First mine opening journal m
 
 second_scene : (m : ℕ) → (second m).scene ≡ moment opening journal m
-second_scene m = seen_scene jb (Some 7) None Second mine opening journal m
+second_scene m = seen_scene jb (commits_at 7) Second mine opening journal m
 
 abbrev y_file : List (List ℕ)
 y_file = codes "y" ∷ []

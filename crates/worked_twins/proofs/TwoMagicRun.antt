@@ -1,5 +1,5 @@
 -- Two jobs of the magic committer, by events.
-use Rattle.std.proofs.Common.{◌≡◌, ℕ, inl, inr, true, List, [], ◌∷◌, ◌++◌, Some, None, Ok, refl, ap, ◌∙◌, codes, lit<}
+use Rattle.std.proofs.Common.{◌≡◌, ℕ, inl, inr, true, List, [], ◌∷◌, ◌++◌, None, Ok, refl, ap, ◌∙◌, codes, lit<}
 use Rattle.job_spec.specs.Prelude.{Scene, moment, Object, Entry, view, Seen, is_key_path}
 use Rattle.job_spec.proofs.Common.{false_true, none_some}
 use Rattle.std.specs.Fmt.{digits}
@@ -17,21 +17,22 @@ use Rattle.job_examples.specs.FourFileLanes.{record_bytes, hellos}
 use Rattle.job_examples.specs.TwoJobs.{ja, jb, mark_bytes, marks, quiet_entries, journal, mine}
 use Rattle.twin_facts.specs.Sides.{First, Second}
 use Rattle.twin_facts.specs.Events.{seen_twin, AtMoment}
-use Rattle.worked_twins.specs.TwoMagic.{entries, drew_first, drew_second, Stands, hasty, TwoMagic}
+use Rattle.worked_twins.specs.TwoMagic.{first_times, entries, drew_first, drew_second, Stands, hasty, TwoMagic}
 use Rattle.worked_twins.proofs.Checks.{all_strange_so, seen_scene, shows_so, marked_so}
+use Rattle.job_examples.specs.Jobs.{commits_at}
 
 -- what is seen of each side
 abbrev first : ℕ → Seen
-first m = seen_twin ja (Some 8) (Some 9) First opening entries m
+first m = seen_twin ja first_times First opening entries m
 
 abbrev second : ℕ → Seen
-second m = seen_twin jb (Some 7) None Second opening entries m
+second m = seen_twin jb (commits_at 7) Second opening entries m
 
 first_scene : (m : ℕ) → (first m).scene ≡ moment opening journal m
-first_scene m = seen_scene ja (Some 8) (Some 9) First mine opening journal m
+first_scene m = seen_scene ja first_times First mine opening journal m
 
 second_scene : (m : ℕ) → (second m).scene ≡ moment opening journal m
-second_scene m = seen_scene jb (Some 7) None Second mine opening journal m
+second_scene m = seen_scene jb (commits_at 7) Second mine opening journal m
 
 abbrev x_file : List (List ℕ)
 x_file = codes "x" ∷ []
@@ -95,11 +96,11 @@ record_is_read = pending_text (of_file (codes "x") 1) (pending_by hello 0 0 (cod
 abbrev hasty_entries : List Entry
 hasty_entries = quiet_entries ++ marks (codes "jb") (codes "y") 7 ∷ []
 
-wrong_mark : AtMoment ja jb (Some 8) (Some 7) (Some 9) None opening hasty 22 → ⊥
+wrong_mark : AtMoment ja jb first_times (commits_at 7) opening hasty 22 → ⊥
 unfolding digits escape_byte block_of parts_of
 wrong_mark h =
-    let s = seen_twin jb (Some 7) None Second opening hasty 22 in
-    let at : s.scene ≡ moment opening hasty_entries 22 = seen_scene jb (Some 7) None Second mine opening hasty_entries 22 in
+    let s = seen_twin jb (commits_at 7) Second opening hasty 22 in
+    let at : s.scene ≡ moment opening hasty_entries 22 = seen_scene jb (commits_at 7) Second mine opening hasty_entries 22 in
     let none : view jb.dest s.scene.content (codes "y") ≡ None = ap (λ (x : Scene). view jb.dest x.content (codes "y")) at ∙ files_then nothing hasty_entries refl 22 (codes "y") in
     none_some none ((h.second refl).files (codes "y") (codes "hello") refl refl)
 

@@ -6,7 +6,7 @@ use Rattle.s3_types.specs.declared.reply.Reply.TheVariants.{Upload}
 use Rattle.s3_types.specs.declared.reply.PageEntry.TheVariants.{Object as Listed}
 use Rattle.job_model.specs.declared.events.Op.TheVariants as ops
 use Rattle.job_traces.specs.Runs.{nothing_learnt}
-use Rattle.job_examples.specs.Jobs.{lake, job, attempt, worker, said, hello_tag}
+use Rattle.job_examples.specs.Jobs.{commits_at, lake, job, attempt, worker, said, hello_tag}
 use Rattle.job_examples.specs.OneFile.{opening}
 use Rattle.job_examples.specs.Runs.{setting}
 use Rattle.job_examples.specs.FourFileLanes.{out}
@@ -64,7 +64,7 @@ abbrev pub entries : List TwinEntry
 entries = sided mine journal
 
 abbrev pub Stands : ℕ → Type 0
-Stands m = AtMoment ja jb (Some 8) (Some 7) None None opening entries m
+Stands m = AtMoment ja jb (commits_at 8) (commits_at 7) opening entries m
 
 abbrev pub drew_first : Ids
 drew_first id = nat_eq id 1

@@ -1,10 +1,10 @@
 -- Two jobs of the magic committer at one destination, one file each: three events of the first, four of the second, two of the first.
-use Rattle.std.specs.Prelude.{◌≡◌, ℕ, nat_eq, false, true, List, [], ◌∷◌, ◌++◌, length, take, Some, None, codes}
-use Rattle.job_spec.specs.Prelude.{AbortUpload, Outcome, Retried, step}
+use Rattle.std.specs.Prelude.{◌≡◌, ℕ, nat_eq, false, true, List, [], ◌∷◌, ◌++◌, length, take, Some, codes}
+use Rattle.job_spec.specs.Prelude.{Times, AbortUpload, Outcome, Retried, step}
 use Rattle.job_protocol.specs.Prelude.{Follows, run}
 use Rattle.retries.specs.Prelude.{wants_of, fresh}
 use Rattle.job_model.specs.declared.ends.CleanEnd.TheVariants as cleans
-use Rattle.job_examples.specs.Jobs.{lake}
+use Rattle.job_examples.specs.Jobs.{commits_at, lake}
 use Rattle.job_examples.specs.OneFile.{opening}
 use Rattle.job_examples.specs.FourFileLanes.{out}
 use Rattle.job_examples.specs.TwoJobs.{ja, jb, marks, quiet_entries, clean_entries, journal, mine}
@@ -18,9 +18,13 @@ use Rattle.worked_twins.specs.Sided.{sided, AllStrange}
 abbrev pub entries : List TwinEntry
 entries = sided mine journal
 
+-- the first job's commit is event 8 of the run, and its clean the next
+abbrev pub first_times : Times
+first_times = record { commit = Some 8; clean = Some 9 }
+
 -- the commits are the events 8 and 7, and the clean is event 9
 abbrev pub Stands : ℕ → Type 0
-Stands m = AtMoment ja jb (Some 8) (Some 7) (Some 9) None opening entries m
+Stands m = AtMoment ja jb first_times (commits_at 7) opening entries m
 
 -- each drew one upload
 abbrev pub drew_first : Ids
@@ -60,4 +64,4 @@ pub record TwoMagic : Type 0 where
   pub cleaned : (run next begun clean_entries).operation ≡ SparingOver cleans.Done
   -- a clean of ja that aborts jb's upload is no stranger to jb, and a marker over a missing file is told by nobody
   pub wrong_abort : IsStranger jb drew_second (AbortUpload lake (out (codes "y")) 2) → ⊥
-  pub wrong_mark : AtMoment ja jb (Some 8) (Some 7) (Some 9) None opening hasty 22 → ⊥
+  pub wrong_mark : AtMoment ja jb first_times (commits_at 7) opening hasty 22 → ⊥
