@@ -1,0 +1,4 @@
+pub mod Lines
+pub mod CutLines
+pub mod OrderLines
+pub mod Pair

@@ -1,0 +1,76 @@
+-- The first line of bytes that are cut at an LF, and bytes that write no number.
+use Rattle.std.proofs.Common.{◌≡◌, ℕ, ◌<◌, ◌==◌, Bool, true, false, List, [], ◌∷◌, ◌++◌, length, take, drop, refl, sym, ap, subst, ◌∙◌, arith}
+use Rattle.std.specs.Prelude.{None, ◌&&◌, nat_le}
+use Rattle.job_model.specs.Prelude.{list_all, IsUtf8, is_inside, without_return, lines_of, is_other}
+use Rattle.proof_base.specs.Prelude.{join_with_byte}
+use Rattle.path_keys.proofs.Common.{and_parts, join_parts, some_part, weaker, list_all-append, drop_of_length-le}
+use Rattle.std.proofs.Math.Seq.{take-length}
+use Rattle.s3_types.specs.Prelude.{is_hex}
+use Rattle.s3_types.proofs.Utf8.{hex_utf8}
+use Rattle.words.specs.Numbers.{number_in, is_digit}
+use Rattle.words.specs.Parts.{parts_of, parts_from}
+use Rattle.words.proofs.Split.{first_from, last_line}
+
+other : (s x : ℕ) → (x == s) ≡ false → is_other s x ≡ true
+other s x e = rw e refl
+
+-- the first part has no separator
+head_from : (s : ℕ) (front text part : List ℕ) (parts : List (List ℕ)) → list_all (is_other s) front ≡ true → parts_from s front text ≡ part ∷ parts → list_all (is_other s) part ≡ true
+unfolding parts_from
+head_from s front [] part parts h e = let same : front ≡ part = cc in subst (λ (l : List ℕ). list_all (is_other s) l ≡ true) same h
+head_from s front (x ∷ xs) part parts h e = by (x == s) refl (head_from s (front ++ x ∷ []) xs part parts)
+  where
+    by : (b : Bool) → (x == s) ≡ b → (list_all (is_other s) (front ++ x ∷ []) ≡ true → parts_from s (front ++ x ∷ []) xs ≡ part ∷ parts → list_all (is_other s) part ≡ true) → list_all (is_other s) part ≡ true
+    by true q more = let k = rw q at e in let same : front ≡ part = cc in subst (λ (l : List ℕ). list_all (is_other s) l ≡ true) same h
+    by false q more = more (list_all-append (is_other s) front (x ∷ []) ∙ rw (h, q) refl) (rw q at e)
+
+-- a text by its first part and those behind it
+joined_parts : (s : ℕ) (part : List ℕ) (w : List ℕ) (ws : List (List ℕ)) (parts : List (List ℕ)) → parts ≡ w ∷ ws → join_with_byte s (part ∷ parts) ≡ part ++ s ∷ join_with_byte s parts
+joined_parts s part w ws parts e = rw e refl
+
+-- a text that was cut at its first separator
+pub record Cut (s : ℕ) (text part rest : List ℕ) : Type 0 where
+  pub whole : text ≡ part ++ s ∷ rest
+  pub inside : list_all (is_other s) part ≡ true
+
+pub cut_at : (s : ℕ) (text part rest : List ℕ) → parts_of s text ≡ part ∷ parts_of s rest → Cut s text part rest
+cut_at s text part rest e =
+    let p = some_part s [] rest in
+    record {
+      whole = sym (join_parts s text) ∙ ap (join_with_byte s) e ∙ joined_parts s part p.0 p.1 (parts_of s rest) p.2 ∙ ap (λ (l : List ℕ). part ++ s ∷ l) (join_parts s rest);
+      inside = head_from s [] text part (parts_of s rest) refl e;
+    }
+
+-- a text without a separator
+pub record Lone (s : ℕ) (text part : List ℕ) : Type 0 where
+  pub whole : text ≡ part
+  pub inside : list_all (is_other s) text ≡ true
+
+pub lone_at : (s : ℕ) (text part : List ℕ) → parts_of s text ≡ part ∷ [] → Lone s text part
+lone_at s text part e =
+    let whole : text ≡ part = sym (join_parts s text) ∙ ap (join_with_byte s) e in
+    record { whole = whole; inside = subst (λ (l : List ℕ). list_all (is_other s) l ≡ true) (sym whole) (head_from s [] text part [] refl e) }
+
+-- the first line
+pub line_at_lf : (text part rest : List ℕ) → parts_of 10 text ≡ part ∷ parts_of 10 rest → lines_of text ≡ without_return part ∷ lines_of rest
+line_at_lf text part rest e = let c = cut_at 10 text part rest e in ap lines_of c.whole ∙ first_from [] part rest c.inside
+
+-- the last line, without an LF
+pub line_at_end : (text part : List ℕ) → 0 < length text → parts_of 10 text ≡ part ∷ [] → lines_of text ≡ part ∷ lines_of []
+line_at_end text part some e =
+    let c = lone_at 10 text part e in
+    let all : take (length text) text ≡ text = take-length text in
+    let none : drop (length text) text ≡ [] = drop_of_length-le text (omega arith) in
+    last_line text (length text) some none (ap (list_all is_inside) all ∙ c.inside)
+    ∙ ap (λ (l : List ℕ). l ∷ lines_of (drop (length text) text)) (all ∙ c.whole) ∙ ap (λ (l : List ℕ). part ∷ lines_of l) none
+
+digit_hex : (b : ℕ) → is_digit b ≡ true → is_hex b ≡ true
+digit_hex b h = grind arith
+
+-- bytes that are no text write no number
+pub no_number : (low high : ℕ) (text : List ℕ) → ¬ (IsUtf8 text) → number_in low high text ≡ None
+no_number low high text n = by (nat_le 1 (length text) && nat_le (length text) 18 && list_all is_digit text) refl
+  where
+    by : (b : Bool) → (nat_le 1 (length text) && nat_le (length text) 18 && list_all is_digit text) ≡ b → number_in low high text ≡ None
+    by true e = absurd (n (hex_utf8 text (weaker is_digit is_hex digit_hex text (and_parts _ (list_all is_digit text) e).1)))
+    by false e = rw e refl

@@ -1,0 +1,5 @@
+pub mod TwinScripts
+pub mod Fault
+pub mod Cutting
+pub mod Order
+pub mod Twins

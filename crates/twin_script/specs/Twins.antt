@@ -1,0 +1,65 @@
+-- What the bytes of two scripts and an order mean.
+use Rattle.std.specs.Prelude.{ℕ, ◌==◌, ◌&&◌, ◌||◌, not, ⊤, Bool, List, length, bytes_eq, nat_le, Result, Ok, Err}
+use Rattle.std.specs.FinMap as map
+use Rattle.proof_base.specs.Reading.{◌>>=◌, need, check}
+use Rattle.job_model.specs.Prelude.{FateMap, Path, Script, MOST_SCRIPT_BYTES}
+use Rattle.job_script.specs.Script.{script_of}
+use Rattle.job_script.specs.declared.fault.ScriptFault.{ScriptFault}
+use Rattle.twin_script.specs.declared.turns.TwinTurn.{TwinTurn}
+use Rattle.twin_script.specs.declared.fault.TwinFault.{TwinFault}
+use Rattle.twin_script.specs.declared.fault.TwinFault.TheVariants as fault
+use Rattle.twin_script.specs.TwinScripts.{Twins, is_replace}
+use Rattle.twin_script.specs.Cutting.{three_parts}
+use Rattle.twin_script.specs.Order.{order_of}
+
+-- a script of a part, or the part's fault
+abbrev pub within : (ScriptFault → TwinFault) → Result Script ScriptFault → Result Script TwinFault
+within part (Ok script) = Ok script
+within part (Err fault) = Err (part fault)
+
+-- two destinations of one bucket and one key
+abbrev pub is_same_dest : Path → Path → Bool
+is_same_dest p q = bytes_eq p.bucket q.bucket && bytes_eq p.key q.key
+
+-- some sending has a fate
+abbrev pub names_fate : FateMap → Bool
+names_fate fates = not (map.len fates == 0)
+
+-- the first fault of two scripts by what was found of them
+abbrev pub told : Bool → Bool → Bool → Bool → Result ⊤ TwinFault
+told same_job same_dest replaces loses = do
+  ids ← check (not same_job) fault.SameJob
+  dest ← check same_dest fault.OtherDest
+  keep ← check (not replaces) fault.ReplaceMode
+  check (not loses) fault.SecondLoss
+
+-- two scripts may run as twins
+unfoldable pub fit : Script → Script → Result ⊤ TwinFault
+fit first second = told (bytes_eq first.job second.job) (is_same_dest first.dest second.dest) (is_replace first.mode || is_replace second.mode) (names_fate second.fates)
+
+-- the turns of an order over two scripts that may run as twins
+unfoldable pub turns_of : Script → Script → List ℕ → Result (List TwinTurn) TwinFault
+turns_of first second order = do
+  twins ← fit first second
+  order_of (length first.events) (length second.events) order
+
+-- two scripts and an order, where the scripts may run as twins
+unfoldable pub paired : Script → Script → List ℕ → Result Twins TwinFault
+paired first second order = do
+  turns ← turns_of first second order
+  Ok (record { first = first; second = second; order = turns })
+
+-- a script with the second part and the third
+unfoldable pub with_second : Script → List ℕ → List ℕ → Result Twins TwinFault
+with_second first part order = within fault.Second (script_of part) >>= λ second. paired first second order
+
+-- the three parts
+unfoldable pub with_first : List ℕ → List ℕ → List ℕ → Result Twins TwinFault
+with_first part behind order = within fault.First (script_of part) >>= λ first. with_second first behind order
+
+-- what the bytes mean as two scripts and an order, or the first fault
+unfoldable pub twins_of : List ℕ → Result Twins TwinFault
+twins_of bytes = do
+  small ← check (nat_le (length bytes) MOST_SCRIPT_BYTES) fault.TooLarge
+  parts ← need (three_parts bytes) fault.NotThree
+  with_first parts.0 parts.1 parts.2

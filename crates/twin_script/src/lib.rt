@@ -1,0 +1,25 @@
+//! The reader of two job scripts and an order of turns, by which two jobs share one destination.
+//!
+//! # What is proved
+//!
+//! `read_twins`: It reads two scripts and an order, parted by exactly two lines `=====`. Its definition,
+//! `twins_of`, is in the order of its checks: the input's size, the parting lines, the first part, the
+//! second, what the two scripts may not be together, and the order line by line, with what is left of each
+//! side's events. The error is the first fault of that order (`exact`); what is read is what the definition
+//! gives (`found`), and where that gives two scripts and an order they are read (`only`).
+//!
+//! `Twins`: It keeps what was read: other ids, one destination, no mode replace, no fate in the second
+//! script, and turns of 1 to 100,000 events that ask each script for no more than it has.
+#![tactic(auto)]
+
+mod cutting;
+mod fault;
+mod order;
+mod reading;
+mod turns;
+mod twins;
+
+pub use fault::TwinFault;
+pub use reading::read_twins;
+pub use turns::{Side, TurnList, TwinTurn};
+pub use twins::Twins;

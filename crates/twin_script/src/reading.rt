@@ -1,0 +1,188 @@
+ghost use Rattle.std.specs.Prelude.{◌≡◌, ◌||◌, IfOk, Ok};
+ghost use Rattle.job_script.specs.Script.{script_of};
+ghost use Rattle.twin_script.specs.TwinScripts.{Twins, is_replace};
+ghost use Rattle.twin_script.specs.Fault.{Gives, first_fault, second_fault};
+ghost use Rattle.twin_script.specs.Twins as twins;
+ghost use Rattle.twin_script.specs.declared.fault.TwinFault.TheVariants.{First, Second};
+
+use crate::cutting::three_parts;
+use crate::fault::TwinFault;
+use crate::order::order_of;
+use crate::turns::TurnList;
+use crate::twins::Twins;
+use job_model::Script;
+use job_script::{ScriptFault, read_script};
+use path_keys::S3Path;
+use s3_types::{Fates, MOST_SCRIPT_BYTES, Mode};
+use std::alloc::Global;
+
+#[tactic(auto, using(crate::proofs::Pair::other_first))]
+fn first_fault(fault: ScriptFault) -> TwinFault
+    ensures { result ≡ first_fault fault }
+{
+    match fault {
+        ScriptFault::NoMemory => TwinFault::NoMemory,
+        fault => TwinFault::First(fault),
+    }
+}
+
+#[tactic(auto, using(crate::proofs::Pair::other_second))]
+fn second_fault(fault: ScriptFault) -> TwinFault
+    ensures { result ≡ second_fault fault }
+{
+    match fault {
+        ScriptFault::NoMemory => TwinFault::NoMemory,
+        fault => TwinFault::Second(fault),
+    }
+}
+
+fn first_script(alloc: Global, part: &[u8]) -> Result<Script, TwinFault>
+    ensures { Gives result (twins.within First (script_of part.now)) }
+{
+    match read_script(alloc, part) {
+        Ok(script) => Ok(script),
+        Err(fault) => Err(first_fault(fault)),
+    }
+}
+
+fn second_script(alloc: Global, part: &[u8]) -> Result<Script, TwinFault>
+    ensures { Gives result (twins.within Second (script_of part.now)) }
+{
+    match read_script(alloc, part) {
+        Ok(script) => Ok(script),
+        Err(fault) => Err(second_fault(fault)),
+    }
+}
+
+fn is_replace(mode: Mode) -> bool
+    ensures { result ≡ is_replace mode }
+{
+    match mode {
+        Mode::Replace => true,
+        Mode::Fail | Mode::Append => false,
+    }
+}
+
+fn is_same_dest(first: &S3Path, second: &S3Path) -> bool
+    ensures { result ≡ twins.is_same_dest first.now second.now }
+{
+    first.bucket() == second.bucket() && first.key() == second.key()
+}
+
+fn names_fate(fates: &Fates) -> bool
+    ensures { result ≡ twins.names_fate fates.now }
+{
+    match fates.first_from(0) {
+        Some(_) => true,
+        None => false,
+    }
+}
+
+fn replaces(first: Mode, second: Mode) -> bool
+    ensures { result ≡ (is_replace first || is_replace second) }
+{
+    is_replace(first) || is_replace(second)
+}
+
+/// The first fault of two scripts by what was found of them.
+fn told(same_job: bool, same_dest: bool, replaces: bool, loses: bool) -> Result<(), TwinFault>
+    ensures { result ≡ twins.told same_job same_dest replaces loses }
+{
+    if same_job {
+        return Err(TwinFault::SameJob);
+    }
+    if !same_dest {
+        return Err(TwinFault::OtherDest);
+    }
+    if replaces {
+        return Err(TwinFault::ReplaceMode);
+    }
+    if loses {
+        return Err(TwinFault::SecondLoss);
+    }
+    Ok(())
+}
+
+/// Whether two scripts may run as twins.
+fn fit(first: &Script, second: &Script) -> Result<(), TwinFault>
+    ensures { result ≡ twins.fit first.now second.now }
+{
+    let same_job = first.job == second.job;
+    let same_dest = is_same_dest(&first.dest, &second.dest);
+    let replaces = replaces(first.mode, second.mode);
+    let loses = names_fate(&second.fates);
+    told(same_job, same_dest, replaces, loses)
+}
+
+/// The turns of an order over two scripts that may run as twins.
+#[tactic(auto, unfolding(crate::specs::Twins::turns_of))]
+fn turns_of(
+    alloc: Global,
+    first: &Script,
+    second: &Script,
+    order: &[u8],
+) -> Result<TurnList, TwinFault>
+    ensures { Gives result (twins.turns_of first.now second.now order.now) }
+{
+    fit(first, second)?;
+    order_of(
+        alloc,
+        first.events.len() as u64,
+        second.events.len() as u64,
+        order,
+    )
+}
+
+#[tactic(auto, unfolding(crate::specs::Twins::paired))]
+fn paired(alloc: Global, first: Script, second: Script, order: &[u8]) -> Result<Twins, TwinFault>
+    ensures { Gives result (twins.paired first second order.now) }
+{
+    let order = turns_of(alloc, &first, &second, order)?;
+    Ok(Twins {
+        first,
+        second,
+        order,
+    })
+}
+
+#[tactic(auto, unfolding(crate::specs::Twins::with_second))]
+fn with_second(alloc: Global, first: Script, part: &[u8], order: &[u8]) -> Result<Twins, TwinFault>
+    ensures { Gives result (twins.with_second first part.now order.now) }
+{
+    let second = second_script(alloc, part)?;
+    paired(alloc, first, second, order)
+}
+
+#[tactic(auto, unfolding(crate::specs::Twins::with_first))]
+fn with_first(alloc: Global, part: &[u8], behind: &[u8], order: &[u8]) -> Result<Twins, TwinFault>
+    ensures { Gives result (twins.with_first part.now behind.now order.now) }
+{
+    let first = first_script(alloc, part)?;
+    with_second(alloc, first, behind, order)
+}
+
+#[tactic(auto, unfolding(crate::specs::Twins::twins_of))]
+fn twins_in(alloc: Global, bytes: &[u8]) -> Result<Twins, TwinFault>
+    ensures { Gives result (twins.twins_of bytes.now) }
+{
+    if bytes.len() > MOST_SCRIPT_BYTES as usize {
+        return Err(TwinFault::TooLarge);
+    }
+    let Some((first, second, order)) = three_parts(bytes) else {
+        return Err(TwinFault::NotThree);
+    };
+    with_first(alloc, first, second, order)
+}
+
+/// Reads two job scripts and an order, which two lines `=====` part. The error is the first fault in the order
+/// of `twins_of`: TooLarge for more than 67,108,864 bytes, NotThree, the fault of the first part, that of the
+/// second, SameJob, OtherDest, ReplaceMode, SecondLoss, and the first faulty line of the order. Want of memory
+/// alone may come at any place. The parts are not copied. Takes one pass over the input to part it, and one
+/// over each part.
+pub fn read_twins(alloc: Global, bytes: &[u8]) -> Result<Twins, TwinFault>
+    ensures exact { Gives result (twins.twins_of bytes.now) }
+    ensures found { IfOk result (λ t. twins.twins_of bytes.now ≡ Ok t) }
+    ensures only { (t : Twins) → twins.twins_of bytes.now ≡ Ok t → Gives result (Ok t) }
+{
+    twins_in(alloc, bytes)
+}

@@ -1,0 +1,25 @@
+use crate::turns::TurnList;
+use job_model::Script;
+use std::marker::Model;
+
+/// Two job scripts and the order of their turns. It keeps what `read_twins` asks of them: the ids differ and
+/// the destinations do not, neither mode is replace, the second script names no fate, and the turns ask for
+/// no more events than each script has.
+#[derive(Drop)]
+pub struct Twins {
+    pub first: Script,
+    pub second: Script,
+    pub order: TurnList,
+}
+
+impl Model for Twins {
+    ghost use Rattle.twin_script.specs.TwinScripts.{Twins, coded_twins, AreTwins};
+
+    ghost Value = { Twins };
+
+    ghost coded = { coded_twins };
+
+    ghost view = { λ t. record { first = t.first; second = t.second; order = t.order } };
+
+    ghost invariant = { λ t. AreTwins (record { first = t.first; second = t.second; order = t.order }) };
+}
