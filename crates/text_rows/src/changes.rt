@@ -1,6 +1,7 @@
 use crate::images::put_image;
 use crate::records::{Record, put_record};
 use crate::scripts::put_script;
+use crate::twins::put_twins;
 use anyhow::Result;
 use std::alloc::{AllocError, Global};
 
@@ -8,6 +9,7 @@ use std::alloc::{AllocError, Global};
 #[derive(Clone, Copy)]
 pub enum Reader {
     Script,
+    Twins,
     Record(Record),
     Image,
 }
@@ -65,6 +67,7 @@ fn outcome_of(alloc: Global, reader: Reader, bytes: &[u8], before: &[u8]) -> Res
     let mut line = String::new(alloc);
     match reader {
         Reader::Script => put_script(&mut line, alloc, bytes)?,
+        Reader::Twins => put_twins(&mut line, alloc, bytes)?,
         Reader::Record(record) => put_record(&mut line, alloc, record, bytes, before)?,
         Reader::Image => put_image(&mut line, alloc, bytes)?,
     }

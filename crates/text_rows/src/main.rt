@@ -14,6 +14,8 @@
 //! count, a `:`, and a text that is repeated so often, with `%` for the number of its turn, from 1, and `$`
 //! for that number's hundreds, a dot, and its rest. A script in a line that begins with `=` is printed.
 //!
+//! `twins`: two job scripts and an order, written as a script is, of which the same is told.
+//!
 //! `paths`: what is asked of a path, which is written as a script is. `commands`: the words of a command
 //! line, with a `|` between them. `made`: a seed and the numbers of tasks and of files, of which a script
 //! is made.
@@ -27,6 +29,7 @@ mod paths;
 mod records;
 mod scripts;
 mod spelling;
+mod twins;
 
 use anyhow::Result;
 use commands::show_command;
@@ -36,6 +39,7 @@ use paths::show_path;
 use records::show_record;
 use scripts::show_script;
 use std::alloc::Global;
+use twins::show_twins;
 
 /// What a line is.
 #[derive(Clone, Copy)]
@@ -43,6 +47,7 @@ enum Part {
     Record,
     Image,
     Script,
+    Twins,
     Path,
     Command,
     Made,
@@ -53,6 +58,7 @@ fn part_named(name: &str) -> Part {
         "records" => Part::Record,
         "images" => Part::Image,
         "scripts" => Part::Script,
+        "twins" => Part::Twins,
         "paths" => Part::Path,
         "commands" => Part::Command,
         _ => Part::Made,
@@ -64,6 +70,7 @@ fn show_row(rt: &impl Print, alloc: Global, part: Part, line: &str) -> Result<()
         Part::Record => show_record(rt, alloc, line),
         Part::Image => show_image(rt, alloc, line),
         Part::Script => show_script(rt, alloc, line),
+        Part::Twins => show_twins(rt, alloc, line),
         Part::Path => show_path(rt, alloc, line),
         Part::Command => show_command(rt, alloc, line),
         Part::Made => show_made(rt, alloc, line),

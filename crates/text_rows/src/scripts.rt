@@ -5,9 +5,9 @@ use job_script::{Script, print_script, read_script};
 use s3_types::let_go;
 use std::alloc::{AllocError, Global};
 
-/// What is told of a script beside its counts.
+/// What is told of a script, or of two, beside its counts.
 #[derive(Clone, Copy)]
-enum Told {
+pub enum Told {
     Nothing,
     Text,
     /// What it is once it is changed.
@@ -15,7 +15,7 @@ enum Told {
 }
 
 /// What a line asks for, and its script.
-fn asked(line: &str) -> (Told, &str) {
+pub fn asked(line: &str) -> (Told, &str) {
     if let Some(row) = line.strip_prefix("=") {
         return (Told::Text, row);
     }

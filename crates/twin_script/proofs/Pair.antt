@@ -16,7 +16,7 @@ use Rattle.job_script.specs.declared.fault.ScriptFault.TheVariants as script_fau
 use Rattle.twin_script.specs.declared.turns.TwinTurn.{TwinTurn}
 use Rattle.twin_script.specs.declared.fault.TwinFault.{TwinFault}
 use Rattle.twin_script.specs.declared.fault.TwinFault.TheVariants as fault
-use Rattle.twin_script.specs.Fault.{wanting, first_fault, second_fault}
+use Rattle.twin_script.specs.Fault.{wanting, first_fault, second_fault, is_told}
 use Rattle.twin_script.specs.TwinScripts.{is_replace, AreTwins}
 use Rattle.twin_script.specs.Order.{order_of}
 use Rattle.twin_script.specs.Twins.{within, is_same_dest, names_fate, told, fit, turns_of, paired}
@@ -109,6 +109,15 @@ turns_sound first second bytes order h =
 pub turns_end : (first second : Script) (order : List ℕ) (e : TwinFault) → reading.Fails wanting e (turns_of first second order) → reading.Fails wanting e (paired first second order)
 unfolding paired
 turns_end first second order e h = unless_more (wanting e) (λ is. ap (λ r. r >>= λ turns. Ok (record { first = first; second = second; order = turns })) is) h
+
+-- a part's want of memory is told as that of the whole
+pub first_told : (e : ScriptFault) → is_told (first_fault e) ≡ true
+first_told script_fault.NoMemory = refl
+first_told e = refl
+
+pub second_told : (e : ScriptFault) → is_told (second_fault e) ≡ true
+second_told script_fault.NoMemory = refl
+second_told e = refl
 
 -- a fault of the first part
 pub first_fails : (e : ScriptFault) (read : Result Script ScriptFault) → reading.Fails script_wanting e read → reading.Fails wanting (first_fault e) (within fault.First read)

@@ -3,3 +3,4 @@ pub mod Fault
 pub mod Cutting
 pub mod Order
 pub mod Twins
+pub mod Print

@@ -1,8 +1,8 @@
-ghost use Rattle.std.specs.Prelude.{◌≡◌};
+ghost use Rattle.std.specs.Prelude.{◌≡◌, true, IfErr};
 ghost use Rattle.words.specs.Lines.{lines_of};
 ghost use Rattle.words.specs.Numbers.{number_in};
 ghost use Rattle.job_script.specs.Kinds.{named};
-ghost use Rattle.twin_script.specs.Fault.{Gives, Makes};
+ghost use Rattle.twin_script.specs.Fault.{Gives, Makes, is_told};
 ghost use Rattle.twin_script.specs.Order as order;
 
 use crate::cutting::{next_line, two_words};
@@ -64,7 +64,8 @@ fn turn_of(line: &[u8]) -> Option<TwinTurn>
 
 #[tactic(auto, unfolding(crate::specs::Order::turn_at))]
 fn line_of(draft: &mut Draft, line: u64, text: &[u8]) -> Result<(), TwinFault>
-    ensures { Makes result draft.new (order.line_at line draft.old text.now) }
+    ensures exact { Makes result draft.new (order.line_at line draft.old text.now) }
+    ensures told { IfErr result (λ fault. is_told fault ≡ true) }
 {
     if text.is_empty() {
         return Ok(());
@@ -93,7 +94,8 @@ fn line_of(draft: &mut Draft, line: u64, text: &[u8]) -> Result<(), TwinFault>
 
 #[tactic(auto, unfolding(crate::specs::Order::lines_at))]
 fn draft_of(alloc: Global, first: u64, second: u64, bytes: &[u8]) -> Result<Draft, TwinFault>
-    ensures { Gives result (order.lines_at 1 (order.nothing first second) (lines_of bytes.now)) }
+    ensures exact { Gives result (order.lines_at 1 (order.nothing first second) (lines_of bytes.now)) }
+    ensures told { IfErr result (λ fault. is_told fault ≡ true) }
 {
     let mut draft = Draft {
         turns: TurnList::new(alloc),
@@ -114,7 +116,8 @@ fn draft_of(alloc: Global, first: u64, second: u64, bytes: &[u8]) -> Result<Draf
 /// The turns of an order over scripts of so many events. An empty line is skipped and counted. The error is
 /// of the first faulty line. Takes one pass over the bytes.
 pub fn order_of(alloc: Global, first: u64, second: u64, bytes: &[u8]) -> Result<TurnList, TwinFault>
-    ensures { Gives result (order.order_of first second bytes.now) }
+    ensures exact { Gives result (order.order_of first second bytes.now) }
+    ensures told { IfErr result (λ fault. is_told fault ≡ true) }
 {
     let draft = draft_of(alloc, first, second, bytes)?;
     Ok(draft.turns)

@@ -1,7 +1,7 @@
-ghost use Rattle.std.specs.Prelude.{◌≡◌, ◌||◌, IfOk, Ok};
+ghost use Rattle.std.specs.Prelude.{◌≡◌, ◌||◌, true, IfOk, IfErr, Ok};
 ghost use Rattle.job_script.specs.Script.{script_of};
 ghost use Rattle.twin_script.specs.TwinScripts.{Twins, is_replace};
-ghost use Rattle.twin_script.specs.Fault.{Gives, first_fault, second_fault};
+ghost use Rattle.twin_script.specs.Fault.{Gives, first_fault, second_fault, is_told};
 ghost use Rattle.twin_script.specs.Twins as twins;
 ghost use Rattle.twin_script.specs.declared.fault.TwinFault.TheVariants.{First, Second};
 
@@ -37,7 +37,8 @@ fn second_fault(fault: ScriptFault) -> TwinFault
 }
 
 fn first_script(alloc: Global, part: &[u8]) -> Result<Script, TwinFault>
-    ensures { Gives result (twins.within First (script_of part.now)) }
+    ensures exact { Gives result (twins.within First (script_of part.now)) }
+    ensures told { IfErr result (λ fault. is_told fault ≡ true) }
 {
     match read_script(alloc, part) {
         Ok(script) => Ok(script),
@@ -46,7 +47,8 @@ fn first_script(alloc: Global, part: &[u8]) -> Result<Script, TwinFault>
 }
 
 fn second_script(alloc: Global, part: &[u8]) -> Result<Script, TwinFault>
-    ensures { Gives result (twins.within Second (script_of part.now)) }
+    ensures exact { Gives result (twins.within Second (script_of part.now)) }
+    ensures told { IfErr result (λ fault. is_told fault ≡ true) }
 {
     match read_script(alloc, part) {
         Ok(script) => Ok(script),
@@ -86,7 +88,8 @@ fn replaces(first: Mode, second: Mode) -> bool
 
 /// The first fault of two scripts by what was found of them.
 fn told(same_job: bool, same_dest: bool, replaces: bool, loses: bool) -> Result<(), TwinFault>
-    ensures { result ≡ twins.told same_job same_dest replaces loses }
+    ensures exact { result ≡ twins.told same_job same_dest replaces loses }
+    ensures told { IfErr result (λ fault. is_told fault ≡ true) }
 {
     if same_job {
         return Err(TwinFault::SameJob);
@@ -105,7 +108,8 @@ fn told(same_job: bool, same_dest: bool, replaces: bool, loses: bool) -> Result<
 
 /// Whether two scripts may run as twins.
 fn fit(first: &Script, second: &Script) -> Result<(), TwinFault>
-    ensures { result ≡ twins.fit first.now second.now }
+    ensures exact { result ≡ twins.fit first.now second.now }
+    ensures told { IfErr result (λ fault. is_told fault ≡ true) }
 {
     let same_job = first.job == second.job;
     let same_dest = is_same_dest(&first.dest, &second.dest);
@@ -122,7 +126,8 @@ fn turns_of(
     second: &Script,
     order: &[u8],
 ) -> Result<TurnList, TwinFault>
-    ensures { Gives result (twins.turns_of first.now second.now order.now) }
+    ensures exact { Gives result (twins.turns_of first.now second.now order.now) }
+    ensures told { IfErr result (λ fault. is_told fault ≡ true) }
 {
     fit(first, second)?;
     order_of(
@@ -135,7 +140,8 @@ fn turns_of(
 
 #[tactic(auto, unfolding(crate::specs::Twins::paired))]
 fn paired(alloc: Global, first: Script, second: Script, order: &[u8]) -> Result<Twins, TwinFault>
-    ensures { Gives result (twins.paired first second order.now) }
+    ensures exact { Gives result (twins.paired first second order.now) }
+    ensures told { IfErr result (λ fault. is_told fault ≡ true) }
 {
     let order = turns_of(alloc, &first, &second, order)?;
     Ok(Twins {
@@ -147,7 +153,8 @@ fn paired(alloc: Global, first: Script, second: Script, order: &[u8]) -> Result<
 
 #[tactic(auto, unfolding(crate::specs::Twins::with_second))]
 fn with_second(alloc: Global, first: Script, part: &[u8], order: &[u8]) -> Result<Twins, TwinFault>
-    ensures { Gives result (twins.with_second first part.now order.now) }
+    ensures exact { Gives result (twins.with_second first part.now order.now) }
+    ensures told { IfErr result (λ fault. is_told fault ≡ true) }
 {
     let second = second_script(alloc, part)?;
     paired(alloc, first, second, order)
@@ -155,7 +162,8 @@ fn with_second(alloc: Global, first: Script, part: &[u8], order: &[u8]) -> Resul
 
 #[tactic(auto, unfolding(crate::specs::Twins::with_first))]
 fn with_first(alloc: Global, part: &[u8], behind: &[u8], order: &[u8]) -> Result<Twins, TwinFault>
-    ensures { Gives result (twins.with_first part.now behind.now order.now) }
+    ensures exact { Gives result (twins.with_first part.now behind.now order.now) }
+    ensures told { IfErr result (λ fault. is_told fault ≡ true) }
 {
     let first = first_script(alloc, part)?;
     with_second(alloc, first, behind, order)
@@ -163,7 +171,8 @@ fn with_first(alloc: Global, part: &[u8], behind: &[u8], order: &[u8]) -> Result
 
 #[tactic(auto, unfolding(crate::specs::Twins::twins_of))]
 fn twins_in(alloc: Global, bytes: &[u8]) -> Result<Twins, TwinFault>
-    ensures { Gives result (twins.twins_of bytes.now) }
+    ensures exact { Gives result (twins.twins_of bytes.now) }
+    ensures told { IfErr result (λ fault. is_told fault ≡ true) }
 {
     if bytes.len() > MOST_SCRIPT_BYTES as usize {
         return Err(TwinFault::TooLarge);
@@ -177,12 +186,13 @@ fn twins_in(alloc: Global, bytes: &[u8]) -> Result<Twins, TwinFault>
 /// Reads two job scripts and an order, which two lines `=====` part. The error is the first fault in the order
 /// of `twins_of`: TooLarge for more than 67,108,864 bytes, NotThree, the fault of the first part, that of the
 /// second, SameJob, OtherDest, ReplaceMode, SecondLoss, and the first faulty line of the order. Want of memory
-/// alone may come at any place. The parts are not copied. Takes one pass over the input to part it, and one
-/// over each part.
+/// alone may come at any place, and is NoMemory in a part too. The parts are not copied. Takes one pass over
+/// the input to part it, and one over each part.
 pub fn read_twins(alloc: Global, bytes: &[u8]) -> Result<Twins, TwinFault>
     ensures exact { Gives result (twins.twins_of bytes.now) }
     ensures found { IfOk result (λ t. twins.twins_of bytes.now ≡ Ok t) }
     ensures only { (t : Twins) → twins.twins_of bytes.now ≡ Ok t → Gives result (Ok t) }
+    ensures told { IfErr result (λ fault. is_told fault ≡ true) }
 {
     twins_in(alloc, bytes)
 }

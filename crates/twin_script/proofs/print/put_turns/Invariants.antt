@@ -1,0 +1,7 @@
+use Rattle.std.proofs.Common.{◌≡◌, ◌++◌, map, drop, string_bytes}
+use Rattle.job_model.specs.Prelude.{text_of}
+use Rattle.twin_script.specs.Print.{turn_line}
+use Rattle.twin_script.proofs.print.put_turns.Given as goal
+
+abbrev pub invariant-loop-turn : goal.invariant-loop-turn
+invariant-loop-turn l = string_bytes l.out ++ text_of (map turn_line (drop l.turn-index l.turns)) ≡ string_bytes l.fn.out ++ text_of (map turn_line l.turns)
