@@ -1,8 +1,10 @@
 -- Operations as they begin.
 use Rattle.std.proofs.Common.{◌≡◌, ℕ, false, cond, List, [], Option, Some, Result, Ok, Err, IfOk, refl, sym, ap, subst, ◌∙◌, arith}
-use Rattle.job_steps.specs.Prelude.{Actor, Driver, Attempt, Shell, Request, RequestLost, fresh, Job, Task, Known, IsLegal, Op, setup_start, write_start, task_commit_start, task_abort_start, commit_start, clean_start, Setting, TheSetup, TheWrite, TheTaskCommit, TheTaskAbort, TheCommit, TheClean, who, learn_of, start_of, Attempting, job_of, task_of, task_script, who_of, read_script, write_wants, task_commit_wants, task_abort_wants}
+use Rattle.job_steps.specs.Prelude.{Actor, Driver, Attempt, Shell, Request, RequestLost, fresh, Job, Task, Known, IsLegal, Op, setup_start, write_start, task_commit_start, task_abort_start, commit_start, clean_start, Reports, Setting, TheSetup, TheWrite, TheTaskCommit, TheTaskAbort, TheCommit, TheClean, who, learn_of, start_of, Attempting, job_of, task_of, task_script, who_of, read_script, write_wants, task_commit_wants, task_abort_wants}
 use Rattle.job_spec.proofs.Common.{some_is, tasks_tell}
 use Rattle.job_model.specs.declared.events.Op.TheVariants as ops
+use Rattle.job_protocol.specs.Operations as protocol
+use Rattle.job_protocol.proofs.Begun.{clean_alone, commit_alone}
 use Rattle.commit_laws.specs.Fitting.{least_missing}
 use Rattle.job_actor.specs.declared.plan.Plan.TheVariants as plans
 use Rattle.job_actor.specs.Plans.{IsPlanOf}
@@ -16,12 +18,12 @@ use Rattle.actor_operations.proofs.Going.{not_self}
 -- ---- the driver's
 
 -- where the driver begins so, whoever has the plan does, since nobody else has it
-by_driver : (op : Op) (j : Job) (act : Act) → ((g : Setting) (missing : Option ℕ) (k : Known) → j ≡ job_of g.script → Begun g Driver op missing k act) → BeginsJob op j act
-by_driver op j act f g Driver missing k h = f g missing k h
-by_driver op j act f g _ missing k h = absurd h
+by_driver : (op : Op) (j : Job) (act : Act) → ((g : Setting) (r : Reports) (k : Known) → g.shared ≡ false → j ≡ job_of g.script → Begun g Driver op r k act) → BeginsJob op j act
+by_driver op j act f g Driver r k alone h = f g r k alone h
+by_driver op j act f g _ r k alone h = absurd h
 
 pub begins_setup : (j : Job) → BeginsJob ops.Setup j (setup_of j)
-begins_setup j = by_driver ops.Setup j (setup_of j) (λ g missing k e.
+begins_setup j = by_driver ops.Setup j (setup_of j) (λ g reports k alone e.
     let r = ap (λ x. x.retries) e in
     record {
       is_of = record { actor = refl; plan = e; retries = r };
@@ -29,27 +31,29 @@ begins_setup j = by_driver ops.Setup j (setup_of j) (λ g missing k e.
       known = refl;
     })
 
-begins_cleaning : (j : Job) (g : Setting) (k : Known) → j ≡ job_of g.script → IsOf g Driver (clean_of j) × (Some (TheClean (fresh g.script.retries clean_start)) ≡ Some (running_of k (clean_of j)).operation)
-begins_cleaning j g k e =
+begins_cleaning : (j : Job) (g : Setting) (k : Known) → g.shared ≡ false → j ≡ job_of g.script → IsOf g Driver (clean_of j) × (Some (protocol.clean_of g) ≡ Some (running_of k (clean_of j)).operation)
+begins_cleaning j g k alone e =
     let r = ap (λ x. x.retries) e in
-    (record { actor = refl; plan = e; retries = r }, ap (λ n. Some (TheClean (counted n false clean_start))) (sym r))
+    (record { actor = refl; plan = e; retries = r }, ap (λ o. Some o) (clean_alone g alone) ∙ ap (λ n. Some (TheClean (counted n false clean_start))) (sym r))
 
 pub begins_clean : (j : Job) → BeginsClean j (clean_of j)
 begins_clean j = record {
-  clean = by_driver ops.Clean j (clean_of j) (λ g missing k e. let b = begins_cleaning j g k e in record { is_of = b.0; starts = b.1; known = refl });
-  abort = by_driver ops.Abort j (clean_of j) (λ g missing k e. let b = begins_cleaning j g k e in record { is_of = b.0; starts = b.1; known = refl });
+  clean = by_driver ops.Clean j (clean_of j) (λ g r k alone e. let b = begins_cleaning j g k alone e in record { is_of = b.0; starts = b.1; known = refl });
+  abort = by_driver ops.Abort j (clean_of j) (λ g r k alone e. let b = begins_cleaning j g k alone e in record { is_of = b.0; starts = b.1; known = refl });
 }
 
-commit_begins : (j : Job) (reported : List ℕ) (g : Setting) (k : Known) → j ≡ job_of g.script → StartsSo g.script (least_missing g.script.tasks reported) → Begun g Driver ops.Commit (least_missing g.script.tasks reported) k (commit_of j reported)
-commit_begins j reported g k e so = record {
+commit_begins : (j : Job) (reported : List ℕ) (g : Setting) (r : Reports) (k : Known) → g.shared ≡ false → j ≡ job_of g.script → least_missing g.script.tasks reported ≡ r.missing → StartsSo g.script r.missing → Begun g Driver ops.Commit r k (commit_of j reported)
+commit_begins j reported g r k alone e least so = record {
   is_of = (refl, e);
-  starts = sym (ap (λ x. Some (TheCommit (commit_start (read_script x []) (least_missing x.tasks reported)))) e ∙ ap (λ c. Some (TheCommit c)) so);
+  starts =
+      ap (λ o. Some o) (commit_alone g r alone)
+      ∙ sym (ap (λ x. Some (TheCommit (commit_start (read_script x []) (least_missing x.tasks reported)))) e ∙ ap (λ m. Some (TheCommit (commit_start (read_script (job_of g.script) []) m))) least ∙ ap (λ c. Some (TheCommit c)) so);
   known = refl;
 }
 
 pub begins_commit : (j : Job) (reported : List ℕ) → BeginsCommit j reported (commit_of j reported)
-begins_commit j reported g Driver k h so = commit_begins j reported g k h so
-begins_commit j reported g _ k h so = absurd h
+begins_commit j reported g Driver r k alone h least so = commit_begins j reported g r k alone h least so
+begins_commit j reported g _ r k alone h least so = absurd h
 
 -- ---- an attempt's
 
@@ -58,7 +62,7 @@ abbrev HasPlan : Setting → Actor → Task → Type 0
 HasPlan g a t = IsAttempt a × (t ≡ task_of g.script g.minimum (who a) t.known)
 
 -- where an attempt begins so, whoever has the plan does
-by_attempt : (op : Op) (t : Task) (act : Act) → ((g : Setting) (a : Actor) (missing : Option ℕ) → HasPlan g a t → Begun g a op missing t.known act) → BeginsTask op t act
+by_attempt : (op : Op) (t : Task) (act : Act) → ((g : Setting) (a : Actor) (missing : Reports) → HasPlan g a t → Begun g a op missing t.known act) → BeginsTask op t act
 by_attempt op t act f g Driver missing k h = absurd h
 by_attempt op t act f g Shell missing k h = absurd h
 by_attempt op t act f g (Attempt task attempt) missing k h =
@@ -77,7 +81,7 @@ is_first g a t o h = record { actor = h.0; plan = h.1; retries = ap (λ x. x.job
 named : (P : Actor → Type 0) (a : Actor) (task attempt : ℕ) → a ≡ Attempt task attempt → P (Attempt task attempt) → P a
 named P a task attempt e p = subst P (sym e) p
 
-write_begins : (t : Task) (g : Setting) (a : Actor) (missing : Option ℕ) → HasPlan g a t → Begun g a ops.Write missing t.known (write_of t)
+write_begins : (t : Task) (g : Setting) (a : Actor) (missing : Reports) → HasPlan g a t → Begun g a ops.Write missing t.known (write_of t)
 write_begins t g a missing h = record {
   is_of = is_first g a t (write_start (task_script t) (who_of t)) h;
   starts =
@@ -90,7 +94,7 @@ write_begins t g a missing h = record {
 pub begins_write : (t : Task) → BeginsTask ops.Write t (write_of t)
 begins_write t = by_attempt ops.Write t (write_of t) (write_begins t)
 
-commit_task_begins : (t : Task) (g : Setting) (a : Actor) (missing : Option ℕ) → HasPlan g a t → Begun g a ops.Commit missing t.known (commit_task_of t)
+commit_task_begins : (t : Task) (g : Setting) (a : Actor) (missing : Reports) → HasPlan g a t → Begun g a ops.Commit missing t.known (commit_task_of t)
 commit_task_begins t g a missing h = record {
   is_of = is_first g a t (task_commit_start (task_script t) (who_of t)) h;
   starts =
@@ -103,7 +107,7 @@ commit_task_begins t g a missing h = record {
 pub begins_commit_task : (t : Task) → BeginsTask ops.Commit t (commit_task_of t)
 begins_commit_task t = by_attempt ops.Commit t (commit_task_of t) (commit_task_begins t)
 
-abort_task_begins : (t : Task) (g : Setting) (a : Actor) (missing : Option ℕ) → HasPlan g a t → Begun g a ops.Abort missing t.known (abort_task_of t)
+abort_task_begins : (t : Task) (g : Setting) (a : Actor) (missing : Reports) → HasPlan g a t → Begun g a ops.Abort missing t.known (abort_task_of t)
 abort_task_begins t g a missing h = record {
   is_of = is_first g a t (task_abort_start (task_script t) t.known) h;
   starts =
@@ -138,12 +142,12 @@ clean_begun j act e = subst (λ x. BeginsClean j x) (sym e) (begins_clean j)
 
 -- ---- the job's commit, as the script begins it
 
-commit_starts : (j : Job) (reported : List ℕ) (g : Setting) (a : Actor) (k : Known) → IsLegal g.script → IsPlanOf g a k (plans.Job j) → Starts IsOf running_of picks_of g a ops.Commit (least_missing g.script.tasks reported) k (commit_of j reported)
-commit_starts j reported g a k legal plan =
-    let b = begins_commit j reported g a k plan (begins_same g.script legal (least_missing g.script.tasks reported)) in
+commit_starts : (j : Job) (reported : List ℕ) (g : Setting) (a : Actor) (k : Known) (r : Reports) → g.shared ≡ false → IsLegal g.script → IsPlanOf g a k (plans.Job j) → least_missing g.script.tasks reported ≡ r.missing → Starts IsOf running_of picks_of g a ops.Commit r k (commit_of j reported)
+commit_starts j reported g a k r alone legal plan least =
+    let b = begins_commit j reported g a r k alone plan least (begins_same g.script legal r.missing) in
     record { goes_by = b.is_of; starts = b.starts; known = b.known; picks = λ ps e. sym (some_is e) }
 
-pub commit_starts_if : {E : Type 0} (r : Result Act E) (j : Job) (reported : List ℕ) → IfOk r (λ act. act ≡ commit_of j reported) → (g : Setting) (a : Actor) (k : Known) → IsLegal g.script → IsPlanOf g a k (plans.Job j)
-    → IfOk r (λ act. Starts IsOf running_of picks_of g a ops.Commit (least_missing g.script.tasks reported) k act)
-commit_starts_if (Ok act) j reported is g a k legal plan = subst (Starts IsOf running_of picks_of g a ops.Commit (least_missing g.script.tasks reported) k) (sym is) (commit_starts j reported g a k legal plan)
-commit_starts_if (Err e) j reported is g a k legal plan = tt
+pub commit_starts_if : {E : Type 0} (r : Result Act E) (j : Job) (reported : List ℕ) → IfOk r (λ act. act ≡ commit_of j reported) → (g : Setting) (a : Actor) (k : Known) (q : Reports) → g.shared ≡ false → IsLegal g.script → IsPlanOf g a k (plans.Job j) → least_missing g.script.tasks reported ≡ q.missing
+    → IfOk r (λ act. Starts IsOf running_of picks_of g a ops.Commit q k act)
+commit_starts_if (Ok act) j reported is g a k q alone legal plan least = subst (Starts IsOf running_of picks_of g a ops.Commit q k) (sym is) (commit_starts j reported g a k q alone legal plan least)
+commit_starts_if (Err e) j reported is g a k q alone legal plan least = tt

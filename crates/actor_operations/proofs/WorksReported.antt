@@ -1,21 +1,25 @@
 -- Until the driver cleans up each task has a last publisher where the driver's commit reads sets.
 use Rattle.std.proofs.Common.{◌≡◌, ℕ, inl, inr, nat_lt, Bool, true, false, cond, List, [], ◌∷◌, ◌++◌, length, Option, Some, None, refl, sym, ap, subst, ◌∙◌, arith}
-use Rattle.job_steps.specs.Prelude.{Content, Driver, Reply, Outcome, Answered, Slow, Entry, Request, Known, IsLegal, Script, Op, Event, Do, Start, EventEnd, Sweep, sweep_hears, Turn, again, follow, dealt, revert, Sets, all_commits, set_read, is_no_magic, Commit, Fetching, Replacing, Completing, Marking, Reverting, CommitOver, completing, replacing, fetching, fetched, swept, reverting, worn_completion, commit_misses, commit_tells, commit_start, Setting, Operation, TheCommit, who, tells, start_of, Seen, see_all, nothing_seen, missing, IsOpening, HasPublished, Play, Refuses, Opens, Sends, Finishes, Closes, knows_now, begun, open_running, hear, happen, MaySend, Reachable, nothing_happened, happens, Strays, Ahead, operation_of, strange_entry, times}
+use Rattle.job_steps.specs.Prelude.{Content, Actor, Driver, Reply, Outcome, Answered, Slow, Entry, Request, Known, IsLegal, Script, Op, Event, Do, Start, EventEnd, Sweep, sweep_hears, Turn, again, follow, dealt, revert, Sets, all_commits, set_read, is_no_magic, Commit, Fetching, Replacing, Completing, Marking, Reverting, CommitOver, completing, replacing, fetching, fetched, swept, reverting, worn_completion, commit_misses, commit_tells, commit_start, Setting, Operation, TheCommit, TheCheck, commit_of, commit_by, reports, step, fresh, who, tells, start_of, Seen, see_all, nothing_seen, missing, IsOpening, HasPublished, Play, Refuses, Opens, Sends, Finishes, Closes, knows_now, begun, open_running, hear, happen, MaySend, Reachable, nothing_happened, happens, Strays, Ahead, operation_of, strange_entry, times}
 use Rattle.job_model.specs.declared.events.Op.TheVariants as ops
+use Rattle.job_protocol.specs.Prelude.{Mode, Fail}
+use Rattle.job_protocol.specs.Rechecks.{check_after, check_start}
+use Rattle.job_protocol.proofs.Begun.{after_check_so, clean_of_so}
 use Rattle.job_steps.proofs.Actors.{same_or_not, put_here, put_other}
 use Rattle.job_steps.proofs.Running.{sent_ahead, finished_ahead, opened_ahead, refused_ahead, not_refused, closed_ahead, strayed_ahead}
 use Rattle.job_refinement.specs.Due.{AllPublished}
-use Rattle.job_steps.proofs.Reported.{AllReported, none_left, Unclean, later, unclean_before, reported}
+use Rattle.job_steps.proofs.Reported.{AllReported, all_published, Unclean, later, unclean_before, reported}
 
 -- ---- the driver's commit
 
--- while it reads sets each task has a last publisher
+-- while it reads sets, and during the check before, each task has a last publisher
 abbrev pub AllRead : Script → Seen → Commit → Type 0
 AllRead w s (Fetching sets n) = AllPublished w s
 AllRead w s _ = Unit {0}
 
 abbrev pub DriverReads : Script → Seen → Option Operation → Type 0
 DriverReads w s (Some (TheCommit c)) = AllRead w s c
+DriverReads w s (Some (TheCheck c)) = AllPublished w s
 DriverReads w s _ = Unit {0}
 
 module _ (w : Script) (s : Seen) where
@@ -71,23 +75,33 @@ read_still w s u keeps _ h = tt
 
 driver_still : (w : Script) (s u : Seen) → ((t : ℕ) → HasPublished s t → HasPublished u t) → (d : Option Operation) → DriverReads w s d → DriverReads w u d
 driver_still w s u keeps (Some (TheCommit c)) h = read_still w s u keeps c h
+driver_still w s u keeps (Some (TheCheck c)) h = λ t l. keeps t (h t l)
 driver_still w s u keeps _ h = tt
 
 driver_tells : (g : Setting) (s : Seen) (op : Operation) (o : Outcome) → DriverReads g.script s (Some op) → DriverReads g.script s (Some (tells g (who Driver) op o))
 driver_tells g s (TheCommit c) o h = read_tells g.script s c o h
+driver_tells g s (TheCheck t) o h = after_check_so g (λ op. DriverReads g.script s (Some op)) (all_read g.script s h (fetching g.script [])) (λ u. h) (step g.script.retries (check_after g.script) t o)
 driver_tells g s _ o h = tt
 
 -- ---- it begins
 
-commit_begins : (w : Script) (reported : ℕ → Bool) (s : Seen) → AllReported reported s → AllRead w s (commit_start w (missing w reported))
-commit_begins w reported s all = by (missing w reported) refl
-  where
-    by : (o : Option ℕ) → missing w reported ≡ o → AllRead w s (commit_start w o)
-    by (Some t) e = tt
-    by None e = all_read w s (λ t l. all t (none_left reported 0 w.tasks e t (omega arith) (omega (arith, l)))) (fetching w [])
+module _ (g : Setting) (reported : Actor → Bool) (s : Seen) (all : AllReported reported s) where
+  commit_starts : (o : Option ℕ) → missing g.script reported ≡ o → AllRead g.script s (commit_start g.script o)
+  commit_starts (Some t) e = tt
+  commit_starts None e = all_read g.script s (all_published g.script reported s all e) (fetching g.script [])
 
-driver_begins : (g : Setting) (reported : ℕ → Bool) (s : Seen) → AllReported reported s → (op : Op) (k : Known) → DriverReads g.script s (operation_of (begun (start_of g Driver op (missing g.script reported) k) k))
-driver_begins g reported s all ops.Commit k = commit_begins g.script reported s all
+  commit_begins : DriverReads g.script s (Some (commit_of g (reports g.script reported)))
+  commit_begins = by g.shared g.script.mode (missing g.script reported) refl
+    where
+      by : (b : Bool) (m : Mode) (o : Option ℕ) → missing g.script reported ≡ o → DriverReads g.script s (Some (commit_by g b m (reports g.script reported) o))
+      by true Fail None e =
+          after_check_so g (λ op. DriverReads g.script s (Some op)) (commit_starts None e) (λ u. all_published g.script reported s all e) (fresh g.script.retries (check_start g.script (reports g.script reported).attempts))
+      by b m o e = commit_starts o e
+
+driver_begins : (g : Setting) (reported : Actor → Bool) (s : Seen) → AllReported reported s → (op : Op) (k : Known) → DriverReads g.script s (operation_of (begun (start_of g Driver op (reports g.script reported) k) k))
+driver_begins g reported s all ops.Commit k = commit_begins g reported s all
+driver_begins g reported s all ops.Abort k = clean_of_so g (λ op. DriverReads g.script s (Some op)) tt tt
+driver_begins g reported s all ops.Clean k = clean_of_so g (λ op. DriverReads g.script s (Some op)) tt tt
 driver_begins g reported s all _ k = tt
 
 -- ---- every run

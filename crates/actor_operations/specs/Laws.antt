@@ -1,6 +1,6 @@
 -- The laws of the operations of a job's actors.
-use Rattle.std.specs.Prelude.{◌≡◌, ℕ, List, [], Option, Some, None}
-use Rattle.job_steps.specs.Prelude.{Actor, Outcome, fresh, Job, Task, Known, Script, Op, setup_start, write_start, task_commit_start, task_abort_start, commit_start, clean_start, Setting, wants, advance, over, start_of, task_script, who_of, read_script, job_of}
+use Rattle.std.specs.Prelude.{◌≡◌, ℕ, false, List, [], Option, Some, None}
+use Rattle.job_steps.specs.Prelude.{Actor, Outcome, fresh, Job, Task, Known, Script, Op, setup_start, write_start, task_commit_start, task_abort_start, commit_start, clean_start, Reports, Setting, wants, advance, over, start_of, task_script, who_of, read_script, job_of}
 use Rattle.machine.specs.declared.retrying.Retrying.{Retrying}
 use Rattle.job_model.specs.declared.events.Op.TheVariants as ops
 use Rattle.commit_laws.specs.Fitting.{least_missing}
@@ -55,19 +55,19 @@ commit_of j reported = Commit (record { plan = j; picked = []; operation = commi
 abbrev pub clean_of : Job → Act
 clean_of j = Clean (unsent j.retries (record { plan = j; operation = clean_start }))
 
--- it is this operation of the actor as the script begins it, where the actor knows k
-pub record Begun (g : Setting) (a : Actor) (op : Op) (missing : Option ℕ) (k : Known) (act : Act) : Type 0 where
+-- it is this operation of the actor as the script begins it, where the actor knows k and the driver these reports
+pub record Begun (g : Setting) (a : Actor) (op : Op) (reports : Reports) (k : Known) (act : Act) : Type 0 where
   pub is_of : IsOf g a act
-  pub starts : start_of g a op missing k ≡ Some (running_of k act).operation
+  pub starts : start_of g a op reports k ≡ Some (running_of k act).operation
   pub known : (running_of k act).known ≡ k
 
 -- whoever has this attempt's plan begins it so, in any script that gives it
 abbrev pub BeginsTask : Op → Task → Act → Type 0
-BeginsTask op t act = (g : Setting) (a : Actor) (missing : Option ℕ) (k : Known) → IsPlanOf g a k (plans.Task t) → Begun g a op missing k act
+BeginsTask op t act = (g : Setting) (a : Actor) (r : Reports) (k : Known) → IsPlanOf g a k (plans.Task t) → Begun g a op r k act
 
--- whoever has this plan of the job, which is the driver, begins an operation so
+-- whoever has this plan of a job that is alone at its destination, which is the driver, begins an operation so
 abbrev pub BeginsJob : Op → Job → Act → Type 0
-BeginsJob op j act = (g : Setting) (a : Actor) (missing : Option ℕ) (k : Known) → IsPlanOf g a k (plans.Job j) → Begun g a op missing k act
+BeginsJob op j act = (g : Setting) (a : Actor) (r : Reports) (k : Known) → g.shared ≡ false → IsPlanOf g a k (plans.Job j) → Begun g a op r k act
 
 -- a job's commit begins as by the script, before it read a set
 abbrev pub StartsSo : Script → Option ℕ → Type 0
@@ -75,7 +75,7 @@ StartsSo w missing = commit_start (read_script (job_of w) []) missing ≡ commit
 
 -- the driver's commit where these tasks are reported
 abbrev pub BeginsCommit : Job → List ℕ → Act → Type 0
-BeginsCommit j reported act = (g : Setting) (a : Actor) (k : Known) → IsPlanOf g a k (plans.Job j) → StartsSo g.script (least_missing g.script.tasks reported) → Begun g a ops.Commit (least_missing g.script.tasks reported) k act
+BeginsCommit j reported act = (g : Setting) (a : Actor) (r : Reports) (k : Known) → g.shared ≡ false → IsPlanOf g a k (plans.Job j) → least_missing g.script.tasks reported ≡ r.missing → StartsSo g.script r.missing → Begun g a ops.Commit r k act
 
 -- the driver's clean, and its abort
 pub record BeginsClean (j : Job) (act : Act) : Type 0 where

@@ -1,11 +1,11 @@
-ghost use Rattle.std.specs.Prelude.{◌≡◌, ℕ, Option, IfOk};
+ghost use Rattle.std.specs.Prelude.{◌≡◌, false, IfOk};
 ghost use Rattle.s3_types.specs.declared.request.Actor.{Actor};
 ghost use Rattle.job_actor.specs.declared.plan.Plan.TheVariants as plans;
 ghost use Rattle.job_actor.specs.Plans.{IsPlanOf};
 ghost use Rattle.commit_laws.specs.Fitting.{least_missing};
 ghost use Rattle.job_model.specs.Known.{Known};
 ghost use Rattle.job_model.specs.Legal.{IsLegal, HasOp};
-ghost use Rattle.job_protocol.specs.Operations.{Setting};
+ghost use Rattle.job_protocol.specs.Operations.{Reports, Setting};
 ghost use Rattle.job_actor.specs.Works.{Starts};
 ghost use Rattle.actor_operations.specs.Plans.{IsOf, running_of, picks_of};
 ghost use Rattle.actor_operations.specs.Rising.{rise as rise_in};
@@ -21,9 +21,9 @@ use std::alloc::{AllocError, Global};
 
 /// Begins an operation of the driver, which writes nothing.
 fn begin_job(alloc: Global, plan: JobPlan, op: Op, reported: &TaskSet) -> Result<Act, AllocError>
-    ensures { (g : Setting) (a : Actor) (k : Known) → IsLegal g.script → IsPlanOf g a k (plans.Job plan) → HasOp a op
-        → IfOk result (λ act. Starts IsOf running_of picks_of g a op (least_missing g.script.tasks reported.now) k
-        act) }
+    ensures { (g : Setting) (a : Actor) (k : Known) (r : Reports) → g.shared ≡ false → IsLegal g.script
+        → IsPlanOf g a k (plans.Job plan) → HasOp a op → least_missing g.script.tasks reported.now ≡ r.missing
+        → IfOk result (λ act. Starts IsOf running_of picks_of g a op r k act) }
 {
     match op {
         Op::Setup => begin_setup(alloc, plan),
@@ -35,8 +35,8 @@ fn begin_job(alloc: Global, plan: JobPlan, op: Op, reported: &TaskSet) -> Result
 
 /// Begins an operation of an attempt, which sets nothing up and cleans nothing.
 fn begin_task(alloc: Global, plan: TaskPlan, op: Op) -> Result<Act, AllocError>
-    ensures { (g : Setting) (a : Actor) (k : Known) (missing : Option ℕ) → IsPlanOf g a k (plans.Task plan) → HasOp a op
-        → IfOk result (λ act. Starts IsOf running_of picks_of g a op missing k act) }
+    ensures { (g : Setting) (a : Actor) (k : Known) (r : Reports) → IsPlanOf g a k (plans.Task plan) → HasOp a op
+        → IfOk result (λ act. Starts IsOf running_of picks_of g a op r k act) }
 {
     match op {
         Op::Write => begin_write(alloc, plan),

@@ -1,8 +1,10 @@
 -- That the driver's commit is at work exactly where it was begun last, and that nothing is picked before it.
-use Rattle.std.proofs.Common.{◌≡◌, ℕ, zero, suc, ◌+◌, true, [], ◌++◌, length, Option, Some, None, refl, sym, ap, subst, ◌∙◌, arith}
+use Rattle.std.proofs.Common.{◌≡◌, ℕ, zero, suc, ◌+◌, true, false, [], ◌++◌, length, Option, Some, None, refl, sym, ap, subst, ◌∙◌, arith}
 use Rattle.job_spec.proofs.Common.{false≢true, none_some}
-use Rattle.job_steps.specs.Prelude.{Content, Actor, Driver, Outcome, Entry, Known, IsLegal, Op, Setup, Event, Do, Start, ActorState, Picks, Setting, Operation, TheSetup, Running, who, tells, start_of, Seen, see_all, nothing_seen, put, missing, open_event, refusal, driver_may, begins_commit, is_commit, picked, picks_below, Told, IsOpening, is_just_set, Play, Refuses, Opens, Sends, Finishes, Closes, Strays, begun, knows_now, open_running, hear, MayOpen, Reachable, nothing_happened, happens, operation_of, times}
+use Rattle.job_steps.specs.Prelude.{Content, Actor, Driver, Outcome, Entry, Known, IsLegal, Op, Setup, Abort, Clean, Event, Do, Start, ActorState, Picks, Setting, Operation, TheSetup, TheCheck, Running, who, tells, start_of, Seen, see_all, nothing_seen, put, reports, Reports, open_event, refusal, driver_may, begins_commit, is_commit, picked, picks_below, Told, IsOpening, is_just_set, Play, Refuses, Opens, Sends, Finishes, Closes, Strays, begun, knows_now, open_running, hear, MayOpen, Reachable, nothing_happened, happens, operation_of, times, step}
 use Rattle.job_model.specs.declared.events.Op.TheVariants.{Commit}
+use Rattle.job_protocol.specs.Rechecks.{check_after}
+use Rattle.job_protocol.proofs.Begun.{after_check_so, clean_of_so, commit_of_so}
 use Rattle.job_traces.proofs.Running.{At}
 use Rattle.job_traces.proofs.Entries.{take_all, sees, late_now}
 use Rattle.job_traces.proofs.EveryRun.{just_set}
@@ -18,17 +20,20 @@ record Doing (x : Play) : Type 0 where
   rest : x.now ≡ None → x.live.doing ≡ x.past.doing
 
 module _ (g : Setting) where
-  began : (op : Op) (k : Known) (since : ℕ) (least : Option ℕ) → is_committing (begun (start_of g Driver op least k) k) ≡ is_commit (Some (record { op = op; since = since; missing = least }))
-  began Setup k since least = refl
-  began _ k since least = refl
+  began : (op : Op) (k : Known) (since : ℕ) (r : Reports) → is_committing (begun (start_of g Driver op r k) k) ≡ is_commit (Some (record { op = op; since = since; reports = r }))
+  began Commit k since r = commit_of_so g (λ op. is_job_commit op ≡ true) (λ m. refl) (λ t. refl) r
+  began Abort k since r = clean_of_so g (λ op. is_job_commit op ≡ false) refl refl
+  began Clean k since r = clean_of_so g (λ op. is_job_commit op ≡ false) refl refl
+  began _ k since r = refl
 
   opened : (x : Play) (ev : Event) → is_committing (x.running Driver) ≡ is_commit (x.past.doing Driver) → is_committing (open_running g x ev Driver) ≡ is_commit ((open_event g.script x.past ev).doing Driver)
-  opened x (Do Driver op) h = began op (knows_now g x Driver) (x.past.events + 1) (missing g.script x.past.reported)
-  opened x (Start Driver op) h = began op (knows_now g x Driver) (x.past.events + 1) (missing g.script x.past.reported)
+  opened x (Do Driver op) h = began op (knows_now g x Driver) (x.past.events + 1) (reports g.script x.past.reported)
+  opened x (Start Driver op) h = began op (knows_now g x Driver) (x.past.events + 1) (reports g.script x.past.reported)
   opened x _ h = h
 
   -- an outcome leads an operation to one of the same kind
   told_commit : (op : Operation) (o : Outcome) → is_job_commit (tells g (who Driver) op o) ≡ is_job_commit op
+  told_commit (TheCheck t) o = after_check_so g (λ op. is_job_commit op ≡ true) refl (λ u. refl) (step g.script.retries (check_after g.script) t o)
   told_commit (TheSetup t) o = refl
   told_commit _ o = refl
 

@@ -1,6 +1,6 @@
 -- While the job's commit reads, nothing is picked of the tasks whose sets it has yet to read.
 use Rattle.std.proofs.Common.{◌≡◌, ℕ, nat_lt, ◌<◌, ◌≤◌, ◌^◌, ◌⊎◌, inl, inr, ◌&&◌, Bool, true, false, cond, List, [], ◌∷◌, ◌++◌, length, Option, Some, None, refl, sym, ap, subst, ◌∙◌, arith, length-append}
-use Rattle.job_steps.specs.Prelude.{Content, answer, IsHonestOutcome, Request, Driver, Reply, Outcome, Answered, Slow, Entry, PendingSet, Who, IsLegal, Script, CommitEnd, Picks, files_set, Sweep, sweep_hears, Turn, again, follow, dealt, revert, Sets, picks_of, all_commits, set_request, set_read, Commit, Fetching, Replacing, Completing, Marking, Reverting, CommitOver, is_no_magic, completing, replaced, replacing, fetching, fetched, swept, reverting, worn_completion, commit_start, commit_asks, commit_misses, commit_tells, Setting, Operation, TheSetup, TheCommit, who, asks, tells, Seen, see, Told, entry, driver_entry, Hold, knowing, Decides, Stand, Beginning, BeginSetup, BeginCommit, BeginClean, begin, Runs, run_begins, actor_begins, driver_sends, attempt_sends, strays, IsOpening, IsTimely, nothing_learnt, is_set}
+use Rattle.job_steps.specs.Prelude.{Content, answer, IsHonestOutcome, Request, Driver, Reply, Outcome, Answered, Slow, Entry, PendingSet, Who, IsLegal, Script, CommitEnd, Picks, files_set, Sweep, sweep_hears, Turn, again, follow, dealt, revert, Sets, picks_of, all_commits, set_request, set_read, Commit, Fetching, Replacing, Completing, Marking, Reverting, CommitOver, is_no_magic, completing, replaced, replacing, fetching, fetched, swept, reverting, worn_completion, commit_start, commit_asks, commit_misses, commit_tells, Setting, Operation, TheSetup, TheCommit, TheCheck, step, who, asks, tells, Seen, see, Told, entry, driver_entry, Hold, knowing, Decides, Stand, Beginning, BeginSetup, BeginCommit, BeginClean, begin, Runs, run_begins, actor_begins, driver_sends, attempt_sends, strays, IsOpening, IsTimely, nothing_learnt, is_set}
 use Rattle.job_facts.specs.Prelude.{same_path, ok_set, decided, picks_by, sets_at, IsSetAnswer, Times, is_picking}
 use Rattle.job_spec.proofs.Common.{some_is, none_some, none_or_some, same_or_not}
 use Rattle.job_traces.specs.Runs.{MayBegin}
@@ -9,7 +9,10 @@ use Rattle.job_facts.proofs.Replies.{set_reply, bytes_read}
 use Rattle.job_traces.proofs.Running.{At, InCommit}
 use Rattle.job_traces.proofs.Steps.{commit_picks}
 use Rattle.job_traces.proofs.Entries.{late_now}
-use Rattle.job_traces.proofs.EveryRun.{just_set}
+use Rattle.job_protocol.specs.Rechecks.{check_after}
+use Rattle.job_protocol.proofs.Begun.{after_check_so, clean_of_so, commit_of_so}
+use Rattle.job_facts.proofs.Sharing.{check_plain}
+use Rattle.job_traces.proofs.EveryRun.{just_set, checked_idle, cleans_is}
 use Rattle.job_actor.proofs.Picking.{unpicked}
 
 -- ---- what is read of a task
@@ -62,6 +65,7 @@ Free w p _ = Unit {0}
 
 abbrev pub FreeAt : Script → Picks → Option Operation → Type 0
 FreeAt w p (Some (TheCommit c)) = Free w p c
+FreeAt w p (Some (TheCheck c)) = (t : ℕ) → p t ≡ None
 FreeAt w p _ = Unit {0}
 
 module _ (w : Script) (p : Picks) where
@@ -166,14 +170,20 @@ module _ (g : Setting) (k : Times) (opening : Content) (j : IsLegal g.script) (i
       let l = late_now g k opening j is_opening fs y run (ap is_set d) in
       let i : InCommit g opening y.seen.picks y.told c = subst (λ v. At g opening v y.seen y.told) d l.driver in
       free_next w g.minimum j k y.seen y.told n l.hold i.uncleaned few (commit_picks k y.seen.begun n timely.0 timely.1) c i.decides (subst (FreeAt w y.seen.picks) d free) r asked o honest
+  sent fs y (TheCheck t) n r o run d asked timely few honest free =
+      let l = late_now g k opening j is_opening fs y run (ap is_set d) in
+      let idle = subst (λ v. At g opening v y.seen y.told) d l.driver in
+      let after = checked_idle g k opening j is_opening y (cleans_is g k opening j is_opening fs y run) n r o (check_plain w t.operation r asked) timely.1 idle in
+      after_check_so g (λ op. FreeAt w (see w k y.seen (driver_entry n r o)).picks (Some op)) (free_start w (see w k y.seen (driver_entry n r o)).picks after.unpicked None) (λ u. after.unpicked) (step w.retries (check_after w) t o)
   sent fs y _ n r o run d asked timely few honest free = tt
 
   begin_unread : (fs : List Entry) (y : Stand) (b : Beginning) → Runs g k opening fs y → MayBegin g y b → FreeAt w y.seen.picks y.driver → FreeAt w y.seen.picks (begin g y b).driver
-  begin_unread fs y (BeginCommit missing) run may free =
+  begin_unread fs y (BeginCommit r) run may free =
       let l = late_now g k opening j is_opening fs y run (just_set y.driver may) in
-      free_start w y.seen.picks (unpicked g opening j is_opening y.driver y.seen y.told may l.driver) missing
+      let none = unpicked g opening j is_opening y.driver y.seen y.told may l.driver in
+      commit_of_so g (λ op. FreeAt w y.seen.picks (Some op)) (free_start w y.seen.picks none) (λ u. none) r
   begin_unread fs y BeginSetup run may free = tt
-  begin_unread fs y BeginClean run may free = tt
+  begin_unread fs y BeginClean run may free = clean_of_so g (λ op. FreeAt w y.seen.picks (Some op)) tt tt
   begin_unread fs y _ run may free = free
 
   pub unread : (es : List Entry) (x : Stand) → Runs g k opening es x → FreeAt w x.seen.picks x.driver

@@ -1,6 +1,6 @@
 -- The picks of a job's commit, as a run goes on.
 use Rattle.std.specs.Prelude.{◌≡◌, Bool, true, false, List, [], Option, Some, None}
-use Rattle.job_steps.specs.Prelude.{Content, Driver, IsLegal, Event, EventEnd, Pick, Setting, Operation, Running, TheSetup, TheWrite, TheTaskCommit, TheTaskAbort, TheCommit, TheClean, begins_commit, is_commit, all_picks, IsOpening, Play, Reachable, MayOpen, Ahead}
+use Rattle.job_steps.specs.Prelude.{Content, Driver, IsLegal, Event, EventEnd, Pick, Setting, Operation, Running, TheSetup, TheWrite, TheTaskCommit, TheTaskAbort, TheCommit, TheClean, TheCheck, TheSparing, begins_commit, is_commit, all_picks, IsOpening, Play, Reachable, MayOpen, Ahead}
 
 -- these are the picks that are seen so far, however the run goes on
 abbrev pub ArePicksOf : Setting → Content → Play → List Pick → Type 0
@@ -11,7 +11,7 @@ abbrev pub HasPicked : Setting → Content → Play → Option (List Pick) → T
 HasPicked g opening x (Some ps) = ArePicksOf g opening x ps
 HasPicked g opening x None = Unit {0}
 
--- the operation is the job's commit
+-- the operation is the job's commit, or the check that goes on as one
 abbrev pub is_job_commit : Operation → Bool
 is_job_commit (TheSetup t) = false
 is_job_commit (TheWrite t) = false
@@ -19,6 +19,8 @@ is_job_commit (TheTaskCommit t) = false
 is_job_commit (TheTaskAbort t) = false
 is_job_commit (TheCommit c) = true
 is_job_commit (TheClean t) = false
+is_job_commit (TheCheck t) = true
+is_job_commit (TheSparing t) = false
 
 -- what an actor began last is the job's commit
 abbrev pub is_committing : Option Running → Bool

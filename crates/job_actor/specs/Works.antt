@@ -1,6 +1,6 @@
 -- What the operations of a job's actors owe to a world.
 use Rattle.std.specs.Prelude.{◌≡◌, ℕ, ◌+◌, ◌≤◌, ◌^◌, List, [], Option, Some, None, is_some, slice_get}
-use Rattle.job_steps.specs.Prelude.{Content, Scene, answer, apply, IsHonestOutcome, Request, Actor, Driver, Attempt, Shell, Outcome, Entry, Known, IsLegal, Script, Op, OpEnd, Pick, Setting, Running, advance, over, start_of, actors, Seen, see, IsOpening, Play, Reachable, Sends, MaySend, happen, scene_of, knows_now, Times}
+use Rattle.job_steps.specs.Prelude.{Content, Scene, answer, apply, IsHonestOutcome, Request, Actor, Driver, Attempt, Shell, Outcome, Entry, Known, IsLegal, Script, Op, OpEnd, Pick, Reports, Setting, Running, advance, over, start_of, actors, Seen, see, IsOpening, Play, Reachable, Sends, MaySend, happen, scene_of, knows_now, Times}
 use Rattle.job_protocol.specs.Operations as operations
 use Rattle.job_actor.specs.Posting.{DueFits}
 use Rattle.job_actor.specs.Picks.{HasPicked, is_job_commit}
@@ -9,10 +9,10 @@ use Rattle.job_actor.specs.Picks.{HasPicked, is_job_commit}
 abbrev pub IsPlace : Script → ℕ → Actor → Type 0
 IsPlace w place a = slice_get (actors w) place ≡ Some a
 
--- it is this operation of the actor as the script begins it, where the actor knows k
-pub record Starts {W : Type 0} (is_of : Setting → Actor → W → Type 0) (running : Known → W → Running) (picks_of : W → Option (List Pick)) (g : Setting) (a : Actor) (op : Op) (missing : Option ℕ) (k : Known) (work : W) : Type 0 where
+-- it is this operation of the actor as the script begins it, where the actor knows k and the driver these reports
+pub record Starts {W : Type 0} (is_of : Setting → Actor → W → Type 0) (running : Known → W → Running) (picks_of : W → Option (List Pick)) (g : Setting) (a : Actor) (op : Op) (reports : Reports) (k : Known) (work : W) : Type 0 where
   pub goes_by : is_of g a work
-  pub starts : start_of g a op missing k ≡ Some (running k work).operation
+  pub starts : start_of g a op reports k ≡ Some (running k work).operation
   pub known : (running k work).known ≡ k
   -- it has picked nothing
   pub picks : (ps : List Pick) → picks_of work ≡ Some ps → ps ≡ []

@@ -1,4 +1,4 @@
-ghost use Rattle.std.specs.Prelude.{◌≡◌, ℕ, IfOk, List, Option, None};
+ghost use Rattle.std.specs.Prelude.{◌≡◌, false, ℕ, IfOk, List, Option, None};
 ghost use Rattle.std.specs.Option.{option_copied};
 ghost use Rattle.s3_types.specs.declared.request.Actor.{Actor};
 ghost use Rattle.job_model.specs.Known.{Known};
@@ -6,7 +6,7 @@ ghost use Rattle.job_model.specs.Legal.{HasOp, IsLegal};
 ghost use Rattle.job_model.specs.JobScript.{Script};
 ghost use Rattle.job_model.specs.declared.ends.Pick.{Pick};
 ghost use Rattle.commit_laws.specs.Fitting.{least_missing};
-ghost use Rattle.job_protocol.specs.Operations.{Setting, Running};
+ghost use Rattle.job_protocol.specs.Operations.{Reports, Setting, Running};
 ghost use Rattle.job_actor.specs.Plans.{IsPlanOf};
 ghost use Rattle.job_actor.specs.Works.{WorkLaws, Starts};
 
@@ -39,9 +39,9 @@ pub trait Works: Acts {
         op: Op,
         reported: &TaskSet,
     ) -> Result<Self, AllocError>
-        ensures { (g : Setting) (k : Known) → IsLegal g.script → IsPlanOf g actor k plan → HasOp actor op
-            → IfOk result (λ work. Starts is_of running picks_of g actor op (least_missing g.script.tasks reported.now)
-            k work) };
+        ensures { (g : Setting) (k : Known) (r : Reports) → g.shared ≡ false → IsLegal g.script → IsPlanOf g actor k plan
+            → HasOp actor op → least_missing g.script.tasks reported.now ≡ r.missing
+            → IfOk result (λ work. Starts is_of running picks_of g actor op r k work) };
 
     /// Gives the plan back, with what its attempt knows as the operation leaves it. Takes no memory.
     fn into_plan(self) -> Plan

@@ -51,9 +51,9 @@ four_files = record {
   sent = refl;
   event = refl;
   keeps = keeps nothing journal script refl (commits_at 4) walk [] refl refl;
-  setup = record { event = refl; may = refl; doing = refl; turns = (refl, (refl, (refl, tt))); follows = (refl, (refl, (refl, tt))); over = refl; has_ended = refl };
-  write = record { event = refl; may = refl; doing = refl; turns = (refl, (refl, (refl, (refl, (refl, (refl, (refl, (refl, (refl, (refl, (refl, (refl, (refl, (refl, (refl, (refl, tt)))))))))))))))); follows = (refl, (refl, (refl, (refl, (refl, (refl, (refl, (refl, (refl, (refl, (refl, (refl, (refl, (refl, (refl, (refl, tt)))))))))))))))); over = refl; has_ended = refl };
-  task = record { event = refl; may = refl; doing = refl; turns = (refl, (refl, (refl, (refl, (refl, (refl, tt)))))); follows = (refl, (refl, (refl, (refl, (refl, (refl, tt)))))); over = refl; has_ended = refl };
+  setup = record { event = refl; may = refl; missing_is = refl; doing = refl; turns = (refl, (refl, (refl, tt))); follows = (refl, (refl, (refl, tt))); over = refl; has_ended = refl };
+  write = record { event = refl; may = refl; missing_is = refl; doing = refl; turns = (refl, (refl, (refl, (refl, (refl, (refl, (refl, (refl, (refl, (refl, (refl, (refl, (refl, (refl, (refl, (refl, tt)))))))))))))))); follows = (refl, (refl, (refl, (refl, (refl, (refl, (refl, (refl, (refl, (refl, (refl, (refl, (refl, (refl, (refl, (refl, tt)))))))))))))))); over = refl; has_ended = refl };
+  task = record { event = refl; may = refl; missing_is = refl; doing = refl; turns = (refl, (refl, (refl, (refl, (refl, (refl, tt)))))); follows = (refl, (refl, (refl, (refl, (refl, (refl, tt)))))); over = refl; has_ended = refl };
   start = refl;
   step = ((refl, (refl, (refl, tt))), refl);
   dies = refl;

@@ -21,9 +21,9 @@ pub new_driver : NewDriver
 unfolding digits escape_byte block_of parts_of
 new_driver = record {
   replaces = replaces;
-  setup = record { event = refl; may = refl; doing = refl; turns = (refl, (refl, (refl, tt))); follows = (refl, (refl, (refl, tt))); over = refl; has_ended = refl };
-  first_write = record { event = refl; may = refl; doing = refl; turns = (refl, (refl, (refl, (refl, tt)))); follows = (refl, (refl, (refl, (refl, tt)))); over = refl; has_ended = refl };
-  first_task = record { event = refl; may = refl; doing = refl; turns = (refl, (refl, (refl, tt))); follows = (refl, (refl, (refl, tt))); over = refl; has_ended = refl };
+  setup = record { event = refl; may = refl; missing_is = refl; doing = refl; turns = (refl, (refl, (refl, tt))); follows = (refl, (refl, (refl, tt))); over = refl; has_ended = refl };
+  first_write = record { event = refl; may = refl; missing_is = refl; doing = refl; turns = (refl, (refl, (refl, (refl, tt)))); follows = (refl, (refl, (refl, (refl, tt)))); over = refl; has_ended = refl };
+  first_task = record { event = refl; may = refl; missing_is = refl; doing = refl; turns = (refl, (refl, (refl, tt))); follows = (refl, (refl, (refl, tt))); over = refl; has_ended = refl };
   may_die = refl;
   kill = refl;
   died = refl;
@@ -33,10 +33,10 @@ new_driver = record {
   reported = refl;
   forgot = refl;
   stays = refl;
-  second_write = record { event = refl; may = refl; doing = refl; turns = (refl, (refl, (refl, (refl, tt)))); follows = (refl, (refl, (refl, (refl, tt)))); over = refl; has_ended = refl };
-  second_task = record { event = refl; may = refl; doing = refl; turns = (refl, (refl, (refl, tt))); follows = (refl, (refl, (refl, tt))); over = refl; has_ended = refl };
-  commit = record { event = refl; may = refl; doing = refl; turns = (refl, (refl, (refl, tt))); follows = rw set_is_read (refl, (refl, (refl, tt))); over = rw set_is_read refl; has_ended = refl };
-  clean = record { event = refl; may = refl; doing = refl; turns = (refl, (refl, (refl, (refl, tt)))); follows = (refl, (refl, (refl, (refl, tt)))); over = refl; has_ended = refl };
+  second_write = record { event = refl; may = refl; missing_is = refl; doing = refl; turns = (refl, (refl, (refl, (refl, tt)))); follows = (refl, (refl, (refl, (refl, tt)))); over = refl; has_ended = refl };
+  second_task = record { event = refl; may = refl; missing_is = refl; doing = refl; turns = (refl, (refl, (refl, tt))); follows = (refl, (refl, (refl, tt))); over = refl; has_ended = refl };
+  commit = record { event = refl; may = refl; missing_is = refl; doing = refl; turns = (refl, (refl, (refl, tt))); follows = rw set_is_read (refl, (refl, (refl, tt))); over = rw set_is_read refl; has_ended = refl };
+  clean = record { event = refl; may = refl; missing_is = refl; doing = refl; turns = (refl, (refl, (refl, (refl, tt)))); follows = (refl, (refl, (refl, (refl, tt)))); over = refl; has_ended = refl };
   driver = refl;
   first = refl;
   second = refl;
@@ -53,12 +53,12 @@ forgotten = record {
   sent = refl;
   event = refl;
   keeps = keeps nothing first_entries early_script refl (commits_at 6) early_walk [] refl refl;
-  setup = record { event = refl; may = refl; doing = refl; turns = (refl, (refl, (refl, tt))); follows = (refl, (refl, (refl, tt))); over = refl; has_ended = refl };
-  write = record { event = refl; may = refl; doing = refl; turns = (refl, (refl, (refl, (refl, tt)))); follows = (refl, (refl, (refl, (refl, tt)))); over = refl; has_ended = refl };
-  task = record { event = refl; may = refl; doing = refl; turns = (refl, (refl, (refl, tt))); follows = (refl, (refl, (refl, tt))); over = refl; has_ended = refl };
+  setup = record { event = refl; may = refl; missing_is = refl; doing = refl; turns = (refl, (refl, (refl, tt))); follows = (refl, (refl, (refl, tt))); over = refl; has_ended = refl };
+  write = record { event = refl; may = refl; missing_is = refl; doing = refl; turns = (refl, (refl, (refl, (refl, tt)))); follows = (refl, (refl, (refl, (refl, tt)))); over = refl; has_ended = refl };
+  task = record { event = refl; may = refl; missing_is = refl; doing = refl; turns = (refl, (refl, (refl, tt))); follows = (refl, (refl, (refl, tt))); over = refl; has_ended = refl };
   published = refl;
   stands = object_then nothing first_entries refl 10 set_key;
-  commit = record { event = refl; may = refl; doing = refl; turns = tt; follows = tt; over = refl; has_ended = refl };
+  commit = record { event = refl; may = refl; missing_is = refl; doing = refl; turns = tt; follows = tt; over = refl; has_ended = refl };
   not_begun = refl;
   due = refl;
   picks = refl;

@@ -7,7 +7,7 @@ use Rattle.job_model.specs.declared.ends.CommitEnd.TheVariants as commits
 use Rattle.job_model.specs.declared.ends.CleanEnd.TheVariants as cleans
 use Rattle.job_model.specs.declared.ends.Stage.TheVariants as stages
 use Rattle.job_model.specs.declared.ends.OpEnd.TheVariants as ends
-use Rattle.job_examples.specs.OneFile.{opening, setting, attempt_entries}
+use Rattle.job_examples.specs.OneFile.{opening, setting, attempt_entries, doing}
 use Rattle.job_examples.specs.RefusedEnds.{both_script, both_attempts, revert_script, half_reverted, revert_ends, anew_script, anew_ends, strange_ends, Misended}
 use Rattle.job_examples.proofs.Books.{content_of}
 use Rattle.job_examples.proofs.Checks.{views, objects_at, moment_is, book_after}
@@ -32,7 +32,7 @@ both_in a =
 -- ---- a task that is reported after a restart
 
 abbrev anew_doing : Doing
-anew_doing = record { op = ops.Commit; since = 6; missing = None }
+anew_doing = doing ops.Commit 6 None
 
 anew_ended : EndedIn anew_script anew_ends [] 5 Driver anew_doing (ends.Commit (commits.Missing 0)) []
 anew_ended = record {
@@ -57,7 +57,7 @@ anew_in h = let d = (h 5 anew_doing (commits.Missing 0) [] anew_ended).due tt in
 -- ---- a revert
 
 abbrev revert_doing : Doing
-revert_doing = record { op = ops.Commit; since = 4; missing = None }
+revert_doing = doing ops.Commit 4 None
 
 abbrev revert_entries : List Entry
 revert_entries = since 4 (by_actor Driver (until 4 half_reverted))

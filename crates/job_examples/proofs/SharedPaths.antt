@@ -36,12 +36,12 @@ shared_path = record {
   sent = refl;
   event = refl;
   keeps = keeps nothing journal script refl (commits_at 6) walk [] refl refl;
-  setup = record { event = refl; may = refl; doing = refl; turns = (refl, (refl, (refl, tt))); follows = (refl, (refl, (refl, tt))); over = refl; has_ended = refl };
-  first_write = record { event = refl; may = refl; doing = refl; turns = (refl, (refl, (refl, (refl, tt)))); follows = (refl, (refl, (refl, (refl, tt)))); over = refl; has_ended = refl };
-  second_write = record { event = refl; may = refl; doing = refl; turns = (refl, (refl, (refl, (refl, tt)))); follows = (refl, (refl, (refl, (refl, tt)))); over = refl; has_ended = refl };
-  first_task = record { event = refl; may = refl; doing = refl; turns = (refl, (refl, (refl, tt))); follows = (refl, (refl, (refl, tt))); over = refl; has_ended = refl };
-  second_task = record { event = refl; may = refl; doing = refl; turns = (refl, (refl, (refl, tt))); follows = (refl, (refl, (refl, tt))); over = refl; has_ended = refl };
-  commit = record { event = refl; may = refl; doing = refl; turns = (refl, (refl, tt)); follows = rw first_is_read (refl, (refl, tt)); over = rw first_is_read (rw second_is_read refl); has_ended = refl };
+  setup = record { event = refl; may = refl; missing_is = refl; doing = refl; turns = (refl, (refl, (refl, tt))); follows = (refl, (refl, (refl, tt))); over = refl; has_ended = refl };
+  first_write = record { event = refl; may = refl; missing_is = refl; doing = refl; turns = (refl, (refl, (refl, (refl, tt)))); follows = (refl, (refl, (refl, (refl, tt)))); over = refl; has_ended = refl };
+  second_write = record { event = refl; may = refl; missing_is = refl; doing = refl; turns = (refl, (refl, (refl, (refl, tt)))); follows = (refl, (refl, (refl, (refl, tt)))); over = refl; has_ended = refl };
+  first_task = record { event = refl; may = refl; missing_is = refl; doing = refl; turns = (refl, (refl, (refl, tt))); follows = (refl, (refl, (refl, tt))); over = refl; has_ended = refl };
+  second_task = record { event = refl; may = refl; missing_is = refl; doing = refl; turns = (refl, (refl, (refl, tt))); follows = (refl, (refl, (refl, tt))); over = refl; has_ended = refl };
+  commit = record { event = refl; may = refl; missing_is = refl; doing = refl; turns = (refl, (refl, tt)); follows = rw first_is_read (refl, (refl, tt)); over = rw first_is_read (rw second_is_read refl); has_ended = refl };
   not_begun = refl;
   begun = refl;
   first_pick = refl;

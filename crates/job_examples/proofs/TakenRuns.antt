@@ -26,11 +26,11 @@ taken = record {
   sent = refl;
   event = refl;
   keeps = keeps start journal script refl (commits_at 5) walk [] refl refl;
-  setup = record { event = refl; may = refl; doing = refl; turns = (refl, (refl, tt)); follows = (refl, (refl, tt)); over = refl; has_ended = refl };
-  write = record { event = refl; may = refl; doing = refl; turns = tt; follows = tt; over = refl; has_ended = refl };
-  task = record { event = refl; may = refl; doing = refl; turns = (refl, tt); follows = (refl, tt); over = refl; has_ended = refl };
-  abort = record { event = refl; may = refl; doing = refl; turns = tt; follows = tt; over = refl; has_ended = refl };
-  commit = record { event = refl; may = refl; doing = refl; turns = tt; follows = tt; over = refl; has_ended = refl };
+  setup = record { event = refl; may = refl; missing_is = refl; doing = refl; turns = (refl, (refl, tt)); follows = (refl, (refl, tt)); over = refl; has_ended = refl };
+  write = record { event = refl; may = refl; missing_is = refl; doing = refl; turns = tt; follows = tt; over = refl; has_ended = refl };
+  task = record { event = refl; may = refl; missing_is = refl; doing = refl; turns = (refl, tt); follows = (refl, tt); over = refl; has_ended = refl };
+  abort = record { event = refl; may = refl; missing_is = refl; doing = refl; turns = tt; follows = tt; over = refl; has_ended = refl };
+  commit = record { event = refl; may = refl; missing_is = refl; doing = refl; turns = tt; follows = tt; over = refl; has_ended = refl };
   unpublished = refl;
   not_begun = refl;
   due = refl;

@@ -58,11 +58,11 @@ pub two_attempts : TwoAttempts
 unfolding digits escape_byte block_of parts_of
 two_attempts = record {
   replaces = replaces;
-  setup = record { event = refl; may = refl; doing = refl; turns = (refl, (refl, (refl, tt))); follows = (refl, (refl, (refl, tt))); over = refl; has_ended = refl };
-  first_write = record { event = refl; may = refl; doing = refl; turns = (refl, (refl, (refl, (refl, tt)))); follows = (refl, (refl, (refl, (refl, tt)))); over = refl; has_ended = refl };
-  first_task = record { event = refl; may = refl; doing = refl; turns = (refl, (refl, (refl, tt))); follows = (refl, (refl, (refl, tt))); over = refl; has_ended = refl };
-  second_write = record { event = refl; may = refl; doing = refl; turns = (refl, (refl, (refl, (refl, tt)))); follows = (refl, (refl, (refl, (refl, tt)))); over = refl; has_ended = refl };
-  second_task = record { event = refl; may = refl; doing = refl; turns = (refl, (refl, (refl, tt))); follows = (refl, (refl, (refl, tt))); over = refl; has_ended = refl };
-  commit = record { event = refl; may = refl; doing = refl; turns = (refl, (refl, (refl, tt))); follows = rw set_is_read (refl, (refl, (refl, tt))); over = rw set_is_read refl; has_ended = refl };
-  clean = record { event = refl; may = refl; doing = refl; turns = (refl, (refl, (refl, (refl, tt)))); follows = (refl, (refl, (refl, (refl, tt)))); over = refl; has_ended = refl };
+  setup = record { event = refl; may = refl; missing_is = refl; doing = refl; turns = (refl, (refl, (refl, tt))); follows = (refl, (refl, (refl, tt))); over = refl; has_ended = refl };
+  first_write = record { event = refl; may = refl; missing_is = refl; doing = refl; turns = (refl, (refl, (refl, (refl, tt)))); follows = (refl, (refl, (refl, (refl, tt)))); over = refl; has_ended = refl };
+  first_task = record { event = refl; may = refl; missing_is = refl; doing = refl; turns = (refl, (refl, (refl, tt))); follows = (refl, (refl, (refl, tt))); over = refl; has_ended = refl };
+  second_write = record { event = refl; may = refl; missing_is = refl; doing = refl; turns = (refl, (refl, (refl, (refl, tt)))); follows = (refl, (refl, (refl, (refl, tt)))); over = refl; has_ended = refl };
+  second_task = record { event = refl; may = refl; missing_is = refl; doing = refl; turns = (refl, (refl, (refl, tt))); follows = (refl, (refl, (refl, tt))); over = refl; has_ended = refl };
+  commit = record { event = refl; may = refl; missing_is = refl; doing = refl; turns = (refl, (refl, (refl, tt))); follows = rw set_is_read (refl, (refl, (refl, tt))); over = rw set_is_read refl; has_ended = refl };
+  clean = record { event = refl; may = refl; missing_is = refl; doing = refl; turns = (refl, (refl, (refl, (refl, tt)))); follows = (refl, (refl, (refl, (refl, tt)))); over = refl; has_ended = refl };
 }

@@ -1,5 +1,5 @@
 -- A job's commit that completes four uploads, in one lane and in two, and its revert.
-use Rattle.std.specs.Prelude.{◌≡◌, ℕ, List, [], ◌∷◌, Option, Some, None, codes}
+use Rattle.std.specs.Prelude.{◌≡◌, ℕ, List, [], ◌∷◌, Option, Some, None, codes, false}
 use Rattle.job_spec.specs.Prelude.{Driver, Request, CompleteUpload, DeleteObject, AbortUpload, PutObject, Stored, Deleted, Completed, Aborted, Refused, NoSuchUpload, Outcome, Answered, Slow, ReplyLost, Magic, Append, Script, nothing_known, Sets, replacing, picks_of, mark_text, TheCommit}
 use Rattle.job_protocol.specs.Prelude.{Pending}
 use Rattle.job_model.specs.declared.ends.CommitEnd.TheVariants as commits
@@ -46,7 +46,7 @@ put_done = Answered (Stored hello_tag)
 
 -- the commit once its set is read, over these outcomes
 abbrev pub goes : ℕ → ℕ → List Outcome → Course
-goes retries lanes os = course_of (record { script = script retries lanes; minimum = 5242880 }) Driver (record { operation = TheCommit (replacing (script retries lanes) sets []); known = nothing_known }) os
+goes retries lanes os = course_of (record { script = script retries lanes; minimum = 5242880; shared = false }) Driver (record { operation = TheCommit (replacing (script retries lanes) sets []); known = nothing_known }) os
 
 -- what a commit sends in one lane and in two, and what its revert takes back
 pub record LanesRun : Type 0 where

@@ -1,5 +1,5 @@
 -- The run of one file in which both sendings of the last put lose their replies: the commit ends at fault, the file and the marker stand.
-use Rattle.std.specs.Prelude.{◌≡◌, List, [], ◌∷◌, ◌++◌, Some, None, codes}
+use Rattle.std.specs.Prelude.{◌≡◌, List, [], ◌∷◌, ◌++◌, Some, None, codes, false}
 use Rattle.job_protocol.specs.Prelude.{compact_text, success_tree}
 use Rattle.job_spec.specs.Prelude.{IsHonest, After, Driver, PutObject, ReplyLost, Entry, first_worn, Script, EventEnd, Ended, Setting, Always, ZeroRename, OutsideStays, commit_due, OpFollows, op_over, seen, verdict, by_actor, since}
 use Rattle.std.specs.FinMap as fin
@@ -30,7 +30,7 @@ the_ends = before_commit ++ Ended (ends.Commit (commits.StoreFault stages.Succes
 
 -- what stays while the run goes on
 abbrev pub setting : Setting
-setting = record { script = script; minimum = 5242880 }
+setting = record { script = script; minimum = 5242880; shared = false }
 
 -- the commit is at fault, and the file and the marker stand
 pub record LostMark : Type 0 where

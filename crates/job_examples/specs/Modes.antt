@@ -12,10 +12,11 @@ use Rattle.job_model.specs.declared.ends.CommitEnd.TheVariants as commits
 use Rattle.job_model.specs.declared.ends.OpEnd.TheVariants as ends
 use Rattle.job_examples.specs.Jobs.{lake, job, attempt, worker, hello_tag}
 use Rattle.job_examples.specs.Steps.{Course, course, course_of}
+use Rattle.job_examples.specs.OneFile.{told_of}
 
 -- what stays while the run goes on
 abbrev pub setting : Script → Setting
-setting w = record { script = w; minimum = 5242880 }
+setting w = record { script = w; minimum = 5242880; shared = false }
 
 -- the script of one attempt with these files, of this committer and mode
 abbrev pub with_files : Committer → Mode → List File → Script
@@ -37,7 +38,7 @@ answers r = Answered r
 
 -- what a set-up asks over these outcomes, and how it ends
 abbrev pub sets_up : Committer → Mode → List Outcome → Course
-sets_up committer mode os = course (setting (with_files committer mode [])) Driver (start_of (setting (with_files committer mode [])) Driver Setup None nothing_known) nothing_known os
+sets_up committer mode os = course (setting (with_files committer mode [])) Driver (start_of (setting (with_files committer mode [])) Driver Setup (told_of None) nothing_known) nothing_known os
 
 -- what set-ups ask, and how they end
 pub record SetupsRun : Type 0 where
@@ -84,7 +85,7 @@ staged_text =
 
 -- what a staging attempt's commit asks over these outcomes, and how it ends
 abbrev pub commits_task : Mode → List Outcome → Course
-commits_task mode os = course (setting (staged mode)) worker (start_of (setting (staged mode)) worker Commit None nothing_known) nothing_known os
+commits_task mode os = course (setting (staged mode)) worker (start_of (setting (staged mode)) worker Commit (told_of None) nothing_known) nothing_known os
 
 -- the file is uploaded and the set put into the temporary file
 abbrev pub uploads : List Outcome
@@ -108,11 +109,11 @@ knows_published = record { drawn = record { key = codes "out/d=1/x"; upload = 7;
 
 -- what a staging attempt's abort asks over these outcomes, and how it ends
 abbrev pub aborts_task : Known → List Outcome → Course
-aborts_task k os = course (setting (staged Fail)) worker (start_of (setting (staged Fail)) worker Abort None k) k os
+aborts_task k os = course (setting (staged Fail)) worker (start_of (setting (staged Fail)) worker Abort (told_of None) k) k os
 
 -- what a staging attempt's operations ask, and how they end
 pub record StagingRuns : Type 0 where
-  pub write : course (setting (staged Append)) worker (start_of (setting (staged Append)) worker Write None nothing_known) nothing_known [] ≡ record { requests = []; end = Some (ends.Task tasks.Done) }
+  pub write : course (setting (staged Append)) worker (start_of (setting (staged Append)) worker Write (told_of None) nothing_known) nothing_known [] ≡ record { requests = []; end = Some (ends.Task tasks.Done) }
   -- a rename that is repeated and finds nothing counts as done, one that is not does not
   pub lost : (commits_task Append (answers (Upload 7) ∷ answers (Part hello_tag) ∷ answers ClusterDone ∷ ReplyLost ∷ answers (Refused NoSuchFile) ∷ [])).end ≡ Some (ends.Task tasks.Done)
   pub slow : (commits_task Append (answers (Upload 7) ∷ answers (Part hello_tag) ∷ answers ClusterDone ∷ Slow ∷ answers (Refused NoSuchFile) ∷ [])).end ≡ Some (ends.Task (tasks.Gone (codes "jobs/j1/tmp/0_0.pendingset")))
@@ -142,7 +143,7 @@ completes = Some (CompleteUpload lake (codes "out/d=1/x") 7 (record { number = 1
 
 -- its commit, where no task is missing
 abbrev pub commits_job : List Outcome → Course
-commits_job os = course (setting (staged Append)) Driver (start_of (setting (staged Append)) Driver Commit None nothing_known) nothing_known os
+commits_job os = course (setting (staged Append)) Driver (start_of (setting (staged Append)) Driver Commit (told_of None) nothing_known) nothing_known os
 
 -- the put of its marker, whose text is by the format
 abbrev pub marks : Option Request
@@ -157,7 +158,7 @@ shared = job Magic Append 2 3 1 (attempt 0 0 ((codes "p", codes "x") ∷ []) ∷
 
 -- what a clean asks over these outcomes, and how it ends
 abbrev pub cleans_up : Committer → List Outcome → Course
-cleans_up committer os = course (setting (with_files committer Append [])) Driver (start_of (setting (with_files committer Append [])) Driver Clean None nothing_known) nothing_known os
+cleans_up committer os = course (setting (with_files committer Append [])) Driver (start_of (setting (with_files committer Append [])) Driver Clean (told_of None) nothing_known) nothing_known os
 
 -- what the driver deletes, completes and cleans by each mode and committer
 pub record DriversRun : Type 0 where

@@ -1,6 +1,6 @@
 -- A job of one attempt with one file, from its set-up to its commit.
 use Rattle.std.specs.Prelude.{◌≡◌, ℕ, true, false, List, [], ◌∷◌, ◌++◌, Option, Some, None, codes}
-use Rattle.job_protocol.specs.Prelude.{compact_text, Pending, pending_tree, set_tree, success_tree, PendingSet, SuccessMark}
+use Rattle.job_protocol.specs.Prelude.{compact_text, Pending, pending_tree, set_tree, success_tree, PendingSet, SuccessMark, Reports}
 use Rattle.job_spec.specs.Prelude.{Actor, Driver, PutObject, GetObject, HeadObject, DeleteObject, ListPage, CreateUpload, UploadPart, CompleteUpload, Stored, Deleted, Page, Part, Completed, Refused, NoSuchKey, Magic, Append, Entry, Script, Op, Do, OpEnd, Setting, wanted_at, is_decided, keeps_of, Seen, seen, commit_due, in_eyes, Content, new_bucket, Doing, until, by_actor, OpFollows, op_over}
 use Rattle.s3_types.specs.Tags.{plain_tag, joined_tag}
 use Rattle.s3_types.specs.declared.reply.Reply.TheVariants.{Object, Upload}
@@ -85,11 +85,20 @@ journal = setup_entries ++ write_entries ++ task_entries ++ commit_entries
 
 -- what stays while the run goes on
 abbrev pub setting : Setting
-setting = record { script = script; minimum = 5242880 }
+setting = record { script = script; minimum = 5242880; shared = false }
 
--- an operation that this actor began in event k, none of whose tasks was reported then but as is told
+-- what the driver knows where this task is missing, and where none is: then the one attempt has reported its
+abbrev pub told_of : Option ℕ → Reports
+told_of None = record { missing = None; attempts = record { task = 0; attempt = 0 } ∷ [] }
+told_of (Some t) = record { missing = Some t; attempts = [] }
+
+-- an operation that this actor began in event k, with these reports
+abbrev pub begun_with : Op → ℕ → Reports → Doing
+begun_with op k reports = record { op = op; since = k; reports = reports }
+
+-- in which this task was missing
 abbrev pub doing : Op → ℕ → Option ℕ → Doing
-doing op k missing = record { op = op; since = k; missing = missing }
+doing op k missing = begun_with op k (told_of missing)
 
 -- the actor's entries up to its event are what its operation asks, and lead to this end
 abbrev pub Goes : Actor → Op → ℕ → Option ℕ → OpEnd → Type 0

@@ -1,13 +1,13 @@
 -- What attempts and the driver of a job send for files of five bytes, and what whole runs of them keep.
 use Rattle.std.specs.Prelude.{◌≡◌, ℕ, ◌-◌, false, List, [], ◌∷◌, ◌++◌, take, slice_get, Option, Some, None, codes}
 use Rattle.job_protocol.specs.Prelude.{compact_text, Pending, pending_tree, set_tree, PendingSet}
-use Rattle.job_spec.specs.Prelude.{Content, Spelled, Actor, Driver, PutObject, GetObject, ListPage, CreateUpload, UploadPart, Stored, Page, Part, PageEntry, Entry, Script, Op, Do, OpEnd, EventEnd, Ended, Setting, Always, ZeroRename, OutsideStays, Sent, OpFollows, op_over, past, refusal, until, of_event, by_actor, AllBy, Times}
+use Rattle.job_spec.specs.Prelude.{Content, Spelled, Actor, Driver, PutObject, GetObject, ListPage, CreateUpload, UploadPart, Stored, Page, Part, PageEntry, Entry, Script, Op, Do, OpEnd, EventEnd, Ended, Setting, Always, ZeroRename, OutsideStays, Sent, OpFollows, op_over, past, refusal, until, of_event, by_actor, AllBy, Times, reports}
 use Rattle.std.specs.FinMap as fin
 use Rattle.s3_types.specs.Store.{Upload as Live}
 use Rattle.s3_types.specs.Tags.{plain_tag}
 use Rattle.s3_types.specs.declared.reply.Reply.TheVariants.{Object, Upload}
 use Rattle.job_examples.specs.Jobs.{lake, said, hello_tag}
-use Rattle.job_examples.specs.OneFile.{doing as begun_so}
+use Rattle.job_examples.specs.OneFile.{begun_with}
 
 -- ---- requests
 
@@ -69,17 +69,18 @@ reads_set k key s = reads k Driver key (compact_text (set_tree s))
 
 -- what stays while the run goes on
 abbrev pub setting : Script → Setting
-setting w = record { script = w; minimum = 5242880 }
+setting w = record { script = w; minimum = 5242880; shared = false }
 
 -- Event k, where the events had these ends: it has the actor do a whole operation, as it may, with this task missing then.
 -- Its entries are the actor's; the actor's entries up to there are what the operation asks, they lead to this end, and the event has it.
 pub record Goes (w : Script) (xs : List EventEnd) (journal : List Entry) (a : Actor) (op : Op) (k : ℕ) (missing : Option ℕ) (end : OpEnd) : Type 0 where
   pub event : slice_get w.events (k - 1) ≡ Some (Do a op)
   pub may : refusal (past w (take (k - 1) xs)).state (Do a op) ≡ None
-  pub doing : (past w (take k xs)).doing a ≡ Some (begun_so op k missing)
+  pub missing_is : (reports w (past w (take (k - 1) xs)).reported).missing ≡ missing
+  pub doing : (past w (take k xs)).doing a ≡ Some (begun_with op k (reports w (past w (take (k - 1) xs)).reported))
   pub turns : AllBy a (of_event k journal)
-  pub follows : OpFollows (setting w) a (begun_so op k missing) (by_actor a (until k journal))
-  pub over : op_over (setting w) a (begun_so op k missing) (by_actor a (until k journal)) ≡ Some end
+  pub follows : OpFollows (setting w) a (begun_with op k (reports w (past w (take (k - 1) xs)).reported)) (by_actor a (until k journal))
+  pub over : op_over (setting w) a (begun_with op k (reports w (past w (take (k - 1) xs)).reported)) (by_actor a (until k journal)) ≡ Some end
   pub has_ended : slice_get xs (k - 1) ≡ Some (Ended end)
 
 -- What is kept of a run with these times.

@@ -34,7 +34,6 @@ module _ (g : Setting) (j : IsLegal g.script) (k : Times) (s : Seen) (m : Told) 
   clean_now r o clean adds = undone_now g.script m a r o ∙ ap (λ b. m.undone a || b) adds ∙ or_false (m.undone a) ∙ clean
 
   pub operation_goes : (op : Operation) → Fits g.script g.minimum a m op → (r : Request) → asks g a (known m a) op ≡ Some r → (o : Outcome) → IsHonestOutcome o (answer s.scene r) → Goes g k s m a n r o (tells g a op o)
-  operation_goes (TheSetup t) fits r e o honest = absurd fits
   operation_goes (TheWrite t) fits r e o honest = record {
     hold = write_keeps g.script g.minimum k s m a n j d h t.operation fits.1 r e o honest;
     fits = (
@@ -53,5 +52,4 @@ module _ (g : Setting) (j : IsLegal g.script) (k : Times) (s : Seen) (m : Told) 
     hold = abort_operation_keeps g.script g.minimum k s m a n j d h t.operation fits r e o honest;
     fits = subst (λ x. FitsAbort g.script a x (step g.script.retries (task_abort_after g.script) t o).operation) (sym (known_now g.script m a r o)) (abort_goes g.script g.minimum k s m a n j d h g.script.retries t.spare t.repeated t.operation fits r e o honest);
   }
-  operation_goes (TheCommit c) fits r e o honest = absurd fits
-  operation_goes (TheClean t) fits r e o honest = absurd fits
+  operation_goes _ fits r e o honest = absurd fits

@@ -53,3 +53,7 @@ pub mod Agreeing
 pub mod Reading
 pub mod Outside
 pub mod OwnRequests
+pub mod Suffix
+pub mod Spares
+pub mod Learning
+pub mod Sharing

@@ -22,7 +22,7 @@ use Rattle.job_facts.proofs.Outside.{idle, delete_leaves, batch_leaves, within_o
 -- ---- keys below the destination
 
 module _ {w : Script} (j : IsLegal w) where
-  magic_below : (k : List ℕ) → begins (magic_prefix w.dest.key w.job) k ≡ true → begins (dest_prefix w) k ≡ true
+  pub magic_below : (k : List ℕ) → begins (magic_prefix w.dest.key w.job) k ≡ true → begins (dest_prefix w) k ≡ true
   magic_below k h = begins_through (dest_prefix w) (magic_prefix w.dest.key w.job) k (begins_behind w.dest.key (codes "/") (codes "/__magic/job-" ++ (w.job ++ codes "/"))) h
 
   success_below : begins (dest_prefix w) (success_key w.dest.key) ≡ true
@@ -63,7 +63,7 @@ module _ {w : Script} (j : IsLegal w) where
     abort_within f aborts.Removing h e = subst (IsWithin w) (some_is e) tt
     abort_within f (TaskAbortOver end) h e = absurd cc
 
-  operation_within : {minimum : ℕ} {s : Scene} {last : ℕ → Option ℕ} (g : Setting) (is : g.script ≡ w) (m : Told) → Facts w minimum s last m → (a : Who) (r : Request) → IsOwn w (m.drawn a) r → (op : Operation) → Fits w minimum a m op → asks (record { script = w; minimum = g.minimum }) a (known m a) op ≡ Some r → IsWithin w r
+  operation_within : {minimum : ℕ} {s : Scene} {last : ℕ → Option ℕ} (g : Setting) (is : g.script ≡ w) (m : Told) → Facts w minimum s last m → (a : Who) (r : Request) → IsOwn w (m.drawn a) r → (op : Operation) → Fits w minimum a m op → asks (record { script = w; minimum = g.minimum; shared = g.shared }) a (known m a) op ≡ Some r → IsWithin w r
   operation_within g is m f a r own (TheWrite t) h e = write_within m a r own t.operation e
   operation_within g is m f a r own (TheTaskCommit t) h e = commit_task_within m a r own t.operation e
   operation_within g is m f a r own (TheTaskAbort t) h e = abort_within m a r own f t.operation h e

@@ -1,6 +1,6 @@
 -- What an attempt has written stands, whatever others send, until the driver cleans up; and so it goes on.
 use Rattle.std.proofs.Common.{◌≡◌, ℕ, zero, suc, ◌+◌, ◌⊎◌, inl, inr, nat_eq, nat_lt, ◌&&◌, ◌||◌, Bool, true, false, cond, List, [], ◌∷◌, ◌++◌, map, take, length, Option, Some, None, is_some, refl, sym, ap, subst, ◌∙◌}
-use Rattle.job_facts.specs.Prelude.{list_any, is_lt, text_cmp, text_eq, listed, answer, apply, is_effective, IsHonestOutcome, Object, Committer, Magic, Request, GetObject, UploadPart, Reply, Page, Part, Refused, NoSuchFile, PageEntry, Outcome, Answered, Slow, RequestLost, ReplyLost, Retried, Item, Got, WornOut, step, unanswered_by, set_key, staged_set_path, TemporaryPlace, File, Who, IsLegal, Script, Drawn, files, is_set_key, is_set_path, record_key, Uploading, Creating, Sending, Uploaded, GoesOn, AllSent, IsGone, sending, created, sent_part, upload_asks, upload_hears, file_parts, walked_by, keys_on, last_of, page_after, Write, Recording, WriteOver, writing, write_start_by, write_start, write_asks, write_over, write_after, TaskCommit, Looking, Reading, Publishing, Checking, Storing, Renaming, TaskCommitOver, reading, looked, looked_at, least_missing, least_of, in_order, read_record, storing, checking, checked, renamed, to_check, task_commit_start_by, task_commit_start, task_commit_asks, task_commit_over, task_commit_hears, task_commit_after, attempt_prefix, temporary_path, Setting, Operation, TheSetup, TheWrite, TheTaskCommit, TheTaskAbort, TheCommit, TheClean, asks, tells, Seen, see, is_magic, is_staging, is_publishing, last_by, IsIn, last_from, HasBucket, Told, known, entry, driver_entry, strange_entry, sets_at, IsForeign, IsDriving, IsAttempt, IsSet, Hold, IsOpen, Fits, FitsUpload, FitsWrite, FitsCommit, Closed, HasPublished, NotGone, CommitStandsBy, WriteStands, Times}
+use Rattle.job_facts.specs.Prelude.{list_any, is_lt, text_cmp, text_eq, listed, answer, apply, is_effective, IsHonestOutcome, Object, Committer, Magic, Request, GetObject, UploadPart, Reply, Page, Part, Refused, NoSuchFile, PageEntry, Outcome, Answered, Slow, RequestLost, ReplyLost, Retried, Item, Got, WornOut, step, unanswered_by, set_key, staged_set_path, TemporaryPlace, File, Who, IsLegal, Script, Drawn, files, is_set_key, is_set_path, record_key, Uploading, Creating, Sending, Uploaded, GoesOn, AllSent, IsGone, sending, created, sent_part, upload_asks, upload_hears, file_parts, walked_by, keys_on, last_of, page_after, Write, Recording, WriteOver, writing, write_start_by, write_start, write_asks, write_over, write_after, TaskCommit, Looking, Reading, Publishing, Checking, Storing, Renaming, TaskCommitOver, reading, looked, looked_at, least_missing, least_of, in_order, read_record, storing, checking, checked, renamed, to_check, task_commit_start_by, task_commit_start, task_commit_asks, task_commit_over, task_commit_hears, task_commit_after, attempt_prefix, temporary_path, Setting, Operation, TheSetup, TheWrite, TheTaskCommit, TheTaskAbort, TheCommit, TheClean, asks, tells, Seen, see, is_magic, is_staging, is_publishing, last_by, IsIn, last_from, HasBucket, Told, known, entry, driver_entry, strange_entry, sets_at, IsForeign, IsDriving, IsAttempt, IsSet, Hold, IsOpen, Fits, FitsUpload, FitsWrite, FitsCommit, Closed, HasPublished, NotGone, CommitStandsBy, WriteStands, Times, TheCheck}
 use Rattle.job_spec.proofs.Common.{false≢true, some_is, false_true, true_or_false, text_true, text_here, nat_true, in_map, in_front, in_back}
 use Rattle.job_spec.specs.Prelude.{rename_answer, ClusterDone}
 use Rattle.job_protocol.specs.Prelude.{write_hears}
@@ -67,7 +67,6 @@ stood_by w k s a b n r keys path _ = record { records = keys; temporary = path; 
 
 pub other_stood : (g : Setting) → IsLegal g.script → (k : Times) (s : Seen) (m : Told) (a b : Who) (n : ℕ) → HasBucket s.scene.content g.script.dest.bucket → IsAttempt g.script a → IsAttempt g.script b → (a ≡ b → ⊥)
     → (op : Operation) → Fits g.script g.minimum b m op → (r : Request) → asks g b (known m b) op ≡ Some r → (o : Outcome) → Stood g.script a s (see g.script k s (entry b n r o))
-other_stood g j k s m a b n there d e ne (TheSetup t) h r x o = absurd h
 other_stood g j k s m a b n there d e ne (TheWrite t) h r x o =
     stood_by g.script k s a b n r (λ f i. write_keys g.script s.scene there b (known m b) t.operation r x (record_key g.script a f)) (write_paths g.script s.scene there b (known m b) t.operation r x (temporary_path g.script a)) o
 other_stood g j k s m a b n there d e ne (TheTaskCommit t) h r x o =
@@ -76,8 +75,7 @@ other_stood g j k s m a b n there d e ne (TheTaskCommit t) h r x o =
 other_stood g j k s m a b n there d e ne (TheTaskAbort t) h r x o =
     stood_by g.script k s a b n r (λ f i. abort_keys g.script s.scene there b (known m b) t.operation h r x (record_key g.script a f) (another j a b d e ne f))
     (abort_paths g.script s.scene there b t.operation r x (temporary_path g.script a) (temporary_apart j a b d e ne)) o
-other_stood g j k s m a b n there d e ne (TheCommit c) h r x o = absurd h
-other_stood g j k s m a b n there d e ne (TheClean t) h r x o = absurd h
+other_stood g j k s m a b n there d e ne _ h r x o = absurd h
 
 module _ (w : Script) (j : IsLegal w) (k : Times) (s : Seen) (a : Who) (n : ℕ) (there : HasBucket s.scene.content w.dest.bucket) (r : Request) where
   pub driver_stood : IsDriving w r → (o : Outcome) → Stood w a s (see w k s (driver_entry n r o))
@@ -409,6 +407,7 @@ pub own_stands : (g : Setting) → IsLegal g.script → (k : Times) (s : Seen) (
     → (r : Request) → asks g a (known m a) op ≡ Some r → (o : Outcome) → IsHonestOutcome o (answer s.scene r) → Stands g.script (see g.script k s (entry a n r o)) a (tells g a op o)
 own_stands g j k s m a n facts closed before (TheWrite t) fits h r e o honest = write_stands g.script g.minimum k s m a n j facts closed before fits.0 g.script.retries t.spare t.repeated t.operation fits.1 h r e o honest
 own_stands g j k s m a n facts closed before (TheTaskCommit t) fits h r e o honest = commit_stands g.script g.minimum k s m a n j facts closed before fits.0 g.script.retries t.spare t.repeated (HasPublished s a.task) (λ q v. HasPublished (seen_now g.script k s a n q v) a.task) (last_kept g.script k s a n) (publishes_last g.script k s a n) t.operation fits.1 h r e o honest
+own_stands g j k s m a n facts closed before (TheCheck t) fits h r e o honest = absurd fits
 own_stands g j k s m a n facts closed before _ fits h r e o honest = tt
 
 -- ---- and as they end

@@ -96,9 +96,7 @@ FitsAbort w a k (TaskAbortOver end) = (end ≡ tasks.Kept → k.publish_sent ≡
 
 -- how far an attempt's operation has come, by what it knows and has sent
 abbrev pub Fits : Script → ℕ → Who → Told → Operation → Type 0
-Fits w minimum a m (TheSetup t) = ⊥
 Fits w minimum a m (TheWrite t) = (m.undone a ≡ false) × FitsWrite w minimum a (known m a) t.operation
 Fits w minimum a m (TheTaskCommit t) = (m.undone a ≡ false) × FitsCommit w minimum a (known m a) t.operation
 Fits w minimum a m (TheTaskAbort t) = FitsAbort w a (known m a) t.operation
-Fits w minimum a m (TheCommit c) = ⊥
-Fits w minimum a m (TheClean t) = ⊥
+Fits w minimum a m _ = ⊥

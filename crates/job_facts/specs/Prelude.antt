@@ -41,7 +41,7 @@ pub use Rattle.job_protocol.specs.Knowledge.{as_made, drawn_for, drawn_in, first
 pub use Rattle.job_protocol.specs.LaneTable.{AllSound, In, Sound, Table, Tabled}
 pub use Rattle.job_protocol.specs.Lanes.{Turn, abort, again, chosen, completion, dealt, deletion, follow, in_turn, is_tried, is_unsent, nth, revert, undo}
 pub use Rattle.job_protocol.specs.Laws.{is_fault, spare_of}
-pub use Rattle.job_protocol.specs.Operations.{Operation, Running, Setting, TheClean, TheCommit, TheSetup, TheTaskAbort, TheTaskCommit, TheWrite, advance, asks, over, start_of, tells, wants, who}
+pub use Rattle.job_protocol.specs.Operations.{Operation, Reports, Running, Setting, TheCheck, TheClean, TheCommit, TheSetup, TheSparing, TheTaskAbort, TheTaskCommit, TheWrite, advance, after_check, after_check_by, asks, clean_of, commit_by, commit_of, over, start_of, tells, wants, who}
 pub use Rattle.job_protocol.specs.Outputs.{Picks, files, files_picked, first_shared, is_clash, is_decided, is_picked, paths_of, picked_below, same_path, shared_by, two_where, wanted, wanted_at, wanted_below, wanted_paths, writes}
 pub use Rattle.job_protocol.specs.Records.{attempt_dir, file_key, file_record, files_set, mark_text, marker_key, record_key, record_text, set_text}
 pub use Rattle.job_protocol.specs.Setup.{Clearing, Heading, Setup, SetupOver, Sweeping, checked_by, checked_on, cleared, dest_prefix, first_shown, headed, if_bucket, or_next, setup_after, setup_asks, setup_hears, setup_over, setup_start, shown_path}

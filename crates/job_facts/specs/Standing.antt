@@ -86,9 +86,6 @@ CommitStands w s a repeated t = CommitStandsBy (HasPublished s a.task) w s a rep
 
 -- what an attempt's operation has written so far stands
 abbrev pub Stands : Script → Seen → Who → Operation → Type 0
-Stands w s a (TheSetup t) = Unit {0}
 Stands w s a (TheWrite t) = WriteStands w s a t.operation
 Stands w s a (TheTaskCommit t) = CommitStands w s a t.repeated t.operation
-Stands w s a (TheTaskAbort t) = Unit {0}
-Stands w s a (TheCommit c) = Unit {0}
-Stands w s a (TheClean t) = Unit {0}
+Stands w s a _ = Unit {0}

@@ -7,6 +7,8 @@ use Rattle.job_model.specs.declared.events.Event.{Event}
 use Rattle.job_model.specs.declared.events.Event.TheVariants.{Do, Start, Step, Run, Kill, Mix, Restart, Recover}
 use Rattle.job_model.specs.declared.ends.SetupEnd.{SetupEnd}
 use Rattle.job_model.specs.declared.ends.SetupEnd.TheVariants as setups
+use Rattle.job_model.specs.declared.ends.CheckEnd.{CheckEnd}
+use Rattle.job_model.specs.declared.ends.CheckEnd.TheVariants as checks
 use Rattle.job_model.specs.declared.ends.TaskEnd.{TaskEnd}
 use Rattle.job_model.specs.declared.ends.TaskEnd.TheVariants as tasks
 use Rattle.job_model.specs.declared.ends.Stage.{Stage}
@@ -60,6 +62,13 @@ setup_text setups.NoSuchBucket = codes "no-such-bucket"
 setup_text setups.StoreFault = codes "store-fault"
 setup_text setups.NoMemory = codes "no-memory"
 
+-- how the look for files before a commit ended
+abbrev pub check_text : CheckEnd → List ℕ
+check_text checks.Clear = codes "clear"
+check_text (checks.Conflict path) = spaced (codes "conflict" ∷ path ∷ [])
+check_text checks.StoreFault = codes "store-fault"
+check_text checks.NoMemory = codes "no-memory"
+
 -- how an attempt's operation ended
 abbrev pub task_text : TaskEnd → List ℕ
 task_text tasks.Done = codes "done"
@@ -93,6 +102,7 @@ clean_text cleans.NoMemory = codes "no-memory"
 -- how an operation ended
 abbrev pub outcome_text : OpEnd → List ℕ
 outcome_text (ends.Setup end) = setup_text end
+outcome_text (ends.Check end) = check_text end
 outcome_text (ends.Commit end) = commit_text end
 outcome_text (ends.Clean end) = clean_text end
 outcome_text (ends.Task end) = task_text end

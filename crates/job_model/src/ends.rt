@@ -1,5 +1,5 @@
 ghost use Rattle.std.specs.Prelude.{Some};
-ghost use Rattle.job_model.specs.Words.{setup_text, task_text, part_word, commit_text, clean_text, outcome_text, fault_word};
+ghost use Rattle.job_model.specs.Words.{setup_text, check_text, task_text, part_word, commit_text, clean_text, outcome_text, fault_word};
 
 use s3_types::{Actor, Sequence, Text};
 use std::fmt;
@@ -46,6 +46,22 @@ pub enum CheckEnd {
     /// A request was lost past its retries.
     StoreFault,
     NoMemory,
+}
+
+impl fmt::Display for CheckEnd {
+    ghost output = { λ end. Some (check_text end) };
+
+    fn fmt<W: fmt::Write>(&self, f: &mut fmt::Formatter<W>) -> fmt::Result {
+        match self {
+            CheckEnd::Clear => write!(f, "clear"),
+            CheckEnd::Conflict(path) => {
+                let path = path.as_str();
+                write!(f, "conflict {path}")
+            }
+            CheckEnd::StoreFault => write!(f, "store-fault"),
+            CheckEnd::NoMemory => write!(f, "no-memory"),
+        }
+    }
 }
 
 /// How an attempt's operation ended.
@@ -169,6 +185,8 @@ impl fmt::Display for CleanEnd {
 #[derive(Drop)]
 pub enum OpEnd {
     Setup(SetupEnd),
+    /// Of the look for files before a commit, which then does not go on.
+    Check(CheckEnd),
     Commit(CommitEnd),
     Clean(CleanEnd),
     Task(TaskEnd),
@@ -182,6 +200,7 @@ impl fmt::Display for OpEnd {
     fn fmt<W: fmt::Write>(&self, f: &mut fmt::Formatter<W>) -> fmt::Result {
         match self {
             OpEnd::Setup(end) => write!(f, "{end}"),
+            OpEnd::Check(end) => write!(f, "{end}"),
             OpEnd::Commit(end) => write!(f, "{end}"),
             OpEnd::Clean(end) => write!(f, "{end}"),
             OpEnd::Task(end) => write!(f, "{end}"),

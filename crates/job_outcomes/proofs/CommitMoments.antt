@@ -1,6 +1,6 @@
 -- The picks at each moment of a run.
 use Rattle.std.proofs.Common.{◌≡◌, ℕ, zero, suc, ◌+◌, ◌-◌, ◌<◌, ◌≤◌, ◌^◌, ◌⊎◌, inl, inr, ◌&&◌, not, Bool, true, false, List, [], ◌∷◌, ◌++◌, length, slice_get, take, Option, Some, None, refl, sym, ap, subst, ◌∙◌, arith, length-append}
-use Rattle.job_facts.specs.Prelude.{is_some, option_map, Content, Scene, answer, effect, after_all, moment, IsHonestOutcome, Actor, Driver, Attempt, Shell, Request, Outcome, Answered, Slow, RequestLost, ReplyLost, Entry, PendingSet, IsLegal, Script, CommitEnd, Picks, same_path, picked_below, is_picked, is_clash, is_decided, view, Sets, picks_of, Commit, CommitOver, commit_tells, Setting, Operation, TheSetup, TheWrite, TheTaskCommit, TheTaskAbort, TheCommit, TheClean, who, asks, commit_due, end_or, Same, Always, Kept, is_untouched, Seen, see, is_reading, see_all, seen, nothing_seen, Told, entry, driver_entry, strange_entry, Times}
+use Rattle.job_facts.specs.Prelude.{is_some, option_map, Content, Scene, answer, effect, after_all, moment, IsHonestOutcome, Actor, Driver, Attempt, Shell, Request, Outcome, Answered, Slow, RequestLost, ReplyLost, Entry, PendingSet, IsLegal, Script, CommitEnd, Picks, same_path, picked_below, is_picked, is_clash, is_decided, view, Sets, picks_of, Commit, CommitOver, commit_tells, Setting, Operation, TheSetup, TheWrite, TheTaskCommit, TheTaskAbort, TheCommit, TheClean, who, asks, commit_due, end_or, Same, Always, Kept, is_untouched, Seen, see, is_reading, see_all, seen, nothing_seen, Told, entry, driver_entry, strange_entry, Times, TheCheck, TheSparing}
 use Rattle.job_spec.proofs.Common.{and_parts, some_is, none_some, false_true, true_or_false, same_or_not}
 use Rattle.job_model.specs.declared.ends.CommitEnd.TheVariants as commits
 use Rattle.job_model.specs.declared.ends.Stage.TheVariants as stages
@@ -12,7 +12,8 @@ use Rattle.job_traces.proofs.EveryRun.{good}
 use Rattle.job_outcomes.specs.CommitRuns.{IsDue, CommitStands, PicksGrow}
 use Rattle.job_outcomes.specs.CommitMoments.{NoneRead, CommitMoments}
 use Rattle.job_outcomes.proofs.Shared.{same_shared}
-use Rattle.job_outcomes.proofs.CommitRuns.{stood, picks_on, attempts_leave, driver_leaves, setup_reads, clean_reads}
+use Rattle.job_outcomes.proofs.CommitRuns.{stood, picks_on, attempts_leave, driver_leaves, setup_reads, clean_reads, closed_leaves}
+use Rattle.job_facts.proofs.Sharing.{check_plain}
 
 -- ---- the scene that is seen
 
@@ -114,15 +115,17 @@ module _ (g : Setting) (j : IsLegal g.script) (k : Times) (opening : Content) (i
 
   -- the driver is at an operation of its own
   abbrev IsDriver : Operation → Type 0
-  IsDriver (TheSetup t) = Unit {0}
-  IsDriver (TheCommit c) = Unit {0}
-  IsDriver (TheClean t) = Unit {0}
-  IsDriver _ = ⊥
+  IsDriver (TheWrite t) = ⊥
+  IsDriver (TheTaskCommit t) = ⊥
+  IsDriver (TheTaskAbort t) = ⊥
+  IsDriver _ = Unit {0}
 
   late_driver : (d : Option Operation) (s : Seen) (m : Told) → At g opening d s m → (op : Operation) → d ≡ Some op → IsDriver op
   late_driver (Some (TheSetup t)) s m y op e = subst IsDriver (some_is e) tt
   late_driver (Some (TheCommit c)) s m y op e = subst IsDriver (some_is e) tt
   late_driver (Some (TheClean t)) s m y op e = subst IsDriver (some_is e) tt
+  late_driver (Some (TheCheck t)) s m y op e = subst IsDriver (some_is e) tt
+  late_driver (Some (TheSparing t)) s m y op e = subst IsDriver (some_is e) tt
   late_driver _ s m y op e = absurd y
 
   pub no_driver : (es : List Entry) (x : Stand) → Runs g k opening es x → (op : Operation) → x.driver ≡ Some op → (IsDriver op → ⊥) → ⊥
@@ -140,6 +143,8 @@ module _ (g : Setting) (j : IsLegal g.script) (k : Times) (opening : Content) (i
       grown x.seen.picks (see w k x.seen (driver_entry n r o)).picks c (commit_tells w c o) (picks_on g j k opening is_opening es x run c d (stood g j k opening is_opening es x run c d) n r o asked timely few honest) t l
   driver_on es x run (TheSetup c) d n r o asked timely few honest t l = inl (driver_leaves w k x.seen n r o (setup_reads w c.operation r asked) t)
   driver_on es x run (TheClean c) d n r o asked timely few honest t l = inl (driver_leaves w k x.seen n r o (clean_reads w c.operation r asked) t)
+  driver_on es x run (TheCheck c) d n r o asked timely few honest t l = inl (driver_leaves w k x.seen n r o (check_plain w c.operation r asked).reads t)
+  driver_on es x run (TheSparing c) d n r o asked timely few honest t l = inl (closed_leaves w k x.seen n r o timely t)
   driver_on es x run (TheWrite c) d n r o asked timely few honest t l = absurd (no_driver es x run (TheWrite c) d (λ y. y))
   driver_on es x run (TheTaskCommit c) d n r o asked timely few honest t l = absurd (no_driver es x run (TheTaskCommit c) d (λ y. y))
   driver_on es x run (TheTaskAbort c) d n r o asked timely few honest t l = absurd (no_driver es x run (TheTaskAbort c) d (λ y. y))

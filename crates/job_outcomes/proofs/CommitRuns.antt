@@ -1,6 +1,6 @@
 -- The driver's commit in every run.
-use Rattle.std.proofs.Common.{◌≡◌, ℕ, zero, suc, ◌<◌, ◌≤◌, ◌^◌, ◌⊎◌, inl, inr, ◌&&◌, Bool, true, false, cond, List, [], ◌∷◌, ◌++◌, length, Option, Some, None, refl, sym, ap, subst, ◌∙◌, arith, append-nil}
-use Rattle.job_facts.specs.Prelude.{is_some, Content, begins, answer, IsHonestOutcome, Driver, Request, Outcome, Answered, Entry, magic_prefix, success_key, SuccessPlace, run, Follows, Retried, WornFirst, Who, IsLegal, Script, CommitEnd, Picks, same_path, Setup, Sweeping, SetupOver, setup_asks, Listing, Clean, CleanOver, clean_asks, picks_of, Commit, CommitOver, commit_start, commit_asks, commit_tells, commit_over, Sound, AllSound, Setting, Operation, TheSetup, TheCommit, who, asks, tells, AreOwn, commit_due, end_or, is_mark_answered, CommitEnded, picks_below, picked, Seen, see, is_reading, is_marked, entry, driver_entry, at_key, Hold, Times, is_picking}
+use Rattle.std.proofs.Common.{◌≡◌, ℕ, zero, suc, ◌<◌, ◌≤◌, ◌^◌, ◌⊎◌, inl, inr, ◌&&◌, Bool, true, false, cond, List, [], ◌∷◌, ◌++◌, length, Option, Some, None, refl, sym, ap, subst, ◌∙◌, arith, append-nil, ◌||◌, not}
+use Rattle.job_facts.specs.Prelude.{is_some, Content, begins, answer, IsHonestOutcome, Driver, Request, Outcome, Answered, Entry, magic_prefix, success_key, SuccessPlace, run, Follows, Retried, WornFirst, Who, IsLegal, Script, CommitEnd, Picks, same_path, Setup, Sweeping, SetupOver, setup_asks, Listing, Clean, CleanOver, clean_asks, picks_of, Commit, CommitOver, commit_start, commit_asks, commit_tells, commit_over, Sound, AllSound, Setting, Operation, TheSetup, TheCommit, who, asks, tells, AreOwn, commit_due, end_or, is_mark_answered, CommitEnded, picks_below, picked, Seen, see, is_reading, is_marked, entry, driver_entry, at_key, Hold, Times, is_picking, TheCheck, is_begun, step}
 use Rattle.job_spec.proofs.Common.{key_magic, none_sent, run_more, follows_more, some_is, none_some, false_true, same_or_not}
 use Rattle.job_protocol.specs.Prelude.{EndIs}
 use Rattle.job_model.specs.declared.ends.CommitEnd.TheVariants as commits
@@ -12,11 +12,14 @@ use Rattle.job_facts.proofs.Owning.{operation_own}
 use Rattle.job_traces.proofs.Keeping.{Quiet, attempt_quiet}
 use Rattle.job_traces.proofs.Steps.{commit_picks}
 use Rattle.job_traces.proofs.Running.{InCommit, At}
-use Rattle.job_traces.proofs.EveryRun.{good, just_set, just_idle, late, own_front, own_last}
+use Rattle.job_traces.proofs.EveryRun.{good, just_set, just_idle, late, own_front, own_last, check_unsent, cleans_is, checked_idle}
 use Rattle.job_outcomes.specs.CommitRuns.{IsDue, WhereCommitted, CommitStands, PicksOneMore, PicksGrow, EndsDue, CommitRuns}
 use Rattle.job_outcomes.proofs.Shared.{same_shared}
 use Rattle.job_outcomes.proofs.CommitSteps.{at_start, one_start, where_on, where_start, answered_next, marked_next, sound_now, sound_more}
 use Rattle.job_outcomes.proofs.Picks.{after_entry}
+use Rattle.job_protocol.proofs.Begun.{after_check_so, commit_of_so, clean_of_so}
+use Rattle.job_protocol.specs.Rechecks.{check_after}
+use Rattle.job_facts.proofs.Sharing.{check_plain}
 
 some_lane : {a : ℕ} → 1 ≤ a → 0 < a
 some_lane y = omega arith
@@ -40,12 +43,22 @@ module _ (g : Setting) (j : IsLegal g.script) (k : Times) (opening : Content) (i
 
   -- ---- as it begins
 
-  starts : (es : List Entry) (y : Stand) → Runs g k opening es y → (missing : Option ℕ) → is_just_set y.driver ≡ true
-      → CommitStands g (record { seen = y.seen; told = y.told; attempts = y.attempts; driver = Some (TheCommit (commit_start w missing)); commit = [] }) (commit_start w missing)
-  starts es y run missing just =
+  first_stand : (y : Stand) (missing : Option ℕ) → ((t : ℕ) → y.seen.picks t ≡ None) → y.commit ≡ [] → CommitStands g y (commit_start w missing)
+  first_stand y missing none unsent = record {
+    missing = missing;
+    follows = subst (Follows (commit_asks w) (commit_tells w) (commit_start w missing)) (sym unsent) tt;
+    leads = ap (run (commit_tells w) (commit_start w missing)) unsent;
+    sound = subst (AllSound w (commit_start w missing)) (sym unsent) tt;
+    sets = [];
+    at = at_start w missing;
+    picks = λ t l. none t;
+    answered = where_start _ w missing;
+  }
+
+  unpicked : (es : List Entry) (y : Stand) → Runs g k opening es y → is_just_set y.driver ≡ true → (t : ℕ) → y.seen.picks t ≡ None
+  unpicked es y run just =
       let l = late g k opening j is_opening y (good g k opening j is_opening es y run) (just_set y.driver just) in
-      let idle = just_idle g k opening j is_opening y.driver y.seen y.told l.driver just in
-      record { missing = missing; follows = tt; leads = refl; sound = tt; sets = []; at = at_start w missing; picks = λ t l. idle.unpicked t; answered = where_start _ w missing }
+      (just_idle g k opening j is_opening y.driver y.seen y.told l.driver just).unpicked
 
   -- ---- one of its entries
 
@@ -82,6 +95,13 @@ module _ (g : Setting) (j : IsLegal g.script) (k : Times) (opening : Content) (i
   driver_on : (es : List Entry) (x : Stand) → Runs g k opening es x → Stood x → (op : Operation) (n : ℕ) (r : Request) (o : Outcome) → x.driver ≡ Some op → asks g (who Driver) nothing_learnt op ≡ Some r → IsTimely k n op → x.seen.scene.content.next ≤ 2 ^ 64 → IsHonestOutcome o (answer x.seen.scene r)
       → Stood (with_commit (with_driver (saw g k x (driver_entry n r o)) (tells g (who Driver) op o)) (commit_with op x.commit (driver_entry n r o)))
   driver_on es x runs old (TheCommit c) n r o d asked timely few honest v e = subst (CommitStands g _) (commit_is e) (sends_on es x runs c d (old c d) n r o asked timely few honest)
+  driver_on es x runs old (TheCheck t) n r o d asked timely few honest v e =
+      let l = late g k opening j is_opening x (good g k opening j is_opening es x runs) (ap is_set d) in
+      let i = subst (λ v. At g opening v x.seen x.told) d l.driver in
+      let now = checked_idle g k opening j is_opening x (cleans_is g k opening j is_opening es x runs) n r o (check_plain w t.operation r asked) timely.1 i in
+      let next = with_commit (with_driver (saw g k x (driver_entry n r o)) (tells g (who Driver) (TheCheck t) o)) x.commit in
+      after_check_so g (λ op. Some op ≡ Some (TheCommit v) → CommitStands g next v)
+      (λ e. subst (CommitStands g next) (commit_is e) (first_stand next None now.unpicked (check_unsent g k opening j is_opening es x runs t d))) (λ u e. absurd cc) (step w.retries (check_after w) t o) e
   driver_on es x runs old _ n r o d asked timely few honest v e = absurd cc
 
   -- ---- entries of others, and what begins beside it
@@ -100,8 +120,10 @@ module _ (g : Setting) (j : IsLegal g.script) (k : Times) (opening : Content) (i
 
   begins_on : (es : List Entry) (x : Stand) → Runs g k opening es x → Stood x → (b : Beginning) → MayBegin g x b → Stood (begin g x b)
   begins_on es x runs old BeginSetup may c e = absurd (no_setup e)
-  begins_on es x runs old (BeginCommit missing) may c e = subst (CommitStands g _) (commit_is e) (starts es x runs missing may)
-  begins_on es x runs old BeginClean may c e = absurd cc
+  begins_on es x runs old (BeginCommit reports) may c e =
+      let y = begin g x (BeginCommit reports) in
+      commit_of_so g (λ op. Some op ≡ Some (TheCommit c) → CommitStands g y c) (λ missing e. subst (CommitStands g y) (commit_is e) (first_stand y missing (unpicked es x runs may) refl)) (λ t e. absurd cc) reports e
+  begins_on es x runs old BeginClean may c e = absurd (clean_of_so g (λ op. Some op ≡ Some (TheCommit c) → ⊥) (λ e. absurd cc) (λ e. absurd cc) e)
   begins_on es x runs old (BeginWrite a) may c e = same_stand x (begin g x (BeginWrite a)) (λ t. refl) refl c (old c e)
   begins_on es x runs old (BeginPublish a) may c e = same_stand x (begin g x (BeginPublish a)) (λ t. refl) refl c (old c e)
   begins_on es x runs old (BeginAbort a) may c e = same_stand x (begin g x (BeginAbort a)) (λ t. refl) refl c (old c e)
@@ -128,13 +150,16 @@ module _ (g : Setting) (j : IsLegal g.script) (k : Times) (opening : Content) (i
 
   mark_begins : (x : Stand) → Marked x → (b : Beginning) → Marked (begin g x b)
   mark_begins x old BeginSetup c e = absurd (no_setup e)
-  mark_begins x old (BeginCommit missing) c e = subst (WhereCommitted (is_marked w x.seen ≡ true)) (commit_is e) (where_start _ w missing)
-  mark_begins x old BeginClean c e = absurd cc
+  mark_begins x old (BeginCommit reports) c e = commit_of_so g (λ op. Some op ≡ Some (TheCommit c) → WhereCommitted (is_marked w x.seen ≡ true) c) (λ missing e. subst (WhereCommitted (is_marked w x.seen ≡ true)) (commit_is e) (where_start _ w missing)) (λ t e. absurd cc) reports e
+  mark_begins x old BeginClean c e = absurd (clean_of_so g (λ op. Some op ≡ Some (TheCommit c) → ⊥) (λ e. absurd cc) (λ e. absurd cc) e)
   mark_begins x old _ c e = old c e
 
   mark_driver : (es : List Entry) (x : Stand) → Runs g k opening es x → (op : Operation) → x.driver ≡ Some op → (n : ℕ) (r : Request) (o : Outcome) → asks g (who Driver) nothing_learnt op ≡ Some r
       → Marked (with_commit (with_driver (saw g k x (driver_entry n r o)) (tells g (who Driver) op o)) (commit_with op x.commit (driver_entry n r o)))
   mark_driver es x runs (TheCommit v) d n r o asked c e = subst (WhereCommitted (is_marked w (see w k x.seen (driver_entry n r o)) ≡ true)) (commit_is e) (marked_next w k x.seen (late_at es x runs v d).0.there n r x.commit v asked o)
+  mark_driver es x runs (TheCheck t) d n r o asked c e =
+      let P : Operation → Type 0 = λ op. Some op ≡ Some (TheCommit c) → WhereCommitted (is_marked w (see w k x.seen (driver_entry n r o)) ≡ true) c in
+      after_check_so g P (λ e. subst (WhereCommitted (is_marked w (see w k x.seen (driver_entry n r o)) ≡ true)) (commit_is e) (where_start _ w None)) (λ u e. absurd cc) (step w.retries (check_after w) t o) e
   mark_driver es x runs _ d n r o asked c e = absurd cc
 
   pub marks : (es : List Entry) (x : Stand) → Runs g k opening es x → AreOwn es → Marked x
@@ -213,6 +238,11 @@ commit_ended g j k opening is_opening es x runs end d missing leads =
 and_none : (b : Bool) → (b && false) ≡ false
 and_none true = refl
 and_none false = refl
+
+-- nor does one of an abort or clean
+pub closed_leaves : (w : Script) (k : Times) (s : Seen) (n : ℕ) (r : Request) (o : Outcome) → is_begun k.clean n ≡ true → (t : ℕ) → (see w k s (driver_entry n r o)).picks t ≡ s.picks t
+closed_leaves w k s n r (Answered y) e t = ap (λ b. cond (b && is_reading w t r) (s.last t) (s.picks t)) (ap (λ b. (s.begun || is_begun k.commit n) && not b) e ∙ and_none (s.begun || is_begun k.commit n))
+closed_leaves w k s n r _ e t = refl
 
 pub driver_leaves : (w : Script) (k : Times) (s : Seen) (n : ℕ) (r : Request) (o : Outcome) → ((t : ℕ) → is_reading w t r ≡ false) → (t : ℕ) → (see w k s (driver_entry n r o)).picks t ≡ s.picks t
 driver_leaves w k s n r (Answered y) e t = ap (λ b. cond ((is_picking k s.begun n) && b) (s.last t) (s.picks t)) (e t) ∙ ap (λ b. cond b (s.last t) (s.picks t)) (and_none (is_picking k s.begun n))

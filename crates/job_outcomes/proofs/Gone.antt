@@ -1,6 +1,6 @@
 -- In a run, until the driver's abort or clean has begun an attempt's write or commit finds nothing gone, and a commit that is done has published.
 use Rattle.std.proofs.Common.{◌≡◌, ℕ, inl, inr, Bool, true, false, List, [], ◌∷◌, Option, Some, None, refl, sym, ap, subst, ◌∙◌}
-use Rattle.job_facts.specs.Prelude.{option_map, Content, Committer, Magic, Directory, Partitioned, Entry, fresh, Who, actor_of, File, Known, IsLegal, Op, TaskEnd, OpEnd, setup_over, commit_over, clean_over, Setting, Operation, TheSetup, TheWrite, TheTaskCommit, TheTaskAbort, TheCommit, TheClean, start_of, over, files, has_cleaned, WasPublished, Seen, until_last, NotGone, WriteStands, CommitStandsBy, Told, nothing_told, Times}
+use Rattle.job_facts.specs.Prelude.{option_map, Content, Committer, Magic, Directory, Partitioned, Entry, fresh, Who, actor_of, File, Known, IsLegal, Op, TaskEnd, OpEnd, setup_over, commit_over, clean_over, Setting, Operation, TheSetup, TheWrite, TheTaskCommit, TheTaskAbort, TheCommit, TheClean, start_of, over, files, has_cleaned, WasPublished, Seen, until_last, NotGone, WriteStands, CommitStandsBy, Told, nothing_told, Times, TheCheck, TheSparing}
 use Rattle.job_spec.proofs.Common.{some_is, none_some, false_true, true_or_false}
 use Rattle.job_model.specs.declared.events.Op.TheVariants as ops
 use Rattle.job_model.specs.declared.ends.TaskEnd.TheVariants as tasks
@@ -13,6 +13,8 @@ use Rattle.job_facts.proofs.Learnt.{cleaned_is}
 use Rattle.job_traces.proofs.Published.{Own, StandsBy, standing, has_published}
 use Rattle.job_outcomes.specs.TaskEnds.{is_abort}
 use Rattle.job_outcomes.proofs.RunEntries.{at_last, behind_last, longer_published}
+use Rattle.job_protocol.specs.Rechecks.{check_over}
+use Rattle.job_protocol.specs.Sparing.{sparing_over}
 
 module _ (g : Setting) (k : Times) (opening : Content) (j : IsLegal g.script) (is_opening : IsOpening g opening) where
   gone_is : {d : TaskEnd} {name : List ℕ} → Some (ends.Task d) ≡ Some (ends.Task (tasks.Gone name)) → d ≡ tasks.Gone name
@@ -43,6 +45,8 @@ module _ (g : Setting) (k : Times) (opening : Content) (j : IsLegal g.script) (i
   never P s a (TheSetup t) name h not_abort e = no_task ends.Setup (setup_over t.operation) name (λ x y. absurd cc) e
   never P s a (TheCommit c) name h not_abort e = no_task ends.Commit (commit_over c) name (λ x y. absurd cc) e
   never P s a (TheClean t) name h not_abort e = no_task ends.Clean (clean_over t.operation) name (λ x y. absurd cc) e
+  never P s a (TheCheck t) name h not_abort e = no_task ends.Check (check_over t.operation) name (λ x y. absurd cc) e
+  never P s a (TheSparing t) name h not_abort e = no_task ends.Clean (sparing_over t.operation) name (λ x y. absurd cc) e
 
   gone_now : (es : List Entry) (x : Stand) → Runs g k opening es x → (a : Who) (op : Operation) (name : List ℕ) → x.attempts a ≡ Some op → is_abort op ≡ false → over op ≡ Some (ends.Task (tasks.Gone name)) → x.told.cleaned ≡ true
   gone_now es x run a op name at not_abort e = elim (true_or_false x.told.cleaned) [
@@ -76,7 +80,7 @@ module _ (g : Setting) (k : Times) (opening : Content) (j : IsLegal g.script) (i
   commit_goes : (a : Who) (op : Operation) (e : OpEnd) → TheTaskCommit (fresh g.script.retries (commits.task_commit_start g.script a)) ≡ op → over op ≡ Some e → ⊥
   commit_goes a op e is o = none_some (ap (option_map ends.Task) (commit_begun g.script.committer a)) (ap over is ∙ o)
 
-  gone_late : (op : Operation) (name : List ℕ) → is_abort op ≡ false → over op ≡ Some (ends.Task (tasks.Gone name)) → (b : Who) (o : Op) (m : Known) → start_of g (actor_of b) o None m ≡ Some op → ⊥
+  gone_late : (op : Operation) (name : List ℕ) → is_abort op ≡ false → over op ≡ Some (ends.Task (tasks.Gone name)) → (b : Who) (o : Op) (m : Known) → start_of g (actor_of b) o (record { missing = None; attempts = [] }) m ≡ Some op → ⊥
   gone_late op name not_abort e b ops.Write m s = write_begun g.script.committer (files g.script b) name (ap over (some_is s) ∙ e)
   gone_late op name not_abort e b ops.Commit m s = commit_goes b op _ (some_is s) e
   gone_late op name not_abort e b ops.Abort m s = false_true not_abort (sym (ap is_abort (some_is s)))
@@ -85,7 +89,7 @@ module _ (g : Setting) (k : Times) (opening : Content) (j : IsLegal g.script) (i
   abbrev done : ℕ → Bool → Operation
   done spare repeated = TheTaskCommit (record { operation = commits.TaskCommitOver tasks.Done; spare = spare; repeated = repeated })
 
-  done_late : (spare : ℕ) (repeated : Bool) (b : Who) (o : Op) (m : Known) → start_of g (actor_of b) o None m ≡ Some (done spare repeated) → ⊥
+  done_late : (spare : ℕ) (repeated : Bool) (b : Who) (o : Op) (m : Known) → start_of g (actor_of b) o (record { missing = None; attempts = [] }) m ≡ Some (done spare repeated) → ⊥
   done_late spare repeated b ops.Commit m s = commit_goes b (done spare repeated) _ (some_is s) refl
   done_late spare repeated b ops.Setup m s = none_some refl s
   done_late spare repeated b ops.Clean m s = none_some refl s

@@ -1,12 +1,14 @@
 -- Whose the entries of a run are.
 use Rattle.std.proofs.Common.{◌≡◌, ℕ, zero, suc, ◌<◌, ◌≤◌, ◌⊎◌, inl, inr, ◌||◌, Bool, true, false, cond, List, [], ◌∷◌, ◌++◌, length, slice_get, Option, Some, None, refl, sym, ap, subst, ◌∙◌, arith}
-use Rattle.job_facts.specs.Prelude.{filter, list_any, Content, after_all, Actor, Driver, Request, Outcome, Entry, Who, actor_of, Script, Known, Op, Setup, SetupOver, setup_asks, Commit, Setting, Operation, TheSetup, TheCommit, TheClean, who, asks, tells, start_of, WasPublished, is_begun, is_publishing, by_actor, until_last, AllBy, AllUpTo, is_own, own, same_actor, known, put_who, entry, driver_entry, strange_entry, Times}
+use Rattle.job_facts.specs.Prelude.{filter, list_any, Content, after_all, Actor, Driver, Request, Outcome, Entry, Who, actor_of, Script, Known, Op, Setup, SetupOver, setup_asks, Commit, Setting, Operation, TheSetup, TheCommit, TheClean, who, asks, tells, start_of, WasPublished, is_begun, is_publishing, by_actor, until_last, AllBy, AllUpTo, is_own, own, same_actor, known, put_who, entry, driver_entry, strange_entry, Times, TheCheck, TheSparing, commit_of, step}
 use Rattle.job_spec.proofs.Common.{append-nil, take-append-le, filter-append, list_any-append, slice_get_within, some_is, none_some, false_true}
 use Rattle.s3_types.specs.Store.{opening as opening_scene}
 use Rattle.job_model.specs.declared.events.Op.TheVariants as ops
 use Rattle.job_traces.specs.Runs.{Stand, Runs, run_begins, driver_sends, attempt_sends, is_set, is_done, is_just_set, MaySetUp, IsTimely, commit_with, nothing_learnt, Beginning, BeginSetup, BeginCommit, BeginClean, BeginWrite, BeginPublish, BeginAbort, begin, MayBegin, actor_begins, strays}
 use Rattle.job_facts.proofs.Whose.{same_or_another, who_true, who_false, who_here, who_other, or_false, or_true}
 use Rattle.job_outcomes.specs.RunEntries.{RunEntries}
+use Rattle.job_protocol.proofs.Begun.{after_check_so, commit_of_so, clean_of_so, commit_alone}
+use Rattle.job_protocol.specs.Rechecks.{check_after}
 
 -- ---- up to an actor's last entry
 
@@ -56,8 +58,10 @@ module _ (g : Setting) (k : Times) (opening : Content) where
   abbrev Stood : Option Operation → List Entry → List Entry → Type 0
   Stood None es commit = since_commit es ≡ []
   Stood (Some (TheSetup t)) es commit = since_commit es ≡ []
-  Stood (Some (TheCommit c)) es commit = commit ≡ since_commit es
+  Stood (Some (TheCommit c)) es commit = g.shared ≡ false → commit ≡ since_commit es
+  Stood (Some (TheCheck t)) es commit = g.shared ≡ true
   Stood (Some (TheClean t)) es commit = Unit {0}
+  Stood (Some (TheSparing t)) es commit = Unit {0}
   Stood (Some _) es commit = ⊥
 
   before_set : (d : Option Operation) (es commit : List Entry) → is_set d ≡ false → Stood d es commit → since_commit es ≡ []
@@ -65,6 +69,8 @@ module _ (g : Setting) (k : Times) (opening : Content) where
   before_set (Some (TheSetup t)) es commit e h = h
   before_set (Some (TheCommit c)) es commit e h = absurd (false_true e refl)
   before_set (Some (TheClean t)) es commit e h = absurd (false_true e refl)
+  before_set (Some (TheCheck t)) es commit e h = absurd (false_true e refl)
+  before_set (Some (TheSparing t)) es commit e h = absurd (false_true e refl)
   before_set (Some _) es commit e h = absurd h
 
   just_so : (d : Option Operation) (es commit : List Entry) → is_just_set d ≡ true → Stood d es commit → since_commit es ≡ []
@@ -79,20 +85,28 @@ module _ (g : Setting) (k : Times) (opening : Content) where
   other_stood : (d : Option Operation) (es commit : List Entry) (e : Entry) → same_actor e.actor Driver ≡ false → Stood d es commit → Stood d (es ++ e ∷ []) commit
   other_stood None es commit e other h = other_more es e other ∙ h
   other_stood (Some (TheSetup t)) es commit e other h = other_more es e other ∙ h
-  other_stood (Some (TheCommit c)) es commit e other h = h ∙ sym (other_more es e other)
+  other_stood (Some (TheCommit c)) es commit e other h = λ alone. h alone ∙ sym (other_more es e other)
+  other_stood (Some (TheCheck t)) es commit e other h = h
   other_stood (Some (TheClean t)) es commit e other h = tt
+  other_stood (Some (TheSparing t)) es commit e other h = tt
   other_stood (Some _) es commit e other h = absurd h
 
   driver_stood : (op : Operation) (es commit : List Entry) (n : ℕ) (r : Request) (o : Outcome) → IsTimely k n op → Stood (Some op) es commit → Stood (Some (tells g (who Driver) op o)) (es ++ driver_entry n r o ∷ []) (commit_with op commit (driver_entry n r o))
   driver_stood (TheSetup t) es commit n r o timely h = driver_more es n r o ∙ ap (λ b. since_commit es ++ cond b (driver_entry n r o ∷ []) []) timely.0 ∙ ap (λ l. l ++ []) h
-  driver_stood (TheCommit c) es commit n r o timely h = ap (λ l. l ++ driver_entry n r o ∷ []) h ∙ sym (driver_more es n r o ∙ ap (λ b. since_commit es ++ cond b (driver_entry n r o ∷ []) []) timely.0)
+  driver_stood (TheCommit c) es commit n r o timely h = λ alone. ap (λ l. l ++ driver_entry n r o ∷ []) (h alone) ∙ sym (driver_more es n r o ∙ ap (λ b. since_commit es ++ cond b (driver_entry n r o ∷ []) []) timely.0)
   driver_stood (TheClean t) es commit n r o timely h = tt
+  driver_stood (TheSparing t) es commit n r o timely h = tt
+  driver_stood (TheCheck t) es commit n r o timely h = after_check_so g (λ op. Stood (Some op) (es ++ driver_entry n r o ∷ []) commit) (λ alone. absurd (false_true alone h)) (λ u. h) (step g.script.retries (check_after g.script) t o)
   driver_stood _ es commit n r o timely h = absurd h
 
   begin_stood : (es : List Entry) (x : Stand) (b : Beginning) → MayBegin g x b → Stood x.driver es x.commit → Stood (begin g x b).driver es (begin g x b).commit
   begin_stood es x BeginSetup may h = may_so x es may h
-  begin_stood es x (BeginCommit missing) may h = sym (just_so x.driver es x.commit may h)
-  begin_stood es x BeginClean may h = tt
+  begin_stood es x (BeginCommit reports) may h = by g.shared refl
+    where
+      by : (b : Bool) → g.shared ≡ b → Stood (Some (commit_of g reports)) es []
+      by false e = subst (λ op. Stood (Some op) es []) (sym (commit_alone g reports e)) (λ alone. sym (just_so x.driver es x.commit may h))
+      by true e = commit_of_so g (λ op. Stood (Some op) es []) (λ missing alone. absurd (false_true alone e)) (λ t. e) reports
+  begin_stood es x BeginClean may h = clean_of_so g (λ op. Stood (Some op) es x.commit) tt tt
   begin_stood es x _ may h = h
 
   stood : (es : List Entry) (x : Stand) → Runs g k opening es x → Stood x.driver es x.commit
@@ -102,8 +116,8 @@ module _ (g : Setting) (k : Times) (opening : Content) where
   stood es x (attempt_sends fs y a op n r o run set at asked honest) = other_stood y.driver fs y.commit (entry a n r o) refl (stood fs y run)
   stood es x (strays fs y n r o run f) = other_stood y.driver fs y.commit (strange_entry n r o) refl (stood fs y run)
 
-  pub commit_entries : (es : List Entry) (x : Stand) → Runs g k opening es x → (c : Commit) → x.driver ≡ Some (TheCommit c) → x.commit ≡ since_commit es
-  commit_entries es x run c d = subst (λ v. Stood v es x.commit) d (stood es x run)
+  pub commit_entries : g.shared ≡ false → (es : List Entry) (x : Stand) → Runs g k opening es x → (c : Commit) → x.driver ≡ Some (TheCommit c) → x.commit ≡ since_commit es
+  commit_entries alone es x run c d = subst (λ v. Stood v es x.commit) d (stood es x run) alone
 
   -- ---- where no attempt has begun anything
 
@@ -152,13 +166,15 @@ module _ (g : Setting) (k : Times) (opening : Content) where
   was_unset (TheSetup t) r o asked e = asks_on g.script t.operation r asked
   was_unset (TheCommit c) r o asked e = absurd (false_true e refl)
   was_unset (TheClean t) r o asked e = absurd (false_true e refl)
+  was_unset (TheCheck t) r o asked e = absurd (false_true e (after_check_so g (λ op. is_set (Some op) ≡ true) refl (λ u. refl) (step g.script.retries (check_after g.script) t o)))
+  was_unset (TheSparing t) r o asked e = absurd (false_true e refl)
   was_unset _ r o asked e = refl
 
   none_begin : (x : Stand) (b : Beginning) → MayBegin g x b → (is_set x.driver ≡ false → (a : Who) → x.attempts a ≡ None) → is_set (begin g x b).driver ≡ false → (a : Who) → (begin g x b).attempts a ≡ None
   none_begin x BeginSetup (inl unset) old e = old unset
   none_begin x BeginSetup (inr just) old e = just.1
-  none_begin x (BeginCommit missing) may old e = absurd (false_true e refl)
-  none_begin x BeginClean may old e = absurd (false_true e refl)
+  none_begin x (BeginCommit reports) may old e = absurd (false_true e (commit_of_so g (λ op. is_set (Some op) ≡ true) (λ missing. refl) (λ t. refl) reports))
+  none_begin x BeginClean may old e = absurd (false_true e (clean_of_so g (λ op. is_set (Some op) ≡ true) refl refl))
   none_begin x (BeginWrite a) may old e = absurd (false_true e may.0)
   none_begin x (BeginPublish a) may old e = absurd (false_true e may.0)
   none_begin x (BeginAbort a) may old e = absurd (false_true e may.0)
@@ -175,8 +191,8 @@ module _ (g : Setting) (k : Times) (opening : Content) where
   abbrev At : Who → Operation → Option ℕ → List Entry → Type 0
   At a op c es = (y : Stand) × Runs g k opening es y × (y.told.cleans_at ≡ c) × (y.attempts a ≡ Some op)
 
-  module _ (a : Who) (op : Operation) (late : (b : Who) (o : Op) (m : Known) → start_of g (actor_of b) o None m ≡ Some op → ⊥) where
-    begun : (y : Stand) (b : Who) (o : Op) (m : Known) (s : Operation) → start_of g (actor_of b) o None m ≡ Some s → put_who y.attempts b (Some s) a ≡ Some op → y.attempts a ≡ Some op
+  module _ (a : Who) (op : Operation) (late : (b : Who) (o : Op) (m : Known) → start_of g (actor_of b) o (record { missing = None; attempts = [] }) m ≡ Some op → ⊥) where
+    begun : (y : Stand) (b : Who) (o : Op) (m : Known) (s : Operation) → start_of g (actor_of b) o (record { missing = None; attempts = [] }) m ≡ Some s → put_who y.attempts b (Some s) a ≡ Some op → y.attempts a ≡ Some op
     begun y b o m s start at = elim (same_or_another a b) [
       | inl same ↦ absurd (late b o m (start ∙ sym (who_here y.attempts b (Some s) a same) ∙ at))
       | inr ne ↦ sym (who_other y.attempts b (Some s) a ne) ∙ at
@@ -228,7 +244,7 @@ still_published w opening es more t a n i h all = longer_published w opening es 
 
 pub run_entries : RunEntries
 run_entries = record {
-  commit = λ g k opening es x run c d. commit_entries g k opening es x run c d;
+  commit = λ g single k opening es x run c d. commit_entries g k opening single es x run c d;
   alone = λ g k opening es x run none. all_alone g k opening es x run none;
   setup = λ g k opening es x run t d e. none_begun g k opening es x run (ap is_set d ∙ e);
   last = λ g k opening es x run a op at late. at_last g k opening a op late es x run at;

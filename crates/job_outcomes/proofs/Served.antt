@@ -1,6 +1,6 @@
 -- What the driver's commit is answered in every run: a completion finds no upload only where an earlier sending of it was lost, and a read of a set finds it where its task has a last publisher.
 use Rattle.std.proofs.Common.{◌≡◌, ℕ, nat_lt, ◌≤◌, ◌^◌, ◌⊎◌, inl, inr, ◌&&◌, ◌||◌, Bool, true, false, cond, List, [], ◌∷◌, ◌++◌, length, Option, Some, None, IsSome, is_some, refl, sym, ap, subst, ◌∙◌}
-use Rattle.job_facts.specs.Prelude.{list_any, named_from, Content, live, with_key, joined, answer, complete_answer, IsHonestOutcome, Driver, Shell, Request, Refusal, NoSuchUpload, Reply, Refused, Outcome, Answered, Slow, Entry, Pending, PendingSet, Who, actor_of, IsLegal, Script, CommitEnd, same_path, Sweep, Listing, sweep_hears, Turn, again, follow, dealt, nth, completion, revert, In, Tabled, Sets, picks_of, all_commits, set_request, set_read, Commit, Fetching, Replacing, Completing, Marking, Reverting, CommitOver, is_no_magic, completing, replaced, replacing, decided, fetching, fetched, swept, reverting, worn_completion, commit_start, commit_asks, commit_hears, commit_misses, commit_tells, stage_of, Setting, Operation, TheSetup, TheWrite, TheTaskCommit, TheTaskAbort, TheCommit, TheClean, who, asks, tells, was_lost, Seen, is_reading, Told, entry, driver_entry, strange_entry, Hold, Gone, Reads, Times}
+use Rattle.job_facts.specs.Prelude.{list_any, named_from, Content, live, with_key, joined, answer, complete_answer, IsHonestOutcome, Driver, Shell, Request, Refusal, NoSuchUpload, Reply, Refused, Outcome, Answered, Slow, Entry, Pending, PendingSet, Who, actor_of, IsLegal, Script, CommitEnd, same_path, Sweep, Listing, sweep_hears, Turn, again, follow, dealt, nth, completion, revert, In, Tabled, Sets, picks_of, all_commits, set_request, set_read, Commit, Fetching, Replacing, Completing, Marking, Reverting, CommitOver, is_no_magic, completing, replaced, replacing, decided, fetching, fetched, swept, reverting, worn_completion, commit_start, commit_asks, commit_hears, commit_misses, commit_tells, stage_of, Setting, Operation, TheSetup, TheWrite, TheTaskCommit, TheTaskAbort, TheCommit, TheClean, who, asks, tells, was_lost, Seen, is_reading, Told, entry, driver_entry, strange_entry, Hold, Gone, Reads, Times, TheCheck, is_begun, step, TheSparing}
 use Rattle.job_spec.proofs.Common.{list_any-append, same_self, some_is, none_some, false_true, true_or_false}
 use Rattle.job_spec.specs.Prelude.{same_request}
 use Rattle.job_model.specs.declared.ends.Stage.TheVariants as stages
@@ -23,6 +23,10 @@ use Rattle.job_outcomes.specs.CommitRuns.{ArePicks, Unpublished, CommitAnswers}
 use Rattle.job_outcomes.proofs.Picks.{other_unread, brings}
 use Rattle.job_outcomes.proofs.CommitRuns.{commit_is, stood, setup_reads, clean_reads}
 use Rattle.job_outcomes.proofs.CommitMoments.{no_driver}
+use Rattle.job_protocol.proofs.Begun.{after_check_so, commit_of_so, clean_of_so}
+use Rattle.job_protocol.specs.Rechecks.{check_after}
+use Rattle.job_facts.proofs.Sharing.{check_plain}
+use Rattle.job_traces.proofs.EveryRun.{check_unsent}
 
 -- ---- a fact of each of a list's members, by those before it
 
@@ -223,12 +227,16 @@ module _ (g : Setting) (k : Times) (opening : Content) (j : IsLegal g.script) (i
         subst (Lost (x.commit ++ driver_entry n r o ∷ [])) (commit_is e) (lost_tells w x.commit (driver_entry n r o) c asked h.0),
         each_more IsRefusedLost x.commit (driver_entry n r o) h.1 (refused_next es x run c d h.0 n r o asked honest),
       )
+  driver_answers es x run old (TheCheck t) n r o d asked honest v e =
+      let unsent = check_unsent g k opening j is_opening es x run t d in
+      after_check_so g (λ op. Some op ≡ Some (TheCommit v) → Lost x.commit v × Each IsRefusedLost x.commit)
+      (λ e. subst (λ l. Lost l v × Each IsRefusedLost l) (sym unsent) (subst (Lost []) (commit_is e) (lost_start w [] None), λ before z later q. absurd (no_member before z later q))) (λ u e. absurd cc) (step w.retries (check_after w) t o) e
   driver_answers es x run old _ n r o d asked honest v e = absurd cc
 
   begin_answers : (x : Stand) (b : Beginning) → Answers x → Answers (begin g x b)
-  begin_answers x (BeginCommit missing) old c e = (subst (Lost []) (commit_is e) (lost_start w [] missing), λ before z later q. absurd (no_member before z later q))
+  begin_answers x (BeginCommit reports) old c e = commit_of_so g (λ op. Some op ≡ Some (TheCommit c) → Lost [] c × Each IsRefusedLost []) (λ missing e. (subst (Lost []) (commit_is e) (lost_start w [] missing), λ before z later q. absurd (no_member before z later q))) (λ t e. absurd cc) reports e
   begin_answers x BeginSetup old c e = absurd cc
-  begin_answers x BeginClean old c e = absurd cc
+  begin_answers x BeginClean old c e = absurd (clean_of_so g (λ op. Some op ≡ Some (TheCommit c) → ⊥) (λ e. absurd cc) (λ e. absurd cc) e)
   begin_answers x _ old c e = old c e
 
   pub answers : (es : List Entry) (x : Stand) → Runs g k opening es x → Answers x
@@ -241,10 +249,10 @@ module _ (g : Setting) (k : Times) (opening : Content) (j : IsLegal g.script) (i
   -- ---- reads
 
   abbrev IsThere : List Entry → Entry → Type 0
-  IsThere before e = e.actor ≡ Driver → (t : ℕ) (y : Reply) → e.request ≡ set_request w.committer w t → e.outcome ≡ Answered y → IsSome (set_read y) ⊎ Unpublished w k opening before
+  IsThere before e = e.actor ≡ Driver → is_begun k.clean e.event ≡ false → (t : ℕ) (y : Reply) → e.request ≡ set_request w.committer w t → e.outcome ≡ Answered y → IsSome (set_read y) ⊎ Unpublished w k opening before
 
   commit_there : (fs : List Entry) (x : Stand) → Runs g k opening fs x → (c : Commit) (n : ℕ) (r : Request) (o : Outcome) → x.driver ≡ Some (TheCommit c) → commit_asks w c ≡ Some r → IsTimely k n (TheCommit c) → x.seen.scene.content.next ≤ 2 ^ 64 → IsHonestOutcome o (answer x.seen.scene r) → IsThere fs (driver_entry n r o)
-  commit_there fs x run (Fetching sets i) n r o d asked timely few honest by t y is got =
+  commit_there fs x run (Fetching sets i) n r o d asked timely few honest by still t y is got =
       let v = in_commit fs x run (Fetching sets i) d in
       let st = stood g j k opening is_opening fs x run (Fetching sets i) d in
       let due : y ≡ answer x.seen.scene (set_request w.committer w (length sets)) = subst (λ u. IsHonestOutcome u (answer x.seen.scene r)) got honest ∙ ap (answer x.seen.scene) (sym (some_is asked)) in
@@ -252,17 +260,19 @@ module _ (g : Setting) (k : Times) (opening : Content) (j : IsLegal g.script) (i
         | inl none ↦ inr (length sets, v.2.fits.0, ap (λ (s : Seen). s.last (length sets)) (sym (sees g k opening j is_opening fs x run)) ∙ none.1)
         | inr z ↦ inl (ap is_some (ap set_read due ∙ z.1))
       ]
-  commit_there fs x run c n r o d asked timely few honest by t y is got =
+  commit_there fs x run c n r o d asked timely few honest by still t y is got =
       let v = in_commit fs x run c d in
       absurd (false_true (other_unread g j k x.seen x.told v.0 v.2.uncleaned few n (commit_picks k x.seen.begun n timely.0 timely.1) c refl v.2.decides r asked t) (ap (is_reading w t) is ∙ reads_it j t))
 
   driver_there : (fs : List Entry) (x : Stand) → Runs g k opening fs x → (op : Operation) (n : ℕ) (r : Request) (o : Outcome) → x.driver ≡ Some op → asks g (who Driver) nothing_learnt op ≡ Some r → IsTimely k n op → x.seen.scene.content.next ≤ 2 ^ 64 → IsHonestOutcome o (answer x.seen.scene r) → IsThere fs (driver_entry n r o)
-  driver_there fs x run (TheCommit c) n r o d asked timely few honest by t y is got = commit_there fs x run c n r o d asked timely few honest by t y is got
-  driver_there fs x run (TheSetup c) n r o d asked timely few honest by t y is got = absurd (false_true (setup_reads w c.operation r asked t) (ap (is_reading w t) is ∙ reads_it j t))
-  driver_there fs x run (TheClean c) n r o d asked timely few honest by t y is got = absurd (false_true (clean_reads w c.operation r asked t) (ap (is_reading w t) is ∙ reads_it j t))
-  driver_there fs x run (TheWrite c) n r o d asked timely few honest by t y is got = absurd (no_driver g j k opening is_opening fs x run (TheWrite c) d (λ z. z))
-  driver_there fs x run (TheTaskCommit c) n r o d asked timely few honest by t y is got = absurd (no_driver g j k opening is_opening fs x run (TheTaskCommit c) d (λ z. z))
-  driver_there fs x run (TheTaskAbort c) n r o d asked timely few honest by t y is got = absurd (no_driver g j k opening is_opening fs x run (TheTaskAbort c) d (λ z. z))
+  driver_there fs x run (TheCommit c) n r o d asked timely few honest by still t y is got = commit_there fs x run c n r o d asked timely few honest by still t y is got
+  driver_there fs x run (TheSetup c) n r o d asked timely few honest by still t y is got = absurd (false_true (setup_reads w c.operation r asked t) (ap (is_reading w t) is ∙ reads_it j t))
+  driver_there fs x run (TheClean c) n r o d asked timely few honest by still t y is got = absurd (false_true (clean_reads w c.operation r asked t) (ap (is_reading w t) is ∙ reads_it j t))
+  driver_there fs x run (TheCheck c) n r o d asked timely few honest by still t y is got = absurd (false_true ((check_plain w c.operation r asked).reads t) (ap (is_reading w t) is ∙ reads_it j t))
+  driver_there fs x run (TheSparing c) n r o d asked timely few honest by still t y is got = absurd (false_true still timely)
+  driver_there fs x run (TheWrite c) n r o d asked timely few honest by still t y is got = absurd (no_driver g j k opening is_opening fs x run (TheWrite c) d (λ z. z))
+  driver_there fs x run (TheTaskCommit c) n r o d asked timely few honest by still t y is got = absurd (no_driver g j k opening is_opening fs x run (TheTaskCommit c) d (λ z. z))
+  driver_there fs x run (TheTaskAbort c) n r o d asked timely few honest by still t y is got = absurd (no_driver g j k opening is_opening fs x run (TheTaskAbort c) d (λ z. z))
 
   not_driver : (a : Who) → actor_of a ≡ Driver → ⊥
   not_driver a e = cc
@@ -274,11 +284,11 @@ module _ (g : Setting) (k : Times) (opening : Content) (j : IsLegal g.script) (i
   there es x run_begins = λ before z later q. absurd (no_member before z later q)
   there es x (actor_begins fs y b run may) = there fs y run
   there es x (driver_sends fs y op n r o run d asked timely few honest) = each_more IsThere fs (driver_entry n r o) (there fs y run) (driver_there fs y run op n r o d asked timely few honest)
-  there es x (attempt_sends fs y a op n r o run set at asked honest) = each_more IsThere fs (entry a n r o) (there fs y run) (λ by t v is got. absurd (not_driver a by))
-  there es x (strays fs y n r o run f) = each_more IsThere fs (strange_entry n r o) (there fs y run) (λ by t v is got. absurd (no_shell by))
+  there es x (attempt_sends fs y a op n r o run set at asked honest) = each_more IsThere fs (entry a n r o) (there fs y run) (λ by still t v is got. absurd (not_driver a by))
+  there es x (strays fs y n r o run f) = each_more IsThere fs (strange_entry n r o) (there fs y run) (λ by still t v is got. absurd (no_shell by))
 
 pub commit_answers : CommitAnswers
 commit_answers = record {
   refused = λ g j k opening is_opening es x run c d before e later why is. (answers g k opening j is_opening es x run c d).1 before e later is why;
-  there = λ g j k opening is_opening es x run before e later t r is by. there g k opening j is_opening es x run before e later is by t r;
+  there = λ g j k opening is_opening es x run before e later t r is by still. there g k opening j is_opening es x run before e later is by still t r;
 }

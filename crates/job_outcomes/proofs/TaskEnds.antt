@@ -1,7 +1,7 @@
 -- How an attempt's operations end, by its own entries alone.
 use Rattle.std.proofs.Common.{◌≡◌, ℕ, ◌⊎◌, inl, inr, Bool, true, false, cond, List, [], ◌∷◌, ◌++◌, map, Option, Some, None, refl, sym, ap, subst, ◌∙◌, append_assoc}
 use Rattle.job_protocol.specs.Prelude.{All, Contains, checks_partitions, is_serial}
-use Rattle.job_facts.specs.Prelude.{option_map, is_some, Actor, Attempt, Committer, Magic, Request, ListPage, PageEntry, Reply, Page, Refused, NoSuchKey, NoSuchFile, Answered, Entry, run, Follows, spent_in, WornFirst, File, Who, Script, Drawn, Known, Op, TaskEnd, files, paths_of, partitions, as_made, record_key, Walked, More, Whole, Sweep, sweep_hears, all_go, Uploaded, GoesOn, AllSent, IsGone, upload_hears, Setting, Operation, TheWrite, TheTaskCommit, TheTaskAbort, Running, who, asks, wants, advance, tells, start_of, over, spare_of, is_fault, TaskIs}
+use Rattle.job_facts.specs.Prelude.{option_map, is_some, Actor, Attempt, Committer, Magic, Request, ListPage, PageEntry, Reply, Page, Refused, NoSuchKey, NoSuchFile, Answered, Entry, run, Follows, spent_in, WornFirst, File, Who, Script, Drawn, Known, Op, TaskEnd, files, paths_of, partitions, as_made, record_key, Walked, More, Whole, Sweep, sweep_hears, all_go, Uploaded, GoesOn, AllSent, IsGone, upload_hears, Setting, Operation, TheWrite, TheTaskCommit, TheTaskAbort, Running, who, asks, wants, advance, tells, start_of, over, spare_of, is_fault, TaskIs, Reports}
 use Rattle.job_spec.proofs.Common.{first_spent, faults, some_is, none_some, false_true}
 use Rattle.std.proofs.lemmas.List.Elements.{All-nil, All-push, Contains-append_left, Contains-append_right, Contains-push}
 use Rattle.job_model.specs.declared.events.Op.TheVariants as ops
@@ -243,7 +243,7 @@ record Begun (g : Setting) (a : Who) (all : List Entry) (op : Op) (k : Known) (m
   pub calm : is_fault (over m) ≡ false
   pub is : Op_is op g.script a all k.publish_sent m
 
-begun : (g : Setting) (t a : ℕ) (all : List Entry) (op : Op) (missing : Option ℕ) (k : Known) (m : Operation) → start_of g (Attempt t a) op missing k ≡ Some m → Begun g (who (Attempt t a)) all op k m
+begun : (g : Setting) (t a : ℕ) (all : List Entry) (op : Op) (r : Reports) (k : Known) (m : Operation) → start_of g (Attempt t a) op r k ≡ Some m → Begun g (who (Attempt t a)) all op k m
 begun g t a all ops.Write missing k m e =
     let one : Who = who (Attempt t a) in
     subst (Begun g one all ops.Write k) (some_is e) (record { serial = refl; spare = refl; calm = write_calm g.script.committer (files g.script one); is = write_begun g.script one all k.publish_sent g.script.committer (files g.script one) })
@@ -271,7 +271,7 @@ not_fault : (op : Op) (w : Script) (a : Who) (all : List Entry) (sent : Bool) (e
 not_fault op w a all sent e h (inl is) = absurd (false_true h (ap (λ v. is_fault (Some (ends.Task v))) is))
 not_fault op w a all sent e h (inr may) = may
 
-pub task_ends : (g : Setting) (t a : ℕ) (op : Op) (missing : Option ℕ) (k : Known) (m : Operation) → start_of g (Attempt t a) op missing k ≡ Some m → (es : List Entry) → Follows (wants g (Attempt t a)) (advance g (Attempt t a)) (record { operation = m; known = k }) es
+pub task_ends : (g : Setting) (t a : ℕ) (op : Op) (r : Reports) (k : Known) (m : Operation) → start_of g (Attempt t a) op r k ≡ Some m → (es : List Entry) → Follows (wants g (Attempt t a)) (advance g (Attempt t a)) (record { operation = m; known = k }) es
     → (e : TaskEnd) → over (run (advance g (Attempt t a)) (record { operation = m; known = k }) es).operation ≡ Some (ends.Task e) → (worn : Option Request) × WornFirst g.script.retries es worn × TaskIs op g.script (who (Attempt t a)) es k.publish_sent true worn e
 task_ends g t a op missing k m start es f e is =
     let one : Who = who (Attempt t a) in

@@ -1,6 +1,6 @@
 -- The driver's commit in a run: by which entries it came where it stands, the sets that it holds and the picks that are seen; and how it ends.
-use Rattle.std.specs.Prelude.{◌≡◌, ℕ, ◌<◌, ◌≤◌, ◌^◌, ◌⊎◌, true, List, [], ◌∷◌, ◌++◌, length, Option, Some, None, IsSome}
-use Rattle.job_facts.specs.Prelude.{Content, answer, IsHonestOutcome, Driver, Request, Refusal, NoSuchUpload, Reply, Refused, Outcome, Answered, Entry, PendingSet, run, Follows, WornFirst, Who, IsLegal, Script, CommitEnd, Picks, Sets, picks_of, Commit, Fetching, Replacing, Completing, Marking, Reverting, CommitOver, commit_start, commit_asks, commit_tells, fetching, set_request, set_read, stage_of, Setup, setup_asks, Clean, clean_asks, AllSound, Setting, TheCommit, was_lost, AreOwn, commit_due, is_mark_answered, CommitEnded, picks_below, picked, Seen, see, see_all, nothing_seen, is_marked, entry, driver_entry, Times}
+use Rattle.std.specs.Prelude.{◌≡◌, ℕ, ◌<◌, ◌≤◌, ◌^◌, ◌⊎◌, true, List, [], ◌∷◌, ◌++◌, length, Option, Some, None, IsSome, false}
+use Rattle.job_facts.specs.Prelude.{Content, answer, IsHonestOutcome, Driver, Request, Refusal, NoSuchUpload, Reply, Refused, Outcome, Answered, Entry, PendingSet, run, Follows, WornFirst, Who, IsLegal, Script, CommitEnd, Picks, Sets, picks_of, Commit, Fetching, Replacing, Completing, Marking, Reverting, CommitOver, commit_start, commit_asks, commit_tells, fetching, set_request, set_read, stage_of, Setup, setup_asks, Clean, clean_asks, AllSound, Setting, TheCommit, was_lost, AreOwn, commit_due, is_mark_answered, CommitEnded, picks_below, picked, Seen, see, see_all, nothing_seen, is_marked, entry, driver_entry, Times, is_begun}
 use Rattle.job_model.specs.declared.ends.CommitEnd.TheVariants as commits
 use Rattle.job_model.specs.declared.ends.Stage.TheVariants as stages
 use Rattle.job_traces.specs.Runs.{Stand, Runs, IsOpening, IsTimely}
@@ -101,8 +101,8 @@ pub record CommitAnswers : Type 0 where
       → Runs g k opening es x → (c : Commit) → x.driver ≡ Some (TheCommit c) → (before : List Entry) (e : Entry) (later : List Entry) (why : Refusal)
       → x.commit ≡ before ++ e ∷ later → stage_of e.request ≡ stages.Complete → e.outcome ≡ Answered (Refused why)
       → (why ≡ NoSuchUpload) × (was_lost e.request before ≡ true)
-  -- a read of a set finds one where each task has a last publisher
+  -- a read of a set before an abort or clean finds one where each task has a last publisher
   pub there : (g : Setting) → IsLegal g.script → (k : Times) (opening : Content) → IsOpening g opening → (es : List Entry) (x : Stand)
       → Runs g k opening es x → (before : List Entry) (e : Entry) (later : List Entry) (t : ℕ) (r : Reply) → es ≡ before ++ e ∷ later
-      → e.actor ≡ Driver → e.request ≡ set_request g.script.committer g.script t → e.outcome ≡ Answered r
+      → e.actor ≡ Driver → is_begun k.clean e.event ≡ false → e.request ≡ set_request g.script.committer g.script t → e.outcome ≡ Answered r
       → IsSome (set_read r) ⊎ Unpublished g.script k opening before

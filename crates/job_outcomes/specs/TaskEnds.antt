@@ -1,6 +1,6 @@
 -- How an attempt's operations end.
 use Rattle.std.specs.Prelude.{◌≡◌, ℕ, Bool, true, false, List, Option, Some}
-use Rattle.job_facts.specs.Prelude.{Content, Attempt, Request, Entry, run, Follows, WornFirst, Who, actor_of, IsLegal, Script, Known, Op, TaskEnd, TaskCommitOver, Setting, Operation, TheTaskCommit, TheTaskAbort, wants, advance, start_of, over, has_cleaned, TaskIs, WasPublished, until_last, Times}
+use Rattle.job_facts.specs.Prelude.{Content, Attempt, Request, Entry, run, Follows, WornFirst, Who, actor_of, IsLegal, Script, Known, Op, TaskEnd, TaskCommitOver, Setting, Operation, TheTaskCommit, TheTaskAbort, wants, advance, start_of, over, has_cleaned, TaskIs, WasPublished, until_last, Times, Reports}
 use Rattle.job_model.specs.declared.events.Op.TheVariants as ops
 use Rattle.job_model.specs.declared.ends.TaskEnd.TheVariants as tasks
 use Rattle.job_model.specs.declared.ends.OpEnd.TheVariants as op_ends
@@ -14,7 +14,7 @@ is_abort _ = false
 -- how an attempt's operations end, for every committer and mode
 pub record TaskEnds : Type 0 where
   -- by its own entries alone, whatever was answered, as if the driver had cleaned up
-  pub ends : (g : Setting) (t a : ℕ) (op : Op) (missing : Option ℕ) (k : Known) (m : Operation) → start_of g (Attempt t a) op missing k ≡ Some m → (es : List Entry) → Follows (wants g (Attempt t a)) (advance g (Attempt t a)) (record { operation = m; known = k }) es
+  pub ends : (g : Setting) (t a : ℕ) (op : Op) (r : Reports) (k : Known) (m : Operation) → start_of g (Attempt t a) op r k ≡ Some m → (es : List Entry) → Follows (wants g (Attempt t a)) (advance g (Attempt t a)) (record { operation = m; known = k }) es
       → (e : TaskEnd) → over (run (advance g (Attempt t a)) (record { operation = m; known = k }) es).operation ≡ Some (op_ends.Task e) → (worn : Option Request) × WornFirst g.script.retries es worn × TaskIs op g.script (record { task = t; attempt = a }) es k.publish_sent true worn e
   -- in a run a write or commit finds something gone only where the driver's abort or clean has begun before the attempt's last entry
   pub gone : (g : Setting) → IsLegal g.script → (k : Times) (opening : Content) → IsOpening g opening → (es : List Entry) (x : Stand) → Runs g k opening es x → (a : Who) (op : Operation) (name : List ℕ)

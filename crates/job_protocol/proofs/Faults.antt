@@ -1,6 +1,6 @@
 -- an operation of one request at a time is at fault exactly where a request of it wore out
 use Rattle.std.proofs.Common.{◌≡◌, ℕ, zero, suc, refl, ap, sym, ◌∙◌, Bool, true, false, cond, ◌&&◌, not, List, [], ◌∷◌, Option, Some, None, is_some}
-use Rattle.job_protocol.specs.Prelude.{option_map, Actor, Committer, Magic, Directory, Partitioned, Request, UploadRef, Reply, Head, Page, ClusterNames, Refused, NoSuchKey, NoSuchFile, Outcome, Answered, Slow, RequestLost, ReplyLost, Entry, run, Follows, Item, WornOut, Retried, step, unanswered_by, is_zero, spent_in, was_answered, File, Who, Script, OpEnd, files, checks_all, Walked, More, Whole, walked_uploads, Sweep, sweep_hears, all_go, keys_on, Drawn, Uploaded, GoesOn, AllSent, IsGone, upload_hears, Setting, Operation, TheSetup, TheWrite, TheTaskCommit, TheTaskAbort, TheCommit, TheClean, Running, who, tells, over, wants, advance, OneOf, is_serial, spare_of, is_fault}
+use Rattle.job_protocol.specs.Prelude.{option_map, Actor, Committer, Magic, Directory, Partitioned, Request, UploadRef, Reply, Head, Page, ClusterNames, Refused, NoSuchKey, NoSuchFile, Outcome, Answered, Slow, RequestLost, ReplyLost, Entry, run, Follows, Item, WornOut, Retried, step, unanswered_by, is_zero, spent_in, was_answered, File, Who, Script, OpEnd, files, checks_all, Walked, More, Whole, walked_uploads, Sweep, sweep_hears, all_go, keys_on, Drawn, Uploaded, GoesOn, AllSent, IsGone, upload_hears, Setting, Operation, TheSetup, TheWrite, TheTaskCommit, TheTaskAbort, TheCommit, TheClean, TheCheck, TheSparing, Running, who, tells, over, wants, advance, OneOf, is_serial, spare_of, is_fault}
 use Rattle.job_model.specs.declared.ends.OpEnd.TheVariants as ends
 use Rattle.job_model.specs.declared.ends.SetupEnd.TheVariants as setups
 use Rattle.list_walk.specs.Walks.{walked}
@@ -9,6 +9,7 @@ use Rattle.job_protocol.specs.Writes as writes
 use Rattle.job_protocol.specs.TaskCommits as tasks
 use Rattle.job_protocol.specs.TaskAborts as aborts
 use Rattle.job_protocol.specs.Cleanups as cleans
+use Rattle.job_protocol.specs.Sparing as sparing
 use Rattle.job_protocol.proofs.Tabled.{goes_on}
 use Rattle.job_protocol.proofs.Wearing.{false_true, step_again, stays_serial}
 
@@ -184,6 +185,47 @@ clean_calm w cleans.Naming r h = naming_calm r
 clean_calm w (cleans.Removing p ps) r h = paths_calm ps
 clean_calm w (cleans.CleanOver end) r h = h
 
+abbrev SparingCalm : sparing.Sparing → Type 0
+SparingCalm s = is_fault (option_map ends.Clean (sparing.sparing_over s)) ≡ false
+
+keys_calm : (ks : List (List ℕ)) → SparingCalm (sparing.deleting ks)
+keys_calm [] = refl
+keys_calm (k ∷ ks) = refl
+
+files_calm : (ps : List (List ℕ)) → SparingCalm (sparing.removing ps)
+files_calm [] = refl
+files_calm (p ∷ ps) = refl
+
+emptying_calm : (c : Committer) (all : List (List ℕ)) → SparingCalm (sparing.emptying c all)
+emptying_calm Magic all = keys_calm all
+emptying_calm Directory all = files_calm all
+emptying_calm Partitioned all = files_calm all
+
+named_calm : (c : Committer) (us : List UploadRef) (all : List (List ℕ)) → SparingCalm (sparing.aborting c us all)
+named_calm c [] all = emptying_calm c all
+named_calm c (u ∷ us) all = refl
+
+read_calm : (c : Committer) (us : List UploadRef) (ps all : List (List ℕ)) → SparingCalm (sparing.reading_on c us ps all)
+read_calm c us [] all = named_calm c us all
+read_calm c us (p ∷ ps) all = refl
+
+keyed_calm : (c : Committer) (x : Walked (List ℕ)) → SparingCalm (sparing.walking c x)
+keyed_calm c (More keys) = refl
+keyed_calm c (Whole keys) = read_calm c [] _ keys
+
+listed_calm : (c : Committer) (r : Reply) → SparingCalm (sparing.naming c r)
+listed_calm c (ClusterNames paths) = read_calm c [] paths paths
+listed_calm c _ = refl
+
+sparing_calm : (w : Script) (s : sparing.Sparing) (r : Reply) → SparingCalm s → SparingCalm (sparing.sparing_hears w s r)
+sparing_calm w (sparing.Walking keys) r h = keyed_calm w.committer (walked keys r)
+sparing_calm w sparing.Naming r h = listed_calm w.committer r
+sparing_calm w (sparing.Reading us p ps all) r h = read_calm w.committer _ ps all
+sparing_calm w (sparing.Aborting u us all) r h = named_calm w.committer us all
+sparing_calm w (sparing.Deleting k ks) r h = keys_calm _
+sparing_calm w (sparing.Removing p ps) r h = files_calm ps
+sparing_calm w (sparing.SparingOver end) r h = h
+
 abbrev Calm : Operation → Type 0
 Calm op = is_fault (over op) ≡ false
 
@@ -194,6 +236,8 @@ answer_calm g a (TheTaskCommit t) r s h = task_calm g.script g.minimum a t.opera
 answer_calm g a (TheTaskAbort t) r s h = abort_calm g.script t.operation r h
 answer_calm g a (TheCommit c) r s h = absurd (false_true refl s)
 answer_calm g a (TheClean t) r s h = clean_calm g.script t.operation r h
+answer_calm g a (TheCheck t) r s h = absurd (false_true refl s)
+answer_calm g a (TheSparing t) r s h = sparing_calm g.script t.operation r h
 
 answered_calm : (g : Setting) (a : Who) (op : Operation) (o : Outcome) → was_answered o ≡ true → is_serial op ≡ true → Calm op → Calm (tells g a op o)
 answered_calm g a op (Answered r) b s h = answer_calm g a op r s h
@@ -208,6 +252,8 @@ missed_calm g a (TheTaskCommit t) o n b e s h = ap (λ x. is_fault (option_map e
 missed_calm g a (TheTaskAbort t) o n b e s h = ap (λ x. is_fault (option_map ends.Task (aborts.task_abort_over x))) (step_again g.script.retries (aborts.task_abort_after g.script) t o n b e).0 ∙ h
 missed_calm g a (TheCommit c) o n b e s h = absurd (false_true refl s)
 missed_calm g a (TheClean t) o n b e s h = ap (λ x. is_fault (option_map ends.Clean (cleans.clean_over x))) (step_again g.script.retries (cleans.clean_after g.script) t o n b e).0 ∙ h
+missed_calm g a (TheCheck t) o n b e s h = absurd (false_true refl s)
+missed_calm g a (TheSparing t) o n b e s h = ap (λ x. is_fault (option_map ends.Clean (sparing.sparing_over x))) (step_again g.script.retries (sparing.sparing_after g.script) t o n b e).0 ∙ h
 
 none_spare : {M : Type 0} (retries : ℕ) (after : M → Item → M) (m : M) (b : Bool) (s : ℕ) → s ≡ zero → (unanswered_by retries after m b s).operation ≡ after m WornOut
 none_spare retries after m b zero e = refl
@@ -225,6 +271,8 @@ worn_fault g a (TheTaskCommit t) o b e s = ap (λ x. is_fault (option_map ends.T
 worn_fault g a (TheTaskAbort t) o b e s = ap (λ x. is_fault (option_map ends.Task (aborts.task_abort_over x))) (step_worn g.script.retries (aborts.task_abort_after g.script) t o b e)
 worn_fault g a (TheCommit c) o b e s = absurd (false_true refl s)
 worn_fault g a (TheClean t) o b e s = ap (λ x. is_fault (option_map ends.Clean (cleans.clean_over x))) (step_worn g.script.retries (cleans.clean_after g.script) t o b e)
+worn_fault g a (TheCheck t) o b e s = absurd (false_true refl s)
+worn_fault g a (TheSparing t) o b e s = ap (λ x. is_fault (option_map ends.Clean (sparing.sparing_over x))) (step_worn g.script.retries (sparing.sparing_after g.script) t o b e)
 
 -- what is over asks nothing
 none_by : (o : Option Request) (p : Option OpEnd) → OneOf o p → is_fault p ≡ true → o ≡ None

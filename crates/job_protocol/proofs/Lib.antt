@@ -10,3 +10,4 @@ pub mod LaneEnds
 pub mod Orders
 pub mod Told
 pub mod Sizes
+pub mod Begun

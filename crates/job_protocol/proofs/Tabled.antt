@@ -1,6 +1,6 @@
 -- an operation asks a request exactly until it is over, and each actor has its operations
 use Rattle.std.proofs.Common.{◌≡◌, ℕ, refl, Option, Some, None, is_some}
-use Rattle.job_protocol.specs.Prelude.{option_map, Actor, Driver, Attempt, Shell, Request, Who, Script, Op, Known, Setting, Operation, TheSetup, TheWrite, TheTaskCommit, TheTaskAbort, TheCommit, TheClean, asks, over, start_of, OneOf}
+use Rattle.job_protocol.specs.Prelude.{option_map, Actor, Driver, Attempt, Shell, Request, Who, Script, Op, Known, Setting, Operation, TheSetup, TheWrite, TheTaskCommit, TheTaskAbort, TheCommit, TheClean, TheCheck, TheSparing, Reports, asks, over, start_of, OneOf}
 use Rattle.job_model.specs.declared.events.Op.TheVariants as ops
 use Rattle.job_protocol.specs.Setup as setup
 use Rattle.job_protocol.specs.Writes as writes
@@ -8,6 +8,8 @@ use Rattle.job_protocol.specs.TaskCommits as tasks
 use Rattle.job_protocol.specs.TaskAborts as aborts
 use Rattle.job_protocol.specs.JobCommits as commits
 use Rattle.job_protocol.specs.Cleanups as cleans
+use Rattle.job_protocol.specs.Rechecks as checks
+use Rattle.job_protocol.specs.Sparing as sparing
 use Rattle.job_protocol.specs.Laws.{has_op}
 
 mapped : {X Y : Type 0} (f : X → Y) (o : Option Request) (p : Option X) → OneOf o p → OneOf o (option_map f p)
@@ -40,6 +42,14 @@ of_clean : (w : Script) (s : cleans.Clean) → OneOf (cleans.clean_asks w s) (cl
 of_clean w (cleans.Walking found) = tt
 of_clean w _ = tt
 
+of_check : (w : Script) (s : checks.Check) → OneOf (checks.check_asks w s) (checks.check_over s)
+of_check w (checks.Looking keys) = tt
+of_check w _ = tt
+
+of_sparing : (w : Script) (s : sparing.Sparing) → OneOf (sparing.sparing_asks w s) (sparing.sparing_over s)
+of_sparing w (sparing.Walking keys) = tt
+of_sparing w _ = tt
+
 pub goes_on : (g : Setting) (a : Who) (k : Known) (op : Operation) → OneOf (asks g a k op) (over op)
 goes_on g a k (TheSetup t) = mapped _ _ _ (of_setup g.script t.operation)
 goes_on g a k (TheWrite t) = mapped _ _ _ (of_write g.script a k t.operation)
@@ -47,16 +57,18 @@ goes_on g a k (TheTaskCommit t) = mapped _ _ _ (of_task g.script a k t.operation
 goes_on g a k (TheTaskAbort t) = mapped _ _ _ (of_abort g.script a t.operation)
 goes_on g a k (TheCommit c) = mapped _ _ _ (of_commit g.script c)
 goes_on g a k (TheClean t) = mapped _ _ _ (of_clean g.script t.operation)
+goes_on g a k (TheCheck t) = mapped _ _ _ (of_check g.script t.operation)
+goes_on g a k (TheSparing t) = mapped _ _ _ (of_sparing g.script t.operation)
 
-pub starts : (g : Setting) (a : Actor) (op : Op) (missing : Option ℕ) (k : Known) → is_some (start_of g a op missing k) ≡ has_op a op
-starts g Driver ops.Setup missing k = refl
-starts g Driver ops.Write missing k = refl
-starts g Driver ops.Commit missing k = refl
-starts g Driver ops.Abort missing k = refl
-starts g Driver ops.Clean missing k = refl
-starts g (Attempt t a) ops.Setup missing k = refl
-starts g (Attempt t a) ops.Write missing k = refl
-starts g (Attempt t a) ops.Commit missing k = refl
-starts g (Attempt t a) ops.Abort missing k = refl
-starts g (Attempt t a) ops.Clean missing k = refl
-starts g Shell op missing k = refl
+pub starts : (g : Setting) (a : Actor) (op : Op) (r : Reports) (k : Known) → is_some (start_of g a op r k) ≡ has_op a op
+starts g Driver ops.Setup r k = refl
+starts g Driver ops.Write r k = refl
+starts g Driver ops.Commit r k = refl
+starts g Driver ops.Abort r k = refl
+starts g Driver ops.Clean r k = refl
+starts g (Attempt t a) ops.Setup r k = refl
+starts g (Attempt t a) ops.Write r k = refl
+starts g (Attempt t a) ops.Commit r k = refl
+starts g (Attempt t a) ops.Abort r k = refl
+starts g (Attempt t a) ops.Clean r k = refl
+starts g Shell op r k = refl

@@ -1,6 +1,6 @@
 -- an operation of one request at a time counts its sendings, and is at fault exactly where a request wore out
 use Rattle.std.proofs.Common.{◌≡◌, ℕ, zero, suc, ◌+◌, refl, ap, ◌∙◌, Bool, true, false, List, map, length, Option, Some, None}
-use Rattle.job_protocol.specs.Prelude.{compact_text, Actor, Request, PutObject, CreateUpload, UploadPart, ClusterPut, ClusterRename, Outcome, Answered, Slow, RequestLost, ReplyLost, Entry, set_tree, Follows, Item, Retried, step, unanswered_by, spent_in, was_answered, WornFirst, File, Who, Script, files, Drawn, Known, learn, learn_part, drawn_in, first_drawn, file_key, record_key, file_record, record_text, Uploading, Creating, Sending, upload_asks, Setting, Operation, TheSetup, TheWrite, TheTaskCommit, TheTaskAbort, TheCommit, TheClean, Running, who, asks, tells, wants, learn_of, advance, is_serial, spare_of}
+use Rattle.job_protocol.specs.Prelude.{compact_text, Actor, Request, PutObject, CreateUpload, UploadPart, ClusterPut, ClusterRename, Outcome, Answered, Slow, RequestLost, ReplyLost, Entry, set_tree, Follows, Item, Retried, step, unanswered_by, spent_in, was_answered, WornFirst, File, Who, Script, files, Drawn, Known, learn, learn_part, drawn_in, first_drawn, file_key, record_key, file_record, record_text, Uploading, Creating, Sending, upload_asks, Setting, Operation, TheSetup, TheWrite, TheTaskCommit, TheTaskAbort, TheCommit, TheClean, TheCheck, TheSparing, Running, who, asks, tells, wants, learn_of, advance, is_serial, spare_of}
 use Rattle.retries.specs.Prelude.{Counting}
 use Rattle.magic_paths.specs.Layout as layout
 use Rattle.retries.proofs.First.{spent_first}
@@ -10,6 +10,7 @@ use Rattle.job_protocol.specs.Writes as writes
 use Rattle.job_protocol.specs.TaskCommits as tasks
 use Rattle.job_protocol.specs.TaskAborts as aborts
 use Rattle.job_protocol.specs.Cleanups as cleans
+use Rattle.job_protocol.specs.Sparing as sparing
 
 pub false_true : {b : Bool} → b ≡ false → b ≡ true → ⊥
 false_true e f = cc
@@ -76,6 +77,7 @@ step_answered retries after t _ h = absurd (false_true refl h)
 
 pub stays_serial : (g : Setting) (a : Who) (op : Operation) (o : Outcome) → is_serial op ≡ true → is_serial (tells g a op o) ≡ true
 stays_serial g a (TheCommit c) o h = absurd (false_true refl h)
+stays_serial g a (TheCheck t) o h = absurd (false_true refl h)
 stays_serial g a _ o h = refl
 
 all_spare : (g : Setting) (a : Who) (op : Operation) (o : Outcome) → is_serial op ≡ true → was_answered o ≡ true → spare_of (tells g a op o) ≡ g.script.retries
@@ -85,6 +87,8 @@ all_spare g a (TheTaskCommit t) o s h = step_answered g.script.retries (tasks.ta
 all_spare g a (TheTaskAbort t) o s h = step_answered g.script.retries (aborts.task_abort_after g.script) t o h
 all_spare g a (TheCommit c) o s h = absurd (false_true refl s)
 all_spare g a (TheClean t) o s h = step_answered g.script.retries (cleans.clean_after g.script) t o h
+all_spare g a (TheCheck t) o s h = absurd (false_true refl s)
+all_spare g a (TheSparing t) o s h = step_answered g.script.retries (sparing.sparing_after g.script) t o h
 
 asks_again : (g : Setting) (a : Who) (k l : Known) (op : Operation) (o : Outcome) (n : ℕ) → is_serial op ≡ true → was_answered o ≡ false → spare_of op ≡ suc n → l.drawn ≡ k.drawn
     → (spare_of (tells g a op o) ≡ n) × (asks g a l (tells g a op o) ≡ asks g a k op)
@@ -94,6 +98,8 @@ asks_again g a k l (TheTaskCommit t) o n s h e d = let x = step_again g.script.r
 asks_again g a k l (TheTaskAbort t) o n s h e d = let x = step_again g.script.retries (aborts.task_abort_after g.script) t o n h e in (x.1, ap (aborts.task_abort_asks g.script a) x.0)
 asks_again g a k l (TheCommit c) o n s h e d = absurd (false_true refl s)
 asks_again g a k l (TheClean t) o n s h e d = let x = step_again g.script.retries (cleans.clean_after g.script) t o n h e in (x.1, ap (cleans.clean_asks g.script) x.0)
+asks_again g a k l (TheCheck t) o n s h e d = absurd (false_true refl s)
+asks_again g a k l (TheSparing t) o n s h e d = let x = step_again g.script.retries (sparing.sparing_after g.script) t o n h e in (x.1, ap (sparing.sparing_asks g.script) x.0)
 
 pub serial_counts : (g : Setting) (a : Actor) → Counting g.script.retries (wants g a) (advance g a) (λ x. spare_of x.operation) (λ x. is_serial x.operation)
 serial_counts g a = record {

@@ -4,7 +4,7 @@ use Rattle.job_model.specs.Prelude.{Actor, Driver, Attempt, Request, Who, Known,
 use Rattle.retries.specs.Prelude.{run, Follows, spent_in, WornFirst}
 use Rattle.job_model.specs.declared.events.Op.{Op}
 use Rattle.job_model.specs.declared.events.Op.TheVariants as ops
-use Rattle.job_protocol.specs.Operations.{Setting, Operation, TheSetup, TheWrite, TheTaskCommit, TheTaskAbort, TheCommit, TheClean, Running, asks, over, wants, advance, start_of}
+use Rattle.job_protocol.specs.Operations.{Setting, Operation, TheSetup, TheWrite, TheTaskCommit, TheTaskAbort, TheCommit, TheClean, TheCheck, TheSparing, Reports, Running, asks, over, wants, advance, start_of}
 use Rattle.job_model.specs.declared.ends.OpEnd.{OpEnd}
 use Rattle.job_model.specs.declared.ends.OpEnd.TheVariants as ends
 use Rattle.job_model.specs.declared.ends.SetupEnd.TheVariants as setups
@@ -42,13 +42,14 @@ pub record OperationTable : Type 0 where
   -- an operation asks a request exactly until it is over
   pub goes_on : (g : Setting) (a : Who) (k : Known) (op : Operation) → OneOf (asks g a k op) (over op)
   -- each actor has its operations, for every committer
-  pub starts : (g : Setting) (a : Actor) (op : Op) (missing : Option ℕ) (k : Known) → is_some (start_of g a op missing k) ≡ has_op a op
+  pub starts : (g : Setting) (a : Actor) (op : Op) (r : Reports) (k : Known) → is_some (start_of g a op r k) ≡ has_op a op
 
 -- ---- wearing out
 
--- the operation sends one request at a time, under retries; only a job's commit sends in lanes
+-- the operation sends one request at a time, under retries; only a job's commit sends in lanes, as which a check may go on
 abbrev pub is_serial : Operation → Bool
 is_serial (TheCommit c) = false
+is_serial (TheCheck t) = false
 is_serial _ = true
 
 -- how often the request in hand may still be sent again
@@ -59,6 +60,8 @@ spare_of (TheTaskCommit t) = t.spare
 spare_of (TheTaskAbort t) = t.spare
 spare_of (TheCommit c) = 0
 spare_of (TheClean t) = t.spare
+spare_of (TheCheck t) = t.spare
+spare_of (TheSparing t) = t.spare
 
 -- an operation ended with StoreFault
 abbrev pub is_fault : Option OpEnd → Bool

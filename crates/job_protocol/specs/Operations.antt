@@ -1,18 +1,21 @@
 -- All operations of a job's actors, by one table.
-use Rattle.std.specs.Prelude.{ℕ, Option, Some, None}
-use Rattle.job_model.specs.Prelude.{option_map, Actor, Driver, Attempt, Shell, Request, Outcome, Who, Script, Known}
+use Rattle.std.specs.Prelude.{ℕ, Bool, true, false, cond, List, Option, Some, None}
+use Rattle.job_model.specs.Prelude.{option_map, Actor, Driver, Attempt, Shell, Request, Outcome, Who, Mode, Fail, Script, Known}
 use Rattle.retries.specs.Prelude.{Retried, fresh, step}
 use Rattle.job_model.specs.declared.events.Op.{Op}
 use Rattle.job_model.specs.declared.events.Op.TheVariants as ops
 use Rattle.job_model.specs.declared.ends.OpEnd.{OpEnd}
 use Rattle.job_model.specs.declared.ends.OpEnd.TheVariants as ends
+use Rattle.job_model.specs.declared.ends.CheckEnd.TheVariants.{Clear}
 use Rattle.job_protocol.specs.Knowledge.{learn}
 use Rattle.job_protocol.specs.Setup.{Setup, setup_start, setup_asks, setup_after, setup_over}
 use Rattle.job_protocol.specs.Writes.{Write, write_start, write_asks, write_after, write_over}
 use Rattle.job_protocol.specs.TaskCommits.{TaskCommit, task_commit_start, task_commit_asks, task_commit_after, task_commit_over}
 use Rattle.job_protocol.specs.TaskAborts.{TaskAbort, task_abort_start, task_abort_asks, task_abort_after, task_abort_over}
+use Rattle.job_protocol.specs.Rechecks.{Check, CheckOver, check_start, check_asks, check_after, check_over}
 use Rattle.job_protocol.specs.JobCommits.{Commit, commit_start, commit_asks, commit_tells, commit_over}
 use Rattle.job_protocol.specs.Cleanups.{Clean, clean_start, clean_asks, clean_after, clean_over}
+use Rattle.job_protocol.specs.Sparing.{Sparing, sparing_start, sparing_asks, sparing_after, sparing_over}
 
 -- an operation as it goes on; all but the job's commit are of replies under retries
 pub data Operation : Type 0 where
@@ -22,11 +25,15 @@ pub data Operation : Type 0 where
   TheTaskAbort : (abort : Retried TaskAbort) → Operation
   TheCommit : (commit : Commit) → Operation
   TheClean : (clean : Retried Clean) → Operation
+  -- where another job shares the destination: the look for files before a commit of the mode fail, and an abort or clean that spares what is the other's
+  TheCheck : (check : Retried Check) → Operation
+  TheSparing : (sparing : Retried Sparing) → Operation
 
--- what stays the same while operations go on: the script, and the store's least size in bytes of a part
+-- what stays the same while operations go on: the script, the store's least size in bytes of a part, and whether another job shares the destination
 pub record Setting : Type 0 where
   pub script : Script
   pub minimum : ℕ
+  pub shared : Bool
 
 -- the attempt that an actor is; of the others nothing asks this
 abbrev pub who : Actor → Who
@@ -42,6 +49,16 @@ asks g a k (TheTaskCommit t) = task_commit_asks g.script a k t.operation
 asks g a k (TheTaskAbort t) = task_abort_asks g.script a t.operation
 asks g a k (TheCommit c) = commit_asks g.script c
 asks g a k (TheClean t) = clean_asks g.script t.operation
+asks g a k (TheCheck t) = check_asks g.script t.operation
+asks g a k (TheSparing t) = sparing_asks g.script t.operation
+
+-- a check that is clear goes on as the commit
+abbrev pub after_check_by : Setting → Retried Check → Check → Operation
+after_check_by g t (CheckOver Clear) = TheCommit (commit_start g.script None)
+after_check_by g t _ = TheCheck t
+
+abbrev pub after_check : Setting → Retried Check → Operation
+after_check g t = after_check_by g t t.operation
 
 -- where the outcome of an operation's sending leads
 abbrev pub tells : Setting → Who → Operation → Outcome → Operation
@@ -51,6 +68,8 @@ tells g a (TheTaskCommit t) o = TheTaskCommit (step g.script.retries (task_commi
 tells g a (TheTaskAbort t) o = TheTaskAbort (step g.script.retries (task_abort_after g.script) t o)
 tells g a (TheCommit c) o = TheCommit (commit_tells g.script c o)
 tells g a (TheClean t) o = TheClean (step g.script.retries (clean_after g.script) t o)
+tells g a (TheCheck t) o = after_check g (step g.script.retries (check_after g.script) t o)
+tells g a (TheSparing t) o = TheSparing (step g.script.retries (sparing_after g.script) t o)
 
 -- how an operation ended, where it is over
 abbrev pub over : Operation → Option OpEnd
@@ -60,17 +79,36 @@ over (TheTaskCommit t) = option_map ends.Task (task_commit_over t.operation)
 over (TheTaskAbort t) = option_map ends.Task (task_abort_over t.operation)
 over (TheCommit c) = option_map ends.Commit (commit_over c)
 over (TheClean t) = option_map ends.Clean (clean_over t.operation)
+over (TheCheck t) = option_map ends.Check (check_over t.operation)
+over (TheSparing t) = option_map ends.Clean (sparing_over t.operation)
 
--- the operation of an actor as it begins, by what an attempt knows then, and for the job's commit by the least task that none reported; an actor has no other operations
-abbrev pub start_of : Setting → Actor → Op → Option ℕ → Known → Option Operation
-start_of g Driver ops.Setup missing k = Some (TheSetup (fresh g.script.retries setup_start))
-start_of g Driver ops.Commit missing k = Some (TheCommit (commit_start g.script missing))
-start_of g Driver ops.Abort missing k = Some (TheClean (fresh g.script.retries clean_start))
-start_of g Driver ops.Clean missing k = Some (TheClean (fresh g.script.retries clean_start))
-start_of g (Attempt t a) ops.Write missing k = Some (TheWrite (fresh g.script.retries (write_start g.script (record { task = t; attempt = a }))))
-start_of g (Attempt t a) ops.Commit missing k = Some (TheTaskCommit (fresh g.script.retries (task_commit_start g.script (record { task = t; attempt = a }))))
-start_of g (Attempt t a) ops.Abort missing k = Some (TheTaskAbort (fresh g.script.retries (task_abort_start g.script k)))
-start_of g _ _ missing k = None
+-- what a driver knows of its tasks: the least one of which none reported its commit, and the attempts that reported theirs
+pub record Reports : Type 0 where
+  pub missing : Option ℕ
+  pub attempts : List Who
+
+-- where another job shares the destination and the mode is fail, a commit begins with the check, unless a task is missing
+abbrev pub commit_by : Setting → Bool → Mode → Reports → Option ℕ → Operation
+commit_by g true Fail r None = after_check g (fresh g.script.retries (check_start g.script r.attempts))
+commit_by g shared mode r missing = TheCommit (commit_start g.script missing)
+
+abbrev pub commit_of : Setting → Reports → Operation
+commit_of g r = commit_by g g.shared g.script.mode r r.missing
+
+-- an abort or clean
+abbrev pub clean_of : Setting → Operation
+clean_of g = cond g.shared (TheSparing (fresh g.script.retries (sparing_start g.script.committer))) (TheClean (fresh g.script.retries clean_start))
+
+-- the operation of an actor as it begins, by what an attempt knows then, and for the job's commit by the reports; an actor has no other operations
+abbrev pub start_of : Setting → Actor → Op → Reports → Known → Option Operation
+start_of g Driver ops.Setup r k = Some (TheSetup (fresh g.script.retries setup_start))
+start_of g Driver ops.Commit r k = Some (commit_of g r)
+start_of g Driver ops.Abort r k = Some (clean_of g)
+start_of g Driver ops.Clean r k = Some (clean_of g)
+start_of g (Attempt t a) ops.Write r k = Some (TheWrite (fresh g.script.retries (write_start g.script (record { task = t; attempt = a }))))
+start_of g (Attempt t a) ops.Commit r k = Some (TheTaskCommit (fresh g.script.retries (task_commit_start g.script (record { task = t; attempt = a }))))
+start_of g (Attempt t a) ops.Abort r k = Some (TheTaskAbort (fresh g.script.retries (task_abort_start g.script k)))
+start_of g _ _ r k = None
 
 -- ---- an operation with what its attempt knows
 

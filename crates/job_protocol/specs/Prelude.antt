@@ -37,7 +37,7 @@ pub use Rattle.job_protocol.specs.LaneTable.{AllSound, In, RequestsApart, Sound,
 pub use Rattle.job_protocol.specs.Lanes.{Turn, abort, again, chosen, completion, dealt, deletion, first_turns, follow, fresh_turn, in_turn, is_in, is_tried, is_unsent, nth, revert, undo}
 pub use Rattle.job_protocol.specs.Laws.{EndIs, IsShared, OneOf, is_fault, is_serial, spare_of}
 pub use Rattle.job_protocol.specs.Measures.{FallsAmong}
-pub use Rattle.job_protocol.specs.Operations.{Operation, Running, Setting, TheClean, TheCommit, TheSetup, TheTaskAbort, TheTaskCommit, TheWrite, advance, asks, learn_of, over, start_of, tells, wants, who}
+pub use Rattle.job_protocol.specs.Operations.{Operation, Reports, Running, Setting, TheCheck, TheClean, TheCommit, TheSetup, TheSparing, TheTaskAbort, TheTaskCommit, TheWrite, advance, after_check, after_check_by, asks, clean_of, commit_by, commit_of, learn_of, over, start_of, tells, wants, who}
 pub use Rattle.job_protocol.specs.Outputs.{Picks, files, files_picked, first_shared, first_where, is_clash, is_decided, is_picked, ordered, paths_of, same_path, second_where, shared_by, two_where, wanted, wanted_at, wanted_below, wanted_paths, writes}
 pub use Rattle.job_protocol.specs.Records.{attempt_dir, file_key, file_record, files_set, mark_text, marker_key, record_key, record_text, set_text}
 pub use Rattle.job_protocol.specs.Setup.{Clearing, Heading, Setup, SetupOver, Sweeping, checked, checked_by, checked_on, cleared, dest_prefix, first_shown, headed, if_bucket, lacks_bucket, or_next, setup_after, setup_asks, setup_hears, shown_path}

@@ -10,6 +10,7 @@ use Rattle.job_outcomes.specs.CommitMoments.{NoneRead}
 use Rattle.job_outcomes.proofs.CommitRuns.{clean_reads}
 use Rattle.job_safety.proofs.History.{Later, at_once, later}
 use Rattle.job_safety.proofs.Early.{driver_now}
+use Rattle.job_protocol.proofs.Begun.{clean_alone}
 
 -- the driver's commit is over, or it aborts or cleans
 abbrev pub IsOver : Commit → Type 0
@@ -61,7 +62,7 @@ heard_after g m e h asked = by m.operation h asked
     by (TheCommit c) h q = absurd (over c h q)
     by _ h q = absurd h
 
-module _ (g : Setting) (opening : Content) (j : IsLegal g.script) (is_opening : IsOpening g opening) where
+module _ (g : Setting) (single : g.shared ≡ false) (opening : Content) (j : IsLegal g.script) (is_opening : IsOpening g opening) where
   -- the driver is at the operation that it is at between events, and at its stage
   pub driver_past : (y : Play) → Reachable g opening y → y.now ≡ None → DriverAt (y.past.state Driver).stage (y.past.state Driver).life (operation_of (y.running Driver))
   driver_past y past idle = subst (λ (p : Past). DriverAt (p.state Driver).stage (p.state Driver).life (operation_of (y.running Driver))) ((told_all g opening y past).closed idle).0 (driver_now g opening j is_opening y past)
@@ -71,7 +72,7 @@ module _ (g : Setting) (opening : Content) (j : IsLegal g.script) (is_opening : 
   begun_after y past ops.Setup h idle b = absurd (no_setup (operation_of (y.running Driver)) h (may_setup (y.past.state Driver).stage (y.past.state Driver).life (operation_of (y.running Driver)) (driver_past y past idle) b.may_begin).1)
   begun_after y past ops.Write h idle b = absurd (false_true refl b.may_begin)
   begun_after y past ops.Commit h idle b = absurd (no_commit (operation_of (y.running Driver)) h (may_commit_job (y.past.state Driver).stage (y.past.state Driver).life (operation_of (y.running Driver)) (driver_past y past idle) b.may_begin))
-  begun_after y past _ h idle b = tt
+  begun_after y past _ h idle b = subst (λ op. IsAfter (Some op)) (sym (clean_alone g single)) tt
 
   opened_after : (y : Play) → Reachable g opening y → (ev : Event) → MayOpen g y ev None → IsAfter (operation_of (y.running Driver)) → IsAfter (operation_of (open_running g y ev Driver))
   opened_after y past (Do Driver op) may h = begun_after y past op h may.idle (begins_so (y.past.state Driver).stage Driver op (y.past.state Driver).life (y.past.state Driver).stage may.refusal_is)

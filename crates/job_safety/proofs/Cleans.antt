@@ -1,5 +1,5 @@
 -- How the driver's abort or clean of the job ends in a run.
-use Rattle.std.proofs.Common.{◌≡◌, ℕ, ◌+◌, inl, inr, nat_le, List, [], ◌++◌, length, append-nil, Option, Some, None, refl, sym, ap, subst, ◌∙◌}
+use Rattle.std.proofs.Common.{◌≡◌, ℕ, ◌+◌, inl, inr, nat_le, List, [], ◌++◌, length, append-nil, Option, Some, None, refl, sym, ap, subst, ◌∙◌, false}
 use Rattle.job_spec.proofs.Common.{filter-append, false_true}
 use Rattle.job_steps.specs.Prelude.{Content, Scene, moment, after_all, AreHonest, Driver, Request, Entry, run, Follows, fresh, WornFirst, IsLegal, Known, CleanEnd, clean_start, Setting, Operation, TheClean, wants, advance, over, Doing, until, before, since, by_actor, is_memory, AllBy, known_then, CleansEnd, Play, Reachable}
 use Rattle.job_facts.specs.Prelude.{CleanIs, Cleaned}
@@ -14,7 +14,7 @@ use Rattle.job_safety.proofs.Sorts.{over_kind, kind_run, driver_clean, memory_cl
 use Rattle.job_safety.proofs.Ending.{Ending, ending, journal_until, until_strange}
 use Rattle.job_safety.proofs.Spans.{start, late, scene_is, since_is, mine, honest, after_is}
 
-module _ (g : Setting) (opening : Content) (j : IsLegal g.script) (x : Play) (run_x : Reachable g opening x) (idle : x.now ≡ None) where
+module _ (g : Setting) (single : g.shared ≡ false) (opening : Content) (j : IsLegal g.script) (x : Play) (run_x : Reachable g opening x) (idle : x.now ≡ None) where
   module _ (i : ℕ) (d : Doing) (e : CleanEnd) (es : List Entry) (n : Ending g opening x i Driver d (ends.Clean e) es) where
     abbrev k : Known
     k = known_then g Driver d (by_actor Driver n.closed.at.journal)
@@ -26,7 +26,7 @@ module _ (g : Setting) (opening : Content) (j : IsLegal g.script) (x : Play) (ru
     EndsSo v = over (run (advance g Driver) (record { operation = v; known = k }) es).operation ≡ Some (ends.Clean e)
 
     begun : EndsSo n.op → n.op ≡ first
-    begun o = driver_clean g d.op d.missing k n.op n.begun_is (sym (kind_run g Driver (record { operation = n.op; known = k }) es) ∙ over_kind _ (ends.Clean e) o)
+    begun o = driver_clean g single d.op d.reports k n.op n.begun_is (sym (kind_run g Driver (record { operation = n.op; known = k }) es) ∙ over_kind _ (ends.Clean e) o)
 
     follows_so : n.op ≡ first → Follows (wants g Driver) (advance g Driver) (record { operation = first; known = k }) es
     follows_so is = subst (λ v. Follows (wants g Driver) (advance g Driver) (record { operation = v; known = k }) es) is n.follows

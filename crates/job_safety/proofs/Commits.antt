@@ -1,9 +1,9 @@
 -- How the driver's commit ends in a run, and what it leaves.
-use Rattle.std.proofs.Common.{◌≡◌, ℕ, zero, suc, ◌+◌, ◌<◌, ◌≤◌, ◌⊎◌, inl, inr, Bool, true, false, cond, List, [], ◌∷◌, ◌++◌, filter, length, take, Option, Some, None, IsSome, append_assoc, refl, sym, ap, subst, ◌∙◌, arith}
+use Rattle.std.proofs.Common.{◌≡◌, ℕ, zero, suc, ◌+◌, ◌<◌, ◌≤◌, ◌⊎◌, inl, inr, Bool, true, false, cond, List, [], ◌∷◌, ◌++◌, filter, length, take, Option, Some, None, IsSome, append_assoc, refl, sym, ap, subst, ◌∙◌, arith, ◌||◌, ◌&&◌}
 use Rattle.job_steps.specs.Prelude.{option_map, Content, Scene, moment, after_all, Driver, Reply, Answered, Entry, run, Follows, IsLegal, Script, Known, Event, Do, Start, Op, CommitEnd, Commit, CommitOver, commit_start, commit_asks, commit_tells, commit_over, set_request, set_read, Setting, Operation, Running, start_of, TheSetup, TheCommit, advance, over, see_all, nothing_seen, is_begun, Seen, same_actor, refusal, Doing, missing, first_not, driver_may, clean_event, until, by_actor, is_wanting, since, known_then, EndedIn, CommitEnded, CommitServed, AreOwn, seen_until, IsIn, Told, tell_all, nothing_told, HasPublished, IsOpening, is_just_set, Play, MayOpen, Opens, Closes, open_running, happen, Reachable, happens, Ahead, IsRun, operation_of, times}
-use Rattle.job_spec.specs.Prelude.{first_worn, CommitEnds, CommitsEnd}
+use Rattle.job_spec.specs.Prelude.{first_worn, CommitEnds, CommitsEnd, reports, is_reported}
 use Rattle.job_spec.proofs.Common.{computed, none_sent, at_most_is, at_most_not, some_is, none_some, false_true, in_back, in_filter}
-use Rattle.job_facts.specs.Prelude.{view, Same, Always, is_marked, commit_due, is_untouched, NoDeletionWorn, OnlyOpening, Times}
+use Rattle.job_facts.specs.Prelude.{view, Same, Always, is_marked, commit_due, is_untouched, NoDeletionWorn, OnlyOpening, Times, Actor, Reports, list_any, has_cleaned, is_driver}
 use Rattle.s3_types.specs.Store as store
 use Rattle.job_model.specs.declared.events.Op.TheVariants as ops
 use Rattle.job_model.specs.declared.ends.CommitEnd.TheVariants as commits
@@ -14,7 +14,7 @@ use Rattle.job_traces.proofs.Changes.{moment_scene}
 use Rattle.job_steps.proofs.RunningStages.{Begins, begins_so, IsSettingUp, IsTimed, timed_setting, may_commit_job, Begun}
 use Rattle.job_steps.proofs.Actors.{same_is}
 use Rattle.job_steps.proofs.Told.{told_all}
-use Rattle.job_steps.proofs.Reported.{last_more, none_left, reported}
+use Rattle.job_steps.proofs.Reported.{last_more, all_published, reported}
 use Rattle.job_steps.proofs.RunningNumbers.{begun_at}
 use Rattle.job_steps.proofs.Running.{number, is_run, carried, opened_ahead, closed_ahead, not_refused}
 use Rattle.job_outcomes.specs.CommitRuns.{IsDue, CommitStands}
@@ -33,6 +33,8 @@ use Rattle.job_safety.proofs.Ending.{Ending, ahead_none, ending, journal_until, 
 use Rattle.job_safety.proofs.Spans.{start, mine}
 use Rattle.job_safety.proofs.Strange.{strange_picks}
 use Rattle.job_safety.proofs.After.{IsAfter, After, after_commit, driver_past}
+use Rattle.job_protocol.proofs.Begun.{commit_alone}
+use Rattle.job_facts.proofs.Learnt.{cleaned_is}
 
 -- ---- plain facts
 
@@ -53,14 +55,14 @@ just_setting (Some (TheSetup t)) e = tt
 just_setting _ e = absurd (false_true refl e)
 
 -- a task that is missing is one of the job's
-missing_below : (w : Script) (reported : ℕ → Bool) (t : ℕ) → missing w reported ≡ Some t → t < w.tasks
-missing_below w reported t e = let l : t < 0 + w.tasks = by 0 w.tasks e in omega arith
+missing_below : (w : Script) (f : Actor → Bool) (t : ℕ) → missing w f ≡ Some t → t < w.tasks
+missing_below w f t e = let l : t < 0 + w.tasks = by 0 w.tasks e in omega arith
   where
-    by : (a n : ℕ) → first_not reported a n ≡ Some t → t < a + n
+    by : (a n : ℕ) → first_not (is_reported w f) a n ≡ Some t → t < a + n
     by a zero e = absurd (none_some refl e)
-    by a (suc n) e = one (reported a) e (λ f. by (a + 1) n f)
+    by a (suc n) e = one (is_reported w f a) e (λ old. by (a + 1) n old)
       where
-        one : (b : Bool) → cond b (first_not reported (a + 1) n) (Some a) ≡ Some t → (first_not reported (a + 1) n ≡ Some t → t < a + 1 + n) → t < a + suc n
+        one : (b : Bool) → cond b (first_not (is_reported w f) (a + 1) n) (Some a) ≡ Some t → (first_not (is_reported w f) (a + 1) n ≡ Some t → t < a + 1 + n) → t < a + suc n
         one true e old = let l : t < a + 1 + n = old e in omega arith
         one false e old = let s : a ≡ t = some_is e in omega (arith, s)
 
@@ -89,7 +91,7 @@ begins_at : (g : Setting) (y : Play) (ev : Event) (op : Op) → MayOpen g y ev N
 begins_at g y ev op may (inl is) = begins_so (y.past.state Driver).stage Driver op (y.past.state Driver).life (y.past.state Driver).stage (ap (refusal y.past.state) (sym is) ∙ may.refusal_is)
 begins_at g y ev op may (inr is) = begins_so (y.past.state Driver).stage Driver op (y.past.state Driver).life (y.past.state Driver).stage (ap (refusal y.past.state) (sym is) ∙ may.refusal_is)
 
-module _ (g : Setting) (opening : Content) (j : IsLegal g.script) (is_opening : IsOpening g opening) (x : Play) (run_x : Reachable g opening x) (idle : x.now ≡ None) where
+module _ (g : Setting) (single : g.shared ≡ false) (opening : Content) (j : IsLegal g.script) (is_opening : IsOpening g opening) (x : Play) (run_x : Reachable g opening x) (idle : x.now ≡ None) where
   abbrev w : Script
   w = g.script
 
@@ -111,13 +113,13 @@ module _ (g : Setting) (opening : Content) (j : IsLegal g.script) (is_opening : 
     known = known_then g Driver d (by_actor Driver z.journal)
 
     abbrev IsCommit : Type 0
-    IsCommit = (d.op ≡ ops.Commit) × (n.op ≡ TheCommit (commit_start w d.missing))
+    IsCommit = (d.op ≡ ops.Commit) × (n.op ≡ TheCommit (commit_start w d.reports.missing))
 
     begun_over : over (run (advance g Driver) (record { operation = n.op; known = known }) es).operation ≡ Some (ends.Commit e) → IsCommit
-    begun_over o = driver_commit g d.op d.missing known n.op n.begun_is (sym (kind_run g Driver (record { operation = n.op; known = known }) es) ∙ over_kind _ (ends.Commit e) o)
+    begun_over o = driver_commit g single d.op d.reports known n.op n.begun_is (sym (kind_run g Driver (record { operation = n.op; known = known }) es) ∙ over_kind _ (ends.Commit e) o)
 
     begun_wanting : is_wanting Driver d.op (ends.Commit e) ≡ true → IsCommit
-    begun_wanting h = let is = wanting_commit d.op e h in (is, sym (some_is (sym (ap (λ v. start_of g Driver v d.missing known) is) ∙ n.begun_is)))
+    begun_wanting h = let is = wanting_commit d.op e h in (is, sym (some_is (sym (ap (λ v. start_of g Driver v d.reports known) is) ∙ n.begun_is)) ∙ commit_alone g d.reports single)
 
     begun : IsCommit
     begun =
@@ -130,10 +132,10 @@ module _ (g : Setting) (opening : Content) (j : IsLegal g.script) (is_opening : 
 
     -- where its own entries lead
     abbrev led : Commit
-    led = run (commit_tells w) (commit_start w d.missing) es
+    led = run (commit_tells w) (commit_start w d.reports.missing) es
 
     leads_alone : (run (advance g Driver) (record { operation = n.op; known = known }) es).operation ≡ TheCommit led
-    leads_alone = ap (λ v. (run (advance g Driver) (record { operation = v; known = known }) es).operation) begun.1 ∙ go_alone.commit_run g Driver known (commit_start w d.missing) es
+    leads_alone = ap (λ v. (run (advance g Driver) (record { operation = v; known = known }) es).operation) begun.1 ∙ go_alone.commit_run g Driver known (commit_start w d.reports.missing) es
 
     driver_is : operation_of (z.running Driver) ≡ Some (TheCommit led)
     driver_is = ap operation_of n.running ∙ ap (λ v. Some v) leads_alone
@@ -165,14 +167,17 @@ module _ (g : Setting) (opening : Content) (j : IsLegal g.script) (is_opening : 
         let b = begins_at g s.at s.event d.op s.may s.begins in
         let op = operation_of (s.at.running Driver) in
         let may : driver_may ops.Commit (s.at.past.state Driver).stage ≡ true = ap (λ v. driver_may v (s.at.past.state Driver).stage) (sym begun.0) ∙ b.may_begin in
-        let just = may_commit_job (s.at.past.state Driver).stage (s.at.past.state Driver).life op (driver_past g opening j is_opening s.at s.happened s.may.idle) may in
+        let just = may_commit_job (s.at.past.state Driver).stage (s.at.past.state Driver).life op (driver_past g single opening j is_opening s.at s.happened s.may.idle) may in
         let timed : IsTimed (begun_at (times w x.ends) (length s.at.ends)) op = subst (λ v. IsTimed (begun_at (times w x.ends) (number v (length s.at.ends))) op) s.may.idle h.timed in
         (timed_setting (begun_at (times w x.ends) (length s.at.ends)) op timed (just_setting op just)).0
 
+    opened_commit : (ev : Event) → IsBegin ev Driver ops.Commit → operation_of (open_running g s.at ev Driver) ≡ Some (TheCommit (commit_start w (missing w s.at.past.reported)))
+    opened_commit ev (inl is) = ap (λ v. operation_of (open_running g s.at v Driver)) is ∙ ap (λ op. Some op) (commit_alone g (reports w s.at.past.reported) single)
+    opened_commit ev (inr is) = ap (λ v. operation_of (open_running g s.at v Driver)) is ∙ ap (λ op. Some op) (commit_alone g (reports w s.at.past.reported) single)
+
     -- where the event begins the commit it has begun
     begun_timed : (ev : Event) (b : Begun) → ((ev ≡ Do Driver ops.Commit) ⊎ (ev ≡ Start Driver ops.Commit)) → IsTimed b (operation_of (open_running g s.at ev Driver)) → b.commit ≡ true
-    begun_timed ev b (inl is) h = (subst (λ v. IsTimed b (operation_of (open_running g s.at v Driver))) is h).0
-    begun_timed ev b (inr is) h = (subst (λ v. IsTimed b (operation_of (open_running g s.at v Driver))) is h).0
+    begun_timed ev b is h = (subst (IsTimed b) (opened_commit ev is) h).0
 
     timed_now : is_begun k.commit (length s.at.ends + 1) ≡ true
     timed_now =
@@ -185,19 +190,15 @@ module _ (g : Setting) (opening : Content) (j : IsLegal g.script) (is_opening : 
     -- ---- its entries and its missing task
 
     commit_is_es : then.stand.commit ≡ es
-    commit_is_es = run_entries.commit g k opening z.journal then.stand then.runs led at_led ∙ ap (λ v. filter (λ (u : Entry). is_begun v u.event) (by_actor Driver z.journal)) number_is ∙ sym n.entries_are
+    commit_is_es = run_entries.commit g single k opening z.journal then.stand then.runs led at_led ∙ ap (λ v. filter (λ (u : Entry). is_begun v u.event) (by_actor Driver z.journal)) number_is ∙ sym n.entries_are
 
     commit_leads : (missing : Option ℕ) → run (commit_tells w) (commit_start w missing) then.stand.commit ≡ run (commit_tells w) (commit_start w missing) es
     commit_leads missing = ap (run (commit_tells w) (commit_start w missing)) commit_is_es
 
-    missing_is : (c : Commit) (h : CommitStands g then.stand c) → c ≡ led → h.missing ≡ d.missing
-    missing_is c h is = commit_runs.one_start w h.missing d.missing es (sym (commit_leads h.missing) ∙ h.leads ∙ is)
+    missing_is : (c : Commit) (h : CommitStands g then.stand c) → c ≡ led → h.missing ≡ d.reports.missing
+    missing_is c h is = commit_runs.one_start w h.missing d.reports.missing es (sym (commit_leads h.missing) ∙ h.leads ∙ is)
 
     -- ---- what it was answered
-
-    opened_commit : (ev : Event) → IsBegin ev Driver ops.Commit → operation_of (open_running g s.at ev Driver) ≡ Some (TheCommit (commit_start w (missing w s.at.past.reported)))
-    opened_commit ev (inl is) = ap (λ v. operation_of (open_running g s.at v Driver)) is
-    opened_commit ev (inr is) = ap (λ v. operation_of (open_running g s.at v Driver)) is
 
     -- the driver has not cleaned up as it began
     unclean : (tell_all w (nothing_told (clean_event w x.ends)) s.at.journal).cleaned ≡ false
@@ -207,10 +208,10 @@ module _ (g : Setting) (opening : Content) (j : IsLegal g.script) (is_opening : 
         sym (ap (λ (m : Told). m.cleaned) (tells_so g k opening j is_opening s.at.journal r.stand r.runs) ∙ ap (λ c. (tell_all w (nothing_told c) s.at.journal).cleaned) r.cleans) ∙ (in_commit g k opening j is_opening s.at.journal r.stand r.runs (commit_start w (missing w s.at.past.reported)) at).2.uncleaned
 
     -- where it has sent a request no task was missing, and each has a last publisher from then on
-    none_missing : (u : Entry) → IsIn u es → d.missing ≡ None
-    none_missing u i = by d.missing refl
+    none_missing : (u : Entry) → IsIn u es → d.reports.missing ≡ None
+    none_missing u i = by d.reports.missing refl
       where
-        by : (o : Option ℕ) → d.missing ≡ o → d.missing ≡ None
+        by : (o : Option ℕ) → d.reports.missing ≡ o → d.reports.missing ≡ None
         by None is = is
         by (Some t) is =
             let h = commit_runs.stands g j k opening is_opening z.journal then.stand then.runs led at_led in
@@ -219,9 +220,32 @@ module _ (g : Setting) (opening : Content) (j : IsLegal g.script) (is_opening : 
 
     published : (u : Entry) → IsIn u es → (b : List Entry) (t : ℕ) → t < w.tasks → HasPublished (see_all w k (nothing_seen opening) (s.at.journal ++ b)) t
     published u i b t low =
-        let none : missing w s.at.past.reported ≡ None = sym s.missing_is ∙ none_missing u i in
-        let told = (reported g opening j is_opening x.ends s.at s.happened (opened_ahead g s.at s.event x.ends s.may.idle ahead_opened) unclean).past t (none_left s.at.past.reported 0 w.tasks none t (omega arith) (omega (arith, low))) in
+        let none : missing w s.at.past.reported ≡ None = sym (ap (λ (r : Reports). r.missing) s.reports_is) ∙ none_missing u i in
+        let told = all_published w s.at.past.reported (see_all w k (nothing_seen opening) s.at.journal) (reported g opening j is_opening x.ends s.at s.happened (opened_ahead g s.at s.event x.ends s.may.idle ahead_opened) unclean).past none t low in
         subst (λ v. HasPublished v t) (sym (see_parts w k (nothing_seen opening) s.at.journal b)) (last_more w k (see_all w k (nothing_seen opening) s.at.journal) b t told)
+
+    none_of : (f : Entry → Bool) (u : Entry) (l : List Entry) → list_any f l ≡ false → IsIn u l → f u ≡ false
+    none_of f u [] h i = absurd i
+    none_of f u (v ∷ l) h (inl is) = ap f is ∙ first (f v) h
+      where
+        first : (b : Bool) → (b || list_any f l) ≡ false → b ≡ false
+        first true e = e
+        first false e = refl
+    none_of f u (v ∷ l) h (inr more) = none_of f u l (rest (f v) h) more
+      where
+        rest : (b : Bool) → (b || list_any f l) ≡ false → list_any f l ≡ false
+        rest true e = absurd (false_true e refl)
+        rest false e = e
+
+    -- none of its entries is behind the beginning of an abort or clean
+    before_clean : (u : Entry) → IsIn u es → is_begun k.clean u.event ≡ false
+    before_clean u here_in =
+        let own = in_filter (λ (v : Entry). same_actor v.actor Driver) u s.entries (subst (IsIn u) (mine g opening x i Driver d (ends.Commit e) es n) here_in) in
+        let here : IsIn u z.journal = subst (IsIn u) (sym s.all) (in_back u s.at.journal s.entries own.0) in
+        let told = tells_so g k opening j is_opening z.journal then.stand then.runs in
+        let uncleaned = (in_commit g k opening j is_opening z.journal then.stand then.runs led at_led).2.uncleaned in
+        let clean : has_cleaned k.clean z.journal ≡ false = sym (ap (λ (m : Told). m.cleaned) told ∙ cleaned_is w z.journal (nothing_told then.stand.told.cleans_at) ∙ ap (λ c. has_cleaned c z.journal) then.cleans) ∙ uncleaned in
+        sym (ap (λ a. is_driver a && is_begun k.clean u.event) (same_is u.actor Driver own.1)) ∙ none_of (λ v. is_driver v.actor && is_begun k.clean v.event) u z.journal clean here
 
     read_there : (before : List Entry) (u : Entry) (later : List Entry) (t : ℕ) (r : Reply) → es ≡ before ++ u ∷ later → u.request ≡ set_request w.committer w t → u.outcome ≡ Answered r → IsSome (set_read r)
     read_there before u later t r is asks got =
@@ -229,7 +253,7 @@ module _ (g : Setting) (opening : Content) (j : IsLegal g.script) (is_opening : 
         let own = in_filter (λ (v : Entry). same_actor v.actor Driver) u s.entries (subst (IsIn u) (mine g opening x i Driver d (ends.Commit e) es n) one) in
         let at = parted_at u s.entries own.0 in
         let all : z.journal ≡ (s.at.journal ++ at.0) ++ u ∷ at.1 = s.all ∙ ap (λ l. s.at.journal ++ l) at.2 ∙ sym (append_assoc s.at.journal at.0 (u ∷ at.1)) in
-        elim (commit_answers.there g j k opening is_opening z.journal then.stand then.runs (s.at.journal ++ at.0) u at.1 t r all (same_is u.actor Driver own.1) asks got) [
+        elim (commit_answers.there g j k opening is_opening z.journal then.stand then.runs (s.at.journal ++ at.0) u at.1 t r all (same_is u.actor Driver own.1) (before_clean u one) asks got) [
           | inl some ↦ some
           | inr none ↦ absurd (none_some none.2 (published u one at.0 none.0 none.1).1)
         ]
@@ -273,13 +297,13 @@ module _ (g : Setting) (opening : Content) (j : IsLegal g.script) (is_opening : 
           ∙ ap (λ (v : Seen). v.picks) (sym (see_parts w k (nothing_seen opening) z.journal strays))
           ∙ ap (λ l. (see_all w k (nothing_seen opening) l).picks) (sym (taken ∙ until_is))
 
-      due_so : CommitEnded w (seen_until w opening x.journal x.ends (i + 1)) d.missing es e
+      due_so : CommitEnded w (seen_until w opening x.journal x.ends (i + 1)) d.reports.missing es e
       due_so =
-          let o : CommitEnded w then.stand.seen d.missing es e = subst (λ l. CommitEnded w then.stand.seen d.missing l e) commit_is_es (commit_runs.ended g j k opening is_opening z.journal then.stand then.runs e at_end d.missing (commit_leads d.missing ∙ leads)) in
+          let o : CommitEnded w then.stand.seen d.reports.missing es e = subst (λ l. CommitEnded w then.stand.seen d.reports.missing l e) commit_is_es (commit_runs.ended g j k opening is_opening z.journal then.stand then.runs e at_end d.reports.missing (commit_leads d.reports.missing ∙ leads)) in
           record {
             worn = o.worn;
             first = o.first;
-            due = elim o.due [ inl memory ↦ inl memory | inr is ↦ inr (is ∙ ap (λ p. commit_due w p d.missing o.worn) picks_then) ];
+            due = elim o.due [ inl memory ↦ inl memory | inr is ↦ inr (is ∙ ap (λ p. commit_due w p d.reports.missing o.worn) picks_then) ];
             answered = o.answered;
           }
 
@@ -313,11 +337,11 @@ module _ (g : Setting) (opening : Content) (j : IsLegal g.script) (is_opening : 
       missed_below : (t : ℕ) → e ≡ commits.Missing t → t < w.tasks
       missed_below t is =
           let at : IsDue w stands.missing stands.sets (commits.Missing t) = subst (IsDue w stands.missing stands.sets) is stands.at in
-          missing_below w s.at.past.reported t (sym s.missing_is ∙ sym (missing_is (CommitOver e) stands (sym leads)) ∙ at.0)
+          missing_below w s.at.past.reported t (sym (ap (λ (r : Reports). r.missing) s.reports_is) ∙ sym (missing_is (CommitOver e) stands (sym leads)) ∙ at.0)
 
       -- what came behind it
-      behind : After g opening j is_opening (happen g z (Closes n.event_end)) x
-      behind = after_commit g opening j is_opening (happen g z (Closes n.event_end)) x n.closed.since_then (subst IsAfter (sym (driver_is ∙ ap (λ c. Some (TheCommit c)) leads)) tt)
+      behind : After g single opening j is_opening (happen g z (Closes n.event_end)) x
+      behind = after_commit g single opening j is_opening (happen g z (Closes n.event_end)) x n.closed.since_then (subst IsAfter (sym (driver_is ∙ ap (λ c. Some (TheCommit c)) leads)) tt)
 
       untouched_so : AreOwn x.journal → is_untouched e ≡ true → (m : ℕ) → m ≤ length x.journal → Same (view w.dest (moment opening x.journal m).content) (view w.dest opening)
       untouched_so alone u m l =
@@ -329,7 +353,7 @@ module _ (g : Setting) (opening : Content) (j : IsLegal g.script) (is_opening : 
   -- ---- any end
 
   -- for want of memory
-  memory_due : (i : ℕ) (d : Doing) (e : CommitEnd) (es : List Entry) → e ≡ commits.NoMemory → CommitEnded w (seen_until w opening x.journal x.ends (i + 1)) d.missing es e
+  memory_due : (i : ℕ) (d : Doing) (e : CommitEnd) (es : List Entry) → e ≡ commits.NoMemory → CommitEnded w (seen_until w opening x.journal x.ends (i + 1)) d.reports.missing es e
   memory_due i d e es is = record {
     worn = first_worn w.retries es;
     first = computed w.retries [] es (none_sent w.retries);

@@ -1,7 +1,7 @@
 -- Until the driver's set-up is over all of the job's entries are the driver's: no attempt has begun before.
 use Rattle.std.proofs.Common.{◌≡◌, ℕ, ◌⊎◌, inl, inr, ◌&&◌, true, false, cond, List, [], ◌∷◌, ◌++◌, length, slice_get, Option, Some, None, refl, sym, ap, subst, ◌∙◌}
 use Rattle.job_spec.proofs.Common.{filter-append, none_some, false_true}
-use Rattle.job_steps.specs.Prelude.{Content, Actor, Driver, Attempt, Shell, Entry, IsLegal, Script, Op, Event, Do, Start, Kill, Restart, SetupEnd, ActorEnd, OpEnd, Done, Busy, ActorStage, ActorState, Setting, Operation, TheCommit, TheClean, Running, over, Past, put, ended, is_new, needs_set, stage_begun, refusal, open_event, is_own, own, is_memory, AllBy, IsOpening, Play, Refuses, Opens, Sends, Finishes, Closes, Strays, open_running, happen, MayOpen, MaySend, MayFinish, Reachable, nothing_happened, happens, Ahead, operation_of}
+use Rattle.job_steps.specs.Prelude.{Content, Actor, Driver, Attempt, Shell, Entry, IsLegal, Script, Op, Event, Do, Start, Kill, Restart, SetupEnd, ActorEnd, OpEnd, Done, Busy, ActorStage, ActorState, Setting, Operation, TheCommit, TheClean, Running, over, Past, put, ended, is_new, needs_set, stage_begun, refusal, open_event, is_own, own, is_memory, AllBy, IsOpening, Play, Refuses, Opens, Sends, Finishes, Closes, Strays, open_running, happen, MayOpen, MaySend, MayFinish, Reachable, nothing_happened, happens, Ahead, operation_of, TheCheck, TheSparing}
 use Rattle.job_model.specs.declared.events.Op.TheVariants as ops
 use Rattle.job_model.specs.declared.ends.OpEnd.TheVariants as ends
 use Rattle.job_model.specs.declared.states.ActorStage.TheVariants as stage
@@ -17,6 +17,8 @@ use Rattle.job_safety.proofs.Sorts.{kind, OfSetup, OfCommit, OfClean, over_kind}
 behind_none : (op : Operation) → IsBehind (Some op) → kind op ≡ OfSetup → ⊥
 behind_none (TheCommit c) b e = let no : OfCommit ≡ OfSetup = e in absurd cc
 behind_none (TheClean t) b e = let no : OfClean ≡ OfSetup = e in absurd cc
+behind_none (TheCheck t) b e = let no : OfCommit ≡ OfSetup = e in absurd cc
+behind_none (TheSparing t) b e = let no : OfClean ≡ OfSetup = e in absurd cc
 behind_none _ b e = b
 
 -- a busy driver at its set-up is at its first stage

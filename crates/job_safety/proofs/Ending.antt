@@ -22,7 +22,7 @@ pub record Ending (g : Setting) (opening : Content) (x : Play) (j : ℕ) (a : Ac
   pub up_to : AllUpTo (j + 1) closed.at.journal
   pub entries_are : es ≡ since d.since (by_actor a closed.at.journal)
   pub op : Operation
-  pub begun_is : start_of g a d.op d.missing (known_then g a d (by_actor a closed.at.journal)) ≡ Some op
+  pub begun_is : start_of g a d.op d.reports (known_then g a d (by_actor a closed.at.journal)) ≡ Some op
   pub follows : Follows (wants g a) (advance g a) (record { operation = op; known = known_then g a d (by_actor a closed.at.journal) }) es
   pub running : closed.at.running a ≡ Some (run (advance g a) (record { operation = op; known = known_then g a d (by_actor a closed.at.journal) }) es)
   pub ended : (is_memory end ≡ true) ⊎ (over (run (advance g a) (record { operation = op; known = known_then g a d (by_actor a closed.at.journal) }) es).operation ≡ Some end)

@@ -1,7 +1,7 @@
 -- What happened, looked back at: how an event came to its end, how an operation began, and what came later.
 use Rattle.std.proofs.Common.{◌≡◌, ℕ, ◌+◌, ◌<◌, ◌≤◌, ◌⊎◌, inl, inr, false, List, [], ◌∷◌, ◌++◌, length, slice_get, append_assoc, append-nil, Some, None, refl, sym, ap, subst, ◌∙◌, arith}
 use Rattle.job_spec.proofs.Common.{slice_get_within, some_is, none_some, false_true}
-use Rattle.job_steps.specs.Prelude.{Content, Actor, Request, Outcome, Entry, Op, Event, Do, Start, EventEnd, Refused, Setting, Past, Doing, put, missing, is_refused, open_event, own, AllFrom, strange_entry, Play, Transition, Refuses, Opens, Sends, Finishes, Closes, Strays, happen, MayOpen, MaySend, MayClose, MayStray, Enabled, Reachable, nothing_happened, happens, Ahead}
+use Rattle.job_steps.specs.Prelude.{Content, Actor, Request, Outcome, Entry, Op, Event, Do, Start, EventEnd, Refused, Setting, Past, Doing, put, reports, is_refused, open_event, own, AllFrom, strange_entry, Play, Transition, Refuses, Opens, Sends, Finishes, Closes, Strays, happen, MayOpen, MaySend, MayClose, MayStray, Enabled, Reachable, nothing_happened, happens, Ahead, reports}
 use Rattle.job_steps.proofs.Parts.{get_last, from_last, from_own, own_own}
 use Rattle.job_steps.proofs.Actors.{same_or_not, put_here, put_other}
 use Rattle.job_steps.proofs.Told.{told_all}
@@ -38,7 +38,7 @@ pub record Began (g : Setting) (opening : Content) (x : Play) (a : Actor) (d : D
   pub may : MayOpen g at event None
   pub begins : IsBegin event a d.op
   pub since_is : d.since ≡ length at.ends + 1
-  pub missing_is : d.missing ≡ missing g.script at.past.reported
+  pub reports_is : d.reports ≡ reports g.script at.past.reported
   pub entries : List Entry
   pub all : x.journal ≡ at.journal ++ entries
   pub after : AllFrom d.since entries
@@ -137,7 +137,7 @@ module _ (g : Setting) (opening : Content) where
     may = b.may;
     begins = b.begins;
     since_is = b.since_is;
-    missing_is = b.missing_is;
+    reports_is = b.reports_is;
     entries = b.entries;
     all = same ∙ b.all;
     after = b.after;
@@ -154,7 +154,7 @@ module _ (g : Setting) (opening : Content) where
         may = b.may;
         begins = b.begins;
         since_is = b.since_is;
-        missing_is = b.missing_is;
+        reports_is = b.reports_is;
         entries = b.entries ++ e ∷ [];
         all = ap (λ l. l ++ e ∷ []) b.all ∙ append_assoc b.at.journal b.entries (e ∷ []);
         after = from_last d.since b.entries e b.after late;
@@ -171,7 +171,7 @@ module _ (g : Setting) (opening : Content) where
         may = b.may;
         begins = b.begins;
         since_is = b.since_is;
-        missing_is = b.missing_is;
+        reports_is = b.reports_is;
         entries = b.entries ++ e ∷ [];
         all = ap (λ l. l ++ e ∷ []) b.all ∙ append_assoc b.at.journal b.entries (e ∷ []);
         after = from_last d.since b.entries e b.after then;
@@ -179,7 +179,7 @@ module _ (g : Setting) (opening : Content) where
       }
 
   abbrev doing_now : Play → Op → Doing
-  doing_now y op = record { op = op; since = y.past.events + 1; missing = missing g.script y.past.reported }
+  doing_now y op = record { op = op; since = y.past.events + 1; reports = reports g.script y.past.reported }
 
   began_now : (y : Play) (ev : Event) (a : Actor) (op : Op) → Reachable g opening y → MayOpen g y ev None → IsBegin ev a op → Began g opening (happen g y (Opens ev)) a (doing_now y op)
   began_now y ev a op past may is = record {
@@ -189,7 +189,7 @@ module _ (g : Setting) (opening : Content) where
     may = may;
     begins = is;
     since_is = ap (λ n. n + 1) (told_all g opening y past).counts;
-    missing_is = refl;
+    reports_is = refl;
     entries = [];
     all = sym (append-nil y.journal);
     after = tt;

@@ -1,5 +1,5 @@
 -- That all that is promised of a job holds of what happened in its run.
-use Rattle.std.proofs.Common.{◌≡◌, ℕ, sym, ap, subst}
+use Rattle.std.proofs.Common.{◌≡◌, ℕ, sym, ap, subst, false, ◌∙◌}
 use Rattle.job_steps.specs.Prelude.{Script, Content, Setting, Plays, setting, IsOpening, times}
 use Rattle.job_traces.proofs.Entries.{always}
 use Rattle.job_traces.proofs.Changes.{runs_rename, runs_outside}
@@ -14,29 +14,29 @@ use Rattle.job_safety.proofs.Commits.{commits_kept, commits_among}
 
 -- a setting with this least size of a part
 abbrev with_least : Script → ℕ → Setting
-with_least w n = record { script = w; minimum = n }
+with_least w n = record { script = w; minimum = n; shared = false }
 
-setting_is : (g : Setting) (opening : Content) → IsOpening g opening → setting g.script opening ≡ g
-setting_is g opening is = ap (with_least g.script) is.least
+setting_is : (g : Setting) (opening : Content) → g.shared ≡ false → IsOpening g opening → setting g.script opening ≡ g
+setting_is g opening single is = ap (with_least g.script) is.least ∙ ap (λ b. record { script = g.script; minimum = g.minimum; shared = b }) (sym single)
 
 pub kept_among : RunsAreKeptAmong
-kept_among g opening x j is_opening run idle ps are =
+kept_among g single opening x j is_opening run idle ps are =
     let r = is_run g opening j is_opening x run x.ends (ahead_none x idle) in
     record {
-      plays = subst (λ s. Plays s x.ends x.journal) (sym (setting_is g opening is_opening)) (happenings_play g opening x j run idle).plays;
+      plays = subst (λ s. Plays s x.ends x.journal) (sym (setting_is g opening single is_opening)) (happenings_play g opening x j run idle).plays;
       picks = are;
       zero_rename = runs_rename g (times g.script x.ends) opening j is_opening x.journal r.stand r.runs;
       setups = setups_among g opening j is_opening x run idle;
       tasks = tasks_kept g opening j is_opening x run idle;
       publishes = publishes_kept g opening j is_opening x run idle;
-      cleans = cleans_kept g opening j x run idle;
-      commits = commits_among g opening j is_opening x run idle;
+      cleans = cleans_kept g single opening j x run idle;
+      commits = commits_among g single opening j is_opening x run idle;
     }
 
 pub runs_are_kept : RunsAreKept
-runs_are_kept g opening x j is_opening run idle ps are =
+runs_are_kept g single opening x j is_opening run idle ps are =
     let r = is_run g opening j is_opening x run x.ends (ahead_none x idle) in
-    let among = kept_among g opening x j is_opening run idle ps are in
+    let among = kept_among g single opening x j is_opening run idle ps are in
     record {
       always = always g (times g.script x.ends) opening j is_opening x.journal r.stand r.runs;
       plays = among.plays;
@@ -47,5 +47,5 @@ runs_are_kept g opening x j is_opening run idle ps are =
       tasks = λ own. among.tasks;
       publishes = λ own. among.publishes;
       cleans = among.cleans;
-      commits = commits_kept g opening j is_opening x run idle;
+      commits = commits_kept g single opening j is_opening x run idle;
     }

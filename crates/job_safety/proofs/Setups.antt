@@ -28,7 +28,7 @@ module _ (g : Setting) (opening : Content) (j : IsLegal g.script) (is_opening : 
     EndsSo v = over (run (advance g Driver) (record { operation = v; known = k }) es).operation ≡ Some (ends.Setup e)
 
     begun : EndsSo n.op → n.op ≡ TheSetup first
-    begun o = driver_setup g d.op d.missing k n.op n.begun_is (sym (kind_run g Driver (record { operation = n.op; known = k }) es) ∙ over_kind _ (ends.Setup e) o)
+    begun o = driver_setup g d.op d.reports k n.op n.begun_is (sym (kind_run g Driver (record { operation = n.op; known = k }) es) ∙ over_kind _ (ends.Setup e) o)
 
     follows_so : n.op ≡ TheSetup first → Follows (wants g Driver) (advance g Driver) (record { operation = TheSetup first; known = k }) es
     follows_so is = subst (λ v. Follows (wants g Driver) (advance g Driver) (record { operation = v; known = k }) es) is n.follows

@@ -1,6 +1,6 @@
 -- Of which kind an operation is, from its beginning to its end.
-use Rattle.std.proofs.Common.{◌≡◌, ℕ, true, List, [], ◌∷◌, Option, Some, None, refl, sym, ap, ◌∙◌}
-use Rattle.job_steps.specs.Prelude.{option_map, Actor, Driver, Outcome, Entry, run, fresh, Who, Known, Op, SetupEnd, TaskEnd, CommitEnd, CleanEnd, OpEnd, setup_start, setup_over, write_over, task_commit_over, task_abort_over, commit_start, commit_over, clean_start, clean_over, Setting, Operation, TheSetup, TheWrite, TheTaskCommit, TheTaskAbort, TheCommit, TheClean, Running, who, tells, advance, start_of, over, is_memory}
+use Rattle.std.proofs.Common.{◌≡◌, ℕ, true, List, [], ◌∷◌, Option, Some, None, refl, sym, ap, ◌∙◌, false}
+use Rattle.job_steps.specs.Prelude.{option_map, Actor, Driver, Outcome, Entry, run, fresh, Who, Known, Op, SetupEnd, TaskEnd, CommitEnd, CleanEnd, OpEnd, setup_start, setup_over, write_over, task_commit_over, task_abort_over, commit_start, commit_over, clean_start, clean_over, Setting, Operation, TheSetup, TheWrite, TheTaskCommit, TheTaskAbort, TheCommit, TheClean, Running, who, tells, advance, start_of, over, is_memory, Reports, missing, TheCheck, commit_of, clean_of, TheSparing, step}
 use Rattle.job_spec.proofs.Common.{some_is, none_some, false_true}
 use Rattle.job_model.specs.declared.events.Op.TheVariants as ops
 use Rattle.job_model.specs.declared.ends.SetupEnd.TheVariants as setups
@@ -8,6 +8,9 @@ use Rattle.job_model.specs.declared.ends.TaskEnd.TheVariants as tasks
 use Rattle.job_model.specs.declared.ends.CommitEnd.TheVariants as commits
 use Rattle.job_model.specs.declared.ends.CleanEnd.TheVariants as cleans
 use Rattle.job_model.specs.declared.ends.OpEnd.TheVariants as ends
+use Rattle.job_protocol.proofs.Begun.{after_check_so, commit_of_so, clean_of_so, commit_alone, clean_alone}
+use Rattle.job_protocol.specs.Rechecks.{check_after, check_over}
+use Rattle.job_protocol.specs.Sparing.{sparing_over}
 
 pub data Kind : Type 0 where
   OfSetup : Kind
@@ -18,12 +21,15 @@ pub data Kind : Type 0 where
 
 abbrev pub kind : Operation → Kind
 kind (TheSetup t) = OfSetup
+kind (TheCheck t) = OfCommit
 kind (TheCommit c) = OfCommit
 kind (TheClean t) = OfClean
+kind (TheSparing t) = OfClean
 kind _ = OfTask
 
 abbrev pub end_kind : OpEnd → Kind
 end_kind (ends.Setup e) = OfSetup
+end_kind (ends.Check e) = OfCommit
 end_kind (ends.Commit e) = OfCommit
 end_kind (ends.Clean e) = OfClean
 end_kind (ends.Task e) = OfTask
@@ -41,9 +47,11 @@ over_kind (TheTaskCommit t) e o = ap end_kind (end_of ends.Task (task_commit_ove
 over_kind (TheTaskAbort t) e o = ap end_kind (end_of ends.Task (task_abort_over t.operation) e o).2
 over_kind (TheCommit c) e o = ap end_kind (end_of ends.Commit (commit_over c) e o).2
 over_kind (TheClean t) e o = ap end_kind (end_of ends.Clean (clean_over t.operation) e o).2
+over_kind (TheCheck t) e o = ap end_kind (end_of ends.Check (check_over t.operation) e o).2
+over_kind (TheSparing t) e o = ap end_kind (end_of ends.Clean (sparing_over t.operation) e o).2
 
 kind_tells : (g : Setting) (a : Who) (op : Operation) (o : Outcome) → kind (tells g a op o) ≡ kind op
-kind_tells g a (TheSetup t) o = refl
+kind_tells g a (TheCheck t) o = after_check_so g (λ op. kind op ≡ OfCommit) refl (λ u. refl) (step g.script.retries (check_after g.script) t o)
 kind_tells g a _ o = refl
 
 pub kind_run : (g : Setting) (a : Actor) (m : Running) (es : List Entry) → kind (run (advance g a) m es).operation ≡ kind m.operation
@@ -52,23 +60,30 @@ kind_run g a m (e ∷ es) = kind_run g a (advance g a m e.outcome) es ∙ kind_t
 
 -- ---- the driver's, by its kind
 
-pub driver_setup : (g : Setting) (op : Op) (missing : Option ℕ) (k : Known) (m : Operation) → start_of g Driver op missing k ≡ Some m → kind m ≡ OfSetup → m ≡ TheSetup (fresh g.script.retries setup_start)
-driver_setup g ops.Setup missing k m b e = sym (some_is b)
-driver_setup g ops.Write missing k m b e = absurd (none_some refl b)
-driver_setup g ops.Commit missing k m b e = let no : OfCommit ≡ OfSetup = ap kind (some_is b) ∙ e in absurd cc
-driver_setup g _ missing k m b e = let no : OfClean ≡ OfSetup = ap kind (some_is b) ∙ e in absurd cc
+commit_kind : (g : Setting) (r : Reports) → kind (commit_of g r) ≡ OfCommit
+commit_kind g r = commit_of_so g (λ op. kind op ≡ OfCommit) (λ missing. refl) (λ t. refl) r
 
-pub driver_commit : (g : Setting) (op : Op) (missing : Option ℕ) (k : Known) (m : Operation) → start_of g Driver op missing k ≡ Some m → kind m ≡ OfCommit → (op ≡ ops.Commit) × (m ≡ TheCommit (commit_start g.script missing))
-driver_commit g ops.Setup missing k m b e = let no : OfSetup ≡ OfCommit = ap kind (some_is b) ∙ e in absurd cc
-driver_commit g ops.Write missing k m b e = absurd (none_some refl b)
-driver_commit g ops.Commit missing k m b e = (refl, sym (some_is b))
-driver_commit g _ missing k m b e = let no : OfClean ≡ OfCommit = ap kind (some_is b) ∙ e in absurd cc
+clean_kind : (g : Setting) → kind (clean_of g) ≡ OfClean
+clean_kind g = clean_of_so g (λ op. kind op ≡ OfClean) refl refl
 
-pub driver_clean : (g : Setting) (op : Op) (missing : Option ℕ) (k : Known) (m : Operation) → start_of g Driver op missing k ≡ Some m → kind m ≡ OfClean → m ≡ TheClean (fresh g.script.retries clean_start)
-driver_clean g ops.Setup missing k m b e = let no : OfSetup ≡ OfClean = ap kind (some_is b) ∙ e in absurd cc
-driver_clean g ops.Write missing k m b e = absurd (none_some refl b)
-driver_clean g ops.Commit missing k m b e = let no : OfCommit ≡ OfClean = ap kind (some_is b) ∙ e in absurd cc
-driver_clean g _ missing k m b e = sym (some_is b)
+pub driver_setup : (g : Setting) (op : Op) (reports : Reports) (k : Known) (m : Operation) → start_of g Driver op reports k ≡ Some m → kind m ≡ OfSetup → m ≡ TheSetup (fresh g.script.retries setup_start)
+driver_setup g ops.Setup r k m b e = sym (some_is b)
+driver_setup g ops.Write r k m b e = absurd (none_some refl b)
+driver_setup g ops.Commit r k m b e = let no : OfCommit ≡ OfSetup = sym (commit_kind g r) ∙ ap kind (some_is b) ∙ e in absurd cc
+driver_setup g _ r k m b e = let no : OfClean ≡ OfSetup = sym (clean_kind g) ∙ ap kind (some_is b) ∙ e in absurd cc
+
+-- where no other job shares the destination
+pub driver_commit : (g : Setting) → g.shared ≡ false → (op : Op) (reports : Reports) (k : Known) (m : Operation) → start_of g Driver op reports k ≡ Some m → kind m ≡ OfCommit → (op ≡ ops.Commit) × (m ≡ TheCommit (commit_start g.script reports.missing))
+driver_commit g single ops.Setup r k m b e = let no : OfSetup ≡ OfCommit = ap kind (some_is b) ∙ e in absurd cc
+driver_commit g single ops.Write r k m b e = absurd (none_some refl b)
+driver_commit g single ops.Commit r k m b e = (refl, sym (some_is b) ∙ commit_alone g r single)
+driver_commit g single _ r k m b e = let no : OfClean ≡ OfCommit = sym (clean_kind g) ∙ ap kind (some_is b) ∙ e in absurd cc
+
+pub driver_clean : (g : Setting) → g.shared ≡ false → (op : Op) (reports : Reports) (k : Known) (m : Operation) → start_of g Driver op reports k ≡ Some m → kind m ≡ OfClean → m ≡ TheClean (fresh g.script.retries clean_start)
+driver_clean g single ops.Setup r k m b e = let no : OfSetup ≡ OfClean = ap kind (some_is b) ∙ e in absurd cc
+driver_clean g single ops.Write r k m b e = absurd (none_some refl b)
+driver_clean g single ops.Commit r k m b e = let no : OfCommit ≡ OfClean = sym (commit_kind g r) ∙ ap kind (some_is b) ∙ e in absurd cc
+driver_clean g single _ r k m b e = sym (some_is b) ∙ clean_alone g single
 
 -- ---- ends for want of memory
 

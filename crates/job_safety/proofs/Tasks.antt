@@ -1,6 +1,6 @@
 -- How attempts' operations end in a run, and that a commit that is done has published.
 use Rattle.std.proofs.Common.{◌≡◌, ℕ, ◌+◌, inl, inr, Bool, true, false, List, [], ◌∷◌, Option, Some, None, refl, sym, ap, subst, ◌∙◌}
-use Rattle.job_steps.specs.Prelude.{option_map, Content, Attempt, Request, Outcome, Entry, run, WornFirst, Who, IsLegal, Known, Op, TaskEnd, TaskCommit, TaskCommitOver, task_commit_over, knows, Setting, Operation, TheSetup, TheTaskCommit, Running, tells, advance, start_of, over, has_cleaned, Doing, clean_event, until, by_actor, until_last, known_then, TaskIs, WasPublished, setting, IsOpening, Play, Closes, happen, Reachable, happens, times, IsRun, operation_of}
+use Rattle.job_steps.specs.Prelude.{option_map, Content, Attempt, Request, Outcome, Entry, run, WornFirst, Who, IsLegal, Known, Op, TaskEnd, TaskCommit, TaskCommitOver, task_commit_over, knows, Setting, Operation, TheSetup, TheTaskCommit, Running, tells, advance, start_of, over, has_cleaned, Doing, clean_event, until, by_actor, until_last, known_then, TaskIs, WasPublished, setting, IsOpening, Play, Closes, happen, Reachable, happens, times, IsRun, operation_of, Reports, missing, TheCheck, step}
 use Rattle.job_spec.proofs.Common.{some_is, none_some, false_true}
 use Rattle.job_model.specs.declared.events.Op.TheVariants as ops
 use Rattle.job_model.specs.declared.ends.TaskEnd.TheVariants as tasks
@@ -16,18 +16,21 @@ use Rattle.job_safety.proofs.Sorts.{memory_task}
 use Rattle.job_safety.proofs.Ending.{Ending, ahead_none, ending, journal_until, until_strange}
 use Rattle.job_safety.proofs.Strange.{strange_last}
 use Rattle.job_safety.proofs.Spans.{known_is}
+use Rattle.job_protocol.proofs.Begun.{after_check_so}
+use Rattle.job_protocol.specs.Rechecks.{check_after}
 
 -- ---- of which operation
 
 abort_tells : (g : Setting) (a : Who) (op : Operation) (o : Outcome) → is_abort (tells g a op o) ≡ is_abort op
 abort_tells g a (TheSetup t) o = refl
+abort_tells g a (TheCheck t) o = after_check_so g (λ op. is_abort op ≡ false) refl (λ u. refl) (step g.script.retries (check_after g.script) t o)
 abort_tells g a _ o = refl
 
 abort_run : (g : Setting) (t n : ℕ) (m : Running) (es : List Entry) → is_abort (run (advance g (Attempt t n)) m es).operation ≡ is_abort m.operation
 abort_run g t n m [] = refl
 abort_run g t n m (e ∷ es) = abort_run g t n (advance g (Attempt t n) m e.outcome) es ∙ abort_tells g (attempt t n) m.operation e.outcome
 
-no_abort : (g : Setting) (t n : ℕ) (op : Op) (missing : Option ℕ) (k : Known) (m : Operation) → start_of g (Attempt t n) op missing k ≡ Some m → (op ≡ ops.Abort → ⊥) → is_abort m ≡ false
+no_abort : (g : Setting) (t n : ℕ) (op : Op) (reports : Reports) (k : Known) (m : Operation) → start_of g (Attempt t n) op reports k ≡ Some m → (op ≡ ops.Abort → ⊥) → is_abort m ≡ false
 no_abort g t n ops.Write missing k m e ne = ap is_abort (sym (some_is e))
 no_abort g t n ops.Commit missing k m e ne = ap is_abort (sym (some_is e))
 no_abort g t n ops.Abort missing k m e ne = absurd (ne refl)
@@ -91,7 +94,7 @@ module _ (g : Setting) (opening : Content) (j : IsLegal g.script) (is_opening : 
     gone_so : over at ≡ Some (ends.Task e) → (d.op ≡ ops.Abort → ⊥) → (name : List ℕ) → e ≡ tasks.Gone name → cleaned ≡ true
     gone_so o not_abort name is =
         cleaned_then
-        ∙ gone_cleaned g (times g.script x.ends) opening j is_opening z.journal then.stand then.runs (attempt t a) at name is_at (abort_run g t a (record { operation = n.op; known = k }) es ∙ no_abort g t a d.op d.missing k n.op n.begun_is not_abort) (o ∙ ap (λ v. Some (ends.Task v)) is)
+        ∙ gone_cleaned g (times g.script x.ends) opening j is_opening z.journal then.stand then.runs (attempt t a) at name is_at (abort_run g t a (record { operation = n.op; known = k }) es ∙ no_abort g t a d.op d.reports k n.op n.begun_is not_abort) (o ∙ ap (λ v. Some (ends.Task v)) is)
 
     known_so : k ≡ known_then (setting g.script opening) (Attempt t a) d (by_actor (Attempt t a) x.journal)
     known_so = ap (knows g.script (attempt t a)) (sym (known_is g opening x i (Attempt t a) d (ends.Task e) es n))
@@ -99,7 +102,7 @@ module _ (g : Setting) (opening : Content) (j : IsLegal g.script) (is_opening : 
     task_so : over at ≡ Some (ends.Task e) → (worn : Option Request) × WornFirst g.script.retries es worn
         × TaskIs d.op g.script (attempt t a) es (known_then (setting g.script opening) (Attempt t a) d (by_actor (Attempt t a) x.journal)).publish_sent cleaned worn e
     task_so o =
-        let r = task_ends g t a d.op d.missing k n.op n.begun_is es n.follows e o in
+        let r = task_ends g t a d.op d.reports k n.op n.begun_is es n.follows e o in
         (r.0, r.1, subst (λ (v : Known). TaskIs d.op g.script (attempt t a) es v.publish_sent cleaned r.0 e) known_so (task_joined d.op g.script (attempt t a) es k.publish_sent cleaned r.0 e r.2 (gone_so o)))
 
   pub tasks_kept : TasksEndAmong g.script opening x.journal x.ends
@@ -114,7 +117,7 @@ module _ (g : Setting) (opening : Content) (j : IsLegal g.script) (is_opening : 
     u = n.closed.at
 
     commit_begun : d.op ≡ ops.Commit → IsTaskCommit n.op
-    commit_begun is = subst IsTaskCommit (some_is (sym (ap (λ v. start_of g (Attempt t a) v d.missing (k i t a d tasks.Done es n)) is) ∙ n.begun_is)) tt
+    commit_begun is = subst IsTaskCommit (some_is (sym (ap (λ v. start_of g (Attempt t a) v d.reports (k i t a d tasks.Done es n)) is) ∙ n.begun_is)) tt
 
     publishes_so : d.op ≡ ops.Commit → cleaned i t a d tasks.Done es n ≡ false → over (at i t a d tasks.Done es n) ≡ Some (ends.Task tasks.Done) → WasPublished g.script opening x.journal t a (i + 1)
     publishes_so is clean o =

@@ -29,7 +29,7 @@ PublishesAmong w opening journal xs = (j t a : ℕ) (d : Doing) (es : List Entry
 -- the driver's commit has the end that is due, and is served
 abbrev pub CommitsEndAmong : Script → Content → List Entry → List EventEnd → Type 0
 CommitsEndAmong w opening journal xs = (j : ℕ) (d : Doing) (e : CommitEnd) (es : List Entry) → EndedIn w xs journal j Driver d (ends.Commit e) es
-    → CommitEnded w (seen_until w opening journal xs (j + 1)) d.missing es e × CommitServed w es
+    → CommitEnded w (seen_until w opening journal xs (j + 1)) d.reports.missing es e × CommitServed w es
 
 -- what no stranger can break
 pub record KeptAmong (w : Script) (opening : Content) (journal : List Entry) (ps : List Pick) (xs : List EventEnd) : Type 0 where
@@ -46,12 +46,12 @@ pub record KeptAmong (w : Script) (opening : Content) (journal : List Entry) (ps
 
 -- between events all that no stranger can break holds of what has happened
 abbrev pub RunsAreKeptAmong : Type 0
-RunsAreKeptAmong = (g : Setting) (opening : Content) (x : Play) → IsLegal g.script → IsOpening g opening → Reachable g opening x → x.now ≡ None
+RunsAreKeptAmong = (g : Setting) → g.shared ≡ false → (opening : Content) (x : Play) → IsLegal g.script → IsOpening g opening → Reachable g opening x → x.now ≡ None
     → (ps : List Pick) → ArePicked ps (all_picks g.script opening x.journal x.ends) → KeptAmong g.script opening x.journal ps x.ends
 
 -- between events all that is promised holds of what has happened
 abbrev pub RunsAreKept : Type 0
-RunsAreKept = (g : Setting) (opening : Content) (x : Play) → IsLegal g.script → IsOpening g opening → Reachable g opening x → x.now ≡ None
+RunsAreKept = (g : Setting) → g.shared ≡ false → (opening : Content) (x : Play) → IsLegal g.script → IsOpening g opening → Reachable g opening x → x.now ≡ None
     → (ps : List Pick) → ArePicked ps (all_picks g.script opening x.journal x.ends) → Promised g.script opening x.journal ps x.ends
 
 -- the set-up of the job has ended Done

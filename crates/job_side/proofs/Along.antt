@@ -1,13 +1,15 @@
 -- What is carried along a run of a job: what each actor knew as it last sent, who commits the job, and how many events there were.
-use Rattle.std.proofs.Common.{◌≡◌, ℕ, ◌<◌, inl, inr, false, List, [], ◌∷◌, ◌++◌, length, Option, Some, None, refl, sym, ap, ◌∙◌}
+use Rattle.std.proofs.Common.{◌≡◌, ℕ, ◌<◌, inl, inr, true, false, List, [], ◌∷◌, ◌++◌, length, Option, Some, None, refl, sym, ap, ◌∙◌}
 use Rattle.job_spec.proofs.Common.{some_is, none_some}
-use Rattle.job_steps.specs.Prelude.{Content, Actor, Driver, Attempt, Shell, Outcome, Request, Entry, Who, Known, Script, Op, Event, Do, Start, learn, knows, Setting, Operation, Running, TheSetup, who, tells, learn_of, advance, start_of, put, missing, by_actor, Play, Refuses, Opens, Sends, Finishes, Closes, Strays, begun, open_running, hear, happen, MayOpen, MaySend, Reachable, nothing_happened, happens, nothing_played, knows_now}
+use Rattle.job_steps.specs.Prelude.{Content, Actor, Driver, Attempt, Shell, Outcome, Request, Entry, Who, Known, Script, Op, Event, Do, Start, learn, knows, Setting, Operation, Running, TheSetup, who, tells, learn_of, advance, start_of, put, Reports, reports, TheCheck, step, by_actor, Play, Refuses, Opens, Sends, Finishes, Closes, Strays, begun, open_running, hear, happen, MayOpen, MaySend, Reachable, nothing_happened, happens, nothing_played, knows_now}
 use Rattle.job_facts.specs.Prelude.{knows_from}
 use Rattle.job_model.specs.declared.events.Op.TheVariants as ops
 use Rattle.job_steps.proofs.Actors.{same_true, same_or_not, put_here, put_other, same_false}
 use Rattle.job_steps.proofs.Parts.{by_itself, by_another, by_own}
 use Rattle.job_actor.specs.Picks.{is_job_commit, is_committing}
 use Rattle.job_side.proofs.Places.{within}
+use Rattle.job_protocol.specs.Rechecks.{check_after}
+use Rattle.job_protocol.proofs.Begun.{after_check_so}
 
 -- what is carried
 pub record Carried (g : Setting) (x : Play) : Type 0 where
@@ -25,17 +27,18 @@ knows_more w a k (x ∷ es) e = knows_more w a (learn w a k x.request x.outcome)
 
 -- what an actor goes on with is the job's commit where it was before
 pub commit_stays : (g : Setting) (a : Who) (op : Operation) (o : Outcome) → is_job_commit (tells g a op o) ≡ is_job_commit op
+commit_stays g a (TheCheck t) o = after_check_so g (λ op. is_job_commit op ≡ true) refl (λ u. refl) (step g.script.retries (check_after g.script) t o)
 commit_stays g a (TheSetup t) o = refl
 commit_stays g a _ o = refl
 
-none_commits : (g : Setting) (a : Actor) (op : Op) (missing : Option ℕ) (k : Known) → (a ≡ Driver → ⊥) → is_committing (begun (start_of g a op missing k) k) ≡ false
-none_commits g Driver op missing k ne = absurd (ne refl)
-none_commits g (Attempt t n) ops.Setup missing k ne = refl
-none_commits g (Attempt t n) ops.Write missing k ne = refl
-none_commits g (Attempt t n) ops.Commit missing k ne = refl
-none_commits g (Attempt t n) ops.Abort missing k ne = refl
-none_commits g (Attempt t n) ops.Clean missing k ne = refl
-none_commits g Shell op missing k ne = refl
+none_commits : (g : Setting) (a : Actor) (op : Op) (r : Reports) (k : Known) → (a ≡ Driver → ⊥) → is_committing (begun (start_of g a op r k) k) ≡ false
+none_commits g Driver op r k ne = absurd (ne refl)
+none_commits g (Attempt t n) ops.Setup r k ne = refl
+none_commits g (Attempt t n) ops.Write r k ne = refl
+none_commits g (Attempt t n) ops.Commit r k ne = refl
+none_commits g (Attempt t n) ops.Abort r k ne = refl
+none_commits g (Attempt t n) ops.Clean r k ne = refl
+none_commits g Shell op r k ne = refl
 
 begun_known : (op : Option Operation) (k : Known) (m : Running) → begun op k ≡ Some m → m.known ≡ k
 begun_known None k m e = absurd (none_some refl e)
@@ -52,20 +55,20 @@ module _ (g : Setting) (opening : Content) where
 
   -- ---- an event begins
 
-  begins_known : (x : Play) → Carried g x → (a : Actor) (op : Op) (q : Actor) (m : Running) → put x.running a (begun (start_of g a op (missing g.script x.past.reported) (knows_now g x a)) (knows_now g x a)) q ≡ Some m → m.known ≡ knows_now g x q
+  begins_known : (x : Play) → Carried g x → (a : Actor) (op : Op) (q : Actor) (m : Running) → put x.running a (begun (start_of g a op (reports g.script x.past.reported) (knows_now g x a)) (knows_now g x a)) q ≡ Some m → m.known ≡ knows_now g x q
   begins_known x c a op q m e =
-      let v = begun (start_of g a op (missing g.script x.past.reported) (knows_now g x a)) (knows_now g x a) in
+      let v = begun (start_of g a op (reports g.script x.past.reported) (knows_now g x a)) (knows_now g x a) in
       elim (same_or_not q a) [
-        | inl is ↦ begun_known (start_of g a op (missing g.script x.past.reported) (knows_now g x a)) (knows_now g x a) m (sym (put_here x.running a v q is) ∙ e) ∙ ap (knows_now g x) (sym is)
+        | inl is ↦ begun_known (start_of g a op (reports g.script x.past.reported) (knows_now g x a)) (knows_now g x a) m (sym (put_here x.running a v q is) ∙ e) ∙ ap (knows_now g x) (sym is)
         | inr ne ↦ c.known q m (sym (put_other x.running a v q ne) ∙ e)
       ]
 
-  begins_whose : (x : Play) → Carried g x → (a : Actor) (op : Op) (q : Actor) → (q ≡ Driver → ⊥) → is_committing (put x.running a (begun (start_of g a op (missing g.script x.past.reported) (knows_now g x a)) (knows_now g x a)) q) ≡ false
+  begins_whose : (x : Play) → Carried g x → (a : Actor) (op : Op) (q : Actor) → (q ≡ Driver → ⊥) → is_committing (put x.running a (begun (start_of g a op (reports g.script x.past.reported) (knows_now g x a)) (knows_now g x a)) q) ≡ false
   begins_whose x c a op q ne =
       let k = knows_now g x a in
-      let v = begun (start_of g a op (missing g.script x.past.reported) k) k in
+      let v = begun (start_of g a op (reports g.script x.past.reported) k) k in
       elim (same_or_not q a) [
-        | inl is ↦ ap is_committing (put_here x.running a v q is) ∙ none_commits g a op (missing g.script x.past.reported) k (λ d. ne (is ∙ d))
+        | inl is ↦ ap is_committing (put_here x.running a v q is) ∙ none_commits g a op (reports g.script x.past.reported) k (λ d. ne (is ∙ d))
         | inr other ↦ ap is_committing (put_other x.running a v q other) ∙ c.whose q ne
       ]
 
@@ -79,7 +82,7 @@ module _ (g : Setting) (opening : Content) where
   open_whose x c (Start a op) q ne = begins_whose x c a op q ne
   open_whose x c _ q ne = c.whose q ne
 
-  begin_nobody : (x : Play) → Carried g x → (a : Actor) (op : Op) → put x.running a (begun (start_of g a op (missing g.script x.past.reported) (knows_now g x a)) (knows_now g x a)) Shell ≡ None
+  begin_nobody : (x : Play) → Carried g x → (a : Actor) (op : Op) → put x.running a (begun (start_of g a op (reports g.script x.past.reported) (knows_now g x a)) (knows_now g x a)) Shell ≡ None
   begin_nobody x c Shell op = refl
   begin_nobody x c _ op = c.nobody
 

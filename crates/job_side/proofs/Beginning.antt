@@ -2,7 +2,7 @@
 use Rattle.std.proofs.Common.{◌≡◌, ℕ, ◌-◌, ◌^◌, ◌<◌, inl, inr, not, true, false, List, [], length, slice_get, Option, Some, None, vec_len, vec_capacity, refl, sym, ap, subst, ◌∙◌, append-nil, arith}
 use Rattle.std.specs.Prelude.{IsSome, is_some, IfOk, Result, Ok, Err}
 use Rattle.job_spec.proofs.Common.{slice_get_within, none_some, false_true}
-use Rattle.job_steps.specs.Prelude.{Request, Actor, Driver, Attempt, Shell, is_known, Known, Script, HasOp, IsEvent, IsLegal, Op, Event, Do, Start, EventFault, OpEnd, Pick, Life, Idle, Dead, knows, Setting, Running, who, start_of, over, Past, actors, missing, refusal, refuse_begin, open_event, by_actor, Play, Opens, MayOpen, begun, happen, knows_now, Ahead}
+use Rattle.job_steps.specs.Prelude.{Request, Actor, Driver, Attempt, Shell, is_known, Known, Script, HasOp, IsEvent, IsLegal, Op, Event, Do, Start, EventFault, OpEnd, Pick, Life, Idle, Dead, knows, Setting, Running, who, start_of, over, Past, actors, Reports, reports, refusal, refuse_begin, open_event, by_actor, Play, Opens, MayOpen, begun, happen, knows_now, Ahead}
 use Rattle.job_actor.specs.Plans.{IsPlanOf}
 use Rattle.job_actor.specs.declared.plan.Plan as acting
 use Rattle.job_steps.proofs.Running.{is_run}
@@ -19,6 +19,7 @@ use Rattle.job_side.proofs.Standings.{placed, another, known_place, busy_at}
 use Rattle.job_side.proofs.Moments.{lives_of, past_of, is_idle, live_of, may_open, event_of, few_attempts, hand_at}
 use Rattle.job_side.proofs.Opening.{spares_others, begun_busy, not_left, leaves, opened_holds, opened_hands, busy_before}
 use Rattle.job_side.proofs.Picked.{begun_running, picked_then, put_by_driver}
+use Rattle.job_model.specs.declared.events.Op.TheVariants as ops
 
 -- ---- what may be begun
 
@@ -49,6 +50,15 @@ known_named w (Do b o) a op h e = ap (is_known w.attempts) (sym h.0) ∙ e.0
 known_named w (Start b o) a op h e = ap (is_known w.attempts) (sym h.0) ∙ e.0
 known_named w _ a op h e = absurd h
 
+-- an attempt's operation begins whatever is reported
+pub attempt_starts : (g : Setting) (a : Actor) (op : Op) (r t : Reports) (k : Known) → (a ≡ Driver → ⊥) → start_of g a op r k ≡ start_of g a op t k
+attempt_starts g Driver op r t k other = absurd (other refl)
+attempt_starts g (Attempt n m) ops.Write r t k other = refl
+attempt_starts g (Attempt n m) ops.Commit r t k other = refl
+attempt_starts g (Attempt n m) ops.Abort r t k other = refl
+attempt_starts g (Attempt n m) _ r t k other = refl
+attempt_starts g Shell op r t k other = refl
+
 opened_reported : (w : Script) (p : Past) (ev : Event) (a : Actor) (op : Op) → BeginsBy ev a op → (open_event w p ev).reported ≡ p.reported
 opened_reported w p (Do b o) a op h = refl
 opened_reported w p (Start b o) a op h = refl
@@ -56,8 +66,8 @@ opened_reported w p _ a op h = absurd h
 
 module _ {W : Type 0} (is_of : Setting → Actor → W → Type 0) (running : Known → W → Running) (picks_of : W → Option (List Pick)) where
   -- what is begun is what the script's operation is as it begins
-  pub work_of : (b : Body W) (a : Actor) (op : Op) (n : Option ℕ) (work : W) → Starts is_of running picks_of (setting_of b) a op n (knows_of b a) work
-      → ((p : Past) → Stands b.side.script b.side.states p → start_of (setting_of b) a op n (knows_of b a) ≡ start_of (setting_of b) a op (missing b.side.script p.reported) (knows_of b a)) → IsWork is_of running picks_of b a op work
+  pub work_of : (b : Body W) (a : Actor) (op : Op) (n : Reports) (work : W) → Starts is_of running picks_of (setting_of b) a op n (knows_of b a) work
+      → ((p : Past) → Stands b.side.script b.side.states p → start_of (setting_of b) a op n (knows_of b a) ≡ start_of (setting_of b) a op (reports b.side.script p.reported) (knows_of b a)) → IsWork is_of running picks_of b a op work
   work_of b a op n work s same =
       let k : Known = knows_of b a in
       record {
@@ -66,8 +76,8 @@ module _ {W : Type 0} (is_of : Setting → Actor → W → Type 0) (running : Kn
         picks = s.picks;
       }
 
-  pub works_of : {E : Type 0} (b : Body W) (a : Actor) (op : Op) (n : Option ℕ) (r : Result W E) → IfOk r (Starts is_of running picks_of (setting_of b) a op n (knows_of b a))
-      → ((p : Past) → Stands b.side.script b.side.states p → start_of (setting_of b) a op n (knows_of b a) ≡ start_of (setting_of b) a op (missing b.side.script p.reported) (knows_of b a)) → IfOk r (IsWork is_of running picks_of b a op)
+  pub works_of : {E : Type 0} (b : Body W) (a : Actor) (op : Op) (n : Reports) (r : Result W E) → IfOk r (Starts is_of running picks_of (setting_of b) a op n (knows_of b a))
+      → ((p : Past) → Stands b.side.script b.side.states p → start_of (setting_of b) a op n (knows_of b a) ≡ start_of (setting_of b) a op (reports b.side.script p.reported) (knows_of b a)) → IfOk r (IsWork is_of running picks_of b a op)
   works_of b a op n (Ok work) s same = work_of b a op n work s same
   works_of b a op n (Err e) s same = tt
 
@@ -189,8 +199,8 @@ module _ {W : Type 0} (wants : W → Option Request) (is_of : Setting → Actor 
   fits m work =
       let kn : Known = knows_now (setting_of b) q.holds.play a in
       let at_m : y.running a ≡ Some (running kn m) =
-      begun_running (setting_of b) q.holds.play ev a op begins ∙ ap (λ r. begun (start_of (setting_of b) a op (missing b.side.script r) kn) kn) (sym (opened_reported b.side.script q.holds.play.past ev a op begins))
-      ∙ subst (λ v. begun (start_of (setting_of b) a op (missing b.side.script y.live.reported) v) v ≡ Some (running v m)) knows_is (work.starts y.live stands) in
+      begun_running (setting_of b) q.holds.play ev a op begins ∙ ap (λ r. begun (start_of (setting_of b) a op (reports b.side.script r) kn) kn) (sym (opened_reported b.side.script q.holds.play.past ev a op begins))
+      ∙ subst (λ v. begun (start_of (setting_of b) a op (reports b.side.script y.live.reported) v) v ≡ Some (running v m)) knows_is (work.starts y.live stands) in
       (work.goes_by, (at_m, picked_then is_of running picks_of has_picks go (setting_of b) b.shared.opening q.holds.play q.holds.legal q.holds.opens q.holds.happened ev may live a op m kn begins at_m work.picks))
 
   fits_all : {E : Type 0} (work : Result W E) → IfOk work (IsWork is_of running picks_of e a op) → IfOk work (λ m. HandIs is_of running picks_of (setting_of b) b.shared.opening y a (At m))

@@ -71,7 +71,7 @@ module _ {W : Type 0} (wants : W → Option Request) (is_of : Setting → Actor 
     }
 
     refused_actors : c.side.states.actors ≡ b.side.states.actors
-    refused_actors = same_actors b.side.script b.side.states c.side.states q.holds.play.past (count q.holds.play.past) (subst (Stands b.side.script b.side.states) refused_live q.holds.stands) refused_stands refl refl
+    refused_actors = same_actors b.side.script b.side.states c.side.states q.holds.play.past (count q.holds.play.past) (subst (Stands b.side.script b.side.states) refused_live q.holds.stands) refused_stands refl refl refl
 
     pub quiet_refused : Quiet wants is_of running picks_of refused_body
     quiet_refused = record {
@@ -156,7 +156,7 @@ module _ {W : Type 0} (wants : W → Option Request) (is_of : Setting → Actor 
     }
 
     closed_actors : c.side.states.actors ≡ b.side.states.actors
-    closed_actors = same_actors b.side.script b.side.states c.side.states q.holds.play.live (count q.holds.play.live) q.holds.stands closed_stands refl refl
+    closed_actors = same_actors b.side.script b.side.states c.side.states q.holds.play.live (count q.holds.play.live) q.holds.stands closed_stands refl refl refl
 
     pub quiet_closed : Quiet wants is_of running picks_of closed_body
     quiet_closed = record {

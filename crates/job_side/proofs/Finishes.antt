@@ -7,6 +7,7 @@ use Rattle.proof_base.proofs.Members.{same_or_not as same_number}
 use Rattle.job_model.specs.declared.ends.SetupEnd.TheVariants as setups
 use Rattle.job_model.specs.declared.ends.TaskEnd.TheVariants as tasks
 use Rattle.job_model.specs.declared.ends.CommitEnd.TheVariants as commits
+use Rattle.job_model.specs.declared.ends.CheckEnd.TheVariants as checks
 use Rattle.job_model.specs.declared.ends.CleanEnd.TheVariants as cleans
 use Rattle.job_model.specs.declared.ends.OpEnd.TheVariants as ends
 use Rattle.job_states.specs.Standing.{standing}
@@ -36,6 +37,7 @@ pub ended_idle : (e : OpEnd) (s : ActorStage) → is_busy (ended e s).life ≡ f
 ended_idle (ends.Setup setups.Done) s = refl
 ended_idle (ends.Commit commits.Committed) s = refl
 ended_idle (ends.Clean cleans.Done) s = refl
+ended_idle (ends.Check checks.Clear) s = refl
 ended_idle (ends.Task tasks.Done) s = refl
 ended_idle _ s = refl
 

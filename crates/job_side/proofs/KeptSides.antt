@@ -80,4 +80,4 @@ module _ {W : Type 0} (wants : W → Option Request) (is_of : Setting → Actor 
       let ps : List Pick = picks_in picks_of b.side.picks (slice_get b.side.hands.items 0) in
       subst (λ es. laws.KeptAmong b.side.script b.shared.opening es ps b.side.ends.items) (sym q.holds.journal)
       (subst (λ xs. laws.KeptAmong b.side.script b.shared.opening q.holds.play.journal ps xs) (sym q.holds.ends)
-      (kept.kept_among (setting_of b) b.shared.opening q.holds.play q.holds.legal q.holds.opens q.holds.happened idle ps told.first))
+      (kept.kept_among (setting_of b) refl b.shared.opening q.holds.play q.holds.legal q.holds.opens q.holds.happened idle ps told.first))

@@ -6,6 +6,8 @@ use Rattle.job_steps.specs.Prelude.{Content, Actor, Driver, Declared, is_known, 
 use Rattle.job_model.specs.declared.ends.SetupEnd.TheVariants as setups
 use Rattle.job_model.specs.declared.ends.TaskEnd.TheVariants as tasks
 use Rattle.job_model.specs.declared.ends.CommitEnd.TheVariants as commits
+use Rattle.job_model.specs.declared.ends.CheckEnd.{CheckEnd}
+use Rattle.job_model.specs.declared.ends.CheckEnd.TheVariants as checks
 use Rattle.job_model.specs.declared.ends.CleanEnd.TheVariants as cleans
 use Rattle.job_model.specs.declared.ends.OpEnd.TheVariants as ends
 use Rattle.job_steps.proofs.Actors.{same_or_not, put_here, put_other}
@@ -62,6 +64,10 @@ commit_memory : (e : CommitEnd) (s : ActorStage) → (ended (ends.Commit e) s).l
 commit_memory commits.NoMemory s h m = dead_idle Dead refl h
 commit_memory _ s h m = false_true refl m
 
+check_memory : (e : CheckEnd) (s : ActorStage) → (ended (ends.Check e) s).life ≡ Idle → is_memory (ends.Check e) ≡ true → ⊥
+check_memory checks.NoMemory s h m = dead_idle Dead refl h
+check_memory _ s h m = false_true refl m
+
 clean_memory : (e : CleanEnd) (s : ActorStage) → (ended (ends.Clean e) s).life ≡ Idle → is_memory (ends.Clean e) ≡ true → ⊥
 clean_memory cleans.NoMemory s h m = dead_idle Dead refl h
 clean_memory _ s h m = false_true refl m
@@ -75,6 +81,7 @@ idle_memory : (e : OpEnd) (s : ActorStage) → (ended e s).life ≡ Idle → is_
 idle_memory (ends.Setup e) s h m = setup_memory e s h m
 idle_memory (ends.Commit e) s h m = commit_memory e s h m
 idle_memory (ends.Clean e) s h m = clean_memory e s h m
+idle_memory (ends.Check e) s h m = check_memory e s h m
 idle_memory (ends.Task e) s h m = task_memory e s h m
 idle_memory ends.NoMemory s h m = dead_idle Dead refl h
 

@@ -2,7 +2,8 @@
 use Rattle.std.proofs.Common.{◌≡◌, ℕ, inl, inr, true, false, List, [], ◌∷◌, ◌++◌, append-nil, Option, Some, None, refl, sym, ap, subst, ◌∙◌}
 use Rattle.std.specs.Prelude.{is_some, unwrap_or}
 use Rattle.job_spec.proofs.Common.{none_some, false_true, true_or_false}
-use Rattle.job_steps.specs.Prelude.{Content, Actor, Driver, Attempt, Shell, Known, IsLegal, Op, Event, Do, Start, Step, EventEnd, Pick, Setting, Running, start_of, Past, Decided, open_event, commit_begun, begins_commit, missing, ArePicked, all_picks, lacked_memory, IsOpening, Play, Reachable, Opens, MayOpen, begun, open_running, happen, knows_now, Ahead}
+use Rattle.job_steps.specs.Prelude.{Content, Actor, Driver, Attempt, Shell, Known, IsLegal, Op, Event, Do, Start, Step, EventEnd, Pick, Setting, Running, start_of, Past, Decided, open_event, commit_begun, begins_commit, Reports, reports, ArePicked, all_picks, lacked_memory, IsOpening, Play, Reachable, Opens, MayOpen, begun, open_running, happen, knows_now, Ahead, missing}
+use Rattle.job_protocol.proofs.Begun.{clean_of_so, commit_of_so}
 use Rattle.job_model.specs.declared.events.Op.TheVariants as ops
 use Rattle.job_steps.proofs.Actors.{put_here}
 use Rattle.job_actor.specs.Picks.{ArePicksOf, HasPicked, PicksGo, is_committing, is_job_commit}
@@ -14,23 +15,23 @@ use Rattle.job_side.proofs.Kept.{ahead_open, picks_of_kept}
 
 -- what an actor has begun then
 pub begun_running : (g : Setting) (x : Play) (ev : Event) (a : Actor) (op : Op) → BeginsBy ev a op
-    → open_running g x ev a ≡ begun (start_of g a op (missing g.script x.past.reported) (knows_now g x a)) (knows_now g x a)
+    → open_running g x ev a ≡ begun (start_of g a op (reports g.script x.past.reported) (knows_now g x a)) (knows_now g x a)
 begun_running g x (Do b o) a op h =
-    put_here x.running b _ a (sym h.0) ∙ ap (λ v. begun (start_of g v o (missing g.script x.past.reported) (knows_now g x v)) (knows_now g x v)) h.0
-    ∙ ap (λ v. begun (start_of g a v (missing g.script x.past.reported) (knows_now g x a)) (knows_now g x a)) h.1
+    put_here x.running b _ a (sym h.0) ∙ ap (λ v. begun (start_of g v o (reports g.script x.past.reported) (knows_now g x v)) (knows_now g x v)) h.0
+    ∙ ap (λ v. begun (start_of g a v (reports g.script x.past.reported) (knows_now g x a)) (knows_now g x a)) h.1
 begun_running g x (Start b o) a op h =
-    put_here x.running b _ a (sym h.0) ∙ ap (λ v. begun (start_of g v o (missing g.script x.past.reported) (knows_now g x v)) (knows_now g x v)) h.0
-    ∙ ap (λ v. begun (start_of g a v (missing g.script x.past.reported) (knows_now g x a)) (knows_now g x a)) h.1
+    put_here x.running b _ a (sym h.0) ∙ ap (λ v. begun (start_of g v o (reports g.script x.past.reported) (knows_now g x v)) (knows_now g x v)) h.0
+    ∙ ap (λ v. begun (start_of g a v (reports g.script x.past.reported) (knows_now g x a)) (knows_now g x a)) h.1
 begun_running g x (Step b n) a op h = absurd h
 begun_running g x _ a op h = absurd h
 
 -- only the driver's commit is the job's
-pub commit_begins : (g : Setting) (a : Actor) (op : Op) (m : Option ℕ) (k l : Known) → is_committing (begun (start_of g a op m k) l) ≡ true → (a ≡ Driver) × (op ≡ ops.Commit)
+pub commit_begins : (g : Setting) (a : Actor) (op : Op) (m : Reports) (k l : Known) → is_committing (begun (start_of g a op m k) l) ≡ true → (a ≡ Driver) × (op ≡ ops.Commit)
 commit_begins g Driver ops.Setup m k l h = absurd (false_true refl h)
 commit_begins g Driver ops.Write m k l h = absurd (false_true refl h)
 commit_begins g Driver ops.Commit m k l h = (refl, refl)
-commit_begins g Driver ops.Abort m k l h = absurd (false_true refl h)
-commit_begins g Driver ops.Clean m k l h = absurd (false_true refl h)
+commit_begins g Driver ops.Abort m k l h = absurd (false_true (clean_of_so g (λ o. is_job_commit o ≡ false) refl refl) h)
+commit_begins g Driver ops.Clean m k l h = absurd (false_true (clean_of_so g (λ o. is_job_commit o ≡ false) refl refl) h)
 commit_begins g (Attempt t n) ops.Setup m k l h = absurd (false_true refl h)
 commit_begins g (Attempt t n) ops.Write m k l h = absurd (false_true refl h)
 commit_begins g (Attempt t n) ops.Commit m k l h = absurd (false_true refl h)
@@ -44,8 +45,8 @@ begins_it (Start b o) a op h d c = ap (λ v. begins_commit (Start v o)) (h.0 ∙
 begins_it _ a op h d c = absurd h
 
 -- any other operation of the driver leaves what became of the commit
-not_committing : (g : Setting) (op : Op) (m : Option ℕ) (k l : Known) → is_committing (begun (start_of g Driver op m k) l) ≡ false → (d : Decided) → commit_begun Driver op d ≡ d
-not_committing g ops.Commit m k l h d = absurd (false_true h refl)
+not_committing : (g : Setting) (op : Op) (m : Reports) (k l : Known) → is_committing (begun (start_of g Driver op m k) l) ≡ false → (d : Decided) → commit_begun Driver op d ≡ d
+not_committing g ops.Commit m k l h d = absurd (false_true h (commit_of_so g (λ o. is_job_commit o ≡ true) (λ t. refl) (λ t. refl) m))
 not_committing g _ m k l h d = refl
 
 opened_commit : (g : Setting) (p : Past) (ev : Event) (op : Op) → BeginsBy ev Driver op → (open_event g.script p ev).commit ≡ commit_begun Driver op p.commit
@@ -101,13 +102,13 @@ module _ {W : Type 0} (is_of : Setting → Actor → W → Type 0) (running : Kn
       by None e = tt
       by (Some ps) e =
           let committing : is_committing ((happen g x (Opens ev)).running a) ≡ true = ap is_committing at ∙ sym (has_picks k work) ∙ ap (λ (o : Option (List Pick)). is_some o) e in
-          let it = commit_begins g a op (missing g.script x.past.reported) (knows_now g x a) (knows_now g x a) (sym (ap is_committing (begun_running g x ev a op begins)) ∙ committing) in
+          let it = commit_begins g a op (reports g.script x.past.reported) (knows_now g x a) (knows_now g x a) (sym (ap is_committing (begun_running g x ev a op begins)) ∙ committing) in
           subst (ArePicksOf g opening (happen g x (Opens ev))) (sym (nothing ps e)) (later_picks g opening x ev idle [] (nothing_before (begins_it ev a op begins it.0 it.1)))
 
   -- ---- the picks that are put by as the driver begins an operation
 
   module _ (op : Op) (begins : BeginsBy ev Driver op) (ps : List Pick) (old : PutBy g opening x ps) where
-    committing_is : is_committing ((happen g x (Opens ev)).running Driver) ≡ is_committing (begun (start_of g Driver op (missing g.script x.past.reported) (knows_now g x Driver)) (knows_now g x Driver))
+    committing_is : is_committing ((happen g x (Opens ev)).running Driver) ≡ is_committing (begun (start_of g Driver op (reports g.script x.past.reported) (knows_now g x Driver)) (knows_now g x Driver))
     committing_is = ap is_committing (begun_running g x ev Driver op begins)
 
     -- what is put by, and that it is as it should be where the driver begins another operation than the commit
@@ -148,7 +149,7 @@ module _ {W : Type 0} (is_of : Setting → Actor → W → Type 0) (running : Kn
     put_then : (qs : List Pick) → Put qs → PutBy g opening (happen g x (Opens ev)) qs
     put_then qs put = record {
       none = λ t.
-          let it = commit_begins g Driver op (missing g.script x.past.reported) (knows_now g x Driver) (knows_now g x Driver) (sym committing_is ∙ t) in
+          let it = commit_begins g Driver op (reports g.script x.past.reported) (knows_now g x Driver) (knows_now g x Driver) (sym committing_is ∙ t) in
           put.none (nothing_before (begins_it ev Driver op begins refl it.1));
       first = λ f xs a. put.first xs (ahead_open g x ev idle xs a);
       all = λ f m.

@@ -63,6 +63,6 @@ module _ (w : Script) (k : Kept) (p : Past) (s : Stands w k p) where
       by (Some a) e = (a, e, sym (busy_at q a e) ∙ busy)
 
 -- the same is kept of a past of which only the number of events is another one
-pub same_actors : (w : Script) (k l : Kept) (p q : Past) → Stands w k p → Stands w l q → q.state ≡ p.state → q.doing ≡ p.doing → l.actors ≡ k.actors
-same_actors w k l p q s t st d =
-    t.actors ∙ ap (λ (f : Actor → Standing). map f (actors w)) (λ i a. record { state = st i a; begun = option_map (λ v. v.op) (d i a) }) ∙ sym s.actors
+pub same_actors : (w : Script) (k l : Kept) (p q : Past) → Stands w k p → Stands w l q → q.state ≡ p.state → q.doing ≡ p.doing → q.reported ≡ p.reported → l.actors ≡ k.actors
+same_actors w k l p q s t st d r =
+    t.actors ∙ ap (λ (f : Actor → Standing). map f (actors w)) (λ i a. record { state = st i a; begun = option_map (λ v. v.op) (d i a); reported = r i a }) ∙ sym s.actors

@@ -1,6 +1,6 @@
 -- The events of a world.
 use Rattle.std.specs.Prelude.{◌≡◌, ℕ, ◌+◌, ◌<◌, ◌≤◌, ◌-◌, Bool, true, false, List, [], ◌∷◌, ◌++◌, length, map, slice_get, Option, Some, None, IsSome, IfOk, unwrap_or, Result, vec_len, vec_capacity}
-use Rattle.job_steps.specs.Prelude.{Entry, Request, Actor, Known, Op, Event, Do, Start, Step, Run, Kill, Mix, Restart, Recover, ActorEnd, EventEnd, Done, Ended, EventFault, OpEnd, Pick, knows, Setting, Running, who, start_of, Past, actors, refusal, past, missing, told, open_event, Turns, AllBy, busy_actors, of_event, by_actor, begun}
+use Rattle.job_steps.specs.Prelude.{Entry, Request, Actor, Known, Op, Event, Do, Start, Step, Run, Kill, Mix, Restart, Recover, ActorEnd, EventEnd, Done, Ended, EventFault, OpEnd, Pick, knows, Reports, reports, Setting, Running, who, start_of, Past, actors, refusal, past, told, open_event, Turns, AllBy, busy_actors, of_event, by_actor, begun}
 use Rattle.job_protocol.specs.Prelude.{Mixed}
 use Rattle.job_states.specs.Stands.{Stands, IsPlace}
 use Rattle.job_actor.specs.Plans.{IsPlanOf}
@@ -149,10 +149,14 @@ GivesPlan wants is_of running g a k (Some (At m)) = is_of g a m × (wants m ≡ 
 GivesPlan wants is_of running g a k (Some Empty) = ⊥
 GivesPlan wants is_of running g a k None = ⊥
 
+-- reports of which the first missing task is told alone
+abbrev pub of_tasks : Option ℕ → Reports
+of_tasks missing = record { missing = missing; attempts = [] }
+
 -- the operation that an actor begins, by what is past
 pub record IsWork {W : Type 0} (is_of : Setting → Actor → W → Type 0) (running : Known → W → Running) (picks_of : W → Option (List Pick)) (b : Body W) (a : Actor) (op : Op) (work : W) : Type 0 where
   pub goes_by : is_of (setting_of b) a work
-  pub starts : (p : Past) → Stands b.side.script b.side.states p → begun (start_of (setting_of b) a op (missing b.side.script p.reported) (knows_of b a)) (knows_of b a) ≡ Some (running (knows_of b a) work)
+  pub starts : (p : Past) → Stands b.side.script b.side.states p → begun (start_of (setting_of b) a op (reports b.side.script p.reported) (knows_of b a)) (knows_of b a) ≡ Some (running (knows_of b a) work)
   pub picks : (ps : List Pick) → picks_of work ≡ Some ps → ps ≡ []
 
 -- An event goes on in which the actor at a place began an operation: all holds, but for its hand; and the operation, where memory was

@@ -28,9 +28,9 @@ pub record IsTurn {W : Type 0} (b : Body W) : Type 0 where
   pub mine : is_mine b.side.others.items (b.shared.events + 1) ≡ true
   pub few : b.shared.events + 1 < 2 ^ 32
 
--- what a side goes by
+-- what a side goes by, whose job is alone at its destination
 abbrev pub setting_of : {W : Type 0} → Body W → Setting
-setting_of b = record { script = b.side.script; minimum = b.shared.opening.minimum }
+setting_of b = record { script = b.side.script; minimum = b.shared.opening.minimum; shared = false }
 
 -- the operation ended for want of memory; of the job's commit that is told
 pub record IsLost (x : Play) (a : Actor) : Type 0 where

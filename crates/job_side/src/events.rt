@@ -5,14 +5,14 @@ ghost use Rattle.job_model.specs.Attempts.{is_known};
 ghost use Rattle.job_model.specs.Legal.{IsEvent, HasOp, IsLegal};
 ghost use Rattle.commit_laws.specs.Fitting.{least_missing};
 ghost use Rattle.job_protocol.specs.Operations.{start_of};
-ghost use Rattle.job_spec.specs.States.{Past, missing, told};
+ghost use Rattle.job_spec.specs.States.{Past, reports, told};
 ghost use Rattle.job_safety.specs.Laws.{KeptAmong};
 ghost use Rattle.job_states.specs.Stands.{Stands, IsPlace};
 ghost use Rattle.job_actor.specs.Plans.{IsPlanOf};
 ghost use Rattle.job_side.specs.Sending.{Asks, hand_end};
 ghost use Rattle.job_side.specs.Holds.{Holds, Going, Quiet, IsTurn, Same, seen_by, all_sound, setting_of, is_busy_at};
 ghost use Rattle.job_side.specs.Beside.{RestsBeside};
-ghost use Rattle.job_side.specs.Events.{Next, Refuses, IsFine, HasRoom, end_of, ByTurns, Grown, IsAsBefore, IsOpened, Emptied, picks_in, knows_of, GivesPlan, IsWork, Begun, InHand, TakenUp, AllOf, BeginsBy, BeginsNone, HasBegun, HasEntered, AreBusy, IsStill, MayPlay, IsPast, event_entries};
+ghost use Rattle.job_side.specs.Events.{Next, Refuses, IsFine, HasRoom, end_of, ByTurns, Grown, IsAsBefore, IsOpened, Emptied, picks_in, knows_of, GivesPlan, of_tasks, IsWork, Begun, InHand, TakenUp, AllOf, BeginsBy, BeginsNone, HasBegun, HasEntered, AreBusy, IsStill, MayPlay, IsPast, event_entries};
 
 use crate::body::Body;
 use crate::hands::Hand;
@@ -138,8 +138,8 @@ impl<W: Works> Body<W> {
     fn reported_for(&self, op: Op) -> Result<TaskSet, AllocError>
         ensures { (p : Past) (k : Known) → Stands self.now.side.script self.now.side.states p
             → IfOk result (λ set. start_of (setting_of self.now) Driver op
-            (least_missing self.now.side.script.tasks set) k ≡
-            start_of (setting_of self.now) Driver op (missing self.now.side.script p.reported) k) }
+            (of_tasks (least_missing self.now.side.script.tasks set)) k ≡
+            start_of (setting_of self.now) Driver op (reports self.now.side.script p.reported) k) }
     {
         match op {
             Op::Commit => self.side.states.reported(self.shared.alloc),

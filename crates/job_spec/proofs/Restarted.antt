@@ -1,6 +1,6 @@
 -- what a restart leaves, and which operation decides a verdict
-use Rattle.std.proofs.Common.{◌≡◌, ℕ, suc, refl, ap, sym, ◌∙◌, ◌⊎◌, inl, inr, false, List, [], ◌∷◌, ◌++◌, length, Some}
-use Rattle.job_spec.specs.Prelude.{slice_get, Driver, Attempt, Script, Event, Start, Restart, SetupEnd, CommitEnd, OpEnd, EventEnd, Done, EventFault, Idle, ActorStage, Past, Decided, NotBegun, Unended, EndedSo, restarted, restart, first_not, missing, past, past_from, nothing_past, after_event, is_committing, end_verdict, verdict_or, verdict}
+use Rattle.std.proofs.Common.{◌≡◌, ℕ, suc, refl, ap, sym, ◌∙◌, ◌⊎◌, inl, inr, Bool, true, false, List, [], ◌∷◌, ◌++◌, length, Some, cond, nat_eq, ◌&&◌, ◌||◌}
+use Rattle.job_spec.specs.Prelude.{slice_get, Driver, Attempt, Script, Event, Start, Restart, SetupEnd, CommitEnd, OpEnd, EventEnd, Done, EventFault, Idle, ActorStage, Past, Decided, NotBegun, Unended, EndedSo, restarted, restart, first_not, missing, past, past_from, nothing_past, after_event, is_committing, end_verdict, verdict_or, verdict, Actor, Declared, is_reported}
 use Rattle.job_model.specs.declared.events.Op.TheVariants.{Commit}
 use Rattle.job_model.specs.declared.ends.SetupEnd.TheVariants as setups
 use Rattle.job_model.specs.declared.ends.CommitEnd.TheVariants as commits
@@ -8,6 +8,9 @@ use Rattle.job_model.specs.declared.ends.OpEnd.TheVariants as ends
 use Rattle.job_model.specs.declared.ends.EventEnd.TheVariants.{Refused}
 use Rattle.job_model.specs.declared.states.ActorStage.TheVariants as stage
 use Rattle.job_spec.specs.States.{count}
+use Rattle.job_model.specs.declared.ends.CheckEnd.{CheckEnd}
+use Rattle.job_model.specs.declared.ends.CheckEnd.TheVariants as checks
+use Rattle.job_protocol.specs.Prelude.{list_any}
 
 -- ---- one more event
 
@@ -44,14 +47,23 @@ pub stays_after : (w : Script) (xs : List EventEnd) → slice_get w.events (leng
     → ((past w (xs ++ Done ∷ [])).state Driver).stage ≡ ((past w xs).state Driver).stage
 stays_after w xs h k = stage_after w xs h ∙ other_stage ((past w xs).state Driver).stage k
 
-pub forgets_after : (w : Script) (xs : List EventEnd) → slice_get w.events (length xs) ≡ Some Restart → (t : ℕ) → (past w (xs ++ Done ∷ [])).reported t ≡ false
-forgets_after w xs h t = ap (λ (p : Past). p.reported t) (restart_after w xs h)
+pub forgets_after : (w : Script) (xs : List EventEnd) → slice_get w.events (length xs) ≡ Some Restart → (a : Actor) → (past w (xs ++ Done ∷ [])).reported a ≡ false
+forgets_after w xs h a = ap (λ (p : Past). p.reported a) (restart_after w xs h)
 
-first_missed : (tasks n : ℕ) → tasks ≡ suc n → first_not (λ t. false) 0 tasks ≡ Some 0
-first_missed tasks n h = ap (first_not (λ t. false) 0) h
+-- none reported any
+none_reports : (t : ℕ) (ds : List Declared) → list_any (λ a. nat_eq a.0.task t && false) ds ≡ false
+none_reports t [] = refl
+none_reports t (d ∷ ds) = ap (λ b. b || list_any (λ (a : Declared). nat_eq a.0.task t && false) ds) (and_false (nat_eq d.0.task t)) ∙ none_reports t ds
+  where
+    and_false : (b : Bool) → (b && false) ≡ false
+    and_false true = refl
+    and_false false = refl
+
+first_missed : (w : Script) (tasks n : ℕ) → tasks ≡ suc n → first_not (is_reported w (λ a. false)) 0 tasks ≡ Some 0
+first_missed w tasks n h = ap (first_not (is_reported w (λ a. false)) 0) h ∙ ap (λ b. cond b (first_not (is_reported w (λ a. false)) 1 n) (Some 0)) (none_reports 0 w.attempts)
 
 pub misses_after : (w : Script) (xs : List EventEnd) (n : ℕ) → slice_get w.events (length xs) ≡ Some Restart → w.tasks ≡ suc n → missing w (past w (xs ++ Done ∷ [])).reported ≡ Some 0
-misses_after w xs n h k = ap (λ (p : Past). missing w p.reported) (restart_after w xs h) ∙ first_missed w.tasks n k
+misses_after w xs n h k = ap (λ (p : Past). missing w p.reported) (restart_after w xs h) ∙ first_missed w w.tasks n k
 
 pub attempts_after : (w : Script) (xs : List EventEnd) → slice_get w.events (length xs) ≡ Some Restart → (t a : ℕ) → (past w (xs ++ Done ∷ [])).state (Attempt t a) ≡ (past w xs).state (Attempt t a)
 attempts_after w xs h t a = ap (λ (p : Past). p.state (Attempt t a)) (restart_after w xs h)
@@ -62,12 +74,18 @@ zero_setup : (e : SetupEnd) → end_verdict (ends.Setup e) ≡ 0 → ⊥
 zero_setup setups.Done h = cc
 zero_setup _ h = cc
 
+zero_check : (e : CheckEnd) → end_verdict (ends.Check e) ≡ 0 → ⊥
+zero_check checks.StoreFault h = cc
+zero_check checks.NoMemory h = cc
+zero_check _ h = cc
+
 zero_commit : (e : CommitEnd) → end_verdict (ends.Commit e) ≡ 0 → e ≡ commits.Committed
 zero_commit commits.Committed h = refl
 zero_commit _ h = absurd (cc)
 
 zero_end : (e : OpEnd) → end_verdict e ≡ 0 → e ≡ ends.Commit commits.Committed
 zero_end (ends.Setup e) h = absurd (zero_setup e h)
+zero_end (ends.Check e) h = absurd (zero_check e h)
 zero_end (ends.Commit e) h = ap ends.Commit (zero_commit e h)
 zero_end _ h = absurd (cc)
 

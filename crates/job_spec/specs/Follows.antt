@@ -14,7 +14,7 @@ known_then g a d es = knows g.script (who a) (before d.since es)
 
 -- the operation that an actor began, with what it knew then
 abbrev pub begun_as : Setting → Actor → Doing → List Entry → Option Operation
-begun_as g a d es = start_of g a d.op d.missing (known_then g a d es)
+begun_as g a d es = start_of g a d.op d.reports (known_then g a d es)
 
 -- an operation that an actor began, with what it knew then
 abbrev pub running : Setting → Actor → Doing → List Entry → Operation → Running

@@ -44,7 +44,7 @@ pub record RestartsAnew : Type 0 where
   pub stays : (w : Script) (xs : List EventEnd) → slice_get w.events (length xs) ≡ Some Restart → is_committing ((past w xs).state Driver).stage ≡ false
       → ((past w (xs ++ Done ∷ [])).state Driver).stage ≡ ((past w xs).state Driver).stage
   -- no report from before it counts, so a commit that begins right after it misses the first task there is
-  pub forgets : (w : Script) (xs : List EventEnd) → slice_get w.events (length xs) ≡ Some Restart → (t : ℕ) → (past w (xs ++ Done ∷ [])).reported t ≡ false
+  pub forgets : (w : Script) (xs : List EventEnd) → slice_get w.events (length xs) ≡ Some Restart → (a : Actor) → (past w (xs ++ Done ∷ [])).reported a ≡ false
   pub misses : (w : Script) (xs : List EventEnd) (n : ℕ) → slice_get w.events (length xs) ≡ Some Restart → w.tasks ≡ suc n → missing w (past w (xs ++ Done ∷ [])).reported ≡ Some 0
   -- attempts stay as they are
   pub attempts : (w : Script) (xs : List EventEnd) → slice_get w.events (length xs) ≡ Some Restart → (t a : ℕ) → (past w (xs ++ Done ∷ [])).state (Attempt t a) ≡ (past w xs).state (Attempt t a)

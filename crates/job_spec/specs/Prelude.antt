@@ -28,7 +28,7 @@ pub use Rattle.job_protocol.specs.JobCommits.{Commit, CommitOver, Completing, Fe
 pub use Rattle.job_protocol.specs.Knowledge.{drawn_in, is_set_path, knows, learn}
 pub use Rattle.job_protocol.specs.LaneTable.{Tabled}
 pub use Rattle.job_protocol.specs.Lanes.{Turn, abort, completion, deletion, nth}
-pub use Rattle.job_protocol.specs.Operations.{Operation, Running, Setting, TheClean, TheCommit, TheSetup, TheTaskAbort, TheTaskCommit, TheWrite, advance, asks, over, start_of, tells, wants}
+pub use Rattle.job_protocol.specs.Operations.{Operation, Reports, Running, Setting, TheCheck, TheClean, TheCommit, TheSetup, TheSparing, TheTaskAbort, TheTaskCommit, TheWrite, advance, asks, over, start_of, tells, wants}
 pub use Rattle.job_protocol.specs.Outputs.{Picks, files, first_where, is_clash, is_decided, is_picked, same_path, wanted, wanted_at}
 pub use Rattle.job_protocol.specs.Records.{file_key, file_record, files_set, mark_text, marker_key, record_key, record_text, set_text}
 pub use Rattle.job_protocol.specs.Setup.{Clearing, Heading, Setup, SetupOver, Sweeping, dest_prefix, setup_after, setup_asks, setup_start}
@@ -47,7 +47,7 @@ pub use Rattle.job_spec.specs.Promise.{CleansEnd, CommitEnds, CommitsEnd, Finish
 pub use Rattle.job_spec.specs.ReportText.{attempt_line, event_line, event_lines, pick_line}
 pub use Rattle.job_spec.specs.Scope.{NoClusterFile, NoneLive, NothingLeft, SameOutside, SameOutsideUpload, upload_in}
 pub use Rattle.job_spec.specs.Seen.{Seen, Times, is_begun, is_magic, is_marked, is_marking, is_picking, is_publishing, is_staging, nothing_seen, picks_by, see, see_all, see_by, seen}
-pub use Rattle.job_spec.specs.States.{Decided, Doing, EndedSo, NotBegun, Past, Unended, actors, after_event, begin, clean_event, commit_event, dead, decide, end_op, end_ops, end_verdict, ended, first_not, idle, is_commit, is_committing, is_done, kill, missing, nothing_past, open_event, past, past_from, put, refusal, report, restart, restarted, same_actor, stage_begun, stage_done, times, told, verdict, verdict_or}
+pub use Rattle.job_spec.specs.States.{Decided, Doing, EndedSo, NotBegun, Past, Unended, actors, after_event, begin, clean_event, commit_event, dead, decide, end_op, end_ops, end_verdict, ended, first_not, idle, is_commit, is_committing, is_done, is_reported, kill, missing, nothing_past, open_event, past, past_from, put, refusal, report, reports, restart, restarted, same_actor, stage_begun, stage_done, times, told, verdict, verdict_or}
 pub use Rattle.job_spec.specs.Turns.{AllBy, AllFrom, AllUpTo, IsRising, Mixing, StepEnds, Turns, before, by_actor, draw, is_busy, is_memory, is_own, is_wanting, mix_begins, of_event, own, place, since, until, until_last}
 pub use Rattle.magic_paths.specs.Layout.{cluster_prefix, magic_prefix, success_key}
 pub use Rattle.magic_paths.specs.Places.{ClusterPlace, FilePlace, MarkerPlace, Place, RecordPlace, SetPlace, StagedSetPlace, SuccessPlace, TemporaryPlace, is_open, key_at, path_at}

@@ -45,7 +45,7 @@ ArePicked ps all = (others : List Pick) × (ps ++ others ≡ all)
 
 -- what stays while a job's operations go on: its script, and the least size of a part
 abbrev pub setting : Script → Content → Setting
-setting w opening = record { script = w; minimum = opening.minimum }
+setting w opening = record { script = w; minimum = opening.minimum; shared = false }
 
 -- the driver's set-up, where no stranger sends
 abbrev pub SetupsEnd : Script → Content → List Entry → List EventEnd → Type 0
@@ -71,7 +71,7 @@ CleansEnd w opening journal xs = (j : ℕ) (d : Doing) (e : CleanEnd) (es : List
 
 -- the driver's commit, where no stranger sends: the end that is due, and what it leaves
 pub record CommitEnds (w : Script) (opening : Content) (journal : List Entry) (xs : List EventEnd) (j : ℕ) (d : Doing) (e : CommitEnd) (es : List Entry) : Type 0 where
-  pub due : AreOwn journal → CommitEnded w (seen_until w opening journal xs (j + 1)) d.missing es e
+  pub due : AreOwn journal → CommitEnded w (seen_until w opening journal xs (j + 1)) d.reports.missing es e
   -- where it ended Committed its marker stands
   pub marked : e ≡ commits.Committed → AreOwn journal → is_marked w (seen_until w opening journal xs (j + 1)) ≡ true
   -- before anything was deleted or completed the destination shows its opening files, at each moment of the run

@@ -1,9 +1,11 @@
 -- Lives and stages of a job's actors, what each began last, and what its driver knows: one fold over its events and their ends.
 use Rattle.std.specs.Prelude.{ℕ, zero, suc, ◌+◌, ◌&&◌, ◌||◌, nat_eq, not, Bool, true, false, cond, List, [], ◌∷◌, map, Option, Some, None, if◌then◌else◌}
-use Rattle.job_protocol.specs.Prelude.{Actor, Driver, Attempt, Shell, actor_of, Script, Op, Abort, Event, Do, Start, Step, Run, Kill, Mix, Restart, Recover, SetupEnd, TaskEnd, CommitEnd, CleanEnd, OpEnd, ActorEnd, EventEnd, Done, Ended, Mixed, EventFault, Life, Idle, Busy, Dead, ActorStage, ActorState}
+use Rattle.job_protocol.specs.Prelude.{list_any, filter, Reports, Actor, Driver, Attempt, Shell, actor_of, Script, Op, Abort, Event, Do, Start, Step, Run, Kill, Mix, Restart, Recover, SetupEnd, TaskEnd, CommitEnd, CleanEnd, OpEnd, ActorEnd, EventEnd, Done, Ended, Mixed, EventFault, Life, Idle, Busy, Dead, ActorStage, ActorState}
 use Rattle.job_model.specs.declared.events.Op.TheVariants.{Setup, Write, Commit, Clean}
 use Rattle.job_model.specs.declared.ends.SetupEnd.TheVariants as setups
 use Rattle.job_model.specs.declared.ends.TaskEnd.TheVariants as tasks
+use Rattle.job_model.specs.declared.ends.CheckEnd.{CheckEnd}
+use Rattle.job_model.specs.declared.ends.CheckEnd.TheVariants as checks
 use Rattle.job_model.specs.declared.ends.CommitEnd.TheVariants as commits
 use Rattle.job_model.specs.declared.ends.CleanEnd.TheVariants as cleans
 use Rattle.job_model.specs.declared.ends.OpEnd.TheVariants as ends
@@ -62,6 +64,11 @@ commit_ended commits.Committed s = idle stage.Committed
 commit_ended commits.NoMemory s = dead s
 commit_ended _ s = idle stage.Failed
 
+-- the driver's state after a check that ended so, behind which no commit goes on
+abbrev pub check_ended : CheckEnd → ActorStage → ActorState
+check_ended checks.NoMemory s = dead s
+check_ended _ s = idle stage.Failed
+
 -- the driver's state after an abort or clean that ended so
 abbrev pub clean_ended : CleanEnd → ActorStage → ActorState
 clean_ended cleans.NoMemory s = dead s
@@ -79,6 +86,7 @@ abbrev pub ended : OpEnd → ActorStage → ActorState
 ended (ends.Setup e) s = setup_ended e s
 ended (ends.Commit e) s = commit_ended e s
 ended (ends.Clean e) s = clean_ended e s
+ended (ends.Check e) s = check_ended e s
 ended (ends.Task e) s = task_ended e s
 ended ends.NoMemory s = dead s
 
@@ -93,11 +101,11 @@ restarted s = s
 abbrev pub put : {X : Type 0} → (Actor → X) → Actor → X → Actor → X
 put f a v b = cond (same_actor b a) v (f b)
 
--- an operation that an actor began: in which event, and, for the driver's commit, the least task of which none reported its commit then
+-- an operation that an actor began: in which event, and what the driver knew of its tasks then
 pub record Doing : Type 0 where
   pub op : Op
   pub since : ℕ
-  pub missing : Option ℕ
+  pub reports : Reports
 
 -- what became of the last one of a kind of the driver's operations
 pub data Decided : Type 0 where
@@ -115,8 +123,8 @@ pub record Past : Type 0 where
   pub doing : Actor → Option Doing
   -- the job attempt's number: a restart gives the next one
   pub attempt : ℕ
-  -- the tasks of which an attempt ended its commit Done since the last restart
-  pub reported : ℕ → Bool
+  -- who ended a commit of a task Done since the last restart
+  pub reported : Actor → Bool
   -- the driver's last set-up, and its commit
   pub setup : Decided
   pub commit : Decided
@@ -126,9 +134,17 @@ abbrev pub first_not : (ℕ → Bool) → ℕ → ℕ → Option ℕ
 first_not p t zero = None
 first_not p t (suc n) = cond (p t) (first_not p (t + 1) n) (Some t)
 
--- the least task of which none has reported its commit
-abbrev pub missing : Script → (ℕ → Bool) → Option ℕ
-missing w reported = first_not reported 0 w.tasks
+-- one of the task's attempts has reported its commit
+abbrev pub is_reported : Script → (Actor → Bool) → ℕ → Bool
+is_reported w reported t = list_any (λ a. nat_eq a.0.task t && reported (actor_of a.0)) w.attempts
+
+-- the least task of which none has
+abbrev pub missing : Script → (Actor → Bool) → Option ℕ
+missing w reported = first_not (is_reported w reported) 0 w.tasks
+
+-- that, and the attempts that have, in script order
+abbrev pub reports : Script → (Actor → Bool) → Reports
+reports w reported = record { missing = missing w reported; attempts = filter (λ a. reported (actor_of a)) (map (λ a. a.0) w.attempts) }
 
 -- what is known of the driver's last set-up once an operation begins
 abbrev pub setup_begun : Actor → Op → Decided → Decided
@@ -145,7 +161,7 @@ abbrev pub begin : Script → Past → Actor → Op → Past
 begin w p a op = record {
   events = p.events;
   state = put p.state a (record { life = Busy; stage = stage_begun a op (p.state a).stage });
-  doing = put p.doing a (Some (record { op = op; since = p.events + 1; missing = missing w p.reported }));
+  doing = put p.doing a (Some (record { op = op; since = p.events + 1; reports = reports w p.reported }));
   attempt = p.attempt;
   reported = p.reported;
   setup = setup_begun a op p.setup;
@@ -158,7 +174,7 @@ kill p a = record p { state = put p.state a (dead (p.state a).stage) }
 
 -- a new driver, which knows no report of the earlier ones
 abbrev pub restart : Past → Past
-restart p = record p { state = put p.state Driver (idle (restarted (p.state Driver).stage)); attempt = p.attempt + 1; reported = λ t. false }
+restart p = record p { state = put p.state Driver (idle (restarted (p.state Driver).stage)); attempt = p.attempt + 1; reported = λ a. false }
 
 -- what an event that is not refused does before its requests
 abbrev pub open_event : Script → Past → Event → Past
@@ -181,11 +197,9 @@ abbrev pub is_done : OpEnd → Bool
 is_done (ends.Task tasks.Done) = true
 is_done _ = false
 
--- the end of an attempt's commit reports its task
-abbrev pub report : Actor → ActorStage → OpEnd → (ℕ → Bool) → ℕ → Bool
-report (Attempt task attempt) s e reported t = reported t || (nat_eq t task && (is_committing s && is_done e))
-report Driver s e reported t = reported t
-report Shell s e reported t = reported t
+-- the end of an attempt's commit reports it
+abbrev pub report : Actor → ActorStage → OpEnd → (Actor → Bool) → Actor → Bool
+report a s e reported = put reported a (reported a || (is_committing s && is_done e))
 
 -- what an actor began last is a set-up
 abbrev pub is_setup : Option Doing → Bool
@@ -256,7 +270,7 @@ after_event w p ev end = count (end_ops (open_event w p ev) (told ev end))
 
 -- all begin idle and new
 abbrev pub nothing_past : Past
-nothing_past = record { events = 0; state = λ a. idle stage.New; doing = λ a. None; attempt = 1; reported = λ t. false; setup = NotBegun; commit = NotBegun }
+nothing_past = record { events = 0; state = λ a. idle stage.New; doing = λ a. None; attempt = 1; reported = λ a. false; setup = NotBegun; commit = NotBegun }
 
 -- what is past after these events with these ends
 abbrev pub past_from : Script → Past → List Event → List EventEnd → Past
@@ -405,7 +419,7 @@ commit_event w xs = commit_from 1 w.events xs
 abbrev pub clean_event : Script → List EventEnd → Option ℕ
 clean_event w xs = event_from begins_clean 1 w.events xs
 
--- both
+-- the events of the job's commit and of its first abort or clean, if they are any
 abbrev pub times : Script → List EventEnd → Times
 times w xs = record { commit = commit_event w xs; clean = clean_event w xs }
 
@@ -416,6 +430,8 @@ abbrev pub end_verdict : OpEnd → ℕ
 end_verdict (ends.Commit commits.Committed) = 0
 end_verdict (ends.Commit (commits.StoreFault s)) = 8
 end_verdict (ends.Commit commits.NoMemory) = 9
+end_verdict (ends.Check checks.StoreFault) = 8
+end_verdict (ends.Check checks.NoMemory) = 9
 end_verdict (ends.Setup setups.StoreFault) = 8
 end_verdict (ends.Setup setups.NoMemory) = 9
 end_verdict ends.NoMemory = 9

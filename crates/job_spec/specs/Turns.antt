@@ -6,6 +6,7 @@ use Rattle.job_model.specs.declared.events.Op.TheVariants as ops
 use Rattle.job_model.specs.declared.ends.OpEnd.TheVariants as ends
 use Rattle.job_model.specs.declared.ends.TaskEnd.TheVariants as tasks
 use Rattle.job_model.specs.declared.ends.SetupEnd.TheVariants as setups
+use Rattle.job_model.specs.declared.ends.CheckEnd.TheVariants as checks
 use Rattle.job_model.specs.declared.ends.CommitEnd.TheVariants as commits
 use Rattle.job_model.specs.declared.ends.CleanEnd.TheVariants as cleans
 use Rattle.job_spec.specs.States.{same_actor, actors}
@@ -80,6 +81,7 @@ is_memory (ends.Setup setups.NoMemory) = true
 is_memory (ends.Commit commits.NoMemory) = true
 is_memory (ends.Clean cleans.NoMemory) = true
 is_memory (ends.Task tasks.NoMemory) = true
+is_memory (ends.Check checks.NoMemory) = true
 is_memory _ = false
 
 -- want of memory, as it is told of this operation of an actor: as its own end, or as that of any
@@ -87,6 +89,7 @@ abbrev pub is_wanting : Actor → Op → OpEnd → Bool
 is_wanting a op ends.NoMemory = true
 is_wanting Driver ops.Setup (ends.Setup setups.NoMemory) = true
 is_wanting Driver ops.Commit (ends.Commit commits.NoMemory) = true
+is_wanting Driver ops.Commit (ends.Check checks.NoMemory) = true
 is_wanting Driver ops.Abort (ends.Clean cleans.NoMemory) = true
 is_wanting Driver ops.Clean (ends.Clean cleans.NoMemory) = true
 is_wanting (Attempt task attempt) op (ends.Task tasks.NoMemory) = true

@@ -1,4 +1,5 @@
 pub mod PlaceLemmas
 pub mod ReportLemmas
+pub mod ToldLemmas
 pub mod StandsLemmas
 pub mod FoldLemmas

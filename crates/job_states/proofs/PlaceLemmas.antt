@@ -160,16 +160,16 @@ shell_place w = record {
     only (suc j) b e = attempt_not_shell w.attempts j b e
 
 -- names that are the same
-name_exact : (x y : Who) → same_name x y ≡ true → x ≡ y
+pub name_exact : (x y : Who) → same_name x y ≡ true → x ≡ y
 name_exact x y h =
     let parts = both (eqb x.task y.task) (eqb x.attempt y.attempt) h in
     λ i. record { task = eqb-true x.task y.task parts.0 i; attempt = eqb-true x.attempt y.attempt parts.1 i }
 
-turned : (m n : ℕ) → nat_eq m n ≡ nat_eq n m
+pub turned : (m n : ℕ) → nat_eq m n ≡ nat_eq n m
 turned m n = grind (arith, nat_tests)
 
 -- an attempt's actor is another's exactly where their names are the same
-name_of_actor : (x y : Who) → same_actor (actor_of y) (actor_of x) ≡ same_name x y
+pub name_of_actor : (x y : Who) → same_actor (actor_of y) (actor_of x) ≡ same_name x y
 name_of_actor x y = λ i. turned y.task x.task i && turned y.attempt x.attempt i
 
 each_at : (P : Who → Type 0) (ns : List Who) (j : ℕ) (q : Who) → AllByRecursion P ns → slice_get ns j ≡ Some q → P q

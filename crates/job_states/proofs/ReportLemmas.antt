@@ -190,11 +190,11 @@ pub none_reported : (tasks : ℕ) → replicate tasks false ≡ tested tasks (λ
 none_reported tasks = none_yet 0 tasks
 
 -- a list with nothing of what is behind it
-pub whole : (n : ℕ) (xs ys : List Bool) → n ≡ length xs → take n (xs ++ ys) ≡ xs
+pub whole : {A : Type 0} (n : ℕ) (xs ys : List A) → n ≡ length xs → take n (xs ++ ys) ≡ xs
 whole zero [] ys e = refl
 whole (suc n) [] ys e = absurd (omega arith)
 whole zero (x ∷ xs) ys e = absurd (omega arith)
-whole (suc n) (x ∷ xs) ys e = ap (λ (l : List Bool). x ∷ l) (whole n xs ys (omega arith))
+whole (suc n) (x ∷ xs) ys e = ap (λ l. x ∷ l) (whole n xs ys (omega arith))
 
 -- ---- a set that grows
 

@@ -1,10 +1,11 @@
 -- What is kept goes with the fold over events and ends.
 use Rattle.std.proofs.Common.{◌≡◌, ℕ, ◌+◌, Bool, true, false, true≢false, cond, ◌&&◌, ◌||◌, nat_eq, Option, Some, None, refl, sym, ap, subst, ◌∙◌}
 use Rattle.std.specs.Prelude.{option_map}
-use Rattle.job_spec.specs.Prelude.{Actor, Driver, Attempt, Shell, is_known, Script, Op, OpEnd, ActorEnd, Busy, ActorStage, ActorState, Past, Doing, Decided, same_actor, put, idle, dead, ended, restarted, begin, kill, restart, end_op, report, is_committing, is_done, is_commit, decide, stage_begun, stage_done, missing}
+use Rattle.job_spec.specs.Prelude.{Actor, Driver, Attempt, Shell, is_known, Script, Op, OpEnd, ActorEnd, Busy, ActorStage, ActorState, Past, Doing, Decided, same_actor, put, idle, dead, ended, restarted, begin, kill, restart, end_op, report, is_reported, reports, is_committing, is_done, is_commit, decide, stage_begun, stage_done, missing}
 use Rattle.job_model.specs.declared.events.Op.TheVariants.{Setup, Commit}
 use Rattle.job_model.specs.declared.ends.SetupEnd.TheVariants as setups
 use Rattle.job_model.specs.declared.ends.TaskEnd.TheVariants as tasks
+use Rattle.job_model.specs.declared.ends.CheckEnd.TheVariants as checks
 use Rattle.job_model.specs.declared.ends.CommitEnd.TheVariants as commits
 use Rattle.job_model.specs.declared.ends.CleanEnd.TheVariants as cleans
 use Rattle.job_model.specs.declared.ends.OpEnd.TheVariants as ends
@@ -12,19 +13,26 @@ use Rattle.job_model.specs.declared.states.ActorStage.TheVariants as stage
 use Rattle.job_spec.specs.States.{is_setup}
 use Rattle.job_states.specs.declared.standing.Standing.{Standing}
 use Rattle.job_states.specs.Standing.{standing, fresh, begun_in, ended_in, killed_in, renewed_in, began, same_op, decision}
-use Rattle.job_states.specs.Stands.{tested, ChangesAt}
+use Rattle.job_states.specs.Stands.{tested, told_by, ChangesAt}
 use Rattle.job_states.proofs.PlaceLemmas.{same_exact, same_own}
+use Rattle.job_states.proofs.ReportLemmas.{same_tests}
+use Rattle.job_states.proofs.ToldLemmas.{told_more}
 
 -- ---- how one actor stands afterwards
 
-kept_if : (b : Bool) (x y : ActorState) (last : Option Op) → Standing
-kept_if b x y last = record { state = cond b x y; begun = last }
+kept_if : (b : Bool) (x y : ActorState) (last : Option Op) (r : Bool) → Standing
+kept_if b x y last r = record { state = cond b x y; begun = last; reported = r }
+
+-- the same, and what has been reported changes with it
+told_if : (b : Bool) (x y : ActorState) (last : Option Op) (r s : Bool) → Standing
+told_if b x y last r s = record { state = cond b x y; begun = last; reported = cond b r s }
 
 pub changes_end : (w : Script) (p : Past) (x : ActorEnd) (s : Standing) → (is_known w.attempts x.actor ≡ true → s ≡ standing p x.actor)
     → ChangesAt w x.actor (ended_in x.end s) (standing p) (standing (end_op p x))
-unfolding kept_if
+unfolding told_if
 changes_end w p x s h =
-    let at : Actor → Bool → Standing = λ b t. kept_if t (ended x.end (p.state x.actor).stage) (p.state b) (option_map (λ d. d.op) (p.doing b)) in record {
+    let at : Actor → Bool → Standing = λ b t.
+    told_if t (ended x.end (p.state x.actor).stage) (p.state b) (option_map (λ d. d.op) (p.doing b)) (p.reported x.actor || (is_committing (p.state x.actor).stage && is_done x.end)) (p.reported b) in record {
       here = λ k. ap (at x.actor) (same_own x.actor) ∙ ap (ended_in x.end) (sym (h k));
       elsewhere = λ b ne. ap (at b) ne;
     }
@@ -32,26 +40,30 @@ changes_end w p x s h =
 pub changes_kill : (w : Script) (p : Past) (a : Actor) (s : Standing) → (is_known w.attempts a ≡ true → s ≡ standing p a) → ChangesAt w a (killed_in s) (standing p) (standing (kill p a))
 unfolding kept_if
 changes_kill w p a s h =
-    let at : Actor → Bool → Standing = λ b t. kept_if t (dead (p.state a).stage) (p.state b) (option_map (λ d. d.op) (p.doing b)) in record {
+    let at : Actor → Bool → Standing = λ b t. kept_if t (dead (p.state a).stage) (p.state b) (option_map (λ d. d.op) (p.doing b)) (p.reported b) in record {
       here = λ k. ap (at a) (same_own a) ∙ ap killed_in (sym (h k));
       elsewhere = λ b ne. ap (at b) ne;
     }
 
-pub changes_restart : (w : Script) (p : Past) (s : Standing) → (is_known w.attempts Driver ≡ true → s ≡ standing p Driver) → ChangesAt w Driver (renewed_in s) (standing p) (standing (restart p))
+-- a new driver that still knows the reports
+abbrev pub renew : Past → Past
+renew p = record p { state = put p.state Driver (idle (restarted (p.state Driver).stage)) }
+
+pub changes_restart : (w : Script) (p : Past) (s : Standing) → (is_known w.attempts Driver ≡ true → s ≡ standing p Driver) → ChangesAt w Driver (renewed_in s) (standing p) (standing (renew p))
 unfolding kept_if
 changes_restart w p s h =
-    let at : Actor → Bool → Standing = λ b t. kept_if t (idle (restarted (p.state Driver).stage)) (p.state b) (option_map (λ d. d.op) (p.doing b)) in record {
+    let at : Actor → Bool → Standing = λ b t. kept_if t (idle (restarted (p.state Driver).stage)) (p.state b) (option_map (λ d. d.op) (p.doing b)) (p.reported b) in record {
       here = λ k. ap (at Driver) (same_own Driver) ∙ ap renewed_in (sym (h k));
       elsewhere = λ b ne. ap (at b) ne;
     }
 
-begun_if : (t : Bool) (x y : ActorState) (d e : Option Doing) → Standing
-begun_if t x y d e = record { state = cond t x y; begun = option_map (λ q. q.op) (cond t d e) }
+begun_if : (t : Bool) (x y : ActorState) (d e : Option Doing) (r : Bool) → Standing
+begun_if t x y d e r = record { state = cond t x y; begun = option_map (λ q. q.op) (cond t d e); reported = r }
 
 pub changes_begin : (w : Script) (p : Past) (a : Actor) (op : Op) (s : Standing) → (is_known w.attempts a ≡ true → s ≡ standing p a) → ChangesAt w a (begun_in a op s) (standing p) (standing (begin w p a op))
 unfolding begun_if
 changes_begin w p a op s h =
-    let at : Actor → Bool → Standing = λ b t. begun_if t (record { life = Busy; stage = stage_begun a op (p.state a).stage }) (p.state b) (Some (record { op = op; since = p.events + 1; missing = missing w p.reported })) (p.doing b) in record {
+    let at : Actor → Bool → Standing = λ b t. begun_if t (record { life = Busy; stage = stage_begun a op (p.state a).stage }) (p.state b) (Some (record { op = op; since = p.events + 1; reports = reports w p.reported })) (p.doing b) (p.reported b) in record {
       here = λ k. ap (at a) (same_own a) ∙ ap (begun_in a op) (sym (h k));
       elsewhere = λ b ne. ap (at b) ne;
     }
@@ -65,6 +77,7 @@ never_done _ = refl
 never : (e : OpEnd) (s : ActorStage) → is_committing s ≡ false → is_committing (ended e s).stage ≡ false
 never (ends.Setup setups.NoMemory) s h = h
 never (ends.Commit commits.NoMemory) s h = h
+never (ends.Check checks.NoMemory) s h = h
 never (ends.Clean cleans.Done) s h = h
 never (ends.Clean cleans.StoreFault) s h = h
 never (ends.Clean cleans.NoMemory) s h = h
@@ -104,10 +117,12 @@ others_restart w p h = others_put w p Driver (idle (restarted (p.state Driver).s
 
 -- ---- what an end reports and decides
 
--- a stage that is committing as much reports as much
-pub same_report : (tasks : ℕ) (a : Actor) (s t : ActorStage) (e : OpEnd) (f : ℕ → Bool) → is_committing s ≡ is_committing t → tested tasks (report a s e f) ≡ tested tasks (report a t e f)
-same_report n (Attempt task attempt) s t e f h = ap (λ b. tested n (λ q. f q || (nat_eq q task && (b && is_done e)))) h
-same_report n _ s t e f h = refl
+-- what ends at a stage that is committing as much reports as much, by an attempt of the job alone
+pub same_report : (w : Script) (a : Actor) (s t : ActorStage) (e : OpEnd) (f : Actor → Bool) → is_committing s ≡ is_committing t → (is_known w.attempts a ≡ false → is_committing t ≡ false)
+    → tested w.tasks (told_by a (is_committing s && is_done e) (is_reported w f)) ≡ tested w.tasks (is_reported w (report a t e f))
+same_report w a s t e f h own =
+    same_tests (told_by a (is_committing s && is_done e) (is_reported w f)) (is_reported w (report a t e f)) 0 w.tasks
+    (λ q. ap (λ b. told_by a (b && is_done e) (is_reported w f) q) h ∙ sym (told_more w a (is_committing t && is_done e) f q (λ no. ap (λ b. b && is_done e) (own no))))
 
 -- the stage of a declared actor as it is kept, and of another one that has begun nothing
 pub same_stage : (w : Script) (p : Past) (a : Actor) (s : Standing) → ((b : Actor) → is_known w.attempts b ≡ false → is_committing (p.state b).stage ≡ false) → (is_known w.attempts a ≡ true → s ≡ standing p a) → (is_known w.attempts a ≡ false → s ≡ fresh)

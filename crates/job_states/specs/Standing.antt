@@ -1,6 +1,6 @@
 -- How an actor stands, and what became of the driver's operations, as they are kept.
-use Rattle.std.specs.Prelude.{Bool, true, false, Option, Some, None, option_map}
-use Rattle.job_spec.specs.Prelude.{Actor, Op, OpEnd, Past, Decided, NotBegun, Unended, EndedSo, idle, dead, stage_begun, ended, restarted, end_verdict}
+use Rattle.std.specs.Prelude.{Bool, true, false, ◌&&◌, ◌||◌, Option, Some, None, option_map}
+use Rattle.job_spec.specs.Prelude.{Actor, Op, OpEnd, Past, Decided, NotBegun, Unended, EndedSo, idle, dead, stage_begun, ended, restarted, end_verdict, is_committing, is_done}
 use Rattle.job_model.specs.declared.events.Op.TheVariants as ops
 use Rattle.job_model.specs.declared.states.Life.TheVariants as lives
 use Rattle.job_model.specs.declared.states.ActorStage.TheVariants as stages
@@ -8,29 +8,33 @@ use Rattle.job_states.specs.declared.standing.Standing.{Standing}
 use Rattle.job_states.specs.declared.standing.Decision.{Decision}
 use Rattle.job_states.specs.declared.standing.Decision.TheVariants as kept
 
--- an actor's state, and the operation that it began last
+-- an actor's state, the operation that it began last, and whether it has reported
 abbrev pub standing : Past → Actor → Standing
-standing p a = record { state = p.state a; begun = option_map (λ d. d.op) (p.doing a) }
+standing p a = record { state = p.state a; begun = option_map (λ d. d.op) (p.doing a); reported = p.reported a }
 
 -- an actor that has begun nothing
 abbrev pub fresh : Standing
-fresh = record { state = idle stages.New; begun = None }
+fresh = record { state = idle stages.New; begun = None; reported = false }
 
 -- how one stands that begins an operation
 abbrev pub begun_in : Actor → Op → Standing → Standing
-begun_in a op s = record { state = record { life = lives.Busy; stage = stage_begun a op s.state.stage }; begun = Some op }
+begun_in a op s = record { state = record { life = lives.Busy; stage = stage_begun a op s.state.stage }; begun = Some op; reported = s.reported }
 
 -- how one stands whose operation ended
 abbrev pub ended_in : OpEnd → Standing → Standing
-ended_in end s = record { state = ended end s.state.stage; begun = s.begun }
+ended_in end s = record { state = ended end s.state.stage; begun = s.begun; reported = s.reported || (is_committing s.state.stage && is_done end) }
 
 -- how one stands that was killed
 abbrev pub killed_in : Standing → Standing
-killed_in s = record { state = dead s.state.stage; begun = s.begun }
+killed_in s = record s { state = dead s.state.stage }
 
 -- how a new driver stands in the place of one
 abbrev pub renewed_in : Standing → Standing
-renewed_in s = record { state = idle (restarted s.state.stage); begun = s.begun }
+renewed_in s = record s { state = idle (restarted s.state.stage) }
+
+-- how one stands of whom no report is known
+abbrev pub unreported_in : Standing → Standing
+unreported_in s = record s { reported = false }
 
 -- two operations are the same
 abbrev pub same_op : Op → Op → Bool

@@ -1,6 +1,6 @@
 -- What is kept of a script's past.
-use Rattle.std.specs.Prelude.{◌≡◌, ℕ, ◌<◌, nat_eq, ◌+◌, Bool, true, false, List, [], ◌∷◌, map, length, slice_get, Option, Some, None, is_some, IfSome, cond}
-use Rattle.job_spec.specs.Prelude.{range_with_len, Actor, is_known, Script, Past, same_actor, actors, is_committing, is_busy}
+use Rattle.std.specs.Prelude.{◌≡◌, ℕ, ◌<◌, nat_eq, ◌+◌, ◌&&◌, ◌||◌, Bool, true, false, List, [], ◌∷◌, map, length, slice_get, Option, Some, None, is_some, IfSome, cond}
+use Rattle.job_spec.specs.Prelude.{range_with_len, Actor, Attempt, is_known, Script, Past, same_actor, actors, is_committing, is_reported, is_busy}
 use Rattle.job_states.specs.declared.standing.Standing.{Standing}
 use Rattle.job_states.specs.declared.standing.Decision.{Decision}
 use Rattle.job_states.specs.Standing.{standing, decision}
@@ -18,13 +18,18 @@ pub record Kept : Type 0 where
 abbrev pub tested : ℕ → (ℕ → Bool) → List Bool
 tested tasks f = map f (range_with_len 0 tasks)
 
+-- one more task is reported, where an attempt did so
+abbrev pub told_by : Actor → Bool → (ℕ → Bool) → ℕ → Bool
+told_by (Attempt task attempt) done f t = f t || (nat_eq t task && done)
+told_by _ done f t = f t
+
 -- what is kept is what is past of a script
 pub record Stands (w : Script) (k : Kept) (p : Past) : Type 0 where
   pub events : k.events ≡ p.events
   -- the driver, and then the attempts in script order
   pub actors : k.actors ≡ map (standing p) (actors w)
   pub attempt : k.attempt ≡ p.attempt
-  pub reported : k.reported ≡ tested w.tasks p.reported
+  pub reported : k.reported ≡ tested w.tasks (is_reported w p.reported)
   pub setup : k.setup ≡ decision p.setup
   pub commit : k.commit ≡ decision p.commit
   -- who is not of the job is not kept; it never commits

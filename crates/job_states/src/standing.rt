@@ -1,15 +1,18 @@
 ghost use Rattle.std.specs.Prelude.{◌≡◌, ◌&&◌};
 ghost use Rattle.job_spec.specs.States.{Decided, stage_begun, stage_done, restarted, task_ended, ended, is_committing, is_done, setup_begun, commit_begun, decide, end_verdict, verdict_or};
-ghost use Rattle.job_states.specs.Standing.{decision, begun_in, ended_in, killed_in, renewed_in, began};
+ghost use Rattle.job_states.specs.Standing.{decision, begun_in, ended_in, killed_in, renewed_in, unreported_in, began};
 
-use job_model::{ActorStage, ActorState, CleanEnd, CommitEnd, Life, Op, OpEnd, SetupEnd, TaskEnd};
+use job_model::{
+    ActorStage, ActorState, CheckEnd, CleanEnd, CommitEnd, Life, Op, OpEnd, SetupEnd, TaskEnd,
+};
 use s3_types::Actor;
 
-/// An actor's state, and the operation that it began last.
+/// An actor's state, the operation that it began last, and whether it has reported a task since the last restart.
 #[derive(Clone, Copy, Debug, PartialEq, Eq)]
 pub struct Standing {
     pub state: ActorState,
     pub begun: Option<Op>,
+    pub reported: bool,
 }
 
 /// What became of the last one of a kind of the driver's operations.
@@ -29,6 +32,7 @@ pub const FRESH: Standing = Standing {
         stage: ActorStage::New,
     },
     begun: None,
+    reported: false,
 };
 
 /// The stage that the start of an operation gives.
@@ -86,11 +90,12 @@ fn ended(end: &OpEnd, stage: ActorStage) -> ActorState
         OpEnd::Setup(SetupEnd::Done) => (Life::Idle, ActorStage::Set),
         OpEnd::Commit(CommitEnd::Committed) => (Life::Idle, ActorStage::Committed),
         OpEnd::Setup(SetupEnd::NoMemory)
+        | OpEnd::Check(CheckEnd::NoMemory)
         | OpEnd::Commit(CommitEnd::NoMemory)
         | OpEnd::Clean(CleanEnd::NoMemory)
         | OpEnd::NoMemory => (Life::Dead, stage),
         OpEnd::Setup(_) => (Life::Idle, ActorStage::New),
-        OpEnd::Commit(_) => (Life::Idle, ActorStage::Failed),
+        OpEnd::Check(_) | OpEnd::Commit(_) => (Life::Idle, ActorStage::Failed),
         OpEnd::Clean(_) => (Life::Idle, stage),
     };
     ActorState { life, stage }
@@ -106,6 +111,7 @@ pub fn begun(actor: Actor, op: Op, standing: Standing) -> Standing
             stage: stage_begun(actor, op, standing.state.stage),
         },
         begun: Some(op),
+        reported: standing.reported,
     }
 }
 
@@ -116,6 +122,7 @@ pub fn after_end(end: &OpEnd, standing: Standing) -> Standing
     Standing {
         state: ended(end, standing.state.stage),
         begun: standing.begun,
+        reported: standing.reported || is_reporting(standing.state.stage, end),
     }
 }
 
@@ -129,6 +136,18 @@ pub fn killed(standing: Standing) -> Standing
             stage: standing.state.stage,
         },
         begun: standing.begun,
+        reported: standing.reported,
+    }
+}
+
+/// How one stands of whom no report is known.
+pub fn unreported(standing: Standing) -> Standing
+    ensures { result ≡ unreported_in standing }
+{
+    Standing {
+        state: standing.state,
+        begun: standing.begun,
+        reported: false,
     }
 }
 
@@ -142,6 +161,7 @@ pub fn renewed(standing: Standing) -> Standing
             stage: restarted(standing.state.stage),
         },
         begun: standing.begun,
+        reported: standing.reported,
     }
 }
 
@@ -181,9 +201,13 @@ fn status_of(end: &OpEnd) -> u8
 {
     match end {
         OpEnd::Commit(CommitEnd::Committed) => 0,
-        OpEnd::Commit(CommitEnd::StoreFault(_)) | OpEnd::Setup(SetupEnd::StoreFault) => 8,
-        OpEnd::Commit(CommitEnd::NoMemory) | OpEnd::Setup(SetupEnd::NoMemory) | OpEnd::NoMemory =>
-            9,
+        OpEnd::Commit(CommitEnd::StoreFault(_))
+        | OpEnd::Check(CheckEnd::StoreFault)
+        | OpEnd::Setup(SetupEnd::StoreFault) => 8,
+        OpEnd::Commit(CommitEnd::NoMemory)
+        | OpEnd::Check(CheckEnd::NoMemory)
+        | OpEnd::Setup(SetupEnd::NoMemory)
+        | OpEnd::NoMemory => 9,
         _ => 1,
     }
 }

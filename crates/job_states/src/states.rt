@@ -5,17 +5,17 @@ ghost use Rattle.job_model.specs.JobScript.{Script};
 ghost use Rattle.job_model.specs.Jobs.{has_task};
 ghost use Rattle.job_model.specs.Legal.{IsEvent};
 ghost use Rattle.commit_laws.specs.Fitting.{least_missing};
-ghost use Rattle.job_spec.specs.States.{Past, actors, begin, kill, restart, open_event, actor_named, end_op, end_ops, report, told, count, after_event, nothing_past, past, refuse_op, refuse_begin, refusal, missing, verdict_or};
+ghost use Rattle.job_spec.specs.States.{Past, actors, begin, kill, restart, open_event, actor_named, end_op, end_ops, is_committing, is_done, is_reported, told, count, after_event, nothing_past, past, refuse_op, refuse_begin, refusal, missing, verdict_or};
 ghost use Rattle.job_spec.specs.Turns.{is_busy, busy_actors};
-ghost use Rattle.job_states.specs.Standing.{fresh};
-ghost use Rattle.job_states.specs.Stands.{Stands, tested, busy_from};
+ghost use Rattle.job_states.specs.Standing.{fresh, unreported_in};
+ghost use Rattle.job_states.specs.Stands.{Stands, tested, told_by, busy_from};
 
 use crate::places::{put_standing, standing_of};
 use crate::refusals::{refuse_begin, refuse_kill, refuse_move, refuse_restart};
 use crate::reports::Reports;
 use crate::standing::{
     Decision, FRESH, Standing, after_end, begun, commit_begun, decided, is_reporting, killed,
-    renewed, setup_begun,
+    renewed, setup_begun, unreported,
 };
 use job_model::{
     ActorEnd, ActorStage, ActorState, Event, EventEnd, EventFault, Life, Op, OpEnd, Script, TaskSet,
@@ -106,13 +106,22 @@ fn named(event: Event) -> Actor
 /// What the end of an actor's operation at this stage does to the reports.
 fn report(reports: &mut Reports, actor: Actor, stage: ActorStage, end: &OpEnd)
     ensures { (tasks : ℕ) (f : ℕ → Bool) → reports.old ≡ tested tasks f → reports.new
-        ≡ tested tasks (report actor stage end.now f) }
+        ≡ tested tasks (told_by actor (is_committing stage && is_done end.now) f) }
 {
     let Actor::Attempt { task, attempt: _ } = actor else {
         return;
     };
     if is_reporting(stage, end) {
         reports.tell(task);
+    }
+}
+
+/// No report of any is known any more.
+fn unreport(standings: &mut [Standing])
+    ensures { standings.new ≡ map unreported_in standings.old }
+{
+    for standing in standings.iter_mut() {
+        *standing = unreported(*standing);
     }
 }
 
@@ -191,12 +200,20 @@ impl States {
     /// The tasks of which an attempt did. A job's commit that is given them misses the same one.
     pub fn reported(&self, alloc: Global) -> Result<TaskSet, AllocError>
         ensures exact { (w : Script) (p : Past) → Stands w self.now p
-            → IfOk result (λ set. (t : ℕ) → has_task set t ≡ (nat_lt t w.tasks && p.reported t)) }
+            → IfOk result (λ set. (t : ℕ) → has_task set t ≡ (nat_lt t w.tasks && is_reported w p.reported t)) }
         ensures missing { (w : Script) (p : Past) → Stands w self.now p
             → IfOk result (λ set. least_missing w.tasks set ≡ missing w p.reported) }
     {
         let tasks = self.reports.tasks(alloc)?;
         Ok(tasks)
+    }
+
+    /// Whether an actor has ended its commit Done since the last restart. Takes no memory.
+    pub fn has_reported(&self, script: &Script, actor: Actor) -> bool
+        requires { is_known script.now.attempts actor ≡ true }
+        ensures { (p : Past) → Stands script.now self.now p → result ≡ p.reported actor }
+    {
+        standing_of(&self.actors, script, actor).reported
     }
 
     /// The job attempt's number: one more than the restarts so far.
@@ -390,6 +407,7 @@ impl States {
     {
         let standing = standing_of(&self.actors, script, Actor::Driver);
         put_standing(&mut self.actors, script, Actor::Driver, renewed(standing));
+        unreport(&mut self.actors);
         self.attempt += 1;
         self.reports.forget();
     }

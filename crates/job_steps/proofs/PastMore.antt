@@ -2,7 +2,7 @@
 use Rattle.std.proofs.Common.{◌≡◌, ℕ, zero, suc, ◌≤◌, Bool, true, false, if◌then◌else◌, List, [], ◌∷◌, ◌++◌, length, slice_get, Option, Some, None, refl, ap, subst, arith}
 use Rattle.job_spec.proofs.Common.{some_is, none_some, false_true}
 use Rattle.job_steps.specs.Prelude.{Actor, Driver, Attempt, Shell, Entry, Declared, Script, Known, HasOp, IsEvent, AreEvents, Op, Event, Do, Start, Step, Run, Mix, SetupEnd, TaskEnd, CommitEnd, CleanEnd, OpEnd, ActorEnd, EventEnd, Refused, EventFault, Life, Idle, Busy, ActorStage, ActorState, Setting, Operation, start_of, Past, after_event, open_event, end_op, end_ops, told, ended, setup_ended, commit_ended, clean_ended, task_ended, may, refuse_op, refuse_begin, refusal, is_busy, busy_actors, Turns, OpenTurns}
-use Rattle.job_spec.specs.Prelude.{past_from, mix_begins}
+use Rattle.job_spec.specs.Prelude.{past_from, mix_begins, Reports}
 use Rattle.job_model.specs.declared.events.Op.TheVariants as ops
 use Rattle.job_model.specs.declared.ends.SetupEnd.TheVariants as setups
 use Rattle.job_model.specs.declared.ends.TaskEnd.TheVariants as tasks
@@ -10,7 +10,9 @@ use Rattle.job_model.specs.declared.ends.CommitEnd.TheVariants as commits
 use Rattle.job_model.specs.declared.ends.CleanEnd.TheVariants as cleans
 use Rattle.job_model.specs.declared.ends.OpEnd.TheVariants as ends
 use Rattle.job_model.specs.declared.ends.EventFault.TheVariants as faults
-use Rattle.job_spec.specs.States.{count}
+use Rattle.job_spec.specs.States.{count, check_ended}
+use Rattle.job_model.specs.declared.ends.CheckEnd.{CheckEnd}
+use Rattle.job_model.specs.declared.ends.CheckEnd.TheVariants as checks
 
 -- ---- one more
 
@@ -57,6 +59,10 @@ clean_idle : (e : CleanEnd) (s : ActorStage) → is_busy (clean_ended e s).life 
 clean_idle cleans.Done s = refl
 clean_idle _ s = refl
 
+check_idle : (e : CheckEnd) (s : ActorStage) → is_busy (check_ended e s).life ≡ false
+check_idle checks.Clear s = refl
+check_idle _ s = refl
+
 task_idle : (e : TaskEnd) (s : ActorStage) → is_busy (task_ended e s).life ≡ false
 task_idle tasks.Done s = refl
 task_idle _ s = refl
@@ -66,6 +72,7 @@ pub ended_idle : (e : OpEnd) (s : ActorStage) → is_busy (ended e s).life ≡ f
 ended_idle (ends.Setup e) s = setup_idle e s
 ended_idle (ends.Commit e) s = commit_idle e s
 ended_idle (ends.Clean e) s = clean_idle e s
+ended_idle (ends.Check e) s = check_idle e s
 ended_idle (ends.Task e) s = task_idle e s
 ended_idle ends.NoMemory s = refl
 
@@ -90,7 +97,7 @@ turns_open w st _ = refl
 
 -- the actor has such an operation
 abbrev pub Starts : Setting → Actor → Op → Type 0
-Starts g a op = (missing : Option ℕ) (k : Known) → (o : Operation) × (start_of g a op missing k ≡ Some o)
+Starts g a op = (reports : Reports) (k : Known) → (o : Operation) × (start_of g a op reports k ≡ Some o)
 
 -- an event begins operations that its actor has
 abbrev pub Begins : Setting → Event → Type 0

@@ -2,8 +2,8 @@
 use Rattle.std.proofs.Common.{◌≡◌, ℕ, zero, suc, ◌+◌, ◌<◌, ◌≤◌, ◌⊎◌, inl, inr, nat_eq, ◌&&◌, ◌||◌, Bool, true, false, cond, List, [], ◌∷◌, ◌++◌, Option, Some, None, refl, sym, ap, subst, ◌∙◌, arith, take, slice_get, length}
 use Rattle.job_steps.specs.Prelude.{option_map, Content, Actor, Driver, Attempt, Outcome, Answered, Slow, RequestLost, ReplyLost, Entry, Request, Who, actor_of, IsLegal, Script, Event, Restart, TaskEnd, OpEnd, ActorEnd, EventEnd, Busy, ActorStage, Retried, TaskCommit, TaskCommitOver, task_commit_over, Setting, Operation, TheSetup, TheTaskCommit, Running, over, Seen, see, see_all, nothing_seen, see_by, seen, is_begun, first_not, is_committing, open_event, clean_event, is_memory, IsOpening, Stand, Runs, HasPublished, Told, tell_all, nothing_told, strange_entry, Play, Refuses, Opens, Sends, Finishes, Closes, Strays, happen, MayFinish, Reachable, nothing_happened, happens, times, Ahead, IsRun, operation_of}
 use Rattle.job_spec.proofs.Common.{and_parts, some_is, none_some, false_true, eq_nat, nat_true}
-use Rattle.job_facts.specs.Prelude.{is_publishing, tell, tell_by, is_effective, Times}
-use Rattle.job_spec.specs.Prelude.{report, is_done}
+use Rattle.job_facts.specs.Prelude.{is_publishing, tell, tell_by, is_effective, Times, Declared, missing, list_any}
+use Rattle.job_spec.specs.Prelude.{report, is_done, is_reported}
 use Rattle.std.proofs.lemmas.Bool.{or_cases}
 use Rattle.job_model.specs.declared.ends.TaskEnd.TheVariants as tasks
 use Rattle.job_model.specs.declared.ends.OpEnd.TheVariants as ends
@@ -71,11 +71,11 @@ module _ (g : Setting) (k : Times) (opening : Content) (j : IsLegal g.script) (i
 
 -- ---- what is reported
 
-abbrev pub AllReported : (ℕ → Bool) → Seen → Type 0
-AllReported reported s = (t : ℕ) → reported t ≡ true → HasPublished s t
+abbrev pub AllReported : (Actor → Bool) → Seen → Type 0
+AllReported reported s = (t n : ℕ) → reported (Attempt t n) ≡ true → HasPublished s t
 
--- where none is missing all are reported
-pub none_left : (p : ℕ → Bool) (t n : ℕ) → first_not p t n ≡ None → (u : ℕ) → t ≤ u → u < t + n → p u ≡ true
+-- where none is missing all are so
+none_left : (p : ℕ → Bool) (t n : ℕ) → first_not p t n ≡ None → (u : ℕ) → t ≤ u → u < t + n → p u ≡ true
 none_left p t zero e u low high = absurd (omega (arith, low, high))
 none_left p t (suc n) e u low high = by (p t) refl e (none_left p (t + 1) n)
   where
@@ -89,8 +89,22 @@ none_left p t (suc n) e u low high = by (p t) refl e (none_left p (t + 1) n)
     by false q e old = absurd (none_some e refl)
     by true q e old = elim (first_or_later t u low) [ inl is ↦ ap p is ∙ q | inr later ↦ old e u later (omega (arith, high)) ]
 
+-- a task that is reported is so by an attempt
+reported_by : (reported : Actor → Bool) (t : ℕ) (ds : List Declared) → list_any (λ a. nat_eq a.0.task t && reported (actor_of a.0)) ds ≡ true → (n : ℕ) × (reported (Attempt t n) ≡ true)
+reported_by reported t [] h = absurd (false_true refl h)
+reported_by reported t (d ∷ ds) h = elim (or_cases (nat_eq d.0.task t && reported (actor_of d.0)) _ h) [
+  | inl here ↦
+      let x = and_parts (nat_eq d.0.task t) (reported (actor_of d.0)) here in
+      (d.0.attempt, subst (λ v. reported (Attempt v d.0.attempt) ≡ true) (eq_nat d.0.task t x.0) x.1)
+  | inr more ↦ reported_by reported t ds more
+]
+
+-- where none is missing each has a last publisher
+pub all_published : (w : Script) (reported : Actor → Bool) (s : Seen) → AllReported reported s → missing w reported ≡ None → (t : ℕ) → t < w.tasks → HasPublished s t
+all_published w reported s all none t low = let x = reported_by reported t w.attempts (none_left (is_reported w reported) 0 w.tasks none t (omega arith) (omega (arith, low))) in all t x.0 x.1
+
 -- what an end reports: an attempt's commit that is done
-record Reports (a : Actor) (s : ActorStage) (e : OpEnd) (t : ℕ) : Type 0 where
+record Reporting (a : Actor) (s : ActorStage) (e : OpEnd) (t : ℕ) : Type 0 where
   by : Who
   task : by.task ≡ t
   actor : a ≡ actor_of by
@@ -101,15 +115,20 @@ done_is : (e : OpEnd) → is_done e ≡ true → e ≡ ends.Task tasks.Done
 done_is (ends.Task tasks.Done) h = refl
 done_is _ h = absurd (false_true refl h)
 
-reports : (a : Actor) (s : ActorStage) (e : OpEnd) (p : ℕ → Bool) (t : ℕ) → report a s e p t ≡ true → (p t ≡ true) ⊎ Reports a s e t
-reports (Attempt u n) s e p t h = elim (or_cases (p t) (nat_eq t u && (is_committing s && is_done e)) h) [
-  | inl old ↦ inl old
-  | inr now ↦
-      let x = and_parts (nat_eq t u) (is_committing s && is_done e) now in
-      let y = and_parts (is_committing s) (is_done e) x.1 in
-      inr (record { by = record { task = u; attempt = n }; task = sym (eq_nat t u x.0); actor = refl; stage = y.0; done = done_is e y.1 })
-]
-reports _ s e p t h = inl h
+reporting : (a : Actor) (s : ActorStage) (e : OpEnd) (p : Actor → Bool) (t n : ℕ) → report a s e p (Attempt t n) ≡ true → (p (Attempt t n) ≡ true) ⊎ Reporting a s e t
+reporting (Attempt u m) s e p t n h = by (nat_eq t u && nat_eq n m) refl h
+  where
+    by : (b : Bool) → (nat_eq t u && nat_eq n m) ≡ b → cond b (p (Attempt u m) || (is_committing s && is_done e)) (p (Attempt t n)) ≡ true → (p (Attempt t n) ≡ true) ⊎ Reporting (Attempt u m) s e t
+    by false q h = inl h
+    by true q h =
+        let same = and_parts (nat_eq t u) (nat_eq n m) q in
+        elim (or_cases (p (Attempt u m)) (is_committing s && is_done e) h) [
+          | inl old ↦ inl (subst (λ v. p (Attempt v n) ≡ true) (sym (eq_nat t u same.0)) (subst (λ v. p (Attempt u v) ≡ true) (sym (eq_nat n m same.1)) old))
+          | inr now ↦
+              let y = and_parts (is_committing s) (is_done e) now in
+              inr (record { by = record { task = u; attempt = m }; task = sym (eq_nat t u same.0); actor = refl; stage = y.0; done = done_is e y.1 })
+        ]
+reporting _ s e p t n h = inl h
 
 -- the task's commit that is done
 record IsDoneCommit (op : Operation) : Type 0 where
@@ -150,7 +169,7 @@ module _ (g : Setting) (opening : Content) (j : IsLegal g.script) (is_opening : 
     pub past : AllReported x.past.reported (seen_of x)
 
   opened : (y : Play) (ev : Event) → AllReported y.past.reported (seen_of y) → AllReported (open_event w y.past ev).reported (seen_of y)
-  opened y Restart old = λ t h. absurd (false_true refl h)
+  opened y Restart old = λ t n h. absurd (false_true refl h)
   opened y _ old = old
 
   -- a task that has a last publisher has one ever after
@@ -167,14 +186,14 @@ module _ (g : Setting) (opening : Content) (j : IsLegal g.script) (is_opening : 
 
   finishes : (y : Play) → Reachable g opening y → Ahead y all_ends → (v : ActorEnd) → MayFinish y v → Unclean y → Reported y → Reported (happen g y (Finishes v))
   finishes y past ahead v may clean old = record {
-    live = λ t h. elim (reports v.actor (y.live.state v.actor).stage v.end y.live.reported t h) [ inl before ↦ old.live t before | inr now ↦ published t now (may_end y v may) ];
+    live = λ t n h. elim (reporting v.actor (y.live.state v.actor).stage v.end y.live.reported t n h) [ inl before ↦ old.live t n before | inr now ↦ published t now (may_end y v may) ];
     past = old.past;
   }
     where
       run : IsRun g opening y (times w all_ends)
       run = is_run g opening j is_opening y past all_ends ahead
 
-      published : (t : ℕ) → Reports v.actor (y.live.state v.actor).stage v.end t → ((is_memory v.end ≡ true) ⊎ ((m : Running) × (y.running v.actor ≡ Some m) × (over m.operation ≡ Some v.end))) → HasPublished (seen_of y) t
+      published : (t : ℕ) → Reporting v.actor (y.live.state v.actor).stage v.end t → ((is_memory v.end ≡ true) ⊎ ((m : Running) × (y.running v.actor ≡ Some m) × (over m.operation ≡ Some v.end))) → HasPublished (seen_of y) t
       published t r (inl memory) = absurd (false_true (ap is_memory r.done) memory)
       published t r (inr q) =
           let b = r.by in
@@ -192,16 +211,16 @@ module _ (g : Setting) (opening : Content) (j : IsLegal g.script) (is_opening : 
           subst (λ u. HasPublished (seen_of y) u) r.task (subst (λ s. HasPublished s b.task) (sees g k opening j is_opening y.journal run.stand run.runs) has)
 
   pub reported : (x : Play) → Reachable g opening x → Ahead x all_ends → Unclean x → Reported x
-  reported x (nothing_happened) ahead clean = record { live = λ t h. absurd (false_true refl h); past = λ t h. absurd (false_true refl h) }
+  reported x (nothing_happened) ahead clean = record { live = λ t n h. absurd (false_true refl h); past = λ t n h. absurd (false_true refl h) }
   reported x (happens y (Refuses f) past may) ahead clean = let old = reported y past (refused_ahead g y f all_ends may.1.idle ahead) clean in record { live = old.past; past = old.past }
   reported x (happens y (Opens ev) past may) ahead clean = let old = reported y past (opened_ahead g y ev all_ends may.idle ahead) clean in record { live = opened y ev old.past; past = old.past }
   reported x (happens y (Sends e) past may) ahead clean =
       let old = reported y past (sent_ahead g y e all_ends ahead) (unclean_before y e clean) in
-      record { live = λ t h. later y e t (old.live t h); past = λ t h. later y e t (old.past t h) }
+      record { live = λ t n h. later y e t (old.live t n h); past = λ t n h. later y e t (old.past t n h) }
   reported x (happens y (Strays r o) past may) ahead clean =
       let e = strange_entry (length y.ends) r o in
       let old = reported y past (strayed_ahead g y r o all_ends ahead) (unclean_before y e clean) in
-      record { live = λ t h. later y e t (old.live t h); past = λ t h. later y e t (old.past t h) }
+      record { live = λ t n h. later y e t (old.live t n h); past = λ t n h. later y e t (old.past t n h) }
   reported x (happens y (Finishes v) past may) ahead clean = let before = finished_ahead g y v all_ends ahead in finishes y past before v may clean (reported y past before clean)
   reported x (happens y (Closes end) past may) ahead clean =
       let old = reported y past (closed_ahead g y end all_ends (not_refused w y.past.state may.event end _ may.turns) ahead) clean in

@@ -1,6 +1,6 @@
 -- What happens in a run is one of the job's runs, by each kind of happening.
 use Rattle.std.proofs.Common.{◌≡◌, ℕ, ◌+◌, ◌≤◌, ◌^◌, ◌⊎◌, inl, inr, ◌&&◌, ◌||◌, not, Bool, true, false, List, [], ◌∷◌, ◌++◌, length, Option, Some, None, refl, sym, ap, subst, ◌∙◌, length-append}
-use Rattle.job_steps.specs.Prelude.{Content, answer, moment, IsHonestOutcome, Actor, Driver, Attempt, Shell, Request, Outcome, Entry, Who, actor_of, IsLegal, IsEvent, Script, Op, Setup, Write, Abort, Clean, Event, Do, Start, Kill, Restart, Recover, OpEnd, ActorEnd, EventEnd, Refused, EventFault, Busy, Dead, ActorState, Setting, Running, wants, advance, over, is_begun, put, missing, dead, idle, restarted, ended, refusal, open_event, begins_commit, begins_clean, is_refused, is_memory, Turns, run_begins, IsOpening, Play, Refuses, Opens, Sends, Finishes, Closes, Strays, open_running, hear, happen, MayOpen, MaySend, MayFinish, MayClose, MayStray, Reachable, nothing_happened, happens, nothing_played, Ahead, IsRun, operation_of, Times, times}
+use Rattle.job_steps.specs.Prelude.{Content, answer, moment, IsHonestOutcome, Actor, Driver, Attempt, Shell, Request, Outcome, Entry, Who, actor_of, IsLegal, IsEvent, Script, Op, Setup, Write, Abort, Clean, Event, Do, Start, Kill, Restart, Recover, OpEnd, ActorEnd, EventEnd, Refused, EventFault, Busy, Dead, ActorState, Setting, Running, wants, advance, over, is_begun, put, missing, dead, idle, restarted, ended, refusal, open_event, begins_commit, begins_clean, is_refused, is_memory, Turns, run_begins, IsOpening, Play, Refuses, Opens, Sends, Finishes, Closes, Strays, open_running, hear, happen, MayOpen, MaySend, MayFinish, MayClose, MayStray, Reachable, nothing_happened, happens, nothing_played, Ahead, IsRun, operation_of, Times, times, reports}
 use Rattle.job_spec.proofs.Common.{none_some}
 use Rattle.job_model.specs.declared.events.Op.TheVariants.{Commit}
 use Rattle.job_traces.specs.Runs.{first_stand}
@@ -80,10 +80,10 @@ module _ (g : Setting) (opening : Content) (j : IsLegal g.script) (is_opening : 
 
   begun_so : (k : Times) (b : Begun) (x : Play) → Along g opening k b x.journal x.running x.past.state → (ev : Event) → refusal x.past.state ev ≡ None → IsEvent w.attempts ev
       → Along g opening k (with_event true b ev) x.journal (open_running g x ev) (open_event w x.past ev).state
-  begun_so k b x h (Do a op) e legal = begins g opening k j is_opening b x.journal x.running x.past.state h a op (missing w x.past.reported) (begins_so (x.past.state Driver).stage a op (x.past.state a).life (x.past.state a).stage e) legal.0 legal.1
+  begun_so k b x h (Do a op) e legal = begins g opening k j is_opening b x.journal x.running x.past.state h a op (reports w x.past.reported) (begins_so (x.past.state Driver).stage a op (x.past.state a).life (x.past.state a).stage e) legal.0 legal.1
   begun_so k b x h (Start a op) e legal =
       subst (λ c. Along g opening k c x.journal (open_running g x (Start a op)) (open_event w x.past (Start a op)).state) (start_same b a op)
-      (begins g opening k j is_opening b x.journal x.running x.past.state h a op (missing w x.past.reported) (begins_so (x.past.state Driver).stage a op (x.past.state a).life (x.past.state a).stage e) legal.0 legal.1)
+      (begins g opening k j is_opening b x.journal x.running x.past.state h a op (reports w x.past.reported) (begins_so (x.past.state Driver).stage a op (x.past.state a).life (x.past.state a).stage e) legal.0 legal.1)
   begun_so k b x h (Kill a) e legal = still g opening k j is_opening b x.journal x.running (put x.past.state a (dead (x.past.state a).stage)) (killed k b x.journal x.running x.past.state h a)
   begun_so k b x h Restart e legal =
       let s = x.past.state Driver in

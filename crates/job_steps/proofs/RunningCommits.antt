@@ -1,8 +1,8 @@
 -- In a run an attempt at the stage of its commit is at that commit, until it ends or dies.
 use Rattle.std.proofs.Common.{◌≡◌, ℕ, inl, inr, Bool, true, false, [], ◌∷◌, ◌++◌, Option, Some, None, refl, sym, ap, subst, ◌∙◌, List, map}
 use Rattle.job_steps.specs.Prelude.{Content, Actor, Driver, Outcome, Entry, Who, actor_of, Known, IsLegal, Op, Event, Do, Start, Kill, SetupEnd, CommitEnd, CleanEnd, TaskEnd, OpEnd, ActorEnd, Done, Life, Idle, Busy, Dead, ActorStage, ActorState, TaskCommit, TaskCommitOver, task_commit_over, task_commit_start, Setting, Operation, TheSetup, TheWrite, TheTaskCommit, TheTaskAbort, TheCommit, TheClean, Running, tells, start_of, over, Past, put, missing, stage_begun, dead, setup_ended, commit_ended, clean_ended, task_ended, ended, is_committing, open_event, IsOpening, Stand, Runs, run_begins, actor_begins, driver_sends, attempt_sends, strays, Beginning, BeginWrite, BeginPublish, BeginAbort, begin, Play, Refuses, Opens, Sends, Finishes, Closes, knows_now, begun, begin_running, open_running, hear, happen, MayOpen, MaySend, MayFinish, Reachable, nothing_happened, happens, Strays, Ahead, IsRun, operation_of, times, Committer, Magic, Reply, Retried, fresh, step, File, Script, files, record_key, Uploaded, upload_hears, write_start, task_abort_start, known}
-use Rattle.job_facts.specs.Prelude.{Looking, Reading, Checking, Uploads, Renaming, least_missing, in_order, reading, looked_at, looked, read_record, storing, checking, checked, to_check, uploaded, renamed, task_commit_start_by, task_commit_hears, task_commit_after, Page, Refused, NoSuchKey, NoSuchFile, AllSent, Walked, More, Whole, Times}
-use Rattle.job_spec.specs.Prelude.{stage_done}
+use Rattle.job_facts.specs.Prelude.{Looking, Reading, Checking, Uploads, Renaming, least_missing, in_order, reading, looked_at, looked, read_record, storing, checking, checked, to_check, uploaded, renamed, task_commit_start_by, task_commit_hears, task_commit_after, Page, Refused, NoSuchKey, NoSuchFile, AllSent, Walked, More, Whole, Times, Reports, TheCheck}
+use Rattle.job_spec.specs.Prelude.{stage_done, reports}
 use Rattle.job_spec.proofs.Common.{some_is, none_some, true_or_false}
 use Rattle.job_model.specs.declared.events.Op.TheVariants as ops
 use Rattle.job_model.specs.declared.ends.SetupEnd.TheVariants as setups
@@ -18,6 +18,11 @@ use Rattle.job_steps.proofs.Running.{is_run}
 use Rattle.list_walk.specs.Walks.{walked}
 use Rattle.job_facts.proofs.Whose.{put_at}
 use Rattle.job_facts.proofs.Going.{step_so}
+use Rattle.job_model.specs.declared.ends.CheckEnd.{CheckEnd}
+use Rattle.job_model.specs.declared.ends.CheckEnd.TheVariants as checks
+use Rattle.job_spec.specs.States.{check_ended}
+use Rattle.job_protocol.proofs.Begun.{after_check_so}
+use Rattle.job_protocol.specs.Rechecks.{check_after}
 
 -- ---- a task's commit never ends Kept
 
@@ -95,6 +100,7 @@ module _ (w : Script) (a : Who) where
 
 ended_tells : (g : Setting) (a : Who) (op : Operation) (o : Outcome) → CommitEnded a op → CommitEnded a (tells g a op o)
 ended_tells g a (TheTaskCommit t) o h = ended_goes g.script a g.minimum g.script.retries t o h
+ended_tells g a (TheCheck t) o h = after_check_so g (λ op. CommitEnded a op) tt (λ u. tt) (step g.script.retries (check_after g.script) t o)
 ended_tells g a _ o h = tt
 
 begin_ended : (g : Setting) (y : Stand) (b : Beginning) → ((a : Who) (op : Operation) → y.attempts a ≡ Some op → CommitEnded a op) → (a : Who) (op : Operation) → (begin g y b).attempts a ≡ Some op → CommitEnded a op
@@ -134,7 +140,7 @@ dead_at : (c : Bool) (d : Option Operation) → StageBy c Dead d
 dead_at false d = tt
 dead_at true d = tt
 
-begun_at : (g : Setting) (b : Who) (op : Op) (missing : Option ℕ) (k : Known) (s : ActorStage) (d : Option Operation) → StageBy (is_committing s) Idle d
+begun_at : (g : Setting) (b : Who) (op : Op) (missing : Reports) (k : Known) (s : ActorStage) (d : Option Operation) → StageBy (is_committing s) Idle d
     → StageBy (is_committing (stage_begun (actor_of b) op s)) Busy (operation_of (begun (start_of g (actor_of b) op missing k) k))
 begun_at g b ops.Write missing k s d h = tt
 begun_at g b ops.Commit missing k s d h = tt
@@ -144,11 +150,7 @@ begun_at g b _ missing k s d h = idle_begins (is_committing s) d None h
 hears_at : (g : Setting) (b : Who) (c : Bool) (op : Operation) (o : Outcome) → StageBy c Busy (Some op) → StageBy c Busy (Some (tells g b op o))
 hears_at g b false op o h = tt
 hears_at g b true (TheTaskCommit t) o h = tt
-hears_at g b true (TheSetup t) o h = absurd h
-hears_at g b true (TheWrite t) o h = absurd h
-hears_at g b true (TheTaskAbort t) o h = absurd h
-hears_at g b true (TheCommit c) o h = absurd h
-hears_at g b true (TheClean t) o h = absurd h
+hears_at g b true _ o h = absurd h
 
 -- ---- its operation ends
 
@@ -167,6 +169,10 @@ commit_else commits.Committed s h = refl
 commit_else commits.NoMemory s h = h
 commit_else _ s h = refl
 
+check_else : (e : CheckEnd) (s : ActorStage) → is_committing s ≡ false → is_committing (check_ended e s).stage ≡ false
+check_else checks.NoMemory s h = h
+check_else _ s h = refl
+
 clean_else : (e : CleanEnd) (s : ActorStage) → is_committing s ≡ false → is_committing (clean_ended e s).stage ≡ false
 clean_else cleans.NoMemory s h = h
 clean_else _ s h = h
@@ -181,6 +187,7 @@ ended_else : (e : OpEnd) (s : ActorStage) → is_committing s ≡ false → is_c
 ended_else (ends.Setup e) s h = setup_else e s h
 ended_else (ends.Commit e) s h = commit_else e s h
 ended_else (ends.Clean e) s h = clean_else e s h
+ended_else (ends.Check e) s h = check_else e s h
 ended_else (ends.Task e) s h = task_else e s h
 ended_else ends.NoMemory s h = h
 
@@ -239,12 +246,12 @@ module _ (g : Setting) (opening : Content) (j : IsLegal g.script) (is_opening : 
 
   -- an actor that is idle begins
   abbrev Begins : Play → Op → Actor → Type 0
-  Begins y op c = (y.past.state c).life ≡ Idle → At (record { life = Busy; stage = stage_begun c op (y.past.state c).stage }) (begun (start_of g c op (missing g.script y.past.reported) (knows_now g y c)) (knows_now g y c))
+  Begins y op c = (y.past.state c).life ≡ Idle → At (record { life = Busy; stage = stage_begun c op (y.past.state c).stage }) (begun (start_of g c op (reports g.script y.past.reported) (knows_now g y c)) (knows_now g y c))
 
   begins : (y : Play) (c : Actor) (op : Op) → (y.past.state c).life ≡ Idle → AllCommitAt y.past.state y.running → AllCommitAt (put y.past.state c (record { life = Busy; stage = stage_begun c op (y.past.state c).stage })) (begin_running g y c op)
   begins y c op idle old b =
       let here : Begins y op (actor_of b) = λ l.
-      begun_at g b op (missing g.script y.past.reported) (knows_now g y (actor_of b)) (y.past.state (actor_of b)).stage (operation_of (y.running (actor_of b))) (subst (λ v. StageBy (is_committing (y.past.state (actor_of b)).stage) v (operation_of (y.running (actor_of b)))) l (old b)) in
+      begun_at g b op (reports g.script y.past.reported) (knows_now g y (actor_of b)) (y.past.state (actor_of b)).stage (operation_of (y.running (actor_of b))) (subst (λ v. StageBy (is_committing (y.past.state (actor_of b)).stage) v (operation_of (y.running (actor_of b)))) l (old b)) in
       both_put At y.past.state y.running c _ _ (actor_of b) (λ s. subst (Begins y op) s here idle) (old b)
 
   opens : (y : Play) (ev : Event) → MayOpen g y ev None → AllCommitAt y.past.state y.running → AllCommitAt (open_event g.script y.past ev).state (open_running g y ev)

@@ -1,7 +1,7 @@
 -- What the driver is at, by its life and stage.
 use Rattle.std.proofs.Common.{◌≡◌, ℕ, ◌⊎◌, inl, inr, ◌&&◌, ◌||◌, Bool, true, false, Option, Some, None, refl, sym, ap, subst}
 use Rattle.std.specs.Prelude.{if◌then◌else◌}
-use Rattle.job_steps.specs.Prelude.{option_map, Actor, Driver, Attempt, Request, Outcome, Retried, Known, Event, Op, Setup, Abort, Clean, SetupEnd, CommitEnd, CleanEnd, TaskEnd, OpEnd, ActorEnd, EventFault, Life, Idle, Busy, Dead, ActorStage, setup_over, commit_over, clean_over, Setting, Operation, TheSetup, TheWrite, TheTaskCommit, TheTaskAbort, TheCommit, TheClean, Running, who, asks, tells, over, is_begun, ended, setup_ended, commit_ended, clean_ended, dead, restarted, is_new, needs_set, may, driver_may, refuse_op, refuse_begin, begins_commit, begins_clean, is_busy, is_memory, is_wanting, is_set, is_just_set, IsTimely, nothing_learnt, Play, MayFinish, Times}
+use Rattle.job_steps.specs.Prelude.{option_map, Actor, Driver, Attempt, Request, Outcome, Retried, Known, Event, Op, Setup, Abort, Clean, SetupEnd, CommitEnd, CleanEnd, TaskEnd, OpEnd, ActorEnd, EventFault, Life, Idle, Busy, Dead, ActorStage, setup_over, commit_over, clean_over, Setting, Operation, TheSetup, TheWrite, TheTaskCommit, TheTaskAbort, TheCommit, TheClean, Running, who, asks, tells, over, is_begun, ended, setup_ended, commit_ended, clean_ended, dead, restarted, is_new, needs_set, may, driver_may, refuse_op, refuse_begin, begins_commit, begins_clean, is_busy, is_memory, is_wanting, is_set, is_just_set, IsTimely, nothing_learnt, Play, MayFinish, Times, TheCheck, TheSparing, step}
 use Rattle.job_spec.proofs.Common.{some_is, none_some, false_true, true_or_false}
 use Rattle.job_model.specs.declared.events.Op.TheVariants.{Commit}
 use Rattle.job_model.specs.declared.ends.SetupEnd.TheVariants as setups
@@ -14,6 +14,12 @@ use Rattle.job_model.specs.declared.states.ActorStage.TheVariants as stage
 use Rattle.job_protocol.specs.Setup as setup
 use Rattle.job_traces.specs.Runs.{is_done}
 use Rattle.job_facts.proofs.Whose.{or_false}
+use Rattle.job_model.specs.declared.ends.CheckEnd.{CheckEnd}
+use Rattle.job_model.specs.declared.ends.CheckEnd.TheVariants as checks
+use Rattle.job_protocol.specs.Rechecks.{check_after, check_over}
+use Rattle.job_protocol.specs.Sparing.{sparing_over}
+use Rattle.job_protocol.proofs.Begun.{after_check_so}
+use Rattle.job_spec.specs.States.{check_ended}
 
 -- ---- when an operation may begin
 
@@ -48,6 +54,10 @@ of_commit : (e : CommitEnd) (s : ActorStage) → is_memory (ends.Commit e) ≡ t
 of_commit commits.NoMemory s h = refl
 of_commit _ s h = absurd (false_true refl h)
 
+of_check : (e : CheckEnd) (s : ActorStage) → is_memory (ends.Check e) ≡ true → check_ended e s ≡ dead s
+of_check checks.NoMemory s h = refl
+of_check _ s h = absurd (false_true refl h)
+
 of_clean : (e : CleanEnd) (s : ActorStage) → is_memory (ends.Clean e) ≡ true → clean_ended e s ≡ dead s
 of_clean cleans.NoMemory s h = refl
 of_clean _ s h = absurd (false_true refl h)
@@ -60,6 +70,7 @@ wanting_memory : (a : Actor) (op : Op) (e : OpEnd) → is_wanting a op e ≡ tru
 wanting_memory a op ends.NoMemory h = refl
 wanting_memory Driver Setup (ends.Setup setups.NoMemory) h = refl
 wanting_memory Driver Commit (ends.Commit commits.NoMemory) h = refl
+wanting_memory Driver Commit (ends.Check checks.NoMemory) h = refl
 wanting_memory Driver Abort (ends.Clean cleans.NoMemory) h = refl
 wanting_memory Driver Clean (ends.Clean cleans.NoMemory) h = refl
 wanting_memory (Attempt t a) op (ends.Task tasks.NoMemory) h = refl
@@ -78,6 +89,7 @@ pub memory_dies : (e : OpEnd) (s : ActorStage) → is_memory e ≡ true → ende
 memory_dies (ends.Setup e) s h = of_setup e s h
 memory_dies (ends.Commit e) s h = of_commit e s h
 memory_dies (ends.Clean e) s h = of_clean e s h
+memory_dies (ends.Check e) s h = of_check e s h
 memory_dies (ends.Task e) s h = of_task e s h
 memory_dies ends.NoMemory s h = refl
 
@@ -89,10 +101,12 @@ IsSettingUp None = Unit {0}
 IsSettingUp (Some (TheSetup t)) = Unit {0}
 IsSettingUp (Some _) = ⊥
 
--- its commit, or an abort or clean of the job
+-- its commit or the check before that, or an abort or clean of the job
 abbrev pub IsBehind : Option Operation → Type 0
 IsBehind (Some (TheCommit c)) = Unit {0}
 IsBehind (Some (TheClean t)) = Unit {0}
+IsBehind (Some (TheCheck t)) = Unit {0}
+IsBehind (Some (TheSparing t)) = Unit {0}
 IsBehind _ = ⊥
 
 abbrev pub DriverAt : ActorStage → Life → Option Operation → Type 0
@@ -103,6 +117,8 @@ DriverAt _ l d = IsBehind d
 behind_set : (d : Option Operation) → IsBehind d → is_set d ≡ true
 behind_set (Some (TheCommit c)) h = refl
 behind_set (Some (TheClean t)) h = refl
+behind_set (Some (TheCheck t)) h = refl
+behind_set (Some (TheSparing t)) h = refl
 behind_set _ h = absurd h
 
 just_set : (d : Option Operation) → is_just_set d ≡ true → is_set d ≡ true
@@ -183,6 +199,10 @@ commit_ends : (s : ActorStage) (op : Operation) (e : CommitEnd) → DriverAt s B
 commit_ends s op commits.NoMemory h b = (driver_stops s Busy Dead (Some op) refl h, λ n. n)
 commit_ends s op _ h b = (b, λ n. absurd (false_true refl n))
 
+check_ends : (s : ActorStage) (op : Operation) (e : CheckEnd) → DriverAt s Busy (Some op) → IsBehind (Some op) → EndedAt s op (ends.Check e)
+check_ends s op checks.NoMemory h b = (driver_stops s Busy Dead (Some op) refl h, λ n. n)
+check_ends s op _ h b = (b, λ n. absurd (false_true refl n))
+
 clean_ends : (s : ActorStage) (op : Operation) (e : CleanEnd) → DriverAt s Busy (Some op) → EndedAt s op (ends.Clean e)
 clean_ends s op cleans.NoMemory h = (driver_stops s Busy Dead (Some op) refl h, λ n. n)
 clean_ends s op _ h = (driver_stops s Busy Idle (Some op) refl h, λ n. n)
@@ -230,6 +250,12 @@ driver_ends s (TheCommit c) e h o =
 driver_ends s (TheClean t) e h o =
     let m = mapped ends.Clean (clean_over t.operation) e o in
     subst (EndedAt s (TheClean t)) m.2 (clean_ends s (TheClean t) m.0 h)
+driver_ends s (TheCheck t) e h o =
+    let m = mapped ends.Check (check_over t.operation) e o in
+    subst (EndedAt s (TheCheck t)) m.2 (check_ends s (TheCheck t) m.0 h (behind_now s (TheCheck t) h (λ x. x)))
+driver_ends s (TheSparing t) e h o =
+    let m = mapped ends.Clean (sparing_over t.operation) e o in
+    subst (EndedAt s (TheSparing t)) m.2 (clean_ends s (TheSparing t) m.0 h)
 driver_ends s (TheWrite t) e h o = absurd (no_task (TheWrite t) (driver_kind s Busy (Some (TheWrite t)) h) (λ x. x) (λ x. x))
 driver_ends s (TheTaskCommit t) e h o = absurd (no_task (TheTaskCommit t) (driver_kind s Busy (Some (TheTaskCommit t)) h) (λ x. x) (λ x. x))
 driver_ends s (TheTaskAbort t) e h o = absurd (no_task (TheTaskAbort t) (driver_kind s Busy (Some (TheTaskAbort t)) h) (λ x. x) (λ x. x))
@@ -247,6 +273,8 @@ pub driver_hears : (g : Setting) (s : ActorStage) (op : Operation) (o : Outcome)
 driver_hears g s (TheSetup t) o h = new_at s Busy _ (ap is_new (setup_new s t h))
 driver_hears g s (TheCommit c) o h = goes_behind s (Some (TheCommit c)) (Some (tells g (who Driver) (TheCommit c) o)) h (λ x. x) tt
 driver_hears g s (TheClean t) o h = goes_behind s (Some (TheClean t)) (Some (tells g (who Driver) (TheClean t) o)) h (λ x. x) tt
+driver_hears g s (TheCheck t) o h = goes_behind s (Some (TheCheck t)) (Some (tells g (who Driver) (TheCheck t) o)) h (λ x. x) (after_check_so g (λ op. IsBehind (Some op)) tt (λ u. tt) (step g.script.retries (check_after g.script) t o))
+driver_hears g s (TheSparing t) o h = goes_behind s (Some (TheSparing t)) (Some (tells g (who Driver) (TheSparing t) o)) h (λ x. x) tt
 driver_hears g s (TheWrite t) o h = absurd (no_task (TheWrite t) (driver_kind s Busy (Some (TheWrite t)) h) (λ x. x) (λ x. x))
 driver_hears g s (TheTaskCommit t) o h = absurd (no_task (TheTaskCommit t) (driver_kind s Busy (Some (TheTaskCommit t)) h) (λ x. x) (λ x. x))
 driver_hears g s (TheTaskAbort t) o h = absurd (no_task (TheTaskAbort t) (driver_kind s Busy (Some (TheTaskAbort t)) h) (λ x. x) (λ x. x))
@@ -270,7 +298,9 @@ abbrev pub IsTimed : Begun → Option Operation → Type 0
 IsTimed b None = (b.commit ≡ false) × (b.clean ≡ false)
 IsTimed b (Some (TheSetup t)) = (b.commit ≡ false) × (b.clean ≡ false)
 IsTimed b (Some (TheCommit c)) = (b.commit ≡ true) × (b.clean ≡ false)
+IsTimed b (Some (TheCheck t)) = (b.commit ≡ true) × (b.clean ≡ false)
 IsTimed b (Some (TheClean t)) = b.clean ≡ true
+IsTimed b (Some (TheSparing t)) = b.clean ≡ true
 IsTimed b (Some _) = Unit {0}
 
 pub timed_setting : (b : Begun) (d : Option Operation) → IsTimed b d → IsSettingUp d → (b.commit ≡ false) × (b.clean ≡ false)
@@ -281,13 +311,16 @@ timed_setting b (Some _) h s = absurd s
 pub timed_sends : (k : Times) (n : ℕ) (op : Operation) → IsTimed (record { commit = is_begun k.commit n; clean = is_begun k.clean n }) (Some op) → IsTimely k n op
 timed_sends k n (TheSetup t) h = h
 timed_sends k n (TheCommit v) h = h
+timed_sends k n (TheCheck t) h = h
 timed_sends k n (TheClean t) h = h
+timed_sends k n (TheSparing t) h = h
 timed_sends k n _ h = tt
 
 pub timed_tells : (g : Setting) (b : Begun) (op : Operation) (o : Outcome) → IsTimed b (Some op) → IsTimed b (Some (tells g (who Driver) op o))
 timed_tells g b (TheWrite t) o h = tt
 timed_tells g b (TheTaskCommit t) o h = tt
 timed_tells g b (TheTaskAbort t) o h = tt
+timed_tells g b (TheCheck t) o h = after_check_so g (λ op. IsTimed b (Some op)) h (λ u. h) (step g.script.retries (check_after g.script) t o)
 timed_tells g b _ o h = h
 
 -- a later event that begins neither

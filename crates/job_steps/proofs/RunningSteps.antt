@@ -1,7 +1,7 @@
 -- An actor's operation begins: it is one that the job's runs let begin.
 use Rattle.std.proofs.Common.{◌≡◌, ℕ, inl, inr, ◌||◌, true, false, List, Option, Some, None, refl, sym, ap, subst, ◌∙◌}
 use Rattle.job_steps.specs.Prelude.{Content, Actor, Driver, Attempt, Shell, Entry, Retried, fresh, Who, actor_of, is_known, IsLegal, HasOp, Script, Known, Op, Setup, Write, Abort, Clean, Do, Idle, Busy, ActorStage, ActorState, setup_start, write_start, task_commit_start, TaskAbort, task_abort_start, commit_start, clean_start, knows, Setting, Operation, TheSetup, TheWrite, TheTaskCommit, TheTaskAbort, TheCommit, TheClean, Running, who, start_of, put, stage_begun, is_new, driver_may, attempt_may, by_actor, known, IsAttempt, Stand, BeginSetup, BeginCommit, BeginClean, BeginWrite, BeginPublish, BeginAbort, begin, Runs, actor_begins, IsOpening, with_attempt, is_set, is_just_set, begun, Times, operation_of}
-use Rattle.job_facts.specs.Prelude.{WriteOver}
+use Rattle.job_facts.specs.Prelude.{WriteOver, Reports, clean_of, commit_of}
 use Rattle.job_spec.proofs.Common.{false_true}
 use Rattle.job_model.specs.declared.events.Op.TheVariants.{Commit}
 use Rattle.job_model.specs.declared.ends.TaskEnd.TheVariants as tasks
@@ -9,9 +9,11 @@ use Rattle.job_traces.specs.Runs.{MaySetUp}
 use Rattle.job_facts.proofs.Whose.{attempt, or_false, or_true}
 use Rattle.job_traces.proofs.Entries.{late_now}
 use Rattle.job_steps.proofs.RunningNumbers.{known_attempt}
-use Rattle.job_steps.proofs.RunningStages.{Begun, with_event, still_begun, IsSettingUp, Begins, MaySet, IsBehind, DriverAt, may_setup, may_commit_job, new_at, behind_at, timed_setting, timed_on}
+use Rattle.job_steps.proofs.RunningStages.{Begun, with_event, still_begun, IsSettingUp, Begins, MaySet, IsBehind, DriverAt, may_setup, may_commit_job, new_at, behind_at, timed_setting, timed_on, IsTimed}
 use Rattle.job_steps.proofs.RunningTasks.{AttemptAt, FreeAbort, HasWritten, free_start, free_abort, may_write, written_is, may_publish, may_abort}
 use Rattle.job_steps.proofs.RunningAlong.{Along, told_known, set_up, timed_by, driver_begins, attempt_begins}
+use Rattle.job_protocol.proofs.Begun.{commit_of_so, clean_of_so}
+use Rattle.job_model.specs.declared.states.ActorStage.TheVariants as stage
 
 -- the state of an actor that begins this at its stage
 abbrev pub busy_at : Actor → Op → ActorStage → ActorState
@@ -46,31 +48,32 @@ module _ (g : Setting) (opening : Content) (k : Times) (j : IsLegal g.script) (i
       driver_begins g opening k j is_opening b (still_begun b) es r st h (record { operation = op; known = kn }) (busy_at Driver Setup s) (begin g h.stand BeginSetup)
       (actor_begins es h.stand BeginSetup h.runs may_set) refl refl refl early (new_at s Busy (fresh w.retries setup_start) m.0) (λ n. n)
 
-  starts_job_commit : (b : Begun) (es : List Entry) (r : Actor → Option Running) (st : Actor → ActorState) (h : Along g opening k b es r st) (kn : Known) (missing : Option ℕ) → driver_may Commit (st Driver).stage ≡ true
-      → Along g opening k (with_event true b (Do Driver Commit)) es (put r Driver (Some (record { operation = TheCommit (commit_start w missing); known = kn }))) (put st Driver (busy_at Driver Commit (st Driver).stage))
-  starts_job_commit b es r st h kn missing may =
+  starts_job_commit : (b : Begun) (es : List Entry) (r : Actor → Option Running) (st : Actor → ActorState) (h : Along g opening k b es r st) (kn : Known) (reports : Reports) → driver_may Commit (st Driver).stage ≡ true
+      → Along g opening k (with_event true b (Do Driver Commit)) es (put r Driver (Some (record { operation = commit_of g reports; known = kn }))) (put st Driver (busy_at Driver Commit (st Driver).stage))
+  starts_job_commit b es r st h kn reports may =
       let s = (st Driver).stage in
       let just : is_just_set h.stand.driver ≡ true = ap is_just_set h.driver ∙ may_commit_job s (st Driver).life (operation_of (r Driver)) h.driver_at may in
-      driver_begins g opening k j is_opening b (with_event true b (Do Driver Commit)) es r st h (record { operation = TheCommit (commit_start w missing); known = kn }) (busy_at Driver Commit s) (begin g h.stand (BeginCommit missing))
-      (actor_begins es h.stand (BeginCommit missing) h.runs just) refl refl refl (or_true b.commit, or_false b.clean ∙ (timed_setting b (operation_of (r Driver)) h.timed (just_setting (operation_of (r Driver)) (sym (ap is_just_set h.driver) ∙ just))).1) tt (λ n. absurd (false_true refl n))
+      let timed : ((b.commit || true) ≡ true) × ((b.clean || false) ≡ false) = (or_true b.commit, or_false b.clean ∙ (timed_setting b (operation_of (r Driver)) h.timed (just_setting (operation_of (r Driver)) (sym (ap is_just_set h.driver) ∙ just))).1) in
+      driver_begins g opening k j is_opening b (with_event true b (Do Driver Commit)) es r st h (record { operation = commit_of g reports; known = kn }) (busy_at Driver Commit s) (begin g h.stand (BeginCommit reports))
+      (actor_begins es h.stand (BeginCommit reports) h.runs just) refl refl refl (commit_of_so g (λ op. IsTimed (with_event true b (Do Driver Commit)) (Some op)) (λ missing. timed) (λ t. timed) reports) (commit_of_so g (λ op. DriverAt stage.Committing Busy (Some op)) (λ missing. tt) (λ t. tt) reports) (λ n. absurd (false_true refl n))
 
   -- an abort or a clean of the job
   starts_clean : (b c : Begun) (es : List Entry) (r : Actor → Option Running) (st : Actor → ActorState) (h : Along g opening k b es r st) (kn : Known) (v : ActorState) → is_new (st Driver).stage ≡ false
       → c.clean ≡ true → ((t : Operation) → IsBehind (Some t) → DriverAt v.stage v.life (Some t) × (is_new v.stage ≡ false))
-      → Along g opening k c es (put r Driver (Some (record { operation = TheClean (fresh w.retries clean_start); known = kn }))) (put st Driver v)
+      → Along g opening k c es (put r Driver (Some (record { operation = clean_of g; known = kn }))) (put st Driver v)
   starts_clean b c es r st h kn v new begun at =
-      let op = TheClean (fresh w.retries clean_start) in
-      let there = at op tt in
+      let op = clean_of g in
+      let there = at op (clean_of_so g (λ v. IsBehind (Some v)) tt tt) in
       driver_begins g opening k j is_opening b c es r st h (record { operation = op; known = kn }) v (begin g h.stand BeginClean)
-      (actor_begins es h.stand BeginClean h.runs (set_up g opening k j is_opening b es r st h new)) refl refl refl begun there.0 (λ n. absurd (false_true there.1 n))
+      (actor_begins es h.stand BeginClean h.runs (set_up g opening k j is_opening b es r st h new)) refl refl refl (clean_of_so g (λ v. IsTimed c (Some v)) begun begun) there.0 (λ n. absurd (false_true there.1 n))
 
-  driver_op : (b : Begun) (es : List Entry) (r : Actor → Option Running) (st : Actor → ActorState) (h : Along g opening k b es r st) (kn : Known) (missing : Option ℕ) (op : Op) → Begins (st Driver).stage Driver op (st Driver).life (st Driver).stage → HasOp Driver op
-      → Along g opening k (with_event true b (Do Driver op)) es (put r Driver (begun (start_of g Driver op missing kn) kn)) (put st Driver (busy_at Driver op (st Driver).stage))
-  driver_op b es r st h kn missing Setup m legal = starts_setup b es r st h kn m.may_begin
-  driver_op b es r st h kn missing Commit m legal = starts_job_commit b es r st h kn missing m.may_begin
-  driver_op b es r st h kn missing Abort m legal = starts_clean b (with_event true b (Do Driver Abort)) es r st h kn (busy_at Driver Abort (st Driver).stage) m.set (or_true b.clean) (λ t i. (i, refl))
-  driver_op b es r st h kn missing Clean m legal = starts_clean b (with_event true b (Do Driver Clean)) es r st h kn (busy_at Driver Clean (st Driver).stage) m.set (or_true b.clean) (λ t i. behind_at (st Driver).stage Busy (Some t) i m.may_begin)
-  driver_op b es r st h kn missing Write m legal = absurd legal
+  driver_op : (b : Begun) (es : List Entry) (r : Actor → Option Running) (st : Actor → ActorState) (h : Along g opening k b es r st) (kn : Known) (reports : Reports) (op : Op) → Begins (st Driver).stage Driver op (st Driver).life (st Driver).stage → HasOp Driver op
+      → Along g opening k (with_event true b (Do Driver op)) es (put r Driver (begun (start_of g Driver op reports kn) kn)) (put st Driver (busy_at Driver op (st Driver).stage))
+  driver_op b es r st h kn reports Setup m legal = starts_setup b es r st h kn m.may_begin
+  driver_op b es r st h kn reports Commit m legal = starts_job_commit b es r st h kn reports m.may_begin
+  driver_op b es r st h kn reports Abort m legal = starts_clean b (with_event true b (Do Driver Abort)) es r st h kn (busy_at Driver Abort (st Driver).stage) m.set (or_true b.clean) (λ t i. (i, refl))
+  driver_op b es r st h kn reports Clean m legal = starts_clean b (with_event true b (Do Driver Clean)) es r st h kn (busy_at Driver Clean (st Driver).stage) m.set (or_true b.clean) (λ t i. behind_at (st Driver).stage Busy (Some t) i m.may_begin)
+  driver_op b es r st h kn reports Write m legal = absurd legal
 
   -- ---- an attempt
 
@@ -116,20 +119,20 @@ module _ (g : Setting) (opening : Content) (k : Times) (j : IsLegal g.script) (i
   pub still : (b : Begun) (es : List Entry) (r : Actor → Option Running) (st : Actor → ActorState) → Along g opening k b es r st → Along g opening k (still_begun b) es r st
   still b es r st h = timed_by g opening k j is_opening b (still_begun b) es r st h (timed_on b (operation_of (r Driver)) h.timed)
 
-  attempt_op : (b : Begun) (es : List Entry) (r : Actor → Option Running) (st : Actor → ActorState) (h : Along g opening k b es r st) (a : Who) (kn : Known) (missing : Option ℕ) → kn ≡ known h.stand.told a → IsAttempt w a
+  attempt_op : (b : Begun) (es : List Entry) (r : Actor → Option Running) (st : Actor → ActorState) (h : Along g opening k b es r st) (a : Who) (kn : Known) (reports : Reports) → kn ≡ known h.stand.told a → IsAttempt w a
       → (op : Op) → Begins (st Driver).stage (actor_of a) op (st (actor_of a)).life (st (actor_of a)).stage → HasOp (actor_of a) op
-      → Along g opening k (still_begun b) es (put r (actor_of a) (begun (start_of g (actor_of a) op missing kn) kn)) (put st (actor_of a) (busy_at (actor_of a) op (st (actor_of a)).stage))
-  attempt_op b es r st h a kn missing learnt is Write m legal = still b es _ _ (starts_write b es r st h a kn learnt is m.set (subst (λ l. AttemptAt (st (actor_of a)).stage l (operation_of (r (actor_of a)))) m.idle (h.attempt_at a)) m.may_begin)
-  attempt_op b es r st h a kn missing learnt is Commit m legal = still b es _ _ (starts_publish b es r st h a kn learnt m.set (subst (λ l. AttemptAt (st (actor_of a)).stage l (operation_of (r (actor_of a)))) m.idle (h.attempt_at a)) m.may_begin)
-  attempt_op b es r st h a kn missing learnt is Abort m legal = still b es _ _ (starts_abort b es r st h a kn learnt is m.set (subst (λ l. AttemptAt (st (actor_of a)).stage l (operation_of (r (actor_of a)))) m.idle (h.attempt_at a)))
-  attempt_op b es r st h a kn missing learnt is _ m legal = absurd legal
+      → Along g opening k (still_begun b) es (put r (actor_of a) (begun (start_of g (actor_of a) op reports kn) kn)) (put st (actor_of a) (busy_at (actor_of a) op (st (actor_of a)).stage))
+  attempt_op b es r st h a kn reports learnt is Write m legal = still b es _ _ (starts_write b es r st h a kn learnt is m.set (subst (λ l. AttemptAt (st (actor_of a)).stage l (operation_of (r (actor_of a)))) m.idle (h.attempt_at a)) m.may_begin)
+  attempt_op b es r st h a kn reports learnt is Commit m legal = still b es _ _ (starts_publish b es r st h a kn learnt m.set (subst (λ l. AttemptAt (st (actor_of a)).stage l (operation_of (r (actor_of a)))) m.idle (h.attempt_at a)) m.may_begin)
+  attempt_op b es r st h a kn reports learnt is Abort m legal = still b es _ _ (starts_abort b es r st h a kn learnt is m.set (subst (λ l. AttemptAt (st (actor_of a)).stage l (operation_of (r (actor_of a)))) m.idle (h.attempt_at a)))
+  attempt_op b es r st h a kn reports learnt is _ m legal = absurd legal
 
   -- ---- any actor
 
-  pub begins : (b : Begun) (es : List Entry) (r : Actor → Option Running) (st : Actor → ActorState) (h : Along g opening k b es r st) (a : Actor) (op : Op) (missing : Option ℕ) → Begins (st Driver).stage a op (st a).life (st a).stage → is_known w.attempts a ≡ true → HasOp a op
-      → Along g opening k (with_event true b (Do a op)) es (put r a (begun (start_of g a op missing (knows w (who a) (by_actor a es))) (knows w (who a) (by_actor a es)))) (put st a (busy_at a op (st a).stage))
-  begins b es r st h Driver op missing m one legal = driver_op b es r st h (knows w (who Driver) (by_actor Driver es)) missing op m legal
-  begins b es r st h (Attempt t n) op missing m one legal =
+  pub begins : (b : Begun) (es : List Entry) (r : Actor → Option Running) (st : Actor → ActorState) (h : Along g opening k b es r st) (a : Actor) (op : Op) (reports : Reports) → Begins (st Driver).stage a op (st a).life (st a).stage → is_known w.attempts a ≡ true → HasOp a op
+      → Along g opening k (with_event true b (Do a op)) es (put r a (begun (start_of g a op reports (knows w (who a) (by_actor a es))) (knows w (who a) (by_actor a es)))) (put st a (busy_at a op (st a).stage))
+  begins b es r st h Driver op reports m one legal = driver_op b es r st h (knows w (who Driver) (by_actor Driver es)) reports op m legal
+  begins b es r st h (Attempt t n) op reports m one legal =
       let a = attempt t n in
-      attempt_op b es r st h a (knows w a (by_actor (Attempt t n) es)) missing (sym (told_known g opening k j is_opening es h.stand h.runs a)) (known_attempt j t n one) op m legal
-  begins b es r st h Shell op missing m one legal = absurd legal
+      attempt_op b es r st h a (knows w a (by_actor (Attempt t n) es)) reports (sym (told_known g opening k j is_opening es h.stand h.runs a)) (known_attempt j t n one) op m legal
+  begins b es r st h Shell op reports m one legal = absurd legal

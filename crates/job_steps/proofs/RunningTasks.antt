@@ -106,10 +106,11 @@ HasWritten _ = ⊥
 
 -- nothing, or an operation that is an attempt's
 abbrev pub IsTask : Option Operation → Type 0
-IsTask (Some (TheSetup t)) = ⊥
-IsTask (Some (TheCommit c)) = ⊥
-IsTask (Some (TheClean t)) = ⊥
-IsTask _ = Unit {0}
+IsTask None = Unit {0}
+IsTask (Some (TheWrite t)) = Unit {0}
+IsTask (Some (TheTaskCommit t)) = Unit {0}
+IsTask (Some (TheTaskAbort t)) = Unit {0}
+IsTask (Some _) = ⊥
 
 abbrev pub AttemptAt : ActorStage → Life → Option Operation → Type 0
 AttemptAt stage.New Idle d = d ≡ None

@@ -2,8 +2,8 @@
 use Rattle.std.proofs.Common.{◌≡◌, ℕ, ◌+◌, ◌<◌, ◌≤◌, ◌⊎◌, inl, inr, true, false, List, [], ◌∷◌, ◌++◌, length, take, slice_get, length-append, Option, Some, None, refl, sym, ap, subst, ◌∙◌, arith}
 use Rattle.job_spec.proofs.Common.{slice_get_within, some_is, none_some, run_more, follows_more}
 use Rattle.job_steps.specs.Prelude.{run, Follows, Content, answer, after_all, IsHonestOutcome, Actor, Driver, Shell, Request, Outcome, Entry, Script, Known, Op, Event, Do, Start, Kill, Restart, ActorEnd, EventEnd, Refused, EventFault, Busy, ActorState, knows, Setting, Operation, Running, who, wants, advance, start_of, over, Past, Doing, same_actor, put, idle, dead, restarted, missing, end_op, end_ops, open_event, after_event, refusal, nothing_past, past, of_event, until, before, since, by_actor, is_busy, is_wanting, Turns, AllFrom, IsRising, AllUpTo, own, strange_entry, known_then, OpFollows, Play, nothing_played, knows_now, Transition, Refuses, Opens, Sends, Finishes, Closes, Strays, begun, begin_running, open_running, hear, happen, MayOpen, MaySend, MayFinish, MayClose, MayStray, Enabled, Reachable, nothing_happened, happens}
-use Rattle.job_facts.specs.Prelude.{IsHonest}
-use Rattle.job_spec.specs.Prelude.{begin, op_over, Obeyed, AllObeyed}
+use Rattle.job_facts.specs.Prelude.{IsHonest, Reports}
+use Rattle.job_spec.specs.Prelude.{begin, op_over, Obeyed, AllObeyed, reports}
 use Rattle.s3_types.specs.Store as store
 use Rattle.job_spec.specs.States.{count}
 use Rattle.job_spec.specs.Follows.{FollowsFrom, over_from}
@@ -16,7 +16,7 @@ use Rattle.job_steps.proofs.PastMore.{past_more, after_is, ends_more, opening_co
 -- an operation that its actor began, knowing this, and where its entries since then led
 pub record Led (g : Setting) (a : Actor) (d : Doing) (k : Known) (part : List Entry) (m : Option Running) : Type 0 where
   pub op : Operation
-  pub begun_is : start_of g a d.op d.missing k ≡ Some op
+  pub begun_is : start_of g a d.op d.reports k ≡ Some op
   pub follows : Follows (wants g a) (advance g a) (record { operation = op; known = k }) part
   pub at : m ≡ Some (run (advance g a) (record { operation = op; known = k }) part)
 
@@ -111,7 +111,7 @@ module _ (g : Setting) (xs : List EventEnd) (journal : List Entry) (n : ℕ) (r 
   shell_never : (d : Doing) (es : List Entry) → OpFollows g Shell d es → ⊥
   shell_never d es f = by d.op f
     where
-      by : (op : Op) → FollowsFrom g Shell d es (start_of g Shell op d.missing (known_then g Shell d es)) → ⊥
+      by : (op : Op) → FollowsFrom g Shell d es (start_of g Shell op d.reports (known_then g Shell d es)) → ⊥
       by _ f = f
 
   follow_on : (a : Actor) (d : Doing) → OpFollows g a d (by_actor a journal) → OpFollows g a d (by_actor a more)
@@ -302,18 +302,18 @@ module _ (g : Setting) (opening : Content) (x : Play) (h : Told g opening x) whe
   -- ---- an event begins
 
   abbrev since_now : Actor → Op → Doing
-  since_now a op = record { op = op; since = x.past.events + 1; missing = missing g.script x.past.reported }
+  since_now a op = record { op = op; since = x.past.events + 1; reports = reports g.script x.past.reported }
 
   -- who begins has no entry in this event yet
   began_at : (a : Actor) (op : Op) → Starts g a op → AllUpTo (length x.ends) x.journal
-      → Runs g a (since_now a op) (by_actor a x.journal) (begun (start_of g a op (missing g.script x.past.reported) (knows_now g x a)) (knows_now g x a)) (length x.ends + 1)
+      → Runs g a (since_now a op) (by_actor a x.journal) (begun (start_of g a op (reports g.script x.past.reported) (knows_now g x a)) (knows_now g x a)) (length x.ends + 1)
   began_at a op starts upto =
       let k : Known = knows_now g x a in
       let es : List Entry = by_actor a x.journal in
       let n : ℕ = x.past.events in
-      let s = starts (missing g.script x.past.reported) k in
+      let s = starts (reports g.script x.past.reported) k in
       let all : AllUpTo n es = up_to_part n (λ e. same_actor e.actor a) x.journal (subst (λ m. AllUpTo m x.journal) (sym h.counts) upto) in
-      let o = begun (start_of g a op (missing g.script x.past.reported) k) k in
+      let o = begun (start_of g a op (reports g.script x.past.reported) k) k in
       let l : Led g a (since_now a op) k [] o = record { op = s.0; begun_is = s.1; follows = tt; at = ap (λ v. begun v k) s.1 } in
       record {
         from_then = omega (arith, h.counts);
@@ -330,7 +330,7 @@ module _ (g : Setting) (opening : Content) (x : Play) (h : Told g opening x) whe
       here : (v : Doing) → put x.past.doing a (Some (since_now a op)) a ≡ Some v → Runs g a v (by_actor a x.journal) (begin_running g x a op a) (length x.ends + 1)
       here v k =
           subst (λ m. Runs g a v (by_actor a x.journal) m (length x.ends + 1)) (sym (put_here x.running a _ a refl))
-          (subst (λ u. Runs g a u (by_actor a x.journal) (begun (start_of g a op (missing g.script x.past.reported) (knows_now g x a)) (knows_now g x a)) (length x.ends + 1))
+          (subst (λ u. Runs g a u (by_actor a x.journal) (begun (start_of g a op (reports g.script x.past.reported) (knows_now g x a)) (knows_now g x a)) (length x.ends + 1))
           (some_is (sym (put_here x.past.doing a (Some (since_now a op)) a refl) ∙ k)) (began_at a op starts upto))
 
   pub opened_run : (ev : Event) → Begins g ev → AllUpTo (length x.ends) x.journal → AllRun g x.past.doing x.journal x.running (length x.ends + 1)
@@ -471,9 +471,9 @@ module _ (g : Setting) (opening : Content) (x : Play) (h : Told g opening x) whe
   -- ---- a stranger sends
 
   strays_run : (r : Request) (o : Outcome) → AllRun g x.live.doing (x.journal ++ strange_entry (length x.ends) r o ∷ []) x.running (length x.ends + 1)
-  strays_run r o Shell d k = let l = (h.runs Shell d k).led in absurd (never_shell d.op d.missing (known_then g Shell d (by_actor Shell x.journal)) l.op l.begun_is)
+  strays_run r o Shell d k = let l = (h.runs Shell d k).led in absurd (never_shell d.op d.reports (known_then g Shell d (by_actor Shell x.journal)) l.op l.begun_is)
     where
-      never_shell : (op : Op) (m : Option ℕ) (v : Known) (y : Operation) → start_of g Shell op m v ≡ Some y → ⊥
+      never_shell : (op : Op) (m : Reports) (v : Known) (y : Operation) → start_of g Shell op m v ≡ Some y → ⊥
       never_shell _ m v y e = none_some refl e
   strays_run r o a d k = subst (λ es. Runs g a d es (x.running a) (length x.ends + 1)) (sym (by_own a refl x.journal (length x.ends) r o)) (h.runs a d k)
 

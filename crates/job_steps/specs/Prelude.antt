@@ -34,7 +34,7 @@ pub use Rattle.job_protocol.specs.Cleanups.{clean_after, clean_asks, clean_over,
 pub use Rattle.job_protocol.specs.JobCommits.{Commit, CommitOver, Completing, Fetching, Marking, Replacing, Reverting, Sets, all_commits, commit_asks, commit_misses, commit_over, commit_start, commit_tells, completing, fetched, fetching, is_no_magic, picks_of, replaced, replacing, reverting, set_read, set_request, swept, worn_completion}
 pub use Rattle.job_protocol.specs.Knowledge.{knows, learn}
 pub use Rattle.job_protocol.specs.Lanes.{Turn, again, dealt, follow, revert}
-pub use Rattle.job_protocol.specs.Operations.{Operation, Running, Setting, TheClean, TheCommit, TheSetup, TheTaskAbort, TheTaskCommit, TheWrite, advance, asks, learn_of, over, start_of, tells, wants, who}
+pub use Rattle.job_protocol.specs.Operations.{Operation, Reports, Running, Setting, TheCheck, TheClean, TheCommit, TheSetup, TheSparing, TheTaskAbort, TheTaskCommit, TheWrite, advance, after_check, after_check_by, asks, clean_of, commit_by, commit_of, learn_of, over, start_of, tells, wants, who}
 pub use Rattle.job_protocol.specs.Outputs.{Picks, files}
 pub use Rattle.job_protocol.specs.Records.{files_set, record_key}
 pub use Rattle.job_protocol.specs.Setup.{setup_after, setup_asks, setup_over, setup_start}
@@ -48,7 +48,7 @@ pub use Rattle.job_spec.specs.Follows.{OpFollows, Plays, known_then}
 pub use Rattle.job_spec.specs.OperationEnds.{CommitServed, TaskIs, WasPublished}
 pub use Rattle.job_spec.specs.Promise.{ArePicked, CleansEnd, Finished, Promised, Sent, all_picks, lacked_memory, picked, picks_below, seen_until, setting}
 pub use Rattle.job_spec.specs.Seen.{Seen, Times, is_begun, is_picking, is_reading, nothing_seen, see, see_all, see_by, seen}
-pub use Rattle.job_spec.specs.States.{Decided, Doing, Past, actors, after_event, attempt_may, begins_clean, begins_commit, clean_ended, clean_event, commit_begun, commit_ended, commit_event, dead, decide, driver_may, end_op, end_ops, ended, first_not, idle, is_commit, is_committing, is_new, is_refused, may, missing, needs_set, nothing_past, open_event, past, put, refusal, refuse_begin, refuse_op, restarted, same_actor, setup_ended, stage_begun, task_ended, times, told}
+pub use Rattle.job_spec.specs.States.{Decided, Doing, Past, actors, after_event, attempt_may, begins_clean, begins_commit, clean_ended, clean_event, commit_begun, commit_ended, commit_event, dead, decide, driver_may, end_op, end_ops, ended, first_not, idle, is_commit, is_committing, is_new, is_refused, may, missing, needs_set, nothing_past, open_event, past, put, refusal, refuse_begin, refuse_op, restarted, same_actor, setup_ended, stage_begun, task_ended, times, told, reports, is_reported}
 pub use Rattle.job_spec.specs.Turns.{AllBy, AllFrom, AllUpTo, IsRising, OpenTurns, Turns, before, busy_actors, by_actor, is_busy, is_memory, is_own, is_wanting, of_event, own, since, until, until_last}
 pub use Rattle.job_steps.specs.Laws.{IsPlayed}
 pub use Rattle.job_steps.specs.Running.{Ahead, IsRun, operation_of}

@@ -2,7 +2,7 @@
 use Rattle.std.specs.Prelude.{◌≡◌, ◌+◌, ◌≤◌, ◌^◌, ◌⊎◌, true, List, [], ◌∷◌, ◌++◌, length, slice_get, Option, Some, None}
 use Rattle.job_facts.specs.Prelude.{Content, Scene, answer, moment, IsHonestOutcome, Actor, Request, Outcome, Entry, actor_of, Known, Op, Event, Do, Start, Step, Run, Kill, Mix, Restart, Recover, ActorEnd, EventEnd, EventFault, Busy, knows, Setting, Operation, Running, who, wants, advance, start_of, over, Past, Doing, put, missing, refusal, open_event, end_op, told, nothing_past, of_event, by_actor, is_wanting, Turns, strange_entry, IsForeign}
 use Rattle.job_model.specs.declared.ends.EventEnd.TheVariants.{Refused}
-use Rattle.job_spec.specs.States.{count}
+use Rattle.job_spec.specs.States.{count, reports}
 
 -- ---- how far a run has come
 
@@ -58,7 +58,7 @@ begun (Some op) k = Some (record { operation = op; known = k })
 
 -- an actor begins an operation
 abbrev pub begin_running : Setting → Play → Actor → Op → Actor → Option Running
-begin_running g x a op = put x.running a (begun (start_of g a op (missing g.script x.past.reported) (knows_now g x a)) (knows_now g x a))
+begin_running g x a op = put x.running a (begun (start_of g a op (reports g.script x.past.reported) (knows_now g x a)) (knows_now g x a))
 
 -- what each actor began last, once an event begins
 abbrev pub open_running : Setting → Play → Event → Actor → Option Running

@@ -1,6 +1,6 @@
 -- What the entries of a run change, one by one and together.
 use Rattle.std.proofs.Common.{◌≡◌, ℕ, zero, suc, ◌+◌, ◌<◌, ◌≤◌, ◌⊎◌, inl, inr, true, false, List, [], ◌∷◌, ◌++◌, length, slice_get, Option, Some, None, refl, sym, ap, subst, ◌∙◌, arith, length-append}
-use Rattle.job_facts.specs.Prelude.{text_eq, Content, Scene, Upload, begins, effect, moment, after_all, Driver, Request, Outcome, Answered, Slow, RequestLost, Entry, IsLegal, Script, dest_prefix, setup_asks, Setting, Operation, TheSetup, TheCommit, TheClean, who, asks, IsZeroRename, ZeroRename, AreOwn, is_own, SameOutsideUpload, SameOutside, see, HasBucket, Who, known, entry, driver_entry, strange_entry, at_id, Times}
+use Rattle.job_facts.specs.Prelude.{text_eq, Content, Scene, Upload, begins, effect, moment, after_all, Driver, Request, Outcome, Answered, Slow, RequestLost, Entry, IsLegal, Script, dest_prefix, setup_asks, Setting, Operation, TheSetup, TheCommit, TheClean, who, asks, IsZeroRename, ZeroRename, AreOwn, is_own, SameOutsideUpload, SameOutside, see, HasBucket, Who, known, entry, driver_entry, strange_entry, at_id, Times, TheCheck, TheSparing}
 use Rattle.job_spec.proofs.Common.{some_is, none_some, false_true, true_or_false}
 use Rattle.std.specs.FinMap as fin
 use Rattle.s3_types.specs.Store.{opening as opening_scene}
@@ -13,6 +13,7 @@ use Rattle.job_traces.proofs.Running.{At, Late}
 use Rattle.job_facts.proofs.OwnRequests.{setup_changes, attempt_changes, commit_changes, clean_changes}
 use Rattle.job_traces.proofs.EveryRun.{good, late, own_front, own_last}
 use Rattle.job_traces.proofs.Entries.{take_front, take_all}
+use Rattle.job_facts.proofs.Sharing.{check_changes, sparing_changes}
 
 -- ---- contents that are the same outside
 
@@ -100,6 +101,14 @@ module _ (g : Setting) (k : Times) (opening : Content) (j : IsLegal g.script) (i
   }
   late_change x l (TheClean t) y n r asked o = record {
     rename = clean_changes g j x.seen x.told l.hold t.operation y r asked n o;
+    keys = keys_stay w x.seen.scene l.hold.there l.hold.ids.fresh r o;
+  }
+  late_change x l (TheCheck t) y n r asked o = record {
+    rename = check_changes g j x.seen x.told l.hold t.operation r asked n o;
+    keys = keys_stay w x.seen.scene l.hold.there l.hold.ids.fresh r o;
+  }
+  late_change x l (TheSparing t) y n r asked o = record {
+    rename = sparing_changes g j x.seen x.told l.hold t.operation y r asked n o;
     keys = keys_stay w x.seen.scene l.hold.there l.hold.ids.fresh r o;
   }
   late_change x l _ y n r asked o = absurd y

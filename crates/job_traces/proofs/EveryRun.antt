@@ -1,6 +1,6 @@
 -- Every run comes as far as it says, whatever strangers send that leave the job's own alone; and among none a reader is shown what the headline says.
 use Rattle.std.proofs.Common.{not, ◌≡◌, ℕ, ◌<◌, ◌≤◌, ◌^◌, ◌⊎◌, inl, inr, ◌&&◌, ◌||◌, Bool, true, false, cond, List, [], ◌∷◌, ◌++◌, Option, Some, None, refl, sym, ap, subst, ◌∙◌}
-use Rattle.job_facts.specs.Prelude.{nat_cmp, is_bucket, BucketContent, Content, Scene, Upload, new_bucket, answer, apply, apply_at, bucket_of, effect, is_effective, IsHonestOutcome, only_reads, Driver, Request, MakeBucket, ClusterPut, ClusterRename, ClusterGet, ClusterDelete, ClusterList, Outcome, Answered, Slow, RequestLost, ReplyLost, Entry, below, magic_prefix, success_key, SuccessPlace, Retried, fresh, step, Who, IsLegal, Script, Known, Picks, Setup, Heading, Sweeping, SetupOver, setup_start, setup_asks, setup_after, Listing, Deleting, write_start, task_commit_start, task_abort_start, Clean, CleanOver, clean_asks, Setting, Operation, TheSetup, TheWrite, TheTaskCommit, TheTaskAbort, TheCommit, TheClean, who, asks, tells, AreOwn, Kept, NoClusterFile, is_own, Seen, see, is_begun, is_marking, is_reading, picks_by, HasBucket, ClearsAlone, Told, known, put_who, entry, driver_entry, strange_entry, ends, nothing_told, tell_driver, tell_attempt, at_event, at_id, IsAttempt, Facts, Hold, Fits, SetsUp, Gone, IsForeign, Times, is_picking}
+use Rattle.job_facts.specs.Prelude.{nat_cmp, is_bucket, BucketContent, Content, Scene, Upload, new_bucket, answer, apply, apply_at, bucket_of, effect, is_effective, IsHonestOutcome, only_reads, Driver, Request, MakeBucket, ClusterPut, ClusterRename, ClusterGet, ClusterDelete, ClusterList, Outcome, Answered, Slow, RequestLost, ReplyLost, Entry, below, magic_prefix, success_key, SuccessPlace, Retried, fresh, step, Who, IsLegal, Script, Known, Picks, Setup, Heading, Sweeping, SetupOver, setup_start, setup_asks, setup_after, Listing, Deleting, write_start, task_commit_start, task_abort_start, Clean, CleanOver, clean_asks, Setting, Operation, TheSetup, TheWrite, TheTaskCommit, TheTaskAbort, TheCommit, TheClean, who, asks, tells, AreOwn, Kept, NoClusterFile, is_own, Seen, see, is_begun, is_marking, is_reading, picks_by, HasBucket, ClearsAlone, Told, known, put_who, entry, driver_entry, strange_entry, ends, nothing_told, tell_driver, tell_attempt, at_event, at_id, IsAttempt, Facts, Hold, Fits, SetsUp, Gone, IsForeign, Times, is_picking, TheCheck, IsIn, changed_paths, after_check, Committer, TheSparing, begins, cluster_prefix, commit_start, Magic, Directory, Partitioned}
 use Rattle.job_spec.specs.Prelude.{apply_in}
 use Rattle.job_spec.proofs.Common.{key_magic, some_is, none_some, none_or_some, false_true, same_or_other, text_here, text_other}
 use Rattle.store_frame.specs.Prelude.{upload_in}
@@ -25,13 +25,22 @@ use Rattle.job_facts.proofs.Aborting.{abort_fits}
 use Rattle.job_facts.proofs.Beside.{begins_write, begins_commit}
 use Rattle.job_facts.proofs.Cleaning.{clean_keeps, clean_goes, clean_hides}
 use Rattle.job_facts.proofs.Closing.{clean_begun}
-use Rattle.job_facts.proofs.Driving.{driving_keeps}
+use Rattle.job_facts.proofs.Driving.{driving_keeps, reads_drive}
 use Rattle.job_facts.proofs.JobCommitting.{commit_drives}
 use Rattle.job_facts.proofs.EndedGone.{first_gone, commit_gone, others_gone}
 use Rattle.job_facts.proofs.Foreign.{foreign_keeps}
-use Rattle.job_traces.proofs.Running.{Untouched, Idle, At, Early, Late, Shows, kept_untouched, kept_commit}
+use Rattle.job_traces.proofs.Running.{Untouched, Idle, At, Early, Late, Shows, kept_untouched, kept_commit, CommitShows}
 use Rattle.job_traces.proofs.Steps.{hidden_same, commit_next, commit_shown}
 use Rattle.job_traces.proofs.Keeping.{kept_next, at_beside, shows_beside, other_fits, other_known, commit_starts, commit_shows}
+use Rattle.job_protocol.specs.Rechecks.{Check, check_asks, check_after}
+use Rattle.job_protocol.specs.Sparing.{Sparing, sparing_asks, sparing_after, record_request}
+use Rattle.job_protocol.specs.Sparing as sparing
+use Rattle.job_protocol.proofs.Begun.{after_check_so, commit_of_so, clean_of_so}
+use Rattle.job_facts.proofs.Sharing.{Plain, check_plain, check_reads, sparing_hides, operation_paths, reads_leave}
+use Rattle.job_facts.proofs.Spares.{filed_keeps, sparing_keeps, sparing_goes, record_reads, fits_start}
+use Rattle.job_facts.specs.Spares.{Filed}
+use Rattle.job_facts.proofs.Staged.{remove_drops}
+use Rattle.job_facts.proofs.Turning.{still_none}
 
 -- who has just set up has set up
 pub just_set : (d : Option Operation) → is_just_set d ≡ true → is_set d ≡ true
@@ -94,6 +103,8 @@ module _ (g : Setting) (k : Times) (opening : Content) (j : IsLegal g.script) (i
   late_set (Some (TheSetup t)) s m y = ap is_done y.0
   late_set (Some (TheCommit c)) s m y = refl
   late_set (Some (TheClean t)) s m y = refl
+  late_set (Some (TheCheck t)) s m y = refl
+  late_set (Some (TheSparing t)) s m y = refl
   late_set _ s m y = absurd y
 
   pub just_idle : (d : Option Operation) (s : Seen) (m : Told) → At g opening d s m → is_just_set d ≡ true → Idle g opening s m
@@ -112,7 +123,6 @@ module _ (g : Setting) (k : Times) (opening : Content) (j : IsLegal g.script) (i
     none = λ id. ap (λ (m : Told). m.ended id) e.told;
     uncleaned = ap (λ (m : Told). m.cleaned) e.told;
     unmarked = e.unmarked;
-    unbegun = e.unbegun;
     unpicked = e.unpicked;
   }
 
@@ -125,6 +135,7 @@ module _ (g : Setting) (k : Times) (opening : Content) (j : IsLegal g.script) (i
         gone = λ c. subst (Gone w x.seen.scene.content) (sym e.told) (first_gone w x.seen.scene x.told.cleans_at);
         fine = λ a op y. absurd (none_some (e.none a) y);
         new = λ a y. (ap (λ m. known m a) e.told, ap (λ (m : Told). m.undone a) e.told);
+        filed = λ z p bytes b y. absurd (false_true (e.files p bytes y) b);
         driver = subst (λ d. At g opening d x.seen x.told) (sym is) (over, early_idle x e);
       }
 
@@ -243,14 +254,24 @@ module _ (g : Setting) (k : Times) (opening : Content) (j : IsLegal g.script) (i
       by RequestLost honest goes clear num = unsent _ (step w.retries (setup_after w) t RequestLost) (told_now RequestLost) goes
       by ReplyLost honest goes clear num = acted _ _ (step w.retries (setup_after w) t ReplyLost) e.unpicked (told_now ReplyLost) goes clear num
 
+  -- ---- scenes
+
+  driver_scene : (s : Seen) (n : ℕ) (r : Request) (o : Outcome) → (see w k s (driver_entry n r o)).scene ≡ effect s.scene r o
+  driver_scene s n r (Answered y) = refl
+  driver_scene s n r _ = refl
+
+  attempt_scene : (s : Seen) (a : Who) (n : ℕ) (r : Request) (o : Outcome) → (see w k s (entry a n r o)).scene ≡ effect s.scene r o
+  attempt_scene s a n r (Answered y) = refl
+  attempt_scene s a n r _ = refl
+
   -- ---- attempts
 
   -- an attempt is at something else, and all others at what they were
   put_late : (x : Stand) → (y : Stand) → Late g opening x → (a : Who) (op : Operation) → y.attempts ≡ put_who x.attempts a (Some op)
-      → Hold w g.minimum y.seen y.told → (y.told.cleaned ≡ false → Gone w y.seen.scene.content y.told) → At g opening y.driver y.seen y.told
+      → Hold w g.minimum y.seen y.told → (y.told.cleaned ≡ false → Gone w y.seen.scene.content y.told) → Filed w y.seen.scene → At g opening y.driver y.seen y.told
       → IsAttempt w a → Fits w g.minimum a y.told op → ((b : Who) → (b ≡ a → ⊥) → (mine : Operation) → Fits w g.minimum b x.told mine → Fits w g.minimum b y.told mine) → ((b : Who) → (b ≡ a → ⊥) → (known y.told b ≡ known x.told b) × (y.told.undone b ≡ x.told.undone b))
       → Late g opening y
-  put_late x y l a op are hold gone driver d fits others same = record {
+  put_late x y l a op are hold gone filed driver d fits others same = record {
     hold = hold;
     gone = gone;
     fine = λ b mine e. elim (same_or_another b a) [
@@ -263,12 +284,13 @@ module _ (g : Setting) (k : Times) (opening : Content) (j : IsLegal g.script) (i
       | inl is ↦ absurd (none_some e (ap (λ f. f b) are ∙ who_here x.attempts a (Some op) b is))
       | inr ne ↦ let old = l.new b (sym (who_other x.attempts a (Some op) b ne) ∙ ap (λ f. f b) (sym are) ∙ e) in ((same b ne).0 ∙ old.0, (same b ne).1 ∙ old.1)
     ];
+    filed = filed;
     driver = driver;
   }
 
   -- it begins something
   begins_at : (x : Stand) → Late g opening x → (a : Who) (op : Operation) → IsAttempt w a → Fits w g.minimum a x.told op → Late g opening (with_attempt x a op)
-  begins_at x l a op d fits = put_late x (with_attempt x a op) l a op refl l.hold l.gone l.driver d fits (λ b ne mine f. f) (λ b ne. (refl, refl))
+  begins_at x l a op d fits = put_late x (with_attempt x a op) l a op refl l.hold l.gone l.filed l.driver d fits (λ b ne mine f. f) (λ b ne. (refl, refl))
 
   -- it sends
   attempt_goes : (x : Stand) → Late g opening x → (a : Who) (op : Operation) → x.attempts a ≡ Some op → (n : ℕ) (r : Request) → asks g a (known x.told a) op ≡ Some r → (o : Outcome) → IsHonestOutcome o (answer x.seen.scene r)
@@ -279,6 +301,7 @@ module _ (g : Setting) (k : Times) (opening : Content) (j : IsLegal g.script) (i
       let hides : HidesAll w r = λ b q i. own.keys q i in
       let go = operation_goes g j k x.seen x.told a n f.0 l.hold op f.1 r asked o honest in
       put_late x (with_attempt (saw g k x (entry a n r o)) a (tells g a op o)) l a (tells g a op o) refl go.hold (λ c. gone_by o (l.gone c))
+      (subst (Filed w) (sym (attempt_scene x.seen a n r o)) (filed_keeps w x.seen.scene l.hold.there r o (λ p i b. operation_paths w g.minimum x.told a f.0 g refl op f.1 r asked p i) l.filed))
       (at_beside g j opening k x.seen x.told l.hold a n op f.1 r asked hides o x.commit x.driver l.driver) f.0 go.fits
       (other_fits g j opening k x.seen x.told l.hold a n op f.1 r asked hides o x.commit)
       (λ b ne. (other_known g j opening k x.seen x.told l.hold a n op f.1 r asked hides o x.commit b ne, who_other x.told.undone a _ b ne))
@@ -290,6 +313,67 @@ module _ (g : Setting) (k : Times) (opening : Content) (j : IsLegal g.script) (i
 
   -- ---- the driver
 
+  driver_last : (s : Seen) (n : ℕ) (r : Request) (o : Outcome) → (see w k s (driver_entry n r o)).last ≡ s.last
+  driver_last s n r (Answered y) = refl
+  driver_last s n r _ = refl
+
+  -- where it changes no path below the job's directory in the cluster
+  filed_by : (x : Stand) → Late g opening x → (n : ℕ) (r : Request) (o : Outcome) → ((p : List ℕ) → IsIn p (changed_paths r) → begins (cluster_prefix w.job) p ≡ false) → Filed w (see w k x.seen (driver_entry n r o)).scene
+  filed_by x l n r o free = subst (Filed w) (sym (driver_scene x.seen n r o)) (filed_keeps w x.seen.scene l.hold.there r o (λ p i b. absurd (false_true (free p i) b)) l.filed)
+
+  same_filed : (x : Stand) → Late g opening x → (o : Outcome) {y r : Request} → Some y ≡ Some r → changed_paths y ≡ [] → Filed w (effect x.seen.scene r o)
+  same_filed x l o {y = y} e none = subst (λ q. Filed w (effect x.seen.scene q o)) (some_is e) (filed_keeps w x.seen.scene l.hold.there y o (λ p i. absurd (subst (λ (q : List (List ℕ)). IsIn p q) none i)) l.filed)
+
+  removed_filed : (x : Stand) → Late g opening x → (p : List ℕ) (o : Outcome) → Filed w (effect x.seen.scene (ClusterDelete p) o)
+  removed_filed x l p Slow = l.filed
+  removed_filed x l p RequestLost = l.filed
+  removed_filed x l p _ = λ z q bytes b e. l.filed z q bytes b ((remove_drops w x.seen.scene l.hold.there p).files q bytes e)
+
+  clean_filed : (x : Stand) → Late g opening x → (c : Clean) (r : Request) → clean_asks w c ≡ Some r → (o : Outcome) → Filed w (effect x.seen.scene r o)
+  clean_filed x l (cleanups.Removing p ps) r e o = subst (λ y. Filed w (effect x.seen.scene y o)) (some_is e) (removed_filed x l p o)
+  clean_filed x l (cleanups.Sweeping (Listing keys)) r e o = same_filed x l o e refl
+  clean_filed x l (cleanups.Sweeping (Deleting q qs)) r e o = same_filed x l o e refl
+  clean_filed x l (CleanOver end) r e o = absurd cc
+  clean_filed x l _ r e o = same_filed x l o e refl
+
+  sparing_filed : (x : Stand) → Late g opening x → (c : Sparing) (r : Request) → sparing_asks w c ≡ Some r → (o : Outcome) → Filed w (effect x.seen.scene r o)
+  sparing_filed x l (sparing.Reading named p ps all) r e o = same_filed x l o e (paths_none (record_request w.committer w p) (record_reads j x.seen x.told l.hold w.committer p))
+    where
+      paths_none : (c : Request) → only_reads c ≡ true → changed_paths c ≡ []
+      paths_none (ClusterPut path bytes) e = absurd (false_true refl e)
+      paths_none (ClusterRename source target) e = absurd (false_true refl e)
+      paths_none (ClusterDelete path) e = absurd (false_true refl e)
+      paths_none _ e = refl
+  sparing_filed x l (sparing.Removing p ps) r e o = subst (λ y. Filed w (effect x.seen.scene y o)) (some_is e) (removed_filed x l p o)
+  sparing_filed x l (sparing.SparingOver end) r e o = absurd cc
+  sparing_filed x l _ r e o = same_filed x l o e refl
+
+  -- a request that reads no set, and puts no marker
+  plain_picks_by : (s : Seen) (n : ℕ) (r : Request) → ((t : ℕ) → is_reading w t r ≡ false) → (t : ℕ) → picks_by w (is_picking k s.begun n) s.last s.picks r t ≡ s.picks t
+  plain_picks_by s n r reads t = ap (λ b. cond (is_picking k s.begun n && b) (s.last t) (s.picks t)) (reads t) ∙ ap (λ b. cond b (s.last t) (s.picks t)) (and_false (is_picking k s.begun n))
+
+  plain_picks : (s : Seen) (n : ℕ) (r : Request) → ((t : ℕ) → is_reading w t r ≡ false) → (o : Outcome) (t : ℕ) → (see w k s (driver_entry n r o)).picks t ≡ s.picks t
+  plain_picks s n r reads (Answered y) t = plain_picks_by s n r reads t
+  plain_picks s n r reads _ t = refl
+
+  plain_mark : (s : Seen) (n : ℕ) (r : Request) → is_marking w r ≡ false → (o : Outcome) → (see w k s (driver_entry n r o)).put_mark ≡ s.put_mark
+  plain_mark s n r marks Slow = refl
+  plain_mark s n r marks RequestLost = refl
+  plain_mark s n r marks _ = ap (λ b. s.put_mark || b) marks ∙ or_false s.put_mark
+
+  -- so all is still as before the commit
+  pub checked_idle : (x : Stand) → x.told.cleans_at ≡ k.clean → (n : ℕ) (r : Request) (o : Outcome) → Plain w r → is_begun k.clean n ≡ false → Idle g opening x.seen x.told → Idle g opening (see w k x.seen (driver_entry n r o)) (at_event n (tell_driver x.told r o))
+  checked_idle x at n r o p unclean i = record {
+    none = still_none x.told r o p.ends_none i.none;
+    uncleaned = ap (λ b. b || is_begun x.told.cleans_at n) i.uncleaned ∙ ap (λ c. is_begun c n) at ∙ unclean;
+    unmarked = plain_mark x.seen n r p.marks o ∙ i.unmarked;
+    unpicked = λ u. plain_picks x.seen n r p.reads o u ∙ i.unpicked u;
+  }
+
+  -- a check that is clear goes on as the commit
+  at_checked : (s : Seen) (m : Told) → Idle g opening s m → (t : Retried Check) → At g opening (Some (after_check g t)) s m
+  at_checked s m i t = after_check_so g (λ op. At g opening (Some op) s m) (commit_starts g j opening s m i None) (λ u. i) t
+
   driver_late : (x : Stand) → x.told.cleans_at ≡ k.clean → Late g opening x → (op : Operation) → At g opening (Some op) x.seen x.told → (n : ℕ) (r : Request) → asks g (who Driver) nothing_learnt op ≡ Some r → IsTimely k n op → x.seen.scene.content.next ≤ 2 ^ 64 → (o : Outcome) → IsHonestOutcome o (answer x.seen.scene r)
       → Late g opening (with_commit (with_driver (saw g k x (driver_entry n r o)) (tells g (who Driver) op o)) (commit_with op x.commit (driver_entry n r o)))
   driver_late x at l (TheSetup t) y n r asked timely few o honest = absurd (none_some (ap (setup_asks w) y.0) asked)
@@ -298,6 +382,7 @@ module _ (g : Setting) (k : Times) (opening : Content) (j : IsLegal g.script) (i
     gone = λ c. gone_by o (l.gone y.uncleaned);
     fine = l.fine;
     new = l.new;
+    filed = filed_by x l n r o (commit_drives w g.minimum k x.seen x.told n j l.hold c y.fits r asked).paths;
     driver = commit_next g j opening k x.seen x.told n timely.0 timely.1 at few l.hold c y r asked o honest;
   }
     where
@@ -311,8 +396,31 @@ module _ (g : Setting) (k : Times) (opening : Content) (j : IsLegal g.script) (i
     gone = λ c. absurd (false_true c (clean_begun x.told n (ap (λ c. is_begun c n) at ∙ timely) r o));
     fine = l.fine;
     new = l.new;
+    filed = subst (Filed w) (sym (driver_scene x.seen n r o)) (clean_filed x l t.operation r asked o);
     driver = clean_goes w g.minimum k x.seen x.told n j l.hold (ap (λ c. is_begun c n) at ∙ timely) w.retries t.spare t.repeated t.operation y r asked o honest;
   }
+  driver_late x at l (TheCheck t) y n r asked timely few o honest =
+      let p = check_plain w t.operation r asked in
+      let drives = reads_drive w r (check_reads g j t.operation r asked) in
+      record {
+        hold = driving_keeps w g.minimum k x.seen x.told n r o j drives l.hold;
+        gone = λ c. subst (λ (s : Scene). Gone w s.content (at_event n (tell_driver x.told r o))) (sym (driver_scene x.seen n r o)) (others_gone w x.seen.scene l.hold.there (tell_driver x.told r o).ended (λ id e. absurd (false_true (still_none x.told r o p.ends_none y.none id) e)) r o);
+        fine = l.fine;
+        new = l.new;
+        filed = filed_by x l n r o drives.paths;
+        driver = at_checked (see w k x.seen (driver_entry n r o)) (at_event n (tell_driver x.told r o)) (checked_idle x at n r o p timely.1 y) (step w.retries (check_after w) t o);
+      }
+  driver_late x at l (TheSparing t) y n r asked timely few o honest =
+      let due : is_begun x.told.cleans_at n ≡ true = ap (λ c. is_begun c n) at ∙ timely in
+      record {
+        hold = subst (λ (s : Scene). Facts w g.minimum s (see w k x.seen (driver_entry n r o)).last (at_event n (tell_driver x.told r o))) (sym (driver_scene x.seen n r o))
+            (subst (λ v. Facts w g.minimum (effect x.seen.scene r o) v (at_event n (tell_driver x.told r o))) (sym (driver_last x.seen n r o)) (sparing_keeps j x.seen x.told l.hold n due t.operation r asked o));
+        gone = λ c. absurd (false_true c (clean_begun x.told n due r o));
+        fine = l.fine;
+        new = l.new;
+        filed = subst (Filed w) (sym (driver_scene x.seen n r o)) (sparing_filed x l t.operation r asked o);
+        driver = sparing_goes j x.seen.scene x.told l.hold l.filed few t y r asked o honest;
+      }
   driver_late x at l _ y n r asked timely few o honest = absurd y
 
   driver_early : (x : Stand) → x.told.cleans_at ≡ k.clean → Early g opening x → (op : Operation) → x.driver ≡ Some op → (n : ℕ) (r : Request) → asks g (who Driver) nothing_learnt op ≡ Some r → IsTimely k n op → (o : Outcome) → IsHonestOutcome o (answer x.seen.scene r)
@@ -363,13 +471,16 @@ module _ (g : Setting) (k : Times) (opening : Content) (j : IsLegal g.script) (i
     gone = λ c. others_gone w x.seen.scene l.hold.there x.told.ended (l.gone c) r o;
     fine = l.fine;
     new = l.new;
+    filed = filed_keeps w x.seen.scene l.hold.there r o (λ p i b. absurd (false_true (f.paths p i) b)) l.filed;
     driver = at_strays x.driver l.driver;
   }
     where
       at_strays : (d : Option Operation) → At g opening d x.seen x.told → At g opening d (see w k x.seen (strange_entry n r o)) x.told
-      at_strays (Some (TheSetup t)) y = (y.0, record { none = y.1.none; uncleaned = y.1.uncleaned; unmarked = y.1.unmarked; unbegun = y.1.unbegun; unpicked = y.1.unpicked })
+      at_strays (Some (TheSetup t)) y = (y.0, record { none = y.1.none; uncleaned = y.1.uncleaned; unmarked = y.1.unmarked; unpicked = y.1.unpicked })
       at_strays (Some (TheCommit c)) y = y
       at_strays (Some (TheClean t)) y = y
+      at_strays (Some (TheCheck t)) y = record { none = y.none; uncleaned = y.uncleaned; unmarked = y.unmarked; unpicked = y.unpicked }
+      at_strays (Some (TheSparing t)) y = y
       at_strays _ y = absurd y
 
   -- ---- every run
@@ -430,20 +541,23 @@ module _ (g : Setting) (k : Times) (opening : Content) (j : IsLegal g.script) (i
       by (TheSetup t) y asked just = none_some (ap (setup_asks w) y.0) asked
       by (TheCommit c) y asked just = false_true refl just
       by (TheClean t) y asked just = false_true refl just
+      by (TheCheck t) y asked just = false_true (after_check_so g (λ op. is_just_set (Some op) ≡ false) refl (λ u. refl) _) just
+      by (TheSparing t) y asked just = false_true refl just
       by _ y asked just = absurd y
 
   -- what begins
   well_begins : (x : Stand) → Well x → (b : Beginning) → MayBegin g x b → Well (begin g x b)
   well_begins x h BeginSetup may = let e = setup_anew x (may_set_up x h may) in (inl e, λ just none. e)
-  well_begins x h (BeginCommit missing) may =
-      let l = late x h.0 (just_set x.driver may) in (
-        inr (record { hold = l.hold; gone = l.gone; fine = l.fine; new = l.new; driver = commit_starts g j opening x.seen x.told (just_idle x.driver x.seen x.told l.driver may) missing }),
-        λ now none. absurd (false_true refl now),
+  well_begins x h (BeginCommit reports) may =
+      let l = late x h.0 (just_set x.driver may) in
+      let i = just_idle x.driver x.seen x.told l.driver may in (
+        inr (record { hold = l.hold; gone = l.gone; fine = l.fine; new = l.new; filed = l.filed; driver = commit_of_so g (λ op. At g opening (Some op) x.seen x.told) (λ missing. commit_starts g j opening x.seen x.told i missing) (λ t. i) reports }),
+        λ now none. absurd (false_true (commit_of_so g (λ op. is_just_set (Some op) ≡ false) (λ missing. refl) (λ t. refl) reports) now),
       )
   well_begins x h BeginClean may =
       let l = late x h.0 may in (
-        inr (record { hold = l.hold; gone = l.gone; fine = l.fine; new = l.new; driver = λ u i. absurd i }),
-        λ now none. absurd (false_true refl now),
+        inr (record { hold = l.hold; gone = l.gone; fine = l.fine; new = l.new; filed = l.filed; driver = clean_of_so g (λ op. At g opening (Some op) x.seen x.told) (λ u i. absurd i) (fits_start w x.told.drawn w.committer refl) }),
+        λ now none. absurd (false_true (clean_of_so g (λ op. is_just_set (Some op) ≡ false) refl refl) now),
       )
   well_begins x h (BeginWrite a) may =
       let l = late x h.0 may.0 in
@@ -503,20 +617,14 @@ module _ (g : Setting) (k : Times) (opening : Content) (j : IsLegal g.script) (i
   clean_plain (cleanups.Sweeping (Listing keys)) r e = (ap (is_marking w) (sym (some_is e)), λ t. ap (is_reading w t) (sym (some_is e)))
   clean_plain _ r e = (ap (is_marking w) (sym (some_is e)), λ t. ap (is_reading w t) (sym (some_is e)))
 
-  kept_clean : (s : Seen) → HasBucket s.scene.content w.dest.bucket → (n : ℕ) (r : Request) (o : Outcome) → HidesAll w r → is_marking w r ≡ false → ((t : ℕ) → is_reading w t r ≡ false) → Kept w opening s → Kept w opening (see w k s (driver_entry n r o))
-  kept_clean s there n r o hides mark reads kept = by o
+  kept_clean : (s : Seen) → HasBucket s.scene.content w.dest.bucket → (n : ℕ) (r : Request) (o : Outcome) → HidesAll w r → is_marking w r ≡ false → picks_by w (is_picking k s.begun n) s.last s.picks r ≡ s.picks → Kept w opening s → Kept w opening (see w k s (driver_entry n r o))
+  kept_clean s there n r o hides mark picks kept = by o
     where
       success : pages.begins (magic_prefix w.dest.key w.job) (success_key w.dest.key) ≡ false
       success = key_magic w.dest.key w.job SuccessPlace (some_dest j) tt
 
       begun : s.begun ≡ true → (s.begun || is_begun k.commit n) ≡ true
       begun e = ap (λ b. b || is_begun k.commit n) e
-
-      picks : picks_by w (is_picking k s.begun n) s.last s.picks r ≡ s.picks
-      picks = λ i t. at t i
-        where
-          at : (t : ℕ) → picks_by w (is_picking k s.begun n) s.last s.picks r t ≡ s.picks t
-          at t = ap (λ b. cond ((is_picking k s.begun n) && b) (s.last t) (s.picks t)) (reads t) ∙ ap (λ b. cond b (s.last t) (s.picks t)) (and_false (is_picking k s.begun n))
 
       put : (s.put_mark || is_marking w r) ≡ s.put_mark
       put = ap (λ b. s.put_mark || b) mark ∙ or_false s.put_mark
@@ -526,6 +634,17 @@ module _ (g : Setting) (k : Times) (opening : Content) (j : IsLegal g.script) (i
       by Slow = kept_next g opening s (see w k s (driver_entry n r Slow)) (λ p. refl) refl refl refl begun kept
       by RequestLost = kept_next g opening s (see w k s (driver_entry n r RequestLost)) (λ p. refl) refl refl refl begun kept
       by ReplyLost = kept_next g opening s (see w k s (driver_entry n r ReplyLost)) (hidden_shows j s.scene r ReplyLost there hides) (hidden_same w s.scene there r hides ReplyLost (success_key w.dest.key) success) refl put begun kept
+
+  -- a sparing abort or clean puts no marker
+  record_no_mark : (c : Committer) (p : List ℕ) → is_marking w (record_request c w p) ≡ false
+  record_no_mark Magic p = refl
+  record_no_mark Directory p = refl
+  record_no_mark Partitioned p = refl
+
+  sparing_no_mark : (c : Sparing) (r : Request) → sparing_asks w c ≡ Some r → is_marking w r ≡ false
+  sparing_no_mark (sparing.Reading named p ps all) r e = ap (is_marking w) (sym (some_is e)) ∙ record_no_mark w.committer p
+  sparing_no_mark (sparing.SparingOver end) r e = absurd cc
+  sparing_no_mark _ r e = ap (is_marking w) (sym (some_is e))
 
   abbrev Shown : Stand → Type 0
   Shown x = Shows g opening x.driver x.seen x.told x.commit
@@ -546,6 +665,8 @@ module _ (g : Setting) (k : Times) (opening : Content) (j : IsLegal g.script) (i
   late_kept (Some (TheSetup t)) s m es h y v = kept_untouched g opening s v y.1.unmarked
   late_kept (Some (TheCommit c)) s m es h y v = kept_commit g opening j s m h es c y v
   late_kept (Some (TheClean t)) s m es h y v = v
+  late_kept (Some (TheCheck t)) s m es h y v = kept_untouched g opening s v.0 y.unmarked
+  late_kept (Some (TheSparing t)) s m es h y v = v
   late_kept _ s m es h y v = absurd y
 
   pub kept_now : (x : Stand) → Good x → Shown x → Kept w opening x.seen
@@ -554,10 +675,11 @@ module _ (g : Setting) (k : Times) (opening : Content) (j : IsLegal g.script) (i
 
   shown_begins : (x : Stand) → Well x → (b : Beginning) → MayBegin g x b → Shown x → Shown (begin g x b)
   shown_begins x h BeginSetup may v = early_untouched x (may_set_up x h may) v
-  shown_begins x h (BeginCommit missing) may v =
+  shown_begins x h (BeginCommit reports) may v =
       let l = late x h.0 (just_set x.driver may) in
-      commit_shows g j opening x.seen x.told l.hold (just_idle x.driver x.seen x.told l.driver may) (just_untouched x.driver x.seen x.told x.commit may v) missing
-  shown_begins x h BeginClean may v = kept_now x h.0 v
+      let untouched = just_untouched x.driver x.seen x.told x.commit may v in
+      commit_of_so g (λ op. Shows g opening (Some op) x.seen x.told []) (commit_shows g j opening x.seen x.told l.hold (just_idle x.driver x.seen x.told l.driver may) untouched) (λ t. (untouched, refl)) reports
+  shown_begins x h BeginClean may v = clean_of_so g (λ op. Shows g opening (Some op) x.seen x.told x.commit) (kept_now x h.0 v) (kept_now x h.0 v)
   shown_begins x h _ may v = v
 
   setup_shown : (x : Stand) (t : Retried Setup) → x.driver ≡ Some (TheSetup t) → Good x → (n : ℕ) (r : Request) → setup_asks w t.operation ≡ Some r → (o : Outcome) → Untouched g opening x.seen.scene.content → Untouched g opening (see w k x.seen (driver_entry n r o)).scene.content
@@ -591,7 +713,23 @@ module _ (g : Setting) (k : Times) (opening : Content) (j : IsLegal g.script) (i
   driver_shown x at h (TheClean t) d n r asked timely few o honest v =
       let l = late x h (ap is_set d) in
       let plain_one = clean_plain t.operation r asked in
-      kept_clean x.seen l.hold.there n r o (clean_hides w g.minimum k x.seen x.told n j l.hold t.operation (subst (λ v. At g opening v x.seen x.told) d l.driver) r asked) plain_one.0 plain_one.1 v
+      kept_clean x.seen l.hold.there n r o (clean_hides w g.minimum k x.seen x.told n j l.hold t.operation (subst (λ v. At g opening v x.seen x.told) d l.driver) r asked) plain_one.0 (λ i t. plain_picks_by x.seen n r plain_one.1 t i) v
+  driver_shown x at h (TheCheck t) d n r asked timely few o honest v =
+      let l = late x h (ap is_set d) in
+      let i = subst (λ v. At g opening v x.seen x.told) d l.driver in
+      let p = check_plain w t.operation r asked in
+      let reads = check_reads g j t.operation r asked in
+      let next = see w k x.seen (driver_entry n r o) in
+      let told = at_event n (tell_driver x.told r o) in
+      let same : next.scene ≡ x.seen.scene = driver_scene x.seen n r o ∙ reads_leave x.seen.scene r reads o in
+      let untouched : Untouched g opening next.scene.content = subst (λ (s : Scene). Untouched g opening s.content) (sym same) v.0 in
+      let hold = driving_keeps w g.minimum k x.seen x.told n r o j (reads_drive w r reads) l.hold in
+      after_check_so g (λ op. Shows g opening (Some op) next told x.commit) (subst (λ es. CommitShows g opening next told.ended es (commit_start w None)) (sym v.1) (commit_shows g j opening next told hold (checked_idle x at n r o p timely.1 i) untouched None)) (λ u. (untouched, v.1)) (step w.retries (check_after w) t o)
+  driver_shown x at h (TheSparing t) d n r asked timely few o honest v =
+      let l = late x h (ap is_set d) in
+      let fits = subst (λ v. At g opening v x.seen x.told) d l.driver in
+      let off : is_picking k x.seen.begun n ≡ false = ap (λ b. (x.seen.begun || is_begun k.commit n) && not b) timely ∙ and_false (x.seen.begun || is_begun k.commit n) in
+      kept_clean x.seen l.hold.there n r o (sparing_hides g j x.told t.operation fits r asked) (sparing_no_mark t.operation r asked) (λ i u. ap (λ b. cond (b && is_reading w u r) (x.seen.last u) (x.seen.picks u)) off i) v
   driver_shown x at h _ d n r asked timely few o honest v = absurd v
 
   pub shown : (es : List Entry) (x : Stand) → Runs g k opening es x → AreOwn es → Shown x
@@ -605,3 +743,19 @@ module _ (g : Setting) (k : Times) (opening : Content) (j : IsLegal g.script) (i
       let mine = operation_own g j y.told a f.0 op f.1 r asked in
       shows_beside g j opening k y.seen y.told l.hold a n op f.1 r asked (λ b q i. mine.keys q i) o y.commit y.driver (shown fs y run (own_front fs _ own))
   shown es x (strays fs y n r o run f) own = absurd (false_true refl (own_last fs _ own))
+
+  -- ---- while a check goes on its commit has sent nothing
+
+  pub check_unsent : (es : List Entry) (x : Stand) → Runs g k opening es x → (t : Retried Check) → x.driver ≡ Some (TheCheck t) → x.commit ≡ []
+  check_unsent es x run_begins t e = absurd (none_some refl e)
+  check_unsent es x (actor_begins fs y BeginSetup run may) t e = absurd cc
+  check_unsent es x (actor_begins fs y (BeginCommit reports) run may) t e = refl
+  check_unsent es x (actor_begins fs y BeginClean run may) t e = absurd (clean_of_so g (λ op. Some op ≡ Some (TheCheck t) → ⊥) (λ z. absurd cc) (λ z. absurd cc) e)
+  check_unsent es x (actor_begins fs y b run may) t e = check_unsent fs y run t e
+  check_unsent es x (driver_sends fs y op n r o run d asked timely few honest) t e = by op d e (check_unsent fs y run)
+    where
+      by : (op : Operation) → y.driver ≡ Some op → Some (tells g (who Driver) op o) ≡ Some (TheCheck t) → ((u : Retried Check) → y.driver ≡ Some (TheCheck u) → y.commit ≡ []) → commit_with op y.commit (driver_entry n r o) ≡ []
+      by (TheCheck u) d e before = before u d
+      by _ d e before = absurd cc
+  check_unsent es x (attempt_sends fs y a op n r o run set at asked honest) t e = check_unsent fs y run t e
+  check_unsent es x (strays fs y n r o run f) t e = check_unsent fs y run t e

@@ -1,6 +1,6 @@
 -- What holds of a run's stand is kept by every step of the run.
 use Rattle.std.proofs.Common.{◌≡◌, ℕ, ◌<◌, ◌≤◌, inl, inr, ◌&&◌, Bool, true, false, List, [], ◌∷◌, Option, Some, None, refl, sym, ap, subst, ◌∙◌, arith}
-use Rattle.job_facts.specs.Prelude.{is_some, Content, begins, Request, Outcome, Answered, ReplyLost, Entry, below, magic_prefix, success_key, SuccessPlace, Who, IsLegal, Script, CommitEnd, Picks, learn, view, is_file_path, picks_of, is_no_magic, Commit, Replacing, Marking, CommitOver, commit_start, Setting, Operation, TheSetup, TheWrite, TheTaskCommit, TheTaskAbort, TheCommit, TheClean, asks, Same, Between, Kept, Seen, see, is_marked, HasBucket, Told, known, entry, tell_attempt, at_key, Hold, Fits, FitsWrite, FitsCommit, FitsAbort, FileStands, OnlyThose, EmptiesBy, Sweep, Listing, Deleting, Times}
+use Rattle.job_facts.specs.Prelude.{is_some, Content, begins, Request, Outcome, Answered, ReplyLost, Entry, below, magic_prefix, success_key, SuccessPlace, Who, IsLegal, Script, CommitEnd, Picks, learn, view, is_file_path, picks_of, is_no_magic, Commit, Replacing, Marking, CommitOver, commit_start, Setting, Operation, TheSetup, TheWrite, TheTaskCommit, TheTaskAbort, TheCommit, TheClean, asks, Same, Between, Kept, Seen, see, is_marked, HasBucket, Told, known, entry, tell_attempt, at_key, Hold, Fits, FitsWrite, FitsCommit, FitsAbort, FileStands, OnlyThose, EmptiesBy, Sweep, Listing, Deleting, Times, TheCheck, TheSparing}
 use Rattle.job_spec.proofs.Common.{key_magic, tabled_start, false_true, true_or_false}
 use Rattle.job_spec.specs.Prelude.{Whole}
 use Rattle.job_model.specs.declared.ends.CommitEnd.TheVariants as commits
@@ -18,6 +18,7 @@ use Rattle.job_facts.proofs.FilingLaws.{decides_beside, files_begin}
 use Rattle.job_facts.proofs.Agreeing.{Agrees, agrees_start}
 use Rattle.job_traces.proofs.Running.{first_at, now_at, Untouched, MarkSays, MarkLeft, Marks, Files, OtherStands, Empty, InCommit, CommitShows, Idle, At, Shows, false_marks, wants_of}
 use Rattle.job_traces.proofs.Steps.{hidden_same}
+use Rattle.job_facts.proofs.Sharing.{sparing_still}
 
 -- ---- what is quiet
 
@@ -64,7 +65,6 @@ module _ (g : Setting) (j : IsLegal g.script) (opening : Content) (s u : Seen) (
     none = λ id. ended id ∙ i.none id;
     uncleaned = cleaned ∙ i.uncleaned;
     unmarked = q.mark ∙ i.unmarked;
-    unbegun = q.begun ∙ i.unbegun;
     unpicked = λ t. ap (λ p. p t) q.picks ∙ i.unpicked t;
   }
 
@@ -146,6 +146,8 @@ module _ (g : Setting) (j : IsLegal g.script) (opening : Content) (k : Times) (s
   at_beside (Some (TheSetup t)) y = (y.0, idle_still g j opening s next quiet m told (λ id. refl) refl y.1)
   at_beside (Some (TheCommit c)) y = commit_beside c y
   at_beside (Some (TheClean t)) y = y
+  at_beside (Some (TheCheck t)) y = idle_still g j opening s next quiet m told (λ id. refl) refl y
+  at_beside (Some (TheSparing t)) y = sparing_still g.script m a r o t.operation y
   at_beside _ y = absurd y
 
   -- and so is what is shown
@@ -157,16 +159,21 @@ module _ (g : Setting) (j : IsLegal g.script) (opening : Content) (k : Times) (s
     files = subst (λ p. Files g opening next.scene.content p m.ended es c) (sym quiet.picks) (files_still g j opening s next quiet m.ended es c v.files);
   }
 
-  pub shows_beside : (d : Option Operation) → Shows g opening d s m es → Shows g opening d next told es
-  shows_beside None v = untouched_still g j opening s next quiet v
-  shows_beside (Some (TheSetup t)) v = untouched_still g j opening s next quiet v
-  shows_beside (Some (TheCommit c)) v = shown_beside c v
-  shows_beside (Some (TheClean t)) v = kept_next g opening s next (shows_by o) (success_same g j opening s next quiet) quiet.picks quiet.mark (λ e. quiet.begun ∙ e) v
+  kept_beside : Kept g.script opening s → Kept g.script opening next
+  kept_beside v = kept_next g opening s next (shows_by o) (success_same g j opening s next quiet) quiet.picks quiet.mark (λ e. quiet.begun ∙ e) v
     where
       shows_by : (o : Outcome) → Same (view g.script.dest (see g.script k s (entry a n r o)).scene.content) (view g.script.dest s.scene.content)
       shows_by (Answered x) = hidden_shows j s.scene r (Answered x) h.there hides
       shows_by ReplyLost = hidden_shows j s.scene r ReplyLost h.there hides
       shows_by _ = λ p. refl
+
+  pub shows_beside : (d : Option Operation) → Shows g opening d s m es → Shows g opening d next told es
+  shows_beside None v = untouched_still g j opening s next quiet v
+  shows_beside (Some (TheSetup t)) v = untouched_still g j opening s next quiet v
+  shows_beside (Some (TheCommit c)) v = shown_beside c v
+  shows_beside (Some (TheCheck t)) v = (untouched_still g j opening s next quiet v.0, v.1)
+  shows_beside (Some (TheClean t)) v = kept_beside v
+  shows_beside (Some (TheSparing t)) v = kept_beside v
   shows_beside (Some _) v = absurd v
 
   -- other attempts know what they knew

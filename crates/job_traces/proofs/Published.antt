@@ -1,7 +1,7 @@
 -- In a run, until the driver cleans up, an attempt's commit that is done has published its own set.
-use Rattle.std.proofs.Common.{◌≡◌, ℕ, ◌<◌, ◌⊎◌, inl, inr, Bool, true, false, List, [], ◌∷◌, ◌++◌, length, slice_get, Some, refl, sym, ap, subst, ◌∙◌, arith}
+use Rattle.std.proofs.Common.{◌≡◌, ℕ, ◌<◌, ◌⊎◌, inl, inr, Bool, true, false, List, [], ◌∷◌, ◌++◌, length, slice_get, Some, refl, sym, ap, subst, ◌∙◌, arith, None}
 use Rattle.job_spec.proofs.Common.{false≢true, slice_get_within, some_is, none_some, false_true}
-use Rattle.job_facts.specs.Prelude.{Content, answer, is_effective, IsHonestOutcome, Driver, Request, Outcome, Entry, Retried, fresh, Who, IsLegal, Script, Setup, setup_asks, write_start, TaskCommitOver, task_commit_start, task_abort_start, Commit, Clean, Setting, Operation, TheSetup, TheWrite, TheTaskCommit, TheTaskAbort, TheCommit, TheClean, who, asks, tells, WasPublished, Seen, see, is_publishing, known, entry, driver_entry, strange_entry, Fits, Closed, Reverts, WriteStands, CommitStandsBy, IsForeign, Times, is_begun}
+use Rattle.job_facts.specs.Prelude.{Content, answer, is_effective, IsHonestOutcome, Driver, Request, Outcome, Entry, Retried, fresh, Who, IsLegal, Script, Setup, setup_asks, write_start, TaskCommitOver, task_commit_start, task_abort_start, Commit, Clean, Setting, Operation, TheSetup, TheWrite, TheTaskCommit, TheTaskAbort, TheCommit, TheClean, who, asks, tells, WasPublished, Seen, see, is_publishing, known, entry, driver_entry, strange_entry, Fits, Closed, Reverts, WriteStands, CommitStandsBy, IsForeign, Times, is_begun, TheSparing, TheCheck}
 use Rattle.job_model.specs.declared.ends.TaskEnd.TheVariants as tasks
 use Rattle.job_traces.specs.Runs.{Stand, Beginning, BeginSetup, BeginCommit, BeginClean, BeginWrite, BeginPublish, BeginAbort, begin, MayBegin, Runs, run_begins, actor_begins, driver_sends, attempt_sends, strays, IsOpening, IsTimely, nothing_learnt, with_attempt, with_driver, with_commit, commit_with, saw}
 use Rattle.job_facts.proofs.Whose.{same_or_another, who_here, who_other}
@@ -12,6 +12,11 @@ use Rattle.job_facts.proofs.Remaining as remaining
 use Rattle.job_traces.proofs.Running.{At, Early, Late}
 use Rattle.job_traces.proofs.EveryRun.{good, cleans_is, late, setup_ends}
 use Rattle.job_traces.proofs.Changes.{earlier, slice_in, moment_scene}
+use Rattle.job_protocol.specs.Rechecks.{Check}
+use Rattle.job_protocol.specs.Sparing.{Sparing}
+use Rattle.job_protocol.proofs.Begun.{after_check_so, commit_of_so, clean_of_so}
+use Rattle.job_facts.proofs.Sharing.{check_plain, check_reads}
+use Rattle.job_facts.proofs.Driving.{reads_drive}
 
 module _ (g : Setting) (k : Times) (opening : Content) (j : IsLegal g.script) (is_opening : IsOpening g opening) where
   abbrev w : Script
@@ -56,12 +61,9 @@ module _ (g : Setting) (k : Times) (opening : Content) (j : IsLegal g.script) (i
   )
 
   abbrev pub StandsBy : Type 0 → Seen → Who → Operation → Type 0
-  StandsBy P s a (TheSetup t) = Unit {0}
   StandsBy P s a (TheWrite t) = WriteStands w s a t.operation
   StandsBy P s a (TheTaskCommit t) = CommitStandsBy P w s a t.repeated t.operation
-  StandsBy P s a (TheTaskAbort t) = Unit {0}
-  StandsBy P s a (TheCommit c) = Unit {0}
-  StandsBy P s a (TheClean t) = Unit {0}
+  StandsBy P s a _ = Unit {0}
 
   stands_on : {P Q : Type 0} {s u : Seen} {a : Who} → Stood w a s u → (P → Q) → (op : Operation) → StandsBy P s a op → StandsBy Q u a op
   stands_on h keeps (TheWrite t) y = write_kept h t.operation y
@@ -103,6 +105,12 @@ module _ (g : Setting) (k : Times) (opening : Content) (j : IsLegal g.script) (i
       clean_not : {t : Retried Clean} {c : Commit} → TheClean t ≡ TheCommit c → ⊥
       clean_not e = absurd cc
 
+      sparing_not : {t : Retried Sparing} {c : Commit} → TheSparing t ≡ TheCommit c → ⊥
+      sparing_not e = absurd cc
+
+      check_not : {t : Retried Check} {c : Commit} → TheCheck t ≡ TheCommit c → ⊥
+      check_not e = absurd cc
+
       commit_is : {c d : Commit} → TheCommit c ≡ TheCommit d → c ≡ d
       commit_is e = cc
 
@@ -123,6 +131,17 @@ module _ (g : Setting) (k : Times) (opening : Content) (j : IsLegal g.script) (i
         closed = clean_closes x.told n (at timely) r o;
         reverts = λ v z. absurd (clean_not (some_is z));
         stands = λ v a mine z. absurd (false_true v (clean_begun x.told n (at timely) r o));
+      }
+      by (TheSparing t) l y d asked timely = record {
+        closed = clean_closes x.told n (at timely) r o;
+        reverts = λ v z. absurd (sparing_not (some_is z));
+        stands = λ v a mine z. absurd (false_true v (clean_begun x.told n (at timely) r o));
+      }
+      by (TheCheck t) l y d asked timely = record {
+        closed = driver_closes x.told n r o h.closed (λ id z. absurd (false_true ((check_plain w t.operation r asked).ends_none id) z));
+        reverts = after_check_so g (λ op. (c : Commit) → Some op ≡ Some (TheCommit c) → Reverts x.told.publish_sent x.told.drawn c)
+            (λ c z. subst (Reverts x.told.publish_sent x.told.drawn) (commit_is (some_is z)) (reverts_start w x.told.publish_sent x.told.drawn None)) (λ u c z. absurd (check_not (some_is z))) _;
+        stands = λ v a mine z. stands_on (driver_stood w j k x.seen a n l.hold.there r (reads_drive w r (check_reads g j t.operation r asked)) o) (own_more es (driver_entry n r o) a) mine (h.stands y.uncleaned a mine z);
       }
       by _ l y d asked timely = absurd y
 
@@ -153,14 +172,29 @@ module _ (g : Setting) (k : Times) (opening : Content) (j : IsLegal g.script) (i
     where
       setup_no : {t : Retried Setup} {c : Commit} → TheSetup t ≡ TheCommit c → ⊥
       setup_no e = absurd cc
-  stands_begin es x h (BeginCommit missing) may = record { closed = h.closed; reverts = λ c e. subst (Reverts x.told.publish_sent x.told.drawn) (commit_one (some_is e)) (reverts_start w x.told.publish_sent x.told.drawn missing); stands = h.stands }
+  stands_begin es x h (BeginCommit reports) may = record {
+    closed = h.closed;
+    reverts = commit_of_so g (λ op. (c : Commit) → Some op ≡ Some (TheCommit c) → Reverts x.told.publish_sent x.told.drawn c)
+        (λ missing c e. subst (Reverts x.told.publish_sent x.told.drawn) (commit_one (some_is e)) (reverts_start w x.told.publish_sent x.told.drawn missing)) (λ t c e. absurd (check_no (some_is e))) reports;
+    stands = h.stands;
+  }
     where
       commit_one : {c d : Commit} → TheCommit c ≡ TheCommit d → c ≡ d
       commit_one e = cc
-  stands_begin es x h BeginClean may = record { closed = h.closed; reverts = λ c e. absurd (clean_no (some_is e)); stands = h.stands }
+
+      check_no : {t : Retried Check} {c : Commit} → TheCheck t ≡ TheCommit c → ⊥
+      check_no e = absurd cc
+  stands_begin es x h BeginClean may = record {
+    closed = h.closed;
+    reverts = clean_of_so g (λ op. (c : Commit) → Some op ≡ Some (TheCommit c) → Reverts x.told.publish_sent x.told.drawn c) (λ c e. absurd (clean_no (some_is e))) (λ c e. absurd (sparing_no (some_is e)));
+    stands = h.stands;
+  }
     where
       clean_no : {t : Retried Clean} {c : Commit} → TheClean t ≡ TheCommit c → ⊥
       clean_no e = absurd cc
+
+      sparing_no : {t : Retried Sparing} {c : Commit} → TheSparing t ≡ TheCommit c → ⊥
+      sparing_no e = absurd cc
   stands_begin es x h (BeginWrite a) may = begins_stands es x h a (TheWrite (fresh w.retries (write_start w a))) (λ c. remaining.write_begins w x.seen a)
   stands_begin es x h (BeginPublish a) may = begins_stands es x h a (TheTaskCommit (fresh w.retries (task_commit_start w a))) (λ c. remaining.commit_begins (Own es a) w j x.seen a (h.stands c a _ may.1.2))
   stands_begin es x h (BeginAbort a) may = begins_stands es x h a (TheTaskAbort (fresh w.retries (task_abort_start w (known x.told a)))) (λ c. tt)

@@ -1,6 +1,6 @@
 -- What holds of a run's stand: before its set-up is done, while its commit goes on, and while it cleans up. How far the job has come no stranger can change; what a reader is shown is told of a run among no strangers.
 use Rattle.std.proofs.Common.{◌≡◌, ℕ, ◌<◌, ◌⊎◌, inl, inr, not, Bool, true, false, cond, List, [], ◌∷◌, ◌++◌, Option, Some, None, refl, sym, ap, subst, ◌∙◌}
-use Rattle.job_facts.specs.Prelude.{option_map, lookup, text_eq, Content, Upload, Object, Entry, below, success_key, Retried, Sweep, IsIn, Who, IsLegal, Script, CommitEnd, Picks, wanted_at, is_decided, is_picked, is_clash, keeps_of, mark_text, Setup, SetupOver, view, is_file_path, Sets, picks_of, is_no_magic, replaced, Commit, Fetching, Replacing, Completing, Marking, Reverting, CommitOver, Tabled, Setting, Operation, TheSetup, TheCommit, TheClean, Same, Between, Kept, is_untouched, NoDeletionWorn, OnlyOpening, NoClusterFile, Seen, is_marked, Told, known, nothing_told, at_key, at_id, IsAttempt, Hold, Fits, OnlyThose, EmptiesBy, SetsUp, SweepsUnder, FitsClean, FitsJobCommit, NoneEnded, Gone, Decides, Wants, IsBefore, whole_of, FileStands}
+use Rattle.job_facts.specs.Prelude.{option_map, lookup, text_eq, Content, Upload, Object, Entry, below, success_key, Retried, Sweep, IsIn, Who, IsLegal, Script, CommitEnd, Picks, wanted_at, is_decided, is_picked, is_clash, keeps_of, mark_text, Setup, SetupOver, view, is_file_path, Sets, picks_of, is_no_magic, replaced, Commit, Fetching, Replacing, Completing, Marking, Reverting, CommitOver, Tabled, Setting, Operation, TheSetup, TheCommit, TheClean, Same, Between, Kept, is_untouched, NoDeletionWorn, OnlyOpening, NoClusterFile, Seen, is_marked, Told, known, nothing_told, at_key, at_id, IsAttempt, Hold, Fits, OnlyThose, EmptiesBy, SetsUp, SweepsUnder, FitsClean, FitsJobCommit, NoneEnded, Gone, Decides, Wants, IsBefore, whole_of, FileStands, TheCheck, TheSparing}
 use Rattle.job_spec.proofs.Common.{and_parts, not-true, none_some, false_true, true_or_false}
 use Rattle.job_spec.specs.Prelude.{Whole, or_else, done}
 use Rattle.job_model.specs.declared.ends.CommitEnd.TheVariants as commits
@@ -13,6 +13,7 @@ use Rattle.job_facts.proofs.Agreeing.{AgreeBelow, Agrees, decided_so}
 use Rattle.job_facts.proofs.Wanted.{same_wanted, wanted_of}
 use Rattle.job_facts.proofs.FilePaths.{file_path}
 use Rattle.job_facts.proofs.Filing.{wanted_upload}
+use Rattle.job_facts.specs.Spares.{FitsSparing, Filed}
 
 module _ (g : Setting) (opening : Content) where
   abbrev pub w : Script
@@ -120,13 +121,14 @@ module _ (g : Setting) (opening : Content) where
     pub none : NoneEnded m
     pub uncleaned : m.cleaned ≡ false
     pub unmarked : s.put_mark ≡ false
-    pub unbegun : s.begun ≡ false
     pub unpicked : (t : ℕ) → s.picks t ≡ None
 
   abbrev pub At : Option Operation → Seen → Told → Type 0
   At (Some (TheSetup t)) s m = (t.operation ≡ SetupOver setups.Done) × Idle s m
   At (Some (TheCommit op)) s m = InCommit s.picks m op
   At (Some (TheClean t)) s m = FitsClean w m.cleaned t.operation
+  At (Some (TheCheck t)) s m = Idle s m
+  At (Some (TheSparing t)) s m = FitsSparing w m.drawn t.operation
   At _ s m = ⊥
 
   -- while nobody of the job but the driver's set-up has sent anything
@@ -149,6 +151,7 @@ module _ (g : Setting) (opening : Content) where
     pub gone : x.told.cleaned ≡ false → Gone w x.seen.scene.content x.told
     pub fine : (a : Who) (op : Operation) → x.attempts a ≡ Some op → IsAttempt w a × Fits w g.minimum a x.told op
     pub new : (a : Who) → x.attempts a ≡ None → (known x.told a ≡ record { drawn = []; put_sent = false; publish_sent = false }) × (x.told.undone a ≡ false)
+    pub filed : Filed w x.seen.scene
     pub driver : At x.driver x.seen x.told
 
   -- ---- what is shown, among none
@@ -164,6 +167,8 @@ module _ (g : Setting) (opening : Content) where
   Shows (Some (TheSetup t)) s m es = Untouched s.scene.content
   Shows (Some (TheCommit op)) s m es = CommitShows s m.ended es op
   Shows (Some (TheClean t)) s m es = Kept w opening s
+  Shows (Some (TheCheck t)) s m es = Untouched s.scene.content × (es ≡ [])
+  Shows (Some (TheSparing t)) s m es = Kept w opening s
   Shows (Some _) s m es = ⊥
 
   -- ---- what a reader is shown

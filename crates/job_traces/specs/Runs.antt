@@ -1,6 +1,6 @@
 -- Runs of a job among strangers that leave its own alone, request by request, in any order of its actors. An operation may also stop at any time.
 use Rattle.std.specs.Prelude.{◌≡◌, ℕ, ◌≤◌, ◌<◌, ◌^◌, ◌⊎◌, Bool, true, false, List, [], ◌∷◌, ◌++◌, Option, Some, None}
-use Rattle.job_facts.specs.Prelude.{Content, Upload, answer, IsHonestOutcome, Driver, Request, Outcome, Entry, fresh, Who, Known, Setup, SetupOver, setup_start, WriteOver, write_start, task_commit_start, task_abort_start, commit_start, clean_start, Setting, Operation, TheSetup, TheWrite, TheTaskCommit, TheTaskAbort, TheCommit, TheClean, who, asks, tells, Seen, Times, see, is_begun, nothing_seen, Told, known, put_who, nothing_told, tell, entry, driver_entry, strange_entry, at_id, IsAttempt, IsForeign}
+use Rattle.job_facts.specs.Prelude.{Content, Upload, answer, IsHonestOutcome, Driver, Request, Outcome, Entry, fresh, Who, Known, Setup, SetupOver, setup_start, WriteOver, write_start, task_commit_start, task_abort_start, commit_start, clean_start, Setting, Operation, TheSetup, TheWrite, TheTaskCommit, TheTaskAbort, TheCommit, TheClean, TheCheck, TheSparing, Reports, commit_of, clean_of, who, asks, tells, Seen, Times, see, is_begun, nothing_seen, Told, known, put_who, nothing_told, tell, entry, driver_entry, strange_entry, at_id, IsAttempt, IsForeign}
 use Rattle.job_model.specs.declared.ends.SetupEnd.TheVariants as setups
 use Rattle.job_model.specs.declared.ends.TaskEnd.TheVariants as tasks
 
@@ -48,6 +48,8 @@ is_set None = false
 is_set (Some (TheSetup t)) = is_done t.operation
 is_set (Some (TheCommit c)) = true
 is_set (Some (TheClean t)) = true
+is_set (Some (TheCheck t)) = true
+is_set (Some (TheSparing t)) = true
 is_set (Some _) = false
 
 -- it is what the driver did last
@@ -59,11 +61,13 @@ is_just_set _ = false
 abbrev pub MaySetUp : Stand → Type 0
 MaySetUp x = (is_set x.driver ≡ false) ⊎ ((is_just_set x.driver ≡ true) × ((a : Who) → x.attempts a ≡ None))
 
--- the entries of a set-up are of events before that of the commit and that of the first abort or clean, those of the commit of it or of later ones before that, and those of an abort or clean of that or later ones
+-- the entries of a set-up are of events before that of the commit and that of the first abort or clean, those of the commit and its check of it or of later ones before that, and those of an abort or clean of that or later ones
 abbrev pub IsTimely : Times → ℕ → Operation → Type 0
 IsTimely k n (TheSetup t) = (is_begun k.commit n ≡ false) × (is_begun k.clean n ≡ false)
 IsTimely k n (TheCommit v) = (is_begun k.commit n ≡ true) × (is_begun k.clean n ≡ false)
+IsTimely k n (TheCheck t) = (is_begun k.commit n ≡ true) × (is_begun k.clean n ≡ false)
 IsTimely k n (TheClean t) = is_begun k.clean n ≡ true
+IsTimely k n (TheSparing t) = is_begun k.clean n ≡ true
 IsTimely k n _ = Unit {0}
 
 -- what an attempt knows before it has sent anything
@@ -74,9 +78,9 @@ nothing_learnt = record { drawn = []; put_sent = false; publish_sent = false }
 
 -- what it begins
 pub data Beginning : Type 0 where
-  -- the driver a set-up; its commit, where this task is the least that none has reported; an abort or clean of the job
+  -- the driver a set-up; its commit, with these reports; an abort or clean of the job
   BeginSetup : Beginning
-  BeginCommit : (missing : Option ℕ) → Beginning
+  BeginCommit : (reports : Reports) → Beginning
   BeginClean : Beginning
   -- an attempt its write, its commit, and an abort
   BeginWrite : (attempt : Who) → Beginning
@@ -86,13 +90,13 @@ pub data Beginning : Type 0 where
 -- what the driver is at then
 abbrev pub begun_driver : Setting → Stand → Beginning → Option Operation
 begun_driver g x BeginSetup = Some (TheSetup (fresh g.script.retries setup_start))
-begun_driver g x (BeginCommit missing) = Some (TheCommit (commit_start g.script missing))
-begun_driver g x BeginClean = Some (TheClean (fresh g.script.retries clean_start))
+begun_driver g x (BeginCommit reports) = Some (commit_of g reports)
+begun_driver g x BeginClean = Some (clean_of g)
 begun_driver g x _ = x.driver
 
 -- what its commit has sent
 abbrev pub begun_commit : Stand → Beginning → List Entry
-begun_commit x (BeginCommit missing) = []
+begun_commit x (BeginCommit reports) = []
 begun_commit x _ = x.commit
 
 -- what each attempt is at
@@ -114,7 +118,7 @@ WriteIsDone o = (spare : ℕ) × (repeated : Bool) × (o ≡ Some (TheWrite (rec
 -- an attempt's write where it has begun nothing, its commit where its write has ended Done, and its abort at any time
 abbrev pub MayBegin : Setting → Stand → Beginning → Type 0
 MayBegin g x BeginSetup = MaySetUp x
-MayBegin g x (BeginCommit missing) = is_just_set x.driver ≡ true
+MayBegin g x (BeginCommit reports) = is_just_set x.driver ≡ true
 MayBegin g x BeginClean = is_set x.driver ≡ true
 MayBegin g x (BeginWrite a) = (is_set x.driver ≡ true) × IsAttempt g.script a × (x.attempts a ≡ None)
 MayBegin g x (BeginPublish a) = (is_set x.driver ≡ true) × WriteIsDone (x.attempts a)

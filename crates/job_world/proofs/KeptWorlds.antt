@@ -73,7 +73,7 @@ module _ {W : Type 0} (wants : W → Option Request) (is_of : Setting → Actor 
         let ps : List Pick = picks_in picks_of b.side.picks (slice_get b.side.hands.items 0) in
         subst (λ es. Promised b.side.script b.shared.opening es ps b.side.ends.items) (sym journal_is)
         (subst (λ xs. Promised b.side.script b.shared.opening play.journal ps xs) (sym q.holds.ends)
-        (runs_are_kept (setting_of b) b.shared.opening play q.holds.legal q.holds.opens q.holds.happened idle ps told.first))
+        (runs_are_kept (setting_of b) refl b.shared.opening play q.holds.legal q.holds.opens q.holds.happened idle ps told.first))
 
     sent : Sent b.side.script b.shared.opening b.shared.journal.entries
     sent = record {

@@ -3,6 +3,8 @@ use Rattle.std.proofs.Common.{inl, inr, ℕ, List, refl}
 use Rattle.job_spec.specs.Prelude.{Script, SetupEnd, CommitEnd, OpEnd, EventEnd, Decided, NotBegun, Unended, EndedSo, past, end_verdict, verdict_or, verdict}
 use Rattle.job_model.specs.declared.ends.SetupEnd.TheVariants as setups
 use Rattle.job_model.specs.declared.ends.CommitEnd.TheVariants as commits
+use Rattle.job_model.specs.declared.ends.CheckEnd.{CheckEnd}
+use Rattle.job_model.specs.declared.ends.CheckEnd.TheVariants as checks
 use Rattle.job_model.specs.declared.ends.OpEnd.TheVariants as ends
 use Rattle.s3a_top.specs.Plays.{IsFinal}
 
@@ -13,6 +15,11 @@ setup_final setups.StoreFault = inr (inr (inl refl))
 setup_final setups.NoMemory = inr (inr (inr refl))
 setup_final _ = inr (inl refl)
 
+check_final : (e : CheckEnd) → IsFinal (end_verdict (ends.Check e))
+check_final checks.StoreFault = inr (inr (inl refl))
+check_final checks.NoMemory = inr (inr (inr refl))
+check_final _ = inr (inl refl)
+
 commit_final : (e : CommitEnd) → IsFinal (end_verdict (ends.Commit e))
 commit_final commits.Committed = inl refl
 commit_final (commits.StoreFault s) = inr (inr (inl refl))
@@ -21,6 +28,7 @@ commit_final _ = inr (inl refl)
 
 end_final : (e : OpEnd) → IsFinal (end_verdict e)
 end_final (ends.Setup e) = setup_final e
+end_final (ends.Check e) = check_final e
 end_final (ends.Commit e) = commit_final e
 end_final ends.NoMemory = inr (inr (inr refl))
 end_final _ = inr (inl refl)

@@ -1,4 +1,4 @@
-//! How the commit of one of two jobs at one destination ends, in every run of both.
+//! How the commit of a job whose destination others share ends, in every run among strangers.
 //!
 //! # What is proved
 //!
@@ -9,14 +9,14 @@
 #![tactic(auto)]
 
 ghost use Rattle.twin_ends.specs.Checks.{ChecksEnd};
-ghost use Rattle.twin_ends.specs.Ends.{TwinCommitsEnd};
+ghost use Rattle.twin_ends.specs.Ends.{SharedCommitsEnd};
 
 /// The check before a commit, by its entries alone.
 pub fn checks()
     ensures end { ChecksEnd }
 {}
 
-/// The commit of the first of two jobs, in every run of both.
+/// The commit of a job at a shared destination, in every run among strangers.
 pub fn commits()
-    ensures end { TwinCommitsEnd }
+    ensures end { SharedCommitsEnd }
 {}

@@ -19,15 +19,10 @@ use Rattle.job_traces.proofs.Steps.{hidden_same}
 use Rattle.job_protocol.specs.Sparing.{Sparing, Walking, Naming, Aborting, SparingOver, record_request, sparing_asks}
 use Rattle.job_protocol.specs.Sparing as sparing
 use Rattle.job_protocol.specs.Rechecks.{Check, Looking, Probing, CheckOver, check_asks}
-use Rattle.twin_facts.specs.Requests.{FitsSparing, SetsUpBy}
+use Rattle.job_facts.specs.Spares.{FitsSparing}
+use Rattle.job_facts.proofs.Sharing.{reads_leave, check_reads, sparing_hides}
+use Rattle.twin_facts.specs.Requests.{SetsUpBy}
 use Rattle.twin_facts.specs.Shown.{Changed, OfWanted, IsPickedSo}
-
--- a request that only reads leaves the scene
-pub reads_leave : (s : Scene) (r : Request) → only_reads r ≡ true → (o : Outcome) → effect s r o ≡ s
-reads_leave s r h (Answered y) = reads_nothing s r h
-reads_leave s r h Slow = refl
-reads_leave s r h RequestLost = refl
-reads_leave s r h ReplyLost = reads_nothing s r h
 
 module _ (g : Setting) (j : IsLegal g.script) (s : Seen) (m : Told) (c : Commit) (h : Commits g.script g.minimum s m c) (a : Agrees g.script s.picks c) (q : List ℕ) (path : is_file_path q ≡ true) where
   abbrev w : Script
@@ -159,27 +154,8 @@ module _ (g : Setting) (j : IsLegal g.script) where
   pub attempt_shows : (s : Seen) (m : Told) → Hold v g.minimum s m → (a : Who) → IsAttempt v a → (op : Operation) → Fits v g.minimum a m op → (r : Request) → asks g a (known m a) op ≡ Some r → (o : Outcome) (q : List ℕ) → is_file_path q ≡ true → Stays s r o q
   attempt_shows s m h a d op fits r e o q path = hidden_same v s.scene h.there r (λ b k i. (operation_own g j m a d op fits r e).keys k i) o (below v.dest.key q) (shown_key j q path)
 
-  pub check_reads : (c : Check) (r : Request) → check_asks v c ≡ Some r → only_reads r ≡ true
-  check_reads (Looking keys) r e = ap only_reads (sym (some_is e))
-  check_reads (Probing d ds) r e = ap only_reads (sym (some_is e))
-  check_reads (CheckOver end) r e = absurd cc
-
   pub check_shows : (s : Seen) (c : Check) (r : Request) → check_asks v c ≡ Some r → (o : Outcome) → effect s.scene r o ≡ s.scene
-  check_shows s c r e o = reads_leave s.scene r (check_reads c r e) o
-
-  record_hides : (x : Committer) (p : List ℕ) → HidesAll v (record_request x v p)
-  record_hides Magic p = λ b k i. absurd i
-  record_hides Directory p = λ b k i. absurd i
-  record_hides Partitioned p = λ b k i. absurd i
-
-  pub sparing_hides : (m : Told) (c : Sparing) → FitsSparing v m.drawn c → (r : Request) → sparing_asks v c ≡ Some r → HidesAll v r
-  sparing_hides m (Walking keys) h r e = subst (HidesAll v) (some_is e) (λ b k i. absurd i)
-  sparing_hides m Naming h r e = subst (HidesAll v) (some_is e) (λ b k i. absurd i)
-  sparing_hides m (sparing.Reading named p ps all) h r e = subst (HidesAll v) (some_is e) (record_hides v.committer p)
-  sparing_hides m (Aborting u us all) h r e = subst (HidesAll v) (some_is e) (λ b k i. absurd i)
-  sparing_hides m (sparing.Deleting k ks) h r e = subst (HidesAll v) (some_is e) (λ b x i. h x (taken_in 1000 (k ∷ ks) x i))
-  sparing_hides m (sparing.Removing p ps) h r e = subst (HidesAll v) (some_is e) (λ b k i. absurd i)
-  sparing_hides m (SparingOver end) h r e = absurd cc
+  check_shows s c r e o = reads_leave s.scene r (check_reads g j c r e) o
 
   pub sparing_shows : (s : Seen) (m : Told) → Hold v g.minimum s m → (c : Sparing) → FitsSparing v m.drawn c → (r : Request) → sparing_asks v c ≡ Some r → (o : Outcome) (q : List ℕ) → is_file_path q ≡ true → Stays s r o q
-  sparing_shows s m h c fits r e o q path = hidden_same v s.scene h.there r (sparing_hides m c fits r e) o (below v.dest.key q) (shown_key j q path)
+  sparing_shows s m h c fits r e o q path = hidden_same v s.scene h.there r (sparing_hides g j m c fits r e) o (below v.dest.key q) (shown_key j q path)

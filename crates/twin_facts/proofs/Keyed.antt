@@ -1,5 +1,5 @@
 -- An upload that an attempt knows has its key as long as it lives.
-use Rattle.std.proofs.Common.{◌≡◌, ℕ, ◌<◌, inl, inr, List, [], ◌∷◌, Some, refl, sym, ap, subst, ◌∙◌, arith}
+use Rattle.std.proofs.Common.{◌≡◌, ℕ, ◌<◌, ◌⊎◌, inl, inr, List, [], ◌∷◌, Some, refl, sym, ap, subst, ◌∙◌, arith}
 use Rattle.job_facts.specs.Prelude.{Content, Scene, Upload, answer, apply, effect, IsHonestOutcome, Request, CreateUpload, UploadRef, Outcome, Entry, Who, File, Script, Drawn, Known, IsLegal, Uploading, Creating, Sending, upload_asks, Listing, Deleting, Write, WriteOver, write_asks, TaskCommit, TaskCommitOver, task_commit_asks, TaskAbort, TaskAbortOver, task_abort_asks, Walking, Setting, Operation, TheWrite, TheTaskCommit, TheTaskAbort, asks, IsIn, HasBucket, Told, known, tell_attempt, at_id, Fits, Times}
 use Rattle.job_spec.proofs.Common.{some_is}
 use Rattle.s3_types.specs.declared.reply.Reply.TheVariants.{Upload as DrawnUpload}
@@ -10,9 +10,12 @@ use Rattle.job_protocol.specs.TaskAborts as aborts
 use Rattle.job_facts.specs.Filed.{HasItsKey}
 use Rattle.job_facts.proofs.FoundKeys.{keys_stay}
 use Rattle.job_facts.proofs.Shapes.{draws}
-use Rattle.twin_facts.specs.Sides.{SideState, Sends, driver_sends, attempt_sends, observed}
-use Rattle.twin_facts.proofs.Learning.{known_before, drawn_is_next}
-use Rattle.twin_facts.proofs.Standing.{Well, late, sees_scene, attempt_scene}
+use Rattle.job_facts.proofs.Learning.{known_before, drawn_is_next}
+use Rattle.job_traces.specs.Runs.{Stand, Runs, run_begins, actor_begins, driver_sends, attempt_sends, strays, IsOpening}
+use Rattle.job_traces.proofs.Running.{Early, Late}
+use Rattle.job_traces.proofs.EveryRun.{good}
+use Rattle.job_traces.proofs.Entries.{late_now}
+use Rattle.twin_facts.proofs.OneSide.{driver_scene, attempt_scene}
 
 abbrev pub ref : Drawn → UploadRef
 ref d = record { key = d.key; upload = d.upload }
@@ -37,7 +40,7 @@ module _ (w : Script) where
   upload_bucket k f Creating = λ n q e. create_is e
   upload_bucket k f (Sending p ps) = λ n q e. absurd cc
 
-  operation_bucket : (g : Setting) (is : g.script ≡ w) (minimum : ℕ) (m : Told) (a : Who) (op : Operation) → Fits w minimum a m op → (r : Request) → asks (record { script = w; minimum = g.minimum }) a (known m a) op ≡ Some r → InBucket r
+  operation_bucket : (g : Setting) (is : g.script ≡ w) (minimum : ℕ) (m : Told) (a : Who) (op : Operation) → Fits w minimum a m op → (r : Request) → asks (record { script = w; minimum = g.minimum; shared = g.shared }) a (known m a) op ≡ Some r → InBucket r
   operation_bucket g is minimum m a (TheWrite t) fits r e = write_bucket t.operation e
     where
       write_bucket : (t : Write) → write_asks w a (known m a) t ≡ Some r → InBucket r
@@ -61,12 +64,9 @@ module _ (w : Script) where
 
 -- ---- it is kept
 
-module _ (g : Setting) (j : IsLegal g.script) (k : Times) where
+module _ (g : Setting) (k : Times) (opening : Content) (j : IsLegal g.script) (is : IsOpening g opening) where
   abbrev w : Script
   w = g.script
-
-  abbrev Now : SideState → Type 0
-  Now x = Keyed w x.told.drawn x.seen.scene.content
 
   new_keyed : (s : Scene) → HasBucket s.content w.dest.bucket → (d : Drawn) → DrawnUpload d.upload ≡ answer s (CreateUpload w.dest.bucket d.key) → HasItsKey w (apply s (CreateUpload w.dest.bucket d.key)).content (ref d)
   new_keyed s there d due =
@@ -77,23 +77,29 @@ module _ (g : Setting) (j : IsLegal g.script) (k : Times) where
         λ u e. ap (λ (v : Upload). v.key) (some_is (sym (ap (at_id w (apply s (CreateUpload w.dest.bucket d.key)).content) (sym id) ∙ e) ∙ t.here)),
       )
 
-  stays : (x : SideState) → HasBucket x.seen.scene.content w.dest.bucket → Now x → (r : Request) (o : Outcome) → Keyed w x.told.drawn (effect x.seen.scene r o).content
-  stays x there h r o a d i = key_still w x.seen.scene there (ref d) r o (h a d i)
+  -- before its set-up is done an attempt knows none
+  none_known : (x : Stand) → Early g opening x → (c : Content) → Keyed w x.told.drawn c
+  none_known x e c a d i = absurd (subst (λ (m : Told). IsIn d (m.drawn a)) e.told i)
 
-  pub keyed_sends : (x z : SideState) (e : Entry) → HasBucket x.seen.scene.content w.dest.bucket → Sends g k x e z → Well g x → Now x → Now z
-  keyed_sends x _ _ there (driver_sends _ op n r o d asked timely few honest) h v = subst (λ (s : Scene). Keyed w x.told.drawn s.content) (sym (sees_scene g k x.seen op n r o)) (stays x there v r o)
-  keyed_sends x _ _ there (attempt_sends _ a op n r o set at asked honest) h v =
-      subst (λ (s : Scene). Keyed w (tell_attempt w x.told a r o).drawn s.content) (sym (attempt_scene w k x.seen a n r o)) (λ b d i. elim (known_before w x.told a r o b d i) [
+  stays : (x : Stand) → Early g opening x ⊎ Late g opening x → Keyed w x.told.drawn x.seen.scene.content → (r : Request) (o : Outcome) → Keyed w x.told.drawn (effect x.seen.scene r o).content
+  stays x (inl e) h r o a d i = none_known x e (effect x.seen.scene r o).content a d i
+  stays x (inr l) h r o a d i = key_still w x.seen.scene l.hold.there (ref d) r o (h a d i)
+
+  pub keyed_so : (es : List Entry) (x : Stand) → Runs g k opening es x → Keyed w x.told.drawn x.seen.scene.content
+  keyed_so es x run_begins = λ a d i. absurd i
+  keyed_so es x (actor_begins fs y b run may) = keyed_so fs y run
+  keyed_so es x (driver_sends fs y op n r o run d asked timely few honest) = subst (λ (s : Scene). Keyed w y.told.drawn s.content) (sym (driver_scene w k y.seen n r o)) (stays y (good g k opening j is fs y run) (keyed_so fs y run) r o)
+  keyed_so es x (attempt_sends fs y a op n r o run set at asked honest) =
+      let l = late_now g k opening j is fs y run set in
+      subst (λ (s : Scene). Keyed w (tell_attempt w y.told a r o).drawn s.content) (sym (attempt_scene w k y.seen n r a o)) (λ b d i. elim (known_before w y.told a r o b d i) [
         | inl old ↦
-            let y = stays x there v r o b old.0 old.1 in
-            subst (λ (q : UploadRef). HasItsKey w (effect x.seen.scene r o).content q) (λ i. record { key = old.3 i; upload = old.2 i }) y
+            let v = stays y (inr l) (keyed_so fs y run) r o b old.0 old.1 in
+            subst (λ (q : UploadRef). HasItsKey w (effect y.seen.scene r o).content q) (λ i. record { key = old.3 i; upload = old.2 i }) v
         | inr new ↦
-            let f = (late g j x h.0 set).fine a op at in
-            let bucket : new.bucket ≡ w.dest.bucket = operation_bucket w g refl g.minimum x.told a op f.1 r asked new.bucket d.key new.request in
-            let is : r ≡ CreateUpload w.dest.bucket d.key = new.request ∙ ap (λ q. CreateUpload q d.key) bucket in
-            let due : DrawnUpload d.upload ≡ answer x.seen.scene (CreateUpload w.dest.bucket d.key) = subst (λ y. IsHonestOutcome y (answer x.seen.scene r)) new.outcome honest ∙ ap (answer x.seen.scene) is in
-            subst (λ y. HasItsKey w (effect x.seen.scene r y).content (ref d)) (sym new.outcome) (subst (λ y. HasItsKey w (apply x.seen.scene y).content (ref d)) (sym is) (new_keyed x.seen.scene there d due))
+            let f = l.fine a op at in
+            let bucket : new.bucket ≡ w.dest.bucket = operation_bucket w g refl g.minimum y.told a op f.1 r asked new.bucket d.key new.request in
+            let same : r ≡ CreateUpload w.dest.bucket d.key = new.request ∙ ap (λ q. CreateUpload q d.key) bucket in
+            let due : DrawnUpload d.upload ≡ answer y.seen.scene (CreateUpload w.dest.bucket d.key) = subst (λ v. IsHonestOutcome v (answer y.seen.scene r)) new.outcome honest ∙ ap (answer y.seen.scene) same in
+            subst (λ v. HasItsKey w (effect y.seen.scene r v).content (ref d)) (sym new.outcome) (subst (λ v. HasItsKey w (apply y.seen.scene v).content (ref d)) (sym same) (new_keyed y.seen.scene l.hold.there d due))
       ])
-
-  pub keyed_observed : (x : SideState) (e : Entry) → HasBucket x.seen.scene.content w.dest.bucket → Now x → Now (observed g k x e)
-  keyed_observed x e there h = stays x there h e.request e.outcome
+  keyed_so es x (strays fs y n r o run f) = stays y (good g k opening j is fs y run) (keyed_so fs y run) r o

@@ -21,7 +21,7 @@ use Rattle.job_facts.proofs.Live.{find_in}
 use Rattle.job_facts.proofs.Shapes.{answer_is, key_before, abort_turns}
 use Rattle.job_protocol.specs.Sparing.{Sparing, Walking, Naming, Reading, Aborting, Removing, SparingOver, sparing_start, record_request, sparing_asks, sparing_hears, sparing_after, names, record_names, set_names, deleting, removing, emptying, aborting, reading_on, walking, naming}
 use Rattle.job_protocol.specs.Sparing as sparing
-use Rattle.twin_facts.specs.Requests.{AllKnown, FitsSparing}
+use Rattle.job_facts.specs.Spares.{AllKnown, FitsSparing}
 use Rattle.twin_facts.specs.Spared.{NamedAt}
 use Rattle.twin_facts.proofs.Keyed.{Keyed}
 

@@ -1,11 +1,8 @@
 pub mod Apart
 pub mod Naming
 pub mod Changes
-pub mod Suffix
-pub mod Spares
-pub mod Learning
 pub mod Progress
-pub mod Standing
+pub mod OneSide
 pub mod Pairs
 pub mod Steps
 pub mod Views

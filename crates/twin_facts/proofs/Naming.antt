@@ -20,7 +20,8 @@ use Rattle.twin_facts.specs.Names.{named_keys, named_upload, named_paths, IsOwnK
 use Rattle.job_protocol.specs.Sparing.{Sparing, Walking, Naming, Aborting, SparingOver, record_request, sparing_asks}
 use Rattle.job_protocol.specs.Sparing as sparing
 use Rattle.job_protocol.specs.Rechecks.{Check, Looking as LooksAll, Probing, CheckOver, check_asks}
-use Rattle.twin_facts.specs.Requests.{AllOwn, FitsSparing, IsSentBy, by_attempt, by_commit, by_check, by_clean, SetsUpBy}
+use Rattle.job_facts.specs.Spares.{AllOwn, FitsSparing}
+use Rattle.twin_facts.specs.Requests.{IsSentBy, by_attempt, by_commit, by_check, by_clean, SetsUpBy}
 
 -- ---- keys outside the magic directories
 

@@ -1,24 +1,25 @@
--- How far a job's commit has come beside another job, is kept by each of its own entries, and by those of the job's attempts; a stranger's leave it as it is.
+-- How far a job's commit has come that replaces nothing, in every run of the job among strangers.
 use Rattle.std.proofs.Common.{◌≡◌, ℕ, zero, suc, ◌+◌, nat_lt, ◌<◌, ◌≤◌, ◌^◌, inl, inr, not, ◌&&◌, ◌||◌, Bool, true, false, cond, List, [], ◌∷◌, ◌++◌, length, Option, Some, None, refl, sym, ap, subst, ◌∙◌, arith, length-append}
-use Rattle.job_facts.specs.Prelude.{is_some, Content, answer, IsHonestOutcome, Request, Committer, Magic, Directory, Partitioned, Mode, Replace, Append, Fail, Reply, Outcome, Answered, Slow, RequestLost, ReplyLost, IsLegal, Who, Script, CommitEnd, Sweep, Listing, Deleting, sweep_asks, sweep_hears, Picks, same_path, picked_below, is_decided, is_clash, Turn, again, follow, dealt, revert, Sets, all_commits, picks_of, Commit, Fetching, Replacing, Completing, Marking, Reverting, CommitOver, set_request, set_read, ok_set, commit_asks, commit_hears, commit_misses, commit_tells, commit_start, completing, is_no_magic, replaced, replacing, decided, fetching, fetched, swept, reverting, worn_completion, Setting, Operation, TheCommit, asks, files_set, Seen, see, is_begun, is_reading, is_marking, picks_by, Told, known, tell_driver, tell_attempt, at_event, entry, driver_entry, sets_at, Hold, knowing, Fits, NoneEnded, Decides, IsSetAnswer, Times, is_picking}
+use Rattle.job_facts.specs.Prelude.{is_some, Content, answer, IsHonestOutcome, Request, Committer, Magic, Directory, Partitioned, Mode, Replace, Append, Fail, Reply, Outcome, Answered, Slow, RequestLost, ReplyLost, IsLegal, Who, Script, CommitEnd, Sweep, Listing, Deleting, sweep_asks, sweep_hears, Picks, same_path, picked_below, is_decided, is_clash, Turn, again, follow, dealt, revert, Sets, all_commits, picks_of, Commit, Fetching, Replacing, Completing, Marking, Reverting, CommitOver, set_request, set_read, ok_set, commit_asks, commit_hears, commit_misses, commit_tells, commit_start, completing, is_no_magic, replaced, replacing, decided, fetching, fetched, swept, reverting, worn_completion, Setting, Operation, TheCommit, TheCheck, Entry, Driver, who, step, strange_entry, tells, asks, files_set, Seen, see, is_begun, is_reading, is_marking, picks_by, Told, known, tell_driver, tell_attempt, at_event, entry, driver_entry, sets_at, Hold, knowing, Fits, NoneEnded, Decides, IsSetAnswer, Times, is_picking}
 use Rattle.job_spec.proofs.Common.{some_is, none_some, false_true, same_or_not}
-use Rattle.std.specs.FinMap as fin
 use Rattle.job_model.specs.declared.ends.CommitEnd.TheVariants as ends
 use Rattle.job_model.specs.declared.ends.Stage.TheVariants as stages
 use Rattle.job_facts.proofs.Whose.{or_false}
 use Rattle.job_facts.proofs.Replies.{set_reply, bytes_read}
 use Rattle.job_facts.proofs.Reading.{reads_other}
-use Rattle.job_traces.proofs.Running.{InCommit}
-use Rattle.job_facts.proofs.Shows.{HidesAll}
+use Rattle.job_protocol.proofs.Begun.{commit_of_so, clean_of_so, after_check_so}
+use Rattle.job_protocol.specs.Rechecks.{check_after}
+use Rattle.job_facts.proofs.Owning.{operation_own}
+use Rattle.job_facts.proofs.Sharing.{check_plain}
+use Rattle.job_traces.specs.Runs.{Stand, is_set, IsTimely, nothing_learnt, BeginSetup, BeginCommit, BeginClean, BeginWrite, BeginPublish, BeginAbort, Runs, run_begins, actor_begins, driver_sends, attempt_sends, strays, IsOpening}
+use Rattle.job_traces.proofs.Running.{InCommit, Idle, At}
 use Rattle.job_traces.proofs.Steps.{commit_next}
-use Rattle.job_traces.proofs.Keeping.{attempt_quiet, at_beside, commit_starts}
+use Rattle.job_traces.proofs.Keeping.{attempt_quiet}
+use Rattle.job_traces.proofs.EveryRun.{just_set, just_idle, checked_idle, cleans_is}
+use Rattle.job_traces.proofs.Entries.{late_now}
 use Rattle.twin_facts.specs.TwinLaws.{is_replace}
 
 -- ---- what holds of a commit as it goes on, whoever else sends
-
--- how far a commit has come says nothing of the opening content: this one stands for any
-abbrev pub no_content : Content
-no_content = record { buckets = fin.empty; next = 0; minimum = 0 }
 
 -- a task of which no set was read yet has no pick
 abbrev pub Unread : Script → Picks → Commit → Type 0
@@ -37,8 +38,8 @@ abbrev pub NeverReplaces : Script → Commit → Type 0
 NeverReplaces w (Replacing sets p ps s n) = is_replace w.mode ≡ false → ⊥
 NeverReplaces w _ = Unit {0}
 
-pub record Committing (g : Setting) (m : Told) (picks : Picks) (put : Bool) (c : Commit) : Type 0 where
-  pub alone : InCommit g no_content picks m c
+pub record Committing (g : Setting) (opening : Content) (m : Told) (picks : Picks) (put : Bool) (c : Commit) : Type 0 where
+  pub alone : InCommit g opening picks m c
   pub unread : Unread g.script picks c
   pub unmarked : Unmarked put c
   pub never : NeverReplaces g.script c
@@ -151,7 +152,7 @@ module _ (w : Script) where
 
 -- ---- an entry of the commit
 
-module _ (g : Setting) (j : IsLegal g.script) (k : Times) (s : Seen) (m : Told) (n : ℕ) (begins_it : is_begun k.commit n ≡ true) (unclean : is_begun k.clean n ≡ false) (cleans : m.cleans_at ≡ k.clean) (few : s.scene.content.next ≤ 2 ^ 64) (h : Hold g.script g.minimum s m) (c : Commit) (i : Committing g m s.picks s.put_mark c) (r : Request)
+module _ (g : Setting) (opening : Content) (j : IsLegal g.script) (k : Times) (s : Seen) (m : Told) (n : ℕ) (begins_it : is_begun k.commit n ≡ true) (unclean : is_begun k.clean n ≡ false) (cleans : m.cleans_at ≡ k.clean) (few : s.scene.content.next ≤ 2 ^ 64) (h : Hold g.script g.minimum s m) (c : Commit) (i : Committing g opening m s.picks s.put_mark c) (r : Request)
     (asked : commit_asks g.script c ≡ Some r) where
   abbrev w : Script
   w = g.script
@@ -162,7 +163,7 @@ module _ (g : Setting) (j : IsLegal g.script) (k : Times) (s : Seen) (m : Told) 
   abbrev u : Outcome → Seen
   u o = see w k s (driver_entry n r o)
 
-  abbrev at : InCommit g no_content s.picks m c
+  abbrev at : InCommit g opening s.picks m c
   at = i.alone
 
   -- ---- what the request is
@@ -309,28 +310,63 @@ module _ (g : Setting) (j : IsLegal g.script) (k : Times) (s : Seen) (m : Told) 
 
   -- ---- all of it
 
-  pub committing_next : (o : Outcome) → IsHonestOutcome o (answer s.scene r) → Committing g (at_event n (tell_driver m r o)) (u o).picks (u o).put_mark (commit_tells w c o)
+  pub committing_next : (o : Outcome) → IsHonestOutcome o (answer s.scene r) → Committing g opening (at_event n (tell_driver m r o)) (u o).picks (u o).put_mark (commit_tells w c o)
   committing_next o honest =
       let next = rest_next o honest in
-      record { alone = commit_next g j no_content k s m n begins_it unclean cleans few h c at r asked o honest; unread = next.0; unmarked = unmarked_next c refl o; never = next.1 }
+      record { alone = commit_next g j opening k s m n begins_it unclean cleans few h c at r asked o honest; unread = next.0; unmarked = unmarked_next c refl o; never = next.1 }
 
--- ---- as it begins, and entries of the job's attempts
+-- ---- in every run
 
-pub committing_start : (g : Setting) → IsLegal g.script → (s : Seen) (m : Told) → NoneEnded m → m.cleaned ≡ false → ((t : ℕ) → s.picks t ≡ None) → s.put_mark ≡ false → (missing : Option ℕ) → Committing g m s.picks s.put_mark (commit_start g.script missing)
-committing_start g j s m none uncleaned unpicked unmarked missing = record {
-  alone = commit_starts g j no_content (record { scene = s.scene; begun = false; last = s.last; picks = s.picks; put_mark = s.put_mark }) m (record { none = none; uncleaned = uncleaned; unmarked = unmarked; unbegun = refl; unpicked = unpicked }) missing;
-  unread = (rest_start g.script s.picks unpicked missing).0;
-  unmarked = false_unmarked s.put_mark unmarked (commit_start g.script missing);
-  never = (rest_start g.script s.picks unpicked missing).1;
-}
+-- where the driver is at its commit
+abbrev Goes : Setting → Option Operation → Seen → Type 0
+Goes g (Some (TheCommit c)) s = Rest g.script s.picks c × Unmarked s.put_mark c
+Goes g _ s = Unit {0}
 
-pub committing_beside : (g : Setting) → IsLegal g.script → (k : Times) (s : Seen) (m : Told) → Hold g.script g.minimum s m → (a : Who) (n : ℕ) (op : Operation) → Fits g.script g.minimum a m op → (r : Request) → asks g a (known m a) op ≡ Some r → HidesAll g.script r → (o : Outcome) (c : Commit)
-    → Committing g m s.picks s.put_mark c → let u = see g.script k s (entry a n r o) in Committing g (tell_attempt g.script m a r o) u.picks u.put_mark c
-committing_beside g j k s m h a n op fits r asked hides o c i =
-    let quiet = attempt_quiet g.script k s a n r h.there hides o in
-    record {
-      alone = at_beside g j no_content k s m h a n op fits r asked hides o [] (Some (TheCommit c)) i.alone;
-      unread = subst (λ p. Unread g.script p c) (sym quiet.picks) i.unread;
-      unmarked = subst (λ b. Unmarked b c) (sym quiet.mark) i.unmarked;
-      never = i.never;
-    }
+goes_same : (g : Setting) (d : Option Operation) (s u : Seen) → u.picks ≡ s.picks → u.put_mark ≡ s.put_mark → Goes g d s → Goes g d u
+goes_same g (Some (TheCommit c)) s u picks mark h = (subst (λ p. Rest g.script p c) (sym picks) h.0, subst (λ b. Unmarked b c) (sym mark) h.1)
+goes_same g (Some _) s u picks mark h = tt
+goes_same g None s u picks mark h = tt
+
+module _ (g : Setting) (k : Times) (opening : Content) (j : IsLegal g.script) (is : IsOpening g opening) where
+  starts : (s : Seen) (m : Told) → Idle g opening s m → (missing : Option ℕ) → Goes g (Some (TheCommit (commit_start g.script missing))) s
+  starts s m i missing = (rest_start g.script s.picks i.unpicked missing, false_unmarked s.put_mark i.unmarked (commit_start g.script missing))
+
+  with_rest : (s : Seen) (m : Told) (c : Commit) → At g opening (Some (TheCommit c)) s m → Goes g (Some (TheCommit c)) s → Committing g opening m s.picks s.put_mark c
+  with_rest s m c at h = record { alone = at; unread = h.0.0; unmarked = h.1; never = h.0.1 }
+
+  goes : (es : List Entry) (x : Stand) → Runs g k opening es x → Goes g x.driver x.seen
+  goes es x run_begins = tt
+  goes es x (actor_begins fs y BeginSetup run may) = tt
+  goes es x (actor_begins fs y (BeginCommit reports) run may) =
+      let l = late_now g k opening j is fs y run (just_set y.driver may) in
+      commit_of_so g (λ op. Goes g (Some op) y.seen) (starts y.seen y.told (just_idle g k opening j is y.driver y.seen y.told l.driver may)) (λ t. tt) reports
+  goes es x (actor_begins fs y BeginClean run may) = clean_of_so g (λ op. Goes g (Some op) y.seen) tt tt
+  goes es x (actor_begins fs y (BeginWrite a) run may) = goes fs y run
+  goes es x (actor_begins fs y (BeginPublish a) run may) = goes fs y run
+  goes es x (actor_begins fs y (BeginAbort a) run may) = goes fs y run
+  goes es x (driver_sends fs y op n r o run d asked timely few honest) = by op d asked timely (subst (λ v. Goes g v y.seen) d (goes fs y run))
+    where
+      by : (op : Operation) → y.driver ≡ Some op → asks g (who Driver) nothing_learnt op ≡ Some r → IsTimely k n op → Goes g (Some op) y.seen → Goes g (Some (tells g (who Driver) op o)) (see g.script k y.seen (driver_entry n r o))
+      by (TheCommit c) d asked timely h =
+          let l = late_now g k opening j is fs y run (ap is_set d) in
+          let i = with_rest y.seen y.told c (subst (λ v. At g opening v y.seen y.told) d l.driver) h in
+          let z = committing_next g opening j k y.seen y.told n timely.0 timely.1 (cleans_is g k opening j is fs y run) few l.hold c i r asked o honest in
+          ((z.unread, z.never), z.unmarked)
+      by (TheCheck t) d asked timely h =
+          let l = late_now g k opening j is fs y run (ap is_set d) in
+          let next = see g.script k y.seen (driver_entry n r o) in
+          let idle = checked_idle g k opening j is y (cleans_is g k opening j is fs y run) n r o (check_plain g.script t.operation r asked) timely.1 (subst (λ v. At g opening v y.seen y.told) d l.driver) in
+          after_check_so g (λ op. Goes g (Some op) next) (starts next (at_event n (tell_driver y.told r o)) idle None) (λ u. tt) (step g.script.retries (check_after g.script) t o)
+      by _ d asked timely h = tt
+  goes es x (attempt_sends fs y a op n r o run set at asked honest) =
+      let l = late_now g k opening j is fs y run set in
+      let f = l.fine a op at in
+      let own = operation_own g j y.told a f.0 op f.1 r asked in
+      let quiet = attempt_quiet g.script k y.seen a n r l.hold.there (λ b q i. own.keys q i) o in
+      goes_same g y.driver y.seen (see g.script k y.seen (entry a n r o)) quiet.picks quiet.mark (goes fs y run)
+  goes es x (strays fs y n r o run f) = goes_same g y.driver y.seen (see g.script k y.seen (strange_entry n r o)) refl refl (goes fs y run)
+
+  pub committing : (es : List Entry) (x : Stand) → Runs g k opening es x → (c : Commit) → x.driver ≡ Some (TheCommit c) → Committing g opening x.told x.seen.picks x.seen.put_mark c
+  committing es x run c d =
+      let l = late_now g k opening j is es x run (ap is_set d) in
+      with_rest x.seen x.told c (subst (λ v. At g opening v x.seen x.told) d l.driver) (subst (λ v. Goes g v x.seen) d (goes es x run))

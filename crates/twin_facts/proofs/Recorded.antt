@@ -23,12 +23,12 @@ use Rattle.job_facts.proofs.Shapes.{answer_is, key_before, puts}
 use Rattle.job_facts.proofs.Whose.{same_or_another, who_here, who_other, or_false, or_true}
 use Rattle.job_protocol.specs.Sparing.{Sparing, Walking, Naming, Reading, Aborting, Removing, SparingOver, record_request, sparing_asks, sparing_hears, sparing_after, names, record_names, ref_of, deleting, removing, emptying, aborting, reading_on, walking}
 use Rattle.job_protocol.specs.Sparing as sparing
-use Rattle.twin_facts.specs.Requests.{FitsSparing}
+use Rattle.job_facts.specs.Spares.{FitsSparing}
 use Rattle.twin_facts.proofs.Keyed.{Keyed, ref}
 use Rattle.twin_facts.proofs.Leaving.{Dead, abort_dead}
-use Rattle.twin_facts.proofs.Learning.{Knows, known_still}
-use Rattle.twin_facts.proofs.Spares.{in_or_not}
-use Rattle.twin_facts.proofs.Suffix.{record_ends_so}
+use Rattle.job_facts.proofs.Learning.{Knows, known_still}
+use Rattle.job_facts.proofs.Spares.{in_or_not}
+use Rattle.job_facts.proofs.Suffix.{record_ends_so}
 
 -- ---- what becomes of a file's record
 

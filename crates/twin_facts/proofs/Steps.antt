@@ -1,11 +1,11 @@
 -- What one entry of a side leaves: of its picks, of what stands where files are shown, and of the marker.
-use Rattle.std.proofs.Common.{◌≡◌, ℕ, ◌≤◌, ◌^◌, ◌⊎◌, inl, inr, ◌||◌, Bool, true, false, cond, List, Option, Some, None, refl, sym, ap, subst, ◌∙◌}
-use Rattle.job_facts.specs.Prelude.{Content, Scene, answer, apply, effect, is_effective, IsHonestOutcome, Object, Driver, Request, PutObject, Mode, Replace, Append, Fail, Committer, Magic, Directory, Partitioned, Outcome, Answered, Slow, RequestLost, ReplyLost, Entry, below, success_key, Retried, setup_asks, Script, IsLegal, keeps, partitions, wanted_at, wanted_paths, is_decided, mark_text, is_file_path, Sets, picks_of, Commit, Fetching, Replacing, Marking, commit_asks, commit_tells, Setting, TheSetup, TheCommit, who, is_driver, Seen, see, is_begun, is_marking, IsIn, changed_keys, driver_entry, at_key, whole_of, Decides, FileStands, Wants, Commits, Times}
+use Rattle.std.proofs.Common.{◌≡◌, ℕ, ◌≤◌, ◌^◌, ◌⊎◌, inl, inr, ◌||◌, ◌&&◌, not, Bool, true, false, cond, List, Option, Some, None, refl, sym, ap, subst, ◌∙◌}
+use Rattle.job_facts.specs.Prelude.{Content, Scene, answer, apply, effect, is_effective, IsHonestOutcome, Object, Driver, Request, PutObject, Mode, Replace, Append, Fail, Committer, Magic, Directory, Partitioned, Outcome, Answered, Slow, RequestLost, ReplyLost, Entry, below, success_key, Retried, setup_asks, Script, IsLegal, keeps, partitions, wanted_at, wanted_paths, is_decided, mark_text, is_file_path, Sets, picks_of, Clean, Commit, Fetching, Replacing, Marking, commit_asks, commit_tells, Setting, Operation, asks, TheSetup, TheCommit, TheClean, TheCheck, TheSparing, is_picking, who, is_driver, Seen, see, is_begun, is_marking, IsIn, changed_keys, driver_entry, at_key, whole_of, Decides, FileStands, Wants, Commits, Times}
 use Rattle.job_protocol.specs.Prelude.{Path}
 use Rattle.job_spec.proofs.Common.{some_is, none_some, false_true, true_or_false, text_true}
 use Rattle.job_protocol.specs.View.{object_at}
-use Rattle.job_traces.specs.Runs.{nothing_learnt}
-use Rattle.job_facts.proofs.Whose.{or_true}
+use Rattle.job_traces.specs.Runs.{Stand, IsTimely, nothing_learnt, Runs, IsOpening}
+use Rattle.job_facts.proofs.Whose.{or_true, or_false}
 use Rattle.job_facts.proofs.Owning.{operation_own}
 use Rattle.job_facts.proofs.SettingUp.{no_success}
 use Rattle.job_facts.proofs.Shapes.{puts}
@@ -13,15 +13,17 @@ use Rattle.job_traces.proofs.Keeping.{attempt_quiet}
 use Rattle.job_facts.proofs.FilingLaws.{files_go, stranger_same}
 use Rattle.job_facts.proofs.Agreeing.{AgreeBelow, Agrees, decided_so}
 use Rattle.job_facts.proofs.Wanted.{same_mark, wanted_of}
-use Rattle.job_traces.proofs.Running.{InCommit, wants_of}
+use Rattle.job_traces.proofs.Running.{InCommit, At, Early, Late, wants_of}
+use Rattle.job_traces.proofs.EveryRun.{good, cleans_is}
+use Rattle.job_traces.proofs.Entries.{late_now}
+use Rattle.job_facts.proofs.Sharing.{setup_plain, check_plain}
 use Rattle.job_protocol.specs.Sparing.{Sparing, Reading, SparingOver, record_request, sparing_asks}
 use Rattle.twin_facts.specs.TwinLaws.{counted, is_replace}
-use Rattle.twin_facts.specs.Requests.{FitsSparing}
-use Rattle.twin_facts.specs.SharedOperations.{SharedOperation, Alone, TheCheck, TheSparing, shared_asks}
-use Rattle.twin_facts.specs.Sides.{SideState, IsInTime, Sends, driver_sends, attempt_sends, attempt_saw, driver_saw}
+use Rattle.job_facts.specs.Spares.{FitsSparing}
+use Rattle.twin_facts.specs.Sides.{Sends, driver_sends, attempt_sends, attempt_saw, driver_saw}
 use Rattle.twin_facts.proofs.Changes.{Under, commit_shows_by, setup_shows, attempt_shows, check_shows, sparing_shows}
-use Rattle.twin_facts.proofs.Progress.{Committing, Unread, NeverReplaces, no_content, kind, is_fetching, is_mark_stage, undecided, picks_same, mark_same, put_before, committing_next}
-use Rattle.twin_facts.proofs.Standing.{At, Late, Good, Well, late, early_setup, Plain, setup_plain, check_plain, plain_picks, plain_mark}
+use Rattle.twin_facts.proofs.Progress.{Committing, Unread, NeverReplaces, kind, is_fetching, is_mark_stage, undecided, picks_same, mark_same, put_before, committing_next, committing}
+use Rattle.twin_facts.proofs.OneSide.{plain_picks, plain_mark, late_picks, never_cleans}
 
 -- the object at a path of a destination
 abbrev pub obj : Path → Content → List ℕ → Option Object
@@ -30,14 +32,14 @@ obj d c q = object_at c d.bucket (below d.key q)
 abbrev pub mark_at : Path → Content → Option Object
 mark_at d c = object_at c d.bucket (success_key d.key)
 
-abbrev pub count : Setting → SideState → List ℕ → Option (List ℕ)
+abbrev pub count : Setting → Stand → List ℕ → Option (List ℕ)
 count g x q = counted g.script x.seen.picks q
 
 -- where a wanted file stands while the commit goes on
-abbrev pub FileAt : Setting → SideState → List ℕ → List ℕ → Option Object → Option Object → Commit → Type 0
+abbrev pub FileAt : Setting → Stand → List ℕ → List ℕ → Option Object → Option Object → Commit → Type 0
 FileAt g x q b first now c = FileStands g.script q b first x.commit now x.told.ended c
 
-pub record Leaves (g : Setting) (x z : SideState) (e : Entry) : Type 0 where
+pub record Leaves (g : Setting) (x z : Stand) (e : Entry) : Type 0 where
   -- the picks stay as they are, or were not decided
   pub picks : (z.seen.picks ≡ x.seen.picks) ⊎ (is_decided g.script x.seen.picks ≡ false)
   pub unbegun : z.seen.begun ≡ false → (x.seen.begun ≡ false) × (z.seen.picks ≡ x.seen.picks)
@@ -46,11 +48,11 @@ pub record Leaves (g : Setting) (x z : SideState) (e : Entry) : Type 0 where
   -- once the marker was put
   pub put_still : x.seen.put_mark ≡ true → (z.seen.put_mark ≡ true) × ((q : List ℕ) → is_file_path q ≡ true → obj g.script.dest (effect x.seen.scene e.request e.outcome).content q ≡ obj g.script.dest x.seen.scene.content q)
   -- where it is put only now, all wanted files stand
-  pub put_now : x.seen.put_mark ≡ false → z.seen.put_mark ≡ true → (sets : Sets) × (n : ℕ) × (x.driver ≡ Some (Alone (TheCommit (Marking sets n)))) × (z.seen.picks ≡ x.seen.picks) × (is_decided g.script x.seen.picks ≡ true)
+  pub put_now : x.seen.put_mark ≡ false → z.seen.put_mark ≡ true → (sets : Sets) × (n : ℕ) × (x.driver ≡ Some (TheCommit (Marking sets n))) × (z.seen.picks ≡ x.seen.picks) × (is_decided g.script x.seen.picks ≡ true)
       × ((q : List ℕ) → is_file_path q ≡ true → obj g.script.dest (effect x.seen.scene e.request e.outcome).content q ≡ obj g.script.dest x.seen.scene.content q)
-  pub files : (c : Commit) → z.driver ≡ Some (Alone (TheCommit c)) → (q b : List ℕ) (first : Option Object) → is_file_path q ≡ true → wanted_at g.script z.seen.picks q ≡ Some b
+  pub files : (c : Commit) → z.driver ≡ Some (TheCommit c) → (q b : List ℕ) (first : Option Object) → is_file_path q ≡ true → wanted_at g.script z.seen.picks q ≡ Some b
       → (is_decided g.script x.seen.picks ≡ false → obj g.script.dest x.seen.scene.content q ≡ first)
-      → ((u : Commit) → x.driver ≡ Some (Alone (TheCommit u)) → wanted_at g.script x.seen.picks q ≡ Some b → FileAt g x q b first (obj g.script.dest x.seen.scene.content q) u)
+      → ((u : Commit) → x.driver ≡ Some (TheCommit u) → wanted_at g.script x.seen.picks q ≡ Some b → FileAt g x q b first (obj g.script.dest x.seen.scene.content q) u)
       → FileAt g z q b first (obj g.script.dest (effect x.seen.scene e.request e.outcome).content q) c
   -- a put of the marker by its driver that takes effect
   pub marks : is_driver e.actor ≡ true → is_marking g.script e.request ≡ true → is_effective e.outcome ≡ true
@@ -71,28 +73,37 @@ driver_begun : (w : Script) (k : Times) (s : Seen) (n : ℕ) (r : Request) (o : 
 driver_begun w k s n r (Answered y) = refl
 driver_begun w k s n r _ = refl
 
+and_false : (b : Bool) → (b && false) ≡ false
+and_false true = refl
+and_false false = refl
+
 or_first : (a b : Bool) → (a || b) ≡ false → a ≡ false
 or_first true b e = absurd (false_true e refl)
 or_first false b e = refl
 
-module _ (g : Setting) (j : IsLegal g.script) (k : Times) (keep : is_replace g.script.mode ≡ false) where
+module _ (g : Setting) (j : IsLegal g.script) (shared : g.shared ≡ true) (k : Times) (opening : Content) (is_opening : IsOpening g opening) (keep : is_replace g.script.mode ≡ false) where
   abbrev w : Script
   w = g.script
 
-  -- an entry of the driver's set-up or check
-  plain_leaves : (x z : SideState) (n : ℕ) (r : Request) (o : Outcome) → Plain w r → ((q : List ℕ) → is_file_path q ≡ true → obj w.dest (effect x.seen.scene r o).content q ≡ obj w.dest x.seen.scene.content q)
-      → ((t : ℕ) → x.seen.picks t ≡ None) → z.seen ≡ see w k x.seen (driver_entry n r o) → Leaves g x z (driver_entry n r o)
-  plain_leaves x z n r o p same unpicked is =
-      let picks = ap (λ (s : Seen). s.picks) is ∙ plain_picks w k x.seen n r p o in
-      let mark = ap (λ (s : Seen). s.put_mark) is ∙ plain_mark w k x.seen n r p o in
+  mark_of : (s : Seen) (n : ℕ) (r : Request) → is_marking w r ≡ false → (o : Outcome) → (see w k s (driver_entry n r o)).put_mark ≡ s.put_mark
+  mark_of s n r e Slow = refl
+  mark_of s n r e RequestLost = refl
+  mark_of s n r e _ = ap (λ b. s.put_mark || b) e ∙ or_false s.put_mark
+
+  -- an entry of the driver that shows all as it was, and picks nothing
+  still_leaves : (x z : Stand) (n : ℕ) (r : Request) (o : Outcome) → is_marking w r ≡ false → (see w k x.seen (driver_entry n r o)).picks ≡ x.seen.picks → ((q : List ℕ) → is_file_path q ≡ true → obj w.dest (effect x.seen.scene r o).content q ≡ obj w.dest x.seen.scene.content q)
+      → z.seen ≡ see w k x.seen (driver_entry n r o) → ((c : Commit) → z.driver ≡ Some (TheCommit c) → (t : ℕ) → x.seen.picks t ≡ None) → Leaves g x z (driver_entry n r o)
+  still_leaves x z n r o unmarking unpicking same is unpicked =
+      let picks = ap (λ (s : Seen). s.picks) is ∙ unpicking in
+      let mark = ap (λ (s : Seen). s.put_mark) is ∙ mark_of x.seen n r unmarking o in
       record {
         picks = inl picks;
         unbegun = λ e. (or_first x.seen.begun (is_begun k.commit n) (sym (ap (λ (s : Seen). s.begun) is ∙ driver_begun w k x.seen n r o) ∙ e), picks);
         shows = λ q path. inl (same q path);
         put_still = λ e. (mark ∙ e, same);
         put_now = λ e f. absurd (false_true e (sym mark ∙ f));
-        files = λ c at q b first path want. (let y = wanted_of w z.seen.picks q b want in absurd (none_some (ap (λ f. f y.from.task) picks ∙ unpicked y.from.task) y.from.picked));
-        marks = λ a b c. absurd (false_true p.marks b);
+        files = λ c at q b first path want. (let y = wanted_of w z.seen.picks q b want in absurd (none_some (ap (λ f. f y.from.task) picks ∙ unpicked c at y.from.task) y.from.picked));
+        marks = λ a b c. absurd (false_true unmarking b);
       }
 
   record_no_mark : (c : Committer) (p : List ℕ) → is_marking w (record_request c w p) ≡ false
@@ -106,15 +117,12 @@ module _ (g : Setting) (j : IsLegal g.script) (k : Times) (keep : is_replace g.s
 
   -- ---- an entry of the commit
 
-  module _ (x : SideState) (l : Late g x) (c : Commit) (is : x.driver ≡ Some (Alone (TheCommit c))) (n : ℕ) (r : Request) (o : Outcome) (asked : commit_asks w c ≡ Some r) (begun : is_begun k.commit n ≡ true) (unclean : is_begun k.clean n ≡ false) (cleans : x.told.cleans_at ≡ k.clean) (few : x.seen.scene.content.next ≤ 2 ^ 64)
-      (honest : IsHonestOutcome o (answer x.seen.scene r)) where
+  module _ (x : Stand) (l : Late g opening x) (c : Commit) (is : x.driver ≡ Some (TheCommit c)) (n : ℕ) (r : Request) (o : Outcome) (asked : commit_asks w c ≡ Some r) (begun : is_begun k.commit n ≡ true) (unclean : is_begun k.clean n ≡ false) (cleans : x.told.cleans_at ≡ k.clean) (few : x.seen.scene.content.next ≤ 2 ^ 64)
+      (honest : IsHonestOutcome o (answer x.seen.scene r)) (i : Committing g opening x.told x.seen.picks x.seen.put_mark c) where
     abbrev s : Seen
     s = x.seen
 
-    i : Committing g x.told x.seen.picks x.seen.put_mark c
-    i = subst (λ q. At g q x.seen x.told) is l.driver
-
-    abbrev at : InCommit g no_content x.seen.picks x.told c
+    abbrev at : InCommit g opening x.seen.picks x.told c
     at = i.alone
 
     all : Commits w g.minimum s x.told c
@@ -123,8 +131,8 @@ module _ (g : Setting) (j : IsLegal g.script) (k : Times) (keep : is_replace g.s
     abbrev u : Seen
     u = see w k s (driver_entry n r o)
 
-    abbrev next : SideState
-    next = driver_saw g k x (Alone (TheCommit c)) n r o
+    abbrev next : Stand
+    next = driver_saw g k x (TheCommit c) n r o
 
     abbrev after : List ℕ → Option Object
     after q = obj w.dest (effect s.scene r o).content q
@@ -141,7 +149,7 @@ module _ (g : Setting) (j : IsLegal g.script) (k : Times) (keep : is_replace g.s
         by _ v z = absurd (false_true refl z)
 
     picks_now : is_fetching w c ≡ false → u.picks ≡ s.picks
-    picks_now y = picks_same g j k s x.told n begun unclean cleans few l.hold c i r asked y o
+    picks_now y = picks_same g opening j k s x.told n begun unclean cleans few l.hold c i r asked y o
 
     shows_now : (q : List ℕ) → is_file_path q ≡ true → (after q ≡ before q) ⊎ ((b : List ℕ) × (count g x q ≡ Some b) × ((after q ≡ Some (whole_of b)) ⊎ (after q ≡ None)))
     shows_now q path = elim (commit_shows_by g j s x.told c all at.agrees q path (under c refl) r asked o) [
@@ -201,7 +209,7 @@ module _ (g : Setting) (j : IsLegal g.script) (k : Times) (keep : is_replace g.s
           by ReplyLost t f = (subst (λ y. (see w k s (driver_entry n r y)).put_mark ≡ true) f (put marking s.put_mark), (record { bytes = mark_text w (picks_of sets); header = None }, subst (λ y. mark_at w.dest (effect s.scene r y).content ≡ Some (record { bytes = mark_text w (picks_of sets); header = None })) f there, text))
 
     unmarked_by : is_mark_stage w c ≡ false → u.put_mark ≡ s.put_mark
-    unmarked_by y = mark_same g j k s x.told n begun unclean cleans few l.hold c i r asked y o
+    unmarked_by y = mark_same g opening j k s x.told n begun unclean cleans few l.hold c i r asked y o
 
     -- the stage, where the marker was put
     stage : (d : Commit) → d ≡ c → (is_mark_stage w d ≡ false) ⊎ ((sets : Sets) × (m : ℕ) × (Marking sets m ≡ c))
@@ -209,7 +217,7 @@ module _ (g : Setting) (j : IsLegal g.script) (k : Times) (keep : is_replace g.s
     stage _ v = inl refl
 
     put_early : is_mark_stage w c ≡ false → s.put_mark ≡ false
-    put_early y = put_before g j k s x.told n begun unclean cleans few l.hold c i r asked c y asked i.unmarked
+    put_early y = put_before g opening j k s x.told n begun unclean cleans few l.hold c i r asked c y asked i.unmarked
 
     still_put : s.put_mark ≡ true → u.put_mark ≡ true
     still_put e = by o refl
@@ -222,9 +230,9 @@ module _ (g : Setting) (j : IsLegal g.script) (k : Times) (keep : is_replace g.s
 
     -- a wanted file goes on as the commit does
     module _ (q b : List ℕ) (first : Option Object) (path : is_file_path q ≡ true) (wants : wanted_at w u.picks q ≡ Some b) (undone : is_decided w s.picks ≡ false → before q ≡ first)
-        (old : (v : Commit) → x.driver ≡ Some (Alone (TheCommit v)) → wanted_at w s.picks q ≡ Some b → FileAt g x q b first (before q) v) where
+        (old : (v : Commit) → x.driver ≡ Some (TheCommit v) → wanted_at w s.picks q ≡ Some b → FileAt g x q b first (before q) v) where
       stood_later : is_fetching w c ≡ false → Wants w q b c × FileAt g x q b first (before q) c
-      stood_later y = let e : wanted_at w s.picks q ≡ Some b = ap (λ v. wanted_at w v q) (sym (picks_now y)) ∙ wants in (wants_of g s.scene.content s.picks q b e c at.agrees, old c is e)
+      stood_later y = let e : wanted_at w s.picks q ≡ Some b = ap (λ v. wanted_at w v q) (sym (picks_now y)) ∙ wants in (wants_of g opening s.picks q b e c at.agrees, old c is e)
 
       stood : (d : Commit) → d ≡ c → Wants w q b c × FileAt g x q b first (before q) c
       stood (Fetching sets m) v = subst (λ y. Wants w q b y × FileAt g x q b first (before q) y) v (tt, undone (early (ap (is_fetching w) (sym v))))
@@ -234,9 +242,9 @@ module _ (g : Setting) (j : IsLegal g.script) (k : Times) (keep : is_replace g.s
       file_next =
           let y = stood c refl in
           files_go g j s x.told c all few q b first x.commit y.0 y.1 r asked n o honest
-          (wants_of g s.scene.content u.picks q b wants (commit_tells w c o) (committing_next g j k s x.told n begun unclean cleans few l.hold c i r asked o honest).alone.agrees)
+          (wants_of g opening u.picks q b wants (commit_tells w c o) (committing_next g opening j k s x.told n begun unclean cleans few l.hold c i r asked o honest).alone.agrees)
 
-    commit_is : {a b : Commit} → Some (Alone (TheCommit a)) ≡ Some (Alone (TheCommit b)) → a ≡ b
+    commit_is : {a b : Commit} → Some (TheCommit a) ≡ Some (TheCommit b) → a ≡ b
     commit_is e = cc
 
     pub commit_leaves : Leaves g x next (driver_entry n r o)
@@ -250,54 +258,54 @@ module _ (g : Setting) (j : IsLegal g.script) (k : Times) (keep : is_replace g.s
       ];
       put_now = λ e f. elim (stage c refl) [
         | inl y ↦ absurd (false_true e (sym (unmarked_by y) ∙ f))
-        | inr y ↦ (y.0, y.1, is ∙ ap (λ v. Some (Alone (TheCommit v))) (sym y.2), mark_picks y.0 y.1 y.2, mark_decided y.0 y.1 y.2, mark_leaves y.0 y.1 y.2)
+        | inr y ↦ (y.0, y.1, is ∙ ap (λ v. Some (TheCommit v)) (sym y.2), mark_picks y.0 y.1 y.2, mark_decided y.0 y.1 y.2, mark_leaves y.0 y.1 y.2)
       ];
       files = λ v d q b first path wants undone old. subst (FileAt g next q b first (after q)) (commit_is d) (file_next q b first path wants undone old);
       marks = λ a b t. elim (stage c refl) [
-        | inl y ↦ absurd (false_true ((kind g j k s x.told n begun unclean cleans few l.hold c i r asked).0 y) b)
+        | inl y ↦ absurd (false_true ((kind g opening j k s x.told n begun unclean cleans few l.hold c i r asked).0 y) b)
         | inr y ↦ mark_put y.0 y.1 y.2 t
       ];
     }
 
   -- ---- all of them
 
-  sparing_leaves : (x : SideState) → Late g x → (u : Retried Sparing) → FitsSparing w x.told.drawn u.operation → (n : ℕ) (r : Request) (o : Outcome) → sparing_asks w u.operation ≡ Some r → Leaves g x (driver_saw g k x (TheSparing u) n r o) (driver_entry n r o)
-  sparing_leaves x l u fits n r o asked =
-      let same : (q : List ℕ) → is_file_path q ≡ true → obj w.dest (effect x.seen.scene r o).content q ≡ obj w.dest x.seen.scene.content q = λ q path. sparing_shows g j x.seen x.told l.hold u.operation fits r asked o q path in
-      record {
-        picks = inl refl;
-        unbegun = λ e. (e, refl);
-        shows = λ q path. inl (same q path);
-        put_still = λ e. (e, same);
-        put_now = λ e f. absurd (false_true e f);
-        files = λ v at. absurd (no_commit at);
-        marks = λ b f t. absurd (false_true (sparing_no_mark u.operation r asked) f);
-      }
+  driver_leaves : (x : Stand) → x.told.cleans_at ≡ k.clean → Late g opening x → (op : Operation) → x.driver ≡ Some op → At g opening (Some op) x.seen x.told → (n : ℕ) (r : Request) (o : Outcome) → asks g (who Driver) nothing_learnt op ≡ Some r → IsTimely k n op → x.seen.scene.content.next ≤ 2 ^ 64 → IsHonestOutcome o (answer x.seen.scene r)
+      → ((c : Commit) → op ≡ TheCommit c → Committing g opening x.told x.seen.picks x.seen.put_mark c) → ((t : Retried Clean) → op ≡ TheClean t → ⊥) → Leaves g x (driver_saw g k x op n r o) (driver_entry n r o)
+  driver_leaves x cleans l (TheSetup u) d y n r o asked timely few honest i never = absurd (none_some (ap (setup_asks w) y.0) asked)
+  driver_leaves x cleans l (TheCommit c) d y n r o asked timely few honest i never = commit_leaves x l c d n r o asked timely.0 timely.1 cleans few honest (i c refl)
+  driver_leaves x cleans l (TheClean u) d y n r o asked timely few honest i never = absurd (never u refl)
+  driver_leaves x cleans l (TheCheck u) d y n r o asked timely few honest i never =
+      let p = check_plain w u.operation r asked in
+      still_leaves x (driver_saw g k x (TheCheck u) n r o) n r o p.marks (plain_picks w k x.seen n r p o) (λ q path. ap (λ (s : Scene). obj w.dest s.content q) (check_shows g j x.seen u.operation r asked o)) refl (λ c at. y.unpicked)
+  driver_leaves x cleans l (TheSparing u) d y n r o asked timely few honest i never =
+      let off : is_picking k x.seen.begun n ≡ false = ap (λ b. (x.seen.begun || is_begun k.commit n) && not b) timely ∙ and_false (x.seen.begun || is_begun k.commit n) in
+      still_leaves x (driver_saw g k x (TheSparing u) n r o) n r o (sparing_no_mark u.operation r asked) (late_picks w k x.seen n r off o) (λ q path. sparing_shows g j x.seen x.told l.hold u.operation y r asked o q path) refl (λ c at. absurd (no_commit at))
     where
-      no_commit : {a : Retried Sparing} {b : Commit} → Some (TheSparing a) ≡ Some (Alone (TheCommit b)) → ⊥
+      no_commit : {a : Retried Sparing} {b : Commit} → Some (TheSparing a) ≡ Some (TheCommit b) → ⊥
       no_commit e = absurd cc
+  driver_leaves x cleans l _ d y n r o asked timely few honest i never = absurd y
 
-  driver_leaves : (x : SideState) → x.told.cleans_at ≡ k.clean → Late g x → (op : SharedOperation) → x.driver ≡ Some op → At g (Some op) x.seen x.told → (n : ℕ) (r : Request) (o : Outcome) → shared_asks g (who Driver) nothing_learnt op ≡ Some r → IsInTime k n op → x.seen.scene.content.next ≤ 2 ^ 64 → IsHonestOutcome o (answer x.seen.scene r)
-      → Leaves g x (driver_saw g k x op n r o) (driver_entry n r o)
-  driver_leaves x cleans l (Alone (TheSetup u)) d y n r o asked timely few honest = absurd (none_some (ap (setup_asks w) y.0) asked)
-  driver_leaves x cleans l (Alone (TheCommit c)) d y n r o asked timely few honest = commit_leaves x l c d n r o asked timely.0 timely.1 cleans few honest
-  driver_leaves x cleans l (Alone _) d y n r o asked timely few honest = absurd y
-  driver_leaves x cleans l (TheCheck u) d y n r o asked timely few honest =
-      plain_leaves x (driver_saw g k x (TheCheck u) n r o) n r o (check_plain w u.operation r asked) (λ q path. ap (λ (s : Scene). obj w.dest s.content q) (check_shows g j x.seen u.operation r asked o)) y.unpicked refl
-  driver_leaves x cleans l (TheSparing u) d y n r o asked timely few honest = sparing_leaves x l u y n r o asked
+  -- its set-up
+  setup_leaves : (x : Stand) → Early g opening x → (op : Operation) → x.driver ≡ Some op → (n : ℕ) (r : Request) (o : Outcome) → asks g (who Driver) nothing_learnt op ≡ Some r → Leaves g x (driver_saw g k x op n r o) (driver_entry n r o)
+  setup_leaves x e op d n r o asked = elim e.setup [
+    | inl none ↦ absurd (none_some none d)
+    | inr y ↦
+        let is : TheSetup y.0 ≡ op = some_is (sym y.1 ∙ d) in
+        let a : setup_asks w (y.0).operation ≡ Some r = ap (asks g (who Driver) nothing_learnt) is ∙ asked in
+        let p = setup_plain w (y.0).operation r a in
+        subst (λ q. Leaves g x (driver_saw g k x q n r o) (driver_entry n r o)) is
+        (still_leaves x (driver_saw g k x (TheSetup y.0) n r o) n r o p.marks (plain_picks w k x.seen n r p o) (λ q path. setup_shows g j x.seen r ((y.0).operation, y.2, a) o q path) refl (λ c at. e.unpicked))
+  ]
 
-  pub sends_leaves : (x z : SideState) (e : Entry) → x.told.cleans_at ≡ k.clean → Sends g k x e z → Well g x → Leaves g x z e
-  sends_leaves x _ _ cleans (driver_sends _ op n r o d asked timely few honest) h = by h.0
+  pub sends_leaves : (es : List Entry) (x z : Stand) (e : Entry) → Sends g k x e z → Runs g k opening es x → Leaves g x z e
+  sends_leaves es x _ _ (driver_sends _ op n r o d asked timely few honest) run = by (good g k opening j is_opening es x run)
     where
-      by : Good g x → Leaves g x (driver_saw g k x op n r o) (driver_entry n r o)
-      by (inr l) = driver_leaves x cleans l op d (subst (λ q. At g q x.seen x.told) d l.driver) n r o asked timely few honest
-      by (inl e) =
-          let y = early_setup g j k x e op d in
-          let a : setup_asks w (y.0).operation ≡ Some r = ap (shared_asks g (who Driver) nothing_learnt) y.1 ∙ asked in
-          subst (λ q. Leaves g x (driver_saw g k x q n r o) (driver_entry n r o)) y.1
-          (plain_leaves x (driver_saw g k x (Alone (TheSetup y.0)) n r o) n r o (setup_plain w (y.0).operation r a) (λ q path. setup_shows g j x.seen r ((y.0).operation, y.2, a) o q path) e.unpicked refl)
-  sends_leaves x _ _ cleans (attempt_sends _ a op n r o set at asked honest) h =
-      let l = late g j x h.0 set in
+      by : Early g opening x ⊎ Late g opening x → Leaves g x (driver_saw g k x op n r o) (driver_entry n r o)
+      by (inl e) = setup_leaves x e op d n r o asked
+      by (inr l) = driver_leaves x (cleans_is g k opening j is_opening es x run) l op d (subst (λ q. At g opening q x.seen x.told) d l.driver) n r o asked timely few honest
+          (λ c is. committing g k opening j is_opening es x run c (d ∙ ap (λ q. Some q) is)) (λ t is. never_cleans g shared k opening es x run t (d ∙ ap (λ q. Some q) is))
+  sends_leaves es x _ _ (attempt_sends _ a op n r o set at asked honest) run =
+      let l = late_now g k opening j is_opening es x run set in
       let f = l.fine a op at in
       let own = operation_own g j x.told a f.0 op f.1 r asked in
       let quiet = attempt_quiet w k x.seen a n r l.hold.there (λ b q i. own.keys q i) o in

@@ -1,15 +1,16 @@
 -- All runs of two jobs at one destination.
 use Rattle.std.proofs.Common.{◌≡◌, ℕ, zero, suc, ◌+◌, ◌<◌, ◌≤◌, ◌⊎◌, inl, inr, ◌&&◌, ◌||◌, Bool, true, false, cond, List, [], ◌∷◌, ◌++◌, map, take, length, Option, Some, refl, sym, ap, subst, ◌∙◌, arith, length-append}
-use Rattle.job_facts.specs.Prelude.{list_any, text_eq, Content, Scene, Upload, bucket_of, effect, is_effective, Request, Entry, success_key, Who, Script, Setting, is_driver, is_marking, IsIn, changed_keys, at_id, Times}
+use Rattle.job_facts.specs.Prelude.{list_any, text_eq, Content, Scene, Upload, nothing_seen, bucket_of, effect, is_effective, Request, Entry, success_key, Who, Script, Setting, is_driver, is_marking, IsIn, changed_keys, at_id, Times}
 use Rattle.job_spec.proofs.Common.{and_parts, take-append-le, take_all, false_true, text_true}
 use Rattle.job_protocol.specs.Prelude.{Path}
 use Rattle.job_spec.specs.Scope.{upload_at}
-use Rattle.job_traces.specs.Runs.{Beginning}
-use Rattle.job_facts.proofs.SettingUp.{empty_none}
-use Rattle.twin_facts.specs.TwinLaws.{turned_entry, is_side, touches_mark, marks_by, is_marked_by, MayBeTwins, TwinsKeep}
-use Rattle.twin_facts.specs.Sides.{SideState, first_state, MayBegin, begin, Sends, driver_sends, attempt_sends, observed, Side, First, Second, TwinEntry, TwinRun, twins_begin, first_begins, second_begins, first_sends, second_sends, IsTwinOpening}
-use Rattle.twin_facts.proofs.Standing.{Early, late}
-use Rattle.twin_facts.proofs.Pairs.{Pair, swapped, swap_twins, paired_begin, paired, strange, sends_scene}
+use Rattle.job_traces.specs.Runs.{Stand, first_stand, Beginning, MayBegin, begin, Runs, run_begins, is_set, IsOpening}
+use Rattle.job_traces.proofs.Entries.{late_now}
+use Rattle.job_facts.proofs.Whose.{or_false}
+use Rattle.twin_facts.specs.Names.{Ids}
+use Rattle.twin_facts.specs.TwinLaws.{turned_entry, touches_mark, marks_by, is_marked_by, MayBeTwins, TwinsKeep}
+use Rattle.twin_facts.specs.Sides.{Sends, driver_sends, attempt_sends, observed, Side, First, Second, is_side, TwinEntry, in_eyes, eyes, drawn_by, drew_from, drew, TwinRun, twins_begin, first_begins, second_begins, first_sends, second_sends, IsTwinOpening}
+use Rattle.twin_facts.proofs.Pairs.{Pair, more, swapped, swap_twins, paired_begin, paired, strange, sends_scene}
 use Rattle.twin_facts.proofs.Steps.{sends_leaves}
 use Rattle.twin_facts.proofs.Views.{Views, views_swap, Touches, begins_views, entry_views, views_only, views_kept, views_marked}
 
@@ -54,42 +55,53 @@ other_marks w side other differ m e h = by (is_effective e.outcome && touches_ma
     by true t h = absurd (false_true differ (and_parts (is_side side other) _ h).0)
     by false t h = (h, λ took at. false_true t (both took (touched w e.request at)))
 
--- a side keeps the event of its first abort or clean
-sends_event : (g : Setting) (k : Times) (x z : SideState) (e : Entry) → Sends g k x e z → z.told.cleans_at ≡ x.told.cleans_at
-sends_event g k x _ _ (driver_sends _ op n r o d asked timely few honest) = refl
-sends_event g k x _ _ (attempt_sends _ a op n r o set at asked honest) = refl
+-- ---- what each side sees, and drew
+
+eyes_more : (side : Side) (es : List TwinEntry) (t : TwinEntry) → eyes side (es ++ t ∷ []) ≡ eyes side es ++ in_eyes side t ∷ []
+eyes_more side [] t = refl
+eyes_more side (x ∷ es) t = ap (λ l. in_eyes side x ∷ l) (eyes_more side es t)
+
+abbrev pub scene_of : Scene → List TwinEntry → Scene
+scene_of s [] = s
+scene_of s (t ∷ ts) = scene_of (effect s t.entry.request t.entry.outcome) ts
+
+scene_more : (s : Scene) (es : List TwinEntry) (t : TwinEntry) → scene_of s (es ++ t ∷ []) ≡ effect (scene_of s es) t.entry.request t.entry.outcome
+scene_more s [] t = refl
+scene_more s (x ∷ es) t = scene_more (effect s x.entry.request x.entry.outcome) es t
+
+or_assoc : (a b c : Bool) → (a || (b || c)) ≡ ((a || b) || c)
+or_assoc true b c = refl
+or_assoc false b c = refl
+
+drew_more : (side : Side) (s : Scene) (es : List TwinEntry) (t : TwinEntry) (id : ℕ) → drew_from side s (es ++ t ∷ []) id ≡ (drew_from side s es id || (is_side side t.side && drawn_by (scene_of s es) t.entry.request t.entry.outcome id))
+drew_more side s [] t id = or_false (is_side side t.side && drawn_by s t.entry.request t.entry.outcome id)
+drew_more side s (x ∷ es) t id =
+    let u = effect s x.entry.request x.entry.outcome in
+    let b = is_side side x.side && drawn_by s x.entry.request x.entry.outcome id in
+    ap (λ c. b || c) (drew_more side u es t id) ∙ or_assoc b (drew_from side u es id) (is_side side t.side && drawn_by (scene_of u es) t.entry.request t.entry.outcome id)
 
 -- ---- what holds of both
 
-pub record All (g h : Setting) (opening : Content) (es : List TwinEntry) (x y : SideState) : Type 0 where
-  pub pair : Pair g h x y
+pub record All (g h : Setting) (k l : Times) (opening : Content) (es : List TwinEntry) (x y : Stand) : Type 0 where
+  pub pair : Pair g h k l opening (eyes First es) (eyes Second es) (drew First opening es) (drew Second opening es) x y
+  pub scene : scene_of (nothing_seen opening).scene es ≡ x.seen.scene
   pub views : Views g h g.script.dest opening x.seen.scene.content x y (is_marked_by g.script First false es) (is_marked_by h.script Second false es)
 
 module _ (g h : Setting) (m : MayBeTwins g.script h.script) (k l : Times) (opening : Content) (is : IsTwinOpening g h opening) where
-  early : (f : Setting) (c : Option ℕ) → opening.minimum ≡ f.minimum → ((id : ℕ) (z : Upload) → at_id f.script opening id ≡ Some z → id < opening.next) → Early f (first_state opening c)
-  early f c least fresh = record {
-    told = refl;
-    last = λ t. refl;
-    unmarked = refl;
-    unpicked = λ t. refl;
-    fresh = fresh;
-    least = least;
-    none = λ a. refl;
-    files = empty_none f.script (first_state opening c).seen.scene refl;
-    setup = inl refl;
-  }
+  pub opens_first : IsOpening g opening
+  opens_first = record { least = is.first; fresh = is.fresh }
 
-  first_early : Early g (first_state opening k.clean)
-  first_early = early g k.clean is.first is.fresh
+  pub opens_second : IsOpening h opening
+  opens_second = record { least = is.second; fresh = subst (λ (d : Path). (id : ℕ) (z : Upload) → upload_at opening d.bucket id ≡ Some z → id < opening.next) m.twins.dest is.fresh }
 
-  second_early : Early h (first_state opening l.clean)
-  second_early = early h l.clean is.second (subst (λ (d : Path). (id : ℕ) (z : Upload) → upload_at opening d.bucket id ≡ Some z → id < opening.next) m.twins.dest is.fresh)
+  pub turned_twins : MayBeTwins h.script g.script
+  turned_twins = record { first = m.second; second = m.first; twins = swap_twins m.twins; keeps_first = m.keeps_second; keeps_second = m.keeps_first }
 
-  all_begin : All g h opening [] (first_state opening k.clean) (first_state opening l.clean)
+  all_begin : All g h k l opening [] (first_stand opening k.clean) (first_stand opening l.clean)
   all_begin = record {
     pair = record {
-      first = (inl first_early, λ just none. first_early);
-      second = (inl second_early, λ just none. second_early);
+      first = run_begins;
+      second = run_begins;
       scenes = refl;
       there = is.there;
       low_first = λ id e. absurd (false_true refl e);
@@ -98,6 +110,7 @@ module _ (g h : Setting) (m : MayBeTwins g.script h.script) (k l : Times) (openi
       known_second = λ id e. absurd e.2;
       apart = λ id e. refl;
     };
+    scene = refl;
     views = record {
       one = λ q path. inl refl;
       mine = record { unpicked = λ b t. refl; stood = λ e. absurd (false_true refl e); files = λ p e. absurd cc; says = λ e. absurd (false_true refl e) };
@@ -105,11 +118,16 @@ module _ (g h : Setting) (m : MayBeTwins g.script h.script) (k l : Times) (openi
     };
   }
 
-  -- the same seen from the second side
-  flipped : {x y : SideState} (one two : Bool) → Pair g h x y → Views g h g.script.dest opening x.seen.scene.content x y one two → Views h g h.script.dest opening y.seen.scene.content y x two one
-  flipped {x = x} {y = y} one two p v = subst (λ (d : Path). Views h g d opening y.seen.scene.content y x two one) m.twins.dest (subst (λ (s : Scene). Views h g g.script.dest opening s.content y x two one) p.scenes (views_swap v))
+  -- a pair over other lists and ids that are the same
+  pair_so : {fs fs2 gs gs2 : List Entry} {d d2 e e2 : Ids} {x y : Stand} → fs ≡ fs2 → gs ≡ gs2 → d ≡ d2 → e ≡ e2 → Pair g h k l opening fs gs d e x y → Pair g h k l opening fs2 gs2 d2 e2 x y
+  pair_so {fs = fs} {fs2 = fs2} {gs = gs} {gs2 = gs2} {d = d} {d2 = d2} {e2 = e2} {x = x} {y = y} a b c f p =
+      subst (λ q. Pair g h k l opening q gs2 d2 e2 x y) a (subst (λ q. Pair g h k l opening fs q d2 e2 x y) b (subst (λ q. Pair g h k l opening fs gs q e2 x y) c (subst (λ q. Pair g h k l opening fs gs d q x y) f p)))
 
-  back : {x y : SideState} (s : Scene) (one two : Bool) → x.seen.scene ≡ s → Views h g h.script.dest opening s.content y x two one → Views g h g.script.dest opening x.seen.scene.content x y one two
+  -- the same seen from the second side
+  flipped : {x y : Stand} (one two : Bool) → x.seen.scene ≡ y.seen.scene → Views g h g.script.dest opening x.seen.scene.content x y one two → Views h g h.script.dest opening y.seen.scene.content y x two one
+  flipped {x = x} {y = y} one two same v = subst (λ (d : Path). Views h g d opening y.seen.scene.content y x two one) m.twins.dest (subst (λ (s : Scene). Views h g g.script.dest opening s.content y x two one) same (views_swap v))
+
+  back : {x y : Stand} (s : Scene) (one two : Bool) → x.seen.scene ≡ s → Views h g h.script.dest opening s.content y x two one → Views g h g.script.dest opening x.seen.scene.content x y one two
   back {x = x} {y = y} s one two e v = subst (λ (d : Path). Views g h d opening x.seen.scene.content x y one two) (sym m.twins.dest) (subst (λ (t : Scene). Views g h h.script.dest opening t.content x y one two) (sym e) (views_swap v))
 
   not_touched : (r : Request) → (Touches h.script.dest r → ⊥) → Touches g.script.dest r → ⊥
@@ -130,73 +148,80 @@ module _ (g h : Setting) (m : MayBeTwins g.script h.script) (k l : Times) (openi
   abbrev by_second : Entry → TwinEntry
   by_second e = record { side = Second; entry = e }
 
-  first_begin_so : (es : List TwinEntry) (x y : SideState) (reported : List Who) (b : Beginning) → All g h opening es x y → MayBegin g x b → All g h opening es (begin g x reported b) y
-  first_begin_so es x y reported b a may = record {
-    pair = paired_begin m.first reported b may a.pair;
-    views = begins_views g h m.first g.script.dest opening x.seen.scene.content x y (one es) (two es) reported b may a.pair.first a.views;
+  first_begin_so : (es : List TwinEntry) (x y : Stand) (b : Beginning) → All g h k l opening es x y → MayBegin g x b → All g h k l opening es (begin g x b) y
+  first_begin_so es x y b a may = record {
+    pair = paired_begin b may a.pair;
+    scene = a.scene;
+    views = begins_views g h k opening m.first opens_first (eyes First es) g.script.dest opening x.seen.scene.content x y (one es) (two es) b may a.pair.first a.views;
   }
 
-  second_begin_so : (es : List TwinEntry) (x y : SideState) (reported : List Who) (b : Beginning) → All g h opening es x y → MayBegin h y b → All g h opening es x (begin h y reported b)
-  second_begin_so es x y reported b a may = record {
-    pair = swapped (swap_twins m.twins) (paired_begin m.second reported b may (swapped m.twins a.pair));
-    views = back y.seen.scene (one es) (two es) a.pair.scenes (begins_views h g m.second h.script.dest opening y.seen.scene.content y x (two es) (one es) reported b may a.pair.second (flipped (one es) (two es) a.pair a.views));
+  second_begin_so : (es : List TwinEntry) (x y : Stand) (b : Beginning) → All g h k l opening es x y → MayBegin h y b → All g h k l opening es x (begin h y b)
+  second_begin_so es x y b a may = record {
+    pair = swapped (swap_twins m.twins) (paired_begin b may (swapped m.twins a.pair));
+    scene = a.scene;
+    views = back y.seen.scene (one es) (two es) a.pair.scenes (begins_views h g l opening m.second opens_second (eyes Second es) h.script.dest opening y.seen.scene.content y x (two es) (one es) b may a.pair.second (flipped (one es) (two es) a.pair.scenes a.views));
   }
 
-  first_send_so : (es : List TwinEntry) (x y z : SideState) (e : Entry) → x.told.cleans_at ≡ k.clean → All g h opening es x y → Sends g k x e z → All g h opening (es ++ by_first e ∷ []) z (observed h l y e)
-  first_send_so es x y z e cleans a sends =
+  -- what is drawn
+  drew_own : (side : Side) → is_side side side ≡ true → (es : List TwinEntry) (s : Scene) → scene_of (nothing_seen opening).scene es ≡ s → (e : Entry) → more (drew side opening es) s e.request e.outcome ≡ drew side opening (es ++ record { side = side; entry = e } ∷ [])
+  drew_own side same es s at e i id =
+      sym (drew_more side (nothing_seen opening).scene es (record { side = side; entry = e }) id ∙ ap (λ b. drew side opening es id || (b && drawn_by (scene_of (nothing_seen opening).scene es) e.request e.outcome id)) same
+      ∙ ap (λ t. drew side opening es id || drawn_by t e.request e.outcome id) at) i
+
+  drew_not : (side other : Side) → is_side side other ≡ false → (es : List TwinEntry) (e : Entry) → drew side opening es ≡ drew side opening (es ++ record { side = other; entry = e } ∷ [])
+  drew_not side other differ es e i id =
+      sym (drew_more side (nothing_seen opening).scene es (record { side = other; entry = e }) id ∙ ap (λ b. drew side opening es id || (b && drawn_by (scene_of (nothing_seen opening).scene es) e.request e.outcome id)) differ ∙ or_false (drew side opening es id)) i
+
+  first_send_so : (es : List TwinEntry) (x y z : Stand) (e : Entry) → All g h k l opening es x y → Sends g k x e z → All g h k l opening (es ++ by_first e ∷ []) z (observed h l y e)
+  first_send_so es x y z e a sends =
       let now = snoc_marked g.script First false es (by_first e) in
       let then = snoc_marked h.script Second false es (by_first e) in
+      let at = sends_scene g m.first is.shared_first k opening opens_first x z e sends in
       record {
-        pair = paired m k l e sends cleans a.pair;
-        views = subst (λ (s : Scene). Views g h g.script.dest opening s.content z (observed h l y e) (one (es ++ by_first e ∷ [])) (two (es ++ by_first e ∷ []))) (sym (sends_scene g m.first k x z e sends))
-            (entry_views g h m.first opening x y z e (sends_leaves g m.first k m.keeps_first x z e cleans sends a.pair.first) a.pair.there l (one es) (two es) (one (es ++ by_first e ∷ [])) (two (es ++ by_first e ∷ []))
+        pair = pair_so (sym (eyes_more First es (by_first e))) (sym (eyes_more Second es (by_first e))) (drew_own First refl es x.seen.scene a.scene e) (drew_not Second First refl es e) (paired m is.shared_first k l opens_first e sends a.pair);
+        scene = scene_more (nothing_seen opening).scene es (by_first e) ∙ ap (λ s. effect s e.request e.outcome) a.scene ∙ sym at;
+        views = subst (λ (s : Scene). Views g h g.script.dest opening s.content z (observed h l y e) (one (es ++ by_first e ∷ [])) (two (es ++ by_first e ∷ []))) (sym at)
+            (entry_views g h m.first opening x y z e (sends_leaves g m.first is.shared_first k opening opens_first m.keeps_first (eyes First es) x z e sends a.pair.first) a.pair.there l (one es) (two es) (one (es ++ by_first e ∷ [])) (two (es ++ by_first e ∷ []))
             (λ t. own_marks g.script First refl (one es) e (sym now ∙ t))
             (λ t. let o = other_marks h.script Second First refl (two es) e (sym then ∙ t) in (o.0, λ took. not_touched e.request (o.1 took)))
             a.views);
       }
 
-  second_send_so : (es : List TwinEntry) (x y z : SideState) (e : Entry) → y.told.cleans_at ≡ l.clean → All g h opening es x y → Sends h l y e z → All g h opening (es ++ by_second e ∷ []) (observed g k x e) z
-  second_send_so es x y z e cleans a sends =
+  second_send_so : (es : List TwinEntry) (x y z : Stand) (e : Entry) → All g h k l opening es x y → Sends h l y e z → All g h k l opening (es ++ by_second e ∷ []) (observed g k x e) z
+  second_send_so es x y z e a sends =
       let now = snoc_marked h.script Second false es (by_second e) in
       let then = snoc_marked g.script First false es (by_second e) in
-      let turned : MayBeTwins h.script g.script = record { first = m.second; second = m.first; twins = swap_twins m.twins; keeps_first = m.keeps_second; keeps_second = m.keeps_first } in
       let p = swapped m.twins a.pair in
       record {
-        pair = swapped (swap_twins m.twins) (paired turned l k e sends cleans p);
+        pair = pair_so (sym (eyes_more First es (by_second e))) (sym (eyes_more Second es (by_second e))) (drew_not First Second refl es e) (drew_own Second refl es y.seen.scene (a.scene ∙ a.pair.scenes) e)
+            (swapped (swap_twins m.twins) (paired turned_twins is.shared_second l k opens_second e sends p));
+        scene = scene_more (nothing_seen opening).scene es (by_second e) ∙ ap (λ s. effect s e.request e.outcome) a.scene;
         views = back (effect y.seen.scene e.request e.outcome) (one (es ++ by_second e ∷ [])) (two (es ++ by_second e ∷ [])) (ap (λ s. effect s e.request e.outcome) a.pair.scenes)
-            (entry_views h g m.second opening y x z e (sends_leaves h m.second l m.keeps_second y z e cleans sends a.pair.second) p.there k (two es) (one es) (two (es ++ by_second e ∷ [])) (one (es ++ by_second e ∷ []))
+            (entry_views h g m.second opening y x z e (sends_leaves h m.second is.shared_second l opening opens_second m.keeps_second (eyes Second es) y z e sends a.pair.second) p.there k (two es) (one es) (two (es ++ by_second e ∷ [])) (one (es ++ by_second e ∷ []))
             (λ t. own_marks h.script Second refl (two es) e (sym now ∙ t))
             (λ t. let o = other_marks g.script First Second refl (one es) e (sym then ∙ t) in (o.0, λ took. not_touched_back e.request (o.1 took)))
-            (flipped (one es) (two es) a.pair a.views));
+            (flipped (one es) (two es) a.pair.scenes a.views));
       }
 
-  pub cleans_are : (es : List TwinEntry) (x y : SideState) → TwinRun g h k l opening es x y → (x.told.cleans_at ≡ k.clean) × (y.told.cleans_at ≡ l.clean)
-  cleans_are es x y (twins_begin) = (refl, refl)
-  cleans_are es x y (first_begins fs u v reported b run may) = cleans_are fs u v run
-  cleans_are es x y (second_begins fs u v reported b run may) = cleans_are fs u v run
-  cleans_are es x y (first_sends fs u v z e run sends) = let old = cleans_are fs u v run in (sends_event g k u z e sends ∙ old.0, old.1)
-  cleans_are es x y (second_sends fs u v z e run sends) = let old = cleans_are fs u v run in (old.0, sends_event h l v z e sends ∙ old.1)
-
-  pub all_so : (es : List TwinEntry) (x y : SideState) → TwinRun g h k l opening es x y → All g h opening es x y
+  pub all_so : (es : List TwinEntry) (x y : Stand) → TwinRun g h k l opening es x y → All g h k l opening es x y
   all_so es x y (twins_begin) = all_begin
-  all_so es x y (first_begins fs u v reported b run may) = first_begin_so fs u v reported b (all_so fs u v run) may
-  all_so es x y (second_begins fs u v reported b run may) = second_begin_so fs u v reported b (all_so fs u v run) may
-  all_so es x y (first_sends fs u v z e run sends) = first_send_so fs u v z e (cleans_are fs u v run).0 (all_so fs u v run) sends
-  all_so es x y (second_sends fs u v z e run sends) = second_send_so fs u v z e (cleans_are fs u v run).1 (all_so fs u v run) sends
+  all_so es x y (first_begins fs u v b run may) = first_begin_so fs u v b (all_so fs u v run) may
+  all_so es x y (second_begins fs u v b run may) = second_begin_so fs u v b (all_so fs u v run) may
+  all_so es x y (first_sends fs u v z e run sends) = first_send_so fs u v z e (all_so fs u v run) sends
+  all_so es x y (second_sends fs u v z e run sends) = second_send_so fs u v z e (all_so fs u v run) sends
 
-  pub twins_keep : (es : List TwinEntry) (x y : SideState) → TwinRun g h k l opening es x y → TwinsKeep g h k l opening es x y
+  pub twins_keep : (es : List TwinEntry) (x y : Stand) → TwinRun g h k l opening es x y → TwinsKeep g h k l opening es x y
   twins_keep es x y run =
       let a = all_so es x y run in
-      let turned : MayBeTwins h.script g.script = record { first = m.second; second = m.first; twins = swap_twins m.twins; keeps_first = m.keeps_second; keeps_second = m.keeps_first } in
-      let other = flipped (one es) (two es) a.pair a.views in
+      let other = flipped (one es) (two es) a.pair.scenes a.views in
       record {
-        first = λ set. (late g m.first x a.pair.first.0 set).hold;
-        second = λ set. (late h m.second y a.pair.second.0 set).hold;
+        first = λ set. (late_now g k opening m.first opens_first (eyes First es) x a.pair.first set).hold;
+        second = λ set. (late_now h l opening m.second opens_second (eyes Second es) y a.pair.second set).hold;
         apart = a.pair.apart;
         known_first = a.pair.known_first;
         known_second = a.pair.known_second;
-        strange_first = λ e z sends. strange m k l e sends (cleans_are es x y run).0 a.pair;
-        strange_second = λ e z sends. strange turned l k e sends (cleans_are es x y run).1 (swapped m.twins a.pair);
+        strange_first = λ e z sends. strange m is.shared_first k l opens_first e sends a.pair;
+        strange_second = λ e z sends. strange turned_twins is.shared_second l k opens_second e sends (swapped m.twins a.pair);
         one_scene = a.pair.scenes;
         shows = record { only = views_only a.views; kept = views_kept a.views };
         marked_first = λ t. let v = views_marked a.views m.first t in record { picked = v.0; apart = v.1; files = v.2; mark = v.3 };
@@ -208,9 +233,9 @@ module _ (g h : Setting) (m : MayBeTwins g.script h.script) (k l : Times) (openi
 module _ (g h : Setting) (k l : Times) (opening : Content) where
   -- a run comes so far
   abbrev Reached : List TwinEntry → Type 0
-  Reached es = (u v : SideState) × TwinRun g h k l opening es u v
+  Reached es = (u v : Stand) × TwinRun g h k l opening es u v
 
-  with_one : (es : List TwinEntry) (e : TwinEntry) (m : ℕ) (x y : SideState) → m ≤ length (es ++ e ∷ []) → (m ≤ length es → Reached (take m es)) → TwinRun g h k l opening (es ++ e ∷ []) x y → Reached (take m (es ++ e ∷ []))
+  with_one : (es : List TwinEntry) (e : TwinEntry) (m : ℕ) (x y : Stand) → m ≤ length (es ++ e ∷ []) → (m ≤ length es → Reached (take m es)) → TwinRun g h k l opening (es ++ e ∷ []) x y → Reached (take m (es ++ e ∷ []))
   with_one es e m x y few before run = elim (at_most m (length es)) [
     | inl low ↦ subst Reached (sym (take-append-le m es (e ∷ []) low)) (before low)
     | inr high ↦ subst Reached (sym (take_all m (es ++ e ∷ []) (let n : length (es ++ e ∷ []) ≡ length es + 1 = length-append es (e ∷ []) in omega arith))) (x, y, run)
@@ -221,10 +246,10 @@ module _ (g h : Setting) (k l : Times) (opening : Content) where
       at_most (suc a) zero = inr (omega arith)
       at_most (suc a) (suc b) = elim (at_most a b) [ inl x ↦ inl (omega arith) | inr x ↦ inr (omega arith) ]
 
-  pub moments : (es : List TwinEntry) (x y : SideState) → TwinRun g h k l opening es x y → (m : ℕ) → m ≤ length es → Reached (take m es)
+  pub moments : (es : List TwinEntry) (x y : Stand) → TwinRun g h k l opening es x y → (m : ℕ) → m ≤ length es → Reached (take m es)
   moments es x y (twins_begin) m few = (x, y, subst (λ fs. TwinRun g h k l opening fs x y) (sym (take_all m [] (omega arith))) (twins_begin))
-  moments es x y (first_begins fs u v reported b run may) m few = moments fs u v run m few
-  moments es x y (second_begins fs u v reported b run may) m few = moments fs u v run m few
+  moments es x y (first_begins fs u v b run may) m few = moments fs u v run m few
+  moments es x y (second_begins fs u v b run may) m few = moments fs u v run m few
   moments es x y (first_sends fs u v z e run sends) m few =
       with_one fs (record { side = First; entry = e }) m z (observed h l v e) few (moments fs u v run m) (first_sends fs u v z e run sends)
   moments es x y (second_sends fs u v z e run sends) m few =
@@ -237,9 +262,9 @@ module _ (g h : Setting) (k l : Times) (opening : Content) where
   turned_one [] e = refl
   turned_one (x ∷ es) e = ap (λ l. turned_entry x ∷ l) (turned_one es e)
 
-  pub turned : (es : List TwinEntry) (x y : SideState) → TwinRun g h k l opening es x y → TwinRun h g l k opening (map turned_entry es) y x
+  pub turned : (es : List TwinEntry) (x y : Stand) → TwinRun g h k l opening es x y → TwinRun h g l k opening (map turned_entry es) y x
   turned es x y (twins_begin) = twins_begin
-  turned es x y (first_begins fs u v reported b run may) = second_begins (map turned_entry fs) v u reported b (turned fs u v run) may
-  turned es x y (second_begins fs u v reported b run may) = first_begins (map turned_entry fs) v u reported b (turned fs u v run) may
+  turned es x y (first_begins fs u v b run may) = second_begins (map turned_entry fs) v u b (turned fs u v run) may
+  turned es x y (second_begins fs u v b run may) = first_begins (map turned_entry fs) v u b (turned fs u v run) may
   turned es x y (first_sends fs u v z e run sends) = subst (λ q. TwinRun h g l k opening q (observed h l v e) z) (sym (turned_one fs (record { side = First; entry = e }))) (second_sends (map turned_entry fs) v u z e (turned fs u v run) sends)
   turned es x y (second_sends fs u v z e run sends) = subst (λ q. TwinRun h g l k opening q z (observed g k u e)) (sym (turned_one fs (record { side = Second; entry = e }))) (first_sends (map turned_entry fs) v u z e (turned fs u v run) sends)

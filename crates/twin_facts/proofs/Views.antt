@@ -1,17 +1,18 @@
 -- What readers of a destination of two jobs are shown is kept by each step of either.
 use Rattle.std.proofs.Common.{◌≡◌, ℕ, ◌⊎◌, inl, inr, not, Bool, true, false, cond, List, Option, Some, None, refl, sym, ap, subst, ◌∙◌}
-use Rattle.job_facts.specs.Prelude.{option_map, Content, Scene, bucket_of, effect, is_effective, Object, Request, Outcome, Answered, Slow, RequestLost, ReplyLost, Entry, success_key, Who, Script, IsLegal, Picks, wanted_at, is_decided, is_picked, is_clash, mark_text, is_file_path, view, Commit, Marking, Setting, TheCommit, is_driver, is_marking, IsIn, HasBucket, changed_keys, whole_of, Times}
+use Rattle.job_facts.specs.Prelude.{option_map, Content, Scene, bucket_of, effect, is_effective, Object, Request, Outcome, Answered, Slow, RequestLost, ReplyLost, Entry, success_key, Who, Script, IsLegal, Picks, wanted_at, is_decided, is_picked, is_clash, mark_text, is_file_path, view, Commit, Marking, Setting, TheCommit, is_driver, is_marking, clean_of, IsIn, HasBucket, changed_keys, whole_of, Times}
 use Rattle.job_spec.proofs.Common.{and_parts, not-true, some_is, none_some, none_or_some, false_true, true_or_false, same_or_other}
 use Rattle.job_protocol.specs.Prelude.{Path}
-use Rattle.job_traces.specs.Runs.{Beginning, BeginSetup, BeginCommit, BeginClean}
+use Rattle.job_protocol.proofs.Begun.{clean_of_so}
+use Rattle.job_traces.specs.Runs.{Stand, is_just_set, Beginning, BeginSetup, BeginCommit, BeginClean, BeginWrite, BeginPublish, BeginAbort, MayBegin, begin, Runs, IsOpening}
+use Rattle.job_traces.proofs.EveryRun.{just_set, just_idle}
+use Rattle.job_traces.proofs.Entries.{late_now}
 use Rattle.job_facts.proofs.FilePaths.{file_path}
 use Rattle.job_facts.proofs.FilingLaws.{stranger_same}
 use Rattle.job_facts.proofs.Wanted.{wanted_of}
 use Rattle.twin_facts.specs.TwinLaws.{counted, Gives}
-use Rattle.twin_facts.specs.SharedOperations.{Alone}
-use Rattle.twin_facts.specs.Sides.{SideState, is_just_set, observed, MayBegin, begin}
-use Rattle.twin_facts.proofs.Standing.{Well, late, just_set, just_idle}
-use Rattle.twin_facts.proofs.Spares.{in_or_not}
+use Rattle.twin_facts.specs.Sides.{observed}
+use Rattle.job_facts.proofs.Spares.{in_or_not}
 use Rattle.twin_facts.proofs.Steps.{obj, mark_at, count, FileAt, Leaves}
 
 -- ---- paths
@@ -21,11 +22,11 @@ abbrev pub One : Path → Content → Content → (List ℕ → Option (List ℕ
 One d opening c mine others q = (obj d c q ≡ obj d opening q) ⊎ ((b : List ℕ) × ((mine q ≡ Some b) ⊎ (others q ≡ Some b)) × ((obj d c q ≡ Some (whole_of b)) ⊎ (obj d c q ≡ None)))
 
 -- while its commit goes on its wanted files that are not the other's too stand as it says
-abbrev pub FilesAt : Setting → Path → Content → Content → SideState → (List ℕ → Option (List ℕ)) → Type 0
-FilesAt g d opening c x others = (p : Commit) → x.driver ≡ Some (Alone (TheCommit p)) → (q b : List ℕ) → is_file_path q ≡ true → wanted_at g.script x.seen.picks q ≡ Some b → others q ≡ None → FileAt g x q b (obj d opening q) (obj d c q) p
+abbrev pub FilesAt : Setting → Path → Content → Content → Stand → (List ℕ → Option (List ℕ)) → Type 0
+FilesAt g d opening c x others = (p : Commit) → x.driver ≡ Some (TheCommit p) → (q b : List ℕ) → is_file_path q ≡ true → wanted_at g.script x.seen.picks q ≡ Some b → others q ≡ None → FileAt g x q b (obj d opening q) (obj d c q) p
 
 -- of one side, at a destination, beside what counts of the other's
-pub record SideViews (g : Setting) (d : Path) (opening c : Content) (x : SideState) (others : List ℕ → Option (List ℕ)) (marked : Bool) : Type 0 where
+pub record SideViews (g : Setting) (d : Path) (opening c : Content) (x : Stand) (others : List ℕ → Option (List ℕ)) (marked : Bool) : Type 0 where
   -- before its commit begins it has no picks
   pub unpicked : x.seen.begun ≡ false → (t : ℕ) → x.seen.picks t ≡ None
   -- once it has put the marker all its files stand that are not the other's too
@@ -34,12 +35,12 @@ pub record SideViews (g : Setting) (d : Path) (opening c : Content) (x : SideSta
   -- where the marker is its own it says what was wanted
   pub says : marked ≡ true → (x.seen.put_mark ≡ true) × ((o : Object) × (mark_at d c ≡ Some o) × (o.bytes ≡ mark_text g.script x.seen.picks))
 
-pub record Views (g h : Setting) (d : Path) (opening c : Content) (x y : SideState) (first second : Bool) : Type 0 where
+pub record Views (g h : Setting) (d : Path) (opening c : Content) (x y : Stand) (first second : Bool) : Type 0 where
   pub one : (q : List ℕ) → is_file_path q ≡ true → One d opening c (count g x) (count h y) q
   pub mine : SideViews g d opening c x (count h y) first
   pub others : SideViews h d opening c y (count g x) second
 
-pub views_swap : {g h : Setting} {d : Path} {opening c : Content} {x y : SideState} {first second : Bool} → Views g h d opening c x y first second → Views h g d opening c y x second first
+pub views_swap : {g h : Setting} {d : Path} {opening c : Content} {x y : Stand} {first second : Bool} → Views g h d opening c x y first second → Views h g d opening c y x second first
 views_swap v = record {
   one = λ q path. elim (v.one q path) [ inl same ↦ inl same | inr z ↦ inr (z.0, elim z.1 [ inl a ↦ inr a | inr a ↦ inl a ], z.2) ];
   mine = v.others;
@@ -52,7 +53,7 @@ views_swap v = record {
 abbrev pub Touches : Path → Request → Type 0
 Touches d r = (bucket_of r ≡ d.bucket) × IsIn (success_key d.key) (changed_keys r)
 
-module _ (g h : Setting) (j : IsLegal g.script) (opening : Content) (x y z : SideState) (e : Entry) (l : Leaves g x z e) (there : HasBucket x.seen.scene.content g.script.dest.bucket) where
+module _ (g h : Setting) (j : IsLegal g.script) (opening : Content) (x y z : Stand) (e : Entry) (l : Leaves g x z e) (there : HasBucket x.seen.scene.content g.script.dest.bucket) where
   abbrev w : Script
   w = g.script
 
@@ -161,8 +162,8 @@ module _ (g h : Setting) (j : IsLegal g.script) (opening : Content) (x y z : Sid
 
 -- ---- what begins
 
-pub begins_views : (g h : Setting) (j : IsLegal g.script) (d : Path) (opening c : Content) (x y : SideState) (first second : Bool) (reported : List Who) (b : Beginning) → MayBegin g x b → Well g x → Views g h d opening c x y first second → Views g h d opening c (begin g x reported b) y first second
-begins_views g h j d opening c x y first second reported b may well v = record {
+pub begins_views : (g h : Setting) (k : Times) (start : Content) (j : IsLegal g.script) (is : IsOpening g start) (es : List Entry) (d : Path) (opening c : Content) (x y : Stand) (first second : Bool) (b : Beginning) → MayBegin g x b → Runs g k start es x → Views g h d opening c x y first second → Views g h d opening c (begin g x b) y first second
+begins_views g h k start j is es d opening c x y first second b may run v = record {
   one = v.one;
   mine = record { unpicked = v.mine.unpicked; stood = v.mine.stood; files = files_by b may; says = v.mine.says };
   others = v.others;
@@ -170,17 +171,22 @@ begins_views g h j d opening c x y first second reported b may well v = record {
   where
     -- a commit begins without picks
     unpicked : is_just_set x.driver ≡ true → (t : ℕ) → x.seen.picks t ≡ None
-    unpicked just = (just_idle g j x.driver x.seen x.told (late g j x well.0 (just_set g j x.driver just)).driver just).unpicked
+    unpicked just = (just_idle g k start j is x.driver x.seen x.told (late_now g k start j is es x run (just_set x.driver just)).driver just).unpicked
 
-    files_by : (b : Beginning) → MayBegin g x b → FilesAt g d opening c (begin g x reported b) (count h y)
+    no_commit : (p : Commit) → Some (clean_of g) ≡ Some (TheCommit p) → ⊥
+    no_commit p = clean_of_so g (λ op. Some op ≡ Some (TheCommit p) → ⊥) (λ e. absurd cc) (λ e. absurd cc)
+
+    files_by : (b : Beginning) → MayBegin g x b → FilesAt g d opening c (begin g x b) (count h y)
     files_by BeginSetup may = λ p is. absurd cc
-    files_by (BeginCommit missing) may = λ p is q b path want none. (let z = wanted_of g.script x.seen.picks q b want in absurd (none_some (unpicked may z.from.task) z.from.picked))
-    files_by BeginClean may = λ p is. absurd cc
-    files_by _ may = v.mine.files
+    files_by (BeginCommit reports) may = λ p is q b path want none. (let z = wanted_of g.script x.seen.picks q b want in absurd (none_some (unpicked may z.from.task) z.from.picked))
+    files_by BeginClean may = λ p is. absurd (no_commit p is)
+    files_by (BeginWrite a) may = v.mine.files
+    files_by (BeginPublish a) may = v.mine.files
+    files_by (BeginAbort a) may = v.mine.files
 
 -- ---- one entry
 
-pub entry_views : (g h : Setting) → IsLegal g.script → (opening : Content) (x y z : SideState) (e : Entry) → Leaves g x z e → HasBucket x.seen.scene.content g.script.dest.bucket → (k : Times) (first second now then : Bool)
+pub entry_views : (g h : Setting) → IsLegal g.script → (opening : Content) (x y z : Stand) (e : Entry) → Leaves g x z e → HasBucket x.seen.scene.content g.script.dest.bucket → (k : Times) (first second now then : Bool)
     → (now ≡ true → ((is_effective e.outcome ≡ true) × (is_driver e.actor ≡ true) × (is_marking g.script e.request ≡ true)) ⊎ ((first ≡ true) × ((is_effective e.outcome ≡ true) → Touches g.script.dest e.request → ⊥)))
     → (then ≡ true → (second ≡ true) × ((is_effective e.outcome ≡ true) → Touches g.script.dest e.request → ⊥))
     → Views g h g.script.dest opening x.seen.scene.content x y first second → Views g h g.script.dest opening (effect x.seen.scene e.request e.outcome).content z (observed h k y e) now then
@@ -192,7 +198,7 @@ entry_views g h j opening x y z e l there k first second now then said says v = 
 
 -- ---- what readers are shown
 
-module _ {g h : Setting} {d : Path} {opening c : Content} {x y : SideState} {first second : Bool} (v : Views g h d opening c x y first second) where
+module _ {g h : Setting} {d : Path} {opening c : Content} {x y : Stand} {first second : Bool} (v : Views g h d opening c x y first second) where
   shown_is : (e : Content) (q : List ℕ) → is_file_path q ≡ true → view d e q ≡ option_map (λ (b : Object). b.bytes) (obj d e q)
   shown_is e q path = ap (λ b. cond b (option_map (λ (o : Object). o.bytes) (obj d e q)) None) path
 
@@ -205,7 +211,7 @@ module _ {g h : Setting} {d : Path} {opening c : Content} {x y : SideState} {fir
   shown_by : (e : Content) (q : List ℕ) → is_file_path q ≡ true → (o : Option Object) → obj d e q ≡ o → view d e q ≡ option_map (λ (b : Object). b.bytes) o
   shown_by e q path o is = shown_is e q path ∙ ap (λ t. option_map (λ (b : Object). b.bytes) t) is
 
-  unbegun_none : (f : Setting) (z : SideState) → (z.seen.begun ≡ false → (t : ℕ) → z.seen.picks t ≡ None) → (q b : List ℕ) → counted f.script z.seen.picks q ≡ Some b → z.seen.begun ≡ true
+  unbegun_none : (f : Setting) (z : Stand) → (z.seen.begun ≡ false → (t : ℕ) → z.seen.picks t ≡ None) → (q b : List ℕ) → counted f.script z.seen.picks q ≡ Some b → z.seen.begun ≡ true
   unbegun_none f z unpicked q b has = elim (true_or_false z.seen.begun) [
     | inl begun ↦ begun
     | inr no_so ↦ absurd (by (is_decided f.script z.seen.picks) has (unpicked no_so))

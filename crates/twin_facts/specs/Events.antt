@@ -1,40 +1,21 @@
 -- What is seen and told of a side by the numbers of events alone.
-use Rattle.std.specs.Prelude.{◌≡◌, ℕ, ◌≤◌, true, false, cond, List, [], ◌∷◌, length, take}
-use Rattle.job_facts.specs.Prelude.{Content, Entry, Script, Setting, is_driver, Seen, see, is_begun, nothing_seen, Told, strange_entry, nothing_told, tell, Times}
-use Rattle.twin_facts.specs.Sides.{Side, First, Second, TwinEntry, SideState, TwinRun}
-use Rattle.twin_facts.specs.TwinLaws.{is_side, InEachRun, Shows, Marked, is_marked_by}
-
--- a stranger's entry
-abbrev pub see_strange : Script → Times → Seen → Entry → Seen
-see_strange w k s e = see w k s (strange_entry e.event e.request e.outcome)
-
--- an own entry; no read of an abort or clean counts as the commit's
-abbrev pub see_own : Script → Times → Seen → Entry → Seen
-see_own w k s e = cond (is_driver e.actor) (cond (is_begun k.clean e.event) (see_strange w k s e) (see w k s e)) (see w k s e)
-
-abbrev pub see_twin : Script → Times → Side → Seen → TwinEntry → Seen
-see_twin w k side s t = cond (is_side side t.side) (see_own w k s t.entry) (see_strange w k s t.entry)
-
-abbrev pub see_twins : Script → Times → Side → Seen → List TwinEntry → Seen
-see_twins w k side s [] = s
-see_twins w k side s (t ∷ ts) = see_twins w k side (see_twin w k side s t) ts
+use Rattle.std.specs.Prelude.{◌≡◌, ℕ, ◌≤◌, true, false, List, length, take}
+use Rattle.job_facts.specs.Prelude.{Content, Script, Setting, Seen, see_all, nothing_seen, nothing_told, tell_all, Times}
+use Rattle.job_traces.specs.Runs.{Stand}
+use Rattle.twin_facts.specs.Sides.{Side, First, Second, TwinEntry, eyes, TwinRun}
+use Rattle.twin_facts.specs.TwinLaws.{InEachRun, Shows, Marked, is_marked_by}
 
 -- what is seen of a side at moment m
 abbrev pub seen_twin : Script → Times → Side → Content → List TwinEntry → ℕ → Seen
-seen_twin w k side opening es m = see_twins w k side (nothing_seen opening) (take m es)
-
--- what is told of a side after more entries: its own alone tell
-abbrev pub tell_twins : Script → Side → Told → List TwinEntry → Told
-tell_twins w side m [] = m
-tell_twins w side m (t ∷ ts) = tell_twins w side (cond (is_side side t.side) (tell w m t.entry) m) ts
+seen_twin w k side opening es m = see_all w k (nothing_seen opening) (eyes side (take m es))
 
 -- a side that stands so is told of by its events
-pub record IsSaid (w : Script) (k : Times) (side : Side) (opening : Content) (es : List TwinEntry) (x : SideState) : Type 0 where
-  pub seen : x.seen ≡ see_twins w k side (nothing_seen opening) es
-  pub told : x.told ≡ tell_twins w side (nothing_told k.clean) es
+pub record IsSaid (w : Script) (k : Times) (side : Side) (opening : Content) (es : List TwinEntry) (x : Stand) : Type 0 where
+  pub seen : x.seen ≡ see_all w k (nothing_seen opening) (eyes side es)
+  pub told : x.told ≡ tell_all w (nothing_told k.clean) (eyes side es)
 
 abbrev pub TwinsAreSaid : Type 0
-TwinsAreSaid = (g h : Setting) (k l : Times) (opening : Content) (es : List TwinEntry) (x y : SideState) → TwinRun g h k l opening es x y → IsSaid g.script k First opening es x × IsSaid h.script l Second opening es y
+TwinsAreSaid = InEachRun (λ g h k l opening es x y. IsSaid g.script k First opening es x × IsSaid h.script l Second opening es y)
 
 -- What readers may rely on at each moment of the journal of both, by events.
 pub record AtMoment (w v : Script) (k l : Times) (opening : Content) (es : List TwinEntry) (m : ℕ) : Type 0 where

@@ -1,4 +1,3 @@
-pub mod SharedOperations
 pub mod Names
 pub mod Requests
 pub mod Laws

@@ -1,15 +1,13 @@
 -- What an abort or clean of a job at a shared destination leaves.
 use Rattle.std.specs.Prelude.{◌≡◌, ℕ, ◌<◌, true, List, [], Some, None}
-use Rattle.job_facts.specs.Prelude.{Scene, begins, Object, Driver, UploadRef, Committer, Magic, Directory, Partitioned, Entry, Retried, IsIn, magic_prefix, cluster_prefix, is_record, Who, Script, Setting, NoClusterFile, is_magic, is_staging, at_key, at_id, sets_at, Times}
+use Rattle.job_facts.specs.Prelude.{Scene, begins, Object, Driver, UploadRef, Committer, Magic, Directory, Partitioned, Entry, Request, Outcome, Retried, Content, IsLegal, TheSparing, strange_entry, IsForeign, IsIn, magic_prefix, cluster_prefix, is_record, Who, Script, Setting, NoClusterFile, is_magic, is_staging, at_key, at_id, sets_at, Times}
 use Rattle.std.specs.FinMap as fin
 use Rattle.pending_json.specs.Reading as reading
 use Rattle.job_model.specs.declared.ends.CleanEnd.TheVariants as ends
 use Rattle.job_spec.specs.Scope.{NoMagicKey}
-use Rattle.job_traces.specs.Runs.{Beginning, BeginClean}
+use Rattle.job_traces.specs.Runs.{Stand, is_set, saw, Beginning, BeginClean, begun_driver, begin, MayBegin, Runs, IsOpening}
 use Rattle.job_protocol.specs.Sparing.{Sparing, SparingOver, record_names, set_names}
-use Rattle.twin_facts.specs.SharedOperations.{TheSparing}
-use Rattle.twin_facts.specs.Sides.{SideState, is_set, begun_driver, begin, MayBegin, Sends, observed}
-use Rattle.twin_facts.specs.TwinLaws.{InEachRun}
+use Rattle.twin_facts.specs.Sides.{Sends}
 
 -- what stands at a place below the job's directory names the upload: a record of the magic committer, a set or temporary file of the others
 abbrev pub NamedAt : Committer → Script → Scene → List ℕ → UploadRef → Type 0
@@ -28,15 +26,18 @@ pub record SparingLeaves (w : Script) (first s : Scene) : Type 0 where
   pub keys : is_magic w.committer ≡ true → NoMagicKey w s.content
   pub files : is_staging w.committer ≡ true → NoClusterFile w s
 
--- A run goes on, in which of the first side only the driver sends, and begins nothing else.
-pub data SparesOn (g h : Setting) (k l : Times) (x y : SideState) : SideState → SideState → Type 0 where
-  spares_begin : SparesOn g h k l x y x y
-  it_begins : (u v : SideState) (reported : List Who) (b : Beginning) → SparesOn g h k l x y u v → MayBegin g u b → begun_driver g u reported b ≡ u.driver → SparesOn g h k l x y (begin g u reported b) v
-  it_sends : (u v z : SideState) (t : Retried Sparing) (e : Entry) → SparesOn g h k l x y u v → u.driver ≡ Some (TheSparing t) → e.actor ≡ Driver → Sends g k u e z → SparesOn g h k l x y z (observed h l v e)
-  other_begins : (u v : SideState) (reported : List Who) (b : Beginning) → SparesOn g h k l x y u v → MayBegin h v b → SparesOn g h k l x y u (begin h v reported b)
-  other_sends : (u v z : SideState) (e : Entry) → SparesOn g h k l x y u v → Sends h l v e z → SparesOn g h k l x y (observed g k u e) z
+-- so it is in every run of one job whose destination others share, among strangers
+abbrev pub InEachShared : ((g : Setting) (k : Times) (opening : Content) (es : List Entry) (x : Stand) → Type 0) → Type 0
+InEachShared P = (g : Setting) → IsLegal g.script → g.shared ≡ true → (k : Times) (opening : Content) → IsOpening g opening → (es : List Entry) (x : Stand) → Runs g k opening es x → P g k opening es x
 
--- an abort or clean that ends Done, with no entry of an attempt of its side since it began, whatever the other side sends
+-- A run goes on, in which of the job only the driver sends, and begins nothing else.
+pub data SparesOn (g : Setting) (k : Times) (x : Stand) : Stand → Type 0 where
+  spares_begin : SparesOn g k x x
+  it_begins : (u : Stand) (b : Beginning) → SparesOn g k x u → MayBegin g u b → begun_driver g u b ≡ u.driver → SparesOn g k x (begin g u b)
+  it_sends : (u z : Stand) (t : Retried Sparing) (e : Entry) → SparesOn g k x u → u.driver ≡ Some (TheSparing t) → e.actor ≡ Driver → Sends g k u e z → SparesOn g k x z
+  other_sends : (u : Stand) (n : ℕ) (r : Request) (o : Outcome) → SparesOn g k x u → IsForeign g.script u.told.drawn r → SparesOn g k x (saw g k u (strange_entry n r o))
+
+-- an abort or clean that ends Done, with no entry of an attempt of its job since it began, whatever others send
 abbrev pub SparingsLeave : Type 0
-SparingsLeave = InEachRun (λ g h k l opening es x y. is_set x.driver ≡ true
-    → (u v : SideState) → SparesOn g h k l (begin g x [] BeginClean) y u v → (t : Retried Sparing) → u.driver ≡ Some (TheSparing t) → t.operation ≡ SparingOver ends.Done → SparingLeaves g.script x.seen.scene u.seen.scene)
+SparingsLeave = InEachShared (λ g k opening es x. is_set x.driver ≡ true
+    → (u : Stand) → SparesOn g k (begin g x BeginClean) u → (t : Retried Sparing) → u.driver ≡ Some (TheSparing t) → t.operation ≡ SparingOver ends.Done → SparingLeaves g.script x.seen.scene u.seen.scene)

@@ -4,7 +4,8 @@ use Rattle.job_facts.specs.Prelude.{list_any, text_eq, Content, bucket_of, is_ef
 use Rattle.job_protocol.specs.View.{Shown, object_at}
 use Rattle.twin_facts.specs.Names.{IsStranger}
 use Rattle.twin_facts.specs.Laws.{AreTwins}
-use Rattle.twin_facts.specs.Sides.{Side, First, Second, TwinEntry, SideState, is_set, Sends, TwinRun, IsTwinOpening}
+use Rattle.job_traces.specs.Runs.{Stand, is_set}
+use Rattle.twin_facts.specs.Sides.{Side, First, Second, is_side, TwinEntry, Sends, drew, TwinRun, IsTwinOpening}
 
 -- what counts of a side's wanted files: nothing until each of its tasks has a pick and no two write one path
 abbrev pub counted : Script → Picks → Shown
@@ -20,11 +21,6 @@ pub record Shows (w v : Script) (opening c : Content) (s t : Seen) : Type 0 wher
   pub kept : (p b : List ℕ) → view w.dest opening p ≡ Some b → counted w s.picks p ≡ None → counted v t.picks p ≡ None → view w.dest c p ≡ Some b
 
 -- ---- the marker
-
-abbrev pub is_side : Side → Side → Bool
-is_side First First = true
-is_side Second Second = true
-is_side _ _ = false
 
 -- a put or a deletion of the marker of a committed job
 abbrev pub touches_mark : Script → Request → Bool
@@ -60,20 +56,20 @@ pub record MayBeTwins (w v : Script) : Type 0 where
   pub keeps_second : is_replace v.mode ≡ false
 
 -- so it is in every run of two such jobs, with these events of their commits, from any content in which their bucket stands
-abbrev pub InEachRun : ((g h : Setting) (k l : Times) (opening : Content) (es : List TwinEntry) (x y : SideState) → Type 0) → Type 0
-InEachRun P = (g h : Setting) → MayBeTwins g.script h.script → (k l : Times) (opening : Content) → IsTwinOpening g h opening → (es : List TwinEntry) (x y : SideState) → TwinRun g h k l opening es x y → P g h k l opening es x y
+abbrev pub InEachRun : ((g h : Setting) (k l : Times) (opening : Content) (es : List TwinEntry) (x y : Stand) → Type 0) → Type 0
+InEachRun P = (g h : Setting) → MayBeTwins g.script h.script → (k l : Times) (opening : Content) → IsTwinOpening g h opening → (es : List TwinEntry) (x y : Stand) → TwinRun g h k l opening es x y → P g h k l opening es x y
 
-pub record TwinsKeep (g h : Setting) (k l : Times) (opening : Content) (es : List TwinEntry) (x y : SideState) : Type 0 where
+pub record TwinsKeep (g h : Setting) (k l : Times) (opening : Content) (es : List TwinEntry) (x y : Stand) : Type 0 where
   -- of each side the facts hold, once its set-up is done
   pub first : is_set x.driver ≡ true → Hold g.script g.minimum x.seen x.told
   pub second : is_set y.driver ≡ true → Hold h.script h.minimum y.seen y.told
   -- no upload is drawn by both; what a side knows it drew
-  pub apart : (id : ℕ) → x.drew id ≡ true → y.drew id ≡ false
-  pub known_first : (id : ℕ) → IsKnown x.told.drawn id → x.drew id ≡ true
-  pub known_second : (id : ℕ) → IsKnown y.told.drawn id → y.drew id ≡ true
+  pub apart : (id : ℕ) → drew First opening es id ≡ true → drew Second opening es id ≡ false
+  pub known_first : (id : ℕ) → IsKnown x.told.drawn id → drew First opening es id ≡ true
+  pub known_second : (id : ℕ) → IsKnown y.told.drawn id → drew Second opening es id ≡ true
   -- what a side sends names nothing of the other's
-  pub strange_first : (e : Entry) (z : SideState) → Sends g k x e z → IsStranger h.script y.drew e.request
-  pub strange_second : (e : Entry) (z : SideState) → Sends h l y e z → IsStranger g.script x.drew e.request
+  pub strange_first : (e : Entry) (z : Stand) → Sends g k x e z → IsStranger h.script (drew Second opening es) e.request
+  pub strange_second : (e : Entry) (z : Stand) → Sends h l y e z → IsStranger g.script (drew First opening es) e.request
   -- what is shown
   pub one_scene : x.seen.scene ≡ y.seen.scene
   pub shows : Shows g.script h.script opening x.seen.scene.content x.seen y.seen
@@ -86,8 +82,8 @@ AllTwinsKeep = InEachRun TwinsKeep
 
 -- each moment of such a run is the end of one
 abbrev pub TwinMoments : Type 0
-TwinMoments = (g h : Setting) (k l : Times) (opening : Content) (es : List TwinEntry) (x y : SideState) → TwinRun g h k l opening es x y → (m : ℕ) → m ≤ length es
-    → (u v : SideState) × TwinRun g h k l opening (take m es) u v
+TwinMoments = (g h : Setting) (k l : Times) (opening : Content) (es : List TwinEntry) (x y : Stand) → TwinRun g h k l opening es x y → (m : ℕ) → m ≤ length es
+    → (u v : Stand) × TwinRun g h k l opening (take m es) u v
 
 -- ---- which side is the first
 
@@ -100,4 +96,4 @@ turned_entry e = record { side = other_side e.side; entry = e.entry }
 
 -- a run of two jobs is one of them in the other order
 abbrev pub TwinsTurn : Type 0
-TwinsTurn = (g h : Setting) (k l : Times) (opening : Content) (es : List TwinEntry) (x y : SideState) → TwinRun g h k l opening es x y → TwinRun h g l k opening (map turned_entry es) y x
+TwinsTurn = (g h : Setting) (k l : Times) (opening : Content) (es : List TwinEntry) (x y : Stand) → TwinRun g h k l opening es x y → TwinRun h g l k opening (map turned_entry es) y x

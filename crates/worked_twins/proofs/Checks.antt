@@ -1,12 +1,12 @@
 -- What the definitions of two jobs say of a journal, by tests that compute.
 use Rattle.std.proofs.Common.{◌≡◌, ℕ, zero, suc, inl, inr, ◌⊎◌, not, ◌&&◌, Bool, true, false, cond, List, [], ◌∷◌, take, Option, Some, None, refl, sym, ap, subst, ◌∙◌}
 use Rattle.job_spec.proofs.Common.{and_parts, not-true, none_some, some_is, text_is}
-use Rattle.job_spec.specs.Prelude.{Times, lookup, text_eq, Content, Scene, effect, after_all, moment, begins, Object, Actor, Driver, Attempt, Shell, Request, Outcome, Answered, Entry, IsIn, magic_prefix, cluster_prefix, success_key, File, Script, Picks, wanted_at, is_picked, is_clash, mark_text, view, is_driver, Seen, see, see_by, is_begun, nothing_seen}
+use Rattle.job_spec.specs.Prelude.{Times, lookup, text_eq, Content, Scene, effect, after_all, moment, begins, Object, Actor, Driver, Attempt, Shell, Request, Outcome, Answered, Entry, IsIn, magic_prefix, cluster_prefix, success_key, File, Script, Picks, wanted_at, is_picked, is_clash, mark_text, view, Seen, see, see_all, see_by, nothing_seen}
 use Rattle.job_protocol.specs.View.{object_at}
 use Rattle.twin_facts.specs.Names.{Ids, named_keys, named_upload, named_paths, IsStranger}
-use Rattle.twin_facts.specs.Sides.{Side, First, Second, TwinEntry}
-use Rattle.twin_facts.specs.TwinLaws.{Gives, Shows, Marked, is_side}
-use Rattle.twin_facts.specs.Events.{see_strange, see_own, see_twin, see_twins, seen_twin}
+use Rattle.twin_facts.specs.Sides.{Side, First, Second, is_side, TwinEntry, in_eyes, eyes}
+use Rattle.twin_facts.specs.TwinLaws.{Gives, Shows, Marked}
+use Rattle.twin_facts.specs.Events.{seen_twin}
 use Rattle.job_examples.specs.OneFile.{opening}
 use Rattle.job_examples.proofs.Checks.{dest, are_ours, visible}
 use Rattle.job_examples.proofs.Kept.{nothing, book_at, files_then}
@@ -68,26 +68,18 @@ module _ (w : Script) (k : Times) (side : Side) (mine : ℕ → Bool) where
   seen_by s n r (Attempt t a) _ = refl
   seen_by s n r Shell o = refl
 
-  own_scene : (s : Seen) (e : Entry) → (see_own w k s e).scene ≡ effect s.scene e.request e.outcome
-  own_scene s e = by (is_driver e.actor) (is_begun k.clean e.event)
-    where
-      by : (a b : Bool) → (cond a (cond b (see_strange w k s e) (see w k s e)) (see w k s e)).scene ≡ effect s.scene e.request e.outcome
-      by true true = refl
-      by true false = seen_by s e.event e.request e.actor e.outcome
-      by false b = seen_by s e.event e.request e.actor e.outcome
-
-  twin_scene : (s : Seen) (t : TwinEntry) → (see_twin w k side s t).scene ≡ effect s.scene t.entry.request t.entry.outcome
+  twin_scene : (s : Seen) (t : TwinEntry) → (see w k s (in_eyes side t)).scene ≡ effect s.scene t.entry.request t.entry.outcome
   twin_scene s t = by (is_side side t.side)
     where
-      by : (a : Bool) → (cond a (see_own w k s t.entry) (see_strange w k s t.entry)).scene ≡ effect s.scene t.entry.request t.entry.outcome
-      by true = own_scene s t.entry
+      by : (a : Bool) → (see w k s (cond a t.entry (record { event = t.entry.event; actor = Shell; request = t.entry.request; outcome = t.entry.outcome }))).scene ≡ effect s.scene t.entry.request t.entry.outcome
+      by true = seen_by s t.entry.event t.entry.request t.entry.actor t.entry.outcome
       by false = refl
 
-  all_scene : (es : List Entry) (s : Seen) → (see_twins w k side s (sided mine es)).scene ≡ after_all s.scene es
+  all_scene : (es : List Entry) (s : Seen) → (see_all w k s (eyes side (sided mine es))).scene ≡ after_all s.scene es
   all_scene [] s = refl
   all_scene (e ∷ es) s =
       let t : TwinEntry = record { side = cond (mine e.event) First Second; entry = e } in
-      all_scene es (see_twin w k side s t) ∙ ap (λ x. after_all x es) (twin_scene s t)
+      all_scene es (see w k s (in_eyes side t)) ∙ ap (λ x. after_all x es) (twin_scene s t)
 
   take_sided : (m : ℕ) (es : List Entry) → take m (sided mine es) ≡ sided mine (take m es)
   take_sided zero es = refl
@@ -95,7 +87,7 @@ module _ (w : Script) (k : Times) (side : Side) (mine : ℕ → Bool) where
   take_sided (suc m) (e ∷ es) = ap (λ l. record { side = cond (mine e.event) First Second; entry = e } ∷ l) (take_sided m es)
 
   pub seen_scene : (content : Content) (es : List Entry) (m : ℕ) → (seen_twin w k side content (sided mine es) m).scene ≡ moment content es m
-  seen_scene content es m = ap (λ l. (see_twins w k side (nothing_seen content) l).scene) (take_sided m es) ∙ all_scene (take m es) (nothing_seen content)
+  seen_scene content es m = ap (λ l. (see_all w k (nothing_seen content) (eyes side l)).scene) (take_sided m es) ∙ all_scene (take m es) (nothing_seen content)
 
 -- ---- what is shown
 

@@ -13,7 +13,9 @@ use Rattle.job_examples.specs.FourFileLanes.{out}
 use Rattle.job_examples.specs.TwoJobs.{jb, set_key, below_attempt, pending, set_bytes, mark_bytes, prepares, reads, completes, marks}
 use Rattle.twin_facts.specs.Names.{Ids}
 use Rattle.job_model.specs.declared.ends.CheckEnd.TheVariants.{Conflict}
-use Rattle.twin_facts.specs.SharedOperations.{SharedOperation, SharedEnd, CheckEnded, shared_asks, shared_tells, shared_over, commit_of}
+use Rattle.job_model.specs.declared.ends.OpEnd.{OpEnd}
+use Rattle.job_model.specs.declared.ends.OpEnd.TheVariants as ends
+use Rattle.job_protocol.specs.Operations.{Setting, Operation, asks, tells, over, commit_of}
 use Rattle.twin_facts.specs.Sides.{Second, TwinEntry}
 use Rattle.twin_facts.specs.TwinLaws.{is_marked_by}
 use Rattle.twin_facts.specs.Events.{AtMoment}
@@ -72,22 +74,26 @@ drew_first id = nat_eq id 1
 abbrev pub drew_second : Ids
 drew_second id = nat_eq id 2
 
--- ja's commit as it begins, with the report of its attempt, and after an answer
-abbrev pub begun : SharedOperation
-begun = commit_of (setting ja) Fail None (who worker ∷ [])
+-- ja, whose destination jb shares
+abbrev pub shared : Setting
+shared = record (setting ja) { shared = true }
 
-abbrev pub told : Reply → Option SharedEnd
-told reply = shared_over (shared_tells (setting ja) (who Driver) begun (Answered reply))
+-- its commit as it begins, with the report of its attempt, and after an answer
+abbrev pub begun : Operation
+begun = commit_of shared (record { missing = None; attempts = who worker ∷ [] })
+
+abbrev pub told : Reply → Option OpEnd
+told reply = over (tells shared (who Driver) begun (Answered reply))
 
 pub record FoundConflict : Type 0 where
   pub sent : length journal ≡ 21
   pub honest : IsHonest opening journal
   pub apart : AllStrange ja jb drew_first drew_second entries
   -- it looks at the destination first, and finds jb's file
-  pub looks : shared_asks (setting ja) (who Driver) nothing_learnt begun ≡ Some (ListPage lake (codes "out/") false [] 1000)
-  pub found : told page ≡ Some (CheckEnded (Conflict (codes "y")))
+  pub looks : asks shared (who Driver) nothing_learnt begun ≡ Some (ListPage lake (codes "out/") false [] 1000)
+  pub found : told page ≡ Some (ends.Check (Conflict (codes "y")))
   -- none is found where nothing was listed
-  pub free : (p : List ℕ) → told (Page [] false) ≡ Some (CheckEnded (Conflict p)) → ⊥
+  pub free : (p : List ℕ) → told (Page [] false) ≡ Some (ends.Check (Conflict p)) → ⊥
   pub none : Stands 18
   pub one : Stands 19
   pub marked : Stands 20

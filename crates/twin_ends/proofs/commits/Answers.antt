@@ -4,7 +4,7 @@ use Rattle.twin_ends.proofs.commits.Goals as goal
 pub returns : goal.returns
 returns c = record {
   end = record {
-    checks = λ g h m k l opening is es x y run t end d over. by_check g h m k l opening is es x y run t end d over;
-    commits = λ g h m k l opening is es x y run end d. behind_check g h m k l opening is es x y run end d;
+    checks = λ g j shared k opening is es x run t end d over. by_check g j shared k opening is es x run t end d over;
+    commits = λ g j shared k opening is es x run end d. behind_check g j shared k opening is es x run end d;
   };
 }

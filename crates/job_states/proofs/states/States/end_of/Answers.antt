@@ -1,5 +1,5 @@
 use Rattle.std.proofs.Common.{◌≡◌, ◌∙◌, true, sym, subst}
-use Rattle.job_spec.specs.Prelude.{is_known, ActorEnd, end_op}
+use Rattle.job_spec.specs.Prelude.{is_known, is_reported, ActorEnd, end_op}
 use Rattle.job_states.specs.declared.standing.Standing.{Standing}
 use Rattle.job_states.specs.Standing.{standing}
 use Rattle.job_states.specs.Stands.{Kept, Stands, ChangesAt}
@@ -20,7 +20,7 @@ returns-clause-stands c = λ p h.
           c.put_standing.ensures (standing p) (standing (end_op p x)) k.actors
           (subst (λ (y : Standing). ChangesAt w a y (standing p) (standing (end_op p x))) (sym c.after_end.ensures) (changes_end w p x s known));
       attempt = k.attempt;
-      reported = c.report.ensures w.tasks p.reported k.reported ∙ same_report w.tasks a s.state.stage (p.state a).stage e p.reported (same_stage w p a s k.others known c.standing_of-standing.ensures.unknown);
+      reported = c.report.ensures w.tasks (is_reported w p.reported) k.reported ∙ same_report w a s.state.stage (p.state a).stage e p.reported (same_stage w p a s k.others known c.standing_of-standing.ensures.unknown) (k.others a);
       setup = c.decided-self-inside.ensures p.setup k.setup ∙ setup_decides w p a e s c.began.result c.began.ensures known;
       commit = c.decided-self-inside-2.ensures p.commit k.commit ∙ commit_decides w p a e s c.began-2.result c.began-2.ensures known;
       others = others_end w p x k.others;

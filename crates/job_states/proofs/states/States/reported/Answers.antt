@@ -1,4 +1,5 @@
 use Rattle.std.proofs.Common.{◌∙◌, sym, subst}
+use Rattle.job_spec.specs.Prelude.{is_reported}
 use Rattle.job_states.specs.Stands.{Kept, Stands}
 use Rattle.job_states.proofs.ReportLemmas.{test_at, misses_same}
 use Rattle.job_states.proofs.states.States.reported.Goals as goal
@@ -6,9 +7,9 @@ use Rattle.job_states.proofs.states.States.reported.Goals as goal
 pub returns-clause-exact : goal.returns-clause-exact
 returns-clause-exact c = λ w p h t.
     let k = subst (λ (v : Kept). Stands w v p) (sym c.self.view_is) h in
-    c.in_ok-tasks.ensures t ∙ test_at c.self.inside.reports w.tasks p.reported t k.reported
+    c.in_ok-tasks.ensures t ∙ test_at c.self.inside.reports w.tasks (is_reported w p.reported) t k.reported
 
 pub returns-clause-missing : goal.returns-clause-missing
 returns-clause-missing c = λ w p h.
     let k = subst (λ (v : Kept). Stands w v p) (sym c.self.view_is) h in
-    misses_same c.in_ok-tasks.tasks p.reported w.tasks (λ t. c.in_ok-tasks.ensures t ∙ test_at c.self.inside.reports w.tasks p.reported t k.reported)
+    misses_same c.in_ok-tasks.tasks (is_reported w p.reported) w.tasks (λ t. c.in_ok-tasks.ensures t ∙ test_at c.self.inside.reports w.tasks (is_reported w p.reported) t k.reported)

@@ -1,21 +1,29 @@
-use Rattle.std.proofs.Common.{◌∙◌, ◌+◌, sym, ap, subst}
-use Rattle.job_spec.specs.Prelude.{Driver, restart}
+use Rattle.std.proofs.Common.{◌≡◌, ◌∙◌, ◌+◌, arith, drop, length, map, sym, ap, subst}
+use Rattle.job_spec.specs.Prelude.{Driver, actors, is_reported}
 use Rattle.job_states.specs.declared.standing.Standing.{Standing}
-use Rattle.job_states.specs.Standing.{standing}
+use Rattle.job_states.specs.Standing.{standing, unreported_in}
 use Rattle.job_states.specs.Stands.{Kept, Stands, ChangesAt}
-use Rattle.job_states.proofs.StandsLemmas.{changes_restart, others_restart}
+use Rattle.job_states.proofs.StandsLemmas.{renew, changes_restart, others_restart}
+use Rattle.job_states.proofs.ReportLemmas.{whole}
+use Rattle.job_states.proofs.ToldLemmas.{none_reported, map_twice}
 use Rattle.job_states.proofs.states.States.restart.Goals as goal
 
 pub returns-clause-stands : goal.returns-clause-stands
 returns-clause-stands c = λ p h.
     let w = c.args.script.now in
     let k = subst (λ (v : Kept). Stands w v p) (sym c.self.view_is) h in
+    let items = c.put_standing.new.standings.items in
+    let told = c.unreport.new.standings in
+    let many : c.put_standing.new.standings.len ≡ length told = omega arith in
     let s = c.standing_of-standing.result in
     let change = changes_restart w p s (c.standing_of-standing.ensures.known (standing p) (c.deref.ensures.value ∙ k.actors)) in record {
       events = k.events;
-      actors = c.put_standing.ensures (standing p) (standing (restart p)) k.actors (subst (λ (x : Standing). ChangesAt w Driver x (standing p) (standing (restart p))) (sym c.renewed.ensures) change);
+      actors =
+          whole c.put_standing.new.standings.len told (drop (length told) items) many ∙ c.unreport.ensures ∙ ap (map unreported_in) c.deref_mut.ensures.value
+          ∙ ap (map unreported_in) (c.put_standing.ensures (standing p) (standing (renew p)) k.actors (subst (λ (x : Standing). ChangesAt w Driver x (standing p) (standing (renew p))) (sym c.renewed.ensures) change))
+          ∙ map_twice unreported_in (standing (renew p)) (actors w);
       attempt = ap (λ n. n + 1) k.attempt;
-      reported = c.forget.ensures w.tasks p.reported k.reported;
+      reported = c.forget.ensures w.tasks (is_reported w p.reported) k.reported ∙ sym (none_reported w);
       setup = k.setup;
       commit = k.commit;
       others = others_restart w p k.others;

@@ -18,18 +18,10 @@ use Rattle.job_facts.proofs.Placed.{staged_set, not_both}
 use Rattle.job_facts.proofs.Whose.{or_true}
 use Rattle.job_facts.proofs.Shapes.{answer_is, key_before}
 use Rattle.job_protocol.specs.Sparing.{Sparing, Walking, Naming, Reading, Aborting, Deleting, Removing, SparingOver, sparing_start, record_request, sparing_asks, sparing_hears, sparing_after, ref_of, names, record_names, set_names, deleting, removing, emptying, aborting, reading_on, walking, naming}
-use Rattle.twin_facts.specs.Requests.{AllKnown, AllOwn, FitsSparing}
-use Rattle.twin_facts.proofs.Suffix.{set_no_record, marker_no_record}
+use Rattle.job_facts.specs.Spares.{AllKnown, AllOwn, FitsSparing, IsOwnPath, Filed}
+use Rattle.job_facts.proofs.Suffix.{set_no_record, marker_no_record}
 
 -- ---- what stands below the job's directory in the cluster
-
--- a path of an attempt's temporary file, or of a task's set
-abbrev pub IsOwnPath : Script → List ℕ → Type 0
-IsOwnPath w p = ((a : Who) × IsAttempt w a × (p ≡ temporary_path w a)) ⊎ ((t : ℕ) × (t < w.tasks) × (p ≡ staged_set_path w.job t))
-
--- of the staging committers each file below the job's directory in the cluster stands at such a path
-abbrev pub Filed : Script → Scene → Type 0
-Filed w s = is_staging w.committer ≡ true → (p bytes : List ℕ) → begins (cluster_prefix w.job) p ≡ true → fin.get s.files p ≡ Some bytes → IsOwnPath w p
 
 pub in_or_not : (p : List ℕ) (l : List (List ℕ)) → IsIn p l ⊎ (IsIn p l → ⊥)
 in_or_not p [] = inr (λ i. i)

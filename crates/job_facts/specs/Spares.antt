@@ -1,0 +1,37 @@
+-- How far an abort or clean has come that spares what is another job's, and what stands in the job's directory of the cluster.
+use Rattle.std.specs.Prelude.{◌≡◌, ℕ, ◌<◌, ◌⊎◌, true, List, ◌∷◌, Some}
+use Rattle.job_spec.specs.Prelude.{Scene, begins, UploadRef, IsIn, cluster_prefix, Who, Script, Drawn, is_magic, is_staging}
+use Rattle.job_model.specs.Prelude.{is_record}
+use Rattle.magic_paths.specs.Layout.{staged_set_path}
+use Rattle.job_protocol.specs.Prelude.{temporary_path}
+use Rattle.std.specs.FinMap as fin
+use Rattle.job_protocol.specs.Sparing.{Sparing, Walking, Naming, Reading, Aborting, Deleting, Removing, SparingOver}
+use Rattle.job_facts.specs.Driver.{AllMagic, AllCluster}
+use Rattle.job_facts.specs.Facts.{IsAttempt}
+
+-- each is an upload that an attempt of the job knows, with its key
+abbrev pub AllKnown : (Who → List Drawn) → List UploadRef → Type 0
+AllKnown drawn us = (u : UploadRef) → IsIn u us → (a : Who) × (d : Drawn) × IsIn d (drawn a) × (d.upload ≡ u.upload) × (d.key ≡ u.key)
+
+-- places where the committer keeps what it needs
+pub record AllOwn (w : Script) (places : List (List ℕ)) : Type 0 where
+  pub keys : is_magic w.committer ≡ true → AllMagic w places
+  pub paths : is_staging w.committer ≡ true → AllCluster w places
+
+-- how far a sparing clean has come: all that it aborts is known to an attempt of the job, and all that it deletes is the job's own
+abbrev pub FitsSparing : Script → (Who → List Drawn) → Sparing → Type 0
+FitsSparing w drawn (Walking keys) = (is_magic w.committer ≡ true) × AllMagic w keys
+FitsSparing w drawn Naming = is_staging w.committer ≡ true
+FitsSparing w drawn (Reading named p ps all) = AllKnown drawn named × AllOwn w (p ∷ ps) × AllOwn w all × (is_magic w.committer ≡ true → (k : List ℕ) → IsIn k (p ∷ ps) → is_record k ≡ true)
+FitsSparing w drawn (Aborting u us all) = AllKnown drawn (u ∷ us) × AllOwn w all
+FitsSparing w drawn (Deleting k ks) = AllMagic w (k ∷ ks)
+FitsSparing w drawn (Removing p ps) = AllCluster w (p ∷ ps)
+FitsSparing w drawn (SparingOver end) = Unit {0}
+
+-- a path of an attempt's temporary file, or of a task's set
+abbrev pub IsOwnPath : Script → List ℕ → Type 0
+IsOwnPath w p = ((a : Who) × IsAttempt w a × (p ≡ temporary_path w a)) ⊎ ((t : ℕ) × (t < w.tasks) × (p ≡ staged_set_path w.job t))
+
+-- of the staging committers each file below the job's directory in the cluster stands at such a path
+abbrev pub Filed : Script → Scene → Type 0
+Filed w s = is_staging w.committer ≡ true → (p bytes : List ℕ) → begins (cluster_prefix w.job) p ≡ true → fin.get s.files p ≡ Some bytes → IsOwnPath w p

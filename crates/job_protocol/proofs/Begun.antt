@@ -1,0 +1,38 @@
+-- What holds of each operation with which a commit, a commit behind its check, or an abort or clean of a job may begin.
+use Rattle.std.proofs.Common.{◌≡◌, ap, ℕ, Bool, true, false, Option, None, cond}
+use Rattle.job_protocol.specs.Prelude.{Mode, Fail, Retried, Setting, Operation, TheCommit, TheClean, TheCheck, TheSparing, Reports, after_check, after_check_by, commit_by, commit_of, clean_of, commit_start}
+use Rattle.retries.specs.Prelude.{fresh}
+use Rattle.job_model.specs.declared.ends.CheckEnd.TheVariants.{Clear}
+use Rattle.job_protocol.specs.Cleanups.{clean_start}
+use Rattle.job_protocol.specs.Rechecks.{Check, CheckOver}
+use Rattle.job_protocol.specs.Sparing.{sparing_start}
+
+module _ (g : Setting) (P : Operation → Type 0) where
+  pub after_check_so : P (TheCommit (commit_start g.script None)) → ((t : Retried Check) → P (TheCheck t)) → (t : Retried Check) → P (after_check g t)
+  after_check_so commit check t = by t.operation
+    where
+      by : (c : Check) → P (after_check_by g t c)
+      by (CheckOver Clear) = commit
+      by _ = check t
+
+  pub commit_of_so : ((missing : Option ℕ) → P (TheCommit (commit_start g.script missing))) → ((t : Retried Check) → P (TheCheck t)) → (r : Reports) → P (commit_of g r)
+  commit_of_so commit check r = by g.shared g.script.mode r.missing
+    where
+      by : (b : Bool) (m : Mode) (o : Option ℕ) → P (commit_by g b m r o)
+      by true Fail None = after_check_so (commit None) check _
+      by b m o = commit o
+
+  pub clean_of_so : P (TheClean (fresh g.script.retries clean_start)) → P (TheSparing (fresh g.script.retries (sparing_start g.script.committer))) → P (clean_of g)
+  clean_of_so clean sparing = by g.shared
+    where
+      by : (b : Bool) → P (cond b (TheSparing (fresh g.script.retries (sparing_start g.script.committer))) (TheClean (fresh g.script.retries clean_start)))
+      by true = sparing
+      by false = clean
+
+-- without another job the commit begins at once
+pub commit_alone : (g : Setting) (r : Reports) → g.shared ≡ false → commit_of g r ≡ TheCommit (commit_start g.script r.missing)
+commit_alone g r e = ap (λ b. commit_by g b g.script.mode r r.missing) e
+
+-- and an abort or clean is not a sparing one
+pub clean_alone : (g : Setting) → g.shared ≡ false → clean_of g ≡ TheClean (fresh g.script.retries clean_start)
+clean_alone g e = ap (λ b. cond b (TheSparing (fresh g.script.retries (sparing_start g.script.committer))) (TheClean (fresh g.script.retries clean_start))) e

@@ -1,0 +1,6 @@
+use Rattle.std.proofs.Common.{◌≡◌, ◌++◌, map, take, drop}
+use Rattle.job_states.specs.Standing.{unreported_in}
+use Rattle.job_states.proofs.states.unreport.Given as goal
+
+abbrev pub invariant-loop-standing : goal.invariant-loop-standing
+invariant-loop-standing l = l.standings ≡ map unreported_in (take l.standing-index l.fn.standings) ++ drop l.standing-index l.fn.standings
