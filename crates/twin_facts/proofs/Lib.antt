@@ -13,3 +13,4 @@ pub mod Recorded
 pub mod Sets
 pub mod Spared
 pub mod ByEvents
+pub mod Joining

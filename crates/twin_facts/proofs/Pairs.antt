@@ -128,7 +128,7 @@ paired_begin {fs = fs} {x = x} b may p = record {
   apart = p.apart;
 }
 
-module _ {g h : Setting} (m : MayBeTwins g.script h.script) (shared : g.shared ≡ true) (k l : Times) {opening : Content} (is : IsOpening g opening) {fs gs : List Entry} {d1 d2 : Ids} {x y z : Stand} (e : Entry) (sends : Sends g k x e z) (p : Pair g h k l opening fs gs d1 d2 x y) where
+module _ {g h : Setting} (m : MayBeTwins g.script h.script) (shared : g.shared ≡ true) (k l : Times) {opening : Content} (is : IsOpening g opening) {fs gs : List Entry} {d1 d2 : Ids} {x y z : Stand} (e : Entry) (n : ℕ) (sends : Sends g k x e z) (p : Pair g h k l opening fs gs d1 d2 x y) where
   abbrev r : Request
   r = e.request
 
@@ -190,10 +190,10 @@ module _ {g h : Setting} (m : MayBeTwins g.script h.script) (shared : g.shared �
   low_still : (id : ℕ) → id < y.seen.scene.content.next → id < (effect y.seen.scene r o).content.next
   low_still id a = let b = effect_later y.seen.scene h.script.dest.bucket r o there_second in omega arith
 
-  pub paired : Pair g h k l opening (fs ++ e ∷ []) (gs ++ strange_entry e.event r o ∷ []) d3 d2 z (observed h l y e)
+  pub paired : Pair g h k l opening (fs ++ e ∷ []) (gs ++ strange_entry n r o ∷ []) d3 d2 z (observed h l y n e)
   paired = record {
     first = goes_on g k opening fs x z e p.first sends;
-    second = strays gs y e.event r o p.second foreign;
+    second = strays gs y n r o p.second foreign;
     scenes = at ∙ ap (λ s. effect s r o) p.scenes;
     there = subst (λ (s : Scene). HasBucket s.content g.script.dest.bucket) (sym at) (effect_there x.seen.scene g.script.dest.bucket r o p.there);
     low_first = λ id d. elim (new_id id d) [ inl old ↦ (let a = p.low_first id old in let b = later in omega arith) | inr new ↦ new.1 ];

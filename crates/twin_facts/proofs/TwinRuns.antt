@@ -36,9 +36,9 @@ both : {a b : Bool} → a ≡ true → b ≡ true → (a && b) ≡ true
 both {a = a} {b = b} e f = rw (e, f) refl
 
 -- the side's own entry puts it, or leaves it
-own_marks : (w : Script) (side : Side) → is_side side side ≡ true → (m : Bool) (e : Entry) → marks_by w side m (record { side = side; entry = e }) ≡ true
+own_marks : (w : Script) (side : Side) → is_side side side ≡ true → (m : Bool) (e : Entry) (n : ℕ) → marks_by w side m (record { side = side; entry = e; theirs = n }) ≡ true
     → ((is_effective e.outcome ≡ true) × (is_driver e.actor ≡ true) × (is_marking w e.request ≡ true)) ⊎ ((m ≡ true) × ((is_effective e.outcome ≡ true) → Touches w.dest e.request → ⊥))
-own_marks w side same m e h = by (is_effective e.outcome && touches_mark w e.request) refl h
+own_marks w side same m e n h = by (is_effective e.outcome && touches_mark w e.request) refl h
   where
     by : (t : Bool) → (is_effective e.outcome && touches_mark w e.request) ≡ t → cond t (is_side side side && (is_driver e.actor && is_marking w e.request)) m ≡ true
         → ((is_effective e.outcome ≡ true) × (is_driver e.actor ≡ true) × (is_marking w e.request ≡ true)) ⊎ ((m ≡ true) × ((is_effective e.outcome ≡ true) → Touches w.dest e.request → ⊥))
@@ -48,8 +48,8 @@ own_marks w side same m e h = by (is_effective e.outcome && touches_mark w e.req
     by false t h = inr (h, λ took at. false_true t (both took (touched w e.request at)))
 
 -- the other side's entry leaves it
-other_marks : (w : Script) (side other : Side) → is_side side other ≡ false → (m : Bool) (e : Entry) → marks_by w side m (record { side = other; entry = e }) ≡ true → (m ≡ true) × ((is_effective e.outcome ≡ true) → Touches w.dest e.request → ⊥)
-other_marks w side other differ m e h = by (is_effective e.outcome && touches_mark w e.request) refl h
+other_marks : (w : Script) (side other : Side) → is_side side other ≡ false → (m : Bool) (e : Entry) (n : ℕ) → marks_by w side m (record { side = other; entry = e; theirs = n }) ≡ true → (m ≡ true) × ((is_effective e.outcome ≡ true) → Touches w.dest e.request → ⊥)
+other_marks w side other differ m e n h = by (is_effective e.outcome && touches_mark w e.request) refl h
   where
     by : (t : Bool) → (is_effective e.outcome && touches_mark w e.request) ≡ t → cond t (is_side side other && (is_driver e.actor && is_marking w e.request)) m ≡ true → (m ≡ true) × ((is_effective e.outcome ≡ true) → Touches w.dest e.request → ⊥)
     by true t h = absurd (false_true differ (and_parts (is_side side other) _ h).0)
@@ -142,11 +142,11 @@ module _ (g h : Setting) (m : MayBeTwins g.script h.script) (k l : Times) (openi
   abbrev two : List TwinEntry → Bool
   two es = is_marked_by h.script Second false es
 
-  abbrev by_first : Entry → TwinEntry
-  by_first e = record { side = First; entry = e }
+  abbrev by_first : Entry → ℕ → TwinEntry
+  by_first e n = record { side = First; entry = e; theirs = n }
 
-  abbrev by_second : Entry → TwinEntry
-  by_second e = record { side = Second; entry = e }
+  abbrev by_second : Entry → ℕ → TwinEntry
+  by_second e n = record { side = Second; entry = e; theirs = n }
 
   first_begin_so : (es : List TwinEntry) (x y : Stand) (b : Beginning) → All g h k l opening es x y → MayBegin g x b → All g h k l opening es (begin g x b) y
   first_begin_so es x y b a may = record {
@@ -163,43 +163,43 @@ module _ (g h : Setting) (m : MayBeTwins g.script h.script) (k l : Times) (openi
   }
 
   -- what is drawn
-  drew_own : (side : Side) → is_side side side ≡ true → (es : List TwinEntry) (s : Scene) → scene_of (nothing_seen opening).scene es ≡ s → (e : Entry) → more (drew side opening es) s e.request e.outcome ≡ drew side opening (es ++ record { side = side; entry = e } ∷ [])
-  drew_own side same es s at e i id =
-      sym (drew_more side (nothing_seen opening).scene es (record { side = side; entry = e }) id ∙ ap (λ b. drew side opening es id || (b && drawn_by (scene_of (nothing_seen opening).scene es) e.request e.outcome id)) same
+  drew_own : (side : Side) → is_side side side ≡ true → (es : List TwinEntry) (s : Scene) → scene_of (nothing_seen opening).scene es ≡ s → (e : Entry) (n : ℕ) → more (drew side opening es) s e.request e.outcome ≡ drew side opening (es ++ record { side = side; entry = e; theirs = n } ∷ [])
+  drew_own side same es s at e n i id =
+      sym (drew_more side (nothing_seen opening).scene es (record { side = side; entry = e; theirs = n }) id ∙ ap (λ b. drew side opening es id || (b && drawn_by (scene_of (nothing_seen opening).scene es) e.request e.outcome id)) same
       ∙ ap (λ t. drew side opening es id || drawn_by t e.request e.outcome id) at) i
 
-  drew_not : (side other : Side) → is_side side other ≡ false → (es : List TwinEntry) (e : Entry) → drew side opening es ≡ drew side opening (es ++ record { side = other; entry = e } ∷ [])
-  drew_not side other differ es e i id =
-      sym (drew_more side (nothing_seen opening).scene es (record { side = other; entry = e }) id ∙ ap (λ b. drew side opening es id || (b && drawn_by (scene_of (nothing_seen opening).scene es) e.request e.outcome id)) differ ∙ or_false (drew side opening es id)) i
+  drew_not : (side other : Side) → is_side side other ≡ false → (es : List TwinEntry) (e : Entry) (n : ℕ) → drew side opening es ≡ drew side opening (es ++ record { side = other; entry = e; theirs = n } ∷ [])
+  drew_not side other differ es e n i id =
+      sym (drew_more side (nothing_seen opening).scene es (record { side = other; entry = e; theirs = n }) id ∙ ap (λ b. drew side opening es id || (b && drawn_by (scene_of (nothing_seen opening).scene es) e.request e.outcome id)) differ ∙ or_false (drew side opening es id)) i
 
-  first_send_so : (es : List TwinEntry) (x y z : Stand) (e : Entry) → All g h k l opening es x y → Sends g k x e z → All g h k l opening (es ++ by_first e ∷ []) z (observed h l y e)
-  first_send_so es x y z e a sends =
-      let now = snoc_marked g.script First false es (by_first e) in
-      let then = snoc_marked h.script Second false es (by_first e) in
+  first_send_so : (es : List TwinEntry) (x y z : Stand) (e : Entry) (n : ℕ) → All g h k l opening es x y → Sends g k x e z → All g h k l opening (es ++ by_first e n ∷ []) z (observed h l y n e)
+  first_send_so es x y z e n a sends =
+      let now = snoc_marked g.script First false es (by_first e n) in
+      let then = snoc_marked h.script Second false es (by_first e n) in
       let at = sends_scene g m.first is.shared_first k opening opens_first x z e sends in
       record {
-        pair = pair_so (sym (eyes_more First es (by_first e))) (sym (eyes_more Second es (by_first e))) (drew_own First refl es x.seen.scene a.scene e) (drew_not Second First refl es e) (paired m is.shared_first k l opens_first e sends a.pair);
-        scene = scene_more (nothing_seen opening).scene es (by_first e) ∙ ap (λ s. effect s e.request e.outcome) a.scene ∙ sym at;
-        views = subst (λ (s : Scene). Views g h g.script.dest opening s.content z (observed h l y e) (one (es ++ by_first e ∷ [])) (two (es ++ by_first e ∷ []))) (sym at)
-            (entry_views g h m.first opening x y z e (sends_leaves g m.first is.shared_first k opening opens_first m.keeps_first (eyes First es) x z e sends a.pair.first) a.pair.there l (one es) (two es) (one (es ++ by_first e ∷ [])) (two (es ++ by_first e ∷ []))
-            (λ t. own_marks g.script First refl (one es) e (sym now ∙ t))
-            (λ t. let o = other_marks h.script Second First refl (two es) e (sym then ∙ t) in (o.0, λ took. not_touched e.request (o.1 took)))
+        pair = pair_so (sym (eyes_more First es (by_first e n))) (sym (eyes_more Second es (by_first e n))) (drew_own First refl es x.seen.scene a.scene e n) (drew_not Second First refl es e n) (paired m is.shared_first k l opens_first e n sends a.pair);
+        scene = scene_more (nothing_seen opening).scene es (by_first e n) ∙ ap (λ s. effect s e.request e.outcome) a.scene ∙ sym at;
+        views = subst (λ (s : Scene). Views g h g.script.dest opening s.content z (observed h l y n e) (one (es ++ by_first e n ∷ [])) (two (es ++ by_first e n ∷ []))) (sym at)
+            (entry_views g h m.first opening x y z e (sends_leaves g m.first is.shared_first k opening opens_first m.keeps_first (eyes First es) x z e sends a.pair.first) a.pair.there l n (one es) (two es) (one (es ++ by_first e n ∷ [])) (two (es ++ by_first e n ∷ []))
+            (λ t. own_marks g.script First refl (one es) e n (sym now ∙ t))
+            (λ t. let o = other_marks h.script Second First refl (two es) e n (sym then ∙ t) in (o.0, λ took. not_touched e.request (o.1 took)))
             a.views);
       }
 
-  second_send_so : (es : List TwinEntry) (x y z : Stand) (e : Entry) → All g h k l opening es x y → Sends h l y e z → All g h k l opening (es ++ by_second e ∷ []) (observed g k x e) z
-  second_send_so es x y z e a sends =
-      let now = snoc_marked h.script Second false es (by_second e) in
-      let then = snoc_marked g.script First false es (by_second e) in
+  second_send_so : (es : List TwinEntry) (x y z : Stand) (e : Entry) (n : ℕ) → All g h k l opening es x y → Sends h l y e z → All g h k l opening (es ++ by_second e n ∷ []) (observed g k x n e) z
+  second_send_so es x y z e n a sends =
+      let now = snoc_marked h.script Second false es (by_second e n) in
+      let then = snoc_marked g.script First false es (by_second e n) in
       let p = swapped m.twins a.pair in
       record {
-        pair = pair_so (sym (eyes_more First es (by_second e))) (sym (eyes_more Second es (by_second e))) (drew_not First Second refl es e) (drew_own Second refl es y.seen.scene (a.scene ∙ a.pair.scenes) e)
-            (swapped (swap_twins m.twins) (paired turned_twins is.shared_second l k opens_second e sends p));
-        scene = scene_more (nothing_seen opening).scene es (by_second e) ∙ ap (λ s. effect s e.request e.outcome) a.scene;
-        views = back (effect y.seen.scene e.request e.outcome) (one (es ++ by_second e ∷ [])) (two (es ++ by_second e ∷ [])) (ap (λ s. effect s e.request e.outcome) a.pair.scenes)
-            (entry_views h g m.second opening y x z e (sends_leaves h m.second is.shared_second l opening opens_second m.keeps_second (eyes Second es) y z e sends a.pair.second) p.there k (two es) (one es) (two (es ++ by_second e ∷ [])) (one (es ++ by_second e ∷ []))
-            (λ t. own_marks h.script Second refl (two es) e (sym now ∙ t))
-            (λ t. let o = other_marks g.script First Second refl (one es) e (sym then ∙ t) in (o.0, λ took. not_touched_back e.request (o.1 took)))
+        pair = pair_so (sym (eyes_more First es (by_second e n))) (sym (eyes_more Second es (by_second e n))) (drew_not First Second refl es e n) (drew_own Second refl es y.seen.scene (a.scene ∙ a.pair.scenes) e n)
+            (swapped (swap_twins m.twins) (paired turned_twins is.shared_second l k opens_second e n sends p));
+        scene = scene_more (nothing_seen opening).scene es (by_second e n) ∙ ap (λ s. effect s e.request e.outcome) a.scene;
+        views = back (effect y.seen.scene e.request e.outcome) (one (es ++ by_second e n ∷ [])) (two (es ++ by_second e n ∷ [])) (ap (λ s. effect s e.request e.outcome) a.pair.scenes)
+            (entry_views h g m.second opening y x z e (sends_leaves h m.second is.shared_second l opening opens_second m.keeps_second (eyes Second es) y z e sends a.pair.second) p.there k n (two es) (one es) (two (es ++ by_second e n ∷ [])) (one (es ++ by_second e n ∷ []))
+            (λ t. own_marks h.script Second refl (two es) e n (sym now ∙ t))
+            (λ t. let o = other_marks g.script First Second refl (one es) e n (sym then ∙ t) in (o.0, λ took. not_touched_back e.request (o.1 took)))
             (flipped (one es) (two es) a.pair.scenes a.views));
       }
 
@@ -207,8 +207,8 @@ module _ (g h : Setting) (m : MayBeTwins g.script h.script) (k l : Times) (openi
   all_so es x y (twins_begin) = all_begin
   all_so es x y (first_begins fs u v b run may) = first_begin_so fs u v b (all_so fs u v run) may
   all_so es x y (second_begins fs u v b run may) = second_begin_so fs u v b (all_so fs u v run) may
-  all_so es x y (first_sends fs u v z e run sends) = first_send_so fs u v z e (all_so fs u v run) sends
-  all_so es x y (second_sends fs u v z e run sends) = second_send_so fs u v z e (all_so fs u v run) sends
+  all_so es x y (first_sends fs u v z e n run sends) = first_send_so fs u v z e n (all_so fs u v run) sends
+  all_so es x y (second_sends fs u v z e n run sends) = second_send_so fs u v z e n (all_so fs u v run) sends
 
   pub twins_keep : (es : List TwinEntry) (x y : Stand) → TwinRun g h k l opening es x y → TwinsKeep g h k l opening es x y
   twins_keep es x y run =
@@ -220,8 +220,8 @@ module _ (g h : Setting) (m : MayBeTwins g.script h.script) (k l : Times) (openi
         apart = a.pair.apart;
         known_first = a.pair.known_first;
         known_second = a.pair.known_second;
-        strange_first = λ e z sends. strange m is.shared_first k l opens_first e sends a.pair;
-        strange_second = λ e z sends. strange turned_twins is.shared_second l k opens_second e sends (swapped m.twins a.pair);
+        strange_first = λ e z sends. strange m is.shared_first k l opens_first e 0 sends a.pair;
+        strange_second = λ e z sends. strange turned_twins is.shared_second l k opens_second e 0 sends (swapped m.twins a.pair);
         one_scene = a.pair.scenes;
         shows = record { only = views_only a.views; kept = views_kept a.views };
         marked_first = λ t. let v = views_marked a.views m.first t in record { picked = v.0; apart = v.1; files = v.2; mark = v.3 };
@@ -250,10 +250,10 @@ module _ (g h : Setting) (k l : Times) (opening : Content) where
   moments es x y (twins_begin) m few = (x, y, subst (λ fs. TwinRun g h k l opening fs x y) (sym (take_all m [] (omega arith))) (twins_begin))
   moments es x y (first_begins fs u v b run may) m few = moments fs u v run m few
   moments es x y (second_begins fs u v b run may) m few = moments fs u v run m few
-  moments es x y (first_sends fs u v z e run sends) m few =
-      with_one fs (record { side = First; entry = e }) m z (observed h l v e) few (moments fs u v run m) (first_sends fs u v z e run sends)
-  moments es x y (second_sends fs u v z e run sends) m few =
-      with_one fs (record { side = Second; entry = e }) m (observed g k u e) z few (moments fs u v run m) (second_sends fs u v z e run sends)
+  moments es x y (first_sends fs u v z e n run sends) m few =
+      with_one fs (record { side = First; entry = e; theirs = n }) m z (observed h l v n e) few (moments fs u v run m) (first_sends fs u v z e n run sends)
+  moments es x y (second_sends fs u v z e n run sends) m few =
+      with_one fs (record { side = Second; entry = e; theirs = n }) m (observed g k u n e) z few (moments fs u v run m) (second_sends fs u v z e n run sends)
 
 -- ---- which side is the first
 
@@ -266,5 +266,5 @@ module _ (g h : Setting) (k l : Times) (opening : Content) where
   turned es x y (twins_begin) = twins_begin
   turned es x y (first_begins fs u v b run may) = second_begins (map turned_entry fs) v u b (turned fs u v run) may
   turned es x y (second_begins fs u v b run may) = first_begins (map turned_entry fs) v u b (turned fs u v run) may
-  turned es x y (first_sends fs u v z e run sends) = subst (λ q. TwinRun h g l k opening q (observed h l v e) z) (sym (turned_one fs (record { side = First; entry = e }))) (second_sends (map turned_entry fs) v u z e (turned fs u v run) sends)
-  turned es x y (second_sends fs u v z e run sends) = subst (λ q. TwinRun h g l k opening q z (observed g k u e)) (sym (turned_one fs (record { side = Second; entry = e }))) (first_sends (map turned_entry fs) v u z e (turned fs u v run) sends)
+  turned es x y (first_sends fs u v z e n run sends) = subst (λ q. TwinRun h g l k opening q (observed h l v n e) z) (sym (turned_one fs (record { side = First; entry = e; theirs = n }))) (second_sends (map turned_entry fs) v u z e n (turned fs u v run) sends)
+  turned es x y (second_sends fs u v z e n run sends) = subst (λ q. TwinRun h g l k opening q z (observed g k u n e)) (sym (turned_one fs (record { side = Second; entry = e; theirs = n }))) (first_sends (map turned_entry fs) v u z e n (turned fs u v run) sends)

@@ -152,8 +152,8 @@ module _ (g h : Setting) (j : IsLegal g.script) (opening : Content) (x y z : Sta
 
   -- ---- and the other's, which sent nothing
 
-  other_now : (marked now : Bool) → (now ≡ true → (marked ≡ true) × ((is_effective e.outcome ≡ true) → Touches d e.request → ⊥)) → (k : Times) → SideViews h d opening s.content y (count g x) marked → SideViews h d opening u.content (observed h k y e) (count g z) now
-  other_now marked now said k v = record {
+  other_now : (marked now : Bool) → (now ≡ true → (marked ≡ true) × ((is_effective e.outcome ≡ true) → Touches d e.request → ⊥)) → (k : Times) (n : ℕ) → SideViews h d opening s.content y (count g x) marked → SideViews h d opening u.content (observed h k y n e) (count g z) now
+  other_now marked now said k n v = record {
     unpicked = v.unpicked;
     stood = λ put. let old = v.stood put in (old.0, λ q b path c none. left_alone q path none ∙ old.1 q b path c (not_counted q none));
     files = λ p is q b path want none. subst (λ t. FileAt h y q b (obj d opening q) t p) (sym (left_alone q path none)) (v.files p is q b path want (not_counted q none));
@@ -186,14 +186,14 @@ begins_views g h k start j is es d opening c x y first second b may run v = reco
 
 -- ---- one entry
 
-pub entry_views : (g h : Setting) → IsLegal g.script → (opening : Content) (x y z : Stand) (e : Entry) → Leaves g x z e → HasBucket x.seen.scene.content g.script.dest.bucket → (k : Times) (first second now then : Bool)
+pub entry_views : (g h : Setting) → IsLegal g.script → (opening : Content) (x y z : Stand) (e : Entry) → Leaves g x z e → HasBucket x.seen.scene.content g.script.dest.bucket → (k : Times) (n : ℕ) (first second now then : Bool)
     → (now ≡ true → ((is_effective e.outcome ≡ true) × (is_driver e.actor ≡ true) × (is_marking g.script e.request ≡ true)) ⊎ ((first ≡ true) × ((is_effective e.outcome ≡ true) → Touches g.script.dest e.request → ⊥)))
     → (then ≡ true → (second ≡ true) × ((is_effective e.outcome ≡ true) → Touches g.script.dest e.request → ⊥))
-    → Views g h g.script.dest opening x.seen.scene.content x y first second → Views g h g.script.dest opening (effect x.seen.scene e.request e.outcome).content z (observed h k y e) now then
-entry_views g h j opening x y z e l there k first second now then said says v = record {
+    → Views g h g.script.dest opening x.seen.scene.content x y first second → Views g h g.script.dest opening (effect x.seen.scene e.request e.outcome).content z (observed h k y n e) now then
+entry_views g h j opening x y z e l there k n first second now then said says v = record {
   one = λ q path. one_now g h j opening x y z e l there q path (v.one q path);
   mine = own_now g h j opening x y z e l there first now said v.one v.mine;
-  others = other_now g h j opening x y z e l there second then says k v.others;
+  others = other_now g h j opening x y z e l there second then says k n v.others;
 }
 
 -- ---- what readers are shown

@@ -6,3 +6,4 @@ pub mod Sides
 pub mod TwinLaws
 pub mod Spared
 pub mod Events
+pub mod Joined

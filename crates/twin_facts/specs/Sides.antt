@@ -13,10 +13,11 @@ is_side First First = true
 is_side Second Second = true
 is_side _ _ = false
 
--- an entry, with the side that sent it
+-- an entry, with the side that sent it: its event is numbered as that side counts its own, and the other side reads it under a number of its own
 pub record TwinEntry : Type 0 where
   pub side : Side
   pub entry : Entry
+  pub theirs : ℕ
 
 -- ---- one side
 
@@ -29,8 +30,8 @@ abbrev pub attempt_saw : Setting → Times → Stand → Who → Operation → �
 attempt_saw g k x a op n r o = with_attempt (saw g k x (entry a n r o)) a (tells g a op o)
 
 -- after one of the other side, which is a stranger's
-abbrev pub observed : Setting → Times → Stand → Entry → Stand
-observed g k x e = saw g k x (strange_entry e.event e.request e.outcome)
+abbrev pub observed : Setting → Times → Stand → ℕ → Entry → Stand
+observed g k x n e = saw g k x (strange_entry n e.request e.outcome)
 
 -- an actor of the side sends what its operation asks, and hears an outcome
 pub data Sends (g : Setting) (k : Times) : Stand → Entry → Stand → Type 0 where
@@ -43,7 +44,7 @@ pub data Sends (g : Setting) (k : Times) : Stand → Entry → Stand → Type 0 
 
 -- in a side's eyes an entry of the other is a stranger's
 abbrev pub in_eyes : Side → TwinEntry → Entry
-in_eyes side t = cond (is_side side t.side) t.entry (strange_entry t.entry.event t.entry.request t.entry.outcome)
+in_eyes side t = cond (is_side side t.side) t.entry (strange_entry t.theirs t.entry.request t.entry.outcome)
 
 abbrev pub eyes : Side → List TwinEntry → List Entry
 eyes side = map (in_eyes side)
@@ -65,8 +66,8 @@ pub data TwinRun (g h : Setting) (k l : Times) (opening : Content) : List TwinEn
   twins_begin : TwinRun g h k l opening [] (first_stand opening k.clean) (first_stand opening l.clean)
   first_begins : (es : List TwinEntry) (x y : Stand) (b : Beginning) → TwinRun g h k l opening es x y → MayBegin g x b → TwinRun g h k l opening es (begin g x b) y
   second_begins : (es : List TwinEntry) (x y : Stand) (b : Beginning) → TwinRun g h k l opening es x y → MayBegin h y b → TwinRun g h k l opening es x (begin h y b)
-  first_sends : (es : List TwinEntry) (x y z : Stand) (e : Entry) → TwinRun g h k l opening es x y → Sends g k x e z → TwinRun g h k l opening (es ++ record { side = First; entry = e } ∷ []) z (observed h l y e)
-  second_sends : (es : List TwinEntry) (x y z : Stand) (e : Entry) → TwinRun g h k l opening es x y → Sends h l y e z → TwinRun g h k l opening (es ++ record { side = Second; entry = e } ∷ []) (observed g k x e) z
+  first_sends : (es : List TwinEntry) (x y z : Stand) (e : Entry) (n : ℕ) → TwinRun g h k l opening es x y → Sends g k x e z → TwinRun g h k l opening (es ++ record { side = First; entry = e; theirs = n } ∷ []) z (observed h l y n e)
+  second_sends : (es : List TwinEntry) (x y z : Stand) (e : Entry) (n : ℕ) → TwinRun g h k l opening es x y → Sends h l y e z → TwinRun g h k l opening (es ++ record { side = Second; entry = e; theirs = n } ∷ []) (observed g k x n e) z
 
 -- two sides that share their destination, and a content that they may begin with
 pub record IsTwinOpening (g h : Setting) (c : Content) : Type 0 where

@@ -92,7 +92,7 @@ other_side First = Second
 other_side Second = First
 
 abbrev pub turned_entry : TwinEntry → TwinEntry
-turned_entry e = record { side = other_side e.side; entry = e.entry }
+turned_entry e = record { side = other_side e.side; entry = e.entry; theirs = e.theirs }
 
 -- a run of two jobs is one of them in the other order
 abbrev pub TwinsTurn : Type 0

@@ -71,20 +71,20 @@ module _ (w : Script) (k : Times) (side : Side) (mine : ℕ → Bool) where
   twin_scene : (s : Seen) (t : TwinEntry) → (see w k s (in_eyes side t)).scene ≡ effect s.scene t.entry.request t.entry.outcome
   twin_scene s t = by (is_side side t.side)
     where
-      by : (a : Bool) → (see w k s (cond a t.entry (record { event = t.entry.event; actor = Shell; request = t.entry.request; outcome = t.entry.outcome }))).scene ≡ effect s.scene t.entry.request t.entry.outcome
+      by : (a : Bool) → (see w k s (cond a t.entry (record { event = t.theirs; actor = Shell; request = t.entry.request; outcome = t.entry.outcome }))).scene ≡ effect s.scene t.entry.request t.entry.outcome
       by true = seen_by s t.entry.event t.entry.request t.entry.actor t.entry.outcome
       by false = refl
 
   all_scene : (es : List Entry) (s : Seen) → (see_all w k s (eyes side (sided mine es))).scene ≡ after_all s.scene es
   all_scene [] s = refl
   all_scene (e ∷ es) s =
-      let t : TwinEntry = record { side = cond (mine e.event) First Second; entry = e } in
+      let t : TwinEntry = record { side = cond (mine e.event) First Second; entry = e; theirs = e.event } in
       all_scene es (see w k s (in_eyes side t)) ∙ ap (λ x. after_all x es) (twin_scene s t)
 
   take_sided : (m : ℕ) (es : List Entry) → take m (sided mine es) ≡ sided mine (take m es)
   take_sided zero es = refl
   take_sided (suc m) [] = refl
-  take_sided (suc m) (e ∷ es) = ap (λ l. record { side = cond (mine e.event) First Second; entry = e } ∷ l) (take_sided m es)
+  take_sided (suc m) (e ∷ es) = ap (λ l. record { side = cond (mine e.event) First Second; entry = e; theirs = e.event } ∷ l) (take_sided m es)
 
   pub seen_scene : (content : Content) (es : List Entry) (m : ℕ) → (seen_twin w k side content (sided mine es) m).scene ≡ moment content es m
   seen_scene content es m = ap (λ l. (see_all w k (nothing_seen content) (eyes side l)).scene) (take_sided m es) ∙ all_scene (take m es) (nothing_seen content)

@@ -6,7 +6,7 @@ use Rattle.twin_facts.specs.Sides.{Side, First, Second, TwinEntry}
 
 abbrev pub sided : (ℕ → Bool) → List Entry → List TwinEntry
 sided mine [] = []
-sided mine (e ∷ es) = record { side = cond (mine e.event) First Second; entry = e } ∷ sided mine es
+sided mine (e ∷ es) = record { side = cond (mine e.event) First Second; entry = e; theirs = e.event } ∷ sided mine es
 
 -- what a side sends names nothing of the other's, which drew these uploads
 abbrev pub StrangeBy : Script → Script → Ids → Ids → Side → Request → Type 0
