@@ -1,4 +1,5 @@
 pub mod Going
+pub mod Checking
 pub mod ActorsGo
 pub mod Beginnings
 pub mod Telling
@@ -7,6 +8,7 @@ pub mod Picking
 pub mod WorksTasks
 pub mod WorksReported
 pub mod WorksFew
+pub mod WorksSparing
 pub mod WorksStand
 pub mod WorksGo
 pub mod WorksDue

@@ -1,26 +1,39 @@
 -- What a job's operations have picked, beside what is seen.
-use Rattle.std.proofs.Common.{◌≡◌, ℕ, suc, ◌+◌, ◌||◌, false, List, [], ◌∷◌, ◌++◌, length, Option, Some, None, refl, sym, ap, subst, ◌∙◌, arith}
-use Rattle.job_steps.specs.Prelude.{is_some, Content, Request, Actor, Driver, Outcome, Answered, Slow, RequestLost, ReplyLost, Entry, PendingSet, Script, Known, Pick, setup_asks, clean_asks, Fetching, Replacing, Completing, Marking, Reverting, CommitOver, set_read, job_script, Setting, Seen, see, is_reading, Play, Sends, MaySend, happen}
+use Rattle.std.proofs.Common.{◌≡◌, ℕ, suc, ◌+◌, ◌||◌, ◌&&◌, not, Bool, true, false, cond, List, [], ◌∷◌, ◌++◌, length, Option, Some, None, refl, sym, ap, subst, ◌∙◌, arith}
+use Rattle.job_steps.specs.Prelude.{is_some, Content, Request, Actor, Driver, Outcome, Answered, Slow, RequestLost, ReplyLost, Entry, PendingSet, Script, Known, Pick, setup_asks, clean_asks, Fetching, Replacing, Completing, Marking, Reverting, CommitOver, set_read, job_script, Committing, Driving, Setting, Seen, see, is_begun, is_reading, Play, Sends, MaySend, happen, operation_of, times}
 use Rattle.job_spec.proofs.Common.{some_is, none_some}
 use Rattle.job_facts.specs.Prelude.{with_pick, picked_after, Times, is_picking}
 use Rattle.list_walk.specs.Walks as walks
 use Rattle.job_protocol.specs.Setup as setups
 use Rattle.job_protocol.specs.Cleanups as cleans
+use Rattle.job_protocol.specs.Rechecks as checks
+use Rattle.job_protocol.specs.Sparing as sparings
 use Rattle.job_protocol.specs.JobCommits.{Commit as JobCommit}
+use Rattle.job_steps.proofs.RunningNumbers.{begun_at}
+use Rattle.job_steps.proofs.RunningStages.{IsTimed}
+use Rattle.job_steps.proofs.Running.{number, carried}
+use Rattle.conflict.specs.Rechecks.{PlannedCheck}
+use Rattle.machine.specs.declared.retrying.Retrying.{Retrying}
 use Rattle.job_commit.specs.Holds.{picks_from}
-use Rattle.job_actor.specs.Picks.{ArePicksOf, HasPicked, is_job_commit}
+use Rattle.job_actor.specs.Picks.{ArePicksOf, HasPicked, LeavesPicks, is_job_commit}
 use Rattle.job_actor.specs.Works.{IsAt}
 use Rattle.job_actor.proofs.Unread.{attempt_picks, left}
 use Rattle.job_actor.proofs.Keeping.{with_read, picks_then, picks_go_on}
+use Rattle.job_actor.proofs.Staying.{picks_stay, same_picks}
 use Rattle.actor_operations.specs.declared.act.Act.{Act}
-use Rattle.actor_operations.specs.declared.act.Act.TheVariants.{Setup, Commit, Clean}
-use Rattle.actor_operations.specs.Acts.{wants_of, tells_of}
-use Rattle.actor_operations.specs.Plans.{picks_of, running_of, IsAttempt, IsOf}
+use Rattle.actor_operations.specs.declared.act.Act.TheVariants.{Setup, Commit, Clean, Sparing, Checked}
+use Rattle.actor_operations.specs.Acts.{tells_of}
+use Rattle.actor_operations.specs.Plans.{picks_of, checked_at, running_of, IsAttempt, IsOf}
+use Rattle.actor_operations.proofs.WorksGo.{behind, asked_of}
 
 -- ---- the job's commit has picks
 
+checked_has : (o : Option (Retrying PlannedCheck)) (c : Committing) → true ≡ is_job_commit (checked_at o c)
+checked_has (Some t) c = refl
+checked_has None c = refl
+
 pub act_has_picks : (k : Known) (work : Act) → is_some (picks_of work) ≡ is_job_commit (running_of k work).operation
-act_has_picks k (Setup t) = refl
+act_has_picks k (Checked x) = checked_has x.check x.commit
 act_has_picks k _ = refl
 
 -- ---- they are those that are seen
@@ -52,15 +65,6 @@ kept picked (Marking sets n) o = refl
 kept picked (Reverting r rs n) o = refl
 kept picked (CommitOver end) o = refl
 
-pub act_picks : (g : Setting) (opening : Content) (x : Play) (a : Actor) (work : Act) → IsAt IsOf running_of g opening x a work → HasPicked g opening x (picks_of work)
-    → (e : Entry) → e.actor ≡ a → MaySend g opening x e → HasPicked g opening (happen g x (Sends e)) (picks_of (tells_of work e.outcome))
-act_picks g opening x a (Setup t) at has e is may = tt
-act_picks g opening x a (Commit c) at has e is may =
-    let driver : a ≡ Driver = at.goes_by.0 in
-    let go_on = picks_go_on g opening at.legal at.opens x at.happened c.operation _ (ap x.running (sym driver) ∙ at.at) (picks_from 0 c.picked) has e (is ∙ driver) may in
-    subst (ArePicksOf g opening (happen g x (Sends e))) (kept c.picked c.operation e.outcome) go_on
-act_picks g opening x a _ at has e is may = tt
-
 -- ---- any other operation leaves them
 
 setup_reads : (w v : Script) (op : setups.Setup) (r : Request) → setup_asks v op ≡ Some r → (t : ℕ) → is_reading w t r ≡ false
@@ -72,6 +76,15 @@ clean_reads : (w v : Script) (op : cleans.Clean) (r : Request) → clean_asks v 
 clean_reads w v (cleans.Sweeping (walks.Listing keys)) r e t = ap (is_reading w t) (sym (some_is e))
 clean_reads w v (cleans.CleanOver end) r e t = absurd (none_some refl e)
 clean_reads w v _ r e t = ap (is_reading w t) (sym (some_is e))
+
+-- a check reads no set
+check_reads : (w v : Script) (op : checks.Check) (r : Request) → checks.check_asks v op ≡ Some r → (t : ℕ) → is_reading w t r ≡ false
+check_reads w v (checks.CheckOver end) r e t = absurd (none_some refl e)
+check_reads w v _ r e t = ap (is_reading w t) (sym (some_is e))
+
+and_false : (b : Bool) → (b && false) ≡ false
+and_false true = refl
+and_false false = refl
 
 module _ (w : Script) (k : Times) (s : Seen) (n : ℕ) (r : Request) where
   -- what is seen of the picks after the request
@@ -85,12 +98,73 @@ module _ (w : Script) (k : Times) (s : Seen) (n : ℕ) (r : Request) where
       by (Answered x) = λ i t. left (is_picking k s.begun n) (is_reading w t r) (s.last t) (s.picks t) (none t) i
       by _ = refl
 
+  -- once an abort or clean has begun nothing is picked
+  closed_leaves : (a : Actor) → a ≡ Driver → is_begun k.clean n ≡ true → (o : Outcome) → Leaves a o
+  closed_leaves a is begun o = subst (λ b. Leaves b o) (sym is) (by o)
+    where
+      off : is_picking k s.begun n ≡ false
+      off = ap (λ b. (s.begun || is_begun k.commit n) && not b) begun ∙ and_false (s.begun || is_begun k.commit n)
+
+      by : (o : Outcome) → Leaves Driver o
+      by (Answered x) = λ i t. ap (λ b. cond (b && is_reading w t r) (s.last t) (s.picks t)) off i
+      by _ = refl
+
   attempt_leaves : (a : Actor) → IsAttempt a → (o : Outcome) → Leaves a o
   attempt_leaves a is o = subst (λ b. Leaves b o) (sym is.2) (attempt_picks w k s (record { task = is.0; attempt = is.1 }) n r o)
 
-pub act_leaves : (g : Setting) (opening : Content) (x : Play) (a : Actor) (work : Act) → IsAt IsOf running_of g opening x a work → picks_of work ≡ None → (r : Request) → wants_of work ≡ Some r
-    → (k : Times) (s : Seen) (n : ℕ) (o : Outcome) → (see g.script k s (record { event = n; actor = a; request = r; outcome = o })).picks ≡ s.picks
-act_leaves g opening x a (Setup t) at none r asked k s n o = driver_leaves g.script k s n r a at.goes_by.actor (setup_reads g.script (job_script t.machine.plan) t.machine.operation r asked) o
-act_leaves g opening x a (Commit c) at none r asked k s n o = absurd (none_some none refl)
-act_leaves g opening x a (Clean t) at none r asked k s n o = driver_leaves g.script k s n r a at.goes_by.actor (clean_reads g.script (job_script t.machine.plan) t.machine.operation r asked) o
-act_leaves g opening x a _ at none r asked k s n o = attempt_leaves g.script k s n r a at.goes_by.actor o
+module _ (g : Setting) (opening : Content) (x : Play) (a : Actor) where
+  abbrev At : Act → Type 0
+  At work = IsAt IsOf running_of g opening x a work
+
+  abbrev w : Script
+  w = g.script
+
+  -- a driver's that reads no set
+  reads_none : (e : Entry) → e.actor ≡ a → a ≡ Driver → ((t : ℕ) → is_reading g.script t e.request ≡ false) → LeavesPicks g opening x e
+  reads_none e is driver none = λ xs ahead. picks_stay w opening x.journal e xs (λ s. driver_leaves w (times w xs) s e.event e.request e.actor (is ∙ driver) none e.outcome)
+
+  by_attempt : (e : Entry) → e.actor ≡ a → IsAttempt a → LeavesPicks g opening x e
+  by_attempt e is attempt = λ xs ahead. picks_stay w opening x.journal e xs (λ s. attempt_leaves w (times w xs) s e.event e.request e.actor (subst IsAttempt (sym is) attempt) e.outcome)
+
+  -- a sparing abort or clean may read sets, and picks none
+  spares : (t : Retrying (Driving sparings.Sparing)) → IsAt IsOf running_of g opening x a (Sparing t) → (e : Entry) → e.actor ≡ a → MaySend g opening x e → LeavesPicks g opening x e
+  spares t at e is may = λ xs ahead.
+      let h = (carried g opening at.legal at.opens x at.happened xs ahead).along in
+      let driver = at.goes_by.actor in
+      let timed = subst (IsTimed (begun_at (times w xs) (number x.now (length x.ends)))) (ap operation_of (ap x.running (sym driver) ∙ at.at)) h.timed in
+      let here : e.event ≡ number x.now (length x.ends) = may.number ∙ sym (ap (λ o. number o (length x.ends)) may.during) in
+      let k = times w xs in
+      let begun : is_begun k.clean e.event ≡ true = ap (is_begun k.clean) here ∙ timed in
+      picks_stay w opening x.journal e xs (λ s. closed_leaves w k s e.event e.request e.actor (is ∙ driver) begun e.outcome)
+
+pub act_leaves : (g : Setting) (opening : Content) (x : Play) (a : Actor) (work : Act) → IsAt IsOf running_of g opening x a work → picks_of work ≡ None → (e : Entry) → e.actor ≡ a → MaySend g opening x e → LeavesPicks g opening x e
+act_leaves g opening x a (Setup t) at none e is may = reads_none g opening x a e is at.goes_by.actor (setup_reads g.script (job_script t.machine.plan) t.machine.operation e.request (asked_of g opening x a (Setup t) at e is may))
+act_leaves g opening x a (Commit c) at none e is may = absurd (none_some none refl)
+act_leaves g opening x a (Clean t) at none e is may = reads_none g opening x a e is at.goes_by.actor (clean_reads g.script (job_script t.machine.plan) t.machine.operation e.request (asked_of g opening x a (Clean t) at e is may))
+act_leaves g opening x a (Sparing t) at none e is may = spares g opening x a t at e is may
+act_leaves g opening x a (Checked y) at none e is may = absurd (none_some none refl)
+act_leaves g opening x a _ at none e is may = by_attempt g opening x a e is at.goes_by.actor
+
+-- ---- after a sending
+
+module _ (g : Setting) (opening : Content) (x : Play) (a : Actor) where
+  commit_picks : (c : Committing) → IsAt IsOf running_of g opening x a (Commit c) → ArePicksOf g opening x (picks_from 0 c.picked) → (e : Entry) → e.actor ≡ a → MaySend g opening x e → ArePicksOf g opening (happen g x (Sends e)) (picks_from 0 (picked_after c.picked c.operation e.outcome))
+  commit_picks c at has e is may =
+      let driver : a ≡ Driver = at.goes_by.0 in
+      let go_on = picks_go_on g opening at.legal at.opens x at.happened c.operation _ (ap x.running (sym driver) ∙ at.at) (picks_from 0 c.picked) has e (is ∙ driver) may in
+      subst (ArePicksOf g opening (happen g x (Sends e))) (kept c.picked c.operation e.outcome) go_on
+
+  -- its check leaves them
+  checked_picks : (o : Option (Retrying PlannedCheck)) (c : Committing) → IsAt IsOf running_of g opening x a (Checked (record { check = o; commit = c })) → ArePicksOf g opening x (picks_from 0 c.picked) → (e : Entry) → e.actor ≡ a → MaySend g opening x e
+      → HasPicked g opening (happen g x (Sends e)) (picks_of (tells_of (Checked (record { check = o; commit = c })) e.outcome))
+  checked_picks (Some t) c at has e is may =
+      let asked = asked_of g opening x a (Checked (record { check = Some t; commit = c })) at e is may in
+      same_picks g opening x e (reads_none g opening x a e is at.goes_by.actor (check_reads g.script (job_script t.machine.plan.job) t.machine.operation e.request asked)) (picks_from 0 c.picked) has
+  checked_picks None c at has e is may = commit_picks c (behind g opening x a c at) has e is may
+
+pub act_picks : (g : Setting) (opening : Content) (x : Play) (a : Actor) (work : Act) → IsAt IsOf running_of g opening x a work → HasPicked g opening x (picks_of work)
+    → (e : Entry) → e.actor ≡ a → MaySend g opening x e → HasPicked g opening (happen g x (Sends e)) (picks_of (tells_of work e.outcome))
+act_picks g opening x a (Setup t) at has e is may = tt
+act_picks g opening x a (Commit c) at has e is may = commit_picks g opening x a c at has e is may
+act_picks g opening x a (Checked y) at has e is may = checked_picks g opening x a y.check y.commit at has e is may
+act_picks g opening x a _ at has e is may = tt

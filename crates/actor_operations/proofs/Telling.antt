@@ -1,5 +1,5 @@
 -- Operations as they are told outcomes, and what want of memory leaves of them.
-use Rattle.std.proofs.Common.{◌≡◌, ℕ, refl, sym, ap, subst, ◌∙◌}
+use Rattle.std.proofs.Common.{◌≡◌, ℕ, true, false, cond, Some, None, refl, sym, ap, subst, ◌∙◌}
 use Rattle.job_steps.specs.Prelude.{option_map, Retried, OutOfMemory, Attempting, Driving, Committing, setup_wants, setup_told, write_wants, write_told, task_commit_wants, task_commit_told, task_abort_wants, task_abort_told, commit_wants, clean_wants, clean_told}
 use Rattle.machine.specs.Prelude.{retried}
 use Rattle.machine.specs.declared.retrying.Retrying.{Retrying}
@@ -10,10 +10,14 @@ use Rattle.job_protocol.specs.TaskCommits as commits
 use Rattle.job_protocol.specs.TaskAborts as aborts
 use Rattle.job_protocol.specs.JobCommits as jobs
 use Rattle.job_protocol.specs.Cleanups as cleans
+use Rattle.job_protocol.specs.Rechecks as checks
+use Rattle.job_protocol.specs.Sparing as sparings
+use Rattle.job_protocol.specs.AtWork.{sparing_wants, sparing_told}
+use Rattle.conflict.specs.Rechecks.{PlannedCheck, check_wants, check_told}
 use Rattle.commit_laws.specs.Fitting.{without_memory}
 use Rattle.job_actor.specs.Acts.{EndsWanting}
-use Rattle.actor_operations.specs.declared.act.Act.TheVariants.{Setup, Write, CommitTask, AbortTask, Commit, Clean}
-use Rattle.actor_operations.specs.Acts.{under, wants_of, end_of}
+use Rattle.actor_operations.specs.declared.act.Act.TheVariants.{Setup, Write, CommitTask, AbortTask, Commit, Clean, Sparing}
+use Rattle.actor_operations.specs.Acts.{under, is_clear, until_clear, checked_wants, checked_end, wants_of, end_of}
 
 -- a machine by its counter and its retries
 pub whole : {M : Type 0} (t : Retrying M) (x : Retried M) (retries : ℕ) → retried t ≡ x → t.retries ≡ retries → t ≡ under retries x
@@ -21,6 +25,14 @@ whole t x retries e r = ap (λ n. record { machine = t.machine; retries = n; spa
 
 pub machine_of : {M : Type 0} (t : Retrying M) (x : Retried M) → retried t ≡ x → t.machine ≡ x.operation
 machine_of t x e = ap (λ r. r.operation) e
+
+-- ---- a check that is clear, or not
+
+pub past_clear : (t : Retrying PlannedCheck) → is_clear (checks.check_over t.machine.operation) ≡ true → until_clear t ≡ None
+past_clear t e = ap (λ b. cond b None (Some t)) e
+
+pub not_clear : (t : Retrying PlannedCheck) → is_clear (checks.check_over t.machine.operation) ≡ false → until_clear t ≡ Some t
+not_clear t e = ap (λ b. cond b None (Some t)) e
 
 -- ---- where memory was wanting
 
@@ -41,3 +53,13 @@ commit_wanting c d e = subst (λ m. EndsWanting (commit_wants m) (option_map end
 
 pub clean_wanting : (t u : Retrying (Driving cleans.Clean)) → u.machine ≡ clean_told t.machine OutOfMemory → EndsWanting (wants_of (Clean u)) (end_of (Clean u))
 clean_wanting t u e = subst (λ m. EndsWanting (clean_wants m) (option_map ends.Clean (cleans.clean_over m.operation))) (sym e) (record { none = refl; wanting = refl })
+
+pub sparing_wanting : (t u : Retrying (Driving sparings.Sparing)) → u.machine ≡ sparing_told t.machine OutOfMemory → EndsWanting (wants_of (Sparing u)) (end_of (Sparing u))
+sparing_wanting t u e = subst (λ m. EndsWanting (sparing_wants m) (option_map ends.Clean (sparings.sparing_over m.operation))) (sym e) (record { none = refl; wanting = refl })
+
+pub check_wanting : (t u : Retrying PlannedCheck) (c : Committing) → u.machine ≡ check_told t.machine OutOfMemory → EndsWanting (checked_wants (Some u) c) (checked_end (Some u) c)
+check_wanting t u c e = subst (λ m. EndsWanting (check_wants m) (option_map ends.Check (checks.check_over m.operation))) (sym e) (record { none = refl; wanting = refl })
+
+-- once its check is clear
+pub behind_wanting : (c d : Committing) → d ≡ without_memory c → EndsWanting (checked_wants None d) (checked_end None d)
+behind_wanting c d e = commit_wanting c d e

@@ -1,7 +1,7 @@
 -- What a job's actor has left beside the requests of the others: an attempt's is not raised, and the driver's by no more than so much.
-use Rattle.std.proofs.Common.{◌≡◌, ℕ, ◌+◌, ◌*◌, ◌≤◌, inl, inr, true, false, List, [], ◌∷◌, ◌++◌, length, codes, Option, Some, None, refl, sym, ap, subst, ◌∙◌, arith, append_assoc, append-nil, length-append}
-use Rattle.job_facts.specs.Prelude.{decimal, bucket_of, Directory, Partitioned, set_key, Pending, attempt_dir, marker_key, Uploading, Sending, upload_asks, nth, is_magic, FitsWrite, FitsCommit, IsDriving}
-use Rattle.job_steps.specs.Prelude.{Content, apply, begins, Actor, Driver, Committer, Magic, Request, PutObject, adds_key, one_if, Who, actor_of, File, Job, Task, Known, IsLegal, Script, record_key, Creating, Sweep, Listing, Deleting, attempt_prefix, Sets, all_commits, set_request, Commit, Fetching, Replacing, Completing, Marking, Reverting, CommitOver, commit_asks, Setting, Committing, task_of, write_wants, task_commit_wants, Seen, Told, IsAttempt, Commits, Play, scene_of, knows_now}
+use Rattle.std.proofs.Common.{◌≡◌, ℕ, ◌+◌, ◌*◌, ◌≤◌, inl, inr, nat_lt, Bool, true, false, cond, List, [], ◌∷◌, ◌++◌, length, codes, Option, Some, None, refl, sym, ap, subst, ◌∙◌, arith, append_assoc, append-nil, length-append}
+use Rattle.job_facts.specs.Prelude.{decimal, bucket_of, Directory, Partitioned, set_key, Pending, attempt_dir, marker_key, Uploading, Sending, upload_asks, nth, is_magic, decided, same_path, FitsWrite, FitsCommit, IsDriving}
+use Rattle.job_steps.specs.Prelude.{Content, apply, begins, Actor, Driver, Committer, Magic, Request, PutObject, adds_key, one_if, Who, actor_of, File, Job, Task, Known, IsLegal, Script, record_key, Creating, Sweep, Listing, Deleting, attempt_prefix, Sets, all_commits, set_request, Commit, CommitEnd, Fetching, Replacing, Completing, Marking, Reverting, CommitOver, Turn, dealt, picks_of, replaced, replacing, completing, commit_asks, commit_start, Setting, Committing, task_of, write_wants, task_commit_wants, Seen, Told, IsAttempt, Commits, Play, scene_of, knows_now}
 use Rattle.job_spec.proofs.Common.{begins_behind, below_is, some_is, none_some, false_true, true_or_false}
 use Rattle.commit_laws.specs.Laws.{widest, prefixes_most, if_staging, rise_of as commit_rise_of}
 use Rattle.job_protocol.specs.Setup as setups
@@ -9,6 +9,10 @@ use Rattle.job_protocol.specs.Writes as writes
 use Rattle.job_protocol.specs.TaskCommits as commits
 use Rattle.job_protocol.specs.TaskAborts as aborts
 use Rattle.job_protocol.specs.Cleanups as cleans
+use Rattle.job_protocol.specs.Rechecks as checks
+use Rattle.job_protocol.specs.Sparing as sparings
+use Rattle.conflict.specs.Rechecks.{PlannedCheck}
+use Rattle.machine.specs.declared.retrying.Retrying.{Retrying}
 use Rattle.job_facts.proofs.Legal.{some_dest}
 use Rattle.job_facts.proofs.Owning.{own_directory}
 use Rattle.job_facts.proofs.Apart.{another}
@@ -23,9 +27,11 @@ use Rattle.actor_operations.specs.ActLaws.{act_laws}
 use Rattle.actor_operations.specs.Plans.{known_now, running_of, IsOf}
 use Rattle.actor_operations.specs.Beside.{PutsNone, below}
 use Rattle.actor_operations.specs.Rising.{rise}
+use Rattle.actor_operations.specs.Falls.{as_times}
 use Rattle.actor_operations.proofs.Beside.{attempts_stay}
 use Rattle.actor_operations.proofs.WorksStand.{stand, attempt_is, late_by, driver_is, never_replaces}
-use Rattle.actor_operations.proofs.WorksGo.{commit_at, asks}
+use Rattle.actor_operations.proofs.WorksGo.{commit_at, behind, asks}
+use Rattle.actor_operations.proofs.ActorsGo.{checked_plan}
 use Rattle.actor_operations.proofs.WorksDue.{by_attempt}
 
 -- ---- keys that are apart from an attempt's directory
@@ -114,6 +120,19 @@ module _ (w : Script) (b : Who) where
   clean_none (cleans.CleanOver end) r q = absurd (none_some refl q)
   clean_none _ r q = free_of r (ap adds_key (sym (some_is q)))
 
+  read_adds : (c : Committer) (p : List ℕ) → adds_key (sparings.record_request c w p) ≡ false
+  read_adds Magic p = refl
+  read_adds _ p = refl
+
+  sparing_none : (t : sparings.Sparing) (r : Request) → sparings.sparing_asks w t ≡ Some r → FreeOf r
+  sparing_none (sparings.Reading named p ps all) r q = free_of r (ap adds_key (sym (some_is q)) ∙ read_adds w.committer p)
+  sparing_none (sparings.SparingOver end) r q = absurd (none_some refl q)
+  sparing_none _ r q = free_of r (ap adds_key (sym (some_is q)))
+
+  check_none : (t : checks.Check) (r : Request) → checks.check_asks w t ≡ Some r → FreeOf r
+  check_none (checks.CheckOver end) r q = absurd (none_some refl q)
+  check_none _ r q = free_of r (ap adds_key (sym (some_is q)))
+
   -- what the driver puts in its bucket is not below the job's magic directory
   driving_none : (r : Request) → IsDriving w r → bucket_of r ≡ w.dest.bucket → FreeOf r
   driving_none r drives bucket adds k i = elim (true_or_false (begins (attempt_prefix w b) k)) [
@@ -170,6 +189,27 @@ magic_calm j (Fetching sets n) magic never = ap (λ z. if_staging z (prefixes_mo
 magic_calm j (Replacing sets p ps t n) magic never = absurd (never sets p ps t n refl)
 magic_calm j _ magic never = refl
 
+-- nor does it begin so
+abbrev NotReplacing : Commit → Type 0
+NotReplacing (Replacing sets p ps t n) = ⊥
+NotReplacing _ = Unit {0}
+
+not_completing : (sets : Sets) (xs : List Turn) → NotReplacing (completing sets xs [])
+not_completing sets [] = tt
+not_completing sets (x ∷ xs) = tt
+
+module _ (w : Script) (magic : w.committer ≡ Magic) where
+  not_decided : (o : Option CommitEnd) → NotReplacing (decided w [] o)
+  not_decided (Some end) = tt
+  not_decided None = subst (λ ps. NotReplacing (replacing w [] ps)) (sym (ap (λ z. replaced z w.mode w (picks_of [])) magic)) (not_completing [] (dealt w.lanes (length (all_commits []))))
+
+  not_fetching : (b : Bool) → NotReplacing (cond b (Fetching [] 0) (decided w [] (same_path w (picks_of []))))
+  not_fetching true = tt
+  not_fetching false = not_decided (same_path w (picks_of []))
+
+  start_calm : (c : Commit) → c ≡ commit_start w None → (sets : Sets) (p : List ℕ) (ps : List (List ℕ)) (t : Sweep) (n : ℕ) → c ≡ Replacing sets p ps t n → ⊥
+  start_calm c is sets p ps t n e = subst NotReplacing (sym is ∙ e) (not_fetching (nat_lt 0 w.tasks))
+
 none_times : (a b : ℕ) → a ≡ 0 → a * b ≡ 0
 none_times a b e = let none : 0 * b ≡ 0 = omega arith in subst (λ x. x * b ≡ 0) (sym e) none
 
@@ -189,6 +229,16 @@ module _ (g : Setting) (opening : Content) (x : Play) where
       let here = attempt_is g opening x at.legal at.opens at.happened b m at.at in
       ((late_by g opening x at.legal at.opens at.happened b m.operation here).fine b m.operation here).0
 
+  -- the commit's, behind its check
+  commit_free : (c : Who) (b : Actor) (m : Committing) → At b (acts.Commit m) → (r : Request) → wants_of (acts.Commit m) ≡ Some r → PutsNone (attempt_prefix g.script c) r
+  commit_free c b m at r e =
+      let s = stand g opening x at.legal at.opens at.happened in
+      job_none g.script c g.minimum at.legal s.seen s.told m.operation (commit_at g opening x b m at).commits r (sym (asks g opening x b (acts.Commit m) at) ∙ e)
+
+  checked_free : (c : Who) (b : Actor) (q : Option (Retrying PlannedCheck)) (m : Committing) → At b (acts.Checked (record { check = q; commit = m })) → (r : Request) → wants_of (acts.Checked (record { check = q; commit = m })) ≡ Some r → PutsNone (attempt_prefix g.script c) r
+  checked_free c b (Some t) m at r e = check_none g.script c t.machine.operation r (sym (asks g opening x b (acts.Checked (record { check = Some t; commit = m })) at) ∙ e)
+  checked_free c b None m at r e = commit_free c b m (behind g opening x b m at) r e
+
   other_none : (c : Who) → IsAttempt g.script c → (b : Actor) (other : Act) → At b other → (actor_of c ≡ b → ⊥) → (r : Request) → wants_of other ≡ Some r → PutsNone (attempt_prefix g.script c) r
   other_none c d b (acts.Setup t) at ne r e = setup_none g.script c t.machine.operation r (sym (asks g opening x b (acts.Setup t) at) ∙ e)
   other_none c d b (acts.Write t) at ne r e =
@@ -200,10 +250,10 @@ module _ (g : Setting) (opening : Content) (x : Play) where
   other_none c d b (acts.AbortTask t) at ne r e =
       let o = by_attempt g opening x b (acts.AbortTask t) at.goes_by.actor at in
       abort_none g.script c o.0 t.machine.operation r (sym (asks g opening x (actor_of o.0) (acts.AbortTask t) o.2) ∙ e)
-  other_none c d b (acts.Commit m) at ne r e =
-      let s = stand g opening x at.legal at.opens at.happened in
-      job_none g.script c g.minimum at.legal s.seen s.told m.operation (commit_at g opening x b m at).commits r (sym (asks g opening x b (acts.Commit m) at) ∙ e)
+  other_none c d b (acts.Commit m) at ne r e = commit_free c b m at r e
   other_none c d b (acts.Clean t) at ne r e = clean_none g.script c t.machine.operation r (sym (asks g opening x b (acts.Clean t) at) ∙ e)
+  other_none c d b (acts.Sparing t) at ne r e = sparing_none g.script c t.machine.operation r (sym (asks g opening x b (acts.Sparing t) at) ∙ e)
+  other_none c d b (acts.Checked y) at ne r e = checked_free c b y.check y.commit at r e
 
   -- ---- what is left
 
@@ -220,6 +270,7 @@ module _ (g : Setting) (opening : Content) (x : Play) where
   -- another actor than the driver adds a key in a magic job alone
   other_adds : (a b : Actor) (other : Act) → At b other → (b ≡ Driver → ⊥) → (r : Request) → wants_of other ≡ Some r → adds_key r ≡ true → is_magic g.script.committer ≡ true
   other_adds a b (acts.Commit c) at ne r e adds = absurd (ne at.goes_by.0)
+  other_adds a b (acts.Checked y) at ne r e adds = absurd (ne (checked_plan g b y.check y.commit at.goes_by).0)
   other_adds a b (acts.Write t) at ne r e adds =
       let o = by_attempt g opening x b (acts.Write t) at.goes_by.actor at in
       let m = running_of (knows_now g x (actor_of o.0)) (acts.Write t) in
@@ -247,17 +298,56 @@ module _ (g : Setting) (opening : Content) (x : Play) where
         none_times (commit_rise_of most_commits c.plan c.operation) (one_if (adds_key r)) (magic_calm c.plan c.operation planned (never_replaces g opening x at.legal at.opens at.happened c.operation d magic))
   ]
 
+  -- its check and what is begun behind it
+  checked_calm : (a b : Actor) (t : Retrying PlannedCheck) (c : Committing) (other : Act) → At a (acts.Checked (record { check = Some t; commit = c })) → At b other → (a ≡ b → ⊥) → (r : Request) → wants_of other ≡ Some r → commit_rise_of most_commits c.plan c.operation * one_if (adds_key r) ≡ 0
+  checked_calm a b t c other at bt ne r e = elim (true_or_false (adds_key r)) [
+    | inr none ↦ ap (λ v. commit_rise_of most_commits c.plan c.operation * one_if v) none ∙ times_none (commit_rise_of most_commits c.plan c.operation)
+    | inl adds ↦
+        let magic = is_magic_so g.script.committer (other_adds a b other bt (λ s. ne (at.goes_by.actor ∙ sym s)) r e adds) in
+        let planned : c.plan.committer ≡ Magic = ap (λ (j : Job). j.committer) at.goes_by.commit ∙ magic in
+        none_times (commit_rise_of most_commits c.plan c.operation) (one_if (adds_key r)) (magic_calm c.plan c.operation planned (start_calm g.script magic c.operation at.goes_by.begins))
+  ]
+
   by_driver : (a : Actor) (work : Act) (r : Request) → a ≡ Driver → rise_of work r ≤ rise g.script → Beside a work r
   by_driver a work r is most =
       let k = act_laws.others work (scene_of opening x) r in
       let here : Beside Driver work r = omega (arith, k, most) in
       subst (λ c. Beside c work r) (sym is) here
 
+-- ---- numbers
+
+same_or_less : (n : ℕ) → n ≤ n
+same_or_less n = omega arith
+
+less : (k n : ℕ) → k ≤ 3 → k ≤ 3 + n
+less k n h = omega (arith, h)
+
+none_most : (n most : ℕ) → n ≡ 0 → n ≤ most
+none_most n most e = omega (arith, e)
+
+-- so many times the sendings of a request are no more than the most
+fewer : (k n : ℕ) (w : Script) → k ≤ 3 + most_commits → n ≡ w.retries → k * (n + 1) ≤ rise w
+fewer k n w h e = subst (λ v. k * (v + 1) ≤ rise w) (sym e) (as_times k (3 + most_commits) w.retries h)
+
+with_none : (m n most : ℕ) → n ≡ 0 → m ≤ most → m + n ≤ most
+with_none m n most e h = omega (arith, e, h)
+
+checked_beside : (g : Setting) (opening : Content) (x : Play) (a b : Actor) (q : Option (Retrying PlannedCheck)) (c : Committing) (other : Act) → IsAt IsOf running_of g opening x a (acts.Checked (record { check = q; commit = c })) → IsAt IsOf running_of g opening x b other → (a ≡ b → ⊥) → (r : Request) → wants_of other ≡ Some r
+    → Beside g opening x a (acts.Checked (record { check = q; commit = c })) r
+checked_beside g opening x a b (Some t) c other at bt ne r e =
+    by_driver g opening x a (acts.Checked (record { check = Some t; commit = c })) r at.goes_by.actor
+    (with_none (1 * (t.retries + 1)) _ (rise g.script) (checked_calm g opening x a b t c other at bt ne r e) (fewer 1 t.retries g.script (less 1 most_commits (omega arith)) at.goes_by.retries))
+checked_beside g opening x a b None c other at bt ne r e =
+    by_driver g opening x a (acts.Checked (record { check = None; commit = c })) r at.goes_by.0
+    (none_most (rise_of (acts.Commit c) r) (rise g.script) (commit_calm g opening x a b c other (behind g opening x a c at) bt ne r e))
+
 pub beside : (g : Setting) (opening : Content) (x : Play) (a b : Actor) (work other : Act) → IsAt IsOf running_of g opening x a work → IsAt IsOf running_of g opening x b other → (a ≡ b → ⊥) → (r : Request) → wants_of other ≡ Some r
     → left_of work (apply (scene_of opening x) r) ≤ left_of work (scene_of opening x) + rise_for (rise g.script) a
-beside g opening x a b (acts.Setup t) other at bt ne r e = by_driver g opening x a (acts.Setup t) r at.goes_by.actor (let k : t.retries ≡ g.script.retries = at.goes_by.retries in omega (arith, k))
-beside g opening x a b (acts.Commit c) other at bt ne r e = by_driver g opening x a (acts.Commit c) r at.goes_by.0 (let calm = commit_calm g opening x a b c other at bt ne r e in omega (arith, calm))
-beside g opening x a b (acts.Clean t) other at bt ne r e = by_driver g opening x a (acts.Clean t) r at.goes_by.actor (let k : t.retries ≡ g.script.retries = at.goes_by.retries in omega (arith, k))
+beside g opening x a b (acts.Setup t) other at bt ne r e = by_driver g opening x a (acts.Setup t) r at.goes_by.actor (fewer 2 t.retries g.script (less 2 most_commits (omega arith)) at.goes_by.retries)
+beside g opening x a b (acts.Commit c) other at bt ne r e = by_driver g opening x a (acts.Commit c) r at.goes_by.0 (none_most (rise_of (acts.Commit c) r) (rise g.script) (commit_calm g opening x a b c other at bt ne r e))
+beside g opening x a b (acts.Clean t) other at bt ne r e = by_driver g opening x a (acts.Clean t) r at.goes_by.actor (fewer 3 t.retries g.script (less 3 most_commits (omega arith)) at.goes_by.retries)
+beside g opening x a b (acts.Sparing t) other at bt ne r e = by_driver g opening x a (acts.Sparing t) r at.goes_by.actor (fewer (3 + most_commits) t.retries g.script (same_or_less (3 + most_commits)) at.goes_by.retries)
+beside g opening x a b (acts.Checked y) other at bt ne r e = checked_beside g opening x a b y.check y.commit other at bt ne r e
 beside g opening x a b (acts.Write t) other at bt ne r e =
     let o = by_attempt g opening x a (acts.Write t) at.goes_by.actor at in
     subst (λ c. Beside g opening x c (acts.Write t) r) (sym o.1) (no_more g opening x _ _ (attempts_stay.writes t (scene_of opening x) r))

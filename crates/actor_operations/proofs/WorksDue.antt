@@ -1,5 +1,5 @@
 -- Each outcome that is due to what a job's actor asks fits.
-use Rattle.std.proofs.Common.{◌≡◌, ℕ, ◌<◌, ◌≤◌, inl, inr, nat_lt, Bool, Option, Some, sym, ap, subst, ◌∙◌, arith}
+use Rattle.std.proofs.Common.{◌≡◌, ℕ, ◌<◌, ◌≤◌, inl, inr, nat_lt, Bool, Option, Some, None, sym, ap, subst, ◌∙◌, arith}
 use Rattle.job_steps.specs.Prelude.{Content, Scene, answer, IsHonestOutcome, Actor, Request, Reply, Outcome, Answered, Who, actor_of, Job, Task, Known, commit_asks, Setting, Attempting, Driving, Committing, job_of, task_of, task_script, who_of, setup_wants, write_wants, task_commit_wants, task_abort_wants, commit_wants, clean_wants, known, Stand, is_set, Play, scene_of, knows_now}
 use Rattle.machine.specs.Prelude.{FitsOutcome}
 use Rattle.job_spec.proofs.Common.{none_some}
@@ -10,25 +10,33 @@ use Rattle.job_protocol.specs.Writes as writes
 use Rattle.job_protocol.specs.TaskCommits as commits
 use Rattle.job_protocol.specs.TaskAborts as aborts
 use Rattle.job_protocol.specs.Cleanups as cleans
+use Rattle.job_protocol.specs.Sparing as sparings
+use Rattle.job_protocol.specs.AtWork.{sparing_wants}
+use Rattle.conflict.specs.Rechecks.{PlannedCheck, check_wants}
+use Rattle.conflict.specs.Fits.{FitsCheck as check_fits}
 use Rattle.task_requests.specs.Writing.{write_fits}
 use Rattle.task_machines.specs.Commits.{commit_fits as task_commit_fits}
 use Rattle.task_machines.specs.Aborts.{abort_fits as task_abort_fits}
 use Rattle.job_setup.specs.Fits.{FitsDriving as setup_fits}
 use Rattle.cleanup.specs.Fits.{FitsDriving as clean_fits}
+use Rattle.cleanup.specs.SparingFits.{FitsSparingDriving as sparing_fits}
+use Rattle.job_facts.specs.Spares.{FitsSparing}
+use Rattle.job_traces.proofs.Running as running
 use Rattle.commit_laws.specs.Fitting.{FitsCommit}
 use Rattle.job_actor.specs.Posting.{DueFits}
 use Rattle.job_actor.specs.Works.{IsAt}
 use Rattle.job_refinement.specs.Due.{FitsDue}
 use Rattle.job_refinement.proofs.Attempts.{write_due, commit_due, abort_due}
-use Rattle.job_refinement.proofs.Drivers.{setup_due, clean_due, job_due}
+use Rattle.job_refinement.proofs.Drivers.{setup_due, clean_due, check_due, job_due}
 use Rattle.actor_operations.specs.declared.act.Act.{Act}
-use Rattle.actor_operations.specs.declared.act.Act.TheVariants.{Setup, Write, CommitTask, AbortTask, Commit, Clean}
+use Rattle.actor_operations.specs.declared.act.Act.TheVariants.{Setup, Write, CommitTask, AbortTask, Commit, Clean, Sparing, Checked}
 use Rattle.actor_operations.specs.Acts.{wants_of, FitsAct}
 use Rattle.actor_operations.specs.Plans.{counted, known_now, running_of, IsAttempt, IsOf}
 use Rattle.actor_operations.proofs.Going.{drawn_by}
 use Rattle.actor_operations.proofs.WorksStand.{run, stand, scene_is, driver_is, attempt_is, late_by, late_set, own_now, setup_now}
 use Rattle.actor_operations.proofs.WorksFew.{reads_few}
-use Rattle.actor_operations.proofs.WorksGo.{few_now, commit_at, asks}
+use Rattle.actor_operations.proofs.WorksSparing.{sparing_due}
+use Rattle.actor_operations.proofs.WorksGo.{few_now, commit_at, behind, asks}
 
 -- what is due to a machine's request fits it under its retries
 outcome_fits : {M : Type 0} (wants : M → Option Request) (fits : M → Reply → Bool → Type 0) (t : Retrying M) (s : Scene) → FitsDue wants fits t.machine s → (r : Request) (o : Outcome) → wants t.machine ≡ Some r → IsHonestOutcome o (answer s r) → FitsOutcome fits t o
@@ -108,6 +116,40 @@ module _ (g : Setting) (opening : Content) (x : Play) where
           few = reads_few g.script g.minimum s.scene s.last committed.told at.legal v.commits.hold few c.operation v.commits.fits r asked o due;
         }
 
+  module _ (a : Actor) (t : Retrying (Driving sparings.Sparing)) (at : At a (Sparing t)) where
+    abbrev sparing : Stand
+    sparing = stand g opening x at.legal at.opens at.happened
+
+    due_sparing : Due (Sparing t)
+    due_sparing r o e honest =
+        let s = sparing.seen in
+        let d = driver_is g opening x at.legal at.opens at.happened a (running_of (knows_now g x a) (Sparing t)) at.goes_by.actor at.at in
+        let l = late_set g opening x at.legal at.opens at.happened (ap is_set d) in
+        let fits : FitsSparing g.script sparing.told.drawn t.machine.operation = subst (λ v. running.At g opening v s sparing.told) d l.driver in
+        let due = sparing_due g.script g.minimum s.scene s.last sparing.told at.legal l.hold (few_now g opening x a (Sparing t) at) l.filed t.machine.operation fits in
+        let h = driving_by sparing_wants sparing_fits t.machine (job_of g.script) s.scene at.goes_by.plan due in
+        outcome_fits sparing_wants sparing_fits t (scene_of opening x) (subst (FitsDue sparing_wants sparing_fits t.machine) (scene_is g opening x at.legal at.opens at.happened) h) r o e honest
+
+  -- ---- the driver's commit behind its check
+
+  check_by : (m : PlannedCheck) (j : Job) (s : Scene) → m.plan.job ≡ j → FitsDue check_wants check_fits (record { plan = record { job = j; partitions = m.plan.partitions }; operation = m.operation }) s → FitsDue check_wants check_fits m s
+  check_by m j s e h = subst (λ p. FitsDue check_wants check_fits (record { plan = record { job = p; partitions = m.plan.partitions }; operation = m.operation }) s) (sym e) h
+
+  module _ (a : Actor) (t : Retrying PlannedCheck) (c : Committing) (at : At a (Checked (record { check = Some t; commit = c }))) where
+    abbrev checking : Stand
+    checking = stand g opening x at.legal at.opens at.happened
+
+    due_check : Due (Checked (record { check = Some t; commit = c }))
+    due_check r o e honest =
+        let d = driver_is g opening x at.legal at.opens at.happened a (running_of (knows_now g x a) (Checked (record { check = Some t; commit = c }))) at.goes_by.actor at.at in
+        let l = late_set g opening x at.legal at.opens at.happened (ap is_set d) in
+        let h = check_by t.machine (job_of g.script) checking.seen.scene at.goes_by.plan (check_due g.script checking.seen.scene l.hold.there t.machine.plan.partitions t.machine.operation) in
+        outcome_fits check_wants check_fits t (scene_of opening x) (subst (FitsDue check_wants check_fits t.machine) (scene_is g opening x at.legal at.opens at.happened) h) r o e honest
+
+  due_checked : (a : Actor) (q : Option (Retrying PlannedCheck)) (c : Committing) → At a (Checked (record { check = q; commit = c })) → Due (Checked (record { check = q; commit = c }))
+  due_checked a (Some t) c at = due_check a t c at
+  due_checked a None c at = due_commit a c (behind g opening x a c at)
+
   -- ---- an attempt's
 
   module _ (b : Who) (t : Retrying (Attempting writes.Write)) (at : At (actor_of b) (Write t)) where
@@ -161,3 +203,5 @@ due g opening x a (CommitTask t) at = let b = by_attempt g opening x a (CommitTa
 due g opening x a (AbortTask t) at = let b = by_attempt g opening x a (AbortTask t) at.goes_by.actor at in due_task_abort g opening x b.0 t b.2
 due g opening x a (Commit c) at = due_commit g opening x a c at
 due g opening x a (Clean t) at = due_clean g opening x a t at
+due g opening x a (Sparing t) at = due_sparing g opening x a t at
+due g opening x a (Checked y) at = due_checked g opening x a y.check y.commit at

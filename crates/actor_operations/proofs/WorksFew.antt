@@ -55,7 +55,7 @@ files_few w j a =
 -- ---- a set that is read
 
 module _ (w : Script) (minimum : ℕ) (s : Scene) (last : ℕ → Option ℕ) (m : Told) (j : IsLegal w) (facts : Facts w minimum s last m) (few : s.content.next ≤ 2 ^ 64) where
-  commits_few : (ds : List Drawn) (a : Who) (commits : List File) → AreCommits w minimum ds a commits → HasFew most_commits (Some (files_set w a commits (knowing ds)))
+  pub commits_few : (ds : List Drawn) (a : Who) (commits : List File) → AreCommits w minimum ds a commits → HasFew most_commits (Some (files_set w a commits (knowing ds)))
   commits_few ds a commits are =
       let all = no_more commits (files w a) are.once are.each in
       omega (arith, all, files_few w j a, length-map commits (λ f. file_record w a f (drawn_for (knowing ds) (file_key w f))))

@@ -1,13 +1,16 @@
 -- The operations of a job's actors ask and go on as the script's.
-use Rattle.std.proofs.Common.{◌≡◌, ◌≤◌, ◌^◌, Some, sym, subst, ◌∙◌}
-use Rattle.job_steps.specs.Prelude.{Content, Scene, answer, IsHonestOutcome, Actor, Request, Outcome, Known, commit_asks, Setting, advance, over, Committing, Play, scene_of, knows_now}
+use Rattle.std.proofs.Common.{◌≡◌, ◌≤◌, ◌^◌, Option, Some, None, sym, ap, subst, ◌∙◌}
+use Rattle.job_steps.specs.Prelude.{Content, Scene, answer, IsHonestOutcome, Actor, Request, Outcome, Entry, Known, commit_asks, Setting, advance, over, Committing, MaySend, Play, scene_of, knows_now}
+use Rattle.job_spec.proofs.Common.{some_is}
+use Rattle.conflict.specs.Rechecks.{PlannedCheck}
+use Rattle.machine.specs.declared.retrying.Retrying.{Retrying}
 use Rattle.job_protocol.specs.Operations as operations
 use Rattle.job_actor.specs.Works.{IsAt}
 use Rattle.job_refinement.proofs.Telling.{asks_same, tells_same}
 use Rattle.actor_operations.specs.declared.act.Act.{Act}
-use Rattle.actor_operations.specs.declared.act.Act.TheVariants.{Setup, Commit}
+use Rattle.actor_operations.specs.declared.act.Act.TheVariants.{Commit, Checked}
 use Rattle.actor_operations.specs.Acts.{wants_of, tells_of, end_of}
-use Rattle.actor_operations.specs.Plans.{running_of, IsOf, AsksSo, GoesSo}
+use Rattle.actor_operations.specs.Plans.{running_of, IsOf, CommitAsksSo, CheckedAsksSo, AsksSo, CommitGoesSo, CheckedGoesSo, GoesSo}
 use Rattle.actor_operations.proofs.ActorsGo.{actors_go}
 use Rattle.actor_operations.proofs.WorksStand.{stand, scene_is, driver_is, CommitNow, commit_now}
 
@@ -19,21 +22,47 @@ few_now g opening x a work at = subst (λ (s : Scene). s.content.next ≤ 2 ^ 64
 pub commit_at : (g : Setting) (opening : Content) (x : Play) (a : Actor) (c : Committing) → (at : IsAt IsOf running_of g opening x a (Commit c)) → let s = stand g opening x at.legal at.opens at.happened in CommitNow g s.seen s.told c.operation
 commit_at g opening x a c at = commit_now g opening x at.legal at.opens at.happened c.operation (driver_is g opening x at.legal at.opens at.happened a (running_of (knows_now g x a) (Commit c)) at.goes_by.0 at.at)
 
+-- behind its check the commit is at what it is at without one
+pub behind : (g : Setting) (opening : Content) (x : Play) (a : Actor) (c : Committing) → IsAt IsOf running_of g opening x a (Checked (record { check = None; commit = c })) → IsAt IsOf running_of g opening x a (Commit c)
+behind g opening x a c at = record { legal = at.legal; opens = at.opens; happened = at.happened; few = at.few; goes_by = at.goes_by; at = at.at }
+
+commit_asks_so : (g : Setting) (opening : Content) (x : Play) (a : Actor) (c : Committing) → IsAt IsOf running_of g opening x a (Commit c) → CommitAsksSo g.script c
+commit_asks_so g opening x a c at = let s = stand g opening x at.legal at.opens at.happened in asks_same g.script g.minimum s.told at.legal c.operation (commit_at g opening x a c at).commits.fits
+
+checked_asks_so : (g : Setting) (opening : Content) (x : Play) (a : Actor) (o : Option (Retrying PlannedCheck)) (c : Committing) → IsAt IsOf running_of g opening x a (Checked (record { check = o; commit = c })) → CheckedAsksSo g.script o c
+checked_asks_so g opening x a (Some t) c at = tt
+checked_asks_so g opening x a None c at = commit_asks_so g opening x a c (behind g opening x a c at)
+
 asks_so : (g : Setting) (opening : Content) (x : Play) (a : Actor) (work : Act) → IsAt IsOf running_of g opening x a work → AsksSo g.script work
-asks_so g opening x a (Commit c) at = let s = stand g opening x at.legal at.opens at.happened in asks_same g.script g.minimum s.told at.legal c.operation (commit_at g opening x a c at).commits.fits
+asks_so g opening x a (Commit c) at = commit_asks_so g opening x a c at
+asks_so g opening x a (Checked y) at = checked_asks_so g opening x a y.check y.commit at
 asks_so g opening x a _ at = tt
 
 pub asks : (g : Setting) (opening : Content) (x : Play) (a : Actor) (work : Act) → IsAt IsOf running_of g opening x a work → wants_of work ≡ operations.wants g a (running_of (knows_now g x a) work)
 asks g opening x a work at = actors_go.wants g a (knows_now g x a) work at.goes_by (asks_so g opening x a work at)
 
-goes_so : (g : Setting) (opening : Content) (x : Play) (a : Actor) (work : Act) → IsAt IsOf running_of g opening x a work → (r : Request) → wants_of work ≡ Some r → (o : Outcome) → IsHonestOutcome o (answer (scene_of opening x) r) → GoesSo g.script work o
-goes_so g opening x a (Commit c) at r e o honest =
+-- what may be sent of an actor is what it asks
+pub asked_of : (g : Setting) (opening : Content) (x : Play) (a : Actor) (work : Act) → IsAt IsOf running_of g opening x a work → (e : Entry) → e.actor ≡ a → MaySend g opening x e → wants_of work ≡ Some e.request
+asked_of g opening x a work at e is may =
+    let same : running_of (knows_now g x a) work ≡ may.at = some_is (sym at.at ∙ ap x.running (sym is) ∙ may.is_at) in
+    asks g opening x a work at ∙ ap (operations.wants g a) same ∙ ap (λ b. operations.wants g b may.at) (sym is) ∙ may.asked
+
+commit_goes_so : (g : Setting) (opening : Content) (x : Play) (a : Actor) (c : Committing) → IsAt IsOf running_of g opening x a (Commit c) → (r : Request) → wants_of (Commit c) ≡ Some r → (o : Outcome) → IsHonestOutcome o (answer (scene_of opening x) r) → CommitGoesSo g.script c o
+commit_goes_so g opening x a c at r e o honest =
     let s = stand g opening x at.legal at.opens at.happened in
     let v = (commit_at g opening x a c at).commits in
     let asked : commit_asks g.script c.operation ≡ Some r = sym (asks g opening x a (Commit c) at) ∙ e in
     let due : IsHonestOutcome o (answer s.seen.scene r) = subst (λ z. IsHonestOutcome o (answer z r)) (sym (scene_is g opening x at.legal at.opens at.happened)) honest in
     tells_same g.script g.minimum s.seen.scene s.seen.last s.told at.legal v.hold (few_now g opening x a (Commit c) at) c.operation v.fits r asked o due
-goes_so g opening x a (Setup t) at r e o honest = tt
+
+checked_goes_so : (g : Setting) (opening : Content) (x : Play) (a : Actor) (q : Option (Retrying PlannedCheck)) (c : Committing) → IsAt IsOf running_of g opening x a (Checked (record { check = q; commit = c })) → (r : Request) → wants_of (Checked (record { check = q; commit = c })) ≡ Some r → (o : Outcome) → IsHonestOutcome o (answer (scene_of opening x) r)
+    → CheckedGoesSo g.script q c o
+checked_goes_so g opening x a (Some t) c at r e o honest = tt
+checked_goes_so g opening x a None c at r e o honest = commit_goes_so g opening x a c (behind g opening x a c at) r e o honest
+
+goes_so : (g : Setting) (opening : Content) (x : Play) (a : Actor) (work : Act) → IsAt IsOf running_of g opening x a work → (r : Request) → wants_of work ≡ Some r → (o : Outcome) → IsHonestOutcome o (answer (scene_of opening x) r) → GoesSo g.script work o
+goes_so g opening x a (Commit c) at r e o honest = commit_goes_so g opening x a c at r e o honest
+goes_so g opening x a (Checked y) at r e o honest = checked_goes_so g opening x a y.check y.commit at r e o honest
 goes_so g opening x a _ at r e o honest = tt
 
 pub goes : (g : Setting) (opening : Content) (x : Play) (a : Actor) (work : Act) → IsAt IsOf running_of g opening x a work → (r : Request) → wants_of work ≡ Some r → (o : Outcome) → IsHonestOutcome o (answer (scene_of opening x) r)

@@ -1,5 +1,5 @@
 -- Until the driver cleans up each task has a last publisher where the driver's commit reads sets.
-use Rattle.std.proofs.Common.{◌≡◌, ℕ, inl, inr, nat_lt, Bool, true, false, cond, List, [], ◌∷◌, ◌++◌, length, Option, Some, None, refl, sym, ap, subst, ◌∙◌, arith}
+use Rattle.std.proofs.Common.{◌≡◌, ℕ, inl, inr, nat_lt, Bool, true, false, cond, List, [], ◌∷◌, ◌++◌, length, Option, Some, None, refl, sym, ap, subst, ◌∙◌}
 use Rattle.job_steps.specs.Prelude.{Content, Actor, Driver, Reply, Outcome, Answered, Slow, Entry, Request, Known, IsLegal, Script, Op, Event, Do, Start, EventEnd, Sweep, sweep_hears, Turn, again, follow, dealt, revert, Sets, all_commits, set_read, is_no_magic, Commit, Fetching, Replacing, Completing, Marking, Reverting, CommitOver, completing, replacing, fetching, fetched, swept, reverting, worn_completion, commit_misses, commit_tells, commit_start, Setting, Operation, TheCommit, TheCheck, commit_of, commit_by, reports, step, fresh, who, tells, start_of, Seen, see_all, nothing_seen, missing, IsOpening, HasPublished, Play, Refuses, Opens, Sends, Finishes, Closes, knows_now, begun, open_running, hear, happen, MaySend, Reachable, nothing_happened, happens, Strays, Ahead, operation_of, strange_entry, times}
 use Rattle.job_model.specs.declared.events.Op.TheVariants as ops
 use Rattle.job_protocol.specs.Prelude.{Mode, Fail}

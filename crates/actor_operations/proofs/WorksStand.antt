@@ -1,5 +1,5 @@
 -- What the actors of a job are at, request by request: as far as what has happened says.
-use Rattle.std.proofs.Common.{◌≡◌, ℕ, ◌⊎◌, inl, inr, true, List, [], ◌∷◌, ◌++◌, Option, Some, None, refl, sym, ap, subst, ◌∙◌}
+use Rattle.std.proofs.Common.{◌≡◌, ℕ, ◌⊎◌, inl, inr, true, List, [], ◌∷◌, ◌++◌, Some, None, refl, sym, ap, subst, ◌∙◌}
 use Rattle.job_steps.specs.Prelude.{Content, Actor, Driver, Magic, Retried, Who, actor_of, IsLegal, Script, Done, Sweep, Sets, picks_of, replaced, Commit, Fetching, Replacing, Setting, Operation, TheSetup, TheCommit, Running, Seen, Told, tell_all, nothing_told, Commits, Stand, IsOpening, is_set, Play, Reachable, scene_of, times, IsRun, operation_of}
 use Rattle.job_facts.specs.Prelude.{Setup, SetupOver, SetsUp, Times}
 use Rattle.job_spec.proofs.Common.{none_some}

@@ -1,5 +1,5 @@
 -- What attempts are at in a run: a task's commit reads records of its own files alone.
-use Rattle.std.proofs.Common.{◌≡◌, ℕ, List, Option, Some, refl}
+use Rattle.std.proofs.Common.{◌≡◌, List, Some, refl}
 use Rattle.job_steps.specs.Prelude.{Content, Outcome, Entry, fresh, Who, IsLegal, Script, write_start, task_commit_start, task_abort_start, Setting, Operation, TheWrite, TheTaskCommit, TheTaskAbort, TheCheck, step, tells, known, Stand, Runs, run_begins, driver_sends, attempt_sends, IsOpening, Beginning, BeginWrite, BeginPublish, BeginAbort, begin, actor_begins, strays, Times}
 use Rattle.job_spec.proofs.Common.{none_some}
 use Rattle.job_protocol.specs.Rechecks.{check_after}

@@ -1,6 +1,6 @@
 -- What holds of every operation of a job's actors.
-use Rattle.std.specs.Prelude.{◌≡◌, ◌+◌, ◌<◌, ◌≤◌, Bool, not, Option, Some, None, is_some}
-use Rattle.std.proofs.Common.{refl, arith, sym, ◌∙◌}
+use Rattle.std.specs.Prelude.{◌≡◌, ℕ, ◌+◌, ◌<◌, ◌≤◌, Bool, true, false, not, cond, Option, Some, None, is_some}
+use Rattle.std.proofs.Common.{refl, ap, arith, sym, ◌∙◌}
 use Rattle.job_steps.specs.Prelude.{option_map, Scene, answer, apply, effect, IsHonestOutcome, Request, Reply, Outcome, Answered, Slow, RequestLost, ReplyLost, Attempting, Driving, Committing, setup_wants, write_wants, task_commit_wants, task_abort_wants, commit_wants, clean_wants}
 use Rattle.job_protocol.specs.Setup as setups
 use Rattle.job_protocol.specs.Writes as writes
@@ -8,17 +8,29 @@ use Rattle.job_protocol.specs.TaskCommits as commits
 use Rattle.job_protocol.specs.TaskAborts as aborts
 use Rattle.job_protocol.specs.JobCommits as jobs
 use Rattle.job_protocol.specs.Cleanups as cleans
+use Rattle.job_protocol.specs.Rechecks as checks
+use Rattle.job_protocol.specs.Sparing as sparings
+use Rattle.job_protocol.specs.AtWork.{sparing_wants}
+use Rattle.proof_base.proofs.Members.{some_is, none_some}
+use Rattle.store_frame.proofs.Reading.{reads_nothing}
 use Rattle.job_setup.proofs.Falling.{set_ups_end}
 use Rattle.task_machines.proofs.WriteFalls.{write_falls}
 use Rattle.task_machines.proofs.CommitFalls.{commit_falls as task_commit_falls}
 use Rattle.task_machines.proofs.AbortFalls.{abort_falls as task_abort_falls}
 use Rattle.commit_laws.proofs.Falling.{commit_falls}
 use Rattle.cleanup.proofs.Falling.{cleans_end}
+use Rattle.cleanup.proofs.SparingFalls.{sparings_end}
+use Rattle.conflict.specs.Left.{check_left}
+use Rattle.conflict.specs.Rechecks.{PlannedCheck, check_wants, check_told}
+use Rattle.conflict.proofs.Falling.{checks_end}
 use Rattle.job_actor.specs.Acts.{ActLaws}
 use Rattle.actor_operations.specs.declared.act.Act.{Act}
-use Rattle.actor_operations.specs.declared.act.Act.TheVariants.{Setup, Write, CommitTask, AbortTask, Commit, Clean}
+use Rattle.actor_operations.specs.declared.act.Act.TheVariants.{Setup, Write, CommitTask, AbortTask, Commit, Clean, Sparing, Checked}
+use Rattle.machine.specs.declared.retrying.Retrying.{Retrying}
 use Rattle.cleanup.specs.SparingFits.{most_commits}
-use Rattle.actor_operations.specs.Acts.{wants_of, tells_of, FitsAct, end_of, left_of, rise_of}
+use Rattle.commit_laws.specs.Laws.{left}
+use Rattle.s3_types.specs.Prelude.{only_reads}
+use Rattle.actor_operations.specs.Acts.{stepped, sendings_left, is_clear, checked_wants, checked_told, FitsChecked, checked_end, checked_left, checked_rise, wants_of, tells_of, FitsAct, end_of, left_of, rise_of}
 use Rattle.actor_operations.specs.Falls.{sending_falls, sending_rises}
 
 -- ---- it asks exactly until it has ended
@@ -68,6 +80,20 @@ clean_goes_on m cleans.Naming = refl
 clean_goes_on m (cleans.Removing p ps) = refl
 clean_goes_on m (cleans.CleanOver end) = refl
 
+sparing_goes_on : (m : Driving sparings.Sparing) (o : sparings.Sparing) → is_some (sparing_wants (record { plan = m.plan; operation = o })) ≡ not (is_some (sparings.sparing_over o))
+sparing_goes_on m (sparings.Walking keys) = refl
+sparing_goes_on m sparings.Naming = refl
+sparing_goes_on m (sparings.Reading named p ps all) = refl
+sparing_goes_on m (sparings.Aborting u us all) = refl
+sparing_goes_on m (sparings.Deleting k ks) = refl
+sparing_goes_on m (sparings.Removing p ps) = refl
+sparing_goes_on m (sparings.SparingOver end) = refl
+
+check_goes_on : (m : PlannedCheck) (o : checks.Check) → is_some (check_wants (record { plan = m.plan; operation = o })) ≡ not (is_some (checks.check_over o))
+check_goes_on m (checks.Looking keys) = refl
+check_goes_on m (checks.Probing d ds) = refl
+check_goes_on m (checks.CheckOver end) = refl
+
 mapped : {X Y : Type 0} (f : X → Y) (o : Option X) → is_some (option_map f o) ≡ is_some o
 mapped f (Some x) = refl
 mapped f None = refl
@@ -76,6 +102,10 @@ asks_on : {X Y : Type 0} (f : X → Y) (o : Option X) (b : Bool) → b ≡ not (
 asks_on f (Some x) b h = h
 asks_on f None b h = h
 
+checked_goes_on : (o : Option (Retrying PlannedCheck)) (c : Committing) → is_some (checked_wants o c) ≡ not (is_some (checked_end o c))
+checked_goes_on (Some t) c = asks_on _ _ _ (check_goes_on t.machine t.machine.operation)
+checked_goes_on None c = asks_on _ _ _ (job_goes_on c c.operation)
+
 goes_on : (a : Act) → is_some (wants_of a) ≡ not (is_some (end_of a))
 goes_on (Setup t) = asks_on _ _ _ (setup_goes_on t.machine t.machine.operation)
 goes_on (Write t) = asks_on _ _ _ (write_goes_on t.machine t.machine.operation)
@@ -83,6 +113,8 @@ goes_on (CommitTask t) = asks_on _ _ _ (commit_goes_on t.machine t.machine.opera
 goes_on (AbortTask t) = asks_on _ _ _ (abort_goes_on t.machine t.machine.operation)
 goes_on (Commit c) = asks_on _ _ _ (job_goes_on c c.operation)
 goes_on (Clean t) = asks_on _ _ _ (clean_goes_on t.machine t.machine.operation)
+goes_on (Sparing t) = asks_on _ _ _ (sparing_goes_on t.machine t.machine.operation)
+goes_on (Checked x) = checked_goes_on x.check x.commit
 
 -- ---- what is left
 
@@ -93,6 +125,38 @@ due_is Slow due h a e = absurd (cc)
 due_is RequestLost due h a e = absurd (cc)
 due_is ReplyLost due h a e = absurd (cc)
 
+-- a check only reads
+check_reads : (m : PlannedCheck) (o : checks.Check) (r : Request) → check_wants (record { plan = m.plan; operation = o }) ≡ Some r → only_reads r ≡ true
+check_reads m (checks.Looking keys) r e = ap only_reads (sym (some_is e))
+check_reads m (checks.Probing d ds) r e = ap only_reads (sym (some_is e))
+check_reads m (checks.CheckOver end) r e = absurd (none_some refl e)
+
+reads_leave : (s : Scene) (r : Request) → only_reads r ≡ true → (o : Outcome) → effect s r o ≡ s
+reads_leave s r h (Answered y) = reads_nothing s r h
+reads_leave s r h Slow = refl
+reads_leave s r h RequestLost = refl
+reads_leave s r h ReplyLost = reads_nothing s r h
+
+-- once the check is clear only the commit is left
+past_check : (b : Bool) (u : Retrying PlannedCheck) (c : Committing) (s : Scene) (n : ℕ) → sendings_left check_left u s < n → checked_left (cond b None (Some u)) c s < n + left most_commits c s
+past_check true u c s n h = omega (arith, h)
+past_check false u c s n h = omega (arith, h)
+
+checked_falls : (o : Option (Retrying PlannedCheck)) (c : Committing) (s : Scene) (r : Request) (x : Outcome) → checked_wants o c ≡ Some r → FitsChecked o c x → IsHonestOutcome x (answer s r)
+    → checked_left (checked_told o c x).check (checked_told o c x).commit (effect s r x) < checked_left o c s
+checked_falls (Some t) c s r x w f e =
+    let same : left most_commits c (effect s r x) ≡ left most_commits c s = ap (left most_commits c) (reads_leave s r (check_reads t.machine t.machine.operation r w) x) in
+    let k = past_check (is_clear (checks.check_over (stepped check_told t x).machine.operation)) (stepped check_told t x) c (effect s r x) (sendings_left check_left t s) (sending_falls checks_end t s r x w f e) in
+    omega (arith, k, same)
+checked_falls None c s r x w f e = commit_falls.falls most_commits c s r x w f (due_is x (answer s r) e)
+
+sums : (a b c d x y : ℕ) → a ≤ b + x → c ≤ d + y → a + c ≤ b + d + (x + y)
+sums a b c d x y h k = omega (arith, h, k)
+
+checked_others : (o : Option (Retrying PlannedCheck)) (c : Committing) (s : Scene) (r : Request) → checked_left o c (apply s r) ≤ checked_left o c s + checked_rise o c r
+checked_others (Some t) c s r = sums _ _ _ _ _ _ (sending_rises checks_end t s r) (commit_falls.others most_commits c s r)
+checked_others None c s r = commit_falls.others most_commits c s r
+
 falls : (a : Act) (s : Scene) (r : Request) (o : Outcome) → wants_of a ≡ Some r → FitsAct a o → IsHonestOutcome o (answer s r) → left_of (tells_of a o) (effect s r o) < left_of a s
 falls (Setup t) s r o w f e = sending_falls set_ups_end t s r o w f e
 falls (Write t) s r o w f e = sending_falls write_falls t s r o w f e
@@ -100,6 +164,8 @@ falls (CommitTask t) s r o w f e = sending_falls task_commit_falls t s r o w f e
 falls (AbortTask t) s r o w f e = sending_falls task_abort_falls t s r o w f e
 falls (Commit c) s r o w f e = commit_falls.falls most_commits c s r o w f (due_is o (answer s r) e)
 falls (Clean t) s r o w f e = sending_falls cleans_end t s r o w f e
+falls (Sparing t) s r o w f e = sending_falls sparings_end t s r o w f e
+falls (Checked x) s r o w f e = checked_falls x.check x.commit s r o w f e
 
 others : (a : Act) (s : Scene) (r : Request) → left_of a (apply s r) ≤ left_of a s + rise_of a r
 others (Setup t) s r = sending_rises set_ups_end t s r
@@ -108,6 +174,8 @@ others (CommitTask t) s r = sending_rises task_commit_falls t s r
 others (AbortTask t) s r = sending_rises task_abort_falls t s r
 others (Commit c) s r = commit_falls.others most_commits c s r
 others (Clean t) s r = sending_rises cleans_end t s r
+others (Sparing t) s r = sending_rises sparings_end t s r
+others (Checked x) s r = checked_others x.check x.commit s r
 
 pub act_laws : ActLaws wants_of tells_of FitsAct end_of left_of rise_of
 act_laws = record { goes_on = goes_on; falls = falls; others = others }

@@ -1,10 +1,15 @@
 -- What an actor of a job is at, whichever operation it is.
-use Rattle.std.specs.Prelude.{ℕ, ◌+◌, ◌*◌, Option}
-use Rattle.job_steps.specs.Prelude.{option_map, Scene, Request, Outcome, Item, Retried, step, OpEnd, setup_over, write_over, task_commit_over, task_abort_over, commit_over, clean_over, setup_wants, setup_told, write_wants, write_told, task_commit_wants, task_commit_told, task_abort_wants, task_abort_told, commit_wants, clean_wants, clean_told, adds_key, one_if}
+use Rattle.std.specs.Prelude.{ℕ, ◌+◌, ◌*◌, Bool, true, false, cond, Option, Some, None}
+use Rattle.job_steps.specs.Prelude.{option_map, Scene, Request, Outcome, Item, Retried, step, OpEnd, setup_over, write_over, task_commit_over, task_abort_over, commit_over, clean_over, Committing, setup_wants, setup_told, write_wants, write_told, task_commit_wants, task_commit_told, task_abort_wants, task_abort_told, commit_wants, clean_wants, clean_told, adds_key, one_if}
 use Rattle.machine.specs.Prelude.{retried, FitsOutcome}
 use Rattle.job_facts.specs.Prelude.{commit_told}
 use Rattle.machine.specs.declared.retrying.Retrying.{Retrying}
 use Rattle.job_model.specs.declared.ends.OpEnd.TheVariants as ends
+use Rattle.job_model.specs.declared.ends.CheckEnd.{CheckEnd}
+use Rattle.job_model.specs.declared.ends.CheckEnd.TheVariants.{Clear}
+use Rattle.job_protocol.specs.AtWork.{sparing_wants, sparing_told}
+use Rattle.job_protocol.specs.Rechecks.{check_over}
+use Rattle.job_protocol.specs.Sparing.{sparing_over}
 use Rattle.task_requests.specs.Writing.{write_fits, write_left}
 use Rattle.task_machines.specs.Commits.{commit_fits as task_commit_fits, commit_left as task_commit_left}
 use Rattle.task_machines.specs.Aborts.{abort_fits as task_abort_fits, abort_left as task_abort_left}
@@ -12,10 +17,16 @@ use Rattle.job_setup.specs.Fits.{FitsDriving as setup_fits}
 use Rattle.job_setup.specs.Left.{setup_left}
 use Rattle.cleanup.specs.Fits.{FitsDriving as clean_fits}
 use Rattle.cleanup.specs.Left.{clean_left}
-use Rattle.cleanup.specs.SparingFits.{most_commits}
+use Rattle.cleanup.specs.SparingFits.{most_commits, FitsSparingDriving as sparing_fits}
+use Rattle.cleanup.specs.SparingLeft.{sparing_left}
+use Rattle.conflict.specs.Rechecks.{PlannedCheck, check_wants, check_told}
+use Rattle.conflict.specs.Fits.{FitsCheck as check_fits}
+use Rattle.conflict.specs.Left.{check_left}
 use Rattle.commit_laws.specs.Laws.{FitsFew, left, rise as commit_rise}
 use Rattle.actor_operations.specs.declared.act.Act.{Act}
-use Rattle.actor_operations.specs.declared.act.Act.TheVariants.{Setup, Write, CommitTask, AbortTask, Commit, Clean}
+use Rattle.actor_operations.specs.declared.act.Act.TheVariants.{Setup, Write, CommitTask, AbortTask, Commit, Clean, Sparing}
+use Rattle.actor_operations.specs.declared.act.Act.TheVariants as acts
+use Rattle.actor_operations.specs.declared.checked.Checked.{Checked}
 
 -- ---- a machine under its retries
 
@@ -31,6 +42,47 @@ stepped after t o = under t.retries (step t.retries after (retried t) o)
 abbrev pub sendings_left : {M : Type 0} → (M → Scene → ℕ) → Retrying M → Scene → ℕ
 sendings_left left t s = left t.machine s * (t.retries + 1) + t.spare
 
+-- ---- a job's commit behind its check, which goes on while there is one
+
+-- the check ended clear
+abbrev pub is_clear : Option CheckEnd → Bool
+is_clear (Some Clear) = true
+is_clear _ = false
+
+-- a check that is clear is no more
+abbrev pub until_clear : Retrying PlannedCheck → Option (Retrying PlannedCheck)
+until_clear t = cond (is_clear (check_over t.machine.operation)) None (Some t)
+
+-- the request that is asked next, if one is
+abbrev pub checked_wants : Option (Retrying PlannedCheck) → Committing → Option Request
+checked_wants (Some t) c = check_wants t.machine
+checked_wants None c = commit_wants c
+
+-- where the outcome of a sending leads
+abbrev pub checked_told : Option (Retrying PlannedCheck) → Committing → Outcome → Checked
+checked_told (Some t) c o = record { check = until_clear (stepped check_told t o); commit = c }
+checked_told None c o = record { check = None; commit = commit_told c o }
+
+-- an outcome that may be told
+abbrev pub FitsChecked : Option (Retrying PlannedCheck) → Committing → Outcome → Type 0
+FitsChecked (Some t) c o = FitsOutcome check_fits t o
+FitsChecked None c o = FitsFew most_commits c o
+
+-- how it ended, if it did
+abbrev pub checked_end : Option (Retrying PlannedCheck) → Committing → Option OpEnd
+checked_end (Some t) c = option_map ends.Check (check_over t.machine.operation)
+checked_end None c = option_map ends.Commit (commit_over c.operation)
+
+-- at most so many sendings are to come: those of the check, and all of the commit
+abbrev pub checked_left : Option (Retrying PlannedCheck) → Committing → Scene → ℕ
+checked_left (Some t) c s = sendings_left check_left t s + left most_commits c s
+checked_left None c s = left most_commits c s
+
+-- by how much a request of another actor may raise this
+abbrev pub checked_rise : Option (Retrying PlannedCheck) → Committing → Request → ℕ
+checked_rise (Some t) c r = 1 * (t.retries + 1) + commit_rise most_commits c * one_if (adds_key r)
+checked_rise None c r = commit_rise most_commits c * one_if (adds_key r)
+
 -- ---- any operation
 
 -- the request that it asks, if it does
@@ -41,6 +93,8 @@ wants_of (CommitTask t) = task_commit_wants t.machine
 wants_of (AbortTask t) = task_abort_wants t.machine
 wants_of (Commit c) = commit_wants c
 wants_of (Clean t) = clean_wants t.machine
+wants_of (Sparing t) = sparing_wants t.machine
+wants_of (acts.Checked x) = checked_wants x.check x.commit
 
 -- where the outcome of a sending leads
 abbrev pub tells_of : Act → Outcome → Act
@@ -50,6 +104,8 @@ tells_of (CommitTask t) o = CommitTask (stepped task_commit_told t o)
 tells_of (AbortTask t) o = AbortTask (stepped task_abort_told t o)
 tells_of (Commit c) o = Commit (commit_told c o)
 tells_of (Clean t) o = Clean (stepped clean_told t o)
+tells_of (Sparing t) o = Sparing (stepped sparing_told t o)
+tells_of (acts.Checked x) o = acts.Checked (checked_told x.check x.commit o)
 
 -- an outcome that an actor may be told of its operation
 abbrev pub FitsAct : Act → Outcome → Type 0
@@ -59,6 +115,8 @@ FitsAct (CommitTask t) o = FitsOutcome task_commit_fits t o
 FitsAct (AbortTask t) o = FitsOutcome task_abort_fits t o
 FitsAct (Commit c) o = FitsFew most_commits c o
 FitsAct (Clean t) o = FitsOutcome clean_fits t o
+FitsAct (Sparing t) o = FitsOutcome sparing_fits t o
+FitsAct (acts.Checked x) o = FitsChecked x.check x.commit o
 
 -- how it ended, if it did
 abbrev pub end_of : Act → Option OpEnd
@@ -68,6 +126,8 @@ end_of (CommitTask t) = option_map ends.Task (task_commit_over t.machine.operati
 end_of (AbortTask t) = option_map ends.Task (task_abort_over t.machine.operation)
 end_of (Commit c) = option_map ends.Commit (commit_over c.operation)
 end_of (Clean t) = option_map ends.Clean (clean_over t.machine.operation)
+end_of (Sparing t) = option_map ends.Clean (sparing_over t.machine.operation)
+end_of (acts.Checked x) = checked_end x.check x.commit
 
 -- at most so many sendings of it are to come where nobody else sends
 abbrev pub left_of : Act → Scene → ℕ
@@ -77,6 +137,8 @@ left_of (CommitTask t) s = sendings_left task_commit_left t s
 left_of (AbortTask t) s = sendings_left task_abort_left t s
 left_of (Commit c) s = left most_commits c s
 left_of (Clean t) s = sendings_left clean_left t s
+left_of (Sparing t) s = sendings_left sparing_left t s
+left_of (acts.Checked x) s = checked_left x.check x.commit s
 
 -- by how much a request of another actor may raise what is left
 abbrev pub rise_of : Act → Request → ℕ
@@ -86,3 +148,5 @@ rise_of (CommitTask t) r = 1 * (t.retries + 1)
 rise_of (AbortTask t) r = 1 * (t.retries + 1)
 rise_of (Commit c) r = commit_rise most_commits c * one_if (adds_key r)
 rise_of (Clean t) r = 3 * (t.retries + 1)
+rise_of (Sparing t) r = (3 + most_commits) * (t.retries + 1)
+rise_of (acts.Checked x) r = checked_rise x.check x.commit r

@@ -1,14 +1,21 @@
 -- The laws of the operations of a job's actors.
-use Rattle.std.specs.Prelude.{◌≡◌, ℕ, false, List, [], Option, Some, None}
-use Rattle.job_steps.specs.Prelude.{Actor, Outcome, fresh, Job, Task, Known, Script, Op, setup_start, write_start, task_commit_start, task_abort_start, commit_start, clean_start, Reports, Setting, wants, advance, over, start_of, task_script, who_of, read_script, job_of}
+use Rattle.std.specs.Prelude.{◌≡◌, ℕ, Bool, true, false, List, [], Option, Some, None}
+use Rattle.job_steps.specs.Prelude.{Actor, Outcome, CommitEnd, fresh, Job, Task, Known, Script, Op, setup_start, write_start, task_commit_start, task_abort_start, commit_start, clean_start, Reports, Setting, wants, advance, over, start_of, task_script, who_of, read_script, job_of}
 use Rattle.machine.specs.declared.retrying.Retrying.{Retrying}
 use Rattle.job_model.specs.declared.events.Op.TheVariants as ops
+use Rattle.job_model.specs.declared.ends.CommitEnd.TheVariants as ends
+use Rattle.job_protocol.specs.Prelude.{Mode, Fail}
+use Rattle.job_protocol.specs.Sparing.{sparing_start}
 use Rattle.commit_laws.specs.Fitting.{least_missing}
+use Rattle.commit_laws.specs.Laws.{start}
+use Rattle.conflict.specs.Rechecks.{PlannedCheck, check_begun}
 use Rattle.actor_operations.specs.declared.act.Act.{Act}
-use Rattle.actor_operations.specs.declared.act.Act.TheVariants.{Setup, Write, CommitTask, AbortTask, Commit, Clean}
+use Rattle.actor_operations.specs.declared.act.Act.TheVariants.{Setup, Write, CommitTask, AbortTask, Commit, Clean, Sparing, Checked}
 use Rattle.job_actor.specs.declared.plan.Plan.TheVariants as plans
 use Rattle.job_actor.specs.Plans.{IsPlanOf}
-use Rattle.actor_operations.specs.Acts.{under, wants_of, tells_of, end_of}
+use Rattle.job_actor.specs.Reports.{IsReport}
+use Rattle.job_actor.specs.declared.reported.Reported.{Reported}
+use Rattle.actor_operations.specs.Acts.{under, until_clear, wants_of, tells_of, end_of}
 use Rattle.actor_operations.specs.Plans.{plan_of, running_of, IsOf, AsksSo, GoesSo}
 
 -- ---- how they go on
@@ -49,11 +56,41 @@ abort_task_of t = AbortTask (unsent t.job.retries (record { plan = t; operation 
 
 -- a job's commit of which nothing was sent yet, where these tasks are reported
 abbrev pub commit_of : Job → List ℕ → Act
-commit_of j reported = Commit (record { plan = j; picked = []; operation = commit_start (read_script j []) (least_missing j.tasks reported) })
+commit_of j reported = Commit (start j (least_missing j.tasks reported))
+
+-- a check before a job's commit that goes by these partitions, of which nothing was sent yet
+abbrev pub check_of : Job → List (List ℕ) → Retrying PlannedCheck
+check_of j dirs = unsent j.retries (check_begun (record { job = j; partitions = dirs }))
+
+-- a job's commit behind its check, of which nothing was sent yet
+abbrev pub checked_of : Job → List ℕ → List (List ℕ) → Act
+checked_of j reported dirs = Checked (record { check = until_clear (check_of j dirs); commit = start j (least_missing j.tasks reported) })
+
+-- a task is missing
+abbrev pub is_missing : Option CommitEnd → Bool
+is_missing (Some (ends.Missing t)) = true
+is_missing _ = false
+
+-- the driver's commit: behind its check where partitions are reported and the mode is fail, unless a task is missing
+abbrev pub commit_by : Job → List ℕ → Option (List (List ℕ)) → Mode → Option ℕ → Act
+commit_by j reported (Some dirs) Fail None = checked_of j reported dirs
+commit_by j reported dirs mode missing = commit_of j reported
+
+abbrev pub driver_commit : Job → Reported → Act
+driver_commit j x = commit_by j x.tasks x.partitions j.mode (least_missing j.tasks x.tasks)
 
 -- an abort or clean of which nothing was sent yet
 abbrev pub clean_of : Job → Act
 clean_of j = Clean (unsent j.retries (record { plan = j; operation = clean_start }))
+
+-- one that spares what is another's
+abbrev pub sparing_of : Job → Act
+sparing_of j = Sparing (unsent j.retries (record { plan = j; operation = sparing_start j.committer }))
+
+-- the driver's abort or clean, which spares where partitions are reported
+abbrev pub clean_by : Job → Option (List (List ℕ)) → Act
+clean_by j (Some dirs) = sparing_of j
+clean_by j None = clean_of j
 
 -- it is this operation of the actor as the script begins it, where the actor knows k and the driver these reports
 pub record Begun (g : Setting) (a : Actor) (op : Op) (reports : Reports) (k : Known) (act : Act) : Type 0 where
@@ -65,19 +102,23 @@ pub record Begun (g : Setting) (a : Actor) (op : Op) (reports : Reports) (k : Kn
 abbrev pub BeginsTask : Op → Task → Act → Type 0
 BeginsTask op t act = (g : Setting) (a : Actor) (r : Reports) (k : Known) → IsPlanOf g a k (plans.Task t) → Begun g a op r k act
 
--- whoever has this plan of a job that is alone at its destination, which is the driver, begins an operation so
-abbrev pub BeginsJob : Op → Job → Act → Type 0
-BeginsJob op j act = (g : Setting) (a : Actor) (r : Reports) (k : Known) → g.shared ≡ false → IsPlanOf g a k (plans.Job j) → Begun g a op r k act
+-- whoever has this plan of a job, which is the driver, begins its set-up so
+abbrev pub BeginsSetup : Job → Act → Type 0
+BeginsSetup j act = (g : Setting) (a : Actor) (r : Reports) (k : Known) → IsPlanOf g a k (plans.Job j) → Begun g a ops.Setup r k act
+
+-- and where this is reported another operation
+abbrev pub BeginsJob : Op → Job → Reported → Act → Type 0
+BeginsJob op j x act = (g : Setting) (a : Actor) (r : Reports) (k : Known) → IsReport g a op x r → IsPlanOf g a k (plans.Job j) → Begun g a op r k act
 
 -- a job's commit begins as by the script, before it read a set
 abbrev pub StartsSo : Script → Option ℕ → Type 0
 StartsSo w missing = commit_start (read_script (job_of w) []) missing ≡ commit_start w missing
 
--- the driver's commit where these tasks are reported
-abbrev pub BeginsCommit : Job → List ℕ → Act → Type 0
-BeginsCommit j reported act = (g : Setting) (a : Actor) (r : Reports) (k : Known) → g.shared ≡ false → IsPlanOf g a k (plans.Job j) → least_missing g.script.tasks reported ≡ r.missing → StartsSo g.script r.missing → Begun g a ops.Commit r k act
+-- the driver's commit
+abbrev pub BeginsCommit : Job → Reported → Act → Type 0
+BeginsCommit j x act = (g : Setting) (a : Actor) (r : Reports) (k : Known) → IsReport g a ops.Commit x r → IsPlanOf g a k (plans.Job j) → StartsSo g.script r.missing → Begun g a ops.Commit r k act
 
 -- the driver's clean, and its abort
-pub record BeginsClean (j : Job) (act : Act) : Type 0 where
-  pub clean : BeginsJob ops.Clean j act
-  pub abort : BeginsJob ops.Abort j act
+pub record BeginsClean (j : Job) (x : Reported) (act : Act) : Type 0 where
+  pub clean : BeginsJob ops.Clean j x act
+  pub abort : BeginsJob ops.Abort j x act

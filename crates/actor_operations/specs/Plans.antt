@@ -1,10 +1,11 @@
 -- What the operations of a job's actors go by, and which the script gives.
 use Rattle.std.specs.Prelude.{◌≡◌, ℕ, ◌≤◌, nat_lt, Bool, cond, List, Option, Some, None}
-use Rattle.job_steps.specs.Prelude.{Actor, Driver, Attempt, Request, Outcome, RequestLost, Retried, Known, Script, Pick, commit_asks, commit_tells, Setting, TheSetup, TheWrite, TheTaskCommit, TheTaskAbort, TheCommit, TheClean, Running, who, learn_of, Attempting, Driving, task_script, who_of, read_script, sets_in, sets_after, job_of, task_of, write_wants, task_commit_wants, task_abort_wants}
+use Rattle.job_steps.specs.Prelude.{Actor, Driver, Attempt, Request, Outcome, RequestLost, Retried, Known, Script, Pick, commit_asks, commit_start, commit_tells, Setting, Operation, TheSetup, TheWrite, TheTaskCommit, TheTaskAbort, TheCommit, TheClean, TheCheck, TheSparing, Running, who, learn_of, Attempting, Committing, Driving, task_script, who_of, read_script, sets_in, sets_after, job_of, task_of, write_wants, task_commit_wants, task_abort_wants}
 use Rattle.machine.specs.declared.retrying.Retrying.{Retrying}
 use Rattle.job_commit.specs.Holds.{picks_from}
+use Rattle.conflict.specs.Rechecks.{PlannedCheck}
 use Rattle.actor_operations.specs.declared.act.Act.{Act}
-use Rattle.actor_operations.specs.declared.act.Act.TheVariants.{Setup, Write, CommitTask, AbortTask, Commit, Clean}
+use Rattle.actor_operations.specs.declared.act.Act.TheVariants.{Setup, Write, CommitTask, AbortTask, Commit, Clean, Sparing, Checked}
 use Rattle.job_actor.specs.declared.plan.Plan.{Plan}
 use Rattle.job_actor.specs.declared.plan.Plan.TheVariants as plans
 
@@ -16,10 +17,13 @@ plan_of (CommitTask t) = plans.Task t.machine.plan
 plan_of (AbortTask t) = plans.Task t.machine.plan
 plan_of (Commit c) = plans.Job c.plan
 plan_of (Clean t) = plans.Job t.machine.plan
+plan_of (Sparing t) = plans.Job t.machine.plan
+plan_of (Checked x) = plans.Job x.commit.plan
 
 -- the attempts whose sets a job's commit has read
 abbrev pub picks_of : Act → Option (List Pick)
 picks_of (Commit c) = Some (picks_from 0 c.picked)
+picks_of (Checked x) = Some (picks_from 0 x.commit.picked)
 picks_of _ = None
 
 -- ---- the operation in the table of operations
@@ -32,6 +36,11 @@ counted spare repeated o = record { operation = o; spare = spare; repeated = rep
 abbrev pub known_now : {O : Type 0} → (Attempting O → Option Request) → Retrying (Attempting O) → Known
 known_now wants t = cond (nat_lt t.spare t.retries) (learn_of (task_script t.machine.plan) (who_of t.machine.plan) t.machine.plan.known (wants t.machine) RequestLost) t.machine.plan.known
 
+-- a job's commit behind its check: the check, while there is one
+abbrev pub checked_at : Option (Retrying PlannedCheck) → Committing → Operation
+checked_at (Some t) c = TheCheck (counted t.spare t.repeated t.machine.operation)
+checked_at None c = TheCommit c.operation
+
 -- the operation with what its actor knows; of the driver, of whose knowledge nothing is asked, that is k
 abbrev pub running_of : Known → Act → Running
 running_of k (Setup t) = record { operation = TheSetup (counted t.spare t.repeated t.machine.operation); known = k }
@@ -40,6 +49,8 @@ running_of k (CommitTask t) = record { operation = TheTaskCommit (counted t.spar
 running_of k (AbortTask t) = record { operation = TheTaskAbort (counted t.spare t.repeated t.machine.operation); known = known_now task_abort_wants t }
 running_of k (Commit c) = record { operation = TheCommit c.operation; known = k }
 running_of k (Clean t) = record { operation = TheClean (counted t.spare t.repeated t.machine.operation); known = k }
+running_of k (Sparing t) = record { operation = TheSparing (counted t.spare t.repeated t.machine.operation); known = k }
+running_of k (Checked x) = record { operation = checked_at x.check x.commit; known = k }
 
 -- ---- the plans that a script gives
 
@@ -60,21 +71,58 @@ pub record OfAttempt {O : Type 0} (g : Setting) (a : Actor) (t : Retrying (Attem
   pub retries : t.retries ≡ g.script.retries
   pub spare : t.spare ≤ t.retries
 
+-- the job's commit, by the plan of the job
+abbrev pub OfCommit : Script → Actor → Committing → Type 0
+OfCommit w a c = (a ≡ Driver) × (c.plan ≡ job_of w)
+
+-- a check before the job's commit, by the plan of the job, with that commit as it begins
+pub record OfCheck (w : Script) (a : Actor) (t : Retrying PlannedCheck) (c : Committing) : Type 0 where
+  pub actor : a ≡ Driver
+  pub plan : t.machine.plan.job ≡ job_of w
+  pub retries : t.retries ≡ w.retries
+  pub commit : c.plan ≡ job_of w
+  pub begins : c.operation ≡ commit_start w None
+
+-- the job's commit behind its check
+abbrev pub OfChecked : Script → Actor → Option (Retrying PlannedCheck) → Committing → Type 0
+OfChecked w a (Some t) c = OfCheck w a t c
+OfChecked w a None c = OfCommit w a c
+
 -- the operation goes by the plan that the script gives this actor
 abbrev pub IsOf : Setting → Actor → Act → Type 0
 IsOf g a (Setup t) = OfDriver g.script a t
 IsOf g a (Write t) = OfAttempt g a t
 IsOf g a (CommitTask t) = OfAttempt g a t
 IsOf g a (AbortTask t) = OfAttempt g a t
-IsOf g a (Commit c) = (a ≡ Driver) × (c.plan ≡ job_of g.script)
+IsOf g a (Commit c) = OfCommit g.script a c
 IsOf g a (Clean t) = OfDriver g.script a t
+IsOf g a (Sparing t) = OfDriver g.script a t
+IsOf g a (Checked x) = OfChecked g.script a x.check x.commit
 
 -- by the sets that it read a job's commit asks what the script asks
+abbrev pub CommitAsksSo : Script → Committing → Type 0
+CommitAsksSo w c = commit_asks (read_script (job_of w) (sets_in c.operation)) c.operation ≡ commit_asks w c.operation
+
+-- once its check is clear
+abbrev pub CheckedAsksSo : Script → Option (Retrying PlannedCheck) → Committing → Type 0
+CheckedAsksSo w (Some t) c = Unit {0}
+CheckedAsksSo w None c = CommitAsksSo w c
+
 abbrev pub AsksSo : Script → Act → Type 0
-AsksSo w (Commit c) = commit_asks (read_script (job_of w) (sets_in c.operation)) c.operation ≡ commit_asks w c.operation
+AsksSo w (Commit c) = CommitAsksSo w c
+AsksSo w (Checked x) = CheckedAsksSo w x.check x.commit
 AsksSo w _ = Unit {0}
 
 -- by the sets that it read a job's commit goes where the script goes
+abbrev pub CommitGoesSo : Script → Committing → Outcome → Type 0
+CommitGoesSo w c o = commit_tells (read_script (job_of w) (sets_after c.operation o)) c.operation o ≡ commit_tells w c.operation o
+
+-- once its check is clear
+abbrev pub CheckedGoesSo : Script → Option (Retrying PlannedCheck) → Committing → Outcome → Type 0
+CheckedGoesSo w (Some t) c o = Unit {0}
+CheckedGoesSo w None c o = CommitGoesSo w c o
+
 abbrev pub GoesSo : Script → Act → Outcome → Type 0
-GoesSo w (Commit c) o = commit_tells (read_script (job_of w) (sets_after c.operation o)) c.operation o ≡ commit_tells w c.operation o
+GoesSo w (Commit c) o = CommitGoesSo w c o
+GoesSo w (Checked x) o = CheckedGoesSo w x.check x.commit o
 GoesSo w _ o = Unit {0}

@@ -10,11 +10,12 @@ ghost use Rattle.cleanup.specs.SparingFits.{most_commits};
 ghost use Rattle.actor_operations.specs.Acts.{stepped, wants_of, tells_of, FitsAct, end_of, left_of, rise_of};
 ghost use Rattle.actor_operations.specs.ActLaws.{act_laws};
 
-use crate::ends::{commit_end, setup_end, task_end};
-use cleanup::CleanJob;
+use crate::checked::Checked;
+use crate::ends::{check_end, commit_end, setup_end, task_end};
+use cleanup::{CleanJob, SparingJob};
 use job_actor::Acts;
 use job_commit::CommitJob;
-use job_model::{CleanEnd, CommitEnd, OpEnd, SetupEnd, TaskEnd};
+use job_model::{CheckEnd, CleanEnd, CommitEnd, OpEnd, SetupEnd, TaskEnd};
 use job_setup::SetupJob;
 use machine::{Machine, Retrying};
 use s3_types::{Outcome, Request};
@@ -36,7 +37,8 @@ pub type CommitTask = TaskMachine<
 /// An attempt's abort of its task, by the committer of its job.
 pub type AbortTask = TaskMachine<TheAbort, ByCommitter<task_magic::Undoing, task_staging::Undoing>>;
 
-/// What an actor of a job is at. A job's clean and its abort send the same.
+/// What an actor of a job is at. A job's clean and its abort send the same. Where another job shares the destination
+/// they spare what is not the job's own, and a commit stands behind its check.
 #[derive(Drop)]
 pub enum Act {
     Setup(Retrying<SetupJob>),
@@ -45,11 +47,13 @@ pub enum Act {
     AbortTask(Retrying<AbortTask>),
     Commit(CommitJob),
     Clean(Retrying<CleanJob>),
+    Sparing(Retrying<SparingJob>),
+    Checked(Checked),
 }
 
 /// Tells a machine the outcome of a sending.
 #[tactic(auto, using(crate::proofs::Telling::whole, crate::proofs::Telling::machine_of))]
-fn told<M: Machine>(machine: &mut Retrying<M>, outcome: &Outcome) -> Result<(), AllocError>
+pub fn told<M: Machine>(machine: &mut Retrying<M>, outcome: &Outcome) -> Result<(), AllocError>
     requires asked { IsSome (M.wants machine.old.machine) }
     requires fits { FitsOutcome M.fits machine.old outcome.now }
     ensures ok { OnOk result (machine.new ≡ stepped M.after machine.old outcome.now) }
@@ -62,7 +66,7 @@ fn told<M: Machine>(machine: &mut Retrying<M>, outcome: &Outcome) -> Result<(), 
 }
 
 /// Tells a job's commit the outcome of a sending.
-fn told_commit(commit: &mut CommitJob, outcome: &Outcome) -> Result<(), AllocError>
+pub fn told_commit(commit: &mut CommitJob, outcome: &Outcome) -> Result<(), AllocError>
     requires asked { IsSome (commit_wants commit.old) }
     requires fits { FitsFew most_commits commit.old outcome.now }
     ensures ok { OnOk result (commit.new ≡ commit_told commit.old outcome.now) }
@@ -92,11 +96,20 @@ fn ended_task(end: Option<&TaskEnd>) -> Result<Option<OpEnd>, AllocError>
     }
 }
 
-fn ended_commit(end: Option<&CommitEnd>) -> Result<Option<OpEnd>, AllocError>
+pub fn ended_commit(end: Option<&CommitEnd>) -> Result<Option<OpEnd>, AllocError>
     ensures { IfOk result (λ x. x ≡ option_map ends.Commit (option_copied end.entry)) }
 {
     match end {
         Some(end) => Ok(Some(OpEnd::Commit(commit_end(end)?))),
+        None => Ok(None),
+    }
+}
+
+pub fn ended_check(end: Option<&CheckEnd>) -> Result<Option<OpEnd>, AllocError>
+    ensures { IfOk result (λ x. x ≡ option_map ends.Check (option_copied end.entry)) }
+{
+    match end {
+        Some(end) => Ok(Some(OpEnd::Check(check_end(end)?))),
         None => Ok(None),
     }
 }
@@ -133,10 +146,12 @@ impl Acts for Act {
             Act::AbortTask(abort) => abort.request(),
             Act::Commit(commit) => commit.request(),
             Act::Clean(clean) => clean.request(),
+            Act::Sparing(clean) => clean.request(),
+            Act::Checked(checked) => checked.request(),
         }
     }
 
-    #[tactic(auto, using(crate::proofs::Telling::setup_wanting, crate::proofs::Telling::write_wanting, crate::proofs::Telling::commit_task_wanting, crate::proofs::Telling::abort_task_wanting, crate::proofs::Telling::commit_wanting, crate::proofs::Telling::clean_wanting))]
+    #[tactic(auto, using(crate::proofs::Telling::setup_wanting, crate::proofs::Telling::write_wanting, crate::proofs::Telling::commit_task_wanting, crate::proofs::Telling::abort_task_wanting, crate::proofs::Telling::commit_wanting, crate::proofs::Telling::clean_wanting, crate::proofs::Telling::sparing_wanting))]
     fn tell(&mut self, outcome: &Outcome) -> Result<(), AllocError> {
         match self {
             Act::Setup(setup) => told(setup, outcome),
@@ -145,6 +160,8 @@ impl Acts for Act {
             Act::AbortTask(abort) => told(abort, outcome),
             Act::Commit(commit) => told_commit(commit, outcome),
             Act::Clean(clean) => told(clean, outcome),
+            Act::Sparing(clean) => told(clean, outcome),
+            Act::Checked(checked) => checked.tell(outcome),
         }
     }
 
@@ -156,6 +173,8 @@ impl Acts for Act {
             Act::AbortTask(abort) => ended_task(abort.machine().end()),
             Act::Commit(commit) => ended_commit(commit.end()),
             Act::Clean(clean) => Ok(ended_clean(clean.machine().end())),
+            Act::Sparing(clean) => Ok(ended_clean(clean.machine().end())),
+            Act::Checked(checked) => checked.end(),
         }
     }
 }

@@ -1,6 +1,6 @@
 ghost use Rattle.std.specs.Prelude.{◌≡◌, IfOk};
 
-use job_model::{CommitEnd, SetupEnd, TaskEnd};
+use job_model::{CheckEnd, CommitEnd, SetupEnd, TaskEnd};
 use std::alloc::AllocError;
 
 /// The same end of a set-up; a path in it is shared.
@@ -49,5 +49,17 @@ pub fn commit_end(end: &CommitEnd) -> Result<CommitEnd, AllocError>
         }),
         CommitEnd::StoreFault(stage) => Ok(CommitEnd::StoreFault(*stage)),
         CommitEnd::NoMemory => Ok(CommitEnd::NoMemory),
+    }
+}
+
+/// The same end of a check before a job's commit; a path in it is shared.
+pub fn check_end(end: &CheckEnd) -> Result<CheckEnd, AllocError>
+    ensures { IfOk result (λ copy. copy ≡ end.now) }
+{
+    match end {
+        CheckEnd::Clear => Ok(CheckEnd::Clear),
+        CheckEnd::Conflict(path) => Ok(CheckEnd::Conflict(path.clone()?)),
+        CheckEnd::StoreFault => Ok(CheckEnd::StoreFault),
+        CheckEnd::NoMemory => Ok(CheckEnd::NoMemory),
     }
 }

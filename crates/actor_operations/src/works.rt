@@ -1,8 +1,8 @@
-ghost use Rattle.std.specs.Prelude.{◌≡◌, false, IfOk};
+ghost use Rattle.std.specs.Prelude.{IfOk};
 ghost use Rattle.s3_types.specs.declared.request.Actor.{Actor};
 ghost use Rattle.job_actor.specs.declared.plan.Plan.TheVariants as plans;
 ghost use Rattle.job_actor.specs.Plans.{IsPlanOf};
-ghost use Rattle.commit_laws.specs.Fitting.{least_missing};
+ghost use Rattle.job_actor.specs.Reports.{IsReport};
 ghost use Rattle.job_model.specs.Known.{Known};
 ghost use Rattle.job_model.specs.Legal.{IsLegal, HasOp};
 ghost use Rattle.job_protocol.specs.Operations.{Reports, Setting};
@@ -14,21 +14,21 @@ use crate::act::Act;
 use crate::begun::{
     begin_abort_task, begin_clean, begin_commit, begin_commit_task, begin_setup, begin_write,
 };
-use job_actor::{Plan, Works};
-use job_model::{JobPlan, Op, PickList, TaskPlan, TaskSet};
+use job_actor::{Plan, Reported, Works};
+use job_model::{JobPlan, Op, PickList, TaskPlan};
 use s3_types::Actor;
 use std::alloc::{AllocError, Global};
 
 /// Begins an operation of the driver, which writes nothing.
-fn begin_job(alloc: Global, plan: JobPlan, op: Op, reported: &TaskSet) -> Result<Act, AllocError>
-    ensures { (g : Setting) (a : Actor) (k : Known) (r : Reports) → g.shared ≡ false → IsLegal g.script
-        → IsPlanOf g a k (plans.Job plan) → HasOp a op → least_missing g.script.tasks reported.now ≡ r.missing
+fn begin_job(alloc: Global, plan: JobPlan, op: Op, reported: Reported) -> Result<Act, AllocError>
+    ensures { (g : Setting) (a : Actor) (k : Known) (r : Reports) → IsReport g a op reported r → IsLegal g.script
+        → IsPlanOf g a k (plans.Job plan) → HasOp a op
         → IfOk result (λ act. Starts IsOf running_of picks_of g a op r k act) }
 {
     match op {
         Op::Setup => begin_setup(alloc, plan),
         Op::Commit => begin_commit(alloc, plan, reported),
-        Op::Abort | Op::Clean => begin_clean(alloc, plan),
+        Op::Abort | Op::Clean => begin_clean(alloc, plan, reported),
         Op::Write => Err(AllocError),
     }
 }
@@ -60,7 +60,7 @@ impl Works for Act {
         plan: Plan,
         actor: Actor,
         op: Op,
-        reported: &TaskSet,
+        reported: Reported,
     ) -> Result<Act, AllocError> {
         let _ = actor;
         match plan {
@@ -77,28 +77,34 @@ impl Works for Act {
             Act::AbortTask(abort) => Plan::Task(abort.into_inner().into_plan()),
             Act::Commit(commit) => Plan::Job(commit.into_plan()),
             Act::Clean(clean) => Plan::Job(clean.into_inner().into_plan()),
+            Act::Sparing(clean) => Plan::Job(clean.into_inner().into_plan()),
+            Act::Checked(checked) => Plan::Job(checked.into_plan()),
         }
     }
 
     fn picks(&self) -> Option<&PickList> {
         match self {
             Act::Commit(commit) => Some(commit.picks()),
+            Act::Checked(checked) => Some(checked.picks()),
             Act::Setup(_)
             | Act::Write(_)
             | Act::CommitTask(_)
             | Act::AbortTask(_)
-            | Act::Clean(_) => None,
+            | Act::Clean(_)
+            | Act::Sparing(_) => None,
         }
     }
 
     fn into_picks(self) -> Option<PickList> {
         match self {
             Act::Commit(commit) => Some(commit.into_picks()),
+            Act::Checked(checked) => Some(checked.into_picks()),
             Act::Setup(_)
             | Act::Write(_)
             | Act::CommitTask(_)
             | Act::AbortTask(_)
-            | Act::Clean(_) => None,
+            | Act::Clean(_)
+            | Act::Sparing(_) => None,
         }
     }
 

@@ -3,3 +3,4 @@ pub mod Picking
 pub mod Tallies
 pub mod Unread
 pub mod Keeping
+pub mod Staying

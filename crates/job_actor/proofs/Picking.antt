@@ -1,7 +1,7 @@
 -- That the driver's commit is at work exactly where it was begun last, and that nothing is picked before it.
 use Rattle.std.proofs.Common.{◌≡◌, ℕ, zero, suc, ◌+◌, true, false, [], ◌++◌, length, Option, Some, None, refl, sym, ap, subst, ◌∙◌, arith}
 use Rattle.job_spec.proofs.Common.{false≢true, none_some}
-use Rattle.job_steps.specs.Prelude.{Content, Actor, Driver, Outcome, Entry, Known, IsLegal, Op, Setup, Abort, Clean, Event, Do, Start, ActorState, Picks, Setting, Operation, TheSetup, TheCheck, Running, who, tells, start_of, Seen, see_all, nothing_seen, put, reports, Reports, open_event, refusal, driver_may, begins_commit, is_commit, picked, picks_below, Told, IsOpening, is_just_set, Play, Refuses, Opens, Sends, Finishes, Closes, Strays, begun, knows_now, open_running, hear, MayOpen, Reachable, nothing_happened, happens, operation_of, times, step}
+use Rattle.job_steps.specs.Prelude.{Content, Actor, Driver, Outcome, Entry, Known, IsLegal, Op, Abort, Clean, Event, Do, Start, ActorState, Picks, Setting, Operation, TheSetup, TheCheck, Running, who, tells, start_of, Seen, see_all, nothing_seen, put, reports, Reports, open_event, refusal, driver_may, begins_commit, is_commit, picked, picks_below, Told, IsOpening, is_just_set, Play, Refuses, Opens, Sends, Finishes, Closes, Strays, begun, knows_now, open_running, hear, MayOpen, Reachable, nothing_happened, happens, operation_of, times, step}
 use Rattle.job_model.specs.declared.events.Op.TheVariants.{Commit}
 use Rattle.job_protocol.specs.Rechecks.{check_after}
 use Rattle.job_protocol.proofs.Begun.{after_check_so, clean_of_so, commit_of_so}

@@ -2,4 +2,5 @@ pub mod Acts
 pub mod Posting
 pub mod Plans
 pub mod Picks
+pub mod Reports
 pub mod Works

@@ -1,6 +1,6 @@
 -- The picks of a job's commit, as a run goes on.
-use Rattle.std.specs.Prelude.{◌≡◌, Bool, true, false, List, [], Option, Some, None}
-use Rattle.job_steps.specs.Prelude.{Content, Driver, IsLegal, Event, EventEnd, Pick, Setting, Operation, Running, TheSetup, TheWrite, TheTaskCommit, TheTaskAbort, TheCommit, TheClean, TheCheck, TheSparing, begins_commit, is_commit, all_picks, IsOpening, Play, Reachable, MayOpen, Ahead}
+use Rattle.std.specs.Prelude.{◌≡◌, Bool, true, false, List, [], ◌∷◌, ◌++◌, Option, Some, None}
+use Rattle.job_steps.specs.Prelude.{Content, Driver, Entry, IsLegal, Event, EventEnd, Pick, Setting, Operation, Running, TheSetup, TheWrite, TheTaskCommit, TheTaskAbort, TheCommit, TheClean, TheCheck, TheSparing, begins_commit, is_commit, all_picks, IsOpening, Play, Reachable, MayOpen, Ahead}
 
 -- these are the picks that are seen so far, however the run goes on
 abbrev pub ArePicksOf : Setting → Content → Play → List Pick → Type 0
@@ -10,6 +10,10 @@ ArePicksOf g opening x ps = (xs : List EventEnd) → Ahead x xs → ps ≡ all_p
 abbrev pub HasPicked : Setting → Content → Play → Option (List Pick) → Type 0
 HasPicked g opening x (Some ps) = ArePicksOf g opening x ps
 HasPicked g opening x None = Unit {0}
+
+-- the entry leaves the picks that are seen so far as they are, however the run goes on
+abbrev pub LeavesPicks : Setting → Content → Play → Entry → Type 0
+LeavesPicks g opening x e = (xs : List EventEnd) → Ahead x xs → all_picks g.script opening (x.journal ++ e ∷ []) xs ≡ all_picks g.script opening x.journal xs
 
 -- the operation is the job's commit, or the check that goes on as one
 abbrev pub is_job_commit : Operation → Bool

@@ -1,9 +1,9 @@
 -- What the operations of a job's actors owe to a world.
 use Rattle.std.specs.Prelude.{◌≡◌, ℕ, ◌+◌, ◌≤◌, ◌^◌, List, [], Option, Some, None, is_some, slice_get}
-use Rattle.job_steps.specs.Prelude.{Content, Scene, answer, apply, IsHonestOutcome, Request, Actor, Driver, Attempt, Shell, Outcome, Entry, Known, IsLegal, Script, Op, OpEnd, Pick, Reports, Setting, Running, advance, over, start_of, actors, Seen, see, IsOpening, Play, Reachable, Sends, MaySend, happen, scene_of, knows_now, Times}
+use Rattle.job_steps.specs.Prelude.{Content, Scene, answer, apply, IsHonestOutcome, Request, Actor, Driver, Attempt, Shell, Outcome, Entry, Known, IsLegal, Script, Op, OpEnd, Pick, Reports, Setting, Running, advance, over, start_of, actors, IsOpening, Play, Reachable, Sends, MaySend, happen, scene_of, knows_now}
 use Rattle.job_protocol.specs.Operations as operations
 use Rattle.job_actor.specs.Posting.{DueFits}
-use Rattle.job_actor.specs.Picks.{HasPicked, is_job_commit}
+use Rattle.job_actor.specs.Picks.{HasPicked, LeavesPicks, is_job_commit}
 
 -- the actor at a place: the driver at 0, and then the attempts in script order
 abbrev pub IsPlace : Script → ℕ → Actor → Type 0
@@ -50,5 +50,4 @@ pub record WorkLaws {W : Type 0} (wants : W → Option Request) (tells : W → O
   pub has_picks : (k : Known) (work : W) → is_some (picks_of work) ≡ is_job_commit (running k work).operation
   pub picks : (g : Setting) (opening : Content) (x : Play) (a : Actor) (work : W) → IsAt is_of running g opening x a work → HasPicked g opening x (picks_of work)
       → (e : Entry) → e.actor ≡ a → MaySend g opening x e → HasPicked g opening (happen g x (Sends e)) (picks_of (tells work e.outcome))
-  pub leaves : (g : Setting) (opening : Content) (x : Play) (a : Actor) (work : W) → IsAt is_of running g opening x a work → picks_of work ≡ None → (r : Request) → wants work ≡ Some r
-      → (k : Times) (s : Seen) (n : ℕ) (o : Outcome) → (see g.script k s (record { event = n; actor = a; request = r; outcome = o })).picks ≡ s.picks
+  pub leaves : (g : Setting) (opening : Content) (x : Play) (a : Actor) (work : W) → IsAt is_of running g opening x a work → picks_of work ≡ None → (e : Entry) → e.actor ≡ a → MaySend g opening x e → LeavesPicks g opening x e

@@ -9,9 +9,11 @@
 //! outcome that is honest and foretold; then the actor is told it (`posted`). Where memory is wanting before the sending
 //! all is as before; where the actor finds none the entry stands, and it is over. The store's counts go with the entries
 //! (`counts`).
-//! trait `Works`: In every run of a legal script the operations of its actors ask and go on as the script says, each
-//! outcome that is due fits them, no request of another actor raises what an attempt has left, an attempt's raises the
-//! driver's by no more than a number that the script gives, and the job's commit has picked what is seen (`WorkLaws`).
+//! trait `Works`: What begins is the operation as the script begins it by what is reported of the tasks (`IsReport`),
+//! whether or not another job shares the destination. In every run of a legal script the operations of its actors ask
+//! and go on as the script says, each outcome that is due fits them, no request of another actor raises what an attempt
+//! has left, an attempt's raises the driver's by no more than a number that the script gives, and the job's commit has
+//! picked what is seen (`WorkLaws`).
 //! `picks_go`: When a job's commit is what the driver is at, and that nothing is picked before it.
 #![tactic(auto)]
 
@@ -19,10 +21,12 @@ mod acts;
 mod picks;
 mod plan;
 mod posting;
+mod reported;
 mod works;
 
 pub use acts::{Acts, asks};
 pub use picks::picks_go;
 pub use plan::Plan;
 pub use posting::{Posted, post};
+pub use reported::Reported;
 pub use works::Works;

@@ -1,17 +1,17 @@
-ghost use Rattle.std.specs.Prelude.{◌≡◌, false, ℕ, IfOk, List, Option, None};
+ghost use Rattle.std.specs.Prelude.{◌≡◌, ℕ, IfOk, List, Option, None};
 ghost use Rattle.std.specs.Option.{option_copied};
 ghost use Rattle.s3_types.specs.declared.request.Actor.{Actor};
 ghost use Rattle.job_model.specs.Known.{Known};
 ghost use Rattle.job_model.specs.Legal.{HasOp, IsLegal};
 ghost use Rattle.job_model.specs.JobScript.{Script};
 ghost use Rattle.job_model.specs.declared.ends.Pick.{Pick};
-ghost use Rattle.commit_laws.specs.Fitting.{least_missing};
 ghost use Rattle.job_protocol.specs.Operations.{Reports, Setting, Running};
 ghost use Rattle.job_actor.specs.Plans.{IsPlanOf};
+ghost use Rattle.job_actor.specs.Reports.{IsReport};
 ghost use Rattle.job_actor.specs.Works.{WorkLaws, Starts};
 
-use crate::{Acts, Plan};
-use job_model::{Op, PickList, TaskSet};
+use crate::{Acts, Plan, Reported};
+use job_model::{Op, PickList};
 use s3_types::Actor;
 use std::alloc::{AllocError, Global};
 
@@ -30,17 +30,17 @@ pub trait Works: Acts {
     /// The attempts whose sets a job's commit has read, by task; no other operation has them.
     ghost picks_of: { Self → Option (List Pick) };
 
-    /// Begins an operation of this actor; of the job's commit, where these tasks are reported. After want of
-    /// memory the plan is lost, with the actor.
+    /// Begins an operation of this actor, where this is reported. After want of memory the plan is lost, with the
+    /// actor.
     fn begin(
         alloc: Global,
         plan: Plan,
         actor: Actor,
         op: Op,
-        reported: &TaskSet,
+        reported: Reported,
     ) -> Result<Self, AllocError>
-        ensures { (g : Setting) (k : Known) (r : Reports) → g.shared ≡ false → IsLegal g.script → IsPlanOf g actor k plan
-            → HasOp actor op → least_missing g.script.tasks reported.now ≡ r.missing
+        ensures { (g : Setting) (k : Known) (r : Reports) → IsReport g actor op reported r → IsLegal g.script
+            → IsPlanOf g actor k plan → HasOp actor op
             → IfOk result (λ work. Starts is_of running picks_of g actor op r k work) };
 
     /// Gives the plan back, with what its attempt knows as the operation leaves it. Takes no memory.

@@ -1,3 +1,4 @@
 pub mod CutNames
 pub mod FilePlans
 pub mod PlanBounds
+pub mod Reports

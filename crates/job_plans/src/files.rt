@@ -9,7 +9,7 @@ use s3_types::Text;
 use std::alloc::{AllocError, Global};
 
 /// A file's path below the destination: unique to the job, or as the script writes it, which is shared.
-fn path_of(alloc: Global, unique: bool, job: &Text, path: &Text) -> Result<Text, AllocError>
+pub fn path_of(alloc: Global, unique: bool, job: &Text, path: &Text) -> Result<Text, AllocError>
     ensures { IfOk result (λ text. text ≡ places.path_of unique job.now path.now) }
 {
     if unique {

@@ -28,7 +28,7 @@ pub fn job_plan(script: &Script) -> Result<JobPlan, AllocError>
 }
 
 /// The name and the files of the attempt that is declared behind so many others.
-fn attempt_at(attempts: &Attempts, place: usize) -> (&AttemptName, &FileList)
+pub fn attempt_at(attempts: &Attempts, place: usize) -> (&AttemptName, &FileList)
     requires { place < length attempts.now }
     ensures here { slice_get attempts.now place ≡ Some (result.0.now, result.1.now) }
     ensures found { lookup (same_name result.0.now) attempts.now ≡ Some result.1.now }

@@ -20,32 +20,32 @@ setting_is : (g : Setting) (opening : Content) → g.shared ≡ false → IsOpen
 setting_is g opening single is = ap (with_least g.script) is.least ∙ ap (λ b. record { script = g.script; minimum = g.minimum; shared = b }) (sym single)
 
 pub kept_among : RunsAreKeptAmong
-kept_among g single opening x j is_opening run idle ps are =
+kept_among g opening x j is_opening run idle ps are =
     let r = is_run g opening j is_opening x run x.ends (ahead_none x idle) in
     record {
-      plays = subst (λ s. Plays s x.ends x.journal) (sym (setting_is g opening single is_opening)) (happenings_play g opening x j run idle).plays;
+      plays = (happenings_play g opening x j run idle).plays;
       picks = are;
       zero_rename = runs_rename g (times g.script x.ends) opening j is_opening x.journal r.stand r.runs;
       setups = setups_among g opening j is_opening x run idle;
       tasks = tasks_kept g opening j is_opening x run idle;
       publishes = publishes_kept g opening j is_opening x run idle;
-      cleans = cleans_kept g single opening j x run idle;
-      commits = commits_among g single opening j is_opening x run idle;
+      cleans = λ single. cleans_kept g single opening j x run idle;
+      commits = λ single. commits_among g single opening j is_opening x run idle;
     }
 
 pub runs_are_kept : RunsAreKept
 runs_are_kept g single opening x j is_opening run idle ps are =
     let r = is_run g opening j is_opening x run x.ends (ahead_none x idle) in
-    let among = kept_among g single opening x j is_opening run idle ps are in
+    let among = kept_among g opening x j is_opening run idle ps are in
     record {
       always = always g (times g.script x.ends) opening j is_opening x.journal r.stand r.runs;
-      plays = among.plays;
+      plays = subst (λ s. Plays s x.ends x.journal) (sym (setting_is g opening single is_opening)) among.plays;
       picks = among.picks;
       zero_rename = among.zero_rename;
       outside = runs_outside g (times g.script x.ends) opening j is_opening x.journal r.stand r.runs;
       setups = setups_kept g opening j is_opening x run idle;
       tasks = λ own. among.tasks;
       publishes = λ own. among.publishes;
-      cleans = among.cleans;
+      cleans = among.cleans single;
       commits = commits_kept g single opening j is_opening x run idle;
     }

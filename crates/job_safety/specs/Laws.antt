@@ -31,23 +31,23 @@ abbrev pub CommitsEndAmong : Script → Content → List Entry → List EventEnd
 CommitsEndAmong w opening journal xs = (j : ℕ) (d : Doing) (e : CommitEnd) (es : List Entry) → EndedIn w xs journal j Driver d (ends.Commit e) es
     → CommitEnded w (seen_until w opening journal xs (j + 1)) d.reports.missing es e × CommitServed w es
 
--- what no stranger can break
-pub record KeptAmong (w : Script) (opening : Content) (journal : List Entry) (ps : List Pick) (xs : List EventEnd) : Type 0 where
-  pub plays : Plays (setting w opening) xs journal
-  pub picks : ArePicked ps (all_picks w opening journal xs)
-  pub zero_rename : ZeroRename w opening journal
-  pub setups : SetupsEndAmong w journal xs
-  pub tasks : TasksEndAmong w opening journal xs
-  pub publishes : PublishesAmong w opening journal xs
-  pub cleans : CleansEnd w opening journal xs
-  pub commits : CommitsEndAmong w opening journal xs
+-- what no stranger can break; how a commit, an abort or a clean ends is told here of a job that is alone at its destination
+pub record KeptAmong (g : Setting) (opening : Content) (journal : List Entry) (ps : List Pick) (xs : List EventEnd) : Type 0 where
+  pub plays : Plays g xs journal
+  pub picks : ArePicked ps (all_picks g.script opening journal xs)
+  pub zero_rename : ZeroRename g.script opening journal
+  pub setups : SetupsEndAmong g.script journal xs
+  pub tasks : TasksEndAmong g.script opening journal xs
+  pub publishes : PublishesAmong g.script opening journal xs
+  pub cleans : g.shared ≡ false → CleansEnd g.script opening journal xs
+  pub commits : g.shared ≡ false → CommitsEndAmong g.script opening journal xs
 
 -- ---- the laws
 
 -- between events all that no stranger can break holds of what has happened
 abbrev pub RunsAreKeptAmong : Type 0
-RunsAreKeptAmong = (g : Setting) → g.shared ≡ false → (opening : Content) (x : Play) → IsLegal g.script → IsOpening g opening → Reachable g opening x → x.now ≡ None
-    → (ps : List Pick) → ArePicked ps (all_picks g.script opening x.journal x.ends) → KeptAmong g.script opening x.journal ps x.ends
+RunsAreKeptAmong = (g : Setting) → (opening : Content) (x : Play) → IsLegal g.script → IsOpening g opening → Reachable g opening x → x.now ≡ None
+    → (ps : List Pick) → ArePicked ps (all_picks g.script opening x.journal x.ends) → KeptAmong g opening x.journal ps x.ends
 
 -- between events all that is promised holds of what has happened
 abbrev pub RunsAreKept : Type 0

@@ -18,7 +18,7 @@ use Rattle.job_side.specs.declared.hands.Hand.TheVariants.{Plan, At, Empty}
 use Rattle.job_side.specs.declared.body.Body.{Body}
 use Rattle.job_side.specs.declared.body.Side.{Side}
 use Rattle.job_side.proofs.Places.{own_at}
-use Rattle.job_side.proofs.PicksStay.{picks_stay}
+use Rattle.job_actor.proofs.Staying.{picks_stay}
 use Rattle.job_side.proofs.Sends.{after_more}
 
 -- ---- in a side's eyes
@@ -53,7 +53,7 @@ module _ (g : Setting) (opening : Content) (x : Play) (r : Request) (o : Outcome
   ahead_kept xs a = record { rest = a.rest; is = a.is; going = a.going }
 
   all_kept : (xs : List EventEnd) → all_picks g.script opening (x.journal ++ strange_entry (length x.ends) r o ∷ []) xs ≡ all_picks g.script opening x.journal xs
-  all_kept xs = picks_stay g.script opening x.journal (strange_entry (length x.ends) r o) xs (λ k s. refl)
+  all_kept xs = picks_stay g.script opening x.journal (strange_entry (length x.ends) r o) xs (λ s. refl)
 
   picks_kept : (ps : List Pick) → ArePicksOf g opening x ps → ArePicksOf g opening (happen g x (Strays r o)) ps
   picks_kept ps h xs a = h xs (ahead_kept xs a) ∙ sym (all_kept xs)

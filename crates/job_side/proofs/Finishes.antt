@@ -158,7 +158,7 @@ module _ {W : Type 0} (is_of : Setting → Actor → W → Type 0) (running : Kn
     finish_over actor h told capacity stands places hands =
         let now = stands h.play.live h.stands in
         record {
-          same = record { stays = record { script = refl; others = refl; opening = refl; fates = λ n. refl }; ends = refl; event = refl; events = refl; places = places; more = ([], sym (append-nil b.shared.journal.entries), tt) };
+          same = record { stays = record { script = refl; others = refl; shares = refl; opening = refl; fates = λ n. refl }; ends = refl; event = refl; events = refl; places = places; more = ([], sym (append-nil b.shared.journal.entries), tt) };
           journal = refl;
           store = refl;
           finished = told;

@@ -32,7 +32,7 @@ hands_of w minimum n = Empty ∷ map (plan_of w minimum) (take n w.attempts)
 pub no_hands : {W : Type 0} (w : Script) (minimum : ℕ) (empty hands : List (Hand W)) → empty ≡ [] → hands ≡ empty ++ Empty ∷ [] → hands ≡ hands_of w minimum 0
 no_hands w minimum empty hands e h = h ∙ ap (λ hs. hs ++ Empty ∷ []) e
 
-take_more : {X : Type 0} (xs : List X) (n : ℕ) (x : X) → slice_get xs n ≡ Some x → take (suc n) xs ≡ take n xs ++ x ∷ []
+pub take_more : {X : Type 0} (xs : List X) (n : ℕ) (x : X) → slice_get xs n ≡ Some x → take (suc n) xs ≡ take n xs ++ x ∷ []
 take_more [] n x e = absurd (none_some refl e)
 take_more (y ∷ ys) zero x e = ap (λ v. v ∷ []) (some_is e)
 take_more (y ∷ ys) (suc n) x e = ap (λ l. y ∷ l) (take_more ys n x e)
@@ -115,7 +115,7 @@ module _ {W : Type 0} (is_of : Setting → Actor → W → Type 0) (running : Kn
 -- ---- all of it
 
 module _ {W : Type 0} (wants : W → Option Request) (is_of : Setting → Actor → W → Type 0) (running : Known → W → Running) (picks_of : W → Option (List Pick)) (b : Body W) (low : b.shared.opening.next ≤ 2 ^ 62) (below : AreBelow b.shared.opening.buckets b.shared.opening.next)
-    (side : IsFirstSide b.shared.opening.minimum b.side) (shared : IsFirstShared b.side.script b.shared) where
+    (side : IsFirstSide b.shared.opening.minimum b.side) (w : Script) (shared : IsFirstShared w b.shared) where
   opens : IsOpening (setting_of b) b.shared.opening
   opens = record { least = refl; fresh = below_next b.side.script b.shared.opening below }
 
@@ -152,18 +152,19 @@ module _ {W : Type 0} (wants : W → Option Request) (is_of : Setting → Actor 
   none_over : NoneOver wants b
   none_over place k busy e = absurd (false_true (idle_at (actors b.side.script) place) (sym (ap (λ ss. is_busy_at ss place) side.states.actors) ∙ busy))
 
-  first_quiet : Quiet wants is_of running picks_of b
+  pub first_quiet : Quiet wants is_of running picks_of b
   first_quiet = record { holds = first_holds; none_over = none_over; idle = side.event; none = side.finished }
 
 pub is_begun : {W : Type 0} (wants : W → Option Request) (is_of : Setting → Actor → W → Type 0) (running : Known → W → Running) (picks_of : W → Option (List Pick)) (w : Script) (c : Content) (b : Body W) → c.next ≤ 2 ^ 62 → AreBelow c.buckets c.next
-    → b.side.script ≡ w → b.shared.opening ≡ c → b.side.others.items ≡ [] → IsFirstSide c.minimum b.side → IsFirstShared b.side.script b.shared → IsBegun wants is_of running picks_of w c b
-is_begun wants is_of running picks_of w c b low below script opening others side shared = record {
+    → b.side.script ≡ w → b.shared.opening ≡ c → b.side.others.items ≡ [] → b.side.shares ≡ false → IsFirstSide c.minimum b.side → IsFirstShared b.side.script b.shared → IsBegun wants is_of running picks_of w c b
+is_begun wants is_of running picks_of w c b low below script opening others shares side shared = record {
   quiet =
       first_quiet wants is_of running picks_of b (let P : Content → Type 0 = λ v. v.next ≤ 2 ^ 62 in subst P (sym opening) low) (subst (λ (v : Content). AreBelow v.buckets v.next) (sym opening) below)
-      (subst (λ (v : Content). IsFirstSide v.minimum b.side) (sym opening) side) shared;
+      (subst (λ (v : Content). IsFirstSide v.minimum b.side) (sym opening) side) b.side.script shared;
   script = script;
   opening = opening;
   others = others;
+  shares = shares;
   side = side;
   shared = shared;
 }

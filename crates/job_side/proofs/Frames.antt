@@ -9,12 +9,12 @@ use Rattle.job_side.specs.declared.body.Shared.{Shared}
 
 module _ {W : Type 0} where
   -- from an opened world on
-  entered_from : (ev : Event) (b d f : Body W) → d.side.script ≡ b.side.script → d.side.others ≡ b.side.others → d.side.ends ≡ b.side.ends → d.side.event ≡ Some ev → d.shared ≡ b.shared → Same d f → f.shared.journal ≡ d.shared.journal → event_entries b ≡ [] → Entered ev b f
-  entered_from ev b d f script others ends event shared same sent fresh =
+  entered_from : (ev : Event) (b d f : Body W) → d.side.script ≡ b.side.script → d.side.others ≡ b.side.others → d.side.shares ≡ b.side.shares → d.side.ends ≡ b.side.ends → d.side.event ≡ Some ev → d.shared ≡ b.shared → Same d f → f.shared.journal ≡ d.shared.journal → event_entries b ≡ [] → Entered ev b f
+  entered_from ev b d f script others shares ends event shared same sent fresh =
       let events = same.events ∙ ap (λ (v : Shared). v.events) shared in
       let journal = sent ∙ ap (λ (v : Shared). v.journal) shared in
       record {
-        stays = stays_on b d f (record { script = script; others = others; opening = ap (λ v. v.opening) shared; fates = λ n. ap (λ v. fate_at v.store.fates n) shared }) same.stays;
+        stays = stays_on b d f (record { script = script; others = others; shares = shares; opening = ap (λ v. v.opening) shared; fates = λ n. ap (λ v. fate_at v.store.fates n) shared }) same.stays;
         ends = same.ends ∙ ends;
         now = same.event ∙ event;
         events = events;
@@ -26,7 +26,7 @@ module _ {W : Type 0} where
   pub begun_entered : (place : ℕ) (ev : Event) (b c d f : Body W) → Emptied place b c → IsOpened ev c d → Same d f → f.shared.journal ≡ d.shared.journal → event_entries b ≡ [] → Entered ev b f
   begun_entered place ev b c d f emptied opened same sent fresh =
       let is : d ≡ record b { side = record b.side { hands = c.side.hands; picks = c.side.picks; states = d.side.states; event = Some ev } } = opened.is ∙ ap (λ (v : Body W). record v { side = record v.side { states = d.side.states; event = Some ev } }) emptied.is in
-      entered_from ev b d f (ap (λ v. v.side.script) is) (ap (λ v. v.side.others) is) (ap (λ v. v.side.ends) is) (ap (λ v. v.side.event) is) (ap (λ v. v.shared) is) same sent fresh
+      entered_from ev b d f (ap (λ v. v.side.script) is) (ap (λ v. v.side.others) is) (ap (λ v. v.side.shares) is) (ap (λ v. v.side.ends) is) (ap (λ v. v.side.event) is) (ap (λ v. v.shared) is) same sent fresh
 
   -- ---- what is asked of a world before its event ends
 

@@ -75,9 +75,9 @@ module _ {W : Type 0} (wants : W → Option Request) (is_of : Setting → Actor 
       subst (λ o. AreTold q.holds.play (all_picks b.side.script b.shared.opening q.holds.play.journal q.holds.play.ends) (picks_in picks_of b.side.picks o)) (sym h.1)
       (told_in is_of running picks_of has (setting_of b) b.shared.opening q.holds.play idle b.side.picks q.holds.picks h.0 (q.holds.hands 0 Driver h.0 refl refl h.1))
 
-  pub kept_among : laws.KeptAmong b.side.script b.shared.opening (seen_by b) (picks_in picks_of b.side.picks (slice_get b.side.hands.items 0)) b.side.ends.items
+  pub kept_among : laws.KeptAmong (setting_of b) b.shared.opening (seen_by b) (picks_in picks_of b.side.picks (slice_get b.side.hands.items 0)) b.side.ends.items
   kept_among =
       let ps : List Pick = picks_in picks_of b.side.picks (slice_get b.side.hands.items 0) in
-      subst (λ es. laws.KeptAmong b.side.script b.shared.opening es ps b.side.ends.items) (sym q.holds.journal)
-      (subst (λ xs. laws.KeptAmong b.side.script b.shared.opening q.holds.play.journal ps xs) (sym q.holds.ends)
-      (kept.kept_among (setting_of b) refl b.shared.opening q.holds.play q.holds.legal q.holds.opens q.holds.happened idle ps told.first))
+      subst (λ es. laws.KeptAmong (setting_of b) b.shared.opening es ps b.side.ends.items) (sym q.holds.journal)
+      (subst (λ xs. laws.KeptAmong (setting_of b) b.shared.opening q.holds.play.journal ps xs) (sym q.holds.ends)
+      (kept.kept_among (setting_of b) b.shared.opening q.holds.play q.holds.legal q.holds.opens q.holds.happened idle ps told.first))

@@ -16,6 +16,7 @@ pub mod Frames
 pub mod Opening
 pub mod Picked
 pub mod Beginning
+pub mod Reported
 pub mod TakingUp
 pub mod Closing
 pub mod EventTurns

@@ -107,7 +107,7 @@ module _ {W : Type 0} (wants : W → Option Request) (is_of : Setting → Actor 
     }
 
     entered : Entered ev b (e b d stands_none)
-    entered = record { stays = record { script = refl; others = refl; opening = refl; fates = λ n. refl }; ends = refl; now = refl; events = refl; journal = refl; fresh = no_entries is_of running picks_of all_sound b h q.idle }
+    entered = record { stays = record { script = refl; others = refl; shares = refl; opening = refl; fates = λ n. refl }; ends = refl; now = refl; events = refl; journal = refl; fresh = no_entries is_of running picks_of all_sound b h q.idle }
 
     pub has_entered : HasRoom b → HasEntered wants is_of running picks_of ev b d
     has_entered room = subst (HasEntered wants is_of running picks_of ev b) (sym o.is) (record {

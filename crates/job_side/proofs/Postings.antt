@@ -30,7 +30,7 @@ seen_of s j = sight s.scene s.requests (λ n. Some (fate_at s.fates n)) j.entrie
 
 -- the store, the journal and the hand at a place alone change
 pub posts_around : {W : Type 0} (b : Body W) (place : ℕ) (st : LossyLink) (j : Ledger) (hs : Vec (Hand W) Global) → ((n : ℕ) → fate_at st.fates n ≡ fate_at b.shared.store.fates n) → length hs.items ≡ length b.side.hands.items → ((q : ℕ) → (q ≡ place → ⊥) → slice_get hs.items q ≡ slice_get b.side.hands.items q) → Around place b (record b { side = record b.side { hands = hs }; shared = record b.shared { store = st; journal = j } })
-posts_around b place st j hs fates places others = record { stays = record { script = refl; others = refl; opening = refl; fates = fates }; ends = refl; event = refl; events = refl; finished = refl; states = refl; places = places; hands = others }
+posts_around b place st j hs fates places others = record { stays = record { script = refl; others = refl; shares = refl; opening = refl; fates = fates }; ends = refl; event = refl; events = refl; finished = refl; states = refl; places = places; hands = others }
 
 -- as many requests were made as entries stand
 pub counted : {W : Type 0} (is_of : Setting → Actor → W → Type 0) (running : Known → W → Running) (picks_of : W → Option (List Pick)) (b : Body W) → Holds is_of running picks_of all_sound b → b.shared.store.requests ≤ length b.shared.journal.entries

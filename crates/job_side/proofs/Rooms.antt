@@ -53,7 +53,7 @@ module _ {W : Type 0} (b c : Body W) (same : IsAsBefore b c) where
 
   pub grown_roomy : (d : Body W) → Grown c d → Grown b d
   grown_roomy d grown = record {
-    stays = stays_on b c d (record { script = same.script; others = same.others; opening = ap (λ v. v.opening) same.shared; fates = λ n. ap (λ v. fate_at v.store.fates n) same.shared }) grown.stays;
+    stays = stays_on b c d (record { script = same.script; others = same.others; shares = same.shares; opening = ap (λ v. v.opening) same.shared; fates = λ n. ap (λ v. fate_at v.store.fates n) same.shared }) grown.stays;
     end = grown.end;
     ends = grown.ends ∙ ap (λ xs. xs ++ grown.end ∷ []) same.ends;
     events = grown.events ∙ ap (λ v. v.events + 1) same.shared;

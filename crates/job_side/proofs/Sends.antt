@@ -13,7 +13,7 @@ use Rattle.job_spec.specs.Eyes.{number_in}
 use Rattle.job_actor.specs.Plans.{IsPlanOf}
 use Rattle.job_steps.proofs.Actors.{same_or_not, put_here, put_other}
 use Rattle.job_steps.proofs.Parts.{take_whole}
-use Rattle.job_actor.specs.Picks.{HasPicked, is_job_commit, is_committing}
+use Rattle.job_actor.specs.Picks.{HasPicked, LeavesPicks, is_job_commit, is_committing}
 use Rattle.job_actor.specs.Works.{WorkLaws, IsAt, rise_for}
 use Rattle.job_side.specs.Holds.{Holds, HandIs, HandsAre, IsTurn, is_mine, seen_by, all_sound, is_busy_at, setting_of, hand_left}
 use Rattle.job_side.specs.Posts.{RaisedBy, raised}
@@ -23,7 +23,7 @@ use Rattle.job_side.specs.declared.body.Body.{Body}
 use Rattle.job_side.proofs.Places.{apart, driver_first, attempt_at, within, there}
 use Rattle.job_side.proofs.Seen.{eyes_more, foretold_as, foretold_last}
 use Rattle.job_side.proofs.Along.{carried, others_know}
-use Rattle.job_side.proofs.PicksStay.{LeavesPicks, same_picked, put_by_sent}
+use Rattle.job_side.proofs.PicksStay.{same_picked, put_by_sent}
 use Rattle.job_side.proofs.Finishes.{is_something, busy_is, busy_there}
 
 -- ---- scenes
@@ -117,11 +117,11 @@ module _ {W : Type 0} (wants : W → Option Request) (tells : W → Outcome → 
     commits : is_committing (h.play.running actor) ≡ is_job_commit (running (knows_now (setting_of b) h.play actor) m).operation
     commits = ap is_committing (h.hands place actor (At m) refl here hand).1.0
 
-    pub leaves : (n : ℕ) (r : Request) (o : Outcome) → wants m ≡ Some r → is_committing (h.play.running actor) ≡ false → LeavesPicks b.side.script (record { event = n; actor = actor; request = r; outcome = o })
-    leaves n r o asked c k s = works.leaves g b.shared.opening x actor m at (no_picks o_now m (sym commits ∙ c)) r asked k s n o
+    leaves : (e : Entry) → e.actor ≡ actor → MaySend (setting_of b) b.shared.opening h.play e → is_committing (h.play.running actor) ≡ false → LeavesPicks (setting_of b) b.shared.opening h.play e
+    leaves e is may c = works.leaves g b.shared.opening x actor m at (no_picks o_now m (sym commits ∙ c)) e is may
 
-    driver_leaves : (n : ℕ) (r : Request) (o : Outcome) → wants m ≡ Some r → is_committing (h.play.running Driver) ≡ false → LeavesPicks b.side.script (record { event = n; actor = actor; request = r; outcome = o })
-    driver_leaves n r o asked c = leaves n r o asked (elim (same_or_not actor Driver) [
+    driver_leaves : (e : Entry) → e.actor ≡ actor → MaySend (setting_of b) b.shared.opening h.play e → is_committing (h.play.running Driver) ≡ false → LeavesPicks (setting_of b) b.shared.opening h.play e
+    driver_leaves e is may c = leaves e is may (elim (same_or_not actor Driver) [
       | inl is ↦ ap (λ a. is_committing (x.running a)) is ∙ c
       | inr ne ↦ (carried g b.shared.opening x h.happened).whose actor ne
     ])
@@ -171,7 +171,7 @@ module _ {W : Type 0} (wants : W → Option Request) (tells : W → Outcome → 
             let not_it : a ≡ Driver → ⊥ = λ d. mine (λ s. ne (d ∙ sym s)) in
             let none : picks_of n ≡ None = no_picks (knows_now g x a) n (sym (ap is_committing i.1.0) ∙ (carried g b.shared.opening x h.happened).whose a not_it) in
             subst (HasPicked g b.shared.opening y) (sym none) tt
-        | inr c ↦ same_picked g b.shared.opening x e (leaves (length b.side.ends.items + 1) r o asked c) (picks_of n) i.1.1
+        | inr c ↦ same_picked g b.shared.opening x e (leaves e refl may c) (picks_of n) i.1.1
       ]
 
       still : (a : Actor) → (a ≡ actor → ⊥) → (happen (setting_of b) h.play (Sends (record { event = length b.side.ends.items + 1; actor = actor; request = r; outcome = o }))).running a ≡ h.play.running a
@@ -222,7 +222,7 @@ module _ {W : Type 0} (wants : W → Option Request) (tells : W → Outcome → 
               stands = h.stands;
               places = places ∙ h.places;
               hands = hands;
-              picks = put_by_sent g b.shared.opening x e b.side.picks may (driver_leaves (length b.side.ends.items + 1) r o asked) h.picks;
+              picks = put_by_sent g b.shared.opening x e b.side.picks may (driver_leaves e refl may) h.picks;
             }
           where
             at_place : (q : ℕ) (a : Actor) (v : Hand W) → sound q ≡ true → slice_get (actors b.side.script) q ≡ Some a → slice_get hs.items q ≡ Some v → q ≡ place → Here (setting_of b) b.shared.opening (happen (setting_of b) h.play (Sends (record { event = length b.side.ends.items + 1; actor = actor; request = r; outcome = o }))) a v

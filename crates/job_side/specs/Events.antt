@@ -79,6 +79,7 @@ pub record IsAsBefore {W : Type 0} (b c : Body W) : Type 0 where
   pub shared : c.shared ≡ b.shared
   pub script : c.side.script ≡ b.side.script
   pub others : c.side.others ≡ b.side.others
+  pub shares : c.side.shares ≡ b.side.shares
   pub ends : c.side.ends.items ≡ b.side.ends.items
   pub hands : c.side.hands ≡ b.side.hands
   pub picks : c.side.picks ≡ b.side.picks

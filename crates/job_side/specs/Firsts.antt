@@ -1,5 +1,5 @@
 -- A job, and what it stands on, before any event.
-use Rattle.std.specs.Prelude.{◌≡◌, ℕ, [], ◌∷◌, List, map, Option, None}
+use Rattle.std.specs.Prelude.{◌≡◌, ℕ, false, [], ◌∷◌, List, map, Option, None}
 use Rattle.job_steps.specs.Prelude.{Content, Request, Actor, Known, nothing_known, Script, IsLegal, Pick, Setting, Running, task_of, nothing_past}
 use Rattle.job_spec.specs.Prelude.{opening}
 use Rattle.job_states.specs.Stands.{Stands}
@@ -37,5 +37,6 @@ pub record IsBegun {W : Type 0} (wants : W → Option Request) (is_of : Setting 
   pub script : b.side.script ≡ w
   pub opening : b.shared.opening ≡ c
   pub others : b.side.others.items ≡ []
+  pub shares : b.side.shares ≡ false
   pub side : IsFirstSide c.minimum b.side
   pub shared : IsFirstShared b.side.script b.shared

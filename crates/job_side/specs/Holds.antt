@@ -28,9 +28,9 @@ pub record IsTurn {W : Type 0} (b : Body W) : Type 0 where
   pub mine : is_mine b.side.others.items (b.shared.events + 1) ≡ true
   pub few : b.shared.events + 1 < 2 ^ 32
 
--- what a side goes by, whose job is alone at its destination
+-- what a side goes by
 abbrev pub setting_of : {W : Type 0} → Body W → Setting
-setting_of b = record { script = b.side.script; minimum = b.shared.opening.minimum; shared = false }
+setting_of b = record { script = b.side.script; minimum = b.shared.opening.minimum; shared = b.side.shares }
 
 -- the operation ended for want of memory; of the job's commit that is told
 pub record IsLost (x : Play) (a : Actor) : Type 0 where
@@ -124,11 +124,12 @@ both_of n (e ∷ es) fs h g = (h.0, both_of n es fs h.1 g)
 pub record Stays {W : Type 0} (b c : Body W) : Type 0 where
   pub script : c.side.script ≡ b.side.script
   pub others : c.side.others ≡ b.side.others
+  pub shares : c.side.shares ≡ b.side.shares
   pub opening : c.shared.opening ≡ b.shared.opening
   pub fates : (n : ℕ) → fate_at c.shared.store.fates n ≡ fate_at b.shared.store.fates n
 
 abbrev pub stays_on : {W : Type 0} (a b c : Body W) → Stays a b → Stays b c → Stays a c
-stays_on a b c f g = record { script = g.script ∙ f.script; others = g.others ∙ f.others; opening = g.opening ∙ f.opening; fates = λ n. g.fates n ∙ f.fates n }
+stays_on a b c f g = record { script = g.script ∙ f.script; others = g.others ∙ f.others; shares = g.shares ∙ f.shares; opening = g.opening ∙ f.opening; fates = λ n. g.fates n ∙ f.fates n }
 
 -- what no turn changes
 pub record Same {W : Type 0} (b c : Body W) : Type 0 where
@@ -143,7 +144,7 @@ pub record Same {W : Type 0} (b c : Body W) : Type 0 where
 -- what no turn changes stays so through any turns
 abbrev pub same_laws : {W : Type 0} → KeepsLaws (Same {W = W})
 same_laws = record {
-  self = λ b. record { stays = record { script = refl; others = refl; opening = refl; fates = λ n. refl }; ends = refl; event = refl; events = refl; places = refl; more = ([], sym (append-nil b.shared.journal.entries), tt) };
+  self = λ b. record { stays = record { script = refl; others = refl; shares = refl; opening = refl; fates = λ n. refl }; ends = refl; event = refl; events = refl; places = refl; more = ([], sym (append-nil b.shared.journal.entries), tt) };
   chain = λ a b c f g. record {
     stays = stays_on a b c f.stays g.stays;
     ends = g.ends ∙ f.ends;

@@ -1,4 +1,5 @@
 pub mod Sending
+pub mod Reporting
 pub mod Holds
 pub mod Posts
 pub mod Events

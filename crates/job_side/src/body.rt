@@ -12,6 +12,8 @@ pub struct Side<W> {
     pub script: Script,
     /// The numbers of those of the run's events that are not the job's.
     pub others: Vec<u32>,
+    /// Whether another job shares the destination.
+    pub shares: bool,
     pub states: States,
     pub hands: Vec<Hand<W>>,
     pub ends: Vec<EventEnd>,

@@ -16,7 +16,7 @@ ghost use Rattle.job_side.specs.Events.{Next, Refuses, IsFine, HasRoom, end_of, 
 
 use crate::body::Body;
 use crate::hands::Hand;
-use job_actor::{Plan, Works};
+use job_actor::{Plan, Reported, Works};
 use job_model::{ActorEnd, Event, EventEnd, EventFault, Op, TaskSet};
 use job_plans::job_plan;
 use job_states::place_of;
@@ -134,34 +134,15 @@ impl<W: Works> Body<W> {
         }
     }
 
-    /// The tasks that are reported, where the job's commit begins.
-    fn reported_for(&self, op: Op) -> Result<TaskSet, AllocError>
-        ensures { (p : Past) (k : Known) → Stands self.now.side.script self.now.side.states p
-            → IfOk result (λ set. start_of (setting_of self.now) Driver op
-            (of_tasks (least_missing self.now.side.script.tasks set)) k ≡
-            start_of (setting_of self.now) Driver op (reports self.now.side.script p.reported) k) }
-    {
-        match op {
-            Op::Commit => self.side.states.reported(self.shared.alloc),
-            _ => Ok(TaskSet::new(self.shared.alloc)),
-        }
-    }
-
     /// The driver's operation, by the job's plan, which is made anew.
     fn driver_work(&self, op: Op) -> Result<W, AllocError>
         requires legal { IsLegal self.now.side.script }
         requires op { HasOp Driver op }
         ensures { IfOk result (IsWork W.is_of W.running W.picks_of self.now Driver op) }
     {
-        let reported = self.reported_for(op)?;
+        let told = self.told(op)?;
         let plan = job_plan(&self.side.script)?;
-        W::begin(
-            self.shared.alloc,
-            Plan::Job(plan),
-            Actor::Driver,
-            op,
-            &reported,
-        )
+        W::begin(self.shared.alloc, Plan::Job(plan), Actor::Driver, op, told)
     }
 
     /// An attempt's operation, by its plan.
@@ -172,8 +153,8 @@ impl<W: Works> Body<W> {
         requires plan { IsPlanOf (setting_of self.now) actor (knows_of self.now actor) plan }
         ensures { IfOk result (IsWork W.is_of W.running W.picks_of self.now actor op) }
     {
-        let none = TaskSet::new(self.shared.alloc);
-        W::begin(self.shared.alloc, plan, actor, op, &none)
+        let none = self.untold();
+        W::begin(self.shared.alloc, plan, actor, op, none)
     }
 
     /// An operation that has nothing to send ends. Says whether it goes on.
@@ -381,7 +362,7 @@ impl<W: Works> Body<W> {
     /// What holds of a job between its events, whoever else sends between them. Does nothing.
     pub fn keeps(&self)
         requires { Quiet W.wants W.is_of W.running W.picks_of self.now }
-        ensures { KeptAmong self.now.side.script self.now.shared.opening (seen_by self.now)
+        ensures { KeptAmong (setting_of self.now) self.now.shared.opening (seen_by self.now)
             (picks_in W.picks_of self.now.side.picks (slice_get self.now.side.hands.items 0)) self.now.side.ends.items }
     {
         W::laws();

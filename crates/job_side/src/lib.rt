@@ -7,7 +7,8 @@
 //! script's next event: whatever was lost and wherever memory ran out, all that happened was allowed
 //! (`Quiet`), the event has its end and each entry that it sent has its number in the run (`Grown`); or
 //! nothing but room was taken (`IsAsBefore`). All is told in the side's eyes, in which what another's event
-//! sends is a stranger's. `keeps`: between its events what no stranger breaks holds of the job (`KeptAmong`).
+//! sends is a stranger's. Where the destination is shared the driver begins its commit by what the reported
+//! attempts wrote (`IsTold`). `keeps`: between its events what no stranger breaks holds of the job (`KeptAmong`).
 //! `beside`: an event of another that sends what is foreign to the job leaves that (`RestsBeside`).
 #![tactic(auto)]
 
@@ -15,6 +16,7 @@ mod body;
 mod events;
 mod hands;
 mod picks;
+mod reporting;
 mod sending;
 mod starting;
 mod turning;

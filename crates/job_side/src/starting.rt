@@ -51,18 +51,20 @@ fn first_store(alloc: Global, script: &Script, service: &Service) -> Result<Loss
 }
 
 impl<W: Drop> Side<W> {
-    /// No event of the script has happened yet; those of the run with these numbers are to be another's. The
-    /// minimum is the store's, in bytes. AllocError comes where memory ran out alone.
+    /// No event of the script has happened yet; those of the run with these numbers are to be another's, who may
+    /// share the destination. The minimum is the store's, in bytes. AllocError comes where memory ran out alone.
     pub fn new(
         alloc: Global,
         script: Script,
         others: Vec<u32>,
+        shares: bool,
         minimum: u64,
     ) -> Result<Side<W>, AllocError>
         requires some { 1 ≤ minimum }
         requires most { minimum ≤ MOST_MINIMUM }
         ensures script { IfOk result (λ side. side.script ≡ script) }
         ensures others { IfOk result (λ side. side.others.items ≡ others.items) }
+        ensures shares { IfOk result (λ side. side.shares ≡ shares) }
         ensures first { IfOk result (IsFirstSide minimum) }
     {
         let hands = first_hands(alloc, &script, minimum)?;
@@ -70,6 +72,7 @@ impl<W: Drop> Side<W> {
         Ok(Side {
             script,
             others,
+            shares,
             states,
             hands,
             ends: Vec::new(alloc),
@@ -107,7 +110,7 @@ impl<W: Works> Body<W> {
         requires few { service.next ≤ 2 ^ 62 }
         ensures { IfOk result (IsBegun W.wants W.is_of W.running W.picks_of script service) }
     {
-        let side = Side::new(alloc, script, Vec::new(alloc), service.minimum())?;
+        let side = Side::new(alloc, script, Vec::new(alloc), false, service.minimum())?;
         let shared = Shared::new(alloc, &side.script, service)?;
         Ok(Body { side, shared })
     }

@@ -73,7 +73,7 @@ module _ {W : Type 0} (wants : W → Option Request) (is_of : Setting → Actor 
         let ps : List Pick = picks_in picks_of b.side.picks (slice_get b.side.hands.items 0) in
         subst (λ es. Promised b.side.script b.shared.opening es ps b.side.ends.items) (sym journal_is)
         (subst (λ xs. Promised b.side.script b.shared.opening play.journal ps xs) (sym q.holds.ends)
-        (runs_are_kept (setting_of b) refl b.shared.opening play q.holds.legal q.holds.opens q.holds.happened idle ps told.first))
+        (runs_are_kept (setting_of b) r.alone.shares b.shared.opening play q.holds.legal q.holds.opens q.holds.happened idle ps told.first))
 
     sent : Sent b.side.script b.shared.opening b.shared.journal.entries
     sent = record {
@@ -127,6 +127,7 @@ module _ {W : Type 0} (picks_of : W → Option (List Pick)) (b c : Body W) where
   pub still_alone : IsAlone b → Grown b c → IsAlone c
   still_alone a g = record {
     others = ap (λ v. v.items) g.stays.others ∙ a.others;
+    shares = g.stays.shares ∙ a.shares;
     own = subst AreOwn (sym g.more.1) (own_more (b.shared.events + 1) b.shared.journal.entries g.more.0 a.own g.more.2);
     fates = λ n. g.stays.fates n ∙ a.fates n ∙ ap (λ (w : Script). fate_at w.fates n) (sym g.stays.script);
   }
@@ -134,6 +135,7 @@ module _ {W : Type 0} (picks_of : W → Option (List Pick)) (b c : Body W) where
   pub alone_before : IsAlone b → IsAsBefore b c → IsAlone c
   alone_before a h = record {
     others = ap (λ v. v.items) h.others ∙ a.others;
+    shares = h.shares ∙ a.shares;
     own = subst (λ (v : Shared). AreOwn v.journal.entries) (sym h.shared) a.own;
     fates = λ n. ap (λ (v : Shared). fate_at v.store.fates n) h.shared ∙ a.fates n ∙ ap (λ (w : Script). fate_at w.fates n) (sym h.script);
   }
@@ -156,5 +158,5 @@ seen picks_of w c b script opening side shared =
     ∙ ap (λ ps. run_with w c [] ps b.side.ends.items) (hand ∙ side.picks)
     ∙ ap (run_with w c [] []) side.ends
 
-pub first_alone : {W : Type 0} (b : Body W) → b.side.others.items ≡ [] → IsFirstShared b.side.script b.shared → IsAlone b
-first_alone b others shared = record { others = others; own = subst AreOwn (sym shared.journal) tt; fates = λ n. ap (λ s. fate_at s.fates n) shared.store }
+pub first_alone : {W : Type 0} (b : Body W) → b.side.others.items ≡ [] → b.side.shares ≡ false → IsFirstShared b.side.script b.shared → IsAlone b
+first_alone b others shares shared = record { others = others; shares = shares; own = subst AreOwn (sym shared.journal) tt; fates = λ n. ap (λ s. fate_at s.fates n) shared.store }

@@ -1,12 +1,13 @@
 -- A side that nobody else stands beside.
-use Rattle.std.specs.Prelude.{◌≡◌, ℕ, List, [], Option}
+use Rattle.std.specs.Prelude.{◌≡◌, ℕ, false, List, [], Option}
 use Rattle.job_steps.specs.Prelude.{fate_at, Request, Actor, Known, Pick, Setting, Running, AreOwn}
 use Rattle.job_side.specs.Holds.{Quiet}
 use Rattle.job_side.specs.declared.body.Body.{Body}
 
--- all events and all entries are the job's own, and the sendings have the fates that its script names
+-- all events and all entries are the job's own, no other job shares the destination, and the sendings have the fates that its script names
 pub record IsAlone {W : Type 0} (b : Body W) : Type 0 where
   pub others : b.side.others.items ≡ []
+  pub shares : b.side.shares ≡ false
   pub own : AreOwn b.shared.journal.entries
   pub fates : (n : ℕ) → fate_at b.shared.store.fates n ≡ fate_at b.side.script.fates n
 

@@ -1,6 +1,6 @@
 -- What is seen and told of each side by events, and so what readers are shown at each moment.
 use Rattle.std.proofs.Common.{◌≡◌, ℕ, ◌≤◌, List, map, take, length, sym, ap, subst, ◌∙◌}
-use Rattle.job_facts.specs.Prelude.{Content, Setting, Seen, Told, see_all, nothing_seen, nothing_told, tell_all, Times}
+use Rattle.job_facts.specs.Prelude.{HasBucket, Content, Setting, Seen, Told, see_all, nothing_seen, nothing_told, tell_all, Times}
 use Rattle.job_traces.specs.Runs.{Stand}
 use Rattle.job_traces.proofs.EveryRun.{cleans_is}
 use Rattle.job_traces.proofs.Entries.{sees, tells_so}
@@ -20,16 +20,16 @@ module _ (g h : Setting) (m : MayBeTwins g.script h.script) (k l : Times) (openi
       )
 
   -- and so at each moment
-  pub always : (es : List TwinEntry) (x y : Stand) → TwinRun g h k l opening es x y → (n : ℕ) → n ≤ length es → AtMoment g.script h.script k l opening es n
-  always es x y run n few =
+  pub always : (es : List TwinEntry) (x y : Stand) → TwinRun g h k l opening es x y → HasBucket opening g.script.dest.bucket → (n : ℕ) → n ≤ length es → AtMoment g.script h.script k l opening es n
+  always es x y run stood n few =
       let r = moments g h k l opening es x y run n few in
-      let keep = twins_keep g h m k l opening is (take n es) r.0 r.1 r.2 in
+      let keep = (twins_keep g h m k l opening is (take n es) r.0 r.1 r.2).shown stood in
       let both = said (take n es) r.0 r.1 r.2 in
       let a = (both.0).seen in
       let b = (both.1).seen in
       let others : Seen = seen_twin h.script l Second opening es n in
       record {
         shows = subst (λ s. Shows g.script h.script opening s.scene.content s others) a (subst (λ q. Shows g.script h.script opening (r.0).seen.scene.content (r.0).seen q) b keep.shows);
-        first = λ z. subst (λ s. Marked g.script h.script s.scene.content s.picks others.picks) a (subst (λ q. Marked g.script h.script (r.0).seen.scene.content (r.0).seen.picks q.picks) b (keep.marked_first z));
-        second = λ z. subst (λ s. Marked h.script g.script others.scene.content others.picks s.picks) a (subst (λ q. Marked h.script g.script q.scene.content q.picks (r.0).seen.picks) b (keep.marked_second z));
+        first = λ z. subst (λ s. Marked g.script h.script s.scene.content s.picks others.picks) a (subst (λ q. Marked g.script h.script (r.0).seen.scene.content (r.0).seen.picks q.picks) b (keep.first z));
+        second = λ z. subst (λ s. Marked h.script g.script others.scene.content others.picks s.picks) a (subst (λ q. Marked h.script g.script q.scene.content q.picks (r.0).seen.picks) b (keep.second z));
       }

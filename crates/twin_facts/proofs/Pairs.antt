@@ -1,8 +1,11 @@
 -- Of two sides at one destination the facts of both are kept by each step of either, and no upload is drawn by both.
-use Rattle.std.proofs.Common.{◌≡◌, ℕ, ◌<◌, ◌≤◌, ◌⊎◌, inl, inr, ◌&&◌, ◌||◌, nat_le, nat_lt, Bool, true, false, List, [], ◌∷◌, ◌++◌, Option, Some, None, refl, sym, ap, subst, ◌∙◌, arith}
+use Rattle.std.proofs.Common.{◌≡◌, ℕ, ◌+◌, cond, ◌<◌, ◌≤◌, ◌⊎◌, inl, inr, ◌&&◌, ◌||◌, nat_le, nat_lt, Bool, true, false, List, [], ◌∷◌, ◌++◌, Option, Some, None, refl, sym, ap, subst, ◌∙◌, arith}
 use Rattle.job_spec.proofs.Common.{and_parts, nat_tests, none_some, false_true}
 use Rattle.job_facts.specs.Prelude.{Content, Scene, effect, Driver, Request, Outcome, Answered, Slow, RequestLost, ReplyLost, Entry, Script, IsLegal, setup_asks, Setting, Operation, TheSetup, TheCommit, TheClean, TheCheck, TheSparing, asks, who, strange_entry, HasBucket, IsKnown, IsForeign, Times}
 use Rattle.job_protocol.specs.Prelude.{Path}
+use Rattle.std.specs.FinMap as fin
+use Rattle.store_frame.specs.Prelude.{BucketContent, MakeBucket, ClusterPut, ClusterRename, ClusterGet, ClusterDelete, ClusterList, apply, apply_at, bucket_of, draws, is_bucket}
+use Rattle.s3_types.specs.Answer.{made}
 use Rattle.store_frame.proofs.Framed.{frame}
 use Rattle.job_facts.proofs.Learning.{learnt}
 use Rattle.job_traces.specs.Runs.{Stand, nothing_learnt, Runs, actor_begins, strays, Beginning, MayBegin, begin, IsOpening}
@@ -26,11 +29,34 @@ effect_there s n r Slow h = h
 effect_there s n r RequestLost h = h
 effect_there s n r ReplyLost h = (frame s n r h).there h.0 h.1
 
-pub effect_later : (s : Scene) (n : List ℕ) (r : Request) (o : Outcome) → HasBucket s.content n → s.content.next ≤ (effect s r o).content.next
-effect_later s n r (Answered y) h = (frame s n r h).later
-effect_later s n r Slow h = omega arith
-effect_later s n r RequestLost h = omega arith
-effect_later s n r ReplyLost h = (frame s n r h).later
+apply_later : (s : Scene) (r : Request) → s.content.next ≤ (apply s r).content.next
+apply_later s (MakeBucket q) = by (fin.get s.content.buckets q) (is_bucket q) refl
+  where
+    by : (o : Option BucketContent) (t : Bool) → is_bucket q ≡ t → s.content.next ≤ (made s.content q o).next
+    by (Some b) t e = omega arith
+    by None true e = rw e (omega arith)
+    by None false e = rw e (omega arith)
+apply_later s (ClusterPut path bytes) = omega arith
+apply_later s (ClusterRename source target) = omega arith
+apply_later s (ClusterGet path) = omega arith
+apply_later s (ClusterDelete path) = omega arith
+apply_later s (ClusterList p) = omega arith
+apply_later s r = by (fin.get s.content.buckets (bucket_of r))
+  where
+    rises : (t : Bool) (n : ℕ) → n ≤ cond t (n + 1) n
+    rises true n = omega arith
+    rises false n = omega arith
+
+    by : (o : Option BucketContent) → s.content.next ≤ (apply_at o s.content r).next
+    by None = omega arith
+    by (Some b) = rises (draws r) s.content.next
+
+-- the counter never falls
+pub effect_later : (s : Scene) (r : Request) (o : Outcome) → s.content.next ≤ (effect s r o).content.next
+effect_later s r (Answered y) = apply_later s r
+effect_later s r Slow = omega arith
+effect_later s r RequestLost = omega arith
+effect_later s r ReplyLost = apply_later s r
 
 -- ---- a side's steps
 
@@ -88,7 +114,7 @@ pub record Pair (g h : Setting) (k l : Times) (opening : Content) (fs gs : List 
   pub first : Runs g k opening fs x
   pub second : Runs h l opening gs y
   pub scenes : x.seen.scene ≡ y.seen.scene
-  pub there : HasBucket x.seen.scene.content g.script.dest.bucket
+  pub there : HasBucket opening g.script.dest.bucket → HasBucket x.seen.scene.content g.script.dest.bucket
   pub low_first : (id : ℕ) → d id ≡ true → id < x.seen.scene.content.next
   pub low_second : (id : ℕ) → e id ≡ true → id < y.seen.scene.content.next
   pub known_first : (id : ℕ) → IsKnown x.told.drawn id → d id ≡ true
@@ -103,11 +129,11 @@ pub swap_twins : {v w : Script} → AreTwins v w → AreTwins w v
 swap_twins t = record { dest = sym t.dest; jobs = λ e. t.jobs (sym e) }
 
 pub swapped : {g h : Setting} {k l : Times} {opening : Content} {fs gs : List Entry} {d e : Ids} {x y : Stand} → AreTwins g.script h.script → Pair g h k l opening fs gs d e x y → Pair h g l k opening gs fs e d y x
-swapped {g = g} {x = x} {y = y} t p = record {
+swapped {g = g} {opening = opening} {x = x} {y = y} t p = record {
   first = p.second;
   second = p.first;
   scenes = sym p.scenes;
-  there = subst (λ (d : Path). HasBucket y.seen.scene.content d.bucket) t.dest (subst (λ (s : Scene). HasBucket s.content g.script.dest.bucket) p.scenes p.there);
+  there = λ stood. subst (λ (d : Path). HasBucket y.seen.scene.content d.bucket) t.dest (subst (λ (s : Scene). HasBucket s.content g.script.dest.bucket) p.scenes (p.there (subst (λ (d : Path). HasBucket opening d.bucket) (sym t.dest) stood)));
   low_first = p.low_second;
   low_second = p.low_first;
   known_first = p.known_second;
@@ -144,14 +170,11 @@ module _ {g h : Setting} (m : MayBeTwins g.script h.script) (shared : g.shared �
   pub foreign : IsForeign h.script y.told.drawn r
   foreign = stranger_foreign h.script y.told.drawn d2 p.known_second r strange
 
-  there_second : HasBucket y.seen.scene.content h.script.dest.bucket
-  there_second = (swapped m.twins p).there
-
   at : z.seen.scene ≡ effect x.seen.scene r o
   at = sends_scene g m.first shared k opening is x z e sends
 
   later : x.seen.scene.content.next ≤ z.seen.scene.content.next
-  later = subst (λ (s : Scene). x.seen.scene.content.next ≤ s.content.next) (sym at) (effect_later x.seen.scene g.script.dest.bucket r o p.there)
+  later = subst (λ (s : Scene). x.seen.scene.content.next ≤ s.content.next) (sym at) (effect_later x.seen.scene r o)
 
   new_id : (id : ℕ) → d3 id ≡ true → (d1 id ≡ true) ⊎ ((x.seen.scene.content.next ≤ id) × (id < z.seen.scene.content.next))
   new_id id d = by (d1 id) refl d
@@ -188,14 +211,14 @@ module _ {g h : Setting} (m : MayBeTwins g.script h.script) (shared : g.shared �
       lt_true a b h = grind (arith, nat_tests)
 
   low_still : (id : ℕ) → id < y.seen.scene.content.next → id < (effect y.seen.scene r o).content.next
-  low_still id a = let b = effect_later y.seen.scene h.script.dest.bucket r o there_second in omega arith
+  low_still id a = let b = effect_later y.seen.scene r o in omega arith
 
   pub paired : Pair g h k l opening (fs ++ e ∷ []) (gs ++ strange_entry n r o ∷ []) d3 d2 z (observed h l y n e)
   paired = record {
     first = goes_on g k opening fs x z e p.first sends;
     second = strays gs y n r o p.second foreign;
     scenes = at ∙ ap (λ s. effect s r o) p.scenes;
-    there = subst (λ (s : Scene). HasBucket s.content g.script.dest.bucket) (sym at) (effect_there x.seen.scene g.script.dest.bucket r o p.there);
+    there = λ stood. subst (λ (s : Scene). HasBucket s.content g.script.dest.bucket) (sym at) (effect_there x.seen.scene g.script.dest.bucket r o (p.there stood));
     low_first = λ id d. elim (new_id id d) [ inl old ↦ (let a = p.low_first id old in let b = later in omega arith) | inr new ↦ new.1 ];
     low_second = λ id d. low_still id (p.low_second id d);
     known_first = λ id d. elim (sends_known g m.first shared k opening is fs x z e sends p.first id d) [ inl old ↦ old_id id (p.known_first id old) | inr new ↦ just_drawn id new.0 new.1 ];

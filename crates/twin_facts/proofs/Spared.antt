@@ -134,7 +134,7 @@ module _ (g : Setting) (j : IsLegal g.script) (shared : g.shared ≡ true) (k : 
             driver = refl;
             stage = y.0;
             leaving = subst (λ s. Leaving w first s (step w.retries (sparing_after w) q o).operation) (sym now) y.1;
-            later = subst (λ (s : Scene). first.content.next ≤ s.content.next) (sym now) (later_next x.later (effect_later u.seen.scene w.dest.bucket r o there));
+            later = subst (λ (s : Scene). first.content.next ≤ s.content.next) (sym now) (later_next x.later (effect_later u.seen.scene r o));
             few = inr (below_next x.later few);
             dead = λ id q. subst (λ s. Dead w s id) (sym now) (stays_gone w u.seen.scene there id r o (x.dead id q));
           }
@@ -157,7 +157,7 @@ module _ (g : Setting) (j : IsLegal g.script) (shared : g.shared ≡ true) (k : 
         driver = o.driver;
         stage = o.stage;
         leaving = leaving_alone w first a.seen.scene (effect a.seen.scene r outcome) (strange_alone a.seen.scene there a r outcome f) o.at.operation o.leaving;
-        later = later_next o.later (effect_later a.seen.scene w.dest.bucket r outcome there);
+        later = later_next o.later (effect_later a.seen.scene r outcome);
         few = o.few;
         dead = λ id q. stays_gone w a.seen.scene there id r outcome (o.dead id q);
       }

@@ -1,6 +1,6 @@
 -- All runs of two jobs at one destination.
 use Rattle.std.proofs.Common.{◌≡◌, ℕ, zero, suc, ◌+◌, ◌<◌, ◌≤◌, ◌⊎◌, inl, inr, ◌&&◌, ◌||◌, Bool, true, false, cond, List, [], ◌∷◌, ◌++◌, map, take, length, Option, Some, refl, sym, ap, subst, ◌∙◌, arith, length-append}
-use Rattle.job_facts.specs.Prelude.{list_any, text_eq, Content, Scene, Upload, nothing_seen, bucket_of, effect, is_effective, Request, Entry, success_key, Who, Script, Setting, is_driver, is_marking, IsIn, changed_keys, at_id, Times}
+use Rattle.job_facts.specs.Prelude.{HasBucket, list_any, text_eq, Content, Scene, Upload, nothing_seen, bucket_of, effect, is_effective, Request, Entry, success_key, Who, Script, Setting, is_driver, is_marking, IsIn, changed_keys, at_id, Times}
 use Rattle.job_spec.proofs.Common.{and_parts, take-append-le, take_all, false_true, text_true}
 use Rattle.job_protocol.specs.Prelude.{Path}
 use Rattle.job_spec.specs.Scope.{upload_at}
@@ -85,7 +85,7 @@ drew_more side s (x ∷ es) t id =
 pub record All (g h : Setting) (k l : Times) (opening : Content) (es : List TwinEntry) (x y : Stand) : Type 0 where
   pub pair : Pair g h k l opening (eyes First es) (eyes Second es) (drew First opening es) (drew Second opening es) x y
   pub scene : scene_of (nothing_seen opening).scene es ≡ x.seen.scene
-  pub views : Views g h g.script.dest opening x.seen.scene.content x y (is_marked_by g.script First false es) (is_marked_by h.script Second false es)
+  pub views : HasBucket opening g.script.dest.bucket → Views g h g.script.dest opening x.seen.scene.content x y (is_marked_by g.script First false es) (is_marked_by h.script Second false es)
 
 module _ (g h : Setting) (m : MayBeTwins g.script h.script) (k l : Times) (opening : Content) (is : IsTwinOpening g h opening) where
   pub opens_first : IsOpening g opening
@@ -103,7 +103,7 @@ module _ (g h : Setting) (m : MayBeTwins g.script h.script) (k l : Times) (openi
       first = run_begins;
       second = run_begins;
       scenes = refl;
-      there = is.there;
+      there = λ stood. stood;
       low_first = λ id e. absurd (false_true refl e);
       low_second = λ id e. absurd (false_true refl e);
       known_first = λ id e. absurd e.2;
@@ -111,7 +111,7 @@ module _ (g h : Setting) (m : MayBeTwins g.script h.script) (k l : Times) (openi
       apart = λ id e. refl;
     };
     scene = refl;
-    views = record {
+    views = λ stood. record {
       one = λ q path. inl refl;
       mine = record { unpicked = λ b t. refl; stood = λ e. absurd (false_true refl e); files = λ p e. absurd cc; says = λ e. absurd (false_true refl e) };
       others = record { unpicked = λ b t. refl; stood = λ e. absurd (false_true refl e); files = λ p e. absurd cc; says = λ e. absurd (false_true refl e) };
@@ -152,14 +152,14 @@ module _ (g h : Setting) (m : MayBeTwins g.script h.script) (k l : Times) (openi
   first_begin_so es x y b a may = record {
     pair = paired_begin b may a.pair;
     scene = a.scene;
-    views = begins_views g h k opening m.first opens_first (eyes First es) g.script.dest opening x.seen.scene.content x y (one es) (two es) b may a.pair.first a.views;
+    views = λ stood. begins_views g h k opening m.first opens_first (eyes First es) g.script.dest opening x.seen.scene.content x y (one es) (two es) b may a.pair.first (a.views stood);
   }
 
   second_begin_so : (es : List TwinEntry) (x y : Stand) (b : Beginning) → All g h k l opening es x y → MayBegin h y b → All g h k l opening es x (begin h y b)
   second_begin_so es x y b a may = record {
     pair = swapped (swap_twins m.twins) (paired_begin b may (swapped m.twins a.pair));
     scene = a.scene;
-    views = back y.seen.scene (one es) (two es) a.pair.scenes (begins_views h g l opening m.second opens_second (eyes Second es) h.script.dest opening y.seen.scene.content y x (two es) (one es) b may a.pair.second (flipped (one es) (two es) a.pair.scenes a.views));
+    views = λ stood. back y.seen.scene (one es) (two es) a.pair.scenes (begins_views h g l opening m.second opens_second (eyes Second es) h.script.dest opening y.seen.scene.content y x (two es) (one es) b may a.pair.second (flipped (one es) (two es) a.pair.scenes (a.views stood)));
   }
 
   -- what is drawn
@@ -180,11 +180,11 @@ module _ (g h : Setting) (m : MayBeTwins g.script h.script) (k l : Times) (openi
       record {
         pair = pair_so (sym (eyes_more First es (by_first e n))) (sym (eyes_more Second es (by_first e n))) (drew_own First refl es x.seen.scene a.scene e n) (drew_not Second First refl es e n) (paired m is.shared_first k l opens_first e n sends a.pair);
         scene = scene_more (nothing_seen opening).scene es (by_first e n) ∙ ap (λ s. effect s e.request e.outcome) a.scene ∙ sym at;
-        views = subst (λ (s : Scene). Views g h g.script.dest opening s.content z (observed h l y n e) (one (es ++ by_first e n ∷ [])) (two (es ++ by_first e n ∷ []))) (sym at)
-            (entry_views g h m.first opening x y z e (sends_leaves g m.first is.shared_first k opening opens_first m.keeps_first (eyes First es) x z e sends a.pair.first) a.pair.there l n (one es) (two es) (one (es ++ by_first e n ∷ [])) (two (es ++ by_first e n ∷ []))
+        views = λ stood. subst (λ (s : Scene). Views g h g.script.dest opening s.content z (observed h l y n e) (one (es ++ by_first e n ∷ [])) (two (es ++ by_first e n ∷ []))) (sym at)
+            (entry_views g h m.first opening x y z e (sends_leaves g m.first is.shared_first k opening opens_first m.keeps_first (eyes First es) x z e sends a.pair.first) (a.pair.there stood) l n (one es) (two es) (one (es ++ by_first e n ∷ [])) (two (es ++ by_first e n ∷ []))
             (λ t. own_marks g.script First refl (one es) e n (sym now ∙ t))
             (λ t. let o = other_marks h.script Second First refl (two es) e n (sym then ∙ t) in (o.0, λ took. not_touched e.request (o.1 took)))
-            a.views);
+            (a.views stood));
       }
 
   second_send_so : (es : List TwinEntry) (x y z : Stand) (e : Entry) (n : ℕ) → All g h k l opening es x y → Sends h l y e z → All g h k l opening (es ++ by_second e n ∷ []) (observed g k x n e) z
@@ -196,11 +196,11 @@ module _ (g h : Setting) (m : MayBeTwins g.script h.script) (k l : Times) (openi
         pair = pair_so (sym (eyes_more First es (by_second e n))) (sym (eyes_more Second es (by_second e n))) (drew_not First Second refl es e n) (drew_own Second refl es y.seen.scene (a.scene ∙ a.pair.scenes) e n)
             (swapped (swap_twins m.twins) (paired turned_twins is.shared_second l k opens_second e n sends p));
         scene = scene_more (nothing_seen opening).scene es (by_second e n) ∙ ap (λ s. effect s e.request e.outcome) a.scene;
-        views = back (effect y.seen.scene e.request e.outcome) (one (es ++ by_second e n ∷ [])) (two (es ++ by_second e n ∷ [])) (ap (λ s. effect s e.request e.outcome) a.pair.scenes)
-            (entry_views h g m.second opening y x z e (sends_leaves h m.second is.shared_second l opening opens_second m.keeps_second (eyes Second es) y z e sends a.pair.second) p.there k n (two es) (one es) (two (es ++ by_second e n ∷ [])) (one (es ++ by_second e n ∷ []))
+        views = λ stood. back (effect y.seen.scene e.request e.outcome) (one (es ++ by_second e n ∷ [])) (two (es ++ by_second e n ∷ [])) (ap (λ s. effect s e.request e.outcome) a.pair.scenes)
+            (entry_views h g m.second opening y x z e (sends_leaves h m.second is.shared_second l opening opens_second m.keeps_second (eyes Second es) y z e sends a.pair.second) (p.there (subst (λ (d : Path). HasBucket opening d.bucket) m.twins.dest stood)) k n (two es) (one es) (two (es ++ by_second e n ∷ [])) (one (es ++ by_second e n ∷ []))
             (λ t. own_marks h.script Second refl (two es) e n (sym now ∙ t))
             (λ t. let o = other_marks g.script First Second refl (one es) e n (sym then ∙ t) in (o.0, λ took. not_touched_back e.request (o.1 took)))
-            (flipped (one es) (two es) a.pair.scenes a.views));
+            (flipped (one es) (two es) a.pair.scenes (a.views stood)));
       }
 
   pub all_so : (es : List TwinEntry) (x y : Stand) → TwinRun g h k l opening es x y → All g h k l opening es x y
@@ -213,7 +213,6 @@ module _ (g h : Setting) (m : MayBeTwins g.script h.script) (k l : Times) (openi
   pub twins_keep : (es : List TwinEntry) (x y : Stand) → TwinRun g h k l opening es x y → TwinsKeep g h k l opening es x y
   twins_keep es x y run =
       let a = all_so es x y run in
-      let other = flipped (one es) (two es) a.pair.scenes a.views in
       record {
         first = λ set. (late_now g k opening m.first opens_first (eyes First es) x a.pair.first set).hold;
         second = λ set. (late_now h l opening m.second opens_second (eyes Second es) y a.pair.second set).hold;
@@ -223,9 +222,14 @@ module _ (g h : Setting) (m : MayBeTwins g.script h.script) (k l : Times) (openi
         strange_first = λ e z sends. strange m is.shared_first k l opens_first e 0 sends a.pair;
         strange_second = λ e z sends. strange turned_twins is.shared_second l k opens_second e 0 sends (swapped m.twins a.pair);
         one_scene = a.pair.scenes;
-        shows = record { only = views_only a.views; kept = views_kept a.views };
-        marked_first = λ t. let v = views_marked a.views m.first t in record { picked = v.0; apart = v.1; files = v.2; mark = v.3 };
-        marked_second = λ t. let v = views_marked other m.second t in record { picked = v.0; apart = v.1; files = v.2; mark = v.3 };
+        shown = λ stood.
+            let views = a.views stood in
+            let other = flipped (one es) (two es) a.pair.scenes views in
+            record {
+              shows = record { only = views_only views; kept = views_kept views };
+              first = λ t. let v = views_marked views m.first t in record { picked = v.0; apart = v.1; files = v.2; mark = v.3 };
+              second = λ t. let v = views_marked other m.second t in record { picked = v.0; apart = v.1; files = v.2; mark = v.3 };
+            };
       }
 
 -- ---- moments

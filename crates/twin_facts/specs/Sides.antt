@@ -1,6 +1,6 @@
 -- Runs of two jobs at one destination, request by request, in any order of their actors. An operation may also stop at any time.
 use Rattle.std.specs.Prelude.{◌≡◌, ℕ, ◌<◌, ◌≤◌, ◌^◌, ◌||◌, ◌&&◌, nat_le, nat_lt, Bool, true, false, cond, List, [], ◌∷◌, ◌++◌, map, Some}
-use Rattle.job_facts.specs.Prelude.{Content, Scene, Upload, answer, effect, IsHonestOutcome, Driver, Request, Outcome, Entry, HasBucket, Who, Setting, Operation, who, asks, tells, nothing_seen, known, entry, driver_entry, strange_entry, at_id, Times}
+use Rattle.job_facts.specs.Prelude.{Content, Scene, Upload, answer, effect, IsHonestOutcome, Driver, Request, Outcome, Entry, Who, Setting, Operation, who, asks, tells, nothing_seen, known, entry, driver_entry, strange_entry, at_id, Times}
 use Rattle.job_traces.specs.Runs.{Stand, first_stand, with_attempt, with_driver, with_commit, saw, commit_with, is_set, IsTimely, nothing_learnt, Beginning, begin, MayBegin}
 use Rattle.twin_facts.specs.Names.{Ids}
 
@@ -73,7 +73,6 @@ pub data TwinRun (g h : Setting) (k l : Times) (opening : Content) : List TwinEn
 pub record IsTwinOpening (g h : Setting) (c : Content) : Type 0 where
   pub shared_first : g.shared ≡ true
   pub shared_second : h.shared ≡ true
-  pub there : HasBucket c g.script.dest.bucket
   pub first : c.minimum ≡ g.minimum
   pub second : c.minimum ≡ h.minimum
   pub fresh : (id : ℕ) (x : Upload) → at_id g.script c id ≡ Some x → id < c.next

@@ -1,6 +1,6 @@
 -- What readers of a destination may rely on while two jobs go on there.
 use Rattle.std.specs.Prelude.{◌≡◌, ℕ, ◌≤◌, ◌⊎◌, ◌&&◌, Bool, true, false, cond, List, [], ◌∷◌, length, map, take, Some, None}
-use Rattle.job_facts.specs.Prelude.{list_any, text_eq, Content, bucket_of, is_effective, Object, Request, Entry, changed_keys, success_key, Script, IsLegal, Mode, Replace, Picks, wanted_at, is_picked, is_clash, is_decided, mark_text, view, Setting, is_driver, Seen, is_marking, Hold, IsKnown, Times}
+use Rattle.job_facts.specs.Prelude.{HasBucket, list_any, text_eq, Content, bucket_of, is_effective, Object, Request, Entry, changed_keys, success_key, Script, IsLegal, Mode, Replace, Picks, wanted_at, is_picked, is_clash, is_decided, mark_text, view, Setting, is_driver, Seen, is_marking, Hold, IsKnown, Times}
 use Rattle.job_protocol.specs.View.{Shown, object_at}
 use Rattle.twin_facts.specs.Names.{IsStranger}
 use Rattle.twin_facts.specs.Laws.{AreTwins}
@@ -55,9 +55,15 @@ pub record MayBeTwins (w v : Script) : Type 0 where
   pub keeps_first : is_replace w.mode ≡ false
   pub keeps_second : is_replace v.mode ≡ false
 
--- so it is in every run of two such jobs, with these events of their commits, from any content in which their bucket stands
+-- so it is in every run of two such jobs, with these events of their commits, from any content
 abbrev pub InEachRun : ((g h : Setting) (k l : Times) (opening : Content) (es : List TwinEntry) (x y : Stand) → Type 0) → Type 0
 InEachRun P = (g h : Setting) → MayBeTwins g.script h.script → (k l : Times) (opening : Content) → IsTwinOpening g h opening → (es : List TwinEntry) (x y : Stand) → TwinRun g h k l opening es x y → P g h k l opening es x y
+
+-- what readers are shown, and what the marker says
+pub record AreShown (g h : Setting) (opening : Content) (es : List TwinEntry) (x y : Stand) : Type 0 where
+  pub shows : Shows g.script h.script opening x.seen.scene.content x.seen y.seen
+  pub first : is_marked_by g.script First false es ≡ true → Marked g.script h.script x.seen.scene.content x.seen.picks y.seen.picks
+  pub second : is_marked_by h.script Second false es ≡ true → Marked h.script g.script y.seen.scene.content y.seen.picks x.seen.picks
 
 pub record TwinsKeep (g h : Setting) (k l : Times) (opening : Content) (es : List TwinEntry) (x y : Stand) : Type 0 where
   -- of each side the facts hold, once its set-up is done
@@ -70,12 +76,9 @@ pub record TwinsKeep (g h : Setting) (k l : Times) (opening : Content) (es : Lis
   -- what a side sends names nothing of the other's
   pub strange_first : (e : Entry) (z : Stand) → Sends g k x e z → IsStranger h.script (drew Second opening es) e.request
   pub strange_second : (e : Entry) (z : Stand) → Sends h l y e z → IsStranger g.script (drew First opening es) e.request
-  -- what is shown
+  -- what is shown, where their bucket stood
   pub one_scene : x.seen.scene ≡ y.seen.scene
-  pub shows : Shows g.script h.script opening x.seen.scene.content x.seen y.seen
-  -- and what the marker says
-  pub marked_first : is_marked_by g.script First false es ≡ true → Marked g.script h.script x.seen.scene.content x.seen.picks y.seen.picks
-  pub marked_second : is_marked_by h.script Second false es ≡ true → Marked h.script g.script y.seen.scene.content y.seen.picks x.seen.picks
+  pub shown : HasBucket opening g.script.dest.bucket → AreShown g h opening es x y
 
 abbrev pub AllTwinsKeep : Type 0
 AllTwinsKeep = InEachRun TwinsKeep

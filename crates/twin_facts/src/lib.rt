@@ -3,20 +3,21 @@
 //!
 //! # What is proved
 //!
-//! Of two legal scripts with one destination, other ids and no mode that replaces, over a content in which the
-//! bucket stands, with restarts, losses and kills, for every committer, any number of lanes and every such mode, and
+//! Of two legal scripts with one destination, other ids and no mode that replaces, over any content, with
+//! restarts, losses and kills, for every committer, any number of lanes and every such mode, and
 //! with the operations of a shared destination: a check before the commit of the mode fail, and an abort or clean
 //! that aborts only what the job's own records and sets name. Each request of a job names only
 //! keys that are its own or in no job's magic directory, uploads that its own attempts know, and its own paths in
 //! the cluster (`names`); so it is a stranger to the other job and foreign to its facts, which each step of either
 //! keeps (`twins`). By one request of a job what stands at a path stays, or becomes a picked file, or goes where one
-//! is wanted or the mode does not keep it, and that by the job's commit alone (`shown`). At each moment each path
-//! has its opening bytes or those of a side whose commit has begun, and what neither wants stands; where the last
-//! put or deletion of `_SUCCESS` is a put by a side's driver, each task of that side has a pick, its files stand
-//! that are not the other's too, and the marker says so: by what is seen, and by the numbers of events in the
-//! journal of both alone (`moments`). An abort or clean of a job at a shared destination that ends Done, while no
-//! attempt of the job sends, leaves no live upload that a record or set of the job named as it began, and nothing in
-//! the job's own directory, whatever others send (`sparings`).
+//! is wanted or the mode does not keep it, and that by the job's commit alone (`shown`). At each moment, where
+//! their bucket stood as the run began, each path has its opening bytes or those of a side whose commit has
+//! begun, and what neither wants stands; where the last put or deletion of `_SUCCESS` is a put by a side's
+//! driver, each task of that side has a pick, its files stand that are not the other's too, and the marker says
+//! so: by what is seen, and by the numbers of events in the journal of both alone (`moments`). An abort or clean
+//! of a job at a shared destination that ends Done, while no attempt of the job sends, leaves no live upload that
+//! a record or set of the job named as it began, and nothing in the job's own directory, whatever others send
+//! (`sparings`).
 #![tactic(auto)]
 
 ghost use Rattle.twin_facts.specs.Joined.{EyesTurn, TwinsAreForeign, TwinsJoin};

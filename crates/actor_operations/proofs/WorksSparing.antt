@@ -1,0 +1,70 @@
+-- Each answer that is due to a sparing abort or clean fits: a set that it reads names no more uploads than the job has files.
+use Rattle.std.proofs.Common.{◌≡◌, ℕ, ◌<◌, ◌≤◌, ◌^◌, inl, inr, true, List, [], ◌∷◌, length, Option, Some, None, Ok, refl, sym, ap, subst, ◌∙◌}
+use Rattle.job_facts.specs.Prelude.{Scene, answer, read_answer, begins, GetObject, ClusterGet, Committer, Magic, Directory, Partitioned, File, Who, IsLegal, Script, files, files_set, magic_prefix, cluster_prefix, Told, IsAttempt, is_staging, AreCommits, Facts, knowing}
+use Rattle.job_protocol.specs.Prelude.{ClusterBytes}
+use Rattle.std.specs.FinMap as fin
+use Rattle.s3_types.specs.Answer.{found}
+use Rattle.pending_json.specs.Reading as reading
+use Rattle.job_spec.proofs.Common.{length-map, some_is}
+use Rattle.job_protocol.specs.AtWork.{sparing_wants}
+use Rattle.job_protocol.specs.Sparing.{Sparing, Walking, Reading, record_request, ref_of, set_names}
+use Rattle.cleanup.specs.SparingFits.{most_commits, NamesFew, FitsSparing as FitsAnswer, FitsSparingDriving}
+use Rattle.job_facts.specs.Spares.{AllOwn, FitsSparing, Filed}
+use Rattle.job_facts.proofs.Legible.{set_read}
+use Rattle.job_facts.proofs.Placed.{staged_set}
+use Rattle.job_facts.proofs.Shapes.{answer_is}
+use Rattle.job_refinement.specs.Due.{FitsDue}
+use Rattle.job_refinement.specs.Plans.{driving}
+use Rattle.job_refinement.proofs.Pages.{page_fits}
+use Rattle.actor_operations.proofs.Checking.{sparing_asks_same}
+use Rattle.actor_operations.proofs.WorksFew.{commits_few}
+
+module _ (w : Script) (minimum : ℕ) (s : Scene) (last : ℕ → Option ℕ) (m : Told) (j : IsLegal w) (facts : Facts w minimum s last m) (few : s.content.next ≤ 2 ^ 64) where
+  -- of the set of an attempt
+  set_few : (a : Who) (cs : List File) → AreCommits w minimum (m.drawn a) a cs → (bytes : List ℕ) → reading.set_of bytes ≡ Ok (files_set w a cs (knowing (m.drawn a))) → NamesFew (ClusterBytes bytes)
+  set_few a cs are bytes e =
+      let most : length (files_set w a cs (knowing (m.drawn a))).commits ≤ most_commits = commits_few w minimum s last m j facts few (m.drawn a) a cs are in
+      let same : length (set_names (reading.set_of bytes)) ≡ length (files_set w a cs (knowing (m.drawn a))).commits = ap (λ v. length (set_names v)) e ∙ length-map (files_set w a cs (knowing (m.drawn a))).commits ref_of in
+      subst (λ n. n ≤ most_commits) (sym same) most
+
+  module _ (filed : Filed w s) where
+    -- of a file of the job in the cluster
+    path_few : is_staging w.committer ≡ true → (p : List ℕ) → begins (cluster_prefix w.job) p ≡ true → NamesFew (answer s (ClusterGet p))
+    path_few staging p b = by (fin.get s.files p) refl
+      where
+        by : (o : Option (List ℕ)) → fin.get s.files p ≡ o → NamesFew (read_answer (fin.get s.files p))
+        by None e = subst (λ o. NamesFew (read_answer o)) (sym e) tt
+        by (Some bytes) e = subst (λ o. NamesFew (read_answer o)) (sym e) (elim (filed staging p bytes b e) [
+          | inl t ↦
+              let x = facts.temporaries staging t.0 bytes t.1 (ap (fin.get s.files) (sym t.2) ∙ e) in
+              set_few t.0 (files w t.0) x.are bytes (ap reading.set_of x.text ∙ set_read j facts few t.0 (files w t.0) t.1 x.are)
+          | inr t ↦
+              let x = facts.sets t.0 bytes t.1 (staged_set w.committer w s t.0 staging ∙ ap (fin.get s.files) (sym t.2) ∙ e) in
+              let d : IsAttempt w x.by = record { task = subst (λ n. n < w.tasks) (sym x.task) t.1; attempt = x.number } in
+              set_few x.by x.commits x.are bytes (ap reading.set_of x.text ∙ set_read j facts few x.by x.commits d x.are)
+        ])
+
+    -- of an object, whatever it is
+    object_few : (p : List ℕ) → NamesFew (answer s (GetObject w.dest.bucket p))
+    object_few p = subst NamesFew (sym (answer_is w s facts.there.0 facts.there.1 (GetObject w.dest.bucket p) refl)) (by (fin.get facts.there.0.objects p))
+      where
+        by : (o : _) → NamesFew (found o)
+        by (Some x) = tt
+        by None = tt
+
+    read_few : (c : Committer) → w.committer ≡ c → (p : List ℕ) → AllOwn w (p ∷ []) → NamesFew (answer s (record_request c w p))
+    read_few Magic e p own = object_few p
+    read_few Directory e p own = path_few (ap is_staging e) p (own.paths (ap is_staging e) p (inl refl))
+    read_few Partitioned e p own = path_few (ap is_staging e) p (own.paths (ap is_staging e) p (inl refl))
+
+    first_own : (p : List ℕ) (ps : List (List ℕ)) → AllOwn w (p ∷ ps) → AllOwn w (p ∷ [])
+    first_own p ps h = record {
+      keys = λ e k i. elim i [ inl is ↦ h.keys e k (inl is) | inr none ↦ absurd none ];
+      paths = λ e k i. elim i [ inl is ↦ h.paths e k (inl is) | inr none ↦ absurd none ];
+    }
+
+    pub sparing_due : (c : Sparing) → FitsSparing w m.drawn c → FitsDue sparing_wants FitsSparingDriving (driving w c) s
+    sparing_due (Walking keys) fits r e repeated = subst (λ q. FitsAnswer (Walking keys) (answer s q)) (some_is e) (page_fits w s facts.there (magic_prefix w.dest.key w.job) keys)
+    sparing_due (Reading named p ps all) fits r e repeated =
+        subst (λ q. FitsAnswer (Reading named p ps all) (answer s q)) (some_is (sym (sparing_asks_same w (Reading named p ps all)) ∙ e)) (read_few w.committer refl p (first_own p ps fits.1))
+    sparing_due _ fits r e repeated = tt

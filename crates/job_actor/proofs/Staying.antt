@@ -1,0 +1,23 @@
+-- The picks of a run stay while nobody sends who picks.
+use Rattle.std.proofs.Common.{◌≡◌, List, [], ◌∷◌, ◌++◌, length, sym, ap, ◌∙◌}
+use Rattle.job_steps.specs.Prelude.{Content, Entry, EventEnd, Pick, Script, Setting, Seen, see, see_all, seen, nothing_seen, all_picks, picks_below, Play, Sends, happen, Times, times}
+use Rattle.job_traces.proofs.Entries.{see_more}
+use Rattle.job_steps.proofs.Parts.{take_whole}
+use Rattle.job_steps.proofs.Running.{sent_ahead}
+use Rattle.job_actor.specs.Picks.{ArePicksOf, LeavesPicks}
+
+all_of : (w : Script) (k : Times) (opening : Content) (es : List Entry) → seen w k opening es (length es) ≡ see_all w k (nothing_seen opening) es
+all_of w k opening es = ap (see_all w k (nothing_seen opening)) (take_whole es)
+
+-- an entry that leaves what is seen of the picks leaves those of the run
+pub picks_stay : (w : Script) (opening : Content) (es : List Entry) (e : Entry) (xs : List EventEnd) → ((s : Seen) → (see w (times w xs) s e).picks ≡ s.picks) → all_picks w opening (es ++ e ∷ []) xs ≡ all_picks w opening es xs
+picks_stay w opening es e xs stays =
+    let k = times w xs in
+    let s = see_all w k (nothing_seen opening) es in
+    let now : (seen w k opening (es ++ e ∷ []) (length (es ++ e ∷ []))).picks ≡ s.picks =
+    ap (λ (v : Seen). v.picks) (all_of w k opening (es ++ e ∷ []) ∙ see_more w k (nothing_seen opening) es e) ∙ stays s in
+    let before : (seen w k opening es (length es)).picks ≡ s.picks = ap (λ (v : Seen). v.picks) (all_of w k opening es) in
+    ap (λ p. picks_below p w.tasks) (now ∙ sym before)
+
+pub same_picks : (g : Setting) (opening : Content) (x : Play) (e : Entry) → LeavesPicks g opening x e → (ps : List Pick) → ArePicksOf g opening x ps → ArePicksOf g opening (happen g x (Sends e)) ps
+same_picks g opening x e stays ps h xs ahead = let old = sent_ahead g x e xs ahead in h xs old ∙ sym (stays xs old)

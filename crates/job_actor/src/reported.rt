@@ -1,0 +1,10 @@
+use job_model::TaskSet;
+use s3_types::TextList;
+
+/// What a driver knows of its tasks as it begins an operation: those of which an attempt reported its commit; and, where
+/// another job shares the destination, the partitions of the files of all attempts that did.
+#[derive(Drop)]
+pub struct Reported {
+    pub tasks: TaskSet,
+    pub partitions: Option<TextList>,
+}

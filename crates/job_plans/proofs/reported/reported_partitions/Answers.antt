@@ -1,0 +1,13 @@
+use Rattle.std.proofs.Common.{◌∙◌, ap, map, sym}
+use Rattle.path_keys.proofs.Common.{IfOk-weaker}
+use Rattle.conflict.proofs.SamePartitions.{partitions_of_ordered}
+use Rattle.job_protocol.specs.Prelude.{File, partitions}
+use Rattle.job_protocol.specs.Rechecks.{files_of_all}
+use Rattle.job_plans.specs.Reported.{those}
+use Rattle.job_plans.proofs.reported.reported_partitions.Goals as goal
+
+pub returns : goal.returns
+returns c =
+    let w = c.args.script.now in
+    let paths = map (λ (f : File). f.0) (files_of_all w (those w.attempts c.args.reported.now)) in
+    IfOk-weaker c.partitions.result _ _ (λ dirs is. is ∙ ap partitions (c.as_slice.ensures ∙ c.in_ok-paths.ensures) ∙ sym (partitions_of_ordered paths)) c.partitions.ensures
