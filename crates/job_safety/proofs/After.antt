@@ -1,15 +1,14 @@
 -- Once the job's commit is over, its driver does no more than abort and clean, and reads no set.
 use Rattle.std.proofs.Common.{◌≡◌, ℕ, inl, inr, true, false, List, [], ◌∷◌, ◌++◌, length, append_assoc, append-nil, Option, Some, None, refl, sym, ap, subst, ◌∙◌}
-use Rattle.job_steps.specs.Prelude.{Content, Driver, Shell, Request, Entry, IsLegal, Script, Op, Event, Do, Start, Commit, Reverting, CommitOver, Setting, Operation, TheCommit, TheClean, Running, who, asks, tells, wants, is_reading, Past, put, strange_entry, IsOpening, is_just_set, Play, Transition, Refuses, Opens, Sends, Finishes, Closes, Strays, open_running, hear, happen, MayOpen, MaySend, Reachable, operation_of}
+use Rattle.job_steps.specs.Prelude.{Content, Driver, Shell, Request, Entry, IsLegal, Script, Op, Event, Do, Start, Commit, Reverting, CommitOver, Setting, Operation, TheCommit, TheClean, Running, who, asks, tells, wants, is_reading, put, strange_entry, IsOpening, is_just_set, Play, Transition, Refuses, Opens, Sends, Finishes, Closes, Strays, open_running, hear, happen, MayOpen, MaySend, Reachable, operation_of}
 use Rattle.job_spec.proofs.Common.{none_some, false_true}
 use Rattle.job_model.specs.declared.events.Op.TheVariants as ops
 use Rattle.job_steps.proofs.Actors.{same_or_not, put_here, put_other}
-use Rattle.job_steps.proofs.Told.{told_all}
-use Rattle.job_steps.proofs.RunningStages.{DriverAt, IsSettingUp, Begins, begins_so, may_setup, may_commit_job}
+use Rattle.job_steps.proofs.RunningStages.{IsSettingUp, Begins, begins_so, may_setup, may_commit_job}
 use Rattle.job_outcomes.specs.CommitMoments.{NoneRead}
 use Rattle.job_outcomes.proofs.CommitRuns.{clean_reads}
 use Rattle.job_safety.proofs.History.{Later, at_once, later}
-use Rattle.job_safety.proofs.Early.{driver_now}
+use Rattle.job_safety.proofs.Early.{driver_past}
 use Rattle.job_protocol.proofs.Begun.{clean_alone}
 
 -- the driver's commit is over, or it aborts or cleans
@@ -63,15 +62,11 @@ heard_after g m e h asked = by m.operation h asked
     by _ h q = absurd h
 
 module _ (g : Setting) (single : g.shared ≡ false) (opening : Content) (j : IsLegal g.script) (is_opening : IsOpening g opening) where
-  -- the driver is at the operation that it is at between events, and at its stage
-  pub driver_past : (y : Play) → Reachable g opening y → y.now ≡ None → DriverAt (y.past.state Driver).stage (y.past.state Driver).life (operation_of (y.running Driver))
-  driver_past y past idle = subst (λ (p : Past). DriverAt (p.state Driver).stage (p.state Driver).life (operation_of (y.running Driver))) ((told_all g opening y past).closed idle).0 (driver_now g opening j is_opening y past)
-
   begun_after : (y : Play) → Reachable g opening y → (op : Op) → IsAfter (operation_of (y.running Driver)) → y.now ≡ None → Begins (y.past.state Driver).stage Driver op (y.past.state Driver).life (y.past.state Driver).stage
       → IsAfter (operation_of (open_running g y (Do Driver op) Driver))
-  begun_after y past ops.Setup h idle b = absurd (no_setup (operation_of (y.running Driver)) h (may_setup (y.past.state Driver).stage (y.past.state Driver).life (operation_of (y.running Driver)) (driver_past y past idle) b.may_begin).1)
+  begun_after y past ops.Setup h idle b = absurd (no_setup (operation_of (y.running Driver)) h (may_setup (y.past.state Driver).stage (y.past.state Driver).life (operation_of (y.running Driver)) (driver_past g opening j is_opening y past idle) b.may_begin).1)
   begun_after y past ops.Write h idle b = absurd (false_true refl b.may_begin)
-  begun_after y past ops.Commit h idle b = absurd (no_commit (operation_of (y.running Driver)) h (may_commit_job (y.past.state Driver).stage (y.past.state Driver).life (operation_of (y.running Driver)) (driver_past y past idle) b.may_begin))
+  begun_after y past ops.Commit h idle b = absurd (no_commit (operation_of (y.running Driver)) h (may_commit_job (y.past.state Driver).stage (y.past.state Driver).life (operation_of (y.running Driver)) (driver_past g opening j is_opening y past idle) b.may_begin))
   begun_after y past _ h idle b = subst (λ op. IsAfter (Some op)) (sym (clean_alone g single)) tt
 
   opened_after : (y : Play) → Reachable g opening y → (ev : Event) → MayOpen g y ev None → IsAfter (operation_of (y.running Driver)) → IsAfter (operation_of (open_running g y ev Driver))

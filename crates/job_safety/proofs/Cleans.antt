@@ -8,6 +8,7 @@ use Rattle.job_model.specs.declared.ends.CleanEnd.TheVariants as cleans
 use Rattle.job_model.specs.declared.ends.OpEnd.TheVariants as ends
 use Rattle.job_steps.proofs.Parts.{from_part}
 use Rattle.job_outcomes.proofs.CleanEnds.{cleans_end}
+use Rattle.job_protocol.proofs.Begun.{clean_alone}
 use Rattle.job_safety.proofs.Cuts.{by_all, moment_cut, all_by_back, since_later}
 use Rattle.job_safety.proofs.Strange.{driver_none}
 use Rattle.job_safety.proofs.Sorts.{over_kind, kind_run, driver_clean, memory_clean}
@@ -26,7 +27,7 @@ module _ (g : Setting) (single : g.shared ≡ false) (opening : Content) (j : Is
     EndsSo v = over (run (advance g Driver) (record { operation = v; known = k }) es).operation ≡ Some (ends.Clean e)
 
     begun : EndsSo n.op → n.op ≡ first
-    begun o = driver_clean g single d.op d.reports k n.op n.begun_is (sym (kind_run g Driver (record { operation = n.op; known = k }) es) ∙ over_kind _ (ends.Clean e) o)
+    begun o = (driver_clean g d.op d.reports k n.op n.begun_is (sym (kind_run g Driver (record { operation = n.op; known = k }) es) ∙ over_kind _ (ends.Clean e) o)).1 ∙ clean_alone g single
 
     follows_so : n.op ≡ first → Follows (wants g Driver) (advance g Driver) (record { operation = first; known = k }) es
     follows_so is = subst (λ v. Follows (wants g Driver) (advance g Driver) (record { operation = v; known = k }) es) is n.follows

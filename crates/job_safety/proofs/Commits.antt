@@ -1,9 +1,9 @@
 -- How the driver's commit ends in a run, and what it leaves.
-use Rattle.std.proofs.Common.{◌≡◌, ℕ, zero, suc, ◌+◌, ◌<◌, ◌≤◌, ◌⊎◌, inl, inr, Bool, true, false, cond, List, [], ◌∷◌, ◌++◌, filter, length, take, Option, Some, None, IsSome, append_assoc, refl, sym, ap, subst, ◌∙◌, arith, ◌||◌, ◌&&◌}
-use Rattle.job_steps.specs.Prelude.{option_map, Content, Scene, moment, after_all, Driver, Reply, Answered, Entry, run, Follows, IsLegal, Script, Known, Event, Do, Start, Op, CommitEnd, Commit, CommitOver, commit_start, commit_asks, commit_tells, commit_over, set_request, set_read, Setting, Operation, Running, start_of, TheSetup, TheCommit, advance, over, see_all, nothing_seen, is_begun, Seen, same_actor, refusal, Doing, missing, first_not, driver_may, clean_event, until, by_actor, is_wanting, since, known_then, EndedIn, CommitEnded, CommitServed, AreOwn, seen_until, IsIn, Told, tell_all, nothing_told, HasPublished, IsOpening, is_just_set, Play, MayOpen, Opens, Closes, open_running, happen, Reachable, happens, Ahead, IsRun, operation_of, times}
+use Rattle.std.proofs.Common.{◌≡◌, ℕ, zero, suc, ◌+◌, ◌<◌, ◌≤◌, inl, inr, Bool, true, false, cond, List, [], ◌∷◌, ◌++◌, filter, length, Option, Some, None, IsSome, append_assoc, refl, sym, ap, subst, ◌∙◌, arith, ◌||◌, ◌&&◌}
+use Rattle.job_steps.specs.Prelude.{option_map, Content, Scene, moment, after_all, Driver, Reply, Answered, Entry, run, Follows, IsLegal, Script, Known, Op, CommitEnd, Commit, CommitOver, commit_start, commit_asks, commit_tells, commit_over, set_request, set_read, Setting, Running, start_of, TheCommit, advance, over, see_all, nothing_seen, is_begun, same_actor, Doing, missing, first_not, clean_event, until, by_actor, is_wanting, since, known_then, EndedIn, CommitEnded, CommitServed, AreOwn, seen_until, IsIn, Told, tell_all, nothing_told, HasPublished, IsOpening, Play, Opens, Closes, open_running, happen, Reachable, happens, Ahead, IsRun, operation_of, times}
 use Rattle.job_spec.specs.Prelude.{first_worn, CommitEnds, CommitsEnd, reports, is_reported}
-use Rattle.job_spec.proofs.Common.{computed, none_sent, at_most_is, at_most_not, some_is, none_some, false_true, in_back, in_filter}
-use Rattle.job_facts.specs.Prelude.{view, Same, Always, is_marked, commit_due, is_untouched, NoDeletionWorn, OnlyOpening, Times, Actor, Reports, list_any, has_cleaned, is_driver}
+use Rattle.job_spec.proofs.Common.{computed, none_sent, some_is, none_some, false_true, in_back, in_filter}
+use Rattle.job_facts.specs.Prelude.{view, Same, Always, is_marked, commit_due, is_untouched, NoDeletionWorn, OnlyOpening, Times, Actor, Reports, list_any, is_driver}
 use Rattle.s3_types.specs.Store as store
 use Rattle.job_model.specs.declared.events.Op.TheVariants as ops
 use Rattle.job_model.specs.declared.ends.CommitEnd.TheVariants as commits
@@ -11,30 +11,26 @@ use Rattle.job_model.specs.declared.ends.Stage.TheVariants as stages
 use Rattle.job_model.specs.declared.ends.OpEnd.TheVariants as ends
 use Rattle.job_traces.proofs.Entries.{take_all, sees, tells_so, always, reverted_now}
 use Rattle.job_traces.proofs.Changes.{moment_scene}
-use Rattle.job_steps.proofs.RunningStages.{Begins, begins_so, IsSettingUp, IsTimed, timed_setting, may_commit_job, Begun}
 use Rattle.job_steps.proofs.Actors.{same_is}
 use Rattle.job_steps.proofs.Told.{told_all}
 use Rattle.job_steps.proofs.Reported.{last_more, all_published, reported}
-use Rattle.job_steps.proofs.RunningNumbers.{begun_at}
-use Rattle.job_steps.proofs.Running.{number, is_run, carried, opened_ahead, closed_ahead, not_refused}
+use Rattle.job_steps.proofs.Running.{is_run}
 use Rattle.job_outcomes.specs.CommitRuns.{IsDue, CommitStands}
 use Rattle.job_outcomes.proofs.Alone.{go_alone}
 use Rattle.job_outcomes.proofs.CommitRuns.{no_entry, commit_runs}
 use Rattle.job_outcomes.proofs.CommitMoments.{see_parts, commit_moments}
 use Rattle.job_outcomes.proofs.Served.{in_commit, commit_answers}
 use Rattle.job_outcomes.proofs.RunEntries.{run_entries}
-use Rattle.job_outcomes.proofs.EventRows.{event_rows}
 use Rattle.job_traces.proofs.EveryRun.{own_front}
 use Rattle.job_safety.specs.Laws.{CommitsEndAmong}
-use Rattle.job_safety.proofs.Cuts.{take_cut, moment_cut}
+use Rattle.job_safety.proofs.Cuts.{moment_cut}
 use Rattle.job_safety.proofs.Sorts.{end_of, over_kind, kind_run, driver_commit, memory_commit}
 use Rattle.job_safety.proofs.History.{Began, IsBegin}
-use Rattle.job_safety.proofs.Ending.{Ending, ahead_none, ending, journal_until, until_strange, until_own}
+use Rattle.job_safety.proofs.Ending.{Ending, ahead_none, ending, until_own}
 use Rattle.job_safety.proofs.Spans.{start, mine}
-use Rattle.job_safety.proofs.Strange.{strange_picks}
-use Rattle.job_safety.proofs.After.{IsAfter, After, after_commit, driver_past}
+use Rattle.job_safety.proofs.Timed.{run_then, ahead_opened, ahead_start, opened_commit, number_is, unclean_then, taken_then, picks_then}
+use Rattle.job_safety.proofs.After.{IsAfter, After, after_commit}
 use Rattle.job_protocol.proofs.Begun.{commit_alone}
-use Rattle.job_facts.proofs.Learnt.{cleaned_is}
 
 -- ---- plain facts
 
@@ -46,13 +42,8 @@ over_is (CommitOver d) e o = ap CommitOver (some_is o)
 over_is _ e o = absurd (none_some refl o)
 
 -- a commit that is over, by its end
-commit_back : (c : Commit) (e : CommitEnd) → option_map ends.Commit (commit_over c) ≡ Some (ends.Commit e) → c ≡ CommitOver e
+pub commit_back : (c : Commit) (e : CommitEnd) → option_map ends.Commit (commit_over c) ≡ Some (ends.Commit e) → c ≡ CommitOver e
 commit_back c e o = let m = end_of ends.Commit (commit_over c) (ends.Commit e) o in over_is c e (m.1 ∙ ap (λ v. Some v) (commit_is m.2))
-
-just_setting : (d : Option Operation) → is_just_set d ≡ true → IsSettingUp d
-just_setting None e = tt
-just_setting (Some (TheSetup t)) e = tt
-just_setting _ e = absurd (false_true refl e)
 
 -- a task that is missing is one of the job's
 missing_below : (w : Script) (f : Actor → Bool) (t : ℕ) → missing w f ≡ Some t → t < w.tasks
@@ -66,15 +57,6 @@ missing_below w f t e = let l : t < 0 + w.tasks = by 0 w.tasks e in omega arith
         one true e old = let l : t < a + 1 + n = old e in omega arith
         one false e old = let s : a ≡ t = some_is e in omega (arith, s)
 
--- the commit's event is the next one where it has begun then and not before
-commit_number : (k : Option ℕ) (n : ℕ) → is_begun k n ≡ false → is_begun k (n + 1) ≡ true → k ≡ Some (n + 1)
-commit_number None n before now = absurd (false_true refl now)
-commit_number (Some m) n before now =
-    let above : n < m = at_most_not m n before in
-    let below : m ≤ n + 1 = at_most_is m (n + 1) now in
-    let same : m ≡ n + 1 = omega arith in
-    ap (λ v. Some v) same
-
 -- a commit alone is told of want of memory so
 wanting_commit : (op : Op) (e : CommitEnd) → is_wanting Driver op (ends.Commit e) ≡ true → op ≡ ops.Commit
 wanting_commit ops.Commit e h = refl
@@ -85,11 +67,6 @@ parted_at : {X : Type 0} (x : X) (xs : List X) → IsIn x xs → (before : List 
 parted_at x [] i = absurd i
 parted_at x (y ∷ ys) (inl e) = ([], ys, ap (λ v. v ∷ ys) (sym e))
 parted_at x (y ∷ ys) (inr i) = let r = parted_at x ys i in (y ∷ r.0, r.1, ap (λ v. y ∷ v) r.2)
-
--- what a driver begins it may begin
-begins_at : (g : Setting) (y : Play) (ev : Event) (op : Op) → MayOpen g y ev None → IsBegin ev Driver op → Begins (y.past.state Driver).stage Driver op (y.past.state Driver).life (y.past.state Driver).stage
-begins_at g y ev op may (inl is) = begins_so (y.past.state Driver).stage Driver op (y.past.state Driver).life (y.past.state Driver).stage (ap (refusal y.past.state) (sym is) ∙ may.refusal_is)
-begins_at g y ev op may (inr is) = begins_so (y.past.state Driver).stage Driver op (y.past.state Driver).life (y.past.state Driver).stage (ap (refusal y.past.state) (sym is) ∙ may.refusal_is)
 
 module _ (g : Setting) (single : g.shared ≡ false) (opening : Content) (j : IsLegal g.script) (is_opening : IsOpening g opening) (x : Play) (run_x : Reachable g opening x) (idle : x.now ≡ None) where
   abbrev w : Script
@@ -116,7 +93,7 @@ module _ (g : Setting) (single : g.shared ≡ false) (opening : Content) (j : Is
     IsCommit = (d.op ≡ ops.Commit) × (n.op ≡ TheCommit (commit_start w d.reports.missing))
 
     begun_over : over (run (advance g Driver) (record { operation = n.op; known = known }) es).operation ≡ Some (ends.Commit e) → IsCommit
-    begun_over o = driver_commit g single d.op d.reports known n.op n.begun_is (sym (kind_run g Driver (record { operation = n.op; known = known }) es) ∙ over_kind _ (ends.Commit e) o)
+    begun_over o = let b = driver_commit g d.op d.reports known n.op n.begun_is (sym (kind_run g Driver (record { operation = n.op; known = known }) es) ∙ over_kind _ (ends.Commit e) o) in (b.0, b.1 ∙ commit_alone g d.reports single)
 
     begun_wanting : is_wanting Driver d.op (ends.Commit e) ≡ true → IsCommit
     begun_wanting h = let is = wanting_commit d.op e h in (is, sym (some_is (sym (ap (λ v. start_of g Driver v d.reports known) is) ∙ n.begun_is)) ∙ commit_alone g d.reports single)
@@ -141,56 +118,35 @@ module _ (g : Setting) (single : g.shared ≡ false) (opening : Content) (j : Is
     driver_is = ap operation_of n.running ∙ ap (λ v. Some v) leads_alone
 
     -- the run at the end of the event
-    ahead : Ahead (happen g z (Closes n.event_end)) x.ends
-    ahead = n.closed.ahead x.ends (ahead_none x idle)
-
-    then : IsRun g opening (happen g z (Closes n.event_end)) (times w x.ends)
-    then = is_run g opening j is_opening (happen g z (Closes n.event_end)) (happens z (Closes n.event_end) n.closed.happened n.closed.may) x.ends ahead
+    abbrev then : IsRun g opening (happen g z (Closes n.event_end)) (times w x.ends)
+    then = run_then g opening j is_opening x run_x idle i d (ends.Commit e) es n
 
     at_led : then.stand.driver ≡ Some (TheCommit led)
     at_led = then.driver ∙ driver_is
 
     -- ---- its event
 
-    ahead_z : Ahead z x.ends
-    ahead_z = closed_ahead g z n.event_end x.ends (not_refused w z.past.state n.closed.may.event n.event_end _ n.closed.may.turns) ahead
-
     abbrev s : Began g opening z Driver d
     s = start g opening x i Driver d (ends.Commit e) es n
 
-    ahead_opened : Ahead (happen g s.at (Opens s.event)) x.ends
-    ahead_opened = s.ahead x.ends ahead_z
+    ahead_begun : Ahead (happen g s.at (Opens s.event)) x.ends
+    ahead_begun = ahead_opened g opening j is_opening x run_x idle i d (ends.Commit e) es n
 
-    timed_before : is_begun k.commit (length s.at.ends) ≡ false
-    timed_before =
-        let h = (carried g opening j is_opening s.at s.happened x.ends (opened_ahead g s.at s.event x.ends s.may.idle ahead_opened)).along in
-        let b = begins_at g s.at s.event d.op s.may s.begins in
-        let op = operation_of (s.at.running Driver) in
-        let may : driver_may ops.Commit (s.at.past.state Driver).stage ≡ true = ap (λ v. driver_may v (s.at.past.state Driver).stage) (sym begun.0) ∙ b.may_begin in
-        let just = may_commit_job (s.at.past.state Driver).stage (s.at.past.state Driver).life op (driver_past g single opening j is_opening s.at s.happened s.may.idle) may in
-        let timed : IsTimed (begun_at (times w x.ends) (length s.at.ends)) op = subst (λ v. IsTimed (begun_at (times w x.ends) (number v (length s.at.ends))) op) s.may.idle h.timed in
-        (timed_setting (begun_at (times w x.ends) (length s.at.ends)) op timed (just_setting op just)).0
+    ahead_before : Ahead s.at x.ends
+    ahead_before = ahead_start g opening j is_opening x run_x idle i d (ends.Commit e) es n
 
-    opened_commit : (ev : Event) → IsBegin ev Driver ops.Commit → operation_of (open_running g s.at ev Driver) ≡ Some (TheCommit (commit_start w (missing w s.at.past.reported)))
-    opened_commit ev (inl is) = ap (λ v. operation_of (open_running g s.at v Driver)) is ∙ ap (λ op. Some op) (commit_alone g (reports w s.at.past.reported) single)
-    opened_commit ev (inr is) = ap (λ v. operation_of (open_running g s.at v Driver)) is ∙ ap (λ op. Some op) (commit_alone g (reports w s.at.past.reported) single)
+    opened_alone : operation_of (open_running g s.at s.event Driver) ≡ Some (TheCommit (commit_start w (missing w s.at.past.reported)))
+    opened_alone =
+        opened_commit g opening j is_opening x run_x idle i d (ends.Commit e) es n begun.0 s.event (subst (λ v. IsBegin s.event Driver v) begun.0 s.begins)
+        ∙ ap (λ op. Some op) (commit_alone g (reports w s.at.past.reported) single)
 
-    -- where the event begins the commit it has begun
-    begun_timed : (ev : Event) (b : Begun) → ((ev ≡ Do Driver ops.Commit) ⊎ (ev ≡ Start Driver ops.Commit)) → IsTimed b (operation_of (open_running g s.at ev Driver)) → b.commit ≡ true
-    begun_timed ev b is h = (subst (IsTimed b) (opened_commit ev is) h).0
-
-    timed_now : is_begun k.commit (length s.at.ends + 1) ≡ true
-    timed_now =
-        let h = (carried g opening j is_opening (happen g s.at (Opens s.event)) (happens s.at (Opens s.event) s.happened s.may) x.ends ahead_opened).along in
-        begun_timed s.event (begun_at (times w x.ends) (length s.at.ends + 1)) (subst (λ v. IsBegin s.event Driver v) begun.0 s.begins) h.timed
-
-    number_is : k.commit ≡ Some d.since
-    number_is = commit_number k.commit (length s.at.ends) timed_before timed_now ∙ ap (λ v. Some v) (sym s.since_is)
+    at_event : k.commit ≡ Some d.since
+    at_event = number_is g opening j is_opening x run_x idle i d (ends.Commit e) es n begun.0
 
     -- ---- its entries and its missing task
 
     commit_is_es : then.stand.commit ≡ es
-    commit_is_es = run_entries.commit g single k opening z.journal then.stand then.runs led at_led ∙ ap (λ v. filter (λ (u : Entry). is_begun v u.event) (by_actor Driver z.journal)) number_is ∙ sym n.entries_are
+    commit_is_es = run_entries.commit g single k opening z.journal then.stand then.runs led at_led ∙ ap (λ v. filter (λ (u : Entry). is_begun v u.event) (by_actor Driver z.journal)) at_event ∙ sym n.entries_are
 
     commit_leads : (missing : Option ℕ) → run (commit_tells w) (commit_start w missing) then.stand.commit ≡ run (commit_tells w) (commit_start w missing) es
     commit_leads missing = ap (run (commit_tells w) (commit_start w missing)) commit_is_es
@@ -203,8 +159,8 @@ module _ (g : Setting) (single : g.shared ≡ false) (opening : Content) (j : Is
     -- the driver has not cleaned up as it began
     unclean : (tell_all w (nothing_told (clean_event w x.ends)) s.at.journal).cleaned ≡ false
     unclean =
-        let r = is_run g opening j is_opening (happen g s.at (Opens s.event)) (happens s.at (Opens s.event) s.happened s.may) x.ends ahead_opened in
-        let at : r.stand.driver ≡ Some (TheCommit (commit_start w (missing w s.at.past.reported))) = r.driver ∙ opened_commit s.event (subst (λ v. IsBegin s.event Driver v) begun.0 s.begins) in
+        let r = is_run g opening j is_opening (happen g s.at (Opens s.event)) (happens s.at (Opens s.event) s.happened s.may) x.ends ahead_begun in
+        let at : r.stand.driver ≡ Some (TheCommit (commit_start w (missing w s.at.past.reported))) = r.driver ∙ opened_alone in
         sym (ap (λ (m : Told). m.cleaned) (tells_so g k opening j is_opening s.at.journal r.stand r.runs) ∙ ap (λ c. (tell_all w (nothing_told c) s.at.journal).cleaned) r.cleans) ∙ (in_commit g k opening j is_opening s.at.journal r.stand r.runs (commit_start w (missing w s.at.past.reported)) at).2.uncleaned
 
     -- where it has sent a request no task was missing, and each has a last publisher from then on
@@ -221,7 +177,7 @@ module _ (g : Setting) (single : g.shared ≡ false) (opening : Content) (j : Is
     published : (u : Entry) → IsIn u es → (b : List Entry) (t : ℕ) → t < w.tasks → HasPublished (see_all w k (nothing_seen opening) (s.at.journal ++ b)) t
     published u i b t low =
         let none : missing w s.at.past.reported ≡ None = sym (ap (λ (r : Reports). r.missing) s.reports_is) ∙ none_missing u i in
-        let told = all_published w s.at.past.reported (see_all w k (nothing_seen opening) s.at.journal) (reported g opening j is_opening x.ends s.at s.happened (opened_ahead g s.at s.event x.ends s.may.idle ahead_opened) unclean).past none t low in
+        let told = all_published w s.at.past.reported (see_all w k (nothing_seen opening) s.at.journal) (reported g opening j is_opening x.ends s.at s.happened ahead_before unclean).past none t low in
         subst (λ v. HasPublished v t) (sym (see_parts w k (nothing_seen opening) s.at.journal b)) (last_more w k (see_all w k (nothing_seen opening) s.at.journal) b t told)
 
     none_of : (f : Entry → Bool) (u : Entry) (l : List Entry) → list_any f l ≡ false → IsIn u l → f u ≡ false
@@ -242,9 +198,7 @@ module _ (g : Setting) (single : g.shared ≡ false) (opening : Content) (j : Is
     before_clean u here_in =
         let own = in_filter (λ (v : Entry). same_actor v.actor Driver) u s.entries (subst (IsIn u) (mine g opening x i Driver d (ends.Commit e) es n) here_in) in
         let here : IsIn u z.journal = subst (IsIn u) (sym s.all) (in_back u s.at.journal s.entries own.0) in
-        let told = tells_so g k opening j is_opening z.journal then.stand then.runs in
-        let uncleaned = (in_commit g k opening j is_opening z.journal then.stand then.runs led at_led).2.uncleaned in
-        let clean : has_cleaned k.clean z.journal ≡ false = sym (ap (λ (m : Told). m.cleaned) told ∙ cleaned_is w z.journal (nothing_told then.stand.told.cleans_at) ∙ ap (λ c. has_cleaned c z.journal) then.cleans) ∙ uncleaned in
+        let clean = unclean_then g opening j is_opening x run_x idle i d (ends.Commit e) es n led at_led in
         sym (ap (λ a. is_driver a && is_begun k.clean u.event) (same_is u.actor Driver own.1)) ∙ none_of (λ v. is_driver v.actor && is_begun k.clean v.event) u z.journal clean here
 
     read_there : (before : List Entry) (u : Entry) (later : List Entry) (t : ℕ) (r : Reply) → es ≡ before ++ u ∷ later → u.request ≡ set_request w.committer w t → u.outcome ≡ Answered r → IsSome (set_read r)
@@ -278,32 +232,13 @@ module _ (g : Setting) (single : g.shared ≡ false) (opening : Content) (j : Is
 
       -- ---- what is seen then
 
-      -- up to the end of the event strangers may have sent behind it
-      abbrev strays : List Entry
-      strays = until (i + 1) n.closed.entries
-
-      until_is : until (i + 1) x.journal ≡ z.journal ++ strays
-      until_is = journal_until g opening x run_x idle i n.event_end n.closed
-
-      taken : take (length (until (i + 1) x.journal)) x.journal ≡ until (i + 1) x.journal
-      taken =
-          let parts = event_rows.front (i + 1) x.journal (told_all g opening x run_x).rising in
-          ap (take (length (until (i + 1) x.journal))) (sym parts) ∙ take_cut (until (i + 1) x.journal) (since (i + 1 + 1) x.journal)
-
-      picks_then : then.stand.seen.picks ≡ (seen_until w opening x.journal x.ends (i + 1)).picks
-      picks_then =
-          ap (λ (v : Seen). v.picks) (sees g k opening j is_opening z.journal then.stand then.runs)
-          ∙ sym (strange_picks w k (see_all w k (nothing_seen opening) z.journal) strays (until_strange g opening x run_x idle i n.event_end n.closed))
-          ∙ ap (λ (v : Seen). v.picks) (sym (see_parts w k (nothing_seen opening) z.journal strays))
-          ∙ ap (λ l. (see_all w k (nothing_seen opening) l).picks) (sym (taken ∙ until_is))
-
       due_so : CommitEnded w (seen_until w opening x.journal x.ends (i + 1)) d.reports.missing es e
       due_so =
           let o : CommitEnded w then.stand.seen d.reports.missing es e = subst (λ l. CommitEnded w then.stand.seen d.reports.missing l e) commit_is_es (commit_runs.ended g j k opening is_opening z.journal then.stand then.runs e at_end d.reports.missing (commit_leads d.reports.missing ∙ leads)) in
           record {
             worn = o.worn;
             first = o.first;
-            due = elim o.due [ inl memory ↦ inl memory | inr is ↦ inr (is ∙ ap (λ p. commit_due w p d.reports.missing o.worn) picks_then) ];
+            due = elim o.due [ inl memory ↦ inl memory | inr is ↦ inr (is ∙ ap (λ p. commit_due w p d.reports.missing o.worn) (picks_then g opening j is_opening x run_x idle i d (ends.Commit e) es n)) ];
             answered = o.answered;
           }
 
@@ -317,7 +252,7 @@ module _ (g : Setting) (single : g.shared ≡ false) (opening : Content) (j : Is
         own_until = until_own g opening x run_x idle alone i n.event_end n.closed
 
         seen_then : then.stand.seen ≡ seen_until w opening x.journal x.ends (i + 1)
-        seen_then = sees g k opening j is_opening z.journal then.stand then.runs ∙ ap (see_all w k (nothing_seen opening)) (sym (taken ∙ own_until))
+        seen_then = sees g k opening j is_opening z.journal then.stand then.runs ∙ ap (see_all w k (nothing_seen opening)) (sym (taken_then g opening j is_opening x run_x idle i d (ends.Commit e) es n ∙ own_until))
 
         marked_so : e ≡ commits.Committed → is_marked w (seen_until w opening x.journal x.ends (i + 1)) ≡ true
         marked_so is = ap (is_marked w) (sym seen_then) ∙ commit_runs.marked g j k opening is_opening z.journal then.stand then.runs alone_then (at_end ∙ ap (λ v. Some (TheCommit (CommitOver v))) is)

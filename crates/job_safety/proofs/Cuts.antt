@@ -59,6 +59,10 @@ pub all_by_back : (a : Actor) (es fs : List Entry) → AllBy a (es ++ fs) → Al
 all_by_back a [] fs h = h
 all_by_back a (e ∷ es) fs h = all_by_back a es fs h.1
 
+pub all_by_front : (a : Actor) (es fs : List Entry) → AllBy a (es ++ fs) → AllBy a es
+all_by_front a [] fs h = tt
+all_by_front a (e ∷ es) fs h = (h.0, all_by_front a es fs h.1)
+
 pub all_by_last : (a : Actor) (es : List Entry) (e : Entry) → AllBy a es → e.actor ≡ a → AllBy a (es ++ e ∷ [])
 all_by_last a [] e h one = (one, tt)
 all_by_last a (x ∷ es) e h one = (h.0, all_by_last a es e h.1 one)

@@ -9,6 +9,7 @@ use Rattle.job_steps.proofs.Parts.{get_last, own_own}
 use Rattle.job_steps.proofs.Actors.{same_or_not, put_here, put_other}
 use Rattle.job_steps.proofs.RunningStages.{DriverAt, IsBehind, begins_so, memory_dies, may_end, restarted_new, driver_ends}
 use Rattle.job_steps.proofs.Running.{carried}
+use Rattle.job_steps.proofs.Told.{told_all}
 use Rattle.job_safety.proofs.Cuts.{all_by_last}
 use Rattle.job_safety.proofs.Sorts.{kind, OfSetup, OfCommit, OfClean, over_kind}
 
@@ -74,6 +75,10 @@ module _ (g : Setting) (opening : Content) (j : IsLegal g.script) (is_opening : 
 
   pub driver_now : (x : Play) → Reachable g opening x → DriverAt (x.live.state Driver).stage (x.live.state Driver).life (operation_of (x.running Driver))
   driver_now x past = (carried g opening j is_opening x past (x.ends ++ Done ∷ []) (ahead_on x)).along.driver_at
+
+  -- the driver is at the operation that it is at between events, and at its stage
+  pub driver_past : (y : Play) → Reachable g opening y → y.now ≡ None → DriverAt (y.past.state Driver).stage (y.past.state Driver).life (operation_of (y.running Driver))
+  driver_past y past idle = subst (λ (p : Past). DriverAt (p.state Driver).stage (p.state Driver).life (operation_of (y.running Driver))) ((told_all g opening y past).closed idle).0 (driver_now y past)
 
   -- a busy driver at this operation
   pub driver_busy : (x : Play) → Reachable g opening x → (m : Running) → (x.live.state Driver).life ≡ Busy → x.running Driver ≡ Some m → DriverAt (x.live.state Driver).stage Busy (Some m.operation)

@@ -1,7 +1,7 @@
 -- What happened, looked back at: how an event came to its end, how an operation began, and what came later.
-use Rattle.std.proofs.Common.{◌≡◌, ℕ, ◌+◌, ◌<◌, ◌≤◌, ◌⊎◌, inl, inr, false, List, [], ◌∷◌, ◌++◌, length, slice_get, append_assoc, append-nil, Some, None, refl, sym, ap, subst, ◌∙◌, arith}
+use Rattle.std.proofs.Common.{◌≡◌, ℕ, ◌+◌, ◌<◌, ◌≤◌, ◌⊎◌, inl, inr, false, List, [], ◌∷◌, ◌++◌, length, slice_get, append_assoc, append-nil, Option, Some, None, refl, sym, ap, subst, ◌∙◌, arith}
 use Rattle.job_spec.proofs.Common.{slice_get_within, some_is, none_some, false_true}
-use Rattle.job_steps.specs.Prelude.{Content, Actor, Request, Outcome, Entry, Op, Event, Do, Start, EventEnd, Refused, Setting, Past, Doing, put, reports, is_refused, open_event, own, AllFrom, strange_entry, Play, Transition, Refuses, Opens, Sends, Finishes, Closes, Strays, happen, MayOpen, MaySend, MayClose, MayStray, Enabled, Reachable, nothing_happened, happens, Ahead, reports}
+use Rattle.job_steps.specs.Prelude.{Content, Actor, Request, Outcome, Entry, Op, Event, Do, Start, EventEnd, Refused, Setting, Running, Past, Doing, put, reports, is_refused, open_event, own, AllFrom, begun, start_of, knows_now, open_running, strange_entry, Play, Transition, Refuses, Opens, Sends, Finishes, Closes, Strays, happen, MayOpen, MaySend, MayClose, MayStray, Enabled, Reachable, nothing_happened, happens, Ahead, reports}
 use Rattle.job_steps.proofs.Parts.{get_last, from_last, from_own, own_own}
 use Rattle.job_steps.proofs.Actors.{same_or_not, put_here, put_other}
 use Rattle.job_steps.proofs.Told.{told_all}
@@ -11,6 +11,15 @@ use Rattle.job_steps.proofs.Running.{sent_ahead, finished_ahead, opened_ahead, r
 pub data Later (g : Setting) (opening : Content) (y : Play) : Play → Type 0 where
   at_once : Later g opening y y
   later : (x : Play) (h : Transition) → Reachable g opening x → Later g opening y x → Enabled g opening x h → Later g opening y (happen g x h)
+
+-- what happened since then, in which this actor began nothing, and what was sent
+pub data Meanwhile (g : Setting) (opening : Content) (a : Actor) (y : Play) : List Entry → Play → Type 0 where
+  nothing_since : Meanwhile g opening a y [] y
+  -- nothing is sent, and the actor is at what it was at
+  was_silent : (es : List Entry) (x z : Play) → Meanwhile g opening a y es x → z.journal ≡ x.journal → z.running a ≡ x.running a → ((ends : List EventEnd) → Ahead z ends → Ahead x ends) → Meanwhile g opening a y es z
+  was_sent : (es : List Entry) (x : Play) (e : Entry) → Reachable g opening x → Meanwhile g opening a y es x → MaySend g opening x e → Meanwhile g opening a y (es ++ e ∷ []) (happen g x (Sends e))
+  had_strayed : (es : List Entry) (x : Play) (r : Request) (o : Outcome) → Reachable g opening x → Meanwhile g opening a y es x → MayStray g opening x r o
+      → Meanwhile g opening a y (es ++ strange_entry (length x.ends) r o ∷ []) (happen g x (Strays r o))
 
 -- event j + 1 came to this end, and went on here until then
 pub record Closed (g : Setting) (opening : Content) (x : Play) (j : ℕ) (end : EventEnd) : Type 0 where
@@ -42,6 +51,7 @@ pub record Began (g : Setting) (opening : Content) (x : Play) (a : Actor) (d : D
   pub entries : List Entry
   pub all : x.journal ≡ at.journal ++ entries
   pub after : AllFrom d.since entries
+  pub meanwhile : Meanwhile g opening a (happen g at (Opens event)) entries x
   pub ahead : (ends : List EventEnd) → Ahead x ends → Ahead (happen g at (Opens event)) ends
 
 module _ (g : Setting) (opening : Content) where
@@ -129,8 +139,8 @@ module _ (g : Setting) (opening : Content) where
 
   -- ---- an operation that began
 
-  still_began : (y : Play) (h : Transition) (a : Actor) (d : Doing) → (happen g y h).journal ≡ y.journal → ((ends : List EventEnd) → Ahead (happen g y h) ends → Ahead y ends) → Began g opening y a d → Began g opening (happen g y h) a d
-  still_began y h a d same back b = record {
+  still_began : (y : Play) (h : Transition) (a : Actor) (d : Doing) → (happen g y h).journal ≡ y.journal → (happen g y h).running a ≡ y.running a → ((ends : List EventEnd) → Ahead (happen g y h) ends → Ahead y ends) → Began g opening y a d → Began g opening (happen g y h) a d
+  still_began y h a d same at back b = record {
     at = b.at;
     happened = b.happened;
     event = b.event;
@@ -141,11 +151,12 @@ module _ (g : Setting) (opening : Content) where
     entries = b.entries;
     all = same ∙ b.all;
     after = b.after;
+    meanwhile = was_silent b.entries y (happen g y h) b.meanwhile same at back;
     ahead = λ ends v. b.ahead ends (back ends v);
   }
 
-  sent_began : (y : Play) (e : Entry) (a : Actor) (d : Doing) → MaySend g opening y e → d.since ≤ length y.ends + 1 → Began g opening y a d → Began g opening (happen g y (Sends e)) a d
-  sent_began y e a d may then b =
+  sent_began : (y : Play) (e : Entry) (a : Actor) (d : Doing) → Reachable g opening y → MaySend g opening y e → d.since ≤ length y.ends + 1 → Began g opening y a d → Began g opening (happen g y (Sends e)) a d
+  sent_began y e a d past may then b =
       let late : d.since ≤ e.event = omega (arith, may.number) in
       record {
         at = b.at;
@@ -158,11 +169,12 @@ module _ (g : Setting) (opening : Content) where
         entries = b.entries ++ e ∷ [];
         all = ap (λ l. l ++ e ∷ []) b.all ∙ append_assoc b.at.journal b.entries (e ∷ []);
         after = from_last d.since b.entries e b.after late;
+        meanwhile = was_sent b.entries y e past b.meanwhile may;
         ahead = λ ends v. b.ahead ends (sent_ahead g y e ends v);
       }
 
-  strayed_began : (y : Play) (r : Request) (o : Outcome) (a : Actor) (d : Doing) → d.since ≤ length y.ends → Began g opening y a d → Began g opening (happen g y (Strays r o)) a d
-  strayed_began y r o a d then b =
+  strayed_began : (y : Play) (r : Request) (o : Outcome) (a : Actor) (d : Doing) → Reachable g opening y → MayStray g opening y r o → d.since ≤ length y.ends → Began g opening y a d → Began g opening (happen g y (Strays r o)) a d
+  strayed_began y r o a d past may then b =
       let e = strange_entry (length y.ends) r o in
       record {
         at = b.at;
@@ -175,6 +187,7 @@ module _ (g : Setting) (opening : Content) where
         entries = b.entries ++ e ∷ [];
         all = ap (λ l. l ++ e ∷ []) b.all ∙ append_assoc b.at.journal b.entries (e ∷ []);
         after = from_last d.since b.entries e b.after then;
+        meanwhile = had_strayed b.entries y r o past b.meanwhile may;
         ahead = λ ends v. b.ahead ends (strayed_ahead g y r o ends v);
       }
 
@@ -193,24 +206,32 @@ module _ (g : Setting) (opening : Content) where
     entries = [];
     all = sym (append-nil y.journal);
     after = tt;
+    meanwhile = nothing_since;
     ahead = λ ends v. v;
   }
 
+  abbrev begun_now : Play → Actor → Op → Option Running
+  begun_now y b op = begun (start_of g b op (reports g.script y.past.reported) (knows_now g y b)) (knows_now g y b)
+
+  -- what an actor that begins nothing began last
+  abbrev Kept : Play → Event → Type 0
+  Kept y ev = (a : Actor) (d : Doing) → y.past.doing a ≡ Some d → open_running g y ev a ≡ y.running a → Began g opening (happen g y (Opens ev)) a d
+
   began_one : (y : Play) (ev : Event) (b : Actor) (op : Op) → Reachable g opening y → MayOpen g y ev None → IsBegin ev b op
-      → ((a : Actor) (d : Doing) → y.past.doing a ≡ Some d → Began g opening (happen g y (Opens ev)) a d)
+      → Kept y ev → (c : Option Running) → open_running g y ev ≡ put y.running b c
       → (a : Actor) (d : Doing) → put y.past.doing b (Some (doing_now y op)) a ≡ Some d → Began g opening (happen g y (Opens ev)) a d
-  began_one y ev b op past may is old a d e = elim (same_or_not a b) [
+  began_one y ev b op past may is old c opens a d e = elim (same_or_not a b) [
     | inl s ↦
         subst (λ v. Began g opening (happen g y (Opens ev)) a v) (some_is (sym (put_here y.past.doing b (Some (doing_now y op)) a s) ∙ e))
         (subst (λ c. Began g opening (happen g y (Opens ev)) c (doing_now y op)) (sym s) (began_now y ev b op past may is))
-    | inr ne ↦ old a d (sym (put_other y.past.doing b (Some (doing_now y op)) a ne) ∙ e)
+    | inr ne ↦ old a d (sym (put_other y.past.doing b (Some (doing_now y op)) a ne) ∙ e) (ap (λ r. r a) opens ∙ put_other y.running b c a ne)
   ]
 
-  opened_began : (y : Play) (ev : Event) → Reachable g opening y → MayOpen g y ev None → ((a : Actor) (d : Doing) → y.past.doing a ≡ Some d → Began g opening (happen g y (Opens ev)) a d)
+  opened_began : (y : Play) (ev : Event) → Reachable g opening y → MayOpen g y ev None → Kept y ev
       → (a : Actor) (d : Doing) → (open_event g.script y.past ev).doing a ≡ Some d → Began g opening (happen g y (Opens ev)) a d
-  opened_began y (Do b op) past may old a d e = began_one y (Do b op) b op past may (inl refl) old a d e
-  opened_began y (Start b op) past may old a d e = began_one y (Start b op) b op past may (inr refl) old a d e
-  opened_began y _ past may old a d e = old a d e
+  opened_began y (Do b op) past may old a d e = began_one y (Do b op) b op past may (inl refl) old (begun_now y b op) refl a d e
+  opened_began y (Start b op) past may old a d e = began_one y (Start b op) b op past may (inr refl) old (begun_now y b op) refl a d e
+  opened_began y _ past may old a d e = old a d e refl
 
   -- between events what is past is how it stands
   lived : (y : Play) → Reachable g opening y → y.now ≡ None → (a : Actor) (d : Doing) → y.past.doing a ≡ Some d → y.live.doing a ≡ Some d
@@ -218,9 +239,9 @@ module _ (g : Setting) (opening : Content) where
 
   pub began : (x : Play) → Reachable g opening x → (a : Actor) (d : Doing) → x.live.doing a ≡ Some d → Began g opening x a d
   began x (nothing_happened) a d e = absurd (none_some refl e)
-  began x (happens y (Refuses f) past may) a d e = still_began y (Refuses f) a d refl (λ ends v. refused_ahead g y f ends may.1.idle v) (began y past a d (lived y past may.1.idle a d e))
-  began x (happens y (Opens ev) past may) a d e = opened_began y ev past may (λ c v i. still_began y (Opens ev) c v refl (λ ends z. opened_ahead g y ev ends may.idle z) (began y past c v (lived y past may.idle c v i))) a d e
-  began x (happens y (Sends v) past may) a d e = sent_began y v a d may ((told_all g opening y past).runs a d e).from_then (began y past a d e)
-  began x (happens y (Finishes z) past may) a d e = still_began y (Finishes z) a d refl (λ ends v. finished_ahead g y z ends v) (began y past a d e)
-  began x (happens y (Closes end) past may) a d e = still_began y (Closes end) a d refl (λ ends v. closed_ahead g y end ends (not_refused g.script y.past.state may.event end _ may.turns) v) (began y past a d e)
-  began x (happens y (Strays r o) past may) a d e = strayed_began y r o a d ((told_all g opening y past).over may.idle a d e) (began y past a d e)
+  began x (happens y (Refuses f) past may) a d e = still_began y (Refuses f) a d refl refl (λ ends v. refused_ahead g y f ends may.1.idle v) (began y past a d (lived y past may.1.idle a d e))
+  began x (happens y (Opens ev) past may) a d e = opened_began y ev past may (λ c v i at. still_began y (Opens ev) c v refl at (λ ends z. opened_ahead g y ev ends may.idle z) (began y past c v (lived y past may.idle c v i))) a d e
+  began x (happens y (Sends v) past may) a d e = sent_began y v a d past may ((told_all g opening y past).runs a d e).from_then (began y past a d e)
+  began x (happens y (Finishes z) past may) a d e = still_began y (Finishes z) a d refl refl (λ ends v. finished_ahead g y z ends v) (began y past a d e)
+  began x (happens y (Closes end) past may) a d e = still_began y (Closes end) a d refl refl (λ ends v. closed_ahead g y end ends (not_refused g.script y.past.state may.event end _ may.turns) v) (began y past a d e)
+  began x (happens y (Strays r o) past may) a d e = strayed_began y r o a d past may ((told_all g opening y past).over may.idle a d e) (began y past a d e)

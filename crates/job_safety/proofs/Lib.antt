@@ -9,6 +9,7 @@ pub mod Setups
 pub mod Cleans
 pub mod Tasks
 pub mod After
+pub mod Timed
 pub mod Commits
 pub mod Facts
 pub mod Kept

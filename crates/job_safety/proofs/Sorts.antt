@@ -1,14 +1,16 @@
 -- Of which kind an operation is, from its beginning to its end.
-use Rattle.std.proofs.Common.{◌≡◌, ℕ, true, List, [], ◌∷◌, Option, Some, None, refl, sym, ap, ◌∙◌, false}
-use Rattle.job_steps.specs.Prelude.{option_map, Actor, Driver, Outcome, Entry, run, fresh, Who, Known, Op, SetupEnd, TaskEnd, CommitEnd, CleanEnd, OpEnd, setup_start, setup_over, write_over, task_commit_over, task_abort_over, commit_start, commit_over, clean_start, clean_over, Setting, Operation, TheSetup, TheWrite, TheTaskCommit, TheTaskAbort, TheCommit, TheClean, Running, who, tells, advance, start_of, over, is_memory, Reports, missing, TheCheck, commit_of, clean_of, TheSparing, step}
+use Rattle.std.proofs.Common.{◌≡◌, ◌⊎◌, inl, inr, true, List, [], ◌∷◌, Option, Some, None, refl, sym, ap, ◌∙◌}
+use Rattle.job_steps.specs.Prelude.{option_map, Actor, Driver, Outcome, Entry, run, fresh, Who, Known, Op, SetupEnd, TaskEnd, CommitEnd, CleanEnd, OpEnd, setup_start, setup_over, write_over, task_commit_over, task_abort_over, commit_over, clean_over, Setting, Operation, TheSetup, TheWrite, TheTaskCommit, TheTaskAbort, TheCommit, TheClean, Running, who, tells, advance, start_of, over, is_memory, Reports, TheCheck, commit_of, clean_of, TheSparing, step}
 use Rattle.job_spec.proofs.Common.{some_is, none_some, false_true}
 use Rattle.job_model.specs.declared.events.Op.TheVariants as ops
 use Rattle.job_model.specs.declared.ends.SetupEnd.TheVariants as setups
 use Rattle.job_model.specs.declared.ends.TaskEnd.TheVariants as tasks
 use Rattle.job_model.specs.declared.ends.CommitEnd.TheVariants as commits
 use Rattle.job_model.specs.declared.ends.CleanEnd.TheVariants as cleans
+use Rattle.job_model.specs.declared.ends.CheckEnd.{CheckEnd}
+use Rattle.job_model.specs.declared.ends.CheckEnd.TheVariants as checks
 use Rattle.job_model.specs.declared.ends.OpEnd.TheVariants as ends
-use Rattle.job_protocol.proofs.Begun.{after_check_so, commit_of_so, clean_of_so, commit_alone, clean_alone}
+use Rattle.job_protocol.proofs.Begun.{after_check_so, commit_of_so, clean_of_so}
 use Rattle.job_protocol.specs.Rechecks.{check_after, check_over}
 use Rattle.job_protocol.specs.Sparing.{sparing_over}
 
@@ -72,18 +74,19 @@ driver_setup g ops.Write r k m b e = absurd (none_some refl b)
 driver_setup g ops.Commit r k m b e = let no : OfCommit ≡ OfSetup = sym (commit_kind g r) ∙ ap kind (some_is b) ∙ e in absurd cc
 driver_setup g _ r k m b e = let no : OfClean ≡ OfSetup = sym (clean_kind g) ∙ ap kind (some_is b) ∙ e in absurd cc
 
--- where no other job shares the destination
-pub driver_commit : (g : Setting) → g.shared ≡ false → (op : Op) (reports : Reports) (k : Known) (m : Operation) → start_of g Driver op reports k ≡ Some m → kind m ≡ OfCommit → (op ≡ ops.Commit) × (m ≡ TheCommit (commit_start g.script reports.missing))
-driver_commit g single ops.Setup r k m b e = let no : OfSetup ≡ OfCommit = ap kind (some_is b) ∙ e in absurd cc
-driver_commit g single ops.Write r k m b e = absurd (none_some refl b)
-driver_commit g single ops.Commit r k m b e = (refl, sym (some_is b) ∙ commit_alone g r single)
-driver_commit g single _ r k m b e = let no : OfClean ≡ OfCommit = sym (clean_kind g) ∙ ap kind (some_is b) ∙ e in absurd cc
+-- a commit, or the check before it; and an abort or clean
+pub driver_commit : (g : Setting) (op : Op) (reports : Reports) (k : Known) (m : Operation) → start_of g Driver op reports k ≡ Some m → kind m ≡ OfCommit → (op ≡ ops.Commit) × (m ≡ commit_of g reports)
+driver_commit g ops.Setup r k m b e = let no : OfSetup ≡ OfCommit = ap kind (some_is b) ∙ e in absurd cc
+driver_commit g ops.Write r k m b e = absurd (none_some refl b)
+driver_commit g ops.Commit r k m b e = (refl, sym (some_is b))
+driver_commit g _ r k m b e = let no : OfClean ≡ OfCommit = sym (clean_kind g) ∙ ap kind (some_is b) ∙ e in absurd cc
 
-pub driver_clean : (g : Setting) → g.shared ≡ false → (op : Op) (reports : Reports) (k : Known) (m : Operation) → start_of g Driver op reports k ≡ Some m → kind m ≡ OfClean → m ≡ TheClean (fresh g.script.retries clean_start)
-driver_clean g single ops.Setup r k m b e = let no : OfSetup ≡ OfClean = ap kind (some_is b) ∙ e in absurd cc
-driver_clean g single ops.Write r k m b e = absurd (none_some refl b)
-driver_clean g single ops.Commit r k m b e = let no : OfCommit ≡ OfClean = sym (commit_kind g r) ∙ ap kind (some_is b) ∙ e in absurd cc
-driver_clean g single _ r k m b e = sym (some_is b) ∙ clean_alone g single
+pub driver_clean : (g : Setting) (op : Op) (reports : Reports) (k : Known) (m : Operation) → start_of g Driver op reports k ≡ Some m → kind m ≡ OfClean → ((op ≡ ops.Abort) ⊎ (op ≡ ops.Clean)) × (m ≡ clean_of g)
+driver_clean g ops.Setup r k m b e = let no : OfSetup ≡ OfClean = ap kind (some_is b) ∙ e in absurd cc
+driver_clean g ops.Write r k m b e = absurd (none_some refl b)
+driver_clean g ops.Commit r k m b e = let no : OfCommit ≡ OfClean = sym (commit_kind g r) ∙ ap kind (some_is b) ∙ e in absurd cc
+driver_clean g ops.Abort r k m b e = (inl refl, sym (some_is b))
+driver_clean g ops.Clean r k m b e = (inr refl, sym (some_is b))
 
 -- ---- ends for want of memory
 
@@ -94,6 +97,10 @@ memory_setup _ h = absurd (false_true refl h)
 pub memory_commit : (e : CommitEnd) → is_memory (ends.Commit e) ≡ true → e ≡ commits.NoMemory
 memory_commit commits.NoMemory h = refl
 memory_commit _ h = absurd (false_true refl h)
+
+pub memory_check : (e : CheckEnd) → is_memory (ends.Check e) ≡ true → e ≡ checks.NoMemory
+memory_check checks.NoMemory h = refl
+memory_check _ h = absurd (false_true refl h)
 
 pub memory_clean : (e : CleanEnd) → is_memory (ends.Clean e) ≡ true → e ≡ cleans.NoMemory
 memory_clean cleans.NoMemory h = refl

@@ -143,7 +143,7 @@ module _ (w : Script) where
         | inr x ↦ absurd (none_some none (ap check_over (sym x ∙ h)))
       ]
 
-  over_is : (c : Check) (end : CheckEnd) → check_over c ≡ Some end → c ≡ CheckOver end
+  pub over_is : (c : Check) (end : CheckEnd) → check_over c ≡ Some end → c ≡ CheckOver end
   over_is (CheckOver x) end e = ap CheckOver (some_is e)
   over_is _ end e = absurd (none_some refl e)
 

@@ -31,7 +31,7 @@ before_commit a b e = rw e refl
 -- ---- where a commit stands
 
 -- behind its check, with these entries of both and these of its own
-record Behind (w : Script) (both own : List Entry) (c : Commit) : Type 0 where
+pub record Behind (w : Script) (both own : List Entry) (c : Commit) : Type 0 where
   pub missing : Option ℕ
   pub leads : run (commit_tells w) (commit_start w missing) own ≡ c
   pub reported : List Who
@@ -150,7 +150,10 @@ module _ (g : Setting) (j : IsLegal g.script) (shared : g.shared ≡ true) (k : 
       let o = checks_end w s.reported (commit_entries k es) t s.checked end over in
       record { fails = s.fails; worn = o.0; first = o.1; is = o.2 }
 
+  pub behind_so : (es : List Entry) (x : Stand) → Runs g k opening es x → (c : Commit) → x.driver ≡ Some (TheCommit c) → Behind w (commit_entries k es) x.commit c
+  behind_so es x run c d = subst (λ q. Stands q (commit_entries k es) x.commit) d (stands_so es x run)
+
   pub behind_check : (es : List Entry) (x : Stand) → Runs g k opening es x → (end : CommitEnd) → x.driver ≡ Some (TheCommit (CommitOver end)) → BehindCheck w k es x end
   behind_check es x run end d =
-      let s = subst (λ q. Stands q (commit_entries k es) x.commit) d (stands_so es x run) in
+      let s = behind_so es x run (CommitOver end) d in
       record { missing = s.missing; reported = s.reported; checks = s.checks; entries = s.entries; cleared = s.cleared; ended = commit_runs.ended g j k opening is es x run end d s.missing s.leads }

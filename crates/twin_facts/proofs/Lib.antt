@@ -14,3 +14,4 @@ pub mod Sets
 pub mod Spared
 pub mod ByEvents
 pub mod Joining
+pub mod Named

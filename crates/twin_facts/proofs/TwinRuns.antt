@@ -163,12 +163,12 @@ module _ (g h : Setting) (m : MayBeTwins g.script h.script) (k l : Times) (openi
   }
 
   -- what is drawn
-  drew_own : (side : Side) → is_side side side ≡ true → (es : List TwinEntry) (s : Scene) → scene_of (nothing_seen opening).scene es ≡ s → (e : Entry) (n : ℕ) → more (drew side opening es) s e.request e.outcome ≡ drew side opening (es ++ record { side = side; entry = e; theirs = n } ∷ [])
+  pub drew_own : (side : Side) → is_side side side ≡ true → (es : List TwinEntry) (s : Scene) → scene_of (nothing_seen opening).scene es ≡ s → (e : Entry) (n : ℕ) → more (drew side opening es) s e.request e.outcome ≡ drew side opening (es ++ record { side = side; entry = e; theirs = n } ∷ [])
   drew_own side same es s at e n i id =
       sym (drew_more side (nothing_seen opening).scene es (record { side = side; entry = e; theirs = n }) id ∙ ap (λ b. drew side opening es id || (b && drawn_by (scene_of (nothing_seen opening).scene es) e.request e.outcome id)) same
       ∙ ap (λ t. drew side opening es id || drawn_by t e.request e.outcome id) at) i
 
-  drew_not : (side other : Side) → is_side side other ≡ false → (es : List TwinEntry) (e : Entry) (n : ℕ) → drew side opening es ≡ drew side opening (es ++ record { side = other; entry = e; theirs = n } ∷ [])
+  pub drew_not : (side other : Side) → is_side side other ≡ false → (es : List TwinEntry) (e : Entry) (n : ℕ) → drew side opening es ≡ drew side opening (es ++ record { side = other; entry = e; theirs = n } ∷ [])
   drew_not side other differ es e n i id =
       sym (drew_more side (nothing_seen opening).scene es (record { side = other; entry = e; theirs = n }) id ∙ ap (λ b. drew side opening es id || (b && drawn_by (scene_of (nothing_seen opening).scene es) e.request e.outcome id)) differ ∙ or_false (drew side opening es id)) i
 

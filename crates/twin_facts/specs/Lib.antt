@@ -7,3 +7,4 @@ pub mod TwinLaws
 pub mod Spared
 pub mod Events
 pub mod Joined
+pub mod Named

@@ -8,9 +8,10 @@
 //! with the operations of a shared destination: a check before the commit of the mode fail, and an abort or clean
 //! that aborts only what the job's own records and sets name. Each request of a job names only
 //! keys that are its own or in no job's magic directory, uploads that its own attempts know, and its own paths in
-//! the cluster (`names`); so it is a stranger to the other job and foreign to its facts, which each step of either
-//! keeps (`twins`). By one request of a job what stands at a path stays, or becomes a picked file, or goes where one
-//! is wanted or the mode does not keep it, and that by the job's commit alone (`shown`). At each moment, where
+//! the cluster (`names`); so it is a stranger to the other job, over all that this drew in the whole run, and
+//! foreign to its facts, which each step of either keeps (`twins`). By one request of a job what stands at a path
+//! stays, or becomes a picked file, or goes where one is wanted or the mode does not keep it, and that by the
+//! job's commit alone (`shown`). At each moment, where
 //! their bucket stood as the run began, each path has its opening bytes or those of a side whose commit has
 //! begun, and what neither wants stands; where the last put or deletion of `_SUCCESS` is a put by a side's
 //! driver, each task of that side has a pick, its files stand that are not the other's too, and the marker says
@@ -22,15 +23,18 @@
 
 ghost use Rattle.twin_facts.specs.Joined.{EyesTurn, TwinsAreForeign, TwinsJoin};
 ghost use Rattle.twin_facts.specs.Laws.{OwnNames, TwinsAreStrangers};
+ghost use Rattle.twin_facts.specs.Named.{TwinsNameTheirOwn};
 ghost use Rattle.twin_facts.specs.Events.{TwinsAlways, TwinsAreSaid};
 ghost use Rattle.twin_facts.specs.Shown.{CommitShows, OthersShow};
 ghost use Rattle.twin_facts.specs.Spared.{SparingsLeave};
 ghost use Rattle.twin_facts.specs.TwinLaws.{AllTwinsKeep, TwinMoments, TwinsTurn};
 
-/// What the requests of a job name, of two at one destination.
+/// What the requests of a job name, of two at one destination: each by itself, and all of a run over all that
+/// the other drew in it.
 pub fn names()
     ensures own { OwnNames }
     ensures strangers { TwinsAreStrangers }
+    ensures named { TwinsNameTheirOwn }
 {}
 
 /// What one request of a job changes of what stands where files are shown.

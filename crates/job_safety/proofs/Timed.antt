@@ -1,0 +1,133 @@
+-- At the end of an event in which the driver's operation ended: the run then, the event in which its commit began, and what is seen.
+use Rattle.std.proofs.Common.{◌≡◌, ℕ, ◌+◌, ◌<◌, ◌≤◌, inl, inr, true, false, List, ◌++◌, length, take, Option, Some, None, refl, sym, ap, subst, ◌∙◌, arith}
+use Rattle.job_steps.specs.Prelude.{Content, Driver, Entry, IsLegal, Script, Event, Op, OpEnd, Commit, Setting, Operation, Reports, commit_of, TheCommit, TheSetup, see_all, nothing_seen, is_begun, Seen, refusal, Doing, driver_may, until, since, seen_until, Told, nothing_told, IsOpening, is_just_set, Play, MayOpen, Opens, Closes, open_running, happen, Reachable, happens, Ahead, IsRun, operation_of, times, Times, has_cleaned}
+use Rattle.job_spec.specs.Prelude.{reports}
+use Rattle.job_spec.proofs.Common.{at_most_is, at_most_not, false_true}
+use Rattle.job_facts.proofs.Learnt.{cleaned_is}
+use Rattle.job_model.specs.declared.events.Op.TheVariants as ops
+use Rattle.job_protocol.proofs.Begun.{commit_of_so}
+use Rattle.job_traces.proofs.Entries.{sees, tells_so}
+use Rattle.job_steps.proofs.RunningStages.{Begins, begins_so, IsSettingUp, IsTimed, timed_setting, may_commit_job, Begun}
+use Rattle.job_steps.proofs.Told.{told_all}
+use Rattle.job_steps.proofs.RunningNumbers.{begun_at}
+use Rattle.job_steps.proofs.Running.{number, is_run, carried, opened_ahead, closed_ahead, not_refused}
+use Rattle.job_outcomes.proofs.CommitMoments.{see_parts}
+use Rattle.job_outcomes.proofs.Served.{in_commit}
+use Rattle.job_outcomes.proofs.EventRows.{event_rows}
+use Rattle.job_safety.proofs.Cuts.{take_cut}
+use Rattle.job_safety.proofs.History.{Began, IsBegin}
+use Rattle.job_safety.proofs.Ending.{Ending, ahead_none, journal_until, until_strange}
+use Rattle.job_safety.proofs.Spans.{start}
+use Rattle.job_safety.proofs.Strange.{strange_picks}
+use Rattle.job_safety.proofs.Early.{driver_past}
+
+-- ---- plain facts
+
+just_setting : (d : Option Operation) → is_just_set d ≡ true → IsSettingUp d
+just_setting None e = tt
+just_setting (Some (TheSetup t)) e = tt
+just_setting _ e = absurd (false_true refl e)
+
+-- the commit's event is the next one where it has begun then and not before
+commit_number : (k : Option ℕ) (n : ℕ) → is_begun k n ≡ false → is_begun k (n + 1) ≡ true → k ≡ Some (n + 1)
+commit_number None n before now = absurd (false_true refl now)
+commit_number (Some m) n before now =
+    let above : n < m = at_most_not m n before in
+    let below : m ≤ n + 1 = at_most_is m (n + 1) now in
+    let same : m ≡ n + 1 = omega arith in
+    ap (λ v. Some v) same
+
+-- what a driver begins it may begin
+pub begins_at : (g : Setting) (y : Play) (ev : Event) (op : Op) → MayOpen g y ev None → IsBegin ev Driver op → Begins (y.past.state Driver).stage Driver op (y.past.state Driver).life (y.past.state Driver).stage
+begins_at g y ev op may (inl is) = begins_so (y.past.state Driver).stage Driver op (y.past.state Driver).life (y.past.state Driver).stage (ap (refusal y.past.state) (sym is) ∙ may.refusal_is)
+begins_at g y ev op may (inr is) = begins_so (y.past.state Driver).stage Driver op (y.past.state Driver).life (y.past.state Driver).stage (ap (refusal y.past.state) (sym is) ∙ may.refusal_is)
+
+-- a commit that begins has begun, with its check or without
+timed_commit : (g : Setting) (b : Begun) (r : Reports) → IsTimed b (Some (commit_of g r)) → b.commit ≡ true
+timed_commit g b r = commit_of_so g (λ op. IsTimed b (Some op) → b.commit ≡ true) (λ missing h. h.0) (λ t h. h.0) r
+
+module _ (g : Setting) (opening : Content) (j : IsLegal g.script) (is_opening : IsOpening g opening) (x : Play) (run_x : Reachable g opening x) (idle : x.now ≡ None) (i : ℕ) (d : Doing) (end : OpEnd) (es : List Entry) (n : Ending g opening x i Driver d end es) where
+  abbrev w : Script
+  w = g.script
+
+  -- the event of the commit, if it is any
+  abbrev k : Times
+  k = times w x.ends
+
+  abbrev z : Play
+  z = n.closed.at
+
+  -- the run at the end of the event
+  pub ahead_then : Ahead (happen g z (Closes n.event_end)) x.ends
+  ahead_then = n.closed.ahead x.ends (ahead_none x idle)
+
+  pub run_then : IsRun g opening (happen g z (Closes n.event_end)) (times w x.ends)
+  run_then = is_run g opening j is_opening (happen g z (Closes n.event_end)) (happens z (Closes n.event_end) n.closed.happened n.closed.may) x.ends ahead_then
+
+  -- and where the operation began
+  pub ahead_end : Ahead z x.ends
+  ahead_end = closed_ahead g z n.event_end x.ends (not_refused w z.past.state n.closed.may.event n.event_end _ n.closed.may.turns) ahead_then
+
+  abbrev s : Began g opening z Driver d
+  s = start g opening x i Driver d end es n
+
+  pub ahead_opened : Ahead (happen g s.at (Opens s.event)) x.ends
+  ahead_opened = s.ahead x.ends ahead_end
+
+  pub ahead_start : Ahead s.at x.ends
+  ahead_start = opened_ahead g s.at s.event x.ends s.may.idle ahead_opened
+
+  -- ---- a commit that began
+
+  module _ (is : d.op ≡ ops.Commit) where
+    timed_before : is_begun k.commit (length s.at.ends) ≡ false
+    timed_before =
+        let h = (carried g opening j is_opening s.at s.happened x.ends ahead_start).along in
+        let b = begins_at g s.at s.event d.op s.may s.begins in
+        let op = operation_of (s.at.running Driver) in
+        let may : driver_may ops.Commit (s.at.past.state Driver).stage ≡ true = ap (λ v. driver_may v (s.at.past.state Driver).stage) (sym is) ∙ b.may_begin in
+        let just = may_commit_job (s.at.past.state Driver).stage (s.at.past.state Driver).life op (driver_past g opening j is_opening s.at s.happened s.may.idle) may in
+        let timed : IsTimed (begun_at (times w x.ends) (length s.at.ends)) op = subst (λ v. IsTimed (begun_at (times w x.ends) (number v (length s.at.ends))) op) s.may.idle h.timed in
+        (timed_setting (begun_at (times w x.ends) (length s.at.ends)) op timed (just_setting op just)).0
+
+    pub opened_commit : (ev : Event) → IsBegin ev Driver ops.Commit → operation_of (open_running g s.at ev Driver) ≡ Some (commit_of g (reports w s.at.past.reported))
+    opened_commit ev (inl is) = ap (λ v. operation_of (open_running g s.at v Driver)) is
+    opened_commit ev (inr is) = ap (λ v. operation_of (open_running g s.at v Driver)) is
+
+    timed_now : is_begun k.commit (length s.at.ends + 1) ≡ true
+    timed_now =
+        let h = (carried g opening j is_opening (happen g s.at (Opens s.event)) (happens s.at (Opens s.event) s.happened s.may) x.ends ahead_opened).along in
+        let b : Begun = begun_at (times w x.ends) (length s.at.ends + 1) in
+        timed_commit g b (reports w s.at.past.reported) (subst (IsTimed b) (opened_commit s.event (subst (λ v. IsBegin s.event Driver v) is s.begins)) h.timed)
+
+    -- its event is the one in which it began
+    pub number_is : k.commit ≡ Some d.since
+    number_is = commit_number k.commit (length s.at.ends) timed_before timed_now ∙ ap (λ v. Some v) (sym s.since_is)
+
+  -- no abort or clean has begun where the driver is at its commit
+  pub unclean_then : (c : Commit) → run_then.stand.driver ≡ Some (TheCommit c) → has_cleaned k.clean z.journal ≡ false
+  unclean_then c at =
+      let told = tells_so g k opening j is_opening z.journal run_then.stand run_then.runs in
+      let uncleaned = (in_commit g k opening j is_opening z.journal run_then.stand run_then.runs c at).2.uncleaned in
+      sym (ap (λ (m : Told). m.cleaned) told ∙ cleaned_is w z.journal (nothing_told run_then.stand.told.cleans_at) ∙ ap (λ c. has_cleaned c z.journal) run_then.cleans) ∙ uncleaned
+
+  -- ---- what is seen then
+
+  -- up to the end of the event strangers may have sent behind it
+  abbrev strays : List Entry
+  strays = until (i + 1) n.closed.entries
+
+  until_is : until (i + 1) x.journal ≡ z.journal ++ strays
+  until_is = journal_until g opening x run_x idle i n.event_end n.closed
+
+  pub taken_then : take (length (until (i + 1) x.journal)) x.journal ≡ until (i + 1) x.journal
+  taken_then =
+      let parts = event_rows.front (i + 1) x.journal (told_all g opening x run_x).rising in
+      ap (take (length (until (i + 1) x.journal))) (sym parts) ∙ take_cut (until (i + 1) x.journal) (since (i + 1 + 1) x.journal)
+
+  pub picks_then : run_then.stand.seen.picks ≡ (seen_until w opening x.journal x.ends (i + 1)).picks
+  picks_then =
+      ap (λ (v : Seen). v.picks) (sees g k opening j is_opening z.journal run_then.stand run_then.runs)
+      ∙ sym (strange_picks w k (see_all w k (nothing_seen opening) z.journal) strays (until_strange g opening x run_x idle i n.event_end n.closed))
+      ∙ ap (λ (v : Seen). v.picks) (sym (see_parts w k (nothing_seen opening) z.journal strays))
+      ∙ ap (λ l. (see_all w k (nothing_seen opening) l).picks) (sym (taken_then ∙ until_is))

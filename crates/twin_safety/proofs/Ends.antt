@@ -1,0 +1,144 @@
+-- How the commit at a shared destination ends in a run, and the check before it.
+use Rattle.std.proofs.Common.{◌≡◌, ℕ, ◌+◌, inl, inr, not, ◌&&◌, ◌||◌, nat_le, Bool, true, false, cond, List, [], ◌∷◌, Option, Some, None, refl, sym, ap, subst, ◌∙◌}
+use Rattle.job_spec.proofs.Common.{false_true}
+use Rattle.job_steps.specs.Prelude.{Content, Actor, Driver, Request, Entry, run, Follows, WornFirst, IsLegal, Script, Known, OpEnd, CommitEnd, CommitOver, commit_start, commit_tells, Setting, Operation, TheCommit, commit_of, wants, advance, over, is_begun, same_actor, Doing, since, by_actor, known_then, CommitEnded, seen_until, IsOpening, Play, Closes, happen, Reachable, IsRun, operation_of, times, Times, has_cleaned}
+use Rattle.job_facts.specs.Prelude.{Fail, is_driver, commit_due}
+use Rattle.job_model.specs.declared.events.Op.TheVariants as ops
+use Rattle.job_model.specs.declared.ends.OpEnd.TheVariants as ends
+use Rattle.job_model.specs.declared.ends.CheckEnd.{CheckEnd}
+use Rattle.job_outcomes.specs.CommitRuns.{CommitStands}
+use Rattle.job_outcomes.proofs.CommitRuns.{commit_runs}
+use Rattle.job_safety.proofs.Sorts.{OfCommit, end_kind, over_kind, kind_run, driver_commit, memory_commit, memory_check}
+use Rattle.job_safety.proofs.Ending.{Ending, ending}
+use Rattle.job_safety.proofs.Timed.{run_then, number_is, unclean_then, picks_then}
+use Rattle.twin_ends.specs.Checks.{CheckIs}
+use Rattle.twin_ends.specs.Ends.{commit_entries}
+use Rattle.twin_ends.proofs.Checking.{checks_end}
+use Rattle.twin_ends.proofs.Ending as endings
+use Rattle.twin_ends.proofs.Ending.{behind_so}
+use Rattle.twin_safety.specs.Shared.{EndedBehind, SharedCommits, SharedChecks}
+use Rattle.twin_safety.proofs.Pages.{one_rest}
+use Rattle.twin_safety.proofs.Behind.{Behind, IsAt, led, commit_ended, check_ended}
+
+-- ---- the entries of the commit, by events
+
+same_driver : (a : Actor) → same_actor a Driver ≡ is_driver a
+same_driver Driver = refl
+same_driver _ = refl
+
+-- before an abort or clean those of its event and of later ones are all of the driver's since it began
+pub entries_so : (k : Times) (n : ℕ) → k.commit ≡ Some n → (es : List Entry) → has_cleaned k.clean es ≡ false → commit_entries k es ≡ since n (by_actor Driver es)
+entries_so k n is [] clean = refl
+entries_so k n is (e ∷ es) clean =
+    ap (λ c. cond (is_driver e.actor && (is_begun c e.event && not (is_begun k.clean e.event))) (e ∷ commit_entries k es) (commit_entries k es)) is
+    ∙ by (is_driver e.actor) (is_begun k.clean e.event) (has_cleaned k.clean es) (nat_le n e.event) refl clean (λ still. entries_so k n is es still)
+    ∙ ap (λ b. since n (cond b (e ∷ by_actor Driver es) (by_actor Driver es))) (sym (same_driver e.actor))
+  where
+    by : (a c more b : Bool) → nat_le n e.event ≡ b → ((a && c) || more) ≡ false → (more ≡ false → commit_entries k es ≡ since n (by_actor Driver es))
+        → cond (a && (b && not c)) (e ∷ commit_entries k es) (commit_entries k es) ≡ since n (cond a (e ∷ by_actor Driver es) (by_actor Driver es))
+    by false c more b at h rest = rest h
+    by true true more b at h rest = absurd (false_true h refl)
+    by true false more true at h rest = ap (λ l. e ∷ l) (rest h) ∙ ap (λ v. cond v (e ∷ since n (by_actor Driver es)) (since n (by_actor Driver es))) (sym at)
+    by true false more false at h rest = rest h ∙ ap (λ v. cond v (e ∷ since n (by_actor Driver es)) (since n (by_actor Driver es))) (sym at)
+
+module _ (g : Setting) (shared : g.shared ≡ true) (opening : Content) (j : IsLegal g.script) (is_opening : IsOpening g opening) (x : Play) (run_x : Reachable g opening x) (idle : x.now ≡ None) where
+  abbrev w : Script
+  w = g.script
+
+  -- ---- what began as a commit
+
+  module _ (i : ℕ) (d : Doing) (end : OpEnd) (es : List Entry) (n : Ending g opening x i Driver d end es) (sort : end_kind end ≡ OfCommit) where
+    abbrev known : Known
+    known = known_then g Driver d (by_actor Driver n.closed.at.journal)
+
+    abbrev At : Operation → Operation
+    At v = (run (advance g Driver) (record { operation = v; known = known }) es).operation
+
+    begun : over (At n.op) ≡ Some end → (d.op ≡ ops.Commit) × (n.op ≡ commit_of g d.reports)
+    begun o = driver_commit g d.op d.reports known n.op n.begun_is (sym (kind_run g Driver (record { operation = n.op; known = known }) es) ∙ over_kind (At n.op) end o ∙ sort)
+
+    leads_so : n.op ≡ commit_of g d.reports → IsAt w d.reports es (At (commit_of g d.reports))
+    leads_so is = led g shared d.reports known es (subst (λ v. Follows (wants g Driver) (advance g Driver) (record { operation = v; known = known }) es) is n.follows)
+
+  -- ---- one that its check ended
+
+  check_so : (i : ℕ) (d : Doing) (e : CheckEnd) (es : List Entry) (n : Ending g opening x i Driver d (ends.Check e) es) → over (At i d (ends.Check e) es n refl n.op) ≡ Some (ends.Check e)
+      → (w.mode ≡ Fail) × (d.reports.missing ≡ None) × (worn : Option Request) × WornFirst w.retries es worn × CheckIs w es worn e
+  check_so i d e es n o =
+      let b = begun i d (ends.Check e) es n refl o in
+      let at = check_ended w d.reports es e (At i d (ends.Check e) es n refl (commit_of g d.reports)) (leads_so i d (ends.Check e) es n refl b.1) (subst (λ v. over (At i d (ends.Check e) es n refl v) ≡ Some (ends.Check e)) b.1 o) in
+      let r = checks_end w d.reports.attempts es at.0 at.1.checked e at.2 in
+      (at.1.fails, at.1.none, r.0, r.1, r.2)
+
+  pub checks_kept : SharedChecks w x.journal x.ends
+  checks_kept i d e es h =
+      let n = ending g opening x run_x idle i Driver refl d (ends.Check e) es h in
+      elim n.ended [ inl memory ↦ inl (memory_check e memory) | inr o ↦ inr (check_so i d e es n o) ]
+
+  -- ---- one that ended behind it
+
+  module _ (i : ℕ) (d : Doing) (e : CommitEnd) (es : List Entry) (n : Ending g opening x i Driver d (ends.Commit e) es) (o : over (At i d (ends.Commit e) es n refl n.op) ≡ Some (ends.Commit e)) where
+    abbrev k : Times
+    k = times w x.ends
+
+    abbrev z : Play
+    z = n.closed.at
+
+    abbrev first : Operation
+    first = commit_of g d.reports
+
+    commit_begun : (d.op ≡ ops.Commit) × (n.op ≡ commit_of g d.reports)
+    commit_begun = begun i d (ends.Commit e) es n refl o
+
+    behind : Behind w d.reports es (CommitOver e) × (At i d (ends.Commit e) es n refl first ≡ TheCommit (CommitOver e))
+    behind =
+        commit_ended w d.reports es e (At i d (ends.Commit e) es n refl first) (leads_so i d (ends.Commit e) es n refl commit_begun.1) (subst (λ v. over (At i d (ends.Commit e) es n refl v) ≡ Some (ends.Commit e)) commit_begun.1 o)
+
+    -- the run at the end of the event
+    abbrev then : IsRun g opening (happen g z (Closes n.event_end)) (times w x.ends)
+    then = run_then g opening j is_opening x run_x idle i d (ends.Commit e) es n
+
+    at_end : then.stand.driver ≡ Some (TheCommit (CommitOver e))
+    at_end = then.driver ∙ ap operation_of n.running ∙ ap (λ v. Some (At i d (ends.Commit e) es n refl v)) commit_begun.1 ∙ ap (λ v. Some v) behind.1
+
+    all_entries : commit_entries k z.journal ≡ es
+    all_entries =
+        entries_so k d.since (number_is g opening j is_opening x run_x idle i d (ends.Commit e) es n commit_begun.0) z.journal (unclean_then g opening j is_opening x run_x idle i d (ends.Commit e) es n (CommitOver e) at_end)
+        ∙ sym n.entries_are
+
+    stood : endings.Behind w (commit_entries k z.journal) then.stand.commit (CommitOver e)
+    stood = behind_so g j shared k opening is_opening z.journal then.stand then.runs (CommitOver e) at_end
+
+    stands : CommitStands g then.stand (CommitOver e)
+    stands = commit_runs.stands g j k opening is_opening z.journal then.stand then.runs (CommitOver e) at_end
+
+    own_is : then.stand.commit ≡ behind.0.own
+    own_is =
+        one_rest w es stood.checks then.stand.commit behind.0.checks behind.0.own stood.missing d.reports.missing stood.reported d.reports.attempts (sym all_entries ∙ stood.entries) behind.0.entries stood.cleared behind.0.cleared
+        stands.missing d.reports.missing stands.follows behind.0.follows
+
+    due_then : CommitEnded w then.stand.seen d.reports.missing behind.0.own e
+    due_then =
+        subst (λ l. CommitEnded w then.stand.seen d.reports.missing l e) own_is
+        (commit_runs.ended g j k opening is_opening z.journal then.stand then.runs e at_end d.reports.missing (ap (run (commit_tells w) (commit_start w d.reports.missing)) own_is ∙ behind.0.leads))
+
+    commit_so : EndedBehind w (seen_until w opening x.journal x.ends (i + 1)) d es e
+    commit_so =
+        let picks = picks_then g opening j is_opening x run_x idle i d (ends.Commit e) es n in
+        record {
+          checks = behind.0.checks;
+          own = behind.0.own;
+          entries = behind.0.entries;
+          cleared = behind.0.cleared;
+          ended = record {
+            worn = due_then.worn;
+            first = due_then.first;
+            due = elim due_then.due [ inl memory ↦ inl memory | inr is ↦ inr (is ∙ ap (λ p. commit_due w p d.reports.missing due_then.worn) picks) ];
+            answered = due_then.answered;
+          };
+        }
+
+  pub commits_kept : SharedCommits w opening x.journal x.ends
+  commits_kept i d e es h =
+      let n = ending g opening x run_x idle i Driver refl d (ends.Commit e) es h in
+      elim n.ended [ inl memory ↦ inl (memory_commit e memory) | inr o ↦ inr (commit_so i d e es n o) ]

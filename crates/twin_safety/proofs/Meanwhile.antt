@@ -1,0 +1,223 @@
+-- What happens in a run while the driver's abort or clean goes on, and behind its end until the event is over, is an abort or clean that goes on request by request.
+use Rattle.std.proofs.Common.{◌≡◌, ℕ, ◌+◌, ◌<◌, ◌≤◌, ◌^◌, ◌⊎◌, inl, inr, ◌&&◌, nat_le, Bool, true, false, cond, List, [], ◌∷◌, ◌++◌, length, Some, refl, sym, ap, subst, ◌∙◌, arith, length-append}
+use Rattle.job_spec.proofs.Common.{at_most_is, at_most_not, some_is, none_some, true_or_false}
+use Rattle.job_steps.specs.Prelude.{Content, Scene, answer, moment, IsHonestOutcome, Actor, Driver, Attempt, Shell, Request, Outcome, Entry, Retried, fresh, step, Who, actor_of, IsLegal, Op, Event, Do, Start, EventEnd, Refused, Setting, TheSparing, clean_of, who, asks, tells, is_begun, Past, Doing, is_new, needs_set, is_own, own, until, AllBy, AllUpTo, driver_entry, strange_entry, Stand, Runs, IsOpening, BeginClean, begin, actor_begins, strays, is_set, IsTimely, nothing_learnt, Play, Opens, Sends, Finishes, Closes, Strays, Refuses, MaySend, MayStray, happen, hear, open_running, knows_now, Reachable, Ahead, IsRun, operation_of, times, Times}
+use Rattle.job_facts.specs.Prelude.{IsForeign, clean_start, TheClean}
+use Rattle.job_model.specs.declared.events.Op.TheVariants as ops
+use Rattle.job_protocol.specs.Sparing.{Sparing, sparing_start, sparing_after}
+use Rattle.job_traces.specs.Runs.{saw}
+use Rattle.job_traces.proofs.Changes.{moment_scene}
+use Rattle.job_steps.proofs.Actors.{put_here}
+use Rattle.job_steps.proofs.Parts.{up_to_more, up_to_last, until_all, until_late}
+use Rattle.job_steps.proofs.RunningNumbers.{begun_at}
+use Rattle.job_steps.proofs.RunningStages.{IsTimed}
+use Rattle.job_steps.proofs.RunningAlong.{told_known}
+use Rattle.job_steps.proofs.Running.{number, is_run, carried, sent_ahead, strayed_ahead}
+use Rattle.job_steps.proofs.Told.{told_all}
+use Rattle.job_safety.proofs.History.{Later, at_once, later, Meanwhile, nothing_since, was_silent, was_sent, had_strayed, IsBegin, Began}
+use Rattle.job_safety.proofs.Timed.{begins_at}
+use Rattle.twin_facts.specs.Sides as sides
+use Rattle.twin_facts.specs.Sides.{driver_saw}
+use Rattle.twin_facts.specs.Spared.{SparesOn, spares_begin, it_sends, other_sends}
+use Rattle.twin_facts.proofs.OneSide.{goes_on}
+
+-- ---- whose entries these are
+
+-- where all of the job's own are the driver's, so is the last one, if it is the job's
+own_last : (es : List Entry) (e : Entry) → AllBy Driver (own (es ++ e ∷ [])) → AllBy Driver (own es) × (is_own e.actor ≡ true → e.actor ≡ Driver)
+own_last [] e all = (tt, λ mine. (subst (λ b. AllBy Driver (cond b (e ∷ []) [])) mine all).0)
+own_last (x ∷ es) e all = by (is_own x.actor) all (own_last es e)
+  where
+    by : (b : Bool) → AllBy Driver (cond b (x ∷ own (es ++ e ∷ [])) (own (es ++ e ∷ []))) → (AllBy Driver (own (es ++ e ∷ [])) → AllBy Driver (own es) × (is_own e.actor ≡ true → e.actor ≡ Driver))
+        → AllBy Driver (cond b (x ∷ own es) (own es)) × (is_own e.actor ≡ true → e.actor ≡ Driver)
+    by true all rest = let r = rest all.1 in ((all.0, r.0), r.1)
+    by false all rest = rest all
+
+-- an entry of the driver
+driver_is : (e : Entry) → e.actor ≡ Driver → driver_entry e.event e.request e.outcome ≡ e
+driver_is e is = λ i. record { event = e.event; actor = sym is i; request = e.request; outcome = e.outcome }
+
+-- ---- it goes on
+
+module _ (g : Setting) (shared : g.shared ≡ true) (opening : Content) (j : IsLegal g.script) (is_opening : IsOpening g opening) (xs : List EventEnd) where
+  abbrev k : Times
+  k = times g.script xs
+
+  abbrev first : Retried Sparing
+  first = fresh g.script.retries (sparing_start g.script.committer)
+
+  pub clean_shared : clean_of g ≡ TheSparing first
+  clean_shared = ap (λ b. cond b (TheSparing first) (TheClean (fresh g.script.retries clean_start))) shared
+
+  -- an abort or clean that began where the run stood so, in a run that goes on from there
+  pub record Spares (from : Stand) (journal : List Entry) (t : Retried Sparing) : Type 0 where
+    pub stand : Stand
+    pub on : SparesOn g k (begin g from BeginClean) stand
+    pub runs : Runs g k opening journal stand
+    pub driver : stand.driver ≡ Some (TheSparing t)
+
+  -- the driver is at it
+  pub record Going (from : Stand) (y : Play) : Type 0 where
+    pub at : Retried Sparing
+    pub spares : Spares from y.journal at
+    pub running : operation_of (y.running Driver) ≡ Some (TheSparing at)
+
+  -- a stranger sends
+  strayed : (from : Stand) (y : Play) (r : Request) (o : Outcome) (t : Retried Sparing) → MayStray g opening y r o → Spares from y.journal t → Spares from (y.journal ++ strange_entry (length y.ends) r o ∷ []) t
+  strayed from y r o t may s = record {
+    stand = saw g k s.stand (strange_entry (length y.ends) r o);
+    on = other_sends s.stand (length y.ends) r o s.on foreign;
+    runs = strays y.journal s.stand (length y.ends) r o s.runs foreign;
+    driver = s.driver;
+  }
+    where
+      drawn_is : (λ (a : Who). (knows_now g y (actor_of a)).drawn) ≡ s.stand.told.drawn
+      drawn_is = λ i a. (sym (told_known g opening k j is_opening y.journal s.stand s.runs a) i).drawn
+
+      foreign : IsForeign g.script s.stand.told.drawn r
+      foreign = subst (λ v. IsForeign g.script v r) drawn_is may.foreign
+
+  -- the driver sends
+  sent : (from : Stand) (y : Play) (e : Entry) → Reachable g opening y → MaySend g opening y e → Ahead y xs → e.actor ≡ Driver → Going from y → Going from (happen g y (Sends e))
+  sent from y e past may ahead is s =
+      let t = s.at in
+      let u = s.spares.stand in
+      let here : y.running Driver ≡ Some may.at = ap y.running (sym is) ∙ may.is_at in
+      let op_is : may.at.operation ≡ TheSparing t = some_is (sym (ap operation_of here) ∙ s.running) in
+      let asked : asks g (who Driver) nothing_learnt (TheSparing t) ≡ Some e.request = ap (λ v. asks g (who e.actor) may.at.known v) (sym op_is) ∙ may.asked in
+      let n = number y.now (length y.ends) in
+      let now : e.event ≡ n = may.number ∙ sym (ap (λ o. number o (length y.ends)) may.during) in
+      let timed : IsTimed (begun_at k n) (Some (TheSparing t)) = subst (IsTimed (begun_at k n)) s.running (carried g opening j is_opening y past xs ahead).along.timed in
+      let timely : IsTimely k e.event (TheSparing t) = ap (is_begun k.clean) now ∙ timed in
+      let scene : moment opening y.journal (length y.journal) ≡ u.seen.scene = moment_scene g k opening j is_opening y.journal u s.spares.runs in
+      let few : u.seen.scene.content.next ≤ 2 ^ 64 = subst (λ (v : Scene). v.content.next ≤ 2 ^ 64) scene may.few in
+      let honest : IsHonestOutcome e.outcome (answer u.seen.scene e.request) = subst (λ v. IsHonestOutcome e.outcome (answer v e.request)) scene may.honest in
+      let one = driver_entry e.event e.request e.outcome in
+      let next : Stand = driver_saw g k u (TheSparing t) e.event e.request e.outcome in
+      let sends : sides.Sends g k u one next = sides.driver_sends u (TheSparing t) e.event e.request e.outcome s.spares.driver asked timely few honest in
+      let after : Retried Sparing = step g.script.retries (sparing_after g.script) t e.outcome in
+      let heard : (happen g y (Sends e)).running Driver ≡ hear g e.actor (Some may.at) e = put_here y.running e.actor (hear g e.actor (y.running e.actor) e) Driver (sym is) ∙ ap (λ m. hear g e.actor m e) may.is_at in
+      record {
+        at = after;
+        spares = record {
+          stand = next;
+          on = it_sends u next t one s.spares.on s.spares.driver refl sends;
+          runs = subst (λ v. Runs g k opening (y.journal ++ v ∷ []) next) (driver_is e is) (goes_on g k opening y.journal u next one s.spares.runs sends);
+          driver = refl;
+        };
+        running = ap operation_of heard ∙ ap (λ v. Some (tells g (who e.actor) v e.outcome)) op_is;
+      }
+
+  -- of one more sending of the job, which is the driver's
+  is_own_then : (y : Play) (e : Entry) → Reachable g opening y → MaySend g opening y e → Ahead y xs → is_own e.actor ≡ true
+  is_own_then y e past may ahead = by e.actor refl
+    where
+      by : (a : Actor) → e.actor ≡ a → is_own e.actor ≡ true
+      by Driver is = ap is_own is
+      by (Attempt task attempt) is = ap is_own is
+      by Shell is = absurd (none_some (carried g opening j is_opening y past xs ahead).along.nobody (ap y.running (sym is) ∙ may.is_at))
+
+  -- while nothing else begins, and of the job the driver alone sends
+  pub going : (from : Stand) (first_play y : Play) (es : List Entry) → Going from first_play → Meanwhile g opening Driver first_play es y → Ahead y xs → AllBy Driver (own es) → Going from y
+  going from first_play y es start (nothing_since) ahead all = start
+  going from first_play y es start (was_silent es2 x z m same at back) ahead all =
+      let s = going from first_play x es2 start m (back xs ahead) all in
+      let o = s.spares in
+      record { at = s.at; spares = record { stand = o.stand; on = o.on; runs = subst (λ l. Runs g k opening l o.stand) (sym same) o.runs; driver = o.driver }; running = ap operation_of at ∙ s.running }
+  going from first_play y es start (was_sent es2 x e past m may) ahead all =
+      let before = sent_ahead g x e xs ahead in
+      let parts = own_last es2 e all in
+      sent from x e past may before (parts.1 (is_own_then x e past may before)) (going from first_play x es2 start m before parts.0)
+  going from first_play y es start (had_strayed es2 x r o past m may) ahead all =
+      let s = going from first_play x es2 start m (strayed_ahead g x r o xs ahead) (own_last es2 (strange_entry (length x.ends) r o) all).0 in
+      record { at = s.at; spares = strayed from x r o s.at may s.spares; running = s.running }
+
+  -- ---- it begins
+
+  module _ (y : Play) (d : Doing) (b : Began g opening y Driver d) (ahead : Ahead b.at xs) (sort : (d.op ≡ ops.Abort) ⊎ (d.op ≡ ops.Clean)) where
+    -- the run as it began
+    pub run_from : IsRun g opening b.at (times g.script xs)
+    run_from = is_run g opening j is_opening b.at b.happened xs ahead
+
+    needs_so : needs_set Driver d.op ≡ true
+    needs_so = elim sort [ inl a ↦ ap (needs_set Driver) a | inr c ↦ ap (needs_set Driver) c ]
+
+    not_new : is_new (b.at.live.state Driver).stage ≡ false
+    not_new =
+        ap (λ (p : Past). is_new (p.state Driver).stage) ((told_all g opening b.at b.happened).closed b.may.idle).0
+        ∙ sym (ap (λ v. v && is_new (b.at.past.state Driver).stage) needs_so) ∙ (begins_at g b.at b.event d.op b.may b.begins).set
+
+    pub set_from : is_set run_from.stand.driver ≡ true
+    set_from = run_from.set_up not_new
+
+    opened_as : (ev : Event) (op : Op) → IsBegin ev Driver op → (op ≡ ops.Abort) ⊎ (op ≡ ops.Clean) → operation_of (open_running g b.at ev Driver) ≡ Some (clean_of g)
+    opened_as ev op (inl is) (inl a) = ap (λ v. operation_of (open_running g b.at v Driver)) (is ∙ ap (λ o. Do Driver o) a)
+    opened_as ev op (inl is) (inr c) = ap (λ v. operation_of (open_running g b.at v Driver)) (is ∙ ap (λ o. Do Driver o) c)
+    opened_as ev op (inr is) (inl a) = ap (λ v. operation_of (open_running g b.at v Driver)) (is ∙ ap (λ o. Start Driver o) a)
+    opened_as ev op (inr is) (inr c) = ap (λ v. operation_of (open_running g b.at v Driver)) (is ∙ ap (λ o. Start Driver o) c)
+
+    pub goes_from : Going run_from.stand (happen g b.at (Opens b.event))
+    goes_from = record {
+      at = first;
+      spares = record { stand = begin g run_from.stand BeginClean; on = spares_begin; runs = actor_begins b.at.journal run_from.stand BeginClean run_from.runs set_from; driver = ap (λ op. Some op) clean_shared };
+      running = opened_as b.event d.op b.begins sort ∙ ap (λ op. Some op) clean_shared;
+    }
+
+  -- ---- behind its end, until the event is over
+
+  spares_as : (from : Stand) (t : Retried Sparing) (a b : List Entry) → a ≡ b → Spares from a t → Spares from b t
+  spares_as from t a b e s = subst (λ l. Spares from l t) e s
+
+  module _ (from : Stand) (t : Retried Sparing) (i : ℕ) (z : Play) (end : EventEnd) (count : length z.ends ≡ i) (up_to : AllUpTo (i + 1) z.journal) (at_end : Spares from z.journal t) where
+    pub record Rest (y : Play) : Type 0 where
+      pub spares : Spares from (until (i + 1) y.journal) t
+      pub behind : i + 1 ≤ length y.ends
+
+    silent : (y v : Play) → Rest y → y.journal ≡ v.journal → length y.ends ≤ length v.ends → Rest v
+    silent y v o same l =
+        let old : i + 1 ≤ length y.ends = o.behind in
+        record { spares = spares_as from t (until (i + 1) y.journal) (until (i + 1) v.journal) (ap (until (i + 1)) same) o.spares; behind = omega arith }
+
+    itself : (n : ℕ) → n ≤ n
+    itself n = omega arith
+
+    longer : (ends : List EventEnd) (last : EventEnd) → length ends ≤ length (ends ++ last ∷ [])
+    longer ends last = let l : length (ends ++ last ∷ []) ≡ length ends + 1 = length-append ends (last ∷ []) in omega arith
+
+    -- one more entry of a later event
+    passed : (y v : Play) (e : Entry) → Rest y → v.journal ≡ y.journal ++ e ∷ [] → v.ends ≡ y.ends → i + 1 < e.event → Rest v
+    passed y v e o is same late = record {
+      spares = spares_as from t (until (i + 1) y.journal) (until (i + 1) v.journal) (sym (ap (until (i + 1)) is ∙ until_late (i + 1) y.journal e late)) o.spares;
+      behind = subst (λ (l : List EventEnd). i + 1 ≤ length l) (sym same) o.behind;
+    }
+
+    strayed_rest : (y : Play) (r : Request) (o : Outcome) → Reachable g opening y → MayStray g opening y r o → Rest y → (length y.ends ≤ i + 1) ⊎ (i + 1 < length y.ends) → Rest (happen g y (Strays r o))
+    strayed_rest y r o past may old (inr high) = passed y (happen g y (Strays r o)) (strange_entry (length y.ends) r o) old refl refl high
+    strayed_rest y r o past may old (inl low) =
+        let e = strange_entry (length y.ends) r o in
+        let all : AllUpTo (i + 1) y.journal = up_to_more (length y.ends) (i + 1) y.journal low ((told_all g opening y past).closed may.idle).1 in
+        let whole : until (i + 1) (y.journal ++ e ∷ []) ≡ y.journal ++ e ∷ [] = until_all (i + 1) (y.journal ++ e ∷ []) (up_to_last (i + 1) y.journal e all low) in
+        record {
+          spares = spares_as from t (y.journal ++ e ∷ []) (until (i + 1) (y.journal ++ e ∷ [])) (sym whole)
+              (strayed from y r o t may (spares_as from t (until (i + 1) y.journal) y.journal (until_all (i + 1) y.journal all) old.spares));
+          behind = old.behind;
+        }
+
+    at_most : (a b : ℕ) → (a ≤ b) ⊎ (b < a)
+    at_most a b = elim (true_or_false (nat_le a b)) [ inl so ↦ inl (at_most_is a b so) | inr not_so ↦ inr (at_most_not a b not_so) ]
+
+    pub rest : (y : Play) → Later g opening (happen g z (Closes end)) y → Rest y
+    rest y (at_once) =
+        let l : length (z.ends ++ end ∷ []) ≡ length z.ends + 1 = length-append z.ends (end ∷ []) in
+        let over : i + 1 ≤ length (z.ends ++ end ∷ []) = omega arith in
+        record { spares = spares_as from t z.journal (until (i + 1) z.journal) (sym (until_all (i + 1) z.journal up_to)) at_end; behind = over }
+    rest y (later x (Refuses f) past l may) = silent x (happen g x (Refuses f)) (rest x l) refl (longer x.ends (Refused f))
+    rest y (later x (Opens ev) past l may) = silent x (happen g x (Opens ev)) (rest x l) refl (itself (length x.ends))
+    rest y (later x (Sends e) past l may) =
+        let old = rest x l in
+        let n : e.event ≡ length x.ends + 1 = may.number in
+        let far : i + 1 ≤ length x.ends = old.behind in
+        passed x (happen g x (Sends e)) e old refl refl (omega arith)
+    rest y (later x (Finishes v) past l may) = silent x (happen g x (Finishes v)) (rest x l) refl (itself (length x.ends))
+    rest y (later x (Closes v) past l may) = silent x (happen g x (Closes v)) (rest x l) refl (longer x.ends v)
+    rest y (later x (Strays r o) past l may) = strayed_rest x r o past may (rest x l) (at_most (length x.ends) (i + 1))

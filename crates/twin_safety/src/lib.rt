@@ -1,0 +1,18 @@
+//! How the driver's operations end in every run of a job whose destination others share, in `specs/`.
+//!
+//! # What is proved
+//!
+//! Wherever no event goes on, among strangers that send between the job's events and leave its own alone, of every
+//! committer, mode and number of lanes, with losses, retries, several attempts, kills, mixes and restarts: the job's
+//! commit has ended by a task that none had reported, or behind a check that found nothing as is due by the first of its
+//! requests that wore out and by its picks; the check itself, of the mode fail alone, with what its answers showed; and
+//! an abort or clean done or at fault, where one that is done, while no attempt of the job sent, has left no upload that
+//! the job's own records and sets named, and nothing in its directory, whatever the others sent (`shared`).
+#![tactic(auto)]
+
+ghost use Rattle.twin_safety.specs.Shared.{RunsAreKeptShared};
+
+/// What is promised of the driver's commit, and of its abort or clean, at a shared destination.
+pub fn shared()
+    ensures kept { RunsAreKeptShared }
+{}
