@@ -1,7 +1,6 @@
 use crate::given::Given;
 use folder_log::{LogShelf, MemDisk};
-use job_report::Report;
-use s3a_top::run;
+use s3a_top::{Report, run};
 use shelf::{CallList, MemSink, MemSource};
 use std::alloc::{AllocError, Global};
 

@@ -3,8 +3,8 @@ use crate::known::Known;
 use crate::left::crash_left;
 use crate::play::{Played, Wrong, play};
 use folder_log::{Choice, MemDisk};
-use job_report::Report;
 use s3_types::let_go;
+use s3a_top::Report;
 use std::alloc::{AllocError, Global};
 
 /// What was reported, by its numbers.
@@ -12,8 +12,8 @@ pub fn put_report(line: &mut String, report: &Report) -> Result<(), AllocError> 
     let status = report.status;
     let due = report.due;
     write!(line, "status {status} due {due}, ")?;
-    let picks = report.picks.as_slice().len();
-    let ends = report.ends.as_slice().len();
+    let picks = report.told.picks.as_slice().len();
+    let ends = report.told.ends.as_slice().len();
     let sent = report.journal.len();
     write!(line, "picks {picks} ends {ends} sent {sent}")
 }

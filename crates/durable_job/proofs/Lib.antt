@@ -1,1 +1,4 @@
 pub mod Paces
+pub mod Turns
+pub mod Held
+pub mod Ends

@@ -1,105 +1,97 @@
--- How a shelf goes on with a run, event by event.
-use Rattle.std.proofs.Common.{◌≡◌, inl, inr, ℕ, ◌+◌, ◌-◌, ◌^◌, ◌<◌, List, [], ◌∷◌, ◌++◌, append-nil, length, length-append, drop, Option, Some, None, Result, Ok, Err, OnOk, OnErr, IfErr, IsErrOf, refl, sym, ap, subst, ◌∙◌, arith}
-use Rattle.job_spec.proofs.Common.{drop_at}
-use Rattle.job_spec.specs.Prelude.{Content, Request, Entry}
-use Rattle.journal_log.specs.Prelude.{Rose, Holding, Stored, IsDurable, Sight, CrashesLeave, IsTimed, ShelfStop, Failed, NoMemory, Begins, IsMoment, Holds, HoldsGrownBy, HoldsSome, WhereTold, IsBetween, AreAnswered, Stopped, Stops}
+-- How a shelf goes on with a run, step by step.
+use Rattle.std.proofs.Common.{◌≡◌, inl, inr, ℕ, ◌+◌, ◌-◌, ◌^◌, ◌<◌, ◌≤◌, Bool, true, false, List, [], ◌∷◌, ◌++◌, append-nil, length, length-append, slice_get, drop, Option, Some, None, Result, Ok, Err, OnOk, OnErr, IsErrOf, refl, sym, ap, subst, ◌∙◌, arith}
+use Rattle.std.proofs.lemmas.Option.{slice_get_cases}
+use Rattle.job_spec.proofs.Common.{drop_at, slice_get_within}
+use Rattle.job_spec.specs.Prelude.{Content, Request, Entry, Script, Event}
+use Rattle.journal_log.specs.Prelude.{Rose, Holding, Stored, IsDurable, Sight, CrashesLeave, IsTimed, ShelfStop, Failed, NoMemory, Begins, IsMoment, Holds, HoldsPart, WhereTold, IsBetween, AreAnswered, Appended, Stopped}
 use Rattle.journal_log.specs.Changes.{changes}
 use Rattle.journal_log.proofs.Journals.{changes_append, changes_none}
 use Rattle.journal_log.proofs.Standing.{begins_all, begins_more, holds_none, holds_more, short, some}
-use Rattle.journal_log.proofs.Leaving.{at_first, started, on_and_on}
-use Rattle.journal_log.proofs.Steps.{answered_then, stops_of}
+use Rattle.journal_log.proofs.Leaving.{started, on_and_on}
+use Rattle.journal_log.proofs.Steps.{answered_then, some_grown, stops_of}
 use Rattle.job_world.specs.Worlds.{Run, WentOn, FoundNone}
+use Rattle.durable_job.specs.Moves.{Adds, Stepped, Stays, left_of}
 use Rattle.durable_job.specs.Played.{Counts}
-use Rattle.durable_job.specs.Pace.{Adds, Follows, Falls, InPace, Behind}
+use Rattle.durable_job.specs.Pace.{InPace, Behind}
 
--- ---- what an event added
+-- ---- a step of a world
 
--- it ended
-pub adds_of : (r s : Run) (w : WentOn r s) → Adds r s w.more.0
-adds_of r s w = record { script = w.script; opening = w.opening; journal = w.more.1; number = w.more.2 }
+-- its event ended
+module _ (r s : Run) (e : Event) (next : slice_get r.script.events (length r.ends) ≡ Some e) (w : WentOn r s) where
+  one_end : length s.ends ≡ length r.ends + 1
+  one_end = ap length w.ends ∙ length-append r.ends (w.end ∷ [])
 
--- what comes behind the journal as it was
-behind_is : (r s : Run) (part : List Entry) → s.journal ≡ r.journal ++ part → drop (length r.journal) s.journal ≡ part
-behind_is r s part e = ap (drop (length r.journal)) e ∙ drop_at r.journal part (length r.journal) refl
+  one_less : left_of r ≡ left_of s + 1
+  one_less =
+      let events : length s.script.events ≡ length r.script.events = ap (λ (v : Script). length v.events) w.script in
+      let few : length r.ends < length r.script.events = slice_get_within r.script.events (length r.ends) e next in
+      omega (arith, one_end)
 
-one_end : (r s : Run) (w : WentOn r s) → length s.ends ≡ length r.ends + 1
-one_end r s w = ap length w.ends ∙ length-append r.ends (w.end ∷ [])
+  pub stepped : (part : List Entry) × Adds r.journal s.journal part × (left_of r ≡ left_of s + 1)
+  stepped = (w.more.0, record { journal = w.more.1; number = length r.ends + 1; event = w.more.2 }, one_less)
+
+  pub stays : Stays r s
+  stays =
+      let count : length s.ends + left_of s ≡ length r.ends + left_of r = omega (arith, one_end, one_less) in
+      record { script = w.script; count = count }
 
 -- it did not happen
-adds_nothing : (r s : Run) → FoundNone r s → Adds r s []
-adds_nothing r s f = record { script = f.script; opening = f.opening; journal = f.journal ∙ sym (append-nil r.journal); number = tt }
+pub stays_so : (r s : Run) → FoundNone r s → Stays r s
+stays_so r s f =
+    let events : length s.script.events ≡ length r.script.events = ap (λ (v : Script). length v.events) f.script in
+    let ends : length s.ends ≡ length r.ends = ap length f.ends in
+    let count : length s.ends + left_of s ≡ length r.ends + left_of r = omega arith in
+    record { script = f.script; count = count }
 
-module _ {S : Type 0} (F : Sight S) where
-  -- ---- one event
+-- there is none
+pub none_left : (r : Run) → slice_get r.script.events (length r.ends) ≡ None → left_of r ≡ 0
+none_left r none =
+    let cases = slice_get_cases r.script.events (length r.ends) in
+    elim cases.1 [
+      | inl h ↦ let bad : Some h.0 ≡ None = sym h.2 ∙ none in absurd (cc)
+      | inr h ↦ let past : left_of r ≡ 0 = omega (arith, h.0) in past
+    ]
 
-  follows : (r s : Run) (old new : S) → WentOn r s → HoldsGrownBy (F.held old) (F.held new) (changes (drop (length r.journal) s.journal)) → IsDurable (F.held new) (F.may_leave new)
-      → AreAnswered F (changes (drop (length r.journal) s.journal)) old new → CrashesLeave F old new (IsBetween (F.held old) (changes (drop (length r.journal) s.journal)))
-      → Follows F r s old new
-  follows r s old new w grown durable answered leaves =
-      let is = ap changes (behind_is r s w.more.0 w.more.1) in
-      record {
-        part = w.more.0;
-        adds = adds_of r s w;
-        ended = one_end r s w;
-        appended = record {
-          grown = subst (HoldsGrownBy (F.held old) (F.held new)) is grown;
-          durable = durable;
-          answered = subst (λ (rs : List Request). AreAnswered F rs old new) is answered;
-        };
-        leaves = subst (λ (rs : List Request). CrashesLeave F old new (IsBetween (F.held old) rs)) is leaves;
-      }
+-- ---- a step
 
-  falls : (fault : ShelfStop) (r s : Run) (old new : S) → WentOn r s → HoldsSome (F.held old) (F.held new) (changes (drop (length r.journal) s.journal))
-      → Stopped F fault (changes (drop (length r.journal) s.journal)) old new → CrashesLeave F old new (IsBetween (F.held old) (changes (drop (length r.journal) s.journal)))
-      → Falls F r s old new
-  falls fault r s old new w grew stopped leaves =
-      let is = ap changes (behind_is r s w.more.0 w.more.1) in
-      record {
-        part = w.more.0;
-        adds = adds_of r s w;
-        some = subst (HoldsSome (F.held old) (F.held new)) is grew;
-        stops = subst (λ (rs : List Request). Stops F rs old new) is (stops_of F fault (changes (drop (length r.journal) s.journal)) old new stopped);
-        leaves = subst (λ (rs : List Request). CrashesLeave F old new (IsBetween (F.held old) rs)) is leaves;
-      }
+module _ {M : Type 0} (sent : M → List Entry) (left : M → ℕ) (old new : M) (more : Bool) (step : Stepped sent left old new more) where
+  -- it was played
+  module _ (is : more ≡ true) where
+    played : Stepped sent left old new true
+    played = subst (Stepped sent left old new) is step
 
-  -- no call was made for no change
-  nothing_some : (s : S) → HoldsSome (F.held s) (F.held s) (changes [])
-  nothing_some s = ([], (changes [], refl), holds_none (F.held s))
+    pub falls : left new < left old
+    falls =
+        let less : left old ≡ left new + 1 = played.2 in
+        omega arith
 
-  nothing_stops : (s : S) → Stops F (changes []) s s
-  nothing_stops s = record { front = []; begins = (changes [], refl); at = s; answered = refl; last = inl refl }
+    pub adds_rest : (all : List Entry) (from : ℕ) → from ≡ length (sent old) → all ≡ sent new → Adds (sent old) (sent new) (drop from all)
+    adds_rest all from first same =
+        let rest : drop from all ≡ played.0 = ap (drop from) (same ∙ played.1.journal) ∙ drop_at (sent old) played.0 from (sym first) in
+        subst (Adds (sent old) (sent new)) (sym rest) played.1
 
-  nothing_leaves : (s : S) → IsTimed F → IsDurable (F.held s) (F.may_leave s) → CrashesLeave F s s (IsBetween (F.held s) (changes []))
-  nothing_leaves s timed durable = started F s (IsBetween (F.held s) (changes [])) (λ h left. subst (λ (rs : List Request). IsBetween (F.held s) rs h) (sym changes_none) (at_first (F.held s) (F.may_leave s) h durable (timed.only_now s h left)))
+    pub within : (all : List Entry) (from : ℕ) → from ≡ length (sent old) → all ≡ sent new → from ≤ length all
+    within all from first same =
+        let longer : length all ≡ length (sent old) + length played.0 = ap length (same ∙ played.1.journal) ∙ length-append (sent old) played.0 in
+        omega arith
 
-  -- the event did not happen
-  pub falls_at_once : (r s : Run) (old new : S) → FoundNone r s → new ≡ old → IsTimed F → IsDurable (F.held old) (F.may_leave old) → Falls F r s old new
-  falls_at_once r s old new f same timed durable = subst (Falls F r s old) (sym same) (record {
-    part = [];
-    adds = adds_nothing r s f;
-    some = nothing_some old;
-    stops = nothing_stops old;
-    leaves = nothing_leaves old timed durable;
-  })
+  -- none was left
+  module _ (is : more ≡ false) where
+    ended : Stepped sent left old new false
+    ended = subst (Stepped sent left old new) is step
 
-  -- what the call of `append_all` says of an event that ended
-  pub follows_by : {A : Type 0} (result : Result A ShelfStop) (r s : Run) (old new : S) → WentOn r s → OnOk result (HoldsGrownBy (F.held old) (F.held new) (changes (drop (length r.journal) s.journal))) → OnOk result (IsDurable (F.held new) (F.may_leave new))
-      → OnOk result (AreAnswered F (changes (drop (length r.journal) s.journal)) old new) → CrashesLeave F old new (IsBetween (F.held old) (changes (drop (length r.journal) s.journal)))
-      → OnOk result (Follows F r s old new)
-  follows_by (Ok x) r s old new w grown durable answered leaves = follows r s old new w grown durable answered leaves
-  follows_by (Err e) r s old new w grown durable answered leaves = tt
+    pub sent_same : sent new ≡ sent old
+    sent_same = ap sent ended.1
 
-  pub falls_by : {A : Type 0} (result : Result A ShelfStop) (r s : Run) (old new : S) → WentOn r s → OnErr result (HoldsSome (F.held old) (F.held new) (changes (drop (length r.journal) s.journal)))
-      → IfErr result (λ e. Stopped F e (changes (drop (length r.journal) s.journal)) old new) → CrashesLeave F old new (IsBetween (F.held old) (changes (drop (length r.journal) s.journal)))
-      → OnErr result (Falls F r s old new)
-  falls_by (Ok x) r s old new w grew stopped leaves = tt
-  falls_by (Err e) r s old new w grew stopped leaves = falls e r s old new w grew stopped leaves
+    pub left_none : left new ≡ 0
+    left_none = ap left ended.1 ∙ ended.0
 
-  -- ---- all events so far
+-- ---- all entries so far
 
+module _ {S : Type 0} (F : Sight S) (c : Content) where
   -- none yet
-  pub pace_begins : (c : Content) (es : List Entry) (s : S) → es ≡ [] → Holds (F.held s) c [] → IsTimed F → IsDurable (F.held s) (F.may_leave s) → InPace F c es s s
-  pace_begins c es s none holds timed durable = subst (λ (l : List Entry). InPace F c l s s) (sym none) (record {
+  pub pace_begins : (es : List Entry) (s : S) → es ≡ [] → Holds (F.held s) c [] → IsTimed F → IsDurable (F.held s) (F.may_leave s) → InPace F c es s s
+  pace_begins es s none holds timed durable = subst (λ (l : List Entry). InPace F c l s s) (sym none) (record {
     holds = subst (Holds (F.held s) c) (sym changes_none) holds;
     durable = durable;
     answered = subst (λ (rs : List Request). AreAnswered F rs s s) (sym changes_none) refl;
@@ -110,51 +102,57 @@ module _ {S : Type 0} (F : Sight S) where
       here None holds durable h left = tt
       here (Some x) holds durable h left = subst (IsMoment c []) (sym (durable h left ∙ holds)) (some c [] [] (changes [], refl))
 
-  -- one event more
-  pub pace_on : (c : Content) (r s : Run) (first mid new : S) → InPace F c r.journal first mid → Follows F r s mid new → InPace F c s.journal first new
-  pace_on c r s first mid new p f = subst (λ (l : List Entry). InPace F c l first new) (sym f.adds.journal) (record {
-    holds = subst (Holds (F.held new) c) (sym both) (holds_more c (F.held mid) (F.held new) (changes r.journal) (changes f.part) p.holds f.appended.grown);
-    durable = f.appended.durable;
-    answered = subst (λ (rs : List Request). AreAnswered F rs first new) (sym both) (answered_then F (changes r.journal) (changes f.part) first mid new p.answered f.appended.answered);
-    leaves = on_and_on F c r.journal f.part first mid new p.holds (changes f.part, begins_all (changes f.part), f.appended.grown) p.leaves f.leaves;
+  -- those of one step more
+  pub pace_on : (es fs part : List Entry) (first mid new : S) → InPace F c es first mid → Adds es fs part → Appended F (changes part) mid new → CrashesLeave F mid new (IsBetween (F.held mid) (changes part)) → InPace F c fs first new
+  pace_on es fs part first mid new p a appended leaves = subst (λ (l : List Entry). InPace F c l first new) (sym a.journal) (record {
+    holds = subst (Holds (F.held new) c) (sym both) (holds_more c (F.held mid) (F.held new) (changes es) (changes part) p.holds appended.grown);
+    durable = appended.durable;
+    answered = subst (λ (rs : List Request). AreAnswered F rs first new) (sym both) (answered_then F (changes es) (changes part) first mid new p.answered appended.answered);
+    leaves = on_and_on F c es part first mid new p.holds (changes part, begins_all (changes part), appended.grown) p.leaves leaves;
   })
     where
-      both : changes (r.journal ++ f.part) ≡ changes r.journal ++ changes f.part
-      both = changes_append r.journal f.part
+      both : changes (es ++ part) ≡ changes es ++ changes part
+      both = changes_append es part
 
-  -- the last one fell behind
-  pub pace_ends : (c : Content) (r s : Run) (first mid new : S) → InPace F c r.journal first mid → Falls F r s mid new → Behind F c s.journal first new
-  pace_ends c r s first mid new p f = subst (λ (l : List Entry). Behind F c l first new) (sym f.adds.journal) (record {
-    part = short c (F.held mid) (F.held new) r.journal f.part (length r.ends + 1) p.holds f.adds.number f.some;
-    stops = record {
-      front = changes r.journal ++ f.stops.front;
-      begins = subst (Begins (changes r.journal ++ f.stops.front)) (sym (changes_append r.journal f.part)) (begins_more (changes r.journal) f.stops.front (changes f.part) f.stops.begins);
-      at = f.stops.at;
-      answered = answered_then F (changes r.journal) f.stops.front first mid f.stops.at p.answered f.stops.answered;
-      last = f.stops.last;
-    };
-    leaves = on_and_on F c r.journal f.part first mid new p.holds f.some p.leaves f.leaves;
+  -- the last step's fell behind
+  pub pace_ends : (es fs part : List Entry) (first mid new : S) (fault : ShelfStop) → InPace F c es first mid → Adds es fs part → Stopped F fault (changes part) mid new → CrashesLeave F mid new (IsBetween (F.held mid) (changes part)) → Behind F c fs first new
+  pace_ends es fs part first mid new fault p a stopped leaves =
+      let grew = some_grown F fault (changes part) mid new stopped in
+      let stops = stops_of F fault (changes part) mid new stopped in
+      subst (λ (l : List Entry). Behind F c l first new) (sym a.journal) (record {
+        part = short c (F.held mid) (F.held new) es part a.number p.holds a.event grew;
+        stops = record {
+          front = changes es ++ stops.front;
+          begins = subst (Begins (changes es ++ stops.front)) (sym (changes_append es part)) (begins_more (changes es) stops.front (changes part) stops.begins);
+          at = stops.at;
+          answered = answered_then F (changes es) stops.front first mid stops.at p.answered stops.answered;
+          last = stops.last;
+        };
+        leaves = on_and_on F c es part first mid new p.holds grew p.leaves leaves;
+      })
+
+  -- it stops there
+  pub pace_stops : (es fs : List Entry) (first now : S) → InPace F c es first now → fs ≡ es → Behind F c fs first now
+  pace_stops es fs first now p same = subst (λ (l : List Entry). Behind F c l first now) (sym same) (record {
+    part = subst (HoldsPart (F.held now) c) (append-nil es) (short c (F.held now) (F.held now) es [] 0 p.holds tt ([], (changes [], refl), holds_none (F.held now)));
+    stops = record { front = changes es; begins = begins_all (changes es); at = now; answered = p.answered; last = inl refl };
+    leaves = p.leaves;
   })
 
--- a run under another name
-pub moments_as : {S : Type 0} (F : Sight S) (old new : S) (opening c : Content) (es fs : List Entry) → opening ≡ c → fs ≡ es
-    → CrashesLeave F old new (λ h. WhereTold (F.held new) (IsMoment opening es h)) → CrashesLeave F old new (λ h. WhereTold (F.held new) (IsMoment c fs h))
-moments_as F old new opening c es fs same all leaves =
-    subst (λ (d : Content). CrashesLeave F old new (λ h. WhereTold (F.held new) (IsMoment d fs h))) same
-    (subst (λ (l : List Entry). CrashesLeave F old new (λ h. WhereTold (F.held new) (IsMoment opening l h))) (sym all) leaves)
+  pub leaves_so : {A : Type 0} (result : Result A ShelfStop) (es : List Entry) (first now : S) → OnOk result (InPace F c es first now) → OnErr result (Behind F c es first now) → CrashesLeave F first now (λ h. WhereTold (F.held now) (IsMoment c es h))
+  leaves_so (Ok x) es first now p b = p.leaves
+  leaves_so (Err e) es first now p b = b.leaves
 
 -- ---- the count of faults
 
-pub counts_none : (stop : Option ShelfStop) (before mid after : ℕ) → stop ≡ None → mid ≡ before → after ≡ mid → Counts stop before after
-counts_none stop before mid after is first second = subst (λ (o : Option ShelfStop). Counts o before after) (sym is) (second ∙ first)
+-- nothing failed
+pub counts_none : (before mid after : ℕ) → mid ≡ before → after ≡ mid → Counts None before after
+counts_none before mid after first second = second ∙ first
 
-pub counts_some : {A : Type 0} (stop : Option ShelfStop) (fault : ShelfStop) (before mid after : ℕ) → stop ≡ Some fault → mid ≡ before → before < 2 ^ 64 - 1 → (IsErrOf {T = A} {E = ShelfStop} (Err fault) Failed → Rose mid after) → ((IsErrOf {T = A} {E = ShelfStop} (Err fault) Failed → ⊥) → after ≡ mid) → Counts stop before after
-counts_some {A} stop fault before mid after is first few rose calm = subst (λ (o : Option ShelfStop). Counts o before after) (sym is) (by fault rose calm)
+pub counts_some : {A : Type 0} (fault : ShelfStop) (before mid after : ℕ) → mid ≡ before → before < 2 ^ 64 - 1 → (IsErrOf {T = A} {E = ShelfStop} (Err fault) Failed → Rose mid after) → ((IsErrOf {T = A} {E = ShelfStop} (Err fault) Failed → ⊥) → after ≡ mid) → Counts (Some fault) before after
+counts_some Failed before mid after first few rose calm = less (rose refl)
   where
     less : Rose mid after → before < after
     less (inl l) = omega (arith, l, first)
     less (inr most) = absurd (omega (arith, most, first, few))
-
-    by : (f : ShelfStop) → (IsErrOf {T = A} {E = ShelfStop} (Err f) Failed → Rose mid after) → ((IsErrOf {T = A} {E = ShelfStop} (Err f) Failed → ⊥) → after ≡ mid) → Counts (Some f) before after
-    by Failed r k = less (r refl)
-    by NoMemory r k = k (λ e. cc) ∙ first
+counts_some NoMemory before mid after first few rose calm = calm (λ e. cc) ∙ first

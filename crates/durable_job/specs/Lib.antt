@@ -1,2 +1,4 @@
+pub mod Moves
 pub mod Pace
+pub mod Jobs
 pub mod Played

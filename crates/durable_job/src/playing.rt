@@ -1,62 +1,40 @@
-ghost use Rattle.std.specs.Prelude.{◌≡◌, ◌<◌, ◌^◌, ◌-◌, Some, IfOk, IfErr, OnOk, OnErr};
-ghost use Rattle.journal_log.specs.Made.{KeepsImages};
-ghost use Rattle.journal_log.specs.Images as images;
-ghost use Rattle.journal_log.specs.Images.{Replaced, NotReplaced};
+ghost use Rattle.std.specs.Prelude.{◌≡◌, ◌<◌, ◌^◌, ◌-◌, Some, IfOk, IfErr, OnErr};
+ghost use Rattle.journal_log.specs.Images.{NotReplaced};
 ghost use Rattle.job_spec.specs.States.{verdict};
-ghost use Rattle.job_world.specs.Worlds.{MayBegin, begun};
-ghost use Rattle.durable_job.specs.Played.{IsPlayed, IsHeld, Survives, Counts};
+ghost use Rattle.job_world.specs.Worlds.{MayBegin};
+ghost use Rattle.twin_script.specs.TwinScripts.{AreTwins};
+ghost use Rattle.durable_job.specs.Jobs.{verdict_of_two, told_both};
+ghost use Rattle.durable_job.specs.Played.{IsPlayed, Counts};
 
-use crate::events::play_events;
+use crate::jobs::{Jobs, Told};
+use crate::keeping::keep;
 use job_actor::Works;
-use job_model::Script;
+use job_model::{EndList, PickList, Script};
 use job_world::{Played, World};
-use journal_log::{keeps_images, put_image};
+use journal_log::keeps_images;
 use s3_service::Service;
-use s3_types::let_go;
+use s3_types::{Journal, Sequence, let_go};
 use shelf::kept::{Shelf, ShelfStop};
-use std::alloc::Global;
+use std::alloc::{AllocError, Global};
+use twin_jobs::{TwinPlayed, TwinWorld};
+use twin_script::{Side, TurnList, Twins};
 
-/// What was played of a job, and why it stopped before all its events ended, if it did.
+/// What was played of jobs, and why it stopped before all their events ended, if it did.
 #[derive(Drop)]
 pub struct Kept {
     pub stop: Option<ShelfStop>,
-    /// The status that is due by the ends of the events: 0, 1, 8 or 9.
+    /// The status that is due by the ends of the events: 0, 1, 8 or 9. Of two jobs it is the first's, where that is not 0.
     pub verdict: u8,
-    pub played: Played,
+    pub jobs: Jobs,
+    /// The store as the sendings have left it.
+    pub service: Service,
+    /// All that was sent.
+    pub journal: Journal,
+    pub told: Told,
 }
 
-/// A world in which nothing has happened, whose opening store the shelf holds.
-fn begin<W: Works, F: Shelf>(
-    alloc: Global,
-    shelf: &mut F,
-    script: Script,
-    service: Service,
-) -> Result<World<W>, ShelfStop>
-    requires store { MayBegin service }
-    requires count { F.faults shelf.old < 2 ^ 64 - 1 }
-    ensures world { IfOk result (λ world. world ≡ begun script service) }
-    ensures ok { OnOk result (Replaced F.sight service shelf.old shelf.new) }
-    ensures appends { OnOk result (F.takes_appends shelf.new) }
-    ensures err { OnErr result (NotReplaced F.sight service shelf.old shelf.new) }
-    ensures counted { images.Counts result (F.faults shelf.old) (F.faults shelf.new) }
-{
-    let Ok(world) = World::new(alloc, script, service) else {
-        return Err(ShelfStop::NoMemory);
-    };
-    match put_image(alloc, shelf, world.service()) {
-        Ok(()) => Ok(world),
-        Err(stop) => {
-            let_go(world);
-            Err(stop)
-        }
-    }
-}
-
-/// Plays a job's script over a store and keeps it on a shelf: the store's image in place of what the shelf holds,
-/// and then, after each event, one append for each effective request that may change the store. The run stops
-/// where an append fails or memory is wanting, and tells what was sent until then. An error comes where nothing was
-/// sent, for want of memory or because the shelf did not take the image; it holds what it held then. Bytes are shared.
-pub fn play<W: Works, F: Shelf>(
+/// A job alone.
+fn play_one<W: Works, F: Shelf>(
     alloc: Global,
     shelf: &mut F,
     script: Script,
@@ -64,27 +42,177 @@ pub fn play<W: Works, F: Shelf>(
 ) -> Result<Kept, ShelfStop>
     requires store { MayBegin service }
     requires count { F.faults shelf.old < 2 ^ 64 - 1 }
-    ensures played { IfOk result (λ kept. IsPlayed script service kept.played) }
-    ensures verdict { IfOk result (λ kept. kept.verdict ≡ verdict script kept.played.ends) }
-    ensures held { IfOk result (λ kept.
-        IsHeld F.sight script service kept.played kept.stop shelf.old shelf.new) }
-    ensures images { IfOk result (λ kept. KeepsImages service kept.played.journal.entries) }
-    ensures survives { IfOk result (λ kept. Survives F.sight service kept.played shelf.old shelf.new) }
+    ensures played { IfOk result (λ kept. IsPlayed F.sight (Jobs.One script) service kept shelf.old shelf.new) }
     ensures counted { IfOk result (λ kept. Counts kept.stop (F.faults shelf.old) (F.faults shelf.new)) }
     ensures err { OnErr result (NotReplaced F.sight service shelf.old shelf.new) }
     ensures faults { IfErr result (λ stop. Counts (Some stop) (F.faults shelf.old) (F.faults shelf.new)) }
 {
-    let mut world = begin::<W, F>(alloc, shelf, script, service)?;
-    let stop = match play_events(shelf, &mut world) {
-        Ok(()) => None,
-        Err(fault) => Some(fault),
+    let Ok(mut world) = World::<W>::new(alloc, script, service) else {
+        return Err(ShelfStop::NoMemory);
+    };
+    let stop = match keep(alloc, shelf, &mut world) {
+        Ok(stop) => stop,
+        Err(fault) => {
+            let_go(world);
+            return Err(fault);
+        }
     };
     let verdict = world.verdict();
-    let played = world.finish();
-    keeps_images(&played.journal);
+    let left = world.finish();
+    keeps_images(&left.journal);
+    let Played {
+        script,
+        service,
+        journal,
+        picks,
+        ends,
+    } = left;
+    let second_picks = PickList::new(alloc);
+    let second_ends = EndList::new(alloc);
     Ok(Kept {
         stop,
         verdict,
-        played,
+        jobs: Jobs::One(script),
+        service,
+        journal,
+        told: Told {
+            picks,
+            ends,
+            second_picks,
+            second_ends,
+        },
     })
+}
+
+/// The first of two verdicts that is not 0, or else 0.
+fn first_of(first: u8, second: u8) -> u8
+    ensures { result ≡ verdict_of_two first second }
+{
+    if first == 0 { second } else { first }
+}
+
+/// The status that is due of two jobs.
+fn verdict_of<W: Works>(world: &TwinWorld<W>) -> u8
+    ensures { result ≡ verdict_of_two (verdict world.now.first.script world.now.first.ends)
+        (verdict world.now.second.script world.now.second.ends) }
+{
+    let first = world.verdict(Side::First);
+    let second = world.verdict(Side::Second);
+    first_of(first, second)
+}
+
+/// Lends what two scripts and their order keep.
+fn lend(twins: &Twins)
+    ensures { AreTwins twins.now }
+{
+    let _ = &twins.order;
+}
+
+/// The order of two jobs' turns once more.
+fn order_of(alloc: Global, twins: &Twins) -> Result<TurnList, AllocError>
+    ensures { IfOk result (λ order. order ≡ twins.now.order) }
+{
+    let mut turns = Vec::new(alloc);
+    turns.extend_from_slice(twins.order.as_slice())?;
+    Ok(Sequence::from_vec(turns))
+}
+
+/// What is kept of two jobs by what their world leaves.
+fn kept_of(stop: Option<ShelfStop>, verdict: u8, order: TurnList, left: TwinPlayed) -> Kept
+    requires { AreTwins (record { first = left.first.script; second = left.second.script; order = order }) }
+    ensures { result ≡ record {
+      stop = stop;
+      verdict = verdict;
+      jobs = Jobs.Two (record { first = left.first.script; second = left.second.script; order = order });
+      service = left.service;
+      journal = left.journal;
+      told = told_both left.first left.second;
+    } }
+{
+    let TwinPlayed {
+        service,
+        journal,
+        first,
+        second,
+        sides,
+    } = left;
+    let_go(sides);
+    Kept {
+        stop,
+        verdict,
+        jobs: Jobs::Two(Twins {
+            first: first.script,
+            second: second.script,
+            order,
+        }),
+        service,
+        journal,
+        told: Told {
+            picks: first.picks,
+            ends: first.ends,
+            second_picks: second.picks,
+            second_ends: second.ends,
+        },
+    }
+}
+
+/// Two jobs at one destination.
+fn play_two<W: Works, F: Shelf>(
+    alloc: Global,
+    shelf: &mut F,
+    twins: Twins,
+    service: Service,
+) -> Result<Kept, ShelfStop>
+    requires store { MayBegin service }
+    requires count { F.faults shelf.old < 2 ^ 64 - 1 }
+    ensures played { IfOk result (λ kept. IsPlayed F.sight (Jobs.Two twins) service kept shelf.old shelf.new) }
+    ensures counted { IfOk result (λ kept. Counts kept.stop (F.faults shelf.old) (F.faults shelf.new)) }
+    ensures err { OnErr result (NotReplaced F.sight service shelf.old shelf.new) }
+    ensures faults { IfErr result (λ stop. Counts (Some stop) (F.faults shelf.old) (F.faults shelf.new)) }
+{
+    lend(&twins);
+    let Ok(order) = order_of(alloc, &twins) else {
+        let_go(twins);
+        let_go(service);
+        return Err(ShelfStop::NoMemory);
+    };
+    let Ok(mut world) = TwinWorld::<W>::new(alloc, twins, service) else {
+        let_go(order);
+        return Err(ShelfStop::NoMemory);
+    };
+    let stop = match keep(alloc, shelf, &mut world) {
+        Ok(stop) => stop,
+        Err(fault) => {
+            let_go(order);
+            let_go(world);
+            return Err(fault);
+        }
+    };
+    let verdict = verdict_of(&world);
+    let left = world.finish();
+    keeps_images(&left.journal);
+    Ok(kept_of(stop, verdict, order, left))
+}
+
+/// Plays a job, or two by their order, over a store and keeps the run on a shelf: the store's image in place of what the
+/// shelf holds, and then, after each event, one append for each effective request that may change the store. The run stops
+/// where an append fails or memory is wanting, and tells what was sent until then. An error comes where nothing was
+/// sent, for want of memory or because the shelf did not take the image; it holds what it held then. Bytes are shared.
+pub fn play<W: Works, F: Shelf>(
+    alloc: Global,
+    shelf: &mut F,
+    jobs: Jobs,
+    service: Service,
+) -> Result<Kept, ShelfStop>
+    requires store { MayBegin service }
+    requires count { F.faults shelf.old < 2 ^ 64 - 1 }
+    ensures played { IfOk result (λ kept. IsPlayed F.sight jobs service kept shelf.old shelf.new) }
+    ensures counted { IfOk result (λ kept. Counts kept.stop (F.faults shelf.old) (F.faults shelf.new)) }
+    ensures err { OnErr result (NotReplaced F.sight service shelf.old shelf.new) }
+    ensures faults { IfErr result (λ stop. Counts (Some stop) (F.faults shelf.old) (F.faults shelf.new)) }
+{
+    match jobs {
+        Jobs::One(script) => play_one::<W, F>(alloc, shelf, script, service),
+        Jobs::Two(twins) => play_two::<W, F>(alloc, shelf, twins, service),
+    }
 }

@@ -20,7 +20,7 @@ use Rattle.durable_store.specs.declared.held.Held.TheVariants.{Nothing, Store, F
 abbrev pub takes_input : Command → Bool
 takes_input command = is_put (kind_of command)
 
--- the commands that play a job
+-- the commands that play a job, or two
 abbrev pub plays : Command → Bool
 plays command = is_play (kind_of command)
 

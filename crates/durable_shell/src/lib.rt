@@ -1,8 +1,8 @@
-//! What each command of the program but `job` and `gen` is to do on what a shelf holds.
+//! What each command of the program but `job`, `gen` and `twins` is to do on what a shelf holds.
 //!
 //! # What is proved
 //!
-//! `work_of`: What a command but `job` and `gen` is to do on what is held: `init` keeps a new store, or
+//! `work_of`: What a command but `job`, `gen` and `twins` is to do on what is held: `init` keeps a new store, or
 //! says that one stands; of the others, done by `shell` on the store that is held, or on a new one,
 //! what is refused or sent no change is to be said, with the store as it was, and else the store is to
 //! be kept as it was and then what was sent (`IsWork`). A command that only looks sends no change, and

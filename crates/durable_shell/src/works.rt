@@ -24,7 +24,7 @@ pub fn takes_input(command: &Command) -> bool
     matches!(command.kind(), CommandKind::Puts)
 }
 
-/// Whether a command plays a job: `job` and `gen` do.
+/// Whether a command plays a job, or two: `job`, `gen` and `twins` do.
 pub fn plays(command: &Command) -> bool
     ensures { result ≡ plays command.now }
 {
@@ -182,10 +182,10 @@ fn done_on(alloc: Global, command: &Command, bytes: Bytes, held: Held) -> Result
     }
 }
 
-/// What a command but `job` and `gen` is to do on what a shelf was found to hold, where `bytes` are its input. `init` keeps a new
-/// store where nothing is held, and is refused else. The others are done on the store that is held, or on a new one where
-/// nothing is; what is refused, and what sent no change, is to be said, and else the store is to be kept as it was, and
-/// then what was sent to it. What is no store is told with its first fault. Only want of memory is an error.
+/// What a command but `job`, `gen` and `twins` is to do on what a shelf was found to hold, where `bytes` are its input.
+/// `init` keeps a new store where nothing is held, and is refused else. The others are done on the store that is held, or
+/// on a new one where nothing is; what is refused, and what sent no change, is to be said, and else the store is to be kept
+/// as it was, and then what was sent to it. What is no store is told with its first fault. Only want of memory is an error.
 pub fn work_of(
     alloc: Global,
     command: &Command,

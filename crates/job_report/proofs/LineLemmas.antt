@@ -1,26 +1,26 @@
 -- The lines of a report as they are written one after another.
 use Rattle.std.proofs.Common.{◌≡◌, ℕ, ◌+◌, ◌≤◌, Bool, true, false, cond, List, [], ◌∷◌, ◌++◌, length, drop, refl, sym, ap, subst, ◌∙◌, append_assoc}
 use Rattle.std.specs.Prelude.{is_some, Some}
-use Rattle.job_spec.specs.Prelude.{flat_map, lookup, Who, Declared, same_name, declares, Script, Event, EventEnd, Pick, past, event_lines, pick_line, attempt_line}
+use Rattle.job_spec.specs.Prelude.{flat_map, lookup, Who, Declared, same_name, declares, Script, Event, EventEnd, Pick, event_lines, pick_line}
 use Rattle.job_model.specs.Prelude.{zip, enumerate_from}
 use Rattle.job_spec.proofs.Common.{drop_all, append-nil, eq-eqb}
-use Rattle.job_spec.specs.ReportText.{driver_line, closing, report_text}
+use Rattle.job_spec.specs.ReportText.{actor_lines, closing, report_text}
 
 -- nothing is left to write
 pub all_written : {X : Type 0} (f : X → List ℕ) (left : List X) (text all : List ℕ) → text ++ flat_map f left ≡ all → left ≡ [] → text ≡ all
 all_written f left text all h e = sym (append-nil text) ∙ ap (λ l. text ++ flat_map f l) (sym e) ∙ h
 
--- the events from place i on with their ends, numbered
-abbrev pub left_at : List Event → List EventEnd → ℕ → List (ℕ × (Event × EventEnd))
-left_at events xs i = enumerate_from (i + 1) (zip (drop i events) (drop i xs))
+-- the events from place i on with their ends, of which the first of all has the number n
+abbrev pub left_at : ℕ → List Event → List EventEnd → ℕ → List (ℕ × (Event × EventEnd))
+left_at n events xs i = enumerate_from (n + i) (zip (drop i events) (drop i xs))
 
 zip_none : {X Y : Type 0} (xs : List X) → zip {K = X} {X = Y} xs [] ≡ []
 zip_none [] = refl
 zip_none (x ∷ xs) = refl
 
 -- none is left behind the last end
-pub none_left : (events : List Event) (xs : List EventEnd) (i : ℕ) → length xs ≤ i → left_at events xs i ≡ []
-none_left events xs i le = ap (λ (l : List EventEnd). enumerate_from (i + 1) (zip (drop i events) l)) (drop_all i xs le) ∙ ap (enumerate_from (i + 1)) (zip_none (drop i events))
+pub none_left : (n : ℕ) (events : List Event) (xs : List EventEnd) (i : ℕ) → length xs ≤ i → left_at n events xs i ≡ []
+none_left n events xs i le = ap (λ (l : List EventEnd). enumerate_from (n + i) (zip (drop i events) l)) (drop_all i xs le) ∙ ap (enumerate_from (n + i)) (zip_none (drop i events))
 
 -- ---- attempts
 
@@ -50,15 +50,17 @@ line_more f left next d text now all h written rest =
 
 -- ---- the whole report
 
+-- two parts are written, one after the other
+pub both_written : (none first all one two : List ℕ) → first ≡ none ++ one → all ≡ first ++ two → all ≡ none ++ (one ++ two)
+both_written none first all one two h g = g ∙ ap (λ l. l ++ two) h ∙ append_assoc none one two
+
 -- what is written part by part is the report
-pub report_is : (w : Script) (events : List Event) (xs ends : List EventEnd) (picks chosen : List Pick) (due sent : ℕ) (none first second third fourth all : List ℕ)
-    → events ≡ w.events → xs ≡ ends → chosen ≡ picks → none ≡ [] → first ≡ none ++ event_lines 1 events xs → second ≡ first ++ flat_map pick_line chosen → third ≡ second ++ driver_line (past w xs)
-    → fourth ≡ third ++ flat_map (λ a. attempt_line (past w xs).state a.0) w.attempts → all ≡ fourth ++ closing sent due → all ≡ report_text due sent picks ends w
+pub report_is : (w : Script) (events : List Event) (xs ends : List EventEnd) (picks chosen : List Pick) (due sent : ℕ) (none first second third all : List ℕ)
+    → events ≡ w.events → xs ≡ ends → chosen ≡ picks → none ≡ [] → first ≡ none ++ event_lines [] 1 events xs → second ≡ first ++ flat_map (pick_line []) chosen → third ≡ second ++ actor_lines [] w xs
+    → all ≡ third ++ closing sent due → all ≡ report_text due sent picks ends w
 unfolding report_text
-report_is w events xs ends picks chosen due sent none first second third fourth all same given given_picks start one two three four five =
-    let by_ends : first ≡ event_lines 1 w.events ends = one ∙ (λ i. start i ++ event_lines 1 (same i) (given i)) in
-    let by_picks : second ≡ event_lines 1 w.events ends ++ flat_map pick_line picks = two ∙ (λ i. by_ends i ++ flat_map pick_line (given_picks i)) in
-    let by_driver : third ≡ event_lines 1 w.events ends ++ flat_map pick_line picks ++ driver_line (past w ends) = three ∙ (λ i. by_picks i ++ driver_line (past w (given i))) in
-    let by_attempts : fourth ≡ event_lines 1 w.events ends ++ flat_map pick_line picks ++ driver_line (past w ends) ++ flat_map (λ a. attempt_line (past w ends).state a.0) w.attempts =
-    four ∙ (λ i. by_driver i ++ flat_map (λ a. attempt_line (past w (given i)).state a.0) w.attempts) in
-    five ∙ (λ i. by_attempts i ++ closing sent due)
+report_is w events xs ends picks chosen due sent none first second third all same given given_picks start one two three four =
+    let by_ends : first ≡ event_lines [] 1 w.events ends = one ∙ (λ i. start i ++ event_lines [] 1 (same i) (given i)) in
+    let by_picks : second ≡ event_lines [] 1 w.events ends ++ flat_map (pick_line []) picks = two ∙ (λ i. by_ends i ++ flat_map (pick_line []) (given_picks i)) in
+    let by_actors : third ≡ event_lines [] 1 w.events ends ++ flat_map (pick_line []) picks ++ actor_lines [] w ends = three ∙ (λ i. by_picks i ++ actor_lines [] w (given i)) in
+    four ∙ (λ i. by_actors i ++ closing sent due)

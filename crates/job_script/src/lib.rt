@@ -9,7 +9,7 @@
 //!
 //! `print_script`: It gives exactly the text that `Print.antt` defines (`text`), and what that text
 //! means is the script again, where it has at most 67,108,864 bytes and names at most 10,000 sendings
-//! (`again`). The program does not call it.
+//! (`again`). No command prints one.
 #![tactic(auto)]
 
 mod attempts;

@@ -28,35 +28,39 @@ end_text (Ended end) = outcome_text end
 end_text (Mixed xs) = mixed_text xs
 end_text (Refused fault) = spaced (codes "refused" ∷ fault_word fault ∷ [])
 
--- ---- lines
+-- ---- lines: each with some text in front, which in an event's line stands behind the number
 
 -- a number and an event with its end, as `3 do 0.0 commit: done`
-abbrev pub event_line : ℕ × (Event × EventEnd) → List ℕ
-event_line e = line (decimal e.0 ∷ (event_text e.1.0 ++ codes ":") ∷ end_text e.1.1 ∷ [])
+abbrev pub event_line : (before : List ℕ) → ℕ × (Event × EventEnd) → List ℕ
+event_line before e = line (decimal e.0 ∷ (before ++ (event_text e.1.0 ++ codes ":")) ∷ end_text e.1.1 ∷ [])
 
 -- a line for each event that has its end, numbered from n on
-abbrev pub event_lines : ℕ → List Event → List EventEnd → List ℕ
-event_lines n events xs = flat_map event_line (enumerate_from n (zip events xs))
+abbrev pub event_lines : (before : List ℕ) → ℕ → List Event → List EventEnd → List ℕ
+event_lines before n events xs = flat_map (event_line before) (enumerate_from n (zip events xs))
 
 -- a picked attempt by its task's number and its own
-abbrev pub pick_line : Pick → List ℕ
-pick_line p = line (codes "pick" ∷ decimal p.task ∷ decimal p.attempt ∷ [])
+abbrev pub pick_line : (before : List ℕ) → Pick → List ℕ
+pick_line before p = before ++ line (codes "pick" ∷ decimal p.task ∷ decimal p.attempt ∷ [])
 
 -- the words of an actor's life and stage
 abbrev pub state_words : (Actor → ActorState) → Actor → List (List ℕ)
 state_words state a = actor_text a ∷ life_word (state a).life ∷ stage_word (state a).stage ∷ []
 
 -- an attempt with its life and stage
-abbrev pub attempt_line : (Actor → ActorState) → Who → List ℕ
-attempt_line state a = line (state_words state (actor_of a))
+abbrev pub attempt_line : (before : List ℕ) → (Actor → ActorState) → Who → List ℕ
+attempt_line before state a = before ++ line (state_words state (actor_of a))
 
 -- the job attempt's number, from the second on
 abbrev pub number_words : ℕ → List (List ℕ)
 number_words n = cond (nat_lt 1 n) (codes "attempt" ∷ decimal n ∷ []) []
 
 -- the driver with its life and stage, and with the job attempt's number from the second on
-abbrev pub driver_line : Past → List ℕ
-driver_line p = line (state_words p.state Driver ++ number_words p.attempt)
+abbrev pub driver_line : (before : List ℕ) → Past → List ℕ
+driver_line before p = before ++ line (state_words p.state Driver ++ number_words p.attempt)
+
+-- the driver, and each declared attempt, after events of these ends
+abbrev pub actor_lines : (before : List ℕ) → Script → List EventEnd → List ℕ
+actor_lines before w xs = driver_line before (past w xs) ++ flat_map (λ a. attempt_line before (past w xs).state a.0) w.attempts
 
 -- the number of sendings and the status
 abbrev pub closing : ℕ → ℕ → List ℕ
@@ -64,5 +68,4 @@ closing sent due = line (codes "sent" ∷ decimal sent ∷ []) ++ line (codes "s
 
 -- the whole report: the status that was due, how many requests were sent, the picks and the events' ends, of a script
 unfoldable pub report_text : ℕ → ℕ → List Pick → List EventEnd → Script → List ℕ
-report_text due sent picks xs w =
-    event_lines 1 w.events xs ++ flat_map pick_line picks ++ driver_line (past w xs) ++ flat_map (λ a. attempt_line (past w xs).state a.0) w.attempts ++ closing sent due
+report_text due sent picks xs w = event_lines [] 1 w.events xs ++ flat_map (pick_line []) picks ++ actor_lines [] w xs ++ closing sent due

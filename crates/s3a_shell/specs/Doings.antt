@@ -10,7 +10,7 @@ use Rattle.fs_files.specs.code.Create.{IsUndone}
 use Rattle.fs_rename.specs.Public.{StandsWhole}
 use Rattle.copy_tree.specs.Public.{StandsCopied}
 use Rattle.s3a_words.specs.declared.command.Command.{Command}
-use Rattle.s3a_words.specs.declared.command.Command.TheVariants.{Init, Mb, Ls, Stat, Cat, Put, PutForce, PutDrop, Mkdir, Mv, Cp, Rm, Rmr, Uploads, AbortUploads, Markers, CleanMarkers, FillMarkers, Job, Gen}
+use Rattle.s3a_words.specs.declared.command.Command.TheVariants.{Init, Mb, Ls, Stat, Cat, Put, PutForce, PutDrop, Mkdir, Mv, Cp, Rm, Rmr, Uploads, AbortUploads, Markers, CleanMarkers, FillMarkers, Job, Gen, Twins}
 use Rattle.s3a_words.specs.Kinds.{kind_of, is_on_buckets, is_look}
 use Rattle.s3a_shell.specs.declared.said.Said.{Said}
 use Rattle.s3a_shell.specs.Texts.{status_line, entry_lines, marker_lines, cleaned_line, filled_line, bytes_alone, nothing, fine, refusing, said}
@@ -111,6 +111,7 @@ Does (CleanMarkers path) bytes z what s = Did path (Cleans path.key) cleaned_lin
 Does (FillMarkers path) bytes z what s = Did path (Fills path.key) filled_line z what s
 Does Job bytes z what s = ⊥
 Does (Gen seed tasks files) bytes z what s = ⊥
+Does Twins bytes z what s = ⊥
 
 -- a path is deleted in part
 abbrev pub DeletedSome : Bool → Path → Scene → Scene → Type 0
@@ -138,3 +139,4 @@ MayStandAt (CleanMarkers path) bytes z s = AlwaysIn path.bucket (IsCleaning path
 MayStandAt (FillMarkers path) bytes z s = AlwaysIn path.bucket (IsFilling path.key) z s
 MayStandAt Job bytes z s = s ≡ z
 MayStandAt (Gen seed tasks files) bytes z s = s ≡ z
+MayStandAt Twins bytes z s = s ≡ z

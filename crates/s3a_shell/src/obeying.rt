@@ -100,6 +100,7 @@ impl Session {
             Command::Init { .. } => unreachable!(),
             Command::Job => unreachable!(),
             Command::Gen { .. } => unreachable!(),
+            Command::Twins => unreachable!(),
         }
     }
 

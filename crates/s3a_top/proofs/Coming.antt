@@ -51,11 +51,11 @@ module _ {S : Type 0} (F : Sight S) (command : Command) (left rest : Option (Lis
 
 module _ {S : Type 0} (F : Sight S) (said : Option Command) (left rest : Option (List ℕ)) (old new : S) (i j m n : ℕ) where
   abbrev pub ComesOf : Work → Type 0
-  ComesOf work = Comes F said left rest old new i j m n (code work.answer.due) work.answer.sent.entries work.picks work.ends (IsWritten work.answer)
+  ComesOf work = Comes F said left rest old new i j m n (code work.answer.due) work.answer.sent.entries work.told (IsWritten work.answer)
 
   abbrev IsJob : Work → Command → Type 0
   IsJob work c = plays c ≡ true
-      → JobPlayed F c left rest old new (code work.answer.due) work.answer.sent.entries work.picks work.ends (IsWritten work.answer) ⊎ JobStopped F c left rest old new (code work.answer.due) work.answer.sent.entries work.picks work.ends (IsWritten work.answer)
+      → JobPlayed F c left rest old new (code work.answer.due) work.answer.sent.entries work.told (IsWritten work.answer) ⊎ JobStopped F c left rest old new (code work.answer.due) work.answer.sent.entries work.told (IsWritten work.answer)
 
   abbrev IsStore : Work → Command → Type 0
   IsStore work c = plays c ≡ false → StoreDone F c left rest old new (code work.answer.due) work.answer.sent.entries (IsWritten work.answer) ⊎ StoreStopped F c left rest old new (code work.answer.due) work.answer.sent.entries (IsWritten work.answer)
@@ -71,7 +71,7 @@ module _ {S : Type 0} (F : Sight S) (said : Option Command) (left rest : Option 
     shelf = counted.shelf;
     job = λ c e. subst (IsJob done) (same command c is e) (λ p. inl (goes.job p));
     store = λ c e. subst (IsStore done) (same command c is e) (λ p. inl (goes.store p).0);
-    picks = λ c e p. (goes.store (subst (λ (x : Command). plays x ≡ false) (sym (same command c is e)) p)).1;
+    quiet = λ c e p. (goes.store (subst (λ (x : Command). plays x ≡ false) (sym (same command c is e)) p)).1;
     usage = λ e. not_said said command is e;
     command = λ e. absurd (worked_usage done.answer.due counted.own e);
   })
@@ -83,9 +83,9 @@ module _ {S : Type 0} (F : Sight S) (said : Option Command) (left rest : Option 
         due = told_due stop due text stopped.told;
         read = told_counts 3 stop due text i j (λ e. cc) (λ e. cc) (λ e. cc) stopped.told counted.read;
         shelf = told_counts 5 stop due text m n (λ e. cc) (λ e. cc) (λ e. cc) stopped.told counted.shelf;
-        job = λ c e. subst (IsJob work) (same command c is e) (λ p. inr (halted_told F command left rest old new stop due text es work.picks work.ends (goes.job p) stopped.told stopped.idle));
-        store = λ c e. subst (IsStore work) (same command c is e) (λ p. inr (store_halted F command left rest old new stop due text es work.picks work.ends (goes.store p) stopped.told stopped.idle));
-        picks = λ c e p. (stopped.idle.picks, stopped.idle.ends);
+        job = λ c e. subst (IsJob work) (same command c is e) (λ p. inr (halted_told F command left rest old new stop due text es work.told (goes.job p) stopped.told stopped.idle));
+        store = λ c e. subst (IsStore work) (same command c is e) (λ p. inr (store_halted F command left rest old new stop due text es work.told (goes.store p) stopped.told stopped.idle));
+        quiet = λ c e p. stopped.idle.nothing;
         usage = λ e. not_said said command is e;
         command = λ e. absurd (none_usage F command left rest old new (subst (λ (s : Stop). Goes F command left rest old new (Err s)) (told_usage stop due text stopped.told e) goes));
       }
@@ -102,8 +102,8 @@ module _ {S : Type 0} (F : Sight S) (said : Option Command) (left : Option (List
         shelf = told_counts 5 Usage due text n n (λ e. cc) (λ e. cc) (λ e. cc) stopped.told (tells_none 5 2 n n (λ e. cc) refl);
         job = λ c e p. not_said said c e none;
         store = λ c e p. not_said said c e none;
-        picks = λ c e p. not_said said c e none;
-        usage = λ e. no_command old old Usage due text work.answer.sent.entries work.picks work.ends (inl refl) refl stopped.told stopped.idle;
+        quiet = λ c e p. not_said said c e none;
+        usage = λ e. no_command old old Usage due text work.answer.sent.entries work.told (inl refl) refl stopped.told stopped.idle;
         command = λ e. none;
       }
 
@@ -116,10 +116,10 @@ module _ {S : Type 0} (F : Sight S) (said : Option Command) (left : Option (List
         due = told_due NoMemory due text stopped.told;
         read = told_counts 3 NoMemory due text i i (λ e. cc) (λ e. cc) (λ e. cc) stopped.told (tells_none 3 9 i i (λ e. cc) refl);
         shelf = told_counts 5 NoMemory due text n n (λ e. cc) (λ e. cc) (λ e. cc) stopped.told (tells_none 5 9 n n (λ e. cc) refl);
-        job = λ c e p. inr (halted_told F c left left old old NoMemory due text es work.picks work.ends (halted c) stopped.told stopped.idle);
-        store = λ c e p. inr (store_halted F c left left old old NoMemory due text es work.picks work.ends (stopped_so c) stopped.told stopped.idle);
-        picks = λ c e p. (stopped.idle.picks, stopped.idle.ends);
-        usage = λ e. no_command old old NoMemory due text es work.picks work.ends (inr refl) refl stopped.told stopped.idle;
+        job = λ c e p. inr (halted_told F c left left old old NoMemory due text es work.told (halted c) stopped.told stopped.idle);
+        store = λ c e p. inr (store_halted F c left left old old NoMemory due text es work.told (stopped_so c) stopped.told stopped.idle);
+        quiet = λ c e p. stopped.idle.nothing;
+        usage = λ e. no_command old old NoMemory due text es work.told (inr refl) refl stopped.told stopped.idle;
         command = λ e. let is : NoMemory ≡ Usage = told_usage NoMemory due text stopped.told e in absurd (cc);
       }
     where

@@ -1,6 +1,7 @@
 -- What crashes leave of a job and of a command, since the shelf was loaded and before.
 use Rattle.std.proofs.Common.{◌≡◌, ◌⊎◌, inl, inr, ⊎_elim, ℕ, List, Option, Some, None, refl, sym, ap, ◌∙◌}
-use Rattle.job_spec.specs.Prelude.{Content, Script}
+use Rattle.job_spec.specs.Prelude.{Content}
+use Rattle.durable_job.specs.declared.jobs.Jobs.{Jobs}
 use Rattle.journal_log.specs.Prelude.{Holding, Stored, fresh, Sight, CrashesLeave, IsTimed, image, IsMoment}
 use Rattle.durable_store.specs.Stores.{found}
 use Rattle.durable_store.specs.Works.{Work, Says, Saves}
@@ -8,7 +9,7 @@ use Rattle.durable_store.specs.Outcomes.{MightLeave}
 use Rattle.durable_store.specs.declared.held.Held.{Held}
 use Rattle.journal_log.proofs.Leaving.{told_all, told_more, started, then_on, widened}
 use Rattle.s3a_words.specs.declared.command.Command.{Command}
-use Rattle.s3a_top.specs.Openings.{IsScriptOf, Opens, opening_in}
+use Rattle.s3a_top.specs.Openings.{AreJobsOf, Opens, opening_in}
 use Rattle.s3a_top.specs.Jobs.{MayHaveLeft}
 use Rattle.s3a_top.specs.Openings.{IsFound}
 
@@ -18,9 +19,9 @@ pub as_found : (told : Option Stored) (before : Held) → ((s : Stored) → told
 as_found None before h = tt
 as_found (Some s) before h = h s refl
 
-pub opens_so : (told : Option Stored) (before : Held) (w : Script) (c : Content) → IsFound told before → opening_in before w ≡ Some c → Opens told w c
-opens_so None before w c f e = tt
-opens_so (Some s) before w c f e = ap (λ (b : Held). opening_in b w) (sym f) ∙ e
+pub opens_so : (told : Option Stored) (before : Held) (jobs : Jobs) (c : Content) → IsFound told before → opening_in before jobs ≡ Some c → Opens told jobs c
+opens_so None before jobs c f e = tt
+opens_so (Some s) before jobs c f e = ap (λ (b : Held). opening_in b jobs) (sym f) ∙ e
 
 -- ---- a command
 
@@ -44,10 +45,10 @@ module _ {S : Type 0} (F : Sight S) where
   loaded_alone old new command told left rest load = widened F old new (F.may_leave old) (MayHaveLeft (F.may_leave old) command told left rest) load (λ h is. inl is)
 
   -- the image of the opening store was to be put in place of what was held
-  pub image_left : (old new : S) (command : Command) (told : Option Stored) (left rest : Option (List ℕ)) (w : Script) (c : Content) → IsScriptOf command left rest w → Opens told w c → CrashesLeave F old new (λ h. F.may_leave old h ⊎ (h ≡ fresh (image c)))
+  pub image_left : (old new : S) (command : Command) (told : Option Stored) (left rest : Option (List ℕ)) (jobs : Jobs) (c : Content) → AreJobsOf command left rest jobs → Opens told jobs c → CrashesLeave F old new (λ h. F.may_leave old h ⊎ (h ≡ fresh (image c)))
       → CrashesLeave F old new (MayHaveLeft (F.may_leave old) command told left rest)
-  image_left old new command told left rest w c reads opens leaves =
-      widened F old new (λ h. F.may_leave old h ⊎ (h ≡ fresh (image c))) (MayHaveLeft (F.may_leave old) command told left rest) leaves (λ h is. ⊎_elim (λ l. inl l) (λ e. inr (w, (c, (reads, (opens, e))))) is)
+  image_left old new command told left rest jobs c reads opens leaves =
+      widened F old new (λ h. F.may_leave old h ⊎ (h ≡ fresh (image c))) (MayHaveLeft (F.may_leave old) command told left rest) leaves (λ h is. ⊎_elim (λ l. inl l) (λ e. inr (jobs, (c, (reads, (opens, e))))) is)
 
   module _ (timed : IsTimed F) where
     -- what one after the load may leave, one before it may

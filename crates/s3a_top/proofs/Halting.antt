@@ -1,12 +1,14 @@
 -- What is told where the work stopped before anything was done.
-use Rattle.std.proofs.Common.{◌≡◌, ◌⊎◌, inl, inr, ℕ, List, Option, Some, None, IsErrOf, Err, refl, sym, ap, subst, ◌∙◌}
-use Rattle.job_spec.specs.Prelude.{Content, Entry, Script, Pick, EventEnd}
+use Rattle.std.proofs.Common.{◌≡◌, ◌⊎◌, inl, inr, ℕ, true, List, Option, Some, None, IsErrOf, Err, refl, sym, ap, subst, ◌∙◌}
+use Rattle.job_spec.specs.Prelude.{Content, Entry}
+use Rattle.durable_job.specs.declared.jobs.Jobs.{Jobs}
+use Rattle.durable_job.specs.declared.jobs.Told.{Told}
 use Rattle.journal_log.specs.Prelude.{Stored, Sight, CrashesLeave, IsTimed, NotReplaced, ShelfStop}
 use Rattle.durable_store.specs.Outcomes.{Tells}
 use Rattle.durable_store.specs.declared.held.Held.{Held}
 use Rattle.durable_store.specs.declared.held.Held.TheVariants.{Faulty}
 use Rattle.shelf.specs.declared.kept.ShelfStop.TheVariants as shelves
-use Rattle.s3a_top.specs.Openings.{is_sound, IsSoundly, IsFound, IsScriptOf, Opens}
+use Rattle.s3a_top.specs.Openings.{is_sound, IsSoundly, IsFound, reads_jobs, AreJobsOf, Opens}
 use Rattle.exit_status.specs.Statuses.{code, memory_text, usage_text}
 use Rattle.s3a_top.specs.Statuses.{IsDue, IsIdle}
 use Rattle.s3a_top.specs.Stops.{status_of, of_shelf, stop_text}
@@ -18,7 +20,7 @@ use Rattle.s3a_top.specs.Workings.{IsMade, IsToldOf, JobHalted, StoreHalted}
 use Rattle.exit_status.specs.declared.statuses.Status.{Status}
 use Rattle.exit_status.specs.declared.statuses.Status.TheVariants as statuses
 use Rattle.s3a_top.specs.declared.stop.Stop.{Stop}
-use Rattle.s3a_top.specs.declared.stop.Stop.TheVariants.{Usage, ReadFault, ShelfFault, Script as BadScript, Image, NoMemory}
+use Rattle.s3a_top.specs.declared.stop.Stop.TheVariants.{Usage, ReadFault, ShelfFault, Script as BadScript, Twins as BadTwins, Image, NoMemory}
 use Rattle.s3a_top.proofs.Crashing.{unmoved, image_left, loaded_alone, loaded_first}
 use Rattle.s3a_top.proofs.Pieces.{taken_part}
 use Rattle.s3a_top.proofs.Telling.{tells_none}
@@ -51,8 +53,8 @@ module _ {S : Type 0} (F : Sight S) (command : Command) (left rest : Option (Lis
   broke_at_once s stop timed cause = record { cause = cause; same = refl; calls = inl refl; leaves = unmoved F s (MayHaveLeft (F.may_leave s) command (F.held s) left rest) timed (λ h is. inl is) }
 
   -- the image of the opening store was not put there
-  pub not_begun : (old new : S) (stop : Stop) (w : Script) (c : Content) → HasCause stop command (F.held old) left rest → IsScriptOf command left rest w → Opens (F.held old) w c → NotReplaced F c old new → JobBroke F command left rest old new stop
-  not_begun old new stop w c cause reads opens not = record { cause = cause; same = not.same; calls = not.calls; leaves = image_left F old new command (F.held old) left rest w c reads opens not.leaves }
+  pub not_begun : (old new : S) (stop : Stop) (jobs : Jobs) (c : Content) → HasCause stop command (F.held old) left rest → AreJobsOf command left rest jobs → Opens (F.held old) jobs c → NotReplaced F c old new → JobBroke F command left rest old new stop
+  not_begun old new stop jobs c cause reads opens not = record { cause = cause; same = not.same; calls = not.calls; leaves = image_left F old new command (F.held old) left rest jobs c reads opens not.leaves }
 
   -- it stopped since
   pub job_halted : IsTimed F → (old mid new : S) (stop : Stop) → F.held mid ≡ F.held old → F.answers old mid → CrashesLeave F old mid (F.may_leave old) → JobBroke F command left rest mid new stop → JobHalted F command left rest old new stop
@@ -63,17 +65,21 @@ module _ {S : Type 0} (F : Sight S) (command : Command) (left rest : Option (Lis
     leaves = loaded_first F timed old mid new command (F.held old) left rest load (subst (λ (o : Option Stored). CrashesLeave F mid new (MayHaveLeft (F.may_leave mid) command o left rest)) same broke.leaves);
   }
 
+  reads_so : {c : Command} → command ≡ c → reads_jobs c ≡ true → reads_jobs command ≡ true
+  reads_so e h = ap reads_jobs e ∙ h
+
   -- a stop whose text is made has a cause of want of memory too
   made_cause : (stop : Stop) (told : Option Stored) → IsMade stop → HasCause stop command told left rest → HasCause NoMemory command told left rest
-  made_cause (BadScript e) told m h = inr (h.0, (h.1.0, taken_part left rest h.1.1.1.1))
+  made_cause (BadScript e) told m h = inr (h.0, (reads_so h.1.0 refl, taken_part left rest h.1.1.1.1))
+  made_cause (BadTwins e) told m h = inr (h.0, (reads_so h.1.0 refl, taken_part left rest h.1.1.1.1))
   made_cause (Image number place) told m h = inl h.1
   made_cause _ told m h = absurd m
 
   -- and that was told
-  pub halted_told : (old new : S) (stop : Stop) (due : Status) (text : List ℕ) (es : List Entry) (ps : List Pick) (xs : List EventEnd) → JobHalted F command left rest old new stop → IsToldOf stop due text → IsIdle es ps xs
-      → JobStopped F command left rest old new (code due) es ps xs (λ t. text ≡ t)
-  halted_told old new stop due text es ps xs h (inl told) idle = record { stop = stop; status = ap code told.0; cause = h.cause; text = told.1; idle = idle; same = h.same; calls = h.calls; leaves = h.leaves }
-  halted_told old new stop due text es ps xs h (inr told) idle = record { stop = NoMemory; status = ap code told.0; cause = made_cause stop (F.held old) told.1.1 h.cause; text = told.1.0; idle = idle; same = h.same; calls = h.calls; leaves = h.leaves }
+  pub halted_told : (old new : S) (stop : Stop) (due : Status) (text : List ℕ) (es : List Entry) (told_so : Told) → JobHalted F command left rest old new stop → IsToldOf stop due text → IsIdle es told_so
+      → JobStopped F command left rest old new (code due) es told_so (λ t. text ≡ t)
+  halted_told old new stop due text es told_so h (inl told) idle = record { stop = stop; status = ap code told.0; cause = h.cause; text = told.1; idle = idle; same = h.same; calls = h.calls; leaves = h.leaves }
+  halted_told old new stop due text es told_so h (inr told) idle = record { stop = NoMemory; status = ap code told.0; cause = made_cause stop (F.held old) told.1.1 h.cause; text = told.1.0; idle = idle; same = h.same; calls = h.calls; leaves = h.leaves }
 
 -- ---- another command
 
@@ -88,17 +94,17 @@ words_said stop due text (inr e) told = inr (own_told NoMemory due text (λ h. h
 
 own_reason : (stop : Stop) (command : Command) (told : Option Stored) (left rest : Option (List ℕ)) → HasReason stop command told left rest → IsMade stop → ⊥
 own_reason (BadScript e) command told left rest h m = h
+own_reason (BadTwins e) command told left rest h m = h
 own_reason (Image number place) command told left rest h m = h
 own_reason _ command told left rest h m = m
 
-pub store_halted : {S : Type 0} (F : Sight S) (command : Command) (left rest : Option (List ℕ)) (old new : S) (stop : Stop) (due : Status) (text : List ℕ) (es : List Entry) (ps : List Pick)
-    (xs : List EventEnd) → StoreHalted F command left rest old new stop → IsToldOf stop due text → IsIdle es ps xs → StoreStopped F command left rest old new (code due) es (λ t. text ≡ t)
-store_halted F command left rest old new stop due text es ps xs h told idle =
+pub store_halted : {S : Type 0} (F : Sight S) (command : Command) (left rest : Option (List ℕ)) (old new : S) (stop : Stop) (due : Status) (text : List ℕ) (es : List Entry) (told_so : Told) → StoreHalted F command left rest old new stop → IsToldOf stop due text → IsIdle es told_so → StoreStopped F command left rest old new (code due) es (λ t. text ≡ t)
+store_halted F command left rest old new stop due text es told_so h told idle =
     let own = own_told stop due text (own_reason stop command (F.held old) left rest h.reason) told in
     record { stop = stop; status = own.0; reason = h.reason; text = own.1; entries = idle.entries; same = h.same; calls = h.calls; leaves = h.leaves }
 
-pub no_command : {S : Type 0} (old new : S) (stop : Stop) (due : Status) (text : List ℕ) (es : List Entry) (ps : List Pick) (xs : List EventEnd) → (stop ≡ Usage) ⊎ (stop ≡ NoMemory) → new ≡ old → IsToldOf stop due text → IsIdle es ps xs → NoCommand (code due) old new es ps xs (λ t. text ≡ t)
-no_command old new stop due text es ps xs which same told idle = record { said = words_said stop due text which told; idle = idle; untouched = same }
+pub no_command : {S : Type 0} (old new : S) (stop : Stop) (due : Status) (text : List ℕ) (es : List Entry) (told_so : Told) → (stop ≡ Usage) ⊎ (stop ≡ NoMemory) → new ≡ old → IsToldOf stop due text → IsIdle es told_so → NoCommand (code due) old new es told_so (λ t. text ≡ t)
+no_command old new stop due text es told_so which same told idle = record { said = words_said stop due text which told; idle = idle; untouched = same }
 
 -- ---- the status that is told
 
@@ -108,6 +114,7 @@ told_counts status stop due text before after six seven nine (inr told) h = subs
   where
     by : (s : Stop) → IsMade s → Tells status (code (status_of s)) before after → after ≡ before
     by (BadScript e) m t = t.stands six
+    by (BadTwins e) m t = t.stands six
     by (Image number place) m t = t.stands seven
     by _ m t = absurd m
 
@@ -116,6 +123,7 @@ status_due Usage = (statuses.Usage, (λ e. cc, refl))
 status_due ReadFault = (statuses.ReadFault, (λ e. cc, refl))
 status_due ShelfFault = (statuses.ShelfFault, (λ e. cc, refl))
 status_due (BadScript e) = (statuses.BadScript, (λ e. cc, refl))
+status_due (BadTwins e) = (statuses.BadScript, (λ e. cc, refl))
 status_due (Image number place) = (statuses.BadImage, (λ e. cc, refl))
 status_due NoMemory = (statuses.NoMemory, (λ e. cc, refl))
 

@@ -1,6 +1,8 @@
 -- From what is to be said to what was written.
 use Rattle.std.proofs.Common.{◌≡◌, ◌⊎◌, inl, inr, ⊎_elim, ℕ, List, Option, sym, subst}
-use Rattle.job_spec.specs.Prelude.{Content, Entry, Script, Pick, EventEnd}
+use Rattle.job_spec.specs.Prelude.{Content, Entry}
+use Rattle.durable_job.specs.declared.jobs.Jobs.{Jobs}
+use Rattle.durable_job.specs.declared.jobs.Told.{Told}
 use Rattle.journal_log.specs.Prelude.{Sight}
 use Rattle.durable_store.specs.Works.{Work as Doing}
 use Rattle.s3a_words.specs.declared.command.Command.{Command}
@@ -19,30 +21,30 @@ said_out P Q A B C D f g (inl h) = inl (h.0, f h.1)
 said_out P Q A B C D f g (inr h) = inr (h.0, g h.1)
 
 module _ (A B : List ℕ → Type 0) (f : (t : List ℕ) → A t → B t) {S : Type 0} (F : Sight S) where
-  module _ (due : ℕ) (es : List Entry) (ps : List Pick) (xs : List EventEnd) where
-    ended_out : (command : Command) (w : Script) (c : Content) (loaded new : S) → JobEnded F command w c loaded new due es ps xs A → JobEnded F command w c loaded new due es ps xs B
-    ended_out command w c loaded new h = record { finished = h.finished; holds = h.holds; durable = h.durable; calls = h.calls; said = said_out _ _ _ _ _ _ (f _) (f _) h.said }
+  module _ (due : ℕ) (es : List Entry) (told : Told) where
+    ended_out : (command : Command) (jobs : Jobs) (c : Content) (loaded new : S) → JobEnded F command jobs c loaded new due es told A → JobEnded F command jobs c loaded new due es told B
+    ended_out command jobs c loaded new h = record { finished = h.finished; holds = h.holds; durable = h.durable; calls = h.calls; said = said_out _ _ _ _ _ _ (f _) (f _) h.said }
 
     cut_out : (c : Content) (loaded new : S) → JobCut F c loaded new due es A → JobCut F c loaded new due es B
     cut_out c loaded new h = record { holds = h.holds; calls = h.calls; said = said_out _ _ _ _ _ _ (f _) (f _) h.said }
 
-    ran_out : (command : Command) (w : Script) (c : Content) (loaded new : S) → JobRan F command w c loaded new due es ps xs A → JobRan F command w c loaded new due es ps xs B
-    ran_out command w c loaded new h = record { promised = h.promised; sent = h.sent; own = h.own; image = h.image; images = h.images; ended = ⊎_elim (λ e. inl (ended_out command w c loaded new e)) (λ e. inr (cut_out c loaded new e)) h.ended }
+    ran_out : (command : Command) (jobs : Jobs) (c : Content) (loaded new : S) → JobRan F command jobs c loaded new due es told A → JobRan F command jobs c loaded new due es told B
+    ran_out command jobs c loaded new h = record { promised = h.promised; image = h.image; images = h.images; ended = ⊎_elim (λ e. inl (ended_out command jobs c loaded new e)) (λ e. inr (cut_out c loaded new e)) h.ended }
 
-    played_out : (command : Command) (left rest : Option (List ℕ)) (old new : S) → JobPlayed F command left rest old new due es ps xs A → JobPlayed F command left rest old new due es ps xs B
+    played_out : (command : Command) (left rest : Option (List ℕ)) (old new : S) → JobPlayed F command left rest old new due es told A → JobPlayed F command left rest old new due es told B
     played_out command left rest old new h = record {
-      script = h.script;
+      jobs = h.jobs;
       opening = h.opening;
       reads = h.reads;
       opens = h.opens;
       loaded = h.loaded;
       load = h.load;
-      ran = ran_out command h.script h.opening h.loaded new h.ran;
+      ran = ran_out command h.jobs h.opening h.loaded new h.ran;
       kept = h.kept;
       survives = h.survives;
     }
 
-    stopped_out : (command : Command) (left rest : Option (List ℕ)) (old new : S) → JobStopped F command left rest old new due es ps xs A → JobStopped F command left rest old new due es ps xs B
+    stopped_out : (command : Command) (left rest : Option (List ℕ)) (old new : S) → JobStopped F command left rest old new due es told A → JobStopped F command left rest old new due es told B
     stopped_out command left rest old new h = record { stop = h.stop; status = h.status; cause = h.cause; text = f _ h.text; idle = h.idle; same = h.same; calls = h.calls; leaves = h.leaves }
 
     work_out : (work : Doing) (old new : S) (status : Status) → WorkDone F work old new status es A → WorkDone F work old new status es B
@@ -69,21 +71,21 @@ module _ (A B : List ℕ → Type 0) (f : (t : List ℕ) → A t → B t) {S : T
     halted_out : (command : Command) (left rest : Option (List ℕ)) (old new : S) → StoreStopped F command left rest old new due es A → StoreStopped F command left rest old new due es B
     halted_out command left rest old new h = record { stop = h.stop; status = h.status; reason = h.reason; text = f _ h.text; entries = h.entries; same = h.same; calls = h.calls; leaves = h.leaves }
 
-    comes_so : (said : Option Command) (left rest : Option (List ℕ)) (old new : S) (i j m n : ℕ) → Comes F said left rest old new i j m n due es ps xs A → Comes F said left rest old new i j m n due es ps xs B
+    comes_so : (said : Option Command) (left rest : Option (List ℕ)) (old new : S) (i j m n : ℕ) → Comes F said left rest old new i j m n due es told A → Comes F said left rest old new i j m n due es told B
     comes_so said left rest old new i j m n h = record {
       due = h.due;
       read = h.read;
       shelf = h.shelf;
       job = λ c e p. ⊎_elim (λ x. inl (played_out c left rest old new x)) (λ x. inr (stopped_out c left rest old new x)) (h.job c e p);
       store = λ c e p. ⊎_elim (λ x. inl (done_out c left rest old new x)) (λ x. inr (halted_out c left rest old new x)) (h.store c e p);
-      picks = h.picks;
+      quiet = h.quiet;
       usage = λ e. let n = h.usage e in record { said = said_out _ _ _ _ _ _ (f _) (f _) n.said; idle = n.idle; untouched = n.untouched };
       command = h.command;
     }
 
 -- what was to be said was written, by its own number of the status
 pub comes_written : {S : Type 0} (F : Sight S) (said : Option Command) (left rest : Option (List ℕ)) (old new : S) (i j m n : ℕ) (work : Work) (status due : ℕ) (before after : Option (List ℕ)) → due ≡ code work.answer.due → Writes status before after (written_text work.answer.due work.answer.text)
-    → Comes F said left rest old new i j m n (code work.answer.due) work.answer.sent.entries work.picks work.ends (IsWritten work.answer) → Comes F said left rest old new i j m n due work.answer.sent.entries work.picks work.ends (Writes status before after)
+    → Comes F said left rest old new i j m n (code work.answer.due) work.answer.sent.entries work.told (IsWritten work.answer) → Comes F said left rest old new i j m n due work.answer.sent.entries work.told (Writes status before after)
 comes_written F said left rest old new i j m n work status due before after is written comes =
-    subst (λ (d : ℕ). Comes F said left rest old new i j m n d work.answer.sent.entries work.picks work.ends (Writes status before after)) (sym is)
-    (comes_so (IsWritten work.answer) (Writes status before after) (λ t e. subst (Writes status before after) e written) F (code work.answer.due) work.answer.sent.entries work.picks work.ends said left rest old new i j m n comes)
+    subst (λ (d : ℕ). Comes F said left rest old new i j m n d work.answer.sent.entries work.told (Writes status before after)) (sym is)
+    (comes_so (IsWritten work.answer) (Writes status before after) (λ t e. subst (Writes status before after) e written) F (code work.answer.due) work.answer.sent.entries work.told said left rest old new i j m n comes)

@@ -1,19 +1,22 @@
--- What is promised of a job that was played.
-use Rattle.std.proofs.Common.{◌≡◌, ◌⊎◌, inl, inr, ⊎_elim, ℕ, List, [], ◌∷◌, ◌++◌, length, Option, Some, None, sym, ap, subst, ◌∙◌, append_assoc, arith}
-use Rattle.job_spec.specs.Prelude.{Content, Entry, Script, Pick, EventEnd, verdict}
-use Rattle.journal_log.specs.Prelude.{Holding, Stored, Sight, CrashesLeave, IsTimed, ShelfStop, Failed, NoMemory, IsContent, KeepsImages, IsMoment, Holds, HasEarlier, HoldsPart, IsKept, WhereTold, IsLast}
-use Rattle.job_world.specs.declared.played.Played.{Played}
+-- What is promised of jobs that were played.
+use Rattle.std.proofs.Common.{◌≡◌, ◌⊎◌, inl, inr, ⊎_elim, ℕ, List, [], ◌∷◌, ◌++◌, length, Option, Some, None, refl, sym, ap, subst, ◌∙◌, append_assoc, arith}
+use Rattle.job_spec.specs.Prelude.{Content, Entry}
+use Rattle.journal_log.specs.Prelude.{Holding, Stored, Sight, CrashesLeave, IsTimed, ShelfStop, Failed, NoMemory, IsContent, IsMoment, Holds, HasEarlier, HoldsPart, IsKept, WhereTold, IsLast}
 use Rattle.journal_log.specs.Changes.{changes}
 use Rattle.journal_log.specs.Kept.{IsToEnd}
 use Rattle.journal_log.proofs.Journals.{changes_append}
 use Rattle.journal_log.proofs.Standing.{begins_all, last}
 use Rattle.journal_log.proofs.Leaving.{survives}
-use Rattle.durable_job.specs.Played.{IsPlayed, IsHeld, Survives}
+use Rattle.durable_job.specs.Jobs.{AreFinished, verdict_of}
+use Rattle.durable_job.specs.Played.{IsPlayed, IsHeld}
+use Rattle.durable_job.specs.declared.jobs.Jobs.{Jobs}
+use Rattle.durable_job.specs.declared.jobs.Told.{Told}
+use Rattle.durable_job.specs.declared.playing.Kept.{Kept}
 use Rattle.exit_status.specs.Statuses.{code, memory_text, written_text}
 use Rattle.s3a_words.specs.declared.command.Command.{Command}
 use Rattle.s3a_top.specs.Jobs.{job_text, JobEnded, JobCut, JobRan, JobPlayed}
-use Rattle.s3a_top.specs.Openings.{IsScriptOf, Opens}
-use Rattle.s3a_top.specs.Plays.{IsTold, JobOver}
+use Rattle.s3a_top.specs.Openings.{AreJobsOf, Opens}
+use Rattle.s3a_top.specs.Plays.{IsReported, IsTold, JobOver}
 use Rattle.s3a_top.specs.Works.{IsWritten}
 use Rattle.s3a_top.specs.declared.work.Work.{Work}
 
@@ -42,8 +45,8 @@ module _ {S : Type 0} (F : Sight S) where
   short_due : (c : Content) (loaded new : S) (due : ℕ) (es : List Entry) (Says : List ℕ → Type 0) → JobCut F c loaded new due es Says → (due ≡ 5) ⊎ (due ≡ 9)
   short_due c loaded new due es Says h = ⊎_elim (λ e. inl e.0) (λ e. inr e.0) h.said
 
-  module _ (command : Command) (w : Script) (c : Content) (loaded new : S) (due : ℕ) (es : List Entry) (ps : List Pick) (xs : List EventEnd) (Says : List ℕ → Type 0)
-      (ended : JobEnded F command w c loaded new due es ps xs Says ⊎ JobCut F c loaded new due es Says) where
+  module _ (command : Command) (jobs : Jobs) (c : Content) (loaded new : S) (due : ℕ) (es : List Entry) (told : Told) (Says : List ℕ → Type 0)
+      (ended : JobEnded F command jobs c loaded new due es told Says ⊎ JobCut F c loaded new due es Says) where
     pub is_kept : IsKept due (F.held new) c es
     is_kept = record {
       whole = λ to_end. ⊎_elim (λ e. e.holds) (λ e. never due to_end (short_due c loaded new due es Says e)) ended;
@@ -56,60 +59,60 @@ module _ {S : Type 0} (F : Sight S) where
 -- ---- since the shelf was loaded, and before
 
 pub played_from : {S : Type 0} (F : Sight S) → IsTimed F → (command : Command) (left rest : Option (List ℕ)) (old loaded new : S) (work : Work) → F.held loaded ≡ F.held old → F.answers old loaded → CrashesLeave F old loaded (F.may_leave old) → JobOver F command left rest loaded new work
-    → JobPlayed F command left rest old new (code work.answer.due) work.answer.sent.entries work.picks work.ends (IsWritten work.answer)
+    → JobPlayed F command left rest old new (code work.answer.due) work.answer.sent.entries work.told (IsWritten work.answer)
 played_from F timed command left rest old loaded new work same answered load over =
     let due = code work.answer.due in
     let es = work.answer.sent.entries in
     record {
-      script = over.script;
+      jobs = over.jobs;
       opening = over.opening;
       reads = over.reads;
-      opens = subst (λ (o : Option Stored). Opens o over.script over.opening) same over.opens;
+      opens = subst (λ (o : Option Stored). Opens o over.jobs over.opening) same over.opens;
       loaded = loaded;
       load = answered;
       ran = over.ran;
-      kept = is_kept F command over.script over.opening loaded new due es work.picks work.ends (IsWritten work.answer) over.ran.ended;
+      kept = is_kept F command over.jobs over.opening loaded new due es work.told (IsWritten work.answer) over.ran.ended;
       survives = record {
         within = λ h left. (survives F timed over.opening es (F.held new) old loaded over.mid new load over.replaced over.appended).each h left;
-        behind = last_is F command over.script over.opening loaded new due es work.picks work.ends (IsWritten work.answer) over.ran.ended;
+        behind = last_is F command over.jobs over.opening loaded new due es work.told (IsWritten work.answer) over.ran.ended;
       };
     }
 
 -- ---- what is kept of a run, and what is said of it
 
-module _ {S : Type 0} (F : Sight S) (command : Command) (w : Script) (c : Content) (p : Played) (old new : S) (due : ℕ) (text : List ℕ) (played : IsPlayed w c p) (image : IsContent c) (images : KeepsImages c p.journal.entries) where
-  said_whole : IsTold None command p due text → ((due ≡ verdict w p.ends) × (text ≡ job_text command due (length p.journal.entries) p.picks p.ends w)) ⊎ ((due ≡ 9) × (text ≡ memory_text))
-  said_whole told = subst (λ (v : Script). ((due ≡ verdict v p.ends) × (text ≡ job_text command due (length p.journal.entries) p.picks p.ends v)) ⊎ ((due ≡ 9) × (text ≡ memory_text))) played.script told
+module _ {S : Type 0} (F : Sight S) (command : Command) (jobs : Jobs) (c : Content) (kept : Kept) (old new : S) (due : ℕ) (text : List ℕ) (played : IsPlayed F jobs c kept old new) (image : IsContent c) where
+  said_whole : IsReported command kept due text → ((due ≡ verdict_of jobs kept.told) × (text ≡ job_text command due (length kept.journal.entries) kept.told jobs)) ⊎ ((due ≡ 9) × (text ≡ memory_text))
+  said_whole told = subst (λ (n : ℕ). ((due ≡ n) × (text ≡ job_text command due (length kept.journal.entries) kept.told jobs)) ⊎ ((due ≡ 9) × (text ≡ memory_text))) played.verdict
+      (subst (λ (j : Jobs). ((due ≡ kept.verdict) × (text ≡ job_text command due (length kept.journal.entries) kept.told j)) ⊎ ((due ≡ 9) × (text ≡ memory_text))) played.jobs_are told)
 
-  ended_so : (stop : Option ShelfStop) → IsHeld F w c p stop old new → IsTold stop command p due text
-      → JobEnded F command w c old new due p.journal.entries p.picks p.ends (λ t. text ≡ t) ⊎ JobCut F c old new due p.journal.entries (λ t. text ≡ t)
-  ended_so None h told = inl (record { finished = h.0; holds = h.1.0; durable = h.1.1.0; calls = h.1.1.1; said = said_whole told })
-  ended_so (Some Failed) h told = inr (record { holds = h.0; calls = h.1; said = inl told })
-  ended_so (Some NoMemory) h told = inr (record { holds = h.0; calls = h.1; said = inr told })
+  ended_so : (stop : Option ShelfStop) → IsHeld F c kept.journal.entries stop old new → (stop ≡ None → AreFinished jobs c kept.journal.entries kept.told) → IsTold stop command kept due text
+      → JobEnded F command jobs c old new due kept.journal.entries kept.told (λ t. text ≡ t) ⊎ JobCut F c old new due kept.journal.entries (λ t. text ≡ t)
+  ended_so None h finished told = inl (record { finished = finished refl; holds = h.0; durable = h.1.0; calls = h.1.1; said = said_whole told })
+  ended_so (Some Failed) h finished told = inr (record { holds = h.0; calls = h.1; said = inl told })
+  ended_so (Some NoMemory) h finished told = inr (record { holds = h.0; calls = h.1; said = inr told })
 
-  ran_so : (stop : Option ShelfStop) → IsHeld F w c p stop old new → IsTold stop command p due text → JobRan F command w c old new due p.journal.entries p.picks p.ends (λ t. text ≡ t)
-  ran_so stop h told = record { promised = played.promised; sent = played.sent; own = played.own; image = image; images = images; ended = ended_so stop h told }
+  ran_so : IsTold kept.stop command kept due text → JobRan F command jobs c old new due kept.journal.entries kept.told (λ t. text ≡ t)
+  ran_so told = record { promised = played.promised; image = image; images = played.images; ended = ended_so kept.stop played.held played.finished told }
 
-  -- where these are what was sent, picked and ended
-  pub ran_of : (stop : Option ShelfStop) (es : List Entry) (ps : List Pick) (xs : List EventEnd) → es ≡ p.journal.entries → ps ≡ p.picks → xs ≡ p.ends → IsHeld F w c p stop old new → IsTold stop command p due text
-      → JobRan F command w c old new due es ps xs (λ t. text ≡ t)
-  ran_of stop es ps xs is picks ends h told =
+  -- where this is what was sent and told
+  pub ran_of : (es : List Entry) (told : Told) → es ≡ kept.journal.entries → told ≡ kept.told → IsTold kept.stop command kept due text → JobRan F command jobs c old new due es told (λ t. text ≡ t)
+  ran_of es told sent same is =
       let Says : List ℕ → Type 0 = λ t. text ≡ t in
-      subst (λ (l : List Entry). JobRan F command w c old new due l ps xs Says) (sym is)
-      (subst (λ (l : List Pick). JobRan F command w c old new due p.journal.entries l xs Says) (sym picks)
-      (subst (λ (l : List EventEnd). JobRan F command w c old new due p.journal.entries p.picks l Says) (sym ends) (ran_so stop h told)))
+      subst (λ (l : List Entry). JobRan F command jobs c old new due l told Says) (sym sent)
+      (subst (λ (x : Told). JobRan F command jobs c old new due kept.journal.entries x Says) (sym same) (ran_so is))
 
--- a job that was played, by what is answered to it
-pub over_of : {S : Type 0} (F : Sight S) (command : Command) (left rest : Option (List ℕ)) (w : Script) (c : Content) (p : Played) (stop : Option ShelfStop) (old new : S) (work : Work) → IsScriptOf command left rest w → Opens (F.held old) w c → IsPlayed w c p → IsContent c → KeepsImages c p.journal.entries
-    → work.answer.sent ≡ p.journal → work.picks ≡ p.picks → work.ends ≡ p.ends → IsHeld F w c p stop old new → IsTold stop command p (code work.answer.due) (written_text work.answer.due work.answer.text) → Survives F c p old new → JobOver F command left rest old new work
-over_of F command left rest w c p stop old new work reads opens played image images sent picks ends held told survived =
-    let es : work.answer.sent.entries ≡ p.journal.entries = ap (λ j. j.entries) sent in
+-- jobs that were played, by what is answered to them
+pub over_of : {S : Type 0} (F : Sight S) (command : Command) (left rest : Option (List ℕ)) (jobs : Jobs) (c : Content) (kept : Kept) (old new : S) (work : Work) → AreJobsOf command left rest jobs → Opens (F.held old) jobs c → IsPlayed F jobs c kept old new → IsContent c
+    → work.answer.sent ≡ kept.journal → work.told ≡ kept.told → IsTold kept.stop command kept (code work.answer.due) (written_text work.answer.due work.answer.text) → JobOver F command left rest old new work
+over_of F command left rest jobs c kept old new work reads opens played image sent told is =
+    let es : work.answer.sent.entries ≡ kept.journal.entries = ap (λ j. j.entries) sent in
+    let survived = played.survives in
     record {
-      script = w;
+      jobs = jobs;
       opening = c;
       reads = reads;
       opens = opens;
-      ran = ran_of F command w c p old new (code work.answer.due) (written_text work.answer.due work.answer.text) played image images stop work.answer.sent.entries work.picks work.ends es picks ends held told;
+      ran = ran_of F command jobs c kept old new (code work.answer.due) (written_text work.answer.due work.answer.text) played image work.answer.sent.entries work.told es told is;
       mid = survived.0;
       replaced = survived.1.0;
       appended = subst (λ (l : List Entry). CrashesLeave F survived.0 new (λ h. WhereTold (F.held new) (IsMoment c l h))) (sym es) survived.1.1;

@@ -4,66 +4,106 @@ use Rattle.job_spec.proofs.Common.{nat_tests, take_all, drop_all}
 use Rattle.proof_base.proofs.Common.{length-take-le}
 use Rattle.s3_types.specs.Prelude.{Fails}
 use Rattle.job_spec.specs.Prelude.{Script}
-use Rattle.job_script.specs.Fault.{wanting}
+use Rattle.job_script.specs.Fault as script
 use Rattle.job_script.specs.Script.{script_of}
 use Rattle.job_script.specs.declared.fault.ScriptFault.{ScriptFault}
-use Rattle.job_script.specs.declared.fault.ScriptFault.TheVariants.{TooLarge, NoMemory}
+use Rattle.job_script.specs.declared.fault.ScriptFault.TheVariants as faults
+use Rattle.twin_script.specs.Fault as twins
+use Rattle.twin_script.specs.TwinScripts.{Twins}
+use Rattle.twin_script.specs.Twins.{twins_of}
+use Rattle.twin_script.specs.declared.fault.TwinFault.{TwinFault}
+use Rattle.twin_script.specs.declared.fault.TwinFault.TheVariants as twin_faults
+use Rattle.durable_job.specs.declared.jobs.Jobs.{Jobs}
+use Rattle.durable_job.specs.declared.jobs.Jobs.TheVariants.{One, Two}
 use Rattle.s3a_top.specs.Bytes.{IsRead, TakesPart}
-use Rattle.s3a_top.specs.Openings.{IsScript}
-use Rattle.s3a_top.specs.Jobs.{IsNoScript}
+use Rattle.s3a_top.specs.Openings.{IsAllRead, AreJobsOf}
+use Rattle.s3a_top.specs.Jobs.{IsFaultOf}
+use Rattle.s3a_top.specs.Reads.{reader, AreJobsIn}
 
--- ---- the limit
+-- ---- what refuses all that is over the limit
 
-too_large : (bytes : List ℕ) → 67108864 < length bytes → script_of bytes ≡ Err TooLarge
+module _ {A E : Type 0} (read : List ℕ → Result A E) (large : E) (too_large : (bytes : List ℕ) → 67108864 < length bytes → read bytes ≡ Err large) where
+  -- what it reads is within it
+  small : (bytes : List ℕ) (x : A) → read bytes ≡ Ok x → length bytes ≤ 67108864
+  small bytes x e = by (nat_le (length bytes) 67108864) refl
+    where
+      by : (b : Bool) → nat_le (length bytes) 67108864 ≡ b → length bytes ≤ 67108864
+      by true t = grind (arith, nat_tests)
+      by false t =
+          let long : 67108864 < length bytes = grind (arith, nat_tests) in
+          let refused = too_large bytes long in
+          absurd (cc)
+
+  -- what was read of the input reads as the whole does
+  read_whole : (bytes all : List ℕ) → all ≡ take 67108865 bytes → (b : Bool) → nat_le (length bytes) 67108865 ≡ b → read all ≡ read bytes
+  read_whole bytes all h true e =
+      let short : length bytes ≤ 67108865 = grind (arith, nat_tests) in
+      ap read (h ∙ take_all 67108865 bytes short)
+  read_whole bytes all h false e =
+      let long : 67108865 < length bytes = grind (arith, nat_tests) in
+      let most : 67108865 ≤ length bytes = omega (arith, long) in
+      let size : length all ≡ 67108865 = ap length h ∙ length-take-le 67108865 bytes most in
+      too_large all (omega (arith, size)) ∙ sym (too_large bytes (omega (arith, long)))
+
+  -- the input was this, and nothing of it is left
+  all_read : (left rest : Option (List ℕ)) (all : List ℕ) (x : A) → IsRead left rest all → read all ≡ Ok x → IsAllRead read left rest x
+  all_read None rest all x r e = r
+  all_read (Some bytes) rest all x r e =
+      let whole : read bytes ≡ Ok x = sym (read_whole bytes all r.0 (nat_le (length bytes) 67108865) refl) ∙ e in
+      let few = small bytes x whole in
+      (whole, r.1 ∙ ap Some (drop_all 67108865 bytes (omega (arith, few))))
+
+  all_part : (left rest : Option (List ℕ)) (x : A) → IsAllRead read left rest x → TakesPart left rest
+  all_part None rest x h = h
+  all_part (Some bytes) rest x h =
+      let few = small bytes x h.0 in
+      (67108865, (lit≤ tt, h.1 ∙ ap Some (sym (drop_all 67108865 bytes (omega (arith, few))))))
+
+  -- it was a fault
+  fault_of : (left rest : Option (List ℕ)) (all : List ℕ) (e : E) → IsRead left rest all → read all ≡ Err e → IsFaultOf read left e
+  fault_of None rest all e r h = tt
+  fault_of (Some bytes) rest all e r h = sym (read_whole bytes all r.0 (nat_le (length bytes) 67108865) refl) ∙ h
+
+-- ---- a script
+
+script_large : (bytes : List ℕ) → 67108864 < length bytes → script_of bytes ≡ Err faults.TooLarge
 unfolding script_of
-too_large bytes h =
+script_large bytes h =
     let much : nat_le (length bytes) 67108864 ≡ false = grind (arith, nat_tests) in
     rw much refl
 
--- what reads as a script is within it
-small : (bytes : List ℕ) (w : Script) → script_of bytes ≡ Ok w → length bytes ≤ 67108864
-small bytes w e = by (nat_le (length bytes) 67108864) refl
-  where
-    by : (b : Bool) → nat_le (length bytes) 67108864 ≡ b → length bytes ≤ 67108864
-    by true t = grind (arith, nat_tests)
-    by false t =
-        let long : 67108864 < length bytes = grind (arith, nat_tests) in
-        let large = too_large bytes long in
-        absurd (cc)
+pub script_part : (left rest : Option (List ℕ)) (w : Script) → IsAllRead script_of left rest w → TakesPart left rest
+script_part left rest w h = all_part script_of faults.TooLarge script_large left rest w h
 
--- what was read of the input reads as the whole does
-read_whole : (bytes all : List ℕ) → all ≡ take 67108865 bytes → (b : Bool) → nat_le (length bytes) 67108865 ≡ b → script_of all ≡ script_of bytes
-read_whole bytes all h true e =
-    let short : length bytes ≤ 67108865 = grind (arith, nat_tests) in
-    ap script_of (h ∙ take_all 67108865 bytes short)
-read_whole bytes all h false e =
-    let long : 67108865 < length bytes = grind (arith, nat_tests) in
-    let most : 67108865 ≤ length bytes = omega (arith, long) in
-    let size : length all ≡ 67108865 = ap length h ∙ length-take-le 67108865 bytes most in
-    too_large all (omega (arith, size)) ∙ sym (too_large bytes (omega (arith, long)))
+pub no_script : (left rest : Option (List ℕ)) (all : List ℕ) (e : ScriptFault) → IsRead left rest all → script_of all ≡ Err e → IsFaultOf script_of left e
+no_script left rest all e r h = fault_of script_of faults.TooLarge script_large left rest all e r h
+
+-- a fault that is no want of memory is the one that reading gives
+pub fails_is : (e : ScriptFault) (read : Result Script ScriptFault) → e ≢ faults.NoMemory → Fails script.wanting e read → read ≡ Err e
+fails_is faults.NoMemory read n h = absurd (n refl)
+fails_is e read n h = h
+
+-- ---- two scripts with their order
+
+twins_large : (bytes : List ℕ) → 67108864 < length bytes → twins_of bytes ≡ Err twin_faults.TooLarge
+unfolding twins_of
+twins_large bytes h =
+    let much : nat_le (length bytes) 67108864 ≡ false = grind (arith, nat_tests) in
+    rw much refl
+
+pub twins_part : (left rest : Option (List ℕ)) (t : Twins) → IsAllRead twins_of left rest t → TakesPart left rest
+twins_part left rest t h = all_part twins_of twin_faults.TooLarge twins_large left rest t h
+
+pub no_twins : (left rest : Option (List ℕ)) (all : List ℕ) (e : TwinFault) → IsRead left rest all → twins_of all ≡ Err e → IsFaultOf twins_of left e
+no_twins left rest all e r h = fault_of twins_of twin_faults.TooLarge twins_large left rest all e r h
+
+pub twins_fail : (e : TwinFault) (read : Result Twins TwinFault) → e ≢ twin_faults.NoMemory → Fails twins.wanting e read → read ≡ Err e
+twins_fail twin_faults.NoMemory read n h = absurd (n refl)
+twins_fail e read n h = h
 
 -- ---- the input
 
--- it was this script, of which nothing is left
-pub script_is : (left rest : Option (List ℕ)) (all : List ℕ) (w : Script) → IsRead left rest all → script_of all ≡ Ok w → IsScript left rest w
-script_is None rest all w r e = r
-script_is (Some bytes) rest all w r e =
-    let whole : script_of bytes ≡ Ok w = sym (read_whole bytes all r.0 (nat_le (length bytes) 67108865) refl) ∙ e in
-    let few = small bytes w whole in
-    (whole, r.1 ∙ ap Some (drop_all 67108865 bytes (omega (arith, few))))
-
-pub script_part : (left rest : Option (List ℕ)) (w : Script) → IsScript left rest w → TakesPart left rest
-script_part None rest w h = h
-script_part (Some bytes) rest w h =
-    let few = small bytes w h.0 in
-    (67108865, (lit≤ tt, h.1 ∙ ap Some (sym (drop_all 67108865 bytes (omega (arith, few))))))
-
--- it was none
-pub no_script : (left rest : Option (List ℕ)) (all : List ℕ) (e : ScriptFault) → IsRead left rest all → script_of all ≡ Err e → IsNoScript left e
-no_script None rest all e r h = tt
-no_script (Some bytes) rest all e r h = sym (read_whole bytes all r.0 (nat_le (length bytes) 67108865) refl) ∙ h
-
--- a fault that is no want of memory is the one that reading gives
-pub fails_is : (e : ScriptFault) (read : Result Script ScriptFault) → e ≢ NoMemory → Fails wanting e read → read ≡ Err e
-fails_is NoMemory read n h = absurd (n refl)
-fails_is e read n h = h
+pub jobs_are : (both : Bool) (left rest : Option (List ℕ)) (all : List ℕ) (jobs : Jobs) → IsRead left rest all → AreJobsIn both all jobs → AreJobsOf (reader both) left rest jobs
+jobs_are false left rest all (One w) r h = all_read script_of faults.TooLarge script_large left rest all w r h
+jobs_are true left rest all (Two t) r h = all_read twins_of twin_faults.TooLarge twins_large left rest all t r h
+jobs_are _ left rest all jobs r h = absurd h

@@ -1,27 +1,31 @@
 -- What is known of a result by what its function's callee says of it.
-use Rattle.std.proofs.Common.{◌≡◌, inr, ℕ, List, Option, Result, Ok, Err, IfOk, IfErr, refl, sym, ap, subst, ◌∙◌}
-use Rattle.job_spec.specs.Prelude.{Script}
-use Rattle.job_script.specs.Script.{script_of}
+use Rattle.std.proofs.Common.{◌≡◌, inr, ℕ, Bool, true, false, List, Option, Result, Ok, Err, IfOk, IfErr, refl, ap, subst}
+use Rattle.durable_job.specs.declared.jobs.Jobs.{Jobs}
 use Rattle.s3a_top.specs.Bytes.{IsRead}
-use Rattle.s3a_words.specs.declared.command.Command.TheVariants.{Job}
-use Rattle.s3a_top.specs.Openings.{IsScript}
-use Rattle.s3a_top.specs.Reads.{IsReadStop, IsNone}
+use Rattle.s3a_top.specs.Openings.{reads_jobs, AreJobsOf}
+use Rattle.s3a_top.specs.Reads.{reader, AreJobsIn, IsReadStop, IsNone}
 use Rattle.s3a_top.specs.declared.stop.Stop.{Stop}
-use Rattle.s3a_top.specs.declared.stop.Stop.TheVariants.{Script as BadScript, NoMemory}
+use Rattle.s3a_top.specs.declared.stop.Stop.TheVariants.{Script as BadScript, Twins as BadTwins, NoMemory}
 use Rattle.s3a_top.proofs.Pieces.{read_taken, taken_part}
-use Rattle.s3a_top.proofs.Readings.{script_is, no_script}
+use Rattle.s3a_top.proofs.Readings.{jobs_are, no_script, no_twins}
 
--- ---- the script
+-- ---- the jobs
 
-pub script_read : (result : Result Script Stop) (left rest : Option (List ℕ)) (all bytes : List ℕ) → IsRead left rest all → bytes ≡ all → IfOk result (λ w. script_of bytes ≡ Ok w) → IfOk result (λ w. IsScript left rest w)
-script_read (Ok w) left rest all bytes r same h = script_is left rest all w r (ap script_of (sym same) ∙ h)
-script_read (Err stop) left rest all bytes r same h = tt
+pub jobs_read : (both : Bool) (result : Result Jobs Stop) (left rest : Option (List ℕ)) (all bytes : List ℕ) → IsRead left rest all → bytes ≡ all → IfOk result (λ jobs. AreJobsIn both bytes jobs) → IfOk result (λ jobs. AreJobsOf (reader both) left rest jobs)
+jobs_read both (Ok jobs) left rest all bytes r same h = jobs_are both left rest all jobs r (subst (λ (b : List ℕ). AreJobsIn both b jobs) same h)
+jobs_read both (Err stop) left rest all bytes r same h = tt
 
-none_read : (stop : Stop) (left rest : Option (List ℕ)) (all : List ℕ) → IsRead left rest all → IsNone stop all → IsReadStop stop Job left rest
-none_read (BadScript e) left rest all r h = (refl, (no_script left rest all e r h.0, (h.1, read_taken left rest all r)))
-none_read NoMemory left rest all r h = inr (refl, taken_part left rest (read_taken left rest all r))
-none_read _ left rest all r h = absurd h
+-- both kinds are read from the input
+pub is_reader : (both : Bool) → reads_jobs (reader both) ≡ true
+is_reader false = refl
+is_reader true = refl
 
-pub stop_read : {A : Type 0} (result : Result A Stop) (left rest : Option (List ℕ)) (all bytes : List ℕ) → IsRead left rest all → bytes ≡ all → IfErr result (λ stop. IsNone stop bytes) → IfErr result (λ stop. IsReadStop stop Job left rest)
-stop_read (Ok x) left rest all bytes r same h = tt
-stop_read (Err stop) left rest all bytes r same h = none_read stop left rest all r (subst (IsNone stop) same h)
+none_read : (both : Bool) (stop : Stop) (left rest : Option (List ℕ)) (all : List ℕ) → IsRead left rest all → IsNone stop both all → IsReadStop stop (reader both) left rest
+none_read both (BadScript e) left rest all r h = (ap reader h.0, (no_script left rest all e r h.1.0, (h.1.1, read_taken left rest all r)))
+none_read both (BadTwins e) left rest all r h = (ap reader h.0, (no_twins left rest all e r h.1.0, (h.1.1, read_taken left rest all r)))
+none_read both NoMemory left rest all r h = inr (is_reader both, taken_part left rest (read_taken left rest all r))
+none_read both _ left rest all r h = absurd h
+
+pub stop_read : {A : Type 0} (both : Bool) (result : Result A Stop) (left rest : Option (List ℕ)) (all bytes : List ℕ) → IsRead left rest all → bytes ≡ all → IfErr result (λ stop. IsNone stop both bytes) → IfErr result (λ stop. IsReadStop stop (reader both) left rest)
+stop_read both (Ok x) left rest all bytes r same h = tt
+stop_read both (Err stop) left rest all bytes r same h = none_read both stop left rest all r (subst (λ (b : List ℕ). IsNone stop both b) same h)

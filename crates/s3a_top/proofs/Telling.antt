@@ -1,15 +1,16 @@
 -- Which counts of faults rise, and which causes stops have.
 use Rattle.std.proofs.Common.{◌≡◌, ◌≢◌, inl, inr, ⊎_elim, ℕ, false, ◌<◌, List, Option, Some, None, Ok, Err, refl, sym, subst, ◌∙◌}
 use Rattle.journal_log.specs.Prelude.{ShelfStop, Stored}
-use Rattle.job_spec.specs.Prelude.{Script}
+use Rattle.durable_job.specs.declared.jobs.Jobs.{Jobs}
+use Rattle.durable_job.specs.declared.jobs.Jobs.TheVariants.{One, Two}
 use Rattle.journal_log.specs.Images.{Counts as CountsLoad}
 use Rattle.durable_store.specs.Outcomes.{Tells}
 use Rattle.durable_store.specs.declared.held.Held.{Held}
 use Rattle.shelf.specs.declared.kept.ShelfStop.TheVariants as shelves
 use Rattle.durable_job.specs.Played.{Counts}
 use Rattle.s3a_words.specs.declared.command.Command.{Command}
-use Rattle.s3a_words.specs.declared.command.Command.TheVariants.{Job, Gen}
-use Rattle.s3a_top.specs.Openings.{IsScriptOf, TakesIfJob, IsSoundly}
+use Rattle.s3a_words.specs.declared.command.Command.TheVariants.{Job, Gen, Twins}
+use Rattle.s3a_top.specs.Openings.{AreJobsOf, TakesIfRead, IsSoundly}
 use Rattle.exit_status.specs.Statuses.{code}
 use Rattle.s3a_top.specs.Statuses.{IsDue, IsWorked}
 use Rattle.s3a_top.specs.Stops.{status_of, of_shelf}
@@ -23,8 +24,8 @@ use Rattle.s3a_top.specs.declared.work.Work.{Work}
 use Rattle.exit_status.specs.declared.statuses.Status.{Status}
 use Rattle.exit_status.specs.declared.statuses.Status.TheVariants as statuses
 use Rattle.s3a_top.specs.declared.stop.Stop.{Stop}
-use Rattle.s3a_top.specs.declared.stop.Stop.TheVariants.{ReadFault, ShelfFault, Script as BadScript, NoMemory}
-use Rattle.s3a_top.proofs.Readings.{script_part}
+use Rattle.s3a_top.specs.declared.stop.Stop.TheVariants.{ReadFault, ShelfFault, Script as BadScript, Twins as BadTwins, NoMemory}
+use Rattle.s3a_top.proofs.Readings.{script_part, twins_part}
 
 -- ---- counts of faults
 
@@ -95,30 +96,33 @@ stop_worked (Some shelves.NoMemory) due h = subst IsWorked (sym h) tt
 
 -- ---- causes
 
--- what was taken from the input was the script of `job`
-pub script_taken : (command : Command) (left rest : Option (List ℕ)) (w : Script) → IsScriptOf command left rest w → TakesIfJob command left rest
-script_taken Job left rest w h = inr (refl, script_part left rest w h)
-script_taken (Gen seed tasks files) left rest w h = inl h.1
-script_taken _ left rest w h = absurd h
+-- what was taken from the input was its jobs
+pub jobs_taken : (command : Command) (left rest : Option (List ℕ)) (jobs : Jobs) → AreJobsOf command left rest jobs → TakesIfRead command left rest
+jobs_taken Job left rest (One w) h = inr (refl, script_part left rest w h)
+jobs_taken Twins left rest (Two t) h = inr (refl, twins_part left rest t h)
+jobs_taken (Gen seed tasks files) left rest (One w) h = inl h.1
+jobs_taken _ left rest jobs h = absurd h
 
 -- a command that may not read takes no input
 pub reads_less : (command : Command) → may_read (Some command) ≡ false → takes_input command ≡ false
 reads_less Job e = refl
+reads_less Twins e = refl
 reads_less _ e = e
 
 module _ (command : Command) (told : Option Stored) (left rest : Option (List ℕ)) (sound : IsSoundly told) where
-  pub wanting_cause : TakesIfJob command left rest → HasCause NoMemory command told left rest
+  pub wanting_cause : TakesIfRead command left rest → HasCause NoMemory command told left rest
   wanting_cause takes = ⊎_elim (λ e. inl e) (λ j. inr (sound, j)) takes
 
   pub read_cause : (stop : Stop) → IsReadStop stop command left rest → HasCause stop command told left rest
   read_cause ReadFault h = (sound, h)
   read_cause (BadScript e) h = (sound, h)
+  read_cause (BadTwins e) h = (sound, h)
   read_cause NoMemory h = wanting_cause h
   read_cause _ h = absurd h
 
-  pub shelf_cause : (stop : ShelfStop) (w : Script) → IsScriptOf command left rest w → HasCause (of_shelf stop) command told left rest
-  shelf_cause shelves.Failed w reads = inr (w, reads)
-  shelf_cause shelves.NoMemory w reads = wanting_cause (script_taken command left rest w reads)
+  pub shelf_cause : (stop : ShelfStop) (jobs : Jobs) → AreJobsOf command left rest jobs → HasCause (of_shelf stop) command told left rest
+  shelf_cause shelves.Failed jobs reads = inr (jobs, reads)
+  shelf_cause shelves.NoMemory jobs reads = wanting_cause (jobs_taken command left rest jobs reads)
 
 -- ---- what is counted
 
@@ -137,10 +141,11 @@ pub load_counts : (A : Type 0) (stop : ShelfStop) (before after : ℕ) → Count
 load_counts A shelves.Failed before after counts = counts
 load_counts A shelves.NoMemory before after counts = counts
 
--- the script was not read
+-- the jobs were not read
 pub counted_read : (A : Type 0) (stop : Stop) (command : Command) (left rest : Option (List ℕ)) (before after count : ℕ) → IsReadStop stop command left rest → CountsReads {A = A} (Err stop) before after → Counted (Err stop) before after count count
 counted_read A ReadFault command left rest before after count h counts = record { own = tt; read = tells_one 3 before after counts; shelf = tells_none 5 3 count count (λ e. cc) refl }
 counted_read A (BadScript e) command left rest before after count h counts = counted_none (BadScript e) before after count count (λ z. cc) (λ z. cc) counts refl
+counted_read A (BadTwins e) command left rest before after count h counts = counted_none (BadTwins e) before after count count (λ z. cc) (λ z. cc) counts refl
 counted_read A NoMemory command left rest before after count h counts = counted_none NoMemory before after count count (λ z. cc) (λ z. cc) counts refl
 counted_read A _ command left rest before after count h counts = absurd h
 

@@ -1,5 +1,9 @@
 -- Which statuses are due of a job and of a command.
-use Rattle.std.proofs.Common.{inl, inr, ℕ, List, refl}
+use Rattle.std.proofs.Common.{inl, inr, ℕ, ◌==◌, if◌then◌else◌, Bool, true, false, List, refl}
+use Rattle.durable_job.specs.Jobs.{verdict_of_two, verdict_of}
+use Rattle.durable_job.specs.declared.jobs.Jobs.{Jobs}
+use Rattle.durable_job.specs.declared.jobs.Jobs.TheVariants.{One, Two}
+use Rattle.durable_job.specs.declared.jobs.Told.{Told}
 use Rattle.job_spec.specs.Prelude.{Script, SetupEnd, CommitEnd, OpEnd, EventEnd, Decided, NotBegun, Unended, EndedSo, past, end_verdict, verdict_or, verdict}
 use Rattle.job_model.specs.declared.ends.SetupEnd.TheVariants as setups
 use Rattle.job_model.specs.declared.ends.CommitEnd.TheVariants as commits
@@ -39,5 +43,17 @@ decided_final other Unended h = inr (inl refl)
 decided_final other (EndedSo e) h = end_final e
 
 -- a verdict is 0, 1, 8 or 9
-pub verdict_final : (w : Script) (xs : List EventEnd) → IsFinal (verdict w xs)
+verdict_final : (w : Script) (xs : List EventEnd) → IsFinal (verdict w xs)
 verdict_final w xs = decided_final (verdict_or 1 (past w xs).setup) (past w xs).commit (decided_final 1 (past w xs).setup (inr (inl refl)))
+
+-- so is the first of two that is not 0
+first_final : (first second : ℕ) → IsFinal first → IsFinal second → IsFinal (verdict_of_two first second)
+first_final first second h k = by (first == 0)
+  where
+    by : (b : Bool) → IsFinal (if b then second else first)
+    by true = k
+    by false = h
+
+pub jobs_final : (jobs : Jobs) (told : Told) → IsFinal (verdict_of jobs told)
+jobs_final (One w) told = verdict_final w told.ends
+jobs_final (Two t) told = first_final (verdict t.first told.ends) (verdict t.second told.second_ends) (verdict_final t.first told.ends) (verdict_final t.second told.second_ends)

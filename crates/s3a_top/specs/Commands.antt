@@ -1,13 +1,14 @@
 -- What comes of the other commands, and of words that are none.
 use Rattle.std.specs.Prelude.{◌≡◌, ◌⊎◌, ℕ, Bool, true, false, List, [], Option, Some, None}
-use Rattle.job_spec.specs.Prelude.{Entry, Pick, EventEnd}
+use Rattle.job_spec.specs.Prelude.{Entry}
+use Rattle.durable_job.specs.declared.jobs.Told.{Told}
 use Rattle.journal_log.specs.Prelude.{Stored, IsDurable, Sight, CrashesLeave}
 use Rattle.durable_store.specs.Works.{Work}
 use Rattle.durable_store.specs.Outcomes.{IsSound, IsAnswer, IsHeld, HasImages, WhereSound, MightLeave, IsDurableNow, CallsBy}
 use Rattle.durable_store.specs.declared.held.Held.{Held}
 use Rattle.durable_store.specs.declared.held.Held.TheVariants.{Faulty}
 use Rattle.s3a_words.specs.declared.command.Command.{Command}
-use Rattle.s3a_words.specs.declared.command.Command.TheVariants.{Job}
+use Rattle.s3a_words.specs.declared.command.Command.TheVariants.{Job, Twins}
 use Rattle.durable_shell.specs.Commanded.{takes_input, IsWork}
 use Rattle.s3a_top.specs.Bytes.{IsRead, TakesPart}
 use Rattle.s3a_top.specs.Openings.{IsFound, IsSoundly}
@@ -19,9 +20,9 @@ use Rattle.s3a_top.specs.declared.stop.Stop.{Stop}
 use Rattle.s3a_top.specs.declared.stop.Stop.TheVariants.{ReadFault, ShelfFault, NoMemory}
 
 -- words that are no command: the usage is said, and nothing was done
-pub record NoCommand {S : Type 0} (due : ℕ) (old new : S) (es : List Entry) (ps : List Pick) (xs : List EventEnd) (Says : List ℕ → Type 0) : Type 0 where
+pub record NoCommand {S : Type 0} (due : ℕ) (old new : S) (es : List Entry) (told : Told) (Says : List ℕ → Type 0) : Type 0 where
   pub said : ((due ≡ 2) × Says usage_text) ⊎ ((due ≡ 9) × Says memory_text)
-  pub idle : IsIdle es ps xs
+  pub idle : IsIdle es told
   pub untouched : new ≡ old
 
 -- ---- what is taken from the input
@@ -30,6 +31,7 @@ pub record NoCommand {S : Type 0} (due : ℕ) (old new : S) (es : List Entry) (p
 abbrev pub may_read : Option Command → Bool
 may_read None = false
 may_read (Some Job) = true
+may_read (Some Twins) = true
 may_read (Some command) = takes_input command
 
 -- a command reads its input, if it has one, where the shelf holds a store or nothing

@@ -1,25 +1,32 @@
--- What comes of a job: it was played, or it stopped before its first event.
-use Rattle.std.specs.Prelude.{◌≡◌, ◌≢◌, ◌⊎◌, ℕ, List, length, Option, Some, None, Err}
-use Rattle.job_spec.specs.Prelude.{Content, Entry, Script, Pick, EventEnd, AreOwn, Promised, Sent, Finished, verdict}
+-- What comes of a job, or of two at one destination: it was played, or it stopped before its first event.
+use Rattle.std.specs.Prelude.{◌≡◌, ◌≢◌, ◌⊎◌, ℕ, true, List, length, Option, Some, None, Result, Err}
+use Rattle.job_spec.specs.Prelude.{Content, Entry, Script}
 use Rattle.journal_log.specs.Prelude.{Holding, Stored, fresh, IsDurable, Sight, CrashesLeave, image, IsContent, KeepsImages, Holds, HoldsPart, IsKept, AreCalled, AreStopped}
 use Rattle.job_spec.specs.ReportText.{report_text}
 use Rattle.job_script.specs.Script.{script_of}
-use Rattle.job_script.specs.declared.fault.ScriptFault.{ScriptFault}
 use Rattle.job_script.specs.declared.fault.ScriptFault.TheVariants as faults
+use Rattle.twin_script.specs.Twins.{twins_of}
+use Rattle.twin_script.specs.TwinScripts as twin_scripts
+use Rattle.twin_script.specs.declared.fault.TwinFault.TheVariants as twin_faults
+use Rattle.twin_report.specs.TwinText.{twins_report}
 use Rattle.job_gen.specs.Summary.{summary}
 use Rattle.durable_store.specs.Stores.{found}
 use Rattle.durable_store.specs.declared.held.Held.TheVariants.{Faulty}
 use Rattle.journal_log.specs.Changes.{changes}
 use Rattle.journal_log.specs.Crashes.{SurvivesCrashes}
+use Rattle.durable_job.specs.Jobs.{ArePromised, AreFinished, verdict_of}
+use Rattle.durable_job.specs.declared.jobs.Jobs.{Jobs}
+use Rattle.durable_job.specs.declared.jobs.Jobs.TheVariants.{One, Two}
+use Rattle.durable_job.specs.declared.jobs.Told.{Told}
 use Rattle.s3a_words.specs.declared.command.Command.{Command}
-use Rattle.s3a_words.specs.declared.command.Command.TheVariants.{Job, Gen}
+use Rattle.s3a_words.specs.declared.command.Command.TheVariants.{Job, Gen, Twins}
 use Rattle.s3a_top.specs.Bytes.{IsTaken, TakesPart}
-use Rattle.s3a_top.specs.Openings.{IsScriptOf, TakesScript, IsSoundly, Opens}
+use Rattle.s3a_top.specs.Openings.{reads_jobs, AreJobsOf, TakesJobs, IsSoundly, Opens}
 use Rattle.exit_status.specs.Statuses.{code, shelf_text, memory_text}
 use Rattle.s3a_top.specs.Statuses.{IsIdle}
 use Rattle.s3a_top.specs.Stops.{status_of, stop_text}
 use Rattle.s3a_top.specs.declared.stop.Stop.{Stop}
-use Rattle.s3a_top.specs.declared.stop.Stop.TheVariants.{Usage, ReadFault, ShelfFault, Script as BadScript, Image, NoMemory}
+use Rattle.s3a_top.specs.declared.stop.Stop.TheVariants.{Usage, ReadFault, ShelfFault, Script as BadScript, Twins as BadTwins, Image, NoMemory}
 
 -- ---- it stopped before its first event
 
@@ -28,19 +35,20 @@ abbrev pub IsFaulty : Option Stored → ℕ → ℕ → Type 0
 IsFaulty None number place = Unit {0}
 IsFaulty (Some s) number place = found s ≡ Faulty number place
 
--- the input is no script, with this fault, where the source tells it
-abbrev pub IsNoScript : Option (List ℕ) → ScriptFault → Type 0
-IsNoScript None e = Unit {0}
-IsNoScript (Some bytes) e = script_of bytes ≡ Err e
+-- the whole input reads as this fault, where the source tells it
+abbrev pub IsFaultOf : {A E : Type 0} → (List ℕ → Result A E) → Option (List ℕ) → E → Type 0
+IsFaultOf read None e = Unit {0}
+IsFaultOf read (Some bytes) e = read bytes ≡ Err e
 
--- a job's stop has its cause: the shelf comes before the input, and that before the script; nothing is taken from the input before the shelf gave a store, or nothing; by the input and by its script `job` alone stops, and by its script once the input was taken to its end or to one byte over the limit
+-- a stop has its cause: the shelf comes before the input, and that before what it reads as; nothing is taken from the input before the shelf gave a store, or nothing; by the input stop `job` and `twins` alone, by a script `job`, and by two with their order `twins`, once the input was taken to its end or to one byte over the limit
 abbrev pub HasCause : Stop → Command → Option Stored → (left rest : Option (List ℕ)) → Type 0
 HasCause Usage command told left rest = ⊥
-HasCause ReadFault command told left rest = IsSoundly told × ((command ≡ Job) × TakesPart left rest)
-HasCause ShelfFault command told left rest = TakesScript command left rest
-HasCause (BadScript e) command told left rest = IsSoundly told × ((command ≡ Job) × (IsNoScript left e × ((e ≢ faults.NoMemory) × IsTaken left rest)))
+HasCause ReadFault command told left rest = IsSoundly told × ((reads_jobs command ≡ true) × TakesPart left rest)
+HasCause ShelfFault command told left rest = TakesJobs command left rest
+HasCause (BadScript e) command told left rest = IsSoundly told × ((command ≡ Job) × (IsFaultOf script_of left e × ((e ≢ faults.NoMemory) × IsTaken left rest)))
+HasCause (BadTwins e) command told left rest = IsSoundly told × ((command ≡ Twins) × (IsFaultOf twins_of left e × ((e ≢ twin_faults.NoMemory) × IsTaken left rest)))
 HasCause (Image number place) command told left rest = IsFaulty told number place × (rest ≡ left)
-HasCause NoMemory command told left rest = (rest ≡ left) ⊎ (IsSoundly told × ((command ≡ Job) × TakesPart left rest))
+HasCause NoMemory command told left rest = (rest ≡ left) ⊎ (IsSoundly told × ((reads_jobs command ≡ true) × TakesPart left rest))
 
 -- the shelf was called to load at most, and once more to take an image, which failed; a load that failed was before the input
 abbrev pub AreFew : {S : Type 0} → Sight S → (left rest : Option (List ℕ)) → S → S → Type 0
@@ -48,18 +56,18 @@ AreFew {S} F left rest old new = ((old ≡ new) × (rest ≡ left)) ⊎ ((F.fail
 
 -- what a crash before a job's first event might have left: what one at the beginning may leave, or the image of the job's opening store
 abbrev pub MayHaveLeft : (at_first : Holding → Type 0) → Command → Option Stored → (left rest : Option (List ℕ)) → Holding → Type 0
-MayHaveLeft at_first command told left rest h = at_first h ⊎ ((w : Script) × ((c : Content) × (IsScriptOf command left rest w × (Opens told w c × (h ≡ fresh (image c))))))
+MayHaveLeft at_first command told left rest h = at_first h ⊎ ((jobs : Jobs) × ((c : Content) × (AreJobsOf command left rest jobs × (Opens told jobs c × (h ≡ fresh (image c))))))
 
 -- a job stopped before its first event: nothing was sent, what was held is held, and its status has its cause
 pub record JobStopped {S : Type 0} (F : Sight S) (command : Command) (left rest : Option (List ℕ)) (old new : S)
-    (due : ℕ) (es : List Entry) (ps : List Pick) (xs : List EventEnd) (Says : List ℕ → Type 0) : Type 0 where
+    (due : ℕ) (es : List Entry) (told : Told) (Says : List ℕ → Type 0) : Type 0 where
   -- why it stopped
   pub stop : Stop
   pub status : due ≡ code (status_of stop)
   pub cause : HasCause stop command (F.held old) left rest
   pub text : Says (stop_text stop)
   -- nothing was sent, and the shelf holds what it held
-  pub idle : IsIdle es ps xs
+  pub idle : IsIdle es told
   pub same : F.held new ≡ F.held old
   -- the shelf was called to load, and once more at most
   pub calls : AreFew F left rest old new
@@ -68,22 +76,31 @@ pub record JobStopped {S : Type 0} (F : Sight S) (command : Command) (left rest 
 
 -- ---- it was played
 
--- what is said of it, by the status that is due: the report, or of a job that was made the line that sums it up
-abbrev pub job_text : Command → (due sent : ℕ) → List Pick → List EventEnd → Script → List ℕ
-job_text (Gen seed tasks files) due sent ps xs w = summary tasks files due sent ps w
-job_text _ due sent ps xs w = report_text due sent ps xs w
+-- what is said of a job alone, by the status that is due: the report, or of one that was made the line that sums it up
+abbrev pub one_text : Command → (due sent : ℕ) → Told → Script → List ℕ
+one_text (Gen seed tasks files) due sent told w = summary tasks files due sent told.picks w
+one_text _ due sent told w = report_text due sent told.picks told.ends w
 
--- all events ended, all that was sent is kept, and the status is the verdict of the job's commit
-pub record JobEnded {S : Type 0} (F : Sight S) (command : Command) (w : Script) (c : Content) (loaded new : S) (due : ℕ) (es : List Entry) (ps : List Pick) (xs : List EventEnd) (Says : List ℕ → Type 0) : Type 0 where
+-- what is said of two jobs: the report of both
+abbrev pub both_text : (due sent : ℕ) → Told → twin_scripts.Twins → List ℕ
+both_text due sent told t = twins_report due sent t.order (record { script = t.first; ends = told.ends; picks = told.picks }) (record { script = t.second; ends = told.second_ends; picks = told.second_picks })
+
+-- what is said of the jobs
+abbrev pub job_text : Command → (due sent : ℕ) → Told → Jobs → List ℕ
+job_text command due sent told (One w) = one_text command due sent told w
+job_text command due sent told (Two t) = both_text due sent told t
+
+-- all events ended, all that was sent is kept, and the status is the verdict of the jobs' commits
+pub record JobEnded {S : Type 0} (F : Sight S) (command : Command) (jobs : Jobs) (c : Content) (loaded new : S) (due : ℕ) (es : List Entry) (told : Told) (Says : List ℕ → Type 0) : Type 0 where
   -- the promise of a run that went to its end
-  pub finished : Finished w c es ps xs
+  pub finished : AreFinished jobs c es told
   -- the shelf holds the opening image with every change of the run, and a crash leaves that and nothing else
   pub holds : Holds (F.held new) c (changes es)
   pub durable : IsDurable (F.held new) (F.may_leave new)
   -- the shelf was called to take the image, and once for each change
   pub calls : AreCalled F (changes es) loaded new
   -- its text was written, unless that found no memory
-  pub said : ((due ≡ verdict w xs) × Says (job_text command due (length es) ps xs w)) ⊎ ((due ≡ 9) × Says memory_text)
+  pub said : ((due ≡ verdict_of jobs told) × Says (job_text command due (length es) told jobs)) ⊎ ((due ≡ 9) × Says memory_text)
 
 -- an append failed, or memory was wanting between two events
 pub record JobCut {S : Type 0} (F : Sight S) (c : Content) (loaded new : S) (due : ℕ) (es : List Entry) (Says : List ℕ → Type 0) : Type 0 where
@@ -94,32 +111,28 @@ pub record JobCut {S : Type 0} (F : Sight S) (c : Content) (loaded new : S) (due
   -- the status is that of the shelf, or of want of memory
   pub said : ((due ≡ 5) × Says shelf_text) ⊎ ((due ≡ 9) × Says memory_text)
 
--- Of a script over a store with this content, since the shelf was loaded: what was sent keeps all that is promised of the job.
-pub record JobRan {S : Type 0} (F : Sight S) (command : Command) (w : Script) (c : Content) (loaded new : S)
-    (due : ℕ) (es : List Entry) (ps : List Pick) (xs : List EventEnd) (Says : List ℕ → Type 0) : Type 0 where
-  -- readers are shown what they may rely on at every moment, and each event, turn and operation is as the script says
-  pub promised : Promised w c es ps xs
-  -- each answer is the one that was due, and each sending has the fate that the script names
-  pub sent : Sent w c es
-  -- no stranger sent anything
-  pub own : AreOwn es
+-- Of jobs over a store with this content, since the shelf was loaded: what was sent keeps all that is promised of them.
+pub record JobRan {S : Type 0} (F : Sight S) (command : Command) (jobs : Jobs) (c : Content) (loaded new : S)
+    (due : ℕ) (es : List Entry) (told : Told) (Says : List ℕ → Type 0) : Type 0 where
+  -- readers are shown what they may rely on at every moment; each event, turn and operation is as the scripts say; each answer is the one that was due, each sending has the fate that the script names, of two jobs the first's; and no stranger sent anything
+  pub promised : ArePromised jobs c es told
   -- its store can have an image at each moment, up to the most of its counter, so that the next run loads it where it is small
   pub image : IsContent c
   pub images : KeepsImages c es
-  pub ended : JobEnded F command w c loaded new due es ps xs Says ⊎ JobCut F c loaded new due es Says
+  pub ended : JobEnded F command jobs c loaded new due es told Says ⊎ JobCut F c loaded new due es Says
 
--- The headline. Of a job that was played: its script is the command's, the store that it opened with is the shelf's, and the promise holds of all that was sent.
+-- The headline. Of a job that was played, or of two: the scripts are the command's, the store that they opened with is the shelf's, and the promise holds of all that was sent.
 pub record JobPlayed {S : Type 0} (F : Sight S) (command : Command) (left rest : Option (List ℕ)) (old new : S)
-    (due : ℕ) (es : List Entry) (ps : List Pick) (xs : List EventEnd) (Says : List ℕ → Type 0) : Type 0 where
-  -- the script that was played, and the store that it opened with
-  pub script : Script
+    (due : ℕ) (es : List Entry) (told : Told) (Says : List ℕ → Type 0) : Type 0 where
+  -- the jobs that were played, and the store that they opened with
+  pub jobs : Jobs
   pub opening : Content
-  pub reads : IsScriptOf command left rest script
-  pub opens : Opens (F.held old) script opening
+  pub reads : AreJobsOf command left rest jobs
+  pub opens : Opens (F.held old) jobs opening
   -- the shelf once it was loaded
   pub loaded : S
   pub load : F.answers old loaded
-  pub ran : JobRan F command script opening loaded new due es ps xs Says
+  pub ran : JobRan F command jobs opening loaded new due es told Says
   -- what the shelf keeps of it, and what crashes leave
   pub kept : IsKept due (F.held new) opening es
   pub survives : SurvivesCrashes due (F.held new) (F.may_leave old) (F.left_since new (F.moment old)) (F.may_leave new) opening es

@@ -1,45 +1,56 @@
 -- What a run begins with, by what the shelf held and what the input had left.
-use Rattle.std.specs.Prelude.{◌≡◌, ◌⊎◌, ℕ, List, [], Option, Some, None, Ok}
-use Rattle.job_spec.specs.Prelude.{Content, new_content, apply_store, MOST_MINIMUM, MakeBucket, Script}
+use Rattle.std.specs.Prelude.{◌≡◌, ◌⊎◌, ℕ, Bool, true, false, List, [], Option, Some, None, Result, Ok}
+use Rattle.job_spec.specs.Prelude.{Content, new_content, apply_store, MOST_MINIMUM, MakeBucket}
 use Rattle.journal_log.specs.Prelude.{Stored}
 use Rattle.job_script.specs.Script.{script_of}
+use Rattle.twin_script.specs.Twins.{twins_of}
 use Rattle.job_gen.specs.Made.{made_script}
+use Rattle.durable_job.specs.Jobs.{dest_of}
+use Rattle.durable_job.specs.declared.jobs.Jobs.{Jobs}
+use Rattle.durable_job.specs.declared.jobs.Jobs.TheVariants.{One, Two}
 use Rattle.durable_store.specs.Stores.{found}
 use Rattle.durable_store.specs.declared.held.Held.{Held}
 use Rattle.durable_store.specs.declared.held.Held.TheVariants.{Nothing, Store, Faulty}
 use Rattle.s3a_words.specs.declared.command.Command.{Command}
-use Rattle.s3a_words.specs.declared.command.Command.TheVariants.{Job, Gen}
+use Rattle.s3a_words.specs.declared.command.Command.TheVariants.{Job, Gen, Twins}
 use Rattle.s3a_top.specs.Bytes.{TakesPart}
 
--- the input was this script, and nothing of it is left, where the source tells it
-abbrev pub IsScript : (left rest : Option (List ℕ)) → Script → Type 0
-IsScript None rest w = rest ≡ None
-IsScript (Some bytes) rest w = (script_of bytes ≡ Ok w) × (rest ≡ Some [])
+-- the whole input reads as this, and nothing of it is left, where the source tells it
+abbrev pub IsAllRead : {A E : Type 0} → (List ℕ → Result A E) → (left rest : Option (List ℕ)) → A → Type 0
+IsAllRead read None rest x = rest ≡ None
+IsAllRead read (Some bytes) rest x = (read bytes ≡ Ok x) × (rest ≡ Some [])
 
--- the script of a command: of `job` the input's, and of `gen` the one that its numbers make, where nothing is taken from the input
-abbrev pub IsScriptOf : Command → (left rest : Option (List ℕ)) → Script → Type 0
-IsScriptOf Job left rest w = IsScript left rest w
-IsScriptOf (Gen seed tasks files) left rest w = (w ≡ made_script seed tasks files) × (rest ≡ left)
-IsScriptOf _ left rest w = ⊥
+-- the jobs of a command: of `job` the input's script, of `twins` its two scripts with their order, and of `gen` the script that its numbers make, where nothing is taken from the input
+abbrev pub AreJobsOf : Command → (left rest : Option (List ℕ)) → Jobs → Type 0
+AreJobsOf Job left rest (One w) = IsAllRead script_of left rest w
+AreJobsOf Twins left rest (Two t) = IsAllRead twins_of left rest t
+AreJobsOf (Gen seed tasks files) left rest (One w) = (w ≡ made_script seed tasks files) × (rest ≡ left)
+AreJobsOf _ left rest jobs = ⊥
 
--- nothing was taken from the input, or some first bytes by `job`
-abbrev pub TakesIfJob : Command → (left rest : Option (List ℕ)) → Type 0
-TakesIfJob command left rest = (rest ≡ left) ⊎ ((command ≡ Job) × TakesPart left rest)
+-- the commands whose jobs the input tells
+abbrev pub reads_jobs : Command → Bool
+reads_jobs Job = true
+reads_jobs Twins = true
+reads_jobs _ = false
 
--- nothing was taken from the input, or the command's script was read
-abbrev pub TakesScript : Command → (left rest : Option (List ℕ)) → Type 0
-TakesScript command left rest = (rest ≡ left) ⊎ ((w : Script) × IsScriptOf command left rest w)
+-- nothing was taken from the input, or some first bytes by a command whose jobs it tells
+abbrev pub TakesIfRead : Command → (left rest : Option (List ℕ)) → Type 0
+TakesIfRead command left rest = (rest ≡ left) ⊎ ((reads_jobs command ≡ true) × TakesPart left rest)
 
--- the store that a job opens with: the one that is held, or a new one in which its destination's bucket was made
-abbrev pub opening_in : Held → Script → Option Content
-opening_in Nothing w = Some (apply_store (new_content MOST_MINIMUM) (MakeBucket w.dest.bucket))
-opening_in (Store c) w = Some c
-opening_in (Faulty number place) w = None
+-- nothing was taken from the input, or the command's jobs were read
+abbrev pub TakesJobs : Command → (left rest : Option (List ℕ)) → Type 0
+TakesJobs command left rest = (rest ≡ left) ⊎ ((jobs : Jobs) × AreJobsOf command left rest jobs)
 
--- the store that a job opens with, where the shelf tells what it holds
-abbrev pub Opens : Option Stored → Script → Content → Type 0
-Opens None w c = Unit {0}
-Opens (Some s) w c = opening_in (found s) w ≡ Some c
+-- the store that jobs open with: the one that is held, or a new one in which their destination's bucket was made
+abbrev pub opening_in : Held → Jobs → Option Content
+opening_in Nothing jobs = Some (apply_store (new_content MOST_MINIMUM) (MakeBucket (dest_of jobs).bucket))
+opening_in (Store c) jobs = Some c
+opening_in (Faulty number place) jobs = None
+
+-- the store that jobs open with, where the shelf tells what it holds
+abbrev pub Opens : Option Stored → Jobs → Content → Type 0
+Opens None jobs c = Unit {0}
+Opens (Some s) jobs c = opening_in (found s) jobs ≡ Some c
 
 -- the shelf holds a store, or nothing, where it tells it
 abbrev pub is_sound : Held → Type 0

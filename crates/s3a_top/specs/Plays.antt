@@ -1,13 +1,14 @@
 -- What comes of a job since its shelf was loaded.
 use Rattle.std.specs.Prelude.{◌≡◌, ◌⊎◌, ℕ, List, length, Option, Some, None, Result, Ok, Err}
-use Rattle.job_spec.specs.Prelude.{Content, Script, verdict}
+use Rattle.job_spec.specs.Prelude.{Content}
 use Rattle.journal_log.specs.Prelude.{fresh, Sight, CrashesLeave, ShelfStop, Failed, NoMemory, image, IsMoment, WhereTold}
-use Rattle.job_world.specs.declared.played.Played.{Played}
+use Rattle.durable_job.specs.declared.jobs.Jobs.{Jobs}
+use Rattle.durable_job.specs.declared.playing.Kept.{Kept}
 use Rattle.exit_status.specs.Statuses.{code, shelf_text, memory_text}
 use Rattle.exit_status.specs.declared.statuses.Status.{Status}
 use Rattle.exit_status.specs.declared.statuses.Status.TheVariants as statuses
 use Rattle.s3a_words.specs.declared.command.Command.{Command}
-use Rattle.s3a_top.specs.Openings.{IsScriptOf, Opens}
+use Rattle.s3a_top.specs.Openings.{AreJobsOf, Opens}
 use Rattle.s3a_top.specs.Jobs.{HasCause, MayHaveLeft, job_text, JobRan}
 use Rattle.s3a_top.specs.Works.{IsWritten}
 use Rattle.s3a_top.specs.declared.stop.Stop.{Stop}
@@ -33,25 +34,25 @@ IsOfStop None due = IsVerdict due
 IsOfStop (Some Failed) due = due ≡ statuses.ShelfFault
 IsOfStop (Some NoMemory) due = due ≡ statuses.NoMemory
 
--- the job's text is said with the verdict, unless it found no memory
-abbrev pub IsReported : Command → Played → (due : ℕ) → List ℕ → Type 0
-IsReported command p due text = ((due ≡ verdict p.script p.ends) × (text ≡ job_text command due (length p.journal.entries) p.picks p.ends p.script)) ⊎ ((due ≡ 9) × (text ≡ memory_text))
+-- the jobs' text is said with the verdict, unless it found no memory
+abbrev pub IsReported : Command → Kept → (due : ℕ) → List ℕ → Type 0
+IsReported command kept due text = ((due ≡ kept.verdict) × (text ≡ job_text command due (length kept.journal.entries) kept.told kept.jobs)) ⊎ ((due ≡ 9) × (text ≡ memory_text))
 
 -- what is said, by why it stopped
-abbrev pub IsTold : Option ShelfStop → Command → Played → (due : ℕ) → List ℕ → Type 0
-IsTold None command p due text = IsReported command p due text
-IsTold (Some Failed) command p due text = (due ≡ 5) × (text ≡ shelf_text)
-IsTold (Some NoMemory) command p due text = (due ≡ 9) × (text ≡ memory_text)
+abbrev pub IsTold : Option ShelfStop → Command → Kept → (due : ℕ) → List ℕ → Type 0
+IsTold None command kept due text = IsReported command kept due text
+IsTold (Some Failed) command kept due text = (due ≡ 5) × (text ≡ shelf_text)
+IsTold (Some NoMemory) command kept due text = (due ≡ 9) × (text ≡ memory_text)
 
 -- ---- what comes of it
 
 -- it was played, and a crash left first what one before it might leave or the image of the opening content, and since some state a moment of the run
 pub record JobOver {S : Type 0} (F : Sight S) (command : Command) (left rest : Option (List ℕ)) (old new : S) (work : Work) : Type 0 where
-  pub script : Script
+  pub jobs : Jobs
   pub opening : Content
-  pub reads : IsScriptOf command left rest script
-  pub opens : Opens (F.held old) script opening
-  pub ran : JobRan F command script opening old new (code work.answer.due) work.answer.sent.entries work.picks work.ends (IsWritten work.answer)
+  pub reads : AreJobsOf command left rest jobs
+  pub opens : Opens (F.held old) jobs opening
+  pub ran : JobRan F command jobs opening old new (code work.answer.due) work.answer.sent.entries work.told (IsWritten work.answer)
   pub mid : S
   pub replaced : CrashesLeave F old mid (λ h. F.may_leave old h ⊎ (h ≡ fresh (image opening)))
   pub appended : CrashesLeave F mid new (λ h. WhereTold (F.held new) (IsMoment opening work.answer.sent.entries h))

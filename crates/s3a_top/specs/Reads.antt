@@ -1,32 +1,49 @@
--- What comes of the reading or the making of a script.
-use Rattle.std.specs.Prelude.{◌≡◌, ◌≢◌, ℕ, ◌<◌, List, Option, Result, Err}
-use Rattle.job_script.specs.declared.fault.ScriptFault.TheVariants as faults
+-- What comes of the reading or the making of the jobs.
+use Rattle.std.specs.Prelude.{◌≡◌, ◌≢◌, ℕ, ◌<◌, Bool, true, false, List, Option, Result, Ok, Err}
 use Rattle.job_script.specs.Script.{script_of}
+use Rattle.job_script.specs.declared.fault.ScriptFault.TheVariants as faults
+use Rattle.twin_script.specs.Twins.{twins_of}
+use Rattle.twin_script.specs.declared.fault.TwinFault.TheVariants as twin_faults
+use Rattle.durable_job.specs.declared.jobs.Jobs.{Jobs}
+use Rattle.durable_job.specs.declared.jobs.Jobs.TheVariants.{One, Two}
 use Rattle.s3a_words.specs.declared.command.Command.{Command}
-use Rattle.s3a_words.specs.declared.command.Command.TheVariants.{Job}
+use Rattle.s3a_words.specs.declared.command.Command.TheVariants.{Job, Twins}
 use Rattle.s3a_top.specs.Bytes.{IsTaken, TakesPart}
-use Rattle.s3a_top.specs.Openings.{TakesIfJob}
-use Rattle.s3a_top.specs.Jobs.{IsNoScript}
+use Rattle.s3a_top.specs.Openings.{reads_jobs, TakesIfRead}
+use Rattle.s3a_top.specs.Jobs.{IsFaultOf}
 use Rattle.s3a_top.specs.declared.stop.Stop.{Stop}
-use Rattle.s3a_top.specs.declared.stop.Stop.TheVariants.{Usage, ReadFault, ShelfFault, Script as BadScript, Image, NoMemory}
+use Rattle.s3a_top.specs.declared.stop.Stop.TheVariants.{Usage, ReadFault, ShelfFault, Script as BadScript, Twins as BadTwins, Image, NoMemory}
 
--- why there is no script
+-- the command whose input tells one job, or two
+abbrev pub reader : Bool → Command
+reader false = Job
+reader true = Twins
+
+-- the bytes tell these jobs: one, or two
+abbrev pub AreJobsIn : Bool → List ℕ → Jobs → Type 0
+AreJobsIn false bytes (One w) = script_of bytes ≡ Ok w
+AreJobsIn true bytes (Two t) = twins_of bytes ≡ Ok t
+AreJobsIn _ bytes jobs = ⊥
+
+-- why there are no jobs
 abbrev pub IsReadStop : Stop → Command → (left rest : Option (List ℕ)) → Type 0
-IsReadStop ReadFault command left rest = (command ≡ Job) × TakesPart left rest
-IsReadStop (BadScript e) command left rest = (command ≡ Job) × (IsNoScript left e × ((e ≢ faults.NoMemory) × IsTaken left rest))
-IsReadStop NoMemory command left rest = TakesIfJob command left rest
+IsReadStop ReadFault command left rest = (reads_jobs command ≡ true) × TakesPart left rest
+IsReadStop (BadScript e) command left rest = (command ≡ Job) × (IsFaultOf script_of left e × ((e ≢ faults.NoMemory) × IsTaken left rest))
+IsReadStop (BadTwins e) command left rest = (command ≡ Twins) × (IsFaultOf twins_of left e × ((e ≢ twin_faults.NoMemory) × IsTaken left rest))
+IsReadStop NoMemory command left rest = TakesIfRead command left rest
 IsReadStop Usage command left rest = ⊥
 IsReadStop ShelfFault command left rest = ⊥
 IsReadStop (Image number place) command left rest = ⊥
 
--- why the bytes that were read are no script
-abbrev pub IsNone : Stop → List ℕ → Type 0
-IsNone (BadScript e) bytes = (script_of bytes ≡ Err e) × (e ≢ faults.NoMemory)
-IsNone NoMemory bytes = Unit {0}
-IsNone Usage bytes = ⊥
-IsNone ReadFault bytes = ⊥
-IsNone ShelfFault bytes = ⊥
-IsNone (Image number place) bytes = ⊥
+-- why the bytes that were read tell none
+abbrev pub IsNone : Stop → Bool → List ℕ → Type 0
+IsNone (BadScript e) both bytes = (both ≡ false) × ((script_of bytes ≡ Err e) × (e ≢ faults.NoMemory))
+IsNone (BadTwins e) both bytes = (both ≡ true) × ((twins_of bytes ≡ Err e) × (e ≢ twin_faults.NoMemory))
+IsNone NoMemory both bytes = Unit {0}
+IsNone Usage both bytes = ⊥
+IsNone ReadFault both bytes = ⊥
+IsNone ShelfFault both bytes = ⊥
+IsNone (Image number place) both bytes = ⊥
 
 -- the count of faults rose where the input failed, and else stands
 abbrev pub CountsReads : {A : Type 0} → Result A Stop → ℕ → ℕ → Type 0

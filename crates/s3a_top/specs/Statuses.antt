@@ -1,9 +1,13 @@
 -- What is due and what is written.
 use Rattle.std.specs.Prelude.{◌≡◌, ◌≢◌, ℕ, ◌++◌, List, [], ◌∷◌, codes, Option}
-use Rattle.job_spec.specs.Prelude.{decimal, Pick, EventEnd, Entry}
+use Rattle.job_spec.specs.Prelude.{decimal, Entry}
 use Rattle.journal_log.specs.Prelude.{Appends}
 use Rattle.job_script.specs.Fault.{number_of, line_of}
 use Rattle.job_script.specs.declared.fault.ScriptFault.{ScriptFault}
+use Rattle.twin_script.specs.Fault as twins
+use Rattle.twin_script.specs.declared.fault.TwinFault.{TwinFault}
+use Rattle.durable_job.specs.Jobs.{nothing_told}
+use Rattle.durable_job.specs.declared.jobs.Told.{Told}
 use Rattle.exit_status.specs.Statuses.{code}
 use Rattle.exit_status.specs.declared.statuses.Status.{Status}
 use Rattle.exit_status.specs.declared.statuses.Status.TheVariants.{Usage, ReadFault, WriteFault, BadScript}
@@ -25,13 +29,16 @@ IsWorked _ = Unit {0}
 unfoldable pub script_fault_text : ScriptFault → List ℕ
 script_fault_text e = codes "script fault " ++ (decimal (number_of e) ++ (codes " at line " ++ (decimal (line_of e) ++ 10 ∷ [])))
 
+-- the line of bytes that are no two scripts with an order: the same of their fault
+unfoldable pub twin_fault_text : TwinFault → List ℕ
+twin_fault_text e = codes "twin fault " ++ (decimal (twins.number_of e) ++ (codes " at line " ++ (decimal (twins.line_of e) ++ 10 ∷ [])))
+
 -- the text went out whole, or, where the sink failed, its first bytes
 pub record Writes (status : ℕ) (before after : Option (List ℕ)) (text : List ℕ) : Type 0 where
   pub whole : status ≢ 4 → Appends before after text
   pub partly : status ≡ 4 → WritesSome before after text
 
 -- nothing was sent
-pub record IsIdle (es : List Entry) (ps : List Pick) (xs : List EventEnd) : Type 0 where
+pub record IsIdle (es : List Entry) (told : Told) : Type 0 where
   pub entries : es ≡ []
-  pub picks : ps ≡ []
-  pub ends : xs ≡ []
+  pub nothing : told ≡ nothing_told

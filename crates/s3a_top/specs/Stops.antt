@@ -4,11 +4,11 @@ use Rattle.journal_log.specs.Prelude.{ShelfStop}
 use Rattle.durable_store.specs.Stores.{fault_text}
 use Rattle.shelf.specs.declared.kept.ShelfStop.TheVariants as shelves
 use Rattle.exit_status.specs.Statuses.{usage_text, read_text, shelf_text, memory_text}
-use Rattle.s3a_top.specs.Statuses.{script_fault_text}
+use Rattle.s3a_top.specs.Statuses.{script_fault_text, twin_fault_text}
 use Rattle.exit_status.specs.declared.statuses.Status.{Status}
 use Rattle.exit_status.specs.declared.statuses.Status.TheVariants as statuses
 use Rattle.s3a_top.specs.declared.stop.Stop.{Stop}
-use Rattle.s3a_top.specs.declared.stop.Stop.TheVariants.{Usage, ReadFault, ShelfFault, Script as BadScript, Image, NoMemory}
+use Rattle.s3a_top.specs.declared.stop.Stop.TheVariants.{Usage, ReadFault, ShelfFault, Script as BadScript, Twins as BadTwins, Image, NoMemory}
 
 -- the exit status of a stop
 abbrev pub status_of : Stop → Status
@@ -16,6 +16,7 @@ status_of Usage = statuses.Usage
 status_of ReadFault = statuses.ReadFault
 status_of ShelfFault = statuses.ShelfFault
 status_of (BadScript e) = statuses.BadScript
+status_of (BadTwins e) = statuses.BadScript
 status_of (Image number place) = statuses.BadImage
 status_of NoMemory = statuses.NoMemory
 
@@ -30,5 +31,6 @@ stop_text Usage = usage_text
 stop_text ReadFault = read_text
 stop_text ShelfFault = shelf_text
 stop_text (BadScript e) = script_fault_text e
+stop_text (BadTwins e) = twin_fault_text e
 stop_text (Image number place) = fault_text number place
 stop_text NoMemory = memory_text

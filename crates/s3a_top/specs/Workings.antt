@@ -1,6 +1,8 @@
 -- What the work of the words gives before its text is written.
 use Rattle.std.specs.Prelude.{◌≡◌, ◌⊎◌, ◌<◌, ◌^◌, ◌-◌, ℕ, true, false, List, [], Option, Some, None, Result, Ok, Err, IfOk}
-use Rattle.job_spec.specs.Prelude.{Entry, Pick, EventEnd}
+use Rattle.job_spec.specs.Prelude.{Entry}
+use Rattle.durable_job.specs.Jobs.{nothing_told}
+use Rattle.durable_job.specs.declared.jobs.Told.{Told}
 use Rattle.journal_log.specs.Prelude.{Sight, CrashesLeave}
 use Rattle.exit_status.specs.Statuses.{code, written_text, memory_text}
 use Rattle.exit_status.specs.declared.statuses.Status.{Status}
@@ -20,7 +22,7 @@ use Rattle.s3a_top.specs.Jobs.{HasCause, AreFew, MayHaveLeft, JobPlayed, JobStop
 use Rattle.s3a_top.specs.Commands.{reads_input, IsInput, HasReason, WorkDone, NoCommand, StoreDone, StoreStopped}
 use Rattle.s3a_top.specs.Works.{IsWritten}
 use Rattle.s3a_top.specs.declared.stop.Stop.{Stop}
-use Rattle.s3a_top.specs.declared.stop.Stop.TheVariants.{ReadFault, Script as BadScript, Image, NoMemory}
+use Rattle.s3a_top.specs.declared.stop.Stop.TheVariants.{ReadFault, Script as BadScript, Twins as BadTwins, Image, NoMemory}
 use Rattle.s3a_top.specs.declared.work.Work.{Work}
 
 -- the counts of faults of the input and of the shelf may rise, and the command's numbers are within their bounds
@@ -47,6 +49,7 @@ pub record Counted (result : Result Work Stop) (left rest before after : ℕ) : 
 -- one whose text is made
 abbrev pub IsMade : Stop → Type 0
 IsMade (BadScript e) = Unit {0}
+IsMade (BadTwins e) = Unit {0}
 IsMade (Image number place) = Unit {0}
 IsMade _ = ⊥
 
@@ -57,7 +60,7 @@ IsToldOf stop due text = ((due ≡ status_of stop) × (text ≡ stop_text stop))
 -- and nothing was done
 pub record IsStopped (stop : Stop) (work : Work) : Type 0 where
   pub told : IsToldOf stop work.answer.due (written_text work.answer.due work.answer.text)
-  pub idle : IsIdle work.answer.sent.entries work.picks work.ends
+  pub idle : IsIdle work.answer.sent.entries work.told
 
 -- what is answered is what was done, or tells the stop
 abbrev pub IsAnswered : Result Work Stop → Work → Type 0
@@ -97,7 +100,7 @@ pub record StoreOver {S : Type 0} (F : Sight S) (command : Command) (before : He
 
 -- no job was played
 abbrev pub IsQuiet : Work → Type 0
-IsQuiet work = (work.picks ≡ []) × (work.ends ≡ [])
+IsQuiet work = work.told ≡ nothing_told
 
 -- what comes of another command behind the load
 abbrev pub StoreSince : {S : Type 0} → Sight S → Command → Held → (left rest : Option (List ℕ)) (old new : S) → Result Work Stop → Type 0
@@ -108,7 +111,7 @@ StoreSince F command before left rest old new (Err stop) = HasReasonIn stop comm
 
 -- of a job, before the text of a stop is made
 abbrev pub JobGoes : {S : Type 0} → Sight S → Command → (left rest : Option (List ℕ)) (old new : S) → Result Work Stop → Type 0
-JobGoes F command left rest old new (Ok work) = JobPlayed F command left rest old new (code work.answer.due) work.answer.sent.entries work.picks work.ends (IsWritten work.answer)
+JobGoes F command left rest old new (Ok work) = JobPlayed F command left rest old new (code work.answer.due) work.answer.sent.entries work.told (IsWritten work.answer)
 JobGoes F command left rest old new (Err stop) = JobHalted F command left rest old new stop
 
 -- of another command, before the text of a stop is made
@@ -124,12 +127,12 @@ pub record Goes {S : Type 0} (F : Sight S) (command : Command) (left rest : Opti
 -- ---- what comes of words, where this is what they say, by the counts of faults of the input and of the shelf before and after
 
 -- the status that is due is one of the program's, and what was done or stopped is as the headline has it
-pub record Comes {S : Type 0} (F : Sight S) (said : Option Command) (left rest : Option (List ℕ)) (old new : S) (i j m n status : ℕ) (es : List Entry) (ps : List Pick) (xs : List EventEnd) (Says : List ℕ → Type 0) : Type 0 where
+pub record Comes {S : Type 0} (F : Sight S) (said : Option Command) (left rest : Option (List ℕ)) (old new : S) (i j m n status : ℕ) (es : List Entry) (told : Told) (Says : List ℕ → Type 0) : Type 0 where
   pub due : IsDue status
   pub read : Tells 3 status i j
   pub shelf : Tells 5 status m n
-  pub job : (c : Command) → said ≡ Some c → plays c ≡ true → JobPlayed F c left rest old new status es ps xs Says ⊎ JobStopped F c left rest old new status es ps xs Says
+  pub job : (c : Command) → said ≡ Some c → plays c ≡ true → JobPlayed F c left rest old new status es told Says ⊎ JobStopped F c left rest old new status es told Says
   pub store : (c : Command) → said ≡ Some c → plays c ≡ false → StoreDone F c left rest old new status es Says ⊎ StoreStopped F c left rest old new status es Says
-  pub picks : (c : Command) → said ≡ Some c → plays c ≡ false → (ps ≡ []) × (xs ≡ [])
-  pub usage : said ≡ None → NoCommand status old new es ps xs Says
+  pub quiet : (c : Command) → said ≡ Some c → plays c ≡ false → told ≡ nothing_told
+  pub usage : said ≡ None → NoCommand status old new es told Says
   pub command : status ≡ 2 → said ≡ None

@@ -2,18 +2,18 @@
 //!
 //! # What is proved
 //!
-//! `run`: Of `job` and `gen` the headline, as `README.md` tells it (`job`). Of every other command, by
+//! `run`: Of `job`, `twins` and `gen` the headline, as `README.md` tells it (`job`). Of every other command, by
 //! what the shelf holds, what it does (`IsWork` of `durable_shell`) was said or kept, with the bytes of
 //! its input, and the shelf was called for that and no more (`StoreDone`); or the shelf or the input
 //! failed, or memory was wanting, before anything was done (`StoreStopped`); a crash meanwhile leaves
 //! what one before might, or a moment of what was kept, and after status 0 what is kept; no picks and
-//! no ends are told (`store`, `picks`). A store that was found can have an image (`sound`), and so can
+//! no ends are told (`store`, `quiet`). A store that was found can have an image (`sound`), and so can
 //! what is kept of a run or of a command, up to the most of its counter (`image`, `images`). Words that
 //! are no command give 2 or 9, with no sending and the shelf untouched, and 2 comes of no others
 //! (`usage`, `command`). The status that is due is one of the table's but 4 (`due`): 3 exactly where
 //! the input's count of faults rose, 5 exactly where the shelf's did (`read`, `shelf`). The status is 4
 //! exactly where the output's count rose; else it is the one that is due, and all that was written has
-//! gone out (`written`, `otherwise`, `out`). Nothing is taken from the input but for `job`, `put`,
+//! gone out (`written`, `otherwise`, `out`). Nothing is taken from the input but for `job`, `twins`, `put`,
 //! `put-force` and `put-drop` (`unread`), nor where the shelf holds what is no store or failed as it was loaded; the
 //! input of a script that is played was taken to its end. It asks that no device's count of faults
 //! stands at its end, 2^64 - 1. Left open: that `main` hands on the words and the folder that it was
@@ -24,10 +24,12 @@ mod asked;
 mod input;
 mod jobs;
 mod output;
+mod report;
 mod script;
 mod stop;
 mod stores;
 mod top;
 mod work;
 
+pub use report::Report;
 pub use top::run;

@@ -1,6 +1,6 @@
 ghost use Rattle.std.specs.Prelude.{◌≡◌, IfOk, OnErr};
 ghost use Rattle.exit_status.specs.Statuses.{written_text};
-ghost use Rattle.s3a_top.specs.Statuses.{script_fault_text, IsIdle};
+ghost use Rattle.s3a_top.specs.Statuses.{script_fault_text, twin_fault_text, IsIdle};
 ghost use Rattle.s3a_top.specs.Stops.{status_of, of_shelf, stop_text};
 ghost use Rattle.s3a_top.specs.Workings.{IsMade, IsStopped};
 
@@ -11,6 +11,7 @@ use job_script::ScriptFault;
 use s3_types::{Bytes, Journal};
 use shelf::kept::ShelfStop;
 use std::alloc::{AllocError, Global};
+use twin_script::TwinFault;
 
 /// Why the work stopped before anything was sent.
 #[derive(Clone, Copy, Debug, PartialEq, Eq)]
@@ -23,6 +24,8 @@ pub enum Stop {
     ShelfFault,
     /// The input is no script.
     Script(ScriptFault),
+    /// The input is no two scripts with an order.
+    Twins(TwinFault),
     /// What the shelf holds is no store: the fault's number, and its place in bytes from the start.
     Image { number: u8, place: u64 },
     NoMemory,
@@ -36,6 +39,17 @@ fn script_fault_text(alloc: Global, fault: ScriptFault) -> Result<Bytes, AllocEr
     let number = fault.number();
     let line = fault.line();
     let text = format!(in alloc; "script fault {number} at line {line}\n")?;
+    Bytes::new(alloc, text.into_bytes())
+}
+
+/// The line that tells of bytes that are no two scripts with an order: `twin fault NUMBER at line LINE`.
+#[tactic(auto, unfolding(crate::specs::Statuses::twin_fault_text))]
+fn twin_fault_text(alloc: Global, fault: TwinFault) -> Result<Bytes, AllocError>
+    ensures { IfOk result (λ text. text ≡ twin_fault_text fault) }
+{
+    let number = fault.number();
+    let line = fault.line();
+    let text = format!(in alloc; "twin fault {number} at line {line}\n")?;
     Bytes::new(alloc, text.into_bytes())
 }
 
@@ -59,6 +73,7 @@ impl Stop {
             Stop::ReadFault => Status::ReadFault,
             Stop::ShelfFault => Status::ShelfFault,
             Stop::Script(_) => Status::BadScript,
+            Stop::Twins(_) => Status::BadScript,
             Stop::Image { .. } => Status::BadImage,
             Stop::NoMemory => Status::NoMemory,
         }
@@ -71,6 +86,7 @@ impl Stop {
     {
         match self {
             Stop::Script(fault) => Ok(Some(script_fault_text(alloc, fault)?)),
+            Stop::Twins(fault) => Ok(Some(twin_fault_text(alloc, fault)?)),
             Stop::Image { number, place } => Ok(Some(fault_text(alloc, number, place)?)),
             _ => Ok(None),
         }
@@ -81,7 +97,7 @@ impl Stop {
 fn said(alloc: Global, due: Status, text: Option<Bytes>) -> Work
     ensures due { result.answer.due ≡ due }
     ensures text { result.answer.text ≡ text }
-    ensures idle { IsIdle result.answer.sent.entries result.picks result.ends }
+    ensures idle { IsIdle result.answer.sent.entries result.told }
 {
     let sent = Journal::new(alloc);
     quiet(alloc, Answer { due, text, sent })

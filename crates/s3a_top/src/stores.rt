@@ -57,7 +57,7 @@ fn read_bytes<Q: Source>(
     }
 }
 
-/// Does a command but `job` and `gen` on what the shelf was found to hold, with the bytes of its input where it has one. After an error
+/// Does a command that plays no jobs on what the shelf was found to hold, with the bytes of its input where it has one. After an error
 /// the shelf was not called.
 pub fn commanded<Q: Source, F: Shelf>(
     input: &mut Q,

@@ -1,8 +1,9 @@
-ghost use Rattle.std.specs.Prelude.{◌≡◌, ◌≢◌, ◌⊎◌, ◌<◌, ◌^◌, ◌-◌, true, false, [], Some, None};
+ghost use Rattle.std.specs.Prelude.{◌≡◌, ◌≢◌, ◌⊎◌, ◌<◌, ◌^◌, ◌-◌, true, false, Some, None};
 ghost use Rattle.exit_status.specs.Statuses.{code, written_text};
 ghost use Rattle.durable_store.specs.Outcomes.{Tells};
 ghost use Rattle.s3a_words.specs.Words.{command_of};
 ghost use Rattle.s3a_words.specs.declared.command.Command as words_said;
+ghost use Rattle.durable_job.specs.Jobs.{nothing_told};
 ghost use Rattle.durable_shell.specs.Commanded.{plays};
 ghost use Rattle.s3a_top.specs.Statuses.{IsDue, Writes};
 ghost use Rattle.s3a_top.specs.Jobs.{JobPlayed, JobStopped};
@@ -13,13 +14,13 @@ ghost use Rattle.s3a_top.specs.Workings.{MayDo, Counted, IsAnswered, Goes, Comes
 use crate::asked::Asked;
 use crate::jobs::job;
 use crate::output::write_output;
+use crate::report::Report;
 use crate::stop::{Stop, stopped};
 use crate::stores::commanded;
 use crate::work::Work;
 use durable_shell::plays;
 use durable_store::load;
 use exit_status::Status;
-use job_report::Report;
 use s3_types::{Text, let_go};
 use s3a_words::{Command, WordFault, read_words};
 use shelf::kept::Shelf;
@@ -66,7 +67,7 @@ fn worked<Q: Source, F: Shelf>(alloc: Global, words: &[Text], input: &mut Q, she
     requires shelf_count { F.faults shelf.old < 2 ^ 64 - 1 }
     ensures comes { Comes F.sight (command_of words.now) (Q.left input.old) (Q.left input.new) shelf.old shelf.new
         (Q.faults input.old) (Q.faults input.new) (F.faults shelf.old) (F.faults shelf.new) (code result.answer.due)
-        result.answer.sent.entries result.picks result.ends (IsWritten result.answer) }
+        result.answer.sent.entries result.told (IsWritten result.answer) }
     ensures unread { may_read (command_of words.now) ≡ false → input.new ≡ input.old }
 {
     match read_words(alloc, words) {
@@ -106,7 +107,8 @@ fn say<K: Sink>(out: &mut K, work: &Work) -> u8
 /// `uploads` and `abort-uploads` with a path, and `mv` with two, do as the FileSystem specification says of
 /// the operation that they name; `cp` with two paths does as the FileSystem shell does, and leaves what stands already;
 /// `markers`, `clean-markers` and `fill-markers` with a path do as S3A's marker tool; `job` reads a script from the input, plays it over the store that the shelf
-/// holds, and writes the report; `gen SEED TASKS FILES` plays in the same way a script that it makes of these numbers, with nothing
+/// holds, and writes the report; `twins` reads two scripts and an order from the input, plays both jobs by it, and writes the
+/// report of both; `gen SEED TASKS FILES` plays in the same way a script that it makes of these numbers, with nothing
 /// taken from the input, and writes a line that sums the job up. The shelf takes the image of the store that a job or a
 /// changing command opens with in place of what it holds, and after each event, or after the command, each change that was
 /// made, so that a stop at any moment leaves one of the run's. The report's status is one of [`Status`]; what was sent
@@ -130,13 +132,13 @@ pub fn run<Q: Source, F: Shelf, K: Sink>(
     ensures otherwise { result.status ≢ 4 → result.status ≡ result.due }
     ensures out { result.status ≢ 4 → K.is_out out.new }
 
-    // A job, by the input's script or by one that is made: it was played, and the promise holds of all that was sent, or it
-    // stopped before its first event.
+    // A job, by the input's script or by one that is made, or two, by the input's scripts and order: they were played, and
+    // the promise holds of all that was sent, or it stopped before their first event.
     ensures job { (c : words_said.Command) → command_of words.now ≡ Some c → plays c ≡ true
         → JobPlayed F.sight c (Q.left input.old) (Q.left input.new) shelf.old shelf.new result.due
-        result.journal.entries result.picks result.ends (Writes result.status (K.written out.old) (K.written out.new))
+        result.journal.entries result.told (Writes result.status (K.written out.old) (K.written out.new))
         ⊎ JobStopped F.sight c (Q.left input.old) (Q.left input.new) shelf.old shelf.new result.due
-        result.journal.entries result.picks result.ends (Writes result.status (K.written out.old) (K.written out.new)) }
+        result.journal.entries result.told (Writes result.status (K.written out.old) (K.written out.new)) }
 
     // Another command: it was done on what the shelf holds, or it stopped before anything was done.
     ensures store { (c : words_said.Command) → command_of words.now ≡ Some c → plays c ≡ false
@@ -144,28 +146,23 @@ pub fn run<Q: Source, F: Shelf, K: Sink>(
         result.journal.entries (Writes result.status (K.written out.old) (K.written out.new))
         ⊎ StoreStopped F.sight c (Q.left input.old) (Q.left input.new) shelf.old shelf.new result.due
         result.journal.entries (Writes result.status (K.written out.old) (K.written out.new)) }
-    ensures picks { (c : words_said.Command) → command_of words.now ≡ Some c → plays c ≡ false → (result.picks ≡ [])
-        × (result.ends ≡ []) }
+    ensures quiet { (c : words_said.Command) → command_of words.now ≡ Some c → plays c ≡ false
+        → result.told ≡ nothing_told }
 
     // Words that are no command.
     ensures usage { command_of words.now ≡ None
-        → NoCommand result.due shelf.old shelf.new result.journal.entries result.picks result.ends
+        → NoCommand result.due shelf.old shelf.new result.journal.entries result.told
         (Writes result.status (K.written out.old) (K.written out.new)) }
     ensures command { result.due ≡ 2 → command_of words.now ≡ None }
     ensures unread { may_read (command_of words.now) ≡ false → input.new ≡ input.old }
 {
     let work = worked(alloc, words, input, shelf);
     let status = say(out, &work);
-    let Work {
-        answer,
-        picks,
-        ends,
-    } = work;
+    let Work { answer, told } = work;
     Report {
         status,
         due: answer.due.code(),
         journal: answer.sent,
-        picks,
-        ends,
+        told,
     }
 }

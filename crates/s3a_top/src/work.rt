@@ -1,17 +1,30 @@
 ghost use Rattle.std.specs.Prelude.{◌≡◌};
 ghost use Rattle.exit_status.specs.Statuses.{written_text};
+ghost use Rattle.durable_job.specs.Jobs.{nothing_told};
 ghost use Rattle.s3a_top.specs.Workings.{IsQuiet};
 
+use durable_job::Told;
 use durable_store::Answer;
 use job_model::{EndList, PickList};
 use std::alloc::Global;
 
-/// What is answered, and what became of a job's events.
+/// What is answered, and what is told of the jobs' events.
 #[derive(Drop)]
 pub struct Work {
     pub answer: Answer,
-    pub picks: PickList,
-    pub ends: EndList,
+    pub told: Told,
+}
+
+/// Nothing is told.
+fn nothing(alloc: Global) -> Told
+    ensures { result ≡ nothing_told }
+{
+    Told {
+        picks: PickList::new(alloc),
+        ends: EndList::new(alloc),
+        second_picks: PickList::new(alloc),
+        second_ends: EndList::new(alloc),
+    }
 }
 
 /// What is answered where no job was played.
@@ -21,8 +34,7 @@ pub fn quiet(alloc: Global, answer: Answer) -> Work
 {
     Work {
         answer,
-        picks: PickList::new(alloc),
-        ends: EndList::new(alloc),
+        told: nothing(alloc),
     }
 }
 

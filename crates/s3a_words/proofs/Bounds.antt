@@ -7,7 +7,7 @@ use Rattle.s3_types.specs.declared.limits.TheConstants.{MOST_MINIMUM}
 use Rattle.s3a_words.specs.Numbers.{number_in, is_minimum, minimum_in, number_within}
 use Rattle.s3a_words.specs.Words.{path_named, alone, with_path, with_operand, with_paths, with_two, made, with_three, said, command_of, IsBounded}
 use Rattle.s3a_words.specs.declared.command.Command.{Command}
-use Rattle.s3a_words.specs.declared.command.Command.TheVariants.{Init, Mb, Ls, Stat, Cat, Put, PutForce, PutDrop, Mkdir, Rm, Rmr, Mv, Cp, Uploads, AbortUploads, Markers, CleanMarkers, FillMarkers, Job, Gen}
+use Rattle.s3a_words.specs.declared.command.Command.TheVariants.{Init, Mb, Ls, Stat, Cat, Put, PutForce, PutDrop, Mkdir, Rm, Rmr, Mv, Cp, Uploads, AbortUploads, Markers, CleanMarkers, FillMarkers, Job, Gen, Twins}
 
 abbrev Of : Option Command → Type 0
 Of None = Unit {0}
@@ -30,7 +30,7 @@ either false o p h g = g
 
 alone_bounded : (name : List ℕ) → AreBounded (alone name)
 unfolding alone
-alone_bounded name = either _ _ _ (is Job tt) (either _ _ _ (is (Init None) tt) none)
+alone_bounded name = either _ _ _ (is Job tt) (either _ _ _ (is Twins tt) (either _ _ _ (is (Init None) tt) none))
 
 path_bounded : (name : List ℕ) (p : Path) → AreBounded (with_path name p)
 unfolding with_path

@@ -2,7 +2,7 @@
 use Rattle.std.specs.Prelude.{ℕ, Bool, true, false, List, []}
 use Rattle.path_keys.specs.Paths.{Path}
 use Rattle.s3a_words.specs.declared.command.Command.{Command}
-use Rattle.s3a_words.specs.declared.command.Command.TheVariants.{Init, Mb, Ls, Stat, Cat, Put, PutForce, PutDrop, Mkdir, Rm, Rmr, Mv, Cp, Uploads, AbortUploads, Markers, CleanMarkers, FillMarkers, Job, Gen}
+use Rattle.s3a_words.specs.declared.command.Command.TheVariants.{Init, Mb, Ls, Stat, Cat, Put, PutForce, PutDrop, Mkdir, Rm, Rmr, Mv, Cp, Uploads, AbortUploads, Markers, CleanMarkers, FillMarkers, Job, Gen, Twins}
 use Rattle.s3a_words.specs.declared.kind.CommandKind.{CommandKind}
 use Rattle.s3a_words.specs.declared.kind.CommandKind.TheVariants.{Begins, Looks, Changes, Puts, Aborts, Plays}
 
@@ -32,6 +32,7 @@ row_of (CleanMarkers path) = (Changes, path)
 row_of (FillMarkers path) = (Changes, path)
 row_of Job = (Plays, root_of [])
 row_of (Gen seed tasks files) = (Plays, root_of [])
+row_of Twins = (Plays, root_of [])
 
 -- what a command does with a store and with the input
 abbrev pub kind_of : Command → CommandKind
@@ -57,7 +58,7 @@ abbrev pub is_put : CommandKind → Bool
 is_put Puts = true
 is_put _ = false
 
--- a command that plays a job
+-- a command that plays a job, or two
 abbrev pub is_play : CommandKind → Bool
 is_play Plays = true
 is_play _ = false

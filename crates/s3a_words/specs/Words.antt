@@ -6,7 +6,7 @@ use Rattle.path_keys.specs.Paths.{Path, path_in}
 use Rattle.path_keys.specs.declared.fault.PathFault.{PathFault}
 use Rattle.s3a_words.specs.Numbers.{minimum_in, number_within}
 use Rattle.s3a_words.specs.declared.command.Command.{Command}
-use Rattle.s3a_words.specs.declared.command.Command.TheVariants.{Init, Mb, Ls, Stat, Cat, Put, PutForce, PutDrop, Mkdir, Rm, Rmr, Mv, Cp, Uploads, AbortUploads, Markers, CleanMarkers, FillMarkers, Job, Gen}
+use Rattle.s3a_words.specs.declared.command.Command.TheVariants.{Init, Mb, Ls, Stat, Cat, Put, PutForce, PutDrop, Mkdir, Rm, Rmr, Mv, Cp, Uploads, AbortUploads, Markers, CleanMarkers, FillMarkers, Job, Gen, Twins}
 use Rattle.s3a_words.specs.declared.command.WordFault.{WordFault}
 use Rattle.s3a_words.specs.declared.command.WordFault.TheVariants.{Usage, NoMemory}
 
@@ -27,6 +27,7 @@ path_named word = unless_fault (path_in word)
 unfoldable pub alone : List ℕ → Option Command
 alone name =
     if bytes_eq name (codes "job") then Some Job
+    else if bytes_eq name (codes "twins") then Some Twins
     else if bytes_eq name (codes "init") then Some (Init None)
     else None
 

@@ -44,6 +44,8 @@ pub enum Command {
     Job,
     /// Plays a job whose script is made of a seed, with 1 to 200 tasks of 1 to 50 files each, and sums it up in a line.
     Gen { seed: u32, tasks: u32, files: u32 },
+    /// Plays two scripts at one destination, in the order of turns that stands behind them in the input.
+    Twins,
 }
 
 /// Why words are not read as a command.

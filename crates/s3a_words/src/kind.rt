@@ -16,7 +16,7 @@ pub enum CommandKind {
     Puts,
     /// Ends uploads.
     Aborts,
-    /// Plays a job.
+    /// Plays a job, or two.
     Plays,
 }
 
@@ -46,6 +46,7 @@ impl Command {
             Command::FillMarkers { .. } => CommandKind::Changes,
             Command::Job => CommandKind::Plays,
             Command::Gen { .. } => CommandKind::Plays,
+            Command::Twins => CommandKind::Plays,
         }
     }
 }

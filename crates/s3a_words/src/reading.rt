@@ -36,6 +36,7 @@ fn alone(name: &str) -> Option<Command>
 {
     match name {
         "job" => Some(Command::Job),
+        "twins" => Some(Command::Twins),
         "init" => Some(Command::Init { minimum: None }),
         _ => None,
     }
@@ -198,12 +199,12 @@ fn command_in(alloc: Global, words: &[Text]) -> Result<Option<Command>, AllocErr
 }
 
 /// The command that the words are: word 0 is the folder, word 1 the command's name, and the others are its
-/// operands. The commands are `init`, `init MIN`, `mb NAME`, `job`, `gen SEED TASKS FILES`, with a path `ls`, `stat`,
-/// `cat`, `put`, `put-force`, `put-drop`, `mkdir`, `rm`, `rmr`, `uploads`, `abort-uploads`, `markers`, `clean-markers` and
-/// `fill-markers`, and with two paths `mv` and `cp`. No word behind the folder begins with `-`. A number has 1 to 18 decimal
-/// digits, no sign and no leading zero; MIN is from 1 to 5,242,880, SEED from 0 to 4,294,967,295, TASKS from 1 to 200 and
-/// FILES from 1 to 50. A path is one that
-/// `S3Path::read` takes. Usage comes exactly where the words are no command, so for `--help` too.
+/// operands. The commands are `init`, `init MIN`, `mb NAME`, `job`, `twins`, `gen SEED TASKS FILES`, with a path `ls`,
+/// `stat`, `cat`, `put`, `put-force`, `put-drop`, `mkdir`, `rm`, `rmr`, `uploads`, `abort-uploads`, `markers`,
+/// `clean-markers` and `fill-markers`, and with two paths `mv` and `cp`. No word behind the folder begins with `-`. A
+/// number has 1 to 18 decimal digits, no sign and no leading zero; MIN is from 1 to 5,242,880, SEED from 0 to
+/// 4,294,967,295, TASKS from 1 to 200 and FILES from 1 to 50. A path is one that `S3Path::read` takes. Usage comes exactly
+/// where the words are no command, so for `--help` too.
 pub fn read_words(alloc: Global, words: &[Text]) -> Result<Command, WordFault>
     ensures exact { Reads (command_of words.now) result }
     ensures bounded { IfOk result IsBounded }

@@ -44,6 +44,7 @@ fn show_read(rt: &impl Print, command: &Command) -> io::Result<()> {
         Command::CleanMarkers { path } => show_on_path(rt, "clean-markers", path),
         Command::FillMarkers { path } => show_on_path(rt, "fill-markers", path),
         Command::Job => println!(rt; "job"),
+        Command::Twins => println!(rt; "twins"),
         _ => println!(rt; "another command"),
     }
 }

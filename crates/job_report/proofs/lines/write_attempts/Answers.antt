@@ -15,5 +15,5 @@ loop-name-preserved c =
     let next = c.next.new.self in record {
       before = (so_far.0 ++ (c.in-Some.name.now, c.in-Some.field-0-1.now) ∷ [], one_before c.args.script.now.attempts so_far.0 left next (c.in-Some.name.now, c.in-Some.field-0-1.now) so_far.1 c.in-Some.ensures.steps);
       written = λ p stands.
-          line_more (λ a. attempt_line p.state a.0) left next (c.in-Some.name.now, c.in-Some.field-0-1.now) _ _ _ c.in-Some.ensures.steps (c.in_ok-write_attempt.ensures p stands) (c.loop-name.invariant.written p stands);
+          line_more (λ a. attempt_line c.args.before.now p.state a.0) left next (c.in-Some.name.now, c.in-Some.field-0-1.now) _ _ _ c.in-Some.ensures.steps (c.in_ok-write_attempt.ensures p stands) (c.loop-name.invariant.written p stands);
     }

@@ -7,5 +7,5 @@ abbrev pub invariant-loop-name : goal.invariant-loop-name
 invariant-loop-name l = record {
   before : (before : List Declared) × (before ++ l.name-iterator ≡ l.script.attempts);
   written : (p : Past) → Stands l.script l.states p
-      → string_bytes l.text ++ flat_map (λ a. attempt_line p.state a.0) l.name-iterator ≡ string_bytes l.fn.text ++ flat_map (λ a. attempt_line p.state a.0) l.script.attempts;
+      → string_bytes l.text ++ flat_map (λ a. attempt_line l.before p.state a.0) l.name-iterator ≡ string_bytes l.fn.text ++ flat_map (λ a. attempt_line l.before p.state a.0) l.script.attempts;
 }

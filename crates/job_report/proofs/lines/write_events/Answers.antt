@@ -6,4 +6,5 @@ pub returns : goal.returns
 returns c =
     let events = c.args.events.now in
     let ends = c.args.ends.now in
-    all_written event_line (left_at events ends c.loop-index.index) _ _ c.loop-index.invariant (none_left events ends c.loop-index.index c.loop-index-test.false)
+    let number = c.args.number in
+    all_written (event_line c.args.before.now) (left_at number events ends c.loop-index.index) _ _ c.loop-index.invariant (none_left number events ends c.loop-index.index c.loop-index-test.false)

@@ -5,4 +5,4 @@ use Rattle.job_report.proofs.lines.write_events.Given as goal
 
 abbrev pub invariant-loop-index : goal.invariant-loop-index
 invariant-loop-index l =
-    string_bytes l.text ++ flat_map event_line (left_at l.events l.ends l.index) ≡ string_bytes l.fn.text ++ event_lines 1 l.events l.ends
+    string_bytes l.text ++ flat_map (event_line l.before) (left_at l.number l.events l.ends l.index) ≡ string_bytes l.fn.text ++ event_lines l.before l.number l.events l.ends

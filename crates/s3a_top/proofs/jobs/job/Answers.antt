@@ -1,13 +1,14 @@
 use Rattle.std.proofs.Common.{Err, refl, sym, subst}
-use Rattle.job_spec.specs.Prelude.{Script}
-use Rattle.s3a_top.specs.Plays.{JobBroke}
+use Rattle.durable_job.specs.declared.jobs.Jobs.{Jobs}
+use Rattle.s3a_top.specs.Plays.{IsFinal, JobBroke}
 use Rattle.s3a_top.specs.Workings.{Counted}
 use Rattle.s3a_top.specs.declared.stop.Stop.{Stop}
 use Rattle.s3a_top.specs.declared.stop.Stop.TheVariants.{Image, NoMemory}
 use Rattle.s3a_top.specs.Stops.{of_shelf}
 use Rattle.s3a_top.proofs.Crashing.{opens_so}
 use Rattle.s3a_top.proofs.Playing.{over_of}
-use Rattle.s3a_top.proofs.Telling.{stop_worked, played_counts, script_taken, wanting_cause, read_cause, shelf_cause, counted_done, counted_none, counted_shelf, counted_read}
+use Rattle.s3a_top.proofs.Verdicts.{jobs_final}
+use Rattle.s3a_top.proofs.Telling.{stop_worked, played_counts, jobs_taken, wanting_cause, read_cause, shelf_cause, counted_done, counted_none, counted_shelf, counted_read}
 use Rattle.s3a_top.proofs.Halting.{sound_of, faulty_of, held_sound, broke_at_once, not_begun}
 use Rattle.s3a_top.proofs.jobs.job.Goals as goal
 
@@ -31,38 +32,42 @@ returns-in-Err-clause-job g c =
     let held = g.F.Shelf.sight.held c.args.shelf.now in
     let command = c.args.asked.command.now in
     let left = g.Q.Source.left c.args.input.now in
-    let rest = g.Q.Source.left c.script_for.new.input in
+    let rest = g.Q.Source.left c.jobs_for.new.input in
     broke_at_once g.F.Shelf.sight command left rest c.args.shelf.now c.in-Err.stop g.met.F.Shelf.timed
     (read_cause command held left rest (sound_of held c.args.held c.requires.found (held_sound c.args.held c.in_default.not-Faulty)) c.in-Err.stop c.in-Err.ensures.stop)
 
 pub returns-in-Err-clause-counted : goal.returns-in-Err-clause-counted
 returns-in-Err-clause-counted g c =
-    counted_read Script c.in-Err.stop c.args.asked.command.now (g.Q.Source.left c.args.input.now) (g.Q.Source.left c.script_for.new.input) (g.Q.Source.faults c.args.input.now) (g.Q.Source.faults c.script_for.new.input) (g.F.Shelf.faults c.args.shelf.now) c.in-Err.ensures.stop c.in-Err.ensures.counted
+    counted_read Jobs c.in-Err.stop c.args.asked.command.now (g.Q.Source.left c.args.input.now) (g.Q.Source.left c.jobs_for.new.input) (g.Q.Source.faults c.args.input.now) (g.Q.Source.faults c.jobs_for.new.input) (g.F.Shelf.faults c.args.shelf.now) c.in-Err.ensures.stop c.in-Err.ensures.counted
 
 pub returns-in-Err-opened-clause-job : goal.returns-in-Err-opened-clause-job
 returns-in-Err-opened-clause-job g c =
     let held = g.F.Shelf.sight.held c.args.shelf.now in
     let command = c.args.asked.command.now in
     let left = g.Q.Source.left c.args.input.now in
-    let rest = g.Q.Source.left c.script_for.new.input in
+    let rest = g.Q.Source.left c.jobs_for.new.input in
     broke_at_once g.F.Shelf.sight command left rest c.args.shelf.now NoMemory g.met.F.Shelf.timed
-    (wanting_cause command held left rest (sound_of held c.args.held c.requires.found (held_sound c.args.held c.in_default.not-Faulty)) (script_taken command left rest c.in-Ok.script c.in-Ok.ensures.script))
+    (wanting_cause command held left rest (sound_of held c.args.held c.requires.found (held_sound c.args.held c.in_default.not-Faulty)) (jobs_taken command left rest c.in-Ok.jobs c.in-Ok.ensures.jobs))
 
 pub returns-in-Err-opened-clause-counted : goal.returns-in-Err-opened-clause-counted
 returns-in-Err-opened-clause-counted g c =
     let n = g.F.Shelf.faults c.args.shelf.now in
-    counted_none NoMemory (g.Q.Source.faults c.args.input.now) (g.Q.Source.faults c.script_for.new.input) n n (λ e. cc) (λ e. cc) c.in-Ok.ensures.counted refl
+    counted_none NoMemory (g.Q.Source.faults c.args.input.now) (g.Q.Source.faults c.jobs_for.new.input) n n (λ e. cc) (λ e. cc) c.in-Ok.ensures.counted refl
+
+pub answered-requires : goal.answered-requires
+answered-requires g c =
+    let kept = c.in-Ok-play.kept in
+    subst IsFinal (sym c.in-Ok-play.ensures.played.verdict) (jobs_final c.in-Ok.jobs kept.told)
 
 pub returns-in-Ok-play-clause-job : goal.returns-in-Ok-play-clause-job
 returns-in-Ok-play-clause-job g c =
     let s = g.F.Shelf in
-    let e = c.in-Ok-play.ensures in
     let kept = c.in-Ok-play.kept in
-    let w = c.in-Ok.script in
+    let jobs = c.in-Ok.jobs in
     let service = c.in-Ok-opened.service in
-    over_of s.sight c.args.asked.command.now (g.Q.Source.left c.args.input.now) (g.Q.Source.left c.script_for.new.input) w service kept.played kept.stop c.args.shelf.now c.play.new.shelf c.answered.result
-    c.in-Ok.ensures.script (opens_so (s.sight.held c.args.shelf.now) c.args.held w service c.requires.found c.in-Ok-opened.ensures.opening) e.played c.in-Ok-opened.ensures.image e.images
-    c.answered.ensures.sent c.answered.ensures.picks c.answered.ensures.ends e.held c.answered.ensures.said e.survives
+    over_of s.sight c.args.asked.command.now (g.Q.Source.left c.args.input.now) (g.Q.Source.left c.jobs_for.new.input) jobs service kept c.args.shelf.now c.play.new.shelf c.answered.result
+    c.in-Ok.ensures.jobs (opens_so (s.sight.held c.args.shelf.now) c.args.held jobs service c.requires.found c.in-Ok-opened.ensures.opening) c.in-Ok-play.ensures.played c.in-Ok-opened.ensures.image
+    c.answered.ensures.sent c.answered.ensures.told c.answered.ensures.said
 
 pub returns-in-Ok-play-clause-counted : goal.returns-in-Ok-play-clause-counted
 returns-in-Ok-play-clause-counted g c =
@@ -70,7 +75,7 @@ returns-in-Ok-play-clause-counted g c =
     let b = g.F.Shelf.faults c.args.shelf.now in
     let a = g.F.Shelf.faults c.play.new.shelf in
     let due = c.answered.result.answer.due in
-    counted_done c.answered.result (g.Q.Source.faults c.args.input.now) (g.Q.Source.faults c.script_for.new.input) b a (stop_worked kept.stop due c.answered.ensures.which) c.in-Ok.ensures.counted (played_counts kept.stop due b a c.answered.ensures.which c.in-Ok-play.ensures.counted)
+    counted_done c.answered.result (g.Q.Source.faults c.args.input.now) (g.Q.Source.faults c.jobs_for.new.input) b a (stop_worked kept.stop due c.answered.ensures.which) c.in-Ok.ensures.counted (played_counts kept.stop due b a c.answered.ensures.which c.in-Ok-play.ensures.counted)
 
 pub returns-in-Err-play-clause-job : goal.returns-in-Err-play-clause-job
 returns-in-Err-play-clause-job g c =
@@ -78,18 +83,18 @@ returns-in-Err-play-clause-job g c =
     let held = s.sight.held c.args.shelf.now in
     let command = c.args.asked.command.now in
     let left = g.Q.Source.left c.args.input.now in
-    let rest = g.Q.Source.left c.script_for.new.input in
-    let w = c.in-Ok.script in
+    let rest = g.Q.Source.left c.jobs_for.new.input in
+    let jobs = c.in-Ok.jobs in
     let service = c.in-Ok-opened.service in
     let sound = sound_of held c.args.held c.requires.found (held_sound c.args.held c.in_default.not-Faulty) in
     subst (λ (t : Stop). JobBroke s.sight command left rest c.args.shelf.now c.play.new.shelf t) (sym c.of_shelf.ensures)
-    (not_begun s.sight command left rest c.args.shelf.now c.play.new.shelf (of_shelf c.in-Err-play.stop) w service (shelf_cause command held left rest sound c.in-Err-play.stop w c.in-Ok.ensures.script) c.in-Ok.ensures.script
-    (opens_so held c.args.held w service c.requires.found c.in-Ok-opened.ensures.opening) c.in-Err-play.ensures.err)
+    (not_begun s.sight command left rest c.args.shelf.now c.play.new.shelf (of_shelf c.in-Err-play.stop) jobs service (shelf_cause command held left rest sound c.in-Err-play.stop jobs c.in-Ok.ensures.jobs) c.in-Ok.ensures.jobs
+    (opens_so held c.args.held jobs service c.requires.found c.in-Ok-opened.ensures.opening) c.in-Err-play.ensures.err)
 
 pub returns-in-Err-play-clause-counted : goal.returns-in-Err-play-clause-counted
 returns-in-Err-play-clause-counted g c =
     let i = g.Q.Source.faults c.args.input.now in
-    let r = g.Q.Source.faults c.script_for.new.input in
+    let r = g.Q.Source.faults c.jobs_for.new.input in
     let b = g.F.Shelf.faults c.args.shelf.now in
     let a = g.F.Shelf.faults c.play.new.shelf in
     subst (λ (t : Stop). Counted (Err t) i r b a) (sym c.of_shelf.ensures) (counted_shelf c.in-Err-play.stop i r b a c.in-Ok.ensures.counted c.in-Err-play.ensures.faults)

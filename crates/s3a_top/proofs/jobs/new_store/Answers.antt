@@ -1,9 +1,10 @@
 use Rattle.std.proofs.Common.{ap, ◌∙◌}
 use Rattle.job_spec.specs.Prelude.{Content, apply_store, MakeBucket}
+use Rattle.durable_job.specs.Jobs.{dest_of}
 use Rattle.s3a_top.proofs.Beginning.{new_image}
 use Rattle.s3a_top.proofs.jobs.new_store.Goals as goal
 
 pub returns-in-Ok-clause-image : goal.returns-in-Ok-clause-image
 returns-in-Ok-clause-image c =
-    let name = c.args.script.now.dest.bucket in
+    let name = (dest_of c.args.jobs.now).bucket in
     new_image name c.make_bucket.new.service (c.in-Ok.ensures ∙ ap (λ (d : Content). apply_store d (MakeBucket name)) c.new-service.ensures)

@@ -21,9 +21,9 @@ pub returns-clause-store : goal.returns-clause-store
 returns-clause-store g c command is other =
     (comes_written g.F.Shelf.sight _ (g.Q.Source.left c.args.input.now) (g.Q.Source.left c.worked-work.new.input) c.args.shelf.now c.worked-work.new.shelf _ _ _ _ c.worked-work.result c.say-status.result c.code.result (g.K.Sink.written c.args.out.now) (g.K.Sink.written c.say-status.new.out) c.code.ensures c.say-status.ensures.text c.worked-work.ensures.comes).store command is other
 
-pub returns-clause-picks : goal.returns-clause-picks
-returns-clause-picks g c command is other =
-    (comes_written g.F.Shelf.sight _ (g.Q.Source.left c.args.input.now) (g.Q.Source.left c.worked-work.new.input) c.args.shelf.now c.worked-work.new.shelf _ _ _ _ c.worked-work.result c.say-status.result c.code.result (g.K.Sink.written c.args.out.now) (g.K.Sink.written c.say-status.new.out) c.code.ensures c.say-status.ensures.text c.worked-work.ensures.comes).picks command is other
+pub returns-clause-quiet : goal.returns-clause-quiet
+returns-clause-quiet g c command is other =
+    (comes_written g.F.Shelf.sight _ (g.Q.Source.left c.args.input.now) (g.Q.Source.left c.worked-work.new.input) c.args.shelf.now c.worked-work.new.shelf _ _ _ _ c.worked-work.result c.say-status.result c.code.result (g.K.Sink.written c.args.out.now) (g.K.Sink.written c.say-status.new.out) c.code.ensures c.say-status.ensures.text c.worked-work.ensures.comes).quiet command is other
 
 pub returns-clause-usage : goal.returns-clause-usage
 returns-clause-usage g c none =

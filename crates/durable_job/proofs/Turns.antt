@@ -1,0 +1,84 @@
+-- A step of a world of two jobs.
+use Rattle.std.proofs.Common.{◌≡◌, ℕ, ◌+◌, ◌-◌, ◌<◌, Bool, [], ◌∷◌, length, length-append, Option, Some, None, is_some, refl, sym, ap, subst, ◌∙◌, arith}
+use Rattle.job_spec.proofs.Common.{slice_get_within}
+use Rattle.twin_script.specs.declared.turns.Side.{Side}
+use Rattle.twin_script.specs.declared.turns.Side.TheVariants.{First, Second}
+use Rattle.twin_jobs.specs.Worlds.{JobRun, Run, played, Played, Turned, FoundNone}
+use Rattle.durable_job.specs.Moves.{Stepped, TwinsStay, turns_left}
+
+-- nothing changed
+self_stays : (r : Run) → TwinsStay r r
+self_stays r = record { first = refl; second = refl; sides = refl; count = refl }
+
+-- ---- an event was played
+
+more_played : (r s : Run) (side : Side) → Played r s side → played s ≡ played r + 1
+more_played r s First p =
+    let ends : length s.first.ends ≡ length r.first.ends + 1 = ap length p.ends ∙ length-append r.first.ends (p.end ∷ []) in
+    let others : length s.second.ends ≡ length r.second.ends = ap (λ (j : JobRun). length j.ends) p.other in
+    let more : length s.first.ends + length s.second.ends ≡ length r.first.ends + length r.second.ends + 1 = omega arith in
+    more
+more_played r s Second p =
+    let ends : length s.second.ends ≡ length r.second.ends + 1 = ap length p.ends ∙ length-append r.second.ends (p.end ∷ []) in
+    let others : length s.first.ends ≡ length r.first.ends = ap (λ (j : JobRun). length j.ends) p.other in
+    let more : length s.first.ends + length s.second.ends ≡ length r.first.ends + length r.second.ends + 1 = omega arith in
+    more
+
+first_script : (r s : Run) (side : Side) → Played r s side → s.first.script ≡ r.first.script
+first_script r s First p = p.script
+first_script r s Second p = ap (λ (j : JobRun). j.script) p.other
+
+second_script : (r s : Run) (side : Side) → Played r s side → s.second.script ≡ r.second.script
+second_script r s First p = ap (λ (j : JobRun). j.script) p.other
+second_script r s Second p = p.script
+
+-- one more has its end, of so many, and one less is left
+less_by_one : (all all_then ended ended_then : ℕ) → ended_then ≡ ended + 1 → all_then ≡ all → ended < all → all - ended ≡ (all_then - ended_then) + 1
+less_by_one all all_then ended ended_then more same few = omega arith
+
+same_sum : (ended ended_then left left_then : ℕ) → ended_then ≡ ended + 1 → left ≡ left_then + 1 → ended_then + left_then ≡ ended + left
+same_sum ended ended_then left left_then more less = omega arith
+
+module _ (r s : Run) (side : Side) (p : Played r s side) where
+  one_less : turns_left r ≡ turns_left s + 1
+  one_less = less_by_one (length r.sides) (length s.sides) (played r) (played s) (more_played r s side p) (ap length p.sides) (slice_get_within r.sides (played r) side p.next)
+
+  played_stays : TwinsStay r s
+  played_stays = record {
+    first = first_script r s side p;
+    second = second_script r s side p;
+    sides = p.sides;
+    count = same_sum (played r) (played s) (turns_left r) (turns_left s) (more_played r s side p) one_less;
+  }
+
+-- ---- a turn
+
+none_left : (ended all : ℕ) → ended ≡ all → all - ended ≡ 0
+none_left ended all same = omega arith
+
+pub turn_opening : (r s : Run) (turned : Option Side) → Turned r s turned → s.opening ≡ r.opening
+turn_opening r s (Some side) p = p.opening
+turn_opening r s None h = ap (λ (x : Run). x.opening) h.0
+
+pub turn_stays : (r s : Run) (turned : Option Side) → Turned r s turned → TwinsStay r s
+turn_stays r s (Some side) p = played_stays r s side p
+turn_stays r s None h = subst (TwinsStay r) (sym h.0) (self_stays r)
+
+stepped_so : (r s : Run) (turned : Option Side) → Turned r s turned → Stepped {M = Run} (λ x. x.journal) turns_left r s (is_some turned)
+stepped_so r s (Some side) p = (p.more.0, record { journal = p.more.1; number = played r + 1; event = p.more.2 }, one_less r s side p)
+stepped_so r s None h = (none_left (played r) (length r.sides) h.1, h.0)
+
+pub turn_steps : (r s : Run) (turned : Option Side) (more : Bool) → more ≡ is_some turned → Turned r s turned → Stepped {M = Run} (λ x. x.journal) turns_left r s more
+turn_steps r s turned more is h = subst (Stepped {M = Run} (λ x. x.journal) turns_left r s) (sym is) (stepped_so r s turned h)
+
+-- ---- none was played, for want of memory
+
+module _ (r s : Run) (none : FoundNone r s) where
+  pub none_opening : s.opening ≡ r.opening
+  none_opening = ap (λ (x : Run). x.opening) none.is
+
+  pub none_sent : s.journal ≡ r.journal
+  none_sent = ap (λ (x : Run). x.journal) none.is
+
+  pub none_stays : TwinsStay r s
+  none_stays = subst (TwinsStay r) (sym none.is) (record { first = refl; second = refl; sides = refl; count = refl })

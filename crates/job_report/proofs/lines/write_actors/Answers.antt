@@ -1,0 +1,10 @@
+use Rattle.job_spec.specs.Prelude.{past}
+use Rattle.proof_base.proofs.Common.{on_ok_weaker}
+use Rattle.job_report.proofs.LineLemmas.{both_written}
+use Rattle.job_report.proofs.lines.write_actors.Goals as goal
+
+pub returns : goal.returns
+returns c =
+    let p = past c.args.script.now c.args.ends.now in
+    let stands = c.in_ok-states.ensures in
+    on_ok_weaker c.write_attempts.result (λ e. both_written _ _ _ _ _ (c.in_ok-write_driver.ensures p stands) e) (c.write_attempts.ensures p stands)

@@ -1,0 +1,81 @@
+-- The journal of both, as each side reads it.
+use Rattle.std.proofs.Common.{◌≡◌, ℕ, ◌+◌, ◌≤◌, not, Bool, true, false, cond, List, [], ◌∷◌, ◌++◌, map, refl, sym, ap, subst, ◌∙◌, arith}
+use Rattle.proof_base.specs.Prelude.{AllByRecursion}
+use Rattle.job_spec.proofs.Common.{map-append}
+use Rattle.job_facts.specs.Prelude.{Scene, answer, effect, IsHonestOutcome, Actor, Shell, Entry, Who, Script, Drawn, is_own, IsForeign, AreOwn}
+use Rattle.job_spec.specs.Prelude.{in_eyes, after_all}
+use Rattle.job_spec.specs.Eyes.{number_in, entry_in}
+use Rattle.job_side.specs.Holds.{AreOf}
+use Rattle.job_side.specs.Beside as beside
+use Rattle.twin_facts.specs.Sides as two
+use Rattle.twin_facts.specs.Sides.{TwinEntry, eyes}
+use Rattle.twin_facts.specs.Joined as joined
+use Rattle.twin_jobs.specs.Worlds.{entry_by, both_of}
+
+-- the sending changes the scene alike in whose eyes it may be
+pub after_eyes : (mine : ℕ → Bool) (s : Scene) (es : List Entry) → after_all s (in_eyes mine es) ≡ after_all s es
+after_eyes mine s [] = refl
+after_eyes mine s (e ∷ es) = after_eyes mine (effect s e.request e.outcome) es
+
+pub after_append : (s : Scene) (es fs : List Entry) → after_all s (es ++ fs) ≡ after_all (after_all s es) fs
+after_append s [] fs = refl
+after_append s (e ∷ es) fs = after_append (effect s e.request e.outcome) es fs
+
+pub own_on : (n : ℕ) (es fs : List Entry) → AreOwn es → AreOf n fs → AreOwn (es ++ fs)
+own_on n [] [] h g = tt
+own_on n [] (f ∷ fs) h g = (g.0.1, own_on n [] fs tt g.1)
+own_on n (e ∷ es) fs h g = (h.0, own_on n es fs h.1 g)
+
+-- each is of a side by its event
+abbrev pub AreApart : (ℕ → Bool) → (ℕ → Bool) → List Entry → Type 0
+AreApart mine theirs = AllByRecursion (λ e. theirs e.event ≡ not (mine e.event))
+
+module _ (mine theirs : ℕ → Bool) where
+  first_reads : (b : Bool) (n m : ℕ) (e : Entry) → two.in_eyes two.First (entry_by b n m e) ≡ record { event = n; actor = cond b e.actor Shell; request = e.request; outcome = e.outcome }
+  first_reads true n m e = refl
+  first_reads false n m e = refl
+
+  second_reads : (b c : Bool) (n m : ℕ) (e : Entry) → c ≡ not b → two.in_eyes two.Second (entry_by b n m e) ≡ record { event = m; actor = cond c e.actor Shell; request = e.request; outcome = e.outcome }
+  second_reads true c n m e is = ap (λ v. record { event = m; actor = cond v e.actor Shell; request = e.request; outcome = e.outcome }) (sym is)
+  second_reads false c n m e is = ap (λ v. record { event = m; actor = cond v e.actor Shell; request = e.request; outcome = e.outcome }) (sym is)
+
+  pub first_eyes : (es : List Entry) → eyes two.First (both_of mine theirs es) ≡ in_eyes mine es
+  first_eyes [] = refl
+  first_eyes (e ∷ es) =
+      ap (λ v. v ∷ eyes two.First (both_of mine theirs es)) (first_reads (mine e.event) (number_in mine e.event) (number_in theirs e.event) e)
+      ∙ ap (λ l. entry_in mine e ∷ l) (first_eyes es)
+
+  pub second_eyes : (es : List Entry) → AreApart mine theirs es → eyes two.Second (both_of mine theirs es) ≡ in_eyes theirs es
+  second_eyes [] h = refl
+  second_eyes (e ∷ es) h =
+      ap (λ v. v ∷ eyes two.Second (both_of mine theirs es)) (second_reads (mine e.event) (theirs e.event) (number_in mine e.event) (number_in theirs e.event) e h.0)
+      ∙ ap (λ l. entry_in theirs e ∷ l) (second_eyes es h.1)
+
+  same_actor : (b : Bool) (n m : ℕ) (e : Entry) → is_own e.actor ≡ true → is_own (entry_by b n m e).entry.actor ≡ true
+  same_actor true n m e h = h
+  same_actor false n m e h = h
+
+  pub actors : (es : List Entry) → AreOwn es → joined.AreActors (both_of mine theirs es)
+  actors [] h = tt
+  actors (e ∷ es) h = (same_actor (mine e.event) (number_in mine e.event) (number_in theirs e.event) e h.0, actors es h.1)
+
+  pub appended : (es fs : List Entry) → both_of mine theirs (es ++ fs) ≡ both_of mine theirs es ++ both_of mine theirs fs
+  appended es fs = map-append (λ e. entry_by (mine e.event) (number_in mine e.event) (number_in theirs e.event) e) es fs
+
+  pub by_first : (n : ℕ) → mine n ≡ true → (es : List Entry) → AreOf n es → joined.AreOf two.First (both_of mine theirs es)
+  by_first n own [] h = tt
+  by_first n own (e ∷ es) h = (side_is (mine e.event) (ap mine h.0.0 ∙ own), by_first n own es h.1)
+    where
+      side_is : (b : Bool) → b ≡ true → (entry_by b (number_in mine e.event) (number_in theirs e.event) e).side ≡ two.First
+      side_is b is = ap (λ v. (entry_by v (number_in mine e.event) (number_in theirs e.event) e).side) is
+
+  -- what is foreign to the second is so in the run's own numbers
+  pub foreign_by : (w : Script) (drawn : Who → List Drawn) (n : ℕ) (s : Scene) (es : List Entry) → AreOf n es → joined.AreForeign w drawn s (both_of mine theirs es) → beside.AreForeign w drawn n s es
+  foreign_by w drawn n s [] h f = tt
+  foreign_by w drawn n s (e ∷ es) h f =
+      let g = one (mine e.event) (number_in mine e.event) (number_in theirs e.event) (both_of mine theirs es) f in
+      (h.0.0, g.0, g.1, foreign_by w drawn n (effect s e.request e.outcome) es h.1 g.2)
+    where
+      one : (b : Bool) (k m : ℕ) (ts : List TwinEntry) → joined.AreForeign w drawn s (entry_by b k m e ∷ ts) → IsForeign w drawn e.request × IsHonestOutcome e.outcome (answer s e.request) × joined.AreForeign w drawn (effect s e.request e.outcome) ts
+      one true k m ts f = f
+      one false k m ts f = f

@@ -1,0 +1,178 @@
+-- The numbers of the events of each side, and how many there are.
+use Rattle.std.proofs.Common.{◌≡◌, ℕ, zero, suc, ◌+◌, ◌*◌, ◌<◌, ◌≤◌, ◌||◌, nat_eq, not, Bool, true, false, cond, List, [], ◌∷◌, ◌++◌, length, take, slice_get, Option, Some, None, refl, sym, ap, subst, ◌∙◌, arith}
+use Rattle.std.specs.Prelude.{replicate, flat_map, sum_by, if◌then◌else◌}
+use Rattle.std.proofs.lemmas.List.Sums.{sum_by-cons}
+use Rattle.job_facts.specs.Prelude.{list_any}
+use Rattle.job_spec.proofs.Common.{some_is, none_some, nat_false, nat_true, false_true}
+use Rattle.job_spec.specs.Eyes.{number_in}
+use Rattle.job_side.specs.Holds.{is_mine}
+use Rattle.job_side.proofs.Firsts.{take_more}
+use Rattle.job_side.proofs.Places.{there, within}
+use Rattle.twin_script.specs.declared.turns.Side.{Side}
+use Rattle.twin_script.specs.declared.turns.Side.TheVariants.{First, Second}
+use Rattle.twin_script.specs.declared.turns.TwinTurn.{TwinTurn}
+use Rattle.twin_script.specs.TwinScripts.{is_first, first_count, second_count}
+use Rattle.twin_jobs.specs.Order.{is_same, other_of, sides_in, events_of, others_in}
+use Rattle.twin_jobs.specs.Worlds.{mine}
+
+-- ---- whose an event is
+
+-- a number below is none of them
+none_below : (side : Side) (m n : ℕ) (sides : List Side) → n < m → list_any (λ k. nat_eq k n) (others_in side m sides) ≡ false
+none_below side m n [] below = refl
+none_below side m n (s ∷ sides) below = by (is_same side s) (none_below side (m + 1) n sides (omega (arith, below)))
+  where
+    by : (b : Bool) → list_any (λ k. nat_eq k n) (others_in side (m + 1) sides) ≡ false → list_any (λ k. nat_eq k n) (cond b (others_in side (m + 1) sides) (m ∷ others_in side (m + 1) sides)) ≡ false
+    by true rest = rest
+    by false rest = ap (λ b. b || list_any (λ k. nat_eq k n) (others_in side (m + 1) sides)) (nat_false m n (λ e. absurd (omega (arith, e, below)))) ∙ rest
+
+-- the event at a place is another's, or is not
+is_among : (side s : Side) (m i : ℕ) (sides : List Side) → slice_get sides i ≡ Some s → list_any (λ k. nat_eq k (m + i)) (others_in side m sides) ≡ not (is_same side s)
+is_among side s m i [] e = absurd (none_some refl e)
+is_among side s m zero (x ∷ sides) e =
+    let below : m + 0 < m + 1 = omega arith in
+    let here : m ≡ m + 0 = omega arith in
+    subst (λ (y : Side). list_any (λ k. nat_eq k (m + 0)) (others_in side m (x ∷ sides)) ≡ not (is_same side y)) (some_is e)
+    (by (is_same side x) (none_below side (m + 1) (m + 0) sides below) (nat_true m (m + 0) here))
+  where
+    by : (b : Bool) → list_any (λ k. nat_eq k (m + 0)) (others_in side (m + 1) sides) ≡ false → nat_eq m (m + 0) ≡ true → list_any (λ k. nat_eq k (m + 0)) (cond b (others_in side (m + 1) sides) (m ∷ others_in side (m + 1) sides)) ≡ not b
+    by true rest same = rest
+    by false rest same = ap (λ b. b || list_any (λ k. nat_eq k (m + 0)) (others_in side (m + 1) sides)) same
+is_among side s m (suc i) (x ∷ sides) e =
+    let over : m + 1 + i ≡ m + suc i = omega arith in
+    let apart : m ≡ m + suc i → ⊥ = λ q. absurd (omega (arith, q)) in
+    by (is_same side x) (subst (λ n. list_any (λ k. nat_eq k n) (others_in side (m + 1) sides) ≡ not (is_same side s)) over (is_among side s (m + 1) i sides e)) (nat_false m (m + suc i) apart)
+  where
+    by : (b : Bool) → list_any (λ k. nat_eq k (m + suc i)) (others_in side (m + 1) sides) ≡ not (is_same side s) → nat_eq m (m + suc i) ≡ false
+        → list_any (λ k. nat_eq k (m + suc i)) (cond b (others_in side (m + 1) sides) (m ∷ others_in side (m + 1) sides)) ≡ not (is_same side s)
+    by true rest apart = rest
+    by false rest apart = ap (λ b. b || list_any (λ k. nat_eq k (m + suc i)) (others_in side (m + 1) sides)) apart ∙ rest
+
+not_not : (b : Bool) → not (not b) ≡ b
+not_not true = refl
+not_not false = refl
+
+-- the event is the side's where the order says so
+pub mine_at : (side s : Side) (i : ℕ) (sides : List Side) → slice_get sides i ≡ Some s → mine sides side (i + 1) ≡ is_same side s
+mine_at side s i sides e =
+    let over : 1 + i ≡ i + 1 = omega arith in
+    subst (λ n. mine sides side n ≡ is_same side s) over (ap not (is_among side s 1 i sides e) ∙ not_not (is_same side s))
+
+same_other : (side s : Side) → is_same (other_of side) s ≡ not (is_same side s)
+same_other First First = refl
+same_other First Second = refl
+same_other Second First = refl
+same_other Second Second = refl
+
+pub same_self : (side : Side) → is_same side side ≡ true
+same_self First = refl
+same_self Second = refl
+
+-- an event is one side's or the other's
+pub opposite : (side : Side) (n : ℕ) (sides : List Side) → 1 ≤ n → n ≤ length sides → mine sides (other_of side) n ≡ not (mine sides side n)
+opposite side zero sides some few = absurd (omega (arith, some))
+opposite side (suc i) sides some few =
+    let h = there sides i (omega (arith, few)) in
+    let over : i + 1 ≡ suc i = omega arith in
+    subst (λ n. mine sides (other_of side) n ≡ not (mine sides side n)) over
+    (mine_at (other_of side) h.0 i sides h.1 ∙ same_other side h.0 ∙ ap not (sym (mine_at side h.0 i sides h.1)))
+
+-- ---- how many
+
+events_more : (side s : Side) (sides : List Side) → events_of side (sides ++ s ∷ []) ≡ cond (is_same side s) (events_of side sides + 1) (events_of side sides)
+events_more side s [] = refl
+events_more side s (x ∷ sides) = ap (λ n. cond (is_same side x) (n + 1) n) (events_more side s sides) ∙ by (is_same side x) (is_same side s)
+  where
+    by : (b c : Bool) → cond b (cond c (events_of side sides + 1) (events_of side sides) + 1) (cond c (events_of side sides + 1) (events_of side sides)) ≡ cond c (cond b (events_of side sides + 1) (events_of side sides) + 1) (cond b (events_of side sides + 1) (events_of side sides))
+    by true true = refl
+    by true false = refl
+    by false true = refl
+    by false false = refl
+
+-- those up to a number are those of the front
+pub number_front : (side : Side) (n : ℕ) (sides : List Side) → n ≤ length sides → number_in (mine sides side) n ≡ events_of side (take n sides)
+number_front side zero sides few = refl
+number_front side (suc n) sides few =
+    let h = there sides n (omega (arith, few)) in
+    let over : n + 1 ≡ suc n = omega arith in
+    let before : n ≤ length sides = omega (arith, few) in
+    ap (λ b. cond b (number_in (mine sides side) n + 1) (number_in (mine sides side) n)) (ap (mine sides side) (sym over) ∙ mine_at side h.0 n sides h.1)
+    ∙ ap (λ m. cond (is_same side h.0) (m + 1) m) (number_front side n sides before)
+    ∙ sym (events_more side h.0 (take n sides))
+    ∙ ap (events_of side) (sym (take_more sides n h.0 h.1))
+
+front_few : (side : Side) (n : ℕ) (sides : List Side) → events_of side (take n sides) ≤ events_of side sides
+front_few side zero sides = omega arith
+front_few side (suc n) [] = omega arith
+front_few side (suc n) (s ∷ sides) = by (is_same side s) (front_few side n sides)
+  where
+    by : (b : Bool) → events_of side (take n sides) ≤ events_of side sides → cond b (events_of side (take n sides) + 1) (events_of side (take n sides)) ≤ cond b (events_of side sides + 1) (events_of side sides)
+    by true h = omega (arith, h)
+    by false h = h
+
+-- where the side's turn is next there are more of its events than were played
+pub more_left : (side : Side) (n : ℕ) (sides : List Side) → slice_get sides n ≡ Some side → number_in (mine sides side) n < events_of side sides
+more_left side n sides e =
+    let inside = within sides n side e in
+    let next : events_of side (take (suc n) sides) ≡ events_of side (take n sides) + 1 =
+    ap (events_of side) (take_more sides n side e) ∙ events_more side side (take n sides) ∙ ap (λ b. cond b (events_of side (take n sides) + 1) (events_of side (take n sides))) (same_self side) in
+    let front = front_few side (suc n) sides in
+    let here = number_front side n sides (omega (arith, inside)) in
+    omega (arith, next, front, here)
+
+-- each of the first events is one side's or the other's
+pub all_numbers : (n : ℕ) (sides : List Side) → n ≤ length sides → number_in (mine sides First) n + number_in (mine sides Second) n ≡ n
+all_numbers zero sides few = refl
+all_numbers (suc n) sides few = by (mine sides First (suc n)) (mine sides Second (suc n)) (opposite First (suc n) sides (omega arith) few) (all_numbers n sides (omega (arith, few)))
+  where
+    by : (b c : Bool) → c ≡ not b → number_in (mine sides First) n + number_in (mine sides Second) n ≡ n
+        → cond b (number_in (mine sides First) n + 1) (number_in (mine sides First) n) + cond c (number_in (mine sides Second) n + 1) (number_in (mine sides Second) n) ≡ suc n
+    by true false e h = omega (arith, h)
+    by false true e h = omega (arith, h)
+    by true true e h = absurd (false_true e refl)
+    by false false e h = absurd (false_true refl e)
+
+-- ---- an order
+
+events_append : (side : Side) (a b : List Side) → events_of side (a ++ b) ≡ events_of side a + events_of side b
+events_append side [] b = let none : events_of side b ≡ 0 + events_of side b = omega arith in none
+events_append side (s ∷ a) b = by (is_same side s) (events_append side a b)
+  where
+    by : (c : Bool) → events_of side (a ++ b) ≡ events_of side a + events_of side b → cond c (events_of side (a ++ b) + 1) (events_of side (a ++ b)) ≡ cond c (events_of side a + 1) (events_of side a) + events_of side b
+    by true h = omega (arith, h)
+    by false h = h
+
+events_replicate : (side s : Side) (n : ℕ) → events_of side (replicate n s) ≡ cond (is_same side s) n 0
+events_replicate side s zero = by (is_same side s)
+  where
+    by : (b : Bool) → ◌≡◌ {A = ℕ} 0 (cond b 0 0)
+    by true = refl
+    by false = refl
+events_replicate side s (suc n) = ap (λ m. cond (is_same side s) (m + 1) m) (events_replicate side s n) ∙ by (is_same side s)
+  where
+    by : (b : Bool) → cond b (cond b n 0 + 1) (cond b n 0) ≡ cond b (suc n) 0
+    by true = omega arith
+    by false = refl
+
+-- how many events a turn asks of a side
+abbrev pub count_of : Side → TwinTurn → ℕ
+count_of First = first_count
+count_of Second = second_count
+
+counts : (side s : Side) (n : ℕ) → cond (is_same side s) n 0 ≡ count_of side (record { side = s; count = n })
+counts First First n = refl
+counts First Second n = refl
+counts Second First n = refl
+counts Second Second n = refl
+
+pub events_asked : (side : Side) (order : List TwinTurn) → events_of side (sides_in order) ≡ sum_by (count_of side) order
+events_asked side [] = refl
+events_asked side (t ∷ order) =
+    events_append side (replicate t.count t.side) (sides_in order)
+    ∙ ap (λ n. n + events_of side (sides_in order)) (events_replicate side t.side t.count ∙ counts side t.side t.count)
+    ∙ ap (λ n. count_of side t + n) (events_asked side order) ∙ sym (sum_by-cons (count_of side) t order)
+
+pub all_sides : (sides : List Side) → length sides ≡ events_of First sides + events_of Second sides
+all_sides [] = refl
+all_sides (First ∷ sides) = let h = all_sides sides in omega (arith, h)
+all_sides (Second ∷ sides) = let h = all_sides sides in omega (arith, h)

@@ -1,0 +1,118 @@
+-- What two jobs keep between their events.
+use Rattle.std.proofs.Common.{◌≡◌, ℕ, ◌+◌, ◌≤◌, Bool, true, false, List, [], ◌∷◌, ◌++◌, length, slice_get, Option, Some, None, refl, sym, ap, subst, ◌∙◌, arith}
+use Rattle.proof_base.specs.Prelude.{AllByRecursion}
+use Rattle.job_steps.specs.Prelude.{Content, Scene, moment, fate_at, Request, Actor, Entry, Known, Script, EventEnd, Pick, Setting, Running, AreOwn, Sent, past, Past, Play, IsPlayed}
+use Rattle.job_steps.proofs.Played.{happenings_play}
+use Rattle.job_spec.specs.Prelude.{IsHonest, AreHonest, in_eyes, after_all, effect}
+use Rattle.job_spec.specs.Eyes.{number_in}
+use Rattle.s3_types.specs.Store as store
+use Rattle.job_facts.specs.Prelude.{HasBucket, times}
+use Rattle.job_safety.specs.Laws.{KeptAmong}
+use Rattle.job_steps.proofs.Parts.{take_whole}
+use Rattle.job_states.specs.Stands.{Stands}
+use Rattle.job_side.specs.Holds.{Quiet, AreOf, is_mine, all_sound, setting_of, seen_by}
+use Rattle.job_side.specs.Events.{Grown, IsAsBefore, picks_in}
+use Rattle.job_side.proofs.KeptSides.{HasPicks, kept_among}
+use Rattle.job_side.proofs.Moments.{stands_of}
+use Rattle.job_side.proofs.Seen.{foretold_as}
+use Rattle.job_side.specs.declared.body.Body.{Body}
+use Rattle.job_side.specs.declared.body.Side as body
+use Rattle.job_side.specs.declared.body.Shared.{Shared}
+use Rattle.twin_facts.specs.Sides as two
+use Rattle.twin_facts.specs.Sides.{TwinRun, IsTwinOpening, drew}
+use Rattle.twin_facts.specs.TwinLaws.{MayBeTwins}
+use Rattle.twin_facts.specs.Named.{NamesNoneOfOthers}
+use Rattle.twin_facts.proofs.ByEvents.{always}
+use Rattle.twin_facts.proofs.Named.{named}
+use Rattle.twin_safety.specs.Shared.{SharedKept, RunsAreKeptShared}
+use Rattle.twin_script.specs.declared.turns.Side.{Side}
+use Rattle.twin_script.specs.declared.turns.Side.TheVariants.{First, Second}
+use Rattle.twin_jobs.specs.Order.{other_of}
+use Rattle.twin_jobs.specs.Worlds.{Run, JobRun, job_of, KeepsSide, Keeps, ShowsBoth, entries_of, both_of, mine, setting, times_of, Played}
+use Rattle.twin_jobs.specs.Pairs.{over, job_in, run_of, RestsOne, RestsShared, RestsBoth}
+use Rattle.twin_jobs.proofs.Numbers.{all_numbers}
+use Rattle.twin_jobs.proofs.OneSide.{in_words, idle, side_run, SideRun, twin_opening, twin_run, plain_scene}
+
+module _ {W : Type 0} (wants : W → Option Request) (is_of : Setting → Actor → W → Type 0) (running : Known → W → Running) (picks_of : W → Option (List Pick)) where
+  -- ---- one side
+
+  abbrev One : List Side → Side → body.Side W → Shared → Type 0
+  One = RestsOne wants is_of running picks_of
+
+  among : (has : HasPicks running picks_of) (sides : List Side) (name : Side) (s : body.Side W) (shared : Shared) → One sides name s shared
+      → KeptAmong (setting s.script shared.opening) shared.opening (in_eyes (mine sides name) shared.journal.entries) (job_in picks_of s).picks s.ends.items
+  among has sides name s shared r =
+      let ps = (job_in picks_of s).picks in
+      let b : Body W = over s shared in
+      let g : Bool → Setting = λ v. record { script = s.script; minimum = shared.opening.minimum; shared = v } in
+      subst (λ v. KeptAmong (g v) shared.opening (in_eyes (mine sides name) shared.journal.entries) ps s.ends.items) r.shares
+      (subst (λ os. KeptAmong (g s.shares) shared.opening (in_eyes (is_mine os) shared.journal.entries) ps s.ends.items) r.others
+      (kept_among wants is_of running picks_of b r.quiet has))
+
+  shared_kept : RunsAreKeptShared → (sides : List Side) (name : Side) (s : body.Side W) (shared : Shared) → One sides name s shared
+      → SharedKept (setting s.script shared.opening) shared.opening (in_eyes (mine sides name) shared.journal.entries) s.ends.items
+  shared_kept law sides name s shared r =
+      let h = r.quiet.holds in
+      in_words wants is_of running picks_of (λ g es xs. SharedKept g shared.opening es xs) sides name s shared r
+      (law (setting_of (over s shared)) shared.opening h.play h.legal h.opens h.happened (idle wants is_of running picks_of (over s shared) r.quiet) r.shares)
+
+  played_so : (sides : List Side) (name : Side) (s : body.Side W) (shared : Shared) → One sides name s shared → number_in (mine sides name) shared.events ≡ length s.ends.items
+  played_so sides name s shared r = ap (λ os. number_in (is_mine os) shared.events) (sym r.others) ∙ r.quiet.holds.counts
+
+  -- as many events were played as have their ends
+  pub played_is : (sides : List Side) (s t : body.Side W) (shared : Shared) → RestsBoth wants is_of running picks_of sides s t shared → shared.events ≡ length s.ends.items + length t.ends.items
+  played_is sides s t shared r =
+      let all = all_numbers shared.events sides r.common.few in
+      let a = played_so sides First s shared r.first in
+      let b = played_so sides Second t shared r.second in
+      omega (arith, all, a, b)
+
+  pub state_is : (s : body.Side W) (shared : Shared) → Quiet wants is_of running picks_of (over s shared) → {S : Type 0} (read : Past → S) (result : S) → ((p : Past) → Stands s.script s.states p → result ≡ read p) → result ≡ read (past s.script s.ends.items)
+  state_is s shared q read result h = h (past s.script s.ends.items) (stands_of is_of running picks_of all_sound (over s shared) q.holds q.idle)
+
+  -- the store is the last moment's
+  pub scene_is : (b : Body W) → Quiet wants is_of running picks_of b → b.shared.store.scene ≡ moment b.shared.opening b.shared.journal.entries (length b.shared.journal.entries)
+  scene_is b q = plain_scene wants is_of running picks_of b q ∙ ap (after_all (store.opening b.shared.opening)) (sym (take_whole b.shared.journal.entries))
+
+  -- ---- both
+
+  module _ (has : HasPicks running picks_of) (shared_law : RunsAreKeptShared) (sides : List Side) (s t : body.Side W) (shared : Shared) (r : RestsBoth wants is_of running picks_of sides s t shared) where
+    a : SideRun wants is_of running picks_of sides First s shared
+    a = side_run wants is_of running picks_of sides First s shared r.first
+
+    b : SideRun wants is_of running picks_of sides Second t shared
+    b = side_run wants is_of running picks_of sides Second t shared r.second
+
+    opens : IsTwinOpening (setting s.script shared.opening) (setting t.script shared.opening) shared.opening
+    opens = twin_opening wants is_of running picks_of sides s t shared First r.first
+
+    run : TwinRun (setting s.script shared.opening) (setting t.script shared.opening) (times s.script s.ends.items) (times t.script t.ends.items) shared.opening (both_of (mine sides First) (mine sides Second) shared.journal.entries) a.stand b.stand
+    run = twin_run wants is_of running picks_of sides First s t shared r.common a b
+
+    names : NamesNoneOfOthers two.First t.script (drew two.Second shared.opening (both_of (mine sides First) (mine sides Second) shared.journal.entries)) (both_of (mine sides First) (mine sides Second) shared.journal.entries)
+        × NamesNoneOfOthers two.Second s.script (drew two.First shared.opening (both_of (mine sides First) (mine sides Second) shared.journal.entries)) (both_of (mine sides First) (mine sides Second) shared.journal.entries)
+    names = named (setting s.script shared.opening) (setting t.script shared.opening) r.twins (times s.script s.ends.items) (times t.script t.ends.items) shared.opening opens (both_of (mine sides First) (mine sides Second) shared.journal.entries) a.stand b.stand run
+
+    played : IsPlayed (setting_of (over s shared)) shared.opening r.first.quiet.holds.play
+    played = happenings_play (setting_of (over s shared)) shared.opening r.first.quiet.holds.play r.first.quiet.holds.legal r.first.quiet.holds.happened (idle wants is_of running picks_of (over s shared) r.first.quiet)
+
+    honest_eyes : (f : ℕ → Bool) (c : Scene) (es : List Entry) → AreHonest c (in_eyes f es) → AreHonest c es
+    honest_eyes f c [] h = tt
+    honest_eyes f c (e ∷ es) h = (h.0, honest_eyes f (effect c e.request e.outcome) es h.1)
+
+    sent : Sent s.script shared.opening shared.journal.entries
+    sent = record {
+      honest = honest_eyes (is_mine s.others.items) (store.opening shared.opening) shared.journal.entries (subst (IsHonest shared.opening) (sym r.first.quiet.holds.journal) played.honest);
+      fated = foretold_as (λ n. Some (fate_at shared.store.fates n)) (λ n. Some (fate_at s.script.fates n)) 1 shared.journal.entries (λ n. ap (λ f. Some f) (sym (r.fates n))) r.first.quiet.holds.fated;
+    }
+
+    pub keeps : (stuck : Bool) → Keeps (run_of picks_of sides s t shared stuck)
+    keeps stuck = record {
+      first = record { among = among has sides First s shared r.first; shared = shared_kept shared_law sides First s shared r.first; counts = subst (λ n. number_in (mine sides First) n ≡ length s.ends.items) (played_is sides s t shared r) (played_so sides First s shared r.first) };
+      second = record { among = among has sides Second t shared r.second; shared = shared_kept shared_law sides Second t shared r.second; counts = subst (λ n. number_in (mine sides Second) n ≡ length t.ends.items) (played_is sides s t shared r) (played_so sides Second t shared r.second) };
+      shows = always (setting s.script shared.opening) (setting t.script shared.opening) r.twins (times s.script s.ends.items) (times t.script t.ends.items) shared.opening opens (both_of (mine sides First) (mine sides Second) shared.journal.entries) a.stand b.stand run;
+      named_first = names.0;
+      named_second = names.1;
+      own = r.common.own;
+      sent = sent;
+    }

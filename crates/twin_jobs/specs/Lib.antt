@@ -1,0 +1,4 @@
+pub mod Order
+pub mod Pairs
+pub mod Worlds
+pub mod Played

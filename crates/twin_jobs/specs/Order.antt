@@ -1,0 +1,31 @@
+-- Whose the events of a run of two jobs are.
+use Rattle.std.specs.Prelude.{◌≡◌, ℕ, ◌+◌, Bool, true, false, cond, List, [], ◌∷◌, replicate, flat_map}
+use Rattle.twin_script.specs.declared.turns.Side.{Side}
+use Rattle.twin_script.specs.declared.turns.Side.TheVariants.{First, Second}
+use Rattle.twin_script.specs.declared.turns.TwinTurn.{TwinTurn}
+
+-- two sides are the same
+abbrev pub is_same : Side → Side → Bool
+is_same First First = true
+is_same Second Second = true
+is_same First Second = false
+is_same Second First = false
+
+-- the other one of the two
+abbrev pub other_of : Side → Side
+other_of First = Second
+other_of Second = First
+
+-- the sides of the events that an order asks for, one after another
+abbrev pub sides_in : List TwinTurn → List Side
+sides_in = flat_map (λ t. replicate t.count t.side)
+
+-- how many of the events are the side's
+abbrev pub events_of : Side → List Side → ℕ
+events_of side [] = 0
+events_of side (s ∷ sides) = cond (is_same side s) (events_of side sides + 1) (events_of side sides)
+
+-- the numbers, from n on, of the events that are not the side's
+abbrev pub others_in : Side → ℕ → List Side → List ℕ
+others_in side n [] = []
+others_in side n (s ∷ sides) = cond (is_same side s) (others_in side (n + 1) sides) (n ∷ others_in side (n + 1) sides)

@@ -1,0 +1,107 @@
+-- Two sides over what they share, of which one is in hand.
+use Rattle.std.specs.Prelude.{◌≡◌, ◌+◌, ◌<◌, ◌≤◌, ◌^◌, ℕ, Bool, true, List, length, slice_get, Option}
+use Rattle.proof_base.specs.Prelude.{AllByRecursion}
+use Rattle.job_steps.specs.Prelude.{fate_at, Request, Actor, Entry, Known, Script, Pick, Setting, Running, AreOwn}
+use Rattle.job_side.specs.Holds.{Quiet}
+use Rattle.job_side.specs.Events.{Grown, IsAsBefore, picks_in}
+use Rattle.job_side.specs.Firsts.{IsFirstSide}
+use Rattle.job_side.specs.declared.body.Body.{Body}
+use Rattle.job_side.specs.declared.body.Side as body
+use Rattle.job_side.specs.declared.body.Shared.{Shared}
+use Rattle.twin_facts.specs.TwinLaws.{MayBeTwins}
+use Rattle.twin_script.specs.declared.turns.Side.{Side}
+use Rattle.twin_script.specs.declared.turns.Side.TheVariants.{First, Second}
+use Rattle.twin_jobs.specs.Order.{other_of, events_of, others_in}
+use Rattle.twin_jobs.specs.Worlds.{JobRun, Run}
+use Rattle.twin_jobs.specs.declared.pair.Pair.{Pair}
+
+-- the side of this name, where the one in hand is that of the other name
+abbrev pub side_by : {X : Type 0} → Side → Side → X → X → X
+side_by First First a b = a
+side_by Second Second a b = a
+side_by First Second a b = b
+side_by Second First a b = b
+
+-- a side of a pair
+abbrev pub side_in : {W : Type 0} → Side → Pair W → body.Side W
+side_in side p = side_by side p.moving p.body.side p.other
+
+-- a side, and what it stands on
+abbrev pub over : {W : Type 0} → body.Side W → Shared → Body W
+over s shared = record { side = s; shared = shared }
+
+-- the event is numbered, and one of the first n
+abbrev pub IsAmong : ℕ → Entry → Type 0
+IsAmong n e = (1 ≤ e.event) × (e.event ≤ n)
+
+-- a side of this name rests between events: its own are those of the order, of which its script has enough
+pub record RestsOne {W : Type 0} (wants : W → Option Request) (is_of : Setting → Actor → W → Type 0) (running : Known → W → Running) (picks_of : W → Option (List Pick)) (sides : List Side) (name : Side) (s : body.Side W) (shared : Shared) : Type 0 where
+  pub quiet : Quiet wants is_of running picks_of (over s shared)
+  pub shares : s.shares ≡ true
+  pub others : s.others.items ≡ others_in name 1 sides
+  pub enough : events_of name sides ≤ length s.script.events
+
+-- what both share, between events
+pub record RestsShared (sides : List Side) (shared : Shared) : Type 0 where
+  pub own : AreOwn shared.journal.entries
+  pub among : AllByRecursion (IsAmong shared.events) shared.journal.entries
+  pub few : shared.events ≤ length sides
+  pub short : length sides + 1 < 2 ^ 32
+
+-- both rest over what they share
+pub record RestsBoth {W : Type 0} (wants : W → Option Request) (is_of : Setting → Actor → W → Type 0) (running : Known → W → Running) (picks_of : W → Option (List Pick)) (sides : List Side) (s t : body.Side W) (shared : Shared) : Type 0 where
+  pub first : RestsOne wants is_of running picks_of sides First s shared
+  pub second : RestsOne wants is_of running picks_of sides Second t shared
+  pub common : RestsShared sides shared
+  pub twins : MayBeTwins s.script t.script
+  pub fates : (n : ℕ) → fate_at shared.store.fates n ≡ fate_at s.script.fates n
+
+-- so a pair does
+abbrev pub Rests : {W : Type 0} → (W → Option Request) → (Setting → Actor → W → Type 0) → (Known → W → Running) → (W → Option (List Pick)) → Pair W → Type 0
+Rests wants is_of running picks_of p = RestsBoth wants is_of running picks_of p.sides.items (side_in First p) (side_in Second p) p.body.shared
+
+-- ---- nothing has happened
+
+-- a side of this script, whose events are all but these, and of which nothing has happened
+pub record IsFresh {W : Type 0} (w : Script) (minimum : ℕ) (numbers : List ℕ) (s : body.Side W) : Type 0 where
+  pub script : s.script ≡ w
+  pub others : s.others.items ≡ numbers
+  pub shares : s.shares ≡ true
+  pub first : IsFirstSide minimum s
+
+-- two such sides over what they share
+pub record IsPaired {W : Type 0} (first second : Script) (shared : Shared) (sides : List Side) (p : Pair W) : Type 0 where
+  pub one : IsFresh first shared.opening.minimum (others_in First 1 sides) (side_in First p)
+  pub other : IsFresh second shared.opening.minimum (others_in Second 1 sides) (side_in Second p)
+  pub same : p.body.shared ≡ shared
+  pub order : p.sides.items ≡ sides
+
+-- ---- what callers see
+
+-- of a side
+abbrev pub job_in : {W : Type 0} → (W → Option (List Pick)) → body.Side W → JobRun
+job_in picks_of s = record { script = s.script; picks = picks_in picks_of s.picks (slice_get s.hands.items 0); ends = s.ends.items }
+
+-- of two sides
+abbrev pub run_of : {W : Type 0} → (W → Option (List Pick)) → List Side → body.Side W → body.Side W → Shared → Bool → Run
+run_of picks_of sides s t shared stuck = record { first = job_in picks_of s; second = job_in picks_of t; sides = sides; opening = shared.opening; journal = shared.journal.entries; stuck = stuck }
+
+-- the other side is in hand, or the same, and nothing else changes
+pub record IsTurnedTo {W : Type 0} (side : Side) (p q : Pair W) : Type 0 where
+  pub moving : q.moving ≡ side
+  pub first : side_in First q ≡ side_in First p
+  pub second : side_in Second q ≡ side_in Second p
+  pub shared : q.body.shared ≡ p.body.shared
+  pub sides : q.sides ≡ p.sides
+
+-- this side's next event was played
+pub record IsPlayed {W : Type 0} (side : Side) (p q : Pair W) : Type 0 where
+  pub grown : Grown (over (side_in side p) p.body.shared) (over (side_in side q) q.body.shared)
+  pub other : side_in (other_of side) q ≡ side_in (other_of side) p
+  pub sides : q.sides ≡ p.sides
+
+-- for want of memory nothing was, and nothing but room was taken
+pub record IsUnplayed {W : Type 0} (side : Side) (p q : Pair W) : Type 0 where
+  pub before : IsAsBefore (over (side_in side p) p.body.shared) (over (side_in side q) q.body.shared)
+  pub other : side_in (other_of side) q ≡ side_in (other_of side) p
+  pub sides : q.sides ≡ p.sides

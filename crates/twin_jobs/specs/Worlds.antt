@@ -1,0 +1,129 @@
+-- A world of two jobs as its callers see it.
+use Rattle.std.specs.Prelude.{◌≡◌, ◌+◌, ◌≤◌, ℕ, Bool, true, false, cond, List, [], ◌∷◌, ◌++◌, length, map, slice_get, Option, Some, None}
+use Rattle.proof_base.specs.Prelude.{AllByRecursion}
+use Rattle.job_facts.specs.Prelude.{Content, Entry, Script, Setting, HasBucket, Times, times, AreOwn}
+use Rattle.job_spec.specs.Prelude.{Pick, EventEnd, Sent, in_eyes}
+use Rattle.job_spec.specs.Eyes.{number_in}
+use Rattle.job_safety.specs.Laws.{KeptAmong}
+use Rattle.job_side.specs.Holds.{is_mine}
+use Rattle.twin_facts.specs.Sides as two
+use Rattle.twin_facts.specs.Sides.{TwinEntry, drew}
+use Rattle.twin_facts.specs.Named.{NamesNoneOfOthers}
+use Rattle.twin_facts.specs.Events.{AtMoment}
+use Rattle.twin_safety.specs.Shared.{SharedKept}
+use Rattle.twin_script.specs.declared.turns.Side.{Side}
+use Rattle.twin_script.specs.declared.turns.Side.TheVariants.{First, Second}
+use Rattle.twin_script.specs.TwinScripts.{Twins}
+use Rattle.twin_jobs.specs.Order.{other_of, sides_in, others_in}
+
+-- what is a job's own: its script, the picks of its commit, and the ends of its events so far
+pub record JobRun : Type 0 where
+  pub script : Script
+  pub picks : List Pick
+  pub ends : List EventEnd
+
+-- both jobs, whose each event of the order is, the store's content as the run began, all entries, and whether an event found no memory
+pub record Run : Type 0 where
+  pub first : JobRun
+  pub second : JobRun
+  pub sides : List Side
+  pub opening : Content
+  pub journal : List Entry
+  pub stuck : Bool
+
+-- how many events were played
+abbrev pub played : Run → ℕ
+played r = length r.first.ends + length r.second.ends
+
+-- a side's job
+abbrev pub job_of : Run → Side → JobRun
+job_of r First = r.first
+job_of r Second = r.second
+
+-- of a job nothing has happened
+abbrev pub nothing_run : Script → JobRun
+nothing_run w = record { script = w; picks = []; ends = [] }
+
+-- nothing has happened
+abbrev pub begun : Twins → Content → Run
+begun t opening = record { first = nothing_run t.first; second = nothing_run t.second; sides = sides_in t.order; opening = opening; journal = []; stuck = false }
+
+-- ---- each in its own eyes
+
+-- the side's own events
+abbrev pub mine : List Side → Side → ℕ → Bool
+mine sides side = is_mine (others_in side 1 sides)
+
+-- what a job goes by whose destination another shares
+abbrev pub setting : Script → Content → Setting
+setting w opening = record { script = w; minimum = opening.minimum; shared = true }
+
+-- the journal as the side reads it
+abbrev pub seen_by : Run → Side → List Entry
+seen_by r side = in_eyes (mine r.sides side) r.journal
+
+-- what a side keeps in its own eyes, whatever the other sends
+pub record KeepsSide (r : Run) (side : Side) : Type 0 where
+  -- what no stranger breaks
+  pub among : let j = job_of r side in KeptAmong (setting j.script r.opening) r.opening (seen_by r side) j.picks j.ends
+  -- how its commit, its check, and its abort or clean end
+  pub shared : let j = job_of r side in SharedKept (setting j.script r.opening) r.opening (seen_by r side) j.ends
+  -- its events that were played are those of the order's first
+  pub counts : number_in (mine r.sides side) (played r) ≡ length (job_of r side).ends
+
+-- ---- the journal of both
+
+-- an entry with its side: its event is numbered as that side counts, and as the other does
+abbrev pub entry_by : Bool → ℕ → ℕ → Entry → TwinEntry
+entry_by true n m e = record { side = two.First; entry = record { event = n; actor = e.actor; request = e.request; outcome = e.outcome }; theirs = m }
+entry_by false n m e = record { side = two.Second; entry = record { event = m; actor = e.actor; request = e.request; outcome = e.outcome }; theirs = n }
+
+-- these events are the first's, and those the second's
+abbrev pub both_of : (ℕ → Bool) → (ℕ → Bool) → List Entry → List TwinEntry
+both_of mine theirs = map (λ e. entry_by (mine e.event) (number_in mine e.event) (number_in theirs e.event) e)
+
+abbrev pub entries_of : Run → List TwinEntry
+entries_of r = both_of (mine r.sides First) (mine r.sides Second) r.journal
+
+-- when a side's commit, and its first abort or clean, began
+abbrev pub times_of : JobRun → Times
+times_of j = times j.script j.ends
+
+-- what readers are shown at each moment, and what the marker says, where the bucket of both stood
+abbrev pub ShowsBoth : Run → Type 0
+ShowsBoth r = HasBucket r.opening r.first.script.dest.bucket → (m : ℕ) → m ≤ length (entries_of r) → AtMoment r.first.script r.second.script (times_of r.first) (times_of r.second) r.opening (entries_of r) m
+
+-- What a run of two jobs keeps.
+pub record Keeps (r : Run) : Type 0 where
+  pub first : KeepsSide r First
+  pub second : KeepsSide r Second
+  pub shows : ShowsBoth r
+  -- no request of one names what is the other's
+  pub named_first : NamesNoneOfOthers two.First r.second.script (drew two.Second r.opening (entries_of r)) (entries_of r)
+  pub named_second : NamesNoneOfOthers two.Second r.first.script (drew two.First r.opening (entries_of r)) (entries_of r)
+  -- all was sent by actors of the two, with outcomes that were due and that the first script foretells
+  pub own : AreOwn r.journal
+  pub sent : Sent r.first.script r.opening r.journal
+
+-- ---- a turn
+
+-- this side's next event has its end, and what was sent in it has its number; the other side stays
+pub record Played (r s : Run) (side : Side) : Type 0 where
+  pub next : slice_get r.sides (played r) ≡ Some side
+  pub script : (job_of s side).script ≡ (job_of r side).script
+  pub end : EventEnd
+  pub ends : (job_of s side).ends ≡ (job_of r side).ends ++ end ∷ []
+  pub other : job_of s (other_of side) ≡ job_of r (other_of side)
+  pub sides : s.sides ≡ r.sides
+  pub opening : s.opening ≡ r.opening
+  pub more : (part : List Entry) × (s.journal ≡ r.journal ++ part) × AllByRecursion (λ e. e.event ≡ played r + 1) part
+  pub stuck : s.stuck ≡ r.stuck
+
+-- an event was played, or the order is used up and all is as before
+abbrev pub Turned : Run → Run → Option Side → Type 0
+Turned r s (Some side) = Played r s side
+Turned r s None = (s ≡ r) × (played r ≡ length r.sides)
+
+-- no event happened, for want of memory, and none will
+pub record FoundNone (r s : Run) : Type 0 where
+  pub is : s ≡ record r { stuck = true }
