@@ -1,5 +1,5 @@
 -- What was played, by what the world of the jobs leaves.
-use Rattle.std.proofs.Common.{◌≡◌, ℕ, ◌+◌, ◌-◌, Bool, false, List, [], length, Option, None, sym, ap, subst, ◌∙◌, arith}
+use Rattle.std.proofs.Common.{◌≡◌, ℕ, ◌+◌, ◌-◌, Bool, false, List, length, Option, None, sym, ap, subst, ◌∙◌, arith}
 use Rattle.s3_types.specs.Ledger.{Ledger}
 use Rattle.job_spec.specs.Prelude.{Content, Entry, Script, Pick, EventEnd, moment, Finished, verdict}
 use Rattle.journal_log.specs.Prelude.{Sight, ShelfStop, KeepsImages}

@@ -101,13 +101,6 @@ fn verdict_of<W: Works>(world: &TwinWorld<W>) -> u8
     first_of(first, second)
 }
 
-/// Lends what two scripts and their order keep.
-fn lend(twins: &Twins)
-    ensures { AreTwins twins.now }
-{
-    let _ = &twins.order;
-}
-
 /// The order of two jobs' turns once more.
 fn order_of(alloc: Global, twins: &Twins) -> Result<TurnList, AllocError>
     ensures { IfOk result (λ order. order ≡ twins.now.order) }
@@ -170,7 +163,7 @@ fn play_two<W: Works, F: Shelf>(
     ensures err { OnErr result (NotReplaced F.sight service shelf.old shelf.new) }
     ensures faults { IfErr result (λ stop. Counts (Some stop) (F.faults shelf.old) (F.faults shelf.new)) }
 {
-    lend(&twins);
+    twins.keeps();
     let Ok(order) = order_of(alloc, &twins) else {
         let_go(twins);
         let_go(service);

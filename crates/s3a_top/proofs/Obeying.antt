@@ -7,7 +7,7 @@ use Rattle.durable_store.specs.declared.work.Answer.{Answer}
 use Rattle.exit_status.specs.declared.statuses.Status.{Status}
 use Rattle.exit_status.specs.declared.statuses.Status.TheVariants as statuses
 use Rattle.durable_store.specs.Outcomes.{IsAnswer, IsHeld, WhereSound, MightLeave, IsDurableNow, CallsBy, IsSound, HasImages}
-use Rattle.durable_store.specs.Outcomes.IsAnswer.{said, saved, failed, wanting}
+use Rattle.durable_store.specs.Outcomes.IsAnswer.{said, saved}
 use Rattle.durable_store.specs.declared.held.Held.{Held}
 use Rattle.durable_store.specs.declared.held.Held.TheVariants.{Nothing, Store, Faulty}
 use Rattle.shelf.specs.declared.kept.ShelfStop.TheVariants as shelves

@@ -24,7 +24,7 @@ use Rattle.s3a_top.specs.declared.work.Work.{Work}
 use Rattle.exit_status.specs.declared.statuses.Status.{Status}
 use Rattle.exit_status.specs.declared.statuses.Status.TheVariants as statuses
 use Rattle.s3a_top.specs.declared.stop.Stop.{Stop}
-use Rattle.s3a_top.specs.declared.stop.Stop.TheVariants.{ReadFault, ShelfFault, Script as BadScript, Twins as BadTwins, NoMemory}
+use Rattle.s3a_top.specs.declared.stop.Stop.TheVariants.{ReadFault, Script as BadScript, Twins as BadTwins, NoMemory}
 use Rattle.s3a_top.proofs.Readings.{script_part, twins_part}
 
 -- ---- counts of faults

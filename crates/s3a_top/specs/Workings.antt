@@ -1,5 +1,5 @@
 -- What the work of the words gives before its text is written.
-use Rattle.std.specs.Prelude.{◌≡◌, ◌⊎◌, ◌<◌, ◌^◌, ◌-◌, ℕ, true, false, List, [], Option, Some, None, Result, Ok, Err, IfOk}
+use Rattle.std.specs.Prelude.{◌≡◌, ◌⊎◌, ◌<◌, ◌^◌, ◌-◌, ℕ, true, false, List, Option, Some, None, Result, Ok, Err, IfOk}
 use Rattle.job_spec.specs.Prelude.{Entry}
 use Rattle.durable_job.specs.Jobs.{nothing_told}
 use Rattle.durable_job.specs.declared.jobs.Told.{Told}

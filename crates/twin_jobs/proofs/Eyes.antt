@@ -1,8 +1,8 @@
 -- The journal of both, as each side reads it.
-use Rattle.std.proofs.Common.{◌≡◌, ℕ, ◌+◌, ◌≤◌, not, Bool, true, false, cond, List, [], ◌∷◌, ◌++◌, map, refl, sym, ap, subst, ◌∙◌, arith}
+use Rattle.std.proofs.Common.{◌≡◌, ℕ, not, Bool, true, false, cond, List, [], ◌∷◌, ◌++◌, refl, sym, ap, ◌∙◌}
 use Rattle.proof_base.specs.Prelude.{AllByRecursion}
 use Rattle.job_spec.proofs.Common.{map-append}
-use Rattle.job_facts.specs.Prelude.{Scene, answer, effect, IsHonestOutcome, Actor, Shell, Entry, Who, Script, Drawn, is_own, IsForeign, AreOwn}
+use Rattle.job_facts.specs.Prelude.{Scene, answer, effect, IsHonestOutcome, Shell, Entry, Who, Script, Drawn, is_own, IsForeign, AreOwn}
 use Rattle.job_spec.specs.Prelude.{in_eyes, after_all}
 use Rattle.job_spec.specs.Eyes.{number_in, entry_in}
 use Rattle.job_side.specs.Holds.{AreOf}

@@ -1,17 +1,16 @@
 -- The numbers of the events of each side, and how many there are.
-use Rattle.std.proofs.Common.{◌≡◌, ℕ, zero, suc, ◌+◌, ◌*◌, ◌<◌, ◌≤◌, ◌||◌, nat_eq, not, Bool, true, false, cond, List, [], ◌∷◌, ◌++◌, length, take, slice_get, Option, Some, None, refl, sym, ap, subst, ◌∙◌, arith}
-use Rattle.std.specs.Prelude.{replicate, flat_map, sum_by, if◌then◌else◌}
+use Rattle.std.proofs.Common.{◌≡◌, ℕ, zero, suc, ◌+◌, ◌<◌, ◌≤◌, ◌||◌, nat_eq, not, Bool, true, false, cond, List, [], ◌∷◌, ◌++◌, length, take, slice_get, Some, refl, sym, ap, subst, ◌∙◌, arith}
+use Rattle.std.specs.Prelude.{replicate, sum_by}
 use Rattle.std.proofs.lemmas.List.Sums.{sum_by-cons}
 use Rattle.job_facts.specs.Prelude.{list_any}
 use Rattle.job_spec.proofs.Common.{some_is, none_some, nat_false, nat_true, false_true}
 use Rattle.job_spec.specs.Eyes.{number_in}
-use Rattle.job_side.specs.Holds.{is_mine}
 use Rattle.job_side.proofs.Firsts.{take_more}
 use Rattle.job_side.proofs.Places.{there, within}
 use Rattle.twin_script.specs.declared.turns.Side.{Side}
 use Rattle.twin_script.specs.declared.turns.Side.TheVariants.{First, Second}
 use Rattle.twin_script.specs.declared.turns.TwinTurn.{TwinTurn}
-use Rattle.twin_script.specs.TwinScripts.{is_first, first_count, second_count}
+use Rattle.twin_script.specs.TwinScripts.{first_count, second_count}
 use Rattle.twin_jobs.specs.Order.{is_same, other_of, sides_in, events_of, others_in}
 use Rattle.twin_jobs.specs.Worlds.{mine}
 

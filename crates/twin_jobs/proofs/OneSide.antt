@@ -1,20 +1,17 @@
 -- What a side that rests says of its job's run, and what another's event leaves of it.
-use Rattle.std.proofs.Common.{◌≡◌, ℕ, zero, suc, ◌+◌, ◌<◌, ◌≤◌, ◌^◌, not, Bool, true, false, List, [], ◌∷◌, ◌++◌, length, slice_get, Option, Some, None, refl, sym, ap, subst, ◌∙◌, arith}
-use Rattle.std.specs.Prelude.{IsSome}
+use Rattle.std.proofs.Common.{◌≡◌, ℕ, ◌+◌, ◌≤◌, not, Bool, true, false, List, [], ◌∷◌, ◌++◌, length, slice_get, Option, Some, None, refl, sym, ap, subst, ◌∙◌, arith}
 use Rattle.proof_base.specs.Prelude.{AllByRecursion}
-use Rattle.job_steps.specs.Prelude.{Content, Scene, moment, Request, Actor, Entry, Who, actor_of, Known, Drawn, Script, IsLegal, Event, EventEnd, Pick, Setting, Running, who, knows, by_actor, is_own, AreOwn, IsOpening, Play, Reachable, IsRun, scene_of, Times, times}
+use Rattle.job_steps.specs.Prelude.{Content, Scene, Request, Actor, Entry, Who, actor_of, Known, Drawn, Script, EventEnd, Pick, Setting, Running, who, knows, by_actor, AreOwn, IsOpening, Play, times}
 use Rattle.job_spec.specs.Prelude.{in_eyes, after_all}
-use Rattle.job_spec.specs.Eyes.{number_in}
 use Rattle.s3_types.specs.Store as store
-use Rattle.job_facts.specs.Prelude.{known}
 use Rattle.job_traces.specs.Runs.{Stand, Runs}
 use Rattle.job_traces.proofs.Changes.{moment_scene}
 use Rattle.job_steps.proofs.Running.{is_run}
 use Rattle.job_steps.proofs.Parts.{take_whole}
 use Rattle.job_safety.proofs.Ending.{ahead_none}
-use Rattle.job_side.specs.Holds.{Quiet, IsTurn, Stays, AreOf, is_mine, setting_of, seen_by}
-use Rattle.job_side.specs.Events.{Grown, IsAsBefore, knows_of}
-use Rattle.job_side.specs.Beside.{AreForeign, IsBeside}
+use Rattle.job_side.specs.Holds.{Quiet, AreOf, is_mine, setting_of}
+use Rattle.job_side.specs.Events.{knows_of}
+use Rattle.job_side.specs.Beside.{AreForeign}
 use Rattle.job_side.proofs.Beside.{rests_beside}
 use Rattle.job_side.proofs.Places.{within}
 use Rattle.job_side.specs.declared.body.Body.{Body}
@@ -26,11 +23,10 @@ use Rattle.twin_facts.specs.Joined as joined
 use Rattle.twin_facts.specs.TwinLaws.{MayBeTwins}
 use Rattle.twin_facts.proofs.Joining as joining
 use Rattle.twin_script.specs.declared.turns.Side.{Side}
-use Rattle.twin_script.specs.declared.turns.Side.TheVariants.{First, Second}
-use Rattle.twin_jobs.specs.Order.{other_of, is_same, events_of, others_in}
+use Rattle.twin_jobs.specs.Order.{other_of}
 use Rattle.twin_jobs.specs.Worlds.{mine, setting, both_of}
 use Rattle.twin_jobs.specs.Pairs.{over, IsAmong, RestsOne, RestsShared}
-use Rattle.twin_jobs.proofs.Numbers.{mine_at, opposite, same_self, more_left}
+use Rattle.twin_jobs.proofs.Numbers.{mine_at, opposite, same_self}
 use Rattle.twin_jobs.proofs.Eyes.{AreApart, after_eyes, after_append, own_on, first_eyes, second_eyes, actors, appended, by_first, foreign_by}
 
 -- ---- what all share

@@ -1,7 +1,7 @@
 -- A pair of sides of which one plays its next event.
-use Rattle.std.proofs.Common.{◌≡◌, ℕ, ◌+◌, ◌<◌, ◌≤◌, ◌^◌, Bool, true, false, List, [], ◌∷◌, ◌++◌, length, slice_get, Option, Some, None, refl, sym, ap, subst, ◌∙◌, arith}
+use Rattle.std.proofs.Common.{◌≡◌, ℕ, ◌+◌, ◌≤◌, List, length, slice_get, Option, Some, refl, sym, ap, subst, ◌∙◌, arith}
 use Rattle.std.specs.Prelude.{Result, Ok, Err, OnOk, OnErr, IsSome, is_some}
-use Rattle.job_steps.specs.Prelude.{fate_at, Request, Actor, Entry, Known, Script, Event, EventEnd, Pick, Setting, Running}
+use Rattle.job_steps.specs.Prelude.{fate_at, Request, Actor, Known, Script, Pick, Setting, Running}
 use Rattle.job_spec.specs.Eyes.{number_in}
 use Rattle.job_side.specs.Holds.{Quiet, IsTurn, is_mine}
 use Rattle.job_side.specs.Events.{Grown, IsAsBefore}
@@ -12,7 +12,7 @@ use Rattle.job_side.specs.declared.body.Shared.{Shared}
 use Rattle.twin_facts.specs.TwinLaws.{MayBeTwins}
 use Rattle.twin_script.specs.declared.turns.Side.{Side}
 use Rattle.twin_script.specs.declared.turns.Side.TheVariants.{First, Second}
-use Rattle.twin_jobs.specs.Order.{other_of, events_of, others_in}
+use Rattle.twin_jobs.specs.Order.{other_of, events_of}
 use Rattle.twin_jobs.specs.Worlds.{mine}
 use Rattle.twin_jobs.specs.Pairs.{over, side_by, side_in, RestsOne, RestsShared, RestsBoth, Rests, IsTurnedTo, IsPlayed, IsUnplayed}
 use Rattle.twin_jobs.specs.declared.pair.Pair.{Pair}

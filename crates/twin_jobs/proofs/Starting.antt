@@ -1,11 +1,10 @@
 -- Two jobs of which nothing has happened.
-use Rattle.std.proofs.Common.{◌≡◌, ℕ, zero, suc, ◌+◌, ◌≤◌, ◌<◌, ◌^◌, Bool, true, false, List, [], ◌∷◌, length, slice_get, sum_by, Option, Some, None, refl, sym, ap, subst, ◌∙◌, arith}
+use Rattle.std.proofs.Common.{◌≡◌, ℕ, ◌+◌, ◌≤◌, ◌<◌, ◌^◌, false, List, [], length, slice_get, Option, refl, sym, ap, subst, ◌∙◌, arith}
 use Rattle.job_steps.specs.Prelude.{Content, Entry, fate_at, Request, Actor, Known, Script, IsLegal, EventEnd, Pick, Setting, Running, AreOwn}
 use Rattle.job_facts.specs.Prelude.{Mode}
 use Rattle.proof_base.specs.Prelude.{AllByRecursion}
 use Rattle.s3_types.specs.declared.request.Mode.TheVariants as modes
 use Rattle.s3_service.specs.Ids.{AreBelow}
-use Rattle.job_side.specs.Holds.{Quiet}
 use Rattle.job_side.specs.Events.{picks_in}
 use Rattle.job_side.specs.Firsts.{IsFirstShared, IsFirstSide}
 use Rattle.job_side.proofs.Firsts.{first_quiet}
@@ -15,12 +14,12 @@ use Rattle.twin_facts.specs.TwinLaws as laws
 use Rattle.twin_facts.specs.TwinLaws.{MayBeTwins}
 use Rattle.twin_script.specs.declared.turns.Side.{Side}
 use Rattle.twin_script.specs.declared.turns.Side.TheVariants.{First, Second}
-use Rattle.twin_script.specs.TwinScripts.{Twins, AreTwins, is_replace, first_count, second_count}
+use Rattle.twin_script.specs.TwinScripts.{Twins, AreTwins, is_replace}
 use Rattle.twin_jobs.specs.Order.{sides_in, events_of, others_in}
 use Rattle.twin_jobs.specs.Worlds.{Run, JobRun, begun, nothing_run}
-use Rattle.twin_jobs.specs.Pairs.{over, job_in, run_of, IsAmong, IsFresh, IsPaired, side_in, Rests, RestsOne, RestsShared, RestsBoth}
+use Rattle.twin_jobs.specs.Pairs.{over, job_in, run_of, IsAmong, IsFresh, IsPaired, side_in, Rests, RestsOne, RestsBoth}
 use Rattle.twin_jobs.specs.declared.pair.Pair.{Pair}
-use Rattle.twin_jobs.proofs.Numbers.{count_of, events_asked, all_sides}
+use Rattle.twin_jobs.proofs.Numbers.{events_asked, all_sides}
 
 -- ---- an order
 

@@ -1,19 +1,17 @@
 -- What callers see of a pair, and of its turns.
-use Rattle.std.proofs.Common.{◌≡◌, ℕ, zero, suc, ◌+◌, ◌<◌, ◌≤◌, Bool, true, false, List, [], ◌∷◌, ◌++◌, length, slice_get, Option, Some, None, refl, sym, ap, subst, ◌∙◌, arith}
-use Rattle.std.specs.Prelude.{Result, Ok, Err, OnOk, OnErr}
+use Rattle.std.proofs.Common.{◌≡◌, ℕ, zero, suc, ◌+◌, ◌<◌, ◌≤◌, Bool, true, List, [], ◌∷◌, length, slice_get, Option, Some, None, refl, sym, ap, subst, ◌∙◌, arith}
 use Rattle.proof_base.specs.Prelude.{AllByRecursion}
 use Rattle.job_steps.specs.Prelude.{Content, Request, Actor, Entry, Known, Script, EventEnd, Pick, Setting, Running, actors, moment, past, Past}
 use Rattle.job_states.specs.Stands.{Stands}
 use Rattle.job_spec.proofs.Common.{none_some}
 use Rattle.job_side.specs.Holds.{Quiet, AreOf}
-use Rattle.job_side.specs.Events.{Grown, IsAsBefore, picks_in}
+use Rattle.job_side.specs.Events.{IsAsBefore, picks_in}
 use Rattle.job_side.specs.declared.hands.Hand.{Hand}
 use Rattle.job_side.specs.declared.body.Body.{Body}
 use Rattle.job_side.specs.declared.body.Side as body
 use Rattle.job_side.specs.declared.body.Shared.{Shared}
 use Rattle.twin_script.specs.declared.turns.Side.{Side}
 use Rattle.twin_script.specs.declared.turns.Side.TheVariants.{First, Second}
-use Rattle.twin_jobs.specs.Order.{other_of}
 use Rattle.twin_jobs.specs.Worlds.{Run, JobRun, job_of, played, Keeps, Played, FoundNone}
 use Rattle.twin_jobs.specs.Pairs.{over, job_in, run_of, side_by, side_in, RestsBoth, Rests, IsPlayed, IsUnplayed}
 use Rattle.twin_jobs.specs.declared.pair.Pair.{Pair}

@@ -1,17 +1,15 @@
 -- What two jobs keep between their events.
-use Rattle.std.proofs.Common.{◌≡◌, ℕ, ◌+◌, ◌≤◌, Bool, true, false, List, [], ◌∷◌, ◌++◌, length, slice_get, Option, Some, None, refl, sym, ap, subst, ◌∙◌, arith}
-use Rattle.proof_base.specs.Prelude.{AllByRecursion}
-use Rattle.job_steps.specs.Prelude.{Content, Scene, moment, fate_at, Request, Actor, Entry, Known, Script, EventEnd, Pick, Setting, Running, AreOwn, Sent, past, Past, Play, IsPlayed}
+use Rattle.std.proofs.Common.{◌≡◌, ℕ, ◌+◌, Bool, List, [], ◌∷◌, length, Option, Some, sym, ap, subst, ◌∙◌, arith}
+use Rattle.job_steps.specs.Prelude.{Scene, moment, fate_at, Request, Actor, Entry, Known, Pick, Setting, Running, Sent, past, Past, IsPlayed}
 use Rattle.job_steps.proofs.Played.{happenings_play}
 use Rattle.job_spec.specs.Prelude.{IsHonest, AreHonest, in_eyes, after_all, effect}
 use Rattle.job_spec.specs.Eyes.{number_in}
 use Rattle.s3_types.specs.Store as store
-use Rattle.job_facts.specs.Prelude.{HasBucket, times}
+use Rattle.job_facts.specs.Prelude.{times}
 use Rattle.job_safety.specs.Laws.{KeptAmong}
 use Rattle.job_steps.proofs.Parts.{take_whole}
 use Rattle.job_states.specs.Stands.{Stands}
-use Rattle.job_side.specs.Holds.{Quiet, AreOf, is_mine, all_sound, setting_of, seen_by}
-use Rattle.job_side.specs.Events.{Grown, IsAsBefore, picks_in}
+use Rattle.job_side.specs.Holds.{Quiet, is_mine, all_sound, setting_of}
 use Rattle.job_side.proofs.KeptSides.{HasPicks, kept_among}
 use Rattle.job_side.proofs.Moments.{stands_of}
 use Rattle.job_side.proofs.Seen.{foretold_as}
@@ -20,16 +18,14 @@ use Rattle.job_side.specs.declared.body.Side as body
 use Rattle.job_side.specs.declared.body.Shared.{Shared}
 use Rattle.twin_facts.specs.Sides as two
 use Rattle.twin_facts.specs.Sides.{TwinRun, IsTwinOpening, drew}
-use Rattle.twin_facts.specs.TwinLaws.{MayBeTwins}
 use Rattle.twin_facts.specs.Named.{NamesNoneOfOthers}
 use Rattle.twin_facts.proofs.ByEvents.{always}
 use Rattle.twin_facts.proofs.Named.{named}
 use Rattle.twin_safety.specs.Shared.{SharedKept, RunsAreKeptShared}
 use Rattle.twin_script.specs.declared.turns.Side.{Side}
 use Rattle.twin_script.specs.declared.turns.Side.TheVariants.{First, Second}
-use Rattle.twin_jobs.specs.Order.{other_of}
-use Rattle.twin_jobs.specs.Worlds.{Run, JobRun, job_of, KeepsSide, Keeps, ShowsBoth, entries_of, both_of, mine, setting, times_of, Played}
-use Rattle.twin_jobs.specs.Pairs.{over, job_in, run_of, RestsOne, RestsShared, RestsBoth}
+use Rattle.twin_jobs.specs.Worlds.{Keeps, both_of, mine, setting}
+use Rattle.twin_jobs.specs.Pairs.{over, job_in, run_of, RestsOne, RestsBoth}
 use Rattle.twin_jobs.proofs.Numbers.{all_numbers}
 use Rattle.twin_jobs.proofs.OneSide.{in_words, idle, side_run, SideRun, twin_opening, twin_run, plain_scene}
 

@@ -1,5 +1,5 @@
 -- A world of two jobs as its callers see it.
-use Rattle.std.specs.Prelude.{◌≡◌, ◌+◌, ◌≤◌, ℕ, Bool, true, false, cond, List, [], ◌∷◌, ◌++◌, length, map, slice_get, Option, Some, None}
+use Rattle.std.specs.Prelude.{◌≡◌, ◌+◌, ◌≤◌, ℕ, Bool, true, false, List, [], ◌∷◌, ◌++◌, length, map, slice_get, Option, Some, None}
 use Rattle.proof_base.specs.Prelude.{AllByRecursion}
 use Rattle.job_facts.specs.Prelude.{Content, Entry, Script, Setting, HasBucket, Times, times, AreOwn}
 use Rattle.job_spec.specs.Prelude.{Pick, EventEnd, Sent, in_eyes}

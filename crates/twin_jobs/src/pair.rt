@@ -8,6 +8,7 @@ use crate::order::others_of;
 use job_actor::Works;
 use job_model::{Event, Script};
 use job_side::{Body, Shared, Side as JobSide};
+use s3_types::let_go;
 use std::alloc::{AllocError, Global};
 use std::mem;
 use twin_script::Side;
@@ -54,8 +55,18 @@ pub fn paired<W: Works>(
 {
     let minimum = shared.opening.minimum();
     let names = sides.as_slice();
-    let side = fresh_side(alloc, first, names, Side::First, minimum)?;
-    let other = fresh_side(alloc, second, names, Side::Second, minimum)?;
+    let Ok(side) = fresh_side(alloc, first, names, Side::First, minimum) else {
+        let_go(second);
+        let_go(sides);
+        let_go(shared);
+        return Err(AllocError);
+    };
+    let Ok(other) = fresh_side(alloc, second, names, Side::Second, minimum) else {
+        let_go(side);
+        let_go(sides);
+        let_go(shared);
+        return Err(AllocError);
+    };
     let body = Body { side, shared };
     let moving = Side::First;
     Ok(Pair {

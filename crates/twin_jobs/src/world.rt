@@ -12,7 +12,7 @@ use job_actor::Works;
 use job_model::{EventEnd, PickList, Script};
 use job_side::{Shared, picks_in};
 use s3_service::Service;
-use s3_types::Journal;
+use s3_types::{Journal, let_go};
 use std::alloc::{AllocError, Global};
 use std::marker::Model;
 use twin_script::{Side, Twins};
@@ -52,13 +52,24 @@ impl<W: Works> TwinWorld<W> {
         requires few { service.next ≤ 2 ^ 62 }
         ensures { IfOk result (λ world. world ≡ begun twins service) }
     {
+        twins.keeps();
+        service.next_upload();
+        let Ok(sides) = sides_of(alloc, twins.order.as_slice()) else {
+            let_go(twins);
+            let_go(service);
+            return Err(AllocError);
+        };
+        let Ok(shared) = Shared::new(alloc, &twins.first, service) else {
+            let_go(twins);
+            let_go(sides);
+            return Err(AllocError);
+        };
         let Twins {
             first,
             second,
             order,
         } = twins;
-        let sides = sides_of(alloc, order.as_slice())?;
-        let shared = Shared::new(alloc, &first, service)?;
+        let_go(order);
         let pair = paired(alloc, shared, sides, first, second)?;
         Ok(TwinWorld { pair, stuck: false })
     }

@@ -1,3 +1,6 @@
+ghost use Rattle.job_model.specs.Legal.{IsLegal};
+ghost use Rattle.twin_script.specs.TwinScripts.{AreTwins};
+
 use crate::turns::TurnList;
 use job_model::Script;
 use std::marker::Model;
@@ -22,4 +25,16 @@ impl Model for Twins {
     ghost view = { λ t. record { first = t.first; second = t.second; order = t.order } };
 
     ghost invariant = { λ t. AreTwins (record { first = t.first; second = t.second; order = t.order }) };
+}
+
+impl Twins {
+    /// What two scripts and their order keep. Takes no memory.
+    pub fn keeps(&self)
+        ensures twins { AreTwins self.now }
+        ensures first { IsLegal self.now.first }
+        ensures second { IsLegal self.now.second }
+    {
+        let _ = &self.first.events;
+        let _ = &self.second.events;
+    }
 }

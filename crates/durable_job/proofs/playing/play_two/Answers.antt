@@ -28,7 +28,7 @@ kept_of-requires g c =
     let left = c.finish-left.result in
     let e = c.in-Ok-keep.ensures in
     let f = c.finish-left.ensures in
-    subst (λ (u : Twins). AreTwins u) (sym (twins_are t c.args.service left.first left.second c.in-Ok.order c.keep.new.moved f.first f.second (subst (λ (x : Run). TwinsStay x c.keep.new.moved) c.in-Ok-new.ensures e.keeps) c.in-Ok.ensures)) c.lend.ensures
+    subst (λ (u : Twins). AreTwins u) (sym (twins_are t c.args.service left.first left.second c.in-Ok.order c.keep.new.moved f.first f.second (subst (λ (x : Run). TwinsStay x c.keep.new.moved) c.in-Ok-new.ensures e.keeps) c.in-Ok.ensures)) c.keeps.ensures.twins
 
 pub returns-clause-played : goal.returns-clause-played
 returns-clause-played g c =

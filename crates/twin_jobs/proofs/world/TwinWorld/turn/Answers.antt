@@ -1,4 +1,4 @@
-use Rattle.std.proofs.Common.{◌≡◌, true, length, slice_get, Option, Some, None, refl, sym, ap, subst, ◌∙◌}
+use Rattle.std.proofs.Common.{◌≡◌, true, length, slice_get, Some, None, refl, sym, subst, ◌∙◌}
 use Rattle.twin_jobs.specs.Worlds.{Run, played, Keeps, Played, FoundNone}
 use Rattle.twin_jobs.proofs.Turning.{seen, turn_is, played_run, found_none, pair_keeps, used_up}
 use Rattle.twin_jobs.proofs.world.TwinWorld.turn.Goals as goal
