@@ -4,10 +4,9 @@ use Rattle.s3_types.specs.Ledger.{Ledger}
 use Rattle.job_spec.specs.Prelude.{Content, Entry, Script, Pick, EventEnd, moment, Finished, verdict}
 use Rattle.journal_log.specs.Prelude.{Sight, ShelfStop, KeepsImages}
 use Rattle.job_world.specs.Worlds as one
-use Rattle.twin_script.specs.TwinScripts.{Twins}
+use Rattle.twin_script.specs.TwinScripts.{Twins, sides_in}
 use Rattle.twin_script.specs.declared.turns.Side.{Side}
 use Rattle.twin_script.specs.declared.turns.TwinTurn.{TwinTurn}
-use Rattle.twin_jobs.specs.Order.{sides_in}
 use Rattle.twin_jobs.specs.Played.{told_of}
 use Rattle.twin_jobs.specs.Worlds as two
 use Rattle.twin_jobs.specs.declared.played.JobLeft.{JobLeft}

@@ -2,8 +2,7 @@
 use Rattle.std.specs.Prelude.{◌≡◌, ◌==◌, ℕ, List, [], length, if◌then◌else◌, false}
 use Rattle.path_keys.specs.Paths.{Path}
 use Rattle.job_spec.specs.Prelude.{Content, Entry, Script, AreOwn, Promised, Sent, Finished, verdict}
-use Rattle.twin_script.specs.TwinScripts.{Twins}
-use Rattle.twin_jobs.specs.Order.{sides_in}
+use Rattle.twin_script.specs.TwinScripts.{Twins, sides_in}
 use Rattle.twin_jobs.specs.Worlds.{Run, played, Keeps}
 use Rattle.twin_jobs.specs.declared.played.JobLeft.{JobLeft}
 use Rattle.durable_job.specs.declared.jobs.Jobs.{Jobs}

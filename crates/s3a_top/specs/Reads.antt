@@ -12,7 +12,7 @@ use Rattle.s3a_top.specs.Bytes.{IsTaken, TakesPart}
 use Rattle.s3a_top.specs.Openings.{reads_jobs, TakesIfRead}
 use Rattle.s3a_top.specs.Jobs.{IsFaultOf}
 use Rattle.s3a_top.specs.declared.stop.Stop.{Stop}
-use Rattle.s3a_top.specs.declared.stop.Stop.TheVariants.{Usage, ReadFault, ShelfFault, Script as BadScript, Twins as BadTwins, Image, NoMemory}
+use Rattle.s3a_top.specs.declared.stop.Stop.TheVariants.{ReadFault, Script as BadScript, Twins as BadTwins, NoMemory}
 
 -- the command whose input tells one job, or two
 abbrev pub reader : Bool → Command
@@ -31,19 +31,14 @@ IsReadStop ReadFault command left rest = (reads_jobs command ≡ true) × TakesP
 IsReadStop (BadScript e) command left rest = (command ≡ Job) × (IsFaultOf script_of left e × ((e ≢ faults.NoMemory) × IsTaken left rest))
 IsReadStop (BadTwins e) command left rest = (command ≡ Twins) × (IsFaultOf twins_of left e × ((e ≢ twin_faults.NoMemory) × IsTaken left rest))
 IsReadStop NoMemory command left rest = TakesIfRead command left rest
-IsReadStop Usage command left rest = ⊥
-IsReadStop ShelfFault command left rest = ⊥
-IsReadStop (Image number place) command left rest = ⊥
+IsReadStop _ command left rest = ⊥
 
 -- why the bytes that were read tell none
 abbrev pub IsNone : Stop → Bool → List ℕ → Type 0
 IsNone (BadScript e) both bytes = (both ≡ false) × ((script_of bytes ≡ Err e) × (e ≢ faults.NoMemory))
 IsNone (BadTwins e) both bytes = (both ≡ true) × ((twins_of bytes ≡ Err e) × (e ≢ twin_faults.NoMemory))
 IsNone NoMemory both bytes = Unit {0}
-IsNone Usage both bytes = ⊥
-IsNone ReadFault both bytes = ⊥
-IsNone ShelfFault both bytes = ⊥
-IsNone (Image number place) both bytes = ⊥
+IsNone _ both bytes = ⊥
 
 -- the count of faults rose where the input failed, and else stands
 abbrev pub CountsReads : {A : Type 0} → Result A Stop → ℕ → ℕ → Type 0

@@ -10,8 +10,8 @@ use Rattle.job_side.proofs.Places.{there, within}
 use Rattle.twin_script.specs.declared.turns.Side.{Side}
 use Rattle.twin_script.specs.declared.turns.Side.TheVariants.{First, Second}
 use Rattle.twin_script.specs.declared.turns.TwinTurn.{TwinTurn}
-use Rattle.twin_script.specs.TwinScripts.{first_count, second_count}
-use Rattle.twin_jobs.specs.Order.{is_same, other_of, sides_in, events_of, others_in}
+use Rattle.twin_script.specs.TwinScripts.{first_count, second_count, sides_in}
+use Rattle.twin_jobs.specs.Order.{is_same, other_of, events_of, others_in}
 use Rattle.twin_jobs.specs.Worlds.{mine}
 
 -- ---- whose an event is

@@ -14,8 +14,8 @@ use Rattle.twin_facts.specs.TwinLaws as laws
 use Rattle.twin_facts.specs.TwinLaws.{MayBeTwins}
 use Rattle.twin_script.specs.declared.turns.Side.{Side}
 use Rattle.twin_script.specs.declared.turns.Side.TheVariants.{First, Second}
-use Rattle.twin_script.specs.TwinScripts.{Twins, AreTwins, is_replace}
-use Rattle.twin_jobs.specs.Order.{sides_in, events_of, others_in}
+use Rattle.twin_script.specs.TwinScripts.{Twins, AreTwins, is_replace, sides_in}
+use Rattle.twin_jobs.specs.Order.{events_of, others_in}
 use Rattle.twin_jobs.specs.Worlds.{Run, JobRun, begun, nothing_run}
 use Rattle.twin_jobs.specs.Pairs.{over, job_in, run_of, IsAmong, IsFresh, IsPaired, side_in, Rests, RestsOne, RestsBoth}
 use Rattle.twin_jobs.specs.declared.pair.Pair.{Pair}

@@ -1,8 +1,7 @@
 -- Whose the events of a run of two jobs are.
-use Rattle.std.specs.Prelude.{ℕ, ◌+◌, Bool, true, false, cond, List, [], ◌∷◌, replicate, flat_map}
+use Rattle.std.specs.Prelude.{ℕ, ◌+◌, Bool, true, false, cond, List, [], ◌∷◌}
 use Rattle.twin_script.specs.declared.turns.Side.{Side}
 use Rattle.twin_script.specs.declared.turns.Side.TheVariants.{First, Second}
-use Rattle.twin_script.specs.declared.turns.TwinTurn.{TwinTurn}
 
 -- two sides are the same
 abbrev pub is_same : Side → Side → Bool
@@ -15,10 +14,6 @@ is_same Second First = false
 abbrev pub other_of : Side → Side
 other_of First = Second
 other_of Second = First
-
--- the sides of the events that an order asks for, one after another
-abbrev pub sides_in : List TwinTurn → List Side
-sides_in = flat_map (λ t. replicate t.count t.side)
 
 -- how many of the events are the side's
 abbrev pub events_of : Side → List Side → ℕ

@@ -13,8 +13,8 @@ use Rattle.twin_facts.specs.Events.{AtMoment}
 use Rattle.twin_safety.specs.Shared.{SharedKept}
 use Rattle.twin_script.specs.declared.turns.Side.{Side}
 use Rattle.twin_script.specs.declared.turns.Side.TheVariants.{First, Second}
-use Rattle.twin_script.specs.TwinScripts.{Twins}
-use Rattle.twin_jobs.specs.Order.{other_of, sides_in, others_in}
+use Rattle.twin_script.specs.TwinScripts.{Twins, sides_in}
+use Rattle.twin_jobs.specs.Order.{other_of, others_in}
 
 -- what is a job's own: its script, the picks of its commit, and the ends of its events so far
 pub record JobRun : Type 0 where

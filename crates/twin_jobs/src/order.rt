@@ -1,5 +1,6 @@
 ghost use Rattle.std.specs.Prelude.{◌≡◌, ◌++◌, ◌+◌, ◌<◌, ◌^◌, length, replicate, IfOk, OnOk};
-ghost use Rattle.twin_jobs.specs.Order.{sides_in, others_in};
+ghost use Rattle.twin_script.specs.TwinScripts.{sides_in};
+ghost use Rattle.twin_jobs.specs.Order.{others_in};
 
 use std::alloc::{AllocError, Global};
 use twin_script::{Side, TwinTurn};

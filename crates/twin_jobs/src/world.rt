@@ -9,7 +9,7 @@ use crate::order::sides_of;
 use crate::pair::{Pair, paired};
 use crate::played::{TwinPlayed, left_by};
 use job_actor::Works;
-use job_model::{EventEnd, PickList, Script};
+use job_model::PickList;
 use job_side::{Shared, picks_in};
 use s3_service::Service;
 use s3_types::{Journal, let_go};
@@ -75,7 +75,7 @@ impl<W: Works> TwinWorld<W> {
     }
 
     /// The side whose event is next, or None where the order is used up. Takes no memory.
-    pub fn next(&self) -> Option<Side>
+    fn next(&self) -> Option<Side>
         ensures { result ≡ slice_get self.now.sides (played self.now) }
     {
         self.pair.next()
@@ -107,27 +107,11 @@ impl<W: Works> TwinWorld<W> {
         }
     }
 
-    /// What holds of every world of two jobs.
-    pub fn keeps(&self)
-        ensures { Keeps self.now }
-    {
-        W::laws();
-        twin_safety::shared();
-        let _ = &self.pair;
-    }
-
     /// Every sending so far, in order. Takes no memory.
     pub fn journal(&self) -> &Journal
         ensures { result.now.entries ≡ self.now.journal }
     {
         &self.pair.body.shared.journal
-    }
-
-    /// A side's script. Takes no memory.
-    pub fn script(&self, side: Side) -> &Script
-        ensures { result.now ≡ (job_of self.now side).script }
-    {
-        &self.pair.side(side).script
     }
 
     /// The attempts whose sets the commit of a side's job has read, by task. Takes no memory.
@@ -136,13 +120,6 @@ impl<W: Works> TwinWorld<W> {
     {
         let side = self.pair.side(side);
         picks_in(&side.hands[0], &side.picks)
-    }
-
-    /// The ends of a side's events so far. Takes no memory.
-    pub fn ends(&self, side: Side) -> &[EventEnd]
-        ensures { result.now ≡ (job_of self.now side).ends }
-    {
-        self.pair.side(side).ends.as_slice()
     }
 
     /// The status that is due by a side's ends so far: 0, 1, 8 or 9. Takes no memory.

@@ -5,10 +5,11 @@ use Rattle.job_spec.specs.Prelude.{Event, EventEnd}
 use Rattle.job_spec.specs.ReportText.{event_line, event_lines}
 use Rattle.proof_base.proofs.Common.{drop-drop, length-map}
 use Rattle.std.proofs.lemmas.List.Concat.{flat_map-append}
+use Rattle.twin_script.specs.TwinScripts.{sides_in}
 use Rattle.twin_script.specs.declared.turns.Side.{Side}
 use Rattle.twin_script.specs.declared.turns.Side.TheVariants.{First, Second}
 use Rattle.twin_script.specs.declared.turns.TwinTurn.{TwinTurn}
-use Rattle.twin_report.specs.TwinText.{letter, played_line, in_turn, sides_of}
+use Rattle.twin_report.specs.TwinText.{letter, played_line, in_turn}
 use Rattle.twin_report.specs.Left.{next_lines, left_lines}
 use Rattle.twin_report.proofs.Fronts.{zip_take, zip_drop, length_zip, take_same, drop_same, numbered_on}
 
@@ -77,10 +78,10 @@ first_left xs ys turn rest first second next side within goes =
     let length_is = turn_length xs first turn.count next within goes in
     let number : next + second + 1 ≡ first + second + 1 + length part = omega (arith, length_is) in
     let told = λ (l : List (Side × (Event × EventEnd))). flat_map played_line (enumerate_from (first + second + 1) l) in
-    ap (λ s. told (in_turn (replicate turn.count s ++ sides_of rest) (drop first xs) here)) side
-    ∙ ap told (first_in_turn turn.count (sides_of rest) (drop first xs) here)
-    ∙ side_and_more First (first + second + 1) (next + second + 1) part (in_turn (sides_of rest) (drop turn.count (drop first xs)) here) number
-    ∙ ap (λ l. flat_map (event_line (letter First)) (enumerate_from (first + second + 1) part) ++ flat_map played_line (enumerate_from (next + second + 1) (in_turn (sides_of rest) l here))) (turn_rest xs first turn.count next within goes)
+    ap (λ s. told (in_turn (replicate turn.count s ++ sides_in rest) (drop first xs) here)) side
+    ∙ ap told (first_in_turn turn.count (sides_in rest) (drop first xs) here)
+    ∙ side_and_more First (first + second + 1) (next + second + 1) part (in_turn (sides_in rest) (drop turn.count (drop first xs)) here) number
+    ∙ ap (λ l. flat_map (event_line (letter First)) (enumerate_from (first + second + 1) part) ++ flat_map played_line (enumerate_from (next + second + 1) (in_turn (sides_in rest) l here))) (turn_rest xs first turn.count next within goes)
     ∙ ap (λ s. next_lines s (first + second + 1) first turn.count xs ++ left_lines rest next second xs ys) (sym side)
 
 second_left : (xs ys : List (Event × EventEnd)) (turn : TwinTurn) (rest : List TwinTurn) (first second next : ℕ) → turn.side ≡ Second → second ≤ length ys → next ≡ second + min turn.count (length ys - second)
@@ -91,10 +92,10 @@ second_left xs ys turn rest first second next side within goes =
     let length_is = turn_length ys second turn.count next within goes in
     let number : first + next + 1 ≡ first + second + 1 + length part = omega (arith, length_is) in
     let told = λ (l : List (Side × (Event × EventEnd))). flat_map played_line (enumerate_from (first + second + 1) l) in
-    ap (λ s. told (in_turn (replicate turn.count s ++ sides_of rest) here (drop second ys))) side
-    ∙ ap told (second_in_turn turn.count (sides_of rest) here (drop second ys))
-    ∙ side_and_more Second (first + second + 1) (first + next + 1) part (in_turn (sides_of rest) here (drop turn.count (drop second ys))) number
-    ∙ ap (λ l. flat_map (event_line (letter Second)) (enumerate_from (first + second + 1) part) ++ flat_map played_line (enumerate_from (first + next + 1) (in_turn (sides_of rest) here l))) (turn_rest ys second turn.count next within goes)
+    ap (λ s. told (in_turn (replicate turn.count s ++ sides_in rest) here (drop second ys))) side
+    ∙ ap told (second_in_turn turn.count (sides_in rest) here (drop second ys))
+    ∙ side_and_more Second (first + second + 1) (first + next + 1) part (in_turn (sides_in rest) here (drop turn.count (drop second ys))) number
+    ∙ ap (λ l. flat_map (event_line (letter Second)) (enumerate_from (first + second + 1) part) ++ flat_map played_line (enumerate_from (first + next + 1) (in_turn (sides_in rest) here l))) (turn_rest ys second turn.count next within goes)
     ∙ ap (λ s. next_lines s (first + second + 1) second turn.count ys ++ left_lines rest first next xs ys) (sym side)
 
 -- ---- once a turn is written

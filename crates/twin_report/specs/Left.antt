@@ -3,10 +3,11 @@ use Rattle.std.specs.Prelude.{ℕ, ◌+◌, ◌≤◌, min, List, length, take, 
 use Rattle.job_model.specs.Prelude.{zip, enumerate_from, flat_map}
 use Rattle.job_spec.specs.Prelude.{Event, EventEnd}
 use Rattle.job_spec.specs.ReportText.{event_line}
+use Rattle.twin_script.specs.TwinScripts.{sides_in}
 use Rattle.twin_script.specs.declared.turns.Side.{Side}
 use Rattle.twin_script.specs.declared.turns.TwinTurn.{TwinTurn}
 use Rattle.twin_report.specs.declared.played.Ended.{Ended}
-use Rattle.twin_report.specs.TwinText.{letter, played_line, in_turn, sides_of}
+use Rattle.twin_report.specs.TwinText.{letter, played_line, in_turn}
 
 -- events with their ends
 abbrev pub ended_in : Ended → List (Event × EventEnd)
@@ -28,4 +29,4 @@ next_lines side n told count xs = flat_map (event_line (letter side)) (enumerate
 -- the lines of turns behind the first events of both
 abbrev pub left_lines : List TwinTurn → (first second : ℕ) → (firsts seconds : List (Event × EventEnd)) → List ℕ
 left_lines order first second firsts seconds =
-    flat_map played_line (enumerate_from (first + second + 1) (in_turn (sides_of order) (drop first firsts) (drop second seconds)))
+    flat_map played_line (enumerate_from (first + second + 1) (in_turn (sides_in order) (drop first firsts) (drop second seconds)))

@@ -1,9 +1,10 @@
 -- The text of a report of two jobs: the lines of a job's report, each with the letter of its side.
-use Rattle.std.specs.Prelude.{ℕ, List, [], ◌∷◌, ◌++◌, replicate, codes}
+use Rattle.std.specs.Prelude.{ℕ, List, [], ◌∷◌, ◌++◌, codes}
 use Rattle.job_model.specs.Prelude.{zip, enumerate_from, flat_map, Script}
 use Rattle.job_spec.specs.Prelude.{Event, EventEnd, Pick}
 use Rattle.job_spec.specs.ReportText.{event_line, pick_line, actor_lines, closing}
 use Rattle.twin_script.specs.Print.{side_word}
+use Rattle.twin_script.specs.TwinScripts.{sides_in}
 use Rattle.twin_script.specs.declared.turns.Side.{Side}
 use Rattle.twin_script.specs.declared.turns.Side.TheVariants.{First, Second}
 use Rattle.twin_script.specs.declared.turns.TwinTurn.{TwinTurn}
@@ -29,10 +30,6 @@ letter side = side_word side ++ codes " "
 abbrev pub ended_of : Told → List (Event × EventEnd)
 ended_of side = zip side.script.events side.ends
 
--- the side of each event that turns ask for
-abbrev pub sides_of : List TwinTurn → List Side
-sides_of order = flat_map (λ turn. replicate turn.count turn.side) order
-
 -- of each side in its turn the next one of its list, if one is left
 abbrev pub in_turn : {A : Type 0} → List Side → List A → List A → List (Side × A)
 in_turn [] xs ys = []
@@ -47,7 +44,7 @@ played_line p = event_line (letter p.1.0) (p.0, p.1.1)
 
 -- a line for each event that was played, in the order of the turns
 abbrev pub played_lines : List TwinTurn → (firsts seconds : List (Event × EventEnd)) → List ℕ
-played_lines order firsts seconds = flat_map played_line (enumerate_from 1 (in_turn (sides_of order) firsts seconds))
+played_lines order firsts seconds = flat_map played_line (enumerate_from 1 (in_turn (sides_in order) firsts seconds))
 
 -- ---- the whole
 

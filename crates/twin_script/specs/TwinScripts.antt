@@ -1,5 +1,5 @@
 -- Two scripts and the order of their turns.
-use Rattle.std.specs.Prelude.{◌≡◌, ◌≢◌, ℕ, zero, suc, ◌≤◌, Bool, true, false, List, length, sum_by, refl, if◌then◌else◌}
+use Rattle.std.specs.Prelude.{◌≡◌, ◌≢◌, ℕ, zero, suc, ◌≤◌, Bool, true, false, List, length, sum_by, flat_map, replicate, refl, if◌then◌else◌}
 use Rattle.std.specs.FinMap as map
 use Rattle.proof_base.specs.Prelude.{AllByRecursion}
 use Rattle.s3_types.specs.Prelude.{Coded, code_by, coded×, coded_ℕ, coded_list}
@@ -50,6 +50,10 @@ pub record AreTwins (t : Twins) : Type 0 where
   pub turns : AllByRecursion IsTurn t.order
   pub first_events : sum_by first_count t.order ≤ length t.first.events
   pub second_events : sum_by second_count t.order ≤ length t.second.events
+
+-- the sides of the events that an order asks for, one after another
+abbrev pub sides_in : List TwinTurn → List Side
+sides_in = flat_map (λ t. replicate t.count t.side)
 
 -- sides by number
 abbrev pub side_number : Side → ℕ
