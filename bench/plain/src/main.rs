@@ -4,6 +4,7 @@
 mod attempt;
 mod disk;
 mod json;
+mod load;
 mod md5;
 mod store;
 
@@ -91,10 +92,10 @@ pub const DEST: &str = "gen";
 
 fn main() {
     let words: Vec<String> = std::env::args().skip(1).collect();
-    if let [command, from, to] = &words[..] {
-        if command == "disk" {
-            return disk::copy_log(from, to).unwrap();
-        }
+    match &words[..] {
+        [command, from, to] if command == "disk" => return disk::copy_log(from, to).unwrap(),
+        [command, path] if command == "load" => return load::load(path),
+        _ => {}
     }
     let words: Vec<u64> = words.iter().map(|it| it.parse().unwrap()).collect();
     let (seed, tasks, files) = (words[0], words[1], words[2]);
