@@ -82,12 +82,12 @@ pub fn ask(
     match stage {
         Stage::Waiting => Ok(None),
         Stage::Putting => {
-            let bytes = queue.first()?;
+            let bytes = queue.first(alloc)?;
             Ok(Some(Request::put_object(bucket, key, &bytes, None)?))
         }
         Stage::Beginning => Ok(Some(Request::create_upload(bucket, key)?)),
         Stage::Sending => {
-            let bytes = queue.first()?;
+            let bytes = queue.first(alloc)?;
             let number = tags.len() as u32 + 1;
             Ok(Some(Request::upload_part(bucket, key, upload, number, &bytes)?))
         }

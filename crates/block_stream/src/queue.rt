@@ -36,12 +36,12 @@ impl Queue {
     }
 
     /// The first block, which is shared, or no bytes where none waits.
-    pub fn first(&self) -> Result<Bytes, AllocError>
+    pub fn first(&self, alloc: Global) -> Result<Bytes, AllocError>
         ensures { IfOk result (λ bytes. bytes ≡ first_of self.now) }
     {
         match self.blocks.front() {
             Some(block) => block.clone(),
-            None => Ok(Bytes::empty()),
+            None => Bytes::empty(alloc),
         }
     }
 

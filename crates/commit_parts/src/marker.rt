@@ -35,7 +35,7 @@ pub fn relative(alloc: Global, dest: &S3Path, key: &Key) -> Result<Text, AllocEr
 {
     match behind(dest.key().as_str(), key.as_text().as_str()) {
         Some(path) => Text::copied(alloc, path),
-        None => Ok(Text::empty()),
+        None => Text::empty(alloc),
     }
 }
 

@@ -43,13 +43,8 @@ fn key_request(
         (below dest.now.key (partition.now ++ codes "/")) false [] 1)) }
 {
     let prefix = partition_prefix(alloc, dest, partition)?;
-    match Request::list_page(
-        dest.bucket(),
-        &prefix,
-        false,
-        &Text::empty(),
-        PageLimit::new(1),
-    ) {
+    let after = Text::empty(alloc)?;
+    match Request::list_page(dest.bucket(), &prefix, false, &after, PageLimit::new(1)) {
         Ok(request) => Ok(Some(request)),
         Err(error) => Err(error),
     }

@@ -11,15 +11,12 @@ use crate::names::CopyNames;
 use crate::parts::chosen;
 use bucket_ops::{Look, Phases, seen_in};
 use bucket_walks::fits;
-use fs_ops::{Climb, Climbed};
+use fs_ops::{Climb, Climbed, look_at_bucket};
 use fs_rename::{CopyStep, Copying};
 use fs_tree::{CopyCount, CopyRefusal};
 use list_walk::{KeyWalk, keys_behind};
 use operations::Step;
-use s3_types::{
-    Bucket, Bytes, Key, KeyList, LengthHeader, PageEntry, PageLimit, Reply, Request, Text,
-    copied_keys,
-};
+use s3_types::{Bucket, Bytes, Key, KeyList, LengthHeader, PageEntry, Reply, Request, copied_keys};
 use std::alloc::{AllocError, Global};
 
 /// The keys of a source and their new keys: those whose new key stands, and those whose new key is absent.
@@ -71,18 +68,12 @@ pub enum CopyStage {
 type Answer = Result<CopyCount, CopyRefusal>;
 
 /// The reading of the first of these keys. Where there is none, the bucket is looked at.
-fn read_of(bucket: &Bucket, keys: &[Key]) -> Result<Request, AllocError>
+fn read_of(alloc: Global, bucket: &Bucket, keys: &[Key]) -> Result<Request, AllocError>
     ensures { IfOk result (λ request. request ≡ request_of bucket.now (read_of keys.now)) }
 {
     match keys.first() {
         Some(key) => Request::get_object(bucket, key),
-        None => Request::list_page(
-            bucket,
-            &Text::empty(),
-            false,
-            &Text::empty(),
-            PageLimit::new(1),
-        ),
+        None => look_at_bucket(alloc, bucket),
     }
 }
 
@@ -352,12 +343,20 @@ impl Phases for CopyNames {
             CopyStage::Up { climb, .. } => climb.request(bucket),
             CopyStage::WalkTarget { walk, .. } => walk.request(bucket, self.target.prefix()),
             CopyStage::Source { parts, done } => {
-                read_of(bucket, keys_behind(parts.stood.as_slice(), *done))
+                read_of(
+                    self.alloc,
+                    bucket,
+                    keys_behind(parts.stood.as_slice(), *done),
+                )
             }
             CopyStage::Target { parts, done, .. } => {
-                read_of(bucket, keys_behind(parts.stood_at.as_slice(), *done))
+                read_of(
+                    self.alloc,
+                    bucket,
+                    keys_behind(parts.stood_at.as_slice(), *done),
+                )
             }
-            CopyStage::Copy { copying, .. } => copying.request(bucket),
+            CopyStage::Copy { copying, .. } => copying.request(self.alloc, bucket),
         }
     }
 

@@ -15,7 +15,7 @@ const ONE_BYTE: [u8; 17] = *b"\0\0\0\0\0\0\0\0\0\0\0\0\0\0\0\x01x";
 #[derive(Drop)]
 pub struct Given {
     pub words: Vec<Text>,
-    pub input: Bytes,
+    pub input: Vec<u8>,
     pub file: Option<Bytes>,
     pub alloc: Global,
 }
@@ -25,7 +25,7 @@ impl Given {
     pub fn new(alloc: Global) -> Given {
         Given {
             words: Vec::new(alloc),
-            input: Bytes::empty(),
+            input: Vec::new(alloc),
             file: None,
             alloc,
         }
@@ -42,7 +42,7 @@ pub fn words_in(alloc: Global, line: &str) -> Result<Vec<Text>, AllocError> {
 }
 
 /// The input that a text stands for.
-pub fn input_in(alloc: Global, text: &str) -> Result<Bytes, AllocError> {
+pub fn input_in(alloc: Global, text: &str) -> Result<Vec<u8>, AllocError> {
     let mut bytes = Vec::new(alloc);
     for b in text.as_bytes() {
         match *b {
@@ -51,7 +51,7 @@ pub fn input_in(alloc: Global, text: &str) -> Result<Bytes, AllocError> {
             other => bytes.push(other)?,
         }
     }
-    Bytes::new(alloc, bytes)
+    Ok(bytes)
 }
 
 /// The file that hex digits spell, or none where there are no digits.

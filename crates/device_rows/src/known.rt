@@ -10,7 +10,7 @@ use store_image::{decode, encode};
 /// What a run in which nothing failed said and left, and the images of its store before its first request and after each.
 #[derive(Drop)]
 pub struct Known {
-    pub text: Bytes,
+    pub text: Vec<u8>,
     pub file: Option<Bytes>,
     pub images: Sequence<Bytes>,
 }
@@ -19,7 +19,7 @@ impl Known {
     /// Before a run is known: no text, no file and no images.
     pub fn new(alloc: Global) -> Known {
         Known {
-            text: Bytes::empty(),
+            text: Vec::new(alloc),
             file: None,
             images: Sequence::new(alloc),
         }
@@ -34,7 +34,7 @@ fn base_of(alloc: Global, file: &Bytes) -> Result<Bytes, AllocError> {
             let_go(held);
             base
         }
-        Err(LogFault::Bad(_)) => Ok(Bytes::empty()),
+        Err(LogFault::Bad(_)) => Bytes::empty(alloc),
         Err(LogFault::NoMemory) => Err(AllocError),
     }
 }
@@ -48,10 +48,10 @@ fn opening(
     match (before, after) {
         (Some(file), _) => match loaded_image(alloc, file)? {
             Some(image) => Ok(image),
-            None => Ok(Bytes::empty()),
+            None => Bytes::empty(alloc),
         },
         (None, Some(file)) => base_of(alloc, file),
-        (None, None) => Ok(Bytes::empty()),
+        (None, None) => Bytes::empty(alloc),
     }
 }
 
@@ -123,6 +123,6 @@ pub fn known_of(
     let file = played.shelf.disk().crash(Choice::Lost)?;
     let image = opening(alloc, before, &file)?;
     let images = images_from(alloc, &image, played.report.journal.as_slice())?;
-    let text = played.out.bytes().clone()?;
+    let text = Vec::from_slice(alloc, played.out.bytes())?;
     Ok(Known { text, file, images })
 }

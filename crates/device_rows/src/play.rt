@@ -1,5 +1,6 @@
 use crate::given::Given;
 use folder_log::{LogShelf, MemDisk};
+use s3_types::Bytes;
 use s3a_top::{Report, run};
 use shelf::{CallList, MemSink, MemSource};
 use std::alloc::{AllocError, Global};
@@ -67,7 +68,7 @@ pub fn play(given: &Given, wrong: Wrong) -> Result<Played, AllocError> {
     let source_fails = calls_of(alloc, wrong.source())?;
     let disk_fails = calls_of(alloc, wrong.disk())?;
     let sink_fails = calls_of(alloc, wrong.sink())?;
-    let bytes = given.input.clone()?;
+    let bytes = Bytes::from_slice(alloc, &given.input)?;
     let file = given.file.clone()?;
     let mut input = MemSource::new(bytes, source_fails);
     let mut shelf = LogShelf::new(alloc, MemDisk::new(alloc, file, disk_fails, wrong.stop()));

@@ -52,11 +52,7 @@ fn put_left(
 fn line_of(alloc: Global, known: &Known, played: &Played) -> Result<String, AllocError> {
     let mut line = String::new(alloc);
     put_report(&mut line, &played.report)?;
-    put_said(
-        &mut line,
-        played.out.bytes().as_slice(),
-        known.text.as_slice(),
-    )?;
+    put_said(&mut line, played.out.bytes(), known.text.as_slice())?;
     put_left(alloc, &mut line, known, played.shelf.disk())?;
     Ok(line)
 }

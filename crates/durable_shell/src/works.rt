@@ -61,11 +61,14 @@ fn init_work(alloc: Global, minimum: Option<u64>, held: Held) -> Result<Work, Al
     ensures { IfOk result (λ work. work_in work ≡ init_work minimum held) }
 {
     match held {
-        Held::Nothing => Ok(Work::Saves {
-            opening: Service::new(alloc, minimum.unwrap_or(MOST_MINIMUM)),
-            text: Bytes::empty(),
-            sent: Journal::new(alloc),
-        }),
+        Held::Nothing => {
+            let text = Bytes::empty(alloc)?;
+            Ok(Work::Saves {
+                opening: Service::new(alloc, minimum.unwrap_or(MOST_MINIMUM)),
+                text,
+                sent: Journal::new(alloc),
+            })
+        }
         Held::Store(service) => {
             let_go(service);
             exists(alloc)

@@ -10,7 +10,7 @@ ghost use Rattle.bucket_walks.specs.Walking.{fits};
 ghost use Rattle.bucket_walks.specs.Sweeping.{sweep_asks};
 ghost use Rattle.fs_ops.specs.code.Steps.{goes_by};
 
-use crate::place::Place;
+use crate::place::{Place, first_key, put_empty};
 use bucket_ops::{Look, Phases, seen_in};
 use bucket_walks::fits;
 use dir_markers::after_delete;
@@ -18,7 +18,7 @@ use fs_tree::FsRefusal;
 use list_walk::{AllKeys, text_of};
 use operations::Step;
 use path_keys::S3Path;
-use s3_types::{Bucket, Bytes, Key, PageEntry, PageLimit, Reply, Request, Text};
+use s3_types::{Bucket, Key, PageEntry, PageLimit, Reply, Request, Text};
 use std::alloc::{AllocError, Global};
 use std::marker::Model;
 
@@ -225,16 +225,8 @@ impl Phases for DeletePath {
             DeleteStage::Below => self.place.below(bucket, PageLimit::new(2)),
             DeleteStage::DropMarker => self.place.drop_marker(bucket),
             DeleteStage::Sweep(sweep) => sweep.request(self.alloc, bucket, self.place.prefix()),
-            DeleteStage::Parent(marker) => Request::list_page(
-                bucket,
-                marker.as_text(),
-                false,
-                &Text::empty(),
-                PageLimit::new(1),
-            ),
-            DeleteStage::PutMarker(marker) => {
-                Request::put_object(bucket, marker, &Bytes::empty(), None)
-            }
+            DeleteStage::Parent(marker) => first_key(self.alloc, bucket, marker.as_text()),
+            DeleteStage::PutMarker(marker) => put_empty(self.alloc, bucket, marker),
         }
     }
 

@@ -38,6 +38,6 @@ pub use climb::{Climb, Climbed};
 pub use delete::{DeletePath, marker_above};
 pub use list::{ListDir, last_element, rest_of};
 pub use make_dirs::MakeDirs;
-pub use place::Place;
+pub use place::{Place, first_key, look_at_bucket, put_empty};
 pub use read::ReadFile;
 pub use stat::Stat;

@@ -1,4 +1,6 @@
-ghost use Rattle.std.specs.Prelude.{◌≡◌, ◌∷◌, [], Some, IfOk, OnOk, Err, option_map};
+ghost use Rattle.std.specs.Prelude.{◌≡◌, ◌==◌, ◌∷◌, [], true, length, Some, IfOk, OnOk, Err, option_map};
+ghost use Rattle.s3_types.specs.Pages.{text_in};
+ghost use Rattle.bucket_ops.specs.Asks.{request_of, Page};
 ghost use Rattle.fs_tree.specs.Answers.{Lists};
 ghost use Rattle.fs_tree.specs.Changes.{own_name};
 ghost use Rattle.fs_tree.specs.declared.answers.FsRefusal.TheVariants.{NoSuchBucket};
@@ -18,13 +20,63 @@ use s3_types::{Bucket, PageEntry, PageLimit, Reply, Request, Text};
 use std::alloc::{AllocError, Global};
 use std::marker::Model;
 
+/// The text of the last entry so far, which is empty where there was none.
+#[derive(Drop)]
+pub struct Mark {
+    last: Option<Text>,
+}
+
+impl Model for Mark {
+    ghost use Rattle.std.specs.Prelude.{ℕ, List, []};
+    ghost use Rattle.std.specs.Option.{unwrap_or};
+
+    ghost Value = { List ℕ };
+
+    ghost view = { λ m. unwrap_or m.last [] };
+}
+
+impl Mark {
+    fn of(entry: &PageEntry) -> Result<Mark, AllocError>
+        ensures { IfOk result (λ m. m ≡ text_in entry.now) }
+    {
+        Ok(Mark {
+            last: Some(text_of(entry).clone()?),
+        })
+    }
+
+    fn is_empty(&self) -> bool
+        ensures { result ≡ (length self.now == 0) }
+    {
+        match &self.last {
+            Some(text) => text.as_bytes().is_empty(),
+            None => true,
+        }
+    }
+}
+
+/// The request for a page of children behind a mark.
+fn page_behind(
+    alloc: Global,
+    bucket: &Bucket,
+    prefix: &Text,
+    mark: &Mark,
+) -> Result<Request, AllocError>
+    ensures { IfOk result (λ request. request ≡ request_of bucket.now (Page prefix.now true mark.now 1000)) }
+{
+    let limit = PageLimit::new(PageLimit::MOST);
+    match &mark.last {
+        Some(text) => Request::list_page(bucket, prefix, true, text, limit),
+        None => Request::list_page(bucket, prefix, true, &Text::empty(alloc)?, limit),
+    }
+}
+
 /// Where the listing of a directory stands.
 #[derive(Drop)]
 pub enum ListStage {
     /// Whether a file stands at the path.
     Here,
     /// The children that were found, and the text behind which the next page begins.
-    Pages { found: DirList, mark: Text },
+    Pages { found: DirList, mark: Mark },
 }
 
 /// The children of a directory, each once, ordered by the bytes of their names with a `/` behind a
@@ -149,16 +201,16 @@ fn add_all(
     alloc: Global,
     prefix: &Text,
     found: &mut DirList,
-    mark: Text,
+    mark: Mark,
     entries: &[PageEntry],
-) -> Result<Text, AllocError>
+) -> Result<Mark, AllocError>
     ensures found { OnOk result (found.new ≡ all_added prefix.now found.old entries.now) }
     ensures mark { IfOk result (λ last. last ≡ last_text mark entries.now) }
 {
     let mut last = mark;
     for entry in entries {
         add(alloc, prefix, found, entry)?;
-        last = text_of(entry).clone()?;
+        last = Mark::of(entry)?;
     }
     Ok(last)
 }
@@ -188,7 +240,7 @@ impl ListDir {
     {
         ListStage::Pages {
             found: DirList::new(self.alloc),
-            mark: Text::empty(),
+            mark: Mark { last: None },
         }
     }
 
@@ -212,12 +264,12 @@ impl ListDir {
         }
     }
 
-    fn paged(&self, more: bool, found: DirList, mark: Text) -> Step<ListStage, Answer>
+    fn paged(&self, more: bool, found: DirList, mark: Mark) -> Step<ListStage, Answer>
         ensures { result ≡ paged self.now more found mark }
     {
         if more {
             Step::Next(ListStage::Pages { found, mark })
-        } else if mark.as_bytes().is_empty() && !self.place.is_root() {
+        } else if mark.is_empty() && !self.place.is_root() {
             Step::End(Err(FsRefusal::NotFound))
         } else {
             Step::End(Ok(found))
@@ -227,7 +279,7 @@ impl ListDir {
     fn on_page(
         &self,
         found: DirList,
-        mark: Text,
+        mark: Mark,
         reply: &Reply,
     ) -> Result<Step<ListStage, Answer>, AllocError>
         ensures { IfOk result (λ step. step ≡ list.on self.now (ListStage.Pages found mark) reply.now) }
@@ -278,13 +330,9 @@ impl Phases for ListDir {
     fn ask(&self, bucket: &Bucket, stage: &ListStage) -> Result<Request, AllocError> {
         match stage {
             ListStage::Here => self.place.look(bucket),
-            ListStage::Pages { mark, .. } => Request::list_page(
-                bucket,
-                self.place.prefix(),
-                true,
-                mark,
-                PageLimit::new(PageLimit::MOST),
-            ),
+            ListStage::Pages { mark, .. } => {
+                page_behind(self.alloc, bucket, self.place.prefix(), mark)
+            }
         }
     }
 

@@ -1,6 +1,6 @@
-ghost use Rattle.std.specs.Prelude.{◌≡◌, ◌==◌, length, IfOk};
+ghost use Rattle.std.specs.Prelude.{◌≡◌, ◌==◌, [], false, length, IfOk};
 ghost use Rattle.std.specs.Option.{option_copied};
-ghost use Rattle.bucket_ops.specs.Asks.{request_of};
+ghost use Rattle.bucket_ops.specs.Asks.{request_of, Page, Put};
 ghost use Rattle.fs_ops.specs.Places.{key_if, look_asks, get_asks, below_asks, drop_asks, drop_marker_asks, put_marker_asks, prefix_of};
 
 use dir_markers::marker_key;
@@ -16,6 +16,7 @@ pub struct Place {
     key: Option<Key>,
     marker: Option<Key>,
     prefix: Text,
+    alloc: Global,
 }
 
 impl Model for Place {
@@ -32,6 +33,29 @@ impl Model for Place {
         × (is_key p.path ≡ true) };
 }
 
+/// The request for the first key that begins with this prefix; for the bucket, where that is the empty text.
+pub fn first_key(alloc: Global, bucket: &Bucket, prefix: &Text) -> Result<Request, AllocError>
+    ensures { IfOk result (λ request. request ≡ request_of bucket.now (Page prefix.now false [] 1)) }
+{
+    let after = Text::empty(alloc)?;
+    Request::list_page(bucket, prefix, false, &after, PageLimit::new(1))
+}
+
+/// The look at a bucket.
+pub fn look_at_bucket(alloc: Global, bucket: &Bucket) -> Result<Request, AllocError>
+    ensures { IfOk result (λ request. request ≡ request_of bucket.now (Page [] false [] 1)) }
+{
+    first_key(alloc, bucket, &Text::empty(alloc)?)
+}
+
+/// The put of a marker, which has no bytes.
+pub fn put_empty(alloc: Global, bucket: &Bucket, marker: &Key) -> Result<Request, AllocError>
+    ensures { IfOk result (λ request. request ≡ request_of bucket.now (Put marker.now [])) }
+{
+    let bytes = Bytes::empty(alloc)?;
+    Request::put_object(bucket, marker, &bytes, None)
+}
+
 impl Place {
     /// The place of a path.
     pub fn of(alloc: Global, path: &S3Path) -> Result<Place, AllocError>
@@ -43,7 +67,8 @@ impl Place {
                 path: text,
                 key: None,
                 marker: None,
-                prefix: Text::empty(),
+                prefix: Text::empty(alloc)?,
+                alloc,
             });
         }
         let marker = marker_key(alloc, path)?;
@@ -53,6 +78,7 @@ impl Place {
             path: text,
             marker: Some(marker),
             prefix,
+            alloc,
         })
     }
 
@@ -81,7 +107,8 @@ impl Place {
     pub fn below(&self, bucket: &Bucket, limit: PageLimit) -> Result<Request, AllocError>
         ensures { IfOk result (λ request. request ≡ request_of bucket.now (below_asks self.now limit)) }
     {
-        Request::list_page(bucket, &self.prefix, false, &Text::empty(), limit)
+        let after = Text::empty(self.alloc)?;
+        Request::list_page(bucket, &self.prefix, false, &after, limit)
     }
 
     /// The request whether a file stands there; at the root, whether there is the bucket.
@@ -129,7 +156,7 @@ impl Place {
         ensures { IfOk result (λ request. request ≡ request_of bucket.now (put_marker_asks self.now)) }
     {
         match &self.marker {
-            Some(marker) => Request::put_object(bucket, marker, &Bytes::empty(), None),
+            Some(marker) => put_empty(self.alloc, bucket, marker),
             None => self.below(bucket, PageLimit::new(1)),
         }
     }

@@ -1,11 +1,11 @@
 -- New keys are keys.
-use Rattle.std.proofs.Common.{◌≡◌, ℕ, zero, suc, ◌-◌, ◌≤◌, ◌&&◌, nat_eq, nat_lt, cond, Bool, true, false, List, [], ◌∷◌, ◌++◌, length, drop, Some, None, refl, sym, ap, ◌∙◌, arith, length-append, append_assoc, if◌then◌else◌}
+use Rattle.std.proofs.Common.{◌≡◌, ℕ, zero, suc, ◌-◌, ◌≤◌, ◌&&◌, nat_eq, nat_lt, cond, Bool, true, false, List, [], ◌∷◌, ◌++◌, length, drop, Some, None, Result, Ok, Err, refl, sym, ap, ◌∙◌, arith, length-append, append_assoc, if◌then◌else◌}
 use Rattle.fs_ops.specs.Prelude.{slice_get, starts_with, are_elements, is_key_path, trimmed, marker_of, is_marker, is_too_long, rest_of}
 use Rattle.path_keys.proofs.Common.{le-leb, nat_tests, Decides-eqb, starts_is, some_is, none_some}
 use Rattle.path_keys.proofs.Beneath.{elements_append, key_path_from}
 use Rattle.fs_tree.proofs.Above.{marker_ends, marker_behind, other_end, cut_elements, key_elements, marker_elements}
 use Rattle.fs_ops.proofs.Showing.{rest_is as rest_follows}
-use Rattle.fs_rename.specs.Keys.{new_by, new_key}
+use Rattle.fs_rename.specs.Keys.{new_by, new_key, fitting, with_front, new_keys}
 
 -- ---- markers and limits
 
@@ -81,3 +81,22 @@ new_legal q from k rest prefix text e m h r a b f =
     let old : k ≡ w.0 ++ 47 ∷ rest = rest_is from k rest r ∙ ap (λ l. l ++ rest) w.1 ∙ append_assoc w.0 (47 ∷ []) rest in
     let new : text ≡ q ++ 47 ∷ rest = b ∙ ap (λ l. l ++ rest) a ∙ append_assoc q (47 ∷ []) rest in
     ap is_key_path new ∙ below_key q w.0 e rest (ap is_key_path (sym old) ∙ h) (ap is_too_long (sym new) ∙ f)
+
+-- ---- one key after another
+
+front_again : (new : List (List ℕ)) (q : List ℕ) (m : Result (List (List ℕ)) (List ℕ)) → with_front new (with_front (q ∷ []) m) ≡ with_front (new ++ q ∷ []) m
+front_again new q (Ok qs) = ap Ok (sym (append_assoc new (q ∷ []) qs))
+front_again new q (Err k) = refl
+
+kept_is : (b : Bool) (q place : List ℕ) → cond b None (Some q) ≡ Some place → (b ≡ false) × (q ≡ place)
+kept_is true q place h = absurd (cc)
+kept_is false q place h = (refl, some_is h)
+
+-- a key that fits is behind the new keys so far
+pub one_more : (from to : List ℕ) (new : List (List ℕ)) (k place : List ℕ) (rest : List (List ℕ)) → fitting (new_key from to k) ≡ Some place
+    → with_front new (new_keys from to (k ∷ rest)) ≡ with_front (new ++ place ∷ []) (new_keys from to rest)
+one_more from to new k place rest h =
+    let q = new_key from to k in
+    let m = new_keys from to rest in
+    let is = kept_is (is_too_long q) q place h in
+    ap (λ b. with_front new (cond b (Err k) (with_front (q ∷ []) m))) is.0 ∙ front_again new q m ∙ ap (λ l. with_front (new ++ l ∷ []) m) is.1

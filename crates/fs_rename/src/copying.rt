@@ -2,9 +2,10 @@ ghost use Rattle.std.specs.Prelude.{◌≡◌, drop, IfOk};
 ghost use Rattle.bucket_ops.specs.Asks.{request_of};
 ghost use Rattle.fs_rename.specs.Copies.{copy_of, copy_asks, has_more, copied_next};
 
+use fs_ops::look_at_bucket;
 use list_walk::keys_behind;
-use s3_types::{Bucket, Key, KeyList, PageLimit, Request, Text};
-use std::alloc::AllocError;
+use s3_types::{Bucket, Key, KeyList, Request};
+use std::alloc::{AllocError, Global};
 
 /// Keys that are copied one by one, in order, and their new keys; so many of them are copied.
 #[derive(Drop)]
@@ -22,17 +23,16 @@ pub enum CopyStep {
 }
 
 /// The copy of the first of these keys. Where there is none, the bucket is looked at.
-fn first_copy(bucket: &Bucket, keys: &[Key], places: &[Key]) -> Result<Request, AllocError>
+fn first_copy(
+    alloc: Global,
+    bucket: &Bucket,
+    keys: &[Key],
+    places: &[Key],
+) -> Result<Request, AllocError>
     ensures { IfOk result (λ request. request ≡ request_of bucket.now (copy_of keys.now places.now)) }
 {
     if keys.is_empty() || places.is_empty() {
-        return Request::list_page(
-            bucket,
-            &Text::empty(),
-            false,
-            &Text::empty(),
-            PageLimit::new(1),
-        );
+        return look_at_bucket(alloc, bucket);
     }
     Request::copy_object(bucket, &keys[0], &places[0])
 }
@@ -50,12 +50,12 @@ impl Copying {
     }
 
     /// The copy of the next key.
-    pub fn request(&self, bucket: &Bucket) -> Result<Request, AllocError>
+    pub fn request(&self, alloc: Global, bucket: &Bucket) -> Result<Request, AllocError>
         ensures { IfOk result (λ request. request ≡ request_of bucket.now (copy_asks self.now)) }
     {
         let keys = keys_behind(self.keys.as_slice(), self.from);
         let places = keys_behind(self.places.as_slice(), self.from);
-        first_copy(bucket, keys, places)
+        first_copy(alloc, bucket, keys, places)
     }
 
     /// Where its reply leads. Takes no memory.

@@ -6,7 +6,7 @@ ghost use Rattle.fs_rename.specs.code.Rename.{inside_of, place_at, asks_at, insi
 
 use crate::Base;
 use crate::stages::Spot;
-use fs_ops::{Place, last_element, marker_above};
+use fs_ops::{Place, first_key, last_element, marker_above};
 use path_keys::S3Path;
 use s3_types::{Bucket, Key, PageLimit, Request, Text};
 use std::alloc::{AllocError, Global};
@@ -81,11 +81,16 @@ fn look(place: &Place, bucket: &Bucket, below: bool) -> Result<Request, AllocErr
 }
 
 /// The same for a path that may be over the limit of keys, by the first key that begins with it.
-fn look_inside(base: &Base, bucket: &Bucket, below: bool) -> Result<Request, AllocError>
+fn look_inside(
+    alloc: Global,
+    base: &Base,
+    bucket: &Bucket,
+    below: bool,
+) -> Result<Request, AllocError>
     ensures { IfOk result (λ request. request ≡ request_of bucket.now (inside_asks base.now below)) }
 {
     let prefix = if below { base.prefix() } else { base.path() };
-    Request::list_page(bucket, prefix, false, &Text::empty(), PageLimit::new(1))
+    first_key(alloc, bucket, prefix)
 }
 
 impl RenameNames {
@@ -155,7 +160,7 @@ impl RenameNames {
             Spot::Target => look(&self.target, bucket, below),
             Spot::Above => look(&self.above, bucket, below),
             Spot::Inside => match &self.to_inside {
-                Some(base) => look_inside(base, bucket, below),
+                Some(base) => look_inside(self.alloc, base, bucket, below),
                 None => look(&self.source, bucket, below),
             },
         }

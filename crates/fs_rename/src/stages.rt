@@ -15,10 +15,11 @@ use crate::names::RenameNames;
 use crate::{Base, CopyStep, Copying};
 use bucket_ops::{Look, Phases, seen_in};
 use bucket_walks::fits;
+use fs_ops::{first_key, put_empty};
 use fs_tree::RenameRefusal;
 use list_walk::{AllKeys, KeyWalk, Sweep, text_of};
 use operations::Step;
-use s3_types::{Bucket, Bytes, Key, KeyList, PageEntry, PageLimit, Reply, Request, Text};
+use s3_types::{Bucket, Key, KeyList, PageEntry, Reply, Request, Text};
 use std::alloc::AllocError;
 
 /// The paths that a renaming looks at: the source, the target, the new place inside the target, and the path above
@@ -402,18 +403,10 @@ impl Phases for RenameNames {
         match stage {
             RenameStage::Look { spot, below, .. } => self.look(bucket, *spot, *below),
             RenameStage::Walk { walk, .. } => walk.request(bucket, self.source.prefix()),
-            RenameStage::Copy(copying) => copying.request(bucket),
+            RenameStage::Copy(copying) => copying.request(self.alloc, bucket),
             RenameStage::Batch(sweep) => sweep.request(self.alloc, bucket, self.source.prefix()),
-            RenameStage::Parent(marker) => Request::list_page(
-                bucket,
-                marker.as_text(),
-                false,
-                &Text::empty(),
-                PageLimit::new(1),
-            ),
-            RenameStage::PutMarker(marker) => {
-                Request::put_object(bucket, marker, &Bytes::empty(), None)
-            }
+            RenameStage::Parent(marker) => first_key(self.alloc, bucket, marker.as_text()),
+            RenameStage::PutMarker(marker) => put_empty(self.alloc, bucket, marker),
         }
     }
 

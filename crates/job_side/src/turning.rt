@@ -20,7 +20,7 @@ fn tell_end(finished: &mut Vec<ActorEnd>, ended: ActorEnd)
     ensures items { finished.new.items ≡ finished.old.items ++ ended ∷ [] }
     ensures capacity { vec_capacity finished.old ≤ vec_capacity finished.new }
 {
-    let _ = finished.push(ended);
+    finished.push_reserved(ended);
 }
 
 impl<W: Works> Body<W> {

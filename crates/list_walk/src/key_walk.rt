@@ -29,12 +29,12 @@ pub(crate) fn key_of(entry: &PageEntry) -> &Key
 }
 
 /// The text of the last of these entries, or the empty text where there is none.
-fn last_text(entries: &[PageEntry]) -> Result<Text, AllocError>
+fn last_text(alloc: Global, entries: &[PageEntry]) -> Result<Text, AllocError>
     ensures { IfOk result (λ last. last ≡ last_of (keys_on entries.now)) }
 {
     match entries.last() {
         Some(entry) => text_of(entry).clone(),
-        None => Ok(Text::empty()),
+        None => Text::empty(alloc),
     }
 }
 
@@ -85,6 +85,7 @@ fn add_page(found: &mut EntryList, reply: &Reply) -> Result<bool, AllocError>
 #[derive(Drop)]
 pub struct KeyWalk {
     entries: EntryList,
+    alloc: Global,
 }
 
 impl Model for KeyWalk {
@@ -106,6 +107,7 @@ impl KeyWalk {
     {
         KeyWalk {
             entries: EntryList::new(alloc),
+            alloc,
         }
     }
 
@@ -128,7 +130,7 @@ impl KeyWalk {
     pub fn request(&self, bucket: &Bucket, prefix: &Text) -> Result<Request, AllocError>
         ensures { IfOk result (λ request. request ≡ page_after bucket.now prefix.now (keys_on self.now)) }
     {
-        let after = last_text(self.entries.as_slice())?;
+        let after = last_text(self.alloc, self.entries.as_slice())?;
         Request::list_page(
             bucket,
             prefix,

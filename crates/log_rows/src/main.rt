@@ -46,6 +46,6 @@ fn show_lines<R: Input + Print + Files<File = File>>(
 
 fn main(rt: HostRuntime) -> Result<()> {
     let alloc = rt.alloc();
-    let mut rows = Rows::new(alloc);
+    let mut rows = Rows::new(alloc)?;
     show_lines(&rt, alloc, &mut rows)
 }

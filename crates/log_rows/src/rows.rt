@@ -61,16 +61,16 @@ fn with_number(alloc: Global, bytes: &[u8], place: usize, number: u64) -> Result
 
 impl Rows {
     /// Before the first row: nothing is given.
-    pub fn new(alloc: Global) -> Rows {
+    pub fn new(alloc: Global) -> Result<Rows> {
         let log = Held {
-            base: Bytes::empty(),
+            base: Bytes::empty(alloc)?,
             changes: Sequence::new(alloc),
         };
-        Rows {
+        Ok(Rows {
             file: None,
             log,
             alloc,
-        }
+        })
     }
 
     fn take(&mut self, words: &str) -> Result<()> {

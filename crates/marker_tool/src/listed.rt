@@ -175,5 +175,6 @@ pub(crate) fn missing_in(
 ) -> Result<KeyList, AllocError>
     ensures { IfOk result (λ keys. keys ≡ missing_in prefix.now entries.now) }
 {
-    missing_from(alloc, prefix, &Text::empty(), entries)
+    let before = Text::empty(alloc)?;
+    missing_from(alloc, prefix, &before, entries)
 }

@@ -9,9 +9,10 @@ ghost use Rattle.marker_tool.specs.Works.{bucket_asks, drops, puts, CleanSends, 
 use crate::listed::{markers_in, missing_in, surplus_in};
 use crate::tool::MarkerTool;
 use crate::work::{Found, MarkerWork};
+use fs_ops::{look_at_bucket, put_empty};
 use fs_tree::MarkerList;
 use list_walk::batch_request;
-use s3_types::{Bucket, Bytes, Key, KeyList, PageEntry, PageLimit, Request, Text};
+use s3_types::{Bucket, Key, KeyList, PageEntry, Request, Text};
 use std::alloc::{AllocError, Global};
 
 /// The work of an audit: markers are told.
@@ -43,19 +44,6 @@ pub type CleanMarkers = MarkerTool<Clean>;
 /// Nothing is put before all keys are listed. Requests as there, and one for each missing one; memory for all
 /// keys, and for all missing markers. (Hadoop, S3A: directory markers, keeping them.)
 pub type FillMarkers = MarkerTool<Fill>;
-
-/// The look at a bucket.
-fn look(bucket: &Bucket) -> Result<Request, AllocError>
-    ensures { IfOk result (λ request. request ≡ request_of bucket.now bucket_asks) }
-{
-    Request::list_page(
-        bucket,
-        &Text::empty(),
-        false,
-        &Text::empty(),
-        PageLimit::new(1),
-    )
-}
 
 /// How many keys, with these.
 fn counted(keys: KeyList) -> Found<u64>
@@ -105,13 +93,8 @@ impl MarkerWork for Audit {
         })
     }
 
-    fn change(
-        &self,
-        _alloc: Global,
-        bucket: &Bucket,
-        _left: &[Key],
-    ) -> Result<Request, AllocError> {
-        look(bucket)
+    fn change(&self, alloc: Global, bucket: &Bucket, _left: &[Key]) -> Result<Request, AllocError> {
+        look_at_bucket(alloc, bucket)
     }
 
     #[tactic(auto, using(crate::proofs::WorkLaws::audit_laws))]
@@ -198,10 +181,10 @@ impl MarkerWork for Fill {
         Ok(counted(missing_in(alloc, prefix, entries)?))
     }
 
-    fn change(&self, _alloc: Global, bucket: &Bucket, left: &[Key]) -> Result<Request, AllocError> {
+    fn change(&self, alloc: Global, bucket: &Bucket, left: &[Key]) -> Result<Request, AllocError> {
         match left.first() {
-            Some(key) => Request::put_object(bucket, key, &Bytes::empty(), None),
-            None => look(bucket),
+            Some(key) => put_empty(alloc, bucket, key),
+            None => look_at_bucket(alloc, bucket),
         }
     }
 

@@ -1,4 +1,3 @@
-pub mod Shared
 pub mod Names
 pub mod Tags
 pub mod Ledger

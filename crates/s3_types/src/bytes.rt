@@ -7,24 +7,23 @@ use std::rc::Rc;
 /// Bytes that never change. A clone shares them and copies none.
 #[derive(Drop)]
 pub struct Bytes {
-    shared: Option<Rc<Vec<u8>>>,
+    shared: Rc<Vec<u8>>,
 }
 
 impl Model for Bytes {
     ghost use Rattle.std.specs.Prelude.{ℕ, List};
-    ghost use Rattle.s3_types.specs.Shared.{shared_bytes};
 
     ghost Value = { List ℕ };
 
-    ghost view = { λ b. shared_bytes b.shared };
+    ghost view = { λ b. b.shared.value.items };
 }
 
 impl Bytes {
-    /// No bytes. Takes no memory.
-    pub fn empty() -> Bytes
-        ensures { result ≡ [] }
+    /// No bytes.
+    pub fn empty(alloc: Global) -> Result<Bytes, AllocError>
+        ensures { IfOk result (λ b. b ≡ []) }
     {
-        Bytes { shared: None }
+        Bytes::new(alloc, Vec::new(alloc))
     }
 
     /// The bytes of a vector, which is kept and not copied.
@@ -32,7 +31,7 @@ impl Bytes {
         ensures { IfOk result (λ b. b ≡ bytes.items) }
     {
         Ok(Bytes {
-            shared: Some(Rc::new(alloc, bytes)?),
+            shared: Rc::new(alloc, bytes)?,
         })
     }
 
@@ -47,10 +46,7 @@ impl Bytes {
     pub fn as_slice(&self) -> &[u8]
         ensures { result.now ≡ self.now }
     {
-        match &self.shared {
-            Some(bytes) => bytes.as_slice(),
-            None => &[],
-        }
+        self.shared.as_slice()
     }
 }
 
@@ -58,11 +54,8 @@ impl Clone for Bytes {
     ghost is_clone = { λ b copy. copy ≡ b };
 
     fn clone(&self) -> Result<Bytes, AllocError> {
-        match &self.shared {
-            Some(bytes) => Ok(Bytes {
-                shared: Some(bytes.clone()?),
-            }),
-            None => Ok(Bytes::empty()),
-        }
+        Ok(Bytes {
+            shared: self.shared.clone()?,
+        })
     }
 }

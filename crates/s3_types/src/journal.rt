@@ -74,7 +74,7 @@ impl Journal {
         requires few { length self.old.entries + 1 < 2 ^ 62 }
         ensures { self.new.entries ≡ self.old.entries ++ entry ∷ [] }
     {
-        let _ = self.entries.push(entry);
+        self.entries.push_reserved(entry);
     }
 
     /// The entries, in the order in which they were sent.

@@ -1,4 +1,4 @@
-ghost use Rattle.std.specs.Prelude.{◌≡◌, ℕ, List, [], IfOk, Some, refl, string_bytes};
+ghost use Rattle.std.specs.Prelude.{◌≡◌, ℕ, List, [], IfOk, refl, string_bytes};
 ghost use Rattle.std.proofs.Common.{rules};
 ghost use Rattle.std.specs.Cmp.Rules.{comparing, hashing};
 ghost use Rattle.proof_base.specs.Order.{text_cmp, text_eq, text_partial_cmp, text_hash, text_per, text_equiv, text_po, text_total, text_ties};
@@ -13,24 +13,23 @@ use std::rc::Rc;
 /// UTF-8 text that never changes, ordered by its bytes. A clone shares it and copies none.
 #[derive(Drop)]
 pub struct Text {
-    shared: Option<Rc<String>>,
+    shared: Rc<String>,
 }
 
 impl Model for Text {
-    ghost use Rattle.std.specs.Prelude.{ℕ, List};
-    ghost use Rattle.s3_types.specs.Shared.{shared_text};
+    ghost use Rattle.std.specs.Prelude.{ℕ, List, string_bytes};
 
     ghost Value = { List ℕ };
 
-    ghost view = { λ t. shared_text t.shared };
+    ghost view = { λ t. string_bytes t.shared.value };
 }
 
 impl Text {
-    /// No text. Takes no memory.
-    pub fn empty() -> Text
-        ensures { result ≡ [] }
+    /// No text.
+    pub fn empty(alloc: Global) -> Result<Text, AllocError>
+        ensures { IfOk result (λ t. t ≡ []) }
     {
-        Text { shared: None }
+        Text::new(alloc, String::new(alloc))
     }
 
     /// The text of a string, which is kept and not copied.
@@ -38,7 +37,7 @@ impl Text {
         ensures { IfOk result (λ t. t ≡ string_bytes text) }
     {
         Ok(Text {
-            shared: Some(Rc::new(alloc, text)?),
+            shared: Rc::new(alloc, text)?,
         })
     }
 
@@ -53,10 +52,7 @@ impl Text {
     pub fn as_str(&self) -> &str
         ensures { result.now ≡ self.now }
     {
-        match &self.shared {
-            Some(text) => text.as_str(),
-            None => "",
-        }
+        self.shared.as_str()
     }
 
     /// The text's bytes.
@@ -78,12 +74,9 @@ impl Clone for Text {
     ghost is_clone = { λ t copy. copy ≡ t };
 
     fn clone(&self) -> Result<Text, AllocError> {
-        match &self.shared {
-            Some(text) => Ok(Text {
-                shared: Some(text.clone()?),
-            }),
-            None => Ok(Text::empty()),
-        }
+        Ok(Text {
+            shared: self.shared.clone()?,
+        })
     }
 }
 

@@ -25,7 +25,7 @@ fn making_said(alloc: Global, why: Option<&str>) -> Result<Said, AllocError>
 {
     match why {
         Some(word) => refusing(alloc, word, None),
-        None => Ok(fine(Bytes::empty())),
+        None => Ok(fine(Bytes::empty(alloc)?)),
     }
 }
 

@@ -34,7 +34,7 @@ fn move_said(alloc: Global, answer: Result<(), RenameRefusal>) -> Result<Said, A
     ensures { IfOk result (λ what. what ≡ said_of_move answer) }
 {
     match answer {
-        Ok(()) => Ok(fine(Bytes::empty())),
+        Ok(()) => Ok(fine(Bytes::empty(alloc)?)),
         Err(refusal) => refused_move(alloc, &refusal),
     }
 }

@@ -72,7 +72,7 @@ pub fn nothing_said(alloc: Global, answer: Result<(), FsRefusal>) -> Result<Said
     ensures { IfOk result (λ what. what ≡ said nothing answer) }
 {
     match answer {
-        Ok(()) => Ok(fine(Bytes::empty())),
+        Ok(()) => Ok(fine(Bytes::empty(alloc)?)),
         Err(refusal) => refused(alloc, &refusal),
     }
 }

@@ -45,7 +45,10 @@ fn read_bytes<Q: Source>(
     ensures counted { CountsReads result (Q.faults input.old) (Q.faults input.new) }
 {
     if !reads_input(command, held) {
-        return Ok(Bytes::empty());
+        return match Bytes::empty(alloc) {
+            Ok(bytes) => Ok(bytes),
+            Err(_) => Err(Stop::NoMemory),
+        };
     }
     match read_input(alloc, input) {
         Ok(bytes) => match Bytes::new(alloc, bytes) {

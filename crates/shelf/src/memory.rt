@@ -6,7 +6,7 @@ ghost use Rattle.shelf.specs.Devices.{Rose};
 use crate::calls::Calls;
 use crate::device::{CallList, Failed, Sink, Source};
 use s3_types::Bytes;
-use std::alloc::{AllocError, Global};
+use std::alloc::Global;
 use std::marker::Model;
 
 /// Copies what fits of the bytes into the buffer's front, and answers how many they are.
@@ -113,10 +113,9 @@ impl Source for SureSource {
 /// A sink in memory, of which the calls that are named fail.
 #[derive(Drop)]
 pub struct MemSink {
-    bytes: Bytes,
+    bytes: Vec<u8>,
     out: usize,
     calls: Calls,
-    alloc: Global,
 }
 
 impl Model for MemSink {
@@ -124,16 +123,7 @@ impl Model for MemSink {
 
     ghost Value = { Written };
 
-    ghost view = { λ s. record { bytes = s.bytes; out = s.out; calls = s.calls } };
-}
-
-/// The bytes with a piece behind them.
-fn extended(alloc: Global, bytes: &Bytes, piece: &[u8]) -> Result<Bytes, AllocError>
-    ensures { IfOk result (λ b. b ≡ bytes.now ++ piece.now) }
-{
-    let mut all = Vec::from_slice(alloc, bytes.as_slice())?;
-    all.extend_from_slice(piece)?;
-    Bytes::new(alloc, all)
+    ghost view = { λ s. record { bytes = s.bytes.items; out = s.out; calls = s.calls } };
 }
 
 impl MemSink {
@@ -142,18 +132,17 @@ impl MemSink {
         ensures { result ≡ record { bytes = []; out = 0; calls = unused fail None } }
     {
         MemSink {
-            bytes: Bytes::empty(),
+            bytes: Vec::new(alloc),
             out: 0,
             calls: Calls::new(fail, None),
-            alloc,
         }
     }
 
     /// What was written.
-    pub fn bytes(&self) -> &Bytes
+    pub fn bytes(&self) -> &[u8]
         ensures { result.now ≡ self.now.bytes }
     {
-        &self.bytes
+        self.bytes.as_slice()
     }
 }
 
@@ -171,16 +160,15 @@ impl Sink for MemSink {
     /// A piece that finds no memory is a fault.
     fn write(&mut self, piece: &[u8]) -> Result<usize, Failed> {
         self.calls.next()?;
-        let Ok(all) = extended(self.alloc, &self.bytes, piece) else {
-            return Err(self.calls.starve());
-        };
-        self.bytes = all;
-        Ok(piece.len())
+        match self.bytes.extend_from_slice(piece) {
+            Ok(()) => Ok(piece.len()),
+            Err(_) => Err(self.calls.starve()),
+        }
     }
 
     fn flush(&mut self) -> Result<(), Failed> {
         self.calls.next()?;
-        self.out = self.bytes.as_slice().len();
+        self.out = self.bytes.len();
         Ok(())
     }
 }

@@ -53,7 +53,7 @@ pub fn part(alloc: Global, bytes: &Bytes, size: u64, behind: u64) -> Result<Byte
         return bytes.clone();
     }
     if start >= whole.len() {
-        return Ok(Bytes::empty());
+        return Bytes::empty(alloc);
     }
     let rest = &whole[start..];
     if rest.len() <= size {

@@ -172,7 +172,8 @@ fn ask_marker(
         (marker_key (task_script plan.now) (who_of plan.now) (path.now, [])) [] (Some length)) }
 {
     let key = marker(alloc, plan, dir, path)?;
-    Request::put_object(dir.bucket(), &key, &Bytes::empty(), Some(length))
+    let bytes = Bytes::empty(alloc)?;
+    Request::put_object(dir.bucket(), &key, &bytes, Some(length))
 }
 
 /// The text of a file's record.
