@@ -1,4 +1,4 @@
-ghost use Rattle.std.specs.Prelude.{◌≡◌, ℕ, List, [], ◌∷◌, ◌++◌, length, OnOk, OnErr};
+ghost use Rattle.std.specs.Prelude.{◌≡◌, ◌<◌, ℕ, List, [], ◌∷◌, ◌++◌, length, OnOk, OnErr, vec_len, vec_capacity};
 
 use std::alloc::{AllocError, Global};
 use std::marker::Model;
@@ -18,6 +18,17 @@ impl<T> Model for Sequence<T> {
     ghost coded = { coded_list T.code };
 
     ghost view = { λ s. s.items.items };
+}
+
+/// Makes room for one more value. Most lists have one, which takes no more than it needs.
+fn make_room<T>(items: &mut Vec<T>) -> Result<(), AllocError>
+    ensures same { items.new.items ≡ items.old.items }
+    ensures room { OnOk result (vec_len items.new < vec_capacity items.new) }
+{
+    if items.is_empty() {
+        return items.reserve_exact(1);
+    }
+    items.reserve(1)
 }
 
 impl<T: Drop> Sequence<T> {
@@ -63,7 +74,8 @@ impl<T: Drop> Sequence<T> {
         ensures ok { OnOk result (self.new ≡ self.old ++ item ∷ []) }
         ensures err { OnErr result (self.new ≡ self.old) }
     {
-        self.items.push(item)?;
+        make_room(&mut self.items)?;
+        self.items.push_reserved(item);
         Ok(())
     }
 }
