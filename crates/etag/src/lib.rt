@@ -11,6 +11,7 @@ ghost use Rattle.std.specs.Prelude.{◌≡◌, ◌≤◌, [], length, true};
 ghost use Rattle.std.specs.List.{list_all};
 ghost use Rattle.std.specs.Result.{result_unwrap_or};
 ghost use Rattle.hex.specs.Hex.{encode_lower, decode_of};
+ghost use Rattle.md5.specs.Md5.{md5};
 ghost use Rattle.s3_types.specs.Tags.{is_hex, digest_of, plain_tag, joined_tag};
 ghost use Rattle.s3_types.specs.declared.limits.TheConstants.{MOST_PARTS};
 
@@ -48,12 +49,26 @@ fn digest_of(tag: &Tag) -> [u8; 16]
     digest_in(tag.digits())
 }
 
+/// The MD5 digest of the bytes of a put or of a part, of which its tag is made. Takes no memory.
+pub fn part_digest(bytes: &[u8]) -> [u8; 16]
+    ensures { result ≡ md5 bytes.now }
+{
+    Md5::digest(bytes)
+}
+
+/// The tag of a put or of a part whose bytes have this digest. Takes no memory.
+pub fn tag_of(digest: &[u8; 16]) -> Tag
+    ensures { result ≡ record { digits = encode_lower digest.now; parts = 0 } }
+{
+    Tag::new(digits_of(digest), 0)
+}
+
 /// The tag of a put or of a part: the MD5 digest of its bytes, with no count of parts. Takes no memory.
 #[tactic(auto, unfolding(s3_types::specs::Tags::plain_tag))]
 pub fn part_tag(bytes: &[u8]) -> Tag
     ensures { result ≡ plain_tag bytes.now }
 {
-    Tag::new(digits_of(&Md5::digest(bytes)), 0)
+    tag_of(&part_digest(bytes))
 }
 
 /// The tag of a completed upload of at most 10,000 parts: the MD5 digest of their tags' digests, one

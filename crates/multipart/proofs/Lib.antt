@@ -1,3 +1,4 @@
 pub mod Keyed
 pub mod Numbered
+pub mod Rows
 pub mod Follow

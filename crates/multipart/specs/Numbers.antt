@@ -1,8 +1,21 @@
 -- The numbers of parts.
-use Rattle.std.specs.Prelude.{◌≡◌, ℕ, true, is_some}
+use Rattle.std.specs.Prelude.{◌≡◌, ℕ, zero, suc, ◌<◌, ◌≤◌, nat_eq, Bool, true, false, List, [], ◌∷◌, is_some}
 use Rattle.s3_types.specs.Prelude.{Parts, is_part_number}
 use Rattle.std.specs.FinMap as fin
 
 -- each part has a number from 1 to 10,000
 abbrev pub AreNumbered : Parts → Type 0
 AreNumbered m = (n : ℕ) → is_some (fin.get m n) ≡ true → is_part_number n ≡ true
+
+-- the numbers before a place are below n, and the one there, if there is one, is not
+abbrev pub IsPlace : {X : Type 0} → ℕ → List (ℕ × X) → ℕ → Type 0
+IsPlace n [] zero = Unit {0}
+IsPlace n [] (suc i) = ⊥
+IsPlace n (e ∷ es) zero = n ≤ e.0
+IsPlace n (e ∷ es) (suc i) = (e.0 < n) × IsPlace n es i
+
+-- whether there is an entry at a place, and it has this number
+abbrev pub is_number_at : {X : Type 0} → List (ℕ × X) → ℕ → ℕ → Bool
+is_number_at [] i n = false
+is_number_at (e ∷ es) zero n = nat_eq e.0 n
+is_number_at (e ∷ es) (suc i) n = is_number_at es i n

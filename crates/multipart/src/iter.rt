@@ -59,7 +59,7 @@ impl<'a> Iterator for UploadEntries<'a> {
 /// Parts in the order of their numbers. Clauses see it as the list of those that are still to come.
 #[derive(Drop)]
 pub struct PartEntries<'a> {
-    rest: Iter<'a, u32, Part>,
+    rest: &'a [(u32, Part)],
 }
 
 impl<'a> Model for PartEntries<'a> {
@@ -67,7 +67,7 @@ impl<'a> Model for PartEntries<'a> {
 
     ghost Value = { List (ℕ × List ℕ) };
 
-    ghost view = { λ e. e.rest };
+    ghost view = { λ e. e.rest.now };
 }
 
 impl<'a> Iterator for PartEntries<'a> {
@@ -78,8 +78,11 @@ impl<'a> Iterator for PartEntries<'a> {
     ghost remaining = { item_count (λ rest. rest) };
 
     fn next(&mut self) -> Option<(u32, &'a Bytes)> {
-        let (number, part) = self.rest.next()?;
-        Some((*number, part.bytes()))
+        let [entry, rest @ ..] = self.rest else {
+            return None;
+        };
+        self.rest = rest;
+        Some((entry.0, entry.1.bytes()))
     }
 }
 
@@ -90,7 +93,7 @@ impl Parts {
         ensures numbers { AllByRecursion (λ e. is_part_number e.0 ≡ true) result }
     {
         PartEntries {
-            rest: self.held.iter(),
+            rest: self.held.as_slice(),
         }
     }
 }

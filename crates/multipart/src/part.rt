@@ -1,34 +1,36 @@
 ghost use Rattle.std.specs.Option.{option_copied, option_map};
-ghost use Rattle.std.specs.Prelude.{◌≡◌, ◌≤◌, ℕ, List, IfOk, OnOk, OnErr, IsSome, true};
+ghost use Rattle.std.specs.Prelude.{◌≡◌, ◌+◌, ◌<◌, ◌≤◌, ℕ, List, IfOk, IfErr, OnOk, OnErr, IsSome, true, false, length};
 ghost use Rattle.std.specs.FinMap as fin;
 ghost use Rattle.s3_types.specs.Tags.{plain_tag};
 ghost use Rattle.s3_types.specs.Multipart.{is_part_number, sizes};
+ghost use Rattle.std.specs.Ordering.{nat_cmp};
+ghost use Rattle.std.specs.Map.{keys_of};
+ghost use Rattle.std.specs.List.Sorted.{IsStrictlySortedBy};
 ghost use Rattle.multipart.specs.Next.{next_of};
+ghost use Rattle.multipart.specs.Numbers.{IsPlace, is_number_at};
 ghost use Rattle.s3_types.specs.declared.limits.TheConstants.{MOST_PARTS};
 
-use etag::part_tag;
+use etag::{part_digest, tag_of};
 use s3_types::{Bytes, PartSize, PartSizes, Tag};
 use std::alloc::{AllocError, Global};
-use std::collections::BTreeMap;
 use std::marker::Model;
-use std::ops::Bound;
 
-/// The bytes of a part, and the tag that was made of them when they came.
+/// The bytes of a part, and the digest that was made of them when they came.
 #[derive(Drop)]
 pub struct Part {
     bytes: Bytes,
-    tag: Tag,
+    digest: [u8; 16],
 }
 
 impl Model for Part {
     ghost use Rattle.std.specs.Prelude.{◌≡◌, ℕ, List};
-    ghost use Rattle.s3_types.specs.Tags.{plain_tag};
+    ghost use Rattle.md5.specs.Md5.{md5};
 
     ghost Value = { List ℕ };
 
     ghost view = { λ p. p.bytes };
 
-    ghost invariant = { λ p. p.tag ≡ plain_tag p.bytes };
+    ghost invariant = { λ p. p.digest ≡ md5 p.bytes };
 }
 
 impl Part {
@@ -36,15 +38,16 @@ impl Part {
     pub fn new(bytes: Bytes) -> Part
         ensures { result ≡ bytes }
     {
-        let tag = part_tag(bytes.as_slice());
-        Part { bytes, tag }
+        let digest = part_digest(bytes.as_slice());
+        Part { bytes, digest }
     }
 
     /// The tag of the part's bytes.
+    #[tactic(auto, unfolding(s3_types::specs::Tags::plain_tag))]
     pub fn tag(&self) -> Tag
         ensures { result ≡ plain_tag self.now }
     {
-        self.tag
+        tag_of(&self.digest)
     }
 
     /// The part's bytes.
@@ -62,20 +65,23 @@ impl Clone for Part {
     fn clone(&self) -> Result<Part, AllocError> {
         Ok(Part {
             bytes: self.bytes.clone()?,
-            tag: self.tag,
+            digest: self.digest,
         })
     }
 }
 
-/// The parts of an upload by their numbers, which are 1 to 10,000.
+/// The parts of an upload by their numbers, which are 1 to 10,000, in a row that rises: most uploads have one part, and
+/// a tree's least node has room for eleven.
 #[derive(Drop)]
 pub struct Parts {
-    pub(crate) held: BTreeMap<u32, Part>,
+    pub(crate) held: Vec<(u32, Part)>,
 }
 
 impl Model for Parts {
     ghost use Rattle.std.specs.Ordering.{nat_cmp};
     ghost use Rattle.std.specs.FinMap as fin;
+    ghost use Rattle.std.specs.Map.{keys_of};
+    ghost use Rattle.std.specs.List.Sorted.{IsStrictlySortedBy};
     ghost use Rattle.s3_types.specs.Store.{Parts as TheParts};
     ghost use Rattle.s3_types.specs.Coded.{coded_parts};
     ghost use Rattle.multipart.specs.Numbers.{AreNumbered};
@@ -84,9 +90,10 @@ impl Model for Parts {
 
     ghost coded = { coded_parts };
 
-    ghost view = { λ p. fin.from_entries p.held.entries };
+    ghost view = { λ p. fin.from_entries p.held.items };
 
-    ghost invariant = { λ p. AreNumbered (fin.from_entries p.held.entries) };
+    ghost invariant = { λ p. IsStrictlySortedBy nat_cmp (keys_of p.held.items)
+        × AreNumbered (fin.from_entries p.held.items) };
 }
 
 /// The same parts at the same numbers. The two share the bytes.
@@ -100,13 +107,36 @@ impl Clone for Parts {
     }
 }
 
+/// Where the part of a number is, or where it would go, in O(log n) for n parts.
+fn search(held: &[(u32, Part)], number: u32) -> Result<usize, usize>
+    requires { IsStrictlySortedBy nat_cmp (keys_of held.now) }
+    ensures found { IfOk result (λ at. IsPlace number held.now at × (is_number_at held.now at number ≡ true)) }
+    ensures within { IfOk result (λ at. at < length held.now) }
+    ensures absent { IfErr result (λ at. IsPlace number held.now at × (is_number_at held.now at number ≡ false)) }
+    ensures place { IfErr result (λ at. at ≤ length held.now) }
+{
+    held.binary_search_by_key(&number, |entry| entry.0)
+}
+
+/// How many parts have a number up to this one, in O(log n) for n parts.
+fn place_behind(held: &[(u32, Part)], number: u32) -> usize
+    requires { IsStrictlySortedBy nat_cmp (keys_of held.now) }
+    ensures { IsPlace (number + 1) held.now result }
+{
+    match search(held, number) {
+        Ok(at) => at + 1,
+        Err(at) => at,
+    }
+}
+
 impl Parts {
-    pub(crate) fn new(alloc: Global) -> Parts
-        ensures { result ≡ fin.empty }
+    /// No parts, and room for one.
+    pub(crate) fn new(alloc: Global) -> Result<Parts, AllocError>
+        ensures { IfOk result (λ parts. parts ≡ fin.empty) }
     {
-        Parts {
-            held: BTreeMap::new(alloc),
-        }
+        Ok(Parts {
+            held: Vec::with_capacity(alloc, 1)?,
+        })
     }
 
     pub(crate) fn insert(&mut self, number: u32, part: Part) -> Result<(), AllocError>
@@ -114,15 +144,24 @@ impl Parts {
         ensures ok { OnOk result (self.new ≡ fin.insert self.old number part) }
         ensures err { OnErr result (self.new ≡ self.old) }
     {
-        self.held.insert(number, part)?;
-        Ok(())
+        match search(self.held.as_slice(), number) {
+            Ok(at) => {
+                self.held[at] = (number, part);
+                Ok(())
+            }
+            Err(at) => Ok(self.held.insert(at, (number, part))?),
+        }
     }
 
     pub(crate) fn get(&self, number: u32) -> Option<&Part>
         ensures found { option_copied result ≡ fin.get self.now number }
         ensures number { IsSome result → is_part_number number ≡ true }
     {
-        self.held.get(&number)
+        let held = self.held.as_slice();
+        match search(held, number) {
+            Ok(at) => Some(&held[at].1),
+            Err(_) => None,
+        }
     }
 
     /// How many parts there are, at most 10,000.
@@ -130,19 +169,20 @@ impl Parts {
         ensures count { result ≡ fin.len self.now }
         ensures most { result ≤ MOST_PARTS }
     {
-        self.held.len() as u32
+        self.held.as_slice().len() as u32
     }
 
     /// The parts by rising number, each with its length and its tag.
     pub(crate) fn sizes(&self, alloc: Global) -> Result<PartSizes, AllocError>
         ensures { IfOk result (λ made. made ≡ sizes self.now) }
     {
-        let mut sizes = Vec::with_capacity(alloc, self.held.len())?;
-        for (number, part) in &self.held {
+        let held = self.held.as_slice();
+        let mut sizes = Vec::with_capacity(alloc, held.len())?;
+        for entry in held {
             sizes.push(PartSize {
-                number: *number,
-                length: part.bytes().as_slice().len() as u64,
-                tag: part.tag(),
+                number: entry.0,
+                length: entry.1.bytes().as_slice().len() as u64,
+                tag: entry.1.tag(),
             })?;
         }
         Ok(PartSizes::from_vec(sizes))
@@ -152,10 +192,12 @@ impl Parts {
     pub(crate) fn next(&self, after: u32) -> Option<(u32, &Part)>
         ensures { option_map (λ p. (p.0, p.1.now)) result ≡ next_of after self.now }
     {
-        let range = (Bound::Excluded(&after), Bound::Unbounded);
-        match self.held.range(range).next() {
-            Some((number, part)) => Some((*number, part)),
-            None => None,
+        let held = self.held.as_slice();
+        let at = place_behind(held, after);
+        if at < held.len() {
+            let entry = &held[at];
+            return Some((entry.0, &entry.1));
         }
+        None
     }
 }

@@ -43,11 +43,8 @@ impl Live {
         ensures { IfOk result (λ live. live ≡ record { key = key; parts = fin.empty }) }
     {
         let text = key.as_text().clone()?;
-        Ok(Live {
-            key,
-            text,
-            parts: Parts::new(alloc),
-        })
+        let parts = Parts::new(alloc)?;
+        Ok(Live { key, text, parts })
     }
 
     /// The key of the upload.

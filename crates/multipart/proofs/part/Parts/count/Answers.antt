@@ -1,4 +1,4 @@
-use Rattle.std.proofs.Common.{ap, ◌∙◌, sym, ◌≡◌, ◌≤◌, arith, subst}
+use Rattle.std.proofs.Common.{ap, ◌∙◌, sym, ℕ, List, ◌≡◌, ◌≤◌, arith, subst, length}
 use Rattle.s3_types.specs.Prelude.{nat_cmp_total, nat_cmp}
 use Rattle.std.specs.FinMap as fin
 use Rattle.proof_base.proofs.Tree.{len_made}
@@ -7,15 +7,15 @@ use Rattle.multipart.proofs.part.Parts.count.Goals as goal
 
 pub returns-clause-count : goal.returns-clause-count
 returns-clause-count c =
-    c.len.ensures.len ∙ sym (len_made nat_cmp_total c.self.inside.held.entries c.len.ensures.ordered) ∙ ap fin.len c.self.view_is
+    ap (λ (l : List (ℕ × List ℕ)). length l) c.as_slice.ensures.value ∙ sym (len_made nat_cmp_total c.self.inside.held.items c.self.invariant.0) ∙ ap fin.len c.self.view_is
 
 pub returns-clause-most : goal.returns-clause-most
 returns-clause-most c =
-    let e : c.len.result ≡ fin.len (fin.from_entries {R = nat_cmp} c.self.inside.held.entries) = c.len.ensures.len ∙ sym (len_made nat_cmp_total c.self.inside.held.entries c.len.ensures.ordered) in
-    subst (λ n. n ≤ 10000) (sym e) (few_parts (fin.from_entries c.self.inside.held.entries) c.self.invariant)
+    let e : length c.as_slice.result.now ≡ fin.len (fin.from_entries {R = nat_cmp} c.self.inside.held.items) = ap (λ (l : List (ℕ × List ℕ)). length l) c.as_slice.ensures.value ∙ sym (len_made nat_cmp_total c.self.inside.held.items c.self.invariant.0) in
+    subst (λ n. n ≤ 10000) (sym e) (few_parts (fin.from_entries c.self.inside.held.items) c.self.invariant.1)
 
 pub overflow_cast-result : goal.overflow_cast-result
 overflow_cast-result c =
-    let e : c.len.result ≡ fin.len (fin.from_entries {R = nat_cmp} c.self.inside.held.entries) = c.len.ensures.len ∙ sym (len_made nat_cmp_total c.self.inside.held.entries c.len.ensures.ordered) in
-    let m : c.len.result ≤ 10000 = subst (λ n. n ≤ 10000) (sym e) (few_parts (fin.from_entries c.self.inside.held.entries) c.self.invariant) in
+    let e : length c.as_slice.result.now ≡ fin.len (fin.from_entries {R = nat_cmp} c.self.inside.held.items) = ap (λ (l : List (ℕ × List ℕ)). length l) c.as_slice.ensures.value ∙ sym (len_made nat_cmp_total c.self.inside.held.items c.self.invariant.0) in
+    let m : length c.as_slice.result.now ≤ 10000 = subst (λ n. n ≤ 10000) (sym e) (few_parts (fin.from_entries c.self.inside.held.items) c.self.invariant.1) in
     omega (arith, m)

@@ -1,18 +1,25 @@
-use Rattle.std.proofs.Common.{◌≡◌, ap, ◌∙◌, sym, refl, true, List, ℕ, Option, Some, None, is_some, Bor}
-use Rattle.s3_types.specs.Prelude.{option_copied, IsSome, nat_cmp_total}
+use Rattle.std.proofs.Common.{ap, ◌∙◌, sym, subst, is_some, ℕ, List, Some}
+use Rattle.std.specs.Map.{keys_of}
+use Rattle.std.specs.List.Sorted.{IsStrictlySortedBy}
+use Rattle.s3_types.specs.Prelude.{nat_cmp, nat_cmp_total, get-from_entries, find}
 use Rattle.std.specs.FinMap as fin
-use Rattle.proof_base.proofs.Tree.{get_made}
+use Rattle.multipart.proofs.Rows.{found_at, none_at}
 use Rattle.multipart.proofs.part.Parts.get.Goals as goal
 
-copied_some : (o : Option (Bor (List ℕ))) → IsSome o → is_some (option_copied o) ≡ true
-copied_some (Some x) h = refl
-copied_some None h = h
+pub returns-in-Ok-clause-found : goal.returns-in-Ok-clause-found
+returns-in-Ok-clause-found c =
+    ap (λ (y : ℕ × List ℕ). Some y.1) (sym c.index-held-at.is)
+    ∙ sym (ap (λ m. fin.get m c.args.number) (sym c.self.view_is) ∙ get-from_entries nat_cmp_total c.self.inside.held.items c.args.number ∙ ap (find nat_cmp c.args.number) (sym c.as_slice-held.ensures.value)
+    ∙ found_at c.args.number c.as_slice-held.result.now c.in-Ok.at c.index-held-at.result c.in-Ok.ensures.found.0 c.in-Ok.ensures.found.1 c.index-held-at.is)
 
-pub returns-clause-found : goal.returns-clause-found
-returns-clause-found c =
-    c.get.ensures.value ∙ sym (get_made nat_cmp_total c.self.inside.held.entries c.args.number) ∙ ap (λ m. fin.get m c.args.number) c.self.view_is
+pub returns-in-Ok-clause-number : goal.returns-in-Ok-clause-number
+returns-in-Ok-clause-number c = λ _.
+    c.self.invariant.1 c.args.number
+    (ap is_some (get-from_entries nat_cmp_total c.self.inside.held.items c.args.number ∙ ap (find nat_cmp c.args.number) (sym c.as_slice-held.ensures.value)
+    ∙ found_at c.args.number c.as_slice-held.result.now c.in-Ok.at c.index-held-at.result c.in-Ok.ensures.found.0 c.in-Ok.ensures.found.1 c.index-held-at.is))
 
-pub returns-clause-number : goal.returns-clause-number
-returns-clause-number c = λ h.
-    c.self.invariant c.args.number
-    (sym (ap is_some (c.get.ensures.value ∙ sym (get_made nat_cmp_total c.self.inside.held.entries c.args.number))) ∙ copied_some c.get.result h)
+pub returns-in-Err-clause-found : goal.returns-in-Err-clause-found
+returns-in-Err-clause-found c =
+    let sorted = subst (λ (l : List (ℕ × List ℕ)). IsStrictlySortedBy nat_cmp (keys_of l)) (sym c.as_slice-held.ensures.value) c.self.invariant.0 in
+    sym (ap (λ m. fin.get m c.args.number) (sym c.self.view_is) ∙ get-from_entries nat_cmp_total c.self.inside.held.items c.args.number ∙ ap (find nat_cmp c.args.number) (sym c.as_slice-held.ensures.value)
+    ∙ none_at c.args.number c.as_slice-held.result.now c.in-Err.field-0 sorted c.in-Err.ensures.absent.0 c.in-Err.ensures.absent.1)

@@ -7,10 +7,10 @@ use Rattle.multipart.proofs.part.Parts.iter.Goals as goal
 
 pub returns-clause-entries : goal.returns-clause-entries
 returns-clause-entries c =
-    c.iter.ensures.rest ∙ sym (entries_made nat_cmp_total c.self.inside.held.entries c.iter.ensures.ordered) ∙ ap fin.entries c.self.view_is
+    c.as_slice.ensures.value ∙ sym (entries_made nat_cmp_total c.self.inside.held.items c.self.invariant.0) ∙ ap fin.entries c.self.view_is
 
 pub returns-clause-numbers : goal.returns-clause-numbers
 returns-clause-numbers c =
     subst (λ (es : List (ℕ × List ℕ)). AllByRecursion (λ e. is_part_number e.0 ≡ true) es)
-    (entries_made nat_cmp_total c.self.inside.held.entries c.iter.ensures.ordered ∙ sym c.iter.ensures.rest)
-    (all_numbered (fin.from_entries c.self.inside.held.entries) c.self.invariant)
+    (entries_made nat_cmp_total c.self.inside.held.items c.self.invariant.0 ∙ sym c.as_slice.ensures.value)
+    (all_numbered (fin.from_entries c.self.inside.held.items) c.self.invariant.1)

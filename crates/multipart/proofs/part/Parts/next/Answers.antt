@@ -1,19 +1,19 @@
-use Rattle.std.proofs.Common.{ap, ◌∙◌, sym, List, ℕ}
-use Rattle.s3_types.specs.Prelude.{slice_get, option_map, nat_cmp, nat_cmp_total, deref_pair, entries_between, Excluded, Unbounded}
+use Rattle.std.proofs.Common.{ap, ◌∙◌, sym, refl, length, List, ℕ}
+use Rattle.std.proofs.lemmas.Option.{slice_get_read, slice_get_past}
+use Rattle.s3_types.specs.Prelude.{slice_get, nat_cmp, nat_cmp_total, entries_between, Excluded, Unbounded}
 use Rattle.std.specs.FinMap as fin
-use Rattle.proof_base.proofs.Tree.{first_taken, entries_made}
+use Rattle.proof_base.proofs.Tree.{entries_made}
+use Rattle.multipart.proofs.Rows.{next_at}
 use Rattle.multipart.proofs.part.Parts.next.Goals as goal
 
-pub returns-in-Some : goal.returns-in-Some
-returns-in-Some c =
-    ap (option_map deref_pair) (sym c.in-Some.is)
-    ∙ first_taken deref_pair c.range.result _ _ c.next.ensures.steps
-    ∙ ap (λ (l : List (ℕ × List ℕ)). slice_get l 0) (c.range.ensures.between tt)
-    ∙ ap (λ (l : List (ℕ × List ℕ)). slice_get (entries_between nat_cmp (Excluded c.args.after) Unbounded l) 0) (sym (entries_made nat_cmp_total c.self.inside.held.entries c.range.ensures.ordered) ∙ ap fin.entries c.self.view_is)
+pub returns-then-at-held : goal.returns-then-at-held
+returns-then-at-held c =
+    sym (slice_get_read c.as_slice-held.result.now (length c.as_slice-held.result.now) c.place_behind-at.result c.index-held-at.result refl c.if-at-held.true c.index-held-at.is)
+    ∙ next_at c.args.after c.as_slice-held.result.now c.place_behind-at.result c.place_behind-at.ensures
+    ∙ ap (λ (l : List (ℕ × List ℕ)). slice_get (entries_between nat_cmp (Excluded c.args.after) Unbounded l) 0) (c.as_slice-held.ensures.value ∙ sym (entries_made nat_cmp_total c.self.inside.held.items c.self.invariant.0) ∙ ap fin.entries c.self.view_is)
 
-pub returns-in-None : goal.returns-in-None
-returns-in-None c =
-    ap (option_map deref_pair) (sym c.in-None.is)
-    ∙ first_taken deref_pair c.range.result _ _ c.next.ensures.steps
-    ∙ ap (λ (l : List (ℕ × List ℕ)). slice_get l 0) (c.range.ensures.between tt)
-    ∙ ap (λ (l : List (ℕ × List ℕ)). slice_get (entries_between nat_cmp (Excluded c.args.after) Unbounded l) 0) (sym (entries_made nat_cmp_total c.self.inside.held.entries c.range.ensures.ordered) ∙ ap fin.entries c.self.view_is)
+pub returns : goal.returns
+returns c =
+    sym (slice_get_past c.as_slice-held.result.now c.place_behind-at.result c.if-at-held.false)
+    ∙ next_at c.args.after c.as_slice-held.result.now c.place_behind-at.result c.place_behind-at.ensures
+    ∙ ap (λ (l : List (ℕ × List ℕ)). slice_get (entries_between nat_cmp (Excluded c.args.after) Unbounded l) 0) (c.as_slice-held.ensures.value ∙ sym (entries_made nat_cmp_total c.self.inside.held.items c.self.invariant.0) ∙ ap fin.entries c.self.view_is)

@@ -1,12 +1,11 @@
-use Rattle.std.proofs.Common.{ap, ◌∙◌, sym, ◌≡◌, ◌++◌, map, List, rules}
+use Rattle.std.proofs.Common.{ap, ◌∙◌, sym, map, List, ℕ}
+use Rattle.std.proofs.lemmas.List.{take_all}
 use Rattle.s3_types.specs.Prelude.{nat_cmp_total, size_of}
 use Rattle.std.specs.FinMap as fin
-use Rattle.s3_types.specs.declared.reply.PartSize.{PartSize}
 use Rattle.proof_base.proofs.Tree.{entries_made}
 use Rattle.multipart.proofs.part.Parts.sizes.Goals as goal
 
-pub loop-number-init : goal.loop-number-init
-loop-number-init c =
-    let all : c.into_iter-number-iterator.result ≡ c.self.inside.held.entries = search rules in
-    ap (λ (l : List PartSize). l ++ map size_of c.into_iter-number-iterator.result) c.in_ok-sizes.ensures.items
-    ∙ ap (map size_of) (all ∙ sym (entries_made nat_cmp_total c.self.inside.held.entries c.len.ensures.ordered) ∙ ap fin.entries c.self.view_is)
+pub returns : goal.returns
+returns c =
+    c.from_vec.ensures ∙ c.loop-entry.invariant
+    ∙ ap (map size_of) (take_all c.loop-entry.entry-index c.as_slice-held.result.now c.loop-entry-test.false ∙ c.as_slice-held.ensures.value ∙ sym (entries_made nat_cmp_total c.self.inside.held.items c.self.invariant.0) ∙ ap fin.entries c.self.view_is)

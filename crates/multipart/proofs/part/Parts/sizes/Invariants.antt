@@ -1,6 +1,6 @@
-use Rattle.std.proofs.Common.{◌≡◌, ◌++◌, map}
-use Rattle.s3_types.specs.Prelude.{size_of, sizes}
+use Rattle.std.proofs.Common.{◌≡◌, map, take}
+use Rattle.s3_types.specs.Prelude.{size_of}
 use Rattle.multipart.proofs.part.Parts.sizes.Given as goal
 
-abbrev pub invariant-loop-number : goal.invariant-loop-number
-invariant-loop-number l = l.sizes.items ++ map size_of l.number-iterator ≡ sizes l.self
+abbrev pub invariant-loop-entry : goal.invariant-loop-entry
+invariant-loop-entry l = l.sizes.items ≡ map size_of (take l.entry-index l.held)
