@@ -7,7 +7,7 @@ ghost use Rattle.journal_log.specs.Made.{IsMade};
 use journal_log::made;
 use log_format::is_changing;
 use s3_service::Service;
-use s3_types::{Request, let_go};
+use s3_types::Request;
 use std::alloc::AllocError;
 
 /// The most that the counter of uploads is in a store over which a run begins.
@@ -29,13 +29,7 @@ fn follow(service: &mut Service, change: &Request) -> Result<(), AllocError>
     if !is_changing(change) {
         return Ok(());
     }
-    match service.apply(change) {
-        Ok(reply) => {
-            let_go(reply);
-            Ok(())
-        }
-        Err(error) => Err(error),
-    }
+    service.follow(change)
 }
 
 /// Does the changes one by one, and answers whether the counter of uploads is at most 2^62 behind them. Once it is

@@ -1,12 +1,14 @@
 -- The ids of all uploads are below the next id.
 use Rattle.std.proofs.Common.{◌≡◌, ℕ, ◌≤◌, ◌+◌, Bool, true, false, cond, List, Option, Some, None, refl, sym, ap, ◌∙◌, subst, arith}
-use Rattle.std.specs.Prelude.{Result, Ok, Err}
-use Rattle.s3_types.specs.Prelude.{IsSomeAnd, insert, remove, get, empty, get-empty, get-insert, get-remove, eq_by_cmp, nat_cmp, nat_cmp_total, text_cmp, text_total, Objects, Upload, Uploads, BucketContent, Buckets, new_bucket, live, with_key, joined, is_part_number, with_part, apply_in, completed, part_put, aborted, draws}
+use Rattle.std.specs.Prelude.{Result, Ok, Err, OnOk, OnErr}
+use Rattle.s3_types.specs.Prelude.{insert, remove, get, empty, get-empty, get-insert, get-remove, eq_by_cmp, nat_cmp, nat_cmp_total, text_cmp, text_total, Objects, Upload, Uploads, BucketContent, Buckets, new_bucket, live, with_key, joined, is_part_number, with_part, apply_in, completed, part_put, aborted, draws}
 use Rattle.proof_base.proofs.Common.{nat_tests}
 use Rattle.s3_types.specs.declared.reply.Refusal.{Refusal}
 use Rattle.s3_types.specs.declared.request.Request.{Request}
 use Rattle.s3_types.specs.declared.request.Request.TheVariants.{MakeBucket, PutObject, GetObject, HeadObject, DeleteObject, DeleteObjects, CopyObject, ListPage, CreateUpload, UploadPart, CompleteUpload, AbortUpload, ListParts, ListUploads, ClusterPut, ClusterRename, ClusterGet, ClusterDelete, ClusterList}
 use Rattle.s3_service.specs.Ids.{IsFresh, AreBelow}
+use Rattle.s3_service.specs.Changed.{with_bucket}
+use Rattle.s3_service.proofs.Changed.{present, absent}
 
 inner : (x y : BucketContent) → Some x ≡ Some y → x ≡ y
 inner x y e = cc
@@ -82,15 +84,19 @@ next_le : (t : Bool) (n : ℕ) → n ≤ cond t (n + 1) n
 next_le true n = omega arith
 next_le false n = omega arith
 
-pub kept_below : (m w : Buckets) (n minimum : ℕ) (k : List ℕ) (r : Request) → AreBelow m n
-    → IsSomeAnd (get m k) (λ b. w ≡ insert m k (apply_in b n minimum r)) → AreBelow w (cond (draws r) (n + 1) n)
-kept_below m w n minimum k r below h = by (get m k) refl h
+pub kept_below : (m w : Buckets) (n minimum : ℕ) (k : List ℕ) (r : Request) → AreBelow m n → w ≡ with_bucket m k (λ b. apply_in b n minimum r) → AreBelow w (cond (draws r) (n + 1) n)
+kept_below m w n minimum k r below h = by (get m k) refl
   where
-    by : (o : Option BucketContent) → get m k ≡ o → IsSomeAnd o (λ b. w ≡ insert m k (apply_in b n minimum r)) → AreBelow w (cond (draws r) (n + 1) n)
-    by None e h = absurd h
-    by (Some b) e h =
-        subst (λ (w : Buckets). AreBelow w (cond (draws r) (n + 1) n)) (sym h)
+    by : (o : Option BucketContent) → get m k ≡ o → AreBelow w (cond (draws r) (n + 1) n)
+    by None e = subst (λ (w : Buckets). AreBelow w (cond (draws r) (n + 1) n)) (sym (h ∙ absent m k (λ b. apply_in b n minimum r) e)) (λ q b is i l. below q b is i (omega (arith, next_le (draws r) n, l)))
+    by (Some b) e =
+        subst (λ (w : Buckets). AreBelow w (cond (draws r) (n + 1) n)) (sym (h ∙ present m k (λ b. apply_in b n minimum r) b e))
         (below_insert m n (cond (draws r) (n + 1) n) k (apply_in b n minimum r) below (next_le (draws r) n) (kept_fresh b n minimum r (below k b e)))
+
+-- a put that was made or was not
+pub put_below : {T E : Type 0} (made : Result T E) (m w : Buckets) (n minimum : ℕ) (k : List ℕ) (r : Request) → draws r ≡ false → AreBelow m n → OnOk made (w ≡ with_bucket m k (λ b. apply_in b n minimum r)) → OnErr made (w ≡ m) → AreBelow w n
+put_below (Ok x) m w n minimum k r e below h g = subst (λ (b : Bool). AreBelow w (cond b (n + 1) n)) e (kept_below m w n minimum k r below h)
+put_below (Err x) m w n minimum k r e below h g = subst (λ (w : Buckets). AreBelow w n) (sym g) below
 
 -- what is told of a value's next id holds of that id
 pub next_below : (b : BucketContent) (os : Objects) (us : Uploads) (n m : ℕ) → b ≡ record { objects = os; uploads = us } → m ≡ n → IsFresh us m → IsFresh b.uploads n

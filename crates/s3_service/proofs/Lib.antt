@@ -1,3 +1,4 @@
 pub mod Below
+pub mod Changed
 pub mod Stores
 pub mod Next

@@ -1,3 +1,4 @@
 pub mod Named
 pub mod Ids
+pub mod Changed
 pub mod Next

@@ -2,13 +2,13 @@ ghost use Rattle.std.specs.Prelude.{◌≡◌, ◌≤◌, ℕ, None, IfOk, OnOk,
 ghost use Rattle.std.specs.FinMap as fin;
 ghost use Rattle.s3_types.specs.Store.{BucketContent, new_bucket};
 ghost use Rattle.s3_types.specs.Multipart.{live, joined};
-ghost use Rattle.s3_types.specs.Answer.{answer_in, apply_in, complete_answer, completed};
+ghost use Rattle.s3_types.specs.Answer.{answer_in, apply_in, complete_answer, completed, with_objects};
 ghost use Rattle.s3_service.specs.Ids.{IsFresh};
 
 use crate::{objects, uploads};
 use multipart::{UploadFault, Uploads};
 use object_store::Objects;
-use s3_types::{Key, PartList, Refusal, Reply, Request};
+use s3_types::{Bytes, Key, LengthHeader, PartList, Refusal, Reply, Request};
 use std::alloc::{AllocError, Global};
 use std::marker::Model;
 
@@ -71,6 +71,22 @@ impl BucketStore {
         ensures { result.now ≡ self.now.uploads }
     {
         &self.uploads
+    }
+
+    /// Puts an object, of which nothing is told. After want of memory all is as before.
+    pub fn put(
+        &mut self,
+        key: &Key,
+        bytes: &Bytes,
+        header: Option<LengthHeader>,
+    ) -> Result<(), AllocError>
+        ensures ok { OnOk result (self.new ≡ with_objects self.old (fin.insert self.old.objects key.now (record {
+          bytes = bytes.now;
+          header = header;
+        }))) }
+        ensures err { OnErr result (self.new ≡ self.old) }
+    {
+        objects::store(&mut self.objects, key, bytes, header)
     }
 
     fn complete(

@@ -1,12 +1,13 @@
-ghost use Rattle.std.specs.Option.{option_copied, IsSomeAnd};
-ghost use Rattle.std.specs.Prelude.{◌≡◌, ℕ, ◌≤◌, List, None, Some, IfOk, OnOk, OnErr, IsSome, length, option_map, slice_get};
+ghost use Rattle.std.specs.Option.{option_copied};
+ghost use Rattle.std.specs.Prelude.{◌≡◌, ℕ, ◌≤◌, List, None, Some, IfOk, OnOk, OnErr, length, option_map, slice_get};
 ghost use Rattle.std.specs.FinMap as map;
 ghost use Rattle.s3_types.specs.Store.{BucketContent, new_bucket};
-ghost use Rattle.s3_types.specs.Answer.{answer_in, apply_in};
+ghost use Rattle.s3_types.specs.Answer.{answer_in, apply_in, with_objects};
 ghost use Rattle.s3_service.specs.Ids.{IsFresh};
+ghost use Rattle.s3_service.specs.Changed.{with_bucket};
 
 use crate::bucket::BucketStore;
-use s3_types::{Bucket, Reply, Request};
+use s3_types::{Bucket, Bytes, Key, LengthHeader, Reply, Request};
 use std::alloc::{AllocError, Global};
 use std::collections::BTreeMap;
 use std::marker::Model;
@@ -72,27 +73,46 @@ impl Buckets {
         Ok(())
     }
 
-    /// Does a request to a bucket that is there.
+    /// Does a request to a bucket, if it is there.
     pub fn apply(
         &mut self,
         name: &Bucket,
         request: &Request,
         next: u64,
         minimum: u64,
-    ) -> Result<Reply, AllocError>
-        requires there { IsSome (map.get self.old name.now) }
-        requires fresh { (b : BucketContent) → map.get self.old name.now ≡ Some b → IsFresh b.uploads next }
-        ensures reply { IfOk result (λ r. IsSomeAnd (map.get self.old name.now) (λ b. r ≡ answer_in b next minimum
-            request.now)) }
-        ensures ok { OnOk result (IsSomeAnd (map.get self.old name.now)
-            (λ b. self.new ≡ map.insert self.old name.now (apply_in b next minimum request.now))) }
+    ) -> Result<Option<Reply>, AllocError>
+        requires { (b : BucketContent) → map.get self.old name.now ≡ Some b → IsFresh b.uploads next }
+        ensures reply { IfOk result (λ r. r ≡ option_map (λ b. answer_in b next minimum request.now)
+            (map.get self.old name.now)) }
+        ensures ok { OnOk result (self.new ≡ with_bucket self.old name.now (λ b. apply_in b next minimum request.now)) }
         ensures err { OnErr result (self.new ≡ self.old) }
     {
         let Some(bucket) = self.held.get_mut(name) else {
-            return Err(AllocError);
+            return Ok(None);
         };
         match bucket.apply(request, next, minimum) {
-            Ok(reply) => return Ok(reply),
+            Ok(reply) => return Ok(Some(reply)),
+            Err(error) => return Err(error),
+        }
+    }
+
+    /// Puts an object into a bucket, if it is there.
+    pub fn put(
+        &mut self,
+        name: &Bucket,
+        key: &Key,
+        bytes: &Bytes,
+        header: Option<LengthHeader>,
+    ) -> Result<(), AllocError>
+        ensures ok { OnOk result (self.new ≡ with_bucket self.old name.now (λ b. with_objects b
+            (map.insert b.objects key.now (record { bytes = bytes.now; header = header })))) }
+        ensures err { OnErr result (self.new ≡ self.old) }
+    {
+        let Some(bucket) = self.held.get_mut(name) else {
+            return Ok(());
+        };
+        match bucket.put(key, bytes, header) {
+            Ok(()) => return Ok(()),
             Err(error) => return Err(error),
         }
     }

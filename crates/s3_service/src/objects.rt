@@ -10,6 +10,24 @@ use object_store::{CopyFault, Objects};
 use s3_types::{Bytes, Key, KeyList, LengthHeader, PageLimit, Refusal, Reply, Text};
 use std::alloc::AllocError;
 
+/// Stores an object. After want of memory the objects are as before.
+pub fn store(
+    objects: &mut Objects,
+    key: &Key,
+    bytes: &Bytes,
+    header: Option<LengthHeader>,
+) -> Result<(), AllocError>
+    ensures ok { OnOk result (objects.new ≡ map.insert objects.old key.now (record {
+      bytes = bytes.now;
+      header = header;
+    })) }
+    ensures err { OnErr result (objects.new ≡ objects.old) }
+{
+    let key = key.clone()?;
+    let bytes = bytes.clone()?;
+    objects.put(key, bytes, header)
+}
+
 /// PutObject: stores the object, and answers the tag of its bytes. After want of memory the objects are as before.
 pub fn put(
     objects: &mut Objects,
@@ -24,11 +42,8 @@ pub fn put(
     })) }
     ensures err { OnErr result (objects.new ≡ objects.old) }
 {
-    let tag = part_tag(bytes.as_slice());
-    let key = key.clone()?;
-    let bytes = bytes.clone()?;
-    objects.put(key, bytes, header)?;
-    Ok(Reply::Stored(tag))
+    store(objects, key, bytes, header)?;
+    Ok(Reply::Stored(part_tag(bytes.as_slice())))
 }
 
 /// GetObject: the object's bytes and length header, or NoSuchKey.

@@ -11,7 +11,7 @@ use crate::buckets::Buckets;
 use crate::named::{bucket_named, draws};
 use multipart::Uploads;
 use object_store::Objects;
-use s3_types::{Bucket, NameFault, Refusal, Reply, Request, Text};
+use s3_types::{Bucket, NameFault, Refusal, Reply, Request, Text, let_go};
 use std::alloc::{AllocError, Global};
 use std::marker::Model;
 
@@ -167,11 +167,39 @@ impl Service {
         let Some(name) = bucket_named(request) else {
             unreachable!();
         };
-        if self.buckets.get(name).is_none() {
-            return Ok(Reply::Refused(Refusal::NoSuchBucket));
+        match self.buckets.apply(name, request, self.next, self.minimum) {
+            Ok(Some(reply)) => {
+                self.next = next_after(request, self.next);
+                Ok(reply)
+            }
+            Ok(None) => Ok(Reply::Refused(Refusal::NoSuchBucket)),
+            Err(error) => Err(error),
         }
-        let reply = self.buckets.apply(name, request, self.next, self.minimum)?;
-        self.next = next_after(request, self.next);
-        Ok(reply)
+    }
+
+    /// Does a request to the store as `apply` does, and makes no answer: the digest of what is put is not computed. After
+    /// want of memory all is as before.
+    pub fn follow(&mut self, request: &Request) -> Result<(), AllocError>
+        requires store { is_cluster request.now ≡ false }
+        requires few { self.old.next < 2 ^ 63 }
+        ensures ok { OnOk result (self.new ≡ apply_store self.old request.now) }
+        ensures err { OnErr result (self.new ≡ self.old) }
+    {
+        if let Request::PutObject {
+            bucket,
+            key,
+            bytes,
+            header,
+        } = request
+        {
+            return self.buckets.put(bucket, key, bytes, *header);
+        }
+        match self.apply(request) {
+            Ok(reply) => {
+                let_go(reply);
+                Ok(())
+            }
+            Err(error) => Err(error),
+        }
     }
 }

@@ -3,7 +3,7 @@ use Rattle.s3_service.specs.Ids.{AreBelow}
 use Rattle.s3_service.proofs.Below.{kept_below}
 use Rattle.s3_service.proofs.service.Service.apply.Goals as goal
 
-pub invariant_of-self-2 : goal.invariant_of-self-2
-invariant_of-self-2 c =
+pub invariant_of-self : goal.invariant_of-self
+invariant_of-self c =
     subst (λ (n : ℕ). AreBelow c.apply.new.self n) (sym c.next_after-self-inside.ensures)
-    (kept_below c.self.inside.buckets c.apply.new.self c.self.inside.next c.self.inside.minimum c.in-Some.name.now c.args.request.now c.self.invariant c.in_ok-reply.ensures.ok)
+    (kept_below c.self.inside.buckets c.apply.new.self c.self.inside.next c.self.inside.minimum c.in-Some.name.now c.args.request.now c.self.invariant c.in-Ok-Some.ensures.ok)

@@ -1,0 +1,13 @@
+-- Buckets of which one is changed.
+use Rattle.std.specs.Prelude.{List, ℕ, Option, Some, None}
+use Rattle.s3_types.specs.Prelude.{BucketContent, Buckets}
+use Rattle.std.specs.FinMap as fin
+
+-- a bucket is changed, if it is there
+abbrev pub changed : Option BucketContent → Buckets → List ℕ → (BucketContent → BucketContent) → Buckets
+changed None m k f = m
+changed (Some b) m k f = fin.insert m k (f b)
+
+-- the bucket of a name is changed, if it is there
+abbrev pub with_bucket : Buckets → List ℕ → (BucketContent → BucketContent) → Buckets
+with_bucket m k f = changed (fin.get m k) m k f
