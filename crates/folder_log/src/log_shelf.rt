@@ -8,7 +8,7 @@ ghost use Rattle.folder_log.specs.Kept.{IsClosed, IsLeftOf, IsPrepared, stored_o
 ghost use Rattle.folder_log.specs.Parts.{disk_of, IsUnused, Answers, Fails};
 
 use crate::disk::{DiskFault, LogDisk};
-use log_format::{LogFault, base_length, can_write, head_of, read_log, record_of};
+use log_format::{LogFault, base_length, can_write, head_of, read_log, write_record};
 use s3_types::{Bytes, Request};
 use shelf::Failed;
 use shelf::kept::{Held, LoadFault, MOST_BASE, Shelf, ShelfStop};
@@ -55,23 +55,23 @@ fn open_record<D: LogDisk>(disk: &mut D, gate: u64, written: &[u8]) -> Result<()
     write_synced(disk, gate, &[1])
 }
 
-/// The record of a change with a closed gate behind it, and the place of that gate, unless it is past
-/// 2^63 or memory is wanting.
-fn prepared(alloc: Global, gate: u64, change: &Request) -> Option<(Vec<u8>, u64)>
+/// Writes the record of a change with a closed gate behind it into a buffer, and answers the place of that gate,
+/// unless it is past 2^63 or memory is wanting.
+fn prepared(buffer: &mut Vec<u8>, gate: u64, change: &Request) -> Option<u64>
     requires { is_changing change.now ≡ true }
-    ensures { IfSome result (λ x. IsPrepared gate change.now x.0.items x.1) }
+    ensures { IfSome result (IsPrepared gate change.now buffer.new.items) }
 {
     if !can_write(change) {
         return None;
     }
-    let Ok(written) = record_of(alloc, change) else {
+    let Ok(()) = write_record(buffer, change) else {
         return None;
     };
-    let length = written.len() as u64;
+    let length = buffer.len() as u64;
     if gate > MOST_PLACE || length > MOST_PLACE - gate {
         return None;
     }
-    Some((written, gate + length))
+    Some(gate + length)
 }
 
 /// No file on a machine is longer: 2^63 bytes.
@@ -103,6 +103,8 @@ pub struct LogShelf<D: LogDisk> {
     calls: u64,
     /// Where the last gate is, from a `replace` that answers Ok until a call fails.
     gate: Option<u64>,
+    /// The record that was written last.
+    buffer: Vec<u8>,
     alloc: Global,
 }
 
@@ -116,6 +118,7 @@ impl<D: LogDisk + Drop> LogShelf<D> {
             disk,
             calls: 0,
             gate: None,
+            buffer: Vec::new(alloc),
             alloc,
         }
     }
@@ -185,11 +188,11 @@ impl<D: LogDisk + Drop> Shelf for LogShelf<D> {
         let Some(gate) = self.gate else {
             unreachable!();
         };
-        let Some((written, end)) = prepared(self.alloc, gate, change) else {
+        let Some(end) = prepared(&mut self.buffer, gate, change) else {
             return Err(ShelfStop::NoMemory);
         };
         self.gate = None;
-        match open_record(&mut self.disk, gate, written.as_slice()) {
+        match open_record(&mut self.disk, gate, self.buffer.as_slice()) {
             Ok(()) => {
                 self.gate = Some(end);
                 Ok(())

@@ -3,9 +3,9 @@
 //!
 //! # What is proved
 //!
-//! `read_log`, `record_of`, `base_length`: `read_log` answers a base and changes exactly where the file
+//! `read_log`, `write_record`, `base_length`: `read_log` answers a base and changes exactly where the file
 //! stands for them, and else the first fault in reading order by its place, for every list of bytes
-//! (`exact`, `found`, `only`). `record_of` writes the one text of a changing request, which is read as
+//! (`exact`, `found`, `only`). `write_record` writes the one text of a changing request, which is read as
 //! that request again. Left open: a request that names 2^32 keys or parts has no record.
 #![tactic(auto)]
 
@@ -19,4 +19,4 @@ mod writing;
 pub use fault::LogFault;
 pub use held::{Held, RequestList};
 pub use reading::{base_length, read_log};
-pub use writing::{can_write, head_of, is_changing, record_of};
+pub use writing::{can_write, head_of, is_changing, write_record};

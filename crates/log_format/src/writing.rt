@@ -1,13 +1,13 @@
-ghost use Rattle.std.specs.Prelude.{◌≡◌, ◌<◌, ◌^◌, ◌++◌, ◌∷◌, [], length, nat_lt, true, OnOk, IfOk};
+ghost use Rattle.std.specs.Prelude.{◌≡◌, ◌<◌, ◌≤◌, ◌-◌, ◌^◌, ◌++◌, ◌∷◌, [], drop, length, nat_lt, true, OnOk};
 ghost use Rattle.std.specs.Int.{w32, w64, to_be_bytes};
 ghost use Rattle.std.specs.List.{flat_map, AllByRecursion};
 ghost use Rattle.log_format.specs.Change as known;
 ghost use Rattle.log_format.specs.Change.{named_in, header, IsText, IsBucket, IsKey, IsNamed, IsTarget, IsUpload, IsChange, AreFew};
-ghost use Rattle.log_format.specs.Log.{short, long, block, counted, target, upload, named, body};
+ghost use Rattle.log_format.specs.Log.{short, long, block, counted, target, upload, named, body, record_of};
 ghost use Rattle.log_format.specs.Log as spelled;
 
 use s3_types::{Bucket, Bytes, Key, LengthHeader, NamedPart, Request, Text};
-use std::alloc::{AllocError, Global};
+use std::alloc::AllocError;
 
 /// Whether a request may change what a store holds. Takes no memory.
 pub fn is_changing(request: &Request) -> bool
@@ -273,30 +273,26 @@ fn put_change(out: &mut Vec<u8>, change: &Request) -> Result<(), AllocError>
     }
 }
 
-/// How many bytes there are mostly at most beside those of an object or of a part.
-const MOST_FIELDS: usize = 256;
-
-/// How much room to take for a change's text, so that most are one allocation. Takes no memory.
-fn room_for(change: &Request) -> usize {
-    let bytes = match change {
-        Request::PutObject { bytes, .. } => bytes.as_slice().len(),
-        Request::UploadPart { bytes, .. } => bytes.as_slice().len(),
-        _ => 0,
-    };
-    bytes.saturating_add(MOST_FIELDS)
+/// The length in bytes of what is behind the first 8 bytes, in their place.
+fn set_length(written: &mut [u8])
+    requires { 8 ≤ length written.old }
+    ensures { written.new ≡ long (length written.old - 8) ++ drop 8 written.old }
+{
+    let (place, text) = written.split_at_mut(8);
+    place.copy_from_slice(&(text.len() as u64).to_be_bytes());
 }
 
-/// A change with its length before it and a closed gate behind it.
-pub fn record_of(alloc: Global, change: &Request) -> Result<Vec<u8>, AllocError>
+/// Writes a change with its length before it and a closed gate behind it, in place of what the buffer had.
+pub fn write_record(buffer: &mut Vec<u8>, change: &Request) -> Result<(), AllocError>
     requires changing { known.is_changing change.now ≡ true }
     requires few { named_in change.now < 2 ^ 32 }
-    ensures text { IfOk result (λ written. written.items ≡ spelled.record_of change.now ++ 0 ∷ []) }
+    ensures text { OnOk result (buffer.new.items ≡ record_of change.now ++ 0 ∷ []) }
     ensures legal { OnOk result (IsChange change.now) }
 {
-    let mut text = Vec::with_capacity(alloc, room_for(change))?;
-    put_change(&mut text, change)?;
-    let mut record = Vec::with_capacity(alloc, text.len().saturating_add(9))?;
-    put_block(&mut record, &text)?;
-    record.push(0)?;
-    Ok(record)
+    buffer.clear();
+    put_u64(buffer, 0)?;
+    put_change(buffer, change)?;
+    set_length(buffer.as_mut_slice());
+    buffer.push(0)?;
+    Ok(())
 }

@@ -1,7 +1,7 @@
 use crate::found::{fault_text, load};
 use crate::play::Play;
 use folder_log::{Choice, MemDisk};
-use log_format::{can_write, is_changing, record_of};
+use log_format::{can_write, is_changing, write_record};
 use s3_types::{Request, let_go};
 use shelf::kept::{Held, LoadFault};
 use std::alloc::{AllocError, Global};
@@ -34,11 +34,13 @@ impl fmt::Display for Left {
 /// A base with its length, and the changes behind it, each as a log has it.
 pub fn written(alloc: Global, base: &[u8], changes: &[Request]) -> Result<Vec<u8>, AllocError> {
     let mut bytes = Vec::new(alloc);
+    let mut record = Vec::new(alloc);
     bytes.extend_from_slice(&(base.len() as u64).to_be_bytes())?;
     bytes.extend_from_slice(base)?;
     for change in changes {
         if is_changing(change) && can_write(change) {
-            bytes.extend_from_slice(&record_of(alloc, change)?)?;
+            write_record(&mut record, change)?;
+            bytes.extend_from_slice(&record)?;
         }
     }
     Ok(bytes)
