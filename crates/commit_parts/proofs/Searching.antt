@@ -1,10 +1,9 @@
 -- the search for a key that two tasks write, upload by upload
 use Rattle.std.proofs.Common.{◌≡◌, ℕ, ◌<◌, ◌≤◌, ◌⊎◌, inl, inr, refl, ap, sym, subst, ◌∙◌, Bool, true, false, cond, arith, List, [], ◌∷◌, ◌++◌, map, not, ◌||◌, nat_eq, zero, suc, ◌+◌, length, take, get_or, append_assoc, Option, Some, None}
 use Rattle.std.specs.Prelude.{Result, Ok, Err, OnOk}
-use Rattle.job_protocol.specs.Prelude.{get, unwrap_or, nat_cmp-IsAntisymmetric, slice_cmp-IsAntisymmetric, is_lt, is_eq, ordering_reverse, Pending, PendingSet, Ordering, Less, Equal, Greater, bytes_decides, text_cmp, text_eq, text_total, In}
-use Rattle.s3_types.specs.Prelude.{is_at}
+use Rattle.job_protocol.specs.Prelude.{unwrap_or, is_lt, Pending, PendingSet, bytes_decides, text_cmp, text_eq, text_total, In}
 use Rattle.path_keys.proofs.Common.{nat_tests, map-append, slice_get_within, contrary, irrefl, lt_trans}
-use Rattle.std.specs.BTreeMap.{BTreeMap, Updates}
+use Rattle.std.specs.HashMap.{HashMap, get, Updates}
 use Rattle.commit_parts.proofs.ReadFiles.{item_at}
 use Rattle.job_protocol.proofs.Members.{in_left, in_push, in_last, in_append, in_map, false_true}
 use Rattle.commit_parts.specs.Clashes.{Item, items_from, IsBest, IsOwner, Finds, is_better, clash_of}
@@ -196,51 +195,43 @@ finds_by items q x f owner best true c e g some most s = finds_same items q x ow
 finds_by items q x f owner best false false e g some most s = finds_kept items q x f owner best some most g s
 finds_by items q x f owner best false true e g some most s = finds_better items q x f owner best some most (eq_not f x e) g s
 
-self_by : (o : Ordering) → o ≡ ordering_reverse o → is_eq o ≡ true
-self_by Equal e = refl
-self_by _ e = absurd (cc)
+at_self : (q : List ℕ) → text_eq q q ≡ true
+at_self q = (bytes_decides q q).1 refl
 
-at_self : (q : List ℕ) → is_at (text_cmp q) q ≡ true
-at_self q = self_by (text_cmp q q) (text_total.antisymm q q)
-
-at_other : (q k : List ℕ) → (q ≡ k → ⊥) → is_at (text_cmp q) k ≡ false
-at_other q k ne = by (text_cmp q k) refl
-  where
-    by : (o : Ordering) → text_cmp q k ≡ o → is_eq o ≡ false
-    by Equal e = absurd (ne (slice_cmp-IsAntisymmetric nat_cmp-IsAntisymmetric q k e))
-    by _ e = refl
+at_other : (q k : List ℕ) → (q ≡ k → ⊥) → text_eq q k ≡ false
+at_other q k ne = elim (either (text_eq q k)) [ inl e ↦ absurd (ne ((bytes_decides q k).0 e)) | inr e ↦ e ]
 
 -- the owner of the key is what it was, or this task
-owner_stays : (q : List ℕ) (x : ℕ) (o : Option ℕ) (m n : BTreeMap (List ℕ) ℕ) → get text_cmp m q ≡ o → Updates text_cmp m n q (Some (unwrap_or o x)) → get text_cmp n q ≡ Some (unwrap_or o x)
-owner_stays q x o m n e up = up.0 q ∙ ap (λ b. cond b (Some (unwrap_or o x)) (get text_cmp m q)) (at_self q)
+owner_stays : {S : Type 0} (q : List ℕ) (x : ℕ) (o : Option ℕ) (m n : HashMap (List ℕ) ℕ S) → get text_eq m q ≡ o → Updates text_eq m n q (Some (unwrap_or o x)) → get text_eq n q ≡ Some (unwrap_or o x)
+owner_stays q x o m n e up = up.0 q ∙ ap (λ b. cond b (Some (unwrap_or o x)) (get text_eq m q)) (at_self q)
 
 -- and those of the others are what they were
-others_stay : (q k : List ℕ) (w : Option ℕ) (m n : BTreeMap (List ℕ) ℕ) → Updates text_cmp m n q w → (q ≡ k → ⊥) → get text_cmp n k ≡ get text_cmp m k
-others_stay q k w m n up ne = up.0 k ∙ ap (λ b. cond b w (get text_cmp m k)) (at_other q k ne)
+others_stay : {S : Type 0} (q k : List ℕ) (w : Option ℕ) (m n : HashMap (List ℕ) ℕ S) → Updates text_eq m n q w → (q ≡ k → ⊥) → get text_eq n k ≡ get text_eq m k
+others_stay q k w m n up ne = up.0 k ∙ ap (λ b. cond b w (get text_eq m k)) (at_other q k ne)
 
 -- owners that are the same at each key
 same_finds : (items : List Item) (owner owner' : List ℕ → Option ℕ) (best : Option Clash) → ((k : List ℕ) → owner' k ≡ owner k) → Finds items owner best → Finds items owner' best
 same_finds items owner owner' best same f = record { owners = λ k. let S : Option ℕ → Type 0 = λ o. IsOwner items k o in subst S (sym (same k)) (f.owners k); best = f.best }
 
-finds_at : (items : List Item) (q : List ℕ) (x : ℕ) (o : Option ℕ) (m n : BTreeMap (List ℕ) ℕ) (best : Option Clash) → get text_cmp m q ≡ o → Updates text_cmp m n q (Some (unwrap_or o x)) → AtMost items x → Finds items (get text_cmp m) best
-    → Finds (items ++ (q, x) ∷ []) (get text_cmp n) (clash_of q (unwrap_or o x) x best)
+finds_at : {S : Type 0} (items : List Item) (q : List ℕ) (x : ℕ) (o : Option ℕ) (m n : HashMap (List ℕ) ℕ S) (best : Option Clash) → get text_eq m q ≡ o → Updates text_eq m n q (Some (unwrap_or o x)) → AtMost items x → Finds items (get text_eq m) best
+    → Finds (items ++ (q, x) ∷ []) (get text_eq n) (clash_of q (unwrap_or o x) x best)
 finds_at items q x None m n best e up most s =
-    let B : Bool → Type 0 = λ b. Finds (items ++ (q, x) ∷ []) (get text_cmp n) (cond (b || not (is_better q best)) best (Some (record { key = q; first = x; second = x }))) in
-    subst B (sym (same_eq x x refl)) (finds_new items q x (get text_cmp m) (get text_cmp n) best e (owner_stays q x None m n e up) (λ k ne. others_stay q k (Some x) m n up ne) s)
+    let B : Bool → Type 0 = λ b. Finds (items ++ (q, x) ∷ []) (get text_eq n) (cond (b || not (is_better q best)) best (Some (record { key = q; first = x; second = x }))) in
+    subst B (sym (same_eq x x refl)) (finds_new items q x (get text_eq m) (get text_eq n) best e (owner_stays q x None m n e up) (λ k ne. others_stay q k (Some x) m n up ne) s)
 finds_at items q x (Some f) m n best e up most s =
-    same_finds (items ++ (q, x) ∷ []) (get text_cmp m) (get text_cmp n) (clash_of q f x best)
+    same_finds (items ++ (q, x) ∷ []) (get text_eq m) (get text_eq n) (clash_of q f x best)
     (λ k. elim (same_or_not q k) [
-      | inl is ↦ let P : List ℕ → Type 0 = λ l. get text_cmp n l ≡ get text_cmp m l in subst P is (owner_stays q x (Some f) m n e up ∙ sym e)
+      | inl is ↦ let P : List ℕ → Type 0 = λ l. get text_eq n l ≡ get text_eq m l in subst P is (owner_stays q x (Some f) m n e up ∙ sym e)
       | inr ne ↦ others_stay q k (Some f) m n up ne
     ])
-    (finds_by items q x f (get text_cmp m) best (nat_eq f x) (is_better q best) refl refl e most s)
+    (finds_by items q x f (get text_eq m) best (nat_eq f x) (is_better q best) refl refl e most s)
 
 -- one more upload, of which this task or an earlier one is the owner
-pub finds_one : (items : List Item) (q : List ℕ) (x first : ℕ) (m n : BTreeMap (List ℕ) ℕ) (best best' : Option Clash) → first ≡ unwrap_or (get text_cmp m q) x → Updates text_cmp m n q (Some (unwrap_or (get text_cmp m q) x)) → best' ≡ clash_of q first x best
-    → AtMost items x → Finds items (get text_cmp m) best → Finds (items ++ (q, x) ∷ []) (get text_cmp n) best'
+pub finds_one : {S : Type 0} (items : List Item) (q : List ℕ) (x first : ℕ) (m n : HashMap (List ℕ) ℕ S) (best best' : Option Clash) → first ≡ unwrap_or (get text_eq m q) x → Updates text_eq m n q (Some (unwrap_or (get text_eq m q) x)) → best' ≡ clash_of q first x best
+    → AtMost items x → Finds items (get text_eq m) best → Finds (items ++ (q, x) ∷ []) (get text_eq n) best'
 finds_one items q x first m n best best' e up is most s =
-    let B : Option Clash → Type 0 = λ v. Finds (items ++ (q, x) ∷ []) (get text_cmp n) v in
-    subst B (sym (is ∙ ap (λ t. clash_of q t x best) e)) (finds_at items q x (get text_cmp m q) m n best refl up most s)
+    let B : Option Clash → Type 0 = λ v. Finds (items ++ (q, x) ∷ []) (get text_eq n) v in
+    subst B (sym (is ∙ ap (λ t. clash_of q t x best) e)) (finds_at items q x (get text_eq m q) m n best refl up most s)
 
 pub on_ok : {T E A B : Type 0} (r : Result T E) → (A → B) → OnOk r A → OnOk r B
 on_ok (Ok x) f h = f h

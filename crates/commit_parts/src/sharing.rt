@@ -1,15 +1,15 @@
 ghost use Rattle.std.specs.Prelude.{◌≡◌, ℕ, List, ◌++◌, ◌∷◌, [], ◌<◌, ◌≤◌, ◌^◌, map, length, Some, IfOk, OnOk};
-ghost use Rattle.std.specs.BTreeMap.{get as found, Updates};
+ghost use Rattle.std.specs.HashMap.{get as found, Updates};
 ghost use Rattle.std.specs.Option.{unwrap_or};
-ghost use Rattle.proof_base.specs.Order.{text_cmp};
+ghost use Rattle.proof_base.specs.Order.{text_eq};
 ghost use Rattle.job_protocol.specs.LaneTable.{In};
 ghost use Rattle.commit_parts.specs.Clashes.{Item, items_from, IsBest, is_better, clash_of, Finds};
 
 use pending_json::{PendingSet, PendingUpload};
-use s3_types::{Key, put};
+use s3_types::{Key, Text, put};
 use std::alloc::{AllocError, Global};
 use std::cmp::Ordering;
-use std::collections::BTreeMap;
+use std::collections::HashMap;
 
 /// A key that two tasks write.
 #[derive(Drop)]
@@ -22,7 +22,7 @@ pub struct Clash {
 /// The least task that writes each key, and the least key that two tasks write.
 #[derive(Drop)]
 pub struct Search {
-    owners: BTreeMap<Key, u32>,
+    owners: HashMap<Text, u32>,
     best: Option<Clash>,
 }
 
@@ -37,12 +37,12 @@ fn is_better(key: &Key, best: &Option<Clash>) -> bool
 }
 
 /// The task that is the first to write a key, which is this one where none was before. In one look-up.
-fn owner_of(owners: &mut BTreeMap<Key, u32>, key: &Key, task: u32) -> Result<u32, AllocError>
-    ensures first { IfOk result (λ first. first ≡ unwrap_or (found text_cmp owners.old key.now) task) }
-    ensures owners { OnOk result (Updates text_cmp owners.old owners.new key.now
-        (Some (unwrap_or (found text_cmp owners.old key.now) task))) }
+fn owner_of(owners: &mut HashMap<Text, u32>, key: &Key, task: u32) -> Result<u32, AllocError>
+    ensures first { IfOk result (λ first. first ≡ unwrap_or (found text_eq owners.old key.now) task) }
+    ensures owners { OnOk result (Updates text_eq owners.old owners.new key.now
+        (Some (unwrap_or (found text_eq owners.old key.now) task))) }
 {
-    let first = *owners.entry(key.clone()?)?.or_insert(task);
+    let first = *owners.entry(key.as_text().clone()?)?.or_insert(task);
     Ok(first)
 }
 
@@ -68,8 +68,8 @@ fn add_clash(best: &mut Option<Clash>, key: &Key, first: u32, task: u32) -> Resu
 /// One more upload, of a task that is none before those of the uploads so far.
 fn add(search: &mut Search, key: &Key, task: u32) -> Result<(), AllocError>
     ensures { OnOk result ((items : List Item) → ((k : List ℕ) (v : ℕ) → In (k, v) items → v ≤ task)
-        → Finds items (found text_cmp search.old.owners) search.old.best
-        → Finds (items ++ (key.now, task) ∷ []) (found text_cmp search.new.owners) search.new.best) }
+        → Finds items (found text_eq search.old.owners) search.old.best
+        → Finds (items ++ (key.now, task) ∷ []) (found text_eq search.new.owners) search.new.best) }
 {
     let first = owner_of(&mut search.owners, key, task)?;
     add_clash(&mut search.best, key, first, task)
@@ -78,8 +78,8 @@ fn add(search: &mut Search, key: &Key, task: u32) -> Result<(), AllocError>
 /// The uploads of one more task.
 fn add_all(search: &mut Search, uploads: &[PendingUpload], task: u32) -> Result<(), AllocError>
     ensures { OnOk result ((items : List Item) → ((k : List ℕ) (v : ℕ) → In (k, v) items → v ≤ task)
-        → Finds items (found text_cmp search.old.owners) search.old.best
-        → Finds (items ++ map (λ c. (c.destination, task)) uploads.now) (found text_cmp search.new.owners)
+        → Finds items (found text_eq search.old.owners) search.old.best
+        → Finds (items ++ map (λ c. (c.destination, task)) uploads.now) (found text_eq search.new.owners)
         search.new.best) }
 {
     for upload in uploads {
@@ -89,13 +89,13 @@ fn add_all(search: &mut Search, uploads: &[PendingUpload], task: u32) -> Result<
 }
 
 /// The least key that two tasks write, with the two least tasks that do, or None where no two write one
-/// key. In time n log n for n uploads.
+/// key. In time linear in the uploads, mostly.
 pub fn shared(alloc: Global, sets: &[PendingSet]) -> Result<Option<Clash>, AllocError>
     requires { length sets.now < 2 ^ 32 }
     ensures { IfOk result (λ best. IsBest (items_from 0 sets.now) best) }
 {
     let mut search = Search {
-        owners: BTreeMap::new(alloc),
+        owners: HashMap::new(alloc),
         best: None,
     };
     for (n, set) in sets.iter().enumerate() {

@@ -1,7 +1,8 @@
 use Rattle.std.proofs.Common.{ℕ, List, ◌++◌, ◌≤◌, map, take}
-use Rattle.job_protocol.specs.Prelude.{get, text_cmp, In}
+use Rattle.std.specs.HashMap.{get}
+use Rattle.job_protocol.specs.Prelude.{text_eq, In}
 use Rattle.commit_parts.specs.Clashes.{Item, Finds}
 use Rattle.commit_parts.proofs.sharing.add_all.Given as goal
 
 abbrev pub invariant-loop-upload : goal.invariant-loop-upload
-invariant-loop-upload l = (items : List Item) → ((k : List ℕ) (v : ℕ) → In (k, v) items → v ≤ l.task) → Finds items (get text_cmp l.initial.search.owners) l.initial.search.best → Finds (items ++ map (λ c. (c.destination, l.task)) (take l.upload-index l.uploads)) (get text_cmp l.search.owners) l.search.best
+invariant-loop-upload l = (items : List Item) → ((k : List ℕ) (v : ℕ) → In (k, v) items → v ≤ l.task) → Finds items (get text_eq l.initial.search.owners) l.initial.search.best → Finds (items ++ map (λ c. (c.destination, l.task)) (take l.upload-index l.uploads)) (get text_eq l.search.owners) l.search.best

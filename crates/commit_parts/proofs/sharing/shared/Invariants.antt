@@ -1,7 +1,8 @@
 use Rattle.std.proofs.Common.{take}
-use Rattle.job_protocol.specs.Prelude.{get, text_cmp}
+use Rattle.std.specs.HashMap.{get}
+use Rattle.job_protocol.specs.Prelude.{text_eq}
 use Rattle.commit_parts.specs.Clashes.{items_from, Finds}
 use Rattle.commit_parts.proofs.sharing.shared.Given as goal
 
 abbrev pub invariant-loop-n : goal.invariant-loop-n
-invariant-loop-n l = Finds (items_from 0 (take l.n l.sets)) (get text_cmp l.search.owners) l.search.best
+invariant-loop-n l = Finds (items_from 0 (take l.n l.sets)) (get text_eq l.search.owners) l.search.best
