@@ -14,6 +14,10 @@ key_if (x ∷ p) = Some (x ∷ p)
 abbrev pub prefix_of : List ℕ → List ℕ
 prefix_of p = below p []
 
+-- a look at the bucket
+abbrev pub bucket_asks : Ask
+bucket_asks = Page [] false [] 1
+
 -- the first so many keys below a path, and its marker
 abbrev pub below_asks : List ℕ → ℕ → Ask
 below_asks p n = Page (prefix_of p) false [] n

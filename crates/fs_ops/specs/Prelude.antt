@@ -12,7 +12,7 @@ pub use Rattle.dir_markers.specs.declared.marker.MarkerPolicy.{MarkerPolicy}
 pub use Rattle.dir_markers.specs.declared.marker.MarkerPolicy.TheVariants.{Delete, Keep}
 pub use Rattle.dir_markers.specs.declared.status.Status.{Status}
 pub use Rattle.dir_markers.specs.declared.status.Status.TheVariants.{Directory, File}
-pub use Rattle.fs_ops.specs.Places.{NoFileAt, below_asks, get_asks, key_if, look_asks, prefix_of}
+pub use Rattle.fs_ops.specs.Places.{NoFileAt, below_asks, bucket_asks, get_asks, key_if, look_asks, prefix_of}
 pub use Rattle.fs_ops.specs.code.AtPath.{first, holds, left, told}
 pub use Rattle.fs_ops.specs.code.Climbs.{IsClimb, climbed, climbing}
 pub use Rattle.fs_ops.specs.code.Delete.{Answer, Deletion, Removed, ends, entries_in, gives}

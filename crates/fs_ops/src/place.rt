@@ -1,7 +1,7 @@
 ghost use Rattle.std.specs.Prelude.{◌≡◌, ◌==◌, [], false, length, IfOk};
 ghost use Rattle.std.specs.Option.{option_copied};
 ghost use Rattle.bucket_ops.specs.Asks.{request_of, Page, Put};
-ghost use Rattle.fs_ops.specs.Places.{key_if, look_asks, get_asks, below_asks, drop_asks, drop_marker_asks, put_marker_asks, prefix_of};
+ghost use Rattle.fs_ops.specs.Places.{key_if, bucket_asks, look_asks, get_asks, below_asks, drop_asks, drop_marker_asks, put_marker_asks, prefix_of};
 
 use dir_markers::marker_key;
 use path_keys::S3Path;
@@ -43,7 +43,7 @@ pub fn first_key(alloc: Global, bucket: &Bucket, prefix: &Text) -> Result<Reques
 
 /// The look at a bucket.
 pub fn look_at_bucket(alloc: Global, bucket: &Bucket) -> Result<Request, AllocError>
-    ensures { IfOk result (λ request. request ≡ request_of bucket.now (Page [] false [] 1)) }
+    ensures { IfOk result (λ request. request ≡ request_of bucket.now bucket_asks) }
 {
     first_key(alloc, bucket, &Text::empty(alloc)?)
 }

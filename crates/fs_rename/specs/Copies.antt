@@ -1,6 +1,6 @@
 -- Keys that are copied one by one, and deleted when all are.
 use Rattle.std.specs.Prelude.{◌≡◌, ◌⊎◌, ℕ, ◌+◌, ◌-◌, ◌<◌, ◌&&◌, nat_lt, Bool, true, false, List, [], ◌∷◌, map, take, drop, length, None}
-use Rattle.fs_ops.specs.Prelude.{Objects, copied, RisesFrom, marker_of, Stands, keys_below, Ask, Copy, Page}
+use Rattle.fs_ops.specs.Prelude.{Objects, copied, RisesFrom, marker_of, Stands, keys_below, Ask, Copy, bucket_asks}
 use Rattle.std.specs.FinMap as fin
 use Rattle.fs_rename.specs.Keys.{new_key}
 use Rattle.fs_rename.specs.declared.copying.Copying.{Copying}
@@ -31,8 +31,8 @@ copied_all m (p ∷ ps) = copied_all (copied m p.1 (fin.get m p.0)) ps
 
 -- the first key is copied to its new key
 abbrev pub copy_of : List (List ℕ) → List (List ℕ) → Ask
-copy_of [] ls = Page [] false [] 1
-copy_of (k ∷ ks) [] = Page [] false [] 1
+copy_of [] ls = bucket_asks
+copy_of (k ∷ ks) [] = bucket_asks
 copy_of (k ∷ ks) (l ∷ ls) = Copy k l
 
 -- the CopyObject of the key in hand

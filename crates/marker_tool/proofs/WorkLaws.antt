@@ -10,7 +10,8 @@ use Rattle.marker_tool.proofs.MarkerLaws.{has_markers, all_surplus}
 use Rattle.marker_tool.proofs.MissingLaws.{all_missing}
 use Rattle.marker_tool.proofs.SameTree.{without_append, with_append, cleaning_of, cleans, is_cleaning, filling_of, fills, is_filling}
 use Rattle.marker_tool.specs.code.Work.{IsWork}
-use Rattle.marker_tool.specs.Works.{bucket_asks, drops, puts, CleanSends, FillSends, with_markers}
+use Rattle.fs_ops.specs.Places.{bucket_asks}
+use Rattle.marker_tool.specs.Works.{drops, puts, CleanSends, FillSends, with_markers}
 
 same_tree : (z : Objects) → SameTree z z
 same_tree z = record { files = λ k f. refl; kept = λ q h. h; only = λ q h. h }

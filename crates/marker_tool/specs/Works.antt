@@ -1,11 +1,7 @@
 -- What the marker tool asks in a directory, beside looks.
-use Rattle.std.specs.Prelude.{◌≡◌, ◌⊎◌, ℕ, true, false, List, [], ◌∷◌, take}
-use Rattle.fs_ops.specs.Prelude.{Objects, IsIn, Ask, Page, Put, DropAll, is_look, marker, IsDirectory, IsSurplus, IsMissing}
+use Rattle.std.specs.Prelude.{◌≡◌, ◌⊎◌, ℕ, true, List, [], ◌∷◌, take}
+use Rattle.fs_ops.specs.Prelude.{Objects, IsIn, Ask, Put, DropAll, bucket_asks, is_look, marker, IsDirectory, IsSurplus, IsMissing}
 use Rattle.std.specs.FinMap as fin
-
--- a look at the bucket
-abbrev pub bucket_asks : Ask
-bucket_asks = Page [] false [] 1
 
 -- the deletion of the first thousand keys
 abbrev pub drops : List (List ℕ) → Ask

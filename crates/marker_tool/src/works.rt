@@ -4,7 +4,8 @@ ghost use Rattle.bucket_ops.specs.Asks.{request_of};
 ghost use Rattle.fs_tree.specs.MarkerTool.{Audits, Cleans, Fills, IsCleaning, IsFilling};
 ghost use Rattle.fs_ops.specs.code.Steps.{IsStill, OnlyLooks};
 ghost use Rattle.marker_tool.specs.Markers.{markers_in, surplus_in, missing_in};
-ghost use Rattle.marker_tool.specs.Works.{bucket_asks, drops, puts, CleanSends, FillSends, with_markers};
+ghost use Rattle.fs_ops.specs.Places.{bucket_asks};
+ghost use Rattle.marker_tool.specs.Works.{drops, puts, CleanSends, FillSends, with_markers};
 
 use crate::listed::{markers_in, missing_in, surplus_in};
 use crate::tool::MarkerTool;

@@ -1,6 +1,6 @@
 -- Copying all that is below a directory, by its stages.
 use Rattle.std.specs.Prelude.{ℕ, ◌+◌, ◌||◌, ◌&&◌, nat_lt, nat_eq, Bool, true, false, cond, List, [], ◌∷◌, ◌++◌, length, drop, Option, Some, None, Result, Ok, Err}
-use Rattle.fs_ops.specs.Prelude.{text_eq, begins, PageEntry, Reply, Step, Next, End, Look, There, look_of, Ask, Head, Get, Page, marker_of, keys_above, keys_on, Walked, More, Whole, walked_entries, CopyRefusal, Overlap, SourceIsFile, Differs, CopyCount, key_if, prefix_of, look_asks, unless, climbing, climbed, walk_asks, fits}
+use Rattle.fs_ops.specs.Prelude.{text_eq, begins, PageEntry, Reply, Step, Next, End, Look, There, look_of, Ask, Head, Get, bucket_asks, marker_of, keys_above, keys_on, Walked, More, Whole, walked_entries, CopyRefusal, Overlap, SourceIsFile, Differs, CopyCount, key_if, prefix_of, look_asks, unless, climbing, climbed, walk_asks, fits}
 use Rattle.s3_types.specs.declared.reply.Reply.TheVariants.{Object as Found}
 use Rattle.fs_tree.specs.declared.copy.CopyRefusal.TheVariants.{NoSuchBucket, SourceMissing, TargetFile, TooLong}
 use Rattle.fs_ops.specs.declared.climb.Climbed.{Climbed}
@@ -38,7 +38,7 @@ climb t = keys_above t ++ one_of (key_if t)
 
 -- what stands at the first of these keys
 abbrev pub read_of : List (List ℕ) → Ask
-read_of [] = Page [] false [] 1
+read_of [] = bucket_asks
 read_of (k ∷ ks) = Get k
 
 -- a copy begins with a look at the source
