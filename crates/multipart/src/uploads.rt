@@ -140,9 +140,10 @@ impl Uploads {
         self.alloc
     }
 
-    /// Sets a part, in place of an earlier one of that number, in O(log u), and gives its tag. Refused
-    /// are, in this order: NoSuchUpload where the upload is not live with this key, and BadPartNumber
-    /// where the number is not 1 to 10,000. After any fault all is as before. (Amazon S3 API, UploadPart.)
+    /// Sets a part, in place of an earlier one of that number, and gives its tag, in O(log u) and the time to
+    /// move the parts of greater numbers. Refused are, in this order: NoSuchUpload where the upload is not
+    /// live with this key, and BadPartNumber where the number is not 1 to 10,000. After any fault all is as
+    /// before. (Amazon S3 API, UploadPart.)
     pub fn part(
         &mut self,
         key: &Key,

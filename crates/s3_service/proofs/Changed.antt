@@ -1,7 +1,10 @@
--- Buckets of which one is changed.
-use Rattle.std.proofs.Common.{◌≡◌, ℕ, List, Option, Some, None, sym, ap, ◌∙◌}
-use Rattle.s3_types.specs.Prelude.{BucketContent, Buckets}
+-- Buckets of which one is changed, by the entries of a tree that lends it.
+use Rattle.std.proofs.Common.{◌≡◌, ℕ, List, Bool, cond, Option, Some, None, sym, ap, ◌∙◌}
+use Rattle.s3_types.specs.Prelude.{text_cmp, text_total, BucketContent, Buckets}
+use Rattle.proof_base.specs.Prelude.{is_at, lookup}
+use Rattle.proof_base.proofs.Common.{exact_bytes}
 use Rattle.std.specs.FinMap as map
+use Rattle.proof_base.proofs.Tree.{get_made, made_insert, insert_same}
 use Rattle.s3_service.specs.Changed.{changed, with_bucket}
 
 pub present : (m : Buckets) (k : List ℕ) (f : BucketContent → BucketContent) (b : BucketContent) → map.get m k ≡ Some b → with_bucket m k f ≡ map.insert m k (f b)
@@ -9,3 +12,20 @@ present m k f b e = ap (λ (o : Option BucketContent). changed o m k f) e
 
 pub absent : (m : Buckets) (k : List ℕ) (f : BucketContent → BucketContent) → map.get m k ≡ None → with_bucket m k f ≡ m
 absent m k f e = ap (λ (o : Option BucketContent). changed o m k f) e
+
+abbrev Row : Type 0
+Row = List (List ℕ × BucketContent)
+
+module _ (es : Row) (m : Buckets) (k : List ℕ) (is : map.from_entries {R = text_cmp} es ≡ m) where
+  -- what stands at a name
+  pub found : (o : Option BucketContent) → o ≡ lookup (is_at (text_cmp k)) es → map.get m k ≡ o
+  found o e = ap (λ (m : Buckets). map.get m k) (sym is) ∙ get_made text_total es k ∙ sym e
+
+  module _ (fs : Row) (w b : BucketContent) (was : Some b ≡ lookup (is_at (text_cmp k)) es) (h : (q : List ℕ) → lookup (is_at (text_cmp q)) fs ≡ cond (is_at (text_cmp k) q) (Some w) (lookup (is_at (text_cmp q)) es)) where
+    -- the bucket that was lent is changed
+    pub written : (f : BucketContent → BucketContent) → w ≡ f b → map.from_entries {R = text_cmp} fs ≡ with_bucket m k f
+    written f e = made_insert text_total exact_bytes es fs k w h ∙ (λ i. map.insert (is i) k (e i)) ∙ sym (present m k f b (found (Some b) was))
+
+    -- it is as it was
+    pub unwritten : w ≡ b → map.from_entries {R = text_cmp} fs ≡ m
+    unwritten e = made_insert text_total exact_bytes es fs k w h ∙ (λ i. map.insert (is i) k (e i)) ∙ insert_same text_total exact_bytes m k b (found (Some b) was)

@@ -4,8 +4,8 @@
 //! # What is proved
 //!
 //! `Service`: `apply` answers `answer_store` and leaves `apply_store`, for all store requests; after
-//! want of memory all is as before. `copy` gives a store with the same content, which shares bytes and
-//! keys' texts.
+//! want of memory all is as before. `follow` leaves the same, and makes no answer. `copy` gives a store with
+//! the same content, which shares bytes and keys' texts.
 #![tactic(auto)]
 
 mod bucket;
