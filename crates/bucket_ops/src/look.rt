@@ -4,7 +4,7 @@ ghost use Rattle.bucket_ops.specs.Looks.{look_of};
 use s3_types::{Refusal, Reply};
 
 /// What a look at a key, or below a prefix, found.
-#[derive(Clone, Copy, Debug, PartialEq, Eq)]
+#[derive(Clone, Copy, PartialEq, Eq)]
 pub enum Look {
     There,
     Nothing,

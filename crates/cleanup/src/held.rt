@@ -13,7 +13,7 @@ use s3_types::{Committer, Reply, Request, TextList, put};
 use std::alloc::{AllocError, Global};
 
 /// Where a clean stands.
-#[derive(Clone, Copy, Debug)]
+#[derive(Clone, Copy)]
 pub enum Stage {
     /// It lists live uploads.
     Walking,

@@ -22,7 +22,7 @@ use std::alloc::{AllocError, Global};
 const BATCH: usize = 1000;
 
 /// Where a sparing clean stands.
-#[derive(Clone, Copy, Debug)]
+#[derive(Clone, Copy)]
 pub enum Stage {
     /// It lists the keys below the job's magic directory.
     Walking,

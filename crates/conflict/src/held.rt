@@ -18,7 +18,7 @@ use s3_types::{Reply, Request, Sequence, Text, TextList, put};
 use std::alloc::{AllocError, Global};
 
 /// Where a check before a commit stands.
-#[derive(Clone, Copy, Debug)]
+#[derive(Clone, Copy)]
 pub enum Stage {
     /// It looks for a file of the whole destination.
     Looking,

@@ -8,7 +8,7 @@ use s3_types::{Key, KeyList, Text};
 use std::alloc::{AllocError, Global};
 
 /// What becomes of the markers above a file that was made. (Hadoop, S3A: fs.s3a.directory.marker.retention.)
-#[derive(Clone, Copy, Debug, PartialEq, Eq, Drop)]
+#[derive(Clone, Copy, PartialEq, Eq, Drop)]
 pub enum MarkerPolicy {
     Keep,
     Delete,

@@ -7,7 +7,7 @@ use s3_types::Bytes;
 use shelf::Failed;
 
 /// Why a disk gave nothing.
-#[derive(Clone, Copy, Debug, PartialEq, Eq)]
+#[derive(Clone, Copy, PartialEq, Eq)]
 pub enum DiskFault {
     Failed,
     /// The file has more than 2,147,483,648 bytes.

@@ -18,7 +18,7 @@ pub enum DiskCall {
 }
 
 /// A range of a file: its place in bytes from the start, and how many bytes it has.
-#[derive(Clone, Copy, Debug, PartialEq, Eq)]
+#[derive(Clone, Copy, PartialEq, Eq)]
 pub struct Span {
     pub place: u64,
     pub length: usize,
@@ -34,7 +34,7 @@ pub struct State {
 }
 
 /// What a crash makes of the ranges that were not synced.
-#[derive(Clone, Copy, Debug, PartialEq, Eq)]
+#[derive(Clone, Copy, PartialEq, Eq)]
 pub enum Choice {
     /// They hold what they held, and end where they ended.
     Lost,

@@ -10,7 +10,7 @@ use fs_tree::FsRefusal;
 use operations::Step;
 
 /// Where a question at a path stands.
-#[derive(Clone, Copy, Debug)]
+#[derive(Clone, Copy)]
 pub enum PathStage {
     /// What stands at the path.
     Here,

@@ -24,7 +24,7 @@ use std::alloc::AllocError;
 
 /// The paths that a renaming looks at: the source, the target, the new place inside the target, and the path above
 /// the target.
-#[derive(Clone, Copy, Debug)]
+#[derive(Clone, Copy)]
 pub enum Spot {
     Source,
     Target,
@@ -33,7 +33,7 @@ pub enum Spot {
 }
 
 /// What stands at a path.
-#[derive(Clone, Copy, Debug)]
+#[derive(Clone, Copy)]
 pub enum Kind {
     File,
     Directory,

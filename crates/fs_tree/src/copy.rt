@@ -22,7 +22,7 @@ pub enum CopyRefusal {
 }
 
 /// How many keys a copy of a tree has copied, and how many stood already.
-#[derive(Clone, Copy, Debug, PartialEq, Eq)]
+#[derive(Clone, Copy, PartialEq, Eq)]
 pub struct CopyCount {
     pub copied: u64,
     pub skipped: u64,

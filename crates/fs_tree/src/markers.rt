@@ -1,7 +1,7 @@
 use s3_types::{Key, Sequence};
 
 /// What a marker is to the tree. (Hadoop, S3A: directory markers, the marker tool.)
-#[derive(Clone, Copy, Debug, PartialEq, Eq)]
+#[derive(Clone, Copy, PartialEq, Eq)]
 pub enum MarkerKind {
     /// It has no bytes, and another key begins with it: the directory stands without it.
     Surplus,

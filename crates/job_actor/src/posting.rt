@@ -8,7 +8,7 @@ use s3_types::{Actor, Journal, ObjectStore, Request, let_go};
 use std::alloc::Global;
 
 /// What became of a sending.
-#[derive(Clone, Copy, Debug, PartialEq, Eq)]
+#[derive(Clone, Copy, PartialEq, Eq)]
 pub enum Posted {
     /// Memory was wanting before it: nothing was sent, and all is as before.
     Unsent,

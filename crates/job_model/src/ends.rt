@@ -23,15 +23,15 @@ impl fmt::Display for SetupEnd {
 
     fn fmt<W: fmt::Write>(&self, f: &mut fmt::Formatter<W>) -> fmt::Result {
         match self {
-            SetupEnd::Done => write!(f, "done"),
+            SetupEnd::Done => f.write_str("done"),
             SetupEnd::Conflict(path) => {
                 let path = path.as_str();
                 write!(f, "conflict {path}")
             }
-            SetupEnd::DestIsFile => write!(f, "dest-is-file"),
-            SetupEnd::NoSuchBucket => write!(f, "no-such-bucket"),
-            SetupEnd::StoreFault => write!(f, "store-fault"),
-            SetupEnd::NoMemory => write!(f, "no-memory"),
+            SetupEnd::DestIsFile => f.write_str("dest-is-file"),
+            SetupEnd::NoSuchBucket => f.write_str("no-such-bucket"),
+            SetupEnd::StoreFault => f.write_str("store-fault"),
+            SetupEnd::NoMemory => f.write_str("no-memory"),
         }
     }
 }
@@ -53,13 +53,13 @@ impl fmt::Display for CheckEnd {
 
     fn fmt<W: fmt::Write>(&self, f: &mut fmt::Formatter<W>) -> fmt::Result {
         match self {
-            CheckEnd::Clear => write!(f, "clear"),
+            CheckEnd::Clear => f.write_str("clear"),
             CheckEnd::Conflict(path) => {
                 let path = path.as_str();
                 write!(f, "conflict {path}")
             }
-            CheckEnd::StoreFault => write!(f, "store-fault"),
-            CheckEnd::NoMemory => write!(f, "no-memory"),
+            CheckEnd::StoreFault => f.write_str("store-fault"),
+            CheckEnd::NoMemory => f.write_str("no-memory"),
         }
     }
 }
@@ -84,24 +84,24 @@ impl fmt::Display for TaskEnd {
 
     fn fmt<W: fmt::Write>(&self, f: &mut fmt::Formatter<W>) -> fmt::Result {
         match self {
-            TaskEnd::Done => write!(f, "done"),
+            TaskEnd::Done => f.write_str("done"),
             TaskEnd::Conflict(partition) => {
                 let partition = partition.as_str();
                 write!(f, "conflict {partition}")
             }
-            TaskEnd::Kept => write!(f, "kept"),
+            TaskEnd::Kept => f.write_str("kept"),
             TaskEnd::Gone(name) => {
                 let name = name.as_str();
                 write!(f, "gone {name}")
             }
-            TaskEnd::StoreFault => write!(f, "store-fault"),
-            TaskEnd::NoMemory => write!(f, "no-memory"),
+            TaskEnd::StoreFault => f.write_str("store-fault"),
+            TaskEnd::NoMemory => f.write_str("no-memory"),
         }
     }
 }
 
 /// Which requests of a job's commit a lost one was among.
-#[derive(Clone, Copy, Debug, PartialEq, Eq)]
+#[derive(Clone, Copy, PartialEq, Eq)]
 pub enum Stage {
     /// The reads of the tasks' sets.
     Read,
@@ -117,12 +117,13 @@ impl fmt::Display for Stage {
     ghost output = { λ stage. Some (part_word stage) };
 
     fn fmt<W: fmt::Write>(&self, f: &mut fmt::Formatter<W>) -> fmt::Result {
-        match self {
-            Stage::Read => write!(f, "read"),
-            Stage::Delete => write!(f, "delete"),
-            Stage::Complete => write!(f, "complete"),
-            Stage::Success => write!(f, "success"),
-        }
+        let word = match self {
+            Stage::Read => "read",
+            Stage::Delete => "delete",
+            Stage::Complete => "complete",
+            Stage::Success => "success",
+        };
+        f.write_str(word)
     }
 }
 
@@ -144,7 +145,7 @@ impl fmt::Display for CommitEnd {
 
     fn fmt<W: fmt::Write>(&self, f: &mut fmt::Formatter<W>) -> fmt::Result {
         match self {
-            CommitEnd::Committed => write!(f, "committed"),
+            CommitEnd::Committed => f.write_str("committed"),
             CommitEnd::Missing(task) => write!(f, "missing {task}"),
             CommitEnd::SamePath {
                 path,
@@ -155,13 +156,13 @@ impl fmt::Display for CommitEnd {
                 write!(f, "same-path {path} {first} {second}")
             }
             CommitEnd::StoreFault(stage) => write!(f, "store-fault {stage}"),
-            CommitEnd::NoMemory => write!(f, "no-memory"),
+            CommitEnd::NoMemory => f.write_str("no-memory"),
         }
     }
 }
 
 /// How a job's clean or abort ended.
-#[derive(Clone, Copy, Debug, PartialEq, Eq)]
+#[derive(Clone, Copy, PartialEq, Eq)]
 pub enum CleanEnd {
     Done,
     /// A request was lost past its retries.
@@ -173,11 +174,12 @@ impl fmt::Display for CleanEnd {
     ghost output = { λ end. Some (clean_text end) };
 
     fn fmt<W: fmt::Write>(&self, f: &mut fmt::Formatter<W>) -> fmt::Result {
-        match self {
-            CleanEnd::Done => write!(f, "done"),
-            CleanEnd::StoreFault => write!(f, "store-fault"),
-            CleanEnd::NoMemory => write!(f, "no-memory"),
-        }
+        let word = match self {
+            CleanEnd::Done => "done",
+            CleanEnd::StoreFault => "store-fault",
+            CleanEnd::NoMemory => "no-memory",
+        };
+        f.write_str(word)
     }
 }
 
@@ -199,12 +201,12 @@ impl fmt::Display for OpEnd {
 
     fn fmt<W: fmt::Write>(&self, f: &mut fmt::Formatter<W>) -> fmt::Result {
         match self {
-            OpEnd::Setup(end) => write!(f, "{end}"),
-            OpEnd::Check(end) => write!(f, "{end}"),
-            OpEnd::Commit(end) => write!(f, "{end}"),
-            OpEnd::Clean(end) => write!(f, "{end}"),
-            OpEnd::Task(end) => write!(f, "{end}"),
-            OpEnd::NoMemory => write!(f, "no-memory"),
+            OpEnd::Setup(end) => end.fmt(f),
+            OpEnd::Check(end) => end.fmt(f),
+            OpEnd::Commit(end) => end.fmt(f),
+            OpEnd::Clean(end) => end.fmt(f),
+            OpEnd::Task(end) => end.fmt(f),
+            OpEnd::NoMemory => f.write_str("no-memory"),
         }
     }
 }
@@ -220,7 +222,7 @@ pub struct ActorEnd {
 pub type ActorEndList = Sequence<ActorEnd>;
 
 /// Why an event was refused, in the order of the checks.
-#[derive(Clone, Copy, Debug, PartialEq, Eq)]
+#[derive(Clone, Copy, PartialEq, Eq)]
 pub enum EventFault {
     Dead = 1,
     Busy = 2,
@@ -235,15 +237,16 @@ impl fmt::Display for EventFault {
     ghost output = { λ fault. Some (fault_word fault) };
 
     fn fmt<W: fmt::Write>(&self, f: &mut fmt::Formatter<W>) -> fmt::Result {
-        match self {
-            EventFault::Dead => write!(f, "dead"),
-            EventFault::Busy => write!(f, "busy"),
-            EventFault::Idle => write!(f, "idle"),
-            EventFault::NotSet => write!(f, "not-set"),
-            EventFault::WrongState => write!(f, "wrong-state"),
-            EventFault::NotDead => write!(f, "not-dead"),
-            EventFault::NoRecovery => write!(f, "no-recovery"),
-        }
+        let word = match self {
+            EventFault::Dead => "dead",
+            EventFault::Busy => "busy",
+            EventFault::Idle => "idle",
+            EventFault::NotSet => "not-set",
+            EventFault::WrongState => "wrong-state",
+            EventFault::NotDead => "not-dead",
+            EventFault::NoRecovery => "no-recovery",
+        };
+        f.write_str(word)
     }
 }
 
@@ -263,7 +266,7 @@ pub enum EventEnd {
 pub type EndList = Sequence<EventEnd>;
 
 /// The attempt of a task whose files a job's commit publishes.
-#[derive(Clone, Copy, Debug, PartialEq, Eq)]
+#[derive(Clone, Copy, PartialEq, Eq)]
 pub struct Pick {
     pub task: u32,
     pub attempt: u32,

@@ -5,7 +5,7 @@ use s3_types::{Actor, Sequence};
 use std::fmt;
 
 /// An operation. The driver's are all but `Write`; an attempt's are `Write`, `Commit` and `Abort`.
-#[derive(Clone, Copy, Debug, PartialEq, Eq)]
+#[derive(Clone, Copy, PartialEq, Eq)]
 pub enum Op {
     Setup,
     Write,
@@ -18,18 +18,19 @@ impl fmt::Display for Op {
     ghost output = { λ op. Some (op_word op) };
 
     fn fmt<W: fmt::Write>(&self, f: &mut fmt::Formatter<W>) -> fmt::Result {
-        match self {
-            Op::Setup => write!(f, "setup"),
-            Op::Write => write!(f, "write"),
-            Op::Commit => write!(f, "commit"),
-            Op::Abort => write!(f, "abort"),
-            Op::Clean => write!(f, "clean"),
-        }
+        let word = match self {
+            Op::Setup => "setup",
+            Op::Write => "write",
+            Op::Commit => "commit",
+            Op::Abort => "abort",
+            Op::Clean => "clean",
+        };
+        f.write_str(word)
     }
 }
 
 /// What happens next in a run.
-#[derive(Clone, Copy, Debug, PartialEq, Eq)]
+#[derive(Clone, Copy, PartialEq, Eq)]
 pub enum Event {
     /// The actor begins an operation and goes on until it ends.
     Do { actor: Actor, op: Op },
@@ -60,7 +61,7 @@ impl fmt::Display for Event {
             Event::Run { actor } => write!(f, "run {actor}"),
             Event::Kill { actor } => write!(f, "kill {actor}"),
             Event::Mix { seed } => write!(f, "mix {seed}"),
-            Event::Restart => write!(f, "restart driver"),
+            Event::Restart => f.write_str("restart driver"),
             Event::Recover { actor } => write!(f, "recover {actor}"),
         }
     }

@@ -4,7 +4,7 @@ ghost use Rattle.job_model.specs.Words.{life_word, stage_word};
 use std::fmt;
 
 /// Whether an actor has an operation to go on with.
-#[derive(Clone, Copy, Debug, PartialEq, Eq)]
+#[derive(Clone, Copy, PartialEq, Eq)]
 pub enum Life {
     Idle,
     Busy,
@@ -15,17 +15,18 @@ impl fmt::Display for Life {
     ghost output = { λ life. Some (life_word life) };
 
     fn fmt<W: fmt::Write>(&self, f: &mut fmt::Formatter<W>) -> fmt::Result {
-        match self {
-            Life::Idle => write!(f, "idle"),
-            Life::Busy => write!(f, "busy"),
-            Life::Dead => write!(f, "dead"),
-        }
+        let word = match self {
+            Life::Idle => "idle",
+            Life::Busy => "busy",
+            Life::Dead => "dead",
+        };
+        f.write_str(word)
     }
 }
 
 /// How far an actor has come. The driver's are all but `Writing` and `Written`, an attempt's all but
 /// `Set`.
-#[derive(Clone, Copy, Debug, PartialEq, Eq)]
+#[derive(Clone, Copy, PartialEq, Eq)]
 pub enum ActorStage {
     New,
     Set,
@@ -41,21 +42,22 @@ impl fmt::Display for ActorStage {
     ghost output = { λ stage. Some (stage_word stage) };
 
     fn fmt<W: fmt::Write>(&self, f: &mut fmt::Formatter<W>) -> fmt::Result {
-        match self {
-            ActorStage::New => write!(f, "new"),
-            ActorStage::Set => write!(f, "set"),
-            ActorStage::Writing => write!(f, "writing"),
-            ActorStage::Written => write!(f, "written"),
-            ActorStage::Committing => write!(f, "committing"),
-            ActorStage::Committed => write!(f, "committed"),
-            ActorStage::Failed => write!(f, "failed"),
-            ActorStage::Aborted => write!(f, "aborted"),
-        }
+        let word = match self {
+            ActorStage::New => "new",
+            ActorStage::Set => "set",
+            ActorStage::Writing => "writing",
+            ActorStage::Written => "written",
+            ActorStage::Committing => "committing",
+            ActorStage::Committed => "committed",
+            ActorStage::Failed => "failed",
+            ActorStage::Aborted => "aborted",
+        };
+        f.write_str(word)
     }
 }
 
 /// An actor's life and stage.
-#[derive(Clone, Copy, Debug, PartialEq, Eq)]
+#[derive(Clone, Copy, PartialEq, Eq)]
 pub struct ActorState {
     pub life: Life,
     pub stage: ActorStage,

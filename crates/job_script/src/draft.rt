@@ -11,7 +11,7 @@ pub struct Loss {
 }
 
 /// The groups of lines in their order.
-#[derive(Clone, Copy, Debug, PartialEq, Eq)]
+#[derive(Clone, Copy, PartialEq, Eq)]
 pub enum Group {
     Head,
     Attempts,

@@ -27,7 +27,7 @@ use std::alloc::{AllocError, Global};
 use words::{number_within, one};
 
 /// The kinds of lines of the head that give one value.
-#[derive(Clone, Copy, Debug, PartialEq, Eq)]
+#[derive(Clone, Copy, PartialEq, Eq)]
 pub enum HeadWord {
     Job,
     Dest,

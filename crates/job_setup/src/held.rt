@@ -15,7 +15,7 @@ use s3_types::{Committer, Mode, Refusal, Reply, Request, put};
 use std::alloc::{AllocError, Global};
 
 /// Where a set-up stands.
-#[derive(Clone, Copy, Debug)]
+#[derive(Clone, Copy)]
 pub enum Stage {
     /// It looks at the destination's own key.
     Heading,

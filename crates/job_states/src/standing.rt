@@ -8,7 +8,7 @@ use job_model::{
 use s3_types::Actor;
 
 /// An actor's state, the operation that it began last, and whether it has reported a task since the last restart.
-#[derive(Clone, Copy, Debug, PartialEq, Eq)]
+#[derive(Clone, Copy, PartialEq, Eq)]
 pub struct Standing {
     pub state: ActorState,
     pub begun: Option<Op>,
@@ -16,7 +16,7 @@ pub struct Standing {
 }
 
 /// What became of the last one of a kind of the driver's operations.
-#[derive(Clone, Copy, Debug, PartialEq, Eq)]
+#[derive(Clone, Copy, PartialEq, Eq)]
 pub enum Decision {
     NotBegun,
     /// It was begun, and has no end.

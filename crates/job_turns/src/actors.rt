@@ -2,7 +2,7 @@ ghost use Rattle.std.specs.Prelude.{◌≡◌, ℕ, ◌<◌, true};
 ghost use Rattle.job_turns.specs.Turning.{Table, Turned, KeepsLaws};
 
 /// What a turn of an actor came to.
-#[derive(Clone, Copy, Debug, PartialEq, Eq)]
+#[derive(Clone, Copy, PartialEq, Eq)]
 pub enum Turn {
     /// It sent a request, and has more to send.
     GoesOn,

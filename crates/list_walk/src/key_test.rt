@@ -15,7 +15,7 @@ pub trait KeyTest {
 }
 
 /// All keys.
-#[derive(Clone, Copy, Debug)]
+#[derive(Clone, Copy)]
 pub struct AllKeys;
 
 impl KeyTest for AllKeys {

@@ -21,7 +21,7 @@ pub struct Retrying<M> {
 }
 
 /// What an outcome was for a machine.
-#[derive(Clone, Copy, Debug, PartialEq, Eq)]
+#[derive(Clone, Copy, PartialEq, Eq)]
 pub enum Turn {
     /// No answer, and the request is sent again.
     Again,

@@ -36,12 +36,12 @@ pub enum RecordFault {
 impl fmt::Debug for RecordFault {
     fn fmt<W: fmt::Write>(&self, f: &mut fmt::Formatter<W>) -> fmt::Result {
         match self {
-            RecordFault::NotJson => write!(f, "NotJson"),
+            RecordFault::NotJson => f.write_str("NotJson"),
             RecordFault::MissingField(name) => write!(f, "MissingField({:?})", name.as_str()),
             RecordFault::WrongKind(name) => write!(f, "WrongKind({:?})", name.as_str()),
             RecordFault::WrongVersion(version) => write!(f, "WrongVersion({version})"),
             RecordFault::ExtraField(name) => write!(f, "ExtraField({:?})", name.as_str()),
-            RecordFault::NoMemory => write!(f, "NoMemory"),
+            RecordFault::NoMemory => f.write_str("NoMemory"),
         }
     }
 }

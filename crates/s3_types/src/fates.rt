@@ -11,7 +11,7 @@ use std::ops::Bound;
 use thiserror::Error;
 
 /// What becomes of a sending.
-#[derive(Clone, Copy, Debug, PartialEq, Eq)]
+#[derive(Clone, Copy, PartialEq, Eq)]
 pub enum Fate {
     /// It is answered.
     Answer,

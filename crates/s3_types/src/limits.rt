@@ -22,7 +22,7 @@ pub const MOST_SCRIPT_BYTES: u64 = 67_108_864;
 
 /// The value of the header `x-hadoop-s3a-magic-data-length`: how many bytes a file will have that is
 /// not there yet, at most 2^64 - 2. (Hadoop, S3A committer architecture.)
-#[derive(Clone, Copy, Debug, PartialEq, Eq)]
+#[derive(Clone, Copy, PartialEq, Eq)]
 pub struct LengthHeader {
     length: u64,
 }
@@ -58,7 +58,7 @@ impl LengthHeader {
 }
 
 /// How many entries a page may have: 1 to 1,000. (Amazon S3, `max-keys` and `max-uploads`.)
-#[derive(Clone, Copy, Debug, PartialEq, Eq)]
+#[derive(Clone, Copy, PartialEq, Eq)]
 pub struct PageLimit {
     entries: u16,
 }

@@ -9,7 +9,7 @@ pub struct Object {
 }
 
 /// The length in bytes of what stands at a key, and its length header.
-#[derive(Clone, Copy, Debug, PartialEq, Eq)]
+#[derive(Clone, Copy, PartialEq, Eq)]
 pub struct Head {
     pub length: u64,
     pub header: Option<LengthHeader>,

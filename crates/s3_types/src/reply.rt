@@ -14,7 +14,7 @@ pub enum PageEntry {
 }
 
 /// A part of an upload: its number, its length in bytes and its tag.
-#[derive(Clone, Copy, Debug, PartialEq, Eq)]
+#[derive(Clone, Copy, PartialEq, Eq)]
 pub struct PartSize {
     pub number: u32,
     pub length: u64,

@@ -12,7 +12,7 @@ use std::alloc::{AllocError, Global};
 use std::fmt;
 
 /// Who sends a request.
-#[derive(Clone, Copy, Debug, PartialEq, Eq, Hash)]
+#[derive(Clone, Copy, PartialEq, Eq, Hash)]
 pub enum Actor {
     /// The job's driver.
     Driver,
@@ -27,15 +27,15 @@ impl fmt::Display for Actor {
 
     fn fmt<W: fmt::Write>(&self, f: &mut fmt::Formatter<W>) -> fmt::Result {
         match self {
-            Actor::Driver => write!(f, "driver"),
+            Actor::Driver => f.write_str("driver"),
             Actor::Attempt { task, attempt } => write!(f, "{task}.{attempt}"),
-            Actor::Shell => write!(f, "shell"),
+            Actor::Shell => f.write_str("shell"),
         }
     }
 }
 
 /// The committers that publish a job's output. (Hadoop, S3A committers.)
-#[derive(Clone, Copy, Debug, PartialEq, Eq)]
+#[derive(Clone, Copy, PartialEq, Eq)]
 pub enum Committer {
     Magic,
     Directory,
@@ -43,7 +43,7 @@ pub enum Committer {
 }
 
 /// What a job's commit does where files are already. (Hadoop, S3A committers: conflict modes.)
-#[derive(Clone, Copy, Debug, PartialEq, Eq)]
+#[derive(Clone, Copy, PartialEq, Eq)]
 pub enum Mode {
     Fail,
     Append,
@@ -69,7 +69,7 @@ impl Clone for UploadRef {
 }
 
 /// A part that a completion names, by its number and its tag.
-#[derive(Clone, Copy, Debug, PartialEq, Eq)]
+#[derive(Clone, Copy, PartialEq, Eq)]
 pub struct NamedPart {
     pub number: u32,
     pub tag: Tag,

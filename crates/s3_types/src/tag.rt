@@ -22,7 +22,7 @@ pub fn are_hex_digits(bytes: &[u8]) -> bool
 /// A tag, as S3's ETag: 32 lower-case hex digits, and a count of parts, 0 for the tag of a put or of a
 /// part and else the number of parts of a completed upload. It is written as the digits, and where
 /// there are parts `-` and their count behind them.
-#[derive(Clone, Copy, Debug, PartialEq, Eq)]
+#[derive(Clone, Copy, PartialEq, Eq)]
 pub struct Tag {
     digits: [u8; 32],
     parts: u32,

@@ -6,7 +6,7 @@ use shelf::{Failed, Source};
 use std::alloc::{AllocError, AllocFailed, Global};
 
 /// Why the input was not read.
-#[derive(Clone, Copy, Debug, PartialEq, Eq)]
+#[derive(Clone, Copy, PartialEq, Eq)]
 pub enum InputFault {
     Failed,
     NoMemory,

@@ -14,7 +14,7 @@ use std::alloc::{AllocError, Global};
 use twin_script::TwinFault;
 
 /// Why the work stopped before anything was sent.
-#[derive(Clone, Copy, Debug, PartialEq, Eq)]
+#[derive(Clone, Copy, PartialEq, Eq)]
 pub enum Stop {
     /// The words are no command.
     Usage,

@@ -13,7 +13,7 @@ pub use memory::MemShelf;
 use s3_types::Request;
 
 /// Why a shelf gave nothing.
-#[derive(Clone, Copy, Debug, PartialEq, Eq)]
+#[derive(Clone, Copy, PartialEq, Eq)]
 pub enum LoadFault {
     Failed,
     /// The base has more than [`MOST_BASE`] bytes, or the file more than [`MOST_FILE`].
@@ -24,7 +24,7 @@ pub enum LoadFault {
 }
 
 /// Why a shelf did not give or take what was asked.
-#[derive(Clone, Copy, Debug, PartialEq, Eq)]
+#[derive(Clone, Copy, PartialEq, Eq)]
 pub enum ShelfStop {
     Failed,
     NoMemory,

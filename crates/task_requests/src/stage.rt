@@ -1,5 +1,5 @@
 /// How far the present file of a write has come.
-#[derive(Clone, Copy, Debug, PartialEq, Eq)]
+#[derive(Clone, Copy, PartialEq, Eq)]
 pub enum WriteStage {
     /// Its upload is begun.
     Creating,

@@ -27,7 +27,7 @@ use task_requests::{
 };
 
 /// How far a commit has come.
-#[derive(Clone, Copy, Debug)]
+#[derive(Clone, Copy)]
 pub enum Stage {
     /// A partition is checked, where one is left; or else the upload of the next file is begun; or where no file is
     /// left the set is put.
