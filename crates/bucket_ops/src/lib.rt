@@ -1,5 +1,6 @@
 //! Operations on the objects of one bucket, told by their stages: what each may ask, and that an operation on
-//! two maps of objects is one on a store of which nothing else changes.
+//! two maps of objects is one on a store of which nothing else changes. Walks over the keys below a prefix, and sweeps of
+//! them, are parts of such operations; and a walk over live uploads is an operation.
 //!
 //! # What is proved
 //!
@@ -9,10 +10,23 @@
 //! in that event, and is one that the operation may ask (`sends`), or its first look where there is no
 //! bucket; at each moment the bucket is as the operation promises always; StoreFault comes exactly
 //! where a request wore out (`performed`).
+//!
+//! `fits`: Whether a walk or a sweep may be told a reply; where the bucket is there it may (`walk_fits`,
+//! `sweep_fits`). What a walk found and what is left are all keys below its prefix, each with the length of
+//! its bytes, at each page (`IsWalking`); a sweep deletes them in batches, the first ones first
+//! (`IsSweeping`); and both end.
+//!
+//! `list_uploads`: Alone, whatever is lost: exactly the live uploads below a prefix, in order, for any number of
+//! pages, or that there is no bucket (`found`). It changes nothing (`same`); each request is for a page below the
+//! prefix and is sent at most `retries + 1` times, and StoreFault comes exactly where one wore out (`performed`).
 #![tactic(auto)]
 
 mod bucket;
+mod fitting;
 mod look;
+mod uploads;
 
 pub use bucket::{InBucket, Phases, perform_in};
+pub use fitting::fits;
 pub use look::{Look, seen_in};
+pub use uploads::{UploadsBelow, list_uploads};

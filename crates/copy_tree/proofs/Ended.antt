@@ -1,7 +1,7 @@
 -- What the copy of a tree has done.
 use Rattle.std.proofs.Common.{◌≡◌, ℕ, List, Result, Err, IfOk, subst}
 use Rattle.fs_ops.specs.Prelude.{Scene, Actor, Seen, Performed, AlwaysIn, SendsIn, OtherBucket}
-use Rattle.bucket_walks.specs.Prelude.{DriveStop}
+use Rattle.bucket_ops.specs.Prelude.{DriveStop}
 use Rattle.fs_tree.specs.declared.copy.CopyRefusal.TheVariants.{NoSuchBucket}
 use Rattle.fs_rename.specs.Between.{Route, GivesBetween}
 use Rattle.copy_tree.specs.code.Copy.{CopyPaths, Answer, first as first_stage, asks}

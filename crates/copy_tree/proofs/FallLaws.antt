@@ -8,8 +8,8 @@ use Rattle.fs_ops.specs.declared.climb.Climbed.{Climbed}
 use Rattle.fs_ops.specs.declared.climb.Climbed.TheVariants.{File, On as Goes_on, Free}
 use Rattle.fs_ops.proofs.AtPathLaws.{still_look}
 use Rattle.fs_ops.proofs.Climbing.{IsShorter, climbing_falls, climbed_falls}
-use Rattle.bucket_walks.proofs.Sweeps.{length_keys}
-use Rattle.bucket_walks.proofs.Walks.{walk_fits, walk_falls}
+use Rattle.bucket_ops.proofs.Sweeps.{length_keys}
+use Rattle.bucket_ops.proofs.Walks.{walk_fits, walk_falls}
 use Rattle.fs_rename.specs.declared.copying.CopyStep.{CopyStep}
 use Rattle.fs_rename.specs.declared.copying.CopyStep.TheVariants.{Next as NextCopy, All}
 use Rattle.fs_rename.specs.Keys.{new_keys}

@@ -7,7 +7,7 @@ use Rattle.std.specs.FinMap as fin
 use Rattle.store_frame.proofs.Flat.{listed_rises}
 use Rattle.fs_tree.proofs.Moving.{rest_after}
 use Rattle.fs_ops.proofs.Showing.{cmp_behind}
-use Rattle.bucket_walks.proofs.Below.{is_in, below_stands}
+use Rattle.bucket_ops.proofs.Below.{is_in, below_stands}
 use Rattle.fs_rename.specs.Keys.{new_key}
 use Rattle.fs_rename.specs.Copies.{IsOneOf, sources, targets, copied_all, AreFree, moves_to}
 use Rattle.fs_rename.proofs.CopyLaws.{in_targets, is_target, one_in_take, copies_keep, copied_stand, all_stand}
@@ -16,7 +16,7 @@ use Rattle.fs_rename.proofs.Placed.{move_of, sources_to, dir_to, dir_from}
 use Rattle.copy_tree.specs.code.Copy.{CopyPaths, count_of}
 use Rattle.copy_tree.specs.code.Meaning.{moves, standing, absent, all_parts}
 use Rattle.copy_tree.proofs.Moved.{moved_rest, move_below, one_source}
-use Rattle.bucket_walks.proofs.Rising.{sorted}
+use Rattle.bucket_ops.proofs.Rising.{sorted}
 use Rattle.copy_tree.proofs.PartLaws.{all_shown, kept_each, kept_has, sources_rise, targets_rise}
 
 -- a new key keeps the order of keys

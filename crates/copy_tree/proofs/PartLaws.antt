@@ -5,8 +5,8 @@ use Rattle.path_keys.proofs.Common.{false≢true, lt, irrefl, lt_trans, lt_not, 
 use Rattle.fs_ops.specs.Prelude.{text_cmp, text_total, Objects, begins, text_in, Object, PageEntry, IsIn, RisesFrom, Stands, all_below}
 use Rattle.std.specs.FinMap as fin
 use Rattle.store_frame.proofs.Flat.{behind, listed_rises}
-use Rattle.bucket_walks.proofs.Below.{below_stands, stands_below}
-use Rattle.bucket_walks.proofs.Rising.{lower}
+use Rattle.bucket_ops.proofs.Below.{below_stands, stands_below}
+use Rattle.bucket_ops.proofs.Rising.{lower}
 use Rattle.fs_rename.specs.Copies.{Move, IsOneOf, sources, targets}
 use Rattle.copy_tree.specs.Parts.{from_text, is_first, is_wanted, chosen, kept}
 

@@ -13,7 +13,7 @@ use Rattle.fs_ops.proofs.Looks.{IsSeen, head_tells, none_listed, first_listed}
 use Rattle.fs_ops.specs.declared.climb.Climbed.{Climbed}
 use Rattle.fs_ops.specs.declared.climb.Climbed.TheVariants.{File, On as Goes_on, Free}
 use Rattle.fs_ops.proofs.Climbing.{IsClimbed, seen_on as climb_on, all_on}
-use Rattle.bucket_walks.proofs.Walks.{walk_fits, walk_begins, walk_goes}
+use Rattle.bucket_ops.proofs.Walks.{walk_fits, walk_begins, walk_goes}
 use Rattle.fs_rename.specs.declared.copying.Copying.{Copying}
 use Rattle.fs_rename.specs.declared.copying.CopyStep.{CopyStep}
 use Rattle.fs_rename.specs.declared.copying.CopyStep.TheVariants.{Next as NextCopy, All}

@@ -1,7 +1,7 @@
 ghost use Rattle.std.specs.Prelude.{◌≡◌, IfOk, Err, drop};
 ghost use Rattle.bucket_ops.specs.Asks.{request_of};
 ghost use Rattle.fs_tree.specs.declared.copy.CopyRefusal.TheVariants.{NoSuchBucket};
-ghost use Rattle.bucket_walks.specs.Walking.{fits};
+ghost use Rattle.bucket_ops.specs.Walking.{fits};
 ghost use Rattle.copy_tree.specs.code.Copy as copy;
 ghost use Rattle.fs_rename.specs.Keys.{place_of};
 ghost use Rattle.copy_tree.specs.code.Copy.{read_of, same_header};
@@ -9,8 +9,7 @@ ghost use Rattle.copy_tree.specs.code.Meaning as meaning;
 
 use crate::names::CopyNames;
 use crate::parts::chosen;
-use bucket_ops::{Look, Phases, seen_in};
-use bucket_walks::fits;
+use bucket_ops::{Look, Phases, fits, seen_in};
 use fs_ops::{Climb, Climbed, look_at_bucket};
 use fs_rename::{CopyStep, Copying};
 use fs_tree::{CopyCount, CopyRefusal};

@@ -3,7 +3,7 @@ use Rattle.std.specs.Prelude.{◌≡◌, ◌⊎◌, ℕ, ◌+◌, ◌*◌, ◌<�
 use Rattle.std.proofs.Common.{refl, sym, ap, subst, ◌∙◌, inl, inr, arith}
 use Rattle.path_keys.proofs.Common.{true≢false}
 use Rattle.fs_ops.specs.Prelude.{Objects, BucketContent, Scene, answer, apply, answer_at, apply_in, head, without, page, listed, only_reads, Request, DeleteObjects, Reply, Deleted, Refused, TooManyKeys, is_key, Step, Next, End, Goes, Falls, Look, There, Nothing, NoBucket, Other, look_of, Ask, Head, request_of, reply_in, objects_at, marker_of, keys_above, created, FsRefusal, AlreadyExists, NotDirectory, NoSuchBucket, Stands, SomeBelow, NoneBelow, HasFile, IsAbsent, Creates, look_asks, below_asks, NoFileAt, unless, climbing, climbed, upload_in}
-use Rattle.bucket_walks.specs.Prelude.{MaySend}
+use Rattle.bucket_ops.specs.Prelude.{MaySend}
 use Rattle.bucket_ops.specs.Prelude.{reply_at}
 use Rattle.std.specs.FinMap as fin
 use Rattle.store_frame.proofs.Reading.{reads_nothing}

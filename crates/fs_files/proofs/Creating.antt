@@ -10,7 +10,7 @@ use Rattle.path_keys.proofs.Last.{parts_round, front_is_key}
 use Rattle.fs_tree.specs.Changes.{MakesFile}
 use Rattle.fs_tree.proofs.Begins.{both, begins_trans, begins_marker, marker_is, marker_at}
 use Rattle.fs_tree.proofs.Above.{NoSlash, Cut, cut, none_above, more_above, above_begins, begins_above}
-use Rattle.bucket_walks.proofs.Below.{gone_in, kept_out}
+use Rattle.bucket_ops.proofs.Below.{gone_in, kept_out}
 use Rattle.fs_files.specs.Placed.{object_of}
 
 -- these are markers of directories above a path

@@ -4,7 +4,7 @@ use Rattle.std.proofs.Common.{refl, sym, ap, subst, ◌∙◌, arith, inl, inr}
 use Rattle.path_keys.proofs.Common.{false≢true, irrefl, same_or_other, text_is, text_true, text_here, text_other, text_gone, text_left, in_front, true_or_false}
 use Rattle.fs_ops.specs.Prelude.{is_lt, text_cmp, text_eq, text_total, Objects, head, without, page, listed, begins, text_in, Object, PageEntry, IsIn, RisesFrom, Step, Next, End, Goes, Falls, Look, There, Nothing, NoBucket, Other, look_of, reply_in, edited, IsPhases, MayAsk, marker_of, sweep_start, sweep_hears, all_go, Listing, Deleting, NotFound, NotEmpty, IsRoot, NoSuchBucket, Stands, SomeBelow, NoneBelow, marker, parent, marker_if, IsMarked, look_asks, prefix_of, NoFileAt, goes_by, IsStages, sweep_asks, sweep_left, LessLeft, fits, keys_below, Deletion, Answer, entries_in, Removed, ends, gives}
 use Rattle.fs_tree.specs.Prelude.{IsEmpty, HasChildren, IsWithoutBelow}
-use Rattle.bucket_walks.specs.Prelude.{IsSweeping, IsSwept}
+use Rattle.bucket_ops.specs.Prelude.{IsSweeping, IsSwept}
 use Rattle.std.specs.FinMap as fin
 use Rattle.store_frame.proofs.Flat.{listed_rises}
 use Rattle.bucket_ops.proofs.AskLaws.{gone_still}
@@ -17,8 +17,8 @@ use Rattle.fs_ops.specs.declared.delete.DeleteStage.TheVariants.{Here, DropFile,
 use Rattle.fs_ops.proofs.StepLaws.{phases_of}
 use Rattle.fs_ops.proofs.AtPathLaws.{looks_there}
 use Rattle.fs_ops.proofs.Looks.{IsSeen, head_tells, page_tells, none_listed}
-use Rattle.bucket_walks.proofs.Sweeps.{sweep_begins, sweep_goes, sweep_fits, sweep_falls, sweep_stays}
-use Rattle.bucket_walks.proofs.Below.{is_in, below_stands, stands_below, gone_in, kept_out}
+use Rattle.bucket_ops.proofs.Sweeps.{sweep_begins, sweep_goes, sweep_fits, sweep_falls, sweep_stays}
+use Rattle.bucket_ops.proofs.Below.{is_in, below_stands, stands_below, gone_in, kept_out}
 use Rattle.fs_ops.proofs.Deleting.{deletes}
 use Rattle.fs_ops.specs.code.Delete.{first, asks, up_to, up, here as here_at, on_here, inside, children, on_inside, swept, on_sweep, on_parent, on, holds, IsDue, sends, GoesWith, IsKept, always, left}
 

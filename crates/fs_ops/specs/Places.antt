@@ -1,6 +1,6 @@
 -- What is asked of a path.
 use Rattle.std.specs.Prelude.{◌≡◌, ℕ, false, List, [], ◌∷◌, Option, Some, None}
-use Rattle.bucket_walks.specs.Prelude.{Objects, Ask, Head, Get, Page, Put}
+use Rattle.bucket_ops.specs.Prelude.{Objects, Ask, Head, Get, Page, Put}
 use Rattle.fs_tree.specs.Prelude.{below, marker_of}
 use Rattle.bucket_ops.specs.Prelude.{Drop}
 use Rattle.std.specs.FinMap as fin

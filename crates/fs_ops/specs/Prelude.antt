@@ -4,9 +4,9 @@ pub use Rattle.bucket_ops.specs.Looks.{look_of}
 pub use Rattle.bucket_ops.specs.Phases.{AlwaysIn, GivesIn, InScene, IsPhases, MayAsk, SendsIn}
 pub use Rattle.bucket_ops.specs.declared.look.Look.{Look}
 pub use Rattle.bucket_ops.specs.declared.look.Look.TheVariants.{NoBucket, Nothing, Other, There}
-pub use Rattle.bucket_walks.specs.Sweeping.{IsDeleted, IsDeleting, LessLeft, sweep_asks, sweep_left}
-pub use Rattle.bucket_walks.specs.Uploads.{uploads_from}
-pub use Rattle.bucket_walks.specs.Walking.{IsWalked, IsWalking, LessWalked, all_below, fits, keys_below, walk_asks, walk_left}
+pub use Rattle.bucket_ops.specs.Sweeping.{IsDeleted, IsDeleting, LessLeft, sweep_asks, sweep_left}
+pub use Rattle.bucket_ops.specs.Uploads.{uploads_from}
+pub use Rattle.bucket_ops.specs.Walking.{IsWalked, IsWalking, LessWalked, all_below, fits, keys_below, walk_asks, walk_left}
 pub use Rattle.dir_markers.specs.Markers.{created, deleted, keys_above, marker_of}
 pub use Rattle.dir_markers.specs.declared.marker.MarkerPolicy.{MarkerPolicy}
 pub use Rattle.dir_markers.specs.declared.marker.MarkerPolicy.TheVariants.{Delete, Keep}

@@ -6,13 +6,12 @@ ghost use Rattle.fs_tree.specs.Changes.{parent, marker_if};
 ghost use Rattle.fs_tree.specs.declared.answers.FsRefusal.TheVariants.{NoSuchBucket};
 ghost use Rattle.fs_ops.specs.code.Delete as delete;
 ghost use Rattle.fs_ops.specs.code.Delete.{on_here, inside, on_inside, on_below, on_sweep, on_parent, up, up_to};
-ghost use Rattle.bucket_walks.specs.Walking.{fits};
-ghost use Rattle.bucket_walks.specs.Sweeping.{sweep_asks};
+ghost use Rattle.bucket_ops.specs.Walking.{fits};
+ghost use Rattle.bucket_ops.specs.Sweeping.{sweep_asks};
 ghost use Rattle.fs_ops.specs.code.Steps.{goes_by};
 
 use crate::place::{Place, first_key, put_empty};
-use bucket_ops::{Look, Phases, seen_in};
-use bucket_walks::fits;
+use bucket_ops::{Look, Phases, fits, seen_in};
 use dir_markers::after_delete;
 use fs_tree::FsRefusal;
 use list_walk::{AllKeys, text_of};

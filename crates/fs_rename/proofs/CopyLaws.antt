@@ -3,7 +3,7 @@ use Rattle.std.proofs.Common.{◌≡◌, ◌⊎◌, inl, inr, ℕ, zero, suc, �
 use Rattle.path_keys.proofs.Common.{nat_tests, take_all, same_or_other, text_here, text_other, none_some}
 use Rattle.fs_ops.specs.Prelude.{Objects, copied, Object, IsIn, edited, Stands}
 use Rattle.std.specs.FinMap as fin
-use Rattle.bucket_walks.proofs.Below.{is_in}
+use Rattle.bucket_ops.proofs.Below.{is_in}
 use Rattle.fs_rename.specs.declared.copying.Copying.{Copying}
 use Rattle.fs_rename.specs.Copies.{Move, IsOneOf, sources, targets, copied_all, copy_of, copy_asks, has_more, copied_next, IsCopying, IsCopied, copies_left, LessCopies, AreFree}
 

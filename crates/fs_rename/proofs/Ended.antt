@@ -1,7 +1,7 @@
 -- What the renaming of a path has done.
 use Rattle.std.proofs.Common.{◌≡◌, ℕ, true, List, take, Result, Ok, Err, IfOk, subst}
 use Rattle.fs_ops.specs.Prelude.{Scene, after_all, Actor, Seen, Performed, is_key, AlwaysIn, SendsIn}
-use Rattle.bucket_walks.specs.Prelude.{DriveStop}
+use Rattle.bucket_ops.specs.Prelude.{DriveStop}
 use Rattle.fs_tree.specs.declared.rename.RenameRefusal.TheVariants.{OtherBucket, NoSuchBucket}
 use Rattle.fs_rename.specs.Between.{Route, GivesBetween}
 use Rattle.fs_rename.specs.code.Rename.{Renaming, Answer, first as first_stage, asks}

@@ -7,7 +7,7 @@ use Rattle.store_frame.proofs.Flat.{listed_rises, behind}
 use Rattle.fs_tree.proofs.Begins.{begins_more, one_begins}
 use Rattle.fs_tree.proofs.Dropping.{marker_key}
 use Rattle.fs_tree.proofs.Moving.{rest_after, marker_not_below}
-use Rattle.bucket_walks.proofs.Below.{below_stands, stands_below}
+use Rattle.bucket_ops.proofs.Below.{below_stands, stands_below}
 use Rattle.fs_rename.specs.Keys.{new_key, with_front, new_keys}
 use Rattle.fs_rename.specs.Copies.{Move, IsOneOf, sources, targets, copied_all, AreFree, moves_to, moves_of}
 use Rattle.fs_rename.proofs.CopyLaws.{is_source, is_target}

@@ -12,10 +12,10 @@ use Rattle.fs_tree.specs.declared.rename.RenameRefusal.TheVariants.{NoSuchBucket
 use Rattle.fs_tree.specs.Renames.{RenamesPath}
 use Rattle.fs_tree.proofs.Begins.{marker_at, begins_all, begins_trans, begins_marker}
 use Rattle.fs_ops.proofs.StepLaws.{not_missing}
-use Rattle.bucket_walks.proofs.Sweeps.{sweep_fits, sweep_falls, sweep_stays}
-use Rattle.bucket_walks.proofs.Walks.{walk_fits, walk_goes, walk_falls}
-use Rattle.bucket_walks.proofs.Batches.{batch_goes, deleting_all}
-use Rattle.bucket_walks.proofs.Below.{stands_below}
+use Rattle.bucket_ops.proofs.Sweeps.{sweep_fits, sweep_falls, sweep_stays}
+use Rattle.bucket_ops.proofs.Walks.{walk_fits, walk_goes, walk_falls}
+use Rattle.bucket_ops.proofs.Batches.{batch_goes, deleting_all}
+use Rattle.bucket_ops.proofs.Below.{stands_below}
 use Rattle.fs_ops.proofs.DeleteLaws.{parent_page}
 use Rattle.fs_ops.proofs.Looks.{IsSeen}
 use Rattle.fs_rename.specs.declared.copying.Copying.{Copying}

@@ -9,7 +9,7 @@ use Rattle.fs_tree.proofs.Begins.{begins_all}
 use Rattle.fs_tree.proofs.Moving.{rest_after}
 use Rattle.fs_ops.proofs.Looks.{IsSeen, head_tells, page_tells}
 use Rattle.fs_ops.proofs.Showing.{cmp_behind}
-use Rattle.bucket_walks.proofs.Below.{below_stands, stands_below}
+use Rattle.bucket_ops.proofs.Below.{below_stands, stands_below}
 use Rattle.fs_rename.specs.declared.stages.Kind.{Kind}
 use Rattle.fs_rename.specs.declared.stages.Kind.TheVariants.{File, Directory, Nothing}
 use Rattle.fs_rename.specs.code.Rename.{asks_at, inside_asks, first_is, seen_inside, is_root, kind_of}

@@ -3,7 +3,7 @@ use Rattle.std.specs.Prelude.{◌≡◌, ℕ, ◌+◌, ◌*◌, ◌<◌, Bool, t
 use Rattle.std.proofs.Common.{refl, arith}
 use Rattle.fs_ops.specs.Prelude.{Objects, Falls, Look, There, PageEntry, keys_on, Walked, More, Whole, sweep_start, deleting, parent, marker_if, prefix_of, key_if, sweep_left, LessLeft, LessWalked}
 use Rattle.list_walk.specs.Walks as walks
-use Rattle.bucket_walks.proofs.Sweeps.{length_keys}
+use Rattle.bucket_ops.proofs.Sweeps.{length_keys}
 use Rattle.fs_rename.specs.declared.copying.CopyStep.TheVariants.{All}
 use Rattle.fs_rename.specs.Keys.{fitting}
 use Rattle.fs_rename.specs.declared.stages.Spot.{Spot}

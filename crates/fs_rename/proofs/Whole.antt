@@ -6,7 +6,7 @@ use Rattle.std.specs.FinMap as fin
 use Rattle.store_frame.proofs.Flat.{behind}
 use Rattle.fs_tree.proofs.Begins.{begins_all}
 use Rattle.fs_tree.proofs.Dropping.{marker_key}
-use Rattle.bucket_walks.proofs.Below.{is_in, gone_in, kept_out}
+use Rattle.bucket_ops.proofs.Below.{is_in, gone_in, kept_out}
 use Rattle.fs_rename.specs.Copies.{Move, IsOneOf, sources, targets, copied_all, AreFree}
 use Rattle.fs_rename.proofs.CopyLaws.{map_front, in_targets, in_sources, is_target, is_source, one_in_take, copies_keep, not_target, copied_stand, all_stand}
 

@@ -6,15 +6,14 @@ ghost use Rattle.list_walk.specs.Walks.{deleting};
 ghost use Rattle.fs_tree.specs.declared.rename.RenameRefusal.TheVariants.{NoSuchBucket};
 ghost use Rattle.fs_ops.specs.code.Delete.{entries_in};
 ghost use Rattle.fs_ops.specs.Places.{key_if};
-ghost use Rattle.bucket_walks.specs.Walking.{fits};
+ghost use Rattle.bucket_ops.specs.Walking.{fits};
 ghost use Rattle.fs_rename.specs.Keys.{fitting};
 ghost use Rattle.fs_rename.specs.code.Rename.{first_is, seen_inside, seen_at, kind_of, one_copy, file_to, place_at, go, begun, on_kind, on_source, on_target, on_inside, on_above, found, looked, with_places, listed_to, on_walked, on_walk, up_to, up, swept, on_copied, on_batch, on_parent, first, asks, on, goes, is_root, is_root_at};
 ghost use Rattle.fs_rename.specs.code.Meaning.{holds, gives, always, sends, left};
 
 use crate::names::RenameNames;
 use crate::{Base, CopyStep, Copying};
-use bucket_ops::{Look, Phases, seen_in};
-use bucket_walks::fits;
+use bucket_ops::{Look, Phases, fits, seen_in};
 use fs_ops::{first_key, put_empty};
 use fs_tree::RenameRefusal;
 use list_walk::{AllKeys, KeyWalk, Sweep, text_of};

@@ -28,3 +28,6 @@ mod Lost
 mod Killed
 mod Aborted
 mod Twins
+pub mod TwinChecks
+pub mod TwoMagicRun
+pub mod ConflictRun

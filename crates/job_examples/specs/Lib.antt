@@ -22,3 +22,6 @@ pub mod LanesLost
 pub mod LanesKilled
 pub mod Restarted
 pub mod TwoJobs
+pub mod Sided
+pub mod TwoMagic
+pub mod Conflict

@@ -10,9 +10,13 @@
 //! ends, and verdicts; and what operations ask for in lanes, reverts, modes, staging and cleans. Runs that break one part
 //! each are refused, entries of nobody's turn and ends that no operation tells among them. Of two jobs at one destination
 //! each one's own entries copy nothing and leave all outside, and its commit is committed; the second one's keys outlast
-//! the first one's clean.
+//! the first one's clean. Of two of the magic committer, one file each, with an abort of what its own records name, no entry
+//! names what is the other's, and at each moment that matters readers are shown what two jobs promise, by events alone; a
+//! clean that aborts the other's upload and a marker over a missing file are refused. A job of the directory committer with
+//! the mode fail ends with the conflict that its check lists, and with none where nothing is listed.
 #![tactic(auto)]
 
+ghost use Rattle.job_examples.specs.Conflict.{FoundConflict};
 ghost use Rattle.job_examples.specs.Decisions.{DecidesSo, RestartsSo};
 ghost use Rattle.job_examples.specs.FourFiles.{FourFiles};
 ghost use Rattle.job_examples.specs.Lanes.{LanesRun};
@@ -33,6 +37,7 @@ ghost use Rattle.job_examples.specs.Strays.{StraysAreRefused};
 ghost use Rattle.job_examples.specs.Taken.{Taken};
 ghost use Rattle.job_examples.specs.TwoAttempts.{TwoAttempts};
 ghost use Rattle.job_examples.specs.TwoJobs.{TheOther, TwoJobs};
+ghost use Rattle.job_examples.specs.TwoMagic.{TwoMagic};
 
 /// Verdicts on runs, and drivers that are restarted.
 pub fn verdicts()
@@ -135,4 +140,14 @@ pub fn restarted()
 pub fn two_jobs()
     ensures first { TwoJobs }
     ensures other { TheOther }
+{}
+
+/// Two jobs of the magic committer.
+pub fn two_magic()
+    ensures { TwoMagic }
+{}
+
+/// A job of the directory committer whose check finds the other's file.
+pub fn conflict()
+    ensures { FoundConflict }
 {}

@@ -9,7 +9,7 @@ use Rattle.words.proofs.Common.{sum_by-cons}
 use Rattle.s3_types.specs.Prelude.{w32, IsBytes, is_hex}
 use Rattle.job_spec.specs.Prelude.{bytes_of, bytes_in}
 use Rattle.md5.specs.Md5.{md5, digest_bytes}
-use Rattle.etag.proofs.Digits.{encoded_hex, plain_tag_length}
+use Rattle.s3_types.proofs.Digits.{encoded_hex, plain_tag_length}
 use Rattle.s3_types.specs.Tags.{plain_tag}
 use Rattle.pending_json.specs.Reading as reading
 use Rattle.pending_json.proofs.RoundTrip.{pending_text, set_text}

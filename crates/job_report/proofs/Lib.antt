@@ -1,1 +1,4 @@
 pub mod LineLemmas
+pub mod Fronts
+pub mod Turns
+pub mod Whole

@@ -1,0 +1,2 @@
+pub mod TwinText
+pub mod Left

@@ -1,15 +1,19 @@
-//! The text that tells of a job's run.
+//! The text that tells of a job's run, or of a run of two jobs at one destination.
 //!
 //! # What is proved
 //!
 //! `report_text`: Exactly the text that `job_spec` defines of the status that was due, the number of
 //! sendings, the picks, the ends and the script, for any ends.
-//! `write_events`, `write_picks`, `write_actors`, `write_closing`: Its parts, with some text in front of each line.
+//!
+//! `twins_report`: Exactly the text that `TwinText.antt` defines of the status that was due, the number of sendings, the
+//! order of turns, and each job's script, ends and picks, for any ends.
 #![tactic(auto)]
 
 mod ends;
 mod lines;
+mod played;
 mod report;
+mod twins;
 
-pub use lines::{write_actors, write_closing, write_events, write_picks};
 pub use report::report_text;
+pub use twins::{SideReport, twins_report};

@@ -3,7 +3,7 @@ use Rattle.std.proofs.Common.{◌≡◌, ℕ, zero, suc, ◌≤◌, Bool, true, 
 use Rattle.job_steps.specs.Prelude.{filter, Actor, Script, IsLegal, Past, actors, is_busy, busy_actors}
 use Rattle.job_spec.proofs.Common.{some_is, none_some}
 use Rattle.job_states.specs.Stands.{Kept, Stands}
-use Rattle.job_turns.specs.Mixes.{IsNotIn, AreApart}
+use Rattle.job_states.specs.Mixes.{IsNotIn, AreApart}
 use Rattle.job_side.specs.Holds.{is_busy_at}
 use Rattle.job_side.proofs.Places.{get_map, map_get, one_place}
 use Rattle.job_side.proofs.Standings.{busy_at}

@@ -3,8 +3,8 @@ use Rattle.std.proofs.Common.{◌≡◌, ℕ, Bool, true, false, List, [], ◌�
 use Rattle.job_spec.proofs.Common.{none_some}
 use Rattle.job_steps.specs.Prelude.{Scene, Actor, Entry, Script, Op, Event, Do, Start, Step, Run, Kill, Mix, Restart, Recover, EventEnd, Done, Ended, actors, past, told, Turns, AllBy, is_memory, busy_actors}
 use Rattle.job_spec.specs.Prelude.{StepEnds, Mixing}
-use Rattle.job_turns.specs.Turning.{Ran, Stepped}
-use Rattle.job_turns.specs.Mixes as mixes
+use Rattle.job_states.specs.Turning.{Ran, Stepped}
+use Rattle.job_states.specs.Mixes as mixes
 use Rattle.job_side.specs.Holds.{Same, table_of, actor_or}
 use Rattle.job_side.specs.Events.{ByTurns, TakenUp, AllOf, IsStill, IsFine, end_of, event_entries}
 use Rattle.job_side.specs.declared.body.Body.{Body}

@@ -4,7 +4,7 @@ use Rattle.job_spec.proofs.Common.{none_some}
 use Rattle.job_steps.specs.Prelude.{Request, Actor, is_known, Known, Script, IsEvent, Event, Do, Start, Step, Run, Mix, EventEnd, Pick, Life, Busy, ActorState, Setting, Running, Past, actors, past, refusal, open_event, is_busy, busy_actors}
 use Rattle.job_spec.specs.States.{refuse_move}
 use Rattle.job_states.specs.Stands.{Stands, IsPlace}
-use Rattle.job_turns.specs.Mixes.{AreApart}
+use Rattle.job_states.specs.Mixes.{AreApart}
 use Rattle.job_side.specs.Holds.{is_busy_at}
 use Rattle.job_side.specs.Events.{BeginsNone, HasEntered, AreBusy, IsStill}
 use Rattle.job_side.specs.declared.body.Body.{Body}

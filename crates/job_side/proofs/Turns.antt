@@ -7,8 +7,8 @@ use Rattle.job_spec.specs.Prelude.{in_eyes}
 use Rattle.proof_base.proofs.Members.{same_or_not as same_number}
 use Rattle.job_actor.specs.Acts.{ActLaws}
 use Rattle.job_states.specs.Stands.{Kept}
-use Rattle.job_turns.specs.Turning.{Table, Beside, Sending, Ending, Turned}
-use Rattle.job_turns.specs.declared.actors.Turn.TheVariants.{GoesOn, Ended, Died}
+use Rattle.job_states.specs.Turning.{Table, Beside, Sending, Ending, Turned}
+use Rattle.job_states.specs.declared.actors.Turn.TheVariants.{GoesOn, Ended, Died}
 use Rattle.job_side.specs.Sending.{Asks, hand_end}
 use Rattle.job_side.specs.Holds.{Holds, Going, Same, AreOf, is_mine, seen_by, IsOver, all_sound, is_busy_at, actor_or, table_of, weights, hand_left}
 use Rattle.job_side.specs.Posts.{Around, Wrote, RaisedBy, FellAt, IsWorking, raised}

@@ -7,7 +7,7 @@ use Rattle.job_spec.specs.Prelude.{in_eyes}
 use Rattle.job_spec.specs.Eyes.{number_in}
 use Rattle.job_states.specs.Stands.{Stands}
 use Rattle.job_states.specs.declared.standing.Standing.{Standing}
-use Rattle.job_turns.specs.Turning.{Table, KeepsLaws}
+use Rattle.job_states.specs.Turning.{Table, KeepsLaws}
 use Rattle.job_actor.specs.Plans.{IsPlanOf}
 use Rattle.job_actor.specs.Picks.{ArePicksOf, HasPicked, is_committing}
 use Rattle.job_side.specs.Sending.{Asks}

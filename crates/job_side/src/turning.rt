@@ -10,7 +10,7 @@ use crate::hands::Hand;
 use crate::sending::{actor_at, post_hand};
 use job_actor::{Posted, Works, picks_go};
 use job_model::{ActorEnd, OpEnd};
-use job_turns::{Actors, Turn};
+use job_states::{Actors, Turn};
 use s3_types::{Actor, put};
 use std::alloc::AllocError;
 

@@ -1,2 +1,4 @@
 pub mod Standing
 pub mod Stands
+pub mod Turning
+pub mod Mixes

@@ -7,7 +7,7 @@ use Rattle.path_keys.proofs.Common.{lt, irrefl, lt_trans, map_sorted, from_prefi
 use Rattle.std.specs.FinMap as fin
 use Rattle.proof_base.proofs.Less.{lt_back}
 use Rattle.s3_types.specs.declared.reply.PageEntry.TheVariants.{Object as Single}
-use Rattle.bucket_walks.proofs.Rising.{lower}
+use Rattle.bucket_ops.proofs.Rising.{lower}
 use Rattle.store_frame.proofs.Flat.{listed_rises, listed_all, found_at}
 
 -- each object that stands below a prefix behind a text, once, in order, with the length of its bytes

@@ -9,7 +9,7 @@ use Rattle.store_frame.proofs.Flat.{behind}
 use Rattle.fs_tree.specs.MarkerTool.{IsBare, HasBytes, IsKind, HasMarkers}
 use Rattle.fs_tree.proofs.Begins.{begins_trans}
 use Rattle.marker_tool.specs.Markers.{goes_on, kind_of, marker_at, markers_in, is_surplus, surplus_in}
-use Rattle.bucket_walks.proofs.Rising.{lower, sorted}
+use Rattle.bucket_ops.proofs.Rising.{lower, sorted}
 use Rattle.marker_tool.proofs.Listing.{IsListing, above, rises_filter, behind_first}
 
 -- ---- what a marker is

@@ -11,7 +11,7 @@ use Rattle.fs_tree.proofs.Begins.{both, begins_trans, begins_length, begins_all,
 use Rattle.fs_tree.proofs.Above.{Cut, cut, none_above, more_above, above_begins, begins_above, above_marker, marker_ends, other_end}
 use Rattle.marker_tool.specs.Markers.{markers_above, is_due, missing_at, missing_from, missing_in}
 use Rattle.marker_tool.proofs.MarkerLaws.{some_marker}
-use Rattle.bucket_walks.proofs.Rising.{lower, sorted}
+use Rattle.bucket_ops.proofs.Rising.{lower, sorted}
 use Rattle.marker_tool.proofs.Listing.{IsListing, above, rises_from, rises_end, rises_some, last_less, behind_first}
 
 -- ---- the markers above a key

@@ -4,7 +4,7 @@ use Rattle.std.proofs.Common.{refl, sym, subst, ◌∙◌, inl, inr}
 use Rattle.fs_ops.specs.Prelude.{Objects, without, begins, marker_of, IsIn, Stands, SomeBelow, marker, HasDir, IsDirectory, SameTree, HasMore, IsSurplus, IsMissing, AreAll, IsCleaning, IsFilling}
 use Rattle.path_keys.proofs.Common.{from_prefix, none_some, same_or_other, false_true, text_left, text_here, text_other}
 use Rattle.std.specs.FinMap as fin
-use Rattle.bucket_walks.proofs.Below.{is_in, gone_in, kept_out}
+use Rattle.bucket_ops.proofs.Below.{is_in, gone_in, kept_out}
 use Rattle.fs_tree.specs.MarkerTool.{CleansMarkers, FillsMarkers}
 use Rattle.fs_tree.proofs.Begins.{begins_trans}
 use Rattle.marker_tool.specs.Works.{with_markers}

@@ -5,7 +5,7 @@ use Rattle.path_keys.proofs.Common.{ltb-true, ltb-false, take-append-drop, take_
 use Rattle.fs_ops.specs.Prelude.{Objects, head, PageEntry, IsIn, Step, Next, End, Goes, Falls, Look, There, Nothing, NoBucket, Other, look_of, Ask, reply_in, edited, IsPhases, MayAsk, Walked, More, Whole, walked_entries, all_below, walk_asks, fits, IsWalking, IsWalked, walk_left, LessWalked, marker_of, Stands, NoFile, IsDirectory, FsRefusal, NotFound, NotDirectory, NoSuchBucket, key_if, look_asks, prefix_of, goes_by, IsStages}
 use Rattle.std.proofs.Math.Seq.{take-add}
 use Rattle.std.specs.FinMap as fin
-use Rattle.bucket_walks.proofs.Walks.{walk_fits, walk_begins, walk_goes, walk_falls}
+use Rattle.bucket_ops.proofs.Walks.{walk_fits, walk_begins, walk_goes, walk_falls}
 use Rattle.fs_ops.proofs.Looks.{IsSeen, head_tells, none_listed, first_listed}
 use Rattle.fs_ops.proofs.StepLaws.{phases_of}
 use Rattle.fs_ops.proofs.AtPathLaws.{looks_there, still_look}

@@ -3,7 +3,7 @@ use Rattle.std.specs.Prelude.{◌≡◌, ℕ, List, [], ◌∷◌, length, take,
 use Rattle.std.proofs.Common.{refl, sym, subst, inl, inr, arith}
 use Rattle.fs_ops.specs.Prelude.{Objects, without, IsIn, all_below, SameTree, IsSurplus, IsMissing, AreAll, Audits, Cleans, Fills, IsCleaning, IsFilling, FsRefusal, MarkerEntry, prefix_of, IsStill, OnlyLooks}
 use Rattle.path_keys.proofs.Common.{in_front, take-append-drop}
-use Rattle.bucket_walks.proofs.Batches.{batch_deletes}
+use Rattle.bucket_ops.proofs.Batches.{batch_deletes}
 use Rattle.marker_tool.specs.Markers.{markers_in, surplus_in, missing_in}
 use Rattle.marker_tool.proofs.Listing.{is_listing}
 use Rattle.marker_tool.proofs.MarkerLaws.{has_markers, all_surplus}

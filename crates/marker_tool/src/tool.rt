@@ -1,15 +1,14 @@
 ghost use Rattle.std.specs.Prelude.{◌≡◌, IfOk, Err};
 ghost use Rattle.std.specs.Option.{option_copied};
 ghost use Rattle.fs_tree.specs.declared.answers.FsRefusal.TheVariants.{NoSuchBucket};
-ghost use Rattle.bucket_walks.specs.Walking.{fits};
+ghost use Rattle.bucket_ops.specs.Walking.{fits};
 ghost use Rattle.fs_ops.specs.Places.{key_if};
 ghost use Rattle.fs_ops.specs.code.Steps.{goes_by};
 ghost use Rattle.marker_tool.specs.code.Tool as tool;
 ghost use Rattle.marker_tool.specs.code.Tool.{begun, on_key, whole, on_walk, on_change};
 
 use crate::work::{Found, MarkerWork};
-use bucket_ops::{Look, Phases, seen_in};
-use bucket_walks::fits;
+use bucket_ops::{Look, Phases, fits, seen_in};
 use fs_ops::Place;
 use fs_tree::FsRefusal;
 use list_walk::{KeyWalk, keys_behind};

@@ -164,7 +164,7 @@ impl Uploads {
         let tags = tags_of(alloc, parts)?;
         Ok(Joined {
             bytes,
-            tag: etag::joined_tag(&tags),
+            tag: s3_types::joined_tag(&tags),
         })
     }
 }

@@ -10,8 +10,7 @@ ghost use Rattle.multipart.specs.Next.{next_of};
 ghost use Rattle.multipart.specs.Numbers.{IsPlace, is_number_at};
 ghost use Rattle.s3_types.specs.declared.limits.TheConstants.{MOST_PARTS};
 
-use etag::{part_digest, tag_of};
-use s3_types::{Bytes, PartSize, PartSizes, Tag};
+use s3_types::{Bytes, PartSize, PartSizes, Tag, part_digest, tag_of};
 use std::alloc::{AllocError, Global};
 use std::marker::Model;
 

@@ -5,9 +5,8 @@ ghost use Rattle.s3_types.specs.Pages as pages;
 ghost use Rattle.s3_types.specs.Answer.{found, head, copy_answer, copied, without};
 ghost use Rattle.s3_types.specs.declared.limits.TheConstants.{MOST_ENTRIES};
 
-use etag::part_tag;
 use object_store::{CopyFault, Objects};
-use s3_types::{Bytes, Key, KeyList, LengthHeader, PageLimit, Refusal, Reply, Text};
+use s3_types::{Bytes, Key, KeyList, LengthHeader, PageLimit, Refusal, Reply, Text, part_tag};
 use std::alloc::AllocError;
 
 /// Stores an object. After want of memory the objects are as before.

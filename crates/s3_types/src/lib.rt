@@ -3,6 +3,9 @@
 //!
 //! # What is proved
 //!
+//! `part_tag`, `joined_tag`: The MD5 of the bytes in hex, and that of the joined digests with the
+//! number of parts. Left open: that different parts have different tags.
+//!
 //! `Key::read`, `Bucket::read`, types: BadName exactly where the rule of such names fails. Bytes and
 //! texts are what they were made of, and clones are equal. Its `specs/` define what every request is
 //! answered and leaves (`answer`, `apply`), what a journal leads through (`moment`), and when it is
@@ -11,6 +14,7 @@
 
 mod bytes;
 mod copies;
+mod digests;
 mod drops;
 mod fates;
 mod journal;
@@ -27,6 +31,7 @@ mod tag;
 mod text;
 
 pub use bytes::Bytes;
+pub use digests::{joined_tag, part_digest, part_tag, tag_of};
 pub use drops::{let_go, put};
 pub use fates::{Fate, FateFault, Fates};
 pub use journal::{Entry, Journal, Outcome};

@@ -4,7 +4,7 @@ use Rattle.std.proofs.Common.{refl, sym, ap, subst, ◌∙◌, inl, inr}
 use Rattle.fs_ops.specs.Prelude.{Upload, Uploads, BucketContent, Scene, apply, aborted, with_uploads, live, AbortUpload, UploadRef, IsIn, Path, below, uploads_from}
 use Rattle.journal_log.specs.Prelude.{listed, with_key}
 use Rattle.path_keys.proofs.Common.{same_or_not, nat_gone, nat_left, some_is}
-use Rattle.bucket_walks.specs.Prelude.{IsStill}
+use Rattle.bucket_ops.specs.Prelude.{IsStill}
 use Rattle.std.specs.FinMap as fin
 use Rattle.fs_files.specs.Placed.{placed}
 use Rattle.fs_files.proofs.WritingLaws.{placed_same, placed_by}

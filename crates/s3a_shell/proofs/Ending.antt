@@ -3,7 +3,7 @@ use Rattle.std.specs.Prelude.{◌≡◌, ◌≤◌, ℕ, true, false, None, List
 use Rattle.std.proofs.Common.{sym, ap, subst, ◌∙◌, arith}
 use Rattle.path_keys.proofs.Common.{take_all}
 use Rattle.fs_ops.specs.Prelude.{Content, Scene, opening, AreHonest, IsHonest, after_all, moment, Shell, Entry}
-use Rattle.bucket_walks.specs.Prelude.{AreAnswered, AreBy}
+use Rattle.bucket_ops.specs.Prelude.{AreAnswered, AreBy}
 use Rattle.journal_log.specs.Prelude.{AreBelow}
 use Rattle.s3a_words.specs.declared.command.Command.{Command}
 use Rattle.s3a_shell.specs.declared.said.Said.{Said}

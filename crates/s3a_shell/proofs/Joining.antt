@@ -2,7 +2,7 @@
 use Rattle.std.specs.Prelude.{◌≡◌, ℕ, zero, suc, ◌+◌, true, List, [], ◌∷◌, ◌++◌, length, take}
 use Rattle.std.proofs.Common.{refl, sym, ap, subst, ◌∙◌, inl, inr, arith, append_assoc, append-nil, length-append}
 use Rattle.fs_ops.specs.Prelude.{Scene, Shell, answer, apply, Request, AreHonest, after_all, effect, Actor, Entry, only_reads}
-use Rattle.bucket_walks.specs.Prelude.{AreAnswered, AreBy, IsStill}
+use Rattle.bucket_ops.specs.Prelude.{AreAnswered, AreBy, IsStill}
 use Rattle.s3a_shell.specs.declared.session.Session.{Session}
 use Rattle.store_frame.proofs.Reading.{reads_nothing}
 use Rattle.s3a_shell.specs.Sendings.{Sends, Sent, IsCounted, AppliedOrNot, answered_by}

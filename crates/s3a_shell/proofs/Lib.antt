@@ -11,3 +11,5 @@ mod Listing
 mod Undone
 mod Looking
 mod Finished
+pub mod Doing
+pub mod Plain

@@ -5,7 +5,7 @@ use Rattle.fs_ops.specs.Prelude.{AllByRecursion, Objects, Scene, Request, Entry,
 use Rattle.path_keys.proofs.Common.{list_any-append, or-false}
 use Rattle.journal_log.specs.Prelude.{is_changing}
 use Rattle.bucket_ops.specs.Prelude.{SendsAt}
-use Rattle.bucket_walks.specs.Uploads.{IsPageOf}
+use Rattle.bucket_ops.specs.Uploads.{IsPageOf}
 use Rattle.s3a_shell.specs.declared.session.Session.{Session}
 use Rattle.s3a_shell.specs.Sendings.{Asked, answered_by, is_change, has_changed}
 

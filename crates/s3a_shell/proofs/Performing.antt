@@ -5,7 +5,7 @@ use Rattle.path_keys.proofs.Common.{nat_tests}
 use Rattle.fs_ops.specs.Prelude.{Objects, BucketContent, Scene, answer, apply, is_unanswered, Request, MakeBucket, Shell, Outcome, Answered, Entry, Path, is_key, Seen, Performed, InScene, GivesIn, AlwaysIn, objects_at, with_objects, MarkerPolicy, Creates, Deletes, FsRefusal, NoSuchBucket, Deletion, gives}
 use Rattle.s3_types.specs.Prelude.{fate_of}
 use Rattle.machine.specs.Prelude.{AreForetold}
-use Rattle.bucket_walks.specs.Prelude.{IsStill, AreAnswered, DriveStop}
+use Rattle.bucket_ops.specs.Prelude.{IsStill, AreAnswered, DriveStop}
 use Rattle.std.specs.FinMap as fin
 use Rattle.s3_types.specs.declared.fates.Fate.TheVariants.{Answer}
 use Rattle.bucket_ops.proofs.AskLaws.{with_same}

@@ -6,7 +6,7 @@ use Rattle.fs_ops.specs.Prelude.{text_total, is_bucket, Upload, BucketContent, B
 use Rattle.machine.specs.Prelude.{part_answer, IsHonestOutcome}
 use Rattle.store_frame.specs.Prelude.{abort_answer, with_objects, BadPartNumber}
 use Rattle.journal_log.specs.Prelude.{MOST_ENTRIES, NamedPart, DeleteObject, CopyObject, is_changing}
-use Rattle.bucket_walks.specs.Prelude.{AreAnswered}
+use Rattle.bucket_ops.specs.Prelude.{AreAnswered}
 use Rattle.std.specs.FinMap as fin
 use Rattle.s3_types.specs.Answer.{made}
 use Rattle.s3_types.specs.Tags.{plain_tag}

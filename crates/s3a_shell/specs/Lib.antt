@@ -4,3 +4,4 @@ pub mod Sendings
 pub mod Uploading
 pub mod Doings
 pub mod Stays
+pub mod Commanded

@@ -2,7 +2,7 @@
 use Rattle.std.specs.Prelude.{◌≡◌, ◌⊎◌, ℕ, ◌≤◌, ◌&&◌, Bool, true, false, not, List, ◌++◌, length, take}
 use Rattle.fs_ops.specs.Prelude.{AllByRecursion, list_any, Scene, AreHonest, after_all, apply, Shell, Request, Reply, Refused, Outcome, Answered, Entry}
 use Rattle.journal_log.specs.Prelude.{Slow, RequestLost, ReplyLost, is_changing}
-use Rattle.bucket_walks.specs.Prelude.{AreAnswered, AreBy}
+use Rattle.bucket_ops.specs.Prelude.{AreAnswered, AreBy}
 use Rattle.s3a_shell.specs.declared.session.Session.{Session}
 
 -- a journal gained sendings by the shell, in event 0, each with the answer that was due, which lead from the scene z to s

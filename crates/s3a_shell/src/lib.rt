@@ -11,6 +11,12 @@
 //! `abort-uploads` ends (`stays`); what was refused, or sent no change, leaves the store as it was.
 //! `ls`, `stat`, `cat` and `uploads` send no change (`reads`), and no upload is live at the end that
 //! was begun by the command (`ended`).
+//!
+//! `work_of`: What a command but `job`, `gen` and `twins` is to do on what is held: `init` keeps a new store, or
+//! says that one stands; of the others, done by `shell` on the store that is held, or on a new one,
+//! what is refused or sent no change is to be said, with the store as it was, and else the store is to
+//! be kept as it was and then what was sent (`IsWork`). A command that only looks sends no change, and
+//! no upload is left that a command began (`reads`, `ended`). A fault of what is held is to be said.
 #![tactic(auto)]
 
 mod buckets;
@@ -24,7 +30,9 @@ mod said;
 mod session;
 mod statuses;
 mod uploads;
+mod works;
 
 pub use files::MOST_INPUT;
 pub use obeying::{ShellEnd, only_looks, shell};
 pub use said::Said;
+pub use works::{plays, takes_input, work_of};

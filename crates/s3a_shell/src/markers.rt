@@ -1,7 +1,7 @@
 ghost use Rattle.std.specs.Prelude.{◌≡◌, ◌++◌, IfOk, OnOk, string_bytes};
 ghost use Rattle.bucket_ops.specs.Phases.{AlwaysIn};
 ghost use Rattle.fs_tree.specs.MarkerTool.{Audits, Cleans, Fills, IsCleaning, IsFilling};
-ghost use Rattle.bucket_walks.specs.Uploads.{IsStill};
+ghost use Rattle.bucket_ops.specs.Uploads.{IsStill};
 ghost use Rattle.s3a_shell.specs.Texts.{kind_word, marker_line, marker_lines, cleaned_line, filled_line, said};
 ghost use Rattle.s3a_shell.specs.Sendings.{IsCounted, Sent, has_changed};
 ghost use Rattle.s3a_shell.specs.Doings.{Did};

@@ -2,7 +2,7 @@ ghost use Rattle.std.specs.Prelude.{◌≡◌, IfOk, OnOk};
 ghost use Rattle.bucket_ops.specs.Phases.{AlwaysIn};
 ghost use Rattle.fs_tree.specs.Answers.{Stats, Reads, Lists, Makes, Deletes};
 ghost use Rattle.fs_ops.specs.code.Make as make;
-ghost use Rattle.bucket_walks.specs.Uploads.{IsStill};
+ghost use Rattle.bucket_ops.specs.Uploads.{IsStill};
 ghost use Rattle.s3a_shell.specs.Texts.{status_line, entry_lines, bytes_alone, nothing};
 ghost use Rattle.s3a_shell.specs.Sendings.{IsCounted, Sent, has_changed};
 ghost use Rattle.s3a_shell.specs.Doings.{Did, DeletedSome};

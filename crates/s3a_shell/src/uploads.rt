@@ -1,14 +1,14 @@
 ghost use Rattle.std.specs.Prelude.{◌≡◌, ◌++◌, [], None, IfOk, OnOk, string_bytes};
 ghost use Rattle.s3_types.specs.Answer.{apply};
 ghost use Rattle.path_keys.specs.Paths.{below};
-ghost use Rattle.bucket_walks.specs.Uploads.{uploads_from, IsStill};
+ghost use Rattle.bucket_ops.specs.Uploads.{uploads_from, IsStill};
 ghost use Rattle.s3a_shell.specs.Sendings.{IsCounted, Sent, AppliedOrNot, has_changed};
 ghost use Rattle.s3a_shell.specs.Uploading.{bytes_in, upload_line, aborted_line, sizes_in, asked_line, asked_lines};
 ghost use Rattle.s3a_shell.specs.Uploading.{aborts, after_aborts, AfterSome, DidList, DidAbort, AbortedSome};
 
 use crate::said::{Said, fine, refusing};
 use crate::session::{EVENT, RETRIES, Session, wanting};
-use bucket_walks::list_uploads;
+use bucket_ops::list_uploads;
 use path_keys::S3Path;
 use s3_types::{
     Actor, Bucket, Bytes, PartSize, Reply, Request, Text, UploadList, UploadRef, let_go,

@@ -3,7 +3,7 @@ use Rattle.std.proofs.Common.{◌≡◌, ◌⊎◌, inl, inr, ℕ, Bool, true, f
 use Rattle.journal_log.specs.Prelude.{Sight, CrashesLeave, IsTimed}
 use Rattle.exit_status.specs.Statuses.{code, written_text}
 use Rattle.s3a_words.specs.declared.command.Command.{Command}
-use Rattle.durable_shell.specs.Commanded.{plays}
+use Rattle.s3a_shell.specs.Commanded.{plays}
 use Rattle.s3a_top.specs.Jobs.{MayHaveLeft, JobPlayed, JobStopped}
 use Rattle.s3a_top.specs.Commands.{StoreDone, StoreStopped}
 use Rattle.s3a_top.specs.Works.{IsWritten}

@@ -12,7 +12,7 @@ use Rattle.durable_store.specs.declared.held.Held.{Held}
 use Rattle.durable_store.specs.declared.held.Held.TheVariants.{Nothing, Store, Faulty}
 use Rattle.shelf.specs.declared.kept.ShelfStop.TheVariants as shelves
 use Rattle.s3a_words.specs.declared.command.Command.{Command}
-use Rattle.durable_shell.specs.Commanded.{takes_input, IsWork}
+use Rattle.s3a_shell.specs.Commanded.{takes_input, IsWork}
 use Rattle.s3a_top.specs.Openings.{is_sound, IsFound}
 use Rattle.s3a_top.specs.Statuses.{IsWorked}
 use Rattle.s3a_top.specs.Stops.{of_shelf}

@@ -14,7 +14,7 @@ use Rattle.s3a_top.specs.Openings.{AreJobsOf, TakesIfRead, IsSoundly}
 use Rattle.exit_status.specs.Statuses.{code}
 use Rattle.s3a_top.specs.Statuses.{IsDue, IsWorked}
 use Rattle.s3a_top.specs.Stops.{status_of, of_shelf}
-use Rattle.durable_shell.specs.Commanded.{takes_input}
+use Rattle.s3a_shell.specs.Commanded.{takes_input}
 use Rattle.s3a_top.specs.Commands.{may_read}
 use Rattle.s3a_top.specs.Reads.{IsReadStop, CountsReads}
 use Rattle.s3a_top.specs.Plays.{IsVerdict, IsOfStop}

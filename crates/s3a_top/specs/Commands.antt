@@ -9,7 +9,7 @@ use Rattle.durable_store.specs.declared.held.Held.{Held}
 use Rattle.durable_store.specs.declared.held.Held.TheVariants.{Faulty}
 use Rattle.s3a_words.specs.declared.command.Command.{Command}
 use Rattle.s3a_words.specs.declared.command.Command.TheVariants.{Job, Twins}
-use Rattle.durable_shell.specs.Commanded.{takes_input, IsWork}
+use Rattle.s3a_shell.specs.Commanded.{takes_input, IsWork}
 use Rattle.s3a_top.specs.Bytes.{IsRead, TakesPart}
 use Rattle.s3a_top.specs.Openings.{IsFound, IsSoundly}
 use Rattle.exit_status.specs.Statuses.{code, usage_text, memory_text, written_text}

@@ -8,7 +8,7 @@ use Rattle.job_script.specs.declared.fault.ScriptFault.TheVariants as faults
 use Rattle.twin_script.specs.Twins.{twins_of}
 use Rattle.twin_script.specs.TwinScripts as twin_scripts
 use Rattle.twin_script.specs.declared.fault.TwinFault.TheVariants as twin_faults
-use Rattle.twin_report.specs.TwinText.{twins_report}
+use Rattle.job_report.specs.TwinText.{twins_report}
 use Rattle.job_gen.specs.Summary.{summary}
 use Rattle.durable_store.specs.Stores.{found}
 use Rattle.durable_store.specs.declared.held.Held.TheVariants.{Faulty}

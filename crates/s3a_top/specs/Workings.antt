@@ -13,7 +13,7 @@ use Rattle.durable_store.specs.declared.work.Answer.{Answer}
 use Rattle.durable_store.specs.declared.held.Held.{Held}
 use Rattle.s3a_words.specs.Words.{IsBounded}
 use Rattle.s3a_words.specs.declared.command.Command.{Command}
-use Rattle.durable_shell.specs.Commanded.{takes_input, plays, IsWork}
+use Rattle.s3a_shell.specs.Commanded.{takes_input, plays, IsWork}
 use Rattle.s3a_top.specs.Bytes.{TakesPart}
 use Rattle.s3a_top.specs.Openings.{is_sound}
 use Rattle.s3a_top.specs.Statuses.{IsDue, IsIdle, IsWorked}

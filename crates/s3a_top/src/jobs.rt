@@ -4,7 +4,7 @@ ghost use Rattle.store_image.specs.Content.{IsContent};
 ghost use Rattle.exit_status.specs.Statuses.{code, written_text};
 ghost use Rattle.durable_store.specs.Outcomes.{IsSound};
 ghost use Rattle.durable_job.specs.Jobs.{dest_of};
-ghost use Rattle.durable_shell.specs.Commanded.{plays};
+ghost use Rattle.s3a_shell.specs.Commanded.{plays};
 ghost use Rattle.s3a_top.specs.Openings.{opening_in, is_sound, IsFound};
 ghost use Rattle.s3a_top.specs.Jobs.{one_text, both_text, job_text};
 ghost use Rattle.s3a_top.specs.Commands.{may_read};
@@ -21,14 +21,13 @@ use durable_store::{Answer, Held};
 use exit_status::Status;
 use job_gen::summary_text;
 use job_model::Script;
-use job_report::report_text;
+use job_report::{SideReport, report_text, twins_report};
 use s3_service::Service;
 use s3_types::{Bytes, MOST_MINIMUM, Request, let_go};
 use s3a_words::Command;
 use shelf::Source;
 use shelf::kept::{Shelf, ShelfStop};
 use std::alloc::{AllocError, Global};
-use twin_report::{SideReport, twins_report};
 use twin_script::Twins;
 
 /// Makes the destination's bucket in a store, whatever is answered.

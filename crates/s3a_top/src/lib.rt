@@ -3,7 +3,7 @@
 //! # What is proved
 //!
 //! `run`: Of `job`, `twins` and `gen` the headline, as `README.md` tells it (`job`). Of every other command, by
-//! what the shelf holds, what it does (`IsWork` of `durable_shell`) was said or kept, with the bytes of
+//! what the shelf holds, what it does (`IsWork` of `s3a_shell`) was said or kept, with the bytes of
 //! its input, and the shelf was called for that and no more (`StoreDone`); or the shelf or the input
 //! failed, or memory was wanting, before anything was done (`StoreStopped`); a crash meanwhile leaves
 //! what one before might, or a moment of what was kept, and after status 0 what is kept; no picks and

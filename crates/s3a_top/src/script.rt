@@ -1,6 +1,6 @@
 ghost use Rattle.std.specs.Prelude.{◌≡◌, ◌<◌, ◌^◌, ◌-◌, true, false, Some, IfOk, IfErr};
 ghost use Rattle.s3a_words.specs.Words.{IsBounded};
-ghost use Rattle.durable_shell.specs.Commanded.{plays};
+ghost use Rattle.s3a_shell.specs.Commanded.{plays};
 ghost use Rattle.s3a_top.specs.Openings.{AreJobsOf};
 ghost use Rattle.s3a_top.specs.Commands.{may_read};
 ghost use Rattle.s3a_top.specs.Reads.{reader, AreJobsIn, IsReadStop, IsNone, CountsReads};

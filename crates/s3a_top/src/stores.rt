@@ -1,6 +1,6 @@
 ghost use Rattle.std.specs.Prelude.{◌≡◌, ◌<◌, ◌^◌, ◌-◌, true, false, IfOk, IfErr};
 ghost use Rattle.durable_store.specs.Outcomes.{IsSound};
-ghost use Rattle.durable_shell.specs.Commanded.{takes_input, plays};
+ghost use Rattle.s3a_shell.specs.Commanded.{takes_input, plays};
 ghost use Rattle.s3a_top.specs.Openings.{is_sound};
 ghost use Rattle.s3a_top.specs.Reads.{CountsReads};
 ghost use Rattle.s3a_top.specs.Commands.{reads_input, IsInput};
@@ -10,9 +10,9 @@ use crate::asked::Asked;
 use crate::input::{InputFault, read_input};
 use crate::stop::Stop;
 use crate::work::{Work, quiet};
-use durable_shell::{takes_input, work_of};
 use durable_store::{Held, obey};
 use s3_types::{Bytes, let_go};
+use s3a_shell::{takes_input, work_of};
 use s3a_words::Command;
 use shelf::Source;
 use shelf::kept::Shelf;

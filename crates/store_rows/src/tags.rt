@@ -1,6 +1,5 @@
 use anyhow::{Result, bail};
-use etag::{joined_tag, part_tag};
-use s3_types::Tag;
+use s3_types::{Tag, joined_tag, part_tag};
 use std::alloc::Global;
 
 /// The tag of an upload whose parts are the words.

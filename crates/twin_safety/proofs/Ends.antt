@@ -11,11 +11,11 @@ use Rattle.job_outcomes.proofs.CommitRuns.{commit_runs}
 use Rattle.job_safety.proofs.Sorts.{OfCommit, end_kind, over_kind, kind_run, driver_commit, memory_commit, memory_check}
 use Rattle.job_safety.proofs.Ending.{Ending, ending}
 use Rattle.job_safety.proofs.Timed.{run_then, number_is, unclean_then, picks_then}
-use Rattle.twin_ends.specs.Checks.{CheckIs}
-use Rattle.twin_ends.specs.Ends.{commit_entries}
-use Rattle.twin_ends.proofs.Checking.{checks_end}
-use Rattle.twin_ends.proofs.Ending as endings
-use Rattle.twin_ends.proofs.Ending.{behind_so}
+use Rattle.twin_safety.specs.Checks.{CheckIs}
+use Rattle.twin_safety.specs.Ends.{commit_entries}
+use Rattle.twin_safety.proofs.Checking.{checks_end}
+use Rattle.twin_safety.proofs.Ending as endings
+use Rattle.twin_safety.proofs.Ending.{behind_so}
 use Rattle.twin_safety.specs.Shared.{EndedBehind, SharedCommits, SharedChecks}
 use Rattle.twin_safety.proofs.Pages.{one_rest}
 use Rattle.twin_safety.proofs.Behind.{Behind, IsAt, led, commit_ended, check_ended}

@@ -5,3 +5,5 @@ pub mod Sparing
 pub mod Meanwhile
 pub mod Cleans
 pub mod Kept
+pub mod Checking
+pub mod Ending

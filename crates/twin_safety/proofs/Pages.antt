@@ -3,8 +3,8 @@ use Rattle.std.proofs.Common.{◌≡◌, ℕ, Bool, true, false, cond, List, [],
 use Rattle.job_facts.specs.Prelude.{Committer, Magic, Directory, Partitioned, Mode, Fail, Append, Replace, Request, ListPage, Entry, Follows, Retried, wants_of, Script, Who, CommitEnd, Fetching, commit_start, commit_asks, commit_tells, completing, replaced, replacing, decided, picks_of, set_request, same_path, dealt, Turn, all_commits}
 use Rattle.job_spec.proofs.Common.{some_is, none_some, false_true}
 use Rattle.job_protocol.specs.Rechecks.{Check, Looking, Probing, CheckOver, check_asks}
-use Rattle.twin_ends.specs.Checks.{next, checking}
-use Rattle.twin_ends.specs.Ends.{IsCleared}
+use Rattle.twin_safety.specs.Checks.{next, checking}
+use Rattle.twin_safety.specs.Ends.{IsCleared}
 
 -- it asks for a page
 abbrev pub is_page : Request → Bool

@@ -8,8 +8,8 @@ use Rattle.job_model.specs.declared.ends.CommitEnd.TheVariants as commit_ends
 use Rattle.job_model.specs.declared.ends.CleanEnd.TheVariants as clean_ends
 use Rattle.job_model.specs.declared.ends.OpEnd.TheVariants as ends
 use Rattle.twin_facts.specs.Spared.{SparingLeaves}
-use Rattle.twin_ends.specs.Checks.{CheckIs}
-use Rattle.twin_ends.specs.Ends.{IsCleared}
+use Rattle.twin_safety.specs.Checks.{CheckIs}
+use Rattle.twin_safety.specs.Ends.{IsCleared}
 
 -- the commit ended behind its check, if there was one, as is due of a job alone by the task that was missing, the first of its requests that wore out, and the picks
 pub record EndedBehind (w : Script) (s : Seen) (d : Doing) (es : List Entry) (e : CommitEnd) : Type 0 where

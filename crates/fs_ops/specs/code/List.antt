@@ -1,6 +1,6 @@
 -- What a directory holds, by its stages.
 use Rattle.std.specs.Prelude.{◌≡◌, ◌⊎◌, ℕ, ◌+◌, ◌&&◌, nat_eq, Bool, true, false, List, [], ◌∷◌, ◌++◌, take_while, reverse, drop, length, Result, Ok, Err, Option, Some, None, if◌then◌else◌}
-use Rattle.bucket_walks.specs.Prelude.{starts_with, list_any, text_eq, Objects, begins, listed, text_in, PageEntry, Prefix, Reply, Step, Next, End, Ask, Page}
+use Rattle.bucket_ops.specs.Prelude.{starts_with, list_any, text_eq, Objects, begins, listed, text_in, PageEntry, Prefix, Reply, Step, Next, End, Ask, Page}
 use Rattle.fs_tree.specs.Prelude.{Status, Directory, File, NoFile, HasDir, own_name}
 use Rattle.words.specs.Parts.{parts_of}
 use Rattle.s3_types.specs.declared.reply.PageEntry.TheVariants.{Object as Single}

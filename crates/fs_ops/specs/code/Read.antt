@@ -1,6 +1,6 @@
 -- The bytes of a file.
 use Rattle.std.specs.Prelude.{ℕ, List, Result, Err, Option, Some, None}
-use Rattle.bucket_walks.specs.Prelude.{Reply, Step, Ask}
+use Rattle.bucket_ops.specs.Prelude.{Reply, Step, Ask}
 use Rattle.s3_types.specs.declared.reply.Reply.TheVariants.{Object as Found}
 use Rattle.fs_tree.specs.declared.answers.FsRefusal.{FsRefusal}
 use Rattle.fs_tree.specs.declared.answers.FsRefusal.TheVariants.{IsDirectory}

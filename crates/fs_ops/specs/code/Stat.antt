@@ -1,6 +1,6 @@
 -- The status of a path.
 use Rattle.std.specs.Prelude.{ℕ, List, Result, Ok, Option, Some, None}
-use Rattle.bucket_walks.specs.Prelude.{Reply, Step, Ask}
+use Rattle.bucket_ops.specs.Prelude.{Reply, Step, Ask}
 use Rattle.store_frame.specs.Prelude.{Head}
 use Rattle.fs_tree.specs.Prelude.{Status, Directory, File}
 use Rattle.fs_tree.specs.declared.answers.FsRefusal.{FsRefusal}

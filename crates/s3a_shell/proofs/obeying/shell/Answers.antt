@@ -1,6 +1,6 @@
 use Rattle.std.proofs.Common.{◌≡◌, ◌≤◌, ◌∙◌, ℕ, true, false, None, ap, length, sym, subst}
 use Rattle.fs_ops.specs.Prelude.{Scene, opening, moment, IsHonest, Shell}
-use Rattle.bucket_walks.specs.Prelude.{AreAnswered, AreBy}
+use Rattle.bucket_ops.specs.Prelude.{AreAnswered, AreBy}
 use Rattle.journal_log.specs.Prelude.{AreBelow}
 use Rattle.s3a_shell.specs.declared.obeying.ShellEnd.{ShellEnd}
 use Rattle.s3a_shell.specs.Doings.{only_looks, Does, MayStandAt}

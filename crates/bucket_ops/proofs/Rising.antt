@@ -1,0 +1,20 @@
+-- Texts that rise.
+use Rattle.std.specs.Prelude.{◌≡◌, ℕ, true, List, [], ◌∷◌}
+use Rattle.bucket_ops.specs.Prelude.{AllByRecursion, Less, text_cmp, text_total, RisesFrom}
+use Rattle.std.specs.List.Sorted.{IsStrictlySortedBy}
+use Rattle.proof_base.proofs.Less.{lt, lt_trans, less_of}
+
+-- what rises from a text rises from a lower one
+pub lower : (l k : List ℕ) (ks : List (List ℕ)) → lt text_cmp l k ≡ true → RisesFrom k ks → RisesFrom l ks
+lower l k [] h g = tt
+lower l k (q ∷ ks) h g = (lt_trans text_total l k q h g.0, g.1)
+
+less_all : (l : List ℕ) (ks : List (List ℕ)) → RisesFrom l ks → AllByRecursion (λ k. text_cmp l k ≡ Less) ks
+less_all l [] h = tt
+less_all l (k ∷ ks) h = (less_of (text_cmp l k) h.0, less_all l ks (lower l k ks h.0 h.1))
+
+-- and it is sorted
+pub sorted : (l : List ℕ) (ks : List (List ℕ)) → RisesFrom l ks → IsStrictlySortedBy text_cmp ks
+unfolding IsStrictlySortedBy
+sorted l [] h = tt
+sorted l (k ∷ ks) h = (less_all k ks h.1, sorted k ks h.1)

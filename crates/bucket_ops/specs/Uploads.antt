@@ -1,0 +1,77 @@
+-- A walk over the live uploads of a bucket below a prefix, as an operation (Amazon S3 API: ListMultipartUploads).
+use Rattle.std.specs.Prelude.{◌≡◌, ℕ, List, [], ◌++◌, length, Option, Some, None, option_map}
+use Rattle.s3_types.specs.declared.request.UploadRef.{UploadRef}
+use Rattle.machine.specs.Prelude.{Scene, Request, Reply, Refused, Refusal, NoSuchBucket}
+use Rattle.operations.specs.declared.plan.Step.{Step}
+use Rattle.operations.specs.declared.plan.Step.TheVariants.{Next, End}
+use Rattle.std.specs.FinMap as fin
+use Rattle.s3_types.specs.Multipart.{listed}
+use Rattle.list_walk.specs.Walks.{Walked, More, Whole, last_ref, uploads_after, walked_uploads}
+use Rattle.bucket_ops.specs.declared.uploads.UploadsBelow.{UploadsBelow}
+
+-- the live uploads whose keys begin with a prefix and that come behind one of them, in order, where there is the bucket
+abbrev pub uploads_from : Scene → List ℕ → List ℕ → Option UploadRef → Option (List UploadRef)
+uploads_from s b p m = option_map (λ c. listed p m c.uploads) (fin.get s.content.buckets b)
+
+-- the scene is as it was
+abbrev pub IsStill : Scene → Scene → Type 0
+IsStill z s = s ≡ z
+
+-- the page behind those so far
+abbrev pub asks : UploadsBelow → Request
+asks w = uploads_after w.bucket w.prefix w.walk
+
+-- the walk with these uploads found
+abbrev pub with_found : UploadsBelow → List UploadRef → UploadsBelow
+with_found w found = record { bucket = w.bucket; prefix = w.prefix; walk = found }
+
+-- it goes on, or gives all that was found
+abbrev pub led : UploadsBelow → Walked UploadRef → Step UploadsBelow (Option (List UploadRef))
+led w (More found) = Next (with_found w found)
+led w (Whole found) = End (Some found)
+
+-- a walk without the bucket ends with none
+abbrev pub refused : UploadsBelow → Refusal → Step UploadsBelow (Option (List UploadRef))
+refused w NoSuchBucket = End None
+refused w r = Next w
+
+-- where a reply leads
+abbrev pub goes : UploadsBelow → Reply → Step UploadsBelow (Option (List UploadRef))
+goes w (Refused r) = refused w r
+goes w r = led w (walked_uploads w.walk r)
+
+-- nothing is found yet
+abbrev pub Begins : UploadsBelow → Type 0
+Begins w = w.walk ≡ []
+
+-- begun at o in the scene z: the scene stays, and what was found and what is left are all
+pub record IsListing (o : UploadsBelow) (z : Scene) (w : UploadsBelow) (s : Scene) : Type 0 where
+  pub same : s ≡ z
+  pub bucket : w.bucket ≡ o.bucket
+  pub prefix : w.prefix ≡ o.prefix
+  pub whole : option_map (λ l. w.walk ++ l) (uploads_from z w.bucket w.prefix (last_ref None w.walk)) ≡ uploads_from z o.bucket o.prefix None
+
+-- the scene stays, and what is given is all, where there is the bucket
+abbrev pub Gives : UploadsBelow → Scene → Option (List UploadRef) → Scene → Type 0
+Gives o z a s = (s ≡ z) × (a ≡ uploads_from z o.bucket o.prefix None)
+
+-- a walk over uploads changes nothing
+abbrev pub IsSame : UploadsBelow → Scene → Scene → Type 0
+IsSame o z s = IsStill z s
+
+-- a page of the bucket below the prefix, wherever it begins
+abbrev pub IsPageOf : List ℕ → List ℕ → Request → Type 0
+IsPageOf b p r = (found : List UploadRef) × (r ≡ uploads_after b p found)
+
+-- a walk over uploads asks pages of its bucket below its prefix alone
+abbrev pub Pages : UploadsBelow → Scene → Request → Type 0
+Pages o z r = IsPageOf o.bucket o.prefix r
+
+-- so many uploads are left
+abbrev pub size : Option (List UploadRef) → ℕ
+size (Some l) = length l
+size None = 0
+
+-- how many uploads the walk has yet to find
+abbrev pub left : UploadsBelow → Scene → ℕ
+left w s = size (uploads_from s w.bucket w.prefix (last_ref None w.walk))

@@ -1,0 +1,50 @@
+-- A walk over all keys below a prefix, as a part of an operation on a bucket's objects (Amazon S3 API: ListObjectsV2).
+use Rattle.std.specs.Prelude.{◌≡◌, ℕ, ◌+◌, ◌*◌, ◌<◌, Bool, true, false, List, [], ◌++◌, length}
+use Rattle.std.specs.List.{list_all}
+use Rattle.s3_types.specs.declared.reply.PageEntry.{PageEntry}
+use Rattle.machine.specs.Prelude.{Objects, listed, Reply, Refused, Refusal, NoSuchBucket}
+use Rattle.bucket_ops.specs.Asks.{Ask, Page}
+use Rattle.s3_types.specs.declared.reply.Reply.TheVariants.{Page as APage}
+use Rattle.list_walk.specs.Walks.{keys_on, last_of, Walked, More, Whole}
+use Rattle.list_walk.specs.Fitting.{is_key}
+
+-- the entries of all keys below a prefix, and the keys
+abbrev pub all_below : List ℕ → Objects → List PageEntry
+all_below q z = listed q false [] z
+
+-- all keys below a prefix, in order
+abbrev pub keys_below : List ℕ → Objects → List (List ℕ)
+keys_below q z = keys_on (all_below q z)
+
+-- the page behind these entries
+abbrev pub walk_asks : List ℕ → List PageEntry → Ask
+walk_asks q found = Page q false (last_of (keys_on found)) 1000
+
+-- a reply that a walk may be told: a page has keys alone, and there is a bucket
+abbrev pub is_there : Refusal → Bool
+is_there NoSuchBucket = false
+is_there _ = true
+
+-- a reply that a walk may be told: a page of keys, and no missing bucket
+abbrev pub fits : Reply → Bool
+fits (APage es more) = list_all is_key es
+fits (Refused r) = is_there r
+fits _ = true
+
+-- what was found and what is left are all
+abbrev pub IsWalking : List ℕ → Objects → List PageEntry → Type 0
+IsWalking q z found = found ++ listed q false (last_of (keys_on found)) z ≡ all_below q z
+
+-- it goes on, or these are all
+abbrev pub IsWalked : List ℕ → Objects → Walked PageEntry → Type 0
+IsWalked q z (More found) = IsWalking q z found
+IsWalked q z (Whole found) = found ≡ all_below q z
+
+-- so much is left at most, where each key that is found takes one step more
+abbrev pub walk_left : List ℕ → List PageEntry → Objects → ℕ
+walk_left q found m = 1 + length found + 2 * length (listed q false (last_of (keys_on found)) m)
+
+-- less is left; and all keys are fewer than was left
+abbrev pub LessWalked : List ℕ → Objects → Walked PageEntry → ℕ → Type 0
+LessWalked q m (More found) n = walk_left q found m < n
+LessWalked q m (Whole found) n = length found < n

@@ -1,6 +1,0 @@
-pub mod Below
-pub mod Rising
-pub mod Walks
-pub mod Batches
-pub mod Sweeps
-pub mod UploadLaws

@@ -1,4 +1,0 @@
-pub mod Walking
-pub mod Sweeping
-pub mod Uploads
-pub mod Prelude

@@ -1,8 +1,0 @@
-use Rattle.std.proofs.Common.{◌≡◌, true, subst, sym, List, ℕ}
-use Rattle.s3_types.specs.Prelude.{list_all, is_hex}
-use Rattle.etag.proofs.Digits.{encoded_hex}
-use Rattle.etag.proofs.digits_of.Goals as goal
-
-pub returns-clause-hex : goal.returns-clause-hex
-returns-clause-hex c =
-    subst (λ (l : List ℕ). list_all is_hex l ≡ true) (sym c.in-Ok.ensures.written) (encoded_hex c.args.digest.now c.fits-digest)

@@ -1,9 +1,0 @@
-use Rattle.std.proofs.Common.{take}
-use Rattle.s3_types.specs.Prelude.{flat_map}
-use Rattle.md5.specs.Md5.{Holds}
-use Rattle.s3_types.specs.Tags.{digest_of}
-use Rattle.etag.proofs.joined_tag.Given as goal
-
--- the hasher holds the digests so far
-abbrev pub invariant-loop-tag : goal.invariant-loop-tag
-invariant-loop-tag l = Holds l.hasher (flat_map digest_of (take l.tag-index l.tags))

@@ -1,0 +1,32 @@
+-- What is told of two jobs' events, and what is left of them. Machinery of the code that writes them.
+use Rattle.std.specs.Prelude.{ℕ, ◌+◌, ◌≤◌, min, List, length, take, drop}
+use Rattle.job_model.specs.Prelude.{zip, enumerate_from, flat_map}
+use Rattle.job_spec.specs.Prelude.{Event, EventEnd}
+use Rattle.job_spec.specs.ReportText.{event_line}
+use Rattle.twin_script.specs.TwinScripts.{sides_in}
+use Rattle.twin_script.specs.declared.turns.Side.{Side}
+use Rattle.twin_script.specs.declared.turns.TwinTurn.{TwinTurn}
+use Rattle.job_report.specs.declared.played.Ended.{Ended}
+use Rattle.job_report.specs.TwinText.{letter, played_line, in_turn}
+
+-- events with their ends
+abbrev pub ended_in : Ended → List (Event × EventEnd)
+ended_in ended = zip ended.events.now ended.ends.now
+
+-- how many of them have their end
+abbrev pub most_in : Ended → ℕ
+most_in ended = min (length ended.events.now) (length ended.ends.now)
+
+-- so many of them were told
+pub record IsWithin (told : ℕ) (ended : Ended) : Type 0 where
+  pub of_events : told ≤ length ended.events.now
+  pub of_ends : told ≤ length ended.ends.now
+
+-- the lines of a side's events behind the first ones, so many of them, numbered from n on
+abbrev pub next_lines : Side → (n told count : ℕ) → List (Event × EventEnd) → List ℕ
+next_lines side n told count xs = flat_map (event_line (letter side)) (enumerate_from n (take count (drop told xs)))
+
+-- the lines of turns behind the first events of both
+abbrev pub left_lines : List TwinTurn → (first second : ℕ) → (firsts seconds : List (Event × EventEnd)) → List ℕ
+left_lines order first second firsts seconds =
+    flat_map played_line (enumerate_from (first + second + 1) (in_turn (sides_in order) (drop first firsts) (drop second seconds)))

@@ -1,0 +1,88 @@
+-- Turns of one actor, one after another.
+use Rattle.std.proofs.Common.{◌≡◌, ℕ, ◌+◌, ◌<◌, ◌≤◌, Bool, true, false, List, [], ◌∷◌, ◌++◌, length, length-append, append_assoc, append-nil, refl, sym, ap, ◌∙◌, arith}
+use Rattle.job_spec.specs.Prelude.{Actor, Entry, AllBy, StepEnds}
+use Rattle.job_states.specs.Turning.{Table, Turned, Going, Ran}
+use Rattle.job_states.specs.declared.actors.Turn.TheVariants.{GoesOn, Ended, Died}
+
+pub all_by_more : (a : Actor) (es : List Entry) (e : Entry) → AllBy a es → e.actor ≡ a → AllBy a (es ++ e ∷ [])
+all_by_more a [] e h is = (is, tt)
+all_by_more a (x ∷ es) e h is = (h.0, all_by_more a es e h.1 is)
+
+abbrev pub going_begins : (place : ℕ) (s : Table) → s.goes_on place ≡ true → Going place s s
+going_begins place s going = record {
+  part = [];
+  by = tt;
+  appended = sym (append-nil s.entries);
+  ended = refl;
+  goes_on = going;
+  room = omega arith;
+  actors = λ q. refl;
+  others = λ q ne. refl;
+}
+
+abbrev pub goes_on : {place : ℕ} {s t u : Table} → Going place s t → Turned place t u GoesOn → Going place s u
+goes_on {place = place} {s = s} {t = t} {u = u} g turn =
+    let x = turn.1.entry in
+    let before = g.room in
+    let after = turn.4 in
+    record {
+      part = g.part ++ x ∷ [];
+      by = all_by_more (s.actor place) g.part x g.by (turn.1.by ∙ g.actors place);
+      appended = turn.1.appended ∙ ap (λ es. es ++ x ∷ []) g.appended ∙ append_assoc s.entries g.part (x ∷ []);
+      ended = turn.3 ∙ g.ended;
+      goes_on = turn.2;
+      room = omega (arith, before, after);
+      actors = λ q. turn.0.actors q ∙ g.actors q;
+      others = λ q ne. turn.0.others q ne ∙ g.others q ne;
+    }
+
+abbrev pub has_ended : {place : ℕ} {s t u : Table} → Going place s t → Turned place t u Ended → Ran place s u
+has_ended {place = place} {s = s} {t = t} {u = u} g turn =
+    let x = turn.1.entry in
+    let before = g.room in
+    let after = turn.2.room in
+    record {
+      part = g.part ++ x ∷ [];
+      by = all_by_more (s.actor place) g.part x g.by (turn.1.by ∙ g.actors place);
+      appended = turn.1.appended ∙ ap (λ es. es ++ x ∷ []) g.appended ∙ append_assoc s.entries g.part (x ∷ []);
+      ending = record {
+        end = turn.2.end;
+        told = turn.2.told ∙ ap (λ xs. xs ++ record { actor = t.actor place; end = turn.2.end } ∷ []) g.ended ∙ ap (λ a. s.ended ++ record { actor = a; end = turn.2.end } ∷ []) (g.actors place);
+        idle = turn.2.idle;
+        room = omega (arith, before, after);
+      };
+      actors = λ q. turn.0.actors q ∙ g.actors q;
+      others = λ q ne. turn.0.others q ne ∙ g.others q ne;
+    }
+
+abbrev pub has_died : {place : ℕ} {s t u : Table} → Going place s t → Turned place t u Died → Ran place s u
+has_died {place = place} {s = s} {t = t} {u = u} g turn =
+    let e = turn.2.0 in
+    let before = g.room in
+    let after = e.room in
+    record {
+      part = g.part;
+      by = g.by;
+      appended = turn.1 ∙ g.appended;
+      ending = record {
+        end = e.end;
+        told = e.told ∙ ap (λ xs. xs ++ record { actor = t.actor place; end = e.end } ∷ []) g.ended ∙ ap (λ a. s.ended ++ record { actor = a; end = e.end } ∷ []) (g.actors place);
+        idle = e.idle;
+        room = omega (arith, before, after);
+      };
+      actors = λ q. turn.0.actors q ∙ g.actors q;
+      others = λ q ne. turn.0.others q ne ∙ g.others q ne;
+    }
+
+pub one_more : (es : List Entry) (e : Entry) → length (es ++ e ∷ []) ≡ length es + 1
+one_more es e = length-append es (e ∷ [])
+
+-- an operation that ended with a sending
+pub ends_sending : (b : Bool) (n : ℕ) (es : List Entry) (e : Entry) → length es < n → StepEnds b n (es ++ e ∷ [])
+ends_sending true n es e few = let l = one_more es e in omega (arith, l, few)
+ends_sending false n es e few = let l = one_more es e in (omega (arith, l), omega (arith, l, few))
+
+-- and one that found no memory
+pub ends_unsent : (b : Bool) (n : ℕ) (es : List Entry) → b ≡ true → length es ≤ n → StepEnds b n es
+ends_unsent true n es is few = few
+ends_unsent false n es is few = absurd cc

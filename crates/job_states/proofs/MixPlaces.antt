@@ -1,0 +1,63 @@
+-- Lists of places that are apart, and their actors.
+use Rattle.std.proofs.Common.{◌≡◌, ℕ, zero, suc, ◌==◌, ◌⊎◌, inl, inr, Bool, true, false, arith, List, [], ◌∷◌, map, length, slice_get, Some, refl, sym, ap, ◌∙◌}
+use Rattle.job_spec.specs.Prelude.{remove}
+use Rattle.job_spec.proofs.Common.{nat_tests, some_is, none_some}
+use Rattle.job_states.specs.Mixes.{IsNotIn, AreApart}
+
+eq_or : (a b : ℕ) (t : Bool) → (a == b) ≡ t → (a ≡ b) ⊎ (a ≡ b → ⊥)
+eq_or a b true h = inl (grind (arith, nat_tests))
+eq_or a b false h = inr (λ e. grind (arith, nat_tests))
+
+pub same_or_not : (a b : ℕ) → (a ≡ b) ⊎ (a ≡ b → ⊥)
+same_or_not a b = eq_or a b (a == b) refl
+
+not_in_get : (a : ℕ) (xs : List ℕ) (i b : ℕ) → IsNotIn a xs → slice_get xs i ≡ Some b → b ≡ a → ⊥
+not_in_get a [] i b n e h = none_some refl e
+not_in_get a (x ∷ xs) zero b n e h = n.0 (some_is e ∙ h)
+not_in_get a (x ∷ xs) (suc i) b n e h = not_in_get a xs i b n.1 e h
+
+not_in_remove : (a : ℕ) (xs : List ℕ) (p : ℕ) → IsNotIn a xs → IsNotIn a (remove xs p)
+not_in_remove a [] zero n = tt
+not_in_remove a [] (suc p) n = tt
+not_in_remove a (x ∷ xs) zero n = n.1
+not_in_remove a (x ∷ xs) (suc p) n = (n.0, not_in_remove a xs p n.1)
+
+pub remove_apart : (xs : List ℕ) (p : ℕ) → AreApart xs → AreApart (remove xs p)
+remove_apart [] zero h = tt
+remove_apart [] (suc p) h = tt
+remove_apart (x ∷ xs) zero h = h.1
+remove_apart (x ∷ xs) (suc p) h = (not_in_remove x xs p h.0, remove_apart xs p h.1)
+
+-- what is left behind a removal is another one that was there
+pub remove_get : (xs : List ℕ) (p a : ℕ) → AreApart xs → slice_get xs p ≡ Some a → (i b : ℕ) → slice_get (remove xs p) i ≡ Some b → (j : ℕ) × (slice_get xs j ≡ Some b) × (b ≡ a → ⊥)
+remove_get [] p a h e i b g = absurd (none_some refl e)
+remove_get (x ∷ xs) zero a h e i b g = (suc i, g, λ s. not_in_get x xs i b h.0 g (s ∙ sym (some_is e)))
+remove_get (x ∷ xs) (suc p) a h e zero b g = (0, g, λ s. not_in_get x xs p a h.0 e (sym s ∙ sym (some_is g)))
+remove_get (x ∷ xs) (suc p) a h e (suc i) b g = let r = remove_get xs p a h.1 e i b g in (suc r.0, r.1, r.2)
+
+-- and another one that was there is left
+pub get_remove : (xs : List ℕ) (p a : ℕ) → slice_get xs p ≡ Some a → (j b : ℕ) → slice_get xs j ≡ Some b → (b ≡ a → ⊥) → (i : ℕ) × (slice_get (remove xs p) i ≡ Some b)
+get_remove [] p a e j b g ne = absurd (none_some refl e)
+get_remove (x ∷ xs) zero a e zero b g ne = absurd (ne (sym (some_is g) ∙ some_is e))
+get_remove (x ∷ xs) zero a e (suc j) b g ne = (j, g)
+get_remove (x ∷ xs) (suc p) a e zero b g ne = (0, g)
+get_remove (x ∷ xs) (suc p) a e (suc j) b g ne = let r = get_remove xs p a e j b g ne in (suc r.0, r.1)
+
+pub get_map : {X : Type 0} (f : ℕ → X) (xs : List ℕ) (i a : ℕ) → slice_get xs i ≡ Some a → slice_get (map f xs) i ≡ Some (f a)
+get_map f [] i a e = absurd (none_some refl e)
+get_map f (x ∷ xs) zero a e = ap (λ v. Some (f v)) (some_is e)
+get_map f (x ∷ xs) (suc i) a e = get_map f xs i a e
+
+pub remove_map : {X : Type 0} (f : ℕ → X) (xs : List ℕ) (p : ℕ) → map f (remove xs p) ≡ remove (map f xs) p
+remove_map f [] zero = refl
+remove_map f [] (suc p) = refl
+remove_map f (x ∷ xs) zero = refl
+remove_map f (x ∷ xs) (suc p) = ap (λ ys. f x ∷ ys) (remove_map f xs p)
+
+pub length_of_map : {X : Type 0} (f : ℕ → X) (xs : List ℕ) → length (map f xs) ≡ length xs
+length_of_map f [] = refl
+length_of_map f (x ∷ xs) = ap (λ n. suc n) (length_of_map f xs)
+
+pub none_empty : (xs : List ℕ) → length xs ≡ 0 → xs ≡ []
+none_empty [] e = refl
+none_empty (x ∷ xs) e = absurd cc

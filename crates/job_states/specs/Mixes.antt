@@ -1,0 +1,46 @@
+-- A mix of actors.
+use Rattle.std.specs.Prelude.{◌≡◌, ℕ, ◌^◌, ◌<◌, ◌≤◌, ◌⊎◌, true, false, List, [], ◌∷◌, ◌++◌, map, length, slice_get, Some}
+use Rattle.job_spec.specs.Prelude.{Entry, ActorEnd, Mixing, draw}
+use Rattle.job_states.specs.Turning.{Table}
+
+-- a number is none of these
+abbrev pub IsNotIn : ℕ → List ℕ → Type 0
+IsNotIn a [] = Unit {0}
+IsNotIn a (x ∷ xs) = (x ≡ a → ⊥) × IsNotIn a xs
+
+-- no place stands twice
+abbrev pub AreApart : List ℕ → Type 0
+AreApart [] = Unit {0}
+AreApart (x ∷ xs) = IsNotIn x xs × AreApart xs
+
+-- the actors at these places have more to send
+abbrev pub AreGoing : Table → List ℕ → Type 0
+AreGoing s places = (i q : ℕ) → slice_get places i ≡ Some q → s.goes_on q ≡ true
+
+-- the actors at these places were mixed until none had more to send
+pub record Mixed (seed : ℕ) (places : List ℕ) (s t : Table) : Type 0 where
+  pub part : List Entry
+  pub ends : List ActorEnd
+  pub appended : t.entries ≡ s.entries ++ part
+  pub told : t.ended ≡ s.ended ++ ends
+  pub mixing : Mixing seed (map s.actor places) part ends []
+  pub over : (i q : ℕ) → slice_get places i ≡ Some q → t.goes_on q ≡ false
+  pub others : (q : ℕ) → ((i : ℕ) → slice_get places i ≡ Some q → ⊥) → t.goes_on q ≡ s.goes_on q
+  pub actors : (q : ℕ) → t.actor q ≡ s.actor q
+
+-- a mix that goes on, while the actors at these places have more to send
+pub record Mixes (seed : ℕ) (places busy : List ℕ) (last : ℕ) (s t : Table) : Type 0 where
+  pub part : List Entry
+  pub ends : List ActorEnd
+  pub appended : t.entries ≡ s.entries ++ part
+  pub told : t.ended ≡ s.ended ++ ends
+  pub mixing : Mixing seed (map s.actor places) part ends (map s.actor busy)
+  pub drawn : last ≡ draw seed (length part)
+  pub small : last < 2 ^ 31
+  pub apart : AreApart busy
+  pub going : AreGoing t busy
+  pub room : length busy ≤ t.room
+  pub over : (i q : ℕ) → slice_get places i ≡ Some q → (t.goes_on q ≡ false) ⊎ ((j : ℕ) × (slice_get busy j ≡ Some q))
+  pub others : (q : ℕ) → ((i : ℕ) → slice_get places i ≡ Some q → ⊥) → t.goes_on q ≡ s.goes_on q
+  pub among : (j q : ℕ) → slice_get busy j ≡ Some q → (i : ℕ) × (slice_get places i ≡ Some q)
+  pub actors : (q : ℕ) → t.actor q ≡ s.actor q

@@ -1,4 +1,0 @@
-pub mod AloneTurns
-pub mod Places
-pub mod Choices
-pub mod MixTurns

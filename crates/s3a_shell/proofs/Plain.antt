@@ -1,0 +1,45 @@
+-- What a command is to do is of one of the kinds that can be kept or said.
+use Rattle.std.proofs.Common.{◌≡◌, ℕ, Bool, true, false, List, [], ◌∷◌, Option, Result, Ok, Err, IfOk, refl, sym, subst}
+use Rattle.machine.specs.Prelude.{AllByRecursion, Content, new_content, MOST_MINIMUM, Shell, Entry, AreBy}
+use Rattle.s3a_words.specs.declared.command.Command.{Command}
+use Rattle.s3a_words.specs.declared.command.Command.TheVariants.{Init}
+use Rattle.durable_store.specs.Works.{Work, IsPlain}
+use Rattle.durable_store.specs.declared.held.Held.{Held}
+use Rattle.durable_store.specs.declared.held.Held.TheVariants.{Nothing, Store, Faulty}
+use Rattle.s3a_shell.specs.Sendings.{has_changed}
+use Rattle.s3a_shell.specs.Commanded.{init_work, work_said, Done, DoneOn, IsWork}
+
+pub init_plain : (minimum : Option ℕ) (held : Held) → IsPlain (init_work minimum held)
+unfolding init_work
+init_plain minimum Nothing = tt
+init_plain minimum _ = tt
+
+events : (es : List Entry) → AreBy Shell 0 es → AllByRecursion (λ e. e.event ≡ 0) es
+events [] by = tt
+events (e ∷ es) by = (by.1, events es by.2)
+
+said_plain : (refused changed : Bool) (c : Content) (text : List ℕ) (es : List Entry) → AreBy Shell 0 es → IsPlain (work_said refused changed c text es)
+said_plain true changed c text es by = tt
+said_plain false true c text es by = events es by
+said_plain false false c text es by = tt
+
+done_plain : (command : Command) (bytes : List ℕ) (c : Content) (work : Work) → Done command bytes c work → IsPlain work
+done_plain command bytes c work h = subst IsPlain (sym h.is) (said_plain h.what.refused (has_changed h.sent) c h.what.text h.sent h.by)
+
+on_plain : (command : Command) (bytes : List ℕ) (held : Held) (work : Work) → DoneOn command bytes held work → IsPlain work
+on_plain command bytes Nothing work h = done_plain command bytes (new_content MOST_MINIMUM) work h
+on_plain command bytes (Store c) work h = done_plain command bytes c work h
+on_plain command bytes (Faulty number place) work h = subst IsPlain (sym h) tt
+
+pub work_plain : (command : Command) (bytes : List ℕ) (held : Held) (work : Work) → IsWork command bytes held work → IsPlain work
+work_plain (Init minimum) bytes held work h = subst IsPlain (sym h) (init_plain minimum held)
+work_plain command bytes held work h = on_plain command bytes held work h
+
+pub ok_more : {A E : Type 0} (r : Result A E) (P Q : A → Type 0) → ((x : A) → P x → Q x) → IfOk r P → IfOk r Q
+ok_more (Ok x) P Q f h = f x h
+ok_more (Err e) P Q f h = tt
+
+-- a command that is not `init`
+pub not_init : (command : Command) (bytes : List ℕ) (held : Held) (work : Work) → ((minimum : Option ℕ) → command ≡ Init minimum → ⊥) → DoneOn command bytes held work → IsWork command bytes held work
+not_init (Init minimum) bytes held work n h = absurd (n minimum refl)
+not_init _ bytes held work n h = h

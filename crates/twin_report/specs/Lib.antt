@@ -1,2 +1,0 @@
-pub mod TwinText
-pub mod Left

@@ -1,0 +1,41 @@
+-- How the commit of a job whose destination others share ends, whatever they send: by a missing task, by its check, or as that of a job alone.
+use Rattle.std.specs.Prelude.{◌≡◌, ℕ, not, ◌&&◌, Bool, List, [], ◌++◌, Option, Some, None}
+use Rattle.job_facts.specs.Prelude.{filter, Mode, Fail, Request, Entry, Retried, WornFirst, Who, Script, CommitEnd, CommitOver, CommitEnded, TheCommit, TheCheck, is_driver, is_begun, Times}
+use Rattle.job_model.specs.declared.ends.CheckEnd.{CheckEnd}
+use Rattle.job_model.specs.declared.ends.CheckEnd.TheVariants.{Clear}
+use Rattle.job_protocol.specs.Rechecks.{Check, CheckOver}
+use Rattle.job_traces.specs.Runs.{Stand}
+use Rattle.twin_facts.specs.Spared.{InEachShared}
+use Rattle.twin_safety.specs.Checks.{Checked, CheckIs}
+
+-- the entries of its commit, check and all: its driver's since that began, before an abort or clean
+abbrev pub is_commits : Times → Entry → Bool
+is_commits k e = is_driver e.actor && (is_begun k.commit e.event && not (is_begun k.clean e.event))
+
+abbrev pub commit_entries : Times → List Entry → List Entry
+commit_entries k = filter (is_commits k)
+
+-- In the mode fail, where no task was missing, the check came first and found nothing by these entries; else there was none.
+abbrev pub IsCleared : Mode → Option ℕ → Script → List Who → List Entry → Type 0
+IsCleared Fail None w reported checks = (t : Retried Check) × Checked w reported checks t × (t.operation ≡ CheckOver Clear) × WornFirst w.retries checks None
+IsCleared _ missing w reported checks = checks ≡ []
+
+-- the check ended it: no task was missing, and its entries are all those of the commit
+pub record ByCheck (w : Script) (k : Times) (es : List Entry) (end : CheckEnd) : Type 0 where
+  pub fails : w.mode ≡ Fail
+  pub worn : Option Request
+  pub first : WornFirst w.retries (commit_entries k es) worn
+  pub is : CheckIs w (commit_entries k es) worn end
+
+-- the commit ended behind its check, as is due of a job alone by the task that was missing, the first of its requests that wore out, and the picks
+pub record BehindCheck (w : Script) (k : Times) (es : List Entry) (x : Stand) (end : CommitEnd) : Type 0 where
+  pub missing : Option ℕ
+  pub reported : List Who
+  pub checks : List Entry
+  pub entries : commit_entries k es ≡ checks ++ x.commit
+  pub cleared : IsCleared w.mode missing w reported checks
+  pub ended : CommitEnded w x.seen missing x.commit end
+
+pub record SharedCommitsEnd : Type 0 where
+  pub checks : InEachShared (λ g k opening es x. (t : Retried Check) (end : CheckEnd) → x.driver ≡ Some (TheCheck t) → t.operation ≡ CheckOver end → ByCheck g.script k es end)
+  pub commits : InEachShared (λ g k opening es x. (end : CommitEnd) → x.driver ≡ Some (TheCommit (CommitOver end)) → BehindCheck g.script k es x end)
