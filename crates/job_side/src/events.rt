@@ -1,14 +1,16 @@
-ghost use Rattle.std.specs.Prelude.{◌≡◌, ◌⊎◌, ◌+◌, ◌<◌, ◌≤◌, ◌-◌, ◌^◌, [], ◌∷◌, ◌++◌, length, slice_get, Option, Some, None, IfOk, OnOk, OnErr, IsSome, true, vec_len, vec_capacity};
+ghost use Rattle.std.specs.Prelude.{◌≡◌, ◌≢◌, ◌⊎◌, ◌+◌, ◌<◌, ◌≤◌, ◌-◌, ◌^◌, [], ◌∷◌, ◌++◌, length, slice_get, Option, Some, None, IfOk, OnOk, OnErr, IsSome, true, vec_len, vec_capacity};
+ghost use Rattle.s3_types.specs.declared.request.Actor.{Actor};
 ghost use Rattle.s3_types.specs.declared.request.Actor.TheVariants.{Driver};
 ghost use Rattle.job_model.specs.Known.{Known};
 ghost use Rattle.job_model.specs.Attempts.{is_known};
 ghost use Rattle.job_model.specs.Legal.{IsEvent, HasOp, IsLegal};
 ghost use Rattle.commit_laws.specs.Fitting.{least_missing};
-ghost use Rattle.job_protocol.specs.Operations.{start_of};
+ghost use Rattle.job_protocol.specs.Operations.{Setting, start_of};
 ghost use Rattle.job_spec.specs.States.{Past, reports, told};
 ghost use Rattle.job_safety.specs.Laws.{KeptAmong};
 ghost use Rattle.job_states.specs.Stands.{Stands, IsPlace};
 ghost use Rattle.job_actor.specs.Plans.{IsPlanOf};
+ghost use Rattle.job_side.specs.declared.hands.Hand.TheVariants.{Empty};
 ghost use Rattle.job_side.specs.Sending.{Asks, hand_end};
 ghost use Rattle.job_side.specs.Holds.{Holds, Going, Quiet, IsTurn, Same, seen_by, all_sound, setting_of, is_busy_at};
 ghost use Rattle.job_side.specs.Beside.{RestsBeside};
@@ -16,8 +18,9 @@ ghost use Rattle.job_side.specs.Events.{Next, Refuses, IsFine, HasRoom, end_of, 
 
 use crate::body::Body;
 use crate::hands::Hand;
+use crate::picks::into_picks;
 use job_actor::{Plan, Reported, Works};
-use job_model::{ActorEnd, Event, EventEnd, EventFault, Op, TaskSet};
+use job_model::{ActorEnd, Event, EventEnd, EventFault, Op, PickList, TaskSet};
 use job_plans::job_plan;
 use job_states::{mix, place_of, run, step};
 use s3_types::{Actor, Sequence, put};
@@ -38,6 +41,19 @@ fn taken_end(alloc: Global, finished: &mut Vec<ActorEnd>, event: Event) -> Event
             Some(ended) => EventEnd::Ended(ended.end),
             None => EventEnd::Done,
         },
+    }
+}
+
+/// The plan that a hand has.
+fn into_plan<W: Works>(hand: Hand<W>) -> Plan
+    requires { hand ≢ Empty }
+    ensures { (g : Setting) (a : Actor) (k : Known) → GivesPlan W.wants W.is_of W.running g a k (Some hand)
+        → IsPlanOf g a k result }
+{
+    match hand {
+        Hand::Plan(plan) => plan,
+        Hand::At(work) => work.into_plan(),
+        Hand::Empty => unreachable!(),
     }
 }
 
@@ -110,11 +126,7 @@ impl<W: Works> Body<W> {
         ensures emptied { Emptied place self.old self.new }
         ensures picks { self.new.side.picks ≡ self.old.side.picks }
     {
-        match mem::replace(&mut self.side.hands[place], Hand::Empty) {
-            Hand::Plan(plan) => plan,
-            Hand::At(work) => work.into_plan(),
-            Hand::Empty => unreachable!(),
-        }
+        into_plan(mem::replace(&mut self.side.hands[place], Hand::Empty))
     }
 
     /// Takes out what the driver has in hand, and puts by what that picked.
@@ -124,13 +136,9 @@ impl<W: Works> Body<W> {
         ensures picks { self.new.side.picks
             ≡ picks_in W.picks_of self.old.side.picks (slice_get self.old.side.hands.items place) }
     {
-        match mem::replace(&mut self.side.hands[place], Hand::Empty) {
-            Hand::At(work) => match work.into_picks() {
-                Some(picks) => put(&mut self.side.picks, picks),
-                None => {}
-            },
-            _ => {}
-        }
+        let hand = mem::replace(&mut self.side.hands[place], Hand::Empty);
+        let before = mem::replace(&mut self.side.picks, PickList::new(self.shared.alloc));
+        put(&mut self.side.picks, into_picks(hand, before));
     }
 
     /// The driver's operation, by the job's plan, which is made anew.

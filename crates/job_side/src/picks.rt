@@ -4,6 +4,7 @@ ghost use Rattle.job_side.specs.Events.{picks_in};
 use crate::hands::Hand;
 use job_actor::Works;
 use job_model::PickList;
+use s3_types::let_go;
 
 /// The picks that a hand has, or else those that were put by.
 pub fn picks_in<'a, W: Works>(hand: &'a Hand<W>, put_by: &'a PickList) -> &'a PickList
@@ -24,9 +25,16 @@ pub fn into_picks<W: Works>(hand: Hand<W>, put_by: PickList) -> PickList
 {
     match hand {
         Hand::At(work) => match work.into_picks() {
-            Some(picks) => picks,
+            Some(picks) => {
+                let_go(put_by);
+                picks
+            }
             None => put_by,
         },
-        _ => put_by,
+        Hand::Plan(plan) => {
+            let_go(plan);
+            put_by
+        }
+        Hand::Empty => put_by,
     }
 }

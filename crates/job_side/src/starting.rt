@@ -11,7 +11,7 @@ use job_model::{PickList, Script};
 use job_plans::task_plan;
 use job_states::States;
 use s3_service::Service;
-use s3_types::Journal;
+use s3_types::{Journal, both, let_go};
 use std::alloc::{AllocError, Global};
 use store_link::{Lossy, MemStore};
 
@@ -67,8 +67,14 @@ impl<W: Drop> Side<W> {
         ensures shares { IfOk result (λ side. side.shares ≡ shares) }
         ensures first { IfOk result (IsFirstSide minimum) }
     {
-        let hands = first_hands(alloc, &script, minimum)?;
-        let states = States::new(alloc, &script)?;
+        let made = both(
+            first_hands(alloc, &script, minimum),
+            States::new(alloc, &script),
+        );
+        let Ok((hands, states)) = made else {
+            let_go(others);
+            return Err(AllocError);
+        };
         Ok(Side {
             script,
             others,
@@ -91,7 +97,10 @@ impl Shared {
         ensures opening { IfOk result (λ shared. shared.opening ≡ service) }
         ensures first { IfOk result (IsFirstShared script.now) }
     {
-        let store = first_store(alloc, script, &service)?;
+        let Ok(store) = first_store(alloc, script, &service) else {
+            let_go(service);
+            return Err(AllocError);
+        };
         Ok(Shared {
             alloc,
             opening: service,
@@ -111,7 +120,10 @@ impl<W: Works> Body<W> {
         ensures { IfOk result (IsBegun W.wants W.is_of W.running W.picks_of script service) }
     {
         let side = Side::new(alloc, script, Vec::new(alloc), false, service.minimum())?;
-        let shared = Shared::new(alloc, &side.script, service)?;
+        let Ok(shared) = Shared::new(alloc, &side.script, service) else {
+            let_go(side);
+            return Err(AllocError);
+        };
         Ok(Body { side, shared })
     }
 }

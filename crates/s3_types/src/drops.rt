@@ -1,4 +1,4 @@
-ghost use Rattle.std.specs.Prelude.{◌≡◌};
+ghost use Rattle.std.specs.Prelude.{◌≡◌, Ok, IfOk};
 
 /// Drops a value. A function that drops a value of a large type through this call is checked sooner,
 /// since a value's drop is proved variant by variant where its type is written out.
@@ -11,4 +11,15 @@ pub fn put<T: Drop>(place: &mut T, value: T)
     ensures { place.new ≡ value }
 {
     *place = value;
+}
+
+/// Two values, where both could be made. A function that makes one of several is checked sooner so than with a `?` for each,
+/// since it holds none of them where it may end early.
+pub fn both<A: Drop, B: Drop, E: Drop>(one: Result<A, E>, other: Result<B, E>) -> Result<(A, B), E>
+    ensures one { IfOk result (λ pair. one ≡ Ok pair.0) }
+    ensures other { IfOk result (λ pair. other ≡ Ok pair.1) }
+{
+    let one = one?;
+    let other = other?;
+    Ok((one, other))
 }

@@ -13,7 +13,6 @@
 #![tactic(auto)]
 
 mod bytes;
-mod copies;
 mod digests;
 mod drops;
 mod fates;
@@ -32,7 +31,7 @@ mod text;
 
 pub use bytes::Bytes;
 pub use digests::{joined_tag, part_digest, part_tag, tag_of};
-pub use drops::{let_go, put};
+pub use drops::{both, let_go, put};
 pub use fates::{Fate, FateFault, Fates};
 pub use journal::{Entry, Journal, Outcome};
 pub use limits::{

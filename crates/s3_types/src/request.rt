@@ -2,7 +2,7 @@ ghost use Rattle.std.specs.Prelude.{◌≡◌, IfOk, Some};
 ghost use Rattle.s3_types.specs.Spelling.{actor_text};
 
 use crate::bytes::Bytes;
-use crate::copies::{both, three};
+use crate::drops::both;
 use crate::limits::{LengthHeader, PageLimit};
 use crate::lists::{KeyList, PartList, copied_keys, copied_parts};
 use crate::names::{Bucket, Key};
@@ -202,7 +202,7 @@ impl Request {
     ) -> Result<Request, AllocError>
         ensures { IfOk result (λ request. request ≡ Request.PutObject bucket.now key.now bytes.now header) }
     {
-        let (bucket, key, bytes) = three(bucket, key, bytes)?;
+        let ((bucket, key), bytes) = both(both(bucket.clone(), key.clone()), bytes.clone())?;
         Ok(Request::PutObject {
             bucket,
             key,
@@ -215,7 +215,7 @@ impl Request {
     pub fn get_object(bucket: &Bucket, key: &Key) -> Result<Request, AllocError>
         ensures { IfOk result (λ request. request ≡ Request.GetObject bucket.now key.now) }
     {
-        let (bucket, key) = both(bucket, key)?;
+        let (bucket, key) = both(bucket.clone(), key.clone())?;
         Ok(Request::GetObject { bucket, key })
     }
 
@@ -223,7 +223,7 @@ impl Request {
     pub fn head_object(bucket: &Bucket, key: &Key) -> Result<Request, AllocError>
         ensures { IfOk result (λ request. request ≡ Request.HeadObject bucket.now key.now) }
     {
-        let (bucket, key) = both(bucket, key)?;
+        let (bucket, key) = both(bucket.clone(), key.clone())?;
         Ok(Request::HeadObject { bucket, key })
     }
 
@@ -231,7 +231,7 @@ impl Request {
     pub fn delete_object(bucket: &Bucket, key: &Key) -> Result<Request, AllocError>
         ensures { IfOk result (λ request. request ≡ Request.DeleteObject bucket.now key.now) }
     {
-        let (bucket, key) = both(bucket, key)?;
+        let (bucket, key) = both(bucket.clone(), key.clone())?;
         Ok(Request::DeleteObject { bucket, key })
     }
 
@@ -239,7 +239,7 @@ impl Request {
     pub fn copy_object(bucket: &Bucket, source: &Key, target: &Key) -> Result<Request, AllocError>
         ensures { IfOk result (λ request. request ≡ Request.CopyObject bucket.now source.now target.now) }
     {
-        let (bucket, source, target) = three(bucket, source, target)?;
+        let ((bucket, source), target) = both(both(bucket.clone(), source.clone()), target.clone())?;
         Ok(Request::CopyObject {
             bucket,
             source,
@@ -257,7 +257,7 @@ impl Request {
     ) -> Result<Request, AllocError>
         ensures { IfOk result (λ request. request ≡ Request.ListPage bucket.now prefix.now delimited after.now limit) }
     {
-        let (bucket, prefix, after) = three(bucket, prefix, after)?;
+        let ((bucket, prefix), after) = both(both(bucket.clone(), prefix.clone()), after.clone())?;
         Ok(Request::ListPage {
             bucket,
             prefix,
@@ -271,7 +271,7 @@ impl Request {
     pub fn create_upload(bucket: &Bucket, key: &Key) -> Result<Request, AllocError>
         ensures { IfOk result (λ request. request ≡ Request.CreateUpload bucket.now key.now) }
     {
-        let (bucket, key) = both(bucket, key)?;
+        let (bucket, key) = both(bucket.clone(), key.clone())?;
         Ok(Request::CreateUpload { bucket, key })
     }
 
@@ -285,7 +285,7 @@ impl Request {
     ) -> Result<Request, AllocError>
         ensures { IfOk result (λ request. request ≡ Request.UploadPart bucket.now key.now upload number bytes.now) }
     {
-        let (bucket, key, bytes) = three(bucket, key, bytes)?;
+        let ((bucket, key), bytes) = both(both(bucket.clone(), key.clone()), bytes.clone())?;
         Ok(Request::UploadPart {
             bucket,
             key,
@@ -299,7 +299,7 @@ impl Request {
     pub fn abort_upload(bucket: &Bucket, key: &Key, upload: u64) -> Result<Request, AllocError>
         ensures { IfOk result (λ request. request ≡ Request.AbortUpload bucket.now key.now upload) }
     {
-        let (bucket, key) = both(bucket, key)?;
+        let (bucket, key) = both(bucket.clone(), key.clone())?;
         Ok(Request::AbortUpload {
             bucket,
             key,
@@ -311,7 +311,7 @@ impl Request {
     pub fn list_parts(bucket: &Bucket, key: &Key, upload: u64) -> Result<Request, AllocError>
         ensures { IfOk result (λ request. request ≡ Request.ListParts bucket.now key.now upload) }
     {
-        let (bucket, key) = both(bucket, key)?;
+        let (bucket, key) = both(bucket.clone(), key.clone())?;
         Ok(Request::ListParts {
             bucket,
             key,
@@ -323,7 +323,7 @@ impl Request {
     pub fn cluster_put(path: &Text, bytes: &Bytes) -> Result<Request, AllocError>
         ensures { IfOk result (λ request. request ≡ Request.ClusterPut path.now bytes.now) }
     {
-        let (path, bytes) = both(path, bytes)?;
+        let (path, bytes) = both(path.clone(), bytes.clone())?;
         Ok(Request::ClusterPut { path, bytes })
     }
 
@@ -331,7 +331,7 @@ impl Request {
     pub fn cluster_rename(source: &Text, target: &Text) -> Result<Request, AllocError>
         ensures { IfOk result (λ request. request ≡ Request.ClusterRename source.now target.now) }
     {
-        let (source, target) = both(source, target)?;
+        let (source, target) = both(source.clone(), target.clone())?;
         Ok(Request::ClusterRename { source, target })
     }
 
@@ -385,7 +385,7 @@ impl Request {
     ) -> Result<Request, AllocError>
         ensures { IfOk result (λ request. request ≡ Request.CompleteUpload bucket.now key.now upload parts.now) }
     {
-        let (bucket, key) = both(bucket, key)?;
+        let (bucket, key) = both(bucket.clone(), key.clone())?;
         let parts = copied_parts(alloc, parts)?;
         Ok(Request::CompleteUpload {
             bucket,
@@ -404,7 +404,7 @@ impl Request {
     ) -> Result<Request, AllocError>
         ensures { IfOk result (λ request. request ≡ Request.ListUploads bucket.now prefix.now after.now limit) }
     {
-        let (bucket, prefix) = both(bucket, prefix)?;
+        let (bucket, prefix) = both(bucket.clone(), prefix.clone())?;
         let after = copied_ref(after)?;
         Ok(Request::ListUploads {
             bucket,

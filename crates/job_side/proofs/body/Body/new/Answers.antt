@@ -7,5 +7,5 @@ use Rattle.job_side.proofs.body.Body.new.Goals as goal
 
 pub returns : goal.returns
 returns g c =
-    is_begun g.W.Acts.wants g.W.Works.is_of g.W.Works.running g.W.Works.picks_of _ _ (record { side = c.in_ok-side.side; shared = c.in_ok-shared.shared }) c.requires.few (subst (λ (s : Content). AreBelow s.buckets s.next) c.service.view_is c.service.invariant)
-    c.in_ok-side.ensures.script c.in_ok-shared.ensures.opening (c.in_ok-side.ensures.others ∙ c.new.ensures.items) c.in_ok-side.ensures.shares (subst (λ (n : ℕ). IsFirstSide n c.in_ok-side.side) c.minimum.ensures c.in_ok-side.ensures.first) c.in_ok-shared.ensures.first
+    is_begun g.W.Acts.wants g.W.Works.is_of g.W.Works.running g.W.Works.picks_of _ _ (record { side = c.in_ok-side.side; shared = c.in-Ok.shared }) c.requires.few (subst (λ (s : Content). AreBelow s.buckets s.next) c.service.view_is c.service.invariant)
+    c.in_ok-side.ensures.script c.in-Ok.ensures.opening (c.in_ok-side.ensures.others ∙ c.new.ensures.items) c.in_ok-side.ensures.shares (subst (λ (n : ℕ). IsFirstSide n c.in_ok-side.side) c.minimum.ensures c.in_ok-side.ensures.first) c.in-Ok.ensures.first

@@ -2,4 +2,4 @@ use Rattle.std.proofs.Common.{refl}
 use Rattle.job_side.proofs.body.Shared.new.Goals as goal
 
 pub returns-clause-first : goal.returns-clause-first
-returns-clause-first c = record { store = c.in_ok-store.ensures; journal = c.new.ensures; events = refl }
+returns-clause-first c = record { store = c.in-Ok.ensures; journal = c.new.ensures; events = refl }
