@@ -2,12 +2,13 @@ ghost use Rattle.std.specs.Prelude.{◌≡◌, ℕ, List, [], ◌∷◌, ◌++�
 ghost use Rattle.std.specs.Option.{unwrap_or};
 ghost use Rattle.s3_types.specs.declared.limits.TheConstants.{MOST_PARTS};
 ghost use Rattle.block_stream.specs.Stream.{asks_with, has_some};
+ghost use Rattle.block_stream.specs.declared.stage.Stage.TheVariants.{Putting, Sending, Completing};
 ghost use Rattle.block_stream.specs.Kept.{first_of, next_by, stage_by, settles};
 
 use crate::mode::{StreamEnd, StreamMode};
 use crate::queue::Queue;
 use crate::stage::Stage;
-use s3_types::{Bucket, Key, Request, TagList, named_parts};
+use s3_types::{Bucket, Key, Request, TagList, let_go, named_parts};
 use std::alloc::{AllocError, Global};
 
 /// Where a stream's output goes, and how it is cut.
@@ -34,7 +35,7 @@ pub fn next_stage(
     let due = whole || closed && (queue.has_some() || tags.len() == 0);
     match upload {
         None => {
-            if output.mode == StreamMode::Direct && closed && !whole {
+            if output.mode.is_direct() && closed && !whole {
                 Stage::Putting
             } else if due {
                 Stage::Beginning
@@ -64,6 +65,47 @@ fn settle(mode: StreamMode, stage: Stage) -> (Stage, Option<StreamEnd>)
     }
 }
 
+/// The put of the first block.
+fn put_first(alloc: Global, output: &Output, queue: &Queue) -> Result<Option<Request>, AllocError>
+    ensures { IfOk result (λ asked. asked ≡ asks_with Putting output.now.bucket output.now.key 0 [] (first_of queue.now)) }
+{
+    let bytes = queue.first(alloc)?;
+    Ok(Some(Request::put_object(&output.bucket, &output.key, &bytes, None)?))
+}
+
+/// The part behind those of these tags.
+fn send_first(
+    alloc: Global,
+    output: &Output,
+    upload: u64,
+    tags: &TagList,
+    queue: &Queue,
+) -> Result<Option<Request>, AllocError>
+    requires { length tags.now ≤ MOST_PARTS }
+    ensures { IfOk result (λ asked. asked ≡ asks_with Sending output.now.bucket output.now.key upload tags.now
+        (first_of queue.now)) }
+{
+    let bytes = queue.first(alloc)?;
+    let number = tags.len() as u32 + 1;
+    Ok(Some(Request::upload_part(&output.bucket, &output.key, upload, number, &bytes)?))
+}
+
+/// The completion with the parts of these tags.
+fn complete(
+    alloc: Global,
+    output: &Output,
+    upload: u64,
+    tags: &TagList,
+) -> Result<Option<Request>, AllocError>
+    requires { length tags.now ≤ MOST_PARTS }
+    ensures { IfOk result (λ asked. asked ≡ asks_with Completing output.now.bucket output.now.key upload tags.now []) }
+{
+    let parts = named_parts(alloc, tags.as_slice())?;
+    let asked = Request::complete_upload(alloc, &output.bucket, &output.key, upload, &parts);
+    let_go(parts);
+    Ok(Some(asked?))
+}
+
 /// The request that a stream sends at a stage.
 pub fn ask(
     alloc: Global,
@@ -77,24 +119,13 @@ pub fn ask(
     ensures { IfOk result (λ asked. asked ≡ asks_with stage output.now.bucket output.now.key (unwrap_or upload 0)
         tags.now (first_of queue.now)) }
 {
-    let Output { bucket, key, .. } = output;
     let upload = upload.unwrap_or(0);
     match stage {
         Stage::Waiting => Ok(None),
-        Stage::Putting => {
-            let bytes = queue.first(alloc)?;
-            Ok(Some(Request::put_object(bucket, key, &bytes, None)?))
-        }
-        Stage::Beginning => Ok(Some(Request::create_upload(bucket, key)?)),
-        Stage::Sending => {
-            let bytes = queue.first(alloc)?;
-            let number = tags.len() as u32 + 1;
-            Ok(Some(Request::upload_part(bucket, key, upload, number, &bytes)?))
-        }
-        Stage::Completing => {
-            let parts = named_parts(alloc, tags.as_slice())?;
-            Ok(Some(Request::complete_upload(alloc, bucket, key, upload, &parts)?))
-        }
+        Stage::Putting => put_first(alloc, output, queue),
+        Stage::Beginning => Ok(Some(Request::create_upload(&output.bucket, &output.key)?)),
+        Stage::Sending => send_first(alloc, output, upload, tags, queue),
+        Stage::Completing => complete(alloc, output, upload, tags),
         Stage::Over => Ok(None),
     }
 }

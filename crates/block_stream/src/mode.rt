@@ -1,11 +1,12 @@
 ghost use Rattle.std.specs.Prelude.{◌≡◌};
+ghost use Rattle.block_stream.specs.Stream.{is_direct};
 ghost use Rattle.block_stream.specs.declared.mode.StreamFault.TheVariants.{NoMemory};
 
 use std::alloc::AllocError;
 use thiserror::Error;
 
 /// How a stream's output comes to stand.
-#[derive(Clone, Copy, PartialEq, Eq)]
+#[derive(Clone, Copy)]
 pub enum StreamMode {
     /// The object stands at the end.
     Direct,
@@ -13,8 +14,17 @@ pub enum StreamMode {
     Delayed,
 }
 
+impl StreamMode {
+    /// Whether the object stands at the end. Takes no memory.
+    pub(crate) fn is_direct(self) -> bool
+        ensures { result ≡ is_direct self }
+    {
+        matches!(self, StreamMode::Direct)
+    }
+}
+
 /// How a stream ended.
-#[derive(Clone, Copy, Debug, PartialEq, Eq)]
+#[derive(Clone, Copy, Debug)]
 pub enum StreamEnd {
     /// All bytes were stored.
     Done,
@@ -26,7 +36,7 @@ pub enum StreamEnd {
 }
 
 /// Why a piece was not written. The stream is as before.
-#[derive(Clone, Copy, Debug, PartialEq, Eq, Error)]
+#[derive(Clone, Copy, Debug, Error)]
 pub enum StreamFault {
     /// All that was written would be more than 10,000 blocks.
     #[error("the output is longer than 10000 blocks")]

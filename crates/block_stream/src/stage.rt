@@ -1,5 +1,5 @@
 /// What a stream is about.
-#[derive(Clone, Copy, PartialEq, Eq)]
+#[derive(Clone, Copy)]
 pub enum Stage {
     /// Nothing is asked until more is written, or the stream is closed.
     Waiting,

@@ -154,8 +154,10 @@ impl BlockStream {
         if count > u64::MAX as u128 {
             return Err(StreamFault::NoMemory);
         }
-        self.add(piece, count as u64)?;
-        Ok(())
+        match self.add(piece, count as u64) {
+            Ok(()) => Ok(()),
+            Err(_) => Err(StreamFault::NoMemory),
+        }
     }
 
     fn add(&mut self, piece: &[u8], count: u64) -> Result<(), AllocError>
@@ -176,12 +178,17 @@ impl BlockStream {
             self.count = count;
             return Ok(());
         }
-        let (mut blocks, rest) = cut(self.alloc, self.rest.as_slice(), piece, self.output.block)?;
+        let mut blocks = Queue::new(self.alloc);
+        let first = self.rest.as_slice();
+        let Ok(rest) = cut(self.alloc, first, piece, self.output.block, &mut blocks) else {
+            let_go(blocks);
+            return Err(AllocError);
+        };
         let (asked, _end) = follow(
             self.alloc,
             &self.output,
             &mut self.queue,
-            &mut blocks,
+            blocks,
             false,
             &self.tags,
             self.upload,
@@ -206,12 +213,12 @@ impl BlockStream {
             self.closed = true;
             return Ok(());
         }
-        let mut last = last_block(self.alloc, self.rest.as_slice())?;
+        let last = last_block(self.alloc, self.rest.as_slice())?;
         let (asked, end) = follow(
             self.alloc,
             &self.output,
             &mut self.queue,
-            &mut last,
+            last,
             true,
             &self.tags,
             self.upload,
@@ -323,19 +330,25 @@ fn follow(
     alloc: Global,
     output: &Output,
     queue: &mut Queue,
-    blocks: &mut Queue,
+    blocks: Queue,
     closed: bool,
     tags: &TagList,
     upload: Option<u64>,
 ) -> Result<(Option<Request>, Option<StreamEnd>), AllocError>
     requires { length tags.now ≤ MOST_PARTS }
     ensures next { IfOk result (λ next. next ≡ next_by output.now.mode output.now.bucket output.now.key output.now.block
-        (front_of queue.old blocks.old) closed tags.now upload) }
-    ensures added { OnOk result (queue.new ≡ queue.old ++ blocks.old) }
+        (front_of queue.old blocks) closed tags.now upload) }
+    ensures added { OnOk result (queue.new ≡ queue.old ++ blocks) }
     ensures err { OnErr result (queue.new ≡ queue.old) }
 {
-    let (asked, end) = next(alloc, output, front(queue, blocks), closed, tags, upload)?;
-    match queue.append(blocks) {
+    let mut blocks = blocks;
+    let Ok((asked, end)) = next(alloc, output, front(queue, &blocks), closed, tags, upload) else {
+        let_go(blocks);
+        return Err(AllocError);
+    };
+    let added = queue.append(&mut blocks);
+    let_go(blocks);
+    match added {
         Ok(()) => Ok((asked, end)),
         Err(error) => {
             let_go(asked);
@@ -359,10 +372,12 @@ fn clear(alloc: Global, queue: &mut Queue, rest: &mut Vec<u8>, tags: &mut TagLis
 fn last_block(alloc: Global, rest: &[u8]) -> Result<Queue, AllocError>
     ensures { IfOk result (λ blocks. blocks ≡ last_of rest.now) }
 {
-    let mut last = Queue::new(alloc);
-    if !rest.is_empty() {
-        last.push(Bytes::from_slice(alloc, rest)?)?;
+    if rest.is_empty() {
+        return Ok(Queue::new(alloc));
     }
+    let block = Bytes::from_slice(alloc, rest)?;
+    let mut last = Queue::new(alloc);
+    last.push(block)?;
     Ok(last)
 }
 

@@ -15,11 +15,10 @@ pub record IsPlace (key : List ℕ) : Type 0 where
   pub some : 0 < length key
   pub own : key_if key ≡ Some key
   pub marked : marker_if key ≡ Some (marker_of key)
-  pub prefix : prefix_of key ≡ marker_of key
 
 pub is_place : (key : List ℕ) (b : Bool) → b ≡ (length key == 0) → b ≡ false → IsPlace key
 is_place [] b h f = absurd (cc)
-is_place (x ∷ p) b h f = record { some = omega arith; own = refl; marked = refl; prefix = refl }
+is_place (x ∷ p) b h f = record { some = omega arith; own = refl; marked = refl }
 
 -- its key is an object's
 pub path_key : (key : List ℕ) → 0 < length key → is_key key ≡ true → is_key_path key ≡ true
@@ -43,10 +42,18 @@ pub front_key : (key front back : List ℕ) → is_key key ≡ true → key ≡ 
 front_key key front back k e h = path_key front (front_some key front back k e) (front_is_key key front back k e h)
 
 -- what a path that is not the root is kept as
-pub kept_as : (path text key marker prefix : List ℕ) → IsPlace path → is_key path ≡ true → text ≡ path → key ≡ text → marker ≡ marker_of path → prefix ≡ marker
-    → (Some key ≡ key_if text) × (Some marker ≡ marker_if text) × (prefix ≡ prefix_of text) × (is_key text ≡ true)
-kept_as path text key marker prefix h k e f g i =
-    (ap Some (f ∙ e) ∙ sym (ap key_if e ∙ h.own), ap Some g ∙ sym (ap marker_if e ∙ h.marked), i ∙ g ∙ sym (ap prefix_of e ∙ h.prefix), ap is_key e ∙ k)
+pub kept_as : (path text key marker : List ℕ) → IsPlace path → is_key path ≡ true → text ≡ path → key ≡ text → marker ≡ marker_of path
+    → (Some key ≡ key_if text) × (Some marker ≡ marker_if text) × (is_key text ≡ true)
+kept_as path text key marker h k e f g = (ap Some (f ∙ e) ∙ sym (ap key_if e ∙ h.own), ap Some g ∙ sym (ap marker_if e ∙ h.marked), ap is_key e ∙ k)
+
+-- what the keys below a path begin with, by its marker
+pub prefix_marked : (p m : List ℕ) → Some m ≡ marker_if p → m ≡ prefix_of p
+prefix_marked [] m e = absurd (cc)
+prefix_marked (x ∷ p) m e = cc
+
+pub prefix_root : (p : List ℕ) → None ≡ marker_if p → p ≡ prefix_of p
+prefix_root [] e = refl
+prefix_root (x ∷ p) e = absurd (cc)
 
 -- ---- the last element
 

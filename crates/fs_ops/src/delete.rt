@@ -5,7 +5,7 @@ ghost use Rattle.bucket_ops.specs.Asks.{request_of};
 ghost use Rattle.fs_tree.specs.Changes.{parent, marker_if};
 ghost use Rattle.fs_tree.specs.declared.answers.FsRefusal.TheVariants.{NoSuchBucket};
 ghost use Rattle.fs_ops.specs.code.Delete as delete;
-ghost use Rattle.fs_ops.specs.code.Delete.{on_here, inside, on_inside, on_below, on_sweep, on_parent, up, up_to};
+ghost use Rattle.fs_ops.specs.code.Delete.{on_here, inside, on_inside, on_below, on_sweep, on_parent, up};
 ghost use Rattle.bucket_ops.specs.Walking.{fits};
 ghost use Rattle.bucket_ops.specs.Sweeping.{sweep_asks};
 ghost use Rattle.fs_ops.specs.code.Steps.{goes_by};
@@ -17,7 +17,7 @@ use fs_tree::FsRefusal;
 use list_walk::{AllKeys, text_of};
 use operations::Step;
 use path_keys::S3Path;
-use s3_types::{Bucket, Key, PageEntry, PageLimit, Reply, Request, Text};
+use s3_types::{Bucket, Key, PageEntry, PageLimit, Reply, Request, Text, let_go};
 use std::alloc::{AllocError, Global};
 use std::marker::Model;
 
@@ -101,15 +101,6 @@ fn on_parent(marker: Key, seen: Look) -> Step<DeleteStage, Answer>
     }
 }
 
-fn up_to(above: &Option<Key>) -> Result<Step<DeleteStage, Answer>, AllocError>
-    ensures { IfOk result (λ step. step ≡ up_to above.now) }
-{
-    match above {
-        Some(marker) => Ok(Step::Next(DeleteStage::Parent(marker.clone()?))),
-        None => Ok(Step::End(Ok(()))),
-    }
-}
-
 impl DeletePath {
     /// The deletion of a path of a bucket, where it is recursive with all that is below it.
     pub fn new(alloc: Global, path: &S3Path, recursive: bool) -> Result<DeletePath, AllocError>
@@ -117,7 +108,10 @@ impl DeletePath {
         ensures key { IfOk result (λ deletion. is_key deletion.path ≡ true) }
     {
         let place = Place::of(alloc, path)?;
-        let above = marker_above(alloc, path)?;
+        let Ok(above) = marker_above(alloc, path) else {
+            let_go(place);
+            return Err(AllocError);
+        };
         Ok(DeletePath {
             alloc,
             place,
@@ -129,7 +123,10 @@ impl DeletePath {
     fn up(&self) -> Result<Step<DeleteStage, Answer>, AllocError>
         ensures { IfOk result (λ step. step ≡ up self.now) }
     {
-        up_to(&self.above)
+        match &self.above {
+            Some(marker) => Ok(Step::Next(DeleteStage::Parent(marker.clone()?))),
+            None => Ok(Step::End(Ok(()))),
+        }
     }
 
     fn on_here(&self, seen: Look) -> Step<DeleteStage, Answer>
@@ -182,11 +179,15 @@ impl DeletePath {
         if !fits(reply) {
             return Ok(Step::Next(DeleteStage::Sweep(sweep)));
         }
-        if sweep.hear(self.alloc, &AllKeys, reply)? {
-            Ok(Step::Next(DeleteStage::Sweep(sweep)))
-        } else {
-            self.up()
+        let Ok(more) = sweep.hear(self.alloc, &AllKeys, reply) else {
+            let_go(sweep);
+            return Err(AllocError);
+        };
+        if more {
+            return Ok(Step::Next(DeleteStage::Sweep(sweep)));
         }
+        let_go(sweep);
+        self.up()
     }
 }
 
@@ -236,6 +237,7 @@ impl Phases for DeletePath {
     ) -> Result<Step<DeleteStage, Answer>, AllocError> {
         let seen = seen_in(reply);
         if let Look::NoBucket = seen {
+            let_go(stage);
             return Ok(Step::End(Err(FsRefusal::NoSuchBucket)));
         }
         match stage {

@@ -16,7 +16,7 @@ use fs_tree::{DirEntry, DirList, FsRefusal};
 use list_walk::text_of;
 use operations::Step;
 use path_keys::{S3Path, first_element};
-use s3_types::{Bucket, PageEntry, PageLimit, Reply, Request, Text};
+use s3_types::{Bucket, PageEntry, PageLimit, Reply, Request, Text, let_go, put};
 use std::alloc::{AllocError, Global};
 use std::marker::Model;
 
@@ -195,24 +195,22 @@ fn add(
     }
 }
 
-/// Adds the children that the entries of a page show, and gives the text of the last of them, or the mark where there
-/// is none.
+/// Adds the children that the entries of a page show, and marks the text of the last of them, where there is one.
 fn add_all(
     alloc: Global,
     prefix: &Text,
     found: &mut DirList,
-    mark: Mark,
+    mark: &mut Mark,
     entries: &[PageEntry],
-) -> Result<Mark, AllocError>
+) -> Result<(), AllocError>
     ensures found { OnOk result (found.new ≡ all_added prefix.now found.old entries.now) }
-    ensures mark { IfOk result (λ last. last ≡ last_text mark entries.now) }
+    ensures mark { OnOk result (mark.new ≡ last_text mark.old entries.now) }
 {
-    let mut last = mark;
     for entry in entries {
         add(alloc, prefix, found, entry)?;
-        last = Mark::of(entry)?;
+        put(mark, Mark::of(entry)?);
     }
-    Ok(last)
+    Ok(())
 }
 
 /// The last element of a key.
@@ -231,7 +229,10 @@ impl ListDir {
         ensures { IfOk result (λ dir. dir ≡ path.now.key) }
     {
         let place = Place::of(alloc, path)?;
-        let name = last_element(alloc, path.key().as_str())?;
+        let Ok(name) = last_element(alloc, path.key().as_str()) else {
+            let_go(place);
+            return Err(AllocError);
+        };
         Ok(ListDir { alloc, place, name })
     }
 
@@ -247,11 +248,10 @@ impl ListDir {
     fn own_entry(&self, length: u64) -> Result<DirList, AllocError>
         ensures { IfOk result (λ list. list ≡ record { name = own_name self.now; status = Status.File length } ∷ []) }
     {
+        let name = self.name.clone()?;
+        let status = Status::File(length);
         let mut list = DirList::new(self.alloc);
-        list.push(DirEntry {
-            name: self.name.clone()?,
-            status: Status::File(length),
-        })?;
+        list.push(DirEntry { name, status })?;
         Ok(list)
     }
 
@@ -285,10 +285,16 @@ impl ListDir {
         ensures { IfOk result (λ step. step ≡ list.on self.now (ListStage.Pages found mark) reply.now) }
     {
         let mut found = found;
+        let mut mark = mark;
         match reply {
             Reply::Page { entries, more } => {
                 let prefix = self.place.prefix();
-                let mark = add_all(self.alloc, prefix, &mut found, mark, entries.as_slice())?;
+                let entries = entries.as_slice();
+                if let Err(fault) = add_all(self.alloc, prefix, &mut found, &mut mark, entries) {
+                    let_go(found);
+                    let_go(mark);
+                    return Err(fault);
+                }
                 Ok(self.paged(*more, found, mark))
             }
             _ => Ok(self.paged(false, found, mark)),

@@ -12,7 +12,7 @@ use bucket_ops::{Look, Phases, seen_in};
 use fs_tree::FsRefusal;
 use operations::Step;
 use path_keys::S3Path;
-use s3_types::{Bucket, KeyList, PageLimit, Reply, Request, copied_keys};
+use s3_types::{Bucket, KeyList, PageLimit, Reply, Request, copied_keys, let_go};
 use std::alloc::{AllocError, Global};
 use std::marker::Model;
 
@@ -69,7 +69,10 @@ impl MakeDirs {
         ensures { IfOk result (λ dirs. dirs ≡ path.now.key) }
     {
         let place = Place::of(alloc, path)?;
-        let above = keys_above(alloc, path.key().as_str())?;
+        let Ok(above) = keys_above(alloc, path.key().as_str()) else {
+            let_go(place);
+            return Err(AllocError);
+        };
         Ok(MakeDirs {
             alloc,
             place,

@@ -5,17 +5,16 @@ ghost use Rattle.fs_ops.specs.Places.{key_if, bucket_asks, look_asks, get_asks, 
 
 use dir_markers::marker_key;
 use path_keys::S3Path;
-use s3_types::{Bucket, Bytes, Key, PageLimit, Request, Text};
+use s3_types::{Bucket, Bytes, Key, PageLimit, Request, Text, let_go};
 use std::alloc::{AllocError, Global};
 use std::marker::Model;
 
-/// A path's key, the key of its marker, and what the keys below it begin with. The root has neither key.
+/// A path, its key and the key of its marker. The root has neither key.
 #[derive(Drop)]
 pub struct Place {
     path: Text,
     key: Option<Key>,
     marker: Option<Key>,
-    prefix: Text,
     alloc: Global,
 }
 
@@ -23,14 +22,13 @@ impl Model for Place {
     ghost use Rattle.std.specs.Prelude.{◌≡◌, ℕ, List, true};
     ghost use Rattle.path_keys.specs.Paths.{is_key};
     ghost use Rattle.fs_tree.specs.Changes.{marker_if};
-    ghost use Rattle.fs_ops.specs.Places.{key_if, prefix_of};
+    ghost use Rattle.fs_ops.specs.Places.{key_if};
 
     ghost Value = { List ℕ };
 
     ghost view = { λ p. p.path };
 
-    ghost invariant = { λ p. (p.key ≡ key_if p.path) × (p.marker ≡ marker_if p.path) × (p.prefix ≡ prefix_of p.path)
-        × (is_key p.path ≡ true) };
+    ghost invariant = { λ p. (p.key ≡ key_if p.path) × (p.marker ≡ marker_if p.path) × (is_key p.path ≡ true) };
 }
 
 /// The request for the first key that begins with this prefix; for the bucket, where that is the empty text.
@@ -67,17 +65,22 @@ impl Place {
                 path: text,
                 key: None,
                 marker: None,
-                prefix: Text::empty(alloc)?,
                 alloc,
             });
         }
-        let marker = marker_key(alloc, path)?;
-        let prefix = marker.as_text().clone()?;
+        let Ok(key) = text.clone() else {
+            let_go(text);
+            return Err(AllocError);
+        };
+        let Ok(marker) = marker_key(alloc, path) else {
+            let_go(text);
+            let_go(key);
+            return Err(AllocError);
+        };
         Ok(Place {
-            key: Some(Key::new(text.clone()?)),
             path: text,
+            key: Some(Key::new(key)),
             marker: Some(marker),
-            prefix,
             alloc,
         })
     }
@@ -96,11 +99,15 @@ impl Place {
         self.key.as_ref()
     }
 
-    /// What the keys below it begin with. Takes no memory.
+    /// What the keys below it begin with: its marker, and at the root nothing, as the path is. Takes no memory.
+    #[tactic(auto, using(crate::proofs::Names::prefix_marked, crate::proofs::Names::prefix_root))]
     pub fn prefix(&self) -> &Text
         ensures { result.now ≡ prefix_of self.now }
     {
-        &self.prefix
+        match &self.marker {
+            Some(marker) => marker.as_text(),
+            None => &self.path,
+        }
     }
 
     /// The request for the first so many keys below it, its marker among them.
@@ -108,7 +115,7 @@ impl Place {
         ensures { IfOk result (λ request. request ≡ request_of bucket.now (below_asks self.now limit)) }
     {
         let after = Text::empty(self.alloc)?;
-        Request::list_page(bucket, &self.prefix, false, &after, limit)
+        Request::list_page(bucket, self.prefix(), false, &after, limit)
     }
 
     /// The request whether a file stands there; at the root, whether there is the bucket.

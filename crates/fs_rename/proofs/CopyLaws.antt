@@ -1,6 +1,6 @@
 -- Copies of keys, one after another.
 use Rattle.std.proofs.Common.{◌≡◌, ◌⊎◌, inl, inr, ℕ, zero, suc, ◌+◌, ◌-◌, ◌<◌, ◌≤◌, ◌&&◌, nat_lt, Bool, true, false, List, [], ◌∷◌, ◌++◌, map, take, drop, length, Option, Some, None, refl, sym, ap, subst, ◌∙◌, arith}
-use Rattle.path_keys.proofs.Common.{nat_tests, take_all, same_or_other, text_here, text_other, none_some}
+use Rattle.path_keys.proofs.Common.{ltb-true, ltb-false, take_all, text_here, text_other, none_some}
 use Rattle.fs_ops.specs.Prelude.{Objects, copied, Object, IsIn, edited, Stands}
 use Rattle.std.specs.FinMap as fin
 use Rattle.bucket_ops.proofs.Below.{is_in}
@@ -128,7 +128,7 @@ more_true : (n l : ℕ) → (nat_lt n l && nat_lt 1 (l - n)) ≡ true → n + 1 
 more_true n l h = by (nat_lt n l) refl (nat_lt 1 (l - n)) refl h
   where
     by : (a : Bool) → nat_lt n l ≡ a → (b : Bool) → nat_lt 1 (l - n) ≡ b → (a && b) ≡ true → n + 1 < l
-    by true e true f g = grind (arith, nat_tests)
+    by true e true f g = let l = ltb-true 1 (l - n) f in omega arith
     by true e false f g = absurd (cc)
     by false e b f g = absurd (cc)
 
@@ -137,8 +137,8 @@ more_false n l k h = by (nat_lt n l) refl (nat_lt 1 (l - n)) refl h
   where
     by : (a : Bool) → nat_lt n l ≡ a → (b : Bool) → nat_lt 1 (l - n) ≡ b → (a && b) ≡ false → l ≤ suc n
     by true e true f g = absurd (cc)
-    by true e false f g = grind (arith, nat_tests)
-    by false e b f g = grind (arith, nat_tests)
+    by true e false f g = let l = ltb-false 1 (l - n) f in omega arith
+    by false e b f g = let l = ltb-false n l e in omega arith
 
 module _ (z : Objects) (ps : List Move) where
   copied_one : (c : Copying) (m : Objects) → IsCopying z ps c m → edited (copy_asks c) m ≡ copied_all z (take (suc c.from) ps)

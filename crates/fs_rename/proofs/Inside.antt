@@ -51,8 +51,8 @@ own_elements p k = by (cut p)
 pub inside_elements : (s t : List ℕ) → 0 < length s → is_key s ≡ true → is_key t ≡ true → are_elements (inside s t) ≡ true
 inside_elements s t some k h = below_elements t (own_name s) h (own_elements s (some_key s some k).0)
 
-pub inside_text : (s t name text : List ℕ) → (length s == 0) ≡ false → is_key s ≡ true → is_key t ≡ true → name ≡ own_name s → text ≡ inside s t → are_elements text ≡ true
-inside_text s t name text f k h n e = ap are_elements e ∙ inside_elements s t (some_long s f) k h
+pub inside_text : (s t text : List ℕ) → (length s == 0) ≡ false → is_key s ≡ true → is_key t ≡ true → text ≡ inside s t → are_elements text ≡ true
+inside_text s t text f k h e = ap are_elements e ∙ inside_elements s t (some_long s f) k h
 
 -- ---- the new places
 

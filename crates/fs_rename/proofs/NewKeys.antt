@@ -1,7 +1,7 @@
 -- New keys are keys.
 use Rattle.std.proofs.Common.{◌≡◌, ℕ, zero, suc, ◌-◌, ◌≤◌, ◌&&◌, nat_eq, nat_lt, cond, Bool, true, false, List, [], ◌∷◌, ◌++◌, length, drop, Some, None, Result, Ok, Err, refl, sym, ap, ◌∙◌, arith, length-append, append_assoc, if◌then◌else◌}
 use Rattle.fs_ops.specs.Prelude.{slice_get, starts_with, are_elements, is_key_path, trimmed, marker_of, is_marker, is_too_long, rest_of}
-use Rattle.path_keys.proofs.Common.{le-leb, nat_tests, Decides-eqb, starts_is, some_is, none_some}
+use Rattle.path_keys.proofs.Common.{le-leb, ltb-false, Decides-eqb, starts_is, some_is, none_some}
 use Rattle.path_keys.proofs.Beneath.{elements_append, key_path_from}
 use Rattle.fs_tree.proofs.Above.{marker_ends, marker_behind, other_end, cut_elements, key_elements, marker_elements}
 use Rattle.fs_ops.proofs.Showing.{rest_is as rest_follows}
@@ -24,8 +24,8 @@ pub marker_last : (bs : List ℕ) (b : ℕ) → Some b ≡ slice_get bs (length 
 marker_last bs b h = marker_got bs (length bs - 1) b (some_length bs b (sym h)) (sym h)
 
 short_by : (b : Bool) (n : ℕ) → nat_lt (cond b 1024 1023) n ≡ false → n ≤ 1024
-short_by true n h = grind (arith, nat_tests)
-short_by false n h = grind (arith, nat_tests)
+short_by true n h = ltb-false 1024 n h
+short_by false n h = let l = ltb-false 1023 n h in omega arith
 
 short : (k : List ℕ) → is_too_long k ≡ false → length k ≤ 1024
 short k h = short_by (is_marker k) (length k) h

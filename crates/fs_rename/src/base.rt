@@ -1,4 +1,4 @@
-ghost use Rattle.std.specs.Prelude.{◌≡◌, true, false, IfOk};
+ghost use Rattle.std.specs.Prelude.{◌≡◌, ◌++◌, true, false, IfOk};
 ghost use Rattle.s3_types.specs.Names.{are_elements, is_key_path};
 ghost use Rattle.dir_markers.specs.Markers.{marker_of};
 ghost use Rattle.fs_tree.specs.Tree.{is_marker};
@@ -7,7 +7,7 @@ ghost use Rattle.fs_rename.specs.Keys.{place_of, fitting, new_key, new_keys};
 
 use fs_ops::rest_of;
 use path_keys::S3Path;
-use s3_types::{Key, KeyList, Text};
+use s3_types::{Key, KeyList, Text, let_go};
 use std::alloc::{AllocError, Global};
 use std::marker::Model;
 
@@ -41,6 +41,13 @@ fn fitting(text: Text) -> Option<Key>
     }
 }
 
+/// A text and what stands behind it.
+fn joined(alloc: Global, text: &str, rest: &str) -> Result<Text, AllocError>
+    ensures { IfOk result (λ whole. whole ≡ text.now ++ rest.now) }
+{
+    Text::new(alloc, format!(in alloc; "{text}{rest}")?)
+}
+
 /// A path that things come to stand at, which may be over the limit of keys, and what the keys below it begin with.
 #[derive(Drop)]
 pub struct Base {
@@ -66,8 +73,10 @@ impl Base {
         requires { are_elements path ≡ true }
         ensures { IfOk result (λ base. base ≡ path) }
     {
-        let key = path.as_str();
-        let prefix = Text::new(alloc, format!(in alloc; "{key}/")?)?;
+        let Ok(prefix) = joined(alloc, path.as_str(), "/") else {
+            let_go(path);
+            return Err(AllocError);
+        };
         Ok(Base { path, prefix })
     }
 
@@ -117,10 +126,7 @@ impl Base {
         ensures { IfOk result (λ new. new ≡ fitting (new_key from.now (marker_of self.now) key.now)) }
     {
         match rest_of(from.as_str(), key.as_text().as_str()) {
-            Some(rest) => {
-                let prefix = self.prefix.as_str();
-                Ok(fitting(Text::new(alloc, format!(in alloc; "{prefix}{rest}")?)?))
-            }
+            Some(rest) => Ok(fitting(joined(alloc, self.prefix.as_str(), rest)?)),
             None => Ok(fitting(key.as_text().clone()?)),
         }
     }

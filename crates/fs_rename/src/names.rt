@@ -1,14 +1,16 @@
-ghost use Rattle.std.specs.Prelude.{◌≡◌, true, false, IfOk, Some};
+ghost use Rattle.std.specs.Prelude.{◌≡◌, true, false, IfOk, Some, string_bytes};
 ghost use Rattle.std.specs.Option.{option_copied};
 ghost use Rattle.bucket_ops.specs.Asks.{request_of};
+ghost use Rattle.path_keys.specs.Paths.{is_key};
 ghost use Rattle.fs_tree.specs.Changes.{parent};
+ghost use Rattle.fs_tree.specs.Moves.{inside};
 ghost use Rattle.fs_rename.specs.code.Rename.{inside_of, place_at, asks_at, inside_asks, look_at_asks, is_root_at};
 
 use crate::Base;
 use crate::stages::Spot;
 use fs_ops::{Place, first_key, last_element, marker_above};
 use path_keys::S3Path;
-use s3_types::{Bucket, Key, PageLimit, Request, Text};
+use s3_types::{Bucket, Key, PageLimit, Request, Text, both};
 use std::alloc::{AllocError, Global};
 use std::marker::Model;
 
@@ -55,18 +57,27 @@ fn place_above(alloc: Global, path: &S3Path) -> Result<Place, AllocError>
     }
 }
 
+/// The path inside the target that bears the source's last element.
+fn inside_text(alloc: Global, source: &S3Path, target: &S3Path) -> Result<String, AllocError>
+    ensures text { IfOk result (λ text. string_bytes text ≡ inside source.now.key target.now.key) }
+    ensures source { IfOk result (λ text. is_key source.now.key ≡ true) }
+    ensures target { IfOk result (λ text. is_key target.now.key ≡ true) }
+{
+    let name = last_element(alloc, source.key().as_str())?;
+    target.text_below(alloc, name.as_str())
+}
+
 /// The path inside the target that bears the source's last element, as a new place; there is none where the
 /// source is the root.
-#[tactic(auto, using(crate::proofs::Inside::inside_none, crate::proofs::Inside::inside_some, crate::proofs::Inside::inside_text))]
+#[tactic(auto, using(crate::proofs::Inside::inside_none, crate::proofs::Inside::inside_some))]
 fn inside_base(alloc: Global, source: &S3Path, target: &S3Path) -> Result<Option<Base>, AllocError>
     ensures { IfOk result (λ base. base ≡ inside_of source.now.key target.now.key) }
 {
     if source.is_root() {
         return Ok(None);
     }
-    let name = last_element(alloc, source.key().as_str())?;
-    let text = target.text_below(alloc, name.as_str())?;
-    Ok(Some(Base::new(alloc, Text::new(alloc, text)?)?))
+    let text = Text::new(alloc, inside_text(alloc, source, target)?)?;
+    Ok(Some(Base::new(alloc, text)?))
 }
 
 /// The look whether a file stands at a path, or whether something stands below it.
@@ -101,12 +112,16 @@ impl RenameNames {
     ) -> Result<RenameNames, AllocError>
         ensures { IfOk result (λ names. names ≡ record { source = source.now.key; target = target.now.key }) }
     {
-        let from = Place::of(alloc, source)?;
-        let to = Place::of(alloc, target)?;
-        let above = place_above(alloc, target)?;
-        let to_target = Base::of_target(alloc, source, target)?;
-        let to_inside = inside_base(alloc, source, target)?;
-        let marker = marker_above(alloc, source)?;
+        let places = both(Place::of(alloc, source), Place::of(alloc, target));
+        let above = both(place_above(alloc, target), marker_above(alloc, source));
+        let bases = both(
+            Base::of_target(alloc, source, target),
+            inside_base(alloc, source, target),
+        );
+        let ((from, to), ((above, marker), (to_target, to_inside))) = both(
+            places,
+            both(above, bases),
+        )?;
         let under = to.prefix().starts_with(from.prefix());
         Ok(RenameNames {
             alloc,

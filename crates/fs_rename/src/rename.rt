@@ -7,7 +7,7 @@ use crate::perform_between;
 use fs_tree::RenameRefusal;
 use machine::DriveStop;
 use path_keys::S3Path;
-use s3_types::{Actor, Bucket, Journal, ObjectStore};
+use s3_types::{Actor, Bucket, Journal, ObjectStore, both};
 use std::alloc::{AllocError, Global};
 use std::marker::Model;
 
@@ -51,9 +51,8 @@ impl Rename {
           target = target.now.key;
         }) }
     {
-        let bucket = source.bucket().clone()?;
-        let to_bucket = target.bucket().clone()?;
-        let names = RenameNames::of(alloc, source, target)?;
+        let buckets = both(source.bucket().clone(), target.bucket().clone());
+        let ((bucket, to_bucket), names) = both(buckets, RenameNames::of(alloc, source, target))?;
         Ok(Rename {
             bucket,
             to_bucket,

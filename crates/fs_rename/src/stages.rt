@@ -1,14 +1,15 @@
-ghost use Rattle.std.specs.Prelude.{◌≡◌, false, Some, IfOk, Ok, Err};
+ghost use Rattle.std.specs.Prelude.{◌≡◌, ◌∷◌, [], false, Some, IfOk, Ok, Err};
 ghost use Rattle.std.specs.Option.{option_copied};
 ghost use Rattle.bucket_ops.specs.Asks.{request_of};
 ghost use Rattle.bucket_ops.specs.Looks.{look_of};
 ghost use Rattle.list_walk.specs.Walks.{deleting};
-ghost use Rattle.fs_tree.specs.declared.rename.RenameRefusal.TheVariants.{NoSuchBucket};
+ghost use Rattle.fs_tree.specs.declared.rename.RenameRefusal.TheVariants.{NoSuchBucket, TooLong};
+ghost use Rattle.operations.specs.declared.plan.Step.TheVariants.{End};
 ghost use Rattle.fs_ops.specs.code.Delete.{entries_in};
 ghost use Rattle.fs_ops.specs.Places.{key_if};
 ghost use Rattle.bucket_ops.specs.Walking.{fits};
 ghost use Rattle.fs_rename.specs.Keys.{fitting};
-ghost use Rattle.fs_rename.specs.code.Rename.{first_is, seen_inside, seen_at, kind_of, one_copy, file_to, place_at, go, begun, on_kind, on_source, on_target, on_inside, on_above, found, looked, with_places, listed_to, on_walked, on_walk, up_to, up, swept, on_copied, on_batch, on_parent, first, asks, on, goes, is_root, is_root_at};
+ghost use Rattle.fs_rename.specs.code.Rename.{first_is, seen_inside, seen_at, kind_of, one_copy, file_to, place_at, go, begun, on_kind, on_source, on_target, on_inside, on_above, found, looked, with_places, listed_to, on_walked, on_walk, up, swept, on_copied, on_batch, on_parent, first, asks, on, goes, is_root, is_root_at};
 ghost use Rattle.fs_rename.specs.code.Meaning.{holds, gives, always, sends, left};
 
 use crate::names::RenameNames;
@@ -18,8 +19,8 @@ use fs_ops::{first_key, put_empty};
 use fs_tree::RenameRefusal;
 use list_walk::{AllKeys, KeyWalk, Sweep, text_of};
 use operations::Step;
-use s3_types::{Bucket, Key, KeyList, PageEntry, Reply, Request, Text};
-use std::alloc::AllocError;
+use s3_types::{Bucket, Key, KeyList, PageEntry, Reply, Request, Text, both, let_go};
+use std::alloc::{AllocError, Global};
 
 /// The paths that a renaming looks at: the source, the target, the new place inside the target, and the path above
 /// the target.
@@ -159,13 +160,19 @@ fn with_places(keys: KeyList, places: KeyList) -> Step<RenameStage, Answer>
     Step::Next(RenameStage::Copy(Copying::new(keys, places)))
 }
 
-fn up_to(marker: &Option<Key>) -> Result<Step<RenameStage, Answer>, AllocError>
-    ensures { IfOk result (λ step. step ≡ up_to marker.now) }
+fn too_long(key: &Key) -> Result<Step<RenameStage, Answer>, AllocError>
+    ensures { IfOk result (λ step. step ≡ End (Err (TooLong key.now))) }
 {
-    match marker {
-        Some(marker) => Ok(Step::Next(RenameStage::Parent(marker.clone()?))),
-        None => Ok(Step::End(Ok(()))),
-    }
+    Ok(Step::End(Err(RenameRefusal::TooLong(key.as_text().clone()?))))
+}
+
+/// The list of one key.
+fn one_key(alloc: Global, key: Key) -> Result<KeyList, AllocError>
+    ensures { IfOk result (λ keys. keys ≡ key ∷ []) }
+{
+    let mut keys = KeyList::new(alloc);
+    keys.push(key)?;
+    Ok(keys)
 }
 
 fn on_parent(marker: Key, seen: Look) -> Step<RenameStage, Answer>
@@ -192,19 +199,19 @@ impl RenameNames {
     }
 
     /// The source's own key alone is copied.
-    fn one_copy(&self, place: Option<Key>) -> Result<Step<RenameStage, Answer>, AllocError>
-        ensures { IfOk result (λ step. step ≡ one_copy (key_if self.now.source) place) }
+    fn one_copy(&self, base: &Base) -> Result<Step<RenameStage, Answer>, AllocError>
+        ensures { IfOk result (λ step. step ≡ one_copy (key_if self.now.source) (fitting base.now)) }
     {
         let Some(key) = self.source.key() else {
             return Ok(Step::End(Err(RenameRefusal::SourceMissing)));
         };
-        let Some(place) = place else {
-            return Ok(Step::End(Err(RenameRefusal::TooLong(key.as_text().clone()?))));
+        let Some(place) = base.key()? else {
+            return too_long(key);
         };
-        let mut keys = KeyList::new(self.alloc);
-        keys.push(key.clone()?)?;
-        let mut places = KeyList::new(self.alloc);
-        places.push(place)?;
+        let (keys, places) = both(
+            one_key(self.alloc, key.clone()?),
+            one_key(self.alloc, place),
+        )?;
         Ok(Step::Next(RenameStage::Copy(Copying::new(keys, places))))
     }
 
@@ -212,7 +219,7 @@ impl RenameNames {
         ensures { IfOk result (λ step. step ≡ file_to self.now (option_copied place.entry)) }
     {
         match place {
-            Some(base) => self.one_copy(base.key()?),
+            Some(base) => self.one_copy(base),
             None => Ok(Step::End(Err(RenameRefusal::SourceMissing))),
         }
     }
@@ -307,11 +314,19 @@ impl RenameNames {
         ensures { IfOk result (λ step. step ≡ listed_to self.now (place_at self.now inside) keys) }
     {
         let Some(base) = self.place(inside) else {
+            let_go(keys);
             return Ok(Step::End(Err(RenameRefusal::SourceMissing)));
         };
-        match base.new_keys(self.alloc, self.source.prefix(), keys.as_slice())? {
-            Ok(places) => Ok(with_places(keys, places)),
-            Err(key) => Ok(Step::End(Err(RenameRefusal::TooLong(key.as_text().clone()?)))),
+        match base.new_keys(self.alloc, self.source.prefix(), keys.as_slice()) {
+            Ok(Ok(places)) => Ok(with_places(keys, places)),
+            Ok(Err(key)) => {
+                let_go(keys);
+                too_long(&key)
+            }
+            Err(fault) => {
+                let_go(keys);
+                Err(fault)
+            }
         }
     }
 
@@ -327,17 +342,25 @@ impl RenameNames {
         if !fits(reply) {
             return Ok(Step::Next(RenameStage::Walk { inside, walk }));
         }
-        if walk.hear(reply)? {
-            Ok(Step::Next(RenameStage::Walk { inside, walk }))
-        } else {
-            self.listed_to(inside, walk.keys(self.alloc)?)
+        let Ok(more) = walk.hear(reply) else {
+            let_go(walk);
+            return Err(AllocError);
+        };
+        if more {
+            return Ok(Step::Next(RenameStage::Walk { inside, walk }));
         }
+        let keys = walk.keys(self.alloc);
+        let_go(walk);
+        self.listed_to(inside, keys?)
     }
 
     fn up(&self) -> Result<Step<RenameStage, Answer>, AllocError>
         ensures { IfOk result (λ step. step ≡ up self.now) }
     {
-        up_to(&self.marker)
+        match &self.marker {
+            Some(marker) => Ok(Step::Next(RenameStage::Parent(marker.clone()?))),
+            None => Ok(Step::End(Ok(()))),
+        }
     }
 
     fn on_copied(&self, step: CopyStep) -> Result<Step<RenameStage, Answer>, AllocError>
@@ -359,11 +382,15 @@ impl RenameNames {
         if !fits(reply) {
             return Ok(Step::Next(RenameStage::Batch(sweep)));
         }
-        if sweep.hear(self.alloc, &AllKeys, reply)? {
-            Ok(Step::Next(RenameStage::Batch(sweep)))
-        } else {
-            self.up()
+        let Ok(more) = sweep.hear(self.alloc, &AllKeys, reply) else {
+            let_go(sweep);
+            return Err(AllocError);
+        };
+        if more {
+            return Ok(Step::Next(RenameStage::Batch(sweep)));
         }
+        let_go(sweep);
+        self.up()
     }
 }
 
@@ -416,6 +443,7 @@ impl Phases for RenameNames {
     ) -> Result<Step<RenameStage, Answer>, AllocError> {
         let seen = seen_in(reply);
         if let Look::NoBucket = seen {
+            let_go(stage);
             return Ok(Step::End(Err(RenameRefusal::NoSuchBucket)));
         }
         match stage {

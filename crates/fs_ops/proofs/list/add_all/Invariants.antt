@@ -6,5 +6,5 @@ use Rattle.fs_ops.proofs.list.add_all.Given as goal
 abbrev pub invariant-loop-entry : goal.invariant-loop-entry
 invariant-loop-entry l = record {
   told : all_added l.prefix l.found (drop l.entry-index l.entries) ≡ all_added l.fn.prefix l.fn.found l.entries;
-  marked : last_text l.last (drop l.entry-index l.entries) ≡ last_text l.fn.mark l.entries;
+  marked : last_text l.mark (drop l.entry-index l.entries) ≡ last_text l.fn.mark l.entries;
 }

@@ -19,9 +19,9 @@ pub invariant_of-self-2 : goal.invariant_of-self-2
 invariant_of-self-2 c =
     let s = c.self.inside in
     let few : s.count + length c.args.piece.now ≤ s.output.block * 10000 = subst (λ (m : Stream). m.count + length c.args.piece.now ≤ m.block * 10000) (sym c.self.view_is) c.requires.few in
-    (long_in s.output.mode s.output.bucket s.output.key s.output.block s.queue s.rest.items s.upload s.tags s.count s.closed s.end s.asked c.put.new.place c.args.piece.now c.in_ok-blocks.rest.items c.in_ok-blocks.blocks c.follow.new.queue (front_of s.queue c.in_ok-blocks.blocks) c.args.count (c.in_ok-asked.asked, c.in_ok-asked._end)
+    (long_in s.output.mode s.output.bucket s.output.key s.output.block s.queue s.rest.items s.upload s.tags s.count s.closed s.end s.asked c.put.new.place c.args.piece.now c.in-Ok.rest.items c.cut.new.queue c.follow.new.queue (front_of s.queue c.cut.new.queue) c.args.count (c.in_ok-asked.asked, c.in_ok-asked._end)
     (ap (λ (m : Stream). m.closed) c.self.view_is ∙ c.requires.unclosed) (none_is s.end (sym c.is_some.ensures ∙ c.if-is_some.false)) few c.self.invariant
-    (c.in_ok-blocks.ensures.joined ∙ ap (λ z. z ++ c.args.piece.now) c.as_slice.ensures.value) c.in_ok-blocks.ensures.long c.in_ok-blocks.ensures.rest
+    (c.in-Ok.ensures.joined ∙ ap (λ z. z ++ c.args.piece.now) c.as_slice-first.ensures.value) c.in-Ok.ensures.long c.in-Ok.ensures.rest
     (c.requires.count ∙ sym (ap (λ (m : Stream). m.count + length c.args.piece.now) c.self.view_is))
     refl c.put.ensures c.in_ok-asked.ensures.next c.in_ok-asked.ensures.added).1
 
@@ -29,8 +29,8 @@ pub returns-clause-ok : goal.returns-clause-ok
 returns-clause-ok c =
     let s = c.self.inside in
     let few : s.count + length c.args.piece.now ≤ s.output.block * 10000 = subst (λ (m : Stream). m.count + length c.args.piece.now ≤ m.block * 10000) (sym c.self.view_is) c.requires.few in
-    (long_in s.output.mode s.output.bucket s.output.key s.output.block s.queue s.rest.items s.upload s.tags s.count s.closed s.end s.asked c.put.new.place c.args.piece.now c.in_ok-blocks.rest.items c.in_ok-blocks.blocks c.follow.new.queue (front_of s.queue c.in_ok-blocks.blocks) c.args.count (c.in_ok-asked.asked, c.in_ok-asked._end)
+    (long_in s.output.mode s.output.bucket s.output.key s.output.block s.queue s.rest.items s.upload s.tags s.count s.closed s.end s.asked c.put.new.place c.args.piece.now c.in-Ok.rest.items c.cut.new.queue c.follow.new.queue (front_of s.queue c.cut.new.queue) c.args.count (c.in_ok-asked.asked, c.in_ok-asked._end)
     (ap (λ (m : Stream). m.closed) c.self.view_is ∙ c.requires.unclosed) (none_is s.end (sym c.is_some.ensures ∙ c.if-is_some.false)) few c.self.invariant
-    (c.in_ok-blocks.ensures.joined ∙ ap (λ z. z ++ c.args.piece.now) c.as_slice.ensures.value) c.in_ok-blocks.ensures.long c.in_ok-blocks.ensures.rest
+    (c.in-Ok.ensures.joined ∙ ap (λ z. z ++ c.args.piece.now) c.as_slice-first.ensures.value) c.in-Ok.ensures.long c.in-Ok.ensures.rest
     (c.requires.count ∙ sym (ap (λ (m : Stream). m.count + length c.args.piece.now) c.self.view_is))
     refl c.put.ensures c.in_ok-asked.ensures.next c.in_ok-asked.ensures.added).0 ∙ ap (λ m. wrote m c.args.piece.now) c.self.view_is

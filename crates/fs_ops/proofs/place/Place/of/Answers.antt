@@ -5,11 +5,11 @@ use Rattle.fs_ops.proofs.place.Place.of.Goals as goal
 
 pub new-requires : goal.new-requires
 new-requires c =
-    ap is_key_path (c.in_ok-clone.ensures.cases ∙ c.in_ok-text.ensures.cases ∙ c.key.ensures.text)
+    ap is_key_path (c.in-Ok.ensures.cases ∙ c.in_ok-text.ensures.cases ∙ c.key.ensures.text)
     ∙ path_key c.args.path.now.key (is_place c.args.path.now.key c.is_root.result c.is_root.ensures c.if-is_root.false).some (ap is_key (sym c.key.ensures.text) ∙ c.key.ensures.key)
 
 pub invariant_of-result-2 : goal.invariant_of-result-2
 invariant_of-result-2 c =
-    kept_as c.args.path.now.key c.in_ok-text.text c.new.result c.in_ok-marker.marker c.in_ok-prefix.prefix
+    kept_as c.args.path.now.key c.in_ok-text.text c.new.result c.in-Ok-marker_key.marker
     (is_place c.args.path.now.key c.is_root.result c.is_root.ensures c.if-is_root.false) (ap is_key (sym c.key.ensures.text) ∙ c.key.ensures.key)
-    (c.in_ok-text.ensures.cases ∙ c.key.ensures.text) (c.new.ensures ∙ c.in_ok-clone.ensures.cases) c.in_ok-marker.ensures (c.in_ok-prefix.ensures.cases ∙ c.as_text.ensures.text)
+    (c.in_ok-text.ensures.cases ∙ c.key.ensures.text) (c.new.ensures ∙ c.in-Ok.ensures.cases) c.in-Ok-marker_key.ensures
