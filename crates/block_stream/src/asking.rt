@@ -74,7 +74,7 @@ fn put_first(alloc: Global, output: &Output, queue: &Queue) -> Result<Option<Req
 }
 
 /// The part behind those of these tags.
-fn send_first(
+pub fn send_first(
     alloc: Global,
     output: &Output,
     upload: u64,
@@ -107,7 +107,7 @@ fn complete(
 }
 
 /// The request that a stream sends at a stage.
-pub fn ask(
+fn ask(
     alloc: Global,
     stage: Stage,
     output: &Output,

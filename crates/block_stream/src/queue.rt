@@ -67,8 +67,7 @@ impl Queue {
         ensures ok { OnOk result (self.new ≡ self.old ++ blocks.old) }
         ensures err { OnErr result (self.new ≡ self.old) }
     {
-        self.blocks.append(&mut blocks.blocks)?;
-        Ok(())
+        self.blocks.append(&mut blocks.blocks)
     }
 
     /// Adds a block at the end. After an error the blocks are as before.

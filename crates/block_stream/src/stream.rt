@@ -11,7 +11,7 @@ ghost use Rattle.block_stream.specs.declared.mode.StreamEnd.TheVariants.{Done};
 ghost use Rattle.block_stream.specs.declared.mode.StreamFault.TheVariants.{TooLong};
 ghost use Rattle.block_stream.specs.declared.stage.Stage.TheVariants.{Beginning, Sending};
 
-use crate::asking::{Output, ask, next, next_stage};
+use crate::asking::{Output, next, next_stage, send_first};
 use crate::cutting::cut;
 use crate::delayed::Delayed;
 use crate::mode::{StreamEnd, StreamFault, StreamMode};
@@ -252,14 +252,7 @@ impl BlockStream {
         ensures ok { OnOk result (self.new ≡ begun self.old upload) }
         ensures err { OnErr result (self.new ≡ self.old) }
     {
-        let asked = ask(
-            self.alloc,
-            Stage::Sending,
-            &self.output,
-            Some(upload),
-            &self.tags,
-            &self.queue,
-        )?;
+        let asked = send_first(self.alloc, &self.output, upload, &self.tags, &self.queue)?;
         self.upload = Some(upload);
         put(&mut self.asked, asked);
         Ok(())

@@ -3,11 +3,11 @@ ghost use Rattle.store_image.specs.Fault.{number_of, place_in};
 ghost use Rattle.store_image.specs.declared.fault.ImageFault.TheVariants.{NoMemory};
 
 use std::alloc::AllocError;
+use std::fmt;
 use thiserror::Error;
 
 /// Why bytes are no image: the first fault from left to right, with its place in bytes from the start.
 #[derive(Clone, Copy, Debug, PartialEq, Eq, Error)]
-#[error("image fault {number} at {place}", number = self.number(), place = self.place())]
 pub enum ImageFault {
     /// The first 8 bytes are not `S3AIMG01`, or the minimum is not 1 to 5,242,880.
     BadHead,
@@ -54,6 +54,12 @@ impl ImageFault {
             ImageFault::CounterTooHigh => 0,
             ImageFault::NoMemory => 0,
         }
+    }
+}
+
+impl fmt::Display for ImageFault {
+    fn fmt<W: fmt::Write>(&self, f: &mut fmt::Formatter<W>) -> fmt::Result {
+        write!(f, "image fault {} at {}", self.number(), self.place())
     }
 }
 

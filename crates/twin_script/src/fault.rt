@@ -4,11 +4,11 @@ ghost use Rattle.twin_script.specs.declared.fault.TwinFault.TheVariants.{NoMemor
 
 use job_script::ScriptFault;
 use std::alloc::{AllocError, AllocFailed};
+use std::fmt;
 use thiserror::Error;
 
 /// Why bytes are not two scripts and an order.
 #[derive(Clone, Copy, Debug, PartialEq, Eq, Error)]
-#[error("twin fault {number} at line {line}", number = self.number(), line = self.line())]
 pub enum TwinFault {
     /// There are not exactly two parting lines.
     NotThree,
@@ -66,6 +66,12 @@ impl TwinFault {
             | TwinFault::TooLarge
             | TwinFault::NoMemory => 0,
         }
+    }
+}
+
+impl fmt::Display for TwinFault {
+    fn fmt<W: fmt::Write>(&self, f: &mut fmt::Formatter<W>) -> fmt::Result {
+        write!(f, "twin fault {} at line {}", self.number(), self.line())
     }
 }
 

@@ -13,7 +13,7 @@ use crate::twins::Twins;
 use job_model::Script;
 use job_script::{ScriptFault, read_script};
 use path_keys::S3Path;
-use s3_types::{Fates, MOST_SCRIPT_BYTES, Mode};
+use s3_types::{Fates, MOST_SCRIPT_BYTES, Mode, let_go};
 use std::alloc::Global;
 
 #[tactic(auto, using(crate::proofs::Pair::other_first))]
@@ -143,12 +143,18 @@ fn paired(alloc: Global, first: Script, second: Script, order: &[u8]) -> Result<
     ensures exact { Gives result (twins.paired first second order.now) }
     ensures told { IfErr result (λ fault. is_told fault ≡ true) }
 {
-    let order = turns_of(alloc, &first, &second, order)?;
-    Ok(Twins {
-        first,
-        second,
-        order,
-    })
+    match turns_of(alloc, &first, &second, order) {
+        Ok(order) => Ok(Twins {
+            first,
+            second,
+            order,
+        }),
+        Err(fault) => {
+            let_go(first);
+            let_go(second);
+            Err(fault)
+        }
+    }
 }
 
 #[tactic(auto, unfolding(crate::specs::Twins::with_second))]
@@ -156,8 +162,13 @@ fn with_second(alloc: Global, first: Script, part: &[u8], order: &[u8]) -> Resul
     ensures exact { Gives result (twins.with_second first part.now order.now) }
     ensures told { IfErr result (λ fault. is_told fault ≡ true) }
 {
-    let second = second_script(alloc, part)?;
-    paired(alloc, first, second, order)
+    match second_script(alloc, part) {
+        Ok(second) => paired(alloc, first, second, order),
+        Err(fault) => {
+            let_go(first);
+            Err(fault)
+        }
+    }
 }
 
 #[tactic(auto, unfolding(crate::specs::Twins::with_first))]
