@@ -1,10 +1,11 @@
 -- What the bytes of a script mean.
-use Rattle.std.specs.Prelude.{ℕ, ◌+◌, ◌==◌, Bool, true, false, List, [], ◌∷◌, length, Option, Some, None, Result, Ok, Err, nat_le, ⊤, option_map, codes, if◌then◌else◌}
+use Rattle.std.specs.Prelude.{◌≡◌, ℕ, ◌+◌, ◌==◌, Bool, true, false, List, [], ◌∷◌, length, Option, Some, None, IsSome, Result, Ok, Err, nat_le, ⊤, option_map, codes, if◌then◌else◌}
 use Rattle.job_model.specs.Prelude.{unwrap_or, option_or, is_utf8, ◌>>=◌, need, check, lines_of, words_of, MOST_SCRIPT_BYTES, Committer, Mode, Script}
 use Rattle.s3_types.specs.declared.request.Committer.TheVariants as committer
 use Rattle.s3_types.specs.declared.request.Mode.TheVariants as mode
 use Rattle.job_script.specs.declared.fault.ScriptFault.{ScriptFault}
 use Rattle.job_script.specs.declared.fault.ScriptFault.TheVariants.{NotUtf8, BadLine, UnknownWord, MissingHead, UnknownActor, TooLarge}
+use Rattle.job_script.specs.declared.head.Chosen.{Chosen}
 use Rattle.job_script.specs.declared.draft.Draft.{Draft}
 use Rattle.job_script.specs.declared.draft.Group.{Group}
 use Rattle.job_script.specs.declared.draft.Group.TheVariants as group
@@ -86,6 +87,16 @@ unique_in c (Some (n, unique)) = Ok unique
 abbrev pub all_inside : Option ℕ → Result ⊤ ScriptFault
 all_inside None = Ok tt
 all_inside (Some n) = Err (UnknownActor n)
+
+-- what a draft's head lines choose, where none is missing and no check finds a fault
+pub record IsChosen (d : Draft) (chosen : Chosen) : Type 0 where
+  pub job : IsSome d.head.job
+  pub dest : IsSome d.head.dest
+  pub committer : need d.head.committer MissingHead ≡ Ok chosen.committer
+  pub tasks : need d.head.tasks MissingHead ≡ Ok chosen.tasks
+  pub mode : mode_in chosen.committer d.head.mode ≡ Ok chosen.mode
+  pub unique : unique_in chosen.committer d.head.unique ≡ Ok chosen.unique
+  pub inside : all_inside d.outside ≡ Ok tt
 
 -- the checks after the last line, and the whole script
 unfoldable pub complete : Draft → Result Script ScriptFault

@@ -11,7 +11,7 @@ pub struct Loss {
 }
 
 /// The groups of lines in their order.
-#[derive(Clone, Copy, PartialEq, Eq)]
+#[derive(Clone, Copy)]
 pub enum Group {
     Head,
     Attempts,

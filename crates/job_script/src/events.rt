@@ -154,7 +154,7 @@ fn event_of(
             actor: alone_of(draft, line, rest)?,
         }),
         EventWord::Mix => Ok(Event::Mix {
-            seed: number(0, 2_147_483_647, line, rest)? as u32,
+            seed: number(0, 2_147_483_647, line, one_word(line, rest)?)? as u32,
         }),
         EventWord::Restart => restart_event(line, rest),
         EventWord::Recover => recover_event(draft, line, rest),

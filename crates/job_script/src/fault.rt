@@ -3,11 +3,11 @@ ghost use Rattle.job_script.specs.Fault.{number_of, line_of};
 ghost use Rattle.job_script.specs.declared.fault.ScriptFault.TheVariants.{NoMemory};
 
 use std::alloc::{AllocError, AllocFailed};
+use std::fmt;
 use thiserror::Error;
 
 /// Why bytes are no script. A number is that of the line, from 1.
 #[derive(Clone, Copy, Debug, PartialEq, Eq, Error)]
-#[error("script fault {number} at line {line}", number = self.number(), line = self.line())]
 pub enum ScriptFault {
     /// The input is not UTF-8.
     NotUtf8,
@@ -75,6 +75,12 @@ impl ScriptFault {
             | ScriptFault::TooLarge
             | ScriptFault::NoMemory => 0,
         }
+    }
+}
+
+impl fmt::Display for ScriptFault {
+    fn fmt<W: fmt::Write>(&self, f: &mut fmt::Formatter<W>) -> fmt::Result {
+        write!(f, "script fault {} at line {}", self.number(), self.line())
     }
 }
 

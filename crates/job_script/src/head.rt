@@ -1,7 +1,7 @@
-ghost use Rattle.std.specs.Prelude.{◌≡◌, ◌≤◌, ◌++◌, Some, Ok, codes, option_map, string_bytes, IfOk, OnOk};
+ghost use Rattle.std.specs.Prelude.{◌≡◌, ◌≤◌, ◌++◌, Some, Ok, codes, option_map, string_bytes, IfOk, IfErr, OnOk};
 ghost use Rattle.std.specs.Fmt.{decimal};
 ghost use Rattle.std.specs.List.{list_all};
-ghost use Rattle.proof_base.specs.Reading.{GivesBy, need};
+ghost use Rattle.proof_base.specs.Reading.{Fails, GivesBy, need};
 ghost use Rattle.words.specs.Shapes.{one};
 ghost use Rattle.words.specs.Words.{text_of, words_after};
 ghost use Rattle.path_keys.specs.Paths.{path_in};
@@ -12,6 +12,7 @@ ghost use Rattle.job_script.specs.Fault.{Gives, Makes, wanting};
 ghost use Rattle.job_script.specs.Kinds.{named};
 ghost use Rattle.job_script.specs.HeadLines as lines;
 ghost use Rattle.job_script.specs.Script as script;
+ghost use Rattle.job_script.specs.Script.{IsChosen};
 ghost use Rattle.job_script.specs.declared.fault.ScriptFault.TheVariants.{BadLine, MissingHead};
 
 use crate::draft::Draft;
@@ -22,12 +23,21 @@ use crate::print_losses::put_losses;
 use crate::print_words::{answer_word, committer_word, mode_word};
 use job_model::Script;
 use path_keys::{PathFault, S3Path};
-use s3_types::{Committer, Fates, MOST_SCRIPT_BYTES, Mode, Text};
+use s3_types::{Committer, Fates, MOST_SCRIPT_BYTES, Mode, Text, let_go};
 use std::alloc::{AllocError, Global};
 use words::{number_within, one};
 
+/// What a script's head says that is no name.
+#[derive(Clone, Copy)]
+struct Chosen {
+    committer: Committer,
+    tasks: u32,
+    mode: Mode,
+    unique: bool,
+}
+
 /// The kinds of lines of the head that give one value.
-#[derive(Clone, Copy, PartialEq, Eq)]
+#[derive(Clone, Copy)]
 pub enum HeadWord {
     Job,
     Dest,
@@ -110,14 +120,12 @@ pub fn one_word(line: u64, rest: Option<&str>) -> Result<&str, ScriptFault>
     }
 }
 
-/// The one number behind a line's first word, from low to high.
+/// The number that a word is, from low to high.
 #[tactic(auto, unfolding(crate::specs::HeadLines::number))]
-pub fn number(low: u64, high: u64, line: u64, rest: Option<&str>) -> Result<u64, ScriptFault>
-    ensures number { Gives result (lines.value_at (lines.number low high) line
-        (words_after (option_map (λ r. r.now) rest.entry))) }
+pub fn number(low: u64, high: u64, line: u64, word: &str) -> Result<u64, ScriptFault>
+    ensures number { Gives result (lines.number low high line word.now) }
     ensures within { IfOk result (λ n. n ≤ high) }
 {
-    let word = one_word(line, rest)?;
     match number_within(low, high, word) {
         Some(number) => Ok(number),
         None => Err(ScriptFault::BadNumber(line)),
@@ -202,48 +210,41 @@ pub fn head_line(
     ensures { Makes result head.new (lines.head_at line word head.old
         (words_after (option_map (λ r. r.now) rest.entry))) }
 {
+    let value = one_word(line, rest)?;
     match word {
-        HeadWord::Job => keep(
-            &mut head.job,
-            line,
-            job_of(alloc, line, one_word(line, rest)?)?,
-        ),
-        HeadWord::Dest => keep(
-            &mut head.dest,
-            line,
-            dest_of(alloc, line, one_word(line, rest)?)?,
-        ),
+        HeadWord::Job => keep(&mut head.job, line, job_of(alloc, line, value)?),
+        HeadWord::Dest => keep(&mut head.dest, line, dest_of(alloc, line, value)?),
         HeadWord::Committer => {
-            let Some(committer) = committer_of(one_word(line, rest)?) else {
+            let Some(committer) = committer_of(value) else {
                 return Err(ScriptFault::BadLine(line));
             };
             keep(&mut head.committer, line, committer)
         }
-        HeadWord::Tasks => keep(&mut head.tasks, line, number(0, 1000, line, rest)? as u32),
+        HeadWord::Tasks => keep(&mut head.tasks, line, number(0, 1000, line, value)? as u32),
         HeadWord::Mode => {
-            let Some(mode) = mode_of(one_word(line, rest)?) else {
+            let Some(mode) = mode_of(value) else {
                 return Err(ScriptFault::BadLine(line));
             };
             keep(&mut head.mode, line, (line, mode))
         }
         HeadWord::Unique => {
-            let Some(unique) = answer_of(one_word(line, rest)?) else {
+            let Some(unique) = answer_of(value) else {
                 return Err(ScriptFault::BadLine(line));
             };
             keep(&mut head.unique, line, (line, unique))
         }
-        HeadWord::Retries => keep(&mut head.retries, line, number(0, 9, line, rest)? as u32),
+        HeadWord::Retries => keep(&mut head.retries, line, number(0, 9, line, value)? as u32),
         HeadWord::Block => keep(
             &mut head.block,
             line,
-            number(1, MOST_SCRIPT_BYTES, line, rest)?,
+            number(1, MOST_SCRIPT_BYTES, line, value)?,
         ),
-        HeadWord::Lanes => keep(&mut head.lanes, line, number(1, 8, line, rest)? as u32),
+        HeadWord::Lanes => keep(&mut head.lanes, line, number(1, 8, line, value)? as u32),
         HeadWord::Stamp => {
             keep(
                 &mut head.stamp,
                 line,
-                number(0, 999_999_999_999_999_999, line, rest)?,
+                number(0, 999_999_999_999_999_999, line, value)?,
             )
         }
     }
@@ -294,27 +295,50 @@ fn all_inside(outside: Option<u64>) -> Result<(), ScriptFault>
     }
 }
 
+/// What the head lines choose, where none is missing and the checks after the last line find no fault.
+#[tactic(auto, unfolding(crate::specs::Script::complete))]
+fn chosen_in(draft: &Draft) -> Result<Chosen, ScriptFault>
+    ensures chosen { IfOk result (λ chosen. IsChosen draft.now chosen) }
+    ensures refused { IfErr result (λ fault. Fails wanting fault (script.complete draft.now)) }
+{
+    let head = &draft.head;
+    let (Some(_), Some(_)) = (&head.job, &head.dest) else {
+        return Err(ScriptFault::MissingHead);
+    };
+    let committer = required(head.committer)?;
+    let tasks = required(head.tasks)?;
+    let mode = mode_in(committer, head.mode)?;
+    let unique = unique_in(committer, head.unique)?;
+    all_inside(draft.outside)?;
+    Ok(Chosen {
+        committer,
+        tasks,
+        mode,
+        unique,
+    })
+}
+
 /// The script, where the checks after the last line find no fault.
 #[tactic(auto, unfolding(crate::specs::Script::complete))]
 pub fn complete(draft: Draft) -> Result<Script, ScriptFault>
     requires legal { (s : Script) → script.complete draft ≡ Ok s → IsLegal s }
     ensures { Gives result (script.complete draft) }
 {
+    let chosen = match chosen_in(&draft) {
+        Ok(chosen) => chosen,
+        Err(fault) => {
+            let_go(draft);
+            return Err(fault);
+        }
+    };
     let head = draft.head;
-    let job = required(head.job)?;
-    let dest = required(head.dest)?;
-    let committer = required(head.committer)?;
-    let tasks = required(head.tasks)?;
-    let mode = mode_in(committer, head.mode)?;
-    let unique = unique_in(committer, head.unique)?;
-    all_inside(draft.outside)?;
     Ok(Script {
-        job,
-        dest,
-        committer,
-        mode,
-        unique,
-        tasks,
+        job: head.job.unwrap(),
+        dest: head.dest.unwrap(),
+        committer: chosen.committer,
+        mode: chosen.mode,
+        unique: chosen.unique,
+        tasks: chosen.tasks,
         retries: head.retries.unwrap_or(3),
         block: head.block.unwrap_or(0),
         lanes: head.lanes.unwrap_or(1),

@@ -7,7 +7,7 @@ use crate::head::{HeadWord, head_word};
 use job_model::Op;
 use s3_types::{Committer, Fate, Mode};
 
-#[derive(Clone, Copy, PartialEq, Eq)]
+#[derive(Clone, Copy)]
 pub enum EventWord {
     Do,
     Start,
@@ -20,7 +20,7 @@ pub enum EventWord {
 }
 
 /// The kinds of lines.
-#[derive(Clone, Copy, PartialEq, Eq)]
+#[derive(Clone, Copy)]
 pub enum Kind {
     Head(HeadWord),
     Loss,

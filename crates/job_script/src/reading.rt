@@ -14,7 +14,7 @@ use crate::head::{complete, head_line, no_head};
 use crate::kinds::{Kind, enters, kind_of};
 use crate::loss::loss_line;
 use job_model::{Attempts, EventList, Script};
-use s3_types::MOST_SCRIPT_BYTES;
+use s3_types::{MOST_SCRIPT_BYTES, let_go};
 use std::alloc::Global;
 use words::{next_field, next_line};
 
@@ -90,7 +90,10 @@ fn draft_of(alloc: Global, text: &str) -> Result<Draft, ScriptFault>
     let mut rest = text;
     while !rest.is_empty() {
         let (words, after) = next_line(rest);
-        line_of(alloc, &mut draft, line, words)?;
+        if let Err(fault) = line_of(alloc, &mut draft, line, words) {
+            let_go(draft);
+            return Err(fault);
+        }
         line += 1;
         rest = after;
     }

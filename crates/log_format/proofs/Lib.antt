@@ -2,3 +2,4 @@ pub mod Loop
 pub mod Steps
 pub mod Changes
 pub mod Files
+pub mod Behind

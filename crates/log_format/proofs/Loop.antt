@@ -1,7 +1,7 @@
--- One more value of a list that is read.
-use Rattle.std.proofs.Common.{◌≡◌, ℕ, suc, ◌+◌, ◌-◌, ◌<◌, ◌≤◌, List, [], ◌∷◌, ◌++◌, ◌==◌, if◌then◌else◌, Ok, Err, Result, refl, sym, ap, subst, ◌∙◌, append_assoc, arith}
-use Rattle.proof_base.proofs.Common.{append-nil}
-use Rattle.s3_types.specs.Prelude.{◌>>=◌, Fails}
+-- One more value of a list that is read or written.
+use Rattle.std.proofs.Common.{drop, length, get_or, ◌≡◌, ℕ, suc, ◌+◌, ◌-◌, ◌<◌, ◌≤◌, List, [], ◌∷◌, ◌++◌, ◌==◌, if◌then◌else◌, Ok, Err, Result, refl, sym, ap, subst, ◌∙◌, append_assoc, arith}
+use Rattle.proof_base.proofs.Common.{append-nil, drop_more, flat_map-cons}
+use Rattle.s3_types.specs.Prelude.{◌>>=◌, Fails, flat_map, AllByRecursion}
 use Rattle.proof_base.specs.Reading.{made}
 use Rattle.proof_base.proofs.Reading.{unless_more, unmade, with_front, listed, one_more as next_value}
 use Rattle.s3_types.specs.declared.request.Request.{Request}
@@ -72,3 +72,20 @@ change_more n i whole at here gate front new rest after behind total lt at_is ga
     ∙ ap (λ (r : Read Request). r >>= λ change. changes_at k whole change.1 >>= λ changes. Ok (change.0 ∷ changes)) x.1 in
     let whole_so_far : with_front front (listed (Ok x.0) tail) ≡ total = ap (with_front front) (sym (ap (λ m. changes_at m whole rest) left ∙ found)) ∙ so_far in
     ap (λ l. with_front l tail) x.2 ∙ next_value front (Ok x.0) x.0 tail total refl whole_so_far
+
+module _ {A : Type 0} (xs : List A) (i : ℕ) (x : A) (lt : i < length xs) (item : x ≡ get_or xs i x) where
+  front : drop i xs ≡ x ∷ drop (i + 1) xs
+  front = drop_more xs i x lt ∙ ap (λ (y : A). y ∷ drop (i + 1) xs) (sym item)
+
+  -- the text of one more value
+  pub one_written : (text : A → List ℕ) (out new total : List ℕ) → new ≡ out ++ text x → out ++ flat_map text (drop i xs) ≡ total → new ++ flat_map text (drop (i + 1) xs) ≡ total
+  one_written text out new total is so_far =
+      ap (λ (l : List ℕ). l ++ flat_map text (drop (i + 1) xs)) is
+      ∙ append_assoc out (text x) (flat_map text (drop (i + 1) xs))
+      ∙ ap (λ (l : List ℕ). out ++ l) (sym (flat_map-cons text x (drop (i + 1) xs)))
+      ∙ ap (λ (l : List A). out ++ flat_map text l) (sym front)
+      ∙ so_far
+
+  -- one more value is as each is
+  pub one_legal : (IsOne : A → Type 0) {All : Type 0} → IsOne x → (AllByRecursion IsOne (drop i xs) → All) → AllByRecursion IsOne (drop (i + 1) xs) → All
+  one_legal IsOne is so_far others = so_far (subst (AllByRecursion IsOne) (sym front) (is, others))

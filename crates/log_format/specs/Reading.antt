@@ -43,6 +43,10 @@ text_at is_kind at bytes = do
   text ← block_at at bytes
   passing is_kind (Bad at) text
 
+-- what is read behind a value, together with it
+abbrev pub paired : {A B : Type 0} → A → Read B → Read (A × B)
+paired first second = made (λ b. (first, b)) second
+
 -- one value and then another
 unfoldable pub pair_at : {A B : Type 0} → (List ℕ → Read A) → (List ℕ → Read B) → List ℕ → Read (A × B)
 pair_at first second bytes = do
@@ -91,11 +95,13 @@ abbrev pub header_in : ℕ → Option ℕ
 header_in zero = None
 header_in (suc n) = Some n
 
+-- what a function makes of the value that is read, with nothing left after it
+abbrev pub alone : {A B : Type 0} → (A → B) → ℕ → Read A → Result B LogFault
+alone make at read = read >>= λ x. if length x.1 == 0 then Ok (make x.0) else Err (Bad at)
+
 -- a request of the fields that are read, with nothing left after them
 unfoldable pub row_of : {A : Type 0} → (A → Request) → (List ℕ → Read A) → ℕ → List ℕ → Result Request LogFault
-row_of make read at bytes = do
-  x ← read bytes
-  if length x.1 == 0 then Ok (make x.0) else Err (Bad at)
+row_of make read at bytes = alone make at (read bytes)
 
 -- the MakeBucket whose fields these bytes are, or a fault
 unfoldable pub make_bucket_in : ℕ → List ℕ → Result Request LogFault

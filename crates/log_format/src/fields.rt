@@ -5,12 +5,12 @@ ghost use Rattle.std.specs.Str.{is_utf8};
 ghost use Rattle.s3_types.specs.Names.{is_bucket, is_key};
 ghost use Rattle.s3_types.specs.Tags.{is_hex};
 ghost use Rattle.log_format.specs.Fault.{Gives, GivesBy};
-ghost use Rattle.log_format.specs.Reading.{place, bytes_at, byte_at, number_at, block_at, text_at, list_at, counted_at, digits_at, named_at, target_at, upload_at, header_in};
+ghost use Rattle.log_format.specs.Reading.{Read, paired, pair_at, place, bytes_at, byte_at, number_at, block_at, text_at, list_at, counted_at, digits_at, named_at, target_at, upload_at, header_in};
 
 use crate::fault::LogFault;
 use s3_types::{
     Bucket, Bytes, Key, KeyList, LengthHeader, NameFault, NamedPart, PartList, Sequence, Tag, Text,
-    are_hex_digits, as_utf8,
+    are_hex_digits, as_utf8, let_go,
 };
 use std::alloc::Global;
 
@@ -136,9 +136,13 @@ fn keys_in<'b>(
     let mut keys = Vec::new(alloc);
     let mut rest = bytes;
     for _ in 0..count {
-        let (key, after) = key_of(alloc, at, rest)?;
-        keys.push(key)?;
-        rest = after;
+        match key_of(alloc, at, rest) {
+            Ok((key, after)) => {
+                keys.push(key)?;
+                rest = after;
+            }
+            Err(fault) => return Err(fault),
+        }
     }
     Ok((Sequence::from_vec(keys), rest))
 }
@@ -212,6 +216,22 @@ pub fn parts_of<'b>(
     parts_in(alloc, at, count, rest)
 }
 
+/// One value and the one that was read behind it.
+pub fn pair_of<'b, A: Drop, B>(
+    first: A,
+    second: Result<(B, &'b [u8]), LogFault>,
+) -> Result<((A, B), &'b [u8]), LogFault>
+    ensures { (read : Read B) → GivesBy (λ b. (b.0, b.1.now)) second.entry read → GivesBy (λ x. (x.0, x.1.now)) result (paired first read) }
+{
+    match second {
+        Ok((second, rest)) => Ok(((first, second), rest)),
+        Err(fault) => {
+            let_go(first);
+            Err(fault)
+        }
+    }
+}
+
 /// A bucket and a key.
 #[tactic(auto, unfolding(crate::specs::Reading::target_at, crate::specs::Reading::pair_at))]
 pub fn target_of<'b>(
@@ -222,8 +242,7 @@ pub fn target_of<'b>(
     ensures { GivesBy (λ x. ((x.0.0, x.0.1), x.1.now)) result (target_at at bytes.now) }
 {
     let (bucket, rest) = bucket_of(alloc, at, bytes)?;
-    let (key, rest) = key_of(alloc, at, rest)?;
-    Ok(((bucket, key), rest))
+    pair_of(bucket, key_of(alloc, at, rest))
 }
 
 /// A bucket, a key and the number of an upload.
@@ -236,8 +255,21 @@ pub fn upload_of<'b>(
     ensures { GivesBy (λ x. (((x.0.0.0, x.0.0.1), x.0.1), x.1.now)) result (upload_at at bytes.now) }
 {
     let (target, rest) = target_of(alloc, at, bytes)?;
-    let (upload, rest) = u64_of(at, rest)?;
-    Ok(((target, upload), rest))
+    pair_of(target, u64_of(at, rest))
+}
+
+/// A bucket, a key, the number of an upload and that of a part.
+#[tactic(auto, unfolding(crate::specs::Reading::pair_at))]
+pub fn part_of<'b>(
+    alloc: Global,
+    at: u64,
+    bytes: &'b [u8],
+) -> Result<((((Bucket, Key), u64), u32), &'b [u8]), LogFault>
+    ensures { GivesBy (λ x. ((((x.0.0.0.0, x.0.0.0.1), x.0.0.1), x.0.1), x.1.now)) result
+        (pair_at (upload_at at) (number_at w32 at) bytes.now) }
+{
+    let (upload, rest) = upload_of(alloc, at, bytes)?;
+    pair_of(upload, u32_of(at, rest))
 }
 
 /// The header that a number stands for: 0 for none, and else the length plus 1.

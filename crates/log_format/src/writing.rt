@@ -198,33 +198,42 @@ fn put_part(
     put_block(out, bytes.as_slice())
 }
 
-/// Appends a change: the byte of its kind, and its fields.
-fn put_change(out: &mut Vec<u8>, change: &Request) -> Result<(), AllocError>
+/// The byte of a change's kind.
+fn kind_of(change: &Request) -> u8
+    requires { known.is_changing change.now ≡ true }
+    ensures { result ∷ drop 1 (body change.now) ≡ body change.now }
+{
+    match change {
+        Request::MakeBucket { .. } => 1,
+        Request::PutObject { .. } => 2,
+        Request::DeleteObject { .. } => 3,
+        Request::DeleteObjects { .. } => 4,
+        Request::CopyObject { .. } => 5,
+        Request::CreateUpload { .. } => 6,
+        Request::UploadPart { .. } => 7,
+        Request::CompleteUpload { .. } => 8,
+        Request::AbortUpload { .. } => 9,
+        _ => unreachable!(),
+    }
+}
+
+/// Appends the fields of a change.
+fn put_fields(out: &mut Vec<u8>, change: &Request) -> Result<(), AllocError>
     requires changing { known.is_changing change.now ≡ true }
     requires few { named_in change.now < 2 ^ 32 }
-    ensures text { OnOk result (out.new.items ≡ out.old.items ++ body change.now) }
+    ensures text { OnOk result (out.new.items ≡ out.old.items ++ drop 1 (body change.now)) }
     ensures legal { OnOk result (IsChange change.now) }
 {
     match change {
-        Request::MakeBucket { name } => {
-            out.push(1)?;
-            put_text(out, name)
-        }
+        Request::MakeBucket { name } => put_text(out, name),
         Request::PutObject {
             bucket,
             key,
             bytes,
             header,
-        } => {
-            out.push(2)?;
-            put_object(out, bucket, key, bytes, *header)
-        }
-        Request::DeleteObject { bucket, key } => {
-            out.push(3)?;
-            put_target(out, bucket, key)
-        }
+        } => put_object(out, bucket, key, bytes, *header),
+        Request::DeleteObject { bucket, key } => put_target(out, bucket, key),
         Request::DeleteObjects { bucket, keys } => {
-            out.push(4)?;
             put_bucket(out, bucket)?;
             put_keys(out, keys.as_slice())
         }
@@ -233,31 +242,23 @@ fn put_change(out: &mut Vec<u8>, change: &Request) -> Result<(), AllocError>
             source,
             target,
         } => {
-            out.push(5)?;
             put_target(out, bucket, source)?;
             put_key(out, target)
         }
-        Request::CreateUpload { bucket, key } => {
-            out.push(6)?;
-            put_target(out, bucket, key)
-        }
+        Request::CreateUpload { bucket, key } => put_target(out, bucket, key),
         Request::UploadPart {
             bucket,
             key,
             upload,
             number,
             bytes,
-        } => {
-            out.push(7)?;
-            put_part(out, bucket, key, *upload, *number, bytes)
-        }
+        } => put_part(out, bucket, key, *upload, *number, bytes),
         Request::CompleteUpload {
             bucket,
             key,
             upload,
             parts,
         } => {
-            out.push(8)?;
             put_upload(out, bucket, key, *upload)?;
             put_parts(out, parts.as_slice())
         }
@@ -265,10 +266,7 @@ fn put_change(out: &mut Vec<u8>, change: &Request) -> Result<(), AllocError>
             bucket,
             key,
             upload,
-        } => {
-            out.push(9)?;
-            put_upload(out, bucket, key, *upload)
-        }
+        } => put_upload(out, bucket, key, *upload),
         _ => unreachable!(),
     }
 }
@@ -291,7 +289,8 @@ pub fn write_record(buffer: &mut Vec<u8>, change: &Request) -> Result<(), AllocE
 {
     buffer.clear();
     put_u64(buffer, 0)?;
-    put_change(buffer, change)?;
+    buffer.push(kind_of(change))?;
+    put_fields(buffer, change)?;
     set_length(buffer.as_mut_slice());
     buffer.push(0)?;
     Ok(())

@@ -9,7 +9,7 @@ use crate::fault::UploadFault;
 use crate::part::Parts;
 use crate::tables::Live;
 use crate::uploads::Uploads;
-use s3_types::{Bytes, Key, NamedPart, PartList, Refusal, Tag};
+use s3_types::{Bytes, Key, NamedPart, PartList, Refusal, Tag, joined_tag};
 use std::alloc::{AllocError, Global};
 
 /// What a completion makes: the bytes of the object, and its tag.
@@ -160,11 +160,13 @@ impl Uploads {
         let alloc = self.allocator();
         let parts = parts.as_slice();
         check(live, parts, minimum)?;
-        let bytes = joined_bytes(alloc, live.parts(), parts)?;
         let tags = tags_of(alloc, parts)?;
-        Ok(Joined {
-            bytes,
-            tag: s3_types::joined_tag(&tags),
-        })
+        match joined_bytes(alloc, live.parts(), parts) {
+            Ok(bytes) => Ok(Joined {
+                bytes,
+                tag: joined_tag(&tags),
+            }),
+            Err(_) => Err(UploadFault::NoMemory),
+        }
     }
 }

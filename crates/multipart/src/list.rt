@@ -1,12 +1,12 @@
 ghost use Rattle.std.specs.Option.{option_copied};
-ghost use Rattle.std.specs.Prelude.{◌≡◌, ◌≤◌, ℕ, List, Some, None, length, nat_lt, take, IfOk};
+ghost use Rattle.std.specs.Prelude.{◌≡◌, ◌≤◌, ◌+◌, ◌++◌, ◌∷◌, [], ℕ, List, Some, None, length, nat_lt, take, IfOk, OnOk};
 ghost use Rattle.std.specs.Map.{keys_of};
 ghost use Rattle.s3_types.specs.Multipart.{listed};
 ghost use Rattle.multipart.specs.Listing.{below, Follows, AreOwn};
 
 use crate::tables::Place;
 use crate::uploads::Uploads;
-use s3_types::{Key, PageLimit, Text, UploadList, UploadRef};
+use s3_types::{Key, PageLimit, Text, UploadList, UploadRef, let_go};
 use std::alloc::{AllocError, Global};
 use std::collections::btree_map::Range;
 use std::ops::Bound;
@@ -16,6 +16,41 @@ use std::ops::Bound;
 pub struct UploadPage {
     pub entries: UploadList,
     pub more: bool,
+}
+
+fn add_upload(entries: &mut Vec<UploadRef>, key: &Key, upload: u64) -> Result<(), AllocError>
+    ensures added { OnOk result (entries.new.items ≡ entries.old.items ++ record { key = key.now; upload = upload } ∷ []) }
+    ensures length { OnOk result (length entries.new.items ≡ length entries.old.items + 1) }
+{
+    let key = key.clone()?;
+    entries.push(UploadRef { key, upload })?;
+    Ok(())
+}
+
+/// Adds the uploads that are left whose keys begin with a prefix, and tells whether more remain.
+fn add_uploads(
+    rest: Range<'_, Place, Key>,
+    prefix: &Text,
+    limit: u16,
+    entries: &mut Vec<UploadRef>,
+) -> Result<bool, AllocError>
+    requires follows { Follows prefix.now (keys_of rest) }
+    requires own { AreOwn rest }
+    requires none { entries.old.items ≡ [] }
+    ensures entries { OnOk result (entries.new.items ≡ take limit (below prefix.now (keys_of rest.entry))) }
+    ensures more { IfOk result (λ more. more ≡ nat_lt limit (length (below prefix.now (keys_of rest.entry)))) }
+{
+    let mut rest = rest;
+    while let Some((place, key)) = rest.next() {
+        if !place.text.starts_with(prefix) {
+            return Ok(false);
+        }
+        if entries.len() == limit as usize {
+            return Ok(true);
+        }
+        add_upload(entries, key, place.upload)?;
+    }
+    Ok(false)
 }
 
 /// A page of the uploads that are left whose keys begin with a prefix.
@@ -30,30 +65,14 @@ fn page_of(
     ensures entries { IfOk result (λ page. page.entries ≡ take limit (below prefix.now (keys_of rest.entry))) }
     ensures more { IfOk result (λ page. page.more ≡ nat_lt limit (length (below prefix.now (keys_of rest.entry)))) }
 {
-    let mut rest = rest;
     let mut entries = Vec::new(alloc);
-    while let Some((place, key)) = rest.next() {
-        if !place.text.starts_with(prefix) {
-            return Ok(UploadPage {
-                entries: UploadList::from_vec(entries),
-                more: false,
-            });
-        }
-        if entries.len() == limit as usize {
-            return Ok(UploadPage {
-                entries: UploadList::from_vec(entries),
-                more: true,
-            });
-        }
-        let key = key.clone()?;
-        entries.push(UploadRef {
-            key,
-            upload: place.upload,
-        })?;
-    }
+    let Ok(more) = add_uploads(rest, prefix, limit, &mut entries) else {
+        let_go(entries);
+        return Err(AllocError);
+    };
     Ok(UploadPage {
         entries: UploadList::from_vec(entries),
-        more: false,
+        more,
     })
 }
 

@@ -8,7 +8,7 @@ ghost use Rattle.s3_types.specs.Multipart.{is_part_number, with_part, ref_cmp};
 ghost use Rattle.multipart.specs.Next.{next_of};
 
 use crate::part::{Part, Parts};
-use s3_types::{Key, Text};
+use s3_types::{Key, Text, let_go};
 use std::alloc::{AllocError, Global};
 use std::collections::BTreeMap;
 use std::collections::btree_map::Range;
@@ -42,8 +42,15 @@ impl Live {
     pub fn new(alloc: Global, key: Key) -> Result<Live, AllocError>
         ensures { IfOk result (λ live. live ≡ record { key = key; parts = fin.empty }) }
     {
-        let text = key.as_text().clone()?;
-        let parts = Parts::new(alloc)?;
+        let Ok(text) = key.as_text().clone() else {
+            let_go(key);
+            return Err(AllocError);
+        };
+        let Ok(parts) = Parts::new(alloc) else {
+            let_go(key);
+            let_go(text);
+            return Err(AllocError);
+        };
         Ok(Live { key, text, parts })
     }
 
@@ -81,11 +88,17 @@ impl Clone for Live {
     ghost is_clone = { λ l copy. copy ≡ l };
 
     fn clone(&self) -> Result<Live, AllocError> {
-        Ok(Live {
-            key: self.key.clone()?,
-            text: self.text.clone()?,
-            parts: self.parts.clone()?,
-        })
+        let key = self.key.clone()?;
+        let Ok(text) = self.text.clone() else {
+            let_go(key);
+            return Err(AllocError);
+        };
+        let Ok(parts) = self.parts.clone() else {
+            let_go(key);
+            let_go(text);
+            return Err(AllocError);
+        };
+        Ok(Live { key, text, parts })
     }
 }
 
@@ -127,11 +140,12 @@ impl Lives {
         }
     }
 
-    /// Puts a live upload at this id. After want of memory the uploads are as before.
-    pub fn insert(&mut self, upload: u64, live: Live) -> Result<(), AllocError>
-        ensures ok { OnOk result (self.new ≡ fin.insert self.old upload live) }
+    /// Puts an upload with no parts at this id. After want of memory the uploads are as before.
+    pub fn begin(&mut self, alloc: Global, upload: u64, key: Key) -> Result<(), AllocError>
+        ensures ok { OnOk result (self.new ≡ fin.insert self.old upload (record { key = key; parts = fin.empty })) }
         ensures err { OnErr result (self.new ≡ self.old) }
     {
+        let live = Live::new(alloc, key)?;
         self.held.insert(upload, live)?;
         Ok(())
     }

@@ -13,7 +13,7 @@ ghost use Rattle.multipart.specs.Next.{next_of, shown};
 use crate::fault::UploadFault;
 use crate::part::Part;
 use crate::tables::{Index, Live, Lives, Place};
-use s3_types::{Bytes, Key, MOST_PARTS, PartSizes, Refusal, Reply, Tag};
+use s3_types::{Bytes, Key, MOST_PARTS, PartSizes, Refusal, Reply, Tag, let_go};
 use std::alloc::{AllocError, Global};
 use std::collections::btree_map::Range;
 use std::marker::Model;
@@ -58,9 +58,14 @@ impl Clone for Uploads {
     ghost is_clone = { λ u copy. copy ≡ u };
 
     fn clone(&self) -> Result<Uploads, AllocError> {
+        let lives = self.lives.clone()?;
+        let Ok(index) = self.index.clone() else {
+            let_go(lives);
+            return Err(AllocError);
+        };
         Ok(Uploads {
-            lives: self.lives.clone()?,
-            index: self.index.clone()?,
+            lives,
+            index,
             alloc: self.alloc,
         })
     }
@@ -79,7 +84,10 @@ fn entry_of(key: &Key, upload: u64) -> Result<Indexed, AllocError>
     ensures key { IfOk result (λ entry. entry.key ≡ key.now) }
 {
     let text = key.as_text().clone()?;
-    let key = key.clone()?;
+    let Ok(key) = key.clone() else {
+        let_go(text);
+        return Err(AllocError);
+    };
     Ok(Indexed {
         place: Place { text, upload },
         key,
@@ -105,9 +113,14 @@ impl Uploads {
         ensures ok { OnOk result (self.new ≡ fin.insert self.old upload (record { key = key; parts = fin.empty })) }
         ensures err { OnErr result (self.new ≡ self.old) }
     {
-        let indexed = entry_of(&key, upload)?;
-        let live = Live::new(self.alloc, key)?;
-        self.lives.insert(upload, live)?;
+        let Ok(indexed) = entry_of(&key, upload) else {
+            let_go(key);
+            return Err(AllocError);
+        };
+        let Ok(()) = self.lives.begin(self.alloc, upload, key) else {
+            let_go(indexed);
+            return Err(AllocError);
+        };
         let Err(_) = self.index.insert(indexed.place, indexed.key) else {
             return Ok(());
         };

@@ -1,7 +1,9 @@
 -- What a quick look makes of a text may be a record.
-use Rattle.std.proofs.Common.{◌≡◌, true, List, [], ◌∷◌, ◌++◌, length, leb, Some, refl, subst, ◌∙◌, ℕ}
-use Rattle.pending_json.specs.Prelude.{AllByRecursion, list_all, Spelled, is_plain_tag, is_count, is_tag_text, tag_of, are_tags}
-use Rattle.proof_base.proofs.Common.{list_all-append, cond_some}
+use Rattle.std.proofs.Common.{◌≡◌, true, List, [], ◌∷◌, ◌++◌, length, leb, Some, IfSome, IfOk, Result, Ok, Err, refl, ap, subst, ◌∙◌, ℕ, arith}
+use Rattle.std.specs.Prelude.{bytes_eq}
+use Rattle.std.specs.Result.{result_ok}
+use Rattle.pending_json.specs.Prelude.{AllByRecursion, list_all, list_any, is_utf8, Spelled, is_plain_tag, is_count, is_tag_text, tag_of, are_tags}
+use Rattle.proof_base.proofs.Common.{list_all-append, cond_some, bytes_eq-Decides}
 use Rattle.pending_json.proofs.Values.{counted}
 
 -- one more of which P holds
@@ -19,3 +21,16 @@ plain_more ts t h p = list_all-append is_plain_tag ts (t ∷ []) ∙ rw (h, p) r
 -- 1 to 10,000 such tags
 pub tags_are : (ts : List Spelled) → is_count ts ≡ true → list_all is_plain_tag ts ≡ true → are_tags ts ≡ true
 tags_are ts h p = counted (leb 1 (length ts)) (leb (length ts) 10000) _ h p
+
+-- a copy of a text is one
+pub copied_text : {E : Type 0} (copy : Result (List ℕ) E) (text : List ℕ) → IfOk copy (λ x. x ≡ text) → is_utf8 text ≡ true → IfSome (result_ok copy) (λ x. is_utf8 x ≡ true)
+copied_text (Ok x) text same h = ap is_utf8 same ∙ h
+copied_text (Err fault) text same h = tt
+
+same_either_way : (xs ys : List ℕ) → bytes_eq xs ys ≡ bytes_eq ys xs
+same_either_way xs ys = grind (arith, bytes_eq-Decides xs ys, bytes_eq-Decides ys xs)
+
+-- one of these names
+pub among : (names : List (List ℕ)) (name : List ℕ) → list_any (λ known. bytes_eq known name) names ≡ list_any (bytes_eq name) names
+among [] name = refl
+among (known ∷ names) name = rw (same_either_way known name, among names name) refl

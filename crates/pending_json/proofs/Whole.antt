@@ -1,9 +1,10 @@
 -- A record that is read in groups of fields is what reading it whole gives.
 use Rattle.std.proofs.Common.{◌≡◌, length, Result, Ok, Err, codes, refl, ◌∙◌}
-use Rattle.pending_json.specs.Prelude.{◌>>=◌, Data, as_str, as_array, field, as_whole, as_u32, as_word, as_bucket, as_key, as_tags, sizes_in, members_in}
-use Rattle.pending_json.specs.Fields.{version_in, is_sized}
-use Rattle.pending_json.specs.Groups.{target_in, parts_in, numbers_in, pending_by, attempt_in, commits_in, task_in, set_by}
-use Rattle.pending_json.specs.Reading.{pending_in, pendings_in, set_in}
+use Rattle.pending_json.specs.Prelude.{◌>>=◌, Data, as_str, as_array, field, as_whole, as_u32, as_word, as_bucket, as_key, as_committer, as_texts, as_tags, sizes_in, members_in}
+use Rattle.serde_json.specs.Find.{get}
+use Rattle.pending_json.specs.Fields.{version_in, is_sized, of_kind_if}
+use Rattle.pending_json.specs.Groups.{target_in, parts_in, numbers_in, pending_by, attempt_in, commits_in, set_end_in, set_by, mark_end_in, success_by}
+use Rattle.pending_json.specs.Reading.{pending_in, pendings_in, set_in, success_in}
 
 -- what follows a group follows its last step
 regrouped : {F A B C : Type 0} (r : Result A F) (f : A → Result B F) (g : B → Result C F) → ((r >>= f) >>= g) ≡ (r >>= λ x. f x >>= g)
@@ -38,9 +39,22 @@ pending_whole d = behind (members_in d) _ _ (λ members. behind (is_sized d) _ _
     ∙ behind (field as_tags (codes "etags") d) _ _ (λ tags. behind (field (as_word (codes "pending")) (codes "kind") d) _ _ (λ kind. behind (field as_whole (codes "length") d) _ _ (λ total. behind (sizes_in sized (length tags) total d) _ _ (λ sizes.
     three (field as_u32 (codes "task") d) (field as_whole (codes "upload") d) _ _ _)))))))))
 
+-- four steps and what follows them
+steps : {F A B C D T U : Type 0} (a : Result A F) (b : Result B F) (c : Result C F) (d : Result D F) (make : A → C → T) (k : T → Result U F)
+    → ((a >>= λ x. b >>= λ y. c >>= λ z. d >>= λ w. Ok (make x z)) >>= k) ≡ (a >>= λ x. b >>= λ y. c >>= λ z. d >>= λ w. k (make x z))
+steps (Ok x) (Ok y) (Ok z) d make k = regrouped d (λ w. Ok (make x z)) k
+steps (Ok x) (Ok y) (Err fault) d make k = refl
+steps (Ok x) (Err fault) c d make k = refl
+steps (Err fault) b c d make k = refl
+
 pub set_whole : (d : Data) → set_by d ≡ set_in d
-unfolding set_by set_in attempt_in commits_in task_in
+unfolding set_by set_in attempt_in commits_in set_end_in
 set_whole d = behind (members_in d) _ _ (λ members.
     regrouped (version_in d) _ _ ∙ behind (version_in d) _ _ (λ version. behind (field as_u32 (codes "attempt") d) _ _ (λ attempt.
-    regrouped (field as_array (codes "commits") d) _ _ ∙ behind (field as_array (codes "commits") d) _ _ (λ items. behind (pendings_in items) _ _ (λ commits. behind (field as_str (codes "job") d) _ _ (λ job.
-    three (field (as_word (codes "pendingset")) (codes "kind") d) (field as_u32 (codes "task") d) _ _ _))))))
+    regrouped (field as_array (codes "commits") d) _ _ ∙ behind (field as_array (codes "commits") d) _ _ (λ items. behind (pendings_in items) _ _ (λ commits.
+    steps (field as_str (codes "job") d) (field (as_word (codes "pendingset")) (codes "kind") d) (field as_u32 (codes "task") d) _ (λ job task. (job, task)) _)))))
+
+pub success_whole : (d : Data) → success_by d ≡ success_in d
+unfolding success_by success_in mark_end_in
+success_whole d = behind (members_in d) _ _ (λ members. behind (version_in d) _ _ (λ version. behind (field as_committer (codes "committer") d) _ _ (λ committer. behind (field as_texts (codes "files") d) _ _ (λ files.
+    steps (field as_str (codes "job") d) (field (as_word (codes "success")) (codes "kind") d) (of_kind_if as_whole (codes "stamp") (get (codes "stamp") d)) _ (λ job stamp. (job, stamp)) _))))

@@ -1,16 +1,17 @@
 -- Reading a record in groups of fields, as the code does: each group ends at its first fault. What `Reading` says of the whole record is the same.
-use Rattle.std.specs.Prelude.{ℕ, Bool, List, length, Result, Ok, codes}
+use Rattle.std.specs.Prelude.{ℕ, Bool, List, length, Option, Result, Ok, codes}
 use Rattle.s3_types.specs.Prelude.{◌>>=◌}
 use Rattle.serde_json.specs.Data.{Data, Members}
-use Rattle.serde_json.specs.Find.{as_str, as_array}
+use Rattle.serde_json.specs.Find.{get, as_str, as_array}
 use Rattle.pending_json.specs.declared.fault.RecordFault.{RecordFault}
 use Rattle.pending_json.specs.declared.groups.Target.{Target}
 use Rattle.pending_json.specs.declared.groups.Parts.{Parts}
 use Rattle.pending_json.specs.declared.groups.Numbers.{Numbers}
 use Rattle.pending_json.specs.declared.table.Table.TheVariants as tables
 use Rattle.pending_json.specs.declared.records.PendingSet.{PendingSet}
+use Rattle.pending_json.specs.declared.records.SuccessMark.{SuccessMark}
 use Rattle.pending_json.specs.Pending.{Pending}
-use Rattle.pending_json.specs.Fields.{field, as_whole, as_u32, as_word, as_bucket, as_key, as_tags, sizes_in, members_in, version_in, is_sized, only_fields}
+use Rattle.pending_json.specs.Fields.{field, of_kind_if, as_whole, as_u32, as_word, as_bucket, as_key, as_committer, as_texts, as_tags, sizes_in, members_in, version_in, is_sized, only_fields}
 use Rattle.pending_json.specs.Reading.{is_field_of, pending_table, pendings_in}
 
 -- whose a pending upload is, and where its file will be
@@ -60,13 +61,14 @@ commits_in d = do
   items ← field as_array (codes "commits") d
   pendings_in items
 
--- a set's task, where it is a set and has no other fields
-unfoldable pub task_in : Members → Data → Result ℕ RecordFault
-task_in members d = do
+-- a set's job and its task, where it is a set and has no other fields
+unfoldable pub set_end_in : Members → Data → Result (List ℕ × ℕ) RecordFault
+set_end_in members d = do
+  job ← field as_str (codes "job") d
   kind ← field (as_word (codes "pendingset")) (codes "kind") d
   task ← field as_u32 (codes "task") d
   others ← only_fields (is_field_of tables.Set) members
-  Ok task
+  Ok (job, task)
 
 -- a task's set of pending uploads
 unfoldable pub set_by : Data → Result PendingSet RecordFault
@@ -74,6 +76,24 @@ set_by d = do
   members ← members_in d
   attempt ← attempt_in d
   commits ← commits_in d
+  end ← set_end_in members d
+  Ok (record { job = end.0; task = end.1; attempt = attempt; commits = commits })
+
+-- a marker's job and its stamp, where it is a marker and has no other fields
+unfoldable pub mark_end_in : Members → Data → Result (List ℕ × Option ℕ) RecordFault
+mark_end_in members d = do
   job ← field as_str (codes "job") d
-  task ← task_in members d
-  Ok (record { job = job; task = task; attempt = attempt; commits = commits })
+  kind ← field (as_word (codes "success")) (codes "kind") d
+  stamp ← of_kind_if as_whole (codes "stamp") (get (codes "stamp") d)
+  others ← only_fields (is_field_of tables.Success) members
+  Ok (job, stamp)
+
+-- the marker of a committed job
+unfoldable pub success_by : Data → Result SuccessMark RecordFault
+success_by d = do
+  members ← members_in d
+  version ← version_in d
+  committer ← field as_committer (codes "committer") d
+  files ← field as_texts (codes "files") d
+  end ← mark_end_in members d
+  Ok (record { job = end.0; committer = committer; files = files; stamp = end.1 })

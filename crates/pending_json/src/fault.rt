@@ -13,36 +13,45 @@ use thiserror::Error;
 #[derive(Drop, Error)]
 pub enum RecordFault {
     /// The bytes are no JSON text (RFC 8259), or one that nests deeper than 127.
-    #[error("the bytes are not JSON")]
     NotJson,
     /// A field of this name is wanted and absent.
-    #[error("no field '{}'", .0.as_str())]
     MissingField(Text),
     /// The field of this name has a value that is not of its kind or out of its range; with no name, the
     /// value that should be the record is not an object.
-    #[error("a wrong value of '{}'", .0.as_str())]
     WrongKind(Text),
     /// The record has this version, which no such record has.
-    #[error("version {0} is unknown")]
     WrongVersion(u64),
     /// No such record has a field of this name, the least of these by its bytes.
-    #[error("an unknown field '{}'", .0.as_str())]
     ExtraField(Text),
     /// Memory ran out.
-    #[error("no memory")]
     NoMemory,
+}
+
+impl fmt::Display for RecordFault {
+    fn fmt<W: fmt::Write>(&self, f: &mut fmt::Formatter<W>) -> fmt::Result {
+        let (what, name) = match self {
+            RecordFault::NotJson => return f.write_str("the bytes are not JSON"),
+            RecordFault::MissingField(name) => ("no field", name),
+            RecordFault::WrongKind(name) => ("a wrong value of", name),
+            RecordFault::WrongVersion(version) => return write!(f, "version {version} is unknown"),
+            RecordFault::ExtraField(name) => ("an unknown field", name),
+            RecordFault::NoMemory => return f.write_str("no memory"),
+        };
+        write!(f, "{what} '{}'", name.as_str())
+    }
 }
 
 impl fmt::Debug for RecordFault {
     fn fmt<W: fmt::Write>(&self, f: &mut fmt::Formatter<W>) -> fmt::Result {
-        match self {
-            RecordFault::NotJson => f.write_str("NotJson"),
-            RecordFault::MissingField(name) => write!(f, "MissingField({:?})", name.as_str()),
-            RecordFault::WrongKind(name) => write!(f, "WrongKind({:?})", name.as_str()),
-            RecordFault::WrongVersion(version) => write!(f, "WrongVersion({version})"),
-            RecordFault::ExtraField(name) => write!(f, "ExtraField({:?})", name.as_str()),
-            RecordFault::NoMemory => f.write_str("NoMemory"),
-        }
+        let (kind, name) = match self {
+            RecordFault::NotJson => return f.write_str("NotJson"),
+            RecordFault::MissingField(name) => ("MissingField", name),
+            RecordFault::WrongKind(name) => ("WrongKind", name),
+            RecordFault::WrongVersion(version) => return write!(f, "WrongVersion({version})"),
+            RecordFault::ExtraField(name) => ("ExtraField", name),
+            RecordFault::NoMemory => return f.write_str("NoMemory"),
+        };
+        write!(f, "{kind}({:?})", name.as_str())
     }
 }
 

@@ -5,7 +5,7 @@ ghost use Rattle.pending_json.specs.Fault.{Gives, GivesBy};
 ghost use Rattle.pending_json.specs.Fields.{present, field, of_kind, of_kind_if, as_whole, as_u32, as_word, as_bucket, as_key, version_in, is_sized, members_in};
 
 use crate::fault::{RecordFault, missing, wrong_kind};
-use s3_types::{Bucket, Key, NameFault, Text};
+use s3_types::{Bucket, Key, NameFault};
 use serde_json::{Map, Value};
 use std::alloc::Global;
 
@@ -68,14 +68,6 @@ pub fn str_field<'v>(alloc: Global, value: &'v Value, name: &str) -> Result<&'v 
         Some(text) => Ok(text),
         None => Err(wrong_kind(alloc, name)),
     }
-}
-
-/// A text.
-pub fn text_field(alloc: Global, value: &Value, name: &str) -> Result<Text, RecordFault>
-    ensures { Gives result (field as_str name.now (view value.now)) }
-{
-    let text = str_field(alloc, value, name)?;
-    Ok(Text::copied(alloc, text)?)
 }
 
 /// A certain text.

@@ -3,15 +3,18 @@
 ghost use Rattle.std.specs.Prelude.{◌≡◌, IfOk, true};
 ghost use Rattle.serde_json.specs.View.{view, members_view};
 ghost use Rattle.pending_json.specs.Fault.{Gives};
-ghost use Rattle.pending_json.specs.Groups.{target_in, parts_in, numbers_in, attempt_in, task_in};
+ghost use Rattle.pending_json.specs.Groups.{target_in, parts_in, numbers_in, attempt_in, set_end_in};
 ghost use Rattle.pending_json.specs.Pending.{are_tags, are_sizes};
 
 use crate::fault::RecordFault;
-use crate::fields::{bucket_field, key_field, u32_field, version_field, whole_field, word_field};
+use crate::fields::{
+    bucket_field, key_field, str_field, u32_field, version_field, whole_field, word_field,
+};
+use crate::pending::PendingUpload;
 use crate::sizes::sizes_field;
 use crate::table::{Table, no_others, pending_table};
 use crate::tags::tags_field;
-use s3_types::{Bucket, Key, SizeList, TagList};
+use s3_types::{Bucket, Key, SizeList, TagList, Text, let_go};
 use serde_json::{Map, Value};
 use std::alloc::Global;
 
@@ -38,6 +41,33 @@ pub struct Numbers {
     pub upload: u64,
 }
 
+/// A pending upload of these groups.
+pub fn joined(target: Target, parts: Parts, numbers: Numbers) -> PendingUpload
+    requires tags { are_tags parts.tags ≡ true }
+    requires sizes { are_sizes parts.sizes parts.tags parts.length ≡ true }
+    ensures { result ≡ record {
+      task = numbers.task;
+      attempt = target.attempt;
+      bucket = target.bucket;
+      destination = target.destination;
+      upload = numbers.upload;
+      length = parts.length;
+      tags = parts.tags;
+      sizes = parts.sizes;
+    } }
+{
+    PendingUpload::new(
+        numbers.task,
+        target.attempt,
+        target.bucket,
+        target.destination,
+        numbers.upload,
+        parts.length,
+        parts.tags,
+        parts.sizes,
+    )
+}
+
 /// Whose upload it is and where its file will be, or the first fault of these fields.
 #[tactic(auto, unfolding(crate::specs::Groups::target_in))]
 pub fn target_of(alloc: Global, value: &Value) -> Result<Target, RecordFault>
@@ -45,12 +75,17 @@ pub fn target_of(alloc: Global, value: &Value) -> Result<Target, RecordFault>
 {
     let attempt = u32_field(alloc, value, "attempt")?;
     let bucket = bucket_field(alloc, value, "bucket")?;
-    let destination = key_field(alloc, value, "destination")?;
-    Ok(Target {
-        attempt,
-        bucket,
-        destination,
-    })
+    match key_field(alloc, value, "destination") {
+        Ok(destination) => Ok(Target {
+            attempt,
+            bucket,
+            destination,
+        }),
+        Err(fault) => {
+            let_go(bucket);
+            Err(fault)
+        }
+    }
 }
 
 /// The tags and, where `sized`, the sizes of the parts, or the first fault of these fields.
@@ -96,17 +131,18 @@ pub fn attempt_of(alloc: Global, value: &Value) -> Result<u32, RecordFault>
     u32_field(alloc, value, "attempt")
 }
 
-/// The task of a set that has no other fields.
-#[tactic(auto, unfolding(crate::specs::Groups::task_in))]
-pub fn task_of(
+/// The job and the task of a set that has no other fields.
+#[tactic(auto, unfolding(crate::specs::Groups::set_end_in))]
+pub fn set_end_of(
     alloc: Global,
     value: &Value,
     members: &Map<String, Value>,
-) -> Result<u32, RecordFault>
-    ensures { Gives result (task_in (members_view members.now.entries) (view value.now)) }
+) -> Result<(Text, u32), RecordFault>
+    ensures { Gives result (set_end_in (members_view members.now.entries) (view value.now)) }
 {
+    let job = str_field(alloc, value, "job")?;
     word_field(alloc, value, "kind", "pendingset")?;
     let number = u32_field(alloc, value, "task")?;
     no_others(alloc, members, Table::Set)?;
-    Ok(number)
+    Ok((Text::copied(alloc, job)?, number))
 }

@@ -9,10 +9,11 @@ ghost use Rattle.pending_json.specs.Trees.{pending_tree};
 
 use crate::fault::RecordFault;
 use crate::fields::{is_sized, members_of};
-use crate::groups::{numbers_of, parts_of, target_of};
+use crate::groups::{joined, numbers_of, parts_of, target_of};
 use crate::parsing::tree;
 use crate::pending::PendingUpload;
-use crate::quick::{Miss, printed_upload};
+use crate::quick::printed_upload;
+use s3_types::let_go;
 use serde_json::Value;
 use std::alloc::Global;
 
@@ -23,18 +24,21 @@ fn pending_by(alloc: Global, value: &Value) -> Result<PendingUpload, RecordFault
     let members = members_of(alloc, value)?;
     let sized = is_sized(alloc, value)?;
     let target = target_of(alloc, value)?;
-    let parts = parts_of(alloc, value, sized)?;
-    let numbers = numbers_of(alloc, value, sized, members)?;
-    Ok(PendingUpload::new(
-        numbers.task,
-        target.attempt,
-        target.bucket,
-        target.destination,
-        numbers.upload,
-        parts.length,
-        parts.tags,
-        parts.sizes,
-    ))
+    let parts = match parts_of(alloc, value, sized) {
+        Ok(parts) => parts,
+        Err(fault) => {
+            let_go(target);
+            return Err(fault);
+        }
+    };
+    match numbers_of(alloc, value, sized, members) {
+        Ok(numbers) => Ok(joined(target, parts, numbers)),
+        Err(fault) => {
+            let_go(target);
+            let_go(parts);
+            Err(fault)
+        }
+    }
 }
 
 /// The pending upload that a value spells, or its first fault.
@@ -57,9 +61,8 @@ fn pending_of(alloc: Global, bytes: &[u8]) -> Result<PendingUpload, RecordFault>
     ensures { Gives result (pending_of bytes.now) }
 {
     match printed_upload(alloc, bytes) {
-        Ok(upload) => Ok(upload),
-        Err(Miss::NoMemory) => Err(RecordFault::NoMemory),
-        Err(Miss::Unlike) => pending_by_tree(alloc, bytes),
+        Some(upload) => Ok(upload),
+        None => pending_by_tree(alloc, bytes),
     }
 }
 

@@ -1,4 +1,4 @@
-ghost use Rattle.std.specs.Prelude.{◌≡◌, Some, [], IfOk};
+ghost use Rattle.std.specs.Prelude.{◌≡◌, true, Some, [], IfOk};
 ghost use Rattle.serde.specs.Event.{Log};
 ghost use Rattle.serde_json.specs.Sent.{IsTextOf};
 ghost use Rattle.serde_json.specs.Written.{compact_text};
@@ -9,6 +9,16 @@ use crate::records::{PendingSet, SuccessMark};
 use s3_types::Bytes;
 use serde::Serialize;
 use std::alloc::{AllocError, Global};
+
+/// Whether what a record sends has this text, where there is memory to know it.
+pub fn prints<T: Serialize>(alloc: Global, record: &T, bytes: &[u8]) -> bool
+    ensures { result ≡ true → (log : Log) × T.writes record.now (Some []) log × IsTextOf log bytes.now }
+{
+    match serde_json::to_vec(alloc, record) {
+        Ok(text) => text.as_slice() == bytes,
+        Err(_) => false,
+    }
+}
 
 /// The text of what a record sends, in no more room than it needs, since stores and journals keep it.
 fn written<T: Serialize>(alloc: Global, value: &T) -> Result<Bytes, AllocError>

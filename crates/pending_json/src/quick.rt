@@ -1,6 +1,7 @@
 //! Records that are read quickly where their text is the printed one: a candidate is made of what a quick
-//! look finds, and its own text is compared with the one that is read.
-ghost use Rattle.std.specs.Prelude.{◌≡◌, ◌<◌, length, true, IfOk, IfSome, Ok};
+//! look finds, and its own text is compared with the one that is read. None is found where the text is not
+//! as it is printed, or where memory runs out.
+ghost use Rattle.std.specs.Prelude.{◌≡◌, true, IfSome, Ok};
 ghost use Rattle.std.specs.List.{AllByRecursion, list_all};
 ghost use Rattle.std.specs.Str.{is_utf8};
 ghost use Rattle.s3_types.specs.Names.{is_bucket, is_key};
@@ -9,125 +10,111 @@ ghost use Rattle.pending_json.specs.Pending.{are_tags, are_sizes};
 ghost use Rattle.pending_json.specs.Reading.{pending_of, set_of};
 ghost use Rattle.pending_json.specs.Records.{IsPending, IsSet};
 
-use crate::drafts::{SetEnd, UploadDraft, next_upload, set_end, set_start, upload_draft};
+use crate::drafts::{UploadDraft, set_end, set_start, upload_draft};
+use crate::groups::{Numbers, Parts, Target, joined};
 use crate::pending::PendingUpload;
+use crate::printing::prints;
 use crate::records::{PendingList, PendingSet};
-use crate::scanning::{next_quoted, next_whole};
+use crate::scanning::{between, next_item, number, without_comma};
 use crate::sizes::fit;
 use crate::tags::{is_count, tag_of};
-use s3_types::{Bucket, Key, NameFault, Sequence, SizeList, Tag, TagList, Text};
-use std::alloc::{AllocError, Global};
-
-/// Why a text was not read quickly: it is not as it is printed, or memory ran out.
-#[derive(Clone, Copy)]
-pub enum Miss {
-    Unlike,
-    NoMemory,
-}
-
-impl From<AllocError> for Miss {
-    fn from(_e: AllocError) -> Miss {
-        Miss::NoMemory
-    }
-}
-
-impl From<NameFault> for Miss {
-    fn from(fault: NameFault) -> Miss {
-        match fault {
-            NameFault::BadName => Miss::Unlike,
-            NameFault::NoMemory => Miss::NoMemory,
-        }
-    }
-}
+use s3_types::{Bucket, Key, Sequence, SizeList, TagList, Text, let_go};
+use std::alloc::Global;
 
 /// The bucket of this name, shared with an upload before where that is in it.
-fn bucket(alloc: Global, before: Option<&PendingUpload>, name: &[u8]) -> Result<Bucket, Miss>
-    ensures { IfOk result (λ bucket. is_bucket bucket ≡ true) }
+fn bucket(alloc: Global, before: Option<&PendingUpload>, name: &[u8]) -> Option<Bucket>
+    ensures { IfSome result (λ bucket. is_bucket bucket ≡ true) }
 {
     if let Some(upload) = before {
         let bucket = upload.bucket();
         if bucket.as_bytes() == name {
-            return Ok(bucket.clone()?);
+            return bucket.clone().ok();
         }
     }
-    Ok(Bucket::read(alloc, name)?)
+    Bucket::read(alloc, name).ok()
 }
 
-fn key(alloc: Global, name: &[u8]) -> Result<Key, Miss>
-    ensures { IfOk result (λ key. is_key key ≡ true) }
+/// Where a draft's file will be.
+fn target(alloc: Global, before: Option<&PendingUpload>, draft: &UploadDraft<'_>) -> Option<Target>
+    ensures bucket { IfSome result (λ target. is_bucket target.bucket ≡ true) }
+    ensures destination { IfSome result (λ target. is_key target.destination ≡ true) }
 {
-    Ok(Key::read(alloc, name)?)
-}
-
-fn text(alloc: Global, bytes: &[u8]) -> Result<Text, Miss>
-    ensures { IfOk result (λ text. is_utf8 text ≡ true) }
-{
-    match str::from_utf8(bytes) {
-        Ok(text) => Ok(Text::copied(alloc, text)?),
-        Err(_) => Err(Miss::Unlike),
+    let bucket = bucket(alloc, before, draft.bucket)?;
+    match Key::read(alloc, draft.destination) {
+        Ok(destination) => Some(Target {
+            attempt: draft.attempt,
+            bucket,
+            destination,
+        }),
+        Err(_) => {
+            let_go(bucket);
+            None
+        }
     }
 }
 
-/// The tag of the next item of a list, and what is left behind it.
-fn next_tag(list: &[u8]) -> Option<(Tag, &[u8])>
-    ensures plain { IfSome result (λ r. is_plain_tag r.0 ≡ true) }
-    ensures less { IfSome result (λ r. length r.1.now < length list.now) }
-{
-    let (digits, rest) = next_quoted(list)?;
-    let tag = tag_of(digits)?;
-    Some((tag, rest))
-}
-
-fn plain_tags(alloc: Global, list: &[u8]) -> Result<TagList, Miss>
-    ensures { IfOk result (λ tags. list_all is_plain_tag tags ≡ true) }
+fn plain_tags(alloc: Global, list: &[u8]) -> Option<TagList>
+    ensures { IfSome result (λ tags. list_all is_plain_tag tags ≡ true) }
 {
     let mut tags = Sequence::new(alloc);
     let mut rest = list;
-    while let Some((tag, more)) = next_tag(rest) {
-        tags.push(tag)?;
+    while let Some((item, more)) = next_item(rest) {
+        let (digits, _) = between(item, b"\"", b'"');
+        tags.push(tag_of(digits)?).ok()?;
         rest = more;
     }
-    Ok(tags)
+    Some(tags)
 }
 
-fn tags(alloc: Global, list: &[u8]) -> Result<TagList, Miss>
-    ensures { IfOk result (λ tags. are_tags tags ≡ true) }
+fn tags(alloc: Global, list: &[u8]) -> Option<TagList>
+    ensures { IfSome result (λ tags. are_tags tags ≡ true) }
 {
     let tags = plain_tags(alloc, list)?;
-    if is_count(&tags) {
-        Ok(tags)
-    } else {
-        Err(Miss::Unlike)
-    }
+    if is_count(&tags) { Some(tags) } else { None }
 }
 
-fn wholes(alloc: Global, list: &[u8]) -> Result<SizeList, Miss> {
+fn wholes(alloc: Global, list: &[u8]) -> Option<SizeList> {
     let mut wholes = Sequence::new(alloc);
     let mut rest = list;
-    while let Some((n, more)) = next_whole(rest) {
-        wholes.push(n)?;
+    while let Some((item, more)) = next_item(rest) {
+        wholes.push(number(item)).ok()?;
         rest = more;
     }
-    Ok(wholes)
+    Some(wholes)
 }
 
 /// The lengths of the parts with these tags, where they are told, of a file of this length.
-fn sizes(
-    alloc: Global,
-    list: Option<&[u8]>,
-    tags: &TagList,
-    total: u64,
-) -> Result<Option<SizeList>, Miss>
-    ensures { IfOk result (λ sizes. are_sizes sizes tags.now total ≡ true) }
+fn sizes(alloc: Global, list: &[u8], tags: &TagList, total: u64) -> Option<Option<SizeList>>
+    ensures { IfSome result (λ sizes. are_sizes sizes tags.now total ≡ true) }
 {
-    let Some(list) = list else {
-        return Ok(None);
-    };
+    if list.is_empty() {
+        return Some(None);
+    }
     let sizes = wholes(alloc, list)?;
     if fit(sizes.as_slice(), tags.len(), total) {
-        Ok(Some(sizes))
+        Some(Some(sizes))
     } else {
-        Err(Miss::Unlike)
+        None
+    }
+}
+
+/// What completes a draft's upload.
+fn parts(alloc: Global, draft: &UploadDraft<'_>) -> Option<Parts>
+    ensures tags { IfSome result (λ parts. are_tags parts.tags ≡ true) }
+    ensures fit { IfSome result (λ parts. are_sizes parts.sizes parts.tags parts.length ≡ true) }
+{
+    let tags = tags(alloc, draft.tags)?;
+    let length = draft.length;
+    match sizes(alloc, draft.sizes, &tags, length) {
+        Some(sizes) => Some(Parts {
+            length,
+            tags,
+            sizes,
+        }),
+        None => {
+            let_go(tags);
+            None
+        }
     }
 }
 
@@ -135,92 +122,113 @@ fn sizes(
 fn upload(
     alloc: Global,
     before: Option<&PendingUpload>,
-    draft: UploadDraft<'_>,
-) -> Result<PendingUpload, Miss>
-    ensures { IfOk result (λ upload. IsPending upload) }
+    draft: &UploadDraft<'_>,
+) -> Option<PendingUpload>
+    ensures { IfSome result (λ upload. IsPending upload) }
 {
-    let bucket = bucket(alloc, before, draft.bucket)?;
-    let destination = key(alloc, draft.destination)?;
-    let tags = tags(alloc, draft.tags)?;
-    let sizes = sizes(alloc, draft.sizes, &tags, draft.length)?;
-    Ok(PendingUpload::new(
-        draft.task,
-        draft.attempt,
-        bucket,
-        destination,
-        draft.upload,
-        draft.length,
-        tags,
-        sizes,
-    ))
+    let target = target(alloc, before, draft)?;
+    match parts(alloc, draft) {
+        Some(parts) => {
+            let numbers = Numbers {
+                task: draft.task,
+                upload: draft.upload,
+            };
+            Some(joined(target, parts, numbers))
+        }
+        None => {
+            let_go(target);
+            None
+        }
+    }
 }
 
-/// The pending uploads of a list, and what is left behind them.
-fn uploads<'a>(alloc: Global, list: &'a [u8]) -> Result<(PendingList, &'a [u8]), Miss>
-    ensures { IfOk result (λ r. AllByRecursion IsPending r.0) }
+/// Adds the pending upload that a draft says.
+fn push_upload(alloc: Global, uploads: &mut PendingList, draft: &UploadDraft<'_>) -> Option<()>
+    requires { AllByRecursion IsPending uploads.old }
+    ensures { IfSome result (λ _. AllByRecursion IsPending uploads.new) }
 {
-    let mut uploads = Sequence::new(alloc);
+    let next = upload(alloc, uploads.as_slice().last(), draft)?;
+    uploads.push(next).ok()
+}
+
+/// Adds the pending uploads of a list, and gives what is left behind them.
+fn push_uploads<'a>(alloc: Global, uploads: &mut PendingList, list: &'a [u8]) -> Option<&'a [u8]>
+    requires { AllByRecursion IsPending uploads.old }
+    ensures { IfSome result (λ _. AllByRecursion IsPending uploads.new) }
+{
     let mut rest = list;
-    while let Some((draft, more)) = next_upload(rest) {
-        let next = upload(alloc, uploads.as_slice().last(), draft)?;
-        uploads.push(next)?;
-        rest = more;
+    while rest.starts_with(b"{") {
+        let (draft, more) = upload_draft(rest)?;
+        push_upload(alloc, uploads, &draft)?;
+        rest = without_comma(more);
     }
-    Ok((uploads, rest))
+    Some(rest)
 }
 
-/// The pending upload that a text says to a quick look.
-fn quick_upload(alloc: Global, bytes: &[u8]) -> Result<PendingUpload, Miss>
-    ensures { IfOk result (λ upload. IsPending upload) }
+fn text(alloc: Global, bytes: &[u8]) -> Option<Text>
+    ensures { IfSome result (λ text. is_utf8 text ≡ true) }
 {
-    match upload_draft(bytes) {
-        Some((draft, _)) => upload(alloc, None, draft),
-        None => Err(Miss::Unlike),
+    match str::from_utf8(bytes) {
+        Ok(text) => Text::copied(alloc, text).ok(),
+        Err(_) => None,
     }
+}
+
+/// The job and the task of a set, whose uploads are added.
+fn set_rest(alloc: Global, uploads: &mut PendingList, list: &[u8]) -> Option<(Text, u32)>
+    requires { AllByRecursion IsPending uploads.old }
+    ensures uploads { IfSome result (λ _. AllByRecursion IsPending uploads.new) }
+    ensures job { IfSome result (λ r. is_utf8 r.0 ≡ true) }
+{
+    let rest = push_uploads(alloc, uploads, list)?;
+    let end = set_end(rest);
+    let job = text(alloc, end.job)?;
+    Some((job, end.task))
 }
 
 /// The set that a text says to a quick look.
-fn quick_set(alloc: Global, bytes: &[u8]) -> Result<PendingSet, Miss>
-    ensures { IfOk result (λ set. IsSet set) }
+fn quick_set(alloc: Global, bytes: &[u8]) -> Option<PendingSet>
+    ensures { IfSome result (λ set. IsSet set) }
 {
-    let Some((attempt, list)) = set_start(bytes) else {
-        return Err(Miss::Unlike);
-    };
-    let (commits, rest) = uploads(alloc, list)?;
-    let Some(SetEnd { job, task }) = set_end(rest) else {
-        return Err(Miss::Unlike);
-    };
-    let job = text(alloc, job)?;
-    Ok(PendingSet {
-        job,
-        task,
-        attempt,
-        commits,
-    })
+    let (attempt, list) = set_start(bytes)?;
+    let mut commits = Sequence::new(alloc);
+    match set_rest(alloc, &mut commits, list) {
+        Some((job, task)) => Some(PendingSet {
+            job,
+            task,
+            attempt,
+            commits,
+        }),
+        None => {
+            let_go(commits);
+            None
+        }
+    }
 }
 
 /// The pending upload whose printed text this is.
-pub fn printed_upload(alloc: Global, bytes: &[u8]) -> Result<PendingUpload, Miss>
-    ensures { IfOk result (λ upload. pending_of bytes.now ≡ Ok upload) }
+pub fn printed_upload(alloc: Global, bytes: &[u8]) -> Option<PendingUpload>
+    ensures { IfSome result (λ upload. pending_of bytes.now ≡ Ok upload) }
 {
-    let upload = quick_upload(alloc, bytes)?;
-    let text = upload.print(alloc)?;
-    if text.as_slice() == bytes {
-        Ok(upload)
+    let (draft, _) = upload_draft(bytes)?;
+    let upload = upload(alloc, None, &draft)?;
+    if prints(alloc, &upload, bytes) {
+        Some(upload)
     } else {
-        Err(Miss::Unlike)
+        let_go(upload);
+        None
     }
 }
 
 /// The set whose printed text this is.
-pub fn printed_set(alloc: Global, bytes: &[u8]) -> Result<PendingSet, Miss>
-    ensures { IfOk result (λ set. set_of bytes.now ≡ Ok set) }
+pub fn printed_set(alloc: Global, bytes: &[u8]) -> Option<PendingSet>
+    ensures { IfSome result (λ set. set_of bytes.now ≡ Ok set) }
 {
     let set = quick_set(alloc, bytes)?;
-    let text = set.print(alloc)?;
-    if text.as_slice() == bytes {
-        Ok(set)
+    if prints(alloc, &set, bytes) {
+        Some(set)
     } else {
-        Err(Miss::Unlike)
+        let_go(set);
+        None
     }
 }

@@ -3,18 +3,18 @@ ghost use Rattle.serde_json.specs.View.{view, items_view};
 ghost use Rattle.pending_json.specs.declared.records.PendingSet.{PendingSet};
 ghost use Rattle.pending_json.specs.Fault.{Gives};
 ghost use Rattle.pending_json.specs.Groups.{commits_in, set_by};
-ghost use Rattle.pending_json.specs.Reading.{pendings_in, set_in, set_of};
+ghost use Rattle.pending_json.specs.Reading.{pendings_in, set_of};
 ghost use Rattle.pending_json.specs.Records.{IsSet, Spell};
 ghost use Rattle.pending_json.specs.Trees.{set_tree};
 
 use crate::fault::RecordFault;
-use crate::fields::{list_field, members_of, text_field};
-use crate::groups::{attempt_of, task_of};
+use crate::fields::{list_field, members_of};
+use crate::groups::{attempt_of, set_end_of};
 use crate::parsing::tree;
 use crate::pending_reading::pending_in;
-use crate::quick::{Miss, printed_set};
+use crate::quick::printed_set;
 use crate::records::{PendingList, PendingSet};
-use s3_types::Sequence;
+use s3_types::{Sequence, let_go};
 use serde_json::Value;
 use std::alloc::Global;
 
@@ -46,28 +46,26 @@ fn set_by(alloc: Global, value: &Value) -> Result<PendingSet, RecordFault>
     let members = members_of(alloc, value)?;
     let attempt = attempt_of(alloc, value)?;
     let commits = commits_of(alloc, value)?;
-    let job = text_field(alloc, value, "job")?;
-    let task = task_of(alloc, value, members)?;
-    Ok(PendingSet {
-        job,
-        task,
-        attempt,
-        commits,
-    })
+    match set_end_of(alloc, value, members) {
+        Ok((job, task)) => Ok(PendingSet {
+            job,
+            task,
+            attempt,
+            commits,
+        }),
+        Err(fault) => {
+            let_go(commits);
+            Err(fault)
+        }
+    }
 }
 
-fn set_in(alloc: Global, value: &Value) -> Result<PendingSet, RecordFault>
-    ensures { Gives result (set_in (view value.now)) }
-{
-    set_by(alloc, value)
-}
-
-#[tactic(auto, unfolding(crate::specs::Reading::set_of))]
+#[tactic(auto, using(crate::proofs::Whole::set_whole), unfolding(crate::specs::Reading::set_of))]
 fn set_by_tree(alloc: Global, bytes: &[u8]) -> Result<PendingSet, RecordFault>
     ensures { Gives result (set_of bytes.now) }
 {
     let value = tree(alloc, bytes)?;
-    set_in(alloc, &value)
+    set_by(alloc, &value)
 }
 
 /// A task's set, quickly where its text is the printed one, and else by its tree.
@@ -75,9 +73,8 @@ fn set_of(alloc: Global, bytes: &[u8]) -> Result<PendingSet, RecordFault>
     ensures { Gives result (set_of bytes.now) }
 {
     match printed_set(alloc, bytes) {
-        Ok(set) => Ok(set),
-        Err(Miss::NoMemory) => Err(RecordFault::NoMemory),
-        Err(Miss::Unlike) => set_by_tree(alloc, bytes),
+        Some(set) => Ok(set),
+        None => set_by_tree(alloc, bytes),
     }
 }
 

@@ -1,21 +1,22 @@
 ghost use Rattle.std.specs.Prelude.{◌≡◌, IfOk, Ok, codes};
-ghost use Rattle.serde_json.specs.View.{view};
+ghost use Rattle.serde_json.specs.View.{view, members_view};
 ghost use Rattle.serde_json.specs.Find.{get};
 ghost use Rattle.pending_json.specs.declared.records.SuccessMark.{SuccessMark};
 ghost use Rattle.pending_json.specs.Fault.{Gives};
 ghost use Rattle.pending_json.specs.Fields.{field, of_kind_if, as_whole, as_committer, committer_of};
-ghost use Rattle.pending_json.specs.Reading.{success_in, success_of};
+ghost use Rattle.pending_json.specs.Groups.{mark_end_in, success_by};
+ghost use Rattle.pending_json.specs.Reading.{success_of};
 ghost use Rattle.pending_json.specs.Records.{Spell};
 ghost use Rattle.pending_json.specs.Trees.{success_tree};
 
 use crate::fault::{RecordFault, wrong_kind};
-use crate::fields::{members_of, str_field, text_field, version_field, word_field};
+use crate::fields::{members_of, str_field, version_field, word_field};
 use crate::parsing::tree;
 use crate::records::SuccessMark;
 use crate::table::{Table, no_others};
 use crate::texts::texts_field;
-use s3_types::Committer;
-use serde_json::Value;
+use s3_types::{Committer, Text, let_go};
+use serde_json::{Map, Value};
 use std::alloc::Global;
 
 fn committer_of(word: &str) -> Option<Committer>
@@ -53,32 +54,50 @@ fn whole_field_if(alloc: Global, value: &Value, name: &str) -> Result<Option<u64
     }
 }
 
-#[tactic(auto, unfolding(crate::specs::Reading::success_in))]
-fn success_in(alloc: Global, value: &Value) -> Result<SuccessMark, RecordFault>
-    ensures { Gives result (success_in (view value.now)) }
+/// The job and the stamp of a marker that has no other fields.
+#[tactic(auto, unfolding(crate::specs::Groups::mark_end_in))]
+fn mark_end_of(
+    alloc: Global,
+    value: &Value,
+    members: &Map<String, Value>,
+) -> Result<(Text, Option<u64>), RecordFault>
+    ensures { Gives result (mark_end_in (members_view members.now.entries) (view value.now)) }
+{
+    let job = str_field(alloc, value, "job")?;
+    word_field(alloc, value, "kind", "success")?;
+    let stamp = whole_field_if(alloc, value, "stamp")?;
+    no_others(alloc, members, Table::Success)?;
+    Ok((Text::copied(alloc, job)?, stamp))
+}
+
+#[tactic(auto, unfolding(crate::specs::Groups::success_by))]
+fn success_by(alloc: Global, value: &Value) -> Result<SuccessMark, RecordFault>
+    ensures { Gives result (success_by (view value.now)) }
 {
     let members = members_of(alloc, value)?;
     version_field(alloc, value)?;
     let committer = committer_field(alloc, value, "committer")?;
     let files = texts_field(alloc, value, "files")?;
-    let job = text_field(alloc, value, "job")?;
-    word_field(alloc, value, "kind", "success")?;
-    let stamp = whole_field_if(alloc, value, "stamp")?;
-    no_others(alloc, members, Table::Success)?;
-    Ok(SuccessMark {
-        job,
-        committer,
-        files,
-        stamp,
-    })
+    match mark_end_of(alloc, value, members) {
+        Ok((job, stamp)) => Ok(SuccessMark {
+            job,
+            committer,
+            files,
+            stamp,
+        }),
+        Err(fault) => {
+            let_go(files);
+            Err(fault)
+        }
+    }
 }
 
-#[tactic(auto, unfolding(crate::specs::Reading::success_of))]
+#[tactic(auto, using(crate::proofs::Whole::success_whole), unfolding(crate::specs::Reading::success_of))]
 fn success_of(alloc: Global, bytes: &[u8]) -> Result<SuccessMark, RecordFault>
     ensures { Gives result (success_of bytes.now) }
 {
     let value = tree(alloc, bytes)?;
-    success_in(alloc, &value)
+    success_by(alloc, &value)
 }
 
 impl SuccessMark {

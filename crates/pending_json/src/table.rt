@@ -18,38 +18,43 @@ pub enum Table {
     Success,
 }
 
-/// Whether a pending upload that does not tell the lengths of its parts has a field of this name.
-fn is_upload_field(name: &str) -> bool
-    ensures { result ≡ is_field_of Table.Pending name.now }
-{
-    matches!(
-        name,
-        "attempt"
-            | "bucket"
-            | "destination"
-            | "etags"
-            | "kind"
-            | "length"
-            | "task"
-            | "upload"
-            | "version"
-    )
-}
+const UPLOAD_FIELDS: [&str; 9] = [
+    "attempt",
+    "bucket",
+    "destination",
+    "etags",
+    "kind",
+    "length",
+    "task",
+    "upload",
+    "version",
+];
+
+const SIZED_UPLOAD_FIELDS: [&str; 10] = [
+    "attempt",
+    "bucket",
+    "destination",
+    "etags",
+    "kind",
+    "length",
+    "sizes",
+    "task",
+    "upload",
+    "version",
+];
+
+const SET_FIELDS: [&str; 6] = ["attempt", "commits", "job", "kind", "task", "version"];
+
+const SUCCESS_FIELDS: [&str; 6] = ["committer", "files", "job", "kind", "stamp", "version"];
 
 fn is_field_of(table: Table, name: &str) -> bool
     ensures { result ≡ is_field_of table name.now }
 {
     match table {
-        Table::Pending => is_upload_field(name),
-        Table::SizedPending => name == "sizes" || is_upload_field(name),
-        Table::Set => matches!(
-            name,
-            "attempt" | "commits" | "job" | "kind" | "task" | "version"
-        ),
-        Table::Success => matches!(
-            name,
-            "committer" | "files" | "job" | "kind" | "stamp" | "version"
-        ),
+        Table::Pending => UPLOAD_FIELDS.contains(&name),
+        Table::SizedPending => SIZED_UPLOAD_FIELDS.contains(&name),
+        Table::Set => SET_FIELDS.contains(&name),
+        Table::Success => SUCCESS_FIELDS.contains(&name),
     }
 }
 

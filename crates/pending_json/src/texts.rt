@@ -1,4 +1,4 @@
-ghost use Rattle.std.specs.Prelude.{◌≡◌, IfOk};
+ghost use Rattle.std.specs.Prelude.{◌≡◌, [], Some, None, IfOk, if◌then◌else◌};
 ghost use Rattle.serde_json.specs.Find.{as_str};
 ghost use Rattle.serde_json.specs.View.{view, items_view};
 ghost use Rattle.pending_json.specs.Fault.{Gives};
@@ -6,21 +6,22 @@ ghost use Rattle.pending_json.specs.Fields.{field, all_of, as_texts};
 
 use crate::fault::{RecordFault, wrong_kind};
 use crate::fields::list_field;
-use s3_types::{Sequence, Text, TextList};
+use s3_types::{Sequence, Text, TextList, let_go};
 use serde_json::Value;
 use std::alloc::{AllocError, Global};
 
-fn texts(alloc: Global, list: &[Value]) -> Result<Option<TextList>, AllocError>
-    ensures { IfOk result (λ found. found ≡ all_of as_str (items_view list.now)) }
+/// Adds the texts of a list, and gives whether all its values are such.
+fn add_texts(alloc: Global, texts: &mut TextList, list: &[Value]) -> Result<bool, AllocError>
+    requires { texts.old ≡ [] }
+    ensures { IfOk result (λ all. all_of as_str (items_view list.now) ≡ if all then Some texts.new else None) }
 {
-    let mut texts = Sequence::new(alloc);
     for value in list {
         let Some(text) = value.as_str() else {
-            return Ok(None);
+            return Ok(false);
         };
         texts.push(Text::copied(alloc, text)?)?;
     }
-    Ok(Some(texts))
+    Ok(true)
 }
 
 /// A list of texts, in any order.
@@ -28,8 +29,12 @@ pub fn texts_field(alloc: Global, value: &Value, name: &str) -> Result<TextList,
     ensures { Gives result (field as_texts name.now (view value.now)) }
 {
     let list = list_field(alloc, value, name)?;
-    match texts(alloc, list)? {
-        Some(texts) => Ok(texts),
-        None => Err(wrong_kind(alloc, name)),
-    }
+    let mut texts = Sequence::new(alloc);
+    let fault = match add_texts(alloc, &mut texts, list) {
+        Ok(true) => return Ok(texts),
+        Ok(false) => wrong_kind(alloc, name),
+        Err(_) => RecordFault::NoMemory,
+    };
+    let_go(texts);
+    Err(fault)
 }

@@ -2,8 +2,8 @@ use Rattle.std.proofs.Common.{◌≡◌, length, true}
 use Rattle.pending_json.specs.Prelude.{list_all, is_plain_tag}
 use Rattle.pending_json.proofs.quick.plain_tags.Given as goal
 
-abbrev pub invariant-loop-tag : goal.invariant-loop-tag
-invariant-loop-tag l = list_all is_plain_tag l.tags ≡ true
+abbrev pub invariant-loop-item : goal.invariant-loop-item
+invariant-loop-item l = list_all is_plain_tag l.tags ≡ true
 
-abbrev pub decreases-loop-tag : goal.decreases-loop-tag
-decreases-loop-tag l = length l.rest
+abbrev pub decreases-loop-item : goal.decreases-loop-item
+decreases-loop-item l = length l.rest

@@ -1,10 +1,11 @@
-use Rattle.std.proofs.Common.{◌≡◌, ◌∙◌, List, ℕ, Ok, subst, sym}
-use Rattle.proof_base.proofs.Common.{bytes_eq-Decides}
+use Rattle.std.proofs.Common.{◌≡◌, List, ℕ, Ok, subst, sym}
 use Rattle.pending_json.specs.Reading.{set_of}
 use Rattle.pending_json.proofs.RoundTrip.{set_text}
+use Rattle.pending_json.proofs.Sent.{set_written}
 use Rattle.pending_json.proofs.quick.printed_set.Goals as goal
 
-pub returns-then-eq : goal.returns-then-eq
-returns-then-eq c =
-    let same : c.in_ok-text.text ≡ c.args.bytes.now = sym c.as_slice.ensures ∙ (bytes_eq-Decides c.as_slice.result.now c.args.bytes.now).0 (sym c.if-eq.ensures) in
-    subst (λ (b : List ℕ). set_of b ≡ Ok c.in_ok-set.set) (sym c.in_ok-text.ensures ∙ same) (set_text c.in_ok-set.set c.in_ok-set.ensures)
+pub returns-then-prints : goal.returns-then-prints
+returns-then-prints c =
+    let s = c.in_ok-set.set in
+    let sent = c.prints.ensures c.if-prints.true in
+    subst (λ (b : List ℕ). set_of b ≡ Ok s) (sym (set_written s sent.0 c.args.bytes.now sent.1 sent.2)) (set_text s c.in_ok-set.ensures)

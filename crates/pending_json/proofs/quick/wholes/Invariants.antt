@@ -1,5 +1,5 @@
 use Rattle.std.proofs.Common.{length}
 use Rattle.pending_json.proofs.quick.wholes.Given as goal
 
-abbrev pub decreases-loop-n : goal.decreases-loop-n
-decreases-loop-n l = length l.rest
+abbrev pub decreases-loop-item : goal.decreases-loop-item
+decreases-loop-item l = length l.rest

@@ -1,7 +1,7 @@
 use Rattle.std.proofs.Common.{◌≡◌, ◌≤◌, ◌++◌, length}
 use Rattle.s3_types.specs.Prelude.{keys_of}
 use Rattle.multipart.specs.Listing.{below, Follows, AreOwn}
-use Rattle.multipart.proofs.list.page_of.Given as goal
+use Rattle.multipart.proofs.list.add_uploads.Given as goal
 
 abbrev pub invariant-loop-place : goal.invariant-loop-place
 invariant-loop-place l = record {

@@ -1,6 +1,6 @@
 use Rattle.std.proofs.Common.{◌≡◌, ◌++◌, drop, option_map}
 use Rattle.pending_json.specs.Prelude.{as_str, items_view, all_of}
-use Rattle.pending_json.proofs.texts.texts.Given as goal
+use Rattle.pending_json.proofs.texts.add_texts.Given as goal
 
 abbrev pub invariant-loop-value : goal.invariant-loop-value
 invariant-loop-value l = option_map (λ ts. l.texts ++ ts) (all_of as_str (items_view (drop l.value-index l.list))) ≡ all_of as_str (items_view l.list)
