@@ -1,18 +1,25 @@
 ghost use Rattle.std.specs.Prelude.{◌≡◌, IfOk};
 ghost use Rattle.cleanup.specs.Places.{behind};
 
-use s3_types::{Sequence, Text, TextList};
+use s3_types::{Sequence, Text, TextList, let_go};
 use std::alloc::{AllocError, Global};
 
 /// The same texts, which are shared.
 pub fn shared_texts(alloc: Global, texts: &[Text]) -> Result<TextList, AllocError>
     ensures { IfOk result (λ copy. copy ≡ texts.now) }
 {
-    let mut copy = Vec::with_capacity(alloc, texts.len())?;
+    let mut copy = Sequence::new(alloc);
     for text in texts {
-        copy.push(text.clone()?)?;
+        let Ok(text) = text.clone() else {
+            let_go(copy);
+            return Err(AllocError);
+        };
+        let Ok(()) = copy.push(text) else {
+            let_go(copy);
+            return Err(AllocError);
+        };
     }
-    Ok(Sequence::from_vec(copy))
+    Ok(copy)
 }
 
 /// The place so many steps on, or the end of so many.

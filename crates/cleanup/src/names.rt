@@ -23,7 +23,14 @@ pub fn records_in(alloc: Global, keys: &[Key]) -> Result<KeyList, AllocError>
     let mut records = KeyList::new(alloc);
     for key in keys {
         if is_record(key) {
-            records.push(key.clone()?)?;
+            let Ok(key) = key.clone() else {
+                let_go(records);
+                return Err(AllocError);
+            };
+            let Ok(()) = records.push(key) else {
+                let_go(records);
+                return Err(AllocError);
+            };
         }
     }
     Ok(records)
@@ -64,8 +71,9 @@ fn add_record(alloc: Global, named: &mut UploadList, bytes: &[u8]) -> Result<(),
 {
     match PendingUpload::read(alloc, bytes) {
         Ok(pending) => {
-            let upload = ref_of(&pending)?;
-            named.push(upload)
+            let upload = ref_of(&pending);
+            let_go(pending);
+            named.push(upload?)
         }
         Err(fault) => pass_over(fault),
     }
@@ -86,7 +94,11 @@ fn add_set(alloc: Global, named: &mut UploadList, bytes: &[u8]) -> Result<(), Al
     ensures { OnOk result (named.new ≡ named.old ++ set_names (set_of bytes.now)) }
 {
     match PendingSet::read(alloc, bytes) {
-        Ok(set) => add_all(named, set.commits.as_slice()),
+        Ok(set) => {
+            let added = add_all(named, set.commits.as_slice());
+            let_go(set);
+            added
+        }
         Err(fault) => pass_over(fault),
     }
 }

@@ -7,7 +7,7 @@ ghost use Rattle.cleanup.specs.Places.{abort_asks, remove_asks, get_asks, get_fi
 use list_walk::{KeyWalk, Sweep, UploadWalk, batch_request, keys_behind};
 use magic_paths::{cluster_prefix, dest_prefix, magic_prefix};
 use path_keys::S3Path;
-use s3_types::{Bucket, Key, Request, Text, UploadRef};
+use s3_types::{Bucket, Key, Request, Text, UploadRef, let_go};
 use std::alloc::{AllocError, Global};
 
 /// The request for the next page of live uploads below a destination.
@@ -20,7 +20,9 @@ pub fn walk_request(
         uploads.now)) }
 {
     let prefix = dest_prefix(alloc, dest)?;
-    match uploads.request(dest.bucket(), &prefix) {
+    let asked = uploads.request(dest.bucket(), &prefix);
+    let_go(prefix);
+    match asked {
         Ok(request) => Ok(Some(request)),
         Err(error) => Err(error),
     }
@@ -48,7 +50,9 @@ pub fn names_request(alloc: Global, job: &Text) -> Result<Option<Request>, Alloc
     ensures { IfOk result (λ request. request ≡ Some (ClusterList (layout.cluster_prefix job.now))) }
 {
     let prefix = cluster_prefix(alloc, job)?;
-    match Request::cluster_list(&prefix) {
+    let asked = Request::cluster_list(&prefix);
+    let_go(prefix);
+    match asked {
         Ok(request) => Ok(Some(request)),
         Err(error) => Err(error),
     }
@@ -78,7 +82,9 @@ pub fn sweep_request(
         (layout.magic_prefix dest.now.key job.now) sweep.now)) }
 {
     let prefix = magic_prefix(alloc, dest, job)?;
-    sweep.ask(alloc, dest.bucket(), &prefix)
+    let asked = sweep.ask(alloc, dest.bucket(), &prefix);
+    let_go(prefix);
+    asked
 }
 
 /// The request for the next page of keys below a job's magic directory.
@@ -92,7 +98,9 @@ pub fn page_request(
         (layout.magic_prefix dest.now.key job.now) (keys_on walk.now))) }
 {
     let prefix = magic_prefix(alloc, dest, job)?;
-    match walk.request(dest.bucket(), &prefix) {
+    let asked = walk.request(dest.bucket(), &prefix);
+    let_go(prefix);
+    match asked {
         Ok(request) => Ok(Some(request)),
         Err(error) => Err(error),
     }

@@ -15,7 +15,7 @@ use crate::requests::{
 };
 use job_model::{CleanEnd, JobPlan};
 use list_walk::KeyWalk;
-use s3_types::{Committer, KeyList, Reply, Request, TextList, UploadList, put};
+use s3_types::{Committer, KeyList, Reply, Request, TextList, UploadList, let_go, put};
 use std::alloc::{AllocError, Global};
 
 /// How many keys a batch has at most. (Amazon S3 API: DeleteObjects.)
@@ -230,7 +230,10 @@ impl Held {
             return Ok(());
         }
         let keys = self.walk.keys(alloc)?;
-        let records = records_in(alloc, keys.as_slice())?;
+        let Ok(records) = records_in(alloc, keys.as_slice()) else {
+            let_go(keys);
+            return Err(AllocError);
+        };
         self.read_records(alloc, committer, keys, records);
         Ok(())
     }

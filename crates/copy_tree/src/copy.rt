@@ -7,7 +7,7 @@ use fs_rename::perform_between;
 use fs_tree::{CopyCount, CopyRefusal};
 use machine::DriveStop;
 use path_keys::S3Path;
-use s3_types::{Actor, Bucket, Journal, ObjectStore};
+use s3_types::{Actor, Bucket, Journal, ObjectStore, both};
 use std::alloc::{AllocError, Global};
 use std::marker::Model;
 
@@ -46,9 +46,8 @@ impl CopyTree {
           target = target.now.key;
         }) }
     {
-        let bucket = source.bucket().clone()?;
-        let to_bucket = target.bucket().clone()?;
-        let names = CopyNames::of(alloc, source, target)?;
+        let buckets = both(source.bucket().clone(), target.bucket().clone());
+        let ((bucket, to_bucket), names) = both(buckets, CopyNames::of(alloc, source, target))?;
         Ok(CopyTree {
             bucket,
             to_bucket,

@@ -1,12 +1,13 @@
 ghost use Rattle.std.specs.Prelude.{◌≡◌, ◌++◌, IfOk, OnOk};
 ghost use Rattle.std.specs.Option.{option_copied};
+ghost use Rattle.fs_ops.specs.Prelude.{key_if, keys_above};
 ghost use Rattle.fs_rename.specs.Keys.{place_of};
 ghost use Rattle.copy_tree.specs.code.Copy.{one_of};
 
 use fs_ops::{Place, keys_above};
 use fs_rename::Base;
 use path_keys::S3Path;
-use s3_types::{Key, KeyList};
+use s3_types::{Key, KeyList, both, let_go};
 use std::alloc::{AllocError, Global};
 use std::marker::Model;
 
@@ -46,6 +47,18 @@ fn add_key(keys: &mut KeyList, key: Option<&Key>) -> Result<(), AllocError>
     }
 }
 
+/// The keys of the paths above a target and its own.
+fn climb_to(alloc: Global, target: &S3Path, place: &Place) -> Result<KeyList, AllocError>
+    ensures { IfOk result (λ keys. keys ≡ keys_above target.now.key ++ one_of (key_if place.now)) }
+{
+    let mut keys = keys_above(alloc, target.key().as_str())?;
+    let Ok(()) = add_key(&mut keys, place.key()) else {
+        let_go(keys);
+        return Err(AllocError);
+    };
+    Ok(keys)
+}
+
 impl CopyNames {
     pub(crate) fn of(
         alloc: Global,
@@ -54,11 +67,15 @@ impl CopyNames {
     ) -> Result<CopyNames, AllocError>
         ensures { IfOk result (λ names. names ≡ record { source = source.now.key; target = target.now.key }) }
     {
-        let from = Place::of(alloc, source)?;
-        let place = Place::of(alloc, target)?;
-        let mut above = keys_above(alloc, target.key().as_str())?;
-        add_key(&mut above, place.key())?;
-        let to = Base::of_target(alloc, source, target)?;
+        let places = both(Place::of(alloc, source), Place::of(alloc, target))?;
+        let Ok((above, to)) = both(
+            climb_to(alloc, target, &places.1),
+            Base::of_target(alloc, source, target),
+        ) else {
+            let_go(places);
+            return Err(AllocError);
+        };
+        let (from, place) = places;
         let overlap = place.prefix().starts_with(from.prefix())
             || from.prefix().starts_with(place.prefix());
         Ok(CopyNames {

@@ -1,6 +1,7 @@
 ghost use Rattle.std.specs.Prelude.{◌≡◌, IfOk, Err, drop};
 ghost use Rattle.bucket_ops.specs.Asks.{request_of};
-ghost use Rattle.fs_tree.specs.declared.copy.CopyRefusal.TheVariants.{NoSuchBucket};
+ghost use Rattle.fs_tree.specs.declared.copy.CopyRefusal.TheVariants.{NoSuchBucket, TooLong};
+ghost use Rattle.operations.specs.declared.plan.Step.TheVariants.{End};
 ghost use Rattle.bucket_ops.specs.Walking.{fits};
 ghost use Rattle.copy_tree.specs.code.Copy as copy;
 ghost use Rattle.fs_rename.specs.Keys.{place_of};
@@ -15,7 +16,9 @@ use fs_rename::{CopyStep, Copying};
 use fs_tree::{CopyCount, CopyRefusal};
 use list_walk::{KeyWalk, keys_behind};
 use operations::Step;
-use s3_types::{Bucket, Bytes, Key, KeyList, LengthHeader, PageEntry, Reply, Request, copied_keys};
+use s3_types::{
+    Bucket, Bytes, Key, KeyList, LengthHeader, PageEntry, Reply, Request, both, copied_keys, let_go,
+};
 use std::alloc::{AllocError, Global};
 
 /// The keys of a source and their new keys: those whose new key stands, and those whose new key is absent.
@@ -135,15 +138,20 @@ fn parts_of(
 ) -> Result<Parts, AllocError>
     ensures { IfOk result (λ parts. parts ≡ copy.parts_of keys.now places.now entries.now) }
 {
-    let stood = chosen(alloc, true, keys, places, entries)?;
-    let stood_at = chosen(alloc, true, places, places, entries)?;
-    let absent = chosen(alloc, false, keys, places, entries)?;
-    let absent_at = chosen(alloc, false, places, places, entries)?;
+    let standing = both(
+        chosen(alloc, true, keys, places, entries),
+        chosen(alloc, true, places, places, entries),
+    );
+    let absent = both(
+        chosen(alloc, false, keys, places, entries),
+        chosen(alloc, false, places, places, entries),
+    );
+    let ((stood, stood_at), (keys, places)) = both(standing, absent)?;
     Ok(Parts {
         stood,
         stood_at,
-        keys: absent,
-        places: absent_at,
+        keys,
+        places,
     })
 }
 
@@ -160,13 +168,22 @@ fn on_read(parts: Parts, done: usize, reply: &Reply) -> Result<Step<CopyStage, A
     ensures { IfOk result (λ step. step ≡ copy.on_read parts done reply.now) }
 {
     match reply {
-        Reply::Object { bytes, header } => Ok(Step::Next(CopyStage::Target {
-            parts,
-            done,
-            bytes: bytes.clone()?,
-            header: *header,
-        })),
-        _ => Ok(Step::End(Err(CopyRefusal::SourceMissing))),
+        Reply::Object { bytes, header } => {
+            let Ok(bytes) = bytes.clone() else {
+                let_go(parts);
+                return Err(AllocError);
+            };
+            Ok(Step::Next(CopyStage::Target {
+                parts,
+                done,
+                bytes,
+                header: *header,
+            }))
+        }
+        _ => {
+            let_go(parts);
+            Ok(Step::End(Err(CopyRefusal::SourceMissing)))
+        }
     }
 }
 
@@ -206,10 +223,11 @@ fn compared(parts: Parts, done: usize, same: bool) -> Result<Step<CopyStage, Ans
     ensures { IfOk result (λ step. step ≡ copy.compared parts done same) }
 {
     if same {
-        Ok(agreed(parts, done))
-    } else {
-        differ(keys_behind(parts.stood_at.as_slice(), done))
+        return Ok(agreed(parts, done));
     }
+    let refused = differ(keys_behind(parts.stood_at.as_slice(), done));
+    let_go(parts);
+    refused
 }
 
 fn on_compare(
@@ -226,8 +244,17 @@ fn on_compare(
             let same = read.as_slice() == bytes.as_slice() && same_header(read_header, *header);
             compared(parts, done, same)
         }
-        _ => Ok(Step::End(Err(CopyRefusal::SourceMissing))),
+        _ => {
+            let_go(parts);
+            Ok(Step::End(Err(CopyRefusal::SourceMissing)))
+        }
     }
+}
+
+fn too_long(key: &Key) -> Result<Step<CopyStage, Answer>, AllocError>
+    ensures { IfOk result (λ step. step ≡ End (Err (TooLong key.now))) }
+{
+    Ok(Step::End(Err(CopyRefusal::TooLong(key.as_text().clone()?))))
 }
 
 impl CopyNames {
@@ -236,15 +263,23 @@ impl CopyNames {
         ensures { IfOk result (λ step. step ≡ copy.placed self.now (place_of self.now.source self.now.target) keys) }
     {
         let Some(base) = self.place() else {
+            let_go(keys);
             return Ok(Step::End(Err(CopyRefusal::SourceMissing)));
         };
-        match base.new_keys(self.alloc, self.source.prefix(), keys.as_slice())? {
-            Ok(places) => Ok(Step::Next(CopyStage::WalkTarget {
+        match base.new_keys(self.alloc, self.source.prefix(), keys.as_slice()) {
+            Ok(Ok(places)) => Ok(Step::Next(CopyStage::WalkTarget {
                 keys,
                 places,
                 walk: KeyWalk::new(self.alloc),
             })),
-            Err(key) => Ok(Step::End(Err(CopyRefusal::TooLong(key.as_text().clone()?)))),
+            Ok(Err(key)) => {
+                let_go(keys);
+                too_long(&key)
+            }
+            Err(fault) => {
+                let_go(keys);
+                Err(fault)
+            }
         }
     }
 
@@ -256,7 +291,10 @@ impl CopyNames {
         ensures { IfOk result (λ step. step ≡ copy.on_climb self.now keys climbed) }
     {
         match climbed {
-            Climbed::File(key) => Ok(Step::End(Err(CopyRefusal::TargetFile(key)))),
+            Climbed::File(key) => {
+                let_go(keys);
+                Ok(Step::End(Err(CopyRefusal::TargetFile(key))))
+            }
             Climbed::On(climb) => Ok(Step::Next(CopyStage::Up { keys, climb })),
             Climbed::Free => self.placed(keys),
         }
@@ -267,9 +305,14 @@ impl CopyNames {
         ensures { IfOk result (λ step. step ≡ copy.listed self.now keys) }
     {
         if keys.len() == 0 {
+            let_go(keys);
             return Ok(Step::End(Err(CopyRefusal::SourceMissing)));
         }
-        self.on_climb(keys, Climb::over(copied_keys(self.alloc, &self.above)?))
+        let Ok(above) = copied_keys(self.alloc, &self.above) else {
+            let_go(keys);
+            return Err(AllocError);
+        };
+        self.on_climb(keys, Climb::over(above))
     }
 
     fn on_walk(&self, walk: KeyWalk, reply: &Reply) -> Result<Step<CopyStage, Answer>, AllocError>
@@ -279,11 +322,16 @@ impl CopyNames {
         if !fits(reply) {
             return Ok(Step::Next(CopyStage::Walk(walk)));
         }
-        if walk.hear(reply)? {
-            Ok(Step::Next(CopyStage::Walk(walk)))
-        } else {
-            self.listed(walk.keys(self.alloc)?)
+        let Ok(more) = walk.hear(reply) else {
+            let_go(walk);
+            return Err(AllocError);
+        };
+        if more {
+            return Ok(Step::Next(CopyStage::Walk(walk)));
         }
+        let keys = walk.keys(self.alloc);
+        let_go(walk);
+        self.listed(keys?)
     }
 
     fn on_show(
@@ -299,12 +347,17 @@ impl CopyNames {
         if !fits(reply) {
             return Ok(Step::Next(CopyStage::WalkTarget { keys, places, walk }));
         }
-        if walk.hear(reply)? {
-            Ok(Step::Next(CopyStage::WalkTarget { keys, places, walk }))
-        } else {
-            let entries = walk.entries().as_slice();
-            Ok(parted(parts_of(self.alloc, keys.as_slice(), places.as_slice(), entries)?))
+        let Ok(more) = walk.hear(reply) else {
+            let_go((keys, places, walk));
+            return Err(AllocError);
+        };
+        if more {
+            return Ok(Step::Next(CopyStage::WalkTarget { keys, places, walk }));
         }
+        let entries = walk.entries().as_slice();
+        let parts = parts_of(self.alloc, keys.as_slice(), places.as_slice(), entries);
+        let_go((keys, places, walk));
+        Ok(parted(parts?))
     }
 }
 
@@ -362,12 +415,19 @@ impl Phases for CopyNames {
     fn next(&self, stage: CopyStage, reply: &Reply) -> Result<Step<CopyStage, Answer>, AllocError> {
         let seen = seen_in(reply);
         if let Look::NoBucket = seen {
+            let_go(stage);
             return Ok(Step::End(Err(CopyRefusal::NoSuchBucket)));
         }
         match stage {
             CopyStage::Here => Ok(here(self.alloc, self.overlap, seen)),
             CopyStage::Walk(walk) => self.on_walk(walk, reply),
-            CopyStage::Up { keys, climb } => self.on_climb(keys, climb.hear(seen)?),
+            CopyStage::Up { keys, climb } => {
+                let Ok(climbed) = climb.hear(seen) else {
+                    let_go(keys);
+                    return Err(AllocError);
+                };
+                self.on_climb(keys, climbed)
+            }
             CopyStage::WalkTarget { keys, places, walk } => {
                 self.on_show(keys, places, walk, reply)
             }

@@ -10,7 +10,7 @@ use fs_ops::{Climb, Climbed, Place, keys_above};
 use fs_tree::FsRefusal;
 use operations::{Plan, Step};
 use path_keys::S3Path;
-use s3_types::{Bucket, Bytes, KeyList, PageLimit, Reply, Request, copied_keys};
+use s3_types::{Bucket, Bytes, KeyList, PageLimit, Reply, Request, both, copied_keys, let_go};
 use std::alloc::{AllocError, Global};
 use std::marker::Model;
 
@@ -67,12 +67,8 @@ impl NewFile {
     {
         match self.place.key() {
             Some(key) => {
-                let stream = FileStream::new(
-                    self.alloc,
-                    key.clone()?,
-                    self.block,
-                    self.bytes.clone()?,
-                );
+                let (key, bytes) = both(key.clone(), self.bytes.clone())?;
+                let stream = FileStream::new(self.alloc, key, self.block, bytes);
                 Ok(Step::Next(CreateStage::Write(stream)))
             }
             None => Ok(Step::End(Err(FsRefusal::IsDirectory))),
@@ -162,6 +158,7 @@ impl NewFile {
     {
         let seen = seen_in(reply);
         if let Look::NoBucket = seen {
+            let_go(stage);
             return Ok(Step::End(Err(FsRefusal::NoSuchBucket)));
         }
         match stage {
@@ -210,10 +207,15 @@ impl CreateFile {
         }) }
         ensures starts { IfOk result create.starts }
     {
-        let bucket = path.bucket().clone()?;
-        let place = Place::of(alloc, path)?;
-        let above = keys_above(alloc, path.key().as_str())?;
-        let markers = after_create(alloc, policy, path)?;
+        let at = both(path.bucket().clone(), Place::of(alloc, path));
+        let lists = both(
+            keys_above(alloc, path.key().as_str()),
+            after_create(alloc, policy, path),
+        );
+        let Ok(((bucket, place), (above, markers))) = both(at, lists) else {
+            let_go(bytes);
+            return Err(AllocError);
+        };
         Ok(CreateFile {
             file: NewFile {
                 alloc,
@@ -260,9 +262,16 @@ impl Plan for CreateFile {
 
     fn next(self, reply: &Reply, repeated: bool) -> Result<Step<CreateFile, Answer>, AllocError> {
         let CreateFile { file, stage } = self;
-        match file.next(stage, reply, repeated)? {
-            Step::Next(stage) => Ok(Step::Next(CreateFile { file, stage })),
-            Step::End(answer) => Ok(Step::End(answer)),
+        match file.next(stage, reply, repeated) {
+            Ok(Step::Next(stage)) => Ok(Step::Next(CreateFile { file, stage })),
+            Ok(Step::End(answer)) => {
+                let_go(file);
+                Ok(Step::End(answer))
+            }
+            Err(fault) => {
+                let_go(file);
+                Err(fault)
+            }
         }
     }
 

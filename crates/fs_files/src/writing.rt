@@ -3,7 +3,7 @@ ghost use Rattle.s3_types.specs.declared.limits.TheConstants.{MOST_PARTS};
 ghost use Rattle.fs_files.specs.code.Writing.{unsent, is_short, is_due, first_stage, later_stage, asks_at, asks};
 ghost use Rattle.fs_files.specs.code.Hearing.{begun, parted, put_heard, begin_heard, send_heard, refused, end_heard, heard_at, heard};
 
-use s3_types::{Bucket, Bytes, Key, Refusal, Reply, Request, Tag, TagList, named_parts};
+use s3_types::{Bucket, Bytes, Key, Refusal, Reply, Request, Tag, TagList, let_go, named_parts};
 use std::alloc::{AllocError, Global};
 use std::marker::Model;
 
@@ -189,7 +189,10 @@ impl FileStream {
             upload,
             mut tags,
         } = self;
-        tags.push(tag)?;
+        let Ok(()) = tags.push(tag) else {
+            let_go((key, bytes, tags));
+            return Err(AllocError);
+        };
         let size = (block as usize).min(bytes.as_slice().len() - from);
         Ok(FileStream {
             alloc,
@@ -207,7 +210,10 @@ impl FileStream {
     {
         match reply {
             Reply::Upload(upload) => Heard::On(self.begun(*upload)),
-            _ => Heard::Refusing,
+            _ => {
+                let_go(self);
+                Heard::Refusing
+            }
         }
     }
 
@@ -218,7 +224,10 @@ impl FileStream {
     {
         match reply {
             Reply::Part(tag) => Ok(Heard::On(self.parted(*tag)?)),
-            _ => Ok(Heard::Refusing),
+            _ => {
+                let_go(self);
+                Ok(Heard::Refusing)
+            }
         }
     }
 
@@ -226,6 +235,7 @@ impl FileStream {
         ensures { result ≡ heard_at (first_stage (is_short self)) self reply.now repeated }
     {
         if self.is_short() {
+            let_go(self);
             put_heard(reply)
         } else {
             self.begin_heard(reply)
@@ -239,6 +249,7 @@ impl FileStream {
         if self.is_due() {
             self.send_heard(reply)
         } else {
+            let_go(self);
             Ok(end_heard(repeated, reply))
         }
     }

@@ -5,7 +5,7 @@ ghost use Rattle.job_model.specs.Placed as places;
 
 use crate::names::unique_name;
 use job_model::FileList;
-use s3_types::Text;
+use s3_types::{Text, both, let_go};
 use std::alloc::{AllocError, Global};
 
 /// A file's path below the destination: unique to the job, or as the script writes it, which is shared.
@@ -32,8 +32,14 @@ pub fn placed(
 {
     let mut copy = FileList::new(alloc);
     for (path, bytes) in files.held() {
-        let path = path_of(alloc, unique, job, path)?;
-        copy.add(path, bytes.clone()?)?;
+        let Ok((path, bytes)) = both(path_of(alloc, unique, job, path), bytes.clone()) else {
+            let_go(copy);
+            return Err(AllocError);
+        };
+        let Ok(()) = copy.add(path, bytes) else {
+            let_go(copy);
+            return Err(AllocError);
+        };
     }
     Ok(copy)
 }

@@ -1,7 +1,7 @@
 ghost use Rattle.std.specs.Prelude.{◌≡◌, ◌++◌, ◌∷◌, IfOk, string_bytes};
 ghost use Rattle.job_model.specs.Placed.{with_id, unique_name};
 
-use s3_types::Text;
+use s3_types::{Text, let_go};
 use std::alloc::{AllocError, Global};
 
 /// A name with `-` and a job's id before its first dot, or at its end.
@@ -19,7 +19,9 @@ fn named_below(alloc: Global, dir: &str, name: &str, job: &str) -> Result<String
     ensures { IfOk result (λ text. string_bytes text ≡ dir.now ++ 47 ∷ with_id job.now name.now) }
 {
     let name = named(alloc, name, job)?;
-    format!(in alloc; "{dir}/{name}")
+    let text = format!(in alloc; "{dir}/{name}");
+    let_go(name);
+    text
 }
 
 fn unique_text(alloc: Global, path: &str, job: &str) -> Result<String, AllocError>

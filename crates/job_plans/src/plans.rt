@@ -7,14 +7,14 @@ ghost use Rattle.job_plans.specs.AtPlace.{task_at};
 
 use crate::files::placed;
 use job_model::{AttemptName, Attempts, FileList, JobPlan, Knowledge, Script, TaskPlan};
+use s3_types::{both, let_go};
 use std::alloc::{AllocError, Global};
 
 /// The plan of a script's driver. Its texts are the script's, which are shared.
 pub fn job_plan(script: &Script) -> Result<JobPlan, AllocError>
     ensures { IfOk result (λ plan. plan ≡ job_of script.now) }
 {
-    let job = script.job.clone()?;
-    let dest = script.dest.clone()?;
+    let (job, dest) = both(script.job.clone(), script.dest.clone())?;
     Ok(JobPlan {
         job,
         dest,
@@ -56,8 +56,11 @@ pub fn task_plan(
 {
     let (name, files) = attempt_at(&script.attempts, place);
     let AttemptName { task, attempt } = *name;
-    let files = placed(alloc, script.unique, &script.job, files)?;
     let job = job_plan(script)?;
+    let Ok(files) = placed(alloc, script.unique, &script.job, files) else {
+        let_go(job);
+        return Err(AllocError);
+    };
     Ok(TaskPlan {
         job,
         task,

@@ -9,7 +9,7 @@ use crate::files::path_of;
 use crate::plans::attempt_at;
 use conflict::partitions;
 use job_model::{FileList, Script};
-use s3_types::{Sequence, Text, TextList};
+use s3_types::{Sequence, Text, TextList, let_go};
 use std::alloc::{AllocError, Global};
 
 /// Adds the paths of files below the destination behind others.
@@ -23,7 +23,10 @@ fn add_paths(
     ensures { OnOk result (paths.new ≡ paths.old ++ map (λ f. f.0) (placed unique job.now files.now)) }
 {
     for (path, _) in files.held() {
-        paths.push(path_of(alloc, unique, job, path)?)?;
+        let Ok(path) = path_of(alloc, unique, job, path) else {
+            return Err(AllocError);
+        };
+        paths.push(path)?;
     }
     Ok(())
 }
@@ -37,7 +40,10 @@ fn reported_paths(alloc: Global, script: &Script, reported: &[bool]) -> Result<T
     for (place, is_reported) in reported.iter().enumerate() {
         if *is_reported {
             let (_, files) = attempt_at(&script.attempts, place);
-            add_paths(alloc, script.unique, &script.job, files, &mut paths)?;
+            let Ok(()) = add_paths(alloc, script.unique, &script.job, files, &mut paths) else {
+                let_go(paths);
+                return Err(AllocError);
+            };
         }
     }
     Ok(paths)
@@ -57,5 +63,7 @@ pub fn reported_partitions(
     ensures { IfOk result (λ dirs. dirs ≡ partitions (paths_of (files_of_all script.now (those script.now.attempts reported.now)))) }
 {
     let paths = reported_paths(alloc, script, reported)?;
-    partitions(alloc, paths.as_slice())
+    let dirs = partitions(alloc, paths.as_slice());
+    let_go(paths);
+    dirs
 }

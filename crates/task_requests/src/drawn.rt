@@ -3,7 +3,7 @@ ghost use Rattle.std.specs.Option.{option_copied};
 ghost use Rattle.job_protocol.specs.Knowledge.{as_made};
 
 use job_model::{DrawnPart, DrawnUpload, Knowledge};
-use s3_types::{Sequence, SizeList, TagList};
+use s3_types::{Sequence, SizeList, TagList, let_go};
 use std::alloc::{AllocError, Global};
 
 /// The uploads in the order of their making. Takes no memory.
@@ -34,7 +34,10 @@ pub fn tags_of(alloc: Global, drawn: &DrawnUpload) -> Result<TagList, AllocError
     let mut tags = Sequence::new(alloc);
     let parts = drawn.parts.as_slice();
     for part in parts {
-        tags.push(part.tag)?;
+        let Ok(()) = tags.push(part.tag) else {
+            let_go(tags);
+            return Err(AllocError);
+        };
     }
     Ok(tags)
 }
@@ -46,7 +49,10 @@ pub fn sizes_of(alloc: Global, drawn: &DrawnUpload) -> Result<SizeList, AllocErr
     let mut sizes = Sequence::new(alloc);
     let parts = drawn.parts.as_slice();
     for part in parts {
-        sizes.push(part.size)?;
+        let Ok(()) = sizes.push(part.size) else {
+            let_go(sizes);
+            return Err(AllocError);
+        };
     }
     Ok(sizes)
 }

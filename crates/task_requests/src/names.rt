@@ -6,9 +6,9 @@ ghost use Rattle.job_protocol.specs.TaskCommits.{attempt_prefix};
 ghost use Rattle.task_requests.specs.Writing.{dir_of, IsNamed, IsFile};
 
 use job_model::{JobPlan, TaskPlan};
-use magic_paths::{attempt_dir, file_key};
+use magic_paths::{attempt_dir, dest_prefix, file_key};
 use path_keys::S3Path;
-use s3_types::{Bucket, Bytes, Key, Text};
+use s3_types::{Bucket, Bytes, Key, Text, let_go};
 use std::alloc::{AllocError, Global};
 
 /// The job of a plan, which keeps its bounds. Takes no memory.
@@ -35,8 +35,9 @@ pub fn prefix(alloc: Global, plan: &TaskPlan) -> Result<Text, AllocError>
     ensures { IfOk result (λ prefix. prefix ≡ attempt_prefix (task_script plan.now) (who_of plan.now)) }
 {
     let dir = directory(alloc, plan)?;
-    let key = dir.key().as_str();
-    Text::new(alloc, format!(in alloc; "{key}/")?)
+    let prefix = dest_prefix(alloc, &dir);
+    let_go(dir);
+    prefix
 }
 
 /// A file by its place in the script's order. Takes no memory.
@@ -75,18 +76,12 @@ pub fn marker(alloc: Global, plan: &TaskPlan, dir: &S3Path, path: &Text) -> Resu
     file_key(alloc, dir, path)
 }
 
-/// What stands behind a file's path in that of its record.
-const PENDING: &str = ".pending";
-
 /// The path of a file's record.
 fn pending_path(alloc: Global, path: &Text) -> Result<Text, AllocError>
     ensures { IfOk result (λ name. name ≡ path.now ++ codes ".pending") }
 {
     let path = path.as_str();
-    let mut text = String::with_capacity(alloc, path.len() + PENDING.len())?;
-    text.push_str(path)?;
-    text.push_str(PENDING)?;
-    Text::new(alloc, text)
+    Text::new(alloc, format!(in alloc; "{path}.pending")?)
 }
 
 /// The key of a file's record.
@@ -97,5 +92,7 @@ pub fn record(alloc: Global, plan: &TaskPlan, dir: &S3Path, path: &Text) -> Resu
 {
     let _ = plan;
     let pending = pending_path(alloc, path)?;
-    file_key(alloc, dir, &pending)
+    let key = file_key(alloc, dir, &pending);
+    let_go(pending);
+    key
 }

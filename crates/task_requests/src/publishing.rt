@@ -14,7 +14,7 @@ use indexmap::IndexMap;
 use job_model::{DrawnUpload, TaskPlan};
 use magic_paths::set_key;
 use pending_json::{PendingList, PendingSet, PendingUpload};
-use s3_types::{Bytes, Request, Sequence, Text};
+use s3_types::{Bytes, Request, Sequence, Text, both, let_go};
 use std::alloc::{AllocError, Global};
 
 /// Notes the place of one more upload by its key.
@@ -29,7 +29,10 @@ fn add_place(
     let key = drawn.key.as_text().clone()?;
     match places.insert(key, place) {
         Ok(_) => Ok(()),
-        Err(_) => Err(AllocError),
+        Err(refused) => {
+            let_go(refused);
+            Err(AllocError)
+        }
     }
 }
 
@@ -39,7 +42,10 @@ pub fn last_places(alloc: Global, made: &[DrawnUpload]) -> Result<IndexMap<Text,
 {
     let mut places = IndexMap::new(alloc);
     for (place, drawn) in made.iter().enumerate() {
-        add_place(&mut places, drawn, place)?;
+        let Ok(()) = add_place(&mut places, drawn, place) else {
+            let_go(places);
+            return Err(AllocError);
+        };
     }
     Ok(places)
 }
@@ -81,9 +87,18 @@ fn pendings(alloc: Global, plan: &TaskPlan, places: &[usize]) -> Result<PendingL
     let last = last_places(alloc, made(&plan.known))?;
     let mut list = Sequence::new(alloc);
     for place in places {
-        let pending = pending_at(alloc, plan, &last, *place)?;
-        list.push(pending)?;
+        let Ok(pending) = pending_at(alloc, plan, &last, *place) else {
+            let_go(last);
+            let_go(list);
+            return Err(AllocError);
+        };
+        let Ok(()) = list.push(pending) else {
+            let_go(last);
+            let_go(list);
+            return Err(AllocError);
+        };
     }
+    let_go(last);
     Ok(list)
 }
 
@@ -94,14 +109,16 @@ fn set_bytes(alloc: Global, plan: &TaskPlan, places: &[usize]) -> Result<Bytes, 
     ensures { IfOk result (λ bytes. bytes ≡ set_text (task_script plan.now) (who_of plan.now)
         (picked plan.now.files places.now) plan.now.known) }
 {
-    let commits = pendings(alloc, plan, places)?;
+    let (commits, job) = both(pendings(alloc, plan, places), job_of(plan).job.clone())?;
     let set = PendingSet {
-        job: job_of(plan).job.clone()?,
+        job,
         task: plan.task,
         attempt: plan.attempt,
         commits,
     };
-    set.print(alloc)
+    let bytes = set.print(alloc);
+    let_go(set);
+    bytes
 }
 
 /// The put of the set that publishes the files at these places.
@@ -116,9 +133,12 @@ pub fn publish_request(
         (Publishing (picked plan.now.files places.now))) }
 {
     let job = job_of(plan);
-    let key = set_key(alloc, &job.dest, &job.job, plan.task)?;
-    let bytes = set_bytes(alloc, plan, places)?;
-    match Request::put_object(bucket_of(plan), &key, &bytes, None) {
+    let key = set_key(alloc, &job.dest, &job.job, plan.task);
+    let (key, bytes) = both(key, set_bytes(alloc, plan, places))?;
+    let asked = Request::put_object(bucket_of(plan), &key, &bytes, None);
+    let_go(key);
+    let_go(bytes);
+    match asked {
         Ok(request) => Ok(Some(request)),
         Err(error) => Err(error),
     }

@@ -15,7 +15,9 @@ use crate::stage::WriteStage;
 use job_model::{DrawnPart, DrawnUpload, TaskPlan};
 use path_keys::S3Path;
 use pending_json::PendingUpload;
-use s3_types::{Bucket, Bytes, Committer, Key, LengthHeader, Request, SizeList, TagList, Text};
+use s3_types::{
+    Bucket, Bytes, Committer, Key, LengthHeader, Request, SizeList, TagList, Text, both, let_go,
+};
 use std::alloc::{AllocError, Global};
 
 /// The size in bytes of the parts of a file. Takes no memory.
@@ -62,8 +64,11 @@ fn made_record(
     ensures { IfOk result (λ p. p ≡ file_record (task_script plan.now) (who_of plan.now) (path.now, bytes.now)
         (record { key = []; upload = upload; tags = tags; sizes = sizes })) }
 {
-    let destination = target(alloc, plan, path)?;
-    let bucket = bucket_of(plan).clone()?;
+    let Ok((destination, bucket)) = both(target(alloc, plan, path), bucket_of(plan).clone()) else {
+        let_go(tags);
+        let_go(sizes);
+        return Err(AllocError);
+    };
     let length = bytes.as_slice().len() as u64;
     let sizes = told_sizes(plan, sizes);
     Ok(PendingUpload::new(
@@ -92,8 +97,7 @@ pub fn pending(
     ensures { IfOk result (λ p. p ≡ file_record (task_script plan.now) (who_of plan.now) (path.now, bytes.now)
         drawn.now) }
 {
-    let tags = tags_of(alloc, drawn)?;
-    let sizes = sizes_of(alloc, drawn)?;
+    let (tags, sizes) = both(tags_of(alloc, drawn), sizes_of(alloc, drawn))?;
     made_record(alloc, plan, path, bytes, drawn.upload, tags, sizes)
 }
 
@@ -113,8 +117,10 @@ pub fn pending_with(
     ensures { IfOk result (λ p. p ≡ file_record (task_script plan.now) (who_of plan.now) (path.now, bytes.now)
         (one_more part.now.tag part.now.size drawn.now)) }
 {
-    let tags = tags_with(alloc, drawn, part)?;
-    let sizes = sizes_with(alloc, drawn, part)?;
+    let (tags, sizes) = both(
+        tags_with(alloc, drawn, part),
+        sizes_with(alloc, drawn, part),
+    )?;
     made_record(alloc, plan, path, bytes, drawn.upload, tags, sizes)
 }
 
@@ -171,9 +177,11 @@ fn ask_marker(
     ensures { IfOk result (λ r. r ≡ Request.PutObject plan.now.job.dest.bucket
         (marker_key (task_script plan.now) (who_of plan.now) (path.now, [])) [] (Some length)) }
 {
-    let key = marker(alloc, plan, dir, path)?;
-    let bytes = Bytes::empty(alloc)?;
-    Request::put_object(dir.bucket(), &key, &bytes, Some(length))
+    let (key, bytes) = both(marker(alloc, plan, dir, path), Bytes::empty(alloc))?;
+    let asked = Request::put_object(dir.bucket(), &key, &bytes, Some(length));
+    let_go(key);
+    let_go(bytes);
+    asked
 }
 
 /// The text of a file's record.
@@ -192,7 +200,9 @@ fn record_text(
         unreachable!();
     };
     let pending = pending(alloc, plan, path, bytes, drawn)?;
-    pending.print(alloc)
+    let text = pending.print(alloc);
+    let_go(pending);
+    text
 }
 
 fn ask_record(
@@ -209,9 +219,12 @@ fn ask_record(
         (record_key (task_script plan.now) (who_of plan.now) (path.now, bytes.now))
         (record_text (task_script plan.now) (who_of plan.now) (path.now, bytes.now) (drawn_last plan.now.known)) None) }
 {
-    let key = record(alloc, plan, dir, path)?;
-    let text = record_text(alloc, plan, path, bytes)?;
-    Request::put_object(dir.bucket(), &key, &text, None)
+    let text = record_text(alloc, plan, path, bytes);
+    let (key, text) = both(record(alloc, plan, dir, path), text)?;
+    let asked = Request::put_object(dir.bucket(), &key, &text, None);
+    let_go(key);
+    let_go(text);
+    asked
 }
 
 /// The stage behind a part of a file that is sent behind so many others, and the part's length in bytes.

@@ -1,5 +1,5 @@
 /// How far the present file of a write has come.
-#[derive(Clone, Copy, PartialEq, Eq)]
+#[derive(Clone, Copy)]
 pub enum WriteStage {
     /// Its upload is begun.
     Creating,

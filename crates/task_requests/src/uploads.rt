@@ -7,7 +7,7 @@ ghost use Rattle.task_requests.specs.Writing.{part_behind, tag_in, upload_in, wi
 use crate::names::{file_at, target};
 use crate::requests::ask_part;
 use job_model::TaskPlan;
-use s3_types::{Key, Reply, Request, Tag, let_go};
+use s3_types::{Reply, Request, Tag, let_go};
 use std::alloc::{AllocError, Global};
 
 /// The id of an upload that is begun. Takes no memory.
@@ -46,36 +46,15 @@ pub fn begin_upload(
         (with_drawn plan.old.known (file_key (task_script plan.old) (get_or plan.old.files place ([], []))) upload)) }
     ensures err { OnErr result (plan.new ≡ plan.old) }
 {
-    let Some((path, _)) = file_at(plan, place) else {
+    let Some((path, bytes)) = file_at(plan, place) else {
         unreachable!();
     };
     let key = target(alloc, plan, path)?;
-    begin_upload_to(alloc, plan, place, &key, upload)
-}
-
-/// The same by the key of the upload, which is shared.
-fn begin_upload_to(
-    alloc: Global,
-    plan: &mut TaskPlan,
-    place: usize,
-    key: &Key,
-    upload: u64,
-) -> Result<Request, AllocError>
-    requires within { place < length plan.old.files }
-    requires key { key.now ≡ file_key (task_script plan.old) (get_or plan.old.files place ([], [])) }
-    ensures asked { let f = get_or plan.old.files place ([], []) in IfOk result
-        (λ r. r ≡ UploadPart plan.old.job.dest.bucket (file_key (task_script plan.old) f) upload 1
-        (part_behind plan.old f.1 0)) }
-    ensures drawn { OnOk result (plan.new ≡ with_known plan.old
-        (with_drawn plan.old.known (file_key (task_script plan.old) (get_or plan.old.files place ([], []))) upload)) }
-    ensures err { OnErr result (plan.new ≡ plan.old) }
-{
-    let Some((_, bytes)) = file_at(plan, place) else {
-        unreachable!();
+    let Ok(asked) = ask_part(alloc, plan, bytes, &key, upload, 0) else {
+        let_go(key);
+        return Err(AllocError);
     };
-    let drawn = key.clone()?;
-    let asked = ask_part(alloc, plan, bytes, key, upload, 0)?;
-    match plan.known.draw(alloc, drawn, upload) {
+    match plan.known.draw(alloc, key, upload) {
         Ok(()) => Ok(asked),
         Err(error) => {
             let_go(asked);

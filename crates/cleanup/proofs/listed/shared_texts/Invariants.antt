@@ -2,4 +2,4 @@ use Rattle.std.proofs.Common.{◌≡◌, take}
 use Rattle.cleanup.proofs.listed.shared_texts.Given as goal
 
 abbrev pub invariant-loop-text : goal.invariant-loop-text
-invariant-loop-text l = l.copy.items ≡ take l.text-index l.texts
+invariant-loop-text l = l.copy ≡ take l.text-index l.texts

@@ -1,5 +1,7 @@
-use Rattle.std.proofs.Common.{◌∙◌, [], sym, ap}
+use Rattle.std.proofs.Common.{◌≡◌, ◌∙◌, [], IfOk, sym, ap, subst}
+use Rattle.std.specs.Result.{MatchResult}
 use Rattle.job_protocol.specs.Prelude.{File, has_path}
+use Rattle.job_model.specs.Placed.{path_of}
 use Rattle.job_plans.proofs.FilePlans.{next_free, next_placed, all_placed}
 use Rattle.job_plans.proofs.files.placed.Goals as goal
 
@@ -9,13 +11,16 @@ loop-path-init c = record { done = []; all = sym (c.into_iter-path-iterator.ensu
 pub add-requires : goal.add-requires
 add-requires c =
     let f : File = (c.in-Some.path.now, c.in-Some.bytes.now) in
-    ap (has_path c.loop-path.copy) c.in_ok-path.ensures ∙ next_free {rest = c.next.new.self} {f = f} c.requires.id c.requires.files c.loop-path.invariant c.in-Some.ensures.steps
+    let path = subst (λ r. IfOk r (λ text. text ≡ path_of c.args.unique c.args.job.now f.0)) c.in-Ok.ensures.one c.path_of.ensures in
+    ap (has_path c.loop-path.copy) path ∙ next_free {rest = c.next.new.self} {f = f} c.requires.id c.requires.files c.loop-path.invariant c.in-Some.ensures.steps
 
 pub loop-path-preserved : goal.loop-path-preserved
 loop-path-preserved c =
     let f : File = (c.in-Some.path.now, c.in-Some.bytes.now) in
-    let g : File = (c.in_ok-path.path, c.in_ok-clone.field-0) in
-    next_placed {f = f} {g = g} c.loop-path.invariant c.in-Some.ensures.steps c.in_ok-path.ensures c.in_ok-clone.ensures.cases c.in_ok-add.ensures.ok
+    let g : File = (c.in-Ok.path, c.in-Ok.bytes) in
+    let path = subst (λ r. IfOk r (λ text. text ≡ path_of c.args.unique c.args.job.now f.0)) c.in-Ok.ensures.one c.path_of.ensures in
+    let bytes = subst (λ r. MatchResult r (λ copy. copy ≡ f.1) (λ e. ¬ ⊥)) c.in-Ok.ensures.other c.clone.ensures.cases in
+    next_placed {f = f} {g = g} c.loop-path.invariant c.in-Some.ensures.steps path bytes c.in-Ok-add.ensures.ok
 
 pub returns : goal.returns
 returns c = all_placed c.loop-path.invariant c.in-None.ensures.steps.0

@@ -17,8 +17,8 @@ invariant_of-result c =
     let a = c.attempt_at.result in
     let legal : IsLegal w = subst IsLegal c.script.view_is c.script.invariant in
     let here : slice_get w.attempts c.args.place ≡ Some (a.0.now, a.1.now) = subst (λ (w : Script). slice_get w.attempts c.args.place ≡ Some (a.0.now, a.1.now)) c.script.view_is c.attempt_at.ensures.here in
-    task_is w c.args.place c.args.minimum c.script.inside.block a.0.now a.1.now c.in_ok-files.files c.in_ok-job.job c.new.result legal here
-    (c.in_ok-files.ensures ∙ ap (λ (w : Script). placed w.unique w.job a.1.now) c.script.view_is) c.in_ok-job.ensures (ap (λ (w : Script). w.block) c.script.view_is) c.requires.some c.requires.most
+    task_is w c.args.place c.args.minimum c.script.inside.block a.0.now a.1.now c.in-Ok.files c.in_ok-job.job c.new.result legal here
+    (c.in-Ok.ensures ∙ ap (λ (w : Script). placed w.unique w.job a.1.now) c.script.view_is) c.in_ok-job.ensures (ap (λ (w : Script). w.block) c.script.view_is) c.requires.some c.requires.most
 
 pub returns : goal.returns
 returns c =
@@ -26,5 +26,5 @@ returns c =
     let a = c.attempt_at.result in
     let here : slice_get w.attempts c.args.place ≡ Some (a.0.now, a.1.now) = subst (λ (w : Script). slice_get w.attempts c.args.place ≡ Some (a.0.now, a.1.now)) c.script.view_is c.attempt_at.ensures.here in
     let found : lookup (same_name a.0.now) w.attempts ≡ Some a.1.now = subst (λ (w : Script). lookup (same_name a.0.now) w.attempts ≡ Some a.1.now) c.script.view_is c.attempt_at.ensures.found in
-    task_told w c.args.place c.args.minimum c.script.inside.block a.0.now a.1.now c.in_ok-files.files c.in_ok-job.job c.new.result here found
-    (c.in_ok-files.ensures ∙ ap (λ (w : Script). placed w.unique w.job a.1.now) c.script.view_is) c.in_ok-job.ensures (ap (λ (w : Script). w.block) c.script.view_is) c.new.ensures
+    task_told w c.args.place c.args.minimum c.script.inside.block a.0.now a.1.now c.in-Ok.files c.in_ok-job.job c.new.result here found
+    (c.in-Ok.ensures ∙ ap (λ (w : Script). placed w.unique w.job a.1.now) c.script.view_is) c.in_ok-job.ensures (ap (λ (w : Script). w.block) c.script.view_is) c.new.ensures

@@ -10,4 +10,4 @@ pub returns : goal.returns
 returns c =
     let w = c.args.script.now in
     let paths = map (λ (f : File). f.0) (files_of_all w (those w.attempts c.args.reported.now)) in
-    IfOk-weaker c.partitions.result _ _ (λ dirs is. is ∙ ap partitions (c.as_slice.ensures ∙ c.in_ok-paths.ensures) ∙ sym (partitions_of_ordered paths)) c.partitions.ensures
+    IfOk-weaker c.partitions-dirs.result _ _ (λ dirs is. is ∙ ap partitions (c.as_slice.ensures ∙ c.in_ok-paths.ensures) ∙ sym (partitions_of_ordered paths)) c.partitions-dirs.ensures

@@ -6,4 +6,4 @@ pub pending_at-requires-clause-ready : goal.pending_at-requires-clause-ready
 pending_at-requires-clause-ready c = ready_at c.args.plan.now c.args.places.now c.loop-place.place-index c.loop-place-test.true c.requires.ready
 
 pub loop-place-preserved : goal.loop-place-preserved
-loop-place-preserved c = c.in_ok-push.ensures.ok ∙ records_with c.args.plan.now c.args.places.now c.loop-place.place-index c.loop-place.list c.in_ok-pending.pending c.loop-place-test.true c.loop-place.invariant c.in_ok-pending.ensures
+loop-place-preserved c = c.in-Ok-push.ensures.ok ∙ records_with c.args.plan.now c.args.places.now c.loop-place.place-index c.loop-place.list c.in-Ok.pending c.loop-place-test.true c.loop-place.invariant c.in-Ok.ensures

@@ -10,7 +10,7 @@ pub pending-requires-clause-sizes : goal.pending-requires-clause-sizes
 pending-requires-clause-sizes c = record_sizes c.args.plan.now (c.args.path.now, c.args.bytes.now) c.in-Some.drawn.now (c.in-Some.ensures ∙ ap (λ (t : Task). slice_get t.known.drawn 0) c.plan.view_is) c.requires.sent
 
 pub returns : goal.returns
-returns c = ok_as c.print.result _ _ c.print.ensures
+returns c = ok_as c.print-text.result _ _ c.print-text.ensures
     (ap (λ (p : Pending). compact_text (pending_tree p)) c.in_ok-pending.ensures
     ∙ ap (λ (d : Drawn). record_text (task_script c.args.plan.now) (who_of c.args.plan.now) (c.args.path.now, c.args.bytes.now) d)
     (record_last c.args.plan.now (c.args.path.now, c.args.bytes.now) c.in-Some.drawn.now (c.in-Some.ensures ∙ ap (λ (t : Task). slice_get t.known.drawn 0) c.plan.view_is) c.requires.sent))

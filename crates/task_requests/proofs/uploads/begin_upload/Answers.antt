@@ -1,0 +1,32 @@
+use Rattle.std.proofs.Common.{◌∙◌, ap, List, ℕ}
+use Rattle.job_protocol.specs.Prelude.{UploadPart, File, Task, Known}
+use Rattle.path_keys.proofs.Common.{some_parts}
+use Rattle.job_model.specs.contracts.plan.TaskPlan.{the_view}
+use Rattle.task_requests.specs.Writing.{size_of, part_behind, with_drawn}
+use Rattle.task_requests.proofs.Steps.{known_of, begun_asked, begun_drawn}
+use Rattle.task_requests.proofs.uploads.begin_upload.Goals as goal
+use Rattle.task_requests.proofs.uploads.begin_upload.Goals.{in-Ok-draw, in-Err}
+
+pub ask_part-requires-clause-within : goal.ask_part-requires-clause-within
+ask_part-requires-clause-within c = some_parts (size_of c.args.plan.now c.in-Some.bytes.now) c.in-Some.bytes.now
+
+pub returns-clause-asked : goal.returns-clause-asked
+returns-clause-asked c =
+    let t : Task = c.args.plan.now in
+    let f : File = (c.in-Some.path.now, c.in-Some.bytes.now) in
+    elim c.match-draw.branch [
+      | in-Ok-draw w ↦ rw w.result-is (begun_asked t c.args.place f c.args.upload c.in-Ok.asked c.in-Some.ensures.file
+          (c.in-Ok.ensures ∙ ap (λ (k : List ℕ). UploadPart t.job.dest.bucket k c.args.upload 1 (part_behind t f.1 0)) c.in_ok-key.ensures))
+      | in-Err w ↦ rw w.result-is tt
+    ]
+
+pub returns-clause-drawn : goal.returns-clause-drawn
+returns-clause-drawn c =
+    let t : Task = c.args.plan.now in
+    let f : File = (c.in-Some.path.now, c.in-Some.bytes.now) in
+    elim c.match-draw.branch [
+      | in-Ok-draw w ↦ rw w.result-is (begun_drawn t _ c.args.place f c.in_ok-key.key c.args.upload c.in-Some.ensures.file
+          (known_of (the_view c.plan.inside) t (λ (k : Known). with_drawn k c.in_ok-key.key c.args.upload) c.draw.new.self c.plan.view_is w.in-Ok-draw.ensures.ok)
+          c.in_ok-key.ensures)
+      | in-Err w ↦ rw w.result-is tt
+    ]
