@@ -5,8 +5,6 @@ pub use Rattle.bucket_ops.specs.Phases.{InScene, IsPhases, MayAsk, SendsAt, Send
 pub use Rattle.bucket_ops.specs.Sweeping.{IsDeleted, IsDeleting, IsSweeping, IsSwept, LessLeft, sweep_asks, sweep_left}
 pub use Rattle.bucket_ops.specs.Uploads.{IsStill, uploads_from}
 pub use Rattle.bucket_ops.specs.Walking.{IsWalked, IsWalking, LessWalked, all_below, fits, keys_below, walk_asks, walk_left}
-pub use Rattle.bucket_ops.specs.declared.look.Look.{Look}
-pub use Rattle.bucket_ops.specs.declared.look.Look.TheVariants.{NoBucket, There}
 pub use Rattle.list_walk.specs.Walks.{Deleting, Listing, More, Walked, Whole, all_go, deleting, keys_on, last_of, sweep_hears, sweep_start, walked_by, walked_entries}
 pub use Rattle.machine.specs.Counted.{AreAnswered}
 pub use Rattle.machine.specs.Turns.{AreBy}

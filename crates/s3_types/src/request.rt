@@ -239,7 +239,10 @@ impl Request {
     pub fn copy_object(bucket: &Bucket, source: &Key, target: &Key) -> Result<Request, AllocError>
         ensures { IfOk result (λ request. request ≡ Request.CopyObject bucket.now source.now target.now) }
     {
-        let ((bucket, source), target) = both(both(bucket.clone(), source.clone()), target.clone())?;
+        let ((bucket, source), target) = both(
+            both(bucket.clone(), source.clone()),
+            target.clone(),
+        )?;
         Ok(Request::CopyObject {
             bucket,
             source,

@@ -49,7 +49,7 @@ pub enum Command {
 }
 
 /// Why words are not read as a command.
-#[derive(Clone, Copy, PartialEq, Eq)]
+#[derive(Clone, Copy)]
 pub enum WordFault {
     /// The words are no command.
     Usage,

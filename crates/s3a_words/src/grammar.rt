@@ -8,7 +8,7 @@ ghost use Rattle.s3a_words.specs.Words.{is_plain};
 
 use clap::error::ErrorKind;
 use clap::{Arg, ArgMatches, Command, Error};
-use s3_types::Text;
+use s3_types::{Text, let_go};
 use std::alloc::{AllocError, Global};
 
 /// The name of a command, and up to three operands.
@@ -52,6 +52,10 @@ pub fn matches_in<'a>(
 {
     match grammar(alloc)?.try_get_matches_from(words) {
         Ok(matches) => Ok(Some(matches)),
-        Err(error) => without_matches(&error),
+        Err(error) => {
+            let none = without_matches(&error);
+            let_go(error);
+            none
+        }
     }
 }

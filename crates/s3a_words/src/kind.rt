@@ -4,7 +4,7 @@ ghost use Rattle.s3a_words.specs.Kinds.{kind_of};
 use crate::command::Command;
 
 /// What a command does with a store and with the input.
-#[derive(Clone, Copy, PartialEq, Eq)]
+#[derive(Clone, Copy)]
 pub enum CommandKind {
     /// Makes a store.
     Begins,

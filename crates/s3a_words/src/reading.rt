@@ -8,7 +8,7 @@ use crate::grammar::{as_texts, matches_in};
 use crate::numbers::{minimum_in, number_within};
 use clap::ArgMatches;
 use path_keys::{PathFault, S3Path};
-use s3_types::Text;
+use s3_types::{Text, let_go};
 use std::alloc::{AllocError, Global};
 
 /// The most tasks of a script that is made.
@@ -62,7 +62,10 @@ fn with_path(name: &str, path: S3Path) -> Option<Command>
         "markers" => Some(Command::Markers { path }),
         "clean-markers" => Some(Command::CleanMarkers { path }),
         "fill-markers" => Some(Command::FillMarkers { path }),
-        _ => None,
+        _ => {
+            let_go(path);
+            None
+        }
     }
 }
 
@@ -97,7 +100,10 @@ fn with_paths(name: &str, from: S3Path, to: S3Path) -> Option<Command>
     match name {
         "mv" => Some(Command::Mv { from, to }),
         "cp" => Some(Command::Cp { from, to }),
-        _ => None,
+        _ => {
+            let_go((from, to));
+            None
+        }
     }
 }
 
@@ -114,9 +120,16 @@ fn with_two(
     let Some(from) = path_named(alloc, first)? else {
         return Ok(None);
     };
-    match path_named(alloc, second)? {
-        Some(to) => Ok(with_paths(name, from, to)),
-        None => Ok(None),
+    match path_named(alloc, second) {
+        Ok(Some(to)) => Ok(with_paths(name, from, to)),
+        Ok(None) => {
+            let_go(from);
+            Ok(None)
+        }
+        Err(error) => {
+            let_go(from);
+            Err(error)
+        }
     }
 }
 

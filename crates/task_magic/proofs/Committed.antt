@@ -1,6 +1,6 @@
 -- Where replies lead a commit, by the places of the files that it commits.
-use Rattle.std.proofs.Common.{◌≡◌, ℕ, zero, suc, ◌+◌, ◌<◌, ◌≤◌, nat_lt, nat_le, Bool, true, false, cond, ◌||◌, List, [], ◌∷◌, ◌++◌, map, length, take, drop, get_or, slice_get, Option, Some, None, refl, sym, ap, subst, ◌∙◌, arith, add-one}
-use Rattle.job_protocol.specs.Prelude.{bytes_decides, Request, GetObject, Reply, Refused, NoSuchKey, Got, File, Who, Known, Task, Script, TaskEnd, Attempting, task_script, who_of, with_known, task_commit_told, is_set_key, files, record_key, keys_on, walked_by, Creating, Sending, TaskCommit, Looking, Reading, Publishing, Checking, Storing, Renaming, TaskCommitOver, task_commit_start_by, task_commit_asks, task_commit_hears, in_order, reading, looked, looked_at, least_missing, read_record}
+use Rattle.std.proofs.Common.{◌≡◌, ℕ, zero, suc, ◌+◌, ◌<◌, ◌≤◌, nat_lt, nat_le, Bool, true, false, cond, ◌||◌, List, [], ◌∷◌, ◌++◌, map, length, take, drop, get_or, slice_get, Option, Some, None, option_map, refl, sym, ap, subst, ◌∙◌, arith, add-one}
+use Rattle.job_protocol.specs.Prelude.{bytes_decides, Request, GetObject, Reply, Refused, NoSuchKey, Got, File, Who, Known, Task, Script, TaskEnd, Attempting, task_script, who_of, with_known, task_commit_told, is_set_key, files, record_key, keys_on, walked_by, Creating, Sending, TaskCommit, Looking, Reading, Publishing, Checking, Storing, Renaming, TaskCommitOver, task_commit_asks, task_commit_hears, in_order, reading, looked, looked_at, least_missing, read_record}
 use Rattle.path_keys.proofs.Common.{and_parts, drop_all, below_is, at_most_is, at_most_not}
 use Rattle.s3_types.specs.declared.reply.Reply.TheVariants.{Object}
 use Rattle.magic_paths.specs.Layout as layout
@@ -79,14 +79,12 @@ module _ (t : Task) (old new keys : List (List ℕ)) (r : Reply) (more : Bool) (
   walked_is : looked (task_script t) (who_of t) (walked old r) ≡ looked_at found (in_order (task_script t) (who_of t) new)
   walked_is = ap (looked (task_script t) (who_of t)) (h ∙ ap (λ c. walked_by c new) b) ∙ ap (λ o. looked_at o (in_order (task_script t) (who_of t) new)) (sym found_is)
 
-  pub page_missing : (key name : List ℕ) → found ≡ Some key → name ≡ key → TaskCommitOver (ends.Gone name) ≡ looked (task_script t) (who_of t) (walked old r)
-  page_missing key name e n = ap (λ x. TaskCommitOver (ends.Gone x)) n ∙ sym (walked_is ∙ ap (λ o. looked_at o (in_order (task_script t) (who_of t) new)) e)
+  looked_by : (cs : List File) (others : List (List ℕ)) (o : Option (List ℕ)) → commit_by false others cs 0 (option_map (λ name. ends.Gone name) o) ≡ looked_at o cs
+  looked_by cs others (Some key) = refl
+  looked_by cs others None = refl
 
-  pub page_whole : (cs : List File) (others : List (List ℕ)) (end : Option TaskEnd) → found ≡ None → cs ≡ in_order (task_script t) (who_of t) keys → end ≡ None → commit_by false others cs 0 end ≡ looked (task_script t) (who_of t) (walked old r)
-  page_whole cs others end e c n =
-      ap (commit_by false others cs 0) n
-      ∙ (ap (λ (l : List File). reading l l) (c ∙ ap (in_order (task_script t) (who_of t)) k)
-      ∙ sym (walked_is ∙ ap (λ o. looked_at o (in_order (task_script t) (who_of t) new)) e))
+  pub page_looked : (cs : List File) (others : List (List ℕ)) (end : Option TaskEnd) → cs ≡ in_order (task_script t) (who_of t) keys → end ≡ option_map (λ name. ends.Gone name) found → commit_by false others cs 0 end ≡ looked (task_script t) (who_of t) (walked old r)
+  page_looked cs others end c n = ap (commit_by false others cs 0) n ∙ (looked_by cs others found ∙ (ap (looked_at found) (c ∙ ap (in_order (task_script t) (who_of t)) k) ∙ sym walked_is))
 
 -- ---- a record
 

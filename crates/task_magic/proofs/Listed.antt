@@ -1,5 +1,5 @@
 -- Which files the keys of a listing are of.
-use Rattle.std.proofs.Common.{◌≡◌, ℕ, zero, suc, ◌+◌, ◌<◌, ◌≤◌, nat_eq, nat_lt, Bool, true, false, cond, ◌||◌, List, [], ◌∷◌, ◌++◌, map, length, drop, get_or, slice_get, Option, Some, None, codes, refl, sym, ap, subst, ◌∙◌, arith, add-one, append_assoc, length-append, replicate}
+use Rattle.std.proofs.Common.{◌≡◌, ℕ, zero, suc, ◌+◌, ◌<◌, ◌≤◌, nat_eq, nat_lt, Bool, true, false, cond, ◌||◌, List, [], ◌∷◌, ◌++◌, map, length, drop, get_or, slice_get, Option, Some, None, option_map, codes, refl, sym, ap, subst, ◌∙◌, arith, add-one, append_assoc, length-append, replicate}
 use Rattle.std.specs.Prelude.{slice_set, is_some, IfSome}
 use Rattle.job_protocol.specs.Prelude.{filter, list_any, AllByRecursion, IsDistinct, position, keys_of, lookup, bytes_decides, text_eq, below, File, Task, task_script, who_of, files, attempt_dir, attempt_prefix, in_order, least_missing, least_of}
 use Rattle.path_keys.proofs.Common.{true≢false, nat_tests, flat_map-append, append_cancel_left, append_cancel_right, map-append, drop_all, list_any-append, list_all-append, or-false, drop-cons, below_so}
@@ -7,6 +7,7 @@ use Rattle.proof_base.proofs.Common.{slice_get-get_or, position-Some, IsDistinct
 use Rattle.std.proofs.lemmas.List.{get_or-map}
 use Rattle.magic_paths.proofs.Tails.{below_is}
 use Rattle.task_requests.specs.Publishing.{picked, are_places}
+use Rattle.job_model.specs.declared.ends.TaskEnd.TheVariants as ends
 use Rattle.task_magic.specs.Committing.{record_of, AreRecords, IsRecordAt, IsPlaceOf, is_at, places_in, records_in, set_at, seen_in, least_unseen}
 use Rattle.task_requests.proofs.Told.{own_files}
 
@@ -296,3 +297,6 @@ module _ (t : Task) (seen : List Bool) (left i : ℕ) (least : Option (List ℕ)
 
 pub nothing_left : (seen : List Bool) (ks : List (List ℕ)) (left : ℕ) → length seen ≤ left → None ≡ least_unseen (drop left seen) (drop left ks)
 nothing_left seen ks left h = ap (λ l. least_unseen l (drop left ks)) (sym (drop_all left seen h))
+
+pub gone_least : (t : Task) (seen : List Bool) (left : ℕ) (least o : Option (List ℕ)) → left ≡ 0 → least ≡ least_unseen (drop left seen) (drop left (map (record_of t) t.files)) → least ≡ o → option_map (λ name. ends.Gone name) o ≡ option_map (λ name. ends.Gone name) (least_unseen seen (map (record_of t) t.files))
+gone_least t seen left least o e h g = ap (option_map (λ name. ends.Gone name)) (sym g ∙ (h ∙ ap (λ n. least_unseen (drop n seen) (drop n (map (record_of t) t.files))) e))

@@ -1,7 +1,8 @@
 -- A commit of a magic attempt, by the keys listed, the places of the files that it commits, and how many records were read.
 use Rattle.std.specs.Prelude.{◌≡◌, ℕ, nat_eq, Bool, true, false, List, [], ◌∷◌, ◌++◌, map, take, drop, length, slice_get, slice_set, codes, Option, Some, None}
-use Rattle.job_protocol.specs.Prelude.{list_any, text_eq, Reply, Refused, NoSuchKey, File, Known, Task, TaskEnd, task_script, who_of, with_known, record_key, TaskCommit, Looking, Publishing, TaskCommitOver, least_of, reading, keys_on}
+use Rattle.job_protocol.specs.Prelude.{list_any, text_eq, Reply, Refused, NoSuchKey, File, Known, Task, TaskEnd, task_script, who_of, with_known, record_key, TaskCommit, Looking, Publishing, TaskCommitOver, least_of, reading, keys_on, in_order}
 use Rattle.task_magic.specs.declared.committing.Committing.{Committing}
+use Rattle.task_magic.specs.declared.listing.Listed.{Listed}
 use Rattle.task_requests.specs.Publishing.{picked, AreReady, are_places}
 
 -- ---- where it stands
@@ -96,3 +97,10 @@ abbrev pub least_unseen : List Bool → List (List ℕ) → Option (List ℕ)
 least_unseen (false ∷ seen) (k ∷ ks) = Some (least_of (least_unseen seen ks) k)
 least_unseen (true ∷ seen) (k ∷ ks) = least_unseen seen ks
 least_unseen _ _ = None
+
+-- what the keys of a listing are of: the places of the files whose records are among them, these records, and of each file whether its record is
+pub record IsListed (t : Task) (keys : List (List ℕ)) (x : Listed) : Type 0 where
+  pub places : are_places (length t.files) x.places ≡ true
+  pub records : AreRecords t x.records x.places
+  pub files : picked t.files x.places ≡ in_order (task_script t) (who_of t) keys
+  pub seen : x.seen.items ≡ seen_in t keys

@@ -1,4 +1,4 @@
-ghost use Rattle.std.specs.Prelude.{◌≡◌, ◌+◌, ◌<◌, Bool, length, drop, get_or, [], true, false, IfOk, OnOk, OnErr, Some, None, option_map, slice_get};
+ghost use Rattle.std.specs.Prelude.{◌≡◌, ◌+◌, ◌<◌, Bool, length, drop, true, false, IfOk, OnOk, OnErr, Some, None, option_map, slice_get};
 ghost use Rattle.s3_types.specs.declared.request.Request.TheVariants.{GetObject};
 ghost use Rattle.s3_types.specs.declared.request.Committer.TheVariants.{Magic};
 ghost use Rattle.job_protocol.specs.AtWork.{task_script, who_of};
@@ -6,16 +6,17 @@ ghost use Rattle.list_walk.specs.Walks.{page_after, keys_on};
 ghost use Rattle.job_protocol.specs.TaskCommits.{attempt_prefix, Looking, reading, task_commit_asks, task_commit_hears};
 ghost use Rattle.task_requests.specs.Publishing.{picked};
 ghost use Rattle.task_machines.specs.Commits.{FitsCommit};
-ghost use Rattle.task_magic.specs.Committing.{HoldsCommit, commit_of, Keeps, record_of, is_no_key, publishes, with_sent};
+ghost use Rattle.task_magic.specs.Committing.{HoldsCommit, commit_of, IsListed, Keeps, is_no_key, publishes, with_sent};
 
 use crate::listing::{Listed, files_of_keys, missing, record_at};
+use crate::stepping::name_of;
 use job_model::{TaskEnd, TaskPlan};
 use list_walk::KeyWalk;
 use machine::Asked;
-use s3_types::{Key, KeyList, Refusal, Reply, Request, Sequence, put};
+use s3_types::{Key, KeyList, Refusal, Reply, Request, Sequence, both, put};
 use std::alloc::{AllocError, Global};
 use task_machines::{Holds, TaskMachine, TheCommit};
-use task_requests::{bucket_of, directory, prefix, publish_request};
+use task_requests::{bucket_of, prefix, publish_request};
 
 /// A commit as it goes on: whether it lists, the keys so far, the places of the files that it commits, the
 /// keys of their records, how many of them were read, and how it ended.
@@ -47,13 +48,12 @@ fn page_request(alloc: Global, plan: &TaskPlan, walk: &KeyWalk) -> Asked
     }
 }
 
-/// The key of the record of the file at a place.
-fn record_key_at(alloc: Global, plan: &TaskPlan, place: usize) -> Result<Key, AllocError>
-    requires { place < length plan.now.files }
-    ensures { IfOk result (λ key. key ≡ record_of plan.now (get_or plan.now.files place ([], []))) }
+/// What the keys are of that a walk has met.
+fn listed(alloc: Global, plan: &TaskPlan, walk: &KeyWalk) -> Result<Listed, AllocError>
+    ensures { IfOk result (IsListed plan.now (keys_on walk.now)) }
 {
-    let dir = directory(alloc, plan)?;
-    record_at(alloc, plan, &dir, place)
+    let (prefix, keys) = both(prefix(alloc, plan), walk.keys(alloc))?;
+    files_of_keys(alloc, plan, &prefix, keys.as_slice())
 }
 
 /// The read of the record at a key.
@@ -144,21 +144,17 @@ impl Committing {
         if self.walk.hear(reply)? {
             return Ok(());
         }
-        let keys = self.walk.keys(alloc)?;
         let Listed {
             places,
             records,
             seen,
-        } = files_of_keys(alloc, plan, keys.as_slice())?;
-        if let Some(key) = missing(alloc, plan, seen.as_slice())? {
-            let name = key.as_text().clone()?;
-            self.finish(TaskEnd::Gone(name));
-            return Ok(());
-        }
+        } = listed(alloc, plan, &self.walk)?;
         put(&mut self.places, places);
         put(&mut self.records, records);
         self.at = 0;
         self.listing = false;
+        let end = missing(alloc, plan, seen.as_slice())?;
+        put(&mut self.end, end);
         Ok(())
     }
 
@@ -181,8 +177,8 @@ impl Committing {
             plan.now.minimum (who_of plan.now) (commit_of plan.now self.old) reply.now false) }
     {
         if is_no_key(reply) {
-            let key = record_key_at(alloc, plan, place)?;
-            let name = key.as_text().clone()?;
+            let key = record_at(alloc, plan, place)?;
+            let name = name_of(key)?;
             self.finish(TaskEnd::Gone(name));
             return Ok(());
         }

@@ -1,15 +1,13 @@
-ghost use Rattle.std.specs.Prelude.{◌≡◌, ◌<◌, ℕ, List, ◌++◌, codes, length, map, get_or, [], true, false, replicate, IfOk, OnOk, IfSome, MatchOption};
+ghost use Rattle.std.specs.Prelude.{◌≡◌, ◌<◌, ℕ, List, ◌++◌, codes, length, map, get_or, [], true, false, replicate, IfOk, OnOk, IfSome, MatchOption, option_map};
 ghost use Rattle.job_protocol.specs.AtWork.{task_script, who_of};
-ghost use Rattle.job_protocol.specs.TaskCommits.{attempt_prefix, in_order, least_of};
-ghost use Rattle.task_requests.specs.Writing.{dir_of};
-ghost use Rattle.task_requests.specs.Publishing.{picked, are_places};
-ghost use Rattle.task_magic.specs.Committing.{record_of, AreRecords, IsRecordAt, IsPlaceOf, places_in, records_in, set_at, seen_in, least_unseen};
+ghost use Rattle.job_protocol.specs.TaskCommits.{attempt_prefix, least_of};
+ghost use Rattle.task_magic.specs.Committing.{record_of, IsListed, IsRecordAt, IsPlaceOf, places_in, records_in, set_at, least_unseen};
 
-use job_model::TaskPlan;
-use path_keys::S3Path;
-use s3_types::{Key, KeyList, Sequence, Text};
+use crate::stepping::name_of;
+use job_model::{TaskEnd, TaskPlan};
+use s3_types::{Key, KeyList, Sequence, Text, let_go};
 use std::alloc::{AllocError, Global};
-use task_requests::{directory, file_at, prefix, record};
+use task_requests::{directory, file_at, record};
 
 /// What the keys of a listing are of: the places of the files whose records are listed, in the order of the
 /// keys, the keys of these records, and of each file whether its record is listed.
@@ -73,41 +71,44 @@ fn add_place(listed: &mut Listed, place: Option<usize>, key: &Key) -> Result<(),
 }
 
 /// What these keys are of.
-pub fn files_of_keys(alloc: Global, plan: &TaskPlan, keys: &[Key]) -> Result<Listed, AllocError>
-    ensures places { IfOk result (λ x. are_places (length plan.now.files) x.places ≡ true) }
-    ensures records { IfOk result (λ x. AreRecords plan.now x.records x.places) }
-    ensures files { IfOk result (λ x. picked plan.now.files x.places ≡ in_order (task_script plan.now) (who_of plan.now)
-        keys.now) }
-    ensures seen { IfOk result (λ x. x.seen.items ≡ seen_in plan.now keys.now) }
+pub fn files_of_keys(
+    alloc: Global,
+    plan: &TaskPlan,
+    prefix: &Text,
+    keys: &[Key],
+) -> Result<Listed, AllocError>
+    requires { prefix.now ≡ attempt_prefix (task_script plan.now) (who_of plan.now) }
+    ensures { IfOk result (IsListed plan.now keys.now) }
 {
-    let prefix = prefix(alloc, plan)?;
+    let seen = unseen(alloc, plan.files.len())?;
     let mut listed = Listed {
         places: Sequence::new(alloc),
         records: KeyList::new(alloc),
-        seen: unseen(alloc, plan.files.len())?,
+        seen,
     };
     for key in keys {
-        let place = place_of(alloc, plan, &prefix, key)?;
-        add_place(&mut listed, place, key)?;
+        let Ok(place) = place_of(alloc, plan, prefix, key) else {
+            let_go(listed);
+            return Err(AllocError);
+        };
+        let Ok(()) = add_place(&mut listed, place, key) else {
+            let_go(listed);
+            return Err(AllocError);
+        };
     }
     Ok(listed)
 }
 
 /// The key of the record of the file at a place.
-pub fn record_at(
-    alloc: Global,
-    plan: &TaskPlan,
-    dir: &S3Path,
-    place: usize,
-) -> Result<Key, AllocError>
-    requires dir { dir.now ≡ dir_of plan.now }
-    requires within { place < length plan.now.files }
+pub fn record_at(alloc: Global, plan: &TaskPlan, place: usize) -> Result<Key, AllocError>
+    requires { place < length plan.now.files }
     ensures { IfOk result (λ key. key ≡ record_of plan.now (get_or plan.now.files place ([], []))) }
 {
     let Some((path, _)) = file_at(plan, place) else {
         unreachable!();
     };
-    record(alloc, plan, dir, path)
+    let dir = directory(alloc, plan)?;
+    record(alloc, plan, &dir, path)
 }
 
 /// The lesser of two keys, where there are two.
@@ -120,19 +121,29 @@ fn lesser(least: Option<Key>, key: Key) -> Key
     }
 }
 
-/// The least key of a record that is not seen.
-pub fn missing(alloc: Global, plan: &TaskPlan, seen: &[bool]) -> Result<Option<Key>, AllocError>
+/// The end of a commit that has seen these records: Gone with the least key of one that is not seen, or none.
+pub fn missing(alloc: Global, plan: &TaskPlan, seen: &[bool]) -> Result<Option<TaskEnd>, AllocError>
     requires { length seen.now ≡ length plan.now.files }
-    ensures { IfOk result (λ key. key ≡ least_unseen seen.now (map (record_of plan.now) plan.now.files)) }
+    ensures { IfOk result (λ end. end ≡ option_map TaskEnd.Gone
+        (least_unseen seen.now (map (record_of plan.now) plan.now.files))) }
 {
-    let dir = directory(alloc, plan)?;
     let mut left = seen.len();
     let mut least = None;
     while 0 < left {
         left -= 1;
         if !seen[left] {
-            least = Some(lesser(least, record_at(alloc, plan, &dir, left)?));
+            let Ok(key) = record_at(alloc, plan, left) else {
+                let_go(least);
+                return Err(AllocError);
+            };
+            least = Some(lesser(least, key));
         }
     }
-    Ok(least)
+    match least {
+        Some(key) => {
+            let name = name_of(key)?;
+            Ok(Some(TaskEnd::Gone(name)))
+        }
+        None => Ok(None),
+    }
 }

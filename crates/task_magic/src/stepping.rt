@@ -8,7 +8,7 @@ ghost use Rattle.task_requests.specs.Writing.{dir_of, is_new, Holds, IsWrite, se
 
 use job_model::{TaskEnd, TaskPlan};
 use path_keys::S3Path;
-use s3_types::{Reply, Request, Tag};
+use s3_types::{Key, Reply, Request, Tag, Text};
 use std::alloc::{AllocError, Global};
 use task_requests::{
     WriteStage, ask, ask_behind, begin_upload, behind, file_at, note_part, tag_in, target,
@@ -120,6 +120,14 @@ fn add_part(
     }
 }
 
+/// The name of what is gone, by its key.
+pub fn name_of(key: Key) -> Result<Text, AllocError>
+    ensures { IfOk result (λ name. name ≡ key) }
+{
+    let name = key.as_text().clone()?;
+    Ok(name)
+}
+
 /// The upload of the present file is not there.
 fn stop_gone(
     alloc: Global,
@@ -140,7 +148,7 @@ fn stop_gone(
         unreachable!();
     };
     let key = target(alloc, plan, path)?;
-    let name = key.as_text().clone()?;
+    let name = name_of(key)?;
     Ok(Turned {
         place,
         stage: WriteStage::Sending(sent),

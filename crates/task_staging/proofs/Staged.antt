@@ -526,3 +526,8 @@ at_ok (Err x) P h = tt
 -- what is told of a part's tag is told of the reply
 pub told_part : {X E : Type 0} (x : Result X E) (m n : Attempting TaskCommit) (r : Reply) (tag : Spelled) → Some tag ≡ tag_in r → OnOk x ((b : Bool) → n ≡ task_commit_told m (Got (Part tag) b)) → OnOk x ((b : Bool) → n ≡ task_commit_told m (Got r b))
 told_part x m n r tag e h = subst (λ y. OnOk x ((b : Bool) → n ≡ task_commit_told m (Got y b))) (part_reply r tag e) h
+
+-- a list to which a thing was added, where the thing is known
+pub grown : {X Y E : Type 0} (r : Result Y E) (new old : List X) (x y : X) → OnOk r (new ≡ old ++ x ∷ []) → x ≡ y → OnOk r (new ≡ old ++ y ∷ [])
+grown (Ok v) new old x y h e = h ∙ ap (λ z. old ++ z ∷ []) e
+grown (Err v) new old x y h e = tt

@@ -13,7 +13,7 @@ use job_model::TaskPlan;
 use magic_paths::{staged_set_path, temporary_path};
 use path_keys::S3Path;
 use pending_json::PendingSet;
-use s3_types::{Request, Text};
+use s3_types::{Request, Text, both};
 use std::alloc::{AllocError, Global};
 use task_requests::{ask_next, ask_upload, file_at};
 
@@ -48,8 +48,7 @@ fn store_request(alloc: Global, plan: &TaskPlan, set: &PendingSet) -> Result<Req
     ensures { IfOk result (λ request. request ≡ ClusterPut (temporary_path (task_script plan.now) (who_of plan.now))
         (text_of set.now)) }
 {
-    let path = temporary(alloc, plan)?;
-    let bytes = set.print(alloc)?;
+    let (path, bytes) = both(temporary(alloc, plan), set.print(alloc))?;
     Request::cluster_put(&path, &bytes)
 }
 
@@ -65,8 +64,7 @@ pub fn rename_request(alloc: Global, plan: &TaskPlan) -> Result<Request, AllocEr
     ensures { IfOk result (λ request. request ≡ ClusterRename (temporary_path (task_script plan.now) (who_of plan.now))
         (layout.staged_set_path plan.now.job.job plan.now.task)) }
 {
-    let source = temporary(alloc, plan)?;
-    let target = published(alloc, plan)?;
+    let (source, target) = both(temporary(alloc, plan), published(alloc, plan))?;
     Request::cluster_rename(&source, &target)
 }
 

@@ -1,4 +1,4 @@
-ghost use Rattle.std.specs.Prelude.{◌≡◌, ◌+◌, ◌<◌, ◌≤◌, Bool, true, false, length, drop, get_or, [], IfOk, OnOk, OnErr, Some, None};
+ghost use Rattle.std.specs.Prelude.{◌≡◌, ◌+◌, ◌++◌, ◌∷◌, ◌<◌, ◌≤◌, Bool, true, false, length, drop, get_or, [], IfOk, OnOk, OnErr, Some, None};
 ghost use Rattle.s3_types.specs.declared.request.Committer.TheVariants.{Magic};
 ghost use Rattle.s3_types.specs.Tags.{is_plain_tag};
 ghost use Rattle.retries.specs.Retries.{Got, WornOut};
@@ -18,7 +18,7 @@ use conflict::CheckAbsent;
 use job_model::{DrawnPart, TaskEnd, TaskPlan};
 use machine::Asked;
 use pending_json::{PendingSet, PendingUpload};
-use s3_types::{Refusal, Reply, Sequence, Tag, put};
+use s3_types::{Refusal, Reply, Sequence, Tag, Text, both, put};
 use std::alloc::{AllocError, Global};
 use task_machines::{Holds, TaskMachine, TheCommit};
 use task_requests::{
@@ -84,30 +84,30 @@ fn renamed_end(
 }
 
 /// The name of the upload of the file at a place, which is gone.
-fn gone_end(alloc: Global, plan: &TaskPlan, place: usize) -> Result<TaskEnd, AllocError>
+fn gone_name(alloc: Global, plan: &TaskPlan, place: usize) -> Result<Text, AllocError>
     requires { place < length plan.now.files }
-    ensures { IfOk result (λ end. end ≡ TaskEnd.Gone (file_key (task_script plan.now)
-        (get_or plan.now.files place ([], [])))) }
+    ensures { IfOk result (λ name. name ≡ file_key (task_script plan.now) (get_or plan.now.files place ([], []))) }
 {
     let Some((path, _)) = file_at(plan, place) else {
         unreachable!();
     };
     let key = target(alloc, plan, path)?;
     let name = key.as_text().clone()?;
-    Ok(TaskEnd::Gone(name))
+    Ok(name)
 }
 
-/// The record of the file at a place, whose last part came back.
-fn last_record(
+/// Adds the record of the file at a place, whose last part came back.
+fn add_record(
     alloc: Global,
     plan: &TaskPlan,
     place: usize,
     part: &DrawnPart,
-) -> Result<PendingUpload, AllocError>
+    records: &mut Sequence<PendingUpload>,
+) -> Result<(), AllocError>
     requires { IsLastPart plan.now place part.now.tag part.now.size }
-    ensures { let f = get_or plan.now.files place ([], []) in IfOk result
-        (λ p. p ≡ file_record (task_script plan.now) (who_of plan.now) f
-        (one_more part.now.tag part.now.size (drawn_last plan.now.known))) }
+    ensures { let f = get_or plan.now.files place ([], []) in OnOk result
+        (records.new ≡ records.old ++ file_record (task_script plan.now) (who_of plan.now) f
+        (one_more part.now.tag part.now.size (drawn_last plan.now.known)) ∷ []) }
 {
     let Some((path, bytes)) = file_at(plan, place) else {
         unreachable!();
@@ -115,7 +115,8 @@ fn last_record(
     let Some(drawn) = last_drawn(&plan.known) else {
         unreachable!();
     };
-    pending_with(alloc, plan, path, bytes, drawn, part)
+    let record = pending_with(alloc, plan, path, bytes, drawn, part)?;
+    records.push(record)
 }
 
 /// The put of the set was sent. Takes no memory.
@@ -276,8 +277,7 @@ impl Staging {
         ensures { Heard plan.old plan.new self.old self.new (Part part.now.tag) result }
     {
         let _ = job_of(plan);
-        let record = last_record(alloc, plan, self.place, part)?;
-        self.set.commits.push(record)?;
+        add_record(alloc, plan, self.place, part, &mut self.set.commits)?;
         let place = self.place + 1;
         let asked = next_request(alloc, plan, &self.set, place)?;
         match note_part(plan, asked, part.tag, part.size) {
@@ -313,8 +313,8 @@ impl Staging {
         match tag_in(reply) {
             Some(tag) => self.add_part(alloc, plan, sent, tag),
             None => {
-                let end = gone_end(alloc, plan, self.place)?;
-                self.finish(end);
+                let name = gone_name(alloc, plan, self.place)?;
+                self.finish(TaskEnd::Gone(name));
                 Ok(None)
             }
         }
@@ -422,8 +422,7 @@ impl Holds<TheCommit> for Staging {
     ghost operation = { commit_of };
 
     fn begin(alloc: Global, plan: &TaskPlan) -> Result<Staging, AllocError> {
-        let partitions = to_check(alloc, plan)?;
-        let job = job_of(plan).job.clone()?;
+        let (partitions, job) = both(to_check(alloc, plan), job_of(plan).job.clone())?;
         let set = PendingSet {
             job,
             task: plan.task,

@@ -1,6 +1,8 @@
 -- What stands at a path, asked in two stages: first of a file there, and where there is none, of what is below it.
 use Rattle.std.specs.Prelude.{◌≡◌, ℕ, List, [], ◌∷◌, Result, Ok, Err, Option, Some, None}
-use Rattle.bucket_ops.specs.Prelude.{Objects, Reply, Step, Next, End, Look, There, look_of, Ask}
+use Rattle.bucket_ops.specs.Prelude.{Objects, Reply, Step, Next, End, look_of, Ask}
+use Rattle.bucket_ops.specs.declared.look.Look.{Look}
+use Rattle.bucket_ops.specs.declared.look.Look.TheVariants.{There}
 use Rattle.fs_tree.specs.declared.answers.FsRefusal.{FsRefusal}
 use Rattle.fs_tree.specs.declared.answers.FsRefusal.TheVariants.{NotFound}
 use Rattle.fs_ops.specs.declared.at_path.PathStage.{PathStage}

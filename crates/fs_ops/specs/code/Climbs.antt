@@ -1,6 +1,8 @@
 -- The directories above a path are looked at for a file one by one, from the root on.
 use Rattle.std.specs.Prelude.{ℕ, List, [], ◌∷◌}
-use Rattle.bucket_ops.specs.Prelude.{Objects, Look, There}
+use Rattle.bucket_ops.specs.Prelude.{Objects}
+use Rattle.bucket_ops.specs.declared.look.Look.{Look}
+use Rattle.bucket_ops.specs.declared.look.Look.TheVariants.{There}
 use Rattle.fs_tree.specs.Prelude.{NoFiles, IsFirstFile}
 use Rattle.fs_ops.specs.declared.climb.Climb.{Climb}
 use Rattle.fs_ops.specs.declared.climb.Climbed.{Climbed}

@@ -1,6 +1,8 @@
 -- Deleting a path, by its stages.
 use Rattle.std.specs.Prelude.{◌≡◌, ◌⊎◌, ℕ, ◌+◌, ◌==◌, ◌&&◌, Bool, true, false, List, [], ◌∷◌, Result, Ok, Err, Option, Some, None, length, if◌then◌else◌}
-use Rattle.bucket_ops.specs.Prelude.{text_eq, Objects, begins, text_in, PageEntry, Reply, Step, Next, End, Look, There, look_of, Ask, Page, Put, is_look, sweep_start, sweep_hears, all_go, sweep_asks, IsSweeping, sweep_left, fits}
+use Rattle.bucket_ops.specs.Prelude.{text_eq, Objects, begins, text_in, PageEntry, Reply, Step, Next, End, look_of, Ask, Page, Put, is_look, sweep_start, sweep_hears, all_go, sweep_asks, IsSweeping, sweep_left, fits}
+use Rattle.bucket_ops.specs.declared.look.Look.{Look}
+use Rattle.bucket_ops.specs.declared.look.Look.TheVariants.{There}
 use Rattle.fs_tree.specs.Prelude.{is_key, SomeBelow, NoneBelow, marker, HasFile, IsAbsent, IsEmpty, HasChildren, Deletes, parent, marker_if, IsMarked, IsWithoutBelow}
 use Rattle.std.specs.FinMap as fin
 use Rattle.s3_types.specs.declared.reply.Reply.TheVariants.{Page as APage}

@@ -1,6 +1,8 @@
 -- Making a directory, by its stages.
 use Rattle.std.specs.Prelude.{◌≡◌, ◌⊎◌, ℕ, ◌+◌, true, List, [], ◌∷◌, Result, Ok, Err, length}
-use Rattle.bucket_ops.specs.Prelude.{Objects, Reply, Step, Next, End, Look, There, look_of, Ask, Head, is_look}
+use Rattle.bucket_ops.specs.Prelude.{Objects, Reply, Step, Next, End, look_of, Ask, Head, is_look}
+use Rattle.bucket_ops.specs.declared.look.Look.{Look}
+use Rattle.bucket_ops.specs.declared.look.Look.TheVariants.{There}
 use Rattle.fs_tree.specs.Prelude.{marker_of, keys_above, marker, IsAbsent, NoFiles}
 use Rattle.std.specs.FinMap as fin
 use Rattle.fs_tree.specs.declared.answers.FsRefusal.{FsRefusal}

@@ -1,6 +1,8 @@
 -- Steps of file operations, all of which end where there is no bucket.
 use Rattle.std.specs.Prelude.{◌≡◌, ℕ, true, Result, Err}
-use Rattle.bucket_ops.specs.Prelude.{Objects, Reply, Step, End, Goes, Falls, Look, NoBucket, look_of, Ask, reply_in, edited, is_look}
+use Rattle.bucket_ops.specs.Prelude.{Objects, Reply, Step, End, Goes, Falls, look_of, Ask, reply_in, edited, is_look}
+use Rattle.bucket_ops.specs.declared.look.Look.{Look}
+use Rattle.bucket_ops.specs.declared.look.Look.TheVariants.{NoBucket}
 use Rattle.fs_tree.specs.declared.answers.FsRefusal.{FsRefusal}
 use Rattle.fs_tree.specs.declared.answers.FsRefusal.TheVariants.{NoSuchBucket}
 

@@ -16,5 +16,5 @@ returns-in-Ok c plain =
 pub returns-in-Err : goal.returns-in-Err
 returns-in-Err c =
     let words = texts c.args.words.now in
-    without words c.without_matches.result c.without_matches.ensures.none
-    (λ taken. c.without_matches.ensures.memory.1 (c.in-Err.ensures.passes (ap (λ a. takes a words) c.in_ok-grammar.ensures ∙ taken)))
+    without words c.without_matches-none.result c.without_matches-none.ensures.none
+    (λ taken. c.without_matches-none.ensures.memory.1 (c.in-Err.ensures.passes (ap (λ a. takes a words) c.in_ok-grammar.ensures ∙ taken)))

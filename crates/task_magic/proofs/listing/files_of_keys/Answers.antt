@@ -8,14 +8,14 @@ use Rattle.task_magic.proofs.listing.files_of_keys.Goals as goal
 
 pub loop-key-init : goal.loop-key-init
 loop-key-init c = record {
-  within = ap (are_places (length c.args.plan.now.files)) c.new.ensures;
+  places = ap (are_places (length c.args.plan.now.files)) c.new.ensures;
   records = c.new-2.ensures ∙ sym (ap (λ (l : List ℕ). map (record_of c.args.plan.now) (picked c.args.plan.now.files l)) c.new.ensures);
   files = ap (picked c.args.plan.now.files) c.new.ensures;
-  seen = first_seen c.args.plan.now c.len.result c.in_ok-unseen.field-0.items (c.len.ensures ∙ ap (λ (t : Task). length t.files) c.plan.view_is) c.in_ok-unseen.ensures;
+  seen = first_seen c.args.plan.now c.len.result c.in_ok-seen.seen.items (c.len.ensures ∙ ap (λ (t : Task). length t.files) c.plan.view_is) c.in_ok-seen.ensures;
 }
 
 pub add_place-requires : goal.add_place-requires
-add_place-requires c = within_seen c.args.plan.now (take c.loop-key.key-index c.args.keys.now) c.loop-key.listed.seen.items c.in_ok-place.place c.loop-key.invariant.seen c.in_ok-place.ensures.within
+add_place-requires c = within_seen c.args.plan.now (take c.loop-key.key-index c.args.keys.now) c.loop-key.listed.seen.items c.in-Ok.place c.loop-key.invariant.seen c.in-Ok.ensures.within
 
 pub loop-key-preserved : goal.loop-key-preserved
 loop-key-preserved c =
@@ -23,13 +23,13 @@ loop-key-preserved c =
     let keys = take c.loop-key.key-index c.args.keys.now in
     let more = take (c.loop-key.key-index + 1) c.args.keys.now in
     let k = c.key-item.result in
-    let place = c.in_ok-place.place in
+    let place = c.in-Ok.place in
     let e = take_more c.args.keys.now c.loop-key.key-index k c.loop-key-test.true ∙ ap (λ (x : List ℕ). keys ++ x ∷ []) (sym c.key-item.is) in
     record {
-      within = ap (are_places (length t.files)) c.in_ok-add_place.ensures.places ∙ places_with (length t.files) c.loop-key.listed.places place c.loop-key.invariant.within c.in_ok-place.ensures.within;
-      records = c.in_ok-add_place.ensures.records
-          ∙ (records_with t c.loop-key.listed.records c.loop-key.listed.places k place c.loop-key.invariant.records c.in_ok-place.ensures.within c.in_ok-place.ensures.is
-          ∙ sym (ap (λ (l : List ℕ). map (record_of t) (picked t.files l)) c.in_ok-add_place.ensures.places));
-      files = ap (picked t.files) c.in_ok-add_place.ensures.places ∙ ordered_with t keys more k c.loop-key.listed.places place e c.loop-key.invariant.files c.in_ok-place.ensures.within c.in_ok-place.ensures.is;
-      seen = c.in_ok-add_place.ensures.seen ∙ seen_with t keys more k c.loop-key.listed.seen.items place e c.loop-key.invariant.seen c.in_ok-place.ensures.within c.in_ok-place.ensures.is;
+      places = ap (are_places (length t.files)) c.in-Ok-add_place.ensures.places ∙ places_with (length t.files) c.loop-key.listed.places place c.loop-key.invariant.places c.in-Ok.ensures.within;
+      records = c.in-Ok-add_place.ensures.records
+          ∙ (records_with t c.loop-key.listed.records c.loop-key.listed.places k place c.loop-key.invariant.records c.in-Ok.ensures.within c.in-Ok.ensures.is
+          ∙ sym (ap (λ (l : List ℕ). map (record_of t) (picked t.files l)) c.in-Ok-add_place.ensures.places));
+      files = ap (picked t.files) c.in-Ok-add_place.ensures.places ∙ ordered_with t keys more k c.loop-key.listed.places place e c.loop-key.invariant.files c.in-Ok.ensures.within c.in-Ok.ensures.is;
+      seen = c.in-Ok-add_place.ensures.seen ∙ seen_with t keys more k c.loop-key.listed.seen.items place e c.loop-key.invariant.seen c.in-Ok.ensures.within c.in-Ok.ensures.is;
     }

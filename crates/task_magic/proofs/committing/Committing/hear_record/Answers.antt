@@ -6,15 +6,15 @@ use Rattle.task_magic.specs.Committing.{commit_by, commit_of, HoldsCommit}
 use Rattle.task_magic.proofs.Committed.{within_at, goes_gone_at, goes_read_at, keeps_read_at}
 use Rattle.task_magic.proofs.committing.Committing.hear_record.Goals as goal
 
-pub record_key_at-requires : goal.record_key_at-requires
-record_key_at-requires c = within_at (length c.args.plan.now.files) c.args.self.now.places c.args.self.now.at c.args.place c.requires.keeps.within c.requires.at
+pub record_at-requires : goal.record_at-requires
+record_at-requires c = within_at (length c.args.plan.now.files) c.args.self.now.places c.args.self.now.at c.args.place c.requires.keeps.within c.requires.at
 
 pub returns-then-is_no_key-clause-goes : goal.returns-then-is_no_key-clause-goes
 returns-then-is_no_key-clause-goes c =
     let h = c.args.self.now in
     ap (commit_of c.args.plan.now) c.finish.ensures
     ∙ goes_gone_at c.args.plan.now h.listing (keys_on h.walk) h.places h.at c.args.place h.end c.args.reply.now c.requires.end c.requires.listing c.requires.at c.requires.fits
-    c.in_ok-name.name (sym c.is_no_key.ensures ∙ c.if-is_no_key.true) (c.in_ok-name.ensures.cases ∙ (c.as_text.ensures.text ∙ c.in_ok-key.ensures))
+    c.in_ok-name.name (sym c.is_no_key.ensures ∙ c.if-is_no_key.true) (c.in_ok-name.ensures ∙ c.in_ok-key.ensures)
 
 pub behind-self-requires : goal.behind-self-requires
 behind-self-requires c = omega (arith, c.len.ensures, slice_get_within c.args.self.now.places c.args.self.now.at c.args.place (sym c.requires.at))

@@ -1,5 +1,6 @@
 use Rattle.std.proofs.Common.{ap, sym, subst, ◌∙◌}
 use Rattle.job_protocol.specs.Prelude.{task_commit_wants}
+use Rattle.job_model.specs.declared.ends.TaskEnd.TheVariants as ends
 use Rattle.task_staging.specs.declared.staging.Staging.{Staging}
 use Rattle.task_staging.specs.Staging.{seen, Keeps}
 use Rattle.task_requests.proofs.Steps.{tag_plain, tag_none}
@@ -22,21 +23,21 @@ returns-in-Some c =
       err = k.err;
     }
 
-pub gone_end-requires : goal.gone_end-requires
-gone_end-requires c =
+pub gone_name-requires : goal.gone_name-requires
+gone_name-requires c =
     let t = c.args.plan.now in
     let h = c.args.self.now in
     part_within (is_sent t h.stage h.checks h.place c.args.sent (holds_open t h c.requires.at.end c.requires.at.keeps).at c.requires.at.stage)
 
-pub returns-in_ok-end-in-None : goal.returns-in_ok-end-in-None
-returns-in_ok-end-in-None c =
+pub returns-in_ok-name-in-None : goal.returns-in_ok-name-in-None
+returns-in_ok-name-in-None c =
     let t = c.args.plan.now in
     let h = c.args.self.now in
     let at = (holds_open t h c.requires.at.end c.requires.at.keeps).at in
     let none = tag_none c.args.reply.now (open_fits t h.stage h.checks h.place c.args.sent h.end c.args.reply.now c.requires.at.end c.requires.at.stage at c.requires.fits) c.in-None.ensures in
     record {
       keeps = subst (Keeps t) (sym c.finish.ensures) tt;
-      told = λ b. ap (λ (x : Staging). seen t x) c.finish.ensures ∙ gone_told t h.stage h.checks h.place c.args.sent h.end c.args.reply.now b _ c.requires.at.end c.requires.at.stage (is_sent t h.stage h.checks h.place c.args.sent at c.requires.at.stage) none c.in_ok-end-in-None.ensures;
+      told = λ b. ap (λ (x : Staging). seen t x) c.finish.ensures ∙ gone_told t h.stage h.checks h.place c.args.sent h.end c.args.reply.now b _ c.requires.at.end c.requires.at.stage (is_sent t h.stage h.checks h.place c.args.sent at c.requires.at.stage) none (ap ends.Gone c.in_ok-name-in-None.ensures);
       next = ap (λ (x : Staging). task_commit_wants (seen t x)) (sym c.finish.ensures);
       err = tt;
     }

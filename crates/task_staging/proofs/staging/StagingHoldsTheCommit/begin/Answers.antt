@@ -1,6 +1,9 @@
-use Rattle.std.proofs.Common.{◌∙◌}
+use Rattle.std.proofs.Common.{◌≡◌, ℕ, List, IfOk, subst, ◌∙◌}
+use Rattle.job_protocol.specs.Prelude.{task_script, who_of, to_check}
 use Rattle.task_staging.proofs.Staged.{start_is}
 use Rattle.task_staging.proofs.staging.StagingHoldsTheCommit.begin.Goals as goal
 
 pub returns-clause-start : goal.returns-clause-start
-returns-clause-start c = start_is c.args.plan.now c.new-2.result c.requires (c.new-2.ensures ∙ c.in_ok-partitions.ensures)
+returns-clause-start c =
+    let t = c.args.plan.now in
+    start_is t c.new-2.result c.requires (c.new-2.ensures ∙ subst (λ r. IfOk r (λ (d : List (List ℕ)). d ≡ to_check (task_script t) (who_of t))) c.in_ok-partitions.ensures.one c.to_check.ensures)

@@ -1,9 +1,9 @@
 use Rattle.std.proofs.Common.{ap, sym, ◌∙◌, slice_get}
 use Rattle.job_protocol.specs.Prelude.{Task}
-use Rattle.task_requests.proofs.Steps.{file_is, ok_as}
+use Rattle.task_requests.proofs.Steps.{file_is}
 use Rattle.task_staging.proofs.Records.{last_tags, last_sizes}
-use Rattle.task_staging.proofs.Staged.{record_at}
-use Rattle.task_staging.proofs.staging.last_record.Goals as goal
+use Rattle.task_staging.proofs.Staged.{record_at, grown}
+use Rattle.task_staging.proofs.staging.add_record.Goals as goal
 
 pub pending_with-requires-clause-tags : goal.pending_with-requires-clause-tags
 pending_with-requires-clause-tags c =
@@ -18,4 +18,4 @@ pending_with-requires-clause-sizes c =
 pub returns : goal.returns
 returns c =
     let t = c.args.plan.now in
-    ok_as c.pending_with.result _ _ c.pending_with.ensures (record_at t c.args.place c.args.part.now.size c.args.part.now.tag (c.in-Some.path.now, c.in-Some.bytes.now) c.in-Some-last_drawn.drawn.now c.in-Some.ensures.file (c.in-Some-last_drawn.ensures ∙ ap (λ (x : Task). slice_get x.known.drawn 0) c.plan.view_is))
+    grown c.push.result _ _ _ _ c.push.ensures.ok (c.in_ok-record.ensures ∙ record_at t c.args.place c.args.part.now.size c.args.part.now.tag (c.in-Some.path.now, c.in-Some.bytes.now) c.in-Some-last_drawn.drawn.now c.in-Some.ensures.file (c.in-Some-last_drawn.ensures ∙ ap (λ (x : Task). slice_get x.known.drawn 0) c.plan.view_is))
