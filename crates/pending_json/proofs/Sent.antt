@@ -1,16 +1,14 @@
 -- What a record sends to a writer is its tree, and the text of that is the tree's.
 use Rattle.std.proofs.Common.{◌≡◌, ℕ, suc, List, [], ◌∷◌, map, length, Option, Some, None, is_some, option_map, codes, refl, sym, ap, subst}
 use Rattle.std.specs.Prelude.{cond}
-use Rattle.pending_json.specs.Prelude.{WritesEach, Data, Members, member, no_members, string, array, items_of, SendsValue, compact_text, Spelled, Pending, whole, wholes, texts, tag_digits, version_of, pending_tree, set_tree, success_tree, committer_word}
-use denote.Ref.{Bor}
-use Rattle.serde.specs.Event.{Log, Logs, WritesSeq, text, unsigned, seq_begins, seq_ends, map_begins, map_ends}
-use Rattle.serde_json.specs.Events as events
-use Rattle.serde_json.specs.Events.{items_len, members_len, SendsItems}
+use Rattle.pending_json.specs.Prelude.{WritesEach, Data, string, array, items_of, SendsValue, compact_text, Spelled, Pending, whole, wholes, texts, tag_digits, version_of, pending_tree, set_tree, success_tree, committer_word}
+use Rattle.serde.specs.Event.{Log, Logs, WritesSeq, text, unsigned, seq_begins, seq_ends, map_begins, map_ends, field_key}
+use Rattle.serde.specs.declared.name.Case.TheVariants.{AsIs}
+use Rattle.serde_json.specs.Events.{items_len, SendsItems}
 use Rattle.serde_json.specs.Sent.{IsTextOf}
 use Rattle.serde_json.proofs.FreeTexts.{text_of_value}
-use Rattle.pending_json.specs.Sending.{SendsMember, SendsSizes, SendsStamp, sent_tree}
-use Rattle.pending_json.specs.Trees.{with_sizes, with_stamp}
-use Rattle.pending_json.specs.declared.sending.Sent.{Sent}
+use Rattle.pending_json.specs.Sending.{SendsMember, SendsSizes, SendsStamp}
+use Rattle.pending_json.specs.Trees.{upload_tree, mark_tree}
 use Rattle.pending_json.specs.declared.records.PendingSet.{PendingSet}
 use Rattle.pending_json.specs.declared.records.SuccessMark.{SuccessMark}
 use Rattle.pending_json.proofs.Floats.{pending_has_none, set_has_none, success_has_none}
@@ -57,30 +55,20 @@ wholes_sent all old new h = seq_sent WritesWhole whole (λ x o n s. s) all old n
 
 -- ---- members
 
--- what such members write
-abbrev pub WritesMember : Bor (List ℕ) × Sent → Log → Log → Type 0
-WritesMember m = SendsMember m.0.now (sent_tree m.1)
+pub text_is : (k s t : List ℕ) (old new : Log) → s ≡ t → SendsMember k (string s) old new → SendsMember k (string t) old new
+text_is k s t old new same h = subst (λ x. SendsMember k (string x) old new) same h
 
--- members by their names and trees, in turn
-abbrev pub Each : List (List ℕ × Data) → Log → Log → Type 0
-Each = WritesEach (λ m. SendsMember m.0 m.1)
+pub whole_is : (k : List ℕ) (m n : ℕ) (old new : Log) → m ≡ n → SendsMember k (whole m) old new → SendsMember k (whole n) old new
+whole_is k m n old new same h = subst (λ x. SendsMember k (whole x) old new) same h
 
--- such members before others
-abbrev before : List (List ℕ × Data) → Members → Members
-before [] others = others
-before (m ∷ all) others = member m.0 m.1 (before all others)
+pub tags_are : (k : List ℕ) (ts us : List Spelled) (old new : Log) → ts ≡ us → SendsMember k (array (texts (map tag_digits ts))) old new → SendsMember k (array (texts (map tag_digits us))) old new
+tags_are k ts us old new same h = subst (λ x. SendsMember k (array (texts (map tag_digits x))) old new) same h
 
-sent_before : (all : List (List ℕ × Data)) (others : Members) (old mid new : Log) → Each all old mid → events.SendsMembers others mid new → events.SendsMembers (before all others) old new
-sent_before [] others old mid new same h = subst (λ l. events.SendsMembers others l new) same h
-sent_before (m ∷ all) others old mid new h k = (h.1.0, h.0, h.1.1, h.1.2, sent_before all others h.0 mid new h.2 k)
+pub texts_are : (k : List ℕ) (ts us : List (List ℕ)) (old new : Log) → ts ≡ us → SendsMember k (array (texts ts)) old new → SendsMember k (array (texts us)) old new
+texts_are k ts us old new same h = subst (λ x. SendsMember k (array (texts x)) old new) same h
 
-sizes_before : (sizes : Option (List ℕ)) (others : Members) (old mid new : Log) → SendsSizes sizes old mid → events.SendsMembers others mid new → events.SendsMembers (with_sizes sizes others) old new
-sizes_before None others old mid new same h = subst (λ l. events.SendsMembers others l new) same h
-sizes_before (Some sizes) others old mid new h k = (h.0, mid, h.1, h.2, k)
-
-stamp_before : (stamp : Option ℕ) (others : Members) (old mid new : Log) → SendsStamp stamp old mid → events.SendsMembers others mid new → events.SendsMembers (with_stamp stamp others) old new
-stamp_before None others old mid new same h = subst (λ l. events.SendsMembers others l new) same h
-stamp_before (Some stamp) others old mid new h k = (h.0, mid, h.1, h.2, k)
+pub uploads_are : (k : List ℕ) (ps qs : List Pending) (old new : Log) → ps ≡ qs → SendsMember k (array (items_of (map pending_tree ps))) old new → SendsMember k (array (items_of (map pending_tree qs))) old new
+uploads_are k ps qs old new same h = subst (λ x. SendsMember k (array (items_of (map pending_tree x))) old new) same h
 
 pub sizes_are : (ns ms : Option (List ℕ)) (old new : Log) → ns ≡ ms → SendsSizes ns old new → SendsSizes ms old new
 sizes_are ns ms old new same h = subst (λ x. SendsSizes x old new) same h
@@ -92,50 +80,34 @@ pub told : {A B : Type 0} (f : A → B) (o : Option A) → is_some (option_map f
 told f None = refl
 told f (Some x) = refl
 
--- how many members there are
-upload_count : (sizes : Option (List ℕ)) (others : Members) → members_len others ≡ 3 → cond (is_some sizes) 10 9 ≡ suc (suc (suc (suc (suc (suc (members_len (with_sizes sizes others)))))))
-upload_count None others e = rw e refl
-upload_count (Some sizes) others e = rw e refl
+module _ (p : Pending) (a b c d e f g h i j k z : Log)
+    (attempt : SendsMember (codes "attempt") (whole p.attempt) b c) (bucket : SendsMember (codes "bucket") (string p.bucket) c d) (destination : SendsMember (codes "destination") (string p.destination) d e)
+    (tags : SendsMember (codes "etags") (array (texts (map tag_digits p.tags))) e f) (kind : SendsMember (codes "kind") (string (codes "pending")) f g) (len : SendsMember (codes "length") (whole p.length) g h)
+    (task : SendsMember (codes "task") (whole p.task) i j) (upload : SendsMember (codes "upload") (whole p.upload) j k) where
+  pub upload_sent : (sizes : Option (List ℕ)) (last : Log) → Logs a b (map_begins (Some (cond (is_some sizes) 10 9))) → SendsSizes sizes h i
+      → SendsMember (codes "version") (whole (version_of (is_some sizes))) k last → Logs last z map_ends → SendsValue (upload_tree p sizes) a z
+  upload_sent None last begun same version ended =
+      (b, begun, (attempt.0, c, attempt.1, attempt.2, (bucket.0, d, bucket.1, bucket.2, (destination.0, e, destination.1, destination.2, (tags.0, f, tags.1, tags.2, (kind.0, g, kind.1, kind.2, (len.0, h, len.1, len.2, (task.0, j, subst (λ l. Logs l task.0 (field_key (codes "task") AsIs)) same task.1, task.2, (upload.0, k, upload.1, upload.2, (version.0, last, version.1, version.2, ended))))))))))
+  upload_sent (Some ns) last begun sizes version ended =
+      (b, begun, (attempt.0, c, attempt.1, attempt.2, (bucket.0, d, bucket.1, bucket.2, (destination.0, e, destination.1, destination.2, (tags.0, f, tags.1, tags.2, (kind.0, g, kind.1, kind.2, (len.0, h, len.1, len.2, (sizes.0, i, sizes.1, sizes.2, (task.0, j, task.1, task.2, (upload.0, k, upload.1, upload.2, (version.0, last, version.1, version.2, ended)))))))))))
 
-mark_count : (stamp : Option ℕ) (others : Members) → members_len others ≡ 1 → cond (is_some stamp) 6 5 ≡ suc (suc (suc (suc (members_len (with_stamp stamp others)))))
-mark_count None others e = rw e refl
-mark_count (Some stamp) others e = rw e refl
+module _ (s : PendingSet) (a b c d e f g h z : Log)
+    (attempt : SendsMember (codes "attempt") (whole s.attempt) b c) (commits : SendsMember (codes "commits") (array (items_of (map pending_tree s.commits))) c d)
+    (job : SendsMember (codes "job") (string s.job) d e) (kind : SendsMember (codes "kind") (string (codes "pendingset")) e f) (task : SendsMember (codes "task") (whole s.task) f g)
+    (version : SendsMember (codes "version") (whole 1) g h) where
+  pub set_sent : Logs a b (map_begins (Some 6)) → Logs h z map_ends → SendsValue (set_tree s) a z
+  set_sent begun ended =
+      (b, begun, (attempt.0, c, attempt.1, attempt.2, (commits.0, d, commits.1, commits.2, (job.0, e, job.1, job.2, (kind.0, f, kind.1, kind.2, (task.0, g, task.1, task.2, (version.0, h, version.1, version.2, ended)))))))
 
--- the members of an upload before its sizes and behind them, of a set behind its uploads, and of a marker before its stamp
-abbrev upload_first : ℕ → ℕ → List ℕ → List ℕ → List Spelled → List (List ℕ × Data)
-upload_first attempt len bucket destination tags = (codes "attempt", whole attempt) ∷ (codes "bucket", string bucket) ∷ (codes "destination", string destination) ∷ (codes "etags", array (texts (map tag_digits tags))) ∷ (codes "kind", string (codes "pending")) ∷ (codes "length", whole len) ∷ []
-
-abbrev upload_last : ℕ → ℕ → ℕ → List (List ℕ × Data)
-upload_last task upload version = (codes "task", whole task) ∷ (codes "upload", whole upload) ∷ (codes "version", whole version) ∷ []
-
-abbrev set_last : ℕ → List ℕ → List (List ℕ × Data)
-set_last task job = (codes "job", string job) ∷ (codes "kind", string (codes "pendingset")) ∷ (codes "task", whole task) ∷ (codes "version", whole 1) ∷ []
-
-abbrev mark_first : List ℕ → List ℕ → List (List ℕ) → List (List ℕ × Data)
-mark_first committer job files = (codes "committer", string committer) ∷ (codes "files", array (texts files)) ∷ (codes "job", string job) ∷ (codes "kind", string (codes "success")) ∷ []
-
-pub upload_sent : (p : Pending) (attempt len task upload version : ℕ) (bucket destination : List ℕ) (tags : List Spelled) (a b c d e z : Log)
-    → attempt ≡ p.attempt → bucket ≡ p.bucket → destination ≡ p.destination → tags ≡ p.tags → len ≡ p.length → task ≡ p.task → upload ≡ p.upload → version ≡ version_of (is_some p.sizes)
-    → Logs a b (map_begins (Some (cond (is_some p.sizes) 10 9)))
-    → Each (upload_first attempt len bucket destination tags) b c
-    → SendsSizes p.sizes c d → Each (upload_last task upload version) d e → Logs e z map_ends → SendsValue (pending_tree p) a z
-upload_sent p attempt len task upload version bucket destination tags a b c d e z h1 h2 h3 h4 h5 h6 h7 h8 begun first sizes last ended =
-    rw (sym h1, sym h2, sym h3, sym h4, sym h5, sym h6, sym h7, sym h8)
-    (b, subst (λ n. Logs a b (map_begins (Some n))) (upload_count p.sizes _ refl) begun, sent_before (upload_first attempt len bucket destination tags) (with_sizes p.sizes (before (upload_last task upload version) no_members)) b c z first (sizes_before p.sizes (before (upload_last task upload version) no_members) c d z sizes (sent_before (upload_last task upload version) no_members d e z last ended)))
-
-pub set_sent : (s : PendingSet) (attempt task : ℕ) (job : List ℕ) (commits : List Pending) (a b c d e z : Log) → attempt ≡ s.attempt → commits ≡ s.commits → job ≡ s.job → task ≡ s.task
-    → Logs a b (map_begins (Some 6)) → SendsMember (codes "attempt") (whole attempt) b c → SendsMember (codes "commits") (array (items_of (map pending_tree commits))) c d
-    → Each (set_last task job) d e → Logs e z map_ends → SendsValue (set_tree s) a z
-set_sent s attempt task job commits a b c d e z h1 h2 h3 h4 begun first uploads last ended =
-    rw (sym h1, sym h2, sym h3, sym h4) (b, begun, (first.0, c, first.1, first.2, (uploads.0, d, uploads.1, uploads.2, sent_before (set_last task job) no_members d e z last ended)))
-
-pub mark_sent : (m : SuccessMark) (committer job : List ℕ) (files : List (List ℕ)) (a b c d e z : Log) → committer ≡ committer_word m.committer → files ≡ m.files → job ≡ m.job
-    → Logs a b (map_begins (Some (cond (is_some m.stamp) 6 5)))
-    → Each (mark_first committer job files) b c
-    → SendsStamp m.stamp c d → SendsMember (codes "version") (whole 1) d e → Logs e z map_ends → SendsValue (success_tree m) a z
-mark_sent m committer job files a b c d e z h1 h2 h3 begun first stamp version ended =
-    rw (sym h1, sym h2, sym h3)
-    (b, subst (λ n. Logs a b (map_begins (Some n))) (mark_count m.stamp _ refl) begun, sent_before (mark_first committer job files) (with_stamp m.stamp (member (codes "version") (whole 1) no_members)) b c z first (stamp_before m.stamp (member (codes "version") (whole 1) no_members) c d z stamp (version.0, e, version.1, version.2, ended)))
+module _ (m : SuccessMark) (a b c d e f g z : Log)
+    (committer : SendsMember (codes "committer") (string (committer_word m.committer)) b c) (files : SendsMember (codes "files") (array (texts m.files)) c d)
+    (job : SendsMember (codes "job") (string m.job) d e) (kind : SendsMember (codes "kind") (string (codes "success")) e f) where
+  pub mark_sent : (stamp : Option ℕ) (last : Log) → Logs a b (map_begins (Some (cond (is_some stamp) 6 5))) → SendsStamp stamp f g
+      → SendsMember (codes "version") (whole 1) g last → Logs last z map_ends → SendsValue (mark_tree m stamp) a z
+  mark_sent None last begun same version ended =
+      (b, begun, (committer.0, c, committer.1, committer.2, (files.0, d, files.1, files.2, (job.0, e, job.1, job.2, (kind.0, f, kind.1, kind.2, (version.0, last, subst (λ l. Logs l version.0 (field_key (codes "version") AsIs)) same version.1, version.2, ended))))))
+  mark_sent (Some n) last begun stamp version ended =
+      (b, begun, (committer.0, c, committer.1, committer.2, (files.0, d, files.1, files.2, (job.0, e, job.1, job.2, (kind.0, f, kind.1, kind.2, (stamp.0, g, stamp.1, stamp.2, (version.0, last, version.1, version.2, ended)))))))
 
 -- ---- the text
 

@@ -11,10 +11,10 @@ use serde::Serialize;
 use std::alloc::{AllocError, Global};
 
 /// Whether what a record sends has this text, where there is memory to know it.
-pub fn prints<T: Serialize>(alloc: Global, record: &T, bytes: &[u8]) -> bool
-    ensures { result ≡ true → (log : Log) × T.writes record.now (Some []) log × IsTextOf log bytes.now }
+pub fn prints<T: Serialize>(alloc: Global, item: &T, bytes: &[u8]) -> bool
+    ensures { result ≡ true → (log : Log) × T.writes item.now (Some []) log × IsTextOf log bytes.now }
 {
-    match serde_json::to_vec(alloc, record) {
+    match serde_json::to_vec(alloc, item) {
         Ok(text) => text.as_slice() == bytes,
         Err(_) => false,
     }

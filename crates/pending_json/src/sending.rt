@@ -1,11 +1,10 @@
 //! The records as they are sent to a writer of JSON, member by member in the byte order of the names.
 ghost use Rattle.std.specs.Prelude.{◌≡◌, ◌+◌, ◌<◌, codes, map, cond, OnOk};
 ghost use Rattle.std.specs.Option.{option_copied};
-ghost use Rattle.serde_json.specs.Data.{array};
-ghost use Rattle.serde_json.specs.Events.{SendsValue};
+ghost use Rattle.serde_json.specs.Data.{array, string};
 ghost use Rattle.serde_json.specs.View.{items_of};
-ghost use Rattle.pending_json.specs.Sending.{SendsMember, SendsMembers, SendsSizes, SendsStamp, sent_tree};
-ghost use Rattle.pending_json.specs.Trees.{texts, tag_digits, version_of, pending_tree, set_tree, committer_word, success_tree};
+ghost use Rattle.pending_json.specs.Sending.{SendsMember, SendsSizes, SendsStamp};
+ghost use Rattle.pending_json.specs.Trees.{whole, texts, wholes, tag_digits, version_of, pending_tree, set_tree, committer_word, success_tree};
 
 use crate::pending::PendingUpload;
 use crate::records::{PendingSet, SuccessMark};
@@ -15,20 +14,25 @@ use serde::{Described, Serialize, Serializer};
 /// The version of the form of a set and of a marker.
 const VERSION: u64 = 1;
 
-/// The value of a member.
-#[derive(Clone, Copy)]
-enum Sent<'a> {
-    Whole(u64),
-    Text(&'a str),
-    Tags(&'a [Tag]),
-    Texts(&'a [Text]),
-    Wholes(&'a [u64]),
+fn send_whole<S: Serializer>(out: &mut S, name: &str, n: u64) -> Result<(), S::Error>
+    ensures { OnOk result (SendsMember name.now (whole n) (S.written out.old) (S.written out.new)) }
+{
+    out.key(name)?;
+    out.u64(n)
 }
 
-fn send_tags<S: Serializer>(out: &mut S, tags: &[Tag]) -> Result<(), S::Error>
-    ensures { OnOk result (SendsValue (array (texts (map tag_digits tags.now))) (S.written out.old)
+fn send_text<S: Serializer>(out: &mut S, name: &str, text: &str) -> Result<(), S::Error>
+    ensures { OnOk result (SendsMember name.now (string text.now) (S.written out.old) (S.written out.new)) }
+{
+    out.key(name)?;
+    out.str(text)
+}
+
+fn send_tags<S: Serializer>(out: &mut S, name: &str, tags: &[Tag]) -> Result<(), S::Error>
+    ensures { OnOk result (SendsMember name.now (array (texts (map tag_digits tags.now))) (S.written out.old)
         (S.written out.new)) }
 {
+    out.key(name)?;
     out.begin_seq(Some(tags.len()))?;
     for tag in tags {
         out.str(tag.digits_text())?;
@@ -36,9 +40,10 @@ fn send_tags<S: Serializer>(out: &mut S, tags: &[Tag]) -> Result<(), S::Error>
     out.end_seq()
 }
 
-fn send_texts<S: Serializer>(out: &mut S, all: &[Text]) -> Result<(), S::Error>
-    ensures { OnOk result (SendsValue (array (texts all.now)) (S.written out.old) (S.written out.new)) }
+fn send_texts<S: Serializer>(out: &mut S, name: &str, all: &[Text]) -> Result<(), S::Error>
+    ensures { OnOk result (SendsMember name.now (array (texts all.now)) (S.written out.old) (S.written out.new)) }
 {
+    out.key(name)?;
     out.begin_seq(Some(all.len()))?;
     for text in all {
         out.str(text.as_str())?;
@@ -46,39 +51,22 @@ fn send_texts<S: Serializer>(out: &mut S, all: &[Text]) -> Result<(), S::Error>
     out.end_seq()
 }
 
-fn send_value<S: Serializer>(out: &mut S, value: Sent<'_>) -> Result<(), S::Error>
-    ensures { OnOk result (SendsValue (sent_tree value.entry) (S.written out.old) (S.written out.new)) }
-{
-    match value {
-        Sent::Whole(n) => out.u64(n),
-        Sent::Text(text) => out.str(text),
-        Sent::Tags(tags) => send_tags(out, tags),
-        Sent::Texts(all) => send_texts(out, all),
-        Sent::Wholes(all) => all.serialize(out),
-    }
-}
-
-fn send_member<S: Serializer>(out: &mut S, name: &str, value: Sent<'_>) -> Result<(), S::Error>
-    ensures { OnOk result (SendsMember name.now (sent_tree value.entry) (S.written out.old) (S.written out.new)) }
+fn send_wholes<S: Serializer>(out: &mut S, name: &str, all: &[u64]) -> Result<(), S::Error>
+    ensures { OnOk result (SendsMember name.now (array (wholes all.now)) (S.written out.old) (S.written out.new)) }
 {
     out.key(name)?;
-    send_value(out, value)
+    all.serialize(out)
 }
 
-fn send_members<S: Serializer>(out: &mut S, members: &[(&str, Sent<'_>)]) -> Result<(), S::Error>
-    ensures { OnOk result (SendsMembers members.now (S.written out.old) (S.written out.new)) }
-{
-    for (name, value) in members {
-        send_member(out, name, *value)?;
-    }
-    Ok(())
-}
-
-fn send_uploads<S: Serializer>(out: &mut S, all: &[PendingUpload]) -> Result<(), S::Error>
-    ensures { OnOk result (SendsMember (codes "commits") (array (items_of (map pending_tree all.now))) (S.written out.old)
+fn send_uploads<S: Serializer>(
+    out: &mut S,
+    name: &str,
+    all: &[PendingUpload],
+) -> Result<(), S::Error>
+    ensures { OnOk result (SendsMember name.now (array (items_of (map pending_tree all.now))) (S.written out.old)
         (S.written out.new)) }
 {
-    out.key("commits")?;
+    out.key(name)?;
     all.serialize(out)
 }
 
@@ -87,7 +75,7 @@ fn send_sizes<S: Serializer>(out: &mut S, sizes: Option<&SizeList>) -> Result<()
     ensures { OnOk result (SendsSizes (option_copied sizes.entry) (S.written out.old) (S.written out.new)) }
 {
     match sizes {
-        Some(sizes) => send_member(out, "sizes", Sent::Wholes(sizes.as_slice())),
+        Some(sizes) => send_wholes(out, "sizes", sizes.as_slice()),
         None => Ok(()),
     }
 }
@@ -97,7 +85,7 @@ fn send_stamp<S: Serializer>(out: &mut S, stamp: Option<u64>) -> Result<(), S::E
     ensures { OnOk result (SendsStamp stamp (S.written out.old) (S.written out.new)) }
 {
     match stamp {
-        Some(stamp) => send_member(out, "stamp", Sent::Whole(stamp)),
+        Some(stamp) => send_whole(out, "stamp", stamp),
         None => Ok(()),
     }
 }
@@ -128,26 +116,17 @@ impl Serialize for PendingUpload {
     fn serialize<S: Serializer>(&self, out: &mut S) -> Result<(), S::Error> {
         let sizes = self.sizes();
         let sized = sizes.is_some();
-        let first = [
-            ("attempt", Sent::Whole(u64::from(self.attempt()))),
-            ("bucket", Sent::Text(self.bucket().as_text().as_str())),
-            (
-                "destination",
-                Sent::Text(self.destination().as_text().as_str()),
-            ),
-            ("etags", Sent::Tags(self.tags().as_slice())),
-            ("kind", Sent::Text("pending")),
-            ("length", Sent::Whole(self.length())),
-        ];
-        let last = [
-            ("task", Sent::Whole(u64::from(self.task()))),
-            ("upload", Sent::Whole(self.upload())),
-            ("version", Sent::Whole(upload_version(sized))),
-        ];
         out.begin_map(Some(count(9, sized)))?;
-        send_members(out, &first)?;
+        send_whole(out, "attempt", u64::from(self.attempt()))?;
+        send_text(out, "bucket", self.bucket().as_text().as_str())?;
+        send_text(out, "destination", self.destination().as_text().as_str())?;
+        send_tags(out, "etags", self.tags().as_slice())?;
+        send_text(out, "kind", "pending")?;
+        send_whole(out, "length", self.length())?;
         send_sizes(out, sizes)?;
-        send_members(out, &last)?;
+        send_whole(out, "task", u64::from(self.task()))?;
+        send_whole(out, "upload", self.upload())?;
+        send_whole(out, "version", upload_version(sized))?;
         out.end_map()
     }
 }
@@ -161,16 +140,13 @@ impl Described for PendingSet {
 
 impl Serialize for PendingSet {
     fn serialize<S: Serializer>(&self, out: &mut S) -> Result<(), S::Error> {
-        let last = [
-            ("job", Sent::Text(self.job.as_str())),
-            ("kind", Sent::Text("pendingset")),
-            ("task", Sent::Whole(u64::from(self.task))),
-            ("version", Sent::Whole(VERSION)),
-        ];
         out.begin_map(Some(6))?;
-        send_member(out, "attempt", Sent::Whole(u64::from(self.attempt)))?;
-        send_uploads(out, self.commits.as_slice())?;
-        send_members(out, &last)?;
+        send_whole(out, "attempt", u64::from(self.attempt))?;
+        send_uploads(out, "commits", self.commits.as_slice())?;
+        send_text(out, "job", self.job.as_str())?;
+        send_text(out, "kind", "pendingset")?;
+        send_whole(out, "task", u64::from(self.task))?;
+        send_whole(out, "version", VERSION)?;
         out.end_map()
     }
 }
@@ -194,16 +170,13 @@ impl Described for SuccessMark {
 
 impl Serialize for SuccessMark {
     fn serialize<S: Serializer>(&self, out: &mut S) -> Result<(), S::Error> {
-        let members = [
-            ("committer", Sent::Text(committer_word(self.committer))),
-            ("files", Sent::Texts(self.files.as_slice())),
-            ("job", Sent::Text(self.job.as_str())),
-            ("kind", Sent::Text("success")),
-        ];
         out.begin_map(Some(count(5, self.stamp.is_some())))?;
-        send_members(out, &members)?;
+        send_text(out, "committer", committer_word(self.committer))?;
+        send_texts(out, "files", self.files.as_slice())?;
+        send_text(out, "job", self.job.as_str())?;
+        send_text(out, "kind", "success")?;
         send_stamp(out, self.stamp)?;
-        send_member(out, "version", Sent::Whole(VERSION))?;
+        send_whole(out, "version", VERSION)?;
         out.end_map()
     }
 }

@@ -1,4 +1,4 @@
-ghost use Rattle.std.specs.Prelude.{◌≡◌, Ok, IfOk};
+ghost use Rattle.std.specs.Prelude.{◌≡◌, ◌⊎◌, Ok, Err, IfOk, IfErr};
 
 /// Drops a value. A function that drops a value of a large type through this call is checked sooner,
 /// since a value's drop is proved variant by variant where its type is written out.
@@ -18,6 +18,7 @@ pub fn put<T: Drop>(place: &mut T, value: T)
 pub fn both<A: Drop, B: Drop, E: Drop>(one: Result<A, E>, other: Result<B, E>) -> Result<(A, B), E>
     ensures one { IfOk result (λ pair. one ≡ Ok pair.0) }
     ensures other { IfOk result (λ pair. other ≡ Ok pair.1) }
+    ensures fault { IfErr result (λ e. (one ≡ Err e) ⊎ (other ≡ Err e)) }
 {
     let one = one?;
     let other = other?;

@@ -1,7 +1,13 @@
 use Rattle.proof_base.proofs.Common.{on_ok_weaker}
-use Rattle.pending_json.proofs.Sent.{set_sent}
+use Rattle.pending_json.proofs.Sent.{text_is, whole_is, uploads_are, set_sent}
 use Rattle.pending_json.proofs.sending.PendingSetSerialize.serialize.Goals as goal
 
 pub returns : goal.returns
-returns g c = on_ok_weaker c.end_map.result (set_sent c.args.self.now _ _ _ _ _ _ _ _ _ _ c.from-2.ensures c.as_slice.ensures c.as_str.ensures c.from.ensures
-    c.in_ok-begin_map.ensures c.in_ok-send_member.ensures c.in_ok-send_uploads.ensures c.in_ok-send_members.ensures) c.end_map.ensures
+returns g c = on_ok_weaker c.end_map.result (set_sent c.args.self.now _ _ _ _ _ _ _ _ _
+    (whole_is _ _ _ _ _ c.from.ensures c.in_ok-send_whole.ensures)
+    (uploads_are _ _ _ _ _ c.as_slice.ensures c.in_ok-send_uploads.ensures)
+    (text_is _ _ _ _ _ c.as_str.ensures c.in_ok-send_text.ensures)
+    c.in_ok-send_text-2.ensures
+    (whole_is _ _ _ _ _ c.from-2.ensures c.in_ok-send_whole-2.ensures)
+    c.in_ok-send_whole-3.ensures
+    c.in_ok-begin_map.ensures) c.end_map.ensures
