@@ -38,13 +38,10 @@ aborts_from c found paths at =
 
 -- what stands behind the place so many steps on
 pub drop_behind : {X : Type 0} (at step : ℕ) (xs : List X) → drop (behind at step (length xs)) xs ≡ drop step (drop at xs)
-drop_behind at step xs = by (nat_lt step (length xs - at)) refl
-  where
-    by : (b : Bool) → nat_lt step (length xs - at) ≡ b → drop (cond b (at + step) (length xs)) xs ≡ drop step (drop at xs)
-    by true t = sym (drop-drop step at xs)
-    by false t =
-        let i = below_not step (length xs - at) t in
-        drop_all (length xs) xs (omega arith) ∙ sym (drop_all step (drop at xs) (omega (arith, i, length-drop at xs)))
+drop_behind at step xs = (elim (nat_lt step (length xs - at)) as (λ b. nat_lt step (length xs - at) ≡ b → drop (cond b (at + step) (length xs)) xs ≡ drop step (drop at xs)) [
+      true ↦ λ t. sym (drop-drop step at xs)
+    | false ↦ λ t. let i = below_not step (length xs - at) t in drop_all (length xs) xs (omega arith) ∙ sym (drop_all step (drop at xs) (omega (arith, i, length-drop at xs)))
+  ]) refl
 
 next_aborting : (w : Script) (r : Reply) (l : List UploadRef) → 0 < length l → aborting w.committer (drop 1 l) ≡ clean_hears w (aborting_from l) r
 next_aborting w r [] h = absurd (omega arith)

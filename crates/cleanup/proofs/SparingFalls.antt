@@ -213,9 +213,6 @@ no_rise_at j Naming s r e = same_left j Naming s (apply s r) (ap (apply s) (sym 
 no_rise_at j (Reading named p ps all) s r e = same_most _ _ refl
 no_rise_at j _ s r e = omega arith
 
-within_rise : (n m : ℕ) → n ≤ n + m
-within_rise n m = omega arith
-
 others_at : (j : Job) (x : Sparing) (s : Scene) (r : Request) → sparing_left_at j x (apply s r) ≤ sparing_left_at j x s + (3 + most_commits)
 others_at j (Walking keys) s r =
     let g = growth.keys j.dest.bucket (layout.magic_prefix j.dest.key j.job) (last_of keys) s r in
@@ -225,7 +222,7 @@ others_at j Naming s r =
     let g = growth.files (layout.cluster_prefix j.job) s r in
     let l = one_more j.committer (files_left (layout.cluster_prefix j.job) s) (files_left (layout.cluster_prefix j.job) (apply s r)) g in
     omega (arith, l)
-others_at j (Reading named p ps all) s r = within_rise _ _
+others_at j (Reading named p ps all) s r = omega arith
 others_at j _ s r = omega arith
 
 pub sparings_end : SparingsEnd

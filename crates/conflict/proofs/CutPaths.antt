@@ -12,11 +12,7 @@ abbrev first_dir : Bool → Option (List ℕ)
 first_dir b = cond b (Some []) None
 
 no_dir : (x : ℕ) (p : List ℕ) → is_other 47 x ≡ true → dir_of p ≡ None → dir_of (x ∷ p) ≡ None
-no_dir x p o e = ap (dir_from x p) e ∙ by (nat_eq x 47) o
-  where
-    by : (b : Bool) → not b ≡ true → first_dir b ≡ None
-    by true h = absurd (true≢false (sym h))
-    by false h = refl
+no_dir x p o e = ap (dir_from x p) e ∙ ((elim (nat_eq x 47) as (λ b. not b ≡ true → first_dir b ≡ None) [ true ↦ λ h. absurd (true≢false (sym h)) | false ↦ λ h. refl ]) o)
 
 pub dir_none : (name : List ℕ) → list_all (is_other 47) name ≡ true → dir_of name ≡ None
 dir_none [] h = refl
@@ -29,11 +25,7 @@ dir_front (x ∷ front) name h = ap (dir_from x (front ++ 47 ∷ name)) (dir_fro
 -- ---- one more path
 
 pub one_more : (p : List ℕ) (ps : List (List ℕ)) → partitions (p ∷ ps) ≡ with_partition (dir_of p) (partitions ps)
-one_more p ps = by (dir_of p)
-  where
-    by : (o : Option (List ℕ)) → ordered (with_dir o (dirs_of ps)) ≡ with_partition o (ordered (dirs_of ps))
-    by (Some d) = refl
-    by None = refl
+one_more p ps = elim (dir_of p) as (λ o. ordered (with_dir o (dirs_of ps)) ≡ with_partition o (ordered (dirs_of ps))) [ Some d ↦ refl | None ↦ refl ]
 
 -- ---- a path below a directory
 
@@ -54,8 +46,4 @@ front_of (x ∷ d) (y ∷ p) h =
     (r.0, ap (λ z. z ∷ p) (sym same) ∙ ap (λ l. x ∷ l) r.1)
 
 pub begins_not : (d p : List ℕ) → ((rest : List ℕ) → p ≡ d ++ rest → ⊥) → false ≡ begins (d ++ 47 ∷ []) p
-begins_not d p h = by (begins (d ++ 47 ∷ []) p) refl
-  where
-    by : (b : Bool) → begins (d ++ 47 ∷ []) p ≡ b → false ≡ b
-    by true e = let r = front_of d p e in absurd (h r.0 r.1)
-    by false e = refl
+begins_not d p h = (elim (begins (d ++ 47 ∷ []) p) as (λ b. begins (d ++ 47 ∷ []) p ≡ b → false ≡ b) [ true ↦ λ e. let r = front_of d p e in absurd (h r.0 r.1) | false ↦ λ e. refl ]) refl

@@ -11,11 +11,7 @@ turned : (x y : List ℕ) → text_cmp x y ≡ Greater → text_cmp y x ≡ Less
 turned x y e = text_total.antisymm y x ∙ ap ordering_reverse e
 
 not_self : (x : List ℕ) → text_cmp x x ≡ Less → ⊥
-not_self x e = by (text_cmp x x) e (text_total.antisymm x x)
-  where
-    by : (o : Ordering) → o ≡ Less → o ≡ ordering_reverse o → ⊥
-    by Less e g = cc
-    by _ e g = cc
+not_self x e = (elim (text_cmp x x) as (λ o. o ≡ Less → o ≡ ordering_reverse o → ⊥) [ Less ↦ λ e g. cc | _ ↦ λ e g. cc ]) e (text_total.antisymm x x)
 
 -- ---- one more in its place
 

@@ -6,11 +6,7 @@ use Rattle.conflict.proofs.Rising.{in_ordered, from_ordered, ordered_same}
 dir_in : (d p : List ℕ) (ps : List (List ℕ)) → IsIn p ps → dir_of p ≡ Some d → IsIn d (dirs_of ps)
 dir_in d p [] i e = absurd i
 dir_in d p (q ∷ ps) (inl is) e = subst (λ o. IsIn d (with_dir o (dirs_of ps))) (sym e ∙ ap dir_of is) (inl refl)
-dir_in d p (q ∷ ps) (inr i) e = by (dir_of q) (dir_in d p ps i e)
-  where
-    by : (o : Option (List ℕ)) → IsIn d (dirs_of ps) → IsIn d (with_dir o (dirs_of ps))
-    by (Some x) h = inr h
-    by None h = h
+dir_in d p (q ∷ ps) (inr i) e = (elim (dir_of q) as (λ o. IsIn d (dirs_of ps) → IsIn d (with_dir o (dirs_of ps))) [ Some x ↦ λ h. inr h | None ↦ λ h. h ]) (dir_in d p ps i e)
 
 -- a directory is that of some of the paths
 record Holder (d : List ℕ) (ps : List (List ℕ)) : Type 0 where

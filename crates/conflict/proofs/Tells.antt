@@ -19,11 +19,7 @@ checks_tell = record { asks = λ w a k d ds. refl; goes = check_goes }
 -- ---- a deletion
 
 same_prefixes : (w : Script) (picks : Picks) (c : Committer) (m : Mode) → m ≡ Replace → replaced c m w picks ≡ deleted c w.dest (partitions (wanted_paths w picks))
-same_prefixes w picks c m e = ap (λ m. replaced c m w picks) e ∙ by c
-  where
-    by : (c : Committer) → replaced c Replace w picks ≡ deleted c w.dest (partitions (wanted_paths w picks))
-    by Magic = refl
-    by _ = refl
+same_prefixes w picks c m e = ap (λ m. replaced c m w picks) e ∙ (elim c as (λ c. replaced c Replace w picks ≡ deleted c w.dest (partitions (wanted_paths w picks))) [ Magic ↦ refl | _ ↦ refl ])
 
 starts : (w : Script) (sets : Sets) (prefixes : List (List ℕ)) → replacing w sets prefixes ≡ commit_deleting w sets (deletion_of w prefixes sweep_start)
 starts w sets [] = refl

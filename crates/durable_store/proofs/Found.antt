@@ -28,11 +28,10 @@ many d h =
 
 -- it is what the base and the changes stand for
 pub stood : (held : logs.Held) (c : Content) → held.base ≡ image c → IsOf (counted (content_after c held.changes)) (Stands held)
-stood held c is = by (nat_lt (2 ^ 62) (content_after c held.changes).next)
-  where
-    by : (t : Bool) → IsOf (cond t (Faulty 5 0) (Store (content_after c held.changes))) (Stands held)
-    by true = tt
-    by false = record { first = c; is_image = is; folded = refl }
+stood held c is = elim (nat_lt (2 ^ 62) (content_after c held.changes).next) as (λ t. IsOf (cond t (Faulty 5 0) (Store (content_after c held.changes))) (Stands held)) [
+      true ↦ tt
+    | false ↦ record { first = c; is_image = is; folded = refl }
+  ]
 
 -- so what was followed stands for what is held
 pub stand_if : {E : Type 0} (r : Result Held E) (held : logs.Held) (c : Content) (rs : List Request) → rs ≡ held.changes → held.base ≡ image c → IfOk r (λ h. h ≡ counted (content_after c rs)) → IfOk r (λ h. IsOf h (Stands held))

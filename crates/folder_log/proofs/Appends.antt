@@ -67,22 +67,11 @@ gate_holds base changes legal change is gate fits = elim (cases_eq gate 1) [
 
 -- ---- a disk that is settled
 
-pub settled_within : (seen : Option File) (leaves : File → Type 0) (gate : ℕ) → IsSettled seen leaves gate → IsWithin (gate + 1) seen
-settled_within None leaves gate s = tt
-settled_within (Some None) leaves gate s = absurd s
-settled_within (Some (Some bytes)) leaves gate s =
-    omega (arith, ap length (s.0.spelled ∙ rest_is s.0.base s.0.changes s.0.legal), length-append (headed s.0.base ++ opened s.0.changes) (0 ∷ []), s.0.at)
-
 -- what a crash leaves of a settled disk is what is held
 pub settled_holds : (seen : Option File) (leaves : File → Type 0) (gate : ℕ) → IsSettled seen leaves gate → IsDurable (stored seen) (Leaves leaves)
 settled_holds None leaves gate s = tt
 settled_holds (Some None) leaves gate s = absurd s
 settled_holds (Some (Some bytes)) leaves gate s = λ h left. left.2 ∙ ap holding_of (s.1 left.0 left.1)
-
-pub settles_holds : (seen : Option File) (leaves : File → Type 0) → Settles seen leaves → IsDurable (stored seen) (Leaves leaves)
-settles_holds None leaves s = tt
-settles_holds (Some None) leaves s = λ h left. left.2 ∙ ap holding_of (s left.0 left.1)
-settles_holds (Some (Some bytes)) leaves s = λ h left. left.2 ∙ ap holding_of (s left.0 left.1)
 
 durable_before : (held : Option Stored) (change : Request) (leaves : Holding → Type 0) → IsDurable held leaves → (h : Holding) → leaves h → IsBeforeOrAfter held change h
 durable_before None change leaves d h left = tt
@@ -154,29 +143,9 @@ module _ (change : Request) (written : List ℕ) (gate end : ℕ) (prepared : Is
 
 -- ---- what is said of the shelf
 
-pub on_ok_all : {T E P : Type 0} (r : Result T E) → P → OnOk r P
-on_ok_all (Ok x) p = p
-on_ok_all (Err e) p = tt
-
 -- what is settled where appends are taken
 pub settled_at : (seen : Option File) (leaves : File → Type 0) (place : Option ℕ) (gate : ℕ) → place ≡ Some gate → TakesAppends seen leaves place → IsSettled seen leaves gate
 settled_at seen leaves place gate is s = subst (TakesAppends seen leaves) is s
-
-pub takes_on : (seen now : Option File) (leaves left : File → Type 0) (gate : Option ℕ) → now ≡ seen → ((c : File) → left c → leaves c) → TakesAppends seen leaves gate → TakesAppends now left gate
-takes_on seen now leaves left None same f s = absurd s
-takes_on seen now leaves left (Some gate) same f s = subst (λ (o : Option File). IsSettled o left gate) (sym same) (fewer seen s)
-  where
-    fewer : (seen : Option File) → IsSettled seen leaves gate → IsSettled seen left gate
-    fewer None s = tt
-    fewer (Some None) s = absurd s
-    fewer (Some (Some bytes)) s = (s.0, λ c l. s.1 c (f c l))
-
-pub settles_on : (seen now : Option File) (leaves left : File → Type 0) → now ≡ seen → ((c : File) → left c → leaves c) → Settles seen leaves → Settles now left
-settles_on seen now leaves left same f s = subst (λ (o : Option File). Settles o left) (sym same) (fewer seen s)
-  where
-    fewer : (seen : Option File) → Settles seen leaves → Settles seen left
-    fewer None s = tt
-    fewer (Some file) s = λ c l. s c (f c l)
 
 module _ {D S : Type 0} (disk : S → D) (moment : D → ℕ) (left_since : D → ℕ → File → Type 0) where
   -- what a crash leaves of the disk, as what the shelf then holds

@@ -62,11 +62,8 @@ fill_wrote byte s place bytes within h =
 fill_after : (byte : ℕ) (s : State) (c : DiskCall) → AreFilled byte s → AreFilled byte (after s c)
 fill_after byte s (Swap bytes) h = (refl, refl)
 fill_after byte s Sync h = (refl, alike s.now)
-fill_after byte s (Write place bytes) h = by (is_within place s.now) refl
-  where
-    by : (b : Bool) → is_within place s.now ≡ b → AreFilled byte (cond b (wrote s place bytes) s)
-    by true e = fill_wrote byte s place bytes e h
-    by false e = h
+fill_after byte s (Write place bytes) h =
+    (elim (is_within place s.now) as (λ b. is_within place s.now ≡ b → AreFilled byte (cond b (wrote s place bytes) s)) [ true ↦ λ e. fill_wrote byte s place bytes e h | false ↦ λ e. h ]) refl
 
 fill_all : (byte : ℕ) (s : State) (cs : List DiskCall) → AreFilled byte s → AreFilled byte (after_all s cs)
 fill_all byte s [] h = h

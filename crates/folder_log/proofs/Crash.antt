@@ -36,14 +36,8 @@ module _ (front : List ℕ) (gate : ℕ) (at : length front ≡ gate) where
     abbrev staged : List ℕ
     staged = front ++ 0 ∷ written
 
-    staged_split : staged ≡ rest_at ++ written
-    staged_split = sym (append_assoc front (0 ∷ []) written)
-
-    before_gate : take gate staged ≡ front
-    before_gate = take_at front (0 ∷ written) gate at
-
     behind_gate : drop (gate + 1) staged ≡ written
-    behind_gate = ap (λ (l : List ℕ). drop (gate + 1) l) staged_split ∙ drop_at rest_at written (gate + 1) length-rest_at
+    behind_gate = ap (λ (l : List ℕ). drop (gate + 1) l) (sym (append_assoc front (0 ∷ []) written)) ∙ drop_at rest_at written (gate + 1) length-rest_at
 
     pub length-staged : length staged ≡ gate + 1 + length written
     length-staged = omega (arith, at, length-append front (0 ∷ written))
@@ -53,15 +47,9 @@ module _ (front : List ℕ) (gate : ℕ) (at : length front ≡ gate) where
     torn_gate c torn =
         let g = get_or c gate 0 in
         let rest : drop gate c ≡ g ∷ written = drop_more c gate 0 (omega (arith, torn.no_shorter, length-staged)) ∙ ap (λ (l : List ℕ). g ∷ l) (torn.after ∙ behind_gate) in
-        sym (take-append-drop gate c) ∙ ap (λ (l : List ℕ). l ++ drop gate c) (torn.before ∙ before_gate) ∙ ap (λ (l : List ℕ). front ++ l) rest
+        sym (take-append-drop gate c) ∙ ap (λ (l : List ℕ). l ++ drop gate c) (torn.before ∙ (take_at front (0 ∷ written) gate at)) ∙ ap (λ (l : List ℕ). front ++ l) rest
 
     pub left_opened : (c : File) → (c ≡ Some staged) ⊎ IsTorn gate 1 (Some staged) c → IsLeftOf front written c
     left_opened c (inl is) = inr (0, is)
     left_opened None (inr torn) = absurd torn
     left_opened (Some c) (inr torn) = inr (get_or c gate 0, ap (λ (l : List ℕ). Some l) (torn_gate c torn))
-
-    pub written_gate : overwritten gate (1 ∷ []) staged ≡ front ++ 1 ∷ written
-    written_gate =
-        ap (λ (l : List ℕ). l ++ (1 ∷ []) ++ drop (gate + 1) staged) before_gate
-        ∙ ap (λ (l : List ℕ). front ++ (1 ∷ []) ++ l) behind_gate
-        ∙ append_assoc front (1 ∷ []) written

@@ -13,14 +13,11 @@ pub set_now : (first : File) (calls new : List DiskCall) (call : DiskCall) (set 
 set_now first calls new call set next more is now =
     ap (λ (o : Option State). last_of o first) is ∙ now ∙ sym (ap (state_of first) more ∙ after_last (at_rest first) calls call)
 
-pub same_now : (first : File) (calls new : List DiskCall) (old set : Option State) → new ≡ calls → set ≡ old → last_of old first ≡ state_of first calls → last_of set first ≡ state_of first new
-same_now first calls new old set same is now = ap (λ (o : Option State). last_of o first) is ∙ now ∙ sym (ap (state_of first) same)
-
 -- whether the call was kept or not
 pub set_either : {T E : Type 0} (r : Result T E) (first : File) (calls new : List DiskCall) (call : DiskCall) (old set : Option State) (next : State) → OnOk r (new ≡ calls ++ call ∷ []) → OnOk r (set ≡ Some next) → OnErr r (new ≡ calls) → OnErr r (set ≡ old)
     → last_of old first ≡ state_of first calls → next ≡ after (state_of first calls) call → last_of set first ≡ state_of first new
 set_either (Ok x) first calls new call old set next more is same kept before now = set_now first calls new call set next more is now
-set_either (Err e) first calls new call old set next more is same kept before now = same_now first calls new old set same kept before
+set_either (Err e) first calls new call old set next more is same kept before now = ap (λ (o : Option State). last_of o first) kept ∙ before ∙ sym (ap (state_of first) same)
 
 -- the state after one call more
 pub state_is : (new : Recorded) (first : File) (calls : List DiskCall) (call : DiskCall) → new.first ≡ first → new.calls ≡ calls ++ call ∷ [] → state_in new ≡ after (state_of first calls) call

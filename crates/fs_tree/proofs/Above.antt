@@ -54,26 +54,20 @@ front_begins (x ∷ front) back = ap (λ b. b && begins (marker_of front) (front
 
 -- the marker of a path above a path begins that of its parent
 pub above_parent : (q p : List ℕ) → begins (marker_of q) p ≡ true → begins (marker_of q) (marker_of (parent p)) ≡ true
-above_parent q p h = by (cut p)
-  where
-    by : Cut p → begins (marker_of q) (marker_of (parent p)) ≡ true
-    by (inl n) = absurd (no_begin q p n h)
-    by (inr c) =
-        subst (λ v. begins (marker_of q) (marker_of v) ≡ true) (before_slash p c.0 c.1 c.2 c.3)
-        (begins_cut q c.0 c.1 c.3 (ap (begins (marker_of q)) (sym c.2) ∙ h))
+above_parent q p h = elim (cut p) [
+      inl n ↦ absurd (no_begin q p n h)
+    | inr c ↦ subst (λ v. begins (marker_of q) (marker_of v) ≡ true) (before_slash p c.0 c.1 c.2 c.3) (begins_cut q c.0 c.1 c.3 (ap (begins (marker_of q)) (sym c.2) ∙ h))
+  ]
 
 no_cons : (x : ℕ) (u : List ℕ) → [] ≡ x ∷ u → ⊥
 no_cons x u h = cc
 
 -- a path is below its parent
 pub parent_begins : (p : List ℕ) (x : ℕ) (u : List ℕ) → parent p ≡ x ∷ u → begins (marker_of (x ∷ u)) p ≡ true
-parent_begins p x u h = by (cut p)
-  where
-    by : Cut p → begins (marker_of (x ∷ u)) p ≡ true
-    by (inl n) = absurd (no_cons x u (before_none p n ∙ h))
-    by (inr c) =
-        subst (λ v. begins (marker_of v) p ≡ true) (before_slash p c.0 c.1 c.2 c.3 ∙ h)
-        (ap (begins (marker_of c.0)) c.2 ∙ front_begins c.0 c.1)
+parent_begins p x u h = elim (cut p) [
+      inl n ↦ absurd (no_cons x u (before_none p n ∙ h))
+    | inr c ↦ subst (λ v. begins (marker_of v) p ≡ true) (before_slash p c.0 c.1 c.2 c.3 ∙ h) (ap (begins (marker_of c.0)) c.2 ∙ front_begins c.0 c.1)
+  ]
 
 -- ---- all of them
 
@@ -183,11 +177,7 @@ front_elements a r h = by (is_marker (47 ∷ r)) refl
 
 pub plain_end : (n : List ℕ) → NoSlash n → is_marker n ≡ false
 plain_end [] s = refl
-plain_end (x ∷ []) s = by (x == 47) refl
-  where
-    by : (b : Bool) → (x == 47) ≡ b → (x == 47) ≡ false
-    by true e = absurd (false≢true (sym (ap (λ b. not b && true) e) ∙ s))
-    by false e = e
+plain_end (x ∷ []) s = (elim (x == 47) as (λ b. (x == 47) ≡ b → (x == 47) ≡ false) [ true ↦ λ e. absurd (false≢true (sym (ap (λ b. not b && true) e) ∙ s)) | false ↦ λ e. e ]) refl
 plain_end (x ∷ y ∷ n) s = plain_end (y ∷ n) (both (not (x == 47)) (list_all (is_other 47) (y ∷ n)) s).1
 
 pub name_element : (p n : List ℕ) → NoSlash n → are_elements (below p n) ≡ true → is_element n ≡ true

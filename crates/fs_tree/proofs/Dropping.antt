@@ -18,11 +18,7 @@ if_marker (x ∷ u) k h = some_is h
 pub marked_was : (u : Option (List ℕ)) (n m : Objects) → IsMarked u n m → (k : List ℕ) → Stands m k → Stands n k ⊎ (u ≡ Some k)
 marked_was None n m g k h = inl (subst (λ m. Stands m k) g h)
 marked_was (Some u) n m (inl g) k h = inl (subst (λ m. Stands m k) g.1 h)
-marked_was (Some u) n m (inr g) k h = by (put_was n u k marker (subst (λ m. Stands m k) g.1 h))
-  where
-    by : (k ≡ u) ⊎ Stands n k → Stands n k ⊎ (Some u ≡ Some k)
-    by (inl e) = inr (ap Some (sym e))
-    by (inr s) = inl s
+marked_was (Some u) n m (inr g) k h = elim (put_was n u k marker (subst (λ m. Stands m k) g.1 h)) [ inl e ↦ inr (ap Some (sym e)) | inr s ↦ inl s ]
 
 pub marked_stands : (u : Option (List ℕ)) (n m : Objects) → IsMarked u n m → (k : List ℕ) → Stands n k → Stands m k
 marked_stands None n m g k h = subst (λ m. Stands m k) (sym g) h
@@ -71,28 +67,22 @@ module _ (p : List ℕ) where
 -- ---- a file
 
 drop_was : (z : Objects) (p k : List ℕ) → Stands (fin.remove z p) k → Stands z k
-drop_was z p k h = by (same_or_other k p)
-  where
-    by : (k ≡ p) ⊎ (k ≡ p → ⊥) → Stands z k
-    by (inl e) = absurd (none_some (text_gone z p k e) h.1)
-    by (inr n) = (h.0, sym (text_left z p k n) ∙ h.1)
+drop_was z p k h = elim (same_or_other k p) [ inl e ↦ absurd (none_some (text_gone z p k e) h.1) | inr n ↦ (h.0, sym (text_left z p k n) ∙ h.1) ]
 
 module _ (p : List ℕ) (z m : Objects) (g : IsMarked (marker_if (parent p)) (fin.remove z p) m) where
   file_dirs_kept : (q : List ℕ) → HasDir z q → HasDir m q
   file_dirs_kept [] h = tt
-  file_dirs_kept (x ∷ q) h = by (same_or_other h.0 p)
-    where
-      by : (h.0 ≡ p) ⊎ (h.0 ≡ p → ⊥) → HasDir m (x ∷ q)
-      by (inl e) = above_kept p (parent p) refl (fin.remove z p) m g (x ∷ q) (ap (begins (marker_of (x ∷ q))) (sym e) ∙ h.1)
-      by (inr n) = let w = marked_stands (marker_if (parent p)) (fin.remove z p) m g h.0 (h.2, text_left z p h.0 n ∙ h.3) in (h.0, h.1, w.0, w.1)
+  file_dirs_kept (x ∷ q) h = elim (same_or_other h.0 p) [
+        inl e ↦ above_kept p (parent p) refl (fin.remove z p) m g (x ∷ q) (ap (begins (marker_of (x ∷ q))) (sym e) ∙ h.1)
+      | inr n ↦ let w = marked_stands (marker_if (parent p)) (fin.remove z p) m g h.0 (h.2, text_left z p h.0 n ∙ h.3) in (h.0, h.1, w.0, w.1)
+    ]
 
   file_dirs_only : Stands z p → (q : List ℕ) → HasDir m q → HasDir z q
   file_dirs_only f [] h = tt
-  file_dirs_only f (x ∷ q) h = by (marked_was (marker_if (parent p)) (fin.remove z p) m g h.0 (h.2, h.3))
-    where
-      by : Stands (fin.remove z p) h.0 ⊎ (marker_if (parent p) ≡ Some h.0) → HasDir z (x ∷ q)
-      by (inl s) = let w = drop_was z p h.0 s in (h.0, h.1, w.0, w.1)
-      by (inr e) = (p, through p (parent p) refl h.0 (x ∷ q) e h.1, f.0, f.1)
+  file_dirs_only f (x ∷ q) h = elim (marked_was (marker_if (parent p)) (fin.remove z p) m g h.0 (h.2, h.3)) [
+        inl s ↦ let w = drop_was z p h.0 s in (h.0, h.1, w.0, w.1)
+      | inr e ↦ (p, through p (parent p) refl h.0 (x ∷ q) e h.1, f.0, f.1)
+    ]
 
   -- a file that goes is gone in the tree, and nothing else is
   pub drops_file : is_marker p ≡ false → Stands z p → DropsFile p z m
@@ -121,11 +111,7 @@ module _ (x : ℕ) (p : List ℕ) (z n m : Objects) (w : IsWithoutBelow (marker_
   gone_below k b = marked_other (marker_if (parent (x ∷ p))) n m g k (λ e. not_below (parent (x ∷ p)) k refl e b) ∙ w.gone k b
 
   stood : (k : List ℕ) → Stands n k → Stands z k
-  stood k h = by (true_or_false (begins Q k))
-    where
-      by : (begins Q k ≡ true) ⊎ (begins Q k ≡ false) → Stands z k
-      by (inl t) = absurd (none_some (w.gone k t) h.1)
-      by (inr f) = (h.0, sym (w.others k f) ∙ h.1)
+  stood k h = elim (true_or_false (begins Q k)) [ inl t ↦ absurd (none_some (w.gone k t) h.1) | inr f ↦ (h.0, sym (w.others k f) ∙ h.1) ]
 
   no_dir : (q : List ℕ) → begins Q (marker_of q) ≡ true → HasDir m q → ⊥
   no_dir [] b h = let l = begins_length Q (marker_of []) b in omega (arith, l, length-append p (47 ∷ []))
@@ -149,11 +135,10 @@ module _ (x : ℕ) (p : List ℕ) (z n m : Objects) (w : IsWithoutBelow (marker_
 
   dirs_only : SomeBelow z Q → (q : List ℕ) → HasDir m q → HasDir z q
   dirs_only d [] h = tt
-  dirs_only d (y ∷ q) h = by (marked_was (marker_if (parent (x ∷ p))) n m g h.0 (h.2, h.3))
-    where
-      by : Stands n h.0 ⊎ (marker_if (parent (x ∷ p)) ≡ Some h.0) → HasDir z (y ∷ q)
-      by (inl s) = let v = stood h.0 s in (h.0, h.1, v.0, v.1)
-      by (inr e) = dir_of z (y ∷ q) Q (begins_trans (marker_of (y ∷ q)) (x ∷ p) Q (through (x ∷ p) (parent (x ∷ p)) refl h.0 (y ∷ q) e h.1) (begins_marker (x ∷ p))) d
+  dirs_only d (y ∷ q) h = elim (marked_was (marker_if (parent (x ∷ p))) n m g h.0 (h.2, h.3)) [
+        inl s ↦ let v = stood h.0 s in (h.0, h.1, v.0, v.1)
+      | inr e ↦ dir_of z (y ∷ q) Q (begins_trans (marker_of (y ∷ q)) (x ∷ p) Q (through (x ∷ p) (parent (x ∷ p)) refl h.0 (y ∷ q) e h.1) (begins_marker (x ∷ p))) d
+    ]
 
   -- a directory that goes with what is below it is gone in the tree, and nothing else is
   pub drops_dir : SomeBelow z Q → DropsDir (x ∷ p) z m

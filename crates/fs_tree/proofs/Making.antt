@@ -12,18 +12,10 @@ put_files z p k f = text_other z (marker_of p) k marker (λ e. false≢true (sym
 
 -- what stands stays there
 pub put_stands : (z : Objects) (k q : List ℕ) (v : Object) → Stands z q → Stands (fin.insert z k v) q
-put_stands z k q v h = by (same_or_other q k)
-  where
-    by : (q ≡ k) ⊎ (q ≡ k → ⊥) → Stands (fin.insert z k v) q
-    by (inl e) = (v, text_here z k q v e)
-    by (inr n) = (h.0, text_other z k q v n ∙ h.1)
+put_stands z k q v h = elim (same_or_other q k) [ inl e ↦ (v, text_here z k q v e) | inr n ↦ (h.0, text_other z k q v n ∙ h.1) ]
 
 pub put_was : (z : Objects) (k q : List ℕ) (v : Object) → Stands (fin.insert z k v) q → (q ≡ k) ⊎ Stands z q
-put_was z k q v h = by (same_or_other q k)
-  where
-    by : (q ≡ k) ⊎ (q ≡ k → ⊥) → (q ≡ k) ⊎ Stands z q
-    by (inl e) = inl e
-    by (inr n) = inr (h.0, sym (text_other z k q v n) ∙ h.1)
+put_was z k q v h = elim (same_or_other q k) [ inl e ↦ inl e | inr n ↦ inr (h.0, sym (text_other z k q v n) ∙ h.1) ]
 
 pub below_more : (z m : Objects) (p : List ℕ) → ((k : List ℕ) → Stands z k → Stands m k) → SomeBelow z p → SomeBelow m p
 below_more z m p f h = let s = f h.0 (h.2, h.3) in (h.0, h.1, s.0, s.1)
@@ -46,11 +38,10 @@ at_or_above q p (inr h) = inr (begins_above q p h)
 
 only_put : (z : Objects) (p q : List ℕ) → HasDir (fin.insert z (marker_of p) marker) q → HasDir z q ⊎ IsIn q (p ∷ keys_above p)
 only_put z p [] h = inl tt
-only_put z p (x ∷ q) h = by (put_was z (marker_of p) h.0 marker (h.2, h.3))
-  where
-    by : (h.0 ≡ marker_of p) ⊎ Stands z h.0 → HasDir z (x ∷ q) ⊎ IsIn (x ∷ q) (p ∷ keys_above p)
-    by (inl e) = inr (at_or_above (x ∷ q) p (marker_at (x ∷ q) p (ap (begins (marker_of (x ∷ q))) (sym e) ∙ h.1)))
-    by (inr s) = inl (h.0, h.1, s.0, s.1)
+only_put z p (x ∷ q) h = elim (put_was z (marker_of p) h.0 marker (h.2, h.3)) [
+      inl e ↦ inr (at_or_above (x ∷ q) p (marker_at (x ∷ q) p (ap (begins (marker_of (x ∷ q))) (sym e) ∙ h.1)))
+    | inr s ↦ inl (h.0, h.1, s.0, s.1)
+  ]
 
 makes_new : (p : List ℕ) (z : Objects) → MakesDirs p z (fin.insert z (marker_of p) marker)
 makes_new p z = record {

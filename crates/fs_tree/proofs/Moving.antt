@@ -33,11 +33,8 @@ last_end (q ∷ []) p = refl
 last_end (q ∷ r ∷ ps) p = last_end (r ∷ ps) p
 
 own_no_slash : (p : List ℕ) → NoSlash (own_name p)
-own_no_slash p = by (cut p)
-  where
-    by : Cut p → NoSlash (own_name p)
-    by (inl n) = subst NoSlash (sym (ap last_of (one_part 47 p n))) n
-    by (inr c) = subst NoSlash (sym (ap last_of (parts_round p c.0 c.1 c.2 c.3) ∙ last_end (parts_of 47 c.0) c.1)) c.3
+own_no_slash p =
+    elim (cut p) [ inl n ↦ subst NoSlash (sym (ap last_of (one_part 47 p n))) n | inr c ↦ subst NoSlash (sym (ap last_of (parts_round p c.0 c.1 c.2 c.3) ∙ last_end (parts_of 47 c.0) c.1)) c.3 ]
 
 -- the directory that a path is inside is the one above it
 pub inside_above : (p t : List ℕ) → parent (inside p t) ≡ t

@@ -290,11 +290,7 @@ appending_next r j sets places mode next a b h = kept_next r j sets places mode 
 
 still_spared : (d : Deletion) (ps : List (List ℕ)) (r : Reply) → (hears_below d ps r).spared ≡ d.spared
 still_spared d [] r = refl
-still_spared d (p ∷ ps) r = by (sweep_hears _ d.sweep r)
-  where
-    by : (o : Option Sweep) → (swept_on d.spared p ps o).spared ≡ d.spared
-    by (Some s) = refl
-    by None = refl
+still_spared d (p ∷ ps) r = elim (sweep_hears _ d.sweep r) as (λ o. (swept_on d.spared p ps o).spared ≡ d.spared) [ Some s ↦ refl | None ↦ refl ]
 
 pub spared_still : (d e : Deletion) (r : Reply) (x : List ℕ) → e ≡ deletion_hears d r → d.spared ≡ x → e.spared ≡ x
 spared_still d e r x f s = ap (λ (v : Deletion). v.spared) f ∙ (still_spared d d.prefixes r ∙ s)

@@ -50,9 +50,6 @@ no_lane_answered : (j : Job) (sets : Sets) (xs : List Turn) (done : List ℕ) �
 no_lane_answered j sets [] done e = refl
 no_lane_answered j sets (x ∷ xs) done e = absurd (cc)
 
-pub nothing_answered : {E : Type 0} (r : Result ⊤ E) (j : Job) (sets : Sets) (places : List Place) (l : LaneTable) (next : Next) → None ≡ first_of l.turns → OnOk r (IsNext j sets places (completing sets l.turns l.finished) next) → OnOk r (IsNext j sets places (answered j sets l.turns l.finished) next)
-nothing_answered r j sets places l next e k = on_ok_weaker r (next_same _ _ (no_lane_answered j sets l.turns l.finished e)) k
-
 -- ---- after none
 
 again_table : (l l1 : LaneTable) (x y : Turn) (lost : Bool) → y ≡ again x lost → l1 ≡ record { turns = drop 1 l.turns ++ listed (Some y); finished = l.finished } → l1 ≡ record { turns = drop 1 l.turns ++ listed (Some (again x lost)); finished = l.finished }

@@ -34,15 +34,6 @@ some_length (y ∷ ys) b h = omega arith
 pub folder_last : (p : List ℕ) (b : ℕ) → Some b ≡ slice_get p (length p - 1) → is_folder p ≡ (b == 47)
 folder_last p b h = folder_got p (length p - 1) b (some_length p b (sym h)) (sym h)
 
-pub folder_none : (p : List ℕ) → None ≡ slice_get p (length p - 1) → is_folder p ≡ true
-folder_none [] h = refl
-folder_none (x ∷ xs) h = absurd (there (x ∷ xs) (length (x ∷ xs) - 1) (omega arith) (sym h))
-  where
-    there : (xs : List ℕ) (n : ℕ) → suc n ≡ length xs → slice_get xs n ≡ None → ⊥
-    there [] n e g = omega arith
-    there (y ∷ ys) zero e g = cc
-    there (y ∷ ys) (suc n) e g = there ys n (omega arith) g
-
 -- ---- the bounds of a destination
 
 pub dest_some : (j : Job) → IsJob j → 1 ≤ length j.dest.key

@@ -98,16 +98,10 @@ abbrev AreUploads : ℕ → Uploads → Type 0
 AreUploads next m = AreEntries (is_id next) IsUpload m
 
 id_later : (next n : ℕ) → is_id next n ≡ true → is_id (next + 1) n ≡ true
-id_later next n h = let w = and_parts (nat_le 1 n) (nat_lt n next) h in ap (λ b. b && nat_lt n (next + 1)) w.0 ∙ low w.1
-  where
-    low : nat_lt n next ≡ true → nat_lt n (next + 1) ≡ true
-    low h = grind (arith, nat_tests)
+id_later next n h = let w = and_parts (nat_le 1 n) (nat_lt n next) h in ap (λ b. b && nat_lt n (next + 1)) w.0 ∙ (grind (arith, nat_tests))
 
 own_id : (next : ℕ) → 1 ≤ next → is_id (next + 1) next ≡ true
-own_id next h = ap (λ b. b && nat_lt next (next + 1)) (le-leb 1 next h) ∙ low
-  where
-    low : nat_lt next (next + 1) ≡ true
-    low = grind (arith, nat_tests)
+own_id next h = ap (λ b. b && nat_lt next (next + 1)) (le-leb 1 next h) ∙ (grind (arith, nat_tests))
 
 uploads_later : (next : ℕ) (m : Uploads) → AreUploads next m → AreUploads (next + 1) m
 uploads_later next m a = all_more (is_id next) (is_id (next + 1)) IsUpload IsUpload (id_later next) (λ u h. h) (fin.entries m) a
@@ -270,11 +264,10 @@ on_at c r (Some b) = record { later = by (draws r); least = refl }
     by false = omega arith
 
 on_made : (c : Content) (name : List ℕ) (o : Option BucketContent) → GoesOn c (made c name o)
-on_made c name None = by (is_bucket name)
-  where
-    by : (t : Bool) → GoesOn c (cond t (record { buckets = fin.insert c.buckets name new_bucket; next = c.next; minimum = c.minimum }) c)
-    by true = record { later = omega arith; least = refl }
-    by false = same c
+on_made c name None = elim (is_bucket name) as (λ t. GoesOn c (cond t (record { buckets = fin.insert c.buckets name new_bucket; next = c.next; minimum = c.minimum }) c)) [
+      true ↦ record { later = omega arith; least = refl }
+    | false ↦ same c
+  ]
 on_made c name (Some b) = same c
 
 on : (c : Content) (r : Request) → GoesOn c (apply_store c r)

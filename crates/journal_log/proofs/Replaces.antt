@@ -30,9 +30,5 @@ not_called F s c timed = record { same = refl; calls = inl refl; leaves = starte
 -- the count of faults, where no call failed before the last
 pub counts : {A : Type 0} (r : Result A ShelfStop) (before mid after : ℕ) → mid ≡ before → before < 2 ^ 64 - 1 → (IsErrOf r Failed → Rose mid after) → ((IsErrOf r Failed → ⊥) → after ≡ mid) → Counts r before after
 counts (Ok x) before mid after first few rose calm = calm (λ e. cc) ∙ first
-counts (Err Failed) before mid after first few rose calm = less (rose refl)
-  where
-    less : Rose mid after → before < after
-    less (inl l) = omega (arith, l, first)
-    less (inr most) = absurd (omega (arith, most, first, few))
+counts (Err Failed) before mid after first few rose calm = elim (rose refl) [ inl l ↦ omega (arith, l, first) | inr most ↦ absurd (omega (arith, most, first, few)) ]
 counts (Err NoMemory) before mid after first few rose calm = calm (λ e. cc) ∙ first

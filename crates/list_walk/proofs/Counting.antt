@@ -12,11 +12,7 @@ abbrev pub count : {E : Type 0} → (E → Bool) → List E → ℕ
 count t es = length (filter t es)
 
 pub count_more : {E : Type 0} (t : E → Bool) (e : E) (es : List E) → count t (e ∷ es) ≡ one (t e) + count t es
-count_more t e es = by (t e)
-  where
-    by : (b : Bool) → length (cond b (e ∷ filter t es) (filter t es)) ≡ one b + length (filter t es)
-    by true = omega arith
-    by false = omega arith
+count_more t e es = elim (t e) as (λ b. length (cond b (e ∷ filter t es) (filter t es)) ≡ one b + length (filter t es)) [ true ↦ omega arith | false ↦ omega arith ]
 
 pub one_most : (b : Bool) → one b ≤ 1
 one_most true = omega arith

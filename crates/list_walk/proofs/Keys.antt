@@ -21,11 +21,8 @@ keys_mapped p (e ∷ es) = (tt, keys_mapped p es)
 
 keys_filtered : (test : PageEntry → Bool) (es : List PageEntry) → AreKeys es → AreKeys (filter test es)
 keys_filtered test [] h = tt
-keys_filtered test (e ∷ es) h = by (test e) (keys_filtered test es h.1)
-  where
-    by : (b : Bool) → AreKeys (filter test es) → AreKeys (cond b (e ∷ filter test es) (filter test es))
-    by true ih = (h.0, ih)
-    by false ih = ih
+keys_filtered test (e ∷ es) h =
+    (elim (test e) as (λ b. AreKeys (filter test es) → AreKeys (cond b (e ∷ filter test es) (filter test es))) [ true ↦ λ ih. (h.0, ih) | false ↦ λ ih. ih ]) (keys_filtered test es h.1)
 
 keys_folded : (last : Option (List ℕ)) (es : List PageEntry) → AreKeys es → AreKeys (folded_from last es)
 keys_folded last [] h = tt
@@ -54,11 +51,7 @@ on_keys (More es) = More (keys_on es)
 on_keys (Whole es) = Whole (keys_on es)
 
 by_keys : (more : Bool) (es fs : List PageEntry) → walked_by more (keys_on es ++ keys_on fs) ≡ on_keys (walked_by more (es ++ fs))
-by_keys more es fs = ap (walked_by more) (sym (keys_joined es fs)) ∙ by more
-  where
-    by : (b : Bool) → walked_by b (keys_on (es ++ fs)) ≡ on_keys (walked_by b (es ++ fs))
-    by true = refl
-    by false = refl
+by_keys more es fs = ap (walked_by more) (sym (keys_joined es fs)) ∙ (elim more as (λ b. walked_by b (keys_on (es ++ fs)) ≡ on_keys (walked_by b (es ++ fs))) [ true ↦ refl | false ↦ refl ])
 
 -- a walk over entries is one over their keys
 pub walked_keys : (found : List PageEntry) (r : Reply) → walked (keys_on found) r ≡ on_keys (walked_entries found r)
@@ -66,11 +59,7 @@ walked_keys found (Page entries more) = by_keys more found entries
 walked_keys found _ = refl
 
 walked_told : (old new : List PageEntry) (r : Reply) (more : Bool) → walked_entries old r ≡ walked_by more new → walked (keys_on old) r ≡ walked_by more (keys_on new)
-walked_told old new r more h = walked_keys old r ∙ ap on_keys h ∙ by more
-  where
-    by : (b : Bool) → on_keys (walked_by b new) ≡ walked_by b (keys_on new)
-    by true = refl
-    by false = refl
+walked_told old new r more h = walked_keys old r ∙ ap on_keys h ∙ (elim more as (λ b. on_keys (walked_by b new) ≡ walked_by b (keys_on new)) [ true ↦ refl | false ↦ refl ])
 
 pub heard_keys : {E : Type 0} (old new : List PageEntry) (r : Reply) (heard : Result Bool E) → IfOk heard (λ more. walked_entries old r ≡ walked_by more new) → IfOk heard (λ more. walked (keys_on old) r ≡ walked_by more (keys_on new))
 heard_keys old new r (Ok more) h = walked_told old new r more h

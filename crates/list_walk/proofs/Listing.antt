@@ -92,11 +92,7 @@ abbrev pub is_left_ref : List ℕ → Option UploadRef → UploadRef → Bool
 is_left_ref p a r = begins p r.key && is_behind a r
 
 apart : (k q : List ℕ) (i j : ℕ) → nat_cmp i j ≡ Less → is_eq (ordering_then (text_cmp k q) (nat_cmp i j)) ≡ false
-apart k q i j h = by (text_cmp k q) (nat_cmp i j) h
-  where
-    by : (r s : Ordering) → s ≡ Less → is_eq (ordering_then r s) ≡ false
-    by Equal s e = ap is_eq e
-    by _ s e = refl
+apart k q i j h = (elim (text_cmp k q) as (λ r. (s : Ordering) → s ≡ Less → is_eq (ordering_then r s) ≡ false) [ Equal ↦ λ s e. ap is_eq e | _ ↦ λ s e. refl ]) (nat_cmp i j) h
 
 new_ref : (e : ℕ × Upload) (es : List (ℕ × Upload)) → AllByRecursion (λ j. nat_cmp e.0 j ≡ Less) (keys_of es) → find ref_cmp (ref_of e).0 (map ref_of es) ≡ None
 new_ref e [] h = refl

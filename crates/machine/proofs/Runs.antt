@@ -150,8 +150,3 @@ module _ {M : Type 0} (wants : M → Option Request) (tells : M → Outcome → 
   pub run_keeps : (m : M) (s : Scene) (es : List Entry) → Follows wants tells m es → AreHonest s es → P m s → P (run tells m es) (after_all s es)
   run_keeps m s [] f h p = p
   run_keeps m s (e ∷ es) f h p = run_keeps (tells m e.outcome) (effect s e.request e.outcome) es f.1 h.1 (keeps m s e f.0 h.0 p)
-
-  pub run_keeps_at : (n : ℕ) (m : M) (s : Scene) (es : List Entry) → Follows wants tells m es → AreHonest s es → P m s → P (run tells m (take n es)) (after_all s (take n es))
-  run_keeps_at zero m s es f h p = p
-  run_keeps_at (suc n) m s [] f h p = p
-  run_keeps_at (suc n) m s (e ∷ es) f h p = run_keeps_at n (tells m e.outcome) (effect s e.request e.outcome) es f.1 h.1 (keeps m s e f.0 h.0 p)

@@ -24,11 +24,10 @@ halves : (n : ℕ) (es : List (List ℕ)) → list_all is_element es ≡ true �
 halves n es h = and_parts (list_all is_element (take n es)) (list_all is_element (drop n es)) (sym (list_all-append is_element (take n es) (drop n es)) ∙ ap (list_all is_element) (take-append-drop n es) ∙ h)
 
 kept_elements : (es : List (List ℕ)) → list_all is_element es ≡ true → list_all is_element (kept es) ≡ true
-kept_elements es h = by (list_any (is_word (codes "__base")) es)
-  where
-    by : (b : Bool) → list_all is_element (if b then after_first (is_word (codes "__base")) es else drop (length es - 1) es) ≡ true
-    by true = (halves (position_or_len (is_word (codes "__base")) es + 1) es h).1
-    by false = (halves (length es - 1) es h).1
+kept_elements es h = elim (list_any (is_word (codes "__base")) es) as (λ b. list_all is_element (if b then after_first (is_word (codes "__base")) es else drop (length es - 1) es) ≡ true) [
+      true ↦ (halves (position_or_len (is_word (codes "__base")) es + 1) es h).1
+    | false ↦ (halves (length es - 1) es h).1
+  ]
 
 final_are : (es : List (List ℕ)) → list_all is_element es ≡ true → list_all is_element (final_elements es) ≡ true
 final_are es h =

@@ -20,9 +20,6 @@ begun word text = record { front = []; seen = []; whole = refl; parts = λ more.
 one_element : (rest element after : List ℕ) → parts_of 47 rest ≡ element ∷ parts_of 47 after → rest ≡ element ++ 47 ∷ after → parts_of 47 element ≡ element ∷ []
 one_element rest element after p e = append_cancel_right (parts_of 47 element) (element ∷ []) (parts_of 47 after) (sym (parts_append 47 element after) ∙ ap (parts_of 47) (sym e) ∙ p)
 
-either_false : (a b : Bool) → a ≡ false → b ≡ false → (a || (b || false)) ≡ false
-either_false a b x y = rw (x, y) refl
-
 pub stepped : (word text rest element after : List ℕ) → Walked word text rest → parts_of 47 rest ≡ element ∷ parts_of 47 after → rest ≡ element ++ 47 ∷ after → is_word word element ≡ false → Walked word text after
 stepped word text rest element after w p e n = record {
   front = w.front ++ (element ++ 47 ∷ []);
@@ -33,7 +30,7 @@ stepped word text rest element after w p e n = record {
       ∙ w.parts (element ++ 47 ∷ more)
       ∙ ap (λ (l : List (List ℕ)). w.seen ++ l) (parts_append 47 element more ∙ ap (λ (l : List (List ℕ)). l ++ parts_of 47 more) (one_element rest element after p e))
       ∙ sym (append_assoc w.seen (element ∷ []) (parts_of 47 more));
-  none = list_any-append (is_word word) w.seen (element ∷ []) ∙ either_false (list_any (is_word word) w.seen) (is_word word element) w.none n;
+  none = list_any-append (is_word word) w.seen (element ∷ []) ∙ (rw (w.none, n) refl);
 }
 
 -- all elements of the text, once the next one is known

@@ -155,11 +155,7 @@ first_after p a m l = same_below p (is_behind None) (is_behind (Some a)) (map (�
 
 filter_own : (f : UploadRef × List ℕ → Bool) (es : List (UploadRef × List ℕ)) → AreOwn es → AreOwn (filter f es)
 filter_own f [] h = tt
-filter_own f (e ∷ es) h = by (f e) (filter_own f es h.1)
-  where
-    by : (b : Bool) → AreOwn (filter f es) → AreOwn (cond b (e ∷ filter f es) (filter f es))
-    by true ih = (h.0, ih)
-    by false ih = ih
+filter_own f (e ∷ es) h = (elim (f e) as (λ b. AreOwn (filter f es) → AreOwn (cond b (e ∷ filter f es) (filter f es))) [ true ↦ λ ih. (h.0, ih) | false ↦ λ ih. ih ]) (filter_own f es h.1)
 
 -- each place from a start on stands with its own key
 own_from : (lo : Bound UploadRef) (m : Uploads) → AreOwn (from_place lo m)

@@ -76,13 +76,7 @@ rising x (y ∷ ks) s h a =
 
 most : (ks : List ℕ) → IsStrictlySortedBy nat_cmp ks → AllByRecursion (λ k. is_part_number k ≡ true) ks → length ks ≤ 10000
 most [] s a = omega arith
-most (x ∷ ks) s a =
-    let rest : length ks + x ≤ 10000 = rising x ks s a.0 a.1 in
-    let least : 1 ≤ x = one x a.0 in
-    omega arith
-  where
-    one : (k : ℕ) → is_part_number k ≡ true → 1 ≤ k
-    one k h = grind arith
+most (x ∷ ks) s a = let rest : length ks + x ≤ 10000 = rising x ks s a.0 a.1 in let least : 1 ≤ x = (grind arith) in omega arith
 
 -- an upload has at most 10,000 parts
 pub few_parts : (m : Parts) → AreNumbered m → len m ≤ 10000

@@ -20,19 +20,12 @@ own_insert (e ∷ es) k h is own = by (text_cmp k e.0) refl (own_insert es k h i
 
 pub own_remove : (test : List ℕ → Bool) (es : List (List ℕ × Held)) → AreOwn es → AreOwn (remove_entry test es)
 own_remove test [] own = tt
-own_remove test (e ∷ es) own = by (test e.0) (own_remove test es own.1)
-  where
-    by : (b : Bool) → AreOwn (remove_entry test es) → AreOwn (cond b es (e ∷ remove_entry test es))
-    by true ih = own.1
-    by false ih = (own.0, ih)
+own_remove test (e ∷ es) own =
+    (elim (test e.0) as (λ b. AreOwn (remove_entry test es) → AreOwn (cond b es (e ∷ remove_entry test es))) [ true ↦ λ ih. own.1 | false ↦ λ ih. (own.0, ih) ]) (own_remove test es own.1)
 
 pub own_filter : (p : List ℕ × Held → Bool) (es : List (List ℕ × Held)) → AreOwn es → AreOwn (filter p es)
 own_filter p [] own = tt
-own_filter p (e ∷ es) own = by (p e) (own_filter p es own.1)
-  where
-    by : (b : Bool) → AreOwn (filter p es) → AreOwn (cond b (e ∷ filter p es) (filter p es))
-    by true ih = (own.0, ih)
-    by false ih = ih
+own_filter p (e ∷ es) own = (elim (p e) as (λ b. AreOwn (filter p es) → AreOwn (cond b (e ∷ filter p es) (filter p es))) [ true ↦ λ ih. (own.0, ih) | false ↦ λ ih. ih ]) (own_filter p es own.1)
 
 -- an entry by its own key
 abbrev pub by_own_key : List ℕ × Held → List ℕ × Object

@@ -49,6 +49,3 @@ from_here q i l e =
     ap (λ r. option_map (λ s. take i q ++ s) (before_slash r)) (drop_more q i 0 l)
     ∙ ap (λ b. option_map (λ s. take i q ++ s) (cond b (Some []) (option_map (λ s. get_or q i 0 ∷ s) (before_slash (drop (i + 1) q))))) (eq-eqb _ _ e)
     ∙ ap Some (append-nil (take i q))
-
-pub from_end : (q : List ℕ) (i : ℕ) → length q ≤ i → from q i ≡ None
-from_end q i l = ap (λ r. option_map (λ s. take i q ++ s) (before_slash r)) (drop_all i q l)

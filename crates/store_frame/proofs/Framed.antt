@@ -13,11 +13,8 @@ with_bucket c n b next = record { buckets = fin.insert c.buckets n b; next = nex
 
 pub part_others : (key : List ℕ) (id number : ℕ) (bytes : List ℕ) (m : Uploads) (o : Option Upload) (u : ℕ) → (u ≡ id → ⊥) → fin.get (part_put m id o number bytes) u ≡ fin.get m u
 part_others key id number bytes m None u ne = refl
-part_others key id number bytes m (Some v) u ne = by (is_part_number number)
-  where
-    by : (q : Bool) → fin.get (cond q (fin.insert m id (with_part v number bytes)) m) u ≡ fin.get m u
-    by true = nat_other m id u (with_part v number bytes) ne
-    by false = refl
+part_others key id number bytes m (Some v) u ne =
+    elim (is_part_number number) as (λ q. fin.get (cond q (fin.insert m id (with_part v number bytes)) m) u ≡ fin.get m u) [ true ↦ nat_other m id u (with_part v number bytes) ne | false ↦ refl ]
 
 -- what holds of a bucket alone
 pub record Bucket (c d : Content) (n : List ℕ) (r : Request) : Type 0 where

@@ -148,11 +148,10 @@ rises_after p d k (f ∷ es) s = by (rises_after p d f.0 es (sorted_tail text_cm
 
 started : (p : List ℕ) (d : Bool) (es : List (List ℕ × Object)) → IsStrictlySortedBy text_cmp (keys_of es) → Started (entries_below p d es)
 started p d [] s = tt
-started p d (e ∷ es) s = by (started p d es (sorted_tail text_cmp e.0 (keys_of es) s)) (begins p e.0)
-  where
-    by : Started (entries_below p d es) → (b : Bool) → Started (map (entry_of p d) (cond b (e ∷ filter (λ e. begins p e.0) es) (filter (λ e. begins p e.0) es)))
-    by ih true = subst (λ t. Rising t (entries_below p d es)) (text_by_entry (stem_if d p e.0) e.0 (length e.1.bytes)) (rises_after p d e.0 es s)
-    by ih false = ih
+started p d (e ∷ es) s = elim (begins p e.0) as (λ b. Started (map (entry_of p d) (cond b (e ∷ filter (λ e. begins p e.0) es) (filter (λ e. begins p e.0) es)))) [
+      true ↦ subst (λ t. Rising t (entries_below p d es)) (text_by_entry (stem_if d p e.0) e.0 (length e.1.bytes)) (rises_after p d e.0 es s)
+    | false ↦ (started p d es (sorted_tail text_cmp e.0 (keys_of es) s))
+  ]
 
 pub walked_listed : (p : List ℕ) (d : Bool) (a : List ℕ) (m : Objects) → walked p d a (entries m) ≡ listed p d a m
 walked_listed p d a m =
@@ -163,14 +162,10 @@ walked_listed p d a m =
 
 given_greater : (a : List ℕ) (xs : List PageEntry) (x : PageEntry) (rest : List PageEntry) → given a xs ≡ x ∷ rest → lt a (text_in x) ≡ true
 given_greater a [] x rest h = absurd (cc)
-given_greater a (y ∷ ys) x rest h = by (lt a (text_in y)) refl (given_greater a ys x rest)
-  where
-    by : (b : Bool) → lt a (text_in y) ≡ b → (given a ys ≡ x ∷ rest → lt a (text_in x) ≡ true) → lt a (text_in x) ≡ true
-    by false n ih = ih (ap (λ b. cond b (y ∷ given (text_in y) ys) (given a ys)) (sym n) ∙ h)
-    by true t ih =
-        let e : y ∷ given (text_in y) ys ≡ x ∷ rest = ap (λ b. cond b (y ∷ given (text_in y) ys) (given a ys)) (sym t) ∙ h in
-        let f : y ≡ x = cc in
-        subst (λ z. lt a (text_in z) ≡ true) f t
+given_greater a (y ∷ ys) x rest h = (elim (lt a (text_in y)) as (λ b. lt a (text_in y) ≡ b → (given a ys ≡ x ∷ rest → lt a (text_in x) ≡ true) → lt a (text_in x) ≡ true) [
+      false ↦ λ n ih. ih (ap (λ b. cond b (y ∷ given (text_in y) ys) (given a ys)) (sym n) ∙ h)
+    | true ↦ λ t ih. let e : y ∷ given (text_in y) ys ≡ x ∷ rest = ap (λ b. cond b (y ∷ given (text_in y) ys) (given a ys)) (sym t) ∙ h in let f : y ≡ x = cc in subst (λ z. lt a (text_in z) ≡ true) f t
+  ]) refl (given_greater a ys x rest)
 
 given_behind : (a : List ℕ) (xs : List PageEntry) (x : PageEntry) (rest : List PageEntry) → given a xs ≡ x ∷ rest → given (text_in x) xs ≡ rest
 given_behind a [] x rest h = absurd (cc)

@@ -39,10 +39,7 @@ step_up y w r b ih k = grind (arith, nat_tests)
 -- a key that begins with s and a `/` is less than s and a `0`
 pub up_to_next : (s q : List ℕ) → begins (s ++ 47 ∷ []) q ≡ true → lt q (s ++ 48 ∷ []) ≡ true
 up_to_next [] [] k = absurd (false≢true k)
-up_to_next [] (w ∷ q) k = step_up' w (text_cmp q []) (begins [] q) k
-  where
-    step_up' : (w : ℕ) (r : Ordering) (b : Bool) → (nat_eq 47 w && b) ≡ true → is_lt (ordering_then (nat_cmp w 48) r) ≡ true
-    step_up' w r b k = grind (arith, nat_tests)
+up_to_next [] (w ∷ q) k = grind (arith, nat_tests)
 up_to_next (y ∷ s) [] k = absurd (false≢true k)
 up_to_next (y ∷ s) (w ∷ q) k = step_up y w (text_cmp q (s ++ 48 ∷ [])) (begins (s ++ 47 ∷ []) q) (up_to_next s q) k
 

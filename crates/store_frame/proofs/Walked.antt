@@ -50,12 +50,10 @@ module _ (p : List ℕ) (st : List ℕ → Option (List ℕ)) (k : Stems p st) w
   -- past the common prefix of a
   module _ (a q s : List ℕ) (e : st a ≡ Some s) where
     inside : lt q (s ++ 48 ∷ []) ≡ true → lt a (text_by (st q) q) ≡ false
-    inside h = by (lt q (s ++ 47 ∷ [])) refl
-      where
-        by : (b : Bool) → lt q (s ++ 47 ∷ []) ≡ b → lt a (text_by (st q) q) ≡ false
-        by true l = le_le (text_by (st q) q) q a (text_le q (st q) refl) (lt_not q a (lt_le q (s ++ 47 ∷ []) a l (from_prefix (s ++ 47 ∷ []) a (k.below a s e))))
-        by false l =
-            ap (λ o. lt a (text_by o q)) (k.same a s q e (before_next s q l h)) ∙ from_prefix (s ++ 47 ∷ []) a (k.below a s e)
+    inside h = (elim (lt q (s ++ 47 ∷ [])) as (λ b. lt q (s ++ 47 ∷ []) ≡ b → lt a (text_by (st q) q) ≡ false) [
+          true ↦ λ l. le_le (text_by (st q) q) q a (text_le q (st q) refl) (lt_not q a (lt_le q (s ++ 47 ∷ []) a l (from_prefix (s ++ 47 ∷ []) a (k.below a s e))))
+        | false ↦ λ l. ap (λ o. lt a (text_by o q)) (k.same a s q e (before_next s q l h)) ∙ from_prefix (s ++ 47 ∷ []) a (k.below a s e)
+      ]) refl
 
     outside : lt q (s ++ 48 ∷ []) ≡ false → lt a (text_by (st q) q) ≡ true
     outside h = both_true _ (λ f. by (st q) refl f)
@@ -106,11 +104,8 @@ abbrev counts : List ℕ → Bool → List ℕ → List ℕ → Bool
 counts p d a q = begins p q && lt a (text_of p d q)
 
 counts_from : (p : List ℕ) (d : Bool) (a q : List ℕ) → is_from_start text_cmp (start p d a) q ≡ false → counts p d a q ≡ false
-counts_from p d a q h = by (begins p q) refl
-  where
-    by : (b : Bool) → begins p q ≡ b → counts p d a q ≡ false
-    by false e = and_left _ _ e
-    by true e = and_right _ _ (from_start p (stem_if d p) (stems p d) a q e ∙ h)
+counts_from p d a q h =
+    (elim (begins p q) as (λ b. begins p q ≡ b → counts p d a q ≡ false) [ false ↦ λ e. and_left _ _ e | true ↦ λ e. and_right _ _ (from_start p (stem_if d p) (stems p d) a q e ∙ h) ]) refl
 
 later : (p : List ℕ) (d : Bool) (a b q : List ℕ) → lt a b ≡ true → counts p d a q ≡ false → counts p d b q ≡ false
 later p d a b q l h = both_false _ (λ t.

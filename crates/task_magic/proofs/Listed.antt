@@ -23,11 +23,7 @@ same_test x y u v f g = by (text_eq x y) (text_eq u v) refl refl
     by false false d e = refl
 
 differs : (x y : List ℕ) → (x ≡ y → ⊥) → text_eq x y ≡ false
-differs x y f = by (text_eq x y) refl
-  where
-    by : (b : Bool) → text_eq x y ≡ b → b ≡ false
-    by true e = absurd (f ((bytes_decides x y).0 e))
-    by false e = refl
+differs x y f = (elim (text_eq x y) as (λ b. text_eq x y ≡ b → b ≡ false) [ true ↦ λ e. absurd (f ((bytes_decides x y).0 e)) | false ↦ λ e. refl ]) refl
 
 -- ---- the key of a record
 
@@ -237,12 +233,9 @@ length_seen : (g : File → Bool) (fs : List File) → length (map g fs) ≡ len
 length_seen g [] = refl
 length_seen g (x ∷ fs) = ap suc (length_seen g fs)
 
-pub seen_length : (t : Task) (keys : List (List ℕ)) (seen : List Bool) → seen ≡ seen_in t keys → length seen ≡ length t.files
-seen_length t keys seen e = ap length e ∙ length_seen (λ f. list_any (text_eq (record_of t f)) keys) t.files
-
 pub within_seen : (t : Task) (keys : List (List ℕ)) (seen : List Bool) (place : Option ℕ) → seen ≡ seen_in t keys → IfSome place (λ i. i < length t.files) → IfSome place (λ i. i < length seen)
 within_seen t keys seen None e w = tt
-within_seen t keys seen (Some i) e w = let n = seen_length t keys seen e in omega (arith, n, w)
+within_seen t keys seen (Some i) e w = let n = (ap length e ∙ length_seen (λ f. list_any (text_eq (record_of t f)) keys) t.files) in omega (arith, n, w)
 
 nothing_seen : (t : Task) (fs : List File) → replicate (length fs) false ≡ map (λ f. list_any (text_eq (record_of t f)) []) fs
 nothing_seen t [] = refl

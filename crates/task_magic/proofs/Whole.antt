@@ -24,9 +24,6 @@ open_if : (fs : List File) → IsOpen (done_if_none fs) 0 fs
 open_if [] = tt
 open_if (f ∷ fs) = omega arith
 
-pub start_kept : (t : Task) (dir : Path) → dir ≡ dir_of t → Holds t 0 stage.Creating → IsWrite t dir 0 stage.Creating (done_if_none t.files) (write_wants (seen_write t 0 stage.Creating (done_if_none t.files)))
-start_kept t dir d h = record { dir = d; asked = refl; holds = h; within = open_if t.files }
-
 -- ---- a request that wore out
 
 pub worn_told : (t : Task) (o : Write) → (let m : Attempting Write = record { plan = t; operation = writes.WriteOver ends.StoreFault } in m ≡ write_told (record { plan = t; operation = o }) WornOut)

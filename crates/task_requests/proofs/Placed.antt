@@ -57,9 +57,6 @@ full_parts path h = (and_parts _ _ (and_parts _ _ h).0).1
 short_given : (path : List ℕ) → IsGiven path → length path ≤ 400
 short_given path g = leb-true (length path) 400 (and_parts _ _ (and_parts _ _ (and_parts _ _ g.stated).0).0).1
 
-given_elements : (path : List ℕ) → IsGiven path → are_elements path ≡ true
-given_elements path g = elements_so (parts_of 47 path) (full_parts path g.stated) g.shown
-
 -- ---- a path made unique
 
 named_others : (id name : List ℕ) → list_all (is_other 47) id ≡ true → list_all (is_other 47) name ≡ true → list_all (is_other 47) (with_id id name) ≡ true
@@ -75,16 +72,6 @@ named_element id [] full h = absurd (cc)
 named_element id (b ∷ bs) full h =
     let some : (length (b ∷ with_id id bs) == 0) ≡ false = grind (arith, nat_tests) in
     rw (dot_not b h, some, dot_not b h) refl
-
-joined_elements : (e : List ℕ) (es : List (List ℕ)) → AreOther (e ∷ es) ≡ true → list_all is_element (e ∷ es) ≡ true → are_elements (join_with_byte 47 (e ∷ es)) ≡ true
-joined_elements e [] o h =
-    let p = and_parts (list_all (is_other 47) e) true o in
-    let q = and_parts (is_element e) true h in
-    ap (list_all is_element) (one_part 47 e p.0) ∙ rw q.0 refl
-joined_elements e (f ∷ es) o h =
-    let p = and_parts (list_all (is_other 47) e) (AreOther (f ∷ es)) o in
-    let q = and_parts (is_element e) (list_all is_element (f ∷ es)) h in
-    elements_append e (join_with_byte 47 (f ∷ es)) (ap (list_all is_element) (one_part 47 e p.0) ∙ rw q.0 refl) (joined_elements f es p.1 q.1)
 
 unique_elements_of : (id e : List ℕ) (es : List (List ℕ)) → list_all (is_other 47) id ≡ true → AreOther (e ∷ es) ≡ true → list_all is_full (e ∷ es) ≡ true → list_any begins_hidden (e ∷ es) ≡ false
     → are_elements (join_with_byte 47 (with_id_last id (e ∷ es))) ≡ true
@@ -112,7 +99,7 @@ unique_elements id path (x ∷ es) e i g =
     ∙ unique_elements_of id x es i (ap AreOther (sym e) ∙ others_from [] path refl) (ap (list_all is_full) (sym e) ∙ full_parts path g.stated) (ap (list_any begins_hidden) (sym e) ∙ g.shown)
 
 pub placed_elements : (id path : List ℕ) → is_job_id id ≡ true → IsPlaced id path → are_elements path ≡ true
-placed_elements id path i (inl g) = given_elements path g
+placed_elements id path i (inl g) = elements_so (parts_of 47 path) (full_parts path g.stated) g.shown
 placed_elements id path i (inr u) = ap are_elements u.2 ∙ unique_elements id u.0 (parts_of 47 u.0) refl (id_others id i) u.1
 
 -- ---- lengths
@@ -179,9 +166,6 @@ pending_from part (x ∷ text) h = by (x == 47) refl (pending_from [] text) (pen
         rw (e, p.0, old p.1) refl
     by false e old new = let k : list_all is_element (parts_from 47 (part ++ x ∷ []) text) ≡ true = rw e at h in rw e (new k)
 
-pub pending_elements : (path : List ℕ) → are_elements path ≡ true → are_elements (path ++ codes ".pending") ≡ true
-pending_elements path h = pending_from [] path h
-
 -- ---- keys below an attempt's directory
 
 short_number : (n : ℕ) → n < 2 ^ 32 → length (decimal n) ≤ 10
@@ -233,7 +217,7 @@ record_short t dir path name n e s =
     dir_short t dir name n.job n.task e long
 
 pub record_elements : (t : Task) (path name : List ℕ) → IsNamed t path → name ≡ path ++ codes ".pending" → are_elements name ≡ true
-record_elements t path name n s = ap are_elements s ∙ pending_elements path (named_elements t path n)
+record_elements t path name n s = ap are_elements s ∙ (pending_from [] path (named_elements t path n))
 
 -- ---- a file of the plan
 

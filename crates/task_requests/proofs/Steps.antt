@@ -18,9 +18,6 @@ creating_at : (w : Script) (minimum : ℕ) (k : Known) (l : List File) → Holds
 creating_at w minimum k [] = tt
 creating_at w minimum k (f ∷ fs) = tt
 
-pub holds_creating : (t : Task) (place : ℕ) → Holds t place stage.Creating
-holds_creating t place = creating_at (task_script t) t.minimum t.known (drop place t.files)
-
 -- ---- a stage of a file, or the end
 
 asks_none : (t : Task) (s : WriteStage) (l : List File) → None ≡ write_wants (seen_at t l s) → at_stage (task_script t) t.minimum s l ≡ writes.WriteOver ends.Done
@@ -33,10 +30,6 @@ asks_none t (stage.Sending n) (f ∷ fs) e = parts_none (drop n (parts_in t f)) 
     parts_none (p ∷ ps) e = absurd (cc)
 asks_none t stage.Marking (f ∷ fs) e = absurd (cc)
 asks_none t stage.Recording (f ∷ fs) e = absurd (cc)
-
-pub turned_at : (t : Task) (place : ℕ) (s : WriteStage) (o : Option Request) → o ≡ write_wants (seen_write t place s None) → seen_write t place s (ended_by o) ≡ seen_write t place s None
-turned_at t place s (Some r) e = refl
-turned_at t place s None e = ap (λ (x : Write). record { plan = t; operation = x }) (sym (asks_none t s (drop place t.files) e))
 
 within_some : {A : Type 0} (t : Task) (s : WriteStage) (l : List File) (r : Request) → Some r ≡ write_wants (seen_at t l s) → (0 < length l → A) → A
 within_some t s [] r e k = absurd (cc)
@@ -161,13 +154,6 @@ marked_told t place f r b e =
 pub recorded_told : (t : Task) (place : ℕ) (f : File) (r : Reply) (b : Bool) → slice_get t.files place ≡ Some f → seen_write t (place + 1) stage.Creating None ≡ write_told (seen_write t place stage.Recording None) (Got r b)
 recorded_told t place f r b e =
     subst (λ l. seen_at t (drop (place + 1) t.files) stage.Creating ≡ write_told (seen_at t l stage.Recording) (Got r b)) (sym (front_is t.files place f e)) (sym (recorded t f (drop (place + 1) t.files) r b))
-
-pub holds_marked : (t : Task) (place : ℕ) → Holds t place stage.Marking → Holds t place stage.Recording
-holds_marked t place h = at (drop place t.files) h
-  where
-    at : (l : List File) → HoldsAt (task_script t) t.minimum t.known stage.Marking l → HoldsAt (task_script t) t.minimum t.known stage.Recording l
-    at [] h = tt
-    at (f ∷ fs) h = h
 
 -- ---- the stage behind a part
 

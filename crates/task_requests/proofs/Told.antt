@@ -46,9 +46,6 @@ cancel : (x y z : List ℕ) → x ++ y ≡ x ++ z → y ≡ z
 cancel [] y z e = e
 cancel (a ∷ x) y z e = cancel x y z (cc)
 
-shifted : (a b c d e q : List ℕ) → (a ++ (b ++ (c ++ (d ++ e)))) ++ q ≡ a ++ (b ++ (c ++ (d ++ (e ++ q))))
-shifted a b c d e q = simp append_assoc
-
 unlike : (a b : ℕ) → a ≡ b → b < a → ⊥
 unlike a b e h = omega arith
 
@@ -60,7 +57,7 @@ apart dest id p t a u e =
     let root = layout.attempt_key dest id t a in
     let long : 1 ≤ length root = simp length-append (omega arith) in
     let behind = decimal t ++ (codes "_" ++ (decimal a ++ codes "/__base")) in
-    let is : root ++ 47 ∷ p ≡ dest ++ (codes "/__magic/job-" ++ (id ++ (codes "/tasks/" ++ (behind ++ 47 ∷ p)))) = shifted dest (codes "/__magic/job-") id (codes "/tasks/") behind (47 ∷ p) in
+    let is : root ++ 47 ∷ p ≡ dest ++ (codes "/__magic/job-" ++ (id ++ (codes "/tasks/" ++ (behind ++ 47 ∷ p)))) = (simp append_assoc) in
     let same = sym is ∙ (sym (below_is root p long) ∙ e) in
     differ (behind ++ 47 ∷ p) (decimal u ++ codes ".pendingset") (cancel id _ _ (cancel (codes "/__magic/job-") _ _ (cancel dest _ _ same)))
 

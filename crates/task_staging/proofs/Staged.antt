@@ -59,11 +59,8 @@ module _ (t : Task) (s : Stage) (ds : List (List ℕ)) (place : ℕ) (end : Opti
   as_none : s ≡ stages.Opening → is_none ds ≡ true → staged_by t s ds place end ≡ storing (drop place t.files)
   as_none i n = as_open i ∙ ap (λ l. opening l (drop place t.files)) (is_empty ds n)
 
-  as_sending : (n : ℕ) → s ≡ stages.Sending n → staged_by t s ds place end ≡ sending_at (task_script t) t.minimum n (drop place t.files)
-  as_sending n i = ap (staged_by t s ds place) e ∙ ap (λ x. staged_by t x ds place None) i
-
   as_part : (n : ℕ) → s ≡ stages.Sending n → place < length t.files → staged_by t s ds place end ≡ sending_from (file_at t place) (drop (place + 1) t.files) (drop n (parts_in t (file_at t place)))
-  as_part n i h = as_sending n i ∙ ap (sending_at (task_script t) t.minimum n) (front_at t.files place h)
+  as_part n i h = (ap (staged_by t s ds place) e ∙ ap (λ x. staged_by t x ds place None) i) ∙ ap (sending_at (task_script t) t.minimum n) (front_at t.files place h)
 
   as_renaming : s ≡ stages.Renaming → staged_by t s ds place end ≡ Renaming
   as_renaming i = ap (staged_by t s ds place) e ∙ ap (λ x. staged_by t x ds place None) i
@@ -142,11 +139,8 @@ check_told : (t : Task) (d : List ℕ) (ds : List (List ℕ)) (fs : List File) (
 check_told t d ds fs r b = ap (at t) (sym (checks_tell.goes (task_script t) t.minimum (who_of t) d ds r b))
 
 some_partition : (t : Task) (s : Stage) (ds : List (List ℕ)) (place : ℕ) → s ≡ stages.Opening → is_none ds ≡ false → HoldsAt t s ds place → place ≡ 0
-some_partition t s ds place i n h = by ds n (subst (λ x. HoldsAt t x ds place) i h)
-  where
-    by : (ds : List (List ℕ)) → is_none ds ≡ false → HoldsAt t stages.Opening ds place → place ≡ 0
-    by [] g k = absurd (true≢false g)
-    by (d ∷ ds) g k = k
+some_partition t s ds place i n h =
+    (elim ds as (λ ds. is_none ds ≡ false → HoldsAt t stages.Opening ds place → place ≡ 0) [ [] ↦ λ g k. absurd (true≢false g) | d ∷ ds ↦ λ g k. k ]) n (subst (λ x. HoldsAt t x ds place) i h)
 
 module _ (t : Task) (s : Stage) (ds : List (List ℕ)) (place : ℕ) (end : Option TaskEnd) (r : Reply) (b : Bool) (e : end ≡ None) (i : s ≡ stages.Opening) (n : is_none ds ≡ false) where
   checked_by : (found : Option (List ℕ)) (left : List (List ℕ)) → found ≡ found_below ds r → left ≡ left_after ds r → at t (commit_after_check (task_script t) (who_of t) found left) ≡ task_commit_told (at t (staged_by t s ds place end)) (Got r b)

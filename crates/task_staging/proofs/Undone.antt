@@ -29,11 +29,10 @@ done_is c k at n = by (nat_lt at (length (as_made k.drawn))) refl
         none_left c k at k.put_sent n refl none ∙ sym (ap (dropping c k.put_sent) none)
 
 pub start_is : (t : Task) → (t.job.committer ≡ Magic → ⊥) → abort_by t.known 0 (end_at t.known) ≡ task_abort_start (task_script t) t.known
-start_is t n = by t.known.publish_sent
-  where
-    by : (b : Bool) → abort_by t.known 0 (if b then Some ends.Kept else done_at t.known 0) ≡ task_abort_by b t.job.committer t.known
-    by true = refl
-    by false = done_is t.job.committer t.known 0 n
+start_is t n = elim t.known.publish_sent as (λ b. abort_by t.known 0 (if b then Some ends.Kept else done_at t.known 0) ≡ task_abort_by b t.job.committer t.known) [
+      true ↦ refl
+    | false ↦ done_is t.job.committer t.known 0 n
+  ]
 
 pub goes_drawn : (t : Task) (at len : ℕ) (end now : Option TaskEnd) (r : Reply) → (t.job.committer ≡ Magic → ⊥) → end ≡ None → len ≡ length (as_made t.known.drawn) → at < len → now ≡ done_at t.known (at + 1)
     → abort_by t.known (at + 1) now ≡ task_abort_hears (task_script t) (abort_by t.known at end) r

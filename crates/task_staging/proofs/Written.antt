@@ -8,11 +8,7 @@ use Rattle.job_protocol.specs.Writes as writes
 use Rattle.task_machines.specs.Tasks.{at}
 
 pub start_is : (t : Task) → (t.job.committer ≡ Magic → ⊥) → writes.WriteOver ends.Done ≡ write_start (task_script t) (who_of t)
-start_is t n = by t.job.committer n
-  where
-    by : (c : Committer) → (c ≡ Magic → ⊥) → writes.WriteOver ends.Done ≡ write_start_by c (files (task_script t) (who_of t))
-    by Magic h = absurd (h refl)
-    by _ h = refl
+start_is t n = (elim t.job.committer as (λ c. (c ≡ Magic → ⊥) → writes.WriteOver ends.Done ≡ write_start_by c (files (task_script t) (who_of t))) [ Magic ↦ λ h. absurd (h refl) | _ ↦ λ h. refl ]) n
 
 -- nothing is asked
 pub asks_none : (t : Task) (end : TaskEnd) (o : writes.Write) → writes.WriteOver end ≡ o → IsSome (write_wants (at t o)) → ⊥

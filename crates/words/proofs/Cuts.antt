@@ -49,13 +49,10 @@ front_of : (b : ℕ) (front : List ℕ) → take (length front) (front ++ b ∷ 
 front_of b [] = refl
 front_of b (x ∷ xs) = ap (λ (l : List ℕ). x ∷ l) (front_of b xs)
 
-trimmed_at : (bs : List ℕ) (k : ℕ) → 0 < length bs → length bs - 1 ≡ k → get_or bs k 0 ≡ 13 → without_return bs ≡ take k bs
-trimmed_at bs k some e at = rw (lt-ltb 0 (length bs) some, e, at) refl
-
 -- a line with a CR at its end
 pub one_return : (bs front : List ℕ) → bs ≡ front ++ 13 ∷ [] → front ≡ without_return bs
 one_return bs front e =
     let more = length_more 13 front in
     let some : 0 < length (front ++ 13 ∷ []) = omega (arith, more) in
     let last : length (front ++ 13 ∷ []) - 1 ≡ length front = omega (arith, more) in
-    sym (ap without_return e ∙ trimmed_at (front ++ 13 ∷ []) (length front) some last (last_at 13 front) ∙ front_of 13 front)
+    sym (ap without_return e ∙ (rw (lt-ltb 0 (length (front ++ 13 ∷ [])) some, last, (last_at 13 front)) refl) ∙ front_of 13 front)

@@ -41,11 +41,7 @@ pub parts_append : (s : ℕ) (front back : List ℕ) → parts_of s (front ++ s 
 parts_append s front back = parts_from-append s [] front back
 
 other_byte : (s x : ℕ) → x ≢ s → is_other s x ≡ true
-other_byte s x n = by (x == s) refl
-  where
-    by : (b : Bool) → (x == s) ≡ b → is_other s x ≡ true
-    by true e = absurd (n (eqb-true x s e))
-    by false e = ap not e
+other_byte s x n = (elim (x == s) as (λ b. (x == s) ≡ b → is_other s x ≡ true) [ true ↦ λ e. absurd (n (eqb-true x s e)) | false ↦ λ e. ap not e ]) refl
 
 -- a text without the separator, told byte by byte
 pub others_from_bytes : (s : ℕ) (text : List ℕ) → ((i : ℕ) → i < length text → get_or text i 0 ≢ s) → list_all (is_other s) text ≡ true

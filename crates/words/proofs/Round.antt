@@ -142,9 +142,6 @@ decimal_other s n h fits = weaker is_digit (is_other s) (digit_other s h) (decim
 pub two_numbers : (s n m : ℕ) → s < 48 → n < 2 ^ 64 → m < 2 ^ 64 → parts_of s (decimal n ++ s ∷ decimal m) ≡ decimal n ∷ decimal m ∷ []
 two_numbers s n m h f g = part_from s [] (decimal n) (decimal m) (decimal_other s n h f) ∙ ap (λ (l : List (List ℕ)). decimal n ∷ l) (lone_from s [] (decimal m) (decimal_other s m h g))
 
-pub plain-append : (xs ys : List ℕ) → list_all is_plain xs ≡ true → list_all is_plain ys ≡ true → list_all is_plain (xs ++ ys) ≡ true
-plain-append xs ys h k = all-append is_plain xs ys h k
-
 -- ---- words that may hold a CR, but for the end of the line
 
 -- bare words, and no CR at the end

@@ -25,12 +25,6 @@ last_from line (x ∷ front) h some =
     let e = append_assoc line (x ∷ []) front in
     rw (not_so (x == 10) p.0) (last_from (line ++ x ∷ []) front p.1 (subst (λ (l : List ℕ). 0 < length l) (sym e) some) ∙ ap (λ (l : List ℕ). l ∷ []) e)
 
-pub first_line : (bytes : List ℕ) (i : ℕ) → i < length bytes → get_or bytes i 0 ≡ 10 → list_all is_inside (take i bytes) ≡ true → lines_of bytes ≡ without_return (take i bytes) ∷ lines_of (drop 1 (drop i bytes))
-first_line bytes i lt at h =
-    let e : drop i bytes ≡ 10 ∷ drop (suc i) bytes = drop-cons bytes i 0 lt ∙ ap (λ (x : ℕ). x ∷ drop (suc i) bytes) at in
-    let parts : bytes ≡ take i bytes ++ 10 ∷ drop (suc i) bytes = sym (take-append-drop i bytes) ∙ ap (λ (l : List ℕ). take i bytes ++ l) e in
-    ap lines_of parts ∙ first_from [] (take i bytes) (drop (suc i) bytes) h ∙ ap (λ (l : List ℕ). without_return (take i bytes) ∷ lines_of (drop 1 l)) (sym e)
-
 pub last_line : (bytes : List ℕ) (i : ℕ) → 0 < length bytes → drop i bytes ≡ [] → list_all is_inside (take i bytes) ≡ true → lines_of bytes ≡ take i bytes ∷ lines_of (drop i bytes)
 unfolding lines_from
 last_line bytes i some at h =
