@@ -1,29 +1,25 @@
 -- The picks that are seen are those of the sets that the driver holds, as its commit goes on.
-use Rattle.std.proofs.Common.{◌≡◌, ℕ, zero, suc, ◌+◌, ◌<◌, ◌≤◌, inl, inr, not, nat_lt, ◌&&◌, ◌||◌, Bool, true, false, cond, List, [], ◌∷◌, ◌++◌, length, Option, Some, None, refl, sym, ap, subst, ◌∙◌, arith, codes}
-use Rattle.job_facts.specs.Prelude.{is_some, Scene, Request, Reply, Outcome, Answered, Slow, RequestLost, ReplyLost, Committer, Magic, Directory, Partitioned, Mode, Replace, Append, Fail, begins, below, dest_prefix, partition_prefix, Sweep, sweep_hears, Pending, IsLegal, Script, CommitEnd, Picks, files, wanted_paths, wanted_at, same_path, picked_below, is_picked, is_clash, is_decided, keeps, keeps_of, partitions, Turn, again, follow, dealt, revert, Sets, all_commits, picks_of, Commit, Fetching, Replacing, Completing, Marking, Reverting, CommitOver, commit_hears, commit_misses, commit_tells, commit_start, completing, is_no_magic, replaced, replacing, swept, decided, fetching, reverting, worn_completion, Tabled, is_untouched, IsIn, changed_keys, Told, Facts, Reads, FitsJobCommit, AreDecided, Decides}
-use Rattle.job_spec.proofs.Common.{ltb-false, begins_behind, shared_found, false_true, in_map, map_in}
+use Rattle.std.proofs.Common.{◌≡◌, ℕ, zero, suc, ◌<◌, ◌≤◌, inl, inr, not, ◌&&◌, ◌||◌, Bool, true, false, List, [], ◌∷◌, ◌++◌, length, Option, Some, None, refl, sym, ap, subst, ◌∙◌, arith, codes}
+use Rattle.job_facts.specs.Prelude.{is_some, Scene, Request, Reply, Outcome, Answered, Committer, Directory, Partitioned, Mode, Replace, begins, below, dest_prefix, partition_prefix, sweep_hears, Pending, IsLegal, Script, Picks, files, wanted_paths, wanted_at, same_path, picked_below, is_decided, keeps, keeps_of, partitions, again, follow, dealt, revert, Sets, all_commits, picks_of, Commit, Fetching, Replacing, Completing, Marking, Reverting, CommitOver, commit_hears, commit_tells, commit_start, is_no_magic, replaced, fetching, reverting, Tabled, is_untouched, IsIn, changed_keys, Told, Facts, Reads, FitsJobCommit, AreDecided, Decides}
+use Rattle.job_spec.proofs.Common.{begins_behind, shared_found, false_true, in_map, map_in, true_or_false}
 use Rattle.std.proofs.lemmas.Bool.{not-false}
 use Rattle.magic_paths.proofs.Tails.{below_is as paths_below}
 use Rattle.job_facts.proofs.Legal.{some_dest}
 use Rattle.job_facts.proofs.JobCommitting.{dest_below}
-use Rattle.job_model.specs.declared.ends.CommitEnd.TheVariants as ends_of
-use Rattle.job_model.specs.declared.ends.Stage.TheVariants as stages
 use Rattle.job_protocol.specs.Conflicts.{is_below_any}
 use Rattle.job_facts.proofs.Whose.{attempt, or_true}
-use Rattle.job_facts.proofs.Held.{of_sets, task_low}
+use Rattle.job_facts.proofs.Held.{of_sets, task_low, revert_each, missed, worn, tells_so, Course, fetching_so, swept_so, completing_so}
 use Rattle.job_facts.proofs.Wanted.{wanted_here, still_apart}
-use Rattle.job_facts.proofs.Numbered.{revert_each}
 
 -- ---- what a replace mode deletes is what it does not keep
 
 -- some directory has the path
 below_some : (dirs : List (List ℕ)) (q : List ℕ) → is_below_any dirs q ≡ true → (d : List ℕ) × IsIn d dirs × (begins (d ++ 47 ∷ []) q ≡ true)
 below_some [] q h = absurd (false_true refl h)
-below_some (d ∷ dirs) q h = by (begins (d ++ 47 ∷ []) q) refl (below_some dirs q)
-  where
-    by : (t : Bool) → begins (d ++ 47 ∷ []) q ≡ t → (is_below_any dirs q ≡ true → (e : List ℕ) × IsIn e dirs × (begins (e ++ 47 ∷ []) q ≡ true)) → (e : List ℕ) × IsIn e (d ∷ dirs) × (begins (e ++ 47 ∷ []) q ≡ true)
-    by true e old = (d, inl refl, e)
-    by false e old = let o = old (sym (ap (λ b. b || is_below_any dirs q) e) ∙ h) in (o.0, inr o.1, o.2)
+below_some (d ∷ dirs) q h = elim (true_or_false (begins (d ++ 47 ∷ []) q)) [
+  | inl e ↦ (d, inl refl, e)
+  | inr e ↦ let o = below_some dirs q (sym (ap (λ b. b || is_below_any dirs q) e) ∙ h) in (o.0, inr o.1, o.2)
+]
 
 below_one : (dirs : List (List ℕ)) (q d : List ℕ) → IsIn d dirs → begins (d ++ 47 ∷ []) q ≡ true → is_below_any dirs q ≡ true
 below_one [] q d i h = absurd i
@@ -49,22 +45,14 @@ module _ {w : Script} (j : IsLegal w) (picks : Picks) where
   prefix_of Partitioned Replace q h =
       let o = below_some (partitions (wanted_paths w picks)) q (not-false (is_below_any (partitions (wanted_paths w picks)) q) h) in
       (partition_prefix w o.0, map_in (partition_prefix w) o.0 (partitions (wanted_paths w picks)) o.1, partition_is j o.0 q ∙ o.2)
-  prefix_of Magic m q h = absurd (false_true h refl)
-  prefix_of Directory Append q h = absurd (false_true h refl)
-  prefix_of Directory Fail q h = absurd (false_true h refl)
-  prefix_of Partitioned Append q h = absurd (false_true h refl)
-  prefix_of Partitioned Fail q h = absurd (false_true h refl)
+  prefix_of _ _ q h = absurd (false_true h refl)
 
   not_kept : (c : Committer) (m : Mode) (q p : List ℕ) → IsIn p (Prefixes c m) → begins p (below w.dest.key q) ≡ true → Keeps c m q ≡ false
   not_kept Directory Replace q p i h = refl
   not_kept Partitioned Replace q p i h =
       let o = in_map (partition_prefix w) p (partitions (wanted_paths w picks)) i in
       ap not (below_one (partitions (wanted_paths w picks)) q o.0 o.1 (sym (partition_is j o.0 q) ∙ ap (λ x. begins x (below w.dest.key q)) (sym o.2) ∙ h))
-  not_kept Magic m q p i h = absurd i
-  not_kept Directory Append q p i h = absurd i
-  not_kept Directory Fail q p i h = absurd i
-  not_kept Partitioned Append q p i h = absurd i
-  not_kept Partitioned Fail q p i h = absurd i
+  not_kept _ _ q p i h = absurd i
 
   -- what is not kept is below a prefix that is emptied
   pub unkept_prefix : (q : List ℕ) → keeps_of w picks q ≡ false → (p : List ℕ) × IsIn p (replaced w.committer w.mode w picks) × (begins p (below w.dest.key q) ≡ true)
@@ -93,17 +81,8 @@ module _ (w : Script) (picks : Picks) where
   pub picks_apart : (sets : Sets) → AreDecided w sets → AgreeBelow sets w.tasks → same_path w picks ≡ None
   picks_apart sets d h = still_apart w (picks_of sets) picks h d.apart
 
-  pub picks_decided : (sets : Sets) → AreDecided w sets → AgreeBelow sets w.tasks → (is_picked w picks ≡ true) × (is_clash w picks ≡ false)
-  picks_decided sets d h = (
-    (let low : w.tasks ≤ length sets = high d.all in read_all sets w.tasks low h),
-    ap is_some (picks_apart sets d h),
-  )
-    where
-      high : {a b : ℕ} → a ≡ b → b ≤ a
-      high e = omega arith
-
   pub decided_so : (sets : Sets) → AreDecided w sets → AgreeBelow sets w.tasks → is_decided w picks ≡ true
-  decided_so sets d h = let p = picks_decided sets d h in rw (p.0, p.1) refl
+  decided_so sets d h = rw (read_all sets w.tasks (omega (arith, d.all)) h, ap is_some (picks_apart sets d h)) refl
 
   -- the keys that requests of a revert change are those of wanted files
   abbrev pub OfWanted : Request → Type 0
@@ -117,36 +96,21 @@ module _ (w : Script) (picks : Picks) where
   Agrees (Reverting r rs n) = (is_decided w picks ≡ true) × ((y : Request) → IsIn y (r ∷ rs) → OfWanted y)
   Agrees (CommitOver end) = is_untouched end ≡ false → is_decided w picks ≡ true
 
-  agrees_completing : (sets : Sets) (xs : List Turn) (finished : List ℕ) → AgreeBelow sets w.tasks → Agrees (completing sets xs finished)
-  agrees_completing sets [] finished h = h
-  agrees_completing sets (x ∷ xs) finished h = h
-
-  agrees_replacing : (sets : Sets) (ps : List (List ℕ)) → AgreeBelow sets w.tasks → Agrees (replacing w sets ps)
-  agrees_replacing sets [] a = agrees_completing sets (dealt w.lanes (length (all_commits sets))) [] a
-  agrees_replacing sets (p ∷ ps) a = a
-
-  agrees_swept : (sets : Sets) (p : List ℕ) (ps : List (List ℕ)) (o : Option Sweep) → AgreeBelow sets w.tasks → Agrees (swept w sets p ps o)
-  agrees_swept sets p ps (Some t) a = a
-  agrees_swept sets p ps None a = agrees_replacing sets ps a
-
-  agrees_decided : (sets : Sets) (o : Option CommitEnd) → same_path w (picks_of sets) ≡ o → AgreeBelow sets w.tasks → Agrees (decided w sets o)
-  agrees_decided sets (Some end) e a = let x = shared_found w (picks_of sets) end e in subst (λ v. Agrees (CommitOver v)) (sym x.3) (λ n. absurd cc)
-  agrees_decided sets None e a = agrees_replacing sets (replaced w.committer w.mode w (picks_of sets)) a
+  agrees_course : Course w Agrees (λ sets. (length sets ≤ w.tasks) × AgreeBelow sets (length sets)) (λ sets ps. AgreeBelow sets w.tasks)
+  agrees_course = record {
+    fetches = λ sets l a. a.1;
+    clashes = λ sets end e a. let x = shared_found w (picks_of sets) end e in subst (λ v. Agrees (CommitOver v)) (sym x.3) (λ n. absurd cc);
+    decides = λ sets l e a t k. a.1 t (omega (arith, l, k));
+    replaces = λ sets p ps a. a;
+    completes = λ sets a. completing_so Agrees sets (dealt w.lanes (length (all_commits sets))) [] a (λ x xs. a);
+  }
 
   pub agrees_fetching : (sets : Sets) → length sets ≤ w.tasks → AgreeBelow sets (length sets) → Agrees (fetching w sets)
-  agrees_fetching sets l a = by (nat_lt (length sets) w.tasks) refl
-    where
-      by : (b : Bool) → nat_lt (length sets) w.tasks ≡ b → Agrees (cond b (Fetching sets 0) (decided w sets (same_path w (picks_of sets))))
-      by true e = a
-      by false e = let high : w.tasks ≤ length sets = ltb-false (length sets) w.tasks e in agrees_decided sets (same_path w (picks_of sets)) refl (λ t k. a t (omega arith))
+  agrees_fetching sets l a = fetching_so agrees_course sets (l, a)
 
   agrees_reverting : (rs : List Request) → is_decided w picks ≡ true → ((y : Request) → IsIn y rs → OfWanted y) → Agrees (reverting rs)
   agrees_reverting [] d h = λ e. d
   agrees_reverting (r ∷ rs) d h = (d, h)
-
-  either : (b : Bool) (c d : Commit) → Agrees c → Agrees d → Agrees (cond b c d)
-  either true c d h g = h
-  either false c d h g = g
 
   pub agrees_start : (missing : Option ℕ) → Agrees (commit_start w missing)
   agrees_start None = agrees_fetching [] (omega arith) (λ t l. absurd (omega arith))
@@ -167,46 +131,38 @@ module _ (w : Script) (picks : Picks) where
           wanted_here w picks j (picks_apart sets d a) o.0 x.by.attempt low (a o.0 low ∙ o.1.picked) x.file (subst (λ v. IsIn x.file (files w v)) who x.mine),
         )
 
-    agrees_missed : (c : Commit) → FitsJobCommit w minimum m.publish_sent m.drawn c → Tabled w c → Decides w minimum m.publish_sent m.drawn c → Agrees c → (lost : Bool) → Agrees (commit_misses w c lost)
-    agrees_missed (Fetching sets n) fits t d a lost = either (nat_lt n w.retries) (Fetching sets (n + 1)) (CommitOver (ends_of.StoreFault stages.Read)) a (λ e. absurd cc)
-    agrees_missed (Replacing sets p ps x n) fits t d a lost = either (nat_lt n w.retries) (Replacing sets p ps x (n + 1)) (CommitOver (ends_of.StoreFault stages.Delete)) a (λ e. decided_so sets d a)
-    agrees_missed (Completing sets x xs finished) fits t d a lost =
-        either (nat_lt x.missed w.retries) (completing sets (xs ++ again x lost ∷ []) finished) (worn_completion sets x xs finished) (agrees_completing sets (xs ++ again x lost ∷ []) finished a)
-        (agrees_reverting (revert (all_commits sets) x.number xs finished) (decided_so sets d a) (λ y i k c.
+    agrees_missed : (c : Commit) → Agrees c → (lost : Bool) → Agrees (missed c lost)
+    agrees_missed (Completing sets x xs finished) a lost = completing_so Agrees sets (xs ++ again x lost ∷ []) finished a (λ y ys. a)
+    agrees_missed _ a lost = a
+
+    agrees_worn : (c : Commit) → FitsJobCommit w minimum m.publish_sent m.drawn c → Tabled w c → Decides w minimum m.publish_sent m.drawn c → Agrees c → Agrees (worn c)
+    agrees_worn (Fetching sets n) fits t d a = λ e. absurd cc
+    agrees_worn (Completing sets x xs finished) fits t d a =
+        agrees_reverting (revert (all_commits sets) x.number xs finished) (decided_so sets d a) (λ y i k c.
         let o = revert_each (all_commits sets) x.number xs finished (t.within x (inl refl)) t.done_within y i in
         let u = upload_wanted sets fits d a o.0 o.1 in
         elim o.2 [
           | inl is ↦ absurd (subst (λ r. IsIn k (changed_keys r)) is c)
           | inr is ↦ elim (subst (λ r. IsIn k (changed_keys r)) is c) [ inl e ↦ (u.0, u.1, e ∙ u.2, u.3) | inr none ↦ absurd none ]
-        ]))
-    agrees_missed (Marking sets n) fits t d a lost = either (nat_lt n w.retries) (Marking sets (n + 1)) (CommitOver (ends_of.StoreFault stages.Success)) a (λ e. decided_so sets d a)
-    agrees_missed (Reverting q qs n) fits t d a lost = either (nat_lt n w.retries) (Reverting q qs (n + 1)) (reverting qs) a (agrees_reverting qs a.0 (λ y i. a.1 y (inr i)))
-    agrees_missed (CommitOver end) fits t d a lost = a
-
-    abbrev is_fetching : Commit → Bool
-    is_fetching (Fetching sets n) = true
-    is_fetching _ = false
-
-    agrees_heard : (c : Commit) → is_fetching c ≡ false → Decides w minimum m.publish_sent m.drawn c → Agrees c → (x : Reply) → Agrees (commit_hears w c x)
-    agrees_heard (Fetching sets n) no_read d a x = absurd cc
-    agrees_heard (Replacing sets p ps y n) no_read d a x = agrees_swept sets p ps (sweep_hears (is_no_magic w) y x) a
-    agrees_heard (Completing sets y ys finished) no_read d a x = agrees_completing sets (ys ++ follow w.lanes (length (all_commits sets)) y.number) (y.number ∷ finished) a
-    agrees_heard (Marking sets n) no_read d a x = λ e. decided_so sets d a
-    agrees_heard (Reverting q qs n) no_read d a x = agrees_reverting qs a.0 (λ y i. a.1 y (inr i))
-    agrees_heard (CommitOver end) no_read d a x = a
+        ])
+    agrees_worn (Reverting q qs n) fits t d a = agrees_reverting qs a.0 (λ y i. a.1 y (inr i))
+    agrees_worn (CommitOver end) fits t d a = a
+    agrees_worn (Replacing sets p ps x n) fits t d a = λ e. decided_so sets d a
+    agrees_worn (Marking sets n) fits t d a = λ e. decided_so sets d a
 
     -- an answer to a read is told elsewhere
     abbrev pub IsRead : Commit → Outcome → Type 0
     IsRead (Fetching sets n) (Answered x) = Unit {0}
     IsRead _ _ = ⊥
 
+    agrees_heard : (c : Commit) (x : Reply) → (IsRead c (Answered x) → ⊥) → Decides w minimum m.publish_sent m.drawn c → Agrees c → Agrees (commit_hears w c x)
+    agrees_heard (Fetching sets n) x no_read d a = absurd (no_read tt)
+    agrees_heard (Replacing sets p ps y n) x no_read d a = swept_so agrees_course sets p ps (sweep_hears (is_no_magic w) y x) a (λ u e. a)
+    agrees_heard (Completing sets y ys finished) x no_read d a =
+        completing_so Agrees sets (ys ++ follow w.lanes (length (all_commits sets)) y.number) (y.number ∷ finished) a (λ x xs. a)
+    agrees_heard (Marking sets n) x no_read d a = λ e. decided_so sets d a
+    agrees_heard (Reverting q qs n) x no_read d a = agrees_reverting qs a.0 (λ y i. a.1 y (inr i))
+    agrees_heard (CommitOver end) x no_read d a = a
+
     pub agrees_tells : (c : Commit) → FitsJobCommit w minimum m.publish_sent m.drawn c → Tabled w c → Decides w minimum m.publish_sent m.drawn c → Agrees c → (o : Outcome) → (IsRead c o → ⊥) → Agrees (commit_tells w c o)
-    agrees_tells (Fetching sets n) fits t d a (Answered x) no_read = absurd (no_read tt)
-    agrees_tells (Replacing sets p ps y n) fits t d a (Answered x) no_read = agrees_heard (Replacing sets p ps y n) refl d a x
-    agrees_tells (Completing sets y ys finished) fits t d a (Answered x) no_read = agrees_heard (Completing sets y ys finished) refl d a x
-    agrees_tells (Marking sets n) fits t d a (Answered x) no_read = agrees_heard (Marking sets n) refl d a x
-    agrees_tells (Reverting q qs n) fits t d a (Answered x) no_read = agrees_heard (Reverting q qs n) refl d a x
-    agrees_tells (CommitOver end) fits t d a (Answered x) no_read = a
-    agrees_tells c fits t d a Slow no_read = agrees_missed c fits t d a false
-    agrees_tells c fits t d a RequestLost no_read = agrees_missed c fits t d a true
-    agrees_tells c fits t d a ReplyLost no_read = agrees_missed c fits t d a true
+    agrees_tells c fits t d a o no_read = tells_so w Agrees c o (λ x e. agrees_heard c x (subst (λ v. IsRead c v → ⊥) e no_read) d a) (agrees_missed c a) (agrees_worn c fits t d a)

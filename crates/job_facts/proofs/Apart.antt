@@ -1,17 +1,16 @@
 -- What a request of an attempt leaves standing of another's, and of its own.
-use Rattle.std.proofs.Common.{◌≡◌, ℕ, ◌<◌, ◌≤◌, inl, inr, true, false, List, [], ◌∷◌, ◌++◌, take, length, Option, Some, refl, sym, ap, subst, ◌∙◌, arith, append_assoc, length-append, codes}
-use Rattle.job_facts.specs.Prelude.{decimal, Scene, begins, apply, bucket_of, Object, Request, PutObject, AbortUpload, DeleteObjects, ClusterPut, ClusterRename, ClusterDelete, magic_prefix, staged_set_path, TemporaryPlace, StagedSetPlace, File, Who, IsLegal, Script, Known, attempt_dir, record_key, Uploading, Creating, Sending, upload_asks, Listing, Deleting, Write, WriteOver, write_asks, TaskCommit, Publishing, Storing, Renaming, TaskCommitOver, task_commit_asks, attempt_prefix, temporary_path, TaskAbort, Dropping, TaskAbortOver, task_abort_asks, IsIn, HasBucket, changed_keys, changed_paths, at_key, IsAttempt, FitsAbort}
-use Rattle.job_spec.proofs.Common.{append_cancel_left, begins_behind, begins_back, below_is, decimal_without, some_is, false_true, true_or_false, same_or_other, text_here}
+use Rattle.std.proofs.Common.{◌≡◌, ℕ, ◌≤◌, inl, inr, true, false, List, [], ◌∷◌, ◌++◌, take, length, Option, Some, refl, sym, ap, subst, ◌∙◌, arith, append_assoc, length-append, codes}
+use Rattle.job_facts.specs.Prelude.{decimal, Scene, begins, apply, bucket_of, Object, Request, PutObject, AbortUpload, DeleteObjects, magic_prefix, File, Who, IsLegal, Script, Known, attempt_dir, record_key, Uploading, Creating, Sending, upload_asks, Deleting, Write, WriteOver, write_asks, TaskCommit, Publishing, TaskCommitOver, task_commit_asks, attempt_prefix, TaskAbort, Dropping, TaskAbortOver, task_abort_asks, IsIn, HasBucket, changed_keys, changed_paths, at_key, IsAttempt, FitsAbort}
+use Rattle.job_spec.proofs.Common.{append_cancel_left, begins_behind, begins_back, below_is, decimal_without, some_is, false_true, true_or_false, same_or_other}
 use Rattle.path_keys.proofs.Common.{decimal_injective}
 use Rattle.std.specs.FinMap as fin
 use Rattle.magic_paths.proofs.Tails.{cut_once}
 use Rattle.job_protocol.specs.Writes as writes
 use Rattle.job_protocol.specs.TaskCommits as commits
-use Rattle.job_protocol.specs.TaskAborts.{Sweeping, Removing}
+use Rattle.job_protocol.specs.TaskAborts.{Sweeping}
 use Rattle.store_frame.proofs.Framed.{frame}
-use Rattle.job_facts.proofs.Whose.{attempt}
+use Rattle.job_facts.proofs.Whose.{who_of}
 use Rattle.job_facts.proofs.Legal.{some_dest, small_attempt}
-use Rattle.job_facts.proofs.Placed.{temporary_place, staged_place, one_path}
 use Rattle.job_facts.proofs.Shapes.{puts}
 use Rattle.job_facts.proofs.Aborting.{taken_in}
 use Rattle.job_facts.proofs.Owning.{own_directory}
@@ -33,7 +32,7 @@ one_directory {w = w} j a b d e x y same =
     let tasks = append_cancel_left (codes "/tasks/") (inside a.task a.attempt x) (inside b.task b.attempt y) (append_cancel_left w.job _ _ (append_cancel_left (codes "/__magic/job-") _ _ behind)) in
     let first = cut_once 95 (decimal a.task) (decimal b.task) (decimal a.attempt ++ 47 ∷ (codes "__base/" ++ x)) (decimal b.attempt ++ 47 ∷ (codes "__base/" ++ y)) (decimal_without 95 a.task refl p.0) (decimal_without 95 b.task refl q.0) tasks in
     let second = cut_once 47 (decimal a.attempt) (decimal b.attempt) (codes "__base/" ++ x) (codes "__base/" ++ y) (decimal_without 47 a.attempt refl p.1) (decimal_without 47 b.attempt refl q.1) first.back in
-    ap (λ (t : ℕ). attempt t a.attempt) (decimal_injective a.task b.task p.0 q.0 first.front) ∙ ap (λ (n : ℕ). attempt b.task n) (decimal_injective a.attempt b.attempt p.1 q.1 second.front)
+    who_of a b (decimal_injective a.task b.task p.0 q.0 first.front) (decimal_injective a.attempt b.attempt p.1 q.1 second.front)
 
 record_is : {w : Script} → IsLegal w → (a : Who) (f : File) → record_key w a f ≡ attempt_dir w a ++ 47 ∷ (f.0 ++ codes ".pending")
 record_is {w = w} j a f =
@@ -80,27 +79,14 @@ module _ (w : Script) (s : Scene) (there : HasBucket s.content w.dest.bucket) wh
   key_still : (k : List ℕ) (r : Request) → changed_keys r ≡ [] → Keeps k r
   key_still k r none = key_left k r (λ b i. subst (λ (l : List (List ℕ)). IsIn k l) none i)
 
-  path_still : (p : List ℕ) (r : Request) → changed_paths r ≡ [] → KeepsPath p r
-  path_still p r none = path_left p r (λ i. subst (λ (l : List (List ℕ)). IsIn p l) none i)
-
   key_put : (k key bytes : List ℕ) (header : Option ℕ) → Keeps k (PutObject w.dest.bucket key bytes header)
   key_put k key bytes header h =
       let g = puts w s there.0 there.1 key bytes header in
       elim (same_or_other k key) [ inl is ↦ (_, ap (at_key w (apply s (PutObject w.dest.bucket key bytes header)).content) is ∙ g.here) | inr ne ↦ (h.0, g.others k ne ∙ h.1) ]
 
-  path_put : (p path bytes : List ℕ) → KeepsPath p (ClusterPut path bytes)
-  path_put p path bytes h = elim (same_or_other p path) [
-    | inl is ↦ (bytes, text_here s.files path p bytes is)
-    | inr ne ↦ path_left p (ClusterPut path bytes) (λ i. elim i [ inl is ↦ ne is | inr none ↦ none ]) h
-  ]
-
   upload_keys : (k : Known) (f : File) (u : Uploading) (q : List ℕ) → Keeps q (upload_asks w k f u)
   upload_keys k f Creating q = key_left q (upload_asks w k f Creating) (λ b i. i)
   upload_keys k f (Sending p ps) q = key_left q (upload_asks w k f (Sending p ps)) (λ b i. i)
-
-  upload_paths : (k : Known) (f : File) (u : Uploading) (q : List ℕ) → KeepsPath q (upload_asks w k f u)
-  upload_paths k f Creating q = path_left q (upload_asks w k f Creating) (λ i. i)
-  upload_paths k f (Sending p ps) q = path_left q (upload_asks w k f (Sending p ps)) (λ i. i)
 
   -- writes and commits delete no key, and a write no path
   pub write_keys : (b : Who) (k : Known) (t : Write) (r : Request) → write_asks w b k t ≡ Some r → (q : List ℕ) → Keeps q r
@@ -109,9 +95,10 @@ module _ (w : Script) (s : Scene) (there : HasBucket s.content w.dest.bucket) wh
   write_keys b k _ r e q = subst (Keeps q) (some_is e) (key_put q _ _ _)
 
   pub write_paths : (b : Who) (k : Known) (t : Write) (r : Request) → write_asks w b k t ≡ Some r → (q : List ℕ) → KeepsPath q r
-  write_paths b k (writes.Uploads f fs u) r e q = subst (KeepsPath q) (some_is e) (upload_paths k f u q)
+  write_paths b k (writes.Uploads f fs (Sending p ps)) r e q = path_left q r (λ i. subst (λ v. IsIn q (changed_paths v)) (sym (some_is e)) i)
   write_paths b k (WriteOver end) r e q = absurd cc
-  write_paths b k _ r e q = path_still q r (ap changed_paths (sym (some_is e)))
+  write_paths b k (writes.Uploads f fs Creating) r e q = path_left q r (λ i. subst (λ v. IsIn q (changed_paths v)) (sym (some_is e)) i)
+  write_paths b k _ r e q = path_left q r (λ i. subst (λ v. IsIn q (changed_paths v)) (sym (some_is e)) i)
 
   pub commit_keys : (b : Who) (k : Known) (t : TaskCommit) (r : Request) → task_commit_asks w b k t ≡ Some r → (q : List ℕ) → Keeps q r
   commit_keys b k (Publishing cs) r e q = subst (Keeps q) (some_is e) (key_put q _ _ _)
@@ -119,39 +106,9 @@ module _ (w : Script) (s : Scene) (there : HasBucket s.content w.dest.bucket) wh
   commit_keys b k (TaskCommitOver end) r e q = absurd cc
   commit_keys b k _ r e q = key_still q r (ap changed_keys (sym (some_is e)))
 
-  -- a commit moves its own temporary file alone
-  pub commit_paths : (b : Who) (k : Known) (t : TaskCommit) (r : Request) → task_commit_asks w b k t ≡ Some r → (q : List ℕ) → (q ≡ temporary_path w b → ⊥) → (q ≡ staged_set_path w.job b.task → ⊥) → KeepsPath q r
-  commit_paths b k (commits.Uploads f fs u) r e q ne no_set = subst (KeepsPath q) (some_is e) (upload_paths k f u q)
-  commit_paths b k Storing r e q ne no_set = subst (KeepsPath q) (some_is e) (path_put q _ _)
-  commit_paths b k Renaming r e q ne no_set =
-      subst (KeepsPath q) (some_is e) (path_left q (ClusterRename (temporary_path w b) (staged_set_path w.job b.task)) (λ i. elim i [ inl is ↦ ne is | inr more ↦ elim more [ inl is ↦ no_set is | inr none ↦ none ] ]))
-  commit_paths b k (TaskCommitOver end) r e q ne no_set = absurd cc
-  commit_paths b k _ r e q ne no_set = path_still q r (ap changed_paths (sym (some_is e)))
-
-  -- an abort deletes keys of its own directory and its temporary file
+  -- an abort deletes keys of its own directory
   pub abort_keys : (b : Who) (k : Known) (t : TaskAbort) → FitsAbort w b k t → (r : Request) → task_abort_asks w b t ≡ Some r → (q : List ℕ) → begins (attempt_prefix w b) q ≡ false → Keeps q r
   abort_keys b k (Dropping x xs sent) h r e q out = subst (Keeps q) (some_is e) (key_left q (AbortUpload w.dest.bucket x.key x.upload) (λ b i. i))
   abort_keys b k (Sweeping (Deleting p ps)) h r e q out = subst (Keeps q) (some_is e) (key_left q (DeleteObjects w.dest.bucket (take 1000 (p ∷ ps))) (λ b i. false_true out (h.1 q (taken_in 1000 (p ∷ ps) q i))))
   abort_keys b k (TaskAbortOver end) h r e q out = absurd cc
   abort_keys b k _ h r e q out = key_still q r (ap changed_keys (sym (some_is e)))
-
-  pub abort_paths : (b : Who) (t : TaskAbort) (r : Request) → task_abort_asks w b t ≡ Some r → (q : List ℕ) → (q ≡ temporary_path w b → ⊥) → KeepsPath q r
-  abort_paths b (Dropping x xs sent) r e q ne = subst (KeepsPath q) (some_is e) (path_left q (AbortUpload w.dest.bucket x.key x.upload) (λ i. i))
-  abort_paths b (Sweeping (Listing keys)) r e q ne = path_still q r (ap changed_paths (sym (some_is e)))
-  abort_paths b (Sweeping (Deleting p ps)) r e q ne = path_still q r (ap changed_paths (sym (some_is e)))
-  abort_paths b Removing r e q ne = subst (KeepsPath q) (some_is e) (path_left q (ClusterDelete (temporary_path w b)) (λ i. elim i [ inl is ↦ ne is | inr none ↦ none ]))
-  abort_paths b (TaskAbortOver end) r e q ne = absurd cc
-
--- ---- paths of others
-
-pub temporary_apart : {w : Script} → IsLegal w → (a b : Who) → IsAttempt w a → IsAttempt w b → (a ≡ b → ⊥) → temporary_path w a ≡ temporary_path w b → ⊥
-temporary_apart j a b d e ne same =
-    let at : TemporaryPlace a.task a.attempt ≡ TemporaryPlace b.task b.attempt = one_path j (TemporaryPlace a.task a.attempt) (TemporaryPlace b.task b.attempt) (temporary_place j a d) (temporary_place j b e) same in
-    let t : a.task ≡ b.task = cc in
-    let n : a.attempt ≡ b.attempt = cc in
-    ne (ap (λ (x : ℕ). attempt x a.attempt) t ∙ ap (λ (x : ℕ). attempt b.task x) n)
-
-pub set_apart : {w : Script} → IsLegal w → (a : Who) (t : ℕ) → IsAttempt w a → t < w.tasks → temporary_path w a ≡ staged_set_path w.job t → ⊥
-set_apart j a t d lt same =
-    let at : TemporaryPlace a.task a.attempt ≡ StagedSetPlace t = one_path j (TemporaryPlace a.task a.attempt) (StagedSetPlace t) (temporary_place j a d) (staged_place j t lt) same in
-    absurd cc

@@ -1,21 +1,21 @@
 -- The driver's abort or clean of the job leaves nothing of it, where nobody else sends.
 use Rattle.std.proofs.Common.{◌≡◌, ℕ, inl, inr, nat_lt, Bool, true, false, cond, List, [], ◌∷◌, ◌++◌, take, length, Option, Some, None, refl, sym, ap, subst, ◌∙◌}
-use Rattle.job_facts.specs.Prelude.{filter, text_cmp, text_eq, Content, Scene, Upload, begins, answer, apply, effect, IsHonestOutcome, only_reads, Committer, Magic, Request, AbortUpload, DeleteObjects, ClusterList, ClusterDelete, UploadRef, Reply, Outcome, Answered, Slow, RequestLost, ReplyLost, Retried, step, magic_prefix, cluster_prefix, Script, dest_prefix, Sweep, Listing, Deleting, walked_by, walked_uploads, last_ref, uploads_after, sweep_asks, sweep_hears, all_go, Clean, Walking, Aborting, Naming, Removing, CleanOver, clean_asks, clean_after, clean_hears, aborted, aborting, walking, sweeping, removing, naming, NoClusterFile, is_magic, is_staging, IsIn, HasBucket, at_id, end_left, ref_at, Clears}
+use Rattle.job_facts.specs.Prelude.{filter, text_cmp, text_eq, Content, Scene, Upload, begins, answer, apply, effect, IsHonestOutcome, only_reads, Committer, Magic, Request, AbortUpload, ClusterList, ClusterDelete, UploadRef, Reply, Outcome, ReplyLost, Retried, step, magic_prefix, cluster_prefix, Script, dest_prefix, Sweep, Listing, Deleting, walked_by, walked_uploads, last_ref, uploads_after, sweep_asks, sweep_hears, all_go, Clean, Walking, Aborting, Naming, Removing, CleanOver, clean_asks, clean_after, clean_hears, aborting, walking, sweeping, removing, naming, is_magic, is_staging, IsIn, HasBucket, at_id, end_left, ref_at, Clears}
 use Rattle.job_spec.specs.Prelude.{NoneLive, NothingLeft}
-use Rattle.job_spec.proofs.Common.{some_is, none_some, false_true, true_or_false, same_or_not, same_or_other, text_true, text_gone, text_left, in_front, in_back, map_in, filter_in}
+use Rattle.job_spec.proofs.Common.{some_is, none_some, false_true, true_or_false, same_or_not, text_true, text_gone, in_front, in_back, map_in, filter_in}
 use Rattle.path_keys.proofs.Common.{text_exact}
 use Rattle.std.specs.FinMap as fin
 use Rattle.s3_types.specs.Multipart as multipart
-use Rattle.s3_types.specs.declared.reply.Reply.TheVariants.{Uploads as UploadsPage}
 use Rattle.job_protocol.specs.Cleanups.{Sweeping}
 use Rattle.store_frame.proofs.Reading.{reads_nothing}
 use Rattle.job_facts.specs.Emptying.{OnlyThese}
 use Rattle.job_facts.specs.Clearing.{LiveIn, LiveOrBehind, FilesIn}
-use Rattle.job_facts.proofs.Shapes.{id_before, answer_is, abort_turns}
-use Rattle.job_facts.proofs.Going.{step_so}
+use Rattle.job_facts.proofs.Shapes.{id_before, abort_turns}
+use Rattle.job_facts.proofs.Going.{Each, each_so, step_by, effect_so}
 use Rattle.job_facts.proofs.Undone.{deletes_drop}
 use Rattle.job_facts.proofs.Emptying.{still_there, sweep_begins, sweep_empties, sweep_still, Emptied}
-use Rattle.job_facts.proofs.Live.{find_in, last_more, page_covers, page_all}
+use Rattle.job_facts.proofs.Live.{find_in, last_more, page_covers, page_all, refs_rest, refs_is}
+use Rattle.job_facts.proofs.Staged.{removed_stood}
 
 -- ---- as it ends
 
@@ -23,24 +23,18 @@ nothing_magic : (c : Committer) (w : Script) (s : Scene) → is_magic c ≡ true
 nothing_magic Magic w s m none bare = (none, λ k x e. elim (true_or_false (begins (magic_prefix w.dest.key w.job) k)) [ inl b ↦ absurd (bare k x b refl e) | inr b ↦ b ])
 nothing_magic _ w s m none bare = absurd cc
 
-no_file : (w : Script) (s : Scene) → FilesIn w s [] → NoClusterFile w s
-no_file w s h p bytes e = elim (true_or_false (begins (cluster_prefix w.job) p)) [ inl b ↦ absurd (h p bytes e b) | inr b ↦ b ]
-
 nothing_staging : (c : Committer) (w : Script) (s : Scene) → is_staging c ≡ true → NoneLive w s.content → FilesIn w s [] → NothingLeft c w s
 nothing_staging Magic w s m none bare = absurd cc
-nothing_staging _ w s m none bare = (none, no_file w s bare)
+nothing_staging _ w s m none bare = (none, λ p bytes e. elim (true_or_false (begins (cluster_prefix w.job) p)) [ inl b ↦ absurd (bare p bytes e b) | inr b ↦ b ])
 
 none_in : (w : Script) (c : Content) → LiveIn w c [] → NoneLive w c
 none_in w c h id u e = elim (true_or_false (begins (dest_prefix w) u.key)) [ inl b ↦ absurd (h id u e b) | inr b ↦ b ]
 
 module _ (w : Script) (s : Scene) where
-  clears_aborted : (c : Committer) → c ≡ w.committer → HasBucket s.content w.dest.bucket → NoneLive w s.content → Clears w s (aborted c)
-  clears_aborted Magic e there none = (ap is_magic (sym e), none, there, (λ q i. absurd i), sweep_begins w s.content)
-  clears_aborted _ e there none = (ap is_staging (sym e), none)
-
-  clears_aborting : (us : List UploadRef) → HasBucket s.content w.dest.bucket → LiveIn w s.content us → Clears w s (aborting w.committer us)
-  clears_aborting [] there h = clears_aborted w.committer refl there (none_in w s.content h)
-  clears_aborting (u ∷ us) there h = (there, h)
+  clears_aborting : (c : Committer) → c ≡ w.committer → (us : List UploadRef) → HasBucket s.content w.dest.bucket → LiveIn w s.content us → Clears w s (aborting c us)
+  clears_aborting c e (u ∷ us) there h = (there, h)
+  clears_aborting Magic e [] there h = (ap is_magic (sym e), none_in w s.content h, there, (λ q i. absurd i), sweep_begins w s.content)
+  clears_aborting _ e [] there h = (ap is_staging (sym e), none_in w s.content h)
 
   clears_sweeping : (t : Option Sweep) → is_magic w.committer ≡ true → NoneLive w s.content → HasBucket s.content w.dest.bucket → Emptied w s.content t → Clears w s (sweeping t)
   clears_sweeping None m none there h = λ d. nothing_magic w.committer w s m none h
@@ -56,7 +50,7 @@ module _ (w : Script) (s : Scene) where
   -- a page of live uploads
   module _ (there : HasBucket s.content w.dest.bucket) (found : List UploadRef) (cover : LiveOrBehind w s.content found) where
     abbrev rest : List UploadRef
-    rest = multipart.listed (dest_prefix w) (last_ref None found) there.0.uploads
+    rest = refs_rest w s there found
 
     here : (id : ℕ) (u : Upload) → at_id w s.content id ≡ Some u → fin.get there.0.uploads id ≡ Some u
     here id u e = sym (id_before w s there.0 there.1 id) ∙ e
@@ -78,13 +72,7 @@ module _ (w : Script) (s : Scene) where
 
     paged : (more : Bool) → nat_lt 1000 (length rest) ≡ more → Clears w s (walking w.committer (walked_by more (found ++ take 1000 rest)))
     paged true e = (there, cover_more)
-    paged false e = clears_aborting w s (found ++ take 1000 rest) there (cover_all e)
-
-    page_clears : (x : Reply) → x ≡ answer s (uploads_after w.dest.bucket (dest_prefix w) found) → Clears w s (walking w.committer (walked_uploads found x))
-    page_clears x e =
-        let q = uploads_after w.dest.bucket (dest_prefix w) found in
-        let due : answer s q ≡ UploadsPage (take 1000 rest) (nat_lt 1000 (length rest)) = answer_is w s there.0 there.1 q refl in
-        subst (λ y. Clears w s (walking w.committer (walked_uploads found y))) (sym (e ∙ due)) (paged (nat_lt 1000 (length rest)) refl)
+    paged false e = clears_aborting w s w.committer refl (found ++ take 1000 rest) there (cover_all e)
 
   -- an abort of an upload
   module _ (there : HasBucket s.content w.dest.bucket) (u : UploadRef) (us : List UploadRef) (live : LiveIn w s.content (u ∷ us)) where
@@ -109,9 +97,6 @@ module _ (w : Script) (s : Scene) where
           | inr ne ↦ (sym (t.others id ne) ∙ e, λ g. absurd (ne g))
         ]
 
-    live_still : LiveIn w (apply s abort).content (u ∷ us)
-    live_still id x e b = live id x (was_live id x e).0 b
-
     live_less : LiveIn w (apply s abort).content us
     live_less id x e b =
         let h = was_live id x e in
@@ -121,68 +106,51 @@ module _ (w : Script) (s : Scene) where
         ]
 
   -- deletions leave uploads alone
-  batch_live : (there : HasBucket s.content w.dest.bucket) (keys : List (List ℕ)) → NoneLive w s.content → NoneLive w (apply s (DeleteObjects w.dest.bucket keys)).content
-  batch_live there keys none id u e = none id u (sym ((deletes_drop w s keys there).uploads id) ∙ e)
-
   sweep_live : (t : Sweep) → HasBucket s.content w.dest.bucket → NoneLive w s.content → NoneLive w (apply s (sweep_asks w.dest.bucket (magic_prefix w.dest.key w.job) t)).content
   sweep_live (Listing keys) there none = subst (λ (u : Scene). NoneLive w u.content) (sym (reads_nothing s (sweep_asks w.dest.bucket (magic_prefix w.dest.key w.job) (Listing keys)) refl)) none
-  sweep_live (Deleting q qs) there none = batch_live there (take 1000 (q ∷ qs)) none
+  sweep_live (Deleting q qs) there none = λ id u e. none id u (sym ((deletes_drop w s (take 1000 (q ∷ qs)) there).uploads id) ∙ e)
 
   -- a cluster file
-  removed : (p : List ℕ) (ps : List (List ℕ)) → FilesIn w s (p ∷ ps) → FilesIn w (apply s (ClusterDelete p)) ps
-  removed p ps h q bytes e b = elim (same_or_other q p) [
-    | inl is ↦ absurd (none_some (text_gone s.files p q is) e)
-    | inr ne ↦ elim (h q bytes (sym (text_left s.files p q ne) ∙ e) b) [ inl is ↦ absurd (ne is) | inr i ↦ i ]
-  ]
-
-  removed_still : (p : List ℕ) (ps : List (List ℕ)) → FilesIn w s ps → FilesIn w (apply s (ClusterDelete p)) ps
-  removed_still p ps h q bytes e b = elim (same_or_other q p) [
-    | inl is ↦ absurd (none_some (text_gone s.files p q is) e)
-    | inr ne ↦ h q bytes (sym (text_left s.files p q ne) ∙ e) b
-  ]
-
   named : (p bytes : List ℕ) → fin.get s.files p ≡ Some bytes → IsIn p (fin.keys s.files)
   named p bytes e = map_in (λ (q : List ℕ × List ℕ). q.0) (p, bytes) (fin.entries s.files) (find_in text_cmp text_exact (fin.entries s.files) p bytes (sym (fin.get-entries s.files p) ∙ e))
 
-  names_clear : (x : Reply) → x ≡ answer s (ClusterList (cluster_prefix w.job)) → is_staging w.committer ≡ true → NoneLive w s.content → Clears w s (naming x)
-  names_clear x e m none =
-      subst (λ y. Clears w s (naming y)) (sym e)
-      (clears_removing w s (filter (begins (cluster_prefix w.job)) (fin.keys s.files)) m none (λ p bytes g b. filter_in (begins (cluster_prefix w.job)) p (fin.keys s.files) (named p bytes g) b))
-
   -- ---- it goes on
+
+  read_clears : (op : Clean) (q : Request) → only_reads q ≡ true → Clears w s op → Clears w (apply s q) op
+  read_clears op q reads h = subst (λ (u : Scene). Clears w u op) (sym (reads_nothing s q reads)) h
 
   module _ (retries : ℕ) (spare : ℕ) (repeated : Bool) where
     abbrev at : Clean → Retried Clean
     at op = record { operation = op; spare = spare; repeated = repeated }
 
-    abbrev After : Clean → Outcome → Request → Type 0
-    After op o q = IsHonestOutcome o (answer s q) → Clears w (effect s q o) (step retries (clean_after w) (at op) o).operation
-
-    goes_by : (op : Clean) (q : Request) (o : Outcome) → ((x : Reply) → x ≡ answer s q → Clears w (apply s q) (clean_hears w op x)) → Clears w s op → Clears w (apply s q) op → After op o q
-    goes_by op q (Answered x) heard before still honest = heard x honest
-    goes_by op q Slow heard before still honest = step_so retries (clean_after w) (at op) Slow (Clears w s) (λ x e. absurd cc) (λ none. before) (λ none d. absurd cc)
-    goes_by op q RequestLost heard before still honest = step_so retries (clean_after w) (at op) RequestLost (Clears w s) (λ x e. absurd cc) (λ none. before) (λ none d. absurd cc)
-    goes_by op q ReplyLost heard before still honest = step_so retries (clean_after w) (at op) ReplyLost (Clears w (apply s q)) (λ x e. absurd cc) (λ none. still) (λ none d. absurd cc)
-
-    -- a request that only reads
-    reads_by : (op : Clean) (q : Request) (o : Outcome) → only_reads q ≡ true → ((x : Reply) → x ≡ answer s q → Clears w s (clean_hears w op x)) → Clears w s op → After op o q
-    reads_by op q o reads heard before =
-        let same = sym (reads_nothing s q reads) in
-        goes_by op q o (λ x e. subst (λ (u : Scene). Clears w u (clean_hears w op x)) same (heard x e)) before (subst (λ (u : Scene). Clears w u op) same before)
-
-    pub clean_clears : (op : Clean) → Clears w s op → (r : Request) → clean_asks w op ≡ Some r → (o : Outcome) → After op o r
-    clean_clears (Walking found) h r e o = subst (After (Walking found) o) (some_is e) (reads_by (Walking found) (uploads_after w.dest.bucket (dest_prefix w) found) o refl (page_clears h.0 found h.1) h)
-    clean_clears (Aborting u us) h r e o =
+    heard : (op : Clean) → Clears w s op → Each (λ q. (x : Reply) → x ≡ answer s q → Clears w (apply s q) (clean_hears w op x)) (clean_asks w op)
+    heard (Walking found) h = λ x e.
+        read_clears (walking w.committer (walked_uploads found x)) (uploads_after w.dest.bucket (dest_prefix w) found) refl
+        (subst (λ y. Clears w s (walking w.committer y)) (sym (refs_is w s h.0 found x e)) (paged h.0 found h.1 _ refl))
+    heard (Aborting u us) h = λ x e.
         let q = AbortUpload w.dest.bucket u.key u.upload in
-        let there = still_there w s q ReplyLost h.0 in
-        subst (After (Aborting u us) o) (some_is e) (goes_by (Aborting u us) q o (λ x a. clears_aborting w (apply s q) us there (live_less h.0 u us h.1)) h (there, live_still h.0 u us h.1))
-    clean_clears (Sweeping t) h r e o =
+        clears_aborting w (apply s q) w.committer refl us (still_there w s q ReplyLost h.0) (live_less h.0 u us h.1)
+    heard (Sweeping t) h = λ x e.
         let q = sweep_asks w.dest.bucket (magic_prefix w.dest.key w.job) t in
-        let there = still_there w s q ReplyLost h.2 in
-        let none = sweep_live t h.2 h.1 in
-        subst (After (Sweeping t) o) (some_is e)
-        (goes_by (Sweeping t) q o (λ x a. clears_sweeping w (apply s q) (sweep_hears all_go t x) h.0 none there (sweep_empties w s h.2 t h.3 h.4 x a)) h (h.0, none, there, h.3, sweep_still w s h.2 t h.3 h.4 ReplyLost))
-    clean_clears Naming h r e o = subst (After Naming o) (some_is e) (reads_by Naming (ClusterList (cluster_prefix w.job)) o refl (λ x a. names_clear x a h.0 h.1) h)
-    clean_clears (Removing p ps) h r e o =
-        subst (After (Removing p ps) o) (some_is e) (goes_by (Removing p ps) (ClusterDelete p) o (λ x a. clears_removing w (apply s (ClusterDelete p)) ps h.0 h.1 (removed p ps h.2)) h (h.0, h.1, removed_still p (p ∷ ps) h.2))
-    clean_clears (CleanOver end) h r e o = absurd cc
+        clears_sweeping w (apply s q) (sweep_hears all_go t x) h.0 (sweep_live t h.2 h.1) (still_there w s q ReplyLost h.2) (sweep_empties w s h.2 t h.3 h.4 x e)
+    heard Naming h = λ x e.
+        read_clears (naming x) (ClusterList (cluster_prefix w.job)) refl (subst (λ y. Clears w s (naming y)) (sym e)
+        (clears_removing w s (filter (begins (cluster_prefix w.job)) (fin.keys s.files)) h.0 h.1 (λ p bytes g b. filter_in (begins (cluster_prefix w.job)) p (fin.keys s.files) (named p bytes g) b)))
+    heard (Removing p ps) h = λ x e.
+        clears_removing w (apply s (ClusterDelete p)) ps h.0 h.1
+        (λ q bytes y b. elim (h.2 q bytes (removed_stood s.files p q bytes y) b) [ inl is ↦ absurd (none_some (text_gone s.files p q is) y) | inr i ↦ i ])
+    heard (CleanOver end) h = tt
+
+    still : (op : Clean) → Clears w s op → Each (λ q. Clears w (apply s q) op) (clean_asks w op)
+    still (Walking found) h = read_clears (Walking found) (uploads_after w.dest.bucket (dest_prefix w) found) refl h
+    still (Aborting u us) h = (still_there w s (AbortUpload w.dest.bucket u.key u.upload) ReplyLost h.0, λ id x e b. h.1 id x (was_live h.0 u us h.1 id x e).0 b)
+    still (Sweeping t) h = (h.0, sweep_live t h.2 h.1, still_there w s (sweep_asks w.dest.bucket (magic_prefix w.dest.key w.job) t) ReplyLost h.2, h.3, sweep_still w s h.2 t h.3 h.4 ReplyLost)
+    still Naming h = read_clears Naming (ClusterList (cluster_prefix w.job)) refl h
+    still (Removing p ps) h = (h.0, h.1, λ q bytes e b. h.2 q bytes (removed_stood s.files p q bytes e) b)
+    still (CleanOver end) h = tt
+
+    pub clean_clears : (op : Clean) → Clears w s op → (r : Request) → clean_asks w op ≡ Some r → (o : Outcome) → IsHonestOutcome o (answer s r)
+        → Clears w (effect s r o) (step retries (clean_after w) (at op) o).operation
+    clean_clears op h r e o honest =
+        step_by (λ v. Clears w (effect s r v)) retries (clean_after w) (at op) (answer s r) o honest (each_so (λ q. (x : Reply) → x ≡ answer s q → Clears w (apply s q) (clean_hears w op x)) r e (heard op h))
+        (λ none. effect_so (λ u. Clears w u op) s r o h (each_so (λ q. Clears w (apply s q) op) r e (still op h))) (λ none d. absurd cc)

@@ -1,10 +1,10 @@
 -- What the driver's completions, aborts and deletions leave of a file's key and of its upload.
-use Rattle.std.proofs.Common.{◌≡◌, ℕ, ◌<◌, ◌⊎◌, inl, inr, Bool, true, false, cond, List, Option, Some, None, refl, sym, ap, subst, ◌∙◌}
-use Rattle.job_facts.specs.Prelude.{Scene, named_from, apply, apply_store, apply_at, with_objects, DeleteObject, DeleteObjects, Pending, IsLegal, Script, file_key, completion, abort, deletion, HasBucket, Told, at_key, at_id, end_left, Facts, IsCommit, Gone, whole_of}
-use Rattle.job_spec.proofs.Common.{none_or_some, text_gone, text_true}
+use Rattle.std.proofs.Common.{◌≡◌, ℕ, ◌<◌, ◌⊎◌, inl, inr, true, false, cond, List, Option, Some, None, refl, sym, ap, subst, ◌∙◌, Ok}
+use Rattle.job_facts.specs.Prelude.{Scene, named_from, apply, with_objects, DeleteObject, DeleteObjects, Pending, IsLegal, Script, file_key, completion, abort, deletion, HasBucket, Told, at_key, at_id, end_left, Facts, IsCommit, Gone, whole_of, BucketContent, joined, live}
+use Rattle.job_spec.proofs.Common.{none_or_some, text_gone, text_true, true_or_false}
 use Rattle.std.specs.FinMap as fin
-use Rattle.store_frame.proofs.Framed.{with_bucket, frame}
-use Rattle.job_facts.proofs.Shapes.{key_after, id_before, id_after, abort_turns}
+use Rattle.store_frame.proofs.Framed.{frame}
+use Rattle.job_facts.proofs.Shapes.{key_after, id_before, id_after, store_is, abort_turns}
 use Rattle.job_facts.proofs.Undone.{deletes_drop}
 use Rattle.job_facts.proofs.Ended.{completes_key, completes_id, refused_key, gone_stays}
 use Rattle.job_facts.proofs.Replies.{held_of, file_joined}
@@ -12,20 +12,14 @@ use Rattle.job_facts.proofs.Replies.{held_of, file_joined}
 -- ---- deletions
 
 module _ (w : Script) (s : Scene) (there : HasBucket s.content w.dest.bucket) where
-  delete_is : (q : List ℕ) → apply_store s.content (DeleteObject w.dest.bucket q) ≡ with_bucket s.content w.dest.bucket (with_objects there.0 (fin.remove there.0.objects q)) s.content.next
-  delete_is q = ap (λ o. apply_at o s.content (DeleteObject w.dest.bucket q)) there.1
+  abbrev left : List ℕ → BucketContent
+  left q = with_objects there.0 (fin.remove there.0.objects q)
 
   pub deleted : (q : List ℕ) → at_key w (apply s (DeleteObject w.dest.bucket q)).content q ≡ None
-  deleted q =
-      ap (λ c. at_key w c q) (delete_is q)
-      ∙ key_after w s there.0 there.1 (with_objects there.0 (fin.remove there.0.objects q)) s.content.next q
-      ∙ text_gone there.0.objects q q refl
+  deleted q = ap (λ c. at_key w c q) (store_is w s there.0 there.1 (DeleteObject w.dest.bucket q)) ∙ key_after w s there.0 there.1 (left q) s.content.next q ∙ text_gone there.0.objects q q refl
 
   pub deleted_uploads : (q : List ℕ) (id : ℕ) → at_id w (apply s (DeleteObject w.dest.bucket q)).content id ≡ at_id w s.content id
-  deleted_uploads q id =
-      ap (λ c. at_id w c id) (delete_is q)
-      ∙ id_after w s there.0 there.1 (with_objects there.0 (fin.remove there.0.objects q)) s.content.next id
-      ∙ sym (id_before w s there.0 there.1 id)
+  deleted_uploads q id = ap (λ c. at_id w c id) (store_is w s there.0 there.1 (DeleteObject w.dest.bucket q)) ∙ id_after w s there.0 there.1 (left q) s.content.next id ∙ sym (id_before w s there.0 there.1 id)
 
   -- a batch leaves what stands at a key, or nothing
   pub deleted_or_not : (keys : List (List ℕ)) (k : List ℕ) → (at_key w (apply s (DeleteObjects w.dest.bucket keys)).content k ≡ at_key w s.content k) ⊎ (at_key w (apply s (DeleteObjects w.dest.bucket keys)).content k ≡ None)
@@ -40,57 +34,42 @@ module _ {w : Script} {minimum : ℕ} {s : Scene} {last : ℕ → Option ℕ} {m
   upload_is : p.upload ≡ x.written.drawn.upload
   upload_is = ap (λ (v : Pending). v.upload) x.is
 
-  pub dest_is : p.destination ≡ file_key w x.file
-  dest_is = ap (λ (v : Pending). v.destination) x.is
-
   pub upload_low : p.upload < s.content.next
   upload_low = subst (λ n. n < s.content.next) (sym upload_is) (f.ids.below x.by x.written.drawn x.written.known)
 
-  -- a completion of an upload that is not ended puts the file, and the upload is gone
+  -- where it is not ended its parts are joined to the file
+  whole_joined : m.ended p.upload ≡ false → joined (live f.there.0.uploads (file_key w x.file) x.written.drawn.upload) (named_from 1 x.written.drawn.tags) s.content.minimum ≡ Ok x.file.1
+  whole_joined e = file_joined j f x.by x.file x.mine x.written (ap m.ended (sym upload_is) ∙ e) (f.kept x.by x.has_sent)
+
+  -- so a completion puts the file, and the upload is gone
   pub completes_file : m.ended p.upload ≡ false → at_key w (apply s (completion p)).content p.destination ≡ Some (whole_of x.file.1)
   completes_file e =
-      let d = x.written.drawn in
-      let whole = file_joined j f x.by x.file x.mine x.written (ap m.ended (sym upload_is) ∙ e) (f.kept x.by x.has_sent) in
-      let P : Pending → Type 0 = λ v. at_key w (apply s (completion v)).content v.destination ≡ Some (whole_of x.file.1) in
-      subst P (sym x.is) (completes_key w s f.there.0 f.there.1 (file_key w x.file) d.upload (named_from 1 d.tags) x.file.1 whole)
-
-  completes_upload : m.ended p.upload ≡ false → at_id w (apply s (completion p)).content p.upload ≡ None
-  completes_upload e =
-      let d = x.written.drawn in
-      let whole = file_joined j f x.by x.file x.mine x.written (ap m.ended (sym upload_is) ∙ e) (f.kept x.by x.has_sent) in
-      let P : Pending → Type 0 = λ v. at_id w (apply s (completion v)).content v.upload ≡ None in
-      subst P (sym x.is) (completes_id w s f.there.0 f.there.1 (file_key w x.file) d.upload (named_from 1 d.tags) x.file.1 whole)
+      subst (λ (v : Pending). at_key w (apply s (completion v)).content v.destination ≡ Some (whole_of x.file.1)) (sym x.is)
+      (completes_key w s f.there.0 f.there.1 (file_key w x.file) x.written.drawn.upload (named_from 1 x.written.drawn.tags) x.file.1 (whole_joined e))
 
   -- of one that is ended it changes no key
   pub completes_nothing : m.ended p.upload ≡ true → (k : List ℕ) → at_key w (apply s (completion p)).content k ≡ at_key w s.content k
   completes_nothing e k =
-      let d = x.written.drawn in
-      let none : at_id w s.content d.upload ≡ None = ap (at_id w s.content) (sym upload_is) ∙ (gone p.upload e).1 in
-      let P : Pending → Type 0 = λ v. at_key w (apply s (completion v)).content k ≡ at_key w s.content k in
-      subst P (sym x.is) (refused_key w s f.there.0 f.there.1 (file_key w x.file) d.upload (named_from 1 d.tags) none k)
+      let none : at_id w s.content x.written.drawn.upload ≡ None = ap (at_id w s.content) (sym upload_is) ∙ (gone p.upload e).1 in
+      subst (λ (v : Pending). at_key w (apply s (completion v)).content k ≡ at_key w s.content k) (sym x.is) (refused_key w s f.there.0 f.there.1 (file_key w x.file) x.written.drawn.upload (named_from 1 x.written.drawn.tags) none k)
 
   -- after a completion or an abort the upload is gone
   pub completion_ends : at_id w (apply s (completion p)).content p.upload ≡ None
-  completion_ends = by (m.ended p.upload) refl
-    where
-      by : (b : Bool) → m.ended p.upload ≡ b → at_id w (apply s (completion p)).content p.upload ≡ None
-      by true e = gone_stays w s f.there p.upload upload_low (completion p) (gone p.upload e).1
-      by false e = completes_upload e
-
-  aborts_open : m.ended p.upload ≡ false → at_id w (apply s (abort p)).content p.upload ≡ None
-  aborts_open e =
-      let d = x.written.drawn in
-      let h = held_of j f x.by d x.file x.written.known x.mine x.written.key (ap m.ended (sym upload_is) ∙ e) (f.kept x.by x.has_sent) in
-      let t = abort_turns w s f.there.0 f.there.1 (file_key w x.file) d.upload in
-      let P : Pending → Type 0 = λ v. at_id w (apply s (abort v)).content v.upload ≡ None in
-      subst P (sym x.is) (t.here ∙ ap (end_left (file_key w x.file)) h.stands ∙ ap (λ b. cond b None (Some (record { key = d.key; parts = h.parts }))) (text_true d.key (file_key w x.file) x.written.key))
+  completion_ends = elim (true_or_false (m.ended p.upload)) [
+    | inl e ↦ gone_stays w s f.there p.upload upload_low (completion p) (gone p.upload e).1
+    | inr e ↦ subst (λ (v : Pending). at_id w (apply s (completion v)).content v.upload ≡ None) (sym x.is)
+        (completes_id w s f.there.0 f.there.1 (file_key w x.file) x.written.drawn.upload (named_from 1 x.written.drawn.tags) x.file.1 (whole_joined e))
+  ]
 
   pub abort_ends : at_id w (apply s (abort p)).content p.upload ≡ None
-  abort_ends = by (m.ended p.upload) refl
-    where
-      by : (b : Bool) → m.ended p.upload ≡ b → at_id w (apply s (abort p)).content p.upload ≡ None
-      by true e = gone_stays w s f.there p.upload upload_low (abort p) (gone p.upload e).1
-      by false e = aborts_open e
+  abort_ends = elim (true_or_false (m.ended p.upload)) [
+    | inl e ↦ gone_stays w s f.there p.upload upload_low (abort p) (gone p.upload e).1
+    | inr e ↦
+        let d = x.written.drawn in
+        let h = held_of j f x.by d x.file x.written.known x.mine x.written.key (ap m.ended (sym upload_is) ∙ e) (f.kept x.by x.has_sent) in
+        subst (λ (v : Pending). at_id w (apply s (abort v)).content v.upload ≡ None) (sym x.is) ((abort_turns w s f.there.0 f.there.1 (file_key w x.file) d.upload).here
+        ∙ ap (end_left (file_key w x.file)) h.stands ∙ ap (λ b. cond b None (Some (record { key = d.key; parts = h.parts }))) (text_true d.key (file_key w x.file) x.written.key))
+  ]
 
   pub deletion_is : deletion p ≡ DeleteObject w.dest.bucket p.destination
   deletion_is = ap (λ (v : Pending). DeleteObject v.bucket p.destination) x.is

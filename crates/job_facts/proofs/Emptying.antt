@@ -1,40 +1,33 @@
 -- A sweep of the job's magic directory leaves nothing there, where none but the driver changes it.
 use Rattle.std.proofs.Common.{◌≡◌, ℕ, zero, suc, ◌≤◌, ◌⊎◌, inl, inr, nat_lt, Bool, true, false, cond, List, [], ◌∷◌, ◌++◌, take, drop, length, Option, Some, None, refl, sym, ap, subst, ◌∙◌, arith, codes}
-use Rattle.job_facts.specs.Prelude.{filter, is_lt, eq_by_cmp, text_cmp, text_total, text_ties, Content, Objects, Scene, begins, listed, answer, apply, apply_store, apply_at, with_objects, without, effect, MOST_ENTRIES, Object, Request, DeleteObjects, Reply, Page, PageEntry, Outcome, Answered, Slow, RequestLost, ReplyLost, only_reads, magic_prefix, Script, Sweep, Listing, Deleting, walked_by, keys_on, last_of, page_after, deleting, sweep_asks, sweep_hears, all_go, IsIn, last_from, HasBucket, at_key, AllUnder, SweepsUnder, OnlyThose, ThoseOrBehind, EmptiesBy}
-use Rattle.job_spec.proofs.Common.{false≢true, none_some, text_true, in_append, in_front, in_back, in_filter, filter_in}
+use Rattle.job_facts.specs.Prelude.{filter, is_lt, eq_by_cmp, text_cmp, text_total, text_ties, Content, Objects, Scene, begins, answer, apply, apply_store, with_objects, without, effect, MOST_ENTRIES, Object, Request, DeleteObjects, Reply, Outcome, only_reads, magic_prefix, Script, Sweep, Listing, Deleting, walked_by, page_after, deleting, sweep_asks, sweep_hears, all_go, IsIn, HasBucket, at_key, AllUnder, SweepsUnder, OnlyThose, ThoseOrBehind, EmptiesBy}
+use Rattle.job_spec.proofs.Common.{false≢true, none_some, text_true, in_filter, filter_in}
 use Rattle.std.specs.FinMap as fin
 use Rattle.std.proofs.lemmas.Bool.{le-ltb}
 use Rattle.list_walk.specs.Walks.{walked, swept}
 use Rattle.store_frame.proofs.Framed.{with_bucket, frame}
-use Rattle.store_frame.proofs.Flat.{page_begins, page_covers, page_all, last_append}
 use Rattle.store_frame.proofs.Reading.{reads_nothing}
 use Rattle.job_facts.specs.Driver.{FitsSweep}
 use Rattle.job_facts.specs.Emptying.{Empties}
-use Rattle.job_facts.proofs.Shapes.{key_before, key_after, answer_is}
+use Rattle.job_facts.proofs.Shapes.{key_before, key_after, store_is, rest, more_keys, page_is, page_each, still_covered, all_covered}
 use Rattle.job_facts.proofs.Aborting.{dropped_in}
 use Rattle.job_facts.proofs.Undone.{stood_before}
+use Rattle.job_facts.proofs.Going.{effect_so}
+pub use Rattle.job_facts.proofs.Shapes.{last_so}
 
 -- ---- scenes
 
 pub still_there : (w : Script) (s : Scene) (r : Request) (o : Outcome) → HasBucket s.content w.dest.bucket → HasBucket (effect s r o).content w.dest.bucket
-still_there w s r Slow h = h
-still_there w s r RequestLost h = h
-still_there w s r _ h = (frame s w.dest.bucket r h).there h.0 h.1
+still_there w s r o h = effect_so (λ u. HasBucket u.content w.dest.bucket) s r o h ((frame s w.dest.bucket r h).there h.0 h.1)
 
 pub reads_same : (s : Scene) (r : Request) (o : Outcome) → only_reads r ≡ true → effect s r o ≡ s
-reads_same s r Slow h = refl
-reads_same s r RequestLost h = refl
-reads_same s r _ h = reads_nothing s r h
+reads_same s r o h = effect_so (λ u. u ≡ s) s r o refl (reads_nothing s r h)
 
 -- ---- keys that are deleted
 
 gone_still : (o : Objects) (ks : List (List ℕ)) (k : List ℕ) → fin.get o k ≡ None → fin.get (without o ks) k ≡ None
 gone_still o [] k e = e
-gone_still o (q ∷ ks) k e = gone_still (fin.remove o q) ks k (fin.get-remove text_total o q k ∙ by (eq_by_cmp text_cmp k q))
-  where
-    by : (b : Bool) → cond b None (fin.get o k) ≡ None
-    by true = refl
-    by false = e
+gone_still o (q ∷ ks) k e = gone_still (fin.remove o q) ks k (fin.get-remove text_total o q k ∙ elim (eq_by_cmp text_cmp k q) as (λ b. cond b None (fin.get o k) ≡ None) [ true ↦ refl | false ↦ e ])
 
 deleted_gone : (o : Objects) (ks : List (List ℕ)) (k : List ℕ) → IsIn k ks → fin.get (without o ks) k ≡ None
 deleted_gone o [] k i = absurd i
@@ -51,16 +44,6 @@ taken_few : (n : ℕ) (ks : List (List ℕ)) → length (take n ks) ≤ n
 taken_few zero ks = omega arith
 taken_few (suc n) [] = omega arith
 taken_few (suc n) (k ∷ ks) = let old = taken_few n ks in omega arith
-
--- ---- the last of the keys, from the empty text on
-
-pub last_so : (keys : List (List ℕ)) → last_of keys ≡ last_from [] keys
-last_so [] = refl
-last_so (k ∷ keys) = behind k keys
-  where
-    behind : (k : List ℕ) (keys : List (List ℕ)) → last_of (k ∷ keys) ≡ last_from k keys
-    behind k [] = refl
-    behind k (q ∷ keys) = behind q keys
 
 pub magic_some : (p r k : List ℕ) → begins (p ++ (codes "/__magic/job-" ++ r)) k ≡ true → is_lt (text_cmp [] k) ≡ true
 magic_some [] r [] h = absurd (false≢true h)
@@ -87,48 +70,12 @@ module _ (w : Script) (s : Scene) (there : HasBucket s.content w.dest.bucket) (p
   -- ---- a page
 
   module _ (keys : List (List ℕ)) (all : AllUnder prefix keys) (cover : ThoseOrBehind w prefix goes s.content keys) where
-    abbrev rest : List PageEntry
-    rest = listed prefix false (last_of keys) there.0.objects
-
-    abbrev more_keys : List (List ℕ)
-    more_keys = keys ++ keys_on (take 1000 rest)
-
-    here : (k : List ℕ) (x : Object) → at_key w s.content k ≡ Some x → fin.get there.0.objects k ≡ Some x
-    here k x e = sym (key_before w s there.0 there.1 k) ∙ e
-
-    last_more : last_of more_keys ≡ last_from (last_of keys) (keys_on (take 1000 rest))
-    last_more = last_so more_keys ∙ last_append [] keys (keys_on (take 1000 rest)) ∙ ap (λ t. last_from t (keys_on (take 1000 rest))) (sym (last_so keys))
-
-    cover_more : ThoseOrBehind w prefix goes s.content more_keys
-    cover_more k x h go e = elim (cover k x h go e) [
-      | inl i ↦ inl (in_front k keys (keys_on (take 1000 rest)) i)
-      | inr l ↦ elim (page_covers 1000 prefix (last_of keys) k there.0.objects x (here k x e) h l) [
-        | inl i ↦ inl (in_back k keys (keys_on (take 1000 rest)) i)
-        | inr g ↦ inr (ap (λ t. is_lt (text_cmp t k)) last_more ∙ g)
-      ]
-    ]
-
-    cover_all : nat_lt 1000 (length rest) ≡ false → OnlyThose w prefix goes s.content more_keys
-    cover_all few k x h go e = elim (cover k x h go e) [
-      | inl i ↦ in_front k keys (keys_on (take 1000 rest)) i
-      | inr l ↦ in_back k keys (keys_on (take 1000 rest)) (page_all 1000 prefix (last_of keys) k there.0.objects x few (here k x e) h l)
-    ]
-
-    all_more : AllUnder prefix more_keys
-    all_more k i = elim (in_append k keys (keys_on (take 1000 rest)) i) [
-      | inl h ↦ all k h
-      | inr h ↦ (page_begins 1000 prefix (last_of keys) k there.0.objects h).0
-    ]
-
-    paged : (more : Bool) → nat_lt 1000 (length rest) ≡ more → EmptiedBy w prefix goes s.content (swept goes (walked_by more more_keys))
-    paged true e = (all_more, cover_more)
-    paged false e = deletes_on w prefix goes s.content (filter goes more_keys) (λ k i. all_more k (in_filter goes k more_keys i).0) (λ k x h go g. filter_in goes k more_keys (cover_all e k x h go g) go)
-
-    pub page_empties : (x : Reply) → x ≡ answer s (page_after w.dest.bucket prefix keys) → EmptiedBy w prefix goes s.content (swept goes (walked keys x))
-    page_empties x e =
-        let q = page_after w.dest.bucket prefix keys in
-        let due : answer s q ≡ Page (take 1000 rest) (nat_lt 1000 (length rest)) = answer_is w s there.0 there.1 q refl in
-        subst (λ y. EmptiedBy w prefix goes s.content (swept goes (walked keys y))) (sym (e ∙ due)) (paged (nat_lt 1000 (length rest)) refl)
+    paged : (more : Bool) → nat_lt 1000 (length (rest w s there prefix keys)) ≡ more → EmptiedBy w prefix goes s.content (swept goes (walked_by more (more_keys w s there prefix keys)))
+    paged true e = (page_each w s there prefix keys (λ k. begins prefix k ≡ true) (λ k h. h) all, λ k x h go e. still_covered w s there prefix keys k x e h (cover k x h go e))
+    paged false few =
+        let found = more_keys w s there prefix keys in
+        deletes_on w prefix goes s.content (filter goes found) (λ k i. page_each w s there prefix keys (λ k. begins prefix k ≡ true) (λ k h. h) all k (in_filter goes k found i).0)
+        (λ k x h go e. filter_in goes k found (all_covered w s there prefix keys k x e h few (cover k x h go e)) go)
 
   -- ---- a batch
 
@@ -141,7 +88,7 @@ module _ (w : Script) (s : Scene) (there : HasBucket s.content w.dest.bucket) (p
 
     batch_is : apply_store s.content batch ≡ with_bucket s.content w.dest.bucket (with_objects there.0 (without there.0.objects first)) s.content.next
     batch_is =
-        ap (λ o. apply_at o s.content batch) there.1
+        store_is w s there.0 there.1 batch
         ∙ ap (λ b. with_bucket s.content w.dest.bucket (with_objects there.0 (cond b there.0.objects (without there.0.objects first))) s.content.next) (le-ltb MOST_ENTRIES (length first) (taken_few 1000 keys))
 
     left_at : (k : List ℕ) → at_key w (apply s batch).content k ≡ fin.get (without there.0.objects first) k
@@ -156,12 +103,6 @@ module _ (w : Script) (s : Scene) (there : HasBucket s.content w.dest.bucket) (p
       | inr i ↦ i
     ]
 
-    batch_empties : EmptiedBy w prefix goes (apply s batch).content (deleting (drop 1000 keys))
-    batch_empties = deletes_on w prefix goes (apply s batch).content (drop 1000 keys) (λ k i. all k (dropped_in 1000 keys k i)) cover_left
-
-    batch_still : OnlyThose w prefix goes (apply s batch).content keys
-    batch_still k x h go e = cover k x h go (stood_at k x e)
-
   -- ---- both
 
   abbrev asked : Sweep → Request
@@ -170,16 +111,15 @@ module _ (w : Script) (s : Scene) (there : HasBucket s.content w.dest.bucket) (p
   -- after its answer
   pub swept_by : (t : Sweep) → SweepsUnder prefix t → EmptiesBy w prefix goes s.content t → (x : Reply) → x ≡ answer s (asked t) → EmptiedBy w prefix goes (apply s (asked t)).content (sweep_hears goes t x)
   swept_by (Listing keys) all h x e =
-      subst (λ (u : Scene). EmptiedBy w prefix goes u.content (swept goes (walked keys x))) (sym (reads_nothing s (page_after w.dest.bucket prefix keys) refl)) (page_empties keys all h x e)
-  swept_by (Deleting q qs) all h x e = batch_empties (q ∷ qs) all h
+      subst (λ (u : Scene). EmptiedBy w prefix goes u.content (swept goes (walked keys x))) (sym (reads_nothing s (page_after w.dest.bucket prefix keys) refl))
+      (subst (λ y. EmptiedBy w prefix goes s.content (swept goes y)) (sym (page_is w s there prefix keys x e)) (paged keys all h _ refl))
+  swept_by (Deleting q qs) all h x e =
+      deletes_on w prefix goes (apply s (asked (Deleting q qs))).content (drop 1000 (q ∷ qs)) (λ k i. all k (dropped_in 1000 (q ∷ qs) k i)) (cover_left (q ∷ qs) all h)
 
   -- as it is, also where its request took effect
   pub still_by : (t : Sweep) → SweepsUnder prefix t → EmptiesBy w prefix goes s.content t → (o : Outcome) → EmptiesBy w prefix goes (effect s (asked t) o).content t
   still_by (Listing keys) all h o = subst (λ (u : Scene). EmptiesBy w prefix goes u.content (Listing keys)) (sym (reads_same s (page_after w.dest.bucket prefix keys) o refl)) h
-  still_by (Deleting q qs) all h (Answered x) = batch_still (q ∷ qs) all h
-  still_by (Deleting q qs) all h Slow = h
-  still_by (Deleting q qs) all h RequestLost = h
-  still_by (Deleting q qs) all h ReplyLost = batch_still (q ∷ qs) all h
+  still_by (Deleting q qs) all h o = effect_so (λ u. EmptiesBy w prefix goes u.content (Deleting q qs)) s (asked (Deleting q qs)) o h (λ k x b go e. h k x b go (stood_at (q ∷ qs) all h k x e))
 
 -- of the job's magic directory
 pub sweep_empties : (w : Script) (s : Scene) (there : HasBucket s.content w.dest.bucket) (t : Sweep) → FitsSweep w t → Empties w s.content t → (x : Reply) → let r = sweep_asks w.dest.bucket (magic_prefix w.dest.key w.job) t in x ≡ answer s r → Emptied w (apply s r).content (sweep_hears all_go t x)

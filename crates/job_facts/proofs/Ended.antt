@@ -1,10 +1,10 @@
 -- A live upload keeps its key, and one that is gone never comes back; a completion that is due puts the file, and leaves its upload gone.
 use Rattle.std.proofs.Common.{◌≡◌, ℕ, ◌<◌, ◌⊎◌, inl, inr, ◌&&◌, Bool, true, false, cond, List, Option, Some, None, Result, Ok, Err, refl, sym, ap, subst, ◌∙◌}
-use Rattle.job_facts.specs.Prelude.{text_eq, BucketContent, Content, Scene, Upload, live, with_key, is_part_number, with_part, joined, apply, apply_store, apply_at, bucket_of, completed, Request, UploadPart, CompleteUpload, AbortUpload, NamedPart, Refusal, Script, HasBucket, at_key, at_id, part_left, end_left}
-use Rattle.job_spec.proofs.Common.{some_is, none_some, same_or_not, same_or_other, nat_gone, nat_left, text_here}
+use Rattle.job_facts.specs.Prelude.{text_eq, BucketContent, Content, Scene, Upload, live, with_key, is_part_number, with_part, joined, apply, apply_store, bucket_of, completed, Request, UploadPart, CompleteUpload, AbortUpload, NamedPart, Refusal, Script, HasBucket, at_key, at_id, part_left, end_left}
+use Rattle.job_spec.proofs.Common.{some_is, none_some, same_or_not, same_or_other, nat_gone, nat_left, text_here, none_or_some}
 use Rattle.std.specs.FinMap as fin
-use Rattle.store_frame.proofs.Framed.{with_bucket, frame}
-use Rattle.job_facts.proofs.Shapes.{key_before, key_after, id_before, id_after, part_turns, abort_turns}
+use Rattle.store_frame.proofs.Framed.{frame}
+use Rattle.job_facts.proofs.Shapes.{key_before, key_after, id_before, id_after, store_is, part_turns, abort_turns}
 
 -- what stands at an upload's id stood before, with the same key
 pub record Stood (before : Option Upload) (u : Upload) : Type 0 where
@@ -17,19 +17,15 @@ as_it_was o u e = record { one = u; stood = e; key = refl }
 
 part_stood : (key : List ℕ) (number : ℕ) (bytes : List ℕ) (o : Option Upload) (u : Upload) → part_left key number bytes o ≡ Some u → Stood o u
 part_stood key number bytes None u e = absurd (none_some refl e)
-part_stood key number bytes (Some v) u e = by (text_eq v.key key && is_part_number number) e
-  where
-    by : (t : Bool) → cond t (Some (with_part v number bytes)) (Some v) ≡ Some u → Stood (Some v) u
-    by true h = record { one = v; stood = refl; key = ap (λ (x : Upload). x.key) (some_is h) }
-    by false h = as_it_was (Some v) u h
+part_stood key number bytes (Some v) u e =
+    (elim (text_eq v.key key && is_part_number number) as (λ t. cond t (Some (with_part v number bytes)) (Some v) ≡ Some u → Stood (Some v) u) [
+      | true ↦ λ h. record { one = v; stood = refl; key = ap (λ (x : Upload). x.key) (some_is h) }
+      | false ↦ λ h. as_it_was (Some v) u h
+    ]) e
 
 end_stood : (key : List ℕ) (o : Option Upload) (u : Upload) → end_left key o ≡ Some u → Stood o u
 end_stood key None u e = absurd (none_some refl e)
-end_stood key (Some v) u e = by (text_eq v.key key) e
-  where
-    by : (t : Bool) → cond t None (Some v) ≡ Some u → Stood (Some v) u
-    by true h = absurd (none_some refl h)
-    by false h = as_it_was (Some v) u h
+end_stood key (Some v) u e = (elim (text_eq v.key key) as (λ t. cond t None (Some v) ≡ Some u → Stood (Some v) u) [ true ↦ λ h. absurd (none_some refl h) | false ↦ λ h. as_it_was (Some v) u h ]) e
 
 completed_stood : (b : BucketContent) (key : List ℕ) (id : ℕ) (x : Result (List ℕ) Refusal) (u : Upload) → fin.get (completed b key id x).uploads id ≡ Some u → Stood (fin.get b.uploads id) u
 completed_stood b key id (Ok bytes) u e = absurd (none_some (nat_gone b.uploads id id refl) e)
@@ -41,38 +37,31 @@ module _ (w : Script) (s : Scene) (b : BucketContent) (there : fin.get s.content
   abbrev pub after : List ℕ → ℕ → List NamedPart → Content
   after key id parts = apply_store s.content (CompleteUpload w.dest.bucket key id parts)
 
-  complete_is : (key : List ℕ) (id : ℕ) (parts : List NamedPart) → after key id parts ≡ with_bucket s.content w.dest.bucket (completed b key id (joined (live b.uploads key id) parts s.content.minimum)) s.content.next
-  complete_is key id parts = ap (λ o. apply_at o s.content (CompleteUpload w.dest.bucket key id parts)) there
+  abbrev done : List ℕ → ℕ → List NamedPart → BucketContent
+  done key id parts = completed b key id (joined (live b.uploads key id) parts s.content.minimum)
+
+  then_key : (key : List ℕ) (id : ℕ) (parts : List NamedPart) (k : List ℕ) → at_key w (after key id parts) k ≡ fin.get (done key id parts).objects k
+  then_key key id parts k = ap (λ c. at_key w c k) (store_is w s b there (CompleteUpload w.dest.bucket key id parts)) ∙ key_after w s b there (done key id parts) s.content.next k
+
+  then_id : (key : List ℕ) (id : ℕ) (parts : List NamedPart) (u : ℕ) → at_id w (after key id parts) u ≡ fin.get (done key id parts).uploads u
+  then_id key id parts u = ap (λ c. at_id w c u) (store_is w s b there (CompleteUpload w.dest.bucket key id parts)) ∙ id_after w s b there (done key id parts) s.content.next u
 
   -- the bytes that it joins stand at its key, and the upload is gone
   pub completes_key : (key : List ℕ) (id : ℕ) (parts : List NamedPart) (bytes : List ℕ) → joined (live b.uploads key id) parts s.content.minimum ≡ Ok bytes → at_key w (after key id parts) key ≡ Some (record { bytes = bytes; header = None })
-  completes_key key id parts bytes e =
-      ap (λ c. at_key w c key) (complete_is key id parts)
-      ∙ key_after w s b there (completed b key id (joined (live b.uploads key id) parts s.content.minimum)) s.content.next key
-      ∙ ap (λ x. fin.get (completed b key id x).objects key) e
-      ∙ text_here b.objects key key (record { bytes = bytes; header = None }) refl
+  completes_key key id parts bytes e = then_key key id parts key ∙ ap (λ x. fin.get (completed b key id x).objects key) e ∙ text_here b.objects key key (record { bytes = bytes; header = None }) refl
 
   pub completes_id : (key : List ℕ) (id : ℕ) (parts : List NamedPart) (bytes : List ℕ) → joined (live b.uploads key id) parts s.content.minimum ≡ Ok bytes → at_id w (after key id parts) id ≡ None
-  completes_id key id parts bytes e =
-      ap (λ c. at_id w c id) (complete_is key id parts)
-      ∙ id_after w s b there (completed b key id (joined (live b.uploads key id) parts s.content.minimum)) s.content.next id
-      ∙ ap (λ x. fin.get (completed b key id x).uploads id) e
-      ∙ nat_gone b.uploads id id refl
+  completes_id key id parts bytes e = then_id key id parts id ∙ ap (λ x. fin.get (completed b key id x).uploads id) e ∙ nat_gone b.uploads id id refl
 
   -- where the upload is gone it changes no key
   pub refused_key : (key : List ℕ) (id : ℕ) (parts : List NamedPart) → at_id w s.content id ≡ None → (k : List ℕ) → at_key w (after key id parts) k ≡ at_key w s.content k
   refused_key key id parts e k =
       let none : live b.uploads key id ≡ None = ap (with_key key) (sym (id_before w s b there id) ∙ e) in
-      ap (λ c. at_key w c k) (complete_is key id parts)
-      ∙ key_after w s b there (completed b key id (joined (live b.uploads key id) parts s.content.minimum)) s.content.next k
-      ∙ ap (λ o. fin.get (completed b key id (joined o parts s.content.minimum)).objects k) none
-      ∙ sym (key_before w s b there k)
+      then_key key id parts k ∙ ap (λ o. fin.get (completed b key id (joined o parts s.content.minimum)).objects k) none ∙ sym (key_before w s b there k)
 
   complete_stood : (key : List ℕ) (id : ℕ) (parts : List NamedPart) (u : Upload) → at_id w (after key id parts) id ≡ Some u → Stood (at_id w s.content id) u
   complete_stood key id parts u e =
-      let now : fin.get (completed b key id (joined (live b.uploads key id) parts s.content.minimum)).uploads id ≡ Some u =
-      sym (id_after w s b there (completed b key id (joined (live b.uploads key id) parts s.content.minimum)) s.content.next id) ∙ ap (λ c. at_id w c id) (sym (complete_is key id parts)) ∙ e in
-      subst (λ o. Stood o u) (sym (id_before w s b there id)) (completed_stood b key id (joined (live b.uploads key id) parts s.content.minimum) u now)
+      subst (λ o. Stood o u) (sym (id_before w s b there id)) (completed_stood b key id (joined (live b.uploads key id) parts s.content.minimum) u (sym (then_id key id parts id) ∙ e))
 
 -- ---- any request
 
@@ -84,29 +73,25 @@ module _ (w : Script) (s : Scene) (there : HasBucket s.content w.dest.bucket) (i
   other : (r : Request) → (bucket_of r ≡ w.dest.bucket → ⊥) → After r
   other r ne u e = as_it_was (at_id w s.content id) u (sym ((frame s w.dest.bucket r there).uploads id (λ b i. ne b) low) ∙ e)
 
+  -- one that changes what stands at one id
+  turn_so : (r : Request) (x : ℕ) → ((u : ℕ) → u < s.content.next → (u ≡ x → ⊥) → at_id w (apply s r).content u ≡ at_id w s.content u) → ((u : Upload) → at_id w (apply s r).content x ≡ Some u → Stood (at_id w s.content x) u) → After r
+  turn_so r x others here u e = elim (same_or_not id x) [
+    | inl is ↦ subst (λ n. Stood (at_id w s.content n) u) (sym is) (here u (ap (at_id w (apply s r).content) (sym is) ∙ e))
+    | inr ne ↦ as_it_was (at_id w s.content id) u (sym (others id low ne) ∙ e)
+  ]
+
   part_so : (key : List ℕ) (x number : ℕ) (bytes : List ℕ) → After (UploadPart w.dest.bucket key x number bytes)
-  part_so key x number bytes u e =
+  part_so key x number bytes =
       let t = part_turns w s there.0 there.1 key x number bytes in
-      elim (same_or_not id x) [
-        | inl is ↦ subst (λ n. Stood (at_id w s.content n) u) (sym is) (part_stood key number bytes (at_id w s.content x) u (sym t.here ∙ ap (λ n. at_id w (apply s (UploadPart w.dest.bucket key x number bytes)).content n) (sym is) ∙ e))
-        | inr ne ↦ as_it_was (at_id w s.content id) u (sym (t.others id ne) ∙ e)
-      ]
+      turn_so (UploadPart w.dest.bucket key x number bytes) x (λ u l. t.others u) (λ u e. part_stood key number bytes (at_id w s.content x) u (sym t.here ∙ e))
 
   abort_so : (key : List ℕ) (x : ℕ) → After (AbortUpload w.dest.bucket key x)
-  abort_so key x u e =
-      let t = abort_turns w s there.0 there.1 key x in
-      elim (same_or_not id x) [
-        | inl is ↦ subst (λ n. Stood (at_id w s.content n) u) (sym is) (end_stood key (at_id w s.content x) u (sym t.here ∙ ap (λ n. at_id w (apply s (AbortUpload w.dest.bucket key x)).content n) (sym is) ∙ e))
-        | inr ne ↦ as_it_was (at_id w s.content id) u (sym (t.others id ne) ∙ e)
-      ]
+  abort_so key x = let t = abort_turns w s there.0 there.1 key x in turn_so (AbortUpload w.dest.bucket key x) x (λ u l. t.others u) (λ u e. end_stood key (at_id w s.content x) u (sym t.here ∙ e))
 
   complete_so : (key : List ℕ) (x : ℕ) (parts : List NamedPart) → After (CompleteUpload w.dest.bucket key x parts)
-  complete_so key x parts u e = elim (same_or_not id x) [
-    | inl is ↦
-        let at : at_id w (after w s there.0 there.1 key x parts) x ≡ Some u = ap (λ n. at_id w (after w s there.0 there.1 key x parts) n) (sym is) ∙ e in
-        subst (λ n. Stood (at_id w s.content n) u) (sym is) (complete_stood w s there.0 there.1 key x parts u at)
-    | inr ne ↦ as_it_was (at_id w s.content id) u (sym ((frame s w.dest.bucket (CompleteUpload w.dest.bucket key x parts) there).uploads id (λ b i. ne (sym (some_is i))) low) ∙ e)
-  ]
+  complete_so key x parts =
+      let r = CompleteUpload w.dest.bucket key x parts in
+      turn_so r x (λ u l ne. (frame s w.dest.bucket r there).uploads u (λ b i. ne (sym (some_is i))) l) (complete_stood w s there.0 there.1 key x parts)
 
   -- whoever sends it
   pub stood_so : (r : Request) → After r
@@ -117,11 +102,7 @@ module _ (w : Script) (s : Scene) (there : HasBucket s.content w.dest.bucket) (i
 
   -- an upload that is gone does not come back
   pub gone_stays : (r : Request) → at_id w s.content id ≡ None → at_id w (apply s r).content id ≡ None
-  gone_stays r none = by (at_id w (apply s r).content id) refl
-    where
-      by : (o : Option Upload) → at_id w (apply s r).content id ≡ o → o ≡ None
-      by None e = refl
-      by (Some u) e = absurd (none_some none (stood_so r u e).stood)
+  gone_stays r none = elim (none_or_some (at_id w (apply s r).content id)) [ inl e ↦ e | inr x ↦ absurd (none_some none (stood_so r x.0 x.1).stood) ]
 
 -- a completion leaves an upload as it is, or ends one with its key
 completed_left : (b : BucketContent) (key : List ℕ) (id : ℕ) (parts : List NamedPart) (minimum : ℕ) (o : Option Upload) → fin.get b.uploads id ≡ o → (x : Result (List ℕ) Refusal) → joined (with_key key o) parts minimum ≡ x
@@ -139,15 +120,12 @@ pub completed_uploads : (w : Script) (s : Scene) (b : BucketContent) (there : fi
     × ((u : ℕ) → (u ≡ id → ⊥) → at_id w (after w s b there key id parts) u ≡ at_id w s.content u)
 completed_uploads w s b there key id parts = (
   elim (completed_left b key id parts s.content.minimum (fin.get b.uploads id) refl (joined (live b.uploads key id) parts s.content.minimum) refl) [
-    | inl same ↦ inl (now id ∙ same ∙ sym (id_before w s b there id))
-    | inr left ↦ inr (now id ∙ left ∙ ap (end_left key) (sym (id_before w s b there id)))
+    | inl same ↦ inl (then_id w s b there key id parts id ∙ same ∙ sym (id_before w s b there id))
+    | inr left ↦ inr (then_id w s b there key id parts id ∙ left ∙ ap (end_left key) (sym (id_before w s b there id)))
   ],
-  λ u ne. now u ∙ others (joined (live b.uploads key id) parts s.content.minimum) u ne ∙ sym (id_before w s b there u),
+  λ u ne. then_id w s b there key id parts u ∙ others (joined (live b.uploads key id) parts s.content.minimum) u ne ∙ sym (id_before w s b there u),
 )
   where
-    now : (u : ℕ) → at_id w (after w s b there key id parts) u ≡ fin.get (completed b key id (joined (live b.uploads key id) parts s.content.minimum)).uploads u
-    now u = ap (λ c. at_id w c u) (complete_is w s b there key id parts) ∙ id_after w s b there (completed b key id (joined (live b.uploads key id) parts s.content.minimum)) s.content.next u
-
     others : (x : Result (List ℕ) Refusal) (u : ℕ) → (u ≡ id → ⊥) → fin.get (completed b key id x).uploads u ≡ fin.get b.uploads u
     others (Ok bytes) u ne = nat_left b.uploads id u ne
     others (Err r) u ne = refl

@@ -1,24 +1,23 @@
 -- Each upload that the driver has ended is gone; what stands where files go after each entry of its commit.
-use Rattle.std.proofs.Common.{◌≡◌, ℕ, ◌<◌, ◌≤◌, ◌⊎◌, inl, inr, ◌&&◌, ◌||◌, Bool, true, false, List, length, Option, Some, None, refl, sym, ap, subst, ◌∙◌, arith}
-use Rattle.job_spec.proofs.Common.{and_parts, false≢true, some_is, false_true, eq_nat}
-use Rattle.job_facts.specs.Prelude.{Scene, apply, effect, is_effective, Request, Committer, Magic, Outcome, Slow, RequestLost, Pending, IsLegal, Script, Sweep, Listing, Deleting, sweep_asks, nth, completion, abort, deletion, all_commits, Commit, Fetching, Replacing, Completing, Marking, Reverting, CommitOver, set_request, commit_asks, Tabled, HasBucket, Told, ends, nothing_told, tell_driver, at_id, Facts, FitsJobCommit, IsCommit, Gone, Decides}
+use Rattle.std.proofs.Common.{◌≡◌, ℕ, ◌<◌, ◌≤◌, ◌⊎◌, inl, inr, ◌&&◌, ◌||◌, Bool, true, false, length, Option, Some, None, refl, sym, ap, subst, ◌∙◌, arith}
+use Rattle.job_spec.proofs.Common.{and_parts, false≢true, some_is, false_true, eq_nat, true_or_false}
+use Rattle.job_facts.specs.Prelude.{Scene, apply, effect, is_effective, Request, Outcome, Slow, RequestLost, Pending, IsLegal, Script, nth, completion, abort, deletion, all_commits, Commit, Fetching, Replacing, Completing, Marking, Reverting, CommitOver, set_request, commit_asks, Tabled, HasBucket, Told, ends, nothing_told, tell_driver, at_id, Facts, FitsJobCommit, IsCommit, Gone, Decides}
 use Rattle.store_frame.proofs.Framed.{frame}
 use Rattle.job_facts.proofs.Held.{nth_of, of_sets}
 use Rattle.job_facts.proofs.Ended.{gone_stays}
 use Rattle.job_facts.proofs.Effects.{upload_low, completion_ends, abort_ends}
+use Rattle.job_facts.proofs.Foreign.{set_reads, reads_name}
+use Rattle.job_facts.proofs.Turning.{sweep_none}
+use Rattle.job_facts.proofs.Going.{effect_so}
 
 -- an upload that is gone stays so
 module _ (w : Script) (s : Scene) (there : HasBucket s.content w.dest.bucket) (id : ℕ) where
   abbrev Out : Scene → Type 0
   Out u = (id < u.content.next) × (at_id w u.content id ≡ None)
 
-  applied : (r : Request) → Out s → Out (apply s r)
-  applied r h = let later : s.content.next ≤ (apply s r).content.next = (frame s w.dest.bucket r there).later in let low = h.0 in (omega arith, gone_stays w s there id h.0 r h.1)
-
   pub stays_gone : (r : Request) (o : Outcome) → Out s → Out (effect s r o)
-  stays_gone r Slow h = h
-  stays_gone r RequestLost h = h
-  stays_gone r _ h = applied r h
+  stays_gone r o h = effect_so Out s r o h
+      (let later : s.content.next ≤ (apply s r).content.next = (frame s w.dest.bucket r there).later in let low = h.0 in (omega arith, gone_stays w s there id h.0 r h.1))
 
 pub effective_is : (s : Scene) (r : Request) (o : Outcome) → is_effective o ≡ true → effect s r o ≡ apply s r
 effective_is s r Slow e = absurd (false≢true e)
@@ -30,48 +29,36 @@ module _ {w : Script} {minimum : ℕ} {s : Scene} {last : ℕ → Option ℕ} {m
   abbrev pub Kind : Request → Type 0
   Kind r = ((id : ℕ) → ends r id ≡ false) ⊎ ((p : Pending) × IsCommit w minimum m.publish_sent m.drawn p × ((r ≡ completion p) ⊎ ((r ≡ abort p) ⊎ (r ≡ deletion p))))
 
-  read_kind : (c : Committer) (t : ℕ) → Kind (set_request c w t)
-  read_kind Magic t = inl (λ id. refl)
-  read_kind _ t = inl (λ id. refl)
-
-  sweep_kind : (p : List ℕ) (x : Sweep) → Kind (sweep_asks w.dest.bucket p x)
-  sweep_kind p (Listing keys) = inl (λ id. refl)
-  sweep_kind p (Deleting q qs) = inl (λ id. refl)
-
   pub commit_kind : (c : Commit) → FitsJobCommit w minimum m.publish_sent m.drawn c → Tabled w c → Decides w minimum m.publish_sent m.drawn c → (r : Request) → commit_asks w c ≡ Some r → Kind r
-  commit_kind (Fetching sets n) fits t d r e = subst Kind (some_is e) (read_kind w.committer (length sets))
-  commit_kind (Replacing sets p ps x n) fits t d r e = subst Kind (some_is e) (sweep_kind p x)
+  commit_kind (Fetching sets n) fits t d r e = inl (λ id. ap (λ q. ends q id) (sym (some_is e)) ∙ (reads_name (set_request w.committer w (length sets)) (set_reads w.committer w (length sets))).ends_none id)
+  commit_kind (Replacing sets p ps x n) fits t d r e = inl (λ id. ap (λ q. ends q id) (sym (some_is e)) ∙ sweep_none w p x id)
   commit_kind (Completing sets x xs finished) fits t d r e =
       let p = nth (all_commits sets) x.number in
       inr (p, (of_sets j f sets fits p (nth_of (all_commits sets) x.number (t.within x (inl refl)))).1.commit, inl (sym (some_is e)))
-  commit_kind (Marking sets n) fits t d r e = subst Kind (some_is e) (inl (λ id. refl))
+  commit_kind (Marking sets n) fits t d r e = inl (λ id. ap (λ q. ends q id) (sym (some_is e)))
   commit_kind (Reverting q qs n) fits t d r e = let x = d q (inl refl) in inr (x.0, x.1, inr (elim x.2 [ inl h ↦ inl (sym (some_is e) ∙ h) | inr h ↦ inr (sym (some_is e) ∙ h) ]))
   commit_kind (CommitOver end) fits t d r e = absurd cc
 
   low : (p : Pending) → IsCommit w minimum m.publish_sent m.drawn p → (r : Request) → p.upload < (apply s r).content.next
   low p x r = let later : s.content.next ≤ (apply s r).content.next = (frame s w.dest.bucket r f.there).later in let below = upload_low j f gone p x in omega arith
 
+  ended_out : (p : Pending) → IsCommit w minimum m.publish_sent m.drawn p → (q r : Request) → r ≡ q → at_id w (apply s q).content p.upload ≡ None → (id : ℕ) → id ≡ p.upload → Out w s f.there id (apply s r)
+  ended_out p x q r is none id same = subst (λ v. Out w s f.there v (apply s r)) (sym same) (subst (λ y. Out w s f.there p.upload (apply s y)) (sym is) (low p x q, none))
+
   -- what such a request ends is gone
   ends_now : (r : Request) → Kind r → (id : ℕ) → ends r id ≡ true → Out w s f.there id (apply s r)
   ends_now r (inl none) id e = absurd (false_true (none id) e)
-  ends_now r (inr (p, x, inl is)) id e =
-      let same : id ≡ p.upload = eq_nat id p.upload (ap (λ y. ends y id) (sym is) ∙ e) in
-      let P : Request → Type 0 = λ y. Out w s f.there p.upload (apply s y) in
-      subst (λ v. Out w s f.there v (apply s r)) (sym same) (subst P (sym is) (low p x (completion p), completion_ends j f gone p x))
-  ends_now r (inr (p, x, inr (inl is))) id e =
-      let same : id ≡ p.upload = eq_nat id p.upload (ap (λ y. ends y id) (sym is) ∙ e) in
-      let P : Request → Type 0 = λ y. Out w s f.there p.upload (apply s y) in
-      subst (λ v. Out w s f.there v (apply s r)) (sym same) (subst P (sym is) (low p x (abort p), abort_ends j f gone p x))
+  ends_now r (inr (p, x, inl is)) id e = ended_out p x (completion p) r is (completion_ends j f gone p x) id (eq_nat id p.upload (ap (λ y. ends y id) (sym is) ∙ e))
+  ends_now r (inr (p, x, inr (inl is))) id e = ended_out p x (abort p) r is (abort_ends j f gone p x) id (eq_nat id p.upload (ap (λ y. ends y id) (sym is) ∙ e))
   ends_now r (inr (p, x, inr (inr is))) id e = absurd (false_true refl (ap (λ y. ends y id) (sym is) ∙ e))
 
   pub commit_gone : (c : Commit) → FitsJobCommit w minimum m.publish_sent m.drawn c → Tabled w c → Decides w minimum m.publish_sent m.drawn c → (r : Request) → commit_asks w c ≡ Some r → (o : Outcome) → Gone w (effect s r o).content (tell_driver m r o)
-  commit_gone c fits t d r e o id h = by (m.ended id) refl
-    where
-      by : (b : Bool) → m.ended id ≡ b → Out w s f.there id (effect s r o)
-      by true g = stays_gone w s f.there id r o (gone id g)
-      by false g =
-          let both = and_parts (is_effective o) (ends r id) (sym (ap (λ b. b || (is_effective o && ends r id)) g) ∙ h) in
-          subst (Out w s f.there id) (sym (effective_is s r o both.0)) (ends_now r (commit_kind c fits t d r e) id both.1)
+  commit_gone c fits t d r e o id h = elim (true_or_false (m.ended id)) [
+    | inl g ↦ stays_gone w s f.there id r o (gone id g)
+    | inr g ↦
+        let both = and_parts (is_effective o) (ends r id) (sym (ap (λ b. b || (is_effective o && ends r id)) g) ∙ h) in
+        subst (Out w s f.there id) (sym (effective_is s r o both.0)) (ends_now r (commit_kind c fits t d r e) id both.1)
+  ]
 
 pub first_gone : (w : Script) (s : Scene) (c : Option ℕ) → Gone w s.content (nothing_told c)
 first_gone w s c id e = absurd (false≢true e)

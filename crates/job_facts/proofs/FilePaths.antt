@@ -1,41 +1,43 @@
 -- The paths of the job's files are such as a reader of the destination is shown.
-use Rattle.std.proofs.Common.{◌≡◌, ℕ, ◌==◌, nat_eq, if◌then◌else◌, Bool, true, false, List, [], ◌∷◌, ◌++◌, length, inl, inr, refl, ap, ◌∙◌, arith}
-use Rattle.job_facts.specs.Prelude.{list_all, is_open, File, Who, IsLegal, IsGiven, is_full, with_id, with_id_last, path_of, Script, files, is_folder, is_file_path, IsIn}
-use Rattle.job_spec.proofs.Common.{and_parts, lt-ltb, not-true, false≢true, nat_tests, true_or_false, false_true, id_bytes, unique_parts}
+use Rattle.std.proofs.Common.{◌≡◌, ℕ, ◌==◌, nat_eq, if◌then◌else◌, Bool, true, false, List, [], ◌∷◌, ◌++◌, length, inl, inr, refl, ap, ◌∙◌, arith, ◌-◌, ◌<◌, ◌≤◌, ◌^◌, drop, codes, sym, append_assoc}
+use Rattle.job_facts.specs.Prelude.{list_all, is_open, File, Who, IsLegal, IsGiven, is_full, with_id, with_id_last, path_of, Script, files, is_folder, is_file_path, IsIn, decimal, list_any, is_job_id, below, MarkerPlace}
+use Rattle.job_spec.proofs.Common.{and_parts, lt-ltb, not-true, false≢true, nat_tests, true_or_false, false_true, id_bytes, unique_parts, or_parts, list_all-append, not_so, decimal_without, below_is}
 use Rattle.words.specs.Parts.{parts_from, parts_of}
-use Rattle.job_facts.proofs.Legal.{from_script, given_of}
+use Rattle.job_facts.proofs.Legal.{from_script, given_of, some_dest, is_attempt, small_attempt}
 use Rattle.job_facts.proofs.JobCommitting.{file_open}
+use Rattle.s3_types.specs.Prelude.{after_first}
+use Rattle.path_keys.proofs.Common.{decimal_nonempty, parts_append, one_part}
+use Rattle.job_model.specs.Prelude.{is_other}
+use Rattle.job_protocol.specs.Prelude.{attempt_key, is_reserved}
+use Rattle.magic_paths.specs.Finals.{is_word, has_magic, after_magic, kept}
+use Rattle.magic_paths.proofs.Elements.{id_others}
+use Rattle.magic_paths.proofs.Kept.{some_parts, final_parts}
+use Rattle.magic_paths.proofs.Tails.{tail_is}
+use Rattle.magic_paths.proofs.Walked.{Walked, begun, stepped, has_word, front_at, behind_at}
+use Rattle.job_facts.specs.Laws.{MarkersLead, LeadsTo}
+use Rattle.job_facts.proofs.Legible.{full_parts}
 
 -- a text that ends in `/` has an empty part
 no_folder : (part : List ℕ) (x : ℕ) (p : List ℕ) → is_folder (x ∷ p) ≡ true → list_all is_full (parts_from 47 part (x ∷ p)) ≡ true → ⊥
 unfolding parts_from
-no_folder part x [] h full = by (x == 47) refl
-  where
-    by : (b : Bool) → (x == 47) ≡ b → ⊥
-    by true e = false≢true ((and_parts (is_full part) (list_all is_full (parts_from 47 [] [])) (rw e at full)).1)
-    by false e = false_true e h
-no_folder part x (y ∷ p) h full = by (x == 47) refl (no_folder [] y p h) (no_folder (part ++ x ∷ []) y p h)
-  where
-    by : (b : Bool) → (x == 47) ≡ b → (list_all is_full (parts_from 47 [] (y ∷ p)) ≡ true → ⊥) → (list_all is_full (parts_from 47 (part ++ x ∷ []) (y ∷ p)) ≡ true → ⊥) → ⊥
-    by true e new old = new (and_parts (is_full part) (list_all is_full (parts_from 47 [] (y ∷ p))) (rw e at full)).1
-    by false e new old = old (rw e at full)
-
-folder_not : (x : ℕ) (p : List ℕ) → list_all is_full (parts_of 47 (x ∷ p)) ≡ true → is_folder (x ∷ p) ≡ false
-folder_not x p full = elim (true_or_false (is_folder (x ∷ p))) [
-  | inl h ↦ absurd (no_folder [] x p h full)
-  | inr h ↦ h
+no_folder part x [] h full = elim (true_or_false (x == 47)) [
+  | inl e ↦ false≢true ((and_parts (is_full part) (list_all is_full (parts_from 47 [] [])) (rw e at full)).1)
+  | inr e ↦ false_true e h
 ]
-
-turned : (x : ℕ) → nat_eq x 95 ≡ false → nat_eq 95 x ≡ false
-turned x h = grind (arith, nat_tests)
-
-same_test : (x : ℕ) → nat_eq x 95 ≡ false → (x == 95) ≡ false
-same_test x h = grind (arith, nat_tests)
+no_folder part x (y ∷ p) h full = elim (true_or_false (x == 47)) [
+  | inl e ↦ no_folder [] y p h (and_parts (is_full part) (list_all is_full (parts_from 47 [] (y ∷ p))) (rw e at full)).1
+  | inr e ↦ no_folder (part ++ x ∷ []) y p h (rw e at full)
+]
 
 -- a path that does not begin with `_`, and has no empty part
 shown_so : (p : List ℕ) → is_open p ≡ true → list_all is_full (parts_of 47 p) ≡ true → is_file_path p ≡ true
 shown_so [] h full = absurd (false≢true h)
-shown_so (x ∷ p) h full = let n = not-true (nat_eq x 95) h in rw (folder_not x p full, turned x n, same_test x n) refl
+shown_so (x ∷ p) h full =
+    let folder : is_folder (x ∷ p) ≡ false = elim (true_or_false (is_folder (x ∷ p))) [ inl e ↦ absurd (no_folder [] x p e full) | inr e ↦ e ] in
+    let n : nat_eq x 95 ≡ false = not-true (nat_eq x 95) h in
+    let turned : nat_eq 95 x ≡ false = grind (arith, nat_tests) in
+    let same : (x == 95) ≡ false = grind (arith, nat_tests) in
+    rw (folder, turned, same) refl
 
 -- ---- a path made unique to a job has no empty part
 
@@ -44,19 +46,12 @@ full_more x e = lt-ltb 0 (length (x ∷ e)) (omega arith)
 
 full_id : (id e : List ℕ) → is_full (with_id id e) ≡ true
 full_id id [] = full_more 45 id
-full_id id (x ∷ e) = by (x == 46)
-  where
-    by : (b : Bool) → is_full (if b then 45 ∷ (id ++ x ∷ e) else x ∷ with_id id e) ≡ true
-    by true = full_more 45 (id ++ x ∷ e)
-    by false = full_more x (with_id id e)
+full_id id (x ∷ e) = elim (x == 46) as (λ b. is_full (if b then 45 ∷ (id ++ x ∷ e) else x ∷ with_id id e) ≡ true) [ true ↦ full_more 45 (id ++ x ∷ e) | false ↦ full_more x (with_id id e) ]
 
 full_last : (id : List ℕ) (es : List (List ℕ)) → list_all is_full es ≡ true → list_all is_full (with_id_last id es) ≡ true
 full_last id [] h = refl
 full_last id (e ∷ []) h = rw (full_id id e) refl
 full_last id (e ∷ f ∷ es) h = let b = and_parts (is_full e) (list_all is_full (f ∷ es)) h in rw (b.0, full_last id (f ∷ es) b.1) refl
-
-full_parts : (path : List ℕ) → IsGiven path → list_all is_full (parts_of 47 path) ≡ true
-full_parts path g = (and_parts _ _ (and_parts _ _ g.stated).0).1
 
 module _ {w : Script} (j : IsLegal w) where
   full_path : (u : Bool) (p : List ℕ) → IsGiven p → list_all is_full (parts_of 47 (path_of u w.job p)) ≡ true
@@ -68,3 +63,106 @@ module _ {w : Script} (j : IsLegal w) where
       let g = from_script w a f i in
       let e : f.0 ≡ path_of w.unique w.job g.given.0 = ap (λ (x : File). x.0) g.is in
       shown_so f.0 (file_open j a f i) (ap (λ p. list_all is_full (parts_of 47 p)) e ∙ full_path w.unique g.given.0 (given_of j a f i))
+
+-- ---- the final path of a file's marker is the file's
+
+none_reserved : (es : List (List ℕ)) → list_any is_reserved es ≡ false → has_magic es ≡ false
+none_reserved [] h = refl
+none_reserved (e ∷ es) h =
+    let p = or_parts (is_reserved e) (list_any is_reserved es) h in
+    rw ((or_parts (is_word (codes "__magic") e) (is_word (codes "__base") e) p.0).0, none_reserved es p.1) refl
+
+-- the element of an attempt is another than `__base`
+no_base : (ds more : List ℕ) → 0 < length ds → list_all (is_other 95) ds ≡ true → is_word (codes "__base") (ds ++ more) ≡ false
+no_base [] more some h = absurd (omega arith)
+no_base (d ∷ ds) more some h = rw (not_so _ (and_parts (is_other 95 d) (list_all (is_other 95) ds) h).0) refl
+
+-- a word, and what stands behind it and a `/`
+word_part : (word rest : List ℕ) → list_all (is_other 47) word ≡ true → parts_of 47 (word ++ 47 ∷ rest) ≡ word ∷ parts_of 47 rest
+word_part word rest h = parts_append 47 word rest ∙ ap (λ (l : List (List ℕ)). l ++ parts_of 47 rest) (one_part 47 word h)
+
+-- a destination that is no bucket's root and has no element `__magic`, a job, and an attempt
+record Names (dest id : List ℕ) (t a : ℕ) : Type 0 where
+  pub some : 1 ≤ length dest
+  pub bare : has_magic (parts_of 47 dest) ≡ false
+  pub job : is_job_id id ≡ true
+  pub task : t < 2 ^ 64
+  pub attempt : a < 2 ^ 64
+
+module _ (dest id path : List ℕ) (t a : ℕ) (n : Names dest id t a) where
+  abbrev key : List ℕ
+  key = below (attempt_key dest id t a) path
+
+  abbrev number : List ℕ
+  number = decimal t ++ 95 ∷ decimal a
+
+  abbrev from_base : List ℕ
+  from_base = codes "__base" ++ 47 ∷ path
+
+  abbrev behind : List ℕ
+  behind = (codes "job-" ++ id) ++ 47 ∷ (codes "tasks" ++ 47 ∷ (number ++ 47 ∷ from_base))
+
+  abbrev from_magic : List ℕ
+  from_magic = codes "__magic" ++ 47 ∷ behind
+
+  key_is : key ≡ (dest ++ 47 ∷ []) ++ from_magic
+  key_is =
+      tail_is dest id (MarkerPlace t a path) n.some
+      ∙ ap (λ (l : List ℕ). dest ++ (codes "/__magic/job-" ++ (id ++ 47 ∷ (codes "tasks/" ++ l))))
+      (sym (append_assoc (decimal t) (95 ∷ decimal a) (47 ∷ from_base)))
+      ∙ sym (append_assoc dest (47 ∷ []) from_magic)
+
+  -- ---- the first `__magic` stands behind the destination
+
+  to_magic : Walked (codes "__magic") key from_magic
+  to_magic = record {
+    front = dest ++ 47 ∷ [];
+    seen = parts_of 47 dest;
+    whole = key_is;
+    parts = λ more. ap (parts_of 47) (append_assoc dest (47 ∷ []) more) ∙ parts_append 47 dest more;
+    none = n.bare;
+  }
+
+  magic_there : parts_of 47 from_magic ≡ codes "__magic" ∷ parts_of 47 behind
+  magic_there = word_part (codes "__magic") behind refl
+
+  behind_is : parts_of 47 behind ≡ after_magic (parts_of 47 key)
+  behind_is = behind_at (codes "__magic") key from_magic (codes "__magic") (parts_of 47 behind) to_magic magic_there refl
+
+  -- ---- and the first `__base` before the path
+
+  to_base : Walked (codes "__base") behind from_base
+  to_base =
+      let in_tasks : List ℕ = number ++ 47 ∷ from_base in
+      let in_job : List ℕ = codes "tasks" ++ 47 ∷ in_tasks in
+      let job : List ℕ = codes "job-" ++ id in
+      let past_job = stepped (codes "__base") behind behind job in_job (begun (codes "__base") behind) (word_part job in_job (id_others id n.job)) refl refl in
+      let past_tasks = stepped (codes "__base") behind in_job (codes "tasks") in_tasks past_job (word_part (codes "tasks") in_tasks refl) refl refl in
+      stepped (codes "__base") behind in_tasks number from_base past_tasks (word_part number from_base
+      (list_all-append (is_other 47) (decimal t) (95 ∷ decimal a) ∙ rw (decimal_without 47 t refl n.task, decimal_without 47 a refl n.attempt) refl)) refl
+      (no_base (decimal t) (95 ∷ decimal a) (decimal_nonempty t n.task) (decimal_without 95 t refl n.task))
+
+  base_there : parts_of 47 from_base ≡ codes "__base" ∷ parts_of 47 path
+  base_there = word_part (codes "__base") path refl
+
+  kept_is : parts_of 47 path ≡ kept (parts_of 47 behind)
+  kept_is =
+      behind_at (codes "__base") behind from_base (codes "__base") (parts_of 47 path) to_base base_there refl
+      ∙ sym (ap (λ (b : Bool). let es = parts_of 47 behind in if b then after_first (is_word (codes "__base")) es else drop (length es - 1) es)
+      (has_word (codes "__base") behind from_base (codes "__base") (parts_of 47 path) to_base base_there refl))
+
+  leads : (bucket : List ℕ) → LeadsTo (record { bucket = bucket; key = key }) (record { bucket = bucket; key = below dest path })
+  leads bucket = record {
+    bucket = refl;
+    magic = has_word (codes "__magic") key from_magic (codes "__magic") (parts_of 47 behind) to_magic magic_there refl;
+    kept = λ e. some_parts path (kept_is ∙ ap kept behind_is ∙ e);
+    elements = ap (parts_of 47) (below_is dest path n.some ∙ sym (append_assoc dest (47 ∷ []) path))
+        ∙ final_parts key (dest ++ 47 ∷ []) behind path
+        (front_at (codes "__magic") key from_magic (codes "__magic") (dest ++ 47 ∷ []) (parts_of 47 behind) to_magic magic_there refl key_is) behind_is kept_is;
+  }
+
+pub markers_lead : MarkersLead
+markers_lead w a f j i =
+    let few = small_attempt j a (is_attempt j a f i) in
+    let bare : has_magic (parts_of 47 w.dest.key) ≡ false = none_reserved (parts_of 47 w.dest.key) (not_so _ (and_parts _ _ j.dest.below).1) in
+    leads w.dest.key w.job f.0 a.task a.attempt (record { some = some_dest j; bare = bare; job = j.job; task = few.0; attempt = few.1 }) w.dest.bucket

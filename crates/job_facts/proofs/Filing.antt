@@ -1,28 +1,34 @@
 -- What stands where the files of the sets go, while the driver's commit completes their uploads and where it reverts.
-use Rattle.std.proofs.Common.{◌≡◌, ℕ, ◌+◌, ◌<◌, ◌≤◌, ◌⊎◌, inl, inr, nat_lt, nat_eq, ◌&&◌, ◌||◌, Bool, true, false, cond, List, [], ◌∷◌, ◌++◌, length, slice_get, Option, Some, None, refl, sym, ap, subst, ◌∙◌, arith}
-use Rattle.job_facts.specs.Prelude.{option_map, Scene, apply, effect, is_effective, Object, Request, DeleteObject, Reply, Outcome, Answered, Slow, RequestLost, ReplyLost, Entry, below, Pending, PendingSet, IsWorn, IsLegal, Script, CommitEnd, wanted_at, same_path, files, Sweep, sweep_hears, Turn, nth, completion, abort, deletion, again, follow, dealt, revert, Sets, all_commits, picks_of, Commit, Fetching, Replacing, Completing, Marking, Reverting, CommitOver, set_read, commit_misses, commit_tells, completing, is_no_magic, replaced, replacing, decided, fetching, fetched, swept, reverting, worn_completion, In, Table, Tabled, IsIn, changed_upload, Told, driver_entry, tell_driver, at_key, Facts, Reads, FitsJobCommit, NoneEnded, Turned, IsCommit, Gone, AreDecided, whole_of, IsBefore, deletes, Wants, FileStands}
-use Rattle.job_spec.proofs.Common.{ltb-false, same_self, shared_found, some_is, none_some, false_true, true_or_false, same_or_not, same_or_other, nat_false, nat_true, in_append}
+use Rattle.std.proofs.Common.{◌≡◌, ℕ, ◌+◌, ◌<◌, ◌≤◌, ◌⊎◌, inl, inr, nat_lt, ◌&&◌, ◌||◌, Bool, true, false, cond, List, [], ◌∷◌, ◌++◌, length, slice_get, Option, Some, None, refl, sym, ap, subst, ◌∙◌, arith}
+use Rattle.job_facts.specs.Prelude.{option_map, Scene, apply, effect, is_effective, Object, Request, DeleteObject, Reply, Outcome, Answered, Slow, RequestLost, ReplyLost, Entry, below, Pending, PendingSet, IsWorn, IsLegal, Script, wanted_at, same_path, files, Sweep, sweep_hears, Turn, nth, completion, abort, deletion, again, follow, dealt, revert, Sets, all_commits, picks_of, Commit, Fetching, Replacing, Completing, Marking, Reverting, CommitOver, set_read, commit_misses, commit_tells, completing, is_no_magic, reverting, worn_completion, In, Table, Tabled, IsIn, changed_upload, Told, driver_entry, tell_driver, at_key, Facts, Reads, FitsJobCommit, NoneEnded, Turned, IsCommit, Gone, AreDecided, whole_of, IsBefore, deletes, Wants, FileStands}
+use Rattle.job_spec.proofs.Common.{ltb-false, same_self, shared_found, some_is, none_some, false_true, true_or_false, same_or_not, same_or_other, nat_false, nat_true, in_append, none_or_some}
 use Rattle.path_keys.proofs.Common.{below_is}
 use Rattle.job_spec.specs.Prelude.{was_answered, streak}
 use Rattle.retries.proofs.Misses.{streak_same, worn_now, worn_more}
-use Rattle.job_model.specs.declared.ends.CommitEnd.TheVariants as ends_of
-use Rattle.job_model.specs.declared.ends.Stage.TheVariants as stages
 use Rattle.job_protocol.proofs.Tables.{table_dealt, table_answered, table_again, all_done}
-use Rattle.job_facts.proofs.Whose.{attempt, or_true, or_false}
+use Rattle.job_facts.proofs.Whose.{attempt, or_true, or_false, and_false}
 use Rattle.job_facts.proofs.Placed.{one_key}
 use Rattle.job_facts.proofs.Turning.{none_turned}
-use Rattle.job_facts.proofs.Held.{nth_of, number_of, of_sets, uploads_uniq, destinations_uniq, set_has, task_low}
+use Rattle.job_facts.proofs.Held.{nth_of, number_of, of_sets, uploads_uniq, destinations_uniq, set_has, task_low, to_in, from_in, deletes_tried, deletes_done, either, tells_so, Course, fetched_so, swept_so, completing_so}
 use Rattle.job_facts.proofs.Wanted.{wanted_of, wanted_here}
-use Rattle.job_facts.proofs.Numbered.{to_in, from_in, deletes_worn, deletes_tried, deletes_done}
 use Rattle.job_facts.proofs.Effects.{completes_file, completes_nothing, other_key, abort_keys, deletion_is, deletion_key, deletion_other}
+use Rattle.job_facts.proofs.Going.{effect_so}
+
+some_lane : {n : ℕ} → 1 ≤ n → 0 < n
+some_lane h = omega arith
+
+-- what stood before the commit still does, or nothing
+pub before_stays : {first u v : Option Object} → (v ≡ u) ⊎ (v ≡ None) → IsBefore first u → IsBefore first v
+before_stays (inr e) h = inr e
+before_stays (inl e) (inl h) = inl (e ∙ h)
+before_stays (inl e) (inr h) = inr (e ∙ h)
 
 -- the set of a task with a pick was read
 pick_read : (sets : Sets) (t n : ℕ) → picks_of sets t ≡ Some n → (h : PendingSet) × (slice_get sets t ≡ Some h) × (h.attempt ≡ n)
-pick_read sets t n e = by (slice_get sets t) refl e
-  where
-    by : (o : Option PendingSet) → slice_get sets t ≡ o → option_map (λ (h : PendingSet). h.attempt) o ≡ Some n → (h : PendingSet) × (slice_get sets t ≡ Some h) × (h.attempt ≡ n)
-    by None g k = absurd (none_some refl k)
-    by (Some h) g k = (h, g, some_is k)
+pick_read sets t n e = elim (none_or_some (slice_get sets t)) [
+  | inl none ↦ absurd (none_some (ap (option_map (λ (h : PendingSet). h.attempt)) none) e)
+  | inr h ↦ (h.0, h.1, some_is (sym (ap (option_map (λ (h : PendingSet). h.attempt)) h.1) ∙ e))
+]
 
 module _ {w : Script} {minimum : ℕ} {s : Scene} {last : ℕ → Option ℕ} {m : Told} (j : IsLegal w) (f : Facts w minimum s last m) (q b : List ℕ) where
   abbrev key : List ℕ
@@ -76,66 +82,36 @@ module _ {w : Script} {minimum : ℕ} {s : Scene} {last : ℕ → Option ℕ} {m
         (c u.upload u.one_of u.goes_to).0 (ap (λ (p : Pending). told.ended p.upload) (sym u.is) ∙ done)
     stands_completing sets told now (x ∷ xs) finished reads e t turned c = c
 
-    fits_reads : (sets : Sets) (xs : List Turn) (finished : List ℕ) → FitsJobCommit w minimum m.publish_sent m.drawn (completing sets xs finished) → Reads w minimum m.publish_sent m.drawn sets
-    fits_reads sets [] finished h = h
-    fits_reads sets (x ∷ xs) finished h = h
-
-    wants_these : (sets : Sets) (xs : List Turn) (finished : List ℕ) → Wants w q b (completing sets xs finished) → wanted_at w (picks_of sets) q ≡ Some b
-    wants_these sets [] finished h = h
-    wants_these sets (x ∷ xs) finished h = h
-
-    -- as the completions begin
-    stands_replacing : (sets : Sets) (ps : List (List ℕ)) (told : Told) (now : Option Object) → NoneEnded told → IsBefore first now → FitsJobCommit w minimum m.publish_sent m.drawn (replacing w sets ps) → Wants w q b (replacing w sets ps) → Stands now told.ended (replacing w sets ps)
-    stands_replacing sets [] told now none before fits wants =
-        let xs = dealt w.lanes (length (all_commits sets)) in
-        let some : 0 < w.lanes = above j.one_lane in
-        stands_completing sets told now xs [] (fits_reads sets xs [] fits) (wants_these sets xs [] wants) (table_dealt w.lanes w.retries (length (all_commits sets)) some) (none_turned told none sets xs)
-        (λ p i e. ((λ g. absurd (false_true (none p.upload) g)), (λ g. before)))
-      where
-        above : {n : ℕ} → 1 ≤ n → 0 < n
-        above h = omega arith
-    stands_replacing sets (p ∷ ps) told now none before fits wants = before
-
-    stands_decided : (sets : Sets) (o : Option CommitEnd) → same_path w (picks_of sets) ≡ o → (told : Told) (now : Option Object) → NoneEnded told → now ≡ first → FitsJobCommit w minimum m.publish_sent m.drawn (decided w sets o) → Wants w q b (decided w sets o)
-        → Stands now told.ended (decided w sets o)
-    stands_decided sets (Some end) e told now none same fits wants = let x = shared_found w (picks_of sets) end e in subst (λ v. Stands now told.ended (CommitOver v)) (sym x.3) same
-    stands_decided sets None e told now none same fits wants = stands_replacing sets (replaced w.committer w.mode w (picks_of sets)) told now none (inl same) fits wants
-
     abbrev Follows : Option Object → Told → Commit → Type 0
     Follows now told c = FitsJobCommit w minimum m.publish_sent m.drawn c → Wants w q b c → Stands now told.ended c
 
-    pub stands_fetching : (sets : Sets) (told : Told) (now : Option Object) → NoneEnded told → now ≡ first → Follows now told (fetching w sets)
-    stands_fetching sets told now none same = by (nat_lt (length sets) w.tasks)
-      where
-        by : (t : Bool) → Follows now told (cond t (Fetching sets 0) (decided w sets (same_path w (picks_of sets))))
-        by true = λ fits wants. same
-        by false = stands_decided sets (same_path w (picks_of sets)) refl told now none same
-
-    stands_fetched : (sets : Sets) (o : Option PendingSet) (told : Told) (now : Option Object) → NoneEnded told → now ≡ first → Follows now told (fetched w sets o)
-    stands_fetched sets (Some h) told now none same = stands_fetching (sets ++ h ∷ []) told now none same
-    stands_fetched sets None told now none same = λ fits wants. same
-
-    stands_swept : (sets : Sets) (p : List ℕ) (ps : List (List ℕ)) (o : Option Sweep) (told : Told) (now : Option Object) → NoneEnded told → IsBefore first now → Follows now told (swept w sets p ps o)
-    stands_swept sets p ps (Some x) told now none before = λ fits wants. before
-    stands_swept sets p ps None told now none before = stands_replacing sets ps told now none before
-
-    either : (now : Option Object) (ended : ℕ → Bool) (t : Bool) (c d : Commit) → (t ≡ true → Stands now ended c) → (t ≡ false → Stands now ended d) → Stands now ended (cond t c d)
-    either now ended true c d h g = h refl
-    either now ended false c d h g = g refl
+    -- up to the first completion
+    pub stands_course : (told : Told) (now : Option Object) → NoneEnded told → Course w (Follows now told) (λ sets. now ≡ first) (λ sets ps. IsBefore first now)
+    stands_course told now none = record {
+      fetches = λ sets l same fits wants. same;
+      clashes = λ sets end e same fits wants. let x = shared_found w (picks_of sets) end e in subst (λ v. Stands now told.ended (CommitOver v)) (sym x.3) same;
+      decides = λ sets l e same. inl same;
+      replaces = λ sets p ps before fits wants. before;
+      completes = λ sets before fits wants.
+          let xs = dealt w.lanes (length (all_commits sets)) in
+          let reads = completing_so (λ c. FitsJobCommit w minimum m.publish_sent m.drawn c → Reads w minimum m.publish_sent m.drawn sets) sets xs [] (λ h. h) (λ y ys h. h) fits in
+          let these = completing_so (λ c. Wants w q b c → wanted_at w (picks_of sets) q ≡ Some b) sets xs [] (λ h. h) (λ y ys h. h) wants in
+          stands_completing sets told now xs [] reads these (table_dealt w.lanes w.retries (length (all_commits sets)) (some_lane j.one_lane)) (none_turned told none sets xs)
+          (λ p i e. ((λ g. absurd (false_true (none p.upload) g)), (λ g. before)));
+    }
 
     -- ---- each stage, where an entry leaves the key as it is or before
 
-    pub fetching_stands : (sets : Sets) (n : ℕ) (told : Told) (now : Option Object) → NoneEnded told → now ≡ first → (o : Outcome) → Follows now told (commit_tells w (Fetching sets n) o)
-    fetching_stands sets n told now none same (Answered y) fits wants = stands_fetched sets (set_read y) told now none same fits wants
-    fetching_stands sets n told now none same _ fits wants = either now told.ended (nat_lt n w.retries) (Fetching sets (n + 1)) (CommitOver (ends_of.StoreFault stages.Read)) (λ e. same) (λ e. same)
+    pub fetching_stands : (sets : Sets) (n : ℕ) (told : Told) (now : Option Object) → length sets < w.tasks → NoneEnded told → now ≡ first → (o : Outcome) → Follows now told (commit_tells w (Fetching sets n) o)
+    fetching_stands sets n told now low none same o =
+        tells_so w (Follows now told) (Fetching sets n) o (λ y e. fetched_so (stands_course told now none) sets (set_read y) low same (λ h z. same)) (λ lost fits wants. same) (λ fits wants. same)
 
     pub replacing_stands : (sets : Sets) (p : List ℕ) (ps : List (List ℕ)) (x : Sweep) (n : ℕ) (told : Told) (now : Option Object) → NoneEnded told → IsBefore first now → (o : Outcome) → Follows now told (commit_tells w (Replacing sets p ps x n) o)
-    replacing_stands sets p ps x n told now none same (Answered y) fits wants = stands_swept sets p ps (sweep_hears (is_no_magic w) x y) told now none same fits wants
-    replacing_stands sets p ps x n told now none same _ fits wants = either now told.ended (nat_lt n w.retries) (Replacing sets p ps x (n + 1)) (CommitOver (ends_of.StoreFault stages.Delete)) (λ e. same) (λ e. same)
+    replacing_stands sets p ps x n told now none before o =
+        tells_so w (Follows now told) (Replacing sets p ps x n) o (λ y e. swept_so (stands_course told now none) sets p ps (sweep_hears (is_no_magic w) x y) before (λ t z fits wants. before)) (λ lost fits wants. before) (λ fits wants. before)
 
     pub marking_stands : (sets : Sets) (n : ℕ) (now : Option Object) (ended : ℕ → Bool) → now ≡ Some (whole_of b) → (o : Outcome) → Stands now ended (commit_tells w (Marking sets n) o)
-    marking_stands sets n now ended h (Answered y) = h
-    marking_stands sets n now ended h _ = either now ended (nat_lt n w.retries) (Marking sets (n + 1)) (CommitOver (ends_of.StoreFault stages.Success)) (λ e. h) (λ e. h)
+    marking_stands sets n now ended h o = tells_so w (Stands now ended) (Marking sets n) o (λ y e. h) (λ lost. h) h
 
 -- ---- a completion, and the requests of a revert
 
@@ -154,9 +130,7 @@ module _ {w : Script} {minimum : ℕ} {s : Scene} {last : ℕ → Option ℕ} {m
 
   -- where an entry leaves the key as it was
   same_after : (r : Request) → at_key w (apply s r).content at ≡ now → (o : Outcome) → after r o ≡ now
-  same_after r e Slow = refl
-  same_after r e RequestLost = refl
-  same_after r e _ = e
+  same_after r e o = effect_so (λ u. at_key w u.content at ≡ now) s r o refl e
 
   module _ (sets : Sets) (x : Turn) (xs : List Turn) (finished : List ℕ) (reads : Reads w minimum m.publish_sent m.drawn sets) (t : Tabled w (Completing sets x xs finished)) (turns : Turned m.ended sets (x ∷ xs) finished) (d : AreDecided w sets)
       (wants : wanted_at w (picks_of sets) q ≡ Some b) (old : Clause j f q b first sets now m.ended) where
@@ -177,17 +151,12 @@ module _ {w : Script} {minimum : ℕ} {s : Scene} {last : ℕ → Option ℕ} {m
 
     -- this upload goes there
     whole_now : p.destination ≡ at → at_key w (apply s (completion p)).content at ≡ Some (whole_of b)
-    whole_now e = by (m.ended p.upload) refl
-      where
-        by : (v : Bool) → m.ended p.upload ≡ v → at_key w (apply s (completion p)).content at ≡ Some (whole_of b)
-        by true g = completes_nothing j f gone p mine g at ∙ (old p (nth_of all x.number low) e).0 g
-        by false g =
-            ap (at_key w (apply s (completion p)).content) (sym e)
-            ∙ completes_file j f gone p mine g
-            ∙ ap (λ v. Some (whole_of v)) (wanted_bytes j f q b sets reads d.apart wants p (nth_of all x.number low) e)
-
-    ended_now : (m.ended p.upload || (true && nat_eq p.upload p.upload)) ≡ true
-    ended_now = ap (λ v. m.ended p.upload || v) (nat_true p.upload p.upload refl) ∙ or_true (m.ended p.upload)
+    whole_now e = elim (true_or_false (m.ended p.upload)) [
+      | inl g ↦ completes_nothing j f gone p mine g at ∙ (old p (nth_of all x.number low) e).0 g
+      | inr g ↦
+          ap (at_key w (apply s (completion p)).content) (sym e) ∙ completes_file j f gone p mine g
+          ∙ ap (λ v. Some (whole_of v)) (wanted_bytes j f q b sets reads d.apart wants p (nth_of all x.number low) e)
+    ]
 
     abbrev Here : Outcome → Type 0
     Here o = ((told o).ended p.upload ≡ true → after (completion p) o ≡ Some (whole_of b)) × ((told o).ended p.upload ≡ false → IsBefore first (after (completion p) o))
@@ -195,13 +164,9 @@ module _ {w : Script} {minimum : ℕ} {s : Scene} {last : ℕ → Option ℕ} {m
     here : p.destination ≡ at → (o : Outcome) → Here o
     here e Slow = let h = old p (nth_of all x.number low) e in ((λ g. h.0 (sym (or_false (m.ended p.upload)) ∙ g)), (λ g. h.1 (sym (or_false (m.ended p.upload)) ∙ g)))
     here e RequestLost = let h = old p (nth_of all x.number low) e in ((λ g. h.0 (sym (or_false (m.ended p.upload)) ∙ g)), (λ g. h.1 (sym (or_false (m.ended p.upload)) ∙ g)))
-    here e _ = ((λ g. whole_now e), (λ g. absurd (false_true g ended_now)))
+    here e _ = ((λ g. whole_now e), (λ g. absurd (false_true g (ap (λ v. m.ended p.upload || v) (nat_true p.upload p.upload refl) ∙ or_true (m.ended p.upload)))))
 
     -- another upload is as it was
-    and_false : (v : Bool) → (v && false) ≡ false
-    and_false true = refl
-    and_false false = refl
-
     ended_same : (o : Outcome) (u : ℕ) → (u ≡ p.upload → ⊥) → (told o).ended u ≡ m.ended u
     ended_same o u ne = ap (λ v. m.ended u || (is_effective o && v)) (nat_false u p.upload ne) ∙ ap (λ v. m.ended u || v) (and_false (is_effective o)) ∙ or_false (m.ended u)
 
@@ -225,14 +190,6 @@ module _ {w : Script} {minimum : ℕ} {s : Scene} {last : ℕ → Option ℕ} {m
     abbrev Now : Outcome → Commit → Type 0
     Now o c = FileStands w q b first (more (completion p) o) (after (completion p) o) (told o).ended c
 
-    answered : (y : Reply) → Turned (told (Answered y)).ended sets (xs ++ follow w.lanes (length all) x.number) (x.number ∷ finished) → Now (Answered y) (completing sets (xs ++ follow w.lanes (length all) x.number) (x.number ∷ finished))
-    answered y turned =
-        let some : 0 < w.lanes = above j.one_lane in
-        stands_completing j f q b first (more (completion p) (Answered y)) sets (told (Answered y)) (after (completion p) (Answered y)) (xs ++ follow w.lanes (length all) x.number) (x.number ∷ finished) reads wants (table_answered x some t) turned (clause_after (Answered y))
-      where
-        above : {k : ℕ} → 1 ≤ k → 0 < k
-        above h = omega arith
-
     -- its deletion is to come, where it stands
     deletes_it : (lost : Bool) (told : Told) → Turned told.ended sets (xs ++ again x lost ∷ []) finished → (k : ℕ) → k < length all → told.ended (nth all k).upload ≡ true → IsIn (deletion (nth all k)) (revert all x.number xs finished)
     deletes_it lost told turned k l e = elim (turned.only k l e) [
@@ -245,7 +202,7 @@ module _ {w : Script} {minimum : ℕ} {s : Scene} {last : ℕ → Option ℕ} {m
         | inr i ↦ elim i [
           | inl is ↦
               let number : x.number ≡ k = sym (ap (λ (v : Turn). v.number) is) ∙ y.2 in
-              subst (λ v. IsIn (deletion (nth all v)) (revert all x.number xs finished)) number (deletes_worn all x.number xs finished low t.done_within)
+              subst (λ v. IsIn (deletion (nth all v)) (revert all x.number xs finished)) number (inr (inl refl))
           | inr none ↦ absurd none
         ]
       ]
@@ -267,16 +224,17 @@ module _ {w : Script} {minimum : ℕ} {s : Scene} {last : ℕ → Option ℕ} {m
         )
 
     pub missed : (o : Outcome) (lost : Bool) → Turned (told o).ended sets (xs ++ again x lost ∷ []) finished → Now o (commit_misses w (Completing sets x xs finished) lost)
-    missed o lost turned = either j f q b first (more (completion p) o) (after (completion p) o) (told o).ended (nat_lt x.missed w.retries) (completing sets (xs ++ again x lost ∷ []) finished) (worn_completion sets x xs finished)
+    missed o lost turned = either w (Now o) (nat_lt x.missed w.retries) (completing sets (xs ++ again x lost ∷ []) finished) (worn_completion sets x xs finished)
         (λ e. stands_completing j f q b first (more (completion p) o) sets (told o) (after (completion p) o) (xs ++ again x lost ∷ []) finished reads wants (table_again x lost (below_is x.missed w.retries e) t) turned (clause_after o))
         (λ e. reverts o lost turned)
 
     pub completing_stands : ((y : Reply) → Turned (told (Answered y)).ended sets (xs ++ follow w.lanes (length all) x.number) (x.number ∷ finished)) → ((o : Outcome) (lost : Bool) → (is_effective o ≡ true → lost ≡ true) → Turned (told o).ended sets (xs ++ again x lost ∷ []) finished)
         → (o : Outcome) → Now o (commit_tells w (Completing sets x xs finished) o)
-    completing_stands h g (Answered y) = answered y (h y)
+    completing_stands h g (Answered y) =
+        stands_completing j f q b first (more (completion p) (Answered y)) sets (told (Answered y)) (after (completion p) (Answered y)) (xs ++ follow w.lanes (length all) x.number) (x.number ∷ finished) reads wants
+        (table_answered x (some_lane j.one_lane) t) (h y) (clause_after (Answered y))
     completing_stands h g Slow = missed Slow false (g Slow false (λ e. absurd (false_true refl e)))
-    completing_stands h g RequestLost = missed RequestLost true (g RequestLost true (λ e. refl))
-    completing_stands h g ReplyLost = missed ReplyLost true (g ReplyLost true (λ e. refl))
+    completing_stands h g o = missed o true (g o true (λ e. refl))
 
   -- ---- a revert
 
@@ -308,11 +266,6 @@ module _ {w : Script} {minimum : ℕ} {s : Scene} {last : ℕ → Option ℕ} {m
 
     abbrev Left : List Entry → Option Object → List Request → Type 0
     Left es now qs = IsBefore first now ⊎ ((now ≡ Some (whole_of b)) × (IsIn (deletes w q) qs ⊎ IsWorn w.retries (deletes w q) es))
-
-    before_stays : {u v : Option Object} → (v ≡ u) ⊎ (v ≡ None) → IsBefore first u → IsBefore first v
-    before_stays (inr e) h = inr e
-    before_stays (inl e) (inl h) = inl (e ∙ h)
-    before_stays (inl e) (inr h) = inr (e ∙ h)
 
     module _ (few : k ≤ streak r es) (left : Left es now (r ∷ rs)) where
       -- it took effect: what is deleted is gone, and the list goes on
@@ -355,20 +308,11 @@ module _ {w : Script} {minimum : ℕ} {s : Scene} {last : ℕ → Option ℕ} {m
       so_reverting o v [] (inr (e, inr worn)) = inr (e, worn)
       so_reverting o v (y ∷ ys) h = (omega arith, h)
 
-      grown : (o : Outcome) → was_answered o ≡ false → streak r (more r o) ≡ streak r es + 1
-      grown o e = streak_same r es (driver_entry n r o) (same_self r) ∙ ap (λ v. cond v 0 (streak r es + 1)) e
-
       missed_so : (o : Outcome) (lost : Bool) (v : Option Object) → was_answered o ≡ false → Left (more r o) v (r ∷ rs) → (IsWorn w.retries r (more r o) → Left (more r o) v rs) → So o v (commit_misses w (Reverting r rs k) lost)
-      missed_so o lost v e here over = by (nat_lt k w.retries) refl
-        where
-          more_now : streak r (more r o) ≡ streak r es + 1
-          more_now = grown o e
-
-          by : (t : Bool) → nat_lt k w.retries ≡ t → So o v (cond t (Reverting r rs (k + 1)) (reverting rs))
-          by true g = (omega (arith, more_now, few), here)
-          by false g =
-              let high : w.retries ≤ k = ltb-false k w.retries g in
-              so_reverting o v rs (over (worn_now w.retries r (more r o) (omega (arith, more_now, few, high))))
+      missed_so o lost v e here over =
+          let more_now : streak r (more r o) ≡ streak r es + 1 = streak_same r es (driver_entry n r o) (same_self r) ∙ ap (λ t. cond t 0 (streak r es + 1)) e in
+          either w (So o v) (nat_lt k w.retries) (Reverting r rs (k + 1)) (reverting rs) (λ g. (omega (arith, more_now, few), here))
+          (λ g. let high : w.retries ≤ k = ltb-false k w.retries g in so_reverting o v rs (over (worn_now w.retries r (more r o) (omega (arith, more_now, few, high)))))
 
       pub reverting_stands : (o : Outcome) → So o (after r o) (commit_tells w (Reverting r rs k) o)
       reverting_stands (Answered y) = so_reverting (Answered y) (at_key w (apply s r).content at) rs (effective (Answered y) rs (λ y i. i))

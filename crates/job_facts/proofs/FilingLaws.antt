@@ -1,19 +1,22 @@
 -- What stands where wanted files go, entry by entry: the driver's commit's, and those of others.
 use Rattle.std.proofs.Common.{◌≡◌, ℕ, ◌≤◌, ◌^◌, ◌⊎◌, inl, inr, true, List, [], ◌∷◌, ◌++◌, length, take, Option, Some, None, refl, sym, ap, subst, ◌∙◌}
-use Rattle.job_facts.specs.Prelude.{Scene, answer, bucket_of, effect, IsHonestOutcome, only_reads, Object, Request, PutObject, Committer, Magic, Outcome, Answered, Slow, RequestLost, ReplyLost, Entry, below, IsWorn, success_key, FilePlace, is_open, Pending, Who, IsLegal, Script, is_file_path, mark_text, Sweep, Listing, Deleting, sweep_asks, page_after, picks_of, Commit, Fetching, Replacing, Completing, Marking, Reverting, CommitOver, set_request, commit_start, commit_asks, commit_tells, Setting, Operation, asks, Seen, IsIn, HasBucket, changed_keys, Told, known, ends, tell_driver, tell_attempt, driver_entry, at_key, IsAttempt, Hold, Fits, FitsJobCommit, NoneEnded, IsCommit, Decides, IsBefore, deletes, Wants, FileStands, whole_of, Commits}
+use Rattle.job_facts.specs.Prelude.{Scene, answer, bucket_of, effect, IsHonestOutcome, only_reads, Object, Request, PutObject, Outcome, Entry, below, IsWorn, success_key, FilePlace, is_open, Pending, Who, IsLegal, Script, is_file_path, mark_text, Sweep, Listing, Deleting, sweep_asks, page_after, picks_of, Commit, Fetching, Replacing, Completing, Marking, Reverting, CommitOver, set_request, commit_start, commit_asks, commit_tells, Setting, Operation, asks, Seen, IsIn, HasBucket, changed_keys, Told, known, ends, tell_driver, tell_attempt, driver_entry, at_key, IsAttempt, Hold, Fits, FitsJobCommit, NoneEnded, IsCommit, Decides, IsBefore, deletes, Wants, FileStands, whole_of, Commits, DeleteObjects}
 use Rattle.job_spec.proofs.Common.{key_magic, some_is, false_true}
 use Rattle.store_frame.proofs.Framed.{frame}
-use Rattle.store_frame.proofs.Reading.{reads_nothing}
 use Rattle.job_facts.proofs.Legal.{some_dest}
 use Rattle.job_facts.proofs.Beside.{still_sent, still_known, job_commit_begins}
 use Rattle.job_facts.proofs.Owning.{operation_own}
 use Rattle.job_facts.proofs.JobCommitting.{commit_fits}
 use Rattle.job_facts.proofs.SettingUp.{no_success}
 use Rattle.job_facts.proofs.FilePaths.{file_path}
-use Rattle.job_facts.proofs.Turning.{still_none, read_none, sweep_none, answered_turned, missed_turned}
+use Rattle.job_facts.proofs.Turning.{still_none, sweep_none, answered_turned, missed_turned}
 use Rattle.job_facts.proofs.Wanted.{wanted_of}
 use Rattle.job_facts.proofs.Effects.{deleted_or_not}
-use Rattle.job_facts.proofs.Filing.{stands_fetching, fetching_stands, replacing_stands, marking_stands, completing_stands, reverting_stands}
+use Rattle.job_facts.proofs.Filing.{before_stays, fetching_stands, replacing_stands, marking_stands, completing_stands, reverting_stands, stands_course}
+use Rattle.job_facts.proofs.Going.{effect_so}
+use Rattle.job_facts.proofs.Emptying.{reads_same}
+use Rattle.job_facts.proofs.Foreign.{set_reads, reads_name}
+use Rattle.job_facts.proofs.Held.{fetching_so}
 
 -- ---- others' requests
 
@@ -41,9 +44,7 @@ module _ (g : Setting) (m : Told) (a : Who) (op : Operation) (fits : Fits g.scri
 
 -- where a request does not change a key
 pub stranger_same : (w : Script) (s : Scene) → HasBucket s.content w.dest.bucket → (r : Request) (o : Outcome) (k : List ℕ) → (bucket_of r ≡ w.dest.bucket → IsIn k (changed_keys r) → ⊥) → at_key w (effect s r o).content k ≡ at_key w s.content k
-stranger_same w s there r Slow k free = refl
-stranger_same w s there r RequestLost k free = refl
-stranger_same w s there r _ k free = (frame s w.dest.bucket r there).keys k free
+stranger_same w s there r o k free = effect_so (λ u. at_key w u.content k ≡ at_key w s.content k) s r o refl ((frame s w.dest.bucket r there).keys k free)
 
 pub attempt_same : (g : Setting) → IsLegal g.script → (s : Seen) (m : Told) (a : Who) → Hold g.script g.minimum s m → IsAttempt g.script a → (op : Operation) → Fits g.script g.minimum a m op → (r : Request) → asks g a (known m a) op ≡ Some r → (o : Outcome)
     → (q : List ℕ) → is_open q ≡ true → at_key g.script (effect s.scene r o).content (below g.script.dest.key q) ≡ at_key g.script s.scene.content (below g.script.dest.key q)
@@ -55,7 +56,7 @@ attempt_same g j s m a h d op fits r e o q open_path =
 
 pub files_begin : (w : Script) (minimum : ℕ) → IsLegal w → (s : Seen) (m : Told) → Hold w minimum s m → NoneEnded m → (q b : List ℕ) (first now : Option Object) → now ≡ first → (missing : Option ℕ) → Wants w q b (commit_start w missing)
     → FileStands w q b first [] now m.ended (commit_start w missing)
-files_begin w minimum j s m h none q b first here same None wants = stands_fetching j h q b first [] [] m here none same (job_commit_begins w minimum j m None) wants
+files_begin w minimum j s m h none q b first here same None wants = fetching_so (stands_course j h q b first [] m here none) [] same (job_commit_begins w minimum j m None) wants
 files_begin w minimum j s m h none q b first here same (Some t) wants = same
 
 pub left_before : (w : Script) (q b : List ℕ) (first now : Option Object) (es : List Entry) → IsBefore first now ⊎ ((now ≡ Some (whole_of b)) × IsWorn w.retries (deletes w q) es) → (IsWorn w.retries (deletes w q) es → ⊥) → IsBefore first now
@@ -77,38 +78,27 @@ module _ (g : Setting) (j : IsLegal g.script) (s : Seen) (m : Told) (n : ℕ) (f
   abbrev So : Commit → Request → Outcome → Commit → Type 0
   So c r o d = FileStands w q b first (es ++ driver_entry n r o ∷ []) (after r o) (tell_driver m r o).ended d
 
-  reads_same : (r : Request) → only_reads r ≡ true → (o : Outcome) → after r o ≡ at_key w s.scene.content key
-  reads_same r h Slow = refl
-  reads_same r h RequestLost = refl
-  reads_same r h _ = ap (λ (x : Scene). at_key w x.content key) (reads_nothing s.scene r h)
-
-  set_reads : (c : Committer) (t : ℕ) → only_reads (set_request c w t) ≡ true
-  set_reads Magic t = refl
-  set_reads _ t = refl
-
-  before_next : {u v : Option Object} → (v ≡ u) ⊎ (v ≡ None) → IsBefore first u → IsBefore first v
-  before_next (inr e) h = inr e
-  before_next (inl e) (inl h) = inl (e ∙ h)
-  before_next (inl e) (inr h) = inr (e ∙ h)
+  same_after : (r : Request) → only_reads r ≡ true → (o : Outcome) → after r o ≡ at_key w s.scene.content key
+  same_after r h o = ap (λ (x : Scene). at_key w x.content key) (reads_same s.scene r o h)
 
   swept_or_not : HasBucket s.scene.content w.dest.bucket → (p : List ℕ) (x : Sweep) (o : Outcome) → (after (sweep_asks w.dest.bucket p x) o ≡ at_key w s.scene.content key) ⊎ (after (sweep_asks w.dest.bucket p x) o ≡ None)
-  swept_or_not there p (Listing keys) o = inl (reads_same (page_after w.dest.bucket p keys) refl o)
-  swept_or_not there p (Deleting k ks) (Answered y) = deleted_or_not w s.scene there (take 1000 (k ∷ ks)) key
-  swept_or_not there p (Deleting k ks) Slow = inl refl
-  swept_or_not there p (Deleting k ks) RequestLost = inl refl
-  swept_or_not there p (Deleting k ks) ReplyLost = deleted_or_not w s.scene there (take 1000 (k ∷ ks)) key
+  swept_or_not there p (Listing keys) o = inl (same_after (page_after w.dest.bucket p keys) refl o)
+  swept_or_not there p (Deleting k ks) o =
+      let r = DeleteObjects w.dest.bucket (take 1000 (k ∷ ks)) in
+      let now = at_key w s.scene.content key in
+      effect_so (λ u. (at_key w u.content key ≡ now) ⊎ (at_key w u.content key ≡ None)) s.scene r o (inl refl) (deleted_or_not w s.scene there (take 1000 (k ∷ ks)) key)
 
   go_by : (c : Commit) → (h : Commits w g.minimum s m c) → (r : Request) → commit_asks w c ≡ Some r → (o : Outcome) → FitsJobCommit w g.minimum m.publish_sent m.drawn (commit_tells w c o) → Wants w q b c → Wants w q b (commit_tells w c o)
       → FileStands w q b first es (at_key w s.scene.content key) m.ended c → So c r o (commit_tells w c o)
   go_by (Fetching sets k) h r e o fits wants then old =
       let is : r ≡ set_request w.committer w (length sets) = sym (some_is e) in
-      let none : NoneEnded (tell_driver m r o) = still_none m r o (λ id. ap (λ y. ends y id) is ∙ read_none w.committer w (length sets) id) h.turns in
-      let same : after r o ≡ first = ap (λ y. after y o) is ∙ reads_same (set_request w.committer w (length sets)) (set_reads w.committer (length sets)) o ∙ old in
-      fetching_stands j h.hold q b first (es ++ driver_entry n r o ∷ []) sets k (tell_driver m r o) (after r o) none same o fits then
+      let none : NoneEnded (tell_driver m r o) = still_none m r o (λ id. ap (λ y. ends y id) is ∙ (reads_name (set_request w.committer w (length sets)) (set_reads w.committer w (length sets))).ends_none id) h.turns in
+      let same : after r o ≡ first = ap (λ y. after y o) is ∙ same_after (set_request w.committer w (length sets)) (set_reads w.committer w (length sets)) o ∙ old in
+      fetching_stands j h.hold q b first (es ++ driver_entry n r o ∷ []) sets k (tell_driver m r o) (after r o) h.fits.0 none same o fits then
   go_by (Replacing sets p ps x k) h r e o fits wants then old =
       let is : r ≡ sweep_asks w.dest.bucket p x = sym (some_is e) in
       let none : NoneEnded (tell_driver m r o) = still_none m r o (λ id. ap (λ y. ends y id) is ∙ sweep_none w p x id) h.turns in
-      let before : IsBefore first (after r o) = subst (λ y. IsBefore first (after y o)) (sym is) (before_next (swept_or_not h.hold.there p x o) old) in
+      let before : IsBefore first (after r o) = subst (λ y. IsBefore first (after y o)) (sym is) (before_stays (swept_or_not h.hold.there p x o) old) in
       replacing_stands j h.hold q b first (es ++ driver_entry n r o ∷ []) sets p ps x k (tell_driver m r o) (after r o) none before o fits then
   go_by (Completing sets x xs finished) h r e o fits wants then old =
       subst (λ y. So (Completing sets x xs finished) y o (commit_tells w (Completing sets x xs finished) o)) (some_is e)

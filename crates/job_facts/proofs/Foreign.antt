@@ -1,11 +1,12 @@
 -- A foreign request leaves the job alone; so does one that changes nothing, and one that begins an upload.
-use Rattle.std.proofs.Common.{◌≡◌, ℕ, ◌<◌, Bool, List, sym, subst}
+use Rattle.std.proofs.Common.{◌≡◌, ℕ, ◌<◌, Bool, List, sym, subst, [], None, false, refl}
 use Rattle.store_frame.proofs.Framed.{frame}
 use Rattle.store_frame.proofs.Reading.{reads_nothing}
 use Rattle.std.proofs.Common.{true, Some, Option}
-use Rattle.job_facts.specs.Prelude.{Scene, Upload, apply, only_reads, Request, Outcome, Slow, RequestLost, Who, IsLegal, Script, Drawn, Seen, see, HasBucket, Told, tell, strange_entry, at_id, IsKnown, Leaves, IsForeign, Facts, Hold, Times}
+use Rattle.job_facts.specs.Prelude.{Scene, Upload, apply, only_reads, Request, Outcome, Slow, RequestLost, Who, IsLegal, Script, Drawn, Seen, see, HasBucket, Told, tell, strange_entry, at_id, IsKnown, Leaves, IsForeign, Facts, Hold, Times, changed_keys, changed_upload, changed_paths, ends, undoes, learn, Known, is_publishing, IsWithin, GetObject, HeadObject, ListPage, ListParts, ListUploads, ClusterGet, ClusterList, Committer, Magic, set_request, bucket_of, IsIn, magic_prefix, cluster_prefix, begins}
 use Rattle.job_spec.proofs.Common.{false_true}
 use Rattle.job_facts.proofs.Keep.{leaves_keep}
+use Rattle.job_spec.specs.Prelude.{sends_data}
 
 -- what is known of the scene before
 pub record Stood (w : Script) (drawn : Who → List Drawn) (s : Scene) : Type 0 where
@@ -16,21 +17,25 @@ pub record Stood (w : Script) (drawn : Who → List Drawn) (s : Scene) : Type 0 
 pub stood : {w : Script} {minimum : ℕ} {s : Scene} {last : ℕ → Option ℕ} {m : Told} → Facts w minimum s last m → Stood w m.drawn s
 stood {s = s} f = record { there = f.there; fresh = f.ids.fresh; below = λ id k. subst (λ n. n < s.content.next) k.3 (f.ids.below k.0 k.1 k.2) }
 
-foreign_leaves : (w : Script) (drawn : Who → List Drawn) (ended : ℕ → Bool) (s : Scene) → Stood w drawn s → (r : Request) → IsForeign w drawn r → Leaves w drawn ended s (apply s r)
-foreign_leaves w drawn ended s h r f =
+-- a request that changes neither keys nor paths of the job's own, nor uploads that are open, leaves them
+pub frame_leaves : (w : Script) (drawn : Who → List Drawn) (ended : ℕ → Bool) (s : Scene) → Stood w drawn s → (r : Request)
+    → (bucket_of r ≡ w.dest.bucket → (k : List ℕ) → IsIn k (changed_keys r) → begins (magic_prefix w.dest.key w.job) k ≡ false)
+    → ((id : ℕ) → IsKnown drawn id → ended id ≡ false → bucket_of r ≡ w.dest.bucket → changed_upload r ≡ Some id → ⊥)
+    → ((p : List ℕ) → IsIn p (changed_paths r) → begins (cluster_prefix w.job) p ≡ false) → Leaves w drawn ended s (apply s r)
+frame_leaves w drawn ended s h r keys uploads paths =
     let g = frame s w.dest.bucket r h.there in
     record {
       there = g.there h.there.0 h.there.1;
       least = g.least;
       later = g.later;
-      objects = λ k b. g.keys k (λ e i. false_true (f.keys e k i) b);
-      uploads = λ id k free. g.uploads id (λ e i. f.uploads e id i k) (h.below id k);
+      objects = λ k b. g.keys k (λ e i. false_true (keys e k i) b);
+      uploads = λ id k free. g.uploads id (uploads id k free) (h.below id k);
       fresh = g.fresh h.fresh;
-      files = λ p b. g.files p (λ i. false_true (f.paths p i) b);
+      files = λ p b. g.files p (λ i. false_true (paths p i) b);
     }
 
 pub foreign_effect : {w : Script} {minimum : ℕ} {last : ℕ → Option ℕ} {m : Told} → IsLegal w → (s : Scene) (r : Request) → IsForeign w m.drawn r → Facts w minimum s last m → Facts w minimum (apply s r) last m
-foreign_effect {w = w} {m = m} j s r g f = leaves_keep j (foreign_leaves w m.drawn m.ended s (stood f) r g) f
+foreign_effect {w = w} {m = m} j s r g f = leaves_keep j (frame_leaves w m.drawn m.ended s (stood f) r g.keys (λ id k free b c. g.uploads b id c k) g.paths) f
 
 pub foreign_keeps : (w : Script) (minimum : ℕ) (k : Times) (s : Seen) (m : Told) (n : ℕ) (r : Request) (o : Outcome) → IsLegal w → IsForeign w m.drawn r
     → Hold w minimum s m → Hold w minimum (see w k s (strange_entry n r o)) (tell w m (strange_entry n r o))
@@ -38,6 +43,35 @@ foreign_keeps w minimum k s m n r Slow j g f = f
 foreign_keeps w minimum k s m n r RequestLost j g f = f
 foreign_keeps w minimum k s m n r _ j g f = foreign_effect j s.scene r g f
 
--- what only reads keeps them
+-- ---- what only reads
+
+-- it names nothing that changes, and teaches nothing
+pub record NamesNothing (r : Request) : Type 0 where
+  pub keys : changed_keys r ≡ []
+  pub upload : changed_upload r ≡ None
+  pub paths : changed_paths r ≡ []
+  pub ends_none : (id : ℕ) → ends r id ≡ false
+  pub undo : undoes r ≡ false
+  pub learns : (w : Script) (a : Who) (k : Known) (o : Outcome) → learn w a k r o ≡ k
+  pub publishing : (w : Script) (s : Scene) (t : ℕ) → is_publishing w s t r ≡ false
+  pub within : (w : Script) → IsWithin w r
+  pub no_data : sends_data r ≡ false
+
+pub reads_name : (r : Request) → only_reads r ≡ true → NamesNothing r
+reads_name (GetObject n q) h = record { keys = refl; upload = refl; paths = refl; ends_none = λ id. refl; undo = refl; learns = λ w a k o. refl; publishing = λ w s t. refl; within = λ w. tt; no_data = refl }
+reads_name (HeadObject n q) h = record { keys = refl; upload = refl; paths = refl; ends_none = λ id. refl; undo = refl; learns = λ w a k o. refl; publishing = λ w s t. refl; within = λ w. tt; no_data = refl }
+reads_name (ListPage n p t after limit) h = record { keys = refl; upload = refl; paths = refl; ends_none = λ id. refl; undo = refl; learns = λ w a k o. refl; publishing = λ w s t. refl; within = λ w. tt; no_data = refl }
+reads_name (ListParts n q id) h = record { keys = refl; upload = refl; paths = refl; ends_none = λ id. refl; undo = refl; learns = λ w a k o. refl; publishing = λ w s t. refl; within = λ w. tt; no_data = refl }
+reads_name (ListUploads n p after limit) h = record { keys = refl; upload = refl; paths = refl; ends_none = λ id. refl; undo = refl; learns = λ w a k o. refl; publishing = λ w s t. refl; within = λ w. tt; no_data = refl }
+reads_name (ClusterGet path) h = record { keys = refl; upload = refl; paths = refl; ends_none = λ id. refl; undo = refl; learns = λ w a k o. refl; publishing = λ w s t. refl; within = λ w. tt; no_data = refl }
+reads_name (ClusterList p) h = record { keys = refl; upload = refl; paths = refl; ends_none = λ id. refl; undo = refl; learns = λ w a k o. refl; publishing = λ w s t. refl; within = λ w. tt; no_data = refl }
+reads_name _ h = absurd (false_true refl h)
+
+-- so does the read of a set
+pub set_reads : (c : Committer) (w : Script) (t : ℕ) → only_reads (set_request c w t) ≡ true
+set_reads Magic w t = refl
+set_reads _ w t = refl
+
+-- and it keeps the facts
 pub reads_effect : {w : Script} {minimum : ℕ} {last : ℕ → Option ℕ} {m : Told} (s : Scene) (r : Request) → only_reads r ≡ true → Facts w minimum s last m → Facts w minimum (apply s r) last m
 reads_effect {w = w} {minimum = minimum} {last = last} {m = m} s r h f = subst (λ u. Facts w minimum u last m) (sym (reads_nothing s r h)) f

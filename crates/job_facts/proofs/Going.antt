@@ -1,6 +1,6 @@
 -- What an attempt knows after one more of its own requests, and where a request that got no answer leads.
-use Rattle.std.proofs.Common.{◌≡◌, ℕ, zero, suc, ◌||◌, Bool, true, refl}
-use Rattle.job_facts.specs.Prelude.{Request, PutObject, CreateUpload, UploadPart, ClusterPut, ClusterRename, Reply, Outcome, Answered, Slow, RequestLost, ReplyLost, Retried, Item, Got, WornOut, step, unanswered_by, Who, Script, Known, learn, Told, known, undoes, tell_attempt}
+use Rattle.std.proofs.Common.{◌≡◌, ℕ, zero, suc, Bool, true, refl, false, Option, Some, None, subst}
+use Rattle.job_facts.specs.Prelude.{Request, CreateUpload, Reply, Outcome, Answered, Slow, RequestLost, ReplyLost, Retried, Item, Got, WornOut, step, unanswered_by, Who, Script, Known, learn, Told, known, tell_attempt, Scene, apply, effect, is_effective, IsHonestOutcome}
 use Rattle.job_facts.proofs.Whose.{who_here}
 
 module _ (w : Script) (m : Told) (a : Who) (r : Request) (o : Outcome) where
@@ -10,9 +10,6 @@ module _ (w : Script) (m : Told) (a : Who) (r : Request) (o : Outcome) where
     put_sent = who_here m.put_sent a (learn w a (known m a) r o).put_sent a refl i;
     publish_sent = who_here m.publish_sent a (learn w a (known m a) r o).publish_sent a refl i;
   }
-
-  pub undone_now : (tell_attempt w m a r o).undone a ≡ (m.undone a || undoes r)
-  undone_now = who_here m.undone a (m.undone a || undoes r) a refl
 
 -- what holds of an operation as it is and where it wears out holds after a sending without an answer
 pub unanswered_so : {M : Type 0} (P : M → Type 0) (retries : ℕ) (after : M → Item → M) (op : M) (repeated : Bool) (spare : ℕ) → P op → P (after op WornOut) → P (unanswered_by retries after op repeated spare).operation
@@ -30,13 +27,37 @@ step_so retries after t ReplyLost P h g k = unanswered_so P retries after t.oper
 -- what was not answered teaches nothing of uploads
 pub unlearnt : (w : Script) (a : Who) (k : Known) (r : Request) (o : Outcome) → ((x : Reply) → o ≡ Answered x → ⊥) → (learn w a k r o).drawn ≡ k.drawn
 unlearnt w a k r (Answered x) h = absurd (h x refl)
-unlearnt w a k (CreateUpload bucket key) Slow h = refl
-unlearnt w a k (CreateUpload bucket key) RequestLost h = refl
-unlearnt w a k (CreateUpload bucket key) ReplyLost h = refl
-unlearnt w a k (UploadPart bucket key id number bytes) Slow h = refl
-unlearnt w a k (UploadPart bucket key id number bytes) RequestLost h = refl
-unlearnt w a k (UploadPart bucket key id number bytes) ReplyLost h = refl
-unlearnt w a k (PutObject bucket key bytes header) o h = refl
-unlearnt w a k (ClusterPut path bytes) o h = refl
-unlearnt w a k (ClusterRename source target) o h = refl
+unlearnt w a k (CreateUpload bucket key) _ h = refl
 unlearnt w a k _ o h = refl
+
+-- ---- what holds whatever becomes of a request
+
+-- by what stood where it took no effect, and by what it leaves where it did
+pub effect_by : (P : Outcome → Scene → Type 0) (s : Scene) (r : Request) (o : Outcome) → (is_effective o ≡ false → P o s) → (is_effective o ≡ true → P o (apply s r)) → P o (effect s r o)
+effect_by P s r Slow h g = h refl
+effect_by P s r RequestLost h g = h refl
+effect_by P s r _ h g = g refl
+
+pub effect_so : (P : Scene → Type 0) (s : Scene) (r : Request) (o : Outcome) → P s → P (apply s r) → P (effect s r o)
+effect_so P s r o h g = effect_by (λ o. P) s r o (λ e. h) (λ e. g)
+
+-- ---- a step of an operation
+
+-- of the request that is asked, if one is
+abbrev pub Each : (Request → Type 0) → Option Request → Type 0
+Each P None = Unit {0}
+Each P (Some q) = P q
+
+pub each_so : (P : Request → Type 0) {x : Option Request} (r : Request) → x ≡ Some r → Each P x → P r
+each_so P r e h = subst (Each P) e h
+
+-- it is enough to see to an answer, which is due, and to the operation as it is and where it wears out
+pub step_by : {M : Type 0} (P : Outcome → M → Type 0) (retries : ℕ) (after : M → Item → M) (t : Retried M) (y : Reply) (o : Outcome) → IsHonestOutcome o y → ((x : Reply) → x ≡ y → P (Answered x) (after t.operation (Got x t.repeated)))
+    → (((x : Reply) → o ≡ Answered x → ⊥) → P o t.operation) → (((x : Reply) → o ≡ Answered x → ⊥) → P o (after t.operation WornOut)) → P o (step retries after t o).operation
+step_by P retries after t y (Answered x) honest heard still over = heard x honest
+step_by P retries after t y o honest heard still over = step_so retries after t o (P o) (λ x e. absurd cc) still over
+
+pub step_asked : {M : Type 0} (P : Request → Outcome → M → Type 0) (retries : ℕ) (after : M → Item → M) (t : Retried M) (due : Request → Reply) {x : Option Request} (r : Request) → x ≡ Some r → (o : Outcome) → IsHonestOutcome o (due r)
+    → Each (λ q. (y : Reply) → y ≡ due q → P q (Answered y) (after t.operation (Got y t.repeated))) x → (((y : Reply) → o ≡ Answered y → ⊥) → Each (λ q. P q o t.operation) x) → P r o (after t.operation WornOut) → P r o (step retries after t o).operation
+step_asked P retries after t due r e o honest heard still worn =
+    step_by (P r) retries after t (due r) o honest (each_so (λ q. (y : Reply) → y ≡ due q → P q (Answered y) (after t.operation (Got y t.repeated))) r e heard) (λ none. each_so (λ q. P q o t.operation) r e (still none)) (λ none. worn)

@@ -1,11 +1,14 @@
 -- The uploads of the sets that the driver holds: whose they are, and that no two have one upload or, where no two attempts write one path, one destination.
-use Rattle.std.proofs.Common.{◌≡◌, ℕ, zero, suc, ◌+◌, ◌<◌, ◌≤◌, ◌⊎◌, inl, inr, Bool, true, false, cond, List, [], ◌∷◌, ◌++◌, map, length, slice_get, Option, Some, None, refl, sym, ap, subst, ◌∙◌, arith}
-use Rattle.job_facts.specs.Prelude.{option_map, is_some, lookup, text_eq, Scene, Pending, PendingSet, File, has_path, Who, IsLegal, Script, Drawn, Picks, files, files_picked, writes, same_path, drawn_for, drawn_in, file_key, file_record, nth, Sets, all_commits, picks_of, IsIn, Told, ApartFiles, Facts, knowing, IsHeldSet, Reads, IsCommit}
-use Rattle.job_spec.proofs.Common.{shared_none, some_is, none_some, text_true, in_map, map_in, in_append, in_front, in_back}
-use Rattle.job_facts.proofs.Whose.{attempt}
-use Rattle.job_facts.proofs.Legal.{is_attempt}
+use Rattle.std.proofs.Common.{◌≡◌, ℕ, zero, suc, ◌+◌, ◌<◌, ◌≤◌, inl, inr, true, List, [], ◌∷◌, ◌++◌, map, length, slice_get, Option, Some, None, refl, sym, ap, subst, ◌∙◌, arith, ◌⊎◌, ◌&&◌, ◌||◌, nat_eq, nat_lt, Bool, false, cond}
+use Rattle.job_facts.specs.Prelude.{option_map, Scene, Pending, PendingSet, File, Who, IsLegal, Script, Drawn, Picks, files, files_picked, writes, same_path, drawn_for, drawn_in, file_key, file_record, nth, Sets, all_commits, picks_of, IsIn, Told, ApartFiles, Facts, knowing, IsHeldSet, Reads, IsCommit, Request, Turn, abort, deletion, chosen, undo, in_turn, is_tried, is_unsent, revert, In, Reply, Outcome, Answered, Slow, CommitEnd, Sweep, Listing, again, dealt, Commit, Fetching, Replacing, Completing, Marking, Reverting, CommitOver, commit_hears, commit_misses, commit_tells, completing, replaced, replacing, decided, fetching, fetched, swept, reverting, worn_completion}
+use Rattle.job_spec.proofs.Common.{shared_none, some_is, none_some, in_map, map_in, in_append, in_front, in_back, cases_lt, nat_true, lt-ltb, ltb-false}
+use Rattle.job_facts.proofs.Whose.{attempt, or_true}
+use Rattle.job_facts.proofs.Legal.{is_attempt, has}
 use Rattle.job_facts.proofs.Placed.{one_key}
 use Rattle.job_facts.proofs.Legible.{drawn_is}
+use Rattle.path_keys.proofs.Common.{below_is}
+use Rattle.job_model.specs.declared.ends.CommitEnd.TheVariants as ends
+use Rattle.job_model.specs.declared.ends.Stage.TheVariants as stages
 
 -- ---- lists of uploads
 
@@ -21,16 +24,10 @@ number_of (q ∷ ps) p (inr i) = let old = number_of ps p i in let low : old.0 <
 
 -- where no two picks write one path it has one writer
 pub one_writer : (w : Script) (picks : Picks) → same_path w picks ≡ None → (p : List ℕ) (t u : ℕ) → t < w.tasks → u < w.tasks → writes w picks p t ≡ true → writes w picks p u ≡ true → t ≡ u
-one_writer w picks apart p t u low less a b = elim (order t u) [
-  | inl is ↦ is
-  | inr ne ↦ elim ne [ inl l ↦ absurd (shared_none w picks apart p t u l less a b) | inr l ↦ absurd (shared_none w picks apart p u t l low b a) ]
+one_writer w picks apart p t u low less a b = elim (cases_lt t u) [
+  | inl l ↦ absurd (shared_none w picks apart p t u l less a b)
+  | inr h ↦ elim (cases_lt u t) [ inl l ↦ absurd (shared_none w picks apart p u t l low b a) | inr k ↦ omega (arith, h, k) ]
 ]
-  where
-    order : (a b : ℕ) → (a ≡ b) ⊎ ((a < b) ⊎ (b < a))
-    order zero zero = inl refl
-    order zero (suc b) = inr (inl (omega arith))
-    order (suc a) zero = inr (inr (omega arith))
-    order (suc a) (suc b) = elim (order a b) [ inl e ↦ inl (ap (λ n. suc n) e) | inr h ↦ inr (elim h [ inl l ↦ inl (omega arith) | inr l ↦ inr (omega arith) ]) ]
 
 module _ {X : Type 0} (of : Pending → X) where
   -- no two of them have this in common
@@ -48,16 +45,6 @@ module _ {X : Type 0} (of : Pending → X) where
   uniq_nth (p ∷ ps) h zero (suc n) x y e = absurd (h.0 (nth ps n) (nth_of ps n (omega arith)) e)
   uniq_nth (p ∷ ps) h (suc i) zero x y e = absurd (h.0 (nth ps i) (nth_of ps i (omega arith)) (sym e))
   uniq_nth (p ∷ ps) h (suc i) (suc n) x y e = ap (λ k. suc k) (uniq_nth ps h.1 i n (omega arith) (omega arith) e)
-
--- a file's path is one of theirs
-pub has_in : (fs : List File) (g : File) → IsIn g fs → has_path fs g.0 ≡ true
-has_in [] g i = absurd i
-has_in (h ∷ fs) g (inl e) = ap (λ b. is_some (cond b (Some h.1) (lookup (text_eq g.0) fs))) (text_true g.0 h.0 (ap (λ (x : File). x.0) e))
-has_in (h ∷ fs) g (inr i) = by (text_eq g.0 h.0) (has_in fs g i)
-  where
-    by : (b : Bool) → is_some (lookup (text_eq g.0) fs) ≡ true → is_some (cond b (Some h.1) (lookup (text_eq g.0) fs)) ≡ true
-    by true old = refl
-    by false old = old
 
 -- ---- uploads of sets
 
@@ -150,20 +137,13 @@ module _ {w : Script} {minimum : ℕ} {s : Scene} {last : ℕ → Option ℕ} {m
   file_of t p x = subst (λ o. IsIn x.commit.file (files_picked w t o)) (sym x.picked) (subst (λ a. IsIn x.commit.file (files w a)) (who_is t p x) x.commit.mine)
 
   writes_it : (t : ℕ) (p : Pending) → (x : IsOf t p) → writes w picks x.commit.file.0 t ≡ true
-  writes_it t p x = has_in (files_picked w t (picks t)) x.commit.file (file_of t p x)
+  writes_it t p x = has (files_picked w t (picks t)) x.commit.file x.commit.file.0 (file_of t p x) refl
 
   pub task_low : (t : ℕ) (p : Pending) → IsOf t p → t < w.tasks
   task_low t p x = subst (λ n. n < w.tasks) x.task (is_attempt j x.commit.by x.commit.file x.commit.mine).task
 
   pub dest_of : (t : ℕ) (p : Pending) → (x : IsOf t p) → p.destination ≡ file_key w x.commit.file
   dest_of t p x = ap (λ (v : Pending). v.destination) x.commit.is
-
-  -- the attempt of a task is its pick
-  pub same_who : (t u : ℕ) (p q : Pending) → (x : IsOf t p) → (y : IsOf u q) → t ≡ u → x.commit.by ≡ y.commit.by
-  same_who t u p q x y e =
-      let one : x.commit.by.attempt ≡ y.commit.by.attempt = some_is (sym x.picked ∙ ap picks e ∙ y.picked) in
-      let task : x.commit.by.task ≡ y.commit.by.task = x.task ∙ e ∙ sym y.task in
-      ap (λ n. attempt n x.commit.by.attempt) task ∙ ap (λ n. attempt y.commit.by.task n) one
 
   module _ (apart : same_path w picks ≡ None) where
     pub one_path : (t u : ℕ) (p q : Pending) → (x : IsOf t p) → (y : IsOf u q) → x.commit.file.0 ≡ y.commit.file.0 → t ≡ u
@@ -216,3 +196,172 @@ module _ {w : Script} {minimum : ℕ} {s : Scene} {last : ℕ → Option ℕ} {m
       let p = upload_of x.by g in
       let there : IsIn p h.commits = subst (λ (v : PendingSet). IsIn p v.commits) (sym x.is) (map_in (upload_of x.by) g x.commits (x.are.all g mine)) in
       (p, in_commits sets t h p e there, refl, held_of_set j f (picks_of sets) t h (x, ap (option_map (λ (v : PendingSet). v.attempt)) e) p there)
+
+-- ---- uploads by their numbers, and the requests of a revert
+
+-- ---- the two ways to say that something is a member
+
+pub to_in : {X : Type 0} (x : X) (xs : List X) → IsIn x xs → In x xs
+to_in x [] i = absurd i
+to_in x (y ∷ ys) (inl e) = inl (sym e)
+to_in x (y ∷ ys) (inr i) = inr (to_in x ys i)
+
+pub from_in : {X : Type 0} (x : X) (xs : List X) → In x xs → IsIn x xs
+from_in x [] i = absurd i
+from_in x (y ∷ ys) (inl e) = inl (sym e)
+from_in x (y ∷ ys) (inr i) = inr (from_in x ys i)
+
+-- ---- what a revert sends
+
+chosen_each : (test : ℕ → Bool) (k : ℕ) (ps : List Pending) (p : Pending) → IsIn p (chosen test k ps) → IsIn p ps
+chosen_each test k [] p i = absurd i
+chosen_each test k (q ∷ ps) p i =
+    let old = chosen_each test (k + 1) ps p in
+    (elim (test k) as (λ b. IsIn p (cond b (q ∷ chosen test (k + 1) ps) (chosen test (k + 1) ps)) → IsIn p (q ∷ ps)) [ true ↦ λ h. elim h [ inl e ↦ inl e | inr x ↦ inr (old x) ] | false ↦ λ h. inr (old h) ]) i
+
+chosen_there : (test : ℕ → Bool) (k : ℕ) (ps : List Pending) (n : ℕ) → n < length ps → test (k + n) ≡ true → IsIn (nth ps n) (chosen test k ps)
+chosen_there test k [] n low h = absurd (omega arith)
+chosen_there test k (q ∷ ps) zero low h =
+    let t : test k ≡ true = ap test (omega arith) ∙ h in
+    subst (λ b. IsIn q (cond b (q ∷ chosen test (k + 1) ps) (chosen test (k + 1) ps))) (sym t) (inl refl)
+chosen_there test k (q ∷ ps) (suc n) low h =
+    let old = chosen_there test (k + 1) ps n (omega arith) (ap test (omega arith) ∙ h) in
+    elim (test k) as (λ b. IsIn (nth ps n) (cond b (q ∷ chosen test (k + 1) ps) (chosen test (k + 1) ps))) [ true ↦ inr old | false ↦ old ]
+
+undo_each : (ps : List Pending) (r : Request) → IsIn r (undo ps) → (p : Pending) × IsIn p ps × ((r ≡ abort p) ⊎ (r ≡ deletion p))
+undo_each [] r i = absurd i
+undo_each (p ∷ ps) r (inl e) = (p, inl refl, inl e)
+undo_each (p ∷ ps) r (inr (inl e)) = (p, inl refl, inr e)
+undo_each (p ∷ ps) r (inr (inr i)) = let old = undo_each ps r i in (old.0, inr old.1, old.2)
+
+undo_there : (ps : List Pending) (p : Pending) → IsIn p ps → IsIn (deletion p) (undo ps)
+undo_there [] p i = absurd i
+undo_there (q ∷ ps) p (inl e) = inr (inl (ap deletion e))
+undo_there (q ∷ ps) p (inr i) = inr (inr (undo_there ps p i))
+
+turn_each : (all : List Pending) (ns : List ℕ) (p : Pending) → IsIn p (in_turn all ns) → (n : ℕ) × In n ns × (p ≡ nth all n)
+turn_each all [] p i = absurd i
+turn_each all (n ∷ ns) p i = elim (in_append p (in_turn all ns) (nth all n ∷ []) i) [
+  | inl h ↦ let old = turn_each all ns p h in (old.0, inr old.1, old.2)
+  | inr h ↦ elim h [ inl e ↦ (n, inl refl, e) | inr g ↦ absurd g ]
+]
+
+turn_there : (all : List Pending) (ns : List ℕ) (n : ℕ) → In n ns → IsIn (nth all n) (in_turn all ns)
+turn_there all [] n i = absurd i
+turn_there all (m ∷ ns) n (inl e) = in_back (nth all n) (in_turn all ns) (nth all m ∷ []) (inl (ap (nth all) (sym e)))
+turn_there all (m ∷ ns) n (inr i) = in_front (nth all n) (in_turn all ns) (nth all m ∷ []) (turn_there all ns n i)
+
+tried : (xs : List Turn) (y : Turn) → In y xs → (y.missed ≡ 0 → ⊥) → is_tried xs y.number ≡ true
+tried [] y i some = absurd i
+tried (x ∷ xs) y (inl e) some =
+    let has : nat_lt 0 y.missed ≡ true = lt-ltb 0 y.missed (omega (arith, some)) in
+    ap (λ (z : Turn). (nat_eq y.number z.number && nat_lt 0 z.missed) || is_tried xs y.number) e
+    ∙ ap (λ b. (b && nat_lt 0 y.missed) || is_tried xs y.number) (nat_true y.number y.number refl) ∙ ap (λ b. b || is_tried xs y.number) has
+tried (x ∷ xs) y (inr i) some = let b = nat_eq y.number x.number && nat_lt 0 x.missed in ap (λ c. b || c) (tried xs y i some) ∙ or_true b
+
+-- what holds of each of the uploads, of what wore out and of what is done holds of what its requests are about
+pub revert_so : (P : Pending → Type 0) (all : List Pending) (worn : ℕ) (xs : List Turn) (finished : List ℕ) → ((p : Pending) → IsIn p all → P p) → P (nth all worn) → ((n : ℕ) → In n finished → P (nth all n)) → (r : Request) → IsIn r (revert all worn xs finished)
+    → (p : Pending) × P p × ((r ≡ abort p) ⊎ (r ≡ deletion p))
+revert_so P all worn xs finished each first done r (inl e) = (nth all worn, first, inl e)
+revert_so P all worn xs finished each first done r (inr (inl e)) = (nth all worn, first, inr e)
+revert_so P all worn xs finished each first done r (inr (inr i)) = elim (in_append r (undo (chosen (is_tried xs) 0 all)) _ i) [
+  | inl h ↦ let u = undo_each (chosen (is_tried xs) 0 all) r h in (u.0, each u.0 (chosen_each (is_tried xs) 0 all u.0 u.1), u.2)
+  | inr h ↦ elim (in_append r (map deletion (in_turn all finished)) _ h) [
+    | inl d ↦
+        let x = in_map deletion r (in_turn all finished) d in
+        let t = turn_each all finished x.0 x.1 in
+        (nth all t.0, done t.0 t.1, inr (x.2 ∙ ap deletion t.2))
+    | inr d ↦ let x = in_map abort r (chosen (is_unsent worn xs finished) 0 all) d in (x.0, each x.0 (chosen_each (is_unsent worn xs finished) 0 all x.0 x.1), inl x.2)
+  ]
+]
+
+module _ (all : List Pending) (worn : ℕ) (xs : List Turn) (finished : List ℕ) (low : worn < length all) (within : (n : ℕ) → In n finished → n < length all) where
+  abbrev undone : List Request
+  undone = undo (chosen (is_tried xs) 0 all)
+
+  -- each is of one of the uploads
+  pub revert_each : (r : Request) → IsIn r (revert all worn xs finished) → (p : Pending) × IsIn p all × ((r ≡ abort p) ⊎ (r ≡ deletion p))
+  revert_each = revert_so (λ p. IsIn p all) all worn xs finished (λ p i. i) (nth_of all worn low) (λ n i. nth_of all n (within n i))
+
+  -- and there are deletions of what wore out, of what was sent and got no answer, and of what is done
+  pub deletes_tried : (y : Turn) → In y xs → (y.missed ≡ 0 → ⊥) → y.number < length all → IsIn (deletion (nth all y.number)) (revert all worn xs finished)
+  deletes_tried y i some below =
+      let z : 0 + y.number ≡ y.number = omega arith in
+      inr (inr (in_front _ undone _ (undo_there (chosen (is_tried xs) 0 all) (nth all y.number) (chosen_there (is_tried xs) 0 all y.number below (ap (is_tried xs) z ∙ tried xs y i some)))))
+
+  pub deletes_done : (n : ℕ) → In n finished → IsIn (deletion (nth all n)) (revert all worn xs finished)
+  deletes_done n i = inr (inr (in_back _ undone _ (in_front _ (map deletion (in_turn all finished)) _ (map_in deletion (nth all n) (in_turn all finished) (turn_there all finished n i)))))
+
+-- ---- what holds of the driver's commit as it goes on, by what holds where its stages begin
+
+-- a sending of its request is missed
+abbrev pub missed : Commit → Bool → Commit
+missed (Fetching sets n) lost = Fetching sets (n + 1)
+missed (Replacing sets p ps s n) lost = Replacing sets p ps s (n + 1)
+missed (Completing sets x xs finished) lost = completing sets (xs ++ again x lost ∷ []) finished
+missed (Marking sets n) lost = Marking sets (n + 1)
+missed (Reverting q qs n) lost = Reverting q qs (n + 1)
+missed (CommitOver end) lost = CommitOver end
+
+-- and wears out
+abbrev pub worn : Commit → Commit
+worn (Fetching sets n) = CommitOver (ends.StoreFault stages.Read)
+worn (Replacing sets p ps s n) = CommitOver (ends.StoreFault stages.Delete)
+worn (Completing sets x xs finished) = worn_completion sets x xs finished
+worn (Marking sets n) = CommitOver (ends.StoreFault stages.Success)
+worn (Reverting q qs n) = reverting qs
+worn (CommitOver end) = CommitOver end
+
+pub completing_so : (P : Commit → Type 0) (sets : Sets) (xs : List Turn) (finished : List ℕ)
+    → P (Marking sets 0) → ((x : Turn) (ys : List Turn) → P (Completing sets x ys finished)) → P (completing sets xs finished)
+completing_so P sets [] finished h g = h
+completing_so P sets (x ∷ xs) finished h g = g x xs
+
+module _ (w : Script) (P : Commit → Type 0) where
+  pub either : (b : Bool) (c d : Commit) → (b ≡ true → P c) → (b ≡ false → P d) → P (cond b c d)
+  either true c d h g = h refl
+  either false c d h g = g refl
+
+  misses_so : (c : Commit) (lost : Bool) → P (missed c lost) → P (worn c) → P (commit_misses w c lost)
+  misses_so (Completing sets x xs finished) lost h g = either (nat_lt x.missed w.retries) (missed (Completing sets x xs finished) lost) (worn_completion sets x xs finished) (λ e. h) (λ e. g)
+  misses_so (Fetching sets n) lost h g = either (nat_lt n w.retries) (Fetching sets (n + 1)) (CommitOver (ends.StoreFault stages.Read)) (λ e. h) (λ e. g)
+  misses_so (Replacing sets p ps s n) lost h g = either (nat_lt n w.retries) (Replacing sets p ps s (n + 1)) (CommitOver (ends.StoreFault stages.Delete)) (λ e. h) (λ e. g)
+  misses_so (Marking sets n) lost h g = either (nat_lt n w.retries) (Marking sets (n + 1)) (CommitOver (ends.StoreFault stages.Success)) (λ e. h) (λ e. g)
+  misses_so (Reverting q qs n) lost h g = either (nat_lt n w.retries) (Reverting q qs (n + 1)) (reverting qs) (λ e. h) (λ e. g)
+  misses_so (CommitOver end) lost h g = h
+
+  -- after any outcome, by what holds after an answer, after a sending that is missed, and where it wears out
+  pub tells_so : (c : Commit) (o : Outcome) → ((x : Reply) → o ≡ Answered x → P (commit_hears w c x)) → ((lost : Bool) → P (missed c lost)) → P (worn c) → P (commit_tells w c o)
+  tells_so c (Answered x) h g k = h x refl
+  tells_so c Slow h g k = misses_so c false (g false) k
+  tells_so c _ h g k = misses_so c true (g true) k
+
+-- what holds of the commit, of sets that are read so far, and of those of a commit that goes on, with the prefixes that it has yet to empty
+pub record Course (w : Script) (P : Commit → Type 0) (F : Sets → Type 0) (X : Sets → List (List ℕ) → Type 0) : Type 0 where
+  pub fetches : (sets : Sets) → length sets < w.tasks → F sets → P (Fetching sets 0)
+  pub clashes : (sets : Sets) (end : CommitEnd) → same_path w (picks_of sets) ≡ Some end → F sets → P (CommitOver end)
+  pub decides : (sets : Sets) → w.tasks ≤ length sets → same_path w (picks_of sets) ≡ None → F sets → X sets (replaced w.committer w.mode w (picks_of sets))
+  pub replaces : (sets : Sets) (p : List ℕ) (ps : List (List ℕ)) → X sets (p ∷ ps) → P (Replacing sets p ps (Listing []) 0)
+  pub completes : (sets : Sets) → X sets [] → P (completing sets (dealt w.lanes (length (all_commits sets))) [])
+
+module _ {w : Script} {P : Commit → Type 0} {F : Sets → Type 0} {X : Sets → List (List ℕ) → Type 0} (c : Course w P F X) where
+  replacing_so : (sets : Sets) (ps : List (List ℕ)) → X sets ps → P (replacing w sets ps)
+  replacing_so sets [] h = c.completes sets h
+  replacing_so sets (p ∷ ps) h = c.replaces sets p ps h
+
+  decided_so : (sets : Sets) (o : Option CommitEnd) → w.tasks ≤ length sets → same_path w (picks_of sets) ≡ o → F sets → P (decided w sets o)
+  decided_so sets (Some end) l e h = c.clashes sets end e h
+  decided_so sets None l e h = replacing_so sets (replaced w.committer w.mode w (picks_of sets)) (c.decides sets l e h)
+
+  pub fetching_so : (sets : Sets) → F sets → P (fetching w sets)
+  fetching_so sets h =
+      either w P (nat_lt (length sets) w.tasks) (Fetching sets 0) (decided w sets (same_path w (picks_of sets)))
+      (λ e. c.fetches sets (below_is (length sets) w.tasks e) h) (λ e. decided_so sets (same_path w (picks_of sets)) (ltb-false (length sets) w.tasks e) refl h)
+
+  pub fetched_so : (sets : Sets) (o : Option PendingSet) → length sets < w.tasks → F sets → ((h : PendingSet) → o ≡ Some h → F (sets ++ h ∷ [])) → P (fetched w sets o)
+  fetched_so sets (Some h) l f g = fetching_so (sets ++ h ∷ []) (g h refl)
+  fetched_so sets None l f g = c.fetches sets l f
+
+  pub swept_so : (sets : Sets) (p : List ℕ) (ps : List (List ℕ)) (o : Option Sweep) → X sets ps → ((s : Sweep) → o ≡ Some s → P (Replacing sets p ps s 0)) → P (swept w sets p ps o)
+  swept_so sets p ps (Some s) h g = g s refl
+  swept_so sets p ps None h g = replacing_so sets ps h

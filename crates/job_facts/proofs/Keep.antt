@@ -1,39 +1,54 @@
 -- How the facts are kept where a scene changes: where it leaves the job alone, where things are taken away, where an object or a file is put at a place, and where an upload changes.
-use Rattle.std.proofs.Common.{◌≡◌, ℕ, suc, ◌<◌, ◌≤◌, inl, inr, ◌&&◌, Bool, true, false, cond, List, slice_get, Option, Some, None, refl, sym, ap, subst, ◌∙◌, arith}
-use Rattle.job_facts.specs.Prelude.{option_map, Scene, Upload, Files, is_part_number, with_part, Object, Place, RecordPlace, SetPlace, TemporaryPlace, StagedSetPlace, key_at, path_at, File, Who, IsLegal, Script, files, Drawn, file_key, file_parts, is_magic, IsIn, HasBucket, Told, at_key, at_place, at_id, sets_at, Leaves, Puts, part_left, end_left, IsHeld, IsOwned, IsRecord, IsOwnPlace, IsSet, Facts}
-use Rattle.job_spec.proofs.Common.{some_is, none_some, false_true, same_or_not, same_or_other, text_true, nat_here, nat_other}
+use Rattle.std.proofs.Common.{◌≡◌, ℕ, suc, ◌<◌, ◌≤◌, inl, inr, ◌&&◌, Bool, true, false, cond, List, slice_get, Option, Some, None, refl, sym, ap, subst, ◌∙◌, arith, zero, ◌⊎◌, nat_eq, [], ◌∷◌, ◌++◌, map, length, take, length-append}
+use Rattle.job_facts.specs.Prelude.{option_map, Scene, Upload, Files, is_part_number, with_part, Object, Place, RecordPlace, SetPlace, TemporaryPlace, StagedSetPlace, key_at, path_at, File, Who, IsLegal, Script, files, Drawn, file_key, file_parts, is_magic, IsIn, HasBucket, Told, at_key, at_place, at_id, sets_at, Leaves, Puts, part_left, end_left, IsHeld, IsOwned, IsRecord, IsOwnPlace, IsSet, Facts, with_files, at_path, is_staging, nat_cmp, Spelled, set_text, put_who, IsKnown, IsWritten, AreCommits, IsTemporary, knowing, Known, Times, Seen, see, Request, Outcome, Slow, RequestLost, tell_attempt, apply, last_by, Hold, entry, tell, is_publishing}
+use Rattle.job_spec.proofs.Common.{some_is, none_some, false_true, same_or_not, same_or_other, text_true, nat_here, nat_other, nat_true, nat_false, in_map, map_in, map-append}
 use Rattle.std.specs.FinMap as fin
 use Rattle.job_facts.specs.Stores.{Turns}
-use Rattle.job_facts.specs.Facts.{Owned}
+use Rattle.job_facts.specs.Facts.{Owned, Ids, Records, Sets, Standing, Temporaries, Kept}
 use Rattle.job_facts.proofs.Placed.{not_both, record_place, own_place, record_magic, set_magic, one_place, key_file, path_below, magic_set, set_same, set_stood, set_object}
 use Rattle.job_facts.proofs.Legal.{small_task}
+use Rattle.s3_types.specs.Tags.{plain_tag}
+use Rattle.job_protocol.specs.Knowledge.{with_part as drawn_part}
+use Rattle.job_facts.proofs.Whose.{same_or_another, who_here, who_other, and_false}
+use Rattle.job_facts.specs.Told.{with_known}
+
+-- ---- what stays
+
+-- where neither the store nor what is live in it changes
+pub facts_so : {w : Script} {minimum : ℕ} (s : Scene) (files : Files) {last more : ℕ → Option ℕ} {m n : Told} → Facts w minimum s last m → let u = with_files s files in
+    Ids (at_id w s.content) s.content.next n.drawn → Owned w minimum (at_id w s.content) n.ended n.undone n.drawn → (is_magic w.committer ≡ true → Records w minimum (at_place w s.content) n.drawn)
+    → Sets w minimum (sets_at w u) more n.publish_sent n.drawn → (n.cleaned ≡ false → Standing w (sets_at w u) more) → (is_staging w.committer ≡ true → Temporaries w minimum (at_path w u) n.put_sent n.drawn) → Kept n.publish_sent n.undone
+    → Facts w minimum u more n
+facts_so s files f ids owned records sets standing temporaries kept =
+    record { there = f.there; least = f.least; ids = ids; owned = owned; below = f.below; records = records; sets = sets; standing = standing; temporaries = temporaries; kept = kept }
+
+-- ids are apart where others are live
+ids_so : {uploads more : ℕ → Option Upload} {next later : ℕ} {drawn : Who → List Drawn} → Ids uploads next drawn → later ≡ next → ((id : ℕ) (x : Upload) → more id ≡ Some x → id < next) → Ids more later drawn
+ids_so {more = more} {drawn = drawn} i same fresh = subst (λ n. Ids more n drawn) (sym same) (record { fresh = fresh; below = i.below; apart = i.apart; once = i.once })
 
 held_same : {w : Script} {minimum : ℕ} {more uploads : ℕ → Option Upload} {d : Drawn} {f : File} → more d.upload ≡ uploads d.upload → IsHeld w minimum uploads d f → IsHeld w minimum more d f
 held_same same h = record { parts = h.parts; stands = same ∙ h.stands; blocks = h.blocks; back = h.back }
 
--- an upload is owned as it was, where what is live of it is
-owned_so : {w : Script} {minimum : ℕ} {uploads more : ℕ → Option Upload} (m : Told) {a : Who} {d : Drawn} → (m.ended d.upload ≡ false → more d.upload ≡ uploads d.upload) → IsOwned w minimum uploads m.ended m.undone a d → IsOwned w minimum more m.ended m.undone a d
-owned_so m same o = record { file = o.file; mine = o.mine; key = o.key; few = o.few; tags = o.tags; sizes = o.sizes; held = λ e u. held_same (same e) (o.held e u) }
+-- an upload is owned as it was, where it is held
+pub owned_by : {w : Script} {minimum : ℕ} {uploads more : ℕ → Option Upload} {ended over : ℕ → Bool} {undone back : Who → Bool} {a : Who} {d : Drawn} → (o : IsOwned w minimum uploads ended undone a d)
+    → (over d.upload ≡ false → back a ≡ false → IsHeld w minimum more d o.file) → IsOwned w minimum more over back a d
+owned_by o held = record { file = o.file; mine = o.mine; key = o.key; few = o.few; tags = o.tags; sizes = o.sizes; held = held }
 
 owned_same : {w : Script} {minimum : ℕ} {uploads more : ℕ → Option Upload} (m : Told) {a : Who} {d : Drawn} → more d.upload ≡ uploads d.upload → IsOwned w minimum uploads m.ended m.undone a d → IsOwned w minimum more m.ended m.undone a d
-owned_same m same o = owned_so m (λ e. same) o
+owned_same m same o = owned_by o (λ e u. held_same same (o.held e u))
 
 -- ---- the scene leaves the job alone
 
-pub leaves_keep : {w : Script} {minimum : ℕ} {s u : Scene} {last : ℕ → Option ℕ} {m : Told} → IsLegal w → Leaves w m.drawn m.ended s u → Facts w minimum s last m → Facts w minimum u last m
-leaves_keep {w = w} {s = s} {u = u} {m = m} j l f =
+-- but for what is live of known uploads
+scene_keep : {w : Script} {minimum : ℕ} {s u : Scene} {last : ℕ → Option ℕ} {m : Told} {ended : ℕ → Bool} → IsLegal w → Leaves w m.drawn ended s u → Owned w minimum (at_id w u.content) m.ended m.undone m.drawn → Facts w minimum s last m → Facts w minimum u last m
+scene_keep {w = w} {s = s} {u = u} {m = m} j l owned f =
     let later : s.content.next ≤ u.content.next = l.later in
     let set : (t : ℕ) → t < w.tasks → sets_at w u t ≡ sets_at w s t = λ t h. set_same w.committer w s u t (l.objects _ (set_magic j t h)) (l.files _ (path_below w (StagedSetPlace t))) in
     record {
       there = l.there;
       least = l.least ∙ f.least;
-      ids = record {
-        fresh = l.fresh;
-        below = λ a x i. let old : x.upload < s.content.next = f.ids.below a x i in omega arith;
-        apart = f.ids.apart;
-        once = f.ids.once;
-      };
-      owned = λ a x i. owned_so m (l.uploads x.upload (a, x, i, refl)) (f.owned a x i);
+      ids = record { fresh = l.fresh; below = λ a x i. let old : x.upload < s.content.next = f.ids.below a x i in omega arith; apart = f.ids.apart; once = f.ids.once };
+      owned = owned;
       below = λ g k x h e. f.below g k x h (sym (l.objects k h) ∙ e);
       records = λ g a h x i e. f.records g a h x i (sym (l.objects _ (record_magic j g a h i)) ∙ e);
       sets = λ t b h e. f.sets t b h (sym (set t h) ∙ e);
@@ -41,6 +56,9 @@ leaves_keep {w = w} {s = s} {u = u} {m = m} j l f =
       temporaries = λ g a b d e. f.temporaries g a b d (sym (l.files _ (path_below w (TemporaryPlace a.task a.attempt))) ∙ e);
       kept = f.kept;
     }
+
+pub leaves_keep : {w : Script} {minimum : ℕ} {s u : Scene} {last : ℕ → Option ℕ} {m : Told} → IsLegal w → Leaves w m.drawn m.ended s u → Facts w minimum s last m → Facts w minimum u last m
+leaves_keep j l f = scene_keep j l (λ a x i. let o = f.owned a x i in owned_by o (λ e u. held_same (l.uploads x.upload (a, x, i, refl) e) (o.held e u))) f
 
 -- ---- things are taken away
 
@@ -59,12 +77,7 @@ drops_keep {w = w} {s = s} {u = u} {m = m} d free f =
     record {
       there = d.there;
       least = d.least ∙ f.least;
-      ids = record {
-        fresh = λ id x e. subst (λ n. id < n) (sym d.next) (f.ids.fresh id x (sym (d.uploads id) ∙ e));
-        below = λ a x i. subst (λ n. x.upload < n) (sym d.next) (f.ids.below a x i);
-        apart = f.ids.apart;
-        once = f.ids.once;
-      };
+      ids = ids_so f.ids d.next (λ id x e. f.ids.fresh id x (sym (d.uploads id) ∙ e));
       owned = λ a x i. owned_same m (d.uploads x.upload) (f.owned a x i);
       below = λ g k x h e. f.below g k x h (d.objects k x e);
       records = λ g a h x i e. f.records g a h x i (d.objects _ x e);
@@ -85,12 +98,7 @@ put_keep {w = w} {minimum = minimum} {s = s} {u = u} {last = last} {more = more}
     record {
       there = puts.there;
       least = puts.least ∙ f.least;
-      ids = record {
-        fresh = λ id y e. subst (λ n. id < n) (sym puts.next) (f.ids.fresh id y (sym (puts.uploads id) ∙ e));
-        below = λ a y i. subst (λ n. y.upload < n) (sym puts.next) (f.ids.below a y i);
-        apart = f.ids.apart;
-        once = f.ids.once;
-      };
+      ids = ids_so f.ids puts.next (λ id y e. f.ids.fresh id y (sym (puts.uploads id) ∙ e));
       owned = λ a y i. owned_same m (puts.uploads y.upload) (f.owned a y i);
       below = λ g k y h e. elim (same_or_other k (key_at w.dest.key w.job p)) [
         | inl is ↦ (p, own, is)
@@ -109,7 +117,9 @@ put_keep {w = w} {minimum = minimum} {s = s} {u = u} {last = last} {more = more}
             let o = set_object (at_place w u.content (SetPlace t)) b (sym (magic_set w.committer w u t magic) ∙ e) in
             let same : x ≡ o.0 = some_is (sym puts.here ∙ ap (at_key w u.content) (sym is) ∙ o.1) in
             subst (λ z. IsSet w minimum more m.publish_sent m.drawn t z) (ap (λ (y : Object). y.bytes) same ∙ o.2) (of_set t h at)
-        | inr ne ↦ set_more t (λ q. ne (ap (key_at w.dest.key w.job) q)) (f.sets t b h (sym (set t ne) ∙ e))
+        | inr ne ↦
+            let old = f.sets t b h (sym (set t ne) ∙ e) in
+            record { by = old.by; task = old.task; number = old.number; latest = others t (λ q. ne (ap (key_at w.dest.key w.job) q)) ∙ old.latest; has_sent = old.has_sent; commits = old.commits; are = old.are; text = old.text }
       ];
       standing = λ c t a h e. elim (same_or_other (key_at w.dest.key w.job (SetPlace t)) (key_at w.dest.key w.job p)) [
         | inl is ↦ (x.bytes, magic_set w.committer w u t magic ∙ ap (option_map (λ o. o.bytes)) (ap (at_key w u.content) is ∙ puts.here))
@@ -124,9 +134,6 @@ put_keep {w = w} {minimum = minimum} {s = s} {u = u} {last = last} {more = more}
     set : (t : ℕ) → (key_at w.dest.key w.job (SetPlace t) ≡ key_at w.dest.key w.job p → ⊥) → sets_at w u t ≡ sets_at w s t
     set t ne = set_same w.committer w s u t (puts.others _ ne) (ap (λ (z : Files). fin.get z (path_at w.job (StagedSetPlace t))) puts.files)
 
-    set_more : (t : ℕ) {b : List ℕ} → (SetPlace t ≡ p → ⊥) → IsSet w minimum last m.publish_sent m.drawn t b → IsSet w minimum more m.publish_sent m.drawn t b
-    set_more t ne old = record { by = old.by; task = old.task; number = old.number; latest = others t ne ∙ old.latest; has_sent = old.has_sent; commits = old.commits; are = old.are; text = old.text }
-
 -- ---- an upload of the job changes
 
 -- the facts but for those on uploads
@@ -134,48 +141,36 @@ turn_keep : {w : Script} {minimum : ℕ} {s u : Scene} {last : ℕ → Option �
     → ((y : Upload) → x ≡ Some y → id < s.content.next)
     → Owned w minimum (at_id w u.content) m.ended m.undone m.drawn
     → Facts w minimum s last m → Facts w minimum u last m
-turn_keep {w = w} {s = s} {u = u} {m = m} {id = id} j t stood owned f =
-    let file : (p : List ℕ) → fin.get u.files p ≡ fin.get s.files p = λ p. ap (λ (z : Files). fin.get z p) t.files in
-    let set : (n : ℕ) → sets_at w u n ≡ sets_at w s n = λ n. set_same w.committer w s u n (t.objects _) (file _) in
-    record {
+turn_keep {w = w} {s = s} {u = u} {id = id} j t stood owned f =
+    let low : (v : ℕ) (y : Upload) → at_id w u.content v ≡ Some y → v < s.content.next = λ v y e. elim (same_or_not v id) [
+      | inl is ↦ subst (λ n. n < s.content.next) (sym is) (stood y (sym t.here ∙ ap (at_id w u.content) (sym is) ∙ e))
+      | inr ne ↦ f.ids.fresh v y (sym (t.others v ne) ∙ e)
+    ] in
+    let later : s.content.next ≤ u.content.next = let same = t.next in omega arith in
+    scene_keep {ended = λ v. true} j (record {
       there = t.there;
-      least = t.least ∙ f.least;
-      ids = record {
-        fresh = λ v y e. subst (λ n. v < n) (sym t.next) (elim (same_or_not v id) [
-          | inl is ↦ subst (λ n. n < s.content.next) (sym is) (stood y (sym t.here ∙ ap (at_id w u.content) (sym is) ∙ e))
-          | inr ne ↦ f.ids.fresh v y (sym (t.others v ne) ∙ e)
-        ]);
-        below = λ a y i. subst (λ n. y.upload < n) (sym t.next) (f.ids.below a y i);
-        apart = f.ids.apart;
-        once = f.ids.once;
-      };
-      owned = owned;
-      below = λ g k y h e. f.below g k y h (sym (t.objects k) ∙ e);
-      records = λ g a h y i e. f.records g a h y i (sym (t.objects _) ∙ e);
-      sets = λ n b h e. f.sets n b h (sym (set n) ∙ e);
-      standing = λ c n a h e. let b = f.standing c n a h e in (b.0, set n ∙ b.1);
-      temporaries = λ g a b d e. f.temporaries g a b d (sym (file _) ∙ e);
-      kept = f.kept;
-    }
+      least = t.least;
+      later = later;
+      objects = λ k b. t.objects k;
+      uploads = λ v k e. absurd cc;
+      fresh = λ v y e. subst (λ n. v < n) (sym t.next) (low v y e);
+      files = λ p b. ap (λ (z : Files). fin.get z p) t.files;
+    }) owned f
 
 -- what a part that is sent leaves of an upload that is held
 part_held : {w : Script} {minimum : ℕ} {uploads more : ℕ → Option Upload} {x : Drawn} {f : File} (i number : ℕ) (bytes : List ℕ) → number ≡ suc i → slice_get (file_parts w minimum f) i ≡ Some bytes
     → more x.upload ≡ part_left x.key number bytes (uploads x.upload) → IsHeld w minimum uploads x f → IsHeld w minimum more x f
-part_held {w = w} {minimum = minimum} {more = more} {x = x} {f = f} i number bytes n block turned h = by (is_part_number number) refl
+part_held {w = w} {minimum = minimum} {more = more} {x = x} {f = f} i number bytes n block turned h =
+    by (is_part_number number)
+    (turned ∙ ap (part_left x.key number bytes) h.stands ∙ ap (λ b. cond (b && is_part_number number) (Some (with_part (record { key = x.key; parts = h.parts }) number bytes)) (Some (record { key = x.key; parts = h.parts }))) (text_true x.key x.key refl))
   where
-    stands : more x.upload ≡ cond (is_part_number number) (Some (with_part (record { key = x.key; parts = h.parts }) number bytes)) (Some (record { key = x.key; parts = h.parts }))
-    stands = turned ∙ ap (part_left x.key number bytes) h.stands ∙ ap (λ b. cond (b && is_part_number number) (Some (with_part (record { key = x.key; parts = h.parts }) number bytes)) (Some (record { key = x.key; parts = h.parts }))) (text_true x.key x.key refl)
-
-    block_here : (k : ℕ) (b : List ℕ) → k ≡ number → fin.get (fin.insert h.parts number bytes) k ≡ Some b → slice_get (file_parts w minimum f) i ≡ Some b
-    block_here k b is e = block ∙ sym (nat_here h.parts number k bytes is) ∙ e
-
-    by : (b : Bool) → is_part_number number ≡ b → IsHeld w minimum more x f
-    by false e = record { parts = h.parts; stands = stands ∙ ap (λ b. cond b (Some (with_part (record { key = x.key; parts = h.parts }) number bytes)) (Some (record { key = x.key; parts = h.parts }))) e; blocks = h.blocks; back = h.back }
+    by : (b : Bool) → more x.upload ≡ cond b (Some (with_part (record { key = x.key; parts = h.parts }) number bytes)) (Some (record { key = x.key; parts = h.parts })) → IsHeld w minimum more x f
+    by false e = record { parts = h.parts; stands = e; blocks = h.blocks; back = h.back }
     by true e = record {
       parts = fin.insert h.parts number bytes;
-      stands = stands ∙ ap (λ b. cond b (Some (with_part (record { key = x.key; parts = h.parts }) number bytes)) (Some (record { key = x.key; parts = h.parts }))) e;
+      stands = e;
       blocks = λ k b g. elim (same_or_not k number) [
-        | inl is ↦ (i, is ∙ n, block_here k b is g)
+        | inl is ↦ (i, is ∙ n, block ∙ sym (nat_here h.parts number k bytes is) ∙ g)
         | inr ne ↦ h.blocks k b (sym (nat_other h.parts number k bytes ne) ∙ g)
       ];
       back = λ k l. elim (same_or_not (suc k) number) [
@@ -196,23 +191,15 @@ part_keep {w = w} {minimum = minimum} {s = s} {u = u} {m = m} j a x g i number b
     turn_keep j t (λ y e. let z = part_stood x.key number bytes (at_id w s.content x.upload) y e in f.ids.fresh x.upload z.0 z.1)
     (λ b y k.
     let o = f.owned b y k in
-    record {
-      file = o.file;
-      mine = o.mine;
-      key = o.key;
-      few = o.few;
-      tags = o.tags;
-      sizes = o.sizes;
-      held = λ e r. elim (same_or_not y.upload x.upload) [
-        | inl is ↦
-            let who = f.ids.apart b a y x k known is in
-            let same : o.file ≡ g = key_file j a o.file g (subst (λ v. IsIn o.file (files w v)) who.0 o.mine) mine (sym o.key ∙ ap (λ (v : Drawn). v.key) who.1 ∙ key) in
-            let old : IsHeld w minimum (at_id w s.content) x o.file = subst (λ v. IsHeld w minimum (at_id w s.content) v o.file) who.1 (o.held e r) in
-            let at : slice_get (file_parts w minimum o.file) i ≡ Some bytes = ap (λ v. slice_get (file_parts w minimum v) i) same ∙ block in
-            subst (λ v. IsHeld w minimum (at_id w u.content) v o.file) (sym who.1) (part_held i number bytes n at t.here old)
-        | inr ne ↦ held_same (t.others y.upload ne) (o.held e r)
-      ];
-    }) f
+    owned_by o (λ e r. elim (same_or_not y.upload x.upload) [
+      | inl is ↦
+          let who = f.ids.apart b a y x k known is in
+          let same : o.file ≡ g = key_file j a o.file g (subst (λ v. IsIn o.file (files w v)) who.0 o.mine) mine (sym o.key ∙ ap (λ (v : Drawn). v.key) who.1 ∙ key) in
+          let old : IsHeld w minimum (at_id w s.content) x o.file = subst (λ v. IsHeld w minimum (at_id w s.content) v o.file) who.1 (o.held e r) in
+          let at : slice_get (file_parts w minimum o.file) i ≡ Some bytes = ap (λ v. slice_get (file_parts w minimum v) i) same ∙ block in
+          subst (λ v. IsHeld w minimum (at_id w u.content) v o.file) (sym who.1) (part_held i number bytes n at t.here old)
+      | inr ne ↦ held_same (t.others y.upload ne) (o.held e r)
+    ])) f
 
 -- an attempt that takes back what it did ends an upload of its own
 pub abort_keep : {w : Script} {minimum : ℕ} {s u : Scene} {last : ℕ → Option ℕ} {m : Told} → IsLegal w → (a : Who) (x : Drawn)
@@ -222,15 +209,281 @@ abort_keep {w = w} {minimum = minimum} {s = s} {u = u} {m = m} j a x known over 
     turn_keep j t (λ y e. f.ids.below a x known)
     (λ b y k.
     let o = f.owned b y k in
+    owned_by o (λ e r. elim (same_or_not y.upload x.upload) [
+      | inl is ↦ let who = f.ids.apart b a y x k known is in absurd (false_true r (ap m.undone who.0 ∙ over))
+      | inr ne ↦ held_same (t.others y.upload ne) (o.held e r)
+    ])) f
+
+-- ---- where the scene stays: what an attempt has sent, and what it learns
+
+-- ---- what an attempt has sent
+
+more_true : (f : Who → Bool) (a b : Who) → f b ≡ true → put_who f a true b ≡ true
+more_true f a b e = elim (same_or_another b a) [ inl is ↦ who_here f a true b is | inr ne ↦ who_other f a true b ne ∙ e ]
+
+-- its publishing request, where it has taken nothing back
+pub sends_publish : {w : Script} {minimum : ℕ} {s : Scene} {last : ℕ → Option ℕ} {m : Told} (a : Who) → m.undone a ≡ false → Facts w minimum s last m → Facts w minimum s last (record m { publish_sent = put_who m.publish_sent a true })
+sends_publish {s = s} {m = m} a none f =
+    facts_so s s.files f f.ids f.owned f.records
+    (λ t b h e. let old = f.sets t b h e in record { by = old.by; task = old.task; number = old.number; latest = old.latest; has_sent = more_true m.publish_sent a old.by old.has_sent; commits = old.commits; are = old.are; text = old.text })
+    f.standing f.temporaries (λ b e. elim (same_or_another b a) [ inl is ↦ ap m.undone is ∙ none | inr ne ↦ f.kept b (sym (who_other m.publish_sent a true b ne) ∙ e) ])
+
+-- the put of its temporary file
+pub sends_put : {w : Script} {minimum : ℕ} {s : Scene} {last : ℕ → Option ℕ} {m : Told} (a : Who) → Facts w minimum s last m → Facts w minimum s last (record m { put_sent = put_who m.put_sent a true })
+sends_put {s = s} {m = m} a f =
+    facts_so s s.files f f.ids f.owned f.records f.sets f.standing
+    (λ g b bytes d e. let old = f.temporaries g b bytes d e in record { has_put = more_true m.put_sent a b old.has_put; are = old.are; text = old.text }) f.kept
+
+-- an abort or a deletion, before its publishing request
+pub sends_undo : {w : Script} {minimum : ℕ} {s : Scene} {last : ℕ → Option ℕ} {m : Told} (a : Who) → m.publish_sent a ≡ false → Facts w minimum s last m → Facts w minimum s last (record m { undone = put_who m.undone a true })
+sends_undo {s = s} {m = m} a unsent f =
+    facts_so s s.files f f.ids
+    (λ b x i. let o = f.owned b x i in owned_by o (λ e r. elim (same_or_another b a) [ inl is ↦ absurd (false_true r (who_here m.undone a true b is)) | inr ne ↦ o.held e (sym (who_other m.undone a true b ne) ∙ r) ]))
+    f.records f.sets f.standing f.temporaries
+    (λ b e. elim (same_or_another b a) [ inl is ↦ absurd (false_true unsent (ap m.publish_sent (sym is) ∙ e)) | inr ne ↦ who_other m.undone a true b ne ∙ f.kept b e ])
+
+-- ---- what an attempt learns
+
+-- a set depends on what its own attempt knows alone
+set_known : {w : Script} {minimum : ℕ} {last : ℕ → Option ℕ} {sent : Who → Bool} {drawn more : Who → List Drawn} {t : ℕ} {bytes : List ℕ} → ((b : Who) → sent b ≡ true → drawn b ≡ more b) → IsSet w minimum last sent drawn t bytes → IsSet w minimum last sent more t bytes
+set_known {w = w} {minimum = minimum} same s =
+    let e = same s.by s.has_sent in
     record {
-      file = o.file;
-      mine = o.mine;
-      key = o.key;
-      few = o.few;
-      tags = o.tags;
-      sizes = o.sizes;
-      held = λ e r. elim (same_or_not y.upload x.upload) [
-        | inl is ↦ let who = f.ids.apart b a y x k known is in absurd (false_true r (ap m.undone who.0 ∙ over))
-        | inr ne ↦ held_same (t.others y.upload ne) (o.held e r)
+      by = s.by;
+      task = s.task;
+      number = s.number;
+      latest = s.latest;
+      has_sent = s.has_sent;
+      commits = s.commits;
+      are = subst (λ k. AreCommits w minimum k s.by s.commits) e s.are;
+      text = s.text ∙ ap (λ k. set_text w s.by s.commits (knowing k)) e;
+    }
+
+temporary_known : {w : Script} {minimum : ℕ} {put : Bool} {ds more : List Drawn} {a : Who} {bytes : List ℕ} → (put ≡ true → ds ≡ more) → IsTemporary w minimum put ds a bytes → IsTemporary w minimum put more a bytes
+temporary_known {w = w} {minimum = minimum} {a = a} same t =
+    let e = same t.has_put in
+    record {
+      has_put = t.has_put;
+      are = subst (λ k. AreCommits w minimum k a (files w a)) e t.are;
+      text = t.text ∙ ap (λ k. set_text w a (files w a) (knowing k)) e;
+    }
+
+-- what another attempt knows, and who has sent something that this one has not, stays
+known_still : (drawn : Who → List Drawn) (flag : Who → Bool) (a : Who) (ds : List Drawn) → flag a ≡ false → (b : Who) → flag b ≡ true → drawn b ≡ put_who drawn a ds b
+known_still drawn flag a ds none b e = elim (same_or_another b a) [ inl is ↦ absurd (false_true none (ap flag (sym is) ∙ e)) | inr ne ↦ sym (who_other drawn a ds b ne) ]
+
+-- what an attempt learns of its uploads leaves what is published and what is written
+learns_keep : {w : Script} {minimum : ℕ} {s : Scene} {last : ℕ → Option ℕ} {m : Told} (a : Who) (ds : List Drawn) → m.publish_sent a ≡ false → m.put_sent a ≡ false → let drawn = put_who m.drawn a ds in
+    Ids (at_id w s.content) s.content.next drawn → Owned w minimum (at_id w s.content) m.ended m.undone drawn → ((b : Who) (f : File) → IsIn f (files w b) → (r : IsWritten w minimum (m.drawn b) f) → IsIn r.drawn (drawn b))
+    → Facts w minimum s last m → Facts w minimum s last (record m { drawn = drawn })
+learns_keep {s = s} {m = m} a ds unsent unput ids owned known f =
+    facts_so s s.files f ids owned
+    (λ q b h x i e. let r = f.records q b h x i e in record { written = record { drawn = r.written.drawn; known = known b h i r.written; key = r.written.key; complete = r.written.complete }; bytes = r.bytes })
+    (λ t b h e. set_known (known_still m.drawn m.publish_sent a ds unsent) (f.sets t b h e)) f.standing (λ q b bytes d e. temporary_known (known_still m.drawn m.put_sent a ds unput b) (f.temporaries q b bytes d e)) f.kept
+
+-- what holds of an attempt's new value where it held of its old one, and of others', holds of all
+put_all : {X : Type 0} (P : X → Type 0) (f : Who → X) (a : Who) (v : X) → (P (f a) → P v) → (b : Who) → P (f b) → P (put_who f a v b)
+put_all P f a v h b x = elim (same_or_another b a) [ inl is ↦ subst P (sym (who_here f a v b is)) (h (subst (λ c. P (f c)) is x)) | inr ne ↦ subst P (sym (who_other f a v b ne)) x ]
+
+-- a new upload, which nobody knows and which has no part
+abbrev pub new_drawn : List ℕ → ℕ → Drawn
+new_drawn key id = record { key = key; upload = id; tags = []; sizes = [] }
+
+pub learn_upload_keep : {w : Script} {minimum : ℕ} {s : Scene} {last : ℕ → Option ℕ} {m : Told} (a : Who) (f : File) (id : ℕ)
+    → IsIn f (files w a) → m.publish_sent a ≡ false → m.put_sent a ≡ false → ((d : Drawn) → IsIn d (m.drawn a) → d.key ≡ file_key w f → ⊥)
+    → id < s.content.next → (IsKnown m.drawn id → ⊥) → at_id w s.content id ≡ Some (record { key = file_key w f; parts = fin.empty })
+    → Facts w minimum s last m → Facts w minimum s last (record m { drawn = put_who m.drawn a (new_drawn (file_key w f) id ∷ m.drawn a) })
+learn_upload_keep {w = w} {minimum = minimum} {s = s} {m = m} a g id mine unsent unput fresh_key low unknown stands f =
+    learns_keep a (new_drawn (file_key w g) id ∷ m.drawn a) unsent unput
+    (record {
+      fresh = f.ids.fresh;
+      below = λ b d i. elim (told b d i) [ inl new ↦ subst (λ n. n < s.content.next) (sym (ap (λ (v : Drawn). v.upload) new.1)) low | inr old ↦ f.ids.below b d old ];
+      apart = λ b v d e i k same. elim (told b d i) [
+        | inl new ↦ elim (told v e k) [
+          | inl also ↦ (new.0 ∙ sym also.0, new.1 ∙ sym also.1)
+          | inr old ↦ absurd (unknown (v, e, old, sym same ∙ ap (λ (x : Drawn). x.upload) new.1))
+        ]
+        | inr was ↦ elim (told v e k) [
+          | inl also ↦ absurd (unknown (b, d, was, same ∙ ap (λ (x : Drawn). x.upload) also.1))
+          | inr old ↦ f.ids.apart b v d e was old same
+        ]
       ];
-    }) f
+      once = λ b d e i k same. elim (told b d i) [
+        | inl new ↦ elim (told b e k) [
+          | inl also ↦ new.1 ∙ sym also.1
+          | inr old ↦ absurd (fresh_key e (subst (λ v. IsIn e (m.drawn v)) new.0 old) (sym same ∙ ap (λ (x : Drawn). x.key) new.1))
+        ]
+        | inr was ↦ elim (told b e k) [
+          | inl also ↦ absurd (fresh_key d (subst (λ v. IsIn d (m.drawn v)) also.0 was) (same ∙ ap (λ (x : Drawn). x.key) also.1))
+          | inr old ↦ f.ids.once b d e was old same
+        ]
+      ];
+    })
+    (λ b d i. elim (told b d i) [
+      | inl new ↦
+          let P : Drawn → Type 0 = λ v. IsOwned w minimum (at_id w s.content) m.ended m.undone b v in
+          subst P (sym new.1) (record { file = g; mine = subst (λ v. IsIn g (files w v)) (sym new.0) mine; key = refl; few = omega arith; tags = refl; sizes = refl; held = λ e r. empty_held })
+      | inr old ↦ f.owned b d old
+    ])
+    (λ b h i r. put_all (IsIn r.drawn) m.drawn a (new_drawn (file_key w g) id ∷ m.drawn a) (λ k. inr k) b r.known) f
+  where
+    told : (b : Who) (d : Drawn) → IsIn d (put_who m.drawn a (new_drawn (file_key w g) id ∷ m.drawn a) b) → ((b ≡ a) × (d ≡ new_drawn (file_key w g) id)) ⊎ IsIn d (m.drawn b)
+    told b d i = elim (same_or_another b a) [
+      | inl is ↦ elim (subst (λ (k : List Drawn). IsIn d k) (who_here m.drawn a (new_drawn (file_key w g) id ∷ m.drawn a) b is) i) [
+        | inl e ↦ inl (is, e)
+        | inr old ↦ inr (subst (λ v. IsIn d (m.drawn v)) (sym is) old)
+      ]
+      | inr ne ↦ inr (subst (λ (k : List Drawn). IsIn d k) (who_other m.drawn a (new_drawn (file_key w g) id ∷ m.drawn a) b ne) i)
+    ]
+
+    empty_held : IsHeld w minimum (at_id w s.content) (new_drawn (file_key w g) id) g
+    empty_held = record {
+      parts = fin.empty;
+      stands = stands;
+      blocks = λ n b e. absurd (none_some (fin.get-empty nat_cmp n) e);
+      back = λ i l. absurd (omega arith);
+    }
+
+-- ---- a part that came back
+
+abbrev pub one_more : Spelled → ℕ → Drawn → Drawn
+one_more tag size d = record { key = d.key; upload = d.upload; tags = d.tags ++ tag ∷ []; sizes = d.sizes ++ size ∷ [] }
+
+pub part_upload : (id : ℕ) (tag : Spelled) (size : ℕ) (d : Drawn) → ((drawn_part id tag size d).upload ≡ d.upload) × ((drawn_part id tag size d).key ≡ d.key)
+part_upload id tag size d = elim (nat_eq d.upload id) as (λ b. let e = cond b (one_more tag size d) d in (e.upload ≡ d.upload) × (e.key ≡ d.key)) [ true ↦ (refl, refl) | false ↦ (refl, refl) ]
+
+pub part_other : (id : ℕ) (tag : Spelled) (size : ℕ) (d : Drawn) → (d.upload ≡ id → ⊥) → drawn_part id tag size d ≡ d
+part_other id tag size d ne = ap (λ b. cond b (one_more tag size d) d) (nat_false d.upload id ne)
+
+pub part_here : (id : ℕ) (tag : Spelled) (size : ℕ) (d : Drawn) → d.upload ≡ id → drawn_part id tag size d ≡ one_more tag size d
+part_here id tag size d is = ap (λ b. cond b (one_more tag size d) d) (nat_true d.upload id is)
+
+-- the first blocks and the next one
+take_next : (n : ℕ) (xs : List (List ℕ)) (b : List ℕ) → slice_get xs n ≡ Some b → take (suc n) xs ≡ take n xs ++ b ∷ []
+take_next n [] b e = absurd (none_some refl e)
+take_next zero (x ∷ xs) b e = ap (λ y. y ∷ []) (some_is e)
+take_next (suc n) (x ∷ xs) b e = ap (λ l. x ∷ l) (take_next n xs b e)
+
+next_of : {Y : Type 0} (g : List ℕ → Y) (ys : List Y) (y : Y) (xs : List (List ℕ)) (b : List ℕ) (n : ℕ) → ys ≡ map g (take n xs) → slice_get xs n ≡ Some b → y ≡ g b → ys ++ y ∷ [] ≡ map g (take (suc n) xs)
+next_of g ys y xs b n e at is = ap (λ l. l ++ y ∷ []) e ∙ ap (λ v. map g (take n xs) ++ v ∷ []) is ∙ sym (ap (map g) (take_next n xs b at) ∙ map-append g (take n xs) (b ∷ []))
+
+pub longer : (tags : List Spelled) (tag : Spelled) → length (tags ++ tag ∷ []) ≡ suc (length tags)
+longer tags tag = length-append tags (tag ∷ []) ∙ omega arith
+
+pub learn_part_keep : {w : Script} {minimum : ℕ} {s : Scene} {last : ℕ → Option ℕ} {m : Told} → IsLegal w → (a : Who) (x : Drawn) (f : File) (bytes : List ℕ) (tag : Spelled)
+    → IsIn x (m.drawn a) → IsIn f (files w a) → x.key ≡ file_key w f → m.publish_sent a ≡ false → m.put_sent a ≡ false → slice_get (file_parts w minimum f) (length x.tags) ≡ Some bytes → length x.tags < length (file_parts w minimum f)
+    → tag ≡ plain_tag bytes
+    → ((u : Upload) → at_id w s.content x.upload ≡ Some u → fin.get u.parts (suc (length x.tags)) ≡ Some bytes)
+    → Facts w minimum s last m → Facts w minimum s last (record m { drawn = put_who m.drawn a (map (drawn_part x.upload tag (length bytes)) (m.drawn a)) })
+learn_part_keep {w = w} {minimum = minimum} {s = s} {m = m} j a x g bytes tag known mine key unsent unput block few is_plain part f =
+    learns_keep a (map (drawn_part x.upload tag (length bytes)) (m.drawn a)) unsent unput
+    (record {
+      fresh = f.ids.fresh;
+      below = λ b d i. let o = origin b d i in subst (λ n. n < s.content.next) (sym (up b d o).0) (f.ids.below b o.0 o.1);
+      apart = λ b v d e i k same.
+          let o = origin b d i in
+          let p = origin v e k in
+          let both = f.ids.apart b v o.0 p.0 o.1 p.1 (sym (up b d o).0 ∙ same ∙ (up v e p).0) in
+          (both.0, o.2 ∙ ap learnt both.1 ∙ sym p.2);
+      once = λ b d e i k same.
+          let o = origin b d i in
+          let p = origin b e k in
+          o.2 ∙ ap learnt (f.ids.once b o.0 p.0 o.1 p.1 (sym (up b d o).1 ∙ same ∙ (up b e p).1)) ∙ sym p.2;
+    })
+    (λ b d i.
+    let o = origin b d i in
+    let P : Drawn → Type 0 = λ v. IsOwned w minimum (at_id w s.content) m.ended m.undone b v in
+    subst P (sym o.2) (owns b o.0 o.1))
+    kept f
+  where
+    learnt : Drawn → Drawn
+    learnt d = drawn_part x.upload tag (length bytes) d
+
+    -- what another attempt knows has no part more
+    other : (b : Who) → (b ≡ a → ⊥) → (d : Drawn) → IsIn d (m.drawn b) → drawn_part x.upload tag (length bytes) d ≡ d
+    other b ne d i = part_other x.upload tag (length bytes) d (λ e. ne (f.ids.apart b a d x i known e).0)
+
+    origin : (b : Who) (d : Drawn) → IsIn d (put_who m.drawn a (map (drawn_part x.upload tag (length bytes)) (m.drawn a)) b) → (o : Drawn) × IsIn o (m.drawn b) × (d ≡ drawn_part x.upload tag (length bytes) o)
+    origin b d i = elim (same_or_another b a) [
+      | inl is ↦
+          let o = in_map (drawn_part x.upload tag (length bytes)) d (m.drawn a) (subst (λ (k : List Drawn). IsIn d k) (who_here m.drawn a (map (drawn_part x.upload tag (length bytes)) (m.drawn a)) b is) i) in
+          (o.0, subst (λ v. IsIn o.0 (m.drawn v)) (sym is) o.1, o.2)
+      | inr ne ↦
+          let old = subst (λ (k : List Drawn). IsIn d k) (who_other m.drawn a (map (drawn_part x.upload tag (length bytes)) (m.drawn a)) b ne) i in
+          (d, old, sym (other b ne d old))
+    ]
+
+    up : (b : Who) (d : Drawn) → (o : (o : Drawn) × IsIn o (m.drawn b) × (d ≡ drawn_part x.upload tag (length bytes) o)) → (d.upload ≡ o.0.upload) × (d.key ≡ o.0.key)
+    up b d o = let p = part_upload x.upload tag (length bytes) o.0 in (ap (λ (v : Drawn). v.upload) o.2 ∙ p.0, ap (λ (v : Drawn). v.key) o.2 ∙ p.1)
+
+    -- the upload itself has one part more
+    grows : IsOwned w minimum (at_id w s.content) m.ended m.undone a x → IsOwned w minimum (at_id w s.content) m.ended m.undone a (one_more tag (length bytes) x)
+    grows o =
+        let same : o.file ≡ g = key_file j a o.file g o.mine mine (sym o.key ∙ key) in
+        let at : slice_get (file_parts w minimum o.file) (length x.tags) ≡ Some bytes = ap (λ v. slice_get (file_parts w minimum v) (length x.tags)) same ∙ block in
+        let long : length x.tags < length (file_parts w minimum o.file) = subst (λ v. length x.tags < length (file_parts w minimum v)) (sym same) few in
+        let more : length (x.tags ++ tag ∷ []) ≡ suc (length x.tags) = longer x.tags tag in
+        record {
+          file = o.file;
+          mine = o.mine;
+          key = o.key;
+          few = subst (λ n. n ≤ length (file_parts w minimum o.file)) (sym more) (omega arith);
+          tags = next_of plain_tag x.tags tag (file_parts w minimum o.file) bytes (length x.tags) o.tags at is_plain ∙ ap (λ n. map plain_tag (take n (file_parts w minimum o.file))) (sym more);
+          sizes = next_of length x.sizes (length bytes) (file_parts w minimum o.file) bytes (length x.tags) o.sizes at refl ∙ ap (λ n. map length (take n (file_parts w minimum o.file))) (sym more);
+          held = λ e r. let h = o.held e r in record {
+            parts = h.parts;
+            stands = h.stands;
+            blocks = h.blocks;
+            back = λ n l. elim (same_or_not n (length x.tags)) [
+              | inl last ↦ (bytes, ap (λ v. fin.get h.parts (suc v)) last ∙ part (record { key = x.key; parts = h.parts }) h.stands)
+              | inr ne ↦ h.back n (let l2 : n < suc (length x.tags) = subst (λ v. n < v) more l in omega arith)
+            ];
+          };
+        }
+
+    owns : (b : Who) (d : Drawn) → IsIn d (m.drawn b) → IsOwned w minimum (at_id w s.content) m.ended m.undone b (drawn_part x.upload tag (length bytes) d)
+    owns b d i =
+        let P : Who → Drawn → Type 0 = λ c v. IsOwned w minimum (at_id w s.content) m.ended m.undone c v in
+        elim (same_or_not d.upload x.upload) [
+          | inr ne ↦ subst (P b) (sym (part_other x.upload tag (length bytes) d ne)) (f.owned b d i)
+          | inl is ↦
+              let both = f.ids.apart b a d x i known is in
+              let grown = subst (P a) (sym (part_here x.upload tag (length bytes) x refl)) (grows (f.owned a x known)) in
+              subst (λ c. P c (learnt d)) (sym both.0) (subst (λ v. P a (learnt v)) (sym both.1) grown)
+        ]
+
+    -- a file that is written has no part more
+    whole : (b : Who) (h : File) → IsIn h (files w b) → (r : IsWritten w minimum (m.drawn b) h) → r.drawn.upload ≡ x.upload → ⊥
+    whole b h i r is =
+        let both = f.ids.apart b a r.drawn x r.known known is in
+        let same : h ≡ g = key_file j a h g (subst (λ v. IsIn h (files w v)) both.0 i) mine (sym r.key ∙ ap (λ (v : Drawn). v.key) both.1 ∙ key) in
+        let all : length x.tags ≡ length (file_parts w minimum g) = ap (λ (v : Drawn). length v.tags) (sym both.1) ∙ r.complete ∙ ap (λ v. length (file_parts w minimum v)) same in
+        absurd (omega arith)
+
+    kept : (b : Who) (h : File) → IsIn h (files w b) → (r : IsWritten w minimum (m.drawn b) h) → IsIn r.drawn (put_who m.drawn a (map (drawn_part x.upload tag (length bytes)) (m.drawn a)) b)
+    kept b h i r = put_all (IsIn r.drawn) m.drawn a (map (drawn_part x.upload tag (length bytes)) (m.drawn a))
+        (λ k. subst (λ v. IsIn v (map (drawn_part x.upload tag (length bytes)) (m.drawn a))) (part_other x.upload tag (length bytes) r.drawn (whole b h i r)) (map_in (drawn_part x.upload tag (length bytes)) r.drawn (m.drawn a) k)) b r.known
+
+-- ---- an entry of an attempt
+
+-- what is told then, by what it says of the attempt
+pub told_is : (m : Told) (a : Who) (k : Known) (u : Bool) {drawn : Who → List Drawn} {put publish undone : Who → Bool} → put_who m.drawn a k.drawn ≡ drawn → put_who m.put_sent a k.put_sent ≡ put → put_who m.publish_sent a k.publish_sent ≡ publish
+    → put_who m.undone a u ≡ undone → with_known m a k u ≡ record { drawn = drawn; put_sent = put; publish_sent = publish; undone = undone; ended = m.ended; cleaned = m.cleaned; cleans_at = m.cleans_at }
+told_is m a k u d p s v = λ i. record { drawn = d i; put_sent = p i; publish_sent = s i; undone = v i; ended = m.ended; cleaned = m.cleaned; cleans_at = m.cleans_at }
+
+-- the last publishers, where it published nothing
+pub last_if : (task attempt : ℕ) (last : ℕ → Option ℕ) (b : Bool) → b ≡ false → (λ t. cond (nat_eq t task && b) (Some attempt) (last t)) ≡ last
+last_if task attempt last b e = λ i t. (ap (λ v. cond (nat_eq t task && v) (Some attempt) (last t)) e ∙ ap (λ v. cond v (Some attempt) (last t)) (and_false (nat_eq t task))) i
+
+-- it is enough to see to what is told, and to its effect
+module _ (w : Script) (minimum : ℕ) (k : Times) (s : Seen) (m : Told) (a : Who) (n : ℕ) (r : Request) where
+  pub attempt_by : (o : Outcome) (t : Told) → tell_attempt w m a r o ≡ t → Facts w minimum s.scene s.last t → Facts w minimum (apply s.scene r) (last_by w s.scene s.last a.task a.attempt r) t
+      → Hold w minimum (see w k s (entry a n r o)) (tell w m (entry a n r o))
+  attempt_by Slow t e idle acts = subst (Facts w minimum s.scene s.last) (sym e) idle
+  attempt_by RequestLost t e idle acts = subst (Facts w minimum s.scene s.last) (sym e) idle
+  attempt_by _ t e idle acts = subst (Facts w minimum (apply s.scene r) (last_by w s.scene s.last a.task a.attempt r)) (sym e) acts
+
+  -- where it does not publish
+  pub attempt_plain : is_publishing w s.scene a.task r ≡ false → (o : Outcome) (t : Told) → tell_attempt w m a r o ≡ t → Facts w minimum s.scene s.last t → Facts w minimum (apply s.scene r) s.last t
+      → Hold w minimum (see w k s (entry a n r o)) (tell w m (entry a n r o))
+  attempt_plain none o t e idle acts = attempt_by o t e idle (subst (λ l. Facts w minimum (apply s.scene r) l t) (sym (last_if a.task a.attempt s.last _ none)) acts)

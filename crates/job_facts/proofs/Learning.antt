@@ -1,19 +1,12 @@
 -- What an attempt learns from an entry of its own: an upload that it has begun, or more parts of one that it knows.
-use Rattle.std.proofs.Common.{◌≡◌, ℕ, ◌≤◌, ◌⊎◌, inl, inr, nat_eq, Bool, true, false, cond, List, [], ◌∷◌, ◌++◌, length, Option, Some, None, refl, sym, ap, subst, ◌∙◌, arith}
-use Rattle.job_facts.specs.Prelude.{BucketContent, Scene, Spelled, answer, answer_at, IsHonestOutcome, Request, CreateUpload, UploadPart, PutObject, ClusterPut, ClusterRename, Part, Outcome, Answered, Who, Script, Drawn, learn, IsIn, Told, known, tell_attempt, IsKnown}
+use Rattle.std.proofs.Common.{◌≡◌, ℕ, ◌≤◌, ◌⊎◌, inl, inr, List, length, Some, None, refl, sym, ap, subst, ◌∙◌, arith}
+use Rattle.job_facts.specs.Prelude.{Scene, answer, answer_at, IsHonestOutcome, Request, CreateUpload, UploadPart, Part, Outcome, Answered, Who, Script, Drawn, learn, IsIn, Told, known, tell_attempt, IsKnown}
 use Rattle.job_spec.proofs.Common.{map_in, in_map}
 use Rattle.std.specs.FinMap as fin
 use Rattle.s3_types.specs.declared.reply.Reply.TheVariants.{Upload as DrawnUpload}
 use Rattle.job_protocol.specs.Knowledge.{with_part}
 use Rattle.job_facts.proofs.Whose.{same_or_another, who_here, who_other}
-
--- a part leaves the upload's id and its key
-same_upload : (id : ℕ) (tag : Spelled) (size : ℕ) (e : Drawn) → ((with_part id tag size e).upload ≡ e.upload) × ((with_part id tag size e).key ≡ e.key)
-same_upload id tag size e = by (nat_eq e.upload id)
-  where
-    by : (b : Bool) → ((cond b (record { key = e.key; upload = e.upload; tags = e.tags ++ tag ∷ []; sizes = e.sizes ++ size ∷ [] }) e).upload ≡ e.upload) × ((cond b (record { key = e.key; upload = e.upload; tags = e.tags ++ tag ∷ []; sizes = e.sizes ++ size ∷ [] }) e).key ≡ e.key)
-    by true = (refl, refl)
-    by false = (refl, refl)
+use Rattle.job_facts.proofs.Keep.{part_upload}
 
 -- these know an upload of this id and this key
 abbrev pub Knows : List Drawn → Drawn → Type 0
@@ -38,14 +31,7 @@ module _ (w : Script) (m : Told) (a : Who) (r : Request) (o : Outcome) (b : Who)
     where
       learns : (r : Request) (o : Outcome) → IsIn d (m.drawn a) → Knows (learn w a (known m a) r o).drawn d
       learns (CreateUpload bucket key) (Answered (DrawnUpload id)) i = (d, inr i, refl, refl)
-      learns (UploadPart bucket key id number bytes) (Answered (Part tag)) i = let s = same_upload id tag (length bytes) d in (with_part id tag (length bytes) d, map_in (with_part id tag (length bytes)) d (m.drawn a) i, s.0, s.1)
-      learns (CreateUpload bucket key) (Answered _) i = (d, i, refl, refl)
-      learns (CreateUpload bucket key) _ i = (d, i, refl, refl)
-      learns (UploadPart bucket key id number bytes) (Answered _) i = (d, i, refl, refl)
-      learns (UploadPart bucket key id number bytes) _ i = (d, i, refl, refl)
-      learns (PutObject bucket key bytes header) o i = (d, i, refl, refl)
-      learns (ClusterPut path bytes) o i = (d, i, refl, refl)
-      learns (ClusterRename source target) o i = (d, i, refl, refl)
+      learns (UploadPart bucket key id number bytes) (Answered (Part tag)) i = let s = part_upload id tag (length bytes) d in (with_part id tag (length bytes) d, map_in (with_part id tag (length bytes)) d (m.drawn a) i, s.0, s.1)
       learns _ o i = (d, i, refl, refl)
 
   -- and what is known was, or was begun just now
@@ -63,24 +49,14 @@ module _ (w : Script) (m : Told) (a : Who) (r : Request) (o : Outcome) (b : Who)
       learns (CreateUpload n k) (Answered (DrawnUpload u)) (inr i) = inl (d, i, refl, refl)
       learns (UploadPart n k u number bytes) (Answered (Part tag)) i =
           let x = in_map (with_part u tag (length bytes)) d (m.drawn a) i in
-          let s = same_upload u tag (length bytes) x.0 in
+          let s = part_upload u tag (length bytes) x.0 in
           inl (x.0, x.1, sym s.0 ∙ ap (λ (c : Drawn). c.upload) (sym x.2), sym s.1 ∙ ap (λ (c : Drawn). c.key) (sym x.2))
-      learns (CreateUpload n k) (Answered _) i = inl (d, i, refl, refl)
-      learns (CreateUpload n k) _ i = inl (d, i, refl, refl)
-      learns (UploadPart n k u number bytes) (Answered _) i = inl (d, i, refl, refl)
-      learns (UploadPart n k u number bytes) _ i = inl (d, i, refl, refl)
-      learns (PutObject n k bytes header) o i = inl (d, i, refl, refl)
-      learns (ClusterPut path bytes) o i = inl (d, i, refl, refl)
-      learns (ClusterRename source target) o i = inl (d, i, refl, refl)
       learns _ o i = inl (d, i, refl, refl)
 
 -- an id that is drawn is the counter
 pub drawn_is_next : (s : Scene) (n k : List ℕ) (u : ℕ) → DrawnUpload u ≡ answer s (CreateUpload n k) → u ≡ s.content.next
-drawn_is_next s n k u e = by (fin.get s.content.buckets n) e
-  where
-    by : (c : Option BucketContent) → DrawnUpload u ≡ answer_at c s.content.next s.content.minimum (CreateUpload n k) → u ≡ s.content.next
-    by None e = absurd cc
-    by (Some b) e = cc
+drawn_is_next s n k u e =
+    (elim (fin.get s.content.buckets n) as (λ c. DrawnUpload u ≡ answer_at c s.content.next s.content.minimum (CreateUpload n k) → u ≡ s.content.next) [ None ↦ λ g. absurd cc | Some b ↦ λ g. cc ]) e
 
 -- an upload that an attempt learns of was known, or drawn just now
 pub learnt : (w : Script) (s : Scene) (m : Told) (a : Who) (r : Request) (o : Outcome) → IsHonestOutcome o (answer s r) → (id : ℕ) → IsKnown (tell_attempt w m a r o).drawn id → IsKnown m.drawn id ⊎ (s.content.next ≤ id)

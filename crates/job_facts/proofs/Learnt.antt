@@ -2,13 +2,14 @@
 use Rattle.std.proofs.Common.{◌≡◌, ℕ, inl, inr, nat_eq, ◌&&◌, ◌||◌, Bool, true, false, cond, List, [], ◌∷◌, refl, sym, ap, ◌∙◌}
 use Rattle.job_spec.proofs.Common.{and_parts, nat_true, eq_nat, true_or_false}
 use Rattle.job_facts.specs.Prelude.{Actor, Driver, Attempt, Shell, Request, Outcome, Entry, Who, actor_of, Script, learn, knows_from, same_actor, by_actor, has_cleaned, is_begun, is_driver, Told, known, tell, tell_by, tell_driver, tell_attempt, at_event, tell_all}
-use Rattle.job_facts.proofs.Whose.{attempt, same_or_another, who_here, who_other}
+use Rattle.job_facts.proofs.Whose.{attempt, who_of, or_false, same_or_another, who_here, who_other}
+use Rattle.std.proofs.Math.Bool.{or_assoc}
 
 module _ (w : Script) (a : Who) where
   same_one : (t n : ℕ) → same_actor (Attempt t n) (actor_of a) ≡ true → a ≡ attempt t n
   same_one t n h =
       let p = and_parts (nat_eq t a.task) (nat_eq n a.attempt) h in
-      ap (λ (x : ℕ). attempt x a.attempt) (sym (eq_nat t a.task p.0)) ∙ ap (λ (x : ℕ). attempt t x) (sym (eq_nat n a.attempt p.1))
+      who_of a (attempt t n) (sym (eq_nat t a.task p.0)) (sym (eq_nat n a.attempt p.1))
 
   learnt : (m : Told) (x : Actor) (n : ℕ) (r : Request) (o : Outcome) → known (tell_by w m n r o x) a ≡ cond (same_actor x (actor_of a)) (learn w a (known m a) r o) (known m a)
   learnt m (Attempt t n) v r o = elim (same_or_another a (attempt t n)) [
@@ -35,27 +36,18 @@ module _ (w : Script) (a : Who) where
 
   pub known_is : (es : List Entry) (m : Told) → known (tell_all w m es) a ≡ knows_from w a (known m a) (by_actor (actor_of a) es)
   known_is [] m = refl
-  known_is (e ∷ es) m = known_is es (tell w m e) ∙ ap (λ k. knows_from w a k (by_actor (actor_of a) es)) (learnt m e.actor e.event e.request e.outcome) ∙ by (same_actor e.actor (actor_of a))
-    where
-      by : (b : Bool) → knows_from w a (cond b (learn w a (known m a) e.request e.outcome) (known m a)) (by_actor (actor_of a) es) ≡ knows_from w a (known m a) (cond b (e ∷ by_actor (actor_of a) es) (by_actor (actor_of a) es))
-      by true = refl
-      by false = refl
+  known_is (e ∷ es) m =
+      let P : Bool → Type 0 = λ b. knows_from w a (cond b (learn w a (known m a) e.request e.outcome) (known m a)) (by_actor (actor_of a) es) ≡ knows_from w a (known m a) (cond b (e ∷ by_actor (actor_of a) es) (by_actor (actor_of a) es)) in
+      known_is es (tell w m e) ∙ ap (λ k. knows_from w a k (by_actor (actor_of a) es)) (learnt m e.actor e.event e.request e.outcome)
+      ∙ (elim (same_actor e.actor (actor_of a)) as P [ true ↦ refl | false ↦ refl ])
 
 -- ---- the driver cleans up
 
-or_moved : (a b c : Bool) → ((a || b) || c) ≡ (a || (b || c))
-or_moved true b c = refl
-or_moved false b c = refl
-
-or_none : (a : Bool) → (a || false) ≡ a
-or_none true = refl
-or_none false = refl
-
 pub cleaned_is : (w : Script) (es : List Entry) (m : Told) → (tell_all w m es).cleaned ≡ (m.cleaned || has_cleaned m.cleans_at es)
-cleaned_is w [] m = sym (or_none m.cleaned)
+cleaned_is w [] m = sym (or_false m.cleaned)
 cleaned_is w (e ∷ es) m = by e.actor (λ v. cleaned_is w es v)
   where
     by : (x : Actor) → ((v : Told) → (tell_all w v es).cleaned ≡ (v.cleaned || has_cleaned v.cleans_at es)) → (tell_all w (tell_by w m e.event e.request e.outcome x) es).cleaned ≡ (m.cleaned || ((is_driver x && is_begun m.cleans_at e.event) || has_cleaned m.cleans_at es))
-    by Driver old = old (at_event e.event (tell_driver m e.request e.outcome)) ∙ or_moved m.cleaned (is_begun m.cleans_at e.event) (has_cleaned m.cleans_at es)
+    by Driver old = old (at_event e.event (tell_driver m e.request e.outcome)) ∙ or_assoc m.cleaned (is_begun m.cleans_at e.event) (has_cleaned m.cleans_at es)
     by (Attempt t n) old = old (tell_attempt w m (attempt t n) e.request e.outcome)
     by Shell old = old m

@@ -1,5 +1,5 @@
 -- What the bounds of a script give of its attempts' files.
-use Rattle.std.proofs.Common.{◌≡◌, ℕ, ◌<◌, ◌≤◌, ◌^◌, inl, inr, Bool, true, false, cond, is_some, List, [], ◌∷◌, ◌++◌, length, Option, Some, None, refl, sym, ap, subst, ◌∙◌, arith}
+use Rattle.std.proofs.Common.{◌≡◌, ℕ, ◌<◌, ◌≤◌, ◌^◌, inl, inr, Bool, true, false, cond, is_some, List, [], ◌∷◌, ◌++◌, length, Some, None, refl, sym, ap, subst, ◌∙◌, arith}
 use Rattle.job_facts.specs.Prelude.{lookup, unwrap_or, option_map, text_eq, Committer, Magic, Mode, is_job_id, is_record, File, has_path, Who, Declared, same_name, path_of, placed, IsLegal, IsGiven, AreAttempts, Script, files, is_magic, IsIn, IsAttempt, ApartFiles}
 use Rattle.job_spec.proofs.Common.{and_parts, leb-true, false≢true, eq_nat, false_true, text_true, in_front, in_last, in_map}
 use Rattle.job_model.specs.Prelude.{FitsMagic}
@@ -18,14 +18,10 @@ some_dest {w = w} j =
 
 -- ---- files that a script gives
 
-has : (fs : List File) (h : File) (p : List ℕ) → IsIn h fs → h.0 ≡ p → has_path fs p ≡ true
+pub has : (fs : List File) (h : File) (p : List ℕ) → IsIn h fs → h.0 ≡ p → has_path fs p ≡ true
 has [] h p i e = absurd i
 has (f ∷ fs) h p (inl i) e = rw (text_true p f.0 (sym e ∙ ap (λ (x : File). x.0) i)) refl
-has (f ∷ fs) h p (inr i) e = by (text_eq p f.0) (has fs h p i e)
-  where
-    by : (b : Bool) → is_some (lookup (text_eq p) fs) ≡ true → is_some (cond b (Some f.1) (lookup (text_eq p) fs)) ≡ true
-    by true old = refl
-    by false old = old
+has (f ∷ fs) h p (inr i) e = elim (text_eq p f.0) as (λ b. is_some (cond b (Some f.1) (lookup (text_eq p) fs)) ≡ true) [ true ↦ refl | false ↦ has fs h p i e ]
 
 before_apart : (before fs : List File) (h g : File) → AreFiles before fs → IsIn h before → IsIn g fs → h.0 ≡ g.0 → ⊥
 before_apart before [] h g a i k e = absurd k
@@ -68,11 +64,7 @@ declared_in tasks before (e ∷ es) a f h i = by (same_name a e.0) refl i (decla
     by false s k old = old k
 
 pub files_are : (w : Script) (a : Who) → files w a ≡ placed w.unique w.job (written w a)
-files_are w a = by (lookup (same_name a) w.attempts)
-  where
-    by : (o : Option (List File)) → unwrap_or (option_map (placed w.unique w.job) o) [] ≡ placed w.unique w.job (unwrap_or o [])
-    by None = refl
-    by (Some fs) = refl
+files_are w a = elim (lookup (same_name a) w.attempts) as (λ o. unwrap_or (option_map (placed w.unique w.job) o) [] ≡ placed w.unique w.job (unwrap_or o [])) [ None ↦ refl | Some fs ↦ refl ]
 
 -- a file of an attempt is one that the script gives it, at its path
 pub record FromScript (w : Script) (a : Who) (f : File) : Type 0 where

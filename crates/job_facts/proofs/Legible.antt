@@ -1,13 +1,13 @@
 -- The records and sets that attempts put are within their bounds, so that what reads them gets them back.
-use Rattle.std.proofs.Common.{◌≡◌, ℕ, zero, suc, ◌+◌, ◌<◌, ◌≤◌, ◌^◌, inl, inr, ◌&&◌, Bool, true, false, cond, List, [], ◌∷◌, ◌++◌, map, length, Option, Some, Ok, refl, sym, ap, subst, ◌∙◌, arith, length-append, eq-eqb}
+use Rattle.std.proofs.Common.{◌≡◌, ℕ, zero, suc, ◌+◌, ◌<◌, ◌≤◌, ◌^◌, inl, inr, Bool, true, false, cond, List, [], ◌∷◌, ◌++◌, map, length, Option, Some, Ok, refl, sym, ap, subst, ◌∙◌, arith, length-append, eq-eqb, ◌==◌, nat_le, nat_eq, ◌||◌}
 use Rattle.std.specs.Int.{to_le_bytes}
 use Rattle.std.specs.Prelude.{slice_index}
-use Rattle.job_facts.specs.Prelude.{list_all, flat_map, AllByRecursion, lookup, unwrap_or, compact_text, File, Who, Declared, same_name, placed, IsLegal, Script, files, Drawn, drawn_in, file_key, file_record, files_set, file_parts, Scene, IsIn, Told, IsAttempt, IsWritten, AreCommits, Facts, knowing}
-use Rattle.job_protocol.specs.Prelude.{sum, is_plain_tag, are_sizes, IsPending, pending_tree, set_tree}
-use Rattle.job_spec.proofs.Common.{le-leb, is_utf8-from_IsUtf8, nat_true, text_true, text_false, same_or_other}
+use Rattle.job_facts.specs.Prelude.{list_all, flat_map, AllByRecursion, lookup, unwrap_or, compact_text, File, Who, Declared, same_name, placed, IsLegal, Script, files, Drawn, drawn_in, file_key, file_record, files_set, file_parts, Scene, IsIn, Told, IsAttempt, IsWritten, AreCommits, Facts, knowing, list_any, is_job_id, below, is_full, with_id, with_id_last, path_of, IsGiven}
+use Rattle.job_protocol.specs.Prelude.{sum, is_plain_tag, are_sizes, IsPending, pending_tree, set_tree, join_with_byte, is_element, are_elements, begins_hidden, unique_name}
+use Rattle.job_spec.proofs.Common.{le-leb, is_utf8-from_IsUtf8, nat_true, text_true, text_false, same_or_other, length-map, and_parts, or_parts, leb-true, false≢true, nat_tests, append-nil, IsUtf8-from_ascii, IsAscii-nil, IsAscii-cons, below_is, unique_parts, id_bytes, take_all}
 use Rattle.words.proofs.Common.{sum_by-cons}
 use Rattle.s3_types.specs.Prelude.{w32, IsBytes, is_hex}
-use Rattle.job_spec.specs.Prelude.{bytes_of, bytes_in}
+use Rattle.job_spec.specs.Prelude.{bytes_of, bytes_in, IsAscii, is_utf8}
 use Rattle.md5.specs.Md5.{md5, digest_bytes}
 use Rattle.s3_types.proofs.Digits.{encoded_hex, plain_tag_length}
 use Rattle.s3_types.specs.Tags.{plain_tag}
@@ -15,13 +15,156 @@ use Rattle.pending_json.specs.Reading as reading
 use Rattle.pending_json.proofs.RoundTrip.{pending_text, set_text}
 use Rattle.job_protocol.proofs.Sizes.{sizes_told}
 use Rattle.job_facts.proofs.Cut.{parts_some, parts_few, parts_joined}
-use Rattle.job_facts.proofs.Joined.{all_tags, all_sizes}
-use Rattle.job_facts.proofs.KeyNames.{file_is_key, id_utf8}
-use Rattle.job_facts.proofs.Legal.{files_are, is_attempt, written}
+use Rattle.job_facts.proofs.Legal.{files_are, is_attempt, written, some_dest, from_script, given_of}
 use Rattle.job_facts.proofs.Placed.{key_file}
+use Rattle.std.specs.Cmp.Derive.{both_true}
+use Rattle.job_model.specs.Prelude.{IsUtf8, is_id_byte}
+use Rattle.path_keys.proofs.Common.{IsUtf8-from_is_utf8, IsUtf8-append, join_parts, utf8_cut, some_part}
+use Rattle.words.specs.Parts.{parts_of}
+use Rattle.s3_types.specs.Names as names
+use Rattle.path_keys.proofs.Beneath.{below_elements, key_path_from}
+use Rattle.job_model.proofs.Unique.{Cut, cut_id}
 
-both_true : (a b : Bool) → a ≡ true → b ≡ true → (a && b) ≡ true
-both_true a b h g = rw (h, g) refl
+-- ---- the keys of an attempt's files are keys, also where their names are made unique to the job
+
+-- ---- elements
+
+dot_not : (b : ℕ) → (nat_eq b 95 || nat_eq b 46) ≡ false → (b == 46) ≡ false
+dot_not b h = grind (arith, nat_tests)
+
+element_so : (e : List ℕ) → is_full e ≡ true → begins_hidden e ≡ false → is_element e ≡ true
+element_so [] full h = absurd (false≢true full)
+element_so (b ∷ bs) full h =
+    let some : (length (b ∷ bs) == 0) ≡ false = grind (arith, nat_tests) in
+    rw (some, dot_not b h) refl
+
+elements_so : (es : List (List ℕ)) → list_all is_full es ≡ true → list_any begins_hidden es ≡ false → list_all is_element es ≡ true
+elements_so [] full h = refl
+elements_so (e ∷ es) full h =
+    let p = and_parts (is_full e) (list_all is_full es) full in
+    let q = or_parts (begins_hidden e) (list_any begins_hidden es) h in
+    rw (element_so e p.0 q.0, elements_so es p.1 q.1) refl
+
+-- an element with the id is one still
+named_so : (id e : List ℕ) → is_full e ≡ true → begins_hidden e ≡ false → is_element (with_id id e) ≡ true
+named_so id [] full h = absurd (false≢true full)
+named_so id (b ∷ bs) full h = rw (dot_not b h) (element_so (b ∷ with_id id bs) (grind (arith, nat_tests)) h)
+
+lasts_so : (id : List ℕ) (es : List (List ℕ)) → list_all is_full es ≡ true → list_any begins_hidden es ≡ false → list_all is_element (with_id_last id es) ≡ true
+lasts_so id [] full h = refl
+lasts_so id (e ∷ []) full h = rw (named_so id e (and_parts (is_full e) true full).0 (or_parts (begins_hidden e) false h).0) refl
+lasts_so id (e ∷ f ∷ es) full h =
+    let p = and_parts (is_full e) (list_all is_full (f ∷ es)) full in
+    let q = or_parts (begins_hidden e) (list_any begins_hidden (f ∷ es)) h in
+    rw (element_so e p.0 q.0, lasts_so id (f ∷ es) p.1 q.1) refl
+
+pub full_parts : (p : List ℕ) → IsGiven p → list_all is_full (parts_of 47 p) ≡ true
+full_parts p g = (and_parts _ _ (and_parts _ _ g.stated).0).1
+
+placed_elements : (unique : Bool) (id p : List ℕ) → is_job_id id ≡ true → IsGiven p → are_elements (path_of unique id p) ≡ true
+placed_elements true id p job g = ap (list_all is_element) (unique_parts id p (id_bytes id job)) ∙ lasts_so id (parts_of 47 p) (full_parts p g) g.shown
+placed_elements false id p job g = elements_so (parts_of 47 p) (full_parts p g) g.shown
+
+-- ---- lengths
+
+with_id_long : (id x : List ℕ) → length (with_id id x) ≡ length x + (length id + 1)
+with_id_long id x =
+    let c = cut_id id x in
+    ap length c.made ∙ simp length-append (long c) ∙ ap (λ n. n + (length id + 1)) (sym (ap length c.is ∙ length-append c.front c.rest))
+  where
+    long : (c : Cut id x) → length c.front + length (45 ∷ id) + length c.rest ≡ length c.front + length c.rest + (length id + 1)
+    long c = omega arith
+
+joined_long : (id e : List ℕ) (es : List (List ℕ)) → length (join_with_byte 47 (with_id_last id (e ∷ es))) ≡ length (join_with_byte 47 (e ∷ es)) + (length id + 1)
+joined_long id e [] = with_id_long id e
+joined_long id e (f ∷ []) =
+    let old : length (with_id id f) ≡ length f + (length id + 1) = with_id_long id f in
+    simp length-append (omega (arith, old))
+joined_long id e (f ∷ g ∷ es) =
+    let old : length (join_with_byte 47 (with_id_last id (f ∷ g ∷ es))) ≡ length (join_with_byte 47 (f ∷ g ∷ es)) + (length id + 1) = joined_long id f (g ∷ es) in
+    length-append e (47 ∷ join_with_byte 47 (with_id_last id (f ∷ g ∷ es))) ∙ next e (join_with_byte 47 (with_id_last id (f ∷ g ∷ es))) (join_with_byte 47 (f ∷ g ∷ es)) old
+    ∙ ap (λ n. n + (length id + 1)) (sym (length-append e (47 ∷ join_with_byte 47 (f ∷ g ∷ es))))
+  where
+    next : (e x y : List ℕ) → length x ≡ length y + (length id + 1) → length e + length (47 ∷ x) ≡ length e + length (47 ∷ y) + (length id + 1)
+    next e x y h = omega arith
+
+unique_long : (id p : List ℕ) → length (unique_name p id) ≡ length p + (length id + 1)
+unique_long id p =
+    let f = some_part 47 [] p in
+    ap (λ es. length (join_with_byte 47 (with_id_last id es))) f.2 ∙ joined_long id f.0 f.1 ∙ ap (λ n. n + (length id + 1)) (ap (λ es. length (join_with_byte 47 es)) (sym f.2) ∙ ap length (join_parts 47 p))
+
+short_path : (p : List ℕ) → IsGiven p → length p ≤ 400
+short_path p g = leb-true (length p) 400 (and_parts (nat_le 1 (length p)) (nat_le (length p) 400) (and_parts _ _ (and_parts _ _ g.stated).0).0).1
+
+placed_short : (unique : Bool) (id p : List ℕ) → is_job_id id ≡ true → IsGiven p → length (path_of unique id p) ≤ 465
+placed_short true id p job g =
+    let a : length p ≤ 400 = short_path p g in
+    let b : length id ≤ 64 = leb-true (length id) 64 (and_parts (nat_le 1 (length id)) (nat_le (length id) 64) (and_parts _ _ job).0).1 in
+    let c : length (unique_name p id) ≡ length p + (length id + 1) = unique_long id p in
+    subst (λ n. n ≤ 465) (sym c) (omega arith)
+placed_short false id p job g = let a : length p ≤ 400 = short_path p g in omega arith
+
+-- ---- UTF-8
+
+one_byte : (b : ℕ) → b < 128 → IsUtf8 (b ∷ [])
+one_byte b h = IsUtf8-from_ascii (b ∷ []) (IsAscii-cons b [] h IsAscii-nil)
+
+id_ascii : (bs : List ℕ) → list_all is_id_byte bs ≡ true → IsAscii bs
+id_ascii [] h = IsAscii-nil
+id_ascii (b ∷ bs) h =
+    let p = and_parts (is_id_byte b) (list_all is_id_byte bs) h in
+    let one : is_id_byte b ≡ true = p.0 in
+    IsAscii-cons b bs (grind (arith, nat_tests)) (id_ascii bs p.1)
+
+pub id_utf8 : (id : List ℕ) → is_job_id id ≡ true → IsUtf8 id
+id_utf8 id h = IsUtf8-from_ascii id (id_ascii id (id_bytes id h))
+
+with_id_utf8 : (id x : List ℕ) → IsUtf8 id → IsUtf8 x → IsUtf8 (with_id id x)
+with_id_utf8 id x i h =
+    let c = cut_id id x in
+    let both : IsUtf8 c.front × IsUtf8 c.rest = elim c.ends [
+      | inl none ↦ (subst IsUtf8 (c.is ∙ ap (λ (l : List ℕ). c.front ++ l) none ∙ append-nil c.front) h, subst IsUtf8 (sym none) (IsUtf8-from_ascii [] IsAscii-nil))
+      | inr dot ↦
+          let y = utf8_cut 46 c.front dot.0 (omega arith) (subst IsUtf8 (c.is ∙ ap (λ (l : List ℕ). c.front ++ l) dot.1) h) in
+          (y.0, subst IsUtf8 (sym dot.1) (IsUtf8-append (46 ∷ []) dot.0 (one_byte 46 (omega arith)) y.1))
+    ] in
+    subst IsUtf8 (sym c.made) (IsUtf8-append (c.front ++ 45 ∷ id) c.rest (IsUtf8-append c.front (45 ∷ id) both.0 (IsUtf8-append (45 ∷ []) id (one_byte 45 (omega arith)) i)) both.1)
+
+lasts_utf8 : (id e : List ℕ) (es : List (List ℕ)) → IsUtf8 id → IsUtf8 (join_with_byte 47 (e ∷ es)) → IsUtf8 (join_with_byte 47 (with_id_last id (e ∷ es)))
+lasts_utf8 id e [] i h = with_id_utf8 id e i h
+lasts_utf8 id e (f ∷ []) i h =
+    let c = utf8_cut 47 e f (omega arith) h in
+    IsUtf8-append e (47 ∷ with_id id f) c.0 (IsUtf8-append (47 ∷ []) (with_id id f) (one_byte 47 (omega arith)) (with_id_utf8 id f i c.1))
+lasts_utf8 id e (f ∷ g ∷ es) i h =
+    let c = utf8_cut 47 e (join_with_byte 47 (f ∷ g ∷ es)) (omega arith) h in
+    IsUtf8-append e (47 ∷ join_with_byte 47 (with_id_last id (f ∷ g ∷ es))) c.0
+    (IsUtf8-append (47 ∷ []) (join_with_byte 47 (with_id_last id (f ∷ g ∷ es))) (one_byte 47 (omega arith)) (lasts_utf8 id f (g ∷ es) i c.1))
+
+placed_utf8 : (unique : Bool) (id p : List ℕ) → is_job_id id ≡ true → IsGiven p → IsUtf8 (path_of unique id p)
+placed_utf8 true id p job g =
+    let f = some_part 47 [] p in
+    let whole : IsUtf8 (join_with_byte 47 (f.0 ∷ f.1)) = subst IsUtf8 (sym (ap (join_with_byte 47) (sym f.2) ∙ join_parts 47 p)) (IsUtf8-from_is_utf8 p g.word.0) in
+    subst (λ es. IsUtf8 (join_with_byte 47 (with_id_last id es))) (sym f.2) (lasts_utf8 id f.0 f.1 (id_utf8 id job) whole)
+placed_utf8 false id p job g = IsUtf8-from_is_utf8 p g.word.0
+
+-- ---- keys
+
+pub file_is_key : {w : Script} → IsLegal w → (a : Who) (f : File) → IsIn f (files w a) → names.is_key (file_key w f) ≡ true
+file_is_key {w = w} j a f i =
+    let g = from_script w a f i in
+    let h = given_of j a f i in
+    let same : f.0 ≡ path_of w.unique w.job g.given.0 = ap (λ (x : File). x.0) g.is in
+    let key : names.is_key (below w.dest.key (path_of w.unique w.job g.given.0)) ≡ true = placed_key (path_of w.unique w.job g.given.0) (placed_short w.unique w.job g.given.0 j.job h) (placed_utf8 w.unique w.job g.given.0 j.job h) (placed_elements w.unique w.job g.given.0 j.job h) in
+    ap (λ p. names.is_key (below w.dest.key p)) same ∙ key
+  where
+    placed_key : (p : List ℕ) → length p ≤ 465 → IsUtf8 p → are_elements p ≡ true → names.is_key (below w.dest.key p) ≡ true
+    placed_key p short text elements =
+        let d = j.dest in
+        let low : length w.dest.key ≤ 400 = leb-true (length w.dest.key) 400 (and_parts (nat_le 1 (length w.dest.key)) (nat_le (length w.dest.key) 400) (and_parts _ _ (and_parts _ _ d.below).0).0).1 in
+        let is : below w.dest.key p ≡ w.dest.key ++ 47 ∷ p = below_is w.dest.key p (some_dest j) in
+        let long : length (below w.dest.key p) ≤ 1024 = subst (λ (l : List ℕ). length l ≤ 1024) (sym is) (simp length-append (omega (arith, low, short))) in
+        let utf8 : IsUtf8 (w.dest.key ++ 47 ∷ p) = IsUtf8-append w.dest.key (47 ∷ p) (IsUtf8-from_is_utf8 w.dest.key d.word.0) (IsUtf8-append (47 ∷ []) p (one_byte 47 (omega arith)) text) in
+        both_true (ap is_utf8 is ∙ is_utf8-from_IsUtf8 (w.dest.key ++ 47 ∷ p) utf8) (key_path_from (below w.dest.key p) (below_elements w.dest.key p d.key elements) long)
 
 -- ---- lengths of files
 
@@ -32,11 +175,9 @@ in_bytes (g ∷ fs) f (inr i) = let old = in_bytes fs f i in omega arith
 
 in_attempts : (es : List Declared) (a : Who) → bytes_of (unwrap_or (lookup (same_name a) es) []) ≤ bytes_in es
 in_attempts [] a = omega arith
-in_attempts (e ∷ es) a = by (same_name a e.0) (in_attempts es a)
-  where
-    by : (b : Bool) → bytes_of (unwrap_or (lookup (same_name a) es) []) ≤ bytes_in es → bytes_of (unwrap_or (cond b (Some e.1) (lookup (same_name a) es)) []) ≤ bytes_of e.1 + bytes_in es
-    by true old = omega arith
-    by false old = omega arith
+in_attempts (e ∷ es) a =
+    let old = in_attempts es a in
+    elim (same_name a e.0) as (λ b. bytes_of (unwrap_or (cond b (Some e.1) (lookup (same_name a) es)) []) ≤ bytes_of e.1 + bytes_in es) [ true ↦ omega arith | false ↦ omega arith ]
 
 placed_bytes : (u : Bool) (id : List ℕ) (fs : List File) → bytes_of (placed u id fs) ≡ bytes_of fs
 placed_bytes u id [] = refl
@@ -83,7 +224,7 @@ unfolding plain_tag
 plain_hex bytes = (encoded_hex (md5 bytes) (md5_bytes bytes), refl)
 
 pub plain_so : (bytes : List ℕ) → is_plain_tag (plain_tag bytes) ≡ true
-plain_so bytes = both_true _ _ (both_true _ _ (nat_true (length (plain_tag bytes).digits) 32 (plain_tag_length bytes)) (plain_hex bytes).0) (nat_true (plain_tag bytes).parts 0 (plain_hex bytes).1)
+plain_so bytes = both_true (both_true (nat_true (length (plain_tag bytes).digits) 32 (plain_tag_length bytes)) (plain_hex bytes).0) (nat_true (plain_tag bytes).parts 0 (plain_hex bytes).1)
 
 all_plain : (bs : List (List ℕ)) → list_all is_plain_tag (map plain_tag bs) ≡ true
 all_plain [] = refl
@@ -94,10 +235,6 @@ all_plain (b ∷ bs) = rw (plain_so b, all_plain bs) refl
 sum_lengths : (bs : List (List ℕ)) → sum (map length bs) ≡ length (flat_map (λ b. b) bs)
 sum_lengths [] = refl
 sum_lengths (b ∷ bs) = sum_by-cons (λ x. x) (length b) (map length bs) ∙ ap (λ n. length b + n) (sum_lengths bs) ∙ sym (length-append b (flat_map (λ b. b) bs))
-
-map_long : {X Y : Type 0} (f : X → Y) (xs : List X) → length (map f xs) ≡ length xs
-map_long f [] = refl
-map_long f (x ∷ xs) = ap (λ n. suc n) (map_long f xs)
 
 -- ---- the upload that is known for a key
 
@@ -124,8 +261,8 @@ module _ {w : Script} {minimum : ℕ} {s : Scene} {last : ℕ → Option ℕ} {m
       let same : o.file ≡ g = key_file j a o.file g o.mine i (sym o.key ∙ x.key) in
       let P : File → Type 0 = λ v. length x.drawn.tags ≡ length (file_parts w minimum v) in
       let all : length x.drawn.tags ≡ length (file_parts w minimum o.file) = subst P (sym same) x.complete in (
-        all_tags x.drawn (file_parts w minimum o.file) o.tags all ∙ ap (λ v. map plain_tag (file_parts w minimum v)) same,
-        all_sizes x.drawn (file_parts w minimum o.file) o.sizes all ∙ ap (λ v. map length (file_parts w minimum v)) same,
+        o.tags ∙ ap (map plain_tag) (take_all (length x.drawn.tags) (file_parts w minimum o.file) (omega (arith, all))) ∙ ap (λ v. map plain_tag (file_parts w minimum v)) same,
+        o.sizes ∙ ap (map length) (take_all (length x.drawn.tags) (file_parts w minimum o.file) (omega (arith, all))) ∙ ap (λ v. map length (file_parts w minimum v)) same,
       )
 
   -- which fit its record
@@ -133,9 +270,9 @@ module _ {w : Script} {minimum : ℕ} {s : Scene} {last : ℕ → Option ℕ} {m
   written_sizes a g i x =
       let both = written_tags a g i x in
       let all : length x.drawn.tags ≡ length (file_parts w minimum g) = x.complete in
-      let many : length x.drawn.sizes ≡ length x.drawn.tags = ap length both.1 ∙ map_long length (file_parts w minimum g) ∙ sym all in
+      let many : length x.drawn.sizes ≡ length x.drawn.tags = ap length both.1 ∙ length-map (file_parts w minimum g) length ∙ sym all in
       let total : sum x.drawn.sizes ≡ length g.1 = ap sum both.1 ∙ sum_lengths (file_parts w minimum g) ∙ ap length (parts_joined w minimum g) in
-      both_true _ _ (eq-eqb (length x.drawn.sizes) (length x.drawn.tags) many) (eq-eqb (sum x.drawn.sizes) (length g.1) total)
+      both_true (eq-eqb (length x.drawn.sizes) (length x.drawn.tags) many) (eq-eqb (sum x.drawn.sizes) (length g.1) total)
 
   module _ (few : s.content.next ≤ 2 ^ 64) where
     pub legal_record : (a : Who) (g : File) → IsIn g (files w a) → (x : IsWritten w minimum (m.drawn a) g) → IsPending (file_record w a g x.drawn)
@@ -156,7 +293,7 @@ module _ {w : Script} {minimum : ℕ} {s : Scene} {last : ℕ → Option ℕ} {m
           destination = file_is_key j a g i;
           upload = omega arith;
           length = short_file j a g i;
-          tags = both_true _ _ (both_true _ _ (le-leb 1 (length x.drawn.tags) (omega arith)) (le-leb (length x.drawn.tags) 10000 (omega arith))) plain;
+          tags = both_true (both_true (le-leb 1 (length x.drawn.tags) (omega arith)) (le-leb (length x.drawn.tags) 10000 (omega arith))) plain;
           sizes = sizes_told w.committer x.drawn.sizes x.drawn.tags (length g.1) (written_sizes a g i x);
         }
 

@@ -1,9 +1,9 @@
 -- A walk over live uploads finds each of them.
-use Rattle.std.proofs.Common.{◌≡◌, ℕ, zero, suc, ◌⊎◌, inl, inr, nat_lt, Bool, true, false, cond, List, [], ◌∷◌, ◌++◌, map, take, length, Option, Some, refl, sym, ap, subst, ◌∙◌}
+use Rattle.std.proofs.Common.{◌≡◌, ℕ, zero, suc, ◌⊎◌, inl, inr, nat_lt, true, false, cond, List, [], ◌∷◌, ◌++◌, map, take, length, Option, Some, refl, sym, ap, subst, ◌∙◌, None}
 use Rattle.job_spec.specs.Prelude.{find, IsTotalOrder, nat_cmp_total, ref_cmp, is_behind, keys_of}
-use Rattle.job_facts.specs.Prelude.{filter, AllByRecursion, eq_by_cmp, is_lt, nat_cmp, ordering_then, Ordering, Less, Equal, text_cmp, text_total, text_ties, Upload, begins, UploadRef, last_ref, IsIn, ref_at}
+use Rattle.job_facts.specs.Prelude.{filter, AllByRecursion, eq_by_cmp, is_lt, nat_cmp, ordering_then, Ordering, Less, Equal, text_cmp, text_total, text_ties, Upload, begins, UploadRef, last_ref, IsIn, ref_at, Script, Scene, HasBucket, dest_prefix, Reply, answer, uploads_after, walked_uploads, walked_by}
 use Rattle.job_protocol.specs.Prelude.{is_eq}
-use Rattle.job_spec.proofs.Common.{ltb-false, then_total, on_total, take_all, exact_pairs, exact_bytes, exact_unsigned, tied, some_is, none_some, nat_true, text_true, map_in, filter_in, in_map, in_filter}
+use Rattle.job_spec.proofs.Common.{ltb-false, then_total, on_total, take_all, exact_pairs, exact_bytes, exact_unsigned, tied, some_is, none_some, nat_true, text_true, map_in, filter_in, in_map, in_filter, true_or_false}
 use Rattle.proof_base.proofs.Common.{IsStrictlySortedBy-filter, CmpEqualImpliesEq}
 use Rattle.path_keys.proofs.Common.{sorted_head, sorted_tail, map_sorted, find_head, find_other}
 use Rattle.job_model.specs.Prelude.{Uploads}
@@ -12,6 +12,7 @@ use Rattle.std.specs.FinMap as fin
 use Rattle.std.specs.List.Sorted.{IsStrictlySortedBy}
 use Rattle.s3_types.specs.Multipart.{listed}
 use Rattle.proof_base.proofs.Members.{ties}
+use Rattle.job_facts.proofs.Shapes.{answer_is}
 
 refs_total : IsTotalOrder ref_cmp
 refs_total = then_total (on_total (λ r. r.key) text_total) (on_total (λ r. r.upload) nat_cmp_total)
@@ -22,23 +23,18 @@ exact_refs a b h = ap (λ (p : List ℕ × ℕ). record { key = p.0; upload = p.
 module _ {K X : Type 0} (R : K → K → Ordering) where
   pub find_in : ((a b : K) → R a b ≡ Equal → a ≡ b) → (es : List (K × X)) (k : K) (x : X) → find R k es ≡ Some x → IsIn (k, x) es
   find_in exact [] k x e = absurd (none_some refl e)
-  find_in exact (p ∷ es) k x e = by (eq_by_cmp R k p.0) refl (find_in exact es k x)
-    where
-      by : (b : Bool) → eq_by_cmp R k p.0 ≡ b → (find R k es ≡ Some x → IsIn (k, x) es) → IsIn (k, x) (p ∷ es)
-      by true h old =
-          let same : k ≡ p.0 = exact k p.0 (tied _ h) in
-          let value : p.1 ≡ x = some_is (sym (ap (λ b. cond b (Some p.1) (find R k es)) h) ∙ e) in
-          inl (ap (λ q. (q, x)) same ∙ ap (λ v. (p.0, v)) (sym value))
-      by false h old = inr (old (sym (ap (λ b. cond b (Some p.1) (find R k es)) h) ∙ e))
+  find_in exact (p ∷ es) k x e = elim (true_or_false (eq_by_cmp R k p.0)) [
+    | inl h ↦
+        let same : k ≡ p.0 = exact k p.0 (tied _ h) in
+        let value : p.1 ≡ x = some_is (sym (ap (λ b. cond b (Some p.1) (find R k es)) h) ∙ e) in
+        inl (ap (λ q. (q, x)) same ∙ ap (λ v. (p.0, v)) (sym value))
+    | inr h ↦ inr (find_in exact es k x (sym (ap (λ b. cond b (Some p.1) (find R k es)) h) ∙ e))
+  ]
 
   in_find : (es : List (K × X)) (k : K) (x : X) → eq_by_cmp R k k ≡ true → IsIn (k, x) es → (y : X) × (find R k es ≡ Some y)
   in_find [] k x same i = absurd i
   in_find (p ∷ es) k x same (inl e) = (p.1, ap (λ b. cond b (Some p.1) (find R k es)) (ap (λ (q : K × X). eq_by_cmp R k q.0) (sym e) ∙ same))
-  in_find (p ∷ es) k x same (inr i) = by (eq_by_cmp R k p.0) (in_find es k x same i)
-    where
-      by : (b : Bool) → (y : X) × (find R k es ≡ Some y) → (y : X) × (cond b (Some p.1) (find R k es) ≡ Some y)
-      by true old = (p.1, refl)
-      by false old = old
+  in_find (p ∷ es) k x same (inr i) = elim (eq_by_cmp R k p.0) as (λ b. (y : X) × (cond b (Some p.1) (find R k es) ≡ Some y)) [ true ↦ (p.1, refl) | false ↦ in_find es k x same i ]
 
 ref_self : (r : UploadRef) → eq_by_cmp ref_cmp r r ≡ true
 ref_self r =
@@ -114,3 +110,12 @@ listed_live p l m r i =
     let at : fin.get m e.0.0 ≡ Some e.0.1 = fin.get-entries m e.0.0 ∙ found_at (fin.entries m) e.0 (map_sorted nat_cmp m) e.1 in
     let is : r ≡ ref_at e.0.0 e.0.1 = d.2 ∙ ap (λ (q : UploadRef × Unit {0}). q.0) e.2 in
     (e.0.1, (ap (λ (q : UploadRef). fin.get m q.upload) is ∙ at, sym (ap (λ (q : UploadRef). q.key) is)))
+
+-- ---- a page of them
+
+module _ (w : Script) (s : Scene) (there : HasBucket s.content w.dest.bucket) (found : List UploadRef) where
+  abbrev pub refs_rest : List UploadRef
+  refs_rest = listed (dest_prefix w) (last_ref None found) there.0.uploads
+
+  pub refs_is : (x : Reply) → x ≡ answer s (uploads_after w.dest.bucket (dest_prefix w) found) → walked_uploads found x ≡ walked_by (nat_lt 1000 (length refs_rest)) (found ++ take 1000 refs_rest)
+  refs_is x e = ap (walked_uploads found) (e ∙ answer_is w s there.0 there.1 (uploads_after w.dest.bucket (dest_prefix w) found) refl)

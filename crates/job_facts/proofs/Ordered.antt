@@ -1,16 +1,14 @@
 -- The files whose records are listed, in the order of the listing, are all of them and each once.
 use Rattle.std.proofs.Common.{◌≡◌, ℕ, inl, inr, ◌||◌, Bool, true, false, cond, List, [], ◌∷◌, ◌++◌, Some, None, refl, sym, ap, subst, ◌∙◌}
 use Rattle.job_facts.specs.Prelude.{filter, flat_map, list_any, text_eq, File, Who, Script, files, record_key, least_of, least_missing, in_order, IsIn, RisesFrom, ApartFiles}
-use Rattle.job_spec.proofs.Common.{false≢true, text_true, text_is, in_front, in_back, in_append, in_filter, filter_in}
+use Rattle.job_spec.proofs.Common.{false≢true, text_true, text_is, in_front, in_back, in_append, in_filter, filter_in, true_or_false}
 use Rattle.store_frame.proofs.Flat.{not_again}
 
 apart_filter : (f : File → Bool) (fs : List File) → ApartFiles fs → ApartFiles (filter f fs)
 apart_filter f [] h = tt
-apart_filter f (g ∷ fs) h = by (f g) (apart_filter f fs h.1)
-  where
-    by : (b : Bool) → ApartFiles (filter f fs) → ApartFiles (cond b (g ∷ filter f fs) (filter f fs))
-    by true old = (λ x i. h.0 x (in_filter f x fs i).0, old)
-    by false old = old
+apart_filter f (g ∷ fs) h =
+    let old = apart_filter f fs h.1 in
+    elim (f g) as (λ b. ApartFiles (cond b (g ∷ filter f fs) (filter f fs))) [ true ↦ (λ x i. h.0 x (in_filter f x fs i).0, old) | false ↦ old ]
 
 pub apart_append : (fs gs : List File) → ApartFiles fs → ApartFiles gs → ((f g : File) → IsIn f fs → IsIn g gs → f.0 ≡ g.0 → ⊥) → ApartFiles (fs ++ gs)
 apart_append [] gs h k cross = k
@@ -47,19 +45,16 @@ module _ (w : Script) (a : Who) where
 
 any_in : (k : List ℕ) (ks : List (List ℕ)) → list_any (text_eq k) ks ≡ true → IsIn k ks
 any_in k [] h = absurd (false≢true h)
-any_in k (q ∷ ks) h = by (text_eq k q) refl (any_in k ks)
-  where
-    by : (b : Bool) → text_eq k q ≡ b → (list_any (text_eq k) ks ≡ true → IsIn k ks) → IsIn k (q ∷ ks)
-    by true e old = inl (text_is k q e)
-    by false e old = inr (old (sym (ap (λ b. b || list_any (text_eq k) ks) e) ∙ h))
+any_in k (q ∷ ks) h = elim (true_or_false (text_eq k q)) [ inl e ↦ inl (text_is k q e) | inr e ↦ inr (any_in k ks (sym (ap (λ b. b || list_any (text_eq k) ks) e) ∙ h)) ]
 
 pub none_missing : (ks all : List (List ℕ)) → least_missing ks all ≡ None → (k : List ℕ) → IsIn k all → IsIn k ks
 none_missing ks [] h k i = absurd i
-none_missing ks (q ∷ all) h k i = by (list_any (text_eq q) ks) refl (none_missing ks all) i
-  where
-    by : (b : Bool) → list_any (text_eq q) ks ≡ b → (least_missing ks all ≡ None → (k : List ℕ) → IsIn k all → IsIn k ks) → IsIn k (q ∷ all) → IsIn k ks
-    by true e old (inl is) = subst (λ x. IsIn x ks) (sym is) (any_in q ks e)
-    by true e old (inr j) = old (ap (λ b. cond b (least_missing ks all) (Some (least_of (least_missing ks all) q))) (sym e) ∙ h) k j
-    by false e old j =
-        let some : Some (least_of (least_missing ks all) q) ≡ None = ap (λ b. cond b (least_missing ks all) (Some (least_of (least_missing ks all) q))) (sym e) ∙ h in
-        absurd cc
+none_missing ks (q ∷ all) h k i = elim (true_or_false (list_any (text_eq q) ks)) [
+  | inl e ↦ elim i [
+    | inl is ↦ subst (λ x. IsIn x ks) (sym is) (any_in q ks e)
+    | inr j ↦ none_missing ks all (ap (λ b. cond b (least_missing ks all) (Some (least_of (least_missing ks all) q))) (sym e) ∙ h) k j
+  ]
+  | inr e ↦
+      let some : Some (least_of (least_missing ks all) q) ≡ None = ap (λ b. cond b (least_missing ks all) (Some (least_of (least_missing ks all) q))) (sym e) ∙ h in
+      absurd cc
+]

@@ -1,23 +1,160 @@
 -- The requests of the job's actors: below the destination, and none but the driver's commit's changes what a reader is shown.
-use Rattle.std.proofs.Common.{◌≡◌, ℕ, ◌⊎◌, inl, inr, true, false, List, ◌∷◌, ◌++◌, take, length, Option, Some, None, refl, sym, ap, subst, ◌∙◌, codes}
-use Rattle.job_facts.specs.Prelude.{Scene, begins, apply, effect, is_effective, only_reads, Driver, Request, PutObject, DeleteObjects, Committer, Magic, Directory, Partitioned, Outcome, Answered, Slow, RequestLost, ReplyLost, magic_prefix, success_key, Pending, Who, File, IsLegal, Script, Known, dest_prefix, Setup, Clearing, Sweeping, SetupOver, setup_asks, Uploading, Creating, Sending, upload_asks, Listing, Deleting, page_after, Write, WriteOver, write_asks, TaskCommit, Publishing, TaskCommitOver, task_commit_asks, TaskAbort, Dropping, TaskAbortOver, task_abort_asks, nth, abort, all_commits, Commit, Fetching, Replacing, Completing, Reverting, CommitOver, set_request, commit_asks, Clean, Aborting, CleanOver, clean_asks, Setting, Operation, TheWrite, TheTaskCommit, TheTaskAbort, asks, view, IsZeroRename, is_copy, SameOutside, Same, Seen, Told, known, entry, driver_entry, IsAttempt, Facts, Hold, Fits, FitsAbort, IsOwn, SetsUp, FitsClean, FitsJobCommit, IsCommit, Decides, Tabled, Commits, IsWithin}
-use Rattle.job_spec.proofs.Common.{begins_behind, some_is}
+use Rattle.std.proofs.Common.{◌≡◌, ℕ, ◌⊎◌, inl, inr, true, false, List, ◌∷◌, ◌++◌, take, length, Option, Some, None, refl, sym, ap, subst, ◌∙◌, codes, Bool, ◌<◌, ◌&&◌, cond, [], arith}
+use Rattle.job_facts.specs.Prelude.{Scene, begins, apply, effect, is_effective, only_reads, Driver, Request, PutObject, Outcome, ReplyLost, magic_prefix, success_key, Pending, Who, IsLegal, Script, dest_prefix, Setup, Clearing, Sweeping, SetupOver, setup_asks, Listing, Deleting, page_after, nth, abort, all_commits, Commit, Fetching, Replacing, Completing, Reverting, CommitOver, set_request, commit_asks, Clean, clean_asks, Setting, Operation, asks, view, IsZeroRename, is_copy, SameOutside, Same, Seen, Told, known, entry, driver_entry, IsAttempt, Facts, Hold, Fits, SetsUp, FitsClean, IsCommit, Commits, IsWithin, MarkerPlace, RecordPlace, text_eq, BucketContent, Content, Upload, is_part_number, with_part, apply_at, bucket_of, NamedPart, MakeBucket, GetObject, HeadObject, DeleteObject, DeleteObjects, CopyObject, ListPage, CreateUpload, UploadPart, CompleteUpload, AbortUpload, ListParts, ListUploads, SameOutsideUpload, IsIn, HasBucket, changed_keys, at_id, part_left, end_left}
+use Rattle.job_spec.proofs.Common.{begins_behind, some_is, false_true, same_or_not, text_is, text_true, text_other}
 use Rattle.job_spec.specs.Prelude.{sends_data, may_show}
-use Rattle.job_protocol.specs.Writes as writes
-use Rattle.job_protocol.specs.TaskCommits as tasks
-use Rattle.job_protocol.specs.TaskAborts as aborts
 use Rattle.job_protocol.specs.JobCommits as commits
-use Rattle.job_protocol.specs.Cleanups as cleanups
 use Rattle.store_frame.proofs.Framed.{frame}
 use Rattle.store_frame.proofs.Reading.{reads_nothing}
 use Rattle.job_facts.proofs.Shows.{hidden_shows}
 use Rattle.job_facts.proofs.SettingUp.{setup_alone, view_but}
 use Rattle.job_facts.proofs.Aborting.{taken_in}
-use Rattle.job_facts.proofs.Owning.{operation_own}
-use Rattle.job_facts.proofs.Cleaning.{clean_hides}
+use Rattle.job_facts.proofs.Owning.{operation_own, own_directory, Asked, operation_asked}
+use Rattle.job_facts.proofs.Cleaning.{clean_asked}
 use Rattle.job_facts.proofs.JobCommitting.{begins_through, dest_below}
 use Rattle.job_facts.proofs.Held.{nth_of, of_sets}
-use Rattle.job_facts.proofs.Outside.{idle, delete_leaves, batch_leaves, within_outside, within_uncopied}
+use Rattle.job_facts.proofs.Driving.{IsClearing, reads, aborts, batches, removes, clearing_hides}
+use Rattle.job_facts.proofs.Foreign.{reads_name, set_reads}
+use Rattle.job_facts.proofs.Going.{effect_by, effect_so}
+use Rattle.job_facts.proofs.Placed.{own_magic, set_magic}
+use Rattle.job_facts.proofs.Owning as Asks
+use Rattle.std.specs.FinMap as fin
+use Rattle.job_facts.proofs.Shapes.{puts, draws, part_turns, abort_turns}
+use Rattle.job_facts.proofs.Undone.{deletes_drop}
+use Rattle.job_facts.proofs.Ended.{completed_uploads}
+use Rattle.job_facts.proofs.Effects.{deleted_uploads}
+
+-- ---- what a request below the destination leaves outside it: uploads
+
+same_upload : (w : Script) (o : Option Upload) → SameOutsideUpload w o o
+same_upload w None = tt
+same_upload w (Some u) = λ e. refl
+
+as_before : (w : Script) (o x : Option Upload) → x ≡ o → SameOutsideUpload w o x
+as_before w o x e = subst (SameOutsideUpload w o) (sym e) (same_upload w o)
+
+-- a part goes to an upload with its own key alone
+part_outside : (w : Script) (key : List ℕ) → begins (dest_prefix w) key ≡ true → (number : ℕ) (bytes : List ℕ) (o : Option Upload) → SameOutsideUpload w o (part_left key number bytes o)
+part_outside w key b number bytes None = tt
+part_outside w key b number bytes (Some u) = by (text_eq u.key key) refl (is_part_number number)
+  where
+    by : (t : Bool) → text_eq u.key key ≡ t → (v : Bool) → SameOutsideUpload w (Some u) (cond (t && v) (Some (with_part u number bytes)) (Some u))
+    by true e true = λ free. absurd (false_true free (ap (begins (dest_prefix w)) (text_is u.key key e) ∙ b))
+    by true e false = λ free. refl
+    by false e v = λ free. refl
+
+end_outside : (w : Script) (key : List ℕ) → begins (dest_prefix w) key ≡ true → (o : Option Upload) → SameOutsideUpload w o (end_left key o)
+end_outside w key b None = tt
+end_outside w key b (Some u) = by (text_eq u.key key) refl
+  where
+    by : (t : Bool) → text_eq u.key key ≡ t → SameOutsideUpload w (Some u) (cond t None (Some u))
+    by true e = ap (begins (dest_prefix w)) (text_is u.key key e) ∙ b
+    by false e = λ free. refl
+
+-- ---- buckets
+
+-- another bucket
+other_bucket : (o : Option BucketContent) (c : Content) (r : Request) (n : List ℕ) → bucket_of r ≡ n → (b : List ℕ) → text_eq b n ≡ false → fin.get (apply_at o c r).buckets b ≡ fin.get c.buckets b
+other_bucket None c r n e b ne = refl
+other_bucket (Some x) c r n e b ne = text_other c.buckets (bucket_of r) b _ (λ is. false_true ne (text_true b n (is ∙ e)))
+
+-- where nothing changes
+pub idle : (w : Script) (s : Scene) (c : Content) → c ≡ s.content → SameOutside w s.content c
+idle w s c e = subst (SameOutside w s.content) (sym e) (record { buckets = λ b ne. refl; objects = λ k free. refl; uploads = λ id. same_upload w (at_id w s.content id) })
+
+module _ (w : Script) (s : Scene) (there : HasBucket s.content w.dest.bucket) where
+  abbrev Leaves : Request → Type 0
+  Leaves r = SameOutside w s.content (apply s r).content
+
+  -- it is enough to see to other buckets, to the keys that it changes, and to uploads
+  leaves_by : (r : Request) → ((b : List ℕ) → text_eq b w.dest.bucket ≡ false → fin.get (apply s r).content.buckets b ≡ fin.get s.content.buckets b) → ((k : List ℕ) → IsIn k (changed_keys r) → begins (dest_prefix w) k ≡ true)
+      → ((id : ℕ) → SameOutsideUpload w (at_id w s.content id) (at_id w (apply s r).content id)) → Leaves r
+  leaves_by r buckets all uploads = record { buckets = buckets; objects = λ k free. (frame s w.dest.bucket r there).keys k (λ b i. false_true free (all k i)); uploads = uploads }
+
+  others_stay : (r : Request) → bucket_of r ≡ w.dest.bucket → (b : List ℕ) → text_eq b w.dest.bucket ≡ false → fin.get (apply_at (fin.get s.content.buckets w.dest.bucket) s.content r).buckets b ≡ fin.get s.content.buckets b
+  others_stay r = other_bucket (fin.get s.content.buckets w.dest.bucket) s.content r w.dest.bucket
+
+  one_key : (key : List ℕ) → begins (dest_prefix w) key ≡ true → (k : List ℕ) → IsIn k (key ∷ []) → begins (dest_prefix w) k ≡ true
+  one_key key b k i = elim i [ inl e ↦ ap (begins (dest_prefix w)) e ∙ b | inr none ↦ absurd none ]
+
+  put_leaves : (key bytes : List ℕ) (header : Option ℕ) → begins (dest_prefix w) key ≡ true → Leaves (PutObject w.dest.bucket key bytes header)
+  put_leaves key bytes header b =
+      let r = PutObject w.dest.bucket key bytes header in
+      leaves_by r (others_stay r refl) (one_key key b) (λ id. as_before w (at_id w s.content id) _ ((puts w s there.0 there.1 key bytes header).uploads id))
+
+  pub delete_leaves : (key : List ℕ) → begins (dest_prefix w) key ≡ true → Leaves (DeleteObject w.dest.bucket key)
+  delete_leaves key b = let r = DeleteObject w.dest.bucket key in leaves_by r (others_stay r refl) (one_key key b) (λ id. as_before w (at_id w s.content id) _ (deleted_uploads w s there key id))
+
+  pub batch_leaves : (keys : List (List ℕ)) → ((k : List ℕ) → IsIn k keys → begins (dest_prefix w) k ≡ true) → Leaves (DeleteObjects w.dest.bucket keys)
+  batch_leaves keys all = let r = DeleteObjects w.dest.bucket keys in leaves_by r (others_stay r refl) all (λ id. as_before w (at_id w s.content id) _ ((deletes_drop w s keys there).uploads id))
+
+  -- what changes at one id
+  turn_leaves : (r : Request) (id : ℕ) → ((u : ℕ) → (u ≡ id → ⊥) → at_id w (apply s r).content u ≡ at_id w s.content u) → (x : Option Upload) → at_id w (apply s r).content id ≡ x → SameOutsideUpload w (at_id w s.content id) x
+      → (u : ℕ) → SameOutsideUpload w (at_id w s.content u) (at_id w (apply s r).content u)
+  turn_leaves r id others x is here u = elim (same_or_not u id) [
+    | inl e ↦ subst (λ v. SameOutsideUpload w (at_id w s.content v) (at_id w (apply s r).content v)) (sym e) (subst (SameOutsideUpload w (at_id w s.content id)) (sym is) here)
+    | inr ne ↦ as_before w (at_id w s.content u) _ (others u ne)
+  ]
+
+  create_leaves : ((id : ℕ) (x : Upload) → at_id w s.content id ≡ Some x → id < s.content.next) → (key : List ℕ) → begins (dest_prefix w) key ≡ true → Leaves (CreateUpload w.dest.bucket key)
+  create_leaves fresh key b =
+      let r = CreateUpload w.dest.bucket key in
+      let d = draws w s there.0 there.1 key in
+      leaves_by r (others_stay r refl) (λ k i. absurd i) (turn_leaves r s.content.next d.others _ d.here (begun (at_id w s.content s.content.next) refl))
+    where
+      begun : (o : Option Upload) → at_id w s.content s.content.next ≡ o → SameOutsideUpload w o (Some (record { key = key; parts = fin.empty }))
+      begun None e = b
+      begun (Some x) e = let less : s.content.next < s.content.next = fresh s.content.next x e in absurd (omega arith)
+
+  part_leaves : (key : List ℕ) (id number : ℕ) (bytes : List ℕ) → begins (dest_prefix w) key ≡ true → Leaves (UploadPart w.dest.bucket key id number bytes)
+  part_leaves key id number bytes b =
+      let r = UploadPart w.dest.bucket key id number bytes in
+      let t = part_turns w s there.0 there.1 key id number bytes in
+      leaves_by r (others_stay r refl) (λ k i. absurd i) (turn_leaves r id t.others _ t.here (part_outside w key b number bytes (at_id w s.content id)))
+
+  abort_leaves : (key : List ℕ) (id : ℕ) → begins (dest_prefix w) key ≡ true → Leaves (AbortUpload w.dest.bucket key id)
+  abort_leaves key id b =
+      let r = AbortUpload w.dest.bucket key id in
+      let t = abort_turns w s there.0 there.1 key id in
+      leaves_by r (others_stay r refl) (λ k i. absurd i) (turn_leaves r id t.others _ t.here (end_outside w key b (at_id w s.content id)))
+
+  complete_leaves : (key : List ℕ) (id : ℕ) (parts : List NamedPart) → begins (dest_prefix w) key ≡ true → Leaves (CompleteUpload w.dest.bucket key id parts)
+  complete_leaves key id parts b =
+      let r = CompleteUpload w.dest.bucket key id parts in
+      let t = completed_uploads w s there.0 there.1 key id parts in
+      leaves_by r (others_stay r refl) (one_key key b) (turn_leaves r id t.1 _ refl (elim t.0 [
+        | inl same ↦ as_before w (at_id w s.content id) _ same
+        | inr left ↦ subst (SameOutsideUpload w (at_id w s.content id)) (sym left) (end_outside w key b (at_id w s.content id))
+      ]))
+
+  read_leaves : (r : Request) → only_reads r ≡ true → Leaves r
+  read_leaves r h = idle w s _ (ap (λ (x : Scene). x.content) (reads_nothing s r h))
+
+  -- any request within the destination
+  pub within_leaves : ((id : ℕ) (x : Upload) → at_id w s.content id ≡ Some x → id < s.content.next) → (r : Request) → IsWithin w r → Leaves r
+  within_leaves fresh (MakeBucket n) h = absurd h
+  within_leaves fresh (CopyObject n source target) h = absurd h
+  within_leaves fresh (PutObject n k bytes header) h = subst (λ v. Leaves (PutObject v k bytes header)) (sym h.0) (put_leaves k bytes header h.1)
+  within_leaves fresh (DeleteObject n k) h = subst (λ v. Leaves (DeleteObject v k)) (sym h.0) (delete_leaves k h.1)
+  within_leaves fresh (DeleteObjects n ks) h = subst (λ v. Leaves (DeleteObjects v ks)) (sym h.0) (batch_leaves ks h.1)
+  within_leaves fresh (CreateUpload n k) h = subst (λ v. Leaves (CreateUpload v k)) (sym h.0) (create_leaves fresh k h.1)
+  within_leaves fresh (UploadPart n k id number bytes) h = subst (λ v. Leaves (UploadPart v k id number bytes)) (sym h.0) (part_leaves k id number bytes h.1)
+  within_leaves fresh (CompleteUpload n k id parts) h = subst (λ v. Leaves (CompleteUpload v k id parts)) (sym h.0) (complete_leaves k id parts h.1)
+  within_leaves fresh (AbortUpload n k id) h = subst (λ v. Leaves (AbortUpload v k id)) (sym h.0) (abort_leaves k id h.1)
+  within_leaves fresh (GetObject n k) h = read_leaves (GetObject n k) refl
+  within_leaves fresh (HeadObject n k) h = read_leaves (HeadObject n k) refl
+  within_leaves fresh (ListPage n p d after limit) h = read_leaves (ListPage n p d after limit) refl
+  within_leaves fresh (ListParts n k id) h = read_leaves (ListParts n k id) refl
+  within_leaves fresh (ListUploads n p after limit) h = read_leaves (ListUploads n p after limit) refl
+  within_leaves fresh _ h = idle w s _ refl
+
+  pub within_outside : ((id : ℕ) (x : Upload) → at_id w s.content id ≡ Some x → id < s.content.next) → (r : Request) → IsWithin w r → (o : Outcome) → SameOutside w s.content (effect s r o).content
+  within_outside fresh r h o = effect_so (λ u. SameOutside w s.content u.content) s r o (idle w s s.content refl) (within_leaves fresh r h)
+
+-- and it is no copy
+pub within_uncopied : (w : Script) (r : Request) → IsWithin w r → is_copy r ≡ false
+within_uncopied w (CopyObject n source target) h = absurd h
+within_uncopied w r h = refl
 
 -- ---- keys below the destination
 
@@ -28,46 +165,18 @@ module _ {w : Script} (j : IsLegal w) where
   success_below : begins (dest_prefix w) (success_key w.dest.key) ≡ true
   success_below = begins_behind w.dest.key (codes "/") (codes "/_SUCCESS")
 
-  -- ---- attempts
+-- ---- attempts
 
-  upload_within : (k : Known) (f : File) (u : Uploading) → IsWithin w (upload_asks w k f u)
-  upload_within k f Creating = (refl, dest_below j f.0)
-  upload_within k f (Sending p ps) = (refl, dest_below j f.0)
-
-  module _ (m : Told) (a : Who) (r : Request) (own : IsOwn w (m.drawn a) r) where
-    abbrev Owned : Request → Type 0
-    Owned q = IsOwn w (m.drawn a) q
-
-    put_within : (k bytes : List ℕ) (header : Option ℕ) → r ≡ PutObject w.dest.bucket k bytes header → IsWithin w r
-    put_within k bytes header e = subst (IsWithin w) (sym e) (refl, magic_below k ((subst Owned e own).keys k (inl refl)))
-
-    write_within : (t : Write) → write_asks w a (known m a) t ≡ Some r → IsWithin w r
-    write_within (writes.Uploads f fs u) e = subst (IsWithin w) (some_is e) (upload_within (known m a) f u)
-    write_within (WriteOver end) e = absurd cc
-    write_within _ e = put_within _ _ _ (sym (some_is e))
-
-    commit_task_within : (t : TaskCommit) → task_commit_asks w a (known m a) t ≡ Some r → IsWithin w r
-    commit_task_within (Publishing cs) e = put_within _ _ _ (sym (some_is e))
-    commit_task_within (tasks.Uploads f fs u) e = subst (IsWithin w) (some_is e) (upload_within (known m a) f u)
-    commit_task_within (TaskCommitOver end) e = absurd cc
-    commit_task_within _ e = subst (IsWithin w) (some_is e) tt
-
-    abort_within : {minimum : ℕ} {s : Scene} {last : ℕ → Option ℕ} → Facts w minimum s last m → (t : TaskAbort) → FitsAbort w a (known m a) t → task_abort_asks w a t ≡ Some r → IsWithin w r
-    abort_within f (Dropping d ds b) h e =
-        let o = f.owned a d (h.1 d (inl refl)) in
-        subst (IsWithin w) (some_is e) (refl, ap (begins (dest_prefix w)) o.key ∙ dest_below j o.file.0)
-    abort_within f (aborts.Sweeping (Listing keys)) h e = subst (IsWithin w) (some_is e) tt
-    abort_within f (aborts.Sweeping (Deleting q qs)) h e =
-        let is : r ≡ DeleteObjects w.dest.bucket (take 1000 (q ∷ qs)) = sym (some_is e) in
-        subst (IsWithin w) (sym is) (refl, λ k i. magic_below k ((subst Owned is own).keys k i))
-    abort_within f aborts.Removing h e = subst (IsWithin w) (some_is e) tt
-    abort_within f (TaskAbortOver end) h e = absurd cc
-
-  operation_within : {minimum : ℕ} {s : Scene} {last : ℕ → Option ℕ} (g : Setting) (is : g.script ≡ w) (m : Told) → Facts w minimum s last m → (a : Who) (r : Request) → IsOwn w (m.drawn a) r → (op : Operation) → Fits w minimum a m op → asks (record { script = w; minimum = g.minimum; shared = g.shared }) a (known m a) op ≡ Some r → IsWithin w r
-  operation_within g is m f a r own (TheWrite t) h e = write_within m a r own t.operation e
-  operation_within g is m f a r own (TheTaskCommit t) h e = commit_task_within m a r own t.operation e
-  operation_within g is m f a r own (TheTaskAbort t) h e = abort_within m a r own f t.operation h e
-  operation_within g is m f a r own _ h e = absurd h
+asked_within : {w : Script} {minimum : ℕ} {back : Bool} {s : Scene} {last : ℕ → Option ℕ} (j : IsLegal w) (m : Told) → Facts w minimum s last m → (a : Who) → IsAttempt w a → (r : Request) → Asked w minimum a m back r → IsWithin w r
+asked_within {w = w} j m h a d _ (Asks.reads r only) = (reads_name r only).within w
+asked_within j m h a d _ (Asks.creates f free i fresh) = (refl, dest_below j f.0)
+asked_within j m h a d _ (Asks.sends f x bytes free i x_in key block) = (refl, dest_below j f.0)
+asked_within j m h a d _ (Asks.marks f magic i) = (refl, magic_below j _ (own_magic j magic (MarkerPlace a.task a.attempt f.0) (f, i, refl)))
+asked_within j m h a d _ (Asks.records f magic i x) = (refl, magic_below j _ (own_magic j magic (RecordPlace a.task a.attempt f.0) (f, i, refl)))
+asked_within j m h a d _ (Asks.publishes cs magic clean are) = (refl, magic_below j _ (set_magic j a.task d.task))
+asked_within {w = w} j m h a d _ (Asks.drops x b unsent i) = let o = h.owned a x i in (refl, ap (begins (dest_prefix w)) o.key ∙ dest_below j o.file.0)
+asked_within {w = w} j m h a d _ (Asks.sweeps keys b unsent own) = (refl, λ k i. magic_below j k (own_directory w a k (own k i)))
+asked_within j m h a d _ _ = tt
 
 -- ---- entries
 
@@ -75,7 +184,7 @@ pub attempt_changes : (g : Setting) → IsLegal g.script → (s : Seen) (m : Tol
     → IsZeroRename g.script (entry a n r o) s.scene.content (effect s.scene r o).content
 attempt_changes g j s m h a d op fits r e n o =
     let own = operation_own g j m a d op fits r e in
-    let within = operation_within j g refl m h a r own op fits e in
+    let within = asked_within j m h a d r (operation_asked g m a op fits r e) in
     record {
       uncopied = within_uncopied g.script r within;
       no_data = λ is. absurd cc;
@@ -86,17 +195,9 @@ attempt_changes g j s m h a d op fits r e n o =
 -- of the driver what takes effect may show, or it changes no file that is shown
 driver_shows : (w : Script) (s : Scene) (r : Request) → (may_show r ≡ true) ⊎ Same (view w.dest (apply s r).content) (view w.dest s.content) → (n : ℕ) (o : Outcome)
     → Same (view w.dest (effect s r o).content) (view w.dest s.content) ⊎ (((driver_entry n r o).actor ≡ Driver) × (may_show r ≡ true) × (is_effective o ≡ true))
-driver_shows w s r (inl may) n (Answered y) = inr (refl, may, refl)
-driver_shows w s r (inl may) n Slow = inl (λ p. refl)
-driver_shows w s r (inl may) n RequestLost = inl (λ p. refl)
-driver_shows w s r (inl may) n ReplyLost = inr (refl, may, refl)
-driver_shows w s r (inr same) n (Answered y) = inl same
-driver_shows w s r (inr same) n Slow = inl (λ p. refl)
-driver_shows w s r (inr same) n RequestLost = inl (λ p. refl)
-driver_shows w s r (inr same) n ReplyLost = inl same
-
-reads_show : (w : Script) (s : Scene) (r : Request) → only_reads r ≡ true → Same (view w.dest (apply s r).content) (view w.dest s.content)
-reads_show w s r h p = ap (λ (x : Scene). view w.dest x.content p) (reads_nothing s r h)
+driver_shows w s r shows n o =
+    effect_by (λ v u. Same (view w.dest u.content) (view w.dest s.content) ⊎ (((driver_entry n r v).actor ≡ Driver) × (may_show r ≡ true) × (is_effective v ≡ true))) s r o (λ none. inl (λ p. refl))
+    (λ took. elim shows [ inl may ↦ inr (refl, may, took) | inr same ↦ inl same ])
 
 -- ---- the set-up
 
@@ -106,14 +207,8 @@ module _ (w : Script) (j : IsLegal w) (s : Scene) where
   setup_plain (SetupOver end) r e = absurd cc
   setup_plain _ r e = (ap sends_data (sym (some_is e)), ap is_copy (sym (some_is e)))
 
-  outside_by : (r : Request) (o : Outcome) → SameOutside w s.content (apply s r).content → SameOutside w s.content (effect s r o).content
-  outside_by r Slow h = idle w s s.content refl
-  outside_by r RequestLost h = idle w s s.content refl
-  outside_by r _ h = h
-
   setup_outside : (t : Setup) → SetsUp w s.content t → (r : Request) → setup_asks w t ≡ Some r → SameOutside w s.content (apply s r).content
   setup_outside Clearing h r e = subst (λ q. SameOutside w s.content (apply s q).content) (some_is e) (delete_leaves w s h (success_key w.dest.key) (success_below j))
-  setup_outside (Sweeping (Listing keys)) h r e = idle w s _ (ap (λ (x : Scene). x.content) (reads_nothing s r (ap only_reads (sym (some_is e)))))
   setup_outside (Sweeping (Deleting q qs)) h r e =
       subst (λ x. SameOutside w s.content (apply s x).content) (some_is e) (batch_leaves w s h.0 (take 1000 (q ∷ qs)) (λ k i. magic_below j k (h.1 k (taken_in 1000 (q ∷ qs) k i))))
   setup_outside (SetupOver end) h r e = absurd cc
@@ -124,42 +219,40 @@ setup_changes w j s t h r e n o = record {
   uncopied = (setup_plain w j s t r e).1;
   no_data = λ is. (setup_plain w j s t r e).0;
   shows = inl (setup_alone w j s t h r e o).shows;
-  outside = outside_by w j s r o (setup_outside w j s t h r e);
+  outside = effect_so (λ u. SameOutside w s.content u.content) s r o (idle w s s.content refl) (setup_outside w j s t h r e);
 }
 
 -- ---- the abort and the clean of the job
 
-module _ (w : Script) (j : IsLegal w) (m : Told) where
-  clean_within : (t : Clean) → FitsClean w m.cleaned t → (r : Request) → clean_asks w t ≡ Some r → IsWithin w r × (sends_data r ≡ false)
-  clean_within (Aborting u us) h r e = (subst (IsWithin w) (some_is e) (refl, h.1 u (inl refl)), ap sends_data (sym (some_is e)))
-  clean_within (cleanups.Sweeping (Deleting q qs)) h r e = (subst (IsWithin w) (some_is e) (refl, λ k i. magic_below j k (h.1 k (taken_in 1000 (q ∷ qs) k i))), ap sends_data (sym (some_is e)))
-  clean_within (CleanOver end) h r e = absurd cc
-  clean_within _ h r e = (subst (IsWithin w) (some_is e) tt, ap sends_data (sym (some_is e)))
+clearing_within : {w : Script} → IsLegal w → {begun : Bool} {A B : Type 0} (r : Request) → IsClearing w begun A B r → A → B → IsWithin w r × (sends_data r ≡ false)
+clearing_within {w = w} j _ (reads r h) a b = let x = reads_name r h in (x.within w, x.no_data)
+clearing_within j r (aborts u h) a b = ((refl, h a), refl)
+clearing_within j r (batches keys begun h) a b = ((refl, λ k i. magic_below j k (h b k i)), refl)
+clearing_within j r (removes p begun) a b = (tt, refl)
+
+pub clearing_changes : {w : Script} {minimum : ℕ} → IsLegal w → (s : Seen) (m : Told) → Hold w minimum s m → {begun : Bool} {A B : Type 0} (r : Request) → IsClearing w begun A B r → A → B → (n : ℕ) (o : Outcome)
+    → IsZeroRename w (driver_entry n r o) s.scene.content (effect s.scene r o).content
+clearing_changes {w = w} j s m h r x a b n o =
+    let y = clearing_within j r x a b in
+    record { uncopied = within_uncopied w r y.0; no_data = λ is. y.1; shows = inl (hidden_shows j s.scene r o h.there (clearing_hides r x b)); outside = within_outside w s.scene h.there h.ids.fresh r y.0 o }
 
 pub clean_changes : (g : Setting) → IsLegal g.script → (s : Seen) (m : Told) → Hold g.script g.minimum s m → (t : Clean) → FitsClean g.script m.cleaned t → (r : Request) → clean_asks g.script t ≡ Some r → (n : ℕ) (o : Outcome)
     → IsZeroRename g.script (driver_entry n r o) s.scene.content (effect s.scene r o).content
-clean_changes g j s m h t fits r e n o =
-    let x = clean_within g.script j m t fits r e in
-    record {
-      uncopied = within_uncopied g.script r x.0;
-      no_data = λ is. x.1;
-      shows = inl (hidden_shows j s.scene r o h.there (clean_hides g.script g.minimum (record { commit = None; clean = None }) s m n j h t fits r e));
-      outside = within_outside g.script s.scene h.there h.ids.fresh r x.0 o;
-    }
+clean_changes g j s m h t fits r e n o = clearing_changes j s m h r (clean_asked g.script g.minimum (record { commit = None; clean = None }) s m n j h t fits r e) tt tt n o
 
 -- ---- the commit
 
-module _ (w : Script) (minimum : ℕ) (j : IsLegal w) (s : Seen) (m : Told) (c : Commit) (h : Commits w minimum s m c) where
+module _ (w : Script) (minimum : ℕ) (j : IsLegal w) (s : Seen) (m : Told) (there : HasBucket s.scene.content w.dest.bucket) where
   -- what a request of it is
   record Kind (r : Request) : Type 0 where
     pub within : IsWithin w r
     pub no_data : sends_data r ≡ false
     pub shows : (may_show r ≡ true) ⊎ Same (view w.dest (apply s.scene r).content) (view w.dest s.scene.content)
 
-  read_kind : (x : Committer) (t : ℕ) → Kind (set_request x w t)
-  read_kind Magic t = record { within = tt; no_data = refl; shows = inr (reads_show w s.scene (set_request Magic w t) refl) }
-  read_kind Directory t = record { within = tt; no_data = refl; shows = inr (reads_show w s.scene (set_request Directory w t) refl) }
-  read_kind Partitioned t = record { within = tt; no_data = refl; shows = inr (reads_show w s.scene (set_request Partitioned w t) refl) }
+  read_kind : (r : Request) → only_reads r ≡ true → Kind r
+  read_kind r h =
+      let x = reads_name r h in
+      record { within = x.within w; no_data = x.no_data; shows = inr (λ p. ap (λ (u : Scene). view w.dest u.content p) (reads_nothing s.scene r h)) }
 
   upload_below : (p : Pending) → IsCommit w minimum m.publish_sent m.drawn p → (p.bucket ≡ w.dest.bucket) × (begins (dest_prefix w) p.destination ≡ true)
   upload_below p x = (ap (λ (v : Pending). v.bucket) x.is, ap (λ (v : Pending). begins (dest_prefix w) v.destination) x.is ∙ dest_below j x.file.0)
@@ -170,32 +263,30 @@ module _ (w : Script) (minimum : ℕ) (j : IsLegal w) (s : Seen) (m : Told) (c :
       record {
         within = (refl, success_below j);
         no_data = refl;
-        shows = inr (view_but j s.scene.content (apply s.scene r).content (λ k ne. (frame s.scene w.dest.bucket r h.hold.there).keys k (λ b i. elim i [ inl is ↦ ne is | inr none ↦ absurd none ])));
+        shows = inr (view_but j s.scene.content (apply s.scene r).content (λ k ne. (frame s.scene w.dest.bucket r there).keys k (λ b i. elim i [ inl is ↦ ne is | inr none ↦ absurd none ])));
       }
 
-  kind_by : (d : Commit) → d ≡ c → (r : Request) → commit_asks w d ≡ Some r → Kind r
-  kind_by (Fetching sets n) v r e = subst Kind (some_is e) (read_kind w.committer (length sets))
-  kind_by (Replacing sets p ps (Listing keys) n) v r e = subst Kind (some_is e) (record { within = tt; no_data = refl; shows = inr (reads_show w s.scene (page_after w.dest.bucket p keys) refl) })
-  kind_by (Replacing sets p ps (Deleting q qs) n) v r e =
-      let f = subst (FitsJobCommit w minimum m.publish_sent m.drawn) (sym v) h.fits in
-      subst Kind (some_is e) (record { within = (refl, λ k i. (f.2 k (taken_in 1000 (q ∷ qs) k i)).1); no_data = refl; shows = inl refl })
-  kind_by (Completing sets x xs finished) v r e =
-      let t = subst (Tabled w) (sym v) h.tabled in
+  kind_by : (c : Commit) → Commits w minimum s m c → (r : Request) → commit_asks w c ≡ Some r → Kind r
+  kind_by (Fetching sets n) h r e = subst Kind (some_is e) (read_kind (set_request w.committer w (length sets)) (set_reads w.committer w (length sets)))
+  kind_by (Replacing sets p ps (Listing keys) n) h r e = subst Kind (some_is e) (read_kind (page_after w.dest.bucket p keys) refl)
+  kind_by (Replacing sets p ps (Deleting q qs) n) h r e =
+      subst Kind (some_is e) (record { within = (refl, λ k i. (h.fits.2 k (taken_in 1000 (q ∷ qs) k i)).1); no_data = refl; shows = inl refl })
+  kind_by (Completing sets x xs finished) h r e =
       let p = nth (all_commits sets) x.number in
-      let o = of_sets j h.hold sets (subst (FitsJobCommit w minimum m.publish_sent m.drawn) (sym v) h.fits) p (nth_of (all_commits sets) x.number (t.within x (inl refl))) in
+      let o = of_sets j h.hold sets h.fits p (nth_of (all_commits sets) x.number (h.tabled.within x (inl refl))) in
       subst Kind (some_is e) (record { within = upload_below p o.1.commit; no_data = refl; shows = inl refl })
-  kind_by (commits.Marking sets n) v r e = subst Kind (some_is e) (mark_kind _)
-  kind_by (Reverting q qs n) v r e =
-      let x = subst (Decides w minimum m.publish_sent m.drawn) (sym v) h.decides q (inl refl) in
+  kind_by (commits.Marking sets n) h r e = subst Kind (some_is e) (mark_kind _)
+  kind_by (Reverting q qs n) h r e =
+      let x = h.decides q (inl refl) in
       subst Kind (some_is e) (elim x.2 [
-        | inl is ↦ subst Kind (sym is) (record { within = upload_below x.0 x.1; no_data = refl; shows = inr (hidden_shows j s.scene (abort x.0) ReplyLost h.hold.there (λ b k i. absurd i)) })
+        | inl is ↦ subst Kind (sym is) (record { within = upload_below x.0 x.1; no_data = refl; shows = inr (hidden_shows j s.scene (abort x.0) ReplyLost there (λ b k i. absurd i)) })
         | inr is ↦ subst Kind (sym is) (record { within = upload_below x.0 x.1; no_data = refl; shows = inl refl })
       ])
-  kind_by (CommitOver end) v r e = absurd cc
+  kind_by (CommitOver end) h r e = absurd cc
 
 pub commit_changes : (g : Setting) → IsLegal g.script → (s : Seen) (m : Told) (c : Commit) → Commits g.script g.minimum s m c → (r : Request) → commit_asks g.script c ≡ Some r → (n : ℕ) (o : Outcome) → IsZeroRename g.script (driver_entry n r o) s.scene.content (effect s.scene r o).content
 commit_changes g j s m c h r e n o =
-    let x = kind_by g.script g.minimum j s m c h c refl r e in
+    let x = kind_by g.script g.minimum j s m h.hold.there c h r e in
     record {
       uncopied = within_uncopied g.script r x.within;
       no_data = λ is. x.no_data;

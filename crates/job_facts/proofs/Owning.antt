@@ -1,25 +1,120 @@
 -- An attempt names only what is its own, and takes nothing back once it has sent its publishing request.
-use Rattle.std.proofs.Common.{◌≡◌, ℕ, ◌+◌, inl, inr, true, false, List, [], ◌∷◌, length, Option, Some, None, refl, sym, ap, subst, ◌∙◌, append_assoc, codes, ◌++◌}
-use Rattle.job_facts.specs.Prelude.{decimal, begins, Request, PutObject, CreateUpload, UploadPart, AbortUpload, magic_prefix, cluster_prefix, MarkerPlace, RecordPlace, TemporaryPlace, StagedSetPlace, File, Who, IsLegal, Script, Drawn, Known, file_key, Listing, Deleting, Uploading, Creating, Sending, upload_asks, Write, Recording, WriteOver, write_asks, TaskCommit, Publishing, Storing, Renaming, TaskCommitOver, task_commit_asks, attempt_prefix, TaskAbort, Dropping, TaskAbortOver, task_abort_asks, Setting, Operation, TheWrite, TheTaskCommit, TheTaskAbort, asks, IsIn, changed_keys, changed_upload, changed_paths, Told, known, undoes, IsOwn, IsAttempt, Fits, FitsUpload, FitsWrite, FitsCommit, FitsAbort}
+use Rattle.std.proofs.Common.{◌≡◌, ℕ, inl, inr, true, false, List, [], ◌∷◌, Option, Some, None, refl, sym, ap, subst, ◌∙◌, append_assoc, codes, ◌++◌, Bool, ◌+◌, ◌⊎◌, length, take, slice_get}
+use Rattle.job_facts.specs.Prelude.{decimal, begins, Request, PutObject, magic_prefix, cluster_prefix, MarkerPlace, RecordPlace, TemporaryPlace, StagedSetPlace, Who, IsLegal, Script, Drawn, attempt_prefix, Setting, Operation, asks, IsIn, changed_keys, changed_upload, changed_paths, Told, known, undoes, IsOwn, IsAttempt, Fits, answer, IsHonestOutcome, only_reads, CreateUpload, UploadPart, AbortUpload, DeleteObjects, ClusterPut, ClusterRename, ClusterDelete, Outcome, staged_set_path, set_key, File, files, first_drawn, file_key, marker_key, record_key, record_text, set_text, file_parts, Uploading, Creating, Sending, upload_asks, Write, Recording, WriteOver, write_asks, TaskCommit, Publishing, Storing, Renaming, TaskCommitOver, task_commit_asks, temporary_path, Deleting, TaskAbort, Dropping, TaskAbortOver, task_abort_asks, TheWrite, TheTaskCommit, TheTaskAbort, Seen, see, is_magic, is_staging, entry, tell, IsWritten, AreCommits, Hold, IsOpen, FitsUpload, FitsWrite, FitsCommit, FitsAbort, Times}
 use Rattle.job_spec.proofs.Common.{some_is, none_some, false_true}
+use Rattle.job_facts.proofs.Placed.{own_magic, set_magic, path_below}
+use Rattle.job_facts.proofs.Shows.{begins_front}
+use Rattle.job_facts.proofs.Foreign.{reads_name}
 use Rattle.job_protocol.specs.Writes.{Marking}
 use Rattle.job_protocol.specs.Writes as writes
 use Rattle.job_protocol.specs.TaskCommits as commits
 use Rattle.job_protocol.specs.TaskAborts.{Sweeping, Removing}
-use Rattle.job_facts.proofs.Acting.{write_adds, commit_adds}
+use Rattle.job_facts.specs.Fits.{AllOwn}
+use Rattle.job_facts.proofs.Sent.{read_keeps, create_keeps, part_keeps, other_put_keeps, record_keeps, set_keeps, stage_keeps, rename_keeps, abort_keeps, delete_keeps, remove_keeps}
 use Rattle.job_facts.proofs.Aborting.{taken_in}
-use Rattle.job_facts.proofs.Placed.{own_magic, set_magic, path_below}
-use Rattle.job_facts.proofs.Uploads.{latest_in, asks_part}
-use Rattle.job_facts.proofs.Shows.{begins_front}
+use Rattle.job_facts.proofs.Uploads.{drop_more, latest_in, asks_part, begun_written}
+
+-- ---- what an attempt's operations ask for
+
+-- a request of an attempt with what is known of it then; `back` says that it may take something back
+pub data Asked (w : Script) (minimum : ℕ) (a : Who) (m : Told) (back : Bool) : Request → Type 0 where
+  reads : (r : Request) → only_reads r ≡ true → Asked w minimum a m back r
+  creates : (f : File) → IsOpen (known m a) → IsIn f (files w a) → ((d : Drawn) → IsIn d (m.drawn a) → d.key ≡ file_key w f → ⊥) → Asked w minimum a m back (CreateUpload w.dest.bucket (file_key w f))
+  sends : (f : File) (x : Drawn) (bytes : List ℕ) → IsOpen (known m a) → IsIn f (files w a) → IsIn x (m.drawn a) → x.key ≡ file_key w f → slice_get (file_parts w minimum f) (length x.tags) ≡ Some bytes
+      → Asked w minimum a m back (UploadPart w.dest.bucket (file_key w f) x.upload (length x.tags + 1) bytes)
+  marks : (f : File) → is_magic w.committer ≡ true → IsIn f (files w a) → Asked w minimum a m back (PutObject w.dest.bucket (marker_key w a f) [] (Some (length f.1)))
+  records : (f : File) → is_magic w.committer ≡ true → IsIn f (files w a) → (x : IsWritten w minimum (m.drawn a) f) → Asked w minimum a m back (PutObject w.dest.bucket (record_key w a f) (record_text w a f x.drawn) None)
+  publishes : (cs : List File) → is_magic w.committer ≡ true → m.undone a ≡ false → AreCommits w minimum (m.drawn a) a cs → Asked w minimum a m back (PutObject w.dest.bucket (set_key w.dest.key w.job a.task) (set_text w a cs (known m a)) None)
+  stores : is_staging w.committer ≡ true → AreCommits w minimum (m.drawn a) a (files w a) → Asked w minimum a m back (ClusterPut (temporary_path w a) (set_text w a (files w a) (known m a)))
+  renames : is_staging w.committer ≡ true → m.undone a ≡ false → Asked w minimum a m back (ClusterRename (temporary_path w a) (staged_set_path w.job a.task))
+  drops : (x : Drawn) → back ≡ true → m.publish_sent a ≡ false → IsIn x (m.drawn a) → Asked w minimum a m back (AbortUpload w.dest.bucket x.key x.upload)
+  sweeps : (keys : List (List ℕ)) → back ≡ true → m.publish_sent a ≡ false → AllOwn w a keys → Asked w minimum a m back (DeleteObjects w.dest.bucket keys)
+  removes : back ≡ true → m.publish_sent a ≡ false → Asked w minimum a m back (ClusterDelete (temporary_path w a))
+
+module _ (w : Script) (minimum : ℕ) (a : Who) (m : Told) where
+  upload_asked : {back : Bool} (f : File) (fs : List File) (u : Uploading) → IsOpen (known m a) → FitsUpload w minimum a (known m a) f fs u → Asked w minimum a m back (upload_asks w (known m a) f u)
+  upload_asked f fs Creating free t = creates f free (t.each f (inl refl)) (t.unknown f (inl refl))
+  upload_asked {back} f fs (Sending p ps) free b =
+      subst (Asked w minimum a m back) (sym (asks_part w minimum a b))
+      (sends f b.latest p free (b.each f (inl refl)) (latest_in w minimum a b) b.key (drop_more w minimum a (file_parts w minimum f) (length b.latest.tags) p ps b.left).2)
+
+  pub write_asked : (t : Write) → FitsWrite w minimum a (known m a) t → (r : Request) → write_asks w a (known m a) t ≡ Some r → Asked w minimum a m false r
+  write_asked (writes.Uploads f fs u) fits r e = subst (Asked w minimum a m false) (some_is e) (upload_asked f fs u fits.1 fits.2)
+  write_asked (Marking f fs) fits r e = subst (Asked w minimum a m false) (some_is e) (marks f fits.0 (fits.2.each f (inl refl)))
+  write_asked (Recording f fs) fits r e =
+      let b = fits.2 in
+      let same = ap (λ x. PutObject w.dest.bucket (record_key w a f) (record_text w a f x) None) (sym (ap first_drawn b.is)) in
+      subst (Asked w minimum a m false) (same ∙ some_is e) (records f fits.0 (b.each f (inl refl)) (begun_written w minimum a (m.drawn a) f fs b))
+  write_asked (WriteOver end) fits r e = absurd cc
+
+  pub commit_asked : m.undone a ≡ false → (t : TaskCommit) → FitsCommit w minimum a (known m a) t → (r : Request) → task_commit_asks w a (known m a) t ≡ Some r → Asked w minimum a m false r
+  commit_asked clean (Publishing cs) fits r e = subst (Asked w minimum a m false) (some_is e) (publishes cs fits.0 clean fits.1)
+  commit_asked clean (commits.Uploads f fs u) fits r e = subst (Asked w minimum a m false) (some_is e) (upload_asked f fs u fits.1 fits.2)
+  commit_asked clean Storing fits r e = subst (Asked w minimum a m false) (some_is e) (stores fits.0 fits.1)
+  commit_asked clean Renaming fits r e = subst (Asked w minimum a m false) (some_is e) (renames fits.0 clean)
+  commit_asked clean (TaskCommitOver end) fits r e = absurd cc
+  commit_asked clean _ fits r e = reads r (ap only_reads (sym (some_is e)))
+
+  pub abort_asked : (t : TaskAbort) → FitsAbort w a (known m a) t → (r : Request) → task_abort_asks w a t ≡ Some r → Asked w minimum a m true r
+  abort_asked (Dropping x xs sent) fits r e = subst (Asked w minimum a m true) (some_is e) (drops x refl fits.0 (fits.1 x (inl refl)))
+  abort_asked (Sweeping (Deleting q qs)) fits r e = subst (Asked w minimum a m true) (some_is e) (sweeps (take 1000 (q ∷ qs)) refl fits.0 (λ x i. fits.1 x (taken_in 1000 (q ∷ qs) x i)))
+  abort_asked Removing fits r e = subst (Asked w minimum a m true) (some_is e) (removes refl fits)
+  abort_asked (TaskAbortOver end) fits r e = absurd cc
+  abort_asked _ fits r e = reads r (ap only_reads (sym (some_is e)))
+
+-- whether the operation takes something back
+abbrev pub takes_back : Operation → Bool
+takes_back (TheTaskAbort t) = true
+takes_back _ = false
+
+pub operation_asked : (g : Setting) (m : Told) (a : Who) (op : Operation) → Fits g.script g.minimum a m op → (r : Request) → asks g a (known m a) op ≡ Some r → Asked g.script g.minimum a m (takes_back op) r
+operation_asked g m a (TheWrite t) fits r e = write_asked g.script g.minimum a m t.operation fits.1 r e
+operation_asked g m a (TheTaskCommit t) fits r e = commit_asked g.script g.minimum a m fits.0 t.operation fits.1 r e
+operation_asked g m a (TheTaskAbort t) fits r e = abort_asked g.script g.minimum a m t.operation fits r e
+operation_asked g m a _ fits r e = absurd fits
+
+-- it takes nothing back, unless it may, and none of it does once the publishing request is sent
+pub asked_adds : {w : Script} {minimum : ℕ} {a : Who} {m : Told} {back : Bool} (r : Request) → Asked w minimum a m back r → (back ≡ false) ⊎ (m.publish_sent a ≡ true) → undoes r ≡ false
+asked_adds _ (reads r h) kept = (reads_name r h).undo
+asked_adds _ (drops x b unsent i) kept = elim kept [ inl h ↦ absurd (false_true h b) | inr h ↦ absurd (false_true unsent h) ]
+asked_adds _ (sweeps keys b unsent own) kept = elim kept [ inl h ↦ absurd (false_true h b) | inr h ↦ absurd (false_true unsent h) ]
+asked_adds _ (removes b unsent) kept = elim kept [ inl h ↦ absurd (false_true h b) | inr h ↦ absurd (false_true unsent h) ]
+asked_adds _ _ kept = refl
+
+-- the facts are kept
+pub asked_keeps : {w : Script} {minimum : ℕ} {back : Bool} (j : IsLegal w) (k : Times) (s : Seen) (m : Told) (a : Who) (n : ℕ) → IsAttempt w a → Hold w minimum s m → (r : Request) → Asked w minimum a m back r → (o : Outcome) → IsHonestOutcome o (answer s.scene r)
+    → Hold w minimum (see w k s (entry a n r o)) (tell w m (entry a n r o))
+asked_keeps {w = w} {minimum = minimum} j k s m a n d h _ (reads r only) = read_keeps w minimum k s m a n h r only
+asked_keeps {w = w} {minimum = minimum} j k s m a n d h _ (creates f free i fresh) = create_keeps w minimum k s m a n h j f i free fresh
+asked_keeps {w = w} {minimum = minimum} j k s m a n d h _ (sends f x bytes free i x_in key block) = part_keeps w minimum k s m a n h j f x bytes i free x_in key block
+asked_keeps {w = w} {minimum = minimum} j k s m a n d h _ (marks f magic i) =
+    other_put_keeps w minimum k s m a n h j magic (MarkerPlace a.task a.attempt f.0) [] (Some (length f.1)) (f, i, refl) d.task (λ t e. absurd cc) (λ b g k e. absurd cc)
+asked_keeps {w = w} {minimum = minimum} j k s m a n d h _ (records f magic i x) = record_keeps w minimum k s m a n h j d magic f i x
+asked_keeps {w = w} {minimum = minimum} j k s m a n d h _ (publishes cs magic clean are) = set_keeps w minimum k s m a n h j magic d clean cs are
+asked_keeps {w = w} {minimum = minimum} j k s m a n d h _ (stores staging are) = stage_keeps w minimum k s m a n h j staging d are
+asked_keeps {w = w} {minimum = minimum} j k s m a n d h _ (renames staging clean) = rename_keeps w minimum k s m a n h j staging d clean
+asked_keeps {w = w} {minimum = minimum} j k s m a n d h _ (drops x b unsent i) = abort_keeps w minimum k s m a n h j x i unsent
+asked_keeps {w = w} {minimum = minimum} j k s m a n d h _ (sweeps keys b unsent own) = delete_keeps w minimum k s m a n h keys own unsent
+asked_keeps {w = w} {minimum = minimum} j k s m a n d h _ (removes b unsent) = remove_keeps w minimum k s m a n h j d unsent
+
+-- it changes no path but that of its temporary file and that of its task's set
+pub asked_path : {w : Script} {minimum : ℕ} {a : Who} {m : Told} {back : Bool} (r : Request) → Asked w minimum a m back r → (p : List ℕ) → IsIn p (changed_paths r) → (p ≡ temporary_path w a) ⊎ (p ≡ staged_set_path w.job a.task)
+asked_path _ (reads r h) p i = absurd (subst (λ (l : List (List ℕ)). IsIn p l) (reads_name r h).paths i)
+asked_path _ (stores staging are) p i = elim i [ inl is ↦ inl is | inr none ↦ absurd none ]
+asked_path _ (renames staging clean) p i = elim i [ inl is ↦ inl is | inr more ↦ elim more [ inl is ↦ inr is | inr none ↦ absurd none ] ]
+asked_path _ (removes b unsent) p i = elim i [ inl is ↦ inl is | inr none ↦ absurd none ]
+asked_path _ _ p i = absurd i
+
+-- ---- names only what is its own
 
 module _ {w : Script} (ds : List Drawn) where
-  -- it changes nothing that has a name
-  names_nothing : (r : Request) → changed_keys r ≡ [] → changed_upload r ≡ None → changed_paths r ≡ [] → IsOwn w ds r
-  names_nothing r a b c = record {
+  -- it changes paths of the job's own, and nothing else that has a name
+  names_paths : (r : Request) → changed_keys r ≡ [] → changed_upload r ≡ None → ((p : List ℕ) → IsIn p (changed_paths r) → begins (cluster_prefix w.job) p ≡ true) → IsOwn w ds r
+  names_paths r a b own = record {
     bucket = λ k i. absurd (subst (λ (l : List (List ℕ)). IsIn k l) a i);
     keys = λ k i. absurd (subst (λ (l : List (List ℕ)). IsIn k l) a i);
     uploads = λ id e. absurd (none_some b e);
-    paths = λ p i. absurd (subst (λ (l : List (List ℕ)). IsIn p l) c i);
+    paths = own;
   }
 
   -- an upload that the attempt knows
@@ -40,12 +135,6 @@ module _ {w : Script} (ds : List Drawn) where
     paths = λ p i. absurd i;
   }
 
-  upload_own : (minimum : ℕ) (a : Who) (k : Known) (f : File) (fs : List File) (u : Uploading) → k.drawn ≡ ds → FitsUpload w minimum a k f fs u → IsOwn w ds (upload_asks w k f u)
-  upload_own minimum a k f fs Creating is h = names_nothing (CreateUpload w.dest.bucket (file_key w f)) refl refl refl
-  upload_own minimum a k f fs (Sending p ps) is b =
-      subst (IsOwn w ds) (sym (asks_part w minimum a b))
-      (names_upload (UploadPart w.dest.bucket (file_key w f) b.latest.upload (length b.latest.tags + 1) p) b.latest (subst (λ (l : List Drawn). IsIn b.latest l) is (latest_in w minimum a b)) refl refl refl)
-
 -- an attempt's directory is below the job's magic directory
 pub own_directory : (w : Script) (a : Who) (q : List ℕ) → begins (attempt_prefix w a) q ≡ true → begins (magic_prefix w.dest.key w.job) q ≡ true
 own_directory w a q h =
@@ -58,66 +147,25 @@ own_directory w a q h =
         ∙ ap (λ l. w.dest.key ++ (codes "/__magic/job-" ++ l)) (append_assoc w.job (47 ∷ rest) (codes "/") ∙ sym (append_assoc w.job (codes "/") (rest ++ codes "/")))
         ∙ sym (append_assoc w.dest.key (codes "/__magic/job-" ++ (w.job ++ codes "/")) (rest ++ codes "/"))
 
-module _ (w : Script) (minimum : ℕ) (a : Who) (j : IsLegal w) (d : IsAttempt w a) (m : Told) where
-  write_own : (t : Write) → FitsWrite w minimum a (known m a) t → (r : Request) → write_asks w a (known m a) t ≡ Some r → IsOwn w (m.drawn a) r
-  write_own (writes.Uploads f fs u) h r e = subst (IsOwn w (m.drawn a)) (some_is e) (upload_own (m.drawn a) minimum a (known m a) f fs u refl h.2)
-  write_own (Marking f fs) h r e = subst (IsOwn w (m.drawn a)) (some_is e) (names_key (m.drawn a) _ _ _ (own_magic j h.0 (MarkerPlace a.task a.attempt f.0) (f, h.2.each f (inl refl), refl)))
-  write_own (Recording f fs) h r e = subst (IsOwn w (m.drawn a)) (some_is e) (names_key (m.drawn a) _ _ _ (own_magic j h.0 (RecordPlace a.task a.attempt f.0) (f, h.2.each f (inl refl), refl)))
-  write_own (WriteOver end) h r e = absurd cc
-
-  commit_own : (t : TaskCommit) → FitsCommit w minimum a (known m a) t → (r : Request) → task_commit_asks w a (known m a) t ≡ Some r → IsOwn w (m.drawn a) r
-  commit_own (Publishing cs) h r e = subst (IsOwn w (m.drawn a)) (some_is e) (names_key (m.drawn a) _ _ _ (set_magic j a.task d.task))
-  commit_own (commits.Uploads f fs u) h r e = subst (IsOwn w (m.drawn a)) (some_is e) (upload_own (m.drawn a) minimum a (known m a) f fs u refl h.2)
-  commit_own Storing h r e = subst (IsOwn w (m.drawn a)) (some_is e) (record {
-    bucket = λ k i. absurd i;
-    keys = λ k i. absurd i;
-    uploads = λ id q. absurd (none_some refl q);
-    paths = λ p i. elim i [ inl is ↦ ap (begins (cluster_prefix w.job)) is ∙ path_below w (TemporaryPlace a.task a.attempt) | inr none ↦ absurd none ];
-  })
-  commit_own Renaming h r e = subst (IsOwn w (m.drawn a)) (some_is e) (record {
-    bucket = λ k i. absurd i;
-    keys = λ k i. absurd i;
-    uploads = λ id q. absurd (none_some refl q);
-    paths = λ p i. elim i [
-      | inl is ↦ ap (begins (cluster_prefix w.job)) is ∙ path_below w (TemporaryPlace a.task a.attempt)
-      | inr more ↦ elim more [ inl is ↦ ap (begins (cluster_prefix w.job)) is ∙ path_below w (StagedSetPlace a.task) | inr none ↦ absurd none ]
-    ];
-  })
-  commit_own (TaskCommitOver end) h r e = absurd cc
-  commit_own _ h r e = subst (IsOwn w (m.drawn a)) (some_is e) (names_nothing (m.drawn a) _ refl refl refl)
-
-  abort_own : (t : TaskAbort) → FitsAbort w a (known m a) t → (r : Request) → task_abort_asks w a t ≡ Some r → IsOwn w (m.drawn a) r
-  abort_own (Dropping x xs sent) h r e = subst (IsOwn w (m.drawn a)) (some_is e) (names_upload (m.drawn a) (AbortUpload w.dest.bucket x.key x.upload) x (h.1 x (inl refl)) refl refl refl)
-  abort_own (Sweeping (Listing keys)) h r e = subst (IsOwn w (m.drawn a)) (some_is e) (names_nothing (m.drawn a) _ refl refl refl)
-  abort_own (Sweeping (Deleting q qs)) h r e = subst (IsOwn w (m.drawn a)) (some_is e) (record {
-    bucket = λ k i. refl;
-    keys = λ k i. own_directory w a k (h.1 k (taken_in 1000 (q ∷ qs) k i));
-    uploads = λ id z. absurd (none_some refl z);
-    paths = λ p i. absurd i;
-  })
-  abort_own Removing h r e = subst (IsOwn w (m.drawn a)) (some_is e) (record {
-    bucket = λ k i. absurd i;
-    keys = λ k i. absurd i;
-    uploads = λ id q. absurd (none_some refl q);
-    paths = λ p i. elim i [ inl is ↦ ap (begins (cluster_prefix w.job)) is ∙ path_below w (TemporaryPlace a.task a.attempt) | inr none ↦ absurd none ];
-  })
-  abort_own (TaskAbortOver end) h r e = absurd cc
-
-  -- an abort that asks has not published
-  abort_unsent : (t : TaskAbort) → FitsAbort w a (known m a) t → (r : Request) → task_abort_asks w a t ≡ Some r → m.publish_sent a ≡ false
-  abort_unsent Removing h r e = h
-  abort_unsent (TaskAbortOver end) h r e = absurd cc
-  abort_unsent _ h r e = h.0
+pub asked_own : {w : Script} {minimum : ℕ} {back : Bool} (j : IsLegal w) (a : Who) (d : IsAttempt w a) (m : Told) (r : Request) → Asked w minimum a m back r → IsOwn w (m.drawn a) r
+asked_own j a d m _ (reads r h) = let x = reads_name r h in names_paths (m.drawn a) r x.keys x.upload (λ p i. absurd (subst (λ (l : List (List ℕ)). IsIn p l) x.paths i))
+asked_own j a d m _ (creates f free i fresh) = names_paths (m.drawn a) _ refl refl (λ p k. absurd k)
+asked_own j a d m _ (sends f x bytes free i x_in key block) = names_upload (m.drawn a) _ x x_in refl refl refl
+asked_own j a d m _ (marks f magic i) = names_key (m.drawn a) _ _ _ (own_magic j magic (MarkerPlace a.task a.attempt f.0) (f, i, refl))
+asked_own j a d m _ (records f magic i x) = names_key (m.drawn a) _ _ _ (own_magic j magic (RecordPlace a.task a.attempt f.0) (f, i, refl))
+asked_own j a d m _ (publishes cs magic clean are) = names_key (m.drawn a) _ _ _ (set_magic j a.task d.task)
+asked_own {w = w} j a d m _ (stores staging are) = names_paths (m.drawn a) _ refl refl (λ p i. elim i [ inl is ↦ ap (begins (cluster_prefix w.job)) is ∙ path_below w (TemporaryPlace a.task a.attempt) | inr none ↦ absurd none ])
+asked_own {w = w} j a d m _ (renames staging clean) = names_paths (m.drawn a) _ refl refl (λ p i. elim i [
+  | inl is ↦ ap (begins (cluster_prefix w.job)) is ∙ path_below w (TemporaryPlace a.task a.attempt)
+  | inr more ↦ elim more [ inl is ↦ ap (begins (cluster_prefix w.job)) is ∙ path_below w (StagedSetPlace a.task) | inr none ↦ absurd none ]
+])
+asked_own j a d m _ (drops x b unsent i) = names_upload (m.drawn a) _ x i refl refl refl
+asked_own {w = w} j a d m _ (sweeps keys b unsent own) = record { bucket = λ k i. refl; keys = λ k i. own_directory w a k (own k i); uploads = λ id z. absurd (none_some refl z); paths = λ p i. absurd i }
+asked_own {w = w} j a d m _ (removes b unsent) = names_paths (m.drawn a) _ refl refl (λ p i. elim i [ inl is ↦ ap (begins (cluster_prefix w.job)) is ∙ path_below w (TemporaryPlace a.task a.attempt) | inr none ↦ absurd none ])
 
 module _ (g : Setting) (j : IsLegal g.script) (m : Told) (a : Who) (d : IsAttempt g.script a) where
   pub operation_own : (op : Operation) → Fits g.script g.minimum a m op → (r : Request) → asks g a (known m a) op ≡ Some r → IsOwn g.script (m.drawn a) r
-  operation_own (TheWrite t) h r e = write_own g.script g.minimum a j d m t.operation h.1 r e
-  operation_own (TheTaskCommit t) h r e = commit_own g.script g.minimum a j d m t.operation h.1 r e
-  operation_own (TheTaskAbort t) h r e = abort_own g.script g.minimum a j d m t.operation h r e
-  operation_own _ h r e = absurd h
+  operation_own op h r e = asked_own j a d m r (operation_asked g m a op h r e)
 
   pub operation_adds : (op : Operation) → Fits g.script g.minimum a m op → (r : Request) → asks g a (known m a) op ≡ Some r → m.publish_sent a ≡ true → undoes r ≡ false
-  operation_adds (TheWrite t) h r e sent = write_adds g.script a (known m a) t.operation r e
-  operation_adds (TheTaskCommit t) h r e sent = commit_adds g.script a (known m a) t.operation r e
-  operation_adds (TheTaskAbort t) h r e sent = absurd (false_true (abort_unsent g.script g.minimum a j d m t.operation h r e) sent)
-  operation_adds _ h r e sent = absurd h
+  operation_adds op h r e sent = asked_adds r (operation_asked g m a op h r e) (inr sent)

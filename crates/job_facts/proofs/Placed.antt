@@ -1,11 +1,11 @@
 -- Places of a job: where they are, and that they are apart.
 use Rattle.std.proofs.Common.{◌≡◌, ℕ, ◌<◌, true, List, [], ◌∷◌, ◌++◌, Option, Some, None, refl, sym, ap, ◌∙◌, codes}
-use Rattle.job_facts.specs.Prelude.{decimal, option_map, Scene, begins, Object, Committer, Magic, Directory, Partitioned, magic_prefix, cluster_prefix, Place, FilePlace, MarkerPlace, RecordPlace, SetPlace, SuccessPlace, TemporaryPlace, StagedSetPlace, key_at, path_at, is_record, File, Who, IsLegal, Script, files, file_key, is_magic, is_staging, IsIn, IsAttempt, IsOwnPlace, at_place, at_path, set_at}
+use Rattle.job_facts.specs.Prelude.{decimal, option_map, Scene, begins, Object, Committer, Magic, magic_prefix, cluster_prefix, Place, FilePlace, MarkerPlace, RecordPlace, SetPlace, SuccessPlace, TemporaryPlace, StagedSetPlace, key_at, path_at, is_record, File, Who, IsLegal, Script, files, file_key, is_magic, is_staging, IsIn, IsAttempt, IsOwnPlace, at_place, at_path, set_at}
 use Rattle.job_spec.proofs.Common.{false≢true, append_cancel_left, begins_behind, below_is, key_magic}
 use Rattle.job_spec.specs.Prelude.{ClusterPlace}
 use Rattle.magic_paths.specs.Places.{IsPlace, IsClusterPlace, is_magic_place}
 use Rattle.magic_paths.proofs.Tails.{keys_apart, paths_apart}
-use Rattle.job_facts.proofs.Whose.{attempt}
+use Rattle.job_facts.proofs.Whose.{attempt, who_of}
 use Rattle.job_facts.proofs.Legal.{some_dest, is_attempt, no_record, same_file, small_task, small_attempt}
 
 -- ---- the committers
@@ -64,14 +64,22 @@ pub path_below : (w : Script) (p : ClusterPlace) → begins (cluster_prefix w.jo
 path_below w (TemporaryPlace t a) = behind_job w.job (codes "tmp/" ++ (decimal t ++ (codes "_" ++ (decimal a ++ codes ".pendingset"))))
 path_below w (StagedSetPlace t) = behind_job w.job (codes "sets/task_" ++ (decimal t ++ codes ".pendingset"))
 
-pub temporary_place : {w : Script} → IsLegal w → (a : Who) → IsAttempt w a → IsClusterPlace (TemporaryPlace a.task a.attempt)
-temporary_place j a d = small_attempt j a d
-
-pub staged_place : {w : Script} → IsLegal w → (t : ℕ) → t < w.tasks → IsClusterPlace (StagedSetPlace t)
-staged_place j t h = small_task j t h
-
 pub one_path : {w : Script} → IsLegal w → (p q : ClusterPlace) → IsClusterPlace p → IsClusterPlace q → path_at w.job p ≡ path_at w.job q → p ≡ q
 one_path {w = w} j p q g h e = (paths_apart w.job w.job p q j.job j.job g h e).0
+
+-- temporary files of one path are of one attempt
+pub one_temporary : {w : Script} → IsLegal w → (a b : Who) → IsAttempt w a → IsAttempt w b → path_at w.job (TemporaryPlace a.task a.attempt) ≡ path_at w.job (TemporaryPlace b.task b.attempt) → a ≡ b
+one_temporary j a b d e is =
+    let at : TemporaryPlace a.task a.attempt ≡ TemporaryPlace b.task b.attempt = one_path j (TemporaryPlace a.task a.attempt) (TemporaryPlace b.task b.attempt) (small_attempt j a d) (small_attempt j b e) is in
+    let t : a.task ≡ b.task = cc in
+    let n : a.attempt ≡ b.attempt = cc in
+    who_of a b t n
+
+-- and none is a task's set
+pub not_staged : {w : Script} → IsLegal w → (a : Who) (t : ℕ) → IsAttempt w a → t < w.tasks → path_at w.job (TemporaryPlace a.task a.attempt) ≡ path_at w.job (StagedSetPlace t) → ⊥
+not_staged j a t d lt is =
+    let at : TemporaryPlace a.task a.attempt ≡ StagedSetPlace t = one_path j (TemporaryPlace a.task a.attempt) (StagedSetPlace t) (small_attempt j a d) (small_task j t lt) is in
+    absurd cc
 
 -- ---- a task's set, where the committer keeps it
 
@@ -87,18 +95,13 @@ pub set_same : (c : Committer) (w : Script) (s u : Scene) (t : ℕ) → at_place
 set_same Magic w s u t e f = ap (option_map (λ o. o.bytes)) e
 set_same _ w s u t e f = f
 
--- what stands stood before
-pub set_stood : (c : Committer) (w : Script) (s u : Scene) (t : ℕ) (b : List ℕ) → ((x : Object) → at_place w u.content (SetPlace t) ≡ Some x → at_place w s.content (SetPlace t) ≡ Some x)
-    → ((x : List ℕ) → at_path w u (StagedSetPlace t) ≡ Some x → at_path w s (StagedSetPlace t) ≡ Some x) → set_at c w u t ≡ Some b → set_at c w s t ≡ Some b
-set_stood Magic w s u t b e f h = by (at_place w u.content (SetPlace t)) refl h
-  where
-    by : (o : Option Object) → at_place w u.content (SetPlace t) ≡ o → option_map (λ o. o.bytes) o ≡ Some b → option_map (λ o. o.bytes) (at_place w s.content (SetPlace t)) ≡ Some b
-    by None g k = absurd cc
-    by (Some x) g k = ap (option_map (λ o. o.bytes)) (e x g) ∙ k
-set_stood Directory w s u t b e f h = f b h
-set_stood Partitioned w s u t b e f h = f b h
-
 -- an object that stands there, of which these are the bytes
 pub set_object : (o : Option Object) (b : List ℕ) → option_map (λ o. o.bytes) o ≡ Some b → (x : Object) × (o ≡ Some x) × (x.bytes ≡ b)
 set_object None b h = absurd cc
 set_object (Some x) b h = (x, refl, cc)
+
+-- what stands stood before
+pub set_stood : (c : Committer) (w : Script) (s u : Scene) (t : ℕ) (b : List ℕ) → ((x : Object) → at_place w u.content (SetPlace t) ≡ Some x → at_place w s.content (SetPlace t) ≡ Some x)
+    → ((x : List ℕ) → at_path w u (StagedSetPlace t) ≡ Some x → at_path w s (StagedSetPlace t) ≡ Some x) → set_at c w u t ≡ Some b → set_at c w s t ≡ Some b
+set_stood Magic w s u t b e f h = let x = set_object (at_place w u.content (SetPlace t)) b h in ap (option_map (λ o. o.bytes)) (e x.0 x.1) ∙ ap (λ v. Some v) x.2
+set_stood _ w s u t b e f h = f b h

@@ -1,47 +1,31 @@
 -- The picks that are seen as the driver's commit reads the sets.
-use Rattle.std.proofs.Common.{◌≡◌, ℕ, zero, suc, ◌+◌, ◌<◌, ◌≤◌, ◌^◌, ◌⊎◌, inl, inr, ◌&&◌, Bool, true, false, cond, List, [], ◌∷◌, ◌++◌, length, slice_get, Option, Some, refl, sym, ap, subst, ◌∙◌, arith, length-append}
+use Rattle.std.proofs.Common.{◌≡◌, ℕ, zero, suc, ◌+◌, ◌<◌, ◌≤◌, ◌^◌, inl, inr, ◌&&◌, Bool, true, false, cond, List, [], ◌∷◌, ◌++◌, length, slice_get, Option, Some, refl, sym, ap, subst, ◌∙◌, arith, length-append}
 use Rattle.job_facts.specs.Prelude.{option_map, Scene, answer, Committer, Magic, Reply, SetPlace, StagedSetPlace, PendingSet, IsLegal, Script, Picks, files_set, Sets, set_request, set_read, fetched, is_magic, is_staging, is_reading, picks_by, Told, Facts, knowing}
-use Rattle.job_spec.proofs.Common.{text_true, text_false, same_or_not}
+use Rattle.job_spec.proofs.Common.{text_true, text_false, cases_lt}
 use Rattle.magic_paths.specs.Layout as layout
 use Rattle.job_facts.proofs.Legal.{small_task}
 use Rattle.job_facts.proofs.Placed.{one_place, one_path}
 use Rattle.job_facts.proofs.Replies.{set_answered}
 use Rattle.job_facts.proofs.Agreeing.{AgreeBelow, Agrees, agrees_fetching}
+use Rattle.std.specs.Cmp.Derive.{both_true}
+use Rattle.job_facts.proofs.Whose.{and_false}
 
 -- ---- which task a read is of
 
 module _ {w : Script} (j : IsLegal w) where
-  set_task : {a b : ℕ} → SetPlace a ≡ SetPlace b → a ≡ b
-  set_task e = cc
-
-  staged_task : {a b : ℕ} → StagedSetPlace a ≡ StagedSetPlace b → a ≡ b
-  staged_task e = cc
-
-  and_true : (a b c : Bool) → a ≡ true → b ≡ true → c ≡ true → (a && (b && c)) ≡ true
-  and_true a b c h g k = rw (h, g, k) refl
-
-  and_last : (a b c : Bool) → c ≡ false → (a && (b && c)) ≡ false
-  and_last true true c h = h
-  and_last true false c h = refl
-  and_last false b c h = refl
-
-  and_two : (a b : Bool) → a ≡ true → b ≡ true → (a && b) ≡ true
-  and_two a b h g = rw (h, g) refl
-
   and_end : (a b : Bool) → b ≡ false → (a && b) ≡ false
-  and_end true b h = h
-  and_end false b h = refl
+  and_end a b h = ap (λ c. a && c) h ∙ and_false a
 
   reads_by : (c : Committer) → w.committer ≡ c → (t : ℕ) → is_reading w t (set_request c w t) ≡ true
-  reads_by Magic e t = and_true _ _ _ (ap is_magic e) (text_true w.dest.bucket w.dest.bucket refl) (text_true (layout.set_key w.dest.key w.job t) (layout.set_key w.dest.key w.job t) refl)
-  reads_by _ e t = and_two _ _ (ap is_staging e) (text_true (layout.staged_set_path w.job t) (layout.staged_set_path w.job t) refl)
+  reads_by Magic e t = both_true (ap is_magic e) (both_true (text_true w.dest.bucket w.dest.bucket refl) (text_true (layout.set_key w.dest.key w.job t) (layout.set_key w.dest.key w.job t) refl))
+  reads_by _ e t = both_true (ap is_staging e) (text_true (layout.staged_set_path w.job t) (layout.staged_set_path w.job t) refl)
 
   pub reads_it : (t : ℕ) → is_reading w t (set_request w.committer w t) ≡ true
   reads_it t = reads_by w.committer refl t
 
   other_by : (c : Committer) → (t u : ℕ) → t < w.tasks → u < w.tasks → (t ≡ u → ⊥) → is_reading w t (set_request c w u) ≡ false
-  other_by Magic t u l k ne = and_last _ _ _ (text_false _ _ (λ e. ne (sym (set_task (one_place j (SetPlace u) (SetPlace t) (small_task j u k) (small_task j t l) e)))))
-  other_by _ t u l k ne = and_end _ _ (text_false _ _ (λ e. ne (sym (staged_task (one_path j (StagedSetPlace u) (StagedSetPlace t) (small_task j u k) (small_task j t l) e)))))
+  other_by Magic t u l k ne = and_end _ _ (and_end _ _ (text_false _ _ (λ e. ne (let at : SetPlace u ≡ SetPlace t = one_place j (SetPlace u) (SetPlace t) (small_task j u k) (small_task j t l) e in cc))))
+  other_by _ t u l k ne = and_end _ _ (text_false _ _ (λ e. ne (let at : StagedSetPlace u ≡ StagedSetPlace t = one_path j (StagedSetPlace u) (StagedSetPlace t) (small_task j u k) (small_task j t l) e in cc)))
 
   pub reads_other : (t u : ℕ) → t < w.tasks → u < w.tasks → (t ≡ u → ⊥) → is_reading w t (set_request w.committer w u) ≡ false
   reads_other t u l k ne = other_by w.committer t u l k ne
@@ -63,11 +47,7 @@ module _ {w : Script} {minimum : ℕ} {s : Scene} {last : ℕ → Option ℕ} {m
   next = picks_by w begun last picks (set_request w.committer w (length sets))
 
   next_other : (t : ℕ) → t < w.tasks → (t ≡ length sets → ⊥) → next t ≡ picks t
-  next_other t l ne = ap (λ b. cond (begun && b) (last t) (picks t)) (reads_other j t (length sets) l low ne) ∙ ap (λ b. cond b (last t) (picks t)) (no_task begun)
-    where
-      no_task : (b : Bool) → (b && false) ≡ false
-      no_task true = refl
-      no_task false = refl
+  next_other t l ne = ap (λ b. cond (begun && b) (last t) (picks t)) (reads_other j t (length sets) l low ne) ∙ ap (λ b. cond b (last t) (picks t)) (and_false begun)
 
   next_here : next (length sets) ≡ last (length sets)
   next_here = ap (λ b. cond (begun && b) (last (length sets)) (picks (length sets))) (reads_it j (length sets)) ∙ ap (λ b. cond (b && true) (last (length sets)) (picks (length sets))) has_begun
@@ -77,24 +57,15 @@ module _ {w : Script} {minimum : ℕ} {s : Scene} {last : ℕ → Option ℕ} {m
 
   -- a set that was read is of the last publisher, which is the pick then
   one_more : (h : PendingSet) → last (length sets) ≡ Some h.attempt → AgreeBelow w next (sets ++ h ∷ []) (length (sets ++ h ∷ []))
-  one_more h latest t l = elim (same_or_not t (length sets)) [
-    | inl is ↦
-        ap next is ∙ next_here ∙ latest
-        ∙ sym (ap (λ n. option_map (λ (v : PendingSet). v.attempt) (slice_get (sets ++ h ∷ []) n)) is ∙ ap (option_map (λ (v : PendingSet). v.attempt)) (slice_last sets h))
-    | inr ne ↦
-        let long : length (sets ++ h ∷ []) ≡ length sets + 1 = length-append sets (h ∷ []) in
-        let below : t < length sets = less t ne long l in
-        still_agree t below ∙ sym (ap (option_map (λ (v : PendingSet). v.attempt)) (slice_front sets h t below))
-  ]
-    where
-      less : (t : ℕ) → (t ≡ length sets → ⊥) → length (sets ++ h ∷ []) ≡ length sets + 1 → t < length (sets ++ h ∷ []) → t < length sets
-      less t ne long l = elim (order t (length sets)) [ inl b ↦ b | inr b ↦ absurd (ne (omega (arith, b, long, l))) ]
-        where
-          order : (a b : ℕ) → (a < b) ⊎ (b ≤ a)
-          order zero zero = inr (omega arith)
-          order zero (suc b) = inl (omega arith)
-          order (suc a) zero = inr (omega arith)
-          order (suc a) (suc b) = elim (order a b) [ inl h ↦ inl (omega arith) | inr h ↦ inr (omega arith) ]
+  one_more h latest t l =
+      let long : length (sets ++ h ∷ []) ≡ length sets + 1 = length-append sets (h ∷ []) in
+      elim (cases_lt t (length sets)) [
+        | inl below ↦ still_agree t below ∙ sym (ap (option_map (λ (v : PendingSet). v.attempt)) (slice_front sets h t below))
+        | inr high ↦
+            let is : t ≡ length sets = omega (arith, high, long, l) in
+            ap next is ∙ next_here ∙ latest
+            ∙ sym (ap (λ n. option_map (λ (v : PendingSet). v.attempt) (slice_get (sets ++ h ∷ []) n)) is ∙ ap (option_map (λ (v : PendingSet). v.attempt)) (slice_last sets h))
+      ]
 
   pub agrees_read : (x : Reply) → x ≡ answer s (set_request w.committer w (length sets)) → Agrees w next (fetched w sets (set_read x))
   agrees_read x e = elim (set_answered j f few (length sets) low) [

@@ -1,7 +1,7 @@
 -- What an attempt has written stands, whatever others send, until the driver cleans up; and so it goes on.
-use Rattle.std.proofs.Common.{◌≡◌, ℕ, zero, suc, ◌+◌, ◌⊎◌, inl, inr, nat_eq, nat_lt, ◌&&◌, ◌||◌, Bool, true, false, cond, List, [], ◌∷◌, ◌++◌, map, take, length, Option, Some, None, is_some, refl, sym, ap, subst, ◌∙◌}
-use Rattle.job_facts.specs.Prelude.{list_any, is_lt, text_cmp, text_eq, listed, answer, apply, is_effective, IsHonestOutcome, Object, Committer, Magic, Request, GetObject, UploadPart, Reply, Page, Part, Refused, NoSuchFile, PageEntry, Outcome, Answered, Slow, RequestLost, ReplyLost, Retried, Item, Got, WornOut, step, unanswered_by, set_key, staged_set_path, TemporaryPlace, File, Who, IsLegal, Script, Drawn, files, is_set_key, is_set_path, record_key, Uploading, Creating, Sending, Uploaded, GoesOn, AllSent, IsGone, sending, created, sent_part, upload_asks, upload_hears, file_parts, walked_by, keys_on, last_of, page_after, Write, Recording, WriteOver, writing, write_start_by, write_start, write_asks, write_over, write_after, TaskCommit, Looking, Reading, Publishing, Checking, Storing, Renaming, TaskCommitOver, reading, looked, looked_at, least_missing, least_of, in_order, read_record, storing, checking, checked, renamed, to_check, task_commit_start_by, task_commit_start, task_commit_asks, task_commit_over, task_commit_hears, task_commit_after, attempt_prefix, temporary_path, Setting, Operation, TheSetup, TheWrite, TheTaskCommit, TheTaskAbort, TheCommit, TheClean, asks, tells, Seen, see, is_magic, is_staging, is_publishing, last_by, IsIn, last_from, HasBucket, Told, known, entry, driver_entry, strange_entry, sets_at, IsForeign, IsDriving, IsAttempt, IsSet, Hold, IsOpen, Fits, FitsUpload, FitsWrite, FitsCommit, Closed, HasPublished, NotGone, CommitStandsBy, WriteStands, Times, TheCheck}
-use Rattle.job_spec.proofs.Common.{false≢true, some_is, false_true, true_or_false, text_true, text_here, nat_true, in_map, in_front, in_back}
+use Rattle.std.proofs.Common.{◌≡◌, ℕ, zero, suc, ◌+◌, inl, inr, nat_eq, ◌&&◌, ◌||◌, Bool, true, false, cond, List, [], ◌∷◌, map, length, Option, Some, None, is_some, refl, sym, ap, subst, ◌∙◌}
+use Rattle.job_facts.specs.Prelude.{list_any, text_eq, answer, apply, is_effective, IsHonestOutcome, Committer, Magic, Request, GetObject, UploadPart, Reply, Page, Part, Refused, NoSuchFile, Outcome, Answered, Slow, RequestLost, ReplyLost, Retried, Item, Got, WornOut, step, unanswered_by, set_key, staged_set_path, TemporaryPlace, File, Who, IsLegal, Script, Drawn, files, is_set_key, is_set_path, record_key, Uploading, Creating, Sending, Uploaded, GoesOn, AllSent, IsGone, sending, created, sent_part, upload_asks, upload_hears, file_parts, walked_by, Write, Recording, WriteOver, writing, write_start_by, write_start, write_asks, write_over, write_after, TaskCommit, Looking, Reading, Publishing, Checking, Storing, Renaming, TaskCommitOver, reading, looked, looked_at, least_missing, least_of, in_order, read_record, storing, checking, checked, renamed, to_check, task_commit_start_by, task_commit_start, task_commit_asks, task_commit_over, task_commit_hears, task_commit_after, attempt_prefix, temporary_path, Setting, Operation, TheWrite, TheTaskCommit, TheTaskAbort, asks, tells, Seen, see, is_magic, is_staging, is_publishing, IsIn, HasBucket, Told, known, entry, driver_entry, strange_entry, sets_at, IsForeign, IsDriving, IsAttempt, IsSet, Hold, IsOpen, Fits, FitsUpload, FitsWrite, FitsCommit, Closed, HasPublished, NotGone, CommitStandsBy, WriteStands, Times, TheCheck, bucket_of, changed_keys, changed_paths, begins, magic_prefix, cluster_prefix, effect}
+use Rattle.job_spec.proofs.Common.{false≢true, some_is, false_true, true_or_false, text_true, text_here, nat_true, in_map}
 use Rattle.job_spec.specs.Prelude.{rename_answer, ClusterDone}
 use Rattle.job_protocol.specs.Prelude.{write_hears}
 use Rattle.std.specs.FinMap as fin
@@ -13,15 +13,17 @@ use Rattle.list_walk.specs.Walks.{walked}
 use Rattle.job_protocol.specs.Writes.{Marking}
 use Rattle.job_protocol.specs.Writes as writes
 use Rattle.job_protocol.specs.TaskCommits as commits
-use Rattle.store_frame.proofs.Flat.{page_covers, page_all, last_append}
 use Rattle.job_facts.specs.Standing.{HasRecord, HasRecords, HasTemporary, Listed, CommitStands, Stands}
-use Rattle.job_facts.proofs.Placed.{path_below}
-use Rattle.job_facts.proofs.Shapes.{key_before, answer_is, puts}
+use Rattle.job_facts.proofs.Placed.{path_below, one_temporary, not_staged}
+use Rattle.job_facts.proofs.Shapes.{key_before, answer_is, puts, more_keys, page_is, still_covered, all_covered}
 use Rattle.job_facts.proofs.Uploads.{drop_more, latest_in, asks_part}
 use Rattle.job_facts.proofs.Replies.{part_taken}
 use Rattle.job_facts.proofs.Ordered.{order_each}
-use Rattle.job_facts.proofs.Emptying.{magic_some, last_so}
-use Rattle.job_facts.proofs.Apart.{HasKey, HasPath, record_own, record_below, another, key_left, path_left, write_keys, write_paths, commit_keys, commit_paths, abort_keys, abort_paths, temporary_apart, set_apart}
+use Rattle.job_facts.proofs.Emptying.{magic_some}
+use Rattle.job_facts.proofs.Apart.{HasKey, HasPath, record_own, record_below, another, key_left, path_left, write_keys, write_paths, commit_keys, abort_keys}
+use Rattle.job_facts.proofs.Going.{effect_so}
+use Rattle.job_facts.proofs.Whose.{or_true}
+use Rattle.job_facts.proofs.Owning.{operation_asked, asked_path}
 
 -- ---- from one moment to another what it has written stays
 
@@ -52,6 +54,9 @@ module _ {w : Script} {a : Who} {s t : Seen} (h : Stood w a s t) where
   stands_kept (TheTaskCommit x) g = commit_kept_by (h.last a.task) x.repeated x.operation g
   stands_kept _ g = tt
 
+all_stand : (w : Script) (s : Seen) (a : Who) → HasRecords w s a [] → (f : File) → IsIn f (files w a) → HasRecord w s a f
+all_stand w s a h f i = elim (h f i) [ inl none ↦ absurd none | inr x ↦ x ]
+
 -- ---- entries of others
 
 some_last : (b : Bool) (v : ℕ) (o : Option ℕ) → (n : ℕ) × (o ≡ Some n) → (n : ℕ) × (cond b (Some v) o ≡ Some n)
@@ -67,65 +72,50 @@ stood_by w k s a b n r keys path _ = record { records = keys; temporary = path; 
 
 pub other_stood : (g : Setting) → IsLegal g.script → (k : Times) (s : Seen) (m : Told) (a b : Who) (n : ℕ) → HasBucket s.scene.content g.script.dest.bucket → IsAttempt g.script a → IsAttempt g.script b → (a ≡ b → ⊥)
     → (op : Operation) → Fits g.script g.minimum b m op → (r : Request) → asks g b (known m b) op ≡ Some r → (o : Outcome) → Stood g.script a s (see g.script k s (entry b n r o))
-other_stood g j k s m a b n there d e ne (TheWrite t) h r x o =
-    stood_by g.script k s a b n r (λ f i. write_keys g.script s.scene there b (known m b) t.operation r x (record_key g.script a f)) (write_paths g.script s.scene there b (known m b) t.operation r x (temporary_path g.script a)) o
-other_stood g j k s m a b n there d e ne (TheTaskCommit t) h r x o =
-    stood_by g.script k s a b n r (λ f i. commit_keys g.script s.scene there b (known m b) t.operation r x (record_key g.script a f))
-    (commit_paths g.script s.scene there b (known m b) t.operation r x (temporary_path g.script a) (temporary_apart j a b d e ne) (set_apart j a b.task d e.task)) o
-other_stood g j k s m a b n there d e ne (TheTaskAbort t) h r x o =
-    stood_by g.script k s a b n r (λ f i. abort_keys g.script s.scene there b (known m b) t.operation h r x (record_key g.script a f) (another j a b d e ne f))
-    (abort_paths g.script s.scene there b t.operation r x (temporary_path g.script a) (temporary_apart j a b d e ne)) o
-other_stood g j k s m a b n there d e ne _ h r x o = absurd h
+other_stood g j k s m a b n there d e ne op h r x o =
+    stood_by g.script k s a b n r (keys op h x)
+    (path_left g.script s.scene there (temporary_path g.script a) r (λ i. elim (asked_path r (operation_asked g m b op h r x) _ i) [ inl is ↦ ne (one_temporary j a b d e is) | inr is ↦ not_staged j a b.task d e.task is ])) o
+  where
+    keys : (op : Operation) → Fits g.script g.minimum b m op → asks g b (known m b) op ≡ Some r → (f : File) → IsIn f (files g.script a) → HasKey g.script s.scene (record_key g.script a f) → HasKey g.script (apply s.scene r) (record_key g.script a f)
+    keys (TheWrite t) h x f i = write_keys g.script s.scene there b (known m b) t.operation r x (record_key g.script a f)
+    keys (TheTaskCommit t) h x f i = commit_keys g.script s.scene there b (known m b) t.operation r x (record_key g.script a f)
+    keys (TheTaskAbort t) h x f i = abort_keys g.script s.scene there b (known m b) t.operation h r x (record_key g.script a f) (another j a b d e ne f)
+    keys _ h x f i = absurd h
 
 module _ (w : Script) (j : IsLegal w) (k : Times) (s : Seen) (a : Who) (n : ℕ) (there : HasBucket s.scene.content w.dest.bucket) (r : Request) where
+  -- where it changes nothing in the job's own directories
+  module _ (t : Seen) (last : (i : ℕ) → HasPublished s i → HasPublished t i) (keys : bucket_of r ≡ w.dest.bucket → (q : List ℕ) → IsIn q (changed_keys r) → begins (magic_prefix w.dest.key w.job) q ≡ false)
+      (paths : (p : List ℕ) → IsIn p (changed_paths r) → begins (cluster_prefix w.job) p ≡ false) (o : Outcome) (scene : t.scene ≡ effect s.scene r o) where
+    apart_stood : Stood w a s t
+    apart_stood = record {
+      records = λ f i h. subst (λ u. HasKey w u (record_key w a f)) (sym scene)
+          (effect_so (λ u. HasKey w u (record_key w a f)) s.scene r o h (key_left w s.scene there (record_key w a f) r (λ b x. false_true (keys b (record_key w a f) x) (record_below j a f)) h));
+      temporary = λ h. subst (λ u. HasPath u (temporary_path w a)) (sym scene)
+          (effect_so (λ u. HasPath u (temporary_path w a)) s.scene r o h (path_left w s.scene there (temporary_path w a) r (λ x. false_true (paths (temporary_path w a) x) (path_below w (TemporaryPlace a.task a.attempt))) h));
+      last = last;
+    }
+
   pub driver_stood : IsDriving w r → (o : Outcome) → Stood w a s (see w k s (driver_entry n r o))
-  driver_stood d o = by o
-    where
-      keys : (f : File) → IsIn f (files w a) → HasKey w s.scene (record_key w a f) → HasKey w (apply s.scene r) (record_key w a f)
-      keys f i = key_left w s.scene there (record_key w a f) r (λ b x. false_true (d.keys b (record_key w a f) x) (record_below j a f))
-
-      path : HasPath s.scene (temporary_path w a) → HasPath (apply s.scene r) (temporary_path w a)
-      path = path_left w s.scene there (temporary_path w a) r (λ x. false_true (d.paths (temporary_path w a) x) (path_below w (TemporaryPlace a.task a.attempt)))
-
-      by : (o : Outcome) → Stood w a s (see w k s (driver_entry n r o))
-      by Slow = record { records = λ f i h. h; temporary = λ h. h; last = λ t h. h }
-      by RequestLost = record { records = λ f i h. h; temporary = λ h. h; last = λ t h. h }
-      by _ = record { records = keys; temporary = path; last = λ t h. h }
+  driver_stood d Slow = apart_stood (see w k s (driver_entry n r Slow)) (λ i h. h) d.keys d.paths Slow refl
+  driver_stood d RequestLost = apart_stood (see w k s (driver_entry n r RequestLost)) (λ i h. h) d.keys d.paths RequestLost refl
+  driver_stood d o = apart_stood (see w k s (driver_entry n r o)) (λ i h. h) d.keys d.paths o refl
 
   pub strange_stood : (drawn : Who → List Drawn) → IsForeign w drawn r → (o : Outcome) → Stood w a s (see w k s (strange_entry n r o))
-  strange_stood drawn d o = by o
-    where
-      keys : (f : File) → IsIn f (files w a) → HasKey w s.scene (record_key w a f) → HasKey w (apply s.scene r) (record_key w a f)
-      keys f i = key_left w s.scene there (record_key w a f) r (λ b x. false_true (d.keys b (record_key w a f) x) (record_below j a f))
-
-      path : HasPath s.scene (temporary_path w a) → HasPath (apply s.scene r) (temporary_path w a)
-      path = path_left w s.scene there (temporary_path w a) r (λ x. false_true (d.paths (temporary_path w a) x) (path_below w (TemporaryPlace a.task a.attempt)))
-
-      by : (o : Outcome) → Stood w a s (see w k s (strange_entry n r o))
-      by Slow = record { records = λ f i h. h; temporary = λ h. h; last = λ t h. h }
-      by RequestLost = record { records = λ f i h. h; temporary = λ h. h; last = λ t h. h }
-      by _ = record { records = keys; temporary = path; last = λ t h. h }
+  strange_stood drawn d o = apart_stood (see w k s (strange_entry n r o)) (λ i h. h) d.keys d.paths o refl
 
 -- ---- a step under retries, by whether a sending of the request was lost
 
-step_stands : {M : Type 0} (P : Bool → M → Type 0) (retries : ℕ) (after : M → Item → M) (t : Retried M) (o : Outcome) → ((x : Reply) → o ≡ Answered x → P false (after t.operation (Got x t.repeated))) → (o ≡ Slow → P t.repeated t.operation)
-    → ((o ≡ RequestLost) ⊎ (o ≡ ReplyLost) → P true t.operation) → P false (after t.operation WornOut) → P (step retries after t o).repeated (step retries after t o).operation
-step_stands P retries after t (Answered x) heard slow lost worn = heard x refl
-step_stands P retries after t Slow heard slow lost worn = by t.spare
-  where
-    by : (n : ℕ) → P (unanswered_by retries after t.operation t.repeated n).repeated (unanswered_by retries after t.operation t.repeated n).operation
-    by zero = worn
-    by (suc n) = slow refl
-step_stands P retries after t RequestLost heard slow lost worn = by t.spare
-  where
-    by : (n : ℕ) → P (unanswered_by retries after t.operation true n).repeated (unanswered_by retries after t.operation true n).operation
-    by zero = worn
-    by (suc n) = lost (inl refl)
-step_stands P retries after t ReplyLost heard slow lost worn = by t.spare
-  where
-    by : (n : ℕ) → P (unanswered_by retries after t.operation true n).repeated (unanswered_by retries after t.operation true n).operation
-    by zero = worn
-    by (suc n) = lost (inr refl)
+unanswered_stands : {M : Type 0} (P : Bool → M → Type 0) (retries : ℕ) (after : M → Item → M) (op : M) (repeated : Bool) (spare : ℕ) → P repeated op → P false (after op WornOut)
+    → let t = unanswered_by retries after op repeated spare in P t.repeated t.operation
+unanswered_stands P retries after op repeated zero h worn = worn
+unanswered_stands P retries after op repeated (suc n) h worn = h
+
+step_stands : {M : Type 0} (P : Outcome → Bool → M → Type 0) (retries : ℕ) (after : M → Item → M) (t : Retried M) (y : Reply) (o : Outcome) → IsHonestOutcome o y → ((x : Reply) → x ≡ y → P (Answered x) false (after t.operation (Got x t.repeated)))
+    → P Slow t.repeated t.operation → P RequestLost true t.operation → P ReplyLost true t.operation → ((v : Outcome) → P v false (after t.operation WornOut)) → P o (step retries after t o).repeated (step retries after t o).operation
+step_stands P retries after t y (Answered x) honest heard slow lost unheard worn = heard x honest
+step_stands P retries after t y Slow honest heard slow lost unheard worn = unanswered_stands (P Slow) retries after t.operation t.repeated t.spare slow (worn Slow)
+step_stands P retries after t y RequestLost honest heard slow lost unheard worn = unanswered_stands (P RequestLost) retries after t.operation true t.spare lost (worn RequestLost)
+step_stands P retries after t y ReplyLost honest heard slow lost unheard worn = unanswered_stands (P ReplyLost) retries after t.operation true t.spare unheard (worn ReplyLost)
 
 -- ---- uploads are not gone
 
@@ -133,12 +123,8 @@ abbrev StillThere : Uploaded → Type 0
 StillThere IsGone = ⊥
 StillThere _ = Unit {0}
 
-sending_there : (ps : List (List ℕ)) → StillThere (sending ps)
-sending_there [] = tt
-sending_there (p ∷ ps) = tt
-
 created_there : (w : Script) (minimum : ℕ) (f : File) (x : Reply) → StillThere (created w minimum f x)
-created_there w minimum f (Upload id) = sending_there (file_parts w minimum f)
+created_there w minimum f (Upload id) = elim (file_parts w minimum f) as (λ ps. StillThere (sending ps)) [ [] ↦ tt | p ∷ ps ↦ tt ]
 created_there w minimum f _ = tt
 
 module _ (w : Script) (minimum : ℕ) (s : Seen) (m : Told) (a : Who) (j : IsLegal w) (facts : Hold w minimum s m) (closed : Closed m) (before : m.cleaned ≡ false) (clean : m.undone a ≡ false) where
@@ -160,7 +146,7 @@ module _ (w : Script) (minimum : ℕ) (s : Seen) (m : Told) (a : Who) (j : IsLeg
       let taken = part_taken j facts a b.latest f p i (b.each f (inl refl)) b.key (not_ended free.0 b.latest i) clean block.2 in
       let P : Request → Type 0 = λ q. x ≡ answer s.scene q → x ≡ Part (plain_tag p) in
       let is : x ≡ Part (plain_tag p) = subst P (sym (asks_part w minimum a b)) (λ e. e ∙ subst (λ key. answer s.scene (UploadPart w.dest.bucket key b.latest.upload (length b.latest.tags + 1) p) ≡ Part (plain_tag p)) b.key taken) honest in
-      subst (λ y. StillThere (sent_part ps y)) (sym is) (sending_there ps)
+      subst (λ y. StillThere (sent_part ps y)) (sym is) (elim ps as (λ qs. StillThere (sending qs)) [ [] ↦ tt | q ∷ qs ↦ tt ])
 
 -- ---- as they begin
 
@@ -175,12 +161,8 @@ write_begins w s a = by w.committer refl
     by Magic e = writing_stands w s a (files w a) (λ f i. inl i)
     by _ e = (tt, λ d m. absurd (false≢true (sym (ap is_magic e) ∙ m)))
 
-storing_stands : (P : Type 0) (w : Script) (s : Seen) (a : Who) (fs : List File) → CommitStandsBy P w s a false (storing fs)
-storing_stands P w s a [] = tt
-storing_stands P w s a (f ∷ fs) = tt
-
 checking_stands : (P : Type 0) (w : Script) (s : Seen) (a : Who) (ds : List (List ℕ)) → CommitStandsBy P w s a false (checking w a ds)
-checking_stands P w s a [] = storing_stands P w s a (files w a)
+checking_stands P w s a [] = elim (files w a) as (λ fs. CommitStandsBy P w s a false (storing fs)) [ [] ↦ tt | f ∷ fs ↦ tt ]
 checking_stands P w s a (d ∷ ds) = tt
 
 pub commit_begins : (P : Type 0) (w : Script) → IsLegal w → (s : Seen) (a : Who) → WriteStands w s a (WriteOver tasks.Done) → CommitStandsBy P w s a false (task_commit_start w a)
@@ -195,11 +177,7 @@ commit_begins P w j s a h = by w.committer refl
 there_any : (k : List ℕ) (ks : List (List ℕ)) → IsIn k ks → list_any (text_eq k) ks ≡ true
 there_any k [] i = absurd i
 there_any k (q ∷ ks) (inl e) = ap (λ b. b || list_any (text_eq k) ks) (text_true k q e)
-there_any k (q ∷ ks) (inr i) = by (text_eq k q) (there_any k ks i)
-  where
-    by : (b : Bool) → list_any (text_eq k) ks ≡ true → (b || list_any (text_eq k) ks) ≡ true
-    by true h = refl
-    by false h = h
+there_any k (q ∷ ks) (inr i) = ap (λ b. text_eq k q || b) (there_any k ks i) ∙ or_true (text_eq k q)
 
 none_is_missing : (ks all : List (List ℕ)) → ((k : List ℕ) → IsIn k all → IsIn k ks) → least_missing ks all ≡ None
 none_is_missing ks [] h = refl
@@ -230,7 +208,7 @@ module _ (P : Type 0) (w : Script) (s : Seen) (a : Who) where
 
   uploaded_stands : (f : File) (fs : List File) (u : Uploaded) → StillThere u → CommitStandsBy P w s a false (commits.uploaded w f fs u)
   uploaded_stands f fs (GoesOn u) h = tt
-  uploaded_stands f fs AllSent h = storing_stands P w s a fs
+  uploaded_stands f fs AllSent h = elim fs as (λ gs. CommitStandsBy P w s a false (storing gs)) [ [] ↦ tt | g ∷ gs ↦ tt ]
   uploaded_stands f fs IsGone h = absurd h
 
 renamed_done : (w : Script) (a : Who) (x : Reply) (b : Bool) → b ≡ true → renamed w a x b ≡ TaskCommitOver tasks.Done
@@ -243,9 +221,6 @@ module _ (w : Script) (minimum : ℕ) (k : Times) (s : Seen) (m : Told) (a : Who
   abbrev now : Request → Outcome → Seen
   now r o = see w k s (entry a n r o)
 
-  due_of : (r : Request) (o : Outcome) (x : Reply) → o ≡ Answered x → IsHonestOutcome o (answer s.scene r) → x ≡ answer s.scene r
-  due_of r o x e honest = subst (λ v. IsHonestOutcome v (answer s.scene r)) e honest
-
   -- ---- a write
 
   abbrev at_write : Write → Retried Write
@@ -256,8 +231,8 @@ module _ (w : Script) (minimum : ℕ) (k : Times) (s : Seen) (m : Told) (a : Who
   write_by op r e o honest h heard =
       let kept : (v : Outcome) → WriteStands w (now r v) a op = λ v. write_kept
       (stood_by w k s a a n r (λ f i. write_keys w s.scene facts.there a (known m a) op r e (record_key w a f)) (write_paths w s.scene facts.there a (known m a) op r e (temporary_path w a)) v) op h in
-      step_stands (λ b v. WriteStands w (now r o) a v) retries (write_after w minimum) (at_write op) o
-      (λ x y. subst (λ v. WriteStands w (now r v) a (write_hears w minimum op x)) (sym y) (heard x (due_of r o x y honest) (kept (Answered x)))) (λ y. kept o) (λ y. kept o) (tt, λ y. absurd cc)
+      step_stands (λ v b. WriteStands w (now r v) a) retries (write_after w minimum) (at_write op) (answer s.scene r) o honest
+      (λ x due. heard x due (kept (Answered x))) (kept Slow) (kept RequestLost) (kept ReplyLost) (λ v. (tt, λ y. absurd cc))
 
   pub write_stands : (op : Write) → FitsWrite w minimum a (known m a) op → WriteStands w s a op → (r : Request) → write_asks w a (known m a) op ≡ Some r → (o : Outcome) → IsHonestOutcome o (answer s.scene r)
       → WriteStands w (now r o) a (step retries (write_after w minimum) (at_write op) o).operation
@@ -282,15 +257,9 @@ module _ (w : Script) (minimum : ℕ) (k : Times) (s : Seen) (m : Told) (a : Who
   at_commit op = record { operation = op; spare = spare; repeated = repeated }
 
   records_now : (op : TaskCommit) (r : Request) → task_commit_asks w a (known m a) op ≡ Some r → (o : Outcome) → HasRecords w s a [] → HasRecords w (now r o) a []
-  records_now op r e o h f i = elim (h f i) [ inl none ↦ inl none | inr x ↦ inr (by o) ]
-    where
-      stands : HasRecord w s a f
-      stands = elim (h f i) [ inl none ↦ absurd none | inr x ↦ x ]
-
-      by : (o : Outcome) → HasRecord w (now r o) a f
-      by Slow = stands
-      by RequestLost = stands
-      by _ = commit_keys w s.scene facts.there a (known m a) op r e (record_key w a f) stands
+  records_now op r e Slow h = h
+  records_now op r e RequestLost h = h
+  records_now op r e _ h = λ f i. inr (commit_keys w s.scene facts.there a (known m a) op r e (record_key w a f) (all_stand w s a h f i))
 
   module _ (P : Type 0) (Q : Request → Outcome → Type 0) (keeps : (r : Request) (v : Outcome) → P → Q r v) (published : (r : Request) → is_publishing w s.scene a.task r ≡ true → (v : Outcome) → is_effective v ≡ true → Q r v) where
     -- all but the rename
@@ -298,44 +267,31 @@ module _ (w : Script) (minimum : ℕ) (k : Times) (s : Seen) (m : Told) (a : Who
         → ((x : Reply) → x ≡ answer s.scene r → CommitStandsBy (Q r (Answered x)) w (now r (Answered x)) a false (task_commit_hears w minimum a op x repeated))
         → let t = step retries (task_commit_after w minimum a) (at_commit op) o in CommitStandsBy (Q r (o)) w (now r o) a t.repeated t.operation
     commit_by op r o honest kept heard =
-        step_stands (λ b v. CommitStandsBy (Q r (o)) w (now r o) a b v) retries (task_commit_after w minimum a) (at_commit op) o
-        (λ x y. subst (λ v. CommitStandsBy (Q r (v)) w (now r v) a false (task_commit_hears w minimum a op x repeated)) (sym y) (heard x (due_of r o x y honest))) (λ y. kept repeated o) (λ y. kept true o) (tt, λ y. absurd cc)
+        step_stands (λ v b c. CommitStandsBy (Q r v) w (now r v) a b c) retries (task_commit_after w minimum a) (at_commit op) (answer s.scene r) o honest
+        heard (kept repeated Slow) (kept true RequestLost) (kept true ReplyLost) (λ v. (tt, λ y. absurd cc))
 
     -- a page of its directory
     looks : (keys : List (List ℕ)) → CommitStandsBy P w s a repeated (Looking keys) → (r : Request) → task_commit_asks w a (known m a) (Looking keys) ≡ Some r → (x : Reply) → x ≡ answer s.scene r → CommitStandsBy (Q r (Answered x)) w (now r (Answered x)) a false (looked w a (walked keys x))
     looks keys h r e x due =
+        let p = attempt_prefix w a in
         let there = facts.there in
-        let q = page_after w.dest.bucket (attempt_prefix w a) keys in
-        let xs : List PageEntry = listed (attempt_prefix w a) false (last_of keys) there.0.objects in
-        let is : x ≡ Page (take 1000 xs) (nat_lt 1000 (length xs)) = due ∙ ap (answer s.scene) (sym (some_is e)) ∙ answer_is w s.scene there.0 there.1 q refl in
-        let here : (f : File) → IsIn f (files w a) → (y : Object) × (fin.get there.0.objects (record_key w a f) ≡ Some y) = λ f i. elim (h.0 f i) [ inl none ↦ absurd none | inr y ↦ (y.0, sym (key_before w s.scene there.0 there.1 (record_key w a f)) ∙ y.1) ] in
-        let last_more : last_of (keys ++ keys_on (take 1000 xs)) ≡ last_from (last_of keys) (keys_on (take 1000 xs)) = last_so (keys ++ keys_on (take 1000 xs)) ∙ last_append [] keys (keys_on (take 1000 xs)) ∙ ap (λ t. last_from t (keys_on (take 1000 xs))) (sym (last_so keys)) in
-        let more : Listed w a (keys ++ keys_on (take 1000 xs)) = λ f i. elim (h.1 f i) [
-          | inl old ↦ inl (in_front (record_key w a f) keys (keys_on (take 1000 xs)) old)
-          | inr l ↦ elim (page_covers 1000 (attempt_prefix w a) (last_of keys) (record_key w a f) there.0.objects (here f i).0 (here f i).1 (record_own j a f) l) [
-            | inl new ↦ inl (in_back (record_key w a f) keys (keys_on (take 1000 xs)) new)
-            | inr g ↦ inr (ap (λ t. is_lt (text_cmp t (record_key w a f))) last_more ∙ g)
-          ]
-        ] in
-        let all : nat_lt 1000 (length xs) ≡ false → (f : File) → IsIn f (files w a) → IsIn (record_key w a f) (keys ++ keys_on (take 1000 xs)) = λ few f i. elim (h.1 f i) [
-          | inl old ↦ in_front (record_key w a f) keys (keys_on (take 1000 xs)) old
-          | inr l ↦ in_back (record_key w a f) keys (keys_on (take 1000 xs)) (page_all 1000 (attempt_prefix w a) (last_of keys) (record_key w a f) there.0.objects (here f i).0 few (here f i).1 (record_own j a f) l)
-        ] in
+        let stands = all_stand w s a h.0 in
+        let more : Listed w a (more_keys w s.scene there p keys) = λ f i. still_covered w s.scene there p keys (record_key w a f) (stands f i).0 (stands f i).1 (record_own j a f) (h.1 f i) in
         let t : Seen = now r (Answered x) in
-        subst (λ y. CommitStandsBy (Q r (Answered x)) w t a false (looked w a (walked keys y))) (sym is) (looked_stands (Q r (Answered x)) w t a (keys ++ keys_on (take 1000 xs)) (records_now (Looking keys) r e (Answered x) h.0) (nat_lt 1000 (length xs)) more all)
+        subst (λ y. CommitStandsBy (Q r (Answered x)) w t a false (looked w a y)) (sym (page_is w s.scene there p keys x (due ∙ ap (answer s.scene) (sym (some_is e)))))
+        (looked_stands (Q r (Answered x)) w t a (more_keys w s.scene there p keys) (records_now (Looking keys) r e (Answered x) h.0) _ more
+        (λ few f i. all_covered w s.scene there p keys (record_key w a f) (stands f i).0 (stands f i).1 (record_own j a f) few (h.1 f i)))
 
     -- a record that is read
     reads : (cs : List File) (f : File) (fs : List File) → CommitStandsBy P w s a repeated (Reading cs f fs) → (r : Request) → task_commit_asks w a (known m a) (Reading cs f fs) ≡ Some r → (x : Reply) → x ≡ answer s.scene r
         → CommitStandsBy (Q r (Answered x)) w (now r (Answered x)) a false (read_record w a cs f fs x)
-    reads cs f fs h r e x due = elim (h.0 f (h.1 f (inl refl))) [
-      | inl none ↦ absurd none
-      | inr y ↦
-          let there = facts.there in
-          let q = GetObject w.dest.bucket (record_key w a f) in
-          let is : x ≡ found (Some y.0) = due ∙ ap (answer s.scene) (sym (some_is e)) ∙ answer_is w s.scene there.0 there.1 q refl ∙ ap found (sym (key_before w s.scene there.0 there.1 (record_key w a f)) ∙ y.1) in
-          let t : Seen = now r (Answered x) in
-          subst (λ v. CommitStandsBy (Q r (Answered x)) w t a false (read_record w a cs f fs v)) (sym is) (reading_stands (Q r (Answered x)) w t a cs fs (records_now (Reading cs f fs) r e (Answered x) h.0) (λ g i. h.1 g (inr i)))
-    ]
+    reads cs f fs h r e x due =
+        let y = all_stand w s a h.0 f (h.1 f (inl refl)) in
+        let there = facts.there in
+        let q = GetObject w.dest.bucket (record_key w a f) in
+        let is : x ≡ found (Some y.0) = due ∙ ap (answer s.scene) (sym (some_is e)) ∙ answer_is w s.scene there.0 there.1 q refl ∙ ap found (sym (key_before w s.scene there.0 there.1 (record_key w a f)) ∙ y.1) in
+        let t : Seen = now r (Answered x) in
+        subst (λ v. CommitStandsBy (Q r (Answered x)) w t a false (read_record w a cs f fs v)) (sym is) (reading_stands (Q r (Answered x)) w t a cs fs (records_now (Reading cs f fs) r e (Answered x) h.0) (λ g i. h.1 g (inr i)))
 
     -- the rename
     rename_stands : is_staging w.committer ≡ true → CommitStandsBy P w s a repeated Renaming → (r : Request) → task_commit_asks w a (known m a) Renaming ≡ Some r → (o : Outcome) → IsHonestOutcome o (answer s.scene r)
@@ -345,22 +301,15 @@ module _ (w : Script) (minimum : ℕ) (k : Times) (s : Seen) (m : Told) (a : Who
           let publishes : is_publishing w s.scene a.task r ≡ true =
           ap (is_publishing w s.scene a.task) (sym (some_is e)) ∙ ap (λ b. b && (is_set_path w a.task (staged_set_path w.job a.task) && is_some (fin.get s.scene.files (temporary_path w a)))) staging
           ∙ ap (λ b. b && is_some (fin.get s.scene.files (temporary_path w a))) (text_true (staged_set_path w.job a.task) (staged_set_path w.job a.task) refl) ∙ ap is_some temporary.1 in
-          step_stands (λ b v. CommitStandsBy (Q r (o)) w (now r o) a b v) retries (task_commit_after w minimum a) (at_commit Renaming) o
-          (λ x y.
-          let is : x ≡ ClusterDone = due_of r o x y honest ∙ ap (answer s.scene) (sym (some_is e)) ∙ ap rename_answer temporary.1 in
-          let done : renamed w a x repeated ≡ TaskCommitOver tasks.Done = ap (λ v. renamed w a v repeated) is in
-          subst (λ v. CommitStandsBy (Q r (v)) w (now r v) a false (renamed w a x repeated)) (sym y) (subst (λ v. CommitStandsBy (Q r (Answered x)) w (now r (Answered x)) a false v) (sym done) (tt, λ d. published r publishes (Answered x) refl)))
-          (λ y. subst (λ v. CommitStandsBy (Q r (v)) w (now r v) a repeated Renaming) (sym y) (inl temporary))
-          (λ y. elim y [
-            | inl lost ↦ subst (λ v. CommitStandsBy (Q r (v)) w (now r v) a true Renaming) (sym lost) (inl temporary)
-            | inr unheard ↦ subst (λ v. CommitStandsBy (Q r (v)) w (now r v) a true Renaming) (sym unheard) (inr (refl, published r publishes ReplyLost refl))
-          ])
-          (tt, λ y. absurd cc)
+          step_stands (λ v b c. CommitStandsBy (Q r v) w (now r v) a b c) retries (task_commit_after w minimum a) (at_commit Renaming) (answer s.scene r) o honest
+          (λ x due.
+          let is : x ≡ ClusterDone = due ∙ ap (answer s.scene) (sym (some_is e)) ∙ ap rename_answer temporary.1 in
+          subst (λ v. CommitStandsBy (Q r (Answered x)) w (now r (Answered x)) a false (renamed w a v repeated)) (sym is) (tt, λ d. published r publishes (Answered x) refl))
+          (inl temporary) (inl temporary) (inr (refl, published r publishes ReplyLost refl)) (λ v. (tt, λ y. absurd cc))
       | inr done ↦
-          let still : (v : Outcome) → Q r v = λ v. keeps r v done.1 in
-          step_stands (λ b v. CommitStandsBy (Q r (o)) w (now r o) a b v) retries (task_commit_after w minimum a) (at_commit Renaming) o
-          (λ x y. subst (λ v. CommitStandsBy (Q r (o)) w (now r o) a false v) (sym (renamed_done w a x repeated done.0)) (tt, λ d. still o))
-          (λ y. inr (done.0, still o)) (λ y. inr (refl, still o)) (tt, λ y. absurd cc)
+          step_stands (λ v b c. CommitStandsBy (Q r v) w (now r v) a b c) retries (task_commit_after w minimum a) (at_commit Renaming) (answer s.scene r) o honest
+          (λ x due. subst (λ v. CommitStandsBy (Q r (Answered x)) w (now r (Answered x)) a false v) (sym (renamed_done w a x repeated done.0)) (tt, λ d. keeps r (Answered x) done.1))
+          (inr (done.0, keeps r Slow done.1)) (inr (refl, keeps r RequestLost done.1)) (inr (refl, keeps r ReplyLost done.1)) (λ v. (tt, λ y. absurd cc))
     ]
 
     pub commit_stands : (op : TaskCommit) → FitsCommit w minimum a (known m a) op → CommitStandsBy P w s a repeated op → (r : Request) → task_commit_asks w a (known m a) op ≡ Some r → (o : Outcome) → IsHonestOutcome o (answer s.scene r)
@@ -393,13 +342,10 @@ module _ (w : Script) (k : Times) (s : Seen) (a : Who) (n : ℕ) where
   last_kept r RequestLost h = h
   last_kept r _ h = some_last (nat_eq a.task a.task && is_publishing w s.scene a.task r) a.attempt (s.last a.task) h
 
-  last_published : (r : Request) → is_publishing w s.scene a.task r ≡ true → (i : ℕ) × (last_by w s.scene s.last a.task a.attempt r a.task ≡ Some i)
-  last_published r e = (a.attempt, ap (λ b. cond b (Some a.attempt) (s.last a.task)) (ap (λ b. nat_eq a.task a.task && b) e ∙ ap (λ b. b && true) (nat_true a.task a.task refl)))
-
   publishes_last : (r : Request) → is_publishing w s.scene a.task r ≡ true → (v : Outcome) → is_effective v ≡ true → HasPublished (seen_now r v) a.task
   publishes_last r e Slow took = absurd (false≢true took)
   publishes_last r e RequestLost took = absurd (false≢true took)
-  publishes_last r e _ took = last_published r e
+  publishes_last r e _ took = (a.attempt, ap (λ b. cond b (Some a.attempt) (s.last a.task)) (ap (λ b. nat_eq a.task a.task && b) e ∙ ap (λ b. b && true) (nat_true a.task a.task refl)))
 
 -- ---- all operations
 

@@ -1,14 +1,13 @@
 -- The answers that are due, where the facts hold.
 use Rattle.std.proofs.Common.{◌≡◌, ℕ, ◌+◌, ◌<◌, ◌≤◌, ◌^◌, ◌⊎◌, inl, inr, true, false, cond, List, map, length, slice_get, Option, Some, None, Ok, refl, sym, ap, subst, ◌∙◌, arith}
-use Rattle.job_facts.specs.Prelude.{option_map, named_from, Scene, live, with_key, joined, answer, read_answer, part_answer, complete_answer, Object, GetObject, UploadPart, CompleteUpload, ClusterGet, Committer, Magic, Directory, Partitioned, Part, Completed, Refused, NoSuchKey, BadPartNumber, SetPlace, StagedSetPlace, key_at, path_at, File, Who, IsLegal, Script, files, Drawn, drawn_in, file_key, record_key, record_text, files_set, file_parts, set_request, set_read, ok_set, is_magic, IsIn, Told, at_key, at_id, at_path, at_place, sets_at, set_at, IsAttempt, IsHeld, IsWritten, IsSet, Facts, knowing, IsSetAnswer}
+use Rattle.job_facts.specs.Prelude.{option_map, named_from, Scene, live, with_key, joined, answer, read_answer, part_answer, complete_answer, Object, GetObject, UploadPart, CompleteUpload, Committer, Magic, Part, Completed, Refused, NoSuchKey, BadPartNumber, SetPlace, key_at, File, Who, IsLegal, Script, files, Drawn, drawn_in, file_key, record_key, record_text, files_set, file_parts, set_request, set_read, ok_set, is_magic, IsIn, Told, at_key, at_id, at_place, sets_at, set_at, IsAttempt, IsHeld, IsWritten, IsSet, Facts, knowing, IsSetAnswer}
 use Rattle.job_spec.proofs.Common.{slice_get_within, none_or_some, text_true}
 use Rattle.s3_types.specs.Tags.{plain_tag, joined_tag}
 use Rattle.s3_types.specs.Answer.{found}
 use Rattle.s3_types.specs.declared.reply.Reply.TheVariants.{Object as Found}
 use Rattle.pending_json.specs.Reading as reading
 use Rattle.job_facts.specs.Laws.{SetAnswered}
-use Rattle.job_facts.proofs.Cut.{parts_few}
-use Rattle.job_facts.proofs.Joined.{held_joined}
+use Rattle.job_facts.proofs.Cut.{parts_few, held_joined}
 use Rattle.job_facts.proofs.Legible as legible
 use Rattle.job_facts.proofs.Legible.{drawn_is, written_tags}
 use Rattle.job_facts.proofs.Placed.{key_file}
@@ -84,10 +83,6 @@ module _ {w : Script} {minimum : ℕ} {s : Scene} {last : ℕ → Option ℕ} {m
       let d : IsAttempt w x.by = record { task = subst (λ n. n < w.tasks) (sym x.task) lt; attempt = x.number } in
       ap reading.set_of x.text ∙ legible.set_read j f few x.by x.commits d x.are
 
-  staged : (t : ℕ) (o : Option (List ℕ)) → at_path w s (StagedSetPlace t) ≡ o → IsSetAnswer o (answer s (ClusterGet (path_at w.job (StagedSetPlace t))))
-  staged t None e = inr (ap read_answer e)
-  staged t (Some b) e = ap (λ x. set_read (read_answer x)) e
-
   pub set_reply : (c : Committer) (t : ℕ) → ((o : Option (List ℕ)) → set_at c w s t ≡ o → IsSetAnswer o (answer s (set_request c w t)))
   set_reply Magic t o e = by (at_place w s.content (SetPlace t)) o e due
     where
@@ -99,15 +94,14 @@ module _ {w : Script} {minimum : ℕ} {s : Scene} {last : ℕ → Option ℕ} {m
       by None (Some b) e d = absurd cc
       by (Some x) None e d = absurd cc
       by (Some x) (Some b) e d = let same : x.bytes ≡ b = cc in ap set_read d ∙ ap (λ y. ok_set (reading.set_of y)) same
-  set_reply Directory t o e = staged t o e
-  set_reply Partitioned t o e = staged t o e
+  set_reply _ t None e = inr (ap read_answer e)
+  set_reply _ t (Some b) e = ap (λ x. set_read (read_answer x)) e
 
   -- what the driver reads of a task's set: nothing where none stands, and else that of the last publisher
   pub set_answered : (few : s.content.next ≤ 2 ^ 64) (t : ℕ) → t < w.tasks → SetAnswered w minimum s last m t
-  set_answered few t lt = by (sets_at w s t) refl
-    where
-      by : (o : Option (List ℕ)) → sets_at w s t ≡ o → SetAnswered w minimum s last m t
-      by None e = inl (set_reply w.committer t None e)
-      by (Some b) e =
-          let x = f.sets t b lt e in
-          inr (record { bytes = b; stands = e; set = x; is_read = set_reply w.committer t (Some b) e ∙ ap ok_set (bytes_read few t b lt x) })
+  set_answered few t lt = elim (none_or_some (sets_at w s t)) [
+    | inl none ↦ inl (set_reply w.committer t None none)
+    | inr b ↦
+        let x = f.sets t b.0 lt b.1 in
+        inr (record { bytes = b.0; stands = b.1; set = x; is_read = set_reply w.committer t (Some b.0) b.1 ∙ ap ok_set (bytes_read few t b.0 lt x) })
+  ]

@@ -1,18 +1,22 @@
 -- Each kind of request of an attempt keeps the facts, whatever becomes of it.
-use Rattle.std.proofs.Common.{◌≡◌, ℕ, suc, ◌+◌, ◌<◌, ◌⊎◌, inl, inr, nat_eq, ◌&&◌, ◌||◌, Bool, true, false, cond, List, [], length, slice_get, Option, Some, None, refl, sym, ap, subst, ◌∙◌, arith}
-use Rattle.job_spec.proofs.Common.{slice_get_within, some_is, none_some, false_true, text_false, nat_here}
-use Rattle.job_facts.specs.Prelude.{text_eq, Scene, Upload, Spelled, with_key, is_part_number, with_part, answer, apply, part_answer, IsHonestOutcome, only_reads, Request, PutObject, GetObject, HeadObject, ListPage, ListParts, ListUploads, CreateUpload, UploadPart, ClusterGet, ClusterList, Reply, Part, Refused, BadPartNumber, Outcome, Answered, Slow, RequestLost, ReplyLost, Place, MarkerPlace, RecordPlace, SetPlace, key_at, File, Who, IsLegal, Script, files, Drawn, Known, learn, is_set_key, file_key, marker_key, record_key, record_text, file_parts, Seen, see, is_magic, is_publishing, last_by, IsIn, Told, known, put_who, undoes, entry, tell, tell_attempt, at_id, IsKnown, part_left, IsWritten, IsRecord, IsOwnPlace, Facts, Hold, Times}
+use Rattle.std.proofs.Common.{◌≡◌, ℕ, suc, ◌+◌, ◌<◌, ◌⊎◌, inl, inr, ◌&&◌, ◌||◌, Bool, true, false, cond, List, length, slice_get, Option, Some, None, refl, sym, ap, subst, ◌∙◌, arith, nat_eq, is_some}
+use Rattle.job_spec.proofs.Common.{slice_get_within, some_is, none_some, text_false, nat_here, text_true, nat_true, nat_false, false_true, text_left}
+use Rattle.job_facts.specs.Prelude.{text_eq, Scene, Upload, with_key, is_part_number, with_part, answer, apply, part_answer, IsHonestOutcome, only_reads, Request, PutObject, CreateUpload, UploadPart, Reply, Part, Refused, BadPartNumber, Outcome, Answered, Place, RecordPlace, SetPlace, key_at, File, Who, IsLegal, Script, files, Drawn, Known, learn, is_set_key, file_key, record_key, record_text, file_parts, Seen, see, is_magic, is_publishing, IsIn, Told, known, put_who, undoes, entry, tell, tell_attempt, at_id, IsKnown, part_left, IsWritten, IsRecord, IsOwnPlace, Facts, Hold, Times, set_key, staged_set_path, set_text, AreCommits, IsSet, IsAttempt, IsOpen, ClusterPut, ClusterRename, ClusterDelete, AbortUpload, DeleteObjects, temporary_path, is_staging, is_set_path, last_by, with_files, begins, attempt_prefix}
 use Rattle.job_protocol.specs.Prelude.{learn_part}
 use Rattle.std.specs.FinMap as fin
 use Rattle.s3_types.specs.Tags.{plain_tag}
 use Rattle.job_facts.specs.Stores.{Turns}
-use Rattle.job_facts.proofs.Whose.{attempt, who_same, or_false}
-use Rattle.job_facts.proofs.Legal.{is_attempt, same_file, small_task}
-use Rattle.job_facts.proofs.Placed.{own_place, one_place}
-use Rattle.job_facts.proofs.Shapes.{id_before, puts, draws, part_turns, answer_is}
-use Rattle.job_facts.proofs.Foreign.{stood, foreign_effect, reads_effect}
-use Rattle.job_facts.proofs.Keep.{put_keep, part_keep}
-use Rattle.job_facts.proofs.Learn.{learn_upload_keep, learn_part_keep}
+use Rattle.job_facts.proofs.Whose.{who_of, who_same, or_false, and_false, who_here, or_true}
+use Rattle.job_facts.proofs.Legal.{same_file, small_task}
+use Rattle.job_facts.proofs.Placed.{own_place, one_place, set_same, not_staged}
+use Rattle.job_facts.proofs.Shapes.{id_before, puts, draws, part_turns, answer_is, abort_turns}
+use Rattle.job_facts.proofs.Foreign.{stood, foreign_effect, reads_effect, reads_name}
+use Rattle.job_facts.proofs.Keep.{put_keep, part_keep, drops_keep, abort_keep, learn_upload_keep, learn_part_keep, told_is, last_if, attempt_plain, sends_publish, sends_put, sends_undo, attempt_by}
+use Rattle.job_facts.proofs.Going.{unlearnt}
+use Rattle.job_model.specs.Prelude.{renamed}
+use Rattle.store_frame.proofs.Framed.{frame}
+use Rattle.job_facts.proofs.Staged.{stage_keep, rename_keep, remove_drops}
+use Rattle.job_facts.proofs.Undone.{deletes_drop, set_apart}
 
 -- ---- a request that neither publishes, nor puts a temporary file, nor takes anything away
 
@@ -21,195 +25,199 @@ pub record IsPlain (w : Script) (s : Scene) (a : Who) (k : Known) (r : Request) 
   pub publish : (o : Outcome) → (learn w a k r o).publish_sent ≡ k.publish_sent
   pub undo : undoes r ≡ false
   pub publishing : is_publishing w s a.task r ≡ false
-  -- what was not answered teaches nothing
-  pub slow : (learn w a k r Slow).drawn ≡ k.drawn
-  pub unsent : (learn w a k r RequestLost).drawn ≡ k.drawn
-  pub unheard : (learn w a k r ReplyLost).drawn ≡ k.drawn
 
-module _ (w : Script) (minimum : ℕ) (k : Times) (s : Seen) (m : Told) (a : Who) (n : ℕ) (r : Request) where
-  -- it knows these uploads
-  abbrev pub learning : List Drawn → Told
-  learning ds = record m { drawn = put_who m.drawn a ds }
+-- the part is there and answered by its tag, or the answer teaches nothing
+abbrev Due : ℕ → List ℕ → Reply → Option Upload → Type 0
+Due number bytes x o = ((x ≡ Part (plain_tag bytes)) × ((u : Upload) → o ≡ Some u → fin.get u.parts number ≡ Some bytes)) ⊎ ((ds : List Drawn) (id size : ℕ) → learn_part ds id size (Answered x) ≡ ds)
 
-  pub no_news : (ds : List Drawn) → ds ≡ m.drawn a → learning ds ≡ m
-  no_news ds e = λ i. record { drawn = who_same m.drawn a ds e i; put_sent = m.put_sent; publish_sent = m.publish_sent; undone = m.undone; ended = m.ended; cleaned = m.cleaned; cleans_at = m.cleans_at }
-
-  module _ (p : IsPlain w s.scene a (known m a) r) where
-    plain_told : (o : Outcome) → tell_attempt w m a r o ≡ learning (learn w a (known m a) r o).drawn
-    plain_told o = λ i. record {
-      drawn = put_who m.drawn a (learn w a (known m a) r o).drawn;
-      put_sent = who_same m.put_sent a _ (p.put o) i;
-      publish_sent = who_same m.publish_sent a _ (p.publish o) i;
-      undone = who_same m.undone a _ (ap (λ b. m.undone a || b) p.undo ∙ or_false (m.undone a)) i;
-      ended = m.ended;
-      cleaned = m.cleaned;
-      cleans_at = m.cleans_at;
-    }
-
-    plain_last : last_by w s.scene s.last a.task a.attempt r ≡ s.last
-    plain_last = λ i t. at t i
-      where
-        no_task : (b : Bool) → (b && is_publishing w s.scene a.task r) ≡ false
-        no_task true = p.publishing
-        no_task false = refl
-
-        at : (t : ℕ) → last_by w s.scene s.last a.task a.attempt r t ≡ s.last t
-        at t = ap (λ b. cond b (Some a.attempt) (s.last t)) (no_task (nat_eq t a.task))
-
-    -- it is enough to see to its effect, and to what an answer teaches
-    pub plain_keeps : (Hold w minimum s m → Facts w minimum (apply s.scene r) s.last m)
-        → ((x : Reply) → x ≡ answer s.scene r → Hold w minimum s m → Facts w minimum (apply s.scene r) s.last (learning (learn w a (known m a) r (Answered x)).drawn))
-        → (o : Outcome) → IsHonestOutcome o (answer s.scene r) → Hold w minimum s m → Hold w minimum (see w k s (entry a n r o)) (tell w m (entry a n r o))
-    plain_keeps acts teaches (Answered x) honest f =
-        let Q : Told → Type 0 = λ t. Facts w minimum (apply s.scene r) s.last t in
-        let P : (ℕ → Option ℕ) → Type 0 = λ l. Facts w minimum (apply s.scene r) l (tell_attempt w m a r (Answered x)) in
-        subst P (sym plain_last) (subst Q (sym (plain_told (Answered x))) (teaches x honest f))
-    plain_keeps acts teaches Slow honest f = subst (Facts w minimum s.scene s.last) (sym (plain_told Slow ∙ no_news _ p.slow)) f
-    plain_keeps acts teaches RequestLost honest f = subst (Facts w minimum s.scene s.last) (sym (plain_told RequestLost ∙ no_news _ p.unsent)) f
-    plain_keeps acts teaches ReplyLost honest f =
-        let Q : Told → Type 0 = λ t. Facts w minimum (apply s.scene r) s.last t in
-        let P : (ℕ → Option ℕ) → Type 0 = λ l. Facts w minimum (apply s.scene r) l (tell_attempt w m a r ReplyLost) in
-        subst P (sym plain_last) (subst Q (sym (plain_told ReplyLost ∙ no_news _ p.unheard)) (acts f))
-
--- ---- a request that only reads
-
-reads_plain : (w : Script) (s : Scene) (a : Who) (k : Known) (r : Request) → only_reads r ≡ true → IsPlain w s a k r × ((o : Outcome) → (learn w a k r o).drawn ≡ k.drawn)
-reads_plain w s a k (GetObject n q) h = (record { put = λ o. refl; publish = λ o. refl; undo = refl; publishing = refl; slow = refl; unsent = refl; unheard = refl }, λ o. refl)
-reads_plain w s a k (HeadObject n q) h = (record { put = λ o. refl; publish = λ o. refl; undo = refl; publishing = refl; slow = refl; unsent = refl; unheard = refl }, λ o. refl)
-reads_plain w s a k (ListPage n p t after limit) h = (record { put = λ o. refl; publish = λ o. refl; undo = refl; publishing = refl; slow = refl; unsent = refl; unheard = refl }, λ o. refl)
-reads_plain w s a k (ListParts n q id) h = (record { put = λ o. refl; publish = λ o. refl; undo = refl; publishing = refl; slow = refl; unsent = refl; unheard = refl }, λ o. refl)
-reads_plain w s a k (ListUploads n p after limit) h = (record { put = λ o. refl; publish = λ o. refl; undo = refl; publishing = refl; slow = refl; unsent = refl; unheard = refl }, λ o. refl)
-reads_plain w s a k (ClusterGet path) h = (record { put = λ o. refl; publish = λ o. refl; undo = refl; publishing = refl; slow = refl; unsent = refl; unheard = refl }, λ o. refl)
-reads_plain w s a k (ClusterList p) h = (record { put = λ o. refl; publish = λ o. refl; undo = refl; publishing = refl; slow = refl; unsent = refl; unheard = refl }, λ o. refl)
-reads_plain w s a k _ h = absurd (false_true refl h)
-
-pub read_keeps : (w : Script) (minimum : ℕ) (k : Times) (s : Seen) (m : Told) (a : Who) (n : ℕ) (r : Request) (o : Outcome) → only_reads r ≡ true
-    → IsHonestOutcome o (answer s.scene r) → Hold w minimum s m → Hold w minimum (see w k s (entry a n r o)) (tell w m (entry a n r o))
-read_keeps w minimum k s m a n r o reads honest f =
-    let p = reads_plain w s.scene a (known m a) r reads in
-    let acts : Facts w minimum (apply s.scene r) s.last m = reads_effect s.scene r reads f in
-    plain_keeps w minimum k s m a n r p.0 (λ h. acts)
-    (λ x e h. subst (Facts w minimum (apply s.scene r) s.last) (sym (no_news w minimum k s m a n r _ (p.1 (Answered x)))) acts) o honest f
-
--- ---- CreateUpload: of a file of which it knows no upload yet
-
-pub create_keeps : (w : Script) (minimum : ℕ) (k : Times) (s : Seen) (m : Told) (a : Who) (n : ℕ) (o : Outcome) → IsLegal w → (g : File)
-    → IsIn g (files w a) → m.publish_sent a ≡ false → m.put_sent a ≡ false → ((d : Drawn) → IsIn d (m.drawn a) → d.key ≡ file_key w g → ⊥)
-    → let r = CreateUpload w.dest.bucket (file_key w g) in
-    IsHonestOutcome o (answer s.scene r) → Hold w minimum s m → Hold w minimum (see w k s (entry a n r o)) (tell w m (entry a n r o))
-create_keeps w minimum k s m a n o j g mine unsent unput fresh honest f =
-    let r = CreateUpload w.dest.bucket (file_key w g) in
-    let acts : Facts w minimum (apply s.scene r) s.last m = foreign_effect j s.scene r (record { keys = λ e q i. absurd i; uploads = λ e id q. absurd (none_some refl q); paths = λ p i. absurd i }) f in
-    let drew = draws w s.scene f.there.0 f.there.1 (file_key w g) in
-    let unknown : IsKnown m.drawn s.scene.content.next → ⊥ = λ y. let old : s.scene.content.next < s.scene.content.next = (stood f).below s.scene.content.next y in absurd (omega arith) in
-    let low : s.scene.content.next < (apply s.scene r).content.next = let e : (apply s.scene r).content.next ≡ s.scene.content.next + 1 = drew.next in omega arith in
-    let now = learn_upload_keep a g s.scene.content.next mine unsent unput fresh low unknown drew.here acts in
-    plain_keeps w minimum k s m a n r (record { put = λ o. refl; publish = λ o. refl; undo = refl; publishing = refl; slow = refl; unsent = refl; unheard = refl }) (λ h. acts)
-    (λ x e h. subst (λ y. Facts w minimum (apply s.scene r) s.last (learning w minimum k s m a n r (learn w a (known m a) r (Answered y)).drawn)) (sym (e ∙ answer_is w s.scene f.there.0 f.there.1 r refl)) now) o honest f
-
--- ---- UploadPart
-
--- an answer that teaches a tag is for a part that is there
-part_reply : (ds : List Drawn) (id size : ℕ) (x : Reply) → ((tag : Spelled) × (x ≡ Part tag)) ⊎ (learn_part ds id size (Answered x) ≡ ds)
-part_reply ds id size (Part tag) = inl (tag, refl)
-part_reply ds id size _ = inr refl
-
-part_there : (key : List ℕ) (number : ℕ) (bytes : List ℕ) (o : Option Upload) (tag : Spelled) → Part tag ≡ part_answer (with_key key o) number bytes
-    → (u : Upload) → part_left key number bytes o ≡ Some u → fin.get u.parts number ≡ Some bytes
-part_there key number bytes None tag e u h = absurd (none_some refl h)
-part_there key number bytes (Some y) tag e u h = by (text_eq y.key key) e h
-  where
-    inner : (b : Bool) → Part tag ≡ cond b (Part (plain_tag bytes)) (Refused BadPartNumber) → cond b (Some (with_part y number bytes)) (Some y) ≡ Some u → fin.get u.parts number ≡ Some bytes
-    inner true e h =
-        let is : with_part y number bytes ≡ u = some_is h in
-        ap (λ (v : Upload). fin.get v.parts number) (sym is) ∙ nat_here y.parts number number bytes refl
-    inner false e h = absurd cc
-
-    by : (b : Bool) → Part tag ≡ part_answer (cond b (Some y) None) number bytes → cond (b && is_part_number number) (Some (with_part y number bytes)) (Some y) ≡ Some u → fin.get u.parts number ≡ Some bytes
-    by true e h = inner (is_part_number number) e h
-    by false e h = absurd cc
-
-part_plain : (number : ℕ) (bytes : List ℕ) (o : Option Upload) (tag : Spelled) → Part tag ≡ part_answer o number bytes → tag ≡ plain_tag bytes
-part_plain number bytes None tag e = absurd cc
-part_plain number bytes (Some y) tag e = by (is_part_number number) e
-  where
-    by : (b : Bool) → Part tag ≡ cond b (Part (plain_tag bytes)) (Refused BadPartNumber) → tag ≡ plain_tag bytes
-    by true e = cc
-    by false e = absurd cc
-
--- the next block of the file of an upload that it knows
-pub part_keeps : (w : Script) (minimum : ℕ) (k : Times) (s : Seen) (m : Told) (a : Who) (n : ℕ) (o : Outcome) → IsLegal w → (g : File) (x : Drawn) (bytes : List ℕ)
-    → IsIn g (files w a) → m.publish_sent a ≡ false → m.put_sent a ≡ false → IsIn x (m.drawn a) → x.key ≡ file_key w g → slice_get (file_parts w minimum g) (length x.tags) ≡ Some bytes
-    → let r = UploadPart w.dest.bucket (file_key w g) x.upload (length x.tags + 1) bytes in
-    IsHonestOutcome o (answer s.scene r) → Hold w minimum s m → Hold w minimum (see w k s (entry a n r o)) (tell w m (entry a n r o))
-part_keeps w minimum k s m a n o j g x bytes mine unsent unput known_one key block honest f =
-    let r = UploadPart w.dest.bucket (file_key w g) x.upload (length x.tags + 1) bytes in
-    let number : length x.tags + 1 ≡ suc (length x.tags) = omega arith in
-    let P : List ℕ → Type 0 = λ q. Turns w s.scene (apply s.scene r) x.upload (part_left q (length x.tags + 1) bytes (at_id w s.scene.content x.upload)) in
-    let turned = part_turns w s.scene f.there.0 f.there.1 (file_key w g) x.upload (length x.tags + 1) bytes in
-    let acts : Facts w minimum (apply s.scene r) s.last m = part_keep j a x g (length x.tags) (length x.tags + 1) bytes known_one mine key number block (subst P (sym key) turned) f in
-    let few : length x.tags < length (file_parts w minimum g) = slice_get_within _ _ _ block in
-    let teaches : (y : Reply) → y ≡ answer s.scene r → Facts w minimum (apply s.scene r) s.last (learning w minimum k s m a n r (learn w a (known m a) r (Answered y)).drawn) =
-    λ y e. elim (part_reply (m.drawn a) x.upload (length bytes) y) [
-      | inr none ↦ subst (Facts w minimum (apply s.scene r) s.last) (sym (no_news w minimum k s m a n r _ none)) acts
-      | inl told ↦
-          let due : Part told.0 ≡ part_answer (with_key (file_key w g) (at_id w s.scene.content x.upload)) (length x.tags + 1) bytes =
-          sym told.1 ∙ e ∙ answer_is w s.scene f.there.0 f.there.1 r refl ∙ ap (λ u. part_answer (with_key (file_key w g) u) (length x.tags + 1) bytes) (sym (id_before w s.scene f.there.0 f.there.1 x.upload)) in
-          let now = learn_part_keep j a x g bytes told.0 known_one mine key unsent unput block few (part_plain (length x.tags + 1) bytes _ told.0 due)
-          (λ u h. ap (fin.get u.parts) (sym number) ∙ part_there (file_key w g) (length x.tags + 1) bytes (at_id w s.scene.content x.upload) told.0 due u (sym turned.here ∙ h)) acts in
-          subst (λ z. Facts w minimum (apply s.scene r) s.last (learning w minimum k s m a n r (learn w a (known m a) r (Answered z)).drawn)) (sym told.1) now
-    ] in
-    plain_keeps w minimum k s m a n r (record { put = λ o. refl; publish = λ o. refl; undo = refl; publishing = refl; slow = refl; unsent = refl; unheard = refl }) (λ h. acts) (λ y e h. teaches y e) o honest f
-
--- ---- puts of a marker and of a record
+part_due : (key : List ℕ) (number : ℕ) (bytes : List ℕ) (o : Option Upload) → Due number bytes (part_answer (with_key key o) number bytes) (part_left key number bytes o)
+part_due key number bytes None = inr (λ ds id size. refl)
+part_due key number bytes (Some y) = elim (text_eq y.key key) as (λ b. Due number bytes (part_answer (cond b (Some y) None) number bytes) (cond (b && is_part_number number) (Some (with_part y number bytes)) (Some y))) [
+  | true ↦ elim (is_part_number number) as (λ b. Due number bytes (cond b (Part (plain_tag bytes)) (Refused BadPartNumber)) (cond b (Some (with_part y number bytes)) (Some y))) [
+    | true ↦ inl (refl, λ u h. ap (λ (v : Upload). fin.get v.parts number) (sym (some_is h)) ∙ nat_here y.parts number number bytes refl)
+    | false ↦ inr (λ ds id size. refl)
+  ]
+  | false ↦ inr (λ ds id size. refl)
+]
 
 -- the key of another place of the job is not that of a task's set
 pub not_set : {w : Script} → IsLegal w → is_magic w.committer ≡ true → (t : ℕ) (p : Place) → IsOwnPlace w p → t < w.tasks → (p ≡ SetPlace t → ⊥) → is_set_key w t w.dest.bucket (key_at w.dest.key w.job p) ≡ false
 not_set {w = w} j magic t p own small ne =
     ap (λ b. text_eq w.dest.bucket w.dest.bucket && b) (text_false _ _ (λ e. ne (one_place j p (SetPlace t) (own_place j magic p own) (small_task j t small) e))) ∙ and_false _
-  where
-    and_false : (b : Bool) → (b && false) ≡ false
-    and_false true = refl
-    and_false false = refl
 
-other_put_keeps : (w : Script) (minimum : ℕ) (k : Times) (s : Seen) (m : Told) (a : Who) (n : ℕ) (o : Outcome) → IsLegal w → is_magic w.committer ≡ true → (p : Place) (bytes : List ℕ) (header : Option ℕ)
-    → IsOwnPlace w p → a.task < w.tasks → ((t : ℕ) → SetPlace t ≡ p → ⊥)
-    → ((b : Who) (g : File) → IsIn g (files w b) → RecordPlace b.task b.attempt g.0 ≡ p → IsRecord w minimum (m.drawn b) b g (record { bytes = bytes; header = header }))
-    → let r = PutObject w.dest.bucket (key_at w.dest.key w.job p) bytes header in
-    IsHonestOutcome o (answer s.scene r) → Hold w minimum s m → Hold w minimum (see w k s (entry a n r o)) (tell w m (entry a n r o))
-other_put_keeps w minimum k s m a n o j magic p bytes header own task no_set of_record honest f =
-    let r = PutObject w.dest.bucket (key_at w.dest.key w.job p) bytes header in
-    let other : is_set_key w a.task w.dest.bucket (key_at w.dest.key w.job p) ≡ false = not_set j magic a.task p own task (λ e. no_set a.task (sym e)) in
-    let publish : (m.publish_sent a || is_set_key w a.task w.dest.bucket (key_at w.dest.key w.job p)) ≡ m.publish_sent a = ap (λ b. m.publish_sent a || b) other ∙ or_false (m.publish_sent a) in
-    let acts : Facts w minimum (apply s.scene r) s.last m =
-    put_keep j magic p (record { bytes = bytes; header = header }) own (puts w s.scene f.there.0 f.there.1 (key_at w.dest.key w.job p) bytes header) of_record (λ t h e. absurd (no_set t e)) (λ t ne. refl) f in
-    plain_keeps w minimum k s m a n r (record { put = λ o. refl; publish = λ o. publish; undo = refl; publishing = ap (λ b. is_magic w.committer && b) other ∙ and_false (is_magic w.committer); slow = refl; unsent = refl; unheard = refl }) (λ h. acts)
-    (λ x e h. subst (Facts w minimum (apply s.scene r) s.last) (sym (no_news w minimum k s m a n r (m.drawn a) refl)) acts) o honest f
-  where
-    and_false : (b : Bool) → (b && false) ≡ false
-    and_false true = refl
-    and_false false = refl
+pub is_set_here : (w : Script) (a : Who) → is_set_key w a.task w.dest.bucket (set_key w.dest.key w.job a.task) ≡ true
+is_set_here w a = rw (text_true w.dest.bucket w.dest.bucket refl, text_true (set_key w.dest.key w.job a.task) (set_key w.dest.key w.job a.task) refl) refl
 
-pub marker_keeps : (w : Script) (minimum : ℕ) (k : Times) (s : Seen) (m : Told) (a : Who) (n : ℕ) (o : Outcome) → IsLegal w → is_magic w.committer ≡ true → (g : File) → IsIn g (files w a)
-    → let r = PutObject w.dest.bucket (marker_key w a g) [] (Some (length g.1)) in
-    IsHonestOutcome o (answer s.scene r) → Hold w minimum s m → Hold w minimum (see w k s (entry a n r o)) (tell w m (entry a n r o))
-marker_keeps w minimum k s m a n o j magic g mine honest f =
-    other_put_keeps w minimum k s m a n o j magic (MarkerPlace a.task a.attempt g.0) [] (Some (length g.1)) (g, mine, refl) (is_attempt j a g mine).task (λ t e. absurd cc) (λ b h i e. absurd cc) honest f
+module _ (w : Script) (minimum : ℕ) (k : Times) (s : Seen) (m : Told) (a : Who) (n : ℕ) (f : Hold w minimum s m) where
+  abbrev pub Keeps : Request → Type 0
+  Keeps r = (o : Outcome) → IsHonestOutcome o (answer s.scene r) → Hold w minimum (see w k s (entry a n r o)) (tell w m (entry a n r o))
 
--- the record of a file whose upload is complete
-pub record_keeps : (w : Script) (minimum : ℕ) (k : Times) (s : Seen) (m : Told) (a : Who) (n : ℕ) (o : Outcome) → IsLegal w → is_magic w.committer ≡ true → (g : File) → IsIn g (files w a) → (x : IsWritten w minimum (m.drawn a) g)
-    → let r = PutObject w.dest.bucket (record_key w a g) (record_text w a g x.drawn) None in
-    IsHonestOutcome o (answer s.scene r) → Hold w minimum s m → Hold w minimum (see w k s (entry a n r o)) (tell w m (entry a n r o))
-record_keeps w minimum k s m a n o j magic g mine x honest f =
-    other_put_keeps w minimum k s m a n o j magic (RecordPlace a.task a.attempt g.0) (record_text w a g x.drawn) None (g, mine, refl) (is_attempt j a g mine).task (λ t e. absurd cc) of_record honest f
-  where
-    of_record : (b : Who) (h : File) → IsIn h (files w b) → RecordPlace b.task b.attempt h.0 ≡ RecordPlace a.task a.attempt g.0 → IsRecord w minimum (m.drawn b) b h (record { bytes = record_text w a g x.drawn; header = None })
-    of_record b h i e =
-        let t : b.task ≡ a.task = cc in
-        let v : b.attempt ≡ a.attempt = cc in
-        let who : b ≡ a = ap (λ (y : ℕ). attempt y b.attempt) t ∙ ap (λ (y : ℕ). attempt a.task y) v in
-        let path : h.0 ≡ g.0 = cc in
-        let same : h ≡ g = same_file j a h g (subst (λ y. IsIn h (files w y)) who i) mine path in
-        let P : Who → Type 0 = λ y. IsRecord w minimum (m.drawn y) y h (record { bytes = record_text w a g x.drawn; header = None }) in
-        let Q : File → Type 0 = λ y. IsRecord w minimum (m.drawn a) a y (record { bytes = record_text w a g x.drawn; header = None }) in
-        subst P (sym who) (subst Q (sym same) (record { written = x; bytes = refl }))
+  -- it knows these uploads
+  abbrev learning : List Drawn → Told
+  learning ds = record m { drawn = put_who m.drawn a ds }
+
+  no_news : (ds : List Drawn) → ds ≡ m.drawn a → learning ds ≡ m
+  no_news ds e = λ i. record m { drawn = who_same m.drawn a ds e i }
+
+  plain_told : (r : Request) → IsPlain w s.scene a (known m a) r → (o : Outcome) → tell_attempt w m a r o ≡ learning (learn w a (known m a) r o).drawn
+  plain_told r p o = told_is m a _ _ refl (who_same m.put_sent a _ (p.put o)) (who_same m.publish_sent a _ (p.publish o)) (who_same m.undone a _ (ap (λ b. m.undone a || b) p.undo ∙ or_false (m.undone a)))
+
+  -- it is enough to see to its effect, where it teaches nothing of uploads
+  quiet_keeps : (r : Request) → IsPlain w s.scene a (known m a) r → ((o : Outcome) → (learn w a (known m a) r o).drawn ≡ m.drawn a) → Facts w minimum (apply s.scene r) s.last m → Keeps r
+  quiet_keeps r p same acts o honest = attempt_plain w minimum k s m a n r p.publishing o m (plain_told r p o ∙ no_news _ (same o)) f acts
+
+  -- and to what an answer teaches
+  plain_keeps : (r : Request) → IsPlain w s.scene a (known m a) r → Facts w minimum (apply s.scene r) s.last m → ((x : Reply) → x ≡ answer s.scene r → Facts w minimum (apply s.scene r) s.last (learning (learn w a (known m a) r (Answered x)).drawn)) → Keeps r
+  plain_keeps r p acts teaches (Answered x) honest =
+      subst (λ l. Facts w minimum (apply s.scene r) l (tell_attempt w m a r (Answered x))) (sym (last_if a.task a.attempt s.last _ p.publishing)) (subst (Facts w minimum (apply s.scene r) s.last) (sym (plain_told r p (Answered x))) (teaches x honest))
+  plain_keeps r p acts teaches o honest = attempt_plain w minimum k s m a n r p.publishing o m (plain_told r p o ∙ no_news _ (unlearnt w a (known m a) r o (λ x e. absurd cc))) f acts
+
+  pub read_keeps : (r : Request) → only_reads r ≡ true → Keeps r
+  read_keeps r reads =
+      let x = reads_name r reads in
+      let same : (o : Outcome) → learn w a (known m a) r o ≡ known m a = x.learns w a (known m a) in
+      quiet_keeps r (record { put = λ o. ap (λ v. v.put_sent) (same o); publish = λ o. ap (λ v. v.publish_sent) (same o); undo = x.undo; publishing = x.publishing w s.scene a.task }) (λ o. ap (λ v. v.drawn) (same o)) (reads_effect s.scene r reads f)
+
+  -- ---- CreateUpload: of a file of which it knows no upload yet
+
+  pub create_keeps : IsLegal w → (g : File) → IsIn g (files w a) → IsOpen (known m a) → ((d : Drawn) → IsIn d (m.drawn a) → d.key ≡ file_key w g → ⊥) → Keeps (CreateUpload w.dest.bucket (file_key w g))
+  create_keeps j g mine free fresh =
+      let r = CreateUpload w.dest.bucket (file_key w g) in
+      let acts : Facts w minimum (apply s.scene r) s.last m = foreign_effect j s.scene r (record { keys = λ e q i. absurd i; uploads = λ e id q. absurd (none_some refl q); paths = λ p i. absurd i }) f in
+      let drew = draws w s.scene f.there.0 f.there.1 (file_key w g) in
+      let unknown : IsKnown m.drawn s.scene.content.next → ⊥ = λ y. let old : s.scene.content.next < s.scene.content.next = (stood f).below s.scene.content.next y in absurd (omega arith) in
+      let low : s.scene.content.next < (apply s.scene r).content.next = let e : (apply s.scene r).content.next ≡ s.scene.content.next + 1 = drew.next in omega arith in
+      let now = learn_upload_keep a g s.scene.content.next mine free.0 free.1 fresh low unknown drew.here acts in
+      plain_keeps r (record { put = λ o. refl; publish = λ o. refl; undo = refl; publishing = refl }) acts
+      (λ x e. subst (λ y. Facts w minimum (apply s.scene r) s.last (learning (learn w a (known m a) r (Answered y)).drawn)) (sym (e ∙ answer_is w s.scene f.there.0 f.there.1 r refl)) now)
+
+  -- ---- UploadPart: the next block of the file of an upload that it knows
+
+  pub part_keeps : IsLegal w → (g : File) (x : Drawn) (bytes : List ℕ) → IsIn g (files w a) → IsOpen (known m a) → IsIn x (m.drawn a) → x.key ≡ file_key w g → slice_get (file_parts w minimum g) (length x.tags) ≡ Some bytes
+      → Keeps (UploadPart w.dest.bucket (file_key w g) x.upload (length x.tags + 1) bytes)
+  part_keeps j g x bytes mine free known_one key block =
+      let r = UploadPart w.dest.bucket (file_key w g) x.upload (length x.tags + 1) bytes in
+      let number : length x.tags + 1 ≡ suc (length x.tags) = omega arith in
+      let P : List ℕ → Type 0 = λ q. Turns w s.scene (apply s.scene r) x.upload (part_left q (length x.tags + 1) bytes (at_id w s.scene.content x.upload)) in
+      let turned = part_turns w s.scene f.there.0 f.there.1 (file_key w g) x.upload (length x.tags + 1) bytes in
+      let acts : Facts w minimum (apply s.scene r) s.last m = part_keep j a x g (length x.tags) (length x.tags + 1) bytes known_one mine key number block (subst P (sym key) turned) f in
+      let answered : answer s.scene r ≡ part_answer (with_key (file_key w g) (at_id w s.scene.content x.upload)) (length x.tags + 1) bytes =
+      answer_is w s.scene f.there.0 f.there.1 r refl ∙ ap (λ u. part_answer (with_key (file_key w g) u) (length x.tags + 1) bytes) (sym (id_before w s.scene f.there.0 f.there.1 x.upload)) in
+      let Q : Reply → Type 0 = λ z. Facts w minimum (apply s.scene r) s.last (learning (learn w a (known m a) r (Answered z)).drawn) in
+      plain_keeps r (record { put = λ o. refl; publish = λ o. refl; undo = refl; publishing = refl }) acts
+      (λ y e. subst Q (sym (e ∙ answered)) (elim (part_due (file_key w g) (length x.tags + 1) bytes (at_id w s.scene.content x.upload)) [
+        | inr none ↦ subst (Facts w minimum (apply s.scene r) s.last) (sym (no_news _ (none (m.drawn a) x.upload (length bytes)))) acts
+        | inl told ↦ subst Q (sym told.0) (learn_part_keep j a x g bytes (plain_tag bytes) known_one mine key free.0 free.1 block (slice_get_within _ _ _ block) refl (λ u h. ap (fin.get u.parts) (sym number) ∙ told.1 u (sym turned.here ∙ h)) acts)
+      ]))
+
+  -- ---- puts of a marker and of a record
+
+  pub other_put_keeps : IsLegal w → is_magic w.committer ≡ true → (p : Place) (bytes : List ℕ) (header : Option ℕ) → IsOwnPlace w p → a.task < w.tasks → ((t : ℕ) → SetPlace t ≡ p → ⊥)
+      → ((b : Who) (g : File) → IsIn g (files w b) → RecordPlace b.task b.attempt g.0 ≡ p → IsRecord w minimum (m.drawn b) b g (record { bytes = bytes; header = header })) → Keeps (PutObject w.dest.bucket (key_at w.dest.key w.job p) bytes header)
+  other_put_keeps j magic p bytes header own task no_set of_record =
+      let other : is_set_key w a.task w.dest.bucket (key_at w.dest.key w.job p) ≡ false = not_set j magic a.task p own task (λ e. no_set a.task (sym e)) in
+      quiet_keeps (PutObject w.dest.bucket (key_at w.dest.key w.job p) bytes header)
+      (record { put = λ o. refl; publish = λ o. ap (λ b. m.publish_sent a || b) other ∙ or_false (m.publish_sent a); undo = refl; publishing = ap (λ b. is_magic w.committer && b) other ∙ and_false (is_magic w.committer) }) (λ o. refl)
+      (put_keep j magic p (record { bytes = bytes; header = header }) own (puts w s.scene f.there.0 f.there.1 (key_at w.dest.key w.job p) bytes header) of_record (λ t h e. absurd (no_set t e)) (λ t ne. refl) f)
+
+  -- the record of a file whose upload is complete
+  pub record_keeps : IsLegal w → IsAttempt w a → is_magic w.committer ≡ true → (g : File) → IsIn g (files w a) → (x : IsWritten w minimum (m.drawn a) g) → Keeps (PutObject w.dest.bucket (record_key w a g) (record_text w a g x.drawn) None)
+  record_keeps j d magic g mine x = other_put_keeps j magic (RecordPlace a.task a.attempt g.0) (record_text w a g x.drawn) None (g, mine, refl) d.task (λ t e. absurd cc) of_record
+    where
+      of_record : (b : Who) (h : File) → IsIn h (files w b) → RecordPlace b.task b.attempt h.0 ≡ RecordPlace a.task a.attempt g.0 → IsRecord w minimum (m.drawn b) b h (record { bytes = record_text w a g x.drawn; header = None })
+      of_record b h i e =
+          let t : b.task ≡ a.task = cc in
+          let v : b.attempt ≡ a.attempt = cc in
+          let who : b ≡ a = who_of b a t v in
+          let path : h.0 ≡ g.0 = cc in
+          let same : h ≡ g = same_file j a h g (subst (λ y. IsIn h (files w y)) who i) mine path in
+          let P : Who → File → Type 0 = λ y z. IsRecord w minimum (m.drawn y) y z (record { bytes = record_text w a g x.drawn; header = None }) in
+          subst (λ y. P y h) (sym who) (subst (P a) (sym same) (record { written = x; bytes = refl }))
+
+  -- ---- the magic committer puts its set
+
+  -- it has sent its publishing request
+  abbrev has_sent : Told
+  has_sent = record m { publish_sent = put_who m.publish_sent a true }
+
+  pub set_keeps : IsLegal w → is_magic w.committer ≡ true → IsAttempt w a → m.undone a ≡ false → (cs : List File) → AreCommits w minimum (m.drawn a) a cs → Keeps (PutObject w.dest.bucket (set_key w.dest.key w.job a.task) (set_text w a cs (known m a)) None)
+  set_keeps j magic d clean cs are o honest =
+      attempt_by w minimum k s m a n set_put o has_sent
+      (told_is m a _ _ (who_same m.drawn a _ refl) (who_same m.put_sent a _ refl) (ap (λ b. put_who m.publish_sent a b) (ap (λ b. m.publish_sent a || b) (is_set_here w a) ∙ or_true (m.publish_sent a))) (who_same m.undone a _ (or_false (m.undone a))))
+      (sends_publish a clean f)
+      (put_keep j magic (SetPlace a.task) (record { bytes = set_text w a cs (known m a); header = None }) d.task (puts w s.scene f.there.0 f.there.1 (set_key w.dest.key w.job a.task) (set_text w a cs (known m a)) None)
+      (λ c g i e. absurd cc) of_set (λ t ne. rw (nat_false t a.task (λ e. ne (ap SetPlace e))) refl) (sends_publish a clean f))
+    where
+      set_put : Request
+      set_put = PutObject w.dest.bucket (set_key w.dest.key w.job a.task) (set_text w a cs (known m a)) None
+
+      of_set : (t : ℕ) → t < w.tasks → SetPlace t ≡ SetPlace a.task → IsSet w minimum (last_by w s.scene s.last a.task a.attempt set_put) has_sent.publish_sent m.drawn t (set_text w a cs (known m a))
+      of_set t h e =
+          let is : t ≡ a.task = cc in
+          let latest : last_by w s.scene s.last a.task a.attempt set_put a.task ≡ Some a.attempt = rw (nat_true a.task a.task refl, magic, is_set_here w a) refl in
+          record { by = a; task = sym is; number = d.attempt; latest = ap (last_by w s.scene s.last a.task a.attempt set_put) is ∙ latest; has_sent = who_here m.publish_sent a true a refl; commits = cs; are = are; text = refl }
+
+  -- ---- the staging committers put a temporary file
+
+  pub stage_keeps : IsLegal w → is_staging w.committer ≡ true → IsAttempt w a → AreCommits w minimum (m.drawn a) a (files w a) → Keeps (ClusterPut (temporary_path w a) (set_text w a (files w a) (known m a)))
+  stage_keeps j staging d are o honest =
+      attempt_plain w minimum k s m a n (ClusterPut (temporary_path w a) (set_text w a (files w a) (known m a))) refl o (record m { put_sent = put_who m.put_sent a true })
+      (told_is m a _ _ (who_same m.drawn a _ refl) refl (who_same m.publish_sent a _ refl) (who_same m.undone a _ (or_false (m.undone a)))) (sends_put a f)
+      (stage_keep j staging a d (set_text w a (files w a) (known m a)) (record { has_put = who_here m.put_sent a true a refl; are = are; text = refl }) (sends_put a f))
+
+  -- ---- and rename it onto the task's set, where it stands
+
+  module _ (j : IsLegal w) (staging : is_staging w.committer ≡ true) (d : IsAttempt w a) (clean : m.undone a ≡ false) where
+    abbrev publishes : Bool → Bool
+    publishes stands = is_staging w.committer && (is_set_path w a.task (staged_set_path w.job a.task) && stands)
+
+    publishes_is : (b : Bool) → publishes b ≡ b
+    publishes_is b = rw (staging, text_true (staged_set_path w.job a.task) (staged_set_path w.job a.task) refl) refl
+
+    abbrev renamed_last : Bool → ℕ → Option ℕ
+    renamed_last b t = cond (nat_eq t a.task && b) (Some a.attempt) (s.last t)
+
+    rename_by : (o : Option (List ℕ)) → fin.get s.scene.files (temporary_path w a) ≡ o
+        → Facts w minimum (with_files s.scene (renamed s.scene.files (temporary_path w a) (staged_set_path w.job a.task) o)) (renamed_last (publishes (is_some o))) has_sent
+    rename_by None e = subst (λ l. Facts w minimum s.scene l has_sent) (sym (last_if a.task a.attempt s.last (publishes false) (publishes_is false))) (sends_publish a clean f)
+    rename_by (Some bytes) e =
+        rename_keep j staging a d bytes (renamed_last (publishes true)) e (who_here m.publish_sent a true a refl)
+        (rw (nat_true a.task a.task refl, publishes_is true) refl) (λ t ne. rw (nat_false t a.task ne) refl) (sends_publish a clean f)
+
+    pub rename_keeps : Keeps (ClusterRename (temporary_path w a) (staged_set_path w.job a.task))
+    rename_keeps o honest =
+        attempt_by w minimum k s m a n (ClusterRename (temporary_path w a) (staged_set_path w.job a.task)) o has_sent
+        (told_is m a _ _ (who_same m.drawn a _ refl) (who_same m.put_sent a _ refl) refl (who_same m.undone a _ (or_false (m.undone a)))) (sends_publish a clean f) (rename_by (fin.get s.scene.files (temporary_path w a)) refl)
+
+  -- ---- what takes something away, before the attempt has sent its publishing request
+
+  abbrev takes_back : Told
+  takes_back = record m { undone = put_who m.undone a true }
+
+  -- it is enough to see to its effect
+  undo_keeps : m.publish_sent a ≡ false → (r : Request) → undoes r ≡ true → ((o : Outcome) → learn w a (known m a) r o ≡ known m a) → is_publishing w s.scene a.task r ≡ false
+      → (Facts w minimum s.scene s.last takes_back → Facts w minimum (apply s.scene r) s.last takes_back) → Keeps r
+  undo_keeps unsent r undo learns publishing acts o honest =
+      attempt_plain w minimum k s m a n r publishing o takes_back
+      (told_is m a _ _ (who_same m.drawn a _ (ap (λ k. k.drawn) (learns o))) (who_same m.put_sent a _ (ap (λ k. k.put_sent) (learns o))) (who_same m.publish_sent a _ (ap (λ k. k.publish_sent) (learns o)))
+      (ap (λ b. put_who m.undone a b) (ap (λ b. m.undone a || b) undo ∙ or_true (m.undone a)))) (sends_undo a unsent f) (acts (sends_undo a unsent f))
+
+  -- an abort of an upload that it knows
+  pub abort_keeps : IsLegal w → (x : Drawn) → IsIn x (m.drawn a) → m.publish_sent a ≡ false → Keeps (AbortUpload w.dest.bucket x.key x.upload)
+  abort_keeps j x known_one unsent =
+      undo_keeps unsent (AbortUpload w.dest.bucket x.key x.upload) refl (λ o. refl) refl (abort_keep j a x known_one (who_here m.undone a true a refl) (abort_turns w s.scene f.there.0 f.there.1 x.key x.upload))
+
+  -- a batch of its own directory's keys
+  pub delete_keeps : (keys : List (List ℕ)) → ((q : List ℕ) → IsIn q keys → begins (attempt_prefix w a) q ≡ true) → m.publish_sent a ≡ false → Keeps (DeleteObjects w.dest.bucket keys)
+  delete_keeps keys own unsent =
+      let r = DeleteObjects w.dest.bucket keys in
+      let g = frame s.scene w.dest.bucket r f.there in
+      undo_keeps unsent r refl (λ o. refl) refl
+      (drops_keep (deletes_drop w s.scene keys f.there) (λ c t lt. set_same w.committer w s.scene (apply s.scene r) t (g.keys (key_at w.dest.key w.job (SetPlace t)) (λ b i. false_true (set_apart w a t) (own _ i))) refl))
+
+  -- its temporary file
+  pub remove_keeps : IsLegal w → IsAttempt w a → m.publish_sent a ≡ false → Keeps (ClusterDelete (temporary_path w a))
+  remove_keeps j d unsent =
+      let r = ClusterDelete (temporary_path w a) in
+      undo_keeps unsent r refl (λ o. refl) refl
+      (drops_keep (remove_drops w s.scene f.there (temporary_path w a)) (λ c t lt. set_same w.committer w s.scene (apply s.scene r) t refl (text_left s.scene.files (temporary_path w a) _ (λ e. not_staged j a t d lt (sym e)))))

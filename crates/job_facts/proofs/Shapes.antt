@@ -1,13 +1,15 @@
 -- What each request leaves of a store and of the cluster's files, told at keys, ids and paths.
-use Rattle.std.proofs.Common.{◌≡◌, ℕ, ◌+◌, ◌&&◌, Bool, true, false, cond, List, Option, Some, None, refl, sym, ap, subst, ◌∙◌}
-use Rattle.job_facts.specs.Prelude.{text_eq, BucketContent, Content, Scene, Upload, live, with_key, is_part_number, with_part, apply, apply_store, apply_at, bucket_of, answer_at, with_objects, Object, Request, PutObject, CreateUpload, UploadPart, AbortUpload, Script, upload_in, at_key, at_id, Puts, part_left, end_left}
+use Rattle.std.proofs.Common.{◌≡◌, ℕ, ◌+◌, ◌&&◌, Bool, true, false, cond, List, Option, Some, None, refl, sym, ap, subst, ◌∙◌, ◌⊎◌, inl, inr, nat_lt, [], ◌∷◌, ◌++◌, take, length}
+use Rattle.job_facts.specs.Prelude.{text_eq, BucketContent, Content, Scene, Upload, live, with_key, is_part_number, with_part, apply, apply_at, bucket_of, answer_at, with_objects, Object, Request, PutObject, CreateUpload, UploadPart, AbortUpload, Script, upload_in, at_key, at_id, Puts, part_left, end_left, is_lt, text_cmp, begins, listed, answer, Reply, PageEntry, walked_by, keys_on, last_of, page_after, IsIn, last_from, HasBucket}
 use Rattle.job_model.specs.Prelude.{Uploads, aborted}
 use Rattle.job_spec.specs.Prelude.{answer_in, part_put, object_in}
 use Rattle.store_frame.specs.Prelude.{with_uploads}
-use Rattle.job_spec.proofs.Common.{nat_here, nat_other, nat_gone, nat_left, text_here, text_other}
+use Rattle.job_spec.proofs.Common.{nat_here, nat_other, nat_gone, nat_left, text_here, text_other, in_append, in_front, in_back}
 use Rattle.std.specs.FinMap as fin
 use Rattle.store_frame.proofs.Framed.{with_bucket, part_others}
 use Rattle.job_facts.specs.Stores.{Turns, Draws}
+use Rattle.list_walk.specs.Walks.{walked}
+use Rattle.store_frame.proofs.Flat.{page_begins, page_covers, page_all, last_append}
 
 -- ---- a part, and an end, at its id and at others
 
@@ -25,11 +27,7 @@ part_here key id number bytes m (Some u) e = by (text_eq u.key key)
 
 abort_here : (key : List ℕ) (id : ℕ) (m : Uploads) (o : Option Upload) → fin.get m id ≡ o → fin.get (aborted m id (with_key key o)) id ≡ end_left key o
 abort_here key id m None e = e
-abort_here key id m (Some u) e = by (text_eq u.key key)
-  where
-    by : (p : Bool) → fin.get (aborted m id (cond p (Some u) None)) id ≡ cond p None (Some u)
-    by true = nat_gone m id id refl
-    by false = e
+abort_here key id m (Some u) e = elim (text_eq u.key key) as (λ p. fin.get (aborted m id (cond p (Some u) None)) id ≡ cond p None (Some u)) [ true ↦ nat_gone m id id refl | false ↦ e ]
 
 abort_others : (key : List ℕ) (id : ℕ) (m : Uploads) (o : Option Upload) (u : ℕ) → (u ≡ id → ⊥) → fin.get (aborted m id o) u ≡ fin.get m u
 abort_others key id m None u ne = refl
@@ -56,16 +54,17 @@ module _ (w : Script) (s : Scene) (b : BucketContent) (there : fin.get s.content
     pub id_after : (id : ℕ) → at_id w (with_bucket s.content w.dest.bucket d next) id ≡ fin.get d.uploads id
     id_after id = ap (λ o. upload_in o id) bucket_after
 
+  -- what a request to the bucket leaves of the store
+  pub store_is : (r : Request) → apply_at (fin.get s.content.buckets w.dest.bucket) s.content r ≡ apply_at (Some b) s.content r
+  store_is r = ap (λ o. apply_at o s.content r) there
+
   -- ---- a put
 
-  put_is : (key bytes : List ℕ) (header : Option ℕ)
-      → apply_store s.content (PutObject w.dest.bucket key bytes header) ≡ with_bucket s.content w.dest.bucket (with_objects b (fin.insert b.objects key (record { bytes = bytes; header = header }))) s.content.next
-  put_is key bytes header = ap (λ o. apply_at o s.content (PutObject w.dest.bucket key bytes header)) there
-
-  puts_in : (key : List ℕ) (x : Object) → Puts w s (with_store s (with_bucket s.content w.dest.bucket (with_objects b (fin.insert b.objects key x)) s.content.next)) key x
-  puts_in key x =
+  pub puts : (key bytes : List ℕ) (header : Option ℕ) → Puts w s (apply s (PutObject w.dest.bucket key bytes header)) key (record { bytes = bytes; header = header })
+  puts key bytes header =
+      let x : Object = record { bytes = bytes; header = header } in
       let d : BucketContent = with_objects b (fin.insert b.objects key x) in
-      record {
+      subst (λ c. Puts w s (with_store s c) key x) (sym (store_is (PutObject w.dest.bucket key bytes header))) (record {
         there = (d, bucket_after d s.content.next);
         least = refl;
         next = refl;
@@ -73,33 +72,24 @@ module _ (w : Script) (s : Scene) (b : BucketContent) (there : fin.get s.content
         others = λ k ne. key_after d s.content.next k ∙ text_other b.objects key k x ne ∙ sym (key_before k);
         uploads = λ id. id_after d s.content.next id ∙ sym (id_before id);
         files = refl;
-      }
-
-  pub puts : (key bytes : List ℕ) (header : Option ℕ) → Puts w s (apply s (PutObject w.dest.bucket key bytes header)) key (record { bytes = bytes; header = header })
-  puts key bytes header = subst (λ d. Puts w s (with_store s d) key (record { bytes = bytes; header = header })) (sym (put_is key bytes header)) (puts_in key (record { bytes = bytes; header = header }))
+      })
 
   -- ---- an upload that is begun
 
-  create_is : (key : List ℕ)
-      → apply_store s.content (CreateUpload w.dest.bucket key) ≡ with_bucket s.content w.dest.bucket (with_uploads b (fin.insert b.uploads s.content.next (record { key = key; parts = fin.empty }))) (s.content.next + 1)
-  create_is key = ap (λ o. apply_at o s.content (CreateUpload w.dest.bucket key)) there
-
-  draws_in : (key : List ℕ)
-      → Draws w s (with_store s (with_bucket s.content w.dest.bucket (with_uploads b (fin.insert b.uploads s.content.next (record { key = key; parts = fin.empty }))) (s.content.next + 1))) key
-  draws_in key =
-      let d : BucketContent = with_uploads b (fin.insert b.uploads s.content.next (record { key = key; parts = fin.empty })) in
-      record {
-        there = (d, bucket_after d (s.content.next + 1));
+  pub draws : (key : List ℕ) → Draws w s (apply s (CreateUpload w.dest.bucket key)) key
+  draws key =
+      let x : Upload = record { key = key; parts = fin.empty } in
+      let d : BucketContent = with_uploads b (fin.insert b.uploads s.content.next x) in
+      let next = s.content.next + 1 in
+      subst (λ c. Draws w s (with_store s c) key) (sym (store_is (CreateUpload w.dest.bucket key))) (record {
+        there = (d, bucket_after d next);
         least = refl;
         next = refl;
-        here = id_after d (s.content.next + 1) s.content.next ∙ nat_here b.uploads s.content.next s.content.next (record { key = key; parts = fin.empty }) refl;
-        others = λ u ne. id_after d (s.content.next + 1) u ∙ nat_other b.uploads s.content.next u (record { key = key; parts = fin.empty }) ne ∙ sym (id_before u);
-        objects = λ k. key_after d (s.content.next + 1) k ∙ sym (key_before k);
+        here = id_after d next s.content.next ∙ nat_here b.uploads s.content.next s.content.next x refl;
+        others = λ u ne. id_after d next u ∙ nat_other b.uploads s.content.next u x ne ∙ sym (id_before u);
+        objects = λ k. key_after d next k ∙ sym (key_before k);
         files = refl;
-      }
-
-  pub draws : (key : List ℕ) → Draws w s (apply s (CreateUpload w.dest.bucket key)) key
-  draws key = subst (λ d. Draws w s (with_store s d) key) (sym (create_is key)) (draws_in key)
+      })
 
   -- ---- an upload's part, and its end
 
@@ -118,26 +108,16 @@ module _ (w : Script) (s : Scene) (b : BucketContent) (there : fin.get s.content
         files = refl;
       }
 
-  part_is : (key : List ℕ) (id number : ℕ) (bytes : List ℕ)
-      → apply_store s.content (UploadPart w.dest.bucket key id number bytes) ≡ with_bucket s.content w.dest.bucket (with_uploads b (part_put b.uploads id (live b.uploads key id) number bytes)) s.content.next
-  part_is key id number bytes = ap (λ o. apply_at o s.content (UploadPart w.dest.bucket key id number bytes)) there
-
   pub part_turns : (key : List ℕ) (id number : ℕ) (bytes : List ℕ) → Turns w s (apply s (UploadPart w.dest.bucket key id number bytes)) id (part_left key number bytes (at_id w s.content id))
   part_turns key id number bytes =
-      let P : Content → Type 0 = λ d. Turns w s (with_store s d) id (part_left key number bytes (at_id w s.content id)) in
-      subst P (sym (part_is key id number bytes))
+      subst (λ d. Turns w s (with_store s d) id (part_left key number bytes (at_id w s.content id))) (sym (store_is (UploadPart w.dest.bucket key id number bytes)))
       (turns_in (part_put b.uploads id (live b.uploads key id) number bytes) id _
       (part_here key id number bytes b.uploads (fin.get b.uploads id) refl ∙ ap (part_left key number bytes) (sym (id_before id)))
       (part_others key id number bytes b.uploads (live b.uploads key id)))
 
-  abort_is : (key : List ℕ) (id : ℕ)
-      → apply_store s.content (AbortUpload w.dest.bucket key id) ≡ with_bucket s.content w.dest.bucket (with_uploads b (aborted b.uploads id (live b.uploads key id))) s.content.next
-  abort_is key id = ap (λ o. apply_at o s.content (AbortUpload w.dest.bucket key id)) there
-
   pub abort_turns : (key : List ℕ) (id : ℕ) → Turns w s (apply s (AbortUpload w.dest.bucket key id)) id (end_left key (at_id w s.content id))
   abort_turns key id =
-      let P : Content → Type 0 = λ d. Turns w s (with_store s d) id (end_left key (at_id w s.content id)) in
-      subst P (sym (abort_is key id))
+      subst (λ d. Turns w s (with_store s d) id (end_left key (at_id w s.content id))) (sym (store_is (AbortUpload w.dest.bucket key id)))
       (turns_in (aborted b.uploads id (live b.uploads key id)) id _
       (abort_here key id b.uploads (fin.get b.uploads id) refl ∙ ap (end_left key) (sym (id_before id)))
       (abort_others key id b.uploads (live b.uploads key id)))
@@ -146,3 +126,53 @@ module _ (w : Script) (s : Scene) (b : BucketContent) (there : fin.get s.content
 
   pub answer_is : (r : Request) → bucket_of r ≡ w.dest.bucket → answer_at (fin.get s.content.buckets (bucket_of r)) s.content.next s.content.minimum r ≡ answer_in b s.content.next s.content.minimum r
   answer_is r e = ap (λ o. answer_at o s.content.next s.content.minimum r) (ap (fin.get s.content.buckets) e ∙ there)
+
+-- ---- a page of the keys below a prefix: what it adds to those that were listed before
+
+-- the last of the keys, from the empty text on
+pub last_so : (keys : List (List ℕ)) → last_of keys ≡ last_from [] keys
+last_so [] = refl
+last_so (k ∷ keys) = behind k keys
+  where
+    behind : (k : List ℕ) (keys : List (List ℕ)) → last_of (k ∷ keys) ≡ last_from k keys
+    behind k [] = refl
+    behind k (q ∷ keys) = behind q keys
+
+module _ (w : Script) (s : Scene) (there : HasBucket s.content w.dest.bucket) (p : List ℕ) (keys : List (List ℕ)) where
+  abbrev pub rest : List PageEntry
+  rest = listed p false (last_of keys) there.0.objects
+
+  -- the keys with those of the page
+  abbrev pub more_keys : List (List ℕ)
+  more_keys = keys ++ keys_on (take 1000 rest)
+
+  pub page_is : (x : Reply) → x ≡ answer s (page_after w.dest.bucket p keys) → walked keys x ≡ walked_by (nat_lt 1000 (length rest)) more_keys
+  page_is x e = ap (walked keys) (e ∙ answer_is w s there.0 there.1 (page_after w.dest.bucket p keys) refl)
+
+  -- what holds of the keys before and of those below the prefix holds of all of them
+  pub page_each : (Q : List ℕ → Type 0) → ((k : List ℕ) → begins p k ≡ true → Q k) → ((k : List ℕ) → IsIn k keys → Q k) → (k : List ℕ) → IsIn k more_keys → Q k
+  page_each Q below old k i = elim (in_append k keys (keys_on (take 1000 rest)) i) [
+    | inl h ↦ old k h
+    | inr h ↦ below k (page_begins 1000 p (last_of keys) k there.0.objects h).0
+  ]
+
+  -- a key that stands below the prefix, and was listed or comes behind what was
+  module _ (k : List ℕ) (x : Object) (e : at_key w s.content k ≡ Some x) (h : begins p k ≡ true) where
+    here : fin.get there.0.objects k ≡ Some x
+    here = sym (key_before w s there.0 there.1 k) ∙ e
+
+    -- is listed then, or comes behind what is
+    pub still_covered : IsIn k keys ⊎ (is_lt (text_cmp (last_of keys) k) ≡ true) → IsIn k more_keys ⊎ (is_lt (text_cmp (last_of more_keys) k) ≡ true)
+    still_covered (inl i) = inl (in_front k keys (keys_on (take 1000 rest)) i)
+    still_covered (inr l) = elim (page_covers 1000 p (last_of keys) k there.0.objects x here h l) [
+      | inl i ↦ inl (in_back k keys (keys_on (take 1000 rest)) i)
+      | inr g ↦
+          let last : last_of more_keys ≡ last_from (last_of keys) (keys_on (take 1000 rest)) =
+          last_so more_keys ∙ last_append [] keys (keys_on (take 1000 rest)) ∙ ap (λ t. last_from t (keys_on (take 1000 rest))) (sym (last_so keys)) in
+          inr (ap (λ t. is_lt (text_cmp t k)) last ∙ g)
+    ]
+
+    -- and is listed, where no more remain
+    pub all_covered : nat_lt 1000 (length rest) ≡ false → IsIn k keys ⊎ (is_lt (text_cmp (last_of keys) k) ≡ true) → IsIn k more_keys
+    all_covered few (inl i) = in_front k keys (keys_on (take 1000 rest)) i
+    all_covered few (inr l) = in_back k keys (keys_on (take 1000 rest)) (page_all 1000 p (last_of keys) k there.0.objects x few here h l)

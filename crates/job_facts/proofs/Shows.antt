@@ -1,10 +1,11 @@
 -- What is changed below the magic directory alone, no reader of the destination sees.
 use Rattle.std.proofs.Common.{◌≡◌, ℕ, inl, inr, not, ◌&&◌, nat_eq, Bool, true, false, cond, List, [], ◌∷◌, ◌++◌, None, refl, sym, ap, ◌∙◌, codes}
 use Rattle.std.specs.Prelude.{bytes_eq}
-use Rattle.job_facts.specs.Prelude.{option_map, Content, Scene, begins, apply, bucket_of, effect, Object, Request, Outcome, Slow, RequestLost, below, magic_prefix, IsLegal, Script, view, is_folder, is_file_path, Same, IsIn, HasBucket, changed_keys, at_key}
+use Rattle.job_facts.specs.Prelude.{option_map, Content, Scene, begins, apply, bucket_of, effect, Object, Request, Outcome, below, magic_prefix, IsLegal, Script, view, is_folder, is_file_path, Same, IsIn, HasBucket, changed_keys, at_key}
 use Rattle.job_spec.proofs.Common.{and_parts, not-true, false≢true, begins_behind, below_is, false_true, true_or_false}
 use Rattle.store_frame.proofs.Framed.{frame}
 use Rattle.job_facts.proofs.Legal.{some_dest}
+use Rattle.job_facts.proofs.Going.{effect_so}
 
 pub begins_front : (a b q : List ℕ) → begins (a ++ b) q ≡ true → begins a q ≡ true
 begins_front [] b q h = refl
@@ -24,21 +25,18 @@ shown_key {w = w} j p h = elim (true_or_false (begins (magic_prefix w.dest.key w
       absurd (false_true (not-true (begins (codes "__magic/") p) b.1) front)
 ]
 
-pub view_same : {w : Script} → IsLegal w → (c d : Content) → ((k : List ℕ) → begins (magic_prefix w.dest.key w.job) k ≡ false → at_key w d k ≡ at_key w c k) → Same (view w.dest d) (view w.dest c)
-view_same {w = w} j c d same p = by (is_file_path p) refl
+pub view_by : (w : Script) (c d : Content) → ((p : List ℕ) → is_file_path p ≡ true → at_key w d (below w.dest.key p) ≡ at_key w c (below w.dest.key p)) → Same (view w.dest d) (view w.dest c)
+view_by w c d same p = by (is_file_path p) refl
   where
     by : (b : Bool) → is_file_path p ≡ b → cond b (option_map (λ (o : Object). o.bytes) (at_key w d (below w.dest.key p))) None ≡ cond b (option_map (λ (o : Object). o.bytes) (at_key w c (below w.dest.key p))) None
-    by true h = ap (λ x. option_map (λ (o : Object). o.bytes) x) (same (below w.dest.key p) (shown_key j p h))
+    by true h = ap (λ x. option_map (λ (o : Object). o.bytes) x) (same p h)
     by false h = refl
 
 -- a request that changes no key of the job's bucket but below the magic directory
 abbrev pub HidesAll : Script → Request → Type 0
 HidesAll w r = bucket_of r ≡ w.dest.bucket → (k : List ℕ) → IsIn k (changed_keys r) → begins (magic_prefix w.dest.key w.job) k ≡ true
 
-hides : {w : Script} → IsLegal w → (s : Scene) (r : Request) → HasBucket s.content w.dest.bucket → HidesAll w r → Same (view w.dest (apply s r).content) (view w.dest s.content)
-hides {w = w} j s r there h = view_same j s.content (apply s r).content (λ k n. (frame s w.dest.bucket r there).keys k (λ e i. false_true n (h e k i)))
-
 pub hidden_shows : {w : Script} → IsLegal w → (s : Scene) (r : Request) (o : Outcome) → HasBucket s.content w.dest.bucket → HidesAll w r → Same (view w.dest (effect s r o).content) (view w.dest s.content)
-hidden_shows j s r Slow there h = λ p. refl
-hidden_shows j s r RequestLost there h = λ p. refl
-hidden_shows j s r _ there h = hides j s r there h
+hidden_shows {w = w} j s r o there h =
+    effect_so (λ u. Same (view w.dest u.content) (view w.dest s.content)) s r o (λ p. refl)
+    (view_by w s.content (apply s r).content (λ p b. (frame s w.dest.bucket r there).keys (below w.dest.key p) (λ e i. false_true (shown_key j p b) (h e (below w.dest.key p) i))))

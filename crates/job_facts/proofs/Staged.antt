@@ -1,58 +1,30 @@
 -- How the facts of a staging job are kept where a file of the cluster is put, moved onto a task's set, or taken away.
-use Rattle.std.proofs.Common.{◌≡◌, ℕ, ◌<◌, inl, inr, true, List, Option, Some, None, refl, sym, ap, subst, ◌∙◌}
+use Rattle.std.proofs.Common.{◌≡◌, ℕ, ◌<◌, inl, inr, true, List, Option, Some, refl, sym, ap, subst, ◌∙◌}
 use Rattle.job_facts.specs.Prelude.{Scene, Files, with_files, TemporaryPlace, StagedSetPlace, path_at, Who, IsLegal, Script, files, is_staging, HasBucket, Told, at_path, sets_at, IsAttempt, IsTemporary, Facts}
 use Rattle.job_spec.proofs.Common.{some_is, none_some, same_or_not, same_or_other, text_here, text_other, text_left, text_gone}
 use Rattle.std.specs.FinMap as fin
-use Rattle.job_facts.proofs.Whose.{attempt}
-use Rattle.job_facts.proofs.Keep.{Drops}
-use Rattle.job_facts.proofs.Placed.{temporary_place, staged_place, one_path, staged_set, set_same}
-
--- attempts of one temporary place are one
-same_attempt : (a b : Who) → TemporaryPlace b.task b.attempt ≡ TemporaryPlace a.task a.attempt → b ≡ a
-same_attempt a b e =
-    let t : b.task ≡ a.task = cc in
-    let n : b.attempt ≡ a.attempt = cc in
-    ap (λ (x : ℕ). attempt x b.attempt) t ∙ ap (λ (x : ℕ). attempt a.task x) n
-
-not_staged : (t n v : ℕ) → StagedSetPlace t ≡ TemporaryPlace n v → ⊥
-not_staged t n v e = absurd cc
+use Rattle.job_facts.proofs.Legal.{small_task}
+use Rattle.job_facts.proofs.Keep.{Drops, facts_so}
+use Rattle.job_facts.proofs.Placed.{one_path, one_temporary, not_staged, staged_set, set_same}
 
 module _ {w : Script} (j : IsLegal w) (staging : is_staging w.committer ≡ true) (a : Who) (d : IsAttempt w a) where
   abbrev mine : List ℕ
   mine = path_at w.job (TemporaryPlace a.task a.attempt)
-
-  -- its temporary file is no task's set
-  apart : (t : ℕ) → t < w.tasks → path_at w.job (StagedSetPlace t) ≡ mine → ⊥
-  apart t h e = not_staged t a.task a.attempt (one_path j (StagedSetPlace t) (TemporaryPlace a.task a.attempt) (staged_place j t h) (temporary_place j a d) e)
-
-  -- and no other attempt's
-  other : (b : Who) → IsAttempt w b → (b ≡ a → ⊥) → path_at w.job (TemporaryPlace b.task b.attempt) ≡ mine → ⊥
-  other b e ne is = ne (same_attempt a b (one_path j (TemporaryPlace b.task b.attempt) (TemporaryPlace a.task a.attempt) (temporary_place j b e) (temporary_place j a d) is))
 
   -- ---- its temporary file is put
 
   pub stage_keep : {minimum : ℕ} {s : Scene} {last : ℕ → Option ℕ} {m : Told} (bytes : List ℕ) → IsTemporary w minimum (m.put_sent a) (m.drawn a) a bytes → Facts w minimum s last m → Facts w minimum (with_files s (fin.insert s.files mine bytes)) last m
   stage_keep {minimum = minimum} {s = s} {m = m} bytes temporary f =
       let u : Scene = with_files s (fin.insert s.files mine bytes) in
-      let set : (t : ℕ) → t < w.tasks → sets_at w u t ≡ sets_at w s t = λ t h. set_same w.committer w s u t refl (text_other s.files mine _ bytes (apart t h)) in
-      record {
-        there = f.there;
-        least = f.least;
-        ids = f.ids;
-        owned = f.owned;
-        below = f.below;
-        records = f.records;
-        sets = λ t b h e. f.sets t b h (sym (set t h) ∙ e);
-        standing = λ c t b h e. let x = f.standing c t b h e in (x.0, set t h ∙ x.1);
-        temporaries = λ g b x e h. elim (same_or_other (path_at w.job (TemporaryPlace b.task b.attempt)) mine) [
-          | inl is ↦
-              let who : b ≡ a = same_attempt a b (one_path j (TemporaryPlace b.task b.attempt) (TemporaryPlace a.task a.attempt) (temporary_place j b e) (temporary_place j a d) is) in
-              let same : bytes ≡ x = some_is (sym (text_here s.files mine _ bytes is) ∙ h) in
-              subst (λ (v : Who). IsTemporary w minimum (m.put_sent v) (m.drawn v) v x) (sym who) (subst (λ z. IsTemporary w minimum (m.put_sent a) (m.drawn a) a z) same temporary)
-          | inr ne ↦ f.temporaries g b x e (sym (text_other s.files mine _ bytes ne) ∙ h)
-        ];
-        kept = f.kept;
-      }
+      let set : (t : ℕ) → t < w.tasks → sets_at w u t ≡ sets_at w s t = λ t h.
+      set_same w.committer w s u t refl (text_other s.files mine _ bytes (λ z. not_staged j a t d h (sym z))) in
+      facts_so s (fin.insert s.files mine bytes) f f.ids f.owned f.records (λ t b h e. f.sets t b h (sym (set t h) ∙ e)) (λ c t b h e. let x = f.standing c t b h e in (x.0, set t h ∙ x.1))
+      (λ g b x e h. elim (same_or_other (path_at w.job (TemporaryPlace b.task b.attempt)) mine) [
+        | inl is ↦
+            let same : bytes ≡ x = some_is (sym (text_here s.files mine _ bytes is) ∙ h) in
+            subst (λ (v : Who). IsTemporary w minimum (m.put_sent v) (m.drawn v) v x) (sym (one_temporary j b a e d is)) (subst (λ z. IsTemporary w minimum (m.put_sent a) (m.drawn a) a z) same temporary)
+        | inr ne ↦ f.temporaries g b x e (sym (text_other s.files mine _ bytes ne) ∙ h)
+      ]) f.kept
 
   -- ---- and moved onto its task's set
 
@@ -71,58 +43,36 @@ module _ {w : Script} (j : IsLegal w) (staging : is_staging w.committer ≡ true
       let u : Scene = with_files s (moved s.files bytes) in
       let temporary : IsTemporary w minimum (m.put_sent a) (m.drawn a) a bytes = f.temporaries staging a bytes d stood in
       let here : sets_at w u a.task ≡ Some bytes = staged_set w.committer w u a.task staging ∙ text_here (fin.remove s.files mine) target target bytes refl in
-      let set : (t : ℕ) → t < w.tasks → (t ≡ a.task → ⊥) → sets_at w u t ≡ sets_at w s t = λ t h ne. set_same w.committer w s u t refl (moved_other s.files bytes _ (apart t h) (λ e. ne (same_task t h e))) in
-      record {
-        there = f.there;
-        least = f.least;
-        ids = f.ids;
-        owned = f.owned;
-        below = f.below;
-        records = f.records;
-        sets = λ t b h e. elim (same_or_not t a.task) [
-          | inl is ↦
-              let same : bytes ≡ b = some_is (sym here ∙ ap (sets_at w u) (sym is) ∙ e) in
-              record {
-                by = a;
-                task = sym is;
-                number = d.attempt;
-                latest = ap more is ∙ latest;
-                has_sent = sent;
-                commits = files w a;
-                are = temporary.are;
-                text = sym same ∙ temporary.text;
-              }
-          | inr ne ↦
-              let old = f.sets t b h (sym (set t h ne) ∙ e) in
-              record { by = old.by; task = old.task; number = old.number; latest = others t ne ∙ old.latest; has_sent = old.has_sent; commits = old.commits; are = old.are; text = old.text }
-        ];
-        standing = λ c t b h e. elim (same_or_not t a.task) [
-          | inl is ↦ (bytes, ap (sets_at w u) is ∙ here)
-          | inr ne ↦ let x = f.standing c t b h (sym (others t ne) ∙ e) in (x.0, set t h ne ∙ x.1)
-        ];
-        temporaries = λ g b x e h. f.temporaries g b x e (moved_stood b x e h);
-        kept = f.kept;
-      }
+      let set : (t : ℕ) → t < w.tasks → (t ≡ a.task → ⊥) → sets_at w u t ≡ sets_at w s t = λ t h ne.
+      set_same w.committer w s u t refl (moved_other s.files bytes _ (λ z. not_staged j a t d h (sym z))
+      (λ e. ne (let at : StagedSetPlace t ≡ StagedSetPlace a.task = one_path j (StagedSetPlace t) (StagedSetPlace a.task) (small_task j t h) (small_task j a.task d.task) e in cc))) in
+      facts_so s (moved s.files bytes) f f.ids f.owned f.records
+      (λ t b h e. elim (same_or_not t a.task) [
+        | inl is ↦
+            let same : bytes ≡ b = some_is (sym here ∙ ap (sets_at w u) (sym is) ∙ e) in
+            record { by = a; task = sym is; number = d.attempt; latest = ap more is ∙ latest; has_sent = sent; commits = files w a; are = temporary.are; text = sym same ∙ temporary.text }
+        | inr ne ↦
+            let old = f.sets t b h (sym (set t h ne) ∙ e) in
+            record { by = old.by; task = old.task; number = old.number; latest = others t ne ∙ old.latest; has_sent = old.has_sent; commits = old.commits; are = old.are; text = old.text }
+      ])
+      (λ c t b h e. elim (same_or_not t a.task) [
+        | inl is ↦ (bytes, ap (sets_at w u) is ∙ here)
+        | inr ne ↦ let x = f.standing c t b h (sym (others t ne) ∙ e) in (x.0, set t h ne ∙ x.1)
+      ])
+      (λ g b x e h. f.temporaries g b x e (moved_stood b x e h)) f.kept
     where
-      same_task : (t : ℕ) → t < w.tasks → path_at w.job (StagedSetPlace t) ≡ target → t ≡ a.task
-      same_task t h e = let at : StagedSetPlace t ≡ StagedSetPlace a.task = one_path j (StagedSetPlace t) (StagedSetPlace a.task) (staged_place j t h) (staged_place j a.task d.task) e in cc
-
-      no_target : (b : Who) → IsAttempt w b → path_at w.job (TemporaryPlace b.task b.attempt) ≡ target → ⊥
-      no_target b e is = not_staged a.task b.task b.attempt (sym (one_path j (TemporaryPlace b.task b.attempt) (StagedSetPlace a.task) (temporary_place j b e) (staged_place j a.task d.task) is))
-
       -- a temporary file that stands afterwards stood before
       moved_stood : (b : Who) (x : List ℕ) → IsAttempt w b → fin.get (moved s.files bytes) (path_at w.job (TemporaryPlace b.task b.attempt)) ≡ Some x → at_path w s (TemporaryPlace b.task b.attempt) ≡ Some x
-      moved_stood b x e h = elim (same_or_other (path_at w.job (TemporaryPlace b.task b.attempt)) mine) [
-        | inl is ↦ absurd (none_some (text_other (fin.remove s.files mine) target _ bytes (no_target b e) ∙ gone is) h)
-        | inr ne ↦ sym (moved_other s.files bytes _ ne (no_target b e)) ∙ h
-      ]
-        where
-          gone : path_at w.job (TemporaryPlace b.task b.attempt) ≡ mine → fin.get (fin.remove s.files mine) (path_at w.job (TemporaryPlace b.task b.attempt)) ≡ None
-          gone is = text_gone s.files mine _ is
+      moved_stood b x e h =
+          let no_target = not_staged j b a.task e d.task in
+          elim (same_or_other (path_at w.job (TemporaryPlace b.task b.attempt)) mine) [
+            | inl is ↦ absurd (none_some (text_other (fin.remove s.files mine) target _ bytes no_target ∙ text_gone s.files mine _ is) h)
+            | inr ne ↦ sym (moved_other s.files bytes _ ne no_target) ∙ h
+          ]
 
 -- ---- a file is taken away
 
-removed_stood : (m : Files) (p q b : List ℕ) → fin.get (fin.remove m p) q ≡ Some b → fin.get m q ≡ Some b
+pub removed_stood : (m : Files) (p q b : List ℕ) → fin.get (fin.remove m p) q ≡ Some b → fin.get m q ≡ Some b
 removed_stood m p q b e = elim (same_or_other q p) [
   | inl is ↦ absurd (none_some (text_gone m p q is) e)
   | inr ne ↦ sym (text_left m p q ne) ∙ e

@@ -35,7 +35,7 @@ idle_keeps w minimum k s m e j reads honest f = by e.actor
   where
     by : (a : Actor) → let x : Entry = record { event = e.event; actor = a; request = e.request; outcome = e.outcome } in Hold w minimum (see w k s x) (tell w m x)
     by Driver = driving_keeps w minimum k s m e.event e.request e.outcome j (reads_drive w e.request reads) f
-    by (Attempt t n) = read_keeps w minimum k s m (attempt t n) e.event e.request e.outcome reads honest f
+    by (Attempt t n) = read_keeps w minimum k s m (attempt t n) e.event f e.request reads e.outcome honest
     by Shell = strange e.outcome
       where
         strange : (o : Outcome) → let x : Entry = record { event = e.event; actor = Shell; request = e.request; outcome = o } in Hold w minimum (see w k s x) (tell w m x)

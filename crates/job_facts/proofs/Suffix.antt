@@ -4,7 +4,8 @@ use Rattle.job_facts.specs.Prelude.{decimal, text_eq, below, set_key, is_record}
 use Rattle.path_keys.proofs.Common.{take-append-drop}
 use Rattle.retries.specs.Prelude.{text_equiv}
 use Rattle.job_protocol.specs.Prelude.{attempt_key}
-use Rattle.job_spec.proofs.Common.{below_is, text_is, false_true}
+use Rattle.job_spec.proofs.Common.{below_is, text_is, false_true, drop_at}
+use Rattle.job_facts.proofs.Whose.{or_true}
 
 abbrev ending : List ℕ
 ending = codes ".pending"
@@ -13,18 +14,10 @@ ending = codes ".pending"
 record_ends : (k : List ℕ) → is_record k ≡ true → (q : List ℕ) × (k ≡ q ++ ending)
 record_ends k h = let n = length k - length ending in (take n k, sym (take-append-drop n k) ∙ ap (λ l. take n k ++ l) (sym (text_is ending (drop n k) h)))
 
-drop_front : (q r : List ℕ) → drop (length (q ++ r) - length r) (q ++ r) ≡ r
-drop_front q r =
-    let long : length (q ++ r) ≡ length q + length r = length-append q r in
-    let at : length (q ++ r) - length r ≡ length q = omega arith in
-    ap (λ n. drop n (q ++ r)) at ∙ drop_all q r
-  where
-    drop_all : (q r : List ℕ) → drop (length q) (q ++ r) ≡ r
-    drop_all [] r = refl
-    drop_all (x ∷ q) r = drop_all q r
-
 ends_record : (p r : List ℕ) → p ≡ r ++ ending → is_record p ≡ true
-ends_record p r e = ap is_record e ∙ ap (text_eq ending) (drop_front r ending) ∙ text_equiv.refl ending
+ends_record p r e =
+    let long : length (r ++ ending) ≡ length r + length ending = length-append r ending in
+    ap is_record e ∙ ap (text_eq ending) (drop_at r ending (length (r ++ ending) - length ending) (omega arith)) ∙ text_equiv.refl ending
 
 -- ---- a slash in what two ends share
 
@@ -43,14 +36,7 @@ has_slash (x ∷ l) = nat_eq 47 x || has_slash l
 
 slash_in : (r p : List ℕ) → has_slash (r ++ 47 ∷ p) ≡ true
 slash_in [] p = refl
-slash_in (x ∷ r) p = by (nat_eq 47 x) (slash_in r p)
-  where
-    by : (b : Bool) → has_slash (r ++ 47 ∷ p) ≡ true → (b || has_slash (r ++ 47 ∷ p)) ≡ true
-    by true old = refl
-    by false old = old
-
-no_slash : has_slash ending ≡ false
-no_slash = refl
+slash_in (x ∷ r) p = ap (λ b. nat_eq 47 x || b) (slash_in r p) ∙ or_true (nat_eq 47 x)
 
 -- a path below a directory ends so only where it does itself
 pub below_record : (a p : List ℕ) → is_record p ≡ false → is_record (a ++ 47 ∷ p) ≡ true → ⊥
@@ -58,7 +44,7 @@ below_record a p h g =
     let x = record_ends (a ++ 47 ∷ p) g in
     elim (split a x.0 p ending x.1) [
       | inl o ↦ false_true h (ends_record p o.0 o.1)
-      | inr o ↦ false_true no_slash (ap has_slash o.1 ∙ slash_in o.0 p)
+      | inr o ↦ false_true refl (ap has_slash o.1 ∙ slash_in o.0 p)
     ]
 
 -- ---- the last byte

@@ -1,16 +1,15 @@
 -- How a file's upload goes on, of any committer: what it asks keeps the facts, and it comes as far as it says.
 use Rattle.std.proofs.Common.{◌≡◌, ℕ, zero, suc, ◌+◌, ◌-◌, ◌<◌, ◌≤◌, ◌⊎◌, inl, inr, true, cond, List, [], ◌∷◌, ◌++◌, map, length, drop, slice_get, Option, Some, None, refl, sym, ap, subst, ◌∙◌, arith, length-drop}
 use Rattle.job_spec.proofs.Common.{nat_tests, in_map, map_in}
-use Rattle.job_facts.specs.Prelude.{Upload, Spelled, live, is_part_number, answer, part_answer, IsHonestOutcome, Request, CreateUpload, UploadPart, Reply, Part, Refused, NoSuchUpload, BadPartNumber, Outcome, Answered, File, Who, IsLegal, Script, files, Drawn, Known, learn, first_drawn, file_key, Uploading, Creating, Sending, Uploaded, GoesOn, AllSent, IsGone, upload_asks, upload_hears, file_parts, sending, created, sent_part, Seen, see, IsIn, Told, known, entry, tell, IsWritten, AreCommits, Hold, Todo, Begun, AllWritten, IsOpen, FitsUpload, Times}
+use Rattle.job_facts.specs.Prelude.{Upload, Spelled, live, is_part_number, answer, part_answer, Request, CreateUpload, UploadPart, Reply, Part, Refused, NoSuchUpload, BadPartNumber, Outcome, Answered, File, Who, IsLegal, Script, files, Drawn, Known, learn, first_drawn, file_key, Uploading, Creating, Sending, Uploaded, GoesOn, AllSent, IsGone, upload_asks, upload_hears, file_parts, sending, created, sent_part, Seen, IsIn, Told, known, IsWritten, AreCommits, Hold, Todo, Begun, AllWritten, IsOpen, FitsUpload}
 use Rattle.s3_types.specs.Tags.{plain_tag}
 use Rattle.s3_types.specs.declared.reply.Reply.TheVariants.{Upload as TheUpload}
 use Rattle.job_protocol.specs.Knowledge.{with_part}
 use Rattle.job_facts.proofs.Cut.{parts_few}
 use Rattle.job_facts.proofs.Legal.{files_apart}
 use Rattle.job_facts.proofs.Placed.{key_file, one_key}
-use Rattle.job_facts.proofs.Learn.{part_other, part_here, part_key, one_more, longer, new_drawn}
 use Rattle.job_facts.proofs.Shapes.{answer_is}
-use Rattle.job_facts.proofs.Sent.{create_keeps, part_keeps}
+use Rattle.job_facts.proofs.Keep.{part_other, part_here, part_upload, one_more, longer, new_drawn}
 
 -- ---- what is begun, and what is written
 
@@ -100,7 +99,7 @@ module _ (w : Script) (minimum : ℕ) (a : Who) where
     once = b.once;
     unknown = λ g i d k e.
         let o = in_map (with_part b.latest.upload tag (length p)) d (m.drawn a) k in
-        b.unknown g i o.0 o.1 (sym (part_key b.latest.upload tag (length p) o.0) ∙ ap (λ (v : Drawn). v.key) (sym o.2) ∙ e);
+        b.unknown g i o.0 o.1 (sym ((part_upload b.latest.upload tag (length p) o.0).1) ∙ ap (λ (v : Drawn). v.key) (sym o.2) ∙ e);
     others = λ g i. elim (b.others g i) [
       | inl h ↦ inl h
       | inr h ↦ inr (record { drawn = h.drawn; known = kept g i h; key = h.key; complete = h.complete })
@@ -125,23 +124,9 @@ module _ (w : Script) (minimum : ℕ) (a : Who) where
 
   -- ---- what is asked, by the upload that was drawn last
 
-  latest_is : {ds : List Drawn} {f : File} {fs : List File} {ps : List (List ℕ)} → (b : Begun w minimum a ds f fs ps) → first_drawn ds ≡ b.latest
-  latest_is b = ap first_drawn b.is
-
   pub asks_part : {ds : List Drawn} {f : File} {fs : List File} {p : List ℕ} {ps : List (List ℕ)} → (b : Begun w minimum a ds f fs (p ∷ ps))
       → UploadPart w.dest.bucket (file_key w f) (first_drawn ds).upload (length (first_drawn ds).tags + 1) p ≡ UploadPart w.dest.bucket (file_key w f) b.latest.upload (length b.latest.tags + 1) p
-  asks_part {f = f} {p = p} b = ap (λ (d : Drawn). UploadPart w.dest.bucket (file_key w f) d.upload (length d.tags + 1) p) (latest_is b)
-
--- ---- the request keeps the facts
-
-module _ (w : Script) (minimum : ℕ) (k : Times) (s : Seen) (m : Told) (a : Who) (n : ℕ) (j : IsLegal w) (free : IsOpen (known m a)) (f : File) (fs : List File) where
-  pub upload_keeps : (u : Uploading) → FitsUpload w minimum a (known m a) f fs u → (o : Outcome) → IsHonestOutcome o (answer s.scene (upload_asks w (known m a) f u))
-      → Hold w minimum s m → Hold w minimum (see w k s (entry a n (upload_asks w (known m a) f u) o)) (tell w m (entry a n (upload_asks w (known m a) f u) o))
-  upload_keeps Creating t o honest h = create_keeps w minimum k s m a n o j f (t.each f (inl refl)) free.0 free.1 (t.unknown f (inl refl)) honest h
-  upload_keeps (Sending p ps) b o honest h =
-      let block = drop_more w minimum a (file_parts w minimum f) (length b.latest.tags) p ps b.left in
-      let P : Request → Type 0 = λ r. IsHonestOutcome o (answer s.scene r) → Hold w minimum (see w k s (entry a n r o)) (tell w m (entry a n r o)) in
-      subst P (sym (asks_part w minimum a b)) (λ g. part_keeps w minimum k s m a n o j f b.latest p (b.each f (inl refl)) free.0 free.1 (latest_in w minimum a b) b.key block.2 g h) honest
+  asks_part {f = f} {p = p} b = ap (λ (d : Drawn). UploadPart w.dest.bucket (file_key w f) d.upload (length d.tags + 1) p) (ap first_drawn b.is)
 
 -- ---- and after an answer it is as far as it says
 
@@ -177,15 +162,11 @@ module _ (w : Script) (minimum : ℕ) (s : Seen) (m : Told) (a : Who) (j : IsLeg
       subst P (sym due) (fits_sending w minimum a (learn w a (known m a) (CreateUpload w.dest.bucket (file_key w f)) (Answered (TheUpload s.scene.content.next))) f fs (file_parts w minimum f) (begun_now w minimum a j (known m a) f fs t s.scene.content.next))
   upload_goes (Sending p ps) b x honest =
       let P : Request → Type 0 = λ r. x ≡ answer s.scene r → FitsUploaded w minimum a (learn w a (known m a) r (Answered x)) f fs (sent_part ps x) in
-      subst P (sym (asks_part w minimum a b)) (λ g. by x (subst (IsPartAnswer p) (sym g) (part_due (m.drawn a) p ps b))) honest
-    where
-      by : (x : Reply) → IsPartAnswer p x → FitsUploaded w minimum a (learn w a (known m a) (part_ask b.latest p) (Answered x)) f fs (sent_part ps x)
-      by x due =
-          let P : Reply → Type 0 = λ y. FitsUploaded w minimum a (learn w a (known m a) (part_ask b.latest p) (Answered y)) f fs (sent_part ps y) in
-          elim due.either [
-            | inl tag ↦ subst P (sym tag) (fits_sending w minimum a (learn w a (known m a) (part_ask b.latest p) (Answered (Part (plain_tag p)))) f fs ps (part_next w minimum a j s m facts f fs p ps b (plain_tag p)))
-            | inr gone ↦ subst P (sym gone) tt
-          ]
+      let Q : Reply → Type 0 = λ y. FitsUploaded w minimum a (learn w a (known m a) (part_ask b.latest p) (Answered y)) f fs (sent_part ps y) in
+      subst P (sym (asks_part w minimum a b)) (λ g. elim (subst (IsPartAnswer p) (sym g) (part_due (m.drawn a) p ps b)).either [
+        | inl tag ↦ subst Q (sym tag) (fits_sending w minimum a (learn w a (known m a) (part_ask b.latest p) (Answered (Part (plain_tag p)))) f fs ps (part_next w minimum a j s m facts f fs p ps b (plain_tag p)))
+        | inr gone ↦ subst Q (sym gone) tt
+      ]) honest
 
 -- its flags stay, and what was not answered teaches nothing
 pub upload_flags : (w : Script) (a : Who) (k : Known) (f : File) (u : Uploading) (o : Outcome) → IsOpen k → IsOpen (learn w a k (upload_asks w k f u) o)

@@ -1,10 +1,10 @@
 -- The files that picks want, by task and attempt.
-use Rattle.std.proofs.Common.{◌≡◌, ℕ, zero, suc, ◌<◌, inl, inr, ◌&&◌, Bool, true, false, cond, List, [], ◌∷◌, ◌++◌, Option, Some, None, refl, sym, ap, subst, ◌∙◌, arith}
-use Rattle.job_facts.specs.Prelude.{is_some, lookup, text_eq, compact_text, success_tree, File, IsLegal, Script, CommitEnd, Picks, files, files_picked, wanted, wanted_below, wanted_at, paths_of, writes, same_path, picked_below, is_picked, mark_text, IsIn}
-use Rattle.job_spec.proofs.Common.{shared_found, shared_none, some_is, none_some, same_or_not, text_is, text_true, in_append, in_front, in_back}
+use Rattle.std.proofs.Common.{◌≡◌, ℕ, zero, suc, ◌<◌, inl, inr, ◌&&◌, Bool, true, cond, List, [], ◌∷◌, ◌++◌, Option, Some, None, refl, sym, ap, subst, ◌∙◌, arith}
+use Rattle.job_facts.specs.Prelude.{is_some, lookup, text_eq, compact_text, success_tree, File, IsLegal, Script, Picks, files, files_picked, wanted, wanted_below, wanted_at, paths_of, writes, same_path, picked_below, is_picked, mark_text, IsIn}
+use Rattle.job_spec.proofs.Common.{shared_found, shared_none, some_is, none_some, same_or_not, text_is, in_append, in_front, in_back, true_or_false, none_or_some, false_true}
 use Rattle.job_facts.proofs.Whose.{attempt}
-use Rattle.job_facts.proofs.Legal.{same_file}
-use Rattle.job_facts.proofs.Held.{has_in, one_writer}
+use Rattle.job_facts.proofs.Legal.{same_file, has}
+use Rattle.job_facts.proofs.Held.{one_writer}
 
 -- ---- a path among files
 
@@ -16,20 +16,13 @@ pub record Found (fs : List File) (q b : List ℕ) : Type 0 where
 
 pub in_lookup : (fs : List File) (q b : List ℕ) → lookup (text_eq q) fs ≡ Some b → Found fs q b
 in_lookup [] q b h = absurd (none_some refl h)
-in_lookup (f ∷ fs) q b h = by (text_eq q f.0) refl (in_lookup fs q b)
-  where
-    by : (t : Bool) → text_eq q f.0 ≡ t → (lookup (text_eq q) fs ≡ Some b → Found fs q b) → Found (f ∷ fs) q b
-    by true e old = record { file = f; mine = inl refl; path = text_is q f.0 e; bytes = some_is (ap (λ t. cond t (Some f.1) (lookup (text_eq q) fs)) (sym e) ∙ h) }
-    by false e old = let o = old (ap (λ t. cond t (Some f.1) (lookup (text_eq q) fs)) (sym e) ∙ h) in record { file = o.file; mine = inr o.mine; path = o.path; bytes = o.bytes }
+in_lookup (f ∷ fs) q b h = elim (true_or_false (text_eq q f.0)) [
+  | inl e ↦ record { file = f; mine = inl refl; path = text_is q f.0 e; bytes = some_is (ap (λ t. cond t (Some f.1) (lookup (text_eq q) fs)) (sym e) ∙ h) }
+  | inr e ↦ let o = in_lookup fs q b (ap (λ t. cond t (Some f.1) (lookup (text_eq q) fs)) (sym e) ∙ h) in record { file = o.file; mine = inr o.mine; path = o.path; bytes = o.bytes }
+]
 
 some_found : (fs : List File) (g : File) → IsIn g fs → (b : List ℕ) × (lookup (text_eq g.0) fs ≡ Some b)
-some_found [] g i = absurd i
-some_found (f ∷ fs) g (inl e) = (f.1, ap (λ b. cond b (Some f.1) (lookup (text_eq g.0) fs)) (text_true g.0 f.0 (ap (λ (x : File). x.0) e)))
-some_found (f ∷ fs) g (inr i) = by (text_eq g.0 f.0) (some_found fs g i)
-  where
-    by : (t : Bool) → (b : List ℕ) × (lookup (text_eq g.0) fs ≡ Some b) → (b : List ℕ) × (cond t (Some f.1) (lookup (text_eq g.0) fs) ≡ Some b)
-    by true old = (f.1, refl)
-    by false old = old
+some_found fs g i = elim (none_or_some (lookup (text_eq g.0) fs)) [ inl none ↦ absurd (false_true (ap is_some none) (has fs g g.0 i refl)) | inr x ↦ x ]
 
 -- ---- the files of the picks
 
@@ -78,8 +71,8 @@ module _ (w : Script) (picks : Picks) where
       let o = some_found (wanted w picks) g (wanted_in w.tasks t g low (picked_files t n g e i)) in
       let x = wanted_of g.0 o.0 o.1 in
       let h = x.from in
-      let mine : writes w picks g.0 t ≡ true = has_in (files_picked w t (picks t)) g (picked_files t n g e i) in
-      let other : writes w picks g.0 h.task ≡ true = ap (λ v. writes w picks v h.task) x.path ∙ has_in (files_picked w h.task (picks h.task)) x.file (picked_files h.task h.number x.file h.picked h.mine) in
+      let mine : writes w picks g.0 t ≡ true = has (files_picked w t (picks t)) g g.0 (picked_files t n g e i) refl in
+      let other : writes w picks g.0 h.task ≡ true = ap (λ v. writes w picks v h.task) x.path ∙ has (files_picked w h.task (picks h.task)) x.file x.file.0 (picked_files h.task h.number x.file h.picked h.mine) refl in
       let task : h.task ≡ t = one_writer w picks apart g.0 h.task t h.below low other mine in
       let number : h.number ≡ n = some_is (sym h.picked ∙ ap picks task ∙ e) in
       let who : attempt h.task h.number ≡ attempt t n = ap (λ v. attempt v h.number) task ∙ ap (λ v. attempt t v) number in
@@ -109,19 +102,16 @@ module _ (w : Script) (picks more : Picks) where
 
     -- where no two of the one write one path, no two of the other do
     pub still_apart : same_path w picks ≡ None → same_path w more ≡ None
-    still_apart e = by (same_path w more) refl
-      where
-        by : (o : Option CommitEnd) → same_path w more ≡ o → o ≡ None
-        by None g = refl
-        by (Some end) g =
-            let x = shared_found w more end g in
-            let s = x.4 in
-            let last : x.2 < w.tasks = s.last in
-            let first : x.1 < x.2 = s.first in
-            let low : x.1 < w.tasks = omega arith in
-            let a : writes w picks x.0 x.1 ≡ true = ap (λ o. has x.0 x.1 o) (sym (agree x.1 low)) ∙ s.writes_first in
-            let b : writes w picks x.0 x.2 ≡ true = ap (λ o. has x.0 x.2 o) (sym (agree x.2 last)) ∙ s.writes_last in
-            absurd (shared_none w picks e x.0 x.1 x.2 first last a b)
-          where
-            has : List ℕ → ℕ → Option ℕ → Bool
-            has p t o = writes w (λ v. o) p t
+    still_apart e = elim (none_or_some (same_path w more)) [
+      | inl none ↦ none
+      | inr end ↦
+          let x = shared_found w more end.0 end.1 in
+          let s = x.4 in
+          let last : x.2 < w.tasks = s.last in
+          let first : x.1 < x.2 = s.first in
+          let has : ℕ → Option ℕ → Bool = λ t o. writes w (λ v. o) x.0 t in
+          let low : x.1 < w.tasks = omega arith in
+          let a : writes w picks x.0 x.1 ≡ true = ap (has x.1) (sym (agree x.1 low)) ∙ s.writes_first in
+          let b : writes w picks x.0 x.2 ≡ true = ap (has x.2) (sym (agree x.2 last)) ∙ s.writes_last in
+          absurd (shared_none w picks e x.0 x.1 x.2 first last a b)
+    ]

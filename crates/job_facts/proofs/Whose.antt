@@ -1,10 +1,13 @@
 -- Attempts that are the same or not, and functions of them.
-use Rattle.std.proofs.Common.{◌≡◌, ℕ, ◌⊎◌, inl, inr, nat_eq, ◌||◌, Bool, true, false, cond, Option, Some, refl, sym, ap, subst, ◌∙◌}
+use Rattle.std.proofs.Common.{◌≡◌, ℕ, ◌⊎◌, inl, inr, nat_eq, ◌&&◌, ◌||◌, Bool, true, false, cond, Option, Some, refl, sym, ap, subst, ◌∙◌}
 use Rattle.job_spec.proofs.Common.{and_parts, some_is, eq_nat, nat_true, false_true, true_or_false}
 use Rattle.job_facts.specs.Prelude.{Who, same_name, put_who}
 
 abbrev pub attempt : ℕ → ℕ → Who
 attempt t n = record { task = t; attempt = n }
+
+pub who_of : (a b : Who) → a.task ≡ b.task → a.attempt ≡ b.attempt → a ≡ b
+who_of a b t n = λ i. attempt (t i) (n i)
 
 pub who_true : (a b : Who) → a ≡ b → same_name a b ≡ true
 who_true a b e = rw (nat_true a.task b.task (ap (λ (x : Who). x.task) e), nat_true a.attempt b.attempt (ap (λ (x : Who). x.attempt) e)) refl
@@ -12,7 +15,7 @@ who_true a b e = rw (nat_true a.task b.task (ap (λ (x : Who). x.task) e), nat_t
 pub who_is : (a b : Who) → same_name a b ≡ true → a ≡ b
 who_is a b h =
     let p = and_parts (nat_eq a.task b.task) (nat_eq a.attempt b.attempt) h in
-    ap (λ (x : ℕ). attempt x a.attempt) (eq_nat a.task b.task p.0) ∙ ap (λ (x : ℕ). attempt b.task x) (eq_nat a.attempt b.attempt p.1)
+    who_of a b (eq_nat a.task b.task p.0) (eq_nat a.attempt b.attempt p.1)
 
 pub same_or_another : (a b : Who) → (a ≡ b) ⊎ (a ≡ b → ⊥)
 same_or_another a b = elim (true_or_false (same_name a b)) [ inl h ↦ inl (who_is a b h) | inr h ↦ inr (λ e. false_true h (who_true a b e)) ]
@@ -47,3 +50,7 @@ or_false false = refl
 pub or_true : (b : Bool) → (b || true) ≡ true
 or_true true = refl
 or_true false = refl
+
+pub and_false : (b : Bool) → (b && false) ≡ false
+and_false true = refl
+and_false false = refl

@@ -1,10 +1,10 @@
 use Rattle.job_facts.proofs.Aborting.{abort_fits}
 use Rattle.job_facts.proofs.Acting.{operation_goes}
 use Rattle.job_facts.proofs.Beside.{begins_write, begins_commit}
-use Rattle.job_facts.proofs.FinalPaths.{markers_lead}
 use Rattle.job_facts.proofs.Owning.{operation_own, operation_adds}
 use Rattle.job_facts.proofs.Shows.{hidden_shows}
 use Rattle.job_facts.proofs.attempts.Goals as goal
+use Rattle.job_facts.proofs.FilePaths.{markers_lead}
 
 pub returns : goal.returns
 returns c = record {
