@@ -1,27 +1,32 @@
 -- What a store as lists shows, and what a journal makes of it.
-use Rattle.std.proofs.Common.{◌≡◌, ℕ, Bool, true, false, ◌&&◌, cond, List, [], ◌∷◌, ◌++◌, take, drop, Option, Some, None, refl, sym, ap, ◌∙◌, codes}
+use Rattle.std.proofs.Common.{◌≡◌, ℕ, Bool, true, false, ◌&&◌, ◌||◌, not, ◌⊎◌, cond, inl, inr, List, [], ◌∷◌, ◌++◌, take, drop, Option, Some, None, refl, sym, ap, ◌∙◌, codes}
 use Rattle.std.specs.Prelude.{nat_eq}
 use Rattle.job_spec.specs.Prelude.{list_all, option_map, eq_by_cmp, find, text_cmp, text_eq, effect, after_all, moment, Object, Request, Outcome, Slow, RequestLost, Entry, is_file_path, object_in, view}
 use Rattle.job_protocol.specs.Prelude.{starts_with, Path, below, relative_in}
-use Rattle.job_spec.proofs.Common.{and_parts, true≢false, false≢true, tied}
+use Rattle.job_spec.proofs.Common.{and_parts, false≢true, tied, text_is, none_some, some_is, true_or_false}
 use Rattle.path_keys.proofs.Common.{Decides-eqb, starts_is}
 use Rattle.job_protocol.specs.View.{object_at}
 use Rattle.job_examples.specs.Jobs.{lake}
-use Rattle.job_examples.proofs.Texts.{text_exact, same_text}
-use Rattle.job_examples.proofs.Books.{Book, scene_of, content_of, files_of, object_found, at_bucket, after, is_ours, applies}
+use Rattle.proof_base.proofs.Members.{text_exact}
+use Rattle.job_examples.proofs.MapLists.{map_of, mapped}
+use Rattle.job_examples.proofs.Books.{Book, scene_of, content_of, text_found, at_bucket, after, is_ours, applies}
+
+pub either : (a b : Bool) → (a || b) ≡ true → (a ≡ true) ⊎ (b ≡ true)
+either true b h = inl refl
+either false b h = inr h
+
+pub implied : (a b : Bool) → (not a || b) ≡ true → a ≡ true → b ≡ true
+implied true b h e = h
+implied false b h e = absurd (false≢true e)
 
 abbrev pub dest : Path
 dest = record { bucket = lake; key = codes "out" }
 
 -- ---- what is shown
 
-abbrev pub shown_if : Bool → List ℕ → List ℕ → List (List ℕ × List ℕ) → List (List ℕ × List ℕ)
-shown_if true p bytes rest = (p, bytes) ∷ rest
-shown_if false p bytes rest = rest
-
 abbrev pub shown_by : Option (List ℕ) → List ℕ → List (List ℕ × List ℕ) → List (List ℕ × List ℕ)
 shown_by None bytes rest = rest
-shown_by (Some p) bytes rest = shown_if (is_file_path p) p bytes rest
+shown_by (Some p) bytes rest = cond (is_file_path p) ((p, bytes) ∷ rest) rest
 
 abbrev pub Listed : Type 0
 Listed = List (List ℕ × List ℕ)
@@ -33,12 +38,11 @@ same_files _ _ = false
 
 pub files_are : (xs ys : Listed) → same_files xs ys ≡ true → xs ≡ ys
 files_are [] [] h = refl
-files_are [] (y ∷ ys) h = absurd (false≢true h)
-files_are (x ∷ xs) [] h = absurd (false≢true h)
 files_are (x ∷ xs) (y ∷ ys) h =
     let p = and_parts (text_eq x.0 y.0) _ h in
     let q = and_parts (text_eq x.1 y.1) _ p.1 in
-    λ i. (same_text x.0 y.0 p.0 i, same_text x.1 y.1 q.0 i) ∷ files_are xs ys q.1 i
+    λ i. (text_is x.0 y.0 p.0 i, text_is x.1 y.1 q.0 i) ∷ files_are xs ys q.1 i
+files_are _ _ h = absurd (false≢true h)
 
 -- the files that are shown, by their paths below the destination
 abbrev pub visible : List (List ℕ × Object) → Listed
@@ -48,23 +52,16 @@ visible (e ∷ es) = shown_by (relative_in (codes "out") e.0) e.1.bytes (visible
 abbrev files_at : List (List ℕ × Object) → List ℕ → Option (List ℕ)
 files_at es p = cond (is_file_path p) (option_map (λ o. o.bytes) (find text_cmp (below (codes "out") p) es)) None
 
-find_shown : (b : Bool) (q bytes : List ℕ) (l : List (List ℕ × List ℕ)) (p : List ℕ) → find text_cmp p (shown_if b q bytes l) ≡ cond b (cond (eq_by_cmp text_cmp p q) (Some bytes) (find text_cmp p l)) (find text_cmp p l)
+find_shown : (b : Bool) (q bytes : List ℕ) (l : List (List ℕ × List ℕ)) (p : List ℕ) → find text_cmp p (cond b ((q, bytes) ∷ l) l) ≡ cond b (cond (eq_by_cmp text_cmp p q) (Some bytes) (find text_cmp p l)) (find text_cmp p l)
 find_shown true q bytes l p = refl
 find_shown false q bytes l p = refl
 
 merged : (f g e : Bool) (bytes : List ℕ) (x rest : Option (List ℕ)) → (e ≡ true → f ≡ g) → cond f x None ≡ rest → cond f (cond e (Some bytes) x) None ≡ cond g (cond e (Some bytes) rest) rest
 merged true true true bytes x rest h r = refl
-merged true false true bytes x rest h r = absurd (true≢false (h refl))
-merged false true true bytes x rest h r = absurd (false≢true (h refl))
+merged f true false bytes x rest h r = r
+merged f false false bytes x rest h r = r
 merged false false true bytes x rest h r = r
-merged true true false bytes x rest h r = r
-merged true false false bytes x rest h r = r
-merged false true false bytes x rest h r = r
-merged false false false bytes x rest h r = r
-
-mapped : (e : Bool) (o : Object) (y : Option Object) → option_map (λ (z : Object). z.bytes) (cond e (Some o) y) ≡ cond e (Some o.bytes) (option_map (λ z. z.bytes) y)
-mapped true o y = refl
-mapped false o y = refl
+merged _ _ true bytes x rest h r = let k = h refl in absurd cc
 
 same_path : (p q : List ℕ) → eq_by_cmp text_cmp p q ≡ true → p ≡ q
 same_path p q h = text_exact p q (tied _ h)
@@ -74,29 +71,15 @@ data Placed (k : List ℕ) : Type 0 where
   nowhere : relative_in (codes "out") k ≡ None → ((p : List ℕ) → eq_by_cmp text_cmp (below (codes "out") p) k ≡ false) → Placed k
   placed : (q : List ℕ) → relative_in (codes "out") k ≡ Some q → k ≡ below (codes "out") q → Placed k
 
-relative_of : (p : List ℕ) → relative_in (codes "out") (below (codes "out") p) ≡ Some p
-relative_of p = refl
-
-same_some : {X : Type 0} (x y : X) → Some x ≡ Some y → x ≡ y
-same_some x y e = cc
-
-none_some : {X : Type 0} (x : X) → (let n : Option X = None in n ≡ Some x) → ⊥
-none_some x e = cc
-
 place : (k : List ℕ) → Placed k
-place k = by (relative_in (codes "out") k) refl
-  where
-    other : relative_in (codes "out") k ≡ None → (p : List ℕ) (b : Bool) → eq_by_cmp text_cmp (below (codes "out") p) k ≡ b → eq_by_cmp text_cmp (below (codes "out") p) k ≡ false
-    other h p false e = e
-    other h p true e = absurd (none_some p (sym h ∙ ap (relative_in (codes "out")) (sym (same_path (below (codes "out") p) k e))))
-
-    starts : (q : List ℕ) (b : Bool) → starts_with nat_eq k (codes "out/") ≡ b → relative_in (codes "out") k ≡ Some q → k ≡ below (codes "out") q
-    starts q true s e = let r : Some (drop 4 k) ≡ Some q = sym (ap (λ b. cond b (Some (drop 4 k)) None) s) ∙ e in (starts_is Decides-eqb k (codes "out/") (starts_with nat_eq k (codes "out/")) refl).0 s ∙ ap (λ (l : List ℕ). codes "out/" ++ l) (same_some (drop 4 k) q r)
-    starts q false s e = absurd (none_some q (sym (ap (λ b. cond b (Some (drop 4 k)) None) s) ∙ e))
-
-    by : (r : Option (List ℕ)) → relative_in (codes "out") k ≡ r → Placed k
-    by None h = nowhere h (λ p. other h p (eq_by_cmp text_cmp (below (codes "out") p) k) refl)
-    by (Some q) h = placed q h (starts q (starts_with nat_eq k (codes "out/")) refl h)
+place k =
+    elim (relative_in (codes "out") k) as (λ r. relative_in (codes "out") k ≡ r → Placed k) [
+      | None ↦ λ h. nowhere h (λ p. elim (true_or_false (eq_by_cmp text_cmp (below (codes "out") p) k)) [ inl e ↦ absurd (none_some h (ap (relative_in (codes "out")) (sym (same_path (below (codes "out") p) k e)))) | inr e ↦ e ])
+      | Some q ↦ λ h. placed q h (elim (true_or_false (starts_with nat_eq k (codes "out/"))) [
+        | inl s ↦ (starts_is Decides-eqb k (codes "out/") (starts_with nat_eq k (codes "out/")) refl).0 s ∙ ap (λ (l : List ℕ). codes "out/" ++ l) (some_is (sym (ap (λ b. cond b (Some (drop 4 k)) None) s) ∙ h))
+        | inr s ↦ absurd (none_some (ap (λ b. cond b (Some (drop 4 k)) None) s) h)
+      ])
+    ] refl
 
 shown_entry : (p : List ℕ) (e : List ℕ × Object) (es : List (List ℕ × Object)) → Placed e.0 → files_at es p ≡ find text_cmp p (visible es) → files_at (e ∷ es) p ≡ find text_cmp p (visible (e ∷ es))
 shown_entry p e es (nowhere h n) r =
@@ -104,27 +87,23 @@ shown_entry p e es (nowhere h n) r =
     ∙ ap (λ x. find text_cmp p (shown_by x e.1.bytes (visible es))) (sym h)
 shown_entry p e es (placed q h k) r =
     ap (λ j. cond (is_file_path p) (option_map (λ (o : Object). o.bytes) (cond (eq_by_cmp text_cmp (below (codes "out") p) j) (Some e.1) (find text_cmp (below (codes "out") p) es))) None) k
-    ∙ ap (λ x. cond (is_file_path p) x None) (mapped (eq_by_cmp text_cmp p q) e.1 (find text_cmp (below (codes "out") p) es))
+    ∙ ap (λ x. cond (is_file_path p) x None) (mapped (λ o. o.bytes) (eq_by_cmp text_cmp p q) e.1 (find text_cmp (below (codes "out") p) es))
     ∙ merged (is_file_path p) (is_file_path q) (eq_by_cmp text_cmp p q) e.1.bytes (option_map (λ o. o.bytes) (find text_cmp (below (codes "out") p) es)) (find text_cmp p (visible es)) (λ t. ap is_file_path (same_path p q t)) r
     ∙ sym (find_shown (is_file_path q) q e.1.bytes (visible es) p)
     ∙ ap (λ x. find text_cmp p (shown_by x e.1.bytes (visible es))) (sym h)
 
 shown_all : (es : List (List ℕ × Object)) (p : List ℕ) → files_at es p ≡ find text_cmp p (visible es)
-shown_all [] p = none_both (is_file_path p)
-  where
-    none_both : (b : Bool) → (let n : Option (List ℕ) = None in cond b n None ≡ n)
-    none_both true = refl
-    none_both false = refl
+shown_all [] p = elim (is_file_path p) as (λ b. ◌≡◌ {A = Option (List ℕ)} (cond b None None) None) [ true ↦ refl | false ↦ refl ]
 shown_all (e ∷ es) p = shown_entry p e es (place e.0) (shown_all es p)
 
 pub views : (b : Book) (p : List ℕ) → view dest (content_of b) p ≡ find text_cmp p (visible b.objects)
 views b p =
     ap (λ x. cond (is_file_path p) (option_map (λ (o : Object). o.bytes) (object_in x (below (codes "out") p))) None) (at_bucket b)
-    ∙ ap (λ x. cond (is_file_path p) (option_map (λ (o : Object). o.bytes) x) None) (object_found b.objects (below (codes "out") p))
+    ∙ ap (λ x. cond (is_file_path p) (option_map (λ (o : Object). o.bytes) x) None) (text_found b.objects (below (codes "out") p))
     ∙ shown_all b.objects p
 
 pub objects_at : (b : Book) (k : List ℕ) → object_at (content_of b) lake k ≡ find text_cmp k b.objects
-objects_at b k = ap (λ x. object_in x k) (at_bucket b) ∙ object_found b.objects k
+objects_at b k = ap (λ x. object_in x k) (at_bucket b) ∙ text_found b.objects k
 
 -- ---- the moments of a journal
 
@@ -155,5 +134,5 @@ abbrev pub without_files : Book → Book
 without_files b = record { objects = b.objects; uploads = b.uploads; next = b.next; files = [] }
 
 pub moment_is : (b : Book) (es : List Entry) (m : ℕ) → are_ours (take m es) ≡ true → moment (content_of (without_files b)) es m ≡ scene_of (book_after (without_files b) (take m es))
-unfolding files_of
+unfolding map_of
 moment_is b es m h = leads (without_files b) (take m es) h

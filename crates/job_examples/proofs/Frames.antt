@@ -1,13 +1,14 @@
 -- What each entry of a run over a store as lists may change, and what it was answered, as tests that compute.
-use Rattle.std.proofs.Common.{◌≡◌, ◌⊎◌, ℕ, zero, suc, ◌+◌, Bool, true, false, ◌&&◌, ◌||◌, not, cond, List, [], ◌∷◌, ◌++◌, map, take, Option, Some, None, refl, sym, ap, subst, ◌∙◌, codes, inl, inr, arith, T}
-use Rattle.job_spec.specs.Prelude.{list_all, slice_get, option_map, eq_by_cmp, nat_cmp, where_key, find, find-where_key, is_sorted, text_cmp, text_eq, moment, is_effective, IsHonest, IsHonestOutcome, AreHonest, ref_cmp, begins, Actor, Driver, Reply, Outcome, Answered, Slow, RequestLost, ReplyLost, Entry, Script, view, dest_prefix, Same, is_driver, is_own, SameOutside, SameOutsideUpload, upload_in, is_copy, sends_data, may_show, IsZeroRename, ZeroRename, OutsideStays}
-use Rattle.job_spec.proofs.Common.{and_parts, true≢false, false≢true, not_so}
+use Rattle.std.proofs.Common.{◌≡◌, ◌⊎◌, ℕ, zero, suc, ◌+◌, Bool, true, false, ◌&&◌, ◌||◌, not, cond, List, [], ◌∷◌, ◌++◌, map, take, Option, Some, None, refl, sym, ap, subst, ◌∙◌, codes, inl, inr, arith}
+use Rattle.job_spec.specs.Prelude.{list_all, Ordering, Upload, Content, slice_get, option_map, eq_by_cmp, nat_cmp, where_key, find, find-where_key, text_cmp, text_eq, moment, is_effective, IsHonest, IsHonestOutcome, AreHonest, begins, Actor, Driver, Reply, Outcome, Answered, Slow, RequestLost, ReplyLost, Entry, Script, view, dest_prefix, Same, is_driver, is_own, SameOutside, SameOutsideUpload, upload_in, is_copy, sends_data, may_show, IsZeroRename, ZeroRename, OutsideStays}
+use Rattle.job_spec.proofs.Common.{and_parts, true≢false, false≢true, not_so, none_some, some_is}
 use Rattle.job_protocol.specs.View.{object_at}
 use Rattle.job_spec.specs.Scope.{upload_at}
 use Rattle.job_examples.specs.Jobs.{lake}
-use Rattle.job_examples.proofs.Texts.{text_exact}
-use Rattle.job_examples.proofs.Books.{Book, Draft, upload_of, scene_of, content_of, files_of, is_ours, reply, answers, ref_in, InOrder, at_bucket, no_other, upload_found}
-use Rattle.job_examples.proofs.Checks.{dest, same_files, files_are, visible, views, objects_at, are_ours, without_files, effect_on, effect_is, book_after, moment_is}
+use Rattle.proof_base.proofs.Members.{text_exact}
+use Rattle.job_examples.proofs.MapLists.{map_of}
+use Rattle.job_examples.proofs.Books.{Book, Draft, upload_of, scene_of, content_of, is_ours, reply, is_ordered, answers, at_bucket, no_other, upload_found}
+use Rattle.job_examples.proofs.Checks.{either, implied, dest, same_files, files_are, visible, views, objects_at, are_ours, without_files, effect_on, effect_is, book_after, moment_is}
 
 -- ---- what is outside the destination
 
@@ -22,22 +23,18 @@ record Inside (b : Book) : Type 0 where
   objects : where_key text_cmp is_outside b.objects ≡ []
   uploads : list_all (λ e. begins prefix e.1.key) b.uploads ≡ true
 
-find_all : (test : ℕ × Draft → Bool) (es : List (ℕ × Draft)) → list_all test es ≡ true → ((id : ℕ) (d : Draft) → find nat_cmp id es ≡ Some d → (x : ℕ) × (test (x, d) ≡ true))
-find_all test [] h id d e = absurd (cc)
-find_all test (f ∷ fs) h id d e = let a = and_parts (test f) _ h in by (eq_by_cmp nat_cmp id f.0) a.0 (find_all test fs a.1 id d) e
-  where
-    by : (c : Bool) → test f ≡ true → (find nat_cmp id fs ≡ Some d → (x : ℕ) × (test (x, d) ≡ true)) → cond c (Some f.1) (find nat_cmp id fs) ≡ Some d → (x : ℕ) × (test (x, d) ≡ true)
-    by true t r g = let k : f.1 ≡ d = cc in (f.0, subst (λ y. test (f.0, y) ≡ true) k t)
-    by false t r g = r g
+value_found : {K X : Type 0} (R : K → K → Ordering) (test : X → Bool) (es : List (K × X)) → list_all (λ e. test e.1) es ≡ true → (k : K) (x : X) → find R k es ≡ Some x → test x ≡ true
+value_found R test [] h k x e = absurd (none_some refl e)
+value_found R test (f ∷ fs) h k x e = let a = and_parts (test f.1) _ h in elim (eq_by_cmp R k f.0) as (λ c. cond c (Some f.1) (find R k fs) ≡ Some x → test x ≡ true) [
+  | true ↦ λ g. subst (λ y. test y ≡ true) (some_is g) a.0
+  | false ↦ λ g. value_found R test fs a.1 k x g
+] e
 
 same_upload : (w : Script) → dest_prefix w ≡ prefix → (o p : Option Draft) → ((d : Draft) → o ≡ Some d → begins prefix d.key ≡ true) → ((d : Draft) → p ≡ Some d → begins prefix d.key ≡ true) → SameOutsideUpload w (option_map upload_of o) (option_map upload_of p)
 same_upload w e None None f g = tt
 same_upload w e (Some d) None f g = ap (λ x. begins x d.key) e ∙ f d refl
 same_upload w e None (Some d) f g = ap (λ x. begins x d.key) e ∙ g d refl
 same_upload w e (Some d) (Some c) f g = λ h. absurd (true≢false (sym (f d refl) ∙ ap (λ x. begins x d.key) (sym e) ∙ h))
-
-outside_so : (b : Bool) → b ≡ false → not b ≡ true
-outside_so b h = ap not h
 
 module _ (w : Script) (to : w.dest ≡ dest) where
   prefix_is : dest_prefix w ≡ prefix
@@ -48,7 +45,7 @@ module _ (w : Script) (to : w.dest ≡ dest) where
 
   found_outside : (b : Book) → Inside b → (k : List ℕ) → begins prefix k ≡ false → find text_cmp k b.objects ≡ None
   found_outside b h k n =
-      sym (find-where_key text_cmp is_outside k (λ q t. ap is_outside (sym (text_exact k q t))) b.objects ∙ ap (λ c. cond c (find text_cmp k b.objects) None) (outside_so (begins prefix k) n))
+      sym (find-where_key text_cmp is_outside k (λ q t. ap is_outside (sym (text_exact k q t))) b.objects ∙ ap (λ c. cond c (find text_cmp k b.objects) None) (ap not n))
       ∙ ap (λ l. find text_cmp k l) h.objects
 
   outside_same : (b c : Book) → Inside b → Inside c → SameOutside w (content_of b) (content_of c)
@@ -57,8 +54,8 @@ module _ (w : Script) (to : w.dest ≡ dest) where
     objects = λ k n.
         let m : begins prefix k ≡ false = ap (λ x. begins x k) (sym prefix_is) ∙ n in
         ap (λ d. object_at (content_of c) d.bucket k) to ∙ objects_at c k ∙ found_outside c g k m ∙ sym (found_outside b h k m) ∙ sym (objects_at b k) ∙ ap (λ d. object_at (content_of b) d.bucket k) (sym to);
-    uploads = λ id. subst (λ o. SameOutsideUpload w o (upload_at (content_of c) w.dest.bucket id)) (sym (uploads_at b id)) (subst (λ o. SameOutsideUpload w (option_map upload_of (find nat_cmp id b.uploads)) o) (sym (uploads_at c id))
-        (same_upload w prefix_is (find nat_cmp id b.uploads) (find nat_cmp id c.uploads) (λ d e. (find_all (λ x. begins prefix x.1.key) b.uploads h.uploads id d e).1) (λ d e. (find_all (λ x. begins prefix x.1.key) c.uploads g.uploads id d e).1)));
+    uploads = λ id. subst (λ (x : Option Upload × Option Upload). SameOutsideUpload w x.0 x.1) (λ i. (sym (uploads_at b id) i, sym (uploads_at c id) i))
+        (same_upload w prefix_is (find nat_cmp id b.uploads) (find nat_cmp id c.uploads) (value_found nat_cmp (λ d. begins prefix d.key) b.uploads h.uploads id) (value_found nat_cmp (λ d. begins prefix d.key) c.uploads g.uploads id));
   }
 
 -- ---- entry by entry
@@ -70,9 +67,6 @@ is_nil (x ∷ xs) = false
 nil_is : {X : Type 0} (xs : List X) → is_nil xs ≡ true → xs ≡ []
 nil_is [] h = refl
 nil_is (x ∷ xs) h = absurd (false≢true h)
-
-abbrev is_ordered : Book → Bool
-is_ordered b = is_sorted text_cmp b.objects && (is_sorted nat_cmp (map (λ e. (e.0, upload_of e.1)) b.uploads) && (is_sorted ref_cmp (map ref_in b.uploads) && is_sorted text_cmp b.files))
 
 abbrev is_inside : Book → Bool
 is_inside b = is_nil (where_key text_cmp is_outside b.objects) && list_all (λ e. begins prefix e.1.key) b.uploads
@@ -118,38 +112,18 @@ Shows b e = (visible (effect_on b e.request e.outcome).objects ≡ visible b.obj
 
 record Sound (b : Book) (e : Entry) : Type 0 where
   ours : is_ours e.request ≡ true
-  order : InOrder b
+  order : is_ordered b ≡ true
   inside : Inside b
   uncopied : is_copy e.request ≡ false
   no_data : e.actor ≡ Driver → sends_data e.request ≡ false
   shows : is_own e.actor ≡ true → Shows b e
 
-true_is : (b : Bool) → b ≡ true → T b
-true_is true h = tt
-true_is false h = absurd (false≢true h)
-
 driver_is : (a : Actor) → is_driver a ≡ true → a ≡ Driver
 driver_is Driver h = refl
 driver_is _ h = absurd (false≢true h)
 
-no_data_is : (a : Actor) (s : Bool) → not (is_driver a && s) ≡ true → a ≡ Driver → s ≡ false
-no_data_is a s h d = not_so s (subst (λ x. not (is_driver x && s) ≡ true) d h)
-
 inside_is : (b : Book) → is_inside b ≡ true → Inside b
 inside_is b h = let p = and_parts (is_nil (where_key text_cmp is_outside b.objects)) _ h in record { objects = nil_is _ p.0; uploads = p.1 }
-
-order_is : (b : Book) → is_ordered b ≡ true → InOrder b
-order_is b h =
-    let p = and_parts (is_sorted text_cmp b.objects) _ h in
-    let q = and_parts (is_sorted nat_cmp (map (λ e. (e.0, upload_of e.1)) b.uploads)) _ p.1 in
-    let r = and_parts (is_sorted ref_cmp (map ref_in b.uploads)) _ q.1 in
-    record { objects = true_is _ p.0; uploads = true_is _ q.0; refs = true_is _ r.0; files = true_is _ r.1 }
-
-shows_by : (b : Book) (e : Entry) (own same showing : Bool) → (not own || (same || showing)) ≡ true → (same ≡ true → visible (effect_on b e.request e.outcome).objects ≡ visible b.objects)
-    → (showing ≡ true → (e.actor ≡ Driver) × (may_show e.request ≡ true) × (is_effective e.outcome ≡ true)) → own ≡ true → Shows b e
-shows_by b e false same showing h f g o = absurd (false≢true o)
-shows_by b e true true showing h f g o = inl (f refl)
-shows_by b e true false showing h f g o = inr (g h)
 
 showing_is : (e : Entry) → is_showing e ≡ true → (e.actor ≡ Driver) × (may_show e.request ≡ true) × (is_effective e.outcome ≡ true)
 showing_is e h =
@@ -166,11 +140,11 @@ sound_is b e h =
     let t = and_parts (not (is_driver e.actor && sends_data e.request)) _ s.1 in
     record {
       ours = p.0;
-      order = order_is b q.0;
+      order = q.0;
       inside = inside_is b r.0;
       uncopied = not_so _ s.0;
-      no_data = no_data_is e.actor (sends_data e.request) t.0;
-      shows = shows_by b e (is_own e.actor) (shows_same b e) (is_showing e) t.1 (files_are _ _) (showing_is e);
+      no_data = λ d. not_so _ (subst (λ x. not (is_driver x && sends_data e.request) ≡ true) d t.0);
+      shows = λ o. elim (either _ _ (implied _ _ t.1 o)) [ inl f ↦ inl (files_are _ _ f) | inr g ↦ inr (showing_is e g) ];
     }
 
 -- ---- of a journal
@@ -208,7 +182,7 @@ honest_from b (e ∷ es) h g =
     )
 
 pub honest : (b : Book) (es : List Entry) → all_sound (without_files b) es ≡ true → due_outcomes (without_files b) es ≡ outcomes es → IsHonest (content_of (without_files b)) es
-unfolding files_of
+unfolding map_of
 honest b es h g = honest_from (without_files b) es h g
 
 module _ (w : Script) (to : w.dest ≡ dest) where
@@ -219,13 +193,9 @@ module _ (w : Script) (to : w.dest ≡ dest) where
   zero_step b e h o g = record {
     uncopied = h.uncopied;
     no_data = h.no_data;
-    shows = by (h.shows o);
+    shows = elim (h.shows o) [ inl x ↦ inl (shown_same b (effect_on b e.request e.outcome) x) | inr x ↦ inr x ];
     outside = outside_same w to b (effect_on b e.request e.outcome) h.inside g;
   }
-    where
-      by : Shows b e → Same (view w.dest (content_of (effect_on b e.request e.outcome))) (view w.dest (content_of b)) ⊎ ((e.actor ≡ Driver) × (may_show e.request ≡ true) × (is_effective e.outcome ≡ true))
-      by (inl x) = inl (shown_same b (effect_on b e.request e.outcome) x)
-      by (inr x) = inr x
 
   zero_at : (b : Book) (es : List Entry) → all_sound b es ≡ true → (m : ℕ) (e : Entry) → slice_get es m ≡ Some e → is_own e.actor ≡ true → IsZeroRename w e (content_of (book_after b (take m es))) (content_of (book_after b (take (suc m) es)))
   zero_at b [] h m e g o = absurd (cc)
@@ -240,9 +210,8 @@ module _ (w : Script) (to : w.dest ≡ dest) where
   zero_rename b es h m e g o =
       let all = ours_all (without_files b) es h in
       let one : m + 1 ≡ suc m = omega arith in
-      subst (λ s. IsZeroRename w e s.content (moment (content_of (without_files b)) es (m + 1)).content) (sym (moment_is b es m (ours_some es m all)))
-      (subst (λ s. IsZeroRename w e (content_of (book_after (without_files b) (take m es))) s.content) (sym (moment_is b es (m + 1) (ours_some es (m + 1) all)))
-      (subst (λ n. IsZeroRename w e (content_of (book_after (without_files b) (take m es))) (content_of (book_after (without_files b) (take n es)))) (sym one) (zero_at (without_files b) es h m e g o)))
+      let next = ap (λ n. moment (content_of (without_files b)) es n) one ∙ moment_is b es (suc m) (ours_some es (suc m) all) in
+      subst (λ (x : Content × Content). IsZeroRename w e x.0 x.1) (λ i. ((sym (moment_is b es m (ours_some es m all)) i).content, (sym next i).content)) (zero_at (without_files b) es h m e g o)
 
   pub outside_stays : (b : Book) (es : List Entry) → all_sound (without_files b) es ≡ true → OutsideStays w (content_of (without_files b)) es
   outside_stays b es h o m l =

@@ -2,14 +2,12 @@
 use Rattle.std.proofs.Common.{◌≡◌, ◌≤◌, ◌⊎◌, ℕ, zero, suc, Bool, true, false, ◌&&◌, ◌||◌, not, cond, List, [], ◌∷◌, ◌++◌, length, take, Option, Some, None, is_some, refl, sym, ap, subst, ◌∙◌, codes, inl, inr, arith}
 use Rattle.job_spec.specs.Prelude.{list_all, lookup, eq_by_cmp, where_key, find, find-put, find-where_key, text_cmp, text_eq, text_total, text_ties, Object, Entry, success_key, Script, view, Picks, wanted, wanted_at, is_picked, is_clash, is_decided, keeps_of, mark_text, see_all, Same, or_else, done, Kept, Always, Times}
 use Rattle.job_protocol.specs.Prelude.{put}
-use Rattle.job_spec.proofs.Common.{and_parts, true≢false, false≢true, tied, not_so}
-use Rattle.proof_base.proofs.Options.{some_is}
+use Rattle.job_spec.proofs.Common.{and_parts, false≢true, tied, not_so, text_is, some_is, true_or_false}
 use Rattle.job_protocol.specs.View.{object_at}
-use Rattle.job_examples.proofs.Texts.{text_exact, same_text}
+use Rattle.proof_base.proofs.Members.{text_exact}
 use Rattle.job_examples.proofs.Books.{Book, content_of, is_ours}
-use Rattle.job_examples.proofs.Checks.{Listed, same_files, files_are, dest, visible, views, objects_at, without_files}
-use Rattle.job_examples.proofs.Sights.{Saw, seen_of, saw, sees_by, opens}
-use Rattle.job_examples.proofs.Refusals.{opens_is}
+use Rattle.job_examples.proofs.Checks.{either, implied, Listed, same_files, files_are, dest, visible, views, objects_at, without_files}
+use Rattle.job_examples.proofs.Sights.{Saw, seen_of, saw, sees_by, opens, opens_is}
 
 -- ---- tests of lists
 
@@ -17,21 +15,18 @@ abbrev pub is_at : Option (List ℕ) → List ℕ → Bool
 is_at None b = false
 is_at (Some c) b = text_eq c b
 
-at_is : (o : Option (List ℕ)) (b : List ℕ) → is_at o b ≡ true → o ≡ Some b
+pub at_is : (o : Option (List ℕ)) (b : List ℕ) → is_at o b ≡ true → o ≡ Some b
 at_is None b h = absurd (false≢true h)
-at_is (Some c) b h = ap Some (same_text c b h)
+at_is (Some c) b h = ap Some (text_is c b h)
 
-either_is : (a b : Bool) → (a || b) ≡ true → (a ≡ true) ⊎ (b ≡ true)
-either_is true b h = inl refl
-either_is false b h = inr h
-
-found_in : (test : List ℕ × List ℕ → Bool) (fs : Listed) → list_all test fs ≡ true → (p b : List ℕ) → find text_cmp p fs ≡ Some b → test (p, b) ≡ true
+pub found_in : (test : List ℕ × List ℕ → Bool) (fs : Listed) → list_all test fs ≡ true → (p b : List ℕ) → find text_cmp p fs ≡ Some b → test (p, b) ≡ true
 found_in test [] h p b e = absurd (cc)
-found_in test (f ∷ fs) h p b e = let a = and_parts (test f) _ h in by (eq_by_cmp text_cmp p f.0) refl a.0 (found_in test fs a.1 p b) e
-  where
-    by : (c : Bool) → eq_by_cmp text_cmp p f.0 ≡ c → test f ≡ true → (find text_cmp p fs ≡ Some b → test (p, b) ≡ true) → cond c (Some f.1) (find text_cmp p fs) ≡ Some b → test (p, b) ≡ true
-    by true k t r g = subst (λ (x : List ℕ × List ℕ). test x ≡ true) (λ i. (sym (text_exact p f.0 (tied _ k)) i, some_is f.1 b g i)) t
-    by false k t r g = r g
+found_in test (f ∷ fs) h p b e =
+    let a = and_parts (test f) _ h in
+    elim (true_or_false (eq_by_cmp text_cmp p f.0)) [
+      | inl k ↦ subst (λ (x : List ℕ × List ℕ). test x ≡ true) (λ i. (sym (text_exact p f.0 (tied _ k)) i, some_is (sym (ap (λ c. cond c (Some f.1) (find text_cmp p fs)) k) ∙ e) i)) a.0
+      | inr k ↦ found_in test fs a.1 p b (sym (ap (λ c. cond c (Some f.1) (find text_cmp p fs)) k) ∙ e)
+    ]
 
 -- entries put one after the other
 abbrev pub sorted : Listed → Listed
@@ -44,11 +39,8 @@ find_sorted (e ∷ es) q = find-put text_cmp text_total q e.0 e.1 (sorted es) �
 
 find_behind : (xs ys : Listed) (p : List ℕ) → or_else (lookup (text_eq p) xs) (find text_cmp p ys) ≡ find text_cmp p (xs ++ ys)
 find_behind [] ys p = refl
-find_behind (x ∷ xs) ys p = ap (λ c. or_else (cond c (Some x.1) (lookup (text_eq p) xs)) (find text_cmp p ys)) (text_ties p x.0) ∙ by (eq_by_cmp text_cmp p x.0) (find_behind xs ys p)
-  where
-    by : (c : Bool) → or_else (lookup (text_eq p) xs) (find text_cmp p ys) ≡ find text_cmp p (xs ++ ys) → or_else (cond c (Some x.1) (lookup (text_eq p) xs)) (find text_cmp p ys) ≡ cond c (Some x.1) (find text_cmp p (xs ++ ys))
-    by true h = refl
-    by false h = h
+find_behind (x ∷ xs) ys p = ap (λ c. or_else (cond c (Some x.1) (lookup (text_eq p) xs)) (find text_cmp p ys)) (text_ties p x.0)
+    ∙ elim (eq_by_cmp text_cmp p x.0) as (λ c. or_else (cond c (Some x.1) (lookup (text_eq p) xs)) (find text_cmp p ys) ≡ cond c (Some x.1) (find text_cmp p (xs ++ ys))) [ true ↦ refl | false ↦ find_behind xs ys p ]
 
 -- ---- what is owed at a moment, over the files of the opening
 
@@ -59,10 +51,9 @@ abbrev pub is_kept : Script → Picks → Listed → List ℕ × List ℕ → Bo
 is_kept w picks vs f = not (keeps_of w picks f.0) || (is_some (wanted_at w picks f.0) || is_at (find text_cmp f.0 vs) f.1)
 
 -- by whether the commit has begun and the picks are decided
-abbrev pub is_viewed : Bool → Bool → Script → Listed → Picks → Listed → Bool
-is_viewed false d w os picks vs = same_files vs os
-is_viewed true false w os picks vs = same_files vs os
-is_viewed true true w os picks vs = list_all (is_allowed w picks os) vs && list_all (is_kept w picks vs) os
+abbrev pub is_viewed : Bool → Script → Listed → Picks → Listed → Bool
+is_viewed false w os picks vs = same_files vs os
+is_viewed true w os picks vs = list_all (is_allowed w picks os) vs && list_all (is_kept w picks vs) os
 
 abbrev pub done_list : Script → Picks → Listed → Listed
 done_list w picks os = sorted (wanted w picks ++ where_key text_cmp (keeps_of w picks) os)
@@ -80,45 +71,11 @@ is_whole false w os x = true
 is_whole true w os x = is_picked w x.picks && (not (is_clash w x.picks) && (same_files (visible x.book.objects) (done_list w x.picks os) && says w x.picks (marker_in x)))
 
 abbrev pub is_good : Script → Listed → Saw → Bool
-is_good w os x = is_viewed x.begun (is_decided w x.picks) w os x.picks (visible x.book.objects) && is_whole (x.put_mark && is_some (marker_in x)) w os x
-
-unbegun : (b d : Bool) (w : Script) (os : Listed) (picks : Picks) (vs : Listed) → is_viewed b d w os picks vs ≡ true → b ≡ false → vs ≡ os
-unbegun false d w os picks vs h e = files_are vs os h
-unbegun true d w os picks vs h e = absurd (true≢false e)
-
-undecided : (b d : Bool) (w : Script) (os : Listed) (picks : Picks) (vs : Listed) → is_viewed b d w os picks vs ≡ true → d ≡ false → vs ≡ os
-undecided false d w os picks vs h e = files_are vs os h
-undecided true false w os picks vs h e = files_are vs os h
-undecided true true w os picks vs h e = absurd (true≢false e)
-
-decided : (b d : Bool) (w : Script) (os : Listed) (picks : Picks) (vs : Listed) → is_viewed b d w os picks vs ≡ true → b ≡ true → d ≡ true → (list_all (is_allowed w picks os) vs ≡ true) × (list_all (is_kept w picks vs) os ≡ true)
-decided false d w os picks vs h e f = absurd (false≢true e)
-decided true false w os picks vs h e f = absurd (false≢true f)
-decided true true w os picks vs h e f = and_parts (list_all (is_allowed w picks os) vs) _ h
-
--- what holds where the marker stands
-record Stands (w : Script) (os : Listed) (x : Saw) : Type 0 where
-  picked : is_picked w x.picks ≡ true
-  apart : is_clash w x.picks ≡ false
-  files : visible x.book.objects ≡ done_list w x.picks os
-  mark : says w x.picks (marker_in x) ≡ true
-
-stands_so : (b : Bool) (w : Script) (os : Listed) (x : Saw) → is_whole b w os x ≡ true → b ≡ true → Stands w os x
-stands_so false w os x h e = absurd (false≢true e)
-stands_so true w os x h e =
-    let p = and_parts (is_picked w x.picks) _ h in
-    let q = and_parts (not (is_clash w x.picks)) _ p.1 in
-    let r = and_parts (same_files (visible x.book.objects) (done_list w x.picks os)) _ q.1 in
-    record { picked = p.0; apart = not_so _ q.0; files = files_are _ _ r.0; mark = r.1 }
+is_good w os x = is_viewed (x.begun && is_decided w x.picks) w os x.picks (visible x.book.objects) && is_whole (x.put_mark && is_some (marker_in x)) w os x
 
 says_is : (w : Script) (picks : Picks) (o : Option Object) (y : Object) → says w picks o ≡ true → o ≡ Some y → y.bytes ≡ mark_text w picks
 says_is w picks None y h e = absurd (cc)
-says_is w picks (Some z) y h e = ap (λ (v : Object). v.bytes) (sym (some_is z y e)) ∙ same_text z.bytes (mark_text w picks) h
-
-kept_is : (k m : Bool) (wanted found : Option (List ℕ)) (b : List ℕ) → (not k || (is_some wanted || is_at found b)) ≡ true → k ≡ true → wanted ≡ None → found ≡ Some b
-kept_is false m wanted found b h e n = absurd (false≢true e)
-kept_is true m None found b h e n = at_is found b h
-kept_is true m (Some c) found b h e n = absurd (cc)
+says_is w picks (Some z) y h e = ap (λ (v : Object). v.bytes) (sym (some_is e)) ∙ text_is z.bytes (mark_text w picks) h
 
 module _ (w : Script) (to : w.dest ≡ dest) (b : Book) where
   shows : (c : Book) (p : List ℕ) → view w.dest (content_of c) p ≡ find text_cmp p (visible c.objects)
@@ -134,15 +91,14 @@ module _ (w : Script) (to : w.dest ≡ dest) (b : Book) where
   same x e p = shows x.book p ∙ ap (λ l. find text_cmp p l) e ∙ sym (shows b p)
 
   allowed : (x : Saw) → list_all (is_allowed w x.picks os) (visible x.book.objects) ≡ true → (p bytes : List ℕ) → view w.dest (content_of x.book) p ≡ Some bytes → (view w.dest (content_of b) p ≡ Some bytes) ⊎ (wanted_at w x.picks p ≡ Some bytes)
-  allowed x h p bytes e = by (either_is _ _ (found_in (is_allowed w x.picks os) (visible x.book.objects) h p bytes (sym (shows x.book p) ∙ e)))
-    where
-      by : (is_at (find text_cmp p os) bytes ≡ true) ⊎ (is_at (wanted_at w x.picks p) bytes ≡ true) → (view w.dest (content_of b) p ≡ Some bytes) ⊎ (wanted_at w x.picks p ≡ Some bytes)
-      by (inl g) = inl (shows b p ∙ at_is (find text_cmp p os) bytes g)
-      by (inr g) = inr (at_is (wanted_at w x.picks p) bytes g)
+  allowed x h p bytes e = elim (either _ _ (found_in (is_allowed w x.picks os) (visible x.book.objects) h p bytes (sym (shows x.book p) ∙ e))) [
+    | inl g ↦ inl (shows b p ∙ at_is (find text_cmp p os) bytes g)
+    | inr g ↦ inr (at_is (wanted_at w x.picks p) bytes g)
+  ]
 
   stays : (x : Saw) → list_all (is_kept w x.picks (visible x.book.objects)) os ≡ true → (p bytes : List ℕ) → view w.dest (content_of b) p ≡ Some bytes → keeps_of w x.picks p ≡ true → wanted_at w x.picks p ≡ None → view w.dest (content_of x.book) p ≡ Some bytes
   stays x h p bytes e k n = shows x.book p
-      ∙ kept_is (keeps_of w x.picks p) true (wanted_at w x.picks p) (find text_cmp p (visible x.book.objects)) bytes (found_in (is_kept w x.picks (visible x.book.objects)) os h p bytes (sym (shows b p) ∙ e)) k n
+      ∙ at_is _ bytes (subst (λ o. (is_some o || is_at (find text_cmp p (visible x.book.objects)) bytes) ≡ true) n (implied _ _ (found_in (is_kept w x.picks (visible x.book.objects)) os h p bytes (sym (shows b p) ∙ e)) k))
 
   done_is : (x : Saw) (p : List ℕ) → done w x.picks (view w.dest (content_of b)) p ≡ find text_cmp p (done_list w x.picks os)
   done_is x p =
@@ -153,22 +109,19 @@ module _ (w : Script) (to : w.dest ≡ dest) (b : Book) where
 
   kept : (x : Saw) → is_good w os x ≡ true → Kept w (content_of b) (seen_of x)
   kept x h =
-      let g = and_parts (is_viewed x.begun (is_decided w x.picks) w os x.picks (visible x.book.objects)) _ h in
+      let vs = visible x.book.objects in
+      let g = and_parts (is_viewed (x.begun && is_decided w x.picks) w os x.picks vs) _ h in
+      let by = λ (c : Bool) (e : (x.begun && is_decided w x.picks) ≡ c). subst (λ d. is_viewed d w os x.picks vs ≡ true) e g.0 in
       record {
-        before = λ u. same x (unbegun x.begun (is_decided w x.picks) w os x.picks (visible x.book.objects) g.0 u);
-        between = λ u. record {
-          untouched = λ d. same x (undecided x.begun (is_decided w x.picks) w os x.picks (visible x.book.objects) g.0 d);
-          only = λ d. allowed x (decided x.begun (is_decided w x.picks) w os x.picks (visible x.book.objects) g.0 u d).0;
-          kept = λ d. stays x (decided x.begun (is_decided w x.picks) w os x.picks (visible x.book.objects) g.0 u d).1;
-        };
+        before = λ u. same x (files_are vs os (by false (λ i. u i && is_decided w x.picks)));
+        between = λ u.
+            let both = λ (d : is_decided w x.picks ≡ true). and_parts (list_all (is_allowed w x.picks os) vs) _ (by true (λ i. u i && d i)) in
+            record { untouched = λ d. same x (files_are vs os (by false (λ i. u i && d i))); only = λ d. allowed x (both d).0; kept = λ d. stays x (both d).1 };
         whole = λ u.
-            let m = stands_so (x.put_mark && is_some (marker_in x)) w os x g.1 (sym (ap (λ o. x.put_mark && is_some o) (stands x.book)) ∙ u) in
-            record {
-              picked = m.picked;
-              apart = m.apart;
-              files = λ p. shows x.book p ∙ ap (λ l. find text_cmp p l) m.files ∙ sym (done_is x p);
-              mark = λ o e. says_is w x.picks (marker_in x) o m.mark (sym (stands x.book) ∙ e);
-            };
+            let m = and_parts (is_picked w x.picks) _ (subst (λ c. is_whole c w os x ≡ true) (sym (ap (λ o. x.put_mark && is_some o) (stands x.book)) ∙ u) g.1) in
+            let n = and_parts (not (is_clash w x.picks)) _ m.1 in
+            let r = and_parts (same_files vs (done_list w x.picks os)) _ n.1 in
+            record { picked = m.0; apart = not_so _ n.0; files = λ p. shows x.book p ∙ ap (λ l. find text_cmp p l) (files_are _ _ r.0) ∙ sym (done_is x p); mark = λ o e. says_is w x.picks (marker_in x) o r.1 (sym (stands x.book) ∙ e) };
       }
 
 -- ---- at all moments
@@ -185,7 +138,7 @@ kept_from w to k b x (e ∷ es) h (suc m) l =
     let p = and_parts (is_good w (visible b.objects) x) _ h in
     let q = and_parts (is_ours e.request) _ p.1 in
     let rest : Kept w (content_of b) (see_all w k (seen_of (saw w k x e)) (take m es)) = kept_from w to k b (saw w k x e) es q.1 m (omega arith) in
-    subst (λ s. Kept w (content_of b) (see_all w k s (take m es))) (sym (sees_by w k x e.event e.request e.outcome e.actor q.0)) rest
+    subst (λ s. Kept w (content_of b) (see_all w k s (take m es))) (sym (sees_by w k x e q.0)) rest
 
 pub always : (w : Script) (to : w.dest ≡ dest) (k : Times) (b : Book) (es : List Entry) → all_good w k (visible b.objects) (opens (without_files b)) es ≡ true → Always w k (content_of (without_files b)) es
 always w to k b es h m l = subst (λ s. Kept w (content_of (without_files b)) (see_all w k s (take m es))) (sym (opens_is b)) (kept_from w to k (without_files b) (opens (without_files b)) es h m l)

@@ -1,5 +1,5 @@
 -- Tags of short contents, computed.
-use Rattle.std.proofs.Common.{◌≡◌, ℕ, zero, suc, ◌*◌, ◌/◌, Bool, true, false, cond, List, refl, ap, ◌∙◌, take, drop, length, codes}
+use Rattle.std.proofs.Common.{◌≡◌, ℕ, zero, suc, Bool, true, false, cond, List, refl, ap, ◌∙◌, take, drop, codes}
 use Rattle.std.specs.Prelude.{slice_index}
 use Rattle.s3_types.specs.Prelude.{encode_lower}
 use Rattle.job_spec.specs.Prelude.{text_eq, Spelled}
@@ -8,7 +8,7 @@ use Rattle.md5.specs.Md5.{md5, initial_hash, round, rounds, step_fn, step_consta
 use Rattle.s3_types.specs.Tags.{plain_tag}
 use Rattle.job_examples.specs.Jobs.{hello_tag}
 use Rattle.job_examples.specs.TwoAttempts.{world}
-use Rattle.job_examples.proofs.Texts.{same_text}
+use Rattle.job_spec.proofs.Common.{text_is}
 
 -- ---- a digest, step by step: as `md5` says it, but that each step is worked out once
 
@@ -24,38 +24,22 @@ unfolding rounds
 rounds_are v w zero = refl
 rounds_are v w (suc t) = ap (turn w t) (rounds_are v w t)
 
-abbrev compressed : List ℕ → List ℕ → List ℕ
-compressed h b = add_state h (turned h (block_words b 16) 64)
+-- the tag of a content of one block, by its digest's words
+abbrev tagged : List ℕ → Spelled
+tagged v = record { digits = encode_lower (digest_bytes (add_state initial_hash v) 4); parts = 0 }
 
-compress_is : (h b : List ℕ) → compress h b ≡ compressed h b
-unfolding compress
-compress_is h b = ap (add_state h) (rounds_are h (block_words b 16) 64)
-
-abbrev hashed : List ℕ → ℕ → List ℕ
-hashed p zero = initial_hash
-hashed p (suc n) = compressed (hashed p n) (take 64 (drop (n * 64) p))
-
-hash_is : (p : List ℕ) (n : ℕ) → hash_after p n ≡ hashed p n
-unfolding hash_after
-hash_is p zero = refl
-hash_is p (suc n) = compress_is (hash_after p n) (take 64 (drop (n * 64) p)) ∙ ap (λ h. compressed h (take 64 (drop (n * 64) p))) (hash_is p n)
-
-abbrev pub tagged : List ℕ → Spelled
-tagged m = record { digits = encode_lower (digest_bytes (hashed (padded_message m) (length (padded_message m) / 64)) 4); parts = 0 }
-
-pub tag_is : (m : List ℕ) → plain_tag m ≡ tagged m
-unfolding plain_tag md5
-tag_is m = ap (λ h. record { digits = encode_lower (digest_bytes h 4); parts = 0 }) (hash_is (padded_message m) (length (padded_message m) / 64))
+abbrev words : List ℕ → List ℕ
+words m = block_words (take 64 (drop 0 (padded_message m))) 16
 
 -- ---- tags
 
-pub hello_is : plain_tag (codes "hello") ≡ hello_tag
-unfolding digest_bytes block_words encode_with
-hello_is = tag_is (codes "hello") ∙ refl
+hello_is : plain_tag (codes "hello") ≡ hello_tag
+unfolding plain_tag md5 hash_after compress digest_bytes block_words encode_with
+hello_is = ap tagged (rounds_are initial_hash (words (codes "hello")) 64)
 
-pub world_is : plain_tag (codes "world") ≡ world.tag
-unfolding digest_bytes block_words encode_with
-world_is = tag_is (codes "world") ∙ refl
+world_is : plain_tag (codes "world") ≡ world.tag
+unfolding plain_tag md5 hash_after compress digest_bytes block_words encode_with
+world_is = ap tagged (rounds_are initial_hash (words (codes "world")) 64)
 
 -- the tag of a content: told where it is one of these two
 abbrev pub told_tag : List ℕ → Spelled
@@ -65,6 +49,6 @@ pub told_is : (bytes : List ℕ) → plain_tag bytes ≡ told_tag bytes
 told_is bytes = by (text_eq bytes (codes "hello")) (text_eq bytes (codes "world")) refl refl
   where
     by : (h g : Bool) → text_eq bytes (codes "hello") ≡ h → text_eq bytes (codes "world") ≡ g → plain_tag bytes ≡ cond h hello_tag (cond g world.tag (plain_tag bytes))
-    by true g e f = ap plain_tag (same_text bytes (codes "hello") e) ∙ hello_is
-    by false true e f = ap plain_tag (same_text bytes (codes "world") f) ∙ world_is
+    by true g e f = ap plain_tag (text_is bytes (codes "hello") e) ∙ hello_is
+    by false true e f = ap plain_tag (text_is bytes (codes "world") f) ∙ world_is
     by false false e f = refl

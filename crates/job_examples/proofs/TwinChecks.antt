@@ -1,22 +1,24 @@
 -- What the definitions of two jobs say of a journal, by tests that compute.
-use Rattle.std.proofs.Common.{◌≡◌, ℕ, zero, suc, inl, inr, ◌⊎◌, not, ◌&&◌, Bool, true, false, cond, List, [], ◌∷◌, take, Option, Some, None, refl, sym, ap, subst, ◌∙◌}
-use Rattle.job_spec.proofs.Common.{and_parts, not-true, none_some, some_is, text_is}
-use Rattle.job_spec.specs.Prelude.{Times, lookup, text_eq, Content, Scene, effect, after_all, moment, begins, Object, Actor, Driver, Attempt, Shell, Request, Outcome, Answered, Entry, IsIn, magic_prefix, cluster_prefix, success_key, File, Script, Picks, wanted_at, is_picked, is_clash, mark_text, view, Seen, see, see_all, see_by, nothing_seen}
+use Rattle.std.proofs.Common.{◌≡◌, ℕ, zero, suc, inl, inr, not, ◌&&◌, ◌||◌, codes, Bool, true, false, cond, List, [], ◌∷◌, take, Option, Some, None, refl, sym, ap, ◌∙◌}
+use Rattle.job_spec.proofs.Common.{and_parts, not_so, false≢true, none_some, some_is, text_is}
+use Rattle.job_spec.specs.Prelude.{Times, list_all, lookup, find, text_cmp, text_eq, Content, Scene, effect, after_all, moment, begins, Object, Shell, Request, Entry, IsIn, magic_prefix, cluster_prefix, success_key, File, Script, Picks, wanted, is_picked, is_clash, mark_text, view, Seen, see, see_all, nothing_seen}
 use Rattle.job_protocol.specs.View.{object_at}
 use Rattle.twin_facts.specs.Names.{Ids, named_keys, named_upload, named_paths, IsStranger}
 use Rattle.twin_facts.specs.Sides.{Side, First, Second, is_side, TwinEntry, in_eyes, eyes}
-use Rattle.twin_facts.specs.TwinLaws.{Gives, Shows, Marked}
-use Rattle.twin_facts.specs.Events.{seen_twin}
+use Rattle.twin_facts.specs.TwinLaws.{Gives, counted, Marked, is_marked_by}
+use Rattle.twin_facts.specs.Events.{seen_twin, AtMoment}
 use Rattle.job_examples.specs.OneFile.{opening}
-use Rattle.job_examples.proofs.Checks.{dest, are_ours, visible}
-use Rattle.job_examples.proofs.Kept.{nothing, book_at, files_then}
-use Rattle.job_examples.specs.Sided.{sided, StrangeBy, AllStrange}
+use Rattle.job_examples.proofs.Checks.{either, implied, dest, are_ours, visible}
+use Rattle.job_examples.proofs.Sights.{nothing, scene_by}
+use Rattle.job_examples.proofs.Kept.{book_at, file_then, object_then, lookup_is}
+use Rattle.job_examples.proofs.Owed.{is_at, at_is, found_in}
+use Rattle.job_examples.specs.Jobs.{lake}
+use Rattle.job_examples.specs.TwoMagic.{sided, StrangeBy, AllStrange}
 
 -- ---- strangers
 
 abbrev all_free : List ℕ → List (List ℕ) → Bool
-all_free p [] = true
-all_free p (k ∷ ks) = not (begins p k) && all_free p ks
+all_free p ks = list_all (λ k. not (begins p k)) ks
 
 abbrev upload_free : Ids → Option ℕ → Bool
 upload_free drew None = true
@@ -27,12 +29,12 @@ is_strange w drew r = all_free (magic_prefix w.dest.key w.job) (named_keys r) &&
 
 free_so : (p : List ℕ) (ks : List (List ℕ)) → all_free p ks ≡ true → (k : List ℕ) → IsIn k ks → begins p k ≡ false
 free_so p [] h k i = absurd i
-free_so p (q ∷ ks) h k (inl e) = ap (begins p) e ∙ not-true (begins p q) (and_parts (not (begins p q)) (all_free p ks) h).0
+free_so p (q ∷ ks) h k (inl e) = ap (begins p) e ∙ not_so (begins p q) (and_parts (not (begins p q)) (all_free p ks) h).0
 free_so p (q ∷ ks) h k (inr i) = free_so p ks (and_parts (not (begins p q)) (all_free p ks) h).1 k i
 
 upload_so : (drew : Ids) (o : Option ℕ) → upload_free drew o ≡ true → (id : ℕ) → o ≡ Some id → drew id ≡ false
 upload_so drew None h id e = absurd (none_some refl e)
-upload_so drew (Some n) h id e = ap drew (sym (some_is e)) ∙ not-true (drew n) h
+upload_so drew (Some n) h id e = ap drew (sym (some_is e)) ∙ not_so (drew n) h
 
 strange_so : (w : Script) (drew : Ids) (r : Request) → is_strange w drew r ≡ true → IsStranger w drew r
 strange_so w drew r h =
@@ -52,28 +54,17 @@ pub all_strange_so : (w v : Script) (mine others : Ids) (ts : List TwinEntry) �
 all_strange_so w v mine others [] h = tt
 all_strange_so w v mine others (t ∷ ts) h =
     let a = and_parts (strange_by w v mine others t.side t.entry.request) (all_strange w v mine others ts) h in
-    (by t.side a.0, all_strange_so w v mine others ts a.1)
-  where
-    by : (side : Side) → strange_by w v mine others side t.entry.request ≡ true → StrangeBy w v mine others side t.entry.request
-    by First e = strange_so v others t.entry.request e
-    by Second e = strange_so w mine t.entry.request e
+    let one = elim t.side as (λ side. strange_by w v mine others side t.entry.request ≡ true → StrangeBy w v mine others side t.entry.request) [ First ↦ strange_so v others _ | Second ↦ strange_so w mine _ ] in
+    (one a.0, all_strange_so w v mine others ts a.1)
 
 -- ---- the scene at a moment
 
 module _ (w : Script) (k : Times) (side : Side) (mine : ℕ → Bool) where
-  seen_by : (s : Seen) (n : ℕ) (r : Request) (a : Actor) (o : Outcome) → (see_by w k s n r o a).scene ≡ effect s.scene r o
-  seen_by s n r Driver (Answered y) = refl
-  seen_by s n r Driver _ = refl
-  seen_by s n r (Attempt t a) (Answered y) = refl
-  seen_by s n r (Attempt t a) _ = refl
-  seen_by s n r Shell o = refl
-
   twin_scene : (s : Seen) (t : TwinEntry) → (see w k s (in_eyes side t)).scene ≡ effect s.scene t.entry.request t.entry.outcome
-  twin_scene s t = by (is_side side t.side)
-    where
-      by : (a : Bool) → (see w k s (cond a t.entry (record { event = t.theirs; actor = Shell; request = t.entry.request; outcome = t.entry.outcome }))).scene ≡ effect s.scene t.entry.request t.entry.outcome
-      by true = seen_by s t.entry.event t.entry.request t.entry.actor t.entry.outcome
-      by false = refl
+  twin_scene s t = elim (is_side side t.side) as (λ a. (see w k s (cond a t.entry (record { event = t.theirs; actor = Shell; request = t.entry.request; outcome = t.entry.outcome }))).scene ≡ effect s.scene t.entry.request t.entry.outcome) [
+    | true ↦ scene_by w k s t.entry.event t.entry.request t.entry.actor t.entry.outcome
+    | false ↦ refl
+  ]
 
   all_scene : (es : List Entry) (s : Seen) → (see_all w k s (eyes side (sided mine es))).scene ≡ after_all s.scene es
   all_scene [] s = refl
@@ -89,58 +80,70 @@ module _ (w : Script) (k : Times) (side : Side) (mine : ℕ → Bool) where
   pub seen_scene : (content : Content) (es : List Entry) (m : ℕ) → (seen_twin w k side content (sided mine es) m).scene ≡ moment content es m
   seen_scene content es m = ap (λ l. (see_all w k (nothing_seen content) (eyes side l)).scene) (take_sided m es) ∙ all_scene (take m es) (nothing_seen content)
 
--- ---- what is shown
-
--- a file that is found is among them
-listed : (p b : List ℕ) (fs : List File) → lookup (text_eq p) fs ≡ Some b → IsIn (p, b) fs
-listed p b [] e = absurd (none_some refl e)
-listed p b (f ∷ fs) e = by (text_eq p f.0) refl e (listed p b fs)
-  where
-    by : (t : Bool) → text_eq p f.0 ≡ t → cond t (Some f.1) (lookup (text_eq p) fs) ≡ Some b → (lookup (text_eq p) fs ≡ Some b → IsIn (p, b) fs) → IsIn (p, b) (f ∷ fs)
-    by true is h more = inl (λ i. (text_is p f.0 is i, sym (some_is h) i))
-    by false is h more = inr (more h)
-
--- each of these files is given by a side
-abbrev pub AllGiven : Script → Script → Seen → Seen → List File → Type 0
-AllGiven w v s t [] = Unit {0}
-AllGiven w v s t (f ∷ fs) = (Gives w s f.0 f.1 ⊎ Gives v t f.0 f.1) × AllGiven w v s t fs
-
-given_in : (w v : Script) (s t : Seen) (fs : List File) → AllGiven w v s t fs → (f : File) → IsIn f fs → Gives w s f.0 f.1 ⊎ Gives v t f.0 f.1
-given_in w v s t [] h f i = absurd i
-given_in w v s t (x ∷ fs) h f (inl e) = subst (λ (y : File). Gives w s y.0 y.1 ⊎ Gives v t y.0 y.1) (sym e) h.0
-given_in w v s t (x ∷ fs) h f (inr i) = given_in w v s t fs h.1 f i
-
 -- ---- at a moment of a run over a bucket with nothing in it
 
--- these files are listed
-abbrev pub AreListed : List File → List File → Type 0
-AreListed all [] = Unit {0}
-AreListed all (f ∷ fs) = (lookup (text_eq f.0) all ≡ Some f.1) × AreListed all fs
+-- a side's commit has begun, and the file is its
+abbrev pub gives : Script → Seen → File → Bool
+gives w s f = s.begun && is_at (counted w s.picks f.0) f.1
 
-listed_in : (all fs : List File) → AreListed all fs → (f : File) → IsIn f fs → lookup (text_eq f.0) all ≡ Some f.1
-listed_in all [] h f i = absurd i
-listed_in all (x ∷ fs) h f (inl e) = subst (λ (y : File). lookup (text_eq y.0) all ≡ Some y.1) (sym e) h.0
-listed_in all (x ∷ fs) h f (inr i) = listed_in all fs h.1 f i
+gives_so : (w : Script) (s : Seen) (p b : List ℕ) → gives w s (p, b) ≡ true → Gives w s p b
+gives_so w s p b h = let a = and_parts s.begun _ h in (a.0, at_is _ b a.1)
 
-module _ (journal : List Entry) (ours : are_ours journal ≡ true) (m : ℕ) where
-  abbrev files : List File
-  files = visible (book_at nothing journal m).objects
+-- the marker is there, and says so
+abbrev pub says_so : Script → Picks → Option Object → Bool
+says_so w picks None = false
+says_so w picks (Some o) = text_eq o.bytes (mark_text w picks)
 
-  abbrev then : Scene
-  then = moment opening journal m
+said : (w : Script) (picks : Picks) (o : Option Object) → says_so w picks o ≡ true → (x : Object) × (o ≡ Some x) × (x.bytes ≡ mark_text w picks)
+said w picks None h = absurd (false≢true h)
+said w picks (Some o) h = (o, refl, text_is _ _ h)
 
-  pub shows_so : (w v : Script) (s t : Seen) → w.dest ≡ dest → s.scene ≡ then → AllGiven w v s t files → Shows w v opening s.scene.content s t
-  shows_so w v s t to at given = record {
-    only = λ p b e. inr (given_in w v s t files given (p, b) (listed p b files (sym (files_then nothing journal ours m p) ∙ ap (λ d. view d then.content p) (sym to) ∙ ap (λ (x : Scene). view w.dest x.content p) (sym at) ∙ e)));
-    kept = λ p b e. absurd (none_some (files_then nothing journal ours 0 p) (sym (ap (λ d. view d opening p) to) ∙ e));
-  }
+-- of a side whose marker is the last
+abbrev pub is_marked_so : Script → Picks → List (List ℕ × Object) → Bool
+is_marked_so w picks os =
+    is_picked w picks && (not (is_clash w picks)
+    && (list_all (λ f. is_at (find text_cmp f.0 (visible os)) f.1) (wanted w picks) && says_so w picks (lookup (text_eq (success_key (codes "out"))) os)))
 
-  pub marked_so : (w v : Script) (s : Seen) (others : Picks) (fs : List File) (o : Object) → w.dest ≡ dest → s.scene ≡ then → is_picked w s.picks ≡ true → is_clash w s.picks ≡ false → ((p : List ℕ) → wanted_at w s.picks p ≡ lookup (text_eq p) fs) → AreListed files fs
-      → object_at then.content w.dest.bucket (success_key w.dest.key) ≡ Some o → o.bytes ≡ mark_text w s.picks → Marked w v s.scene.content s.picks others
-  marked_so w v s others fs o to at picked apart wants stand there says = record {
-    picked = picked;
-    apart = apart;
-    files = λ p b e none.
-        ap (λ (x : Scene). view w.dest x.content p) at ∙ ap (λ d. view d then.content p) to ∙ files_then nothing journal ours m p ∙ listed_in files fs stand (p, b) (listed p b fs (sym (wants p) ∙ e));
-    mark = (o, ap (λ (x : Scene). object_at x.content w.dest.bucket (success_key w.dest.key)) at ∙ there, says);
-  }
+module _ (w v : Script) (k l : Times) (mine : ℕ → Bool) (journal : List Entry) (ours : are_ours journal ≡ true) (to : w.dest ≡ dest) (also : v.dest ≡ dest) (m : ℕ) where
+  abbrev es : List TwinEntry
+  es = sided mine journal
+
+  abbrev s : Seen
+  s = seen_twin w k First opening es m
+
+  abbrev t : Seen
+  t = seen_twin v l Second opening es m
+
+  abbrev os : List (List ℕ × Object)
+  os = (book_at nothing journal m).objects
+
+  there : (u : Script) (x : Seen) → u.dest ≡ dest → x.scene ≡ moment opening journal m → (p : List ℕ) → view u.dest x.scene.content p ≡ find text_cmp p (visible os)
+  there u x is at p = ap (λ d. view d x.scene.content p) is ∙ ap (λ (y : Scene). view dest y.content p) at ∙ file_then nothing journal ours m p
+
+  marked_so : (u z : Script) (x : Seen) (others : Picks) → u.dest ≡ dest → x.scene ≡ moment opening journal m → is_marked_so u x.picks os ≡ true → Marked u z x.scene.content x.picks others
+  marked_so u z x others is at h =
+      let a = and_parts (is_picked u x.picks) _ h in
+      let b = and_parts (not (is_clash u x.picks)) _ a.1 in
+      let c = and_parts (list_all (λ f. is_at (find text_cmp f.0 (visible os)) f.1) (wanted u x.picks)) _ b.1 in
+      let mark = said u x.picks _ c.1 in
+      record {
+        picked = a.0;
+        apart = not_so _ b.0;
+        files = λ p b e none. there u x is at p ∙ at_is _ b (found_in (λ f. is_at (find text_cmp f.0 (visible os)) f.1) (wanted u x.picks) c.0 p b (lookup_is (wanted u x.picks) p ∙ e));
+        mark = (mark.0, ap (λ d. object_at x.scene.content d.bucket (success_key d.key)) is ∙ ap (λ (y : Scene). object_at y.content lake (success_key (codes "out"))) at ∙ object_then nothing journal ours m _ ∙ mark.1, mark.2);
+      }
+
+  pub at_so : (list_all (λ f. gives w s f || gives v t f) (visible os)
+      && ((not (is_marked_by w First false (take m es)) || is_marked_so w s.picks os) && (not (is_marked_by v Second false (take m es)) || is_marked_so v t.picks os))) ≡ true → AtMoment w v k l opening es m
+  at_so h =
+      let a = and_parts (list_all (λ f. gives w s f || gives v t f) (visible os)) _ h in
+      let b = and_parts (not (is_marked_by w First false (take m es)) || is_marked_so w s.picks os) _ a.1 in
+      let first = seen_scene w k First mine opening journal m in
+      record {
+        shows = record {
+          only = λ p b e. inr (elim (either _ _ (found_in (λ f. gives w s f || gives v t f) (visible os) a.0 p b (sym (there w s to first p) ∙ e))) [ inl g ↦ inl (gives_so w s p b g) | inr g ↦ inr (gives_so v t p b g) ]);
+          kept = λ p b e. absurd (none_some (file_then nothing journal ours 0 p) (sym (ap (λ d. view d opening p) to) ∙ e));
+        };
+        first = λ e. marked_so w v s t.picks to first (implied _ _ b.0 e);
+        second = λ e. marked_so v w t s.picks also (seen_scene v l Second mine opening journal m) (implied _ _ b.1 e);
+      }

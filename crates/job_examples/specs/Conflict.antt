@@ -1,17 +1,16 @@
 -- Two jobs at one destination, of which the first is of the directory committer with the mode fail: the other's file is there before its commit.
-use Rattle.std.specs.Prelude.{◌≡◌, ℕ, nat_eq, nat_le, ◌||◌, Bool, true, false, List, [], ◌∷◌, ◌++◌, length, Option, Some, None, codes}
-use Rattle.job_protocol.specs.Prelude.{compact_text, set_tree, Pending, PendingSet, who}
+use Rattle.std.specs.Prelude.{◌≡◌, ℕ, true, false, List, [], ◌∷◌, ◌++◌, length, Option, Some, None, codes}
+use Rattle.job_protocol.specs.Prelude.{compact_text, set_tree, PendingSet, who}
 use Rattle.job_spec.specs.Prelude.{IsHonest, Driver, Directory, Fail, HeadObject, DeleteObject, ListPage, CreateUpload, UploadPart, ClusterPut, ClusterRename, Reply, Deleted, Page, Part, ClusterDone, Refused, NoSuchKey, Entry, Answered, Script, Do}
 use Rattle.s3_types.specs.declared.reply.Reply.TheVariants.{Upload}
 use Rattle.s3_types.specs.declared.reply.PageEntry.TheVariants.{Object as Listed}
 use Rattle.job_model.specs.declared.events.Op.TheVariants as ops
 use Rattle.job_traces.specs.Runs.{nothing_learnt}
-use Rattle.job_examples.specs.Jobs.{commits_at, lake, job, attempt, worker, said, hello_tag}
+use Rattle.job_examples.specs.Jobs.{commits_at, lake, job, attempt, worker, said, hello_tag, setting}
 use Rattle.job_examples.specs.OneFile.{opening}
-use Rattle.job_examples.specs.Runs.{setting}
-use Rattle.job_examples.specs.FourFileLanes.{out}
-use Rattle.job_examples.specs.TwoJobs.{jb, set_key, below_attempt, pending, set_bytes, mark_bytes, prepares, reads, completes, marks}
-use Rattle.twin_facts.specs.Names.{Ids}
+use Rattle.job_examples.specs.Runs.{hello, upload, set_of}
+use Rattle.job_examples.specs.FourFileLanes.{out, completes}
+use Rattle.job_examples.specs.TwoJobs.{jb, set_key, below_attempt, pending, set_bytes, mark_bytes, prepares, reads, marks, mine}
 use Rattle.job_model.specs.declared.ends.CheckEnd.TheVariants.{Conflict}
 use Rattle.job_model.specs.declared.ends.OpEnd.{OpEnd}
 use Rattle.job_model.specs.declared.ends.OpEnd.TheVariants as ends
@@ -19,17 +18,14 @@ use Rattle.job_protocol.specs.Operations.{Setting, Operation, asks, tells, over,
 use Rattle.twin_facts.specs.Sides.{Second, TwinEntry}
 use Rattle.twin_facts.specs.TwinLaws.{is_marked_by}
 use Rattle.twin_facts.specs.Events.{AtMoment}
-use Rattle.job_examples.specs.Sided.{sided, AllStrange}
+use Rattle.job_examples.specs.TwoMagic.{sided, AllStrange, drew_first, drew_second}
 
 abbrev pub ja : Script
 ja = record (job Directory Fail 1 3 1 (attempt 0 0 ((codes "x", codes "hello") ∷ []) ∷ []) (Do Driver ops.Setup ∷ Do worker ops.Write ∷ Do worker ops.Commit ∷ Do Driver ops.Commit ∷ [])) { job = codes "ja" }
 
 -- its set tells no sizes
-abbrev pub of_x : Pending
-of_x = record { task = 0; attempt = 0; bucket = lake; destination = out (codes "x"); upload = 1; length = 5; tags = hello_tag ∷ []; sizes = None }
-
 abbrev pub the_set : PendingSet
-the_set = record { job = codes "ja"; task = 0; attempt = 0; commits = of_x ∷ [] }
+the_set = record (set_of 0 0 (record (upload hello 0 0 (codes "x") 1) { sizes = None } ∷ [])) { job = codes "ja" }
 
 abbrev pub bytes : List ℕ
 bytes = compact_text (set_tree the_set)
@@ -57,22 +53,13 @@ journal =
     ∷ said 3 worker (UploadPart lake (out (codes "x")) 1 1 (codes "hello")) (Part hello_tag)
     ∷ said 3 worker (ClusterPut temporary bytes) ClusterDone
     ∷ said 3 worker (ClusterRename temporary (codes "jobs/ja/sets/task_0.pendingset")) ClusterDone
-    ∷ (prepares (codes "jb") (codes "y") 2 4 ++ reads (codes "jb") (codes "y") 2 7 ∷ completes (codes "y") 2 7 ∷ marks (codes "jb") (codes "y") 7 ∷ said 8 Driver (ListPage lake (codes "out/") false [] 1000) page ∷ [])
-
-abbrev pub mine : ℕ → Bool
-mine n = nat_le n 3 || nat_le 8 n
+    ∷ (prepares (codes "jb") (codes "y") 2 4 ++ reads (codes "jb") (codes "y") 2 7 ∷ completes 7 (codes "y") 2 ∷ marks (codes "jb") (codes "y") 7 ∷ said 8 Driver (ListPage lake (codes "out/") false [] 1000) page ∷ [])
 
 abbrev pub entries : List TwinEntry
 entries = sided mine journal
 
 abbrev pub Stands : ℕ → Type 0
 Stands m = AtMoment ja jb (commits_at 8) (commits_at 7) opening entries m
-
-abbrev pub drew_first : Ids
-drew_first id = nat_eq id 1
-
-abbrev pub drew_second : Ids
-drew_second id = nat_eq id 2
 
 -- ja, whose destination jb shares
 abbrev pub shared : Setting

@@ -3,25 +3,16 @@ use Rattle.std.specs.Prelude.{◌≡◌, List, [], ◌∷◌, Some, None, codes}
 use Rattle.job_spec.specs.Prelude.{Driver, Magic, Append, Script, Abort, Event, Do, Start, Kill, Restart, Recover, EventEnd, Done, Ended, past, missing, refusal, commit_event, verdict, idle, dead}
 use Rattle.job_model.specs.declared.events.Op.TheVariants.{Setup, Write, Commit}
 use Rattle.job_model.specs.declared.ends.SetupEnd.TheVariants as setups
-use Rattle.job_model.specs.declared.ends.TaskEnd.TheVariants as tasks
 use Rattle.job_model.specs.declared.ends.CommitEnd.TheVariants as commits
 use Rattle.job_model.specs.declared.ends.OpEnd.TheVariants as ends
 use Rattle.job_model.specs.declared.ends.EventEnd.TheVariants.{Refused}
 use Rattle.job_model.specs.declared.ends.EventFault.TheVariants as faults
 use Rattle.job_model.specs.declared.states.ActorStage.TheVariants as stage
-use Rattle.job_examples.specs.Jobs.{job, attempt, worker}
+use Rattle.job_examples.specs.Jobs.{job, attempt, worker, done_setup, done_task}
 
 -- one attempt with one file, and these events
 abbrev pub script : List Event → Script
 script events = job Magic Append 1 3 1 (attempt 0 0 ((codes "part-00000", codes "hello") ∷ []) ∷ []) events
-
--- a set-up that is done
-abbrev pub done_setup : EventEnd
-done_setup = Ended (ends.Setup setups.Done)
-
--- an attempt's operation that is done
-abbrev pub done_task : EventEnd
-done_task = Ended (ends.Task tasks.Done)
 
 -- a set-up that wears out, and then one whose driver is killed in it
 abbrev pub killed_setup : Script

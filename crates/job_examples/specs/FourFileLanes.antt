@@ -1,16 +1,16 @@
 -- A job of one attempt with four files in lanes: its scripts, the entries of its commits, and what is said of its runs.
 use Rattle.std.specs.Prelude.{◌≡◌, ℕ, List, [], ◌∷◌, ◌++◌, Option, Some, None, codes}
-use Rattle.job_spec.specs.Prelude.{lookup, text_eq, moment, FateMap, Actor, Driver, Request, CompleteUpload, Completed, Refused, NoSuchUpload, Magic, Append, ReplyLost, Entry, File, Script, Op, Event, Do, OpEnd, EventEnd, Ended, view, until, by_actor, OpFollows, op_over}
-use Rattle.job_protocol.specs.Prelude.{compact_text, pending_tree, set_tree, success_tree, SuccessMark}
+use Rattle.job_spec.specs.Prelude.{lookup, text_eq, moment, FateMap, Actor, Driver, Request, CompleteUpload, Completed, Refused, NoSuchUpload, Magic, Append, ReplyLost, Entry, File, Script, Op, Event, Do, OpEnd, view, until, by_actor, OpFollows, op_over}
+use Rattle.job_protocol.specs.Prelude.{compact_text, pending_tree, success_tree}
 use Rattle.s3_types.specs.Tags.{joined_tag}
 use Rattle.job_model.specs.declared.events.Op.TheVariants as ops
 use Rattle.job_model.specs.declared.ends.SetupEnd.TheVariants as setups
 use Rattle.job_model.specs.declared.ends.TaskEnd.TheVariants as tasks
 use Rattle.job_model.specs.declared.ends.OpEnd.TheVariants as ends
-use Rattle.job_examples.specs.Jobs.{lake, job, attempt, worker, entry, said, hello_tag}
-use Rattle.job_examples.specs.OneFile.{opening, doing}
-use Rattle.job_examples.specs.Runs.{puts, reads_set, setting}
-use Rattle.job_examples.specs.FourFiles.{directory, set_key, of_file, the_set, attempt_entries}
+use Rattle.job_examples.specs.Jobs.{lake, job, attempt, worker, entry, said, hello_tag, directory, set_key, setting, doing}
+use Rattle.job_examples.specs.OneFile.{opening}
+use Rattle.job_examples.specs.Runs.{reads_set}
+use Rattle.job_examples.specs.FourFiles.{of_file, the_set, attempt_entries}
 
 -- ---- the job
 
@@ -40,17 +40,9 @@ pending name = below_attempt (name ++ codes ".pending")
 abbrev pub record_bytes : List ℕ → ℕ → List ℕ
 record_bytes name id = compact_text (pending_tree (of_file name id))
 
--- the text of the set
-abbrev pub set_bytes : List ℕ
-set_bytes = compact_text (set_tree the_set)
-
--- what `_SUCCESS` says
-abbrev pub the_mark : SuccessMark
-the_mark = record { job = codes "j1"; committer = Magic; files = codes "a" ∷ codes "b" ∷ codes "c" ∷ codes "d" ∷ []; stamp = None }
-
 -- the text of `_SUCCESS`
 abbrev pub mark_bytes : List ℕ
-mark_bytes = compact_text (success_tree the_mark)
+mark_bytes = compact_text (success_tree (record { job = codes "j1"; committer = Magic; files = codes "a" ∷ codes "b" ∷ codes "c" ∷ codes "d" ∷ []; stamp = None }))
 
 -- ---- of a commit
 
@@ -74,15 +66,7 @@ loses k name id = entry k Driver (completion name id) ReplyLost
 abbrev pub finds_none : ℕ → List ℕ → ℕ → Entry
 finds_none k name id = said k Driver (completion name id) (Refused NoSuchUpload)
 
--- the put of `_SUCCESS`
-abbrev pub the_marking : Entry
-the_marking = puts 4 Driver (codes "out/_SUCCESS") mark_bytes
-
 -- ---- what is said of a run
-
--- set-up, write and task's commit are done
-abbrev pub done_events : List EventEnd
-done_events = Ended (ends.Setup setups.Done) ∷ Ended (ends.Task tasks.Done) ∷ Ended (ends.Task tasks.Done) ∷ []
 
 -- after the first m entries the destination shows these files
 abbrev pub Shows : Script → List Entry → ℕ → List File → Type 0

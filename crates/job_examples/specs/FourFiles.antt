@@ -10,24 +10,15 @@ use Rattle.job_model.specs.declared.ends.OpEnd.TheVariants as ends
 use Rattle.job_model.specs.declared.states.ActorStage.TheVariants as stage
 use Rattle.job_protocol.specs.View.{object_at}
 use Rattle.job_spec.specs.Scope.{upload_at}
-use Rattle.job_examples.specs.Jobs.{lake, job, attempt, worker, commits_at}
-use Rattle.job_examples.specs.OneFile.{opening, setup_entries, doing as begun_so}
-use Rattle.job_examples.specs.RefusedEnds.{completes}
-use Rattle.job_examples.specs.Runs.{hello, upload, set_of, held, writes, lists, reads_record, puts_set, reads_set, setting, Goes, Keeps}
+use Rattle.job_examples.specs.Jobs.{lake, job, attempt, worker, directory, set_key, setting, doing as begun_so, commits_at}
+use Rattle.job_examples.specs.OneFile.{opening, setup_entries}
+use Rattle.job_examples.specs.Runs.{hello, upload, set_of, held, writes, lists, reads_record, puts_set, reads_set, completes, Goes, Keeps}
 
 -- the job's script
 abbrev pub script : Script
 script = job Magic Append 1 3 1
     (attempt 0 0 ((codes "a", codes "hello") ∷ (codes "b", codes "hello") ∷ (codes "c", codes "hello") ∷ (codes "d", codes "hello") ∷ []) ∷ [])
     (Do Driver Setup ∷ Do worker Write ∷ Do worker Commit ∷ Start Driver Commit ∷ Step Driver 3 ∷ Kill Driver ∷ [])
-
--- the attempt's magic directory
-abbrev pub directory : List ℕ
-directory = codes "out/__magic/job-j1/tasks/0_0/__base/"
-
--- the key of the task's set
-abbrev pub set_key : List ℕ
-set_key = codes "out/__magic/job-j1/sets/task_0.pendingset"
 
 -- the upload of a file
 abbrev pub of_file : List ℕ → ℕ → Pending

@@ -1,24 +1,19 @@
 -- A job's commit that completes four uploads, in one lane and in two, and its revert.
 use Rattle.std.specs.Prelude.{◌≡◌, ℕ, List, [], ◌∷◌, Option, Some, None, codes, false}
 use Rattle.job_spec.specs.Prelude.{Driver, Request, CompleteUpload, DeleteObject, AbortUpload, PutObject, Stored, Deleted, Completed, Aborted, Refused, NoSuchUpload, Outcome, Answered, Slow, ReplyLost, Magic, Append, Script, nothing_known, Sets, replacing, picks_of, mark_text, TheCommit}
-use Rattle.job_protocol.specs.Prelude.{Pending}
 use Rattle.job_model.specs.declared.ends.CommitEnd.TheVariants as commits
 use Rattle.job_model.specs.declared.ends.Stage.TheVariants as stages
 use Rattle.job_model.specs.declared.ends.OpEnd.TheVariants as ends
-use Rattle.job_examples.specs.Jobs.{lake, job, attempt, hello_tag}
-use Rattle.job_examples.specs.Steps.{Course, course_of}
+use Rattle.job_examples.specs.Jobs.{lake, job, attempt, hello_tag, Course, course_of}
+use Rattle.job_examples.specs.FourFiles.{the_set}
 
 -- the job's script
 abbrev pub script : ℕ → ℕ → Script
 script retries lanes = job Magic Append 1 retries lanes (attempt 0 0 ((codes "a", codes "hello") ∷ (codes "b", codes "hello") ∷ (codes "c", codes "hello") ∷ (codes "d", codes "hello") ∷ []) ∷ []) []
 
--- a pending upload of five bytes
-abbrev pub upload : List ℕ → ℕ → Pending
-upload key id = record { task = 0; attempt = 0; bucket = lake; destination = key; upload = id; length = 5; tags = hello_tag ∷ []; sizes = Some (5 ∷ []) }
-
 -- the set that was read: four uploads
 abbrev pub sets : Sets
-sets = record { job = codes "j1"; task = 0; attempt = 0; commits = upload (codes "out/a") 1 ∷ upload (codes "out/b") 2 ∷ upload (codes "out/c") 3 ∷ upload (codes "out/d") 4 ∷ [] } ∷ []
+sets = the_set ∷ []
 
 -- the completion of an upload
 abbrev pub completes : List ℕ → ℕ → Option Request

@@ -5,34 +5,26 @@ use Rattle.std.specs.FinMap as fin
 use Rattle.job_model.specs.declared.events.Op.TheVariants as ops
 use Rattle.job_model.specs.declared.states.ActorStage.TheVariants as stage
 use Rattle.job_protocol.specs.View.{object_at}
-use Rattle.job_examples.specs.Jobs.{lake, commits_at}
+use Rattle.job_examples.specs.Jobs.{lake, before_commit, commits_at}
 use Rattle.job_examples.specs.OneFile.{opening}
 use Rattle.job_examples.specs.FourFileLanes as files
-use Rattle.job_examples.specs.FourFileLanes.{read_entries, completes, loses, finds_none, done_events, Shows, hellos, Goes, Prepared}
+use Rattle.job_examples.specs.FourFileLanes.{read_entries, completes, loses, finds_none, Shows, hellos, Goes, Prepared}
 
 -- the reply of the sending 27 is lost
 abbrev pub script : ℕ → Script
 script lanes = files.script 3 lanes (fin.insert fin.empty 27 After) (Start Driver ops.Commit ∷ Step Driver 5 ∷ Kill Driver ∷ [])
 
--- the five sendings are of event 5
-abbrev pub two_entries : List Entry
-two_entries = loses 5 (codes "a") 1 ∷ completes 5 (codes "b") 2 ∷ finds_none 5 (codes "a") 1 ∷ completes 5 (codes "d") 4 ∷ []
-
--- the sendings of the commit in one lane
-abbrev pub one_entries : List Entry
-one_entries = loses 5 (codes "a") 1 ∷ finds_none 5 (codes "a") 1 ∷ completes 5 (codes "b") 2 ∷ completes 5 (codes "c") 3 ∷ []
-
--- the journal in two lanes
+-- the journal in two lanes: the five sendings are of event 5
 abbrev pub in_two : List Entry
-in_two = read_entries 5 ++ two_entries
+in_two = read_entries 5 ++ loses 5 (codes "a") 1 ∷ completes 5 (codes "b") 2 ∷ finds_none 5 (codes "a") 1 ∷ completes 5 (codes "d") 4 ∷ []
 
 -- the journal in one lane
 abbrev pub in_one : List Entry
-in_one = read_entries 5 ++ one_entries
+in_one = read_entries 5 ++ loses 5 (codes "a") 1 ∷ finds_none 5 (codes "a") 1 ∷ completes 5 (codes "b") 2 ∷ completes 5 (codes "c") 3 ∷ []
 
 -- the ends of the run's events
 abbrev pub the_ends : List EventEnd
-the_ends = done_events ++ Done ∷ Done ∷ Done ∷ []
+the_ends = before_commit ++ Done ∷ Done ∷ Done ∷ []
 
 -- what is seen after the first m entries
 abbrev pub at : ℕ → List Entry → ℕ → Seen

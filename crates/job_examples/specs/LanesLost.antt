@@ -6,26 +6,25 @@ use Rattle.job_model.specs.declared.events.Op.TheVariants as ops
 use Rattle.job_model.specs.declared.ends.CommitEnd.TheVariants as commits
 use Rattle.job_model.specs.declared.ends.OpEnd.TheVariants as ends
 use Rattle.job_protocol.specs.View.{object_at}
-use Rattle.job_examples.specs.Jobs.{lake, commits_at}
+use Rattle.job_examples.specs.Jobs.{lake, before_commit, commits_at}
 use Rattle.job_examples.specs.OneFile.{opening}
+use Rattle.job_examples.specs.Runs.{puts}
 use Rattle.job_examples.specs.FourFileLanes as files
-use Rattle.job_examples.specs.FourFileLanes.{read_entries, completes, loses, finds_none, the_marking, mark_bytes, done_events, Shows, hellos, Goes, Prepared}
+use Rattle.job_examples.specs.FourFileLanes.{read_entries, completes, loses, finds_none, mark_bytes, Shows, hellos, Goes, Prepared}
 
 -- the reply of the sending 27 is lost
 abbrev pub script : Script
 script = files.script 3 2 (fin.insert fin.empty 27 After) (Do Driver ops.Commit ∷ [])
 
 -- the lanes are a and c, b and d: the lost completion is sent again at its lane's next turn
-abbrev pub commit_entries : List Entry
-commit_entries = loses 4 (codes "a") 1 ∷ completes 4 (codes "b") 2 ∷ finds_none 4 (codes "a") 1 ∷ completes 4 (codes "d") 4 ∷ completes 4 (codes "c") 3 ∷ the_marking ∷ []
-
--- the run's journal
 abbrev pub journal : List Entry
-journal = read_entries 4 ++ commit_entries
+journal =
+    read_entries 4
+    ++ loses 4 (codes "a") 1 ∷ completes 4 (codes "b") 2 ∷ finds_none 4 (codes "a") 1 ∷ completes 4 (codes "d") 4 ∷ completes 4 (codes "c") 3 ∷ puts 4 Driver (codes "out/_SUCCESS") mark_bytes ∷ []
 
 -- the ends of the run's events
 abbrev pub the_ends : List EventEnd
-the_ends = done_events ++ Ended (ends.Commit commits.Committed) ∷ []
+the_ends = before_commit ++ Ended (ends.Commit commits.Committed) ∷ []
 
 -- what is seen after the first m entries
 abbrev pub at : ℕ → Seen

@@ -6,19 +6,20 @@ use Rattle.job_model.specs.declared.events.Op.TheVariants as ops
 use Rattle.job_model.specs.declared.ends.CommitEnd.TheVariants as commits
 use Rattle.job_model.specs.declared.ends.Stage.TheVariants as stages
 use Rattle.job_model.specs.declared.ends.OpEnd.TheVariants as ends
-use Rattle.job_examples.specs.Jobs.{lake, said, commits_at}
+use Rattle.job_examples.specs.Jobs.{lake, said, before_commit, commits_at}
 use Rattle.job_examples.specs.OneFile.{opening}
 use Rattle.job_examples.specs.FourFileLanes as files
-use Rattle.job_examples.specs.FourFileLanes.{out, read_entries, completion, completes, loses, done_events, Shows, hellos, Goes, Prepared}
+use Rattle.job_examples.specs.FourFileLanes.{out, read_entries, completion, completes, loses, Shows, hellos, Goes, Prepared}
 
 -- no request is sent again, and the reply of the sending 28 is lost
 abbrev pub script : Script
 script = files.script 0 1 (fin.insert fin.empty 28 After) (Do Driver ops.Commit ∷ [])
 
 -- the upload of b is gone, its file is deleted, then that of a, and the uploads of c and d are aborted
-abbrev pub commit_entries : List Entry
-commit_entries =
-    completes 4 (codes "a") 1
+abbrev pub journal : List Entry
+journal =
+    read_entries 4
+    ++ completes 4 (codes "a") 1
     ∷ loses 4 (codes "b") 2
     ∷ said 4 Driver (AbortUpload lake (out (codes "b")) 2) (Refused NoSuchUpload)
     ∷ said 4 Driver (DeleteObject lake (out (codes "b"))) Deleted
@@ -27,13 +28,9 @@ commit_entries =
     ∷ said 4 Driver (AbortUpload lake (out (codes "d")) 4) Aborted
     ∷ []
 
--- the run's journal
-abbrev pub journal : List Entry
-journal = read_entries 4 ++ commit_entries
-
 -- the ends of the run's events
 abbrev pub the_ends : List EventEnd
-the_ends = done_events ++ Ended (ends.Commit (commits.StoreFault stages.Complete)) ∷ []
+the_ends = before_commit ++ Ended (ends.Commit (commits.StoreFault stages.Complete)) ∷ []
 
 -- what is seen after the first m entries
 abbrev pub at : ℕ → Seen

@@ -1,7 +1,7 @@
 pub mod Jobs
+pub mod Runs
 pub mod Decisions
 pub mod OneFile
-pub mod Steps
 pub mod Lanes
 pub mod Modes
 pub mod Refused
@@ -9,7 +9,6 @@ pub mod RefusedEnds
 pub mod OneFinished
 pub mod LostMark
 pub mod Strays
-pub mod Runs
 pub mod SharedPath
 pub mod LostSet
 pub mod FourFiles
@@ -22,6 +21,5 @@ pub mod LanesLost
 pub mod LanesKilled
 pub mod Restarted
 pub mod TwoJobs
-pub mod Sided
 pub mod TwoMagic
 pub mod Conflict

@@ -7,10 +7,9 @@ use Rattle.job_model.specs.declared.events.Op.TheVariants as ops
 use Rattle.job_model.specs.declared.ends.CommitEnd.TheVariants as commits
 use Rattle.job_model.specs.declared.ends.Stage.TheVariants as stages
 use Rattle.job_model.specs.declared.ends.OpEnd.TheVariants as ends
-use Rattle.job_examples.specs.Jobs.{lake, entry, commits_at}
-use Rattle.job_examples.specs.Refused.{before_commit}
+use Rattle.job_examples.specs.Jobs.{lake, entry, before_commit, doing, commits_at}
 use Rattle.job_examples.specs.OneFile as one
-use Rattle.job_examples.specs.OneFile.{opening, attempt_entries, the_read, the_completion, the_mark, doing}
+use Rattle.job_examples.specs.OneFile.{opening, attempt_entries, the_read, the_completion, the_mark}
 
 -- each request may be sent twice, and the replies of the sendings 13 and 14 are lost
 abbrev pub script : Script

@@ -11,7 +11,7 @@ use Rattle.job_model.specs.declared.ends.CommitEnd.TheVariants as commits
 use Rattle.job_model.specs.declared.ends.OpEnd.TheVariants as ends
 use Rattle.job_protocol.specs.View.{object_at}
 use Rattle.job_spec.specs.Scope.{upload_at}
-use Rattle.job_examples.specs.Jobs.{lake, worker, entry, commits_at}
+use Rattle.job_examples.specs.Jobs.{lake, worker, entry, directory, commits_at}
 use Rattle.job_examples.specs.OneFile as one
 use Rattle.job_examples.specs.OneFile.{opening, setup_entries, write_entries, the_record, the_set}
 use Rattle.job_examples.specs.Runs.{held, lists, reads_record, Goes, Keeps}
@@ -23,10 +23,6 @@ script = record one.script {
   fates = fin.insert (fin.insert fin.empty 10 After) 11 After;
   events = Do Driver Setup ∷ Do worker Write ∷ Do worker Commit ∷ Do worker Abort ∷ Do Driver Commit ∷ [];
 }
-
--- the attempt's magic directory
-abbrev pub directory : List ℕ
-directory = codes "out/__magic/job-j1/tasks/0_0/__base/"
 
 -- the put of the set
 abbrev pub set_put : Request

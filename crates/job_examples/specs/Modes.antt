@@ -1,6 +1,6 @@
 -- What conflict modes and committers make of operations.
 use Rattle.std.specs.Prelude.{◌≡◌, ℕ, true, false, List, [], ◌∷◌, ◌++◌, Option, Some, None, codes}
-use Rattle.job_spec.specs.Prelude.{Driver, Request, HeadObject, PutObject, DeleteObject, DeleteObjects, ListPage, CreateUpload, UploadPart, CompleteUpload, AbortUpload, ListUploads, ClusterPut, ClusterGet, ClusterRename, ClusterDelete, ClusterList, Reply, Head, Stored, Deleted, Page, Part, Completed, Aborted, ClusterDone, ClusterNames, Refused, NoSuchBucket, NoSuchKey, NoSuchUpload, NoSuchFile, PageEntry, Outcome, Answered, Slow, ReplyLost, Committer, Magic, Directory, Partitioned, Mode, Fail, Append, Replace, File, Script, Abort, same_path, Known, nothing_known, Sets, decided, Setting, TheCommit, start_of}
+use Rattle.job_spec.specs.Prelude.{Driver, Request, HeadObject, PutObject, DeleteObject, DeleteObjects, ListPage, CreateUpload, UploadPart, CompleteUpload, AbortUpload, ListUploads, ClusterPut, ClusterGet, ClusterRename, ClusterDelete, ClusterList, Reply, Head, Stored, Deleted, Page, Part, Completed, Aborted, ClusterDone, ClusterNames, Refused, NoSuchBucket, NoSuchKey, NoSuchUpload, NoSuchFile, PageEntry, Outcome, Answered, Slow, ReplyLost, Committer, Magic, Directory, Partitioned, Mode, Fail, Append, Replace, File, Script, Abort, same_path, Known, nothing_known, decided, TheCommit, start_of}
 use Rattle.job_protocol.specs.Prelude.{ClusterBytes, Pending, PendingSet}
 use Rattle.s3_types.specs.declared.reply.Reply.TheVariants.{Upload, Uploads}
 use Rattle.s3_types.specs.declared.reply.PageEntry.TheVariants.{Object as Listed}
@@ -10,13 +10,7 @@ use Rattle.job_model.specs.declared.ends.TaskEnd.TheVariants as tasks
 use Rattle.job_model.specs.declared.ends.CleanEnd.TheVariants as cleans
 use Rattle.job_model.specs.declared.ends.CommitEnd.TheVariants as commits
 use Rattle.job_model.specs.declared.ends.OpEnd.TheVariants as ends
-use Rattle.job_examples.specs.Jobs.{lake, job, attempt, worker, hello_tag}
-use Rattle.job_examples.specs.Steps.{Course, course, course_of}
-use Rattle.job_examples.specs.OneFile.{told_of}
-
--- what stays while the run goes on
-abbrev pub setting : Script → Setting
-setting w = record { script = w; minimum = 5242880; shared = false }
+use Rattle.job_examples.specs.Jobs.{lake, job, attempt, worker, hello_tag, setting, told_of, Course, course, course_of}
 
 -- the script of one attempt with these files, of this committer and mode
 abbrev pub with_files : Committer → Mode → List File → Script
@@ -87,10 +81,6 @@ staged_text =
 abbrev pub commits_task : Mode → List Outcome → Course
 commits_task mode os = course (setting (staged mode)) worker (start_of (setting (staged mode)) worker Commit (told_of None) nothing_known) nothing_known os
 
--- the file is uploaded and the set put into the temporary file
-abbrev pub uploads : List Outcome
-uploads = answers (Upload 7) ∷ answers (Part hello_tag) ∷ answers ClusterDone ∷ []
-
 -- the rename that publishes
 abbrev pub renames : Option Request
 renames = Some (ClusterRename (codes "jobs/j1/tmp/0_0.pendingset") (codes "jobs/j1/sets/task_0.pendingset"))
@@ -129,13 +119,9 @@ pub record StagingRuns : Type 0 where
 
 -- ---- the driver
 
--- the sets that the driver has read
-abbrev pub read_sets : Sets
-read_sets = staged_set ∷ []
-
 -- its commit once the set is read
 abbrev pub replaces : Committer → Mode → List Outcome → Course
-replaces committer mode os = course_of (setting (with_files committer mode ((codes "d=1/x", codes "hello") ∷ []))) Driver (record { operation = TheCommit (decided (with_files committer mode ((codes "d=1/x", codes "hello") ∷ [])) read_sets None); known = nothing_known }) os
+replaces committer mode os = course_of (setting (with_files committer mode ((codes "d=1/x", codes "hello") ∷ []))) Driver (record { operation = TheCommit (decided (with_files committer mode ((codes "d=1/x", codes "hello") ∷ [])) (staged_set ∷ []) None); known = nothing_known }) os
 
 -- the completion of the upload
 abbrev pub completes : Option Request

@@ -10,10 +10,10 @@ use Rattle.job_model.specs.declared.ends.CleanEnd.TheVariants as cleans
 use Rattle.job_model.specs.declared.ends.OpEnd.TheVariants as ends
 use Rattle.job_model.specs.declared.states.ActorStage.TheVariants as stage
 use Rattle.job_protocol.specs.View.{object_at}
-use Rattle.job_examples.specs.Jobs.{lake, worker, commits_at}
+use Rattle.job_examples.specs.Jobs.{lake, worker, other, set_key, done_task, commits_at}
 use Rattle.job_examples.specs.OneFile.{opening}
 use Rattle.job_examples.specs.Runs.{Goes, Keeps}
-use Rattle.job_examples.specs.TwoAttempts.{with_events, other, first_set, set_key, first_entries, journal_of, done_task, Replaces}
+use Rattle.job_examples.specs.TwoAttempts.{with_events, first_set, first_entries, journal_of, Replaces}
 
 -- the ends of the set-up, the first attempt's write and commit, the death and the restart
 abbrev pub restart_ends : List EventEnd

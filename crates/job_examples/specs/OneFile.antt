@@ -1,9 +1,9 @@
 -- A job of one attempt with one file, from its set-up to its commit.
 use Rattle.std.specs.Prelude.{◌≡◌, ℕ, true, false, List, [], ◌∷◌, ◌++◌, Option, Some, None, codes}
-use Rattle.job_protocol.specs.Prelude.{compact_text, Pending, pending_tree, set_tree, success_tree, PendingSet, SuccessMark, Reports}
-use Rattle.job_spec.specs.Prelude.{Actor, Driver, PutObject, GetObject, HeadObject, DeleteObject, ListPage, CreateUpload, UploadPart, CompleteUpload, Stored, Deleted, Page, Part, Completed, Refused, NoSuchKey, Magic, Append, Entry, Script, Op, Do, OpEnd, Setting, wanted_at, is_decided, keeps_of, Seen, seen, commit_due, in_eyes, Content, new_bucket, Doing, until, by_actor, OpFollows, op_over}
+use Rattle.job_protocol.specs.Prelude.{compact_text, Pending, set_tree, success_tree, PendingSet, SuccessMark}
+use Rattle.job_spec.specs.Prelude.{Actor, Driver, PutObject, GetObject, HeadObject, DeleteObject, ListPage, CompleteUpload, Stored, Deleted, Page, Completed, Refused, NoSuchKey, Magic, Append, Entry, Script, Op, Do, OpEnd, Setting, wanted_at, is_decided, keeps_of, Seen, seen, commit_due, in_eyes, Content, new_bucket, until, by_actor, OpFollows, op_over}
 use Rattle.s3_types.specs.Tags.{plain_tag, joined_tag}
-use Rattle.s3_types.specs.declared.reply.Reply.TheVariants.{Object, Upload}
+use Rattle.s3_types.specs.declared.reply.Reply.TheVariants.{Object}
 use Rattle.s3_types.specs.declared.reply.PageEntry.TheVariants.{Object as Listed}
 use Rattle.job_model.specs.declared.events.Op.TheVariants.{Setup, Write, Commit}
 use Rattle.job_model.specs.declared.ends.SetupEnd.TheVariants as setups
@@ -11,7 +11,8 @@ use Rattle.job_model.specs.declared.ends.TaskEnd.TheVariants as tasks
 use Rattle.job_model.specs.declared.ends.CommitEnd.TheVariants as commits
 use Rattle.job_model.specs.declared.ends.OpEnd.TheVariants as ends
 use Rattle.std.specs.FinMap as fin
-use Rattle.job_examples.specs.Jobs.{lake, job, attempt, worker, said, hello_tag, commits_at}
+use Rattle.job_examples.specs.Jobs.{lake, job, attempt, worker, said, hello_tag, directory, doing, commits_at}
+use Rattle.job_examples.specs.Runs.{hello, writes, lists, reads_record}
 
 -- the job's script
 abbrev pub script : Script
@@ -39,12 +40,7 @@ setup_entries =
 
 -- the entries of the write
 abbrev pub write_entries : List Entry
-write_entries =
-    said 2 worker (CreateUpload lake (codes "out/part-00000")) (Upload 1)
-    ∷ said 2 worker (UploadPart lake (codes "out/part-00000") 1 1 (codes "hello")) (Part hello_tag)
-    ∷ said 2 worker (PutObject lake (codes "out/__magic/job-j1/tasks/0_0/__base/part-00000") [] (Some 5)) (Stored (plain_tag []))
-    ∷ said 2 worker (PutObject lake (codes "out/__magic/job-j1/tasks/0_0/__base/part-00000.pending") (compact_text (pending_tree the_record)) None) (Stored (plain_tag (compact_text (pending_tree the_record))))
-    ∷ []
+write_entries = writes hello 2 worker directory (codes "part-00000") the_record
 
 -- the attempt's put of its task's set
 abbrev pub the_publishing : Entry
@@ -53,9 +49,8 @@ the_publishing = said 3 worker (PutObject lake (codes "out/__magic/job-j1/sets/t
 -- the entries of the task's commit
 abbrev pub task_entries : List Entry
 task_entries =
-    said 3 worker (ListPage lake (codes "out/__magic/job-j1/tasks/0_0/__base/") false [] 1000)
-    (Page (Listed (codes "out/__magic/job-j1/tasks/0_0/__base/part-00000") 0 ∷ Listed (codes "out/__magic/job-j1/tasks/0_0/__base/part-00000.pending") 177 ∷ []) false)
-    ∷ said 3 worker (GetObject lake (codes "out/__magic/job-j1/tasks/0_0/__base/part-00000.pending")) (Object (compact_text (pending_tree the_record)) None)
+    lists 3 worker directory (Listed (directory ++ codes "part-00000") 0 ∷ Listed (directory ++ codes "part-00000.pending") 177 ∷ [])
+    ∷ reads_record 3 worker directory (codes "part-00000") the_record
     ∷ the_publishing
     ∷ []
 
@@ -86,19 +81,6 @@ journal = setup_entries ++ write_entries ++ task_entries ++ commit_entries
 -- what stays while the run goes on
 abbrev pub setting : Setting
 setting = record { script = script; minimum = 5242880; shared = false }
-
--- what the driver knows where this task is missing, and where none is: then the one attempt has reported its
-abbrev pub told_of : Option ℕ → Reports
-told_of None = record { missing = None; attempts = record { task = 0; attempt = 0 } ∷ [] }
-told_of (Some t) = record { missing = Some t; attempts = [] }
-
--- an operation that this actor began in event k, with these reports
-abbrev pub begun_with : Op → ℕ → Reports → Doing
-begun_with op k reports = record { op = op; since = k; reports = reports }
-
--- in which this task was missing
-abbrev pub doing : Op → ℕ → Option ℕ → Doing
-doing op k missing = begun_with op k (told_of missing)
 
 -- the actor's entries up to its event are what its operation asks, and lead to this end
 abbrev pub Goes : Actor → Op → ℕ → Option ℕ → OpEnd → Type 0

@@ -1,17 +1,10 @@
 -- Journals that a job's promise refuses, each by the part of it that is named.
 use Rattle.std.specs.Prelude.{ℕ, List, [], ◌∷◌, ◌++◌, None, codes}
-use Rattle.job_spec.specs.Prelude.{Content, Driver, PutObject, DeleteObject, Stored, Deleted, Entry, Pick, EventEnd, Ended, Always, Promised}
+use Rattle.job_spec.specs.Prelude.{Content, Driver, PutObject, DeleteObject, Stored, Deleted, Entry, Pick, Always, Promised}
 use Rattle.std.specs.FinMap as fin
 use Rattle.s3_types.specs.Tags.{plain_tag}
-use Rattle.job_model.specs.declared.ends.SetupEnd.TheVariants as setups
-use Rattle.job_model.specs.declared.ends.TaskEnd.TheVariants as tasks
-use Rattle.job_model.specs.declared.ends.OpEnd.TheVariants as ends
-use Rattle.job_examples.specs.Jobs.{lake, said, commits_at}
+use Rattle.job_examples.specs.Jobs.{lake, said, before_commit, commits_at}
 use Rattle.job_examples.specs.OneFile.{script, opening, setup_entries, write_entries, attempt_entries, the_read, the_completion, the_marking}
-
--- the ends of the events before the commit
-abbrev pub before_commit : List EventEnd
-before_commit = Ended (ends.Setup setups.Done) ∷ Ended (ends.Task tasks.Done) ∷ Ended (ends.Task tasks.Done) ∷ []
 
 -- the driver puts an object while its commit goes on
 abbrev pub puts : List ℕ → List ℕ → Entry

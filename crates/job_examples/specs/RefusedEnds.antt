@@ -1,41 +1,24 @@
 -- Ends that are not those that are due, and a run that shows two attempts of one task.
-use Rattle.std.specs.Prelude.{ℕ, List, [], ◌∷◌, ◌++◌, Some, None, codes}
-use Rattle.job_protocol.specs.Prelude.{compact_text, Pending, set_tree, success_tree, PendingSet, SuccessMark}
-use Rattle.job_spec.specs.Prelude.{Actor, Driver, Attempt, PutObject, GetObject, CreateUpload, UploadPart, CompleteUpload, AbortUpload, DeleteObject, Stored, Deleted, Part, Completed, Aborted, Magic, Append, ReplyLost, Entry, Script, Do, Kill, Restart, EventEnd, Done, Ended, Plays, Always, CommitsEnd}
-use Rattle.s3_types.specs.Tags.{plain_tag, joined_tag}
+use Rattle.std.specs.Prelude.{ℕ, List, [], ◌∷◌, ◌++◌, None, codes}
+use Rattle.job_protocol.specs.Prelude.{compact_text, set_tree, success_tree, PendingSet, SuccessMark}
+use Rattle.job_spec.specs.Prelude.{Actor, Driver, PutObject, GetObject, CreateUpload, UploadPart, CompleteUpload, AbortUpload, DeleteObject, Stored, Deleted, Part, Aborted, Magic, Append, ReplyLost, Entry, Script, Do, Kill, Restart, EventEnd, Done, Ended, Plays, Always, CommitsEnd}
+use Rattle.s3_types.specs.Tags.{plain_tag}
 use Rattle.s3_types.specs.declared.reply.Reply.TheVariants.{Object, Upload}
 use Rattle.job_model.specs.declared.events.Op.TheVariants as ops
-use Rattle.job_model.specs.declared.ends.SetupEnd.TheVariants as setups
-use Rattle.job_model.specs.declared.ends.TaskEnd.TheVariants as tasks
 use Rattle.job_model.specs.declared.ends.CommitEnd.TheVariants as commits
 use Rattle.job_model.specs.declared.ends.CleanEnd.TheVariants as cleans
 use Rattle.job_model.specs.declared.ends.Stage.TheVariants as stages
 use Rattle.job_model.specs.declared.ends.OpEnd.TheVariants as ends
-use Rattle.job_examples.specs.Jobs.{lake, job, attempt, worker, entry, said, hello_tag, commits_at}
+use Rattle.job_examples.specs.Jobs.{lake, job, attempt, worker, other, entry, said, hello_tag, done_setup, done_task, commits_at}
+use Rattle.job_examples.specs.Runs.{hello, upload, set_of, completes}
 use Rattle.job_examples.specs.OneFile.{opening, journal, setting, attempt_entries}
 use Rattle.job_examples.specs.OneFinished.{the_ends}
-
--- a set-up that is done
-abbrev pub done_setup : EventEnd
-done_setup = Ended (ends.Setup setups.Done)
-
--- an attempt's operation that is done
-abbrev pub done_task : EventEnd
-done_task = Ended (ends.Task tasks.Done)
 
 -- an upload of `hello` by an attempt, and its completion by the driver
 abbrev pub drafts : ℕ → Actor → List ℕ → ℕ → List Entry
 drafts k a key id = said k a (CreateUpload lake key) (Upload id) ∷ said k a (UploadPart lake key id 1 (codes "hello")) (Part hello_tag) ∷ []
 
--- the completion of an upload by the driver
-abbrev pub completes : ℕ → List ℕ → ℕ → Entry
-completes k key id = said k Driver (CompleteUpload lake key id (record { number = 1; tag = hello_tag } ∷ [])) (Completed (joined_tag (hello_tag ∷ [])))
-
 -- ---- two attempts of one task
-
--- the other attempt
-abbrev pub other : Actor
-other = Attempt 0 1
 
 -- the script of two attempts of one task
 abbrev pub both_script : Script
@@ -43,13 +26,9 @@ both_script = job Magic Append 1 3 1
     (attempt 0 0 ((codes "a", codes "hello") ∷ []) ∷ attempt 0 1 ((codes "b", codes "hello") ∷ []) ∷ [])
     (Do Driver ops.Setup ∷ Do worker ops.Write ∷ Do worker ops.Commit ∷ Do other ops.Write ∷ Do other ops.Commit ∷ Do Driver ops.Commit ∷ [])
 
--- the second attempt's pending upload
-abbrev pub b_record : Pending
-b_record = record { task = 0; attempt = 1; bucket = lake; destination = codes "out/b"; upload = 2; length = 5; tags = hello_tag ∷ []; sizes = Some (5 ∷ []) }
-
 -- the second attempt's set
 abbrev pub b_set : PendingSet
-b_set = record { job = codes "j1"; task = 0; attempt = 1; commits = b_record ∷ [] }
+b_set = set_of 0 1 (upload hello 0 1 (codes "b") 2 ∷ [])
 
 -- what `_SUCCESS` says of the second attempt
 abbrev pub b_mark : SuccessMark

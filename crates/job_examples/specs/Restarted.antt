@@ -12,11 +12,12 @@ use Rattle.job_model.specs.declared.ends.EventFault.TheVariants as faults
 use Rattle.job_model.specs.declared.states.ActorStage.TheVariants as stage
 use Rattle.job_protocol.specs.View.{object_at}
 use Rattle.job_spec.specs.Scope.{upload_at}
-use Rattle.job_examples.specs.Jobs.{lake, worker, said, commits_at}
+use Rattle.job_examples.specs.Jobs.{lake, worker, said, set_key, before_commit, commits_at}
 use Rattle.job_examples.specs.OneFile.{opening}
-use Rattle.job_examples.specs.FourFiles.{set_key}
+use Rattle.job_protocol.specs.Prelude.{compact_text, set_tree}
+use Rattle.job_examples.specs.FourFiles.{the_set}
 use Rattle.job_examples.specs.FourFileLanes as files
-use Rattle.job_examples.specs.FourFileLanes.{out, below_attempt, pending, set_bytes, read_entries, completes, done_events, Shows, hellos, Goes, Prepared}
+use Rattle.job_examples.specs.FourFileLanes.{out, below_attempt, pending, read_entries, completes, Shows, hellos, Goes, Prepared}
 
 -- three retries are the default, and one lane
 abbrev pub script : Script
@@ -39,7 +40,7 @@ abort_entries =
     ∷ said 9 Driver (AbortUpload lake (out (codes "c")) 3) Aborted
     ∷ said 9 Driver (AbortUpload lake (out (codes "d")) 4) Aborted
     ∷ said 9 Driver (ListPage lake (codes "out/__magic/job-j1/") false [] 1000) (Page (
-    Listed set_key (length set_bytes)
+    Listed set_key (length (compact_text (set_tree the_set)))
     ∷ Listed (below_attempt (codes "a")) 0 ∷ Listed (pending (codes "a")) 168
     ∷ Listed (below_attempt (codes "b")) 0 ∷ Listed (pending (codes "b")) 168
     ∷ Listed (below_attempt (codes "c")) 0 ∷ Listed (pending (codes "c")) 168
@@ -48,17 +49,13 @@ abort_entries =
     ∷ said 9 Driver (DeleteObjects lake magic_keys) Deleted
     ∷ []
 
--- all behind the read
-abbrev pub later_entries : List Entry
-later_entries = completes 5 (codes "a") 1 ∷ completes 5 (codes "b") 2 ∷ abort_entries
-
 -- the run's journal
 abbrev pub journal : List Entry
-journal = read_entries 5 ++ later_entries
+journal = read_entries 5 ++ completes 5 (codes "a") 1 ∷ completes 5 (codes "b") 2 ∷ abort_entries
 
 -- up to the restart, and all
 abbrev pub restart_ends : List EventEnd
-restart_ends = done_events ++ Done ∷ Done ∷ Done ∷ Done ∷ []
+restart_ends = before_commit ++ Done ∷ Done ∷ Done ∷ Done ∷ []
 
 -- the ends of the events up to the abort
 abbrev pub abort_ends : List EventEnd

@@ -1,13 +1,13 @@
 -- What attempts and the driver of a job send for files of five bytes, and what whole runs of them keep.
 use Rattle.std.specs.Prelude.{◌≡◌, ℕ, ◌-◌, false, List, [], ◌∷◌, ◌++◌, take, slice_get, Option, Some, None, codes}
 use Rattle.job_protocol.specs.Prelude.{compact_text, Pending, pending_tree, set_tree, PendingSet}
-use Rattle.job_spec.specs.Prelude.{Content, Spelled, Actor, Driver, PutObject, GetObject, ListPage, CreateUpload, UploadPart, Stored, Page, Part, PageEntry, Entry, Script, Op, Do, OpEnd, EventEnd, Ended, Setting, Always, ZeroRename, OutsideStays, Sent, OpFollows, op_over, past, refusal, until, of_event, by_actor, AllBy, Times, reports}
+use Rattle.job_spec.specs.Prelude.{Content, Spelled, Actor, Driver, PutObject, GetObject, ListPage, CreateUpload, UploadPart, CompleteUpload, Stored, Page, Part, Completed, PageEntry, Entry, Script, Op, Do, OpEnd, EventEnd, Ended, Always, ZeroRename, OutsideStays, Sent, OpFollows, op_over, past, refusal, until, of_event, by_actor, AllBy, Times, reports}
 use Rattle.std.specs.FinMap as fin
 use Rattle.s3_types.specs.Store.{Upload as Live}
-use Rattle.s3_types.specs.Tags.{plain_tag}
+use Rattle.s3_types.specs.Tags.{plain_tag, joined_tag}
+use Rattle.s3_types.specs.declared.reply.PageEntry.TheVariants.{Object as Listed}
 use Rattle.s3_types.specs.declared.reply.Reply.TheVariants.{Object, Upload}
-use Rattle.job_examples.specs.Jobs.{lake, said, hello_tag}
-use Rattle.job_examples.specs.OneFile.{begun_with}
+use Rattle.job_examples.specs.Jobs.{lake, said, hello_tag, setting, begun_with}
 
 -- ---- requests
 
@@ -65,11 +65,19 @@ puts_set k a key s = puts k a key (compact_text (set_tree s))
 abbrev pub reads_set : ℕ → List ℕ → PendingSet → Entry
 reads_set k key s = reads k Driver key (compact_text (set_tree s))
 
--- ---- runs
+-- an attempt lists its directory, reads the record of `p` and puts its task's set
+abbrev pub commits_task : ℕ → Actor → List ℕ → Pending → List ℕ → PendingSet → List Entry
+commits_task k a directory u key s =
+    lists k a directory (Listed (directory ++ codes "p") 0 ∷ Listed (directory ++ codes "p.pending") 168 ∷ [])
+    ∷ reads_record k a directory (codes "p") u
+    ∷ puts_set k a key s
+    ∷ []
 
--- what stays while the run goes on
-abbrev pub setting : Script → Setting
-setting w = record { script = w; minimum = 5242880; shared = false }
+-- the completion of an upload by the driver
+abbrev pub completes : ℕ → List ℕ → ℕ → Entry
+completes k key id = said k Driver (CompleteUpload lake key id (record { number = 1; tag = hello_tag } ∷ [])) (Completed (joined_tag (hello_tag ∷ [])))
+
+-- ---- runs
 
 -- Event k, where the events had these ends: it has the actor do a whole operation, as it may, with this task missing then.
 -- Its entries are the actor's; the actor's entries up to there are what the operation asks, they lead to this end, and the event has it.

@@ -2,16 +2,15 @@
 use Rattle.std.specs.Prelude.{◌≡◌, ℕ, List, [], ◌∷◌, ◌++◌, length, true, false, Some, None, codes}
 use Rattle.job_spec.specs.Prelude.{moment, Actor, Driver, Attempt, Magic, Append, Entry, first_worn, Script, Do, EventEnd, Ended, view, commit_due, Seen, seen, commit_event, verdict, by_actor, since}
 use Rattle.job_protocol.specs.Prelude.{Pending, PendingSet}
-use Rattle.s3_types.specs.declared.reply.PageEntry.TheVariants.{Object as Listed}
 use Rattle.job_model.specs.declared.events.Op.TheVariants.{Setup, Write, Commit}
 use Rattle.job_model.specs.declared.ends.SetupEnd.TheVariants as setups
 use Rattle.job_model.specs.declared.ends.TaskEnd.TheVariants as tasks
 use Rattle.job_model.specs.declared.ends.CommitEnd.TheVariants as commits
 use Rattle.job_model.specs.declared.ends.OpEnd.TheVariants as ends
 use Rattle.job_spec.specs.Scope.{upload_at}
-use Rattle.job_examples.specs.Jobs.{lake, job, attempt, worker, commits_at}
+use Rattle.job_examples.specs.Jobs.{lake, job, attempt, worker, directory, done_task, commits_at}
 use Rattle.job_examples.specs.OneFile.{opening, setup_entries}
-use Rattle.job_examples.specs.Runs.{hello, upload, set_of, held, writes, lists, reads_record, puts_set, reads_set, Goes, Keeps}
+use Rattle.job_examples.specs.Runs.{hello, upload, set_of, held, writes, reads_set, commits_task, Goes, Keeps}
 
 -- the other attempt
 abbrev pub other : Actor
@@ -22,10 +21,6 @@ abbrev pub script : Script
 script = job Magic Append 2 3 1
     (attempt 0 0 ((codes "p", codes "hello") ∷ []) ∷ attempt 1 0 ((codes "p", codes "hello") ∷ []) ∷ [])
     (Do Driver Setup ∷ Do worker Write ∷ Do other Write ∷ Do worker Commit ∷ Do other Commit ∷ Do Driver Commit ∷ [])
-
--- the first attempt's magic directory
-abbrev pub first_directory : List ℕ
-first_directory = codes "out/__magic/job-j1/tasks/0_0/__base/"
 
 -- the second attempt's magic directory
 abbrev pub second_directory : List ℕ
@@ -47,29 +42,17 @@ first_set = set_of 0 0 (first_upload ∷ [])
 abbrev pub second_set : PendingSet
 second_set = set_of 1 0 (second_upload ∷ [])
 
--- an attempt lists its directory, reads its record and puts its task's set
-abbrev pub commits_task : ℕ → Actor → List ℕ → Pending → List ℕ → PendingSet → List Entry
-commits_task k a directory u key s =
-    lists k a directory (Listed (directory ++ codes "p") 0 ∷ Listed (directory ++ codes "p.pending") 168 ∷ [])
-    ∷ reads_record k a directory (codes "p") u
-    ∷ puts_set k a key s
-    ∷ []
-
 -- both attempts write and commit, and the driver reads both sets
 abbrev pub journal : List Entry
 journal =
     setup_entries
-    ++ writes hello 2 worker first_directory (codes "p") first_upload
+    ++ writes hello 2 worker directory (codes "p") first_upload
     ++ writes hello 3 other second_directory (codes "p") second_upload
-    ++ commits_task 4 worker first_directory first_upload (codes "out/__magic/job-j1/sets/task_0.pendingset") first_set
+    ++ commits_task 4 worker directory first_upload (codes "out/__magic/job-j1/sets/task_0.pendingset") first_set
     ++ commits_task 5 other second_directory second_upload (codes "out/__magic/job-j1/sets/task_1.pendingset") second_set
     ++ reads_set 6 (codes "out/__magic/job-j1/sets/task_0.pendingset") first_set
     ∷ reads_set 6 (codes "out/__magic/job-j1/sets/task_1.pendingset") second_set
     ∷ []
-
--- an attempt's operation that is done
-abbrev pub done_task : EventEnd
-done_task = Ended (ends.Task tasks.Done)
 
 -- the ends of the run's events
 abbrev pub the_ends : List EventEnd

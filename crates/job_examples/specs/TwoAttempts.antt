@@ -1,7 +1,7 @@
 -- The run of one task with two attempts that commit one after the other: the job's commit picks and shows the later one, and a clean leaves nothing behind.
 use Rattle.std.specs.Prelude.{◌≡◌, ℕ, true, false, List, [], ◌∷◌, ◌++◌, length, Some, None, codes}
 use Rattle.job_protocol.specs.Prelude.{compact_text, Pending, success_tree, PendingSet, SuccessMark}
-use Rattle.job_spec.specs.Prelude.{moment, Actor, Driver, Attempt, DeleteObjects, CompleteUpload, AbortUpload, ListUploads, Deleted, Completed, Aborted, Magic, Append, Entry, first_worn, Script, Event, Do, Pick, EventEnd, Ended, view, commit_due, all_picks, NothingLeft, seen, commit_event, verdict, by_actor, since, until}
+use Rattle.job_spec.specs.Prelude.{moment, Driver, DeleteObjects, CompleteUpload, AbortUpload, ListUploads, Deleted, Completed, Aborted, Magic, Append, Entry, first_worn, Script, Event, Do, Pick, EventEnd, Ended, view, commit_due, all_picks, NothingLeft, seen, commit_event, verdict, by_actor, since, until}
 use Rattle.s3_types.specs.Tags.{joined_tag}
 use Rattle.s3_types.specs.declared.reply.Reply.TheVariants.{Uploads}
 use Rattle.s3_types.specs.declared.reply.PageEntry.TheVariants.{Object as Listed}
@@ -12,17 +12,13 @@ use Rattle.job_model.specs.declared.ends.CommitEnd.TheVariants as commits
 use Rattle.job_model.specs.declared.ends.CleanEnd.TheVariants as cleans
 use Rattle.job_model.specs.declared.ends.OpEnd.TheVariants as ends
 use Rattle.job_protocol.specs.View.{object_at}
-use Rattle.job_examples.specs.Jobs.{lake, job, attempt, worker, said, commits_at}
+use Rattle.job_examples.specs.Jobs.{lake, job, attempt, worker, other, said, directory, set_key, done_task, commits_at}
 use Rattle.job_examples.specs.OneFile.{opening, setup_entries}
-use Rattle.job_examples.specs.Runs.{Text, hello, upload, set_of, writes, lists, reads_record, puts, puts_set, reads_set, Goes, Keeps}
+use Rattle.job_examples.specs.Runs.{Text, hello, upload, set_of, writes, lists, puts, reads_set, commits_task, Goes, Keeps}
 
 -- the text `world`
 abbrev pub world : Text
 world = record { bytes = codes "world"; tag = record { digits = codes "7d793037a0760186574b0282f2f435e7"; parts = 0 } }
-
--- the other attempt
-abbrev pub other : Actor
-other = Attempt 0 1
 
 -- both attempts write the file `p`
 abbrev pub with_events : List Event → Script
@@ -32,17 +28,9 @@ with_events events = job Magic Append 1 3 1 (attempt 0 0 ((codes "p", codes "hel
 abbrev pub script : Script
 script = with_events (Do Driver Setup ∷ Do worker Write ∷ Do worker Commit ∷ Do other Write ∷ Do other Commit ∷ Do Driver Commit ∷ Do Driver Clean ∷ [])
 
--- the first attempt's magic directory
-abbrev pub first_directory : List ℕ
-first_directory = codes "out/__magic/job-j1/tasks/0_0/__base/"
-
 -- the second attempt's magic directory
 abbrev pub second_directory : List ℕ
 second_directory = codes "out/__magic/job-j1/tasks/0_1/__base/"
-
--- the key of the task's set
-abbrev pub set_key : List ℕ
-set_key = codes "out/__magic/job-j1/sets/task_0.pendingset"
 
 -- the first attempt's upload
 abbrev pub first_upload : Pending
@@ -64,14 +52,6 @@ second_set = set_of 0 1 (second_upload ∷ [])
 abbrev pub the_mark : SuccessMark
 the_mark = record { job = codes "j1"; committer = Magic; files = codes "p" ∷ []; stamp = None }
 
--- an attempt lists its directory, reads its record and puts the task's set
-abbrev pub commits_task : ℕ → Actor → List ℕ → Pending → PendingSet → List Entry
-commits_task k a directory u s =
-    lists k a directory (Listed (directory ++ codes "p") 0 ∷ Listed (directory ++ codes "p.pending") 168 ∷ [])
-    ∷ reads_record k a directory (codes "p") u
-    ∷ puts_set k a set_key s
-    ∷ []
-
 -- the entries of the job's commit
 abbrev pub commit_entries : ℕ → List Entry
 commit_entries k =
@@ -87,37 +67,33 @@ clean_entries k =
     ∷ said k Driver (AbortUpload lake (codes "out/p") 1) Aborted
     ∷ lists k Driver (codes "out/__magic/job-j1/") (
     Listed set_key 246
-    ∷ Listed (first_directory ++ codes "p") 0
-    ∷ Listed (first_directory ++ codes "p.pending") 168
+    ∷ Listed (directory ++ codes "p") 0
+    ∷ Listed (directory ++ codes "p.pending") 168
     ∷ Listed (second_directory ++ codes "p") 0
     ∷ Listed (second_directory ++ codes "p.pending") 168
     ∷ [])
-    ∷ said k Driver (DeleteObjects lake (set_key ∷ (first_directory ++ codes "p") ∷ (first_directory ++ codes "p.pending") ∷ (second_directory ++ codes "p") ∷ (second_directory ++ codes "p.pending") ∷ [])) Deleted
+    ∷ said k Driver (DeleteObjects lake (set_key ∷ (directory ++ codes "p") ∷ (directory ++ codes "p.pending") ∷ (second_directory ++ codes "p") ∷ (second_directory ++ codes "p.pending") ∷ [])) Deleted
     ∷ []
 
 -- up to the end of the first attempt's commit
 abbrev pub first_entries : List Entry
 first_entries =
     setup_entries
-    ++ writes hello 2 worker first_directory (codes "p") first_upload
-    ++ commits_task 3 worker first_directory first_upload first_set
+    ++ writes hello 2 worker directory (codes "p") first_upload
+    ++ commits_task 3 worker directory first_upload set_key first_set
 
 -- all, where the second attempt's write and commit, the job's commit and the clean are these events
 abbrev pub journal_of : ℕ → ℕ → ℕ → ℕ → List Entry
 journal_of write task commit clean =
     first_entries
     ++ writes world write other second_directory (codes "p") second_upload
-    ++ commits_task task other second_directory second_upload second_set
+    ++ commits_task task other second_directory second_upload set_key second_set
     ++ commit_entries commit
     ++ clean_entries clean
 
 -- the run's journal
 abbrev pub journal : List Entry
 journal = journal_of 4 5 6 7
-
--- an attempt's operation that is done
-abbrev pub done_task : EventEnd
-done_task = Ended (ends.Task tasks.Done)
 
 -- the ends of the run's events
 abbrev pub the_ends : List EventEnd

@@ -1,20 +1,20 @@
 -- Two jobs at one destination, one file each, in one journal: what each of them sees.
 use Rattle.std.specs.Prelude.{◌≡◌, ℕ, ◌+◌, ◌||◌, not, nat_le, Bool, true, false, List, [], ◌∷◌, ◌++◌, length, Option, Some, None, codes}
-use Rattle.job_protocol.specs.Prelude.{compact_text, set_tree, success_tree, PendingSet, SuccessMark}
-use Rattle.job_spec.specs.Prelude.{IsHonest, moment, Object, Driver, PutObject, GetObject, HeadObject, DeleteObject, DeleteObjects, ListPage, CreateUpload, UploadPart, CompleteUpload, AbortUpload, Stored, Deleted, Page, Part, Completed, Refused, NoSuchKey, NoSuchUpload, Magic, Append, Entry, first_worn, Script, Event, Do, EventEnd, Ended, ZeroRename, commit_due, in_eyes, OpFollows, Seen, seen, verdict, until, since, by_actor}
-use Rattle.s3_types.specs.Tags.{plain_tag, joined_tag}
-use Rattle.s3_types.specs.declared.reply.Reply.TheVariants.{Object as Read, Upload}
+use Rattle.job_protocol.specs.Prelude.{compact_text, set_tree, success_tree, PendingSet}
+use Rattle.job_spec.specs.Prelude.{IsHonest, moment, Object, Driver, PutObject, GetObject, HeadObject, DeleteObject, DeleteObjects, ListPage, AbortUpload, Stored, Deleted, Page, Refused, NoSuchKey, NoSuchUpload, Magic, Append, Entry, first_worn, Script, Event, Do, EventEnd, Ended, ZeroRename, commit_due, in_eyes, OpFollows, Seen, seen, verdict, until, since, by_actor}
+use Rattle.s3_types.specs.Tags.{plain_tag}
+use Rattle.s3_types.specs.declared.reply.Reply.TheVariants.{Object as Read}
 use Rattle.s3_types.specs.declared.reply.PageEntry.TheVariants.{Object as Listed}
 use Rattle.job_model.specs.declared.events.Op.TheVariants as ops
 use Rattle.job_model.specs.declared.ends.CommitEnd.TheVariants as commits
 use Rattle.job_model.specs.declared.ends.CleanEnd.TheVariants as cleans
 use Rattle.job_model.specs.declared.ends.OpEnd.TheVariants as ends
 use Rattle.job_protocol.specs.View.{object_at}
-use Rattle.job_examples.specs.Jobs.{lake, job, attempt, worker, said, hello_tag, commits_at}
-use Rattle.job_examples.specs.OneFile.{opening, doing}
-use Rattle.job_examples.specs.Runs.{setting}
+use Rattle.job_examples.specs.Jobs.{lake, job, attempt, worker, said, setting, doing, before_commit, commits_at}
+use Rattle.job_examples.specs.OneFile.{opening}
+use Rattle.job_examples.specs.Runs.{hello, writes}
 use Rattle.job_examples.specs.FourFiles.{of_file}
-use Rattle.job_examples.specs.FourFileLanes.{out, record_bytes, Shows, hellos, Goes, Prepared, done_events}
+use Rattle.job_examples.specs.FourFileLanes.{out, completes, record_bytes, Shows, hellos, Goes, Prepared}
 
 -- ---- the jobs
 
@@ -56,13 +56,9 @@ set_of id name upload = record { job = id; task = 0; attempt = 0; commits = of_f
 abbrev pub set_bytes : List ℕ → List ℕ → ℕ → List ℕ
 set_bytes id name upload = compact_text (set_tree (set_of id name upload))
 
--- what `_SUCCESS` says of a job
-abbrev pub mark_of : List ℕ → List ℕ → SuccessMark
-mark_of id name = record { job = id; committer = Magic; files = name ∷ []; stamp = None }
-
 -- the text of `_SUCCESS`
 abbrev pub mark_bytes : List ℕ → List ℕ → List ℕ
-mark_bytes id name = compact_text (success_tree (mark_of id name))
+mark_bytes id name = compact_text (success_tree (record { job = id; committer = Magic; files = name ∷ []; stamp = None }))
 
 -- ---- its entries: set-up, write and task's commit are the events from k on
 
@@ -72,22 +68,15 @@ prepares id name upload k =
     said k Driver (HeadObject lake (codes "out")) (Refused NoSuchKey)
     ∷ said k Driver (DeleteObject lake (codes "out/_SUCCESS")) Deleted
     ∷ said k Driver (ListPage lake (magic id) false [] 1000) (Page [] false)
-    ∷ said (k + 1) worker (CreateUpload lake (out name)) (Upload upload)
-    ∷ said (k + 1) worker (UploadPart lake (out name) upload 1 (codes "hello")) (Part hello_tag)
-    ∷ said (k + 1) worker (PutObject lake (below_attempt id name) [] (Some 5)) (Stored (plain_tag []))
-    ∷ said (k + 1) worker (PutObject lake (pending id name) (record_bytes name upload) None) (Stored (plain_tag (record_bytes name upload)))
-    ∷ said (k + 2) worker (ListPage lake (below_attempt id []) false [] 1000) (Page (Listed (below_attempt id name) 0 ∷ Listed (pending id name) 168 ∷ []) false)
+    ∷ (writes hello (k + 1) worker (below_attempt id []) name (of_file name upload) ++
+    said (k + 2) worker (ListPage lake (below_attempt id []) false [] 1000) (Page (Listed (below_attempt id name) 0 ∷ Listed (pending id name) 168 ∷ []) false)
     ∷ said (k + 2) worker (GetObject lake (pending id name)) (Read (record_bytes name upload) None)
     ∷ said (k + 2) worker (PutObject lake (set_key id) (set_bytes id name upload) None) (Stored (plain_tag (set_bytes id name upload)))
-    ∷ []
+    ∷ [])
 
 -- the read of its set, the completion and the put of its marker
 abbrev pub reads : List ℕ → List ℕ → ℕ → ℕ → Entry
 reads id name upload k = said k Driver (GetObject lake (set_key id)) (Read (set_bytes id name upload) None)
-
--- the completion of a job's upload
-abbrev pub completes : List ℕ → ℕ → ℕ → Entry
-completes name upload k = said k Driver (CompleteUpload lake (out name) upload (record { number = 1; tag = hello_tag } ∷ [])) (Completed (joined_tag (hello_tag ∷ [])))
 
 -- the put of a job's `_SUCCESS`
 abbrev pub marks : List ℕ → List ℕ → ℕ → Entry
@@ -116,10 +105,10 @@ quiet_entries = prepares (codes "ja") (codes "x") 1 1 ++ prepares (codes "jb") (
 -- the entries behind the read of jb's commit
 abbrev pub later_entries : List Entry
 later_entries =
-    completes (codes "y") 2 7
+    completes 7 (codes "y") 2
     ∷ marks (codes "jb") (codes "y") 7
     ∷ reads (codes "ja") (codes "x") 1 8
-    ∷ completes (codes "x") 1 8
+    ∷ completes 8 (codes "x") 1
     ∷ marks (codes "ja") (codes "x") 8
     ∷ clean_entries
 
@@ -137,7 +126,7 @@ eyes = in_eyes mine journal
 
 -- the ends of the run's events
 abbrev pub the_ends : List EventEnd
-the_ends = done_events ++ Ended (ends.Commit commits.Committed) ∷ Ended (ends.Clean cleans.Done) ∷ []
+the_ends = before_commit ++ Ended (ends.Commit commits.Committed) ∷ Ended (ends.Clean cleans.Done) ∷ []
 
 -- what is seen after the first m entries
 abbrev pub at : ℕ → Seen

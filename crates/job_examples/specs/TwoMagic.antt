@@ -1,6 +1,6 @@
 -- Two jobs of the magic committer at one destination, one file each: three events of the first, four of the second, two of the first.
-use Rattle.std.specs.Prelude.{◌≡◌, ℕ, nat_eq, false, true, List, [], ◌∷◌, ◌++◌, length, take, Some, codes}
-use Rattle.job_spec.specs.Prelude.{Times, AbortUpload, Outcome, Retried, step}
+use Rattle.std.specs.Prelude.{◌≡◌, ℕ, nat_eq, Bool, cond, false, true, List, [], ◌∷◌, ◌++◌, length, take, Some, codes}
+use Rattle.job_spec.specs.Prelude.{Times, AbortUpload, Request, Outcome, Entry, Script, Retried, step}
 use Rattle.job_protocol.specs.Prelude.{Follows, run}
 use Rattle.retries.specs.Prelude.{wants_of, fresh}
 use Rattle.job_model.specs.declared.ends.CleanEnd.TheVariants as cleans
@@ -9,11 +9,28 @@ use Rattle.job_examples.specs.OneFile.{opening}
 use Rattle.job_examples.specs.FourFileLanes.{out}
 use Rattle.job_examples.specs.TwoJobs.{ja, jb, marks, quiet_entries, clean_entries, journal, mine}
 use Rattle.twin_facts.specs.Names.{Ids, IsStranger}
-use Rattle.twin_facts.specs.Sides.{First, Second, TwinEntry}
+use Rattle.twin_facts.specs.Sides.{Side, First, Second, TwinEntry}
 use Rattle.twin_facts.specs.TwinLaws.{is_marked_by}
 use Rattle.job_protocol.specs.Sparing.{Sparing, SparingOver, sparing_start, sparing_asks, sparing_after}
 use Rattle.twin_facts.specs.Events.{AtMoment}
-use Rattle.job_examples.specs.Sided.{sided, AllStrange}
+
+-- ---- entries that belong to a side by their events
+
+abbrev pub sided : (ℕ → Bool) → List Entry → List TwinEntry
+sided mine [] = []
+sided mine (e ∷ es) = record { side = cond (mine e.event) First Second; entry = e; theirs = e.event } ∷ sided mine es
+
+-- what a side sends names nothing of the other's, which drew these uploads
+abbrev pub StrangeBy : Script → Script → Ids → Ids → Side → Request → Type 0
+StrangeBy w v mine others First r = IsStranger v others r
+StrangeBy w v mine others Second r = IsStranger w mine r
+
+-- so is each entry
+abbrev pub AllStrange : Script → Script → Ids → Ids → List TwinEntry → Type 0
+AllStrange w v mine others [] = Unit {0}
+AllStrange w v mine others (t ∷ ts) = StrangeBy w v mine others t.side t.entry.request × AllStrange w v mine others ts
+
+-- ---- the run
 
 abbrev pub entries : List TwinEntry
 entries = sided mine journal

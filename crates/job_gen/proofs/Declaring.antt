@@ -1,5 +1,5 @@
 -- The attempts of a made job.
-use Rattle.std.proofs.Common.{◌≡◌, ℕ, zero, suc, ◌+◌, ◌<◌, ◌≤◌, Bool, true, false, cond, is_some, ◌⊎◌, inl, inr, List, [], ◌∷◌, ◌++◌, Some, refl, sym, ap, subst, ◌∙◌, arith, append_assoc}
+use Rattle.std.proofs.Common.{◌≡◌, ℕ, zero, suc, ◌+◌, ◌<◌, ◌≤◌, Bool, true, false, cond, is_some, inl, inr, List, [], ◌∷◌, ◌++◌, Some, refl, sym, subst, arith, append_assoc}
 use Rattle.job_spec.specs.Prelude.{flat_map, range_with_len, lookup, File, Who, Declared, same_name, declares, AreFiles, AreAttempts}
 use Rattle.job_spec.proofs.Common.{eq-eqb, cases_lt}
 use Rattle.proof_base.proofs.Common.{ne_eqb}
@@ -11,20 +11,15 @@ use Rattle.job_gen.proofs.Ranges.{flat_map_next}
 -- an attempt that is declared behind others
 pub later : (xs ys : List Declared) (m : Who) → declares ys m ≡ true → declares (xs ++ ys) m ≡ true
 later [] ys m h = h
-later (x ∷ xs) ys m h = by (same_name m x.0) (later xs ys m h)
-  where
-    by : (b : Bool) → declares (xs ++ ys) m ≡ true → is_some (cond b (Some x.1) (lookup (same_name m) (xs ++ ys))) ≡ true
-    by true k = refl
-    by false k = k
+later (x ∷ xs) ys m h = elim (same_name m x.0) as (λ b. is_some (cond b (Some x.1) (lookup (same_name m) (xs ++ ys))) ≡ true) [ true ↦ refl | false ↦ later xs ys m h ]
 
 -- one that is declared neither before nor behind
 pub neither : (xs ys : List Declared) (m : Who) → declares xs m ≡ false → declares ys m ≡ false → declares (xs ++ ys) m ≡ false
 neither [] ys m h k = k
-neither (x ∷ xs) ys m h k = by (same_name m x.0) h (λ e. neither xs ys m e k)
-  where
-    by : (b : Bool) → is_some (cond b (Some x.1) (lookup (same_name m) xs)) ≡ false → (declares xs m ≡ false → declares (xs ++ ys) m ≡ false) → is_some (cond b (Some x.1) (lookup (same_name m) (xs ++ ys))) ≡ false
-    by true e rest = e
-    by false e rest = rest e
+neither (x ∷ xs) ys m h k = elim (same_name m x.0) as (λ b. is_some (cond b (Some x.1) (lookup (same_name m) xs)) ≡ false → is_some (cond b (Some x.1) (lookup (same_name m) (xs ++ ys))) ≡ false) [
+  | true ↦ λ e. e
+  | false ↦ λ e. neither xs ys m e k
+] h
 
 other_task : (t a k i : ℕ) → (t ≡ a → ⊥) → same_name (attempt_of t k) (attempt_of a i) ≡ false
 other_task t a k i ne = rw (ne_eqb t a ne) refl
@@ -40,11 +35,10 @@ abbrev pub one_or_two : Bool → List File → ℕ → List Declared
 one_or_two b fs a = cond b ((attempt_of a 0, fs) ∷ (attempt_of a 1, fs) ∷ []) ((attempt_of a 0, fs) ∷ [])
 
 not_of : (fs : List File) (t a k : ℕ) → (t ≡ a → ⊥) → declares (attempts_of fs a) (attempt_of t k) ≡ false
-not_of fs t a k ne = by (is_twice a)
-  where
-    by : (b : Bool) → declares (one_or_two b fs a) (attempt_of t k) ≡ false
-    by true = rw (other_task t a k 0 ne, other_task t a k 1 ne) refl
-    by false = rw (other_task t a k 0 ne) refl
+not_of fs t a k ne = elim (is_twice a) as (λ b. declares (one_or_two b fs a) (attempt_of t k) ≡ false) [
+  | true ↦ rw (other_task t a k 0 ne, other_task t a k 1 ne) refl
+  | false ↦ rw (other_task t a k 0 ne) refl
+]
 
 -- attempts of the tasks from a on, by the files of each task
 abbrev pub attempts_from : (ℕ → List File) → ℕ → ℕ → List Declared
@@ -55,33 +49,18 @@ pub new_task : (g : ℕ → List File) (a n t k : ℕ) → a + n ≤ t → decla
 new_task g a zero t k h = refl
 new_task g a (suc n) t k h = neither (attempts_of (g a) a) (attempts_from g (a + 1) n) (attempt_of t k) (not_of (g a) t a k (λ e. omega arith)) (new_task g (a + 1) n t k (omega arith))
 
-has_first : (fs : List File) (rest : List Declared) (a : ℕ) → declares (attempts_of fs a ++ rest) (attempt_of a 0) ≡ true
-has_first fs rest a = by (is_twice a)
-  where
-    by : (b : Bool) → declares (one_or_two b fs a ++ rest) (attempt_of a 0) ≡ true
-    by true = rw (same_own a 0) refl
-    by false = rw (same_own a 0) refl
+-- the first attempt of each task is declared, and the second one of each that has two
+pub has_first : (fs : List File) (rest : List Declared) (a : ℕ) → declares (attempts_of fs a ++ rest) (attempt_of a 0) ≡ true
+has_first fs rest a = elim (is_twice a) as (λ b. declares (one_or_two b fs a ++ rest) (attempt_of a 0) ≡ true) [ true ↦ rw (same_own a 0) refl | false ↦ rw (same_own a 0) refl ]
 
-has_second : (fs : List File) (rest : List Declared) (a : ℕ) → is_twice a ≡ true → declares (attempts_of fs a ++ rest) (attempt_of a 1) ≡ true
+pub has_second : (fs : List File) (rest : List Declared) (a : ℕ) → is_twice a ≡ true → declares (attempts_of fs a ++ rest) (attempt_of a 1) ≡ true
 has_second fs rest a h = rw (h, second_new a, same_own a 1) refl
 
-same_or_later : (a t : ℕ) → a ≤ t → (t ≡ a) ⊎ (a + 1 ≤ t)
-same_or_later a t h = elim (cases_lt a t) [ inl less ↦ inr (omega arith) | inr le ↦ inl (omega arith) ]
-
--- the first attempt of each task is declared
-pub first_known : (g : ℕ → List File) (a n t : ℕ) → a ≤ t → t < a + n → declares (attempts_from g a n) (attempt_of t 0) ≡ true
-first_known g a zero t h k = absurd (omega arith)
-first_known g a (suc n) t h k = elim (same_or_later a t h) [
-  | inl e ↦ ap (λ x. declares (attempts_from g a (suc n)) (attempt_of x 0)) e ∙ has_first (g a) (attempts_from g (a + 1) n) a
-  | inr less ↦ later (attempts_of (g a) a) (attempts_from g (a + 1) n) (attempt_of t 0) (first_known g (a + 1) n t less (omega arith))
-]
-
--- and the second one of each that has two
-pub second_known : (g : ℕ → List File) (a n t : ℕ) → a ≤ t → t < a + n → is_twice t ≡ true → declares (attempts_from g a n) (attempt_of t 1) ≡ true
-second_known g a zero t h k two = absurd (omega arith)
-second_known g a (suc n) t h k two = elim (same_or_later a t h) [
-  | inl e ↦ ap (λ x. declares (attempts_from g a (suc n)) (attempt_of x 1)) e ∙ has_second (g a) (attempts_from g (a + 1) n) a (sym (ap is_twice e) ∙ two)
-  | inr less ↦ later (attempts_of (g a) a) (attempts_from g (a + 1) n) (attempt_of t 1) (second_known g (a + 1) n t less (omega arith) two)
+pub known : (g : ℕ → List File) (k a n t : ℕ) → ((rest : List Declared) → declares (attempts_of (g t) t ++ rest) (attempt_of t k) ≡ true) → a ≤ t → t < a + n → declares (attempts_from g a n) (attempt_of t k) ≡ true
+known g k a zero t has h l = absurd (omega arith)
+known g k a (suc n) t has h l = elim (cases_lt a t) [
+  | inl less ↦ later (attempts_of (g a) a) (attempts_from g (a + 1) n) (attempt_of t k) (known g k (a + 1) n t has (omega arith) (omega arith))
+  | inr le ↦ let e : t ≡ a = omega arith in subst (λ x. declares (attempts_of (g x) x ++ attempts_from g (a + 1) n) (attempt_of t k) ≡ true) e (has (attempts_from g (a + 1) n))
 ]
 
 -- ---- they are such as a script may declare

@@ -1,7 +1,7 @@
 -- The events of a made job.
-use Rattle.std.proofs.Common.{◌≡◌, ℕ, zero, suc, ◌+◌, ◌*◌, ◌%◌, ◌^◌, ◌<◌, ◌≤◌, Bool, true, false, cond, List, [], ◌∷◌, ◌++◌, map, filter, length, length-append, refl, ap, ◌∙◌, arith, append_assoc}
+use Rattle.std.proofs.Common.{◌≡◌, ℕ, zero, suc, ◌+◌, ◌*◌, ◌%◌, ◌^◌, ◌<◌, ◌≤◌, true, false, cond, inl, inr, List, [], ◌∷◌, ◌++◌, map, filter, length, length-append, refl, ◌∙◌, arith, append_assoc}
 use Rattle.job_spec.specs.Prelude.{flat_map, range_with_len, Declared, declares, is_known, IsEvent, AreEvents, Event, Do, Mix, Driver}
-use Rattle.job_spec.proofs.Common.{length-map-range_with_len}
+use Rattle.job_spec.proofs.Common.{length-map-range_with_len, true_or_false}
 use Rattle.job_model.specs.declared.events.Op.TheVariants.{Setup, Commit, Clean}
 use Rattle.job_gen.specs.Made.{below, attempt_of, is_twice, start_write, second_writes, committer_of, start_commit, mix_by, made_events}
 
@@ -17,18 +17,12 @@ mapped_fit attempts f a (suc n) h = (h a (omega arith), mapped_fit attempts f (a
 
 seconds_fit : (attempts : List Declared) (a n : ℕ) → ((t : ℕ) → t < a + n → is_twice t ≡ true → AreEvents attempts (second_writes t)) → AreEvents attempts (flat_map second_writes (filter is_twice (range_with_len a n)))
 seconds_fit attempts a zero h = tt
-seconds_fit attempts a (suc n) h = by (is_twice a) refl (seconds_fit attempts (a + 1) n (λ t less. h t (omega arith)))
-  where
-    by : (b : Bool) → is_twice a ≡ b → AreEvents attempts (flat_map second_writes (filter is_twice (range_with_len (a + 1) n))) → AreEvents attempts (flat_map second_writes (filter is_twice (range_with_len a (suc n))))
-    by true e rest = rw e (both_fit attempts (second_writes a) (flat_map second_writes (filter is_twice (range_with_len (a + 1) n))) (h a (omega arith) e) rest)
-    by false e rest = rw e rest
+seconds_fit attempts a (suc n) h =
+    let rest = seconds_fit attempts (a + 1) n (λ t less. h t (omega arith)) in
+    elim (true_or_false (is_twice a)) [ inl e ↦ rw e (both_fit attempts (second_writes a) _ (h a (omega arith) e) rest) | inr e ↦ rw e rest ]
 
 committer_known : (attempts : List Declared) (t : ℕ) → declares attempts (attempt_of t 0) ≡ true → (is_twice t ≡ true → declares attempts (attempt_of t 1) ≡ true) → is_known attempts (committer_of t) ≡ true
-committer_known attempts t first second = by (is_twice t) refl
-  where
-    by : (b : Bool) → is_twice t ≡ b → declares attempts (attempt_of t (cond b 1 0)) ≡ true
-    by true e = second e
-    by false e = first
+committer_known attempts t first second = elim (is_twice t) as (λ b. is_twice t ≡ b → declares attempts (attempt_of t (cond b 1 0)) ≡ true) [ true ↦ second | false ↦ λ e. first ] refl
 
 mix_fits : (attempts : List Declared) (seed : ℕ) → AreEvents attempts (mix_by seed ∷ [])
 mix_fits attempts seed = let small : seed % 2 ^ 31 ≤ 2147483647 = omega arith in (small, tt)
@@ -42,23 +36,18 @@ events_fit attempts seed tasks first second =
     let seconds = seconds_fit attempts 0 tasks (λ t less two. (first t (omega arith), ((second t (omega arith) two, tt), tt))) in
     let commits = mapped_fit attempts start_commit 0 tasks (λ t less. (committer_known attempts t (first t (omega arith)) (second t (omega arith)), tt)) in
     let ends : AreEvents attempts (Do Driver Commit ∷ Do Driver Clean ∷ []) = ((refl, tt), ((refl, tt), tt)) in
-    let told = map start_write (below tasks) ++ mix_by seed ∷ [] in
+    let told = (Do Driver Setup ∷ []) ++ (map start_write (below tasks) ++ mix_by seed ∷ []) in
     let took = flat_map second_writes (filter is_twice (below tasks)) in
     let gave = map start_commit (below tasks) ++ mix_by seed ∷ [] in
-    let begins = both_fit attempts (Do Driver Setup ∷ []) told setup (both_fit attempts (map start_write (below tasks)) (mix_by seed ∷ []) writes (mix_fits attempts seed)) in
-    let middle = both_fit attempts ((Do Driver Setup ∷ []) ++ told) took begins seconds in
-    let most = both_fit attempts (((Do Driver Setup ∷ []) ++ told) ++ took) gave middle (both_fit attempts (map start_commit (below tasks)) (mix_by seed ∷ []) commits (mix_fits attempts seed)) in
-    both_fit attempts ((((Do Driver Setup ∷ []) ++ told) ++ took) ++ gave) (Do Driver Commit ∷ Do Driver Clean ∷ []) most ends
+    let begins = both_fit attempts (Do Driver Setup ∷ []) (map start_write (below tasks) ++ mix_by seed ∷ []) setup (both_fit attempts (map start_write (below tasks)) (mix_by seed ∷ []) writes (mix_fits attempts seed)) in
+    let last = both_fit attempts (map start_commit (below tasks)) (mix_by seed ∷ []) commits (mix_fits attempts seed) in
+    both_fit attempts ((told ++ took) ++ gave) (Do Driver Commit ∷ Do Driver Clean ∷ []) (both_fit attempts (told ++ took) gave (both_fit attempts told took begins seconds) last) ends
 
 -- ---- how many they are
 
 seconds_count : (a n : ℕ) → length (flat_map second_writes (filter is_twice (range_with_len a n))) ≤ 2 * n
 seconds_count a zero = omega arith
-seconds_count a (suc n) = by (is_twice a) refl (seconds_count (a + 1) n)
-  where
-    by : (b : Bool) → is_twice a ≡ b → length (flat_map second_writes (filter is_twice (range_with_len (a + 1) n))) ≤ 2 * n → length (flat_map second_writes (filter is_twice (range_with_len a (suc n)))) ≤ 2 * suc n
-    by true e rest = rw e (omega (arith, rest))
-    by false e rest = rw e (omega (arith, rest))
+seconds_count a (suc n) = let rest = seconds_count (a + 1) n in elim (true_or_false (is_twice a)) [ inl e ↦ rw e (omega (arith, rest)) | inr e ↦ rw e (omega (arith, rest)) ]
 
 pub events_count : (seed tasks : ℕ) → length (made_events seed tasks) ≤ 4 * tasks + 5
 unfolding made_events
@@ -82,11 +71,5 @@ events_are seed tasks mixed none a b c d e f g all is start one two three four f
     let w = map start_write (below tasks) in
     let k = flat_map second_writes (filter is_twice (below tasks)) in
     let n = map start_commit (below tasks) in
-    let a_is : a ≡ s = one ∙ ap (λ l. l ++ s) start in
-    let b_is : b ≡ s ++ w = two ∙ ap (λ l. l ++ w) a_is in
-    let c_is : c ≡ (s ++ w) ++ m = three ∙ (λ i. b_is i ++ Mix (is i) ∷ []) in
-    let d_is : d ≡ ((s ++ w) ++ m) ++ k = four ∙ ap (λ l. l ++ k) c_is in
-    let e_is : e ≡ (((s ++ w) ++ m) ++ k) ++ n = five ∙ ap (λ l. l ++ n) d_is in
-    let f_is : f ≡ ((((s ++ w) ++ m) ++ k) ++ n) ++ m = six ∙ (λ i. e_is i ++ Mix (is i) ∷ []) in
-    let g_is : g ≡ (((((s ++ w) ++ m) ++ k) ++ n) ++ m) ++ Do Driver Commit ∷ [] = seven ∙ ap (λ l. l ++ Do Driver Commit ∷ []) f_is in
-    eight ∙ ap (λ l. l ++ Do Driver Clean ∷ []) g_is ∙ appended s w m k n (Do Driver Commit ∷ []) (Do Driver Clean ∷ [])
+    let all_is : all ≡ ((((((s ++ w) ++ m) ++ k) ++ n) ++ m) ++ Do Driver Commit ∷ []) ++ Do Driver Clean ∷ [] = cc in
+    all_is ∙ appended s w m k n (Do Driver Commit ∷ []) (Do Driver Clean ∷ [])

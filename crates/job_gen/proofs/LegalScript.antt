@@ -1,19 +1,58 @@
 -- A made script keeps the bounds of a script.
-use Rattle.std.proofs.Common.{◌≡◌, ℕ, ◌≤◌, false, List, length, None, refl, arith}
+use Rattle.std.proofs.Common.{◌≡◌, ℕ, zero, suc, ◌+◌, ◌*◌, ◌%◌, ◌≤◌, true, false, List, [], ◌∷◌, ◌++◌, length, length-append, refl, ap, arith}
+use Rattle.job_spec.proofs.Common.{eqb-true, none_some}
+use Rattle.job_spec.specs.Prelude.{AllByRecursion, File, Declared, files_in, bytes_of, bytes_in, IsLegal, nat_cmp}
+use Rattle.std.proofs.lemmas.Bool.{eqb-false}
+use Rattle.job_gen.specs.Made.{attempt_of, is_twice, attempts_of, part_files, made_attempts, made_dest, made_script}
+use Rattle.job_gen.proofs.Declaring.{attempts_from, one_or_two, attempts_fit, has_first, has_second, known}
 use Rattle.std.specs.Prelude.{codes}
-use Rattle.job_spec.specs.Prelude.{FateMap, Magic, Append, Script, Event, Declared, IsLegal, nat_cmp}
-use Rattle.job_protocol.specs.Prelude.{Path}
 use Rattle.job_model.specs.Prelude.{IsDest, AreFates}
-use Rattle.job_spec.proofs.Common.{none_some}
 use Rattle.std.specs.FinMap as fin
 use Rattle.words.specs.Parts.{parts_from}
-use Rattle.job_gen.specs.Made.{part_files, made_attempts, made_events, made_dest, made_script}
 use Rattle.job_gen.proofs.PartPaths.{text_fits}
 use Rattle.job_gen.proofs.PartFiles.{files_fit, files_bytes}
 use Rattle.job_gen.proofs.PartFiles as made
-use Rattle.job_gen.proofs.Declaring.{attempts_from, attempts_fit, first_known, second_known}
-use Rattle.job_gen.proofs.Sums.{attempts_count, files_count, bytes_count}
 use Rattle.job_gen.proofs.Happening.{events_fit, events_count}
+
+-- ---- how many attempts, files and bytes it has
+
+-- one attempt, or two of every fifth task
+two_or_one : (fs : List File) (a m : ℕ) → 5 * length (attempts_of fs a) + (a + 1) % 5 ≡ 6 + a % 5
+two_or_one fs a m = elim (is_twice a) as (λ b. is_twice a ≡ b → 5 * length (one_or_two b fs a) + (a + 1) % 5 ≡ 6 + a % 5) [
+  | true ↦ λ e. let is : a % 5 ≡ 4 = eqb-true (a % 5) 4 e in omega (arith, is)
+  | false ↦ λ e. let is : a % 5 ≡ 4 → ⊥ = eqb-false (a % 5) 4 e in omega (arith, is)
+] refl
+
+-- six attempts of each five tasks
+attempts_count : (g : ℕ → List File) (a n : ℕ) → 5 * length (attempts_from g a n) + (a + n) % 5 ≡ 6 * n + a % 5
+attempts_count g a zero = let e : a + 0 ≡ a = omega arith in ap (λ x. 0 + x % 5) e
+attempts_count g a (suc n) =
+    let here = two_or_one (g a) a n in
+    let rest = attempts_count g (a + 1) n in
+    let both = length-append (attempts_of (g a) a) (attempts_from g (a + 1) n) in
+    let same : a + suc n ≡ a + 1 + n = omega arith in
+    let left : (a + suc n) % 5 ≡ (a + 1 + n) % 5 = ap (λ x. x % 5) same in
+    omega (arith, here, rest, both, left)
+
+-- at most fifty files an attempt, of at most 4,095 bytes each
+abbrev pub IsFew : Declared → Type 0
+IsFew d = (length d.1 ≤ 50) × (bytes_of d.1 ≤ 204750)
+
+all_few : (g : ℕ → List File) (a n : ℕ) → ((t k : ℕ) → IsFew (attempt_of t k, g t)) → AllByRecursion IsFew (attempts_from g a n)
+all_few g a zero h = tt
+all_few g a (suc n) h = elim (is_twice a) as (λ b. AllByRecursion IsFew (one_or_two b (g a) a ++ attempts_from g (a + 1) n)) [ true ↦ (h a 0, (h a 1, all_few g (a + 1) n h)) | false ↦ (h a 0, all_few g (a + 1) n h) ]
+
+few_sums : (xs : List Declared) → AllByRecursion IsFew xs → (files_in xs ≤ 50 * length xs) × (bytes_in xs ≤ 204750 * length xs)
+few_sums [] h = (omega arith, omega arith)
+few_sums (x ∷ xs) h =
+    let files = h.0.0 in
+    let bytes = h.0.1 in
+    let rest = few_sums xs h.1 in
+    let more = rest.0 in
+    let longer = rest.1 in
+    (omega (arith, files, more), omega (arith, bytes, longer))
+
+-- ---- its bounds
 
 dest_fits : IsDest made_dest
 unfolding parts_from
@@ -28,8 +67,9 @@ made_legal seed tasks files few short =
     let g = part_files seed files in
     let count = attempts_count g 0 tasks in
     let many : length (attempts_from g 0 tasks) ≤ 240 = omega (arith, count) in
-    let some = files_count g 0 tasks (λ t. omega (arith, made.files_count seed files t)) in
-    let long = bytes_count g 0 tasks (λ t. omega (arith, files_bytes seed files t)) in
+    let sums = few_sums (attempts_from g 0 tasks) (all_few g 0 tasks (λ t k. (omega (arith, made.files_count seed files t), omega (arith, files_bytes seed files t)))) in
+    let some = sums.0 in
+    let long = sums.1 in
     record {
       job = refl;
       dest = dest_fits;
@@ -45,13 +85,6 @@ made_legal seed tasks files few short =
       few_attempts = omega (arith, many);
       few_files = omega (arith, some, many);
       few_bytes = omega (arith, long, many);
-      events = events_fit (attempts_from g 0 tasks) seed tasks (λ t less. first_known g 0 tasks t (omega arith) (omega arith)) (λ t less two. second_known g 0 tasks t (omega arith) (omega arith) two);
+      events = events_fit (attempts_from g 0 tasks) seed tasks (λ t less. known g 0 0 tasks t (λ rest. has_first (g t) rest t) (omega arith) (omega arith)) (λ t less two. known g 1 0 tasks t (λ rest. has_second (g t) rest t two) (omega arith) (omega arith));
       few_events = let e = events_count seed tasks in omega (arith, e);
     }
-
--- a script of such parts
-pub script_is : (seed tasks files : ℕ) (job : List ℕ) (dest : Path) (fates : FateMap) (attempts : List Declared) (events : List Event) → job ≡ codes "gen" → dest ≡ made_dest → fates ≡ fin.empty → attempts ≡ made_attempts seed tasks files → events ≡ made_events seed tasks
-    → (let s : Script = record { job = job; dest = dest; committer = Magic; mode = Append; unique = false; tasks = tasks; retries = 3; block = 0; lanes = 1; stamp = None; fates = fates; attempts = attempts; events = events } in s ≡ made_script seed tasks files)
-unfolding made_script
-script_is seed tasks files job dest fates attempts events a b c d e =
-    λ i. record { job = a i; dest = b i; committer = Magic; mode = Append; unique = false; tasks = tasks; retries = 3; block = 0; lanes = 1; stamp = None; fates = c i; attempts = d i; events = e i }

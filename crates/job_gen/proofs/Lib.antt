@@ -1,11 +1,7 @@
 pub mod Ranges
-pub mod Written
-pub mod Faults
 pub mod PartPaths
 pub mod PartFiles
 pub mod Adding
 pub mod Declaring
-pub mod Sums
 pub mod Happening
 pub mod LegalScript
-pub mod Counts

@@ -17,33 +17,21 @@ all_part p t j small few letters dash digit =
     let rest : list_all p (three_digits t ++ (codes "-" ++ two_digits j)) ≡ true = rw (a, b, c, dash, d, e) refl in
     list_all-append p (codes "part-") (three_digits t ++ (codes "-" ++ two_digits j)) ∙ (λ i. letters i && rest i)
 
-small_byte : (b : ℕ) → nat_lt b 128 ≡ true → b < 128
-small_byte b h = below_is b 128 h
-
 all_small : (bs : List ℕ) → list_all (λ b. nat_lt b 128) bs ≡ true → IsAscii bs
 all_small [] h = IsAscii-nil
-all_small (b ∷ bs) h = let p = and_parts (nat_lt b 128) _ h in IsAscii-cons b bs (small_byte b p.0) (all_small bs p.1)
+all_small (b ∷ bs) h = let p = and_parts (nat_lt b 128) _ h in IsAscii-cons b bs (below_is b 128 p.0) (all_small bs p.1)
 
 pub text_fits : (bs : List ℕ) → list_all (λ b. nat_lt b 128) bs ≡ true → is_utf8 bs ≡ true
 text_fits bs h = is_utf8-from_IsUtf8 bs (IsUtf8-from_ascii bs (all_small bs h))
 
-digit_small : (d : ℕ) → d < 10 → nat_lt (48 + d) 128 ≡ true
-digit_small d h = grind (arith, nat_tests)
-
-digit_other : (d : ℕ) → d < 10 → is_other 47 (48 + d) ≡ true
-digit_other d h = grind (arith, nat_tests)
-
-digit_bare : (d : ℕ) → d < 10 → is_bare (48 + d) ≡ true
-digit_bare d h = grind (arith, nat_tests)
-
 -- such a path is one that a script may give
 pub path_given : (t j : ℕ) → t < 1000 → j < 100 → IsGiven (part_path t j)
 path_given t j small few =
-    let alone = one_part 47 (part_path t j) (all_part (is_other 47) t j small few refl refl digit_other) in
+    let alone = one_part 47 (part_path t j) (all_part (is_other 47) t j small few refl refl (λ d h. grind (arith, nat_tests))) in
     record {
       stated = rw alone refl;
       shown = rw alone refl;
-      word = (text_fits (part_path t j) (all_part (λ b. nat_lt b 128) t j small few refl refl digit_small), all_part is_bare t j small few refl refl digit_bare);
+      word = (text_fits (part_path t j) (all_part (λ b. nat_lt b 128) t j small few refl refl (λ d h. grind (arith, nat_tests))), all_part is_bare t j small few refl refl (λ d h. grind (arith, nat_tests)));
     }
 
 -- paths of two files of a task differ

@@ -26,22 +26,22 @@ pub flat_map_next : {X : Type 0} (f : ℕ → List X) (n : ℕ) → flat_map f (
 flat_map_next f n = ap (flat_map f) (below_more n) ∙ flat_map-append f (below n) (n ∷ []) ∙ ap (λ l. flat_map f (below n) ++ l) (append-nil (f n))
 
 -- the same behind other values
-pub mapped_on : {X : Type 0} (f : ℕ → X) (n : ℕ) (front now next : List X) → now ≡ front ++ map f (below n) → next ≡ now ++ f n ∷ [] → next ≡ front ++ map f (below (n + 1))
-mapped_on f n front now next e h = h ∙ ap (λ l. l ++ f n ∷ []) e ∙ append_assoc front (map f (below n)) (f n ∷ []) ∙ ap (λ l. front ++ l) (sym (map_more f n))
+behind : {X : Type 0} (front x y z now next : List X) → z ≡ x ++ y → now ≡ front ++ x → next ≡ now ++ y → next ≡ front ++ z
+behind front x y z now next k e h = h ∙ ap (λ l. l ++ y) e ∙ append_assoc front x y ∙ ap (λ l. front ++ l) (sym k)
 
-pub flat_mapped_on : {X : Type 0} (f : ℕ → List X) (n : ℕ) (front now next : List X) → now ≡ front ++ flat_map f (below n) → next ≡ now ++ f n → next ≡ front ++ flat_map f (below (n + 1))
-flat_mapped_on f n front now next e h = h ∙ ap (λ l. l ++ f n) e ∙ append_assoc front (flat_map f (below n)) (f n) ∙ ap (λ l. front ++ l) (sym (flat_map_next f n))
+pub mapped_on : {X : Type 0} (f : ℕ → X) (n : ℕ) (front now next : List X) → now ≡ front ++ map f (below n) → next ≡ now ++ f n ∷ [] → next ≡ front ++ map f (below (n + 1))
+mapped_on f n front now next = behind front (map f (below n)) (f n ∷ []) (map f (below (n + 1))) now next (map_more f n)
 
 filter_next : (p : ℕ → Bool) (n : ℕ) → filter p (below (n + 1)) ≡ filter p (below n) ++ filter p (n ∷ [])
 filter_next p n = ap (filter p) (below_more n) ∙ filter-append p (below n) (n ∷ [])
 
 -- the same of the numbers that pass a test
 pub taken_on : {X : Type 0} (p : ℕ → Bool) (f : ℕ → List X) (n : ℕ) (front now next : List X) → p n ≡ true → now ≡ front ++ flat_map f (filter p (below n)) → next ≡ now ++ f n → next ≡ front ++ flat_map f (filter p (below (n + 1)))
-taken_on p f n front now next pass e h =
+taken_on p f n front now next pass =
     let one : filter p (n ∷ []) ≡ n ∷ [] = rw pass refl in
     let more : filter p (below (n + 1)) ≡ filter p (below n) ++ n ∷ [] = filter_next p n ∙ ap (λ l. filter p (below n) ++ l) one in
-    let all : flat_map f (filter p (below (n + 1))) ≡ flat_map f (filter p (below n)) ++ f n = ap (flat_map f) more ∙ flat_map-append f (filter p (below n)) (n ∷ []) ∙ ap (λ l. flat_map f (filter p (below n)) ++ l) (append-nil (f n)) in
-    h ∙ ap (λ l. l ++ f n) e ∙ append_assoc front (flat_map f (filter p (below n))) (f n) ∙ ap (λ l. front ++ l) (sym all)
+    behind front (flat_map f (filter p (below n))) (f n) (flat_map f (filter p (below (n + 1)))) now next
+    (ap (flat_map f) more ∙ flat_map-append f (filter p (below n)) (n ∷ []) ∙ ap (λ l. flat_map f (filter p (below n)) ++ l) (append-nil (f n)))
 
 pub left_out : {X : Type 0} (p : ℕ → Bool) (f : ℕ → List X) (n : ℕ) (front now : List X) → p n ≡ false → now ≡ front ++ flat_map f (filter p (below n)) → now ≡ front ++ flat_map f (filter p (below (n + 1)))
 left_out p f n front now fails e =

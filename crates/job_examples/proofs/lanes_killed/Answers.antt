@@ -1,5 +1,5 @@
-use Rattle.job_examples.proofs.Killed as killed
+use Rattle.job_examples.proofs.FourFileRuns as runs
 use Rattle.job_examples.proofs.lanes_killed.Goals as goal
 
 pub returns : goal.returns
-returns c = killed.lanes_killed
+returns c = runs.lanes_killed

@@ -1,5 +1,5 @@
-use Rattle.job_examples.proofs.Lost as lost
+use Rattle.job_examples.proofs.FourFileRuns as runs
 use Rattle.job_examples.proofs.lanes_lost.Goals as goal
 
 pub returns : goal.returns
-returns c = lost.lanes_lost
+returns c = runs.lanes_lost

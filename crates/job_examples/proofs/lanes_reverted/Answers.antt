@@ -1,5 +1,5 @@
-use Rattle.job_examples.proofs.Reverted as reverted
+use Rattle.job_examples.proofs.FourFileRuns as runs
 use Rattle.job_examples.proofs.lanes_reverted.Goals as goal
 
 pub returns : goal.returns
-returns c = reverted.lanes_reverted
+returns c = runs.lanes_reverted

@@ -1,5 +1,5 @@
-use Rattle.job_examples.proofs.LostMarks as marks
+use Rattle.job_examples.proofs.TaskRuns as runs
 use Rattle.job_examples.proofs.lost_mark.Goals as goal
 
 pub returns : goal.returns
-returns c = marks.lost_mark
+returns c = runs.lost_mark

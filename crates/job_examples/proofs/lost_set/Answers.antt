@@ -1,5 +1,5 @@
-use Rattle.job_examples.proofs.LostSets as sets
+use Rattle.job_examples.proofs.TaskRuns as runs
 use Rattle.job_examples.proofs.lost_set.Goals as goal
 
 pub returns : goal.returns
-returns c = sets.lost_set
+returns c = runs.lost_set

@@ -1,5 +1,5 @@
-use Rattle.job_examples.proofs.Aborted as aborted
+use Rattle.job_examples.proofs.FourFileRuns as runs
 use Rattle.job_examples.proofs.restarted.Goals as goal
 
 pub returns : goal.returns
-returns c = aborted.restarted
+returns c = runs.restarted

@@ -1,5 +1,5 @@
-use Rattle.job_examples.proofs.SharedPaths as paths
+use Rattle.job_examples.proofs.TaskRuns as runs
 use Rattle.job_examples.proofs.shared_path.Goals as goal
 
 pub returns : goal.returns
-returns c = paths.shared_path
+returns c = runs.shared_path

@@ -1,4 +1,4 @@
-use Rattle.job_examples.proofs.TwoAttemptRuns as runs
+use Rattle.job_examples.proofs.TaskRuns as runs
 use Rattle.job_examples.proofs.two_attempts.Goals as goal
 
 pub returns : goal.returns

@@ -1,5 +1,5 @@
-use Rattle.job_examples.proofs.TwoMagicRun as run
+use Rattle.job_examples.proofs.TwinRuns as runs
 use Rattle.job_examples.proofs.two_magic.Goals as goal
 
 pub returns : goal.returns
-returns c = run.two_magic
+returns c = runs.two_magic

@@ -1,8 +1,32 @@
-use Rattle.std.proofs.Common.{◌≡◌, ◌≤◌, Some, sym, ap, subst, ◌∙◌, arith}
-use Rattle.job_spec.specs.Prelude.{lookup, MOST_SCRIPT_BYTES, Who, same_name, Script, IsLegal, bytes_of}
-use Rattle.job_gen.proofs.Counts.{bytes_found, few_bytes}
+use Rattle.std.proofs.Common.{◌≡◌, ℕ, ◌+◌, ◌≤◌, Bool, true, false, cond, List, [], ◌∷◌, length, Option, Some, refl, ap, ◌∙◌, arith, sym, subst}
+use Rattle.job_spec.proofs.Common.{some_is}
+use Rattle.job_spec.specs.Prelude.{lookup, unwrap_or, option_map, MOST_SCRIPT_BYTES, File, Who, Declared, same_name, Script, IsLegal, bytes_of, bytes_in, placed, files}
 use Rattle.job_gen.proofs.counting.pick_bytes.Goals as goal
 use Rattle.job_gen.proofs.counting.pick_bytes.Goals.{In-Some}
+
+-- ---- the bytes of the files that a script gives its attempts
+
+-- files have the same bytes where they go
+as_long : (unique : Bool) (id : List ℕ) (fs : List File) → bytes_of (placed unique id fs) ≡ bytes_of fs
+as_long unique id [] = refl
+as_long unique id ((path, bytes) ∷ fs) = ap (λ n. length bytes + n) (as_long unique id fs)
+
+bytes_found : (w : Script) (a : Who) (fs : List File) → lookup (same_name a) w.attempts ≡ Some fs → bytes_of (files w a) ≡ bytes_of fs
+bytes_found w a fs h = ap (λ (o : Option (List File)). bytes_of (unwrap_or (option_map (placed w.unique w.job) o) [])) h ∙ as_long w.unique w.job fs
+
+among : (p : Who → Bool) (all : List Declared) (fs : List File) → lookup p all ≡ Some fs → bytes_of fs ≤ bytes_in all
+among p [] fs h = absurd cc
+among p (d ∷ all) fs h = elim (p d.0) as (λ b. cond b (Some d.1) (lookup p all) ≡ Some fs → bytes_of fs ≤ bytes_of d.1 + bytes_in all) [
+  | true ↦ λ e. let n : bytes_of d.1 ≡ bytes_of fs = ap bytes_of (some_is e) in omega (arith, n)
+  | false ↦ λ e. let n = among p all fs e in omega (arith, n)
+] h
+
+-- no attempt has more than a script may have
+few_bytes : (w : Script) (a : Who) (fs : List File) → IsLegal w → lookup (same_name a) w.attempts ≡ Some fs → bytes_of fs ≤ MOST_SCRIPT_BYTES
+few_bytes w a fs legal h =
+    let most = legal.few_bytes in
+    let some = among (same_name a) w.attempts fs h in
+    omega (arith, most, some)
 
 found : (c : In-Some) → (let a : Who = record { task = c.args.pick.task; attempt = c.args.pick.attempt } in lookup (same_name a) c.args.script.now.attempts ≡ Some c.in-Some.files.now)
 found c =

@@ -1,9 +1,48 @@
-use Rattle.std.proofs.Common.{◌≡◌, ◌∙◌, refl}
+use Rattle.std.proofs.Common.{◌≡◌, ℕ, ◌+◌, ◌-◌, ◌/◌, ◌%◌, ◌^◌, ◌<◌, ◌≤◌, inl, inr, false, [], ◌∷◌, ◌++◌, refl, ap, ◌∙◌, arith}
+use Rattle.job_spec.specs.Prelude.{decimal}
+use Rattle.job_spec.proofs.Common.{decimal_digit, cases_lt, IfOk-weaker}
+use Rattle.std.specs.Fmt.{padded_integral, format_spec, char_count}
+use Rattle.std.proofs.lemmas.Fmt.{decimal_step}
+use Rattle.job_gen.specs.Made.{two_digits, three_digits, part_path}
 use Rattle.std.specs.Prelude.{string_bytes}
-use Rattle.job_spec.proofs.Common.{IfOk-weaker}
-use Rattle.job_gen.specs.Made.{part_path}
-use Rattle.job_gen.proofs.Written.{three_written, two_written}
 use Rattle.job_gen.proofs.files.made_path.Goals as goal
+
+-- ---- numbers as they are written with zeros before them
+
+two_are : (n : ℕ) → 10 ≤ n → n < 100 → decimal n ≡ two_digits n
+two_are n low high =
+    decimal_step n low (omega arith) ∙ ap (λ l. l ++ (48 + n % 10) ∷ []) (decimal_digit (n / 10) (omega arith))
+
+three_are : (n : ℕ) → 100 ≤ n → n < 1000 → decimal n ≡ three_digits n
+three_are n low high =
+    let first : n / 10 / 10 ≡ n / 100 = omega arith in
+    let second : n / 10 % 10 ≡ n % 100 / 10 = omega arith in
+    let third : n % 10 ≡ n % 100 % 10 = omega arith in
+    decimal_step n (omega arith) (omega arith) ∙ ap (λ l. l ++ (48 + n % 10) ∷ []) (two_are (n / 10) (omega arith) (omega arith)) ∙ rw (first, second, third) refl
+
+two_written : (n : ℕ) → n < 100 → padded_integral (format_spec 32 0 4 2 (2 ^ 64 - 1)) false [] (decimal n) ≡ two_digits n
+unfolding padded_integral char_count
+two_written n small = elim (cases_lt n 10) [
+  | inl one ↦ let high : n / 10 ≡ 0 = omega arith in let low : n % 10 ≡ n = omega arith in rw (decimal_digit n one, high, low) refl
+  | inr two ↦ rw (two_are n two small) refl
+]
+
+three_written : (n : ℕ) → n < 1000 → padded_integral (format_spec 32 0 4 3 (2 ^ 64 - 1)) false [] (decimal n) ≡ three_digits n
+unfolding padded_integral char_count
+three_written n small = elim (cases_lt n 10) [
+  | inl one ↦
+      let first : n / 100 ≡ 0 = omega arith in
+      let second : n % 100 / 10 ≡ 0 = omega arith in
+      let third : n % 100 % 10 ≡ n = omega arith in
+      rw (decimal_digit n one, first, second, third) refl
+  | inr two ↦ elim (cases_lt n 100) [
+    | inl few ↦
+        let first : n / 100 ≡ 0 = omega arith in
+        let same : n % 100 ≡ n = omega arith in
+        rw (two_are n two few, first, same) refl
+    | inr more ↦ rw (three_are n more small) refl
+  ]
+]
 
 pub returns : goal.returns
 returns c =

@@ -1,9 +1,19 @@
-use Rattle.std.proofs.Common.{sym}
+use Rattle.std.proofs.Common.{◌≡◌, Ok, Err, refl, sym}
+use Rattle.std.specs.Prelude.{Result}
+use Rattle.proof_base.specs.Prelude.{Unless}
+use Rattle.job_protocol.specs.Prelude.{Path}
+use Rattle.job_model.specs.Prelude.{PathFault}
+use Rattle.path_keys.specs.Paths.{wanting}
+use Rattle.path_keys.specs.declared.fault.PathFault.TheVariants.{NoMemory}
 use Rattle.path_keys.proofs.Common.{same_ok}
 use Rattle.words.specs.Parts.{parts_from}
 use Rattle.job_gen.specs.Made.{made_dest}
-use Rattle.job_gen.proofs.Faults.{memory_alone}
 use Rattle.job_gen.proofs.script.dest.Goals as goal
+
+-- the faults of a path that is one give want of memory alone
+memory_alone : (x : Path) (e : PathFault) → (e ≡ NoMemory → ⊥) → Unless (wanting e) (let read : Result Path PathFault = Ok x in read ≡ Err e) → ⊥
+memory_alone x NoMemory n h = n refl
+memory_alone x _ n h = cc
 
 pub unreachable-requires : goal.unreachable-requires
 unfolding parts_from
