@@ -1,13 +1,12 @@
 -- What is carried along a run of a job: what each actor knew as it last sent, who commits the job, and how many events there were.
-use Rattle.std.proofs.Common.{◌≡◌, ℕ, ◌<◌, inl, inr, true, false, List, [], ◌∷◌, ◌++◌, length, Option, Some, None, refl, sym, ap, ◌∙◌}
-use Rattle.job_spec.proofs.Common.{some_is, none_some}
-use Rattle.job_steps.specs.Prelude.{Content, Actor, Driver, Attempt, Shell, Outcome, Request, Entry, Who, Known, Script, Op, Event, Do, Start, learn, knows, Setting, Operation, Running, TheSetup, who, tells, learn_of, advance, start_of, put, Reports, reports, TheCheck, step, by_actor, Play, Refuses, Opens, Sends, Finishes, Closes, Strays, begun, open_running, hear, happen, MayOpen, MaySend, Reachable, nothing_happened, happens, nothing_played, knows_now}
+use Rattle.std.proofs.Common.{◌≡◌, ◌<◌, inl, inr, true, false, List, [], ◌∷◌, ◌++◌, length, Option, Some, None, refl, sym, ap, subst, ◌∙◌}
+use Rattle.job_spec.proofs.Common.{some_is, none_some, slice_get_within}
+use Rattle.job_steps.specs.Prelude.{Content, Actor, Driver, Attempt, Shell, Outcome, Request, Entry, Who, Known, Script, Op, Event, Do, Start, learn, knows, Setting, Operation, Running, TheSetup, who, tells, learn_of, advance, start_of, put, Reports, TheCheck, step, by_actor, Play, Opens, Sends, Finishes, Strays, begun, begin_running, open_running, hear, happen, MayOpen, MaySend, Reachable, nothing_happened, happens, nothing_played, knows_now}
 use Rattle.job_facts.specs.Prelude.{knows_from}
 use Rattle.job_model.specs.declared.events.Op.TheVariants as ops
 use Rattle.job_steps.proofs.Actors.{same_true, same_or_not, put_here, put_other, same_false}
 use Rattle.job_steps.proofs.Parts.{by_itself, by_another, by_own}
 use Rattle.job_actor.specs.Picks.{is_job_commit, is_committing}
-use Rattle.job_side.proofs.Places.{within}
 use Rattle.job_protocol.specs.Rechecks.{check_after}
 use Rattle.job_protocol.proofs.Begun.{after_check_so}
 
@@ -21,12 +20,19 @@ pub record Carried (g : Setting) (x : Play) : Type 0 where
   -- an event goes on that has no end yet
   pub few : (ev : Event) → x.now ≡ Some ev → length x.ends < length g.script.events
 
+-- what holds of a value that is put, and of the others, holds of all
+pub put_all : {X : Type 0} (P : Actor → X → Type 0) (f : Actor → X) (a : Actor) (v : X) → P a v → ((q : Actor) → (q ≡ a → ⊥) → P q (f q)) → (q : Actor) → P q (put f a v q)
+put_all P f a v here others q = elim (same_or_not q a) [
+  | inl e ↦ subst (P q) (sym (put_here f a v q e)) (subst (λ b. P b v) (sym e) here)
+  | inr ne ↦ subst (P q) (sym (put_other f a v q ne)) (others q ne)
+]
+
 knows_more : (w : Script) (a : Who) (k : Known) (es : List Entry) (e : Entry) → knows_from w a k (es ++ e ∷ []) ≡ learn w a (knows_from w a k es) e.request e.outcome
 knows_more w a k [] e = refl
 knows_more w a k (x ∷ es) e = knows_more w a (learn w a k x.request x.outcome) es e
 
 -- what an actor goes on with is the job's commit where it was before
-pub commit_stays : (g : Setting) (a : Who) (op : Operation) (o : Outcome) → is_job_commit (tells g a op o) ≡ is_job_commit op
+commit_stays : (g : Setting) (a : Who) (op : Operation) (o : Outcome) → is_job_commit (tells g a op o) ≡ is_job_commit op
 commit_stays g a (TheCheck t) o = after_check_so g (λ op. is_job_commit op ≡ true) refl (λ u. refl) (step g.script.retries (check_after g.script) t o)
 commit_stays g a (TheSetup t) o = refl
 commit_stays g a _ o = refl
@@ -34,11 +40,7 @@ commit_stays g a _ o = refl
 none_commits : (g : Setting) (a : Actor) (op : Op) (r : Reports) (k : Known) → (a ≡ Driver → ⊥) → is_committing (begun (start_of g a op r k) k) ≡ false
 none_commits g Driver op r k ne = absurd (ne refl)
 none_commits g (Attempt t n) ops.Setup r k ne = refl
-none_commits g (Attempt t n) ops.Write r k ne = refl
-none_commits g (Attempt t n) ops.Commit r k ne = refl
-none_commits g (Attempt t n) ops.Abort r k ne = refl
-none_commits g (Attempt t n) ops.Clean r k ne = refl
-none_commits g Shell op r k ne = refl
+none_commits g _ _ r k ne = refl
 
 begun_known : (op : Option Operation) (k : Known) (m : Running) → begun op k ≡ Some m → m.known ≡ k
 begun_known None k m e = absurd (none_some refl e)
@@ -55,53 +57,31 @@ module _ (g : Setting) (opening : Content) where
 
   -- ---- an event begins
 
-  begins_known : (x : Play) → Carried g x → (a : Actor) (op : Op) (q : Actor) (m : Running) → put x.running a (begun (start_of g a op (reports g.script x.past.reported) (knows_now g x a)) (knows_now g x a)) q ≡ Some m → m.known ≡ knows_now g x q
-  begins_known x c a op q m e =
-      let v = begun (start_of g a op (reports g.script x.past.reported) (knows_now g x a)) (knows_now g x a) in
-      elim (same_or_not q a) [
-        | inl is ↦ begun_known (start_of g a op (reports g.script x.past.reported) (knows_now g x a)) (knows_now g x a) m (sym (put_here x.running a v q is) ∙ e) ∙ ap (knows_now g x) (sym is)
-        | inr ne ↦ c.known q m (sym (put_other x.running a v q ne) ∙ e)
-      ]
+  begins_known : (x : Play) → Carried g x → (a : Actor) (op : Op) (q : Actor) (m : Running) → begin_running g x a op q ≡ Some m → m.known ≡ knows_now g x q
+  begins_known x c a op = put_all (λ q o. (m : Running) → o ≡ Some m → m.known ≡ knows_now g x q) x.running a _ (begun_known _ _) (λ q ne. c.known q)
 
-  begins_whose : (x : Play) → Carried g x → (a : Actor) (op : Op) (q : Actor) → (q ≡ Driver → ⊥) → is_committing (put x.running a (begun (start_of g a op (reports g.script x.past.reported) (knows_now g x a)) (knows_now g x a)) q) ≡ false
-  begins_whose x c a op q ne =
-      let k = knows_now g x a in
-      let v = begun (start_of g a op (reports g.script x.past.reported) k) k in
-      elim (same_or_not q a) [
-        | inl is ↦ ap is_committing (put_here x.running a v q is) ∙ none_commits g a op (reports g.script x.past.reported) k (λ d. ne (is ∙ d))
-        | inr other ↦ ap is_committing (put_other x.running a v q other) ∙ c.whose q ne
-      ]
+  begins_whose : (x : Play) → Carried g x → (a : Actor) (op : Op) (q : Actor) → (q ≡ Driver → ⊥) → is_committing (begin_running g x a op q) ≡ false
+  begins_whose x c a op = put_all (λ q o. (q ≡ Driver → ⊥) → is_committing o ≡ false) x.running a _ (none_commits g a op _ _) (λ q ne. c.whose q)
 
-  open_known : (x : Play) → Carried g x → (ev : Event) (q : Actor) (m : Running) → open_running g x ev q ≡ Some m → m.known ≡ knows_now g x q
-  open_known x c (Do a op) q m e = begins_known x c a op q m e
-  open_known x c (Start a op) q m e = begins_known x c a op q m e
-  open_known x c _ q m e = c.known q m e
-
-  open_whose : (x : Play) → Carried g x → (ev : Event) (q : Actor) → (q ≡ Driver → ⊥) → is_committing (open_running g x ev q) ≡ false
-  open_whose x c (Do a op) q ne = begins_whose x c a op q ne
-  open_whose x c (Start a op) q ne = begins_whose x c a op q ne
-  open_whose x c _ q ne = c.whose q ne
-
-  begin_nobody : (x : Play) → Carried g x → (a : Actor) (op : Op) → put x.running a (begun (start_of g a op (reports g.script x.past.reported) (knows_now g x a)) (knows_now g x a)) Shell ≡ None
+  begin_nobody : (x : Play) → Carried g x → (a : Actor) (op : Op) → begin_running g x a op Shell ≡ None
   begin_nobody x c Shell op = refl
   begin_nobody x c _ op = c.nobody
 
-  open_nobody : (x : Play) → Carried g x → (ev : Event) → open_running g x ev Shell ≡ None
-  open_nobody x c (Do a op) = begin_nobody x c a op
-  open_nobody x c (Start a op) = begin_nobody x c a op
-  open_nobody x c _ = c.nobody
+  opened_as : (x : Play) (P : (Actor → Option Running) → Type 0) → ((a : Actor) (op : Op) → P (begin_running g x a op)) → P x.running → (ev : Event) → P (open_running g x ev)
+  opened_as x P begins old (Do a op) = begins a op
+  opened_as x P begins old (Start a op) = begins a op
+  opened_as x P begins old _ = old
 
   sent_nobody : (r : Actor → Option Running) → r Shell ≡ None → (a : Actor) (e : Entry) → put r a (hear g a (r a) e) Shell ≡ None
   sent_nobody r none Shell e = ap (λ m. hear g Shell m e) none
   sent_nobody r none _ e = none
 
   opens : (x : Play) (ev : Event) → MayOpen g x ev None → Carried g x → Carried g (happen g x (Opens ev))
-  opens x ev may c = record {
-    known = open_known x c ev;
-    nobody = open_nobody x c ev;
-    whose = open_whose x c ev;
-    few = λ v e. within g.script.events (length x.ends) ev may.next;
-  }
+  opens x ev may c =
+      let K : (Actor → Option Running) → Type 0 =
+      λ r. ((a : Actor) (m : Running) → r a ≡ Some m → m.known ≡ knows_now g x a) × (r Shell ≡ None) × ((a : Actor) → (a ≡ Driver → ⊥) → is_committing (r a) ≡ false) in
+      let k = opened_as x K (λ a op. (begins_known x c a op, begin_nobody x c a op, begins_whose x c a op)) (c.known, c.nobody, c.whose) ev in
+      record { known = k.0; nobody = k.1; whose = k.2; few = λ v e. slice_get_within g.script.events (length x.ends) ev may.next }
 
   -- ---- an actor sends
 
@@ -118,19 +98,20 @@ module _ (g : Setting) (opening : Content) where
   pub others_know : (x : Play) (e : Entry) (q : Actor) → (q ≡ e.actor → ⊥) → knows_now g (happen g x (Sends e)) q ≡ knows_now g x q
   others_know x e q ne = ap (knows g.script (who q)) (by_another q x.journal e (same_false e.actor q (λ s. ne (sym s))))
 
+  -- each actor goes on with the job's commit where it was at that
+  pub commits_on : (x : Play) (e : Entry) → MaySend g opening x e → (q : Actor) → is_committing ((happen g x (Sends e)).running q) ≡ is_committing (x.running q)
+  commits_on x e may =
+      put_all (λ q o. is_committing o ≡ is_committing (x.running q)) x.running e.actor _
+      (ap is_committing (heard x e may) ∙ commit_stays g (who e.actor) may.at.operation e.outcome ∙ sym (ap is_committing may.is_at)) (λ q ne. refl)
+
   sends : (x : Play) (e : Entry) → MaySend g opening x e → Carried g x → Carried g (happen g x (Sends e))
   sends x e may c =
-      let v = hear g e.actor (x.running e.actor) e in
       record {
-        known = λ q m h. elim (same_or_not q e.actor) [
-          | inl is ↦ ap (λ (r : Running). r.known) (some_is (sym h ∙ put_here x.running e.actor v q is ∙ heard x e may)) ∙ own_known x e may c ∙ ap (knows_now g (happen g x (Sends e))) (sym is)
-          | inr ne ↦ c.known q m (sym (put_other x.running e.actor v q ne) ∙ h) ∙ sym (others_know x e q ne)
-        ];
+        known =
+            put_all (λ q o. (m : Running) → o ≡ Some m → m.known ≡ knows_now g (happen g x (Sends e)) q) x.running e.actor _
+            (λ m h. ap (λ (r : Running). r.known) (some_is (sym h ∙ heard x e may)) ∙ own_known x e may c) (λ q ne m h. c.known q m h ∙ sym (others_know x e q ne));
         nobody = sent_nobody x.running c.nobody e.actor e;
-        whose = λ q ne. elim (same_or_not q e.actor) [
-          | inl is ↦ ap is_committing (put_here x.running e.actor v q is ∙ heard x e may) ∙ commit_stays g (who e.actor) may.at.operation e.outcome ∙ sym (ap is_committing may.is_at) ∙ ap (λ b. is_committing (x.running b)) (sym is) ∙ c.whose q ne
-          | inr other ↦ ap is_committing (put_other x.running e.actor v q other) ∙ c.whose q ne
-        ];
+        whose = λ q ne. commits_on x e may q ∙ c.whose q ne;
         few = c.few;
       }
 
@@ -148,9 +129,8 @@ module _ (g : Setting) (opening : Content) where
 
   pub carried : (x : Play) → Reachable g opening x → Carried g x
   carried x (nothing_happened) = first
-  carried x (happens y (Refuses f) past may) = let c = carried y past in record { known = c.known; nobody = c.nobody; whose = c.whose; few = λ ev e. absurd (none_some refl e) }
   carried x (happens y (Opens ev) past may) = opens y ev may (carried y past)
   carried x (happens y (Sends e) past may) = sends y e may (carried y past)
   carried x (happens y (Finishes z) past may) = let c = carried y past in record { known = c.known; nobody = c.nobody; whose = c.whose; few = c.few }
-  carried x (happens y (Closes end) past may) = let c = carried y past in record { known = c.known; nobody = c.nobody; whose = c.whose; few = λ ev e. absurd (none_some refl e) }
   carried x (happens y (Strays r o) past may) = strayed y r o (carried y past)
+  carried x (happens y _ past may) = let c = carried y past in record { known = c.known; nobody = c.nobody; whose = c.whose; few = λ ev e. absurd (none_some refl e) }

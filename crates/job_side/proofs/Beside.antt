@@ -1,25 +1,23 @@
 -- Another's event leaves what a side keeps between its own.
-use Rattle.std.proofs.Common.{◌≡◌, ℕ, suc, ◌+◌, inl, inr, cond, false, true, Bool, List, [], ◌∷◌, ◌++◌, map, length, slice_get, append-nil, append_assoc, Option, Some, None, refl, sym, ap, subst, ◌∙◌, arith}
-use Rattle.std.specs.Prelude.{IsSome, is_some}
-use Rattle.job_spec.proofs.Common.{map-append, false_true}
-use Rattle.job_steps.specs.Prelude.{Content, Scene, effect, after_all, Request, Actor, Driver, Shell, Outcome, Entry, Who, actor_of, Known, Drawn, Pick, EventEnd, knows, Setting, Running, who, ArePicked, all_picks, Past, actors, is_own, by_actor, strange_entry, Play, Strays, Reachable, happens, happen, scene_of, knows_now, Ahead}
+use Rattle.std.proofs.Common.{◌≡◌, ℕ, suc, ◌+◌, inl, inr, cond, false, true, Bool, List, [], ◌∷◌, ◌++◌, map, length, append-nil, append_assoc, Option, Some, None, refl, sym, ap, subst, ◌∙◌, arith}
+use Rattle.job_spec.proofs.Common.{map-append}
+use Rattle.job_steps.specs.Prelude.{Content, Scene, effect, after_all, Request, Actor, Shell, Outcome, Entry, Who, actor_of, Known, Drawn, Pick, EventEnd, knows, Setting, Running, who, ArePicked, all_picks, is_own, by_actor, strange_entry, Play, Strays, Reachable, happens, happen, scene_of, knows_now, Ahead}
 use Rattle.job_spec.specs.Prelude.{in_eyes}
-use Rattle.s3_types.specs.Store.{opening as scene_at_first}
 use Rattle.job_spec.specs.Eyes.{number_in, entry_in}
-use Rattle.job_steps.proofs.Parts.{by_own, take_whole}
+use Rattle.job_steps.proofs.Parts.{by_own}
 use Rattle.job_states.specs.Stands.{Stands}
 use Rattle.job_actor.specs.Plans.{IsPlanOf}
 use Rattle.job_actor.specs.Picks.{ArePicksOf, HasPicked}
-use Rattle.job_side.specs.Holds.{Holds, HandIs, HandsAre, PutBy, Quiet, all_sound, is_mine, seen_by, setting_of}
+use Rattle.job_side.specs.Holds.{IsTurn, HandsAre, HandIs, PutBy, Quiet, all_sound, is_mine, setting_of}
 use Rattle.job_side.specs.Events.{knows_of}
-use Rattle.job_side.specs.Beside.{AreForeign, IsBeside, RestsBeside}
+use Rattle.job_side.specs.Beside.{AreForeign, RestsBeside}
 use Rattle.job_side.specs.declared.hands.Hand.{Hand}
 use Rattle.job_side.specs.declared.hands.Hand.TheVariants.{Plan, At, Empty}
-use Rattle.job_side.specs.declared.body.Body.{Body}
 use Rattle.job_side.specs.declared.body.Side.{Side}
 use Rattle.job_side.proofs.Places.{own_at}
+use Rattle.job_side.proofs.Moments.{never}
 use Rattle.job_actor.proofs.Staying.{picks_stay}
-use Rattle.job_side.proofs.Sends.{after_more}
+use Rattle.job_side.proofs.Sends.{scene_on}
 
 -- ---- in a side's eyes
 
@@ -44,10 +42,7 @@ module _ (g : Setting) (opening : Content) (x : Play) (r : Request) (o : Outcome
   drawn_kept = λ i a. (knows_kept (actor_of a) refl i).drawn
 
   scene_kept : scene_of opening (happen g x (Strays r o)) ≡ effect (scene_of opening x) r o
-  scene_kept =
-      ap (after_all (scene_at_first opening)) (take_whole (x.journal ++ strange_entry (length x.ends) r o ∷ []))
-      ∙ after_more (scene_at_first opening) x.journal (strange_entry (length x.ends) r o)
-      ∙ ap (λ es. effect (after_all (scene_at_first opening) es) r o) (sym (take_whole x.journal))
+  scene_kept = scene_on opening x.journal (strange_entry (length x.ends) r o)
 
   ahead_kept : (xs : List EventEnd) → Ahead (happen g x (Strays r o)) xs → Ahead x xs
   ahead_kept xs a = record { rest = a.rest; is = a.is; going = a.going }
@@ -105,40 +100,23 @@ module _ (g : Setting) (opening : Content) where
     live : y.live ≡ x.live
     finished : y.finished ≡ x.finished
 
-  left_all : (es : List Entry) (x : Play) → IsLeft x (strayed x es)
-  left_all [] x = record { ends = refl; now = refl; live = refl; finished = refl }
-  left_all (e ∷ es) x = let l = left_all es (happen g x (Strays e.request e.outcome)) in record { ends = l.ends; now = l.now; live = l.live; finished = l.finished }
-
-  put_by_all : (es : List Entry) (x : Play) (ps : List Pick) → PutBy g opening x ps → PutBy g opening (strayed x es) ps
-  put_by_all [] x ps h = h
-  put_by_all (e ∷ es) x ps h = put_by_all es (happen g x (Strays e.request e.outcome)) ps (put_by_kept g opening x e.request e.outcome ps h)
-
-  hand_all : {W : Type 0} (is_of : Setting → Actor → W → Type 0) (running : Known → W → Running) (picks_of : W → Option (List Pick)) (es : List Entry) (x : Play) (a : Actor) → is_own a ≡ true → (h : Hand W)
-      → HandIs is_of running picks_of g opening x a h → HandIs is_of running picks_of g opening (strayed x es) a h
-  hand_all is_of running picks_of [] x a own h i = i
-  hand_all is_of running picks_of (e ∷ es) x a own h i =
-      hand_all is_of running picks_of es (happen g x (Strays e.request e.outcome)) a own h (hand_kept g opening x e.request e.outcome is_of running picks_of a own h i)
+  -- what one such request leaves, all of them leave
+  strayed_keeps : (P : Play → Type 0) → ((x : Play) (r : Request) (o : Outcome) → P x → P (happen g x (Strays r o))) → (es : List Entry) (x : Play) → P x → P (strayed x es)
+  strayed_keeps P one [] x h = h
+  strayed_keeps P one (e ∷ es) x h = strayed_keeps P one es (happen g x (Strays e.request e.outcome)) (one x e.request e.outcome h)
 
 eyes_strange : (mine : ℕ → Bool) (n k : ℕ) → mine n ≡ false → number_in mine n ≡ k → (w : _) (drawn : Who → List Drawn) (s : Scene) (es : List Entry) → AreForeign w drawn n s es → in_eyes mine es ≡ map (strange k) es
 eyes_strange mine n k theirs number w drawn s [] f = refl
 eyes_strange mine n k theirs number w drawn s (e ∷ es) f =
-    let rest = eyes_strange mine n k theirs number w drawn (effect s e.request e.outcome) es f.3 in
-    ap (λ m. record { event = number_in mine m; actor = cond (mine m) e.actor Shell; request = e.request; outcome = e.outcome } ∷ in_eyes mine es) f.0
-    ∙ ap (λ b. record { event = number_in mine n; actor = cond b e.actor Shell; request = e.request; outcome = e.outcome } ∷ in_eyes mine es) theirs
-    ∙ ap (λ m. record { event = m; actor = Shell; request = e.request; outcome = e.outcome } ∷ in_eyes mine es) number
-    ∙ ap (λ l. strange k e ∷ l) rest
+    (λ i. record { event = number_in mine (f.0 i); actor = cond (mine (f.0 i)) e.actor Shell; request = e.request; outcome = e.outcome } ∷ in_eyes mine es)
+    ∙ (λ i. record { event = number i; actor = cond (theirs i) e.actor Shell; request = e.request; outcome = e.outcome } ∷ eyes_strange mine n k theirs number w drawn
+    (effect s e.request e.outcome) es f.3 i)
 
 -- ---- a side
 
 pub rests_beside : {W : Type 0} (wants : W → Option Request) (is_of : Setting → Actor → W → Type 0) (running : Known → W → Running) (picks_of : W → Option (List Pick)) → RestsBeside wants is_of running picks_of
 rests_beside {W = W} wants is_of running picks_of b c q beside = subst (Quiet wants is_of running picks_of) (sym is) quiet
   where
-    h : Holds is_of running picks_of all_sound b
-    h = q.holds
-
-    mine : ℕ → Bool
-    mine = is_mine b.side.others.items
-
     is : c ≡ record { side = b.side; shared = record c.shared { opening = b.shared.opening } }
     is = ap (λ (s : Side W). record { side = s; shared = c.shared }) beside.side ∙ ap (λ (o : Content). record { side = b.side; shared = record c.shared { opening = o } }) beside.opening
 
@@ -154,7 +132,10 @@ rests_beside {W = W} wants is_of running picks_of b c q beside = subst (Quiet wa
         (subst (λ (s : Scene). AreForeign b.side.script (λ a. (knows_of b (actor_of a)).drawn) (b.shared.events + 1) s beside.part) q.holds.scene beside.foreign)
 
     left : IsLeft (setting_of b) b.shared.opening q.holds.play (strayed (setting_of b) b.shared.opening q.holds.play beside.part)
-    left = left_all (setting_of b) b.shared.opening beside.part q.holds.play
+    left =
+        strayed_keeps (setting_of b) b.shared.opening (IsLeft (setting_of b) b.shared.opening q.holds.play)
+        (λ x r o l. record { ends = l.ends; now = l.now; live = l.live; finished = l.finished }) beside.part q.holds.play
+        (record { ends = refl; now = refl; live = refl; finished = refl })
 
     journal : in_eyes (is_mine b.side.others.items) c.shared.journal.entries ≡ (strayed (setting_of b) b.shared.opening q.holds.play beside.part).journal
     journal =
@@ -164,28 +145,21 @@ rests_beside {W = W} wants is_of running picks_of b c q beside = subst (Quiet wa
         ∙ sym (journal_all (setting_of b) b.shared.opening beside.part q.holds.play)
 
     quiet : Quiet wants is_of running picks_of (record { side = b.side; shared = record c.shared { opening = b.shared.opening } })
-    quiet = record {
-      holds = record {
-        legal = q.holds.legal;
-        opens = q.holds.opens;
-        play = strayed (setting_of b) b.shared.opening q.holds.play beside.part;
-        happened = happened_all (setting_of b) b.shared.opening (b.shared.events + 1) beside.part q.holds.play q.holds.happened idle foreign;
-        journal = journal;
-        ends = q.holds.ends ∙ sym left.ends;
-        counts = ap (number_in (is_mine b.side.others.items)) beside.events ∙ same;
-        turn = λ e. absurd (false_true (ap is_some q.idle) e);
-        now = q.holds.now ∙ sym left.now;
-        finished = q.holds.finished ∙ sym left.finished;
-        scene = beside.scene ∙ ap (λ s. after_all s beside.part) q.holds.scene ∙ sym (scene_all (setting_of b) b.shared.opening beside.part q.holds.play);
-        requests = beside.requests;
-        fated = beside.fated;
-        few = beside.few;
-        stands = subst (Stands b.side.script b.side.states) (sym left.live) q.holds.stands;
-        places = q.holds.places;
-        hands = λ p a k s at hand. hand_all (setting_of b) b.shared.opening is_of running picks_of beside.part q.holds.play a (own_at b.side.script p a at) k (q.holds.hands p a k refl at hand);
-        picks = put_by_all (setting_of b) b.shared.opening beside.part q.holds.play b.side.picks q.holds.picks;
-      };
-      none_over = q.none_over;
-      idle = q.idle;
-      none = q.none;
-    }
+    quiet =
+        let happened = happened_all (setting_of b) b.shared.opening (b.shared.events + 1) beside.part q.holds.play q.holds.happened idle foreign in
+        let counts = ap (number_in (is_mine b.side.others.items)) beside.events ∙ same in
+        let turn = never (IsTurn (record { side = b.side; shared = record c.shared { opening = b.shared.opening } })) b.side.event q.idle in
+        let scene = beside.scene ∙ ap (λ s. after_all s beside.part) q.holds.scene ∙ sym (scene_all (setting_of b) b.shared.opening beside.part q.holds.play) in
+        let stands = subst (Stands b.side.script b.side.states) (sym left.live) q.holds.stands in
+        let then = strayed (setting_of b) b.shared.opening q.holds.play beside.part in
+        let hands : HandsAre is_of running picks_of all_sound (setting_of b) b.shared.opening then b.side.hands.items =
+        λ p a k s at hand. strayed_keeps (setting_of b) b.shared.opening (λ x. HandIs is_of running picks_of (setting_of b) b.shared.opening x a k)
+        (λ x r o. hand_kept (setting_of b) b.shared.opening x r o is_of running picks_of a (own_at b.side.script p a at) k) beside.part q.holds.play
+        (q.holds.hands p a k refl at hand) in
+        let picks =
+        strayed_keeps (setting_of b) b.shared.opening (λ x. PutBy (setting_of b) b.shared.opening x b.side.picks)
+        (λ x r o. put_by_kept (setting_of b) b.shared.opening x r o b.side.picks) beside.part q.holds.play q.holds.picks in
+        let ends = q.holds.ends ∙ sym left.ends in
+        let now = q.holds.now ∙ sym left.now in
+        let finished = q.holds.finished ∙ sym left.finished in
+        search (happened, journal, ends, counts, turn, now, finished, scene, beside, stands, hands, picks, q)

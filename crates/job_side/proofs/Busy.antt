@@ -1,7 +1,7 @@
 -- The places of the busy actors of a legal script's run.
 use Rattle.std.proofs.Common.{◌≡◌, ℕ, zero, suc, ◌≤◌, Bool, true, false, cond, List, [], ◌∷◌, map, length, slice_get, Option, Some, refl, sym, ap, ◌∙◌, arith}
 use Rattle.job_steps.specs.Prelude.{filter, Actor, Script, IsLegal, Past, actors, is_busy, busy_actors}
-use Rattle.job_spec.proofs.Common.{some_is, none_some}
+use Rattle.job_spec.proofs.Common.{some_is, none_some, length-map}
 use Rattle.job_states.specs.Stands.{Kept, Stands}
 use Rattle.job_states.specs.Mixes.{IsNotIn, AreApart}
 use Rattle.job_side.specs.Holds.{is_busy_at}
@@ -23,34 +23,23 @@ unfolding Missing
 missing_from a [] h = tt
 missing_from a (x ∷ xs) h = (λ e. h 0 (ap (λ v. Some v) e), missing_from a xs (λ j. h (suc j)))
 
-zero_suc : (j : ℕ) → 0 ≡ suc j → ⊥
-zero_suc j e = absurd (omega arith)
-
-suc_same : (i j : ℕ) → suc i ≡ suc j → i ≡ j
-suc_same i j e = omega arith
-
 distinct_from : (xs : List Actor) → ((i j : ℕ) (a : Actor) → slice_get xs i ≡ Some a → slice_get xs j ≡ Some a → i ≡ j) → Distinct xs
 unfolding Distinct
 distinct_from [] h = tt
-distinct_from (x ∷ xs) h = (missing_from x xs (λ j e. zero_suc j (h 0 (suc j) x refl e)), distinct_from xs (λ i j a e f. suc_same i j (h (suc i) (suc j) a e f)))
+distinct_from (x ∷ xs) h =
+    (missing_from x xs (λ j e. let s = h 0 (suc j) x refl e in absurd (omega (arith, s))), distinct_from xs (λ i j a e f. omega (arith, h (suc i) (suc j) a e f)))
 
 filter_missing : (p : Actor → Bool) (a : Actor) (xs : List Actor) → Missing a xs → Missing a (filter p xs)
 unfolding Missing
 filter_missing p a [] h = tt
-filter_missing p a (x ∷ xs) h = by (p x) (filter_missing p a xs h.1)
-  where
-    by : (b : Bool) → Missing a (filter p xs) → Missing a (cond b (x ∷ filter p xs) (filter p xs))
-    by true r = (h.0, r)
-    by false r = r
+filter_missing p a (x ∷ xs) h =
+    let rest = filter_missing p a xs h.1 in elim (p x) as (λ b. Missing a (cond b (x ∷ filter p xs) (filter p xs))) [ true ↦ (h.0, rest) | false ↦ rest ]
 
 filter_distinct : (p : Actor → Bool) (xs : List Actor) → Distinct xs → Distinct (filter p xs)
 unfolding Distinct
 filter_distinct p [] h = tt
-filter_distinct p (x ∷ xs) h = by (p x) (filter_distinct p xs h.1)
-  where
-    by : (b : Bool) → Distinct (filter p xs) → Distinct (cond b (x ∷ filter p xs) (filter p xs))
-    by true r = (filter_missing p x xs h.0, r)
-    by false r = r
+filter_distinct p (x ∷ xs) h =
+    let rest = filter_distinct p xs h.1 in elim (p x) as (λ b. Distinct (cond b (x ∷ filter p xs) (filter p xs))) [ true ↦ (filter_missing p x xs h.0, rest) | false ↦ rest ]
 
 filter_get : (p : Actor → Bool) (xs : List Actor) (i : ℕ) (a : Actor) → slice_get (filter p xs) i ≡ Some a → p a ≡ true
 filter_get p [] i a e = absurd (none_some refl e)
@@ -63,11 +52,8 @@ filter_get p (x ∷ xs) i a e = by (p x) refl i e (filter_get p xs)
 
 filter_few : (p : Actor → Bool) (xs : List Actor) → length (filter p xs) ≤ length xs
 filter_few p [] = omega arith
-filter_few p (x ∷ xs) = by (p x) (filter_few p xs)
-  where
-    by : (b : Bool) → length (filter p xs) ≤ length xs → length (cond b (x ∷ filter p xs) (filter p xs)) ≤ suc (length xs)
-    by true h = omega arith
-    by false h = omega arith
+filter_few p (x ∷ xs) =
+    let rest = filter_few p xs in elim (p x) as (λ b. length (cond b (x ∷ filter p xs) (filter p xs)) ≤ suc (length xs)) [ true ↦ omega arith | false ↦ omega arith ]
 
 -- ---- places of such a list
 
@@ -91,12 +77,7 @@ module _ (f : ℕ → Option Actor) where
       (not_in p b first ps bs rest h.0, apart_all ps bs rest h.1)
 
   same_length : (ps : List ℕ) (bs : List Actor) → map f ps ≡ map (λ x. Some x) bs → length ps ≡ length bs
-  same_length [] [] e = refl
-  same_length [] (b ∷ bs) e = absurd cc
-  same_length (p ∷ ps) [] e = absurd cc
-  same_length (p ∷ ps) (b ∷ bs) e =
-      let rest : map f ps ≡ map (λ x. Some x) bs = cc in
-      ap (λ (n : ℕ). suc n) (same_length ps bs rest)
+  same_length ps bs e = sym (length-map ps f) ∙ ap length e ∙ length-map bs (λ x. Some x)
 
 -- ---- the busy actors of a run
 
@@ -110,7 +91,4 @@ module _ (w : Script) (legal : IsLegal w) (k : Kept) (p : Past) (stands : Stands
       busy_at w k p stands q named.0 (sym named.2) ∙ filter_get (λ a. is_busy (p.state a).life) (actors w) i named.0 named.1
 
   pub busy_few : length places ≤ length (actors w)
-  busy_few =
-      let n = same_length (slice_get (actors w)) places (busy_actors w p.state) busy in
-      let few = filter_few (λ a. is_busy (p.state a).life) (actors w) in
-      omega arith
+  busy_few = omega (arith, same_length (slice_get (actors w)) places (busy_actors w p.state) busy, filter_few (λ a. is_busy (p.state a).life) (actors w))

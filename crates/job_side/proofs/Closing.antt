@@ -1,14 +1,14 @@
 -- An event of a world has its end: all holds between events again.
-use Rattle.std.proofs.Common.{◌≡◌, ◌+◌, not, true, List, [], ◌∷◌, ◌++◌, length, length-append, Option, Some, None, refl, sym, ap, subst, ◌∙◌}
-use Rattle.std.specs.Prelude.{IsSome, is_some}
-use Rattle.job_spec.proofs.Common.{some_is, false_true}
-use Rattle.job_steps.specs.Prelude.{Request, Actor, Driver, Known, Event, EventEnd, Refused, EventFault, OpEnd, Pick, Busy, Setting, Running, over, Past, is_busy, of_event, Turns, Play, Refuses, Closes, happen, happens, MayClose}
+use Rattle.std.proofs.Common.{◌≡◌, ◌+◌, not, true, List, [], ◌∷◌, ◌++◌, length, length-append, Option, Some, None, Vec, Global, refl, sym, ap, subst, ◌∙◌}
+use Rattle.std.specs.Prelude.{is_some}
+use Rattle.job_spec.proofs.Common.{some_is, not_so}
+use Rattle.proof_base.proofs.Options.{none_is}
+use Rattle.job_steps.specs.Prelude.{Request, Actor, Driver, Known, Event, EventEnd, Refused, EventFault, ActorEnd, OpEnd, Pick, Busy, Setting, Running, over, Past, is_busy, moment, of_event, Turns, Play, Refuses, Closes, Reachable, happen, happens, MayClose}
 use Rattle.job_spec.specs.States.{count}
-use Rattle.job_spec.specs.Eyes.{number_in}
 use Rattle.job_steps.proofs.PastMore.{busy_so}
-use Rattle.job_states.specs.Stands.{Stands}
+use Rattle.job_states.specs.Stands.{Kept, Stands}
 use Rattle.job_side.specs.Sending.{Asks}
-use Rattle.job_side.specs.Holds.{Holds, HandIs, Going, Quiet, IsTurn, is_mine, seen_by, all_sound, setting_of, is_busy_at}
+use Rattle.job_side.specs.Holds.{Holds, HandIs, HandsAre, NoneOver, Going, Quiet, IsTurn, is_mine, seen_by, all_sound, setting_of, is_busy_at}
 use Rattle.job_side.specs.Events.{Next, ByTurns, end_of}
 use Rattle.job_side.specs.Events as events
 use Rattle.job_side.specs.declared.hands.Hand.{Hand}
@@ -17,93 +17,55 @@ use Rattle.job_side.specs.declared.body.Body.{Body}
 use Rattle.job_side.proofs.Kept.{Leaves, hand_kept, put_by_kept, refuse_leaves, close_leaves}
 use Rattle.job_side.proofs.Standings.{place_known, same_actors}
 use Rattle.job_side.proofs.Seen.{next_number}
-use Rattle.job_side.proofs.Moments.{lives_of, past_of, is_idle, live_of, may_open, hand_at, busy_of}
+use Rattle.job_side.proofs.Moments.{never, lives_of, past_of, is_idle, live_of, may_open, hand_at, busy_of}
 
--- one more event was counted, which has its end
-one_more : {W : Type 0} (b c : Body W) (end : EventEnd) → IsTurn b → number_in (is_mine b.side.others.items) b.shared.events ≡ length b.side.ends.items → c.side.ends.items ≡ b.side.ends.items ++ end ∷ []
-    → number_in (is_mine b.side.others.items) (b.shared.events + 1) ≡ length c.side.ends.items
-one_more b c end turn counts ends =
-    next_number (is_mine b.side.others.items) b.shared.events turn.mine ∙ ap (λ n. n + 1) counts ∙ sym (length-append b.side.ends.items (end ∷ [])) ∙ sym (ap length ends)
+-- one more event was counted
+abbrev pub counted : {W : Type 0} → Body W → Vec EventEnd Global → Vec ActorEnd Global → Kept → Option Event → Body W
+counted b ends finished k now =
+    record b { side = record b.side { ends = ends; finished = finished; states = k; event = now }; shared = record b.shared { events = b.shared.events + 1 } }
 
 module _ {W : Type 0} (wants : W → Option Request) (is_of : Setting → Actor → W → Type 0) (running : Known → W → Running) (picks_of : W → Option (List Pick)) where
+  -- one more event was counted, which has its end
+  quiet_ended : (b : Body W) (h : Holds is_of running picks_of all_sound b) → NoneOver wants b → IsTurn b
+      → (end : EventEnd) (ends : Vec EventEnd Global) (finished : Vec ActorEnd Global) (k : Kept) (now : Option Event) (y : Play)
+      → Reachable (setting_of b) b.shared.opening y → ((a : Actor) → Leaves h.play y a) → Stands b.side.script k y.live → y.live ≡ count h.play.live
+      → y.ends ≡ h.play.ends ++ end ∷ [] → y.now ≡ None → y.finished ≡ []
+      → ends.items ≡ b.side.ends.items ++ end ∷ [] → finished.items ≡ [] → now ≡ None
+      → Quiet wants is_of running picks_of (counted b ends finished k now)
+  quiet_ended b h over turn end ends finished k now y happened leaves stands same ends_are now_is none_are items none idle =
+      let c : Body W = counted b ends finished k now in
+      let actors = same_actors b.side.script b.side.states k h.play.live y.live h.stands stands (ap (λ p. p.state) same) (ap (λ p. p.doing) same) (ap (λ p. p.reported) same) in
+      let journal = h.journal ∙ sym (leaves Driver).journal in
+      let scene = h.scene ∙ ap (λ es. moment b.shared.opening es (length es)) (sym (leaves Driver).journal) in
+      let told = items ∙ ap (λ xs. xs ++ end ∷ []) h.ends ∙ sym ends_are in
+      let counts =
+      next_number (is_mine b.side.others.items) b.shared.events turn.mine ∙ ap (λ n. n + 1) h.counts ∙ sym (length-append b.side.ends.items (end ∷ [])) ∙ sym (ap length items) in
+      let hands : HandsAre is_of running picks_of all_sound (setting_of b) b.shared.opening y b.side.hands.items =
+      λ p a v s there hand. hand_kept (setting_of b) b.shared.opening h.play y is_of running picks_of a (leaves a) v (h.hands p a v refl there hand) in
+      let picks = put_by_kept (setting_of b) b.shared.opening h.play y (leaves Driver) b.side.picks h.picks in
+      let over_then : NoneOver wants c = λ p v busy hand. over p v (ap (λ l. is_busy_at l p) (sym actors) ∙ busy) hand in
+      search (happened, journal, told, counts, never (IsTurn c) now idle, idle ∙ sym now_is, none ∙ sym none_are, scene, stands, hands, picks, over_then, none, idle, h)
+
   -- ---- the event is refused
 
-  module _ (b c : Body W) (ev : Event) (fault : EventFault) (q : Quiet wants is_of running picks_of b) (next : Next b ev) (refused : events.Refuses b ev fault) (turn : IsTurn b)
-      (ends : c.side.ends.items ≡ b.side.ends.items ++ Refused fault ∷ []) (stands : (p : Past) → Stands b.side.script b.side.states p → Stands b.side.script c.side.states (count p)) where
-    abbrev refused_body : Body W
-    refused_body = record b { side = record b.side { ends = c.side.ends; states = c.side.states }; shared = record b.shared { events = b.shared.events + 1 } }
-
-    abbrev refused_play : Play
-    refused_play = happen (setting_of b) q.holds.play (Refuses fault)
-
-    refused_none : q.holds.play.now ≡ None
-    refused_none = is_idle is_of running picks_of all_sound b q.holds q.idle
-
-    refused_live : q.holds.play.live ≡ q.holds.play.past
-    refused_live = live_of is_of running picks_of all_sound b q.holds q.idle
-
-    refused_stands : Stands b.side.script c.side.states (count q.holds.play.past)
-    refused_stands = stands q.holds.play.past (subst (Stands b.side.script b.side.states) refused_live q.holds.stands)
-
-    leaves_refused : (a : Actor) → Leaves q.holds.play refused_play a
-    leaves_refused a = refuse_leaves (setting_of b) q.holds.play fault a refused_none refused_live
-
-    refused_holds : Holds is_of running picks_of all_sound refused_body
-    refused_holds = record {
-      legal = q.holds.legal;
-      opens = q.holds.opens;
-      play = refused_play;
-      happened = happens q.holds.play (Refuses fault) q.holds.happened (ev, may_open is_of running picks_of all_sound b q.holds ev (Some fault) q.idle next refused);
-      journal = q.holds.journal;
-      ends = ends ∙ ap (λ xs. xs ++ Refused fault ∷ []) q.holds.ends;
-      counts = one_more b c (Refused fault) turn q.holds.counts ends;
-      turn = λ e. absurd (false_true (ap is_some q.idle) e);
-      now = q.idle;
-      finished = q.none;
-      scene = q.holds.scene;
-      requests = q.holds.requests;
-      fated = q.holds.fated;
-      few = q.holds.few;
-      stands = refused_stands;
-      places = q.holds.places;
-      hands = λ p a k s there hand. hand_kept (setting_of b) b.shared.opening q.holds.play refused_play is_of running picks_of a (leaves_refused a) k (q.holds.hands p a k refl there hand);
-      picks = put_by_kept (setting_of b) b.shared.opening q.holds.play refused_play (leaves_refused Driver) b.side.picks q.holds.picks;
-    }
-
-    refused_actors : c.side.states.actors ≡ b.side.states.actors
-    refused_actors = same_actors b.side.script b.side.states c.side.states q.holds.play.past (count q.holds.play.past) (subst (Stands b.side.script b.side.states) refused_live q.holds.stands) refused_stands refl refl refl
-
-    pub quiet_refused : Quiet wants is_of running picks_of refused_body
-    quiet_refused = record {
-      holds = refused_holds;
-      none_over = λ p k busy hand. q.none_over p k (ap (λ l. is_busy_at l p) (sym refused_actors) ∙ busy) hand;
-      idle = q.idle;
-      none = q.none;
-    }
+  pub quiet_refused : (b c : Body W) (ev : Event) (fault : EventFault) (q : Quiet wants is_of running picks_of b) → Next b ev → events.Refuses b ev fault → IsTurn b
+      → c.side.ends.items ≡ b.side.ends.items ++ Refused fault ∷ [] → ((p : Past) → Stands b.side.script b.side.states p → Stands b.side.script c.side.states (count p))
+      → Quiet wants is_of running picks_of (counted b c.side.ends b.side.finished c.side.states b.side.event)
+  quiet_refused b c ev fault q next refused turn ends stands =
+      let x = q.holds.play in
+      let live = live_of is_of running picks_of all_sound b q.holds q.idle in
+      quiet_ended b q.holds q.none_over turn (Refused fault) c.side.ends b.side.finished c.side.states b.side.event (happen (setting_of b) x (Refuses fault))
+      (happens x (Refuses fault) q.holds.happened (ev, may_open is_of running picks_of all_sound b q.holds ev (Some fault) q.idle next refused))
+      (λ a. refuse_leaves (setting_of b) x fault a (is_idle is_of running picks_of all_sound b q.holds q.idle) live)
+      (stands x.past (subst (Stands b.side.script b.side.states) live q.holds.stands)) (ap count (sym live)) refl refl refl ends q.none q.idle
 
   -- ---- the event is over
 
   module _ (end_of_work : W → Option OpEnd) (asks : (m : W) → is_some (wants m) ≡ not (is_some (end_of_work m))) (ends_as : (k : Known) (m : W) → end_of_work m ≡ over (running k m).operation)
       (b c : Body W) (ev : Event) (q : Going wants is_of running picks_of b) (now : b.side.event ≡ Some ev) (turns : ByTurns b ev)
       (ends : c.side.ends.items ≡ b.side.ends.items ++ end_of ev b.side.finished.items ∷ []) (finished : c.side.finished.items ≡ []) (stands : (p : Past) → Stands b.side.script b.side.states p → Stands b.side.script c.side.states (count p)) where
-    abbrev closed_body : Body W
-    closed_body = record b { side = record b.side { ends = c.side.ends; finished = c.side.finished; states = c.side.states; event = None }; shared = record b.shared { events = b.shared.events + 1 } }
-
-    abbrev end : EventEnd
-    end = end_of ev b.side.finished.items
-
-    abbrev closed_play : Play
-    closed_play = happen (setting_of b) q.holds.play (Closes (end_of ev b.side.finished.items))
-
-    asking_not_over : (m : W) → IsSome (wants m) → end_of_work m ≡ None
-    asking_not_over m h = by (end_of_work m) refl
-      where
-        by : (o : Option OpEnd) → end_of_work m ≡ o → end_of_work m ≡ None
-        by None e = e
-        by (Some v) e = absurd (false_true (asks m ∙ ap (λ o. not (is_some o)) e) h)
-
     goes_at : (a : Actor) (m : Running) (k : Hand W) → HandIs is_of running picks_of (setting_of b) b.shared.opening q.holds.play a k → Asks wants k → q.holds.play.running a ≡ Some m → over m.operation ≡ None
-    goes_at a m (At n) is h at = ap (λ (v : Running). over v.operation) (some_is (sym at ∙ is.1.0)) ∙ sym (ends_as _ n) ∙ asking_not_over n h
+    goes_at a m (At n) is h at = ap (λ (v : Running). over v.operation) (some_is (sym at ∙ is.1.0)) ∙ sym (ends_as _ n) ∙ none_is (end_of_work n) (not_so _ (sym (asks n) ∙ h))
     goes_at a m _ is h at = absurd h
 
     -- who is busy has more to send
@@ -117,51 +79,14 @@ module _ {W : Type 0} (wants : W → Option Request) (is_of : Setting → Actor 
     closes : MayClose (setting_of b) q.holds.play (end_of ev b.side.finished.items)
     closes =
         let T : List EventEnd → Past → Type 0 = λ xs p. Turns b.side.script p.state ev (end_of ev b.side.finished.items) (of_event (length xs + 1) (seen_by b)) in
-        record {
-          event = ev;
-          during = sym q.holds.now ∙ now;
-          told_is = turns.told ∙ q.holds.finished;
-          turns =
-              subst (λ es. Turns b.side.script q.holds.play.past.state ev (end_of ev b.side.finished.items) (of_event (length q.holds.play.ends + 1) es)) q.holds.journal
-              (subst (λ xs. T xs q.holds.play.past) q.holds.ends (subst (T b.side.ends.items) (sym (past_of is_of running picks_of all_sound b q.holds)) turns.turns));
-          going = going_all;
-        }
+        let by_turns =
+        subst (λ es. Turns b.side.script q.holds.play.past.state ev (end_of ev b.side.finished.items) (of_event (length q.holds.play.ends + 1) es)) q.holds.journal
+        (subst (λ xs. T xs q.holds.play.past) q.holds.ends (subst (T b.side.ends.items) (sym (past_of is_of running picks_of all_sound b q.holds)) turns.turns)) in
+        search (sym q.holds.now ∙ now, turns.told ∙ q.holds.finished, by_turns, going_all)
 
-    leaves_closed : (a : Actor) → Leaves q.holds.play closed_play a
-    leaves_closed a = close_leaves (setting_of b) q.holds.play (end_of ev b.side.finished.items) a closes
-
-    closed_stands : Stands b.side.script c.side.states (count q.holds.play.live)
-    closed_stands = stands q.holds.play.live q.holds.stands
-
-    closed_holds : Holds is_of running picks_of all_sound closed_body
-    closed_holds = record {
-      legal = q.holds.legal;
-      opens = q.holds.opens;
-      play = closed_play;
-      happened = happens q.holds.play (Closes (end_of ev b.side.finished.items)) q.holds.happened closes;
-      journal = q.holds.journal;
-      ends = ends ∙ ap (λ xs. xs ++ end_of ev b.side.finished.items ∷ []) q.holds.ends;
-      counts = one_more b c (end_of ev b.side.finished.items) (q.holds.turn q.during) q.holds.counts ends;
-      turn = λ e. absurd (false_true refl e);
-      now = refl;
-      finished = finished;
-      scene = q.holds.scene;
-      requests = q.holds.requests;
-      fated = q.holds.fated;
-      few = q.holds.few;
-      stands = closed_stands;
-      places = q.holds.places;
-      hands = λ p a k s there hand. hand_kept (setting_of b) b.shared.opening q.holds.play closed_play is_of running picks_of a (leaves_closed a) k (q.holds.hands p a k refl there hand);
-      picks = put_by_kept (setting_of b) b.shared.opening q.holds.play closed_play (leaves_closed Driver) b.side.picks q.holds.picks;
-    }
-
-    closed_actors : c.side.states.actors ≡ b.side.states.actors
-    closed_actors = same_actors b.side.script b.side.states c.side.states q.holds.play.live (count q.holds.play.live) q.holds.stands closed_stands refl refl refl
-
-    pub quiet_closed : Quiet wants is_of running picks_of closed_body
-    quiet_closed = record {
-      holds = closed_holds;
-      none_over = λ p k busy hand. q.none_over p k (ap (λ l. is_busy_at l p) (sym closed_actors) ∙ busy) hand;
-      idle = refl;
-      none = finished;
-    }
+    pub quiet_closed : Quiet wants is_of running picks_of (counted b c.side.ends c.side.finished c.side.states None)
+    quiet_closed =
+        let end = end_of ev b.side.finished.items in
+        quiet_ended b q.holds q.none_over (q.holds.turn q.during) end c.side.ends c.side.finished c.side.states None (happen (setting_of b) q.holds.play (Closes end))
+        (happens q.holds.play (Closes end) q.holds.happened closes)
+        (λ a. close_leaves (setting_of b) q.holds.play end a closes) (stands q.holds.play.live q.holds.stands) refl refl refl refl ends finished refl

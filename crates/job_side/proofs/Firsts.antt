@@ -1,20 +1,21 @@
 -- A job of which nothing has happened.
 use Rattle.std.proofs.Common.{◌≡◌, ℕ, zero, suc, ◌+◌, ◌<◌, ◌≤◌, ◌^◌, inl, inr, false, List, [], ◌∷◌, ◌++◌, map, take, length, slice_get, Option, Some, None, refl, sym, ap, subst, ◌∙◌, arith}
-use Rattle.std.specs.Prelude.{option_map, is_some}
-use Rattle.job_spec.proofs.Common.{cases_lt, map-append, take_all, some_is, none_some, false_true}
-use Rattle.job_steps.specs.Prelude.{Content, BucketContent, fate_at, AreForetold, Request, Entry, Actor, Driver, Declared, actor_of, Task, Known, nothing_known, Script, IsLegal, Pick, EventEnd, Setting, Running, task_of, all_picks, actors, nothing_past, IsOpening, nothing_played, nothing_happened}
+use Rattle.job_spec.proofs.Common.{length-map, cases_lt, map-append, take_all, some_is, none_some, false_true}
+use Rattle.job_steps.specs.Prelude.{Content, fate_at, AreForetold, Request, Actor, Driver, Declared, actor_of, Task, Known, nothing_known, Script, Pick, Setting, Running, task_of, all_picks, actors, nothing_past, IsOpening, nothing_played, nothing_happened}
 use Rattle.job_facts.specs.Prelude.{Upload, upload_in, at_id}
 use Rattle.job_spec.specs.Prelude.{opening, in_eyes}
 use Rattle.std.specs.FinMap as fin
 use Rattle.job_actor.proofs.Picking.{none_below}
 use Rattle.job_spec.specs.Eyes.{number_in}
 use Rattle.job_plans.specs.AtPlace.{task_at}
+use Rattle.job_steps.proofs.RunningStages.{mapped}
+use Rattle.job_side.proofs.Places.{get_map, map_get}
+use Rattle.job_side.proofs.Moments.{never}
 use Rattle.job_states.specs.Standing.{standing}
-use Rattle.job_states.specs.Stands.{Stands}
 use Rattle.job_actor.specs.Picks.{ArePicksOf}
 use Rattle.job_actor.specs.declared.plan.Plan.TheVariants as plans
 use Rattle.s3_service.specs.Ids.{AreBelow}
-use Rattle.job_side.specs.Holds.{Holds, HandIs, HandsAre, PutBy, NoneOver, Quiet, is_mine, all_sound, setting_of, is_busy_at}
+use Rattle.job_side.specs.Holds.{Holds, IsTurn, HandIs, HandsAre, PutBy, NoneOver, Quiet, is_mine, all_sound, setting_of, is_busy_at}
 use Rattle.job_side.specs.Firsts.{IsBegun, IsFirstShared, IsFirstSide, planned}
 use Rattle.job_side.specs.declared.hands.Hand.{Hand}
 use Rattle.job_side.specs.declared.hands.Hand.TheVariants.{Plan, Empty}
@@ -37,17 +38,10 @@ take_more [] n x e = absurd (none_some refl e)
 take_more (y ∷ ys) zero x e = ap (λ v. v ∷ []) (some_is e)
 take_more (y ∷ ys) (suc n) x e = ap (λ l. y ∷ l) (take_more ys n x e)
 
-declared_at : (w : Script) (minimum n : ℕ) (p : Task) → task_at w minimum n ≡ Some p → (d : Declared) × (slice_get w.attempts n ≡ Some d) × (task_of w minimum d.0 nothing_known ≡ p)
-declared_at w minimum n p e = by (slice_get w.attempts n) refl e
-  where
-    by : (o : Option Declared) → slice_get w.attempts n ≡ o → option_map (λ a. task_of w minimum a.0 nothing_known) o ≡ Some p → (d : Declared) × (slice_get w.attempts n ≡ Some d) × (task_of w minimum d.0 nothing_known ≡ p)
-    by None at f = absurd (none_some refl f)
-    by (Some d) at f = (d, at, some_is f)
-
 -- one more attempt has its plan
 pub more_hands : {W : Type 0} (w : Script) (minimum n : ℕ) (p : Task) (hands new : List (Hand W)) → task_at w minimum n ≡ Some p → hands ≡ hands_of w minimum n → new ≡ hands ++ Plan (plans.Task p) ∷ [] → new ≡ hands_of w minimum (n + 1)
 more_hands w minimum n p hands new at e f =
-    let d = declared_at w minimum n p at in
+    let d = mapped (λ (a : Declared). task_of w minimum a.0 nothing_known) (slice_get w.attempts n) p at in
     let s : suc n ≡ n + 1 = omega arith in
     let last : Plan (plans.Task p) ∷ [] ≡ map (plan_of w minimum) (d.0 ∷ []) = ap (λ t. Plan (plans.Task t) ∷ []) (sym d.2) in
     f ∙ ap (λ hs. hs ++ Plan (plans.Task p) ∷ []) e
@@ -62,17 +56,10 @@ all_hands w minimum n hands le e = e ∙ ap (λ ds. Empty ∷ map (plan_of w min
 -- ---- what the store and the standings say
 
 below_next : (w : Script) (c : Content) → AreBelow c.buckets c.next → (id : ℕ) (x : Upload) → at_id w c id ≡ Some x → id < c.next
-below_next w c below id x e = by (fin.get c.buckets w.dest.bucket) refl e
-  where
-    in_bucket : (b : BucketContent) → fin.get c.buckets w.dest.bucket ≡ Some b → fin.get b.uploads id ≡ Some x → id < c.next
-    in_bucket b at f = elim (cases_lt id c.next) [
-      | inl lt ↦ lt
-      | inr le ↦ absurd (none_some (below w.dest.bucket b at id le) f)
-    ]
-
-    by : (o : Option BucketContent) → fin.get c.buckets w.dest.bucket ≡ o → upload_in o id ≡ Some x → id < c.next
-    by None at f = absurd (none_some refl f)
-    by (Some b) at f = in_bucket b at f
+below_next w c below id x e = (elim (fin.get c.buckets w.dest.bucket) as (λ o. fin.get c.buckets w.dest.bucket ≡ o → upload_in o id ≡ Some x → id < c.next) [
+  | None ↦ λ at f. absurd (none_some refl f)
+  | Some b ↦ λ at f. elim (cases_lt id c.next) [ inl lt ↦ lt | inr le ↦ absurd (none_some (below w.dest.bucket b at id le) f) ]
+]) refl e
 
 -- nobody is busy
 idle_at : (actors : List Actor) (place : ℕ) → is_busy_at (map (standing nothing_past) actors) place ≡ false
@@ -93,17 +80,13 @@ nothing_put_by g opening ps e = record {
 
 -- ---- what is in hand
 
-as_many : {X Y Z : Type 0} (f : X → Y) (g : X → Z) (xs : List X) → length (map f xs) ≡ length (map g xs)
-as_many f g [] = refl
-as_many f g (x ∷ xs) = ap suc (as_many f g xs)
-
 module _ {W : Type 0} (is_of : Setting → Actor → W → Type 0) (running : Known → W → Running) (picks_of : W → Option (List Pick)) (g : Setting) (opening : Content) where
   attempt_hand : (ds : List Declared) (q : ℕ) (a : Actor) (h : Hand W) → slice_get (map (λ d. actor_of d.0) ds) q ≡ Some a → slice_get (map (plan_of g.script g.minimum) ds) q ≡ Some h → HandIs is_of running picks_of g opening nothing_played a h
-  attempt_hand [] q a h e f = absurd (none_some refl e)
-  attempt_hand (d ∷ ds) zero a h e f =
-      subst (λ (k : Hand W). HandIs is_of running picks_of g opening nothing_played a k) (some_is f)
-      (subst (λ (b : Actor). HandIs is_of running picks_of g opening nothing_played b (plan_of g.script g.minimum d)) (some_is e) (refl, refl, λ s. cc))
-  attempt_hand (d ∷ ds) (suc q) a h e f = attempt_hand ds q a h e f
+  attempt_hand ds q a h e f =
+      let d = map_get (λ (d : Declared). actor_of d.0) ds q a e in
+      let plan = some_is (sym (get_map (plan_of g.script g.minimum) ds q d.0 d.1) ∙ f) in
+      subst (λ (k : Hand W). HandIs is_of running picks_of g opening nothing_played a k) plan
+      (subst (λ (b : Actor). HandIs is_of running picks_of g opening nothing_played b (plan_of g.script g.minimum d.0)) d.2 (refl, refl, λ s. cc))
 
   hands_are : (hands : List (Hand W)) → hands ≡ Empty ∷ planned g.script g.minimum → HandsAre is_of running picks_of all_sound g opening nothing_played hands
   hands_are hands is zero a h sound e f =
@@ -125,29 +108,21 @@ module _ {W : Type 0} (wants : W → Option Request) (is_of : Setting → Actor 
       omega (arith, e, low)
 
   places : length b.side.hands.items ≡ length (actors b.side.script)
-  places = ap length side.hands ∙ ap suc (as_many (plan_of {W = W} b.side.script b.shared.opening.minimum) (λ d. actor_of d.0) b.side.script.attempts)
+  places =
+      ap length side.hands ∙ ap suc
+      (length-map b.side.script.attempts (plan_of {W = W} b.side.script b.shared.opening.minimum) ∙ sym (length-map b.side.script.attempts (λ d. actor_of d.0)))
 
   first_holds : Holds is_of running picks_of all_sound b
-  first_holds = record {
-    legal = side.legal;
-    opens = opens;
-    play = nothing_played;
-    happened = nothing_happened;
-    journal = ap (in_eyes (is_mine b.side.others.items)) shared.journal;
-    ends = side.ends;
-    counts = ap (number_in (is_mine b.side.others.items)) shared.events ∙ sym (ap length side.ends);
-    turn = λ e. absurd (false_true (ap is_some side.event) e);
-    now = side.event;
-    finished = side.finished;
-    scene = ap (λ s. s.scene) shared.store;
-    requests = ap (λ s. s.requests) shared.store ∙ sym (ap length shared.journal);
-    fated = subst (AreForetold (λ n. Some (fate_at b.shared.store.fates n)) 1) (sym shared.journal) tt;
-    few = few;
-    stands = side.states;
-    places = places;
-    hands = hands_are is_of running picks_of (setting_of b) b.shared.opening b.side.hands.items side.hands;
-    picks = nothing_put_by (setting_of b) b.shared.opening b.side.picks side.picks;
-  }
+  first_holds =
+      let journal = ap (in_eyes (is_mine b.side.others.items)) shared.journal in
+      let counts = ap (number_in (is_mine b.side.others.items)) shared.events ∙ sym (ap length side.ends) in
+      let scene = ap (λ s. s.scene) shared.store in
+      let requests = ap (λ s. s.requests) shared.store ∙ sym (ap length shared.journal) in
+      let fated = subst (AreForetold (λ n. Some (fate_at b.shared.store.fates n)) 1) (sym shared.journal) tt in
+      let hands = hands_are is_of running picks_of (setting_of b) b.shared.opening b.side.hands.items side.hands in
+      let turn = never (IsTurn b) b.side.event side.event in
+      let picks = nothing_put_by (setting_of b) b.shared.opening b.side.picks side.picks in
+      search (nothing_happened, opens, journal, counts, turn, scene, requests, fated, few, places, hands, picks, side)
 
   none_over : NoneOver wants b
   none_over place k busy e = absurd (false_true (idle_at (actors b.side.script) place) (sym (ap (λ ss. is_busy_at ss place) side.states.actors) ∙ busy))
@@ -157,14 +132,6 @@ module _ {W : Type 0} (wants : W → Option Request) (is_of : Setting → Actor 
 
 pub is_begun : {W : Type 0} (wants : W → Option Request) (is_of : Setting → Actor → W → Type 0) (running : Known → W → Running) (picks_of : W → Option (List Pick)) (w : Script) (c : Content) (b : Body W) → c.next ≤ 2 ^ 62 → AreBelow c.buckets c.next
     → b.side.script ≡ w → b.shared.opening ≡ c → b.side.others.items ≡ [] → b.side.shares ≡ false → IsFirstSide c.minimum b.side → IsFirstShared b.side.script b.shared → IsBegun wants is_of running picks_of w c b
-is_begun wants is_of running picks_of w c b low below script opening others shares side shared = record {
-  quiet =
-      first_quiet wants is_of running picks_of b (let P : Content → Type 0 = λ v. v.next ≤ 2 ^ 62 in subst P (sym opening) low) (subst (λ (v : Content). AreBelow v.buckets v.next) (sym opening) below)
-      (subst (λ (v : Content). IsFirstSide v.minimum b.side) (sym opening) side) b.side.script shared;
-  script = script;
-  opening = opening;
-  others = others;
-  shares = shares;
-  side = side;
-  shared = shared;
-}
+is_begun wants is_of running picks_of w c b low below script opening others shares side shared =
+    let quiet = first_quiet wants is_of running picks_of b (rw opening low) (rw opening below) (rw opening side) b.side.script shared in
+    assumption (quiet)

@@ -1,12 +1,12 @@
 -- What a hand and the picks that were put by keep from one moment of a run to a later one that leaves their actor.
-use Rattle.std.proofs.Common.{◌≡◌, inl, inr, Bool, true, false, List, [], ◌∷◌, append_assoc, Option, Some, None, refl, sym, ap, subst, ◌∙◌}
-use Rattle.job_spec.proofs.Common.{none_some}
-use Rattle.job_steps.specs.Prelude.{Content, Actor, Driver, Known, Op, Event, Do, Start, Kill, Restart, EventEnd, Refused, EventFault, Pick, Dead, ActorState, knows, Setting, Running, who, Past, Decided, put, open_event, commit_begun, dead, idle, restarted, is_refused, is_busy, by_actor, ArePicked, all_picks, lacked_memory, Play, Refuses, Opens, Closes, open_running, happen, MayClose, Ahead}
+use Rattle.std.proofs.Common.{◌≡◌, inl, inr, Bool, true, false, List, Option, Some, None, refl, sym, ap, subst, ◌∙◌}
+use Rattle.job_steps.specs.Prelude.{open_event, open_running, Content, Actor, Driver, Known, Op, Event, Do, Start, Kill, Restart, EventEnd, EventFault, Pick, Dead, ActorState, knows, Setting, Running, who, Past, Decided, put, commit_begun, dead, idle, restarted, is_busy, by_actor, ArePicked, all_picks, lacked_memory, Play, Refuses, Opens, Closes, happen, MayClose, Ahead}
 use Rattle.job_actor.specs.Plans.{IsPlanOf}
 use Rattle.job_steps.proofs.Actors.{same_or_not, put_here, put_other}
-use Rattle.job_steps.proofs.PastMore.{turns_refused}
+use Rattle.job_steps.proofs.Running.{opened_ahead, refused_ahead, not_refused, closed_ahead}
 use Rattle.job_actor.specs.Picks.{ArePicksOf, HasPicked, is_committing}
 use Rattle.job_side.specs.Holds.{HandIs, PutBy}
+use Rattle.job_side.specs.Events.{BeginsBy}
 use Rattle.job_side.specs.declared.hands.Hand.{Hand}
 use Rattle.job_side.specs.declared.hands.Hand.TheVariants.{Plan, At, Empty}
 
@@ -58,8 +58,12 @@ Spares (Do b op) a = a ≡ b → ⊥
 Spares (Start b op) a = a ≡ b → ⊥
 Spares _ a = Unit {0}
 
-pub ahead_open : (g : Setting) (x : Play) (ev : Event) → x.now ≡ None → (xs : List EventEnd) → Ahead (happen g x (Opens ev)) xs → Ahead x xs
-ahead_open g x ev none xs a = record { rest = a.rest; is = a.is; going = λ v e. absurd (none_some none e) }
+-- what holds of both events that begin an operation
+pub begins_by : (P : Event → Actor → Op → Type 0) → ((a : Actor) (op : Op) → P (Do a op) a op) → ((a : Actor) (op : Op) → P (Start a op) a op) → (ev : Event) (a : Actor) (op : Op)
+    → BeginsBy ev a op → P ev a op
+begins_by P d s (Do b o) a op h = subst (λ v. P (Do b o) v op) h.0 (subst (P (Do b o) b) h.1 (d b o))
+begins_by P d s (Start b o) a op h = subst (λ v. P (Start b o) v op) h.0 (subst (P (Start b o) b) h.1 (s b o))
+begins_by P d s _ a op h = absurd h
 
 -- the job's commit, where the driver begins nothing
 begun_not : (b : Actor) (op : Op) (d : Decided) → (b ≡ Driver → ⊥) → commit_begun b op d ≡ d
@@ -67,76 +71,56 @@ begun_not Driver op d n = absurd (n refl)
 begun_not _ op d n = refl
 
 module _ (p : Past) (a : Actor) where
-  idle_put : (b : Actor) (s : ActorState) → is_busy s.life ≡ false → is_busy (p.state a).life ≡ false → is_busy (put p.state b s a).life ≡ false
-  idle_put b s not h = elim (same_or_not a b) [
-    | inl e ↦ ap (λ (v : ActorState). is_busy v.life) (put_here p.state b s a e) ∙ not
-    | inr ne ↦ ap (λ (v : ActorState). is_busy v.life) (put_other p.state b s a ne) ∙ h
-  ]
+  put_keeps : (P : ActorState → Type 0) (b : Actor) (s : ActorState) → P s → P (p.state a) → P (put p.state b s a)
+  put_keeps P b s new h = elim (same_or_not a b) [ inl e ↦ subst P (sym (put_here p.state b s a e)) new | inr ne ↦ subst P (sym (put_other p.state b s a ne)) h ]
 
-  idle_apart : (b : Actor) (s : ActorState) → (a ≡ b → ⊥) → is_busy (p.state a).life ≡ false → is_busy (put p.state b s a).life ≡ false
-  idle_apart b s ne h = ap (λ (v : ActorState). is_busy v.life) (put_other p.state b s a ne) ∙ h
+  apart_keeps : (P : ActorState → Type 0) (b : Actor) (s : ActorState) → (a ≡ b → ⊥) → P (p.state a) → P (put p.state b s a)
+  apart_keeps P b s ne h = subst P (sym (put_other p.state b s a ne)) h
 
-  dead_apart : (b : Actor) (s : ActorState) → (a ≡ b → ⊥) → (p.state a).life ≡ Dead → (put p.state b s a).life ≡ Dead
-  dead_apart b s ne h = ap (λ (v : ActorState). v.life) (put_other p.state b s a ne) ∙ h
+abbrev Rests : ActorState → Type 0
+Rests v = is_busy v.life ≡ false
 
-  dead_put : (b : Actor) (s : ActorState) → s.life ≡ Dead → (p.state a).life ≡ Dead → (put p.state b s a).life ≡ Dead
-  dead_put b s d h = elim (same_or_not a b) [
-    | inl e ↦ ap (λ (v : ActorState). v.life) (put_here p.state b s a e) ∙ d
-    | inr ne ↦ dead_apart b s ne h
-  ]
+abbrev IsDead : ActorState → Type 0
+IsDead v = v.life ≡ Dead
 
 -- what the event's opening leaves of one whom it spares
-record LeavesIn (g : Setting) (x : Play) (ev : Event) (a : Actor) : Type 0 where
-  running : open_running g x ev a ≡ x.running a
-  idle : is_busy (x.past.state a).life ≡ false → is_busy ((open_event g.script x.past ev).state a).life ≡ false
-  dead : (x.past.state a).life ≡ Dead → (a ≡ Driver → ⊥) → ((open_event g.script x.past ev).state a).life ≡ Dead
-  commit : a ≡ Driver → (open_event g.script x.past ev).commit ≡ x.past.commit
+module _ (g : Setting) (x : Play) (a : Actor) where
+  abbrev Left : Event → Type 0
+  Left ev = Leaves (record x { live = x.past }) (happen g x (Opens ev)) a
 
-spared : (g : Setting) (x : Play) (ev : Event) (a : Actor) → Spares ev a → LeavesIn g x ev a
-spared g x (Do b op) a s = record { running = put_other x.running b _ a s; idle = idle_apart x.past a b _ s; dead = λ h nd. dead_apart x.past a b _ s h; commit = λ d. begun_not b op x.past.commit (λ e. s (d ∙ sym e)) }
-spared g x (Start b op) a s = record { running = put_other x.running b _ a s; idle = idle_apart x.past a b _ s; dead = λ h nd. dead_apart x.past a b _ s h; commit = λ d. begun_not b op x.past.commit (λ e. s (d ∙ sym e)) }
-spared g x (Kill b) a s = record { running = refl; idle = idle_put x.past a b (dead (x.past.state b).stage) refl; dead = λ h nd. dead_put x.past a b (dead (x.past.state b).stage) refl h; commit = λ d. refl }
-spared g x Restart a s = record { running = refl; idle = idle_put x.past a Driver (idle (restarted (x.past.state Driver).stage)) refl; dead = λ h nd. dead_apart x.past a Driver (idle (restarted (x.past.state Driver).stage)) nd h; commit = λ d. refl }
-spared g x _ a s = record { running = refl; idle = λ h. h; dead = λ h nd. h; commit = λ d. refl }
+  left_by : (ev : Event) → ((xs : List EventEnd) → Ahead (happen g x (Opens ev)) xs → Ahead (record x { live = x.past }) xs) → open_running g x ev a ≡ x.running a
+      → (is_busy (x.past.state a).life ≡ false → is_busy ((open_event g.script x.past ev).state a).life ≡ false)
+      → ((x.past.state a).life ≡ Dead → (a ≡ Driver → ⊥) → ((open_event g.script x.past ev).state a).life ≡ Dead)
+      → (a ≡ Driver → (open_event g.script x.past ev).commit ≡ x.past.commit) → Left ev
+  left_by ev ahead running idle dead commit = assumption
+
+  spared : (ev : Event) → ((xs : List EventEnd) → Ahead (happen g x (Opens ev)) xs → Ahead (record x { live = x.past }) xs) → Spares ev a → Left ev
+  spared (Do b op) ahead s =
+      left_by (Do b op) ahead (put_other x.running b _ a s) (apart_keeps x.past a Rests b _ s) (λ h nd. apart_keeps x.past a IsDead b _ s h)
+      (λ d. begun_not b op x.past.commit (λ e. s (d ∙ sym e)))
+  spared (Start b op) ahead s =
+      left_by (Start b op) ahead (put_other x.running b _ a s) (apart_keeps x.past a Rests b _ s) (λ h nd. apart_keeps x.past a IsDead b _ s h)
+      (λ d. begun_not b op x.past.commit (λ e. s (d ∙ sym e)))
+  spared (Kill b) ahead s =
+      let v = dead (x.past.state b).stage in left_by (Kill b) ahead refl (put_keeps x.past a Rests b v refl) (λ h nd. put_keeps x.past a IsDead b v refl h) (λ d. refl)
+  spared Restart ahead s =
+      let v = idle (restarted (x.past.state Driver).stage) in
+      left_by Restart ahead refl (put_keeps x.past a Rests Driver v refl) (λ h nd. apart_keeps x.past a IsDead Driver v nd h) (λ d. refl)
+  spared ev ahead s = left_by ev ahead refl (λ h. h) (λ h nd. h) (λ d. refl)
 
 pub open_leaves : (g : Setting) (x : Play) (ev : Event) (a : Actor) → x.now ≡ None → x.live ≡ x.past → Spares ev a → Leaves x (happen g x (Opens ev)) a
 open_leaves g x ev a none live s =
-    let l = spared g x ev a s in
-    record {
-      journal = refl;
-      running = l.running;
-      idle = λ h. l.idle (ap (λ (p : Past). is_busy (p.state a).life) (sym live) ∙ h);
-      dead = λ h nd. l.dead (ap (λ (p : Past). (p.state a).life) (sym live) ∙ h) nd;
-      commit = λ d. l.commit d ∙ ap (λ (p : Past). p.commit) (sym live);
-      ahead = ahead_open g x ev none;
-    }
+    subst (λ p. Leaves (record x { live = p }) (happen g x (Opens ev)) a) (sym live) (spared g x a ev (λ xs. opened_ahead g (record x { live = x.past }) ev xs none) s)
 
 -- ---- an event ends
 
 pub refuse_leaves : (g : Setting) (x : Play) (f : EventFault) (a : Actor) → x.now ≡ None → x.live ≡ x.past → Leaves x (happen g x (Refuses f)) a
-refuse_leaves g x f a none live = record {
-  journal = refl;
-  running = refl;
-  idle = λ h. ap (λ (p : Past). is_busy (p.state a).life) (sym live) ∙ h;
-  dead = λ h nd. ap (λ (p : Past). (p.state a).life) (sym live) ∙ h;
-  commit = λ d. ap (λ (p : Past). p.commit) (sym live);
-  ahead = λ xs k. record { rest = Refused f ∷ k.rest; is = k.is ∙ append_assoc x.ends (Refused f ∷ []) k.rest; going = λ v e. absurd (none_some none e) };
-}
-
-not_refused : (end : EventEnd) → ((f : EventFault) → end ≡ Refused f → ⊥) → is_refused end ≡ false
-not_refused (Refused f) n = absurd (n f refl)
-not_refused _ n = refl
+refuse_leaves g x f a none live =
+    subst (λ p. Leaves (record x { live = p }) (happen g x (Refuses f)) a) (sym live)
+    (record { journal = refl; running = refl; idle = λ h. h; dead = λ h nd. h; commit = λ d. refl; ahead = λ xs. refused_ahead g (record x { live = x.past }) f xs none })
 
 pub close_leaves : (g : Setting) (x : Play) (end : EventEnd) (a : Actor) → MayClose g x end → Leaves x (happen g x (Closes end)) a
-close_leaves g x end a ok = record {
-  journal = refl;
-  running = refl;
-  idle = λ h. h;
-  dead = λ h nd. h;
-  commit = λ d. refl;
-  ahead = λ xs k. record {
-    rest = end ∷ k.rest;
-    is = k.is ∙ append_assoc x.ends (end ∷ []) k.rest;
-    going = λ v e. (end, k.rest, refl, not_refused end (λ f r. turns_refused g.script x.past.state ok.event end _ f ok.turns r));
-  };
-}
+close_leaves g x end a ok =
+    let fine = not_refused g.script x.past.state ok.event end _ ok.turns in
+    let ahead : (xs : List EventEnd) → Ahead (happen g x (Closes end)) xs → Ahead x xs = λ xs. closed_ahead g x end xs fine in
+    assumption (ahead)

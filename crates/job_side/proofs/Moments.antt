@@ -1,18 +1,23 @@
 -- What a world that holds says of its run: which event may begin, that its numbers are small, and what stands at its places.
 use Rattle.std.proofs.Common.{◌≡◌, ℕ, ◌+◌, ◌-◌, ◌^◌, ◌<◌, Bool, List, [], length, slice_get, Option, Some, None, sym, ap, subst, ◌∙◌, arith}
-use Rattle.job_spec.proofs.Common.{slice_get_within}
-use Rattle.job_steps.specs.Prelude.{Actor, Known, IsEvent, Event, EventFault, Pick, Setting, Running, Past, actors, refusal, past, is_busy, of_event, Play, MayOpen}
+use Rattle.std.specs.Prelude.{IsSome, is_some}
+use Rattle.job_spec.proofs.Common.{slice_get_within, false_true}
+use Rattle.job_steps.specs.Prelude.{Actor, Known, IsEvent, Event, EventFault, Pick, Setting, Running, Past, actors, refusal, past, is_busy, of_event, Play, MayOpen, knows, knows_now, who, by_actor}
 use Rattle.job_steps.proofs.Parts.{event_none}
 use Rattle.job_steps.proofs.PastMore.{event_at}
 use Rattle.job_steps.proofs.Told.{Told, told_all}
 use Rattle.job_states.specs.Stands.{Stands}
 use Rattle.job_side.specs.Holds.{Holds, seen_by, setting_of, is_busy_at}
-use Rattle.job_side.specs.Events.{Next, event_entries}
+use Rattle.job_side.specs.Events.{Next, event_entries, knows_of}
 use Rattle.job_side.specs.declared.hands.Hand.{Hand}
 use Rattle.job_side.specs.declared.body.Body.{Body}
 use Rattle.job_side.proofs.Lives.{Lives, lives}
 use Rattle.job_side.proofs.Places.{there}
 use Rattle.job_side.proofs.Standings.{busy_at}
+
+-- where there is none there is not one
+pub never : {A : Type 0} (X : Type 0) (o : Option A) → o ≡ None → IsSome o → X
+never X o none some = absurd (false_true (ap is_some none) some)
 
 module _ {W : Type 0} (is_of : Setting → Actor → W → Type 0) (running : Known → W → Running) (picks_of : W → Option (List Pick)) (sound : ℕ → Bool) (b : Body W) (h : Holds is_of running picks_of sound b) where
   abbrev play : Play
@@ -26,6 +31,9 @@ module _ {W : Type 0} (is_of : Setting → Actor → W → Type 0) (running : Kn
 
   pub past_of : h.play.past ≡ past b.side.script b.side.ends.items
   past_of = told_of.past_is ∙ ap (past b.side.script) (sym h.ends)
+
+  pub knows_as : (a : Actor) → knows_of b a ≡ knows_now (setting_of b) h.play a
+  knows_as a = ap (λ es. knows b.side.script (who a) (by_actor a es)) h.journal
 
   pub is_idle : b.side.event ≡ None → h.play.now ≡ None
   is_idle idle = sym h.now ∙ idle
@@ -59,17 +67,10 @@ module _ {W : Type 0} (is_of : Setting → Actor → W → Type 0) (running : Kn
   -- ---- numbers
 
   few_ends : (ev : Event) → slice_get b.side.script.events (length h.play.ends) ≡ Some ev → length h.play.ends < 100000
-  few_ends ev next =
-      let within = slice_get_within b.side.script.events (length h.play.ends) ev next in
-      let few = h.legal.few_events in
-      omega arith
+  few_ends ev next = omega (arith, slice_get_within b.side.script.events (length h.play.ends) ev next, h.legal.few_events)
 
   few_events : (ev : Event) → slice_get b.side.script.events (length h.play.ends) ≡ Some ev → b.side.states.events < 2 ^ 32 - 1
-  few_events ev next =
-      let few = few_ends ev next in
-      let lived = told_of.live_counts in
-      let kept = h.stands.events in
-      omega arith
+  few_events ev next = omega (arith, few_ends ev next, told_of.live_counts, h.stands.events)
 
   pub few_events_next : (ev : Event) → Next b ev → b.side.states.events < 2 ^ 32 - 1
   few_events_next ev next = few_events ev (next_of ev next)
@@ -78,11 +79,7 @@ module _ {W : Type 0} (is_of : Setting → Actor → W → Type 0) (running : Kn
   few_events_now ev now = few_events ev (told_of.opened ev (sym h.now ∙ now)).next
 
   pub few_attempts : (ev : Event) → Next b ev → b.side.states.attempt < 2 ^ 32 - 1
-  few_attempts ev next =
-      let few = few_ends ev (next_of ev next) in
-      let lived = lives_of.live_few in
-      let kept = h.stands.attempt in
-      omega arith
+  few_attempts ev next = omega (arith, few_ends ev (next_of ev next), lives_of.live_few, h.stands.attempt)
 
   -- ---- places
 

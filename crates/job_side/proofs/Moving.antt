@@ -1,7 +1,7 @@
 -- Events of a world that move busy actors, or nobody: what is asked of turns and of the event's end.
 use Rattle.std.proofs.Common.{◌≡◌, ℕ, ◌-◌, ◌<◌, ◌≤◌, true, List, map, length, slice_get, Option, Some, None, vec_len, vec_capacity, refl, sym, ap, subst, ◌∙◌, arith}
 use Rattle.job_spec.proofs.Common.{none_some}
-use Rattle.job_steps.specs.Prelude.{Request, Actor, is_known, Known, Script, IsEvent, Event, Do, Start, Step, Run, Mix, EventEnd, Pick, Life, Busy, ActorState, Setting, Running, Past, actors, past, refusal, open_event, is_busy, busy_actors}
+use Rattle.job_steps.specs.Prelude.{Request, Actor, is_known, Known, Script, IsEvent, Event, Do, Start, Step, Run, Mix, Pick, Life, Busy, ActorState, Setting, Running, Past, actors, past, refusal, open_event, is_busy, busy_actors}
 use Rattle.job_spec.specs.States.{refuse_move}
 use Rattle.job_states.specs.Stands.{Stands, IsPlace}
 use Rattle.job_states.specs.Mixes.{AreApart}
@@ -17,36 +17,25 @@ move_busy : (l : Life) → refuse_move l ≡ None → is_busy l ≡ true
 move_busy Busy h = refl
 move_busy _ h = absurd (none_some h refl)
 
-pub run_busy : (st : Actor → ActorState) (ev : Event) (a : Actor) → ev ≡ Run a → refusal st ev ≡ None → is_busy (st a).life ≡ true
-run_busy st ev a is fine = move_busy (st a).life (ap (refusal st) (sym is) ∙ fine)
-
-pub step_busy : (st : Actor → ActorState) (ev : Event) (a : Actor) (n : ℕ) → ev ≡ Step a n → refusal st ev ≡ None → is_busy (st a).life ≡ true
-step_busy st ev a n is fine = move_busy (st a).life (ap (refusal st) (sym is) ∙ fine)
-
-pub run_known : (w : Script) (ev : Event) (a : Actor) → ev ≡ Run a → IsEvent w.attempts ev → is_known w.attempts a ≡ true
-run_known w ev a is h = subst (λ v. IsEvent w.attempts v) is h
-
-pub step_known : (w : Script) (ev : Event) (a : Actor) (n : ℕ) → ev ≡ Step a n → IsEvent w.attempts ev → is_known w.attempts a ≡ true
-step_known w ev a n is h = (subst (λ v. IsEvent w.attempts v) is h).0
-
 -- no actor's state changes as it begins
 abbrev pub Stays : Event → Type 0
 Stays ev = (w : Script) (p : Past) → open_event w p ev ≡ p
 
-pub run_stays : (ev : Event) (a : Actor) → ev ≡ Run a → Stays ev
-run_stays ev a is w p = ap (open_event w p) is
+-- the event moves a busy actor
+pub record Moves (ev : Event) (a : Actor) : Type 0 where
+  pub none : BeginsNone ev
+  pub stays : Stays ev
+  pub known : (w : Script) → IsEvent w.attempts ev → is_known w.attempts a ≡ true
+  pub busy : (st : Actor → ActorState) → refusal st ev ≡ None → is_busy (st a).life ≡ true
 
-pub step_stays : (ev : Event) (a : Actor) (n : ℕ) → ev ≡ Step a n → Stays ev
-step_stays ev a n is w p = ap (open_event w p) is
+pub run_moves : (ev : Event) (a : Actor) → ev ≡ Run a → Moves ev a
+run_moves ev a is = subst (λ v. Moves v a) (sym is) (record { none = tt; stays = λ w p. refl; known = λ w h. h; busy = λ st. move_busy (st a).life })
+
+pub step_moves : (ev : Event) (a : Actor) (n : ℕ) → ev ≡ Step a n → Moves ev a
+step_moves ev a n is = subst (λ v. Moves v a) (sym is) (record { none = tt; stays = λ w p. refl; known = λ w h. h.0; busy = λ st. move_busy (st a).life })
 
 pub mix_stays : (ev : Event) (seed : ℕ) → ev ≡ Mix seed → Stays ev
 mix_stays ev seed is w p = ap (open_event w p) is
-
-pub run_none : (ev : Event) (a : Actor) → ev ≡ Run a → BeginsNone ev
-run_none ev a is = subst BeginsNone (sym is) tt
-
-pub step_none : (ev : Event) (a : Actor) (n : ℕ) → ev ≡ Step a n → BeginsNone ev
-step_none ev a n is = subst BeginsNone (sym is) tt
 
 pub mix_none : (ev : Event) (seed : ℕ) → ev ≡ Mix seed → BeginsNone ev
 mix_none ev seed is = subst BeginsNone (sym is) tt
@@ -63,11 +52,7 @@ module _ {W : Type 0} (wants : W → Option Request) (is_of : Setting → Actor 
   place_entered a place at = ap (λ (w : Script). slice_get (actors w) place) e.entered.stays.script ∙ placed b.side.script a place at
 
   pub room_entered : 0 < vec_capacity c.side.finished - vec_len c.side.finished
-  room_entered =
-      let some = e.going.holds.places in
-      let first : 0 < length (actors c.side.script) = omega arith in
-      let free = e.room.finished in
-      omega arith
+  room_entered = omega (arith, e.going.holds.places, e.room.finished)
 
   module _ (stays : Stays ev) where
     stands : Stands c.side.script c.side.states (past c.side.script c.side.ends.items)
@@ -81,8 +66,8 @@ module _ {W : Type 0} (wants : W → Option Request) (is_of : Setting → Actor 
     module _ (places : List ℕ) (busy : AreBusy b places) where
       pub mix_busy : AreBusy c places
       mix_busy =
-          let B : Script → List EventEnd → Type 0 = λ w xs. map (slice_get (actors w)) places ≡ map (λ x. Some x) (busy_actors w (past w xs).state) in
-          subst (λ (w : Script). B w c.side.ends.items) (sym e.entered.stays.script) (subst (λ v. B b.side.script v.items) (sym e.entered.ends) busy)
+          subst (λ (w : Script). map (slice_get (actors w)) places ≡ map (λ x. Some x) (busy_actors w (past w c.side.ends.items).state)) (sym e.entered.stays.script)
+          (subst (λ v. map (slice_get (actors b.side.script)) places ≡ map (λ x. Some x) (busy_actors b.side.script (past b.side.script v.items).state)) (sym e.entered.ends) busy)
 
       pub mix_apart : AreApart places
       mix_apart = busy_apart c.side.script e.going.holds.legal c.side.states (past c.side.script c.side.ends.items) stands places mix_busy

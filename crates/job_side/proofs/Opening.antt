@@ -4,17 +4,15 @@ use Rattle.job_spec.proofs.Common.{false_true, true_or_false, nat_true}
 use Rattle.job_steps.specs.Prelude.{Request, Actor, Driver, Known, Op, Event, Do, Start, Pick, ActorState, Setting, Running, Past, actors, open_event, is_busy, Play, Opens, happen, happens}
 use Rattle.job_steps.proofs.Actors.{put_here}
 use Rattle.job_states.specs.Stands.{Stands}
-use Rattle.job_side.specs.Holds.{Holds, IsTurn, HandsAre, PutBy, Quiet, Going, all_sound, all_but, setting_of, is_busy_at}
-use Rattle.job_side.specs.Events.{Next, IsFine, HasRoom, IsOpened, BeginsBy, BeginsNone, Entered, HasEntered}
+use Rattle.job_side.specs.Holds.{Holds, IsTurn, HandsAre, PutBy, Quiet, all_sound, all_but, setting_of, is_busy_at}
+use Rattle.job_side.specs.Events.{Next, IsFine, HasRoom, IsOpened, BeginsBy, BeginsNone, HasEntered}
 use Rattle.job_side.specs.declared.body.Body.{Body}
-use Rattle.job_side.proofs.Kept.{Leaves, Spares, hand_kept, put_by_kept, open_leaves}
+use Rattle.job_side.proofs.Kept.{begins_by, Leaves, Spares, hand_kept, put_by_kept, open_leaves}
 use Rattle.job_side.proofs.Standings.{busy_actor}
 use Rattle.job_side.proofs.Moments.{past_of, is_idle, live_of, may_open, no_entries, busy_of}
 
 pub spares_others : (ev : Event) (a : Actor) (op : Op) → BeginsBy ev a op → (q : Actor) → (q ≡ a → ⊥) → Spares ev q
-spares_others (Do b o) a op h q ne = λ e. ne (e ∙ h.0)
-spares_others (Start b o) a op h q ne = λ e. ne (e ∙ h.0)
-spares_others _ a op h q ne = absurd h
+spares_others = begins_by (λ ev a op. (q : Actor) → (q ≡ a → ⊥) → Spares ev q) (λ a op q ne. ne) (λ a op q ne. ne)
 
 pub spares_all : (ev : Event) → BeginsNone ev → (q : Actor) → Spares ev q
 spares_all (Do b o) h q = absurd h
@@ -22,9 +20,9 @@ spares_all (Start b o) h q = absurd h
 spares_all _ h q = tt
 
 pub begun_busy : (g : Setting) (p : Past) (ev : Event) (a : Actor) (op : Op) → BeginsBy ev a op → is_busy ((open_event g.script p ev).state a).life ≡ true
-begun_busy g p (Do b o) a op h = ap (λ (s : ActorState). is_busy s.life) (put_here p.state b _ a (sym h.0))
-begun_busy g p (Start b o) a op h = ap (λ (s : ActorState). is_busy s.life) (put_here p.state b _ a (sym h.0))
-begun_busy g p _ a op h = absurd h
+begun_busy g p =
+    begins_by (λ ev a op. is_busy ((open_event g.script p ev).state a).life ≡ true)
+    (λ a op. ap (λ (s : ActorState). is_busy s.life) (put_here p.state a _ a refl)) (λ a op. ap (λ (s : ActorState). is_busy s.life) (put_here p.state a _ a refl))
 
 -- a place that is not left out is another one
 pub not_left : (p q : ℕ) → all_but p q ≡ true → q ≡ p → ⊥
@@ -43,14 +41,11 @@ module _ {W : Type 0} (wants : W → Option Request) (is_of : Setting → Actor 
   abbrev y : Play
   y = happen g x (Opens ev)
 
-  none : x.now ≡ None
-  none = is_idle is_of running picks_of all_sound b h q.idle
-
   live : x.live ≡ x.past
   live = live_of is_of running picks_of all_sound b h q.idle
 
   pub leaves : (a : Actor) → Spares ev a → Leaves x y a
-  leaves a s = open_leaves g x ev a none live s
+  leaves a s = open_leaves g x ev a (is_idle is_of running picks_of all_sound b h q.idle) live s
 
   -- ---- the world that the event's opening makes of it, with the hands and picks of c and the states of d
 
@@ -59,26 +54,8 @@ module _ {W : Type 0} (wants : W → Option Request) (is_of : Setting → Actor 
     e = record b { side = record b.side { hands = c.side.hands; picks = c.side.picks; states = d.side.states; event = Some ev } }
 
     abbrev pub opened_holds : (sound : ℕ → Bool) → length c.side.hands.items ≡ length b.side.hands.items → HandsAre is_of running picks_of sound g b.shared.opening y c.side.hands.items → PutBy g b.shared.opening y c.side.picks → Holds is_of running picks_of sound e
-    opened_holds sound places hands picks = record {
-      legal = h.legal;
-      opens = h.opens;
-      play = y;
-      happened = happens x (Opens ev) h.happened (may_open is_of running picks_of all_sound b h ev None q.idle next fine);
-      journal = h.journal;
-      ends = h.ends;
-      counts = h.counts;
-      turn = λ e. record { mine = turn.mine; few = turn.few };
-      now = refl;
-      finished = q.none;
-      scene = h.scene;
-      requests = h.requests;
-      fated = h.fated;
-      few = h.few;
-      stands = stands;
-      places = places ∙ h.places;
-      hands = hands;
-      picks = picks;
-    }
+    opened_holds sound places hands picks =
+        search (happens x (Opens ev) h.happened (may_open is_of running picks_of all_sound b h ev None q.idle next fine), turn, places ∙ h.places, hands, picks, q.none, stands)
 
     pub opened_hands : (sound : ℕ → Bool) → ((p : ℕ) → sound p ≡ true → slice_get c.side.hands.items p ≡ slice_get b.side.hands.items p) → ((p : ℕ) (a : Actor) → sound p ≡ true → slice_get (actors b.side.script) p ≡ Some a → Spares ev a)
         → HandsAre is_of running picks_of sound g b.shared.opening y c.side.hands.items
@@ -99,20 +76,16 @@ module _ {W : Type 0} (wants : W → Option Request) (is_of : Setting → Actor 
     stands_none : Stands b.side.script d.side.states y.live
     stands_none = o.stands x.past (subst (Stands b.side.script b.side.states) live h.stands)
 
-    going : Going wants is_of running picks_of (e b d stands_none)
-    going = record {
-      holds = opened_holds b d stands_none all_sound refl (opened_hands b d stands_none all_sound (λ p s. refl) (λ p a s at. spares_all ev begins a)) (put_by_kept g b.shared.opening x y (leaves Driver (spares_all ev begins Driver)) b.side.picks h.picks);
-      none_over = λ p k busy hand. q.none_over p k (busy_before b d stands_none p (λ a at. spares_all ev begins a) busy) hand;
-      during = refl;
-    }
-
-    entered : Entered ev b (e b d stands_none)
-    entered = record { stays = record { script = refl; others = refl; shares = refl; opening = refl; fates = λ n. refl }; ends = refl; now = refl; events = refl; journal = refl; fresh = no_entries is_of running picks_of all_sound b h q.idle }
-
     pub has_entered : HasRoom b → HasEntered wants is_of running picks_of ev b d
     has_entered room = subst (HasEntered wants is_of running picks_of ev b) (sym o.is) (record {
-      going = going;
-      entered = entered;
+      going = record {
+        holds =
+            opened_holds b d stands_none all_sound refl (opened_hands b d stands_none all_sound (λ p s. refl) (λ p a s at. spares_all ev begins a))
+            (put_by_kept g b.shared.opening x y (leaves Driver (spares_all ev begins Driver)) b.side.picks h.picks);
+        none_over = λ p k busy hand. q.none_over p k (busy_before b d stands_none p (λ a at. spares_all ev begins a) busy) hand;
+        during = refl;
+      };
+      entered = let fresh = no_entries is_of running picks_of all_sound b h q.idle in assumption (fresh);
       fine = fine;
       stands = subst (λ p. Stands b.side.script d.side.states (open_event b.side.script p ev)) (past_of is_of running picks_of all_sound b h) stands_none;
       none = q.none;

@@ -1,20 +1,18 @@
 -- The picks of a run stay while nobody sends who picks.
 use Rattle.std.proofs.Common.{◌≡◌, inl, inr, Bool, true, false, List, Option, Some, None, refl, sym, ap, subst, ◌∙◌}
-use Rattle.job_steps.specs.Prelude.{Content, Actor, Driver, Attempt, Shell, Entry, ActorEnd, OpEnd, Pick, Setting, who, Decided, is_commit, decide, ArePicked, lacked_memory, Play, Sends, Finishes, hear, happen, MaySend}
-use Rattle.job_steps.proofs.Actors.{same_or_not, put_here, put_other}
+use Rattle.job_steps.specs.Prelude.{Content, Actor, Driver, Attempt, Entry, ActorEnd, OpEnd, Pick, Setting, Decided, is_commit, decide, ArePicked, lacked_memory, Play, Sends, Finishes, happen, MaySend}
+use Rattle.job_steps.proofs.Actors.{same_or_not}
 use Rattle.job_steps.proofs.Running.{sent_ahead, finished_ahead}
 use Rattle.job_actor.specs.Picks.{HasPicked, LeavesPicks, is_committing}
 use Rattle.job_actor.proofs.Staying.{same_picks}
 use Rattle.job_side.specs.Holds.{PutBy}
-use Rattle.job_side.proofs.Along.{commit_stays}
+use Rattle.job_side.proofs.Along.{commits_on}
 
 -- an attempt's end decides nothing of the driver's
 pub decides_not : (a : Actor) (b : Bool) (e : OpEnd) (d : Decided) → (a ≡ Driver → ⊥) → decide a b e d ≡ d
 decides_not Driver b e d ne = absurd (ne refl)
 decides_not (Attempt t n) true e d ne = refl
-decides_not (Attempt t n) false e d ne = refl
-decides_not Shell true e d ne = refl
-decides_not Shell false e d ne = refl
+decides_not _ _ e d ne = refl
 
 module _ (g : Setting) (opening : Content) (x : Play) where
   -- ---- another actor sends
@@ -23,19 +21,9 @@ module _ (g : Setting) (opening : Content) (x : Play) where
   same_picked e stays None h = tt
   same_picked e stays (Some ps) h = same_picks g opening x e stays ps h
 
-  -- what the driver is at, it goes on with
-  driver_goes : (e : Entry) → MaySend g opening x e → is_committing ((happen g x (Sends e)).running Driver) ≡ is_committing (x.running Driver)
-  driver_goes e may =
-      let v = hear g e.actor (x.running e.actor) e in
-      let heard = ap (λ m. hear g e.actor m e) may.is_at in
-      elim (same_or_not Driver e.actor) [
-        | inl is ↦ ap is_committing (put_here x.running e.actor v Driver is ∙ heard) ∙ commit_stays g (who e.actor) may.at.operation e.outcome ∙ sym (ap is_committing may.is_at) ∙ ap (λ a. is_committing (x.running a)) (sym is)
-        | inr ne ↦ ap is_committing (put_other x.running e.actor v Driver ne)
-      ]
-
   pub put_by_sent : (e : Entry) (ps : List Pick) → MaySend g opening x e → (is_committing (x.running Driver) ≡ false → LeavesPicks g opening x e) → PutBy g opening x ps → PutBy g opening (happen g x (Sends e)) ps
   put_by_sent e ps may stays h =
-      let same = sym (driver_goes e may) in
+      let same = sym (commits_on g opening x e may Driver) in
       record {
         none = λ c. h.none (same ∙ c);
         first = λ c xs ahead. let old = sent_ahead g x e xs ahead in subst (ArePicked ps) (sym (stays (same ∙ c) xs old)) (h.first (same ∙ c) xs old);

@@ -1,16 +1,13 @@
 -- The actors of a legal script stand apart, each at one place.
-use Rattle.std.proofs.Common.{◌≡◌, ℕ, zero, suc, ◌<◌, ◌&&◌, nat_eq, Bool, true, false, cond, List, [], ◌∷◌, ◌++◌, map, length, slice_get, Some, None, refl, sym, ap, subst, ◌∙◌, arith}
-use Rattle.std.specs.Prelude.{is_some}
+use Rattle.std.proofs.Common.{◌≡◌, ℕ, zero, suc, ◌<◌, ◌&&◌, ◌||◌, nat_eq, Bool, true, false, cond, List, [], ◌∷◌, ◌++◌, map, length, slice_get, Some, None, refl, sym, ap, subst, ◌∙◌, arith}
+use Rattle.std.specs.Prelude.{is_some, option_map}
+use Rattle.std.proofs.lemmas.Option.{slice_get-map}
 use Rattle.job_steps.specs.Prelude.{lookup, Actor, Driver, Who, Declared, same_name, actor_of, IsLegal, AreAttempts, Script, actors, is_own}
-use Rattle.job_spec.proofs.Common.{some_is, none_some, false_true, nat_true}
+use Rattle.job_spec.proofs.Common.{some_is, none_some, false_true, nat_true, or_parts}
+use Rattle.job_steps.proofs.RunningStages.{mapped}
 use Rattle.job_spec.specs.Prelude.{declares}
 
 -- ---- lists
-
-pub within : {X : Type 0} (xs : List X) (i : ℕ) (x : X) → slice_get xs i ≡ Some x → i < length xs
-within [] i x e = absurd (none_some refl e)
-within (y ∷ xs) zero x e = omega arith
-within (y ∷ xs) (suc i) x e = let h : i < length xs = within xs i x e in omega arith
 
 pub there : {X : Type 0} (xs : List X) (i : ℕ) → i < length xs → (x : X) × (slice_get xs i ≡ Some x)
 there [] i h = absurd (omega arith)
@@ -18,50 +15,29 @@ there (x ∷ xs) zero h = (x, refl)
 there (x ∷ xs) (suc i) h = there xs i (omega arith)
 
 pub get_map : {X Y : Type 0} (f : X → Y) (xs : List X) (i : ℕ) (x : X) → slice_get xs i ≡ Some x → slice_get (map f xs) i ≡ Some (f x)
-get_map f [] i x e = absurd (none_some refl e)
-get_map f (y ∷ xs) zero x e = ap (λ v. Some (f v)) (some_is e)
-get_map f (y ∷ xs) (suc i) x e = get_map f xs i x e
+get_map f xs i x e = slice_get-map f xs i ∙ ap (option_map f) e
 
 pub map_get : {X Y : Type 0} (f : X → Y) (xs : List X) (i : ℕ) (y : Y) → slice_get (map f xs) i ≡ Some y → (x : X) × (slice_get xs i ≡ Some x) × (f x ≡ y)
-map_get f [] i y e = absurd (none_some refl e)
-map_get f (x ∷ xs) zero y e = (x, refl, some_is e)
-map_get f (x ∷ xs) (suc i) y e = map_get f xs i y e
+map_get f xs i y e = mapped f (slice_get xs i) y (sym (slice_get-map f xs i) ∙ e)
 
 pub map_none : {X Y : Type 0} (f : X → Y) (xs : List X) (i : ℕ) → slice_get xs i ≡ None → slice_get (map f xs) i ≡ None
-map_none f [] i e = refl
-map_none f (x ∷ xs) zero e = absurd (none_some e refl)
-map_none f (x ∷ xs) (suc i) e = map_none f xs i e
+map_none f xs i e = slice_get-map f xs i ∙ ap (option_map f) e
 
 -- ---- names
 
-found_front : (p : Who → Bool) (xs ys : List Declared) → is_some (lookup p (xs ++ ys)) ≡ false → is_some (lookup p xs) ≡ false
-found_front p [] ys h = refl
-found_front p (x ∷ xs) ys h = by (p x.0) h (found_front p xs ys)
-  where
-    by : (b : Bool) → is_some (cond b (Some x.1) (lookup p (xs ++ ys))) ≡ false → (is_some (lookup p (xs ++ ys)) ≡ false → is_some (lookup p xs) ≡ false) → is_some (cond b (Some x.1) (lookup p xs)) ≡ false
-    by true g r = g
-    by false g r = r g
-
-found_last : (p : Who → Bool) (xs : List Declared) (y : Declared) → is_some (lookup p (xs ++ y ∷ [])) ≡ false → p y.0 ≡ false
-found_last p [] y h = by (p y.0) h
-  where
-    by : (b : Bool) → is_some (cond b (Some y.1) None) ≡ false → b ≡ false
-    by true g = g
-    by false g = refl
-found_last p (x ∷ xs) y h = by (p x.0) h (found_last p xs y)
-  where
-    by : (b : Bool) → is_some (cond b (Some x.1) (lookup p (xs ++ y ∷ []))) ≡ false → (is_some (lookup p (xs ++ y ∷ [])) ≡ false → p y.0 ≡ false) → p y.0 ≡ false
-    by true g r = absurd (false_true g refl)
-    by false g r = r g
+found_append : (p : Who → Bool) (xs ys : List Declared) → is_some (lookup p (xs ++ ys)) ≡ (is_some (lookup p xs) || is_some (lookup p ys))
+found_append p [] ys = refl
+found_append p (x ∷ xs) ys =
+    elim (p x.0) as (λ b. is_some (cond b (Some x.1) (lookup p (xs ++ ys))) ≡ (is_some (cond b (Some x.1) (lookup p xs)) || is_some (lookup p ys))) [
+      | true ↦ refl
+      | false ↦ found_append p xs ys
+    ]
 
 -- a later attempt has no name that stood before
 unnamed : (tasks : ℕ) (before all : List Declared) → AreAttempts tasks before all → (k : ℕ) (d : Declared) → slice_get all k ≡ Some d → declares before d.0 ≡ false
 unnamed tasks before [] h k d e = absurd (none_some refl e)
 unnamed tasks before (a ∷ more) h zero d e = subst (λ (x : Declared). declares before x.0 ≡ false) (some_is e) h.2
-unnamed tasks before (a ∷ more) h (suc k) d e = found_front (same_name d.0) before (a ∷ []) (unnamed tasks (before ++ a ∷ []) more h.4 k d e)
-
-later_named : (tasks : ℕ) (before : List Declared) (a : Declared) (more : List Declared) → AreAttempts tasks (before ++ a ∷ []) more → (k : ℕ) (d : Declared) → slice_get more k ≡ Some d → same_name d.0 a.0 ≡ false
-later_named tasks before a more h k d e = found_last (same_name d.0) before a (unnamed tasks (before ++ a ∷ []) more h k d e)
+unnamed tasks before (a ∷ more) h (suc k) d e = (or_parts _ _ (sym (found_append (same_name d.0) before (a ∷ [])) ∙ unnamed tasks (before ++ a ∷ []) more h.4 k d e)).0
 
 one_name : (x y : Who) → actor_of x ≡ actor_of y → same_name x y ≡ true
 one_name x y e =
@@ -69,15 +45,17 @@ one_name x y e =
     let n : x.attempt ≡ y.attempt = cc in
     ap (λ b. b && nat_eq x.attempt y.attempt) (nat_true x.task y.task t) ∙ nat_true x.attempt y.attempt n
 
+later_other : (tasks : ℕ) (before : List Declared) (a : Declared) (more : List Declared) → AreAttempts tasks (before ++ a ∷ []) more → (k : ℕ) (d : Declared)
+    → slice_get more k ≡ Some d → actor_of d.0 ≡ actor_of a.0 → ⊥
+later_other tasks before a more h k d e s =
+    let last = (or_parts (is_some (lookup (same_name d.0) before)) _ (sym (found_append (same_name d.0) before (a ∷ [])) ∙ unnamed tasks (before ++ a ∷ []) more h k d e)).1 in
+    false_true last (ap (λ b. is_some (cond b (Some a.1) None)) (one_name d.0 a.0 s))
+
 names_apart : (tasks : ℕ) (before all : List Declared) → AreAttempts tasks before all → (i j : ℕ) (d e : Declared) → slice_get all i ≡ Some d → slice_get all j ≡ Some e → actor_of d.0 ≡ actor_of e.0 → i ≡ j
 names_apart tasks before [] h i j d e p q s = absurd (none_some refl p)
 names_apart tasks before (a ∷ more) h zero zero d e p q s = refl
-names_apart tasks before (a ∷ more) h zero (suc j) d e p q s =
-    let same = one_name e.0 a.0 (sym s ∙ ap (λ (x : Declared). actor_of x.0) (sym (some_is p))) in
-    absurd (false_true (later_named tasks before a more h.4 j e q) same)
-names_apart tasks before (a ∷ more) h (suc i) zero d e p q s =
-    let same = one_name d.0 a.0 (s ∙ ap (λ (x : Declared). actor_of x.0) (sym (some_is q))) in
-    absurd (false_true (later_named tasks before a more h.4 i d p) same)
+names_apart tasks before (a ∷ more) h zero (suc j) d e p q s = absurd (later_other tasks before a more h.4 j e q (sym s ∙ ap (λ (x : Declared). actor_of x.0) (sym (some_is p))))
+names_apart tasks before (a ∷ more) h (suc i) zero d e p q s = absurd (later_other tasks before a more h.4 i d p (s ∙ ap (λ (x : Declared). actor_of x.0) (sym (some_is q))))
 names_apart tasks before (a ∷ more) h (suc i) (suc j) d e p q s = ap (λ (n : ℕ). suc n) (names_apart tasks (before ++ a ∷ []) more h.4 i j d e p q s)
 
 -- ---- places

@@ -10,13 +10,11 @@ use Rattle.job_actor.specs.declared.posting.Posted.{Posted}
 use Rattle.job_actor.specs.declared.posting.Posted.TheVariants.{Unsent, Broken, Heard}
 use Rattle.job_actor.specs.Works.{WorkLaws}
 use Rattle.job_side.specs.Sending.{Asks, HandDue, HandPosted}
-use Rattle.job_side.specs.Holds.{Holds, is_mine, all_sound, all_but, is_busy_at, setting_of, hand_left}
+use Rattle.job_side.specs.Holds.{Holds, HandsAre, is_mine, all_sound, all_but, is_busy_at, setting_of, hand_left}
 use Rattle.job_side.specs.Posts.{Around, Wrote, FellAt, PostedAt, raised}
 use Rattle.job_side.specs.declared.hands.Hand.{Hand}
-use Rattle.job_side.specs.declared.hands.Hand.TheVariants.{Plan, At, Empty}
+use Rattle.job_side.specs.declared.hands.Hand.TheVariants.{At}
 use Rattle.job_side.specs.declared.body.Body.{Body}
-use Rattle.job_side.proofs.Along.{carried}
-use Rattle.job_side.proofs.Finishes.{is_something}
 use Rattle.job_side.proofs.Sends.{eyes_own, is_at, sent_holds, sent_raises}
 use Rattle.job_side.proofs.Seen.{foretold_as}
 
@@ -34,18 +32,15 @@ posts_around b place st j hs fates places others = record { stays = record { scr
 
 -- as many requests were made as entries stand
 pub counted : {W : Type 0} (is_of : Setting → Actor → W → Type 0) (running : Known → W → Running) (picks_of : W → Option (List Pick)) (b : Body W) → Holds is_of running picks_of all_sound b → b.shared.store.requests ≤ length b.shared.journal.entries
-counted is_of running picks_of b h =
-    let n : b.shared.store.requests ≡ length b.shared.journal.entries = h.requests in
-    omega (arith, n)
+counted is_of running picks_of b h = omega (arith, h.requests)
 
 module _ {W : Type 0} (wants : W → Option Request) (tells : W → Outcome → W) (fits : W → Outcome → Type 0) (end_of : W → Option OpEnd) (left : W → Scene → ℕ) (is_of : Setting → Actor → W → Type 0) (running : Known → W → Running) (rise : Script → ℕ) (picks_of : W → Option (List Pick)) (works : WorkLaws wants tells fits end_of left is_of running rise picks_of) where
   -- each outcome that is due to a busy actor fits
   pub due_fits : (b : Body W) → Holds is_of running picks_of all_sound b → length b.shared.journal.entries < 2 ^ 62 → (place : ℕ) (actor : Actor) → slice_get (actors b.side.script) place ≡ Some actor → (h : Hand W) → slice_get b.side.hands.items place ≡ Some h → Asks wants h → HandDue wants fits h b.shared.store.scene
-  due_fits b holds few place actor here (Plan p) hand asks = asks
-  due_fits b holds few place actor here Empty hand asks = asks
   due_fits b holds few place actor here (At m) hand asks =
       let at = is_at wants tells fits end_of left is_of running rise picks_of works b holds few place actor m here hand in
       subst (DueFits wants fits m) (sym holds.scene) (works.due (setting_of b) b.shared.opening holds.play actor m at)
+  due_fits b holds few place actor here _ hand asks = asks
 
   module _ (rises : W → Request → ℕ) (acts : ActLaws wants tells fits end_of left rises) (b : Body W) (holds : Holds is_of running picks_of all_sound b) (during : IsSome b.side.event) (few : length b.shared.journal.entries < 2 ^ 62) (place : ℕ) (actor : Actor) (here : slice_get (actors b.side.script) place ≡ Some actor) (busy : is_busy_at b.side.states.actors place ≡ true) (st : LossyLink) (j : Ledger) (hs : Vec (Hand W) Global) (fates : (n : ℕ) → Some (fate_at st.fates n) ≡ Some (fate_at b.shared.store.fates n)) (places : length hs.items ≡ length b.side.hands.items) (others : (q : ℕ) → (q ≡ place → ⊥) → slice_get hs.items q ≡ slice_get b.side.hands.items q) where
     told : (n : ℕ) → fate_at st.fates n ≡ fate_at b.shared.store.fates n
@@ -54,28 +49,15 @@ module _ {W : Type 0} (wants : W → Option Request) (tells : W → Outcome → 
     -- nothing was sent
     unsent_holds : j.entries ≡ b.shared.journal.entries → st.scene ≡ b.shared.store.scene → st.requests ≡ b.shared.store.requests → Holds is_of running picks_of (all_but place) (record b { side = record b.side { hands = hs }; shared = record b.shared { store = st; journal = j } })
     unsent_holds entries scene count =
-        let S : Scene → Type 0 = λ s. s.content.next ≤ 2 ^ 62 + b.shared.store.requests in
-        let N : ℕ → Type 0 = λ n. st.scene.content.next ≤ 2 ^ 62 + n in
-        record {
-          legal = holds.legal;
-          opens = holds.opens;
-          play = holds.play;
-          happened = holds.happened;
-          journal = ap (in_eyes (is_mine b.side.others.items)) entries ∙ holds.journal;
-          ends = holds.ends;
-          counts = holds.counts;
-          turn = λ v. record { mine = (holds.turn v).mine; few = (holds.turn v).few };
-          now = holds.now;
-          finished = holds.finished;
-          scene = scene ∙ holds.scene;
-          requests = count ∙ holds.requests ∙ sym (ap length entries);
-          fated = subst (AreForetold (λ n. Some (fate_at st.fates n)) 1) (sym entries) (foretold_as (λ n. Some (fate_at b.shared.store.fates n)) (λ n. Some (fate_at st.fates n)) 1 b.shared.journal.entries fates holds.fated);
-          few = subst N (sym count) (subst S (sym scene) holds.few);
-          stands = holds.stands;
-          places = places ∙ holds.places;
-          hands = λ q a v s e i. holds.hands q a v refl e (sym (others q (λ is. left_out place (ap (all_but place) (sym is) ∙ s))) ∙ i);
-          picks = holds.picks;
-        }
+        let turn = holds.turn during in
+        let journal = ap (in_eyes (is_mine b.side.others.items)) entries ∙ holds.journal in
+        let fated =
+        subst (AreForetold (λ n. Some (fate_at st.fates n)) 1) (sym entries)
+        (foretold_as (λ n. Some (fate_at b.shared.store.fates n)) (λ n. Some (fate_at st.fates n)) 1 b.shared.journal.entries fates holds.fated) in
+        let low : st.scene.content.next ≤ 2 ^ 62 + st.requests = rw (count, scene) holds.few in
+        let hands : HandsAre is_of running picks_of (all_but place) (setting_of b) b.shared.opening holds.play hs.items =
+        λ q a v s e i. holds.hands q a v refl e (sym (others q (λ is. left_out place (ap (all_but place) (sym is) ∙ s))) ∙ i) in
+        search (turn, journal, scene ∙ holds.scene, count ∙ holds.requests ∙ sym (ap length entries), fated, low, places ∙ holds.places, hands, holds)
 
     module _ (m n : W) (hand : slice_get b.side.hands.items place ≡ Some (At m)) (now : slice_get hs.items place ≡ Some (At n)) (grew : Grew (wants m) actor (b.shared.events + 1) (seen_of b.shared.store b.shared.journal) (seen_of st j)) where
       grew_holds : (sound : ℕ → Bool) → (sound place ≡ true → n ≡ tells m grew.outcome) → Holds is_of running picks_of sound (record b { side = record b.side { hands = hs }; shared = record b.shared { store = st; journal = j } })
@@ -100,18 +82,11 @@ module _ {W : Type 0} (wants : W → Option Request) (tells : W → Outcome → 
           let at = is_at wants tells fits end_of left is_of running rise picks_of works b holds few place actor m here hand in
           let fit = subst (DueFits wants fits m) (sym holds.scene) (works.due (setting_of b) b.shared.opening holds.play actor m at) grew.request grew.outcome grew.wanted grew.honest in
           let low : left (tells m grew.outcome) (effect b.shared.store.scene grew.request grew.outcome) < left m b.shared.store.scene = acts.falls m b.shared.store.scene grew.request grew.outcome grew.wanted fit grew.honest in
-          let S : Scene → Type 0 = λ s. left (tells m grew.outcome) s < left m b.shared.store.scene in
-          let N : W → Type 0 = λ z. left z st.scene < left m b.shared.store.scene in
-          let V : Hand W → Type 0 = λ z. left n st.scene < hand_left left b.shared.store.scene z in
-          let K : Hand W → Type 0 = λ z. hand_left left st.scene z < hand_left left b.shared.store.scene v in
-          subst K (some_is (sym now ∙ i)) (subst V (some_is (sym hand ∙ e)) (subst N (sym told) (subst S (sym grew.scene) low)))
+          rw (sym (some_is (sym now ∙ i)), sym (some_is (sym hand ∙ e)), told, grew.scene) low
 
     pub posted_at : (v k : Hand W) → slice_get b.side.hands.items place ≡ Some v → slice_get hs.items place ≡ Some k → (p : Posted) → HandPosted wants tells end_of actor (b.shared.events + 1) v k (seen_of b.shared.store b.shared.journal) (seen_of st j) p
         → PostedAt left is_of running rise picks_of place actor b (record b { side = record b.side { hands = hs }; shared = record b.shared { store = st; journal = j } }) p
     posted_at (At m) (At n) hand now Unsent h = (unsent_holds h.entries h.scene h.count, h.entries, h.scene)
     posted_at (At m) (At n) hand now Broken h = (grew_holds m n hand now h.grew (all_but place) (λ s. absurd (left_out place s)), wrote m n hand now h.grew, raises m n hand now h.grew)
     posted_at (At m) (At n) hand now Heard h = (grew_holds m n hand now h.grew all_sound (λ s. h.told), wrote m n hand now h.grew, raises m n hand now h.grew, falls m n hand now h.grew h.told, (n, now))
-    posted_at (At m) (Plan q) hand now p h = absurd h
-    posted_at (At m) Empty hand now p h = absurd h
-    posted_at (Plan q) k hand now p h = absurd h
-    posted_at Empty k hand now p h = absurd h
+    posted_at _ _ hand now p h = absurd h

@@ -1,59 +1,43 @@
 -- What a driver is told of its tasks is what was reported.
-use Rattle.std.proofs.Common.{◌≡◌, ℕ, zero, suc, ◌+◌, ◌<◌, ◌≤◌, nat_eq, Bool, true, false, cond, List, [], ◌∷◌, ◌++◌, map, take, length, slice_get, Option, Some, None, refl, sym, ap, subst, ◌∙◌, arith, length-append}
+use Rattle.std.proofs.Common.{◌≡◌, ℕ, zero, suc, ◌+◌, ◌<◌, ◌≤◌, Bool, true, false, cond, List, [], ◌∷◌, ◌++◌, map, take, length, slice_get, Option, Some, None, refl, sym, ap, ◌∙◌, arith, length-append}
 use Rattle.std.specs.Prelude.{is_some}
-use Rattle.job_spec.proofs.Common.{map-append, length-map, take_all, some_is, none_some, false_true, nat_tests}
-use Rattle.job_steps.specs.Prelude.{lookup, filter, Actor, Driver, Attempt, Shell, Who, actor_of, same_name, Declared, is_known, Known, Op, Setup, Abort, Clean, Write, Script, Setting, Past, Reports, reports, missing, start_of, actors}
-use Rattle.job_model.specs.declared.events.Op.TheVariants.{Commit}
+use Rattle.job_spec.proofs.Common.{map-append, take_all, some_is, none_some, false_true, nat_true}
+use Rattle.job_steps.specs.Prelude.{lookup, filter, Actor, Driver, Attempt, Who, actor_of, same_name, Declared, is_known, Known, Op, Script, Setting, Past, Reports, reports, missing, start_of, actors}
+use Rattle.job_model.specs.declared.events.Op.TheVariants.{Commit, Write}
 use Rattle.job_protocol.proofs.Begun.{commit_alone}
 use Rattle.job_protocol.specs.Operations.{commit_of, TheCommit}
 use Rattle.job_protocol.specs.JobCommits.{commit_start}
 use Rattle.commit_laws.specs.Fitting.{least_missing}
 use Rattle.job_states.specs.Stands.{Kept, Stands}
 use Rattle.job_plans.specs.Reported.{those}
-use Rattle.job_actor.specs.Reports.{IsReport, report_dirs}
+use Rattle.job_actor.specs.Reports.{report_dirs}
 use Rattle.job_actor.specs.declared.reported.Reported.{Reported}
 use Rattle.job_side.specs.Holds.{setting_of}
 use Rattle.job_side.specs.Events.{of_tasks}
 use Rattle.job_side.specs.Reporting.{flags_to, AreFlags, ArePartitions, IsTold, IsUntold}
 use Rattle.job_side.specs.declared.body.Body.{Body}
 use Rattle.job_side.proofs.Firsts.{take_more}
-use Rattle.job_side.proofs.Beginning.{attempt_starts}
+use Rattle.job_side.proofs.Places.{there, get_map}
 
 -- ---- the actor at an attempt's place
 
 same_self : (m : Who) → same_name m m ≡ true
-same_self m = rw (nat_same m.task, nat_same m.attempt) refl
-  where
-    nat_same : (n : ℕ) → nat_eq n n ≡ true
-    nat_same n = grind (arith, nat_tests)
+same_self m = rw (nat_true m.task m.task refl, nat_true m.attempt m.attempt refl) refl
 
 declared_known : (ds : List Declared) (n : ℕ) (d : Declared) → slice_get ds n ≡ Some d → is_some (lookup (same_name d.0) ds) ≡ true
 declared_known [] n d e = absurd (none_some refl e)
 declared_known (x ∷ ds) zero d e = let is : x ≡ d = some_is e in ap (λ b. is_some (cond b (Some x.1) (lookup (same_name d.0) ds))) (ap (λ (v : Declared). same_name d.0 v.0) is ∙ same_self d.0)
-declared_known (x ∷ ds) (suc n) d e = by (same_name d.0 x.0) (declared_known ds n d e)
-  where
-    by : (b : Bool) → is_some (lookup (same_name d.0) ds) ≡ true → is_some (cond b (Some x.1) (lookup (same_name d.0) ds)) ≡ true
-    by true old = refl
-    by false old = old
-
-at_place : (ds : List Declared) (n : ℕ) → n < length ds → (d : Declared) × (slice_get ds n ≡ Some d)
-at_place [] n h = absurd (omega (arith, h))
-at_place (d ∷ ds) zero h = (d, refl)
-at_place (d ∷ ds) (suc n) h = at_place ds n (omega (arith, h))
-
-mapped_at : (ds : List Declared) (n : ℕ) (d : Declared) → slice_get ds n ≡ Some d → slice_get (map (λ (v : Declared). actor_of v.0) ds) n ≡ Some (actor_of d.0)
-mapped_at [] n d e = absurd (none_some refl e)
-mapped_at (x ∷ ds) zero d e = ap (λ (v : Declared). Some (actor_of v.0)) (some_is e)
-mapped_at (x ∷ ds) (suc n) d e = mapped_at ds n d e
+declared_known (x ∷ ds) (suc n) d e =
+    elim (same_name d.0 x.0) as (λ b. is_some (cond b (Some x.1) (lookup (same_name d.0) ds)) ≡ true) [ true ↦ refl | false ↦ declared_known ds n d e ]
 
 module _ (w : Script) (n : ℕ) (a : Actor) (low : n < length w.attempts) (at : slice_get (actors w) (n + 1) ≡ Some a) where
   declared : (d : Declared) × (slice_get w.attempts n ≡ Some d)
-  declared = at_place w.attempts n low
+  declared = there w.attempts n low
 
   actor_is : a ≡ actor_of declared.0.0
   actor_is =
       let next : n + 1 ≡ suc n = omega arith in
-      some_is (sym at ∙ ap (slice_get (actors w)) next ∙ mapped_at w.attempts n declared.0 declared.1)
+      some_is (sym at ∙ ap (slice_get (actors w)) next ∙ get_map (λ (v : Declared). actor_of v.0) w.attempts n declared.0 declared.1)
 
   pub is_declared : is_known w.attempts a ≡ true
   is_declared = ap (is_known w.attempts) actor_is ∙ declared_known w.attempts n declared.0 declared.1
@@ -75,13 +59,10 @@ module _ (w : Script) (n : ℕ) (a : Actor) (low : n < length w.attempts) (at : 
       next = omega arith
 
 pub no_flags : (w : Script) (s : Kept) (flags : List Bool) → flags ≡ [] → AreFlags w s 0 flags
-no_flags w s flags is = record { count = ap length is ∙ sym (nothing w.attempts); are = λ p stands. is ∙ sym (none w.attempts p) }
+no_flags w s flags is =
+    record { count = ap length is ∙ sym (ap length (nothing w.attempts)); are = λ p stands. is ∙ sym (ap (map (λ (d : Declared). p.reported (actor_of d.0))) (nothing w.attempts)) }
   where
-    none : (ds : List Declared) (p : Past) → map (λ (d : Declared). p.reported (actor_of d.0)) (take 0 ds) ≡ []
-    none [] p = refl
-    none (d ∷ ds) p = refl
-
-    nothing : (ds : List Declared) → length (take 0 ds) ≡ 0
+    nothing : (ds : List Declared) → take 0 ds ≡ []
     nothing [] = refl
     nothing (d ∷ ds) = refl
 
@@ -100,12 +81,11 @@ all_count w s flags h = h.count ∙ ap length (take_all (length w.attempts) w.at
 
 those_are : (ds : List Declared) (f : Actor → Bool) → those ds (map (λ (d : Declared). f (actor_of d.0)) ds) ≡ filter (λ a. f (actor_of a)) (map (λ (d : Declared). d.0) ds)
 those_are [] f = refl
-those_are (d ∷ ds) f = by (f (actor_of d.0)) (those_are ds f)
-  where
-    by : (b : Bool) → those ds (map (λ (d : Declared). f (actor_of d.0)) ds) ≡ filter (λ a. f (actor_of a)) (map (λ (d : Declared). d.0) ds)
-        → cond b (d.0 ∷ those ds (map (λ (d : Declared). f (actor_of d.0)) ds)) (those ds (map (λ (d : Declared). f (actor_of d.0)) ds)) ≡ cond b (d.0 ∷ filter (λ a. f (actor_of a)) (map (λ (d : Declared). d.0) ds)) (filter (λ a. f (actor_of a)) (map (λ (d : Declared). d.0) ds))
-    by true old = ap (λ l. d.0 ∷ l) old
-    by false old = old
+those_are (d ∷ ds) f =
+    let old = those_are ds f in
+    elim (f (actor_of d.0)) as (λ b. cond b (d.0 ∷ those ds (map (λ (d : Declared). f (actor_of d.0)) ds)) (those ds (map (λ (d : Declared). f (actor_of d.0)) ds)) ≡ cond b
+    (d.0 ∷ filter (λ a. f (actor_of a)) (map (λ (d : Declared). d.0) ds)) (filter (λ a. f (actor_of a)) (map (λ (d : Declared). d.0) ds)))
+    [ true ↦ ap (λ l. d.0 ∷ l) old | false ↦ old ]
 
 pub partitions_are : (shares : Bool) → shares ≡ true → (w : Script) (s : Kept) (flags : List Bool) (ds : List (List ℕ)) → AreFlags w s (length w.attempts) flags → ds ≡ report_dirs w (those w.attempts flags) → ArePartitions shares w s (Some ds)
 partitions_are shares e w s flags ds h is = record {
@@ -119,6 +99,13 @@ pub none_are : (w : Script) (s : Kept) (shares : Bool) → shares ≡ false → 
 none_are w s shares is = record { attempts = []; told = sym is; are = λ ds e. absurd (none_some refl e); reported = λ p stands e. absurd (false_true is e) }
 
 -- ---- what is told
+
+-- any other operation begins whatever is reported
+starts_alike : (g : Setting) (a : Actor) (op : Op) (r t : Reports) (k : Known) → (a ≡ Driver → op ≡ Commit → ⊥) → start_of g a op r k ≡ start_of g a op t k
+starts_alike g Driver Commit r t k ne = absurd (ne refl refl)
+starts_alike g Driver _ r t k ne = refl
+starts_alike g (Attempt n m) Write r t k ne = refl
+starts_alike g _ _ r t k ne = refl
 
 module _ {W : Type 0} (b : Body W) where
   abbrev g : Setting
@@ -136,23 +123,10 @@ module _ {W : Type 0} (b : Body W) where
       by p stands true e = λ i. commit_of g (record { missing = least p stands i; attempts = h.reported p stands e i })
       by p stands false e = commit_alone g (record { missing = least_missing b.side.script.tasks tasks; attempts = h.attempts }) e ∙ ap (λ m. TheCommit (commit_start b.side.script m)) (least p stands) ∙ sym (commit_alone g (reports b.side.script p.reported) e)
 
-  driver_starts : (op : Op) (r t : Reports) (k : Known) → (op ≡ Commit → ⊥) → start_of g Driver op r k ≡ start_of g Driver op t k
-  driver_starts Setup r t k ne = refl
-  driver_starts Commit r t k ne = absurd (ne refl)
-  driver_starts Abort r t k ne = refl
-  driver_starts Clean r t k ne = refl
-  driver_starts Write r t k ne = refl
-
-  pub told_nothing : (op : Op) (x : Reported) → (op ≡ Commit → ⊥) → IsUntold b x → IsTold b Driver op x
-  told_nothing op x ne h = record {
+  -- where the driver does not begin the job's commit nothing need be told
+  pub told_nothing : (a : Actor) (op : Op) (x : Reported) → (a ≡ Driver → op ≡ Commit → ⊥) → IsUntold b x → IsTold b a op x
+  told_nothing a op x ne h = record {
     tells = of_tasks (least_missing b.side.script.tasks x.tasks);
-    is = record { missing = refl; shared = h.shares; partitions = λ ds d o e. absurd (ne o) };
-    same = λ p k stands. driver_starts op (of_tasks (least_missing b.side.script.tasks x.tasks)) (reports b.side.script p.reported) k ne;
-  }
-
-  pub told_attempt : (a : Actor) (op : Op) (x : Reported) → (a ≡ Driver → ⊥) → IsUntold b x → IsTold b a op x
-  told_attempt a op x ne h = record {
-    tells = of_tasks (least_missing b.side.script.tasks x.tasks);
-    is = record { missing = refl; shared = h.shares; partitions = λ ds d o e. absurd (ne d) };
-    same = λ p k stands. attempt_starts g a op (of_tasks (least_missing b.side.script.tasks x.tasks)) (reports b.side.script p.reported) k ne;
+    is = record { missing = refl; shared = h.shares; partitions = λ ds d o e. absurd (ne d o) };
+    same = λ p k stands. starts_alike g a op (of_tasks (least_missing b.side.script.tasks x.tasks)) (reports b.side.script p.reported) k ne;
   }

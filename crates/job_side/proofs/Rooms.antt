@@ -1,41 +1,19 @@
 -- Room is taken in a world before its next event, which changes nothing else; and why that event is refused, if it is.
-use Rattle.std.specs.Prelude.{Result, Ok, Err, OnOk}
-use Rattle.std.proofs.Common.{◌≡◌, ◌+◌, ◌<◌, ◌^◌, List, [], ◌∷◌, ◌++◌, length, slice_get, Option, sym, ap, subst, ◌∙◌}
-use Rattle.job_steps.specs.Prelude.{fate_at, Request, Actor, Known, Event, EventEnd, EventFault, Pick, Setting, Running, Past, past, refusal}
+use Rattle.std.proofs.Common.{◌≡◌, ◌+◌, List, [], ◌∷◌, ◌++◌, length, slice_get, Option, sym, ap, subst, ◌∙◌}
+use Rattle.job_steps.specs.Prelude.{fate_at, Request, Actor, Known, Event, EventFault, Pick, Setting, Running, Past, past, refusal}
 use Rattle.job_states.specs.Stands.{Stands}
 use Rattle.job_side.specs.Holds.{Quiet, IsTurn, AreOf, is_mine, stays_on, all_sound}
 use Rattle.job_side.specs.Events.{Next, Grown, IsAsBefore}
 use Rattle.job_side.specs.declared.body.Body.{Body}
 use Rattle.job_side.specs.declared.body.Shared.{Shared}
-use Rattle.job_side.proofs.Moments.{stands_of}
+use Rattle.job_side.proofs.Moments.{never, stands_of}
 
 module _ {W : Type 0} (wants : W → Option Request) (is_of : Setting → Actor → W → Type 0) (running : Known → W → Running) (picks_of : W → Option (List Pick)) where
   pub quiet_roomy : (b c : Body W) → Quiet wants is_of running picks_of b → c.side.ends.items ≡ b.side.ends.items → c.side.finished.items ≡ b.side.finished.items → Quiet wants is_of running picks_of (record b { side = record b.side { ends = c.side.ends; finished = c.side.finished } })
-  quiet_roomy b c q ends finished = record {
-    holds = record {
-      legal = q.holds.legal;
-      opens = q.holds.opens;
-      play = q.holds.play;
-      happened = q.holds.happened;
-      journal = q.holds.journal;
-      ends = ends ∙ q.holds.ends;
-      counts = q.holds.counts ∙ sym (ap length ends);
-      turn = λ e. record { mine = (q.holds.turn e).mine; few = (q.holds.turn e).few };
-      now = q.holds.now;
-      finished = finished ∙ q.holds.finished;
-      scene = q.holds.scene;
-      requests = q.holds.requests;
-      fated = q.holds.fated;
-      few = q.holds.few;
-      stands = q.holds.stands;
-      places = q.holds.places;
-      hands = q.holds.hands;
-      picks = q.holds.picks;
-    };
-    none_over = q.none_over;
-    idle = q.idle;
-    none = finished ∙ q.none;
-  }
+  quiet_roomy b c q ends finished =
+      let counts = q.holds.counts ∙ sym (ap length ends) in
+      let turn = never (IsTurn (record b { side = record b.side { ends = c.side.ends; finished = c.side.finished } })) b.side.event q.idle in
+      search (ends ∙ q.holds.ends, counts, turn, finished ∙ q.holds.finished, finished ∙ q.none, q, q.holds)
 
   -- the event is refused by what is past
   pub refusal_is : (b : Body W) → Quiet wants is_of running picks_of b → (ev : Event) (o : Option EventFault) → ((p : Past) → Stands b.side.script b.side.states p → o ≡ refusal p.state ev) → refusal (past b.side.script b.side.ends.items).state ev ≡ o
@@ -45,7 +23,7 @@ module _ {W : Type 0} (b c : Body W) (same : IsAsBefore b c) where
   pub turn_roomy : IsTurn b → IsTurn c
   turn_roomy turn = record {
     mine = ap (λ v. is_mine v.items (c.shared.events + 1)) same.others ∙ ap (λ v. is_mine b.side.others.items (v.events + 1)) same.shared ∙ turn.mine;
-    few = let P : Shared → Type 0 = λ v. v.events + 1 < 2 ^ 32 in subst P (sym same.shared) turn.few;
+    few = rw same.shared turn.few;
   }
 
   pub next_roomy : (ev : Event) → Next b ev → Next c ev
@@ -59,7 +37,3 @@ module _ {W : Type 0} (b c : Body W) (same : IsAsBefore b c) where
     events = grown.events ∙ ap (λ v. v.events + 1) same.shared;
     more = (grown.more.0, grown.more.1 ∙ ap (λ v. v.journal.entries ++ grown.more.0) same.shared, subst (λ (v : Shared). AreOf (v.events + 1) grown.more.0) same.shared grown.more.2);
   }
-
-  pub grown_ok : {T E : Type 0} (d : Body W) (r : Result T E) → OnOk r (Grown c d) → OnOk r (Grown b d)
-  grown_ok d (Ok x) grown = grown_roomy d grown
-  grown_ok d (Err e) grown = tt

@@ -1,6 +1,6 @@
 -- One more entry in a side's eyes.
-use Rattle.std.proofs.Common.{◌≡◌, ℕ, suc, ◌+◌, cond, Bool, true, List, [], ◌∷◌, ◌++◌, length, Option, Some, refl, sym, ap, subst, ◌∙◌, arith}
-use Rattle.job_spec.proofs.Common.{map-append, length-map}
+use Rattle.std.proofs.Common.{◌≡◌, ℕ, suc, ◌+◌, cond, Bool, true, List, [], ◌∷◌, ◌++◌, length, Option, sym, ap, subst, ◌∙◌, arith}
+use Rattle.job_spec.proofs.Common.{map-append}
 use Rattle.job_steps.specs.Prelude.{IsForetold, AreForetold, Fate, Actor, Shell, Request, Outcome, Entry}
 use Rattle.job_spec.specs.Prelude.{in_eyes}
 use Rattle.job_spec.specs.Eyes.{number_in, entry_in}

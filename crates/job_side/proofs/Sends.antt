@@ -1,11 +1,10 @@
 -- What holds of a world where one of its busy actors has sent a request.
 use Rattle.std.proofs.Common.{◌≡◌, ℕ, zero, suc, ◌+◌, ◌<◌, ◌≤◌, ◌^◌, inl, inr, Bool, true, false, List, [], ◌∷◌, ◌++◌, length, slice_get, Option, Some, None, IsSome, Vec, Global, refl, sym, ap, subst, ◌∙◌, arith, length-append}
-use Rattle.job_spec.proofs.Common.{some_is, false_true, true_or_false}
-use Rattle.job_steps.specs.Prelude.{Content, Scene, answer, apply, effect, after_all, IsHonestOutcome, fate_at, IsForetold, AreForetold, Fate, Ledger, Actor, Driver, Request, PutObject, CopyObject, CreateUpload, UploadPart, CompleteUpload, Outcome, Slow, RequestLost, Entry, Known, Script, OpEnd, Pick, Setting, Running, advance, actors, Play, Sends, hear, happen, scene_of, knows_now, MaySend, happens}
-use Rattle.job_facts.specs.Prelude.{MakeBucket, GetObject, HeadObject, DeleteObject, DeleteObjects, ListPage, AbortUpload, ListParts, ListUploads}
+use Rattle.job_spec.proofs.Common.{false_true, true_or_false, slice_get_within}
+use Rattle.job_steps.specs.Prelude.{Content, Scene, answer, apply, effect, after_all, IsHonestOutcome, moment, fate_at, IsForetold, AreForetold, Fate, Ledger, Actor, Driver, Request, Outcome, Slow, RequestLost, Entry, Known, Script, OpEnd, Pick, Setting, Running, advance, actors, Play, Sends, hear, happen, knows_now, MaySend, happens}
+use Rattle.job_facts.specs.Prelude.{ClusterPut, ClusterRename, ClusterGet, ClusterDelete, ClusterList}
 use Rattle.job_spec.specs.Prelude.{in_eyes}
 use Rattle.proof_base.proofs.Options.{none_is}
-use Rattle.proof_base.proofs.Members.{same_or_not as same_number}
 use Rattle.s3_types.specs.Store.{opening as scene_at_first}
 use Rattle.store_link.specs.Link.{LossyLink}
 use Rattle.store_link.proofs.Ids.{next_store}
@@ -13,6 +12,7 @@ use Rattle.job_spec.specs.Eyes.{number_in}
 use Rattle.job_actor.specs.Plans.{IsPlanOf}
 use Rattle.job_steps.proofs.Actors.{same_or_not, put_here, put_other}
 use Rattle.job_steps.proofs.Parts.{take_whole}
+use Rattle.job_steps.proofs.PastMore.{busy_is}
 use Rattle.job_actor.specs.Picks.{HasPicked, LeavesPicks, is_job_commit, is_committing}
 use Rattle.job_actor.specs.Works.{WorkLaws, IsAt, rise_for}
 use Rattle.job_side.specs.Holds.{Holds, HandIs, HandsAre, IsTurn, is_mine, seen_by, all_sound, is_busy_at, setting_of, hand_left}
@@ -20,46 +20,35 @@ use Rattle.job_side.specs.Posts.{RaisedBy, raised}
 use Rattle.job_side.specs.declared.hands.Hand.{Hand}
 use Rattle.job_side.specs.declared.hands.Hand.TheVariants.{Plan, At, Empty}
 use Rattle.job_side.specs.declared.body.Body.{Body}
-use Rattle.job_side.proofs.Places.{apart, driver_first, attempt_at, within, there}
+use Rattle.job_side.proofs.Places.{apart, driver_first, attempt_at, there}
+use Rattle.job_side.proofs.Standings.{busy_at}
+use Rattle.job_safety.proofs.Cuts.{after_cut}
 use Rattle.job_side.proofs.Seen.{eyes_more, foretold_as, foretold_last}
 use Rattle.job_side.proofs.Along.{carried, others_know}
 use Rattle.job_side.proofs.PicksStay.{same_picked, put_by_sent}
-use Rattle.job_side.proofs.Finishes.{is_something, busy_is, busy_there}
+use Rattle.job_side.proofs.Finishes.{is_something, hands_by}
 
 -- ---- scenes
 
 -- a request draws one id at most
 next_of : (s : Scene) (r : Request) → (apply s r).content.next ≤ s.content.next + 1
-next_of s (MakeBucket n) = next_store s.content (MakeBucket n)
-next_of s (PutObject n k b h) = next_store s.content (PutObject n k b h)
-next_of s (GetObject n k) = next_store s.content (GetObject n k)
-next_of s (HeadObject n k) = next_store s.content (HeadObject n k)
-next_of s (DeleteObject n k) = next_store s.content (DeleteObject n k)
-next_of s (DeleteObjects n ks) = next_store s.content (DeleteObjects n ks)
-next_of s (CopyObject n a b) = next_store s.content (CopyObject n a b)
-next_of s (ListPage n p d a l) = next_store s.content (ListPage n p d a l)
-next_of s (CreateUpload n k) = next_store s.content (CreateUpload n k)
-next_of s (UploadPart n k i m b) = next_store s.content (UploadPart n k i m b)
-next_of s (CompleteUpload n k i ps) = next_store s.content (CompleteUpload n k i ps)
-next_of s (AbortUpload n k i) = next_store s.content (AbortUpload n k i)
-next_of s (ListParts n k i) = next_store s.content (ListParts n k i)
-next_of s (ListUploads n p a l) = next_store s.content (ListUploads n p a l)
-next_of s _ = omega arith
+next_of s (ClusterPut p b) = omega arith
+next_of s (ClusterRename a b) = omega arith
+next_of s (ClusterGet p) = omega arith
+next_of s (ClusterDelete p) = omega arith
+next_of s (ClusterList p) = omega arith
+next_of s r = next_store s.content r
 
 next_after : (s : Scene) (r : Request) (o : Outcome) → (effect s r o).content.next ≤ s.content.next + 1
 next_after s r Slow = omega arith
 next_after s r RequestLost = omega arith
 next_after s r _ = next_of s r
 
-pub after_more : (s : Scene) (es : List Entry) (e : Entry) → after_all s (es ++ e ∷ []) ≡ effect (after_all s es) e.request e.outcome
-after_more s [] e = refl
-after_more s (x ∷ es) e = after_more (effect s x.request x.outcome) es e
-
-pub scene_sent : (g : Setting) (opening : Content) (x : Play) (e : Entry) → scene_of opening (happen g x (Sends e)) ≡ effect (scene_of opening x) e.request e.outcome
-scene_sent g opening x e =
-    ap (after_all (scene_at_first opening)) (take_whole (x.journal ++ e ∷ []))
-    ∙ after_more (scene_at_first opening) x.journal e
-    ∙ ap (λ es. effect (after_all (scene_at_first opening) es) e.request e.outcome) (sym (take_whole x.journal))
+pub scene_on : (opening : Content) (es : List Entry) (e : Entry)
+    → moment opening (es ++ e ∷ []) (length (es ++ e ∷ [])) ≡ effect (moment opening es (length es)) e.request e.outcome
+scene_on opening es e =
+    ap (after_all (scene_at_first opening)) (take_whole (es ++ e ∷ [])) ∙ after_cut (scene_at_first opening) es (e ∷ [])
+    ∙ ap (λ fs. effect (after_all (scene_at_first opening) fs) e.request e.outcome) (sym (take_whole es))
 
 -- an entry of the event that goes on is the side's own in its eyes, under its own number
 pub eyes_own : {W : Type 0} (b : Body W) (actor : Actor) (r : Request) (o : Outcome) → IsSome b.side.event → (IsSome b.side.event → IsTurn b) → number_in (is_mine b.side.others.items) b.shared.events ≡ length b.side.ends.items
@@ -76,24 +65,10 @@ module _ {W : Type 0} (wants : W → Option Request) (tells : W → Outcome → 
   abbrev Here : Setting → Content → Play → Actor → Hand W → Type 0
   Here g opening x a h = HandIs is_of running picks_of g opening x a h
 
-  -- the job has so few entries that no id is wanting
-  pub few_ids : (b : Body W) → Keeps all_sound b → length b.shared.journal.entries < 2 ^ 62 → b.shared.store.scene.content.next ≤ 2 ^ 64
-  few_ids b h few =
-      let n : b.shared.store.requests ≡ length b.shared.journal.entries = h.requests in
-      let ids = h.few in
-      omega arith
-
   pub is_at : (b : Body W) → (h : Keeps all_sound b) → length b.shared.journal.entries < 2 ^ 62 → (q : ℕ) (a : Actor) (m : W) → slice_get (actors b.side.script) q ≡ Some a → slice_get b.side.hands.items q ≡ Some (At m) → IsAt is_of running (setting_of b) b.shared.opening h.play a m
   is_at b h few q a m e i =
-      let hand = h.hands q a (At m) refl e i in
-      record {
-        legal = h.legal;
-        opens = h.opens;
-        happened = h.happened;
-        few = subst (λ (s : Scene). s.content.next ≤ 2 ^ 64) h.scene (few_ids b h few);
-        goes_by = hand.0;
-        at = hand.1.0;
-      }
+      let low = subst (λ (s : Scene). s.content.next ≤ 2 ^ 64) h.scene (let low : b.shared.store.scene.content.next ≤ 2 ^ 64 = omega (arith, h.requests, h.few) in low) in
+      assumption (low, h.hands q a (At m) refl e i, h)
 
   -- ---- picks
 
@@ -113,12 +88,8 @@ module _ {W : Type 0} (wants : W → Option Request) (tells : W → Outcome → 
     at : IsAt is_of running (setting_of b) b.shared.opening h.play actor m
     at = is_at b h few place actor m here hand
 
-    -- what it is at is the job's commit where its operation is
-    commits : is_committing (h.play.running actor) ≡ is_job_commit (running (knows_now (setting_of b) h.play actor) m).operation
-    commits = ap is_committing (h.hands place actor (At m) refl here hand).1.0
-
     leaves : (e : Entry) → e.actor ≡ actor → MaySend (setting_of b) b.shared.opening h.play e → is_committing (h.play.running actor) ≡ false → LeavesPicks (setting_of b) b.shared.opening h.play e
-    leaves e is may c = works.leaves g b.shared.opening x actor m at (no_picks o_now m (sym commits ∙ c)) e is may
+    leaves e is may c = works.leaves g b.shared.opening x actor m at (no_picks o_now m (sym (ap is_committing at.at) ∙ c)) e is may
 
     driver_leaves : (e : Entry) → e.actor ≡ actor → MaySend (setting_of b) b.shared.opening h.play e → is_committing (h.play.running Driver) ≡ false → LeavesPicks (setting_of b) b.shared.opening h.play e
     driver_leaves e is may c = leaves e is may (elim (same_or_not actor Driver) [
@@ -138,17 +109,11 @@ module _ {W : Type 0} (wants : W → Option Request) (tells : W → Outcome → 
       pub may : MaySend (setting_of b) b.shared.opening h.play (record { event = length b.side.ends.items + 1; actor = actor; request = r; outcome = o })
       may =
           let ev = is_something b.side.event during in
-          record {
-            event = ev.0;
-            during = sym h.now ∙ ev.1;
-            number = ap (λ (v : List _). length v + 1) h.ends;
-            busy = busy_is (x.live.state actor).life (sym (busy_there b.side.script b.side.states x.live h.stands place actor here) ∙ busy);
-            at = running o_now m;
-            is_at = at.at;
-            asked = sym (works.asks g b.shared.opening x actor m at) ∙ asked;
-            honest = subst (λ (s : Scene). IsHonestOutcome o (answer s r)) h.scene honest;
-            few = at.few;
-          }
+          let moment : b.side.event ≡ h.play.now = h.now in
+          let life = busy_is (x.live.state actor).life (sym (busy_at b.side.script b.side.states x.live h.stands place actor here) ∙ busy) in
+          let asked_then = sym (works.asks g b.shared.opening x actor m at) ∙ asked in
+          let honest_then = subst (λ (s : Scene). IsHonestOutcome o (answer s r)) h.scene honest in
+          search (sym moment ∙ ev.1, ap (λ (v : List _). length v + 1) h.ends, life, at.at, asked_then, honest_then, at.few)
 
       own_running : (happen (setting_of b) h.play (Sends (record { event = length b.side.ends.items + 1; actor = actor; request = r; outcome = o }))).running actor ≡ Some (advance (setting_of b) actor (running (knows_now (setting_of b) h.play actor) m) o)
       own_running = put_here x.running actor (hear g actor (x.running actor) e) actor refl ∙ ap (λ v. hear g actor v e) at.at
@@ -185,15 +150,6 @@ module _ {W : Type 0} (wants : W → Option Request) (tells : W → Outcome → 
 
       -- ---- the side
 
-      foretold_now : (st : LossyLink) (j : Ledger) → ((n : ℕ) → fate_at st.fates n ≡ fate_at b.shared.store.fates n) → j.entries ≡ b.shared.journal.entries ++ record { event = b.shared.events + 1; actor = actor; request = r; outcome = o } ∷ []
-          → AreForetold (λ n. Some (fate_at st.fates n)) 1 j.entries
-      foretold_now st j fates appended =
-          let told : ℕ → Option Fate = λ n. Some (fate_at b.shared.store.fates n) in
-          let at : b.shared.store.requests + 1 ≡ 1 + length b.shared.journal.entries = let n = h.requests in omega arith in
-          subst (AreForetold (λ n. Some (fate_at st.fates n)) 1) (sym appended)
-          (foretold_as told (λ n. Some (fate_at st.fates n)) 1 (b.shared.journal.entries ++ record { event = b.shared.events + 1; actor = actor; request = r; outcome = o } ∷ []) (λ n. ap (λ f. Some f) (fates n))
-          (foretold_last told 1 b.shared.journal.entries (record { event = b.shared.events + 1; actor = actor; request = r; outcome = o }) h.fated (subst (λ n. IsForetold (told n) o) at fated)))
-
       module _ (st : LossyLink) (j : Ledger) (hs : Vec (Hand W) Global) where
         pub sent_holds : (sound : ℕ → Bool) → j.entries ≡ b.shared.journal.entries ++ record { event = b.shared.events + 1; actor = actor; request = r; outcome = o } ∷ [] → st.scene ≡ effect b.shared.store.scene r o → st.requests ≡ b.shared.store.requests + 1 → ((n : ℕ) → fate_at st.fates n ≡ fate_at b.shared.store.fates n)
             → length hs.items ≡ length b.side.hands.items → ((q : ℕ) → (q ≡ place → ⊥) → slice_get hs.items q ≡ slice_get b.side.hands.items q) → (sound place ≡ true → slice_get hs.items place ≡ Some (At (tells m o)))
@@ -202,42 +158,30 @@ module _ {W : Type 0} (wants : W → Option Request) (tells : W → Outcome → 
             let draws : (effect b.shared.store.scene r o).content.next ≤ b.shared.store.scene.content.next + 1 = next_after b.shared.store.scene r o in
             let low : b.shared.store.scene.content.next ≤ 2 ^ 62 + b.shared.store.requests = h.few in
             let more : (effect b.shared.store.scene r o).content.next ≤ 2 ^ 62 + (b.shared.store.requests + 1) = omega (arith, draws, low) in
-            let S : Scene → Type 0 = λ s. s.content.next ≤ 2 ^ 62 + (b.shared.store.requests + 1) in
-            let N : ℕ → Type 0 = λ n. st.scene.content.next ≤ 2 ^ 62 + n in
-            record {
-              legal = h.legal;
-              opens = h.opens;
-              play = y;
-              happened = happens x (Sends e) h.happened may;
-              journal = eyes_own b actor r o during h.turn h.counts j.entries appended ∙ ap (λ es. es ++ e ∷ []) h.journal;
-              ends = h.ends;
-              counts = h.counts;
-              turn = λ v. record { mine = (h.turn v).mine; few = (h.turn v).few };
-              now = h.now;
-              finished = h.finished;
-              scene = scene ∙ ap (λ s. effect s r o) h.scene ∙ sym (scene_sent g b.shared.opening x e);
-              requests = count ∙ ap (λ n. n + 1) h.requests ∙ sym (length-append b.shared.journal.entries (record { event = b.shared.events + 1; actor = actor; request = r; outcome = o } ∷ [])) ∙ sym (ap length appended);
-              fated = foretold_now st j fates appended;
-              few = subst N (sym count) (subst S (sym scene) more);
-              stands = h.stands;
-              places = places ∙ h.places;
-              hands = hands;
-              picks = put_by_sent g b.shared.opening x e b.side.picks may (driver_leaves e refl may) h.picks;
-            }
+            let turn = h.turn during in
+            let journal = eyes_own b actor r o during h.turn h.counts j.entries appended ∙ ap (λ es. es ++ e ∷ []) h.journal in
+            let now = scene ∙ ap (λ s. effect s r o) h.scene ∙ sym (scene_on b.shared.opening x.journal e) in
+            let requests =
+            count ∙ ap (λ n. n + 1) h.requests ∙ sym (length-append b.shared.journal.entries (record { event = b.shared.events + 1; actor = actor; request = r; outcome = o } ∷ []))
+            ∙ sym (ap length appended) in
+            let picks = put_by_sent g b.shared.opening x e b.side.picks may (driver_leaves e refl may) h.picks in
+            let told : ℕ → Option Fate = λ n. Some (fate_at b.shared.store.fates n) in
+            let number : b.shared.store.requests + 1 ≡ 1 + length b.shared.journal.entries = omega (arith, h.requests) in
+            let fated_now =
+            subst (AreForetold (λ n. Some (fate_at st.fates n)) 1) (sym appended)
+            (foretold_as told (λ n. Some (fate_at st.fates n)) 1 (b.shared.journal.entries ++ record { event = b.shared.events + 1; actor = actor; request = r; outcome = o } ∷ [])
+            (λ n. ap (λ f. Some f) (fates n))
+            (foretold_last told 1 b.shared.journal.entries (record { event = b.shared.events + 1; actor = actor; request = r; outcome = o }) h.fated
+            (subst (λ n. IsForetold (told n) o) number fated))) in
+            let few_now : st.scene.content.next ≤ 2 ^ 62 + st.requests = rw (count, scene) more in
+            search (happens x (Sends e) h.happened may, turn, journal, now, requests, fated_now, few_now, places ∙ h.places, hands, picks, h)
           where
-            at_place : (q : ℕ) (a : Actor) (v : Hand W) → sound q ≡ true → slice_get (actors b.side.script) q ≡ Some a → slice_get hs.items q ≡ Some v → q ≡ place → Here (setting_of b) b.shared.opening (happen (setting_of b) h.play (Sends (record { event = length b.side.ends.items + 1; actor = actor; request = r; outcome = o }))) a v
-            at_place q a v s i u is =
-                let whose : actor ≡ a = some_is (sym here ∙ ap (slice_get (actors b.side.script)) (sym is) ∙ i) in
-                let what : At (tells m o) ≡ v = some_is (sym (own (ap sound (sym is) ∙ s)) ∙ ap (slice_get hs.items) (sym is) ∙ u) in
-                let P : Actor → Type 0 = λ c. Here g b.shared.opening y c v in
-                let Q : Hand W → Type 0 = λ z. Here g b.shared.opening y actor z in
-                subst P whose (subst Q what own_hand)
-
             hands : HandsAre is_of running picks_of sound (setting_of b) b.shared.opening (happen (setting_of b) h.play (Sends (record { event = length b.side.ends.items + 1; actor = actor; request = r; outcome = o }))) hs.items
-            hands q a v s i u = elim (same_number q place) [
-              | inl is ↦ at_place q a v s i u is
-              | inr ne ↦ other_hand a v (apart b.side.script h.legal place q actor a ne here i) (h.hands q a v refl i (sym (others q ne) ∙ u))
-            ]
+            hands =
+                hands_by is_of running picks_of (setting_of b) b.shared.opening
+                (happen (setting_of b) h.play (Sends (record { event = length b.side.ends.items + 1; actor = actor; request = r; outcome = o }))) sound place actor (At (tells m o))
+                hs.items here own own_hand
+                (λ q a v ne s i u. other_hand a v (apart b.side.script h.legal place q actor a ne here i) (h.hands q a v refl i (sym (others q ne) ∙ u)))
 
       -- ---- what the others have left
 
@@ -250,22 +194,16 @@ module _ {W : Type 0} (wants : W → Option Request) (tells : W → Outcome → 
       applied q a Empty ne i u = omega arith
       applied q a (At n) ne i u =
           let low = works.beside g b.shared.opening x a actor n m (is_at b h few q a n i u) at (apart b.side.script h.legal place q actor a ne here i) r asked in
-          let P : Scene → Type 0 = λ s. left n (apply s r) ≤ left n s + rise_for (rise b.side.script) a in
-          let Q : ℕ → Type 0 = λ z. left n (apply b.shared.store.scene r) ≤ left n b.shared.store.scene + z in
-          subst Q (rise_at q a (rise b.side.script) i) (subst P (sym h.scene) low)
-
-      same_left : (q : ℕ) (v : Hand W) → hand_left left b.shared.store.scene v ≤ hand_left left b.shared.store.scene v + raised (rise b.side.script) q
-      same_left q v = omega arith
+          rw (sym (rise_at q a (rise b.side.script) i), h.scene) low
 
       effected : (p : Outcome) (q : ℕ) (a : Actor) (v : Hand W) → (q ≡ place → ⊥) → slice_get (actors b.side.script) q ≡ Some a → slice_get b.side.hands.items q ≡ Some v → hand_left left (effect b.shared.store.scene r p) v ≤ hand_left left b.shared.store.scene v + raised (rise b.side.script) q
-      effected Slow q a v ne i u = same_left q v
-      effected RequestLost q a v ne i u = same_left q v
+      effected Slow q a v ne i u = omega arith
+      effected RequestLost q a v ne i u = omega arith
       effected _ q a v ne i u = applied q a v ne i u
 
       pub sent_raises : (s : Scene) → s ≡ effect b.shared.store.scene r o → RaisedBy left rise place b s
       sent_raises s scene q v ne busy u =
-          let low = within b.side.hands.items q v u in
+          let low = slice_get_within b.side.hands.items q v u in
           let fits_in : q < length (actors b.side.script) = let e = h.places in omega arith in
           let a = there (actors b.side.script) q fits_in in
-          let P : Scene → Type 0 = λ t. hand_left left t v ≤ hand_left left b.shared.store.scene v + raised (rise b.side.script) q in
-          subst P (sym scene) (effected o q a.0 v ne a.1 u)
+          rw scene (effected o q a.0 v ne a.1 u)

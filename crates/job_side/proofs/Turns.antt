@@ -8,14 +8,16 @@ use Rattle.proof_base.proofs.Members.{same_or_not as same_number}
 use Rattle.job_actor.specs.Acts.{ActLaws}
 use Rattle.job_states.specs.Stands.{Kept}
 use Rattle.job_states.specs.Turning.{Table, Beside, Sending, Ending, Turned}
+use Rattle.job_states.specs.declared.actors.Turn.{Turn}
 use Rattle.job_states.specs.declared.actors.Turn.TheVariants.{GoesOn, Ended, Died}
 use Rattle.job_side.specs.Sending.{Asks, hand_end}
-use Rattle.job_side.specs.Holds.{Holds, Going, Same, AreOf, is_mine, seen_by, IsOver, all_sound, is_busy_at, actor_or, table_of, weights, hand_left}
-use Rattle.job_side.specs.Posts.{Around, Wrote, RaisedBy, FellAt, IsWorking, raised}
+use Rattle.job_side.specs.Holds.{Holds, Going, Same, same_laws, AreOf, is_mine, seen_by, IsOver, all_sound, is_busy_at, actor_or, table_of}
+use Rattle.job_side.specs.Posts.{Around, Wrote, RaisedBy, FellAt, IsWorking}
 use Rattle.job_side.specs.declared.hands.Hand.{Hand}
 use Rattle.job_side.specs.declared.body.Body.{Body}
-use Rattle.job_side.proofs.Places.{within, own_at}
+use Rattle.job_side.proofs.Places.{own_at}
 use Rattle.job_side.proofs.Weights.{Lighter, lighter}
+use Rattle.job_side.proofs.Finishes.{has_hand}
 
 -- ---- entries
 
@@ -27,74 +29,52 @@ event_kept n es e own number =
 
 -- ---- what has more to send
 
--- what no turn changes is as it was after a sending
-pub same_then : {W : Type 0} (place : ℕ) (b m : Body W) → Around place b m → (part : List Entry) × (m.shared.journal.entries ≡ b.shared.journal.entries ++ part) × AreOf (b.shared.events + 1) part → Same b m
-same_then place b m a more = record { stays = a.stays; ends = a.ends; event = a.event; events = a.events; places = a.places; more = more }
+-- while the others have more to send
+module _ {W : Type 0} (wants : W → Option Request) (is_of : Setting → Actor → W → Type 0) (running : Known → W → Running) (picks_of : W → Option (List Pick)) (place : ℕ)
+    (b : Body W)
+    (others : (q : ℕ) (v : Hand W) → (q ≡ place → ⊥) → is_busy_at b.side.states.actors q ≡ true → slice_get b.side.hands.items q ≡ Some v → Asks wants v)
+    (during : IsSome b.side.event) where
+  -- the actor at a place has so too
+  pub goes : (end_of : W → Option OpEnd) → ((m : W) → is_some (wants m) ≡ not (is_some (end_of m))) → Holds is_of running picks_of all_sound b → IsWorking place b
+      → hand_end end_of (slice_get b.side.hands.items place) ≡ None → Going wants is_of running picks_of b
+  goes end_of asks holds w end = record {
+    holds = holds;
+    none_over = λ q v busy e. elim (same_number q place) [
+      | inl is ↦
+          subst (Asks wants) (some_is (sym w.1 ∙ ap (slice_get b.side.hands.items) (sym is) ∙ e)) (asks w.0 ∙ ap (λ o. not (is_some o)) (ap (hand_end end_of) (sym w.1) ∙ end))
+      | inr ne ↦ others q v ne busy e
+    ];
+    during = during;
+  }
 
-pub same_wrote : {W : Type 0} (place : ℕ) (actor : Actor) (b m : Body W) → slice_get (actors b.side.script) place ≡ Some actor → Around place b m → Wrote actor b m → Same b m
-same_wrote place actor b m here a w = same_then place b m a (w.entry ∷ [], w.appended, ((w.number, ap is_own w.by ∙ own_at b.side.script place actor here), tt))
-
-pub same_unsent : {W : Type 0} (place : ℕ) (b m : Body W) → Around place b m → m.shared.journal.entries ≡ b.shared.journal.entries → Same b m
-same_unsent place b m a journal = same_then place b m a ([], journal ∙ sym (append-nil b.shared.journal.entries), tt)
+  -- or its operation is over
+  pub goes_over : (c : Body W) (actor : Actor) (end : OpEnd) → Holds is_of running picks_of all_sound c → IsOver place actor end b c → Going wants is_of running picks_of c
+  goes_over c actor end holds o = record {
+    holds = holds;
+    none_over = λ q v busy e. elim (same_number q place) [
+      | inl is ↦ absurd (false_true (ap (is_busy_at c.side.states.actors) is ∙ o.idle) busy)
+      | inr ne ↦ others q v ne (sym (o.others q ne) ∙ busy) (sym (o.hands q ne) ∙ e)
+    ];
+    during = subst IsSome (sym o.same.event) during;
+  }
 
 module _ {W : Type 0} (wants : W → Option Request) (tells : W → Outcome → W) (fits : W → Outcome → Type 0) (end_of : W → Option OpEnd) (left : W → Scene → ℕ) (is_of : Setting → Actor → W → Type 0) (running : Known → W → Running) (rise : Script → ℕ) (picks_of : W → Option (List Pick)) (rises : W → Request → ℕ) (acts : ActLaws wants tells fits end_of left rises) where
-  -- who has not ended asks
-  asks_on : (m : W) → end_of m ≡ None → IsSome (wants m)
-  asks_on m e = acts.goes_on m ∙ ap (λ o. not (is_some o)) e
-
-  -- the actor goes on
-  pub going_on : (b m : Body W) (place : ℕ) → Going wants is_of running picks_of b → Around place b m → Holds is_of running picks_of all_sound m → IsWorking place m → hand_end end_of (slice_get m.side.hands.items place) ≡ None → Going wants is_of running picks_of m
-  going_on b m place g a h w end = record {
-    holds = h;
-    none_over = none_over;
-    during = subst IsSome (sym a.event) g.during;
-  }
-    where
-      over : end_of w.0 ≡ None
-      over = ap (hand_end end_of) (sym w.1) ∙ end
-
-      none_over : (q : ℕ) (v : Hand W) → is_busy_at m.side.states.actors q ≡ true → slice_get m.side.hands.items q ≡ Some v → Asks wants v
-      none_over q v busy e = elim (same_number q place) [
-        | inl is ↦ subst (Asks wants) (some_is (sym w.1 ∙ ap (slice_get m.side.hands.items) (sym is) ∙ e)) (asks_on w.0 over)
-        | inr ne ↦ g.none_over q v (ap (λ (k : Kept). is_busy_at k.actors q) (sym a.states) ∙ busy) (sym (a.hands q ne) ∙ e)
-      ]
-
-  -- its operation is over
-  pub going_over : (b m c : Body W) (place : ℕ) (actor : Actor) (end : OpEnd) → Going wants is_of running picks_of b → Around place b m → Holds is_of running picks_of all_sound c → IsOver place actor end m c → Going wants is_of running picks_of c
-  going_over b m c place actor end g a h o = record {
-    holds = h;
-    none_over = none_over;
-    during = subst IsSome (sym (o.same.event ∙ a.event)) g.during;
-  }
-    where
-      none_over : (q : ℕ) (v : Hand W) → is_busy_at c.side.states.actors q ≡ true → slice_get c.side.hands.items q ≡ Some v → Asks wants v
-      none_over q v busy e = elim (same_number q place) [
-        | inl is ↦ absurd (false_true (ap (is_busy_at c.side.states.actors) is ∙ o.idle) busy)
-        | inr ne ↦ g.none_over q v (ap (λ (k : Kept). is_busy_at k.actors q) (sym a.states) ∙ sym (o.others q ne) ∙ busy) (sym (o.hands q ne ∙ a.hands q ne) ∙ e)
-      ]
-
   -- ---- tables
 
   seen_as : (b c : Body W) → c.side.others ≡ b.side.others → c.shared.journal.entries ≡ b.shared.journal.entries → seen_by c ≡ seen_by b
   seen_as b c others journal = ap (λ v. in_eyes (is_mine v.items) c.shared.journal.entries) others ∙ ap (in_eyes (is_mine b.side.others.items)) journal
 
-  seen_over : (b c : Body W) → c.side.others ≡ b.side.others → c.shared.journal ≡ b.shared.journal → seen_by c ≡ seen_by b
-  seen_over b c others journal = seen_as b c others (ap (λ v. v.entries) journal)
-
   abbrev T : Body W → Table
   T b = table_of left rise b
 
-  whose : (b : Body W) (place : ℕ) (actor : Actor) → slice_get (actors b.side.script) place ≡ Some actor → actor ≡ actor_or (slice_get (actors b.side.script) place)
-  whose b place actor e = ap actor_or (sym e)
-
   beside_of : (b c : Body W) (place : ℕ) → c.side.script ≡ b.side.script → Lighter left (rise b.side.script) place b.shared.store.scene c.shared.store.scene b.side.states.actors c.side.states.actors b.side.hands.items c.side.hands.items → Beside place (T b) (T c)
   beside_of b c place script l =
-      let low = lighter left (rise b.side.script) place b.shared.store.scene c.shared.store.scene b.side.states.actors c.side.states.actors b.side.hands.items c.side.hands.items l in
-      let P : Script → Type 0 = λ w. weights left (rise w) c.shared.store.scene c.side.states.actors 0 c.side.hands.items < weights left (rise b.side.script) b.shared.store.scene b.side.states.actors 0 b.side.hands.items in
       record {
         actors = λ q. ap (λ (w : Script). actor_or (slice_get (actors w) q)) script;
         others = l.others;
-        less = subst P (sym script) low;
+        less =
+            rw script (lighter left (rise b.side.script) place b.shared.store.scene c.shared.store.scene b.side.states.actors c.side.states.actors b.side.hands.items
+            c.side.hands.items l);
       }
 
   same_entries : (b c : Body W) → c.side.ends ≡ b.side.ends → seen_by c ≡ seen_by b → (T c).entries ≡ (T b).entries
@@ -106,7 +86,7 @@ module _ {W : Type 0} (wants : W → Option Request) (tells : W → Outcome → 
       let e : Entry = record { event = length b.side.ends.items + 1; actor = actor; request = w.entry.request; outcome = w.entry.outcome } in
       record {
         entry = e;
-        by = whose b place actor here;
+        by = ap actor_or (sym here);
         appended = ap (λ v. of_event (length v.items + 1) (seen_by c)) ends ∙ ap (of_event n) (seen ∙ w.seen) ∙ event_kept n (seen_by b) e (own_at b.side.script place actor here) refl;
       }
 
@@ -114,49 +94,62 @@ module _ {W : Type 0} (wants : W → Option Request) (tells : W → Outcome → 
   room_falls old new y told capacity =
       let a : vec_len old ≡ length old.items = search rules in
       let z : vec_len new ≡ length new.items = search rules in
-      let more : length new.items ≡ length old.items + 1 = ap length told ∙ length-append old.items (y ∷ []) in
-      omega (arith, a, z, more, capacity)
+      omega (arith, a, z, capacity, ap length told ∙ length-append old.items (y ∷ []))
 
   ending_of : (b m c : Body W) (place : ℕ) (actor : Actor) (end : OpEnd) → slice_get (actors b.side.script) place ≡ Some actor → m.side.finished ≡ b.side.finished → IsOver place actor end m c → Ending place (T b) (T c)
   ending_of b m c place actor end here finished o =
       let told : c.side.finished.items ≡ b.side.finished.items ++ record { actor = actor; end = end } ∷ [] = o.finished ∙ ap (λ (v : Vec ActorEnd Global). v.items ++ record { actor = actor; end = end } ∷ []) finished in
       record {
         end = end;
-        told = told ∙ ap (λ a. b.side.finished.items ++ record { actor = a; end = end } ∷ []) (whose b place actor here);
+        told = told ∙ ap (λ a. b.side.finished.items ++ record { actor = a; end = end } ∷ []) (ap actor_or (sym here));
         idle = o.idle;
-        room = room_falls b.side.finished c.side.finished (record { actor = actor; end = end }) told (let P : Vec ActorEnd Global → Type 0 = λ v. vec_capacity v ≤ vec_capacity c.side.finished in subst P finished o.capacity);
+        room = room_falls b.side.finished c.side.finished (record { actor = actor; end = end }) told (rw finished at o.capacity);
       }
 
   -- ---- turns
 
-  module _ (b m : Body W) (place : ℕ) (actor : Actor) (here : slice_get (actors b.side.script) place ≡ Some actor) (busy : is_busy_at b.side.states.actors place ≡ true) (holds : Holds is_of running picks_of all_sound b) (a : Around place b m) where
+  module _ (b m : Body W) (place : ℕ) (actor : Actor) (here : slice_get (actors b.side.script) place ≡ Some actor) (busy : is_busy_at b.side.states.actors place ≡ true)
+      (g : Going wants is_of running picks_of b) (a : Around place b m) where
+    -- what is asked of a turn
+    abbrev pub Leaves : Body W → Turn → Type 0
+    Leaves c turn = record { holds : Going wants is_of running picks_of c; keeps : Same b c; turned : Turned place (table_of left rise b) (table_of left rise c) turn }
+
+    others_on : (q : ℕ) (v : Hand W) → (q ≡ place → ⊥) → is_busy_at m.side.states.actors q ≡ true → slice_get m.side.hands.items q ≡ Some v → Asks wants v
+    others_on q v ne busy e = g.none_over q v (ap (λ (k : Kept). is_busy_at k.actors q) (sym a.states) ∙ busy) (sym (a.hands q ne) ∙ e)
+
     low : place < length b.side.hands.items
-    low = let p : place < length (actors b.side.script) = within (actors b.side.script) place actor here in let e = holds.places in omega (arith, p, e)
+    low = has_hand is_of running picks_of all_sound b place actor g.holds here
+
+    same_then : (part : List Entry) → m.shared.journal.entries ≡ b.shared.journal.entries ++ part → AreOf (b.shared.events + 1) part → Same b m
+    same_then part appended are = record { stays = a.stays; ends = a.ends; event = a.event; events = a.events; places = a.places; more = (part, appended, are) }
+
+    same_wrote : Wrote actor b m → Same b m
+    same_wrote w = same_then (w.entry ∷ []) w.appended ((w.number, ap is_own w.by ∙ own_at b.side.script place actor here), tt)
 
     -- it sent, and has more to send
-    pub goes_on : Wrote actor b m → RaisedBy left rise place b m.shared.store.scene → FellAt left place b m → Turned place (table_of left rise b) (table_of left rise m) GoesOn
-    goes_on w raises falls = (
-      beside_of b m place a.stays.script (record {
-        places = a.places;
-        within = low;
-        busy = busy;
-        others = λ q ne. ap (λ (k : Kept). is_busy_at k.actors q) a.states;
-        hands = a.hands;
-        beside = raises;
-        own = inr falls;
-      }),
-      sending_of b m m place actor here w a.ends refl,
-      ap (λ (k : Kept). is_busy_at k.actors place) a.states ∙ busy,
-      ap (λ (v : Vec ActorEnd Global). v.items) a.finished,
-      same_room,
-    )
-      where
-        same_room : vec_capacity b.side.finished - vec_len b.side.finished ≤ vec_capacity m.side.finished - vec_len m.side.finished
-        same_room =
-            let P : Vec ActorEnd Global → Type 0 = λ v. vec_capacity b.side.finished - vec_len b.side.finished ≤ vec_capacity v - vec_len v in
-            subst P (sym a.finished) (omega arith)
+    pub goes_on : Holds is_of running picks_of all_sound m → Wrote actor b m → RaisedBy left rise place b m.shared.store.scene → FellAt left place b m → IsWorking place m
+        → hand_end end_of (slice_get m.side.hands.items place) ≡ None → Leaves m GoesOn
+    goes_on holds w raises falls at none = record {
+      holds = goes wants is_of running picks_of place m others_on (subst IsSome (sym a.event) g.during) end_of acts.goes_on holds at none;
+      keeps = same_wrote w;
+      turned = (
+        beside_of b m place a.stays.script (record {
+          places = a.places;
+          within = low;
+          busy = busy;
+          others = λ q ne. ap (λ (k : Kept). is_busy_at k.actors q) a.states;
+          hands = a.hands;
+          beside = raises;
+          own = inr falls;
+        }),
+        sending_of b m m place actor here w a.ends refl,
+        ap (λ (k : Kept). is_busy_at k.actors place) a.states ∙ busy,
+        ap (λ (v : Vec ActorEnd Global). v.items) a.finished,
+        rw a.finished (omega arith),
+      );
+    }
 
-    module _ (c : Body W) (end : OpEnd) (o : IsOver place actor end m c) where
+    module _ (c : Body W) (end : OpEnd) (holds : Holds is_of running picks_of all_sound c) (o : IsOver place actor end m c) where
       beside_over : RaisedBy left rise place b m.shared.store.scene → Beside place (table_of left rise b) (table_of left rise c)
       beside_over raises = beside_of b c place (o.same.stays.script ∙ a.stays.script) (record {
         places = o.same.places ∙ a.places;
@@ -168,22 +161,30 @@ module _ {W : Type 0} (wants : W → Option Request) (tells : W → Outcome → 
         own = inl o.idle;
       })
 
+      over_then : Going wants is_of running picks_of c
+      over_then = goes_over wants is_of running picks_of place m others_on (subst IsSome (sym a.event) g.during) c actor end holds o
+
       -- it sent, and its operation ended with that
-      pub has_ended : Wrote actor b m → RaisedBy left rise place b m.shared.store.scene → Turned place (table_of left rise b) (table_of left rise c) Ended
-      has_ended w raises = (
-        beside_over raises,
-        sending_of b m c place actor here w (o.same.ends ∙ a.ends) (seen_over m c o.same.stays.others o.journal),
-        ending_of b m c place actor end here a.finished o,
-      )
+      pub has_ended : Wrote actor b m → RaisedBy left rise place b m.shared.store.scene → Leaves c Ended
+      has_ended w raises = record {
+        holds = over_then;
+        keeps = same_laws.chain b m c (same_wrote w) o.same;
+        turned = (
+          beside_over raises,
+          sending_of b m c place actor here w (o.same.ends ∙ a.ends) (seen_as m c o.same.stays.others (ap (λ v. v.entries) o.journal)),
+          ending_of b m c place actor end here a.finished o,
+        );
+      }
 
       -- it found no memory before it could send
-      pub has_died : end ≡ NoMemory → m.shared.journal.entries ≡ b.shared.journal.entries → m.shared.store.scene ≡ b.shared.store.scene → Turned place (table_of left rise b) (table_of left rise c) Died
+      pub has_died : end ≡ NoMemory → m.shared.journal.entries ≡ b.shared.journal.entries → m.shared.store.scene ≡ b.shared.store.scene → Leaves c Died
       unfolding ending_of
-      has_died lack journal scene = (
-        beside_over unraised,
-        same_entries b c (o.same.ends ∙ a.ends) (seen_over m c o.same.stays.others o.journal ∙ seen_as b m a.stays.others journal),
-        (ending_of b m c place actor end here a.finished o, ap is_memory lack),
-      )
-        where
-          unraised : RaisedBy left rise place b m.shared.store.scene
-          unraised q v ne busy e = subst (λ (s : Scene). hand_left left s v ≤ hand_left left b.shared.store.scene v + raised (rise b.side.script) q) (sym scene) (omega arith)
+      has_died lack journal scene = record {
+        holds = over_then;
+        keeps = same_laws.chain b m c (same_then [] (journal ∙ sym (append-nil b.shared.journal.entries)) tt) o.same;
+        turned = (
+          beside_over (λ q v ne busy e. rw scene (omega arith)),
+          same_entries b c (o.same.ends ∙ a.ends) (seen_as m c o.same.stays.others (ap (λ v. v.entries) o.journal) ∙ seen_as b m a.stays.others journal),
+          (ending_of b m c place actor end here a.finished o, ap is_memory lack),
+        );
+      }

@@ -1,5 +1,5 @@
 -- What the busy actors of a world weigh falls with each turn.
-use Rattle.std.proofs.Common.{◌≡◌, ℕ, zero, suc, ◌+◌, ◌<◌, ◌≤◌, ◌⊎◌, inl, inr, Bool, true, false, cond, List, [], ◌∷◌, length, slice_get, Some, refl, sym, subst, ◌∙◌, arith}
+use Rattle.std.proofs.Common.{◌≡◌, ℕ, zero, suc, ◌+◌, ◌<◌, ◌≤◌, ◌⊎◌, inl, inr, Bool, true, false, cond, List, [], ◌∷◌, length, slice_get, Some, refl, sym, ◌∙◌, arith}
 use Rattle.proof_base.proofs.Common.{mul-le-mul_left}
 use Rattle.job_spec.proofs.Common.{some_is}
 use Rattle.job_steps.specs.Prelude.{Scene}
@@ -31,71 +31,35 @@ module _ {W : Type 0} (left : W → Scene → ℕ) (rise : ℕ) (s t : Scene) (s
   abbrev new_share : ℕ → Hand W → ℕ
   new_share q h = share left rise t ts q h
 
-  -- each weighs no more
-  NoMore : ℕ → List (Hand W) → List (Hand W) → Type 0
-  NoMore n hs ks = (i : ℕ) (h k : Hand W) → slice_get hs i ≡ Some h → slice_get ks i ≡ Some k → new_share (n + i) k ≤ old_share (n + i) h
-
-  head_more : (n : ℕ) (h k : Hand W) (hs ks : List (Hand W)) → NoMore n (h ∷ hs) (k ∷ ks) → new_share n k ≤ old_share n h
-  unfolding NoMore
-  head_more n h k hs ks each =
-      let e : n + 0 ≡ n = omega arith in
-      let P : ℕ → Type 0 = λ q. new_share q k ≤ old_share q h in
-      subst P e (each 0 h k refl refl)
-
-  tail_more : (n : ℕ) (h k : Hand W) (hs ks : List (Hand W)) → NoMore n (h ∷ hs) (k ∷ ks) → NoMore (n + 1) hs ks
-  unfolding NoMore
-  tail_more n h k hs ks each i x y p q =
-      let e : n + suc i ≡ (n + 1) + i = omega arith in
-      let P : ℕ → Type 0 = λ m. new_share m y ≤ old_share m x in
-      subst P e (each (suc i) x y p q)
-
-  no_more : (n : ℕ) (hs ks : List (Hand W)) → length ks ≡ length hs → NoMore n hs ks → weights left rise t ts n ks ≤ weights left rise s st n hs
+  -- where each weighs no more, so do all
+  no_more : (n : ℕ) (hs ks : List (Hand W)) → length ks ≡ length hs
+      → ((i q : ℕ) (h k : Hand W) → q ≡ n + i → slice_get hs i ≡ Some h → slice_get ks i ≡ Some k → new_share q k ≤ old_share q h)
+      → weights left rise t ts n ks ≤ weights left rise s st n hs
   no_more n [] [] e each = omega arith
   no_more n [] (k ∷ ks) e each = absurd (omega arith)
   no_more n (h ∷ hs) [] e each = absurd (omega arith)
   no_more n (h ∷ hs) (k ∷ ks) e each =
-      let same : length ks ≡ length hs = omega arith in
-      let one : new_share n k ≤ old_share n h = head_more n h k hs ks each in
-      let rest : weights left rise t ts (n + 1) ks ≤ weights left rise s st (n + 1) hs = no_more (n + 1) hs ks same (tail_more n h k hs ks each) in
-      omega arith
+      let one : new_share n k ≤ old_share n h = each 0 n h k (omega arith) refl refl in
+      let rest = no_more (n + 1) hs ks (omega arith) (λ i q x y at a b. each (suc i) q x y (omega (arith, at)) a b) in
+      omega (arith, one, rest)
 
-  -- the one at place p weighs less by d
-  LessAt : ℕ → ℕ → ℕ → List (Hand W) → List (Hand W) → Type 0
-  LessAt d n p hs ks = (h k : Hand W) → slice_get hs p ≡ Some h → slice_get ks p ≡ Some k → new_share (n + p) k + d ≤ old_share (n + p) h
-
-  OthersNoMore : ℕ → ℕ → List (Hand W) → List (Hand W) → Type 0
-  OthersNoMore n p hs ks = (i : ℕ) (h k : Hand W) → (i ≡ p → ⊥) → slice_get hs i ≡ Some h → slice_get ks i ≡ Some k → new_share (n + i) k ≤ old_share (n + i) h
-
-  less_by : (d n p : ℕ) (hs ks : List (Hand W)) → length ks ≡ length hs → p < length hs → LessAt d n p hs ks → OthersNoMore n p hs ks → weights left rise t ts n ks + d ≤ weights left rise s st n hs
-  unfolding LessAt OthersNoMore NoMore
+  -- where the one at place p weighs less by d
+  less_by : (d n p : ℕ) (hs ks : List (Hand W)) → length ks ≡ length hs → p < length hs
+      → ((q : ℕ) (h k : Hand W) → q ≡ n + p → slice_get hs p ≡ Some h → slice_get ks p ≡ Some k → new_share q k + d ≤ old_share q h)
+      → ((i q : ℕ) (h k : Hand W) → (i ≡ p → ⊥) → q ≡ n + i → slice_get hs i ≡ Some h → slice_get ks i ≡ Some k → new_share q k ≤ old_share q h)
+      → weights left rise t ts n ks + d ≤ weights left rise s st n hs
   less_by d n p [] ks e low at others = absurd (omega arith)
   less_by d n p (h ∷ hs) [] e low at others = absurd (omega arith)
   less_by d n zero (h ∷ hs) (k ∷ ks) e low at others =
-      let same : length ks ≡ length hs = omega arith in
-      let z : n + 0 ≡ n = omega arith in
-      let P : ℕ → Type 0 = λ q. new_share q k + d ≤ old_share q h in
-      let one : new_share n k + d ≤ old_share n h = subst P z (at h k refl refl) in
-      let each : NoMore (n + 1) hs ks = λ i x y a b.
-      let m : n + suc i ≡ (n + 1) + i = omega arith in
-      let Q : ℕ → Type 0 = λ q. new_share q y ≤ old_share q x in
-      subst Q m (others (suc i) x y (λ c. absurd cc) a b) in
-      let rest : weights left rise t ts (n + 1) ks ≤ weights left rise s st (n + 1) hs = no_more (n + 1) hs ks same each in
-      omega arith
+      let one : new_share n k + d ≤ old_share n h = at n h k (omega arith) refl refl in
+      let rest = no_more (n + 1) hs ks (omega arith) (λ i q x y is a b. others (suc i) q x y (λ c. absurd cc) (omega (arith, is)) a b) in
+      omega (arith, one, rest)
   less_by d n (suc p) (h ∷ hs) (k ∷ ks) e low at others =
-      let same : length ks ≡ length hs = omega arith in
-      let z : n + 0 ≡ n = omega arith in
-      let P : ℕ → Type 0 = λ q. new_share q k ≤ old_share q h in
-      let one : new_share n k ≤ old_share n h = subst P z (others 0 h k (λ c. absurd cc) refl refl) in
-      let less : LessAt d (n + 1) p hs ks = λ x y a b.
-      let m : n + suc p ≡ (n + 1) + p = omega arith in
-      let Q : ℕ → Type 0 = λ q. new_share q y + d ≤ old_share q x in
-      subst Q m (at x y a b) in
-      let each : OthersNoMore (n + 1) p hs ks = λ i x y ne a b.
-      let m : n + suc i ≡ (n + 1) + i = omega arith in
-      let Q : ℕ → Type 0 = λ q. new_share q y ≤ old_share q x in
-      subst Q m (others (suc i) x y (λ c. ne (omega (arith, c))) a b) in
-      let rest : weights left rise t ts (n + 1) ks + d ≤ weights left rise s st (n + 1) hs = less_by d (n + 1) p hs ks same (omega arith) less each in
-      omega arith
+      let one : new_share n k ≤ old_share n h = others 0 n h k (λ c. absurd cc) (omega arith) refl refl in
+      let rest =
+      less_by d (n + 1) p hs ks (omega arith) (omega arith) (λ q x y is a b. at q x y (omega (arith, is)) a b)
+      (λ i q x y ne is a b. others (suc i) q x y (λ c. ne (omega (arith, c))) (omega (arith, is)) a b) in
+      omega (arith, one, rest)
 
   -- ---- one hand
 
@@ -113,12 +77,10 @@ module _ {W : Type 0} (left : W → Scene → ℕ) (rise : ℕ) (s t : Scene) (s
     kept_share : (q : ℕ) (h k : Hand W) → (q ≡ place → ⊥) → slice_get hs q ≡ Some h → slice_get ks q ≡ Some k → new_share q k ≤ old_share q h + raised rise q
     kept_share q h k ne a b =
         let same : h ≡ k = some_is (sym a ∙ sym (l.hands q ne) ∙ b) in
-        let P : Hand W → Type 0 = λ y. new_share q y ≤ old_share q h + raised rise q in
-        let Q : Bool → Type 0 = λ v. cond v (weight rise q (hand_left left t h)) 0 ≤ old_share q h + raised rise q in
-        subst P same (subst Q (sym (l.others q ne)) (kept_by q (is_busy_at st q) (hand_left left t h) (hand_left left s h) (λ y. l.beside q h ne y a)))
+        rw (sym same, l.others q ne) (kept_by q (is_busy_at st q) (hand_left left t h) (hand_left left s h) (λ y. l.beside q h ne y a))
 
-    later_share : (q : ℕ) (h k : Hand W) → (suc q ≡ place → ⊥) → slice_get hs (suc q) ≡ Some h → slice_get ks (suc q) ≡ Some k → new_share (suc q) k ≤ old_share (suc q) h
-    later_share q h k ne a b = let g : new_share (suc q) k ≤ old_share (suc q) h + 0 = kept_share (suc q) h k ne a b in omega (arith, g)
+    later_share : (r q : ℕ) (h k : Hand W) → r ≡ suc q → (suc q ≡ place → ⊥) → slice_get hs (suc q) ≡ Some h → slice_get ks (suc q) ≡ Some k → new_share r k ≤ old_share r h
+    later_share r q h k e ne a b = let g : new_share (suc q) k ≤ old_share (suc q) h + 0 = kept_share (suc q) h k ne a b in rw e (omega (arith, g))
 
     -- by so much the hand of the actor whose turn it is weighs less
     abbrev drop : ℕ → ℕ
@@ -133,60 +95,29 @@ module _ {W : Type 0} (left : W → Scene → ℕ) (rise : ℕ) (s t : Scene) (s
     idle zero y = omega arith
     idle (suc q) y = let more : 1 ≤ y + 1 = omega arith in omega (arith, mul-le-mul_left (rise + 1) more)
 
-    own_share : (h k : Hand W) → slice_get hs place ≡ Some h → slice_get ks place ≡ Some k → new_share place k + drop place ≤ old_share place h
-    own_share h k a b =
+    own_share : (q : ℕ) (h k : Hand W) → q ≡ place → slice_get hs place ≡ Some h → slice_get ks place ≡ Some k → new_share q k + drop place ≤ old_share q h
+    own_share q h k e a b =
         let x = hand_left left t k in
         let y = hand_left left s h in
-        let O : Bool → Type 0 = λ v. new_share place k + drop place ≤ cond v (weight rise place y) 0 in
-        subst O (sym l.busy) (elim l.own [
-          | inl off ↦ let N : Bool → Type 0 = λ v. cond v (weight rise place x) 0 + drop place ≤ weight rise place y in subst N (sym off) (idle place y)
-          | inr less ↦ by (is_busy_at ts place) (less h k a b)
+        rw (e, l.busy) (elim l.own [
+          | inl off ↦ rw off (idle place y)
+          | inr less ↦
+              elim (is_busy_at ts place) as (λ v. cond v (weight rise place x) 0 + drop place ≤ weight rise place y) [ true ↦ fell place x y (less h k a b) | false ↦ idle place y ]
         ])
-      where
-        by : (v : Bool) → hand_left left t k < hand_left left s h → cond v (weight rise place (hand_left left t k)) 0 + drop place ≤ weight rise place (hand_left left s h)
-        by true low = fell place (hand_left left t k) (hand_left left s h) low
-        by false low = idle place (hand_left left s h)
 
 -- ---- all of them
 
--- the driver's turn
-first_turn : {W : Type 0} (left : W → Scene → ℕ) (rise : ℕ) (s t : Scene) (st ts : List Standing) (hs ks : List (Hand W)) → Lighter left rise 0 s t st ts hs ks → weights left rise t ts 0 ks + 1 ≤ weights left rise s st 0 hs
-unfolding LessAt OthersNoMore
-first_turn {W = W} left rise s t st ts hs ks l =
-    less_by left rise s t st ts 1 0 0 hs ks l.places l.within (λ h k a b. own_share left rise s t st ts 0 hs ks l h k a b) others
-  where
-    others : (i : ℕ) (h k : Hand W) → (i ≡ 0 → ⊥) → slice_get hs i ≡ Some h → slice_get ks i ≡ Some k → share left rise t ts (0 + i) k ≤ share left rise s st (0 + i) h
-    others zero h k ne a b = absurd (ne refl)
-    others (suc i) h k ne a b =
-        let e : suc i ≡ 0 + suc i = omega arith in
-        let P : ℕ → Type 0 = λ q. share left rise t ts q k ≤ share left rise s st q h in
-        subst P e (later_share left rise s t st ts 0 hs ks l i h k ne a b)
-
--- an attempt's
-later_turn : {W : Type 0} (left : W → Scene → ℕ) (rise : ℕ) (p : ℕ) (s t : Scene) (st ts : List Standing) (hs ks : List (Hand W)) → Lighter left rise (suc p) s t st ts hs ks → weights left rise t ts 0 ks + 1 ≤ weights left rise s st 0 hs
-unfolding LessAt OthersNoMore
-later_turn left rise p s t st ts [] ks l = absurd (omega (arith, l.within))
-later_turn left rise p s t st ts (h ∷ hs) [] l = absurd (omega (arith, l.places))
-later_turn {W = W} left rise p s t st ts (h ∷ hs) (k ∷ ks) l =
-    let places : length ks ≡ length hs = omega (arith, l.places) in
-    let low : p < length hs = omega (arith, l.within) in
-    let not_it : 0 ≡ suc p → ⊥ = λ c. absurd cc in
-    let one : share left rise t ts 0 k ≤ share left rise s st 0 h + rise = kept_share left rise s t st ts (suc p) (h ∷ hs) (k ∷ ks) l 0 h k not_it refl refl in
-    let rest : weights left rise t ts 1 ks + (rise + 1) ≤ weights left rise s st 1 hs = less_by left rise s t st ts (rise + 1) 1 p hs ks places low at others in
-    omega arith
-  where
-    at : (x y : Hand W) → slice_get hs p ≡ Some x → slice_get ks p ≡ Some y → share left rise t ts (1 + p) y + (rise + 1) ≤ share left rise s st (1 + p) x
-    at x y a b =
-        let e : suc p ≡ 1 + p = omega arith in
-        let P : ℕ → Type 0 = λ q. share left rise t ts q y + (rise + 1) ≤ share left rise s st q x in
-        subst P e (own_share left rise s t st ts (suc p) (h ∷ hs) (k ∷ ks) l x y a b)
-
-    others : (i : ℕ) (x y : Hand W) → (i ≡ p → ⊥) → slice_get hs i ≡ Some x → slice_get ks i ≡ Some y → share left rise t ts (1 + i) y ≤ share left rise s st (1 + i) x
-    others i x y ne a b =
-        let e : suc i ≡ 1 + i = omega arith in
-        let P : ℕ → Type 0 = λ q. share left rise t ts q y ≤ share left rise s st q x in
-        subst P e (later_share left rise s t st ts (suc p) (h ∷ hs) (k ∷ ks) l i x y (λ c. ne (omega (arith, c))) a b)
-
+-- the driver's turn, and an attempt's
 pub lighter : {W : Type 0} (left : W → Scene → ℕ) (rise place : ℕ) (s t : Scene) (st ts : List Standing) (hs ks : List (Hand W)) → Lighter left rise place s t st ts hs ks → weights left rise t ts 0 ks < weights left rise s st 0 hs
-lighter left rise zero s t st ts hs ks l = omega (arith, first_turn left rise s t st ts hs ks l)
-lighter left rise (suc p) s t st ts hs ks l = omega (arith, later_turn left rise p s t st ts hs ks l)
+lighter left rise zero s t st ts hs ks l =
+    let less = less_by left rise s t st ts 1 0 0 hs ks l.places l.within (own_share left rise s t st ts 0 hs ks l)
+    (elim [ zero ↦ λ q h k ne e a b. absurd (ne refl) | suc i ↦ λ q h k ne e a b. later_share left rise s t st ts 0 hs ks l q i h k (omega (arith, e)) ne a b ]) in
+    omega (arith, less)
+lighter left rise (suc p) s t st ts [] ks l = absurd (omega (arith, l.within))
+lighter left rise (suc p) s t st ts (h ∷ hs) [] l = absurd (omega (arith, l.places))
+lighter left rise (suc p) s t st ts (h ∷ hs) (k ∷ ks) l =
+    let one : share left rise t ts 0 k ≤ share left rise s st 0 h + rise = kept_share left rise s t st ts (suc p) (h ∷ hs) (k ∷ ks) l 0 h k (λ c. absurd cc) refl refl in
+    let rest = less_by left rise s t st ts (rise + 1) 1 p hs ks (omega (arith, l.places)) (omega (arith, l.within))
+    (λ q x y e a b. own_share left rise s t st ts (suc p) (h ∷ hs) (k ∷ ks) l q x y (omega (arith, e)) a b)
+    (λ i q x y ne e a b. later_share left rise s t st ts (suc p) (h ∷ hs) (k ∷ ks) l q i x y (omega (arith, e)) (λ c. ne (omega (arith, c))) a b) in
+    omega (arith, one, rest)

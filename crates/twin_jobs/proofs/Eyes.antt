@@ -4,7 +4,7 @@ use Rattle.proof_base.specs.Prelude.{AllByRecursion}
 use Rattle.job_spec.proofs.Common.{map-append}
 use Rattle.job_facts.specs.Prelude.{Scene, answer, effect, IsHonestOutcome, Shell, Entry, Who, Script, Drawn, is_own, IsForeign, AreOwn}
 use Rattle.job_spec.specs.Prelude.{in_eyes, after_all}
-use Rattle.job_spec.specs.Eyes.{number_in, entry_in}
+use Rattle.job_spec.specs.Eyes.{number_in}
 use Rattle.job_side.specs.Holds.{AreOf}
 use Rattle.job_side.specs.Beside as beside
 use Rattle.twin_facts.specs.Sides as two
@@ -16,10 +16,6 @@ use Rattle.twin_jobs.specs.Worlds.{entry_by, both_of}
 pub after_eyes : (mine : ℕ → Bool) (s : Scene) (es : List Entry) → after_all s (in_eyes mine es) ≡ after_all s es
 after_eyes mine s [] = refl
 after_eyes mine s (e ∷ es) = after_eyes mine (effect s e.request e.outcome) es
-
-pub after_append : (s : Scene) (es fs : List Entry) → after_all s (es ++ fs) ≡ after_all (after_all s es) fs
-after_append s [] fs = refl
-after_append s (e ∷ es) fs = after_append (effect s e.request e.outcome) es fs
 
 pub own_on : (n : ℕ) (es fs : List Entry) → AreOwn es → AreOf n fs → AreOwn (es ++ fs)
 own_on n [] [] h g = tt
@@ -41,15 +37,11 @@ module _ (mine theirs : ℕ → Bool) where
 
   pub first_eyes : (es : List Entry) → eyes two.First (both_of mine theirs es) ≡ in_eyes mine es
   first_eyes [] = refl
-  first_eyes (e ∷ es) =
-      ap (λ v. v ∷ eyes two.First (both_of mine theirs es)) (first_reads (mine e.event) (number_in mine e.event) (number_in theirs e.event) e)
-      ∙ ap (λ l. entry_in mine e ∷ l) (first_eyes es)
+  first_eyes (e ∷ es) = λ i. first_reads (mine e.event) (number_in mine e.event) (number_in theirs e.event) e i ∷ first_eyes es i
 
   pub second_eyes : (es : List Entry) → AreApart mine theirs es → eyes two.Second (both_of mine theirs es) ≡ in_eyes theirs es
   second_eyes [] h = refl
-  second_eyes (e ∷ es) h =
-      ap (λ v. v ∷ eyes two.Second (both_of mine theirs es)) (second_reads (mine e.event) (theirs e.event) (number_in mine e.event) (number_in theirs e.event) e h.0)
-      ∙ ap (λ l. entry_in theirs e ∷ l) (second_eyes es h.1)
+  second_eyes (e ∷ es) h = λ i. second_reads (mine e.event) (theirs e.event) (number_in mine e.event) (number_in theirs e.event) e h.0 i ∷ second_eyes es h.1 i
 
   same_actor : (b : Bool) (n m : ℕ) (e : Entry) → is_own e.actor ≡ true → is_own (entry_by b n m e).entry.actor ≡ true
   same_actor true n m e h = h
@@ -64,10 +56,7 @@ module _ (mine theirs : ℕ → Bool) where
 
   pub by_first : (n : ℕ) → mine n ≡ true → (es : List Entry) → AreOf n es → joined.AreOf two.First (both_of mine theirs es)
   by_first n own [] h = tt
-  by_first n own (e ∷ es) h = (side_is (mine e.event) (ap mine h.0.0 ∙ own), by_first n own es h.1)
-    where
-      side_is : (b : Bool) → b ≡ true → (entry_by b (number_in mine e.event) (number_in theirs e.event) e).side ≡ two.First
-      side_is b is = ap (λ v. (entry_by v (number_in mine e.event) (number_in theirs e.event) e).side) is
+  by_first n own (e ∷ es) h = (ap (λ v. (entry_by v (number_in mine e.event) (number_in theirs e.event) e).side) (ap mine h.0.0 ∙ own), by_first n own es h.1)
 
   -- what is foreign to the second is so in the run's own numbers
   pub foreign_by : (w : Script) (drawn : Who → List Drawn) (n : ℕ) (s : Scene) (es : List Entry) → AreOf n es → joined.AreForeign w drawn s (both_of mine theirs es) → beside.AreForeign w drawn n s es

@@ -1,12 +1,12 @@
 -- The numbers of the events of each side, and how many there are.
-use Rattle.std.proofs.Common.{◌≡◌, ℕ, zero, suc, ◌+◌, ◌<◌, ◌≤◌, ◌||◌, nat_eq, not, Bool, true, false, cond, List, [], ◌∷◌, ◌++◌, length, take, slice_get, Some, refl, sym, ap, subst, ◌∙◌, arith}
+use Rattle.std.proofs.Common.{◌≡◌, ℕ, zero, suc, ◌+◌, ◌<◌, ◌≤◌, nat_eq, not, Bool, true, false, cond, List, [], ◌∷◌, ◌++◌, length, take, slice_get, Some, refl, sym, ap, subst, ◌∙◌, arith}
 use Rattle.std.specs.Prelude.{replicate, sum_by}
 use Rattle.std.proofs.lemmas.List.Sums.{sum_by-cons}
 use Rattle.job_facts.specs.Prelude.{list_any}
-use Rattle.job_spec.proofs.Common.{some_is, none_some, nat_false, nat_true, false_true}
+use Rattle.job_spec.proofs.Common.{some_is, none_some, nat_false, nat_true, slice_get_within}
 use Rattle.job_spec.specs.Eyes.{number_in}
 use Rattle.job_side.proofs.Firsts.{take_more}
-use Rattle.job_side.proofs.Places.{there, within}
+use Rattle.job_side.proofs.Places.{there}
 use Rattle.twin_script.specs.declared.turns.Side.{Side}
 use Rattle.twin_script.specs.declared.turns.Side.TheVariants.{First, Second}
 use Rattle.twin_script.specs.declared.turns.TwinTurn.{TwinTurn}
@@ -16,46 +16,38 @@ use Rattle.twin_jobs.specs.Worlds.{mine}
 
 -- ---- whose an event is
 
+-- the numbers of others, from one of them on
+abbrev from : Bool → ℕ → List ℕ → List ℕ
+from b m ns = cond b ns (m ∷ ns)
+
 -- a number below is none of them
 none_below : (side : Side) (m n : ℕ) (sides : List Side) → n < m → list_any (λ k. nat_eq k n) (others_in side m sides) ≡ false
 none_below side m n [] below = refl
-none_below side m n (s ∷ sides) below = by (is_same side s) (none_below side (m + 1) n sides (omega (arith, below)))
-  where
-    by : (b : Bool) → list_any (λ k. nat_eq k n) (others_in side (m + 1) sides) ≡ false → list_any (λ k. nat_eq k n) (cond b (others_in side (m + 1) sides) (m ∷ others_in side (m + 1) sides)) ≡ false
-    by true rest = rest
-    by false rest = ap (λ b. b || list_any (λ k. nat_eq k n) (others_in side (m + 1) sides)) (nat_false m n (λ e. absurd (omega (arith, e, below)))) ∙ rest
+none_below side m n (s ∷ sides) below =
+    let rest = none_below side (m + 1) n sides (omega (arith, below)) in
+    elim (is_same side s) as (λ b. list_any (λ k. nat_eq k n) (from b m (others_in side (m + 1) sides)) ≡ false) [
+      | true ↦ rest
+      | false ↦ rw (nat_false m n (λ e. omega (arith, e, below))) rest
+    ]
 
 -- the event at a place is another's, or is not
 is_among : (side s : Side) (m i : ℕ) (sides : List Side) → slice_get sides i ≡ Some s → list_any (λ k. nat_eq k (m + i)) (others_in side m sides) ≡ not (is_same side s)
 is_among side s m i [] e = absurd (none_some refl e)
 is_among side s m zero (x ∷ sides) e =
-    let below : m + 0 < m + 1 = omega arith in
-    let here : m ≡ m + 0 = omega arith in
-    subst (λ (y : Side). list_any (λ k. nat_eq k (m + 0)) (others_in side m (x ∷ sides)) ≡ not (is_same side y)) (some_is e)
-    (by (is_same side x) (none_below side (m + 1) (m + 0) sides below) (nat_true m (m + 0) here))
-  where
-    by : (b : Bool) → list_any (λ k. nat_eq k (m + 0)) (others_in side (m + 1) sides) ≡ false → nat_eq m (m + 0) ≡ true → list_any (λ k. nat_eq k (m + 0)) (cond b (others_in side (m + 1) sides) (m ∷ others_in side (m + 1) sides)) ≡ not b
-    by true rest same = rest
-    by false rest same = ap (λ b. b || list_any (λ k. nat_eq k (m + 0)) (others_in side (m + 1) sides)) same
+    rw (sym (some_is e))
+    (elim (is_same side x) as (λ b. list_any (λ k. nat_eq k (m + 0)) (from b m (others_in side (m + 1) sides)) ≡ not b)
+    [ true ↦ none_below side (m + 1) (m + 0) sides (omega arith) | false ↦ rw (nat_true m (m + 0) (omega arith)) refl ])
 is_among side s m (suc i) (x ∷ sides) e =
     let over : m + 1 + i ≡ m + suc i = omega arith in
-    let apart : m ≡ m + suc i → ⊥ = λ q. absurd (omega (arith, q)) in
-    by (is_same side x) (subst (λ n. list_any (λ k. nat_eq k n) (others_in side (m + 1) sides) ≡ not (is_same side s)) over (is_among side s (m + 1) i sides e)) (nat_false m (m + suc i) apart)
-  where
-    by : (b : Bool) → list_any (λ k. nat_eq k (m + suc i)) (others_in side (m + 1) sides) ≡ not (is_same side s) → nat_eq m (m + suc i) ≡ false
-        → list_any (λ k. nat_eq k (m + suc i)) (cond b (others_in side (m + 1) sides) (m ∷ others_in side (m + 1) sides)) ≡ not (is_same side s)
-    by true rest apart = rest
-    by false rest apart = ap (λ b. b || list_any (λ k. nat_eq k (m + suc i)) (others_in side (m + 1) sides)) apart ∙ rest
-
-not_not : (b : Bool) → not (not b) ≡ b
-not_not true = refl
-not_not false = refl
+    let rest = subst (λ n. list_any (λ k. nat_eq k n) (others_in side (m + 1) sides) ≡ not (is_same side s)) over (is_among side s (m + 1) i sides e) in
+    elim (is_same side x) as (λ b. list_any (λ k. nat_eq k (m + suc i)) (from b m (others_in side (m + 1) sides)) ≡ not (is_same side s))
+    [ true ↦ rest | false ↦ rw (nat_false m (m + suc i) (λ q. omega (arith, q))) rest ]
 
 -- the event is the side's where the order says so
 pub mine_at : (side s : Side) (i : ℕ) (sides : List Side) → slice_get sides i ≡ Some s → mine sides side (i + 1) ≡ is_same side s
 mine_at side s i sides e =
     let over : 1 + i ≡ i + 1 = omega arith in
-    subst (λ n. mine sides side n ≡ is_same side s) over (ap not (is_among side s 1 i sides e) ∙ not_not (is_same side s))
+    subst (λ n. mine sides side n ≡ is_same side s) over (ap not (is_among side s 1 i sides e) ∙ elim (is_same side s) as (λ b. not (not b) ≡ b) [ true ↦ refl | false ↦ refl ])
 
 same_other : (side s : Side) → is_same (other_of side) s ≡ not (is_same side s)
 same_other First First = refl
@@ -78,15 +70,18 @@ opposite side (suc i) sides some few =
 
 -- ---- how many
 
+-- one more, where it is so
+abbrev more : Bool → ℕ → ℕ
+more b n = cond b (n + 1) n
+
 events_more : (side s : Side) (sides : List Side) → events_of side (sides ++ s ∷ []) ≡ cond (is_same side s) (events_of side sides + 1) (events_of side sides)
 events_more side s [] = refl
-events_more side s (x ∷ sides) = ap (λ n. cond (is_same side x) (n + 1) n) (events_more side s sides) ∙ by (is_same side x) (is_same side s)
+events_more side s (x ∷ sides) = ap (more (is_same side x)) (events_more side s sides) ∙ by (is_same side x) (is_same side s)
   where
-    by : (b c : Bool) → cond b (cond c (events_of side sides + 1) (events_of side sides) + 1) (cond c (events_of side sides + 1) (events_of side sides)) ≡ cond c (cond b (events_of side sides + 1) (events_of side sides) + 1) (cond b (events_of side sides + 1) (events_of side sides))
+    by : (b c : Bool) → more b (more c (events_of side sides)) ≡ more c (more b (events_of side sides))
     by true true = refl
-    by true false = refl
     by false true = refl
-    by false false = refl
+    by _ false = refl
 
 -- those up to a number are those of the front
 pub number_front : (side : Side) (n : ℕ) (sides : List Side) → n ≤ length sides → number_in (mine sides side) n ≡ events_of side (take n sides)
@@ -95,29 +90,24 @@ number_front side (suc n) sides few =
     let h = there sides n (omega (arith, few)) in
     let over : n + 1 ≡ suc n = omega arith in
     let before : n ≤ length sides = omega (arith, few) in
-    ap (λ b. cond b (number_in (mine sides side) n + 1) (number_in (mine sides side) n)) (ap (mine sides side) (sym over) ∙ mine_at side h.0 n sides h.1)
-    ∙ ap (λ m. cond (is_same side h.0) (m + 1) m) (number_front side n sides before)
-    ∙ sym (events_more side h.0 (take n sides))
-    ∙ ap (events_of side) (sym (take_more sides n h.0 h.1))
+    ap (λ b. more b (number_in (mine sides side) n)) (ap (mine sides side) (sym over) ∙ mine_at side h.0 n sides h.1) ∙ ap (more (is_same side h.0))
+    (number_front side n sides before)
+    ∙ sym (events_more side h.0 (take n sides)) ∙ ap (events_of side) (sym (take_more sides n h.0 h.1))
 
 front_few : (side : Side) (n : ℕ) (sides : List Side) → events_of side (take n sides) ≤ events_of side sides
 front_few side zero sides = omega arith
 front_few side (suc n) [] = omega arith
-front_few side (suc n) (s ∷ sides) = by (is_same side s) (front_few side n sides)
-  where
-    by : (b : Bool) → events_of side (take n sides) ≤ events_of side sides → cond b (events_of side (take n sides) + 1) (events_of side (take n sides)) ≤ cond b (events_of side sides + 1) (events_of side sides)
-    by true h = omega (arith, h)
-    by false h = h
+front_few side (suc n) (s ∷ sides) =
+    let h = front_few side n sides in
+    elim (is_same side s) as (λ b. more b (events_of side (take n sides)) ≤ more b (events_of side sides)) [ true ↦ omega (arith, h) | false ↦ h ]
 
 -- where the side's turn is next there are more of its events than were played
 pub more_left : (side : Side) (n : ℕ) (sides : List Side) → slice_get sides n ≡ Some side → number_in (mine sides side) n < events_of side sides
 more_left side n sides e =
-    let inside = within sides n side e in
+    let inside = slice_get_within sides n side e in
     let next : events_of side (take (suc n) sides) ≡ events_of side (take n sides) + 1 =
-    ap (events_of side) (take_more sides n side e) ∙ events_more side side (take n sides) ∙ ap (λ b. cond b (events_of side (take n sides) + 1) (events_of side (take n sides))) (same_self side) in
-    let front = front_few side (suc n) sides in
-    let here = number_front side n sides (omega (arith, inside)) in
-    omega (arith, next, front, here)
+    ap (events_of side) (take_more sides n side e) ∙ events_more side side (take n sides) ∙ ap (λ b. more b (events_of side (take n sides))) (same_self side) in
+    omega (arith, next, front_few side (suc n) sides, number_front side n sides (omega (arith, inside)))
 
 -- each of the first events is one side's or the other's
 pub all_numbers : (n : ℕ) (sides : List Side) → n ≤ length sides → number_in (mine sides First) n + number_in (mine sides Second) n ≡ n
@@ -125,33 +115,24 @@ all_numbers zero sides few = refl
 all_numbers (suc n) sides few = by (mine sides First (suc n)) (mine sides Second (suc n)) (opposite First (suc n) sides (omega arith) few) (all_numbers n sides (omega (arith, few)))
   where
     by : (b c : Bool) → c ≡ not b → number_in (mine sides First) n + number_in (mine sides Second) n ≡ n
-        → cond b (number_in (mine sides First) n + 1) (number_in (mine sides First) n) + cond c (number_in (mine sides Second) n + 1) (number_in (mine sides Second) n) ≡ suc n
+        → more b (number_in (mine sides First) n) + more c (number_in (mine sides Second) n) ≡ suc n
     by true false e h = omega (arith, h)
     by false true e h = omega (arith, h)
-    by true true e h = absurd (false_true e refl)
-    by false false e h = absurd (false_true refl e)
+    by true true e h = cc
+    by false false e h = cc
 
 -- ---- an order
 
 events_append : (side : Side) (a b : List Side) → events_of side (a ++ b) ≡ events_of side a + events_of side b
 events_append side [] b = let none : events_of side b ≡ 0 + events_of side b = omega arith in none
-events_append side (s ∷ a) b = by (is_same side s) (events_append side a b)
-  where
-    by : (c : Bool) → events_of side (a ++ b) ≡ events_of side a + events_of side b → cond c (events_of side (a ++ b) + 1) (events_of side (a ++ b)) ≡ cond c (events_of side a + 1) (events_of side a) + events_of side b
-    by true h = omega (arith, h)
-    by false h = h
+events_append side (s ∷ a) b =
+    let h = events_append side a b in
+    elim (is_same side s) as (λ c. more c (events_of side (a ++ b)) ≡ more c (events_of side a) + events_of side b) [ true ↦ omega (arith, h) | false ↦ h ]
 
 events_replicate : (side s : Side) (n : ℕ) → events_of side (replicate n s) ≡ cond (is_same side s) n 0
-events_replicate side s zero = by (is_same side s)
-  where
-    by : (b : Bool) → ◌≡◌ {A = ℕ} 0 (cond b 0 0)
-    by true = refl
-    by false = refl
-events_replicate side s (suc n) = ap (λ m. cond (is_same side s) (m + 1) m) (events_replicate side s n) ∙ by (is_same side s)
-  where
-    by : (b : Bool) → cond b (cond b n 0 + 1) (cond b n 0) ≡ cond b (suc n) 0
-    by true = omega arith
-    by false = refl
+events_replicate side s zero = elim (is_same side s) as (λ b. ◌≡◌ {A = ℕ} 0 (cond b 0 0)) [ true ↦ refl | false ↦ refl ]
+events_replicate side s (suc n) =
+    ap (more (is_same side s)) (events_replicate side s n) ∙ elim (is_same side s) as (λ b. more b (cond b n 0) ≡ cond b (suc n) 0) [ true ↦ omega arith | false ↦ refl ]
 
 -- how many events a turn asks of a side
 abbrev pub count_of : Side → TwinTurn → ℕ

@@ -9,11 +9,12 @@ use Rattle.job_traces.proofs.Changes.{moment_scene}
 use Rattle.job_steps.proofs.Running.{is_run}
 use Rattle.job_steps.proofs.Parts.{take_whole}
 use Rattle.job_safety.proofs.Ending.{ahead_none}
+use Rattle.job_safety.proofs.Cuts.{after_cut}
 use Rattle.job_side.specs.Holds.{Quiet, AreOf, is_mine, setting_of}
 use Rattle.job_side.specs.Events.{knows_of}
 use Rattle.job_side.specs.Beside.{AreForeign}
 use Rattle.job_side.proofs.Beside.{rests_beside}
-use Rattle.job_side.proofs.Places.{within}
+use Rattle.job_spec.proofs.Common.{slice_get_within}
 use Rattle.job_side.specs.declared.body.Body.{Body}
 use Rattle.job_side.specs.declared.body.Side as body
 use Rattle.job_side.specs.declared.body.Shared.{Shared}
@@ -27,7 +28,7 @@ use Rattle.twin_jobs.specs.Order.{other_of}
 use Rattle.twin_jobs.specs.Worlds.{mine, setting, both_of}
 use Rattle.twin_jobs.specs.Pairs.{over, IsAmong, RestsOne, RestsShared}
 use Rattle.twin_jobs.proofs.Numbers.{mine_at, opposite, same_self}
-use Rattle.twin_jobs.proofs.Eyes.{AreApart, after_eyes, after_append, own_on, first_eyes, second_eyes, actors, appended, by_first, foreign_by}
+use Rattle.twin_jobs.proofs.Eyes.{AreApart, after_eyes, own_on, first_eyes, second_eyes, actors, appended, by_first, foreign_by}
 
 -- ---- what all share
 
@@ -38,29 +39,19 @@ twins_turned w v m = record { first = m.second; second = m.first; twins = record
 -- entries of events that were played are of one side or the other
 pub apart : (name : Side) (sides : List Side) (n : ℕ) (es : List Entry) → n ≤ length sides → AllByRecursion (IsAmong n) es → AreApart (mine sides name) (mine sides (other_of name)) es
 apart name sides n [] few h = tt
-apart name sides n (e ∷ es) few h =
-    let above = h.0.0 in
-    let below = h.0.1 in
-    let inside : e.event ≤ length sides = omega (arith, below, few) in
-    (opposite name e.event sides above inside, apart name sides n es few h.1)
+apart name sides n (e ∷ es) few h = (opposite name e.event sides h.0.0 (omega (arith, h.0.1, few)), apart name sides n es few h.1)
 
 pub among_more : (n : ℕ) (es fs : List Entry) → AllByRecursion (IsAmong n) es → AreOf (n + 1) fs → AllByRecursion (IsAmong (n + 1)) (es ++ fs)
 among_more n [] [] h g = tt
-among_more n [] (f ∷ fs) h g = (number f.event g.0.0, among_more n [] fs tt g.1)
-  where
-    number : (k : ℕ) → k ≡ n + 1 → (1 ≤ k) × (k ≤ n + 1)
-    number k e = (omega (arith, e), omega (arith, e))
-among_more n (e ∷ es) fs h g = (wider e.event h.0.0 h.0.1, among_more n es fs h.1 g)
-  where
-    wider : (k : ℕ) → 1 ≤ k → k ≤ n → (1 ≤ k) × (k ≤ n + 1)
-    wider k some few = (some, omega (arith, few))
+among_more n [] (f ∷ fs) h g = ((omega (arith, g.0.0), omega (arith, g.0.0)), among_more n [] fs tt g.1)
+among_more n (e ∷ es) fs h g = ((h.0.0, omega (arith, h.0.1)), among_more n es fs h.1 g)
 
 -- what is shared, once an event was played
 pub shared_more : (sides : List Side) (name : Side) (s t : Shared) (part : List Entry) → RestsShared sides s → slice_get sides s.events ≡ Some name → t.events ≡ s.events + 1 → t.journal.entries ≡ s.journal.entries ++ part → AreOf (s.events + 1) part → RestsShared sides t
 shared_more sides name s t part r turn events more are = record {
   own = subst AreOwn (sym more) (own_on (s.events + 1) s.journal.entries part r.own are);
   among = subst (λ n. AllByRecursion (IsAmong n) t.journal.entries) (sym events) (subst (AllByRecursion (IsAmong (s.events + 1))) (sym more) (among_more s.events s.journal.entries part r.among are));
-  few = let inside = within sides s.events name turn in omega (arith, events, inside);
+  few = omega (arith, events, slice_get_within sides s.events name turn);
   short = r.short;
 }
 
@@ -165,23 +156,15 @@ module _ {W : Type 0} (wants : W → Option Request) (is_of : Setting → Actor 
         → Quiet wants is_of running picks_of (over s old) → RestsOne wants is_of running picks_of sides name s1 new → RestsOne wants is_of running picks_of sides (other_of name) t old → Quiet wants is_of running picks_of (over t new)
     stays_beside s s1 t old new part twins rn ro opening events more are turn q a b =
         let own_turn : mine sides name (old.events + 1) ≡ true = mine_at name name old.events sides turn ∙ same_self name in
-        let inside = within sides old.events name turn in
+        let inside = slice_get_within sides old.events name turn in
         let some : 1 ≤ old.events + 1 = omega arith in
         let few : old.events + 1 ≤ length sides = omega (arith, inside) in
         let not_theirs : mine sides (other_of name) (old.events + 1) ≡ false = opposite name (old.events + 1) sides some few ∙ ap not own_turn in
         let n = a.quiet.holds in
-        rests_beside wants is_of running picks_of (over t old) (over t new) b.quiet (record {
-          side = refl;
-          opening = opening;
-          theirs = ap (λ os. is_mine os (old.events + 1)) b.others ∙ not_theirs;
-          events = events;
-          part = part;
-          appended = more;
-          foreign = foreign_to s s1 t old new part twins rn ro opening more are own_turn (side_run sides name s1 new a) (opens_both s1.script t.script old.opening (subst (λ (c : Content). IsOpening (setting s1.script c) c) opening (opens_of sides name s1 new a))) (side_run sides (other_of name) t old b);
-          scene =
-              plain_scene (over s1 new) a.quiet ∙ ap (λ (c : Content). after_all (store.opening c) new.journal.entries) opening ∙ ap (after_all (store.opening old.opening)) more
-              ∙ after_append (store.opening old.opening) old.journal.entries part ∙ ap (λ c. after_all c part) (sym (plain_scene (over s old) q));
-          requests = n.requests;
-          fated = n.fated;
-          few = n.few;
-        })
+        let theirs_not = ap (λ os. is_mine os (old.events + 1)) b.others ∙ not_theirs in
+        let opens = opens_both s1.script t.script old.opening (subst (λ (c : Content). IsOpening (setting s1.script c) c) opening (opens_of sides name s1 new a)) in
+        let foreign = foreign_to s s1 t old new part twins rn ro opening more are own_turn (side_run sides name s1 new a) opens (side_run sides (other_of name) t old b) in
+        let scene =
+        plain_scene (over s1 new) a.quiet ∙ ap (λ (c : Content). after_all (store.opening c) new.journal.entries) opening ∙ ap (after_all (store.opening old.opening)) more
+        ∙ after_cut (store.opening old.opening) old.journal.entries part ∙ ap (λ c. after_all c part) (sym (plain_scene (over s old) q)) in
+        rests_beside wants is_of running picks_of (over t old) (over t new) b.quiet (search (opening, theirs_not, events, more, foreign, scene, n))

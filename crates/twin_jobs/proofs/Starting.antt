@@ -1,12 +1,11 @@
 -- Two jobs of which nothing has happened.
 use Rattle.std.proofs.Common.{◌≡◌, ℕ, ◌+◌, ◌≤◌, ◌<◌, ◌^◌, false, List, [], length, slice_get, Option, refl, sym, ap, subst, ◌∙◌, arith}
-use Rattle.job_steps.specs.Prelude.{Content, Entry, fate_at, Request, Actor, Known, Script, IsLegal, EventEnd, Pick, Setting, Running, AreOwn}
+use Rattle.job_steps.specs.Prelude.{Content, fate_at, Request, Actor, Known, Script, IsLegal, Pick, Setting, Running}
 use Rattle.job_facts.specs.Prelude.{Mode}
-use Rattle.proof_base.specs.Prelude.{AllByRecursion}
 use Rattle.s3_types.specs.declared.request.Mode.TheVariants as modes
 use Rattle.s3_service.specs.Ids.{AreBelow}
 use Rattle.job_side.specs.Events.{picks_in}
-use Rattle.job_side.specs.Firsts.{IsFirstShared, IsFirstSide}
+use Rattle.job_side.specs.Firsts.{IsFirstShared}
 use Rattle.job_side.proofs.Firsts.{first_quiet}
 use Rattle.job_side.specs.declared.body.Side as body
 use Rattle.job_side.specs.declared.body.Shared.{Shared}
@@ -16,8 +15,8 @@ use Rattle.twin_script.specs.declared.turns.Side.{Side}
 use Rattle.twin_script.specs.declared.turns.Side.TheVariants.{First, Second}
 use Rattle.twin_script.specs.TwinScripts.{Twins, AreTwins, is_replace, sides_in}
 use Rattle.twin_jobs.specs.Order.{events_of, others_in}
-use Rattle.twin_jobs.specs.Worlds.{Run, JobRun, begun, nothing_run}
-use Rattle.twin_jobs.specs.Pairs.{over, job_in, run_of, IsAmong, IsFresh, IsPaired, side_in, Rests, RestsOne, RestsBoth}
+use Rattle.twin_jobs.specs.Worlds.{begun, nothing_run}
+use Rattle.twin_jobs.specs.Pairs.{over, job_in, run_of, IsFresh, IsPaired, side_in, Rests, RestsOne}
 use Rattle.twin_jobs.specs.declared.pair.Pair.{Pair}
 use Rattle.twin_jobs.proofs.Numbers.{events_asked, all_sides}
 
@@ -26,20 +25,13 @@ use Rattle.twin_jobs.proofs.Numbers.{events_asked, all_sides}
 -- it asks for no more events than the scripts have
 pub few_asked : (t : Twins) → AreTwins t → IsLegal t.first → IsLegal t.second → length (sides_in t.order) + 1 < 2 ^ 32
 few_asked t a first second =
-    let all = all_sides (sides_in t.order) in
-    let mine = events_asked First t.order in
-    let theirs = events_asked Second t.order in
-    let some = a.first_events in
-    let more = a.second_events in
-    let few = first.few_events in
-    let least = second.few_events in
-    omega (arith, all, mine, theirs, some, more, few, least)
+    omega (arith, all_sides (sides_in t.order), events_asked First t.order, events_asked Second t.order, a.first_events, a.second_events, first.few_events, second.few_events)
 
-pub enough_first : (t : Twins) → AreTwins t → events_of First (sides_in t.order) ≤ length t.first.events
-enough_first t a = subst (λ n. n ≤ length t.first.events) (sym (events_asked First t.order)) a.first_events
+enough_first : (t : Twins) → AreTwins t → events_of First (sides_in t.order) ≤ length t.first.events
+enough_first t a = rw (events_asked First t.order) a.first_events
 
-pub enough_second : (t : Twins) → AreTwins t → events_of Second (sides_in t.order) ≤ length t.second.events
-enough_second t a = subst (λ n. n ≤ length t.second.events) (sym (events_asked Second t.order)) a.second_events
+enough_second : (t : Twins) → AreTwins t → events_of Second (sides_in t.order) ≤ length t.second.events
+enough_second t a = rw (events_asked Second t.order) a.second_events
 
 keeps_so : (m : Mode) → is_replace m ≡ false → laws.is_replace m ≡ false
 keeps_so modes.Fail e = refl
@@ -47,13 +39,7 @@ keeps_so modes.Append e = refl
 keeps_so modes.Replace e = e
 
 pub may_be : (t : Twins) → AreTwins t → IsLegal t.first → IsLegal t.second → MayBeTwins t.first t.second
-may_be t a first second = record {
-  first = first;
-  second = second;
-  twins = record { dest = a.dest; jobs = a.ids };
-  keeps_first = keeps_so t.first.mode a.first_keeps;
-  keeps_second = keeps_so t.second.mode a.second_keeps;
-}
+may_be t a first second = assumption (keeps_so t.first.mode a.first_keeps, keeps_so t.second.mode a.second_keeps, a, first, second)
 
 -- ---- both sides
 
@@ -61,55 +47,16 @@ module _ {W : Type 0} (wants : W → Option Request) (is_of : Setting → Actor 
   first_rests : (name : Side) (sides : List Side) (w v : Script) (c : Content) (s : body.Side W) (shared : Shared) → c.next ≤ 2 ^ 62 → AreBelow c.buckets c.next → shared.opening ≡ c → IsFirstShared v shared → IsFresh w c.minimum (others_in name 1 sides) s → events_of name sides ≤ length w.events
       → RestsOne wants is_of running picks_of sides name s shared
   first_rests name sides w v c s shared low below opening h f enough = record {
-    quiet =
-        first_quiet wants is_of running picks_of (over s shared) (let P : Content → Type 0 = λ d. d.next ≤ 2 ^ 62 in subst P (sym opening) low) (subst (λ (d : Content). AreBelow d.buckets d.next) (sym opening) below)
-        (subst (λ (d : Content). IsFirstSide d.minimum s) (sym opening) f.first) v h;
+    quiet = first_quiet wants is_of running picks_of (over s shared) (rw opening low) (rw opening below) (rw opening f.first) v h;
     shares = f.shares;
     others = f.others;
-    enough = subst (λ (u : Script). events_of name sides ≤ length u.events) (sym f.script) enough;
+    enough = rw f.script enough;
   }
-
-  abbrev job_with : Script → List Pick → List EventEnd → JobRun
-  job_with u ps xs = record { script = u; picks = ps; ends = xs }
 
   job_first : (w : Script) (c : Content) (others : List ℕ) (s : body.Side W) → IsFresh w c.minimum others s → job_in picks_of s ≡ nothing_run w
   job_first w c others s f =
       let none : picks_in picks_of s.picks (slice_get s.hands.items 0) ≡ [] = ap (λ hs. picks_in picks_of s.picks (slice_get hs 0)) f.first.hands ∙ f.first.picks in
-      ap (λ u. job_with u (picks_in picks_of s.picks (slice_get s.hands.items 0)) s.ends.items) f.script
-      ∙ ap (λ ps. job_with w ps s.ends.items) none ∙ ap (job_with w []) f.first.ends
-
-  module _ (t : Twins) (a : AreTwins t) (c : Content) (sides : List Side) (s o : body.Side W) (shared : Shared) (low : c.next ≤ 2 ^ 62) (below : AreBelow c.buckets c.next) (are : sides ≡ sides_in t.order) (opening : shared.opening ≡ c) (h : IsFirstShared t.first shared)
-      (f : IsFresh t.first c.minimum (others_in First 1 sides) s) (g : IsFresh t.second c.minimum (others_in Second 1 sides) o) where
-    legal_first : IsLegal t.first
-    legal_first = subst IsLegal f.script f.first.legal
-
-    legal_second : IsLegal t.second
-    legal_second = subst IsLegal g.script g.first.legal
-
-    pub all_rest : RestsBoth wants is_of running picks_of sides s o shared
-    all_rest = record {
-      first = first_rests First sides t.first t.first c s shared low below opening h f (subst (λ l. events_of First l ≤ length t.first.events) (sym are) (enough_first t a));
-      second = first_rests Second sides t.second t.first c o shared low below opening h g (subst (λ l. events_of Second l ≤ length t.second.events) (sym are) (enough_second t a));
-      common = record {
-        own = subst AreOwn (sym h.journal) tt;
-        among = subst (AllByRecursion (IsAmong shared.events)) (sym h.journal) tt;
-        few = let none = h.events in omega (arith, none);
-        short = subst (λ (l : List Side). length l + 1 < 2 ^ 32) (sym are) (few_asked t a legal_first legal_second);
-      };
-      twins = subst (λ w. MayBeTwins w o.script) (sym f.script) (subst (MayBeTwins t.first) (sym g.script) (may_be t a legal_first legal_second));
-      fates = λ n. ap (λ v. fate_at v.fates n) h.store ∙ ap (λ (w : Script). fate_at w.fates n) (sym f.script);
-    }
-
-    abbrev run_with : JobRun → JobRun → List Side → Content → List Entry → Run
-    run_with first second l d es = record { first = first; second = second; sides = l; opening = d; journal = es; stuck = false }
-
-    pub is_begun : run_of picks_of sides s o shared false ≡ begun t c
-    is_begun =
-        ap (λ j. run_with j (job_in picks_of o) sides shared.opening shared.journal.entries) (job_first t.first c (others_in First 1 sides) s f)
-        ∙ ap (λ j. run_with (nothing_run t.first) j sides shared.opening shared.journal.entries) (job_first t.second c (others_in Second 1 sides) o g)
-        ∙ ap (λ l. run_with (nothing_run t.first) (nothing_run t.second) l shared.opening shared.journal.entries) are
-        ∙ ap (λ d. run_with (nothing_run t.first) (nothing_run t.second) (sides_in t.order) d shared.journal.entries) opening
-        ∙ ap (run_with (nothing_run t.first) (nothing_run t.second) (sides_in t.order) c) h.journal
+      λ i. record { script = f.script i; picks = none i; ends = f.first.ends i }
 
   -- a pair of which nothing has happened
   module _ (t : Twins) (a : AreTwins t) (c : Content) (low : c.next ≤ 2 ^ 62) (below : AreBelow c.buckets c.next) (shared : Shared) (h : IsFirstShared t.first shared) (opening : shared.opening ≡ c) (sides : List Side) (are : sides ≡ sides_in t.order) (p : Pair W) (paired : IsPaired t.first t.second shared sides p) where
@@ -125,11 +72,36 @@ module _ {W : Type 0} (wants : W → Option Request) (is_of : Setting → Actor 
     first_here : IsFirstShared t.first p.body.shared
     first_here = subst (IsFirstShared t.first) (sym paired.same) h
 
+    legal_first : IsLegal t.first
+    legal_first = rw fresh_one.script at fresh_one.first.legal
+
+    legal_second : IsLegal t.second
+    legal_second = rw fresh_other.script at fresh_other.first.legal
+
     pub pair_rests : Rests wants is_of running picks_of p
-    pair_rests = all_rest t a c p.sides.items (side_in First p) (side_in Second p) p.body.shared low below (paired.order ∙ are) here first_here fresh_one fresh_other
+    pair_rests = record {
+      first = first_rests First p.sides.items t.first t.first c (side_in First p) p.body.shared low below here first_here fresh_one (rw (paired.order, are) (enough_first t a));
+      second =
+          first_rests Second p.sides.items t.second t.first c (side_in Second p) p.body.shared low below here first_here fresh_other (rw (paired.order, are) (enough_second t a));
+      common = record {
+        own = rw first_here.journal tt;
+        among = rw first_here.journal tt;
+        few = omega (arith, first_here.events);
+        short = rw (paired.order, are) (few_asked t a legal_first legal_second);
+      };
+      twins = rw (fresh_one.script, fresh_other.script) (may_be t a legal_first legal_second);
+      fates = λ n. ap (λ v. fate_at v.fates n) first_here.store ∙ ap (λ (w : Script). fate_at w.fates n) (sym fresh_one.script);
+    }
 
     pub pair_begun : run_of picks_of p.sides.items (side_in First p) (side_in Second p) p.body.shared false ≡ begun t c
-    pair_begun = is_begun t a c p.sides.items (side_in First p) (side_in Second p) p.body.shared low below (paired.order ∙ are) here first_here fresh_one fresh_other
+    pair_begun = λ i. record {
+      first = job_first t.first c (others_in First 1 p.sides.items) (side_in First p) fresh_one i;
+      second = job_first t.second c (others_in Second 1 p.sides.items) (side_in Second p) fresh_other i;
+      sides = (paired.order ∙ are) i;
+      opening = here i;
+      journal = first_here.journal i;
+      stuck = false;
+    }
 
 pub paired_so : {W : Type 0} (first second : Script) (shared : Shared) (sides l : List Side) (m : ℕ) (p : Pair W) → m ≡ shared.opening.minimum → l ≡ sides → p.body.shared ≡ shared → p.sides.items ≡ sides → IsFresh first m (others_in First 1 l) (side_in First p) → IsFresh second m (others_in Second 1 l) (side_in Second p) → IsPaired first second shared sides p
 paired_so first second shared sides l m p minimum list same order f g = record {

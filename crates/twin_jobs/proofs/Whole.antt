@@ -7,10 +7,11 @@ use Rattle.job_spec.specs.Eyes.{number_in}
 use Rattle.s3_types.specs.Store as store
 use Rattle.job_facts.specs.Prelude.{times}
 use Rattle.job_safety.specs.Laws.{KeptAmong}
+use Rattle.job_safety.proofs.Kept as kept
 use Rattle.job_steps.proofs.Parts.{take_whole}
 use Rattle.job_states.specs.Stands.{Stands}
 use Rattle.job_side.specs.Holds.{Quiet, is_mine, all_sound, setting_of}
-use Rattle.job_side.proofs.KeptSides.{HasPicks, kept_among}
+use Rattle.job_side.proofs.KeptSides.{HasPicks, told}
 use Rattle.job_side.proofs.Moments.{stands_of}
 use Rattle.job_side.proofs.Seen.{foretold_as}
 use Rattle.job_side.specs.declared.body.Body.{Body}
@@ -38,12 +39,11 @@ module _ {W : Type 0} (wants : W → Option Request) (is_of : Setting → Actor 
   among : (has : HasPicks running picks_of) (sides : List Side) (name : Side) (s : body.Side W) (shared : Shared) → One sides name s shared
       → KeptAmong (setting s.script shared.opening) shared.opening (in_eyes (mine sides name) shared.journal.entries) (job_in picks_of s).picks s.ends.items
   among has sides name s shared r =
+      let q = r.quiet in
       let ps = (job_in picks_of s).picks in
-      let b : Body W = over s shared in
-      let g : Bool → Setting = λ v. record { script = s.script; minimum = shared.opening.minimum; shared = v } in
-      subst (λ v. KeptAmong (g v) shared.opening (in_eyes (mine sides name) shared.journal.entries) ps s.ends.items) r.shares
-      (subst (λ os. KeptAmong (g s.shares) shared.opening (in_eyes (is_mine os) shared.journal.entries) ps s.ends.items) r.others
-      (kept_among wants is_of running picks_of b r.quiet has))
+      in_words wants is_of running picks_of (λ g es xs. KeptAmong g shared.opening es ps xs) sides name s shared r
+      (kept.kept_among (setting_of (over s shared)) shared.opening q.holds.play q.holds.legal q.holds.opens q.holds.happened (idle wants is_of running picks_of (over s shared) q)
+      ps (told wants is_of running picks_of (over s shared) q has).first)
 
   shared_kept : RunsAreKeptShared → (sides : List Side) (name : Side) (s : body.Side W) (shared : Shared) → One sides name s shared
       → SharedKept (setting s.script shared.opening) shared.opening (in_eyes (mine sides name) shared.journal.entries) s.ends.items
@@ -57,11 +57,7 @@ module _ {W : Type 0} (wants : W → Option Request) (is_of : Setting → Actor 
 
   -- as many events were played as have their ends
   pub played_is : (sides : List Side) (s t : body.Side W) (shared : Shared) → RestsBoth wants is_of running picks_of sides s t shared → shared.events ≡ length s.ends.items + length t.ends.items
-  played_is sides s t shared r =
-      let all = all_numbers shared.events sides r.common.few in
-      let a = played_so sides First s shared r.first in
-      let b = played_so sides Second t shared r.second in
-      omega (arith, all, a, b)
+  played_is sides s t shared r = omega (arith, all_numbers shared.events sides r.common.few, played_so sides First s shared r.first, played_so sides Second t shared r.second)
 
   pub state_is : (s : body.Side W) (shared : Shared) → Quiet wants is_of running picks_of (over s shared) → {S : Type 0} (read : Past → S) (result : S) → ((p : Past) → Stands s.script s.states p → result ≡ read p) → result ≡ read (past s.script s.ends.items)
   state_is s shared q read result h = h (past s.script s.ends.items) (stands_of is_of running picks_of all_sound (over s shared) q.holds q.idle)

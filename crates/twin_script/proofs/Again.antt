@@ -1,9 +1,10 @@
 -- What is printed of two scripts and an order is read as the same again.
-use Rattle.std.proofs.Common.{◌≡◌, ◌≢◌, ℕ, ◌+◌, ◌≤◌, ◌==◌, Bool, true, false, not, List, [], ◌∷◌, ◌++◌, length, map, Some, None, Ok, refl, sym, ap, subst, ◌∙◌, arith, append_assoc, length-append, lit<}
+use Rattle.std.proofs.Common.{◌≡◌, ℕ, ◌+◌, ◌≤◌, ◌==◌, Bool, true, false, not, List, [], ◌∷◌, ◌++◌, length, map, Some, None, Ok, refl, sym, ap, subst, ◌∙◌, arith, append_assoc, length-append, lit<}
 use Rattle.std.specs.Prelude.{codes, bytes_eq, sum_by, nat_le}
 use Rattle.std.specs.FinMap as fin
 use Rattle.std.specs.FinMap.{len-empty}
 use Rattle.job_model.specs.Prelude.{AllByRecursion, nat_cmp, is_utf8, ◌>>=◌, check, lines_of, decimal, ended, text_of, two, Fate, Path, Script, IsLegal}
+use Rattle.proof_base.proofs.Bools.{contrary}
 use Rattle.path_keys.proofs.Common.{parted, append-nil, eqb-true, le-leb, bytes_eq-Decides}
 use Rattle.std.proofs.lemmas.List.Sums.{sum_by-cons}
 use Rattle.words.specs.Lines.{lines_from}
@@ -84,11 +85,10 @@ unfolding script.words_at parts_from
 stops n d e h = absurd cc
 
 other_line : (n : ℕ) (d e : script_draft.Draft) (line : List ℕ) → script.line_at n d line ≡ Ok e → IsOther line
-other_line n d e line h = by (is_parting line) refl
-  where
-    by : (b : Bool) → is_parting line ≡ b → IsOther line
-    by true q = absurd (stops n d e (subst (λ (l : List ℕ). script.line_at n d l ≡ Ok e) ((bytes_eq-Decides line (codes "=====")).0 q) h))
-    by false q = q
+other_line n d e line h = (elim (is_parting line) as (λ b. is_parting line ≡ b → IsOther line) [
+  | true ↦ λ q. absurd (stops n d e (subst (λ (l : List ℕ). script.line_at n d l ≡ Ok e) ((bytes_eq-Decides line (codes "=====")).0 q) h))
+  | false ↦ λ q. q
+]) refl
 
 other_lines : (n : ℕ) (d e : script_draft.Draft) (lines : List (List ℕ)) → script.lines_at n d lines ≡ Ok e → AllByRecursion IsOther lines
 unfolding script.lines_at
@@ -193,20 +193,19 @@ order_others order is = subst (AllByRecursion IsOther) (sym (order_lines order i
 
 -- ---- two scripts that may run as twins
 
-other_job : (a b : List ℕ) → a ≢ b → bytes_eq a b ≡ false
-other_job a b n = by (bytes_eq a b) refl
-  where
-    by : (t : Bool) → bytes_eq a b ≡ t → bytes_eq a b ≡ false
-    by true q = absurd (n ((bytes_eq-Decides a b).0 q))
-    by false q = q
-
 same_dest : (p q : Path) → p ≡ q → is_same_dest p q ≡ true
 same_dest p q e = rw ((bytes_eq-Decides p.bucket q.bucket).1 (ap (λ (x : Path). x.bucket) e), (bytes_eq-Decides p.key q.key).1 (ap (λ (x : Path). x.key) e)) refl
 
 fit_again : (t : Twins) → AreTwins t → fit t.first t.second ≡ Ok tt
 unfolding fit
 fit_again t h =
-    rw (other_job t.first.job t.second.job h.ids, same_dest t.first.dest t.second.dest h.dest, h.first_keeps, h.second_keeps, ap names_fate h.lossless ∙ ap (λ (n : ℕ). not (n == 0)) (len-empty nat_cmp Fate)) refl
+    rw (
+      contrary (bytes_eq t.first.job t.second.job) (λ q. absurd (h.ids ((bytes_eq-Decides t.first.job t.second.job).0 q))),
+      same_dest t.first.dest t.second.dest h.dest,
+      h.first_keeps,
+      h.second_keeps,
+      ap names_fate h.lossless ∙ ap (λ (n : ℕ). not (n == 0)) (len-empty nat_cmp Fate),
+    ) refl
 
 paired_again : (t : Twins) → AreTwins t → paired t.first t.second (order_text t.order) ≡ Ok t
 unfolding paired turns_of

@@ -1,5 +1,5 @@
 -- Going over lines to the first parting line.
-use Rattle.std.proofs.Common.{◌≡◌, ℕ, ◌+◌, ◌≤◌, ◌==◌, Bool, true, false, List, [], ◌∷◌, ◌++◌, length, take, drop, refl, sym, ap, ◌∙◌, arith, append_assoc, length-append}
+use Rattle.std.proofs.Common.{◌≡◌, ℕ, ◌+◌, ◌≤◌, ◌==◌, true, false, List, [], ◌∷◌, ◌++◌, length, take, drop, sym, ap, ◌∙◌, arith, append_assoc, length-append}
 use Rattle.std.specs.Prelude.{Some, None, if◌then◌else◌}
 use Rattle.job_model.specs.Prelude.{list_all, is_inside, without_return}
 use Rattle.path_keys.proofs.Common.{and_parts, not_so, append-nil, take-append-drop, take-append_seam, drop-append_seam, drop_of_length-le}
@@ -31,62 +31,49 @@ pub record Moved (bytes line rest : List ℕ) (at next : ℕ) : Type 0 where
   pub behind : drop next bytes ≡ rest
   pub within : next ≤ length bytes
 
-moved_by : (front line rest bytes : List ℕ) (next : ℕ) → bytes ≡ front ++ (line ++ 10 ∷ rest) → next ≡ length front + length line + 1 → (take next bytes ≡ front ++ (line ++ 10 ∷ [])) × (drop next bytes ≡ rest) × (next ≤ length bytes)
-moved_by front line rest bytes next e at =
-    let seen : List ℕ = front ++ (line ++ 10 ∷ []) in
-    let whole : bytes ≡ seen ++ rest = e ∙ ap (λ (l : List ℕ). front ++ l) (sym (append_assoc line (10 ∷ []) rest)) ∙ sym (append_assoc front (line ++ 10 ∷ []) rest) in
-    let long : next ≡ length seen = omega (arith, length-append front (line ++ 10 ∷ []), length-append line (10 ∷ [])) in (
-      ap (λ (n : ℕ). take n bytes) long ∙ ap (λ (l : List ℕ). take (length seen) l) whole ∙ take-append_seam seen rest,
-      ap (λ (n : ℕ). drop n bytes) long ∙ ap (λ (l : List ℕ). drop (length seen) l) whole ∙ drop-append_seam seen rest,
-      omega (arith, long, ap length whole, length-append seen rest),
-    )
-
 pub moved : (bytes line rest : List ℕ) (at next : ℕ) → at ≤ length bytes → drop at bytes ≡ line ++ 10 ∷ rest → next ≡ at + (length line + 1) → Moved bytes line rest at next
 moved bytes line rest at next fits e is =
-    let long = length-take-le at bytes fits in
-    let m = moved_by (take at bytes) line rest bytes next (sym (take-append-drop at bytes) ∙ ap (λ (l : List ℕ). take at bytes ++ l) e) (omega (arith, long)) in
-    record { before = m.0; behind = m.1; within = m.2 }
-
--- a line that parts
-pub here : (bytes line rest : List ℕ) (at : ℕ) → drop at bytes ≡ line ++ 10 ∷ rest → list_all is_inside line ≡ true → is_parting (without_return line) ≡ true → cut_from (take at bytes) [] (drop at bytes) ≡ Some (take at bytes, rest)
-here bytes line rest at e inside is = ap (cut_from (take at bytes) []) e ∙ passed_line (take at bytes) [] line rest inside ∙ rw is refl
-
--- a line that does not
-pub further : (bytes line rest : List ℕ) (at next : ℕ) → Moved bytes line rest at next → drop at bytes ≡ line ++ 10 ∷ rest → list_all is_inside line ≡ true → is_parting (without_return line) ≡ false → cut_from (take at bytes) [] (drop at bytes) ≡ cut_from (take next bytes) [] (drop next bytes)
-further bytes line rest at next m e inside is =
-    ap (cut_from (take at bytes) []) e ∙ passed_line (take at bytes) [] line rest inside ∙ rw is (rw (m.before, m.behind) refl)
-
--- the end
-pub at_end : (lines rest : List ℕ) → rest ≡ [] → cut_from lines [] rest ≡ None
-unfolding cut_from
-at_end lines rest e = rw e refl
+    let seen : List ℕ = take at bytes ++ (line ++ 10 ∷ []) in
+    let whole : bytes ≡ seen ++ rest =
+    sym (take-append-drop at bytes) ∙ ap (λ (l : List ℕ). take at bytes ++ l) (e ∙ sym (append_assoc line (10 ∷ []) rest))
+    ∙ sym (append_assoc (take at bytes) (line ++ 10 ∷ []) rest) in
+    let long : next ≡ length seen = omega (arith, is, length-take-le at bytes fits, length-append (take at bytes) (line ++ 10 ∷ []), length-append line (10 ∷ [])) in
+    record {
+      before = ap (λ (n : ℕ). take n bytes) long ∙ ap (λ (l : List ℕ). take (length seen) l) whole ∙ take-append_seam seen rest;
+      behind = ap (λ (n : ℕ). drop n bytes) long ∙ ap (λ (l : List ℕ). drop (length seen) l) whole ∙ drop-append_seam seen rest;
+      within = omega (arith, long, ap length whole, length-append seen rest);
+    }
 
 -- what the search for a parting line answers at a line that begins behind `front`, which is the bytes before `at`
 module _ (bytes front behind line : List ℕ) (at : ℕ) (f : front ≡ take at bytes) (b : behind ≡ drop at bytes) (so_far : cut_from (take at bytes) [] (drop at bytes) ≡ cut bytes) where
   from_here : cut_from front [] behind ≡ cut bytes
   from_here = ap (λ (l : List ℕ). cut_from l [] behind) f ∙ ap (cut_from (take at bytes) []) b ∙ so_far
 
-  pub last_parts : parts_of 10 behind ≡ line ∷ [] → is_parting line ≡ true → Some (front, []) ≡ cut bytes
-  last_parts e is =
+  last_is : parts_of 10 behind ≡ line ∷ [] → (if is_parting line then Some (front, []) else None) ≡ cut bytes
+  last_is e =
       let c = lone_at 10 behind line e in
-      sym (last_line front [] behind c.inside ∙ ap (λ (t : Bool). if t then Some (front, []) else None) (ap is_parting c.whole ∙ is)) ∙ from_here
+      sym (last_line front [] behind c.inside ∙ ap (λ (l : List ℕ). if is_parting l then Some (front, []) else None) c.whole) ∙ from_here
+
+  pub last_parts : parts_of 10 behind ≡ line ∷ [] → is_parting line ≡ true → Some (front, []) ≡ cut bytes
+  last_parts e is = rw is at (last_is e)
 
   pub last_none : parts_of 10 behind ≡ line ∷ [] → is_parting line ≡ false → None ≡ cut bytes
-  last_none e is =
-      let c = lone_at 10 behind line e in
-      sym (last_line front [] behind c.inside ∙ ap (λ (t : Bool). if t then Some (front, []) else None) (ap is_parting c.whole ∙ is)) ∙ from_here
+  last_none e is = rw is at (last_is e)
+
+  -- a whole line parts, or the search goes on behind it
+  line_is : (rest : List ℕ) → parts_of 10 behind ≡ line ∷ parts_of 10 rest
+      → (if is_parting (without_return line) then Some (take at bytes, rest) else cut_from (take at bytes ++ (line ++ 10 ∷ [])) [] rest) ≡ cut bytes
+  line_is rest e = let c = cut_at 10 behind line rest e in sym (ap (cut_from (take at bytes) []) (sym b ∙ c.whole) ∙ passed_line (take at bytes) [] line rest c.inside) ∙ so_far
 
   pub parts_here : (rest : List ℕ) → parts_of 10 behind ≡ line ∷ parts_of 10 rest → is_parting (without_return line) ≡ true → Some (front, rest) ≡ cut bytes
-  parts_here rest e is =
-      let c = cut_at 10 behind line rest e in
-      ap (λ (l : List ℕ). Some (l, rest)) f ∙ sym (here bytes line rest at (sym b ∙ c.whole) c.inside is) ∙ so_far
+  parts_here rest e is = ap (λ (l : List ℕ). Some (l, rest)) f ∙ (rw is at (line_is rest e))
 
   pub goes_on : (rest : List ℕ) (next : ℕ) → at ≤ length bytes → next ≡ at + (length line + 1) → parts_of 10 behind ≡ line ∷ parts_of 10 rest → is_parting (without_return line) ≡ false → (next ≤ length bytes) × (cut_from (take next bytes) [] (drop next bytes) ≡ cut bytes)
   goes_on rest next fits is_next e is =
-      let c = cut_at 10 behind line rest e in
-      let m = moved bytes line rest at next fits (sym b ∙ c.whole) is_next in
-      (m.within, sym (further bytes line rest at next m (sym b ∙ c.whole) c.inside is) ∙ so_far)
+      let m = moved bytes line rest at next fits (sym b ∙ (cut_at 10 behind line rest e).whole) is_next in
+      (m.within, rw (m.before, m.behind) (rw is at (line_is rest e)))
 
 -- where no line is left
 pub none_parts : (bytes : List ℕ) (at : ℕ) → length bytes ≤ at → cut_from (take at bytes) [] (drop at bytes) ≡ cut bytes → None ≡ cut bytes
-none_parts bytes at past so_far = sym (at_end (take at bytes) (drop at bytes) (drop_of_length-le bytes past)) ∙ so_far
+unfolding cut_from
+none_parts bytes at past so_far = rw (drop_of_length-le bytes past) at so_far

@@ -64,13 +64,10 @@ line_at_end text part some e =
     last_line text (length text) some none (ap (list_all is_inside) all ∙ c.inside)
     ∙ ap (λ (l : List ℕ). l ∷ lines_of (drop (length text) text)) (all ∙ c.whole) ∙ ap (λ (l : List ℕ). part ∷ lines_of l) none
 
-digit_hex : (b : ℕ) → is_digit b ≡ true → is_hex b ≡ true
-digit_hex b h = grind arith
-
 -- bytes that are no text write no number
 pub no_number : (low high : ℕ) (text : List ℕ) → ¬ (IsUtf8 text) → number_in low high text ≡ None
 no_number low high text n = by (nat_le 1 (length text) && nat_le (length text) 18 && list_all is_digit text) refl
   where
     by : (b : Bool) → (nat_le 1 (length text) && nat_le (length text) 18 && list_all is_digit text) ≡ b → number_in low high text ≡ None
-    by true e = absurd (n (hex_utf8 text (weaker is_digit is_hex digit_hex text (and_parts _ (list_all is_digit text) e).1)))
+    by true e = absurd (n (hex_utf8 text (weaker is_digit is_hex (λ b d. grind arith) text (and_parts _ (list_all is_digit text) e).1)))
     by false e = rw e refl

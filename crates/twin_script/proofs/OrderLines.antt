@@ -44,19 +44,13 @@ one_sum f turns turn = let e = sum_by-append f turns (turn ∷ []) in let one : 
 
 taken : (first second : ℕ) (d : Draft) (side : Side) (count : ℕ) → IsTurn (turn_by side count) → count ≤ left d side → IsSound first second d → IsSound first second (with_turn d (turn_by side count))
 taken first second d First count is enough s =
-    let turn : TwinTurn = turn_by First count in
-    let a = one_sum first_count d.turns turn in
-    let b = one_sum second_count d.turns turn in
-    let x = s.first_sum in
-    let y = s.second_sum in
-    record { turns = all_and_one d.turns turn s.turns is; first_sum = omega (arith, a, x, enough); second_sum = omega (arith, b, y) }
+    let a = one_sum first_count d.turns (turn_by First count) in
+    let b = one_sum second_count d.turns (turn_by First count) in
+    record { turns = all_and_one d.turns (turn_by First count) s.turns is; first_sum = omega (arith, a, s.first_sum, enough); second_sum = omega (arith, b, s.second_sum) }
 taken first second d Second count is enough s =
-    let turn : TwinTurn = turn_by Second count in
-    let a = one_sum first_count d.turns turn in
-    let b = one_sum second_count d.turns turn in
-    let x = s.first_sum in
-    let y = s.second_sum in
-    record { turns = all_and_one d.turns turn s.turns is; first_sum = omega (arith, a, x); second_sum = omega (arith, b, y, enough) }
+    let a = one_sum first_count d.turns (turn_by Second count) in
+    let b = one_sum second_count d.turns (turn_by Second count) in
+    record { turns = all_and_one d.turns (turn_by Second count) s.turns is; first_sum = omega (arith, a, s.first_sum); second_sum = omega (arith, b, s.second_sum, enough) }
 
 turn_sound : (first second n : ℕ) (d e : Draft) (line : List ℕ) → turn_at n d line ≡ Ok e → IsSound first second d → IsSound first second e
 unfolding turn_at
@@ -90,9 +84,8 @@ pub order_sound : (first second : ℕ) (bytes : List ℕ) (turns : List TwinTurn
 order_sound first second bytes turns h =
     let a = parted (lines_at 1 (nothing first second) (lines_of bytes)) _ _ h in
     let s = lines_sound first second 1 (nothing first second) a.value (lines_of bytes) a.first (record { turns = tt; first_sum = omega arith; second_sum = omega arith }) in
-    let x = s.first_sum in
-    let y = s.second_sum in
-    subst (IsOrder first second) (same_ok a.value.turns turns a.next) (record { turns = s.turns; first_events = omega (arith, x); second_events = omega (arith, y) })
+    subst (IsOrder first second) (same_ok a.value.turns turns a.next)
+    (record { turns = s.turns; first_events = omega (arith, s.first_sum); second_events = omega (arith, s.second_sum) })
 
 -- where no line is left
 pub at_end : (n : ℕ) (d : Draft) (rest : List ℕ) {b : Bool} → b ≡ (length rest == 0) → b ≡ true → lines_at n d (lines_of rest) ≡ Ok d

@@ -1,27 +1,27 @@
 use Rattle.job_actor.proofs.Picking.{picks_go}
 use Rattle.job_side.proofs.Moments.{event_of, no_entries}
 use Rattle.job_side.proofs.Frames.{begun_entered}
-use Rattle.job_side.proofs.Beginning.{begins_op, gives_plan, event_then, few_then, legal_then, plan_then, attempt_begun}
+use Rattle.job_side.proofs.Beginning.{begins_op, gives_plan, opens_then, legal_then, plan_then, attempt_begun}
 use Rattle.job_side.proofs.body.Body.begin_attempt.Goals as goal
 
 pub take_plan-plan-requires : goal.take_plan-plan-requires
 take_plan-plan-requires g c =
     gives_plan g.W.Acts.wants g.W.Acts.end_of g.W.Works.is_of g.W.Works.running g.W.Works.picks_of g.met.W.Acts.laws.goes_on c.laws.ensures.ends _ c.requires.ready.quiet c.args.event c.args.actor c.args.op c.args.place c.requires.begins c.requires.attempt c.requires.actor c.requires.ready.fine
 
-pub open-requires-clause-event : goal.open-requires-clause-event
-open-requires-clause-event g c = event_then _ _ _ _ _ c.requires.ready.quiet _ c.args.event c.requires.ready.next c.args.place c.take_plan-plan.ensures.emptied
+pub open-requires : goal.open-requires
+open-requires g c = opens_then _ _ _ _ _ c.requires.ready.quiet _ c.args.event c.requires.ready.next c.args.place c.take_plan-plan.ensures.emptied
 
-pub open-requires-clause-few : goal.open-requires-clause-few
-open-requires-clause-few g c = few_then _ _ _ _ _ c.requires.ready.quiet _ c.args.event c.requires.ready.next c.args.place c.take_plan-plan.ensures.emptied
-
-pub attempt_work-work-requires-clause-legal : goal.attempt_work-work-requires-clause-legal
-attempt_work-work-requires-clause-legal g c = legal_then _ _ _ _ _ c.requires.ready.quiet _ c.args.event c.requires.ready.next c.args.place c.take_plan-plan.ensures.emptied _ c.open.ensures
-
-pub attempt_work-work-requires-clause-op : goal.attempt_work-work-requires-clause-op
-attempt_work-work-requires-clause-op g c = begins_op c.args.self.now.side.script c.args.event c.args.actor c.args.op c.requires.begins (event_of _ _ _ _ _ c.requires.ready.quiet.holds c.args.event c.requires.ready.next)
-
-pub attempt_work-work-requires-clause-plan : goal.attempt_work-work-requires-clause-plan
-attempt_work-work-requires-clause-plan g c = plan_then _ _ _ _ _ c.requires.ready.quiet _ c.args.event c.requires.ready.next c.args.place c.take_plan-plan.ensures.emptied _ c.open.ensures c.args.actor _ c.take_plan-plan.ensures.plan
+pub attempt_work-work-requires : goal.attempt_work-work-requires
+attempt_work-work-requires g c = record {
+  legal = legal_then _ _ _ _ _ c.requires.ready.quiet _ c.args.event c.requires.ready.next c.args.place c.take_plan-plan.ensures.emptied _ c.open.ensures;
+  attempt = c.requires.attempt;
+  op =
+      begins_op c.args.self.now.side.script c.args.event c.args.actor c.args.op c.requires.begins
+      (event_of _ _ _ _ _ c.requires.ready.quiet.holds c.args.event c.requires.ready.next);
+  plan =
+      plan_then _ _ _ _ _ c.requires.ready.quiet _ c.args.event c.requires.ready.next c.args.place c.take_plan-plan.ensures.emptied _ c.open.ensures c.args.actor _
+      c.take_plan-plan.ensures.plan;
+}
 
 pub take_up-requires : goal.take_up-requires
 take_up-requires g c =

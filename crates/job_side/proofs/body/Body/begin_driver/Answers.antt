@@ -2,24 +2,23 @@ use Rattle.std.proofs.Common.{refl}
 use Rattle.job_steps.specs.Prelude.{Driver}
 use Rattle.job_actor.proofs.Picking.{picks_go}
 use Rattle.job_side.proofs.Moments.{event_of, no_entries}
+use Rattle.job_side.proofs.Finishes.{has_hand}
+use Rattle.job_side.proofs.Standings.{placed}
 use Rattle.job_side.proofs.Frames.{begun_entered}
-use Rattle.job_side.proofs.Beginning.{begins_op, place_within, event_then, few_then, legal_then, driver_begun}
+use Rattle.job_side.proofs.Beginning.{begins_op, opens_then, legal_then, driver_begun}
 use Rattle.job_side.proofs.body.Body.begin_driver.Goals as goal
 
 pub put_by-requires : goal.put_by-requires
-put_by-requires g c = place_within _ _ _ _ _ c.requires.ready.quiet Driver c.args.place c.requires.actor
+put_by-requires g c = has_hand _ _ _ _ _ c.args.place Driver c.requires.ready.quiet.holds (placed _ _ _ c.requires.actor)
 
-pub open-requires-clause-event : goal.open-requires-clause-event
-open-requires-clause-event g c = event_then _ _ _ _ _ c.requires.ready.quiet _ c.args.event c.requires.ready.next c.args.place c.put_by.ensures.emptied
+pub open-requires : goal.open-requires
+open-requires g c = opens_then _ _ _ _ _ c.requires.ready.quiet _ c.args.event c.requires.ready.next c.args.place c.put_by.ensures.emptied
 
-pub open-requires-clause-few : goal.open-requires-clause-few
-open-requires-clause-few g c = few_then _ _ _ _ _ c.requires.ready.quiet _ c.args.event c.requires.ready.next c.args.place c.put_by.ensures.emptied
-
-pub driver_work-work-requires-clause-legal : goal.driver_work-work-requires-clause-legal
-driver_work-work-requires-clause-legal g c = legal_then _ _ _ _ _ c.requires.ready.quiet _ c.args.event c.requires.ready.next c.args.place c.put_by.ensures.emptied _ c.open.ensures
-
-pub driver_work-work-requires-clause-op : goal.driver_work-work-requires-clause-op
-driver_work-work-requires-clause-op g c = begins_op c.args.self.now.side.script c.args.event Driver c.args.op c.requires.begins (event_of _ _ _ _ _ c.requires.ready.quiet.holds c.args.event c.requires.ready.next)
+pub driver_work-work-requires : goal.driver_work-work-requires
+driver_work-work-requires g c = record {
+  legal = legal_then _ _ _ _ _ c.requires.ready.quiet _ c.args.event c.requires.ready.next c.args.place c.put_by.ensures.emptied _ c.open.ensures;
+  op = begins_op c.args.self.now.side.script c.args.event Driver c.args.op c.requires.begins (event_of _ _ _ _ _ c.requires.ready.quiet.holds c.args.event c.requires.ready.next);
+}
 
 pub take_up-requires : goal.take_up-requires
 take_up-requires g c =

@@ -1,4 +1,4 @@
-use Rattle.std.proofs.Common.{◌<◌, vec_len, vec_capacity, arith}
+use Rattle.std.proofs.Common.{arith}
 use Rattle.job_side.proofs.Standings.{placed}
 use Rattle.job_side.proofs.TakingUp.{goes_then}
 use Rattle.job_side.proofs.EventTurns.{ran_all}
@@ -8,9 +8,7 @@ pub run-requires-clause-going : goal.run-requires-clause-going
 run-requires-clause-going g c = (goes_then c.args.place c.args.actor c.args.self.now c.args.goes_on c.if-goes_on.true c.requires.taken).0
 
 pub run-requires-clause-room : goal.run-requires-clause-room
-run-requires-clause-room g c =
-    let some : vec_len c.args.self.now.side.finished < vec_capacity c.args.self.now.side.finished = (goes_then c.args.place c.args.actor c.args.self.now c.args.goes_on c.if-goes_on.true c.requires.taken).2 in
-    omega arith
+run-requires-clause-room g c = omega (arith, (goes_then c.args.place c.args.actor c.args.self.now c.args.goes_on c.if-goes_on.true c.requires.taken).2)
 
 pub returns-then-goes_on-clause-all : goal.returns-then-goes_on-clause-all
 returns-then-goes_on-clause-all g c =

@@ -1,11 +1,11 @@
-use Rattle.std.proofs.Common.{ℕ, subst, ◌∙◌}
+use Rattle.std.proofs.Common.{subst, ◌∙◌}
 use Rattle.job_steps.specs.Prelude.{Content}
 use Rattle.s3_service.specs.Ids.{AreBelow}
-use Rattle.job_side.specs.Firsts.{IsFirstSide}
 use Rattle.job_side.proofs.Firsts.{is_begun}
 use Rattle.job_side.proofs.body.Body.new.Goals as goal
 
 pub returns : goal.returns
 returns g c =
     is_begun g.W.Acts.wants g.W.Works.is_of g.W.Works.running g.W.Works.picks_of _ _ (record { side = c.in_ok-side.side; shared = c.in-Ok.shared }) c.requires.few (subst (λ (s : Content). AreBelow s.buckets s.next) c.service.view_is c.service.invariant)
-    c.in_ok-side.ensures.script c.in-Ok.ensures.opening (c.in_ok-side.ensures.others ∙ c.new.ensures.items) c.in_ok-side.ensures.shares (subst (λ (n : ℕ). IsFirstSide n c.in_ok-side.side) c.minimum.ensures c.in_ok-side.ensures.first) c.in-Ok.ensures.first
+    c.in_ok-side.ensures.script c.in-Ok.ensures.opening (c.in_ok-side.ensures.others ∙ c.new.ensures.items) c.in_ok-side.ensures.shares
+    (rw c.minimum.ensures at c.in_ok-side.ensures.first) c.in-Ok.ensures.first

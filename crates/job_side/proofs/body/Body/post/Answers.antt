@@ -1,9 +1,9 @@
-use Rattle.std.proofs.Common.{◌≡◌, ◌+◌, ◌<◌, ◌^◌, length, Some, vec_len, refl, sym, ap, ◌∙◌, rules, arith}
+use Rattle.std.proofs.Common.{◌≡◌, ◌<◌, ◌^◌, length, Some, vec_len, sym, ap, ◌∙◌, rules, arith}
 use Rattle.job_spec.proofs.Common.{length-set, slice_get-get_or, some_is}
 use Rattle.job_side.specs.Holds.{all_sound}
 use Rattle.job_side.proofs.Finishes.{has_hand}
 use Rattle.job_side.proofs.Writes.{set_here, set_other}
-use Rattle.job_side.proofs.Postings.{posts_around, due_fits, posted_at}
+use Rattle.job_side.proofs.Postings.{posts_around, counted, due_fits, posted_at}
 use Rattle.job_side.proofs.body.Body.post.Goals as goal
 
 pub overflow_add-event : goal.overflow_add-event
@@ -15,34 +15,37 @@ index_mut-hand-requires g c =
     let n : vec_len b.side.hands ≡ length b.side.hands.items = search rules in
     omega (arith, n, has_hand g.W.Works.is_of g.W.Works.running g.W.Works.picks_of all_sound b c.args.place c.args.actor c.requires.going.holds c.requires.actor)
 
-pub post_hand-requires-clause-asked : goal.post_hand-requires-clause-asked
-post_hand-requires-clause-asked g c =
+pub post_hand-requires : goal.post_hand-requires
+post_hand-requires g c =
     let b = c.args.self.now in
-    let low = has_hand g.W.Works.is_of g.W.Works.running g.W.Works.picks_of all_sound b c.args.place c.args.actor c.requires.going.holds c.requires.actor in
+    let holds = c.requires.going.holds in
+    let low = has_hand g.W.Works.is_of g.W.Works.running g.W.Works.picks_of all_sound b c.args.place c.args.actor holds c.requires.actor in
+    let few : length b.shared.journal.entries < 2 ^ 62 = omega (arith, c.len.ensures.len, c.len.ensures.few) in
     let hand = slice_get-get_or b.side.hands.items c.args.place c.index_mut-hand.result.now low ∙ ap Some (sym c.index_mut-hand.ensures.value) in
-    c.requires.going.none_over c.args.place c.index_mut-hand.result.now c.requires.busy hand
+    let asks = c.requires.going.none_over c.args.place c.index_mut-hand.result.now c.requires.busy hand in
+    record {
+      asked = asks;
+      due =
+          due_fits g.W.Acts.wants g.W.Acts.tells g.W.Acts.fits g.W.Acts.end_of g.W.Acts.left g.W.Works.is_of g.W.Works.running g.W.Works.rise g.W.Works.picks_of c.laws.ensures b
+          holds few c.args.place c.args.actor c.requires.actor c.index_mut-hand.result.now hand asks;
+      counted = counted g.W.Works.is_of g.W.Works.running g.W.Works.picks_of b holds;
+    }
 
-pub post_hand-requires-clause-due : goal.post_hand-requires-clause-due
-post_hand-requires-clause-due g c =
+pub returns : goal.returns
+returns g c =
     let b = c.args.self.now in
     let low = has_hand g.W.Works.is_of g.W.Works.running g.W.Works.picks_of all_sound b c.args.place c.args.actor c.requires.going.holds c.requires.actor in
     let few : length b.shared.journal.entries < 2 ^ 62 = omega (arith, c.len.ensures.len, c.len.ensures.few) in
     let hand = slice_get-get_or b.side.hands.items c.args.place c.index_mut-hand.result.now low ∙ ap Some (sym c.index_mut-hand.ensures.value) in
-    due_fits g.W.Acts.wants g.W.Acts.tells g.W.Acts.fits g.W.Acts.end_of g.W.Acts.left g.W.Works.is_of g.W.Works.running g.W.Works.rise g.W.Works.picks_of c.laws.ensures b c.requires.going.holds few c.args.place c.args.actor c.requires.actor
-    c.index_mut-hand.result.now hand (c.requires.going.none_over c.args.place c.index_mut-hand.result.now c.requires.busy hand)
-
-pub returns-clause-around : goal.returns-clause-around
-returns-clause-around g c =
-    let b = c.args.self.now in
-    posts_around b c.args.place c.post_hand.new.store c.post_hand.new.journal _ (λ n. some_is (c.post_hand.ensures.foretold n)) (length-set b.side.hands.items c.args.place c.post_hand.new.hand) (λ q ne. set_other b.side.hands.items c.args.place q c.post_hand.new.hand ne)
-
-pub returns-clause-posted : goal.returns-clause-posted
-returns-clause-posted g c =
-    let b = c.args.self.now in
-    let low = has_hand g.W.Works.is_of g.W.Works.running g.W.Works.picks_of all_sound b c.args.place c.args.actor c.requires.going.holds c.requires.actor in
-    let few : length b.shared.journal.entries < 2 ^ 62 = omega (arith, c.len.ensures.len, c.len.ensures.few) in
-    let hand = slice_get-get_or b.side.hands.items c.args.place c.index_mut-hand.result.now low ∙ ap Some (sym c.index_mut-hand.ensures.value) in
-    posted_at g.W.Acts.wants g.W.Acts.tells g.W.Acts.fits g.W.Acts.end_of g.W.Acts.left g.W.Works.is_of g.W.Works.running g.W.Works.rise g.W.Works.picks_of c.laws.ensures g.W.Acts.rise g.met.W.Acts.laws b c.requires.going.holds c.requires.going.during few
-    c.args.place c.args.actor c.requires.actor c.requires.busy c.post_hand.new.store c.post_hand.new.journal _ c.post_hand.ensures.foretold
-    (length-set b.side.hands.items c.args.place c.post_hand.new.hand) (λ q ne. set_other b.side.hands.items c.args.place q c.post_hand.new.hand ne) c.index_mut-hand.result.now c.post_hand.new.hand hand
-    (set_here b.side.hands.items c.args.place c.post_hand.new.hand low) c.post_hand.result c.post_hand.ensures.posted
+    let places = length-set b.side.hands.items c.args.place c.post_hand.new.hand in
+    record {
+      around =
+          posts_around b c.args.place c.post_hand.new.store c.post_hand.new.journal _ (λ n. some_is (c.post_hand.ensures.foretold n)) places
+          (λ q ne. set_other b.side.hands.items c.args.place q c.post_hand.new.hand ne);
+      posted =
+          posted_at g.W.Acts.wants g.W.Acts.tells g.W.Acts.fits g.W.Acts.end_of g.W.Acts.left g.W.Works.is_of g.W.Works.running g.W.Works.rise g.W.Works.picks_of c.laws.ensures
+          g.W.Acts.rise g.met.W.Acts.laws b c.requires.going.holds c.requires.going.during few
+          c.args.place c.args.actor c.requires.actor c.requires.busy c.post_hand.new.store c.post_hand.new.journal _ c.post_hand.ensures.foretold places
+          (λ q ne. set_other b.side.hands.items c.args.place q c.post_hand.new.hand ne)
+          c.index_mut-hand.result.now c.post_hand.new.hand hand (set_here b.side.hands.items c.args.place c.post_hand.new.hand low) c.post_hand.result c.post_hand.ensures.posted;
+    }

@@ -1,6 +1,7 @@
 use Rattle.std.proofs.Common.{◌<◌, length, refl, arith}
 use Rattle.job_side.proofs.Standings.{placed}
-use Rattle.job_side.proofs.TakingUp.{handed_at, in_hand_of, going_over}
+use Rattle.job_side.proofs.Turns.{goes_over}
+use Rattle.job_side.proofs.TakingUp.{handed_at, in_hand_of}
 use Rattle.job_side.proofs.body.Body.take_up.Goals as goal
 
 pub goes_on-requires : goal.goes_on-requires
@@ -15,4 +16,4 @@ pub die-requires-clause-actor : goal.die-requires-clause-actor
 die-requires-clause-actor g c = placed _ _ _ c.requires.actor
 
 pub returns-in-Err-clause-going : goal.returns-in-Err-clause-going
-returns-in-Err-clause-going g c = going_over _ g.W.Acts.end_of _ _ _ _ _ _ _ _ c.die.ensures.over c.die.ensures.holds c.requires.during c.requires.others
+returns-in-Err-clause-going g c = goes_over _ _ _ _ _ _ c.requires.others c.requires.during _ _ _ c.die.ensures.holds c.die.ensures.over

@@ -1,4 +1,4 @@
-use Rattle.twin_jobs.proofs.Playing.{pair_event, pair_turn, pair_quiet, pair_rests, played_or, unplayed_or}
+use Rattle.twin_jobs.proofs.Playing.{pair_event, pair_turn, pair_quiet, pair_plays}
 use Rattle.twin_jobs.proofs.pair.Pair.play.Goals as goal
 
 pub next_event-event-requires : goal.next_event-event-requires
@@ -10,11 +10,7 @@ event-requires-clause-turn g c = pair_turn g.W.Acts.wants g.W.Works.is_of g.W.Wo
 pub event-requires-clause-quiet : goal.event-requires-clause-quiet
 event-requires-clause-quiet g c = pair_quiet g.W.Acts.wants g.W.Works.is_of g.W.Works.running g.W.Works.picks_of c.args.side c.args.self.now c.turn_to.new.self c.turn_to.ensures c.requires.rests c.requires.turn
 
-pub returns-clause-rests : goal.returns-clause-rests
-returns-clause-rests g c = pair_rests g.W.Acts.wants g.W.Works.is_of g.W.Works.running g.W.Works.picks_of c.args.side c.args.self.now c.turn_to.new.self c.turn_to.ensures c.requires.rests c.requires.turn c.event.result c.event.new.self c.event.ensures.quiet c.event.ensures.grown c.event.ensures.err
-
-pub returns-clause-ok : goal.returns-clause-ok
-returns-clause-ok g c = played_or g.W.Acts.wants g.W.Works.is_of g.W.Works.running g.W.Works.picks_of c.event.result c.args.side c.args.self.now c.turn_to.new.self c.turn_to.ensures c.event.new.self c.event.ensures.grown
-
-pub returns-clause-err : goal.returns-clause-err
-returns-clause-err g c = unplayed_or g.W.Acts.wants g.W.Works.is_of g.W.Works.running g.W.Works.picks_of c.event.result c.args.side c.args.self.now c.turn_to.new.self c.turn_to.ensures c.event.new.self c.event.ensures.err
+pub returns : goal.returns
+returns g c =
+    pair_plays g.W.Acts.wants g.W.Works.is_of g.W.Works.running g.W.Works.picks_of c.args.side c.args.self.now c.turn_to.new.self c.turn_to.ensures c.requires.rests c.requires.turn
+    c.event.result c.event.new.self c.event.ensures.quiet c.event.ensures.grown c.event.ensures.err

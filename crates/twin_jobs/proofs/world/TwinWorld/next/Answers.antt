@@ -1,9 +1,7 @@
-use Rattle.std.proofs.Common.{◌≡◌, slice_get, subst}
-use Rattle.twin_jobs.specs.Worlds.{Run, played}
 use Rattle.twin_jobs.proofs.Turning.{next_is}
 use Rattle.twin_jobs.proofs.world.TwinWorld.next.Goals as goal
 
 pub returns : goal.returns
 returns g c =
-    subst (λ (r : Run). c.next.result ≡ slice_get r.sides (played r)) c.self.view_is
+    rw (← c.self.view_is)
     (next_is g.W.Works.picks_of g.W.Acts.wants g.W.Works.is_of g.W.Works.running c.self.inside.pair c.self.inside.stuck c.next.result c.self.invariant c.next.ensures)

@@ -1,10 +1,9 @@
-use Rattle.std.proofs.Common.{◌≡◌, length, subst, ap, ◌∙◌}
-use Rattle.job_steps.specs.Prelude.{Scene, moment}
-use Rattle.twin_jobs.specs.Worlds.{Run}
+use Rattle.std.proofs.Common.{ap, ◌∙◌}
+use Rattle.job_steps.specs.Prelude.{Scene}
 use Rattle.twin_jobs.proofs.Turning.{pair_scene}
 use Rattle.twin_jobs.proofs.world.TwinWorld.service.Goals as goal
 
 pub returns : goal.returns
 returns g c =
-    subst (λ (r : Run). c.service.result.now ≡ (moment r.opening r.journal (length r.journal)).content) c.self.view_is
+    rw (← c.self.view_is)
     (c.service.ensures ∙ ap (λ (s : Scene). s.content) (pair_scene g.W.Works.picks_of g.W.Acts.wants g.W.Works.is_of g.W.Works.running c.self.inside.pair c.self.invariant))
