@@ -1,6 +1,6 @@
 -- How the driver's abort or clean of the job ends, by its own entries.
 use Rattle.std.proofs.Common.{◌≡◌, ℕ, ◌⊎◌, inl, inr, Bool, true, List, [], ◌∷◌, Option, Some, None, refl, sym, ap, subst, ◌∙◌}
-use Rattle.job_facts.specs.Prelude.{is_some, option_map, BucketContent, Scene, answer, answer_at, apply, after_all, AreHonest, Actor, Committer, Magic, Request, UploadRef, Reply, Refused, NoSuchBucket, Outcome, Answered, ReplyLost, Entry, run, Follows, Retried, fresh, step, spent_in, WornFirst, IsLegal, Script, Known, CleanEnd, view, uploads_after, Walked, More, Whole, walked_uploads, Sweep, Listing, Deleting, sweep_hears, all_go, dest_prefix, Clean, Walking, Aborting, Naming, Removing, CleanOver, clean_start, clean_asks, clean_hears, clean_after, clean_over, aborted, aborting, walking, sweeping, removing, naming, Setting, wants, advance, over, is_fault, spare_of, Same, CleanIs, Cleaned, Clears}
+use Rattle.job_facts.specs.Prelude.{is_some, option_map, BucketContent, Scene, answer, answer_at, apply, after_all, AreHonest, Actor, Committer, Magic, Request, UploadRef, Reply, Refused, NoSuchBucket, Answered, ReplyLost, Entry, run, Follows, Retried, fresh, step, spent_in, WornFirst, IsLegal, Script, Known, CleanEnd, view, uploads_after, More, Whole, walked_uploads, Listing, Deleting, sweep_hears, all_go, dest_prefix, Clean, Walking, Aborting, Naming, Removing, CleanOver, clean_start, clean_asks, clean_hears, clean_after, clean_over, aborted, aborting, walking, sweeping, removing, naming, Setting, wants, advance, over, is_fault, spare_of, Same, CleanIs, Cleaned, Clears}
 use Rattle.job_spec.specs.Prelude.{ClusterNames}
 use Rattle.job_spec.proofs.Common.{first_spent, faults, some_is, none_some, false_true}
 use Rattle.std.specs.FinMap as fin
@@ -25,21 +25,9 @@ abbrev Over : Clean → Type 0
 Over (CleanOver end) = Ends end
 Over _ = Unit {0}
 
-aborted_so : (c : Committer) → Over (aborted c)
-aborted_so Magic = tt
-aborted_so _ = tt
-
 aborting_so : (c : Committer) (us : List UploadRef) → Over (aborting c us)
-aborting_so c [] = aborted_so c
+aborting_so c [] = elim c as (λ c. Over (aborted c)) [ Magic ↦ tt | _ ↦ tt ]
 aborting_so c (u ∷ us) = tt
-
-walking_so : (c : Committer) (x : Walked UploadRef) → Over (walking c x)
-walking_so c (More found) = tt
-walking_so c (Whole found) = aborting_so c found
-
-sweeping_so : (s : Option Sweep) → Over (sweeping s)
-sweeping_so (Some s) = tt
-sweeping_so None = inr refl
 
 removing_so : (ps : List (List ℕ)) → Over (removing ps)
 removing_so [] = inr refl
@@ -50,26 +38,20 @@ naming_so (ClusterNames paths) = removing_so paths
 naming_so _ = tt
 
 heard_so : (w : Script) (c : Clean) (r : Reply) → Over c → Over (clean_hears w c r)
-heard_so w (Walking found) r h = walking_so w.committer (walked_uploads found r)
+heard_so w (Walking found) r h = elim (walked_uploads found r) as (λ x. Over (walking w.committer x)) [ More us ↦ tt | Whole us ↦ aborting_so w.committer us ]
 heard_so w (Aborting u us) r h = aborting_so w.committer us
-heard_so w (Sweeping s) r h = sweeping_so (sweep_hears all_go s r)
+heard_so w (Sweeping s) r h = elim (sweep_hears all_go s r) as (λ o. Over (sweeping o)) [ Some t ↦ tt | None ↦ inr refl ]
 heard_so w Naming r h = naming_so r
 heard_so w (Removing p ps) r h = removing_so ps
 heard_so w (CleanOver end) r h = h
 
-step_over : (w : Script) (t : Retried Clean) (o : Outcome) → Over t.operation → Over (step w.retries (clean_after w) t o).operation
-step_over w t o h = step_so w.retries (clean_after w) t o Over (λ x e. heard_so w t.operation x h) (λ n. h) (λ n. inl refl)
-
 run_over : (w : Script) (t : Retried Clean) (es : List Entry) → Over t.operation → Over (run (step w.retries (clean_after w)) t es).operation
 run_over w t [] h = h
-run_over w t (e ∷ es) h = run_over w (step w.retries (clean_after w) t e.outcome) es (step_over w t e.outcome h)
+run_over w t (e ∷ es) h =
+    run_over w (step w.retries (clean_after w) t e.outcome) es (step_so w.retries (clean_after w) t e.outcome Over (λ x q. heard_so w t.operation x h) (λ n. h) (λ n. inl refl))
 
 over_so : (c : Clean) → Over c → (e : CleanEnd) → option_map ends.Clean (clean_over c) ≡ Some (ends.Clean e) → Ends e
-over_so (CleanOver end) h e is = subst Ends (same is) h
-  where
-    same : {d e : CleanEnd} → Some (ends.Clean d) ≡ Some (ends.Clean e) → d ≡ e
-    same e = cc
-over_so (Walking found) h e is = absurd (none_some refl is)
+over_so (CleanOver end) h e is = let same : end ≡ e = cc in subst Ends same h
 over_so _ h e is = absurd (none_some refl is)
 
 fault_is : (e : CleanEnd) → is_fault (Some (ends.Clean e)) ≡ true → e ≡ cleans.StoreFault
@@ -122,16 +104,14 @@ module _ (g : Setting) (a : Actor) (k : Known) (es : List Entry) (f : Follows (w
     shows s (CleanOver end) h r e = absurd (none_some refl e)
     shows s _ h r e = hidden_shows j s r ReplyLost h.0 (subst (HidesAll w) (some_is e) (λ b q i. absurd i))
 
-    refused : (s : Scene) (found : List UploadRef) → fin.get s.content.buckets w.dest.bucket ≡ None → answer s (uploads_after w.dest.bucket (dest_prefix w) found) ≡ Refused NoSuchBucket
-    refused s found e = ap (λ o. answer_at o s.content.next s.content.minimum (uploads_after w.dest.bucket (dest_prefix w) found)) e
-
     bare_still : (s : Scene) (m : Clean) → Bare s m → (r : Request) → clean_asks w m ≡ Some r → Bare (apply s r) m
     bare_still s (Walking found) h r asked = ap (λ v. fin.get v.content.buckets w.dest.bucket) (ap (apply s) (sym (some_is asked)) ∙ reads_nothing s (uploads_after w.dest.bucket (dest_prefix w) found) refl) ∙ h
     bare_still s _ h r asked = absurd h
 
     bare_heard : (s : Scene) (m : Clean) → Bare s m → (r : Request) → clean_asks w m ≡ Some r → (x : Reply) → x ≡ answer s r → Bare (apply s r) (clean_hears w m x)
     bare_heard s (Walking found) h r asked x e =
-        let due : x ≡ Refused NoSuchBucket = e ∙ ap (answer s) (sym (some_is asked)) ∙ refused s found h in
+        let due : x ≡ Refused NoSuchBucket =
+        e ∙ ap (answer s) (sym (some_is asked)) ∙ ap (λ o. answer_at o s.content.next s.content.minimum (uploads_after w.dest.bucket (dest_prefix w) found)) h in
         subst (λ y. Bare (apply s r) (clean_hears w (Walking found) y)) (sym due) (bare_still s (Walking found) h r asked)
     bare_heard s _ h r asked x e = absurd h
 
@@ -150,21 +130,14 @@ module _ (g : Setting) (a : Actor) (k : Known) (es : List Entry) (f : Follows (w
     left : (s : Scene) (m : Clean) → Holds s m → clean_over m ≡ Some cleans.Done → Cleaned w s0 s
     left s (CleanOver end) (inl h) e = record { nothing = h.0 (some_is e); view_stays = h.1 }
     left s (CleanOver end) (inr h) e = absurd h
-    left s (Walking found) h e = absurd (none_some refl e)
-    left s (Aborting u us) h e = absurd (none_some refl e)
-    left s (Sweeping t) h e = absurd (none_some refl e)
-    left s Naming h e = absurd (none_some refl e)
-    left s (Removing p ps) h e = absurd (none_some refl e)
+    left s _ h e = absurd (none_some refl e)
 
     pub clean_leaves : AreHonest s0 es → over (run (advance g a) (cleaning g k) es).operation ≡ Some (ends.Clean cleans.Done) → Cleaned w s0 (after_all s0 es)
     clean_leaves honest is = by (went w.retries (clean_asks w) (clean_after w) Holds heard still (λ m. refl) es s0 first (begins_so (fin.get s0.content.buckets w.dest.bucket) refl) (clean_follows g a k first es f) honest)
       where
         done : clean_over at_end ≡ Some cleans.Done
-        done = same (clean_over at_end) (sym end_is ∙ is)
-          where
-            same : (o : Option CleanEnd) → option_map ends.Clean o ≡ Some (ends.Clean cleans.Done) → o ≡ Some cleans.Done
-            same None e = absurd (none_some refl e)
-            same (Some d) e = cc
+        done =
+            (elim (clean_over at_end) as (λ o. option_map ends.Clean o ≡ Some (ends.Clean cleans.Done) → o ≡ Some cleans.Done) [ None ↦ λ e. absurd (none_some refl e) | Some d ↦ λ e. cc ]) (sym end_is ∙ is)
 
         by : Went w.retries (clean_asks w) (clean_after w) Holds heard still (λ m. refl) first s0 es → Cleaned w s0 (after_all s0 es)
         by (inl h) = left (after_all s0 es) at_end h.1 done

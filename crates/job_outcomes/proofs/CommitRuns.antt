@@ -1,18 +1,20 @@
 -- The driver's commit in every run.
-use Rattle.std.proofs.Common.{◌≡◌, ℕ, zero, suc, ◌<◌, ◌≤◌, ◌^◌, ◌⊎◌, inl, inr, ◌&&◌, Bool, true, false, cond, List, [], ◌∷◌, ◌++◌, length, Option, Some, None, refl, sym, ap, subst, ◌∙◌, arith, append-nil, ◌||◌, not}
-use Rattle.job_facts.specs.Prelude.{is_some, Content, begins, answer, IsHonestOutcome, Driver, Request, Outcome, Answered, Entry, magic_prefix, success_key, SuccessPlace, run, Follows, Retried, WornFirst, Who, IsLegal, Script, CommitEnd, Picks, same_path, Setup, Sweeping, SetupOver, setup_asks, Listing, Clean, CleanOver, clean_asks, picks_of, Commit, CommitOver, commit_start, commit_asks, commit_tells, commit_over, Sound, AllSound, Setting, Operation, TheSetup, TheCommit, who, asks, tells, AreOwn, commit_due, end_or, is_mark_answered, CommitEnded, picks_below, picked, Seen, see, is_reading, is_marked, entry, driver_entry, at_key, Hold, Times, is_picking, TheCheck, is_begun, step}
-use Rattle.job_spec.proofs.Common.{key_magic, none_sent, run_more, follows_more, some_is, none_some, false_true, same_or_not}
+use Rattle.std.proofs.Common.{◌≡◌, ℕ, zero, suc, ◌<◌, ◌≤◌, ◌^◌, inl, inr, ◌&&◌, true, List, [], ◌∷◌, ◌++◌, length, Option, Some, None, refl, sym, ap, subst, ◌∙◌, arith, append-nil}
+use Rattle.job_facts.specs.Prelude.{is_some, Content, answer, IsHonestOutcome, Driver, Request, Outcome, Entry, success_key, SuccessPlace, run, Follows, WornFirst, Who, IsLegal, Script, CommitEnd, Picks, picks_of, Commit, CommitOver, commit_start, commit_asks, commit_tells, commit_over, Sound, AllSound, Setting, Operation, TheCommit, who, tells, AreOwn, commit_due, end_or, is_mark_answered, CommitEnded, picks_below, picked, Seen, see, is_marked, entry, driver_entry, at_key, Times, TheCheck, step}
+use Rattle.job_spec.proofs.Common.{key_magic, none_sent, run_more, follows_more, none_some, false_true, same_or_not, none_or_some}
 use Rattle.job_protocol.specs.Prelude.{EndIs}
 use Rattle.job_model.specs.declared.ends.CommitEnd.TheVariants as commits
-use Rattle.job_protocol.specs.Cleanups as cleanups
 use Rattle.job_protocol.proofs.LaneEnds.{ends_by_worn}
-use Rattle.job_traces.specs.Runs.{Stand, Beginning, BeginSetup, BeginCommit, BeginClean, BeginWrite, BeginPublish, BeginAbort, begin, MayBegin, Runs, run_begins, actor_begins, driver_sends, attempt_sends, strays, IsOpening, is_set, is_just_set, IsTimely, nothing_learnt, with_driver, with_commit, commit_with, saw}
+use Rattle.job_traces.specs.Runs.{Stand, Beginning, BeginSetup, BeginCommit, BeginClean, begin, Runs, IsOpening, is_set, is_just_set, IsTimely, with_driver, with_commit, saw}
 use Rattle.job_facts.proofs.Legal.{some_dest}
 use Rattle.job_facts.proofs.Owning.{operation_own}
-use Rattle.job_traces.proofs.Keeping.{Quiet, attempt_quiet}
+use Rattle.job_traces.proofs.Keeping.{attempt_quiet}
 use Rattle.job_traces.proofs.Steps.{commit_picks}
-use Rattle.job_traces.proofs.Running.{InCommit, At}
+use Rattle.job_traces.proofs.Running.{At}
 use Rattle.job_traces.proofs.EveryRun.{good, just_set, just_idle, late, own_front, own_last, check_unsent, cleans_is, checked_idle}
+use Rattle.job_traces.proofs.Entries.{in_commit}
+use Rattle.job_traces.proofs.Plain.{plain_picks, setup_plain, clean_plain, entry_picks}
+use Rattle.job_traces.proofs.Folds.{BeginKeeps, DriverKeeps, each_run, commit_is}
 use Rattle.job_outcomes.specs.CommitRuns.{IsDue, WhereCommitted, CommitStands, PicksOneMore, PicksGrow, EndsDue, CommitRuns}
 use Rattle.job_outcomes.proofs.Shared.{same_shared}
 use Rattle.job_outcomes.proofs.CommitSteps.{at_start, one_start, where_on, where_start, answered_next, marked_next, sound_now, sound_more}
@@ -21,18 +23,8 @@ use Rattle.job_protocol.proofs.Begun.{after_check_so, commit_of_so, clean_of_so}
 use Rattle.job_protocol.specs.Rechecks.{check_after}
 use Rattle.job_facts.proofs.Sharing.{check_plain}
 
-some_lane : {a : ℕ} → 1 ≤ a → 0 < a
-some_lane y = omega arith
-
-pub commit_is : {c d : Commit} → Some (TheCommit c) ≡ Some (TheCommit d) → c ≡ d
-commit_is e = cc
-
-no_setup : {t : Retried Setup} {c : Commit} → Some (TheSetup t) ≡ Some (TheCommit c) → ⊥
-no_setup e = cc
-
 pub attempts_leave : (w : Script) (k : Times) (s : Seen) (a : Who) (n : ℕ) (r : Request) (o : Outcome) → (see w k s (entry a n r o)).picks ≡ s.picks
-attempts_leave w k s a n r (Answered y) = refl
-attempts_leave w k s a n r _ = refl
+attempts_leave w k s a n r o = λ i t. entry_picks w k s (entry a n r o) (λ e. absurd cc) t i
 
 module _ (g : Setting) (j : IsLegal g.script) (k : Times) (opening : Content) (is_opening : IsOpening g opening) where
   abbrev w : Script
@@ -62,11 +54,6 @@ module _ (g : Setting) (j : IsLegal g.script) (k : Times) (opening : Content) (i
 
   -- ---- one of its entries
 
-  late_at : (es : List Entry) (x : Stand) → Runs g k opening es x → (c : Commit) → x.driver ≡ Some (TheCommit c) → Hold w g.minimum x.seen x.told × InCommit g opening x.seen.picks x.told c
-  late_at es x run c d =
-      let l = late g k opening j is_opening x (good g k opening j is_opening es x run) (ap is_set d) in
-      (l.hold, subst (λ v. At g opening v x.seen x.told) d l.driver)
-
   module _ (es : List Entry) (x : Stand) (runs : Runs g k opening es x) (c : Commit) (d : x.driver ≡ Some (TheCommit c)) (old : CommitStands g x c) (n : ℕ) (r : Request) (o : Outcome) (asked : commit_asks w c ≡ Some r) (timely : IsTimely k n (TheCommit c)) (few : x.seen.scene.content.next ≤ 2 ^ 64) (honest : IsHonestOutcome o (answer x.seen.scene r)) where
     abbrev next : Stand
     next = with_commit (with_driver (saw g k x (driver_entry n r o)) (TheCommit (commit_tells w c o))) (x.commit ++ driver_entry n r o ∷ [])
@@ -76,13 +63,13 @@ module _ (g : Setting) (j : IsLegal g.script) (k : Times) (opening : Content) (i
 
     sends_on : CommitStands g next (commit_tells w c o)
     sends_on =
-        let l = late_at es x runs c d in
-        let a = after_entry g j k x.seen x.told l.0 l.1.uncleaned few n (commit_picks k x.seen.begun n timely.0 timely.1) old.missing old.sets c l.1.decides old.at old.picks r asked o honest in
+        let l = in_commit g k opening j is_opening es x runs c d in
+        let a = after_entry g j k x.seen x.told l.0 l.2.uncleaned few n (commit_picks k x.seen.begun n timely.0 timely.1) old.missing old.sets c l.2.decides old.at old.picks r asked o honest in
         record {
           missing = old.missing;
           follows = follows_more (commit_asks w) (commit_tells w) first x.commit (driver_entry n r o) old.follows (ap (commit_asks w) old.leads ∙ asked);
           leads = run_more (commit_tells w) first x.commit (driver_entry n r o) ∙ ap (λ v. commit_tells w v o) old.leads;
-          sound = sound_more w first x.commit (driver_entry n r o) old.sound (subst Sound (sym old.leads) (sound_now w g.minimum x.seen x.told j l.0 c l.1.fits));
+          sound = sound_more w first x.commit (driver_entry n r o) old.sound (subst Sound (sym old.leads) (sound_now w g.minimum x.seen x.told j l.0 c l.2.fits));
           sets = a.sets;
           at = a.at;
           picks = a.picks;
@@ -90,19 +77,19 @@ module _ (g : Setting) (j : IsLegal g.script) (k : Times) (opening : Content) (i
         }
 
     pub picks_on : PicksGrow w x.seen.picks (see w k x.seen (driver_entry n r o)).picks c (commit_tells w c o)
-    picks_on = let l = late_at es x runs c d in (after_entry g j k x.seen x.told l.0 l.1.uncleaned few n (commit_picks k x.seen.begun n timely.0 timely.1) old.missing old.sets c l.1.decides old.at old.picks r asked o honest).grows
+    picks_on = let l = in_commit g k opening j is_opening es x runs c d in (after_entry g j k x.seen x.told l.0 l.2.uncleaned few n (commit_picks k x.seen.begun n timely.0 timely.1) old.missing old.sets c l.2.decides old.at old.picks r asked o honest).grows
 
-  driver_on : (es : List Entry) (x : Stand) → Runs g k opening es x → Stood x → (op : Operation) (n : ℕ) (r : Request) (o : Outcome) → x.driver ≡ Some op → asks g (who Driver) nothing_learnt op ≡ Some r → IsTimely k n op → x.seen.scene.content.next ≤ 2 ^ 64 → IsHonestOutcome o (answer x.seen.scene r)
-      → Stood (with_commit (with_driver (saw g k x (driver_entry n r o)) (tells g (who Driver) op o)) (commit_with op x.commit (driver_entry n r o)))
-  driver_on es x runs old (TheCommit c) n r o d asked timely few honest v e = subst (CommitStands g _) (commit_is e) (sends_on es x runs c d (old c d) n r o asked timely few honest)
-  driver_on es x runs old (TheCheck t) n r o d asked timely few honest v e =
+  driver_on : DriverKeeps g k opening (λ es x. Stood x)
+  driver_on es x (TheCommit c) n r o runs d asked timely few honest old v e =
+      subst (CommitStands g _) (commit_is e) (sends_on es x runs c d (old c d) n r o asked timely few honest)
+  driver_on es x (TheCheck t) n r o runs d asked timely few honest old v e =
       let l = late g k opening j is_opening x (good g k opening j is_opening es x runs) (ap is_set d) in
       let i = subst (λ v. At g opening v x.seen x.told) d l.driver in
       let now = checked_idle g k opening j is_opening x (cleans_is g k opening j is_opening es x runs) n r o (check_plain w t.operation r asked) timely.1 i in
       let next = with_commit (with_driver (saw g k x (driver_entry n r o)) (tells g (who Driver) (TheCheck t) o)) x.commit in
       after_check_so g (λ op. Some op ≡ Some (TheCommit v) → CommitStands g next v)
       (λ e. subst (CommitStands g next) (commit_is e) (first_stand next None now.unpicked (check_unsent g k opening j is_opening es x runs t d))) (λ u e. absurd cc) (step w.retries (check_after w) t o) e
-  driver_on es x runs old _ n r o d asked timely few honest v e = absurd cc
+  driver_on es x _ n r o runs d asked timely few honest old v e = absurd cc
 
   -- ---- entries of others, and what begins beside it
 
@@ -118,61 +105,52 @@ module _ (g : Setting) (j : IsLegal g.script) (k : Times) (opening : Content) (i
     answered = subst (λ l. WhereCommitted (is_mark_answered w l ≡ true) c) (sym e) h.answered;
   }
 
-  begins_on : (es : List Entry) (x : Stand) → Runs g k opening es x → Stood x → (b : Beginning) → MayBegin g x b → Stood (begin g x b)
-  begins_on es x runs old BeginSetup may c e = absurd (no_setup e)
-  begins_on es x runs old (BeginCommit reports) may c e =
+  begins_on : BeginKeeps g k opening (λ es x. Stood x)
+  begins_on es x BeginSetup runs may old c e = absurd cc
+  begins_on es x (BeginCommit reports) runs may old c e =
       let y = begin g x (BeginCommit reports) in
       commit_of_so g (λ op. Some op ≡ Some (TheCommit c) → CommitStands g y c) (λ missing e. subst (CommitStands g y) (commit_is e) (first_stand y missing (unpicked es x runs may) refl)) (λ t e. absurd cc) reports e
-  begins_on es x runs old BeginClean may c e = absurd (clean_of_so g (λ op. Some op ≡ Some (TheCommit c) → ⊥) (λ e. absurd cc) (λ e. absurd cc) e)
-  begins_on es x runs old (BeginWrite a) may c e = same_stand x (begin g x (BeginWrite a)) (λ t. refl) refl c (old c e)
-  begins_on es x runs old (BeginPublish a) may c e = same_stand x (begin g x (BeginPublish a)) (λ t. refl) refl c (old c e)
-  begins_on es x runs old (BeginAbort a) may c e = same_stand x (begin g x (BeginAbort a)) (λ t. refl) refl c (old c e)
+  begins_on es x BeginClean runs may old c e = absurd (clean_of_so g (λ op. Some op ≡ Some (TheCommit c) → ⊥) (λ e. absurd cc) (λ e. absurd cc) e)
+  begins_on es x b runs may old c e = same_stand x (begin g x b) (λ t. refl) refl c (old c e)
 
   -- ---- every run
 
   pub stood : (es : List Entry) (x : Stand) → Runs g k opening es x → Stood x
-  stood es x run_begins c e = absurd (none_some refl e)
-  stood es x (actor_begins fs y b runs may) c e = begins_on fs y runs (stood fs y runs) b may c e
-  stood es x (driver_sends fs y op n r o runs d asked timely few honest) c e = driver_on fs y runs (stood fs y runs) op n r o d asked timely few honest c e
-  stood es x (attempt_sends fs y a op n r o runs set at asked honest) c e = same_stand y x (λ t. ap (λ (p : Picks). p t) (attempts_leave w k y.seen a n r o)) refl c (stood fs y runs c e)
-  stood es x (strays fs y n r o runs f) c e = same_stand y x (λ t. refl) refl c (stood fs y runs c e)
+  stood = each_run g k opening (λ es x. Stood x) (λ c e. absurd (none_some refl e)) begins_on driver_on
+      (λ es x a op n r o run set at asked honest h c e. same_stand x _ (λ t. ap (λ (p : Picks). p t) (attempts_leave w k x.seen a n r o)) refl c (h c e))
+      (λ es x n r o run f h c e. same_stand x _ (λ t. refl) refl c (h c e))
 
   -- ---- the marker stands, where no stranger sends
 
   abbrev Marked : Stand → Type 0
   Marked x = (c : Commit) → x.driver ≡ Some (TheCommit c) → WhereCommitted (is_marked w x.seen ≡ true) c
 
-  success_free : begins (magic_prefix w.dest.key w.job) (success_key w.dest.key) ≡ false
-  success_free = key_magic w.dest.key w.job SuccessPlace (some_dest j) tt
-
-  still_marked : (s u : Seen) → Quiet w s u → is_marked w u ≡ is_marked w s
-  still_marked s u q = ap (λ b. b && is_some (at_key w u.scene.content (success_key w.dest.key))) q.mark ∙ ap (λ y. s.put_mark && is_some y) (q.keys (success_key w.dest.key) success_free)
-
   mark_begins : (x : Stand) → Marked x → (b : Beginning) → Marked (begin g x b)
-  mark_begins x old BeginSetup c e = absurd (no_setup e)
+  mark_begins x old BeginSetup c e = absurd cc
   mark_begins x old (BeginCommit reports) c e = commit_of_so g (λ op. Some op ≡ Some (TheCommit c) → WhereCommitted (is_marked w x.seen ≡ true) c) (λ missing e. subst (WhereCommitted (is_marked w x.seen ≡ true)) (commit_is e) (where_start _ w missing)) (λ t e. absurd cc) reports e
   mark_begins x old BeginClean c e = absurd (clean_of_so g (λ op. Some op ≡ Some (TheCommit c) → ⊥) (λ e. absurd cc) (λ e. absurd cc) e)
   mark_begins x old _ c e = old c e
 
-  mark_driver : (es : List Entry) (x : Stand) → Runs g k opening es x → (op : Operation) → x.driver ≡ Some op → (n : ℕ) (r : Request) (o : Outcome) → asks g (who Driver) nothing_learnt op ≡ Some r
-      → Marked (with_commit (with_driver (saw g k x (driver_entry n r o)) (tells g (who Driver) op o)) (commit_with op x.commit (driver_entry n r o)))
-  mark_driver es x runs (TheCommit v) d n r o asked c e = subst (WhereCommitted (is_marked w (see w k x.seen (driver_entry n r o)) ≡ true)) (commit_is e) (marked_next w k x.seen (late_at es x runs v d).0.there n r x.commit v asked o)
-  mark_driver es x runs (TheCheck t) d n r o asked c e =
+  mark_driver : DriverKeeps g k opening (λ es x. AreOwn es → Marked x)
+  mark_driver es x (TheCommit v) n r o runs d asked timely few honest old own c e =
+      subst (WhereCommitted (is_marked w (see w k x.seen (driver_entry n r o)) ≡ true)) (commit_is e)
+      (marked_next w k x.seen (in_commit g k opening j is_opening es x runs v d).0.there n r x.commit v asked o)
+  mark_driver es x (TheCheck t) n r o runs d asked timely few honest old own c e =
       let P : Operation → Type 0 = λ op. Some op ≡ Some (TheCommit c) → WhereCommitted (is_marked w (see w k x.seen (driver_entry n r o)) ≡ true) c in
       after_check_so g P (λ e. subst (WhereCommitted (is_marked w (see w k x.seen (driver_entry n r o)) ≡ true)) (commit_is e) (where_start _ w None)) (λ u e. absurd cc) (step w.retries (check_after w) t o) e
-  mark_driver es x runs _ d n r o asked c e = absurd cc
+  mark_driver es x _ n r o runs d asked timely few honest old own c e = absurd cc
 
   pub marks : (es : List Entry) (x : Stand) → Runs g k opening es x → AreOwn es → Marked x
-  marks es x run_begins own c e = absurd (none_some refl e)
-  marks es x (actor_begins fs y b runs may) own c e = mark_begins y (marks fs y runs own) b c e
-  marks es x (driver_sends fs y op n r o runs d asked timely few honest) own c e = mark_driver fs y runs op d n r o asked c e
-  marks es x (attempt_sends fs y a op n r o runs set at asked honest) own c e =
-      let l = late g k opening j is_opening y (good g k opening j is_opening fs y runs) set in
+  marks = each_run g k opening (λ es x. AreOwn es → Marked x) (λ own c e. absurd (none_some refl e)) (λ es x b run may h own. mark_begins x (h own) b)
+      mark_driver
+      (λ es x a op n r o run set at asked honest h own c e.
+      let l = late g k opening j is_opening x (good g k opening j is_opening es x run) set in
       let f = l.fine a op at in
-      let mine = operation_own g j y.told a f.0 op f.1 r asked in
-      let q = attempt_quiet w k y.seen a n r l.hold.there (λ b v i. mine.keys v i) o in
-      where_on (λ h. still_marked y.seen (see w k y.seen (entry a n r o)) q ∙ h) c (marks fs y runs (own_front fs _ own) c e)
-  marks es x (strays fs y n r o runs f) own c e = absurd (false_true refl (own_last fs _ own))
+      let mine = operation_own g j x.told a f.0 op f.1 r asked in
+      let q = attempt_quiet w k x.seen a n r l.hold.there (λ b v i. mine.keys v i) o in
+      where_on (λ h. ap (λ b. b && is_some (at_key w (see w k x.seen (entry a n r o)).scene.content (success_key w.dest.key))) q.mark
+      ∙ ap (λ y. x.seen.put_mark && is_some y) (q.keys (success_key w.dest.key) (key_magic w.dest.key w.job SuccessPlace (some_dest j) tt)) ∙ h) c (h (own_front es _ own) c e))
+      (λ es x n r o run f h own. absurd (false_true refl (own_last es _ own)))
 
 -- ---- the end
 
@@ -184,21 +162,9 @@ module _ (g : Setting) (j : IsLegal g.script) (x : Stand) (end : CommitEnd) (h :
   abbrev u : Script
   u = g.script
 
-  shared : same_path u x.seen.picks ≡ same_path u (picks_of h.sets)
-  shared = same_shared u (picks_of h.sets) x.seen.picks h.picks
-
   due_same : (missing : Option ℕ) (worn : Option Request) → commit_due u x.seen.picks missing worn ≡ commit_due u (picks_of h.sets) missing worn
-  due_same (Some t) worn = refl
-  due_same None (Some r) = refl
-  due_same None None = ap (λ o. end_or o commits.Committed) shared
-
-  -- with a missing task nothing was sent
-  missing_end : (t : ℕ) → h.missing ≡ Some t → EndsDue u x.seen.picks h.missing x.commit end
-  missing_end t e =
-      let none : x.commit ≡ [] = no_entry u (commits.Missing t) x.commit (subst (λ v. Follows (commit_asks u) (commit_tells u) (commit_start u v) x.commit) e h.follows) in
-      let is : CommitOver (commits.Missing t) ≡ CommitOver end = sym (ap (λ v. run (commit_tells u) (commit_start u v) x.commit) e ∙ ap (run (commit_tells u) (CommitOver (commits.Missing t))) none) ∙ h.leads in
-      let one : commits.Missing t ≡ end = cc in
-      (None, subst (λ l. WornFirst u.retries l None) (sym none) (none_sent u.retries), sym one ∙ ap (λ v. commit_due u x.seen.picks v None) (sym e))
+  due_same None None = ap (λ o. end_or o commits.Committed) (same_shared u (picks_of h.sets) x.seen.picks h.picks)
+  due_same _ _ = refl
 
   by_worn : h.missing ≡ None → (worn : Option Request) → EndIs worn end → end ≡ commit_due u x.seen.picks h.missing worn
   by_worn e (Some r) is = is ∙ ap (λ v. commit_due u x.seen.picks v (Some r)) (sym e)
@@ -209,18 +175,20 @@ module _ (g : Setting) (j : IsLegal g.script) (x : Stand) (end : CommitEnd) (h :
       by (commits.Missing t) is d = ap (λ v. commit_due u (picks_of h.sets) v None) (sym d.0)
       by _ is d = d
 
-  none_missing : h.missing ≡ None → EndsDue u x.seen.picks h.missing x.commit end
-  none_missing e =
-      let o = ends_by_worn u (some_lane j.one_lane) x.commit (subst (λ v. Follows (commit_asks u) (commit_tells u) (commit_start u v) x.commit) e h.follows) (subst (λ v. AllSound u (commit_start u v) x.commit) e h.sound) end
-      (ap (λ v. commit_over (run (commit_tells u) (commit_start u v) x.commit)) (sym e) ∙ ap commit_over h.leads) in
-      (o.0, o.1, by_worn e o.0 o.2)
-
   pub ended_so : EndsDue u x.seen.picks h.missing x.commit end
-  ended_so = by h.missing refl
-    where
-      by : (v : Option ℕ) → h.missing ≡ v → EndsDue u x.seen.picks h.missing x.commit end
-      by None e = none_missing e
-      by (Some t) e = missing_end t e
+  ended_so = elim (none_or_some h.missing) [
+    | inl e ↦
+        let o = ends_by_worn u (omega (arith, j.one_lane)) x.commit (subst (λ v. Follows (commit_asks u) (commit_tells u) (commit_start u v) x.commit) e h.follows) (subst (λ v. AllSound u (commit_start u v) x.commit) e h.sound) end
+        (ap (λ v. commit_over (run (commit_tells u) (commit_start u v) x.commit)) (sym e) ∙ ap commit_over h.leads) in
+        (o.0, o.1, by_worn e o.0 o.2)
+    -- with a missing task nothing was sent
+    | inr t ↦
+        let none : x.commit ≡ [] = no_entry u (commits.Missing t.0) x.commit (subst (λ v. Follows (commit_asks u) (commit_tells u) (commit_start u v) x.commit) t.1 h.follows) in
+        let is : CommitOver (commits.Missing t.0) ≡ CommitOver end =
+        sym (ap (λ v. run (commit_tells u) (commit_start u v) x.commit) t.1 ∙ ap (run (commit_tells u) (CommitOver (commits.Missing t.0))) none) ∙ h.leads in
+        let one : commits.Missing t.0 ≡ end = cc in
+        (None, subst (λ l. WornFirst u.retries l None) (sym none) (none_sent u.retries), sym one ∙ ap (λ v. commit_due u x.seen.picks v None) (sym t.1))
+  ]
 
 has_answered : (g : Setting) (x : Stand) (end : CommitEnd) → CommitStands g x (CommitOver end) → end ≡ commits.Committed → is_mark_answered g.script x.commit ≡ true
 has_answered g x end h e = subst (λ v. WhereCommitted (is_mark_answered g.script x.commit ≡ true) (CommitOver v)) e h.answered
@@ -233,38 +201,7 @@ commit_ended g j k opening is_opening es x runs end d missing leads =
     let one : h.missing ≡ missing = one_start g.script h.missing missing x.commit (h.leads ∙ sym leads) in
     record { worn = o.0; first = o.1; due = inr (o.2 ∙ ap (λ v. commit_due g.script x.seen.picks v o.0) one); answered = has_answered g x end h }
 
--- ---- the driver's other operations read no set
-
-and_none : (b : Bool) → (b && false) ≡ false
-and_none true = refl
-and_none false = refl
-
--- nor does one of an abort or clean
-pub closed_leaves : (w : Script) (k : Times) (s : Seen) (n : ℕ) (r : Request) (o : Outcome) → is_begun k.clean n ≡ true → (t : ℕ) → (see w k s (driver_entry n r o)).picks t ≡ s.picks t
-closed_leaves w k s n r (Answered y) e t = ap (λ b. cond (b && is_reading w t r) (s.last t) (s.picks t)) (ap (λ b. (s.begun || is_begun k.commit n) && not b) e ∙ and_none (s.begun || is_begun k.commit n))
-closed_leaves w k s n r _ e t = refl
-
-pub driver_leaves : (w : Script) (k : Times) (s : Seen) (n : ℕ) (r : Request) (o : Outcome) → ((t : ℕ) → is_reading w t r ≡ false) → (t : ℕ) → (see w k s (driver_entry n r o)).picks t ≡ s.picks t
-driver_leaves w k s n r (Answered y) e t = ap (λ b. cond ((is_picking k s.begun n) && b) (s.last t) (s.picks t)) (e t) ∙ ap (λ b. cond b (s.last t) (s.picks t)) (and_none (is_picking k s.begun n))
-driver_leaves w k s n r _ e t = refl
-
-pub setup_reads : (w : Script) (c : Setup) (r : Request) → setup_asks w c ≡ Some r → (t : ℕ) → is_reading w t r ≡ false
-setup_reads w (Sweeping (Listing keys)) r e t = ap (is_reading w t) (sym (some_is e))
-setup_reads w (SetupOver end) r e t = absurd (none_some refl e)
-setup_reads w _ r e t = ap (is_reading w t) (sym (some_is e))
-
-pub clean_reads : (w : Script) (c : Clean) (r : Request) → clean_asks w c ≡ Some r → (t : ℕ) → is_reading w t r ≡ false
-clean_reads w (cleanups.Sweeping (Listing keys)) r e t = ap (is_reading w t) (sym (some_is e))
-clean_reads w (CleanOver end) r e t = absurd (none_some refl e)
-clean_reads w _ r e t = ap (is_reading w t) (sym (some_is e))
-
 -- ---- the list of picks
-
-order : (a b : ℕ) → (a < b) ⊎ (b ≤ a)
-order zero zero = inr (omega arith)
-order zero (suc b) = inl (omega arith)
-order (suc a) zero = inr (omega arith)
-order (suc a) (suc b) = elim (order a b) [ inl h ↦ inl (omega arith) | inr h ↦ inr (omega arith) ]
 
 list_same : (before now : Picks) (n : ℕ) → ((t : ℕ) → t < n → now t ≡ before t) → picks_below now n ≡ picks_below before n
 list_same before now zero h = refl
@@ -272,32 +209,22 @@ list_same before now (suc n) h = ap (λ l. l ++ picked n (now n)) (list_same bef
 
 list_more : (w : Script) (before now : Picks) (c d : Commit) → (m : PicksOneMore w before now c d) → (n : ℕ) → length m.sets < n → n ≤ w.tasks → picks_below now n ≡ picks_below before n ++ picked (length m.sets) (Some m.set.attempt)
 list_more w before now c d m zero l high = absurd (omega arith)
-list_more w before now c d m (suc n) l high = by (same_or_not n (length m.sets)) (list_more w before now c d m n)
+list_more w before now c d m (suc n) l high = elim (same_or_not n (length m.sets)) [
+  | inl is ↦ here is
+  | inr ne ↦ later ne (list_more w before now c d m n (omega (arith, ne, l)) (omega arith))
+]
   where
     here : n ≡ length m.sets → picks_below now (suc n) ≡ picks_below before (suc n) ++ picked (length m.sets) (Some m.set.attempt)
     here is =
         let low : picks_below now n ≡ picks_below before n = list_same before now n (λ t k. m.others t (omega arith) (λ e. absurd (omega (arith, e, k, is)))) in
         let none : before n ≡ None = m.behind n (omega arith) (omega (arith, is)) in
-        ap (λ l. l ++ picked n (now n)) low
-        ∙ ap (λ o. picks_below before n ++ picked n o) (ap now is ∙ m.picked)
-        ∙ ap (λ v. picks_below before n ++ picked v (Some m.set.attempt)) is
-        ∙ ap (λ l. l ++ picked (length m.sets) (Some m.set.attempt)) (sym (append-nil (picks_below before n)))
-        ∙ ap (λ o. (picks_below before n ++ picked n o) ++ picked (length m.sets) (Some m.set.attempt)) (sym none)
+        rw (low, none, append-nil (picks_below before n)) (ap (λ l. picks_below before n ++ l) (ap (picked n) (ap now is ∙ m.picked) ∙ ap (λ v. picked v (Some m.set.attempt)) is))
 
     later : (n ≡ length m.sets → ⊥) → picks_below now n ≡ picks_below before n ++ picked (length m.sets) (Some m.set.attempt) → picks_below now (suc n) ≡ picks_below before (suc n) ++ picked (length m.sets) (Some m.set.attempt)
     later ne old =
         let none : before n ≡ None = m.behind n (omega arith) (omega arith) in
         let none_now : now n ≡ None = m.others n (omega arith) ne ∙ none in
-        ap (λ o. picks_below now n ++ picked n o) none_now ∙ append-nil (picks_below now n) ∙ old
-        ∙ ap (λ l. l ++ picked (length m.sets) (Some m.set.attempt)) (sym (append-nil (picks_below before n)))
-        ∙ ap (λ o. (picks_below before n ++ picked n o) ++ picked (length m.sets) (Some m.set.attempt)) (sym none)
-
-    above : (a b : ℕ) → b < suc a → (a ≡ b → ⊥) → b < a
-    above a b l ne = elim (order b a) [ inl h ↦ h | inr h ↦ absurd (ne (omega arith)) ]
-
-    by : (n ≡ length m.sets) ⊎ (n ≡ length m.sets → ⊥) → (length m.sets < n → n ≤ w.tasks → picks_below now n ≡ picks_below before n ++ picked (length m.sets) (Some m.set.attempt)) → picks_below now (suc n) ≡ picks_below before (suc n) ++ picked (length m.sets) (Some m.set.attempt)
-    by (inl is) old = here is
-    by (inr ne) old = later ne (old (above n (length m.sets) l ne) (omega arith))
+        rw (none_now, none, append-nil (picks_below now n), append-nil (picks_below before n)) old
 
 pub commit_runs : CommitRuns
 commit_runs = record {
@@ -311,6 +238,6 @@ commit_runs = record {
   list = λ w before now c d m. list_more w before now c d m w.tasks m.next (omega arith);
   same = list_same;
   attempts = attempts_leave;
-  setup = λ w k s n c r o e. driver_leaves w k s n r o (setup_reads w c r e);
-  clean = λ w k s n c r o e. driver_leaves w k s n r o (clean_reads w c r e);
+  setup = λ w k s n c r o e. plain_picks w k s n r (setup_plain w c r e).reads o;
+  clean = λ w k s n c r o e. plain_picks w k s n r (clean_plain w c r e).1 o;
 }

@@ -1,8 +1,8 @@
 -- One entry of the driver's commit, and where it leads with the sets that it holds.
-use Rattle.std.proofs.Common.{◌≡◌, ℕ, ◌<◌, ◌+◌, nat_lt, ◌&&◌, ◌||◌, not, Bool, true, false, cond, List, [], ◌∷◌, ◌++◌, length, Option, Some, None, refl, sym, ap, subst, ◌∙◌}
-use Rattle.job_facts.specs.Prelude.{list_any, is_some, apply, Request, CompleteUpload, Reply, Outcome, Answered, Slow, Entry, PendingSet, run, IsLegal, Script, CommitEnd, same_path, mark_text, Sweep, sweep_hears, Turn, again, follow, dealt, nth, completion, revert, Sets, picks_of, all_commits, set_read, Commit, Fetching, Replacing, Completing, Marking, Reverting, CommitOver, completing, is_no_magic, replaced, replacing, decided, fetching, fetched, swept, reverting, worn_completion, commit_asks, commit_hears, commit_misses, commit_tells, commit_start, Sound, AllSound, commit_due, end_or, is_driver, is_mark_answered, Seen, see, is_marking, is_marked, HasBucket, Told, driver_entry, at_key, Hold, FitsJobCommit, Decides, Times}
+use Rattle.std.proofs.Common.{◌≡◌, ℕ, ◌<◌, ◌&&◌, ◌||◌, not, Bool, true, false, List, [], ◌∷◌, ◌++◌, length, Option, Some, None, refl, sym, ap, subst, ◌∙◌}
+use Rattle.job_facts.specs.Prelude.{list_any, is_some, apply, Request, CompleteUpload, Reply, Outcome, Answered, Entry, run, IsLegal, Script, CommitEnd, same_path, mark_text, nth, completion, Sets, picks_of, all_commits, Commit, Fetching, Completing, Marking, CommitOver, fetching, commit_asks, commit_tells, commit_start, Sound, AllSound, commit_due, end_or, is_driver, is_mark_answered, Seen, see, is_marking, is_marked, HasBucket, Told, driver_entry, at_key, Hold, FitsJobCommit, Decides, Times}
 use Rattle.job_protocol.specs.Prelude.{is_unanswered, Stage, RequestsApart}
-use Rattle.job_spec.proofs.Common.{shared_found, some_is, none_some, text_true}
+use Rattle.job_spec.proofs.Common.{some_is, none_some, text_true}
 use Rattle.magic_paths.specs.Layout as layout
 use Rattle.retries.proofs.SameRequest.{same_is}
 use Rattle.job_model.specs.declared.ends.CommitEnd.TheVariants as commits
@@ -10,47 +10,25 @@ use Rattle.job_model.specs.declared.ends.Stage.TheVariants as stages
 use Rattle.job_facts.proofs.Whose.{or_true}
 use Rattle.job_facts.proofs.Shapes.{puts}
 use Rattle.job_facts.proofs.Turning.{uploads_apart}
-use Rattle.job_outcomes.specs.CommitRuns.{IsDue, IsAt, WhereCommitted}
+use Rattle.job_traces.proofs.Leads.{Enters, is_shared, enters, Leads, fetches, reads_none, is_marked as marked_now, is_reverted, stays_over, read_worn, sweep_worn, mark_worn, reverts, none_reverts, leads}
+use Rattle.job_outcomes.specs.CommitRuns.{IsAt, WhereCommitted}
 
 -- ---- where outcomes lead with the sets
 
 module _ (w : Script) where
-  either : (b : Bool) (missing : Option ℕ) (sets : Sets) (c d : Commit) → IsAt w missing sets c → IsAt w missing sets d → IsAt w missing sets (cond b c d)
-  either true missing sets c d x y = x
-  either false missing sets c d x y = y
-
-  at_completing : (missing : Option ℕ) (sets s : Sets) (xs : List Turn) (finished : List ℕ) → missing ≡ None → s ≡ sets → IsAt w missing sets (completing s xs finished)
-  at_completing missing sets s [] finished m e = (m, e)
-  at_completing missing sets s (x ∷ xs) finished m e = (m, e)
-
-  at_replacing : (missing : Option ℕ) (sets s : Sets) (ps : List (List ℕ)) → missing ≡ None → s ≡ sets → IsAt w missing sets (replacing w s ps)
-  at_replacing missing sets s [] m e = at_completing missing sets s (dealt w.lanes (length (all_commits s))) [] m e
-  at_replacing missing sets s (p ∷ ps) m e = (m, e)
-
   none_due : (missing : Option ℕ) (sets : Sets) (end : CommitEnd) → missing ≡ None → (o : Option CommitEnd) → same_path w (picks_of sets) ≡ o → end ≡ end_or o commits.Committed → end ≡ commit_due w (picks_of sets) missing None
   none_due missing sets end m o e is = is ∙ ap (λ v. end_or v commits.Committed) (sym e) ∙ ap (λ v. commit_due w (picks_of sets) v None) (sym m)
 
-  at_decided : (missing : Option ℕ) (sets : Sets) (o : Option CommitEnd) → missing ≡ None → same_path w (picks_of sets) ≡ o → IsAt w missing sets (decided w sets o)
-  at_decided missing sets None m e = at_replacing missing sets sets (replaced w.committer w.mode w (picks_of sets)) m refl
-  at_decided missing sets (Some end) m e =
-      let x = shared_found w (picks_of sets) end e in
-      let one : commits.SamePath x.0 x.1 x.2 ≡ commit_due w (picks_of sets) missing None = none_due missing sets (commits.SamePath x.0 x.1 x.2) m (Some end) e (sym x.3) in
-      subst (IsDue w missing sets) (sym x.3) one
+  at_enters : (missing : Option ℕ) (sets : Sets) → missing ≡ None → {d : Commit} → Enters w sets d → IsAt w missing sets d
+  at_enters missing sets m (is_shared p t u e) = none_due missing sets (commits.SamePath p t u) m (Some (commits.SamePath p t u)) e refl
+  at_enters missing sets m _ = (m, refl)
 
   pub at_fetching : (missing : Option ℕ) (sets : Sets) → missing ≡ None → IsAt w missing sets (fetching w sets)
-  at_fetching missing sets m = either (nat_lt (length sets) w.tasks) missing sets (Fetching sets 0) (decided w sets (same_path w (picks_of sets))) (m, refl) (at_decided missing sets (same_path w (picks_of sets)) m refl)
+  at_fetching missing sets m = at_enters missing sets m (enters w sets)
 
   pub at_start : (missing : Option ℕ) → IsAt w missing [] (commit_start w missing)
   at_start None = at_fetching None [] refl
   at_start (Some t) = (refl, refl)
-
-  at_swept : (missing : Option ℕ) (sets s : Sets) (p : List ℕ) (ps : List (List ℕ)) (o : Option Sweep) → missing ≡ None → s ≡ sets → IsAt w missing sets (swept w s p ps o)
-  at_swept missing sets s p ps (Some x) m e = (m, e)
-  at_swept missing sets s p ps None m e = at_replacing missing sets s ps m e
-
-  at_reverting : (missing : Option ℕ) (sets : Sets) (qs : List Request) → missing ≡ None → IsAt w missing sets (reverting qs)
-  at_reverting missing sets [] m = m
-  at_reverting missing sets (q ∷ qs) m = m
 
   -- an answer to a read is told elsewhere
   abbrev pub IsRead : Commit → Outcome → Type 0
@@ -61,38 +39,26 @@ module _ (w : Script) where
     abbrev D : Commit → Type 0
     D c = Decides w minimum m.publish_sent m.drawn c
 
-    at_heard : (missing : Option ℕ) (sets : Sets) (c : Commit) (x : Reply) → (IsRead c (Answered x) → ⊥) → D c → IsAt w missing sets c → IsAt w missing sets (commit_hears w c x)
-    at_heard missing sets (Fetching s n) x unread d h = absurd (unread tt)
-    at_heard missing sets (Replacing s p ps y n) x unread d h = at_swept missing sets s p ps (sweep_hears (is_no_magic w) y x) h.0 h.1
-    at_heard missing sets (Completing s y ys finished) x unread d h = at_completing missing sets s (ys ++ follow w.lanes (length (all_commits s)) y.number) (y.number ∷ finished) h.0 h.1
-    at_heard missing sets (Marking s n) x unread d h = none_due missing sets commits.Committed h.0 None (ap (λ v. same_path w (picks_of v)) (sym h.1) ∙ d.apart) refl
-    at_heard missing sets (Reverting q qs n) x unread d h = at_reverting missing sets qs h
-    at_heard missing sets (CommitOver end) x unread d h = h
-
-    at_missed : (missing : Option ℕ) (sets : Sets) (c : Commit) (lost : Bool) → D c → IsAt w missing sets c → IsAt w missing sets (commit_misses w c lost)
-    at_missed missing sets (Fetching s n) lost d h = either (nat_lt n w.retries) missing sets (Fetching s (n + 1)) (CommitOver (commits.StoreFault stages.Read)) h (h.0, subst (λ l. length l < w.tasks) h.1 d)
-    at_missed missing sets (Replacing s p ps x n) lost d h = either (nat_lt n w.retries) missing sets (Replacing s p ps x (n + 1)) (CommitOver (commits.StoreFault stages.Delete)) h h.0
-    at_missed missing sets (Completing s x xs finished) lost d h =
-        either (nat_lt x.missed w.retries) missing sets (completing s (xs ++ again x lost ∷ []) finished) (worn_completion s x xs finished) (at_completing missing sets s (xs ++ again x lost ∷ []) finished h.0 h.1) (at_reverting missing sets (revert (all_commits s) x.number xs finished) h.0)
-    at_missed missing sets (Marking s n) lost d h = either (nat_lt n w.retries) missing sets (Marking s (n + 1)) (CommitOver (commits.StoreFault stages.Success)) h h.0
-    at_missed missing sets (Reverting q qs n) lost d h = either (nat_lt n w.retries) missing sets (Reverting q qs (n + 1)) (reverting qs) h (at_reverting missing sets qs h)
-    at_missed missing sets (CommitOver end) lost d h = h
+    at_leads : (missing : Option ℕ) (sets : Sets) {c d : Commit} {o : Outcome} → Leads w c o d → (IsRead c o → ⊥) → D c → IsAt w missing sets c → IsAt w missing sets d
+    at_leads missing sets (fetches y e n) unread d h = absurd (unread tt)
+    at_leads missing sets (reads_none e) unread d h = absurd (unread tt)
+    at_leads missing sets marked_now unread d h = none_due missing sets commits.Committed h.0 None (ap (λ v. same_path w (picks_of v)) (sym h.1) ∙ d.apart) refl
+    at_leads missing sets read_worn unread d h = (h.0, subst (λ l. length l < w.tasks) h.1 d)
+    at_leads missing sets sweep_worn unread d h = h.0
+    at_leads missing sets mark_worn unread d h = h.0
+    at_leads missing sets reverts unread d h = h.0
+    at_leads missing sets none_reverts unread d h = h.0
+    at_leads missing sets _ unread d h = h
 
     pub at_tells : (missing : Option ℕ) (sets : Sets) (c : Commit) (o : Outcome) → (IsRead c o → ⊥) → D c → IsAt w missing sets c → IsAt w missing sets (commit_tells w c o)
-    at_tells missing sets c (Answered x) unread d h = at_heard missing sets c x unread d h
-    at_tells missing sets c Slow unread d h = at_missed missing sets c false d h
-    at_tells missing sets c _ unread d h = at_missed missing sets c true d h
+    at_tells missing sets c o unread d h = at_leads missing sets (leads w c o) unread d h
 
 -- ---- how it may end
 
 -- where it is over its end passes
 abbrev pub EndsBy : (CommitEnd → Type 0) → Commit → Type 0
-EndsBy P (Fetching s n) = Unit {0}
-EndsBy P (Replacing s p ps x n) = Unit {0}
-EndsBy P (Completing s x xs finished) = Unit {0}
-EndsBy P (Marking s n) = Unit {0}
-EndsBy P (Reverting q qs n) = Unit {0}
 EndsBy P (CommitOver end) = P end
+EndsBy P _ = Unit {0}
 
 -- the marker is answered
 abbrev pub IsMarkAnswer : Commit → Outcome → Type 0
@@ -100,58 +66,26 @@ IsMarkAnswer (Marking s n) (Answered x) = Unit {0}
 IsMarkAnswer _ _ = ⊥
 
 module _ (w : Script) (P : CommitEnd → Type 0) (fault : (t : Stage) → P (commits.StoreFault t)) (shared : (p : List ℕ) (t u : ℕ) → P (commits.SamePath p t u)) where
-  by_either : (b : Bool) (c d : Commit) → EndsBy P c → EndsBy P d → EndsBy P (cond b c d)
-  by_either true c d x y = x
-  by_either false c d x y = y
-
-  by_completing : (s : Sets) (xs : List Turn) (finished : List ℕ) → EndsBy P (completing s xs finished)
-  by_completing s [] finished = tt
-  by_completing s (x ∷ xs) finished = tt
-
-  by_replacing : (s : Sets) (ps : List (List ℕ)) → EndsBy P (replacing w s ps)
-  by_replacing s [] = by_completing s (dealt w.lanes (length (all_commits s))) []
-  by_replacing s (p ∷ ps) = tt
-
-  by_decided : (s : Sets) (o : Option CommitEnd) → same_path w (picks_of s) ≡ o → EndsBy P (decided w s o)
-  by_decided s None e = by_replacing s (replaced w.committer w.mode w (picks_of s))
-  by_decided s (Some end) e = let x = shared_found w (picks_of s) end e in subst P (sym x.3) (shared x.0 x.1 x.2)
+  by_enters : {sets : Sets} {d : Commit} → Enters w sets d → EndsBy P d
+  by_enters (is_shared p t u e) = shared p t u
+  by_enters _ = tt
 
   pub by_fetching : (s : Sets) → EndsBy P (fetching w s)
-  by_fetching s = by_either (nat_lt (length s) w.tasks) (Fetching s 0) (decided w s (same_path w (picks_of s))) tt (by_decided s (same_path w (picks_of s)) refl)
+  by_fetching s = by_enters (enters w s)
 
-  by_fetched : (s : Sets) (o : Option PendingSet) → EndsBy P (fetched w s o)
-  by_fetched s (Some x) = by_fetching (s ++ x ∷ [])
-  by_fetched s None = tt
-
-  by_swept : (s : Sets) (p : List ℕ) (ps : List (List ℕ)) (o : Option Sweep) → EndsBy P (swept w s p ps o)
-  by_swept s p ps (Some x) = tt
-  by_swept s p ps None = by_replacing s ps
-
-  by_reverting : (qs : List Request) → EndsBy P (reverting qs)
-  by_reverting [] = fault stages.Complete
-  by_reverting (q ∷ qs) = tt
-
-  by_heard : (c : Commit) (x : Reply) → (IsMarkAnswer c (Answered x) → P commits.Committed) → EndsBy P c → EndsBy P (commit_hears w c x)
-  by_heard (Fetching s n) x mark h = by_fetched s (set_read x)
-  by_heard (Replacing s p ps y n) x mark h = by_swept s p ps (sweep_hears (is_no_magic w) y x)
-  by_heard (Completing s y ys finished) x mark h = by_completing s (ys ++ follow w.lanes (length (all_commits s)) y.number) (y.number ∷ finished)
-  by_heard (Marking s n) x mark h = mark tt
-  by_heard (Reverting q qs n) x mark h = by_reverting qs
-  by_heard (CommitOver end) x mark h = h
-
-  by_missed : (c : Commit) (lost : Bool) → EndsBy P c → EndsBy P (commit_misses w c lost)
-  by_missed (Fetching s n) lost h = by_either (nat_lt n w.retries) (Fetching s (n + 1)) (CommitOver (commits.StoreFault stages.Read)) tt (fault stages.Read)
-  by_missed (Replacing s p ps x n) lost h = by_either (nat_lt n w.retries) (Replacing s p ps x (n + 1)) (CommitOver (commits.StoreFault stages.Delete)) tt (fault stages.Delete)
-  by_missed (Completing s x xs finished) lost h =
-      by_either (nat_lt x.missed w.retries) (completing s (xs ++ again x lost ∷ []) finished) (worn_completion s x xs finished) (by_completing s (xs ++ again x lost ∷ []) finished) (by_reverting (revert (all_commits s) x.number xs finished))
-  by_missed (Marking s n) lost h = by_either (nat_lt n w.retries) (Marking s (n + 1)) (CommitOver (commits.StoreFault stages.Success)) tt (fault stages.Success)
-  by_missed (Reverting q qs n) lost h = by_either (nat_lt n w.retries) (Reverting q qs (n + 1)) (reverting qs) tt (by_reverting qs)
-  by_missed (CommitOver end) lost h = h
+  by_leads : {c d : Commit} {o : Outcome} → Leads w c o d → (IsMarkAnswer c o → P commits.Committed) → EndsBy P c → EndsBy P d
+  by_leads (fetches y e n) mark h = by_enters n
+  by_leads marked_now mark h = mark tt
+  by_leads is_reverted mark h = fault stages.Complete
+  by_leads none_reverts mark h = fault stages.Complete
+  by_leads read_worn mark h = fault stages.Read
+  by_leads sweep_worn mark h = fault stages.Delete
+  by_leads mark_worn mark h = fault stages.Success
+  by_leads stays_over mark h = h
+  by_leads _ mark h = tt
 
   pub by_tells : (c : Commit) (o : Outcome) → (IsMarkAnswer c o → P commits.Committed) → EndsBy P c → EndsBy P (commit_tells w c o)
-  by_tells c (Answered x) mark h = by_heard c x mark h
-  by_tells c Slow mark h = by_missed c false h
-  by_tells c _ mark h = by_missed c true h
+  by_tells c o mark h = by_leads (leads w c o) mark h
 
 -- ---- which task it missed
 
@@ -160,20 +94,14 @@ NotMissing (commits.Missing t) = ⊥
 NotMissing _ = Unit {0}
 
 module _ (w : Script) where
-  not_tells : (c : Commit) (o : Outcome) → EndsBy NotMissing c → EndsBy NotMissing (commit_tells w c o)
-  not_tells c o h = by_tells w NotMissing (λ t. tt) (λ p t u. tt) c o (λ i. tt) h
-
   not_run : (c : Commit) (es : List Entry) → EndsBy NotMissing c → EndsBy NotMissing (run (commit_tells w) c es)
   not_run c [] h = h
-  not_run c (e ∷ es) h = not_run (commit_tells w c e.outcome) es (not_tells c e.outcome h)
-
-  over_tells : (end : CommitEnd) (o : Outcome) → commit_tells w (CommitOver end) o ≡ CommitOver end
-  over_tells end (Answered x) = refl
-  over_tells end _ = refl
+  not_run c (e ∷ es) h = not_run (commit_tells w c e.outcome) es (by_tells w NotMissing (λ t. tt) (λ p t u. tt) c e.outcome (λ i. tt) h)
 
   over_run : (end : CommitEnd) (es : List Entry) → run (commit_tells w) (CommitOver end) es ≡ CommitOver end
   over_run end [] = refl
-  over_run end (e ∷ es) = ap (λ c. run (commit_tells w) c es) (over_tells end e.outcome) ∙ over_run end es
+  over_run end (e ∷ es) =
+      ap (λ c. run (commit_tells w) c es) (elim e.outcome as (λ o. commit_tells w (CommitOver end) o ≡ CommitOver end) [ Answered x ↦ refl | _ ↦ refl ]) ∙ over_run end es
 
   missing_over : (t : ℕ) (es : List Entry) → run (commit_tells w) (CommitOver (commits.Missing t)) es ≡ run (commit_tells w) (commit_start w None) es → ⊥
   missing_over t es e = subst (EndsBy NotMissing) (sym e ∙ over_run (commits.Missing t) es) (not_run (commit_start w None) es (by_fetching w NotMissing (λ t. tt) (λ p t u. tt) []))
@@ -213,17 +141,11 @@ module _ (w : Script) (k : Times) (s : Seen) (there : HasBucket s.scene.content 
   marks_request : (sets : Sets) (x : ℕ) → commit_asks w (Marking sets x) ≡ Some r → is_marking w r ≡ true
   marks_request sets x asked = ap (is_marking w) (sym (some_is asked)) ∙ rw (text_true w.dest.bucket w.dest.bucket refl, text_true (layout.success_key w.dest.key) (layout.success_key w.dest.key) refl) refl
 
-  mark_put : (sets : Sets) (x : ℕ) → commit_asks w (Marking sets x) ≡ Some r → at_key w (apply s.scene r).content (layout.success_key w.dest.key) ≡ Some (record { bytes = mark_text w (picks_of sets); header = None })
-  mark_put sets x asked = ap (λ q. at_key w (apply s.scene q).content (layout.success_key w.dest.key)) (sym (some_is asked)) ∙ (puts w s.scene there.0 there.1 (layout.success_key w.dest.key) (mark_text w (picks_of sets)) None).here
-
   -- the answer to the put of the marker
-  put_answered : (sets : Sets) (x : ℕ) → commit_asks w (Marking sets x) ≡ Some r → (y : Reply) → is_mark_answered w (es ++ driver_entry n r (Answered y) ∷ []) ≡ true
-  put_answered sets x asked y = any_last (λ e. is_driver e.actor && (is_marking w e.request && not (is_unanswered e.outcome))) es (driver_entry n r (Answered y)) (ap (λ b. b && true) (marks_request sets x asked))
-
   put_stands : (sets : Sets) (x : ℕ) → commit_asks w (Marking sets x) ≡ Some r → (y : Reply) → is_marked w (see w k s (driver_entry n r (Answered y))) ≡ true
   put_stands sets x asked y =
       ap (λ b. (s.put_mark || b) && is_some (at_key w (apply s.scene r).content (layout.success_key w.dest.key))) (marks_request sets x asked)
-      ∙ ap (λ o. (s.put_mark || true) && is_some o) (mark_put sets x asked)
+      ∙ ap (λ o. (s.put_mark || true) && is_some o) (ap (λ q. at_key w (apply s.scene q).content (layout.success_key w.dest.key)) (sym (some_is asked)) ∙ (puts w s.scene there.0 there.1 (layout.success_key w.dest.key) (mark_text w (picks_of sets)) None).here)
       ∙ ap (λ b. b && true) (or_true s.put_mark)
 
   -- after one more entry of the commit
@@ -233,7 +155,9 @@ module _ (w : Script) (k : Times) (s : Seen) (there : HasBucket s.scene.content 
   where_next P put c asked o = uncommitted (P o) (commit_tells w c o) (by_tells w NotCommitted (λ t. tt) (λ p t u. tt) c o (λ i. i) tt)
 
   pub answered_next : (c : Commit) → commit_asks w c ≡ Some r → (o : Outcome) → WhereCommitted (is_mark_answered w (es ++ driver_entry n r o ∷ []) ≡ true) (commit_tells w c o)
-  answered_next = where_next (λ o. is_mark_answered w (es ++ driver_entry n r o ∷ []) ≡ true) put_answered
+  answered_next = where_next (λ o. is_mark_answered w (es ++ driver_entry n r o ∷ []) ≡ true) (λ sets x asked y.
+      any_last (λ e. is_driver e.actor && (is_marking w e.request && not (is_unanswered e.outcome))) es (driver_entry n r (Answered y))
+      (ap (λ b. b && true) (marks_request sets x asked)))
 
   pub marked_next : (c : Commit) → commit_asks w c ≡ Some r → (o : Outcome) → WhereCommitted (is_marked w (see w k s (driver_entry n r o)) ≡ true) (commit_tells w c o)
   marked_next = where_next (λ o. is_marked w (see w k s (driver_entry n r o)) ≡ true) put_stands

@@ -2,23 +2,22 @@
 use Rattle.std.proofs.Common.{◌≡◌, ℕ, ◌+◌, ◌<◌, ◌≤◌, inl, inr, nat_lt, nat_le, nat_eq, ◌&&◌, Bool, true, false, cond, List, [], ◌∷◌, ◌++◌, length, take, refl, sym, ap, subst, ◌∙◌, arith}
 use Rattle.job_facts.specs.Prelude.{filter, Content, Scene, effect, after_all, moment, AreHonest, IsHonest, Actor, Attempt, Entry, same_actor, until, before, since, by_actor, AllBy, AllFrom, IsRising}
 use Rattle.path_keys.proofs.Common.{below_is, below_not}
-use Rattle.job_spec.proofs.Common.{below_so, at_most_is, at_most_so, at_most_not, above_so, true_or_false, nat_true}
+use Rattle.job_spec.proofs.Common.{at_most_so, at_most_not, above_so, true_or_false, nat_tests, nat_true}
 use Rattle.s3_types.specs.Store.{opening as opening_scene}
+use Rattle.std.proofs.Math.Seq.{take-append_seam}
 use Rattle.job_outcomes.specs.EventRows.{EventRows}
+use Rattle.job_traces.proofs.Changes.{after_parts}
 
 -- ---- cut
 
-none_before : (k n : ℕ) (es : List Entry) → k ≤ n → AllFrom n es → before k es ≡ []
+pub none_before : (k n : ℕ) (es : List Entry) → k ≤ n → AllFrom n es → before k es ≡ []
 none_before k n [] l h = refl
 none_before k n (e ∷ es) l h =
     let low : n ≤ e.event = h.0 in
-    let not_lt : nat_lt e.event k ≡ false = not_below e.event k (omega arith) in
+    let not_lt : nat_lt e.event k ≡ false = grind (arith, nat_tests) in
     ap (λ b. cond b (e ∷ before k es) (before k es)) not_lt ∙ none_before k n es l h.1
-  where
-    not_below : (a k : ℕ) → k ≤ a → nat_lt a k ≡ false
-    not_below a k l = elim (true_or_false (nat_lt a k)) [ inl h ↦ (let low : a < k = below_is a k h in absurd (omega arith)) | inr h ↦ h ]
 
-all_since : (k n : ℕ) (es : List Entry) → k ≤ n → AllFrom n es → since k es ≡ es
+pub all_since : (k n : ℕ) (es : List Entry) → k ≤ n → AllFrom n es → since k es ≡ es
 all_since k n [] l h = refl
 all_since k n (e ∷ es) l h =
     let low : n ≤ e.event = h.0 in
@@ -27,50 +26,31 @@ all_since k n (e ∷ es) l h =
 
 parts : (k : ℕ) (es : List Entry) → IsRising es → before k es ++ since k es ≡ es
 parts k [] h = refl
-parts k (e ∷ es) h = by (nat_lt e.event k) refl (parts k es h.1)
-  where
-    by : (b : Bool) → nat_lt e.event k ≡ b → before k es ++ since k es ≡ es → before k (e ∷ es) ++ since k (e ∷ es) ≡ e ∷ es
-    by true f old =
-        let low : e.event < k = below_is e.event k f in
-        let not_le : nat_le k e.event ≡ false = above_so k e.event low in
-        ap (λ b. cond b (e ∷ before k es) (before k es) ++ since k (e ∷ es)) f ∙ ap (λ b. (e ∷ before k es) ++ cond b (e ∷ since k es) (since k es)) not_le ∙ ap (λ xs. e ∷ xs) old
-    by false f old =
-        let high : k ≤ e.event = below_not e.event k f in
-        let is : nat_le k e.event ≡ true = at_most_so k e.event high in
-        ap (λ b. cond b (e ∷ before k es) (before k es) ++ since k (e ∷ es)) f ∙ ap (λ b. before k es ++ cond b (e ∷ since k es) (since k es)) is
-        ∙ ap (λ xs. xs ++ e ∷ since k es) (none_before k e.event es high h.0) ∙ ap (λ xs. e ∷ xs) (all_since k e.event es high h.0)
-
-next_test : (a i : ℕ) → nat_le a i ≡ nat_lt a (i + 1)
-next_test a i = elim (true_or_false (nat_le a i)) [
-  | inl h ↦ (let low : a ≤ i = at_most_is a i h in h ∙ sym (below_so a (i + 1) (omega arith)))
-  | inr h ↦ (let high : i < a = at_most_not a i h in h ∙ sym (not_below a (i + 1) (omega arith)))
+parts k (e ∷ es) h = elim (true_or_false (nat_lt e.event k)) [
+  | inl f ↦ rw (f, above_so k e.event (below_is e.event k f)) (ap (λ xs. e ∷ xs) (parts k es h.1))
+  | inr f ↦
+      let high : k ≤ e.event = below_not e.event k f in
+      rw (f, at_most_so k e.event high) (ap (λ xs. xs ++ e ∷ since k es) (none_before k e.event es high h.0) ∙ ap (λ xs. e ∷ xs) (all_since k e.event es high h.0))
 ]
-  where
-    not_below : (a k : ℕ) → k ≤ a → nat_lt a k ≡ false
-    not_below a k l = elim (true_or_false (nat_lt a k)) [ inl h ↦ (let low : a < k = below_is a k h in absurd (omega arith)) | inr h ↦ h ]
 
 until_is : (i : ℕ) (es : List Entry) → until i es ≡ before (i + 1) es
 until_is i [] = refl
-until_is i (e ∷ es) = ap (λ b. cond b (e ∷ until i es) (until i es)) (next_test e.event i) ∙ ap (λ xs. cond (nat_lt e.event (i + 1)) (e ∷ xs) xs) (until_is i es)
+until_is i (e ∷ es) =
+    let same : nat_le e.event i ≡ nat_lt e.event (i + 1) = grind (arith, nat_tests) in
+    ap (λ b. cond b (e ∷ until i es) (until i es)) same ∙ ap (λ xs. cond (nat_lt e.event (i + 1)) (e ∷ xs) xs) (until_is i es)
 
 front : (i : ℕ) (es : List Entry) → IsRising es → until i es ++ since (i + 1) es ≡ es
 front i es h = ap (λ xs. xs ++ since (i + 1) es) (until_is i es) ∙ parts (i + 1) es h
 
 from_until : (n i : ℕ) (es : List Entry) → AllFrom n es → AllFrom n (until i es)
 from_until n i [] h = tt
-from_until n i (e ∷ es) h = by (nat_le e.event i) (from_until n i es h.1)
-  where
-    by : (b : Bool) → AllFrom n (until i es) → AllFrom n (cond b (e ∷ until i es) (until i es))
-    by true old = (h.0, old)
-    by false old = old
+from_until n i (e ∷ es) h =
+    elim (nat_le e.event i) as (λ b. AllFrom n (cond b (e ∷ until i es) (until i es))) [ true ↦ (h.0, from_until n i es h.1) | false ↦ from_until n i es h.1 ]
 
 rises : (i : ℕ) (es : List Entry) → IsRising es → IsRising (until i es)
 rises i [] h = tt
-rises i (e ∷ es) h = by (nat_le e.event i) (rises i es h.1)
-  where
-    by : (b : Bool) → IsRising (until i es) → IsRising (cond b (e ∷ until i es) (until i es))
-    by true old = (from_until e.event i es h.0, old)
-    by false old = old
+rises i (e ∷ es) h =
+    elim (nat_le e.event i) as (λ b. IsRising (cond b (e ∷ until i es) (until i es))) [ true ↦ (from_until e.event i es h.0, rises i es h.1) | false ↦ rises i es h.1 ]
 
 earlier : (k i : ℕ) (es : List Entry) → k ≤ i + 1 → before k (until i es) ≡ before k es
 earlier k i [] l = refl
@@ -84,26 +64,17 @@ earlier k i (e ∷ es) l = by (nat_lt e.event k) (nat_le e.event i) refl refl (e
 
 -- ---- scenes
 
-after_parts : (s : Scene) (xs ys : List Entry) → after_all s (xs ++ ys) ≡ after_all (after_all s xs) ys
-after_parts s [] ys = refl
-after_parts s (x ∷ xs) ys = after_parts (effect s x.request x.outcome) xs ys
-
 honest_front : (s : Scene) (xs ys : List Entry) → AreHonest s (xs ++ ys) → AreHonest s xs
 honest_front s [] ys h = tt
 honest_front s (x ∷ xs) ys h = (h.0, honest_front (effect s x.request x.outcome) xs ys h.1)
 
-honest_back : (s : Scene) (xs ys : List Entry) → AreHonest s (xs ++ ys) → AreHonest (after_all s xs) ys
+pub honest_back : (s : Scene) (xs ys : List Entry) → AreHonest s (xs ++ ys) → AreHonest (after_all s xs) ys
 honest_back s [] ys h = h
 honest_back s (x ∷ xs) ys h = honest_back (effect s x.request x.outcome) xs ys h.1
 
-take_first : (xs ys : List Entry) → take (length xs) (xs ++ ys) ≡ xs
-take_first [] [] = refl
-take_first [] (y ∷ ys) = refl
-take_first (x ∷ xs) ys = ap (λ l. x ∷ l) (take_first xs ys)
-
 -- the moment behind a front of a journal
 behind : (opening : Content) (es xs ys : List Entry) → xs ++ ys ≡ es → moment opening es (length xs) ≡ after_all (opening_scene opening) xs
-behind opening es xs ys e = ap (λ l. after_all (opening_scene opening) (take (length xs) l)) (sym e) ∙ ap (after_all (opening_scene opening)) (take_first xs ys)
+behind opening es xs ys e = ap (λ l. after_all (opening_scene opening) (take (length xs) l)) (sym e) ∙ ap (after_all (opening_scene opening)) (take-append_seam xs ys)
 
 module _ (opening : Content) (k i : ℕ) (es : List Entry) (l : k ≤ i + 1) (rising : IsRising es) where
   -- the entries up to the second event are those before the first, and those between
@@ -139,7 +110,7 @@ same_self : (a : Actor) → same_actor a a ≡ true
 same_self (Attempt t u) = ap (λ b. b && nat_eq u u) (nat_true t t refl) ∙ nat_true u u refl
 same_self _ = refl
 
-alone : (a : Actor) (es : List Entry) → AllBy a es → by_actor a es ≡ es
+pub alone : (a : Actor) (es : List Entry) → AllBy a es → by_actor a es ≡ es
 alone a [] h = refl
 alone a (e ∷ es) h = ap (λ b. cond b (e ∷ by_actor a es) (by_actor a es)) (ap (λ v. same_actor v a) h.0 ∙ same_self a) ∙ ap (λ xs. e ∷ xs) (alone a es h.1)
 

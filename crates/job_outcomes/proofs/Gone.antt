@@ -1,6 +1,6 @@
 -- In a run, until the driver's abort or clean has begun an attempt's write or commit finds nothing gone, and a commit that is done has published.
 use Rattle.std.proofs.Common.{◌≡◌, ℕ, inl, inr, Bool, true, false, List, [], ◌∷◌, Option, Some, None, refl, sym, ap, subst, ◌∙◌}
-use Rattle.job_facts.specs.Prelude.{option_map, Content, Committer, Magic, Directory, Partitioned, Entry, fresh, Who, actor_of, File, Known, IsLegal, Op, TaskEnd, OpEnd, setup_over, commit_over, clean_over, Setting, Operation, TheSetup, TheWrite, TheTaskCommit, TheTaskAbort, TheCommit, TheClean, start_of, over, files, has_cleaned, WasPublished, Seen, until_last, NotGone, WriteStands, CommitStandsBy, Told, nothing_told, Times, TheCheck, TheSparing}
+use Rattle.job_facts.specs.Prelude.{option_map, Content, Committer, Magic, Entry, fresh, Who, actor_of, File, Known, IsLegal, Op, TaskEnd, OpEnd, setup_over, commit_over, clean_over, Setting, Operation, TheSetup, TheWrite, TheTaskCommit, TheTaskAbort, TheCommit, TheClean, start_of, over, files, has_cleaned, WasPublished, Seen, until_last, NotGone, WriteStands, CommitStandsBy, Told, nothing_told, Times, TheCheck, TheSparing}
 use Rattle.job_spec.proofs.Common.{some_is, none_some, false_true, true_or_false}
 use Rattle.job_model.specs.declared.events.Op.TheVariants as ops
 use Rattle.job_model.specs.declared.ends.TaskEnd.TheVariants as tasks
@@ -10,9 +10,10 @@ use Rattle.job_protocol.specs.TaskCommits as commits
 use Rattle.job_traces.specs.Runs.{Runs, Stand, IsOpening}
 use Rattle.job_traces.proofs.Entries.{tells_so}
 use Rattle.job_facts.proofs.Learnt.{cleaned_is}
-use Rattle.job_traces.proofs.Published.{Own, StandsBy, standing, has_published}
+use Rattle.job_traces.proofs.Published.{Own, StandsBy, standing, has_published, longer_published}
 use Rattle.job_outcomes.specs.TaskEnds.{is_abort}
-use Rattle.job_outcomes.proofs.RunEntries.{at_last, behind_last, longer_published}
+use Rattle.job_outcomes.proofs.TaskEnds.{commit_going}
+use Rattle.job_outcomes.proofs.RunEntries.{at_last, behind_last}
 use Rattle.job_protocol.specs.Rechecks.{check_over}
 use Rattle.job_protocol.specs.Sparing.{sparing_over}
 
@@ -20,26 +21,18 @@ module _ (g : Setting) (k : Times) (opening : Content) (j : IsLegal g.script) (i
   gone_is : {d : TaskEnd} {name : List ℕ} → Some (ends.Task d) ≡ Some (ends.Task (tasks.Gone name)) → d ≡ tasks.Gone name
   gone_is e = cc
 
-  never_write : (s : Seen) (a : Who) (t : writes.Write) (name : List ℕ) → WriteStands g.script s a t → option_map ends.Task (writes.write_over t) ≡ Some (ends.Task (tasks.Gone name)) → ⊥
-  never_write s a (writes.WriteOver end) name h e = subst NotGone (gone_is e) h.0
-  never_write s a _ name h e = none_some refl e
-
   never_commit : (P : Type 0) (s : Seen) (a : Who) (repeated : Bool) (t : commits.TaskCommit) (name : List ℕ) → CommitStandsBy P g.script s a repeated t → option_map ends.Task (commits.task_commit_over t) ≡ Some (ends.Task (tasks.Gone name)) → ⊥
-  never_commit P s a repeated (commits.Looking keys) name h e = none_some refl e
-  never_commit P s a repeated (commits.Reading cs f fs) name h e = none_some refl e
-  never_commit P s a repeated (commits.Publishing cs) name h e = none_some refl e
-  never_commit P s a repeated (commits.Checking d ds) name h e = none_some refl e
-  never_commit P s a repeated (commits.Uploads f fs u) name h e = none_some refl e
-  never_commit P s a repeated commits.Storing name h e = none_some refl e
-  never_commit P s a repeated commits.Renaming name h e = none_some refl e
   never_commit P s a repeated (commits.TaskCommitOver end) name h e = subst NotGone (gone_is e) h.0
+  never_commit P s a repeated _ name h e = none_some refl e
 
   no_task : {X : Type 0} (f : X → OpEnd) (o : Option X) (name : List ℕ) → ((x : X) → f x ≡ ends.Task (tasks.Gone name) → ⊥) → option_map f o ≡ Some (ends.Task (tasks.Gone name)) → ⊥
   no_task f None name other e = none_some refl e
   no_task f (Some x) name other e = other x (some_is e)
 
   never : (P : Type 0) (s : Seen) (a : Who) (op : Operation) (name : List ℕ) → StandsBy g k opening j is_opening P s a op → is_abort op ≡ false → over op ≡ Some (ends.Task (tasks.Gone name)) → ⊥
-  never P s a (TheWrite t) name h not_abort e = never_write s a t.operation name h e
+  never P s a (TheWrite t) name h not_abort e =
+      (elim t.operation as (λ v. WriteStands g.script s a v → option_map ends.Task (writes.write_over v) ≡ Some (ends.Task (tasks.Gone name)) → ⊥)
+      [ writes.WriteOver end ↦ λ h e. subst NotGone (gone_is e) h.0 | _ ↦ λ h e. none_some refl e ]) h e
   never P s a (TheTaskCommit t) name h not_abort e = never_commit P s a t.repeated t.operation name h e
   never P s a (TheTaskAbort t) name h not_abort e = false_true not_abort refl
   never P s a (TheSetup t) name h not_abort e = no_task ends.Setup (setup_over t.operation) name (λ x y. absurd cc) e
@@ -47,12 +40,6 @@ module _ (g : Setting) (k : Times) (opening : Content) (j : IsLegal g.script) (i
   never P s a (TheClean t) name h not_abort e = no_task ends.Clean (clean_over t.operation) name (λ x y. absurd cc) e
   never P s a (TheCheck t) name h not_abort e = no_task ends.Check (check_over t.operation) name (λ x y. absurd cc) e
   never P s a (TheSparing t) name h not_abort e = no_task ends.Clean (sparing_over t.operation) name (λ x y. absurd cc) e
-
-  gone_now : (es : List Entry) (x : Stand) → Runs g k opening es x → (a : Who) (op : Operation) (name : List ℕ) → x.attempts a ≡ Some op → is_abort op ≡ false → over op ≡ Some (ends.Task (tasks.Gone name)) → x.told.cleaned ≡ true
-  gone_now es x run a op name at not_abort e = elim (true_or_false x.told.cleaned) [
-    | inl h ↦ h
-    | inr h ↦ absurd (never (Own g k opening j is_opening es a) x.seen a op name ((standing g k opening j is_opening es x run).stands h a op at) not_abort e)
-  ]
 
   cleaned_so : (c : Option ℕ) (es : List Entry) (x : Stand) → Runs g k opening es x → x.told.cleans_at ≡ c → x.told.cleaned ≡ has_cleaned c es
   cleaned_so c es x run at = ap (λ (m : Told). m.cleaned) (tells_so g k opening j is_opening es x run) ∙ cleaned_is g.script es (nothing_told x.told.cleans_at) ∙ ap (λ v. has_cleaned v es) at
@@ -62,23 +49,10 @@ module _ (g : Setting) (k : Times) (opening : Content) (j : IsLegal g.script) (i
   write_begun : (c : Committer) (fs : List File) (name : List ℕ) → option_map ends.Task (writes.write_over (writes.write_start_by c fs)) ≡ Some (ends.Task (tasks.Gone name)) → ⊥
   write_begun Magic [] name e = absurd cc
   write_begun Magic (f ∷ fs) name e = none_some refl e
-  write_begun Directory fs name e = absurd cc
-  write_begun Partitioned fs name e = absurd cc
-
-  storing_begun : (fs : List File) → commits.task_commit_over (commits.storing fs) ≡ None
-  storing_begun [] = refl
-  storing_begun (f ∷ fs) = refl
-
-  checking_begun : (a : Who) (ds : List (List ℕ)) → commits.task_commit_over (commits.checking g.script a ds) ≡ None
-  checking_begun a [] = storing_begun (files g.script a)
-  checking_begun a (d ∷ ds) = refl
-
-  commit_begun : (c : Committer) (a : Who) → commits.task_commit_over (commits.task_commit_start_by c g.script a) ≡ None
-  commit_begun Magic a = refl
-  commit_begun _ a = checking_begun a (commits.to_check g.script a)
+  write_begun _ fs name e = absurd cc
 
   commit_goes : (a : Who) (op : Operation) (e : OpEnd) → TheTaskCommit (fresh g.script.retries (commits.task_commit_start g.script a)) ≡ op → over op ≡ Some e → ⊥
-  commit_goes a op e is o = none_some (ap (option_map ends.Task) (commit_begun g.script.committer a)) (ap over is ∙ o)
+  commit_goes a op e is o = none_some (ap (option_map ends.Task) (commit_going g.script.committer g.script a)) (ap over is ∙ o)
 
   gone_late : (op : Operation) (name : List ℕ) → is_abort op ≡ false → over op ≡ Some (ends.Task (tasks.Gone name)) → (b : Who) (o : Op) (m : Known) → start_of g (actor_of b) o (record { missing = None; attempts = [] }) m ≡ Some op → ⊥
   gone_late op name not_abort e b ops.Write m s = write_begun g.script.committer (files g.script b) name (ap over (some_is s) ∙ e)
@@ -101,7 +75,10 @@ module _ (g : Setting) (k : Times) (opening : Content) (j : IsLegal g.script) (i
   gone_cleaned es x run a op name at not_abort e =
       let then = at_last g k opening a op (gone_late op name not_abort e) es x run at in
       let front = until_last (actor_of a) es in
-      sym (cleaned_so x.told.cleans_at front then.0 then.1 then.2) ∙ gone_now front then.0 then.1 a op name then.3 not_abort e
+      sym (cleaned_so x.told.cleans_at front then.0 then.1 then.2) ∙ elim (true_or_false then.0.told.cleaned) [
+        | inl h ↦ h
+        | inr h ↦ absurd (never (Own g k opening j is_opening front a) then.0.seen a op name ((standing g k opening j is_opening front then.0 then.1).stands h a op then.3) not_abort e)
+      ]
 
   pub done_published : (es : List Entry) (x : Stand) → Runs g k opening es x → (a : Who) (spare : ℕ) (repeated : Bool) → x.attempts a ≡ Some (done spare repeated) → has_cleaned x.told.cleans_at (until_last (actor_of a) es) ≡ false → (n : ℕ) × WasPublished g.script opening es a.task a.attempt n
   done_published es x run a spare repeated at clean =

@@ -1,9 +1,9 @@
 -- The first file that is shown among the keys below a destination, as they are listed page by page.
-use Rattle.std.proofs.Common.{◌≡◌, ℕ, ◌≤◌, ◌<◌, ◌⊎◌, inl, inr, Bool, true, false, cond, List, [], ◌∷◌, ◌++◌, Option, Some, None, refl, sym, ap, ◌∙◌, arith, codes, append_assoc}
+use Rattle.std.proofs.Common.{◌≡◌, ℕ, ◌⊎◌, inl, inr, Bool, true, false, cond, List, [], ◌∷◌, ◌++◌, Option, Some, None, refl, sym, ap, ◌∙◌, arith, codes, append_assoc}
 use Rattle.job_facts.specs.Prelude.{Ordering, Equal, is_lt, nat_cmp, ordering_then, text_cmp, text_total, below, relative_in, begins, IsLegal, Script, is_file_path, dest_prefix, shown_path, or_next, first_shown, IsIn, RisesFrom, last_from}
 use Rattle.job_protocol.specs.Prelude.{ordering_reverse}
 use Rattle.path_keys.proofs.Common.{nat_cmp_total, irrefl}
-use Rattle.job_spec.proofs.Common.{lt_not, le_lt, begins_back, below_is, some_is, none_some, true_or_false}
+use Rattle.job_spec.proofs.Common.{lt_not, le_lt, begins_back, below_is, some_is, none_some, true_or_false, false_true}
 use Rattle.path_keys.proofs.Beneath.{behind_some}
 use Rattle.store_frame.proofs.Flat.{behind}
 use Rattle.job_facts.proofs.Legal.{some_dest}
@@ -24,13 +24,10 @@ lt a b = is_lt (text_cmp a b)
 
 last_top : (k : List ℕ) (ks : List (List ℕ)) → RisesFrom k ks → lt (last_from k ks) k ≡ false
 last_top k [] h = irrefl text_total k
-last_top k (q ∷ ks) h = lt_not text_total k (last_from q ks) (up k (last_from q ks) q h.0 (last_top q ks h.1))
-  where
-    up : (k z q : List ℕ) → lt k q ≡ true → lt z q ≡ false → lt k z ≡ true
-    up k z q a b = elim (true_or_false (lt k z)) [ inl e ↦ e | inr e ↦ absurd (none_lt (le_lt text_total z k q e a) b) ]
-      where
-        none_lt : {b : Bool} → b ≡ true → b ≡ false → ⊥
-        none_lt a b = cc
+last_top k (q ∷ ks) h = elim (true_or_false (lt k (last_from q ks))) [
+  | inl e ↦ lt_not text_total k (last_from q ks) e
+  | inr e ↦ absurd (false_true (last_top q ks h.1) (le_lt text_total (last_from q ks) k q e h.0))
+]
 
 -- none of them is behind the last
 pub last_of_all : (l : List ℕ) (ks : List (List ℕ)) → RisesFrom l ks → (k : List ℕ) → IsIn k ks → lt (last_from l ks) k ≡ false
@@ -38,20 +35,25 @@ last_of_all l [] h k i = absurd i
 last_of_all l (q ∷ ks) h k (inl e) = ap (λ v. lt (last_from q ks) v) e ∙ last_top q ks h.1
 last_of_all l (q ∷ ks) h k (inr i) = last_of_all q ks h.1 k i
 
+-- the first one shown is among the later ones, where none of the earlier is
+pub shown_later : (w : Script) (ks more : List (List ℕ)) → first_shown w ks ≡ None → first_shown w (ks ++ more) ≡ first_shown w more
+shown_later w [] more h = refl
+shown_later w (k ∷ ks) more h = by (shown_path (relative_in w.dest.key k)) h (λ g. shown_later w ks more g)
+  where
+    by : (o : Option (List ℕ)) → or_next o (first_shown w ks) ≡ None → (first_shown w ks ≡ None → first_shown w (ks ++ more) ≡ first_shown w more) → or_next o (first_shown w (ks ++ more)) ≡ first_shown w more
+    by (Some p) h old = absurd (none_some h refl)
+    by None h old = old h
+
 -- ---- the path of a key
 
 module _ (w : Script) (j : IsLegal w) where
   abbrev pub seen_at : List ℕ → Option (List ℕ)
   seen_at k = shown_path (relative_in w.dest.key k)
 
-  some_dest_key : {n : ℕ} → 1 ≤ n → 0 < n
-  some_dest_key h = omega arith
-
-  pub relative_below : (q : List ℕ) → relative_in w.dest.key (below w.dest.key q) ≡ Some q
-  relative_below q = behind_some w.dest.key (below w.dest.key q) (47 ∷ q) q (some_dest_key (some_dest j)) (below_is w.dest.key q (some_dest j)) refl
-
   pub seen_below : (q : List ℕ) → is_file_path q ≡ true → seen_at (below w.dest.key q) ≡ Some q
-  seen_below q h = ap shown_path (relative_below q) ∙ ap (λ b. cond b (Some q) None) h
+  seen_below q h =
+      ap shown_path (behind_some w.dest.key (below w.dest.key q) (47 ∷ q) q (omega (arith, some_dest j)) (below_is w.dest.key q (some_dest j)) refl)
+      ∙ ap (λ b. cond b (Some q) None) h
 
   -- a key below the destination at which a file is shown
   pub record IsShownAt (k p : List ℕ) : Type 0 where
@@ -59,17 +61,16 @@ module _ (w : Script) (j : IsLegal w) where
     pub file : is_file_path p ≡ true
 
   shown_file : (r p : List ℕ) → shown_path (Some r) ≡ Some p → (r ≡ p) × (is_file_path r ≡ true)
-  shown_file r p e = by (is_file_path r) refl e
-    where
-      by : (b : Bool) → is_file_path r ≡ b → cond b (Some r) None ≡ Some p → (r ≡ p) × (is_file_path r ≡ true)
-      by true h e = (some_is e, h)
-      by false h e = absurd (none_some refl e)
+  shown_file r p e = elim (true_or_false (is_file_path r)) [
+    | inl h ↦ (some_is (sym (ap (λ b. cond b (Some r) None) h) ∙ e), h)
+    | inr h ↦ absurd (none_some (ap (λ b. cond b (Some r) None) h) e)
+  ]
 
   pub shown_at : (k p : List ℕ) → begins (dest_prefix w) k ≡ true → seen_at k ≡ Some p → IsShownAt k p
   shown_at k p b e =
       let c = begins_back (dest_prefix w) k b in
       let is : k ≡ w.dest.key ++ 47 ∷ c.0 = c.1 ∙ append_assoc w.dest.key (codes "/") c.0 in
-      let rel : relative_in w.dest.key k ≡ Some c.0 = behind_some w.dest.key k (47 ∷ c.0) c.0 (some_dest_key (some_dest j)) is refl in
+      let rel : relative_in w.dest.key k ≡ Some c.0 = behind_some w.dest.key k (47 ∷ c.0) c.0 (omega (arith, some_dest j)) is refl in
       let f = shown_file c.0 p (sym (ap shown_path rel) ∙ e) in
       record { is = is ∙ ap (λ v. w.dest.key ++ 47 ∷ v) f.0 ∙ sym (below_is w.dest.key p (some_dest j)); file = sym (ap is_file_path f.0) ∙ f.1 }
 
@@ -95,10 +96,6 @@ module _ (w : Script) (j : IsLegal w) where
   unseen_in (q ∷ ks) h k (inl e) = ap seen_at e ∙ (or_none (seen_at q) (first_shown w ks) h).0
   unseen_in (q ∷ ks) h k (inr i) = unseen_in ks (or_none (seen_at q) (first_shown w ks) h).1 k i
 
-  pub unseen_more : (ks more : List (List ℕ)) → first_shown w ks ≡ None → first_shown w more ≡ None → first_shown w (ks ++ more) ≡ None
-  unseen_more [] more h g = g
-  unseen_more (k ∷ ks) more h g = let o = or_none (seen_at k) (first_shown w ks) h in ap (λ v. or_next v (first_shown w (ks ++ more))) o.0 ∙ unseen_more ks more o.1 g
-
   pub record IsFirst (ks : List (List ℕ)) (p : List ℕ) : Type 0 where
     pub key : List ℕ
     pub one : IsIn key ks
@@ -107,16 +104,9 @@ module _ (w : Script) (j : IsLegal w) where
 
   pub first_of : (l : List ℕ) (ks : List (List ℕ)) → RisesFrom l ks → (p : List ℕ) → first_shown w ks ≡ Some p → IsFirst ks p
   first_of l [] h p e = absurd (none_some refl e)
-  first_of l (q ∷ ks) h p e = by (or_some (seen_at q) (first_shown w ks) p e) (first_of q ks h.1 p)
-    where
-      first_least : (k r : List ℕ) → IsIn k (q ∷ ks) → seen_at k ≡ Some r → lt k q ≡ false
-      first_least k r (inl is) s = ap (λ v. lt v q) is ∙ irrefl text_total q
-      first_least k r (inr i) s = lt_not text_total q k (behind q k ks h.1 i)
-
-      later_least : (o : IsFirst ks p) → seen_at q ≡ None → (k r : List ℕ) → IsIn k (q ∷ ks) → seen_at k ≡ Some r → lt k o.key ≡ false
-      later_least o none k r (inl is) s = absurd (none_some (ap seen_at is ∙ none) s)
-      later_least o none k r (inr i) s = o.least k r i s
-
-      by : (seen_at q ≡ Some p) ⊎ ((seen_at q ≡ None) × (first_shown w ks ≡ Some p)) → (first_shown w ks ≡ Some p → IsFirst ks p) → IsFirst (q ∷ ks) p
-      by (inl here) old = record { key = q; one = inl refl; shown = here; least = first_least }
-      by (inr later) old = let o = old later.1 in record { key = o.key; one = inr o.one; shown = o.shown; least = later_least o later.0 }
+  first_of l (q ∷ ks) h p e = elim (or_some (seen_at q) (first_shown w ks) p e) [
+    | inl here ↦ record { key = q; one = inl refl; shown = here; least = λ k r i s. elim i [ inl is ↦ ap (λ v. lt v q) is ∙ irrefl text_total q | inr later ↦ lt_not text_total q k (behind q k ks h.1 later) ] }
+    | inr later ↦
+        let o = first_of q ks h.1 p later.1 in
+        record { key = o.key; one = inr o.one; shown = o.shown; least = λ k r i s. elim i [ inl is ↦ absurd (none_some (ap seen_at is ∙ later.0) s) | inr more ↦ o.least k r more s ] }
+  ]

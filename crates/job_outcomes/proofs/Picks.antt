@@ -1,41 +1,25 @@
 -- The picks that are seen after one more entry of the driver's commit.
 use Rattle.std.proofs.Common.{◌≡◌, ℕ, zero, suc, ◌<◌, ◌≤◌, ◌^◌, ◌⊎◌, inl, inr, ◌&&◌, Bool, true, false, cond, List, [], ◌∷◌, ◌++◌, length, slice_get, Option, Some, None, refl, sym, ap, subst, ◌∙◌, arith}
-use Rattle.job_facts.specs.Prelude.{option_map, answer, read_answer, IsHonestOutcome, Object, Committer, Magic, Directory, Partitioned, Request, Reply, Refused, NoSuchKey, NoSuchFile, Outcome, Answered, Slow, RequestLost, ReplyLost, SetPlace, key_at, PendingSet, IsLegal, files_set, Script, Picks, Sweep, Listing, Deleting, sweep_asks, Sets, picks_of, set_request, set_read, Commit, Fetching, Replacing, Completing, Marking, Reverting, CommitOver, fetched, commit_asks, commit_tells, Setting, Seen, see, is_reading, picks_by, Told, driver_entry, at_place, sets_at, set_at, Hold, knowing, Decides, Times, is_picking}
-use Rattle.job_spec.proofs.Common.{some_is, none_some, false_true, same_or_not, none_or_some}
+use Rattle.job_facts.specs.Prelude.{option_map, answer, read_answer, IsHonestOutcome, Object, Committer, Magic, Request, Reply, Refused, NoSuchKey, NoSuchFile, Outcome, Answered, SetPlace, key_at, PendingSet, IsLegal, files_set, Script, Picks, Sets, picks_of, set_request, set_read, Commit, Fetching, CommitOver, fetched, commit_asks, commit_tells, Setting, Seen, see, picks_by, Told, driver_entry, at_place, sets_at, set_at, Hold, knowing, Decides, Times, is_picking}
+use Rattle.job_spec.proofs.Common.{some_is, none_some, same_or_not, none_or_some}
 use Rattle.s3_types.specs.Answer.{found}
 use Rattle.job_facts.proofs.Shapes.{answer_is, key_before}
 use Rattle.job_facts.proofs.Replies.{set_answered}
 use Rattle.job_facts.proofs.Reading.{reads_it, reads_other}
+use Rattle.job_traces.proofs.Lists.{slice_last}
+use Rattle.job_traces.proofs.Plain.{plain_picks, commit_unread}
+use Rattle.std.proofs.Math.Bool.{and-false}
+use Rattle.std.proofs.lemmas.Option.{slice_get_past}
 use Rattle.job_outcomes.specs.CommitRuns.{IsAt, ArePicks, PicksGrow}
 use Rattle.job_outcomes.proofs.CommitSteps.{at_fetching, IsRead, at_tells}
 
 -- ---- one more set
-
-slice_last : {X : Type 0} (xs : List X) (y : X) → slice_get (xs ++ y ∷ []) (length xs) ≡ Some y
-slice_last [] y = refl
-slice_last (x ∷ xs) y = slice_last xs y
 
 slice_other : {X : Type 0} (xs : List X) (y : X) (n : ℕ) → (n ≡ length xs → ⊥) → slice_get (xs ++ y ∷ []) n ≡ slice_get xs n
 slice_other [] y zero ne = absurd (ne refl)
 slice_other [] y (suc n) ne = refl
 slice_other (x ∷ xs) y zero ne = refl
 slice_other (x ∷ xs) y (suc n) ne = slice_other xs y n (λ e. ne (ap suc e))
-
-slice_end : {X : Type 0} (xs : List X) → slice_get xs (length xs) ≡ None
-slice_end [] = refl
-slice_end (x ∷ xs) = slice_end xs
-
-slice_behind : {X : Type 0} (xs : List X) (n : ℕ) → length xs ≤ n → slice_get xs n ≡ None
-slice_behind [] n l = refl
-slice_behind (x ∷ xs) zero l = absurd (omega arith)
-slice_behind (x ∷ xs) (suc n) l = slice_behind xs n (omega arith)
-
-none_of : (sets : Sets) → picks_of sets (length sets) ≡ None
-none_of sets = ap (option_map (λ (v : PendingSet). v.attempt)) (slice_end sets)
-
-and_false : (b : Bool) → (b && false) ≡ false
-and_false true = refl
-and_false false = refl
 
 module _ (g : Setting) (j : IsLegal g.script) (k : Times) (s : Seen) (m : Told) (h : Hold g.script g.minimum s m) (before : m.cleaned ≡ false) (few : s.scene.content.next ≤ 2 ^ 64) (n : ℕ) (is_open : is_picking k s.begun n ≡ true) where
   abbrev w : Script
@@ -56,14 +40,6 @@ module _ (g : Setting) (j : IsLegal g.script) (k : Times) (s : Seen) (m : Told) 
 
   -- ---- what is no read
 
-  unread : (r : Request) → ((t : ℕ) → is_reading w t r ≡ false) → (o : Outcome) (t : ℕ) → after r o t ≡ s.picks t
-  unread r e (Answered y) t = ap (λ b. cond (picking && b) (s.last t) (s.picks t)) (e t) ∙ ap (λ b. cond b (s.last t) (s.picks t)) (and_false picking)
-  unread r e _ t = refl
-
-  sweep_unread : (p : List ℕ) (x : Sweep) (t : ℕ) → is_reading w t (sweep_asks w.dest.bucket p x) ≡ false
-  sweep_unread p (Listing keys) t = refl
-  sweep_unread p (Deleting q qs) t = refl
-
   -- ---- a read
 
   module _ (sets : Sets) (low : length sets < w.tasks) (agree : ArePicks w s.picks sets) where
@@ -77,13 +53,10 @@ module _ (g : Setting) (j : IsLegal g.script) (k : Times) (s : Seen) (m : Told) 
     here = ap (λ b. cond (picking && b) (s.last (length sets)) (s.picks (length sets))) (reads_it j (length sets)) ∙ ap (λ b. cond (b && true) (s.last (length sets)) (s.picks (length sets))) is_open
 
     other : (t : ℕ) → t < w.tasks → (t ≡ length sets → ⊥) → next t ≡ s.picks t
-    other t l ne = ap (λ b. cond (picking && b) (s.last t) (s.picks t)) (reads_other j t (length sets) l low ne) ∙ ap (λ b. cond b (s.last t) (s.picks t)) (and_false picking)
+    other t l ne = ap (λ b. cond (picking && b) (s.last t) (s.picks t)) (reads_other j t (length sets) l low ne) ∙ ap (λ b. cond b (s.last t) (s.picks t)) (and-false picking)
 
     no_later : (t : ℕ) → t < w.tasks → length sets ≤ t → s.picks t ≡ None
-    no_later t l high = agree t l ∙ ap (option_map (λ (v : PendingSet). v.attempt)) (slice_behind sets t high)
-
-    no_pick : s.picks (length sets) ≡ None
-    no_pick = agree (length sets) low ∙ none_of sets
+    no_later t l high = agree t l ∙ ap (option_map (λ (v : PendingSet). v.attempt)) (slice_get_past sets t high)
 
     one_more : (x : PendingSet) → s.last (length sets) ≡ Some x.attempt → ArePicks w next (sets ++ x ∷ [])
     one_more x latest t l = elim (same_or_not t (length sets)) [
@@ -100,7 +73,7 @@ module _ (g : Setting) (j : IsLegal g.script) (k : Times) (s : Seen) (m : Told) 
 
     still : s.last (length sets) ≡ None → (t : ℕ) → t < w.tasks → next t ≡ s.picks t
     still none t l = elim (same_or_not t (length sets)) [
-      | inl is ↦ ap next is ∙ here ∙ none ∙ sym (ap s.picks is ∙ no_pick)
+      | inl is ↦ ap next is ∙ here ∙ none ∙ sym (ap s.picks is ∙ no_later (length sets) low (omega arith))
       | inr ne ↦ other t l ne
     ]
 
@@ -109,16 +82,15 @@ module _ (g : Setting) (j : IsLegal g.script) (k : Times) (s : Seen) (m : Told) 
 
     -- what stands is not refused
     not_refused : (c : Committer) (b : List ℕ) → set_at c w s.scene (length sets) ≡ Some b → IsRefused (answer s.scene (set_request c w (length sets))) → ⊥
-    not_refused Magic b e x = by (at_place w s.scene.content (SetPlace (length sets))) refl
-      where
-        due : answer s.scene (set_request Magic w (length sets)) ≡ found (at_place w s.scene.content (SetPlace (length sets)))
-        due = answer_is w s.scene h.there.0 h.there.1 (set_request Magic w (length sets)) refl ∙ ap found (sym (key_before w s.scene h.there.0 h.there.1 (key_at w.dest.key w.job (SetPlace (length sets)))))
-
-        by : (o : Option Object) → at_place w s.scene.content (SetPlace (length sets)) ≡ o → ⊥
-        by None q = none_some (ap (option_map (λ (y : Object). y.bytes)) q) e
-        by (Some y) q = let is : answer s.scene (set_request Magic w (length sets)) ≡ found (Some y) = due ∙ ap found q in elim x [ inl z ↦ absurd cc | inr z ↦ absurd cc ]
-    not_refused Directory b e x = let is : answer s.scene (set_request Directory w (length sets)) ≡ read_answer (Some b) = ap read_answer e in elim x [ inl z ↦ absurd cc | inr z ↦ absurd cc ]
-    not_refused Partitioned b e x = let is : answer s.scene (set_request Partitioned w (length sets)) ≡ read_answer (Some b) = ap read_answer e in elim x [ inl z ↦ absurd cc | inr z ↦ absurd cc ]
+    not_refused Magic b e x =
+        let due : answer s.scene (set_request Magic w (length sets)) ≡ found (at_place w s.scene.content (SetPlace (length sets))) =
+        answer_is w s.scene h.there.0 h.there.1 (set_request Magic w (length sets)) refl
+        ∙ ap found (sym (key_before w s.scene h.there.0 h.there.1 (key_at w.dest.key w.job (SetPlace (length sets))))) in
+        elim (none_or_some (at_place w s.scene.content (SetPlace (length sets)))) [
+          | inl q ↦ none_some (ap (option_map (λ (y : Object). y.bytes)) q) e
+          | inr y ↦ let is : answer s.scene (set_request Magic w (length sets)) ≡ found (Some y.0) = due ∙ ap found y.1 in elim x [ inl z ↦ absurd cc | inr z ↦ absurd cc ]
+        ]
+    not_refused c b e x = let is : answer s.scene (set_request c w (length sets)) ≡ read_answer (Some b) = ap read_answer e in elim x [ inl z ↦ absurd cc | inr z ↦ absurd cc ]
 
     -- the answer brings nothing, and no pick, or the set of the last publisher
     abbrev Brings : Reply → Type 0
@@ -139,47 +111,35 @@ module _ (g : Setting) (j : IsLegal g.script) (k : Times) (s : Seen) (m : Told) 
 
     -- so the commit goes on with one more set, and one more pick, or with the same
     read_next : (missing : Option ℕ) (x : ℕ) → missing ≡ None → (y : Reply) → y ≡ answer s.scene r → After missing (Fetching sets x) r (Answered y)
-    read_next missing x m y e = by (set_read y) refl (subst Brings (sym e) brings)
-      where
-        by : (o : Option PendingSet) → set_read y ≡ o → Brings y → After missing (Fetching sets x) r (Answered y)
-        by o q (inl none) = record {
+    read_next missing x m y e = elim (subst Brings (sym e) brings) [
+      | inl none ↦ record {
+        sets = sets;
+        picks = λ t l. still none.1 t l ∙ agree t l;
+        at = subst (λ v. IsAt w missing sets (fetched w sets v)) (sym none.0) (m, refl);
+        grows = inl (still none.1);
+      }
+      | inr some ↦ record {
+        sets = sets ++ some.0 ∷ [];
+        picks = one_more some.0 some.2;
+        at = subst (λ v. IsAt w missing (sets ++ some.0 ∷ []) (fetched w sets v)) (sym some.1) (at_fetching w missing (sets ++ some.0 ∷ []) m);
+        grows = inr (record {
           sets = sets;
-          picks = λ t l. still none.1 t l ∙ agree t l;
-          at = subst (λ v. IsAt w missing sets (fetched w sets v)) (sym none.0) (m, refl);
-          grows = inl (still none.1);
-        }
-        by o q (inr some) = record {
-          sets = sets ++ some.0 ∷ [];
-          picks = one_more some.0 some.2;
-          at = subst (λ v. IsAt w missing (sets ++ some.0 ∷ []) (fetched w sets v)) (sym some.1) (at_fetching w missing (sets ++ some.0 ∷ []) m);
-          grows = inr (record {
-            sets = sets;
-            missed = x;
-            set = some.0;
-            from = refl;
-            to = ap (fetched w sets) some.1;
-            next = low;
-            picked = here ∙ some.2;
-            others = other;
-            behind = no_later;
-          });
-        }
+          missed = x;
+          set = some.0;
+          from = refl;
+          to = ap (fetched w sets) some.1;
+          next = low;
+          picked = here ∙ some.2;
+          others = other;
+          behind = no_later;
+        });
+      }
+    ]
 
   -- ---- any entry of the commit
 
   abbrev D : Commit → Type 0
   D c = Decides w g.minimum m.publish_sent m.drawn c
-
-  abbrev is_fetching : Commit → Bool
-  is_fetching (Fetching sets x) = true
-  is_fetching _ = false
-
-  pub other_unread : (c : Commit) → is_fetching c ≡ false → D c → (r : Request) → commit_asks w c ≡ Some r → (t : ℕ) → is_reading w t r ≡ false
-  other_unread (Fetching sets x) z d r e t = absurd (false_true z refl)
-  other_unread (Replacing sets p ps x y) z d r e t = ap (is_reading w t) (sym (some_is e)) ∙ sweep_unread p x t
-  other_unread (Reverting q qs x) z d r e t = ap (is_reading w t) (sym (some_is e)) ∙ elim (d q (inl refl)).2 [ inl y ↦ ap (is_reading w t) y | inr y ↦ ap (is_reading w t) y ]
-  other_unread (CommitOver end) z d r e t = absurd (none_some refl e)
-  other_unread _ z d r e t = ap (is_reading w t) (sym (some_is e))
 
   same_after : (missing : Option ℕ) (sets : Sets) (c : Commit) (r : Request) (o : Outcome) → (IsRead w c o → ⊥) → D c → IsAt w missing sets c → ArePicks w s.picks sets → ((t : ℕ) → after r o t ≡ s.picks t) → After missing c r o
   same_after missing sets c r o not_read d at agree same = record {
@@ -194,11 +154,7 @@ module _ (g : Setting) (j : IsLegal g.script) (k : Times) (s : Seen) (m : Told) 
       let is : set_request w.committer w (length x) ≡ r = some_is asked in
       let P : Request → Type 0 = λ q. z ≡ answer s.scene q → After missing (Fetching x y) q (Answered z) in
       subst P is (read_next x d (subst (ArePicks w s.picks) (sym at.1) agree) missing y at.0 z) honest
-  after_entry missing sets (Fetching x y) d at agree r asked Slow honest = same_after missing sets (Fetching x y) r Slow (λ i. i) d at agree (λ t. refl)
-  after_entry missing sets (Fetching x y) d at agree r asked RequestLost honest = same_after missing sets (Fetching x y) r RequestLost (λ i. i) d at agree (λ t. refl)
-  after_entry missing sets (Fetching x y) d at agree r asked ReplyLost honest = same_after missing sets (Fetching x y) r ReplyLost (λ i. i) d at agree (λ t. refl)
-  after_entry missing sets (Replacing x p ps y z) d at agree r asked o honest = same_after missing sets (Replacing x p ps y z) r o (λ i. i) d at agree (unread r (other_unread (Replacing x p ps y z) refl d r asked) o)
-  after_entry missing sets (Completing x y ys finished) d at agree r asked o honest = same_after missing sets (Completing x y ys finished) r o (λ i. i) d at agree (unread r (other_unread (Completing x y ys finished) refl d r asked) o)
-  after_entry missing sets (Marking x y) d at agree r asked o honest = same_after missing sets (Marking x y) r o (λ i. i) d at agree (unread r (other_unread (Marking x y) refl d r asked) o)
-  after_entry missing sets (Reverting q qs x) d at agree r asked o honest = same_after missing sets (Reverting q qs x) r o (λ i. i) d at agree (unread r (other_unread (Reverting q qs x) refl d r asked) o)
   after_entry missing sets (CommitOver end) d at agree r asked o honest = absurd (none_some refl asked)
+  after_entry missing sets (Fetching x y) d at agree r asked o honest = same_after missing sets (Fetching x y) r o (λ i. i) d at agree (λ t. refl)
+  after_entry missing sets c d at agree r asked o honest =
+      same_after missing sets c r o (λ i. i) d at agree (plain_picks w k s n r (commit_unread w g.minimum m c refl d r asked) o)

@@ -1,14 +1,15 @@
 -- Whose the entries of a run are.
-use Rattle.std.proofs.Common.{◌≡◌, ℕ, zero, suc, ◌<◌, ◌≤◌, ◌⊎◌, inl, inr, ◌||◌, Bool, true, false, cond, List, [], ◌∷◌, ◌++◌, length, slice_get, Option, Some, None, refl, sym, ap, subst, ◌∙◌, arith}
-use Rattle.job_facts.specs.Prelude.{filter, list_any, Content, after_all, Actor, Driver, Request, Outcome, Entry, Who, actor_of, Script, Known, Op, Setup, SetupOver, setup_asks, Commit, Setting, Operation, TheSetup, TheCommit, TheClean, who, asks, tells, start_of, WasPublished, is_begun, is_publishing, by_actor, until_last, AllBy, AllUpTo, is_own, own, same_actor, known, put_who, entry, driver_entry, strange_entry, Times, TheCheck, TheSparing, commit_of, step}
-use Rattle.job_spec.proofs.Common.{append-nil, take-append-le, filter-append, list_any-append, slice_get_within, some_is, none_some, false_true}
-use Rattle.s3_types.specs.Store.{opening as opening_scene}
+use Rattle.std.proofs.Common.{◌≡◌, ℕ, zero, suc, ◌≤◌, ◌⊎◌, inl, inr, ◌||◌, Bool, true, false, cond, List, [], ◌∷◌, ◌++◌, slice_get, Option, Some, None, refl, sym, ap, subst, ◌∙◌}
+use Rattle.job_facts.specs.Prelude.{filter, list_any, Content, Actor, Driver, Request, Outcome, Entry, Who, actor_of, Script, Known, Op, Setup, SetupOver, setup_asks, Setting, Operation, TheSetup, TheCommit, TheClean, who, asks, tells, start_of, is_begun, by_actor, until_last, AllBy, AllUpTo, is_own, own, same_actor, known, put_who, entry, driver_entry, strange_entry, Times, TheCheck, TheSparing, commit_of, step}
+use Rattle.job_spec.proofs.Common.{append-nil, filter-append, list_any-append, some_is, none_some, false_true}
 use Rattle.job_model.specs.declared.events.Op.TheVariants as ops
-use Rattle.job_traces.specs.Runs.{Stand, Runs, run_begins, driver_sends, attempt_sends, is_set, is_done, is_just_set, MaySetUp, IsTimely, commit_with, nothing_learnt, Beginning, BeginSetup, BeginCommit, BeginClean, BeginWrite, BeginPublish, BeginAbort, begin, MayBegin, actor_begins, strays}
+use Rattle.job_traces.specs.Runs.{Stand, Runs, attempt_sends, is_set, is_done, is_just_set, MaySetUp, IsTimely, commit_with, nothing_learnt, Beginning, BeginSetup, BeginCommit, BeginClean, BeginWrite, BeginPublish, BeginAbort, begin, MayBegin}
 use Rattle.job_facts.proofs.Whose.{same_or_another, who_true, who_false, who_here, who_other, or_false, or_true}
 use Rattle.job_outcomes.specs.RunEntries.{RunEntries}
+use Rattle.job_traces.proofs.Folds.{each_run}
 use Rattle.job_protocol.proofs.Begun.{after_check_so, commit_of_so, clean_of_so, commit_alone}
 use Rattle.job_protocol.specs.Rechecks.{check_after}
+use Rattle.job_traces.proofs.Published.{longer_published}
 
 -- ---- up to an actor's last entry
 
@@ -19,20 +20,24 @@ last_own a (x ∷ es) e h =
     let any : list_any (λ y. same_actor y.actor a) (x ∷ es ++ e ∷ []) ≡ true = list_any-append (λ y. same_actor y.actor a) (x ∷ es) (e ∷ []) ∙ ap (λ b. list_any (λ y. same_actor y.actor a) (x ∷ es) || (b || false)) h ∙ or_true _ in
     ap (λ b. cond b (x ∷ until_last a (es ++ e ∷ [])) []) any ∙ ap (λ l. x ∷ l) (last_own a es e h)
 
-last_other : (a : Actor) (es : List Entry) (e : Entry) → same_actor e.actor a ≡ false → until_last a (es ++ e ∷ []) ≡ until_last a es
-last_other a [] e h = ap (λ b. cond (b || false) (e ∷ []) []) h
-last_other a (x ∷ es) e h =
-    let any : list_any (λ y. same_actor y.actor a) (x ∷ es ++ e ∷ []) ≡ list_any (λ y. same_actor y.actor a) (x ∷ es) = list_any-append (λ y. same_actor y.actor a) (x ∷ es) (e ∷ []) ∙ ap (λ b. list_any (λ y. same_actor y.actor a) (x ∷ es) || (b || false)) h ∙ or_false _ in
-    ap (λ b. cond b (x ∷ until_last a (es ++ e ∷ [])) []) any ∙ ap (λ l. cond (list_any (λ y. same_actor y.actor a) (x ∷ es)) (x ∷ l) []) (last_other a es e h)
+pub last_other : (a : Actor) (es fs : List Entry) → list_any (λ y. same_actor y.actor a) fs ≡ false → until_last a (es ++ fs) ≡ until_last a es
+last_other a [] [] h = refl
+last_other a [] (f ∷ fs) h = ap (λ b. cond b (f ∷ until_last a fs) []) h
+last_other a (x ∷ es) fs h =
+    let any : list_any (λ y. same_actor y.actor a) (x ∷ es ++ fs) ≡ list_any (λ y. same_actor y.actor a) (x ∷ es) =
+    list_any-append (λ y. same_actor y.actor a) (x ∷ es) fs ∙ ap (λ b. list_any (λ y. same_actor y.actor a) (x ∷ es) || b) h ∙ or_false _ in
+    ap (λ b. cond b (x ∷ until_last a (es ++ fs)) []) any ∙ ap (λ l. cond (list_any (λ y. same_actor y.actor a) (x ∷ es)) (x ∷ l) []) (last_other a es fs h)
 
 -- others follow it
 pub behind_last : (a : Actor) (es : List Entry) → (more : List Entry) × (until_last a es ++ more ≡ es)
 behind_last a [] = ([], refl)
-behind_last a (e ∷ es) = by (list_any (λ x. same_actor x.actor a) (e ∷ es)) (behind_last a es)
-  where
-    by : (b : Bool) → (more : List Entry) × (until_last a es ++ more ≡ es) → (more : List Entry) × (cond b (e ∷ until_last a es) [] ++ more ≡ e ∷ es)
-    by true h = (h.0, ap (λ l. e ∷ l) h.1)
-    by false h = (e ∷ es, refl)
+behind_last a (e ∷ es) =
+    let old = behind_last a es in
+    elim (list_any (λ x. same_actor x.actor a) (e ∷ es)) as (λ b. (more : List Entry) × (cond b (e ∷ until_last a es) [] ++ more ≡ e ∷ es)) [ true ↦ (old.0, ap (λ l. e ∷ l) old.1) | false ↦ (e ∷ es, refl) ]
+
+pub all_more : (a : Actor) (es fs : List Entry) → AllBy a es → AllBy a fs → AllBy a (es ++ fs)
+all_more a [] fs h more = more
+all_more a (e ∷ es) fs h more = (h.0, all_more a es fs h.1 more)
 
 module _ (g : Setting) (k : Times) (opening : Content) where
   -- ---- the commit's entries
@@ -45,11 +50,6 @@ module _ (g : Setting) (k : Times) (opening : Content) where
   driver_more es n r o =
       ap (filter (λ e. is_begun k.commit e.event)) (filter-append (λ e. same_actor e.actor Driver) es (driver_entry n r o ∷ []))
       ∙ filter-append (λ e. is_begun k.commit e.event) (by_actor Driver es) (driver_entry n r o ∷ [])
-      ∙ ap (λ l. since_commit es ++ l) (by (is_begun k.commit n) refl)
-    where
-      by : (b : Bool) → is_begun k.commit n ≡ b → filter (λ e. is_begun k.commit e.event) (driver_entry n r o ∷ []) ≡ cond (is_begun k.commit n) (driver_entry n r o ∷ []) []
-      by true e = rw e refl
-      by false e = rw e refl
 
   other_more : (es : List Entry) (e : Entry) → same_actor e.actor Driver ≡ false → since_commit (es ++ e ∷ []) ≡ since_commit es
   other_more es e other =
@@ -86,18 +86,13 @@ module _ (g : Setting) (k : Times) (opening : Content) where
   other_stood None es commit e other h = other_more es e other ∙ h
   other_stood (Some (TheSetup t)) es commit e other h = other_more es e other ∙ h
   other_stood (Some (TheCommit c)) es commit e other h = λ alone. h alone ∙ sym (other_more es e other)
-  other_stood (Some (TheCheck t)) es commit e other h = h
-  other_stood (Some (TheClean t)) es commit e other h = tt
-  other_stood (Some (TheSparing t)) es commit e other h = tt
-  other_stood (Some _) es commit e other h = absurd h
+  other_stood _ es commit e other h = h
 
   driver_stood : (op : Operation) (es commit : List Entry) (n : ℕ) (r : Request) (o : Outcome) → IsTimely k n op → Stood (Some op) es commit → Stood (Some (tells g (who Driver) op o)) (es ++ driver_entry n r o ∷ []) (commit_with op commit (driver_entry n r o))
   driver_stood (TheSetup t) es commit n r o timely h = driver_more es n r o ∙ ap (λ b. since_commit es ++ cond b (driver_entry n r o ∷ []) []) timely.0 ∙ ap (λ l. l ++ []) h
   driver_stood (TheCommit c) es commit n r o timely h = λ alone. ap (λ l. l ++ driver_entry n r o ∷ []) (h alone) ∙ sym (driver_more es n r o ∙ ap (λ b. since_commit es ++ cond b (driver_entry n r o ∷ []) []) timely.0)
-  driver_stood (TheClean t) es commit n r o timely h = tt
-  driver_stood (TheSparing t) es commit n r o timely h = tt
   driver_stood (TheCheck t) es commit n r o timely h = after_check_so g (λ op. Stood (Some op) (es ++ driver_entry n r o ∷ []) commit) (λ alone. absurd (false_true alone h)) (λ u. h) (step g.script.retries (check_after g.script) t o)
-  driver_stood _ es commit n r o timely h = absurd h
+  driver_stood _ es commit n r o timely h = h
 
   begin_stood : (es : List Entry) (x : Stand) (b : Beginning) → MayBegin g x b → Stood x.driver es x.commit → Stood (begin g x b).driver es (begin g x b).commit
   begin_stood es x BeginSetup may h = may_so x es may h
@@ -110,31 +105,19 @@ module _ (g : Setting) (k : Times) (opening : Content) where
   begin_stood es x _ may h = h
 
   stood : (es : List Entry) (x : Stand) → Runs g k opening es x → Stood x.driver es x.commit
-  stood es x run_begins = refl
-  stood es x (actor_begins fs y b run may) = begin_stood fs y b may (stood fs y run)
-  stood es x (driver_sends fs y op n r o run d asked timely few honest) = driver_stood op fs y.commit n r o timely (subst (λ v. Stood v fs y.commit) d (stood fs y run))
-  stood es x (attempt_sends fs y a op n r o run set at asked honest) = other_stood y.driver fs y.commit (entry a n r o) refl (stood fs y run)
-  stood es x (strays fs y n r o run f) = other_stood y.driver fs y.commit (strange_entry n r o) refl (stood fs y run)
-
-  pub commit_entries : g.shared ≡ false → (es : List Entry) (x : Stand) → Runs g k opening es x → (c : Commit) → x.driver ≡ Some (TheCommit c) → x.commit ≡ since_commit es
-  commit_entries alone es x run c d = subst (λ v. Stood v es x.commit) d (stood es x run) alone
+  stood = each_run g k opening (λ es x. Stood x.driver es x.commit) refl (λ es x b run may h. begin_stood es x b may h)
+      (λ es x op n r o run d asked timely few honest h. driver_stood op es x.commit n r o timely (subst (λ v. Stood v es x.commit) d h))
+      (λ es x a op n r o run set at asked honest h. other_stood x.driver es x.commit (entry a n r o) refl h)
+      (λ es x n r o run f h. other_stood x.driver es x.commit (strange_entry n r o) refl h)
 
   -- ---- where no attempt has begun anything
-
-  all_more : (es : List Entry) (n : ℕ) (r : Request) (o : Outcome) → AllBy Driver es → AllBy Driver (es ++ driver_entry n r o ∷ [])
-  all_more [] n r o h = (refl, tt)
-  all_more (e ∷ es) n r o h = (h.0, all_more es n r o h.1)
 
   abbrev Alone : List Entry → Stand → Type 0
   Alone es x = AllBy Driver (own es) ⊎ ((a : Who) × (op : Operation) × (x.attempts a ≡ Some op))
 
-  driver_alone : (es : List Entry) (x : Stand) (n : ℕ) (r : Request) (o : Outcome) → Alone es x → Alone (es ++ driver_entry n r o ∷ []) x
-  driver_alone es x n r o (inl h) = inl (subst (AllBy Driver) (sym (filter-append (λ e. is_own e.actor) es (driver_entry n r o ∷ []))) (all_more (own es) n r o h))
-  driver_alone es x n r o (inr h) = inr h
-
-  strange_alone : (es : List Entry) (x : Stand) (n : ℕ) (r : Request) (o : Outcome) → Alone es x → Alone (es ++ strange_entry n r o ∷ []) x
-  strange_alone es x n r o (inl h) = inl (subst (AllBy Driver) (sym (filter-append (λ e. is_own e.actor) es (strange_entry n r o ∷ []) ∙ append-nil (own es))) h)
-  strange_alone es x n r o (inr h) = inr h
+  alone_more : (es : List Entry) (x : Stand) (e : Entry) → AllBy Driver (own (e ∷ [])) → Alone es x → Alone (es ++ e ∷ []) x
+  alone_more es x e one (inl h) = inl (subst (AllBy Driver) (sym (filter-append (λ e. is_own e.actor) es (e ∷ []))) (all_more Driver (own es) (own (e ∷ [])) h one))
+  alone_more es x e one (inr h) = inr h
 
   begin_alone : (es : List Entry) (x : Stand) (b : Beginning) → Alone es x → Alone es (begin g x b)
   begin_alone es x (BeginWrite a) h = inr (a, _, who_here x.attempts a (Some _) a refl)
@@ -143,18 +126,10 @@ module _ (g : Setting) (k : Times) (opening : Content) where
   begin_alone es x _ h = h
 
   alone : (es : List Entry) (x : Stand) → Runs g k opening es x → Alone es x
-  alone es x run_begins = inl tt
-  alone es x (actor_begins fs y b run may) = begin_alone fs y b (alone fs y run)
-  alone es x (driver_sends fs y op n r o run d asked timely few honest) = driver_alone fs y n r o (alone fs y run)
-  alone es x (attempt_sends fs y a op n r o run set at asked honest) = inr (a, _, who_here y.attempts a (Some _) a refl)
-  alone es x (strays fs y n r o run f) = strange_alone fs y n r o (alone fs y run)
-
-  pub all_alone : (es : List Entry) (x : Stand) → Runs g k opening es x → ((a : Who) → x.attempts a ≡ None) → AllBy Driver (own es)
-  all_alone es x run none = by (alone es x run)
-    where
-      by : Alone es x → AllBy Driver (own es)
-      by (inl h) = h
-      by (inr h) = absurd (none_some (none h.0) h.2)
+  alone =
+      each_run g k opening Alone (inl tt) (λ es x b run may h. begin_alone es x b h)
+      (λ es x op n r o run d asked timely few honest h. alone_more es x (driver_entry n r o) (refl, tt) h)
+      (λ es x a op n r o run set at asked honest h. inr (a, _, who_here x.attempts a (Some _) a refl)) (λ es x n r o run f h. alone_more es x (strange_entry n r o) tt h)
 
   -- ---- until the set-up is done
 
@@ -175,16 +150,12 @@ module _ (g : Setting) (k : Times) (opening : Content) where
   none_begin x BeginSetup (inr just) old e = just.1
   none_begin x (BeginCommit reports) may old e = absurd (false_true e (commit_of_so g (λ op. is_set (Some op) ≡ true) (λ missing. refl) (λ t. refl) reports))
   none_begin x BeginClean may old e = absurd (false_true e (clean_of_so g (λ op. is_set (Some op) ≡ true) refl refl))
-  none_begin x (BeginWrite a) may old e = absurd (false_true e may.0)
-  none_begin x (BeginPublish a) may old e = absurd (false_true e may.0)
-  none_begin x (BeginAbort a) may old e = absurd (false_true e may.0)
+  none_begin x b may old e = absurd (false_true e may.0)
 
   none_begun : (es : List Entry) (x : Stand) → Runs g k opening es x → is_set x.driver ≡ false → (a : Who) → x.attempts a ≡ None
-  none_begun es x run_begins e b = refl
-  none_begun es x (actor_begins fs y v run may) e b = none_begin y v may (none_begun fs y run) e b
-  none_begun es x (driver_sends fs y op n r o run d asked timely few honest) e b = none_begun fs y run (ap is_set d ∙ was_unset op r o asked e) b
-  none_begun es x (attempt_sends fs y a op n r o run set at asked honest) e b = absurd (false_true e set)
-  none_begun es x (strays fs y n r o run f) e b = none_begun fs y run e b
+  none_begun = each_run g k opening (λ es x. is_set x.driver ≡ false → (a : Who) → x.attempts a ≡ None) (λ e b. refl) (λ es x v run may h e b. none_begin x v may h e b)
+      (λ es x op n r o run d asked timely few honest h e b. h (ap is_set d ∙ was_unset op r o asked e) b)
+      (λ es x a op n r o run set at asked honest h e b. absurd (false_true e set)) (λ es x n r o run f h. h)
 
   -- ---- up to an attempt's last entry
 
@@ -205,48 +176,28 @@ module _ (g : Setting) (k : Times) (opening : Content) where
     begun_at y _ at = at
 
     pub at_last : (es : List Entry) (x : Stand) → Runs g k opening es x → x.attempts a ≡ Some op → At a op x.told.cleans_at (until_last (actor_of a) es)
-    at_last es x run_begins at = absurd (none_some refl at)
-    at_last es x (actor_begins fs y b run may) at = at_last fs y run (begun_at y b at)
-    at_last es x (driver_sends fs y d n r o run is asked timely few honest) at = subst (At a op y.told.cleans_at) (sym (last_other (actor_of a) fs (driver_entry n r o) refl)) (at_last fs y run at)
-    at_last es x (attempt_sends fs y b m n r o run set is asked honest) at = elim (same_or_another b a) [
-      | inl same ↦ subst (At a op y.told.cleans_at) (sym (last_own (actor_of a) fs (entry b n r o) (who_true b a same))) (x, attempt_sends fs y b m n r o run set is asked honest, refl, at)
-      | inr ne ↦ subst (At a op y.told.cleans_at) (sym (last_other (actor_of a) fs (entry b n r o) (who_false b a ne))) (at_last fs y run (sym (who_other y.attempts b _ a (λ e. ne (sym e))) ∙ at))
-    ]
-    at_last es x (strays fs y n r o run f) at = subst (At a op y.told.cleans_at) (sym (last_other (actor_of a) fs (strange_entry n r o) refl)) (at_last fs y run at)
+    at_last =
+        each_run g k opening (λ es x. x.attempts a ≡ Some op → At a op x.told.cleans_at (until_last (actor_of a) es)) (λ at. absurd (none_some refl at))
+        (λ es x b run may h at. h (begun_at x b at))
+        (λ es x d n r o run is asked timely few honest h at. subst (At a op x.told.cleans_at) (sym (last_other (actor_of a) es (driver_entry n r o ∷ []) refl)) (h at))
+        (λ es x b m n r o run set is asked honest h at. elim (same_or_another b a) [
+          | inl same ↦ subst (At a op x.told.cleans_at) (sym (last_own (actor_of a) es (entry b n r o) (who_true b a same))) (_, attempt_sends es x b m n r o run set is asked honest, refl, at)
+          | inr ne ↦ subst (At a op x.told.cleans_at) (sym (last_other (actor_of a) es (entry b n r o ∷ []) (ap (λ c. c || false) (who_false b a ne)))) (h (sym (who_other x.attempts b _ a (λ e. ne (sym e))) ∙ at))
+        ])
+        (λ es x n r o run f h at. subst (At a op x.told.cleans_at) (sym (last_other (actor_of a) es (strange_entry n r o ∷ []) refl)) (h at))
 
 -- ---- what was published
-
-get_more : (es more : List Entry) (m : ℕ) (e : Entry) → slice_get es m ≡ Some e → slice_get (es ++ more) m ≡ Some e
-get_more [] more m e h = absurd (none_some refl h)
-get_more (x ∷ es) more zero e h = h
-get_more (x ∷ es) more (suc m) e h = get_more es more m e h
 
 up_to : (i : ℕ) (es : List Entry) (m : ℕ) (e : Entry) → AllUpTo i es → slice_get es m ≡ Some e → e.event ≤ i
 up_to i [] m e h s = absurd (none_some refl s)
 up_to i (x ∷ es) zero e h s = subst (λ (v : Entry). v.event ≤ i) (some_is s) h.0
 up_to i (x ∷ es) (suc m) e h s = up_to i es m e h.1 s
 
-pub longer_published : (w : Script) (opening : Content) (es more : List Entry) (t a n i : ℕ) (h : WasPublished w opening es t a n) → h.entry.event ≤ i → WasPublished w opening (es ++ more) t a i
-longer_published w opening es more t a n i h until =
-    let low : h.m < length es = slice_get_within es h.m h.entry h.is_entry in
-    record {
-      m = h.m;
-      entry = h.entry;
-      is_entry = get_more es more h.m h.entry h.is_entry;
-      by = h.by;
-      until = until;
-      effective = h.effective;
-      publishes = ap (λ l. is_publishing w (after_all (opening_scene opening) l) t h.entry.request) (take-append-le h.m es more (omega arith)) ∙ h.publishes;
-    }
-
-still_published : (w : Script) (opening : Content) (es more : List Entry) (t a n i : ℕ) → WasPublished w opening es t a n → AllUpTo i es → WasPublished w opening (es ++ more) t a i
-still_published w opening es more t a n i h all = longer_published w opening es more t a n i h (up_to i es h.m h.entry all h.is_entry)
-
 pub run_entries : RunEntries
 run_entries = record {
-  commit = λ g single k opening es x run c d. commit_entries g k opening single es x run c d;
-  alone = λ g k opening es x run none. all_alone g k opening es x run none;
+  commit = λ g single k opening es x run c d. subst (λ v. Stood g k opening v es x.commit) d (stood g k opening es x run) single;
+  alone = λ g k opening es x run none. elim (alone g k opening es x run) [ inl h ↦ h | inr h ↦ absurd (none_some (none h.0) h.2) ];
   setup = λ g k opening es x run t d e. none_begun g k opening es x run (ap is_set d ∙ e);
   last = λ g k opening es x run a op at late. at_last g k opening a op late es x run at;
-  published = still_published;
+  published = λ w opening es more t a n i h all. longer_published w opening es more t a n i h (up_to i es h.m h.entry all h.is_entry);
 }

@@ -1,6 +1,6 @@
 -- What the driver's commit is answered in every run: a completion finds no upload only where an earlier sending of it was lost, and a read of a set finds it where its task has a last publisher.
-use Rattle.std.proofs.Common.{◌≡◌, ℕ, nat_lt, ◌≤◌, ◌^◌, ◌⊎◌, inl, inr, ◌&&◌, ◌||◌, Bool, true, false, cond, List, [], ◌∷◌, ◌++◌, length, Option, Some, None, IsSome, is_some, refl, sym, ap, subst, ◌∙◌}
-use Rattle.job_facts.specs.Prelude.{list_any, named_from, Content, live, with_key, joined, answer, complete_answer, IsHonestOutcome, Driver, Shell, Request, Refusal, NoSuchUpload, Reply, Refused, Outcome, Answered, Slow, Entry, Pending, PendingSet, Who, actor_of, IsLegal, Script, CommitEnd, same_path, Sweep, Listing, sweep_hears, Turn, again, follow, dealt, nth, completion, revert, In, Tabled, Sets, picks_of, all_commits, set_request, set_read, Commit, Fetching, Replacing, Completing, Marking, Reverting, CommitOver, is_no_magic, completing, replaced, replacing, decided, fetching, fetched, swept, reverting, worn_completion, commit_start, commit_asks, commit_hears, commit_misses, commit_tells, stage_of, Setting, Operation, TheSetup, TheWrite, TheTaskCommit, TheTaskAbort, TheCommit, TheClean, who, asks, tells, was_lost, Seen, is_reading, Told, entry, driver_entry, strange_entry, Hold, Gone, Reads, Times, TheCheck, is_begun, step, TheSparing}
+use Rattle.std.proofs.Common.{◌≡◌, ℕ, ◌≤◌, ◌^◌, ◌⊎◌, inl, inr, ◌&&◌, ◌||◌, true, false, List, [], ◌∷◌, ◌++◌, length, Option, Some, None, IsSome, is_some, refl, sym, ap, subst, ◌∙◌}
+use Rattle.job_facts.specs.Prelude.{list_any, named_from, Content, live, with_key, joined, answer, complete_answer, IsHonestOutcome, Driver, Request, Refusal, NoSuchUpload, Reply, Refused, Outcome, Answered, Entry, Pending, IsLegal, Script, Listing, Turn, again, follow, dealt, nth, completion, In, Tabled, Sets, all_commits, set_request, set_read, Commit, Fetching, Replacing, Completing, Reverting, CommitOver, commit_start, commit_asks, stage_of, Setting, Operation, TheSetup, TheCommit, TheClean, who, asks, was_lost, Seen, is_reading, Told, entry, driver_entry, strange_entry, Hold, Gone, Reads, Times, TheCheck, is_begun, step, TheSparing}
 use Rattle.job_spec.proofs.Common.{list_any-append, same_self, some_is, none_some, false_true, true_or_false}
 use Rattle.job_spec.specs.Prelude.{same_request}
 use Rattle.job_model.specs.declared.ends.Stage.TheVariants as stages
@@ -9,19 +9,21 @@ use Rattle.job_protocol.proofs.Members.{in_append, in_push}
 use Rattle.job_protocol.proofs.Tables.{dealt_fresh, follow_cases}
 use Rattle.job_spec.specs.OperationEnds.{is_lost}
 use Rattle.job_facts.specs.Turning.{Turns}
-use Rattle.job_traces.specs.Runs.{Stand, Runs, run_begins, actor_begins, driver_sends, attempt_sends, strays, Beginning, BeginSetup, BeginCommit, BeginClean, begin, IsOpening, is_set, IsTimely, nothing_learnt, with_commit, with_driver, commit_with, saw}
+use Rattle.job_traces.specs.Runs.{Stand, Runs, Beginning, BeginSetup, BeginCommit, BeginClean, begin, IsOpening, IsTimely, nothing_learnt}
 use Rattle.job_facts.proofs.Whose.{or_true}
 use Rattle.job_facts.proofs.Held.{nth_of, of_sets}
 use Rattle.job_facts.proofs.Replies.{completed}
 use Rattle.job_facts.proofs.Shapes.{id_before, answer_is}
 use Rattle.job_facts.proofs.Turning.{turn_answered}
 use Rattle.job_facts.proofs.Reading.{reads_it}
-use Rattle.job_traces.proofs.Entries.{late_now, sees}
+use Rattle.job_traces.proofs.Entries.{in_commit, sees}
 use Rattle.job_traces.proofs.Steps.{commit_picks}
-use Rattle.job_traces.proofs.Running.{At, InCommit}
+use Rattle.job_traces.proofs.Leads.{Enters, deals, enters, Leads, fetches, deals_then, completes, completes_again, leads}
+use Rattle.job_traces.proofs.Plain.{setup_plain, clean_plain, commit_unread}
+use Rattle.job_traces.proofs.Folds.{DriverKeeps, each_run, commit_is}
 use Rattle.job_outcomes.specs.CommitRuns.{ArePicks, Unpublished, CommitAnswers}
-use Rattle.job_outcomes.proofs.Picks.{other_unread, brings}
-use Rattle.job_outcomes.proofs.CommitRuns.{commit_is, stood, setup_reads, clean_reads}
+use Rattle.job_outcomes.proofs.Picks.{brings}
+use Rattle.job_outcomes.proofs.CommitRuns.{stood}
 use Rattle.job_outcomes.proofs.CommitMoments.{no_driver}
 use Rattle.job_protocol.proofs.Begun.{after_check_so, commit_of_so, clean_of_so}
 use Rattle.job_protocol.specs.Rechecks.{check_after}
@@ -67,94 +69,42 @@ Lost es (Completing sets x xs finished) = TurnsLost es sets (x ∷ xs)
 Lost es _ = Unit {0}
 
 module _ (w : Script) (es : List Entry) where
-  lost_completing : (sets : Sets) (xs : List Turn) (finished : List ℕ) → TurnsLost es sets xs → Lost es (completing sets xs finished)
-  lost_completing sets [] finished h = tt
-  lost_completing sets (x ∷ xs) finished h = h
+  lost_dealt : (sets : Sets) (xs : List Turn) → xs ≡ dealt w.lanes (length (all_commits sets)) → TurnsLost es sets xs
+  lost_dealt sets xs q x i l = absurd (false_true (dealt_fresh w.lanes (length (all_commits sets)) x (subst (In x) q i)).1 l)
 
-  lost_reverting : (rs : List Request) → Lost es (reverting rs)
-  lost_reverting [] = tt
-  lost_reverting (r ∷ rs) = tt
-
-  lost_either : (b : Bool) (c d : Commit) → Lost es c → Lost es d → Lost es (cond b c d)
-  lost_either true c d h g = h
-  lost_either false c d h g = g
-
-  lost_replacing : (sets : Sets) (ps : List (List ℕ)) → Lost es (replacing w sets ps)
-  lost_replacing sets [] = lost_completing sets (dealt w.lanes (length (all_commits sets))) [] (λ x i e. absurd (false_true (dealt_fresh w.lanes (length (all_commits sets)) x i).1 e))
-  lost_replacing sets (p ∷ ps) = tt
-
-  lost_decided : (sets : Sets) (o : Option CommitEnd) → Lost es (decided w sets o)
-  lost_decided sets (Some end) = tt
-  lost_decided sets None = lost_replacing sets (replaced w.committer w.mode w (picks_of sets))
-
-  lost_fetching : (sets : Sets) → Lost es (fetching w sets)
-  lost_fetching sets = lost_either (nat_lt (length sets) w.tasks) (Fetching sets 0) (decided w sets (same_path w (picks_of sets))) tt (lost_decided sets (same_path w (picks_of sets)))
-
-  lost_fetched : (sets : Sets) (o : Option PendingSet) → Lost es (fetched w sets o)
-  lost_fetched sets (Some s) = lost_fetching (sets ++ s ∷ [])
-  lost_fetched sets None = tt
-
-  lost_swept : (sets : Sets) (p : List ℕ) (ps : List (List ℕ)) (o : Option Sweep) → Lost es (swept w sets p ps o)
-  lost_swept sets p ps (Some s) = tt
-  lost_swept sets p ps None = lost_replacing sets ps
+  lost_enters : (sets : Sets) {d : Commit} → Enters w sets d → Lost es d
+  lost_enters sets (deals {x = x} {xs = xs} e q) = lost_dealt sets (x ∷ xs) q
+  lost_enters sets _ = tt
 
   lost_start : (missing : Option ℕ) → Lost es (commit_start w missing)
   lost_start (Some t) = tt
-  lost_start None = lost_fetching []
-
--- the lane's next upload was not sent
-follow_fresh : (lanes total n : ℕ) (y : Turn) → In y (follow lanes total n) → y.lost ≡ false
-follow_fresh lanes total n y i = elim (follow_cases lanes total n) [
-  | inl h ↦ elim (subst (In y) h.1 i) [ inl e ↦ sym (ap (λ (v : Turn). v.lost) e) | inr none ↦ absurd none ]
-  | inr h ↦ absurd (subst (In y) h.1 i)
-]
+  lost_start None = lost_enters [] (enters w [])
 
 module _ (w : Script) (es : List Entry) (e : Entry) where
   abbrev now : List Entry
   now = es ++ e ∷ []
 
-  lost_heard : (c : Commit) (x : Reply) → Lost es c → Lost now (commit_hears w c x)
-  lost_heard (Fetching sets n) x h = lost_fetched w now sets (set_read x)
-  lost_heard (Replacing sets p ps s n) x h = lost_swept w now sets p ps (sweep_hears (is_no_magic w) s x)
-  lost_heard (Completing sets y ys finished) x h = lost_completing w now sets (ys ++ follow w.lanes (length (all_commits sets)) y.number) (y.number ∷ finished) (λ z i l.
-      elim (in_append z ys (follow w.lanes (length (all_commits sets)) y.number) i) [
-        | inl old ↦ lost_before (completion (nth (all_commits sets) z.number)) es e (h z (inr old) l)
-        | inr new ↦ absurd (false_true (follow_fresh w.lanes (length (all_commits sets)) y.number z new) l)
-      ])
-  lost_heard (Reverting q qs n) x h = lost_reverting w now qs
-  lost_heard _ x h = tt
-
-  lost_missed : (c : Commit) (lost : Bool) → commit_asks w c ≡ Some e.request → (lost ≡ true → is_lost e.outcome ≡ true) → Lost es c → Lost now (commit_misses w c lost)
-  lost_missed (Fetching sets n) lost asked so h = lost_either w now (nat_lt n w.retries) _ _ tt tt
-  lost_missed (Replacing sets p ps s n) lost asked so h = lost_either w now (nat_lt n w.retries) _ _ tt tt
-  lost_missed (Completing sets y ys finished) lost asked so h =
-      lost_either w now (nat_lt y.missed w.retries) (completing sets (ys ++ again y lost ∷ []) finished) (worn_completion sets y ys finished)
-      (lost_completing w now sets (ys ++ again y lost ∷ []) finished (λ z i l. elim (in_push z ys (again y lost) i) [
-        | inl old ↦ lost_before (completion (nth (all_commits sets) z.number)) es e (h z (inr old) l)
-        | inr is ↦
-            subst (λ (v : Turn). was_lost (completion (nth (all_commits sets) v.number)) now ≡ true) is (by y.lost lost refl refl (ap (λ (v : Turn). v.lost) is ∙ l))
-      ]))
-      (lost_reverting w now (revert (all_commits sets) y.number ys finished))
-    where
-      by : (a b : Bool) → y.lost ≡ a → lost ≡ b → (a || b) ≡ true → was_lost (completion (nth (all_commits sets) y.number)) now ≡ true
-      by true b p q l = lost_before (completion (nth (all_commits sets) y.number)) es e (h y (inl refl) p)
-      by false b p q l = lost_here (completion (nth (all_commits sets) y.number)) es e (some_is asked) (so (q ∙ l))
-  lost_missed (Marking sets n) lost asked so h = lost_either w now (nat_lt n w.retries) _ _ tt tt
-  lost_missed (Reverting q qs n) lost asked so h = lost_either w now (nat_lt n w.retries) _ _ tt (lost_reverting w now qs)
-  lost_missed (CommitOver end) lost asked so h = tt
-
-  lost_tells : (c : Commit) → commit_asks w c ≡ Some e.request → Lost es c → Lost now (commit_tells w c e.outcome)
-  lost_tells c asked h = by e.outcome refl
-    where
-      by : (o : Outcome) → e.outcome ≡ o → Lost now (commit_tells w c o)
-      by (Answered x) is = lost_heard c x h
-      by Slow is = lost_missed c false asked (λ l. absurd (false_true refl l)) h
-      by _ is = lost_missed c true asked (λ l. ap is_lost is) h
+  lost_leads : {c d : Commit} {o : Outcome} → Leads w c o d → e.outcome ≡ o → commit_asks w c ≡ Some e.request → Lost es c → Lost now d
+  lost_leads (fetches {sets = sets} y i n) is asked h = lost_enters w now (sets ++ y ∷ []) n
+  lost_leads (deals_then {sets = sets} {y = y} {ys = ys} i q) is asked h = lost_dealt w now sets (y ∷ ys) q
+  lost_leads (completes {sets = sets} {x = y} {xs = ys} q) is asked h = λ z i l. elim (in_append z ys (follow w.lanes (length (all_commits sets)) y.number) (subst (In z) q i)) [
+    | inl old ↦ lost_before (completion (nth (all_commits sets) z.number)) es e (h z (inr old) l)
+    -- the lane's next upload was not sent
+    | inr new ↦ elim (follow_cases w.lanes (length (all_commits sets)) y.number) [
+      | inl h ↦ elim (subst (In z) h.1 new) [ inl q ↦ absurd (false_true (sym (ap (λ (v : Turn). v.lost) q)) l) | inr none ↦ absurd none ]
+      | inr h ↦ absurd (subst (In z) h.1 new)
+    ]
+  ]
+  lost_leads (completes_again {sets = sets} {x = y} {xs = ys} {o = o} q) is asked h = λ z i l. elim (in_push z ys (again y (is_lost o)) (subst (In z) q i)) [
+    | inl old ↦ lost_before (completion (nth (all_commits sets) z.number)) es e (h z (inr old) l)
+    | inr new ↦ subst (λ (v : Turn). was_lost (completion (nth (all_commits sets) v.number)) now ≡ true) new (elim (true_or_false y.lost) [
+      | inl old ↦ lost_before (completion (nth (all_commits sets) y.number)) es e (h y (inl refl) old)
+      | inr kept ↦ lost_here (completion (nth (all_commits sets) y.number)) es e (some_is asked) (ap is_lost is ∙ sym (ap (λ b. b || is_lost o) kept) ∙ ap (λ (v : Turn). v.lost) new ∙ l)
+    ])
+  ]
+  lost_leads _ is asked h = tt
 
 -- ---- an answer to a completion
-
-no_upload : {why : Refusal} → Refused NoSuchUpload ≡ Refused why → why ≡ NoSuchUpload
-no_upload e = cc
 
 module _ (w : Script) (minimum : ℕ) (s : Seen) (m : Told) (j : IsLegal w) (h : Hold w minimum s m) (gone : Gone w s.scene.content m) where
   -- a refused one found no upload, and a sending of it was lost
@@ -171,7 +121,8 @@ module _ (w : Script) (minimum : ℕ) (s : Seen) (m : Told) (j : IsLegal w) (h :
         elim (true_or_false (m.ended p.upload)) [
           | inl ended ↦
               let none : live h.there.0.uploads p.destination p.upload ≡ None = ap (with_key p.destination) (sym (id_before w s.scene h.there.0 h.there.1 p.upload) ∙ (gone p.upload ended).1) in
-              (no_upload (sym (e ∙ due ∙ ap (λ o. complete_answer ps (joined o ps s.scene.content.minimum)) none)), lost)
+              let is : Refused why ≡ Refused NoSuchUpload = e ∙ due ∙ ap (λ o. complete_answer ps (joined o ps s.scene.content.minimum)) none in
+              (cc, lost)
           | inr mine ↦
               let open_one : m.ended v.written.drawn.upload ≡ false = ap m.ended (sym (ap (λ (z : Pending). z.upload) v.is)) ∙ mine in
               let no = e ∙ ap (λ (z : Pending). answer s.scene (completion z)) v.is ∙ completed j h v.by v.file v.mine v.written open_one (h.kept v.by v.has_sent) in
@@ -181,20 +132,9 @@ module _ (w : Script) (minimum : ℕ) (s : Seen) (m : Told) (j : IsLegal w) (h :
 
 -- ---- every run
 
-no_complete : stages.Read ≡ stages.Complete → ⊥
-no_complete e = cc
-
 module _ (g : Setting) (k : Times) (opening : Content) (j : IsLegal g.script) (is_opening : IsOpening g opening) where
   abbrev w : Script
   w = g.script
-
-  -- what is known while the commit goes on
-  pub in_commit : (es : List Entry) (x : Stand) → Runs g k opening es x → (c : Commit) → x.driver ≡ Some (TheCommit c)
-      → Hold w g.minimum x.seen x.told × Gone w x.seen.scene.content x.told × InCommit g opening x.seen.picks x.told c
-  in_commit es x run c d =
-      let l = late_now g k opening j is_opening es x run (ap is_set d) in
-      let i : InCommit g opening x.seen.picks x.told c = subst (λ v. At g opening v x.seen x.told) d l.driver in
-      (l.hold, l.gone i.uncleaned, i)
 
   -- ---- completions
 
@@ -204,14 +144,15 @@ module _ (g : Setting) (k : Times) (opening : Content) (j : IsLegal g.script) (i
   refused_next : (es : List Entry) (x : Stand) → Runs g k opening es x → (c : Commit) → x.driver ≡ Some (TheCommit c) → Lost x.commit c → (n : ℕ) (r : Request) (o : Outcome) → commit_asks w c ≡ Some r → IsHonestOutcome o (answer x.seen.scene r)
       → IsRefusedLost x.commit (driver_entry n r o)
   refused_next es x run (Completing sets y ys finished) d lost n r o asked honest why stage got =
-      let i = in_commit es x run (Completing sets y ys finished) d in
+      let i = in_commit g k opening j is_opening es x run (Completing sets y ys finished) d in
       let due : Refused why ≡ answer x.seen.scene r = subst (λ v. IsHonestOutcome v (answer x.seen.scene r)) got honest in
       let z = refused_lost w g.minimum x.seen x.told j i.0 i.1 sets y ys finished i.2.fits i.2.tabled i.2.turns why (due ∙ ap (answer x.seen.scene) (sym (some_is asked))) in
       (z.0, subst (λ q. was_lost q x.commit ≡ true) (some_is asked) (lost y (inl refl) z.1))
-  refused_next es x run (Fetching sets i) d lost n r o asked honest why stage got = absurd (no_complete (sym (read_stage w.committer w (length sets)) ∙ ap stage_of (some_is asked) ∙ stage))
+  refused_next es x run (Fetching sets i) d lost n r o asked honest why stage got =
+      let no = sym (read_stage w.committer w (length sets)) ∙ ap stage_of (some_is asked) ∙ stage in absurd cc
   refused_next es x run (Replacing sets p ps (Listing keys) i) d lost n r o asked honest why stage got = let no = ap stage_of (some_is asked) ∙ stage in absurd cc
   refused_next es x run (Reverting q qs i) d lost n r o asked honest why stage got =
-      let z = (in_commit es x run (Reverting q qs i) d).2.decides q (inl refl) in
+      let z = (in_commit g k opening j is_opening es x run (Reverting q qs i) d).2.decides q (inl refl) in
       let is = ap stage_of (some_is asked) ∙ stage in
       elim z.2 [ inl y ↦ let no = sym (ap stage_of y) ∙ is in absurd cc | inr y ↦ let no = sym (ap stage_of y) ∙ is in absurd cc ]
   refused_next es x run (CommitOver end) d lost n r o asked honest why stage got = absurd (none_some refl asked)
@@ -220,18 +161,17 @@ module _ (g : Setting) (k : Times) (opening : Content) (j : IsLegal g.script) (i
   abbrev Answers : Stand → Type 0
   Answers x = (c : Commit) → x.driver ≡ Some (TheCommit c) → Lost x.commit c × Each IsRefusedLost x.commit
 
-  driver_answers : (es : List Entry) (x : Stand) → Runs g k opening es x → Answers x → (op : Operation) (n : ℕ) (r : Request) (o : Outcome) → x.driver ≡ Some op → asks g (who Driver) nothing_learnt op ≡ Some r → IsHonestOutcome o (answer x.seen.scene r)
-      → Answers (with_commit (with_driver (saw g k x (driver_entry n r o)) (tells g (who Driver) op o)) (commit_with op x.commit (driver_entry n r o)))
-  driver_answers es x run old (TheCommit c) n r o d asked honest v e =
+  driver_answers : DriverKeeps g k opening (λ es x. Answers x)
+  driver_answers es x (TheCommit c) n r o run d asked timely few honest old v e =
       let h = old c d in (
-        subst (Lost (x.commit ++ driver_entry n r o ∷ [])) (commit_is e) (lost_tells w x.commit (driver_entry n r o) c asked h.0),
+        subst (Lost (x.commit ++ driver_entry n r o ∷ [])) (commit_is e) (lost_leads w x.commit (driver_entry n r o) (leads w c o) refl asked h.0),
         each_more IsRefusedLost x.commit (driver_entry n r o) h.1 (refused_next es x run c d h.0 n r o asked honest),
       )
-  driver_answers es x run old (TheCheck t) n r o d asked honest v e =
+  driver_answers es x (TheCheck t) n r o run d asked timely few honest old v e =
       let unsent = check_unsent g k opening j is_opening es x run t d in
       after_check_so g (λ op. Some op ≡ Some (TheCommit v) → Lost x.commit v × Each IsRefusedLost x.commit)
       (λ e. subst (λ l. Lost l v × Each IsRefusedLost l) (sym unsent) (subst (Lost []) (commit_is e) (lost_start w [] None), λ before z later q. absurd (no_member before z later q))) (λ u e. absurd cc) (step w.retries (check_after w) t o) e
-  driver_answers es x run old _ n r o d asked honest v e = absurd cc
+  driver_answers es x _ n r o run d asked timely few honest old v e = absurd cc
 
   begin_answers : (x : Stand) (b : Beginning) → Answers x → Answers (begin g x b)
   begin_answers x (BeginCommit reports) old c e = commit_of_so g (λ op. Some op ≡ Some (TheCommit c) → Lost [] c × Each IsRefusedLost []) (λ missing e. (subst (Lost []) (commit_is e) (lost_start w [] missing), λ before z later q. absurd (no_member before z later q))) (λ t e. absurd cc) reports e
@@ -240,52 +180,43 @@ module _ (g : Setting) (k : Times) (opening : Content) (j : IsLegal g.script) (i
   begin_answers x _ old c e = old c e
 
   pub answers : (es : List Entry) (x : Stand) → Runs g k opening es x → Answers x
-  answers es x run_begins c e = absurd (none_some refl e)
-  answers es x (actor_begins fs y b run may) c e = begin_answers y b (answers fs y run) c e
-  answers es x (driver_sends fs y op n r o run d asked timely few honest) c e = driver_answers fs y run (answers fs y run) op n r o d asked honest c e
-  answers es x (attempt_sends fs y a op n r o run set at asked honest) c e = answers fs y run c e
-  answers es x (strays fs y n r o run f) c e = answers fs y run c e
+  answers =
+      each_run g k opening (λ es x. Answers x) (λ c e. absurd (none_some refl e)) (λ es x b run may h. begin_answers x b h) driver_answers
+      (λ es x a op n r o run set at asked honest h. h) (λ es x n r o run f h. h)
 
   -- ---- reads
 
   abbrev IsThere : List Entry → Entry → Type 0
   IsThere before e = e.actor ≡ Driver → is_begun k.clean e.event ≡ false → (t : ℕ) (y : Reply) → e.request ≡ set_request w.committer w t → e.outcome ≡ Answered y → IsSome (set_read y) ⊎ Unpublished w k opening before
 
-  commit_there : (fs : List Entry) (x : Stand) → Runs g k opening fs x → (c : Commit) (n : ℕ) (r : Request) (o : Outcome) → x.driver ≡ Some (TheCommit c) → commit_asks w c ≡ Some r → IsTimely k n (TheCommit c) → x.seen.scene.content.next ≤ 2 ^ 64 → IsHonestOutcome o (answer x.seen.scene r) → IsThere fs (driver_entry n r o)
-  commit_there fs x run (Fetching sets i) n r o d asked timely few honest by still t y is got =
-      let v = in_commit fs x run (Fetching sets i) d in
+  driver_there : (fs : List Entry) (x : Stand) → Runs g k opening fs x → (op : Operation) (n : ℕ) (r : Request) (o : Outcome) → x.driver ≡ Some op
+      → asks g (who Driver) nothing_learnt op ≡ Some r → IsTimely k n op
+      → x.seen.scene.content.next ≤ 2 ^ 64 → IsHonestOutcome o (answer x.seen.scene r) → IsThere fs (driver_entry n r o)
+  driver_there fs x run (TheCommit (Fetching sets i)) n r o d asked timely few honest by still t y is got =
+      let v = in_commit g k opening j is_opening fs x run (Fetching sets i) d in
       let st = stood g j k opening is_opening fs x run (Fetching sets i) d in
-      let due : y ≡ answer x.seen.scene (set_request w.committer w (length sets)) = subst (λ u. IsHonestOutcome u (answer x.seen.scene r)) got honest ∙ ap (answer x.seen.scene) (sym (some_is asked)) in
+      let due : y ≡ answer x.seen.scene (set_request w.committer w (length sets)) =
+      subst (λ u. IsHonestOutcome u (answer x.seen.scene r)) got honest ∙ ap (answer x.seen.scene) (sym (some_is asked)) in
       elim (brings g j k x.seen x.told v.0 v.2.uncleaned few n (commit_picks k x.seen.begun n timely.0 timely.1) sets v.2.fits.0 (subst (ArePicks w x.seen.picks) (sym st.at.1) st.picks)) [
         | inl none ↦ inr (length sets, v.2.fits.0, ap (λ (s : Seen). s.last (length sets)) (sym (sees g k opening j is_opening fs x run)) ∙ none.1)
         | inr z ↦ inl (ap is_some (ap set_read due ∙ z.1))
       ]
-  commit_there fs x run c n r o d asked timely few honest by still t y is got =
-      let v = in_commit fs x run c d in
-      absurd (false_true (other_unread g j k x.seen x.told v.0 v.2.uncleaned few n (commit_picks k x.seen.begun n timely.0 timely.1) c refl v.2.decides r asked t) (ap (is_reading w t) is ∙ reads_it j t))
-
-  driver_there : (fs : List Entry) (x : Stand) → Runs g k opening fs x → (op : Operation) (n : ℕ) (r : Request) (o : Outcome) → x.driver ≡ Some op → asks g (who Driver) nothing_learnt op ≡ Some r → IsTimely k n op → x.seen.scene.content.next ≤ 2 ^ 64 → IsHonestOutcome o (answer x.seen.scene r) → IsThere fs (driver_entry n r o)
-  driver_there fs x run (TheCommit c) n r o d asked timely few honest by still t y is got = commit_there fs x run c n r o d asked timely few honest by still t y is got
-  driver_there fs x run (TheSetup c) n r o d asked timely few honest by still t y is got = absurd (false_true (setup_reads w c.operation r asked t) (ap (is_reading w t) is ∙ reads_it j t))
-  driver_there fs x run (TheClean c) n r o d asked timely few honest by still t y is got = absurd (false_true (clean_reads w c.operation r asked t) (ap (is_reading w t) is ∙ reads_it j t))
-  driver_there fs x run (TheCheck c) n r o d asked timely few honest by still t y is got = absurd (false_true ((check_plain w c.operation r asked).reads t) (ap (is_reading w t) is ∙ reads_it j t))
+  driver_there fs x run (TheCommit c) n r o d asked timely few honest by still t y is got =
+      absurd (false_true (commit_unread w g.minimum x.told c refl (in_commit g k opening j is_opening fs x run c d).2.decides r asked t) (ap (is_reading w t) is ∙ reads_it j t))
+  driver_there fs x run (TheSetup c) n r o d asked timely few honest by still t y is got =
+      absurd (false_true ((setup_plain w c.operation r asked).reads t) (ap (is_reading w t) is ∙ reads_it j t))
+  driver_there fs x run (TheClean c) n r o d asked timely few honest by still t y is got =
+      absurd (false_true ((clean_plain w c.operation r asked).1 t) (ap (is_reading w t) is ∙ reads_it j t))
+  driver_there fs x run (TheCheck c) n r o d asked timely few honest by still t y is got =
+      absurd (false_true ((check_plain w c.operation r asked).reads t) (ap (is_reading w t) is ∙ reads_it j t))
   driver_there fs x run (TheSparing c) n r o d asked timely few honest by still t y is got = absurd (false_true still timely)
-  driver_there fs x run (TheWrite c) n r o d asked timely few honest by still t y is got = absurd (no_driver g j k opening is_opening fs x run (TheWrite c) d (λ z. z))
-  driver_there fs x run (TheTaskCommit c) n r o d asked timely few honest by still t y is got = absurd (no_driver g j k opening is_opening fs x run (TheTaskCommit c) d (λ z. z))
-  driver_there fs x run (TheTaskAbort c) n r o d asked timely few honest by still t y is got = absurd (no_driver g j k opening is_opening fs x run (TheTaskAbort c) d (λ z. z))
-
-  not_driver : (a : Who) → actor_of a ≡ Driver → ⊥
-  not_driver a e = cc
-
-  no_shell : Shell ≡ Driver → ⊥
-  no_shell e = cc
+  driver_there fs x run op n r o d asked timely few honest by still t y is got = absurd (no_driver g j k opening is_opening fs x run op d (λ z. z))
 
   pub there : (es : List Entry) (x : Stand) → Runs g k opening es x → Each IsThere es
-  there es x run_begins = λ before z later q. absurd (no_member before z later q)
-  there es x (actor_begins fs y b run may) = there fs y run
-  there es x (driver_sends fs y op n r o run d asked timely few honest) = each_more IsThere fs (driver_entry n r o) (there fs y run) (driver_there fs y run op n r o d asked timely few honest)
-  there es x (attempt_sends fs y a op n r o run set at asked honest) = each_more IsThere fs (entry a n r o) (there fs y run) (λ by still t v is got. absurd (not_driver a by))
-  there es x (strays fs y n r o run f) = each_more IsThere fs (strange_entry n r o) (there fs y run) (λ by still t v is got. absurd (no_shell by))
+  there = each_run g k opening (λ es x. Each IsThere es) (λ before z later q. absurd (no_member before z later q)) (λ es x b run may h. h)
+      (λ es x op n r o run d asked timely few honest h. each_more IsThere es (driver_entry n r o) h (driver_there es x run op n r o d asked timely few honest))
+      (λ es x a op n r o run set at asked honest h. each_more IsThere es (entry a n r o) h (λ by still t v is got. absurd cc))
+      (λ es x n r o run f h. each_more IsThere es (strange_entry n r o) h (λ by still t v is got. absurd cc))
 
 pub commit_answers : CommitAnswers
 commit_answers = record {

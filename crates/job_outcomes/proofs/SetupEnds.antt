@@ -1,7 +1,7 @@
 -- How the driver's set-up ends, by its entries alone.
-use Rattle.std.proofs.Common.{◌≡◌, ℕ, inl, inr, nat_lt, Bool, true, false, cond, List, [], ◌∷◌, ◌++◌, take, length, Option, Some, None, IsSome, refl, sym, ap, subst, ◌∙◌, codes}
-use Rattle.job_facts.specs.Prelude.{is_some, option_map, is_lt, text_cmp, text_total, BucketContent, Content, Scene, begins, listed, answer, answer_at, apply, head, after_all, AreHonest, Object, Actor, Committer, Magic, Request, HeadObject, DeleteObject, Reply, Page, Deleted, Refused, PageEntry, Entry, Answered, ReplyLost, MOST_ENTRIES, below, magic_prefix, success_key, run, Follows, fresh, step, wants_of, worn_in, WornFirst, IsLegal, Script, Known, SetupEnd, view, is_file_path, checks_all, Sweep, Listing, Deleting, sweep_asks, walked_by, keys_on, last_of, page_after, sweep_hears, all_go, Setup, Heading, Clearing, Sweeping, SetupOver, dest_prefix, if_bucket, headed, checked_on, checked_by, first_shown, cleared, setup_start, setup_asks, setup_hears, setup_after, setup_over, Setting, wants, advance, over, SetupIs, last_from, HasBucket, at_key, ThoseOrBehind}
-use Rattle.job_spec.proofs.Common.{false≢true, lt_not, le_lt, counted_first, some_is, none_some, in_front, in_back}
+use Rattle.std.proofs.Common.{◌≡◌, ℕ, inl, inr, nat_lt, Bool, true, false, cond, List, [], ◌∷◌, ◌++◌, take, length, Option, Some, None, IsSome, refl, sym, ap, subst, ◌∙◌}
+use Rattle.job_facts.specs.Prelude.{is_some, option_map, is_lt, text_cmp, text_total, BucketContent, Content, Scene, listed, answer, answer_at, apply, head, after_all, AreHonest, Object, Magic, Request, HeadObject, DeleteObject, Reply, Page, Deleted, Refused, PageEntry, Entry, Answered, ReplyLost, MOST_ENTRIES, below, magic_prefix, success_key, run, Follows, fresh, step, wants_of, worn_in, WornFirst, IsLegal, Script, SetupEnd, view, is_file_path, checks_all, Sweep, Listing, Deleting, sweep_asks, walked_by, keys_on, last_of, page_after, sweep_hears, all_go, Setup, Heading, Clearing, Sweeping, SetupOver, dest_prefix, if_bucket, headed, checked_on, checked_by, first_shown, cleared, setup_start, setup_asks, setup_hears, setup_after, setup_over, over, SetupIs, last_from, HasBucket, at_key, ThoseOrBehind}
+use Rattle.job_spec.proofs.Common.{false≢true, lt_not, le_lt, counted_first, some_is, none_some, none_or_some, in_front, in_back}
 use Rattle.job_spec.specs.Prelude.{TooManyKeys, IsFree}
 use Rattle.job_protocol.specs.Prelude.{lacks_bucket, checked}
 use Rattle.std.specs.FinMap as fin
@@ -14,16 +14,12 @@ use Rattle.store_frame.proofs.Reading.{reads_nothing}
 use Rattle.job_facts.proofs.Emptying.{last_so, still_there}
 use Rattle.job_facts.proofs.Shapes.{key_before, answer_is}
 use Rattle.job_facts.proofs.JobCommitting.{dest_below}
-use Rattle.job_outcomes.specs.SetupEnds.{setting_up, SetupEnds}
+use Rattle.job_outcomes.specs.SetupEnds.{SetupEnds}
 use Rattle.job_outcomes.proofs.Alone.{setup_follows, setup_run}
-use Rattle.job_outcomes.proofs.Went.{Went, went}
+use Rattle.job_outcomes.proofs.Went.{went}
 use Rattle.job_outcomes.proofs.SetupListed.{setup_listed}
-use Rattle.job_outcomes.proofs.Least.{last_of_all, seen_below, shown_at, below_cmp, unseen_in, unseen_more, first_of}
-
-some_text : (p k : List ℕ) → begins (p ++ codes "/") k ≡ true → is_lt (text_cmp [] k) ≡ true
-some_text [] [] h = absurd (false≢true h)
-some_text (x ∷ p) [] h = absurd (false≢true h)
-some_text p (x ∷ k) h = refl
+use Rattle.job_outcomes.proofs.Least.{last_of_all, seen_below, shown_at, below_cmp, unseen_in, shown_later, first_of}
+use Rattle.job_traces.proofs.Replacing.{some_behind}
 
 some_of : {X : Type 0} (o : Option X) → IsSome o → (x : X) × (o ≡ Some x)
 some_of None h = absurd (false≢true h)
@@ -54,13 +50,6 @@ module _ (w : Script) (j : IsLegal w) (first : Scene) where
   shows_file : (q : List ℕ) (x : Object) → is_file_path q ≡ true → at_key w c (below w.dest.key q) ≡ Some x → IsSome (view w.dest c q)
   shows_file q x f e = ap (λ b. is_some (cond b (option_map (λ (y : Object). y.bytes) (at_key w c (below w.dest.key q))) None)) f ∙ ap (λ o. is_some (option_map (λ (y : Object). y.bytes) o)) e
 
-  nothing_shown : ((q : List ℕ) → IsSome (view w.dest c q) → ⊥) → (q : List ℕ) → view w.dest c q ≡ None
-  nothing_shown none q = by (view w.dest c q) refl
-    where
-      by : (o : Option (List ℕ)) → view w.dest c q ≡ o → o ≡ None
-      by None e = refl
-      by (Some b) e = absurd (none q (ap is_some e))
-
   -- ---- how far it has come
 
   -- it may go on to delete
@@ -80,14 +69,11 @@ module _ (w : Script) (j : IsLegal w) (first : Scene) where
 
   -- ---- the destination's own key
 
-  nothing_yet : Looked []
-  nothing_yet = record { cover = λ k x b go e. inr (some_text w.dest.key k b); unseen = refl }
-
   has_bucket : (s : Scene) → s ≡ first → IsFree w c → HasBucket s.content w.dest.bucket
   has_bucket s is free = subst (λ (u : Scene). HasBucket u.content w.dest.bucket) (sym is) (some_of (fin.get c.buckets w.dest.bucket) free.0)
 
   from_here : (s : Scene) → s ≡ first → IsFree w c → (b : Bool) → checks_all w.committer w.mode ≡ b → Holds s (cond b (Checking []) Clearing)
-  from_here s is free true e = (is, e, free, nothing_yet)
+  from_here s is free true e = (is, e, free, record { cover = λ k x b go e. inr (some_behind w.dest.key k b); unseen = refl })
   from_here s is free false e = ((free, λ h. absurd (false≢true (sym e ∙ h))), has_bucket s is free)
 
   abbrev head_request : Request
@@ -104,9 +90,6 @@ module _ (w : Script) (j : IsLegal w) (first : Scene) where
       by None f = from_here s is (ap is_some e, at ∙ f) (checks_all w.committer w.mode) refl
       by (Some x) f = ap is_some (at ∙ f)
 
-  headed_now : (s : Scene) → s ≡ first → (x : Reply) → x ≡ answer first head_request → Holds s (if_bucket x (headed w x))
-  headed_now s is x e = subst (λ y. Holds s (if_bucket y (headed w y))) (sym e) (headed_by s is (fin.get c.buckets w.dest.bucket) refl)
-
   -- ---- a page
 
   module _ (s : Scene) (same : s ≡ first) (checks : checks_all w.committer w.mode ≡ true) (free : IsFree w c) (keys : List (List ℕ)) (looked : Looked keys) where
@@ -122,15 +105,12 @@ module _ (w : Script) (j : IsLegal w) (first : Scene) where
     here : (k : List ℕ) (x : Object) → at_key w c k ≡ Some x → fin.get there.0.objects k ≡ Some x
     here k x e = sym (key_before w first there.0 there.1 k) ∙ e
 
-    last_more : last_of (keys ++ new) ≡ last_from (last_of keys) new
-    last_more = last_so (keys ++ new) ∙ last_append [] keys new ∙ ap (λ t. last_from t new) (sym (last_so keys))
-
     cover_more : ThoseOrBehind w (dest_prefix w) all_go c (keys ++ new)
     cover_more k x b go e = elim (looked.cover k x b go e) [
       | inl i ↦ inl (in_front k keys new i)
       | inr l ↦ elim (page_covers 1000 (dest_prefix w) (last_of keys) k there.0.objects x (here k x e) b l) [
         | inl i ↦ inl (in_back k keys new i)
-        | inr f ↦ inr (ap (λ t. lt t k) last_more ∙ f)
+        | inr f ↦ inr (ap (λ t. lt t k) (last_so (keys ++ new) ∙ last_append [] keys new ∙ ap (λ t. last_from t new) (sym (last_so keys))) ∙ f)
       ]
     ]
 
@@ -165,8 +145,8 @@ module _ (w : Script) (j : IsLegal w) (first : Scene) where
         none_some (unseen_in w j new none (below w.dest.key q) i) (seen_below w j q f.file)
 
     on_by : first_shown w new ≡ None → (more : Bool) → nat_lt 1000 (length rest) ≡ more → Holds s (checked_on (walked_by more (keys ++ new)))
-    on_by none true e = (same, checks, free, record { cover = cover_more; unseen = unseen_more w j keys new looked.unseen none })
-    on_by none false e = ((free, λ h. nothing_shown (all_looked e none)), has_bucket s same free)
+    on_by none true e = (same, checks, free, record { cover = cover_more; unseen = shown_later w keys new looked.unseen ∙ none })
+    on_by none false e = ((free, λ h q. elim (none_or_some (view w.dest c q)) [ inl gone ↦ gone | inr b ↦ absurd (all_looked e none q (ap is_some b.1)) ]), has_bucket s same free)
 
     checked_so : (o : Option (List ℕ)) → first_shown w new ≡ o → (more : Bool) → nat_lt 1000 (length rest) ≡ more → Holds s (checked_by o (walked_by more (keys ++ new)))
     checked_so (Some p) e more f = (free, checks, least_shown p e)
@@ -180,14 +160,6 @@ module _ (w : Script) (j : IsLegal w) (first : Scene) where
 
   -- ---- every answer
 
-  cleared_so : (s : Scene) (k : Committer) → Passed × HasBucket s.content w.dest.bucket → Holds s (cleared k)
-  cleared_so s Magic h = h
-  cleared_so s _ h = h.0
-
-  swept_so : (s : Scene) (t : Option Sweep) → Passed × HasBucket s.content w.dest.bucket → Holds s (sweeping t)
-  swept_so s (Some t) h = h
-  swept_so s None h = h.0
-
   -- where the bucket is there no answer says that it is not
   found_bucket : (s : Scene) (q r : Request) → q ≡ r → lacks_bucket (answer s q) ≡ false → (x : Reply) → x ≡ answer s r → (next : Setup) → Holds (apply s r) next → Holds (apply s r) (if_bucket x next)
   found_bucket s q r is has x e next h = subst (λ b. Holds (apply s r) (cond b (SetupOver setups.NoSuchBucket) next)) (sym (ap lacks_bucket (e ∙ ap (answer s) (sym is)) ∙ has)) h
@@ -197,25 +169,26 @@ module _ (w : Script) (j : IsLegal w) (first : Scene) where
 
   sweep_has : (s : Scene) → HasBucket s.content w.dest.bucket → (t : Sweep) → lacks_bucket (answer s (sweep_request t)) ≡ false
   sweep_has s b (Listing keys) = ap lacks_bucket (answer_is w s b.0 b.1 (sweep_request (Listing keys)) refl)
-  sweep_has s b (Deleting k ks) = ap lacks_bucket (answer_is w s b.0 b.1 (sweep_request (Deleting k ks)) refl) ∙ by (nat_lt MOST_ENTRIES (length (take 1000 (k ∷ ks))))
-    where
-      by : (many : Bool) → lacks_bucket (cond many (Refused TooManyKeys) Deleted) ≡ false
-      by true = refl
-      by false = refl
+  sweep_has s b (Deleting k ks) =
+      ap lacks_bucket (answer_is w s b.0 b.1 (sweep_request (Deleting k ks)) refl)
+      ∙ elim (nat_lt MOST_ENTRIES (length (take 1000 (k ∷ ks)))) as (λ many. lacks_bucket (cond many (Refused TooManyKeys) Deleted) ≡ false) [ true ↦ refl | false ↦ refl ]
 
   heard : (s : Scene) (m : Setup) → Holds s m → (r : Request) → setup_asks w m ≡ Some r → (x : Reply) (repeated : Bool) → x ≡ answer s r → Holds (apply s r) (setup_hears w m x)
   heard s Heading h r asked x repeated e =
       let is : head_request ≡ r = some_is asked in
-      headed_now (apply s r) (ap (apply s) (sym is) ∙ reads_nothing s head_request refl ∙ h) x (e ∙ ap (answer s) (sym is) ∙ ap (λ v. answer v head_request) h)
+      subst (λ y. Holds (apply s r) (if_bucket y (headed w y))) (sym (e ∙ ap (answer s) (sym is) ∙ ap (λ v. answer v head_request) h))
+      (headed_by (apply s r) (ap (apply s) (sym is) ∙ reads_nothing s head_request refl ∙ h) (fin.get c.buckets w.dest.bucket) refl)
   heard s (Checking keys) h r asked x repeated e =
       let q = page_after w.dest.bucket (dest_prefix w) keys in
       let is : q ≡ r = some_is asked in
       checked_now (apply s r) (ap (apply s) (sym is) ∙ reads_nothing s q refl ∙ h.0) h.1 h.2 keys h.3 x (e ∙ ap (answer s) (sym is) ∙ ap (λ v. answer v q) h.0)
   heard s Clearing h r asked x repeated e =
       let q = DeleteObject w.dest.bucket (success_key w.dest.key) in
-      found_bucket s q r (some_is asked) (ap lacks_bucket (answer_is w s h.1.0 h.1.1 q refl)) x e (cleared w.committer) (cleared_so (apply s r) w.committer (h.0, still_there w s r (Answered x) h.1))
+      found_bucket s q r (some_is asked) (ap lacks_bucket (answer_is w s h.1.0 h.1.1 q refl)) x e (cleared w.committer)
+      (elim w.committer as (λ k. Holds (apply s r) (cleared k)) [ Magic ↦ (h.0, still_there w s r (Answered x) h.1) | _ ↦ h.0 ])
   heard s (Sweeping t) h r asked x repeated e =
-      found_bucket s (sweep_request t) r (some_is asked) (sweep_has s h.1 t) x e (sweeping (sweep_hears all_go t x)) (swept_so (apply s r) (sweep_hears all_go t x) (h.0, still_there w s r (Answered x) h.1))
+      found_bucket s (sweep_request t) r (some_is asked) (sweep_has s h.1 t) x e (sweeping (sweep_hears all_go t x))
+      (elim (sweep_hears all_go t x) as (λ o. Holds (apply s r) (sweeping o)) [ Some u ↦ (h.0, still_there w s r (Answered x) h.1) | None ↦ h.0 ])
   heard s (SetupOver end) h r asked x repeated e = absurd (none_some refl asked)
 
   still : (s : Scene) (m : Setup) → Holds s m → (r : Request) → setup_asks w m ≡ Some r → Holds (apply s r) m
@@ -235,30 +208,23 @@ module _ (w : Script) (j : IsLegal w) (first : Scene) where
       let worn = worn_in w.retries (setup_after w) t es in (
         worn,
         counted_first w.retries (setup_asks w) (setup_after w) setup_start es f,
-        by (went w.retries (setup_asks w) (setup_after w) Holds heard still (λ m. refl) es first t refl f honest),
+        elim (went w.retries (setup_asks w) (setup_after w) Holds heard still (λ m. refl) es first t refl f honest) [
+          | inl h ↦ subst (λ o. SetupIs w c o e) (sym h.0) (over_so (after_all first es) (run (step w.retries (setup_after w)) t es).operation h.1 e is)
+          | inr h ↦ subst (λ o. SetupIs w c o e) (sym h.2) (sym (some_is (ap setup_over (sym h.3) ∙ is)))
+        ],
       )
-    where
-      by : Went w.retries (setup_asks w) (setup_after w) Holds heard still (λ m. refl) (fresh w.retries setup_start) first es → SetupIs w c (worn_in w.retries (setup_after w) (fresh w.retries setup_start) es) e
-      by (inl h) = subst (λ o. SetupIs w c o e) (sym h.0) (over_so (after_all first es) (run (step w.retries (setup_after w)) (fresh w.retries setup_start) es).operation h.1 e is)
-      by (inr h) = subst (λ o. SetupIs w c o e) (sym h.2) (sym (some_is (ap setup_over (sym h.3) ∙ is)))
 
 over_setup : (t : Setup) (e : SetupEnd) → option_map op_ends.Setup (setup_over t) ≡ Some (op_ends.Setup e) → setup_over t ≡ Some e
-over_setup t e h = by (setup_over t) h
-  where
-    by : (o : Option SetupEnd) → option_map op_ends.Setup o ≡ Some (op_ends.Setup e) → o ≡ Some e
-    by None h = absurd (none_some refl h)
-    by (Some d) h = cc
-
-running_ends : (g : Setting) → IsLegal g.script → (a : Actor) (k : Known) (s : Scene) (es : List Entry) → Follows (wants g a) (advance g a) (setting_up g k) es → AreHonest s es → (e : SetupEnd) → over (run (advance g a) (setting_up g k) es).operation ≡ Some (op_ends.Setup e)
-    → (worn : Option Request) × WornFirst g.script.retries es worn × SetupIs g.script s.content worn e
-running_ends g j a k s es f honest e is =
-    let t = fresh g.script.retries setup_start in
-    setup_ends g.script j s es (setup_follows g a k t es f) honest e (over_setup (run (step g.script.retries (setup_after g.script)) t es).operation e (sym (ap over (setup_run g a k t es)) ∙ is))
+over_setup t e h =
+    (elim (setup_over t) as (λ o. option_map op_ends.Setup o ≡ Some (op_ends.Setup e) → o ≡ Some e) [ None ↦ λ h. absurd (none_some refl h) | Some d ↦ λ h. cc ]) h
 
 pub setups_end : SetupEnds
 setups_end = record {
   ends = λ w j s es f honest e is. setup_ends w j s es f honest e is;
-  running = running_ends;
+  running = λ g j a k s es f honest e is.
+      let t = fresh g.script.retries setup_start in
+      setup_ends g.script j s es (setup_follows g a k t es f) honest e
+      (over_setup (run (step g.script.retries (setup_after g.script)) t es).operation e (sym (ap over (setup_run g a k t es)) ∙ is));
   listed = λ g a k es f e is.
       let t = fresh g.script.retries setup_start in
       setup_listed g.script es (setup_follows g a k t es f) e (over_setup (run (step g.script.retries (setup_after g.script)) t es).operation e (sym (ap over (setup_run g a k t es)) ∙ is));

@@ -1,24 +1,16 @@
 -- How the driver's set-up ends by what its pages listed, whoever else sends.
 use Rattle.std.proofs.Common.{◌≡◌, ℕ, zero, suc, Bool, true, false, cond, List, [], ◌∷◌, ◌++◌, append-nil, append_assoc, Option, Some, None, refl, sym, ap, subst, ◌∙◌}
 use Rattle.job_spec.proofs.Common.{false≢true, counted_first, some_is, none_some, if_bucket_so}
-use Rattle.job_facts.specs.Prelude.{Committer, Magic, Request, Reply, Page, Refused, NoSuchBucket, Outcome, Answered, Slow, Entry, relative_in, run, Follows, Retried, fresh, step, unanswered_by, wants_of, is_zero, worn_in, WornFirst, Script, SetupEnd, checks_all, Sweep, keys_on, page_after, walked_by, sweep_hears, all_go, Setup, Heading, Clearing, Sweeping, SetupOver, dest_prefix, headed, checked_on, checked_by, shown_path, or_next, first_shown, cleared, setup_start, setup_asks, setup_hears, setup_after, setup_over}
+use Rattle.job_facts.specs.Prelude.{Committer, Magic, Request, Reply, Page, Refused, NoSuchBucket, Outcome, Answered, Slow, Entry, run, Follows, Retried, fresh, step, unanswered_by, wants_of, is_zero, worn_in, WornFirst, Script, SetupEnd, checks_all, keys_on, page_after, walked_by, sweep_hears, all_go, Setup, Heading, Clearing, Sweeping, SetupOver, dest_prefix, headed, checked_on, checked_by, first_shown, cleared, setup_start, setup_asks, setup_hears, setup_after, setup_over}
 use Rattle.job_spec.specs.Prelude.{Head}
 use Rattle.job_model.specs.declared.ends.SetupEnd.TheVariants as setups
 use Rattle.job_protocol.specs.Setup.{Checking, sweeping}
 use Rattle.job_outcomes.specs.SetupEnds.{keys_told, keys_listed, SetupListed}
+use Rattle.job_outcomes.proofs.Least.{shown_later}
 
 module _ (w : Script) where
   abbrev checks : Bool
   checks = checks_all w.committer w.mode
-
-  -- the first one shown is among the later ones, where none of the earlier is
-  shown_later : (ks more : List (List ℕ)) → first_shown w ks ≡ None → first_shown w (ks ++ more) ≡ first_shown w more
-  shown_later [] more h = refl
-  shown_later (k ∷ ks) more h = by (shown_path (relative_in w.dest.key k)) h (λ g. shown_later ks more g)
-    where
-      by : (o : Option (List ℕ)) → or_next o (first_shown w ks) ≡ None → (first_shown w ks ≡ None → first_shown w (ks ++ more) ≡ first_shown w more) → or_next o (first_shown w (ks ++ more)) ≡ first_shown w more
-      by (Some p) h old = absurd (none_some h refl)
-      by None h old = old h
 
   -- ---- what its pages have listed as it goes on
 
@@ -47,11 +39,11 @@ module _ (w : Script) where
       same = (h.0, ap (first_shown w) (append-nil keys) ∙ h.1)
 
       on : (new : List (List ℕ)) → first_shown w new ≡ None → (more : Bool) → Listed (keys ++ new) (checked_on (walked_by more (found ++ new)))
-      on new e true = (h.0, shown_later keys new h.1 ∙ e)
-      on new e false = λ c. shown_later keys new h.1 ∙ e
+      on new e true = (h.0, shown_later w keys new h.1 ∙ e)
+      on new e false = λ c. shown_later w keys new h.1 ∙ e
 
       page : (new : List (List ℕ)) (o : Option (List ℕ)) → first_shown w new ≡ o → (more : Bool) → Listed (keys ++ new) (checked_by o (walked_by more (found ++ new)))
-      page new (Some p) e more = (h.0, shown_later keys new h.1 ∙ e)
+      page new (Some p) e more = (h.0, shown_later w keys new h.1 ∙ e)
       page new None e more = on new e more
 
       by : (x : Reply) → Listed (keys ++ keys_told (page_after w.dest.bucket (dest_prefix w) found) (Answered x)) (setup_hears w (Checking found) x)
@@ -66,10 +58,6 @@ module _ (w : Script) where
   cleared_so keys h Magic is = λ c. absurd (false≢true (sym (ap (λ v. checks_all v w.mode) is) ∙ c))
   cleared_so keys h _ is = more_keys keys h
 
-  swept_so : (keys : List (List ℕ)) → (checks ≡ true → ⊥) → (t : Option Sweep) → Listed keys (sweeping t)
-  swept_so keys h (Some t) = h
-  swept_so keys h None = λ c. absurd (h c)
-
   heard : (keys : List (List ℕ)) (m : Setup) → Listed keys m → (r : Request) → setup_asks w m ≡ Some r → (x : Reply) → Listed (keys ++ keys_told r (Answered x)) (setup_hears w m x)
   heard keys Heading h r asked x =
       let none = append-nil keys ∙ h in
@@ -79,7 +67,7 @@ module _ (w : Script) where
       subst (λ q. Listed (keys ++ keys_told q (Answered x)) (setup_hears w Clearing x)) (some_is asked) (if_bucket_so (Listed (keys ++ [])) x (cleared w.committer) (more_keys keys h) (cleared_so keys h w.committer refl))
   heard keys (Sweeping t) h r asked x =
       let more = keys ++ keys_told r (Answered x) in
-      if_bucket_so (Listed more) x (sweeping (sweep_hears all_go t x)) (λ c. absurd (h c)) (swept_so more h (sweep_hears all_go t x))
+      if_bucket_so (Listed more) x (sweeping (sweep_hears all_go t x)) (λ c. absurd (h c)) (elim (sweep_hears all_go t x) as (λ o. Listed more (sweeping o)) [ Some u ↦ h | None ↦ λ c. absurd (h c) ])
   heard keys (SetupOver end) h r asked x = absurd (none_some refl asked)
 
   over_so : (keys : List (List ℕ)) (m : Setup) → Listed keys m → (e : SetupEnd) → setup_over m ≡ Some e → SetupListed w keys None e

@@ -15,16 +15,15 @@ second_same : (a b : ℕ → Bool) (n : ℕ) (o : Option ℕ) → ((u : ℕ) →
 second_same a b n None h = refl
 second_same a b n (Some t) h = ap (λ o. option_map (λ u. (t, u)) o) (first_same a b (t + 1) (n - (t + 1)) (λ u l k. h u (omega arith)))
 
-two_same : (a b : ℕ → Bool) (n : ℕ) → ((u : ℕ) → u < n → a u ≡ b u) → two_where a n ≡ two_where b n
-two_same a b n h = ap (λ o. second_where a n o) (first_same a b 0 n (λ u l k. h u (omega arith))) ∙ second_same a b n (first_where b 0 n) h
-
 module _ (w : Script) (picks more : Picks) (agree : (t : ℕ) → t < w.tasks → more t ≡ picks t) where
-  writes_same : (p : List ℕ) (t : ℕ) → t < w.tasks → writes w more p t ≡ writes w picks p t
-  writes_same p t l = ap (λ o. has_path (files_picked w t o) p) (agree t l)
-
   first_so : (ps : List (List ℕ)) → first_shared w more ps ≡ first_shared w picks ps
   first_so [] = refl
-  first_so (p ∷ ps) = ap (λ o. shared_by p o (first_shared w more ps)) (two_same (writes w more p) (writes w picks p) w.tasks (writes_same p)) ∙ ap (shared_by p (two_where (writes w picks p) w.tasks)) (first_so ps)
+  first_so (p ∷ ps) =
+      let same : (t : ℕ) → t < w.tasks → writes w more p t ≡ writes w picks p t = λ t l. ap (λ o. has_path (files_picked w t o) p) (agree t l) in
+      let two : two_where (writes w more p) w.tasks ≡ two_where (writes w picks p) w.tasks =
+      ap (λ o. second_where (writes w more p) w.tasks o) (first_same (writes w more p) (writes w picks p) 0 w.tasks (λ u l k. same u (omega arith)))
+      ∙ second_same (writes w more p) (writes w picks p) w.tasks (first_where (writes w picks p) 0 w.tasks) same in
+      ap (λ o. shared_by p o (first_shared w more ps)) two ∙ ap (shared_by p (two_where (writes w picks p) w.tasks)) (first_so ps)
 
   pub same_shared : same_path w more ≡ same_path w picks
   same_shared = first_so (wanted_paths w more) ∙ ap (λ fs. first_shared w picks (paths_of fs)) (same_wanted w picks more agree)

@@ -1,7 +1,7 @@
 -- How an attempt's operations end, by its own entries alone.
 use Rattle.std.proofs.Common.{◌≡◌, ℕ, ◌⊎◌, inl, inr, Bool, true, false, cond, List, [], ◌∷◌, ◌++◌, map, Option, Some, None, refl, sym, ap, subst, ◌∙◌, append_assoc}
 use Rattle.job_protocol.specs.Prelude.{All, Contains, checks_partitions, is_serial}
-use Rattle.job_facts.specs.Prelude.{option_map, is_some, Actor, Attempt, Committer, Magic, Request, ListPage, PageEntry, Reply, Page, Refused, NoSuchKey, NoSuchFile, Answered, Entry, run, Follows, spent_in, WornFirst, File, Who, Script, Drawn, Known, Op, TaskEnd, files, paths_of, partitions, as_made, record_key, Walked, More, Whole, Sweep, sweep_hears, all_go, Uploaded, GoesOn, AllSent, IsGone, upload_hears, Setting, Operation, TheWrite, TheTaskCommit, TheTaskAbort, Running, who, asks, wants, advance, tells, start_of, over, spare_of, is_fault, TaskIs, Reports}
+use Rattle.job_facts.specs.Prelude.{option_map, is_some, Actor, Attempt, Committer, Magic, Request, ListPage, PageEntry, Reply, Page, Refused, NoSuchKey, NoSuchFile, Answered, Entry, run, Follows, spent_in, WornFirst, File, Who, Script, Drawn, Known, Op, TaskEnd, files, paths_of, partitions, as_made, record_key, Walked, More, Whole, sweep_hears, all_go, GoesOn, AllSent, IsGone, upload_hears, Setting, Operation, TheWrite, TheTaskCommit, TheTaskAbort, Running, who, asks, wants, advance, tells, start_of, over, spare_of, is_fault, TaskIs, Reports, actor_of}
 use Rattle.job_spec.proofs.Common.{first_spent, faults, some_is, none_some, false_true}
 use Rattle.std.proofs.lemmas.List.Elements.{All-nil, All-push, Contains-append_left, Contains-append_right, Contains-push}
 use Rattle.job_model.specs.declared.events.Op.TheVariants as ops
@@ -30,12 +30,8 @@ module _ (w : Script) (a : Who) (all : List Entry) (sent : Bool) where
   writing_so [] = inr tt
   writing_so (f ∷ fs) = tt
 
-  uploaded_so : (f : File) (fs : List File) (u : Uploaded) → Write (writes.uploaded w f fs u)
-  uploaded_so f fs IsGone = inr refl
-  uploaded_so f fs _ = tt
-
   write_so : (minimum : ℕ) (t : writes.Write) (r : Reply) → Write t → Write (writes.write_hears w minimum t r)
-  write_so minimum (writes.Uploads f fs u) r h = uploaded_so f fs (upload_hears w minimum f u r)
+  write_so minimum (writes.Uploads f fs u) r h = elim (upload_hears w minimum f u r) as (λ v. Write (writes.uploaded w f fs v)) [ IsGone ↦ inr refl | _ ↦ tt ]
   write_so minimum (writes.Marking f fs) r h = tt
   write_so minimum (writes.Recording f fs) r h = writing_so fs
   write_so minimum (writes.WriteOver end) r h = h
@@ -62,13 +58,11 @@ module _ (w : Script) (a : Who) (all : List Entry) (sent : Bool) where
   reading_so cs [] = tt
   reading_so cs (f ∷ fs) = tt
 
-  looked_at_so : (o : Option (List ℕ)) (cs : List File) → Commit (commits.looked_at o cs)
-  looked_at_so (Some k) cs = inr refl
-  looked_at_so None cs = reading_so cs cs
-
   looked_so : (x : Walked (List ℕ)) → Commit (commits.looked w a x)
   looked_so (More keys) = tt
-  looked_so (Whole keys) = looked_at_so (commits.least_missing keys (map (record_key w a) (files w a))) (commits.in_order w a keys)
+  looked_so (Whole keys) =
+      let cs = commits.in_order w a keys in
+      elim (commits.least_missing keys (map (record_key w a) (files w a))) as (λ o. Commit (commits.looked_at o cs)) [ Some k ↦ inr refl | None ↦ reading_so cs cs ]
 
   record_so : (cs : List File) (f : File) (fs : List File) (r : Reply) → Commit (commits.read_record w a cs f fs r)
   record_so cs f fs (Refused NoSuchKey) = inr refl
@@ -97,11 +91,6 @@ module _ (w : Script) (a : Who) (all : List Entry) (sent : Bool) where
     checked_so (Page (x ∷ xs) more) o = inr (h.checks, record { before = h.before; rest = ds; parts = h.parts; free = h.free; key = x; others = xs; listed = listed_so (x ∷ xs) more o })
     checked_so _ o = h
 
-  sent_so : (f : File) (fs : List File) (u : Uploaded) → Commit (commits.uploaded w f fs u)
-  sent_so f fs (GoesOn u) = tt
-  sent_so f fs AllSent = storing_so fs
-  sent_so f fs IsGone = inr refl
-
   renamed_so : (r : Reply) (b : Bool) → Commit (commits.renamed w a r b)
   renamed_so (Refused NoSuchFile) true = inr tt
   renamed_so (Refused NoSuchFile) false = inr refl
@@ -112,7 +101,8 @@ module _ (w : Script) (a : Who) (all : List Entry) (sent : Bool) where
   commit_so minimum k (commits.Reading cs f fs) e i asked r b o h = record_so cs f fs r
   commit_so minimum k (commits.Publishing cs) e i asked r b o h = inr tt
   commit_so minimum k (commits.Checking d ds) e i asked r b o h = checked_so d ds e i (sym (some_is asked)) h r o
-  commit_so minimum k (commits.Uploads f fs u) e i asked r b o h = sent_so f fs (upload_hears w minimum f u r)
+  commit_so minimum k (commits.Uploads f fs u) e i asked r b o h =
+      elim (upload_hears w minimum f u r) as (λ v. Commit (commits.uploaded w f fs v)) [ GoesOn v ↦ tt | AllSent ↦ storing_so fs | IsGone ↦ inr refl ]
   commit_so minimum k commits.Storing e i asked r b o h = tt
   commit_so minimum k commits.Renaming e i asked r b o h = renamed_so r b
   commit_so minimum k (commits.TaskCommitOver end) e i asked r b o h = h
@@ -131,25 +121,15 @@ module _ (w : Script) (a : Who) (all : List Entry) (sent : Bool) where
   Abort (aborts.TaskAbortOver end) = Ends ops.Abort w a all sent end
   Abort _ = sent ≡ false
 
-  removing_so : (b : Bool) → sent ≡ false → Abort (aborts.removing b)
-  removing_so true h = h
-  removing_so false h = inr h
-
-  dropped_so : (c : Committer) (b : Bool) → sent ≡ false → Abort (aborts.dropped c b)
-  dropped_so Magic b h = h
-  dropped_so _ b h = removing_so b h
-
   dropping_so : (c : Committer) (b : Bool) (ds : List Drawn) → sent ≡ false → Abort (aborts.dropping c b ds)
-  dropping_so c b [] h = dropped_so c b h
+  dropping_so Magic b [] h = h
+  dropping_so _ true [] h = h
+  dropping_so _ false [] h = inr h
   dropping_so c b (d ∷ ds) h = h
-
-  sweeping_so : (s : Option Sweep) → sent ≡ false → Abort (aborts.sweeping s)
-  sweeping_so (Some s) h = h
-  sweeping_so None h = inr h
 
   abort_so : (t : aborts.TaskAbort) (r : Reply) → Abort t → Abort (aborts.task_abort_hears w t r)
   abort_so (aborts.Dropping d ds b) r h = dropping_so w.committer b ds h
-  abort_so (aborts.Sweeping s) r h = sweeping_so (sweep_hears all_go s r) h
+  abort_so (aborts.Sweeping s) r h = elim (sweep_hears all_go s r) as (λ o. Abort (aborts.sweeping o)) [ Some t ↦ h | None ↦ inr h ]
   abort_so aborts.Removing r h = inr h
   abort_so (aborts.TaskAbortOver end) r h = h
 
@@ -179,56 +159,38 @@ module _ (g : Setting) (a : Who) (all : List Entry) (sent : Bool) where
   goes _ _ k e i asked h = absurd h
 
   -- where it is over, its end is one of these
-  write_over : (t : writes.Write) → Write g.script a all sent t → (e : TaskEnd) → option_map ends.Task (writes.write_over t) ≡ Some (ends.Task e) → Ends ops.Write g.script a all sent e
-  write_over (writes.WriteOver end) h e is = subst (Ends ops.Write g.script a all sent) (task_is is) h
-  write_over _ h e is = absurd (none_some refl is)
-
-  commit_over : (t : commits.TaskCommit) → Commit g.script a all sent t → (e : TaskEnd) → option_map ends.Task (commits.task_commit_over t) ≡ Some (ends.Task e) → Ends ops.Commit g.script a all sent e
-  commit_over (commits.TaskCommitOver end) h e is = subst (Ends ops.Commit g.script a all sent) (task_is is) h
-  commit_over _ h e is = absurd (none_some refl is)
-
-  abort_over : (t : aborts.TaskAbort) → Abort g.script a all sent t → (e : TaskEnd) → option_map ends.Task (aborts.task_abort_over t) ≡ Some (ends.Task e) → Ends ops.Abort g.script a all sent e
-  abort_over (aborts.TaskAbortOver end) h e is = subst (Ends ops.Abort g.script a all sent) (task_is is) h
-  abort_over _ h e is = absurd (none_some refl is)
-
   over_so : (op : Op) (m : Operation) → Op_is op g.script a all sent m → (e : TaskEnd) → over m ≡ Some (ends.Task e) → Ends op g.script a all sent e
-  over_so ops.Write (TheWrite t) h e is = write_over t.operation h e is
-  over_so ops.Commit (TheTaskCommit t) h e is = commit_over t.operation h e is
-  over_so ops.Abort (TheTaskAbort t) h e is = abort_over t.operation h e is
+  over_so ops.Write (TheWrite t) h e is =
+      (elim t.operation as (λ v. Write g.script a all sent v → option_map ends.Task (writes.write_over v) ≡ Some (ends.Task e) → Ends ops.Write g.script a all sent e)
+      [ writes.WriteOver end ↦ λ h is. subst (Ends ops.Write g.script a all sent) (task_is is) h | _ ↦ λ h is. absurd (none_some refl is) ]) h is
+  over_so ops.Commit (TheTaskCommit t) h e is =
+      (elim t.operation as (λ v. Commit g.script a all sent v → option_map ends.Task (commits.task_commit_over v) ≡ Some (ends.Task e) → Ends ops.Commit g.script a all sent e)
+      [ commits.TaskCommitOver end ↦ λ h is. subst (Ends ops.Commit g.script a all sent) (task_is is) h | _ ↦ λ h is. absurd (none_some refl is) ]) h is
+  over_so ops.Abort (TheTaskAbort t) h e is =
+      (elim t.operation as (λ v. Abort g.script a all sent v → option_map ends.Task (aborts.task_abort_over v) ≡ Some (ends.Task e) → Ends ops.Abort g.script a all sent e)
+      [ aborts.TaskAbortOver end ↦ λ h is. subst (Ends ops.Abort g.script a all sent) (task_is is) h | _ ↦ λ h is. absurd (none_some refl is) ]) h is
   over_so _ _ h e is = absurd h
 
 -- ---- as it begins it is not at fault
 
-writing_calm : (fs : List File) → is_fault (option_map ends.Task (writes.write_over (writes.writing fs))) ≡ false
-writing_calm [] = refl
-writing_calm (f ∷ fs) = refl
-
 write_calm : (c : Committer) (fs : List File) → is_fault (option_map ends.Task (writes.write_over (writes.write_start_by c fs))) ≡ false
-write_calm Magic fs = writing_calm fs
+write_calm Magic [] = refl
+write_calm Magic (f ∷ fs) = refl
 write_calm _ fs = refl
 
-storing_calm : (fs : List File) → is_fault (option_map ends.Task (commits.task_commit_over (commits.storing fs))) ≡ false
-storing_calm [] = refl
-storing_calm (f ∷ fs) = refl
+checking_begun : (w : Script) (a : Who) (ds : List (List ℕ)) → commits.task_commit_over (commits.checking w a ds) ≡ None
+checking_begun w a [] = elim (files w a) as (λ fs. commits.task_commit_over (commits.storing fs) ≡ None) [ [] ↦ refl | f ∷ fs ↦ refl ]
+checking_begun w a (d ∷ ds) = refl
 
-checking_calm : (w : Script) (a : Who) (ds : List (List ℕ)) → is_fault (option_map ends.Task (commits.task_commit_over (commits.checking w a ds))) ≡ false
-checking_calm w a [] = storing_calm (files w a)
-checking_calm w a (d ∷ ds) = refl
-
-commit_calm : (c : Committer) (w : Script) (a : Who) → is_fault (option_map ends.Task (commits.task_commit_over (commits.task_commit_start_by c w a))) ≡ false
-commit_calm Magic w a = refl
-commit_calm _ w a = checking_calm w a (commits.to_check w a)
-
-removing_calm : (b : Bool) → is_fault (option_map ends.Task (aborts.task_abort_over (aborts.removing b))) ≡ false
-removing_calm true = refl
-removing_calm false = refl
-
-dropped_calm : (c : Committer) (b : Bool) → is_fault (option_map ends.Task (aborts.task_abort_over (aborts.dropped c b))) ≡ false
-dropped_calm Magic b = refl
-dropped_calm _ b = removing_calm b
+-- a commit is not even over
+pub commit_going : (c : Committer) (w : Script) (a : Who) → commits.task_commit_over (commits.task_commit_start_by c w a) ≡ None
+commit_going Magic w a = refl
+commit_going _ w a = checking_begun w a (commits.to_check w a)
 
 dropping_calm : (c : Committer) (b : Bool) (ds : List Drawn) → is_fault (option_map ends.Task (aborts.task_abort_over (aborts.dropping c b ds))) ≡ false
-dropping_calm c b [] = dropped_calm c b
+dropping_calm Magic b [] = refl
+dropping_calm _ true [] = refl
+dropping_calm _ false [] = refl
 dropping_calm c b (d ∷ ds) = refl
 
 abort_calm : (sent : Bool) (c : Committer) (k : Known) → is_fault (option_map ends.Task (aborts.task_abort_over (aborts.task_abort_by sent c k))) ≡ false
@@ -243,18 +205,14 @@ record Begun (g : Setting) (a : Who) (all : List Entry) (op : Op) (k : Known) (m
   pub calm : is_fault (over m) ≡ false
   pub is : Op_is op g.script a all k.publish_sent m
 
-begun : (g : Setting) (t a : ℕ) (all : List Entry) (op : Op) (r : Reports) (k : Known) (m : Operation) → start_of g (Attempt t a) op r k ≡ Some m → Begun g (who (Attempt t a)) all op k m
-begun g t a all ops.Write missing k m e =
-    let one : Who = who (Attempt t a) in
-    subst (Begun g one all ops.Write k) (some_is e) (record { serial = refl; spare = refl; calm = write_calm g.script.committer (files g.script one); is = write_begun g.script one all k.publish_sent g.script.committer (files g.script one) })
-begun g t a all ops.Commit missing k m e =
-    let one : Who = who (Attempt t a) in
-    subst (Begun g one all ops.Commit k) (some_is e) (record { serial = refl; spare = refl; calm = commit_calm g.script.committer g.script one; is = commit_begun g.script one all k.publish_sent g.script.committer })
-begun g t a all ops.Abort missing k m e =
-    let one : Who = who (Attempt t a) in
-    subst (Begun g one all ops.Abort k) (some_is e) (record { serial = refl; spare = refl; calm = abort_calm k.publish_sent g.script.committer k; is = abort_begun g.script one all k.publish_sent k })
-begun g t a all ops.Setup missing k m e = absurd (none_some refl e)
-begun g t a all ops.Clean missing k m e = absurd (none_some refl e)
+begun : (g : Setting) (one : Who) (all : List Entry) (op : Op) (r : Reports) (k : Known) (m : Operation) → start_of g (actor_of one) op r k ≡ Some m → Begun g one all op k m
+begun g one all ops.Write missing k m e = subst (Begun g one all ops.Write k) (some_is e)
+    (record { serial = refl; spare = refl; calm = write_calm g.script.committer (files g.script one); is = write_begun g.script one all k.publish_sent g.script.committer (files g.script one) })
+begun g one all ops.Commit missing k m e = subst (Begun g one all ops.Commit k) (some_is e)
+    (record { serial = refl; spare = refl; calm = ap (λ o. is_fault (option_map ends.Task o)) (commit_going g.script.committer g.script one); is = commit_begun g.script one all k.publish_sent g.script.committer })
+begun g one all ops.Abort missing k m e = subst (Begun g one all ops.Abort k) (some_is e)
+    (record { serial = refl; spare = refl; calm = abort_calm k.publish_sent g.script.committer k; is = abort_begun g.script one all k.publish_sent k })
+begun g one all _ missing k m e = absurd (none_some refl e)
 
 run_so : (g : Setting) (a : Actor) (all : List Entry) (sent : Bool) (op : Op) (m : Running) (es : List Entry) → ((e : Entry) → Contains es e → Contains all e) → Follows (wants g a) (advance g a) m es → Op_is op g.script (who a) all sent m.operation
     → Op_is op g.script (who a) all sent (run (advance g a) m es).operation
@@ -276,7 +234,7 @@ pub task_ends : (g : Setting) (t a : ℕ) (op : Op) (r : Reports) (k : Known) (m
 task_ends g t a op missing k m start es f e is =
     let one : Who = who (Attempt t a) in
     let x : Running = record { operation = m; known = k } in
-    let b = begun g t a es op missing k m start in
+    let b = begun g one es op missing k m start in
     let worn = spent_in (advance g (Attempt t a)) (λ y. spare_of y.operation) x es in (
       worn,
       first_spent g (Attempt t a) x b.serial b.spare es f,
@@ -294,23 +252,6 @@ task_joined op w a es sent cleaned (Some r) e h gone = h
 task_joined op w a es sent cleaned None e h gone = may op e h gone
   where
     may : (op : Op) (e : TaskEnd) → TaskMay op w a es sent true e → ((op ≡ ops.Abort → ⊥) → (name : List ℕ) → e ≡ tasks.Gone name → cleaned ≡ true) → TaskMay op w a es sent cleaned e
-    may ops.Write tasks.Done h gone = tt
     may ops.Write (tasks.Gone name) h gone = gone (λ e. absurd cc) name refl
-    may ops.Write tasks.Kept h gone = absurd h
-    may ops.Write (tasks.Conflict d) h gone = absurd h
-    may ops.Write tasks.StoreFault h gone = absurd h
-    may ops.Write tasks.NoMemory h gone = absurd h
-    may ops.Commit tasks.Done h gone = tt
-    may ops.Commit (tasks.Conflict d) h gone = h
     may ops.Commit (tasks.Gone name) h gone = gone (λ e. absurd cc) name refl
-    may ops.Commit tasks.Kept h gone = absurd h
-    may ops.Commit tasks.StoreFault h gone = absurd h
-    may ops.Commit tasks.NoMemory h gone = absurd h
-    may ops.Abort tasks.Kept h gone = h
-    may ops.Abort tasks.Done h gone = h
-    may ops.Abort (tasks.Gone name) h gone = absurd h
-    may ops.Abort (tasks.Conflict d) h gone = absurd h
-    may ops.Abort tasks.StoreFault h gone = absurd h
-    may ops.Abort tasks.NoMemory h gone = absurd h
-    may ops.Setup e h gone = absurd h
-    may ops.Clean e h gone = absurd h
+    may _ _ h gone = h

@@ -1,12 +1,12 @@
 -- Once the job's commit is over, its driver does no more than abort and clean, and reads no set.
 use Rattle.std.proofs.Common.{◌≡◌, ℕ, inl, inr, true, false, List, [], ◌∷◌, ◌++◌, length, append_assoc, append-nil, Option, Some, None, refl, sym, ap, subst, ◌∙◌}
-use Rattle.job_steps.specs.Prelude.{Content, Driver, Shell, Request, Entry, IsLegal, Script, Op, Event, Do, Start, Commit, Reverting, CommitOver, Setting, Operation, TheCommit, TheClean, Running, who, asks, tells, wants, is_reading, put, strange_entry, IsOpening, is_just_set, Play, Transition, Refuses, Opens, Sends, Finishes, Closes, Strays, open_running, hear, happen, MayOpen, MaySend, Reachable, operation_of}
+use Rattle.job_steps.specs.Prelude.{Content, Driver, Request, Entry, IsLegal, Script, Op, Event, Do, Start, Commit, CommitOver, commit_asks, Setting, Operation, TheCommit, TheClean, Running, who, asks, tells, wants, is_reading, put, strange_entry, IsOpening, is_just_set, Play, Transition, Opens, Sends, Strays, open_running, hear, happen, MayOpen, MaySend, Reachable, operation_of}
 use Rattle.job_spec.proofs.Common.{none_some, false_true}
 use Rattle.job_model.specs.declared.events.Op.TheVariants as ops
 use Rattle.job_steps.proofs.Actors.{same_or_not, put_here, put_other}
 use Rattle.job_steps.proofs.RunningStages.{IsSettingUp, Begins, begins_so, may_setup, may_commit_job}
 use Rattle.job_outcomes.specs.CommitMoments.{NoneRead}
-use Rattle.job_outcomes.proofs.CommitRuns.{clean_reads}
+use Rattle.job_traces.proofs.Plain.{clean_plain}
 use Rattle.job_safety.proofs.History.{Later, at_once, later}
 use Rattle.job_safety.proofs.Early.{driver_past}
 use Rattle.job_protocol.proofs.Begun.{clean_alone}
@@ -31,17 +31,17 @@ no_commit (Some (TheCommit c)) h s = false_true refl s
 no_commit (Some (TheClean t)) h s = false_true refl s
 no_commit _ h s = h
 
+over_asks : (w : Script) (c : Commit) (r : Request) → IsOver c → commit_asks w c ≡ Some r → ⊥
+over_asks w (CommitOver end) r h e = none_some refl e
+over_asks w _ r h e = h
+
 -- it reads no set then
 driver_reads : (g : Setting) (r : Request) (m : Running) → IsAfter (Some m.operation) → wants g Driver m ≡ Some r → (t : ℕ) → is_reading g.script t r ≡ false
 driver_reads g r m h e t = by m.operation h e
   where
-    over : (c : Commit) → IsOver c → asks g (who Driver) m.known (TheCommit c) ≡ Some r → ⊥
-    over (CommitOver end) h e = none_some refl e
-    over _ h e = h
-
     by : (op : Operation) → IsAfter (Some op) → asks g (who Driver) m.known op ≡ Some r → is_reading g.script t r ≡ false
-    by (TheClean c) h e = clean_reads g.script c.operation r e t
-    by (TheCommit c) h e = absurd (over c h e)
+    by (TheClean c) h e = (clean_plain g.script c.operation r e).1 t
+    by (TheCommit c) h e = absurd (over_asks g.script c r h e)
     by _ h e = absurd h
 
 none_last : (w : Script) (es : List Entry) (e : Entry) → NoneRead w es → (e.actor ≡ Driver → (t : ℕ) → is_reading w t e.request ≡ false) → NoneRead w (es ++ e ∷ [])
@@ -51,14 +51,9 @@ none_last w (x ∷ es) e h one = (h.0, none_last w es e h.1 one)
 heard_after : (g : Setting) (m : Running) (e : Entry) → IsAfter (Some m.operation) → wants g Driver m ≡ Some e.request → IsAfter (operation_of (hear g Driver (Some m) e))
 heard_after g m e h asked = by m.operation h asked
   where
-    over : (c : Commit) → IsOver c → asks g (who Driver) m.known (TheCommit c) ≡ Some e.request → ⊥
-    over (CommitOver end) h q = none_some refl q
-    over (Reverting q qs i) h p = h
-    over _ h q = h
-
     by : (op : Operation) → IsAfter (Some op) → asks g (who Driver) m.known op ≡ Some e.request → IsAfter (Some (tells g (who Driver) op e.outcome))
     by (TheClean c) h q = tt
-    by (TheCommit c) h q = absurd (over c h q)
+    by (TheCommit c) h q = absurd (over_asks g.script c e.request h q)
     by _ h q = absurd h
 
 module _ (g : Setting) (single : g.shared ≡ false) (opening : Content) (j : IsLegal g.script) (is_opening : IsOpening g opening) where
@@ -92,9 +87,6 @@ module _ (g : Setting) (single : g.shared ≡ false) (opening : Content) (j : Is
       | inr ne ↦ subst (λ v. IsAfter (operation_of v)) (sym (put_other y.running e.actor (hear g e.actor (y.running e.actor) e) Driver ne)) h
     ]
 
-    sent_reads : e.actor ≡ Driver → (t : ℕ) → is_reading g.script t e.request ≡ false
-    sent_reads s = let d = by_driver (sym s) in driver_reads g e.request may.at d.0 d.1
-
   -- what was sent since then, with no set read for the driver
   pub record After (y x : Play) : Type 0 where
     pub more : List Entry
@@ -105,19 +97,14 @@ module _ (g : Setting) (single : g.shared ≡ false) (opening : Content) (j : Is
   still_after : (y z : Play) (h : Transition) → (happen g z h).journal ≡ z.journal → After y z → IsAfter (operation_of ((happen g z h).running Driver)) → After y (happen g z h)
   still_after y z h same old at = record { more = old.more; all = same ∙ old.all; none = old.none; at = at }
 
+  longer_after : (y z : Play) (h : Transition) (e : Entry) → (happen g z h).journal ≡ z.journal ++ e ∷ [] → After y z
+      → (e.actor ≡ Driver → (t : ℕ) → is_reading g.script t e.request ≡ false) → IsAfter (operation_of ((happen g z h).running Driver)) → After y (happen g z h)
+  longer_after y z h e longer old reads at = record { more = old.more ++ e ∷ []; all = longer ∙ ap (λ v. v ++ e ∷ []) old.all ∙ append_assoc y.journal old.more (e ∷ []); none = none_last g.script old.more e old.none reads; at = at }
+
   pub after_commit : (y x : Play) → Later g opening y x → IsAfter (operation_of (y.running Driver)) → After y x
   after_commit y x (at_once) h = record { more = []; all = sym (append-nil y.journal); none = tt; at = h }
-  after_commit y x (later z (Refuses f) past l may) h = let old = after_commit y z l h in still_after y z (Refuses f) refl old old.at
   after_commit y x (later z (Opens ev) past l may) h = let old = after_commit y z l h in still_after y z (Opens ev) refl old (opened_after z past ev may old.at)
-  after_commit y x (later z (Sends e) past l may) h =
-      let old = after_commit y z l h in
-      record { more = old.more ++ e ∷ []; all = ap (λ v. v ++ e ∷ []) old.all ∙ append_assoc y.journal old.more (e ∷ []); none = none_last g.script old.more e old.none (sent_reads z e may old.at); at = sent_after z e may old.at }
-  after_commit y x (later z (Finishes v) past l may) h = let old = after_commit y z l h in still_after y z (Finishes v) refl old old.at
-  after_commit y x (later z (Closes end) past l may) h = let old = after_commit y z l h in still_after y z (Closes end) refl old old.at
+  after_commit y x (later z (Sends e) past l may) h = let old = after_commit y z l h in longer_after y z (Sends e) e refl old (λ s. let d = by_driver z e may old.at (sym s) in driver_reads g e.request may.at d.0 d.1) (sent_after z e may old.at)
   after_commit y x (later z (Strays r o) past l may) h =
-      let old = after_commit y z l h in
-      let e = strange_entry (length z.ends) r o in
-      record { more = old.more ++ e ∷ []; all = ap (λ v. v ++ e ∷ []) old.all ∙ append_assoc y.journal old.more (e ∷ []); none = none_last g.script old.more e old.none (λ s. absurd (not_driver s)); at = old.at }
-    where
-      not_driver : Shell ≡ Driver → ⊥
-      not_driver s = cc
+      let old = after_commit y z l h in longer_after y z (Strays r o) (strange_entry (length z.ends) r o) refl old (λ s. absurd cc) old.at
+  after_commit y x (later z t past l may) h = let old = after_commit y z l h in still_after y z t refl old old.at

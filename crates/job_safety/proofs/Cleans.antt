@@ -1,15 +1,16 @@
 -- How the driver's abort or clean of the job ends in a run.
-use Rattle.std.proofs.Common.{◌≡◌, ℕ, ◌+◌, inl, inr, nat_le, List, [], ◌++◌, length, append-nil, Option, Some, None, refl, sym, ap, subst, ◌∙◌, false}
+use Rattle.std.proofs.Common.{◌≡◌, ℕ, ◌+◌, inl, inr, nat_le, List, [], ◌++◌, length, append-nil, Some, None, refl, sym, ap, subst, ◌∙◌, false, arith}
 use Rattle.job_spec.proofs.Common.{filter-append, false_true}
-use Rattle.job_steps.specs.Prelude.{Content, Scene, moment, after_all, AreHonest, Driver, Request, Entry, run, Follows, fresh, WornFirst, IsLegal, Known, CleanEnd, clean_start, Setting, Operation, TheClean, wants, advance, over, Doing, until, before, since, by_actor, is_memory, AllBy, known_then, CleansEnd, Play, Reachable}
-use Rattle.job_facts.specs.Prelude.{CleanIs, Cleaned}
+use Rattle.job_steps.specs.Prelude.{Content, Scene, moment, after_all, AreHonest, Driver, Entry, run, Follows, fresh, IsLegal, Known, CleanEnd, clean_start, Setting, Operation, TheClean, wants, advance, over, Doing, until, before, since, by_actor, is_memory, AllBy, known_then, CleansEnd, Play, Reachable}
+use Rattle.job_facts.specs.Prelude.{Cleaned}
 use Rattle.s3_types.specs.Store as store
 use Rattle.job_model.specs.declared.ends.CleanEnd.TheVariants as cleans
 use Rattle.job_model.specs.declared.ends.OpEnd.TheVariants as ends
 use Rattle.job_steps.proofs.Parts.{from_part}
 use Rattle.job_outcomes.proofs.CleanEnds.{cleans_end}
 use Rattle.job_protocol.proofs.Begun.{clean_alone}
-use Rattle.job_safety.proofs.Cuts.{by_all, moment_cut, all_by_back, since_later}
+use Rattle.job_safety.proofs.Cuts.{moment_cut, all_by_back}
+use Rattle.job_outcomes.proofs.EventRows.{alone as by_all, all_since}
 use Rattle.job_safety.proofs.Strange.{driver_none}
 use Rattle.job_safety.proofs.Sorts.{over_kind, kind_run, driver_clean, memory_clean}
 use Rattle.job_safety.proofs.Ending.{Ending, ending, journal_until, until_strange}
@@ -32,21 +33,15 @@ module _ (g : Setting) (single : g.shared ≡ false) (opening : Content) (j : Is
     follows_so : n.op ≡ first → Follows (wants g Driver) (advance g Driver) (record { operation = first; known = k }) es
     follows_so is = subst (λ v. Follows (wants g Driver) (advance g Driver) (record { operation = v; known = k }) es) is n.follows
 
-    clean_so : EndsSo n.op → (worn : Option Request) × WornFirst g.script.retries es worn × CleanIs worn e
-    clean_so o = let b = begun o in cleans_end.ends g Driver k es (follows_so b) e (subst EndsSo b o)
-
-    ended_done : e ≡ cleans.Done → EndsSo n.op
-    ended_done is = elim n.ended [ inl memory ↦ absurd (false_true (ap (λ v. is_memory (ends.Clean v)) is) memory) | inr o ↦ o ]
-
     -- where nobody else has sent since it began
     cleaned_so : e ≡ cleans.Done → AllBy Driver (since d.since (until (i + 1) x.journal)) → Cleaned g.script (moment opening x.journal (length (before d.since x.journal))) (moment opening x.journal (length (until (i + 1) x.journal)))
     cleaned_so is only =
         let s = start g opening x i Driver d (ends.Clean e) es n in
-        let o = ended_done is in
+        let o : EndsSo n.op = elim n.ended [ inl memory ↦ absurd (false_true (ap (λ v. is_memory (ends.Clean v)) is) memory) | inr o ↦ o ] in
         let b = begun o in
         let strays = until (i + 1) n.closed.entries in
         let parts : since d.since (until (i + 1) x.journal) ≡ since d.since n.closed.at.journal ++ since d.since strays = ap (since d.since) (journal_until g opening x run_x idle i n.event_end n.closed) ∙ filter-append (λ e. nat_le d.since e.event) n.closed.at.journal strays in
-        let back : AllBy Driver strays = subst (AllBy Driver) (since_later d.since strays (from_part d.since (λ e. nat_le e.event (i + 1)) n.closed.entries (late g opening x i Driver d (ends.Clean e) es n)))
+        let back : AllBy Driver strays = subst (AllBy Driver) (all_since d.since d.since strays (omega arith) (from_part d.since (λ e. nat_le e.event (i + 1)) n.closed.entries (late g opening x i Driver d (ends.Clean e) es n)))
         (all_by_back Driver (since d.since n.closed.at.journal) (since d.since strays) (subst (AllBy Driver) parts only)) in
         let none : strays ≡ [] = driver_none strays back (until_strange g opening x run_x idle i n.event_end n.closed) in
         let until_is : until (i + 1) x.journal ≡ n.closed.at.journal = journal_until g opening x run_x idle i n.event_end n.closed ∙ ap (λ l. n.closed.at.journal ++ l) none ∙ append-nil n.closed.at.journal in
@@ -65,4 +60,4 @@ module _ (g : Setting) (single : g.shared ≡ false) (opening : Content) (j : Is
   pub cleans_kept : CleansEnd g.script opening x.journal x.ends
   cleans_kept i d e es h =
       let n = ending g opening x run_x idle i Driver refl d (ends.Clean e) es h in
-      (elim n.ended [ inl memory ↦ inl (memory_clean e memory) | inr o ↦ inr (clean_so i d e es n o) ], cleaned_so i d e es n)
+      (elim n.ended [ inl memory ↦ inl (memory_clean e memory) | inr o ↦ (let b = begun i d e es n o in inr (cleans_end.ends g Driver (k i d e es n) es (follows_so i d e es n b) e (subst (EndsSo i d e es n) b o))) ], cleaned_so i d e es n)

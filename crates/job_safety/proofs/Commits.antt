@@ -1,15 +1,15 @@
 -- How the driver's commit ends in a run, and what it leaves.
-use Rattle.std.proofs.Common.{◌≡◌, ℕ, zero, suc, ◌+◌, ◌<◌, ◌≤◌, inl, inr, Bool, true, false, cond, List, [], ◌∷◌, ◌++◌, filter, length, Option, Some, None, IsSome, append_assoc, refl, sym, ap, subst, ◌∙◌, arith, ◌||◌, ◌&&◌}
-use Rattle.job_steps.specs.Prelude.{option_map, Content, Scene, moment, after_all, Driver, Reply, Answered, Entry, run, Follows, IsLegal, Script, Known, Op, CommitEnd, Commit, CommitOver, commit_start, commit_asks, commit_tells, commit_over, set_request, set_read, Setting, Running, start_of, TheCommit, advance, over, see_all, nothing_seen, is_begun, same_actor, Doing, missing, first_not, clean_event, until, by_actor, is_wanting, since, known_then, EndedIn, CommitEnded, CommitServed, AreOwn, seen_until, IsIn, Told, tell_all, nothing_told, HasPublished, IsOpening, Play, Opens, Closes, open_running, happen, Reachable, happens, Ahead, IsRun, operation_of, times}
-use Rattle.job_spec.specs.Prelude.{first_worn, CommitEnds, CommitsEnd, reports, is_reported}
-use Rattle.job_spec.proofs.Common.{computed, none_sent, some_is, none_some, false_true, in_back, in_filter}
+use Rattle.std.proofs.Common.{◌≡◌, ℕ, zero, suc, ◌+◌, ◌<◌, ◌≤◌, inl, inr, Bool, true, false, cond, List, [], ◌∷◌, ◌++◌, filter, length, Option, Some, None, IsSome, append_assoc, refl, sym, ap, subst, ◌∙◌, arith, ◌&&◌}
+use Rattle.job_steps.specs.Prelude.{option_map, Content, Scene, moment, after_all, Driver, Reply, Answered, Entry, run, Follows, IsLegal, Script, Known, Op, CommitEnd, Commit, CommitOver, commit_start, commit_asks, commit_tells, commit_over, set_request, set_read, Setting, Running, start_of, TheCommit, advance, over, see_all, nothing_seen, is_begun, same_actor, Doing, missing, first_not, clean_event, until, by_actor, is_wanting, known_then, CommitEnded, CommitServed, AreOwn, seen_until, IsIn, Told, tell_all, nothing_told, HasPublished, IsOpening, Play, Opens, Closes, open_running, happen, Reachable, happens, IsRun, operation_of, times}
+use Rattle.job_spec.specs.Prelude.{first_worn, CommitsEnd, reports, is_reported}
+use Rattle.job_spec.proofs.Common.{computed, none_sent, some_is, none_some, none_or_some, or_parts, true_or_false, false_true, in_back, in_filter}
 use Rattle.job_facts.specs.Prelude.{view, Same, Always, is_marked, commit_due, is_untouched, NoDeletionWorn, OnlyOpening, Times, Actor, Reports, list_any, is_driver}
 use Rattle.s3_types.specs.Store as store
 use Rattle.job_model.specs.declared.events.Op.TheVariants as ops
 use Rattle.job_model.specs.declared.ends.CommitEnd.TheVariants as commits
 use Rattle.job_model.specs.declared.ends.Stage.TheVariants as stages
 use Rattle.job_model.specs.declared.ends.OpEnd.TheVariants as ends
-use Rattle.job_traces.proofs.Entries.{take_all, sees, tells_so, always, reverted_now}
+use Rattle.job_traces.proofs.Entries.{take_all, in_commit, sees, tells_so, always, reverted_now}
 use Rattle.job_traces.proofs.Changes.{moment_scene}
 use Rattle.job_steps.proofs.Actors.{same_is}
 use Rattle.job_steps.proofs.Told.{told_all}
@@ -19,7 +19,7 @@ use Rattle.job_outcomes.specs.CommitRuns.{IsDue, CommitStands}
 use Rattle.job_outcomes.proofs.Alone.{go_alone}
 use Rattle.job_outcomes.proofs.CommitRuns.{no_entry, commit_runs}
 use Rattle.job_outcomes.proofs.CommitMoments.{see_parts, commit_moments}
-use Rattle.job_outcomes.proofs.Served.{in_commit, commit_answers}
+use Rattle.job_outcomes.proofs.Served.{commit_answers}
 use Rattle.job_outcomes.proofs.RunEntries.{run_entries}
 use Rattle.job_traces.proofs.EveryRun.{own_front}
 use Rattle.job_safety.specs.Laws.{CommitsEndAmong}
@@ -34,16 +34,17 @@ use Rattle.job_protocol.proofs.Begun.{commit_alone}
 
 -- ---- plain facts
 
-commit_is : {d e : CommitEnd} → ends.Commit d ≡ ends.Commit e → d ≡ e
-commit_is e = cc
-
 over_is : (c : Commit) (e : CommitEnd) → commit_over c ≡ Some e → c ≡ CommitOver e
 over_is (CommitOver d) e o = ap CommitOver (some_is o)
 over_is _ e o = absurd (none_some refl o)
 
 -- a commit that is over, by its end
 pub commit_back : (c : Commit) (e : CommitEnd) → option_map ends.Commit (commit_over c) ≡ Some (ends.Commit e) → c ≡ CommitOver e
-commit_back c e o = let m = end_of ends.Commit (commit_over c) (ends.Commit e) o in over_is c e (m.1 ∙ ap (λ v. Some v) (commit_is m.2))
+commit_back c e o =
+    let m = end_of ends.Commit (commit_over c) (ends.Commit e) o in
+    let same : ends.Commit m.0 ≡ ends.Commit e = m.2 in
+    let is : m.0 ≡ e = cc in
+    over_is c e (m.1 ∙ ap (λ v. Some v) is)
 
 -- a task that is missing is one of the job's
 missing_below : (w : Script) (f : Actor → Bool) (t : ℕ) → missing w f ≡ Some t → t < w.tasks
@@ -51,11 +52,10 @@ missing_below w f t e = let l : t < 0 + w.tasks = by 0 w.tasks e in omega arith
   where
     by : (a n : ℕ) → first_not (is_reported w f) a n ≡ Some t → t < a + n
     by a zero e = absurd (none_some refl e)
-    by a (suc n) e = one (is_reported w f a) e (λ old. by (a + 1) n old)
-      where
-        one : (b : Bool) → cond b (first_not (is_reported w f) (a + 1) n) (Some a) ≡ Some t → (first_not (is_reported w f) (a + 1) n ≡ Some t → t < a + 1 + n) → t < a + suc n
-        one true e old = let l : t < a + 1 + n = old e in omega arith
-        one false e old = let s : a ≡ t = some_is e in omega (arith, s)
+    by a (suc n) e = elim (true_or_false (is_reported w f a)) [
+      | inl y ↦ let l : t < a + 1 + n = by (a + 1) n (sym (ap (λ b. cond b (first_not (is_reported w f) (a + 1) n) (Some a)) y) ∙ e) in omega arith
+      | inr y ↦ let s : a ≡ t = some_is (sym (ap (λ b. cond b (first_not (is_reported w f) (a + 1) n) (Some a)) y) ∙ e) in omega (arith, s)
+    ]
 
 -- a commit alone is told of want of memory so
 wanting_commit : (op : Op) (e : CommitEnd) → is_wanting Driver op (ends.Commit e) ≡ true → op ≡ ops.Commit
@@ -76,10 +76,6 @@ module _ (g : Setting) (single : g.shared ≡ false) (opening : Content) (j : Is
   abbrev k : Times
   k = times w x.ends
 
-  -- the scene after a whole journal is its last moment
-  whole : (es : List Entry) → moment opening es (length es) ≡ after_all (store.opening opening) es
-  whole es = ap (after_all (store.opening opening)) (take_all es (length es) (omega arith))
-
   -- ---- a commit that ended
 
   module _ (i : ℕ) (d : Doing) (e : CommitEnd) (es : List Entry) (n : Ending g opening x i Driver d (ends.Commit e) es) where
@@ -92,19 +88,19 @@ module _ (g : Setting) (single : g.shared ≡ false) (opening : Content) (j : Is
     abbrev IsCommit : Type 0
     IsCommit = (d.op ≡ ops.Commit) × (n.op ≡ TheCommit (commit_start w d.reports.missing))
 
-    begun_over : over (run (advance g Driver) (record { operation = n.op; known = known }) es).operation ≡ Some (ends.Commit e) → IsCommit
-    begun_over o = let b = driver_commit g d.op d.reports known n.op n.begun_is (sym (kind_run g Driver (record { operation = n.op; known = known }) es) ∙ over_kind _ (ends.Commit e) o) in (b.0, b.1 ∙ commit_alone g d.reports single)
-
-    begun_wanting : is_wanting Driver d.op (ends.Commit e) ≡ true → IsCommit
-    begun_wanting h = let is = wanting_commit d.op e h in (is, sym (some_is (sym (ap (λ v. start_of g Driver v d.reports known) is) ∙ n.begun_is)) ∙ commit_alone g d.reports single)
-
     begun : IsCommit
     begun =
         let f = (told_all g opening z n.closed.happened).finish n.place (record { actor = Driver; end = ends.Commit e }) n.finished in
         let same : f.doing ≡ d = some_is (sym f.does ∙ n.doing) in
         elim f.end [
-          | inl h ↦ begun_wanting (subst (λ (v : Doing). is_wanting Driver v.op (ends.Commit e) ≡ true) same h)
-          | inr q ↦ begun_over (ap (λ (m : Running). over m.operation) (some_is (sym n.running ∙ q.1)) ∙ q.2)
+          | inl h ↦
+              let is = wanting_commit d.op e (subst (λ (v : Doing). is_wanting Driver v.op (ends.Commit e) ≡ true) same h) in
+              (is, sym (some_is (sym (ap (λ v. start_of g Driver v d.reports known) is) ∙ n.begun_is)) ∙ commit_alone g d.reports single)
+          | inr q ↦
+              let o = ap (λ (m : Running). over m.operation) (some_is (sym n.running ∙ q.1)) ∙ q.2 in
+              let b =
+              driver_commit g d.op d.reports known n.op n.begun_is (sym (kind_run g Driver (record { operation = n.op; known = known }) es) ∙ over_kind _ (ends.Commit e) o) in
+              (b.0, b.1 ∙ commit_alone g d.reports single)
         ]
 
     -- where its own entries lead
@@ -129,24 +125,15 @@ module _ (g : Setting) (single : g.shared ≡ false) (opening : Content) (j : Is
     abbrev s : Began g opening z Driver d
     s = start g opening x i Driver d (ends.Commit e) es n
 
-    ahead_begun : Ahead (happen g s.at (Opens s.event)) x.ends
-    ahead_begun = ahead_opened g opening j is_opening x run_x idle i d (ends.Commit e) es n
-
-    ahead_before : Ahead s.at x.ends
-    ahead_before = ahead_start g opening j is_opening x run_x idle i d (ends.Commit e) es n
-
     opened_alone : operation_of (open_running g s.at s.event Driver) ≡ Some (TheCommit (commit_start w (missing w s.at.past.reported)))
     opened_alone =
         opened_commit g opening j is_opening x run_x idle i d (ends.Commit e) es n begun.0 s.event (subst (λ v. IsBegin s.event Driver v) begun.0 s.begins)
         ∙ ap (λ op. Some op) (commit_alone g (reports w s.at.past.reported) single)
 
-    at_event : k.commit ≡ Some d.since
-    at_event = number_is g opening j is_opening x run_x idle i d (ends.Commit e) es n begun.0
-
     -- ---- its entries and its missing task
 
     commit_is_es : then.stand.commit ≡ es
-    commit_is_es = run_entries.commit g single k opening z.journal then.stand then.runs led at_led ∙ ap (λ v. filter (λ (u : Entry). is_begun v u.event) (by_actor Driver z.journal)) at_event ∙ sym n.entries_are
+    commit_is_es = run_entries.commit g single k opening z.journal then.stand then.runs led at_led ∙ ap (λ v. filter (λ (u : Entry). is_begun v u.event) (by_actor Driver z.journal)) (number_is g opening j is_opening x run_x idle i d (ends.Commit e) es n begun.0) ∙ sym n.entries_are
 
     commit_leads : (missing : Option ℕ) → run (commit_tells w) (commit_start w missing) then.stand.commit ≡ run (commit_tells w) (commit_start w missing) es
     commit_leads missing = ap (run (commit_tells w) (commit_start w missing)) commit_is_es
@@ -159,39 +146,30 @@ module _ (g : Setting) (single : g.shared ≡ false) (opening : Content) (j : Is
     -- the driver has not cleaned up as it began
     unclean : (tell_all w (nothing_told (clean_event w x.ends)) s.at.journal).cleaned ≡ false
     unclean =
-        let r = is_run g opening j is_opening (happen g s.at (Opens s.event)) (happens s.at (Opens s.event) s.happened s.may) x.ends ahead_begun in
+        let r = is_run g opening j is_opening (happen g s.at (Opens s.event)) (happens s.at (Opens s.event) s.happened s.may) x.ends (ahead_opened g opening j is_opening x run_x idle i d (ends.Commit e) es n) in
         let at : r.stand.driver ≡ Some (TheCommit (commit_start w (missing w s.at.past.reported))) = r.driver ∙ opened_alone in
         sym (ap (λ (m : Told). m.cleaned) (tells_so g k opening j is_opening s.at.journal r.stand r.runs) ∙ ap (λ c. (tell_all w (nothing_told c) s.at.journal).cleaned) r.cleans) ∙ (in_commit g k opening j is_opening s.at.journal r.stand r.runs (commit_start w (missing w s.at.past.reported)) at).2.uncleaned
 
     -- where it has sent a request no task was missing, and each has a last publisher from then on
     none_missing : (u : Entry) → IsIn u es → d.reports.missing ≡ None
-    none_missing u i = by d.reports.missing refl
-      where
-        by : (o : Option ℕ) → d.reports.missing ≡ o → d.reports.missing ≡ None
-        by None is = is
-        by (Some t) is =
-            let h = commit_runs.stands g j k opening is_opening z.journal then.stand then.runs led at_led in
-            let f = subst (λ l. Follows (commit_asks w) (commit_tells w) (CommitOver (commits.Missing t)) l) commit_is_es (subst (λ o. Follows (commit_asks w) (commit_tells w) (commit_start w o) then.stand.commit) (missing_is led h refl ∙ is) h.follows) in
-            absurd (subst (IsIn u) (no_entry w (commits.Missing t) es f) i)
+    none_missing u i = elim (none_or_some d.reports.missing) [
+      | inl none ↦ none
+      | inr t ↦
+          let h = commit_runs.stands g j k opening is_opening z.journal then.stand then.runs led at_led in
+          let f = subst (λ l. Follows (commit_asks w) (commit_tells w) (CommitOver (commits.Missing t.0)) l) commit_is_es (subst (λ o. Follows (commit_asks w) (commit_tells w) (commit_start w o) then.stand.commit) (missing_is led h refl ∙ t.1) h.follows) in
+          absurd (subst (IsIn u) (no_entry w (commits.Missing t.0) es f) i)
+    ]
 
     published : (u : Entry) → IsIn u es → (b : List Entry) (t : ℕ) → t < w.tasks → HasPublished (see_all w k (nothing_seen opening) (s.at.journal ++ b)) t
-    published u i b t low =
-        let none : missing w s.at.past.reported ≡ None = sym (ap (λ (r : Reports). r.missing) s.reports_is) ∙ none_missing u i in
-        let told = all_published w s.at.past.reported (see_all w k (nothing_seen opening) s.at.journal) (reported g opening j is_opening x.ends s.at s.happened ahead_before unclean).past none t low in
+    published u sent b t low =
+        let none : missing w s.at.past.reported ≡ None = sym (ap (λ (r : Reports). r.missing) s.reports_is) ∙ none_missing u sent in
+        let told = all_published w s.at.past.reported (see_all w k (nothing_seen opening) s.at.journal) (reported g opening j is_opening x.ends s.at s.happened (ahead_start g opening j is_opening x run_x idle i d (ends.Commit e) es n) unclean).past none t low in
         subst (λ v. HasPublished v t) (sym (see_parts w k (nothing_seen opening) s.at.journal b)) (last_more w k (see_all w k (nothing_seen opening) s.at.journal) b t told)
 
     none_of : (f : Entry → Bool) (u : Entry) (l : List Entry) → list_any f l ≡ false → IsIn u l → f u ≡ false
     none_of f u [] h i = absurd i
-    none_of f u (v ∷ l) h (inl is) = ap f is ∙ first (f v) h
-      where
-        first : (b : Bool) → (b || list_any f l) ≡ false → b ≡ false
-        first true e = e
-        first false e = refl
-    none_of f u (v ∷ l) h (inr more) = none_of f u l (rest (f v) h) more
-      where
-        rest : (b : Bool) → (b || list_any f l) ≡ false → list_any f l ≡ false
-        rest true e = absurd (false_true e refl)
-        rest false e = e
+    none_of f u (v ∷ l) h (inl is) = ap f is ∙ (or_parts (f v) (list_any f l) h).0
+    none_of f u (v ∷ l) h (inr more) = none_of f u l (or_parts (f v) (list_any f l) h).1 more
 
     -- none of its entries is behind the beginning of an abort or clean
     before_clean : (u : Entry) → IsIn u es → is_begun k.clean u.event ≡ false
@@ -251,16 +229,14 @@ module _ (g : Setting) (single : g.shared ≡ false) (opening : Content) (j : Is
         own_until : until (i + 1) x.journal ≡ z.journal
         own_until = until_own g opening x run_x idle alone i n.event_end n.closed
 
-        seen_then : then.stand.seen ≡ seen_until w opening x.journal x.ends (i + 1)
-        seen_then = sees g k opening j is_opening z.journal then.stand then.runs ∙ ap (see_all w k (nothing_seen opening)) (sym (taken_then g opening j is_opening x run_x idle i d (ends.Commit e) es n ∙ own_until))
-
         marked_so : e ≡ commits.Committed → is_marked w (seen_until w opening x.journal x.ends (i + 1)) ≡ true
-        marked_so is = ap (is_marked w) (sym seen_then) ∙ commit_runs.marked g j k opening is_opening z.journal then.stand then.runs alone_then (at_end ∙ ap (λ v. Some (TheCommit (CommitOver v))) is)
+        marked_so is = ap (is_marked w) (sym (sees g k opening j is_opening z.journal then.stand then.runs ∙ ap (see_all w k (nothing_seen opening)) (sym (taken_then g opening j is_opening x run_x idle i d (ends.Commit e) es n ∙ own_until)))) ∙ commit_runs.marked g j k opening is_opening z.journal then.stand then.runs alone_then (at_end ∙ ap (λ v. Some (TheCommit (CommitOver v))) is)
 
         scene_then : moment opening x.journal (length (until (i + 1) x.journal)) ≡ then.stand.seen.scene
         scene_then =
             ap (λ l. moment opening x.journal (length l)) own_until ∙ ap (λ l. moment opening l (length z.journal)) n.closed.all ∙ moment_cut opening z.journal n.closed.entries
-            ∙ sym (whole z.journal) ∙ moment_scene g k opening j is_opening z.journal then.stand then.runs
+            ∙ sym (ap (after_all (store.opening opening)) (take_all z.journal (length z.journal) (omega arith)))
+            ∙ moment_scene g k opening j is_opening z.journal then.stand then.runs
 
         reverted_so : e ≡ commits.StoreFault stages.Complete → NoDeletionWorn w.retries es → OnlyOpening w opening (moment opening x.journal (length (until (i + 1) x.journal))).content
         reverted_so is none =
@@ -287,39 +263,30 @@ module _ (g : Setting) (single : g.shared ≡ false) (opening : Content) (j : Is
 
   -- ---- any end
 
-  -- for want of memory
-  memory_due : (i : ℕ) (d : Doing) (e : CommitEnd) (es : List Entry) → e ≡ commits.NoMemory → CommitEnded w (seen_until w opening x.journal x.ends (i + 1)) d.reports.missing es e
-  memory_due i d e es is = record {
-    worn = first_worn w.retries es;
-    first = computed w.retries [] es (none_sent w.retries);
-    due = inl is;
-    answered = λ c. let no : commits.NoMemory ≡ commits.Committed = sym is ∙ c in absurd cc;
-  }
-
   pub commits_among : CommitsEndAmong w opening x.journal x.ends
   commits_among i d e es h =
-      let n = ending g opening x run_x idle i Driver refl d (ends.Commit e) es h in
-      (elim n.ended [ inl memory ↦ memory_due i d e es (memory_commit e memory) | inr o ↦ due_so i d e es n o ], served_so i d e es n)
-
-  memory_ends : (i : ℕ) (d : Doing) (e : CommitEnd) (es : List Entry) → EndedIn w x.ends x.journal i Driver d (ends.Commit e) es → e ≡ commits.NoMemory → CommitEnds w opening x.journal x.ends i d e es
-  memory_ends i d e es h is = record {
-    due = λ own. (commits_among i d e es h).0;
-    marked = λ c own. let no : commits.NoMemory ≡ commits.Committed = sym is ∙ c in absurd cc;
-    untouched = λ u own. absurd (false_true (ap is_untouched is) u);
-    reverted = λ c none own. let no : commits.NoMemory ≡ commits.StoreFault stages.Complete = sym is ∙ c in absurd cc;
-    served = λ own. (commits_among i d e es h).1;
-  }
+      let n = ending g opening x run_x idle i Driver refl d (ends.Commit e) es h in (
+        elim n.ended [
+          -- for want of memory
+          | inl memory ↦ record {
+            worn = first_worn w.retries es;
+            first = computed w.retries [] es (none_sent w.retries);
+            due = inl (memory_commit e memory);
+            answered = λ c. let no : commits.NoMemory ≡ commits.Committed = sym (memory_commit e memory) ∙ c in absurd cc;
+          }
+          | inr o ↦ due_so i d e es n o
+        ],
+        served_so i d e es n,
+      )
 
   pub commits_kept : CommitsEnd w opening x.journal x.ends
   commits_kept i d e es h =
       let n = ending g opening x run_x idle i Driver refl d (ends.Commit e) es h in
-      elim n.ended [
-        | inl memory ↦ memory_ends i d e es h (memory_commit e memory)
-        | inr o ↦ record {
-          due = λ own. (commits_among i d e es h).0;
-          marked = λ is own. marked_so i d e es n o own is;
-          untouched = λ u own. untouched_so i d e es n o own u;
-          reverted = λ is none own. reverted_so i d e es n o own is none;
-          served = λ own. (commits_among i d e es h).1;
-        }
-      ]
+      let both = commits_among i d e es h in
+      record {
+        due = λ own. both.0;
+        marked = λ is own. elim n.ended [ inl memory ↦ (let no : commits.NoMemory ≡ commits.Committed = sym (memory_commit e memory) ∙ is in absurd cc) | inr o ↦ marked_so i d e es n o own is ];
+        untouched = λ u own. elim n.ended [ inl memory ↦ absurd (false_true (ap is_untouched (memory_commit e memory)) u) | inr o ↦ untouched_so i d e es n o own u ];
+        reverted = λ is none own. elim n.ended [ inl memory ↦ (let no : commits.NoMemory ≡ commits.StoreFault stages.Complete = sym (memory_commit e memory) ∙ is in absurd cc) | inr o ↦ reverted_so i d e es n o own is none ];
+        served = λ own. both.1;
+      }

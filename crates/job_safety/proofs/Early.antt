@@ -1,7 +1,7 @@
 -- Until the driver's set-up is over all of the job's entries are the driver's: no attempt has begun before.
-use Rattle.std.proofs.Common.{◌≡◌, ℕ, ◌⊎◌, inl, inr, ◌&&◌, true, false, cond, List, [], ◌∷◌, ◌++◌, length, slice_get, Option, Some, None, refl, sym, ap, subst, ◌∙◌}
+use Rattle.std.proofs.Common.{◌≡◌, ℕ, ◌⊎◌, inl, inr, ◌&&◌, true, false, cond, [], ◌∷◌, ◌++◌, length, slice_get, Option, Some, None, refl, sym, ap, subst, ◌∙◌}
 use Rattle.job_spec.proofs.Common.{filter-append, none_some, false_true}
-use Rattle.job_steps.specs.Prelude.{Content, Actor, Driver, Attempt, Shell, Entry, IsLegal, Script, Op, Event, Do, Start, Kill, Restart, SetupEnd, ActorEnd, OpEnd, Done, Busy, ActorStage, ActorState, Setting, Operation, TheCommit, TheClean, Running, over, Past, put, ended, is_new, needs_set, stage_begun, refusal, open_event, is_own, own, is_memory, AllBy, IsOpening, Play, Refuses, Opens, Sends, Finishes, Closes, Strays, open_running, happen, MayOpen, MaySend, MayFinish, Reachable, nothing_happened, happens, Ahead, operation_of, TheCheck, TheSparing}
+use Rattle.job_steps.specs.Prelude.{Content, Actor, Driver, Entry, IsLegal, Script, Op, Event, Do, Start, Kill, Restart, SetupEnd, ActorEnd, OpEnd, Done, Busy, ActorStage, ActorState, Setting, Operation, TheCommit, TheClean, Running, over, Past, put, ended, is_new, needs_set, stage_begun, refusal, open_event, is_own, own, is_memory, AllBy, IsOpening, Play, Refuses, Opens, Sends, Finishes, Closes, Strays, open_running, MaySend, MayFinish, Reachable, nothing_happened, happens, operation_of, TheCheck, TheSparing}
 use Rattle.job_model.specs.declared.events.Op.TheVariants as ops
 use Rattle.job_model.specs.declared.ends.OpEnd.TheVariants as ends
 use Rattle.job_model.specs.declared.states.ActorStage.TheVariants as stage
@@ -10,8 +10,8 @@ use Rattle.job_steps.proofs.Actors.{same_or_not, put_here, put_other}
 use Rattle.job_steps.proofs.RunningStages.{DriverAt, IsBehind, begins_so, memory_dies, may_end, restarted_new, driver_ends}
 use Rattle.job_steps.proofs.Running.{carried}
 use Rattle.job_steps.proofs.Told.{told_all}
-use Rattle.job_safety.proofs.Cuts.{all_by_last}
 use Rattle.job_safety.proofs.Sorts.{kind, OfSetup, OfCommit, OfClean, over_kind}
+use Rattle.job_outcomes.proofs.RunEntries.{all_more}
 
 -- ---- stages
 
@@ -42,20 +42,8 @@ open_new w p _ n = n
 
 needs_other : (a : Actor) (op : Op) → (a ≡ Driver → ⊥) → needs_set a op ≡ true
 needs_other Driver op ne = absurd (ne refl)
-needs_other (Attempt t n) ops.Setup ne = refl
-needs_other (Attempt t n) ops.Write ne = refl
-needs_other (Attempt t n) ops.Commit ne = refl
-needs_other (Attempt t n) ops.Abort ne = refl
-needs_other (Attempt t n) ops.Clean ne = refl
-needs_other Shell ops.Setup ne = refl
-needs_other Shell ops.Write ne = refl
-needs_other Shell ops.Commit ne = refl
-needs_other Shell ops.Abort ne = refl
-needs_other Shell ops.Clean ne = refl
-
--- one more of the driver's
-own_by_driver : (es : List Entry) (e : Entry) → AllBy Driver (own es) → e.actor ≡ Driver → AllBy Driver (own (es ++ e ∷ []))
-own_by_driver es e h is = subst (AllBy Driver) (sym (filter-append (λ x. is_own x.actor) es (e ∷ []) ∙ ap (λ b. own es ++ cond b (e ∷ []) []) (ap is_own is))) (all_by_last Driver (own es) e h is)
+needs_other _ ops.Setup ne = refl
+needs_other _ _ ne = refl
 
 -- ---- what is kept
 
@@ -69,12 +57,9 @@ pub record Early (x : Play) : Type 0 where
   pub set : (i : ℕ) (e : SetupEnd) → slice_get x.finished i ≡ Some (record { actor = Driver; end = ends.Setup e }) → (is_memory (ends.Setup e) ≡ true) ⊎ (is_new (x.past.state Driver).stage ≡ true)
 
 module _ (g : Setting) (opening : Content) (j : IsLegal g.script) (is_opening : IsOpening g opening) where
-  -- the run may go on so
-  pub ahead_on : (x : Play) → Ahead x (x.ends ++ Done ∷ [])
-  ahead_on x = record { rest = Done ∷ []; is = refl; going = λ ev e. (Done, [], refl, refl) }
-
+  -- where the run may go on
   pub driver_now : (x : Play) → Reachable g opening x → DriverAt (x.live.state Driver).stage (x.live.state Driver).life (operation_of (x.running Driver))
-  driver_now x past = (carried g opening j is_opening x past (x.ends ++ Done ∷ []) (ahead_on x)).along.driver_at
+  driver_now x past = (carried g opening j is_opening x past (x.ends ++ Done ∷ []) (record { rest = Done ∷ []; is = refl; going = λ ev e. (Done, [], refl, refl) })).along.driver_at
 
   -- the driver is at the operation that it is at between events, and at its stage
   pub driver_past : (y : Play) → Reachable g opening y → y.now ≡ None → DriverAt (y.past.state Driver).stage (y.past.state Driver).life (operation_of (y.running Driver))
@@ -97,14 +82,6 @@ module _ (g : Setting) (opening : Content) (j : IsLegal g.script) (is_opening : 
   opened_nobody y (Start b op) old fine new a ne = begun_nobody y b op old (begins_so (y.past.state Driver).stage b op (y.past.state b).life (y.past.state b).stage fine).set new _ a ne
   opened_nobody y _ old fine new a ne = old.nobody new a ne
 
-  opens : (y : Play) (ev : Event) → Early y → MayOpen g y ev None → Early (happen g y (Opens ev))
-  opens y ev old may = record {
-    kept = open_new g.script y.past ev;
-    alone = old.alone;
-    nobody = opened_nobody y ev old may.refusal_is;
-    set = λ i e h. absurd (none_some refl h);
-  }
-
   -- ---- a request is sent
 
   sender : (y : Play) (e : Entry) → Early y → MaySend g opening y e → is_new (y.past.state Driver).stage ≡ true → e.actor ≡ Driver
@@ -112,14 +89,6 @@ module _ (g : Setting) (opening : Content) (j : IsLegal g.script) (is_opening : 
     | inl s ↦ s
     | inr ne ↦ absurd (none_some (old.nobody new e.actor ne) may.is_at)
   ]
-
-  sends : (y : Play) (e : Entry) → Early y → MaySend g opening y e → Early (happen g y (Sends e))
-  sends y e old may = record {
-    kept = old.kept;
-    alone = λ n. own_by_driver y.journal e (old.alone n) (sender y e old may n);
-    nobody = λ n a ne. put_other y.running e.actor _ a (λ s. ne (s ∙ sender y e old may n)) ∙ old.nobody n a ne;
-    set = old.set;
-  }
 
   -- ---- an operation ends
 
@@ -142,26 +111,32 @@ module _ (g : Setting) (opening : Content) (j : IsLegal g.script) (is_opening : 
   setup_new y past e busy (inl memory) = inl memory
   setup_new y past e busy (inr q) = inr (new_of (y.live.state Driver).stage q.0.operation (driver_busy y past q.0 busy q.1) (over_kind q.0.operation (ends.Setup e) q.2))
 
-  finished_set : (y : Play) → Reachable g opening y → Early y → (v : ActorEnd) → MayFinish y v → (e : SetupEnd) → v ≡ record { actor = Driver; end = ends.Setup e } → (is_memory (ends.Setup e) ≡ true) ⊎ (is_new (y.past.state Driver).stage ≡ true)
-  finished_set y past old v may e is =
-      let so = subst (MayFinish y) is may in
-      elim (setup_new y past e so.busy (may_end y _ so)) [ inl memory ↦ inl memory | inr new ↦ inr (old.kept new) ]
-
-  finishes : (y : Play) → Reachable g opening y → (v : ActorEnd) → Early y → MayFinish y v → Early (happen g y (Finishes v))
-  finishes y past v old may = record {
-    kept = λ n. old.kept (finished_new y past v may n);
-    alone = old.alone;
-    nobody = old.nobody;
-    set = λ i e h. elim (get_last y.finished v i _ h) [ inl k ↦ old.set i e k | inr q ↦ finished_set y past old v may e q.1 ];
-  }
-
   -- ---- whatever happens
 
   pub early : (x : Play) → Reachable g opening x → Early x
   early x (nothing_happened) = record { kept = λ n. n; alone = λ n. tt; nobody = λ n a ne. refl; set = λ i e h. absurd (none_some refl h) }
   early x (happens y (Refuses f) past may) = let old = early y past in record { kept = λ n. n; alone = old.alone; nobody = old.nobody; set = λ i e h. absurd (none_some refl h) }
-  early x (happens y (Opens ev) past may) = opens y ev (early y past) may
-  early x (happens y (Sends e) past may) = sends y e (early y past) may
-  early x (happens y (Finishes v) past may) = finishes y past v (early y past) may
+  early x (happens y (Opens ev) past may) = let old = early y past in record { kept = open_new g.script y.past ev; alone = old.alone; nobody = opened_nobody y ev old may.refusal_is; set = λ i e h. absurd (none_some refl h) }
+  early x (happens y (Sends e) past may) =
+      let old = early y past in
+      record {
+        kept = old.kept;
+        alone = λ n. let is = sender y e old may n in subst (AllBy Driver) (sym (filter-append (λ x. is_own x.actor) y.journal (e ∷ []) ∙ ap (λ b. own y.journal ++ cond b (e ∷ []) []) (ap is_own is))) (all_more Driver (own y.journal) (e ∷ []) (old.alone n) (is, tt));
+        nobody = λ n a ne. put_other y.running e.actor _ a (λ s. ne (s ∙ sender y e old may n)) ∙ old.nobody n a ne;
+        set = old.set;
+      }
+  early x (happens y (Finishes v) past may) =
+      let old = early y past in
+      record {
+        kept = λ n. old.kept (finished_new y past v may n);
+        alone = old.alone;
+        nobody = old.nobody;
+        set = λ i e h. elim (get_last y.finished v i _ h) [
+          | inl k ↦ old.set i e k
+          | inr q ↦ (
+              let so = subst (MayFinish y) q.1 may in
+              elim (setup_new y past e so.busy (may_end y _ so)) [ inl memory ↦ inl memory | inr new ↦ inr (old.kept new) ])
+        ];
+      }
   early x (happens y (Closes end) past may) = let old = early y past in record { kept = λ n. n; alone = λ n. old.alone (old.kept n); nobody = λ n. old.nobody (old.kept n); set = λ i e h. absurd (none_some refl h) }
   early x (happens y (Strays r o) past may) = let old = early y past in record { kept = old.kept; alone = λ n. subst (AllBy Driver) (sym (own_own y.journal (length y.ends) r o)) (old.alone n); nobody = old.nobody; set = old.set }

@@ -1,13 +1,12 @@
 -- An operation that ended in an event of a run, at the moment right before that event was over.
-use Rattle.std.proofs.Common.{◌≡◌, ℕ, ◌+◌, ◌≤◌, ◌⊎◌, inl, inr, true, false, List, [], ◌∷◌, ◌++◌, length, take, slice_get, append_assoc, append-nil, Option, Some, None, refl, sym, ap, subst, ◌∙◌, arith, nat_le}
+use Rattle.std.proofs.Common.{◌≡◌, ℕ, ◌+◌, ◌≤◌, ◌⊎◌, inl, inr, true, false, List, [], ◌∷◌, ◌++◌, length, take, slice_get, append_assoc, append-nil, Some, None, refl, sym, ap, subst, ◌∙◌, arith, nat_le}
 use Rattle.job_spec.proofs.Common.{take-append-le, filter-append, some_is, none_some}
-use Rattle.job_steps.specs.Prelude.{Content, Actor, Entry, run, Follows, Script, Event, OpEnd, ActorEnd, EventEnd, Refused, Setting, Operation, Running, wants, advance, start_of, over, Past, Doing, past, end_ops, open_event, after_event, told, is_refused, AreOwn, is_own, own, until, since, by_actor, is_memory, AllFrom, AllUpTo, known_then, EndedIn, Play, Reachable, Ahead}
+use Rattle.job_steps.specs.Prelude.{Content, Actor, Entry, run, Follows, Script, Event, OpEnd, ActorEnd, EventEnd, Refused, Setting, Operation, Running, wants, advance, start_of, over, Past, Doing, past, end_ops, open_event, after_event, told, is_refused, AreOwn, is_own, own, until, since, by_actor, is_memory, AllFrom, AllUpTo, known_then, EndedIn, Play, Reachable, Ahead, same_actor}
 use Rattle.job_spec.specs.States.{count}
 use Rattle.job_steps.proofs.Parts.{take_whole, until_all}
 use Rattle.job_steps.proofs.PastMore.{after_is, turns_refused}
 use Rattle.job_steps.proofs.RunningStages.{memory_or}
 use Rattle.job_steps.proofs.Told.{told_all}
-use Rattle.job_safety.proofs.Cuts.{by_cut}
 use Rattle.job_safety.proofs.Strange.{AreStrange, strange_until, strange_by, strange_none, own_back, own_part}
 use Rattle.job_safety.proofs.History.{Closed, closed_at}
 
@@ -52,9 +51,6 @@ module _ (g : Setting) (opening : Content) (x : Play) (run_x : Reachable g openi
         let short : length z.ends ≤ length z.ends = omega arith in
         ap (λ n. take n x.ends) (sym c.count) ∙ ap (take (length z.ends)) parts ∙ take-append-le (length z.ends) z.ends (end ∷ [] ++ h.rest) short ∙ take_whole z.ends
 
-    event_is : (ev : Event) → slice_get w.events j ≡ Some ev → c.may.event ≡ ev
-    event_is ev e = some_is (sym ((told_all g opening z c.happened).opened c.may.event c.may.during).next ∙ ap (slice_get w.events) c.count ∙ e)
-
     -- what was begun last, before the event was over
     doing_is : (a : Actor) (ev : Event) (d : Doing) → c.may.event ≡ ev → (after_event w (past w (take j x.ends)) ev end).doing a ≡ Some d → z.live.doing a ≡ Some d
     doing_is a ev d same e =
@@ -66,41 +62,34 @@ module _ (g : Setting) (opening : Content) (x : Play) (run_x : Reachable g openi
         ap (λ (p : Past). p.doing a) (sym (ap (λ p. after_event w p ev end) before ∙ ap (λ v. after_event w z.past v end) (sym same) ∙ after)) ∙ e
 
     -- up to the end of the event nothing of the job's has come behind it
-    journal_is : until (j + 1) x.journal ≡ z.journal ++ until (j + 1) c.entries
-    journal_is =
+    pub journal_until : until (j + 1) x.journal ≡ z.journal ++ until (j + 1) c.entries
+    journal_until =
         let up : AllUpTo (j + 1) z.journal = subst (λ n. AllUpTo (n + 1) z.journal) c.count (told_all g opening z c.happened).up_to in
         ap (until (j + 1)) c.all ∙ filter-append (λ e. nat_le e.event (j + 1)) z.journal c.entries ∙ ap (λ l. l ++ until (j + 1) c.entries) (until_all (j + 1) z.journal up)
 
-    strangers : AreStrange (until (j + 1) c.entries)
-    strangers = let two : j + 2 ≡ j + 1 + 1 = omega arith in strange_until (j + 1) c.entries (subst (λ n. AllFrom n (own c.entries)) two c.own_after)
-
-    by_is : (a : Actor) → is_own a ≡ true → by_actor a (until (j + 1) x.journal) ≡ by_actor a z.journal
-    by_is a mine = ap (by_actor a) journal_is ∙ by_cut a z.journal (until (j + 1) c.entries) ∙ ap (λ l. by_actor a z.journal ++ l) (strange_by a mine (until (j + 1) c.entries) strangers) ∙ append-nil (by_actor a z.journal)
-
-  pub journal_until : (j : ℕ) (end : EventEnd) (c : Closed g opening x j end) → until (j + 1) x.journal ≡ c.at.journal ++ until (j + 1) c.entries
-  journal_until j end c = journal_is j end c
-
-  pub until_strange : (j : ℕ) (end : EventEnd) (c : Closed g opening x j end) → AreStrange (until (j + 1) c.entries)
-  until_strange j end c = strangers j end c
+    pub until_strange : AreStrange (until (j + 1) c.entries)
+    until_strange = let two : j + 2 ≡ j + 1 + 1 = omega arith in strange_until (j + 1) c.entries (subst (λ n. AllFrom n (own c.entries)) two c.own_after)
 
   -- among none it is the journal then
   pub until_own : AreOwn x.journal → (j : ℕ) (end : EventEnd) (c : Closed g opening x j end) → until (j + 1) x.journal ≡ c.at.journal
   until_own mine j end c =
-      let none = strange_none (until (j + 1) c.entries) (own_part (λ e. nat_le e.event (j + 1)) c.entries (own_back c.at.journal c.entries (subst AreOwn c.all mine))) (strangers j end c) in
-      journal_is j end c ∙ ap (λ l. c.at.journal ++ l) none ∙ append-nil c.at.journal
+      let none = strange_none (until (j + 1) c.entries) (own_part (λ e. nat_le e.event (j + 1)) c.entries (own_back c.at.journal c.entries (subst AreOwn c.all mine))) (until_strange j end c) in
+      journal_until j end c ∙ ap (λ l. c.at.journal ++ l) none ∙ append-nil c.at.journal
 
   pub ending : (j : ℕ) (a : Actor) → is_own a ≡ true → (d : Doing) (end : OpEnd) (es : List Entry) → EndedIn w x.ends x.journal j a d end es → Ending g opening x j a d end es
   ending j a mine d end es h =
       let c = closed_at g opening x run_x j h.event_end h.has_ended (told_fine h.event h.event_end h.place _ h.told_there) in
       let z = c.at in
       let t = told_all g opening z c.happened in
-      let same = event_is j h.event_end c h.event h.is_event in
+      let same : c.may.event ≡ h.event = some_is (sym (t.opened c.may.event c.may.during).next ∙ ap (slice_get w.events) c.count ∙ h.is_event) in
       let told_so : told h.event h.event_end ≡ z.finished = ap (λ v. told v h.event_end) (sym same) ∙ c.may.told_is in
       let finished : slice_get z.finished h.place ≡ Some (record { actor = a; end = end }) = ap (λ l. slice_get l h.place) (sym told_so) ∙ h.told_there in
       let doing = doing_is j h.event_end c a h.event d same h.doing in
       let runs = t.runs a d doing in
       let f = t.finish h.place (record { actor = a; end = end }) finished in
-      let parts : es ≡ since d.since (by_actor a z.journal) = h.entries_are ∙ ap (since d.since) (by_is j h.event_end c a mine) in
+      let parts : es ≡ since d.since (by_actor a z.journal) =
+      h.entries_are ∙ ap (since d.since) (ap (by_actor a) (journal_until j h.event_end c) ∙ filter-append (λ e. same_actor e.actor a) z.journal (until (j + 1) c.entries)
+      ∙ ap (λ l. by_actor a z.journal ++ l) (strange_by a mine (until (j + 1) c.entries) (until_strange j h.event_end c)) ∙ append-nil (by_actor a z.journal)) in
       let first : Running = record { operation = runs.led.op; known = known_then g a d (by_actor a z.journal) } in
       let at : z.running a ≡ Some (run (advance g a) first es) = runs.led.at ∙ ap (λ l. Some (run (advance g a) first l)) (sym parts) in
       record {
@@ -116,10 +105,5 @@ module _ (g : Setting) (opening : Content) (x : Play) (run_x : Reachable g openi
         begun_is = runs.led.begun_is;
         follows = subst (Follows (wants g a) (advance g a) first) (sym parts) runs.led.follows;
         running = at;
-        ended = ended_so (memory_or a f.doing.op end f.end) first es at;
+        ended = elim (memory_or a f.doing.op end f.end) [ inl memory ↦ inl memory | inr q ↦ inr (ap (λ (m : Running). over m.operation) (some_is (sym at ∙ q.1)) ∙ q.2) ];
       }
-    where
-      ended_so : {o : Option Running} → ((is_memory end ≡ true) ⊎ ((m : Running) × (o ≡ Some m) × (over m.operation ≡ Some end))) → (first : Running) (es : List Entry)
-          → o ≡ Some (run (advance g a) first es) → (is_memory end ≡ true) ⊎ (over (run (advance g a) first es).operation ≡ Some end)
-      ended_so (inl memory) first es at = inl memory
-      ended_so (inr q) first es at = inr (ap (λ (m : Running). over m.operation) (some_is (sym at ∙ q.1)) ∙ q.2)

@@ -58,69 +58,39 @@ module _ (g : Setting) (opening : Content) where
   -- ---- an event that is over
 
   module _ (j : ℕ) (end : EventEnd) where
-    still_closed : (y : Play) (h : Transition) → Reachable g opening y → Enabled g opening y h → (happen g y h).journal ≡ y.journal → ((ends : List EventEnd) → Ahead (happen g y h) ends → Ahead y ends) → Closed g opening y j end → Closed g opening (happen g y h) j end
-    still_closed y h past may same back c = record {
+    closed_on : (y : Play) (h : Transition) → Reachable g opening y → Enabled g opening y h → ((ends : List EventEnd) → Ahead (happen g y h) ends → Ahead y ends)
+        → (c : Closed g opening y j end) → (entries : List Entry) → (happen g y h).journal ≡ c.at.journal ++ entries
+        → AllFrom (j + 1) entries → AllFrom (j + 2) (own entries) → Closed g opening (happen g y h) j end
+    closed_on y h past may back c entries all after own_after = record {
       at = c.at;
       happened = c.happened;
       may = c.may;
       count = c.count;
       since_then = later y h past c.since_then may;
-      entries = c.entries;
-      all = same ∙ c.all;
-      after = c.after;
-      own_after = c.own_after;
+      entries = entries;
+      all = all;
+      after = after;
+      own_after = own_after;
       ahead = λ ends a. c.ahead ends (back ends a);
     }
+
+    still_closed : (y : Play) (h : Transition) → Reachable g opening y → Enabled g opening y h → (happen g y h).journal ≡ y.journal → ((ends : List EventEnd) → Ahead (happen g y h) ends → Ahead y ends) → Closed g opening y j end → Closed g opening (happen g y h) j end
+    still_closed y h past may same back c = closed_on y h past may back c c.entries (same ∙ c.all) c.after c.own_after
 
     sent_closed : (y : Play) (e : Entry) → Reachable g opening y → MaySend g opening y e → slice_get y.ends j ≡ Some end → Closed g opening y j end → Closed g opening (happen g y (Sends e)) j end
     sent_closed y e past may is c =
         let below : j < length y.ends = slice_get_within y.ends j end is in
         let late : j + 2 ≤ e.event = omega (arith, may.number) in
-        let behind : j + 1 ≤ e.event = omega arith in
-        record {
-          at = c.at;
-          happened = c.happened;
-          may = c.may;
-          count = c.count;
-          since_then = later y (Sends e) past c.since_then may;
-          entries = c.entries ++ e ∷ [];
-          all = ap (λ l. l ++ e ∷ []) c.all ∙ append_assoc c.at.journal c.entries (e ∷ []);
-          after = from_last (j + 1) c.entries e c.after behind;
-          own_after = from_own (j + 2) c.entries e c.own_after late;
-          ahead = λ ends a. c.ahead ends (sent_ahead g y e ends a);
-        }
+        closed_on y (Sends e) past may (sent_ahead g y e) c (c.entries ++ e ∷ []) (ap (λ l. l ++ e ∷ []) c.all ∙ append_assoc c.at.journal c.entries (e ∷ []))
+        (from_last (j + 1) c.entries e c.after (omega arith)) (from_own (j + 2) c.entries e c.own_after late)
 
     strayed_closed : (y : Play) (r : Request) (o : Outcome) → Reachable g opening y → MayStray g opening y r o → slice_get y.ends j ≡ Some end → Closed g opening y j end → Closed g opening (happen g y (Strays r o)) j end
     strayed_closed y r o past may is c =
         let below : j < length y.ends = slice_get_within y.ends j end is in
         let e = strange_entry (length y.ends) r o in
-        let behind : j + 1 ≤ e.event = omega arith in
-        record {
-          at = c.at;
-          happened = c.happened;
-          may = c.may;
-          count = c.count;
-          since_then = later y (Strays r o) past c.since_then may;
-          entries = c.entries ++ e ∷ [];
-          all = ap (λ l. l ++ e ∷ []) c.all ∙ append_assoc c.at.journal c.entries (e ∷ []);
-          after = from_last (j + 1) c.entries e c.after behind;
-          own_after = subst (AllFrom (j + 2)) (sym (own_own c.entries (length y.ends) r o)) c.own_after;
-          ahead = λ ends a. c.ahead ends (strayed_ahead g y r o ends a);
-        }
-
-  closed_now : (y : Play) (end : EventEnd) (j : ℕ) → Reachable g opening y → MayClose g y end → j ≡ length y.ends → Closed g opening (happen g y (Closes end)) j end
-  closed_now y end j past may e = record {
-    at = y;
-    happened = past;
-    may = may;
-    count = sym e;
-    since_then = at_once;
-    entries = [];
-    all = sym (append-nil y.journal);
-    after = tt;
-    own_after = tt;
-    ahead = λ ends a. a;
-  }
+        closed_on y (Strays r o) past may (strayed_ahead g y r o) c (c.entries ++ e ∷ []) (ap (λ l. l ++ e ∷ []) c.all ∙ append_assoc c.at.journal c.entries (e ∷ []))
+        (from_last (j + 1) c.entries e c.after (omega arith))
+        (subst (AllFrom (j + 2)) (sym (own_own c.entries (length y.ends) r o)) c.own_after)
 
   pub closed_at : (x : Play) → Reachable g opening x → (j : ℕ) (end : EventEnd) → slice_get x.ends j ≡ Some end → is_refused end ≡ false → Closed g opening x j end
   closed_at x (nothing_happened) j end e fine = absurd (none_some refl e)
@@ -133,14 +103,16 @@ module _ (g : Setting) (opening : Content) where
   closed_at x (happens y (Finishes z) past may) j end e fine = still_closed j end y (Finishes z) past may refl (λ ends a. finished_ahead g y z ends a) (closed_at y past j end e fine)
   closed_at x (happens y (Closes v) past may) j end e fine = elim (get_last y.ends v j end e) [
     | inl h ↦ still_closed j end y (Closes v) past may refl (λ ends a. closed_ahead g y v ends (not_refused g.script y.past.state may.event v _ may.turns) a) (closed_at y past j end h fine)
-    | inr q ↦ subst (λ u. Closed g opening (happen g y (Closes v)) j u) q.1 (closed_now y v j past may q.0)
+    | inr q ↦ subst (λ u. Closed g opening (happen g y (Closes v)) j u) q.1 (record { at = y; happened = past; may = may; count = sym q.0; since_then = at_once; entries = []; all = sym (append-nil y.journal); after = tt; own_after = tt; ahead = λ ends a. a })
   ]
   closed_at x (happens y (Strays r o) past may) j end e fine = strayed_closed j end y r o past may e (closed_at y past j end e fine)
 
   -- ---- an operation that began
 
-  still_began : (y : Play) (h : Transition) (a : Actor) (d : Doing) → (happen g y h).journal ≡ y.journal → (happen g y h).running a ≡ y.running a → ((ends : List EventEnd) → Ahead (happen g y h) ends → Ahead y ends) → Began g opening y a d → Began g opening (happen g y h) a d
-  still_began y h a d same at back b = record {
+  began_on : (y z : Play) (a : Actor) (d : Doing) → ((ends : List EventEnd) → Ahead z ends → Ahead y ends) → (b : Began g opening y a d) → (entries : List Entry)
+      → z.journal ≡ b.at.journal ++ entries → AllFrom d.since entries → Meanwhile g opening a (happen g b.at (Opens b.event)) entries z
+      → Began g opening z a d
+  began_on y z a d back b entries all after meanwhile = record {
     at = b.at;
     happened = b.happened;
     event = b.event;
@@ -148,48 +120,26 @@ module _ (g : Setting) (opening : Content) where
     begins = b.begins;
     since_is = b.since_is;
     reports_is = b.reports_is;
-    entries = b.entries;
-    all = same ∙ b.all;
-    after = b.after;
-    meanwhile = was_silent b.entries y (happen g y h) b.meanwhile same at back;
+    entries = entries;
+    all = all;
+    after = after;
+    meanwhile = meanwhile;
     ahead = λ ends v. b.ahead ends (back ends v);
   }
 
+  still_began : (y : Play) (h : Transition) (a : Actor) (d : Doing) → (happen g y h).journal ≡ y.journal → (happen g y h).running a ≡ y.running a → ((ends : List EventEnd) → Ahead (happen g y h) ends → Ahead y ends) → Began g opening y a d → Began g opening (happen g y h) a d
+  still_began y h a d same at back b = began_on y (happen g y h) a d back b b.entries (same ∙ b.all) b.after (was_silent b.entries y (happen g y h) b.meanwhile same at back)
+
   sent_began : (y : Play) (e : Entry) (a : Actor) (d : Doing) → Reachable g opening y → MaySend g opening y e → d.since ≤ length y.ends + 1 → Began g opening y a d → Began g opening (happen g y (Sends e)) a d
   sent_began y e a d past may then b =
-      let late : d.since ≤ e.event = omega (arith, may.number) in
-      record {
-        at = b.at;
-        happened = b.happened;
-        event = b.event;
-        may = b.may;
-        begins = b.begins;
-        since_is = b.since_is;
-        reports_is = b.reports_is;
-        entries = b.entries ++ e ∷ [];
-        all = ap (λ l. l ++ e ∷ []) b.all ∙ append_assoc b.at.journal b.entries (e ∷ []);
-        after = from_last d.since b.entries e b.after late;
-        meanwhile = was_sent b.entries y e past b.meanwhile may;
-        ahead = λ ends v. b.ahead ends (sent_ahead g y e ends v);
-      }
+      began_on y (happen g y (Sends e)) a d (sent_ahead g y e) b (b.entries ++ e ∷ []) (ap (λ l. l ++ e ∷ []) b.all ∙ append_assoc b.at.journal b.entries (e ∷ []))
+      (from_last d.since b.entries e b.after (omega (arith, may.number))) (was_sent b.entries y e past b.meanwhile may)
 
   strayed_began : (y : Play) (r : Request) (o : Outcome) (a : Actor) (d : Doing) → Reachable g opening y → MayStray g opening y r o → d.since ≤ length y.ends → Began g opening y a d → Began g opening (happen g y (Strays r o)) a d
   strayed_began y r o a d past may then b =
       let e = strange_entry (length y.ends) r o in
-      record {
-        at = b.at;
-        happened = b.happened;
-        event = b.event;
-        may = b.may;
-        begins = b.begins;
-        since_is = b.since_is;
-        reports_is = b.reports_is;
-        entries = b.entries ++ e ∷ [];
-        all = ap (λ l. l ++ e ∷ []) b.all ∙ append_assoc b.at.journal b.entries (e ∷ []);
-        after = from_last d.since b.entries e b.after then;
-        meanwhile = had_strayed b.entries y r o past b.meanwhile may;
-        ahead = λ ends v. b.ahead ends (strayed_ahead g y r o ends v);
-      }
+      began_on y (happen g y (Strays r o)) a d (strayed_ahead g y r o) b (b.entries ++ e ∷ []) (ap (λ l. l ++ e ∷ []) b.all ∙ append_assoc b.at.journal b.entries (e ∷ []))
+      (from_last d.since b.entries e b.after then) (had_strayed b.entries y r o past b.meanwhile may)
 
   abbrev doing_now : Play → Op → Doing
   doing_now y op = record { op = op; since = y.past.events + 1; reports = reports g.script y.past.reported }

@@ -1,6 +1,6 @@
 -- That all that is promised of a job holds of what happened in its run.
-use Rattle.std.proofs.Common.{◌≡◌, ℕ, sym, ap, subst, false, ◌∙◌}
-use Rattle.job_steps.specs.Prelude.{Script, Content, Setting, Plays, setting, IsOpening, times}
+use Rattle.std.proofs.Common.{ℕ, sym, ap, subst, false, ◌∙◌}
+use Rattle.job_steps.specs.Prelude.{Script, Setting, Plays, times}
 use Rattle.job_traces.proofs.Entries.{always}
 use Rattle.job_traces.proofs.Changes.{runs_rename, runs_outside}
 use Rattle.job_steps.proofs.Played.{happenings_play}
@@ -15,9 +15,6 @@ use Rattle.job_safety.proofs.Commits.{commits_kept, commits_among}
 -- a setting with this least size of a part
 abbrev with_least : Script → ℕ → Setting
 with_least w n = record { script = w; minimum = n; shared = false }
-
-setting_is : (g : Setting) (opening : Content) → g.shared ≡ false → IsOpening g opening → setting g.script opening ≡ g
-setting_is g opening single is = ap (with_least g.script) is.least ∙ ap (λ b. record { script = g.script; minimum = g.minimum; shared = b }) (sym single)
 
 pub kept_among : RunsAreKeptAmong
 kept_among g opening x j is_opening run idle ps are =
@@ -39,7 +36,9 @@ runs_are_kept g single opening x j is_opening run idle ps are =
     let among = kept_among g opening x j is_opening run idle ps are in
     record {
       always = always g (times g.script x.ends) opening j is_opening x.journal r.stand r.runs;
-      plays = subst (λ s. Plays s x.ends x.journal) (sym (setting_is g opening single is_opening)) among.plays;
+      plays =
+          subst (λ s. Plays s x.ends x.journal)
+          (sym (ap (with_least g.script) is_opening.least ∙ ap (λ b. record { script = g.script; minimum = g.minimum; shared = b }) (sym single))) among.plays;
       picks = among.picks;
       zero_rename = among.zero_rename;
       outside = runs_outside g (times g.script x.ends) opening j is_opening x.journal r.stand r.runs;

@@ -5,11 +5,11 @@ use Rattle.job_facts.specs.Prelude.{Setup, SetupIs}
 use Rattle.job_spec.specs.Prelude.{SetupsEnd}
 use Rattle.s3_types.specs.Store as store
 use Rattle.job_model.specs.declared.ends.OpEnd.TheVariants as ends
-use Rattle.job_outcomes.specs.SetupEnds.{keys_listed, SetupListed}
 use Rattle.job_safety.specs.Laws.{SetupsEndAmong}
 use Rattle.job_traces.proofs.EveryRun.{own_front}
 use Rattle.job_outcomes.proofs.SetupEnds.{setups_end}
-use Rattle.job_safety.proofs.Cuts.{all_by_back, by_all}
+use Rattle.job_safety.proofs.Cuts.{all_by_back}
+use Rattle.job_outcomes.proofs.EventRows.{alone as by_all}
 use Rattle.job_safety.proofs.Strange.{own_all}
 use Rattle.job_safety.proofs.Sorts.{over_kind, kind_run, driver_setup, memory_setup}
 use Rattle.job_safety.proofs.Ending.{Ending, ending}
@@ -33,11 +33,7 @@ module _ (g : Setting) (opening : Content) (j : IsLegal g.script) (is_opening : 
     follows_so : n.op ≡ TheSetup first → Follows (wants g Driver) (advance g Driver) (record { operation = TheSetup first; known = k }) es
     follows_so is = subst (λ v. Follows (wants g Driver) (advance g Driver) (record { operation = v; known = k }) es) is n.follows
 
-    -- by its own entries, whoever sends between them
-    listed_so : EndsSo n.op → (worn : Option Request) × WornFirst g.script.retries es worn × SetupListed g.script (keys_listed es) worn e
-    listed_so o = let b = begun o in setups_end.listed g Driver k es (follows_so b) e (subst EndsSo b o)
-
-    -- and by what stood as it began, where these are all there are since then
+    -- by what stood as it began, where these are all there are since then
     setup_so : AreOwn x.journal → EndsSo n.op → is_new (n.closed.at.past.state Driver).stage ≡ true
         → (worn : Option Request) × WornFirst g.script.retries es worn × SetupIs g.script (moment opening x.journal (length (before d.since x.journal))).content worn e
     setup_so alone o new =
@@ -53,7 +49,7 @@ module _ (g : Setting) (opening : Content) (j : IsLegal g.script) (is_opening : 
   pub setups_among : SetupsEndAmong g.script x.journal x.ends
   setups_among i d e es h =
       let n = ending g opening x run_x idle i Driver refl d (ends.Setup e) es h in
-      elim n.ended [ inl memory ↦ inl (memory_setup e memory) | inr o ↦ inr (listed_so i d e es n o) ]
+      elim n.ended [ inl memory ↦ inl (memory_setup e memory) | inr o ↦ (let b = begun i d e es n o in inr (setups_end.listed g Driver (k i d e es n) es (follows_so i d e es n b) e (subst (EndsSo i d e es n) b o))) ]
 
   pub setups_kept : SetupsEnd g.script opening x.journal x.ends
   setups_kept alone i d e es h =

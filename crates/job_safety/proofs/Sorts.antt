@@ -1,6 +1,6 @@
 -- Of which kind an operation is, from its beginning to its end.
 use Rattle.std.proofs.Common.{◌≡◌, ◌⊎◌, inl, inr, true, List, [], ◌∷◌, Option, Some, None, refl, sym, ap, ◌∙◌}
-use Rattle.job_steps.specs.Prelude.{option_map, Actor, Driver, Outcome, Entry, run, fresh, Who, Known, Op, SetupEnd, TaskEnd, CommitEnd, CleanEnd, OpEnd, setup_start, setup_over, write_over, task_commit_over, task_abort_over, commit_over, clean_over, Setting, Operation, TheSetup, TheWrite, TheTaskCommit, TheTaskAbort, TheCommit, TheClean, Running, who, tells, advance, start_of, over, is_memory, Reports, TheCheck, commit_of, clean_of, TheSparing, step}
+use Rattle.job_steps.specs.Prelude.{option_map, Actor, Driver, Outcome, Entry, run, fresh, Who, Known, Op, SetupEnd, TaskEnd, CommitEnd, CleanEnd, OpEnd, setup_start, setup_over, commit_over, clean_over, Setting, Operation, TheSetup, TheCommit, TheClean, Running, who, tells, advance, start_of, over, is_memory, Reports, TheCheck, commit_of, clean_of, TheSparing, step}
 use Rattle.job_spec.proofs.Common.{some_is, none_some, false_true}
 use Rattle.job_model.specs.declared.events.Op.TheVariants as ops
 use Rattle.job_model.specs.declared.ends.SetupEnd.TheVariants as setups
@@ -44,13 +44,11 @@ end_of f (Some x) y e = (x, refl, some_is e)
 
 pub over_kind : (op : Operation) (e : OpEnd) → over op ≡ Some e → kind op ≡ end_kind e
 over_kind (TheSetup t) e o = ap end_kind (end_of ends.Setup (setup_over t.operation) e o).2
-over_kind (TheWrite t) e o = ap end_kind (end_of ends.Task (write_over t.operation) e o).2
-over_kind (TheTaskCommit t) e o = ap end_kind (end_of ends.Task (task_commit_over t.operation) e o).2
-over_kind (TheTaskAbort t) e o = ap end_kind (end_of ends.Task (task_abort_over t.operation) e o).2
 over_kind (TheCommit c) e o = ap end_kind (end_of ends.Commit (commit_over c) e o).2
 over_kind (TheClean t) e o = ap end_kind (end_of ends.Clean (clean_over t.operation) e o).2
 over_kind (TheCheck t) e o = ap end_kind (end_of ends.Check (check_over t.operation) e o).2
 over_kind (TheSparing t) e o = ap end_kind (end_of ends.Clean (sparing_over t.operation) e o).2
+over_kind _ e o = ap end_kind (end_of ends.Task _ e o).2
 
 kind_tells : (g : Setting) (a : Who) (op : Operation) (o : Outcome) → kind (tells g a op o) ≡ kind op
 kind_tells g a (TheCheck t) o = after_check_so g (λ op. kind op ≡ OfCommit) refl (λ u. refl) (step g.script.retries (check_after g.script) t o)

@@ -3,9 +3,11 @@ use Rattle.std.proofs.Common.{◌≡◌, ℕ, ◌+◌, ◌≤◌, List, ◌++◌
 use Rattle.job_steps.specs.Prelude.{Content, moment, after_all, AreHonest, Actor, Entry, OpEnd, Setting, Doing, before, since, by_actor, AllFrom, AllUpTo, Play}
 use Rattle.s3_types.specs.Store as store
 use Rattle.job_steps.proofs.Told.{told_all}
-use Rattle.job_safety.proofs.Cuts.{from_more, before_front, before_cut, since_cut, before_by_front, since_by_cut, moment_cut, after_cut, honest_back}
+use Rattle.job_safety.proofs.Cuts.{from_more, before_front, before_cut, since_cut, before_by_front, since_by_cut, moment_cut}
+use Rattle.job_outcomes.proofs.EventRows.{honest_back}
 use Rattle.job_safety.proofs.History.{Began, began}
 use Rattle.job_safety.proofs.Ending.{Ending}
+use Rattle.job_traces.proofs.Changes.{after_parts}
 
 module _ (g : Setting) (opening : Content) (x : Play) (j : ℕ) (a : Actor) (d : Doing) (end : OpEnd) (es : List Entry) (n : Ending g opening x j a d end es) where
   abbrev z : Play
@@ -51,7 +53,7 @@ module _ (g : Setting) (opening : Content) (x : Play) (j : ℕ) (a : Actor) (d :
   honest = honest_back (store.opening opening) s.journal start.entries (subst (AreHonest (store.opening opening)) start.all (told_all g opening z n.closed.happened).honest)
 
   pub after_is : after_all (store.opening opening) z.journal ≡ after_all (after_all (store.opening opening) s.journal) start.entries
-  after_is = ap (after_all (store.opening opening)) start.all ∙ after_cut (store.opening opening) s.journal start.entries
+  after_is = ap (after_all (store.opening opening)) start.all ∙ after_parts (store.opening opening) s.journal start.entries
 
   -- what its actor had sent before
   pub known_is : before d.since (by_actor a x.journal) ≡ before d.since (by_actor a z.journal)

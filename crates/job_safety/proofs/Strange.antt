@@ -1,10 +1,11 @@
 -- Entries of strangers between the events of a run: no actor of the job sent them, and nothing is told of them.
 use Rattle.std.proofs.Common.{◌≡◌, ℕ, ◌+◌, ◌<◌, ◌≤◌, nat_le, ◌||◌, Bool, true, false, cond, List, [], ◌∷◌, ◌++◌, refl, ap, ◌∙◌, arith}
-use Rattle.job_steps.specs.Prelude.{filter, Actor, Driver, Shell, Entry, Script, same_actor, AreOwn, Seen, see, see_by, see_all, is_own, own, until, by_actor, until_last, AllBy, AllFrom}
+use Rattle.job_steps.specs.Prelude.{filter, Actor, Driver, Entry, Script, same_actor, AreOwn, Seen, see, see_all, is_own, own, until, by_actor, until_last, AllBy, AllFrom}
 use Rattle.job_facts.specs.Prelude.{list_any, Times}
-use Rattle.job_spec.proofs.Common.{list_any-append, above_so, false_true}
-use Rattle.job_facts.proofs.Whose.{or_false}
+use Rattle.job_spec.proofs.Common.{above_so, false_true}
 use Rattle.job_steps.proofs.Actors.{same_false}
+use Rattle.job_outcomes.proofs.RunEntries.{last_other}
+use Rattle.job_traces.proofs.Plain.{entry_picks}
 
 abbrev pub AreStrange : List Entry → Type 0
 AreStrange [] = Unit {0}
@@ -39,11 +40,7 @@ own_back (e ∷ es) fs h = own_back es fs h.1
 
 pub own_part : (p : Entry → Bool) (es : List Entry) → AreOwn es → AreOwn (filter p es)
 own_part p [] h = tt
-own_part p (e ∷ es) h = by (p e) (own_part p es h.1)
-  where
-    by : (b : Bool) → AreOwn (filter p es) → AreOwn (cond b (e ∷ filter p es) (filter p es))
-    by true rest = (h.0, rest)
-    by false rest = rest
+own_part p (e ∷ es) h = elim (p e) as (λ b. AreOwn (cond b (e ∷ filter p es) (filter p es))) [ true ↦ (h.0, own_part p es h.1) | false ↦ own_part p es h.1 ]
 
 pub own_all : (es : List Entry) → AreOwn es → own es ≡ es
 own_all [] h = refl
@@ -55,18 +52,9 @@ strange_any a own [] h = refl
 strange_any a own (e ∷ es) h = ap (λ b. b || list_any (λ x. same_actor x.actor a) es) (same_false e.actor a (λ s. false_true h.0 (ap is_own s ∙ own))) ∙ strange_any a own es h.1
 
 pub strange_last : (a : Actor) → is_own a ≡ true → (es fs : List Entry) → AreStrange fs → until_last a (es ++ fs) ≡ until_last a es
-strange_last a own [] [] h = refl
-strange_last a own [] (f ∷ fs) h = ap (λ b. cond b (f ∷ until_last a fs) []) (strange_any a own (f ∷ fs) h)
-strange_last a own (e ∷ es) fs h =
-    let any : list_any (λ x. same_actor x.actor a) (e ∷ es ++ fs) ≡ list_any (λ x. same_actor x.actor a) (e ∷ es) =
-    list_any-append (λ x. same_actor x.actor a) (e ∷ es) fs ∙ ap (λ b. list_any (λ x. same_actor x.actor a) (e ∷ es) || b) (strange_any a own fs h) ∙ or_false _ in
-    ap (λ b. cond b (e ∷ until_last a (es ++ fs)) []) any ∙ ap (λ l. cond (list_any (λ x. same_actor x.actor a) (e ∷ es)) (e ∷ l) []) (strange_last a own es fs h)
+strange_last a own es fs h = last_other a es fs (strange_any a own fs h)
 
 -- and nothing is picked
 pub strange_picks : (w : Script) (k : Times) (s : Seen) (es : List Entry) → AreStrange es → (see_all w k s es).picks ≡ s.picks
 strange_picks w k s [] h = refl
-strange_picks w k s (e ∷ es) h = strange_picks w k (see w k s e) es h.1 ∙ by e.actor h.0
-  where
-    by : (a : Actor) → is_own a ≡ false → (see_by w k s e.event e.request e.outcome a).picks ≡ s.picks
-    by Shell q = refl
-    by _ q = absurd (false_true q refl)
+strange_picks w k s (e ∷ es) h = strange_picks w k (see w k s e) es h.1 ∙ (λ i t. entry_picks w k s e (λ d. absurd (false_true h.0 (ap is_own d))) t i)

@@ -1,6 +1,6 @@
 -- How attempts' operations end in a run, and that a commit that is done has published.
 use Rattle.std.proofs.Common.{◌≡◌, ℕ, ◌+◌, inl, inr, Bool, true, false, List, [], ◌∷◌, Option, Some, None, refl, sym, ap, subst, ◌∙◌}
-use Rattle.job_steps.specs.Prelude.{option_map, Content, Attempt, Request, Outcome, Entry, run, WornFirst, Who, IsLegal, Known, Op, TaskEnd, TaskCommit, TaskCommitOver, task_commit_over, knows, Setting, Operation, TheSetup, TheTaskCommit, Running, tells, advance, start_of, over, has_cleaned, Doing, clean_event, until, by_actor, until_last, known_then, TaskIs, WasPublished, setting, IsOpening, Play, Closes, happen, Reachable, happens, times, IsRun, operation_of, Reports, missing, TheCheck, step}
+use Rattle.job_steps.specs.Prelude.{option_map, Content, Attempt, Request, Outcome, Entry, run, WornFirst, Who, IsLegal, Known, Op, TaskEnd, TaskCommitOver, task_commit_over, knows, Setting, Operation, TheSetup, TheTaskCommit, Running, tells, advance, start_of, over, has_cleaned, Doing, clean_event, until, by_actor, until_last, known_then, TaskIs, WasPublished, setting, IsOpening, Play, Closes, happen, Reachable, happens, times, IsRun, operation_of, Reports, missing, TheCheck, step}
 use Rattle.job_spec.proofs.Common.{some_is, none_some, false_true}
 use Rattle.job_model.specs.declared.events.Op.TheVariants as ops
 use Rattle.job_model.specs.declared.ends.TaskEnd.TheVariants as tasks
@@ -48,19 +48,16 @@ commit_run : (g : Setting) (t n : ℕ) (m : Running) (es : List Entry) → IsTas
 commit_run g t n m [] h = h
 commit_run g t n m (e ∷ es) h = commit_run g t n (advance g (Attempt t n) m e.outcome) es (commit_tells g (attempt t n) m.operation e.outcome h)
 
-task_is : {d e : TaskEnd} → Some (ends.Task d) ≡ Some (ends.Task e) → d ≡ e
-task_is e = cc
-
 -- a commit that is done
 abbrev IsDoneCommit : Operation → Type 0
 IsDoneCommit op = (spare : ℕ) × (repeated : Bool) × (op ≡ TheTaskCommit (record { operation = TaskCommitOver tasks.Done; spare = spare; repeated = repeated }))
 
-done_state : (spare : ℕ) (repeated : Bool) (t : TaskCommit) → option_map ends.Task (task_commit_over t) ≡ Some (ends.Task tasks.Done) → IsDoneCommit (TheTaskCommit (record { operation = t; spare = spare; repeated = repeated }))
-done_state spare repeated (TaskCommitOver end) e = (spare, repeated, ap (λ v. TheTaskCommit (record { operation = TaskCommitOver v; spare = spare; repeated = repeated })) (task_is e))
-done_state spare repeated _ e = absurd (none_some refl e)
-
 done_commit : (op : Operation) → IsTaskCommit op → over op ≡ Some (ends.Task tasks.Done) → IsDoneCommit op
-done_commit (TheTaskCommit t) h e = done_state t.spare t.repeated t.operation e
+done_commit (TheTaskCommit t) h e =
+    (elim t.operation as (λ v. option_map ends.Task (task_commit_over v) ≡ Some (ends.Task tasks.Done) → IsDoneCommit (TheTaskCommit (record { operation = v; spare = t.spare; repeated = t.repeated }))) [
+      | TaskCommitOver end ↦ λ e. let is : end ≡ tasks.Done = cc in (t.spare, t.repeated, ap (λ v. TheTaskCommit (record { operation = TaskCommitOver v; spare = t.spare; repeated = t.repeated })) is)
+      | _ ↦ λ e. absurd (none_some refl e)
+    ]) e
 done_commit _ h e = absurd h
 
 module _ (g : Setting) (opening : Content) (j : IsLegal g.script) (is_opening : IsOpening g opening) (x : Play) (run_x : Reachable g opening x) (idle : x.now ≡ None) where
@@ -96,37 +93,26 @@ module _ (g : Setting) (opening : Content) (j : IsLegal g.script) (is_opening : 
         cleaned_then
         ∙ gone_cleaned g (times g.script x.ends) opening j is_opening z.journal then.stand then.runs (attempt t a) at name is_at (abort_run g t a (record { operation = n.op; known = k }) es ∙ no_abort g t a d.op d.reports k n.op n.begun_is not_abort) (o ∙ ap (λ v. Some (ends.Task v)) is)
 
-    known_so : k ≡ known_then (setting g.script opening) (Attempt t a) d (by_actor (Attempt t a) x.journal)
-    known_so = ap (knows g.script (attempt t a)) (sym (known_is g opening x i (Attempt t a) d (ends.Task e) es n))
-
     task_so : over at ≡ Some (ends.Task e) → (worn : Option Request) × WornFirst g.script.retries es worn
         × TaskIs d.op g.script (attempt t a) es (known_then (setting g.script opening) (Attempt t a) d (by_actor (Attempt t a) x.journal)).publish_sent cleaned worn e
     task_so o =
         let r = task_ends g t a d.op d.reports k n.op n.begun_is es n.follows e o in
-        (r.0, r.1, subst (λ (v : Known). TaskIs d.op g.script (attempt t a) es v.publish_sent cleaned r.0 e) known_so (task_joined d.op g.script (attempt t a) es k.publish_sent cleaned r.0 e r.2 (gone_so o)))
+        (r.0, r.1, subst (λ (v : Known). TaskIs d.op g.script (attempt t a) es v.publish_sent cleaned r.0 e) (ap (knows g.script (attempt t a)) (sym (known_is g opening x i (Attempt t a) d (ends.Task e) es n))) (task_joined d.op g.script (attempt t a) es k.publish_sent cleaned r.0 e r.2 (gone_so o)))
+
+    -- a commit that is done
+    publishes_so : d.op ≡ ops.Commit → cleaned ≡ false → e ≡ tasks.Done → over at ≡ Some (ends.Task e) → WasPublished g.script opening x.journal t a (i + 1)
+    publishes_so is clean done o =
+        let first = subst IsTaskCommit (some_is (sym (ap (λ v. start_of g (Attempt t a) v d.reports k) is) ∙ n.begun_is)) tt in
+        let c = done_commit at (commit_run g t a (record { operation = n.op; known = k }) es first) (subst (λ v. over at ≡ Some (ends.Task v)) done o) in
+        let p = done_published g (times g.script x.ends) opening j is_opening z.journal then.stand then.runs (attempt t a) c.0 c.1 (subst (λ v. then.stand.attempts (attempt t a) ≡ Some v) {y = TheTaskCommit (record { operation = TaskCommitOver tasks.Done; spare = c.0; repeated = c.1 })} c.2 is_at) (sym cleaned_then ∙ clean) in
+        subst (λ l. WasPublished g.script opening l t a (i + 1)) (sym n.closed.all) (run_entries.published g.script opening z.journal n.closed.entries t a p.0 (i + 1) p.1 n.up_to)
 
   pub tasks_kept : TasksEndAmong g.script opening x.journal x.ends
   tasks_kept i t a d e es h =
       let n = ending g opening x run_x idle i (Attempt t a) refl d (ends.Task e) es h in
       elim n.ended [ inl memory ↦ inl (memory_task e memory) | inr o ↦ inr (task_so i t a d e es n o) ]
 
-  -- ---- a commit that is done
-
-  module _ (i t a : ℕ) (d : Doing) (es : List Entry) (n : Ending g opening x i (Attempt t a) d (ends.Task tasks.Done) es) where
-    abbrev u : Play
-    u = n.closed.at
-
-    commit_begun : d.op ≡ ops.Commit → IsTaskCommit n.op
-    commit_begun is = subst IsTaskCommit (some_is (sym (ap (λ v. start_of g (Attempt t a) v d.reports (k i t a d tasks.Done es n)) is) ∙ n.begun_is)) tt
-
-    publishes_so : d.op ≡ ops.Commit → cleaned i t a d tasks.Done es n ≡ false → over (at i t a d tasks.Done es n) ≡ Some (ends.Task tasks.Done) → WasPublished g.script opening x.journal t a (i + 1)
-    publishes_so is clean o =
-        let r = then i t a d tasks.Done es n in
-        let c = done_commit (at i t a d tasks.Done es n) (commit_run g t a (record { operation = n.op; known = k i t a d tasks.Done es n }) es (commit_begun is)) o in
-        let p = done_published g (times g.script x.ends) opening j is_opening u.journal r.stand r.runs (attempt t a) c.0 c.1 (is_at i t a d tasks.Done es n ∙ ap (λ v. Some v) c.2) (sym (cleaned_then i t a d tasks.Done es n) ∙ clean) in
-        subst (λ l. WasPublished g.script opening l t a (i + 1)) (sym n.closed.all) (run_entries.published g.script opening u.journal n.closed.entries t a p.0 (i + 1) p.1 n.up_to)
-
   pub publishes_kept : PublishesAmong g.script opening x.journal x.ends
   publishes_kept i t a d es h is clean =
       let n = ending g opening x run_x idle i (Attempt t a) refl d (ends.Task tasks.Done) es h in
-      elim n.ended [ inl memory ↦ absurd (false_true refl memory) | inr o ↦ publishes_so i t a d es n is clean o ]
+      elim n.ended [ inl memory ↦ absurd (false_true refl memory) | inr o ↦ publishes_so i t a d tasks.Done es n is clean refl o ]

@@ -1,20 +1,19 @@
 -- At the end of an event in which the driver's operation ended: the run then, the event in which its commit began, and what is seen.
-use Rattle.std.proofs.Common.{◌≡◌, ℕ, ◌+◌, ◌<◌, ◌≤◌, inl, inr, true, false, List, ◌++◌, length, take, Option, Some, None, refl, sym, ap, subst, ◌∙◌, arith}
-use Rattle.job_steps.specs.Prelude.{Content, Driver, Entry, IsLegal, Script, Event, Op, OpEnd, Commit, Setting, Operation, Reports, commit_of, TheCommit, TheSetup, see_all, nothing_seen, is_begun, Seen, refusal, Doing, driver_may, until, since, seen_until, Told, nothing_told, IsOpening, is_just_set, Play, MayOpen, Opens, Closes, open_running, happen, Reachable, happens, Ahead, IsRun, operation_of, times, Times, has_cleaned}
+use Rattle.std.proofs.Common.{◌≡◌, ℕ, ◌+◌, ◌<◌, ◌≤◌, inl, inr, true, false, List, length, take, Option, Some, None, refl, sym, ap, subst, ◌∙◌, arith}
+use Rattle.job_steps.specs.Prelude.{Content, Driver, Entry, IsLegal, Script, Event, Op, OpEnd, Commit, Setting, Operation, commit_of, TheCommit, TheSetup, see_all, nothing_seen, is_begun, Seen, refusal, Doing, driver_may, until, since, seen_until, Told, nothing_told, IsOpening, is_just_set, Play, MayOpen, Opens, Closes, open_running, happen, Reachable, happens, Ahead, IsRun, operation_of, times, Times, has_cleaned}
 use Rattle.job_spec.specs.Prelude.{reports}
 use Rattle.job_spec.proofs.Common.{at_most_is, at_most_not, false_true}
 use Rattle.job_facts.proofs.Learnt.{cleaned_is}
 use Rattle.job_model.specs.declared.events.Op.TheVariants as ops
 use Rattle.job_protocol.proofs.Begun.{commit_of_so}
-use Rattle.job_traces.proofs.Entries.{sees, tells_so}
+use Rattle.job_traces.proofs.Entries.{in_commit, sees, tells_so}
 use Rattle.job_steps.proofs.RunningStages.{Begins, begins_so, IsSettingUp, IsTimed, timed_setting, may_commit_job, Begun}
 use Rattle.job_steps.proofs.Told.{told_all}
 use Rattle.job_steps.proofs.RunningNumbers.{begun_at}
 use Rattle.job_steps.proofs.Running.{number, is_run, carried, opened_ahead, closed_ahead, not_refused}
 use Rattle.job_outcomes.proofs.CommitMoments.{see_parts}
-use Rattle.job_outcomes.proofs.Served.{in_commit}
 use Rattle.job_outcomes.proofs.EventRows.{event_rows}
-use Rattle.job_safety.proofs.Cuts.{take_cut}
+use Rattle.std.proofs.Math.Seq.{take-append_seam}
 use Rattle.job_safety.proofs.History.{Began, IsBegin}
 use Rattle.job_safety.proofs.Ending.{Ending, ahead_none, journal_until, until_strange}
 use Rattle.job_safety.proofs.Spans.{start}
@@ -41,10 +40,6 @@ commit_number (Some m) n before now =
 pub begins_at : (g : Setting) (y : Play) (ev : Event) (op : Op) → MayOpen g y ev None → IsBegin ev Driver op → Begins (y.past.state Driver).stage Driver op (y.past.state Driver).life (y.past.state Driver).stage
 begins_at g y ev op may (inl is) = begins_so (y.past.state Driver).stage Driver op (y.past.state Driver).life (y.past.state Driver).stage (ap (refusal y.past.state) (sym is) ∙ may.refusal_is)
 begins_at g y ev op may (inr is) = begins_so (y.past.state Driver).stage Driver op (y.past.state Driver).life (y.past.state Driver).stage (ap (refusal y.past.state) (sym is) ∙ may.refusal_is)
-
--- a commit that begins has begun, with its check or without
-timed_commit : (g : Setting) (b : Begun) (r : Reports) → IsTimed b (Some (commit_of g r)) → b.commit ≡ true
-timed_commit g b r = commit_of_so g (λ op. IsTimed b (Some op) → b.commit ≡ true) (λ missing h. h.0) (λ t h. h.0) r
 
 module _ (g : Setting) (opening : Content) (j : IsLegal g.script) (is_opening : IsOpening g opening) (x : Play) (run_x : Reachable g opening x) (idle : x.now ≡ None) (i : ℕ) (d : Doing) (end : OpEnd) (es : List Entry) (n : Ending g opening x i Driver d end es) where
   abbrev w : Script
@@ -98,7 +93,8 @@ module _ (g : Setting) (opening : Content) (j : IsLegal g.script) (is_opening : 
     timed_now =
         let h = (carried g opening j is_opening (happen g s.at (Opens s.event)) (happens s.at (Opens s.event) s.happened s.may) x.ends ahead_opened).along in
         let b : Begun = begun_at (times w x.ends) (length s.at.ends + 1) in
-        timed_commit g b (reports w s.at.past.reported) (subst (IsTimed b) (opened_commit s.event (subst (λ v. IsBegin s.event Driver v) is s.begins)) h.timed)
+        commit_of_so g (λ op. IsTimed b (Some op) → b.commit ≡ true) (λ missing h. h.0) (λ t h. h.0) (reports w s.at.past.reported)
+        (subst (IsTimed b) (opened_commit s.event (subst (λ v. IsBegin s.event Driver v) is s.begins)) h.timed)
 
     -- its event is the one in which it began
     pub number_is : k.commit ≡ Some d.since
@@ -117,17 +113,14 @@ module _ (g : Setting) (opening : Content) (j : IsLegal g.script) (is_opening : 
   abbrev strays : List Entry
   strays = until (i + 1) n.closed.entries
 
-  until_is : until (i + 1) x.journal ≡ z.journal ++ strays
-  until_is = journal_until g opening x run_x idle i n.event_end n.closed
-
   pub taken_then : take (length (until (i + 1) x.journal)) x.journal ≡ until (i + 1) x.journal
   taken_then =
       let parts = event_rows.front (i + 1) x.journal (told_all g opening x run_x).rising in
-      ap (take (length (until (i + 1) x.journal))) (sym parts) ∙ take_cut (until (i + 1) x.journal) (since (i + 1 + 1) x.journal)
+      ap (take (length (until (i + 1) x.journal))) (sym parts) ∙ take-append_seam (until (i + 1) x.journal) (since (i + 1 + 1) x.journal)
 
   pub picks_then : run_then.stand.seen.picks ≡ (seen_until w opening x.journal x.ends (i + 1)).picks
   picks_then =
       ap (λ (v : Seen). v.picks) (sees g k opening j is_opening z.journal run_then.stand run_then.runs)
       ∙ sym (strange_picks w k (see_all w k (nothing_seen opening) z.journal) strays (until_strange g opening x run_x idle i n.event_end n.closed))
       ∙ ap (λ (v : Seen). v.picks) (sym (see_parts w k (nothing_seen opening) z.journal strays))
-      ∙ ap (λ l. (see_all w k (nothing_seen opening) l).picks) (sym (taken_then ∙ until_is))
+      ∙ ap (λ l. (see_all w k (nothing_seen opening) l).picks) (sym (taken_then ∙ journal_until g opening x run_x idle i n.event_end n.closed))

@@ -1,6 +1,6 @@
 -- What the entries of a run change, one by one and together.
-use Rattle.std.proofs.Common.{◌≡◌, ℕ, zero, suc, ◌+◌, ◌<◌, ◌≤◌, ◌⊎◌, inl, inr, true, false, List, [], ◌∷◌, ◌++◌, length, slice_get, Option, Some, None, refl, sym, ap, subst, ◌∙◌, arith, length-append}
-use Rattle.job_facts.specs.Prelude.{text_eq, Content, Scene, Upload, begins, effect, moment, after_all, Driver, Request, Outcome, Answered, Slow, RequestLost, Entry, IsLegal, Script, dest_prefix, setup_asks, Setting, Operation, TheSetup, TheCommit, TheClean, who, asks, IsZeroRename, ZeroRename, AreOwn, is_own, SameOutsideUpload, SameOutside, see, HasBucket, Who, known, entry, driver_entry, strange_entry, at_id, Times, TheCheck, TheSparing}
+use Rattle.std.proofs.Common.{◌≡◌, ℕ, ◌+◌, ◌<◌, ◌≤◌, ◌⊎◌, inl, inr, true, false, List, [], ◌∷◌, ◌++◌, length, slice_get, take, Option, Some, None, refl, sym, ap, subst, ◌∙◌, arith, length-append}
+use Rattle.job_facts.specs.Prelude.{text_eq, Content, Scene, Upload, begins, effect, moment, after_all, Driver, Request, Outcome, Slow, RequestLost, Entry, IsLegal, Script, dest_prefix, setup_asks, Setting, Operation, TheSetup, TheCommit, TheClean, who, asks, IsZeroRename, ZeroRename, AreOwn, is_own, SameOutsideUpload, SameOutside, see, HasBucket, Who, known, entry, driver_entry, strange_entry, at_id, Times, TheCheck, TheSparing}
 use Rattle.job_spec.proofs.Common.{some_is, none_some, false_true, true_or_false}
 use Rattle.std.specs.FinMap as fin
 use Rattle.s3_types.specs.Store.{opening as opening_scene}
@@ -8,11 +8,17 @@ use Rattle.job_protocol.specs.View.{object_at}
 use Rattle.job_spec.specs.Scope.{upload_at}
 use Rattle.job_facts.proofs.Ended.{stood_so}
 use Rattle.job_facts.proofs.SettingUp.{setup_alone}
-use Rattle.job_traces.specs.Runs.{Stand, Runs, run_begins, actor_begins, driver_sends, attempt_sends, strays, IsOpening, is_set, nothing_learnt}
+use Rattle.job_traces.specs.Runs.{Stand, Runs, IsOpening, is_set, nothing_learnt}
 use Rattle.job_traces.proofs.Running.{At, Late}
 use Rattle.job_facts.proofs.OwnRequests.{setup_changes, attempt_changes, commit_changes, clean_changes}
 use Rattle.job_traces.proofs.EveryRun.{good, late, own_front, own_last}
-use Rattle.job_traces.proofs.Entries.{take_front, take_all}
+use Rattle.job_traces.proofs.Entries.{take_all, front, own_taken}
+use Rattle.job_traces.proofs.Lists.{slice_front, slice_last}
+use Rattle.job_traces.proofs.Plain.{one_scene}
+use Rattle.job_traces.proofs.Folds.{each_run, each_seen}
+use Rattle.std.proofs.lemmas.Bool.{cases_lt}
+use Rattle.std.proofs.lemmas.List.{take-append-le}
+use Rattle.job_spec.proofs.Common.{slice_get_within}
 use Rattle.job_facts.proofs.Sharing.{check_changes, sparing_changes}
 
 -- ---- contents that are the same outside
@@ -56,9 +62,6 @@ module _ (w : Script) where
     | inr free ↦ inl (ap (λ x. Some x) (sym (h free)))
   ]
 
-  leaves_same : (c : Content) → Leaves w c c
-  leaves_same c = record { buckets = λ b ne. refl; objects = λ k free. refl; uploads = λ id. inl refl }
-
   leaves_on : (a b c : Content) → Leaves w a b → Leaves w b c → Leaves w a c
   leaves_on a b c h g = record {
     buckets = λ x ne. g.buckets x ne ∙ h.buckets x ne;
@@ -66,16 +69,10 @@ module _ (w : Script) where
     uploads = λ id. moves_on (upload_at a w.dest.bucket id) (upload_at b w.dest.bucket id) (upload_at c w.dest.bucket id) (h.uploads id) (g.uploads id);
   }
 
-  leaves_outside : (c d : Content) → Leaves w c d → SameOutside w c d
-  leaves_outside c d h = record { buckets = h.buckets; objects = h.objects; uploads = λ id. moves_outside (upload_at c w.dest.bucket id) (upload_at d w.dest.bucket id) (h.uploads id) }
-
   -- one entry
   record Changes (e : Entry) (c d : Content) : Type 0 where
     pub rename : IsZeroRename w e c d
     pub keys : (id : ℕ) (u v : Upload) → upload_at c w.dest.bucket id ≡ Some u → upload_at d w.dest.bucket id ≡ Some v → u.key ≡ v.key
-
-  changes_leave : (e : Entry) (c d : Content) → Changes e c d → Leaves w c d
-  changes_leave e c d h = record { buckets = h.rename.outside.buckets; objects = h.rename.outside.objects; uploads = λ id. step_moves (upload_at c w.dest.bucket id) (upload_at d w.dest.bucket id) (h.rename.outside.uploads id) (h.keys id) }
 
   -- a live upload keeps its key, whoever sends
   keys_stay : (s : Scene) → HasBucket s.content w.dest.bucket → ((id : ℕ) (x : Upload) → at_id w s.content id ≡ Some x → id < s.content.next) → (r : Request) (o : Outcome)
@@ -86,6 +83,10 @@ module _ (w : Script) where
 
 -- ---- runs
 
+pub after_parts : (s : Scene) (xs ys : List Entry) → after_all s (xs ++ ys) ≡ after_all (after_all s xs) ys
+after_parts s [] ys = refl
+after_parts s (x ∷ xs) ys = after_parts (effect s x.request x.outcome) xs ys
+
 module _ (g : Setting) (k : Times) (opening : Content) (j : IsLegal g.script) (is_opening : IsOpening g opening) where
   abbrev w : Script
   w = g.script
@@ -93,24 +94,17 @@ module _ (g : Setting) (k : Times) (opening : Content) (j : IsLegal g.script) (i
   abbrev Step : Stand → Entry → Request → Outcome → Type 0
   Step x e r o = Changes w e x.seen.scene.content (effect x.seen.scene r o).content
 
+  -- where a live upload keeps its key
+  late_step : (x : Stand) → Late g opening x → (e : Entry) (r : Request) (o : Outcome) → IsZeroRename w e x.seen.scene.content (effect x.seen.scene r o).content → Step x e r o
+  late_step x l e r o rename = record { rename = rename; keys = keys_stay w x.seen.scene l.hold.there l.hold.ids.fresh r o }
+
   late_change : (x : Stand) → Late g opening x → (op : Operation) → At g opening (Some op) x.seen x.told → (n : ℕ) (r : Request) → asks g (who Driver) nothing_learnt op ≡ Some r → (o : Outcome) → Step x (driver_entry n r o) r o
   late_change x l (TheSetup t) y n r asked o = absurd (none_some (ap (setup_asks w) y.0) asked)
-  late_change x l (TheCommit c) y n r asked o = record {
-    rename = commit_changes g j x.seen x.told c (record { hold = l.hold; gone = l.gone y.uncleaned; fits = y.fits; tabled = y.tabled; turns = y.turns; decides = y.decides }) r asked n o;
-    keys = keys_stay w x.seen.scene l.hold.there l.hold.ids.fresh r o;
-  }
-  late_change x l (TheClean t) y n r asked o = record {
-    rename = clean_changes g j x.seen x.told l.hold t.operation y r asked n o;
-    keys = keys_stay w x.seen.scene l.hold.there l.hold.ids.fresh r o;
-  }
-  late_change x l (TheCheck t) y n r asked o = record {
-    rename = check_changes g j x.seen x.told l.hold t.operation r asked n o;
-    keys = keys_stay w x.seen.scene l.hold.there l.hold.ids.fresh r o;
-  }
-  late_change x l (TheSparing t) y n r asked o = record {
-    rename = sparing_changes g j x.seen x.told l.hold t.operation y r asked n o;
-    keys = keys_stay w x.seen.scene l.hold.there l.hold.ids.fresh r o;
-  }
+  late_change x l (TheCommit c) y n r asked o = late_step x l (driver_entry n r o) r o
+      (commit_changes g j x.seen x.told c (record { hold = l.hold; gone = l.gone y.uncleaned; fits = y.fits; tabled = y.tabled; turns = y.turns; decides = y.decides }) r asked n o)
+  late_change x l (TheClean t) y n r asked o = late_step x l (driver_entry n r o) r o (clean_changes g j x.seen x.told l.hold t.operation y r asked n o)
+  late_change x l (TheCheck t) y n r asked o = late_step x l (driver_entry n r o) r o (check_changes g j x.seen x.told l.hold t.operation r asked n o)
+  late_change x l (TheSparing t) y n r asked o = late_step x l (driver_entry n r o) r o (sparing_changes g j x.seen x.told l.hold t.operation y r asked n o)
   late_change x l _ y n r asked o = absurd y
 
   driver_change : (es : List Entry) (x : Stand) → Runs g k opening es x → (op : Operation) → x.driver ≡ Some op → (n : ℕ) (r : Request) → asks g (who Driver) nothing_learnt op ≡ Some r → (o : Outcome) → Step x (driver_entry n r o) r o
@@ -132,105 +126,65 @@ module _ (g : Setting) (k : Times) (opening : Content) (j : IsLegal g.script) (i
   attempt_change es x run set a op at n r asked o =
       let l = late g k opening j is_opening x (good g k opening j is_opening es x run) set in
       let f = l.fine a op at in
-      record { rename = attempt_changes g j x.seen x.told l.hold a f.0 op f.1 r asked n o; keys = keys_stay w x.seen.scene l.hold.there l.hold.ids.fresh r o }
+      late_step x l (entry a n r o) r o (attempt_changes g j x.seen x.told l.hold a f.0 op f.1 r asked n o)
 
   -- ---- the moments of a run
 
-  after_more : (s : Scene) (es : List Entry) (e : Entry) → after_all s (es ++ e ∷ []) ≡ effect (after_all s es) e.request e.outcome
-  after_more s [] e = refl
-  after_more s (x ∷ es) e = after_more (effect s x.request x.outcome) es e
-
-  driver_content : (x : Stand) (n : ℕ) (r : Request) (o : Outcome) → (see w k x.seen (driver_entry n r o)).scene ≡ effect x.seen.scene r o
-  driver_content x n r (Answered y) = refl
-  driver_content x n r _ = refl
-
-  attempt_content : (x : Stand) (a : Who) (n : ℕ) (r : Request) (o : Outcome) → (see w k x.seen (entry a n r o)).scene ≡ effect x.seen.scene r o
-  attempt_content x a n r (Answered y) = refl
-  attempt_content x a n r _ = refl
-
   after_is : (es : List Entry) (x : Stand) → Runs g k opening es x → x.seen.scene ≡ after_all (opening_scene opening) es
-  after_is es x run_begins = refl
-  after_is es x (actor_begins fs y b run may) = after_is fs y run
-  after_is es x (driver_sends fs y op n r o run d asked timely few honest) = driver_content y n r o ∙ ap (λ s. effect s r o) (after_is fs y run) ∙ sym (after_more (opening_scene opening) fs (driver_entry n r o))
-  after_is es x (attempt_sends fs y a op n r o run set at asked honest) = attempt_content y a n r o ∙ ap (λ s. effect s r o) (after_is fs y run) ∙ sym (after_more (opening_scene opening) fs (entry a n r o))
-  after_is es x (strays fs y n r o run f) = ap (λ s. effect s r o) (after_is fs y run) ∙ sym (after_more (opening_scene opening) fs (strange_entry n r o))
+  after_is =
+      each_seen g k opening (λ es s m. s.scene ≡ after_all (opening_scene opening) es) refl
+      (λ es x e run h. one_scene w k x.seen e ∙ ap (λ s. effect s e.request e.outcome) h ∙ sym (after_parts (opening_scene opening) es (e ∷ [])))
 
   pub moment_scene : (es : List Entry) (x : Stand) → Runs g k opening es x → moment opening es (length es) ≡ x.seen.scene
   moment_scene es x run = ap (after_all (opening_scene opening)) (take_all es (length es) (omega arith)) ∙ sym (after_is es x run)
 
-  moment_is : (es : List Entry) (x : Stand) → Runs g k opening es x → (moment opening es (length es)).content ≡ x.seen.scene.content
-  moment_is es x run = ap (λ (s : Scene). s.content) (moment_scene es x run)
-
   pub earlier : (es : List Entry) (e : Entry) (m : ℕ) → m ≤ length es → moment opening (es ++ e ∷ []) m ≡ moment opening es m
-  earlier es e m l = ap (after_all (opening_scene opening)) (take_front es (e ∷ []) m l)
+  earlier es e m l = ap (after_all (opening_scene opening)) (take-append-le m es (e ∷ []) l)
 
-  less_or_more : (a b : ℕ) → (a ≤ b) ⊎ (b < a)
-  less_or_more zero b = inl (omega arith)
-  less_or_more (suc a) zero = inr (omega arith)
-  less_or_more (suc a) (suc b) = elim (less_or_more a b) [ inl h ↦ inl (omega arith) | inr h ↦ inr (omega arith) ]
-
-  pub slice_in : (es : List Entry) (e : Entry) (m : ℕ) → m < length es → slice_get (es ++ e ∷ []) m ≡ slice_get es m
-  slice_in [] e m l = absurd (omega arith)
-  slice_in (x ∷ es) e zero l = refl
-  slice_in (x ∷ es) e (suc m) l = slice_in es e m (omega arith)
-
-  slice_end : (es : List Entry) (e : Entry) (m : ℕ) (x : Entry) → length es ≤ m → slice_get (es ++ e ∷ []) m ≡ Some x → (m ≡ length es) × (e ≡ x)
-  slice_end [] e zero x l h = (refl, some_is h)
-  slice_end [] e (suc m) x l h = absurd (none_some refl h)
-  slice_end (y ∷ es) e zero x l h = absurd (omega arith)
-  slice_end (y ∷ es) e (suc m) x l h = let old = slice_end es e m x (omega arith) h in (ap (λ n. suc n) old.0, old.1)
-
-  -- all of its moments, with the contents that they have
+  -- all of its entries, and the content that it has now
   record Moments (es : List Entry) (now : Content) : Type 0 where
     pub entries : ZeroRename w opening es
-    pub outside : AreOwn es → (m : ℕ) → m ≤ length es → Leaves w opening (moment opening es m).content
     pub whole : AreOwn es → Leaves w opening now
 
   -- one more entry changes what it may where it is the job's own
-  one_more : (es : List Entry) (e : Entry) (now next : Content) → (moment opening es (length es)).content ≡ now → (moment opening (es ++ e ∷ []) (length (es ++ e ∷ []))).content ≡ next → (is_own e.actor ≡ true → Changes w e now next) → Moments es now → Moments (es ++ e ∷ []) next
-  one_more es e now next at after c h = record {
-    entries = λ m x is own. elim (less_or_more (m + 1) (length es)) [
-      | inl low ↦
-          let old = h.entries m x (sym (slice_in es e m (omega arith)) ∙ is) own in
-          subst (λ s. IsZeroRename w x s.content (moment opening (es ++ e ∷ []) (m + 1)).content) (sym (earlier es e m (omega arith))) (subst (λ s. IsZeroRename w x (moment opening es m).content s.content) (sym (earlier es e (m + 1) low)) old)
+  one_more : (es : List Entry) (x : Stand) (e : Entry) → Runs g k opening es x → (is_own e.actor ≡ true → Step x e e.request e.outcome) → Moments es x.seen.scene.content
+      → Moments (es ++ e ∷ []) (see w k x.seen e).scene.content
+  one_more es x e run c h = record {
+    entries = λ m y is own. elim (cases_lt m (length es)) [
+      | inl low ↦ subst (λ s. IsZeroRename w y s.content (moment opening (es ++ e ∷ []) (m + 1)).content) (sym (earlier es e m (omega arith)))
+          (subst (λ s. IsZeroRename w y (moment opening es m).content s.content) (sym (earlier es e (m + 1) (omega arith))) (h.entries m y (sym (slice_front es (e ∷ []) m low) ∙ is) own))
       | inr high ↦
-          let last = slice_end es e m x (omega arith) is in
+          let low : m < length (es ++ e ∷ []) = slice_get_within (es ++ e ∷ []) m y is in
           let long : length (es ++ e ∷ []) ≡ length es + 1 = length-append es (e ∷ []) in
-          let at_m : (moment opening (es ++ e ∷ []) m).content ≡ now = ap (λ n. (moment opening (es ++ e ∷ []) n).content) last.0 ∙ ap (λ (s : Scene). s.content) (earlier es e (length es) (omega arith)) ∙ at in
-          let end : m + 1 ≡ length (es ++ e ∷ []) = ap (λ n. n + 1) last.0 ∙ sym long in
-          let at_next : (moment opening (es ++ e ∷ []) (m + 1)).content ≡ next = ap (λ n. (moment opening (es ++ e ∷ []) n).content) end ∙ after in
-          let mine : is_own e.actor ≡ true = ap (λ (y : Entry). is_own y.actor) last.1 ∙ own in
-          subst (λ y. IsZeroRename w y (moment opening (es ++ e ∷ []) m).content (moment opening (es ++ e ∷ []) (m + 1)).content) last.1
-          (subst (λ c. IsZeroRename w e c (moment opening (es ++ e ∷ []) (m + 1)).content) (sym at_m) (subst (IsZeroRename w e now) (sym at_next) (c mine).rename))
+          let last : m ≡ length es = omega (arith, low, long, high) in
+          let one : e ≡ y = some_is (sym (slice_last es e) ∙ ap (slice_get (es ++ e ∷ [])) (sym last) ∙ is) in
+          let at : moment opening (es ++ e ∷ []) m ≡ x.seen.scene = ap (moment opening (es ++ e ∷ [])) last ∙ earlier es e (length es) (omega arith) ∙ moment_scene es x run in
+          let next : moment opening (es ++ e ∷ []) (m + 1) ≡ effect x.seen.scene e.request e.outcome =
+          ap (after_all (opening_scene opening)) (take_all (es ++ e ∷ []) (m + 1) (omega (arith, long, high))) ∙ after_parts (opening_scene opening) es (e ∷ [])
+          ∙ ap (λ s. effect s e.request e.outcome) (sym (after_is es x run)) in
+          subst (λ z. IsZeroRename w z (moment opening (es ++ e ∷ []) m).content (moment opening (es ++ e ∷ []) (m + 1)).content) one
+          (subst (λ s. IsZeroRename w e s.content (moment opening (es ++ e ∷ []) (m + 1)).content) (sym at) (subst (λ s. IsZeroRename w e x.seen.scene.content s.content) (sym next) (c (ap (λ (z : Entry). is_own z.actor) one ∙ own)).rename))
     ];
-    outside = λ own m l. elim (less_or_more m (length es)) [
-      | inl low ↦ subst (λ s. Leaves w opening s.content) (sym (earlier es e m low)) (h.outside (own_front es (e ∷ []) own) m low)
-      | inr high ↦
-          let long : length (es ++ e ∷ []) ≡ length es + 1 = length-append es (e ∷ []) in
-          let end : m ≡ length (es ++ e ∷ []) = omega (arith, long, high, l) in
-          let at_next : (moment opening (es ++ e ∷ []) m).content ≡ next = ap (λ n. (moment opening (es ++ e ∷ []) n).content) end ∙ after in
-          subst (Leaves w opening) (sym at_next) (now_leaves own)
-    ];
-    whole = now_leaves;
+    whole = λ own.
+        let last = c (own_last es e own) in
+        let leaves : Leaves w x.seen.scene.content (effect x.seen.scene e.request e.outcome).content =
+        record { buckets = last.rename.outside.buckets; objects = last.rename.outside.objects; uploads = λ id. step_moves w (at_id w x.seen.scene.content id) (at_id w (effect x.seen.scene e.request e.outcome).content id) (last.rename.outside.uploads id) (last.keys id) } in
+        subst (λ (s : Scene). Leaves w opening s.content) (sym (one_scene w k x.seen e))
+        (leaves_on w opening x.seen.scene.content (effect x.seen.scene e.request e.outcome).content (h.whole (own_front es (e ∷ []) own)) leaves);
   }
-    where
-      now_leaves : AreOwn (es ++ e ∷ []) → Leaves w opening next
-      now_leaves own = leaves_on w opening now next (h.whole (own_front es (e ∷ []) own)) (changes_leave w e now next (c (own_last es e own)))
 
   moments : (es : List Entry) (x : Stand) → Runs g k opening es x → Moments es x.seen.scene.content
-  moments es x run_begins = record { entries = λ m e is own. absurd (none_some refl is); outside = λ own m l. subst (λ xs. Leaves w opening (after_all (opening_scene opening) xs).content) (sym (take_all [] m (omega arith))) (leaves_same w opening); whole = λ own. leaves_same w opening }
-  moments es x (actor_begins fs y b run may) = moments fs y run
-  moments es x (driver_sends fs y op n r o run d asked timely few honest) =
-      one_more fs (driver_entry n r o) y.seen.scene.content x.seen.scene.content (moment_is fs y run) (moment_is es x (driver_sends fs y op n r o run d asked timely few honest))
-      (λ own. subst (λ (s : Scene). Changes w (driver_entry n r o) y.seen.scene.content s.content) (sym (driver_content y n r o)) (driver_change fs y run op d n r asked o)) (moments fs y run)
-  moments es x (attempt_sends fs y a op n r o run set at asked honest) =
-      one_more fs (entry a n r o) y.seen.scene.content x.seen.scene.content (moment_is fs y run) (moment_is es x (attempt_sends fs y a op n r o run set at asked honest))
-      (λ own. subst (λ (s : Scene). Changes w (entry a n r o) y.seen.scene.content s.content) (sym (attempt_content y a n r o)) (attempt_change fs y run set a op at n r asked o)) (moments fs y run)
-  moments es x (strays fs y n r o run f) =
-      one_more fs (strange_entry n r o) y.seen.scene.content x.seen.scene.content (moment_is fs y run) (moment_is es x (strays fs y n r o run f)) (λ own. absurd (false_true refl own)) (moments fs y run)
+  moments = each_run g k opening (λ es x. Moments es x.seen.scene.content) (record { entries = λ m e is own. absurd (none_some refl is); whole = λ own. record { buckets = λ b ne. refl; objects = λ k free. refl; uploads = λ id. inl refl } }) (λ es x b run may h. h)
+      (λ es x op n r o run d asked timely few honest h. one_more es x (driver_entry n r o) run (λ own. driver_change es x run op d n r asked o) h)
+      (λ es x a op n r o run set at asked honest h. one_more es x (entry a n r o) run (λ own. attempt_change es x run set a op at n r asked o) h)
+      (λ es x n r o run f h. one_more es x (strange_entry n r o) run (λ own. absurd (false_true refl own)) h)
 
   pub runs_rename : (es : List Entry) (x : Stand) → Runs g k opening es x → ZeroRename w opening es
   runs_rename es x run = (moments es x run).entries
 
   pub runs_outside : (es : List Entry) (x : Stand) → Runs g k opening es x → AreOwn es → (m : ℕ) → m ≤ length es → SameOutside w opening (moment opening es m).content
-  runs_outside es x run own m l = leaves_outside w opening (moment opening es m).content ((moments es x run).outside own m l)
+  runs_outside es x run own m l =
+      let f = front g k opening j is_opening es x run m in
+      let h : Leaves w opening (moment opening es m).content =
+      subst (λ (s : Scene). Leaves w opening s.content) (after_is (take m es) f.0 f.1) ((moments (take m es) f.0 f.1).whole (own_taken es m own)) in
+      record { buckets = h.buckets; objects = h.objects; uploads = λ id. moves_outside w (upload_at opening w.dest.bucket id) (upload_at (moment opening es m).content w.dest.bucket id) (h.uploads id) }

@@ -1,11 +1,14 @@
 -- What a run's entries say, at each of its moments.
-use Rattle.std.proofs.Common.{◌≡◌, ℕ, zero, suc, ◌+◌, ◌<◌, ◌≤◌, ◌⊎◌, inl, inr, true, List, [], ◌∷◌, ◌++◌, length, take, Some, refl, sym, ap, subst, ◌∙◌, arith, length-append}
-use Rattle.job_facts.specs.Prelude.{Content, Entry, IsLegal, Script, CommitEnd, view, CommitOver, Setting, TheCommit, AreOwn, Same, Kept, Always, is_untouched, NoDeletionWorn, OnlyOpening, Seen, see, see_all, nothing_seen, Told, entry, driver_entry, strange_entry, nothing_told, tell, tell_all, Times}
+use Rattle.std.proofs.Common.{◌≡◌, ℕ, ◌+◌, ◌≤◌, inl, inr, true, List, [], ◌∷◌, ◌++◌, length, take, drop, Some, refl, sym, ap, subst, ◌∙◌, arith, length-append}
+use Rattle.job_facts.specs.Prelude.{Content, Hold, Gone, Commit, Entry, IsLegal, Script, CommitEnd, view, CommitOver, Setting, TheCommit, AreOwn, Same, Kept, Always, is_untouched, NoDeletionWorn, OnlyOpening, Seen, see, see_all, nothing_seen, Told, entry, driver_entry, strange_entry, nothing_told, tell, tell_all, Times}
 use Rattle.job_model.specs.declared.ends.CommitEnd.TheVariants as commits
 use Rattle.job_model.specs.declared.ends.Stage.TheVariants as stages
-use Rattle.job_traces.specs.Runs.{Stand, Runs, run_begins, actor_begins, driver_sends, attempt_sends, strays, IsOpening, is_set}
-use Rattle.job_traces.proofs.Running.{At, Late, Shows, untouched_shows, left_still, reverted_shows}
-use Rattle.job_traces.proofs.EveryRun.{good, shown, kept_now, late, own_front}
+use Rattle.job_traces.specs.Runs.{Stand, first_stand, Runs, run_begins, driver_sends, attempt_sends, strays, IsOpening, is_set}
+use Rattle.job_traces.proofs.Running.{At, InCommit, Late, Shows, untouched_shows, left_still, reverted_shows}
+use Rattle.job_traces.proofs.EveryRun.{good, shown, kept_now, late, cleans_is, own_front}
+use Rattle.job_traces.proofs.Folds.{each_run, each_seen}
+use Rattle.std.proofs.lemmas.Bool.{cases_lt}
+use Rattle.std.proofs.lemmas.List.{take_all as all_taken, take-append-le, take-append-drop}
 
 -- ---- one more entry
 
@@ -17,21 +20,11 @@ tell_more : (w : Script) (m : Told) (es : List Entry) (e : Entry) → tell_all w
 tell_more w m [] e = refl
 tell_more w m (x ∷ es) e = tell_more w (tell w m x) es e
 
-pub take_front : (es fs : List Entry) (m : ℕ) → m ≤ length es → take m (es ++ fs) ≡ take m es
-take_front es fs zero l = none es fs
-  where
-    none : (es fs : List Entry) → take zero (es ++ fs) ≡ take zero es
-    none [] [] = refl
-    none [] (f ∷ fs) = refl
-    none (e ∷ es) fs = refl
-take_front [] fs (suc m) l = absurd (omega arith)
-take_front (e ∷ es) fs (suc m) l = ap (λ xs. e ∷ xs) (take_front es fs m (omega arith))
-
 pub take_all : (es : List Entry) (m : ℕ) → length es ≤ m → take m es ≡ es
-take_all [] zero l = refl
-take_all [] (suc m) l = refl
-take_all (e ∷ es) zero l = absurd (omega arith)
-take_all (e ∷ es) (suc m) l = ap (λ xs. e ∷ xs) (take_all es m (omega arith))
+take_all es m l = all_taken m es l
+
+pub own_taken : (es : List Entry) (m : ℕ) → AreOwn es → AreOwn (take m es)
+own_taken es m own = own_front (take m es) (drop m es) (subst AreOwn (sym (take-append-drop m es)) own)
 
 module _ (g : Setting) (k : Times) (opening : Content) (j : IsLegal g.script) (is_opening : IsOpening g opening) where
   abbrev w : Script
@@ -40,63 +33,61 @@ module _ (g : Setting) (k : Times) (opening : Content) (j : IsLegal g.script) (i
   abbrev all : List Entry → Seen
   all es = see_all w k (nothing_seen opening) es
 
-  less_or_more : (a b : ℕ) → (a ≤ b) ⊎ (b < a)
-  less_or_more zero b = inl (omega arith)
-  less_or_more (suc a) zero = inr (omega arith)
-  less_or_more (suc a) (suc b) = elim (less_or_more a b) [ inl h ↦ inl (omega arith) | inr h ↦ inr (omega arith) ]
-
-  always_more : (es : List Entry) (e : Entry) → Always w k opening es → Kept w opening (all (es ++ e ∷ [])) → Always w k opening (es ++ e ∷ [])
-  always_more es e old now m l = elim (less_or_more m (length es)) [
-    | inl low ↦ subst (λ xs. Kept w opening (see_all w k (nothing_seen opening) xs)) (sym (take_front es (e ∷ []) m low)) (old m low)
-    | inr high ↦
-        let long : length (es ++ e ∷ []) ≡ length es + 1 = length-append es (e ∷ []) in
-        subst (λ xs. Kept w opening (see_all w k (nothing_seen opening) xs)) (sym (take_all (es ++ e ∷ []) m (omega (arith, long, high)))) now
+  -- a front of its entries is that of a run
+  front_more : (es : List Entry) (e : Entry) (z : Stand) → Runs g k opening (es ++ e ∷ []) z → ((m : ℕ) → (y : Stand) × Runs g k opening (take m es) y) → (m : ℕ)
+      → (y : Stand) × Runs g k opening (take m (es ++ e ∷ [])) y
+  front_more es e z run old m = elim (cases_lt (length es) m) [
+    | inl high ↦ (z, subst (λ l. Runs g k opening l z) (sym (take_all (es ++ e ∷ []) m (let long : length (es ++ e ∷ []) ≡ length es + 1 = length-append es (e ∷ []) in omega (arith, long, high)))) run)
+    | inr low ↦ subst (λ l. (y : Stand) × Runs g k opening l y) (sym (take-append-le m es (e ∷ []) low)) (old m)
   ]
+
+  pub front : (es : List Entry) (x : Stand) → Runs g k opening es x → (m : ℕ) → (y : Stand) × Runs g k opening (take m es) y
+  front =
+      each_run g k opening (λ es x. (m : ℕ) → (y : Stand) × Runs g k opening (take m es) y)
+      (λ m. (first_stand opening k.clean, subst (λ l. Runs g k opening l (first_stand opening k.clean)) (sym (take_all [] m (omega arith))) run_begins)) (λ es x b run may h. h)
+      (λ es x op n r o run d asked timely few honest h. front_more es (driver_entry n r o) _ (driver_sends es x op n r o run d asked timely few honest) h)
+      (λ es x a op n r o run set at asked honest h. front_more es (entry a n r o) _ (attempt_sends es x a op n r o run set at asked honest) h)
+      (λ es x n r o run f h. front_more es (strange_entry n r o) _ (strays es x n r o run f) h)
 
   -- ---- what a run sees and tells
 
-  sees_more : (y : Stand) (es : List Entry) → y.seen ≡ all es → (e : Entry) → see w k y.seen e ≡ all (es ++ e ∷ [])
-  sees_more y es is e = ap (λ s. see w k s e) is ∙ sym (see_more w k (nothing_seen opening) es e)
-
   pub sees : (es : List Entry) (x : Stand) → Runs g k opening es x → x.seen ≡ all es
-  sees es x run_begins = refl
-  sees es x (actor_begins fs y b run may) = sees fs y run
-  sees es x (driver_sends fs y op n r o run d asked timely few honest) = sees_more y fs (sees fs y run) (driver_entry n r o)
-  sees es x (attempt_sends fs y a op n r o run set at asked honest) = sees_more y fs (sees fs y run) (entry a n r o)
-  sees es x (strays fs y n r o run f) = sees_more y fs (sees fs y run) (strange_entry n r o)
+  sees = each_seen g k opening (λ es s m. s ≡ all es) refl (λ es x e run h. ap (λ s. see w k s e) h ∙ sym (see_more w k (nothing_seen opening) es e))
 
   pub tells_so : (es : List Entry) (x : Stand) → Runs g k opening es x → x.told ≡ tell_all w (nothing_told x.told.cleans_at) es
-  tells_so es x run_begins = refl
-  tells_so es x (actor_begins fs y b run may) = tells_so fs y run
-  tells_so es x (driver_sends fs y op n r o run d asked timely few honest) = ap (λ m. tell w m (driver_entry n r o)) (tells_so fs y run) ∙ sym (tell_more w (nothing_told y.told.cleans_at) fs (driver_entry n r o))
-  tells_so es x (attempt_sends fs y a op n r o run set at asked honest) = ap (λ m. tell w m (entry a n r o)) (tells_so fs y run) ∙ sym (tell_more w (nothing_told y.told.cleans_at) fs (entry a n r o))
-  tells_so es x (strays fs y n r o run f) = tells_so fs y run ∙ sym (tell_more w (nothing_told y.told.cleans_at) fs (strange_entry n r o))
-
-  kept_all : (es : List Entry) (x : Stand) → Runs g k opening es x → AreOwn es → Kept w opening (all es)
-  kept_all es x run own = subst (Kept w opening) (sees es x run) (kept_now g k opening j is_opening x (good g k opening j is_opening es x run) (shown g k opening j is_opening es x run own))
+  tells_so es x run =
+      each_seen g k opening (λ es s m. m ≡ tell_all w (nothing_told k.clean) es) refl
+      (λ es x e run h. ap (λ m. tell w m e) h ∙ sym (tell_more w (nothing_told k.clean) es e)) es x run
+      ∙ ap (λ c. tell_all w (nothing_told c) es) (sym (cleans_is g k opening j is_opening es x run))
 
   pub always : (es : List Entry) (x : Stand) → Runs g k opening es x → AreOwn es → Always w k opening es
-  always es x run_begins own m l = subst (λ xs. Kept w opening (see_all w k (nothing_seen opening) xs)) (sym (take_all [] m (omega arith))) (kept_all es x run_begins own)
-  always es x (actor_begins fs y b run may) own m l = always fs y run own m l
-  always es x (driver_sends fs y op n r o run d asked timely few honest) own m l = always_more fs (driver_entry n r o) (always fs y run (own_front fs _ own)) (kept_all es x (driver_sends fs y op n r o run d asked timely few honest) own) m l
-  always es x (attempt_sends fs y a op n r o run set at asked honest) own m l = always_more fs (entry a n r o) (always fs y run (own_front fs _ own)) (kept_all es x (attempt_sends fs y a op n r o run set at asked honest) own) m l
-  always es x (strays fs y n r o run f) own m l = always_more fs (strange_entry n r o) (always fs y run (own_front fs _ own)) (kept_all es x (strays fs y n r o run f) own) m l
+  always es x run own m l =
+      let f = front es x run m in
+      subst (Kept w opening) (sees (take m es) f.0 f.1)
+      (kept_now g k opening j is_opening f.0 (good g k opening j is_opening (take m es) f.0 f.1) (shown g k opening j is_opening (take m es) f.0 f.1 (own_taken es m own)))
 
   -- ---- what its stand says
 
   pub late_now : (es : List Entry) (x : Stand) → Runs g k opening es x → is_set x.driver ≡ true → Late g opening x
   late_now es x run set = late g k opening j is_opening x (good g k opening j is_opening es x run) set
 
+  -- while the commit goes on
+  pub in_commit : (es : List Entry) (x : Stand) → Runs g k opening es x → (c : Commit) → x.driver ≡ Some (TheCommit c)
+      → Hold w g.minimum x.seen x.told × Gone w x.seen.scene.content x.told × InCommit g opening x.seen.picks x.told c
+  in_commit es x run c d =
+      let l = late_now es x run (ap is_set d) in
+      let i : InCommit g opening x.seen.picks x.told c = subst (λ v. At g opening v x.seen x.told) d l.driver in
+      (l.hold, l.gone i.uncleaned, i)
+
   pub untouched_now : (es : List Entry) (x : Stand) → Runs g k opening es x → AreOwn es → (end : CommitEnd) → x.driver ≡ Some (TheCommit (CommitOver end)) → is_untouched end ≡ true → Same (view w.dest x.seen.scene.content) (view w.dest opening)
   untouched_now es x run own end d before =
       let l = late_now es x run (ap is_set d) in
-      let i = subst (λ v. At g opening v x.seen x.told) d l.driver in
       let v = subst (λ v. Shows g opening v x.seen x.told x.commit) d (shown g k opening j is_opening es x run own) in
-      untouched_shows g opening x.seen.scene.content (left_still g opening j x.seen x.told l.hold x.commit (CommitOver end) i v end refl before)
+      untouched_shows g opening x.seen.scene.content (left_still g opening j x.seen x.told l.hold x.commit end v before)
 
   pub reverted_now : (es : List Entry) (x : Stand) → Runs g k opening es x → AreOwn es → x.driver ≡ Some (TheCommit (CommitOver (commits.StoreFault stages.Complete))) → NoDeletionWorn w.retries x.commit → OnlyOpening w opening x.seen.scene.content
   reverted_now es x run own d none =
       let l = late_now es x run (ap is_set d) in
       let i = subst (λ v. At g opening v x.seen x.told) d l.driver in
       let v = subst (λ v. Shows g opening v x.seen x.told x.commit) d (shown g k opening j is_opening es x run own) in
-      reverted_shows g opening j x.seen x.told l.hold x.commit (CommitOver (commits.StoreFault stages.Complete)) i v refl none
+      reverted_shows g opening j x.seen x.told l.hold x.commit i v none

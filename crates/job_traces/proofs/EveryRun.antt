@@ -1,20 +1,18 @@
 -- Every run comes as far as it says, whatever strangers send that leave the job's own alone; and among none a reader is shown what the headline says.
-use Rattle.std.proofs.Common.{not, ◌≡◌, ℕ, ◌<◌, ◌≤◌, ◌^◌, ◌⊎◌, inl, inr, ◌&&◌, ◌||◌, Bool, true, false, cond, List, [], ◌∷◌, ◌++◌, Option, Some, None, refl, sym, ap, subst, ◌∙◌}
-use Rattle.job_facts.specs.Prelude.{nat_cmp, is_bucket, BucketContent, Content, Scene, Upload, new_bucket, answer, apply, apply_at, bucket_of, effect, is_effective, IsHonestOutcome, only_reads, Driver, Request, MakeBucket, ClusterPut, ClusterRename, ClusterGet, ClusterDelete, ClusterList, Outcome, Answered, Slow, RequestLost, ReplyLost, Entry, below, magic_prefix, success_key, SuccessPlace, Retried, fresh, step, Who, IsLegal, Script, Known, Picks, Setup, Heading, Sweeping, SetupOver, setup_start, setup_asks, setup_after, Listing, Deleting, write_start, task_commit_start, task_abort_start, Clean, CleanOver, clean_asks, Setting, Operation, TheSetup, TheWrite, TheTaskCommit, TheTaskAbort, TheCommit, TheClean, who, asks, tells, AreOwn, Kept, NoClusterFile, is_own, Seen, see, is_begun, is_marking, is_reading, picks_by, HasBucket, ClearsAlone, Told, known, put_who, entry, driver_entry, strange_entry, ends, nothing_told, tell_driver, tell_attempt, at_event, at_id, IsAttempt, Facts, Hold, Fits, SetsUp, Gone, IsForeign, Times, is_picking, TheCheck, IsIn, changed_paths, after_check, Committer, TheSparing, begins, cluster_prefix, commit_start, Magic, Directory, Partitioned}
+use Rattle.std.proofs.Common.{not, ◌≡◌, ℕ, ◌<◌, ◌≤◌, ◌^◌, ◌⊎◌, inl, inr, ◌&&◌, ◌||◌, Bool, true, false, List, [], ◌∷◌, ◌++◌, Option, Some, None, refl, sym, ap, subst, ◌∙◌}
+use Rattle.job_facts.specs.Prelude.{at_key, view, nat_cmp, is_bucket, BucketContent, Content, Scene, Upload, new_bucket, answer, apply, apply_at, bucket_of, effect, is_effective, IsHonestOutcome, only_reads, Driver, Request, MakeBucket, ClusterPut, ClusterRename, ClusterGet, ClusterDelete, ClusterList, Outcome, Slow, RequestLost, Entry, below, success_key, SuccessPlace, Retried, fresh, step, Who, IsLegal, Script, Known, Setup, SetupOver, setup_start, setup_asks, setup_after, Listing, Deleting, Clean, CleanOver, clean_asks, Setting, Operation, TheSetup, TheCommit, TheClean, who, asks, tells, AreOwn, Kept, NoClusterFile, is_own, Seen, see, is_begun, is_marking, HasBucket, Told, known, put_who, entry, driver_entry, strange_entry, ends, nothing_told, tell_driver, tell_attempt, at_event, at_id, IsAttempt, Facts, Hold, Fits, SetsUp, Gone, IsForeign, Times, is_picking, TheCheck, IsIn, changed_paths, TheSparing, begins, cluster_prefix, commit_start, Magic}
 use Rattle.job_spec.specs.Prelude.{apply_in}
 use Rattle.job_spec.proofs.Common.{key_magic, some_is, none_some, none_or_some, false_true, same_or_other, text_here, text_other}
 use Rattle.store_frame.specs.Prelude.{upload_in}
 use Rattle.std.specs.FinMap as fin
 use Rattle.s3_types.specs.Store.{opening as opening_scene}
-use Rattle.s3_types.specs.Pages as pages
 use Rattle.s3_types.specs.Answer.{made}
 use Rattle.job_model.specs.declared.ends.SetupEnd.TheVariants as setups
 use Rattle.job_protocol.specs.Cleanups as cleanups
 use Rattle.store_frame.specs.Held.{upload_at}
 use Rattle.store_frame.proofs.Framed.{frame}
-use Rattle.store_frame.proofs.Reading.{reads_nothing}
 use Rattle.job_traces.specs.Runs.{Stand, Beginning, BeginSetup, BeginCommit, BeginClean, BeginWrite, BeginPublish, BeginAbort, begin, MayBegin, Runs, run_begins, actor_begins, driver_sends, attempt_sends, strays, IsOpening, first_stand, with_attempt, with_driver, saw, commit_with, with_commit, is_done, is_set, is_just_set, MaySetUp, IsTimely, nothing_learnt}
-use Rattle.job_facts.proofs.Whose.{same_or_another, who_here, who_other, or_false}
+use Rattle.job_facts.proofs.Whose.{same_or_another, who_here, who_other}
 use Rattle.job_facts.proofs.Legal.{some_dest}
 use Rattle.job_facts.proofs.Shows.{shown_key, HidesAll, hidden_shows}
 use Rattle.job_facts.proofs.Starting.{facts_begin}
@@ -31,8 +29,11 @@ use Rattle.job_facts.proofs.EndedGone.{first_gone, commit_gone, others_gone}
 use Rattle.job_facts.proofs.Foreign.{foreign_keeps}
 use Rattle.job_traces.proofs.Running.{Untouched, Idle, At, Early, Late, Shows, kept_untouched, kept_commit, CommitShows}
 use Rattle.job_traces.proofs.Steps.{hidden_same, commit_next, commit_shown}
+use Rattle.job_traces.proofs.Folds.{DriverKeeps, each_run, driven}
+use Rattle.job_traces.proofs.Plain.{one_scene, plain_picks, closed_picks, plain_mark, driver_last, driver_begun, setup_plain, clean_plain}
+use Rattle.std.proofs.Math.Bool.{and-false}
 use Rattle.job_traces.proofs.Keeping.{kept_next, at_beside, shows_beside, other_fits, other_known, commit_starts, commit_shows}
-use Rattle.job_protocol.specs.Rechecks.{Check, check_asks, check_after}
+use Rattle.job_protocol.specs.Rechecks.{Check, check_after}
 use Rattle.job_protocol.specs.Sparing.{Sparing, sparing_asks, sparing_after, record_request}
 use Rattle.job_protocol.specs.Sparing as sparing
 use Rattle.job_protocol.proofs.Begun.{after_check_so, commit_of_so, clean_of_so}
@@ -56,6 +57,14 @@ own_front (e ∷ es) fs h = (h.0, own_front es fs h.1)
 pub own_last : (es : List Entry) (e : Entry) → AreOwn (es ++ e ∷ []) → is_own e.actor ≡ true
 own_last [] e h = h.0
 own_last (x ∷ es) e h = own_last es e h.1
+
+-- what is so of one attempt's new value and of the others' old ones is so of all
+pub put_each : {X : Type 0} (P : Who → X → Type 0) (f : Who → Option X) (a : Who) (x : X) → P a x → ((b : Who) → (b ≡ a → ⊥) → (v : X) → f b ≡ Some v → P b v)
+    → (b : Who) (v : X) → put_who f a (Some x) b ≡ Some v → P b v
+put_each P f a x here old b v e = elim (same_or_another b a) [
+  | inl is ↦ subst (λ c. P c v) (sym is) (subst (P a) (some_is (sym (who_here f a (Some x) b is) ∙ e)) here)
+  | inr ne ↦ old b ne v (sym (who_other f a (Some x) b ne) ∙ e)
+]
 
 -- ---- a stranger's request, where no bucket may stand yet
 
@@ -112,23 +121,11 @@ module _ (g : Setting) (k : Times) (opening : Content) (j : IsLegal g.script) (i
   just_idle None s m y e = absurd y
   just_idle (Some _) s m y e = absurd (false_true refl e)
 
-  done_so : (t : Setup) → is_done t ≡ true → t ≡ SetupOver setups.Done
-  done_so (SetupOver setups.Done) e = refl
-  done_so _ e = absurd (false_true refl e)
-
   -- ---- where the set-up is done the facts begin
-
-  early_idle : (x : Stand) → Early g opening x → Idle g opening x.seen x.told
-  early_idle x e = record {
-    none = λ id. ap (λ (m : Told). m.ended id) e.told;
-    uncleaned = ap (λ (m : Told). m.cleaned) e.told;
-    unmarked = e.unmarked;
-    unpicked = e.unpicked;
-  }
 
   turned : (x : Stand) → (e : Early g opening x) → (t : Retried Setup) → x.driver ≡ Some (TheSetup t) → SetsUp w x.seen.scene.content t.operation → is_done t.operation ≡ true → Late g opening x
   turned x e t is sets done =
-      let over = done_so t.operation done in
+      let over = (elim t.operation as (λ v. is_done v ≡ true → v ≡ SetupOver setups.Done) [ SetupOver setups.Done ↦ λ e. refl | _ ↦ λ e. absurd (false_true refl e) ]) done in
       let b = setup_done w x.seen.scene (subst (SetsUp w x.seen.scene.content) over sets) (λ c. e.files) in
       record {
         hold = subst (λ m. Facts w g.minimum x.seen.scene x.seen.last m) (sym e.told) (facts_begin w g.minimum x.seen.scene x.seen.last j b.0 e.least e.fresh b.1 e.last x.told.cleans_at);
@@ -136,7 +133,9 @@ module _ (g : Setting) (k : Times) (opening : Content) (j : IsLegal g.script) (i
         fine = λ a op y. absurd (none_some (e.none a) y);
         new = λ a y. (ap (λ m. known m a) e.told, ap (λ (m : Told). m.undone a) e.told);
         filed = λ z p bytes b y. absurd (false_true (e.files p bytes y) b);
-        driver = subst (λ d. At g opening d x.seen x.told) (sym is) (over, early_idle x e);
+        driver =
+            subst (λ d. At g opening d x.seen x.told) (sym is)
+            (over, record { none = λ id. ap (λ (m : Told). m.ended id) e.told; uncleaned = ap (λ (m : Told). m.cleaned) e.told; unmarked = e.unmarked; unpicked = e.unpicked });
       }
 
   pub late : (x : Stand) → Good x → is_set x.driver ≡ true → Late g opening x
@@ -148,121 +147,22 @@ module _ (g : Setting) (k : Times) (opening : Content) (j : IsLegal g.script) (i
 
   -- ---- an entry of the set-up
 
-  pub setup_ends : (op : Setup) (r : Request) → setup_asks w op ≡ Some r → (u : ℕ) → ends r u ≡ false
-  setup_ends (Sweeping (Listing keys)) r e u = ap (λ r. ends r u) (sym (some_is e))
-  setup_ends (SetupOver end) r e u = absurd cc
-  setup_ends _ r e u = ap (λ r. ends r u) (sym (some_is e))
-
-  setup_plain : (op : Setup) (r : Request) → setup_asks w op ≡ Some r → is_marking w r ≡ false
-  setup_plain (Sweeping (Listing keys)) r e = ap (is_marking w) (sym (some_is e))
-  setup_plain (Sweeping (Deleting q qs)) r e = ap (is_marking w) (sym (some_is e))
-  setup_plain (SetupOver end) r e = absurd cc
-  setup_plain _ r e = ap (is_marking w) (sym (some_is e))
-
-  and_false : (b : Bool) → (b && false) ≡ false
-  and_false true = refl
-  and_false false = refl
-
   still_nothing : (c : Option ℕ) (n : ℕ) (r : Request) (o : Outcome) → ((u : ℕ) → ends r u ≡ false) → is_begun c n ≡ false → at_event n (tell_driver (nothing_told c) r o) ≡ nothing_told c
-  still_nothing c n r o h late = λ i. record { drawn = λ a. []; put_sent = λ a. false; publish_sent = λ a. false; undone = λ a. false; ended = λ u. at u i; cleaned = late i; cleans_at = c }
-    where
-      at : (u : ℕ) → (false || (is_effective o && ends r u)) ≡ false
-      at u = ap (λ b. is_effective o && b) (h u) ∙ and_false (is_effective o)
+  still_nothing c n r o h late = λ i. record { drawn = λ a. []; put_sent = λ a. false; publish_sent = λ a. false; undone = λ a. false; ended = λ u. (ap (λ b. is_effective o && b) (h u) ∙ and-false (is_effective o)) i; cleaned = late i; cleans_at = c }
 
   -- ids below the next one, and the least size of a part
   record Numbers (c : Content) : Type 0 where
     pub fresh : (id : ℕ) (y : Upload) → at_id w c id ≡ Some y → id < c.next
     pub least : c.minimum ≡ g.minimum
 
-  numbers : (s : Scene) (r : Request) (o : Outcome) → HasBucket s.content w.dest.bucket → Numbers s.content → Numbers (effect s r o).content
-  numbers s r Slow there n = n
-  numbers s r RequestLost there n = n
-  numbers s r _ there n = let f = frame s w.dest.bucket r there in record { fresh = f.fresh n.fresh; least = f.least ∙ n.least }
-
-  read_numbers : (s : Scene) (r : Request) (o : Outcome) → only_reads r ≡ true → Numbers s.content → Numbers (effect s r o).content
-  read_numbers s r Slow reads n = n
-  read_numbers s r RequestLost reads n = n
-  read_numbers s r _ reads n = subst (λ (x : Scene). Numbers x.content) (sym (reads_nothing s r reads)) n
-
-  setup_numbers : (s : Scene) (op : Setup) (r : Request) (o : Outcome) → SetsUp w s.content op → setup_asks w op ≡ Some r → Numbers s.content → Numbers (effect s r o).content
-  setup_numbers s Heading r o h e n = read_numbers s r o (ap only_reads (sym (some_is e))) n
-  setup_numbers s (Sweeping t) r o h e n = numbers s r o h.0 n
-  setup_numbers s (SetupOver end) r o h e n = absurd cc
-  setup_numbers s _ r o h e n = numbers s r o h n
-
-  early_sends : (x : Stand) → Early g opening x → (t : Retried Setup) → SetsUp w x.seen.scene.content t.operation → (n : ℕ) (r : Request) → setup_asks w t.operation ≡ Some r → (is_begun k.commit n ≡ false) × (is_begun x.told.cleans_at n ≡ false) → (o : Outcome) → IsHonestOutcome o (answer x.seen.scene r)
-      → Early g opening (with_commit (with_driver (saw g k x (driver_entry n r o)) (TheSetup (step w.retries (setup_after w) t o))) x.commit)
-  early_sends x e t sets n r asked timely o honest = by o honest (setup_goes w x.seen.scene w.retries t.spare t.repeated t.operation sets r asked o honest) (setup_no_file w j x.seen.scene t.operation sets r asked o e.files) (setup_numbers x.seen.scene t.operation r o sets asked (record { fresh = e.fresh; least = e.least }))
-    where
-      told_now : (o : Outcome) → at_event n (tell_driver x.told r o) ≡ nothing_told x.told.cleans_at
-      told_now o = ap (λ m. at_event n (tell_driver m r o)) e.told ∙ still_nothing x.told.cleans_at n r o (setup_ends t.operation r asked) timely.1
-
-      begun_now : (x.seen.begun || is_begun k.commit n) ≡ false
-      begun_now = ap (λ b. b || is_begun k.commit n) e.unbegun ∙ timely.0
-
-      picks_now : (t : ℕ) → picks_by w (is_picking k x.seen.begun n) x.seen.last x.seen.picks r t ≡ None
-      picks_now t = ap (λ b. cond ((b && not (is_begun k.clean n)) && is_reading w t r) (x.seen.last t) (x.seen.picks t)) begun_now ∙ e.unpicked t
-
-      mark_now : (x.seen.put_mark || is_marking w r) ≡ false
-      mark_now = ap (λ b. x.seen.put_mark || b) (setup_plain t.operation r asked) ∙ or_false x.seen.put_mark ∙ e.unmarked
-
-      -- what is seen and told then
-      stand_of : Scene → Picks → Bool → Told → Retried Setup → Stand
-      stand_of s picks mark m u = record {
-        seen = record { scene = s; begun = x.seen.begun || is_begun k.commit n; last = x.seen.last; picks = picks; put_mark = mark };
-        told = m;
-        attempts = x.attempts;
-        driver = Some (TheSetup u);
-        commit = x.commit;
-      }
-
-      -- where it took effect
-      acted : (picks : Picks) (m : Told) (u : Retried Setup) → ((t : ℕ) → picks t ≡ None) → m ≡ nothing_told m.cleans_at → SetsUp w (apply x.seen.scene r).content u.operation → NoClusterFile w (apply x.seen.scene r) → Numbers (apply x.seen.scene r).content
-          → Early g opening (stand_of (apply x.seen.scene r) picks (x.seen.put_mark || is_marking w r) m u)
-      acted picks m u none is goes clear num = record {
-        told = is;
-        last = e.last;
-        unmarked = mark_now;
-        unbegun = begun_now;
-        unpicked = none;
-        fresh = num.fresh;
-        least = num.least;
-        none = e.none;
-        files = clear;
-        setup = inr (u, refl, goes);
-      }
-
-      -- where it did not
-      unsent : (m : Told) (u : Retried Setup) → m ≡ nothing_told m.cleans_at → SetsUp w x.seen.scene.content u.operation → Early g opening (stand_of x.seen.scene x.seen.picks x.seen.put_mark m u)
-      unsent m u is goes = record {
-        told = is;
-        last = e.last;
-        unmarked = e.unmarked;
-        unbegun = begun_now;
-        unpicked = e.unpicked;
-        fresh = e.fresh;
-        least = e.least;
-        none = e.none;
-        files = e.files;
-        setup = inr (u, refl, goes);
-      }
-
-      by : (o : Outcome) → IsHonestOutcome o (answer x.seen.scene r) → SetsUp w (effect x.seen.scene r o).content (step w.retries (setup_after w) t o).operation → NoClusterFile w (effect x.seen.scene r o) → Numbers (effect x.seen.scene r o).content
-          → Early g opening (with_commit (with_driver (saw g k x (driver_entry n r o)) (TheSetup (step w.retries (setup_after w) t o))) x.commit)
-      by (Answered y) honest goes clear num = acted _ _ (step w.retries (setup_after w) t (Answered y)) picks_now (told_now (Answered y)) goes clear num
-      by Slow honest goes clear num = unsent _ (step w.retries (setup_after w) t Slow) (told_now Slow) goes
-      by RequestLost honest goes clear num = unsent _ (step w.retries (setup_after w) t RequestLost) (told_now RequestLost) goes
-      by ReplyLost honest goes clear num = acted _ _ (step w.retries (setup_after w) t ReplyLost) e.unpicked (told_now ReplyLost) goes clear num
-
-  -- ---- scenes
-
-  driver_scene : (s : Seen) (n : ℕ) (r : Request) (o : Outcome) → (see w k s (driver_entry n r o)).scene ≡ effect s.scene r o
-  driver_scene s n r (Answered y) = refl
-  driver_scene s n r _ = refl
-
-  attempt_scene : (s : Seen) (a : Who) (n : ℕ) (r : Request) (o : Outcome) → (see w k s (entry a n r o)).scene ≡ effect s.scene r o
-  attempt_scene s a n r (Answered y) = refl
-  attempt_scene s a n r _ = refl
+  -- whoever sends
+  numbers : (s : Scene) (r : Request) (o : Outcome) → Numbers s.content → Numbers (effect s r o).content
+  numbers s r Slow n = n
+  numbers s r RequestLost n = n
+  numbers s r _ n = elim (none_or_some (fin.get s.content.buckets w.dest.bucket)) [
+    | inr x ↦ let f = frame s w.dest.bucket r x in record { fresh = f.fresh n.fresh; least = f.least ∙ n.least }
+    | inl none ↦ let b = blank_left w.dest.bucket s r none in record { fresh = λ id y e. absurd (none_some (b.0 id) e); least = b.1 ∙ n.least }
+  ]
 
   -- ---- attempts
 
@@ -274,12 +174,7 @@ module _ (g : Setting) (k : Times) (opening : Content) (j : IsLegal g.script) (i
   put_late x y l a op are hold gone filed driver d fits others same = record {
     hold = hold;
     gone = gone;
-    fine = λ b mine e. elim (same_or_another b a) [
-      | inl is ↦
-          let one : op ≡ mine = some_is (sym (who_here x.attempts a (Some op) b is) ∙ ap (λ f. f b) (sym are) ∙ e) in
-          subst (λ v. IsAttempt w v × Fits w g.minimum v y.told mine) (sym is) (d, subst (Fits w g.minimum a y.told) one fits)
-      | inr ne ↦ let old = l.fine b mine (sym (who_other x.attempts a (Some op) b ne) ∙ ap (λ f. f b) (sym are) ∙ e) in (old.0, others b ne mine old.1)
-    ];
+    fine = λ b mine e. put_each (λ v o. IsAttempt w v × Fits w g.minimum v y.told o) x.attempts a op (d, fits) (λ v ne o at. let old = l.fine v o at in (old.0, others v ne o old.1)) b mine (ap (λ f. f b) (sym are) ∙ e);
     new = λ b e. elim (same_or_another b a) [
       | inl is ↦ absurd (none_some e (ap (λ f. f b) are ∙ who_here x.attempts a (Some op) b is))
       | inr ne ↦ let old = l.new b (sym (who_other x.attempts a (Some op) b ne) ∙ ap (λ f. f b) (sym are) ∙ e) in ((same b ne).0 ∙ old.0, (same b ne).1 ∙ old.1)
@@ -288,10 +183,6 @@ module _ (g : Setting) (k : Times) (opening : Content) (j : IsLegal g.script) (i
     driver = driver;
   }
 
-  -- it begins something
-  begins_at : (x : Stand) → Late g opening x → (a : Who) (op : Operation) → IsAttempt w a → Fits w g.minimum a x.told op → Late g opening (with_attempt x a op)
-  begins_at x l a op d fits = put_late x (with_attempt x a op) l a op refl l.hold l.gone l.filed l.driver d fits (λ b ne mine f. f) (λ b ne. (refl, refl))
-
   -- it sends
   attempt_goes : (x : Stand) → Late g opening x → (a : Who) (op : Operation) → x.attempts a ≡ Some op → (n : ℕ) (r : Request) → asks g a (known x.told a) op ≡ Some r → (o : Outcome) → IsHonestOutcome o (answer x.seen.scene r)
       → Late g opening (with_attempt (saw g k x (entry a n r o)) a (tells g a op o))
@@ -299,27 +190,21 @@ module _ (g : Setting) (k : Times) (opening : Content) (j : IsLegal g.script) (i
       let f = l.fine a op e in
       let own = operation_own g j x.told a f.0 op f.1 r asked in
       let hides : HidesAll w r = λ b q i. own.keys q i in
+      let same = one_scene w k x.seen (entry a n r o) in
       let go = operation_goes g j k x.seen x.told a n f.0 l.hold op f.1 r asked o honest in
-      put_late x (with_attempt (saw g k x (entry a n r o)) a (tells g a op o)) l a (tells g a op o) refl go.hold (λ c. gone_by o (l.gone c))
-      (subst (Filed w) (sym (attempt_scene x.seen a n r o)) (filed_keeps w x.seen.scene l.hold.there r o (λ p i b. operation_paths w g.minimum x.told a f.0 g refl op f.1 r asked p i) l.filed))
+      put_late x (with_attempt (saw g k x (entry a n r o)) a (tells g a op o)) l a (tells g a op o) refl go.hold
+      (λ c. subst (λ (s : Scene). Gone w s.content (tell_attempt w x.told a r o)) (sym same) (others_gone w x.seen.scene l.hold.there x.told.ended (l.gone c) r o))
+      (subst (Filed w) (sym same) (filed_keeps w x.seen.scene l.hold.there r o (λ p i b. operation_paths w g.minimum x.told a f.0 g refl op f.1 r asked p i) l.filed))
       (at_beside g j opening k x.seen x.told l.hold a n op f.1 r asked hides o x.commit x.driver l.driver) f.0 go.fits
       (other_fits g j opening k x.seen x.told l.hold a n op f.1 r asked hides o x.commit)
       (λ b ne. (other_known g j opening k x.seen x.told l.hold a n op f.1 r asked hides o x.commit b ne, who_other x.told.undone a _ b ne))
-    where
-      gone_by : (o : Outcome) → Gone w x.seen.scene.content x.told → Gone w (see w k x.seen (entry a n r o)).scene.content (tell_attempt w x.told a r o)
-      gone_by (Answered y) h = others_gone w x.seen.scene l.hold.there x.told.ended h r (Answered y)
-      gone_by ReplyLost h = others_gone w x.seen.scene l.hold.there x.told.ended h r ReplyLost
-      gone_by _ h = h
 
   -- ---- the driver
 
-  driver_last : (s : Seen) (n : ℕ) (r : Request) (o : Outcome) → (see w k s (driver_entry n r o)).last ≡ s.last
-  driver_last s n r (Answered y) = refl
-  driver_last s n r _ = refl
-
   -- where it changes no path below the job's directory in the cluster
-  filed_by : (x : Stand) → Late g opening x → (n : ℕ) (r : Request) (o : Outcome) → ((p : List ℕ) → IsIn p (changed_paths r) → begins (cluster_prefix w.job) p ≡ false) → Filed w (see w k x.seen (driver_entry n r o)).scene
-  filed_by x l n r o free = subst (Filed w) (sym (driver_scene x.seen n r o)) (filed_keeps w x.seen.scene l.hold.there r o (λ p i b. absurd (false_true (free p i) b)) l.filed)
+  filed_by : (x : Stand) → Late g opening x → (r : Request) (o : Outcome) → ((p : List ℕ) → IsIn p (changed_paths r) → begins (cluster_prefix w.job) p ≡ false)
+      → Filed w (effect x.seen.scene r o)
+  filed_by x l r o free = filed_keeps w x.seen.scene l.hold.there r o (λ p i b. absurd (false_true (free p i) b)) l.filed
 
   same_filed : (x : Stand) → Late g opening x → (o : Outcome) {y r : Request} → Some y ≡ Some r → changed_paths y ≡ [] → Filed w (effect x.seen.scene r o)
   same_filed x l o {y = y} e none = subst (λ q. Filed w (effect x.seen.scene q o)) (some_is e) (filed_keeps w x.seen.scene l.hold.there y o (λ p i. absurd (subst (λ (q : List (List ℕ)). IsIn p q) none i)) l.filed)
@@ -348,122 +233,157 @@ module _ (g : Setting) (k : Times) (opening : Content) (j : IsLegal g.script) (i
   sparing_filed x l (sparing.SparingOver end) r e o = absurd cc
   sparing_filed x l _ r e o = same_filed x l o e refl
 
-  -- a request that reads no set, and puts no marker
-  plain_picks_by : (s : Seen) (n : ℕ) (r : Request) → ((t : ℕ) → is_reading w t r ≡ false) → (t : ℕ) → picks_by w (is_picking k s.begun n) s.last s.picks r t ≡ s.picks t
-  plain_picks_by s n r reads t = ap (λ b. cond (is_picking k s.begun n && b) (s.last t) (s.picks t)) (reads t) ∙ ap (λ b. cond b (s.last t) (s.picks t)) (and_false (is_picking k s.begun n))
+  -- a sparing abort or clean puts no marker
+  sparing_no_mark : (c : Sparing) (r : Request) → sparing_asks w c ≡ Some r → is_marking w r ≡ false
+  sparing_no_mark (sparing.Reading named p ps all) r e =
+      ap (is_marking w) (sym (some_is e)) ∙ elim w.committer as (λ c. is_marking w (record_request c w p) ≡ false) [ Magic ↦ refl | _ ↦ refl ]
+  sparing_no_mark (sparing.SparingOver end) r e = absurd cc
+  sparing_no_mark _ r e = ap (is_marking w) (sym (some_is e))
 
-  plain_picks : (s : Seen) (n : ℕ) (r : Request) → ((t : ℕ) → is_reading w t r ≡ false) → (o : Outcome) (t : ℕ) → (see w k s (driver_entry n r o)).picks t ≡ s.picks t
-  plain_picks s n r reads (Answered y) t = plain_picks_by s n r reads t
-  plain_picks s n r reads _ t = refl
+  abbrev Shown : Stand → Type 0
+  Shown x = Shows g opening x.driver x.seen x.told x.commit
 
-  plain_mark : (s : Seen) (n : ℕ) (r : Request) → is_marking w r ≡ false → (o : Outcome) → (see w k s (driver_entry n r o)).put_mark ≡ s.put_mark
-  plain_mark s n r marks Slow = refl
-  plain_mark s n r marks RequestLost = refl
-  plain_mark s n r marks _ = ap (λ b. s.put_mark || b) marks ∙ or_false s.put_mark
+  -- ---- one entry of it
 
-  -- so all is still as before the commit
-  pub checked_idle : (x : Stand) → x.told.cleans_at ≡ k.clean → (n : ℕ) (r : Request) (o : Outcome) → Plain w r → is_begun k.clean n ≡ false → Idle g opening x.seen x.told → Idle g opening (see w k x.seen (driver_entry n r o)) (at_event n (tell_driver x.told r o))
-  checked_idle x at n r o p unclean i = record {
-    none = still_none x.told r o p.ends_none i.none;
-    uncleaned = ap (λ b. b || is_begun x.told.cleans_at n) i.uncleaned ∙ ap (λ c. is_begun c n) at ∙ unclean;
-    unmarked = plain_mark x.seen n r p.marks o ∙ i.unmarked;
-    unpicked = λ u. plain_picks x.seen n r p.reads o u ∙ i.unpicked u;
-  }
+  module _ (x : Stand) (at : x.told.cleans_at ≡ k.clean) (n : ℕ) (r : Request) (o : Outcome) where
+    abbrev next : Seen
+    next = see w k x.seen (driver_entry n r o)
 
-  -- a check that is clear goes on as the commit
-  at_checked : (s : Seen) (m : Told) → Idle g opening s m → (t : Retried Check) → At g opening (Some (after_check g t)) s m
-  at_checked s m i t = after_check_so g (λ op. At g opening (Some op) s m) (commit_starts g j opening s m i None) (λ u. i) t
+    abbrev told : Told
+    told = at_event n (tell_driver x.told r o)
 
-  driver_late : (x : Stand) → x.told.cleans_at ≡ k.clean → Late g opening x → (op : Operation) → At g opening (Some op) x.seen x.told → (n : ℕ) (r : Request) → asks g (who Driver) nothing_learnt op ≡ Some r → IsTimely k n op → x.seen.scene.content.next ≤ 2 ^ 64 → (o : Outcome) → IsHonestOutcome o (answer x.seen.scene r)
-      → Late g opening (with_commit (with_driver (saw g k x (driver_entry n r o)) (tells g (who Driver) op o)) (commit_with op x.commit (driver_entry n r o)))
-  driver_late x at l (TheSetup t) y n r asked timely few o honest = absurd (none_some (ap (setup_asks w) y.0) asked)
-  driver_late x at l (TheCommit c) y n r asked timely few o honest = record {
-    hold = driving_keeps w g.minimum k x.seen x.told n r o j (commit_drives w g.minimum k x.seen x.told n j l.hold c y.fits r asked) l.hold;
-    gone = λ c. gone_by o (l.gone y.uncleaned);
-    fine = l.fine;
-    new = l.new;
-    filed = filed_by x l n r o (commit_drives w g.minimum k x.seen x.told n j l.hold c y.fits r asked).paths;
-    driver = commit_next g j opening k x.seen x.told n timely.0 timely.1 at few l.hold c y r asked o honest;
-  }
-    where
-      gone_by : (o : Outcome) → Gone w x.seen.scene.content x.told → Gone w (see w k x.seen (driver_entry n r o)).scene.content (tell_driver x.told r o)
-      gone_by (Answered z) gone = commit_gone j l.hold gone c y.fits y.tabled y.decides r asked (Answered z)
-      gone_by Slow gone = commit_gone j l.hold gone c y.fits y.tabled y.decides r asked Slow
-      gone_by RequestLost gone = commit_gone j l.hold gone c y.fits y.tabled y.decides r asked RequestLost
-      gone_by ReplyLost gone = commit_gone j l.hold gone c y.fits y.tabled y.decides r asked ReplyLost
-  driver_late x at l (TheClean t) y n r asked timely few o honest = record {
-    hold = clean_keeps w g.minimum k x.seen x.told n j l.hold t.operation y r asked o;
-    gone = λ c. absurd (false_true c (clean_begun x.told n (ap (λ c. is_begun c n) at ∙ timely) r o));
-    fine = l.fine;
-    new = l.new;
-    filed = subst (Filed w) (sym (driver_scene x.seen n r o)) (clean_filed x l t.operation r asked o);
-    driver = clean_goes w g.minimum k x.seen x.told n j l.hold (ap (λ c. is_begun c n) at ∙ timely) w.retries t.spare t.repeated t.operation y r asked o honest;
-  }
-  driver_late x at l (TheCheck t) y n r asked timely few o honest =
-      let p = check_plain w t.operation r asked in
-      let drives = reads_drive w r (check_reads g j t.operation r asked) in
-      record {
-        hold = driving_keeps w g.minimum k x.seen x.told n r o j drives l.hold;
-        gone = λ c. subst (λ (s : Scene). Gone w s.content (at_event n (tell_driver x.told r o))) (sym (driver_scene x.seen n r o)) (others_gone w x.seen.scene l.hold.there (tell_driver x.told r o).ended (λ id e. absurd (false_true (still_none x.told r o p.ends_none y.none id) e)) r o);
-        fine = l.fine;
-        new = l.new;
-        filed = filed_by x l n r o drives.paths;
-        driver = at_checked (see w k x.seen (driver_entry n r o)) (at_event n (tell_driver x.told r o)) (checked_idle x at n r o p timely.1 y) (step w.retries (check_after w) t o);
-      }
-  driver_late x at l (TheSparing t) y n r asked timely few o honest =
-      let due : is_begun x.told.cleans_at n ≡ true = ap (λ c. is_begun c n) at ∙ timely in
-      record {
-        hold = subst (λ (s : Scene). Facts w g.minimum s (see w k x.seen (driver_entry n r o)).last (at_event n (tell_driver x.told r o))) (sym (driver_scene x.seen n r o))
-            (subst (λ v. Facts w g.minimum (effect x.seen.scene r o) v (at_event n (tell_driver x.told r o))) (sym (driver_last x.seen n r o)) (sparing_keeps j x.seen x.told l.hold n due t.operation r asked o));
-        gone = λ c. absurd (false_true c (clean_begun x.told n due r o));
-        fine = l.fine;
-        new = l.new;
-        filed = subst (Filed w) (sym (driver_scene x.seen n r o)) (sparing_filed x l t.operation r asked o);
-        driver = sparing_goes j x.seen.scene x.told l.hold l.filed few t y r asked o honest;
-      }
-  driver_late x at l _ y n r asked timely few o honest = absurd y
+    same : next.scene ≡ effect x.seen.scene r o
+    same = one_scene w k x.seen (driver_entry n r o)
 
-  driver_early : (x : Stand) → x.told.cleans_at ≡ k.clean → Early g opening x → (op : Operation) → x.driver ≡ Some op → (n : ℕ) (r : Request) → asks g (who Driver) nothing_learnt op ≡ Some r → IsTimely k n op → (o : Outcome) → IsHonestOutcome o (answer x.seen.scene r)
-      → Early g opening (with_commit (with_driver (saw g k x (driver_entry n r o)) (tells g (who Driver) op o)) (commit_with op x.commit (driver_entry n r o)))
-  driver_early x at e op d n r asked timely o honest = elim e.setup [
-    | inl none ↦ absurd (none_some none d)
-    | inr y ↦
-        let is : TheSetup y.0 ≡ op = some_is (sym y.1 ∙ d) in
-        let P : Operation → Type 0 = λ v. asks g (who Driver) nothing_learnt v ≡ Some r → IsTimely k n v → Early g opening (with_commit (with_driver (saw g k x (driver_entry n r o)) (tells g (who Driver) v o)) (commit_with v x.commit (driver_entry n r o))) in
-        subst P is (λ a b. early_sends x e y.0 y.2 n r a (b.0, ap (λ c. is_begun c n) at ∙ b.1) o honest) asked timely
-  ]
+    early_sends : Early g opening x → (t : Retried Setup) → SetsUp w x.seen.scene.content t.operation → setup_asks w t.operation ≡ Some r → IsTimely k n (TheSetup t)
+        → IsHonestOutcome o (answer x.seen.scene r) → Early g opening (driven g k opening x (TheSetup t) n r o)
+    early_sends e t sets asked timely honest =
+        let num = subst (λ (s : Scene). Numbers s.content) (sym same) (numbers x.seen.scene r o (record { fresh = e.fresh; least = e.least })) in
+        let then = step w.retries (setup_after w) t o in
+        let plain = setup_plain w t.operation r asked in
+        record {
+          told = ap (λ m. at_event n (tell_driver m r o)) e.told ∙ still_nothing x.told.cleans_at n r o plain.ends_none (ap (λ c. is_begun c n) at ∙ timely.1);
+          last = λ u. ap (λ f. f u) (driver_last w k x.seen n r o) ∙ e.last u;
+          unmarked = plain_mark w k x.seen n r plain.marks o ∙ e.unmarked;
+          unbegun = driver_begun w k x.seen n r o ∙ ap (λ b. b || is_begun k.commit n) e.unbegun ∙ timely.0;
+          unpicked = λ u. plain_picks w k x.seen n r plain.reads o u ∙ e.unpicked u;
+          fresh = num.fresh;
+          least = num.least;
+          none = e.none;
+          files = subst (NoClusterFile w) (sym same) (setup_no_file w j x.seen.scene t.operation sets r asked o e.files);
+          setup = inr (then, refl, subst (λ (s : Scene). SetsUp w s.content then.operation) (sym same) (setup_goes w x.seen.scene w.retries t.spare t.repeated t.operation sets r asked o honest));
+        }
+
+    driver_early : Early g opening x → (op : Operation) → x.driver ≡ Some op → asks g (who Driver) nothing_learnt op ≡ Some r → IsTimely k n op
+        → IsHonestOutcome o (answer x.seen.scene r) → Early g opening (driven g k opening x op n r o)
+    driver_early e op d asked timely honest = elim e.setup [
+      | inl none ↦ absurd (none_some none d)
+      | inr y ↦
+          let P : Operation → Type 0 = λ v. asks g (who Driver) nothing_learnt v ≡ Some r → IsTimely k n v → Early g opening (driven g k opening x v n r o) in
+          subst P (some_is (sym y.1 ∙ d)) (λ a b. early_sends e y.0 y.2 a b honest) asked timely
+    ]
+
+    -- so all is still as before the commit
+    pub checked_idle : Plain w r → is_begun k.clean n ≡ false → Idle g opening x.seen x.told → Idle g opening next told
+    checked_idle p unclean i = record {
+      none = still_none x.told r o p.ends_none i.none;
+      uncleaned = ap (λ b. b || is_begun x.told.cleans_at n) i.uncleaned ∙ ap (λ c. is_begun c n) at ∙ unclean;
+      unmarked = plain_mark w k x.seen n r p.marks o ∙ i.unmarked;
+      unpicked = λ u. plain_picks w k x.seen n r p.reads o u ∙ i.unpicked u;
+    }
+
+    -- attempts are at what they were at
+    drives : Late g opening x → (op : Operation) (es : List Entry) → Hold w g.minimum next told → (told.cleaned ≡ false → Gone w (effect x.seen.scene r o).content told)
+        → Filed w (effect x.seen.scene r o) → At g opening (Some op) next told
+        → Late g opening (with_commit (with_driver (saw g k x (driver_entry n r o)) op) es)
+    drives l op es hold gone filed driver = record {
+      hold = hold;
+      gone = λ c. subst (λ (s : Scene). Gone w s.content told) (sym same) (gone c);
+      fine = l.fine;
+      new = l.new;
+      filed = subst (Filed w) (sym same) filed;
+      driver = driver;
+    }
+
+    driver_late : Late g opening x → (op : Operation) → At g opening (Some op) x.seen x.told → asks g (who Driver) nothing_learnt op ≡ Some r → IsTimely k n op
+        → x.seen.scene.content.next ≤ 2 ^ 64 → IsHonestOutcome o (answer x.seen.scene r) → Late g opening (driven g k opening x op n r o)
+    driver_late l (TheSetup t) y asked timely few honest = absurd (none_some (ap (setup_asks w) y.0) asked)
+    driver_late l (TheCommit c) y asked timely few honest =
+        let d = commit_drives w g.minimum k x.seen x.told n j l.hold c y.fits r asked in
+        drives l _ _ (driving_keeps w g.minimum k x.seen x.told n r o j d l.hold) (λ v. commit_gone j l.hold (l.gone y.uncleaned) c y.fits y.tabled y.decides r asked o)
+        (filed_by x l r o d.paths) (commit_next g j opening k x.seen x.told n timely.0 timely.1 at few l.hold c y r asked o honest)
+    driver_late l (TheClean t) y asked timely few honest =
+        let due = ap (λ c. is_begun c n) at ∙ timely in
+        drives l _ _ (clean_keeps w g.minimum k x.seen x.told n j l.hold t.operation y r asked o) (λ c. absurd (false_true c (clean_begun x.told n due r o)))
+        (clean_filed x l t.operation r asked o)
+        (clean_goes w g.minimum k x.seen x.told n j l.hold due w.retries t.spare t.repeated t.operation y r asked o honest)
+    driver_late l (TheCheck t) y asked timely few honest =
+        let p = check_plain w t.operation r asked in
+        let d = reads_drive w r (check_reads g j t.operation r asked) in
+        let i = checked_idle p timely.1 y in
+        drives l _ _ (driving_keeps w g.minimum k x.seen x.told n r o j d l.hold)
+        (λ v. others_gone w x.seen.scene l.hold.there told.ended (λ id e. absurd (false_true (i.none id) e)) r o)
+        (filed_by x l r o d.paths)
+        (after_check_so g (λ op. At g opening (Some op) next told) (commit_starts g j opening next told i None) (λ u. i) (step w.retries (check_after w) t o))
+    driver_late l (TheSparing t) y asked timely few honest =
+        let due = ap (λ c. is_begun c n) at ∙ timely in
+        let keeps =
+        subst (λ v. Facts w g.minimum (effect x.seen.scene r o) v told) (sym (driver_last w k x.seen n r o)) (sparing_keeps j x.seen x.told l.hold n due t.operation r asked o) in
+        drives l _ _ (subst (λ (s : Scene). Facts w g.minimum s next.last told) (sym same) keeps) (λ c. absurd (false_true c (clean_begun x.told n due r o)))
+        (sparing_filed x l t.operation r asked o) (sparing_goes j x.seen.scene x.told l.hold l.filed few t y r asked o honest)
+    driver_late l _ y asked timely few honest = absurd y
+
+    -- ---- and what a reader is shown, among no strangers
+
+    kept_clean : HasBucket x.seen.scene.content w.dest.bucket → HidesAll w r → is_marking w r ≡ false → ((t : ℕ) → next.picks t ≡ x.seen.picks t) → Kept w opening x.seen → Kept w opening next
+    kept_clean there hides mark picks kept =
+        kept_next g opening x.seen next (λ p. ap (λ (v : Scene). view w.dest v.content p) same ∙ hidden_shows j x.seen.scene r o there hides p)
+        (ap (λ (v : Scene). at_key w v.content (success_key w.dest.key)) same ∙ hidden_same w x.seen.scene there r hides o (success_key w.dest.key) (key_magic w.dest.key w.job SuccessPlace (some_dest j) tt))
+        (λ i t. picks t i) (plain_mark w k x.seen n r mark o) (λ e. driver_begun w k x.seen n r o ∙ ap (λ b. b || is_begun k.commit n) e) kept
+
+    -- once the set-up is done
+    late_shown : Late g opening x → (op : Operation) → At g opening (Some op) x.seen x.told → asks g (who Driver) nothing_learnt op ≡ Some r → IsTimely k n op → x.seen.scene.content.next ≤ 2 ^ 64 → IsHonestOutcome o (answer x.seen.scene r)
+        → Shows g opening (Some op) x.seen x.told x.commit → Shown (driven g k opening x op n r o)
+    late_shown l (TheSetup t) y asked timely few honest v = absurd (none_some (ap (setup_asks w) y.0) asked)
+    late_shown l (TheCommit c) y asked timely few honest v = commit_shown g j opening k x.seen x.told n timely.0 timely.1 at few l.hold c y r asked (l.gone y.uncleaned) x.commit v o honest
+    late_shown l (TheClean t) y asked timely few honest v =
+        let plain = clean_plain w t.operation r asked in
+        kept_clean l.hold.there (clean_hides w g.minimum k x.seen x.told n j l.hold t.operation y r asked) plain.0 (plain_picks w k x.seen n r plain.1 o) v
+    late_shown l (TheCheck t) y asked timely few honest v =
+        let reads = check_reads g j t.operation r asked in
+        let untouched : Untouched g opening next.scene.content = subst (λ (s : Scene). Untouched g opening s.content) (sym (same ∙ reads_leave x.seen.scene r reads o)) v.0 in
+        let hold = driving_keeps w g.minimum k x.seen x.told n r o j (reads_drive w r reads) l.hold in
+        let starts = commit_shows g j opening next told hold (checked_idle (check_plain w t.operation r asked) timely.1 y) untouched None in
+        after_check_so g (λ op. Shows g opening (Some op) next told x.commit) (subst (λ es. CommitShows g opening next told.ended es (commit_start w None)) (sym v.1) starts) (λ u. (untouched, v.1)) (step w.retries (check_after w) t o)
+    late_shown l (TheSparing t) y asked timely few honest v =
+        let off : is_picking k x.seen.begun n ≡ false = ap (λ b. (x.seen.begun || is_begun k.commit n) && not b) timely ∙ and-false (x.seen.begun || is_begun k.commit n) in
+        kept_clean l.hold.there (sparing_hides g j x.told t.operation y r asked) (sparing_no_mark t.operation r asked) (closed_picks w k x.seen n r off o) v
+    late_shown l _ y asked timely few honest v = absurd y
 
   -- ---- a stranger
 
-  strange_numbers : (s : Scene) (r : Request) (o : Outcome) → Numbers s.content → Numbers (effect s r o).content
-  strange_numbers s r o n = by o
-    where
-      acts : Numbers (apply s r).content
-      acts = elim (none_or_some (fin.get s.content.buckets w.dest.bucket)) [
-        | inr x ↦ numbers s r ReplyLost x n
-        | inl none ↦ let b = blank_left w.dest.bucket s r none in record { fresh = λ id y e. absurd (none_some (b.0 id) e); least = b.1 ∙ n.least }
-      ]
-
-      by : (o : Outcome) → Numbers (effect s r o).content
-      by Slow = n
-      by RequestLost = n
-      by _ = acts
+  -- of another scene, and what the driver is at then
+  early_so : (x : Stand) → Early g opening x → (s : Scene) (d : Option Operation) → Numbers s.content → NoClusterFile w s
+      → (d ≡ None) ⊎ ((t : Retried Setup) × (d ≡ Some (TheSetup t)) × SetsUp w s.content t.operation)
+      → Early g opening (record { seen = record { scene = s; begun = x.seen.begun; last = x.seen.last; picks = x.seen.picks; put_mark = x.seen.put_mark }; told = x.told; attempts = x.attempts; driver = d; commit = x.commit })
+  early_so x e s d num files setup = record {
+    told = e.told;
+    last = e.last;
+    unmarked = e.unmarked;
+    unbegun = e.unbegun;
+    unpicked = e.unpicked;
+    fresh = num.fresh;
+    least = num.least;
+    none = e.none;
+    files = files;
+    setup = setup;
+  }
 
   early_strays : (x : Stand) → Early g opening x → (n : ℕ) (r : Request) (o : Outcome) → IsForeign w x.told.drawn r → Early g opening (saw g k x (strange_entry n r o))
   early_strays x e n r o f =
-      let num = strange_numbers x.seen.scene r o (record { fresh = e.fresh; least = e.least }) in
-      record {
-        told = e.told;
-        last = e.last;
-        unmarked = e.unmarked;
-        unbegun = e.unbegun;
-        unpicked = e.unpicked;
-        fresh = num.fresh;
-        least = num.least;
-        none = e.none;
-        files = strange_no_file w x.told.drawn x.seen.scene r f o e.files;
-        setup = elim e.setup [ inl none ↦ inl none | inr y ↦ inr (y.0, y.1, setup_beside w x.told.drawn x.seen.scene y.0.operation y.2 r f o) ];
-      }
+      early_so x e (effect x.seen.scene r o) x.driver (numbers x.seen.scene r o (record { fresh = e.fresh; least = e.least }))
+      (strange_no_file w x.told.drawn x.seen.scene r f o e.files)
+      (elim e.setup [ inl none ↦ inl none | inr y ↦ inr (y.0, y.1, setup_beside w x.told.drawn x.seen.scene y.0.operation y.2 r f o) ])
 
   late_strays : (x : Stand) → Late g opening x → (n : ℕ) (r : Request) (o : Outcome) → IsForeign w x.told.drawn r → Late g opening (saw g k x (strange_entry n r o))
   late_strays x l n r o f = record {
@@ -477,11 +397,8 @@ module _ (g : Setting) (k : Times) (opening : Content) (j : IsLegal g.script) (i
     where
       at_strays : (d : Option Operation) → At g opening d x.seen x.told → At g opening d (see w k x.seen (strange_entry n r o)) x.told
       at_strays (Some (TheSetup t)) y = (y.0, record { none = y.1.none; uncleaned = y.1.uncleaned; unmarked = y.1.unmarked; unpicked = y.1.unpicked })
-      at_strays (Some (TheCommit c)) y = y
-      at_strays (Some (TheClean t)) y = y
       at_strays (Some (TheCheck t)) y = record { none = y.none; uncleaned = y.uncleaned; unmarked = y.unmarked; unpicked = y.unpicked }
-      at_strays (Some (TheSparing t)) y = y
-      at_strays _ y = absurd y
+      at_strays _ y = y
 
   -- ---- every run
 
@@ -499,20 +416,6 @@ module _ (g : Setting) (k : Times) (opening : Content) (j : IsLegal g.script) (i
     setup = inl refl;
   }
 
-  setup_anew : (x : Stand) → Early g opening x → Early g opening (begin g x BeginSetup)
-  setup_anew x e = record {
-    told = e.told;
-    last = e.last;
-    unmarked = e.unmarked;
-    unbegun = e.unbegun;
-    unpicked = e.unpicked;
-    fresh = e.fresh;
-    least = e.least;
-    none = e.none;
-    files = e.files;
-    setup = inr (fresh w.retries setup_start, refl, tt);
-  }
-
   -- a set-up that is done, behind which nothing was begun, leaves all as it was before the facts began
   abbrev NotMoved : Stand → Type 0
   NotMoved x = is_just_set x.driver ≡ true → ((a : Who) → x.attempts a ≡ None) → Early g opening x
@@ -521,33 +424,32 @@ module _ (g : Setting) (k : Times) (opening : Content) (j : IsLegal g.script) (i
   Well x = Good x × NotMoved x
 
   may_set_up : (x : Stand) → Well x → MaySetUp x → Early g opening x
-  may_set_up x h (inl unset) = by h.0
-    where
-      by : Good x → Early g opening x
-      by (inl e) = e
-      by (inr l) = absurd (false_true unset (late_set x.driver x.seen x.told l.driver))
+  may_set_up x h (inl unset) = elim h.0 [ inl e ↦ e | inr l ↦ absurd (false_true unset (late_set x.driver x.seen x.told l.driver)) ]
   may_set_up x h (inr y) = h.1 y.0 y.1
 
   -- an attempt is at something
   moved : (x : Stand) (a : Who) (op : Operation) → NotMoved (with_attempt x a op)
   moved x a op just none = absurd (none_some (none a) (who_here x.attempts a (Some op) a refl))
 
-  driver_moved : (x : Stand) → x.told.cleans_at ≡ k.clean → Good x → (op : Operation) → x.driver ≡ Some op → (n : ℕ) (r : Request) → asks g (who Driver) nothing_learnt op ≡ Some r → IsTimely k n op → (o : Outcome) → IsHonestOutcome o (answer x.seen.scene r)
-      → NotMoved (with_commit (with_driver (saw g k x (driver_entry n r o)) (tells g (who Driver) op o)) (commit_with op x.commit (driver_entry n r o)))
-  driver_moved x at (inl e) op d n r asked timely o honest just none = driver_early x at e op d n r asked timely o honest
-  driver_moved x at (inr l) op d n r asked timely o honest just none = absurd (by op (subst (λ v. At g opening v x.seen x.told) d l.driver) asked just)
-    where
-      by : (v : Operation) → At g opening (Some v) x.seen x.told → asks g (who Driver) nothing_learnt v ≡ Some r → is_just_set (Some (tells g (who Driver) v o)) ≡ true → ⊥
-      by (TheSetup t) y asked just = none_some (ap (setup_asks w) y.0) asked
-      by (TheCommit c) y asked just = false_true refl just
-      by (TheClean t) y asked just = false_true refl just
-      by (TheCheck t) y asked just = false_true (after_check_so g (λ op. is_just_set (Some op) ≡ false) refl (λ u. refl) _) just
-      by (TheSparing t) y asked just = false_true refl just
-      by _ y asked just = absurd y
+  -- no request of the driver's ends a set-up once one is done
+  not_just : (x : Stand) (r : Request) (o : Outcome) (op : Operation) → At g opening (Some op) x.seen x.told → asks g (who Driver) nothing_learnt op ≡ Some r
+      → is_just_set (Some (tells g (who Driver) op o)) ≡ true → ⊥
+  not_just x r o (TheSetup t) y asked just = none_some (ap (setup_asks w) y.0) asked
+  not_just x r o (TheCommit c) y asked just = false_true refl just
+  not_just x r o (TheClean t) y asked just = false_true refl just
+  not_just x r o (TheCheck t) y asked just = false_true (after_check_so g (λ op. is_just_set (Some op) ≡ false) refl (λ u. refl) _) just
+  not_just x r o (TheSparing t) y asked just = false_true refl just
+  not_just x r o _ y asked just = absurd y
+
+  begins_at : (x : Stand) → Late g opening x → (a : Who) (op : Operation) → IsAttempt w a → Fits w g.minimum a x.told op → Well (with_attempt x a op)
+  begins_at x l a op d fits = (inr (put_late x (with_attempt x a op) l a op refl l.hold l.gone l.filed l.driver d fits (λ b ne mine f. f) (λ b ne. (refl, refl))), moved x a op)
 
   -- what begins
   well_begins : (x : Stand) → Well x → (b : Beginning) → MayBegin g x b → Well (begin g x b)
-  well_begins x h BeginSetup may = let e = setup_anew x (may_set_up x h may) in (inl e, λ just none. e)
+  well_begins x h BeginSetup may =
+      let old = may_set_up x h may in
+      let e = early_so x old x.seen.scene (Some (TheSetup (fresh w.retries setup_start))) (record { fresh = old.fresh; least = old.least }) old.files (inr (fresh w.retries setup_start, refl, tt)) in
+      (inl e, λ just none. e)
   well_begins x h (BeginCommit reports) may =
       let l = late x h.0 (just_set x.driver may) in
       let i = just_idle x.driver x.seen x.told l.driver may in (
@@ -561,93 +463,37 @@ module _ (g : Setting) (k : Times) (opening : Content) (j : IsLegal g.script) (i
       )
   well_begins x h (BeginWrite a) may =
       let l = late x h.0 may.0 in
-      let old = l.new a may.2 in (
-        inr (begins_at x l a (TheWrite (fresh w.retries (write_start w a))) may.1 (old.1, begins_write g j x.told a (ap (λ (v : Known). v.drawn) old.0) (ap (λ (v : Known). v.publish_sent) old.0, ap (λ (v : Known). v.put_sent) old.0))),
-        moved x a (TheWrite (fresh w.retries (write_start w a))),
-      )
+      let old = l.new a may.2 in
+      begins_at x l a _ may.1
+      (old.1, begins_write g j x.told a (ap (λ (v : Known). v.drawn) old.0) (ap (λ (v : Known). v.publish_sent) old.0, ap (λ (v : Known). v.put_sent) old.0))
   well_begins x h (BeginPublish a) may =
       let l = late x h.0 may.0 in
-      let f = l.fine a _ may.1.2 in (
-        inr (begins_at x l a (TheTaskCommit (fresh w.retries (task_commit_start w a))) f.0 (f.1.0, begins_commit g j x.told a f.1.1)),
-        moved x a (TheTaskCommit (fresh w.retries (task_commit_start w a))),
-      )
-  well_begins x h (BeginAbort a) may =
-      let l = late x h.0 may.0 in (
-        inr (begins_at x l a (TheTaskAbort (fresh w.retries (task_abort_start w (known x.told a)))) may.1 (abort_fits w a (known x.told a))),
-        moved x a (TheTaskAbort (fresh w.retries (task_abort_start w (known x.told a)))),
-      )
-
-  well_strays : (x : Stand) → Good x → (n : ℕ) (r : Request) (o : Outcome) → IsForeign w x.told.drawn r → Good (saw g k x (strange_entry n r o))
-  well_strays x (inl e) n r o f = inl (early_strays x e n r o f)
-  well_strays x (inr l) n r o f = inr (late_strays x l n r o f)
-
-  driver_goes : (x : Stand) → x.told.cleans_at ≡ k.clean → Good x → (op : Operation) → x.driver ≡ Some op → (n : ℕ) (r : Request) → asks g (who Driver) nothing_learnt op ≡ Some r → IsTimely k n op → x.seen.scene.content.next ≤ 2 ^ 64 → (o : Outcome) → IsHonestOutcome o (answer x.seen.scene r)
-      → Good (with_commit (with_driver (saw g k x (driver_entry n r o)) (tells g (who Driver) op o)) (commit_with op x.commit (driver_entry n r o)))
-  driver_goes x at (inr l) op d n r asked timely few o honest = inr (driver_late x at l op (subst (λ v. At g opening v x.seen x.told) d l.driver) n r asked timely few o honest)
-  driver_goes x at (inl e) op d n r asked timely few o honest = inl (driver_early x at e op d n r asked timely o honest)
+      let f = l.fine a _ may.1.2 in
+      begins_at x l a _ f.0 (f.1.0, begins_commit g j x.told a f.1.1)
+  well_begins x h (BeginAbort a) may = begins_at x (late x h.0 may.0) a _ may.1 (abort_fits w a (known x.told a))
 
   pub cleans_is : (es : List Entry) (x : Stand) → Runs g k opening es x → x.told.cleans_at ≡ k.clean
-  cleans_is es x run_begins = refl
-  cleans_is es x (actor_begins fs y b run may) = cleans_is fs y run
-  cleans_is es x (driver_sends fs y op n r o run d asked timely few honest) = cleans_is fs y run
-  cleans_is es x (attempt_sends fs y a op n r o run set at asked honest) = cleans_is fs y run
-  cleans_is es x (strays fs y n r o run f) = cleans_is fs y run
+  cleans_is =
+      each_run g k opening (λ es x. x.told.cleans_at ≡ k.clean) refl (λ es x b run may h. h) (λ es x op n r o run d asked timely few honest h. h)
+      (λ es x a op n r o run set at asked honest h. h) (λ es x n r o run f h. h)
+
+  driver_well : DriverKeeps g k opening (λ es x. Well x)
+  driver_well es x op n r o run d asked timely few honest h =
+      let at = cleans_is es x run in
+      elim h.0 [
+        | inl e ↦ let next = driver_early x at n r o e op d asked timely honest in (inl next, λ just none. next)
+        | inr l ↦ let y = subst (λ v. At g opening v x.seen x.told) d l.driver in (inr (driver_late x at n r o l op y asked timely few honest), λ just none. absurd (not_just x r o op y asked just))
+      ]
 
   well : (es : List Entry) (x : Stand) → Runs g k opening es x → Well x
-  well es x run_begins = (inl early_first, λ just none. early_first)
-  well es x (actor_begins fs y b run may) = well_begins y (well fs y run) b may
-  well es x (driver_sends fs y op n r o run d asked timely few honest) =
-      let h = (well fs y run).0 in
-      let at = cleans_is fs y run in
-      (driver_goes y at h op d n r asked timely few o honest, driver_moved y at h op d n r asked timely o honest)
-  well es x (attempt_sends fs y a op n r o run set at asked honest) =
-      let l = late y (well fs y run).0 set in
-      (inr (attempt_goes y l a op at n r asked o honest), moved (saw g k y (entry a n r o)) a (tells g a op o))
-  well es x (strays fs y n r o run f) =
-      let h = well fs y run in
-      (well_strays y h.0 n r o f, λ just none. early_strays y (h.1 just none) n r o f)
+  well = each_run g k opening (λ es x. Well x) (inl early_first, λ just none. early_first) (λ es x b run may h. well_begins x h b may) driver_well
+      (λ es x a op n r o run set at asked honest h. (inr (attempt_goes x (late x h.0 set) a op at n r asked o honest), moved (saw g k x (entry a n r o)) a (tells g a op o)))
+      (λ es x n r o run f h. (elim h.0 [ inl e ↦ inl (early_strays x e n r o f) | inr l ↦ inr (late_strays x l n r o f) ], λ just none. early_strays x (h.1 just none) n r o f))
 
   pub good : (es : List Entry) (x : Stand) → Runs g k opening es x → Good x
   good es x run = (well es x run).0
 
   -- ---- what a reader is shown, among no strangers
-
-  clean_plain : (op : Clean) (r : Request) → clean_asks w op ≡ Some r → (is_marking w r ≡ false) × ((t : ℕ) → is_reading w t r ≡ false)
-  clean_plain (CleanOver end) r e = absurd cc
-  clean_plain (cleanups.Sweeping (Listing keys)) r e = (ap (is_marking w) (sym (some_is e)), λ t. ap (is_reading w t) (sym (some_is e)))
-  clean_plain _ r e = (ap (is_marking w) (sym (some_is e)), λ t. ap (is_reading w t) (sym (some_is e)))
-
-  kept_clean : (s : Seen) → HasBucket s.scene.content w.dest.bucket → (n : ℕ) (r : Request) (o : Outcome) → HidesAll w r → is_marking w r ≡ false → picks_by w (is_picking k s.begun n) s.last s.picks r ≡ s.picks → Kept w opening s → Kept w opening (see w k s (driver_entry n r o))
-  kept_clean s there n r o hides mark picks kept = by o
-    where
-      success : pages.begins (magic_prefix w.dest.key w.job) (success_key w.dest.key) ≡ false
-      success = key_magic w.dest.key w.job SuccessPlace (some_dest j) tt
-
-      begun : s.begun ≡ true → (s.begun || is_begun k.commit n) ≡ true
-      begun e = ap (λ b. b || is_begun k.commit n) e
-
-      put : (s.put_mark || is_marking w r) ≡ s.put_mark
-      put = ap (λ b. s.put_mark || b) mark ∙ or_false s.put_mark
-
-      by : (o : Outcome) → Kept w opening (see w k s (driver_entry n r o))
-      by (Answered y) = kept_next g opening s (see w k s (driver_entry n r (Answered y))) (hidden_shows j s.scene r (Answered y) there hides) (hidden_same w s.scene there r hides (Answered y) (success_key w.dest.key) success) picks put begun kept
-      by Slow = kept_next g opening s (see w k s (driver_entry n r Slow)) (λ p. refl) refl refl refl begun kept
-      by RequestLost = kept_next g opening s (see w k s (driver_entry n r RequestLost)) (λ p. refl) refl refl refl begun kept
-      by ReplyLost = kept_next g opening s (see w k s (driver_entry n r ReplyLost)) (hidden_shows j s.scene r ReplyLost there hides) (hidden_same w s.scene there r hides ReplyLost (success_key w.dest.key) success) refl put begun kept
-
-  -- a sparing abort or clean puts no marker
-  record_no_mark : (c : Committer) (p : List ℕ) → is_marking w (record_request c w p) ≡ false
-  record_no_mark Magic p = refl
-  record_no_mark Directory p = refl
-  record_no_mark Partitioned p = refl
-
-  sparing_no_mark : (c : Sparing) (r : Request) → sparing_asks w c ≡ Some r → is_marking w r ≡ false
-  sparing_no_mark (sparing.Reading named p ps all) r e = ap (is_marking w) (sym (some_is e)) ∙ record_no_mark w.committer p
-  sparing_no_mark (sparing.SparingOver end) r e = absurd cc
-  sparing_no_mark _ r e = ap (is_marking w) (sym (some_is e))
-
-  abbrev Shown : Stand → Type 0
-  Shown x = Shows g opening x.driver x.seen x.told x.commit
 
   -- until the set-up is done, and right behind it, all is as it was
   early_untouched : (x : Stand) → Early g opening x → Shown x → Untouched g opening x.seen.scene.content
@@ -682,67 +528,28 @@ module _ (g : Setting) (k : Times) (opening : Content) (j : IsLegal g.script) (i
   shown_begins x h BeginClean may v = clean_of_so g (λ op. Shows g opening (Some op) x.seen x.told x.commit) (kept_now x h.0 v) (kept_now x h.0 v)
   shown_begins x h _ may v = v
 
-  setup_shown : (x : Stand) (t : Retried Setup) → x.driver ≡ Some (TheSetup t) → Good x → (n : ℕ) (r : Request) → setup_asks w t.operation ≡ Some r → (o : Outcome) → Untouched g opening x.seen.scene.content → Untouched g opening (see w k x.seen (driver_entry n r o)).scene.content
-  setup_shown x t d (inr l) n r asked o v = absurd (none_some (ap (setup_asks w) (subst (λ d. At g opening d x.seen x.told) d l.driver).0) asked)
-  setup_shown x t d (inl e) n r asked o v = elim e.setup [
-    | inl none ↦ absurd (none_some none d)
-    | inr y ↦ by o (alone_by (setup_is (sym y.1 ∙ d)) y.2)
-  ]
-    where
-      setup_is : {a b : Retried Setup} → Some (TheSetup a) ≡ Some (TheSetup b) → a ≡ b
-      setup_is e = cc
-
-      alone_by : {a : Retried Setup} → a ≡ t → SetsUp w x.seen.scene.content a.operation → (o : Outcome) → ClearsAlone w x.seen.scene (effect x.seen.scene r o)
-      alone_by is sets o = setup_alone w j x.seen.scene t.operation (subst (λ (z : Retried Setup). SetsUp w x.seen.scene.content z.operation) is sets) r asked o
-
-      at : (s : Scene) → ClearsAlone w x.seen.scene s → Untouched g opening s.content
-      at s alone q p = alone.keys (below w.dest.key q) (shown_key j q p) (no_success j q p) ∙ v q p
-
-      by : (o : Outcome) → ((o : Outcome) → ClearsAlone w x.seen.scene (effect x.seen.scene r o)) → Untouched g opening (see w k x.seen (driver_entry n r o)).scene.content
-      by (Answered y) c = at (apply x.seen.scene r) (c (Answered y))
-      by ReplyLost c = at (apply x.seen.scene r) (c ReplyLost)
-      by _ c = v
-
-  driver_shown : (x : Stand) → x.told.cleans_at ≡ k.clean → Good x → (op : Operation) → x.driver ≡ Some op → (n : ℕ) (r : Request) → asks g (who Driver) nothing_learnt op ≡ Some r → IsTimely k n op → x.seen.scene.content.next ≤ 2 ^ 64 → (o : Outcome) → IsHonestOutcome o (answer x.seen.scene r)
-      → Shows g opening (Some op) x.seen x.told x.commit → Shown (with_commit (with_driver (saw g k x (driver_entry n r o)) (tells g (who Driver) op o)) (commit_with op x.commit (driver_entry n r o)))
-  driver_shown x at h (TheSetup t) d n r asked timely few o honest v = setup_shown x t d h n r asked o v
-  driver_shown x at h (TheCommit c) d n r asked timely few o honest v =
-      let l = late x h (ap is_set d) in
-      let i = subst (λ v. At g opening v x.seen x.told) d l.driver in
-      commit_shown g j opening k x.seen x.told n timely.0 timely.1 at few l.hold c i r asked (l.gone i.uncleaned) x.commit v o honest
-  driver_shown x at h (TheClean t) d n r asked timely few o honest v =
-      let l = late x h (ap is_set d) in
-      let plain_one = clean_plain t.operation r asked in
-      kept_clean x.seen l.hold.there n r o (clean_hides w g.minimum k x.seen x.told n j l.hold t.operation (subst (λ v. At g opening v x.seen x.told) d l.driver) r asked) plain_one.0 (λ i t. plain_picks_by x.seen n r plain_one.1 t i) v
-  driver_shown x at h (TheCheck t) d n r asked timely few o honest v =
-      let l = late x h (ap is_set d) in
-      let i = subst (λ v. At g opening v x.seen x.told) d l.driver in
-      let p = check_plain w t.operation r asked in
-      let reads = check_reads g j t.operation r asked in
-      let next = see w k x.seen (driver_entry n r o) in
-      let told = at_event n (tell_driver x.told r o) in
-      let same : next.scene ≡ x.seen.scene = driver_scene x.seen n r o ∙ reads_leave x.seen.scene r reads o in
-      let untouched : Untouched g opening next.scene.content = subst (λ (s : Scene). Untouched g opening s.content) (sym same) v.0 in
-      let hold = driving_keeps w g.minimum k x.seen x.told n r o j (reads_drive w r reads) l.hold in
-      after_check_so g (λ op. Shows g opening (Some op) next told x.commit) (subst (λ es. CommitShows g opening next told.ended es (commit_start w None)) (sym v.1) (commit_shows g j opening next told hold (checked_idle x at n r o p timely.1 i) untouched None)) (λ u. (untouched, v.1)) (step w.retries (check_after w) t o)
-  driver_shown x at h (TheSparing t) d n r asked timely few o honest v =
-      let l = late x h (ap is_set d) in
-      let fits = subst (λ v. At g opening v x.seen x.told) d l.driver in
-      let off : is_picking k x.seen.begun n ≡ false = ap (λ b. (x.seen.begun || is_begun k.commit n) && not b) timely ∙ and_false (x.seen.begun || is_begun k.commit n) in
-      kept_clean x.seen l.hold.there n r o (sparing_hides g j x.told t.operation fits r asked) (sparing_no_mark t.operation r asked) (λ i u. ap (λ b. cond (b && is_reading w u r) (x.seen.last u) (x.seen.picks u)) off i) v
-  driver_shown x at h _ d n r asked timely few o honest v = absurd v
+  driver_shown : DriverKeeps g k opening (λ es x. AreOwn es → Shown x)
+  driver_shown es x op n r o run d asked timely few honest h own =
+      let v = subst (λ v. Shows g opening v x.seen x.told x.commit) d (h (own_front es _ own)) in
+      elim (good es x run) [
+        | inr l ↦ late_shown x (cleans_is es x run) n r o l op (subst (λ v. At g opening v x.seen x.told) d l.driver) asked timely few honest v
+        | inl e ↦ elim e.setup [
+          | inl none ↦ absurd (none_some none d)
+          | inr y ↦
+              let P : Operation → Type 0 = λ v. asks g (who Driver) nothing_learnt v ≡ Some r → Shows g opening (Some v) x.seen x.told x.commit → Shown (with_commit (with_driver (saw g k x (driver_entry n r o)) (tells g (who Driver) v o)) (commit_with v x.commit (driver_entry n r o))) in
+              subst P (some_is (sym y.1 ∙ d)) (λ a u q p. ap (λ (s : Scene). at_key w s.content (below w.dest.key q)) (one_scene w k x.seen (driver_entry n r o))
+              ∙ (setup_alone w j x.seen.scene y.0.operation y.2 r a o).keys (below w.dest.key q) (shown_key j q p) (no_success j q p) ∙ u q p) asked v
+        ]
+      ]
 
   pub shown : (es : List Entry) (x : Stand) → Runs g k opening es x → AreOwn es → Shown x
-  shown es x run_begins own = λ q p. refl
-  shown es x (actor_begins fs y b run may) own = shown_begins y (well fs y run) b may (shown fs y run own)
-  shown es x (driver_sends fs y op n r o run d asked timely few honest) own =
-      driver_shown y (cleans_is fs y run) (good fs y run) op d n r asked timely few o honest (subst (λ v. Shows g opening v y.seen y.told y.commit) d (shown fs y run (own_front fs _ own)))
-  shown es x (attempt_sends fs y a op n r o run set at asked honest) own =
-      let l = late y (good fs y run) set in
+  shown = each_run g k opening (λ es x. AreOwn es → Shown x) (λ own q p. refl) (λ es x b run may h own. shown_begins x (well es x run) b may (h own)) driver_shown
+      (λ es x a op n r o run set at asked honest h own.
+      let l = late x (good es x run) set in
       let f = l.fine a op at in
-      let mine = operation_own g j y.told a f.0 op f.1 r asked in
-      shows_beside g j opening k y.seen y.told l.hold a n op f.1 r asked (λ b q i. mine.keys q i) o y.commit y.driver (shown fs y run (own_front fs _ own))
-  shown es x (strays fs y n r o run f) own = absurd (false_true refl (own_last fs _ own))
+      let mine = operation_own g j x.told a f.0 op f.1 r asked in
+      shows_beside g j opening k x.seen x.told l.hold a n op f.1 r asked (λ b q i. mine.keys q i) o x.commit x.driver (h (own_front es _ own)))
+      (λ es x n r o run f h own. absurd (false_true refl (own_last es _ own)))
 
   -- ---- while a check goes on its commit has sent nothing
 

@@ -1,13 +1,15 @@
 -- What holds of a run's stand is kept by every step of the run.
-use Rattle.std.proofs.Common.{◌≡◌, ℕ, ◌<◌, ◌≤◌, inl, inr, ◌&&◌, Bool, true, false, List, [], ◌∷◌, Option, Some, None, refl, sym, ap, subst, ◌∙◌, arith}
-use Rattle.job_facts.specs.Prelude.{is_some, Content, begins, Request, Outcome, Answered, ReplyLost, Entry, below, magic_prefix, success_key, SuccessPlace, Who, IsLegal, Script, CommitEnd, Picks, learn, view, is_file_path, picks_of, is_no_magic, Commit, Replacing, Marking, CommitOver, commit_start, Setting, Operation, TheSetup, TheWrite, TheTaskCommit, TheTaskAbort, TheCommit, TheClean, asks, Same, Between, Kept, Seen, see, is_marked, HasBucket, Told, known, entry, tell_attempt, at_key, Hold, Fits, FitsWrite, FitsCommit, FitsAbort, FileStands, OnlyThose, EmptiesBy, Sweep, Listing, Deleting, Times, TheCheck, TheSparing}
+use Rattle.std.proofs.Common.{◌≡◌, ℕ, inl, inr, ◌&&◌, Bool, true, false, List, [], ◌∷◌, Option, Some, None, refl, sym, ap, subst, ◌∙◌, arith}
+use Rattle.job_facts.specs.Prelude.{is_some, Content, Scene, begins, Request, Outcome, Answered, ReplyLost, Entry, below, magic_prefix, success_key, SuccessPlace, Who, IsLegal, Script, Picks, learn, view, is_file_path, picks_of, is_no_magic, Commit, Replacing, Marking, CommitOver, commit_start, Setting, Operation, TheSetup, TheWrite, TheTaskCommit, TheTaskAbort, TheCommit, TheClean, asks, Same, Between, Kept, Seen, see, HasBucket, Told, known, entry, tell_attempt, at_key, Hold, Fits, FitsWrite, FitsCommit, FitsAbort, FileStands, OnlyThose, EmptiesBy, Sweep, Listing, Deleting, Times, TheCheck, TheSparing}
 use Rattle.job_spec.proofs.Common.{key_magic, tabled_start, false_true, true_or_false}
 use Rattle.job_spec.specs.Prelude.{Whole}
 use Rattle.job_model.specs.declared.ends.CommitEnd.TheVariants as commits
 use Rattle.job_model.specs.declared.ends.Stage.TheVariants as stages
 use Rattle.job_facts.specs.Turning.{Turns}
 use Rattle.job_facts.proofs.JobCommitting.{no_magic, replaced_under}
-use Rattle.job_traces.proofs.Replacing.{empty_fetching, others_fetching, start_replaces}
+use Rattle.job_traces.proofs.Replacing.{empty_enter, others_enter, start_replaces}
+use Rattle.job_traces.proofs.Leads.{enters}
+use Rattle.job_traces.proofs.Plain.{one_scene}
 use Rattle.job_facts.proofs.Whose.{who_other}
 use Rattle.job_facts.proofs.Legal.{some_dest}
 use Rattle.job_facts.proofs.Shows.{shown_key, HidesAll, hidden_shows}
@@ -16,7 +18,7 @@ use Rattle.job_facts.proofs.Turning.{turns_start}
 use Rattle.job_facts.proofs.Deciding.{d_start}
 use Rattle.job_facts.proofs.FilingLaws.{decides_beside, files_begin}
 use Rattle.job_facts.proofs.Agreeing.{Agrees, agrees_start}
-use Rattle.job_traces.proofs.Running.{first_at, now_at, Untouched, MarkSays, MarkLeft, Marks, Files, OtherStands, Empty, InCommit, CommitShows, Idle, At, Shows, false_marks, wants_of}
+use Rattle.job_traces.proofs.Running.{first_at, now_at, Untouched, MarkSays, Marks, Files, OtherStands, Empty, InCommit, CommitShows, Idle, At, Shows, false_marks, wants_of}
 use Rattle.job_traces.proofs.Steps.{hidden_same}
 use Rattle.job_facts.proofs.Sharing.{sparing_still}
 
@@ -50,14 +52,10 @@ module _ (g : Setting) (j : IsLegal g.script) (opening : Content) (s u : Seen) (
   says_still : (p : Picks) (put : Bool) → MarkSays g opening s.scene.content p put → MarkSays g opening u.scene.content p put
   says_still p put says e o y = says e o (sym success_same ∙ y)
 
-  left_still : (p : Picks) (put : Bool) (end : CommitEnd) → MarkLeft g opening s.scene.content p put end → MarkLeft g opening u.scene.content p put end
-  left_still p put commits.Committed h = says_still p put h
-  left_still p put (commits.StoreFault stages.Success) h = says_still p put h
-  left_still p put _ h = h
-
   marks_still : (p : Picks) (put : Bool) (d : Commit) → Marks g opening s.scene.content p put d → Marks g opening u.scene.content p put d
   marks_still p put (Marking sets n) h = says_still p put h
-  marks_still p put (CommitOver end) h = left_still p put end h
+  marks_still p put (CommitOver commits.Committed) h = says_still p put h
+  marks_still p put (CommitOver (commits.StoreFault stages.Success)) h = says_still p put h
   marks_still p put _ h = h
 
   pub idle_still : (m n : Told) → ((id : ℕ) → n.ended id ≡ m.ended id) → n.cleaned ≡ m.cleaned → Idle g opening s m → Idle g opening u n
@@ -66,12 +64,6 @@ module _ (g : Setting) (j : IsLegal g.script) (opening : Content) (s u : Seen) (
     uncleaned = cleaned ∙ i.uncleaned;
     unmarked = q.mark ∙ i.unmarked;
     unpicked = λ t. ap (λ p. p t) q.picks ∙ i.unpicked t;
-  }
-
-  files_still : (ended : ℕ → Bool) (es : List Entry) (d : Commit) → Files g opening s.scene.content s.picks ended es d → Files g opening u.scene.content s.picks ended es d
-  files_still ended es d f = record {
-    wanted = λ p e b h. subst (λ x. FileStands w p b (first_at g opening p) es x ended d) (sym (file_same p e)) (f.wanted p e b h);
-    others = λ p e h. subst (λ x. OtherStands g opening s.picks p x d) (sym (file_same p e)) (f.others p e h);
   }
 
   -- what is outside the magic directory
@@ -90,30 +82,21 @@ module _ (g : Setting) (j : IsLegal g.script) (opening : Content) (s u : Seen) (
 pub kept_next : (g : Setting) (opening : Content) (s u : Seen) → Same (view g.script.dest u.scene.content) (view g.script.dest s.scene.content) → at_key g.script u.scene.content (success_key g.script.dest.key) ≡ at_key g.script s.scene.content (success_key g.script.dest.key)
     → u.picks ≡ s.picks → u.put_mark ≡ s.put_mark → (s.begun ≡ true → u.begun ≡ true) → Kept g.script opening s → Kept g.script opening u
 kept_next g opening s u shows success picks mark begun kept = record {
-  before = λ e. before_so e;
-  between = λ e. subst (λ p. Between g.script (view g.script.dest opening) p (view g.script.dest u.scene.content)) (sym picks) (between_so (s.begun) refl);
-  whole = λ e. subst (λ p. Whole g.script (view g.script.dest opening) p u.scene.content) (sym picks) (whole_so e);
-}
-  where
-    not_begun : u.begun ≡ false → s.begun ≡ false
-    not_begun e = elim (true_or_false s.begun) [ inl y ↦ absurd (false_true e (begun y)) | inr y ↦ y ]
-
-    before_so : u.begun ≡ false → Same (view g.script.dest u.scene.content) (view g.script.dest opening)
-    before_so e q = shows q ∙ kept.before (not_begun e) q
-
-    between_so : (b : Bool) → s.begun ≡ b → Between g.script (view g.script.dest opening) s.picks (view g.script.dest u.scene.content)
-    between_so true e =
-        let old = kept.between e in
+  before = λ e q. shows q ∙ kept.before (elim (true_or_false s.begun) [ inl y ↦ absurd (false_true e (begun y)) | inr y ↦ y ]) q;
+  between = λ e. subst (λ p. Between g.script (view g.script.dest opening) p (view g.script.dest u.scene.content)) (sym picks) (elim (true_or_false s.begun) [
+    | inl y ↦
+        let old = kept.between y in
         record { untouched = λ d q. shows q ∙ old.untouched d q; only = λ d q b y. old.only d q b (sym (shows q) ∙ y); kept = λ d q b y keep none. shows q ∙ old.kept d q b y keep none }
-    between_so false e =
-        let same : Same (view g.script.dest u.scene.content) (view g.script.dest opening) = λ q. shows q ∙ kept.before e q in
+    | inr y ↦
+        let same : Same (view g.script.dest u.scene.content) (view g.script.dest opening) = λ q. shows q ∙ kept.before y q in
         record { untouched = λ d. same; only = λ d q b y. inl (sym (same q) ∙ y); kept = λ d q b y keep none. same q ∙ y }
-
-    marked_so : is_marked g.script u ≡ true → is_marked g.script s ≡ true
-    marked_so e = ap (λ b. b && is_some (at_key g.script s.scene.content (success_key g.script.dest.key))) (sym mark) ∙ ap (λ o. u.put_mark && is_some o) (sym success) ∙ e
-
-    whole_so : is_marked g.script u ≡ true → Whole g.script (view g.script.dest opening) s.picks u.scene.content
-    whole_so e = let old = kept.whole (marked_so e) in record { picked = old.picked; apart = old.apart; files = λ q. shows q ∙ old.files q; mark = λ o y. old.mark o (sym success ∙ y) }
+  ]);
+  whole = λ e.
+      let old =
+      kept.whole (ap (λ b. b && is_some (at_key g.script s.scene.content (success_key g.script.dest.key))) (sym mark) ∙ ap (λ o. u.put_mark && is_some o) (sym success) ∙ e) in
+      subst (λ p. Whole g.script (view g.script.dest opening) p u.scene.content) (sym picks)
+      (record { picked = old.picked; apart = old.apart; files = λ q. shows q ∙ old.files q; mark = λ o y. old.mark o (sym success ∙ y) });
+}
 
 -- ---- an attempt's entry, in the eyes of the driver
 
@@ -131,24 +114,19 @@ module _ (g : Setting) (j : IsLegal g.script) (opening : Content) (k : Times) (s
   commit_beside c i = subst (λ p. InCommit g opening p told c) (sym quiet.picks) (record {
     fits = beside g m a op fits r asked o c i.fits;
     tabled = i.tabled;
-    turns = turns_beside c i.turns;
+    turns = (elim c as (λ d. Turns m d → Turns told d) [ CommitOver end ↦ λ t. tt | _ ↦ λ t. t ]) i.turns;
     decides = decides_beside g m a op fits r asked o c i.decides;
     uncleaned = i.uncleaned;
     agrees = i.agrees;
     replaces = i.replaces;
   })
-    where
-      turns_beside : (c : Commit) → Turns m c → Turns told c
-      turns_beside (CommitOver end) t = tt
-      turns_beside _ t = t
 
   pub at_beside : (d : Option Operation) → At g opening d s m → At g opening d next told
   at_beside (Some (TheSetup t)) y = (y.0, idle_still g j opening s next quiet m told (λ id. refl) refl y.1)
   at_beside (Some (TheCommit c)) y = commit_beside c y
-  at_beside (Some (TheClean t)) y = y
   at_beside (Some (TheCheck t)) y = idle_still g j opening s next quiet m told (λ id. refl) refl y
   at_beside (Some (TheSparing t)) y = sparing_still g.script m a r o t.operation y
-  at_beside _ y = absurd y
+  at_beside _ y = y
 
   -- and so is what is shown
   shown_beside : (c : Commit) → CommitShows g opening s m.ended es c → CommitShows g opening next told.ended es c
@@ -156,16 +134,16 @@ module _ (g : Setting) (j : IsLegal g.script) (opening : Content) (k : Times) (s
     marks = subst (λ b. Marks g opening next.scene.content next.picks b c) (sym quiet.mark) (subst (λ p. Marks g opening next.scene.content p s.put_mark c) (sym quiet.picks) (marks_still g j opening s next quiet s.picks s.put_mark c v.marks));
     early = λ e. untouched_still g j opening s next quiet (v.early (sym quiet.begun ∙ e));
     empty = empty_still g j opening s next quiet c v.empty;
-    files = subst (λ p. Files g opening next.scene.content p m.ended es c) (sym quiet.picks) (files_still g j opening s next quiet m.ended es c v.files);
+    files = subst (λ p. Files g opening next.scene.content p m.ended es c) (sym quiet.picks) (record {
+      wanted = λ p e b h. subst (λ x. FileStands g.script p b (first_at g opening p) es x m.ended c) (sym (file_same g j opening s next quiet p e)) (v.files.wanted p e b h);
+      others = λ p e h. subst (λ x. OtherStands g opening s.picks p x c) (sym (file_same g j opening s next quiet p e)) (v.files.others p e h);
+    });
   }
 
   kept_beside : Kept g.script opening s → Kept g.script opening next
-  kept_beside v = kept_next g opening s next (shows_by o) (success_same g j opening s next quiet) quiet.picks quiet.mark (λ e. quiet.begun ∙ e) v
-    where
-      shows_by : (o : Outcome) → Same (view g.script.dest (see g.script k s (entry a n r o)).scene.content) (view g.script.dest s.scene.content)
-      shows_by (Answered x) = hidden_shows j s.scene r (Answered x) h.there hides
-      shows_by ReplyLost = hidden_shows j s.scene r ReplyLost h.there hides
-      shows_by _ = λ p. refl
+  kept_beside v =
+      kept_next g opening s next (λ p. ap (λ (x : Scene). view g.script.dest x.content p) (one_scene g.script k s (entry a n r o)) ∙ hidden_shows j s.scene r o h.there hides p)
+      (success_same g j opening s next quiet) quiet.picks quiet.mark (λ e. quiet.begun ∙ e) v
 
   pub shows_beside : (d : Option Operation) → Shows g opening d s m es → Shows g opening d next told es
   shows_beside None v = untouched_still g j opening s next quiet v
@@ -177,25 +155,6 @@ module _ (g : Setting) (j : IsLegal g.script) (opening : Content) (k : Times) (s
   shows_beside (Some _) v = absurd v
 
   -- other attempts know what they knew
-  pub other_fits : (b : Who) → (b ≡ a → ⊥) → (mine : Operation) → Fits g.script g.minimum b m mine → Fits g.script g.minimum b told mine
-  other_fits b ne mine f = by mine f
-    where
-      same : known m b ≡ known told b
-      same = λ i. record {
-        drawn = sym (who_other m.drawn a (learn g.script a (known m a) r o).drawn b ne) i;
-        put_sent = sym (who_other m.put_sent a (learn g.script a (known m a) r o).put_sent b ne) i;
-        publish_sent = sym (who_other m.publish_sent a (learn g.script a (known m a) r o).publish_sent b ne) i;
-      }
-
-      undone_same : told.undone b ≡ m.undone b
-      undone_same = who_other m.undone a _ b ne
-
-      by : (mine : Operation) → Fits g.script g.minimum b m mine → Fits g.script g.minimum b told mine
-      by (TheWrite t) f = (undone_same ∙ f.0, subst (λ v. FitsWrite g.script g.minimum b v t.operation) same f.1)
-      by (TheTaskCommit t) f = (undone_same ∙ f.0, subst (λ v. FitsCommit g.script g.minimum b v t.operation) same f.1)
-      by (TheTaskAbort t) f = subst (λ v. FitsAbort g.script b v t.operation) same f
-      by _ f = f
-
   pub other_known : (b : Who) → (b ≡ a → ⊥) → known told b ≡ known m b
   other_known b ne = λ i. record {
     drawn = who_other m.drawn a (learn g.script a (known m a) r o).drawn b ne i;
@@ -203,21 +162,24 @@ module _ (g : Setting) (j : IsLegal g.script) (opening : Content) (k : Times) (s
     publish_sent = who_other m.publish_sent a (learn g.script a (known m a) r o).publish_sent b ne i;
   }
 
+  pub other_fits : (b : Who) → (b ≡ a → ⊥) → (mine : Operation) → Fits g.script g.minimum b m mine → Fits g.script g.minimum b told mine
+  other_fits b ne (TheWrite t) f = (who_other m.undone a _ b ne ∙ f.0, subst (λ v. FitsWrite g.script g.minimum b v t.operation) (sym (other_known b ne)) f.1)
+  other_fits b ne (TheTaskCommit t) f = (who_other m.undone a _ b ne ∙ f.0, subst (λ v. FitsCommit g.script g.minimum b v t.operation) (sym (other_known b ne)) f.1)
+  other_fits b ne (TheTaskAbort t) f = subst (λ v. FitsAbort g.script b v t.operation) (sym (other_known b ne)) f
+  other_fits b ne _ f = f
+
 -- ---- the commit as it begins
 
 pub commit_starts : (g : Setting) → IsLegal g.script → (opening : Content) (s : Seen) (m : Told) → Idle g opening s m → (missing : Option ℕ) → InCommit g opening s.picks m (commit_start g.script missing)
 commit_starts g j opening s m i missing = record {
   fits = job_commit_begins g.script g.minimum j m missing;
-  tabled = tabled_start g.script missing (some_lane j.one_lane);
+  tabled = tabled_start g.script missing (omega (arith, j.one_lane));
   turns = turns_start g.script m i.none missing;
   decides = d_start g.script g.minimum m.publish_sent m.drawn missing;
   uncleaned = i.uncleaned;
   agrees = agrees_start g.script s.picks missing;
   replaces = start_replaces g j opening missing;
 }
-  where
-    some_lane : {a : ℕ} → 1 ≤ a → 0 < a
-    some_lane y = omega arith
 
 pub commit_shows : (g : Setting) → IsLegal g.script → (opening : Content) (s : Seen) (m : Told) → Hold g.script g.minimum s m → Idle g opening s m → Untouched g opening s.scene.content → (missing : Option ℕ)
     → CommitShows g opening s m.ended [] (commit_start g.script missing)
@@ -226,17 +188,15 @@ commit_shows g j opening s m h i untouched missing =
     record {
       marks = false_marks g opening s.scene.content s.picks s.put_mark i.unmarked (commit_start g.script missing);
       early = λ e. untouched;
-      empty = empty_start missing;
+      empty = elim missing as (λ t. Empty g opening s.scene.content (commit_start g.script t)) [
+        | None ↦ empty_enter g j opening s.scene.content [] (replaced_under j g.script.committer g.script.mode (picks_of [])) (enters g.script [])
+        | Some t ↦ tt
+      ];
       files = record {
         wanted = λ q p b e. files_begin g.script g.minimum j s m h i.none q b (first_at g opening q) (now_at g opening s.scene.content q) (untouched q p) missing (wants_of g opening s.picks q b e (commit_start g.script missing) agrees);
-        others = λ q p e. others_start q p missing agrees;
+        others = λ q p e. (elim missing as (λ t. Agrees g.script s.picks (commit_start g.script t) → OtherStands g opening s.picks q (now_at g opening s.scene.content q) (commit_start g.script t)) [
+          | None ↦ others_enter g j opening s.picks q p s.scene.content (untouched q p) [] (enters g.script [])
+          | Some t ↦ λ a. untouched q p
+        ]) agrees;
       };
     }
-  where
-    empty_start : (missing : Option ℕ) → Empty g opening s.scene.content (commit_start g.script missing)
-    empty_start None = empty_fetching g j opening s.scene.content [] (replaced_under j g.script.committer g.script.mode (picks_of []))
-    empty_start (Some t) = tt
-
-    others_start : (q : List ℕ) → is_file_path q ≡ true → (missing : Option ℕ) → Agrees g.script s.picks (commit_start g.script missing) → OtherStands g opening s.picks q (now_at g opening s.scene.content q) (commit_start g.script missing)
-    others_start q p None a = others_fetching g j opening s.picks q p s.scene.content (untouched q p) [] a
-    others_start q p (Some t) a = untouched q p

@@ -1,3 +1,7 @@
+pub mod Lists
+pub mod Leads
+pub mod Folds
+pub mod Plain
 pub mod Running
 pub mod Steps
 pub mod EveryRun

@@ -1,7 +1,7 @@
 -- What holds of a run's stand: before its set-up is done, while its commit goes on, and while it cleans up. How far the job has come no stranger can change; what a reader is shown is told of a run among no strangers.
-use Rattle.std.proofs.Common.{◌≡◌, ℕ, ◌<◌, ◌⊎◌, inl, inr, not, Bool, true, false, cond, List, [], ◌∷◌, ◌++◌, Option, Some, None, refl, sym, ap, subst, ◌∙◌}
-use Rattle.job_facts.specs.Prelude.{option_map, lookup, text_eq, Content, Upload, Object, Entry, below, success_key, Retried, Sweep, IsIn, Who, IsLegal, Script, CommitEnd, Picks, wanted_at, is_decided, is_picked, is_clash, keeps_of, mark_text, Setup, SetupOver, view, is_file_path, Sets, picks_of, is_no_magic, replaced, Commit, Fetching, Replacing, Completing, Marking, Reverting, CommitOver, Tabled, Setting, Operation, TheSetup, TheCommit, TheClean, Same, Between, Kept, is_untouched, NoDeletionWorn, OnlyOpening, NoClusterFile, Seen, is_marked, Told, known, nothing_told, at_key, at_id, IsAttempt, Hold, Fits, OnlyThose, EmptiesBy, SetsUp, SweepsUnder, FitsClean, FitsJobCommit, NoneEnded, Gone, Decides, Wants, IsBefore, whole_of, FileStands, TheCheck, TheSparing}
-use Rattle.job_spec.proofs.Common.{and_parts, not-true, none_some, false_true, true_or_false}
+use Rattle.std.proofs.Common.{◌≡◌, ℕ, ◌<◌, ◌⊎◌, inl, inr, not, Bool, true, false, cond, List, [], ◌∷◌, ◌++◌, Option, Some, None, refl, sym, ap, ◌∙◌}
+use Rattle.job_facts.specs.Prelude.{option_map, lookup, text_eq, Content, Upload, Object, Entry, below, success_key, Retried, Sweep, IsIn, Who, IsLegal, Script, CommitEnd, Picks, wanted_at, is_decided, is_picked, is_clash, keeps_of, mark_text, Setup, SetupOver, view, is_file_path, Sets, picks_of, is_no_magic, replaced, Commit, Fetching, Replacing, Completing, Marking, Reverting, CommitOver, Tabled, Setting, Operation, TheSetup, TheCommit, TheClean, Same, Kept, is_untouched, NoDeletionWorn, OnlyOpening, NoClusterFile, Seen, is_marked, Told, known, nothing_told, at_key, at_id, IsAttempt, Hold, Fits, OnlyThose, EmptiesBy, SetsUp, SweepsUnder, FitsClean, FitsJobCommit, NoneEnded, Gone, Decides, Wants, IsBefore, whole_of, FileStands, TheCheck, TheSparing}
+use Rattle.job_spec.proofs.Common.{and_parts, not-true, none_some, none_or_some, false_true, true_or_false}
 use Rattle.job_spec.specs.Prelude.{Whole, or_else, done}
 use Rattle.job_model.specs.declared.ends.CommitEnd.TheVariants as commits
 use Rattle.job_model.specs.declared.ends.Stage.TheVariants as stages
@@ -9,7 +9,7 @@ use Rattle.job_model.specs.declared.ends.SetupEnd.TheVariants as setups
 use Rattle.job_facts.specs.Turning.{Turns}
 use Rattle.job_facts.specs.Filed.{FileLeft}
 use Rattle.job_traces.specs.Runs.{Stand}
-use Rattle.job_facts.proofs.Agreeing.{AgreeBelow, Agrees, decided_so}
+use Rattle.job_facts.proofs.Agreeing.{Agrees, decided_so}
 use Rattle.job_facts.proofs.Wanted.{same_wanted, wanted_of}
 use Rattle.job_facts.proofs.FilePaths.{file_path}
 use Rattle.job_facts.proofs.Filing.{wanted_upload}
@@ -33,25 +33,17 @@ module _ (g : Setting) (opening : Content) where
   abbrev pub MarkSays : Content → Picks → Bool → Type 0
   MarkSays c picks put = put ≡ true → (o : Object) → at_key w c (success_key w.dest.key) ≡ Some o → o.bytes ≡ mark_text w picks
 
-  abbrev pub MarkLeft : Content → Picks → Bool → CommitEnd → Type 0
-  MarkLeft c picks put commits.Committed = MarkSays c picks put
-  MarkLeft c picks put (commits.StoreFault stages.Success) = MarkSays c picks put
-  MarkLeft c picks put _ = put ≡ false
-
   abbrev pub Marks : Content → Picks → Bool → Commit → Type 0
   Marks c picks put (Marking sets n) = MarkSays c picks put
-  Marks c picks put (CommitOver end) = MarkLeft c picks put end
+  Marks c picks put (CommitOver commits.Committed) = MarkSays c picks put
+  Marks c picks put (CommitOver (commits.StoreFault stages.Success)) = MarkSays c picks put
   Marks c picks put _ = put ≡ false
 
   -- one that was not put has no such stage
-  false_left : (x : Content) (p : Picks) (put : Bool) → put ≡ false → (end : CommitEnd) → MarkLeft x p put end
-  false_left x p put e commits.Committed = λ y. absurd (false_true e y)
-  false_left x p put e (commits.StoreFault stages.Success) = λ y. absurd (false_true e y)
-  false_left x p put e _ = e
-
   pub false_marks : (x : Content) (p : Picks) (put : Bool) → put ≡ false → (d : Commit) → Marks x p put d
   false_marks x p put e (Marking sets y) = λ z. absurd (false_true e z)
-  false_marks x p put e (CommitOver end) = false_left x p put e end
+  false_marks x p put e (CommitOver commits.Committed) = λ z. absurd (false_true e z)
+  false_marks x p put e (CommitOver (commits.StoreFault stages.Success)) = λ z. absurd (false_true e z)
   false_marks x p put e _ = e
 
   -- what the picks want the commit wants
@@ -69,17 +61,14 @@ module _ (g : Setting) (opening : Content) where
   abbrev pub Clearing : Picks → List ℕ → Option Object → Type 0
   Clearing picks q now = (now ≡ first_at q) ⊎ ((now ≡ None) × (keeps_of w picks q ≡ false))
 
-  abbrev pub OtherLeft : Picks → List ℕ → Option Object → CommitEnd → Type 0
-  OtherLeft picks q now commits.Committed = Cleared picks q now
-  OtherLeft picks q now (commits.StoreFault stages.Success) = Cleared picks q now
-  OtherLeft picks q now (commits.StoreFault stages.Complete) = Cleared picks q now
-  OtherLeft picks q now (commits.StoreFault stages.Delete) = Clearing picks q now
-  OtherLeft picks q now _ = now ≡ first_at q
-
   abbrev pub OtherStands : Picks → List ℕ → Option Object → Commit → Type 0
   OtherStands picks q now (Fetching sets n) = now ≡ first_at q
   OtherStands picks q now (Replacing sets p ps s n) = Clearing picks q now
-  OtherStands picks q now (CommitOver end) = OtherLeft picks q now end
+  OtherStands picks q now (CommitOver commits.Committed) = Cleared picks q now
+  OtherStands picks q now (CommitOver (commits.StoreFault stages.Success)) = Cleared picks q now
+  OtherStands picks q now (CommitOver (commits.StoreFault stages.Complete)) = Cleared picks q now
+  OtherStands picks q now (CommitOver (commits.StoreFault stages.Delete)) = Clearing picks q now
+  OtherStands picks q now (CommitOver _) = now ≡ first_at q
   OtherStands picks q now _ = Cleared picks q now
 
   -- what is wanted stands as the commit says, and so does what is not
@@ -179,28 +168,24 @@ module _ (g : Setting) (opening : Content) where
   hidden_is : (c : Content) (q : List ℕ) → is_file_path q ≡ false → view w.dest c q ≡ None
   hidden_is c q h = ap (λ b. cond b (option_map (λ (o : Object). o.bytes) (now_at c q)) None) h
 
-  pub untouched_shows : (c : Content) → Untouched c → Same (view w.dest c) (view w.dest opening)
-  untouched_shows c h q = elim (true_or_false (is_file_path q)) [
-    | inl e ↦ shown_is c q e ∙ ap (λ x. option_map (λ (o : Object). o.bytes) x) (h q e) ∙ sym (shown_is opening q e)
-    | inr e ↦ hidden_is c q e ∙ sym (hidden_is opening q e)
+  view_same : (c d : Content) (q : List ℕ) → (is_file_path q ≡ true → now_at c q ≡ now_at d q) → view w.dest c q ≡ view w.dest d q
+  view_same c d q h = elim (true_or_false (is_file_path q)) [
+    | inl e ↦ shown_is c q e ∙ ap (λ x. option_map (λ (o : Object). o.bytes) x) (h e) ∙ sym (shown_is d q e)
+    | inr e ↦ hidden_is c q e ∙ sym (hidden_is d q e)
   ]
 
-  same_between : (s : Seen) → Same (view w.dest s.scene.content) (view w.dest opening) → Between w (view w.dest opening) s.picks (view w.dest s.scene.content)
-  same_between s h = record {
-    untouched = λ e. h;
-    only = λ e p b q. inl (sym (h p) ∙ q);
-    kept = λ e p b q k n. h p ∙ q;
-  }
+  pub untouched_shows : (c : Content) → Untouched c → Same (view w.dest c) (view w.dest opening)
+  untouched_shows c h q = view_same c opening q (h q)
 
   unmarked_not : (s : Seen) → s.put_mark ≡ false → is_marked w s ≡ true → ⊥
   unmarked_not s e h = false_true e (and_parts s.put_mark _ h).0
 
   pub kept_untouched : (s : Seen) → Untouched s.scene.content → s.put_mark ≡ false → Kept w opening s
-  kept_untouched s u e = let same = untouched_shows s.scene.content u in record { before = λ b. same; between = λ b. same_between s same; whole = λ h. absurd (unmarked_not s e h) }
+  kept_untouched s u e = let same = untouched_shows s.scene.content u in record { before = λ b. same; between = λ b. record { untouched = λ e. same; only = λ e p b q. inl (sym (same p) ∙ q); kept = λ e p b q k n. same p ∙ q }; whole = λ h. absurd (unmarked_not s e h) }
 
   -- ---- the commit
 
-  module _ (j : IsLegal w) (s : Seen) (m : Told) (h : Hold w g.minimum s m) (es : List Entry) (op : Commit) (i : InCommit s.picks m op) (shows : CommitShows s m.ended es op) where
+  module _ (j : IsLegal w) (s : Seen) (m : Told) (h : Hold w g.minimum s m) (es : List Entry) where
     abbrev picks : Picks
     picks = s.picks
 
@@ -216,72 +201,45 @@ module _ (g : Setting) (opening : Content) where
     mixed_left q b (commits.StoreFault stages.Complete) (inl f) = inl f
     mixed_left q b (commits.StoreFault stages.Complete) (inr f) = inr f.0
     mixed_left q b (commits.StoreFault stages.Delete) f = inl f
-    mixed_left q b (commits.StoreFault stages.Read) f = inl (inl f)
-    mixed_left q b (commits.Missing t) f = inl (inl f)
-    mixed_left q b (commits.SamePath p t u) f = inl (inl f)
-    mixed_left q b commits.NoMemory f = inl (inl f)
+    mixed_left q b _ f = inl (inl f)
 
     -- each wanted path shows what it showed, nothing, or the whole file
     pub mixed : (q b : List ℕ) → wanted_at w picks q ≡ Some b → (d : Commit) → FitsJobCommit w g.minimum m.publish_sent m.drawn d → Agrees w picks d → FileStands w q b (first_at q) es (now_at c q) m.ended d → Mixed q b
     mixed q b e (Fetching sets n) fits a f = inl (inl f)
     mixed q b e (Replacing sets p ps x n) fits a f = inl f
     mixed q b e (Completing sets x xs finished) fits a f =
-        let want : wanted_at w (picks_of sets) q ≡ Some b = wants_so sets a q b e in
-        let u = wanted_upload j h q b sets fits want in
+        let u = wanted_upload j h q b sets fits (wants_of picks q b e (Completing sets x xs finished) a) in
         let v = f u.upload u.one_of u.goes_to in
         elim (true_or_false (m.ended u.upload.upload)) [ inl y ↦ inr (v.0 y) | inr y ↦ inl (v.1 y) ]
-      where
-        wants_so : (sets : Sets) → AgreeBelow w picks sets w.tasks → (q b : List ℕ) → wanted_at w picks q ≡ Some b → wanted_at w (picks_of sets) q ≡ Some b
-        wants_so sets a q b e = ap (λ l. lookup (text_eq q) l) (sym (same_wanted w (picks_of sets) picks a)) ∙ e
     mixed q b e (Marking sets n) fits a f = inr f
     mixed q b e (Reverting r rs n) fits a (few, inl f) = inl f
     mixed q b e (Reverting r rs n) fits a (few, inr f) = inr f.0
     mixed q b e (CommitOver end) fits a f = mixed_left q b end f
 
+    first_by : (q : List ℕ) → ((b : List ℕ) → wanted_at w picks q ≡ Some b → now_at c q ≡ first_at q) → (wanted_at w picks q ≡ None → now_at c q ≡ first_at q)
+        → now_at c q ≡ first_at q
+    first_by q wanted other = elim (none_or_some (wanted_at w picks q)) [ inl none ↦ other none | inr b ↦ wanted b.0 b.1 ]
+
     -- a commit that ended so before its first completion has changed nothing
-    pub left_still : (end : CommitEnd) → CommitOver end ≡ op → is_untouched end ≡ true → Untouched c
-    left_still end is before q p = by (wanted_at w picks q) refl
-      where
-        same : (e : CommitEnd) (b : List ℕ) → is_untouched e ≡ true → FileLeft w q b (first_at q) es (now_at c q) e → now_at c q ≡ first_at q
-        same (commits.Missing t) b y f = f
-        same (commits.SamePath x t u) b y f = f
-        same (commits.StoreFault stages.Read) b y f = f
-        same _ b y f = absurd (false_true refl y)
-
-        other : (e : CommitEnd) → is_untouched e ≡ true → OtherLeft picks q (now_at c q) e → now_at c q ≡ first_at q
-        other (commits.Missing t) y f = f
-        other (commits.SamePath x t u) y f = f
-        other (commits.StoreFault stages.Read) y f = f
-        other _ y f = absurd (false_true refl y)
-
-        by : (o : Option (List ℕ)) → wanted_at w picks q ≡ o → now_at c q ≡ first_at q
-        by None y = other end before (subst (OtherStands picks q (now_at c q)) (sym is) (shows.files.others q p y))
-        by (Some b) y = same end b before (subst (FileStands w q b (first_at q) es (now_at c q) m.ended) (sym is) (shows.files.wanted q p b y))
+    pub left_still : (end : CommitEnd) → CommitShows s m.ended es (CommitOver end) → is_untouched end ≡ true → Untouched c
+    left_still (commits.Missing t) v before q p = first_by q (v.files.wanted q p) (v.files.others q p)
+    left_still (commits.SamePath x t u) v before q p = first_by q (v.files.wanted q p) (v.files.others q p)
+    left_still (commits.StoreFault stages.Read) v before q p = first_by q (v.files.wanted q p) (v.files.others q p)
+    left_still _ v before q p = absurd (false_true refl before)
 
     -- before the first completion nothing has changed
-    pub still : is_decided w picks ≡ false → (d : Commit) → d ≡ op → Untouched c
-    still e (Fetching sets n) is = λ q p. by q p (wanted_at w picks q) refl
-      where
-        by : (q : List ℕ) → is_file_path q ≡ true → (o : Option (List ℕ)) → wanted_at w picks q ≡ o → now_at c q ≡ first_at q
-        by q p None y = subst (OtherStands picks q (now_at c q)) (sym is) (shows.files.others q p y)
-        by q p (Some b) y = subst (FileStands w q b (first_at q) es (now_at c q) m.ended) (sym is) (shows.files.wanted q p b y)
-    still e (Replacing sets p ps x n) is = absurd (false_true e (decided_so w picks sets (subst (Decides w g.minimum m.publish_sent m.drawn) (sym is) i.decides) (subst (Agrees w picks) (sym is) i.agrees)))
-    still e (Completing sets x xs finished) is = absurd (false_true e (decided_so w picks sets (subst (Decides w g.minimum m.publish_sent m.drawn) (sym is) i.decides) (subst (Agrees w picks) (sym is) i.agrees)))
-    still e (Marking sets n) is = absurd (false_true e (decided_so w picks sets (subst (Decides w g.minimum m.publish_sent m.drawn) (sym is) i.decides) (subst (Agrees w picks) (sym is) i.agrees)))
-    still e (Reverting r rs n) is = absurd (false_true e (subst (Agrees w picks) (sym is) i.agrees).0)
-    still e (CommitOver end) is = left_still end is (undecided (is_untouched end) refl)
-      where
-        undecided : (b : Bool) → is_untouched end ≡ b → is_untouched end ≡ true
-        undecided true y = y
-        undecided false y = absurd (false_true e ((subst (Agrees w picks) (sym is) i.agrees) y))
+    still : is_decided w picks ≡ false → (d : Commit) → InCommit picks m d → CommitShows s m.ended es d → Untouched c
+    still e (Fetching sets n) i v q p = first_by q (v.files.wanted q p) (v.files.others q p)
+    still e (Replacing sets o os x n) i v q p = absurd (false_true e (decided_so w picks sets i.decides i.agrees))
+    still e (Completing sets x xs finished) i v q p = absurd (false_true e (decided_so w picks sets i.decides i.agrees))
+    still e (Marking sets n) i v q p = absurd (false_true e (decided_so w picks sets i.decides i.agrees))
+    still e (Reverting r rs n) i v q p = absurd (false_true e i.agrees.0)
+    still e (CommitOver end) i v q p = elim (true_or_false (is_untouched end)) [ inl y ↦ left_still end v y q p | inr y ↦ absurd (false_true e (i.agrees y)) ]
 
     -- ---- and so the headline holds
 
     shown_path : (q b : List ℕ) → wanted_at w picks q ≡ Some b → is_file_path q ≡ true
     shown_path q b e = let x = wanted_of w picks q b e in ap is_file_path x.path ∙ file_path j _ x.file x.from.mine
-
-    abbrev bytes_at : Content → List ℕ → Option (List ℕ)
-    bytes_at d q = option_map (λ (o : Object). o.bytes) (now_at d q)
 
     -- what is not wanted is as before, or not kept and gone
     cleared_clearing : (q : List ℕ) → Cleared picks q (now_at c q) → Clearing picks q (now_at c q)
@@ -290,57 +248,35 @@ module _ (g : Setting) (opening : Content) where
       | inr drop ↦ inr (f ∙ ap (λ t. cond t (first_at q) None) drop, drop)
     ]
 
-    left_clearing : (q : List ℕ) (end : CommitEnd) → OtherLeft picks q (now_at c q) end → Clearing picks q (now_at c q)
-    left_clearing q commits.Committed f = cleared_clearing q f
-    left_clearing q (commits.StoreFault stages.Success) f = cleared_clearing q f
-    left_clearing q (commits.StoreFault stages.Complete) f = cleared_clearing q f
-    left_clearing q (commits.StoreFault stages.Delete) f = f
-    left_clearing q _ f = inl f
-
     other_clearing : (q : List ℕ) (d : Commit) → OtherStands picks q (now_at c q) d → Clearing picks q (now_at c q)
     other_clearing q (Fetching sets n) f = inl f
     other_clearing q (Replacing sets p ps x n) f = f
-    other_clearing q (CommitOver end) f = left_clearing q end f
+    other_clearing q (CommitOver commits.Committed) f = cleared_clearing q f
+    other_clearing q (CommitOver (commits.StoreFault stages.Success)) f = cleared_clearing q f
+    other_clearing q (CommitOver (commits.StoreFault stages.Complete)) f = cleared_clearing q f
+    other_clearing q (CommitOver (commits.StoreFault stages.Delete)) f = f
+    other_clearing q (CommitOver _) f = inl f
     other_clearing q _ f = cleared_clearing q f
 
-    clearing : (q : List ℕ) → is_file_path q ≡ true → wanted_at w picks q ≡ None → Clearing picks q (now_at c q)
-    clearing q p e = other_clearing q op (shows.files.others q p e)
+    module _ (op : Commit) (i : InCommit picks m op) (shows : CommitShows s m.ended es op) where
+      clearing : (q : List ℕ) → is_file_path q ≡ true → wanted_at w picks q ≡ None → Clearing picks q (now_at c q)
+      clearing q p e = other_clearing q op (shows.files.others q p e)
 
-    only_by : (q b : List ℕ) → is_file_path q ≡ true → bytes_at c q ≡ Some b → (o : Option (List ℕ)) → wanted_at w picks q ≡ o → (bytes_at opening q ≡ Some b) ⊎ (wanted_at w picks q ≡ Some b)
-    only_by q b p y None e = elim (clearing q p e) [
-      | inl same ↦ inl (ap (option_map (λ (o : Object). o.bytes)) (sym same) ∙ y)
-      | inr none ↦ absurd (none_some (ap (option_map (λ (o : Object). o.bytes)) none.0) y)
-    ]
-    only_by q b p y (Some v) e = elim (mixed q v e op i.fits i.agrees (shows.files.wanted q p v e)) [
-      | inl before ↦ elim before [
-        | inl same ↦ inl (ap (option_map (λ (o : Object). o.bytes)) (sym same) ∙ y)
-        | inr none ↦ absurd (none_some (ap (option_map (λ (o : Object). o.bytes)) none) y)
+      only_shown : (q b : List ℕ) → view w.dest c q ≡ Some b → (view w.dest opening q ≡ Some b) ⊎ (wanted_at w picks q ≡ Some b)
+      only_shown q b y = elim (true_or_false (is_file_path q)) [
+        | inr no_path ↦ absurd (none_some (hidden_is c q no_path) y)
+        | inl p ↦
+            let now : option_map (λ (o : Object). o.bytes) (now_at c q) ≡ Some b = sym (shown_is c q p) ∙ y in
+            let was : now_at c q ≡ first_at q → view w.dest opening q ≡ Some b = λ same. shown_is opening q p ∙ ap (option_map (λ (o : Object). o.bytes)) (sym same) ∙ now in
+            let gone : now_at c q ≡ None → ⊥ = λ none. none_some (ap (option_map (λ (o : Object). o.bytes)) none) now in
+            elim (none_or_some (wanted_at w picks q)) [
+              | inl e ↦ elim (clearing q p e) [ inl same ↦ inl (was same) | inr none ↦ absurd (gone none.0) ]
+              | inr v ↦ elim (mixed q v.0 v.1 op i.fits i.agrees (shows.files.wanted q p v.0 v.1)) [
+                | inl before ↦ elim before [ inl same ↦ inl (was same) | inr none ↦ absurd (gone none) ]
+                | inr whole ↦ inr (v.1 ∙ sym (ap (option_map (λ (o : Object). o.bytes)) whole) ∙ now)
+              ]
+            ]
       ]
-      | inr whole ↦ inr (e ∙ sym (ap (option_map (λ (o : Object). o.bytes)) whole) ∙ y)
-    ]
-
-    only_shown : (q b : List ℕ) → view w.dest c q ≡ Some b → (view w.dest opening q ≡ Some b) ⊎ (wanted_at w picks q ≡ Some b)
-    only_shown q b y = elim (true_or_false (is_file_path q)) [
-      | inr no_path ↦ absurd (none_some (hidden_is c q no_path) y)
-      | inl p ↦ elim (only_by q b p (sym (shown_is c q p) ∙ y) (wanted_at w picks q) refl) [ inl e ↦ inl (shown_is opening q p ∙ e) | inr e ↦ inr e ]
-    ]
-
-    -- where the mode keeps it
-    kept_shown : (q : List ℕ) → wanted_at w picks q ≡ None → keeps_of w picks q ≡ true → view w.dest c q ≡ view w.dest opening q
-    kept_shown q e keep = elim (true_or_false (is_file_path q)) [
-      | inr no_path ↦ hidden_is c q no_path ∙ sym (hidden_is opening q no_path)
-      | inl p ↦ elim (clearing q p e) [
-        | inl same ↦ shown_is c q p ∙ ap (option_map (λ (o : Object). o.bytes)) same ∙ sym (shown_is opening q p)
-        | inr none ↦ absurd (false_true none.1 keep)
-      ]
-    ]
-
-    between_now : Between w (view w.dest opening) picks (view w.dest c)
-    between_now = record {
-      untouched = λ e. untouched_shows c (still e op refl);
-      only = λ e q b y. only_shown q b y;
-      kept = λ e q b y keep none. kept_shown q none keep ∙ y;
-    }
 
     -- where all wanted files stand
     abbrev AllWhole : Type 0
@@ -349,65 +285,55 @@ module _ (g : Setting) (opening : Content) where
     abbrev AllCleared : Type 0
     AllCleared = (q : List ℕ) → is_file_path q ≡ true → wanted_at w picks q ≡ None → Cleared picks q (now_at c q)
 
-    cleared_shown : (q : List ℕ) → is_file_path q ≡ true → Cleared picks q (now_at c q) → view w.dest c q ≡ cond (keeps_of w picks q) (view w.dest opening q) None
-    cleared_shown q p f = elim (true_or_false (keeps_of w picks q)) [
-      | inl keep ↦ shown_is c q p ∙ ap (option_map (λ (o : Object). o.bytes)) (f ∙ ap (λ t. cond t (first_at q) None) keep) ∙ sym (shown_is opening q p) ∙ ap (λ t. cond t (view w.dest opening q) None) (sym keep)
-      | inr drop ↦ shown_is c q p ∙ ap (option_map (λ (o : Object). o.bytes)) (f ∙ ap (λ t. cond t (first_at q) None) drop) ∙ ap (λ t. cond t (view w.dest opening q) None) (sym drop)
-    ]
-
     all_shown : AllCleared → AllWhole → Same (view w.dest c) (done w picks (view w.dest opening))
-    all_shown clear whole q = by (wanted_at w picks q) refl
-      where
-        either_none : (t : Bool) (x : Option (List ℕ)) → x ≡ None → cond t x None ≡ None
-        either_none true x e = e
-        either_none false x e = refl
-
-        by : (o : Option (List ℕ)) → wanted_at w picks q ≡ o → view w.dest c q ≡ or_else o (cond (keeps_of w picks q) (view w.dest opening q) None)
-        by (Some b) e = shown_is c q (shown_path q b e) ∙ ap (option_map (λ (o : Object). o.bytes)) (whole q b e)
-        by None e = elim (true_or_false (is_file_path q)) [
-          | inl p ↦ cleared_shown q p (clear q p e)
-          | inr no_path ↦ hidden_is c q no_path ∙ sym (either_none (keeps_of w picks q) (view w.dest opening q) (hidden_is opening q no_path))
-        ]
+    all_shown clear whole q = elim (none_or_some (wanted_at w picks q)) [
+      | inr b ↦ shown_is c q (shown_path q b.0 b.1) ∙ ap (option_map (λ (o : Object). o.bytes)) (whole q b.0 b.1) ∙ ap (λ o. or_else o (cond (keeps_of w picks q) (view w.dest opening q) None)) (sym b.1)
+      | inl e ↦ elim (true_or_false (keeps_of w picks q)) [
+        | inl keep ↦ view_same c opening q (λ p. clear q p e ∙ ap (λ t. cond t (first_at q) None) keep) ∙ ap (λ t. cond t (view w.dest opening q) None) (sym keep)
+        | inr drop ↦ elim (true_or_false (is_file_path q)) [
+          | inl p ↦ shown_is c q p ∙ ap (option_map (λ (o : Object). o.bytes)) (clear q p e ∙ ap (λ t. cond t (first_at q) None) drop)
+          | inr no_path ↦ hidden_is c q no_path
+        ] ∙ ap (λ t. cond t (view w.dest opening q) None) (sym drop)
+      ] ∙ ap (λ o. or_else o (cond (keeps_of w picks q) (view w.dest opening q) None)) (sym e)
+    ]
 
     whole_now : is_decided w picks ≡ true → MarkSays c picks s.put_mark → AllCleared → AllWhole → is_marked w s ≡ true → Whole w (view w.dest opening) picks c
     whole_now decided says clear whole marked =
         let d = and_parts (is_picked w picks) (not (is_clash w picks)) decided in
         record { picked = d.0; apart = not-true (is_clash w picks) d.1; files = all_shown clear whole; mark = says (and_parts s.put_mark _ marked).0 }
 
-    whole_left : (end : CommitEnd) → CommitOver end ≡ op → is_marked w s ≡ true → Whole w (view w.dest opening) picks c
-    whole_left commits.Committed is e = whole_now ((subst (Agrees w picks) (sym is) i.agrees) refl) (subst (Marks c picks s.put_mark) (sym is) shows.marks) (λ q p y. subst (OtherStands picks q (now_at c q)) (sym is) (shows.files.others q p y)) (λ q b y. subst (FileStands w q b (first_at q) es (now_at c q) m.ended) (sym is) (shows.files.wanted q (shown_path q b y) b y)) e
-    whole_left (commits.StoreFault stages.Success) is e =
-        whole_now ((subst (Agrees w picks) (sym is) i.agrees) refl) (subst (Marks c picks s.put_mark) (sym is) shows.marks) (λ q p y. subst (OtherStands picks q (now_at c q)) (sym is) (shows.files.others q p y)) (λ q b y. subst (FileStands w q b (first_at q) es (now_at c q) m.ended) (sym is) (shows.files.wanted q (shown_path q b y) b y)) e
-    whole_left (commits.StoreFault stages.Complete) is e = absurd (unmarked_not s (subst (Marks c picks s.put_mark) (sym is) shows.marks) e)
-    whole_left _ is e = absurd (unmarked_not s (subst (Marks c picks s.put_mark) (sym is) shows.marks) e)
+    whole_by : (d : Commit) → InCommit picks m d → CommitShows s m.ended es d → is_marked w s ≡ true → Whole w (view w.dest opening) picks c
+    whole_by (Marking sets n) i v e = whole_now (decided_so w picks sets i.decides i.agrees) v.marks v.files.others (λ q b y. v.files.wanted q (shown_path q b y) b y) e
+    whole_by (CommitOver commits.Committed) i v e = whole_now (i.agrees refl) v.marks v.files.others (λ q b y. v.files.wanted q (shown_path q b y) b y) e
+    whole_by (CommitOver (commits.StoreFault stages.Success)) i v e = whole_now (i.agrees refl) v.marks v.files.others (λ q b y. v.files.wanted q (shown_path q b y) b y) e
+    whole_by (CommitOver _) i v e = absurd (unmarked_not s v.marks e)
+    whole_by _ i v e = absurd (unmarked_not s v.marks e)
 
-    whole_by : (d : Commit) → d ≡ op → is_marked w s ≡ true → Whole w (view w.dest opening) picks c
-    whole_by (Fetching sets n) is e = absurd (unmarked_not s (subst (Marks c picks s.put_mark) (sym is) shows.marks) e)
-    whole_by (Marking sets n) is e =
-        whole_now (decided_so w picks sets (subst (Decides w g.minimum m.publish_sent m.drawn) (sym is) i.decides) (subst (Agrees w picks) (sym is) i.agrees)) (subst (Marks c picks s.put_mark) (sym is) shows.marks) (λ q p y. subst (OtherStands picks q (now_at c q)) (sym is) (shows.files.others q p y))
-        (λ q b y. subst (FileStands w q b (first_at q) es (now_at c q) m.ended) (sym is) (shows.files.wanted q (shown_path q b y) b y)) e
-    whole_by (CommitOver end) is e = whole_left end is e
-    whole_by _ is e = absurd (unmarked_not s (subst (Marks c picks s.put_mark) (sym is) shows.marks) e)
-
-    pub kept_commit : Kept w opening s
-    kept_commit = record { before = λ e. untouched_shows c (shows.early e); between = λ e. between_now; whole = whole_by op refl }
+    pub kept_commit : (op : Commit) → InCommit picks m op → CommitShows s m.ended es op → Kept w opening s
+    kept_commit op i v = record {
+      before = λ e. untouched_shows c (v.early e);
+      between = λ e. record {
+        untouched = λ e. untouched_shows c (still e op i v);
+        only = λ e q b y. only_shown op i v q b y;
+        kept = λ e q b y keep none. view_same c opening q (λ p. elim (clearing op i v q p none) [ inl same ↦ same | inr gone ↦ absurd (false_true gone.1 keep) ]) ∙ y;
+      };
+      whole = whole_by op i v;
+    }
 
     -- a revert that is over, of which no deletion wore out
-    pub reverted_shows : CommitOver (commits.StoreFault stages.Complete) ≡ op → NoDeletionWorn w.retries es → OnlyOpening w opening c
-    reverted_shows is none q b y = elim (true_or_false (is_file_path q)) [
+    pub reverted_shows : let end = CommitOver (commits.StoreFault stages.Complete) in InCommit picks m end → CommitShows s m.ended es end → NoDeletionWorn w.retries es
+        → OnlyOpening w opening c
+    reverted_shows i v none q b y = elim (true_or_false (is_file_path q)) [
       | inr no_path ↦ absurd (none_some (hidden_is c q no_path) y)
-      | inl p ↦ by p (wanted_at w picks q) refl
-    ]
-      where
-        by : is_file_path q ≡ true → (o : Option (List ℕ)) → wanted_at w picks q ≡ o → view w.dest opening q ≡ Some b
-        by p None e = elim (clearing q p e) [
-          | inl same ↦ shown_is opening q p ∙ ap (option_map (λ (o : Object). o.bytes)) (sym same) ∙ sym (shown_is c q p) ∙ y
-          | inr gone ↦ absurd (none_some (shown_is c q p ∙ ap (option_map (λ (o : Object). o.bytes)) gone.0) y)
-        ]
-        by p (Some v) e = elim (subst (FileStands w q v (first_at q) es (now_at c q) m.ended) (sym is) (shows.files.wanted q p v e)) [
-          | inr worn ↦ absurd (none w.dest.bucket (below w.dest.key q) worn.1)
-          | inl before ↦ elim before [
-            | inl same ↦ shown_is opening q p ∙ ap (option_map (λ (o : Object). o.bytes)) (sym same) ∙ sym (shown_is c q p) ∙ y
-            | inr gone ↦ absurd (none_some (shown_is c q p ∙ ap (option_map (λ (o : Object). o.bytes)) gone) y)
+      | inl p ↦
+          let was : now_at c q ≡ first_at q → view w.dest opening q ≡ Some b =
+          λ same. shown_is opening q p ∙ ap (option_map (λ (o : Object). o.bytes)) (sym same) ∙ sym (shown_is c q p) ∙ y in
+          let not_gone : now_at c q ≡ None → ⊥ = λ gone. none_some (shown_is c q p ∙ ap (option_map (λ (o : Object). o.bytes)) gone) y in
+          elim (none_or_some (wanted_at w picks q)) [
+            | inl e ↦ elim (clearing (CommitOver (commits.StoreFault stages.Complete)) i v q p e) [ inl same ↦ was same | inr gone ↦ absurd (not_gone gone.0) ]
+            | inr e ↦ elim (v.files.wanted q p e.0 e.1) [
+              | inr worn ↦ absurd (none w.dest.bucket (below w.dest.key q) worn.1)
+              | inl before ↦ elim before [ inl same ↦ was same | inr gone ↦ absurd (not_gone gone) ]
+            ]
           ]
-        ]
+    ]

@@ -1,6 +1,6 @@
 -- Runs of a job among strangers that leave its own alone, request by request, in any order of its actors. An operation may also stop at any time.
 use Rattle.std.specs.Prelude.{◌≡◌, ℕ, ◌≤◌, ◌<◌, ◌^◌, ◌⊎◌, Bool, true, false, List, [], ◌∷◌, ◌++◌, Option, Some, None}
-use Rattle.job_facts.specs.Prelude.{Content, Upload, answer, IsHonestOutcome, Driver, Request, Outcome, Entry, fresh, Who, Known, Setup, SetupOver, setup_start, WriteOver, write_start, task_commit_start, task_abort_start, commit_start, clean_start, Setting, Operation, TheSetup, TheWrite, TheTaskCommit, TheTaskAbort, TheCommit, TheClean, TheCheck, TheSparing, Reports, commit_of, clean_of, who, asks, tells, Seen, Times, see, is_begun, nothing_seen, Told, known, put_who, nothing_told, tell, entry, driver_entry, strange_entry, at_id, IsAttempt, IsForeign}
+use Rattle.job_facts.specs.Prelude.{Content, Upload, answer, IsHonestOutcome, Driver, Request, Outcome, Entry, fresh, Who, Known, Setup, SetupOver, setup_start, WriteOver, write_start, task_commit_start, task_abort_start, Setting, Operation, TheSetup, TheWrite, TheTaskCommit, TheTaskAbort, TheCommit, TheClean, TheCheck, TheSparing, Reports, commit_of, clean_of, who, asks, tells, Seen, Times, see, is_begun, nothing_seen, Told, known, put_who, nothing_told, tell, entry, driver_entry, strange_entry, at_id, IsAttempt, IsForeign}
 use Rattle.job_model.specs.declared.ends.SetupEnd.TheVariants as setups
 use Rattle.job_model.specs.declared.ends.TaskEnd.TheVariants as tasks
 

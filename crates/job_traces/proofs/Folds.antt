@@ -1,0 +1,53 @@
+-- Facts of every run, by what each of its steps keeps.
+use Rattle.std.proofs.Common.{◌≡◌, ℕ, ◌≤◌, ◌^◌, true, List, [], ◌∷◌, ◌++◌, Some}
+use Rattle.job_facts.specs.Prelude.{Content, answer, IsHonestOutcome, Driver, Request, Outcome, Entry, Who, Commit, TheCommit, Setting, Operation, who, asks, tells, Seen, see, nothing_seen, Told, tell, nothing_told, known, entry, driver_entry, strange_entry, Times, IsForeign}
+use Rattle.job_traces.specs.Runs.{Stand, Beginning, begin, MayBegin, Runs, run_begins, actor_begins, driver_sends, attempt_sends, strays, first_stand, with_attempt, with_driver, saw, commit_with, with_commit, is_set, IsTimely, nothing_learnt}
+
+pub commit_is : {c d : Commit} → Some (TheCommit c) ≡ Some (TheCommit d) → c ≡ d
+commit_is e = cc
+
+module _ (g : Setting) (k : Times) (opening : Content) where
+  -- where an entry of the driver leads, and one of an attempt
+  abbrev pub driven : Stand → Operation → ℕ → Request → Outcome → Stand
+  driven x op n r o = with_commit (with_driver (saw g k x (driver_entry n r o)) (tells g (who Driver) op o)) (commit_with op x.commit (driver_entry n r o))
+
+  abbrev pub attempted : Stand → Who → Operation → ℕ → Request → Outcome → Stand
+  attempted x a op n r o = with_attempt (saw g k x (entry a n r o)) a (tells g a op o)
+
+  -- what begins keeps P, and so does each entry of the driver, of an attempt, and of a stranger
+  abbrev pub BeginKeeps : (List Entry → Stand → Type 0) → Type 0
+  BeginKeeps P = (es : List Entry) (x : Stand) (b : Beginning) → Runs g k opening es x → MayBegin g x b → P es x → P es (begin g x b)
+
+  abbrev pub DriverKeeps : (List Entry → Stand → Type 0) → Type 0
+  DriverKeeps P =
+      (es : List Entry) (x : Stand) (op : Operation) (n : ℕ) (r : Request) (o : Outcome) → Runs g k opening es x → x.driver ≡ Some op → asks g
+      (who Driver) nothing_learnt op ≡ Some r → IsTimely k n op
+      → x.seen.scene.content.next ≤ 2 ^ 64 → IsHonestOutcome o (answer x.seen.scene r) → P es x → P (es ++ driver_entry n r o ∷ []) (driven x op n r o)
+
+  abbrev pub AttemptKeeps : (List Entry → Stand → Type 0) → Type 0
+  AttemptKeeps P =
+      (es : List Entry) (x : Stand) (a : Who) (op : Operation) (n : ℕ) (r : Request)
+      (o : Outcome) → Runs g k opening es x → is_set x.driver ≡ true → x.attempts a ≡ Some op → asks g a (known x.told a) op ≡ Some r
+      → IsHonestOutcome o (answer x.seen.scene r) → P es x → P (es ++ entry a n r o ∷ []) (attempted x a op n r o)
+
+  abbrev pub StrangerKeeps : (List Entry → Stand → Type 0) → Type 0
+  StrangerKeeps P =
+      (es : List Entry) (x : Stand) (n : ℕ) (r : Request) (o : Outcome) → Runs g k opening es x → IsForeign g.script x.told.drawn r → P es x → P (es ++ strange_entry n r o ∷ [])
+      (saw g k x (strange_entry n r o))
+
+  -- so every run has it
+  pub each_run : (P : List Entry → Stand → Type 0) → P [] (first_stand opening k.clean) → BeginKeeps P → DriverKeeps P → AttemptKeeps P → StrangerKeeps P
+      → (es : List Entry) (x : Stand) → Runs g k opening es x → P es x
+  each_run P first b d a s es x run_begins = first
+  each_run P first b d a s es x (actor_begins fs y v run may) = b fs y v run may (each_run P first b d a s fs y run)
+  each_run P first b d a s es x (driver_sends fs y op n r o run is asked timely few honest) = d fs y op n r o run is asked timely few honest (each_run P first b d a s fs y run)
+  each_run P first b d a s es x (attempt_sends fs y u op n r o run set is asked honest) = a fs y u op n r o run set is asked honest (each_run P first b d a s fs y run)
+  each_run P first b d a s es x (strays fs y n r o run f) = s fs y n r o run f (each_run P first b d a s fs y run)
+
+  -- and what each entry keeps, whoever sent it, of what is seen and told
+  pub each_seen : (P : List Entry → Seen → Told → Type 0) → P [] (nothing_seen opening) (nothing_told k.clean)
+      → ((es : List Entry) (x : Stand) (e : Entry) → Runs g k opening es x → P es x.seen x.told → P (es ++ e ∷ []) (see g.script k x.seen e) (tell g.script x.told e))
+      → (es : List Entry) (x : Stand) → Runs g k opening es x → P es x.seen x.told
+  each_seen P first more =
+      each_run (λ es x. P es x.seen x.told) first (λ es x b run may h. h) (λ es x op n r o run d asked timely few honest h. more es x (driver_entry n r o) run h)
+      (λ es x a op n r o run set at asked honest h. more es x (entry a n r o) run h) (λ es x n r o run f h. more es x (strange_entry n r o) run h)
