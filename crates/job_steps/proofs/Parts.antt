@@ -1,7 +1,8 @@
 -- Parts of a journal to which one entry is added.
 use Rattle.std.proofs.Common.{◌≡◌, ℕ, zero, suc, ◌+◌, ◌<◌, ◌≤◌, ◌⊎◌, inl, inr, ◌&&◌, nat_eq, nat_le, nat_lt, Bool, true, false, cond, List, [], ◌∷◌, ◌++◌, length, take, slice_get, append-nil, Some, refl, sym, ap, subst, ◌∙◌, arith}
-use Rattle.job_steps.specs.Prelude.{filter, Scene, answer, effect, after_all, AreHonest, IsHonestOutcome, Actor, Driver, Attempt, Shell, Request, Outcome, Entry, strange_entry, same_actor, is_own, own, of_event, until, before, since, by_actor, AllFrom, IsRising, AllUpTo}
-use Rattle.job_spec.proofs.Common.{nat_tests, take-append-le, take_all, filter-append, below_so, at_most_so, above_so, some_is, none_some, false_true}
+use Rattle.std.proofs.Math.Bool.{and-false}
+use Rattle.job_steps.specs.Prelude.{filter, Scene, answer, effect, after_all, AreHonest, IsHonestOutcome, Actor, Shell, Request, Outcome, Entry, strange_entry, same_actor, is_own, own, of_event, until, before, since, by_actor, AllFrom, IsRising, AllUpTo}
+use Rattle.job_spec.proofs.Common.{nat_tests, nat_false, take_all, filter-append, below_so, at_most_so, above_so, some_is, none_some, false_true, true_or_false}
 
 -- ---- any lists
 
@@ -11,14 +12,8 @@ get_last [] x (suc i) y h = absurd (none_some refl h)
 get_last (z ∷ xs) x zero y h = inl h
 get_last (z ∷ xs) x (suc i) y h = elim (get_last xs x i y h) [ inl g ↦ inl g | inr g ↦ inr (ap (λ (n : ℕ). suc n) g.0, g.1) ]
 
-pub take_less : {X : Type 0} (xs : List X) (x : X) (k : ℕ) → k < length xs → take k (xs ++ x ∷ []) ≡ take k xs
-take_less xs x k h = let l : k ≤ length xs = omega arith in take-append-le k xs (x ∷ []) l
-
 pub take_whole : {X : Type 0} (xs : List X) → take (length xs) xs ≡ xs
 take_whole xs = let l : length xs ≤ length xs = omega arith in take_all (length xs) xs l
-
-pub take_but_last : {X : Type 0} (xs : List X) (x : X) → take (length xs) (xs ++ x ∷ []) ≡ xs
-take_but_last xs x = let l : length xs ≤ length xs = omega arith in take-append-le (length xs) xs (x ∷ []) l ∙ take_whole xs
 
 kept : (p : Entry → Bool) (es : List Entry) (e : Entry) → p e ≡ true → filter p (es ++ e ∷ []) ≡ filter p es ++ e ∷ []
 kept p es e h = filter-append p es (e ∷ []) ∙ ap (λ b. filter p es ++ cond b (e ∷ []) []) h
@@ -38,11 +33,7 @@ up_to_last n (x ∷ es) e all one = (all.0, up_to_last n es e all.1 one)
 
 pub up_to_part : (n : ℕ) (p : Entry → Bool) (es : List Entry) → AllUpTo n es → AllUpTo n (filter p es)
 up_to_part n p [] all = tt
-up_to_part n p (e ∷ es) all = by (p e) (up_to_part n p es all.1)
-  where
-    by : (b : Bool) → AllUpTo n (filter p es) → AllUpTo n (cond b (e ∷ filter p es) (filter p es))
-    by true rest = (all.0, rest)
-    by false rest = rest
+up_to_part n p (e ∷ es) all = elim (p e) as (λ b. AllUpTo n (cond b (e ∷ filter p es) (filter p es))) [ true ↦ (all.0, up_to_part n p es all.1) | false ↦ up_to_part n p es all.1 ]
 
 pub from_last : (n : ℕ) (es : List Entry) (e : Entry) → AllFrom n es → n ≤ e.event → AllFrom n (es ++ e ∷ [])
 from_last n [] e h one = (one, tt)
@@ -50,19 +41,14 @@ from_last n (x ∷ es) e h one = (h.0, from_last n es e h.1 one)
 
 pub from_part : (n : ℕ) (p : Entry → Bool) (es : List Entry) → AllFrom n es → AllFrom n (filter p es)
 from_part n p [] all = tt
-from_part n p (e ∷ es) all = by (p e) (from_part n p es all.1)
-  where
-    by : (b : Bool) → AllFrom n (filter p es) → AllFrom n (cond b (e ∷ filter p es) (filter p es))
-    by true rest = (all.0, rest)
-    by false rest = rest
+from_part n p (e ∷ es) all = elim (p e) as (λ b. AllFrom n (cond b (e ∷ filter p es) (filter p es))) [ true ↦ (all.0, from_part n p es all.1) | false ↦ from_part n p es all.1 ]
 
 -- one more of the job's own
 pub from_own : (n : ℕ) (es : List Entry) (e : Entry) → AllFrom n (own es) → n ≤ e.event → AllFrom n (own (es ++ e ∷ []))
-from_own n es e h one = by (is_own e.actor) refl
-  where
-    by : (b : Bool) → is_own e.actor ≡ b → AllFrom n (own (es ++ e ∷ []))
-    by true is = subst (AllFrom n) (sym (kept (λ x. is_own x.actor) es e is)) (from_last n (own es) e h one)
-    by false is = subst (AllFrom n) (sym (left_out (λ x. is_own x.actor) es e is)) h
+from_own n es e h one = elim (true_or_false (is_own e.actor)) [
+  | inl is ↦ subst (AllFrom n) (sym (kept (λ x. is_own x.actor) es e is)) (from_last n (own es) e h one)
+  | inr is ↦ subst (AllFrom n) (sym (left_out (λ x. is_own x.actor) es e is)) h
+]
 
 pub rising_last : (n : ℕ) (es : List Entry) (e : Entry) → AllUpTo n es → n ≤ e.event → IsRising es → IsRising (es ++ e ∷ [])
 rising_last n [] e all late h = (tt, tt)
@@ -73,38 +59,30 @@ rising_last n (x ∷ es) e all late h = let one : x.event ≤ n = all.0 in (from
 below_no : (m n : ℕ) → n ≤ m → nat_lt m n ≡ false
 below_no m n h = grind (arith, nat_tests)
 
-eq_no : (m n : ℕ) → m < n → nat_eq m n ≡ false
-eq_no m n h = grind (arith, nat_tests)
+-- a test that takes all, and one that takes none
+all_taken : (p : Entry → Bool) (n : ℕ) (es : List Entry) → ((e : Entry) → e.event ≤ n → p e ≡ true) → AllUpTo n es → filter p es ≡ es
+all_taken p n [] h all = refl
+all_taken p n (e ∷ es) h all = ap (λ b. cond b (e ∷ filter p es) (filter p es)) (h e all.0) ∙ ap (λ z. e ∷ z) (all_taken p n es h all.1)
 
-and_false : (b : Bool) → (b && false) ≡ false
-and_false true = refl
-and_false false = refl
+none_taken : (p : Entry → Bool) (n : ℕ) (es : List Entry) → ((e : Entry) → e.event ≤ n → p e ≡ false) → AllUpTo n es → filter p es ≡ []
+none_taken p n [] h all = refl
+none_taken p n (e ∷ es) h all = ap (λ b. cond b (e ∷ filter p es) (filter p es)) (h e all.0) ∙ none_taken p n es h all.1
+
+next_more : (m n : ℕ) → m ≤ n → m < n + 1
+next_more m n l = omega arith
 
 pub until_all : (n : ℕ) (es : List Entry) → AllUpTo n es → until n es ≡ es
-until_all n [] all = refl
-until_all n (e ∷ es) all = ap (λ b. cond b (e ∷ until n es) (until n es)) (at_most_so e.event n all.0) ∙ ap (λ z. e ∷ z) (until_all n es all.1)
+until_all n es = all_taken (λ e. nat_le e.event n) n es (λ e l. at_most_so e.event n l)
 
 pub before_all : (n : ℕ) (es : List Entry) → AllUpTo n es → before (n + 1) es ≡ es
-before_all n [] all = refl
-before_all n (e ∷ es) all =
-    let one : e.event ≤ n = all.0 in
-    let l : e.event < n + 1 = omega arith in
-    ap (λ b. cond b (e ∷ before (n + 1) es) (before (n + 1) es)) (below_so e.event (n + 1) l) ∙ ap (λ z. e ∷ z) (before_all n es all.1)
+before_all n es = all_taken (λ e. nat_lt e.event (n + 1)) n es (λ e l. below_so e.event (n + 1) (next_more e.event n l))
 
 pub since_none : (n : ℕ) (es : List Entry) → AllUpTo n es → since (n + 1) es ≡ []
-since_none n [] all = refl
-since_none n (e ∷ es) all =
-    let one : e.event ≤ n = all.0 in
-    let l : e.event < n + 1 = omega arith in
-    ap (λ b. cond b (e ∷ since (n + 1) es) (since (n + 1) es)) (above_so (n + 1) e.event l) ∙ since_none n es all.1
+since_none n es = none_taken (λ e. nat_le (n + 1) e.event) n es (λ e l. above_so (n + 1) e.event (next_more e.event n l))
 
 pub event_none : (n : ℕ) (es : List Entry) → AllUpTo n es → of_event (n + 1) es ≡ []
-event_none n [] all = refl
-event_none n (e ∷ es) all =
-    let one : e.event ≤ n = all.0 in
-    let l : e.event < n + 1 = omega arith in
-    let no : (is_own e.actor && nat_eq e.event (n + 1)) ≡ false = ap (λ b. is_own e.actor && b) (eq_no e.event (n + 1) l) ∙ and_false (is_own e.actor) in
-    ap (λ b. cond b (e ∷ of_event (n + 1) es) (of_event (n + 1) es)) no ∙ event_none n es all.1
+event_none n es =
+    none_taken (λ e. is_own e.actor && nat_eq e.event (n + 1)) n es (λ e l. ap (λ b. is_own e.actor && b) (nat_false e.event (n + 1) (λ is. absurd (omega (arith, is, l)))) ∙ and-false (is_own e.actor))
 
 pub before_late : (k : ℕ) (es : List Entry) (e : Entry) → k ≤ e.event → before k (es ++ e ∷ []) ≡ before k es
 before_late k es e h = left_out (λ x. nat_lt x.event k) es e (below_no e.event k h)
@@ -117,11 +95,7 @@ until_late k es e h = left_out (λ x. nat_le x.event k) es e (above_so e.event k
 
 -- one more is of them or not
 pub until_either : (k : ℕ) (es : List Entry) (e : Entry) → (until k (es ++ e ∷ []) ≡ until k es) ⊎ (until k (es ++ e ∷ []) ≡ until k es ++ e ∷ [])
-until_either k es e = by (nat_le e.event k) refl
-  where
-    by : (b : Bool) → nat_le e.event k ≡ b → (until k (es ++ e ∷ []) ≡ until k es) ⊎ (until k (es ++ e ∷ []) ≡ until k es ++ e ∷ [])
-    by true is = inr (kept (λ x. nat_le x.event k) es e is)
-    by false is = inl (left_out (λ x. nat_le x.event k) es e is)
+until_either k es e = elim (true_or_false (nat_le e.event k)) [ inl is ↦ inr (kept (λ x. nat_le x.event k) es e is) | inr is ↦ inl (left_out (λ x. nat_le x.event k) es e is) ]
 
 -- ---- parts by actors
 
@@ -133,9 +107,8 @@ by_another a es e h = left_out (λ x. same_actor x.actor a) es e h
 
 -- an actor of the job, and a stranger's entry
 pub by_own : (a : Actor) → is_own a ≡ true → (es : List Entry) (n : ℕ) (r : Request) (o : Outcome) → by_actor a (es ++ strange_entry n r o ∷ []) ≡ by_actor a es
-by_own Driver own es n r o = by_another Driver es (strange_entry n r o) refl
-by_own (Attempt t i) own es n r o = by_another (Attempt t i) es (strange_entry n r o) refl
 by_own Shell own es n r o = absurd (false_true refl own)
+by_own a own es n r o = by_another a es (strange_entry n r o) refl
 
 pub event_own : (k : ℕ) (es : List Entry) (n : ℕ) (r : Request) (o : Outcome) → of_event k (es ++ strange_entry n r o ∷ []) ≡ of_event k es
 event_own k es n r o = left_out (λ e. is_own e.actor && nat_eq e.event k) es (strange_entry n r o) refl

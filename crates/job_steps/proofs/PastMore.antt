@@ -1,7 +1,7 @@
 -- What is past after one more event or end, who is busy then, and which operations events begin.
-use Rattle.std.proofs.Common.{◌≡◌, ℕ, zero, suc, ◌≤◌, Bool, true, false, if◌then◌else◌, List, [], ◌∷◌, ◌++◌, length, slice_get, Option, Some, None, refl, ap, subst, arith}
+use Rattle.std.proofs.Common.{◌≡◌, ℕ, zero, suc, ◌≤◌, true, false, List, [], ◌∷◌, ◌++◌, length, slice_get, Some, None, refl, ap, subst, arith}
 use Rattle.job_spec.proofs.Common.{some_is, none_some, false_true}
-use Rattle.job_steps.specs.Prelude.{Actor, Driver, Attempt, Shell, Entry, Declared, Script, Known, HasOp, IsEvent, AreEvents, Op, Event, Do, Start, Step, Run, Mix, SetupEnd, TaskEnd, CommitEnd, CleanEnd, OpEnd, ActorEnd, EventEnd, Refused, EventFault, Life, Idle, Busy, ActorStage, ActorState, Setting, Operation, start_of, Past, after_event, open_event, end_op, end_ops, told, ended, setup_ended, commit_ended, clean_ended, task_ended, may, refuse_op, refuse_begin, refusal, is_busy, busy_actors, Turns, OpenTurns}
+use Rattle.job_steps.specs.Prelude.{Actor, Driver, Attempt, Shell, Entry, Declared, Script, Known, HasOp, IsEvent, AreEvents, Op, Event, Do, Start, Step, Run, Mix, OpEnd, ActorEnd, EventEnd, Refused, EventFault, Life, Busy, ActorStage, ActorState, Setting, Operation, start_of, Past, after_event, open_event, end_op, end_ops, told, ended, may, refuse_op, refuse_begin, refusal, is_busy, busy_actors, Turns, OpenTurns}
 use Rattle.job_spec.specs.Prelude.{past_from, mix_begins, Reports}
 use Rattle.job_model.specs.declared.events.Op.TheVariants as ops
 use Rattle.job_model.specs.declared.ends.SetupEnd.TheVariants as setups
@@ -9,10 +9,9 @@ use Rattle.job_model.specs.declared.ends.TaskEnd.TheVariants as tasks
 use Rattle.job_model.specs.declared.ends.CommitEnd.TheVariants as commits
 use Rattle.job_model.specs.declared.ends.CleanEnd.TheVariants as cleans
 use Rattle.job_model.specs.declared.ends.OpEnd.TheVariants as ends
-use Rattle.job_model.specs.declared.ends.EventFault.TheVariants as faults
-use Rattle.job_spec.specs.States.{count, check_ended}
-use Rattle.job_model.specs.declared.ends.CheckEnd.{CheckEnd}
+use Rattle.job_spec.specs.States.{count}
 use Rattle.job_model.specs.declared.ends.CheckEnd.TheVariants as checks
+use Rattle.job_steps.proofs.RunningStages.{begins_so}
 
 -- ---- one more
 
@@ -47,43 +46,20 @@ busy_is _ h = absurd (false_true refl h)
 pub busy_not : (l : Life) → l ≡ Busy → is_busy l ≡ false → ⊥
 busy_not l e h = false_true h (busy_so l e)
 
-setup_idle : (e : SetupEnd) (s : ActorStage) → is_busy (setup_ended e s).life ≡ false
-setup_idle setups.Done s = refl
-setup_idle _ s = refl
-
-commit_idle : (e : CommitEnd) (s : ActorStage) → is_busy (commit_ended e s).life ≡ false
-commit_idle commits.Committed s = refl
-commit_idle _ s = refl
-
-clean_idle : (e : CleanEnd) (s : ActorStage) → is_busy (clean_ended e s).life ≡ false
-clean_idle cleans.Done s = refl
-clean_idle _ s = refl
-
-check_idle : (e : CheckEnd) (s : ActorStage) → is_busy (check_ended e s).life ≡ false
-check_idle checks.Clear s = refl
-check_idle _ s = refl
-
-task_idle : (e : TaskEnd) (s : ActorStage) → is_busy (task_ended e s).life ≡ false
-task_idle tasks.Done s = refl
-task_idle _ s = refl
-
 -- who ended is not busy
 pub ended_idle : (e : OpEnd) (s : ActorStage) → is_busy (ended e s).life ≡ false
-ended_idle (ends.Setup e) s = setup_idle e s
-ended_idle (ends.Commit e) s = commit_idle e s
-ended_idle (ends.Clean e) s = clean_idle e s
-ended_idle (ends.Check e) s = check_idle e s
-ended_idle (ends.Task e) s = task_idle e s
-ended_idle ends.NoMemory s = refl
+ended_idle (ends.Setup setups.Done) s = refl
+ended_idle (ends.Commit commits.Committed) s = refl
+ended_idle (ends.Clean cleans.Done) s = refl
+ended_idle (ends.Check checks.Clear) s = refl
+ended_idle (ends.Task tasks.Done) s = refl
+ended_idle _ s = refl
 
 -- ---- turns
 
 pub turns_refused : (w : Script) (st : Actor → ActorState) (ev : Event) (end : EventEnd) (es : List Entry) (f : EventFault) → Turns w st ev end es → end ≡ Refused f → ⊥
-turns_refused w st ev end es f t e = never ev (subst (λ v. Turns w st ev v es) e t)
-  where
-    never : (v : Event) → Turns w st v (Refused f) es → ⊥
-    never (Do a op) h = h
-    never _ h = h
+turns_refused w st (Do a op) end es f t e = subst (λ v. Turns w st (Do a op) v es) e t
+turns_refused w st ev end es f t e = subst (λ v. Turns w st ev v es) e t
 
 -- an event may have no entry yet
 pub turns_open : (w : Script) (st : Actor → ActorState) (ev : Event) → OpenTurns w st ev []
@@ -106,42 +82,21 @@ Begins g (Start a op) = Starts g a op
 Begins g _ = Unit {0}
 
 has_starts : (g : Setting) (a : Actor) (op : Op) → HasOp a op → Starts g a op
-has_starts g Driver ops.Setup h m k = (_, refl)
 has_starts g Driver ops.Write h m k = absurd h
-has_starts g Driver ops.Commit h m k = (_, refl)
-has_starts g Driver ops.Abort h m k = (_, refl)
-has_starts g Driver ops.Clean h m k = (_, refl)
 has_starts g (Attempt t n) ops.Setup h m k = absurd h
-has_starts g (Attempt t n) ops.Write h m k = (_, refl)
-has_starts g (Attempt t n) ops.Commit h m k = (_, refl)
-has_starts g (Attempt t n) ops.Abort h m k = (_, refl)
 has_starts g (Attempt t n) ops.Clean h m k = absurd h
 has_starts g Shell op h m k = absurd h
+has_starts g _ _ h m k = (_, refl)
 
 may_has : (a : Actor) (op : Op) (s : ActorStage) → may a op s ≡ true → HasOp a op
-may_has Driver ops.Setup s h = tt
 may_has Driver ops.Write s h = false_true refl h
-may_has Driver ops.Commit s h = tt
-may_has Driver ops.Abort s h = tt
-may_has Driver ops.Clean s h = tt
 may_has (Attempt t n) ops.Setup s h = false_true refl h
-may_has (Attempt t n) ops.Write s h = tt
-may_has (Attempt t n) ops.Commit s h = tt
-may_has (Attempt t n) ops.Abort s h = tt
 may_has (Attempt t n) ops.Clean s h = false_true refl h
 may_has Shell op s h = false_true refl h
-
-op_none : (b c : Bool) → (if b then Some faults.NotSet else (if c then None else Some faults.WrongState)) ≡ None → c ≡ true
-op_none true c h = absurd (none_some h refl)
-op_none false true h = refl
-op_none false false h = absurd (none_some h refl)
-
-begin_none : (l : Life) (r : Option EventFault) → refuse_begin l r ≡ None → r ≡ None
-begin_none Idle r h = h
-begin_none _ r h = absurd (none_some h refl)
+may_has _ _ s h = tt
 
 fine_starts : (g : Setting) (a : Actor) (op : Op) (st : Actor → ActorState) → refuse_begin (st a).life (refuse_op (st Driver).stage a op (st a).stage) ≡ None → Starts g a op
-fine_starts g a op st h = has_starts g a op (may_has a op (st a).stage (op_none _ (may a op (st a).stage) (begin_none (st a).life _ h)))
+fine_starts g a op st h = has_starts g a op (may_has a op (st a).stage (begins_so (st Driver).stage a op (st a).life (st a).stage h).may_begin)
 
 -- an event that is not refused does
 pub fine_begins : (g : Setting) (st : Actor → ActorState) (ev : Event) → refusal st ev ≡ None → Begins g ev

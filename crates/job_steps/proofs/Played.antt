@@ -32,20 +32,7 @@ module _ (g : Setting) (opening : Content) (x : Play) (legal : IsLegal g.script)
   }
 
   played : IsPlayed g opening x
-  played = record {
-    plays = record {
-      obeyed = h.obeyed;
-      unended = unended;
-      numbered = h.numbered;
-      none = λ e. no_entry;
-      rising = h.rising;
-      past = h.up_to;
-      within = h.within;
-    };
-    honest = h.honest;
-    past = h.past_is;
-    live = live_is;
-  }
+  played = assumption (unended, no_entry, live_is, h)
 
 pub happenings_play : (g : Setting) (opening : Content) (x : Play) → IsLegal g.script → Reachable g opening x → x.now ≡ None → IsPlayed g opening x
 happenings_play g opening x legal run idle = played g opening x legal (told_all g opening x run) idle

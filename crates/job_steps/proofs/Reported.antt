@@ -1,30 +1,27 @@
 -- Until the driver cleans up each task that is reported has a last publisher.
-use Rattle.std.proofs.Common.{◌≡◌, ℕ, zero, suc, ◌+◌, ◌<◌, ◌≤◌, ◌⊎◌, inl, inr, nat_eq, ◌&&◌, ◌||◌, Bool, true, false, cond, List, [], ◌∷◌, ◌++◌, Option, Some, None, refl, sym, ap, subst, ◌∙◌, arith, take, slice_get, length}
-use Rattle.job_steps.specs.Prelude.{option_map, Content, Actor, Driver, Attempt, Outcome, Answered, Slow, RequestLost, ReplyLost, Entry, Request, Who, actor_of, IsLegal, Script, Event, Restart, TaskEnd, OpEnd, ActorEnd, EventEnd, Busy, ActorStage, Retried, TaskCommit, TaskCommitOver, task_commit_over, Setting, Operation, TheSetup, TheTaskCommit, Running, over, Seen, see, see_all, nothing_seen, see_by, seen, is_begun, first_not, is_committing, open_event, clean_event, is_memory, IsOpening, Stand, Runs, HasPublished, Told, tell_all, nothing_told, strange_entry, Play, Refuses, Opens, Sends, Finishes, Closes, Strays, happen, MayFinish, Reachable, nothing_happened, happens, times, Ahead, IsRun, operation_of}
-use Rattle.job_spec.proofs.Common.{and_parts, some_is, none_some, false_true, eq_nat, nat_true}
+use Rattle.std.proofs.Common.{◌≡◌, ℕ, zero, suc, ◌+◌, ◌<◌, ◌≤◌, ◌⊎◌, inl, inr, nat_eq, ◌&&◌, ◌||◌, Bool, true, false, cond, List, [], ◌∷◌, ◌++◌, Some, None, refl, sym, ap, subst, ◌∙◌, arith, take, slice_get, length}
+use Rattle.job_steps.specs.Prelude.{Content, Actor, Driver, Attempt, Outcome, Slow, RequestLost, Entry, Request, Who, actor_of, IsLegal, Script, Event, Restart, TaskEnd, OpEnd, ActorEnd, EventEnd, Busy, ActorStage, Retried, TaskCommit, TaskCommitOver, task_commit_over, Setting, Operation, TheTaskCommit, Running, over, Seen, see, see_all, nothing_seen, see_by, seen, is_begun, first_not, is_committing, open_event, clean_event, is_memory, IsOpening, Stand, Runs, HasPublished, Told, tell_all, nothing_told, strange_entry, Play, Refuses, Opens, Sends, Finishes, Closes, Strays, happen, MayFinish, Reachable, nothing_happened, happens, times, Ahead, IsRun, operation_of}
+use Rattle.job_spec.proofs.Common.{and_parts, some_is, none_some, false_true, true_or_false, same_or_not, eq_nat, nat_true}
 use Rattle.job_facts.specs.Prelude.{is_publishing, tell, tell_by, is_effective, Times, Declared, missing, list_any}
 use Rattle.job_spec.specs.Prelude.{report, is_done, is_reported}
 use Rattle.std.proofs.lemmas.Bool.{or_cases}
 use Rattle.job_model.specs.declared.ends.TaskEnd.TheVariants as tasks
 use Rattle.job_model.specs.declared.ends.OpEnd.TheVariants as ends
 use Rattle.job_traces.proofs.Entries.{see_more, sees, tells_so}
-use Rattle.job_steps.proofs.RunningStages.{may_end}
-use Rattle.job_steps.proofs.Running.{is_run, sent_ahead, strayed_ahead, finished_ahead, opened_ahead, refused_ahead, not_refused, closed_ahead}
+use Rattle.job_model.specs.declared.events.Op.TheVariants.{Commit}
+use Rattle.job_steps.proofs.RunningStages.{may_end, of_sort}
+use Rattle.job_steps.proofs.Running.{carried, is_run, sent_ahead, strayed_ahead, finished_ahead, opened_ahead, refused_ahead, not_refused, closed_ahead}
 use Rattle.job_spec.proofs.Told.{scene_is, last_still}
 use Rattle.job_traces.proofs.Published.{has_published}
-use Rattle.job_steps.proofs.RunningCommits.{IsTaskCommit, StageBy, CommitAt, over_is, commits_at}
-
-or_more : (a b : Bool) → a ≡ true → (a || b) ≡ true
-or_more true b h = refl
-or_more false b h = absurd (false_true refl h)
+use Rattle.job_steps.proofs.RunningCommits.{over_is}
+use Rattle.job_steps.proofs.RunningTasks.{Held, at_commit}
+use Rattle.job_steps.proofs.RunningAlong.{busy_at}
+use Rattle.job_steps.proofs.Actors.{one_put}
+use Rattle.job_facts.proofs.Whose.{attempt}
 
 -- who has begun to clean up has begun to ever after
 tell_keeps : (w : Script) (m : Told) (e : Entry) → m.cleaned ≡ true → (tell w m e).cleaned ≡ true
-tell_keeps w m e h = by e.actor
-  where
-    by : (a : Actor) → (tell_by w m e.event e.request e.outcome a).cleaned ≡ true
-    by Driver = or_more m.cleaned (is_begun m.cleans_at e.event) h
-    by _ = h
+tell_keeps w m e h = elim e.actor as (λ a. (tell_by w m e.event e.request e.outcome a).cleaned ≡ true) [ Driver ↦ ap (λ c. c || is_begun m.cleans_at e.event) h | _ ↦ h ]
 
 cleaned_more : (w : Script) (m : Told) (es : List Entry) (e : Entry) → (tell_all w m es).cleaned ≡ true → (tell_all w m (es ++ e ∷ [])).cleaned ≡ true
 cleaned_more w m [] e h = tell_keeps w m e h
@@ -40,16 +37,9 @@ last_more w k s (e ∷ es) t h = last_more w k (see w k s e) es t (last_still w 
 module _ (w : Script) (k : Times) where
   -- a publishing request that took effect makes a last publisher
   published_here : (s : Seen) (n : ℕ) (r : Request) (o : Outcome) (t a : ℕ) → is_effective o ≡ true → is_publishing w s.scene t r ≡ true → HasPublished (see_by w k s n r o (Attempt t a)) t
-  published_here s n r (Answered x) t a took h = (a, latest (is_publishing w s.scene t r) h)
-    where
-      latest : (b : Bool) → b ≡ true → cond (nat_eq t t && b) (Some a) (s.last t) ≡ Some a
-      latest b e = rw (nat_true t t refl, e) refl
-  published_here s n r ReplyLost t a took h = (a, latest (is_publishing w s.scene t r) h)
-    where
-      latest : (b : Bool) → b ≡ true → cond (nat_eq t t && b) (Some a) (s.last t) ≡ Some a
-      latest b e = rw (nat_true t t refl, e) refl
   published_here s n r Slow t a took h = absurd (false_true refl took)
   published_here s n r RequestLost t a took h = absurd (false_true refl took)
+  published_here s n r _ t a took h = (a, rw (nat_true t t refl, h) refl)
 
   -- and it has one ever after
   published_at : (s : Seen) (es : List Entry) (m : ℕ) (e : Entry) (t a : ℕ) → slice_get es m ≡ Some e → e.actor ≡ Attempt t a → is_effective e.outcome ≡ true → is_publishing w (see_all w k s (take m es)).scene t e.request ≡ true → HasPublished (see_all w k s es) t
@@ -77,17 +67,10 @@ AllReported reported s = (t n : ℕ) → reported (Attempt t n) ≡ true → Has
 -- where none is missing all are so
 none_left : (p : ℕ → Bool) (t n : ℕ) → first_not p t n ≡ None → (u : ℕ) → t ≤ u → u < t + n → p u ≡ true
 none_left p t zero e u low high = absurd (omega (arith, low, high))
-none_left p t (suc n) e u low high = by (p t) refl e (none_left p (t + 1) n)
-  where
-    first_or_later : (a b : ℕ) → a ≤ b → (b ≡ a) ⊎ (a + 1 ≤ b)
-    first_or_later zero zero l = inl refl
-    first_or_later zero (suc b) l = inr (omega arith)
-    first_or_later (suc a) zero l = absurd (omega (arith, l))
-    first_or_later (suc a) (suc b) l = elim (first_or_later a b (omega (arith, l))) [ inl is ↦ inl (ap suc is) | inr more ↦ inr (omega (arith, more)) ]
-
-    by : (b : Bool) → p t ≡ b → cond b (first_not p (t + 1) n) (Some t) ≡ None → (first_not p (t + 1) n ≡ None → (u : ℕ) → t + 1 ≤ u → u < t + 1 + n → p u ≡ true) → p u ≡ true
-    by false q e old = absurd (none_some e refl)
-    by true q e old = elim (first_or_later t u low) [ inl is ↦ ap p is ∙ q | inr later ↦ old e u later (omega (arith, high)) ]
+none_left p t (suc n) e u low high = elim (true_or_false (p t)) [
+  | inr q ↦ absurd (none_some (sym (ap (λ b. cond b (first_not p (t + 1) n) (Some t)) q) ∙ e) refl)
+  | inl q ↦ elim (same_or_not u t) [ inl is ↦ ap p is ∙ q | inr ne ↦ none_left p (t + 1) n (sym (ap (λ b. cond b (first_not p (t + 1) n) (Some t)) q) ∙ e) u (omega (arith, low, ne)) (omega (arith, high)) ]
+]
 
 -- a task that is reported is so by an attempt
 reported_by : (reported : Actor → Bool) (t : ℕ) (ds : List Declared) → list_any (λ a. nat_eq a.0.task t && reported (actor_of a.0)) ds ≡ true → (n : ℕ) × (reported (Attempt t n) ≡ true)
@@ -105,9 +88,8 @@ all_published w reported s all none t low = let x = reported_by reported t w.att
 
 -- what an end reports: an attempt's commit that is done
 record Reporting (a : Actor) (s : ActorStage) (e : OpEnd) (t : ℕ) : Type 0 where
-  by : Who
-  task : by.task ≡ t
-  actor : a ≡ actor_of by
+  number : ℕ
+  actor : a ≡ Attempt t number
   stage : is_committing s ≡ true
   done : e ≡ ends.Task tasks.Done
 
@@ -116,36 +98,26 @@ done_is (ends.Task tasks.Done) h = refl
 done_is _ h = absurd (false_true refl h)
 
 reporting : (a : Actor) (s : ActorStage) (e : OpEnd) (p : Actor → Bool) (t n : ℕ) → report a s e p (Attempt t n) ≡ true → (p (Attempt t n) ≡ true) ⊎ Reporting a s e t
-reporting (Attempt u m) s e p t n h = by (nat_eq t u && nat_eq n m) refl h
-  where
-    by : (b : Bool) → (nat_eq t u && nat_eq n m) ≡ b → cond b (p (Attempt u m) || (is_committing s && is_done e)) (p (Attempt t n)) ≡ true → (p (Attempt t n) ≡ true) ⊎ Reporting (Attempt u m) s e t
-    by false q h = inl h
-    by true q h =
-        let same = and_parts (nat_eq t u) (nat_eq n m) q in
-        elim (or_cases (p (Attempt u m)) (is_committing s && is_done e) h) [
-          | inl old ↦ inl (subst (λ v. p (Attempt v n) ≡ true) (sym (eq_nat t u same.0)) (subst (λ v. p (Attempt u v) ≡ true) (sym (eq_nat n m same.1)) old))
-          | inr now ↦
-              let y = and_parts (is_committing s) (is_done e) now in
-              inr (record { by = record { task = u; attempt = m }; task = sym (eq_nat t u same.0); actor = refl; stage = y.0; done = done_is e y.1 })
-        ]
-reporting _ s e p t n h = inl h
+reporting (Attempt u m) s e p t n =
+    one_put (λ v. v ≡ true → (p (Attempt t n) ≡ true) ⊎ Reporting (Attempt u m) s e t) p (Attempt u m) (p (Attempt u m) || (is_committing s && is_done e)) (Attempt t n)
+    (λ is h. elim (or_cases (p (Attempt u m)) (is_committing s && is_done e) h) [
+      | inl old ↦ inl (ap p is ∙ old)
+      | inr now ↦ (let y = and_parts (is_committing s) (is_done e) now in inr (record { number = n; actor = sym is; stage = y.0; done = done_is e y.1 }))
+    ])
+    (λ ne. inl)
+reporting _ s e p t n = inl
 
 -- the task's commit that is done
-record IsDoneCommit (op : Operation) : Type 0 where
-  commit : Retried TaskCommit
-  is : op ≡ TheTaskCommit commit
-  over : commit.operation ≡ TaskCommitOver tasks.Done
+task_is : {x y : TaskEnd} → ends.Task x ≡ ends.Task y → x ≡ y
+task_is e = cc
 
-done_commit : (op : Operation) → IsTaskCommit (Some op) → over op ≡ Some (ends.Task tasks.Done) → IsDoneCommit op
-done_commit (TheTaskCommit t) h o = record { commit = t; is = refl; over = over_is t.operation tasks.Done (done_of (task_commit_over t.operation) o) }
-  where
-    task_is : (end : TaskEnd) → ends.Task end ≡ ends.Task tasks.Done → end ≡ tasks.Done
-    task_is end e = cc
-
-    done_of : (x : Option TaskEnd) → option_map ends.Task x ≡ Some (ends.Task tasks.Done) → x ≡ Some tasks.Done
-    done_of (Some end) e = let is : end ≡ tasks.Done = task_is end (some_is e) in ap Some is
-    done_of None e = absurd (none_some refl e)
-done_commit (TheSetup t) h o = absurd h
+done_commit : (op : Operation) → Held Commit (Some op) → over op ≡ Some (ends.Task tasks.Done) → (t : Retried TaskCommit) × (op ≡ TheTaskCommit t) × (t.operation ≡ TaskCommitOver tasks.Done)
+done_commit (TheTaskCommit t) h o = (
+  t,
+  refl,
+  of_sort ends.Task (λ y. y ≡ ends.Task tasks.Done → t.operation ≡ TaskCommitOver tasks.Done)
+      (task_commit_over t.operation) (ends.Task tasks.Done) o (λ x is e. over_is t.operation tasks.Done (is ∙ ap (λ v. Some v) (task_is e))) refl,
+)
 done_commit _ h o = absurd h
 
 -- ---- every run
@@ -178,11 +150,8 @@ module _ (g : Setting) (opening : Content) (j : IsLegal g.script) (is_opening : 
 
   -- what is told now was not told before
   pub unclean_before : (y : Play) (e : Entry) → (tell_all w (nothing_told (clean_event w all_ends)) (y.journal ++ e ∷ [])).cleaned ≡ false → Unclean y
-  unclean_before y e h = before (tell_all w (nothing_told (clean_event w all_ends)) y.journal).cleaned _ (cleaned_more w (nothing_told (clean_event w all_ends)) y.journal e) h
-    where
-      before : (a b : Bool) → (a ≡ true → b ≡ true) → b ≡ false → a ≡ false
-      before true b h e = absurd (false_true e (h refl))
-      before false b h e = refl
+  unclean_before y e h =
+      elim (true_or_false (tell_all w (nothing_told (clean_event w all_ends)) y.journal).cleaned) [ inl c ↦ absurd (false_true h (cleaned_more w (nothing_told (clean_event w all_ends)) y.journal e c)) | inr c ↦ c ]
 
   finishes : (y : Play) → Reachable g opening y → Ahead y all_ends → (v : ActorEnd) → MayFinish y v → Unclean y → Reported y → Reported (happen g y (Finishes v))
   finishes y past ahead v may clean old = record {
@@ -196,19 +165,18 @@ module _ (g : Setting) (opening : Content) (j : IsLegal g.script) (is_opening : 
       published : (t : ℕ) → Reporting v.actor (y.live.state v.actor).stage v.end t → ((is_memory v.end ≡ true) ⊎ ((m : Running) × (y.running v.actor ≡ Some m) × (over m.operation ≡ Some v.end))) → HasPublished (seen_of y) t
       published t r (inl memory) = absurd (false_true (ap is_memory r.done) memory)
       published t r (inr q) =
-          let b = r.by in
+          let b = attempt t r.number in
           let m = q.0 in
           let here : y.running (actor_of b) ≡ Some m = ap y.running (sym r.actor) ∙ q.1 in
-          let at = commits_at g opening j is_opening y past b in
+          let h = (carried g opening j is_opening y past all_ends ahead).along in
           let busy : (y.live.state (actor_of b)).life ≡ Busy = ap (λ a. (y.live.state a).life) (sym r.actor) ∙ may.busy in
           let staged : is_committing (y.live.state (actor_of b)).stage ≡ true = ap (λ a. is_committing (y.live.state a).stage) (sym r.actor) ∙ r.stage in
-          let is_task : IsTaskCommit (Some m.operation) =
-          subst (λ l. StageBy true l (Some m.operation)) busy (subst (λ c. StageBy c (y.live.state (actor_of b)).life (Some m.operation)) staged (subst (λ o. CommitAt (y.live.state (actor_of b)) (operation_of o)) here at)) in
+          let is_task = at_commit (y.live.state (actor_of b)).stage m.operation staged (busy_at g opening k j is_opening h (actor_of b) m busy here) in
           let d = done_commit m.operation is_task (q.2 ∙ ap (λ v. Some v) r.done) in
           let told : run.stand.told.cleaned ≡ false = ap (λ (z : Told). z.cleaned) (tells_so g k opening j is_opening y.journal run.stand run.runs) ∙ ap (λ c. (tell_all w (nothing_told c) y.journal).cleaned) run.cleans ∙ clean in
-          let here_at : run.stand.attempts b ≡ Some (TheTaskCommit d.commit) = run.attempts b ∙ ap operation_of here ∙ ap (λ v. Some v) d.is in
-          let has = done_published g k opening j is_opening y.journal run.stand run.runs told b d.commit here_at d.over in
-          subst (λ u. HasPublished (seen_of y) u) r.task (subst (λ s. HasPublished s b.task) (sees g k opening j is_opening y.journal run.stand run.runs) has)
+          let here_at : run.stand.attempts b ≡ Some (TheTaskCommit d.0) = run.attempts b ∙ ap operation_of here ∙ ap (λ v. Some v) d.1 in
+          let has = done_published g k opening j is_opening y.journal run.stand run.runs told b d.0 here_at d.2 in
+          subst (λ s. HasPublished s b.task) (sees g k opening j is_opening y.journal run.stand run.runs) has
 
   pub reported : (x : Play) → Reachable g opening x → Ahead x all_ends → Unclean x → Reported x
   reported x (nothing_happened) ahead clean = record { live = λ t n h. absurd (false_true refl h); past = λ t n h. absurd (false_true refl h) }

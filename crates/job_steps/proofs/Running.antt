@@ -1,14 +1,15 @@
 -- What happens in a run is one of the job's runs, by each kind of happening.
-use Rattle.std.proofs.Common.{◌≡◌, ℕ, ◌+◌, ◌≤◌, ◌^◌, ◌⊎◌, inl, inr, ◌&&◌, ◌||◌, not, Bool, true, false, List, [], ◌∷◌, ◌++◌, length, Option, Some, None, refl, sym, ap, subst, ◌∙◌, length-append}
-use Rattle.job_steps.specs.Prelude.{Content, answer, moment, IsHonestOutcome, Actor, Driver, Attempt, Shell, Request, Outcome, Entry, Who, actor_of, IsLegal, IsEvent, Script, Op, Setup, Write, Abort, Clean, Event, Do, Start, Kill, Restart, Recover, OpEnd, ActorEnd, EventEnd, Refused, EventFault, Busy, Dead, ActorState, Setting, Running, wants, advance, over, is_begun, put, missing, dead, idle, restarted, ended, refusal, open_event, begins_commit, begins_clean, is_refused, is_memory, Turns, run_begins, IsOpening, Play, Refuses, Opens, Sends, Finishes, Closes, Strays, open_running, hear, happen, MayOpen, MaySend, MayFinish, MayClose, MayStray, Reachable, nothing_happened, happens, nothing_played, Ahead, IsRun, operation_of, Times, times, reports}
+use Rattle.std.proofs.Common.{◌≡◌, ℕ, ◌+◌, ◌≤◌, ◌^◌, ◌⊎◌, inl, inr, ◌||◌, not, true, false, List, [], ◌∷◌, ◌++◌, length, Option, Some, None, refl, sym, ap, subst, ◌∙◌, append_assoc, length-append}
+use Rattle.job_steps.specs.Prelude.{Content, answer, moment, IsHonestOutcome, Actor, Driver, Attempt, Shell, Request, Outcome, Entry, IsLegal, IsEvent, Script, Op, Event, Do, Start, Kill, Restart, Recover, OpEnd, ActorEnd, EventEnd, Refused, EventFault, Busy, ActorState, Setting, Running, wants, advance, over, is_begun, put, dead, idle, restarted, ended, refusal, open_event, begins_commit, begins_clean, is_refused, is_memory, Turns, run_begins, IsOpening, Play, Refuses, Opens, Sends, Finishes, Closes, Strays, open_running, hear, happen, MayOpen, MaySend, MayFinish, MayClose, Reachable, nothing_happened, happens, nothing_played, Ahead, IsRun, operation_of, Times, times, reports}
 use Rattle.job_spec.proofs.Common.{none_some}
 use Rattle.job_model.specs.declared.events.Op.TheVariants.{Commit}
 use Rattle.job_traces.specs.Runs.{first_stand}
 use Rattle.job_facts.proofs.Whose.{attempt}
-use Rattle.job_steps.proofs.RunningNumbers.{begun_next, unbegun, legal_event, begun_at}
-use Rattle.job_steps.proofs.RunningStages.{DriverAt, begins_so, memory_dies, may_end, driver_stops, driver_restarts, restarted_new, driver_ends, Begun, with_event, still_begun}
-use Rattle.job_steps.proofs.RunningTasks.{AttemptAt, attempt_dies, attempt_ends}
-use Rattle.job_steps.proofs.RunningAlong.{Along, told_known, set_up, driver_state, attempt_state, shell_state, driver_sent, attempt_sent, strays_on}
+use Rattle.std.proofs.Math.Bool.{and-false}
+use Rattle.job_steps.proofs.PastMore.{turns_refused, event_at}
+use Rattle.job_steps.proofs.RunningNumbers.{begun_next, unbegun, begun_at}
+use Rattle.job_steps.proofs.RunningStages.{begins_so, memory_dies, may_end, driver_restarts, restarted_new, Begun, with_event, still_begun}
+use Rattle.job_steps.proofs.RunningAlong.{Along, ActorAt, actor_dies, actor_ends, told_known, set_up, at_of, busy_at, state_so, driver_sent, attempt_sent, strays_on}
 use Rattle.job_steps.proofs.RunningSteps.{still, begins}
 
 -- the number of the event that goes on, or of the last one
@@ -32,31 +33,19 @@ finished_ahead g x y ends h = record { rest = h.rest; is = h.is; going = h.going
 pub opened_ahead : (g : Setting) (x : Play) (ev : Event) (ends : List EventEnd) → x.now ≡ None → Ahead (happen g x (Opens ev)) ends → Ahead x ends
 opened_ahead g x ev ends idle h = record { rest = h.rest; is = h.is; going = λ v e. absurd (none_some idle e) }
 
--- one more end of them
-moved : (front : List EventEnd) (end : EventEnd) (rest : List EventEnd) → (front ++ end ∷ []) ++ rest ≡ front ++ end ∷ rest
-moved [] end rest = refl
-moved (f ∷ front) end rest = ap (λ xs. f ∷ xs) (moved front end rest)
-
 pub strayed_ahead : (g : Setting) (x : Play) (r : Request) (o : Outcome) (ends : List EventEnd) → Ahead (happen g x (Strays r o)) ends → Ahead x ends
 strayed_ahead g x r o ends h = record { rest = h.rest; is = h.is; going = h.going }
 
 pub refused_ahead : (g : Setting) (x : Play) (f : EventFault) (ends : List EventEnd) → x.now ≡ None → Ahead (happen g x (Refuses f)) ends → Ahead x ends
-refused_ahead g x f ends idle h = record { rest = Refused f ∷ h.rest; is = h.is ∙ moved x.ends (Refused f) h.rest; going = λ v e. absurd (none_some idle e) }
+refused_ahead g x f ends idle h = record { rest = Refused f ∷ h.rest; is = h.is ∙ append_assoc x.ends (Refused f ∷ []) h.rest; going = λ v e. absurd (none_some idle e) }
 
 -- an event that was opened does not end refused
 pub not_refused : (w : Script) (st : Actor → ActorState) (ev : Event) (end : EventEnd) (es : List Entry) → Turns w st ev end es → is_refused end ≡ false
-not_refused w st ev end es t = by end ev t
-  where
-    never : (f : EventFault) (ev : Event) → Turns w st ev (Refused f) es → ⊥
-    never f (Do a op) t = t
-    never f _ t = t
-
-    by : (end : EventEnd) (ev : Event) → Turns w st ev end es → is_refused end ≡ false
-    by (Refused f) ev t = absurd (never f ev t)
-    by _ ev t = refl
+not_refused w st ev (Refused f) es t = absurd (turns_refused w st ev (Refused f) es f t refl)
+not_refused w st ev _ es t = refl
 
 pub closed_ahead : (g : Setting) (x : Play) (end : EventEnd) (ends : List EventEnd) → is_refused end ≡ false → Ahead (happen g x (Closes end)) ends → Ahead x ends
-closed_ahead g x end ends fine h = record { rest = end ∷ h.rest; is = h.is ∙ moved x.ends end h.rest; going = λ v e. (end, h.rest, refl, fine) }
+closed_ahead g x end ends fine h = record { rest = end ∷ h.rest; is = h.is ∙ append_assoc x.ends (end ∷ []) h.rest; going = λ v e. (end, h.rest, refl, fine) }
 
 module _ (g : Setting) (opening : Content) (j : IsLegal g.script) (is_opening : IsOpening g opening) where
   abbrev w : Script
@@ -65,32 +54,28 @@ module _ (g : Setting) (opening : Content) (j : IsLegal g.script) (is_opening : 
   -- ---- an event begins
 
   start_same : (b : Begun) (a : Actor) (op : Op) → with_event true b (Do a op) ≡ with_event true b (Start a op)
-  start_same b Driver Setup = refl
-  start_same b Driver Write = refl
   start_same b Driver Commit = refl
-  start_same b Driver Abort = refl
-  start_same b Driver Clean = refl
-  start_same b (Attempt t n) op = refl
-  start_same b Shell op = refl
+  start_same b _ _ = refl
 
-  killed : (k : Times) (b : Begun) (es : List Entry) (r : Actor → Option Running) (st : Actor → ActorState) (h : Along g opening k b es r st) (a : Actor) → Along g opening k b es r (put st a (dead (st a).stage))
-  killed k b es r st h Driver = driver_state g opening k j is_opening b es r st h (dead (st Driver).stage) (driver_stops (st Driver).stage (st Driver).life Dead (operation_of (r Driver)) refl h.driver_at) (λ n. n)
-  killed k b es r st h (Attempt t n) = attempt_state g opening k j is_opening b es r st h (attempt t n) (dead (st (Attempt t n)).stage) (attempt_dies (st (Attempt t n)).stage (st (Attempt t n)).life (operation_of (r (Attempt t n))) (h.attempt_at (attempt t n)))
-  killed k b es r st h Shell = shell_state g opening k j is_opening b es r st h (dead (st Shell).stage)
+  killed : (k : Times) {b : Begun} {es : List Entry} {r : Actor → Option Running} {st : Actor → ActorState} (h : Along g opening k b es r st) (a : Actor)
+      → Along g opening k b es r (put st a (dead (st a).stage))
+  killed k {r = r} {st = st} h a =
+      state_so g opening k j is_opening h a (dead (st a).stage) (actor_dies a (st a).stage (st a).life (operation_of (r a)) (at_of g opening k j is_opening h a)) (λ is n. n)
 
   begun_so : (k : Times) (b : Begun) (x : Play) → Along g opening k b x.journal x.running x.past.state → (ev : Event) → refusal x.past.state ev ≡ None → IsEvent w.attempts ev
       → Along g opening k (with_event true b ev) x.journal (open_running g x ev) (open_event w x.past ev).state
-  begun_so k b x h (Do a op) e legal = begins g opening k j is_opening b x.journal x.running x.past.state h a op (reports w x.past.reported) (begins_so (x.past.state Driver).stage a op (x.past.state a).life (x.past.state a).stage e) legal.0 legal.1
+  begun_so k b x h (Do a op) e legal =
+      begins g opening k j is_opening h a op (reports w x.past.reported) (begins_so (x.past.state Driver).stage a op (x.past.state a).life (x.past.state a).stage e) legal.0 legal.1
   begun_so k b x h (Start a op) e legal =
       subst (λ c. Along g opening k c x.journal (open_running g x (Start a op)) (open_event w x.past (Start a op)).state) (start_same b a op)
-      (begins g opening k j is_opening b x.journal x.running x.past.state h a op (reports w x.past.reported) (begins_so (x.past.state Driver).stage a op (x.past.state a).life (x.past.state a).stage e) legal.0 legal.1)
-  begun_so k b x h (Kill a) e legal = still g opening k j is_opening b x.journal x.running (put x.past.state a (dead (x.past.state a).stage)) (killed k b x.journal x.running x.past.state h a)
+      (begins g opening k j is_opening h a op (reports w x.past.reported) (begins_so (x.past.state Driver).stage a op (x.past.state a).life (x.past.state a).stage e) legal.0 legal.1)
+  begun_so k b x h (Kill a) e legal = still g opening k j is_opening (killed k h a)
   begun_so k b x h Restart e legal =
       let s = x.past.state Driver in
-      still g opening k j is_opening b x.journal x.running (put x.past.state Driver (idle (restarted s.stage)))
-      (driver_state g opening k j is_opening b x.journal x.running x.past.state h (idle (restarted s.stage)) (driver_restarts s.stage s.life (operation_of (x.running Driver)) h.driver_at) (restarted_new s.stage))
+      still g opening k j is_opening (state_so g opening k j is_opening h Driver (idle (restarted s.stage))
+      (driver_restarts s.stage s.life (operation_of (x.running Driver)) h.driver_at) (λ is. restarted_new s.stage))
   begun_so k b x h (Recover a) e legal = absurd cc
-  begun_so k b x h _ e legal = still g opening k j is_opening b x.journal x.running x.past.state h
+  begun_so k b x h _ e legal = still g opening k j is_opening h
 
   -- between events, by the number of the last one and the states then
   between : (k : Times) (x : Play) → Carried g opening k x → x.now ≡ None → Along g opening k (begun_at k (length x.ends)) x.journal x.running x.past.state
@@ -106,18 +91,15 @@ module _ (g : Setting) (opening : Content) (j : IsLegal g.script) (is_opening : 
       let next : begun_at k (length x.ends + 1) ≡ with_event true (begun_at k (length x.ends)) ev =
       subst (λ v. begun_at (times w v) (length x.ends + 1) ≡ with_event true (begun_at (times w v) (length x.ends)) ev) (sym is) (begun_next w x.ends o.0 o.1 ev may.next true (ap not o.3)) in
       record {
-        along = subst (λ c. Along g opening k c x.journal (open_running g x ev) (open_event w x.past ev).state) (sym next) (begun_so k (begun_at k (length x.ends)) x (between k x h may.idle) ev may.refusal_is (legal_event j (length x.ends) ev may.next));
+        along = subst (λ c. Along g opening k c x.journal (open_running g x ev) (open_event w x.past ev).state) (sym next)
+            (begun_so k (begun_at k (length x.ends)) x (between k x h may.idle) ev may.refusal_is (event_at w.attempts w.events (length x.ends) ev j.events may.next));
         rest = λ e. absurd (none_some e refl);
       }
 
   -- ---- an event is refused
 
-  and_false : (b : Bool) → (b && false) ≡ false
-  and_false true = refl
-  and_false false = refl
-
   none_begun : (b : Begun) (ev : Event) → with_event false b ev ≡ still_begun b
-  none_begun b ev = λ i. record { commit = b.commit || and_false (begins_commit ev) i; clean = b.clean || and_false (begins_clean ev) i }
+  none_begun b ev = λ i. record { commit = b.commit || and-false (begins_commit ev) i; clean = b.clean || and-false (begins_clean ev) i }
 
   longer : (front : List EventEnd) (end : EventEnd) → length (front ++ end ∷ []) ≡ length front + 1
   longer front end = length-append front (end ∷ [])
@@ -125,12 +107,13 @@ module _ (g : Setting) (opening : Content) (j : IsLegal g.script) (is_opening : 
   refuses : (x : Play) (f : EventFault) (ev : Event) (ends : List EventEnd) → Ahead (happen g x (Refuses f)) ends → MayOpen g x ev (Some f) → Carried g opening (times w ends) x → Carried g opening (times w ends) (happen g x (Refuses f))
   refuses x f ev ends ahead may h =
       let k = times w ends in
-      let is : ends ≡ x.ends ++ Refused f ∷ ahead.rest = ahead.is ∙ moved x.ends (Refused f) ahead.rest in
+      let is : ends ≡ x.ends ++ Refused f ∷ ahead.rest = ahead.is ∙ append_assoc x.ends (Refused f ∷ []) ahead.rest in
       let next : begun_at k (length x.ends + 1) ≡ still_begun (begun_at k (length x.ends)) =
-      subst (λ v. begun_at (times w v) (length x.ends + 1) ≡ still_begun (begun_at (times w v) (length x.ends))) (sym is) (begun_next w x.ends (Refused f) ahead.rest ev may.next false refl ∙ none_begun (begun_at (times w (x.ends ++ Refused f ∷ ahead.rest)) (length x.ends)) ev) in
+      subst (λ v. begun_at (times w v) (length x.ends + 1) ≡ still_begun (begun_at (times w v) (length x.ends))) (sym is)
+      (begun_next w x.ends (Refused f) ahead.rest ev may.next false refl ∙ none_begun (begun_at (times w (x.ends ++ Refused f ∷ ahead.rest)) (length x.ends)) ev) in
       record {
         along = subst (λ c. Along g opening k c x.journal x.running x.past.state) (sym (ap (begun_at k) (longer x.ends (Refused f)) ∙ next))
-            (still g opening k j is_opening (begun_at k (length x.ends)) x.journal x.running x.past.state (between k x h may.idle));
+            (still g opening k j is_opening (between k x h may.idle));
         rest = λ e. refl;
       }
 
@@ -144,12 +127,12 @@ module _ (g : Setting) (opening : Content) (j : IsLegal g.script) (is_opening : 
 
   -- ---- an actor sends a request
 
-  sent : (k : Times) (b : Begun) (es : List Entry) (r : Actor → Option Running) (st : Actor → ActorState) (h : Along g opening k b es r st) (n : ℕ) (a : Actor) (q : Request) (o : Outcome) (m : Running)
+  sent : (k : Times) {b : Begun} {es : List Entry} {r : Actor → Option Running} {st : Actor → ActorState} (h : Along g opening k b es r st) (n : ℕ) (a : Actor) (q : Request) (o : Outcome) (m : Running)
       → begun_at k n ≡ b → (st a).life ≡ Busy → r a ≡ Some m → wants g a m ≡ Some q → IsHonestOutcome o (answer (moment opening es (length es)) q) → (moment opening es (length es)).content.next ≤ 2 ^ 64
       → Along g opening k b (es ++ record { event = n; actor = a; request = q; outcome = o } ∷ []) (put r a (Some (advance g a m o))) st
-  sent k b es r st h n Driver q o m begun busy is asked honest few = driver_sent g opening k j is_opening b es r st h n q o m begun busy is asked honest few
-  sent k b es r st h n (Attempt t i) q o m begun busy is asked honest few = attempt_sent g opening k j is_opening b es r st h (attempt t i) n q o m busy is asked honest
-  sent k b es r st h n Shell q o m begun busy is asked honest few = absurd (none_some h.nobody is)
+  sent k h n Driver q o m begun busy is asked honest few = driver_sent g opening k j is_opening h n q o m begun busy is asked honest few
+  sent k h n (Attempt t i) q o m begun busy is asked honest few = attempt_sent g opening k j is_opening h (attempt t i) n q o m busy is asked honest
+  sent k h n Shell q o m begun busy is asked honest few = absurd (none_some h.nobody is)
 
   sends : (k : Times) (x : Play) (e : Entry) → MaySend g opening x e → Carried g opening k x → Carried g opening k (happen g x (Sends e))
   sends k x e may h =
@@ -158,49 +141,25 @@ module _ (g : Setting) (opening : Content) (j : IsLegal g.script) (is_opening : 
       let heard : hear g e.actor (x.running e.actor) e ≡ Some (advance g e.actor may.at e.outcome) = ap (λ m. hear g e.actor m e) may.is_at in
       record {
         along = subst (λ v. Along g opening k (begun_at k n) (x.journal ++ e ∷ []) (put x.running e.actor v) x.live.state) (sym heard)
-            (sent k (begun_at k n) x.journal x.running x.live.state h.along e.event e.actor e.request e.outcome may.at (ap (begun_at k) here) may.busy may.is_at may.asked may.honest may.few);
+            (sent k h.along e.event e.actor e.request e.outcome may.at (ap (begun_at k) here) may.busy may.is_at may.asked may.honest may.few);
         rest = h.rest;
       }
 
   -- ---- an operation ends
 
-  driver_end : (k : Times) (b : Begun) (es : List Entry) (r : Actor → Option Running) (st : Actor → ActorState) (h : Along g opening k b es r st) (e : OpEnd) → (st Driver).life ≡ Busy
-      → (is_memory e ≡ true) ⊎ ((m : Running) × (r Driver ≡ Some m) × (over m.operation ≡ Some e)) → Along g opening k b es r (put st Driver (ended e (st Driver).stage))
-  driver_end k b es r st h e busy (inl memory) = subst (λ v. Along g opening k b es r (put st Driver v)) (sym (memory_dies e (st Driver).stage memory)) (killed k b es r st h Driver)
-  driver_end k b es r st h e busy (inr end) =
-      let s = (st Driver).stage in
-      let m = end.0 in
-      let here : operation_of (r Driver) ≡ Some m.operation = ap operation_of end.1 in
-      let at : DriverAt s Busy (Some m.operation) = subst (λ l. DriverAt s l (Some m.operation)) busy (subst (DriverAt s (st Driver).life) here h.driver_at) in
-      let after = driver_ends s m.operation e at end.2 in
-      driver_state g opening k j is_opening b es r st h (ended e s) (subst (DriverAt (ended e s).stage (ended e s).life) (sym here) after.0) after.1
-
-  attempt_end : (k : Times) (b : Begun) (es : List Entry) (r : Actor → Option Running) (st : Actor → ActorState) (h : Along g opening k b es r st) (a : Who) (e : OpEnd) → (st (actor_of a)).life ≡ Busy
-      → (is_memory e ≡ true) ⊎ ((m : Running) × (r (actor_of a) ≡ Some m) × (over m.operation ≡ Some e)) → Along g opening k b es r (put st (actor_of a) (ended e (st (actor_of a)).stage))
-  attempt_end k b es r st h a e busy (inl memory) = subst (λ v. Along g opening k b es r (put st (actor_of a) v)) (sym (memory_dies e (st (actor_of a)).stage memory)) (killed k b es r st h (actor_of a))
-  attempt_end k b es r st h a e busy (inr end) =
-      let s = (st (actor_of a)).stage in
-      let m = end.0 in
-      let here : operation_of (r (actor_of a)) ≡ Some m.operation = ap operation_of end.1 in
-      let at : AttemptAt s Busy (Some m.operation) = subst (λ l. AttemptAt s l (Some m.operation)) busy (subst (AttemptAt s (st (actor_of a)).life) here (h.attempt_at a)) in
-      attempt_state g opening k j is_opening b es r st h a (ended e s) (subst (AttemptAt (ended e s).stage (ended e s).life) (sym here) (attempt_ends s m.operation e at end.2))
-
-  end_of : (k : Times) (b : Begun) (es : List Entry) (r : Actor → Option Running) (st : Actor → ActorState) (h : Along g opening k b es r st) (a : Actor) (e : OpEnd) → (st a).life ≡ Busy
+  end_of : (k : Times) {b : Begun} {es : List Entry} {r : Actor → Option Running} {st : Actor → ActorState} (h : Along g opening k b es r st) (a : Actor) (e : OpEnd) → (st a).life ≡ Busy
       → (is_memory e ≡ true) ⊎ ((m : Running) × (r a ≡ Some m) × (over m.operation ≡ Some e)) → Along g opening k b es r (put st a (ended e (st a).stage))
-  end_of k b es r st h Driver e busy end = driver_end k b es r st h e busy end
-  end_of k b es r st h (Attempt t n) e busy end = attempt_end k b es r st h (attempt t n) e busy end
-  end_of k b es r st h Shell e busy end = shell_state g opening k j is_opening b es r st h (ended e (st Shell).stage)
+  end_of k {b = b} {es = es} {r = r} {st = st} h a e busy (inl memory) = subst (λ v. Along g opening k b es r (put st a v)) (sym (memory_dies e (st a).stage memory)) (killed k h a)
+  end_of k {st = st} h a e busy (inr end) =
+      let v = ended e (st a).stage in
+      let after = actor_ends a (st a).stage (end.0).operation e (busy_at g opening k j is_opening h a end.0 busy end.1) end.2 in
+      state_so g opening k j is_opening h a v (subst (λ o. ActorAt a v.stage v.life (operation_of o)) (sym end.1) after.0) after.1
 
   finishes : (k : Times) (x : Play) (y : ActorEnd) → MayFinish x y → Carried g opening k x → Carried g opening k (happen g x (Finishes y))
   finishes k x y may h = record {
-    along = end_of k (begun_at k (number x.now (length x.ends))) x.journal x.running x.live.state h.along y.actor y.end may.busy (may_end x y may);
+    along = end_of k h.along y.actor y.end may.busy (may_end x y may);
     rest = λ e. absurd (none_some e may.during);
   }
-
-  -- ---- a stranger sends
-
-  strayed : (k : Times) (x : Play) (r : Request) (o : Outcome) → MayStray g opening x r o → Carried g opening k x → Carried g opening k (happen g x (Strays r o))
-  strayed k x r o may h = record { along = strays_on g opening k j is_opening (begun_at k (number x.now (length x.ends))) x.journal x.running x.live.state h.along (length x.ends) r o may.foreign; rest = h.rest }
 
   -- ---- all of them
 
@@ -208,12 +167,7 @@ module _ (g : Setting) (opening : Content) (j : IsLegal g.script) (is_opening : 
   first k e = record {
     along = record {
       stand = first_stand opening k.clean;
-      runs = run_begins;
-      cleans = refl;
-      driver = refl;
-      attempts = λ a. refl;
-      last = λ a m y. absurd (none_some refl y);
-      nobody = refl;
+      ran = record { runs = run_begins; cleans = refl; driver = refl; attempts = λ a. refl; last = λ a m y. absurd (none_some refl y); nobody = refl };
       timed = e;
       driver_at = tt;
       unset = λ n a. refl;
@@ -229,7 +183,8 @@ module _ (g : Setting) (opening : Content) (j : IsLegal g.script) (is_opening : 
   carried x (happens y (Sends e) past may) ends ahead = sends (times w ends) y e may (carried y past ends (sent_ahead g y e ends ahead))
   carried x (happens y (Finishes z) past may) ends ahead = finishes (times w ends) y z may (carried y past ends (finished_ahead g y z ends ahead))
   carried x (happens y (Closes end) past may) ends ahead = closes (times w ends) y end may (carried y past ends (closed_ahead g y end ends (not_refused w y.past.state may.event end _ may.turns) ahead))
-  carried x (happens y (Strays r o) past may) ends ahead = strayed (times w ends) y r o may (carried y past ends (strayed_ahead g y r o ends ahead))
+  carried x (happens y (Strays r o) past may) ends ahead =
+      let h = carried y past ends (strayed_ahead g y r o ends ahead) in record { along = strays_on g opening (times w ends) j is_opening h.along (length y.ends) r o may.foreign; rest = h.rest }
 
   pub is_run : (x : Play) → Reachable g opening x → (ends : List EventEnd) → Ahead x ends → IsRun g opening x (times w ends)
   is_run x past ends ahead =
@@ -242,5 +197,5 @@ module _ (g : Setting) (opening : Content) (j : IsLegal g.script) (is_opening : 
         attempts = h.attempts;
         knows = λ a. sym (told_known g opening (times w ends) j is_opening x.journal h.stand h.runs a);
         last = h.last;
-        set_up = λ n. set_up g opening (times w ends) j is_opening (begun_at (times w ends) (number x.now (length x.ends))) x.journal x.running x.live.state h n;
+        set_up = λ n. set_up g opening (times w ends) j is_opening h n;
       }

@@ -1,7 +1,7 @@
 -- What the driver is at, by its life and stage.
 use Rattle.std.proofs.Common.{◌≡◌, ℕ, ◌⊎◌, inl, inr, ◌&&◌, ◌||◌, Bool, true, false, Option, Some, None, refl, sym, ap, subst}
 use Rattle.std.specs.Prelude.{if◌then◌else◌}
-use Rattle.job_steps.specs.Prelude.{option_map, Actor, Driver, Attempt, Request, Outcome, Retried, Known, Event, Op, Setup, Abort, Clean, SetupEnd, CommitEnd, CleanEnd, TaskEnd, OpEnd, ActorEnd, EventFault, Life, Idle, Busy, Dead, ActorStage, setup_over, commit_over, clean_over, Setting, Operation, TheSetup, TheWrite, TheTaskCommit, TheTaskAbort, TheCommit, TheClean, Running, who, asks, tells, over, is_begun, ended, setup_ended, commit_ended, clean_ended, dead, restarted, is_new, needs_set, may, driver_may, refuse_op, refuse_begin, begins_commit, begins_clean, is_busy, is_memory, is_wanting, is_set, is_just_set, IsTimely, nothing_learnt, Play, MayFinish, Times, TheCheck, TheSparing, step}
+use Rattle.job_steps.specs.Prelude.{option_map, Actor, Driver, Attempt, Request, Outcome, Retried, Known, Event, Op, Setup, Abort, Clean, SetupEnd, CommitEnd, CleanEnd, OpEnd, ActorEnd, EventFault, Life, Idle, Busy, Dead, ActorStage, setup_over, commit_over, clean_over, Setting, Operation, TheSetup, TheWrite, TheTaskCommit, TheTaskAbort, TheCommit, TheClean, Running, who, asks, tells, over, is_begun, ended, dead, restarted, is_new, needs_set, may, driver_may, refuse_op, refuse_begin, begins_commit, begins_clean, is_busy, is_memory, is_wanting, is_set, is_just_set, IsTimely, nothing_learnt, Play, MayFinish, Times, TheCheck, TheSparing, step}
 use Rattle.job_spec.proofs.Common.{some_is, none_some, false_true, true_or_false}
 use Rattle.job_model.specs.declared.events.Op.TheVariants.{Commit}
 use Rattle.job_model.specs.declared.ends.SetupEnd.TheVariants as setups
@@ -14,12 +14,12 @@ use Rattle.job_model.specs.declared.states.ActorStage.TheVariants as stage
 use Rattle.job_protocol.specs.Setup as setup
 use Rattle.job_traces.specs.Runs.{is_done}
 use Rattle.job_facts.proofs.Whose.{or_false}
+use Rattle.job_traces.proofs.EveryRun.{just_set}
 use Rattle.job_model.specs.declared.ends.CheckEnd.{CheckEnd}
 use Rattle.job_model.specs.declared.ends.CheckEnd.TheVariants as checks
 use Rattle.job_protocol.specs.Rechecks.{check_after, check_over}
 use Rattle.job_protocol.specs.Sparing.{sparing_over}
 use Rattle.job_protocol.proofs.Begun.{after_check_so}
-use Rattle.job_spec.specs.States.{check_ended}
 
 -- ---- when an operation may begin
 
@@ -28,9 +28,8 @@ idle_begins Idle r e = (refl, e)
 idle_begins _ r e = absurd cc
 
 let_by : (unset may : Bool) → (if unset then Some faults.NotSet else (if may then None else Some faults.WrongState)) ≡ None → (unset ≡ false) × (may ≡ true)
-let_by true may e = absurd cc
 let_by false true e = (refl, refl)
-let_by false false e = absurd cc
+let_by _ _ e = absurd cc
 
 -- an operation that is not refused: its actor is idle, the job is set up if it must be, and the stage is one that it may begin in
 pub record Begins (driver : ActorStage) (a : Actor) (op : Op) (life : Life) (s : ActorStage) : Type 0 where
@@ -45,26 +44,6 @@ begins_so driver a op life s e =
     record { idle = i.0; set = b.0; may_begin = b.1 }
 
 -- ---- an end for want of memory
-
-of_setup : (e : SetupEnd) (s : ActorStage) → is_memory (ends.Setup e) ≡ true → setup_ended e s ≡ dead s
-of_setup setups.NoMemory s h = refl
-of_setup _ s h = absurd (false_true refl h)
-
-of_commit : (e : CommitEnd) (s : ActorStage) → is_memory (ends.Commit e) ≡ true → commit_ended e s ≡ dead s
-of_commit commits.NoMemory s h = refl
-of_commit _ s h = absurd (false_true refl h)
-
-of_check : (e : CheckEnd) (s : ActorStage) → is_memory (ends.Check e) ≡ true → check_ended e s ≡ dead s
-of_check checks.NoMemory s h = refl
-of_check _ s h = absurd (false_true refl h)
-
-of_clean : (e : CleanEnd) (s : ActorStage) → is_memory (ends.Clean e) ≡ true → clean_ended e s ≡ dead s
-of_clean cleans.NoMemory s h = refl
-of_clean _ s h = absurd (false_true refl h)
-
-of_task : (e : TaskEnd) (s : ActorStage) → is_memory (ends.Task e) ≡ true → ended (ends.Task e) s ≡ dead s
-of_task tasks.NoMemory s h = refl
-of_task _ s h = absurd (false_true refl h)
 
 wanting_memory : (a : Actor) (op : Op) (e : OpEnd) → is_wanting a op e ≡ true → is_memory e ≡ true
 wanting_memory a op ends.NoMemory h = refl
@@ -86,12 +65,13 @@ may_end x y may = memory_or y.actor may.doing.op y.end may.end
 
 -- its actor is dead, at its stage
 pub memory_dies : (e : OpEnd) (s : ActorStage) → is_memory e ≡ true → ended e s ≡ dead s
-memory_dies (ends.Setup e) s h = of_setup e s h
-memory_dies (ends.Commit e) s h = of_commit e s h
-memory_dies (ends.Clean e) s h = of_clean e s h
-memory_dies (ends.Check e) s h = of_check e s h
-memory_dies (ends.Task e) s h = of_task e s h
+memory_dies (ends.Setup setups.NoMemory) s h = refl
+memory_dies (ends.Commit commits.NoMemory) s h = refl
+memory_dies (ends.Clean cleans.NoMemory) s h = refl
+memory_dies (ends.Check checks.NoMemory) s h = refl
+memory_dies (ends.Task tasks.NoMemory) s h = refl
 memory_dies ends.NoMemory s h = refl
+memory_dies _ s h = absurd (false_true refl h)
 
 -- ---- what the driver is at
 
@@ -120,10 +100,6 @@ behind_set (Some (TheClean t)) h = refl
 behind_set (Some (TheCheck t)) h = refl
 behind_set (Some (TheSparing t)) h = refl
 behind_set _ h = absurd h
-
-just_set : (d : Option Operation) → is_just_set d ≡ true → is_set d ≡ true
-just_set (Some (TheSetup t)) e = e
-just_set _ e = absurd (false_true refl e)
 
 -- behind its first stage the job is set up
 pub driver_set : (s : ActorStage) (l : Life) (d : Option Operation) → DriverAt s l d → is_new s ≡ false → is_set d ≡ true
@@ -178,10 +154,10 @@ restarted_new _ e = e
 
 -- ---- its operation ends
 
--- what an end is of
-pub mapped : {X Y : Type 0} (f : X → Y) (o : Option X) (y : Y) → option_map f o ≡ Some y → (x : X) × (o ≡ Some x) × (f x ≡ y)
-mapped f None y e = absurd (none_some refl e)
-mapped f (Some x) y e = (x, refl, some_is e)
+-- what holds of each end of a sort holds of the end
+pub of_sort : {X Y : Type 0} (f : X → Y) (P : Y → Type 0) (o : Option X) (y : Y) → option_map f o ≡ Some y → ((x : X) → o ≡ Some x → P (f x)) → P y
+of_sort f P None y e h = absurd (none_some refl e)
+of_sort f P (Some x) y e h = subst P (some_is e) (h x refl)
 
 -- where its operation ended so the driver is at what it was at, and at its first stage only where it was
 abbrev pub EndedAt : ActorStage → Operation → OpEnd → Type 0
@@ -217,7 +193,7 @@ setup_new _ t h = absurd h
 abbrev pub Kind : Option Operation → Type 0
 Kind d = IsSettingUp d ⊎ IsBehind d
 
-just_kind : (d : Option Operation) → is_just_set d ≡ true → IsSettingUp d
+pub just_kind : (d : Option Operation) → is_just_set d ≡ true → IsSettingUp d
 just_kind None e = tt
 just_kind (Some (TheSetup t)) e = tt
 just_kind _ e = absurd (false_true refl e)
@@ -233,40 +209,22 @@ goes_behind stage.New d e h not_so b = absurd (not_so h)
 goes_behind stage.Set d e h not_so b = absurd (false_true h.0 refl)
 goes_behind _ d e h not_so b = b
 
-behind_now : (s : ActorStage) (op : Operation) → DriverAt s Busy (Some op) → (IsSettingUp (Some op) → ⊥) → IsBehind (Some op)
-behind_now s op h not_so = elim (driver_kind s Busy (Some op) h) [ inl x ↦ absurd (not_so x) | inr x ↦ x ]
-
--- an attempt's operation it is never at
-no_task : (op : Operation) → Kind (Some op) → (IsSettingUp (Some op) → ⊥) → (IsBehind (Some op) → ⊥) → ⊥
-no_task op k not_so never = elim k [ inl x ↦ not_so x | inr x ↦ never x ]
-
 pub driver_ends : (s : ActorStage) (op : Operation) (e : OpEnd) → DriverAt s Busy (Some op) → over op ≡ Some e → EndedAt s op e
 driver_ends s (TheSetup t) e h o =
-    let m = mapped ends.Setup (setup_over t.operation) e o in
-    subst (EndedAt s (TheSetup t)) m.2 (subst (λ u. EndedAt u (TheSetup t) (ends.Setup m.0)) (sym (setup_new s t h)) (setup_ends t m.0 m.1))
-driver_ends s (TheCommit c) e h o =
-    let m = mapped ends.Commit (commit_over c) e o in
-    subst (EndedAt s (TheCommit c)) m.2 (commit_ends s (TheCommit c) m.0 h (behind_now s (TheCommit c) h (λ x. x)))
-driver_ends s (TheClean t) e h o =
-    let m = mapped ends.Clean (clean_over t.operation) e o in
-    subst (EndedAt s (TheClean t)) m.2 (clean_ends s (TheClean t) m.0 h)
-driver_ends s (TheCheck t) e h o =
-    let m = mapped ends.Check (check_over t.operation) e o in
-    subst (EndedAt s (TheCheck t)) m.2 (check_ends s (TheCheck t) m.0 h (behind_now s (TheCheck t) h (λ x. x)))
-driver_ends s (TheSparing t) e h o =
-    let m = mapped ends.Clean (sparing_over t.operation) e o in
-    subst (EndedAt s (TheSparing t)) m.2 (clean_ends s (TheSparing t) m.0 h)
-driver_ends s (TheWrite t) e h o = absurd (no_task (TheWrite t) (driver_kind s Busy (Some (TheWrite t)) h) (λ x. x) (λ x. x))
-driver_ends s (TheTaskCommit t) e h o = absurd (no_task (TheTaskCommit t) (driver_kind s Busy (Some (TheTaskCommit t)) h) (λ x. x) (λ x. x))
-driver_ends s (TheTaskAbort t) e h o = absurd (no_task (TheTaskAbort t) (driver_kind s Busy (Some (TheTaskAbort t)) h) (λ x. x) (λ x. x))
+    of_sort ends.Setup (EndedAt s (TheSetup t)) (setup_over t.operation) e o (λ x is. subst (λ u. EndedAt u (TheSetup t) (ends.Setup x)) (sym (setup_new s t h)) (setup_ends t x is))
+driver_ends s (TheCommit c) e h o = of_sort ends.Commit (EndedAt s (TheCommit c)) (commit_over c) e o (λ x is. commit_ends s (TheCommit c) x h tt)
+driver_ends s (TheClean t) e h o = of_sort ends.Clean (EndedAt s (TheClean t)) (clean_over t.operation) e o (λ x is. clean_ends s (TheClean t) x h)
+driver_ends s (TheCheck t) e h o = of_sort ends.Check (EndedAt s (TheCheck t)) (check_over t.operation) e o (λ x is. check_ends s (TheCheck t) x h tt)
+driver_ends s (TheSparing t) e h o = of_sort ends.Clean (EndedAt s (TheSparing t)) (sparing_over t.operation) e o (λ x is. clean_ends s (TheSparing t) x h)
+driver_ends s op e h o = elim (driver_kind s Busy (Some op) h) [ inl x ↦ absurd x | inr x ↦ absurd x ]
 
 -- ---- it goes on
 
 -- what it asks does not read what is known
 pub driver_asks : (g : Setting) (op : Operation) (k : Known) (r : Request) → Kind (Some op) → asks g (who Driver) k op ≡ Some r → asks g (who Driver) nothing_learnt op ≡ Some r
-driver_asks g (TheWrite t) k r h e = absurd (no_task (TheWrite t) h (λ x. x) (λ x. x))
-driver_asks g (TheTaskCommit t) k r h e = absurd (no_task (TheTaskCommit t) h (λ x. x) (λ x. x))
-driver_asks g (TheTaskAbort t) k r h e = absurd (no_task (TheTaskAbort t) h (λ x. x) (λ x. x))
+driver_asks g (TheWrite t) k r h e = elim h [ inl x ↦ absurd x | inr x ↦ absurd x ]
+driver_asks g (TheTaskCommit t) k r h e = elim h [ inl x ↦ absurd x | inr x ↦ absurd x ]
+driver_asks g (TheTaskAbort t) k r h e = elim h [ inl x ↦ absurd x | inr x ↦ absurd x ]
 driver_asks g _ k r h e = e
 
 pub driver_hears : (g : Setting) (s : ActorStage) (op : Operation) (o : Outcome) → DriverAt s Busy (Some op) → DriverAt s Busy (Some (tells g (who Driver) op o))
@@ -275,9 +233,7 @@ driver_hears g s (TheCommit c) o h = goes_behind s (Some (TheCommit c)) (Some (t
 driver_hears g s (TheClean t) o h = goes_behind s (Some (TheClean t)) (Some (tells g (who Driver) (TheClean t) o)) h (λ x. x) tt
 driver_hears g s (TheCheck t) o h = goes_behind s (Some (TheCheck t)) (Some (tells g (who Driver) (TheCheck t) o)) h (λ x. x) (after_check_so g (λ op. IsBehind (Some op)) tt (λ u. tt) (step g.script.retries (check_after g.script) t o))
 driver_hears g s (TheSparing t) o h = goes_behind s (Some (TheSparing t)) (Some (tells g (who Driver) (TheSparing t) o)) h (λ x. x) tt
-driver_hears g s (TheWrite t) o h = absurd (no_task (TheWrite t) (driver_kind s Busy (Some (TheWrite t)) h) (λ x. x) (λ x. x))
-driver_hears g s (TheTaskCommit t) o h = absurd (no_task (TheTaskCommit t) (driver_kind s Busy (Some (TheTaskCommit t)) h) (λ x. x) (λ x. x))
-driver_hears g s (TheTaskAbort t) o h = absurd (no_task (TheTaskAbort t) (driver_kind s Busy (Some (TheTaskAbort t)) h) (λ x. x) (λ x. x))
+driver_hears g s op o h = elim (driver_kind s Busy (Some op) h) [ inl x ↦ absurd x | inr x ↦ absurd x ]
 
 -- ---- whether its commit has begun
 
@@ -310,16 +266,9 @@ timed_setting b (Some _) h s = absurd s
 
 pub timed_sends : (k : Times) (n : ℕ) (op : Operation) → IsTimed (record { commit = is_begun k.commit n; clean = is_begun k.clean n }) (Some op) → IsTimely k n op
 timed_sends k n (TheSetup t) h = h
-timed_sends k n (TheCommit v) h = h
-timed_sends k n (TheCheck t) h = h
-timed_sends k n (TheClean t) h = h
-timed_sends k n (TheSparing t) h = h
-timed_sends k n _ h = tt
+timed_sends k n _ h = h
 
 pub timed_tells : (g : Setting) (b : Begun) (op : Operation) (o : Outcome) → IsTimed b (Some op) → IsTimed b (Some (tells g (who Driver) op o))
-timed_tells g b (TheWrite t) o h = tt
-timed_tells g b (TheTaskCommit t) o h = tt
-timed_tells g b (TheTaskAbort t) o h = tt
 timed_tells g b (TheCheck t) o h = after_check_so g (λ op. IsTimed b (Some op)) h (λ u. h) (step g.script.retries (check_after g.script) t o)
 timed_tells g b _ o h = h
 

@@ -1,17 +1,19 @@
 -- An actor's operation begins: it is one that the job's runs let begin.
-use Rattle.std.proofs.Common.{◌≡◌, ℕ, inl, inr, ◌||◌, true, false, List, Option, Some, None, refl, sym, ap, subst, ◌∙◌}
-use Rattle.job_steps.specs.Prelude.{Content, Actor, Driver, Attempt, Shell, Entry, Retried, fresh, Who, actor_of, is_known, IsLegal, HasOp, Script, Known, Op, Setup, Write, Abort, Clean, Do, Idle, Busy, ActorStage, ActorState, setup_start, write_start, task_commit_start, TaskAbort, task_abort_start, commit_start, clean_start, knows, Setting, Operation, TheSetup, TheWrite, TheTaskCommit, TheTaskAbort, TheCommit, TheClean, Running, who, start_of, put, stage_begun, is_new, driver_may, attempt_may, by_actor, known, IsAttempt, Stand, BeginSetup, BeginCommit, BeginClean, BeginWrite, BeginPublish, BeginAbort, begin, Runs, actor_begins, IsOpening, with_attempt, is_set, is_just_set, begun, Times, operation_of}
+use Rattle.std.proofs.Common.{◌≡◌, inl, inr, ◌||◌, true, false, List, Option, Some, None, refl, sym, ap, subst, ◌∙◌}
+use Rattle.job_steps.specs.Prelude.{Content, Actor, Driver, Attempt, Shell, Entry, Retried, fresh, Who, actor_of, is_known, IsLegal, HasOp, Script, Known, Op, Setup, Write, Abort, Clean, Do, Idle, Busy, ActorStage, ActorState, setup_start, write_start, task_commit_start, TaskAbort, task_abort_start, knows, Setting, Operation, TheSetup, TheWrite, TheTaskCommit, TheTaskAbort, Running, who, start_of, put, stage_begun, is_new, by_actor, known, IsAttempt, Stand, BeginSetup, BeginCommit, BeginClean, BeginWrite, BeginPublish, BeginAbort, begin, Runs, actor_begins, IsOpening, with_attempt, is_set, is_just_set, begun, Times, operation_of}
 use Rattle.job_facts.specs.Prelude.{WriteOver, Reports, clean_of, commit_of}
 use Rattle.job_spec.proofs.Common.{false_true}
 use Rattle.job_model.specs.declared.events.Op.TheVariants.{Commit}
 use Rattle.job_model.specs.declared.ends.TaskEnd.TheVariants as tasks
 use Rattle.job_traces.specs.Runs.{MaySetUp}
 use Rattle.job_facts.proofs.Whose.{attempt, or_false, or_true}
+use Rattle.job_traces.proofs.Running.{Late}
 use Rattle.job_traces.proofs.Entries.{late_now}
 use Rattle.job_steps.proofs.RunningNumbers.{known_attempt}
-use Rattle.job_steps.proofs.RunningStages.{Begun, with_event, still_begun, IsSettingUp, Begins, MaySet, IsBehind, DriverAt, may_setup, may_commit_job, new_at, behind_at, timed_setting, timed_on, IsTimed}
+use Rattle.job_steps.proofs.RunningStages.{Begun, with_event, still_begun, Begins, MaySet, IsBehind, DriverAt, just_kind, may_setup, may_commit_job, new_at, behind_at, timed_setting, timed_on, IsTimed}
+use Rattle.job_steps.proofs.RunningCommits.{commit_begins}
 use Rattle.job_steps.proofs.RunningTasks.{AttemptAt, FreeAbort, HasWritten, free_start, free_abort, may_write, written_is, may_publish, may_abort}
-use Rattle.job_steps.proofs.RunningAlong.{Along, told_known, set_up, timed_by, driver_begins, attempt_begins}
+use Rattle.job_steps.proofs.RunningAlong.{Along, told_known, set_up, driver_begins, attempt_begins}
 use Rattle.job_protocol.proofs.Begun.{commit_of_so, clean_of_so}
 use Rattle.job_model.specs.declared.states.ActorStage.TheVariants as stage
 
@@ -23,116 +25,100 @@ module _ (g : Setting) (opening : Content) (k : Times) (j : IsLegal g.script) (i
   abbrev w : Script
   w = g.script
 
-  -- ---- the driver
-
-  -- right behind its set-up
-  just_setting : (d : Option Operation) → is_just_set d ≡ true → IsSettingUp d
-  just_setting None e = tt
-  just_setting (Some (TheSetup t)) e = tt
-  just_setting (Some _) e = absurd (false_true refl e)
-
   -- one more set-up
   setup_may : (x : Stand) (d : Option Operation) → x.driver ≡ d → MaySet d → ((a : Who) → x.attempts a ≡ None) → MaySetUp x
   setup_may x d e (inl unset) none = inl (ap is_set e ∙ unset)
   setup_may x d e (inr just) none = inr (ap is_just_set e ∙ just, none)
 
-  starts_setup : (b : Begun) (es : List Entry) (r : Actor → Option Running) (st : Actor → ActorState) (h : Along g opening k b es r st) (kn : Known) → driver_may Setup (st Driver).stage ≡ true
-      → Along g opening k (still_begun b) es (put r Driver (Some (record { operation = TheSetup (fresh w.retries setup_start); known = kn }))) (put st Driver (busy_at Driver Setup (st Driver).stage))
-  starts_setup b es r st h kn may =
-      let s = (st Driver).stage in
-      let m = may_setup s (st Driver).life (operation_of (r Driver)) h.driver_at may in
-      let op = TheSetup (fresh w.retries setup_start) in
-      let may_set = setup_may h.stand (operation_of (r Driver)) h.driver m.2 (λ a. h.attempts a ∙ h.unset m.0 a) in
-      let t = timed_setting b (operation_of (r Driver)) h.timed m.1 in
-      let early : ((b.commit || false) ≡ false) × ((b.clean || false) ≡ false) = (or_false b.commit ∙ t.0, or_false b.clean ∙ t.1) in
-      driver_begins g opening k j is_opening b (still_begun b) es r st h (record { operation = op; known = kn }) (busy_at Driver Setup s) (begin g h.stand BeginSetup)
-      (actor_begins es h.stand BeginSetup h.runs may_set) refl refl refl early (new_at s Busy (fresh w.retries setup_start) m.0) (λ n. n)
+  module _ {b : Begun} {es : List Entry} {r : Actor → Option Running} {st : Actor → ActorState} (h : Along g opening k b es r st) where
+    -- ---- the driver
 
-  starts_job_commit : (b : Begun) (es : List Entry) (r : Actor → Option Running) (st : Actor → ActorState) (h : Along g opening k b es r st) (kn : Known) (reports : Reports) → driver_may Commit (st Driver).stage ≡ true
-      → Along g opening k (with_event true b (Do Driver Commit)) es (put r Driver (Some (record { operation = commit_of g reports; known = kn }))) (put st Driver (busy_at Driver Commit (st Driver).stage))
-  starts_job_commit b es r st h kn reports may =
-      let s = (st Driver).stage in
-      let just : is_just_set h.stand.driver ≡ true = ap is_just_set h.driver ∙ may_commit_job s (st Driver).life (operation_of (r Driver)) h.driver_at may in
-      let timed : ((b.commit || true) ≡ true) × ((b.clean || false) ≡ false) = (or_true b.commit, or_false b.clean ∙ (timed_setting b (operation_of (r Driver)) h.timed (just_setting (operation_of (r Driver)) (sym (ap is_just_set h.driver) ∙ just))).1) in
-      driver_begins g opening k j is_opening b (with_event true b (Do Driver Commit)) es r st h (record { operation = commit_of g reports; known = kn }) (busy_at Driver Commit s) (begin g h.stand (BeginCommit reports))
-      (actor_begins es h.stand (BeginCommit reports) h.runs just) refl refl refl (commit_of_so g (λ op. IsTimed (with_event true b (Do Driver Commit)) (Some op)) (λ missing. timed) (λ t. timed) reports) (commit_of_so g (λ op. DriverAt stage.Committing Busy (Some op)) (λ missing. tt) (λ t. tt) reports) (λ n. absurd (false_true refl n))
+    -- an abort or a clean of the job
+    starts_clean : (c : Begun) (kn : Known) (v : ActorState) → is_new (st Driver).stage ≡ false → c.clean ≡ true
+        → ((t : Operation) → IsBehind (Some t) → DriverAt v.stage v.life (Some t) × (is_new v.stage ≡ false))
+        → Along g opening k c es (put r Driver (Some (record { operation = clean_of g; known = kn }))) (put st Driver v)
+    starts_clean c kn v new begun at =
+        let op = clean_of g in
+        let there = at op (clean_of_so g (λ v. IsBehind (Some v)) tt tt) in
+        driver_begins g opening k j is_opening h c (record { operation = op; known = kn }) v (begin g h.stand BeginClean)
+        (actor_begins es h.stand BeginClean h.runs (set_up g opening k j is_opening h new)) refl refl refl (clean_of_so g (λ v. IsTimed c (Some v)) begun begun) there.0 (λ n. absurd (false_true there.1 n))
 
-  -- an abort or a clean of the job
-  starts_clean : (b c : Begun) (es : List Entry) (r : Actor → Option Running) (st : Actor → ActorState) (h : Along g opening k b es r st) (kn : Known) (v : ActorState) → is_new (st Driver).stage ≡ false
-      → c.clean ≡ true → ((t : Operation) → IsBehind (Some t) → DriverAt v.stage v.life (Some t) × (is_new v.stage ≡ false))
-      → Along g opening k c es (put r Driver (Some (record { operation = clean_of g; known = kn }))) (put st Driver v)
-  starts_clean b c es r st h kn v new begun at =
-      let op = clean_of g in
-      let there = at op (clean_of_so g (λ v. IsBehind (Some v)) tt tt) in
-      driver_begins g opening k j is_opening b c es r st h (record { operation = op; known = kn }) v (begin g h.stand BeginClean)
-      (actor_begins es h.stand BeginClean h.runs (set_up g opening k j is_opening b es r st h new)) refl refl refl (clean_of_so g (λ v. IsTimed c (Some v)) begun begun) there.0 (λ n. absurd (false_true there.1 n))
+    driver_op : (kn : Known) (reports : Reports) (op : Op) → Begins (st Driver).stage Driver op (st Driver).life (st Driver).stage → HasOp Driver op
+        → Along g opening k (with_event true b (Do Driver op)) es (put r Driver (begun (start_of g Driver op reports kn) kn)) (put st Driver (busy_at Driver op (st Driver).stage))
+    driver_op kn reports Setup may legal =
+        let s = (st Driver).stage in
+        let m = may_setup s (st Driver).life (operation_of (r Driver)) h.driver_at may.may_begin in
+        let op = TheSetup (fresh w.retries setup_start) in
+        let may_set = setup_may h.stand (operation_of (r Driver)) h.driver m.2 (λ a. h.attempts a ∙ h.unset m.0 a) in
+        let t = timed_setting b (operation_of (r Driver)) h.timed m.1 in
+        let early : ((b.commit || false) ≡ false) × ((b.clean || false) ≡ false) = (or_false b.commit ∙ t.0, or_false b.clean ∙ t.1) in
+        driver_begins g opening k j is_opening h (still_begun b) (record { operation = op; known = kn }) (busy_at Driver Setup s) (begin g h.stand BeginSetup)
+        (actor_begins es h.stand BeginSetup h.runs may_set) refl refl refl early (new_at s Busy (fresh w.retries setup_start) m.0) (λ n. n)
+    driver_op kn reports Commit may legal =
+        let s = (st Driver).stage in
+        let just : is_just_set h.stand.driver ≡ true = ap is_just_set h.driver ∙ may_commit_job s (st Driver).life (operation_of (r Driver)) h.driver_at may.may_begin in
+        let t = timed_setting b (operation_of (r Driver)) h.timed (just_kind (operation_of (r Driver)) (sym (ap is_just_set h.driver) ∙ just)) in
+        let timed : ((b.commit || true) ≡ true) × ((b.clean || false) ≡ false) = (or_true b.commit, or_false b.clean ∙ t.1) in
+        driver_begins g opening k j is_opening h (with_event true b (Do Driver Commit)) (record { operation = commit_of g reports; known = kn }) (busy_at Driver Commit s) (begin g h.stand (BeginCommit reports))
+        (actor_begins es h.stand (BeginCommit reports) h.runs just) refl refl refl (commit_of_so g (λ op. IsTimed (with_event true b (Do Driver Commit)) (Some op)) (λ missing. timed) (λ t. timed) reports)
+        (commit_of_so g (λ op. DriverAt stage.Committing Busy (Some op)) (λ missing. tt) (λ t. tt) reports) (λ n. absurd (false_true refl n))
+    driver_op kn reports Abort may legal = starts_clean (with_event true b (Do Driver Abort)) kn (busy_at Driver Abort (st Driver).stage) may.set (or_true b.clean) (λ t i. (i, refl))
+    driver_op kn reports Clean may legal =
+        starts_clean (with_event true b (Do Driver Clean)) kn (busy_at Driver Clean (st Driver).stage) may.set (or_true b.clean) (λ t i. behind_at (st Driver).stage Busy (Some t) i may.may_begin)
+    driver_op kn reports Write may legal = absurd legal
 
-  driver_op : (b : Begun) (es : List Entry) (r : Actor → Option Running) (st : Actor → ActorState) (h : Along g opening k b es r st) (kn : Known) (reports : Reports) (op : Op) → Begins (st Driver).stage Driver op (st Driver).life (st Driver).stage → HasOp Driver op
-      → Along g opening k (with_event true b (Do Driver op)) es (put r Driver (begun (start_of g Driver op reports kn) kn)) (put st Driver (busy_at Driver op (st Driver).stage))
-  driver_op b es r st h kn reports Setup m legal = starts_setup b es r st h kn m.may_begin
-  driver_op b es r st h kn reports Commit m legal = starts_job_commit b es r st h kn reports m.may_begin
-  driver_op b es r st h kn reports Abort m legal = starts_clean b (with_event true b (Do Driver Abort)) es r st h kn (busy_at Driver Abort (st Driver).stage) m.set (or_true b.clean) (λ t i. (i, refl))
-  driver_op b es r st h kn reports Clean m legal = starts_clean b (with_event true b (Do Driver Clean)) es r st h kn (busy_at Driver Clean (st Driver).stage) m.set (or_true b.clean) (λ t i. behind_at (st Driver).stage Busy (Some t) i m.may_begin)
-  driver_op b es r st h kn reports Write m legal = absurd legal
+    -- whether the commit has begun is as it was
+    pub still : Along g opening k (still_begun b) es r st
+    still = record { stand = h.stand; ran = h.ran; timed = timed_on b (operation_of (r Driver)) h.timed; driver_at = h.driver_at; unset = h.unset; attempt_at = h.attempt_at }
 
   -- ---- an attempt
 
-  -- it has not sent its publishing request where it is at nothing, or where its write is done
-  none_sent : (es : List Entry) (x : Stand) → Runs g k opening es x → is_set x.driver ≡ true → (a : Who) → x.attempts a ≡ None → (known x.told a).publish_sent ≡ false
-  none_sent es x run set a e = ap (λ (v : Known). v.publish_sent) ((late_now g k opening j is_opening es x run set).new a e).0
-
-  written_sent : (es : List Entry) (x : Stand) → Runs g k opening es x → is_set x.driver ≡ true → (a : Who) (d : Option Operation) → x.attempts a ≡ d → HasWritten d → (known x.told a).publish_sent ≡ false
-  written_sent es x run set a d e h =
+  -- it has not sent its publishing request where its write is done
+  written_sent : (x : Stand) → Late g opening x → (a : Who) (d : Option Operation) → x.attempts a ≡ d → HasWritten d → (known x.told a).publish_sent ≡ false
+  written_sent x l a d e h =
       let at = written_is d h in
-      let f = (late_now g k opening j is_opening es x run set).fine a (TheWrite (record { operation = WriteOver tasks.Done; spare = at.0; repeated = at.1 })) (e ∙ at.2) in
-      (f.1.1 refl).0.0
+      ((l.fine a (TheWrite (record { operation = WriteOver tasks.Done; spare = at.0; repeated = at.1 })) (e ∙ at.2)).1.1 refl).0.0
 
-  starts_write : (b : Begun) (es : List Entry) (r : Actor → Option Running) (st : Actor → ActorState) (h : Along g opening k b es r st) (a : Who) (kn : Known) → kn ≡ known h.stand.told a → IsAttempt w a → is_new (st Driver).stage ≡ false
-      → AttemptAt (st (actor_of a)).stage Idle (operation_of (r (actor_of a))) → attempt_may Write (st (actor_of a)).stage ≡ true
-      → Along g opening k b es (put r (actor_of a) (Some (record { operation = TheWrite (fresh w.retries (write_start w a)); known = kn }))) (put st (actor_of a) (busy_at (actor_of a) Write (st (actor_of a)).stage))
-  starts_write b es r st h a kn learnt is new at may =
-      let none : h.stand.attempts a ≡ None = h.attempts a ∙ may_write (st (actor_of a)).stage (operation_of (r (actor_of a))) at may in
-      attempt_begins g opening k j is_opening b es r st h a (record { operation = TheWrite (fresh w.retries (write_start w a)); known = kn }) (busy_at (actor_of a) Write (st (actor_of a)).stage)
-      (actor_begins es h.stand (BeginWrite a) h.runs (set_up g opening k j is_opening b es r st h new, is, none)) new learnt (free_start w a)
+  module _ {b : Begun} {es : List Entry} {r : Actor → Option Running} {st : Actor → ActorState} (h : Along g opening k b es r st) (a : Who) (kn : Known)
+      (learnt : kn ≡ known h.stand.told a) (is : IsAttempt w a) where
+    abbrev Goes : Op → Option Running → Type 0
+    Goes op m = Along g opening k (still_begun b) es (put r (actor_of a) m) (put st (actor_of a) (busy_at (actor_of a) op (st (actor_of a)).stage))
 
-  starts_publish : (b : Begun) (es : List Entry) (r : Actor → Option Running) (st : Actor → ActorState) (h : Along g opening k b es r st) (a : Who) (kn : Known) → kn ≡ known h.stand.told a → is_new (st Driver).stage ≡ false
-      → AttemptAt (st (actor_of a)).stage Idle (operation_of (r (actor_of a))) → attempt_may Commit (st (actor_of a)).stage ≡ true
-      → Along g opening k b es (put r (actor_of a) (Some (record { operation = TheTaskCommit (fresh w.retries (task_commit_start w a)); known = kn }))) (put st (actor_of a) (busy_at (actor_of a) Commit (st (actor_of a)).stage))
-  starts_publish b es r st h a kn learnt new at may =
-      let p = may_publish (st (actor_of a)).stage (operation_of (r (actor_of a))) at may in
-      attempt_begins g opening k j is_opening b es r st h a (record { operation = TheTaskCommit (fresh w.retries (task_commit_start w a)); known = kn }) (busy_at (actor_of a) Commit (st (actor_of a)).stage)
-      (actor_begins es h.stand (BeginPublish a) h.runs (set_up g opening k j is_opening b es r st h new, (p.0, p.1, h.attempts a ∙ p.2))) new learnt tt
+    starts : (op : Op) (v : Operation) → is_new (st Driver).stage ≡ false → Runs g k opening es (with_attempt h.stand a v)
+        → AttemptAt (stage_begun (actor_of a) op (st (actor_of a)).stage) Busy (Some v) → Goes op (Some (record { operation = v; known = kn }))
+    starts op v new run at = still (attempt_begins g opening k j is_opening h a (record { operation = v; known = kn }) (busy_at (actor_of a) op (st (actor_of a)).stage) run new learnt at)
 
-  starts_abort : (b : Begun) (es : List Entry) (r : Actor → Option Running) (st : Actor → ActorState) (h : Along g opening k b es r st) (a : Who) (kn : Known) → kn ≡ known h.stand.told a → IsAttempt w a → is_new (st Driver).stage ≡ false
-      → AttemptAt (st (actor_of a)).stage Idle (operation_of (r (actor_of a)))
-      → Along g opening k b es (put r (actor_of a) (Some (record { operation = TheTaskAbort (fresh w.retries (task_abort_start w kn)); known = kn }))) (put st (actor_of a) (busy_at (actor_of a) Abort (st (actor_of a)).stage))
-  starts_abort b es r st h a kn learnt is new at =
-      let x = h.stand in
-      let set = set_up g opening k j is_opening b es r st h new in
-      let t : Retried TaskAbort = fresh w.retries (task_abort_start w kn) in
-      let run = subst (λ v. Runs g k opening es (with_attempt x a (TheTaskAbort (fresh w.retries (task_abort_start w v))))) (sym learnt) (actor_begins es x (BeginAbort a) h.runs (set, is)) in
-      let unsent : (known x.told a).publish_sent ≡ false → FreeAbort (task_abort_start w kn) = λ e. free_abort w kn (ap (λ (v : Known). v.publish_sent) learnt ∙ e) in
-      let free = may_abort (st (actor_of a)).stage (operation_of (r (actor_of a))) t at (λ e. unsent (none_sent es x h.runs set a (h.attempts a ∙ e))) (λ y. unsent (written_sent es x h.runs set a (operation_of (r (actor_of a))) (h.attempts a) y)) in
-      attempt_begins g opening k j is_opening b es r st h a (record { operation = TheTaskAbort t; known = kn }) (busy_at (actor_of a) Abort (st (actor_of a)).stage) run new learnt free
+    at_rest : (st (actor_of a)).life ≡ Idle → AttemptAt (st (actor_of a)).stage Idle (operation_of (r (actor_of a)))
+    at_rest idle = subst (λ l. AttemptAt (st (actor_of a)).stage l (operation_of (r (actor_of a)))) idle (h.attempt_at a)
 
-  -- whether the commit has begun is as it was
-  pub still : (b : Begun) (es : List Entry) (r : Actor → Option Running) (st : Actor → ActorState) → Along g opening k b es r st → Along g opening k (still_begun b) es r st
-  still b es r st h = timed_by g opening k j is_opening b (still_begun b) es r st h (timed_on b (operation_of (r Driver)) h.timed)
-
-  attempt_op : (b : Begun) (es : List Entry) (r : Actor → Option Running) (st : Actor → ActorState) (h : Along g opening k b es r st) (a : Who) (kn : Known) (reports : Reports) → kn ≡ known h.stand.told a → IsAttempt w a
-      → (op : Op) → Begins (st Driver).stage (actor_of a) op (st (actor_of a)).life (st (actor_of a)).stage → HasOp (actor_of a) op
-      → Along g opening k (still_begun b) es (put r (actor_of a) (begun (start_of g (actor_of a) op reports kn) kn)) (put st (actor_of a) (busy_at (actor_of a) op (st (actor_of a)).stage))
-  attempt_op b es r st h a kn reports learnt is Write m legal = still b es _ _ (starts_write b es r st h a kn learnt is m.set (subst (λ l. AttemptAt (st (actor_of a)).stage l (operation_of (r (actor_of a)))) m.idle (h.attempt_at a)) m.may_begin)
-  attempt_op b es r st h a kn reports learnt is Commit m legal = still b es _ _ (starts_publish b es r st h a kn learnt m.set (subst (λ l. AttemptAt (st (actor_of a)).stage l (operation_of (r (actor_of a)))) m.idle (h.attempt_at a)) m.may_begin)
-  attempt_op b es r st h a kn reports learnt is Abort m legal = still b es _ _ (starts_abort b es r st h a kn learnt is m.set (subst (λ l. AttemptAt (st (actor_of a)).stage l (operation_of (r (actor_of a)))) m.idle (h.attempt_at a)))
-  attempt_op b es r st h a kn reports learnt is _ m legal = absurd legal
+    attempt_op : (reports : Reports) (op : Op) → Begins (st Driver).stage (actor_of a) op (st (actor_of a)).life (st (actor_of a)).stage → HasOp (actor_of a) op
+        → Goes op (begun (start_of g (actor_of a) op reports kn) kn)
+    attempt_op reports Write m legal =
+        let none : h.stand.attempts a ≡ None = h.attempts a ∙ may_write (st (actor_of a)).stage (operation_of (r (actor_of a))) (at_rest m.idle) m.may_begin in
+        starts Write (TheWrite (fresh w.retries (write_start w a))) m.set (actor_begins es h.stand (BeginWrite a) h.runs (set_up g opening k j is_opening h m.set, is, none)) (free_start w a)
+    attempt_op reports Commit m legal =
+        let p = may_publish (st (actor_of a)).stage (operation_of (r (actor_of a))) (at_rest m.idle) m.may_begin in
+        starts Commit (TheTaskCommit (fresh w.retries (task_commit_start w a))) m.set
+        (actor_begins es h.stand (BeginPublish a) h.runs (set_up g opening k j is_opening h m.set, (p.0, p.1, h.attempts a ∙ p.2))) (commit_begins w a)
+    attempt_op reports Abort m legal =
+        let x = h.stand in
+        let set = set_up g opening k j is_opening h m.set in
+        let late = late_now g k opening j is_opening es x h.runs set in
+        let t : Retried TaskAbort = fresh w.retries (task_abort_start w kn) in
+        let run = subst (λ v. Runs g k opening es (with_attempt x a (TheTaskAbort (fresh w.retries (task_abort_start w v))))) (sym learnt) (actor_begins es x (BeginAbort a) h.runs (set, is)) in
+        let unsent : (known x.told a).publish_sent ≡ false → FreeAbort (task_abort_start w kn) = λ e. free_abort w kn (ap (λ (v : Known). v.publish_sent) learnt ∙ e) in
+        starts Abort (TheTaskAbort t) m.set run
+        (may_abort (st (actor_of a)).stage (operation_of (r (actor_of a))) t (at_rest m.idle)
+        (λ e. unsent (ap (λ (v : Known). v.publish_sent) (late.new a (h.attempts a ∙ e)).0)) (λ y. unsent (written_sent x late a (operation_of (r (actor_of a))) (h.attempts a) y)))
+    attempt_op reports _ m legal = absurd legal
 
   -- ---- any actor
 
-  pub begins : (b : Begun) (es : List Entry) (r : Actor → Option Running) (st : Actor → ActorState) (h : Along g opening k b es r st) (a : Actor) (op : Op) (reports : Reports) → Begins (st Driver).stage a op (st a).life (st a).stage → is_known w.attempts a ≡ true → HasOp a op
+  pub begins : {b : Begun} {es : List Entry} {r : Actor → Option Running} {st : Actor → ActorState} (h : Along g opening k b es r st) (a : Actor) (op : Op) (reports : Reports)
+      → Begins (st Driver).stage a op (st a).life (st a).stage → is_known w.attempts a ≡ true → HasOp a op
       → Along g opening k (with_event true b (Do a op)) es (put r a (begun (start_of g a op reports (knows w (who a) (by_actor a es))) (knows w (who a) (by_actor a es)))) (put st a (busy_at a op (st a).stage))
-  begins b es r st h Driver op reports m one legal = driver_op b es r st h (knows w (who Driver) (by_actor Driver es)) reports op m legal
-  begins b es r st h (Attempt t n) op reports m one legal =
+  begins {es = es} h Driver op reports m one legal = driver_op h (knows w (who Driver) (by_actor Driver es)) reports op m legal
+  begins {es = es} h (Attempt t n) op reports m one legal =
       let a = attempt t n in
-      attempt_op b es r st h a (knows w a (by_actor (Attempt t n) es)) reports (sym (told_known g opening k j is_opening es h.stand h.runs a)) (known_attempt j t n one) op m legal
-  begins b es r st h Shell op reports m one legal = absurd legal
+      attempt_op h a (knows w a (by_actor (Attempt t n) es)) (sym (told_known g opening k j is_opening es h.stand h.runs a)) (known_attempt j t n one) reports op m legal
+  begins h Shell op reports m one legal = absurd legal

@@ -1,6 +1,6 @@
 -- What an attempt is at, by its life and stage.
-use Rattle.std.proofs.Common.{◌≡◌, ℕ, zero, suc, Bool, true, false, List, [], ◌∷◌, Option, Some, None, refl, sym, ap, subst}
-use Rattle.job_steps.specs.Prelude.{Committer, Magic, Outcome, Answered, Slow, Item, Got, WornOut, OutOfMemory, Retried, step, unanswered_by, File, Who, Script, Drawn, Known, Write, TaskEnd, OpEnd, Life, Idle, Busy, Dead, ActorStage, files, Sweep, sweep_hears, Uploaded, upload_hears, write_start, write_over, task_commit_over, TaskAbort, task_abort_start, task_abort_over, Setting, Operation, TheSetup, TheWrite, TheTaskCommit, TheTaskAbort, TheCommit, TheClean, tells, over, ended, task_ended, attempt_may}
+use Rattle.std.proofs.Common.{◌≡◌, ℕ, Bool, true, false, List, [], ◌∷◌, Option, Some, None, refl, sym, ap, subst}
+use Rattle.job_steps.specs.Prelude.{Op, Abort, Committer, Magic, Outcome, Item, Got, WornOut, Retried, step, File, Who, Script, Drawn, Known, Write, TaskEnd, OpEnd, Life, Idle, Busy, Dead, ActorStage, files, sweep_hears, upload_hears, write_start, write_over, task_commit_over, TaskAbort, task_abort_start, task_abort_over, Setting, Operation, TheWrite, TheTaskCommit, TheTaskAbort, TheCheck, tells, over, ended, task_ended, attempt_may, is_committing}
 use Rattle.job_facts.specs.Prelude.{as_made, all_go, GoesOn, write_after, task_abort_by, task_abort_after}
 use Rattle.job_spec.proofs.Common.{some_is, none_some, false_true}
 use Rattle.job_model.specs.declared.events.Op.TheVariants.{Commit}
@@ -9,26 +9,15 @@ use Rattle.job_model.specs.declared.ends.OpEnd.TheVariants as ends
 use Rattle.job_model.specs.declared.states.ActorStage.TheVariants as stage
 use Rattle.job_protocol.specs.Writes as writes
 use Rattle.job_protocol.specs.TaskAborts as aborts
-use Rattle.job_steps.proofs.RunningStages.{mapped}
+use Rattle.job_facts.proofs.Going.{step_so}
+use Rattle.job_steps.proofs.RunningCommits.{is_kept, FreeCommit, commit_goes}
+use Rattle.job_steps.proofs.RunningStages.{of_sort}
 
 -- ---- ends that are never Kept
 
-abbrev pub is_kept : Option TaskEnd → Bool
-is_kept (Some tasks.Kept) = true
-is_kept _ = false
-
 -- an operation under retries stays so
 step_keeps : {M : Type 0} (P : M → Type 0) (retries : ℕ) (after : M → Item → M) (t : Retried M) (o : Outcome) → P t.operation → ((i : Item) → P (after t.operation i)) → P (step retries after t o).operation
-step_keeps {M = M} P retries after t o h next = by o
-  where
-    missed : (r : Bool) (n : ℕ) → P (unanswered_by retries after t.operation r n).operation
-    missed r zero = next WornOut
-    missed r (suc n) = h
-
-    by : (o : Outcome) → P (step retries after t o).operation
-    by (Answered r) = next (Got r t.repeated)
-    by Slow = missed t.repeated t.spare
-    by _ = missed true t.spare
+step_keeps P retries after t o h next = step_so retries after t o P (λ x e. next (Got x t.repeated)) (λ none. h) (λ none. next WornOut)
 
 -- a write
 abbrev pub FreeWrite : writes.Write → Type 0
@@ -39,35 +28,23 @@ free_writing [] = refl
 free_writing (f ∷ fs) = refl
 
 pub free_start : (w : Script) (a : Who) → FreeWrite (write_start w a)
-free_start w a = by w.committer
-  where
-    by : (c : Committer) → FreeWrite (writes.write_start_by c (files w a))
-    by Magic = free_writing (files w a)
-    by _ = refl
-
-free_uploaded : (w : Script) (f : File) (fs : List File) (u : Uploaded) → FreeWrite (writes.uploaded w f fs u)
-free_uploaded w f fs (GoesOn u) = refl
-free_uploaded w f fs _ = refl
+free_start w a = elim w.committer as (λ c. FreeWrite (writes.write_start_by c (files w a))) [ Magic ↦ free_writing (files w a) | _ ↦ refl ]
 
 free_after : (w : Script) (minimum : ℕ) (x : writes.Write) → FreeWrite x → (i : Item) → FreeWrite (write_after w minimum x i)
-free_after w minimum x h WornOut = refl
-free_after w minimum x h OutOfMemory = refl
-free_after w minimum (writes.Uploads f fs u) h (Got r repeated) = free_uploaded w f fs (upload_hears w minimum f u r)
+free_after w minimum (writes.Uploads f fs u) h (Got r repeated) = elim (upload_hears w minimum f u r) as (λ v. FreeWrite (writes.uploaded w f fs v)) [ GoesOn v ↦ refl | _ ↦ refl ]
 free_after w minimum (writes.Marking f fs) h (Got r repeated) = refl
 free_after w minimum (writes.Recording f fs) h (Got r repeated) = free_writing fs
 free_after w minimum (writes.WriteOver end) h (Got r repeated) = h
+free_after w minimum _ h _ = refl
 
 -- an abort that did not begin so
 abbrev pub FreeAbort : TaskAbort → Type 0
 FreeAbort x = is_kept (task_abort_over x) ≡ false
 
-free_removing : (sent : Bool) → FreeAbort (aborts.removing sent)
-free_removing true = refl
-free_removing false = refl
-
 free_dropped : (c : Committer) (sent : Bool) → FreeAbort (aborts.dropped c sent)
 free_dropped Magic sent = refl
-free_dropped _ sent = free_removing sent
+free_dropped _ true = refl
+free_dropped _ false = refl
 
 free_dropping : (c : Committer) (sent : Bool) (ds : List Drawn) → FreeAbort (aborts.dropping c sent ds)
 free_dropping c sent [] = free_dropped c sent
@@ -77,27 +54,21 @@ free_dropping c sent (d ∷ ds) = refl
 pub free_abort : (w : Script) (k : Known) → k.publish_sent ≡ false → FreeAbort (task_abort_start w k)
 free_abort w k e = subst (λ b. FreeAbort (task_abort_by b w.committer k)) (sym e) (free_dropping w.committer k.put_sent (as_made k.drawn))
 
-free_sweeping : (s : Option Sweep) → FreeAbort (aborts.sweeping s)
-free_sweeping (Some s) = refl
-free_sweeping None = refl
-
 abort_after : (w : Script) (x : TaskAbort) → FreeAbort x → (i : Item) → FreeAbort (task_abort_after w x i)
-abort_after w x h WornOut = refl
-abort_after w x h OutOfMemory = refl
 abort_after w (aborts.Dropping d ds sent) h (Got r repeated) = free_dropping w.committer sent ds
-abort_after w (aborts.Sweeping s) h (Got r repeated) = free_sweeping (sweep_hears all_go s r)
+abort_after w (aborts.Sweeping s) h (Got r repeated) = elim (sweep_hears all_go s r) as (λ v. FreeAbort (aborts.sweeping v)) [ Some v ↦ refl | None ↦ refl ]
 abort_after w aborts.Removing h (Got r repeated) = refl
 abort_after w (aborts.TaskAbortOver end) h (Got r repeated) = h
+abort_after w _ h _ = refl
 
 -- ---- what an attempt is at
 
-abbrev pub IsWriting : Option Operation → Type 0
-IsWriting (Some (TheWrite t)) = FreeWrite t.operation
-IsWriting _ = ⊥
-
-abbrev pub IsAborting : Option Operation → Type 0
-IsAborting (Some (TheTaskAbort t)) = FreeAbort t.operation
-IsAborting _ = ⊥
+-- such an operation, that never ends Kept
+abbrev pub Held : Op → Option Operation → Type 0
+Held Write (Some (TheWrite t)) = FreeWrite t.operation
+Held Commit (Some (TheTaskCommit t)) = FreeCommit t.operation
+Held Abort (Some (TheTaskAbort t)) = FreeAbort t.operation
+Held _ _ = ⊥
 
 -- its write, which is done
 abbrev pub HasWritten : Option Operation → Type 0
@@ -114,32 +85,30 @@ IsTask (Some _) = ⊥
 
 abbrev pub AttemptAt : ActorStage → Life → Option Operation → Type 0
 AttemptAt stage.New Idle d = d ≡ None
-AttemptAt stage.New Busy d = IsAborting d
+AttemptAt stage.New Busy d = Held Abort d
 AttemptAt stage.New Dead d = Unit {0}
 AttemptAt stage.Writing Idle d = ⊥
-AttemptAt stage.Writing Busy d = IsWriting d
+AttemptAt stage.Writing Busy d = Held Write d
 AttemptAt stage.Writing Dead d = Unit {0}
 AttemptAt stage.Written Idle d = HasWritten d
-AttemptAt stage.Written Busy d = IsAborting d
+AttemptAt stage.Written Busy d = Held Abort d
 AttemptAt stage.Written Dead d = Unit {0}
-AttemptAt stage.Set l d = IsTask d
-AttemptAt stage.Committing l d = IsTask d
-AttemptAt stage.Committed l d = IsTask d
-AttemptAt stage.Failed l d = IsTask d
-AttemptAt stage.Aborted l d = IsTask d
+AttemptAt stage.Committing Idle d = ⊥
+AttemptAt stage.Committing Busy d = Held Commit d
+AttemptAt stage.Committing Dead d = Unit {0}
+AttemptAt _ l d = IsTask d
 
-aborting_task : (d : Option Operation) → IsAborting d → IsTask d
-aborting_task (Some (TheTaskAbort t)) h = tt
-aborting_task _ h = absurd h
-
-writing_task : (d : Option Operation) → IsWriting d → IsTask d
-writing_task (Some (TheWrite t)) h = tt
-writing_task _ h = absurd h
+held_task : (k : Op) (d : Option Operation) → Held k d → IsTask d
+held_task Write (Some (TheWrite t)) h = tt
+held_task Commit (Some (TheTaskCommit t)) h = tt
+held_task Abort (Some (TheTaskAbort t)) h = tt
+held_task _ _ h = absurd h
 
 busy_task : (s : ActorStage) (d : Option Operation) → AttemptAt s Busy d → IsTask d
-busy_task stage.New d h = aborting_task d h
-busy_task stage.Writing d h = writing_task d h
-busy_task stage.Written d h = aborting_task d h
+busy_task stage.New d h = held_task Abort d h
+busy_task stage.Writing d h = held_task Write d h
+busy_task stage.Written d h = held_task Abort d h
+busy_task stage.Committing d h = held_task Commit d h
 busy_task _ d h = h
 
 -- ---- it dies
@@ -148,6 +117,7 @@ pub attempt_dies : (s : ActorStage) (l : Life) (d : Option Operation) → Attemp
 attempt_dies stage.New l d h = tt
 attempt_dies stage.Writing l d h = tt
 attempt_dies stage.Written l d h = tt
+attempt_dies stage.Committing l d h = tt
 attempt_dies _ l d h = h
 
 -- ---- it begins an operation
@@ -171,6 +141,7 @@ pub may_abort : (s : ActorStage) (d : Option Operation) (t : Retried TaskAbort) 
 may_abort stage.New d t h new written = new h
 may_abort stage.Writing d t h new written = absurd h
 may_abort stage.Written d t h new written = written h
+may_abort stage.Committing d t h new written = absurd h
 may_abort _ d t h new written = tt
 
 -- ---- its operation ends
@@ -182,74 +153,64 @@ task_over (TheTaskCommit t) = task_commit_over t.operation
 task_over (TheTaskAbort t) = task_abort_over t.operation
 task_over _ = None
 
-aborting_free : (op : Operation) → IsAborting (Some op) → is_kept (task_over op) ≡ false
-aborting_free (TheTaskAbort t) h = h
-aborting_free _ h = absurd h
-
-writing_free : (op : Operation) → IsWriting (Some op) → is_kept (task_over op) ≡ false
-writing_free (TheWrite t) h = h
-writing_free _ h = absurd h
+held_free : (k : Op) (op : Operation) → Held k (Some op) → is_kept (task_over op) ≡ false
+held_free Write (TheWrite t) h = h
+held_free Commit (TheTaskCommit t) h = h
+held_free Abort (TheTaskAbort t) h = h
+held_free _ _ h = absurd h
 
 write_is_over : (x : writes.Write) → write_over x ≡ Some tasks.Done → x ≡ writes.WriteOver tasks.Done
 write_is_over (writes.WriteOver end) e = ap writes.WriteOver (some_is e)
 write_is_over _ e = absurd (none_some refl e)
 
-writing_done : (op : Operation) → IsWriting (Some op) → task_over op ≡ Some tasks.Done → HasWritten (Some op)
+writing_done : (op : Operation) → Held Write (Some op) → task_over op ≡ Some tasks.Done → HasWritten (Some op)
 writing_done (TheWrite t) h e = write_is_over t.operation e
 writing_done _ h e = absurd h
 
 abbrev pub EndsAt : ActorStage → Operation → TaskEnd → Type 0
 EndsAt s op e = AttemptAt (task_ended e s).stage (task_ended e s).life (Some op)
 
-done_ends : (s : ActorStage) (op : Operation) → AttemptAt s Busy (Some op) → task_over op ≡ Some tasks.Done → EndsAt s op tasks.Done
-done_ends stage.New op h o = aborting_task (Some op) h
-done_ends stage.Writing op h o = writing_done op h o
-done_ends stage.Written op h o = aborting_task (Some op) h
-done_ends _ op h o = h
-
-kept_ends : (s : ActorStage) (op : Operation) → AttemptAt s Busy (Some op) → task_over op ≡ Some tasks.Kept → EndsAt s op tasks.Kept
-kept_ends stage.New op h o = absurd (false_true (aborting_free op h) (ap is_kept o))
-kept_ends stage.Writing op h o = absurd (false_true (writing_free op h) (ap is_kept o))
-kept_ends stage.Written op h o = absurd (false_true (aborting_free op h) (ap is_kept o))
-kept_ends _ op h o = h
-
 task_ends : (s : ActorStage) (op : Operation) (e : TaskEnd) → AttemptAt s Busy (Some op) → task_over op ≡ Some e → EndsAt s op e
-task_ends s op tasks.Done h o = done_ends s op h o
-task_ends s op tasks.Kept h o = kept_ends s op h o
+task_ends stage.New op tasks.Done h o = held_task Abort (Some op) h
+task_ends stage.Writing op tasks.Done h o = writing_done op h o
+task_ends stage.Written op tasks.Done h o = held_task Abort (Some op) h
+task_ends stage.New op tasks.Kept h o = absurd (false_true (held_free Abort op h) (ap is_kept o))
+task_ends stage.Writing op tasks.Kept h o = absurd (false_true (held_free Write op h) (ap is_kept o))
+task_ends stage.Written op tasks.Kept h o = absurd (false_true (held_free Abort op h) (ap is_kept o))
+task_ends stage.Committing op tasks.Kept h o = absurd (false_true (held_free Commit op h) (ap is_kept o))
 task_ends s op tasks.NoMemory h o = attempt_dies s Busy (Some op) h
 task_ends s op _ h o = busy_task s (Some op) h
 
 -- where it ended so the attempt is at what it was at
-pub attempt_ends : (s : ActorStage) (op : Operation) (e : OpEnd) → AttemptAt s Busy (Some op) → over op ≡ Some e → AttemptAt (ended e s).stage (ended e s).life (Some op)
-attempt_ends s op e h o = by op (busy_task s (Some op) h) h o
-  where
-    at : (op : Operation) → AttemptAt s Busy (Some op) → (m : (x : TaskEnd) × (task_over op ≡ Some x) × (ends.Task x ≡ e)) → AttemptAt (ended e s).stage (ended e s).life (Some op)
-    at op h m = subst (λ v. AttemptAt (ended v s).stage (ended v s).life (Some op)) m.2 (task_ends s op m.0 h m.1)
+abbrev EndsWith : ActorStage → Operation → OpEnd → Type 0
+EndsWith s op e = AttemptAt (ended e s).stage (ended e s).life (Some op)
 
-    by : (op : Operation) → IsTask (Some op) → AttemptAt s Busy (Some op) → over op ≡ Some e → AttemptAt (ended e s).stage (ended e s).life (Some op)
-    by (TheWrite t) i h o = at (TheWrite t) h (mapped ends.Task (write_over t.operation) e o)
-    by (TheTaskCommit t) i h o = at (TheTaskCommit t) h (mapped ends.Task (task_commit_over t.operation) e o)
-    by (TheTaskAbort t) i h o = at (TheTaskAbort t) h (mapped ends.Task (task_abort_over t.operation) e o)
-    by _ i h o = absurd i
+pub attempt_ends : (s : ActorStage) (op : Operation) (e : OpEnd) → AttemptAt s Busy (Some op) → over op ≡ Some e → EndsWith s op e
+attempt_ends s (TheWrite t) e h o = of_sort ends.Task (EndsWith s (TheWrite t)) (write_over t.operation) e o (λ x is. task_ends s (TheWrite t) x h is)
+attempt_ends s (TheTaskCommit t) e h o = of_sort ends.Task (EndsWith s (TheTaskCommit t)) (task_commit_over t.operation) e o (λ x is. task_ends s (TheTaskCommit t) x h is)
+attempt_ends s (TheTaskAbort t) e h o = of_sort ends.Task (EndsWith s (TheTaskAbort t)) (task_abort_over t.operation) e o (λ x is. task_ends s (TheTaskAbort t) x h is)
+attempt_ends s op e h o = absurd (busy_task s (Some op) h)
 
 -- ---- it goes on
 
-aborting_hears : (g : Setting) (a : Who) (op : Operation) (o : Outcome) → IsAborting (Some op) → IsAborting (Some (tells g a op o))
-aborting_hears g a (TheTaskAbort t) o h = step_keeps FreeAbort g.script.retries (task_abort_after g.script) t o h (abort_after g.script t.operation h)
-aborting_hears g a _ o h = absurd h
-
-writing_hears : (g : Setting) (a : Who) (op : Operation) (o : Outcome) → IsWriting (Some op) → IsWriting (Some (tells g a op o))
-writing_hears g a (TheWrite t) o h = step_keeps FreeWrite g.script.retries (write_after g.script g.minimum) t o h (free_after g.script g.minimum t.operation h)
-writing_hears g a _ o h = absurd h
+held_hears : (g : Setting) (a : Who) (k : Op) (op : Operation) (o : Outcome) → Held k (Some op) → Held k (Some (tells g a op o))
+held_hears g a Write (TheWrite t) o h = step_keeps FreeWrite g.script.retries (write_after g.script g.minimum) t o h (free_after g.script g.minimum t.operation h)
+held_hears g a Commit (TheTaskCommit t) o h = commit_goes g.script a g.minimum g.script.retries t o h
+held_hears g a Abort (TheTaskAbort t) o h = step_keeps FreeAbort g.script.retries (task_abort_after g.script) t o h (abort_after g.script t.operation h)
+held_hears g a _ _ o h = absurd h
 
 task_hears : (g : Setting) (a : Who) (op : Operation) (o : Outcome) → IsTask (Some op) → IsTask (Some (tells g a op o))
-task_hears g a (TheWrite t) o h = tt
-task_hears g a (TheTaskCommit t) o h = tt
-task_hears g a (TheTaskAbort t) o h = tt
-task_hears g a _ o h = absurd h
+task_hears g a (TheCheck t) o h = absurd h
+task_hears g a _ o h = h
 
 pub attempt_hears : (g : Setting) (a : Who) (s : ActorStage) (op : Operation) (o : Outcome) → AttemptAt s Busy (Some op) → AttemptAt s Busy (Some (tells g a op o))
-attempt_hears g a stage.New op o h = aborting_hears g a op o h
-attempt_hears g a stage.Writing op o h = writing_hears g a op o h
-attempt_hears g a stage.Written op o h = aborting_hears g a op o h
+attempt_hears g a stage.New op o h = held_hears g a Abort op o h
+attempt_hears g a stage.Writing op o h = held_hears g a Write op o h
+attempt_hears g a stage.Written op o h = held_hears g a Abort op o h
+attempt_hears g a stage.Committing op o h = held_hears g a Commit op o h
 attempt_hears g a _ op o h = task_hears g a op o h
+
+-- a busy attempt at the stage of its commit is at that
+pub at_commit : (s : ActorStage) (op : Operation) → is_committing s ≡ true → AttemptAt s Busy (Some op) → Held Commit (Some op)
+at_commit stage.Committing op c h = h
+at_commit _ op c h = absurd (false_true refl c)

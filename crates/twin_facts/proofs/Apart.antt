@@ -1,7 +1,7 @@
 -- What names only one job's own is a stranger's to the other.
 use Rattle.std.proofs.Common.{◌≡◌, ℕ, inl, inr, not, Bool, true, false, List, ◌∷◌, ◌++◌, Some, refl, sym, ap, ◌∙◌, append_assoc, codes}
-use Rattle.job_spec.proofs.Common.{append_cancel_left, begins_back, false_true, none_some}
-use Rattle.job_facts.specs.Prelude.{is_job_id, begins, Request, PutObject, DeleteObject, DeleteObjects, CopyObject, UploadPart, CompleteUpload, AbortUpload, ClusterPut, ClusterRename, ClusterDelete, magic_prefix, cluster_prefix, Who, Script, Drawn, IsLegal, IsIn, changed_keys, changed_upload, changed_paths, IsKnown, IsForeign}
+use Rattle.job_spec.proofs.Common.{append_cancel_left, begins_back, false_true}
+use Rattle.job_facts.specs.Prelude.{is_job_id, begins, Request, CopyObject, UploadPart, ClusterPut, magic_prefix, cluster_prefix, Who, Script, Drawn, IsLegal, IsIn, changed_keys, changed_upload, changed_paths, IsKnown, IsForeign}
 use Rattle.job_protocol.specs.Prelude.{Path}
 use Rattle.magic_paths.proofs.Elements.{id_others}
 use Rattle.magic_paths.proofs.Tails.{cut_once}
@@ -38,41 +38,33 @@ one_cluster i o p a b h g =
 
 -- ---- strangers
 
-not_both : {b : Bool} → (b ≡ true → ⊥) → b ≡ false
-not_both {b = true} h = absurd (h refl)
-not_both {b = false} h = refl
+pub not_true : {b : Bool} → (b ≡ true → ⊥) → b ≡ false
+not_true {b = true} h = absurd (h refl)
+not_true {b = false} h = refl
 
 pub twin_stranger : (w v : Script) → IsLegal w → IsLegal v → AreTwins w v → (drawn : Who → List Drawn) (drew : Ids) → ((id : ℕ) → IsKnown drawn id → drew id ≡ false) → (r : Request) → NamesOwn w drawn r → IsStranger v drew r
 twin_stranger w v j i twins drawn drew apart r own = record {
   keys = λ b k x. elim (own.keys k x) [
     | inl free ↦ no_magic v k (sym (ap (λ (d : Path). not (begins ((d.key ++ codes "/") ++ codes "__magic/") k)) twins.dest) ∙ free)
-    | inr mine ↦ not_both (λ h. twins.jobs (one_magic v.dest.key w.job v.job k j.job i.job (sym (ap (λ (d : Path). begins (magic_prefix d.key w.job) k) twins.dest) ∙ mine) h))
+    | inr mine ↦ not_true (λ h. twins.jobs (one_magic v.dest.key w.job v.job k j.job i.job (sym (ap (λ (d : Path). begins (magic_prefix d.key w.job) k) twins.dest) ∙ mine) h))
   ];
   uploads = λ b id e. apart id (own.uploads id e);
-  paths = λ p x. not_both (λ h. twins.jobs (one_cluster w.job v.job p j.job i.job (own.paths p x) h));
+  paths = λ p x. not_true (λ h. twins.jobs (one_cluster w.job v.job p j.job i.job (own.paths p x) h));
 }
 
 -- ---- what a request changes it names
 
 changes_named : (r : Request) (k : List ℕ) → IsIn k (changed_keys r) → IsIn k (named_keys r)
-changes_named (PutObject n q bytes header) k i = i
-changes_named (DeleteObject n q) k i = i
-changes_named (DeleteObjects n qs) k i = i
-changes_named (CompleteUpload n q id parts) k i = i
 changes_named (CopyObject n source target) k i = inr i
-changes_named _ k i = absurd i
+changes_named _ k i = search
 
 upload_named : (r : Request) (id : ℕ) → changed_upload r ≡ Some id → named_upload r ≡ Some id
 upload_named (UploadPart n q u number bytes) id e = e
-upload_named (CompleteUpload n q u parts) id e = e
-upload_named (AbortUpload n q u) id e = e
-upload_named _ id e = absurd (none_some refl e)
+upload_named _ id e = cc
 
 paths_named : (r : Request) (p : List ℕ) → IsIn p (changed_paths r) → IsIn p (named_paths r)
 paths_named (ClusterPut path bytes) p i = i
-paths_named (ClusterRename source target) p i = i
-paths_named (ClusterDelete path) p i = i
-paths_named _ p i = absurd i
+paths_named _ p i = search
 
 pub stranger_foreign : (v : Script) (drawn : Who → List Drawn) (drew : Ids) → ((id : ℕ) → IsKnown drawn id → drew id ≡ true) → (r : Request) → IsStranger v drew r → IsForeign v drawn r
 stranger_foreign v drawn drew known r h = record {

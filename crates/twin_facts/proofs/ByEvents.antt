@@ -1,6 +1,6 @@
 -- What is seen and told of each side by events, and so what readers are shown at each moment.
-use Rattle.std.proofs.Common.{◌≡◌, ℕ, ◌≤◌, List, map, take, length, sym, ap, subst, ◌∙◌}
-use Rattle.job_facts.specs.Prelude.{HasBucket, Content, Setting, Seen, Told, see_all, nothing_seen, nothing_told, tell_all, Times}
+use Rattle.std.proofs.Common.{ℕ, ◌≤◌, List, take, length, ap, subst, ◌∙◌}
+use Rattle.job_facts.specs.Prelude.{HasBucket, Content, Setting, Seen, nothing_told, tell_all, Times}
 use Rattle.job_traces.specs.Runs.{Stand}
 use Rattle.job_traces.proofs.EveryRun.{cleans_is}
 use Rattle.job_traces.proofs.Entries.{sees, tells_so}

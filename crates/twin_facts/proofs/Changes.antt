@@ -1,30 +1,34 @@
 -- What one request changes of what stands where files are shown.
-use Rattle.std.proofs.Common.{◌≡◌, ℕ, inl, inr, true, List, [], ◌∷◌, length, Option, Some, refl, sym, ap, subst, ◌∙◌}
-use Rattle.job_facts.specs.Prelude.{Scene, apply, effect, only_reads, Object, Request, Committer, Magic, Directory, Partitioned, Outcome, Answered, Slow, RequestLost, ReplyLost, below, Pending, IsLegal, Who, Script, nth, completion, abort, deletion, Tabled, Picks, files, wanted_at, is_decided, is_file_path, all_commits, picks_of, Commit, Fetching, Replacing, Completing, Marking, Reverting, CommitOver, set_request, commit_asks, replaced, Setting, Operation, asks, Seen, IsIn, changed_keys, Told, known, at_key, IsAttempt, Hold, Fits, FitsJobCommit, SweepsUnder, IsCommit, Decides, Commits}
+use Rattle.std.proofs.Common.{◌≡◌, ℕ, inl, inr, true, List, [], length, Option, Some, refl, sym, ap, subst, ◌∙◌}
+use Rattle.job_facts.specs.Prelude.{Scene, apply, effect, only_reads, Object, Request, Committer, Magic, Outcome, below, Pending, IsLegal, Who, Script, nth, completion, abort, deletion, Picks, files, wanted_at, is_decided, is_file_path, all_commits, picks_of, Commit, Fetching, Replacing, Completing, Marking, Reverting, CommitOver, set_request, commit_asks, replaced, Setting, Operation, asks, Seen, IsIn, changed_keys, Told, known, at_key, IsAttempt, Hold, Fits, SweepsUnder, IsCommit, Commits, Gone}
 use Rattle.job_spec.proofs.Common.{some_is, same_or_other, true_or_false}
-use Rattle.store_frame.proofs.Reading.{reads_nothing}
 use Rattle.job_facts.proofs.Placed.{one_key}
-use Rattle.job_facts.proofs.Shows.{HidesAll, shown_key}
+use Rattle.job_facts.proofs.Shows.{shown_key}
 use Rattle.job_facts.proofs.SettingUp.{setup_alone, no_success}
 use Rattle.job_facts.proofs.Owning.{operation_own}
-use Rattle.job_facts.proofs.Aborting.{taken_in}
 use Rattle.job_facts.proofs.Held.{nth_of, of_sets, task_low}
 use Rattle.job_facts.proofs.Effects.{completes_file, completes_nothing, other_key, abort_keys, deletion_key, deletion_other}
 use Rattle.job_facts.proofs.FilingLaws.{stranger_same}
-use Rattle.job_facts.proofs.Agreeing.{AgreeBelow, Agrees, picks_apart, decided_so, prefix_unkept}
+use Rattle.job_facts.proofs.Agreeing.{Agrees, picks_apart, decided_so, prefix_unkept}
 use Rattle.job_facts.proofs.Wanted.{wanted_here}
 use Rattle.job_facts.proofs.Whose.{attempt}
 use Rattle.job_traces.proofs.Replacing.{keeps_same, taken_after}
 use Rattle.job_traces.proofs.Steps.{hidden_same}
-use Rattle.job_protocol.specs.Sparing.{Sparing, Walking, Naming, Aborting, SparingOver, record_request, sparing_asks}
-use Rattle.job_protocol.specs.Sparing as sparing
-use Rattle.job_protocol.specs.Rechecks.{Check, Looking, Probing, CheckOver, check_asks}
+use Rattle.job_protocol.specs.Sparing.{Sparing, sparing_asks}
+use Rattle.job_protocol.specs.Rechecks.{Check, check_asks}
 use Rattle.job_facts.specs.Spares.{FitsSparing}
 use Rattle.job_facts.proofs.Sharing.{reads_leave, check_reads, sparing_hides}
 use Rattle.twin_facts.specs.Requests.{SetsUpBy}
+use Rattle.twin_facts.proofs.OneSide.{effect_so}
 use Rattle.twin_facts.specs.Shown.{Changed, OfWanted, IsPickedSo}
 
-module _ (g : Setting) (j : IsLegal g.script) (s : Seen) (m : Told) (c : Commit) (h : Commits g.script g.minimum s m c) (a : Agrees g.script s.picks c) (q : List ℕ) (path : is_file_path q ≡ true) where
+-- what is below a prefix that is emptied
+abbrev pub Under : Script → Commit → Type 0
+Under w (Replacing sets p ps x n) = IsIn p (replaced w.committer w.mode w (picks_of sets)) × SweepsUnder p x
+Under w _ = Unit {0}
+
+module _ (g : Setting) (j : IsLegal g.script) (s : Seen) (m : Told) (hold : Hold g.script g.minimum s m) (gone : Gone g.script s.scene.content m) (q : List ℕ)
+    (path : is_file_path q ≡ true) where
   abbrev w : Script
   w = g.script
 
@@ -42,18 +46,14 @@ module _ (g : Setting) (j : IsLegal g.script) (s : Seen) (m : Told) (c : Commit)
 
   -- by what it changes where it takes effect
   by_effect : (r : Request) → Changed w s.picks q now (at_key w (apply s.scene r).content key) → (o : Outcome) → So r o
-  by_effect r h (Answered y) = h
-  by_effect r h Slow = inl refl
-  by_effect r h RequestLost = inl refl
-  by_effect r h ReplyLost = h
+  by_effect r h o = effect_so (λ (t : Scene). Changed w s.picks q now (at_key w t.content key)) s.scene r o (inl refl) h
 
   reads_so : (r : Request) → only_reads r ≡ true → (o : Outcome) → So r o
   reads_so r reads o = inl (ap (λ (x : Scene). at_key w x.content key) (reads_leave s.scene r reads o))
 
   set_reads : (x : Committer) (t : ℕ) → only_reads (set_request x w t) ≡ true
   set_reads Magic t = refl
-  set_reads Directory t = refl
-  set_reads Partitioned t = refl
+  set_reads _ t = refl
 
   same_path : (p b : List ℕ) → key ≡ below w.dest.key p → wanted_at w s.picks p ≡ Some b → wanted_at w s.picks q ≡ Some b
   same_path p b e wants = ap (wanted_at w s.picks) (one_key j (q, []) (p, []) e) ∙ wants
@@ -61,81 +61,61 @@ module _ (g : Setting) (j : IsLegal g.script) (s : Seen) (m : Told) (c : Commit)
   module _ (p : Pending) (x : IsCommit w g.minimum m.publish_sent m.drawn p) (decided : is_decided w s.picks ≡ true) (at : key ≡ p.destination → wanted_at w s.picks q ≡ Some x.file.1) where
     completion_so : (o : Outcome) → So (completion p) o
     completion_so = by_effect (completion p) (elim (same_or_other key p.destination) [
-      | inr ne ↦ inl (other_key j h.hold h.gone p x key ne)
+      | inr ne ↦ inl (other_key j hold gone p x key ne)
       | inl is ↦ elim (true_or_false (m.ended p.upload)) [
-        | inl ended ↦ inl (completes_nothing j h.hold h.gone p x ended key)
-        | inr open_one ↦ inr (decided, inl (x.file.1, at is, inl (ap (at_key w (apply s.scene (completion p)).content) is ∙ completes_file j h.hold h.gone p x open_one)))
+        | inl ended ↦ inl (completes_nothing j hold gone p x ended key)
+        | inr open_one ↦ inr (decided, inl (x.file.1, at is, inl (ap (at_key w (apply s.scene (completion p)).content) is ∙ completes_file j hold gone p x open_one)))
       ]
     ])
 
   abort_so : (p : Pending) → IsCommit w g.minimum m.publish_sent m.drawn p → (o : Outcome) → So (abort p) o
-  abort_so p x = by_effect (abort p) (inl (abort_keys j h.hold h.gone p x key))
+  abort_so p x = by_effect (abort p) (inl (abort_keys j hold gone p x key))
 
   deletion_so : (p : Pending) (x : IsCommit w g.minimum m.publish_sent m.drawn p) → is_decided w s.picks ≡ true → OfWanted w s.picks (deletion p) → (o : Outcome) → So (deletion p) o
   deletion_so p x decided of_wanted = by_effect (deletion p) (elim (same_or_other key p.destination) [
-    | inr ne ↦ inl (deletion_other j h.hold h.gone p x key ne)
+    | inr ne ↦ inl (deletion_other j hold gone p x key ne)
     | inl is ↦
         let u = of_wanted p.destination (inl refl) in
-        inr (decided, inl (u.1, same_path u.0 u.1 (is ∙ u.2) u.3, inr (ap (at_key w (apply s.scene (deletion p)).content) is ∙ deletion_key j h.hold h.gone p x)))
+        inr (decided, inl (u.1, same_path u.0 u.1 (is ∙ u.2) u.3, inr (ap (at_key w (apply s.scene (deletion p)).content) is ∙ deletion_key j hold gone p x)))
   ])
 
-  -- what is below a prefix that is emptied
-  abbrev pub Under : Commit → Type 0
-  Under (Replacing sets p ps x n) = IsIn p (replaced w.committer w.mode w (picks_of sets)) × SweepsUnder p x
-  Under _ = Unit {0}
-
-  changes_by : (d : Commit) → d ≡ c → Under d → (r : Request) → commit_asks w d ≡ Some r → (o : Outcome) → So r o
-  changes_by (Fetching sets n) v under r e o = subst (λ y. So y o) (some_is e) (reads_so (set_request w.committer w (length sets)) (set_reads w.committer (length sets)) o)
-  changes_by (Replacing sets p ps x n) v under r e o =
-      let agree : AgreeBelow w s.picks sets w.tasks = subst (Agrees w s.picks) (sym v) a in
-      let d = subst (Decides w g.minimum m.publish_sent m.drawn) (sym v) h.decides in
-      subst (λ y. So y o) (some_is e) (elim (taken_after g j s.scene.content s.scene h.hold.there p x under.1 o key) [
-        | inl same ↦ inl same
-        | inr gone ↦ inr (decided_so w s.picks sets d agree, inr (gone.0, keeps_same g j s.scene.content s.picks sets agree q ∙ prefix_unkept j (picks_of sets) q p under.0 gone.1))
-      ])
-  changes_by (Completing sets x xs finished) v under r e o =
-      let fits = subst (FitsJobCommit w g.minimum m.publish_sent m.drawn) (sym v) h.fits in
-      let t = subst (Tabled w) (sym v) h.tabled in
-      let agree : AgreeBelow w s.picks sets w.tasks = subst (Agrees w s.picks) (sym v) a in
-      let d = subst (Decides w g.minimum m.publish_sent m.drawn) (sym v) h.decides in
+  pub commit_shows_by : (c : Commit) → Commits w g.minimum s m c → Agrees w s.picks c → Under w c → (r : Request) → commit_asks w c ≡ Some r → (o : Outcome) → So r o
+  commit_shows_by (Fetching sets n) h agree under r e o = subst (λ y. So y o) (some_is e) (reads_so (set_request w.committer w (length sets)) (set_reads w.committer (length sets)) o)
+  commit_shows_by (Replacing sets p ps x n) h agree under r e o = subst (λ y. So y o) (some_is e) (elim (taken_after g j s.scene.content s.scene hold.there p x under.1 o key) [
+    | inl same ↦ inl same
+    | inr gone ↦ inr (decided_so w s.picks sets h.decides agree, inr (gone.0, keeps_same g j s.scene.content s.picks sets agree q ∙ prefix_unkept j (picks_of sets) q p under.0 gone.1))
+  ])
+  commit_shows_by (Completing sets x xs finished) h agree under r e o =
       let p = nth (all_commits sets) x.number in
-      let f = of_sets j h.hold sets fits p (nth_of (all_commits sets) x.number (t.within x (inl refl))) in
+      let f = of_sets j hold sets h.fits p (nth_of (all_commits sets) x.number (h.tabled.within x (inl refl))) in
       let y = f.1.commit in
-      let low = task_low j h.hold (picks_of sets) f.0 p f.1 in
+      let low = task_low j hold (picks_of sets) f.0 p f.1 in
       let who : y.by ≡ attempt f.0 y.by.attempt = ap (λ n. attempt n y.by.attempt) f.1.task in
-      let wants : wanted_at w s.picks y.file.0 ≡ Some y.file.1 = wanted_here w s.picks j (picks_apart w s.picks sets d agree) f.0 y.by.attempt low (agree f.0 low ∙ f.1.picked) y.file (subst (λ v. IsIn y.file (files w v)) who y.mine) in
-      subst (λ y. So y o) (some_is e) (completion_so p y (decided_so w s.picks sets d agree) (λ is. same_path y.file.0 y.file.1 (is ∙ ap (λ (v : Pending). v.destination) y.is) wants) o)
-  changes_by (Marking sets n) v under r e o =
-      inl (stranger_same w s.scene h.hold.there r o key (λ b i. elim (subst (λ y. IsIn key (changed_keys y)) (sym (some_is e)) i) [ inl same ↦ no_success j q path same | inr none ↦ absurd none ]))
-  changes_by (Reverting z zs n) v under r e o =
-      let d = subst (Decides w g.minimum m.publish_sent m.drawn) (sym v) h.decides in
-      let agree = subst (Agrees w s.picks) (sym v) a in
-      let y = d z (inl refl) in
+      let wants : wanted_at w s.picks y.file.0 ≡ Some y.file.1 = wanted_here w s.picks j (picks_apart w s.picks sets h.decides agree) f.0 y.by.attempt low
+      (agree f.0 low ∙ f.1.picked) y.file (subst (λ v. IsIn y.file (files w v)) who y.mine) in
+      subst (λ y. So y o) (some_is e)
+      (completion_so p y (decided_so w s.picks sets h.decides agree) (λ is. same_path y.file.0 y.file.1 (is ∙ ap (λ (v : Pending). v.destination) y.is) wants) o)
+  commit_shows_by (Marking sets n) h agree under r e o =
+      inl (stranger_same w s.scene hold.there r o key (λ b i. elim (subst (λ y. IsIn key (changed_keys y)) (sym (some_is e)) i) [ inl same ↦ no_success j q path same | inr none ↦ absurd none ]))
+  commit_shows_by (Reverting z zs n) h agree under r e o =
+      let y = h.decides z (inl refl) in
       subst (λ k. So k o) (some_is e) (elim y.2 [
         | inl is ↦ subst (λ k. So k o) (sym is) (abort_so y.0 y.1 o)
         | inr is ↦ subst (λ k. So k o) (sym is) (deletion_so y.0 y.1 agree.0 (subst (OfWanted w s.picks) is (agree.1 z (inl refl))) o)
       ])
-  changes_by (CommitOver end) v under r e o = absurd cc
-
-pub commit_shows_by : (g : Setting) → (j : IsLegal g.script) → (s : Seen) (m : Told) (c : Commit) → (h : Commits g.script g.minimum s m c) → (a : Agrees g.script s.picks c) → (q : List ℕ) → (path : is_file_path q ≡ true) → Under g j s m c h a q path c → (r : Request) → commit_asks g.script c ≡ Some r → (o : Outcome)
-    → Changed g.script s.picks q (at_key g.script s.scene.content (below g.script.dest.key q)) (at_key g.script (effect s.scene r o).content (below g.script.dest.key q))
-commit_shows_by g j s m c h a q path under r e o = changes_by g j s m c h a q path c refl under r e o
+  commit_shows_by (CommitOver end) h agree under r e o = absurd cc
 
 -- ---- as a law
 
 agrees_so : (w : Script) (picks : Picks) (c : Commit) → IsPickedSo w picks c → Agrees w picks c
-agrees_so w picks (Fetching sets n) a = a
 agrees_so w picks (Replacing sets p ps x n) a = a.0
-agrees_so w picks (Completing sets x xs finished) a = a
-agrees_so w picks (Marking sets n) a = a
-agrees_so w picks (Reverting r rs n) a = a
-agrees_so w picks (CommitOver end) a = a
+agrees_so w picks _ a = a
 
 pub commit_shows : (g : Setting) → IsLegal g.script → (s : Seen) (m : Told) (c : Commit) → Commits g.script g.minimum s m c → IsPickedSo g.script s.picks c → (r : Request) → commit_asks g.script c ≡ Some r → (o : Outcome) (q : List ℕ) → is_file_path q ≡ true
     → Changed g.script s.picks q (at_key g.script s.scene.content (below g.script.dest.key q)) (at_key g.script (effect s.scene r o).content (below g.script.dest.key q))
-commit_shows g j s m c h a r e o q path = commit_shows_by g j s m c h (agrees_so g.script s.picks c a) q path (under c a) r e o
+commit_shows g j s m c h a r e o q path = commit_shows_by g j s m h.hold h.gone q path c h (agrees_so g.script s.picks c a) (under c a) r e o
   where
-    under : (d : Commit) → IsPickedSo g.script s.picks d → Under g j s m c h (agrees_so g.script s.picks c a) q path d
+    under : (d : Commit) → IsPickedSo g.script s.picks d → Under g.script d
     under (Replacing sets p ps x n) a = (a.1, a.2)
     under _ a = tt
 

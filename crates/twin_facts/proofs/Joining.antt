@@ -1,13 +1,14 @@
 -- Two runs over one journal, each as its side reads it, are a run of both.
-use Rattle.std.proofs.Common.{◌≡◌, ℕ, zero, suc, ◌≤◌, Bool, true, false, List, [], ◌∷◌, ◌++◌, map, length, refl, sym, ap, subst, ◌∙◌, arith, length-append, append_assoc, ◌+◌}
+use Rattle.std.proofs.Common.{◌≡◌, ℕ, zero, suc, ◌≤◌, true, List, [], ◌∷◌, ◌++◌, map, length, refl, sym, ap, subst, ◌∙◌, arith, length-append, append_assoc, ◌+◌}
+use Rattle.std.proofs.lemmas.List.{same_from_push}
 use Rattle.job_spec.proofs.Common.{append-nil, map-append, false_true}
-use Rattle.job_facts.specs.Prelude.{Content, Scene, Request, Outcome, Entry, Who, Script, Drawn, Setting, entry, driver_entry, strange_entry, is_own, IsForeign, IsHonestOutcome, answer, Times}
+use Rattle.job_facts.specs.Prelude.{Content, Scene, Request, Outcome, Entry, Setting, entry, driver_entry, strange_entry, is_own, IsForeign, IsHonestOutcome, answer, Times}
 use Rattle.job_traces.specs.Runs.{Stand, first_stand, saw, Beginning, MayBegin, begin, Runs, run_begins, actor_begins, driver_sends, attempt_sends, strays}
 use Rattle.twin_facts.specs.Sides as sides
 use Rattle.twin_facts.specs.Sides.{Side, First, Second, TwinEntry, Sends, observed, in_eyes, eyes, TwinRun, twins_begin, first_begins, second_begins, first_sends, second_sends, IsTwinOpening}
 use Rattle.twin_facts.specs.TwinLaws.{MayBeTwins, turned_entry, other_side}
 use Rattle.twin_facts.specs.Joined.{AreActors, AreOf, AreForeign, EyesTurn}
-use Rattle.twin_facts.proofs.TwinRuns.{all_so, opens_first}
+use Rattle.twin_facts.proofs.TwinRuns.{all_so, opens_first, eyes_more}
 use Rattle.twin_facts.proofs.Pairs.{foreign}
 
 -- ---- the last of a list
@@ -21,27 +22,9 @@ last_of : {X : Type 0} (x : X) (l : List X) → Last (x ∷ l)
 last_of x [] = record { front = []; last = x; is = refl }
 last_of x (y ∷ l) = let z = last_of y l in record { front = x ∷ z.front; last = z.last; is = ap (λ m. x ∷ m) z.is }
 
-tails_same : {X : Type 0} {a b : X} {l m : List X} → a ∷ l ≡ b ∷ m → (a ≡ b) × (l ≡ m)
-tails_same e = (cc, cc)
-
-none_some : {X : Type 0} {a : X} {l : List X} → [] ≡ a ∷ l → ⊥
-none_some e = cc
-
--- two lists with one more are the same
-same_parts : {X : Type 0} (l m : List X) (a b : X) → l ++ a ∷ [] ≡ m ++ b ∷ [] → (l ≡ m) × (a ≡ b)
-same_parts [] [] a b e = (refl, (tails_same e).0)
-same_parts [] (y ∷ []) a b e = absurd (none_some (tails_same e).1)
-same_parts [] (y ∷ z ∷ m) a b e = absurd (none_some (tails_same e).1)
-same_parts (x ∷ []) [] a b e = absurd (none_some (sym (tails_same e).1))
-same_parts (x ∷ z ∷ l) [] a b e = absurd (none_some (sym (tails_same e).1))
-same_parts (x ∷ l) (y ∷ m) a b e =
-    let t = tails_same e in
-    let p = same_parts l m a b t.1 in
-    ((λ i. t.0 i ∷ p.0 i), p.1)
-
 not_none : {X : Type 0} (l : List X) (a : X) → [] ≡ l ++ a ∷ [] → ⊥
-not_none [] a e = none_some e
-not_none (x ∷ l) a e = none_some e
+not_none [] a e = cc
+not_none (x ∷ l) a e = cc
 
 longer : {X : Type 0} (l : List X) (x : X) (m : List X) → l ++ x ∷ m ≡ (l ++ (last_of x m).front) ++ (last_of x m).last ∷ []
 longer l x m = ap (λ t. l ++ t) (last_of x m).is ∙ sym (append_assoc l (last_of x m).front ((last_of x m).last ∷ []))
@@ -70,7 +53,7 @@ module _ (g : Setting) (k : Times) (opening : Content) where
 
   parted_so : {fs ls : List Entry} {a e : Entry} {y z : Stand} → Runs g k opening fs y → Sends g k y a z → fs ++ a ∷ [] ≡ ls ++ e ∷ [] → Parted ls e z
   parted_so {fs = fs} {ls = ls} {a = a} {e = e} {y = y} {z = z} run sends is =
-      let p = same_parts fs ls a e is in
+      let p = same_from_push fs ls a e is in
       record { before = y; run = subst (λ l. Runs g k opening l y) p.0 run; after = z; sends = subst (λ v. Sends g k y v z) p.1 sends; begins = none_begins }
 
   parted : (es : List Entry) (x : Stand) → Runs g k opening es x → (fs : List Entry) (e : Entry) → es ≡ fs ++ e ∷ [] → is_own e.actor ≡ true → Parted fs e x
@@ -78,15 +61,12 @@ module _ (g : Setting) (k : Times) (opening : Content) where
   parted es x (actor_begins ls y b run may) fs e is own = let p = parted ls y run fs e is own in record { before = p.before; run = p.run; after = p.after; sends = p.sends; begins = one_begins y b p.begins may }
   parted es x (driver_sends ls y op n r o run d asked timely few honest) fs e is own = parted_so run (sides.driver_sends y op n r o d asked timely few honest) is
   parted es x (attempt_sends ls y a op n r o run set at asked honest) fs e is own = parted_so run (sides.attempt_sends y a op n r o set at asked honest) is
-  parted es x (strays ls y n r o run f) fs e is own = absurd (false_true refl (ap (λ (v : Entry). is_own v.actor) (same_parts ls fs (strange_entry n r o) e is).1 ∙ own))
+  parted es x (strays ls y n r o run f) fs e is own = absurd (false_true refl (ap (λ (v : Entry). is_own v.actor) (same_from_push ls fs (strange_entry n r o) e is).1 ∙ own))
 
   record Strayed (fs : List Entry) (n : ℕ) (r : Request) (o : Outcome) (x : Stand) : Type 0 where
     pub before : Stand
     pub run : Runs g k opening fs before
     pub begins : Begins (saw g k before (strange_entry n r o)) x
-
-  strange_is : {n m : ℕ} {r q : Request} {o p : Outcome} → strange_entry n r o ≡ strange_entry m q p → (n ≡ m) × (r ≡ q) × (o ≡ p)
-  strange_is e = (ap (λ (v : Entry). v.event) e, ap (λ (v : Entry). v.request) e, ap (λ (v : Entry). v.outcome) e)
 
   not_strange : {n : ℕ} {r : Request} {o : Outcome} (e : Entry) → is_own e.actor ≡ true → e ≡ strange_entry n r o → ⊥
   not_strange e own is = false_true refl (sym (ap (λ (v : Entry). is_own v.actor) is) ∙ own)
@@ -94,10 +74,12 @@ module _ (g : Setting) (k : Times) (opening : Content) where
   strayed : (es : List Entry) (x : Stand) → Runs g k opening es x → (fs : List Entry) (n : ℕ) (r : Request) (o : Outcome) → es ≡ fs ++ strange_entry n r o ∷ [] → Strayed fs n r o x
   strayed es x run_begins fs n r o is = absurd (not_none fs (strange_entry n r o) is)
   strayed es x (actor_begins ls y b run may) fs n r o is = let p = strayed ls y run fs n r o is in record { before = p.before; run = p.run; begins = one_begins y b p.begins may }
-  strayed es x (driver_sends ls y op m q p run d asked timely few honest) fs n r o is = absurd (not_strange (driver_entry m q p) refl (same_parts ls fs (driver_entry m q p) (strange_entry n r o) is).1)
-  strayed es x (attempt_sends ls y a op m q p run set at asked honest) fs n r o is = absurd (not_strange (entry a m q p) refl (same_parts ls fs (entry a m q p) (strange_entry n r o) is).1)
+  strayed es x (driver_sends ls y op m q p run d asked timely few honest) fs n r o is =
+      absurd (not_strange (driver_entry m q p) refl (same_from_push ls fs (driver_entry m q p) (strange_entry n r o) is).1)
+  strayed es x (attempt_sends ls y a op m q p run set at asked honest) fs n r o is =
+      absurd (not_strange (entry a m q p) refl (same_from_push ls fs (entry a m q p) (strange_entry n r o) is).1)
   strayed es x (strays ls y m q p run f) fs n r o is =
-      let parts = same_parts ls fs (strange_entry m q p) (strange_entry n r o) is in
+      let parts = same_from_push ls fs (strange_entry m q p) (strange_entry n r o) is in
       record { before = y; run = subst (λ l. Runs g k opening l y) parts.0 run; begins = subst (λ (e : Entry). Begins (saw g k y e) (saw g k y (strange_entry m q p))) parts.1 none_begins }
 
   -- a front of what was sent is of a run
@@ -105,9 +87,12 @@ module _ (g : Setting) (k : Times) (opening : Content) where
   front_runs es x run fs [] is = (x, subst (λ l. Runs g k opening l x) (is ∙ append-nil fs) run)
   front_runs es x run_begins fs (e ∷ gs) is = absurd (not_none (fs ++ (last_of e gs).front) (last_of e gs).last (is ∙ longer fs e gs))
   front_runs es x (actor_begins ls y b run may) fs (e ∷ gs) is = front_runs ls y run fs (e ∷ gs) is
-  front_runs es x (driver_sends ls y op n r o run d asked timely few honest) fs (e ∷ gs) is = front_runs ls y run fs (last_of e gs).front (same_parts ls (fs ++ (last_of e gs).front) (driver_entry n r o) (last_of e gs).last (is ∙ longer fs e gs)).0
-  front_runs es x (attempt_sends ls y a op n r o run set at asked honest) fs (e ∷ gs) is = front_runs ls y run fs (last_of e gs).front (same_parts ls (fs ++ (last_of e gs).front) (entry a n r o) (last_of e gs).last (is ∙ longer fs e gs)).0
-  front_runs es x (strays ls y n r o run f) fs (e ∷ gs) is = front_runs ls y run fs (last_of e gs).front (same_parts ls (fs ++ (last_of e gs).front) (strange_entry n r o) (last_of e gs).last (is ∙ longer fs e gs)).0
+  front_runs es x (driver_sends ls y op n r o run d asked timely few honest) fs (e ∷ gs) is =
+      front_runs ls y run fs (last_of e gs).front (same_from_push ls (fs ++ (last_of e gs).front) (driver_entry n r o) (last_of e gs).last (is ∙ longer fs e gs)).0
+  front_runs es x (attempt_sends ls y a op n r o run set at asked honest) fs (e ∷ gs) is =
+      front_runs ls y run fs (last_of e gs).front (same_from_push ls (fs ++ (last_of e gs).front) (entry a n r o) (last_of e gs).last (is ∙ longer fs e gs)).0
+  front_runs es x (strays ls y n r o run f) fs (e ∷ gs) is =
+      front_runs ls y run fs (last_of e gs).front (same_from_push ls (fs ++ (last_of e gs).front) (strange_entry n r o) (last_of e gs).last (is ∙ longer fs e gs)).0
 
 -- ---- both
 
@@ -123,20 +108,17 @@ module _ (g h : Setting) (k l : Times) (opening : Content) where
   abbrev twin : Side → Entry → ℕ → TwinEntry
   twin side e n = record { side = side; entry = e; theirs = n }
 
-  eyes_last : (side : Side) (es : List TwinEntry) (t : TwinEntry) → eyes side (es ++ t ∷ []) ≡ eyes side es ++ in_eyes side t ∷ []
-  eyes_last side es t = map-append (in_eyes side) es (t ∷ [])
-
   abbrev Joins : List TwinEntry → Type 0
   Joins es = (x y : Stand) → Runs g k opening (eyes First es) x → Runs h l opening (eyes Second es) y → TwinRun g h k l opening es x y
 
   one_more : (es : List TwinEntry) → Joins es → (side : Side) (e : Entry) (n : ℕ) → is_own e.actor ≡ true → Joins (es ++ twin side e n ∷ [])
   one_more es before First e n own x y first second =
-      let p = parted g k opening _ x first (eyes First es) e (eyes_last First es (twin First e n)) own in
-      let q = strayed h l opening _ y second (eyes Second es) n e.request e.outcome (eyes_last Second es (twin First e n)) in
+      let p = parted g k opening _ x first (eyes First es) e (eyes_more First es (twin First e n)) own in
+      let q = strayed h l opening _ y second (eyes Second es) n e.request e.outcome (eyes_more Second es (twin First e n)) in
       with_first x p.begins (with_second y q.begins (first_sends es p.before q.before p.after e n (before p.before q.before p.run q.run) p.sends))
   one_more es before Second e n own x y first second =
-      let p = strayed g k opening _ x first (eyes First es) n e.request e.outcome (eyes_last First es (twin Second e n)) in
-      let q = parted h l opening _ y second (eyes Second es) e (eyes_last Second es (twin Second e n)) own in
+      let p = strayed g k opening _ x first (eyes First es) n e.request e.outcome (eyes_more First es (twin Second e n)) in
+      let q = parted h l opening _ y second (eyes Second es) e (eyes_more Second es (twin Second e n)) own in
       with_first x p.begins (with_second y q.begins (second_sends es p.before q.before q.after e n (before p.before q.before p.run q.run) q.sends))
 
   front_actors : (es : List TwinEntry) (t : TwinEntry) → AreActors (es ++ t ∷ []) → AreActors es × (is_own t.entry.actor ≡ true)
@@ -158,20 +140,17 @@ module _ (g h : Setting) (k l : Times) (opening : Content) where
 -- ---- what the first sends is foreign to the second
 
 module _ (g h : Setting) (m : MayBeTwins g.script h.script) (k l : Times) (opening : Content) (is : IsTwinOpening g h opening) where
-  first_is : (t : TwinEntry) → t.side ≡ First → t ≡ record { side = First; entry = t.entry; theirs = t.theirs }
-  first_is t e = λ i. record { side = e i; entry = t.entry; theirs = t.theirs }
-
   pub foreign_on : (es part : List TwinEntry) → AreActors (es ++ part) → AreOf First part → (x y : Stand) → Runs g k opening (eyes First (es ++ part)) x → Runs h l opening (eyes Second es) y → AreForeign h.script y.told.drawn y.seen.scene part
   foreign_on es [] own first x y a b = tt
   foreign_on es (t ∷ part) own first x y a b =
       let e = t.entry in
       let n = t.theirs in
       let one : TwinEntry = record { side = First; entry = e; theirs = n } in
-      let same : t ≡ one = first_is t first.0 in
+      let same : t ≡ one = λ i. record { side = first.0 i; entry = e; theirs = n } in
       let longer_is : es ++ t ∷ part ≡ (es ++ one ∷ []) ++ part = ap (λ v. es ++ v ∷ part) same ∙ sym (append_assoc es (one ∷ []) part) in
       let all : AreActors ((es ++ one ∷ []) ++ part) = subst AreActors longer_is own in
       let runs : Runs g k opening (eyes First ((es ++ one ∷ []) ++ part)) x = subst (λ q. Runs g k opening (eyes First q) x) longer_is a in
-      let front = front_runs g k opening _ x runs (eyes First es ++ e ∷ []) (eyes First part) (map-append (in_eyes First) (es ++ one ∷ []) part ∙ ap (λ q. q ++ eyes First part) (eyes_last g h k l opening First es one)) in
+      let front = front_runs g k opening _ x runs (eyes First es ++ e ∷ []) (eyes First part) (map-append (in_eyes First) (es ++ one ∷ []) part ∙ ap (λ q. q ++ eyes First part) (eyes_more First es one)) in
       let own_here = front_actors g h k l opening es one (fronts (es ++ one ∷ []) part all) in
       let p = parted g k opening _ front.0 front.1 (eyes First es) e refl own_here.1 in
       let pair = (all_so g h m k l opening is es p.before y (joined g h k l opening es own_here.0 p.before y p.run b)).pair in
@@ -179,7 +158,7 @@ module _ (g h : Setting) (m : MayBeTwins g.script h.script) (k l : Times) (openi
       let next : Stand = saw h l y (strange_entry n e.request e.outcome) in (
         f,
         honest_of y.seen.scene p.sends pair.scenes,
-        foreign_on (es ++ one ∷ []) part all first.1 x next runs (subst (λ q. Runs h l opening q next) (sym (eyes_last g h k l opening Second es one)) (strays (eyes Second es) y n e.request e.outcome b f)),
+        foreign_on (es ++ one ∷ []) part all first.1 x next runs (subst (λ q. Runs h l opening q next) (sym (eyes_more Second es one)) (strays (eyes Second es) y n e.request e.outcome b f)),
       )
     where
       fronts : (us vs : List TwinEntry) → AreActors (us ++ vs) → AreActors us

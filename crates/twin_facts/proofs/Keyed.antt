@@ -1,6 +1,6 @@
 -- An upload that an attempt knows has its key as long as it lives.
 use Rattle.std.proofs.Common.{◌≡◌, ℕ, ◌<◌, ◌⊎◌, inl, inr, List, [], ◌∷◌, Some, refl, sym, ap, subst, ◌∙◌, arith}
-use Rattle.job_facts.specs.Prelude.{Content, Scene, Upload, answer, apply, effect, IsHonestOutcome, Request, CreateUpload, UploadRef, Outcome, Entry, Who, File, Script, Drawn, Known, IsLegal, Uploading, Creating, Sending, upload_asks, Listing, Deleting, Write, WriteOver, write_asks, TaskCommit, TaskCommitOver, task_commit_asks, TaskAbort, TaskAbortOver, task_abort_asks, Walking, Setting, Operation, TheWrite, TheTaskCommit, TheTaskAbort, asks, IsIn, HasBucket, Told, known, tell_attempt, at_id, Fits, Times}
+use Rattle.job_facts.specs.Prelude.{Content, Scene, Upload, answer, apply, effect, IsHonestOutcome, Request, CreateUpload, UploadRef, Outcome, Entry, Who, Script, Drawn, Known, IsLegal, Creating, Listing, Write, write_asks, TaskCommit, task_commit_asks, TaskAbort, task_abort_asks, Walking, Setting, Operation, TheWrite, TheTaskCommit, TheTaskAbort, asks, IsIn, HasBucket, Told, known, tell_attempt, at_id, Fits, Times}
 use Rattle.job_spec.proofs.Common.{some_is}
 use Rattle.s3_types.specs.declared.reply.Reply.TheVariants.{Upload as DrawnUpload}
 use Rattle.job_protocol.specs.Writes as writes
@@ -30,37 +30,25 @@ key_still w s there q r o h = keys_stay w s there (Walking (q ∷ [])) r o (λ u
 -- ---- the bucket of an upload that an attempt begins
 
 module _ (w : Script) where
-  abbrev InBucket : Request → Type 0
-  InBucket r = (n k : List ℕ) → r ≡ CreateUpload n k → n ≡ w.dest.bucket
+  module _ (a : Who) (k : Known) {r : Request} {n q : List ℕ} (c : r ≡ CreateUpload n q) where
+    write_bucket : (t : Write) → write_asks w a k t ≡ Some r → n ≡ w.dest.bucket
+    write_bucket (writes.Uploads f fs Creating) e = cc
+    write_bucket _ e = cc
 
-  create_is : {n k m l : List ℕ} → CreateUpload n k ≡ CreateUpload m l → m ≡ n
-  create_is e = cc
+    commit_bucket : (t : TaskCommit) → task_commit_asks w a k t ≡ Some r → n ≡ w.dest.bucket
+    commit_bucket (tasks.Uploads f fs Creating) e = cc
+    commit_bucket _ e = cc
 
-  upload_bucket : (k : Known) (f : File) (u : Uploading) → InBucket (upload_asks w k f u)
-  upload_bucket k f Creating = λ n q e. create_is e
-  upload_bucket k f (Sending p ps) = λ n q e. absurd cc
+    abort_bucket : (t : TaskAbort) → task_abort_asks w a t ≡ Some r → n ≡ w.dest.bucket
+    abort_bucket (aborts.Sweeping (Listing keys)) e = cc
+    abort_bucket _ e = cc
 
-  operation_bucket : (g : Setting) (is : g.script ≡ w) (minimum : ℕ) (m : Told) (a : Who) (op : Operation) → Fits w minimum a m op → (r : Request) → asks (record { script = w; minimum = g.minimum; shared = g.shared }) a (known m a) op ≡ Some r → InBucket r
-  operation_bucket g is minimum m a (TheWrite t) fits r e = write_bucket t.operation e
-    where
-      write_bucket : (t : Write) → write_asks w a (known m a) t ≡ Some r → InBucket r
-      write_bucket (writes.Uploads f fs u) e = subst InBucket (some_is e) (upload_bucket (known m a) f u)
-      write_bucket (WriteOver end) e = absurd cc
-      write_bucket _ e = subst InBucket (some_is e) (λ n q c. absurd cc)
-  operation_bucket g is minimum m a (TheTaskCommit t) fits r e = commit_bucket t.operation e
-    where
-      commit_bucket : (t : TaskCommit) → task_commit_asks w a (known m a) t ≡ Some r → InBucket r
-      commit_bucket (tasks.Uploads f fs u) e = subst InBucket (some_is e) (upload_bucket (known m a) f u)
-      commit_bucket (TaskCommitOver end) e = absurd cc
-      commit_bucket _ e = subst InBucket (some_is e) (λ n q c. absurd cc)
-  operation_bucket g is minimum m a (TheTaskAbort t) fits r e = abort_bucket t.operation e
-    where
-      abort_bucket : (t : TaskAbort) → task_abort_asks w a t ≡ Some r → InBucket r
-      abort_bucket (aborts.Sweeping (Listing keys)) e = subst InBucket (some_is e) (λ n q c. absurd cc)
-      abort_bucket (aborts.Sweeping (Deleting p ps)) e = subst InBucket (some_is e) (λ n q c. absurd cc)
-      abort_bucket (TaskAbortOver end) e = absurd cc
-      abort_bucket _ e = subst InBucket (some_is e) (λ n q c. absurd cc)
-  operation_bucket g is minimum m a _ fits r e = absurd fits
+  operation_bucket : (g : Setting) (is : g.script ≡ w) (minimum : ℕ) (m : Told) (a : Who) (op : Operation) → Fits w minimum a m op → (r : Request)
+      → asks (record { script = w; minimum = g.minimum; shared = g.shared }) a (known m a) op ≡ Some r → (n k : List ℕ) → r ≡ CreateUpload n k → n ≡ w.dest.bucket
+  operation_bucket g is minimum m a (TheWrite t) fits r e n k c = write_bucket a (known m a) c t.operation e
+  operation_bucket g is minimum m a (TheTaskCommit t) fits r e n k c = commit_bucket a (known m a) c t.operation e
+  operation_bucket g is minimum m a (TheTaskAbort t) fits r e n k c = abort_bucket a (known m a) c t.operation e
+  operation_bucket g is minimum m a _ fits r e n k c = absurd fits
 
 -- ---- it is kept
 

@@ -1,7 +1,7 @@
 -- How far an abort or clean at a shared destination has come with what is to go, while no attempt of its side sends.
 use Rattle.std.proofs.Common.{◌≡◌, ℕ, ◌<◌, ◌⊎◌, inl, inr, Bool, true, cond, List, [], ◌∷◌, ◌++◌, take, drop, Option, Some, None, refl, sym, ap, subst, ◌∙◌}
-use Rattle.job_facts.specs.Prelude.{filter, text_cmp, Scene, Upload, begins, answer, apply, read_answer, effect, IsHonestOutcome, only_reads, Request, GetObject, AbortUpload, DeleteObjects, ClusterList, ClusterDelete, UploadRef, Committer, Magic, Directory, Partitioned, Reply, Outcome, Answered, Slow, RequestLost, ReplyLost, step, magic_prefix, cluster_prefix, is_record, Who, Script, Drawn, Sweep, Listing, Deleting, Walked, More, Whole, page_after, all_go, is_magic, is_staging, IsIn, HasBucket, at_key, at_id, end_left}
-use Rattle.job_spec.proofs.Common.{some_is, none_some, false_true, same_or_other, text_true, text_gone, text_left, in_front, in_back, map_in, filter_in, in_filter}
+use Rattle.job_facts.specs.Prelude.{filter, text_cmp, Scene, begins, answer, apply, read_answer, effect, IsHonestOutcome, only_reads, Request, GetObject, AbortUpload, DeleteObjects, ClusterList, ClusterDelete, UploadRef, Committer, Magic, Reply, Outcome, ReplyLost, step, magic_prefix, cluster_prefix, is_record, Who, Script, Drawn, Sweep, Listing, Deleting, Walked, More, Whole, page_after, all_go, is_magic, is_staging, IsIn, HasBucket, at_key, at_id, end_left}
+use Rattle.job_spec.proofs.Common.{some_is, none_some, none_or_some, false_true, same_or_other, text_true, text_gone, text_left, in_front, in_back, map_in, filter_in, in_filter}
 use Rattle.path_keys.proofs.Common.{text_exact}
 use Rattle.std.specs.FinMap as fin
 use Rattle.s3_types.specs.Answer.{found}
@@ -23,6 +23,7 @@ use Rattle.job_protocol.specs.Sparing.{Sparing, Walking, Naming, Reading, Aborti
 use Rattle.job_protocol.specs.Sparing as sparing
 use Rattle.job_facts.specs.Spares.{AllKnown, FitsSparing}
 use Rattle.twin_facts.specs.Spared.{NamedAt}
+use Rattle.twin_facts.proofs.OneSide.{effect_so}
 use Rattle.twin_facts.proofs.Keyed.{Keyed}
 
 -- an upload is gone
@@ -52,8 +53,8 @@ Leaving w first s (Walking keys) = Same w first s × Empties w s.content (Listin
 Leaving w first s Naming = Same w first s
 Leaving w first s (Reading named p ps all) = Same w first s × Rest w s all × ((q : List ℕ) (u : UploadRef) → Named w first q u → IsIn q (p ∷ ps) ⊎ IsIn u named)
 Leaving w first s (Aborting v vs all) = Rest w s all × ((q : List ℕ) (u : UploadRef) → Named w first q u → IsIn u (v ∷ vs) ⊎ Dead w s u.upload)
-Leaving w first s (sparing.Deleting k ks) = OnlyThese w s.content (k ∷ ks) × AllDead w first s
-Leaving w first s (Removing p ps) = FilesIn w s (p ∷ ps) × AllDead w first s
+Leaving w first s (sparing.Deleting k ks) = (w.committer ≡ Magic) × OnlyThese w s.content (k ∷ ks) × AllDead w first s
+Leaving w first s (Removing p ps) = (is_staging w.committer ≡ true) × FilesIn w s (p ∷ ps) × AllDead w first s
 Leaving w first s (SparingOver end) = end ≡ ends.Done → Rest w s [] × AllDead w first s
 
 -- ---- what leaves the job's own alone leaves it so
@@ -84,28 +85,24 @@ module _ (w : Script) (first s t : Scene) (h : LeftAlone w s t) where
   leaving_alone Naming x = same_so x
   leaving_alone (Reading named p ps all) x = (same_so x.0, rest_so all x.1, x.2)
   leaving_alone (Aborting v vs all) x = (rest_so all x.0, λ q u n. elim (x.1 q u n) [ inl i ↦ inl i | inr d ↦ inr (h.dead u.upload d) ])
-  leaving_alone (sparing.Deleting k ks) x = (those_so (k ∷ ks) x.0, dead_so x.1)
-  leaving_alone (Removing p ps) x = (files_so (p ∷ ps) x.0, dead_so x.1)
+  leaving_alone (sparing.Deleting k ks) x = (x.0, those_so (k ∷ ks) x.1, dead_so x.2)
+  leaving_alone (Removing p ps) x = (x.0, files_so (p ∷ ps) x.1, dead_so x.2)
   leaving_alone (SparingOver end) x = λ e. let y = x e in (rest_so [] y.0, dead_so y.1)
-
-pub alone_by : (w : Script) (s : Scene) → HasBucket s.content w.dest.bucket → (r : Request) (o : Outcome) → ((k : List ℕ) → begins (magic_prefix w.dest.key w.job) k ≡ true → at_key w (effect s r o).content k ≡ at_key w s.content k)
-    → ((p : List ℕ) → begins (cluster_prefix w.job) p ≡ true → fin.get (effect s r o).files p ≡ fin.get s.files p) → LeftAlone w s (effect s r o)
-alone_by w s there r o keys files = record { keys = keys; files = files; dead = λ id d. stays_gone w s there id r o d }
 
 -- a request that names nothing of the job's own
 pub alone_request : (w : Script) (s : Scene) → HasBucket s.content w.dest.bucket → (r : Request) → ((k : List ℕ) → begins (magic_prefix w.dest.key w.job) k ≡ true → at_key w (apply s r).content k ≡ at_key w s.content k)
     → ((p : List ℕ) → begins (cluster_prefix w.job) p ≡ true → fin.get (apply s r).files p ≡ fin.get s.files p) → (o : Outcome) → LeftAlone w s (effect s r o)
-alone_request w s there r keys files (Answered y) = alone_by w s there r (Answered y) keys files
-alone_request w s there r keys files Slow = alone_by w s there r Slow (λ k b. refl) (λ p b. refl)
-alone_request w s there r keys files RequestLost = alone_by w s there r RequestLost (λ k b. refl) (λ p b. refl)
-alone_request w s there r keys files ReplyLost = alone_by w s there r ReplyLost keys files
+alone_request w s there r keys files o = record {
+  keys = λ k b. effect_so (λ (t : Scene). at_key w t.content k ≡ at_key w s.content k) s r o refl (keys k b);
+  files = λ p b. effect_so (λ (t : Scene). fin.get t.files p ≡ fin.get s.files p) s r o refl (files p b);
+  dead = λ id d. stays_gone w s there id r o d;
+}
 
 -- ---- it begins
 
 pub leaving_start : (w : Script) (s : Scene) (c : Committer) → Leaving w s s (sparing_start c)
 leaving_start w s Magic = (record { keys = λ k b. refl; files = λ p b. refl }, sweep_begins w s.content)
-leaving_start w s Directory = record { keys = λ k b. refl; files = λ p b. refl }
-leaving_start w s Partitioned = record { keys = λ k b. refl; files = λ p b. refl }
+leaving_start w s _ = record { keys = λ k b. refl; files = λ p b. refl }
 
 -- ---- it goes on
 
@@ -115,11 +112,9 @@ module _ (w : Script) (first s : Scene) where
 
   left_emptying : (c : Committer) → w.committer ≡ c → (all : List (List ℕ)) → Rest w s all → AllDead w first s → L (emptying c all)
   left_emptying Magic e [] x d = λ done. (x, d)
-  left_emptying Magic e (k ∷ ks) x d = (x.keys (ap is_magic e), d)
-  left_emptying Directory e [] x d = λ done. (x, d)
-  left_emptying Directory e (k ∷ ks) x d = (x.files (ap is_staging e), d)
-  left_emptying Partitioned e [] x d = λ done. (x, d)
-  left_emptying Partitioned e (k ∷ ks) x d = (x.files (ap is_staging e), d)
+  left_emptying Magic e (k ∷ ks) x d = (e, x.keys (ap is_magic e), d)
+  left_emptying _ e [] x d = λ done. (x, d)
+  left_emptying _ e (k ∷ ks) x d = (ap is_staging e, x.files (ap is_staging e), d)
 
   left_aborting : (vs : List UploadRef) (all : List (List ℕ)) → Rest w s all → ((q : List ℕ) (u : UploadRef) → Named w first q u → IsIn u vs ⊎ Dead w s u.upload) → L (aborting w.committer vs all)
   left_aborting [] all x cover = left_emptying w.committer refl all x (λ p u n. elim (cover p u n) [ inl none ↦ absurd none | inr d ↦ d ])
@@ -132,18 +127,15 @@ module _ (w : Script) (first s : Scene) where
   -- what was named stands where the job keeps it, as long as nothing changed
   named_key : (c : Committer) → w.committer ≡ c → (keys : List (List ℕ)) → is_magic c ≡ true → Same w first s → OnlyThese w s.content keys → (q : List ℕ) (u : UploadRef) → NamedAt c w first q u → IsIn q (filter is_record keys)
   named_key Magic e keys m same only q u n = filter_in is_record q keys (only q n.0 n.1 refl (same.keys q n.1 ∙ n.3)) n.2
-  named_key Directory e keys m same only q u n = absurd (false_true refl m)
-  named_key Partitioned e keys m same only q u n = absurd (false_true refl m)
+  named_key _ e keys m same only q u n = absurd (false_true refl m)
 
   named_path : (c : Committer) → w.committer ≡ c → (ps : List (List ℕ)) → is_staging c ≡ true → Same w first s → FilesIn w s ps → (q : List ℕ) (u : UploadRef) → NamedAt c w first q u → IsIn q ps
   named_path Magic e ps m same only q u n = absurd (false_true refl m)
-  named_path Directory e ps m same only q u n = only q n.0 (same.files q n.1 ∙ n.2) n.1
-  named_path Partitioned e ps m same only q u n = only q n.0 (same.files q n.1 ∙ n.2) n.1
+  named_path _ e ps m same only q u n = only q n.0 (same.files q n.1 ∙ n.2) n.1
 
   magic_only : (c : Committer) → is_magic c ≡ true → is_staging c ≡ true → ⊥
   magic_only Magic m z = false_true refl z
-  magic_only Directory m z = false_true refl m
-  magic_only Partitioned m z = false_true refl m
+  magic_only _ m z = false_true refl m
 
   -- what was listed is all, where the last page has come
   only_all : (l : List (List ℕ)) → Emptied w s.content (walks.deleting l) → OnlyThese w s.content l
@@ -176,8 +168,7 @@ module _ (w : Script) (first s : Scene) where
     read_names Magic p u same n =
         let due : answer s (GetObject w.dest.bucket p) ≡ found (at_key w s.content p) = answer_is w s there.0 there.1 (GetObject w.dest.bucket p) refl ∙ ap found (sym (key_before w s there.0 there.1 p)) in
         subst (λ y. IsIn u (names y)) (sym (due ∙ ap found (same.keys p n.1 ∙ n.3))) n.4
-    read_names Directory p u same n = subst (λ o. IsIn u (names (read_answer o))) (sym (same.files p n.1 ∙ n.2)) n.3
-    read_names Partitioned p u same n = subst (λ o. IsIn u (names (read_answer o))) (sym (same.files p n.1 ∙ n.2)) n.3
+    read_names _ p u same n = subst (λ o. IsIn u (names (read_answer o))) (sym (same.files p n.1 ∙ n.2)) n.3
 
     heard_record : (named : List UploadRef) (p : List ℕ) (ps all : List (List ℕ)) → L (Reading named p ps all) → (x : Reply) → x ≡ answer s (record_request w.committer w p) → L (reading_on w.committer (named ++ names x) ps all)
     heard_record named p ps all h x e = left_reading (named ++ names x) ps all h.0 h.1 (λ q u n. elim (h.2 q u n) [
@@ -194,11 +185,7 @@ module _ (w : Script) (first s : Scene) (there : HasBucket s.content w.dest.buck
   pub abort_dead : (q : UploadRef) → HasItsKey w s.content q → Dead w (apply s (AbortUpload w.dest.bucket q.key q.upload)) q.upload
   abort_dead q h =
       let t = abort_turns w s there.0 there.1 q.key q.upload in
-      (subst (λ n. q.upload < n) (sym t.next) h.0, t.here ∙ by (at_id w s.content q.upload) refl)
-    where
-      by : (o : Option Upload) → at_id w s.content q.upload ≡ o → end_left q.key o ≡ None
-      by None e = refl
-      by (Some u) e = ap (λ b. cond b None (Some u)) (text_true u.key q.key (h.1 u e))
+      (subst (λ n. q.upload < n) (sym t.next) h.0, t.here ∙ elim (none_or_some (at_id w s.content q.upload)) [ inl e ↦ ap (end_left q.key) e | inr u ↦ ap (end_left q.key) u.1 ∙ ap (λ b. cond b None (Some u.0)) (text_true (u.0).key q.key (h.1 u.0 u.1)) ])
 
   abort_alone : (q : UploadRef) (o : Outcome) → LeftAlone w s (effect s (AbortUpload w.dest.bucket q.key q.upload) o)
   abort_alone q = alone_request w s there (AbortUpload w.dest.bucket q.key q.upload) (λ k b. (frame s w.dest.bucket (AbortUpload w.dest.bucket q.key q.upload) there).keys k (λ e i. i)) (λ p b. (frame s w.dest.bucket (AbortUpload w.dest.bucket q.key q.upload) there).files p (λ i. i))
@@ -217,10 +204,12 @@ module _ (w : Script) (first s : Scene) (there : HasBucket s.content w.dest.buck
 
   swept_left : (t : Scene) → w.committer ≡ Magic → (x : Option Sweep) → (ks : List (List ℕ)) → x ≡ walks.deleting ks → Emptied w t.content x → AllDead w first t → Leaving w first t (deleting ks)
   swept_left t magic x [] e h d = λ done. (record { keys = λ m. subst (Emptied w t.content) e h; files = λ z. absurd (false_true refl (sym (ap is_staging magic) ∙ z)) }, d)
-  swept_left t magic x (k ∷ ks) e h d = ((subst (Emptied w t.content) e h).1, d)
+  swept_left t magic x (k ∷ ks) e h d = (magic, (subst (Emptied w t.content) e h).1, d)
 
-  heard_batch : w.committer ≡ Magic → (k : List ℕ) (ks : List (List ℕ)) → AllMagic w (k ∷ ks) → Leaving w first s (sparing.Deleting k ks) → (x : Reply) → let r = DeleteObjects w.dest.bucket (take 1000 (k ∷ ks)) in x ≡ answer s r → Leaving w first (apply s r) (deleting (drop 1000 (k ∷ ks)))
-  heard_batch magic k ks own h x e = swept_left (apply s (DeleteObjects w.dest.bucket (take 1000 (k ∷ ks)))) magic _ (drop 1000 (k ∷ ks)) refl (sweep_empties w s there (Deleting k ks) own h.0 x e) (batch_dead (take 1000 (k ∷ ks)) h.1)
+  heard_batch : (k : List ℕ) (ks : List (List ℕ)) → AllMagic w (k ∷ ks) → Leaving w first s (sparing.Deleting k ks) → (x : Reply)
+      → let r = DeleteObjects w.dest.bucket (take 1000 (k ∷ ks)) in x ≡ answer s r → Leaving w first (apply s r) (deleting (drop 1000 (k ∷ ks)))
+  heard_batch k ks own h x e =
+      swept_left (apply s (DeleteObjects w.dest.bucket (take 1000 (k ∷ ks)))) h.0 _ (drop 1000 (k ∷ ks)) refl (sweep_empties w s there (Deleting k ks) own h.1 x e) (batch_dead (take 1000 (k ∷ ks)) h.2)
 
   removed_one : (p : List ℕ) (ps : List (List ℕ)) → FilesIn w s (p ∷ ps) → FilesIn w (apply s (ClusterDelete p)) ps
   removed_one p ps h q bytes e b = elim (same_or_other q p) [
@@ -229,25 +218,16 @@ module _ (w : Script) (first s : Scene) (there : HasBucket s.content w.dest.buck
   ]
 
   removed_still : (p : List ℕ) (ps : List (List ℕ)) → FilesIn w s ps → FilesIn w (apply s (ClusterDelete p)) ps
-  removed_still p ps h q bytes e b = elim (same_or_other q p) [
-    | inl is ↦ absurd (none_some (text_gone s.files p q is) e)
-    | inr ne ↦ h q bytes (sym (text_left s.files p q ne) ∙ e) b
-  ]
+  removed_still p ps h = removed_one p ps (λ q bytes e b. inr (h q bytes e b))
 
   removed_dead : (p : List ℕ) → AllDead w first s → AllDead w first (apply s (ClusterDelete p))
   removed_dead p d q u n = stays_gone w s there u.upload (ClusterDelete p) ReplyLost (d q u n)
 
   left_removing : (t : Scene) → is_staging w.committer ≡ true → (ps : List (List ℕ)) → FilesIn w t ps → AllDead w first t → Leaving w first t (removing ps)
   left_removing t staging [] h d = λ done. (record { keys = λ m. absurd (magic_only w first s w.committer m staging); files = λ z. h }, d)
-  left_removing t staging (p ∷ ps) h d = (h, d)
+  left_removing t staging (p ∷ ps) h d = (staging, h, d)
 
 -- ---- all of it
-
--- which committer a stage is of
-abbrev pub StageOf : Script → Sparing → Type 0
-StageOf w (sparing.Deleting k ks) = w.committer ≡ Magic
-StageOf w (Removing p ps) = is_staging w.committer ≡ true
-StageOf w _ = Unit {0}
 
 module _ (w : Script) (first s : Scene) (there : HasBucket s.content w.dest.bucket) (drawn : Who → List Drawn) (keyed : Keyed w drawn s.content) where
   known_key : (v : UploadRef) (vs : List UploadRef) → AllKnown drawn (v ∷ vs) → HasItsKey w s.content v
@@ -257,10 +237,10 @@ module _ (w : Script) (first s : Scene) (there : HasBucket s.content w.dest.buck
   After c o r = (retries spare : ℕ) (repeated : Bool) → IsHonestOutcome o (answer s r) → Leaving w first (effect s r o) (step retries (sparing_after w) (record { operation = c; spare = spare; repeated = repeated }) o).operation
 
   goes_by : (c : Sparing) (r : Request) (o : Outcome) → ((x : Reply) → x ≡ answer s r → Leaving w first (apply s r) (sparing_hears w c x)) → Leaving w first s c → Leaving w first (apply s r) c → After c o r
-  goes_by c r (Answered x) heard before still retries spare repeated honest = heard x honest
-  goes_by c r Slow heard before still retries spare repeated honest = step_so retries (sparing_after w) (record { operation = c; spare = spare; repeated = repeated }) Slow (Leaving w first s) (λ x e. absurd cc) (λ none. before) (λ none d. absurd cc)
-  goes_by c r RequestLost heard before still retries spare repeated honest = step_so retries (sparing_after w) (record { operation = c; spare = spare; repeated = repeated }) RequestLost (Leaving w first s) (λ x e. absurd cc) (λ none. before) (λ none d. absurd cc)
-  goes_by c r ReplyLost heard before still retries spare repeated honest = step_so retries (sparing_after w) (record { operation = c; spare = spare; repeated = repeated }) ReplyLost (Leaving w first (apply s r)) (λ x e. absurd cc) (λ none. still) (λ none d. absurd cc)
+  goes_by c r o heard before still retries spare repeated honest =
+      step_so retries (sparing_after w) (record { operation = c; spare = spare; repeated = repeated }) o (Leaving w first (effect s r o))
+      (λ x is. subst (λ v. Leaving w first (effect s r v) (sparing_hears w c x)) (sym is) (heard x (subst (λ v. IsHonestOutcome v (answer s r)) is honest)))
+      (λ none. effect_so (λ t. Leaving w first t c) s r o before still) (λ none d. absurd cc)
 
   reads_by : (c : Sparing) (r : Request) (o : Outcome) → only_reads r ≡ true → ((x : Reply) → x ≡ answer s r → Leaving w first s (sparing_hears w c x)) → Leaving w first s c → After c o r
   reads_by c r o reads heard before =
@@ -269,20 +249,24 @@ module _ (w : Script) (first s : Scene) (there : HasBucket s.content w.dest.buck
 
   record_only : (c : Committer) (p : List ℕ) → only_reads (record_request c w p) ≡ true
   record_only Magic p = refl
-  record_only Directory p = refl
-  record_only Partitioned p = refl
+  record_only _ p = refl
 
-  pub leaving_goes : (c : Sparing) → FitsSparing w drawn c → StageOf w c → Leaving w first s c → (r : Request) → sparing_asks w c ≡ Some r → (o : Outcome) → After c o r
-  leaving_goes (Walking keys) f z h r e o = subst (After (Walking keys) o) (some_is e) (reads_by (Walking keys) (page_after w.dest.bucket (magic_prefix w.dest.key w.job) keys) o refl (heard_page w first s there f.0 keys f.1 h) h)
-  leaving_goes Naming f z h r e o = subst (After Naming o) (some_is e) (reads_by Naming (ClusterList (cluster_prefix w.job)) o refl (heard_names w first s there f h) h)
-  leaving_goes (Reading named p ps all) f z h r e o = subst (After (Reading named p ps all) o) (some_is e) (reads_by (Reading named p ps all) (record_request w.committer w p) o (record_only w.committer p) (heard_record w first s there named p ps all h) h)
-  leaving_goes (Aborting v vs all) f z h r e o =
+  pub leaving_goes : (c : Sparing) → FitsSparing w drawn c → Leaving w first s c → (r : Request) → sparing_asks w c ≡ Some r → (o : Outcome) → After c o r
+  leaving_goes (Walking keys) f h r e o =
+      subst (After (Walking keys) o) (some_is e)
+      (reads_by (Walking keys) (page_after w.dest.bucket (magic_prefix w.dest.key w.job) keys) o refl (heard_page w first s there f.0 keys f.1 h) h)
+  leaving_goes Naming f h r e o = subst (After Naming o) (some_is e) (reads_by Naming (ClusterList (cluster_prefix w.job)) o refl (heard_names w first s there f h) h)
+  leaving_goes (Reading named p ps all) f h r e o =
+      subst (After (Reading named p ps all) o) (some_is e)
+      (reads_by (Reading named p ps all) (record_request w.committer w p) o (record_only w.committer p) (heard_record w first s there named p ps all h) h)
+  leaving_goes (Aborting v vs all) f h r e o =
       subst (After (Aborting v vs all) o) (some_is e)
       (goes_by (Aborting v vs all) (AbortUpload w.dest.bucket v.key v.upload) o (λ x due. heard_abort w first s there v vs all (known_key v vs f.0) h) h (leaving_alone w first s (apply s (AbortUpload w.dest.bucket v.key v.upload)) (abort_alone w first s there v ReplyLost) (Aborting v vs all) h))
-  leaving_goes (sparing.Deleting k ks) f z h r e o =
+  leaving_goes (sparing.Deleting k ks) f h r e o =
       subst (After (sparing.Deleting k ks) o) (some_is e)
-      (goes_by (sparing.Deleting k ks) (DeleteObjects w.dest.bucket (take 1000 (k ∷ ks))) o (heard_batch w first s there z k ks f h) h (sweep_still w s there (Deleting k ks) f h.0 ReplyLost, batch_dead w first s there (take 1000 (k ∷ ks)) h.1))
-  leaving_goes (Removing p ps) f z h r e o =
+      (goes_by (sparing.Deleting k ks) (DeleteObjects w.dest.bucket (take 1000 (k ∷ ks))) o (heard_batch w first s there k ks f h) h (h.0, sweep_still w s there (Deleting k ks) f h.1 ReplyLost, batch_dead w first s there (take 1000 (k ∷ ks)) h.2))
+  leaving_goes (Removing p ps) f h r e o =
       subst (After (Removing p ps) o) (some_is e)
-      (goes_by (Removing p ps) (ClusterDelete p) o (λ x due. left_removing w first s there (apply s (ClusterDelete p)) z ps (removed_one w first s there p ps h.0) (removed_dead w first s there p h.1)) h (removed_still w first s there p (p ∷ ps) h.0, removed_dead w first s there p h.1))
-  leaving_goes (SparingOver end) f z h r e o = absurd cc
+      (goes_by (Removing p ps) (ClusterDelete p) o
+      (λ x due. left_removing w first s there (apply s (ClusterDelete p)) h.0 ps (removed_one w first s there p ps h.1) (removed_dead w first s there p h.2)) h (h.0, removed_still w first s there p (p ∷ ps) h.1, removed_dead w first s there p h.2))
+  leaving_goes (SparingOver end) f h r e o = absurd cc

@@ -1,5 +1,5 @@
 -- Over a whole run what a side sent names nothing of the other's: an upload that it named was drawn by then, and what the other draws later is new.
-use Rattle.std.proofs.Common.{◌≡◌, ℕ, ◌<◌, ◌≤◌, ◌&&◌, ◌||◌, nat_le, nat_lt, Bool, List, [], ◌∷◌, ◌++◌, map, Some, refl, sym, ap, subst, ◌∙◌, arith}
+use Rattle.std.proofs.Common.{◌≡◌, ℕ, ◌<◌, ◌≤◌, ◌&&◌, ◌||◌, nat_lt, List, [], ◌∷◌, ◌++◌, map, Some, refl, sym, ap, subst, ◌∙◌, arith}
 use Rattle.std.specs.List.{AllByRecursion}
 use Rattle.job_spec.proofs.Common.{above_so}
 use Rattle.job_facts.specs.Prelude.{Content, Scene, effect, nothing_seen, Request, Entry, Script, Setting, Times}
@@ -10,7 +10,7 @@ use Rattle.twin_facts.specs.Sides.{Side, First, Second, is_side, TwinEntry, Send
 use Rattle.twin_facts.specs.TwinLaws.{MayBeTwins, other_side, turned_entry}
 use Rattle.twin_facts.specs.Named.{NamesNoneOfOthers}
 use Rattle.twin_facts.proofs.Pairs.{effect_later, own_of, sends_scene, strange}
-use Rattle.twin_facts.proofs.TwinRuns.{All, all_so, opens_first, opens_second, turned_twins, drew_own, drew_not, turned}
+use Rattle.twin_facts.proofs.TwinRuns.{All, all_so, opens_first, turned_twins, turned_opening, drew_own, drew_not, turned}
 
 -- ---- what was sent, by the uploads that were drawn
 
@@ -44,13 +44,6 @@ named_only : (side : Side) (v : Script) (ids : Ids) (n : ℕ) (es : List TwinEnt
 named_only side v ids n [] f = tt
 named_only side v ids n (t ∷ es) f = (λ s. (f.0 s).0, named_only side v ids n es f.1)
 
-not_first : Second ≡ First → ⊥
-not_first e = cc
-
--- an upload below the next one is none of those that are drawn now
-drawn_not : (d b : Bool) (n id : ℕ) → id < n → (d || (nat_le n id && b)) ≡ d
-drawn_not d b n id low = ap (λ c. d || (c && b)) (above_so n id low) ∙ or_false d
-
 -- ---- every run
 
 module _ (g h : Setting) (m : MayBeTwins g.script h.script) (k l : Times) (opening : Content) (is : IsTwinOpening g h opening) where
@@ -79,8 +72,10 @@ module _ (g h : Setting) (m : MayBeTwins g.script h.script) (k l : Times) (openi
       let d = drew Second opening es in
       let now = drew Second opening (es ++ t ∷ []) in
       let same : (id : ℕ) → id < s.content.next → now id ≡ d id = λ id low.
-      sym (ap (λ (f : Ids). f id) (drew_own g h m k l opening is Second refl es s a.scene e n)) ∙ drawn_not (d id) (nat_lt id (effect s e.request e.outcome).content.next) s.content.next id low in
-      one_more First h.script now (observed g k x n e).seen.scene.content.next es t (grown First h.script d now s.content.next (observed g k x n e).seen.scene.content.next (effect_later s e.request e.outcome) same es old) (λ f. absurd (not_first f))
+      sym (ap (λ (f : Ids). f id) (drew_own g h m k l opening is Second refl es s a.scene e n))
+      ∙ ap (λ c. d id || (c && nat_lt id (effect s e.request e.outcome).content.next)) (above_so s.content.next id low) ∙ or_false (d id) in
+      one_more First h.script now (observed g k x n e).seen.scene.content.next es t
+      (grown First h.script d now s.content.next (observed g k x n e).seen.scene.content.next (effect_later s e.request e.outcome) same es old) (λ f. absurd cc)
 
   pub first_kept : (es : List TwinEntry) (x y : Stand) → TwinRun g h k l opening es x y → Kept es x
   first_kept es x y (twins_begin) = tt
@@ -88,9 +83,6 @@ module _ (g h : Setting) (m : MayBeTwins g.script h.script) (k l : Times) (openi
   first_kept es x y (second_begins fs u v b run may) = first_kept fs u v run
   first_kept es x y (first_sends fs u v z e n run sends) = by_first fs u v z e n (all_so g h m k l opening is fs u v run) sends (first_kept fs u v run)
   first_kept es x y (second_sends fs u v z e n run sends) = by_second fs u v e n (all_so g h m k l opening is fs u v run) (first_kept fs u v run)
-
-  turned_opening : IsTwinOpening h g opening
-  turned_opening = record { shared_first = is.shared_second; shared_second = is.shared_first; first = is.second; second = is.first; fresh = (opens_second g h m k l opening is).fresh }
 
 -- ---- in the other order
 

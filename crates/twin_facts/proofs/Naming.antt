@@ -1,7 +1,7 @@
 -- The requests of a job name only what is its own, or nobody's.
 use Rattle.std.proofs.Common.{◌≡◌, ℕ, ◌+◌, ◌<◌, inl, inr, not, nat_eq, true, false, List, [], ◌∷◌, ◌++◌, take, length, Option, Some, None, refl, sym, ap, subst, ◌∙◌, append_assoc, codes}
 use Rattle.job_spec.proofs.Common.{false≢true, not-true, begins_behind, below_is, some_is, none_some, false_true, nat_true, nat_false}
-use Rattle.job_facts.specs.Prelude.{Scene, begins, Actor, Request, CreateUpload, UploadPart, AbortUpload, Committer, Magic, Directory, Partitioned, below, cluster_prefix, success_key, MarkerPlace, RecordPlace, TemporaryPlace, StagedSetPlace, is_open, Pending, Who, File, Script, Drawn, IsLegal, files, file_key, Uploading, Creating, Sending, upload_asks, Listing, Deleting, Write, Recording, WriteOver, write_asks, TaskCommit, Looking, Reading, Publishing, Checking, Storing, Renaming, TaskCommitOver, task_commit_asks, TaskAbort, Dropping, TaskAbortOver, task_abort_asks, Setup, Heading, SetupOver, setup_asks, nth, completion, abort, deletion, Tabled, all_commits, Commit, Fetching, Replacing, Completing, Reverting, CommitOver, set_request, commit_asks, is_no_magic, Setting, Operation, TheWrite, TheTaskCommit, TheTaskAbort, asks, Seen, is_magic, is_staging, IsIn, Told, known, IsKnown, IsAttempt, Facts, Hold, Fits, FitsUpload, FitsWrite, FitsCommit, FitsAbort, SetsUp, FitsJobCommit, IsCommit, Decides, Commits}
+use Rattle.job_facts.specs.Prelude.{Scene, begins, Actor, Request, CreateUpload, UploadPart, AbortUpload, Committer, Magic, cluster_prefix, success_key, MarkerPlace, RecordPlace, TemporaryPlace, StagedSetPlace, is_open, Pending, Who, File, Script, Drawn, IsLegal, files, file_key, Uploading, Creating, Sending, upload_asks, Listing, Deleting, Write, Recording, WriteOver, write_asks, TaskCommit, Looking, Reading, Publishing, Checking, Storing, Renaming, TaskCommitOver, task_commit_asks, TaskAbort, Dropping, TaskAbortOver, task_abort_asks, Heading, SetupOver, nth, completion, abort, deletion, all_commits, Commit, Fetching, Replacing, Completing, Reverting, CommitOver, set_request, commit_asks, is_no_magic, Setting, Operation, TheWrite, TheTaskCommit, TheTaskAbort, asks, Seen, is_magic, is_staging, IsIn, Told, known, IsKnown, IsAttempt, Facts, Hold, Fits, FitsUpload, FitsWrite, FitsCommit, FitsAbort, IsCommit, Commits}
 use Rattle.job_protocol.specs.Writes.{Marking}
 use Rattle.job_protocol.specs.Writes as writes
 use Rattle.job_protocol.specs.TaskCommits as tasks
@@ -19,7 +19,7 @@ use Rattle.job_facts.proofs.Held.{nth_of, of_sets}
 use Rattle.twin_facts.specs.Names.{named_keys, named_upload, named_paths, IsOwnKey, NamesOwn}
 use Rattle.job_protocol.specs.Sparing.{Sparing, Walking, Naming, Aborting, SparingOver, record_request, sparing_asks}
 use Rattle.job_protocol.specs.Sparing as sparing
-use Rattle.job_protocol.specs.Rechecks.{Check, Looking as LooksAll, Probing, CheckOver, check_asks}
+use Rattle.job_protocol.specs.Rechecks.{Check, CheckOver, check_asks}
 use Rattle.job_facts.specs.Spares.{AllOwn, FitsSparing}
 use Rattle.twin_facts.specs.Requests.{IsSentBy, by_attempt, by_commit, by_check, by_clean, SetsUpBy}
 
@@ -39,11 +39,8 @@ behind_dest w q =
     ∙ ap not (begins_behind w.dest.key (codes "/__magic/") (47 ∷ q))
 
 module _ {w : Script} (j : IsLegal w) where
-  open_key : (q : List ℕ) → is_open q ≡ true → is_no_magic w (below w.dest.key q) ≡ true
-  open_key q h = ap (is_no_magic w) (below_is w.dest.key q (some_dest j)) ∙ behind_dest w q ∙ ap not (begins_open q h)
-
   file_free : (a : Who) (f : File) → IsIn f (files w a) → is_no_magic w (file_key w f) ≡ true
-  file_free a f i = open_key f.0 (file_open j a f i)
+  file_free a f i = ap (is_no_magic w) (below_is w.dest.key f.0 (some_dest j)) ∙ behind_dest w f.0 ∙ ap not (begins_open f.0 (file_open j a f i))
 
   success_free : is_no_magic w (success_key w.dest.key) ≡ true
   success_free = behind_dest w (codes "_SUCCESS")
@@ -139,39 +136,34 @@ module _ {w : Script} (j : IsLegal w) (minimum : ℕ) (m : Told) where
 
   read_own : (c : Committer) (t : ℕ) → t < w.tasks → Own (set_request c w t)
   read_own Magic t low = names_key _ _ refl refl refl (inr (set_magic j t low))
-  read_own Directory t low = names_path _ _ refl refl refl (path_below w (StagedSetPlace t))
-  read_own Partitioned t low = names_path _ _ refl refl refl (path_below w (StagedSetPlace t))
+  read_own _ t low = names_path _ _ refl refl refl (path_below w (StagedSetPlace t))
 
-  commit_own_by : (s : Seen) (c d : Commit) → d ≡ c → Commits w minimum s m c → (r : Request) → commit_asks w d ≡ Some r → Own r
-  commit_own_by s c d v h r e = by d (subst (FitsJobCommit w minimum m.publish_sent m.drawn) (sym v) h.fits) (subst (Tabled w) (sym v) h.tabled) (subst (Decides w minimum m.publish_sent m.drawn) (sym v) h.decides) e
-    where
-      by : (d : Commit) → FitsJobCommit w minimum m.publish_sent m.drawn d → Tabled w d → Decides w minimum m.publish_sent m.drawn d → commit_asks w d ≡ Some r → Own r
-      by (Fetching sets n) f t x e = subst Own (some_is e) (read_own w.committer (length sets) f.0)
-      by (Replacing sets p ps (Listing keys) n) f t x e = subst Own (some_is e) (names_nothing _ refl refl refl)
-      by (Replacing sets p ps (Deleting q qs) n) f t x e = subst Own (some_is e) (names_keys _ (take 1000 (q ∷ qs)) refl refl refl (λ k i. inl (f.2 k (taken_in 1000 (q ∷ qs) k i)).0))
-      by (Completing sets y ys finished) f t x e =
-          let p = nth (all_commits sets) y.number in
-          let o = one_commit p s.scene (of_sets j h.hold sets f p (nth_of (all_commits sets) y.number (t.within y (inl refl)))).1.commit in
-          subst Own (some_is e) (names_upload (completion p) p.destination p.upload refl refl refl o.0 o.1)
-      by (commits.Marking sets n) f t x e = subst Own (some_is e) (names_key _ _ refl refl refl (inl (success_free j)))
-      by (Reverting q qs n) f t x e =
-          let y = x q (inl refl) in
-          let o = one_commit y.0 s.scene y.1 in
-          subst Own (some_is e) (elim y.2 [
-            | inl is ↦ subst Own (sym is) (names_upload (abort y.0) y.0.destination y.0.upload refl refl refl o.0 o.1)
-            | inr is ↦ subst Own (sym is) (names_key (deletion y.0) y.0.destination refl refl refl (inl o.0))
-          ])
-      by (CommitOver end) f t x e = absurd cc
+  job_commit_own : (s : Seen) (c : Commit) → Commits w minimum s m c → (r : Request) → commit_asks w c ≡ Some r → Own r
+  job_commit_own s (Fetching sets n) h r e = subst Own (some_is e) (read_own w.committer (length sets) h.fits.0)
+  job_commit_own s (Replacing sets p ps (Listing keys) n) h r e = subst Own (some_is e) (names_nothing _ refl refl refl)
+  job_commit_own s (Replacing sets p ps (Deleting q qs) n) h r e =
+      subst Own (some_is e) (names_keys _ (take 1000 (q ∷ qs)) refl refl refl (λ k i. inl (h.fits.2 k (taken_in 1000 (q ∷ qs) k i)).0))
+  job_commit_own s (Completing sets y ys finished) h r e =
+      let p = nth (all_commits sets) y.number in
+      let o = one_commit p s.scene (of_sets j h.hold sets h.fits p (nth_of (all_commits sets) y.number (h.tabled.within y (inl refl)))).1.commit in
+      subst Own (some_is e) (names_upload (completion p) p.destination p.upload refl refl refl o.0 o.1)
+  job_commit_own s (commits.Marking sets n) h r e = subst Own (some_is e) (names_key _ _ refl refl refl (inl (success_free j)))
+  job_commit_own s (Reverting q qs n) h r e =
+      let y = h.decides q (inl refl) in
+      let o = one_commit y.0 s.scene y.1 in
+      subst Own (some_is e) (elim y.2 [
+        | inl is ↦ subst Own (sym is) (names_upload (abort y.0) y.0.destination y.0.upload refl refl refl o.0 o.1)
+        | inr is ↦ subst Own (sym is) (names_key (deletion y.0) y.0.destination refl refl refl (inl o.0))
+      ])
+  job_commit_own s (CommitOver end) h r e = absurd cc
 
   check_own : (c : Check) (r : Request) → check_asks w c ≡ Some r → Own r
-  check_own (LooksAll keys) r e = subst Own (some_is e) (names_nothing _ refl refl refl)
-  check_own (Probing d ds) r e = subst Own (some_is e) (names_nothing _ refl refl refl)
   check_own (CheckOver end) r e = absurd cc
+  check_own _ r e = subst Own (some_is e) (names_nothing _ refl refl refl)
 
   record_own : (c : Committer) → w.committer ≡ c → (p : List ℕ) (ps : List (List ℕ)) → AllOwn w (p ∷ ps) → Own (record_request c w p)
   record_own Magic is p ps h = names_key _ _ refl refl refl (inr (h.keys (ap is_magic is) p (inl refl)))
-  record_own Directory is p ps h = names_path _ _ refl refl refl (h.paths (ap is_staging is) p (inl refl))
-  record_own Partitioned is p ps h = names_path _ _ refl refl refl (h.paths (ap is_staging is) p (inl refl))
+  record_own _ is p ps h = names_path _ _ refl refl refl (h.paths (ap is_staging is) p (inl refl))
 
   sparing_own : {s : Scene} {last : ℕ → Option ℕ} → Facts w minimum s last m → (c : Sparing) → FitsSparing w m.drawn c → (r : Request) → sparing_asks w c ≡ Some r → Own r
   sparing_own f (Walking keys) h r e = subst Own (some_is e) (names_nothing _ refl refl refl)
@@ -196,20 +188,15 @@ module _ (g : Setting) (j : IsLegal g.script) (s : Seen) (m : Told) (h : Hold g.
 
 pub sends_own : (g : Setting) → IsLegal g.script → (s : Seen) (m : Told) → Hold g.script g.minimum s m → (a : Actor) (r : Request) → IsSentBy g s m a r → NamesOwn g.script m.drawn r
 sends_own g j s m h _ _ (by_attempt a op r d fits e) = operation_own g j s m h a d op fits r e
-sends_own g j s m h _ _ (by_commit c r x e) = commit_own_by j g.minimum m s c c refl x r e
+sends_own g j s m h _ _ (by_commit c r x e) = job_commit_own j g.minimum m s c x r e
 sends_own g j s m h _ _ (by_check c r e) = check_own j g.minimum m c r e
 sends_own g j s m h _ _ (by_clean c r fits e) = sparing_own j g.minimum m h c fits r e
 
 pub setup_own : (g : Setting) → IsLegal g.script → (s : Seen) (drawn : Who → List Drawn) (r : Request) → SetsUpBy g s r → NamesOwn g.script drawn r
-setup_own g j s drawn r (t, h, e) = by t h e
-  where
-    w : Script
-    w = g.script
-
-    by : (t : Setup) → SetsUp w s.scene.content t → setup_asks w t ≡ Some r → NamesOwn w drawn r
-    by Heading h e = subst (NamesOwn w drawn) (some_is e) (names_key _ _ refl refl refl (inl (dest_free j)))
-    by (setups.Checking keys) h e = subst (NamesOwn w drawn) (some_is e) (names_nothing _ refl refl refl)
-    by setups.Clearing h e = subst (NamesOwn w drawn) (some_is e) (names_key _ _ refl refl refl (inl (success_free j)))
-    by (setups.Sweeping (Listing keys)) h e = subst (NamesOwn w drawn) (some_is e) (names_nothing _ refl refl refl)
-    by (setups.Sweeping (Deleting q qs)) h e = subst (NamesOwn w drawn) (some_is e) (names_keys _ (take 1000 (q ∷ qs)) refl refl refl (λ k i. inr (h.1 k (taken_in 1000 (q ∷ qs) k i))))
-    by (SetupOver end) h e = absurd cc
+setup_own g j s drawn r (Heading, h, e) = subst (NamesOwn g.script drawn) (some_is e) (names_key _ _ refl refl refl (inl (dest_free j)))
+setup_own g j s drawn r (setups.Checking keys, h, e) = subst (NamesOwn g.script drawn) (some_is e) (names_nothing _ refl refl refl)
+setup_own g j s drawn r (setups.Clearing, h, e) = subst (NamesOwn g.script drawn) (some_is e) (names_key _ _ refl refl refl (inl (success_free j)))
+setup_own g j s drawn r (setups.Sweeping (Listing keys), h, e) = subst (NamesOwn g.script drawn) (some_is e) (names_nothing _ refl refl refl)
+setup_own g j s drawn r (setups.Sweeping (Deleting q qs), h, e) =
+    subst (NamesOwn g.script drawn) (some_is e) (names_keys _ (take 1000 (q ∷ qs)) refl refl refl (λ k i. inr (h.1 k (taken_in 1000 (q ∷ qs) k i))))
+setup_own g j s drawn r (SetupOver end, h, e) = absurd cc

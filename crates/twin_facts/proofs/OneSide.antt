@@ -1,12 +1,13 @@
 -- A side's entries make its run go on; where its destination is shared no abort or clean of it is one of a job alone.
-use Rattle.std.proofs.Common.{◌≡◌, ℕ, ◌&&◌, ◌||◌, Bool, true, false, cond, List, [], ◌∷◌, ◌++◌, Option, Some, None, refl, sym, ap, subst, ◌∙◌}
-use Rattle.job_facts.specs.Prelude.{Content, Scene, effect, Request, Outcome, Answered, Slow, RequestLost, ReplyLost, Entry, Retried, Script, IsLegal, Clean, Setting, Operation, TheSetup, TheWrite, TheTaskCommit, TheTaskAbort, TheCommit, TheClean, TheCheck, TheSparing, fresh, clean_start, who, Driver, tells, step, Seen, see, picks_by, is_picking, Who, entry, driver_entry, strange_entry, IsForeign, Times, is_reading}
+use Rattle.std.proofs.Common.{◌≡◌, ℕ, ◌&&◌, ◌||◌, true, false, cond, List, [], ◌∷◌, ◌++◌, Option, Some, refl, sym, ap, subst, ◌∙◌}
+use Rattle.job_facts.specs.Prelude.{Content, Scene, apply, effect, Request, Outcome, Answered, Slow, RequestLost, Entry, Retried, Script, is_effective, is_marking, Clean, Setting, Operation, TheClean, TheCheck, TheSparing, fresh, clean_start, who, Driver, tells, step, Seen, see, is_picking, Who, entry, driver_entry, Times, is_reading}
 use Rattle.job_protocol.proofs.Begun.{commit_of_so, after_check_so}
 use Rattle.job_protocol.specs.Sparing.{sparing_start}
-use Rattle.job_protocol.specs.Rechecks.{Check, check_after}
-use Rattle.job_facts.proofs.Sharing.{Plain}
-use Rattle.job_facts.proofs.Whose.{or_false}
-use Rattle.job_traces.specs.Runs.{Stand, Runs, run_begins, actor_begins, driver_sends, attempt_sends, strays, BeginSetup, BeginCommit, BeginClean, BeginWrite, BeginPublish, BeginAbort}
+use Rattle.job_protocol.specs.Rechecks.{check_after}
+use Rattle.std.proofs.Math.Bool.{and-false}
+use Rattle.job_spec.proofs.Common.{false_true}
+use Rattle.job_facts.proofs.Whose.{or_false, or_true}
+use Rattle.job_traces.specs.Runs.{Stand, Runs, run_begins, actor_begins, driver_sends, attempt_sends, strays, BeginSetup, BeginCommit, BeginClean}
 use Rattle.twin_facts.specs.Sides as sides
 use Rattle.twin_facts.specs.Sides.{Sends}
 
@@ -18,11 +19,13 @@ goes_on g k opening es x _ _ run (sides.attempt_sends _ a op n r o set at asked 
 
 -- ---- what one entry leaves
 
-module _ (w : Script) (k : Times) (s : Seen) (n : ℕ) (r : Request) where
-  and_false : (b : Bool) → (b && false) ≡ false
-  and_false true = refl
-  and_false false = refl
+-- what holds before a request and where it took effect holds whatever becomes of it
+pub effect_so : (P : Scene → Type 0) (s : Scene) (r : Request) (o : Outcome) → P s → P (apply s r) → P (effect s r o)
+effect_so P s r Slow h done = h
+effect_so P s r RequestLost h done = h
+effect_so P s r _ h done = done
 
+module _ (w : Script) (k : Times) (s : Seen) (n : ℕ) (r : Request) where
   pub driver_scene : (o : Outcome) → (see w k s (driver_entry n r o)).scene ≡ effect s.scene r o
   driver_scene (Answered y) = refl
   driver_scene _ = refl
@@ -31,24 +34,31 @@ module _ (w : Script) (k : Times) (s : Seen) (n : ℕ) (r : Request) where
   attempt_scene a (Answered y) = refl
   attempt_scene a _ = refl
 
-  pub plain_picks : Plain w r → (o : Outcome) → (see w k s (driver_entry n r o)).picks ≡ s.picks
-  plain_picks p (Answered y) = λ i t. same t i
-    where
-      same : (t : ℕ) → picks_by w (is_picking k s.begun n) s.last s.picks r t ≡ s.picks t
-      same t = ap (λ b. cond ((is_picking k s.begun n) && b) (s.last t) (s.picks t)) (p.reads t) ∙ ap (λ b. cond b (s.last t) (s.picks t)) (and_false (is_picking k s.begun n))
-  plain_picks p Slow = refl
-  plain_picks p _ = refl
+  -- where it reads no set, or behind the beginning of an abort or clean, nothing is picked
+  pub picks_still : ((t : ℕ) → (is_picking k s.begun n && is_reading w t r) ≡ false) → (o : Outcome) → (see w k s (driver_entry n r o)).picks ≡ s.picks
+  picks_still none (Answered y) = λ i t. ap (λ b. cond b (s.last t) (s.picks t)) (none t) i
+  picks_still none Slow = refl
+  picks_still none _ = refl
 
-  pub plain_mark : Plain w r → (o : Outcome) → (see w k s (driver_entry n r o)).put_mark ≡ s.put_mark
-  plain_mark p Slow = refl
-  plain_mark p RequestLost = refl
-  plain_mark p _ = ap (λ b. s.put_mark || b) p.marks ∙ or_false s.put_mark
+  pub unread_picks : ((t : ℕ) → is_reading w t r ≡ false) → (o : Outcome) → (see w k s (driver_entry n r o)).picks ≡ s.picks
+  unread_picks none = picks_still (λ t. ap (λ b. is_picking k s.begun n && b) (none t) ∙ and-false (is_picking k s.begun n))
 
-  -- behind the beginning of an abort or clean nothing is picked
-  pub late_picks : is_picking k s.begun n ≡ false → (o : Outcome) → (see w k s (driver_entry n r o)).picks ≡ s.picks
-  late_picks late (Answered y) = λ i t. ap (λ b. cond (b && is_reading w t r) (s.last t) (s.picks t)) late i
-  late_picks late Slow = refl
-  late_picks late _ = refl
+  -- where it is no put of the marker, that was put as before
+  pub mark_still : is_marking w r ≡ false → (o : Outcome) → (see w k s (driver_entry n r o)).put_mark ≡ s.put_mark
+  mark_still none Slow = refl
+  mark_still none RequestLost = refl
+  mark_still none _ = ap (λ b. s.put_mark || b) none ∙ or_false s.put_mark
+
+  -- what was put stays so, and a put that takes effect puts it
+  pub mark_stays : s.put_mark ≡ true → (o : Outcome) → (see w k s (driver_entry n r o)).put_mark ≡ true
+  mark_stays put Slow = put
+  mark_stays put RequestLost = put
+  mark_stays put _ = ap (λ b. b || is_marking w r) put
+
+  pub mark_puts : is_marking w r ≡ true → (o : Outcome) → is_effective o ≡ true → (see w k s (driver_entry n r o)).put_mark ≡ true
+  mark_puts puts Slow took = absurd (false_true refl took)
+  mark_puts puts RequestLost took = absurd (false_true refl took)
+  mark_puts puts _ took = ap (λ b. s.put_mark || b) puts ∙ or_true s.put_mark
 
 -- ---- its driver
 
@@ -68,9 +78,7 @@ module _ (g : Setting) (shared : g.shared ≡ true) (k : Times) (opening : Conte
   no_clean es x (actor_begins fs y BeginSetup run may) = tt
   no_clean es x (actor_begins fs y (BeginCommit reports) run may) = commit_of_so g (λ op. IsNone (Some op)) (λ missing. tt) (λ t. tt) reports
   no_clean es x (actor_begins fs y BeginClean run may) = subst (λ b. IsNone (Some (cond b (TheSparing (fresh g.script.retries (sparing_start g.script.committer))) (TheClean (fresh g.script.retries clean_start))))) (sym shared) tt
-  no_clean es x (actor_begins fs y (BeginWrite a) run may) = no_clean fs y run
-  no_clean es x (actor_begins fs y (BeginPublish a) run may) = no_clean fs y run
-  no_clean es x (actor_begins fs y (BeginAbort a) run may) = no_clean fs y run
+  no_clean es x (actor_begins fs y b run may) = no_clean fs y run
   no_clean es x (driver_sends fs y op n r o run d asked timely few honest) = goes_none op o (subst IsNone d (no_clean fs y run))
   no_clean es x (attempt_sends fs y a op n r o run set at asked honest) = no_clean fs y run
   no_clean es x (strays fs y n r o run f) = no_clean fs y run

@@ -1,13 +1,15 @@
 -- Of two sides at one destination the facts of both are kept by each step of either, and no upload is drawn by both.
-use Rattle.std.proofs.Common.{◌≡◌, ℕ, ◌+◌, cond, ◌<◌, ◌≤◌, ◌⊎◌, inl, inr, ◌&&◌, ◌||◌, nat_le, nat_lt, Bool, true, false, List, [], ◌∷◌, ◌++◌, Option, Some, None, refl, sym, ap, subst, ◌∙◌, arith}
-use Rattle.job_spec.proofs.Common.{and_parts, nat_tests, none_some, false_true}
-use Rattle.job_facts.specs.Prelude.{Content, Scene, effect, Driver, Request, Outcome, Answered, Slow, RequestLost, ReplyLost, Entry, Script, IsLegal, setup_asks, Setting, Operation, TheSetup, TheCommit, TheClean, TheCheck, TheSparing, asks, who, strange_entry, HasBucket, IsKnown, IsForeign, Times}
+use Rattle.std.proofs.Common.{◌≡◌, ℕ, ◌+◌, ◌<◌, ◌≤◌, ◌⊎◌, inl, inr, ◌||◌, nat_le, nat_lt, true, false, List, [], ◌∷◌, ◌++◌, Option, Some, None, sym, ap, subst, ◌∙◌, arith}
+use Rattle.job_spec.proofs.Common.{and_parts, nat_tests, at_most_is, at_most_so, below_so, none_some, false_true, true_or_false}
+use Rattle.job_facts.specs.Prelude.{Content, Scene, effect, Driver, Request, Outcome, Entry, Script, IsLegal, setup_asks, Setting, Operation, TheSetup, TheCommit, TheClean, TheCheck, TheSparing, asks, who, strange_entry, HasBucket, IsKnown, IsForeign, Times}
+use Rattle.std.proofs.lemmas.Bool.{or_cases, and_from, cond_both}
 use Rattle.job_protocol.specs.Prelude.{Path}
 use Rattle.std.specs.FinMap as fin
-use Rattle.store_frame.specs.Prelude.{BucketContent, MakeBucket, ClusterPut, ClusterRename, ClusterGet, ClusterDelete, ClusterList, apply, apply_at, bucket_of, draws, is_bucket}
+use Rattle.store_frame.specs.Prelude.{MakeBucket, ClusterPut, ClusterRename, ClusterGet, ClusterDelete, ClusterList, apply, apply_at, bucket_of, draws, is_bucket}
 use Rattle.s3_types.specs.Answer.{made}
 use Rattle.store_frame.proofs.Framed.{frame}
 use Rattle.job_facts.proofs.Learning.{learnt}
+use Rattle.job_facts.proofs.Whose.{or_true}
 use Rattle.job_traces.specs.Runs.{Stand, nothing_learnt, Runs, actor_begins, strays, Beginning, MayBegin, begin, IsOpening}
 use Rattle.job_traces.proofs.Running.{At, Late, Early}
 use Rattle.job_traces.proofs.EveryRun.{good}
@@ -17,46 +19,28 @@ use Rattle.twin_facts.specs.Laws.{AreTwins}
 use Rattle.twin_facts.specs.Requests.{by_attempt, by_commit, by_check, by_clean}
 use Rattle.twin_facts.specs.Sides.{observed, drawn_by, Sends, driver_sends, attempt_sends}
 use Rattle.twin_facts.specs.TwinLaws.{MayBeTwins}
-use Rattle.twin_facts.proofs.Apart.{twin_stranger, stranger_foreign}
+use Rattle.twin_facts.proofs.Apart.{not_true, twin_stranger, stranger_foreign}
 use Rattle.twin_facts.proofs.Naming.{sends_own, setup_own}
-use Rattle.twin_facts.proofs.OneSide.{goes_on, driver_scene, attempt_scene, never_cleans}
+use Rattle.twin_facts.proofs.OneSide.{goes_on, effect_so, driver_scene, attempt_scene, never_cleans}
 
 -- ---- ids
 
-effect_there : (s : Scene) (n : List ℕ) (r : Request) (o : Outcome) → HasBucket s.content n → HasBucket (effect s r o).content n
-effect_there s n r (Answered y) h = (frame s n r h).there h.0 h.1
-effect_there s n r Slow h = h
-effect_there s n r RequestLost h = h
-effect_there s n r ReplyLost h = (frame s n r h).there h.0 h.1
-
 apply_later : (s : Scene) (r : Request) → s.content.next ≤ (apply s r).content.next
-apply_later s (MakeBucket q) = by (fin.get s.content.buckets q) (is_bucket q) refl
-  where
-    by : (o : Option BucketContent) (t : Bool) → is_bucket q ≡ t → s.content.next ≤ (made s.content q o).next
-    by (Some b) t e = omega arith
-    by None true e = rw e (omega arith)
-    by None false e = rw e (omega arith)
+apply_later s (MakeBucket q) =
+    elim (fin.get s.content.buckets q) as (λ o. s.content.next ≤ (made s.content q o).next) [ Some b ↦ omega arith | None ↦ elim (true_or_false (is_bucket q)) [ inl e ↦ rw e (omega arith) | inr e ↦ rw e (omega arith) ] ]
 apply_later s (ClusterPut path bytes) = omega arith
 apply_later s (ClusterRename source target) = omega arith
 apply_later s (ClusterGet path) = omega arith
 apply_later s (ClusterDelete path) = omega arith
 apply_later s (ClusterList p) = omega arith
-apply_later s r = by (fin.get s.content.buckets (bucket_of r))
-  where
-    rises : (t : Bool) (n : ℕ) → n ≤ cond t (n + 1) n
-    rises true n = omega arith
-    rises false n = omega arith
-
-    by : (o : Option BucketContent) → s.content.next ≤ (apply_at o s.content r).next
-    by None = omega arith
-    by (Some b) = rises (draws r) s.content.next
+apply_later s r = elim (fin.get s.content.buckets (bucket_of r)) as (λ o. s.content.next ≤ (apply_at o s.content r).next) [
+  | None ↦ omega arith
+  | Some b ↦ cond_both (draws r) (s.content.next + 1) s.content.next (λ n. s.content.next ≤ n) (λ e. omega arith) (λ e. omega arith)
+]
 
 -- the counter never falls
 pub effect_later : (s : Scene) (r : Request) (o : Outcome) → s.content.next ≤ (effect s r o).content.next
-effect_later s r (Answered y) = apply_later s r
-effect_later s r Slow = omega arith
-effect_later s r RequestLost = omega arith
-effect_later s r ReplyLost = apply_later s r
+effect_later s r o = effect_so (λ (t : Scene). s.content.next ≤ t.content.next) s r o (omega arith) (apply_later s r)
 
 -- ---- a side's steps
 
@@ -105,6 +89,9 @@ module _ (g : Setting) (j : IsLegal g.script) (shared : g.shared ≡ true) (k : 
 
 -- ---- two sides
 
+below_is : (a b : ℕ) → nat_lt a b ≡ true → a < b
+below_is a b h = grind (arith, nat_tests)
+
 -- with what a sending drew
 abbrev pub more : Ids → Scene → Request → Outcome → Ids
 more d s r o id = d id || drawn_by s r o id
@@ -121,38 +108,18 @@ pub record Pair (g h : Setting) (k l : Times) (opening : Content) (fs gs : List 
   pub known_second : (id : ℕ) → IsKnown y.told.drawn id → e id ≡ true
   pub apart : (id : ℕ) → d id ≡ true → e id ≡ false
 
-pub not_true : {b : Bool} → (b ≡ true → ⊥) → b ≡ false
-not_true {b = true} h = absurd (h refl)
-not_true {b = false} h = refl
-
 pub swap_twins : {v w : Script} → AreTwins v w → AreTwins w v
 swap_twins t = record { dest = sym t.dest; jobs = λ e. t.jobs (sym e) }
 
 pub swapped : {g h : Setting} {k l : Times} {opening : Content} {fs gs : List Entry} {d e : Ids} {x y : Stand} → AreTwins g.script h.script → Pair g h k l opening fs gs d e x y → Pair h g l k opening gs fs e d y x
-swapped {g = g} {opening = opening} {x = x} {y = y} t p = record {
-  first = p.second;
-  second = p.first;
-  scenes = sym p.scenes;
-  there = λ stood. subst (λ (d : Path). HasBucket y.seen.scene.content d.bucket) t.dest (subst (λ (s : Scene). HasBucket s.content g.script.dest.bucket) p.scenes (p.there (subst (λ (d : Path). HasBucket opening d.bucket) (sym t.dest) stood)));
-  low_first = p.low_second;
-  low_second = p.low_first;
-  known_first = p.known_second;
-  known_second = p.known_first;
-  apart = λ id e. not_true (λ f. false_true (p.apart id f) e);
-}
+swapped {g = g} {h = h} {opening = opening} {d = d} {e = e} {x = x} {y = y} t p =
+    let there : HasBucket opening h.script.dest.bucket → HasBucket y.seen.scene.content h.script.dest.bucket =
+    λ stood. subst (λ (d : Path). HasBucket y.seen.scene.content d.bucket) t.dest (subst (λ (s : Scene). HasBucket s.content g.script.dest.bucket) p.scenes (p.there (subst (λ (d : Path). HasBucket opening d.bucket) (sym t.dest) stood))) in
+    let apart : (id : ℕ) → e id ≡ true → d id ≡ false = λ id z. not_true (λ f. false_true (p.apart id f) z) in
+    assumption (sym p.scenes, there, apart, p)
 
 pub paired_begin : {g h : Setting} {k l : Times} {opening : Content} {fs gs : List Entry} {d e : Ids} {x y : Stand} → (b : Beginning) → MayBegin g x b → Pair g h k l opening fs gs d e x y → Pair g h k l opening fs gs d e (begin g x b) y
-paired_begin {fs = fs} {x = x} b may p = record {
-  first = actor_begins fs x b p.first may;
-  second = p.second;
-  scenes = p.scenes;
-  there = p.there;
-  low_first = p.low_first;
-  low_second = p.low_second;
-  known_first = p.known_first;
-  known_second = p.known_second;
-  apart = p.apart;
-}
+paired_begin {fs = fs} {x = x} b may p = assumption (actor_begins fs x b p.first may, p)
 
 module _ {g h : Setting} (m : MayBeTwins g.script h.script) (shared : g.shared ≡ true) (k l : Times) {opening : Content} (is : IsOpening g opening) {fs gs : List Entry} {d1 d2 : Ids} {x y z : Stand} (e : Entry) (n : ℕ) (sends : Sends g k x e z) (p : Pair g h k l opening fs gs d1 d2 x y) where
   abbrev r : Request
@@ -177,57 +144,27 @@ module _ {g h : Setting} (m : MayBeTwins g.script h.script) (shared : g.shared �
   later = subst (λ (s : Scene). x.seen.scene.content.next ≤ s.content.next) (sym at) (effect_later x.seen.scene r o)
 
   new_id : (id : ℕ) → d3 id ≡ true → (d1 id ≡ true) ⊎ ((x.seen.scene.content.next ≤ id) × (id < z.seen.scene.content.next))
-  new_id id d = by (d1 id) refl d
-    where
-      by : (b : Bool) → d1 id ≡ b → (d1 id || drawn_by x.seen.scene r o id) ≡ true → (d1 id ≡ true) ⊎ ((x.seen.scene.content.next ≤ id) × (id < z.seen.scene.content.next))
-      by true q f = inl q
-      by false q f =
-          let both = and_parts (nat_le x.seen.scene.content.next id) (nat_lt id (effect x.seen.scene r o).content.next) (sym (ap (λ b. b || drawn_by x.seen.scene r o id) q) ∙ f) in
-          inr (le_of _ _ both.0, subst (λ (s : Scene). id < s.content.next) (sym at) (lt_of _ _ both.1))
-        where
-          le_of : (a b : ℕ) → nat_le a b ≡ true → a ≤ b
-          le_of a b h = grind (arith, nat_tests)
-
-          lt_of : (a b : ℕ) → nat_lt a b ≡ true → a < b
-          lt_of a b h = grind (arith, nat_tests)
-
-  old_id : (id : ℕ) → d1 id ≡ true → d3 id ≡ true
-  old_id id d = ap (λ b. b || drawn_by x.seen.scene r o id) d
+  new_id id d = elim (or_cases (d1 id) (drawn_by x.seen.scene r o id) d) [
+    | inl old ↦ inl old
+    | inr new ↦ (let both = and_parts (nat_le x.seen.scene.content.next id) (nat_lt id (effect x.seen.scene r o).content.next) new in inr (at_most_is _ _ both.0, subst (λ (s : Scene). id < s.content.next) (sym at) (below_is _ _ both.1)))
+  ]
 
   just_drawn : (id : ℕ) → x.seen.scene.content.next ≤ id → id < z.seen.scene.content.next → d3 id ≡ true
-  just_drawn id a b = or_last (d1 id) (drawn_by x.seen.scene r o id) (both _ _ (le_true x.seen.scene.content.next id a) (lt_true id (effect x.seen.scene r o).content.next (subst (λ (s : Scene). id < s.content.next) at b)))
-    where
-      or_last : (a b : Bool) → b ≡ true → (a || b) ≡ true
-      or_last true b e = refl
-      or_last false b e = e
-
-      both : (a b : Bool) → a ≡ true → b ≡ true → (a && b) ≡ true
-      both a b e f = rw (e, f) refl
-
-      le_true : (a b : ℕ) → a ≤ b → nat_le a b ≡ true
-      le_true a b h = grind (arith, nat_tests)
-
-      lt_true : (a b : ℕ) → a < b → nat_lt a b ≡ true
-      lt_true a b h = grind (arith, nat_tests)
-
-  low_still : (id : ℕ) → id < y.seen.scene.content.next → id < (effect y.seen.scene r o).content.next
-  low_still id a = let b = effect_later y.seen.scene r o in omega arith
+  just_drawn id a b =
+      ap (λ c. d1 id || c) (and_from _ _ (at_most_so x.seen.scene.content.next id a) (below_so id (effect x.seen.scene r o).content.next (subst (λ (s : Scene). id < s.content.next) at b))) ∙ or_true (d1 id)
 
   pub paired : Pair g h k l opening (fs ++ e ∷ []) (gs ++ strange_entry n r o ∷ []) d3 d2 z (observed h l y n e)
   paired = record {
     first = goes_on g k opening fs x z e p.first sends;
     second = strays gs y n r o p.second foreign;
     scenes = at ∙ ap (λ s. effect s r o) p.scenes;
-    there = λ stood. subst (λ (s : Scene). HasBucket s.content g.script.dest.bucket) (sym at) (effect_there x.seen.scene g.script.dest.bucket r o (p.there stood));
+    there = λ stood. subst (λ (s : Scene). HasBucket s.content g.script.dest.bucket) (sym at) (let h = p.there stood in effect_so (λ (t : Scene). HasBucket t.content g.script.dest.bucket) x.seen.scene r o h ((frame x.seen.scene g.script.dest.bucket r h).there h.0 h.1));
     low_first = λ id d. elim (new_id id d) [ inl old ↦ (let a = p.low_first id old in let b = later in omega arith) | inr new ↦ new.1 ];
-    low_second = λ id d. low_still id (p.low_second id d);
-    known_first = λ id d. elim (sends_known g m.first shared k opening is fs x z e sends p.first id d) [ inl old ↦ old_id id (p.known_first id old) | inr new ↦ just_drawn id new.0 new.1 ];
+    low_second = λ id d. (let a = p.low_second id d in let b = effect_later y.seen.scene r o in omega arith);
+    known_first = λ id d. elim (sends_known g m.first shared k opening is fs x z e sends p.first id d) [ inl old ↦ ap (λ b. b || drawn_by x.seen.scene r o id) (p.known_first id old) | inr new ↦ just_drawn id new.0 new.1 ];
     known_second = p.known_second;
     apart = λ id d. elim (new_id id d) [
       | inl old ↦ p.apart id old
-      | inr new ↦ not_true (λ f. not_below (x.seen.scene.content.next) id new.0 (subst (λ (s : Scene). id < s.content.next) (sym p.scenes) (p.low_second id f)))
+      | inr new ↦ not_true (λ f. omega (arith, new.0, subst (λ (s : Scene). id < s.content.next) (sym p.scenes) (p.low_second id f)))
     ];
   }
-    where
-      not_below : (a b : ℕ) → a ≤ b → b < a → ⊥
-      not_below a b h f = absurd (omega arith)

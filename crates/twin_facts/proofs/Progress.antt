@@ -1,23 +1,26 @@
 -- How far a job's commit has come that replaces nothing, in every run of the job among strangers.
-use Rattle.std.proofs.Common.{◌≡◌, ℕ, zero, suc, ◌+◌, nat_lt, ◌<◌, ◌≤◌, ◌^◌, inl, inr, not, ◌&&◌, ◌||◌, Bool, true, false, cond, List, [], ◌∷◌, ◌++◌, length, Option, Some, None, refl, sym, ap, subst, ◌∙◌, arith, length-append}
-use Rattle.job_facts.specs.Prelude.{is_some, Content, answer, IsHonestOutcome, Request, Committer, Magic, Directory, Partitioned, Mode, Replace, Append, Fail, Reply, Outcome, Answered, Slow, RequestLost, ReplyLost, IsLegal, Who, Script, CommitEnd, Sweep, Listing, Deleting, sweep_asks, sweep_hears, Picks, same_path, picked_below, is_decided, is_clash, Turn, again, follow, dealt, revert, Sets, all_commits, picks_of, Commit, Fetching, Replacing, Completing, Marking, Reverting, CommitOver, set_request, set_read, ok_set, commit_asks, commit_hears, commit_misses, commit_tells, commit_start, completing, is_no_magic, replaced, replacing, decided, fetching, fetched, swept, reverting, worn_completion, Setting, Operation, TheCommit, TheCheck, Entry, Driver, who, step, strange_entry, tells, asks, files_set, Seen, see, is_begun, is_reading, is_marking, picks_by, Told, known, tell_driver, tell_attempt, at_event, entry, driver_entry, sets_at, Hold, knowing, Fits, NoneEnded, Decides, IsSetAnswer, Times, is_picking}
-use Rattle.job_spec.proofs.Common.{some_is, none_some, false_true, same_or_not}
+use Rattle.std.proofs.Common.{◌≡◌, ℕ, zero, suc, ◌+◌, nat_lt, ◌<◌, ◌≤◌, ◌^◌, inl, inr, not, ◌&&◌, Bool, true, false, cond, List, [], ◌∷◌, ◌++◌, length, Option, Some, None, refl, sym, ap, subst, ◌∙◌, arith, length-append}
+use Rattle.job_facts.specs.Prelude.{is_some, Content, answer, IsHonestOutcome, Request, Committer, Magic, Mode, Replace, Append, Fail, Reply, Outcome, Answered, Slow, IsLegal, Script, CommitEnd, Sweep, Listing, Deleting, sweep_asks, sweep_hears, Picks, same_path, picked_below, is_decided, is_clash, Turn, again, follow, dealt, revert, Sets, all_commits, picks_of, Commit, Fetching, Replacing, Completing, Marking, Reverting, CommitOver, set_request, set_read, ok_set, commit_asks, commit_hears, commit_misses, commit_tells, commit_start, completing, is_no_magic, replaced, replacing, decided, fetching, fetched, swept, reverting, worn_completion, Setting, Operation, TheCommit, TheCheck, Entry, Driver, who, step, strange_entry, tells, asks, files_set, Seen, see, is_begun, is_reading, is_marking, picks_by, Told, tell_driver, at_event, entry, driver_entry, sets_at, Hold, knowing, Decides, IsSetAnswer, Times, is_picking}
+use Rattle.job_spec.proofs.Common.{some_is, none_some, none_or_some, false_true, same_or_not}
 use Rattle.job_model.specs.declared.ends.CommitEnd.TheVariants as ends
 use Rattle.job_model.specs.declared.ends.Stage.TheVariants as stages
-use Rattle.job_facts.proofs.Whose.{or_false}
+use Rattle.std.proofs.Math.Bool.{and-false}
+use Rattle.std.proofs.lemmas.Bool.{cond_both}
 use Rattle.job_facts.proofs.Replies.{set_reply, bytes_read}
 use Rattle.job_facts.proofs.Reading.{reads_other}
 use Rattle.job_protocol.proofs.Begun.{commit_of_so, clean_of_so, after_check_so}
 use Rattle.job_protocol.specs.Rechecks.{check_after}
 use Rattle.job_facts.proofs.Owning.{operation_own}
 use Rattle.job_facts.proofs.Sharing.{check_plain}
-use Rattle.job_traces.specs.Runs.{Stand, is_set, IsTimely, nothing_learnt, BeginSetup, BeginCommit, BeginClean, BeginWrite, BeginPublish, BeginAbort, Runs, run_begins, actor_begins, driver_sends, attempt_sends, strays, IsOpening}
+use Rattle.job_traces.specs.Runs.{Stand, is_set, IsTimely, nothing_learnt, BeginSetup, BeginCommit, BeginClean, Runs, run_begins, actor_begins, driver_sends, attempt_sends, strays, IsOpening}
 use Rattle.job_traces.proofs.Running.{InCommit, Idle, At}
 use Rattle.job_traces.proofs.Steps.{commit_next}
 use Rattle.job_traces.proofs.Keeping.{attempt_quiet}
 use Rattle.job_traces.proofs.EveryRun.{just_set, just_idle, checked_idle, cleans_is}
 use Rattle.job_traces.proofs.Entries.{late_now}
 use Rattle.twin_facts.specs.TwinLaws.{is_replace}
+use Rattle.twin_facts.proofs.OneSide.{unread_picks, mark_still}
+use Rattle.twin_facts.proofs.Changes.{Under}
 
 -- ---- what holds of a commit as it goes on, whoever else sends
 
@@ -33,16 +36,10 @@ Unmarked put (CommitOver ends.Committed) = Unit {0}
 Unmarked put (CommitOver (ends.StoreFault stages.Success)) = Unit {0}
 Unmarked put _ = put ≡ false
 
--- a mode that is not replace deletes nothing that it does not revert
-abbrev pub NeverReplaces : Script → Commit → Type 0
-NeverReplaces w (Replacing sets p ps s n) = is_replace w.mode ≡ false → ⊥
-NeverReplaces w _ = Unit {0}
-
 pub record Committing (g : Setting) (opening : Content) (m : Told) (picks : Picks) (put : Bool) (c : Commit) : Type 0 where
   pub alone : InCommit g opening picks m c
   pub unread : Unread g.script picks c
   pub unmarked : Unmarked put c
-  pub never : NeverReplaces g.script c
 
 pub false_unmarked : (put : Bool) → put ≡ false → (c : Commit) → Unmarked put c
 false_unmarked put e (Marking sets n) = tt
@@ -51,65 +48,11 @@ false_unmarked put e (CommitOver (ends.StoreFault stages.Success)) = tt
 false_unmarked put e _ = e
 
 module _ (w : Script) where
-  abbrev Rest : Picks → Commit → Type 0
-  Rest picks c = Unread w picks c × NeverReplaces w c
-
-  rest_completing : (picks : Picks) (sets : Sets) (xs : List Turn) (finished : List ℕ) → Rest picks (completing sets xs finished)
-  rest_completing picks sets [] finished = (tt, tt)
-  rest_completing picks sets (x ∷ xs) finished = (tt, tt)
-
-  rest_replacing : (picks : Picks) (sets : Sets) (ps : List (List ℕ)) → (is_replace w.mode ≡ false → ps ≡ []) → Rest picks (replacing w sets ps)
-  rest_replacing picks sets [] h = rest_completing picks sets (dealt w.lanes (length (all_commits sets))) []
-  rest_replacing picks sets (p ∷ ps) h = (tt, λ e. absurd (some_none p ps (h e)))
-    where
-      some_none : (p : List ℕ) (ps : List (List ℕ)) → p ∷ ps ≡ [] → ⊥
-      some_none p ps e = absurd cc
-
   none_replaced : (c : Committer) (m : Mode) (picks : Picks) → is_replace m ≡ false → replaced c m w picks ≡ []
   none_replaced c Replace picks e = absurd (false_true e refl)
   none_replaced Magic Append picks e = refl
   none_replaced Magic Fail picks e = refl
-  none_replaced Directory Append picks e = refl
-  none_replaced Directory Fail picks e = refl
-  none_replaced Partitioned Append picks e = refl
-  none_replaced Partitioned Fail picks e = refl
-
-  rest_decided : (picks : Picks) (sets : Sets) (o : Option CommitEnd) → Rest picks (decided w sets o)
-  rest_decided picks sets (Some end) = (tt, tt)
-  rest_decided picks sets None = rest_replacing picks sets (replaced w.committer w.mode w (picks_of sets)) (none_replaced w.committer w.mode (picks_of sets))
-
-  rest_fetching : (picks : Picks) (sets : Sets) → Unread w picks (Fetching sets 0) → Rest picks (fetching w sets)
-  rest_fetching picks sets h = by (nat_lt (length sets) w.tasks)
-    where
-      by : (b : Bool) → Rest picks (cond b (Fetching sets 0) (decided w sets (same_path w (picks_of sets))))
-      by true = (h, tt)
-      by false = rest_decided picks sets (same_path w (picks_of sets))
-
-  rest_start : (picks : Picks) → ((t : ℕ) → picks t ≡ None) → (missing : Option ℕ) → Rest picks (commit_start w missing)
-  rest_start picks h (Some t) = (tt, tt)
-  rest_start picks h None = rest_fetching picks [] (λ t l k. h t)
-
-  rest_either : (picks : Picks) (b : Bool) (c d : Commit) → Rest picks c → Rest picks d → Rest picks (cond b c d)
-  rest_either picks true c d h g = h
-  rest_either picks false c d h g = g
-
-  rest_reverting : (picks : Picks) (rs : List Request) → Rest picks (reverting rs)
-  rest_reverting picks [] = (tt, tt)
-  rest_reverting picks (r ∷ rs) = (tt, tt)
-
-  rest_swept : (picks : Picks) (sets : Sets) (p : List ℕ) (ps : List (List ℕ)) (o : Option Sweep) → (is_replace w.mode ≡ false → ⊥) → Rest picks (swept w sets p ps o)
-  rest_swept picks sets p ps (Some s) h = (tt, h)
-  rest_swept picks sets p ps None h = rest_replacing picks sets ps (λ e. absurd (h e))
-
-  -- where no answer came, the picks are as they were
-  rest_missed : (picks : Picks) (c : Commit) (lost : Bool) → Rest picks c → Rest picks (commit_misses w c lost)
-  rest_missed picks (Fetching sets n) lost h = rest_either picks (nat_lt n w.retries) (Fetching sets (n + 1)) (CommitOver (ends.StoreFault stages.Read)) h (tt, tt)
-  rest_missed picks (Replacing sets p ps s n) lost h = rest_either picks (nat_lt n w.retries) (Replacing sets p ps s (n + 1)) (CommitOver (ends.StoreFault stages.Delete)) h (tt, tt)
-  rest_missed picks (Completing sets x xs finished) lost h =
-      rest_either picks (nat_lt x.missed w.retries) (completing sets (xs ++ again x lost ∷ []) finished) (worn_completion sets x xs finished) (rest_completing picks sets (xs ++ again x lost ∷ []) finished) (rest_reverting picks (revert (all_commits sets) x.number xs finished))
-  rest_missed picks (Marking sets n) lost h = rest_either picks (nat_lt n w.retries) (Marking sets (n + 1)) (CommitOver (ends.StoreFault stages.Success)) (tt, tt) (tt, tt)
-  rest_missed picks (Reverting q qs n) lost h = rest_either picks (nat_lt n w.retries) (Reverting q qs (n + 1)) (reverting qs) (tt, tt) (rest_reverting picks qs)
-  rest_missed picks (CommitOver end) lost h = (tt, tt)
+  none_replaced _ _ picks e = refl
 
   abbrev pub is_fetching : Commit → Bool
   is_fetching (Fetching sets n) = true
@@ -119,36 +62,79 @@ module _ (w : Script) where
   is_mark_stage (Marking sets n) = true
   is_mark_stage _ = false
 
-  rest_heard : (picks : Picks) (c : Commit) → is_fetching c ≡ false → Rest picks c → (y : Reply) → Rest picks (commit_hears w c y)
-  rest_heard picks (Fetching sets n) z h y = absurd (false_true z refl)
-  rest_heard picks (Replacing sets p ps s n) z h y = rest_swept picks sets p ps (sweep_hears (is_no_magic w) s y) h.1
-  rest_heard picks (Completing sets x xs finished) z h y = rest_completing picks sets (xs ++ follow w.lanes (length (all_commits sets)) x.number) (x.number ∷ finished)
-  rest_heard picks (Reverting q qs n) z h y = rest_reverting picks qs
-  rest_heard picks _ z h y = (tt, tt)
+  module _ (picks : Picks) where
+    abbrev U : Commit → Type 0
+    U c = Unread w picks c
+
+    unread_either : (b : Bool) (c d : Commit) → U c → U d → U (cond b c d)
+    unread_either b c d h g = cond_both b c d (λ v. U v) (λ e. h) (λ e. g)
+
+    unread_completing : (sets : Sets) (xs : List Turn) (finished : List ℕ) → U (completing sets xs finished)
+    unread_completing sets [] finished = tt
+    unread_completing sets (x ∷ xs) finished = tt
+
+    unread_replacing : (sets : Sets) (ps : List (List ℕ)) → U (replacing w sets ps)
+    unread_replacing sets [] = unread_completing sets (dealt w.lanes (length (all_commits sets))) []
+    unread_replacing sets (p ∷ ps) = tt
+
+    unread_decided : (sets : Sets) (o : Option CommitEnd) → U (decided w sets o)
+    unread_decided sets (Some end) = tt
+    unread_decided sets None = unread_replacing sets (replaced w.committer w.mode w (picks_of sets))
+
+    unread_fetching : (sets : Sets) → U (Fetching sets 0) → U (fetching w sets)
+    unread_fetching sets h =
+        unread_either (nat_lt (length sets) w.tasks) (Fetching sets 0) (decided w sets (same_path w (picks_of sets))) h (unread_decided sets (same_path w (picks_of sets)))
+
+    unread_start : ((t : ℕ) → picks t ≡ None) → (missing : Option ℕ) → U (commit_start w missing)
+    unread_start h (Some t) = tt
+    unread_start h None = unread_fetching [] (λ t l k. h t)
+
+    unread_reverting : (rs : List Request) → U (reverting rs)
+    unread_reverting [] = tt
+    unread_reverting (r ∷ rs) = tt
+
+    unread_swept : (sets : Sets) (p : List ℕ) (ps : List (List ℕ)) (o : Option Sweep) → U (swept w sets p ps o)
+    unread_swept sets p ps (Some s) = tt
+    unread_swept sets p ps None = unread_replacing sets ps
+
+    -- where no answer came, the picks are as they were
+    unread_missed : (c : Commit) (lost : Bool) → U c → U (commit_misses w c lost)
+    unread_missed (Fetching sets n) lost h = unread_either (nat_lt n w.retries) (Fetching sets (n + 1)) (CommitOver (ends.StoreFault stages.Read)) h tt
+    unread_missed (Replacing sets p ps s n) lost h = unread_either (nat_lt n w.retries) (Replacing sets p ps s (n + 1)) (CommitOver (ends.StoreFault stages.Delete)) tt tt
+    unread_missed (Completing sets x xs finished) lost h =
+        unread_either (nat_lt x.missed w.retries) (completing sets (xs ++ again x lost ∷ []) finished) (worn_completion sets x xs finished)
+        (unread_completing sets (xs ++ again x lost ∷ []) finished) (unread_reverting (revert (all_commits sets) x.number xs finished))
+    unread_missed (Marking sets n) lost h = unread_either (nat_lt n w.retries) (Marking sets (n + 1)) (CommitOver (ends.StoreFault stages.Success)) tt tt
+    unread_missed (Reverting q qs n) lost h = unread_either (nat_lt n w.retries) (Reverting q qs (n + 1)) (reverting qs) tt (unread_reverting qs)
+    unread_missed (CommitOver end) lost h = tt
+
+    unread_heard : (c : Commit) → is_fetching c ≡ false → (y : Reply) → U (commit_hears w c y)
+    unread_heard (Fetching sets n) z y = absurd (false_true z refl)
+    unread_heard (Replacing sets p ps s n) z y = unread_swept sets p ps (sweep_hears (is_no_magic w) s y)
+    unread_heard (Completing sets x xs finished) z y = unread_completing sets (xs ++ follow w.lanes (length (all_commits sets)) x.number) (x.number ∷ finished)
+    unread_heard (Reverting q qs n) z y = unread_reverting qs
+    unread_heard _ z y = tt
 
   -- while it reads, not each task has a pick
   pub undecided : (picks : Picks) (sets : Sets) → length sets < w.tasks → Unread w picks (Fetching sets 0) → is_decided w picks ≡ false
-  undecided picks sets low h = ap (λ b. b && notc) (unpicked w.tasks (length sets) low (h (length sets) (omega arith) low))
+  undecided picks sets low h = ap (λ b. b && not (is_clash w picks)) (unpicked w.tasks (length sets) low (h (length sets) (omega arith) low))
     where
-      notc : Bool
-      notc = not (is_clash w picks)
-
-      and_last : (b : Bool) → (b && false) ≡ false
-      and_last true = refl
-      and_last false = refl
-
       unpicked : (n t : ℕ) → t < n → picks t ≡ None → picked_below picks n ≡ false
       unpicked zero t l e = absurd (omega arith)
       unpicked (suc n) t l e = elim (same_or_not t n) [
-        | inl is ↦ ap (λ b. picked_below picks n && b) (ap (λ (u : ℕ). is_some (picks u)) (sym is) ∙ ap is_some e) ∙ and_last (picked_below picks n)
-        | inr ne ↦ ap (λ b. b && is_some (picks n)) (unpicked n t (less t n l ne) e)
+        | inl is ↦ ap (λ b. picked_below picks n && b) (ap (λ (u : ℕ). is_some (picks u)) (sym is) ∙ ap is_some e) ∙ and-false (picked_below picks n)
+        | inr ne ↦ ap (λ b. b && is_some (picks n)) (unpicked n t (omega (arith, l, ne)) e)
       ]
-        where
-          less : (t n : ℕ) → t < suc n → (t ≡ n → ⊥) → t < n
-          less zero zero l ne = absurd (ne refl)
-          less zero (suc n) l ne = omega arith
-          less (suc t) zero l ne = absurd (omega arith)
-          less (suc t) (suc n) l ne = let low = less t n (omega arith) (λ e. ne (ap (λ x. suc x) e)) in omega arith
+
+-- a mode that is not replace deletes nothing that it does not revert
+pub nothing_under : (g : Setting) (opening : Content) (m : Told) (picks : Picks) (c : Commit) → InCommit g opening picks m c → is_replace g.script.mode ≡ false → Under g.script c
+nothing_under g opening m picks (Replacing sets p ps x n) i keep =
+    absurd (some_left i.replaces.0 (i.replaces.1 ∙ none_replaced g.script g.script.committer g.script.mode (picks_of sets) keep))
+  where
+    some_left : (l : List (List ℕ)) → l ++ p ∷ ps ≡ [] → ⊥
+    some_left [] e = cc
+    some_left (q ∷ l) e = cc
+nothing_under g opening m picks _ i keep = tt
 
 -- ---- an entry of the commit
 
@@ -197,22 +183,11 @@ module _ (g : Setting) (opening : Content) (j : IsLegal g.script) (k : Times) (s
 
   -- ---- the picks
 
-  and_false : (b : Bool) → (b && false) ≡ false
-  and_false true = refl
-  and_false false = refl
-
   pub picks_same : is_fetching w c ≡ false → (o : Outcome) → (u o).picks ≡ s.picks
-  picks_same z (Answered y) = λ p t. same t p
-    where
-      same : (t : ℕ) → picks_by w picking s.last s.picks r t ≡ s.picks t
-      same t = ap (λ b. cond (picking && b) (s.last t) (s.picks t)) (kind.1 z t) ∙ ap (λ b. cond b (s.last t) (s.picks t)) (and_false picking)
-  picks_same z Slow = refl
-  picks_same z _ = refl
+  picks_same z = unread_picks w k s n r (kind.1 z)
 
   pub mark_same : is_mark_stage w c ≡ false → (o : Outcome) → (u o).put_mark ≡ s.put_mark
-  mark_same z Slow = refl
-  mark_same z RequestLost = refl
-  mark_same z _ = ap (λ b. s.put_mark || b) (kind.0 z) ∙ or_false s.put_mark
+  mark_same z = mark_still w k s n r (kind.0 z)
 
   -- ---- a read that was answered
 
@@ -230,69 +205,51 @@ module _ (g : Setting) (opening : Content) (j : IsLegal g.script) (k : Times) (s
     next = picks_by w picking s.last s.picks (set_request w.committer w (length sets))
 
     next_other : (t : ℕ) → t < w.tasks → (t ≡ length sets → ⊥) → next t ≡ s.picks t
-    next_other t l ne = ap (λ b. cond (picking && b) (s.last t) (s.picks t)) (reads_other j t (length sets) l low ne) ∙ ap (λ b. cond b (s.last t) (s.picks t)) (and_false picking)
+    next_other t l ne = ap (λ b. cond (picking && b) (s.last t) (s.picks t)) (reads_other j t (length sets) l low ne) ∙ ap (λ b. cond b (s.last t) (s.picks t)) (and-false picking)
 
     -- where no set stands nobody published
     next_none : s.last (length sets) ≡ None → (t : ℕ) → length sets ≤ t → t < w.tasks → next t ≡ None
     next_none none t l k = elim (same_or_not t (length sets)) [
-      | inl is ↦ elim_cond (picking && is_reading w t (set_request w.committer w (length sets))) (ap s.last is ∙ none) (unread t l k)
+      | inl is ↦ cond_both (picking && is_reading w t (set_request w.committer w (length sets))) (s.last t) (s.picks t) (λ o. o ≡ None) (λ e. ap s.last is ∙ none) (λ e. unread t l k)
       | inr ne ↦ next_other t k ne ∙ unread t l k
     ]
-      where
-        elim_cond : (b : Bool) → {a e : Option ℕ} → a ≡ None → e ≡ None → cond b a e ≡ None
-        elim_cond true p q = p
-        elim_cond false p q = q
 
     last_none : sets_at w s.scene (length sets) ≡ None → s.last (length sets) ≡ None
-    last_none e = by (s.last (length sets)) refl
-      where
-        by : (o : Option ℕ) → s.last (length sets) ≡ o → o ≡ None
-        by None z = refl
-        by (Some a) z = absurd (none_some e (h.standing at.uncleaned (length sets) a low z).1)
+    last_none e = elim (none_or_some (s.last (length sets))) [ inl z ↦ z | inr a ↦ absurd (none_some e (h.standing at.uncleaned (length sets) a.0 low a.1).1) ]
 
     more_unread : (t : ℕ) → length sets + 1 ≤ t → t < w.tasks → next t ≡ None
     more_unread t l k = next_other t k (λ e. absurd (omega (arith, e))) ∙ unread t (omega arith) k
 
-    rest_read : (y : Reply) → y ≡ answer s.scene (set_request w.committer w (length sets)) → Rest w next (fetched w sets (set_read y))
+    rest_read : (y : Reply) → y ≡ answer s.scene (set_request w.committer w (length sets)) → Unread w next (fetched w sets (set_read y))
     rest_read y e = by (sets_at w s.scene (length sets)) refl
       where
-        by : (o : Option (List ℕ)) → sets_at w s.scene (length sets) ≡ o → Rest w next (fetched w sets (set_read y))
+        by : (o : Option (List ℕ)) → sets_at w s.scene (length sets) ≡ o → Unread w next (fetched w sets (set_read y))
         by None z =
             let a : IsSetAnswer None (answer s.scene (set_request w.committer w (length sets))) = set_reply j h w.committer (length sets) None z in
-            let stay : Rest w next (Fetching sets 0) = (next_none (last_none z), tt) in
-            elim a [ inl key ↦ subst (λ v. Rest w next (fetched w sets (set_read v))) (sym (e ∙ key)) stay | inr file ↦ subst (λ v. Rest w next (fetched w sets (set_read v))) (sym (e ∙ file)) stay ]
+            let stay : Unread w next (Fetching sets 0) = next_none (last_none z) in
+            elim a [ inl key ↦ subst (λ v. Unread w next (fetched w sets (set_read v))) (sym (e ∙ key)) stay | inr file ↦ subst (λ v. Unread w next (fetched w sets (set_read v))) (sym (e ∙ file)) stay ]
         by (Some bytes) z =
             let x = h.sets (length sets) bytes low z in
             let a : IsSetAnswer (Some bytes) (answer s.scene (set_request w.committer w (length sets))) = set_reply j h w.committer (length sets) (Some bytes) z in
             let more : length (sets ++ files_set w x.by x.commits (knowing (m.drawn x.by)) ∷ []) ≡ length sets + 1 = length-append sets _ in
-            subst (λ v. Rest w next (fetched w sets v)) (sym (ap set_read e ∙ a ∙ ap ok_set (bytes_read j h few (length sets) bytes low x)))
-            (rest_fetching w next (sets ++ files_set w x.by x.commits (knowing (m.drawn x.by)) ∷ []) (λ t l k. more_unread t (subst (λ n. n ≤ t) more l) k))
+            subst (λ v. Unread w next (fetched w sets v)) (sym (ap set_read e ∙ a ∙ ap ok_set (bytes_read j h few (length sets) bytes low x)))
+            (unread_fetching w next (sets ++ files_set w x.by x.commits (knowing (m.drawn x.by)) ∷ []) (λ t l k. more_unread t (subst (λ n. n ≤ t) more l) k))
 
   -- ---- what follows
 
-  rest : Rest w s.picks c
-  rest = (i.unread, i.never)
-
-  rest_answered : (d : Commit) → d ≡ c → (y : Reply) → y ≡ answer s.scene r → Rest w (picks_by w picking s.last s.picks r) (commit_hears w c y)
-  rest_answered (Fetching sets x) v y honest =
+  unread_answered : (d : Commit) → d ≡ c → (y : Reply) → y ≡ answer s.scene r → Unread w (picks_by w picking s.last s.picks r) (commit_hears w c y)
+  unread_answered (Fetching sets x) v y honest =
       let is = is_read sets x v in
-      subst (λ d. Rest w (picks_by w picking s.last s.picks r) (commit_hears w d y)) v
-      (subst (λ z. Rest w (picks_by w picking s.last s.picks z) (fetched w sets (set_read y))) (sym is) (rest_read sets x v y (honest ∙ ap (answer s.scene) is)))
-  rest_answered _ v y honest =
-      let z = ap (is_fetching w) (sym v) in
-      subst (λ p. Rest w p (commit_hears w c y)) (sym (picks_same z (Answered y))) (rest_heard w s.picks c z rest y)
+      subst (λ d. Unread w (picks_by w picking s.last s.picks r) (commit_hears w d y)) v
+      (subst (λ z. Unread w (picks_by w picking s.last s.picks z) (fetched w sets (set_read y))) (sym is) (rest_read sets x v y (honest ∙ ap (answer s.scene) is)))
+  unread_answered _ v y honest = unread_heard w (picks_by w picking s.last s.picks r) c (ap (is_fetching w) (sym v)) y
 
-  rest_next : (o : Outcome) → IsHonestOutcome o (answer s.scene r) → Rest w (u o).picks (commit_tells w c o)
-  rest_next (Answered y) honest = rest_answered c refl y honest
-  rest_next Slow honest = rest_missed w s.picks c false rest
-  rest_next RequestLost honest = rest_missed w s.picks c true rest
-  rest_next ReplyLost honest = rest_missed w s.picks c true rest
+  unread_next : (o : Outcome) → IsHonestOutcome o (answer s.scene r) → Unread w (u o).picks (commit_tells w c o)
+  unread_next (Answered y) honest = unread_answered c refl y honest
+  unread_next Slow honest = unread_missed w s.picks c false i.unread
+  unread_next _ honest = unread_missed w s.picks c true i.unread
 
   -- ---- the marker
-
-  unmarked_either : (put b : Bool) (d e : Commit) → Unmarked put d → Unmarked put e → Unmarked put (cond b d e)
-  unmarked_either put true d e y z = y
-  unmarked_either put false d e y z = z
 
   pub put_before : (d : Commit) → is_mark_stage w d ≡ false → commit_asks w d ≡ Some r → Unmarked s.put_mark d → s.put_mark ≡ false
   put_before (Marking sets x) z e y = absurd (false_true z refl)
@@ -301,8 +258,8 @@ module _ (g : Setting) (opening : Content) (j : IsLegal g.script) (k : Times) (s
 
   marking_next : (sets : Sets) (x : ℕ) (put : Bool) (o : Outcome) → Unmarked put (commit_tells w (Marking sets x) o)
   marking_next sets x put (Answered y) = tt
-  marking_next sets x put Slow = unmarked_either put (nat_lt x w.retries) (Marking sets (x + 1)) (CommitOver (ends.StoreFault stages.Success)) tt tt
-  marking_next sets x put _ = unmarked_either put (nat_lt x w.retries) (Marking sets (x + 1)) (CommitOver (ends.StoreFault stages.Success)) tt tt
+  marking_next sets x put Slow = cond_both (nat_lt x w.retries) (Marking sets (x + 1)) (CommitOver (ends.StoreFault stages.Success)) (Unmarked put) (λ t. tt) (λ t. tt)
+  marking_next sets x put _ = cond_both (nat_lt x w.retries) (Marking sets (x + 1)) (CommitOver (ends.StoreFault stages.Success)) (Unmarked put) (λ t. tt) (λ t. tt)
 
   unmarked_next : (d : Commit) → d ≡ c → (o : Outcome) → Unmarked (u o).put_mark (commit_tells w c o)
   unmarked_next (Marking sets x) v o = subst (λ d. Unmarked (u o).put_mark (commit_tells w d o)) v (marking_next sets x (u o).put_mark o)
@@ -311,28 +268,26 @@ module _ (g : Setting) (opening : Content) (j : IsLegal g.script) (k : Times) (s
   -- ---- all of it
 
   pub committing_next : (o : Outcome) → IsHonestOutcome o (answer s.scene r) → Committing g opening (at_event n (tell_driver m r o)) (u o).picks (u o).put_mark (commit_tells w c o)
-  committing_next o honest =
-      let next = rest_next o honest in
-      record { alone = commit_next g j opening k s m n begins_it unclean cleans few h c at r asked o honest; unread = next.0; unmarked = unmarked_next c refl o; never = next.1 }
+  committing_next o honest = record { alone = commit_next g j opening k s m n begins_it unclean cleans few h c at r asked o honest; unread = unread_next o honest; unmarked = unmarked_next c refl o }
 
 -- ---- in every run
 
 -- where the driver is at its commit
 abbrev Goes : Setting → Option Operation → Seen → Type 0
-Goes g (Some (TheCommit c)) s = Rest g.script s.picks c × Unmarked s.put_mark c
+Goes g (Some (TheCommit c)) s = Unread g.script s.picks c × Unmarked s.put_mark c
 Goes g _ s = Unit {0}
 
 goes_same : (g : Setting) (d : Option Operation) (s u : Seen) → u.picks ≡ s.picks → u.put_mark ≡ s.put_mark → Goes g d s → Goes g d u
-goes_same g (Some (TheCommit c)) s u picks mark h = (subst (λ p. Rest g.script p c) (sym picks) h.0, subst (λ b. Unmarked b c) (sym mark) h.1)
+goes_same g (Some (TheCommit c)) s u picks mark h = (subst (λ p. Unread g.script p c) (sym picks) h.0, subst (λ b. Unmarked b c) (sym mark) h.1)
 goes_same g (Some _) s u picks mark h = tt
 goes_same g None s u picks mark h = tt
 
 module _ (g : Setting) (k : Times) (opening : Content) (j : IsLegal g.script) (is : IsOpening g opening) where
   starts : (s : Seen) (m : Told) → Idle g opening s m → (missing : Option ℕ) → Goes g (Some (TheCommit (commit_start g.script missing))) s
-  starts s m i missing = (rest_start g.script s.picks i.unpicked missing, false_unmarked s.put_mark i.unmarked (commit_start g.script missing))
+  starts s m i missing = (unread_start g.script s.picks i.unpicked missing, false_unmarked s.put_mark i.unmarked (commit_start g.script missing))
 
   with_rest : (s : Seen) (m : Told) (c : Commit) → At g opening (Some (TheCommit c)) s m → Goes g (Some (TheCommit c)) s → Committing g opening m s.picks s.put_mark c
-  with_rest s m c at h = record { alone = at; unread = h.0.0; unmarked = h.1; never = h.0.1 }
+  with_rest s m c at h = record { alone = at; unread = h.0; unmarked = h.1 }
 
   goes : (es : List Entry) (x : Stand) → Runs g k opening es x → Goes g x.driver x.seen
   goes es x run_begins = tt
@@ -341,9 +296,7 @@ module _ (g : Setting) (k : Times) (opening : Content) (j : IsLegal g.script) (i
       let l = late_now g k opening j is fs y run (just_set y.driver may) in
       commit_of_so g (λ op. Goes g (Some op) y.seen) (starts y.seen y.told (just_idle g k opening j is y.driver y.seen y.told l.driver may)) (λ t. tt) reports
   goes es x (actor_begins fs y BeginClean run may) = clean_of_so g (λ op. Goes g (Some op) y.seen) tt tt
-  goes es x (actor_begins fs y (BeginWrite a) run may) = goes fs y run
-  goes es x (actor_begins fs y (BeginPublish a) run may) = goes fs y run
-  goes es x (actor_begins fs y (BeginAbort a) run may) = goes fs y run
+  goes es x (actor_begins fs y b run may) = goes fs y run
   goes es x (driver_sends fs y op n r o run d asked timely few honest) = by op d asked timely (subst (λ v. Goes g v y.seen) d (goes fs y run))
     where
       by : (op : Operation) → y.driver ≡ Some op → asks g (who Driver) nothing_learnt op ≡ Some r → IsTimely k n op → Goes g (Some op) y.seen → Goes g (Some (tells g (who Driver) op o)) (see g.script k y.seen (driver_entry n r o))
@@ -351,7 +304,7 @@ module _ (g : Setting) (k : Times) (opening : Content) (j : IsLegal g.script) (i
           let l = late_now g k opening j is fs y run (ap is_set d) in
           let i = with_rest y.seen y.told c (subst (λ v. At g opening v y.seen y.told) d l.driver) h in
           let z = committing_next g opening j k y.seen y.told n timely.0 timely.1 (cleans_is g k opening j is fs y run) few l.hold c i r asked o honest in
-          ((z.unread, z.never), z.unmarked)
+          (z.unread, z.unmarked)
       by (TheCheck t) d asked timely h =
           let l = late_now g k opening j is fs y run (ap is_set d) in
           let next = see g.script k y.seen (driver_entry n r o) in

@@ -1,6 +1,6 @@
 -- Of the magic committer: as long as its upload lives, the record of a file that an attempt has written stands; an abort or clean of the job deletes none whose upload lives.
 use Rattle.std.proofs.Common.{◌≡◌, ℕ, ◌≤◌, ◌^◌, ◌⊎◌, inl, inr, nat_lt, ◌||◌, Bool, true, false, List, [], ◌∷◌, ◌++◌, take, drop, length, Option, Some, None, refl, sym, ap, subst, ◌∙◌}
-use Rattle.job_facts.specs.Prelude.{filter, Scene, begins, listed, answer, apply, bucket_of, effect, IsHonestOutcome, Request, GetObject, AbortUpload, UploadRef, Committer, Magic, Directory, Partitioned, Reply, Page, PageEntry, Outcome, Answered, Slow, RequestLost, Retried, step, magic_prefix, MarkerPlace, RecordPlace, is_record, Listing, Deleting, walked_by, keys_on, last_of, page_after, Who, File, Script, Drawn, IsLegal, learn, files, file_key, record_key, record_text, file_record, Uploading, Uploaded, Creating, Sending, GoesOn, AllSent, IsGone, upload_asks, upload_hears, Write, Recording, WriteOver, writing, write_asks, write_after, TaskAbort, TaskAbortOver, task_abort_asks, Setting, Operation, TheWrite, TheTaskCommit, TheTaskAbort, asks, tells, is_magic, is_staging, IsIn, HasBucket, changed_keys, Told, known, undoes, tell_driver, tell_attempt, at_event, at_key, IsAttempt, Facts, Fits, FitsWrite}
+use Rattle.job_facts.specs.Prelude.{filter, Scene, begins, listed, answer, apply, bucket_of, effect, IsHonestOutcome, Request, GetObject, AbortUpload, UploadRef, Committer, Magic, Reply, Page, PageEntry, Outcome, Answered, Retried, step, magic_prefix, MarkerPlace, RecordPlace, is_record, Listing, Deleting, walked_by, keys_on, last_of, page_after, Who, File, Script, Drawn, IsLegal, learn, files, file_key, record_key, record_text, file_record, Uploading, Uploaded, Creating, Sending, IsGone, upload_asks, upload_hears, Write, Recording, WriteOver, writing, write_asks, write_after, TaskAbort, TaskAbortOver, task_abort_asks, Setting, Operation, TheWrite, TheTaskCommit, TheTaskAbort, asks, tells, is_magic, is_staging, IsIn, HasBucket, changed_keys, Told, known, undoes, tell_driver, tell_attempt, at_event, at_key, IsAttempt, Facts, Fits, FitsWrite}
 use Rattle.job_protocol.specs.Prelude.{drawn_last, write_hears}
 use Rattle.job_spec.proofs.Common.{some_is, false_true, in_append, in_front, in_back, filter_in}
 use Rattle.s3_types.specs.Answer.{found}
@@ -24,6 +24,7 @@ use Rattle.job_facts.proofs.Whose.{same_or_another, who_here, who_other, or_fals
 use Rattle.job_protocol.specs.Sparing.{Sparing, Walking, Naming, Reading, Aborting, Removing, SparingOver, record_request, sparing_asks, sparing_hears, sparing_after, names, record_names, ref_of, deleting, removing, emptying, aborting, reading_on, walking}
 use Rattle.job_protocol.specs.Sparing as sparing
 use Rattle.job_facts.specs.Spares.{FitsSparing}
+use Rattle.twin_facts.proofs.OneSide.{effect_so}
 use Rattle.twin_facts.proofs.Keyed.{Keyed, ref}
 use Rattle.twin_facts.proofs.Leaving.{Dead, abort_dead}
 use Rattle.job_facts.proofs.Learning.{Knows, known_still}
@@ -95,14 +96,14 @@ module _ {w : Script} {s t : Scene} {m n : Told} {a : Who} (l : Later w s t m n 
     pub all_later : (left : List File) → AreRecorded w s m a left → AreRecorded w t n a left
     all_later left h f i = elim (h f i) [ inl x ↦ inl x | inr x ↦ inr (recorded_later f i x) ]
 
+    pub write_later : (x : Write) → WriteRecords w s m a x → WriteRecords w t n a x
+    write_later (writes.Uploads f fs v) h = all_later (f ∷ fs) h
+    write_later (Marking f fs) h = all_later (f ∷ fs) h
+    write_later (Recording f fs) h = all_later (f ∷ fs) h
+    write_later (WriteOver end) h = λ e. all_later [] (h e)
+
     pub records_later : n.publish_sent a ≡ m.publish_sent a → (op : Operation) → Records w s m a op → Records w t n a op
-    records_later sent (TheWrite u) h = (sent ∙ h.0, by u.operation h.1)
-      where
-        by : (x : Write) → WriteRecords w s m a x → WriteRecords w t n a x
-        by (writes.Uploads f fs v) g = all_later (f ∷ fs) g
-        by (Marking f fs) g = all_later (f ∷ fs) g
-        by (Recording f fs) g = all_later (f ∷ fs) g
-        by (WriteOver end) g = λ e. all_later [] (g e)
+    records_later sent (TheWrite u) h = (sent ∙ h.0, write_later u.operation h.1)
     records_later sent (TheTaskCommit u) h = all_later [] h
     records_later sent (TheTaskAbort u) h = λ e. all_later [] (h (sym sent ∙ e))
     records_later sent _ h = tt
@@ -119,16 +120,11 @@ module _ {w : Script} {s t : Scene} {m n : Told} {a : Who} (l : Later w s t m n 
 
 -- ---- what a request leaves
 
--- where it leaves a record where it takes effect, it leaves it whatever becomes of it
-kept_by : (w : Script) (s : Scene) (k : List ℕ) (r : Request) (o : Outcome) → (HasKey w s k → HasKey w (apply s r) k) → HasKey w s k → HasKey w (effect s r o) k
-kept_by w s k r Slow acts h = h
-kept_by w s k r RequestLost acts h = h
-kept_by w s k r _ acts h = acts h
-
 module _ {w : Script} (j : IsLegal w) (s : Scene) (there : HasBucket s.content w.dest.bucket) (r : Request) (o : Outcome) where
   -- one that changes no key below the magic directory
   pub free_keys : (n : Told) (a : Who) → (bucket_of r ≡ w.dest.bucket → (k : List ℕ) → IsIn k (changed_keys r) → begins (magic_prefix w.dest.key w.job) k ≡ false) → (f : File) → IsIn f (files w a) → HasKey w s (record_key w a f) → IsRecorded w (effect s r o) n a f
-  free_keys n a free f i h = inr (kept_by w s (record_key w a f) r o (key_left w s there (record_key w a f) r (λ b x. false_true (free b (record_key w a f) x) (record_below j a f))) h)
+  free_keys n a free f i h =
+      inr (effect_so (λ t. HasKey w t (record_key w a f)) s r o h (key_left w s there (record_key w a f) r (λ b x. false_true (free b (record_key w a f) x) (record_below j a f)) h))
 
   -- of the driver, and of a stranger
   pub driver_later : (m : Told) (k : ℕ) (a : Who) → Later w s (effect s r o) m (at_event k (tell_driver m r o)) a
@@ -169,7 +165,7 @@ module _ (g : Setting) (j : IsLegal g.script) (s : Scene) (there : HasBucket s.c
   attempt_keys a c f i h = by op fits asked
     where
       stays : (HasKey w s (record_key w a f) → HasKey w (apply s r) (record_key w a f)) → IsRecorded w t n a f
-      stays acts = inr (kept_by w s (record_key w a f) r o acts h)
+      stays acts = inr (effect_so (λ t. HasKey w t (record_key w a f)) s r o h (acts h))
 
       own : (a ≡ b) → (undoes r ≡ true) ⊎ (changed_keys r ≡ []) → IsRecorded w t n a f
       own is (inl u) = inl (inl (who_here m.undone b _ a is ∙ ap (λ z. m.undone b || z) u ∙ or_true (m.undone b)))
@@ -187,11 +183,8 @@ module _ (g : Setting) (j : IsLegal g.script) (s : Scene) (there : HasBucket s.c
   abbrev mine : Later w s t m n b
   mine = attempt_later j s there r o m b b
 
-  mine_keys : (f : File) → IsIn f (files w b) → HasKey w s (record_key w b f) → IsRecorded w t n b f
-  mine_keys = attempt_keys b d
-
   still_all : (left : List File) → AreRecorded w s m b left → AreRecorded w t n b left
-  still_all = all_later mine mine_keys
+  still_all = all_later mine (attempt_keys b d)
 
   -- ---- its own write
 
@@ -213,9 +206,8 @@ module _ (g : Setting) (j : IsLegal g.script) (s : Scene) (there : HasBucket s.c
   writing_records (f ∷ fs) h = h
 
   uploaded_records : (f : File) (fs : List File) (u : Uploaded) → AreRecorded w t n b (f ∷ fs) → WriteRecords w t n b (uploaded w f fs u)
-  uploaded_records f fs (GoesOn u) h = h
-  uploaded_records f fs AllSent h = h
   uploaded_records f fs IsGone h = λ e. absurd cc
+  uploaded_records f fs _ h = h
 
   -- the record that it puts stands, where that is answered
   put_records : (x : Reply) → o ≡ Answered x → (f : File) (fs : List File) → write_asks w b (known m b) (Recording f fs) ≡ Some r → AreRecorded w t n b (f ∷ fs) → AreRecorded w t n b fs
@@ -233,18 +225,11 @@ module _ (g : Setting) (j : IsLegal g.script) (s : Scene) (there : HasBucket s.c
   heard_records (Recording f fs) h e x is = writing_records fs (put_records x is f fs e h)
   heard_records (WriteOver end) h e x is = absurd cc
 
-  still_write : (y : Write) → WriteRecords w s m b y → WriteRecords w t n b y
-  still_write (writes.Uploads f fs v) h = still_all (f ∷ fs) h
-  still_write (Marking f fs) h = still_all (f ∷ fs) h
-  still_write (Recording f fs) h = still_all (f ∷ fs) h
-  still_write (WriteOver end) h = λ e. still_all [] (h e)
-
   sent_here : n.publish_sent b ≡ (learn w b (known m b) r o).publish_sent
   sent_here = who_here m.publish_sent b _ b refl
 
   abort_unsent : (x : TaskAbort) → task_abort_asks w b x ≡ Some r → Unsent r
   abort_unsent (Sweeping (Listing keys)) e = subst Unsent (some_is e) refl
-  abort_unsent (Sweeping (Deleting q qs)) e = subst Unsent (some_is e) refl
   abort_unsent (TaskAbortOver end) e = absurd cc
   abort_unsent _ e = subst Unsent (some_is e) refl
 
@@ -254,7 +239,8 @@ module _ (g : Setting) (j : IsLegal g.script) (s : Scene) (there : HasBucket s.c
       by : (op : Operation) → Fits w g.minimum b m op → asks g b (known m b) op ≡ Some r → Records w s m b op → Records w t n b (tells g b op o)
       by (TheWrite x) fits e h = (
         sent_here ∙ write_unsent magic x.operation fits.1 e ∙ h.0,
-        step_so w.retries (write_after w g.minimum) x o (WriteRecords w t n b) (λ y is. heard_records x.operation (still_write x.operation h.1) e y is) (λ none. still_write x.operation h.1) (λ none e. absurd cc),
+        step_so w.retries (write_after w g.minimum) x o (WriteRecords w t n b) (λ y is. heard_records x.operation (write_later mine (attempt_keys b d) x.operation h.1) e y is)
+            (λ none. write_later mine (attempt_keys b d) x.operation h.1) (λ none e. absurd cc),
       )
       by (TheTaskCommit x) fits e h = still_all [] h
       by (TheTaskAbort x) fits e h = λ sent. still_all [] (h (sym (abort_unsent x.operation e) ∙ sym sent_here ∙ sent))
@@ -273,9 +259,6 @@ module _ {w : Script} {minimum : ℕ} (j : IsLegal w) (s : Scene) {last : ℕ �
   abbrev later : Later w s now m told a
   later = driver_later j s facts.there r o m n a
 
-  no_keys : changed_keys r ≡ [] → bucket_of r ≡ w.dest.bucket → (k : List ℕ) → IsIn k (changed_keys r) → begins (magic_prefix w.dest.key w.job) k ≡ false
-  no_keys none b k x = absurd (subst (λ (l : List (List ℕ)). IsIn k l) none x)
-
   record_none : (c : Committer) (p : List ℕ) → changed_keys (record_request c w p) ≡ []
   record_none Magic p = refl
   record_none _ p = refl
@@ -285,13 +268,14 @@ module _ {w : Script} {minimum : ℕ} (j : IsLegal w) (s : Scene) {last : ℕ �
   sparing_left cover f i h = by t.operation asked (cover f i)
     where
       free : changed_keys r ≡ [] → IsRecorded w now told a f
-      free none = free_keys j s facts.there r o told a (no_keys none) f i h
+      free none = free_keys j s facts.there r o told a (λ b k x. absurd (subst (λ (l : List (List ℕ)). IsIn k l) none x)) f i h
 
       by : (c : Sparing) → sparing_asks w c ≡ Some r → Covers w s m c a f → IsRecorded w now told a f
       by (Reading named p ps all) e cover = free (ap changed_keys (sym (some_is e)) ∙ record_none w.committer p)
       by (sparing.Deleting q qs) e cover = elim (in_or_not (record_key w a f) (take 1000 (q ∷ qs))) [
         | inl x ↦ inl (settled_later later f (cover (taken_in 1000 (q ∷ qs) (record_key w a f) x)))
-        | inr out ↦ inr (kept_by w s (record_key w a f) r o (key_left w s facts.there (record_key w a f) r (λ b x. out (subst (λ y. IsIn (record_key w a f) (changed_keys y)) (sym (some_is e)) x))) h)
+        | inr out ↦ inr (effect_so (λ t. HasKey w t (record_key w a f)) s r o h
+            (key_left w s facts.there (record_key w a f) r (λ b x. out (subst (λ y. IsIn (record_key w a f) (changed_keys y)) (sym (some_is e)) x)) h))
       ]
       by (SparingOver end) e cover = absurd cc
       by _ e cover = free (ap changed_keys (sym (some_is e)))
@@ -303,9 +287,6 @@ module _ {w : Script} {minimum : ℕ} (j : IsLegal w) (s : Scene) {last : ℕ �
     abbrev After : Sparing → Type 0
     After c = Covers w now told c a f
 
-    ends_so : is_record key ≡ true
-    ends_so = record_ends_so w.dest.key w.job a.task a.attempt f.0 (some_dest j)
-
     still : IsRecorded w s m a f → IsRecorded w now told a f
     still (inl x) = inl (settled_later later f x)
     still (inr k) = left f i k
@@ -314,14 +295,10 @@ module _ {w : Script} {minimum : ℕ} (j : IsLegal w) (s : Scene) {last : ℕ �
     after_deleting [] h = tt
     after_deleting (k ∷ ks) h = h
 
-    after_removing : (all : List (List ℕ)) → After (removing all)
-    after_removing [] = tt
-    after_removing (p ∷ ps) = tt
-
     after_emptying : (c : Committer) (all : List (List ℕ)) → (IsIn key all → Settled w now told a f) → After (emptying c all)
     after_emptying Magic all h = after_deleting all h
-    after_emptying Directory all h = after_removing all
-    after_emptying Partitioned all h = after_removing all
+    after_emptying _ [] h = tt
+    after_emptying _ (p ∷ ps) h = tt
 
     after_aborting : (us : List UploadRef) (all : List (List ℕ)) → (IsIn key all → IsNamed w told us a f ⊎ Settled w now told a f) → After (aborting w.committer us all)
     after_aborting [] all h = after_emptying w.committer all (λ k. elim (h k) [ inl x ↦ absurd x.3 | inr x ↦ x ])
@@ -333,7 +310,8 @@ module _ {w : Script} {minimum : ℕ} (j : IsLegal w) (s : Scene) {last : ℕ �
 
     after_walked : (more : Bool) (keys : List (List ℕ)) → (IsIn key keys → IsRecorded w now told a f) → After (walking w.committer (walked_by more keys))
     after_walked true keys h = h
-    after_walked false keys h = after_reading [] (filter is_record keys) keys (λ k. inl (filter_in is_record key keys k ends_so, h k))
+    after_walked false keys h =
+        after_reading [] (filter is_record keys) keys (λ k. inl (filter_in is_record key keys k (record_ends_so w.dest.key w.job a.task a.attempt f.0 (some_dest j)), h k))
 
     heard_page : (keys : List (List ℕ)) → (IsIn key keys → IsRecorded w s m a f) → (x : Reply) → x ≡ answer s (page_after w.dest.bucket (magic_prefix w.dest.key w.job) keys) → After (walking w.committer (walked keys x))
     heard_page keys h x e =
@@ -385,7 +363,7 @@ module _ {w : Script} {minimum : ℕ} (j : IsLegal w) (s : Scene) {last : ℕ �
     heard_by (Reading named p ps all) g h e x is = heard_record named p ps all h x (subst (λ v. IsHonestOutcome v (answer s r)) is honest ∙ ap (answer s) (sym (some_is e)))
     heard_by (Aborting u us all) g h e x is = heard_abort u us all h (ap (effect s r) is ∙ ap (apply s) (sym (some_is e)))
     heard_by (sparing.Deleting q qs) g h e x is = after_deleting (drop 1000 (q ∷ qs)) (λ k. settled_later later f (h (dropped_in 1000 (q ∷ qs) key k)))
-    heard_by (Removing p ps) g h e x is = after_removing ps
+    heard_by (Removing p ps) g h e x is = elim ps as (λ l. After (removing l)) [ [] ↦ tt | q ∷ qs ↦ tt ]
     heard_by (SparingOver end) g h e x is = tt
 
     pub covers_goes : Covers w s m t.operation a f → After (step w.retries (sparing_after w) t o).operation

@@ -1,7 +1,7 @@
 -- In every run the records of files whose uploads live stand; so what a set names a record names too.
-use Rattle.std.proofs.Common.{◌≡◌, ℕ, ◌<◌, ◌≤◌, ◌^◌, ◌⊎◌, inl, inr, true, false, List, [], ◌∷◌, Option, Some, None, refl, sym, ap, subst, ◌∙◌}
-use Rattle.job_facts.specs.Prelude.{Scene, begins, answer, bucket_of, effect, IsHonestOutcome, Driver, Committer, Magic, Directory, Partitioned, Mode, Fail, Request, UploadRef, Outcome, Entry, Retried, fresh, magic_prefix, staged_set_path, StagedSetPlace, Who, File, Script, Drawn, Known, IsLegal, files, record_key, file_record, setup_asks, writing, write_start, write_start_by, task_commit_start, task_abort_start, Setting, Operation, TheSetup, TheWrite, TheTaskCommit, TheTaskAbort, TheCommit, who, asks, tells, Clean, TheClean, TheCheck, TheSparing, Reports, commit_of, step, Setup, Content, is_magic, is_staging, IsIn, HasBucket, changed_keys, Told, known, put_who, IsForeign, IsAttempt, Times}
-use Rattle.job_spec.proofs.Common.{some_is, none_some, false_true}
+use Rattle.std.proofs.Common.{◌≡◌, ℕ, ◌<◌, ◌≤◌, ◌^◌, ◌⊎◌, inl, inr, true, false, List, [], ◌∷◌, Option, Some, refl, sym, ap, subst, ◌∙◌}
+use Rattle.job_facts.specs.Prelude.{Scene, begins, answer, bucket_of, effect, IsHonestOutcome, Driver, Committer, Magic, Request, UploadRef, Outcome, Entry, Retried, fresh, magic_prefix, staged_set_path, StagedSetPlace, Who, File, Script, Drawn, Known, IsLegal, files, record_key, file_record, setup_asks, writing, write_start, write_start_by, task_commit_start, task_abort_start, Setting, Operation, TheSetup, TheWrite, TheTaskCommit, TheTaskAbort, TheCommit, who, asks, tells, Clean, TheClean, TheCheck, TheSparing, Reports, commit_of, step, Setup, Content, is_magic, is_staging, IsIn, changed_keys, Told, known, IsForeign, IsAttempt, Times}
+use Rattle.job_spec.proofs.Common.{some_is, none_some, none_or_some, false_true}
 use Rattle.pending_json.specs.Reading as reading
 use Rattle.job_protocol.proofs.Begun.{commit_of_so, clean_of_so, after_check_so}
 use Rattle.job_traces.specs.Runs.{Stand, is_set, Beginning, BeginSetup, BeginCommit, BeginClean, BeginWrite, BeginPublish, BeginAbort, MayBegin, begin, begun_attempts, begun_driver, nothing_learnt, Runs, run_begins, actor_begins, driver_sends, attempt_sends, strays, IsOpening}
@@ -15,7 +15,7 @@ use Rattle.job_facts.proofs.JobCommitting.{commit_drives}
 use Rattle.job_facts.proofs.Legal.{some_dest}
 use Rattle.job_facts.proofs.Legible.{record_read, set_read}
 use Rattle.job_facts.proofs.Placed.{staged_set, path_below}
-use Rattle.job_facts.proofs.Whose.{same_or_another, who_here, who_other}
+use Rattle.job_facts.proofs.Whose.{same_or_another, who_here, who_other, put_at}
 use Rattle.job_protocol.specs.Sparing.{Sparing, sparing_start, record_names, ref_of}
 use Rattle.job_protocol.specs.Rechecks.{check_after}
 use Rattle.twin_facts.specs.Sides.{driver_saw, attempt_saw}
@@ -54,27 +54,14 @@ module _ (g : Setting) where
 
     -- of an attempt that has sent its publishing request, all are recorded
     sent_records : (x : Stand) → Late g opening x → Stands x.seen.scene x.told x.attempts x.driver → (a : Who) → x.told.publish_sent a ≡ true → AreRecorded w x.seen.scene x.told a []
-    sent_records x l h a sent = by (x.attempts a) refl
+    sent_records x l h a sent =
+        elim (none_or_some (x.attempts a)) [ inl e ↦ absurd (false_true (ap (λ (v : Known). v.publish_sent) (l.new a e).0) sent) | inr o ↦ by_op o.0 (h.records a o.0 o.1) o.1 ]
       where
         by_op : (op : Operation) → Records w x.seen.scene x.told a op → x.attempts a ≡ Some op → AreRecorded w x.seen.scene x.told a []
         by_op (TheWrite t) y e = absurd (false_true y.0 sent)
         by_op (TheTaskCommit t) y e = y
         by_op (TheTaskAbort t) y e = y sent
-        by_op (TheSetup t) y e = absurd (l.fine a _ e).1
         by_op _ y e = absurd (l.fine a _ e).1
-
-        by : (o : Option Operation) → x.attempts a ≡ o → AreRecorded w x.seen.scene x.told a []
-        by None e = absurd (false_true (ap (λ (v : Known). v.publish_sent) (l.new a e).0) sent)
-        by (Some op) e = by_op op (h.records a op e) e
-
-    -- one attempt is at something else
-    put_records : (x : Stand) → Stands x.seen.scene x.told x.attempts x.driver → (a : Who) (op : Operation) → Records w x.seen.scene x.told a op → (b : Who) (v : Operation) → put_who x.attempts a (Some op) b ≡ Some v → Records w x.seen.scene x.told b v
-    put_records x h a op y b v e = elim (same_or_another b a) [
-      | inl is ↦
-          let one : op ≡ v = some_is (sym (who_here x.attempts a (Some op) b is) ∙ e) in
-          subst (λ c. Records w x.seen.scene x.told c v) (sym is) (subst (Records w x.seen.scene x.told a) one y)
-      | inr ne ↦ h.records b v (sym (who_other x.attempts a (Some op) b ne) ∙ e)
-    ]
 
     standing_begins : (x : Stand) (b : Beginning) → MayBegin g x b → (is_set x.driver ≡ true → Late g opening x) → Standing x → Standing (begin g x b)
     standing_begins x b may late h magic = record { records = records_by b may; covers = covers_by b may }
@@ -83,9 +70,13 @@ module _ (g : Setting) where
         old = h magic
 
         records_by : (b : Beginning) → MayBegin g x b → (a : Who) (op : Operation) → begun_attempts g x b a ≡ Some op → Records w x.seen.scene x.told a op
-        records_by (BeginWrite c) may = put_records x old c (TheWrite (fresh w.retries (write_start w c))) (ap (λ (v : Known). v.publish_sent) ((late may.0).new c may.2).0, started magic x.seen.scene x.told c)
-        records_by (BeginPublish c) may = put_records x old c (TheTaskCommit (fresh w.retries (task_commit_start w c))) ((old.records c _ may.1.2).1 refl)
-        records_by (BeginAbort c) may = put_records x old c (TheTaskAbort (fresh w.retries (task_abort_start w (known x.told c)))) (sent_records x (late may.0) old c)
+        records_by (BeginWrite c) may =
+            put_at (Records w x.seen.scene x.told) x.attempts c (TheWrite (fresh w.retries (write_start w c)))
+            (ap (λ (v : Known). v.publish_sent) ((late may.0).new c may.2).0, started magic x.seen.scene x.told c) old.records
+        records_by (BeginPublish c) may =
+            put_at (Records w x.seen.scene x.told) x.attempts c (TheTaskCommit (fresh w.retries (task_commit_start w c))) ((old.records c _ may.1.2).1 refl) old.records
+        records_by (BeginAbort c) may =
+            put_at (Records w x.seen.scene x.told) x.attempts c (TheTaskAbort (fresh w.retries (task_abort_start w (known x.told c)))) (sent_records x (late may.0) old c) old.records
         records_by _ may = old.records
 
         no_commit : (reports : Reports) (u : Retried Sparing) → Some (commit_of g reports) ≡ Some (TheSparing u) → ⊥
@@ -95,9 +86,7 @@ module _ (g : Setting) where
         covers_by BeginSetup may u e a d f i = absurd cc
         covers_by (BeginCommit reports) may u e a d f i = absurd (no_commit reports u e)
         covers_by BeginClean may u e a d f i = clean_of_so g (λ op. Some op ≡ Some (TheSparing u) → Covers w x.seen.scene x.told u.operation a f) (λ e. absurd cc) (λ e. subst (λ (v : Retried Sparing). Covers w x.seen.scene x.told v.operation a f) (sparing_is e) (subst (λ c. Covers w x.seen.scene x.told (sparing_start c) a f) (sym magic) (λ z. absurd z))) e
-        covers_by (BeginWrite c) may u e a d f i = old.covers u e a d f i
-        covers_by (BeginPublish c) may u e a d f i = old.covers u e a d f i
-        covers_by (BeginAbort c) may u e a d f i = old.covers u e a d f i
+        covers_by _ may u e a d f i = old.covers u e a d f i
 
     -- ---- what is sent
 
@@ -214,7 +203,5 @@ module _ (g : Setting) where
                 )
           ]
         ]
-    set_named x l h few Directory staging u (t, low, bytes, stands, named) =
-        inl (staged_set_path w.job t, (bytes, path_below w (StagedSetPlace t), sym (staged_set w.committer w x.seen.scene t (ap is_staging staging)) ∙ stands, named))
-    set_named x l h few Partitioned staging u (t, low, bytes, stands, named) =
+    set_named x l h few _ staging u (t, low, bytes, stands, named) =
         inl (staged_set_path w.job t, (bytes, path_below w (StagedSetPlace t), sym (staged_set w.committer w x.seen.scene t (ap is_staging staging)) ∙ stands, named))

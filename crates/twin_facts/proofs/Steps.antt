@@ -1,11 +1,13 @@
 -- What one entry of a side leaves: of its picks, of what stands where files are shown, and of the marker.
 use Rattle.std.proofs.Common.{◌≡◌, ℕ, ◌≤◌, ◌^◌, ◌⊎◌, inl, inr, ◌||◌, ◌&&◌, not, Bool, true, false, cond, List, Option, Some, None, refl, sym, ap, subst, ◌∙◌}
-use Rattle.job_facts.specs.Prelude.{Content, Scene, answer, apply, effect, is_effective, IsHonestOutcome, Object, Driver, Request, PutObject, Mode, Replace, Append, Fail, Committer, Magic, Directory, Partitioned, Outcome, Answered, Slow, RequestLost, ReplyLost, Entry, below, success_key, Retried, setup_asks, Script, IsLegal, keeps, partitions, wanted_at, wanted_paths, is_decided, mark_text, is_file_path, Sets, picks_of, Clean, Commit, Fetching, Replacing, Marking, commit_asks, commit_tells, Setting, Operation, asks, TheSetup, TheCommit, TheClean, TheCheck, TheSparing, is_picking, who, is_driver, Seen, see, is_begun, is_marking, IsIn, changed_keys, driver_entry, at_key, whole_of, Decides, FileStands, Wants, Commits, Times}
+use Rattle.job_facts.specs.Prelude.{Content, Scene, answer, apply, effect, is_effective, IsHonestOutcome, Object, Driver, Request, PutObject, Mode, Replace, Append, Fail, Committer, Magic, Outcome, Answered, Entry, below, success_key, Retried, setup_asks, Script, IsLegal, keeps, partitions, wanted_at, wanted_paths, is_decided, mark_text, is_file_path, Sets, picks_of, Clean, Commit, Fetching, Marking, commit_asks, commit_tells, Setting, Operation, asks, TheSetup, TheCommit, TheClean, TheCheck, TheSparing, is_picking, who, is_driver, Seen, see, is_begun, is_marking, is_reading, IsIn, changed_keys, driver_entry, at_key, whole_of, Decides, FileStands, Wants, Commits, Times}
 use Rattle.job_protocol.specs.Prelude.{Path}
 use Rattle.job_spec.proofs.Common.{some_is, none_some, false_true, true_or_false, text_true}
 use Rattle.job_protocol.specs.View.{object_at}
 use Rattle.job_traces.specs.Runs.{Stand, IsTimely, nothing_learnt, Runs, IsOpening}
-use Rattle.job_facts.proofs.Whose.{or_true, or_false}
+use Rattle.std.proofs.Math.Bool.{and-false}
+use Rattle.job_facts.proofs.EndedGone.{effective_is}
+use Rattle.job_facts.proofs.Whose.{or_true}
 use Rattle.job_facts.proofs.Owning.{operation_own}
 use Rattle.job_facts.proofs.SettingUp.{no_success}
 use Rattle.job_facts.proofs.Shapes.{puts}
@@ -19,11 +21,10 @@ use Rattle.job_traces.proofs.Entries.{late_now}
 use Rattle.job_facts.proofs.Sharing.{setup_plain, check_plain}
 use Rattle.job_protocol.specs.Sparing.{Sparing, Reading, SparingOver, record_request, sparing_asks}
 use Rattle.twin_facts.specs.TwinLaws.{counted, is_replace}
-use Rattle.job_facts.specs.Spares.{FitsSparing}
 use Rattle.twin_facts.specs.Sides.{Sends, driver_sends, attempt_sends, attempt_saw, driver_saw}
-use Rattle.twin_facts.proofs.Changes.{Under, commit_shows_by, setup_shows, attempt_shows, check_shows, sparing_shows}
-use Rattle.twin_facts.proofs.Progress.{Committing, Unread, NeverReplaces, kind, is_fetching, is_mark_stage, undecided, picks_same, mark_same, put_before, committing_next, committing}
-use Rattle.twin_facts.proofs.OneSide.{plain_picks, plain_mark, late_picks, never_cleans}
+use Rattle.twin_facts.proofs.Changes.{commit_shows_by, setup_shows, attempt_shows, check_shows, sparing_shows}
+use Rattle.twin_facts.proofs.Progress.{Committing, Unread, nothing_under, kind, is_fetching, is_mark_stage, undecided, picks_same, mark_same, put_before, committing_next, committing}
+use Rattle.twin_facts.proofs.OneSide.{picks_still, unread_picks, mark_still, mark_stays, mark_puts, never_cleans}
 
 -- the object at a path of a destination
 abbrev pub obj : Path → Content → List ℕ → Option Object
@@ -64,18 +65,11 @@ keeps_all : (c : Committer) (m : Mode) (dirs : List (List ℕ)) (q : List ℕ) �
 keeps_all c Replace dirs q e = absurd (false_true e refl)
 keeps_all Magic Append dirs q e = refl
 keeps_all Magic Fail dirs q e = refl
-keeps_all Directory Append dirs q e = refl
-keeps_all Directory Fail dirs q e = refl
-keeps_all Partitioned Append dirs q e = refl
-keeps_all Partitioned Fail dirs q e = refl
+keeps_all _ _ dirs q e = refl
 
 driver_begun : (w : Script) (k : Times) (s : Seen) (n : ℕ) (r : Request) (o : Outcome) → (see w k s (driver_entry n r o)).begun ≡ (s.begun || is_begun k.commit n)
 driver_begun w k s n r (Answered y) = refl
 driver_begun w k s n r _ = refl
-
-and_false : (b : Bool) → (b && false) ≡ false
-and_false true = refl
-and_false false = refl
 
 or_first : (a b : Bool) → (a || b) ≡ false → a ≡ false
 or_first true b e = absurd (false_true e refl)
@@ -85,17 +79,12 @@ module _ (g : Setting) (j : IsLegal g.script) (shared : g.shared ≡ true) (k : 
   abbrev w : Script
   w = g.script
 
-  mark_of : (s : Seen) (n : ℕ) (r : Request) → is_marking w r ≡ false → (o : Outcome) → (see w k s (driver_entry n r o)).put_mark ≡ s.put_mark
-  mark_of s n r e Slow = refl
-  mark_of s n r e RequestLost = refl
-  mark_of s n r e _ = ap (λ b. s.put_mark || b) e ∙ or_false s.put_mark
-
   -- an entry of the driver that shows all as it was, and picks nothing
   still_leaves : (x z : Stand) (n : ℕ) (r : Request) (o : Outcome) → is_marking w r ≡ false → (see w k x.seen (driver_entry n r o)).picks ≡ x.seen.picks → ((q : List ℕ) → is_file_path q ≡ true → obj w.dest (effect x.seen.scene r o).content q ≡ obj w.dest x.seen.scene.content q)
       → z.seen ≡ see w k x.seen (driver_entry n r o) → ((c : Commit) → z.driver ≡ Some (TheCommit c) → (t : ℕ) → x.seen.picks t ≡ None) → Leaves g x z (driver_entry n r o)
   still_leaves x z n r o unmarking unpicking same is unpicked =
       let picks = ap (λ (s : Seen). s.picks) is ∙ unpicking in
-      let mark = ap (λ (s : Seen). s.put_mark) is ∙ mark_of x.seen n r unmarking o in
+      let mark = ap (λ (s : Seen). s.put_mark) is ∙ mark_still w k x.seen n r unmarking o in
       record {
         picks = inl picks;
         unbegun = λ e. (or_first x.seen.begun (is_begun k.commit n) (sym (ap (λ (s : Seen). s.begun) is ∙ driver_begun w k x.seen n r o) ∙ e), picks);
@@ -152,20 +141,13 @@ module _ (g : Setting) (j : IsLegal g.script) (shared : g.shared ≡ true) (k : 
     picks_now y = picks_same g opening j k s x.told n begun unclean cleans few l.hold c i r asked y o
 
     shows_now : (q : List ℕ) → is_file_path q ≡ true → (after q ≡ before q) ⊎ ((b : List ℕ) × (count g x q ≡ Some b) × ((after q ≡ Some (whole_of b)) ⊎ (after q ≡ None)))
-    shows_now q path = elim (commit_shows_by g j s x.told c all at.agrees q path (under c refl) r asked o) [
+    shows_now q path = elim (commit_shows_by g j s x.told l.hold all.gone q path c all at.agrees (nothing_under g opening x.told s.picks c at keep) r asked o) [
       | inl same ↦ inl same
       | inr y ↦ elim y.1 [
         | inl z ↦ inr (z.0, ap (λ t. cond t (wanted_at w s.picks q) None) y.0 ∙ z.1, z.2)
         | inr z ↦ absurd (false_true z.1 (keeps_all w.committer w.mode (partitions (wanted_paths w s.picks)) q keep))
       ]
     ]
-      where
-        under : (d : Commit) → d ≡ c → Under g j s x.told c all at.agrees q path d
-        under (Replacing sets a b y m) v = absurd (never v)
-          where
-            never : Replacing sets a b y m ≡ c → ⊥
-            never v = subst (NeverReplaces w) (sym v) i.never keep
-        under _ v = tt
 
     -- at its marker it changes no file, and puts the marker
     module _ (sets : Sets) (m : ℕ) (v : Marking sets m ≡ c) where
@@ -175,9 +157,6 @@ module _ (g : Setting) (j : IsLegal g.script) (shared : g.shared ≡ true) (k : 
       agree : AgreeBelow w s.picks sets w.tasks
       agree = subst (Agrees w s.picks) (sym v) at.agrees
 
-      mark_decided : is_decided w s.picks ≡ true
-      mark_decided = decided_so w s.picks sets (subst (Decides w g.minimum x.told.publish_sent x.told.drawn) (sym v) at.decides) agree
-
       mark_picks : u.picks ≡ s.picks
       mark_picks = picks_now (ap (is_fetching w) (sym v))
 
@@ -185,16 +164,14 @@ module _ (g : Setting) (j : IsLegal g.script) (shared : g.shared ≡ true) (k : 
       mark_leaves q path = stranger_same w s.scene l.hold.there r o (below w.dest.key q) (λ b y. elim (subst (λ z. IsIn (below w.dest.key q) (changed_keys z)) is_mark y) [ inl same ↦ no_success j q path same | inr none ↦ none ])
 
       mark_put : is_effective o ≡ true → (u.put_mark ≡ true) × ((ob : Object) × (mark_at w.dest (effect s.scene r o).content ≡ Some ob) × (ob.bytes ≡ mark_text w u.picks))
-      mark_put took = by o took refl
+      mark_put took =
+          (mark_puts w k s n r marking o took, (record { bytes = mark_text w (picks_of sets); header = None }, ap (λ (t : Scene). mark_at w.dest t.content) (effective_is s.scene r o took) ∙ there, text))
         where
-          put : is_marking w r ≡ true → (a : Bool) → (a || is_marking w r) ≡ true
-          put e a = ap (λ b. a || b) e ∙ or_true a
+          both : is_marking w (PutObject w.dest.bucket (success_key w.dest.key) (mark_text w (picks_of sets)) None) ≡ true
+          both = rw (text_true w.dest.bucket w.dest.bucket refl, text_true (success_key w.dest.key) (success_key w.dest.key) refl) refl
 
           marking : is_marking w r ≡ true
           marking = ap (is_marking w) is_mark ∙ both
-            where
-              both : is_marking w (PutObject w.dest.bucket (success_key w.dest.key) (mark_text w (picks_of sets)) None) ≡ true
-              both = rw (text_true w.dest.bucket w.dest.bucket refl, text_true (success_key w.dest.key) (success_key w.dest.key) refl) refl
 
           there : mark_at w.dest (apply s.scene r).content ≡ Some (record { bytes = mark_text w (picks_of sets); header = None })
           there = ap (λ y. at_key w (apply s.scene y).content (success_key w.dest.key)) is_mark ∙ (puts w s.scene l.hold.there.0 l.hold.there.1 (success_key w.dest.key) (mark_text w (picks_of sets)) None).here
@@ -202,31 +179,10 @@ module _ (g : Setting) (j : IsLegal g.script) (shared : g.shared ≡ true) (k : 
           text : mark_text w (picks_of sets) ≡ mark_text w u.picks
           text = same_mark w s.picks (picks_of sets) (λ t a. sym (agree t a)) ∙ ap (mark_text w) (sym mark_picks)
 
-          by : (y : Outcome) → is_effective y ≡ true → y ≡ o → (u.put_mark ≡ true) × ((ob : Object) × (mark_at w.dest (effect s.scene r o).content ≡ Some ob) × (ob.bytes ≡ mark_text w u.picks))
-          by (Answered z) t f = (subst (λ y. (see w k s (driver_entry n r y)).put_mark ≡ true) f (put marking s.put_mark), (record { bytes = mark_text w (picks_of sets); header = None }, subst (λ y. mark_at w.dest (effect s.scene r y).content ≡ Some (record { bytes = mark_text w (picks_of sets); header = None })) f there, text))
-          by Slow t f = absurd (false_true refl t)
-          by RequestLost t f = absurd (false_true refl t)
-          by ReplyLost t f = (subst (λ y. (see w k s (driver_entry n r y)).put_mark ≡ true) f (put marking s.put_mark), (record { bytes = mark_text w (picks_of sets); header = None }, subst (λ y. mark_at w.dest (effect s.scene r y).content ≡ Some (record { bytes = mark_text w (picks_of sets); header = None })) f there, text))
-
-    unmarked_by : is_mark_stage w c ≡ false → u.put_mark ≡ s.put_mark
-    unmarked_by y = mark_same g opening j k s x.told n begun unclean cleans few l.hold c i r asked y o
-
     -- the stage, where the marker was put
     stage : (d : Commit) → d ≡ c → (is_mark_stage w d ≡ false) ⊎ ((sets : Sets) × (m : ℕ) × (Marking sets m ≡ c))
     stage (Marking sets m) v = inr (sets, m, v)
     stage _ v = inl refl
-
-    put_early : is_mark_stage w c ≡ false → s.put_mark ≡ false
-    put_early y = put_before g opening j k s x.told n begun unclean cleans few l.hold c i r asked c y asked i.unmarked
-
-    still_put : s.put_mark ≡ true → u.put_mark ≡ true
-    still_put e = by o refl
-      where
-        by : (y : Outcome) → y ≡ o → u.put_mark ≡ true
-        by (Answered z) f = subst (λ y. (see w k s (driver_entry n r y)).put_mark ≡ true) f (ap (λ b. b || is_marking w r) e)
-        by Slow f = subst (λ y. (see w k s (driver_entry n r y)).put_mark ≡ true) f e
-        by RequestLost f = subst (λ y. (see w k s (driver_entry n r y)).put_mark ≡ true) f e
-        by ReplyLost f = subst (λ y. (see w k s (driver_entry n r y)).put_mark ≡ true) f (ap (λ b. b || is_marking w r) e)
 
     -- a wanted file goes on as the commit does
     module _ (q b : List ℕ) (first : Option Object) (path : is_file_path q ≡ true) (wants : wanted_at w u.picks q ≡ Some b) (undone : is_decided w s.picks ≡ false → before q ≡ first)
@@ -253,12 +209,12 @@ module _ (g : Setting) (j : IsLegal g.script) (shared : g.shared ≡ true) (k : 
       unbegun = λ e. absurd (false_true e (driver_begun w k s n r o ∙ ap (λ b. s.begun || b) begun ∙ or_true s.begun));
       shows = shows_now;
       put_still = λ e. elim (stage c refl) [
-        | inl y ↦ absurd (false_true (put_early y) e)
-        | inr y ↦ (still_put e, mark_leaves y.0 y.1 y.2)
+        | inl y ↦ absurd (false_true (put_before g opening j k s x.told n begun unclean cleans few l.hold c i r asked c y asked i.unmarked) e)
+        | inr y ↦ (mark_stays w k s n r e o, mark_leaves y.0 y.1 y.2)
       ];
       put_now = λ e f. elim (stage c refl) [
-        | inl y ↦ absurd (false_true e (sym (unmarked_by y) ∙ f))
-        | inr y ↦ (y.0, y.1, is ∙ ap (λ v. Some (TheCommit v)) (sym y.2), mark_picks y.0 y.1 y.2, mark_decided y.0 y.1 y.2, mark_leaves y.0 y.1 y.2)
+        | inl y ↦ absurd (false_true e (sym (mark_same g opening j k s x.told n begun unclean cleans few l.hold c i r asked y o) ∙ f))
+        | inr y ↦ (y.0, y.1, is ∙ ap (λ v. Some (TheCommit v)) (sym y.2), mark_picks y.0 y.1 y.2, decided_so w s.picks y.0 (subst (Decides w g.minimum x.told.publish_sent x.told.drawn) (sym y.2) at.decides) (agree y.0 y.1 y.2), mark_leaves y.0 y.1 y.2)
       ];
       files = λ v d q b first path wants undone old. subst (FileAt g next q b first (after q)) (commit_is d) (file_next q b first path wants undone old);
       marks = λ a b t. elim (stage c refl) [
@@ -276,10 +232,12 @@ module _ (g : Setting) (j : IsLegal g.script) (shared : g.shared ≡ true) (k : 
   driver_leaves x cleans l (TheClean u) d y n r o asked timely few honest i never = absurd (never u refl)
   driver_leaves x cleans l (TheCheck u) d y n r o asked timely few honest i never =
       let p = check_plain w u.operation r asked in
-      still_leaves x (driver_saw g k x (TheCheck u) n r o) n r o p.marks (plain_picks w k x.seen n r p o) (λ q path. ap (λ (s : Scene). obj w.dest s.content q) (check_shows g j x.seen u.operation r asked o)) refl (λ c at. y.unpicked)
+      still_leaves x (driver_saw g k x (TheCheck u) n r o) n r o p.marks (unread_picks w k x.seen n r p.reads o)
+      (λ q path. ap (λ (s : Scene). obj w.dest s.content q) (check_shows g j x.seen u.operation r asked o)) refl (λ c at. y.unpicked)
   driver_leaves x cleans l (TheSparing u) d y n r o asked timely few honest i never =
-      let off : is_picking k x.seen.begun n ≡ false = ap (λ b. (x.seen.begun || is_begun k.commit n) && not b) timely ∙ and_false (x.seen.begun || is_begun k.commit n) in
-      still_leaves x (driver_saw g k x (TheSparing u) n r o) n r o (sparing_no_mark u.operation r asked) (late_picks w k x.seen n r off o) (λ q path. sparing_shows g j x.seen x.told l.hold u.operation y r asked o q path) refl (λ c at. absurd (no_commit at))
+      let off : is_picking k x.seen.begun n ≡ false = ap (λ b. (x.seen.begun || is_begun k.commit n) && not b) timely ∙ and-false (x.seen.begun || is_begun k.commit n) in
+      still_leaves x (driver_saw g k x (TheSparing u) n r o) n r o (sparing_no_mark u.operation r asked) (picks_still w k x.seen n r (λ t. ap (λ b. b && is_reading w t r) off) o)
+      (λ q path. sparing_shows g j x.seen x.told l.hold u.operation y r asked o q path) refl (λ c at. absurd (no_commit at))
     where
       no_commit : {a : Retried Sparing} {b : Commit} → Some (TheSparing a) ≡ Some (TheCommit b) → ⊥
       no_commit e = absurd cc
@@ -294,7 +252,7 @@ module _ (g : Setting) (j : IsLegal g.script) (shared : g.shared ≡ true) (k : 
         let a : setup_asks w (y.0).operation ≡ Some r = ap (asks g (who Driver) nothing_learnt) is ∙ asked in
         let p = setup_plain w (y.0).operation r a in
         subst (λ q. Leaves g x (driver_saw g k x q n r o) (driver_entry n r o)) is
-        (still_leaves x (driver_saw g k x (TheSetup y.0) n r o) n r o p.marks (plain_picks w k x.seen n r p o) (λ q path. setup_shows g j x.seen r ((y.0).operation, y.2, a) o q path) refl (λ c at. e.unpicked))
+        (still_leaves x (driver_saw g k x (TheSetup y.0) n r o) n r o p.marks (unread_picks w k x.seen n r p.reads o) (λ q path. setup_shows g j x.seen r ((y.0).operation, y.2, a) o q path) refl (λ c at. e.unpicked))
   ]
 
   pub sends_leaves : (es : List Entry) (x z : Stand) (e : Entry) → Sends g k x e z → Runs g k opening es x → Leaves g x z e

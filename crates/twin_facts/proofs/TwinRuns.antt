@@ -1,15 +1,18 @@
 -- All runs of two jobs at one destination.
-use Rattle.std.proofs.Common.{◌≡◌, ℕ, zero, suc, ◌+◌, ◌<◌, ◌≤◌, ◌⊎◌, inl, inr, ◌&&◌, ◌||◌, Bool, true, false, cond, List, [], ◌∷◌, ◌++◌, map, take, length, Option, Some, refl, sym, ap, subst, ◌∙◌, arith, length-append}
-use Rattle.job_facts.specs.Prelude.{HasBucket, list_any, text_eq, Content, Scene, Upload, nothing_seen, bucket_of, effect, is_effective, Request, Entry, success_key, Who, Script, Setting, is_driver, is_marking, IsIn, changed_keys, at_id, Times}
-use Rattle.job_spec.proofs.Common.{and_parts, take-append-le, take_all, false_true, text_true}
+use Rattle.std.proofs.Common.{◌≡◌, ℕ, ◌+◌, ◌<◌, ◌≤◌, ◌⊎◌, inl, inr, ◌&&◌, ◌||◌, nat_le, Bool, true, false, cond, List, [], ◌∷◌, ◌++◌, map, take, length, Some, refl, sym, ap, subst, ◌∙◌, arith, length-append}
+use Rattle.job_facts.specs.Prelude.{strange_entry, HasBucket, list_any, text_eq, Content, Scene, Upload, nothing_seen, bucket_of, effect, is_effective, Request, Entry, success_key, Script, Setting, is_driver, is_marking, IsIn, changed_keys, Times}
+use Rattle.job_spec.proofs.Common.{and_parts, at_most_is, at_most_not, map-append, take-append-le, take_all, false_true, text_true, true_or_false}
 use Rattle.job_protocol.specs.Prelude.{Path}
 use Rattle.job_spec.specs.Scope.{upload_at}
-use Rattle.job_traces.specs.Runs.{Stand, first_stand, Beginning, MayBegin, begin, Runs, run_begins, is_set, IsOpening}
+use Rattle.job_traces.specs.Runs.{Stand, first_stand, Beginning, MayBegin, begin, run_begins, IsOpening}
 use Rattle.job_traces.proofs.Entries.{late_now}
-use Rattle.job_facts.proofs.Whose.{or_false}
+use Rattle.std.proofs.Math.Bool.{or_assoc}
+use Rattle.std.proofs.lemmas.Bool.{and_from}
+use Rattle.job_facts.proofs.Whose.{or_false, or_true}
 use Rattle.twin_facts.specs.Names.{Ids}
+use Rattle.twin_facts.specs.Laws.{AreTwins}
 use Rattle.twin_facts.specs.TwinLaws.{turned_entry, touches_mark, marks_by, is_marked_by, MayBeTwins, TwinsKeep}
-use Rattle.twin_facts.specs.Sides.{Sends, driver_sends, attempt_sends, observed, Side, First, Second, is_side, TwinEntry, in_eyes, eyes, drawn_by, drew_from, drew, TwinRun, twins_begin, first_begins, second_begins, first_sends, second_sends, IsTwinOpening}
+use Rattle.twin_facts.specs.Sides.{Sends, observed, Side, First, Second, is_side, TwinEntry, in_eyes, eyes, drawn_by, drew_from, drew, TwinRun, twins_begin, first_begins, second_begins, first_sends, second_sends, IsTwinOpening}
 use Rattle.twin_facts.proofs.Pairs.{Pair, more, swapped, swap_twins, paired_begin, paired, strange, sends_scene}
 use Rattle.twin_facts.proofs.Steps.{sends_leaves}
 use Rattle.twin_facts.proofs.Views.{Views, views_swap, Touches, begins_views, entry_views, views_only, views_kept, views_marked}
@@ -23,43 +26,33 @@ snoc_marked w side b (x ∷ es) e = snoc_marked w side (marks_by w side b x) es 
 any_in : (k : List ℕ) (l : List (List ℕ)) → IsIn k l → list_any (text_eq k) l ≡ true
 any_in k [] i = absurd i
 any_in k (x ∷ l) (inl is) = ap (λ b. b || list_any (text_eq k) l) (text_true k x is)
-any_in k (x ∷ l) (inr i) = by (text_eq k x) (any_in k l i)
-  where
-    by : (b : Bool) → list_any (text_eq k) l ≡ true → (b || list_any (text_eq k) l) ≡ true
-    by true old = refl
-    by false old = old
+any_in k (x ∷ l) (inr i) = ap (λ b. text_eq k x || b) (any_in k l i) ∙ or_true (text_eq k x)
 
 touched : (w : Script) (r : Request) → Touches w.dest r → touches_mark w r ≡ true
 touched w r t = rw (text_true (bucket_of r) w.dest.bucket t.0, any_in (success_key w.dest.key) (changed_keys r) t.1) refl
 
-both : {a b : Bool} → a ≡ true → b ≡ true → (a && b) ≡ true
-both {a = a} {b = b} e f = rw (e, f) refl
+-- an entry puts it by the side's own driver, or leaves it
+marks_of : (w : Script) (side : Side) (m : Bool) (t : TwinEntry) → marks_by w side m t ≡ true
+    → ((is_effective t.entry.outcome ≡ true) × (is_side side t.side ≡ true) × (is_driver t.entry.actor ≡ true) × (is_marking w t.entry.request ≡ true)) ⊎ ((m ≡ true) × ((is_effective t.entry.outcome ≡ true) → Touches w.dest t.entry.request → ⊥))
+marks_of w side m t h = elim (true_or_false (is_effective t.entry.outcome && touches_mark w t.entry.request)) [
+  | inl e ↦
+      let p = and_parts (is_side side t.side) _ (sym (ap (λ b. cond b (is_side side t.side && (is_driver t.entry.actor && is_marking w t.entry.request)) m) e) ∙ h) in
+      let q = and_parts (is_driver t.entry.actor) (is_marking w t.entry.request) p.1 in
+      inl ((and_parts (is_effective t.entry.outcome) (touches_mark w t.entry.request) e).0, p.0, q.0, q.1)
+  | inr e ↦ inr (sym (ap (λ b. cond b (is_side side t.side && (is_driver t.entry.actor && is_marking w t.entry.request)) m) e) ∙ h, λ took at. false_true e (and_from _ _ took (touched w t.entry.request at)))
+]
 
--- the side's own entry puts it, or leaves it
-own_marks : (w : Script) (side : Side) → is_side side side ≡ true → (m : Bool) (e : Entry) (n : ℕ) → marks_by w side m (record { side = side; entry = e; theirs = n }) ≡ true
+own_marks : (w : Script) (side : Side) (m : Bool) (e : Entry) (n : ℕ) → marks_by w side m (record { side = side; entry = e; theirs = n }) ≡ true
     → ((is_effective e.outcome ≡ true) × (is_driver e.actor ≡ true) × (is_marking w e.request ≡ true)) ⊎ ((m ≡ true) × ((is_effective e.outcome ≡ true) → Touches w.dest e.request → ⊥))
-own_marks w side same m e n h = by (is_effective e.outcome && touches_mark w e.request) refl h
-  where
-    by : (t : Bool) → (is_effective e.outcome && touches_mark w e.request) ≡ t → cond t (is_side side side && (is_driver e.actor && is_marking w e.request)) m ≡ true
-        → ((is_effective e.outcome ≡ true) × (is_driver e.actor ≡ true) × (is_marking w e.request ≡ true)) ⊎ ((m ≡ true) × ((is_effective e.outcome ≡ true) → Touches w.dest e.request → ⊥))
-    by true t h =
-        let p = and_parts (is_driver e.actor) (is_marking w e.request) (and_parts (is_side side side) _ h).1 in
-        inl ((and_parts (is_effective e.outcome) (touches_mark w e.request) t).0, p.0, p.1)
-    by false t h = inr (h, λ took at. false_true t (both took (touched w e.request at)))
+own_marks w side m e n h = elim (marks_of w side m (record { side = side; entry = e; theirs = n }) h) [ inl x ↦ inl (x.0, x.2, x.3) | inr x ↦ inr x ]
 
--- the other side's entry leaves it
 other_marks : (w : Script) (side other : Side) → is_side side other ≡ false → (m : Bool) (e : Entry) (n : ℕ) → marks_by w side m (record { side = other; entry = e; theirs = n }) ≡ true → (m ≡ true) × ((is_effective e.outcome ≡ true) → Touches w.dest e.request → ⊥)
-other_marks w side other differ m e n h = by (is_effective e.outcome && touches_mark w e.request) refl h
-  where
-    by : (t : Bool) → (is_effective e.outcome && touches_mark w e.request) ≡ t → cond t (is_side side other && (is_driver e.actor && is_marking w e.request)) m ≡ true → (m ≡ true) × ((is_effective e.outcome ≡ true) → Touches w.dest e.request → ⊥)
-    by true t h = absurd (false_true differ (and_parts (is_side side other) _ h).0)
-    by false t h = (h, λ took at. false_true t (both took (touched w e.request at)))
+other_marks w side other differ m e n h = elim (marks_of w side m (record { side = other; entry = e; theirs = n }) h) [ inl x ↦ absurd (false_true differ x.1) | inr x ↦ x ]
 
 -- ---- what each side sees, and drew
 
-eyes_more : (side : Side) (es : List TwinEntry) (t : TwinEntry) → eyes side (es ++ t ∷ []) ≡ eyes side es ++ in_eyes side t ∷ []
-eyes_more side [] t = refl
-eyes_more side (x ∷ es) t = ap (λ l. in_eyes side x ∷ l) (eyes_more side es t)
+pub eyes_more : (side : Side) (es : List TwinEntry) (t : TwinEntry) → eyes side (es ++ t ∷ []) ≡ eyes side es ++ in_eyes side t ∷ []
+eyes_more side es t = map-append (in_eyes side) es (t ∷ [])
 
 abbrev pub scene_of : Scene → List TwinEntry → Scene
 scene_of s [] = s
@@ -69,23 +62,34 @@ scene_more : (s : Scene) (es : List TwinEntry) (t : TwinEntry) → scene_of s (e
 scene_more s [] t = refl
 scene_more s (x ∷ es) t = scene_more (effect s x.entry.request x.entry.outcome) es t
 
-or_assoc : (a b c : Bool) → (a || (b || c)) ≡ ((a || b) || c)
-or_assoc true b c = refl
-or_assoc false b c = refl
-
 drew_more : (side : Side) (s : Scene) (es : List TwinEntry) (t : TwinEntry) (id : ℕ) → drew_from side s (es ++ t ∷ []) id ≡ (drew_from side s es id || (is_side side t.side && drawn_by (scene_of s es) t.entry.request t.entry.outcome id))
 drew_more side s [] t id = or_false (is_side side t.side && drawn_by s t.entry.request t.entry.outcome id)
 drew_more side s (x ∷ es) t id =
     let u = effect s x.entry.request x.entry.outcome in
     let b = is_side side x.side && drawn_by s x.entry.request x.entry.outcome id in
-    ap (λ c. b || c) (drew_more side u es t id) ∙ or_assoc b (drew_from side u es id) (is_side side t.side && drawn_by (scene_of u es) t.entry.request t.entry.outcome id)
+    ap (λ c. b || c) (drew_more side u es t id) ∙ sym (or_assoc b (drew_from side u es id) (is_side side t.side && drawn_by (scene_of u es) t.entry.request t.entry.outcome id))
 
 -- ---- what holds of both
 
-pub record All (g h : Setting) (k l : Times) (opening : Content) (es : List TwinEntry) (x y : Stand) : Type 0 where
-  pub pair : Pair g h k l opening (eyes First es) (eyes Second es) (drew First opening es) (drew Second opening es) x y
-  pub scene : scene_of (nothing_seen opening).scene es ≡ x.seen.scene
-  pub views : HasBucket opening g.script.dest.bucket → Views g h g.script.dest opening x.seen.scene.content x y (is_marked_by g.script First false es) (is_marked_by h.script Second false es)
+-- of two sides that read these entries and drew these uploads, where the store stands so and these markers are theirs
+pub record Both (g h : Setting) (k l : Times) (opening : Content) (fs gs : List Entry) (d e : Ids) (s : Scene) (one two : Bool) (x y : Stand) : Type 0 where
+  pub pair : Pair g h k l opening fs gs d e x y
+  pub scene : s ≡ x.seen.scene
+  pub views : HasBucket opening g.script.dest.bucket → Views g h g.script.dest opening x.seen.scene.content x y one two
+
+-- the same seen from the second side
+swap : {g h : Setting} {k l : Times} {opening : Content} {fs gs : List Entry} {d e : Ids} {s : Scene} {one two : Bool} {x y : Stand} → AreTwins g.script h.script
+    → Both g h k l opening fs gs d e s one two x y → Both h g l k opening gs fs e d s two one y x
+swap {g = g} {h = h} {opening = opening} {one = one} {two = two} {x = x} {y = y} t b = record {
+  pair = swapped t b.pair;
+  scene = b.scene ∙ b.pair.scenes;
+  views = λ stood. subst (λ (d : Path). Views h g d opening y.seen.scene.content y x two one) t.dest
+      (subst (λ (s : Scene). Views h g g.script.dest opening s.content y x two one) b.pair.scenes (views_swap (b.views (subst (λ (d : Path). HasBucket opening d.bucket) (sym t.dest) stood))));
+}
+
+abbrev pub All : (g h : Setting) (k l : Times) (opening : Content) (es : List TwinEntry) (x y : Stand) → Type 0
+All g h k l opening es x y =
+    Both g h k l opening (eyes First es) (eyes Second es) (drew First opening es) (drew Second opening es) (scene_of (nothing_seen opening).scene es) (is_marked_by g.script First false es) (is_marked_by h.script Second false es) x y
 
 module _ (g h : Setting) (m : MayBeTwins g.script h.script) (k l : Times) (opening : Content) (is : IsTwinOpening g h opening) where
   pub opens_first : IsOpening g opening
@@ -97,6 +101,30 @@ module _ (g h : Setting) (m : MayBeTwins g.script h.script) (k l : Times) (openi
   pub turned_twins : MayBeTwins h.script g.script
   turned_twins = record { first = m.second; second = m.first; twins = swap_twins m.twins; keeps_first = m.keeps_second; keeps_second = m.keeps_first }
 
+  pub turned_opening : IsTwinOpening h g opening
+  turned_opening = record { shared_first = is.shared_second; shared_second = is.shared_first; first = is.second; second = is.first; fresh = opens_second.fresh }
+
+  module _ {fs gs : List Entry} {d e : Ids} {s : Scene} {one two : Bool} {x y : Stand} (a : Both g h k l opening fs gs d e s one two x y) where
+    -- the first side begins an operation, and sends
+    begin_so : (b : Beginning) → MayBegin g x b → Both g h k l opening fs gs d e s one two (begin g x b) y
+    begin_so b may = record { pair = paired_begin b may a.pair; scene = a.scene; views = λ stood. begins_views g h k opening m.first opens_first fs g.script.dest opening x.seen.scene.content x y one two b may a.pair.first (a.views stood) }
+
+    send_so : {z : Stand} (f : Entry) (n : ℕ) (now then : Bool) → Sends g k x f z
+        → (now ≡ true → ((is_effective f.outcome ≡ true) × (is_driver f.actor ≡ true) × (is_marking g.script f.request ≡ true)) ⊎ ((one ≡ true) × ((is_effective f.outcome ≡ true) → Touches g.script.dest f.request → ⊥)))
+        → (then ≡ true → (two ≡ true) × ((is_effective f.outcome ≡ true) → Touches h.script.dest f.request → ⊥))
+        → Both g h k l opening (fs ++ f ∷ []) (gs ++ strange_entry n f.request f.outcome ∷ []) (more d s f.request f.outcome) e (effect s f.request f.outcome) now then z (observed h l y n f)
+    send_so {z = z} f n now then sends said says =
+        let at = sends_scene g m.first is.shared_first k opening opens_first x z f sends in
+        record {
+          pair = subst (λ v. Pair g h k l opening (fs ++ f ∷ []) (gs ++ strange_entry n f.request f.outcome ∷ []) (more d v f.request f.outcome) e z (observed h l y n f)) (sym a.scene)
+              (paired m is.shared_first k l opens_first f n sends a.pair);
+          scene = ap (λ v. effect v f.request f.outcome) a.scene ∙ sym at;
+          views = λ stood. subst (λ (v : Scene). Views g h g.script.dest opening v.content z (observed h l y n f) now then) (sym at)
+              (entry_views g h m.first opening x y z f (sends_leaves g m.first is.shared_first k opening opens_first m.keeps_first fs x z f sends a.pair.first) (a.pair.there stood) l n one two now then said
+              (λ t. let o = says t in (o.0, λ took at. o.1 took (subst (λ (d : Path). Touches d f.request) m.twins.dest at))) (a.views stood));
+        }
+
+module _ (g h : Setting) (m : MayBeTwins g.script h.script) (k l : Times) (opening : Content) (is : IsTwinOpening g h opening) where
   all_begin : All g h k l opening [] (first_stand opening k.clean) (first_stand opening l.clean)
   all_begin = record {
     pair = record {
@@ -118,49 +146,14 @@ module _ (g h : Setting) (m : MayBeTwins g.script h.script) (k l : Times) (openi
     };
   }
 
-  -- a pair over other lists and ids that are the same
-  pair_so : {fs fs2 gs gs2 : List Entry} {d d2 e e2 : Ids} {x y : Stand} → fs ≡ fs2 → gs ≡ gs2 → d ≡ d2 → e ≡ e2 → Pair g h k l opening fs gs d e x y → Pair g h k l opening fs2 gs2 d2 e2 x y
-  pair_so {fs = fs} {fs2 = fs2} {gs = gs} {gs2 = gs2} {d = d} {d2 = d2} {e2 = e2} {x = x} {y = y} a b c f p =
-      subst (λ q. Pair g h k l opening q gs2 d2 e2 x y) a (subst (λ q. Pair g h k l opening fs q d2 e2 x y) b (subst (λ q. Pair g h k l opening fs gs q e2 x y) c (subst (λ q. Pair g h k l opening fs gs d q x y) f p)))
-
-  -- the same seen from the second side
-  flipped : {x y : Stand} (one two : Bool) → x.seen.scene ≡ y.seen.scene → Views g h g.script.dest opening x.seen.scene.content x y one two → Views h g h.script.dest opening y.seen.scene.content y x two one
-  flipped {x = x} {y = y} one two same v = subst (λ (d : Path). Views h g d opening y.seen.scene.content y x two one) m.twins.dest (subst (λ (s : Scene). Views h g g.script.dest opening s.content y x two one) same (views_swap v))
-
-  back : {x y : Stand} (s : Scene) (one two : Bool) → x.seen.scene ≡ s → Views h g h.script.dest opening s.content y x two one → Views g h g.script.dest opening x.seen.scene.content x y one two
-  back {x = x} {y = y} s one two e v = subst (λ (d : Path). Views g h d opening x.seen.scene.content x y one two) (sym m.twins.dest) (subst (λ (t : Scene). Views g h h.script.dest opening t.content x y one two) (sym e) (views_swap v))
-
-  not_touched : (r : Request) → (Touches h.script.dest r → ⊥) → Touches g.script.dest r → ⊥
-  not_touched r f t = f (subst (λ (d : Path). Touches d r) m.twins.dest t)
-
-  not_touched_back : (r : Request) → (Touches g.script.dest r → ⊥) → Touches h.script.dest r → ⊥
-  not_touched_back r f t = f (subst (λ (d : Path). Touches d r) (sym m.twins.dest) t)
-
   abbrev one : List TwinEntry → Bool
   one es = is_marked_by g.script First false es
 
   abbrev two : List TwinEntry → Bool
   two es = is_marked_by h.script Second false es
 
-  abbrev by_first : Entry → ℕ → TwinEntry
-  by_first e n = record { side = First; entry = e; theirs = n }
-
-  abbrev by_second : Entry → ℕ → TwinEntry
-  by_second e n = record { side = Second; entry = e; theirs = n }
-
-  first_begin_so : (es : List TwinEntry) (x y : Stand) (b : Beginning) → All g h k l opening es x y → MayBegin g x b → All g h k l opening es (begin g x b) y
-  first_begin_so es x y b a may = record {
-    pair = paired_begin b may a.pair;
-    scene = a.scene;
-    views = λ stood. begins_views g h k opening m.first opens_first (eyes First es) g.script.dest opening x.seen.scene.content x y (one es) (two es) b may a.pair.first (a.views stood);
-  }
-
-  second_begin_so : (es : List TwinEntry) (x y : Stand) (b : Beginning) → All g h k l opening es x y → MayBegin h y b → All g h k l opening es x (begin h y b)
-  second_begin_so es x y b a may = record {
-    pair = swapped (swap_twins m.twins) (paired_begin b may (swapped m.twins a.pair));
-    scene = a.scene;
-    views = λ stood. back y.seen.scene (one es) (two es) a.pair.scenes (begins_views h g l opening m.second opens_second (eyes Second es) h.script.dest opening y.seen.scene.content y x (two es) (one es) b may a.pair.second (flipped (one es) (two es) a.pair.scenes (a.views stood)));
-  }
+  abbrev now : List TwinEntry → Scene
+  now es = scene_of (nothing_seen opening).scene es
 
   -- what is drawn
   pub drew_own : (side : Side) → is_side side side ≡ true → (es : List TwinEntry) (s : Scene) → scene_of (nothing_seen opening).scene es ≡ s → (e : Entry) (n : ℕ) → more (drew side opening es) s e.request e.outcome ≡ drew side opening (es ++ record { side = side; entry = e; theirs = n } ∷ [])
@@ -172,59 +165,45 @@ module _ (g h : Setting) (m : MayBeTwins g.script h.script) (k l : Times) (openi
   drew_not side other differ es e n i id =
       sym (drew_more side (nothing_seen opening).scene es (record { side = other; entry = e; theirs = n }) id ∙ ap (λ b. drew side opening es id || (b && drawn_by (scene_of (nothing_seen opening).scene es) e.request e.outcome id)) differ ∙ or_false (drew side opening es id)) i
 
-  first_send_so : (es : List TwinEntry) (x y z : Stand) (e : Entry) (n : ℕ) → All g h k l opening es x y → Sends g k x e z → All g h k l opening (es ++ by_first e n ∷ []) z (observed h l y n e)
-  first_send_so es x y z e n a sends =
-      let now = snoc_marked g.script First false es (by_first e n) in
-      let then = snoc_marked h.script Second false es (by_first e n) in
-      let at = sends_scene g m.first is.shared_first k opening opens_first x z e sends in
-      record {
-        pair = pair_so (sym (eyes_more First es (by_first e n))) (sym (eyes_more Second es (by_first e n))) (drew_own First refl es x.seen.scene a.scene e n) (drew_not Second First refl es e n) (paired m is.shared_first k l opens_first e n sends a.pair);
-        scene = scene_more (nothing_seen opening).scene es (by_first e n) ∙ ap (λ s. effect s e.request e.outcome) a.scene ∙ sym at;
-        views = λ stood. subst (λ (s : Scene). Views g h g.script.dest opening s.content z (observed h l y n e) (one (es ++ by_first e n ∷ [])) (two (es ++ by_first e n ∷ []))) (sym at)
-            (entry_views g h m.first opening x y z e (sends_leaves g m.first is.shared_first k opening opens_first m.keeps_first (eyes First es) x z e sends a.pair.first) (a.pair.there stood) l n (one es) (two es) (one (es ++ by_first e n ∷ [])) (two (es ++ by_first e n ∷ []))
-            (λ t. own_marks g.script First refl (one es) e n (sym now ∙ t))
-            (λ t. let o = other_marks h.script Second First refl (two es) e n (sym then ∙ t) in (o.0, λ took. not_touched e.request (o.1 took)))
-            (a.views stood));
-      }
-
-  second_send_so : (es : List TwinEntry) (x y z : Stand) (e : Entry) (n : ℕ) → All g h k l opening es x y → Sends h l y e z → All g h k l opening (es ++ by_second e n ∷ []) (observed g k x n e) z
-  second_send_so es x y z e n a sends =
-      let now = snoc_marked h.script Second false es (by_second e n) in
-      let then = snoc_marked g.script First false es (by_second e n) in
-      let p = swapped m.twins a.pair in
-      record {
-        pair = pair_so (sym (eyes_more First es (by_second e n))) (sym (eyes_more Second es (by_second e n))) (drew_not First Second refl es e n) (drew_own Second refl es y.seen.scene (a.scene ∙ a.pair.scenes) e n)
-            (swapped (swap_twins m.twins) (paired turned_twins is.shared_second l k opens_second e n sends p));
-        scene = scene_more (nothing_seen opening).scene es (by_second e n) ∙ ap (λ s. effect s e.request e.outcome) a.scene;
-        views = λ stood. back (effect y.seen.scene e.request e.outcome) (one (es ++ by_second e n ∷ [])) (two (es ++ by_second e n ∷ [])) (ap (λ s. effect s e.request e.outcome) a.pair.scenes)
-            (entry_views h g m.second opening y x z e (sends_leaves h m.second is.shared_second l opening opens_second m.keeps_second (eyes Second es) y z e sends a.pair.second) (p.there (subst (λ (d : Path). HasBucket opening d.bucket) m.twins.dest stood)) k n (two es) (one es) (two (es ++ by_second e n ∷ [])) (one (es ++ by_second e n ∷ []))
-            (λ t. own_marks h.script Second refl (two es) e n (sym now ∙ t))
-            (λ t. let o = other_marks g.script First Second refl (one es) e n (sym then ∙ t) in (o.0, λ took. not_touched_back e.request (o.1 took)))
-            (flipped (one es) (two es) a.pair.scenes (a.views stood)));
-      }
+  -- one more entry, as each side reads it
+  all_more : (es : List TwinEntry) (t : TwinEntry) (d e : Ids) {x y : Stand} → d ≡ drew First opening (es ++ t ∷ []) → e ≡ drew Second opening (es ++ t ∷ [])
+      → Both g h k l opening (eyes First es ++ in_eyes First t ∷ []) (eyes Second es ++ in_eyes Second t ∷ []) d e (effect (now es) t.entry.request t.entry.outcome)
+      (marks_by g.script First (one es) t) (marks_by h.script Second (two es) t) x y
+      → All g h k l opening (es ++ t ∷ []) x y
+  all_more es t d e {x = x} {y = y} a b both = subst (λ (v : List Entry × List Entry × Ids × Ids × Scene × Bool × Bool). Both g h k l opening v.0 v.1 v.2 v.3 v.4 v.5 v.6 x y)
+      (λ i. (sym (eyes_more First es t) i, sym (eyes_more Second es t) i, a i, b i, sym (scene_more (nothing_seen opening).scene es t) i, sym (snoc_marked g.script First false es t) i, sym (snoc_marked h.script Second false es t) i)) both
 
   pub all_so : (es : List TwinEntry) (x y : Stand) → TwinRun g h k l opening es x y → All g h k l opening es x y
   all_so es x y (twins_begin) = all_begin
-  all_so es x y (first_begins fs u v b run may) = first_begin_so fs u v b (all_so fs u v run) may
-  all_so es x y (second_begins fs u v b run may) = second_begin_so fs u v b (all_so fs u v run) may
-  all_so es x y (first_sends fs u v z e n run sends) = first_send_so fs u v z e n (all_so fs u v run) sends
-  all_so es x y (second_sends fs u v z e n run sends) = second_send_so fs u v z e n (all_so fs u v run) sends
+  all_so es x y (first_begins fs u v b run may) = begin_so g h m k l opening is (all_so fs u v run) b may
+  all_so es x y (second_begins fs u v b run may) =
+      swap (swap_twins m.twins) (begin_so h g (turned_twins g h m k l opening is) l k opening (turned_opening g h m k l opening is) (swap m.twins (all_so fs u v run)) b may)
+  all_so es x y (first_sends fs u v z e n run sends) =
+      let t : TwinEntry = record { side = First; entry = e; theirs = n } in
+      all_more fs t (more (drew First opening fs) (now fs) e.request e.outcome) (drew Second opening fs) (drew_own First refl fs (now fs) refl e n) (drew_not Second First refl fs e n)
+      (send_so g h m k l opening is (all_so fs u v run) e n (marks_by g.script First (one fs) t) (marks_by h.script Second (two fs) t) sends (own_marks g.script First (one fs) e n) (other_marks h.script Second First refl (two fs) e n))
+  all_so es x y (second_sends fs u v z e n run sends) =
+      let t : TwinEntry = record { side = Second; entry = e; theirs = n } in
+      all_more fs t (drew First opening fs) (more (drew Second opening fs) (now fs) e.request e.outcome) (drew_not First Second refl fs e n) (drew_own Second refl fs (now fs) refl e n)
+      (swap (swap_twins m.twins) (send_so h g (turned_twins g h m k l opening is) l k opening (turned_opening g h m k l opening is)
+      (swap m.twins (all_so fs u v run)) e n (marks_by h.script Second (two fs) t) (marks_by g.script First (one fs) t) sends
+      (own_marks h.script Second (two fs) e n) (other_marks g.script First Second refl (one fs) e n)))
 
   pub twins_keep : (es : List TwinEntry) (x y : Stand) → TwinRun g h k l opening es x y → TwinsKeep g h k l opening es x y
   twins_keep es x y run =
       let a = all_so es x y run in
       record {
-        first = λ set. (late_now g k opening m.first opens_first (eyes First es) x a.pair.first set).hold;
-        second = λ set. (late_now h l opening m.second opens_second (eyes Second es) y a.pair.second set).hold;
+        first = λ set. (late_now g k opening m.first (opens_first g h m k l opening is) (eyes First es) x a.pair.first set).hold;
+        second = λ set. (late_now h l opening m.second (opens_second g h m k l opening is) (eyes Second es) y a.pair.second set).hold;
         apart = a.pair.apart;
         known_first = a.pair.known_first;
         known_second = a.pair.known_second;
-        strange_first = λ e z sends. strange m is.shared_first k l opens_first e 0 sends a.pair;
-        strange_second = λ e z sends. strange turned_twins is.shared_second l k opens_second e 0 sends (swapped m.twins a.pair);
+        strange_first = λ e z sends. strange m is.shared_first k l (opens_first g h m k l opening is) e 0 sends a.pair;
+        strange_second = λ e z sends. strange (turned_twins g h m k l opening is) is.shared_second l k (opens_second g h m k l opening is) e 0 sends (swapped m.twins a.pair);
         one_scene = a.pair.scenes;
         shown = λ stood.
             let views = a.views stood in
-            let other = flipped (one es) (two es) a.pair.scenes views in
+            let other = (swap m.twins a).views (subst (λ (d : Path). HasBucket opening d.bucket) m.twins.dest stood) in
             record {
               shows = record { only = views_only views; kept = views_kept views };
               first = λ t. let v = views_marked views m.first t in record { picked = v.0; apart = v.1; files = v.2; mark = v.3 };
@@ -240,15 +219,10 @@ module _ (g h : Setting) (k l : Times) (opening : Content) where
   Reached es = (u v : Stand) × TwinRun g h k l opening es u v
 
   with_one : (es : List TwinEntry) (e : TwinEntry) (m : ℕ) (x y : Stand) → m ≤ length (es ++ e ∷ []) → (m ≤ length es → Reached (take m es)) → TwinRun g h k l opening (es ++ e ∷ []) x y → Reached (take m (es ++ e ∷ []))
-  with_one es e m x y few before run = elim (at_most m (length es)) [
-    | inl low ↦ subst Reached (sym (take-append-le m es (e ∷ []) low)) (before low)
-    | inr high ↦ subst Reached (sym (take_all m (es ++ e ∷ []) (let n : length (es ++ e ∷ []) ≡ length es + 1 = length-append es (e ∷ []) in omega arith))) (x, y, run)
+  with_one es e m x y few before run = elim (true_or_false (nat_le m (length es))) [
+    | inl low ↦ (let l = at_most_is m (length es) low in subst Reached (sym (take-append-le m es (e ∷ []) l)) (before l))
+    | inr high ↦ subst Reached (sym (take_all m (es ++ e ∷ []) (let l = at_most_not m (length es) high in let n : length (es ++ e ∷ []) ≡ length es + 1 = length-append es (e ∷ []) in omega arith))) (x, y, run)
   ]
-    where
-      at_most : (a b : ℕ) → (a ≤ b) ⊎ (b < a)
-      at_most zero b = inl (omega arith)
-      at_most (suc a) zero = inr (omega arith)
-      at_most (suc a) (suc b) = elim (at_most a b) [ inl x ↦ inl (omega arith) | inr x ↦ inr (omega arith) ]
 
   pub moments : (es : List TwinEntry) (x y : Stand) → TwinRun g h k l opening es x y → (m : ℕ) → m ≤ length es → Reached (take m es)
   moments es x y (twins_begin) m few = (x, y, subst (λ fs. TwinRun g h k l opening fs x y) (sym (take_all m [] (omega arith))) (twins_begin))
@@ -262,13 +236,13 @@ module _ (g h : Setting) (k l : Times) (opening : Content) where
 -- ---- which side is the first
 
 module _ (g h : Setting) (k l : Times) (opening : Content) where
-  turned_one : (es : List TwinEntry) (e : TwinEntry) → map turned_entry (es ++ e ∷ []) ≡ map turned_entry es ++ turned_entry e ∷ []
-  turned_one [] e = refl
-  turned_one (x ∷ es) e = ap (λ l. turned_entry x ∷ l) (turned_one es e)
-
   pub turned : (es : List TwinEntry) (x y : Stand) → TwinRun g h k l opening es x y → TwinRun h g l k opening (map turned_entry es) y x
   turned es x y (twins_begin) = twins_begin
   turned es x y (first_begins fs u v b run may) = second_begins (map turned_entry fs) v u b (turned fs u v run) may
   turned es x y (second_begins fs u v b run may) = first_begins (map turned_entry fs) v u b (turned fs u v run) may
-  turned es x y (first_sends fs u v z e n run sends) = subst (λ q. TwinRun h g l k opening q (observed h l v n e) z) (sym (turned_one fs (record { side = First; entry = e; theirs = n }))) (second_sends (map turned_entry fs) v u z e n (turned fs u v run) sends)
-  turned es x y (second_sends fs u v z e n run sends) = subst (λ q. TwinRun h g l k opening q z (observed g k u n e)) (sym (turned_one fs (record { side = Second; entry = e; theirs = n }))) (first_sends (map turned_entry fs) v u z e n (turned fs u v run) sends)
+  turned es x y (first_sends fs u v z e n run sends) =
+      subst (λ q. TwinRun h g l k opening q (observed h l v n e) z) (sym (map-append turned_entry fs (record { side = First; entry = e; theirs = n } ∷ [])))
+      (second_sends (map turned_entry fs) v u z e n (turned fs u v run) sends)
+  turned es x y (second_sends fs u v z e n run sends) =
+      subst (λ q. TwinRun h g l k opening q z (observed g k u n e)) (sym (map-append turned_entry fs (record { side = Second; entry = e; theirs = n } ∷ [])))
+      (first_sends (map turned_entry fs) v u z e n (turned fs u v run) sends)

@@ -1,10 +1,10 @@
 -- What readers of a destination of two jobs are shown is kept by each step of either.
 use Rattle.std.proofs.Common.{◌≡◌, ℕ, ◌⊎◌, inl, inr, not, Bool, true, false, cond, List, Option, Some, None, refl, sym, ap, subst, ◌∙◌}
-use Rattle.job_facts.specs.Prelude.{option_map, Content, Scene, bucket_of, effect, is_effective, Object, Request, Outcome, Answered, Slow, RequestLost, ReplyLost, Entry, success_key, Who, Script, IsLegal, Picks, wanted_at, is_decided, is_picked, is_clash, mark_text, is_file_path, view, Commit, Marking, Setting, TheCommit, is_driver, is_marking, clean_of, IsIn, HasBucket, changed_keys, whole_of, Times}
-use Rattle.job_spec.proofs.Common.{and_parts, not-true, some_is, none_some, none_or_some, false_true, true_or_false, same_or_other}
+use Rattle.job_facts.specs.Prelude.{option_map, Content, Scene, bucket_of, effect, is_effective, Object, Request, Outcome, Slow, RequestLost, Entry, success_key, Script, IsLegal, Picks, wanted_at, is_decided, is_picked, is_clash, mark_text, is_file_path, view, Commit, Marking, Setting, TheCommit, is_driver, is_marking, clean_of, IsIn, HasBucket, changed_keys, whole_of, Times}
+use Rattle.job_spec.proofs.Common.{and_parts, not-true, some_is, none_some, none_or_some, false_true, true_or_false}
 use Rattle.job_protocol.specs.Prelude.{Path}
 use Rattle.job_protocol.proofs.Begun.{clean_of_so}
-use Rattle.job_traces.specs.Runs.{Stand, is_just_set, Beginning, BeginSetup, BeginCommit, BeginClean, BeginWrite, BeginPublish, BeginAbort, MayBegin, begin, Runs, IsOpening}
+use Rattle.job_traces.specs.Runs.{Stand, is_just_set, Beginning, BeginSetup, BeginCommit, BeginClean, MayBegin, begin, Runs, IsOpening}
 use Rattle.job_traces.proofs.EveryRun.{just_set, just_idle}
 use Rattle.job_traces.proofs.Entries.{late_now}
 use Rattle.job_facts.proofs.FilePaths.{file_path}
@@ -12,7 +12,6 @@ use Rattle.job_facts.proofs.FilingLaws.{stranger_same}
 use Rattle.job_facts.proofs.Wanted.{wanted_of}
 use Rattle.twin_facts.specs.TwinLaws.{counted, Gives}
 use Rattle.twin_facts.specs.Sides.{observed}
-use Rattle.job_facts.proofs.Spares.{in_or_not}
 use Rattle.twin_facts.proofs.Steps.{obj, mark_at, count, FileAt, Leaves}
 
 -- ---- paths
@@ -47,6 +46,13 @@ views_swap v = record {
   others = v.mine;
 }
 
+-- what counts is decided, and wanted
+counted_is : (w : Script) (p : Picks) (q b : List ℕ) → counted w p q ≡ Some b → (is_decided w p ≡ true) × (wanted_at w p q ≡ Some b)
+counted_is w p q b c = elim (true_or_false (is_decided w p)) [
+  | inl i ↦ (i, sym (ap (λ a. cond a (wanted_at w p q) None) i) ∙ c)
+  | inr i ↦ absurd (none_some (ap (λ a. cond a (wanted_at w p q) None) i) c)
+]
+
 -- ---- one entry of the first side
 
 -- the request changes what stands at the marker's key
@@ -70,15 +76,8 @@ module _ (g h : Setting) (j : IsLegal g.script) (opening : Content) (x y z : Sta
   still_picks : is_decided w x.seen.picks ≡ true → z.seen.picks ≡ x.seen.picks
   still_picks dec = elim l.picks [ inl same ↦ same | inr un ↦ absurd (false_true un dec) ]
 
-  counted_some : (p : Picks) (q b : List ℕ) → counted w p q ≡ Some b → is_decided w p ≡ true
-  counted_some p q b c = by (is_decided w p) refl c
-    where
-      by : (a : Bool) → is_decided w p ≡ a → cond a (wanted_at w p q) None ≡ Some b → is_decided w p ≡ true
-      by true i c = i
-      by false i c = absurd (none_some refl c)
-
   still_counted : (q b : List ℕ) → count g x q ≡ Some b → count g z q ≡ Some b
-  still_counted q b c = ap (λ p. counted w p q) (still_picks (counted_some x.seen.picks q b c)) ∙ c
+  still_counted q b c = ap (λ p. counted w p q) (still_picks (counted_is w x.seen.picks q b c).0) ∙ c
 
   not_counted : (q : List ℕ) → count g z q ≡ None → count g x q ≡ None
   not_counted q n = elim (none_or_some (count g x q)) [ inl none ↦ none | inr b ↦ absurd (none_some n (still_counted q b.0 b.1)) ]
@@ -98,21 +97,14 @@ module _ (g h : Setting) (j : IsLegal g.script) (opening : Content) (x y z : Sta
 
   -- ---- the marker
 
-  touched_or_not : (c : Path) (r : Request) → Touches c r ⊎ (Touches c r → ⊥)
-  touched_or_not c r = elim (same_or_other (bucket_of r) c.bucket) [
-    | inr ne ↦ inr (λ t. ne t.0)
-    | inl b ↦ elim (in_or_not (success_key c.key) (changed_keys r)) [ inl i ↦ inl (b, i) | inr out ↦ inr (λ t. out t.1) ]
-  ]
-
   -- what does not take effect, or does not touch it, leaves it
   mark_left : ((is_effective e.outcome ≡ true) → Touches d e.request → ⊥) → mark_at d u.content ≡ mark_at d s.content
-  mark_left free = by e.outcome refl
+  mark_left = left_by e.outcome
     where
-      by : (o : Outcome) → o ≡ e.outcome → mark_at d u.content ≡ mark_at d s.content
-      by (Answered a) i = stranger_same w s there e.request e.outcome (success_key d.key) (λ b k. free (ap is_effective (sym i)) (b, k))
-      by ReplyLost i = stranger_same w s there e.request e.outcome (success_key d.key) (λ b k. free (ap is_effective (sym i)) (b, k))
-      by Slow i = ap (λ o. mark_at d (effect s e.request o).content) (sym i)
-      by RequestLost i = ap (λ o. mark_at d (effect s e.request o).content) (sym i)
+      left_by : (o : Outcome) → ((is_effective o ≡ true) → Touches d e.request → ⊥) → mark_at d (effect s e.request o).content ≡ mark_at d s.content
+      left_by Slow free = refl
+      left_by RequestLost free = refl
+      left_by o free = stranger_same w s there e.request o (success_key d.key) (λ b k. free refl (b, k))
 
   -- ---- its own side
 
@@ -130,15 +122,13 @@ module _ (g h : Setting) (j : IsLegal g.script) (opening : Content) (x y z : Sta
       | inr not_before ↦
           let n = l.put_now not_before put in (
             ap (is_decided w) n.3 ∙ n.4,
-            λ q b path c none.
-                let want : wanted_at w x.seen.picks q ≡ Some b = ap (λ a. cond a (wanted_at w x.seen.picks q) None) (sym n.4) ∙ ap (λ p. counted w p q) (sym n.3) ∙ c in
-                n.5 q path ∙ v.files (Marking n.0 n.1) n.2 q b path want none,
+            λ q b path c none. n.5 q path ∙ v.files (Marking n.0 n.1) n.2 q b path (counted_is w x.seen.picks q b (ap (λ p. counted w p q) (sym n.3) ∙ c)).1 none,
           )
     ];
     files = λ p is q b path want none. l.files p is q b (obj d opening q) path want
         (λ un. elim (one q path) [
           | inl same ↦ same
-          | inr o ↦ absurd (elim o.1 [ inl a ↦ false_true un (counted_some x.seen.picks q o.0 a) | inr a ↦ none_some none a ])
+          | inr o ↦ absurd (elim o.1 [ inl a ↦ false_true un (counted_is w x.seen.picks q o.0 a).0 | inr a ↦ none_some none a ])
         ])
         (λ t at_it old. v.files t at_it q b path old none);
     says = λ m. elim (said m) [
@@ -180,9 +170,7 @@ begins_views g h k start j is es d opening c x y first second b may run v = reco
     files_by BeginSetup may = λ p is. absurd cc
     files_by (BeginCommit reports) may = λ p is q b path want none. (let z = wanted_of g.script x.seen.picks q b want in absurd (none_some (unpicked may z.from.task) z.from.picked))
     files_by BeginClean may = λ p is. absurd (no_commit p is)
-    files_by (BeginWrite a) may = v.mine.files
-    files_by (BeginPublish a) may = v.mine.files
-    files_by (BeginAbort a) may = v.mine.files
+    files_by _ may = v.mine.files
 
 -- ---- one entry
 
@@ -214,18 +202,8 @@ module _ {g h : Setting} {d : Path} {opening c : Content} {x y : Stand} {first s
   unbegun_none : (f : Setting) (z : Stand) → (z.seen.begun ≡ false → (t : ℕ) → z.seen.picks t ≡ None) → (q b : List ℕ) → counted f.script z.seen.picks q ≡ Some b → z.seen.begun ≡ true
   unbegun_none f z unpicked q b has = elim (true_or_false z.seen.begun) [
     | inl begun ↦ begun
-    | inr no_so ↦ absurd (by (is_decided f.script z.seen.picks) has (unpicked no_so))
+    | inr no_so ↦ (let z = wanted_of f.script z.seen.picks q b (counted_is f.script z.seen.picks q b has).1 in absurd (none_some (unpicked no_so z.from.task) z.from.picked))
   ]
-    where
-      by : (a : Bool) → cond a (wanted_at f.script z.seen.picks q) None ≡ Some b → ((t : ℕ) → z.seen.picks t ≡ None) → ⊥
-      by true e none = let w = wanted_of f.script z.seen.picks q b e in none_some (none w.from.task) w.from.picked
-      by false e none = none_some refl e
-
-  gives_first : (q b : List ℕ) → count g x q ≡ Some b → Gives g.script x.seen q b
-  gives_first q b has = (unbegun_none g x v.mine.unpicked q b has, has)
-
-  gives_second : (q b : List ℕ) → count h y q ≡ Some b → Gives h.script y.seen q b
-  gives_second q b has = (unbegun_none h y v.others.unpicked q b has, has)
 
   pub views_only : (q b : List ℕ) → view d c q ≡ Some b → (view d opening q ≡ Some b) ⊎ (Gives g.script x.seen q b ⊎ Gives h.script y.seen q b)
   views_only q b has =
@@ -236,7 +214,7 @@ module _ {g h : Setting} {d : Path} {opening c : Content} {x y : Stand} {first s
           | inr gone ↦ absurd (none_some refl (sym (shown_by c q path None gone) ∙ has))
           | inl whole ↦
               let is : o.0 ≡ b = some_is (sym (shown_by c q path (Some (whole_of o.0)) whole) ∙ has) in
-              inr (elim o.1 [ inl a ↦ inl (gives_first q b (a ∙ ap (λ t. Some t) is)) | inr a ↦ inr (gives_second q b (a ∙ ap (λ t. Some t) is)) ])
+              inr (elim o.1 [ inl a ↦ (let has = a ∙ ap (λ t. Some t) is in inl (unbegun_none g x v.mine.unpicked q b has, has)) | inr a ↦ (let has = a ∙ ap (λ t. Some t) is in inr (unbegun_none h y v.others.unpicked q b has, has)) ])
         ]
       ]
 

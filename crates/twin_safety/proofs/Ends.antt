@@ -2,7 +2,7 @@
 use Rattle.std.proofs.Common.{◌≡◌, ℕ, ◌+◌, inl, inr, not, ◌&&◌, ◌||◌, nat_le, Bool, true, false, cond, List, [], ◌∷◌, Option, Some, None, refl, sym, ap, subst, ◌∙◌}
 use Rattle.job_spec.proofs.Common.{false_true}
 use Rattle.job_steps.specs.Prelude.{Content, Actor, Driver, Request, Entry, run, Follows, WornFirst, IsLegal, Script, Known, OpEnd, CommitEnd, CommitOver, commit_start, commit_tells, Setting, Operation, TheCommit, commit_of, wants, advance, over, is_begun, same_actor, Doing, since, by_actor, known_then, CommitEnded, seen_until, IsOpening, Play, Closes, happen, Reachable, IsRun, operation_of, times, Times, has_cleaned}
-use Rattle.job_facts.specs.Prelude.{Fail, is_driver, commit_due}
+use Rattle.job_facts.specs.Prelude.{Fail, Reports, is_driver, commit_due}
 use Rattle.job_model.specs.declared.events.Op.TheVariants as ops
 use Rattle.job_model.specs.declared.ends.OpEnd.TheVariants as ends
 use Rattle.job_model.specs.declared.ends.CheckEnd.{CheckEnd}
@@ -14,7 +14,6 @@ use Rattle.job_safety.proofs.Timed.{run_then, number_is, unclean_then, picks_the
 use Rattle.twin_safety.specs.Checks.{CheckIs}
 use Rattle.twin_safety.specs.Ends.{commit_entries}
 use Rattle.twin_safety.proofs.Checking.{checks_end}
-use Rattle.twin_safety.proofs.Ending as endings
 use Rattle.twin_safety.proofs.Ending.{behind_so}
 use Rattle.twin_safety.specs.Shared.{EndedBehind, SharedCommits, SharedChecks}
 use Rattle.twin_safety.proofs.Pages.{one_rest}
@@ -57,7 +56,7 @@ module _ (g : Setting) (shared : g.shared ≡ true) (opening : Content) (j : IsL
     begun : over (At n.op) ≡ Some end → (d.op ≡ ops.Commit) × (n.op ≡ commit_of g d.reports)
     begun o = driver_commit g d.op d.reports known n.op n.begun_is (sym (kind_run g Driver (record { operation = n.op; known = known }) es) ∙ over_kind (At n.op) end o ∙ sort)
 
-    leads_so : n.op ≡ commit_of g d.reports → IsAt w d.reports es (At (commit_of g d.reports))
+    leads_so : n.op ≡ commit_of g d.reports → (own : List Entry) × IsAt w d.reports es own (At (commit_of g d.reports))
     leads_so is = led g shared d.reports known es (subst (λ v. Follows (wants g Driver) (advance g Driver) (record { operation = v; known = known }) es) is n.follows)
 
   -- ---- one that its check ended
@@ -66,7 +65,8 @@ module _ (g : Setting) (shared : g.shared ≡ true) (opening : Content) (j : IsL
       → (w.mode ≡ Fail) × (d.reports.missing ≡ None) × (worn : Option Request) × WornFirst w.retries es worn × CheckIs w es worn e
   check_so i d e es n o =
       let b = begun i d (ends.Check e) es n refl o in
-      let at = check_ended w d.reports es e (At i d (ends.Check e) es n refl (commit_of g d.reports)) (leads_so i d (ends.Check e) es n refl b.1) (subst (λ v. over (At i d (ends.Check e) es n refl v) ≡ Some (ends.Check e)) b.1 o) in
+      let l = leads_so i d (ends.Check e) es n refl b.1 in
+      let at = check_ended w d.reports es l.0 e (At i d (ends.Check e) es n refl (commit_of g d.reports)) l.1 (subst (λ v. over (At i d (ends.Check e) es n refl v) ≡ Some (ends.Check e)) b.1 o) in
       let r = checks_end w d.reports.attempts es at.0 at.1.checked e at.2 in
       (at.1.fails, at.1.none, r.0, r.1, r.2)
 
@@ -90,9 +90,12 @@ module _ (g : Setting) (shared : g.shared ≡ true) (opening : Content) (j : IsL
     commit_begun : (d.op ≡ ops.Commit) × (n.op ≡ commit_of g d.reports)
     commit_begun = begun i d (ends.Commit e) es n refl o
 
-    behind : Behind w d.reports es (CommitOver e) × (At i d (ends.Commit e) es n refl first ≡ TheCommit (CommitOver e))
+    led_so : (own : List Entry) × IsAt w d.reports es own (At i d (ends.Commit e) es n refl first)
+    led_so = leads_so i d (ends.Commit e) es n refl commit_begun.1
+
+    behind : Behind w d.reports es led_so.0 (CommitOver e) × (At i d (ends.Commit e) es n refl first ≡ TheCommit (CommitOver e))
     behind =
-        commit_ended w d.reports es e (At i d (ends.Commit e) es n refl first) (leads_so i d (ends.Commit e) es n refl commit_begun.1) (subst (λ v. over (At i d (ends.Commit e) es n refl v) ≡ Some (ends.Commit e)) commit_begun.1 o)
+        commit_ended w d.reports es led_so.0 e (At i d (ends.Commit e) es n refl first) led_so.1 (subst (λ v. over (At i d (ends.Commit e) es n refl v) ≡ Some (ends.Commit e)) commit_begun.1 o)
 
     -- the run at the end of the event
     abbrev then : IsRun g opening (happen g z (Closes n.event_end)) (times w x.ends)
@@ -106,18 +109,19 @@ module _ (g : Setting) (shared : g.shared ≡ true) (opening : Content) (j : IsL
         entries_so k d.since (number_is g opening j is_opening x run_x idle i d (ends.Commit e) es n commit_begun.0) z.journal (unclean_then g opening j is_opening x run_x idle i d (ends.Commit e) es n (CommitOver e) at_end)
         ∙ sym n.entries_are
 
-    stood : endings.Behind w (commit_entries k z.journal) then.stand.commit (CommitOver e)
+    stood : (r : Reports) × Behind w r (commit_entries k z.journal) then.stand.commit (CommitOver e)
     stood = behind_so g j shared k opening is_opening z.journal then.stand then.runs (CommitOver e) at_end
 
     stands : CommitStands g then.stand (CommitOver e)
     stands = commit_runs.stands g j k opening is_opening z.journal then.stand then.runs (CommitOver e) at_end
 
-    own_is : then.stand.commit ≡ behind.0.own
+    own_is : then.stand.commit ≡ led_so.0
     own_is =
-        one_rest w es stood.checks then.stand.commit behind.0.checks behind.0.own stood.missing d.reports.missing stood.reported d.reports.attempts (sym all_entries ∙ stood.entries) behind.0.entries stood.cleared behind.0.cleared
+        one_rest w es stood.1.checks then.stand.commit behind.0.checks led_so.0 stood.0.missing d.reports.missing stood.0.attempts d.reports.attempts
+        (sym all_entries ∙ stood.1.entries) behind.0.entries stood.1.cleared behind.0.cleared
         stands.missing d.reports.missing stands.follows behind.0.follows
 
-    due_then : CommitEnded w then.stand.seen d.reports.missing behind.0.own e
+    due_then : CommitEnded w then.stand.seen d.reports.missing led_so.0 e
     due_then =
         subst (λ l. CommitEnded w then.stand.seen d.reports.missing l e) own_is
         (commit_runs.ended g j k opening is_opening z.journal then.stand then.runs e at_end d.reports.missing (ap (run (commit_tells w) (commit_start w d.reports.missing)) own_is ∙ behind.0.leads))
@@ -127,7 +131,7 @@ module _ (g : Setting) (shared : g.shared ≡ true) (opening : Content) (j : IsL
         let picks = picks_then g opening j is_opening x run_x idle i d (ends.Commit e) es n in
         record {
           checks = behind.0.checks;
-          own = behind.0.own;
+          own = led_so.0;
           entries = behind.0.entries;
           cleared = behind.0.cleared;
           ended = record {

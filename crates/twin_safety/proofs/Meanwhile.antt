@@ -1,7 +1,7 @@
 -- What happens in a run while the driver's abort or clean goes on, and behind its end until the event is over, is an abort or clean that goes on request by request.
-use Rattle.std.proofs.Common.{◌≡◌, ℕ, ◌+◌, ◌<◌, ◌≤◌, ◌^◌, ◌⊎◌, inl, inr, ◌&&◌, nat_le, Bool, true, false, cond, List, [], ◌∷◌, ◌++◌, length, Some, refl, sym, ap, subst, ◌∙◌, arith, length-append}
+use Rattle.std.proofs.Common.{◌≡◌, ℕ, ◌+◌, ◌<◌, ◌≤◌, ◌^◌, ◌⊎◌, inl, inr, ◌&&◌, nat_le, true, false, cond, List, [], ◌∷◌, ◌++◌, length, Some, refl, sym, ap, subst, ◌∙◌, arith, length-append}
 use Rattle.job_spec.proofs.Common.{at_most_is, at_most_not, some_is, none_some, true_or_false}
-use Rattle.job_steps.specs.Prelude.{Content, Scene, answer, moment, IsHonestOutcome, Actor, Driver, Attempt, Shell, Request, Outcome, Entry, Retried, fresh, step, Who, actor_of, IsLegal, Op, Event, Do, Start, EventEnd, Refused, Setting, TheSparing, clean_of, who, asks, tells, is_begun, Past, Doing, is_new, needs_set, is_own, own, until, AllBy, AllUpTo, driver_entry, strange_entry, Stand, Runs, IsOpening, BeginClean, begin, actor_begins, strays, is_set, IsTimely, nothing_learnt, Play, Opens, Sends, Finishes, Closes, Strays, Refuses, MaySend, MayStray, happen, hear, open_running, knows_now, Reachable, Ahead, IsRun, operation_of, times, Times}
+use Rattle.job_steps.specs.Prelude.{Content, Scene, answer, moment, IsHonestOutcome, Driver, Shell, Request, Outcome, Entry, Retried, fresh, step, IsLegal, Op, Event, Do, Start, EventEnd, Refused, Setting, TheSparing, clean_of, who, asks, tells, is_begun, Past, Doing, is_new, needs_set, is_own, own, until, AllBy, AllUpTo, driver_entry, strange_entry, Stand, Runs, IsOpening, BeginClean, begin, actor_begins, strays, is_set, IsTimely, nothing_learnt, Play, Opens, Sends, Finishes, Closes, Strays, Refuses, MaySend, MayStray, happen, hear, open_running, Reachable, Ahead, IsRun, operation_of, times, Times}
 use Rattle.job_facts.specs.Prelude.{IsForeign, clean_start, TheClean}
 use Rattle.job_model.specs.declared.events.Op.TheVariants as ops
 use Rattle.job_protocol.specs.Sparing.{Sparing, sparing_start, sparing_after}
@@ -26,16 +26,11 @@ use Rattle.twin_facts.proofs.OneSide.{goes_on}
 -- where all of the job's own are the driver's, so is the last one, if it is the job's
 own_last : (es : List Entry) (e : Entry) → AllBy Driver (own (es ++ e ∷ [])) → AllBy Driver (own es) × (is_own e.actor ≡ true → e.actor ≡ Driver)
 own_last [] e all = (tt, λ mine. (subst (λ b. AllBy Driver (cond b (e ∷ []) [])) mine all).0)
-own_last (x ∷ es) e all = by (is_own x.actor) all (own_last es e)
-  where
-    by : (b : Bool) → AllBy Driver (cond b (x ∷ own (es ++ e ∷ [])) (own (es ++ e ∷ []))) → (AllBy Driver (own (es ++ e ∷ [])) → AllBy Driver (own es) × (is_own e.actor ≡ true → e.actor ≡ Driver))
-        → AllBy Driver (cond b (x ∷ own es) (own es)) × (is_own e.actor ≡ true → e.actor ≡ Driver)
-    by true all rest = let r = rest all.1 in ((all.0, r.0), r.1)
-    by false all rest = rest all
-
--- an entry of the driver
-driver_is : (e : Entry) → e.actor ≡ Driver → driver_entry e.event e.request e.outcome ≡ e
-driver_is e is = λ i. record { event = e.event; actor = sym is i; request = e.request; outcome = e.outcome }
+own_last (x ∷ es) e all =
+    (elim (is_own x.actor) as (λ b. AllBy Driver (cond b (x ∷ own (es ++ e ∷ [])) (own (es ++ e ∷ []))) → AllBy Driver (cond b (x ∷ own es) (own es)) × (is_own e.actor ≡ true → e.actor ≡ Driver)) [
+      | true ↦ λ both. let r = own_last es e both.1 in ((both.0, r.0), r.1)
+      | false ↦ own_last es e
+    ]) all
 
 -- ---- it goes on
 
@@ -71,11 +66,8 @@ module _ (g : Setting) (shared : g.shared ≡ true) (opening : Content) (j : IsL
     driver = s.driver;
   }
     where
-      drawn_is : (λ (a : Who). (knows_now g y (actor_of a)).drawn) ≡ s.stand.told.drawn
-      drawn_is = λ i a. (sym (told_known g opening k j is_opening y.journal s.stand s.runs a) i).drawn
-
       foreign : IsForeign g.script s.stand.told.drawn r
-      foreign = subst (λ v. IsForeign g.script v r) drawn_is may.foreign
+      foreign = subst (λ v. IsForeign g.script v r) (λ i a. (sym (told_known g opening k j is_opening y.journal s.stand s.runs a) i).drawn) may.foreign
 
   -- the driver sends
   sent : (from : Stand) (y : Play) (e : Entry) → Reachable g opening y → MaySend g opening y e → Ahead y xs → e.actor ≡ Driver → Going from y → Going from (happen g y (Sends e))
@@ -102,7 +94,8 @@ module _ (g : Setting) (shared : g.shared ≡ true) (opening : Content) (j : IsL
         spares = record {
           stand = next;
           on = it_sends u next t one s.spares.on s.spares.driver refl sends;
-          runs = subst (λ v. Runs g k opening (y.journal ++ v ∷ []) next) (driver_is e is) (goes_on g k opening y.journal u next one s.spares.runs sends);
+          runs = subst (λ v. Runs g k opening (y.journal ++ v ∷ []) next) (λ i. record { event = e.event; actor = sym is i; request = e.request; outcome = e.outcome })
+              (goes_on g k opening y.journal u next one s.spares.runs sends);
           driver = refl;
         };
         running = ap operation_of heard ∙ ap (λ v. Some (tells g (who e.actor) v e.outcome)) op_is;
@@ -110,12 +103,8 @@ module _ (g : Setting) (shared : g.shared ≡ true) (opening : Content) (j : IsL
 
   -- of one more sending of the job, which is the driver's
   is_own_then : (y : Play) (e : Entry) → Reachable g opening y → MaySend g opening y e → Ahead y xs → is_own e.actor ≡ true
-  is_own_then y e past may ahead = by e.actor refl
-    where
-      by : (a : Actor) → e.actor ≡ a → is_own e.actor ≡ true
-      by Driver is = ap is_own is
-      by (Attempt task attempt) is = ap is_own is
-      by Shell is = absurd (none_some (carried g opening j is_opening y past xs ahead).along.nobody (ap y.running (sym is) ∙ may.is_at))
+  is_own_then y e past may ahead =
+      (elim e.actor as (λ a. y.running a ≡ Some may.at → is_own a ≡ true) [ Shell ↦ λ at. absurd (none_some (carried g opening j is_opening y past xs ahead).along.nobody at) | _ ↦ λ at. refl ]) may.is_at
 
   -- while nothing else begins, and of the job the driver alone sends
   pub going : (from : Stand) (first_play y : Play) (es : List Entry) → Going from first_play → Meanwhile g opening Driver first_play es y → Ahead y xs → AllBy Driver (own es) → Going from y
@@ -173,51 +162,37 @@ module _ (g : Setting) (shared : g.shared ≡ true) (opening : Content) (j : IsL
       pub spares : Spares from (until (i + 1) y.journal) t
       pub behind : i + 1 ≤ length y.ends
 
-    silent : (y v : Play) → Rest y → y.journal ≡ v.journal → length y.ends ≤ length v.ends → Rest v
-    silent y v o same l =
-        let old : i + 1 ≤ length y.ends = o.behind in
-        record { spares = spares_as from t (until (i + 1) y.journal) (until (i + 1) v.journal) (ap (until (i + 1)) same) o.spares; behind = omega arith }
-
-    itself : (n : ℕ) → n ≤ n
-    itself n = omega arith
-
-    longer : (ends : List EventEnd) (last : EventEnd) → length ends ≤ length (ends ++ last ∷ [])
-    longer ends last = let l : length (ends ++ last ∷ []) ≡ length ends + 1 = length-append ends (last ∷ []) in omega arith
+    further : (ends : List EventEnd) (last : EventEnd) → i + 1 ≤ length ends → i + 1 ≤ length (ends ++ last ∷ [])
+    further ends last h = let l : length (ends ++ last ∷ []) ≡ length ends + 1 = length-append ends (last ∷ []) in omega arith
 
     -- one more entry of a later event
-    passed : (y v : Play) (e : Entry) → Rest y → v.journal ≡ y.journal ++ e ∷ [] → v.ends ≡ y.ends → i + 1 < e.event → Rest v
-    passed y v e o is same late = record {
-      spares = spares_as from t (until (i + 1) y.journal) (until (i + 1) v.journal) (sym (ap (until (i + 1)) is ∙ until_late (i + 1) y.journal e late)) o.spares;
-      behind = subst (λ (l : List EventEnd). i + 1 ≤ length l) (sym same) o.behind;
-    }
+    passed : (y : Play) (e : Entry) → Rest y → i + 1 < e.event → Spares from (until (i + 1) (y.journal ++ e ∷ [])) t
+    passed y e o late = spares_as from t (until (i + 1) y.journal) (until (i + 1) (y.journal ++ e ∷ [])) (sym (until_late (i + 1) y.journal e late)) o.spares
 
-    strayed_rest : (y : Play) (r : Request) (o : Outcome) → Reachable g opening y → MayStray g opening y r o → Rest y → (length y.ends ≤ i + 1) ⊎ (i + 1 < length y.ends) → Rest (happen g y (Strays r o))
-    strayed_rest y r o past may old (inr high) = passed y (happen g y (Strays r o)) (strange_entry (length y.ends) r o) old refl refl high
-    strayed_rest y r o past may old (inl low) =
+    strayed_rest : (y : Play) (r : Request) (o : Outcome) → Reachable g opening y → MayStray g opening y r o → Rest y
+        → Spares from (until (i + 1) (y.journal ++ strange_entry (length y.ends) r o ∷ [])) t
+    strayed_rest y r o past may old =
         let e = strange_entry (length y.ends) r o in
-        let all : AllUpTo (i + 1) y.journal = up_to_more (length y.ends) (i + 1) y.journal low ((told_all g opening y past).closed may.idle).1 in
-        let whole : until (i + 1) (y.journal ++ e ∷ []) ≡ y.journal ++ e ∷ [] = until_all (i + 1) (y.journal ++ e ∷ []) (up_to_last (i + 1) y.journal e all low) in
-        record {
-          spares = spares_as from t (y.journal ++ e ∷ []) (until (i + 1) (y.journal ++ e ∷ [])) (sym whole)
-              (strayed from y r o t may (spares_as from t (until (i + 1) y.journal) y.journal (until_all (i + 1) y.journal all) old.spares));
-          behind = old.behind;
-        }
-
-    at_most : (a b : ℕ) → (a ≤ b) ⊎ (b < a)
-    at_most a b = elim (true_or_false (nat_le a b)) [ inl so ↦ inl (at_most_is a b so) | inr not_so ↦ inr (at_most_not a b not_so) ]
+        elim (true_or_false (nat_le (length y.ends) (i + 1))) [
+          | inr high ↦ passed y e old (at_most_not (length y.ends) (i + 1) high)
+          | inl so ↦
+              let low = at_most_is (length y.ends) (i + 1) so in
+              let all : AllUpTo (i + 1) y.journal = up_to_more (length y.ends) (i + 1) y.journal low ((told_all g opening y past).closed may.idle).1 in
+              spares_as from t (y.journal ++ e ∷ []) (until (i + 1) (y.journal ++ e ∷ [])) (sym (until_all (i + 1) (y.journal ++ e ∷ []) (up_to_last (i + 1) y.journal e all low)))
+              (strayed from y r o t may (spares_as from t (until (i + 1) y.journal) y.journal (until_all (i + 1) y.journal all) old.spares))
+        ]
 
     pub rest : (y : Play) → Later g opening (happen g z (Closes end)) y → Rest y
     rest y (at_once) =
-        let l : length (z.ends ++ end ∷ []) ≡ length z.ends + 1 = length-append z.ends (end ∷ []) in
-        let over : i + 1 ≤ length (z.ends ++ end ∷ []) = omega arith in
-        record { spares = spares_as from t z.journal (until (i + 1) z.journal) (sym (until_all (i + 1) z.journal up_to)) at_end; behind = over }
-    rest y (later x (Refuses f) past l may) = silent x (happen g x (Refuses f)) (rest x l) refl (longer x.ends (Refused f))
-    rest y (later x (Opens ev) past l may) = silent x (happen g x (Opens ev)) (rest x l) refl (itself (length x.ends))
+        let over : i + 1 ≤ length z.ends + 1 = omega arith in
+        record { spares = spares_as from t z.journal (until (i + 1) z.journal) (sym (until_all (i + 1) z.journal up_to)) at_end; behind = subst (λ n. i + 1 ≤ n) (sym (length-append z.ends (end ∷ []))) over }
+    rest y (later x (Refuses f) past l may) = let o = rest x l in record { spares = o.spares; behind = further x.ends (Refused f) o.behind }
+    rest y (later x (Opens ev) past l may) = let o = rest x l in record { spares = o.spares; behind = o.behind }
     rest y (later x (Sends e) past l may) =
-        let old = rest x l in
+        let o = rest x l in
         let n : e.event ≡ length x.ends + 1 = may.number in
-        let far : i + 1 ≤ length x.ends = old.behind in
-        passed x (happen g x (Sends e)) e old refl refl (omega arith)
-    rest y (later x (Finishes v) past l may) = silent x (happen g x (Finishes v)) (rest x l) refl (itself (length x.ends))
-    rest y (later x (Closes v) past l may) = silent x (happen g x (Closes v)) (rest x l) refl (longer x.ends v)
-    rest y (later x (Strays r o) past l may) = strayed_rest x r o past may (rest x l) (at_most (length x.ends) (i + 1))
+        let far : i + 1 ≤ length x.ends = o.behind in
+        record { spares = passed x e o (omega arith); behind = far }
+    rest y (later x (Finishes v) past l may) = let o = rest x l in record { spares = o.spares; behind = o.behind }
+    rest y (later x (Closes v) past l may) = let o = rest x l in record { spares = o.spares; behind = further x.ends v o.behind }
+    rest y (later x (Strays r o) past l may) = let old = rest x l in record { spares = strayed_rest x r o past may old; behind = old.behind }

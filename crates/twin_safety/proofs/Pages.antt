@@ -1,8 +1,8 @@
 -- The requests of a check all ask for a page, and the first of the commit behind it in the mode fail does not: so two partings of their entries are one.
 use Rattle.std.proofs.Common.{◌≡◌, ℕ, Bool, true, false, cond, List, [], ◌∷◌, ◌++◌, nat_lt, length, Option, Some, None, refl, sym, ap, subst, ◌∙◌}
-use Rattle.job_facts.specs.Prelude.{Committer, Magic, Directory, Partitioned, Mode, Fail, Append, Replace, Request, ListPage, Entry, Follows, Retried, wants_of, Script, Who, CommitEnd, Fetching, commit_start, commit_asks, commit_tells, completing, replaced, replacing, decided, picks_of, set_request, same_path, dealt, Turn, all_commits}
-use Rattle.job_spec.proofs.Common.{some_is, none_some, false_true}
-use Rattle.job_protocol.specs.Rechecks.{Check, Looking, Probing, CheckOver, check_asks}
+use Rattle.job_facts.specs.Prelude.{Committer, Magic, Mode, Fail, Request, ListPage, Entry, Follows, Retried, wants_of, Script, Who, CommitEnd, Fetching, commit_start, commit_asks, commit_tells, completing, replaced, replacing, decided, picks_of, set_request, same_path, dealt, Turn, all_commits}
+use Rattle.job_spec.proofs.Common.{some_is, none_some}
+use Rattle.job_protocol.specs.Rechecks.{Check, CheckOver, check_asks}
 use Rattle.twin_safety.specs.Checks.{next, checking}
 use Rattle.twin_safety.specs.Ends.{IsCleared}
 
@@ -24,9 +24,8 @@ NoPage (e ∷ es) = is_page e.request ≡ false
 
 module _ (w : Script) where
   asks_page : (c : Check) (r : Request) → check_asks w c ≡ Some r → is_page r ≡ true
-  asks_page (Looking keys) r e = ap is_page (sym (some_is e))
-  asks_page (Probing d ds) r e = ap is_page (sym (some_is e))
   asks_page (CheckOver end) r e = absurd (none_some refl e)
+  asks_page _ r e = ap is_page (sym (some_is e))
 
   check_pages : (t : Retried Check) (es : List Entry) → Follows (wants_of (check_asks w)) (next w) t es → AllPages es
   check_pages t [] f = tt
@@ -40,13 +39,11 @@ module _ (w : Script) where
 
   reads_no_page : (c : Committer) (t : ℕ) → is_page (set_request c w t) ≡ false
   reads_no_page Magic t = refl
-  reads_no_page Directory t = refl
-  reads_no_page Partitioned t = refl
+  reads_no_page _ t = refl
 
   none_replaced : (c : Committer) → replaced c Fail w (picks_of []) ≡ []
   none_replaced Magic = refl
-  none_replaced Directory = refl
-  none_replaced Partitioned = refl
+  none_replaced _ = refl
 
   completes_no_page : (xs : List Turn) (r : Request) → commit_asks w (completing [] xs []) ≡ Some r → is_page r ≡ false
   completes_no_page [] r e = ap is_page (sym (some_is e))
@@ -72,22 +69,15 @@ module _ (w : Script) where
 
 -- ---- one parting
 
-head_is : {X : Type 0} {a b : X} {l m : List X} → a ∷ l ≡ b ∷ m → (a ≡ b) × (l ≡ m)
-head_is e = (cc, cc)
+-- what stands behind the pages
+abbrev behind_pages : List Entry → List Entry
+behind_pages [] = []
+behind_pages (e ∷ es) = cond (is_page e.request) (behind_pages es) (e ∷ es)
 
-nil_cons : {X : Type 0} {a : X} {l : List X} → [] ≡ a ∷ l → ⊥
-nil_cons e = cc
-
-page_or_not : (a b : Entry) → is_page a.request ≡ true → is_page b.request ≡ false → a ≡ b → ⊥
-page_or_not a b p q e = false_true q (sym (ap (λ (v : Entry). is_page v.request) e) ∙ p)
-
-one_parting : (a x b y : List Entry) → AllPages a → NoPage x → AllPages b → NoPage y → a ++ x ≡ b ++ y → x ≡ y
-one_parting [] x [] y p n q m e = e
-one_parting [] [] (v ∷ b) y p n q m e = absurd (nil_cons e)
-one_parting [] (u ∷ x) (v ∷ b) y p n q m e = absurd (page_or_not v u q.0 n (sym (head_is e).0))
-one_parting (u ∷ a) x [] [] p n q m e = absurd (nil_cons (sym e))
-one_parting (u ∷ a) x [] (v ∷ y) p n q m e = absurd (page_or_not u v p.0 m (head_is e).0)
-one_parting (u ∷ a) x (v ∷ b) y p n q m e = one_parting a x b y p.1 n q.1 m (head_is e).1
+one_parting : (a x : List Entry) → AllPages a → NoPage x → behind_pages (a ++ x) ≡ x
+one_parting [] [] p n = refl
+one_parting [] (u ∷ x) p n = ap (λ b. cond b (behind_pages x) (u ∷ x)) n
+one_parting (u ∷ a) x p n = ap (λ b. cond b (behind_pages (a ++ x)) (u ∷ (a ++ x))) p.0 ∙ one_parting a x p.1 n
 
 -- behind two checks of these entries the commit's own are the same
 pub one_rest : (w : Script) (es a x b y : List Entry) (missing other : Option ℕ) (reported others : List Who) → es ≡ a ++ x → es ≡ b ++ y → IsCleared w.mode missing w reported a → IsCleared w.mode other w others b
@@ -98,6 +88,6 @@ one_rest w es a x b y missing other reported others e f c d m n first second = b
     parts = sym e ∙ f
 
     by : (v : Mode) → w.mode ≡ v → IsCleared v missing w reported a → IsCleared v other w others b → x ≡ y
-    by Fail is c d = one_parting a x b y (cleared_pages w missing reported a c) (no_page w is m x first) (cleared_pages w other others b d) (no_page w is n y second) parts
-    by Append is c d = sym (ap (λ l. l ++ x) c) ∙ parts ∙ ap (λ l. l ++ y) d
-    by Replace is c d = sym (ap (λ l. l ++ x) c) ∙ parts ∙ ap (λ l. l ++ y) d
+    by Fail is c d =
+        sym (one_parting a x (cleared_pages w missing reported a c) (no_page w is m x first)) ∙ ap behind_pages parts ∙ one_parting b y (cleared_pages w other others b d) (no_page w is n y second)
+    by _ is c d = sym (ap (λ l. l ++ x) c) ∙ parts ∙ ap (λ l. l ++ y) d

@@ -1,6 +1,6 @@
 -- How an abort or clean at a shared destination ends, by its own entries.
 use Rattle.std.proofs.Common.{◌≡◌, ℕ, ◌⊎◌, inl, inr, true, false, List, [], ◌∷◌, ◌++◌, drop, Option, Some, None, refl, sym, ap, subst, ◌∙◌}
-use Rattle.job_facts.specs.Prelude.{is_some, option_map, filter, is_record, Actor, Committer, Magic, Directory, Partitioned, Request, UploadRef, Reply, Outcome, Entry, run, Follows, Retried, fresh, step, spent_in, WornFirst, Script, Known, CleanEnd, Walked, More, Whole, Setting, Running, TheSparing, wants, advance, over, is_fault, spare_of, CleanIs}
+use Rattle.job_facts.specs.Prelude.{is_some, option_map, filter, is_record, Actor, Committer, Magic, Request, UploadRef, Reply, Entry, run, Follows, Retried, fresh, step, spent_in, WornFirst, Script, Known, CleanEnd, Walked, More, Whole, Setting, Running, TheSparing, wants, advance, over, is_fault, spare_of, CleanIs}
 use Rattle.job_spec.specs.Prelude.{ClusterNames}
 use Rattle.job_spec.proofs.Common.{first_spent, faults, none_some, false_true}
 use Rattle.job_model.specs.declared.ends.CleanEnd.TheVariants as cleans
@@ -22,14 +22,10 @@ deleting_so : (ks : List (List ℕ)) → Over (deleting ks)
 deleting_so [] = inr refl
 deleting_so (k ∷ ks) = tt
 
-removing_so : (ps : List (List ℕ)) → Over (removing ps)
-removing_so [] = inr refl
-removing_so (p ∷ ps) = tt
-
 emptying_so : (c : Committer) (all : List (List ℕ)) → Over (emptying c all)
 emptying_so Magic all = deleting_so all
-emptying_so Directory all = removing_so all
-emptying_so Partitioned all = removing_so all
+emptying_so _ [] = inr refl
+emptying_so _ (p ∷ ps) = tt
 
 aborting_so : (c : Committer) (us : List UploadRef) (all : List (List ℕ)) → Over (aborting c us all)
 aborting_so c [] all = emptying_so c all
@@ -49,8 +45,7 @@ naming_so c _ = tt
 
 start_so : (c : Committer) → Over (sparing_start c)
 start_so Magic = tt
-start_so Directory = tt
-start_so Partitioned = tt
+start_so _ = tt
 
 heard_so : (w : Script) (c : Sparing) (r : Reply) → Over c → Over (sparing_hears w c r)
 heard_so w (Walking keys) r h = walking_so w.committer (walked keys r)
@@ -58,15 +53,13 @@ heard_so w Naming r h = naming_so w.committer r
 heard_so w (Reading named p ps all) r h = reading_so w.committer (named ++ names r) ps all
 heard_so w (Aborting u us all) r h = aborting_so w.committer us all
 heard_so w (Deleting k ks) r h = deleting_so (drop 1000 (k ∷ ks))
-heard_so w (Removing p ps) r h = removing_so ps
+heard_so w (Removing p ps) r h = elim ps as (λ l. Over (removing l)) [ [] ↦ inr refl | q ∷ qs ↦ tt ]
 heard_so w (SparingOver end) r h = h
-
-step_over : (w : Script) (t : Retried Sparing) (o : Outcome) → Over t.operation → Over (step w.retries (sparing_after w) t o).operation
-step_over w t o h = step_so w.retries (sparing_after w) t o Over (λ x e. heard_so w t.operation x h) (λ n. h) (λ n. inl refl)
 
 run_over : (w : Script) (t : Retried Sparing) (es : List Entry) → Over t.operation → Over (run (step w.retries (sparing_after w)) t es).operation
 run_over w t [] h = h
-run_over w t (e ∷ es) h = run_over w (step w.retries (sparing_after w) t e.outcome) es (step_over w t e.outcome h)
+run_over w t (e ∷ es) h =
+    run_over w (step w.retries (sparing_after w) t e.outcome) es (step_so w.retries (sparing_after w) t e.outcome Over (λ x a. heard_so w t.operation x h) (λ n. h) (λ n. inl refl))
 
 end_same : {d e : CleanEnd} → Some (ends.Clean d) ≡ Some (ends.Clean e) → d ≡ e
 end_same e = cc
@@ -106,8 +99,7 @@ module _ (g : Setting) (a : Actor) where
       -- nothing has worn out as it begins
       fine : (c : Committer) → is_fault (option_map ends.Clean (sparing_over (sparing_start c))) ≡ false
       fine Magic = refl
-      fine Directory = refl
-      fine Partitioned = refl
+      fine _ = refl
 
       ends_so : Ends e
       ends_so = over_so (run (step g.script.retries (sparing_after g.script)) first es).operation (run_over g.script first es (start_so g.script.committer)) e (sym (ap over (sparing_run k first es)) ∙ is)
