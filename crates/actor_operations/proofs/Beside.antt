@@ -2,8 +2,7 @@
 use Rattle.std.proofs.Common.{◌≡◌, ℕ, ◌+◌, ◌*◌, ◌≤◌, inl, Bool, false, ◌&&◌, List, [], ◌∷◌, length, Option, Some, None, Result, Ok, Err, refl, sym, ap, subst, ◌∙◌, arith}
 use Rattle.store_frame.specs.Prelude.{entries-insert}
 use Rattle.job_protocol.specs.Prelude.{put, keys_left, walk_left, sweep_left, thousands, sweep_start}
-use Rattle.job_spec.specs.Prelude.{by_order, Greater}
-use Rattle.job_facts.specs.Prelude.{Ordering, Less, Equal, text_cmp, text_total, Objects, new_bucket, completed, listed, live, joined, Object, Refusal, last_of}
+use Rattle.job_facts.specs.Prelude.{Ordering, Equal, text_cmp, text_total, Objects, new_bucket, completed, listed, live, joined, Object, Refusal, last_of}
 use Rattle.job_spec.proofs.Common.{exact_bytes}
 use Rattle.job_steps.specs.Prelude.{Scene, BucketContent, apply, begins, Committer, Magic, Request, PutObject, CopyObject, CompleteUpload, Script, Who, Sweep, Listing, Deleting, TaskCommit, attempt_prefix, TaskAbort, task_script, who_of}
 use Rattle.machine.specs.Prelude.{copied}
@@ -15,7 +14,6 @@ use Rattle.list_walk.proofs.Counting.{count, count_more}
 use Rattle.list_walk.proofs.Listing.{is_left, listed_count}
 use Rattle.list_walk.proofs.Growing.{grows, growth}
 use Rattle.job_protocol.specs.TaskCommits as commits
-use Rattle.job_protocol.specs.TaskAborts as aborts
 use Rattle.task_machines.specs.Commits.{commit_left_at, commit_left}
 use Rattle.task_machines.specs.Aborts.{after_left, abort_left_at, abort_left}
 use Rattle.actor_operations.specs.Falls.{as_times}
@@ -25,12 +23,9 @@ module _ {K X : Type 0} (R : K → K → Ordering) (t : K × X → Bool) where
   -- one is put that does not pass, as none of its key does
   count_put_other : (k : K) (v : X) → t (k, v) ≡ false → ((q : K) → R k q ≡ Equal → t (q, v) ≡ false) → (es : List (K × X)) → count t (put R k v es) ≤ count t es
   count_put_other k v own none [] = let e : one (t (k, v)) ≡ 0 = ap one own in omega (arith, count_more t (k, v) [], e)
-  count_put_other k v own none (e ∷ es) = by (R k e.0) refl (count_put_other k v own none es)
-    where
-      by : (r : Ordering) → R k e.0 ≡ r → count t (put R k v es) ≤ count t es → count t (by_order r ((k, v) ∷ e ∷ es) ((e.0, v) ∷ es) (e ∷ put R k v es)) ≤ count t (e ∷ es)
-      by Less q ih = let n : one (t (k, v)) ≡ 0 = ap one own in omega (arith, count_more t (k, v) (e ∷ es), n)
-      by Equal q ih = let n : one (t (e.0, v)) ≡ 0 = ap one (none e.0 q) in omega (arith, count_more t (e.0, v) es, count_more t e es, n)
-      by Greater q ih = omega (arith, ih, count_more t e (put R k v es), count_more t e es)
+  count_put_other k v own none (e ∷ es) =
+      let old = none e.0 in
+      grind (arith, count_more t (k, v) (e ∷ es), count_more t (e.0, v) es, count_more t e es, count_more t e (put R k v es), old, count_put_other k v own none es)
 
 -- ---- keys below a prefix
 
@@ -74,10 +69,7 @@ rising : (m n : ℕ) → m ≤ n → thousands m ≤ thousands n
 rising m n h = omega arith
 
 walk_stays : (b p : List ℕ) (keys : List (List ℕ)) (s : Scene) (r : Request) → PutsNone p r → walk_left b p keys (apply s r) ≤ walk_left b p keys s
-walk_stays b p keys s r h =
-    let i = keys_stay p (last_of keys) b s r h in
-    let j = rising (keys_left b p (last_of keys) (apply s r)) (keys_left b p (last_of keys) s) i in
-    omega (arith, j)
+walk_stays b p keys s r h = grind (arith, keys_stay, rising)
 
 sweep_stays : (b p : List ℕ) (w : Sweep) (s : Scene) (r : Request) → PutsNone p r → sweep_left b p w (apply s r) ≤ sweep_left b p w s
 sweep_stays b p (Listing keys) s r h =
@@ -97,9 +89,7 @@ after_stays Magic w a s r h = sweep_stays w.dest.bucket (attempt_prefix w a) swe
 after_stays _ w a s r h = omega arith
 
 abort_stays : (w : Script) (a : Who) (x : TaskAbort) (s : Scene) (r : Request) → PutsNone (attempt_prefix w a) r → abort_left_at w a x (apply s r) ≤ abort_left_at w a x s
-abort_stays w a (aborts.Dropping d ds sent) s r h = let i = after_stays w.committer w a s r h in omega (arith, i)
-abort_stays w a (aborts.Sweeping v) s r h = sweep_stays w.dest.bucket (attempt_prefix w a) v s r h
-abort_stays w a _ s r h = omega arith
+abort_stays w a x s r h = grind (arith, after_stays, sweep_stays)
 
 pub attempts_stay : AttemptsStay
 attempts_stay = record {

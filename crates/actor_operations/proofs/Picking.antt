@@ -1,9 +1,7 @@
 -- What a job's operations have picked, beside what is seen.
-use Rattle.std.proofs.Common.{◌≡◌, ℕ, suc, ◌+◌, ◌||◌, ◌&&◌, not, Bool, true, false, cond, List, [], ◌∷◌, ◌++◌, length, Option, Some, None, refl, sym, ap, subst, ◌∙◌, arith}
-use Rattle.job_steps.specs.Prelude.{is_some, Content, Request, Actor, Driver, Outcome, Answered, Slow, RequestLost, ReplyLost, Entry, PendingSet, Script, Known, Pick, setup_asks, clean_asks, Fetching, Replacing, Completing, Marking, Reverting, CommitOver, set_read, job_script, Committing, Driving, Setting, Seen, see, is_begun, is_reading, Play, Sends, MaySend, happen, operation_of, times}
-use Rattle.job_spec.proofs.Common.{some_is, none_some}
+use Rattle.std.proofs.Common.{◌≡◌, ℕ, suc, ◌+◌, ◌&&◌, true, false, cond, List, [], ◌∷◌, ◌++◌, length, Option, Some, None, refl, sym, ap, subst, ◌∙◌, arith}
+use Rattle.job_steps.specs.Prelude.{is_some, Content, Request, Actor, Driver, Outcome, Answered, Entry, PendingSet, Script, Known, Pick, setup_asks, clean_asks, job_script, Committing, Driving, Setting, Seen, see, is_begun, is_reading, Play, Sends, MaySend, happen, operation_of, times}
 use Rattle.job_facts.specs.Prelude.{with_pick, picked_after, Times, is_picking}
-use Rattle.list_walk.specs.Walks as walks
 use Rattle.job_protocol.specs.Setup as setups
 use Rattle.job_protocol.specs.Cleanups as cleans
 use Rattle.job_protocol.specs.Rechecks as checks
@@ -21,20 +19,15 @@ use Rattle.job_actor.proofs.Unread.{attempt_picks, left}
 use Rattle.job_actor.proofs.Keeping.{with_read, picks_then, picks_go_on}
 use Rattle.job_actor.proofs.Staying.{picks_stay, same_picks}
 use Rattle.actor_operations.specs.declared.act.Act.{Act}
-use Rattle.actor_operations.specs.declared.act.Act.TheVariants.{Setup, Commit, Clean, Sparing, Checked}
+use Rattle.actor_operations.specs.declared.act.Act.TheVariants.{Setup, Commit, Sparing, Checked}
 use Rattle.actor_operations.specs.Acts.{tells_of}
-use Rattle.actor_operations.specs.Plans.{picks_of, checked_at, running_of, IsAttempt, IsOf}
+use Rattle.actor_operations.specs.Plans.{picks_of, running_of, IsAttempt, IsOf}
 use Rattle.actor_operations.proofs.WorksGo.{behind, asked_of}
 
 -- ---- the job's commit has picks
 
-checked_has : (o : Option (Retrying PlannedCheck)) (c : Committing) → true ≡ is_job_commit (checked_at o c)
-checked_has (Some t) c = refl
-checked_has None c = refl
-
 pub act_has_picks : (k : Known) (work : Act) → is_some (picks_of work) ≡ is_job_commit (running_of k work).operation
-act_has_picks k (Checked x) = checked_has x.check x.commit
-act_has_picks k _ = refl
+act_has_picks k work = grind arith
 
 -- ---- they are those that are seen
 
@@ -49,42 +42,22 @@ from_length t [] = refl
 from_length t (b ∷ picked) = ap suc (from_length (t + 1) picked)
 
 read_kept : (picked : List ℕ) (o : Option PendingSet) → with_read (picks_from 0 picked) o ≡ picks_from 0 (with_pick picked o)
-read_kept picked None = refl
-read_kept picked (Some h) =
-    let e : length (picks_from 0 picked) ≡ 0 + length picked = let l = from_length 0 picked in omega arith in
-    ap (λ (i : ℕ). picks_from 0 picked ++ record { task = i; attempt = h.attempt } ∷ []) e ∙ sym (from_more 0 picked h.attempt)
+read_kept picked o = grind (arith, from_length, from_more)
 
 kept : (picked : List ℕ) (c : JobCommit) (o : Outcome) → picks_then (picks_from 0 picked) c o ≡ picks_from 0 (picked_after picked c o)
-kept picked (Fetching sets n) (Answered x) = read_kept picked (set_read x)
-kept picked (Fetching sets n) Slow = refl
-kept picked (Fetching sets n) RequestLost = refl
-kept picked (Fetching sets n) ReplyLost = refl
-kept picked (Replacing sets q qs v n) o = refl
-kept picked (Completing sets x xs finished) o = refl
-kept picked (Marking sets n) o = refl
-kept picked (Reverting r rs n) o = refl
-kept picked (CommitOver end) o = refl
+kept picked c o = grind (arith, read_kept)
 
 -- ---- any other operation leaves them
 
 setup_reads : (w v : Script) (op : setups.Setup) (r : Request) → setup_asks v op ≡ Some r → (t : ℕ) → is_reading w t r ≡ false
-setup_reads w v (setups.Sweeping (walks.Listing keys)) r e t = ap (is_reading w t) (sym (some_is e))
-setup_reads w v (setups.SetupOver end) r e t = absurd (none_some refl e)
-setup_reads w v _ r e t = ap (is_reading w t) (sym (some_is e))
+setup_reads w v op r e t = grind arith
 
 clean_reads : (w v : Script) (op : cleans.Clean) (r : Request) → clean_asks v op ≡ Some r → (t : ℕ) → is_reading w t r ≡ false
-clean_reads w v (cleans.Sweeping (walks.Listing keys)) r e t = ap (is_reading w t) (sym (some_is e))
-clean_reads w v (cleans.CleanOver end) r e t = absurd (none_some refl e)
-clean_reads w v _ r e t = ap (is_reading w t) (sym (some_is e))
+clean_reads w v op r e t = grind arith
 
 -- a check reads no set
 check_reads : (w v : Script) (op : checks.Check) (r : Request) → checks.check_asks v op ≡ Some r → (t : ℕ) → is_reading w t r ≡ false
-check_reads w v (checks.CheckOver end) r e t = absurd (none_some refl e)
-check_reads w v _ r e t = ap (is_reading w t) (sym (some_is e))
-
-and_false : (b : Bool) → (b && false) ≡ false
-and_false true = refl
-and_false false = refl
+check_reads w v op r e t = grind arith
 
 module _ (w : Script) (k : Times) (s : Seen) (n : ℕ) (r : Request) where
   -- what is seen of the picks after the request
@@ -92,30 +65,21 @@ module _ (w : Script) (k : Times) (s : Seen) (n : ℕ) (r : Request) where
   Leaves a o = (see w k s (record { event = n; actor = a; request = r; outcome = o })).picks ≡ s.picks
 
   driver_leaves : (a : Actor) → a ≡ Driver → ((t : ℕ) → is_reading w t r ≡ false) → (o : Outcome) → Leaves a o
-  driver_leaves a is none o = subst (λ b. Leaves b o) (sym is) (by o)
-    where
-      by : (o : Outcome) → Leaves Driver o
-      by (Answered x) = λ i t. left (is_picking k s.begun n) (is_reading w t r) (s.last t) (s.picks t) (none t) i
-      by _ = refl
+  driver_leaves a is none o = subst (λ b. Leaves b o) (sym is) (elim o as (λ p. Leaves Driver p) [
+    | Answered x ↦ λ i t. left (is_picking k s.begun n) (is_reading w t r) (s.last t) (s.picks t) (none t) i
+    | _ ↦ refl
+  ])
 
   -- once an abort or clean has begun nothing is picked
   closed_leaves : (a : Actor) → a ≡ Driver → is_begun k.clean n ≡ true → (o : Outcome) → Leaves a o
-  closed_leaves a is begun o = subst (λ b. Leaves b o) (sym is) (by o)
-    where
-      off : is_picking k s.begun n ≡ false
-      off = ap (λ b. (s.begun || is_begun k.commit n) && not b) begun ∙ and_false (s.begun || is_begun k.commit n)
-
-      by : (o : Outcome) → Leaves Driver o
-      by (Answered x) = λ i t. ap (λ b. cond (b && is_reading w t r) (s.last t) (s.picks t)) off i
-      by _ = refl
+  closed_leaves a is begun o =
+      let off : is_picking k s.begun n ≡ false = grind arith in
+      subst (λ b. Leaves b o) (sym is) (elim o as (λ p. Leaves Driver p) [ Answered x ↦ λ i t. ap (λ b. cond (b && is_reading w t r) (s.last t) (s.picks t)) off i | _ ↦ refl ])
 
   attempt_leaves : (a : Actor) → IsAttempt a → (o : Outcome) → Leaves a o
   attempt_leaves a is o = subst (λ b. Leaves b o) (sym is.2) (attempt_picks w k s (record { task = is.0; attempt = is.1 }) n r o)
 
 module _ (g : Setting) (opening : Content) (x : Play) (a : Actor) where
-  abbrev At : Act → Type 0
-  At work = IsAt IsOf running_of g opening x a work
-
   abbrev w : Script
   w = g.script
 
@@ -138,12 +102,7 @@ module _ (g : Setting) (opening : Content) (x : Play) (a : Actor) where
       picks_stay w opening x.journal e xs (λ s. closed_leaves w k s e.event e.request e.actor (is ∙ driver) begun e.outcome)
 
 pub act_leaves : (g : Setting) (opening : Content) (x : Play) (a : Actor) (work : Act) → IsAt IsOf running_of g opening x a work → picks_of work ≡ None → (e : Entry) → e.actor ≡ a → MaySend g opening x e → LeavesPicks g opening x e
-act_leaves g opening x a (Setup t) at none e is may = reads_none g opening x a e is at.goes_by.actor (setup_reads g.script (job_script t.machine.plan) t.machine.operation e.request (asked_of g opening x a (Setup t) at e is may))
-act_leaves g opening x a (Commit c) at none e is may = absurd (none_some none refl)
-act_leaves g opening x a (Clean t) at none e is may = reads_none g opening x a e is at.goes_by.actor (clean_reads g.script (job_script t.machine.plan) t.machine.operation e.request (asked_of g opening x a (Clean t) at e is may))
-act_leaves g opening x a (Sparing t) at none e is may = spares g opening x a t at e is may
-act_leaves g opening x a (Checked y) at none e is may = absurd (none_some none refl)
-act_leaves g opening x a _ at none e is may = by_attempt g opening x a e is at.goes_by.actor
+act_leaves g opening x a work h f e p q = grind (arith, reads_none, setup_reads, asked_of, clean_reads, spares, by_attempt)
 
 -- ---- after a sending
 

@@ -1,9 +1,9 @@
 -- What a job's actor has left beside the requests of the others: an attempt's is not raised, and the driver's by no more than so much.
-use Rattle.std.proofs.Common.{◌≡◌, ℕ, ◌+◌, ◌*◌, ◌≤◌, inl, inr, nat_lt, Bool, true, false, cond, List, [], ◌∷◌, ◌++◌, length, codes, Option, Some, None, refl, sym, ap, subst, ◌∙◌, arith, append_assoc, append-nil, length-append}
-use Rattle.job_facts.specs.Prelude.{decimal, bucket_of, Directory, Partitioned, set_key, Pending, attempt_dir, marker_key, Uploading, Sending, upload_asks, nth, is_magic, decided, same_path, FitsWrite, FitsCommit, IsDriving}
-use Rattle.job_steps.specs.Prelude.{Content, apply, begins, Actor, Driver, Committer, Magic, Request, PutObject, adds_key, one_if, Who, actor_of, File, Job, Task, Known, IsLegal, Script, record_key, Creating, Sweep, Listing, Deleting, attempt_prefix, Sets, all_commits, set_request, Commit, CommitEnd, Fetching, Replacing, Completing, Marking, Reverting, CommitOver, Turn, dealt, picks_of, replaced, replacing, completing, commit_asks, commit_start, Setting, Committing, task_of, write_wants, task_commit_wants, Seen, Told, IsAttempt, Commits, Play, scene_of, knows_now}
+use Rattle.std.proofs.Common.{◌≡◌, ℕ, ◌+◌, ◌*◌, ◌≤◌, inl, inr, true, false, List, [], ◌∷◌, ◌++◌, length, codes, Option, Some, None, refl, sym, ap, subst, ◌∙◌, arith, append_assoc, append-nil, length-append}
+use Rattle.job_facts.specs.Prelude.{decimal, bucket_of, set_key, Pending, attempt_dir, marker_key, Uploading, upload_asks, nth, is_magic, FitsWrite, FitsCommit, IsDriving}
+use Rattle.job_steps.specs.Prelude.{Content, apply, begins, Actor, Driver, Committer, Magic, Request, PutObject, adds_key, one_if, Who, actor_of, File, Job, job_of, Task, Known, IsLegal, Script, record_key, Sweep, attempt_prefix, Sets, all_commits, set_request, Commit, Fetching, Replacing, Completing, Marking, Reverting, CommitOver, commit_asks, commit_start, Setting, Committing, task_of, write_wants, task_commit_wants, Seen, Told, IsAttempt, Commits, Play, scene_of, knows_now}
 use Rattle.job_spec.proofs.Common.{begins_behind, below_is, some_is, none_some, false_true, true_or_false}
-use Rattle.commit_laws.specs.Laws.{widest, prefixes_most, if_staging, rise_of as commit_rise_of}
+use Rattle.commit_laws.specs.Laws.{rise_of as commit_rise_of}
 use Rattle.job_protocol.specs.Setup as setups
 use Rattle.job_protocol.specs.Writes as writes
 use Rattle.job_protocol.specs.TaskCommits as commits
@@ -29,10 +29,10 @@ use Rattle.actor_operations.specs.Beside.{PutsNone, below}
 use Rattle.actor_operations.specs.Rising.{rise}
 use Rattle.actor_operations.specs.Falls.{as_times}
 use Rattle.actor_operations.proofs.Beside.{attempts_stay}
-use Rattle.actor_operations.proofs.WorksStand.{stand, attempt_is, late_by, driver_is, never_replaces}
+use Rattle.actor_operations.proofs.WorksStand.{stand, driver_is, never_replaces}
 use Rattle.actor_operations.proofs.WorksGo.{commit_at, behind, asks}
 use Rattle.actor_operations.proofs.ActorsGo.{checked_plan}
-use Rattle.actor_operations.proofs.WorksDue.{by_attempt}
+use Rattle.actor_operations.proofs.WorksDue.{by_attempt, fine_at}
 
 -- ---- keys that are apart from an attempt's directory
 
@@ -77,12 +77,8 @@ module _ {w : Script} (j : IsLegal w) (a b : Who) (d : IsAttempt w a) (e : IsAtt
   abbrev Free : Request → Type 0
   Free r = PutsNone (attempt_prefix w b) r
 
-  free : (r : Request) → adds_key r ≡ false → Free r
-  free r e = adds_none (attempt_prefix w b) r e
-
   uploads_none : (k : Known) (f : File) (u : Uploading) → Free (upload_asks w k f u)
-  uploads_none k f Creating = free (upload_asks w k f Creating) refl
-  uploads_none k f (Sending p ps) = free (upload_asks w k f (Sending p ps)) refl
+  uploads_none k f u = adds_none (attempt_prefix w b) (upload_asks w k f u) (grind arith)
 
   write_none : (k : Known) (t : writes.Write) (r : Request) → writes.write_asks w a k t ≡ Some r → Free r
   write_none k (writes.Uploads f fs u) r q = subst Free (some_is q) (uploads_none k f u)
@@ -94,44 +90,28 @@ module _ {w : Script} (j : IsLegal w) (a b : Who) (d : IsAttempt w a) (e : IsAtt
   commit_none k (commits.Publishing cs) r q = puts_apart (attempt_prefix w b) r _ _ _ _ (some_is q) (set_apart w b a.task)
   commit_none k (commits.Uploads f fs u) r q = subst Free (some_is q) (uploads_none k f u)
   commit_none k (commits.TaskCommitOver end) r q = absurd (none_some refl q)
-  commit_none k _ r q = free r (ap adds_key (sym (some_is q)))
+  commit_none k _ r q = adds_none (attempt_prefix w b) r (ap adds_key (sym (some_is q)))
 
 module _ (w : Script) (b : Who) where
   abbrev FreeOf : Request → Type 0
   FreeOf r = PutsNone (attempt_prefix w b) r
 
-  free_of : (r : Request) → adds_key r ≡ false → FreeOf r
-  free_of r e = adds_none (attempt_prefix w b) r e
-
   abort_none : (a : Who) (t : aborts.TaskAbort) (r : Request) → aborts.task_abort_asks w a t ≡ Some r → FreeOf r
-  abort_none a (aborts.Sweeping (Listing keys)) r q = free_of r (ap adds_key (sym (some_is q)))
-  abort_none a (aborts.TaskAbortOver end) r q = absurd (none_some refl q)
-  abort_none a _ r q = free_of r (ap adds_key (sym (some_is q)))
+  abort_none a t r q = adds_none (attempt_prefix w b) r (grind arith)
 
   -- ---- the driver's
 
   setup_none : (t : setups.Setup) (r : Request) → setups.setup_asks w t ≡ Some r → FreeOf r
-  setup_none (setups.Sweeping (Listing keys)) r q = free_of r (ap adds_key (sym (some_is q)))
-  setup_none (setups.SetupOver end) r q = absurd (none_some refl q)
-  setup_none _ r q = free_of r (ap adds_key (sym (some_is q)))
+  setup_none t r q = adds_none (attempt_prefix w b) r (grind arith)
 
   clean_none : (t : cleans.Clean) (r : Request) → cleans.clean_asks w t ≡ Some r → FreeOf r
-  clean_none (cleans.Sweeping (Listing keys)) r q = free_of r (ap adds_key (sym (some_is q)))
-  clean_none (cleans.CleanOver end) r q = absurd (none_some refl q)
-  clean_none _ r q = free_of r (ap adds_key (sym (some_is q)))
-
-  read_adds : (c : Committer) (p : List ℕ) → adds_key (sparings.record_request c w p) ≡ false
-  read_adds Magic p = refl
-  read_adds _ p = refl
+  clean_none t r q = adds_none (attempt_prefix w b) r (grind arith)
 
   sparing_none : (t : sparings.Sparing) (r : Request) → sparings.sparing_asks w t ≡ Some r → FreeOf r
-  sparing_none (sparings.Reading named p ps all) r q = free_of r (ap adds_key (sym (some_is q)) ∙ read_adds w.committer p)
-  sparing_none (sparings.SparingOver end) r q = absurd (none_some refl q)
-  sparing_none _ r q = free_of r (ap adds_key (sym (some_is q)))
+  sparing_none t r q = adds_none (attempt_prefix w b) r (grind arith)
 
   check_none : (t : checks.Check) (r : Request) → checks.check_asks w t ≡ Some r → FreeOf r
-  check_none (checks.CheckOver end) r q = absurd (none_some refl q)
-  check_none _ r q = free_of r (ap adds_key (sym (some_is q)))
+  check_none t r q = adds_none (attempt_prefix w b) r (grind arith)
 
   -- what the driver puts in its bucket is not below the job's magic directory
   driving_none : (r : Request) → IsDriving w r → bucket_of r ≡ w.dest.bucket → FreeOf r
@@ -141,74 +121,43 @@ module _ (w : Script) (b : Who) where
   ]
 
   read_none : (c : Committer) (t : ℕ) → FreeOf (set_request c w t)
-  read_none Magic t = free_of (set_request Magic w t) refl
-  read_none Directory t = free_of (set_request Directory w t) refl
-  read_none Partitioned t = free_of (set_request Partitioned w t) refl
+  read_none c t = adds_none (attempt_prefix w b) (set_request c w t) (grind arith)
 
   module _ (minimum : ℕ) (j : IsLegal w) (s : Seen) (m : Told) where
     job_none : (c : Commit) → Commits w minimum s m c → (r : Request) → commit_asks w c ≡ Some r → FreeOf r
     job_none (Fetching sets n) v r q = subst FreeOf (some_is q) (read_none w.committer (length sets))
-    job_none (Replacing sets p ps (Listing keys) n) v r q = free_of r (ap adds_key (sym (some_is q)))
-    job_none (Replacing sets p ps (Deleting k ks) n) v r q = free_of r (ap adds_key (sym (some_is q)))
+    job_none (Replacing sets p ps t n) v r q = adds_none (attempt_prefix w b) r (grind arith)
     job_none (Completing sets x xs finished) v r q =
         let drives = commit_drives w minimum (record { commit = None; clean = None }) s m 0 j v.hold (Completing sets x xs finished) v.fits r q in
         let p = nth (all_commits sets) x.number in
         let o = of_sets j v.hold sets v.fits p (nth_of (all_commits sets) x.number (v.tabled.within x (inl refl))) in
         driving_none r drives (ap bucket_of (sym (some_is q)) ∙ ap (λ (z : Pending). z.bucket) o.1.commit.is)
     job_none (Marking sets n) v r q = driving_none r (commit_drives w minimum (record { commit = None; clean = None }) s m 0 j v.hold (Marking sets n) v.fits r q) (ap bucket_of (sym (some_is q)))
-    job_none (Reverting z zs n) v r q = subst FreeOf (some_is q) (elim (v.decides z (inl refl)).2 [ inl is ↦ free_of z (ap adds_key is) | inr is ↦ free_of z (ap adds_key is) ])
+    job_none (Reverting z zs n) v r q = subst FreeOf (some_is q) (elim (v.decides z (inl refl)).2 [ inl is ↦ adds_none (attempt_prefix w b) z (ap adds_key is) | inr is ↦ adds_none (attempt_prefix w b) z (ap adds_key is) ])
     job_none (CommitOver end) v r q = absurd (none_some refl q)
 
 -- ---- what adds a key
 
 -- of attempts only a magic one adds keys
 write_adds : (w : Script) (minimum : ℕ) (a : Who) (k l : Known) (t : writes.Write) → FitsWrite w minimum a l t → (r : Request) → writes.write_asks w a k t ≡ Some r → adds_key r ≡ true → is_magic w.committer ≡ true
-write_adds w minimum a k l (writes.WriteOver end) fits r q e = absurd (none_some refl q)
-write_adds w minimum a k l _ fits r q e = fits.0
+write_adds w minimum a k l t h r g e = grind arith
 
 commit_adds : (w : Script) (minimum : ℕ) (a : Who) (k l : Known) (t : commits.TaskCommit) → FitsCommit w minimum a l t → (r : Request) → commits.task_commit_asks w a k t ≡ Some r → adds_key r ≡ true → is_magic w.committer ≡ true
-commit_adds w minimum a k l (commits.Looking keys) fits r q e = fits.0
-commit_adds w minimum a k l (commits.Reading cs f fs) fits r q e = fits.0
-commit_adds w minimum a k l (commits.Publishing cs) fits r q e = fits.0
-commit_adds w minimum a k l (commits.Uploads f fs Creating) fits r q e = absurd (false_true refl (ap adds_key (some_is q) ∙ e))
-commit_adds w minimum a k l (commits.TaskCommitOver end) fits r q e = absurd (none_some refl q)
-commit_adds w minimum a k l _ fits r q e = absurd (false_true refl (ap adds_key (some_is q) ∙ e))
+commit_adds w minimum a k l t h r g e = grind arith
 
 abort_adds : (w : Script) (a : Who) (t : aborts.TaskAbort) (r : Request) → aborts.task_abort_asks w a t ≡ Some r → adds_key r ≡ true → is_magic w.committer ≡ true
-abort_adds w a (aborts.Sweeping (Listing keys)) r q e = absurd (false_true refl (ap adds_key (some_is q) ∙ e))
-abort_adds w a (aborts.TaskAbortOver end) r q e = absurd (none_some refl q)
-abort_adds w a _ r q e = absurd (false_true refl (ap adds_key (some_is q) ∙ e))
+abort_adds w a t r q e = grind arith
 
 is_magic_so : (c : Committer) → is_magic c ≡ true → c ≡ Magic
-is_magic_so Magic e = refl
-is_magic_so _ e = absurd (false_true refl e)
+is_magic_so c e = grind arith
 
 -- the commit of a magic job deletes nothing, and so nothing raises what it has left
 magic_calm : (j : Job) (c : Commit) → j.committer ≡ Magic → ((sets : Sets) (p : List ℕ) (ps : List (List ℕ)) (t : Sweep) (n : ℕ) → c ≡ Replacing sets p ps t n → ⊥) → commit_rise_of most_commits j c ≡ 0
-magic_calm j (Fetching sets n) magic never = ap (λ z. if_staging z (prefixes_most j (widest most_commits sets) * (j.retries + 1))) magic
-magic_calm j (Replacing sets p ps t n) magic never = absurd (never sets p ps t n refl)
-magic_calm j _ magic never = refl
+magic_calm j c h g = grind arith
 
 -- nor does it begin so
-abbrev NotReplacing : Commit → Type 0
-NotReplacing (Replacing sets p ps t n) = ⊥
-NotReplacing _ = Unit {0}
-
-not_completing : (sets : Sets) (xs : List Turn) → NotReplacing (completing sets xs [])
-not_completing sets [] = tt
-not_completing sets (x ∷ xs) = tt
-
-module _ (w : Script) (magic : w.committer ≡ Magic) where
-  not_decided : (o : Option CommitEnd) → NotReplacing (decided w [] o)
-  not_decided (Some end) = tt
-  not_decided None = subst (λ ps. NotReplacing (replacing w [] ps)) (sym (ap (λ z. replaced z w.mode w (picks_of [])) magic)) (not_completing [] (dealt w.lanes (length (all_commits []))))
-
-  not_fetching : (b : Bool) → NotReplacing (cond b (Fetching [] 0) (decided w [] (same_path w (picks_of []))))
-  not_fetching true = tt
-  not_fetching false = not_decided (same_path w (picks_of []))
-
-  start_calm : (c : Commit) → c ≡ commit_start w None → (sets : Sets) (p : List ℕ) (ps : List (List ℕ)) (t : Sweep) (n : ℕ) → c ≡ Replacing sets p ps t n → ⊥
-  start_calm c is sets p ps t n e = subst NotReplacing (sym is ∙ e) (not_fetching (nat_lt 0 w.tasks))
+start_calm : (w : Script) → w.committer ≡ Magic → (c : Commit) → c ≡ commit_start w None → (sets : Sets) (p : List ℕ) (ps : List (List ℕ)) (t : Sweep) (n : ℕ) → c ≡ Replacing sets p ps t n → ⊥
+start_calm w magic c is sets p ps t n e = grind arith
 
 none_times : (a b : ℕ) → a ≡ 0 → a * b ≡ 0
 none_times a b e = let none : 0 * b ≡ 0 = omega arith in subst (λ x. x * b ≡ 0) (sym e) none
@@ -224,10 +173,7 @@ module _ (g : Setting) (opening : Content) (x : Play) where
 
   -- who is at something is an attempt of the job
   is_attempt : (b : Who) (work : Act) → At (actor_of b) work → IsAttempt g.script b
-  is_attempt b work at =
-      let m = running_of (knows_now g x (actor_of b)) work in
-      let here = attempt_is g opening x at.legal at.opens at.happened b m at.at in
-      ((late_by g opening x at.legal at.opens at.happened b m.operation here).fine b m.operation here).0
+  is_attempt b work at = (fine_at g opening x b at).0
 
   -- the commit's, behind its check
   commit_free : (c : Who) (b : Actor) (m : Committing) → At b (acts.Commit m) → (r : Request) → wants_of (acts.Commit m) ≡ Some r → PutsNone (attempt_prefix g.script c) r
@@ -268,45 +214,34 @@ module _ (g : Setting) (opening : Content) (x : Play) where
   below_is_own c t k e r h = subst (λ v. PutsNone (below v) r) (sym e) h
 
   -- another actor than the driver adds a key in a magic job alone
-  other_adds : (a b : Actor) (other : Act) → At b other → (b ≡ Driver → ⊥) → (r : Request) → wants_of other ≡ Some r → adds_key r ≡ true → is_magic g.script.committer ≡ true
-  other_adds a b (acts.Commit c) at ne r e adds = absurd (ne at.goes_by.0)
-  other_adds a b (acts.Checked y) at ne r e adds = absurd (ne (checked_plan g b y.check y.commit at.goes_by).0)
-  other_adds a b (acts.Write t) at ne r e adds =
+  other_adds : (b : Actor) (other : Act) → At b other → (b ≡ Driver → ⊥) → (r : Request) → wants_of other ≡ Some r → adds_key r ≡ true → is_magic g.script.committer ≡ true
+  other_adds b (acts.Commit c) at ne r e adds = absurd (ne at.goes_by.0)
+  other_adds b (acts.Checked y) at ne r e adds = absurd (ne (checked_plan g b y.check y.commit at.goes_by).0)
+  other_adds b (acts.Write t) at ne r e adds =
       let o = by_attempt g opening x b (acts.Write t) at.goes_by.actor at in
-      let m = running_of (knows_now g x (actor_of o.0)) (acts.Write t) in
-      let here = attempt_is g opening x at.legal at.opens at.happened o.0 m o.2.at in
-      let fits = ((late_by g opening x at.legal at.opens at.happened o.0 m.operation here).fine o.0 m.operation here).1.1 in
-      write_adds g.script g.minimum o.0 (known_now write_wants t) _ t.machine.operation fits r (sym (asks g opening x (actor_of o.0) (acts.Write t) o.2) ∙ e) adds
-  other_adds a b (acts.CommitTask t) at ne r e adds =
+      write_adds g.script g.minimum o.0 (known_now write_wants t) _ t.machine.operation (fine_at g opening x o.0 o.2).1.1 r (sym (asks g opening x (actor_of o.0) (acts.Write t) o.2) ∙ e) adds
+  other_adds b (acts.CommitTask t) at ne r e adds =
       let o = by_attempt g opening x b (acts.CommitTask t) at.goes_by.actor at in
-      let m = running_of (knows_now g x (actor_of o.0)) (acts.CommitTask t) in
-      let here = attempt_is g opening x at.legal at.opens at.happened o.0 m o.2.at in
-      let fits = ((late_by g opening x at.legal at.opens at.happened o.0 m.operation here).fine o.0 m.operation here).1.1 in
-      commit_adds g.script g.minimum o.0 (known_now task_commit_wants t) _ t.machine.operation fits r (sym (asks g opening x (actor_of o.0) (acts.CommitTask t) o.2) ∙ e) adds
-  other_adds a b (acts.AbortTask t) at ne r e adds =
+      commit_adds g.script g.minimum o.0 (known_now task_commit_wants t) _ t.machine.operation (fine_at g opening x o.0 o.2).1.1 r (sym (asks g opening x (actor_of o.0) (acts.CommitTask t) o.2) ∙ e) adds
+  other_adds b (acts.AbortTask t) at ne r e adds =
       let o = by_attempt g opening x b (acts.AbortTask t) at.goes_by.actor at in
       abort_adds g.script o.0 t.machine.operation r (sym (asks g opening x (actor_of o.0) (acts.AbortTask t) o.2) ∙ e) adds
-  other_adds a b _ at ne r e adds = absurd (ne at.goes_by.actor)
+  other_adds b _ at ne r e adds = absurd (ne at.goes_by.actor)
+
+  -- what another actor asks raises nothing of a commit that in a magic job deletes nothing
+  rises_none : (b : Actor) (other : Act) → At b other → (b ≡ Driver → ⊥) → (r : Request) → wants_of other ≡ Some r → (j : Job) (c : Commit) → j ≡ job_of g.script
+      → (g.script.committer ≡ Magic → (sets : Sets) (p : List ℕ) (ps : List (List ℕ)) (t : Sweep) (n : ℕ) → c ≡ Replacing sets p ps t n → ⊥) → commit_rise_of most_commits j c * one_if (adds_key r) ≡ 0
+  rises_none b other bt ne r e j c is never = elim (true_or_false (adds_key r)) [
+    | inr none ↦ ap (λ v. commit_rise_of most_commits j c * one_if v) none ∙ times_none (commit_rise_of most_commits j c)
+    | inl adds ↦
+        let magic = is_magic_so g.script.committer (other_adds b other bt ne r e adds) in
+        none_times (commit_rise_of most_commits j c) (one_if (adds_key r)) (magic_calm j c (ap (λ (k : Job). k.committer) is ∙ magic) (never magic))
+  ]
 
   commit_calm : (a b : Actor) (c : Committing) (other : Act) → At a (acts.Commit c) → At b other → (a ≡ b → ⊥) → (r : Request) → wants_of other ≡ Some r → rise_of (acts.Commit c) r ≡ 0
-  commit_calm a b c other at bt ne r e = elim (true_or_false (adds_key r)) [
-    | inr none ↦ ap (λ v. commit_rise_of most_commits c.plan c.operation * one_if v) none ∙ times_none (commit_rise_of most_commits c.plan c.operation)
-    | inl adds ↦
-        let magic = is_magic_so g.script.committer (other_adds a b other bt (λ s. ne (at.goes_by.0 ∙ sym s)) r e adds) in
-        let planned : c.plan.committer ≡ Magic = ap (λ (j : Job). j.committer) at.goes_by.1 ∙ magic in
-        let d = driver_is g opening x at.legal at.opens at.happened a (running_of (knows_now g x a) (acts.Commit c)) at.goes_by.0 at.at in
-        none_times (commit_rise_of most_commits c.plan c.operation) (one_if (adds_key r)) (magic_calm c.plan c.operation planned (never_replaces g opening x at.legal at.opens at.happened c.operation d magic))
-  ]
-
-  -- its check and what is begun behind it
-  checked_calm : (a b : Actor) (t : Retrying PlannedCheck) (c : Committing) (other : Act) → At a (acts.Checked (record { check = Some t; commit = c })) → At b other → (a ≡ b → ⊥) → (r : Request) → wants_of other ≡ Some r → commit_rise_of most_commits c.plan c.operation * one_if (adds_key r) ≡ 0
-  checked_calm a b t c other at bt ne r e = elim (true_or_false (adds_key r)) [
-    | inr none ↦ ap (λ v. commit_rise_of most_commits c.plan c.operation * one_if v) none ∙ times_none (commit_rise_of most_commits c.plan c.operation)
-    | inl adds ↦
-        let magic = is_magic_so g.script.committer (other_adds a b other bt (λ s. ne (at.goes_by.actor ∙ sym s)) r e adds) in
-        let planned : c.plan.committer ≡ Magic = ap (λ (j : Job). j.committer) at.goes_by.commit ∙ magic in
-        none_times (commit_rise_of most_commits c.plan c.operation) (one_if (adds_key r)) (magic_calm c.plan c.operation planned (start_calm g.script magic c.operation at.goes_by.begins))
-  ]
+  commit_calm a b c other at bt ne r e =
+      let d = driver_is g opening x at.legal at.opens at.happened a (running_of (knows_now g x a) (acts.Commit c)) at.goes_by.0 at.at in
+      rises_none b other bt (λ s. ne (at.goes_by.0 ∙ sym s)) r e c.plan c.operation at.goes_by.1 (never_replaces g opening x at.legal at.opens at.happened c.operation d)
 
   by_driver : (a : Actor) (work : Act) (r : Request) → a ≡ Driver → rise_of work r ≤ rise g.script → Beside a work r
   by_driver a work r is most =
@@ -336,7 +271,7 @@ checked_beside : (g : Setting) (opening : Content) (x : Play) (a b : Actor) (q :
     → Beside g opening x a (acts.Checked (record { check = q; commit = c })) r
 checked_beside g opening x a b (Some t) c other at bt ne r e =
     by_driver g opening x a (acts.Checked (record { check = Some t; commit = c })) r at.goes_by.actor
-    (with_none (1 * (t.retries + 1)) _ (rise g.script) (checked_calm g opening x a b t c other at bt ne r e) (fewer 1 t.retries g.script (less 1 most_commits (omega arith)) at.goes_by.retries))
+    (with_none (1 * (t.retries + 1)) _ (rise g.script) (rises_none g opening x b other bt (λ s. ne (at.goes_by.actor ∙ sym s)) r e c.plan c.operation at.goes_by.commit (λ magic. start_calm g.script magic c.operation at.goes_by.begins)) (fewer 1 t.retries g.script (less 1 most_commits (omega arith)) at.goes_by.retries))
 checked_beside g opening x a b None c other at bt ne r e =
     by_driver g opening x a (acts.Checked (record { check = None; commit = c })) r at.goes_by.0
     (none_most (rise_of (acts.Commit c) r) (rise g.script) (commit_calm g opening x a b c other (behind g opening x a c at) bt ne r e))

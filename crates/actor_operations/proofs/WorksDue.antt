@@ -1,10 +1,9 @@
 -- Each outcome that is due to what a job's actor asks fits.
-use Rattle.std.proofs.Common.{◌≡◌, ℕ, ◌<◌, ◌≤◌, inl, inr, nat_lt, Bool, Option, Some, None, sym, ap, subst, ◌∙◌, arith}
-use Rattle.job_steps.specs.Prelude.{Content, Scene, answer, IsHonestOutcome, Actor, Request, Reply, Outcome, Answered, Who, actor_of, Job, Task, Known, commit_asks, Setting, Attempting, Driving, Committing, job_of, task_of, task_script, who_of, setup_wants, write_wants, task_commit_wants, task_abort_wants, commit_wants, clean_wants, known, Stand, is_set, Play, scene_of, knows_now}
+use Rattle.std.proofs.Common.{◌≡◌, ℕ, ◌<◌, ◌≤◌, inl, inr, nat_lt, Bool, true, Option, Some, None, sym, ap, subst, ◌∙◌, arith}
+use Rattle.job_steps.specs.Prelude.{Content, Scene, answer, IsHonestOutcome, Actor, Driver, Request, Reply, Outcome, Who, actor_of, Job, Task, Known, commit_asks, Setting, Operation, Attempting, Driving, Committing, job_of, task_of, task_script, who_of, setup_wants, write_wants, task_commit_wants, task_abort_wants, commit_wants, clean_wants, known, Stand, is_set, Play, scene_of, knows_now}
 use Rattle.machine.specs.Prelude.{FitsOutcome}
 use Rattle.job_spec.proofs.Common.{none_some}
 use Rattle.machine.specs.declared.retrying.Retrying.{Retrying}
-use Rattle.job_model.specs.declared.ends.SetupEnd.TheVariants as ends
 use Rattle.job_protocol.specs.Setup as setups
 use Rattle.job_protocol.specs.Writes as writes
 use Rattle.job_protocol.specs.TaskCommits as commits
@@ -20,8 +19,10 @@ use Rattle.task_machines.specs.Aborts.{abort_fits as task_abort_fits}
 use Rattle.job_setup.specs.Fits.{FitsDriving as setup_fits}
 use Rattle.cleanup.specs.Fits.{FitsDriving as clean_fits}
 use Rattle.cleanup.specs.SparingFits.{FitsSparingDriving as sparing_fits}
+use Rattle.job_facts.specs.Prelude.{Fits, IsAttempt as IsDeclared}
 use Rattle.job_facts.specs.Spares.{FitsSparing}
 use Rattle.job_traces.proofs.Running as running
+use Rattle.job_traces.proofs.Running.{Late}
 use Rattle.commit_laws.specs.Fitting.{FitsCommit}
 use Rattle.job_actor.specs.Posting.{DueFits}
 use Rattle.job_actor.specs.Works.{IsAt}
@@ -40,8 +41,7 @@ use Rattle.actor_operations.proofs.WorksGo.{few_now, commit_at, behind, asks}
 
 -- what is due to a machine's request fits it under its retries
 outcome_fits : {M : Type 0} (wants : M → Option Request) (fits : M → Reply → Bool → Type 0) (t : Retrying M) (s : Scene) → FitsDue wants fits t.machine s → (r : Request) (o : Outcome) → wants t.machine ≡ Some r → IsHonestOutcome o (answer s r) → FitsOutcome fits t o
-outcome_fits wants fits t s h r (Answered x) e honest = subst (λ y. fits t.machine y t.repeated) (sym honest) (h r e t.repeated)
-outcome_fits wants fits t s h r _ e honest = tt
+outcome_fits wants fits t s h r o g e = grind arith
 
 -- the same at another plan
 driving_by : {O : Type 0} (wants : Driving O → Option Request) (fits : Driving O → Reply → Bool → Type 0) (m : Driving O) (j : Job) (s : Scene) → m.plan ≡ j → FitsDue wants fits (record { plan = j; operation = m.operation }) s → FitsDue wants fits m s
@@ -65,136 +65,114 @@ module _ (g : Setting) (opening : Content) (x : Play) where
   pub by_attempt : (a : Actor) (work : Act) → (h : IsAttempt a) → At a work → (b : Who) × (a ≡ actor_of b) × At (actor_of b) work
   by_attempt a work h at = (record { task = h.0; attempt = h.1 }, h.2, subst (λ c. At c work) h.2 at)
 
+  module _ {a : Actor} {work : Act} (at : At a work) where
+    abbrev here : Stand
+    here = stand g opening x at.legal at.opens at.happened
+
+    -- what is due by the stand is due now
+    due_now : {M : Type 0} (wants : M → Option Request) (fits : M → Reply → Bool → Type 0) (t : Retrying M) → FitsDue wants fits t.machine here.seen.scene → (r : Request) (o : Outcome) → wants t.machine ≡ Some r → IsHonestOutcome o (answer (scene_of opening x) r) → FitsOutcome fits t o
+    due_now wants fits t h r o e honest = outcome_fits wants fits t (scene_of opening x) (subst (FitsDue wants fits t.machine) (scene_is g opening x at.legal at.opens at.happened) h) r o e honest
+
+    -- what the driver is at
+    driver_at : a ≡ Driver → here.driver ≡ Some (running_of (knows_now g x a) work).operation
+    driver_at is = driver_is g opening x at.legal at.opens at.happened a (running_of (knows_now g x a) work) is at.at
+
+    late_driver : is_set here.driver ≡ true → Late g opening here
+    late_driver set = late_set g opening x at.legal at.opens at.happened set
+
   -- ---- the driver's
 
-  module _ (a : Actor) (t : Retrying (Driving setups.Setup)) (at : At a (Setup t)) where
-    abbrev setting_up : Stand
-    setting_up = stand g opening x at.legal at.opens at.happened
+  due_setup : (a : Actor) (t : Retrying (Driving setups.Setup)) → At a (Setup t) → Due (Setup t)
+  due_setup a t at = due_now at setup_wants setup_fits t (λ r e repeated. elim (setup_now g opening x at.legal at.opens at.happened (counted t.spare t.repeated t.machine.operation) (driver_at at at.goes_by.actor)) [
+    | inl over ↦ absurd (none_some (ap (λ v. setup_wants (record { plan = t.machine.plan; operation = v })) over) e)
+    | inr up ↦ driving_by setup_wants setup_fits t.machine (job_of g.script) (here at).seen.scene at.goes_by.plan (setup_due g.script (here at).seen.scene t.machine.operation up.0) r e repeated
+  ])
 
-    setup_over : (c : setups.Setup) (j : Job) (r : Request) → c ≡ setups.SetupOver ends.Done → setup_wants (record { plan = j; operation = c }) ≡ Some r → ⊥
-    setup_over c j r is e = none_some (ap (λ v. setup_wants (record { plan = j; operation = v })) is) e
+  due_clean : (a : Actor) (t : Retrying (Driving cleans.Clean)) → At a (Clean t) → Due (Clean t)
+  due_clean a t at =
+      let l = late_driver at (ap is_set (driver_at at at.goes_by.actor)) in
+      due_now at clean_wants clean_fits t (driving_by clean_wants clean_fits t.machine (job_of g.script) (here at).seen.scene at.goes_by.plan (clean_due g.script (here at).seen.scene l.hold.there t.machine.operation))
 
-    setup_fits_due : FitsDue setup_wants setup_fits t.machine setting_up.seen.scene
-    setup_fits_due r e repeated = elim (setup_now g opening x at.legal at.opens at.happened (counted t.spare t.repeated t.machine.operation) (driver_is g opening x at.legal at.opens at.happened a (running_of (knows_now g x a) (Setup t)) at.goes_by.actor at.at)) [
-      | inl over ↦ absurd (setup_over t.machine.operation t.machine.plan r over e)
-      | inr up ↦ driving_by setup_wants setup_fits t.machine (job_of g.script) setting_up.seen.scene at.goes_by.plan (setup_due g.script setting_up.seen.scene t.machine.operation up.0) r e repeated
-    ]
+  some_lane : {n : ℕ} → 1 ≤ n → 0 < n
+  some_lane l = omega arith
 
-    due_setup : Due (Setup t)
-    due_setup r o e honest = outcome_fits setup_wants setup_fits t (scene_of opening x) (subst (FitsDue setup_wants setup_fits t.machine) (scene_is g opening x at.legal at.opens at.happened) setup_fits_due) r o e honest
+  due_commit : (a : Actor) (c : Committing) → At a (Commit c) → Due (Commit c)
+  due_commit a c at r o e honest =
+      let s = (here at).seen in
+      let v = commit_at g opening x a c at in
+      let few = few_now g opening x a (Commit c) at in
+      let due : IsHonestOutcome o (answer s.scene r) = subst (λ z. IsHonestOutcome o (answer z r)) (sym (scene_is g opening x at.legal at.opens at.happened)) honest in
+      let asked : commit_asks g.script c.operation ≡ Some r = sym (asks g opening x a (Commit c) at) ∙ e in
+      let is : c.plan ≡ job_of g.script = at.goes_by.1 in
+      let wanted : commit_wants (record { plan = job_of g.script; picked = c.picked; operation = c.operation }) ≡ Some r = ap (λ p. commit_wants (record { plan = p; picked = c.picked; operation = c.operation })) (sym is) ∙ e in
+      record {
+        lanes = subst (λ (p : Job). 0 < p.lanes) (sym is) (some_lane at.legal.one_lane);
+        fits = subst (λ p. FitsCommit (record { plan = p; picked = c.picked; operation = c.operation }) o) (sym is) (job_due g.script g.minimum s (here at).told at.legal few c.operation v.commits v.stands c.picked r wanted o due);
+        few = reads_few g.script g.minimum s.scene s.last (here at).told at.legal v.commits.hold few c.operation v.commits.fits r asked o due;
+      }
 
-  module _ (a : Actor) (t : Retrying (Driving cleans.Clean)) (at : At a (Clean t)) where
-    abbrev cleaning : Stand
-    cleaning = stand g opening x at.legal at.opens at.happened
-
-    due_clean : Due (Clean t)
-    due_clean r o e honest =
-        let d = driver_is g opening x at.legal at.opens at.happened a (running_of (knows_now g x a) (Clean t)) at.goes_by.actor at.at in
-        let l = late_set g opening x at.legal at.opens at.happened (ap is_set d) in
-        let h = driving_by clean_wants clean_fits t.machine (job_of g.script) cleaning.seen.scene at.goes_by.plan (clean_due g.script cleaning.seen.scene l.hold.there t.machine.operation) in
-        outcome_fits clean_wants clean_fits t (scene_of opening x) (subst (FitsDue clean_wants clean_fits t.machine) (scene_is g opening x at.legal at.opens at.happened) h) r o e honest
-
-  module _ (a : Actor) (c : Committing) (at : At a (Commit c)) where
-    abbrev committed : Stand
-    committed = stand g opening x at.legal at.opens at.happened
-
-    some_lane : {n : ℕ} → 1 ≤ n → 0 < n
-    some_lane l = omega arith
-
-    due_commit : Due (Commit c)
-    due_commit r o e honest =
-        let s = committed.seen in
-        let v = commit_at g opening x a c at in
-        let few = few_now g opening x a (Commit c) at in
-        let due : IsHonestOutcome o (answer s.scene r) = subst (λ z. IsHonestOutcome o (answer z r)) (sym (scene_is g opening x at.legal at.opens at.happened)) honest in
-        let asked : commit_asks g.script c.operation ≡ Some r = sym (asks g opening x a (Commit c) at) ∙ e in
-        let is : c.plan ≡ job_of g.script = at.goes_by.1 in
-        let wanted : commit_wants (record { plan = job_of g.script; picked = c.picked; operation = c.operation }) ≡ Some r = ap (λ p. commit_wants (record { plan = p; picked = c.picked; operation = c.operation })) (sym is) ∙ e in
-        record {
-          lanes = subst (λ (p : Job). 0 < p.lanes) (sym is) (some_lane at.legal.one_lane);
-          fits = subst (λ p. FitsCommit (record { plan = p; picked = c.picked; operation = c.operation }) o) (sym is) (job_due g.script g.minimum s committed.told at.legal few c.operation v.commits v.stands c.picked r wanted o due);
-          few = reads_few g.script g.minimum s.scene s.last committed.told at.legal v.commits.hold few c.operation v.commits.fits r asked o due;
-        }
-
-  module _ (a : Actor) (t : Retrying (Driving sparings.Sparing)) (at : At a (Sparing t)) where
-    abbrev sparing : Stand
-    sparing = stand g opening x at.legal at.opens at.happened
-
-    due_sparing : Due (Sparing t)
-    due_sparing r o e honest =
-        let s = sparing.seen in
-        let d = driver_is g opening x at.legal at.opens at.happened a (running_of (knows_now g x a) (Sparing t)) at.goes_by.actor at.at in
-        let l = late_set g opening x at.legal at.opens at.happened (ap is_set d) in
-        let fits : FitsSparing g.script sparing.told.drawn t.machine.operation = subst (λ v. running.At g opening v s sparing.told) d l.driver in
-        let due = sparing_due g.script g.minimum s.scene s.last sparing.told at.legal l.hold (few_now g opening x a (Sparing t) at) l.filed t.machine.operation fits in
-        let h = driving_by sparing_wants sparing_fits t.machine (job_of g.script) s.scene at.goes_by.plan due in
-        outcome_fits sparing_wants sparing_fits t (scene_of opening x) (subst (FitsDue sparing_wants sparing_fits t.machine) (scene_is g opening x at.legal at.opens at.happened) h) r o e honest
+  due_sparing : (a : Actor) (t : Retrying (Driving sparings.Sparing)) → At a (Sparing t) → Due (Sparing t)
+  due_sparing a t at =
+      let s = (here at).seen in
+      let d = driver_at at at.goes_by.actor in
+      let l = late_driver at (ap is_set d) in
+      let fits : FitsSparing g.script (here at).told.drawn t.machine.operation = subst (λ v. running.At g opening v s (here at).told) d l.driver in
+      let due = sparing_due g.script g.minimum s.scene s.last (here at).told at.legal l.hold (few_now g opening x a (Sparing t) at) l.filed t.machine.operation fits in
+      due_now at sparing_wants sparing_fits t (driving_by sparing_wants sparing_fits t.machine (job_of g.script) s.scene at.goes_by.plan due)
 
   -- ---- the driver's commit behind its check
 
   check_by : (m : PlannedCheck) (j : Job) (s : Scene) → m.plan.job ≡ j → FitsDue check_wants check_fits (record { plan = record { job = j; partitions = m.plan.partitions }; operation = m.operation }) s → FitsDue check_wants check_fits m s
   check_by m j s e h = subst (λ p. FitsDue check_wants check_fits (record { plan = record { job = p; partitions = m.plan.partitions }; operation = m.operation }) s) (sym e) h
 
-  module _ (a : Actor) (t : Retrying PlannedCheck) (c : Committing) (at : At a (Checked (record { check = Some t; commit = c }))) where
-    abbrev checking : Stand
-    checking = stand g opening x at.legal at.opens at.happened
-
-    due_check : Due (Checked (record { check = Some t; commit = c }))
-    due_check r o e honest =
-        let d = driver_is g opening x at.legal at.opens at.happened a (running_of (knows_now g x a) (Checked (record { check = Some t; commit = c }))) at.goes_by.actor at.at in
-        let l = late_set g opening x at.legal at.opens at.happened (ap is_set d) in
-        let h = check_by t.machine (job_of g.script) checking.seen.scene at.goes_by.plan (check_due g.script checking.seen.scene l.hold.there t.machine.plan.partitions t.machine.operation) in
-        outcome_fits check_wants check_fits t (scene_of opening x) (subst (FitsDue check_wants check_fits t.machine) (scene_is g opening x at.legal at.opens at.happened) h) r o e honest
-
   due_checked : (a : Actor) (q : Option (Retrying PlannedCheck)) (c : Committing) → At a (Checked (record { check = q; commit = c })) → Due (Checked (record { check = q; commit = c }))
-  due_checked a (Some t) c at = due_check a t c at
+  due_checked a (Some t) c at =
+      let l = late_driver at (ap is_set (driver_at at at.goes_by.actor)) in
+      due_now at check_wants check_fits t (check_by t.machine (job_of g.script) (here at).seen.scene at.goes_by.plan (check_due g.script (here at).seen.scene l.hold.there t.machine.plan.partitions t.machine.operation))
   due_checked a None c at = due_commit a c (behind g opening x a c at)
 
   -- ---- an attempt's
 
-  module _ (b : Who) (t : Retrying (Attempting writes.Write)) (at : At (actor_of b) (Write t)) where
-    abbrev writing : Stand
-    writing = stand g opening x at.legal at.opens at.happened
+  module _ {work : Act} (b : Who) (at : At (actor_of b) work) where
+    abbrev op : Operation
+    op = (running_of (knows_now g x (actor_of b)) work).operation
 
-    due_write : Due (Write t)
-    due_write r o e honest =
-        let m = running_of (knows_now g x (actor_of b)) (Write t) in
-        let here = attempt_is g opening x at.legal at.opens at.happened b m at.at in
-        let l = late_by g opening x at.legal at.opens at.happened b m.operation here in
-        let k = t.machine.plan.known in
-        let drawn = drawn_is write_wants t (known writing.told b) ((run g opening x at.legal at.opens at.happened).last b m at.at) in
-        let h = write_due g.script g.minimum writing.seen.scene writing.seen.last writing.told at.legal l.hold b k drawn t.machine.operation (l.fine b m.operation here).1.1 in
-        let plan = attempting_by write_wants write_fits t.machine (task_of g.script g.minimum b k) writing.seen.scene at.goes_by.plan h in
-        outcome_fits write_wants write_fits t (scene_of opening x) (subst (FitsDue write_wants write_fits t.machine) (scene_is g opening x at.legal at.opens at.happened) plan) r o e honest
+    attempt_at : (here at).attempts b ≡ Some op
+    attempt_at = attempt_is g opening x at.legal at.opens at.happened b (running_of (knows_now g x (actor_of b)) work) at.at
 
-  module _ (b : Who) (t : Retrying (Attempting commits.TaskCommit)) (at : At (actor_of b) (CommitTask t)) where
-    abbrev publishing : Stand
-    publishing = stand g opening x at.legal at.opens at.happened
+    pub late_attempt : Late g opening (here at)
+    late_attempt = late_by g opening x at.legal at.opens at.happened b op attempt_at
 
-    due_task_commit : Due (CommitTask t)
-    due_task_commit r o e honest =
-        let m = running_of (knows_now g x (actor_of b)) (CommitTask t) in
-        let here = attempt_is g opening x at.legal at.opens at.happened b m at.at in
-        let l = late_by g opening x at.legal at.opens at.happened b m.operation here in
-        let k = t.machine.plan.known in
-        let own = own_now g opening x at.legal at.opens at.happened b m.operation here in
-        let drawn = drawn_is task_commit_wants t (known publishing.told b) ((run g opening x at.legal at.opens at.happened).last b m at.at) in
-        let h = commit_due g.script g.minimum publishing.seen.scene publishing.seen.last publishing.told at.legal l.hold b k drawn (few_now g opening x (actor_of b) (CommitTask t) at) t.machine.operation (l.fine b m.operation here).1.1 own in
-        let plan = attempting_by task_commit_wants task_commit_fits t.machine (task_of g.script g.minimum b k) publishing.seen.scene at.goes_by.plan h in
-        outcome_fits task_commit_wants task_commit_fits t (scene_of opening x) (subst (FitsDue task_commit_wants task_commit_fits t.machine) (scene_is g opening x at.legal at.opens at.happened) plan) r o e honest
+    pub fine_at : IsDeclared g.script b × Fits g.script g.minimum b (here at).told op
+    fine_at = late_attempt.fine b op attempt_at
 
-  module _ (b : Who) (t : Retrying (Attempting aborts.TaskAbort)) (at : At (actor_of b) (AbortTask t)) where
-    abbrev aborting : Stand
-    aborting = stand g opening x at.legal at.opens at.happened
+    -- what it knows is what is told of it
+    known_at : (running_of (knows_now g x (actor_of b)) work).known ≡ known (here at).told b
+    known_at = (run g opening x at.legal at.opens at.happened).last b (running_of (knows_now g x (actor_of b)) work) at.at
 
-    due_task_abort : Due (AbortTask t)
-    due_task_abort r o e honest =
-        let m = running_of (knows_now g x (actor_of b)) (AbortTask t) in
-        let l = late_by g opening x at.legal at.opens at.happened b m.operation (attempt_is g opening x at.legal at.opens at.happened b m at.at) in
-        let k = t.machine.plan.known in
-        let h = abort_due g.script g.minimum aborting.seen.scene l.hold.there b k t.machine.operation in
-        let plan = attempting_by task_abort_wants task_abort_fits t.machine (task_of g.script g.minimum b k) aborting.seen.scene at.goes_by.plan h in
-        outcome_fits task_abort_wants task_abort_fits t (scene_of opening x) (subst (FitsDue task_abort_wants task_abort_fits t.machine) (scene_is g opening x at.legal at.opens at.happened) plan) r o e honest
+  due_write : (b : Who) (t : Retrying (Attempting writes.Write)) → At (actor_of b) (Write t) → Due (Write t)
+  due_write b t at =
+      let s = (here at).seen in
+      let k = t.machine.plan.known in
+      let l = late_attempt b at in
+      let h = write_due g.script g.minimum s.scene s.last (here at).told at.legal l.hold b k (drawn_is write_wants t (known (here at).told b) (known_at b at)) t.machine.operation (fine_at b at).1.1 in
+      due_now at write_wants write_fits t (attempting_by write_wants write_fits t.machine (task_of g.script g.minimum b k) s.scene at.goes_by.plan h)
+
+  due_task_commit : (b : Who) (t : Retrying (Attempting commits.TaskCommit)) → At (actor_of b) (CommitTask t) → Due (CommitTask t)
+  due_task_commit b t at =
+      let s = (here at).seen in
+      let k = t.machine.plan.known in
+      let l = late_attempt b at in
+      let own = own_now g opening x at.legal at.opens at.happened b (op b at) (attempt_at b at) in
+      let few = few_now g opening x (actor_of b) (CommitTask t) at in
+      let h = commit_due g.script g.minimum s.scene s.last (here at).told at.legal l.hold b k (drawn_is task_commit_wants t (known (here at).told b) (known_at b at)) few t.machine.operation (fine_at b at).1.1 own in
+      due_now at task_commit_wants task_commit_fits t (attempting_by task_commit_wants task_commit_fits t.machine (task_of g.script g.minimum b k) s.scene at.goes_by.plan h)
+
+  due_task_abort : (b : Who) (t : Retrying (Attempting aborts.TaskAbort)) → At (actor_of b) (AbortTask t) → Due (AbortTask t)
+  due_task_abort b t at =
+      let k = t.machine.plan.known in
+      let h = abort_due g.script g.minimum (here at).seen.scene (late_attempt b at).hold.there b k t.machine.operation in
+      due_now at task_abort_wants task_abort_fits t (attempting_by task_abort_wants task_abort_fits t.machine (task_of g.script g.minimum b k) (here at).seen.scene at.goes_by.plan h)
 
 pub due : (g : Setting) (opening : Content) (x : Play) (a : Actor) (work : Act) → IsAt IsOf running_of g opening x a work → DueFits wants_of FitsAct work (scene_of opening x)
 due g opening x a (Setup t) at = due_setup g opening x a t at

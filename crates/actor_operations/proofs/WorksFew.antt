@@ -1,7 +1,7 @@
 -- A set that the driver reads in a legal job has no more uploads than the job has files.
-use Rattle.std.proofs.Common.{◌≡◌, ℕ, suc, ◌+◌, ◌<◌, ◌≤◌, ◌^◌, inl, inr, Bool, true, false, cond, List, [], ◌∷◌, length, Option, Some, refl, sym, ap, subst, ◌∙◌, arith}
-use Rattle.job_facts.specs.Prelude.{unwrap_or, path_of, drawn_for, file_key, file_record, ApartFiles, AreCommits, Facts, FitsJobCommit}
-use Rattle.job_steps.specs.Prelude.{lookup, Scene, answer, IsHonestOutcome, Request, Outcome, Answered, Slow, RequestLost, ReplyLost, IsIn, File, Who, Declared, same_name, IsLegal, Script, Drawn, files, files_set, set_request, set_read, Commit, Fetching, Replacing, Completing, Marking, Reverting, CommitOver, commit_asks, Told, knowing}
+use Rattle.std.proofs.Common.{◌≡◌, ℕ, suc, ◌<◌, ◌≤◌, ◌^◌, inl, inr, List, [], ◌∷◌, length, Option, Some, refl, sym, ap, subst, ◌∙◌, arith}
+use Rattle.job_facts.specs.Prelude.{unwrap_or, drawn_for, file_key, file_record, ApartFiles, AreCommits, Facts, FitsJobCommit}
+use Rattle.job_steps.specs.Prelude.{lookup, Scene, answer, IsHonestOutcome, Request, Outcome, Answered, IsIn, File, Who, Declared, same_name, IsLegal, Script, Drawn, files, files_set, set_request, set_read, Commit, Fetching, commit_asks, Told, knowing}
 use Rattle.job_spec.proofs.Common.{length-map, some_is}
 use Rattle.job_spec.specs.Prelude.{files_in}
 use Rattle.job_facts.proofs.Legal.{written, files_are}
@@ -40,17 +40,10 @@ no_more (x ∷ xs) ys apart all =
 
 declared_few : (es : List Declared) (a : Who) → length (unwrap_or (lookup (same_name a) es) []) ≤ files_in es
 declared_few [] a = omega arith
-declared_few (e ∷ es) a = by (same_name a e.0) (declared_few es a)
-  where
-    by : (b : Bool) → length (unwrap_or (lookup (same_name a) es) []) ≤ files_in es → length (unwrap_or (cond b (Some e.1) (lookup (same_name a) es)) []) ≤ length e.1 + files_in es
-    by true old = omega arith
-    by false old = omega (arith, old)
+declared_few (e ∷ es) a = grind (arith, declared_few es a)
 
 files_few : (w : Script) → IsLegal w → (a : Who) → length (files w a) ≤ most_commits
-files_few w j a =
-    let all : files_in w.attempts ≤ 20000 = j.few_files in
-    let placed : length (files w a) ≡ length (written w a) = ap length (files_are w a) ∙ length-map (written w a) (λ (f : File). let y : File = (path_of w.unique w.job f.0, f.1) in y) in
-    omega (arith, all, placed, declared_few w.attempts a)
+files_few w h a = grind (arith, written, files_are, length-map, declared_few)
 
 -- ---- a set that is read
 
@@ -72,11 +65,4 @@ module _ (w : Script) (minimum : ℕ) (s : Scene) (last : ℕ → Option ℕ) (m
   -- by any honest outcome
   pub reads_few : (c : Commit) → FitsJobCommit w minimum m.publish_sent m.drawn c → (r : Request) → commit_asks w c ≡ Some r → (o : Outcome) → IsHonestOutcome o (answer s r) → ReadsFew most_commits c o
   reads_few (Fetching sets n) fits r e (Answered x) honest = subst (λ y. HasFew most_commits (set_read y)) (sym (honest ∙ ap (answer s) (sym (some_is e)))) (set_few (length sets) fits.0)
-  reads_few (Fetching sets n) fits r e Slow honest = tt
-  reads_few (Fetching sets n) fits r e RequestLost honest = tt
-  reads_few (Fetching sets n) fits r e ReplyLost honest = tt
-  reads_few (Replacing sets p ps v n) fits r e o honest = tt
-  reads_few (Completing sets x xs finished) fits r e o honest = tt
-  reads_few (Marking sets n) fits r e o honest = tt
-  reads_few (Reverting q qs n) fits r e o honest = tt
-  reads_few (CommitOver end) fits r e o honest = tt
+  reads_few _ fits r e _ honest = tt

@@ -1,9 +1,9 @@
 -- Until the driver cleans up each task has a last publisher where the driver's commit reads sets.
-use Rattle.std.proofs.Common.{◌≡◌, ℕ, inl, inr, nat_lt, Bool, true, false, cond, List, [], ◌∷◌, ◌++◌, length, Option, Some, None, refl, sym, ap, subst, ◌∙◌}
-use Rattle.job_steps.specs.Prelude.{Content, Actor, Driver, Reply, Outcome, Answered, Slow, Entry, Request, Known, IsLegal, Script, Op, Event, Do, Start, EventEnd, Sweep, sweep_hears, Turn, again, follow, dealt, revert, Sets, all_commits, set_read, is_no_magic, Commit, Fetching, Replacing, Completing, Marking, Reverting, CommitOver, completing, replacing, fetching, fetched, swept, reverting, worn_completion, commit_misses, commit_tells, commit_start, Setting, Operation, TheCommit, TheCheck, commit_of, commit_by, reports, step, fresh, who, tells, start_of, Seen, see_all, nothing_seen, missing, IsOpening, HasPublished, Play, Refuses, Opens, Sends, Finishes, Closes, knows_now, begun, open_running, hear, happen, MaySend, Reachable, nothing_happened, happens, Strays, Ahead, operation_of, strange_entry, times}
+use Rattle.std.proofs.Common.{◌≡◌, ℕ, inl, inr, Bool, true, List, [], length, Option, Some, None, refl, sym, ap, subst, ◌∙◌, arith}
+use Rattle.job_steps.specs.Prelude.{Content, Actor, Driver, Outcome, Entry, Known, IsLegal, Script, Op, Event, Do, Start, EventEnd, Commit, Fetching, fetching, commit_start, Setting, Operation, TheCommit, TheCheck, commit_of, commit_by, reports, fresh, who, tells, start_of, Seen, see_all, nothing_seen, missing, IsOpening, HasPublished, Play, Refuses, Opens, Sends, Finishes, Closes, knows_now, begun, open_running, hear, happen, MaySend, Reachable, nothing_happened, happens, Strays, Ahead, operation_of, strange_entry, times}
 use Rattle.job_model.specs.declared.events.Op.TheVariants as ops
 use Rattle.job_protocol.specs.Prelude.{Mode, Fail}
-use Rattle.job_protocol.specs.Rechecks.{check_after, check_start}
+use Rattle.job_protocol.specs.Rechecks.{check_start}
 use Rattle.job_protocol.proofs.Begun.{after_check_so, clean_of_so}
 use Rattle.job_steps.proofs.Actors.{same_or_not, put_here, put_other}
 use Rattle.job_steps.proofs.Running.{sent_ahead, finished_ahead, opened_ahead, refused_ahead, not_refused, closed_ahead, strayed_ahead}
@@ -24,50 +24,7 @@ DriverReads w s _ = Unit {0}
 
 module _ (w : Script) (s : Seen) where
   all_read : AllPublished w s → (c : Commit) → AllRead w s c
-  all_read all (Fetching sets n) = all
-  all_read all _ = tt
-
-  either : (b : Bool) (c d : Commit) → AllRead w s c → AllRead w s d → AllRead w s (cond b c d)
-  either true c d h g = h
-  either false c d h g = g
-
-  past_completing : (sets : Sets) (xs : List Turn) (finished : List ℕ) → AllRead w s (completing sets xs finished)
-  past_completing sets [] finished = tt
-  past_completing sets (x ∷ xs) finished = tt
-
-  past_replacing : (sets : Sets) (ps : List (List ℕ)) → AllRead w s (replacing w sets ps)
-  past_replacing sets [] = past_completing sets (dealt w.lanes (length (all_commits sets))) []
-  past_replacing sets (p ∷ ps) = tt
-
-  past_swept : (sets : Sets) (p : List ℕ) (ps : List (List ℕ)) (o : Option Sweep) → AllRead w s (swept w sets p ps o)
-  past_swept sets p ps (Some v) = tt
-  past_swept sets p ps None = past_replacing sets ps
-
-  past_reverting : (rs : List Request) → AllRead w s (reverting rs)
-  past_reverting [] = tt
-  past_reverting (r ∷ rs) = tt
-
-  -- what has read its sets reads none again
-  read_missed : (c : Commit) (lost : Bool) → AllRead w s c → AllRead w s (commit_misses w c lost)
-  read_missed (Fetching sets n) lost h = either (nat_lt n w.retries) _ _ h tt
-  read_missed (Replacing sets p ps v n) lost h = either (nat_lt n w.retries) _ _ tt tt
-  read_missed (Completing sets x xs finished) lost h =
-      either (nat_lt x.missed w.retries) (completing sets (xs ++ again x lost ∷ []) finished) (worn_completion sets x xs finished) (past_completing sets (xs ++ again x lost ∷ []) finished) (past_reverting (revert (all_commits sets) x.number xs finished))
-  read_missed (Marking sets n) lost h = either (nat_lt n w.retries) _ _ tt tt
-  read_missed (Reverting r rs n) lost h = either (nat_lt n w.retries) _ _ tt (past_reverting rs)
-  read_missed (CommitOver end) lost h = tt
-
-  read_heard : (c : Commit) (x : Reply) → AllRead w s c → AllRead w s (commit_tells w c (Answered x))
-  read_heard (Fetching sets n) x h = all_read h (fetched w sets (set_read x))
-  read_heard (Replacing sets p ps v n) x h = past_swept sets p ps (sweep_hears (is_no_magic w) v x)
-  read_heard (Completing sets y ys finished) x h = past_completing sets (ys ++ follow w.lanes (length (all_commits sets)) y.number) (y.number ∷ finished)
-  read_heard (Reverting r rs n) x h = past_reverting rs
-  read_heard _ x h = tt
-
-  read_tells : (c : Commit) (o : Outcome) → AllRead w s c → AllRead w s (commit_tells w c o)
-  read_tells c (Answered x) h = read_heard c x h
-  read_tells c Slow h = read_missed c false h
-  read_tells c _ h = read_missed c true h
+  all_read h c = grind arith
 
 read_still : (w : Script) (s u : Seen) → ((t : ℕ) → HasPublished s t → HasPublished u t) → (c : Commit) → AllRead w s c → AllRead w u c
 read_still w s u keeps (Fetching sets n) h = λ t l. keeps t (h t l)
@@ -79,9 +36,7 @@ driver_still w s u keeps (Some (TheCheck c)) h = λ t l. keeps t (h t l)
 driver_still w s u keeps _ h = tt
 
 driver_tells : (g : Setting) (s : Seen) (op : Operation) (o : Outcome) → DriverReads g.script s (Some op) → DriverReads g.script s (Some (tells g (who Driver) op o))
-driver_tells g s (TheCommit c) o h = read_tells g.script s c o h
-driver_tells g s (TheCheck t) o h = after_check_so g (λ op. DriverReads g.script s (Some op)) (all_read g.script s h (fetching g.script [])) (λ u. h) (step g.script.retries (check_after g.script) t o)
-driver_tells g s _ o h = tt
+driver_tells g s op o h = grind arith
 
 -- ---- it begins
 

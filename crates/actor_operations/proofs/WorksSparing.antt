@@ -1,9 +1,8 @@
 -- Each answer that is due to a sparing abort or clean fits: a set that it reads names no more uploads than the job has files.
-use Rattle.std.proofs.Common.{◌≡◌, ℕ, ◌<◌, ◌≤◌, ◌^◌, inl, inr, true, List, [], ◌∷◌, length, Option, Some, None, Ok, refl, sym, ap, subst, ◌∙◌}
+use Rattle.std.proofs.Common.{◌≡◌, ℕ, ◌<◌, ◌≤◌, ◌^◌, inl, inr, true, List, [], ◌∷◌, length, Option, Some, None, Ok, refl, sym, ap, subst, ◌∙◌, arith}
 use Rattle.job_facts.specs.Prelude.{Scene, answer, read_answer, begins, GetObject, ClusterGet, Committer, Magic, Directory, Partitioned, File, Who, IsLegal, Script, files, files_set, magic_prefix, cluster_prefix, Told, IsAttempt, is_staging, AreCommits, Facts, knowing}
 use Rattle.job_protocol.specs.Prelude.{ClusterBytes}
 use Rattle.std.specs.FinMap as fin
-use Rattle.s3_types.specs.Answer.{found}
 use Rattle.pending_json.specs.Reading as reading
 use Rattle.job_spec.proofs.Common.{length-map, some_is}
 use Rattle.job_protocol.specs.AtWork.{sparing_wants}
@@ -12,7 +11,6 @@ use Rattle.cleanup.specs.SparingFits.{most_commits, NamesFew, FitsSparing as Fit
 use Rattle.job_facts.specs.Spares.{AllOwn, FitsSparing, Filed}
 use Rattle.job_facts.proofs.Legible.{set_read}
 use Rattle.job_facts.proofs.Placed.{staged_set}
-use Rattle.job_facts.proofs.Shapes.{answer_is}
 use Rattle.job_refinement.specs.Due.{FitsDue}
 use Rattle.job_refinement.specs.Plans.{driving}
 use Rattle.job_refinement.proofs.Pages.{page_fits}
@@ -46,11 +44,7 @@ module _ (w : Script) (minimum : ℕ) (s : Scene) (last : ℕ → Option ℕ) (m
 
     -- of an object, whatever it is
     object_few : (p : List ℕ) → NamesFew (answer s (GetObject w.dest.bucket p))
-    object_few p = subst NamesFew (sym (answer_is w s facts.there.0 facts.there.1 (GetObject w.dest.bucket p) refl)) (by (fin.get facts.there.0.objects p))
-      where
-        by : (o : _) → NamesFew (found o)
-        by (Some x) = tt
-        by None = tt
+    object_few p = grind arith
 
     read_few : (c : Committer) → w.committer ≡ c → (p : List ℕ) → AllOwn w (p ∷ []) → NamesFew (answer s (record_request c w p))
     read_few Magic e p own = object_few p

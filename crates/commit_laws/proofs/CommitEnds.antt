@@ -1,11 +1,11 @@
 -- a commit ends by its own entries
 use Rattle.std.proofs.Common.{◌≡◌, ℕ, ◌+◌, ◌<◌, ◌≤◌, ◌⊎◌, inl, inr, nat_lt, refl, ap, sym, subst, ◌∙◌, Bool, true, false, cond, arith, List, [], ◌∷◌, ◌++◌, map, length, slice_get, Option, Some, None, append_assoc, append-nil, length-append}
-use Rattle.path_keys.proofs.Common.{nat_tests, slice_get_within}
-use Rattle.job_protocol.specs.Prelude.{Committer, Magic, Directory, Partitioned, Request, GetObject, ClusterGet, Reply, Outcome, Answered, Slow, RequestLost, ReplyLost, Entry, Pending, PendingSet, run, Follows, WornFirst, Script, Job, CommitEnd, same_path, Sweep, Listing, Deleting, sweep_asks, sweep_hears, Turn, again, follow, dealt, chosen, undo, in_turn, abort, deletion, revert, is_tried, is_unsent, Sets, picks_of, all_commits, set_read, set_request, Commit, Fetching, Replacing, Completing, Marking, Reverting, CommitOver, completing, is_no_magic, replaced, replacing, swept, decided, fetching, fetched, reverting, worn_completion, commit_asks, commit_hears, commit_misses, commit_tells, commit_over, RequestsApart, Sound, AllSound, EndIs, Committing, read_script, sets_in, sets_after, with_set, with_pick, picked_after, commit_wants, commit_told}
+use Rattle.path_keys.proofs.Common.{below_is, below_not, slice_get_within}
+use Rattle.job_protocol.specs.Prelude.{Committer, Request, GetObject, ClusterGet, Reply, Outcome, Answered, Slow, Entry, Pending, PendingSet, run, Follows, WornFirst, Script, Job, CommitEnd, same_path, Sweep, sweep_asks, Turn, again, chosen, undo, in_turn, abort, deletion, revert, is_tried, is_unsent, Sets, picks_of, all_commits, set_read, set_request, Commit, Fetching, Replacing, Completing, Marking, Reverting, CommitOver, completing, replacing, decided, fetching, fetched, reverting, worn_completion, commit_asks, commit_hears, commit_misses, commit_tells, commit_over, RequestsApart, Sound, AllSound, EndIs, Committing, read_script, sets_in, sets_after, with_set, with_pick, picked_after, commit_wants, commit_told}
 use Rattle.retries.proofs.First.{none_sent}
 use Rattle.job_model.specs.declared.ends.CommitEnd.TheVariants as ends
 use Rattle.job_model.specs.declared.ends.Stage.TheVariants as stages
-use Rattle.job_protocol.proofs.Members.{some_is, none_some, false_true}
+use Rattle.job_protocol.proofs.Members.{some_is, none_some}
 use Rattle.job_protocol.proofs.LaneEnds.{ends_by_worn}
 use Rattle.commit_parts.specs.Tables.{listed}
 use Rattle.commit_parts.specs.ReadSets.{IsSetOf}
@@ -30,11 +30,8 @@ read_more j sets s each new = λ n x e.
     elim (less_or_same n (length sets) (omega arith)) [
       | inl l ↦ each n x (get_before sets (s ∷ []) n x l e)
       | inr same ↦
-          let G : ℕ → Type 0 = λ k. slice_get (sets ++ s ∷ []) k ≡ Some x in
-          let i : s ≡ x = some_is (sym (get_last sets s) ∙ subst G same e) in
-          let P : ℕ → Type 0 = λ k. IsSetOf j k x in
-          let Q : PendingSet → Type 0 = λ v. IsSetOf j (length sets) v in
-          subst P (sym same) (subst Q i new)
+          let i : s ≡ x = some_is (sym (get_last sets s) ∙ ap (slice_get (sets ++ s ∷ [])) (sym same) ∙ e) in
+          rw same (subst (IsSetOf j (length sets)) i new)
     ]
 
 abbrev at : Job → List ℕ → Commit → Committing
@@ -68,25 +65,18 @@ no_reads_undo : (ps : List Pending) → NoReads (undo ps)
 no_reads_undo [] = tt
 no_reads_undo (p ∷ ps) = (refl, (refl, no_reads_undo ps))
 
-no_reads_aborts : (ps : List Pending) → NoReads (map abort ps)
-no_reads_aborts [] = tt
-no_reads_aborts (p ∷ ps) = (refl, no_reads_aborts ps)
-
-no_reads_deletions : (ps : List Pending) → NoReads (map deletion ps)
-no_reads_deletions [] = tt
-no_reads_deletions (p ∷ ps) = (refl, no_reads_deletions ps)
+no_reads_map : (f : Pending → Request) → ((p : Pending) → reads (f p) ≡ false) → (ps : List Pending) → NoReads (map f ps)
+no_reads_map f h [] = tt
+no_reads_map f h (p ∷ ps) = (h p, no_reads_map f h ps)
 
 no_reads_revert : (all : List Pending) (n : ℕ) (xs : List Turn) (done : List ℕ) → NoReads (revert all n xs done)
-no_reads_revert all n xs done = (refl, (refl, no_reads_join (undo (chosen (is_tried xs) 0 all)) _ (no_reads_undo (chosen (is_tried xs) 0 all)) (no_reads_join (map deletion (in_turn all done)) _ (no_reads_deletions (in_turn all done)) (no_reads_aborts (chosen (is_unsent n xs done) 0 all)))))
+no_reads_revert all n xs done = (refl, (refl, no_reads_join (undo (chosen (is_tried xs) 0 all)) _ (no_reads_undo (chosen (is_tried xs) 0 all)) (no_reads_join (map deletion (in_turn all done)) _ (no_reads_map deletion (λ p. refl) (in_turn all done)) (no_reads_map abort (λ p. refl) (chosen (is_unsent n xs done) 0 all)))))
 
 nothing_heard : (q : Request) (o : Outcome) → reads q ≡ false → set_heard q o ≡ None
-nothing_heard (GetObject bucket key) o e = absurd (false_true e refl)
-nothing_heard (ClusterGet path) o e = absurd (false_true e refl)
-nothing_heard _ o e = refl
+nothing_heard q o e = grind arith
 
 sweep_reads : (bucket prefix : List ℕ) (s : Sweep) → reads (sweep_asks bucket prefix s) ≡ false
-sweep_reads bucket prefix (Listing keys) = refl
-sweep_reads bucket prefix (Deleting k ks) = refl
+sweep_reads bucket prefix s = grind arith
 
 -- ---- once all is read
 
@@ -100,78 +90,40 @@ IsLate j s (Reverting q qs m) = NoReads (q ∷ qs)
 IsLate j s (CommitOver end) = EndOk j s end
 
 late_completing : (j : Job) (s sets : Sets) (xs : List Turn) (done : List ℕ) → sets ≡ s → RequestsApart s → shared_of j s ≡ None → IsLate j s (completing sets xs done)
-late_completing j s sets [] done e apart none = (e, none)
-late_completing j s sets (x ∷ xs) done e apart none = (e, apart, none)
+late_completing j s sets xs done e apart none = grind arith
 
 late_replacing : (j : Job) (s sets : Sets) (w : Script) (ps : List (List ℕ)) → sets ≡ s → RequestsApart s → shared_of j s ≡ None → IsLate j s (replacing w sets ps)
-late_replacing j s sets w [] e apart none = late_completing j s sets (dealt w.lanes (length (all_commits sets))) [] e apart none
-late_replacing j s sets w (p ∷ ps) e apart none = (e, apart, none)
-
-late_swept : (j : Job) (s sets : Sets) (w : Script) (p : List ℕ) (ps : List (List ℕ)) (o : Option Sweep) → sets ≡ s → RequestsApart s → shared_of j s ≡ None → IsLate j s (swept w sets p ps o)
-late_swept j s sets w p ps (Some x) e apart none = (e, apart, none)
-late_swept j s sets w p ps None e apart none = late_replacing j s sets w ps e apart none
+late_replacing j s sets w ps h g e = grind arith
 
 late_reverting : (j : Job) (s : Sets) (qs : List Request) → NoReads qs → IsLate j s (reverting qs)
-late_reverting j s [] n = tt
-late_reverting j s (q ∷ qs) n = n
+late_reverting j s qs n = grind arith
 
 late_either : (j : Job) (s : Sets) (b : Bool) (c d : Commit) → IsLate j s c → IsLate j s d → IsLate j s (cond b c d)
-late_either j s true c d x y = x
-late_either j s false c d x y = y
+late_either j s b c d h g = grind arith
 
 late_heard : (j : Job) (s : Sets) (w : Script) (c : Commit) (r : Reply) → IsLate j s c → IsLate j s (commit_hears w c r)
-late_heard j s w (Fetching sets m) r h = absurd h
-late_heard j s w (Replacing sets p ps x m) r h = late_swept j s sets w p ps (sweep_hears (is_no_magic w) x r) h.0 h.1 h.2
-late_heard j s w (Completing sets x xs done) r h = late_completing j s sets (xs ++ follow w.lanes (length (all_commits sets)) x.number) (x.number ∷ done) h.0 h.1 h.2
-late_heard j s w (Marking sets m) r h = (let e : shared_of j s ≡ None = h.1 in ap (due None None) (sym e))
-late_heard j s w (Reverting q qs m) r h = late_reverting j s qs h.1
-late_heard j s w (CommitOver end) r h = h
+late_heard j s w c r h = grind arith
 
 late_missed : (j : Job) (s : Sets) (w : Script) (c : Commit) (lost : Bool) → IsLate j s c → IsLate j s (commit_misses w c lost)
-late_missed j s w (Fetching sets m) lost h = absurd h
-late_missed j s w (Replacing sets p ps x m) lost h = late_either j s (nat_lt m w.retries) (Replacing sets p ps x (m + 1)) (CommitOver (ends.StoreFault stages.Delete)) h tt
 late_missed j s w (Completing sets x xs done) lost h = late_either j s (nat_lt x.missed w.retries) (completing sets (xs ++ again x lost ∷ []) done) (worn_completion sets x xs done) (late_completing j s sets (xs ++ again x lost ∷ []) done h.0 h.1 h.2) (late_reverting j s (revert (all_commits sets) x.number xs done) (no_reads_revert (all_commits sets) x.number xs done))
-late_missed j s w (Marking sets m) lost h = late_either j s (nat_lt m w.retries) (Marking sets (m + 1)) (CommitOver (ends.StoreFault stages.Success)) h tt
-late_missed j s w (Reverting q qs m) lost h = late_either j s (nat_lt m w.retries) (Reverting q qs (m + 1)) (reverting qs) h (late_reverting j s qs h.1)
-late_missed j s w (CommitOver end) lost h = h
+late_missed j s w _ lost h = grind arith
 
 late_next : (j : Job) (s : Sets) (w : Script) (c : Commit) (o : Outcome) → IsLate j s c → IsLate j s (commit_tells w c o)
-late_next j s w c (Answered r) h = late_heard j s w c r h
-late_next j s w c Slow h = late_missed j s w c false h
-late_next j s w c _ h = late_missed j s w c true h
+late_next j s w c o h = grind (arith, late_heard, late_missed)
 
 -- the script of these sets tells it the same
 late_tells : (j : Job) (s : Sets) (c : Commit) (o : Outcome) → IsLate j s c → commit_tells (read_script j (sets_after c o)) c o ≡ commit_tells (read_script j s) c o
-late_tells j s (Fetching sets m) o h = absurd h
-late_tells j s (Replacing sets p ps x m) o h = ap (λ t. commit_tells (read_script j t) (Replacing sets p ps x m) o) h.0
-late_tells j s (Completing sets x xs done) o h = ap (λ t. commit_tells (read_script j t) (Completing sets x xs done) o) h.0
-late_tells j s (Marking sets m) o h = ap (λ t. commit_tells (read_script j t) (Marking sets m) o) h.0
-late_tells j s (Reverting q qs m) (Answered r) h = refl
-late_tells j s (Reverting q qs m) Slow h = refl
-late_tells j s (Reverting q qs m) RequestLost h = refl
-late_tells j s (Reverting q qs m) ReplyLost h = refl
-late_tells j s (CommitOver end) (Answered r) h = refl
-late_tells j s (CommitOver end) Slow h = refl
-late_tells j s (CommitOver end) RequestLost h = refl
-late_tells j s (CommitOver end) ReplyLost h = refl
+late_tells j s c o h = grind arith
 
 late_asks : (j : Job) (s : Sets) (c : Commit) → IsLate j s c → commit_asks (read_script j (sets_in c)) c ≡ commit_asks (read_script j s) c
-late_asks j s (Fetching sets m) h = absurd h
-late_asks j s (Marking sets m) h = ap (λ t. commit_asks (read_script j t) (Marking sets m)) h.0
-late_asks j s _ h = refl
+late_asks j s c h = grind arith
 
 late_sound : (j : Job) (s : Sets) (c : Commit) → IsLate j s c → Sound c
-late_sound j s (Fetching sets m) h = absurd h
-late_sound j s (Completing sets x xs done) h = subst RequestsApart (sym h.0) h.1
-late_sound j s _ h = tt
+late_sound j s c h = grind arith
 
 -- it reads no more
 late_quiet : (j : Job) (s : Sets) (p : List ℕ) (c : Commit) (e : Entry) → IsLate j s c → commit_wants (at j p c) ≡ Some e.request → reads e.request ≡ false
-late_quiet j s p (Fetching sets m) e h f = absurd h
-late_quiet j s p (Replacing sets q qs x m) e h f = ap reads (sym (some_is f)) ∙ sweep_reads j.dest.bucket q x
-late_quiet j s p (Reverting q qs m) e h f = ap reads (sym (some_is f)) ∙ h.0
-late_quiet j s p (CommitOver end) e h f = absurd (none_some refl f)
-late_quiet j s p _ e h f = ap reads (sym (some_is f))
+late_quiet j s p c e h f = grind (arith, sweep_reads)
 
 -- ---- a run by one script
 
@@ -183,19 +135,10 @@ record Ran (j : Job) (s : Sets) (p : List ℕ) (c : Commit) (es : List Entry) : 
   pub ends : (end : CommitEnd) → commit_over (run commit_told (at j p c) es).operation ≡ Some end → EndOk j s end
 
 ran_step : (j : Job) (s : Sets) (p q : List ℕ) (c d : Commit) (e : Entry) (es : List Entry) → commit_asks (read_script j s) c ≡ Some e.request → Sound c → commit_tells (read_script j s) c e.outcome ≡ d → commit_told (at j p c) e.outcome ≡ at j q d → Ran j s q d es → Ran j s p c (e ∷ es)
-ran_step j s p q c d e es asks sound tells told r =
-    let w = read_script j s in
-    let F : Commit → Type 0 = λ x. Follows (commit_asks w) (commit_tells w) x es in
-    let S : Commit → Type 0 = λ x. AllSound w x es in
-    let R : Commit → Type 0 = λ x. run (commit_tells w) x es ≡ (run commit_told (at j q d) es).operation in
-    let T : Committing → Type 0 = λ m. run (commit_tells w) (commit_tells w c e.outcome) es ≡ (run commit_told m es).operation in
-    let E : Committing → Type 0 = λ m. (end : CommitEnd) → commit_over (run commit_told m es).operation ≡ Some end → EndOk j s end in
-    record { follows = (asks, subst F (sym tells) r.follows); sound = (sound, subst S (sym tells) r.sound); same = subst T (sym told) (subst R (sym tells) r.same); ends = subst E (sym told) r.ends }
+ran_step j s p q c d e es h g f r u = grind arith
 
 over_is : (j : Job) (s : Sets) (c : Commit) → IsLate j s c → (end : CommitEnd) → commit_over c ≡ Some end → EndOk j s end
-over_is j s (Fetching sets m) h end e = absurd h
-over_is j s (CommitOver x) h end e = let P : CommitEnd → Type 0 = λ v. EndOk j s v in subst P (some_is e) h
-over_is j s _ h end e = absurd (none_some refl e)
+over_is j s c h end e = grind arith
 
 record Late (j : Job) (s : Sets) (p : List ℕ) (c : Commit) (es : List Entry) : Type 0 where
   pub ran : Ran j s p c es
@@ -214,19 +157,8 @@ late_run j s p c (e ∷ es) h f =
 
 -- ---- while it reads
 
-less_is : (m n : ℕ) (b : Bool) → nat_lt m n ≡ b → b ≡ true → m < n
-less_is m n b e f = grind (arith, nat_tests)
-
-not_less : (m n : ℕ) → nat_lt m n ≡ false → n ≤ m
-not_less m n e = grind (arith, nat_tests)
-
 decided_late : (j : Job) (s : Sets) (o : Option CommitEnd) → AreRead j s → length s ≡ j.tasks → shared_of j s ≡ o → IsLate j s (decided (read_script j s) s o)
-decided_late j s None each all e = late_replacing j s s (read_script j s) (replaced j.committer j.mode (read_script j s) (picks_of s)) refl (sets_apart j s each all e) e
-decided_late j s (Some x) each all e = decided_ok j s x (ap (due None None) (sym e))
-  where
-    decided_ok : (j : Job) (s : Sets) (x : CommitEnd) → x ≡ due None None (shared_of j s) → EndOk j s x
-    decided_ok j s (ends.StoreFault stage) h = tt
-    decided_ok j s _ h = h
+decided_late j s o h g e = grind (arith, late_replacing, sets_apart)
 
 -- the run of a commit that has read these and reads on
 record Fetched (j : Job) (sets : Sets) (p : List ℕ) (c : Commit) (es : List Entry) : Type 0 where
@@ -249,44 +181,24 @@ follow_set j s b = cond b (Fetching s 0) (decided (read_script j s) s (shared_of
 
 after_set : (j : Job) (es : List Entry) → ReadsOn j es → (s : Sets) (p : List ℕ) (b : Bool) → nat_lt (length s) j.tasks ≡ b → AreRead j s → length s ≤ j.tasks → Follows commit_wants commit_told (at j p (follow_set j s b)) es → AllFit (at j p (follow_set j s b)) es → AfterSet j s p (follow_set j s b) es
 after_set j es later s p true e each few f k =
-    let r = later s 0 p each (less_is (length s) j.tasks true e refl) f k in
+    let r = later s 0 p each (below_is (length s) j.tasks e) f k in
     record { all = r.all; ran = r.ran; heard = r.heard; tells = ap (λ v. cond v (Fetching s 0) (decided (read_script j r.all) s (same_path (read_script j r.all) (picks_of s)))) e }
 after_set j es later s p false e each few f k =
-    let high : j.tasks ≤ length s = not_less (length s) j.tasks e in
+    let high : j.tasks ≤ length s = below_not (length s) j.tasks e in
     let r = late_run j s p (decided (read_script j s) s (shared_of j s)) es (decided_late j s (shared_of j s) each (omega arith) refl) f in
     record { all = s; ran = r.ran; heard = sym (append-nil s) ∙ ap (λ v. s ++ v) (sym r.quiet); tells = ap (λ v. cond v (Fetching s 0) (decided (read_script j s) s (shared_of j s))) e }
 
 -- the request of a read is the same by each script of the job
 asks_any : (c : Committer) (j : Job) (s t : Sets) (n : ℕ) → set_request c (read_script j s) n ≡ set_request c (read_script j t) n
-asks_any Magic j s t n = refl
-asks_any _ j s t n = refl
+asks_any c j s t n = grind arith
 
-heard_base : (c : Committer) (w : Script) (n : ℕ) (r : Reply) → set_heard (set_request c w n) (Answered r) ≡ set_read r
-heard_base Magic w n r = refl
-heard_base _ w n r = refl
+-- the set that is heard by an outcome
+abbrev heard_of : Outcome → Option PendingSet
+heard_of (Answered r) = set_read r
+heard_of _ = None
 
--- nothing is heard of a set by this outcome
-abbrev Unheard : Outcome → Type 0
-Unheard o = (c : Committer) (w : Script) (n : ℕ) → set_heard (set_request c w n) o ≡ None
-
-slow_unheard : Unheard Slow
-slow_unheard Magic w n = refl
-slow_unheard _ w n = refl
-
-lost_unheard : Unheard RequestLost
-lost_unheard Magic w n = refl
-lost_unheard _ w n = refl
-
-reply_unheard : Unheard ReplyLost
-reply_unheard Magic w n = refl
-reply_unheard _ w n = refl
-
-record Missed (c : Commit) (o : Outcome) (lost : Bool) : Type 0 where
-  pub tells : (w : Script) → commit_tells w c o ≡ commit_misses w c lost
-  pub unheard : Unheard o
-
-missed_by : (c : Commit) (o q : Outcome) (lost : Bool) → o ≡ q → ((w : Script) → commit_tells w c q ≡ commit_misses w c lost) → Unheard q → Missed c o lost
-missed_by c o q lost e a b = let P : Outcome → Type 0 = λ v. Missed c v lost in subst P (sym e) (record { tells = a; unheard = b })
+heard_is : (c : Committer) (w : Script) (n : ℕ) (o : Outcome) → set_heard (set_request c w n) o ≡ heard_of o
+heard_is c w n o = grind arith
 
 missed_next : (j : Job) (es : List Entry) → ReadsOn j es → (sets : Sets) (m : ℕ) (p : List ℕ) (b : Bool) → AreRead j sets → length sets < j.tasks
     → Follows commit_wants commit_told (at j p (cond b (Fetching sets (m + 1)) (CommitOver (ends.StoreFault stages.Read)))) es → AllFit (at j p (cond b (Fetching sets (m + 1)) (CommitOver (ends.StoreFault stages.Read)))) es
@@ -296,21 +208,18 @@ missed_next j es later sets m p false each more f k =
     let r = late_run j sets p (CommitOver (ends.StoreFault stages.Read)) es tt f in
     record { all = sets; ran = r.ran; heard = sym (append-nil sets) ∙ ap (λ v. sets ++ v) (sym r.quiet) }
 
-missed_step : (j : Job) (e : Entry) (es : List Entry) → ReadsOn j es → (sets : Sets) (m : ℕ) (p : List ℕ) (lost : Bool) → AreRead j sets → length sets < j.tasks → Missed (Fetching sets m) e.outcome lost
+missed_step : (j : Job) (e : Entry) (es : List Entry) → ReadsOn j es → (sets : Sets) (m : ℕ) (p : List ℕ) (lost : Bool) → AreRead j sets → length sets < j.tasks → heard_of e.outcome ≡ None → ((w : Script) → commit_tells w (Fetching sets m) e.outcome ≡ commit_misses w (Fetching sets m) lost)
     → commit_told (at j p (Fetching sets m)) e.outcome ≡ at j p (commit_misses (read_script j sets) (Fetching sets m) lost)
     → Follows commit_wants commit_told (at j p (Fetching sets m)) (e ∷ es) → AllFit (at j p (Fetching sets m)) (e ∷ es) → Fetched j sets p (Fetching sets m) (e ∷ es)
-missed_step j e es later sets m p lost each more miss told f k =
+missed_step j e es later sets m p lost each more none tells told f k =
     let w = read_script j sets in
-    let F : Committing → Type 0 = λ v. Follows commit_wants commit_told v es in
-    let K : Committing → Type 0 = λ v. AllFit v es in
-    let r = missed_next j es later sets m p (nat_lt m j.retries) each more (subst F told f.1) (subst K told k.1) in
+    let r = missed_next j es later sets m p (nat_lt m j.retries) each more (rw told at f.1) (rw told at k.1) in
     let asked : set_request j.committer w (length sets) ≡ e.request = some_is f.0 in
-    let S : Request → Type 0 = λ q. set_heard q e.outcome ≡ None in
-    let none : set_heard e.request e.outcome ≡ None = subst S asked (miss.unheard j.committer w (length sets)) in
+    let unheard : set_heard e.request e.outcome ≡ None = ap (λ q. set_heard q e.outcome) (sym asked) ∙ heard_is j.committer w (length sets) e.outcome ∙ none in
     record {
       all = r.all;
-      ran = ran_step j r.all p p (Fetching sets m) (commit_misses w (Fetching sets m) lost) e es (ap Some (asks_any j.committer j r.all sets (length sets)) ∙ f.0) tt (miss.tells (read_script j r.all)) told r.ran;
-      heard = r.heard ∙ ap (λ o. sets ++ (listed o ++ sets_heard es)) (sym none);
+      ran = ran_step j r.all p p (Fetching sets m) (commit_misses w (Fetching sets m) lost) e es (ap Some (asks_any j.committer j r.all sets (length sets)) ∙ f.0) tt (tells (read_script j r.all)) told r.ran;
+      heard = r.heard ∙ ap (λ o. sets ++ (listed o ++ sets_heard es)) (sym unheard);
     }
 
 abbrev told_set : Job → Sets → List ℕ → Option PendingSet → Committing
@@ -324,13 +233,10 @@ heard_step j e es later sets m p r (Some s) read is each more fit f k =
     let one = sets ++ s ∷ [] in
     let len : length one ≡ length sets + 1 = length-append sets (s ∷ []) in
     let b = nat_lt (length one) j.tasks in
-    let F : Committing → Type 0 = λ v. Follows commit_wants commit_told v es in
-    let K : Committing → Type 0 = λ v. AllFit v es in
     let told : commit_told (at j p (Fetching sets m)) e.outcome ≡ at j (p ++ s.attempt ∷ []) (follow_set j one b) = ap (commit_told (at j p (Fetching sets m))) is ∙ ap (told_set j sets p) read in
-    let a = after_set j es later one (p ++ s.attempt ∷ []) b refl (read_more j sets s each fit) (omega arith) (subst F told f.1) (subst K told k.1) in
+    let a = after_set j es later one (p ++ s.attempt ∷ []) b refl (read_more j sets s each fit) (omega arith) (rw told at f.1) (rw told at k.1) in
     let asked : set_request j.committer w (length sets) ≡ e.request = some_is f.0 in
-    let S : Request → Type 0 = λ q. set_heard q (Answered r) ≡ set_read r in
-    let found : set_heard e.request e.outcome ≡ Some s = ap (set_heard e.request) is ∙ subst S asked (heard_base j.committer w (length sets) r) ∙ read in
+    let found : set_heard e.request e.outcome ≡ Some s = ap (set_heard e.request) is ∙ ap (λ q. set_heard q (Answered r)) (sym asked) ∙ heard_is j.committer w (length sets) (Answered r) ∙ read in
     record {
       all = a.all;
       ran = ran_step j a.all p (p ++ s.attempt ∷ []) (Fetching sets m) (follow_set j one b) e es (ap Some (asks_any j.committer j a.all sets (length sets)) ∙ f.0) tt
@@ -340,10 +246,9 @@ heard_step j e es later sets m p r (Some s) read is each more fit f k =
 
 fetch_step : (j : Job) (e : Entry) (es : List Entry) → ReadsOn j es → (o : Outcome) → e.outcome ≡ o → (sets : Sets) (m : ℕ) (p : List ℕ) → AreRead j sets → length sets < j.tasks
     → Follows commit_wants commit_told (at j p (Fetching sets m)) (e ∷ es) → AllFit (at j p (Fetching sets m)) (e ∷ es) → Fetched j sets p (Fetching sets m) (e ∷ es)
-fetch_step j e es later (Answered r) is sets m p each more f k = let P : Outcome → Type 0 = λ v. FitsCommit (at j p (Fetching sets m)) v in heard_step j e es later sets m p r (set_read r) refl is each more (subst P is k.0) f k
-fetch_step j e es later Slow is sets m p each more f k = missed_step j e es later sets m p false each more (missed_by (Fetching sets m) e.outcome Slow false is (λ w. refl) slow_unheard) (ap (commit_told (at j p (Fetching sets m))) is) f k
-fetch_step j e es later RequestLost is sets m p each more f k = missed_step j e es later sets m p true each more (missed_by (Fetching sets m) e.outcome RequestLost true is (λ w. refl) lost_unheard) (ap (commit_told (at j p (Fetching sets m))) is) f k
-fetch_step j e es later ReplyLost is sets m p each more f k = missed_step j e es later sets m p true each more (missed_by (Fetching sets m) e.outcome ReplyLost true is (λ w. refl) reply_unheard) (ap (commit_told (at j p (Fetching sets m))) is) f k
+fetch_step j e es later (Answered r) is sets m p each more f k = heard_step j e es later sets m p r (set_read r) refl is each more (subst (FitsCommit (at j p (Fetching sets m))) is k.0) f k
+fetch_step j e es later Slow is sets m p each more f k = missed_step j e es later sets m p false each more (ap heard_of is) (λ w. ap (commit_tells w (Fetching sets m)) is) (ap (commit_told (at j p (Fetching sets m))) is) f k
+fetch_step j e es later o is sets m p each more f k = missed_step j e es later sets m p true each more (ap heard_of is) (λ w. ap (commit_tells w (Fetching sets m)) is) (ap (commit_told (at j p (Fetching sets m))) is) f k
 
 fetch_run : (j : Job) (es : List Entry) → ReadsOn j es
 fetch_run j [] = λ sets m p each more f k. record { all = sets; ran = record { follows = tt; sound = tt; same = refl; ends = λ end e. absurd (none_some refl e) }; heard = sym (append-nil sets) }
@@ -352,12 +257,7 @@ fetch_run j (e ∷ es) = λ sets m p each more f k. fetch_step j e es (fetch_run
 -- ---- its end
 
 due_by : (j : Job) (s : Sets) (worn : Option Request) (end : CommitEnd) → EndIs worn end → EndOk j s end → end ≡ due None worn (shared_of j s)
-due_by j s (Some r) end h ok = h
-due_by j s None (ends.StoreFault stage) h ok = absurd h
-due_by j s None ends.Committed h ok = ok
-due_by j s None (ends.Missing t) h ok = ok
-due_by j s None (ends.SamePath p t u) h ok = ok
-due_by j s None ends.NoMemory h ok = ok
+due_by j s worn end h ok = grind arith
 
 none_read : (j : Job) → AreRead j []
 none_read j = λ n s e. absurd (none_some refl e)
@@ -368,11 +268,8 @@ ends_from j es some f k end e =
     let b = nat_lt 0 j.tasks in
     let a = after_set j es (fetch_run j es) [] [] b refl (none_read j) (omega arith) f k in
     let w = read_script j a.all in
-    let F : Commit → Type 0 = λ c. Follows (commit_asks w) (commit_tells w) c es in
-    let S : Commit → Type 0 = λ c. AllSound w c es in
-    let R : Commit → Type 0 = λ c. run (commit_tells w) c es ≡ (run commit_told (start j None) es).operation in
-    let at_end : commit_over (run (commit_tells w) (fetching w []) es) ≡ Some end = ap commit_over (subst R (sym a.tells) a.ran.same) ∙ e in
-    let r = ends_by_worn w some es (subst F (sym a.tells) a.ran.follows) (subst S (sym a.tells) a.ran.sound) end at_end in
+    let at_end : commit_over (run (commit_tells w) (fetching w []) es) ≡ Some end = ap commit_over (rw a.tells a.ran.same) ∙ e in
+    let r = ends_by_worn w some es (rw a.tells a.ran.follows) (rw a.tells a.ran.sound) end at_end in
     let H : Sets → Type 0 = λ v. end ≡ due None r.0 (shared_of j v) in
     (r.0, r.1, subst H a.heard (due_by j a.all r.0 end r.2 (a.ran.ends end e)))
 

@@ -9,11 +9,7 @@ use Rattle.job_protocol.specs.Sparing.{sparing_start}
 
 module _ (g : Setting) (P : Operation → Type 0) where
   pub after_check_so : P (TheCommit (commit_start g.script None)) → ((t : Retried Check) → P (TheCheck t)) → (t : Retried Check) → P (after_check g t)
-  after_check_so commit check t = by t.operation
-    where
-      by : (c : Check) → P (after_check_by g t c)
-      by (CheckOver Clear) = commit
-      by _ = check t
+  after_check_so commit check t = elim t.operation as (λ c. P (after_check_by g t c)) [ CheckOver Clear ↦ commit | _ ↦ check t ]
 
   pub commit_of_so : ((missing : Option ℕ) → P (TheCommit (commit_start g.script missing))) → ((t : Retried Check) → P (TheCheck t)) → (r : Reports) → P (commit_of g r)
   commit_of_so commit check r = by g.shared g.script.mode r.missing
@@ -23,11 +19,7 @@ module _ (g : Setting) (P : Operation → Type 0) where
       by b m o = commit o
 
   pub clean_of_so : P (TheClean (fresh g.script.retries clean_start)) → P (TheSparing (fresh g.script.retries (sparing_start g.script.committer))) → P (clean_of g)
-  clean_of_so clean sparing = by g.shared
-    where
-      by : (b : Bool) → P (cond b (TheSparing (fresh g.script.retries (sparing_start g.script.committer))) (TheClean (fresh g.script.retries clean_start)))
-      by true = sparing
-      by false = clean
+  clean_of_so clean sparing = elim g.shared as (λ b. P (cond b (TheSparing (fresh g.script.retries (sparing_start g.script.committer))) (TheClean (fresh g.script.retries clean_start)))) [ true ↦ sparing | false ↦ clean ]
 
 -- without another job the commit begins at once
 pub commit_alone : (g : Setting) (r : Reports) → g.shared ≡ false → commit_of g r ≡ TheCommit (commit_start g.script r.missing)

@@ -41,14 +41,17 @@ hand_heard {r = r} {es = es} {rest = rest} new h e c is self told apart fresh =
       none = λ q w. elim (worn_grows r q es e w) [ inl v ↦ c.none q v | inr v ↦ let z : streak q (es ++ e ∷ []) ≡ 0 = zero_at q v.0 in let b : r < streak q (es ++ e ∷ []) = v.1 in absurd (omega arith) ];
     }
 
+-- one more that got no answer
+missed_now : {r : ℕ} {es : List Entry} {rest : List Held} (h : Held) (e : Entry) → Counted r es (h ∷ rest) → e.request ≡ h.request → same_request h.request h.request ≡ true → was_answered e.outcome ≡ false → streak h.request (es ++ e ∷ []) ≡ h.missed + 1
+missed_now {es = es} h e c is self missed =
+    streak_same h.request es e (rw is self) ∙ ap (λ b. cond b 0 (streak h.request es + 1)) missed ∙ ap (λ n. n + 1) (c.counts h (inl refl))
+
 pub hand_missed : {r : ℕ} {es : List Entry} {rest : List Held} (h : Held) (e : Entry) → Counted r es (h ∷ rest) → e.request ≡ h.request → same_request h.request h.request ≡ true → was_answered e.outcome ≡ false → h.missed < r
     → ((k : Held) → In k rest → same_request k.request h.request ≡ false)
     → Counted r (es ++ e ∷ []) (rest ++ record { request = h.request; missed = h.missed + 1 } ∷ [])
 hand_missed {r = r} {es = es} {rest = rest} h e c is self missed low apart =
     let more : Held = record { request = h.request; missed = h.missed + 1 } in
-    let S : Request → Type 0 = λ q. same_request h.request q ≡ true in
-    let here : streak h.request (es ++ e ∷ []) ≡ h.missed + 1 =
-    streak_same h.request es e (subst S (sym is) self) ∙ ap (λ b. cond b 0 (streak h.request es + 1)) missed ∙ ap (λ n. n + 1) (c.counts h (inl refl)) in
+    let here : streak h.request (es ++ e ∷ []) ≡ h.missed + 1 = missed_now h e c is self missed in
     let C : Held → Type 0 = λ k. streak k.request (es ++ e ∷ []) ≡ k.missed in
     let F : Held → Type 0 = λ k. k.missed ≤ r in
     record {
@@ -75,14 +78,8 @@ hand_missed {r = r} {es = es} {rest = rest} h e c is self missed low apart =
 pub hand_worn : {r : ℕ} {es : List Entry} {rest : List Held} (h : Held) (e : Entry) → Counted r es (h ∷ rest) → e.request ≡ h.request → same_request h.request h.request ≡ true → was_answered e.outcome ≡ false → r ≤ h.missed
     → IsFirstWorn r (es ++ e ∷ []) h.request
 hand_worn {r = r} {es = es} h e c is self missed high =
-    let S : Request → Type 0 = λ q. same_request h.request q ≡ true in
-    let here : streak h.request (es ++ e ∷ []) ≡ h.missed + 1 =
-    streak_same h.request es e (subst S (sym is) self) ∙ ap (λ b. cond b 0 (streak h.request es + 1)) missed ∙ ap (λ n. n + 1) (c.counts h (inl refl)) in
+    let here : streak h.request (es ++ e ∷ []) ≡ h.missed + 1 = missed_now h e c is self missed in
     record { before = es; last = e; later = []; parts = refl; is_of = is; worn = worn_now r h.request (es ++ e ∷ []) (omega arith); first = c.none }
-
--- and no other request is worn then
-pub hand_only : {r : ℕ} {es : List Entry} {hs : List Held} (e : Entry) (p : Request) → Counted r es hs → IsWorn r p (es ++ e ∷ []) → p ≡ e.request
-hand_only {r = r} {es = es} e p c w = elim (worn_grows r p es e w) [ inl v ↦ absurd (c.none p v) | inr v ↦ same_is p e.request v.0 ]
 
 -- ---- nothing in hand was missed
 
@@ -99,13 +96,7 @@ quiet_heard {r = r} {es = es} h e c is self told =
     record { zeros = λ q. d.others q (λ k i eq. i); none = d.none }
 
 pub quiet_counted : {r : ℕ} {es : List Entry} (hs : List Held) → Quiet r es → ((k : Held) → In k hs → k.missed ≡ 0) → Counted r es hs
-quiet_counted hs y zeros =
-    record {
-      counts = λ k i. y.zeros k.request ∙ sym (zeros k i);
-      few = λ k i. let z : k.missed ≡ 0 = zeros k i in omega arith;
-      others = λ q n. y.zeros q;
-      none = y.none;
-    }
+quiet_counted hs h g = grind arith
 
 -- ---- what was worn first stays so
 

@@ -1,15 +1,15 @@
 -- the counters of a job's commit agree with its entries, and it ends by its first worn request
-use Rattle.std.proofs.Common.{◌≡◌, ℕ, ◌+◌, ◌<◌, Option, Some, None, refl, ap, sym, subst, ◌∙◌, inl, inr, Bool, true, false, cond, nat_lt, List, [], ◌∷◌, ◌++◌, length, map, append_assoc, append-nil}
-use Rattle.job_protocol.specs.Prelude.{Committer, Magic, Directory, Partitioned, Request, PutObject, CompleteUpload, Reply, Outcome, Answered, Slow, RequestLost, ReplyLost, Entry, PendingSet, same_request, run, Follows, was_answered, IsFirstWorn, WornFirst, Script, CommitEnd, Stage, same_path, shared_by, first_shared, two_where, writes, wanted_paths, Picks, Sweep, Listing, Deleting, sweep_start, sweep_asks, sweep_hears, mark_text, Turn, fresh_turn, again, follow, dealt, nth, completion, revert, Sets, picks_of, all_commits, set_read, set_request, Commit, Fetching, Replacing, Completing, Marking, Reverting, CommitOver, completing, is_no_magic, replaced, replacing, decided, fetching, fetched, swept, reverting, worn_completion, commit_asks, commit_hears, commit_misses, commit_tells, commit_start, commit_over, stage_of, In, Table, Tabled, RequestsApart, Sound, AllSound, EndIs}
+use Rattle.std.proofs.Common.{◌≡◌, ℕ, ◌+◌, ◌<◌, Option, Some, None, refl, ap, sym, subst, ◌∙◌, inl, inr, Bool, true, false, cond, nat_lt, List, [], ◌∷◌, ◌++◌, length, map, append_assoc, append-nil, arith}
+use Rattle.job_protocol.specs.Prelude.{Committer, Request, PutObject, CompleteUpload, Reply, Outcome, Entry, same_request, run, Follows, was_answered, IsFirstWorn, WornFirst, Script, CommitEnd, Stage, Sweep, sweep_asks, sweep_hears, mark_text, Turn, fresh_turn, again, follow, nth, completion, revert, Sets, picks_of, all_commits, set_read, set_request, Commit, Fetching, Replacing, Completing, Marking, Reverting, CommitOver, completing, is_no_magic, reverting, worn_completion, commit_asks, commit_hears, commit_misses, commit_tells, commit_start, commit_over, stage_of, In, Table, Tabled, RequestsApart, Sound, AllSound, EndIs}
 use Rattle.retries.specs.Prelude.{NoneWorn}
 use Rattle.magic_paths.specs.Layout as layout
 use Rattle.retries.proofs.SameRequest.{same_is, same_self}
 use Rattle.job_model.specs.declared.ends.CommitEnd.TheVariants as commits
 use Rattle.job_model.specs.declared.ends.Stage.TheVariants as stages
-use Rattle.job_protocol.proofs.Members.{true_or_false, some_is, none_some, in_map, map_append}
+use Rattle.job_protocol.proofs.Members.{true_or_false, some_is, none_some, in_map, map-append}
 use Rattle.job_protocol.proofs.Tables.{lt_or_not, follow_cases, dealt_fresh, numbers_apart, next_apart}
 use Rattle.job_protocol.proofs.Hands.{Held, Counted, Quiet, hand_heard, hand_missed, hand_worn, quiet_at_first, quiet_heard, quiet_counted, worn_first_still}
-use Rattle.job_protocol.proofs.LaneTables.{tabled_start, tabled_tells}
+use Rattle.job_protocol.proofs.LaneTables.{Begins, fetching_so, fetched_so, swept_so, either_so, tabled_start, tabled_tells}
 
 -- ---- what is in hand
 
@@ -47,12 +47,10 @@ Agreed w es (Completing sets x xs finished) = Counted w.retries es (hand w (Comp
 Agreed w es (Marking sets m) = Counted w.retries es (hand w (Marking sets m))
 
 pub read_stage : (c : Committer) (w : Script) (t : ℕ) → stage_of (set_request c w t) ≡ stages.Read
-read_stage Magic w t = refl
-read_stage _ w t = refl
+read_stage c w t = grind arith
 
 delete_stage : (bucket p : List ℕ) (s : Sweep) → stage_of (sweep_asks bucket p s) ≡ stages.Delete
-delete_stage bucket p (Listing keys) = refl
-delete_stage bucket p (Deleting k ks) = refl
+delete_stage bucket p s = grind arith
 
 -- ---- stages that begin with nothing missed
 
@@ -60,51 +58,10 @@ zero_once : (r : Request) (k : Held) → In k (one r 0) → k.missed ≡ 0
 zero_once r k i = elim i [ inl e ↦ sym (ap (λ (v : Held). v.missed) e) | inr n ↦ absurd n ]
 
 agreed_completing : (w : Script) (es : List Entry) (sets : Sets) (xs : List Turn) (done : List ℕ) → Counted w.retries es (map (in_lane sets) xs) → Agreed w es (completing sets xs done)
-agreed_completing w es sets [] done c = quiet_counted (one (mark_request w sets) 0) (record { zeros = λ q. c.others q (λ k i eq. i); none = c.none }) (zero_once (mark_request w sets))
-agreed_completing w es sets (x ∷ xs) done c = c
+agreed_completing w es sets xs done h = grind arith
 
-agreed_replacing : (w : Script) (es : List Entry) (sets : Sets) (ps : List (List ℕ)) → Quiet w.retries es → Agreed w es (replacing w sets ps)
-agreed_replacing w es sets [] y = agreed_completing w es sets (dealt w.lanes (length (all_commits sets))) [] (quiet_counted (map (in_lane sets) (dealt w.lanes (length (all_commits sets)))) y (λ k i.
-    let r = in_map (in_lane sets) (dealt w.lanes (length (all_commits sets))) k i in
-    sym (ap (λ (v : Held). v.missed) r.2) ∙ (dealt_fresh w.lanes (length (all_commits sets)) r.0 r.1).0))
-agreed_replacing w es sets (p ∷ ps) y = quiet_counted (one (sweep_asks w.dest.bucket p sweep_start) 0) y (zero_once (sweep_asks w.dest.bucket p sweep_start))
-
--- a shared path is no fault
-abbrev IsSharedEnd : Option CommitEnd → Type 0
-IsSharedEnd None = Unit {0}
-IsSharedEnd (Some (commits.SamePath p t u)) = Unit {0}
-IsSharedEnd (Some _) = ⊥
-
-shared_end : (p : List ℕ) (o : Option (ℕ × ℕ)) (others : Option CommitEnd) → IsSharedEnd others → IsSharedEnd (shared_by p o others)
-shared_end p (Some x) others h = tt
-shared_end p None others h = h
-
-first_end : (w : Script) (picks : Picks) (ps : List (List ℕ)) → IsSharedEnd (first_shared w picks ps)
-first_end w picks [] = tt
-first_end w picks (p ∷ ps) = shared_end p (two_where (writes w picks p) w.tasks) (first_shared w picks ps) (first_end w picks ps)
-
-agreed_decided : (w : Script) (es : List Entry) (sets : Sets) (o : Option CommitEnd) → IsSharedEnd o → Quiet w.retries es → Agreed w es (decided w sets o)
-agreed_decided w es sets None h y = agreed_replacing w es sets (replaced w.committer w.mode w (picks_of sets)) y
-agreed_decided w es sets (Some (commits.SamePath p t u)) h y = y.none
-agreed_decided w es sets (Some _) h y = absurd h
-
-agreed_either : (w : Script) (es : List Entry) (b : Bool) (c d : Commit) → (b ≡ true → Agreed w es c) → (b ≡ false → Agreed w es d) → Agreed w es (cond b c d)
-agreed_either w es true c d x y = x refl
-agreed_either w es false c d x y = y refl
-
-reads_on : (w : Script) (es : List Entry) (sets : Sets) → Quiet w.retries es → Agreed w es (Fetching sets 0)
-reads_on w es sets y = quiet_counted (one (set_request w.committer w (length sets)) 0) y (zero_once (set_request w.committer w (length sets)))
-
-agreed_fetching : (w : Script) (es : List Entry) (sets : Sets) → Quiet w.retries es → Agreed w es (fetching w sets)
-agreed_fetching w es sets y = agreed_either w es (nat_lt (length sets) w.tasks) (Fetching sets 0) (decided w sets (same_path w (picks_of sets))) (λ e. reads_on w es sets y) (λ e. agreed_decided w es sets (same_path w (picks_of sets)) (first_end w (picks_of sets) (wanted_paths w (picks_of sets))) y)
-
-agreed_fetched : (w : Script) (es : List Entry) (sets : Sets) (o : Option PendingSet) → Quiet w.retries es → Agreed w es (fetched w sets o)
-agreed_fetched w es sets (Some s) y = agreed_fetching w es (sets ++ s ∷ []) y
-agreed_fetched w es sets None y = reads_on w es sets y
-
-agreed_swept : (w : Script) (es : List Entry) (sets : Sets) (p : List ℕ) (ps : List (List ℕ)) (o : Option Sweep) → Quiet w.retries es → Agreed w es (swept w sets p ps o)
-agreed_swept w es sets p ps (Some s) y = quiet_counted (one (sweep_asks w.dest.bucket p s) 0) y (zero_once (sweep_asks w.dest.bucket p s))
-agreed_swept w es sets p ps None y = agreed_replacing w es sets ps y
+begins : (w : Script) (es : List Entry) → Quiet w.retries es → Begins w (Agreed w es)
+begins w es h = grind (arith, quiet_counted, zero_once, agreed_completing, in_map, Held, dealt_fresh)
 
 -- ---- the other turns are other requests
 
@@ -120,8 +77,7 @@ lane_apart w sets {x = x} {xs = xs} apart t k i =
 -- ---- one sending
 
 agreed_reverting : (w : Script) (es : List Entry) (qs : List Request) → WornAt w.retries es stages.Complete → Agreed w es (reverting qs)
-agreed_reverting w es [] h = h
-agreed_reverting w es (q ∷ qs) h = h
+agreed_reverting w es qs h = grind arith
 
 worn_still : {r : ℕ} {es : List Entry} {stage : Stage} (e : Entry) → WornAt r es stage → WornAt r (es ++ e ∷ []) stage
 worn_still e h = (h.0, worn_first_still e h.1, h.2)
@@ -133,7 +89,7 @@ agreed_answered w sets es x xs done e told is t apart c =
     let C : List Held → Type 0 = λ v. Counted w.retries (es ++ e ∷ []) v in
     let F : List Turn → Type 0 = λ v. Counted w.retries (es ++ e ∷ []) (map (in_lane sets) xs ++ map (in_lane sets) v) in
     let next : Turn = fresh_turn (x.number + w.lanes) in
-    subst C (sym (map_append (in_lane sets) xs (follow w.lanes (length all) x.number)))
+    subst C (sym (map-append (in_lane sets) xs (follow w.lanes (length all) x.number)))
     (elim (follow_cases w.lanes (length all) x.number) [
       | inl h ↦ subst F (sym h.1) (hand_heard (in_lane sets next ∷ []) (in_lane sets x) e c is (same_self (in_lane sets x).request) told (lane_apart w sets apart t) (λ k i. elim i [
         | inl f ↦ let N : Held → Type 0 = λ v. (v.missed ≡ 0) × ((l : Held) → In l (map (in_lane sets) xs) → l.request ≡ v.request → ⊥) in
@@ -154,8 +110,8 @@ quiet_one : (w : Script) (es : List Entry) (r : Request) (m : ℕ) (e : Entry) �
 quiet_one w es r m e c asked told = quiet_heard (record { request = r; missed = m }) e c (sym (some_is asked)) (same_self r) told
 
 agreed_heard : (w : Script) (es : List Entry) (c : Commit) (e : Entry) (r : Reply) → was_answered e.outcome ≡ true → commit_asks w c ≡ Some e.request → Sound c → Tabled w c → Agreed w es c → Agreed w (es ++ e ∷ []) (commit_hears w c r)
-agreed_heard w es (Fetching sets m) e r told asked apart h a = agreed_fetched w (es ++ e ∷ []) sets (set_read r) (quiet_one w es (set_request w.committer w (length sets)) m e a asked told)
-agreed_heard w es (Replacing sets p ps s m) e r told asked apart h a = agreed_swept w (es ++ e ∷ []) sets p ps (sweep_hears (is_no_magic w) s r) (quiet_one w es (sweep_asks w.dest.bucket p s) m e a asked told)
+agreed_heard w es (Fetching sets m) e r told asked apart h a = fetched_so w (Agreed w (es ++ e ∷ [])) (begins w (es ++ e ∷ []) (quiet_one w es (set_request w.committer w (length sets)) m e a asked told)) sets (set_read r)
+agreed_heard w es (Replacing sets p ps s m) e r told asked apart h a = swept_so w (Agreed w (es ++ e ∷ [])) (begins w (es ++ e ∷ []) (quiet_one w es (sweep_asks w.dest.bucket p s) m e a asked told)) sets p ps (sweep_hears (is_no_magic w) s r)
 agreed_heard w es (Completing sets x xs done) e r told asked apart h a = agreed_completing w (es ++ e ∷ []) sets (xs ++ follow w.lanes (length (all_commits sets)) x.number) (x.number ∷ done) (agreed_answered w sets es x xs done e told (sym (some_is asked)) h apart a)
 agreed_heard w es (Marking sets m) e r told asked apart h a = (quiet_one w es (mark_request w sets) m e a asked told).none
 agreed_heard w es (Reverting q qs m) e r told asked apart h a = agreed_reverting w (es ++ e ∷ []) qs (worn_still e a)
@@ -179,18 +135,16 @@ agreed_missed w es (Completing sets x xs done) e lost missed asked apart h a =
     let C : List Held → Type 0 = λ v. Counted w.retries (es ++ e ∷ []) v in
     elim (lt_or_not x.missed w.retries) [
       | inl b ↦ subst P (sym b.0) (agreed_completing w (es ++ e ∷ []) sets (xs ++ again x lost ∷ []) done (
-          subst C (sym (map_append (in_lane sets) xs (again x lost ∷ []))) (hand_missed (in_lane sets x) e a (sym (some_is asked)) (same_self (in_lane sets x).request) missed b.1 (lane_apart w sets apart h))))
+          subst C (sym (map-append (in_lane sets) xs (again x lost ∷ []))) (hand_missed (in_lane sets x) e a (sym (some_is asked)) (same_self (in_lane sets x).request) missed b.1 (lane_apart w sets apart h))))
       | inr b ↦ subst P (sym b.0) (agreed_reverting w (es ++ e ∷ []) (revert (all_commits sets) x.number xs done) ((in_lane sets x).request, hand_worn (in_lane sets x) e a (sym (some_is asked)) (same_self (in_lane sets x).request) missed b.1, refl))
     ]
 agreed_missed w es (Marking sets m) e lost missed asked apart h a = missed_one w es (mark_request w sets) m e (Marking sets (m + 1)) stages.Success a asked missed refl (λ c. c)
 agreed_missed w es (Reverting q qs m) e lost missed asked apart h a =
-    agreed_either w (es ++ e ∷ []) (nat_lt m w.retries) (Reverting q qs (m + 1)) (reverting qs) (λ b. worn_still e a) (λ b. agreed_reverting w (es ++ e ∷ []) qs (worn_still e a))
+    either_so (Agreed w (es ++ e ∷ [])) (nat_lt m w.retries) (Reverting q qs (m + 1)) (reverting qs) (worn_still e a) (agreed_reverting w (es ++ e ∷ []) qs (worn_still e a))
 agreed_missed w es (CommitOver end) e lost missed asked apart h a = absurd (none_some refl asked)
 
 agreed_tells : (w : Script) (es : List Entry) (c : Commit) (e : Entry) (o : Outcome) → e.outcome ≡ o → commit_asks w c ≡ Some e.request → Sound c → Tabled w c → Agreed w es c → Agreed w (es ++ e ∷ []) (commit_tells w c o)
-agreed_tells w es c e (Answered r) is asked apart h a = agreed_heard w es c e r (ap was_answered is) asked apart h a
-agreed_tells w es c e Slow is asked apart h a = agreed_missed w es c e false (ap was_answered is) asked apart h a
-agreed_tells w es c e _ is asked apart h a = agreed_missed w es c e true (ap was_answered is) asked apart h a
+agreed_tells w es c e o h g f p q = grind (arith, agreed_heard, agreed_missed)
 
 -- ---- all of them
 
@@ -211,7 +165,7 @@ end_is w es _ end a e = absurd (none_some refl e)
 
 pub ends_by_worn : (w : Script) → 0 < w.lanes → (es : List Entry) → Follows (commit_asks w) (commit_tells w) (commit_start w None) es → AllSound w (commit_start w None) es
     → (end : CommitEnd) → commit_over (run (commit_tells w) (commit_start w None) es) ≡ Some end → (worn : Option Request) × WornFirst w.retries es worn × EndIs worn end
-ends_by_worn w some es f s end is = end_is w es (run (commit_tells w) (commit_start w None) es) end (agreed_run w [] es (commit_start w None) some s (tabled_start w None some) (agreed_fetching w [] [] (quiet_at_first w.retries)) f) is
+ends_by_worn w some es f s end is = end_is w es (run (commit_tells w) (commit_start w None) es) end (agreed_run w [] es (commit_start w None) some s (tabled_start w None some) (fetching_so w (Agreed w []) (begins w [] (quiet_at_first w.retries)) []) f) is
 
 -- ---- uploads of different keys
 

@@ -1,6 +1,7 @@
 -- members, places and appended lists
-use Rattle.std.proofs.Common.{◌≡◌, ℕ, ◌<◌, zero, suc, Option, Some, None, refl, ap, ◌⊎◌, inl, inr, Bool, true, false, arith, List, [], ◌∷◌, ◌++◌, length, slice_get, map}
+use Rattle.std.proofs.Common.{◌≡◌, ℕ, ◌<◌, zero, suc, Some, refl, ap, ◌⊎◌, inl, inr, arith, List, [], ◌∷◌, ◌++◌, length, slice_get, map}
 use Rattle.job_protocol.specs.Prelude.{In}
+pub use Rattle.path_keys.proofs.Common.{false_true, map-append, none_some, some_is, true_or_false}
 
 pub in_append : {X : Type 0} (x : X) (xs ys : List X) → In x (xs ++ ys) → In x xs ⊎ In x ys
 in_append x [] ys h = inr h
@@ -29,10 +30,6 @@ pub map_in : {X Y : Type 0} (f : X → Y) (xs : List X) (x : X) → In x xs → 
 map_in f [] x h = absurd h
 map_in f (z ∷ xs) x h = elim h [ inl e ↦ inl (ap f e) | inr i ↦ inr (map_in f xs x i) ]
 
-pub map_append : {X Y : Type 0} (f : X → Y) (xs ys : List X) → map f (xs ++ ys) ≡ map f xs ++ map f ys
-map_append f [] ys = refl
-map_append f (x ∷ xs) ys = ap (λ zs. f x ∷ zs) (map_append f xs ys)
-
 pub get_left : {X : Type 0} (xs ys : List X) (n : ℕ) (x : X) → slice_get xs n ≡ Some x → slice_get (xs ++ ys) n ≡ Some x
 get_left [] ys n x e = absurd (cc)
 get_left (z ∷ xs) ys zero x e = e
@@ -42,16 +39,3 @@ pub get_before : {X : Type 0} (xs ys : List X) (n : ℕ) (x : X) → n < length 
 get_before [] ys n x h e = absurd (omega arith)
 get_before (z ∷ xs) ys zero x h e = e
 get_before (z ∷ xs) ys (suc n) x h e = get_before xs ys n x (omega arith) e
-
-pub true_or_false : (b : Bool) → (b ≡ true) ⊎ (b ≡ false)
-true_or_false true = inl refl
-true_or_false false = inr refl
-
-pub some_is : {X : Type 0} {x y : X} → Some x ≡ Some y → x ≡ y
-some_is e = cc
-
-pub none_some : {X : Type 0} {x : X} {o : Option X} → o ≡ None → o ≡ Some x → ⊥
-none_some e f = cc
-
-pub false_true : {b : Bool} → b ≡ false → b ≡ true → ⊥
-false_true e f = cc

@@ -1,9 +1,9 @@
 -- the table of lanes as it is dealt, and after each outcome
-use Rattle.std.proofs.Common.{◌≡◌, ℕ, ◌+◌, ◌-◌, ◌<◌, ◌≤◌, zero, suc, min, refl, ap, sym, subst, ◌∙◌, ◌⊎◌, inl, inr, Bool, true, false, cond, nat_lt, arith, List, [], ◌∷◌, ◌++◌, append-nil}
+use Rattle.std.proofs.Common.{◌≡◌, ℕ, ◌+◌, ◌-◌, ◌<◌, ◌≤◌, zero, suc, min, refl, ap, sym, subst, ◌∙◌, ◌⊎◌, inl, inr, Bool, true, false, nat_lt, arith, List, [], ◌∷◌, ◌++◌, append-nil}
 use Rattle.path_keys.proofs.Common.{nat_tests}
 use Rattle.job_protocol.specs.Prelude.{Turn, fresh_turn, again, follow, first_turns, dealt, In, ahead, Table}
 use Rattle.job_protocol.specs.LaneTable.{After, Apart}
-use Rattle.job_protocol.proofs.Members.{in_left, in_right, in_push, in_last}
+use Rattle.job_protocol.proofs.Members.{in_append, in_left, in_right, in_push}
 
 pub lt_or_not : (a b : ℕ) → ((nat_lt a b ≡ true) × (a < b)) ⊎ ((nat_lt a b ≡ false) × (b ≤ a))
 lt_or_not a b = grind (arith, nat_tests)
@@ -35,7 +35,7 @@ after_cases lanes a n h = by h.0 h.1
     by zero e = inl e
     by (suc k) e = inr (k, ahead_next lanes a k ∙ e)
 
-after_low : (lanes a n : ℕ) → After lanes a n → a ≤ n
+pub after_low : (lanes a n : ℕ) → After lanes a n → a ≤ n
 after_low lanes a n h = let i : a ≤ ahead lanes a h.0 = ahead_far lanes a h.0 in let e : ahead lanes a h.0 ≡ n = h.1 in omega arith
 
 -- two lanes don't meet
@@ -60,7 +60,7 @@ lane_of lanes n (suc top) h some = elim (less_or_not n lanes) [
 
 -- ---- as it is dealt
 
-in_first : (m : ℕ) (x : Turn) → In x (first_turns m) → (x.number < m) × (x.missed ≡ 0) × (x.lost ≡ false)
+pub in_first : (m : ℕ) (x : Turn) → In x (first_turns m) → (x.number < m) × (x.missed ≡ 0) × (x.lost ≡ false)
 in_first zero x h = absurd h
 in_first (suc m) x h = elim (in_push x (first_turns m) (fresh_turn m) h) [
   | inl i ↦ let r = in_first m x i in let b : x.number < m = r.0 in (omega arith, r.1, r.2)
@@ -112,104 +112,57 @@ dealt_fresh lanes total x i = let r = in_first (min lanes total) x i in (r.1, r.
 
 -- the lane's next, or that it has none
 pub follow_cases : (lanes total n : ℕ) → ((n + lanes < total) × (follow lanes total n ≡ fresh_turn (n + lanes) ∷ [])) ⊎ ((total ≤ n + lanes) × (follow lanes total n ≡ []))
-follow_cases lanes total n = elim (lt_or_not (n + lanes) total) [
-  | inl h ↦ inl (h.1, ap (λ b. cond b (fresh_turn (n + lanes) ∷ []) []) h.0)
-  | inr h ↦ inr (h.1, ap (λ b. cond b (fresh_turn (n + lanes) ∷ []) []) h.0)
-]
+follow_cases lanes total n = grind (arith, nat_tests)
 
-table_next : {lanes retries total : ℕ} {xs : List Turn} {done : List ℕ} (x : Turn) → 0 < lanes → x.number + lanes < total → Table lanes retries total (x ∷ xs) done → Table lanes retries total (xs ++ fresh_turn (x.number + lanes) ∷ []) (x.number ∷ done)
-table_next {lanes = lanes} {retries = retries} {total = total} {xs = xs} {done = done} x some low t =
-    let new = fresh_turn (x.number + lanes) in
-    let L : Turn → Type 0 = λ v. v.number < total in
-    let F : Turn → Type 0 = λ v. v.missed ≤ retries in
-    record {
-      within = λ y i. elim (in_push y xs new i) [ inl j ↦ t.within y (inr j) | inr e ↦ subst L e low ];
-      unsent = λ y i m. elim (in_push y xs new i) [ inl j ↦ t.unsent y (inr j) m | inr e ↦ sym (ap (λ (v : Turn). v.lost) e) ];
-      few = λ y i. elim (in_push y xs new i) [ inl j ↦ t.few y (inr j) | inr e ↦ subst F e (omega arith) ];
-      apart = apart_push lanes xs new t.apart.1 (λ y n i a b. t.apart.0 y n i (after_next lanes x.number n b) a);
-      undone = λ y n i d a. elim (in_push y xs new i) [
-        | inl j ↦ elim d [
-          | inl e ↦ let A : ℕ → Type 0 = λ v. After lanes y.number v in t.apart.0 y x.number j (after_self lanes x.number) (subst A (sym e) a)
-          | inr k ↦ t.undone y n (inr j) k a
-        ]
-        | inr e ↦ let A : Turn → Type 0 = λ v. After lanes v.number n in
-            let b : After lanes (x.number + lanes) n = subst A (sym e) a in
-            elim d [
-              | inl f ↦ let far : x.number + lanes ≤ n = after_low lanes (x.number + lanes) n b in absurd (omega arith)
-              | inr k ↦ t.undone x n (inl refl) k (after_next lanes x.number n b)
-            ]
-      ];
-      cover = λ n below. elim (t.cover n below) [
-        | inl d ↦ inl (inr d)
-        | inr r ↦ elim r.1 [
-          | inl e ↦ let A : Turn → Type 0 = λ v. After lanes v.number n in elim (after_cases lanes x.number n (subst A (sym e) r.2)) [
-            | inl f ↦ inl (inl f)
-            | inr a ↦ inr (new, in_last xs new, a)
-          ]
-          | inr j ↦ inr (r.0, in_left r.0 xs (new ∷ []) j, r.2)
-        ]
-      ];
-      done_within = λ n d. elim d [ inl e ↦ let b : x.number < total = t.within x (inl refl) in omega arith | inr k ↦ t.done_within n k ];
-    }
+-- these come after a turn that gives way to them, and what is done of theirs was done before
+abbrev Behind : ℕ → ℕ → ℕ → Turn → List ℕ → List ℕ → Turn → Type 0
+Behind lanes retries total x done now y = (y.number < total) × (y.missed ≡ 0 → y.lost ≡ false) × (y.missed ≤ retries) × ((n : ℕ) → After lanes y.number n → After lanes x.number n × (In n now → In n done))
 
-table_over : {lanes retries total : ℕ} {xs : List Turn} {done : List ℕ} (x : Turn) → total ≤ x.number + lanes → Table lanes retries total (x ∷ xs) done → Table lanes retries total xs (x.number ∷ done)
-table_over {lanes = lanes} {retries = retries} {total = total} {xs = xs} {done = done} x high t =
-    record {
-      within = λ y i. t.within y (inr i);
-      unsent = λ y i. t.unsent y (inr i);
-      few = λ y i. t.few y (inr i);
-      apart = t.apart.1;
-      undone = λ y n i d a. elim d [
-        | inl e ↦ let A : ℕ → Type 0 = λ v. After lanes y.number v in t.apart.0 y x.number i (after_self lanes x.number) (subst A (sym e) a)
-        | inr k ↦ t.undone y n (inr i) k a
-      ];
-      cover = λ n below. elim (t.cover n below) [
-        | inl d ↦ inl (inr d)
-        | inr r ↦ elim r.1 [
-          | inl e ↦ let A : Turn → Type 0 = λ v. After lanes v.number n in elim (after_cases lanes x.number n (subst A (sym e) r.2)) [
-            | inl f ↦ inl (inl f)
-            | inr a ↦ let far : x.number + lanes ≤ n = after_low lanes (x.number + lanes) n a in absurd (omega arith)
-          ]
-          | inr j ↦ inr (r.0, j, r.2)
-        ]
-      ];
-      done_within = λ n d. elim d [ inl e ↦ let b : x.number < total = t.within x (inl refl) in omega arith | inr k ↦ t.done_within n k ];
-    }
+table_moved : {lanes retries total : ℕ} {xs : List Turn} {done : List ℕ} (x : Turn) (ys : List Turn) (now : List ℕ) → Table lanes retries total (x ∷ xs) done → ((y : Turn) → In y ys → Behind lanes retries total x done now y) → Apart lanes (xs ++ ys)
+    → ((n : ℕ) → In n now → (x.number ≡ n) ⊎ In n done) → ((n : ℕ) → In n done → In n now) → ((n : ℕ) → n < total → After lanes x.number n → In n now ⊎ ((y : Turn) × In y ys × After lanes y.number n))
+    → Table lanes retries total (xs ++ ys) now
+table_moved {lanes = lanes} {total = total} {xs = xs} x ys now t new apart less more cover = record {
+  within = λ y i. elim (in_append y xs ys i) [ inl j ↦ t.within y (inr j) | inr j ↦ (new y j).0 ];
+  unsent = λ y i. elim (in_append y xs ys i) [ inl j ↦ t.unsent y (inr j) | inr j ↦ (new y j).1 ];
+  few = λ y i. elim (in_append y xs ys i) [ inl j ↦ t.few y (inr j) | inr j ↦ (new y j).2 ];
+  apart = apart;
+  undone = λ y n i d a. elim (in_append y xs ys i) [
+    | inl j ↦ elim (less n d) [ inl e ↦ t.apart.0 y x.number j (after_self lanes x.number) (subst (After lanes y.number) (sym e) a) | inr k ↦ t.undone y n (inr j) k a ]
+    | inr j ↦ let b = (new y j).3 n a in t.undone x n (inl refl) (b.1 d) b.0
+  ];
+  cover = λ n low. elim (t.cover n low) [
+    | inl d ↦ inl (more n d)
+    | inr r ↦ elim r.1 [
+      | inl e ↦ elim (cover n low (subst (λ (v : Turn). After lanes v.number n) (sym e) r.2)) [ inl d ↦ inl d | inr s ↦ inr (s.0, in_right s.0 xs ys s.1, s.2) ]
+      | inr j ↦ inr (r.0, in_left r.0 xs ys j, r.2)
+    ]
+  ];
+  done_within = λ n d. elim (less n d) [ inl e ↦ subst (λ v. v < total) e (t.within x (inl refl)) | inr k ↦ t.done_within n k ];
+}
+
+one_only : (P : Turn → Type 0) (new : Turn) → P new → (y : Turn) → In y (new ∷ []) → P y
+one_only P new h y i = elim i [ inl e ↦ subst P e h | inr none ↦ absurd none ]
 
 pub table_answered : {lanes retries total : ℕ} {xs : List Turn} {done : List ℕ} (x : Turn) → 0 < lanes → Table lanes retries total (x ∷ xs) done → Table lanes retries total (xs ++ follow lanes total x.number) (x.number ∷ done)
 table_answered {lanes = lanes} {retries = retries} {total = total} {xs = xs} {done = done} x some t =
     let T : List Turn → Type 0 = λ v. Table lanes retries total (xs ++ v) (x.number ∷ done) in
-    let U : List Turn → Type 0 = λ v. Table lanes retries total v (x.number ∷ done) in
+    let new = fresh_turn (x.number + lanes) in
+    let low : (n : ℕ) → After lanes (x.number + lanes) n → x.number + lanes ≤ n = after_low lanes (x.number + lanes) in
     elim (follow_cases lanes total x.number) [
-      | inl h ↦ subst T (sym h.1) (table_next x some h.0 t)
-      | inr h ↦ subst T (sym h.1) (subst U (sym (append-nil xs)) (table_over x h.0 t))
+      | inl h ↦ subst T (sym h.1) (table_moved x (new ∷ []) (x.number ∷ done) t
+          (one_only (Behind lanes retries total x done (x.number ∷ done)) new (h.0, λ e. refl, omega arith, λ n a. (after_next lanes x.number n a, λ d. elim d [ inl e ↦ let far = low n a in absurd (omega (arith, far, e)) | inr k ↦ k ])))
+          (apart_push lanes xs new t.apart.1 (λ y n i a b. t.apart.0 y n i (after_next lanes x.number n b) a))
+          (λ n d. d) (λ n d. inr d) (λ n within a. elim (after_cases lanes x.number n a) [ inl e ↦ inl (inl e) | inr b ↦ inr (new, inl refl, b) ]))
+      | inr h ↦ subst T (sym h.1) (table_moved x [] (x.number ∷ done) t (λ y i. absurd i) (subst (Apart lanes) (sym (append-nil xs)) t.apart.1)
+          (λ n d. d) (λ n d. inr d) (λ n within a. elim (after_cases lanes x.number n a) [ inl e ↦ inl (inl e) | inr b ↦ let far = low n b in let none = h.0 in absurd (omega (arith, far, none, within)) ]))
     ]
 
 -- ---- after a sending with no answer
 
 pub table_again : {lanes retries total : ℕ} {xs : List Turn} {done : List ℕ} (x : Turn) (lost : Bool) → x.missed < retries → Table lanes retries total (x ∷ xs) done → Table lanes retries total (xs ++ again x lost ∷ []) done
 table_again {lanes = lanes} {retries = retries} {total = total} {xs = xs} {done = done} x lost low t =
-    let new = again x lost in
-    let L : Turn → Type 0 = λ v. v.number < total in
-    let F : Turn → Type 0 = λ v. v.missed ≤ retries in
-    record {
-      within = λ y i. elim (in_push y xs new i) [ inl j ↦ t.within y (inr j) | inr e ↦ subst L e (t.within x (inl refl)) ];
-      unsent = λ y i m. elim (in_push y xs new i) [ inl j ↦ t.unsent y (inr j) m | inr e ↦ let f : x.missed + 1 ≡ y.missed = ap (λ (v : Turn). v.missed) e in absurd (omega arith) ];
-      few = λ y i. elim (in_push y xs new i) [ inl j ↦ t.few y (inr j) | inr e ↦ subst F e (omega arith) ];
-      apart = apart_push lanes xs new t.apart.1 (λ y n i a b. t.apart.0 y n i b a);
-      undone = λ y n i d a. elim (in_push y xs new i) [
-        | inl j ↦ t.undone y n (inr j) d a
-        | inr e ↦ let A : Turn → Type 0 = λ v. After lanes v.number n in t.undone x n (inl refl) d (subst A (sym e) a)
-      ];
-      cover = λ n below. elim (t.cover n below) [
-        | inl d ↦ inl d
-        | inr r ↦ elim r.1 [
-          | inl e ↦ let A : Turn → Type 0 = λ v. After lanes v.number n in inr (new, in_last xs new, subst A (sym e) r.2)
-          | inr j ↦ inr (r.0, in_left r.0 xs (new ∷ []) j, r.2)
-        ]
-      ];
-      done_within = t.done_within;
-    }
+    table_moved x (again x lost ∷ []) done t (one_only (Behind lanes retries total x done done) (again x lost) (t.within x (inl refl), λ e. absurd (omega (arith, e)), omega (arith, low), λ n a. (a, λ d. d)))
+    (apart_push lanes xs (again x lost) t.apart.1 (λ y n i a b. t.apart.0 y n i b a)) (λ n d. inr d) (λ n d. d) (λ n within a. inr (again x lost, inl refl, a))
 
 -- ---- what follows
 

@@ -1,8 +1,7 @@
 -- The answers that are due to an attempt's machines.
-use Rattle.std.proofs.Common.{◌≡◌, ℕ, suc, ◌+◌, ◌<◌, ◌≤◌, ◌^◌, inl, inr, nat_eq, nat_lt, Bool, true, false, cond, List, [], ◌∷◌, ◌++◌, length, take, Option, Some, None, refl, sym, ap, subst, ◌∙◌, arith}
-use Rattle.job_facts.specs.Prelude.{Scene, Upload, listed, live, is_part_number, answer, part_answer, GetObject, ListPage, CreateUpload, UploadPart, Page, Part, Refused, PageEntry, BadPartNumber, HasBucket, IsIn, RisesFrom, File, Who, IsLegal, Script, Drawn, Known, files, drawn_in, first_drawn, file_key, record_key, record_text, keys_on, last_of, page_after, Creating, Sending, file_parts, Write, TaskCommit, Looking, Reading, Checking, attempt_prefix, partition_prefix, TaskAbort, write_wants, task_commit_wants, task_abort_wants, is_magic, FitsPage, Told, known, AreCommits, Facts, Begun, FitsWrite, FitsCommit}
+use Rattle.std.proofs.Common.{◌≡◌, ℕ, suc, ◌+◌, ◌<◌, ◌≤◌, ◌^◌, inl, inr, nat_eq, nat_lt, true, false, List, [], ◌∷◌, ◌++◌, length, take, Option, Some, None, refl, sym, ap, subst, ◌∙◌, arith}
+use Rattle.job_facts.specs.Prelude.{Scene, Upload, listed, live, is_part_number, answer, part_answer, GetObject, ListPage, CreateUpload, UploadPart, Page, PageEntry, HasBucket, IsIn, RisesFrom, File, Who, IsLegal, Script, Drawn, Known, files, drawn_in, first_drawn, file_key, record_key, record_text, keys_on, last_of, page_after, Creating, Sending, file_parts, Write, TaskCommit, Looking, Reading, Checking, attempt_prefix, partition_prefix, TaskAbort, write_wants, task_commit_wants, task_abort_wants, is_magic, FitsPage, Told, known, AreCommits, Facts, Begun, FitsWrite, FitsCommit}
 use Rattle.job_spec.proofs.Common.{some_is, nat_false}
-use Rattle.s3_types.specs.Tags.{plain_tag}
 use Rattle.store_frame.proofs.Flat.{page_rises, joins}
 use Rattle.list_walk.specs.Walks as walks
 use Rattle.job_protocol.specs.Writes as writes
@@ -21,7 +20,8 @@ use Rattle.job_facts.proofs.Shapes.{answer_is}
 use Rattle.job_facts.proofs.Uploads.{drop_more, number_fits}
 use Rattle.job_refinement.specs.Plans.{at_work}
 use Rattle.job_refinement.specs.Due.{FitsDue, ReadsOwn}
-use Rattle.job_refinement.proofs.Pages.{listed_keys, listed_look, sweep_fits}
+use Rattle.list_walk.proofs.Keys.{page_keys}
+use Rattle.job_refinement.proofs.Pages.{sweep_fits}
 
 -- ---- an upload
 
@@ -33,13 +33,9 @@ new_among id (d ∷ ds) h =
     let apart : nat_eq d.upload id ≡ false = nat_false d.upload id (λ e. absurd (omega (arith, low, e))) in
     rw (apart, new_among id ds (λ x i. h x (inr i))) refl
 
-part_by : (b : Bool) (bytes : List ℕ) → b ≡ true → FitsPart (cond b (Part (plain_tag bytes)) (Refused BadPartNumber))
-part_by true bytes h = plain_so bytes
-part_by false bytes h = absurd (cc)
-
 part_fits : (o : Option Upload) (n : ℕ) (bytes : List ℕ) → is_part_number n ≡ true → FitsPart (part_answer o n bytes)
 part_fits None n bytes h = tt
-part_fits (Some u) n bytes h = part_by (is_part_number n) bytes h
+part_fits (Some u) n bytes h = rw h (plain_so bytes)
 
 module _ (w : Script) (minimum : ℕ) (s : Scene) (last : ℕ → Option ℕ) (m : Told) (j : IsLegal w) (f : Facts w minimum s last m) (a : Who) (k : Known) (knows : k.drawn ≡ m.drawn a) where
   create_fits : (key : List ℕ) → FitsCreate k.drawn (answer s (CreateUpload w.dest.bucket key))
@@ -73,7 +69,7 @@ module _ (w : Script) (minimum : ℕ) (s : Scene) (last : ℕ → Option ℕ) (m
       let due : answer s q ≡ Page (take 1000 xs) (nat_lt 1000 (length xs)) = answer_is w s f.there.0 f.there.1 q refl in
       let on : RisesFrom [] (keys ++ keys_on (take 1000 xs)) = joins [] keys (keys_on (take 1000 xs)) rises
       (subst (λ l. RisesFrom l (keys_on (take 1000 xs))) (last_so keys) (page_rises 1000 (attempt_prefix w a) (last_of keys) f.there.0.objects)) in
-      subst (FitsListing keys) (sym due) (listed_keys (attempt_prefix w a) (last_of keys) f.there.0.objects, on)
+      subst (FitsListing keys) (sym due) (page_keys 1000 (attempt_prefix w a) (last_of keys) f.there.0.objects, on)
 
   -- the record of one of its files, which are written
   record_fits : is_magic w.committer ≡ true → s.content.next ≤ 2 ^ 64 → (cs : List File) → AreCommits w minimum (m.drawn a) a cs → (g : File) → IsIn g (files w a) → FitsRecord w a k g (answer s (GetObject w.dest.bucket (record_key w a g)))
@@ -89,7 +85,7 @@ module _ (w : Script) (minimum : ℕ) (s : Scene) (last : ℕ → Option ℕ) (m
 
   -- a look for a key below a partition
   look_fits : (prefix : List ℕ) → FitsPage (answer s (ListPage w.dest.bucket prefix false [] 1))
-  look_fits prefix = subst FitsPage (sym (answer_is w s f.there.0 f.there.1 (ListPage w.dest.bucket prefix false [] 1) refl)) (listed_look prefix f.there.0.objects)
+  look_fits prefix = subst FitsPage (sym (answer_is w s f.there.0 f.there.1 (ListPage w.dest.bucket prefix false [] 1) refl)) (page_keys 1 prefix [] f.there.0.objects)
 
   pub commit_due : s.content.next ≤ 2 ^ 64 → (t : TaskCommit) → FitsCommit w minimum a (known m a) t → ReadsOwn w a t → FitsDue task_commit_wants commit_fits (at_work w minimum a k t) s
   commit_due few (Looking keys) fits own r e repeated = subst (λ q. FitsListing keys (answer s q)) (some_is e) (listing_fits keys fits.2)

@@ -1,7 +1,7 @@
 -- How far the driver's commit has come is kept, whoever sends.
-use Rattle.std.proofs.Common.{◌≡◌, ℕ, ◌<◌, ◌≤◌, ◌^◌, ◌⊎◌, inl, inr, nat_lt, ◌||◌, Bool, true, false, cond, List, [], ◌∷◌, Option, Some, None, refl, sym, ap, subst, ◌∙◌, arith}
-use Rattle.job_spec.proofs.Common.{nat_tests, false_true, tabled_start, tabled_tells}
-use Rattle.job_facts.specs.Prelude.{Scene, answer, effect, IsHonestOutcome, Committer, Magic, Mode, Request, Outcome, Answered, Who, IsLegal, Script, CommitEnd, same_path, Turn, dealt, Commit, Fetching, Replacing, Completing, picks_of, completing, replaced, replacing, decided, commit_start, commit_asks, commit_tells, Setting, Operation, asks, Seen, see, is_begun, is_magic, Told, known, tell, entry, driver_entry, strange_entry, IsForeign, IsAttempt, Hold, Fits, Gone, Commits, NoneEnded, Turned, Times}
+use Rattle.std.proofs.Common.{◌≡◌, ℕ, ◌<◌, ◌≤◌, ◌^◌, ◌⊎◌, ◌||◌, false, Option, Some, None, refl, sym, ap, subst, ◌∙◌, arith}
+use Rattle.job_spec.proofs.Common.{tabled_start, tabled_tells}
+use Rattle.job_facts.specs.Prelude.{Scene, answer, effect, IsHonestOutcome, Request, Outcome, Who, IsLegal, Script, Commit, commit_start, commit_asks, commit_tells, Setting, Operation, asks, Seen, see, is_begun, is_magic, Told, known, tell, entry, driver_entry, strange_entry, IsForeign, IsAttempt, Hold, Fits, Gone, Commits, NoneEnded, Times}
 use Rattle.job_facts.specs.Turning.{Turns}
 use Rattle.job_facts.proofs.Acting.{operation_goes}
 use Rattle.job_facts.proofs.Beside.{beside, job_commit_begins}
@@ -11,35 +11,13 @@ use Rattle.job_facts.proofs.EndedGone.{commit_gone, others_gone}
 use Rattle.job_facts.proofs.FilingLaws.{decides_beside}
 use Rattle.job_facts.proofs.Foreign.{foreign_keeps}
 use Rattle.job_facts.proofs.JobCommitting.{commit_drives, commit_fits}
-use Rattle.job_facts.proofs.Turning.{turns_start, commit_turns}
+use Rattle.job_facts.proofs.Turning.{commit_turns}
 
 -- ---- the beginning
 
--- where there is no task, and no replace mode, no upload is to be completed
-empty_completing : (m : Told) (xs : List Turn) → Turns m (completing [] xs [])
-empty_completing m [] = tt
-empty_completing m (x ∷ xs) = record { only = λ n l e. absurd (omega (arith, l)); done = λ n i. absurd i }
-
 module _ (w : Script) (m : Told) where
-  empty_replacing : (c : Committer) (mode : Mode) → is_magic c ≡ true → Turns m (replacing w [] (replaced c mode w (picks_of [])))
-  empty_replacing Magic mode h = empty_completing m (dealt w.lanes 0)
-  empty_replacing _ mode h = absurd (false_true refl h)
-
-  empty_decided : is_magic w.committer ≡ true → (o : Option CommitEnd) → Turns m (decided w [] o)
-  empty_decided magic (Some end) = tt
-  empty_decided magic None = empty_replacing w.committer w.mode magic
-
   turns_begin : (missing : Option ℕ) → (missing ≡ None → (0 < w.tasks) ⊎ (is_magic w.committer ≡ false) → NoneEnded m) → Turns m (commit_start w missing)
-  turns_begin (Some t) none = tt
-  turns_begin None none = by (nat_lt 0 w.tasks) refl (is_magic w.committer) refl
-    where
-      some : nat_lt 0 w.tasks ≡ true → 0 < w.tasks
-      some e = grind (arith, nat_tests)
-
-      by : (b : Bool) → nat_lt 0 w.tasks ≡ b → (c : Bool) → is_magic w.committer ≡ c → Turns m (cond (nat_lt 0 w.tasks) (Fetching [] 0) (decided w [] (same_path w (picks_of []))))
-      by true e c g = turns_start w m (none refl (inl (some e))) None
-      by false e false g = turns_start w m (none refl (inr g)) None
-      by false e true g = subst (λ b. Turns m (cond b (Fetching [] 0) (decided w [] (same_path w (picks_of []))))) (sym e) (empty_decided g (same_path w (picks_of [])))
+  turns_begin missing h = grind arith
 
 pub commits_begin : (w : Script) (minimum : ℕ) (s : Seen) (m : Told) → IsLegal w → Hold w minimum s m → Gone w s.scene.content m → (missing : Option ℕ) → (missing ≡ None → (0 < w.tasks) ⊎ (is_magic w.committer ≡ false) → NoneEnded m) → Commits w minimum s m (commit_start w missing)
 commits_begin w minimum s m j h gone missing none = record {
@@ -54,8 +32,7 @@ commits_begin w minimum s m j h gone missing none = record {
 -- ---- its own requests
 
 driver_scene : (w : Script) (k : Times) (s : Seen) (n : ℕ) (r : Request) (o : Outcome) → (see w k s (driver_entry n r o)).scene ≡ effect s.scene r o
-driver_scene w k s n r (Answered x) = refl
-driver_scene w k s n r _ = refl
+driver_scene w k s n r o = grind arith
 
 pub commits_go : (g : Setting) → IsLegal g.script → (k : Times) (s : Seen) (m : Told) (n : ℕ) (c : Commit) → Commits g.script g.minimum s m c → s.scene.content.next ≤ 2 ^ 64
     → (r : Request) → commit_asks g.script c ≡ Some r → (o : Outcome) → IsHonestOutcome o (answer s.scene r) → Commits g.script g.minimum (see g.script k s (driver_entry n r o)) (tell g.script m (driver_entry n r o)) (commit_tells g.script c o)
@@ -74,15 +51,11 @@ still_unclean w minimum s m n c v r e o h late = ap (λ b. b || is_begun m.clean
 -- ---- others'
 
 attempt_scene : (w : Script) (k : Times) (s : Seen) (a : Who) (n : ℕ) (r : Request) (o : Outcome) → (see w k s (entry a n r o)).scene ≡ effect s.scene r o
-attempt_scene w k s a n r (Answered x) = refl
-attempt_scene w k s a n r _ = refl
+attempt_scene w k s a n r o = grind arith
 
 -- what nobody but the driver ends stays as it is
 same_turns : (m now : Told) (c : Commit) → now.ended ≡ m.ended → Turns m c → Turns now c
-same_turns m now (Fetching sets n) e h = λ id. ap (λ f. f id) e ∙ h id
-same_turns m now (Replacing sets p ps v n) e h = λ id. ap (λ f. f id) e ∙ h id
-same_turns m now (Completing sets x xs finished) e h = subst (λ f. Turned f sets (x ∷ xs) finished) (sym e) h
-same_turns m now _ e h = tt
+same_turns m now c e h = grind arith
 
 pub commits_beside : (g : Setting) → IsLegal g.script → (k : Times) (s : Seen) (m : Told) (a : Who) (n : ℕ) (c : Commit) → Commits g.script g.minimum s m c → IsAttempt g.script a → (op : Operation) → Fits g.script g.minimum a m op
     → (r : Request) → asks g a (known m a) op ≡ Some r → (o : Outcome) → IsHonestOutcome o (answer s.scene r) → Commits g.script g.minimum (see g.script k s (entry a n r o)) (tell g.script m (entry a n r o)) c

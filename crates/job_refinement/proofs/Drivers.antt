@@ -1,10 +1,9 @@
 -- The answers that are due to the driver's machines.
-use Rattle.std.proofs.Common.{◌≡◌, ℕ, ◌<◌, ◌≤◌, ◌^◌, ◌⊎◌, inl, inr, true, false, List, [], length, Option, Some, None, refl, sym, ap, subst, ◌∙◌}
-use Rattle.job_facts.specs.Prelude.{named_from, Scene, Upload, live, with_key, joined, answer, complete_answer, IsHonestOutcome, Request, PutObject, ListPage, Deleted, Refused, NoSuchBucket, Outcome, Answered, Pending, HasBucket, IsLegal, Script, Turn, nth, completion, abort, deletion, Setup, dest_prefix, partition_prefix, Clean, Sets, all_commits, set_request, set_read, ok_set, Commit, Fetching, Replacing, Completing, Marking, Reverting, CommitOver, job_of, setup_wants, clean_wants, commit_wants, Seen, magic_prefix, FitsSweep, Told, sets_at, Hold, SetsUp, IsCommit, Gone, Commits, Tabled, Reads}
-use Rattle.job_spec.specs.Prelude.{abort_answer, Stored}
+use Rattle.std.proofs.Common.{◌≡◌, ℕ, ◌<◌, ◌≤◌, ◌^◌, ◌⊎◌, inl, inr, true, false, List, [], length, Option, Some, None, refl, sym, ap, subst, ◌∙◌, arith}
+use Rattle.job_facts.specs.Prelude.{named_from, Scene, Upload, live, with_key, joined, answer, complete_answer, IsHonestOutcome, Request, PutObject, ListPage, Refused, NoSuchBucket, Outcome, Answered, Pending, HasBucket, IsLegal, Script, Turn, nth, completion, abort, deletion, Setup, dest_prefix, partition_prefix, Clean, Sets, all_commits, set_request, set_read, ok_set, Commit, Fetching, Replacing, Completing, Marking, Reverting, CommitOver, job_of, setup_wants, clean_wants, commit_wants, Seen, magic_prefix, FitsSweep, Told, sets_at, Hold, SetsUp, IsCommit, Gone, Commits, Tabled, Reads}
+use Rattle.job_spec.specs.Prelude.{abort_answer}
 use Rattle.job_spec.proofs.Common.{some_is, none_some, true_or_false}
 use Rattle.job_protocol.specs.Prelude.{FitsCompletion, lacks_bucket}
-use Rattle.s3_types.specs.Tags.{plain_tag}
 use Rattle.job_protocol.specs.Setup as setup
 use Rattle.job_protocol.specs.Cleanups as clean
 use Rattle.job_setup.specs.Fits as setups
@@ -78,21 +77,14 @@ module _ (w : Script) (minimum : ℕ) (s : Seen) (m : Told) (j : IsLegal w) (h :
 
   -- the bucket is there
   abort_there : (o : Option Upload) → abort_answer o ≡ Refused NoSuchBucket → ⊥
-  abort_there (Some u) e = cc
-  abort_there None e = cc
+  abort_there o e = grind arith
 
   revert_fits : (p : Pending) → IsCommit w minimum m.publish_sent m.drawn p → (r : Request) → (r ≡ abort p) ⊎ (r ≡ deletion p) → answer s.scene r ≡ Refused NoSuchBucket → ⊥
   revert_fits p v r (inl is) e = abort_there (live h.there.0.uploads p.destination p.upload) (sym (answer_is w s.scene h.there.0 h.there.1 (abort p) (ap (λ (z : Pending). z.bucket) v.is)) ∙ ap (answer s.scene) (sym is) ∙ e)
-  revert_fits p v r (inr is) e = gone_not (sym (answer_is w s.scene h.there.0 h.there.1 (deletion p) (ap (λ (z : Pending). z.bucket) v.is)) ∙ ap (answer s.scene) (sym is) ∙ e)
-    where
-      gone_not : Deleted ≡ Refused NoSuchBucket → ⊥
-      gone_not e = cc
+  revert_fits p v r (inr is) e = cc (answer_is w s.scene h.there.0 h.there.1 (deletion p) (ap (λ (z : Pending). z.bucket) v.is), is, e)
 
   put_there : (key bytes : List ℕ) → answer s.scene (PutObject w.dest.bucket key bytes None) ≡ Refused NoSuchBucket → ⊥
-  put_there key bytes e = stored_not (sym (answer_is w s.scene h.there.0 h.there.1 (PutObject w.dest.bucket key bytes None) refl) ∙ e)
-    where
-      stored_not : Stored (plain_tag bytes) ≡ Refused NoSuchBucket → ⊥
-      stored_not e = cc
+  put_there key bytes e = cc (answer_is w s.scene h.there.0 h.there.1 (PutObject w.dest.bucket key bytes None) refl, e)
 
 -- what is due to the present request fits
 module _ (w : Script) (minimum : ℕ) (s : Seen) (m : Told) (j : IsLegal w) (few : s.scene.content.next ≤ 2 ^ 64) where

@@ -1,6 +1,6 @@
 -- The sets of attempts of the job are sets of its tasks.
-use Rattle.std.proofs.Common.{◌≡◌, ℕ, zero, suc, inl, inr, Bool, List, [], ◌∷◌, map, slice_get, Some, is_some, refl, sym, ap, subst, ◌∙◌}
-use Rattle.job_facts.specs.Prelude.{Committer, Magic, relative_in, Pending, IsIn, File, Who, IsLegal, Script, Drawn, drawn_for, file_key, file_record, files_set, Sets, set_request, job_of, read_script, ApartFiles, AreCommits, knowing, Reads}
+use Rattle.std.proofs.Common.{◌≡◌, ℕ, zero, suc, inl, inr, Bool, List, [], ◌∷◌, map, slice_get, Some, is_some, refl, sym, ap, subst, ◌∙◌, arith}
+use Rattle.job_facts.specs.Prelude.{Committer, relative_in, Pending, IsIn, File, Who, IsLegal, Script, Drawn, drawn_for, file_key, file_record, files_set, Sets, set_request, job_of, read_script, ApartFiles, AreCommits, knowing, Reads}
 use Rattle.job_spec.proofs.Common.{below_is, some_is, none_some}
 use Rattle.path_keys.proofs.Beneath.{behind_some}
 use Rattle.job_facts.proofs.Legal.{some_dest}
@@ -53,5 +53,4 @@ module _ {w : Script} (j : IsLegal w) where
 
 -- the read of a set by the script that the sets tell
 pub same_read : (c : Committer) (w : Script) (sets : Sets) (t : ℕ) → set_request c (read_script (job_of w) sets) t ≡ set_request c w t
-same_read Magic w sets t = refl
-same_read _ w sets t = refl
+same_read c w sets t = grind arith

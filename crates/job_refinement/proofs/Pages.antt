@@ -1,23 +1,15 @@
 -- The answers to requests for pages, where their bucket is there.
-use Rattle.std.proofs.Common.{ℕ, false, List, [], take, refl, sym, subst}
-use Rattle.job_facts.specs.Prelude.{Objects, Scene, listed, answer, UploadRef, HasBucket, Script, Sweep, Listing, Deleting, last_of, page_after, uploads_after, sweep_asks, FitsPage, FitsSweep}
+use Rattle.std.proofs.Common.{ℕ, List, refl, sym, subst}
+use Rattle.job_facts.specs.Prelude.{Scene, answer, UploadRef, HasBucket, Script, Sweep, Listing, Deleting, last_of, page_after, uploads_after, sweep_asks, FitsPage, FitsSweep}
 use Rattle.job_protocol.specs.Prelude.{FitsUploads}
 use Rattle.job_facts.proofs.Shapes.{answer_is}
-use Rattle.list_walk.specs.Fitting.{AreKeys}
 use Rattle.list_walk.proofs.Keys.{page_keys}
-
-pub listed_keys : (p l : List ℕ) (m : Objects) → AreKeys (take 1000 (listed p false l m))
-listed_keys = page_keys 1000
-
--- a page of one entry at the most, from the beginning
-pub listed_look : (p : List ℕ) (m : Objects) → AreKeys (take 1 (listed p false [] m))
-listed_look p m = page_keys 1 p [] m
 
 -- ---- answers
 
 module _ (w : Script) (s : Scene) (there : HasBucket s.content w.dest.bucket) where
   pub page_fits : (p : List ℕ) (keys : List (List ℕ)) → FitsPage (answer s (page_after w.dest.bucket p keys))
-  page_fits p keys = subst FitsPage (sym (answer_is w s there.0 there.1 (page_after w.dest.bucket p keys) refl)) (listed_keys p (last_of keys) there.0.objects)
+  page_fits p keys = subst FitsPage (sym (answer_is w s there.0 there.1 (page_after w.dest.bucket p keys) refl)) (page_keys 1000 p (last_of keys) there.0.objects)
 
   pub sweep_fits : (p : List ℕ) (v : Sweep) → FitsSweep v (answer s (sweep_asks w.dest.bucket p v))
   sweep_fits p (Listing keys) = page_fits p keys

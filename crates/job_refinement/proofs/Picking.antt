@@ -1,6 +1,6 @@
 -- The attempts that the driver's commit has picked are those that are seen.
-use Rattle.std.proofs.Common.{◌≡◌, ℕ, zero, suc, ◌+◌, ◌<◌, ◌≤◌, ◌^◌, inl, inr, nat_lt, ◌&&◌, Bool, true, false, cond, List, [], ◌∷◌, ◌++◌, length, slice_get, Option, Some, None, refl, sym, ap, subst, ◌∙◌, length-append}
-use Rattle.job_facts.specs.Prelude.{answer, IsHonestOutcome, Request, Reply, Outcome, Answered, Slow, RequestLost, ReplyLost, PendingSet, Who, IsLegal, Script, CommitEnd, same_path, files_set, Sweep, Listing, Deleting, sweep_hears, Turn, again, follow, dealt, revert, Sets, picks_of, all_commits, set_request, set_read, ok_set, Commit, Fetching, Replacing, Completing, Marking, Reverting, CommitOver, is_no_magic, completing, replaced, replacing, decided, fetching, fetched, swept, reverting, worn_completion, commit_start, commit_asks, commit_misses, commit_tells, with_pick, picked_after, Setting, Seen, see, is_reading, Told, entry, driver_entry, knowing, Commits, Times, is_picking}
+use Rattle.std.proofs.Common.{◌≡◌, ℕ, zero, suc, ◌+◌, ◌<◌, ◌≤◌, ◌^◌, inl, inr, nat_lt, ◌&&◌, Bool, true, false, cond, List, [], ◌∷◌, ◌++◌, length, slice_get, Option, Some, None, refl, sym, ap, subst, ◌∙◌, arith, length-append}
+use Rattle.job_facts.specs.Prelude.{answer, IsHonestOutcome, Request, Reply, Outcome, Answered, Slow, PendingSet, Who, IsLegal, Script, CommitEnd, same_path, files_set, Listing, Sets, picks_of, set_request, set_read, ok_set, Commit, Fetching, Replacing, Reverting, CommitOver, decided, fetching, fetched, commit_start, commit_asks, commit_misses, commit_tells, with_pick, picked_after, Setting, Seen, see, is_reading, Told, entry, driver_entry, knowing, Commits, Times, is_picking}
 use Rattle.job_spec.proofs.Common.{some_is, none_some, same_or_not}
 use Rattle.pending_json.specs.Reading as reading
 use Rattle.job_facts.proofs.Reading.{reads_it, reads_other}
@@ -23,49 +23,36 @@ get_other (x ∷ xs) y (suc n) ne = get_other xs y n (λ e. ne (ap suc e))
 
 -- ---- one for each set, while it reads
 
-each_completing : (picked : List ℕ) (sets : Sets) (xs : List Turn) (finished : List ℕ) → IsEachPicked picked (completing sets xs finished)
-each_completing picked sets [] finished = tt
-each_completing picked sets (x ∷ xs) finished = tt
+-- the commit reads sets
+abbrev fetches : Commit → Bool
+fetches (Fetching sets n) = true
+fetches _ = false
 
-each_reverting : (picked : List ℕ) (rs : List Request) → IsEachPicked picked (reverting rs)
-each_reverting picked [] = tt
-each_reverting picked (r ∷ rs) = tt
+-- what has read its sets reads none again
+reads_no_more : (w : Script) (c : Commit) (o : Outcome) → fetches c ≡ false → fetches (commit_tells w c o) ≡ false
+reads_no_more w c o e = grind arith
 
-each_if : (picked : List ℕ) (b : Bool) (c d : Commit) → IsEachPicked picked c → IsEachPicked picked d → IsEachPicked picked (cond b c d)
-each_if picked true c d h g = h
-each_if picked false c d h g = g
+decides : (w : Script) (sets : Sets) (o : Option CommitEnd) → fetches (decided w sets o) ≡ false
+decides w sets o = grind arith
 
 module _ (w : Script) (picked : List ℕ) where
-  each_replacing : (sets : Sets) (ps : List (List ℕ)) → IsEachPicked picked (replacing w sets ps)
-  each_replacing sets [] = each_completing picked sets (dealt w.lanes (length (all_commits sets))) []
-  each_replacing sets (p ∷ ps) = tt
+  each_past : (c : Commit) → fetches c ≡ false → IsEachPicked picked c
+  each_past c e = grind arith
 
-  each_decided : (sets : Sets) (o : Option CommitEnd) → IsEachPicked picked (decided w sets o)
-  each_decided sets (Some end) = tt
-  each_decided sets None = each_replacing sets (replaced w.committer w.mode w (picks_of sets))
+  each_told : (c : Commit) (o : Outcome) → fetches c ≡ false → IsEachPicked picked (commit_tells w c o)
+  each_told c o e = each_past (commit_tells w c o) (reads_no_more w c o e)
+
+  each_if : (b : Bool) (c d : Commit) → IsEachPicked picked c → IsEachPicked picked d → IsEachPicked picked (cond b c d)
+  each_if b c d h g = grind arith
 
   each_fetching : (sets : Sets) → length picked ≡ length sets → IsEachPicked picked (fetching w sets)
-  each_fetching sets e = each_if picked (nat_lt (length sets) w.tasks) (Fetching sets 0) (decided w sets (same_path w (picks_of sets))) e (each_decided sets (same_path w (picks_of sets)))
+  each_fetching sets e = let last = decided w sets (same_path w (picks_of sets)) in each_if (nat_lt (length sets) w.tasks) (Fetching sets 0) last e (each_past last (decides w sets (same_path w (picks_of sets))))
 
-  each_swept : (sets : Sets) (p : List ℕ) (ps : List (List ℕ)) (o : Option Sweep) → IsEachPicked picked (swept w sets p ps o)
-  each_swept sets p ps (Some v) = tt
-  each_swept sets p ps None = each_replacing sets ps
-
-  each_missed : (c : Commit) (lost : Bool) → IsEachPicked picked c → IsEachPicked picked (commit_misses w c lost)
-  each_missed (Fetching sets n) lost h = each_if picked (nat_lt n w.retries) _ _ h tt
-  each_missed (Replacing sets p ps v n) lost h = each_if picked (nat_lt n w.retries) _ _ tt tt
-  each_missed (Completing sets x xs finished) lost h =
-      each_if picked (nat_lt x.missed w.retries) (completing sets (xs ++ again x lost ∷ []) finished) (worn_completion sets x xs finished) (each_completing picked sets (xs ++ again x lost ∷ []) finished) (each_reverting picked (revert (all_commits sets) x.number xs finished))
-  each_missed (Marking sets n) lost h = each_if picked (nat_lt n w.retries) _ _ tt tt
-  each_missed (Reverting r rs n) lost h = each_if picked (nat_lt n w.retries) _ _ tt (each_reverting picked rs)
-  each_missed (CommitOver end) lost h = tt
+  each_missed : (sets : Sets) (n : ℕ) (lost : Bool) → length picked ≡ length sets → IsEachPicked picked (commit_misses w (Fetching sets n) lost)
+  each_missed sets n lost e = each_if (nat_lt n w.retries) _ _ e tt
 
 begins_picked : (w : Script) (s : Seen) → ((t : ℕ) → s.picks t ≡ None) → (missing : Option ℕ) → ArePicked w s [] × IsEachPicked [] (commit_start w missing)
-begins_picked w s none missing = (λ t l. none t, by missing)
-  where
-    by : (o : Option ℕ) → IsEachPicked [] (commit_start w o)
-    by (Some t) = tt
-    by None = each_fetching w [] [] refl
+begins_picked w s none missing = (λ t l. none t, elim missing as (λ o. IsEachPicked [] (commit_start w o)) [ Some t ↦ tt | None ↦ each_fetching w [] [] refl ])
 
 -- ---- a sending
 
@@ -74,8 +61,7 @@ taken : (b c : Bool) (x y : Option ℕ) → b ≡ true → c ≡ true → cond (
 taken b c x y h g = rw (h, g) refl
 
 left : (b c : Bool) (x y : Option ℕ) → c ≡ false → cond (b && c) x y ≡ y
-left true c x y h = ap (λ d. cond d x y) h
-left false c x y h = refl
+left b c x y h = grind arith
 
 -- what is seen of the picks after a sending of the driver's
 module _ (w : Script) (k : Times) (s : Seen) (n : ℕ) (picked : List ℕ) (are : ArePicked w s picked) where
@@ -84,8 +70,7 @@ module _ (w : Script) (k : Times) (s : Seen) (n : ℕ) (picked : List ℕ) (are 
 
   -- a request that reads no set
   other_picked : (r : Request) → ((t : ℕ) → is_reading w t r ≡ false) → (o : Outcome) → ArePicked w (now r o) picked
-  other_picked r not_one (Answered x) = λ t l. left (is_picking k s.begun n) (is_reading w t r) (s.last t) (s.picks t) (not_one t) ∙ are t l
-  other_picked r not_one _ = are
+  other_picked r h o = grind arith
 
 module _ (g : Setting) (j : IsLegal g.script) (k : Times) (s : Seen) (m : Told) (n : ℕ) (few : s.scene.content.next ≤ 2 ^ 64) (begun : is_picking k s.begun n ≡ true) (picked : List ℕ) (are : ArePicked g.script s picked) where
   abbrev w : Script
@@ -130,27 +115,6 @@ module _ (g : Setting) (j : IsLegal g.script) (k : Times) (s : Seen) (m : Told) 
       let got : set_read x ≡ Some h = due ∙ ap ok_set (bytes_read j v.hold few (length sets) stands.0 low y) in
       with_read sets low long y.by.attempt y.latest missed x h got refl
 
-  missed_picked : (c : Commit) (r : Request) (o : Outcome) → ((x : Reply) → o ≡ Answered x → ⊥) → IsEachPicked picked c → Tells c r o
-  missed_picked c r (Answered x) none each = absurd (none x refl)
-  missed_picked (Fetching sets i) r Slow none each = (are, each_missed w picked (Fetching sets i) false each)
-  missed_picked (Fetching sets i) r RequestLost none each = (are, each_missed w picked (Fetching sets i) true each)
-  missed_picked (Fetching sets i) r ReplyLost none each = (are, each_missed w picked (Fetching sets i) true each)
-  missed_picked (Replacing sets p ps v i) r Slow none each = (are, each_missed w picked (Replacing sets p ps v i) false each)
-  missed_picked (Replacing sets p ps v i) r RequestLost none each = (are, each_missed w picked (Replacing sets p ps v i) true each)
-  missed_picked (Replacing sets p ps v i) r ReplyLost none each = (are, each_missed w picked (Replacing sets p ps v i) true each)
-  missed_picked (Completing sets x xs finished) r Slow none each = (are, each_missed w picked (Completing sets x xs finished) false each)
-  missed_picked (Completing sets x xs finished) r RequestLost none each = (are, each_missed w picked (Completing sets x xs finished) true each)
-  missed_picked (Completing sets x xs finished) r ReplyLost none each = (are, each_missed w picked (Completing sets x xs finished) true each)
-  missed_picked (Marking sets i) r Slow none each = (are, each_missed w picked (Marking sets i) false each)
-  missed_picked (Marking sets i) r RequestLost none each = (are, each_missed w picked (Marking sets i) true each)
-  missed_picked (Marking sets i) r ReplyLost none each = (are, each_missed w picked (Marking sets i) true each)
-  missed_picked (Reverting q qs i) r Slow none each = (are, each_missed w picked (Reverting q qs i) false each)
-  missed_picked (Reverting q qs i) r RequestLost none each = (are, each_missed w picked (Reverting q qs i) true each)
-  missed_picked (Reverting q qs i) r ReplyLost none each = (are, each_missed w picked (Reverting q qs i) true each)
-  missed_picked (CommitOver end) r Slow none each = (are, tt)
-  missed_picked (CommitOver end) r RequestLost none each = (are, tt)
-  missed_picked (CommitOver end) r ReplyLost none each = (are, tt)
-
   other : (r : Request) (x : Reply) → ((t : ℕ) → is_reading w t r ≡ false) → ArePicked w (see w k s (driver_entry n r (Answered x))) picked
   other r x not_one = other_picked w k s n picked are r not_one (Answered x)
 
@@ -158,24 +122,20 @@ module _ (g : Setting) (j : IsLegal g.script) (k : Times) (s : Seen) (m : Told) 
   heard_picked (Fetching sets i) v stands each r e x honest =
       let is : set_request w.committer w (length sets) ≡ r = some_is e in
       subst (λ q. Tells (Fetching sets i) q (Answered x)) is (read_picked sets i v stands each x (honest ∙ ap (answer s.scene) (sym is)))
-  heard_picked (Replacing sets p ps (Listing keys) i) v stands each r e x honest = (other r x (λ t. ap (is_reading w t) (sym (some_is e))), each_swept w picked sets p ps (sweep_hears (is_no_magic w) (Listing keys) x))
-  heard_picked (Replacing sets p ps (Deleting q qs) i) v stands each r e x honest = (other r x (λ t. ap (is_reading w t) (sym (some_is e))), each_swept w picked sets p ps (sweep_hears (is_no_magic w) (Deleting q qs) x))
-  heard_picked (Completing sets y ys finished) v stands each r e x honest =
-      (other r x (λ t. ap (is_reading w t) (sym (some_is e))), each_completing picked sets (ys ++ follow w.lanes (length (all_commits sets)) y.number) (y.number ∷ finished))
-  heard_picked (Marking sets i) v stands each r e x honest = (other r x (λ t. ap (is_reading w t) (sym (some_is e))), tt)
+  heard_picked (Replacing sets p ps (Listing keys) i) v stands each r e x honest = (other r x (λ t. ap (is_reading w t) (sym (some_is e))), each_told w picked (Replacing sets p ps (Listing keys) i) (Answered x) refl)
   heard_picked (Reverting q qs i) v stands each r e x honest =
-      (other r x (λ t. ap (is_reading w t) (sym (some_is e)) ∙ elim (v.decides q (inl refl)).2 [ inl is ↦ ap (is_reading w t) is | inr is ↦ ap (is_reading w t) is ]), each_reverting picked qs)
+      (other r x (λ t. ap (is_reading w t) (sym (some_is e)) ∙ elim (v.decides q (inl refl)).2 [ inl is ↦ ap (is_reading w t) is | inr is ↦ ap (is_reading w t) is ]), each_told w picked (Reverting q qs i) (Answered x) refl)
   heard_picked (CommitOver end) v stands each r e x honest = absurd (none_some refl e)
+  heard_picked c v stands each r e x honest = (other r x (λ t. ap (is_reading w t) (sym (some_is e))), each_told w picked c (Answered x) refl)
 
   goes_picked : (c : Commit) → Commits w g.minimum s m c → SetStands w s c → IsEachPicked picked c → (r : Request) → commit_asks w c ≡ Some r → (o : Outcome) → IsHonestOutcome o (answer s.scene r) → Tells c r o
   goes_picked c v stands each r e (Answered x) honest = heard_picked c v stands each r e x honest
-  goes_picked c v stands each r e Slow honest = missed_picked c r Slow (λ x d. absurd cc) each
-  goes_picked c v stands each r e RequestLost honest = missed_picked c r RequestLost (λ x d. absurd cc) each
-  goes_picked c v stands each r e ReplyLost honest = missed_picked c r ReplyLost (λ x d. absurd cc) each
+  goes_picked (Fetching sets i) v stands each r e Slow honest = (are, each_missed w picked sets i false each)
+  goes_picked (Fetching sets i) v stands each r e _ honest = (are, each_missed w picked sets i true each)
+  goes_picked c v stands each r e o honest = (are, each_told w picked c o refl)
 
 attempt_picks : (w : Script) (k : Times) (s : Seen) (a : Who) (n : ℕ) (r : Request) (o : Outcome) → (see w k s (entry a n r o)).picks ≡ s.picks
-attempt_picks w k s a n r (Answered x) = refl
-attempt_picks w k s a n r _ = refl
+attempt_picks w k s a n r o = grind arith
 
 pub picks_tell : PicksTell
 picks_tell = record {

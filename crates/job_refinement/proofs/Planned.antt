@@ -1,10 +1,9 @@
 -- Machines that go by plans want what their operations ask by the script, and go where that is told.
-use Rattle.std.proofs.Common.{◌≡◌, ℕ, zero, suc, ◌+◌, Bool, true, [], length, Option, Some, None, refl, ap, ◌∙◌}
-use Rattle.job_facts.specs.Prelude.{Request, PutObject, CreateUpload, UploadPart, ClusterPut, ClusterRename, Outcome, Answered, Slow, RequestLost, Item, Got, WornOut, OutOfMemory, Retried, fresh, step, unanswered_by, is_zero, File, Who, Script, Known, files, learn, first_drawn, file_key, record_key, record_text, set_text, Uploading, Creating, Sending, upload_asks, setup_after, Write, write_asks, write_after, TaskCommit, Publishing, Uploads, Storing, task_commit_asks, task_commit_after, temporary_path, TaskAbort, task_abort_asks, task_abort_after, clean_after, Attempting, Driving, task_of, task_script, learned, write_wants, write_told, task_commit_wants, task_commit_told, task_abort_wants, task_abort_told, setup_told, clean_told, picked_after, knowing}
+use Rattle.std.proofs.Common.{◌≡◌, ℕ, [], Option, Some, None, refl, ap, ◌∙◌, arith}
+use Rattle.job_facts.specs.Prelude.{Request, PutObject, ClusterPut, Outcome, Item, Retried, step, File, Who, Script, Known, files, set_text, Uploading, upload_asks, setup_after, Write, write_asks, write_after, TaskCommit, Publishing, Uploads, Storing, task_commit_asks, task_commit_after, temporary_path, TaskAbort, task_abort_asks, task_abort_after, clean_after, Attempting, Driving, task_of, task_script, learned, write_told, task_commit_wants, task_commit_told, task_abort_told, setup_told, clean_told, picked_after, knowing}
 use Rattle.job_spec.proofs.Common.{tasks_tell, jobs_tell}
 use Rattle.magic_paths.specs.Layout as layout
-use Rattle.job_protocol.specs.Writes as writes
-use Rattle.job_refinement.specs.Plans.{at_work, planned, driving, driven, committing, worn_if, heard, known_then}
+use Rattle.job_refinement.specs.Plans.{at_work, planned, driving, driven, committing, heard, known_then}
 use Rattle.job_refinement.specs.Laws.{MachinesTell}
 use Rattle.job_refinement.proofs.Telling.{begins_same, asks_same, tells_same}
 
@@ -14,31 +13,14 @@ module _ (w : Script) (n : ℕ) (a : Who) (k : Known) where
   abbrev plan : Script
   plan = task_script (task_of w n a k)
 
-  learn_same : (l : Known) (r : Request) (o : Outcome) → learn plan a l r o ≡ learn w a l r o
-  learn_same l (CreateUpload bucket key) o = refl
-  learn_same l (UploadPart bucket key id number bytes) o = refl
-  learn_same l (PutObject bucket key bytes header) o = refl
-  learn_same l (ClusterPut path bytes) o = refl
-  learn_same l (ClusterRename source target) o = refl
-  learn_same l _ o = refl
-
   learned_same : (l : Known) (r : Option Request) (i : Item) → learned plan a l r i ≡ learned w a l r i
-  learned_same l None i = refl
-  learned_same l (Some r) (Got x repeated) = learn_same l r (Answered x)
-  learned_same l (Some r) WornOut = learn_same l r RequestLost
-  learned_same l (Some r) OutOfMemory = refl
+  learned_same l r i = grind arith
 
   -- ---- a step of an operation under its retries
 
   module _ {O : Type 0} (retries : ℕ) (told : Attempting O → Item → Attempting O) (after : O → Item → O) (wants : O → Option Request) (same : (op : O) (i : Item) → told (at_work w n a k op) i ≡ at_work w n a (learned w a k (wants op) i) (after op i)) where
-    missed : (op : O) (repeated : Bool) (spare : ℕ) → unanswered_by retries told (at_work w n a k op) repeated spare ≡ planned w n a (known_then w a k (wants op) (worn_if (is_zero spare))) (unanswered_by retries after op repeated spare)
-    missed op repeated zero = ap (fresh retries) (same op WornOut)
-    missed op repeated (suc spare) = refl
-
     pub step_same : (t : Retried O) (o : Outcome) → step retries told (planned w n a k t) o ≡ planned w n a (known_then w a k (wants t.operation) (heard t o)) (step retries after t o)
-    step_same t (Answered x) = ap (fresh retries) (same t.operation (Got x t.repeated))
-    step_same t Slow = missed t.operation t.repeated t.spare
-    step_same t _ = missed t.operation true t.spare
+    step_same t o = grind (arith, same)
 
   -- ---- the operations
 
@@ -47,28 +29,23 @@ module _ (w : Script) (n : ℕ) (a : Who) (k : Known) where
   both l m op next e g = ap (λ x. at_work w n a x op) e ∙ ap (at_work w n a m) g
 
   write_same : (op : Write) (i : Item) → write_told (at_work w n a k op) i ≡ at_work w n a (learned w a k (write_asks w a k op) i) (write_after w n op i)
-  write_same op i =
-      both _ _ _ _ (learned_same k (write_wants (at_work w n a k op)) i ∙ ap (λ r. learned w a k r i) (tasks_tell.write_asks w n a k k op)) (tasks_tell.write_goes w n a k op i)
+  write_same op i = grind arith
 
   commit_same : (op : TaskCommit) (i : Item) → task_commit_told (at_work w n a k op) i ≡ at_work w n a (learned w a k (task_commit_asks w a k op) i) (task_commit_after w n a op i)
   commit_same op i =
       both _ _ _ _ (learned_same k (task_commit_wants (at_work w n a k op)) i ∙ ap (λ r. learned w a k r i) (tasks_tell.commit_asks w n a k k op)) (tasks_tell.commit_goes w n a k op i)
 
   abort_same : (op : TaskAbort) (i : Item) → task_abort_told (at_work w n a k op) i ≡ at_work w n a (learned w a k (task_abort_asks w a op) i) (task_abort_after w op i)
-  abort_same op i =
-      both _ _ _ _ (learned_same k (task_abort_wants (at_work w n a k op)) i ∙ ap (λ r. learned w a k r i) (tasks_tell.abort_asks w n a k op)) (tasks_tell.abort_goes w n a k op i)
+  abort_same op i = grind arith
 
 -- ---- by the uploads that are known
 
 module _ (w : Script) (a : Who) (k l : Known) (e : k.drawn ≡ l.drawn) where
   same_upload : (f : File) (u : Uploading) → upload_asks w k f u ≡ upload_asks w l f u
-  same_upload f Creating = refl
-  same_upload f (Sending p ps) = ap (λ ds. UploadPart w.dest.bucket (file_key w f) (first_drawn ds).upload (length (first_drawn ds).tags + 1) p) e
+  same_upload f u = grind arith
 
   pub same_write : (op : Write) → write_asks w a k op ≡ write_asks w a l op
-  same_write (writes.Uploads f fs u) = ap (λ r. Some r) (same_upload f u)
-  same_write (writes.Recording f fs) = ap (λ ds. Some (PutObject w.dest.bucket (record_key w a f) (record_text w a f (first_drawn ds)) None)) e
-  same_write _ = refl
+  same_write op = grind arith
 
   pub same_commit : (op : TaskCommit) → task_commit_asks w a k op ≡ task_commit_asks w a l op
   same_commit (Publishing cs) = ap (λ ds. Some (PutObject w.dest.bucket (layout.set_key w.dest.key w.job a.task) (set_text w a cs (knowing ds)) None)) e
@@ -79,14 +56,8 @@ module _ (w : Script) (a : Who) (k l : Known) (e : k.drawn ≡ l.drawn) where
 -- ---- the driver's
 
 module _ {O : Type 0} (w : Script) (retries : ℕ) (told : Driving O → Item → Driving O) (after : O → Item → O) (same : (op : O) (i : Item) → told (driving w op) i ≡ driving w (after op i)) where
-  missed_driven : (op : O) (repeated : Bool) (spare : ℕ) → unanswered_by retries told (driving w op) repeated spare ≡ driven w (unanswered_by retries after op repeated spare)
-  missed_driven op repeated zero = ap (fresh retries) (same op WornOut)
-  missed_driven op repeated (suc spare) = refl
-
   step_driven : (t : Retried O) (o : Outcome) → step retries told (driven w t) o ≡ driven w (step retries after t o)
-  step_driven t (Answered x) = ap (fresh retries) (same t.operation (Got x t.repeated))
-  step_driven t Slow = missed_driven t.operation t.repeated t.spare
-  step_driven t _ = missed_driven t.operation true t.spare
+  step_driven t o = grind (arith, same)
 
 pub machines_tell : MachinesTell
 machines_tell = record {

@@ -1,7 +1,7 @@
 -- The script that the sets tell is as good as the job's for the commit that holds them.
-use Rattle.std.proofs.Common.{◌≡◌, ℕ, zero, suc, ◌<◌, ◌≤◌, ◌^◌, ◌⊎◌, inl, inr, nat_lt, Bool, true, false, cond, List, [], ◌∷◌, ◌++◌, map, length, slice_get, Option, Some, None, is_some, refl, sym, ap, subst, ◌∙◌}
-use Rattle.job_facts.specs.Prelude.{lookup, option_map, unwrap_or, text_eq, compact_text, Scene, answer, IsHonestOutcome, Committer, Magic, Directory, Partitioned, Mode, Append, Fail, Replace, Request, PutObject, Reply, Outcome, Answered, Slow, RequestLost, ReplyLost, Pending, success_tree, PendingSet, IsIn, File, has_path, Who, IsLegal, Script, Drawn, CommitEnd, Picks, files, files_picked, wanted_below, wanted, wanted_paths, writes, two_where, shared_by, first_shared, same_path, partitions, partition_prefix, file_key, mark_text, files_set, Sweep, Listing, sweep_hears, Sets, picks_of, set_request, set_read, Commit, Fetching, Replacing, Completing, Marking, Reverting, CommitOver, commit_asks, commit_tells, commit_start, is_no_magic, replaced, replacing, decided, fetching, fetched, swept, job_of, read_script, sets_in, sets_after, Told, Facts, knowing, IsHeldSet, Reads, FitsJobCommit}
-use Rattle.job_spec.proofs.Common.{map-append, some_is, none_some, false_true, text_is, text_true, in_map, map_in, in_append, in_front, in_back}
+use Rattle.std.proofs.Common.{◌≡◌, ℕ, zero, suc, ◌<◌, ◌≤◌, ◌^◌, inl, inr, nat_lt, Bool, true, false, cond, List, [], ◌∷◌, ◌++◌, map, length, slice_get, Option, Some, None, is_some, refl, sym, ap, subst, ◌∙◌, arith}
+use Rattle.job_facts.specs.Prelude.{lookup, option_map, unwrap_or, text_eq, compact_text, Scene, answer, IsHonestOutcome, Committer, Mode, Request, PutObject, Reply, Outcome, Answered, Slow, Pending, success_tree, PendingSet, IsIn, File, has_path, Who, IsLegal, Script, Drawn, CommitEnd, Picks, files, files_picked, wanted_below, wanted, wanted_paths, writes, two_where, shared_by, first_shared, same_path, file_key, mark_text, files_set, Sweep, Listing, Sets, picks_of, set_request, set_read, Commit, Fetching, Replacing, Marking, commit_asks, commit_tells, commit_start, replaced, replacing, decided, fetching, fetched, swept, job_of, read_script, sets_in, sets_after, Told, Facts, knowing, IsHeldSet, Reads, FitsJobCommit}
+use Rattle.job_spec.proofs.Common.{map-append, none_some, false_true, true_or_false, text_is, text_true, in_map, map_in, in_append, in_front, in_back}
 use Rattle.job_protocol.specs.Prelude.{with_set}
 use Rattle.magic_paths.specs.Layout as layout
 use Rattle.commit_parts.specs.Relatives.{relative_of}
@@ -35,33 +35,22 @@ same_append xs ys xs' ys' h g = record { there = λ p i. append_in p xs ys xs' y
 -- a file has the path where it is among theirs
 path_in : (fs : List File) (p : List ℕ) → has_path fs p ≡ true → IsIn p (paths fs)
 path_in [] p h = absurd (false_true refl h)
-path_in (f ∷ fs) p h = by (text_eq p f.0) refl h (path_in fs p)
-  where
-    by : (b : Bool) → text_eq p f.0 ≡ b → is_some (cond b (Some f.1) (lookup (text_eq p) fs)) ≡ true → (has_path fs p ≡ true → IsIn p (paths fs)) → (p ≡ f.0) ⊎ IsIn p (paths fs)
-    by true e g later = inl (text_is p f.0 e)
-    by false e g later = inr (later g)
+path_in (f ∷ fs) p h = elim (true_or_false (text_eq p f.0)) [ inl e ↦ inl (text_is p f.0 e) | inr e ↦ inr (path_in fs p (rw e at h)) ]
 
 in_path : (fs : List File) (p : List ℕ) → IsIn p (paths fs) → has_path fs p ≡ true
 in_path [] p i = absurd i
 in_path (f ∷ fs) p (inl e) = ap (λ b. is_some (cond b (Some f.1) (lookup (text_eq p) fs))) (text_true p f.0 e)
-in_path (f ∷ fs) p (inr i) = by (text_eq p f.0) (in_path fs p i)
-  where
-    by : (b : Bool) → has_path fs p ≡ true → is_some (cond b (Some f.1) (lookup (text_eq p) fs)) ≡ true
-    by true h = refl
-    by false h = h
+in_path (f ∷ fs) p (inr i) = grind (arith, in_path fs p i)
 
 same_bools : (a b : Bool) → (a ≡ true → b ≡ true) → (b ≡ true → a ≡ true) → a ≡ b
-same_bools true b h g = sym (h refl)
-same_bools false true h g = g refl
-same_bools false false h g = refl
+same_bools a b h g = grind arith
 
 same_has : (xs ys : List File) → SamePaths xs ys → (p : List ℕ) → has_path xs p ≡ has_path ys p
 same_has xs ys h p = same_bools (has_path xs p) (has_path ys p) (λ e. in_path ys p (h.there p (path_in xs p e))) (λ e. in_path xs p (h.back p (path_in ys p e)))
 
 -- what is deleted for a replace mode does not matter
 replacing_same : (w : Script) (known sets : Sets) (ps : List (List ℕ)) → replacing (read_script (job_of w) known) sets ps ≡ replacing w sets ps
-replacing_same w known sets [] = refl
-replacing_same w known sets (p ∷ ps) = refl
+replacing_same w known sets ps = grind arith
 
 -- ---- the files of the sets
 
@@ -131,13 +120,7 @@ module _ {w : Script} (j : IsLegal w) (minimum : ℕ) (sent : Who → Bool) (dra
   -- ---- how a commit goes on with them
 
   replaced_same : (c : Committer) (mode : Mode) → replaced c mode told picks ≡ replaced c mode w picks
-  replaced_same Magic mode = refl
-  replaced_same Directory Append = refl
-  replaced_same Directory Fail = refl
-  replaced_same Directory Replace = refl
-  replaced_same Partitioned Append = refl
-  replaced_same Partitioned Fail = refl
-  replaced_same Partitioned Replace = ap (λ l. map (partition_prefix w) (partitions l)) paths_same
+  replaced_same c mode = grind (arith, paths_same)
 
   decided_same : (o : Option CommitEnd) → decided told sets o ≡ decided w sets o
   decided_same (Some end) = refl
@@ -162,30 +145,7 @@ asks_same w minimum m j (Marking sets n) fits = ap (λ text. Some (PutObject w.d
 asks_same w minimum m j _ fits = refl
 
 swept_same : (w : Script) (known sets : Sets) (p : List ℕ) (ps : List (List ℕ)) (o : Option Sweep) → swept (read_script (job_of w) known) sets p ps o ≡ swept w sets p ps o
-swept_same w known sets p ps (Some v) = refl
-swept_same w known sets p ps None = replacing_same w known sets ps
-
--- a sending that got no answer
-missed_same : (w : Script) (known : Sets) (c : Commit) (o : Outcome) → ((x : Reply) → o ≡ Answered x → ⊥) → commit_tells (read_script (job_of w) known) c o ≡ commit_tells w c o
-missed_same w known c (Answered x) none = absurd (none x refl)
-missed_same w known (Fetching sets n) Slow none = refl
-missed_same w known (Fetching sets n) RequestLost none = refl
-missed_same w known (Fetching sets n) ReplyLost none = refl
-missed_same w known (Replacing sets p ps v n) Slow none = refl
-missed_same w known (Replacing sets p ps v n) RequestLost none = refl
-missed_same w known (Replacing sets p ps v n) ReplyLost none = refl
-missed_same w known (Completing sets x xs finished) Slow none = refl
-missed_same w known (Completing sets x xs finished) RequestLost none = refl
-missed_same w known (Completing sets x xs finished) ReplyLost none = refl
-missed_same w known (Marking sets n) Slow none = refl
-missed_same w known (Marking sets n) RequestLost none = refl
-missed_same w known (Marking sets n) ReplyLost none = refl
-missed_same w known (Reverting r rs n) Slow none = refl
-missed_same w known (Reverting r rs n) RequestLost none = refl
-missed_same w known (Reverting r rs n) ReplyLost none = refl
-missed_same w known (CommitOver end) Slow none = refl
-missed_same w known (CommitOver end) RequestLost none = refl
-missed_same w known (CommitOver end) ReplyLost none = refl
+swept_same w known sets p ps o = grind arith
 
 module _ (w : Script) (minimum : ℕ) (s : Scene) (last : ℕ → Option ℕ) (m : Told) (j : IsLegal w) (f : Facts w minimum s last m) (few : s.content.next ≤ 2 ^ 64) where
   -- a set that was read, or none
@@ -207,12 +167,9 @@ module _ (w : Script) (minimum : ℕ) (s : Scene) (last : ℕ → Option ℕ) (m
       ]
 
   heard_same : (c : Commit) → FitsJobCommit w minimum m.publish_sent m.drawn c → (r : Request) → commit_asks w c ≡ Some r → (x : Reply) → x ≡ answer s r → commit_tells (read_script (job_of w) (sets_after c (Answered x))) c (Answered x) ≡ commit_tells w c (Answered x)
-  heard_same (Fetching sets n) fits r e x honest = read_same sets fits.0 fits.1 x (honest ∙ ap (answer s) (sym (some_is e)))
-  heard_same (Replacing sets p ps v n) fits r e x honest = swept_same w sets sets p ps (sweep_hears (is_no_magic w) v x)
-  heard_same _ fits r e x honest = refl
+  heard_same c h r g x e = grind (arith, read_same, swept_same)
 
   pub tells_same : (c : Commit) → FitsJobCommit w minimum m.publish_sent m.drawn c → (r : Request) → commit_asks w c ≡ Some r → (o : Outcome) → IsHonestOutcome o (answer s r) → commit_tells (read_script (job_of w) (sets_after c o)) c o ≡ commit_tells w c o
   tells_same c fits r e (Answered x) honest = heard_same c fits r e x honest
-  tells_same c fits r e Slow honest = missed_same w (sets_after c Slow) c Slow (λ x g. absurd cc)
-  tells_same c fits r e RequestLost honest = missed_same w (sets_after c RequestLost) c RequestLost (λ x g. absurd cc)
-  tells_same c fits r e ReplyLost honest = missed_same w (sets_after c ReplyLost) c ReplyLost (λ x g. absurd cc)
+  tells_same (Fetching sets n) fits r e Slow honest = refl
+  tells_same _ fits r e _ honest = refl

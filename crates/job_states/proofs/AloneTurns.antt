@@ -1,7 +1,7 @@
 -- Turns of one actor, one after another.
 use Rattle.std.proofs.Common.{◌≡◌, ℕ, ◌+◌, ◌<◌, ◌≤◌, Bool, true, false, List, [], ◌∷◌, ◌++◌, length, length-append, append_assoc, append-nil, refl, sym, ap, ◌∙◌, arith}
 use Rattle.job_spec.specs.Prelude.{Actor, Entry, AllBy, StepEnds}
-use Rattle.job_states.specs.Turning.{Table, Turned, Going, Ran}
+use Rattle.job_states.specs.Turning.{Table, Beside, Ending, Turned, Going, Ran}
 use Rattle.job_states.specs.declared.actors.Turn.TheVariants.{GoesOn, Ended, Died}
 
 pub all_by_more : (a : Actor) (es : List Entry) (e : Entry) → AllBy a es → e.actor ≡ a → AllBy a (es ++ e ∷ [])
@@ -36,43 +36,32 @@ goes_on {place = place} {s = s} {t = t} {u = u} g turn =
       others = λ q ne. turn.0.others q ne ∙ g.others q ne;
     }
 
-abbrev pub has_ended : {place : ℕ} {s t u : Table} → Going place s t → Turned place t u Ended → Ran place s u
-has_ended {place = place} {s = s} {t = t} {u = u} g turn =
-    let x = turn.1.entry in
-    let before = g.room in
-    let after = turn.2.room in
-    record {
-      part = g.part ++ x ∷ [];
-      by = all_by_more (s.actor place) g.part x g.by (turn.1.by ∙ g.actors place);
-      appended = turn.1.appended ∙ ap (λ es. es ++ x ∷ []) g.appended ∙ append_assoc s.entries g.part (x ∷ []);
-      ending = record {
-        end = turn.2.end;
-        told = turn.2.told ∙ ap (λ xs. xs ++ record { actor = t.actor place; end = turn.2.end } ∷ []) g.ended ∙ ap (λ a. s.ended ++ record { actor = a; end = turn.2.end } ∷ []) (g.actors place);
-        idle = turn.2.idle;
-        room = omega (arith, before, after);
-      };
-      actors = λ q. turn.0.actors q ∙ g.actors q;
-      others = λ q ne. turn.0.others q ne ∙ g.others q ne;
-    }
-
-abbrev pub has_died : {place : ℕ} {s t u : Table} → Going place s t → Turned place t u Died → Ran place s u
-has_died {place = place} {s = s} {t = t} {u = u} g turn =
-    let e = turn.2.0 in
+-- it has ended, and has sent so far
+abbrev ran_on : {place : ℕ} {s t u : Table} → Going place s t → Beside place t u → Ending place t u → (part : List Entry) → AllBy (s.actor place) part → u.entries ≡ s.entries ++ part → Ran place s u
+ran_on {place = place} {s = s} {t = t} {u = u} g b e part by appended =
     let before = g.room in
     let after = e.room in
     record {
-      part = g.part;
-      by = g.by;
-      appended = turn.1 ∙ g.appended;
+      part = part;
+      by = by;
+      appended = appended;
       ending = record {
         end = e.end;
         told = e.told ∙ ap (λ xs. xs ++ record { actor = t.actor place; end = e.end } ∷ []) g.ended ∙ ap (λ a. s.ended ++ record { actor = a; end = e.end } ∷ []) (g.actors place);
         idle = e.idle;
         room = omega (arith, before, after);
       };
-      actors = λ q. turn.0.actors q ∙ g.actors q;
-      others = λ q ne. turn.0.others q ne ∙ g.others q ne;
+      actors = λ q. b.actors q ∙ g.actors q;
+      others = λ q ne. b.others q ne ∙ g.others q ne;
     }
+
+abbrev pub has_ended : {place : ℕ} {s t u : Table} → Going place s t → Turned place t u Ended → Ran place s u
+has_ended {place = place} {s = s} g turn =
+    let x = turn.1.entry in
+    ran_on g turn.0 turn.2 (g.part ++ x ∷ []) (all_by_more (s.actor place) g.part x g.by (turn.1.by ∙ g.actors place)) (turn.1.appended ∙ ap (λ es. es ++ x ∷ []) g.appended ∙ append_assoc s.entries g.part (x ∷ []))
+
+abbrev pub has_died : {place : ℕ} {s t u : Table} → Going place s t → Turned place t u Died → Ran place s u
+has_died g turn = ran_on g turn.0 turn.2.0 g.part g.by (turn.1 ∙ g.appended)
 
 pub one_more : (es : List Entry) (e : Entry) → length (es ++ e ∷ []) ≡ length es + 1
 one_more es e = length-append es (e ∷ [])
@@ -84,5 +73,4 @@ ends_sending false n es e few = let l = one_more es e in (omega (arith, l), omeg
 
 -- and one that found no memory
 pub ends_unsent : (b : Bool) (n : ℕ) (es : List Entry) → b ≡ true → length es ≤ n → StepEnds b n es
-ends_unsent true n es is few = few
-ends_unsent false n es is few = absurd cc
+ends_unsent b n es h g = grind arith

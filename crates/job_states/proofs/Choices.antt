@@ -1,5 +1,5 @@
 -- The choice of who sends next in a mix.
-use Rattle.std.proofs.Common.{◌≡◌, ℕ, suc, ◌+◌, ◌*◌, ◌/◌, ◌%◌, ◌^◌, ◌==◌, ◌<◌, List, length, get_or, slice_get, Some, true, false, ap, sym, ◌∙◌, arith, rules}
+use Rattle.std.proofs.Common.{◌≡◌, ℕ, ◌+◌, ◌*◌, ◌/◌, ◌%◌, ◌^◌, ◌==◌, ◌<◌, List, length, get_or, slice_get, Some, true, false, ap, arith, rules}
 use Rattle.job_spec.proofs.Common.{nat_tests, slice_get-get_or}
 use Rattle.job_spec.specs.Prelude.{draw, place}
 
@@ -7,9 +7,7 @@ pub mod_below : (x n : ℕ) → 0 < n → x % n < n
 mod_below x n h = search (arith, rules)
 
 pub next_drawn : (seed n drawn : ℕ) → drawn ≡ draw seed n → (1103515245 * drawn + 12345) % 2147483648 ≡ draw seed (n + 1)
-next_drawn seed n drawn e =
-    let s : suc n ≡ n + 1 = omega arith in
-    ap (λ v. (1103515245 * v + 12345) % 2147483648) e ∙ ap (draw seed) s
+next_drawn seed n drawn h = grind arith
 
 pub place_is : (seed n drawn m : ℕ) → drawn ≡ draw seed n → (1103515245 * drawn + 12345) % 2147483648 / 65536 % m ≡ place seed (n + 1) m
 place_is seed n drawn m e = ap (λ v. v / 65536 % m) (next_drawn seed n drawn e)
@@ -25,7 +23,4 @@ not_zero n h = grind (arith, nat_tests)
 
 -- the element at a place that is taken modulo the length stands there
 pub picked : (busy : List ℕ) (l n x a : ℕ) → l ≡ length busy → false ≡ (l == 0) → n ≡ l → a ≡ get_or busy (x % n) a → slice_get busy (x % n) ≡ Some a
-picked busy l n x a len some is at =
-    let k : 0 < l = not_zero l some in
-    let below : x % n < n = mod_below x n (omega (arith, k, is)) in
-    slice_get-get_or busy (x % n) a (omega (arith, len, is, below)) ∙ ap (λ v. Some v) (sym at)
+picked busy l n x a h g e f = grind (arith, not_zero, mod_below, slice_get-get_or)

@@ -1,5 +1,5 @@
 -- Events of a script, one after another.
-use Rattle.std.proofs.Common.{◌≡◌, ℕ, zero, suc, ◌+◌, ◌<◌, List, [], ◌∷◌, length, drop, get_or, refl, sym, ap, subst, ◌∙◌, arith}
+use Rattle.std.proofs.Common.{◌≡◌, ℕ, zero, suc, ◌+◌, ◌<◌, List, [], ◌∷◌, length, drop, get_or, sym, ap, subst, ◌∙◌, arith}
 use Rattle.proof_base.proofs.Common.{drop_more}
 use Rattle.job_spec.specs.Prelude.{Declared, Script, IsEvent, AreEvents, Event, EventFault, EventEnd, Past, open_event, told, end_ops, after_event}
 use Rattle.job_model.specs.declared.ends.EventEnd.TheVariants.{Refused}
@@ -7,8 +7,7 @@ use Rattle.job_spec.specs.States.{count}
 
 -- an event that is not refused is opened, and then its ends come
 pub after_played : (w : Script) (p : Past) (ev : Event) (end : EventEnd) → ((f : EventFault) → end ≡ Refused f → ⊥) → after_event w p ev end ≡ count (end_ops (open_event w p ev) (told ev end))
-after_played w p ev (Refused f) fine = absurd (fine f refl)
-after_played w p ev _ fine = refl
+after_played w p ev end h = grind arith
 
 -- an event of a script is one of the driver or of a declared attempt
 pub event_at : (ds : List Declared) (evs : List Event) (i : ℕ) (ev : Event) → AreEvents ds evs → i < length evs → ev ≡ get_or evs i ev → IsEvent ds ev

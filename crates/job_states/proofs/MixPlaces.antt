@@ -1,15 +1,10 @@
 -- Lists of places that are apart, and their actors.
-use Rattle.std.proofs.Common.{◌≡◌, ℕ, zero, suc, ◌==◌, ◌⊎◌, inl, inr, Bool, true, false, arith, List, [], ◌∷◌, map, length, slice_get, Some, refl, sym, ap, ◌∙◌}
+use Rattle.std.proofs.Common.{◌≡◌, ℕ, zero, suc, List, [], ◌∷◌, map, slice_get, Some, refl, sym, ap, ◌∙◌}
 use Rattle.job_spec.specs.Prelude.{remove}
-use Rattle.job_spec.proofs.Common.{nat_tests, some_is, none_some}
+use Rattle.std.specs.Prelude.{option_map}
+use Rattle.std.proofs.lemmas.Option.{slice_get-map}
+use Rattle.job_spec.proofs.Common.{some_is, none_some}
 use Rattle.job_states.specs.Mixes.{IsNotIn, AreApart}
-
-eq_or : (a b : ℕ) (t : Bool) → (a == b) ≡ t → (a ≡ b) ⊎ (a ≡ b → ⊥)
-eq_or a b true h = inl (grind (arith, nat_tests))
-eq_or a b false h = inr (λ e. grind (arith, nat_tests))
-
-pub same_or_not : (a b : ℕ) → (a ≡ b) ⊎ (a ≡ b → ⊥)
-same_or_not a b = eq_or a b (a == b) refl
 
 not_in_get : (a : ℕ) (xs : List ℕ) (i b : ℕ) → IsNotIn a xs → slice_get xs i ≡ Some b → b ≡ a → ⊥
 not_in_get a [] i b n e h = none_some refl e
@@ -44,20 +39,10 @@ get_remove (x ∷ xs) (suc p) a e zero b g ne = (0, g)
 get_remove (x ∷ xs) (suc p) a e (suc j) b g ne = let r = get_remove xs p a e j b g ne in (suc r.0, r.1)
 
 pub get_map : {X : Type 0} (f : ℕ → X) (xs : List ℕ) (i a : ℕ) → slice_get xs i ≡ Some a → slice_get (map f xs) i ≡ Some (f a)
-get_map f [] i a e = absurd (none_some refl e)
-get_map f (x ∷ xs) zero a e = ap (λ v. Some (f v)) (some_is e)
-get_map f (x ∷ xs) (suc i) a e = get_map f xs i a e
+get_map f xs i a e = slice_get-map f xs i ∙ ap (option_map f) e
 
 pub remove_map : {X : Type 0} (f : ℕ → X) (xs : List ℕ) (p : ℕ) → map f (remove xs p) ≡ remove (map f xs) p
 remove_map f [] zero = refl
 remove_map f [] (suc p) = refl
 remove_map f (x ∷ xs) zero = refl
 remove_map f (x ∷ xs) (suc p) = ap (λ ys. f x ∷ ys) (remove_map f xs p)
-
-pub length_of_map : {X : Type 0} (f : ℕ → X) (xs : List ℕ) → length (map f xs) ≡ length xs
-length_of_map f [] = refl
-length_of_map f (x ∷ xs) = ap (λ n. suc n) (length_of_map f xs)
-
-pub none_empty : (xs : List ℕ) → length xs ≡ 0 → xs ≡ []
-none_empty [] e = refl
-none_empty (x ∷ xs) e = absurd cc

@@ -1,13 +1,14 @@
 -- Turns of actors that are mixed.
-use Rattle.std.proofs.Common.{◌≡◌, ℕ, ◌+◌, ◌*◌, ◌/◌, ◌%◌, ◌^◌, ◌<◌, ◌≤◌, ◌⊎◌, inl, inr, true, false, List, [], ◌∷◌, ◌++◌, map, length, length-append, append_assoc, append-nil, slice_get, Some, refl, sym, ap, subst, ◌∙◌, arith}
-use Rattle.job_spec.specs.Prelude.{remove, Actor, Entry, ActorEnd, Mixing, mix_begins, draw, place}
-use Rattle.job_spec.proofs.Common.{slice_get_within, none_some}
+use Rattle.std.proofs.Common.{◌≡◌, ℕ, ◌+◌, ◌*◌, ◌/◌, ◌%◌, ◌^◌, ◌<◌, ◌≤◌, inl, inr, true≢false, List, [], ◌∷◌, ◌++◌, map, length, length-append, append_assoc, append-nil, slice_get, Some, refl, sym, ap, subst, ◌∙◌, arith}
+use Rattle.job_spec.specs.Prelude.{remove, Actor, Entry, ActorEnd, OpEnd, Mixing, mix_begins, draw, place}
+use Rattle.job_spec.proofs.Common.{slice_get_within, length-map, none_some, same_or_not}
+use Rattle.std.proofs.lemmas.List.{nil_from_length}
 use Rattle.std.proofs.lemmas.List.Edits.{length-remove}
 use Rattle.job_spec.specs.Turns.{mix_sends, mix_ends, mix_dies}
-use Rattle.job_states.specs.Turning.{Table, Turned}
+use Rattle.job_states.specs.Turning.{Table, Beside, Ending, Turned}
 use Rattle.job_states.specs.Mixes.{AreApart, AreGoing, Mixed, Mixes}
 use Rattle.job_states.specs.declared.actors.Turn.TheVariants.{GoesOn, Ended, Died}
-use Rattle.job_states.proofs.MixPlaces.{same_or_not, remove_apart, remove_get, get_remove, get_map, remove_map, length_of_map, none_empty}
+use Rattle.job_states.proofs.MixPlaces.{remove_apart, remove_get, get_remove, get_map, remove_map}
 use Rattle.job_states.proofs.Choices.{place_is, next_drawn}
 
 pub mixes_begin : (seed : ℕ) (places : List ℕ) (drawn : ℕ) (s : Table) → AreApart places → AreGoing s places → length places ≤ s.room → drawn ≡ seed % 2 ^ 31 → drawn < 2 ^ 31 → Mixes seed places places drawn s s
@@ -32,7 +33,7 @@ module _ {seed : ℕ} {places busy : List ℕ} {drawn : ℕ} {s t : Table} (u : 
   -- the place where the chosen actor stands
   chosen : (n next : ℕ) → next ≡ (1103515245 * drawn + 12345) % 2147483648 → p ≡ next / 65536 % n → n ≡ length busy → p ≡ place seed (length m.part + 1) (length (map s.actor busy))
   chosen n next next_is p_is n_is =
-      p_is ∙ ap (λ v. next / 65536 % v) (n_is ∙ sym (length_of_map s.actor busy)) ∙ ap (λ v. v / 65536 % length (map s.actor busy)) next_is ∙ place_is seed (length m.part) drawn (length (map s.actor busy)) m.drawn
+      p_is ∙ ap (λ v. next / 65536 % v) (n_is ∙ sym (length-map busy s.actor)) ∙ ap (λ v. v / 65536 % length (map s.actor busy)) next_is ∙ place_is seed (length m.part) drawn (length (map s.actor busy)) m.drawn
 
   stands : (x : Actor) → x ≡ t.actor a → slice_get (map s.actor busy) p ≡ Some x
   stands x is = get_map s.actor busy p a at ∙ ap (λ v. Some v) (sym (is ∙ m.actors a))
@@ -61,106 +62,66 @@ module _ {seed : ℕ} {places busy : List ℕ} {drawn : ℕ} {s t : Table} (u : 
         ];
         room = omega (arith, room, after);
         over = λ i q g. elim (m.over i q g) [
-          | inl h ↦ inl (turn.0.others q (λ is. absurd (true_false (sym (m.going p a at) ∙ ap t.goes_on (sym is) ∙ h))) ∙ h)
+          | inl h ↦ inl (turn.0.others q (λ is. absurd (true≢false (sym (m.going p a at) ∙ ap t.goes_on (sym is) ∙ h))) ∙ h)
           | inr y ↦ inr y
         ];
         others = λ q ne. turn.0.others q (λ is. let i = m.among p a at in ne i.0 (i.1 ∙ ap (λ v. Some v) (sym is))) ∙ m.others q ne;
         among = m.among;
         actors = λ q. turn.0.actors q ∙ m.actors q;
       }
-    where
-      true_false : true ≡ false → ⊥
-      true_false e = cc
 
   -- without the actor at a place
-  left_apart : (rest : List ℕ) → rest ≡ remove busy p → AreApart rest
-  left_apart rest is = subst AreApart (sym is) (remove_apart busy p m.apart)
-
-  left_going : (rest : List ℕ) → rest ≡ remove busy p → ((q : ℕ) → (q ≡ a → ⊥) → u.goes_on q ≡ t.goes_on q) → AreGoing u rest
-  left_going rest is others i q g =
-      let r = remove_get busy p a m.apart at i q (ap (λ v. slice_get v i) (sym is) ∙ g) in
-      others q r.2 ∙ m.going r.0 q r.1
-
-  left_over : (rest : List ℕ) → rest ≡ remove busy p → u.goes_on a ≡ false → ((q : ℕ) → (q ≡ a → ⊥) → u.goes_on q ≡ t.goes_on q) → (i q : ℕ) → slice_get places i ≡ Some q → (u.goes_on q ≡ false) ⊎ ((j : ℕ) × (slice_get rest j ≡ Some q))
-  left_over rest is idle others i q g = elim (same_or_not q a) [
-    | inl same ↦ inl (ap u.goes_on same ∙ idle)
-    | inr ne ↦ elim (m.over i q g) [
-      | inl h ↦ inl (others q ne ∙ h)
-      | inr y ↦ let r = get_remove busy p a at y.0 q y.1 ne in inr (r.0, ap (λ v. slice_get v r.0) is ∙ r.1)
-    ]
-  ]
-
-  left_among : (rest : List ℕ) → rest ≡ remove busy p → (j q : ℕ) → slice_get rest j ≡ Some q → (i : ℕ) × (slice_get places i ≡ Some q)
-  left_among rest is j q g =
-      let r = remove_get busy p a m.apart at j q (ap (λ v. slice_get v j) (sym is) ∙ g) in
-      m.among r.0 q r.1
-
-  left_others : (rest : List ℕ) → ((q : ℕ) → (q ≡ a → ⊥) → u.goes_on q ≡ t.goes_on q) → (q : ℕ) → ((i : ℕ) → slice_get places i ≡ Some q → ⊥) → u.goes_on q ≡ s.goes_on q
-  left_others rest others q ne = others q (λ is. let i = m.among p a at in ne i.0 (i.1 ∙ ap (λ v. Some v) (sym is))) ∙ m.others q ne
-
-  left_room : (rest : List ℕ) → rest ≡ remove busy p → t.room ≤ u.room + 1 → length rest ≤ u.room
-  left_room rest is room =
+  mixes_less : (rest : List ℕ) (next : ℕ) → rest ≡ remove busy p → Beside a t u → Ending a t u → (part : List Entry) (end : OpEnd) → u.entries ≡ s.entries ++ part → next ≡ draw seed (length part) → next < 2 ^ 31
+      → Mixing seed (map s.actor places) part (m.ends ++ record { actor = t.actor a; end = end } ∷ []) (remove (map s.actor busy) p) → u.ended ≡ t.ended ++ record { actor = t.actor a; end = end } ∷ [] → Mixes seed places rest next s u
+  mixes_less rest next is b ending part end appended drawn small mixing told =
+      let x : ActorEnd = record { actor = t.actor a; end = end } in
       let shorter : length (remove busy p) + 1 ≡ length busy = length-remove busy p (slice_get_within busy p a at) in
       let before = m.room in
       let same : length rest ≡ length (remove busy p) = ap length is in
-      omega (arith, shorter, before, same, room)
-
-  removed : (rest : List ℕ) → rest ≡ remove busy p → remove (map s.actor busy) p ≡ map s.actor rest
-  removed rest is = sym (ap (map s.actor) is ∙ remove_map s.actor busy p)
-
-  told_more : (x : ActorEnd) → u.ended ≡ t.ended ++ x ∷ [] → u.ended ≡ s.ended ++ (m.ends ++ x ∷ [])
-  told_more x is = is ∙ ap (λ xs. xs ++ x ∷ []) m.told ∙ append_assoc s.ended m.ends (x ∷ [])
+      let room = ending.room in
+      let left : (i q : ℕ) → slice_get rest i ≡ Some q → (j : ℕ) × (slice_get busy j ≡ Some q) × (q ≡ a → ⊥) = λ i q g. remove_get busy p a m.apart at i q (ap (λ v. slice_get v i) (sym is) ∙ g) in
+      record {
+        part = part;
+        ends = m.ends ++ x ∷ [];
+        appended = appended;
+        told = told ∙ ap (λ xs. xs ++ x ∷ []) m.told ∙ append_assoc s.ended m.ends (x ∷ []);
+        mixing = subst (Mixing seed (map s.actor places) part (m.ends ++ x ∷ [])) (sym (ap (map s.actor) is ∙ remove_map s.actor busy p)) mixing;
+        drawn = drawn;
+        small = small;
+        apart = subst AreApart (sym is) (remove_apart busy p m.apart);
+        going = λ i q g. let r = left i q g in b.others q r.2 ∙ m.going r.0 q r.1;
+        room = omega (arith, shorter, before, same, room);
+        over = λ i q g. elim (same_or_not q a) [
+          | inl at_a ↦ inl (ap u.goes_on at_a ∙ ending.idle)
+          | inr ne ↦ elim (m.over i q g) [
+            | inl h ↦ inl (b.others q ne ∙ h)
+            | inr y ↦ let r = get_remove busy p a at y.0 q y.1 ne in inr (r.0, ap (λ v. slice_get v r.0) is ∙ r.1)
+          ]
+        ];
+        others = λ q ne. b.others q (λ at_a. let i = m.among p a at in ne i.0 (i.1 ∙ ap (λ v. Some v) (sym at_a))) ∙ m.others q ne;
+        among = λ j q g. let r = left j q g in m.among r.0 q r.1;
+        actors = λ q. b.actors q ∙ m.actors q;
+      }
 
   pub mixes_end : (n next : ℕ) (rest : List ℕ) → rest ≡ remove busy p → next ≡ (1103515245 * drawn + 12345) % 2147483648 → next < 2 ^ 31 → p ≡ next / 65536 % n → n ≡ length busy → Turned a t u Ended → Mixes seed places rest next s u
   mixes_end n next rest is next_is small p_is n_is turn =
       let e = turn.1.entry in
       let end = turn.2.end in
       let where_is = chosen n next next_is p_is n_is in
-      let P : ℕ → Type 0 = λ v. Mixing seed (map s.actor places) (m.part ++ e ∷ []) (m.ends ++ record { actor = e.actor; end = end } ∷ []) (remove (map s.actor busy) v) in
-      let mixed : Mixing seed (map s.actor places) (m.part ++ e ∷ []) (m.ends ++ record { actor = e.actor; end = end } ∷ []) (remove (map s.actor busy) p) = subst P (sym where_is) (mix_ends m.part m.ends (map s.actor busy) e end m.mixing (ap (slice_get (map s.actor busy)) (sym where_is) ∙ stands e.actor turn.1.by)) in
-      let Q : List Actor → Type 0 = λ v. Mixing seed (map s.actor places) (m.part ++ e ∷ []) (m.ends ++ record { actor = e.actor; end = end } ∷ []) v in
-      record {
-        part = m.part ++ e ∷ [];
-        ends = m.ends ++ record { actor = e.actor; end = end } ∷ [];
-        appended = turn.1.appended ∙ ap (λ es. es ++ e ∷ []) m.appended ∙ append_assoc s.entries m.part (e ∷ []);
-        told = told_more (record { actor = e.actor; end = end }) (turn.2.told ∙ ap (λ v. t.ended ++ record { actor = v; end = end } ∷ []) (sym turn.1.by));
-        mixing = subst Q (removed rest is) mixed;
-        drawn = next_is ∙ next_drawn seed (length m.part) drawn m.drawn ∙ ap (draw seed) (longer e);
-        small = small;
-        apart = left_apart rest is;
-        going = left_going rest is turn.0.others;
-        room = left_room rest is turn.2.room;
-        over = left_over rest is turn.2.idle turn.0.others;
-        others = left_others rest turn.0.others;
-        among = left_among rest is;
-        actors = λ q. turn.0.actors q ∙ m.actors q;
-      }
+      let P : ℕ → Actor → Type 0 = λ v x. Mixing seed (map s.actor places) (m.part ++ e ∷ []) (m.ends ++ record { actor = x; end = end } ∷ []) (remove (map s.actor busy) v) in
+      mixes_less rest next is turn.0 turn.2 (m.part ++ e ∷ []) end (turn.1.appended ∙ ap (λ es. es ++ e ∷ []) m.appended ∙ append_assoc s.entries m.part (e ∷ []))
+      (next_is ∙ next_drawn seed (length m.part) drawn m.drawn ∙ ap (draw seed) (longer e)) small
+      (subst (P p) turn.1.by (subst (λ v. P v e.actor) (sym where_is) (mix_ends m.part m.ends (map s.actor busy) e end m.mixing (ap (slice_get (map s.actor busy)) (sym where_is) ∙ stands e.actor turn.1.by))))
+      turn.2.told
 
   pub mixes_die : (rest : List ℕ) → rest ≡ remove busy p → Turned a t u Died → Mixes seed places rest drawn s u
   mixes_die rest is turn =
       let y = turn.2.0 in
-      let x : ActorEnd = record { actor = t.actor a; end = y.end } in
-      let Q : List Actor → Type 0 = λ v. Mixing seed (map s.actor places) m.part (m.ends ++ x ∷ []) v in
-      record {
-        part = m.part;
-        ends = m.ends ++ x ∷ [];
-        appended = turn.1 ∙ m.appended;
-        told = told_more x y.told;
-        mixing = subst Q (removed rest is) (mix_dies m.part m.ends (map s.actor busy) p (t.actor a) y.end m.mixing (stands (t.actor a) refl) turn.2.1);
-        drawn = m.drawn;
-        small = m.small;
-        apart = left_apart rest is;
-        going = left_going rest is turn.0.others;
-        room = left_room rest is y.room;
-        over = left_over rest is y.idle turn.0.others;
-        others = left_others rest turn.0.others;
-        among = left_among rest is;
-        actors = λ q. turn.0.actors q ∙ m.actors q;
-      }
+      mixes_less rest drawn is turn.0 y m.part y.end (turn.1 ∙ m.appended) m.drawn m.small (mix_dies m.part m.ends (map s.actor busy) p (t.actor a) y.end m.mixing (stands (t.actor a) refl) turn.2.1) y.told
 
 pub mixes_over : {seed : ℕ} {places busy : List ℕ} {drawn : ℕ} {s t : Table} → Mixes seed places busy drawn s t → length busy ≡ 0 → Mixed seed places s t
 mixes_over {seed = seed} {places = places} {busy = busy} {s = s} {t = t} m none =
-    let empty = none_empty busy none in
+    let empty = nil_from_length busy none in
     let P : List ℕ → Type 0 = λ v. Mixing seed (map s.actor places) m.part m.ends (map s.actor v) in
     record {
       part = m.part;

@@ -1,4 +1,4 @@
-use Rattle.std.proofs.Common.{◌≡◌, ◌∙◌, ◌+◌, ◌++◌, List, suc, ℕ, map, set, take, drop, get_or, ap, subst, arith}
+use Rattle.std.proofs.Common.{◌≡◌, ◌∙◌, ◌+◌, ◌++◌, List, suc, ℕ, map, set, take, drop, get_or, ap, arith}
 use Rattle.job_states.specs.declared.standing.Standing.{Standing}
 use Rattle.job_states.specs.Standing.{unreported_in}
 use Rattle.job_states.proofs.ToldLemmas.{mapped_more}

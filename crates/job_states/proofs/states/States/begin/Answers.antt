@@ -1,9 +1,9 @@
-use Rattle.std.proofs.Common.{◌∙◌, sym, subst}
+use Rattle.std.proofs.Common.{◌∙◌, true≢false, sym, subst}
 use Rattle.job_spec.specs.Prelude.{begin}
 use Rattle.job_states.specs.declared.standing.Standing.{Standing}
 use Rattle.job_states.specs.Standing.{standing}
 use Rattle.job_states.specs.Stands.{Kept, Stands, ChangesAt}
-use Rattle.job_states.proofs.StandsLemmas.{changes_begin, others_begin}
+use Rattle.job_states.proofs.StandsLemmas.{changes_begin, others_put}
 use Rattle.job_states.proofs.states.States.begin.Goals as goal
 
 pub returns-clause-stands : goal.returns-clause-stands
@@ -21,5 +21,5 @@ returns-clause-stands c = λ p h.
       reported = k.reported;
       setup = c.setup_begun-self-inside.ensures p.setup k.setup;
       commit = c.commit_begun-self-inside.ensures p.commit k.commit;
-      others = others_begin w p a c.args.op c.requires k.others;
+      others = others_put w p a _ k.others (λ u. absurd (true≢false (sym c.requires ∙ u)));
     }

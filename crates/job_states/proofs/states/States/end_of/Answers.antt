@@ -1,9 +1,11 @@
 use Rattle.std.proofs.Common.{◌≡◌, ◌∙◌, true, sym, subst}
-use Rattle.job_spec.specs.Prelude.{is_known, is_reported, ActorEnd, end_op}
+use Rattle.job_spec.specs.Prelude.{is_commit, is_known, is_reported, ActorEnd, end_op}
+use Rattle.job_spec.specs.States.{is_setup}
+use Rattle.job_model.specs.declared.events.Op.TheVariants.{Setup, Commit}
 use Rattle.job_states.specs.declared.standing.Standing.{Standing}
 use Rattle.job_states.specs.Standing.{standing}
 use Rattle.job_states.specs.Stands.{Kept, Stands, ChangesAt}
-use Rattle.job_states.proofs.StandsLemmas.{changes_end, others_end, same_report, same_stage, setup_decides, commit_decides}
+use Rattle.job_states.proofs.StandsLemmas.{changes_end, never, others_put, same_report, same_stage, setup_was, commit_was, decides}
 use Rattle.job_states.proofs.states.States.end_of.Goals as goal
 
 pub returns-clause-stands : goal.returns-clause-stands
@@ -21,7 +23,7 @@ returns-clause-stands c = λ p h.
           (subst (λ (y : Standing). ChangesAt w a y (standing p) (standing (end_op p x))) (sym c.after_end.ensures) (changes_end w p x s known));
       attempt = k.attempt;
       reported = c.report.ensures w.tasks (is_reported w p.reported) k.reported ∙ same_report w a s.state.stage (p.state a).stage e p.reported (same_stage w p a s k.others known c.standing_of-standing.ensures.unknown) (k.others a);
-      setup = c.decided-self-inside.ensures p.setup k.setup ∙ setup_decides w p a e s c.began.result c.began.ensures known;
-      commit = c.decided-self-inside-2.ensures p.commit k.commit ∙ commit_decides w p a e s c.began-2.result c.began-2.ensures known;
-      others = others_end w p x k.others;
+      setup = c.decided-self-inside.ensures p.setup k.setup ∙ decides w p a e s Setup is_setup p.setup c.began.result setup_was c.began.ensures known;
+      commit = c.decided-self-inside-2.ensures p.commit k.commit ∙ decides w p a e s Commit is_commit p.commit c.began-2.result commit_was c.began-2.ensures known;
+      others = others_put w p a _ k.others (λ u. never e (p.state a).stage (k.others a u));
     }

@@ -3,7 +3,7 @@ use Rattle.job_spec.specs.Prelude.{kill}
 use Rattle.job_states.specs.declared.standing.Standing.{Standing}
 use Rattle.job_states.specs.Standing.{standing}
 use Rattle.job_states.specs.Stands.{Kept, Stands, ChangesAt}
-use Rattle.job_states.proofs.StandsLemmas.{changes_kill, others_kill}
+use Rattle.job_states.proofs.StandsLemmas.{changes_kill, others_put}
 use Rattle.job_states.proofs.states.States.kill.Goals as goal
 
 pub returns-clause-stands : goal.returns-clause-stands
@@ -19,5 +19,5 @@ returns-clause-stands c = λ p h.
       reported = k.reported;
       setup = k.setup;
       commit = k.commit;
-      others = others_kill w p a k.others;
+      others = others_put w p a _ k.others (k.others a);
     }

@@ -1,9 +1,9 @@
-use Rattle.std.proofs.Common.{◌≡◌, ◌∙◌, ◌+◌, arith, drop, length, map, sym, ap, subst}
+use Rattle.std.proofs.Common.{◌≡◌, ◌∙◌, ◌+◌, arith, true≢false, drop, length, map, sym, ap, subst}
 use Rattle.job_spec.specs.Prelude.{Driver, actors, is_reported}
 use Rattle.job_states.specs.declared.standing.Standing.{Standing}
 use Rattle.job_states.specs.Standing.{standing, unreported_in}
 use Rattle.job_states.specs.Stands.{Kept, Stands, ChangesAt}
-use Rattle.job_states.proofs.StandsLemmas.{renew, changes_restart, others_restart}
+use Rattle.job_states.proofs.StandsLemmas.{renew, changes_restart, others_put}
 use Rattle.job_states.proofs.ReportLemmas.{whole}
 use Rattle.job_states.proofs.ToldLemmas.{none_reported, map_twice}
 use Rattle.job_states.proofs.states.States.restart.Goals as goal
@@ -26,5 +26,5 @@ returns-clause-stands c = λ p h.
       reported = c.forget.ensures w.tasks (is_reported w p.reported) k.reported ∙ sym (none_reported w);
       setup = k.setup;
       commit = k.commit;
-      others = others_restart w p k.others;
+      others = others_put w p Driver _ k.others (λ u. absurd (true≢false u));
     }
