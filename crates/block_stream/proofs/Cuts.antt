@@ -2,8 +2,8 @@
 use Rattle.std.specs.Prelude.{◌≡◌, ℕ, ◌+◌, ◌<◌, ◌≤◌, ◌&&◌, ◌||◌, Bool, true, false, not, nat_le, nat_lt, cond, List, [], ◌∷◌, ◌++◌, length, take, drop, Option, Some, None}
 use Rattle.std.proofs.Common.{refl, sym, ap, subst, ◌∙◌, arith, append_assoc, length-append}
 use Rattle.machine.specs.Prelude.{concat, unwrap_or, Spelled}
-use Rattle.proof_base.proofs.Common.{append-nil, take_all, take-append-le, drop_all, drop-append_seam, nat_tests}
-use Rattle.block_stream.specs.Kept.{next_at}
+use Rattle.proof_base.proofs.Common.{and_right, append-nil, take_all, take-append-le, drop_all, drop-append_seam, nat_tests}
+use Rattle.block_stream.specs.Kept.{next_at, IsCutUp, seen, first_of, is_whole, is_due, is_short, stage_by, settles}
 use Rattle.std.proofs.lemmas.Bool.{or_right}
 use Rattle.proof_base.proofs.Numbers.{at_most_so, above_so}
 use Rattle.block_stream.specs.declared.mode.StreamMode.{StreamMode}
@@ -11,17 +11,15 @@ use Rattle.block_stream.specs.declared.mode.StreamMode.TheVariants.{Direct, Dela
 use Rattle.block_stream.specs.declared.mode.StreamEnd.{StreamEnd}
 use Rattle.block_stream.specs.declared.mode.StreamEnd.TheVariants.{Done}
 use Rattle.block_stream.specs.declared.stage.Stage.{Stage}
-use Rattle.block_stream.specs.declared.stage.Stage.TheVariants.{Waiting, Putting, Beginning, Sending, Completing, Over}
+use Rattle.block_stream.specs.declared.stage.Stage.TheVariants.{Waiting, Putting, Sending, Completing, Over}
 use Rattle.block_stream.specs.Stream.{Stream, is_direct, has_some, has_part, is_small, begin_or_wait, complete_or_wait, stage_of, asks_with, wanted, is_settled, settled, ended}
-use Rattle.block_stream.specs.Kept.{IsCutUp, seen, first_of, is_whole, is_due, is_short, stage_by, settles}
+use Rattle.block_stream.proofs.FillingLaws.{AtStage, at_stage}
 
 -- bytes that begin with a whole block
 begins_whole : (n : ℕ) (b bs : List ℕ) → length b ≡ n → nat_le n (length (b ++ bs)) ≡ nat_le n (length b)
 begins_whole n b bs e =
     let k : length (b ++ bs) ≡ length b + length bs = length-append b bs in
-    let l : n ≤ length (b ++ bs) = omega (arith, k, e) in
-    let m : n ≤ length b = omega (arith, e) in
-    at_most_so n (length (b ++ bs)) l ∙ sym (at_most_so n (length b) m)
+    at_most_so n (length (b ++ bs)) (omega (arith, k, e)) ∙ sym (at_most_so n (length b) (omega (arith, e)))
 
 -- whether a whole block is pending shows on the first
 pub whole_is : (n : ℕ) (closed : Bool) (q : List (List ℕ)) (r : List ℕ) → 1 ≤ n → IsCutUp n closed q r → is_whole n q ≡ nat_le n (length (concat q ++ r))
@@ -41,19 +39,13 @@ some_is n (b ∷ []) r l h = some_front b ([] ++ r) h.0.0 ∙ ap has_some (sym (
 some_is n (b ∷ c ∷ bs) r l h = let k : 0 < length b = omega (arith, h.0.0) in some_front b (concat (c ∷ bs) ++ r) k ∙ ap has_some (sym (append_assoc b (concat (c ∷ bs)) r))
 
 take_front : (n : ℕ) (b bs : List ℕ) → length b ≡ n → b ≡ take n (b ++ bs)
-take_front n b bs e =
-    let l : n ≤ length b = omega (arith, e) in
-    let k : length b ≤ n = omega (arith, e) in
-    sym (take-append-le n b bs l ∙ take_all n b k)
+take_front n b bs e = sym (take-append-le n b bs (omega (arith, e)) ∙ take_all n b (omega (arith, e)))
 
 -- the next part is the first block
 pub first_is : (n : ℕ) (closed : Bool) (q : List (List ℕ)) (r : List ℕ) → IsCutUp n closed q r → (closed ≡ false → is_whole n q ≡ true) → first_of q ≡ take n (concat q ++ r)
 first_is n false [] r h w = let e : false ≡ true = w refl in absurd (cc)
 first_is n false (b ∷ bs) r h w = take_front n b (concat bs ++ r) h.0.0 ∙ ap (take n) (sym (append_assoc b (concat bs) r))
-first_is n true [] r h w = sym (ap (take n) h.1 ∙ none n)
-  where
-    none : (n : ℕ) → take {A = ℕ} n [] ≡ []
-    none n = let l : length {A = ℕ} [] ≤ n = omega arith in take_all n [] l
+first_is n true [] r h w = sym (ap (take n) h.1 ∙ (let l : length {A = ℕ} [] ≤ n = omega arith in take_all n [] l))
 first_is n true (b ∷ []) r h w = sym (ap (take n) (append_assoc b [] r ∙ ap (λ x. b ++ x) h.1 ∙ append-nil b) ∙ take_all n b h.0.1)
 first_is n true (b ∷ c ∷ bs) r h w = take_front n b (concat (c ∷ bs) ++ r) h.0.0 ∙ ap (take n) (sym (append_assoc b (concat (c ∷ bs)) r))
 
@@ -64,20 +56,16 @@ drop_front n b bs e = ap (λ k. drop k (b ++ bs)) (sym e) ∙ drop-append_seam b
 pub drop_is : (n : ℕ) (closed : Bool) (q : List (List ℕ)) (r : List ℕ) → IsCutUp n closed q r → (closed ≡ false → is_whole n q ≡ true) → drop n (concat q ++ r) ≡ concat (drop 1 q) ++ r
 drop_is n false [] r h w = let e : false ≡ true = w refl in absurd (cc)
 drop_is n false (b ∷ bs) r h w = ap (drop n) (append_assoc b (concat bs) r) ∙ drop_front n b (concat bs ++ r) h.0.0
-drop_is n true [] r h w = ap (drop n) h.1 ∙ none n ∙ sym h.1
-  where
-    none : (n : ℕ) → drop {A = ℕ} n [] ≡ []
-    none n = let l : length {A = ℕ} [] ≤ n = omega arith in drop_all n [] l
+drop_is n true [] r h w = ap (drop n) h.1 ∙ (let l : length {A = ℕ} [] ≤ n = omega arith in drop_all n [] l) ∙ sym h.1
 drop_is n true (b ∷ []) r h w = ap (drop n) (append_assoc b [] r ∙ ap (λ x. b ++ x) h.1 ∙ append-nil b) ∙ drop_all n b h.0.1 ∙ sym h.1
 drop_is n true (b ∷ c ∷ bs) r h w = ap (drop n) (append_assoc b (concat (c ∷ bs)) r) ∙ drop_front n b (concat (c ∷ bs) ++ r) h.0.0
 
 -- the blocks without the first are cut up alike
 pub cut_rest : (n : ℕ) (closed : Bool) (q : List (List ℕ)) (r : List ℕ) → IsCutUp n closed q r → IsCutUp n closed (drop 1 q) r
-cut_rest n false [] r h = h
-cut_rest n false (b ∷ bs) r h = (h.0.1, h.1)
-cut_rest n true [] r h = h
 cut_rest n true (b ∷ []) r h = (tt, h.1)
-cut_rest n true (b ∷ c ∷ bs) r h = (h.0.1, h.1)
+cut_rest n false (b ∷ bs) r h = (h.0.1, h.1)
+cut_rest n true (b ∷ bs) r h = (h.0.1, h.1)
+cut_rest n _ _ r h = h
 
 module _ (mode : StreamMode) (bucket key : List ℕ) (n : ℕ) (q : List (List ℕ)) (r : List ℕ) (u : Option ℕ) (tags : List Spelled) (count : ℕ) where
   abbrev stream : Bool → Stream
@@ -99,11 +87,7 @@ module _ (mode : StreamMode) (bucket key : List ℕ) (n : ℕ) (q : List (List �
 
   -- no whole block is pending, and the stream is open: it waits
   waits : (v : Option ℕ) → is_whole n q ≡ false → stage_by mode n q false tags v ≡ Waiting
-  waits None e = ap (λ b. cond b Putting (begin_or_wait (is_due n q false tags))) (none (is_direct mode)) ∙ ap (λ b. begin_or_wait (b || false)) e
-    where
-      none : (b : Bool) → (b && false) ≡ false
-      none true = refl
-      none false = refl
+  waits None e = ap (λ b. cond b Putting (begin_or_wait (is_due n q false tags))) (and_right (is_direct mode) false refl) ∙ ap (λ b. begin_or_wait (b || false)) e
   waits (Some id) e = ap (λ b. cond (b || false) Sending Waiting) e
 
   -- what is asked, by the blocks
@@ -122,23 +106,16 @@ module _ (mode : StreamMode) (bucket key : List ℕ) (n : ℕ) (q : List (List �
       ] refl
 
 settles_not : (mode : StreamMode) (g : Stage) → (is_direct mode ≡ false → g ≡ Completing → ⊥) → settles mode g ≡ (g, None)
-settles_not Direct g h = refl
-settles_not Delayed Waiting h = refl
-settles_not Delayed Putting h = refl
-settles_not Delayed Beginning h = refl
-settles_not Delayed Sending h = refl
 settles_not Delayed Completing h = absurd (h refl refl)
-settles_not Delayed Over h = refl
+settles_not _ _ h = refl
 
 settles_now : (mode : StreamMode) (g : Stage) → is_direct mode ≡ false → g ≡ Completing → settles mode g ≡ (Over, Some Done)
 settles_now Direct g e f = absurd (cc)
 settles_now Delayed g e f = ap (settles Delayed) f
 
 both : (a b c : Bool) → (a && (not b && not c)) ≡ true → (a ≡ true) × (b ≡ false) × (c ≡ false)
-both true true c h = absurd (cc)
-both true false true h = absurd (cc)
 both true false false h = (refl, refl, refl)
-both false b c h = absurd (cc)
+both _ _ _ h = absurd (cc)
 
 -- with no part answered a part is due at the close
 pub first_part : (m : Stream) → m.closed ≡ true → m.tags ≡ [] → has_part m ≡ true
@@ -150,26 +127,6 @@ first_part m c t = ap (λ b. nat_le m.block (length m.pending) || (b && (has_som
 completing : (v : Option ℕ) (m : Stream) → m.closed ≡ true → has_part m ≡ false → (v ≡ None → m.tags ≡ []) → stage_of None v m ≡ Completing
 completing None m c p t = let e : true ≡ false = sym (first_part m c (t refl)) ∙ p in absurd (cc)
 completing (Some id) m c p t = ap (λ b. cond b Sending (complete_or_wait m.closed)) p ∙ ap complete_or_wait c
-
-only_then : (v : Option ℕ) (m : Stream) → stage_of None v m ≡ Completing → (has_part m ≡ false) × (m.closed ≡ true)
-only_then None m =
-    elim (is_small m) as (λ a. cond a Putting (begin_or_wait (has_part m)) ≡ Completing → (has_part m ≡ false) × (m.closed ≡ true)) [
-      | true ↦ λ e. absurd (cc)
-      | false ↦
-          elim (has_part m) as (λ b. begin_or_wait b ≡ Completing → (b ≡ false) × (m.closed ≡ true)) [
-            | true ↦ λ e. absurd (cc)
-            | false ↦ λ e. absurd (cc)
-          ]
-    ]
-only_then (Some id) m =
-    elim (has_part m) as (λ b. cond b Sending (complete_or_wait m.closed) ≡ Completing → (b ≡ false) × (m.closed ≡ true)) [
-      | true ↦ λ e. absurd (cc)
-      | false ↦
-          elim m.closed as (λ c. complete_or_wait c ≡ Completing → (false ≡ false) × (c ≡ true)) [
-            | true ↦ λ e. (refl, refl)
-            | false ↦ λ e. absurd (cc)
-          ]
-    ]
 
 module _ (mode : StreamMode) (bucket key : List ℕ) (n : ℕ) (q : List (List ℕ)) (r : List ℕ) (u : Option ℕ) (tags : List Spelled) (count : ℕ) (closed : Bool) where
   abbrev here : Stream
@@ -189,8 +146,8 @@ module _ (mode : StreamMode) (bucket key : List ℕ) (n : ℕ) (q : List (List �
             subst (λ x. IsNext x (ended here Done)) (sym (settles_now mode g k.1 (e ∙ completing u here k.0 k.2 t))) (refl, refl)
         | false ↦ λ z.
             subst (λ x. IsNext x here) (sym (settles_not mode g (λ d s.
-            let o = only_then u here (sym e ∙ s) in
-            let f : is_settled here ≡ true = ap (λ b. b && (not (is_direct mode) && not (has_part here))) o.1 ∙ ap (λ b. not b && not (has_part here)) d ∙ ap not o.0 in
+            let o : AtStage Completing here = subst (λ g. AtStage g here) (sym e ∙ s) (at_stage here) in
+            let f : is_settled here ≡ true = ap (λ b. b && (not (is_direct mode) && not (has_part here))) o.3 ∙ ap (λ b. not b && not (has_part here)) d ∙ ap not o.2 in
             let y : true ≡ false = sym f ∙ z in
             absurd (cc))))
             (refl, asks_is mode bucket key n q r u tags count closed l h)

@@ -1,17 +1,17 @@
 -- What driving a stream that is alone leaves.
-use Rattle.std.specs.Prelude.{◌≡◌, ℕ, Bool, true, false, cond, List, Option, Result, Ok, Err, IfOk}
+use Rattle.std.specs.Prelude.{◌≡◌, ℕ, Bool, true, false, List, Option, Result, Ok, Err, IfOk}
 use Rattle.std.proofs.Common.{refl, sym, subst, ◌∙◌}
 use Rattle.machine.specs.Prelude.{Scene, answer, Entry, Fate, Actor, Reply, Stored, Upload, Part, Completed, Refused, Refusal, NoSuchUpload, run, Got, Retried, step, Fine, Drove, retried}
 use Rattle.machine.proofs.Keeping.{Keeps}
 use Rattle.machine.specs.declared.retrying.Retrying.{Retrying}
 use Rattle.machine.specs.declared.driving.DriveStop.{DriveStop}
 use Rattle.machine.proofs.Keeps.{kept_run}
-use Rattle.block_stream.specs.declared.mode.StreamEnd.TheVariants.{Done}
 use Rattle.block_stream.specs.declared.stage.Stage.{Stage}
 use Rattle.block_stream.specs.declared.stage.Stage.TheVariants.{Putting, Beginning, Sending, Completing}
-use Rattle.block_stream.specs.Stream.{Stream, stage, wanted, moved, told, refused, ended, settled, is_settled, parted, standing}
+use Rattle.block_stream.specs.Stream.{Stream, stage, wanted, moved, told, refused, ended, settled, parted, standing}
 use Rattle.block_stream.specs.Holds.{Holds, IsReady}
 use Rattle.block_stream.specs.Stored.{IsStored, IsSameOutput}
+use Rattle.block_stream.proofs.FillingLaws.{settled_by}
 use Rattle.block_stream.proofs.KeepingLaws.{hidden, took, lost, gave_up}
 use Rattle.block_stream.proofs.Ended.{stored}
 
@@ -28,11 +28,7 @@ the_same : (m : Stream) → IsSameOutput m m
 the_same m = record { mode = refl; bucket = refl; key = refl; block = refl; count = refl; closed = refl }
 
 same_settled : (m : Stream) → IsSameOutput m (settled m)
-same_settled m =
-    elim (is_settled m) as (λ z. IsSameOutput m (cond z (ended m Done) m)) [
-      | true ↦ record { mode = refl; bucket = refl; key = refl; block = refl; count = refl; closed = refl }
-      | false ↦ the_same m
-    ]
+same_settled m = settled_by (IsSameOutput m) m (record { mode = refl; bucket = refl; key = refl; block = refl; count = refl; closed = refl }) (the_same m)
 
 same_then : (a b c : Stream) → IsSameOutput a b → IsSameOutput b c → IsSameOutput a c
 same_then a b c h k = record { mode = k.mode ∙ h.mode; bucket = k.bucket ∙ h.bucket; key = k.key ∙ h.key; block = k.block ∙ h.block; count = k.count ∙ h.count; closed = k.closed ∙ h.closed }
@@ -85,7 +81,6 @@ module _ (actor : Actor) (event : ℕ) (t t' : Retrying Stream) (s s' : Scene) (
   pub stored_if : (result : Result (Unit {0}) DriveStop) → Ran result → IfOk result (λ _. t.machine.closed ≡ true → standing t.machine ≡ Fine → (bytes : List ℕ) → Holds t.machine s t.repeated bytes → IsStored t'.machine s' bytes)
   stored_if (Ok tt) d = λ c f bytes h.
       let k = holds_over d bytes h in
-      let same = same_over d in
-      let e = stored t'.machine s' t'.repeated bytes k (same.closed ∙ c) d.ended.over (d.ended.stands ∙ f) in
+      let e = stored t'.machine s' t'.repeated bytes k ((same_over d).closed ∙ c) d.ended.over (d.ended.stands ∙ f) in
       record { done = e.0; content = k.content; there = k.there; written = e.1 }
   stored_if (Err e) d = tt

@@ -1,25 +1,21 @@
 -- What a stream that has ended well has stored.
 use Rattle.std.specs.Prelude.{◌≡◌, ℕ, Bool, true, false, cond, List, Option, Some, None}
-use Rattle.std.proofs.Common.{refl, sym, ap, subst, ◌∙◌, true≢false}
+use Rattle.std.proofs.Common.{refl, sym, ap, subst, ◌∙◌}
 use Rattle.proof_base.proofs.Common.{none-some}
 use Rattle.machine.specs.Prelude.{Scene, BucketContent, Fine}
 use Rattle.block_stream.specs.declared.mode.StreamEnd.{StreamEnd}
 use Rattle.block_stream.specs.declared.mode.StreamEnd.TheVariants.{Done, Gone}
 use Rattle.block_stream.specs.declared.stage.Stage.TheVariants.{Putting, Sending}
-use Rattle.block_stream.specs.Stream.{Stream, has_some, has_part, is_small, begin_or_wait, complete_or_wait, stage_of, asks, wanted, standing, standing_of}
+use Rattle.block_stream.specs.Stream.{Stream, has_part, is_small, begin_or_wait, complete_or_wait, stage_of, asks, wanted, standing, standing_of}
 use Rattle.block_stream.specs.Holds.{IsWritten, HoldsIn, Holds}
-use Rattle.block_stream.proofs.FillingLaws.{all_sent}
+use Rattle.block_stream.proofs.Cuts.{first_part}
 
 -- a closed stream that has not ended asks something
 asks_on : (m : Stream) (s : Scene) (repeated : Bool) (bytes : List ℕ) (c : BucketContent) (u : Option ℕ) → m.closed ≡ true → HoldsIn None u m c repeated bytes → asks (stage_of None u m) m ≡ None → ⊥
 asks_on m s repeated bytes c None o i =
     elim (is_small m) as (λ z. asks (cond z Putting (begin_or_wait (has_part m))) m ≡ None → ⊥) [
       | true ↦ λ w. none-some _ (sym w)
-      | false ↦
-          elim (has_part m) as (λ y. has_part m ≡ y → asks (begin_or_wait y) m ≡ None → ⊥) [
-            | true ↦ λ y w. none-some _ (sym w)
-            | false ↦ λ y w. true≢false (sym (all_sent m y o).1 ∙ ap has_some i.1)
-          ] refl
+      | false ↦ λ w. none-some _ (sym w ∙ ap (λ b. asks (begin_or_wait b) m) (first_part m o i.1))
     ]
 asks_on m s repeated bytes c (Some id) o i =
     elim (has_part m) as (λ z. asks (cond z Sending (complete_or_wait m.closed)) m ≡ None → ⊥) [

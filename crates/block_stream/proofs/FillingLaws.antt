@@ -1,7 +1,7 @@
 -- Laws of an upload that is being filled: its parts, its room, and what is known once all was sent. Contracts cite none of them.
 use Rattle.std.specs.Prelude.{◌≡◌, ◌⊎◌, ℕ, ◌+◌, ◌-◌, ◌*◌, ◌<◌, ◌≤◌, ◌&&◌, ◌||◌, Bool, true, false, not, nat_le, nat_lt, cond, List, [], ◌∷◌, ◌++◌, length, map, drop, Option, Some, None}
 use Rattle.std.proofs.Common.{refl, sym, ap, subst, ◌∙◌, arith, inl, inr, length-drop, true≢false}
-use Rattle.machine.specs.Prelude.{concat, nat_cmp_total, Scene, Content, BucketContent, live, with_key, is_part_number, with_part, answer, apply, answer_in, apply_in, apply_at, answer_at, bucket_of, part_put, Spelled, Request, PutObject, CreateUpload, UploadPart, CompleteUpload, named_from}
+use Rattle.machine.specs.Prelude.{concat, nat_cmp_total, Scene, Content, BucketContent, live, with_key, is_part_number, with_part, answer, apply, answer_in, apply_in, apply_at, answer_at, bucket_of, part_put, unwrap_or, Spelled, Request, UploadPart}
 use Rattle.proof_base.proofs.Common.{drop_all, append-nil, length-map, and_parts, and_right, or_parts, nat_tests, none-some, exact_unsigned}
 use Rattle.retries.specs.Prelude.{text_eq, text_equiv, text_total, Upload}
 use Rattle.std.proofs.lemmas.Bool.{true_from_ne_false}
@@ -16,8 +16,8 @@ use Rattle.block_stream.specs.declared.mode.StreamMode.TheVariants.{Direct, Dela
 use Rattle.block_stream.specs.declared.mode.StreamEnd.{StreamEnd}
 use Rattle.block_stream.specs.declared.mode.StreamEnd.TheVariants.{Done}
 use Rattle.block_stream.specs.declared.stage.Stage.{Stage}
-use Rattle.block_stream.specs.declared.stage.Stage.TheVariants.{Waiting, Putting, Beginning, Sending, Completing, Over}
-use Rattle.block_stream.specs.Stream.{Stream, is_direct, has_some, has_part, is_small, begin_or_wait, complete_or_wait, stage_of, stage, chunk, id_of, asks, ended, is_settled, settled, begun, parted}
+use Rattle.block_stream.specs.declared.stage.Stage.TheVariants.{Putting, Beginning, Sending, Completing}
+use Rattle.block_stream.specs.Stream.{Stream, is_direct, has_some, has_part, is_small, begin_or_wait, complete_or_wait, stage_of, stage, chunk, id_of, ended, is_settled, settled, begun, parted}
 use Rattle.block_stream.specs.Holds.{numbered, AreLong, AreBlocks, HasParts, IsUpload, IsUploadOf, IsWritten, Fills, HoldsIn, HasRoom, Holds}
 use Rattle.block_stream.proofs.PartLaws.{get_same, numbered_more, last_stands}
 
@@ -38,30 +38,24 @@ some_has (x ∷ xs) h = omega arith
 abbrev pub AtStage : Stage → Stream → Type 0
 AtStage Putting m = (m.end ≡ None) × (m.upload ≡ None) × (is_small m ≡ true)
 AtStage Beginning m = (m.end ≡ None) × (m.upload ≡ None) × (has_part m ≡ true)
-AtStage Sending m = (m.end ≡ None) × ((id : ℕ) × (m.upload ≡ Some id)) × (has_part m ≡ true)
-AtStage Completing m = (m.end ≡ None) × ((id : ℕ) × (m.upload ≡ Some id)) × (has_part m ≡ false) × (m.closed ≡ true)
+AtStage Sending m = (m.end ≡ None) × (m.upload ≡ Some (id_of m)) × (has_part m ≡ true)
+AtStage Completing m = (m.end ≡ None) × (m.upload ≡ Some (id_of m)) × (has_part m ≡ false) × (m.closed ≡ true)
 AtStage _ m = Unit {0}
+
+at_first : (m : Stream) → m.end ≡ None → m.upload ≡ None → (a b : Bool) → is_small m ≡ a → has_part m ≡ b → AtStage (cond a Putting (begin_or_wait b)) m
+at_first m p q true b e f = (p, q, e)
+at_first m p q false true e f = (p, q, f)
+at_first m p q false false e f = tt
+
+at_later : (m : Stream) → m.end ≡ None → m.upload ≡ Some (id_of m) → (a b : Bool) → has_part m ≡ a → m.closed ≡ b → AtStage (cond a Sending (complete_or_wait b)) m
+at_later m p q true b e f = (p, q, e)
+at_later m p q false true e f = (p, q, e, f)
+at_later m p q false false e f = tt
 
 at_by : (e : Option StreamEnd) (u : Option ℕ) (m : Stream) → m.end ≡ e → m.upload ≡ u → AtStage (stage_of e u m) m
 at_by (Some e) u m p q = tt
-at_by None None m p q =
-    elim (is_small m) as (λ z. is_small m ≡ z → AtStage (cond z Putting (begin_or_wait (has_part m))) m) [
-      | true ↦ λ z. (p, q, z)
-      | false ↦ λ z.
-          elim (has_part m) as (λ w. has_part m ≡ w → AtStage (begin_or_wait w) m) [
-            | true ↦ λ w. (p, q, w)
-            | false ↦ λ w. tt
-          ] refl
-    ] refl
-at_by None (Some id) m p q =
-    elim (has_part m) as (λ z. has_part m ≡ z → AtStage (cond z Sending (complete_or_wait m.closed)) m) [
-      | true ↦ λ z. (p, (id, q), z)
-      | false ↦ λ z.
-          elim m.closed as (λ w. m.closed ≡ w → AtStage (complete_or_wait w) m) [
-            | true ↦ λ w. (p, (id, q), z, w)
-            | false ↦ λ w. tt
-          ] refl
-    ] refl
+at_by None None m p q = at_first m p q (is_small m) (has_part m) refl refl
+at_by None (Some id) m p q = at_later m p (q ∙ ap Some (sym (ap (λ o. unwrap_or o 0) q))) (has_part m) m.closed refl refl
 
 pub at_stage : (m : Stream) → AtStage (stage m) m
 at_stage m = at_by m.end m.upload m refl refl
@@ -82,40 +76,23 @@ pub record IsStoreRequest (r : Request) (bucket : List ℕ) (s : Scene) : Type 0
   pub applied : (apply s r).content ≡ apply_at (fin.get s.content.buckets (bucket_of r)) s.content r
   pub answered : answer s r ≡ answer_at (fin.get s.content.buckets (bucket_of r)) s.content.next s.content.minimum r
 
-asks_store : (g : Stage) (m : Stream) (s : Scene) (r : Request) → asks g m ≡ Some r → IsStoreRequest r m.bucket s
-asks_store Waiting m s r w = absurd (cc)
-asks_store Putting m s r w =
-    let e : PutObject m.bucket m.key (chunk m) None ≡ r = cc in
-    subst (λ v. IsStoreRequest v m.bucket s) e (record { names = refl; applied = refl; answered = refl })
-asks_store Beginning m s r w =
-    let e : CreateUpload m.bucket m.key ≡ r = cc in
-    subst (λ v. IsStoreRequest v m.bucket s) e (record { names = refl; applied = refl; answered = refl })
-asks_store Sending m s r w =
-    let e : UploadPart m.bucket m.key (id_of m) (length m.tags + 1) (chunk m) ≡ r = cc in
-    subst (λ v. IsStoreRequest v m.bucket s) e (record { names = refl; applied = refl; answered = refl })
-asks_store Completing m s r w =
-    let e : CompleteUpload m.bucket m.key (id_of m) (named_from 1 m.tags) ≡ r = cc in
-    subst (λ v. IsStoreRequest v m.bucket s) e (record { names = refl; applied = refl; answered = refl })
-asks_store Over m s r w = absurd (cc)
-
 -- the same stream's place in a scene
 pub record IsPlace (bucket : List ℕ) (block : ℕ) (s : Scene) (c : BucketContent) : Type 0 where
   pub there : fin.get s.content.buckets bucket ≡ Some c
   pub least : s.content.minimum ≤ block
 
-pub place_after : (g : Stage) (m : Stream) (s : Scene) (r : Request) (c : BucketContent) → asks g m ≡ Some r → IsPlace m.bucket m.block s c → IsPlace m.bucket m.block (apply s r) (apply_in c s.content.next s.content.minimum r)
-place_after g m s r c w p =
-    let k = asks_store g m s r w in
-    let o : fin.get s.content.buckets (bucket_of r) ≡ Some c = ap (fin.get s.content.buckets) k.names ∙ p.there in
-    record {
-      there = ap (fin.get (apply s r).content.buckets) (sym k.names) ∙ ap (λ (v : Content). fin.get v.buckets (bucket_of r)) k.applied ∙ bucket_after s.content c r (fin.get s.content.buckets (bucket_of r)) o;
-      least = subst (λ n. n ≤ m.block) (sym (ap (λ (v : Content). v.minimum) k.applied ∙ minimum_after s.content r (fin.get s.content.buckets (bucket_of r)))) p.least;
-    }
-
-pub answer_here : (g : Stage) (m : Stream) (s : Scene) (r : Request) (c : BucketContent) → asks g m ≡ Some r → IsPlace m.bucket m.block s c → answer s r ≡ answer_in c s.content.next s.content.minimum r
-answer_here g m s r c w p =
-    let k = asks_store g m s r w in
-    k.answered ∙ ap (λ o. answer_at o s.content.next s.content.minimum r) (ap (fin.get s.content.buckets) k.names ∙ p.there)
+-- a request leaves it there, and is answered there
+pub sent_to : (bucket : List ℕ) (block : ℕ) (s : Scene) (r : Request) (c : BucketContent) → IsStoreRequest r bucket s → IsPlace bucket block s c
+    → IsPlace bucket block (apply s r) (apply_in c s.content.next s.content.minimum r) × (answer s r ≡ answer_in c s.content.next s.content.minimum r)
+sent_to bucket block s r c k p =
+    let o : fin.get s.content.buckets (bucket_of r) ≡ Some c = ap (fin.get s.content.buckets) k.names ∙ p.there in (
+      record {
+        there = ap (fin.get (apply s r).content.buckets) (sym k.names) ∙ ap (λ (v : Content). fin.get v.buckets (bucket_of r)) k.applied
+            ∙ bucket_after s.content c r (fin.get s.content.buckets (bucket_of r)) o;
+        least = subst (λ n. n ≤ block) (sym (ap (λ (v : Content). v.minimum) k.applied ∙ minimum_after s.content r (fin.get s.content.buckets (bucket_of r)))) p.least;
+      },
+      k.answered ∙ ap (λ o. answer_at o s.content.next s.content.minimum r) o,
+    )
 
 -- ---- arithmetic of the room
 
@@ -137,9 +114,6 @@ room_last k n h = grind arith
 
 pub is_number : (n : ℕ) → n < 10000 → is_part_number (n + 1) ≡ true
 is_number n h = grind (arith, nat_tests)
-
-no_tags : (n : ℕ) → n ≡ 0 → n < 10000
-no_tags n h = omega arith
 
 -- ---- a part that is due
 
@@ -164,7 +138,7 @@ due m h =
 pub due_number : (m : Stream) → HasRoom m → Due m → length m.tags < 10000
 due_number m r (Whole l) = let k : 0 < length m.pending = omega (arith, r.some) in few_parts m.block (length m.tags) (length m.pending) r.some r.few k
 due_number m r (Last l c (inl k)) = few_parts m.block (length m.tags) (length m.pending) r.some r.few k
-due_number m r (Last l c (inr k)) = no_tags (length m.tags) (ap length k)
+due_number m r (Last l c (inr k)) = omega (arith, ap length k)
 
 -- what a part that is put at once tells
 pub small_parts : (m : Stream) → is_small m ≡ true → (is_direct m.mode ≡ true) × (m.closed ≡ true) × (length m.pending < m.block)
@@ -205,23 +179,14 @@ room_begun m id r = record { some = r.some; few = r.few; counted = r.counted }
 pub live_is : {c : BucketContent} {id : ℕ} {key : List ℕ} {bs : List (List ℕ)} (h : HasParts c id key bs) → live c.uploads key id ≡ Some h.upload
 live_is {key = key} h = ap (with_key key) h.there ∙ ap (λ k. cond (text_eq k key) (Some h.upload) None) h.its_key ∙ ap (λ b. cond b (Some h.upload) None) (text_equiv.refl key)
 
--- the uploads after a part of the live one
-abbrev with_this : BucketContent → ℕ → Upload → ℕ → List ℕ → BucketContent
-with_this c id u n x = record { objects = c.objects; uploads = fin.insert c.uploads id (with_part u n x) }
-
-part_sent : (c : BucketContent) (id next minimum n : ℕ) (bucket key x : List ℕ) (u : Upload) → live c.uploads key id ≡ Some u → is_part_number n ≡ true
-    → apply_in c next minimum (UploadPart bucket key id n x) ≡ with_this c id u n x
-part_sent c id next minimum n bucket key x u l k =
-    ap (λ o. record { objects = c.objects; uploads = part_put c.uploads id o n x }) l
-    ∙ ap (λ b. record { objects = c.objects; uploads = cond b (fin.insert c.uploads id (with_part u n x)) c.uploads }) k
-
-parts_now : (c : BucketContent) (id n : ℕ) (key x : List ℕ) (bs cs : List (List ℕ)) (h : HasParts c id key bs) → fin.insert (numbered bs) n x ≡ numbered cs → HasParts (with_this c id h.upload n x) id key cs
-parts_now c id n key x bs cs h e = record {
-  upload = with_part h.upload n x;
-  there = get_same nat_cmp_total c.uploads id (with_part h.upload n x);
-  its_key = h.its_key;
-  parts = ap (λ m. fin.insert m n x) h.parts ∙ e;
-}
+parts_sent : (c : BucketContent) (id next minimum n : ℕ) (bucket key x : List ℕ) (bs cs : List (List ℕ)) (h : HasParts c id key bs) → is_part_number n ≡ true
+    → fin.insert (numbered bs) n x ≡ numbered cs
+    → HasParts (apply_in c next minimum (UploadPart bucket key id n x)) id key cs
+parts_sent c id next minimum n bucket key x bs cs h k e =
+    subst (λ v. HasParts v id key cs)
+    (sym (ap (λ o. record { objects = c.objects; uploads = part_put c.uploads id o n x }) (live_is h)
+    ∙ ap (λ b. record { objects = c.objects; uploads = cond b (fin.insert c.uploads id (with_part h.upload n x)) c.uploads }) k))
+    (record { upload = with_part h.upload n x; there = get_same nat_cmp_total c.uploads id (with_part h.upload n x); its_key = h.its_key; parts = ap (λ m. fin.insert m n x) h.parts ∙ e })
 
 one_more : (bs : List (List ℕ)) (n : ℕ) (x : List ℕ) → n ≡ length bs → fin.insert (numbered bs) (n + 1) x ≡ numbered (bs ++ x ∷ [])
 one_more bs n x e = ap (λ k. fin.insert (numbered bs) (k + 1) x) e ∙ sym (numbered_more 1 fin.empty bs x)
@@ -234,19 +199,15 @@ pub sent_now : (m : Stream) (c : BucketContent) (id next minimum : ℕ) (repeate
     → HasParts (apply_in c next minimum (UploadPart m.bucket m.key id (length m.tags + 1) (chunk m))) id m.key (f.sent ++ chunk m ∷ [])
 sent_now m c id next minimum repeated bytes f few =
     let n : length m.tags ≡ length f.sent = ap length f.tags ∙ length-map f.sent plain_tag in
+    let put = λ (bs : List (List ℕ)) (h : HasParts c id m.key bs). parts_sent c id next minimum (length m.tags + 1) m.bucket m.key (chunk m) bs (f.sent ++ chunk m ∷ []) h
+    (is_number (length m.tags) few) in
     elim f.parts [
-      | inl h ↦ subst (λ v. HasParts v id m.key (f.sent ++ chunk m ∷ [])) (sym (part_sent c id next minimum (length m.tags + 1) m.bucket m.key (chunk m) h.upload (live_is h) (is_number (length m.tags) few)))
-          (parts_now c id (length m.tags + 1) m.key (chunk m) f.sent (f.sent ++ chunk m ∷ []) h (one_more f.sent (length m.tags) (chunk m) n))
-      | inr k ↦ let h = k.2 in subst (λ v. HasParts v id m.key (f.sent ++ chunk m ∷ [])) (sym (part_sent c id next minimum (length m.tags + 1) m.bucket m.key (chunk m) h.upload (live_is h) (is_number (length m.tags) few)))
-          (parts_now c id (length m.tags + 1) m.key (chunk m) (f.sent ++ chunk m ∷ []) (f.sent ++ chunk m ∷ []) h (the_same f.sent (length m.tags) (chunk m) n))
+      | inl h ↦ put f.sent h (one_more f.sent (length m.tags) (chunk m) n)
+      | inr k ↦ put (f.sent ++ chunk m ∷ []) k.2 (the_same f.sent (length m.tags) (chunk m) n)
     ]
 
 pub live_now : (m : Stream) (c : BucketContent) (id : ℕ) (repeated : Bool) (bytes : List ℕ) (f : Fills m c id repeated bytes) → (u : Upload) × (live c.uploads m.key id ≡ Some u)
-live_now m c id repeated bytes f =
-    elim f.parts [
-      | inl h ↦ (h.upload, live_is h)
-      | inr k ↦ let h = k.2 in (h.upload, live_is h)
-    ]
+live_now m c id repeated bytes f = elim f.parts [ inl h ↦ (h.upload, live_is h) | inr k ↦ (k.2.upload, live_is k.2) ]
 
 -- ---- all was sent
 
@@ -269,28 +230,16 @@ has_mapped : (bs : List (List ℕ)) → has_some (map plain_tag bs) ≡ true →
 has_mapped [] h = absurd (cc)
 has_mapped (b ∷ bs) h = omega arith
 
--- blocks of which none is short
-record LongBlocks (n : ℕ) (bs : List (List ℕ)) : Type 0 where
-  front : List (List ℕ)
-  last : List ℕ
-  are : bs ≡ front ++ last ∷ []
-  long : AreLong n front
-  its_length : length last ≡ n
-
-long_blocks : (n : ℕ) (bs : List (List ℕ)) → 0 < length bs → AreLong n bs → LongBlocks n bs
-long_blocks n [] p h = let no : ⊥ = omega arith in absurd no
-long_blocks n (b ∷ []) p h = record { front = []; last = b; are = refl; long = tt; its_length = h.0 }
-long_blocks n (b ∷ c ∷ bs) p h =
-    let q : 0 < length (c ∷ bs) = omega arith in
-    let k = long_blocks n (c ∷ bs) q h.1 in
-    record { front = b ∷ k.front; last = k.last; are = ap (λ l. b ∷ l) k.are; long = (h.0, k.long); its_length = k.its_length }
-
-are_blocks : (n : ℕ) (bs : List (List ℕ)) → 1 ≤ n → 0 < length bs → AreLong n bs → AreBlocks n bs
-are_blocks n bs l p h =
-    let k = long_blocks n bs p h in
-    let short : length k.last ≤ n = omega (arith, k.its_length) in
-    let some : 0 < length k.last = omega (arith, k.its_length) in
-    record { front = k.front; last = k.last; are = k.are; long = k.long; short = short; some = inl some }
+-- of blocks of which none is short the last is not empty
+are_blocks : (n : ℕ) (bs : List (List ℕ)) → 1 ≤ n → 0 < length bs → AreLong n bs → (k : AreBlocks n bs) × (0 < length k.last)
+are_blocks n [] l p h = absurd (omega (arith, p))
+are_blocks n (b ∷ []) l p h =
+    let s : 0 < length b = omega (arith, h.0, l) in
+    let k : length b ≤ n = omega (arith, h.0) in
+    (record { front = []; last = b; are = refl; long = tt; short = k; some = inl s }, s)
+are_blocks n (b ∷ c ∷ bs) l p h =
+    let k = are_blocks n (c ∷ bs) l (omega arith) h.1 in
+    (record { front = b ∷ k.0.front; last = k.0.last; are = ap (λ l. b ∷ l) k.0.are; long = (h.0, k.0.long); short = k.0.short; some = inl k.1 }, k.1)
 
 -- what a filled upload has once all was sent
 pub full : (m : Stream) (c : BucketContent) (id : ℕ) (repeated : Bool) (bytes : List ℕ) → HasRoom m → has_part m ≡ false → m.closed ≡ true → Fills m c id repeated bytes → IsUpload m c id bytes
@@ -305,7 +254,7 @@ full m c id repeated bytes r n o f =
       ];
       joined = f.joined ∙ ap (λ p. concat f.sent ++ p) a.0 ∙ append-nil (concat f.sent);
       blocks = elim f.cut [
-        | inl h ↦ are_blocks m.block f.sent r.some some h
+        | inl h ↦ (are_blocks m.block f.sent r.some some h).0
         | inr k ↦ k.3
       ];
       tags = f.tags;
@@ -320,6 +269,10 @@ delayed_written Delayed m c bytes e h = h
 pub direct_written : (mode : StreamMode) (m : Stream) (c : BucketContent) (bytes : List ℕ) → is_direct mode ≡ true → fin.get c.objects m.key ≡ Some (record { bytes = bytes; header = None }) → IsWritten mode m c bytes
 direct_written Direct m c bytes e h = h
 direct_written Delayed m c bytes e h = absurd (true≢false (sym e))
+
+-- what is so of a stream that goes on, and of one that is done, is so once it is settled
+pub settled_by : (P : Stream → Type 0) (m : Stream) → P (ended m Done) → P m → P (settled m)
+settled_by P m e h = elim (is_settled m) as (λ z. P (cond z (ended m Done) m)) [ true ↦ e | false ↦ h ]
 
 -- what is held, by the fields that tell where the stream stands
 pub held_at : (m : Stream) (c : BucketContent) (repeated : Bool) (bytes : List ℕ) (e : Option StreamEnd) (u : Option ℕ) → m.end ≡ e → m.upload ≡ u → HoldsIn m.end m.upload m c repeated bytes → HoldsIn e u m c repeated bytes

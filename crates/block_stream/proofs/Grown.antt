@@ -10,7 +10,7 @@ use Rattle.block_stream.specs.declared.mode.StreamEnd.{StreamEnd}
 use Rattle.block_stream.specs.declared.mode.StreamEnd.TheVariants.{Done, Gone, StoreFault, NoMemory}
 use Rattle.block_stream.specs.Stream.{Stream, is_direct, has_some, has_part, ended, is_settled, added, wrote, shut, closed_by, close}
 use Rattle.block_stream.specs.Holds.{HasParts, Fills, HoldsIn, HasRoom, Holds}
-use Rattle.block_stream.proofs.FillingLaws.{holds_of, held_from, Due, Whole, Last, due, settle}
+use Rattle.block_stream.proofs.FillingLaws.{holds_of, held_from, Whole, Last, due, settle}
 
 pub room_wrote : (m : Stream) (piece : List ℕ) → m.closed ≡ false → (m.count + length piece) ≤ m.block * 10000 → HasRoom m → HasRoom (wrote m piece)
 room_wrote m piece o l r = record { some = r.some; few = few m.end refl; counted = counted }
@@ -22,19 +22,14 @@ room_wrote m piece o l r = record { some = r.some; few = few m.end refl; counted
     counted : m.closed ≡ false → m.end ≡ None → m.count + length piece ≡ m.block * length m.tags + length (added m.end m.pending piece)
     counted c q =
         let k : length (m.pending ++ piece) ≡ length m.pending + length piece = length-append m.pending piece in
-        let e : m.count + length piece ≡ m.block * length m.tags + length (m.pending ++ piece) = omega (arith, r.counted c q) in
-        subst (λ v. m.count + length piece ≡ m.block * length m.tags + length (added v m.pending piece)) (sym q) e
+        subst (λ v. m.count + length piece ≡ m.block * length m.tags + length (added v m.pending piece)) (sym q) (omega (arith, r.counted c q))
 
 pub room_shut : (m : Stream) → HasRoom m → HasRoom (shut m)
 room_shut m r = record { some = r.some; few = r.few; counted = λ o e. absurd (true≢false o) }
 
 -- while a stream is open, only a whole block is due
 pub open_due : (m : Stream) → m.closed ≡ false → has_part m ≡ true → m.block ≤ length m.pending
-open_due m o h = by (due m h)
-  where
-    by : Due m → m.block ≤ length m.pending
-    by (Whole l) = l
-    by (Last l c k) = absurd (true≢false (sym c ∙ o))
+open_due m o h = elim (due m h) [ Whole l ↦ l | Last l c k ↦ absurd (true≢false (sym c ∙ o)) ]
 
 pub is_due : (m : Stream) → m.block ≤ length m.pending → has_part m ≡ true
 is_due m l = ap (λ b. b || (m.closed && (has_some m.pending || not (has_some m.tags)))) (at_most_so m.block (length m.pending) l)

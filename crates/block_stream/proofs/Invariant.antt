@@ -7,10 +7,10 @@ use Rattle.block_stream.specs.declared.mode.StreamMode.{StreamMode}
 use Rattle.block_stream.specs.declared.mode.StreamEnd.{StreamEnd}
 use Rattle.block_stream.specs.declared.mode.StreamEnd.TheVariants.{Done}
 use Rattle.block_stream.specs.declared.stage.Stage.TheVariants.{Beginning, Sending}
-use Rattle.block_stream.specs.Stream.{Stream, has_some, has_part, stage, stage_of, complete_or_wait, asks, asks_with, wanted, ended, parted, settled, is_settled, added, wrote, shut, closed_by, close}
+use Rattle.block_stream.specs.Stream.{Stream, has_some, has_part, stage, stage_of, complete_or_wait, asks, asks_with, wanted, ended, parted, settled, added, wrote, shut, closed_by, close}
 use Rattle.block_stream.specs.Holds.{AreLong, HasRoom}
 use Rattle.block_stream.specs.Kept.{AreCut, IsCutUp, CutUp, seen, IsKept, first_of, front_of, last_of, is_whole, next_by}
-use Rattle.block_stream.proofs.FillingLaws.{AtStage, at_stage, due, room_after, room_ended, room_begun}
+use Rattle.block_stream.proofs.FillingLaws.{AtStage, at_stage, settled_by, due, room_after, room_ended, room_begun}
 use Rattle.block_stream.proofs.KeepingLaws.{unsettled}
 use Rattle.block_stream.proofs.Grown.{room_wrote, room_shut}
 use Rattle.block_stream.proofs.Cuts.{whole_is, first_is, drop_is, cut_rest, asks_is, next_is, first_part}
@@ -21,18 +21,13 @@ cut_of None n closed q r h = h
 cut_of (Some e) n closed q r h = tt
 
 room_settled : (m : Stream) → HasRoom m → HasRoom (settled m)
-room_settled m r =
-    elim (is_settled m) as (λ z. HasRoom (cond z (ended m Done) m)) [
-      | true ↦ room_ended m Done r
-      | false ↦ r
-    ]
+room_settled m r = settled_by HasRoom m (room_ended m Done r) r
 
 -- ---- blocks in front
 
 front_next : (mode : StreamMode) (bucket key : List ℕ) (n : ℕ) (q l : List (List ℕ)) (closed : Bool) (tags : List Spelled) (u : Option ℕ) → next_by mode bucket key n (front_of q l) closed tags u ≡ next_by mode bucket key n (q ++ l) closed tags u
-front_next mode bucket key n [] l closed tags u = refl
 front_next mode bucket key n (b ∷ q) l closed tags None = refl
-front_next mode bucket key n (b ∷ q) l closed tags (Some id) = refl
+front_next mode bucket key n _ l closed tags _ = refl
 
 long_both : (n : ℕ) (q l : List (List ℕ)) → AreLong n q → AreLong n l → AreLong n (q ++ l)
 long_both n [] l h k = k
@@ -80,9 +75,8 @@ module _ (mode : StreamMode) (bucket key : List ℕ) (n : ℕ) (q : List (List �
   begin_kept closed e a b id k s h =
       let x : AtStage Beginning (at closed e) = subst (λ g. AtStage g (at closed e)) s (at_stage (at closed e)) in
       let c = cut_in closed e x.0 k.cut in
-      let d = due_whole closed e k.room.some c x.2 in
       record {
-        asks = h ∙ ap (λ z. asks_with Sending bucket key id tags z) (first_is n closed q r c d)
+        asks = h ∙ ap (λ z. asks_with Sending bucket key id tags z) (first_is n closed q r c (due_whole closed e k.room.some c x.2))
             ∙ sym (ap (λ v. asks (stage_of v (Some id) (seen mode bucket key n q r (Some id) tags count closed e)) (seen mode bucket key n q r (Some id) tags count closed e)) x.0
             ∙ ap (λ v. asks (cond v Sending (complete_or_wait closed)) (seen mode bucket key n q r (Some id) tags count closed e)) x.2);
         room = room_begun (at closed e) id k.room;
@@ -103,7 +97,7 @@ module _ (mode : StreamMode) (bucket key : List ℕ) (n : ℕ) (q : List (List �
       let is : parted (at closed e) t ≡ new =
       ap (λ p. record { mode = mode; bucket = bucket; key = key; block = n; pending = p; upload = u; tags = tags ++ t ∷ []; count = count; closed = closed; end = e }) (drop_is n closed q r c d)
       ∙ ap (λ v. seen mode bucket key n (drop 1 q) r u (tags ++ t ∷ []) count closed v) y.0 in
-      let no : u ≡ None → tags ++ t ∷ [] ≡ [] = λ z. absurd (none-some y.1.0 (sym z ∙ y.1.1)) in
+      let no : u ≡ None → tags ++ t ∷ [] ≡ [] = λ z. absurd (none-some _ (sym z ∙ y.1)) in
       let w = next_is mode bucket key n (drop 1 q) r u (tags ++ t ∷ []) count closed k.room.some (cut_rest n closed q r c) no in
       let seen_is : seen mode bucket key n (drop 1 q) r u (tags ++ t ∷ []) count closed x.1 ≡ settled new = ap (λ (v : Option Request × Option StreamEnd). seen mode bucket key n (drop 1 q) r u (tags ++ t ∷ []) count closed v.1) h ∙ w.0 in
       let all = seen_is ∙ ap settled (sym is) in (
@@ -111,61 +105,63 @@ module _ (mode : StreamMode) (bucket key : List ℕ) (n : ℕ) (q : List (List �
         record {
           asks = ap (λ (v : Option Request × Option StreamEnd). v.0) h ∙ w.1 ∙ ap wanted (sym seen_is);
           room = subst HasRoom (sym all) (room_settled (parted (at closed e) t) (room_after (at closed e) t k.room (due (at closed e) y.2)));
-          parts = λ z. absurd (none-some y.1.0 (sym z ∙ y.1.1));
-          done = λ z w. absurd (none-some y.1.0 (sym w ∙ y.1.1));
+          parts = λ z. absurd (none-some _ (sym z ∙ y.1));
+          done = λ z w. absurd (none-some _ (sym w ∙ y.1));
           cut = cut_of x.1 n closed (drop 1 q) r (cut_rest n closed q r c);
         },
       )
 
+  abbrev pub IsWroteAs : Bool → Option StreamEnd → List ℕ → List (List ℕ) → List ℕ → ℕ → Option Request → Type 0
+  IsWroteAs closed e piece q' r' count' b =
+      (seen mode bucket key n q' r' u tags count' closed e ≡ wrote (at closed e) piece) × IsKept (seen mode bucket key n q' r' u tags count' closed e) q' r' b
+
+  -- the fields after a piece, in these blocks and this rest
+  wrote_kept : (e : Option StreamEnd) (a b : Option Request) (piece : List ℕ) (closed : Bool) (q' : List (List ℕ)) (r' : List ℕ) → closed ≡ false → e ≡ None
+      → count + length piece ≤ n * 10000 → IsKept (at closed e) q r a
+      → concat q' ++ r' ≡ (concat q ++ r) ++ piece → IsCutUp n false q' r' → b ≡ wanted (seen mode bucket key n q' r' u tags (count + length piece) false None)
+      → IsWroteAs closed e piece q' r' (count + length piece) b
+  wrote_kept e a b piece closed q' r' o p few k bytes c asked =
+      let is : seen mode bucket key n q' r' u tags (count + length piece) closed e ≡ wrote (at closed e) piece =
+      ap (λ z. record { mode = mode; bucket = bucket; key = key; block = n; pending = z; upload = u; tags = tags; count = count + length piece; closed = closed; end = e })
+      (bytes ∙ sym (ap (λ v. added v (concat q ++ r) piece) p)) in (
+        is,
+        record {
+          asks = asked
+              ∙ sym (ap (λ v. wanted (seen mode bucket key n q' r' u tags (count + length piece) v e)) o ∙ ap
+              (λ v. wanted (seen mode bucket key n q' r' u tags (count + length piece) false v)) p);
+          room = subst HasRoom (sym is) (room_wrote (at closed e) piece o few k.room);
+          parts = k.parts;
+          done = λ z w. absurd (none-some Done (sym p ∙ z));
+          cut = cut_of e n closed q' r' (subst (λ v. IsCutUp n v q' r') (sym o) c);
+        },
+      )
+
   -- the fields after a short piece
-  pub short_kept : (e : Option StreamEnd) (a : Option Request) (piece : List ℕ) (closed : Bool) → closed ≡ false → e ≡ None → length piece < n - length r → count + length piece ≤ n * 10000 → IsKept (at closed e) q r a
-      → (seen mode bucket key n q (r ++ piece) u tags (count + length piece) closed e ≡ wrote (at closed e) piece) × IsKept (seen mode bucket key n q (r ++ piece) u tags (count + length piece) closed e) q (r ++ piece) a
-  short_kept e a piece closed o p short few k =
+  pub short_in : (closed : Bool) (e : Option StreamEnd) (a : Option Request) (piece r' : List ℕ) (count' : ℕ) → closed ≡ false → e ≡ None → count + length piece ≤ n * 10000
+      → IsKept (at closed e) q r a
+      → length piece < n - length r → r' ≡ r ++ piece → count' ≡ count + length piece → IsWroteAs closed e piece q r' count' a
+  short_in closed e a piece r' count' o p few k short hr hc =
       let c : IsCutUp n false q r = subst (λ v. IsCutUp n v q r) o (cut_in closed e p k.cut) in
       let sum : length (r ++ piece) ≡ length r + length piece = length-append r piece in
       let l : length (r ++ piece) < n = omega (arith, sum, c.1) in
       let c' : IsCutUp n false q (r ++ piece) = (c.0, l) in
-      let is : seen mode bucket key n q (r ++ piece) u tags (count + length piece) closed e ≡ wrote (at closed e) piece =
-      ap (λ z. record { mode = mode; bucket = bucket; key = key; block = n; pending = z; upload = u; tags = tags; count = count + length piece; closed = closed; end = e })
-      (sym (append_assoc (concat q) r piece) ∙ sym (ap (λ v. added v (concat q ++ r) piece) p)) in
-      let old : wanted (at closed e) ≡ wanted (at false None) = ap (λ v. wanted (at v e)) o ∙ ap (λ v. wanted (at false v)) p in
-      let new : wanted (seen mode bucket key n q (r ++ piece) u tags (count + length piece) closed e) ≡ wanted (seen mode bucket key n q (r ++ piece) u tags (count + length piece) false None) =
-      ap (λ v. wanted (seen mode bucket key n q (r ++ piece) u tags (count + length piece) v e)) o ∙ ap (λ v. wanted (seen mode bucket key n q (r ++ piece) u tags (count + length piece) false v)) p in (
-        is,
-        record {
-          asks = k.asks ∙ old ∙ sym (asks_is mode bucket key n q r u tags count false k.room.some c)
-              ∙ asks_is mode bucket key n q (r ++ piece) u tags (count + length piece) false k.room.some c' ∙ sym new;
-          room = subst HasRoom (sym is) (room_wrote (at closed e) piece o few k.room);
-          parts = k.parts;
-          done = λ z w. absurd (none-some Done (sym p ∙ z));
-          cut = cut_of e n closed q (r ++ piece) (subst (λ v. IsCutUp n v q (r ++ piece)) (sym o) c');
-        },
-      )
+      rw (hr, hc)
+      (wrote_kept e a a piece closed q (r ++ piece) o p few k (sym (append_assoc (concat q) r piece)) c'
+      (k.asks ∙ ap (λ v. wanted (at v e)) o ∙ ap (λ v. wanted (at false v)) p ∙ sym (asks_is mode bucket key n q r u tags count false k.room.some c)
+      ∙ asks_is mode bucket key n q (r ++ piece) u tags (count + length piece) false k.room.some c'))
 
   -- the fields after a piece that fills blocks
-  pub long_kept : (e : Option StreamEnd) (a : Option Request) (piece : List ℕ) (closed : Bool) (bs : List (List ℕ)) (rest : List ℕ) (x : Option Request × Option StreamEnd) → closed ≡ false → e ≡ None → count + length piece ≤ n * 10000 → IsKept (at closed e) q r a
-      → concat bs ++ rest ≡ r ++ piece → AreLong n bs → length rest < n
-      → x ≡ next_by mode bucket key n (front_of q bs) false tags u
-      → (seen mode bucket key n (q ++ bs) rest u tags (count + length piece) closed e ≡ wrote (at closed e) piece) × IsKept (seen mode bucket key n (q ++ bs) rest u tags (count + length piece) closed e) (q ++ bs) rest x.0
-  long_kept e a piece closed bs rest x o p few k joined long short h =
+  pub long_in : (closed : Bool) (e : Option StreamEnd) (a b : Option Request) (piece rest : List ℕ) (bs q' f : List (List ℕ)) (count' : ℕ) (x : Option Request × Option StreamEnd) → closed ≡ false → e ≡ None → count + length piece ≤ n * 10000 → IsKept (at closed e) q r a
+      → concat bs ++ rest ≡ r ++ piece → AreLong n bs → length rest < n → count' ≡ count + length piece
+      → f ≡ front_of q bs → b ≡ x.0 → x ≡ next_by mode bucket key n f false tags u → q' ≡ q ++ bs → IsWroteAs closed e piece q' rest count' b
+  long_in closed e a b piece rest bs q' f count' x o p few k joined long short hc hf hb hx hq =
       let c : IsCutUp n false q r = subst (λ v. IsCutUp n v q r) o (cut_in closed e p k.cut) in
       let c' : IsCutUp n false (q ++ bs) rest = (long_both n q bs c.0 long, short) in
-      let bytes : concat (q ++ bs) ++ rest ≡ (concat q ++ r) ++ piece =
-      ap (λ z. z ++ rest) (concat-append q bs) ∙ append_assoc (concat q) (concat bs) rest ∙ ap (λ z. concat q ++ z) joined ∙ sym (append_assoc (concat q) r piece) in
-      let is : seen mode bucket key n (q ++ bs) rest u tags (count + length piece) closed e ≡ wrote (at closed e) piece =
-      ap (λ z. record { mode = mode; bucket = bucket; key = key; block = n; pending = z; upload = u; tags = tags; count = count + length piece; closed = closed; end = e })
-      (bytes ∙ sym (ap (λ v. added v (concat q ++ r) piece) p)) in
-      let new : wanted (seen mode bucket key n (q ++ bs) rest u tags (count + length piece) closed e) ≡ wanted (seen mode bucket key n (q ++ bs) rest u tags (count + length piece) false None) =
-      ap (λ v. wanted (seen mode bucket key n (q ++ bs) rest u tags (count + length piece) v e)) o ∙ ap (λ v. wanted (seen mode bucket key n (q ++ bs) rest u tags (count + length piece) false v)) p in (
-        is,
-        record {
-          asks = ap (λ (v : Option Request × Option StreamEnd). v.0) (h ∙ front_next mode bucket key n q bs false tags u) ∙ (next_is mode bucket key n (q ++ bs) rest u tags (count + length piece) false k.room.some c' k.parts).1 ∙ sym new;
-          room = subst HasRoom (sym is) (room_wrote (at closed e) piece o few k.room);
-          parts = k.parts;
-          done = λ z w. absurd (none-some Done (sym p ∙ z));
-          cut = cut_of e n closed (q ++ bs) rest (subst (λ v. IsCutUp n v (q ++ bs) rest) (sym o) c');
-        },
-      )
+      rw (hq, hc, hb)
+      (wrote_kept e a x.0 piece closed (q ++ bs) rest o p few k
+      (ap (λ z. z ++ rest) (concat-append q bs) ∙ append_assoc (concat q) (concat bs) rest ∙ ap (λ z. concat q ++ z) joined ∙ sym (append_assoc (concat q) r piece)) c'
+      (ap (λ (v : Option Request × Option StreamEnd). v.0) (hx ∙ ap (λ z. next_by mode bucket key n z false tags u) hf ∙ front_next mode bucket key n q bs false tags u)
+      ∙ (next_is mode bucket key n (q ++ bs) rest u tags (count + length piece) false k.room.some c' k.parts).1))
 
   -- the fields after the close
   pub close_kept : (e : Option StreamEnd) (a : Option Request) (closed : Bool) (x : Option Request × Option StreamEnd) → closed ≡ false → e ≡ None → IsKept (at closed e) q r a
@@ -200,28 +196,7 @@ module _ (mode : StreamMode) (bucket key : List ℕ) (n : ℕ) (q : List (List �
   pub part_in : (closed : Bool) (e : Option StreamEnd) (a b : Option Request) (t : Spelled) (x : Option Request × Option StreamEnd) (q' : List (List ℕ)) (tags' : List Spelled) → IsKept (at closed e) q r a → stage (at closed e) ≡ Sending
       → q' ≡ drop 1 q → tags' ≡ tags ++ t ∷ [] → b ≡ x.0 → x ≡ next_by mode bucket key n q' closed (tags ++ t ∷ []) u → IsParted closed e t q' tags' b x.1
   part_in closed e a b t x q' tags' k s hq ht hb hx =
-      subst (λ z. IsParted closed e t z tags' b x.1) (sym hq)
-      (subst (λ z. IsParted closed e t (drop 1 q) z b x.1) (sym ht)
-      (subst (λ z. IsParted closed e t (drop 1 q) (tags ++ t ∷ []) z x.1) (sym hb)
-      (part_kept closed e a t x k s (hx ∙ ap (λ z. next_by mode bucket key n z closed (tags ++ t ∷ []) u) hq))))
-
-  abbrev pub IsWroteAs : Bool → Option StreamEnd → List ℕ → List (List ℕ) → List ℕ → ℕ → Option Request → Type 0
-  IsWroteAs closed e piece q' r' count' b = (seen mode bucket key n q' r' u tags count' closed e ≡ wrote (at closed e) piece) × IsKept (seen mode bucket key n q' r' u tags count' closed e) q' r' b
-
-  pub short_in : (closed : Bool) (e : Option StreamEnd) (a : Option Request) (piece r' : List ℕ) (count' : ℕ) → closed ≡ false → e ≡ None → count + length piece ≤ n * 10000 → IsKept (at closed e) q r a
-      → length piece < n - length r → r' ≡ r ++ piece → count' ≡ count + length piece → IsWroteAs closed e piece q r' count' a
-  short_in closed e a piece r' count' o p few k short hr hc =
-      subst (λ z. IsWroteAs closed e piece q z count' a) (sym hr)
-      (subst (λ z. IsWroteAs closed e piece q (r ++ piece) z a) (sym hc) (short_kept e a piece closed o p short few k))
-
-  pub long_in : (closed : Bool) (e : Option StreamEnd) (a b : Option Request) (piece rest : List ℕ) (bs q' f : List (List ℕ)) (count' : ℕ) (x : Option Request × Option StreamEnd) → closed ≡ false → e ≡ None → count + length piece ≤ n * 10000 → IsKept (at closed e) q r a
-      → concat bs ++ rest ≡ r ++ piece → AreLong n bs → length rest < n → count' ≡ count + length piece
-      → f ≡ front_of q bs → b ≡ x.0 → x ≡ next_by mode bucket key n f false tags u → q' ≡ q ++ bs → IsWroteAs closed e piece q' rest count' b
-  long_in closed e a b piece rest bs q' f count' x o p few k joined long short hc hf hb hx hq =
-      subst (λ z. IsWroteAs closed e piece z rest count' b) (sym hq)
-      (subst (λ z. IsWroteAs closed e piece (q ++ bs) rest z b) (sym hc)
-      (subst (λ z. IsWroteAs closed e piece (q ++ bs) rest (count + length piece) z) (sym hb)
-      (long_kept e a piece closed bs rest x o p few k joined long short (hx ∙ ap (λ z. next_by mode bucket key n z false tags u) hf))))
+      rw (hq, ht, hb) (part_kept closed e a t x k s (hx ∙ ap (λ z. next_by mode bucket key n z closed (tags ++ t ∷ []) u) hq))
 
   abbrev pub IsClosedAs : Bool → Option StreamEnd → List (List ℕ) → List ℕ → Option Request → Option StreamEnd → Type 0
   IsClosedAs closed e q' r' b e' = (seen mode bucket key n q' r' u tags count true e' ≡ close (at closed e)) × IsKept (seen mode bucket key n q' r' u tags count true e') q' r' b
@@ -229,7 +204,4 @@ module _ (mode : StreamMode) (bucket key : List ℕ) (n : ℕ) (q : List (List �
   pub close_in : (closed : Bool) (e : Option StreamEnd) (a b : Option Request) (r' : List ℕ) (l q' f : List (List ℕ)) (x : Option Request × Option StreamEnd) → closed ≡ false → e ≡ None → IsKept (at closed e) q r a
       → l ≡ last_of r → f ≡ front_of q l → b ≡ x.0 → x ≡ next_by mode bucket key n f true tags u → q' ≡ q ++ l → r' ≡ [] → IsClosedAs closed e q' r' b x.1
   close_in closed e a b r' l q' f x o p k hl hf hb hx hq hr =
-      subst (λ z. IsClosedAs closed e z r' b x.1) (sym (hq ∙ ap (λ z. q ++ z) hl))
-      (subst (λ z. IsClosedAs closed e (q ++ last_of r) z b x.1) (sym hr)
-      (subst (λ z. IsClosedAs closed e (q ++ last_of r) [] z x.1) (sym hb)
-      (close_kept e a closed x o p k (hx ∙ ap (λ z. next_by mode bucket key n z true tags u) (hf ∙ ap (front_of q) hl)))))
+      rw (hq, hl, hr, hb) (close_kept e a closed x o p k (hx ∙ ap (λ z. next_by mode bucket key n z true tags u) (hf ∙ ap (front_of q) hl)))

@@ -14,11 +14,10 @@ use Rattle.block_stream.specs.Holds.{numbered_from, numbered, AreLong, AreBlocks
 pub get_same : {K X : Type 0} {R : K → K → Ordering} (o : IsTotalOrder R) (m : FinMap R X) (k : K) (v : X) → fin.get (fin.insert m k v) k ≡ Some v
 get_same o m k v = get-insert o m k v k ∙ ap (λ b. cond b (Some v) (fin.get m k)) ((eq_by_cmp_equiv o).refl k)
 
-unequal : (q k : ℕ) → q < k → eq_by_cmp nat_cmp q k ≡ false
-unequal q k h = grind (arith, nat_tests)
-
 get_lower : (m : Parts) (k : ℕ) (v : List ℕ) (q : ℕ) → q < k → fin.get (fin.insert m k v) q ≡ fin.get m q
-get_lower m k v q h = get-insert nat_cmp_total m k v q ∙ ap (λ b. cond b (Some v) (fin.get m q)) (unequal q k h)
+get_lower m k v q h =
+    let e : eq_by_cmp nat_cmp q k ≡ false = grind (arith, nat_tests) in
+    get-insert nat_cmp_total m k v q ∙ ap (λ b. cond b (Some v) (fin.get m q)) e
 
 -- one part more
 pub numbered_more : (n : ℕ) (m : Parts) (bs : List (List ℕ)) (x : List ℕ) → numbered_from n m (bs ++ x ∷ []) ≡ fin.insert (numbered_from n m bs) (length bs + n) x
@@ -36,15 +35,12 @@ StandFrom m n (b ∷ bs) = (fin.get m n ≡ Some b) × StandFrom m (n + 1) bs
 
 lower_kept : (n : ℕ) (m : Parts) (bs : List (List ℕ)) (q : ℕ) → q < n → fin.get (numbered_from n m bs) q ≡ fin.get m q
 lower_kept n m [] q h = refl
-lower_kept n m (b ∷ bs) q h =
-    let k : q < n + 1 = omega arith in
-    lower_kept (n + 1) (fin.insert m n b) bs q k ∙ get_lower m n b q h
+lower_kept n m (b ∷ bs) q h = lower_kept (n + 1) (fin.insert m n b) bs q (omega arith) ∙ get_lower m n b q h
 
 pub numbered_stand : (n : ℕ) (m : Parts) (bs : List (List ℕ)) → StandFrom (numbered_from n m bs) n bs
 numbered_stand n m [] = tt
 numbered_stand n m (b ∷ bs) =
-    let k : n < n + 1 = omega arith in
-    (lower_kept (n + 1) (fin.insert m n b) bs n k ∙ get_same nat_cmp_total m n b, numbered_stand (n + 1) (fin.insert m n b) bs)
+    (lower_kept (n + 1) (fin.insert m n b) bs n (omega arith) ∙ get_same nat_cmp_total m n b, numbered_stand (n + 1) (fin.insert m n b) bs)
 
 -- the last part stands
 pub last_stands : (bs : List (List ℕ)) (x : List ℕ) → fin.get (numbered (bs ++ x ∷ [])) (length bs + 1) ≡ Some x
@@ -53,10 +49,7 @@ last_stands bs x = ap (λ m. fin.get m (length bs + 1)) (numbered_more 1 fin.emp
 -- ---- a completion that names them all
 
 same_tag : (t : Spelled) → tag_eq t t ≡ true
-same_tag t = ap (λ b. b && nat_eq t.parts t.parts) (text_equiv.refl t.digits) ∙ same_number t.parts
-  where
-    same_number : (n : ℕ) → nat_eq n n ≡ true
-    same_number n = grind (arith, nat_tests)
+same_tag t = ap (λ b. b && nat_eq t.parts t.parts) (text_equiv.refl t.digits) ∙ (grind (arith, nat_tests))
 
 all_sent : (m : Parts) (n : ℕ) (bs : List (List ℕ)) → StandFrom m n bs → list_all (is_sent m) (named_from n (map plain_tag bs)) ≡ true
 all_sent m n [] h = refl
@@ -100,49 +93,40 @@ not_none n [] t = refl
 not_none n (x ∷ ts) t = refl
 
 -- blocks of no less than the minimum are joined
+module _ (u : Upload) (f : List (List ℕ)) (x : List ℕ) (size minimum : ℕ) (is : u.parts ≡ numbered (f ++ x ∷ [])) (long : AreLong size f) (least : minimum ≤ size) where
+  abbrev tags : List Spelled
+  tags = map plain_tag (f ++ x ∷ [])
+
+  abbrev ns : List NamedPart
+  ns = named_from 1 tags
+
+  stand : StandFrom u.parts 1 (f ++ x ∷ [])
+  stand = subst (λ m. StandFrom m 1 (f ++ x ∷ [])) (sym is) (numbered_stand 1 fin.empty (f ++ x ∷ []))
+
+  one_less : length (map plain_tag f ++ plain_tag x ∷ []) - 1 ≡ length (map plain_tag f)
+  one_less = omega (arith, one_longer (map plain_tag f) (plain_tag x))
+
+  split : tags ≡ map plain_tag f ++ plain_tag x ∷ []
+  split = map-append plain_tag f (x ∷ [])
+
+  fronts : take (length ns - 1) ns ≡ named_from 1 (map plain_tag f)
+  fronts = ap (λ ts. take (length (named_from 1 ts) - 1) (named_from 1 ts)) split
+      ∙ ap (λ n. take (n - 1) (named_from 1 (map plain_tag f ++ plain_tag x ∷ []))) (length_named 1 (map plain_tag f ++ plain_tag x ∷ []))
+      ∙ ap (λ n. take n (named_from 1 (map plain_tag f ++ plain_tag x ∷ []))) one_less
+      ∙ front_named 1 (map plain_tag f) (plain_tag x)
+
+  checks : (a b c d : Bool) (l : List ℕ) → a ≡ false → b ≡ true → c ≡ true → d ≡ true
+      → cond a (Err Rattle.s3_types.specs.declared.reply.Refusal.TheVariants.MalformedList) (cond b (cond c (cond d (Ok l) (Err Rattle.s3_types.specs.declared.reply.Refusal.TheVariants.EntityTooSmall)) (Err Rattle.s3_types.specs.declared.reply.Refusal.TheVariants.InvalidPart)) (Err Rattle.s3_types.specs.declared.reply.Refusal.TheVariants.InvalidPartOrder)) ≡ Ok l
+  checks a b c d l ea eb ec ed = cc
+
+  all_joined : joined (Some u) ns minimum ≡ Ok (concat (f ++ x ∷ []))
+  all_joined = checks (is_none_named ns) (rises ns) (list_all (is_sent u.parts) ns) (list_all (is_large u.parts minimum) (take (length ns - 1) ns)) (flat_map (bytes_of u.parts) ns)
+      (ap (λ ts. is_none_named (named_from 1 ts)) split ∙ not_none 1 (map plain_tag f) (plain_tag x)) (rise 1 tags) (all_sent u.parts 1 (f ++ x ∷ []) stand)
+      (ap (list_all (is_large u.parts minimum)) fronts ∙ all_large u.parts minimum size 1 f (x ∷ []) stand long least)
+      ∙ ap Ok (all_bytes u.parts 1 (f ++ x ∷ []) stand)
+
 pub completes : (u : Upload) (bs : List (List ℕ)) (size minimum : ℕ) → u.parts ≡ numbered bs → AreBlocks size bs → minimum ≤ size
     → joined (Some u) (named_from 1 (map plain_tag bs)) minimum ≡ Ok (concat bs)
 completes u bs size minimum is blocks least =
-    subst (λ v. joined (Some u) (named_from 1 (map plain_tag v)) minimum ≡ Ok (concat v)) (sym blocks.are) by
-  where
-    f : List (List ℕ)
-    f = blocks.front
-
-    x : List ℕ
-    x = blocks.last
-
-    tags : List Spelled
-    tags = map plain_tag (f ++ x ∷ [])
-
-    ns : List NamedPart
-    ns = named_from 1 tags
-
-    stand : StandFrom u.parts 1 (f ++ x ∷ [])
-    stand = subst (λ m. StandFrom m 1 (f ++ x ∷ [])) (ap numbered (sym blocks.are) ∙ sym is) (numbered_stand 1 fin.empty (f ++ x ∷ []))
-
-    one_less : length (map plain_tag f ++ plain_tag x ∷ []) - 1 ≡ length (map plain_tag f)
-    one_less = omega (arith, one_longer (map plain_tag f) (plain_tag x))
-
-    split : tags ≡ map plain_tag f ++ plain_tag x ∷ []
-    split = map-append plain_tag f (x ∷ [])
-
-    fronts : take (length ns - 1) ns ≡ named_from 1 (map plain_tag f)
-    fronts = ap (λ ts. take (length (named_from 1 ts) - 1) (named_from 1 ts)) split
-        ∙ ap (λ n. take (n - 1) (named_from 1 (map plain_tag f ++ plain_tag x ∷ []))) (length_named 1 (map plain_tag f ++ plain_tag x ∷ []))
-        ∙ ap (λ n. take n (named_from 1 (map plain_tag f ++ plain_tag x ∷ []))) one_less
-        ∙ front_named 1 (map plain_tag f) (plain_tag x)
-
-    some : is_none_named ns ≡ false
-    some = ap (λ ts. is_none_named (named_from 1 ts)) split ∙ not_none 1 (map plain_tag f) (plain_tag x)
-
-    large : list_all (is_large u.parts minimum) (take (length ns - 1) ns) ≡ true
-    large = ap (list_all (is_large u.parts minimum)) fronts ∙ all_large u.parts minimum size 1 f (x ∷ []) stand blocks.long least
-
-    checks : (a b c d : Bool) (l : List ℕ) → a ≡ false → b ≡ true → c ≡ true → d ≡ true
-        → cond a (Err Rattle.s3_types.specs.declared.reply.Refusal.TheVariants.MalformedList) (cond b (cond c (cond d (Ok l) (Err Rattle.s3_types.specs.declared.reply.Refusal.TheVariants.EntityTooSmall)) (Err Rattle.s3_types.specs.declared.reply.Refusal.TheVariants.InvalidPart)) (Err Rattle.s3_types.specs.declared.reply.Refusal.TheVariants.InvalidPartOrder)) ≡ Ok l
-    checks a b c d l ea eb ec ed = cc
-
-    by : joined (Some u) ns minimum ≡ Ok (concat (f ++ x ∷ []))
-    by = checks (is_none_named ns) (rises ns) (list_all (is_sent u.parts) ns) (list_all (is_large u.parts minimum) (take (length ns - 1) ns)) (flat_map (bytes_of u.parts) ns)
-        some (rise 1 tags) (all_sent u.parts 1 (f ++ x ∷ []) stand) large
-        ∙ ap Ok (all_bytes u.parts 1 (f ++ x ∷ []) stand)
+    subst (λ v. joined (Some u) (named_from 1 (map plain_tag v)) minimum ≡ Ok (concat v)) (sym blocks.are)
+    (all_joined u blocks.front blocks.last size minimum (is ∙ ap numbered blocks.are) blocks.long least)

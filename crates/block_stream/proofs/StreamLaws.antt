@@ -5,31 +5,24 @@ use Rattle.machine.specs.Prelude.{Reply, Stored, Upload, Part, Completed, Refuse
 use Rattle.block_stream.specs.declared.mode.StreamEnd.TheVariants.{Done, Gone}
 use Rattle.block_stream.specs.declared.stage.Stage.{Stage}
 use Rattle.block_stream.specs.declared.stage.Stage.TheVariants.{Putting, Beginning, Sending, Completing}
-use Rattle.block_stream.specs.Stream.{Stream, stage, wanted, ended, is_settled, settled, parted, refused, told, moved, answers, Fits, left, standing, standing_of, is_no_upload}
+use Rattle.block_stream.specs.Stream.{Stream, stage, wanted, parted, refused, told, moved, answers, Fits, left, standing, standing_of, is_no_upload}
 use Rattle.block_stream.specs.Holds.{IsReady}
+use Rattle.block_stream.proofs.FillingLaws.{settled_by}
 use Rattle.block_stream.proofs.KeepingLaws.{hidden, took, lost, gave_up, fit, falls, some_left, asks_alive}
 
 -- no reply is a fault of the store or of memory
-fine_settled : (m : Stream) → standing m ≡ Fine → standing (settled m) ≡ Fine
-fine_settled m h =
-    elim (is_settled m) as (λ z. standing (cond z (ended m Done) m) ≡ Fine) [
-      | true ↦ refl
-      | false ↦ h
-    ]
-
-fine_end : (b : Bool) → standing_of (Some (cond b Done Gone)) ≡ Fine
-fine_end true = refl
-fine_end false = refl
-
 fine_refused : (m : Stream) (b : Bool) (r : Refusal) → standing m ≡ Fine → is_no_upload r ≡ true → standing (refused m b r) ≡ Fine
-fine_refused m b Rattle.s3_types.specs.declared.reply.Refusal.TheVariants.NoSuchUpload h k = fine_end b
+fine_refused m b Rattle.s3_types.specs.declared.reply.Refusal.TheVariants.NoSuchUpload h k = elim b as (λ b. standing_of (Some (cond b Done Gone)) ≡ Fine) [
+  | true ↦ refl
+  | false ↦ refl
+]
 fine_refused m b _ h k = absurd (cc)
 
 -- at a stage that asks
 fine_told : (g : Stage) (m : Stream) (b : Bool) (a : Reply) → standing m ≡ Fine → answers g a ≡ true → standing (told g m b a) ≡ Fine
 fine_told Putting m b (Stored t) h k = refl
 fine_told Beginning m b (Upload id) h k = h
-fine_told Sending m b (Part t) h k = fine_settled (parted m t) h
+fine_told Sending m b (Part t) h k = settled_by (λ v. standing v ≡ Fine) (parted m t) refl h
 fine_told Sending m b (Refused r) h k = fine_refused m false r h k
 fine_told Completing m b (Completed t) h k = refl
 fine_told Completing m b (Refused r) h k = fine_refused m b r h k

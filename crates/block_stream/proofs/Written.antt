@@ -5,7 +5,6 @@ use Rattle.proof_base.proofs.Common.{and_right, take-append-le, nat_tests}
 use Rattle.machine.specs.Prelude.{Scene, BucketContent, Spelled, Request}
 use Rattle.std.specs.FinMap as fin
 use Rattle.block_stream.specs.declared.mode.StreamMode.{StreamMode}
-use Rattle.block_stream.specs.declared.mode.StreamEnd.{StreamEnd}
 use Rattle.block_stream.specs.declared.mode.StreamEnd.TheVariants.{Done}
 use Rattle.block_stream.specs.declared.stage.Stage.{Stage}
 use Rattle.block_stream.specs.declared.stage.Stage.TheVariants.{Waiting, Putting, Beginning, Sending, Completing, Over}
@@ -36,42 +35,31 @@ fresh_holds mode bucket key n s c some there least =
 pub start_holds : (mode : StreamMode) (bucket key : List ℕ) (n : ℕ) (q : List (List ℕ)) (r : List ℕ) (tags : List Spelled) → q ≡ [] → r ≡ [] → tags ≡ [] → (s : Scene) (c : BucketContent) → 1 ≤ n → fin.get s.content.buckets bucket ≡ Some c → s.content.minimum ≤ n
     → Holds (seen mode bucket key n q r None tags 0 false None) s false []
 start_holds mode bucket key n q r tags hq hr ht s c some there least =
-    subst (λ z. Holds (seen mode bucket key n z r None tags 0 false None) s false []) (sym hq)
-    (subst (λ z. Holds (seen mode bucket key n [] z None tags 0 false None) s false []) (sym hr)
-    (subst (λ z. Holds (seen mode bucket key n [] [] None z 0 false None) s false []) (sym ht) (fresh_holds mode bucket key n s c some there least)))
+    rw (hq, hr, ht) (fresh_holds mode bucket key n s c some there least)
 
-pub holds_written : {E : Type 0} (r : Result (Unit {0}) E) (m m' : Stream) (piece : List ℕ) → m.closed ≡ false → OnOk r (m' ≡ wrote m piece) → OnOk r (m.count + length piece ≤ m.block * 10000)
-    → OnOk r ((s : Scene) (repeated : Bool) (bytes : List ℕ) → Holds m s repeated bytes → Holds m' s repeated (bytes ++ piece))
-holds_written (Ok u) m m' piece o e l = λ s b bytes h. subst (λ v. Holds v s b (bytes ++ piece)) (sym e) (holds_wrote m s b bytes o h piece l)
-holds_written (Err e) m m' piece o i l = tt
+pub holds_written : (m m' : Stream) (piece : List ℕ) → m.closed ≡ false → m' ≡ wrote m piece → m.count + length piece ≤ m.block * 10000
+    → (s : Scene) (repeated : Bool) (bytes : List ℕ) → Holds m s repeated bytes → Holds m' s repeated (bytes ++ piece)
+holds_written m m' piece o e l s b bytes h = subst (λ v. Holds v s b (bytes ++ piece)) (sym e) (holds_wrote m s b bytes o h piece l)
 
-pub holds_closed : {E : Type 0} (r : Result (Unit {0}) E) (m m' : Stream) → m.closed ≡ false → OnOk r (m' ≡ close m) → OnOk r ((s : Scene) (repeated : Bool) (bytes : List ℕ) → Holds m s repeated bytes → Holds m' s repeated bytes)
-holds_closed (Ok u) m m' o e = λ s b bytes h. subst (λ v. Holds v s b bytes) (sym e) (holds_close m s b bytes o h)
-holds_closed (Err e) m m' o i = tt
+pub holds_closed : (m m' : Stream) → m.closed ≡ false → m' ≡ close m → (s : Scene) (repeated : Bool) (bytes : List ℕ) → Holds m s repeated bytes → Holds m' s repeated bytes
+holds_closed m m' o e s b bytes h = subst (λ v. Holds v s b bytes) (sym e) (holds_close m s b bytes o h)
 
 -- ---- what is asked
 
 -- an open stream that asks something has a part to send
 part_due : (m : Stream) → m.closed ≡ false → (r : Request) → wanted m ≡ Some r → has_part m ≡ true
-part_due m o r w = by (stage m) refl w
+part_due m o r w = by (stage m) (at_stage m) w
   where
-    by : (g : Stage) → stage m ≡ g → asks g m ≡ Some r → has_part m ≡ true
-    by Waiting e h = absurd (cc)
-    by Over e h = absurd (cc)
-    by Putting e h =
-        let k : AtStage Putting m = subst (λ g. AtStage g m) e (at_stage m) in
-        absurd (true≢false (sym (small_parts m k.2).1 ∙ o))
-    by Beginning e h = let k : AtStage Beginning m = subst (λ g. AtStage g m) e (at_stage m) in k.2
-    by Sending e h = let k : AtStage Sending m = subst (λ g. AtStage g m) e (at_stage m) in k.2
-    by Completing e h = let k : AtStage Completing m = subst (λ g. AtStage g m) e (at_stage m) in absurd (true≢false (sym k.3 ∙ o))
+    by : (g : Stage) → AtStage g m → asks g m ≡ Some r → has_part m ≡ true
+    by Waiting k h = absurd (cc)
+    by Over k h = absurd (cc)
+    by Putting k h = absurd (true≢false (sym (small_parts m k.2).1 ∙ o))
+    by Completing k h = absurd (true≢false (sym k.3 ∙ o))
+    by _ k h = k.2
 
 -- after a fault the close changes nothing else
 pub shut_ended : (m : Stream) → is_some m.end ≡ true → shut m ≡ close m
-shut_ended m h = by m.end h
-  where
-    by : (e : Option StreamEnd) → is_some e ≡ true → shut m ≡ closed_by e m
-    by (Some e) h = refl
-    by None h = absurd (cc)
+shut_ended m h = (elim m.end as (λ e. is_some e ≡ true → shut m ≡ closed_by e m) [ Some e ↦ λ h. refl | None ↦ λ h. absurd (cc) ]) h
 
 -- the stage of a stream with a part to send
 abbrev sends : Option ℕ → Stage
@@ -95,9 +83,6 @@ large_not_small m l = and_right (is_direct m.mode) (m.closed && nat_lt (length m
     not_less a b h = grind (arith, nat_tests)
 
 -- with more pending, or closed, the same is asked
-same_asked : (m m' : Stream) (u : Option ℕ) → asks (sends u) m ≡ asks (sends u) m' → wanted m ≡ asks (sends u) m → wanted m' ≡ asks (sends u) m' → wanted m' ≡ wanted m
-same_asked m m' u e h k = k ∙ sym e ∙ sym h
-
 wrote_asked : (m : Stream) (piece : List ℕ) → m.closed ≡ false → (r : Request) → wanted m ≡ Some r → wanted (wrote m piece) ≡ wanted m
 wrote_asked m piece o r w =
     let e = asks_alive m r w in
@@ -106,8 +91,9 @@ wrote_asked m piece o r w =
     let new : Stream = record { mode = m.mode; bucket = m.bucket; key = m.key; block = m.block; pending = m.pending ++ piece; upload = m.upload; tags = m.tags; count = m.count + length piece; closed = m.closed; end = m.end } in
     let is : wrote m piece ≡ new = ap (λ v. record { mode = m.mode; bucket = m.bucket; key = m.key; block = m.block; pending = added v m.pending piece; upload = m.upload; tags = m.tags; count = m.count + length piece; closed = m.closed; end = m.end }) e in
     ap wanted is
-    ∙ same_asked m new m.upload (by m.upload (take-append-le m.block m.pending piece l)) (due_wanted m e (open_not_small m o) d)
-    (due_wanted new e (open_not_small new o) (is_due new (longer m.block m.pending piece l)))
+    ∙ due_wanted new e (open_not_small new o) (is_due new (longer m.block m.pending piece l))
+    ∙ sym (by m.upload (take-append-le m.block m.pending piece l))
+    ∙ sym (due_wanted m e (open_not_small m o) d)
   where
     by : (u : Option ℕ) → take m.block (m.pending ++ piece) ≡ take m.block m.pending → asks (sends u) m ≡ asks (sends u) (record { mode = m.mode; bucket = m.bucket; key = m.key; block = m.block; pending = m.pending ++ piece; upload = m.upload; tags = m.tags; count = m.count + length piece; closed = m.closed; end = m.end })
     by None h = refl
@@ -120,7 +106,7 @@ close_asked m o r w =
     let l = open_due m o d in
     let p : has_part (shut m) ≡ true = is_due (shut m) l in
     let is : close m ≡ shut m = ap (λ v. closed_by v m) e ∙ ap (λ b. cond b (ended (shut m) Done) (shut m)) (unsettled (shut m) p) in
-    ap wanted is ∙ same_asked m (shut m) m.upload (by m.upload) (due_wanted m e (open_not_small m o) d) (due_wanted (shut m) e (large_not_small (shut m) l) p)
+    ap wanted is ∙ due_wanted (shut m) e (large_not_small (shut m) l) p ∙ sym (by m.upload) ∙ sym (due_wanted m e (open_not_small m o) d)
   where
     by : (u : Option ℕ) → asks (sends u) m ≡ asks (sends u) (shut m)
     by None = refl
@@ -130,10 +116,8 @@ of_some : (m m' : Stream) (v : Option Request) → wanted m ≡ v → ((r : Requ
 of_some m m' (Some r) e f h = f r e
 of_some m m' None e f h = absurd (cc)
 
-pub asked_written : {E : Type 0} (r : Result (Unit {0}) E) (m m' : Stream) (piece : List ℕ) → m.closed ≡ false → OnOk r (m' ≡ wrote m piece) → OnOk r (IsSome (wanted m) → wanted m' ≡ wanted m)
-asked_written (Ok u) m m' piece o e = λ h. ap wanted e ∙ of_some m (wrote m piece) (wanted m) refl (wrote_asked m piece o) h
-asked_written (Err e) m m' piece o i = tt
+pub asked_written : (m m' : Stream) (piece : List ℕ) → m.closed ≡ false → m' ≡ wrote m piece → IsSome (wanted m) → wanted m' ≡ wanted m
+asked_written m m' piece o e h = ap wanted e ∙ of_some m (wrote m piece) (wanted m) refl (wrote_asked m piece o) h
 
-pub asked_closed : {E : Type 0} (r : Result (Unit {0}) E) (m m' : Stream) → m.closed ≡ false → OnOk r (m' ≡ close m) → OnOk r (IsSome (wanted m) → wanted m' ≡ wanted m)
-asked_closed (Ok u) m m' o e = λ h. ap wanted e ∙ of_some m (close m) (wanted m) refl (close_asked m o) h
-asked_closed (Err e) m m' o i = tt
+pub asked_closed : (m m' : Stream) → m.closed ≡ false → m' ≡ close m → IsSome (wanted m) → wanted m' ≡ wanted m
+asked_closed m m' o e h = ap wanted e ∙ of_some m (close m) (wanted m) refl (close_asked m o) h

@@ -3,7 +3,7 @@ use Rattle.std.specs.Prelude.{◌≡◌, ℕ, Bool, true, false, nat_lt, cond, L
 use Rattle.std.proofs.Common.{refl, sym, ap, ◌∙◌, ◌⊎◌, inl, inr}
 use Rattle.proof_base.proofs.Common.{exact_bytes}
 use Rattle.s3_types.specs.Prelude.{same_map}
-use Rattle.bucket_ops.specs.Prelude.{text_cmp, text_total, Objects, BucketContent, Buckets, Scene, answer, apply, answer_at, apply_at, copy_answer, copied, without, Object, Request, Ask, Head, Get, Page, Put, Drop, DropAll, Copy, request_of, reply_in, edited, reply_at, objects_at, with_objects_if, with_objects, Repeats}
+use Rattle.bucket_ops.specs.Prelude.{text_cmp, text_total, Objects, BucketContent, Buckets, Scene, answer, apply, answer_at, apply_at, copy_answer, copied, without, Object, Request, Ask, Head, Put, Drop, DropAll, Copy, request_of, reply_in, edited, reply_at, objects_at, with_objects_if, with_objects, Repeats}
 use Rattle.std.specs.FinMap as fin
 use Rattle.proof_base.proofs.Tree.{insert_same}
 use Rattle.proof_base.proofs.Members.{same_or_other, text_here, text_other, text_gone, text_left}
@@ -48,10 +48,6 @@ pub all_gone : (m : Objects) (ks : List (List ℕ)) → AreGone m ks → without
 all_gone m [] h = refl
 all_gone m (k ∷ ks) h = ap (λ n. without n ks) (none_gone m k h.0) ∙ all_gone m ks h.1
 
-still_gone : (m : Objects) (ks : List (List ℕ)) (qs : List (List ℕ)) → AreGone m qs → AreGone (without m ks) qs
-still_gone m ks [] h = tt
-still_gone m ks (q ∷ qs) h = (gone_still m ks q h.0, still_gone m ks qs h.1)
-
 pub are_gone : (m : Objects) (ks : List (List ℕ)) → AreGone (without m ks) ks
 are_gone m [] = tt
 are_gone m (k ∷ ks) = (gone_still (fin.remove m k) ks k (text_gone m k k refl), are_gone (fin.remove m k) ks)
@@ -60,23 +56,18 @@ are_gone m (k ∷ ks) = (gone_still (fin.remove m k) ks k (text_gone m k k refl)
 
 copied_twice : (m : Objects) (k q : List ℕ) (o : Option Object) → fin.get m k ≡ o → (fin.get (copied m q o) k ≡ o) × (copied (copied m q o) q o ≡ copied m q o)
 copied_twice m k q None h = (h, refl)
-copied_twice m k q (Some v) h = (by (same_or_other k q), put_put m q v v)
-  where
-    by : (k ≡ q) ⊎ (k ≡ q → ⊥) → fin.get (fin.insert m q v) k ≡ Some v
-    by (inl e) = text_here m q k v e
-    by (inr n) = text_other m q k v n ∙ h
+copied_twice m k q (Some v) h = (elim (same_or_other k q) [ inl e ↦ text_here m q k v e | inr n ↦ text_other m q k v n ∙ h ], put_put m q v v)
 
 abbrev gone_if : Bool → Objects → List (List ℕ) → Objects
 gone_if b m ks = cond b m (without m ks)
 
-gone_twice : (b : Bool) (m : Objects) (ks : List (List ℕ)) → gone_if b (gone_if b m ks) ks ≡ gone_if b m ks
-gone_twice true m ks = refl
-gone_twice false m ks = all_gone (without m ks) ks (are_gone m ks)
-
 pub edited_twice : (a : Ask) (m : Objects) → edited a (edited a m) ≡ edited a m
 edited_twice (Put k bytes) m = put_put m k _ _
 edited_twice (Drop k) m = none_gone (fin.remove m k) k (text_gone m k k refl)
-edited_twice (DropAll ks) m = gone_twice (nat_lt 1000 (length ks)) m ks
+edited_twice (DropAll ks) m = elim (nat_lt 1000 (length ks)) as (λ b. gone_if b (gone_if b m ks) ks ≡ gone_if b m ks) [
+  | true ↦ refl
+  | false ↦ all_gone (without m ks) ks (are_gone m ks)
+]
 edited_twice (Copy k q) m =
     let c = copied_twice m k q (fin.get m k) refl in
     ap (λ o. copied (copied m q (fin.get m k)) q o) c.0 ∙ c.1
@@ -89,23 +80,12 @@ told_twice _ m = refl
 -- ---- scenes
 
 answered_if : (o : Option BucketContent) (b : List ℕ) (n l : ℕ) (a : Ask) → answer_at o n l (request_of b a) ≡ reply_at (objects_of o) a
-answered_if None b n l a = refl
 answered_if (Some c) b n l (Head k) = refl
-answered_if (Some c) b n l (Get k) = refl
-answered_if (Some c) b n l (Page p d q i) = refl
-answered_if (Some c) b n l (Put k bytes) = refl
-answered_if (Some c) b n l (Drop k) = refl
-answered_if (Some c) b n l (DropAll ks) = refl
-answered_if (Some c) b n l (Copy k q) = refl
+answered_if _ b n l _ = refl
 
 pub answered : (s : Scene) (b : List ℕ) (a : Ask) → answer s (request_of b a) ≡ reply_at (objects_at s b) a
 answered s b (Head k) = answered_if (fin.get s.content.buckets b) b s.content.next s.content.minimum (Head k)
-answered s b (Get k) = answered_if (fin.get s.content.buckets b) b s.content.next s.content.minimum (Get k)
-answered s b (Page p d q n) = answered_if (fin.get s.content.buckets b) b s.content.next s.content.minimum (Page p d q n)
-answered s b (Put k bytes) = answered_if (fin.get s.content.buckets b) b s.content.next s.content.minimum (Put k bytes)
-answered s b (Drop k) = answered_if (fin.get s.content.buckets b) b s.content.next s.content.minimum (Drop k)
-answered s b (DropAll ks) = answered_if (fin.get s.content.buckets b) b s.content.next s.content.minimum (DropAll ks)
-answered s b (Copy k q) = answered_if (fin.get s.content.buckets b) b s.content.next s.content.minimum (Copy k q)
+answered s b a = answered_if (fin.get s.content.buckets b) b s.content.next s.content.minimum a
 
 abbrev edited_if : Option BucketContent → Ask → Scene → List ℕ → Scene
 edited_if None a s b = s
@@ -115,23 +95,12 @@ abbrev made_at : Option BucketContent → Request → Scene → Scene
 made_at o r s = record { content = apply_at o s.content r; files = s.files }
 
 edited_by : (o : Option BucketContent) (s : Scene) (b : List ℕ) (a : Ask) → made_at o (request_of b a) s ≡ edited_if o a s b
-edited_by None s b a = refl
 edited_by (Some c) s b (Head k) = refl
-edited_by (Some c) s b (Get k) = refl
-edited_by (Some c) s b (Page p d q n) = refl
-edited_by (Some c) s b (Put k bytes) = refl
-edited_by (Some c) s b (Drop k) = refl
-edited_by (Some c) s b (DropAll ks) = refl
-edited_by (Some c) s b (Copy k q) = refl
+edited_by _ s b _ = refl
 
 applied : (s : Scene) (b : List ℕ) (a : Ask) → apply s (request_of b a) ≡ edited_if (fin.get s.content.buckets b) a s b
 applied s b (Head k) = edited_by (fin.get s.content.buckets b) s b (Head k)
-applied s b (Get k) = edited_by (fin.get s.content.buckets b) s b (Get k)
-applied s b (Page p d q n) = edited_by (fin.get s.content.buckets b) s b (Page p d q n)
-applied s b (Put k bytes) = edited_by (fin.get s.content.buckets b) s b (Put k bytes)
-applied s b (Drop k) = edited_by (fin.get s.content.buckets b) s b (Drop k)
-applied s b (DropAll ks) = edited_by (fin.get s.content.buckets b) s b (DropAll ks)
-applied s b (Copy k q) = edited_by (fin.get s.content.buckets b) s b (Copy k q)
+applied s b a = edited_by (fin.get s.content.buckets b) s b a
 
 -- ---- one bucket in a scene
 

@@ -1,7 +1,7 @@
 -- Keys are deleted batch by batch.
-use Rattle.std.proofs.Common.{◌≡◌, ℕ, ◌<◌, nat_lt, Bool, true, false, cond, List, [], ◌∷◌, ◌++◌, take, drop, length, Some, None, refl, sym, ap, subst, ◌∙◌, arith, append_assoc}
+use Rattle.std.proofs.Common.{◌≡◌, ℕ, nat_lt, Bool, true, false, cond, List, [], ◌∷◌, ◌++◌, take, drop, length, refl, sym, ap, subst, ◌∙◌, arith, append_assoc}
 use Rattle.proof_base.proofs.Common.{append-nil, take-append-drop, length-take}
-use Rattle.bucket_ops.specs.Prelude.{Objects, without, Deleting, deleting, DropAll, edited, IsDeleting, IsDeleted}
+use Rattle.bucket_ops.specs.Prelude.{Objects, without, deleting, DropAll, edited, IsDeleting, IsDeleted}
 use Rattle.std.specs.FinMap as fin
 use Rattle.proof_base.proofs.Numbers.{below_is}
 

@@ -83,17 +83,15 @@ module _ {O X A : Type 0} {first : O → X} {asks : O → X → Ask} {goes : O �
   falls_by o z x s (Some m) e h =
       let w = on_some z s o.bucket o.names x m h.0 e h.1 in
       let here = ap (λ v. objects_at v o.bucket) h.1 ∙ objects_with z o.bucket m h.0 e in
-      let there = ap (λ v. objects_at v o.bucket) w.1 ∙ objects_with z o.bucket m (edited (asks o.names x) h.0) e in
       subst (λ v. Falls (left_in left) (stepped o.bucket o.names (goes o.names x v)) (apply s (request_of o.bucket (asks o.names x))) (left_at (objects_at s o.bucket) left o.names x)) (sym w.0)
-      (fall_by o.bucket o.names _ _ _ _ there
+      (fall_by o.bucket o.names _ _ _ _ (ap (λ v. objects_at v o.bucket) w.1 ∙ objects_with z o.bucket m (edited (asks o.names x) h.0) e)
       (subst (λ v. Falls (left o.names) (goes o.names x (reply_in h.0 (asks o.names x))) (edited (asks o.names x) h.0) (left_at v left o.names x)) (sym here) (k.falls o.names m x h.0 h.2)))
 
   stays_by : (o : P) (z : Scene) (x : X) (s : Scene) (q : Option Objects) → objects_at z o.bucket ≡ q → InScene q (λ m n. holds o.names m x n) (x ≡ first o.names) z o.bucket s
       → left_at (objects_at (apply s (request_of o.bucket (asks o.names x))) o.bucket) left o.names x ≡ left_at (objects_at s o.bucket) left o.names x
   stays_by o z x s None e h = ap (λ v. left_at (objects_at v o.bucket) left o.names x) ((on_none z s o.bucket o.names x e h.0).1 ∙ sym h.0)
   stays_by o z x s (Some m) e h =
-      let w = on_some z s o.bucket o.names x m h.0 e h.1 in
-      ap (λ v. left_at (objects_at v o.bucket) left o.names x) w.1
+      ap (λ v. left_at (objects_at v o.bucket) left o.names x) (on_some z s o.bucket o.names x m h.0 e h.1).1
       ∙ ap (λ v. left_at v left o.names x) (objects_with z o.bucket m (edited (asks o.names x) h.0) e)
       ∙ k.stays o.names m x h.0 h.2
       ∙ ap (λ v. left_at v left o.names x) (sym (objects_with z o.bucket m h.0 e))

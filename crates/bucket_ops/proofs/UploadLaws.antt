@@ -2,8 +2,7 @@
 use Rattle.std.specs.Prelude.{◌≡◌, nat_lt, Bool, true, false, List, [], ◌++◌, take, drop, length, Option, Some, None, option_map}
 use Rattle.std.proofs.Common.{refl, sym, ap, subst, ◌∙◌, arith, append_assoc, length-drop}
 use Rattle.proof_base.proofs.Common.{take-append-drop, take_all}
-use Rattle.bucket_ops.specs.Prelude.{Scene, BucketContent, answer, answer_at, apply, UploadRef, Goes, Falls, MaySend, walked_by, uploads_from}
-use Rattle.bucket_ops.specs.Prelude.{Repeats, IsPlan, reached}
+use Rattle.bucket_ops.specs.Prelude.{Scene, BucketContent, answer, answer_at, apply, UploadRef, Goes, Falls, MaySend, walked_by, uploads_from, Repeats, IsPlan, reached}
 use Rattle.std.specs.FinMap as fin
 use Rattle.proof_base.proofs.Numbers.{below_is, below_not}
 use Rattle.s3_types.specs.Multipart.{listed}
@@ -13,10 +12,6 @@ use Rattle.list_walk.specs.Walks.{last_ref}
 use Rattle.list_walk.proofs.Uploads.{behind_uploads, refs_append}
 use Rattle.bucket_ops.specs.declared.uploads.UploadsBelow.{UploadsBelow}
 use Rattle.bucket_ops.specs.Uploads.{asks, led, goes, Begins, IsListing, Gives, IsSame, Pages, size, left}
-
-none_found : (o : Option (List UploadRef)) → option_map (λ l. [] ++ l) o ≡ o
-none_found (Some l) = refl
-none_found None = refl
 
 still : (w : UploadsBelow) (s : Scene) → apply s (asks w) ≡ s
 still w s = reads_nothing s (asks w) refl
@@ -28,7 +23,7 @@ begun w s h = record {
   prefix = refl;
   whole =
       ap (λ f. option_map (λ l. f ++ l) (uploads_from s w.bucket w.prefix (last_ref None f))) h
-      ∙ none_found (uploads_from s w.bucket w.prefix None);
+      ∙ (elim (uploads_from s w.bucket w.prefix None) as (λ o. option_map (λ l. [] ++ l) o ≡ o) [ Some l ↦ refl | None ↦ refl ]);
 }
 
 repeats : (w : UploadsBelow) → Repeats (asks w)
@@ -77,10 +72,7 @@ module _ (o : UploadsBelow) (z : Scene) (w : UploadsBelow) where
 
   page_falls : (c : BucketContent) → fin.get z.content.buckets w.bucket ≡ Some c → (b : Bool) → nat_lt 1000 (length (Rest c)) ≡ b
       → Falls left (led w (walked_by b (w.walk ++ take 1000 (Rest c)))) z (length (Rest c))
-  page_falls c e true t =
-      let a = ap size (behind c e) in
-      let d = below_is 1000 (length (Rest c)) t in
-      omega (arith, a, d, length-drop 1000 (Rest c))
+  page_falls c e true t = omega (arith, ap size (behind c e), below_is 1000 (length (Rest c)) t, length-drop 1000 (Rest c))
   page_falls c e false t = tt
 
   told_falls : (v : Option BucketContent) → fin.get z.content.buckets w.bucket ≡ v

@@ -1,9 +1,8 @@
 -- A walk goes on by pages, and ends.
-use Rattle.std.proofs.Common.{◌≡◌, ℕ, ◌+◌, ◌*◌, ◌<◌, suc, nat_lt, Bool, true, false, List, [], ◌∷◌, ◌++◌, take, drop, length, Decides, refl, sym, ap, ◌∙◌, arith, append_assoc, length-append, length-drop}
+use Rattle.std.proofs.Common.{◌≡◌, ℕ, ◌+◌, ◌*◌, nat_lt, Bool, true, false, List, [], ◌++◌, take, drop, length, Decides, refl, sym, ap, ◌∙◌, arith, append_assoc, length-append, length-drop}
 use Rattle.proof_base.proofs.Common.{true≢false, take-append-drop, take_all, length-take}
-use Rattle.bucket_ops.specs.Prelude.{list_all, Objects, page, listed, Reply, Refused, Refusal, PageEntry, keys_on, last_of, Walked, More, Whole, walked_by, walked_entries, reply_in, fits, all_below, walk_asks, IsWalking, IsWalked, walk_left, LessWalked}
+use Rattle.bucket_ops.specs.Prelude.{Objects, page, listed, Reply, Refused, Refusal, PageEntry, keys_on, last_of, walked_by, walked_entries, reply_in, fits, walk_asks, IsWalking, IsWalked, walk_left, LessWalked, NoSuchBucket}
 use Rattle.machine.specs.Prelude.{Page}
-use Rattle.bucket_ops.specs.Prelude.{NoSuchBucket}
 use Rattle.proof_base.proofs.Numbers.{below_is, below_not}
 use Rattle.list_walk.specs.Fitting.{FitsPage}
 use Rattle.list_walk.proofs.Fitted.{keys_decide}
@@ -13,20 +12,18 @@ use Rattle.bucket_ops.specs.Walking.{is_there}
 
 -- ---- replies that a walk may be told
 
-refused_decides : (r : Refusal) → Decides (is_there r) (FitsPage (Refused r))
-refused_decides NoSuchBucket = (λ e. absurd (true≢false (sym e)), λ h. absurd h)
-refused_decides r = (λ _. tt, λ _. refl)
-
 pub fits_decides : (r : Reply) → Decides (fits r) (FitsPage r)
 fits_decides (Page es more) = keys_decide es
-fits_decides (Refused r) = refused_decides r
+fits_decides (Refused r) = elim r as (λ r. Decides (is_there r) (FitsPage (Refused r))) [
+  | NoSuchBucket ↦ (λ e. absurd (true≢false (sym e)), λ h. absurd h)
+  | r ↦ (λ _. tt, λ _. refl)
+]
 fits_decides r = (λ _. tt, λ _. refl)
 
 same_decided : (a b : Bool) (P : Type 0) → Decides a P → Decides b P → a ≡ b
-same_decided true true P h g = refl
 same_decided true false P h g = sym (g.1 (h.0 refl))
 same_decided false true P h g = h.1 (g.0 refl)
-same_decided false false P h g = refl
+same_decided _ _ P h g = refl
 
 pub fits_so : (b : Bool) (r : Reply) → Decides b (FitsPage r) → b ≡ fits r
 fits_so b r h = same_decided b (fits r) (FitsPage r) h (fits_decides r)
@@ -66,16 +63,8 @@ module _ (q : List ℕ) (z : Objects) where
 less_paged : (q : List ℕ) (m : Objects) (found l : List PageEntry) → listed q false (last_of (keys_on found)) m ≡ l → (c : Bool) → nat_lt 1000 (length l) ≡ c
     → LessWalked q m (walked_by c (found ++ take 1000 l)) (1 + length found + 2 * length l)
 less_paged q m found l e true t =
-    let a = length-append found (take 1000 l) in
-    let c = length-take 1000 l in
-    let d = ap length (behind q m found l e) in
-    let f = length-drop 1000 l in
-    let g = below_is 1000 (length l) t in
-    omega (arith, a, c, d, f, g)
-less_paged q m found l e false t =
-    let a = length-append found (take 1000 l) in
-    let c = length-take 1000 l in
-    omega (arith, a, c)
+    omega (arith, length-append found (take 1000 l), length-take 1000 l, ap length (behind q m found l e), length-drop 1000 l, below_is 1000 (length l) t)
+less_paged q m found l e false t = omega (arith, length-append found (take 1000 l), length-take 1000 l)
 
 pub walk_falls : (q : List ℕ) (found : List PageEntry) (m : Objects) → LessWalked q m (walked_entries found (reply_in m (walk_asks q found))) (walk_left q found m)
 walk_falls q found m = less_paged q m found (listed q false (last_of (keys_on found)) m) refl (nat_lt 1000 (length (listed q false (last_of (keys_on found)) m))) refl

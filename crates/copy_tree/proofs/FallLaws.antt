@@ -1,8 +1,8 @@
 -- A copy comes to an end.
-use Rattle.std.specs.Prelude.{◌≡◌, ℕ, ◌+◌, ◌*◌, ◌<◌, nat_lt, Bool, true, false, cond, List, [], ◌∷◌, length, drop, Option, Some, None, Result, Ok, Err}
+use Rattle.std.specs.Prelude.{◌≡◌, ℕ, ◌+◌, ◌*◌, ◌<◌, ◌&&◌, nat_lt, Bool, true, false, cond, List, [], ◌∷◌, length, drop, Option, Some, None, Ok, Err}
 use Rattle.std.proofs.Common.{refl, sym, ap, subst, arith}
 use Rattle.path_keys.proofs.Common.{ltb-true, length-drop}
-use Rattle.fs_ops.specs.Prelude.{Objects, PageEntry, Reply, Next, Falls, Look, There, Nothing, NoBucket, Other, look_of, reply_in, edited, marker_of, keys_on, Walked, More, Whole, walked_entries, CopyCount, prefix_of, look_asks, climbing, climbed, walk_asks, walk_left, LessWalked}
+use Rattle.fs_ops.specs.Prelude.{text_eq, Objects, PageEntry, Reply, Next, Falls, Look, There, look_of, reply_in, edited, marker_of, keys_on, Walked, More, Whole, walked_entries, CopyCount, prefix_of, look_asks, climbing, climbed, walk_asks, walk_left, LessWalked}
 use Rattle.s3_types.specs.declared.reply.Reply.TheVariants.{Object as Found}
 use Rattle.fs_ops.specs.declared.climb.Climbed.{Climbed}
 use Rattle.fs_ops.specs.declared.climb.Climbed.TheVariants.{File, On as Goes_on, Free}
@@ -12,26 +12,21 @@ use Rattle.bucket_ops.proofs.Sweeps.{length_keys}
 use Rattle.bucket_ops.proofs.Walks.{walk_fits, walk_falls}
 use Rattle.fs_rename.specs.declared.copying.CopyStep.{CopyStep}
 use Rattle.fs_rename.specs.declared.copying.CopyStep.TheVariants.{Next as NextCopy, All}
-use Rattle.fs_rename.specs.Keys.{new_keys}
+use Rattle.fs_rename.specs.Keys.{new_keys, place_of}
 use Rattle.fs_rename.specs.Copies.{has_more, copied_next, copies_left, LessCopies}
 use Rattle.fs_rename.proofs.CopyLaws.{copying_falls}
 use Rattle.copy_tree.specs.declared.stages.Parts.{Parts}
 use Rattle.copy_tree.specs.declared.stages.CopyStage.{CopyStage}
 use Rattle.copy_tree.specs.declared.stages.CopyStage.TheVariants.{Here, Walk, Up, WalkTarget, Source, Target, Copy}
-use Rattle.fs_rename.specs.Keys.{place_of}
-use Rattle.copy_tree.specs.code.Copy.{CopyPaths, asks, on, here, overlaps, on_walked, on_walk, listed, climb, on_climb, placed, with_places, on_shown, on_show, parts_of, pairs, on_read, differ, compared, on_compare, begun, copies, count_of, on_copied}
+use Rattle.copy_tree.specs.code.Copy.{CopyPaths, asks, on, here, overlaps, on_walked, on_walk, listed, climb, on_climb, placed, with_places, on_shown, on_show, parts_of, pairs, on_read, differ, same_header, compared, on_compare, begun, copies, count_of, on_copied}
 use Rattle.copy_tree.specs.code.Meaning.{holds, left}
 use Rattle.copy_tree.proofs.PartLaws.{all_counted}
 
 module _ (o : CopyPaths) (m : Objects) where
   -- ---- the copies
 
-  fall_copies : (c : CopyCount) (ks ls : List (List ℕ)) (n : ℕ) → length ks < n → Falls (left o) (copies c ks ls) m n
-  fall_copies c [] ls n h = tt
-  fall_copies c (k ∷ ks) ls n h = omega (arith, h)
-
   fall_begun : (c : Parts) (n : ℕ) → length c.keys < n → Falls (left o) (begun c) m n
-  fall_begun c n h = fall_copies (count_of c) c.keys c.places n h
+  fall_begun c n h = (elim c.keys as (λ ks. length ks < n → Falls (left o) (copies (count_of c) ks c.places) m n) [ [] ↦ λ h. tt | k ∷ ks ↦ λ h. omega (arith, h) ]) h
 
   fall_copied : (c : CopyStep) (count : CopyCount) (n : ℕ) → LessCopies c n → Falls (left o) (on_copied count c) m n
   fall_copied (NextCopy c) count n h = h
@@ -47,24 +42,15 @@ module _ (o : CopyPaths) (m : Objects) where
   fall_read c n (Found b h) = omega arith
   fall_read c n r = tt
 
-  fall_differ : (r : List (List ℕ)) (n : ℕ) → Falls (left o) (differ r) m n
-  fall_differ [] n = tt
-  fall_differ (l ∷ ls) n = tt
-
   fall_agreed : (c : Parts) (n : ℕ) (b : Bool) → nat_lt 1 (length (drop n c.stood)) ≡ b → Falls (left o) (cond b (Next (Source c (n + 1))) (begun c)) m (2 * length (drop n c.stood) + length c.keys + 1)
-  fall_agreed c n true e =
-      let l = ltb-true 1 (length (drop n c.stood)) e in
-      let s = length-drop n c.stood in
-      let r = length-drop (n + 1) c.stood in
-      omega (arith, l, s, r)
+  fall_agreed c n true e = omega (arith, ltb-true 1 (length (drop n c.stood)) e, length-drop n c.stood, length-drop (n + 1) c.stood)
   fall_agreed c n false e = fall_begun c (2 * length (drop n c.stood) + length c.keys + 1) (omega arith)
 
-  fall_compared : (c : Parts) (n : ℕ) (b : Bool) → Falls (left o) (compared c n b) m (2 * length (drop n c.stood) + length c.keys + 1)
-  fall_compared c n true = fall_agreed c n (nat_lt 1 (length (drop n c.stood))) refl
-  fall_compared c n false = fall_differ (drop n c.stood_at) (2 * length (drop n c.stood) + length c.keys + 1)
-
   fall_compare : (c : Parts) (n : ℕ) (b : List ℕ) (h : Option ℕ) (r : Reply) → Falls (left o) (on_compare c n b h r) m (2 * length (drop n c.stood) + length c.keys + 1)
-  fall_compare c n b h (Found d g) = fall_compared c n _
+  fall_compare c n b h (Found d g) = elim (text_eq b d && same_header h g) as (λ b. Falls (left o) (compared c n b) m (2 * length (drop n c.stood) + length c.keys + 1)) [
+    | true ↦ fall_agreed c n (nat_lt 1 (length (drop n c.stood))) refl
+    | false ↦ elim (drop n c.stood_at) as (λ r. Falls (left o) (differ r) m (2 * length (drop n c.stood) + length c.keys + 1)) [ [] ↦ tt | l ∷ ls ↦ tt ]
+  ]
   fall_compare c n b h r = tt
 
   -- ---- the walk below the target
@@ -72,8 +58,7 @@ module _ (o : CopyPaths) (m : Objects) where
   fall_shown : (ks ls : List (List ℕ)) (w : Walked PageEntry) (n : ℕ) → LessWalked (prefix_of o.target) m w n → Falls (left o) (on_shown ks ls w) m (n + 2 * length ks + 2)
   fall_shown ks ls (More w) n h = omega (arith, h)
   fall_shown ks ls (Whole es) n h =
-      let c = all_counted ks ls es in
-      fall_pairs (parts_of ks ls es) (parts_of ks ls es).stood (n + 2 * length ks + 2) (omega (arith, h, c))
+      fall_pairs (parts_of ks ls es) (parts_of ks ls es).stood (n + 2 * length ks + 2) (omega (arith, h, all_counted ks ls es))
 
   fall_show : (ks ls : List (List ℕ)) (w : List PageEntry) → Falls (left o) (on o (WalkTarget ks ls w) (reply_in m (asks o (WalkTarget ks ls w)))) m (left o (WalkTarget ks ls w) m)
   fall_show ks ls w =
@@ -86,18 +71,13 @@ module _ (o : CopyPaths) (m : Objects) where
   abbrev Behind : List (List ℕ) → ℕ
   Behind ks = walk_left (prefix_of o.target) [] m + 2 * length ks + 3
 
-  fall_places : (ks : List (List ℕ)) (r : Result (List (List ℕ)) (List ℕ)) (n : ℕ) → Behind ks < n → Falls (left o) (with_places ks r) m n
-  fall_places ks (Ok ls) n h = omega (arith, h)
-  fall_places ks (Err k) n h = tt
-
-  fall_placed : (ks : List (List ℕ)) (q : Option (List ℕ)) (n : ℕ) → Behind ks < n → Falls (left o) (placed o q ks) m n
-  fall_placed ks None n h = tt
-  fall_placed ks (Some t) n h = fall_places ks (new_keys (prefix_of o.source) (marker_of t) ks) n h
-
   fall_climb : (ks : List (List ℕ)) (c : Climbed) (k n : ℕ) → IsShorter c k → k + Behind ks < n → Falls (left o) (on_climb o ks c) m n
   fall_climb ks (File a) k n s h = tt
   fall_climb ks (Goes_on c) k n s h = omega (arith, s, h)
-  fall_climb ks Free k n s h = fall_placed ks (place_of o.source o.target) n (omega (arith, h))
+  fall_climb ks Free k n s h = elim (place_of o.source o.target) as (λ q. Falls (left o) (placed o q ks) m n) [
+    | None ↦ tt
+    | Some t ↦ elim (new_keys (prefix_of o.source) (marker_of t) ks) as (λ r. Falls (left o) (with_places ks r) m n) [ Ok ls ↦ omega (arith, h) | Err k ↦ tt ]
+  ]
 
   -- ---- the source
 
@@ -117,9 +97,7 @@ module _ (o : CopyPaths) (m : Objects) where
   fall_here : (b : Bool) (l : Look) → Falls (left o) (here b l) m (left o Here m)
   fall_here true l = tt
   fall_here false There = tt
-  fall_here false Nothing = omega arith
-  fall_here false NoBucket = omega arith
-  fall_here false Other = omega arith
+  fall_here _ _ = omega arith
 
 -- ---- each stage
 

@@ -42,7 +42,10 @@ module _ (x : ℕ) (p : List ℕ) (y : ℕ) (t : List ℕ) where
 
   -- a key is a new key or not
   pub is_new : (z : Objects) (q : List ℕ) → IsDirectory z (x ∷ p) → ((k : List ℕ) × IsMove z (x ∷ p) (y ∷ t) k q) ⊎ ((k : List ℕ) → IsMove z (x ∷ p) (y ∷ t) k q → ⊥)
-  is_new z q h = by (true_or_false (begins Q q))
+  is_new z q h = elim (true_or_false (begins Q q)) [
+    | inl b ↦ let r = rest_after Q q b in at r.0 r.1 (none_or_some (fin.get z (P ++ r.0)))
+    | inr f ↦ inr (λ k m. false≢true (sym f ∙ move_below z k q h m))
+  ]
     where
       at : (rest : List ℕ) → q ≡ Q ++ rest → (fin.get z (P ++ rest) ≡ None) ⊎ ((v : Object) × (fin.get z (P ++ rest) ≡ Some v))
           → ((k : List ℕ) × IsMove z (x ∷ p) (y ∷ t) k q) ⊎ ((k : List ℕ) → IsMove z (x ∷ p) (y ∷ t) k q → ⊥)
@@ -52,29 +55,19 @@ module _ (x : ℕ) (p : List ℕ) (y : ℕ) (t : List ℕ) where
           let same : w.1.0 ≡ rest = append_cancel_left Q w.1.0 rest (sym w.1.2 ∙ e) in
           none_some n (ap (fin.get z) (ap (λ v. P ++ v) (sym same) ∙ sym w.1.1) ∙ w.0.1))
 
-      by : (begins Q q ≡ true) ⊎ (begins Q q ≡ false) → ((k : List ℕ) × IsMove z (x ∷ p) (y ∷ t) k q) ⊎ ((k : List ℕ) → IsMove z (x ∷ p) (y ∷ t) k q → ⊥)
-      by (inl b) = let r = rest_after Q q b in at r.0 r.1 (none_or_some (fin.get z (P ++ r.0)))
-      by (inr f) = inr (λ k m. false≢true (sym f ∙ move_below z k q h m))
-
   -- a path above the target, and the target, is no new key
   pub not_above : (a : List ℕ) → IsIn a (to_target (y ∷ t)) → begins Q a ≡ true → ⊥
-  not_above a i b = by (in_append a (keys_above (y ∷ t)) ((y ∷ t) ∷ []) i)
+  not_above a i b = elim (in_append a (keys_above (y ∷ t)) ((y ∷ t) ∷ []) i) [
+    | inl g ↦ omega (arith, begins_length (marker_of a) (y ∷ t) (above_begins a (y ∷ t) g), length-append a (47 ∷ []), long, more)
+    | inr (inl e) ↦ let l = long in let m = more in let s : length a ≡ length (y ∷ t) = ap length e in omega (arith, l, m, s)
+    | inr (inr e) ↦ e
+  ]
     where
       long : length Q ≤ length a
       long = begins_length Q a b
 
       more : length Q ≡ length (y ∷ t) + 1
       more = length-append (y ∷ t) (47 ∷ [])
-
-      by : IsIn a (keys_above (y ∷ t)) ⊎ IsIn a ((y ∷ t) ∷ []) → ⊥
-      by (inl g) =
-          let c = begins_length (marker_of a) (y ∷ t) (above_begins a (y ∷ t) g) in
-          let d = length-append a (47 ∷ []) in
-          let l = long in
-          let m = more in
-          omega (arith, c, d, l, m)
-      by (inr (inl e)) = let l = long in let m = more in let s : length a ≡ length (y ∷ t) = ap length e in omega (arith, l, m, s)
-      by (inr (inr e)) = e
 
   module _ (apart : IsOverlap (x ∷ p) (y ∷ t) → ⊥) where
     -- no key is below both

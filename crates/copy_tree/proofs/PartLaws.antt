@@ -15,11 +15,10 @@ use Rattle.copy_tree.specs.Parts.{from_text, is_first, is_wanted, chosen, kept}
 module _ (l : List ℕ) where
   from_rises : (b : List ℕ) (es : List PageEntry) → RisesFrom b (map text_in es) → (c : List ℕ) × RisesFrom c (map text_in (from_text l es))
   from_rises b [] h = (b, tt)
-  from_rises b (e ∷ es) h = by (lt text_cmp (text_in e) l) (from_rises (text_in e) es h.1)
-    where
-      by : (s : Bool) → ((c : List ℕ) × RisesFrom c (map text_in (from_text l es))) → (c : List ℕ) × RisesFrom c (map text_in (cond s (from_text l es) (e ∷ es)))
-      by true w = w
-      by false w = (b, h)
+  from_rises b (e ∷ es) h = elim (lt text_cmp (text_in e) l) as (λ s. (c : List ℕ) × RisesFrom c (map text_in (cond s (from_text l es) (e ∷ es)))) [
+    | true ↦ from_rises (text_in e) es h.1
+    | false ↦ (b, h)
+  ]
 
   from_in : (t : List ℕ) (es : List PageEntry) → IsIn t (map text_in (from_text l es)) → IsIn t (map text_in es)
   from_in t [] i = i
@@ -96,20 +95,14 @@ module _ (q : List ℕ) (z : Objects) where
       by false e = none (fin.get z l) refl e
 
   one_told : (s t : Bool) (l : List ℕ) → IsTold s l → IsTold t l → s ≡ t
-  one_told true true l a b = refl
-  one_told false false l a b = refl
   one_told true false l a b = absurd (none_some b a.1)
   one_told false true l a b = absurd (none_some a b.1)
+  one_told _ _ l a b = refl
 
   wanted_is : (w t : Bool) → is_wanted w t ≡ true → t ≡ w
-  wanted_is true true h = refl
   wanted_is true false h = absurd (false≢true h)
   wanted_is false true h = absurd (false≢true h)
-  wanted_is false false h = refl
-
-  is_wanted_so : (w : Bool) → is_wanted w w ≡ true
-  is_wanted_so true = refl
-  is_wanted_so false = refl
+  wanted_is _ _ h = refl
 
   module _ (w : Bool) where
     -- the targets rise behind a text and are below the prefix
@@ -137,7 +130,7 @@ module _ (q : List ℕ) (z : Objects) where
         same : l ≡ p.1 → is_wanted w (is_first p.1 (from_text p.1 es)) ≡ true
         same e =
             let told = one_told (is_first p.1 (from_text p.1 es)) w p.1 (first_tells b p.1 es h.0.0 (h.1 p.1 (inl refl)) s) (subst (IsTold w) e o) in
-            ap (is_wanted w) told ∙ is_wanted_so w
+            ap (is_wanted w) told ∙ (elim w as (λ w. is_wanted w w ≡ true) [ true ↦ refl | false ↦ refl ])
 
         by : (t : Bool) → is_wanted w (is_first p.1 (from_text p.1 es)) ≡ t → IsOneOf k l (p ∷ ps) → (IsOneOf k l ps → IsOneOf k l (kept w ps (from_text p.1 es))) → IsOneOf k l (cond t (p ∷ []) [] ++ kept w ps (from_text p.1 es))
         by true e (inl m) old = inl m
@@ -165,11 +158,10 @@ chosen_targets w ps es = chosen_by (λ (p : Move). p.1) w ps es
 -- they rise as all do
 kept_rise : (f : Move → List ℕ) (w : Bool) (b : List ℕ) (ps : List Move) (es : List PageEntry) → RisesFrom b (map f ps) → RisesFrom b (map f (kept w ps es))
 kept_rise f w b [] es h = tt
-kept_rise f w b (p ∷ ps) es h = by (is_wanted w (is_first p.1 (from_text p.1 es))) (kept_rise f w (f p) ps (from_text p.1 es) h.1)
-  where
-    by : (t : Bool) → RisesFrom (f p) (map f (kept w ps (from_text p.1 es))) → RisesFrom b (map f (cond t (p ∷ []) [] ++ kept w ps (from_text p.1 es)))
-    by true g = (h.0, g)
-    by false g = lower b (f p) (map f (kept w ps (from_text p.1 es))) h.0 g
+kept_rise f w b (p ∷ ps) es h = elim (is_wanted w (is_first p.1 (from_text p.1 es))) as (λ t. RisesFrom b (map f (cond t (p ∷ []) [] ++ kept w ps (from_text p.1 es)))) [
+  | true ↦ (h.0, kept_rise f w (f p) ps (from_text p.1 es) h.1)
+  | false ↦ lower b (f p) (map f (kept w ps (from_text p.1 es))) h.0 (kept_rise f w (f p) ps (from_text p.1 es) h.1)
+]
 
 pub sources_rise : (w : Bool) (b : List ℕ) (ps : List Move) (es : List PageEntry) → RisesFrom b (sources ps) → RisesFrom b (sources (kept w ps es))
 sources_rise w b ps es h = kept_rise (λ (p : Move). p.0) w b ps es h

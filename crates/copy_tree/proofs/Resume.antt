@@ -37,11 +37,7 @@ module _ (x : ℕ) (p : List ℕ) (y : ℕ) (t : List ℕ) (z m : Objects) (may 
   )
 
   agree : (k l : List ℕ) → IsMove z (x ∷ p) (y ∷ t) k l → (fin.get z l ≡ None) ⊎ (fin.get z l ≡ fin.get z k) → (fin.get m l ≡ None) ⊎ (fin.get m l ≡ fin.get m k)
-  agree k l i (inl n) = by (part.new k l i n)
-    where
-      by : (fin.get m l ≡ None) ⊎ (fin.get m l ≡ fin.get z k) → (fin.get m l ≡ None) ⊎ (fin.get m l ≡ fin.get m k)
-      by (inl g) = inl g
-      by (inr g) = inr (g ∙ sym (moved_kept k l i))
+  agree k l i (inl n) = elim (part.new k l i n) [ inl g ↦ inl g | inr g ↦ inr (g ∙ sym (moved_kept k l i)) ]
   agree k l i (inr e) =
       let s = (moved_rest x p y t z k l may.place.source.directory i).0 in
       inr (part.old l (s.0, e ∙ s.1) ∙ e ∙ sym (moved_kept k l i))
@@ -57,11 +53,10 @@ module _ (x : ℕ) (p : List ℕ) (y : ℕ) (t : List ℕ) (z m : Objects) (may 
   }
 
   same_end : (n o : Objects) (c d : CopyCount) → CopiesTree (x ∷ p) (y ∷ t) m c n → CopiesTree (x ∷ p) (y ∷ t) z d o → (q : List ℕ) → fin.get n q ≡ fin.get o q
-  same_end n o c d a b q = by (is_new x p y t z q may.place.source.directory)
-    where
-      by : ((k : List ℕ) × IsMove z (x ∷ p) (y ∷ t) k q) ⊎ ((k : List ℕ) → IsMove z (x ∷ p) (y ∷ t) k q → ⊥) → fin.get n q ≡ fin.get o q
-      by (inl w) = a.copies w.0 q (forth w.0 q w.1) ∙ moved_kept w.0 q w.1 ∙ sym (b.copies w.0 q w.1)
-      by (inr f) = a.others q (λ k i. f k (back k q i)) ∙ part.others q f ∙ sym (b.others q f)
+  same_end n o c d a b q = elim (is_new x p y t z q may.place.source.directory) [
+    | inl w ↦ a.copies w.0 q (forth w.0 q w.1) ∙ moved_kept w.0 q w.1 ∙ sym (b.copies w.0 q w.1)
+    | inr f ↦ a.others q (λ k i. f k (back k q i)) ∙ part.others q f ∙ sym (b.others q f)
+  ]
 
 again : (p t : List ℕ) (z m : Objects) → MayCopy z p t → IsCopiedInPart p t z m → MayCopy m p t
 again [] t z m h g = absurd (h.place.source.apart (inl refl))

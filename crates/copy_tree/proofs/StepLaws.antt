@@ -2,14 +2,14 @@
 use Rattle.std.specs.Prelude.{◌≡◌, ◌⊎◌, ℕ, zero, suc, ◌+◌, ◌<◌, ◌≤◌, ◌||◌, ◌&&◌, nat_lt, Bool, true, false, cond, List, [], ◌∷◌, ◌++◌, length, drop, Option, Some, None, Result, Ok, Err}
 use Rattle.std.proofs.Common.{refl, sym, ap, subst, ◌∙◌, inl, inr, arith}
 use Rattle.path_keys.proofs.Common.{false≢true, ltb-true, ltb-false, length-drop, length-map, lt, irrefl, lt_not, none_some, some_is, none_or_some, false_true, text_is, text_true, eq_nat, nat_true}
-use Rattle.fs_ops.specs.Prelude.{is_lt, text_cmp, text_total, text_eq, Objects, head, begins, Object, PageEntry, IsIn, RisesFrom, Step, Next, Goes, Look, There, Nothing, look_of, reply_in, edited, is_look, marker_of, keys_on, Walked, More, Whole, walked_entries, CopyCount, Stands, IsDirectory, IsMove, is_too_long, AllFit, IsFirstTooLong, IsOverlap, HasSource, HasPlace, MayCopy, CopiesTree, climbing, climbed, all_below, keys_below, walk_asks, fits, IsWalking, IsWalked}
+use Rattle.fs_ops.specs.Prelude.{is_lt, text_cmp, text_total, text_eq, Objects, head, begins, Object, PageEntry, IsIn, RisesFrom, Step, Next, Goes, look_of, reply_in, edited, is_look, marker_of, keys_on, Walked, More, Whole, walked_entries, CopyCount, Stands, IsMove, IsOverlap, HasSource, HasPlace, MayCopy, CopiesTree, climbing, climbed, all_below, keys_below, walk_asks, fits, IsWalking, IsWalked}
 use Rattle.std.proofs.lemmas.List.{drop-map}
 use Rattle.std.specs.FinMap as fin
 use Rattle.s3_types.specs.Answer.{found}
-use Rattle.store_frame.proofs.Flat.{behind, listed_rises}
+use Rattle.store_frame.proofs.Flat.{behind}
 use Rattle.fs_tree.specs.Copies.{IsFirstOther}
 use Rattle.fs_tree.proofs.Begins.{both}
-use Rattle.fs_ops.proofs.Looks.{IsSeen, head_tells, none_listed, first_listed}
+use Rattle.fs_ops.proofs.Looks.{head_tells, at_key, none_listed, first_listed}
 use Rattle.fs_ops.specs.declared.climb.Climbed.{Climbed}
 use Rattle.fs_ops.specs.declared.climb.Climbed.TheVariants.{File, On as Goes_on, Free}
 use Rattle.fs_ops.proofs.Climbing.{IsClimbed, seen_on as climb_on, all_on}
@@ -17,10 +17,10 @@ use Rattle.bucket_ops.proofs.Walks.{walk_fits, walk_begins, walk_goes}
 use Rattle.fs_rename.specs.declared.copying.Copying.{Copying}
 use Rattle.fs_rename.specs.declared.copying.CopyStep.{CopyStep}
 use Rattle.fs_rename.specs.declared.copying.CopyStep.TheVariants.{Next as NextCopy, All}
-use Rattle.fs_rename.specs.Keys.{new_key, new_keys}
+use Rattle.fs_rename.specs.Keys.{new_keys}
 use Rattle.fs_rename.specs.Copies.{Move, IsOneOf, sources, targets, copied_all, copy_of, copy_asks, has_more, copied_next, IsCopying, IsCopied}
 use Rattle.fs_rename.proofs.CopyLaws.{some_left, in_sources, in_targets, copying_goes}
-use Rattle.fs_rename.proofs.Placed.{move_of, sources_to, all_found, first_long, to_dir_move}
+use Rattle.fs_rename.proofs.Placed.{sources_to, all_found, dir_fit, dir_long}
 use Rattle.copy_tree.specs.declared.stages.Parts.{Parts}
 use Rattle.copy_tree.specs.declared.stages.CopyStage.{CopyStage}
 use Rattle.copy_tree.specs.declared.stages.CopyStage.TheVariants.{Here, Walk, Up, WalkTarget, Source, Target, Copy}
@@ -28,15 +28,14 @@ use Rattle.copy_tree.specs.code.Copy.{CopyPaths, Answer, asks, on, here as here_
 use Rattle.copy_tree.specs.code.Meaning.{moves, standing, absent, all_parts, IsPlaced, IsComparing, StandsFirst, holds, gives, sends}
 use Rattle.copy_tree.proofs.Moved.{moved_rest}
 use Rattle.copy_tree.proofs.PartLaws.{chosen_sources, chosen_targets}
-use Rattle.copy_tree.proofs.MoveLaws.{to_move, from_move, standing_rise, standing_each, standing_has, absent_each, tree_copied}
+use Rattle.copy_tree.proofs.MoveLaws.{standing_rise, standing_each, standing_has, absent_each, tree_copied}
 
 -- ---- lists of moves
 
 behind_one : (n : ℕ) (ps : List Move) (s : Move) (rest : List Move) → drop n ps ≡ s ∷ rest → drop (suc n) ps ≡ rest
-behind_one zero [] s rest e = absurd (cc)
-behind_one zero (r ∷ ps) s rest e = let f : ps ≡ rest = cc in f
-behind_one (suc n) [] s rest e = absurd (cc)
+behind_one zero (r ∷ ps) s rest e = cc
 behind_one (suc n) (r ∷ ps) s rest e = behind_one n ps s rest e
+behind_one _ _ s rest e = absurd (cc)
 
 one_in_drop : (n : ℕ) (ps : List Move) (k l : List ℕ) → IsOneOf k l (drop n ps) → IsOneOf k l ps
 one_in_drop zero ps k l i = i
@@ -65,14 +64,12 @@ rises_behind (suc n) b (k ∷ ks) h = rises_behind n k ks h.1
 header_is : (h g : Option ℕ) → same_header h g ≡ true → h ≡ g
 header_is None None e = refl
 header_is (Some a) (Some b) e = ap Some (eq_nat a b e)
-header_is None (Some b) e = absurd (false≢true e)
-header_is (Some a) None e = absurd (false≢true e)
+header_is _ _ e = absurd (false≢true e)
 
 header_true : (h g : Option ℕ) → h ≡ g → same_header h g ≡ true
 header_true None None e = refl
 header_true (Some a) (Some b) e = nat_true a b (some_is e)
-header_true None (Some b) e = absurd (cc)
-header_true (Some a) None e = absurd (cc)
+header_true _ _ e = absurd (cc)
 
 both_true : (a b : Bool) → a ≡ true → b ≡ true → (a && b) ≡ true
 both_true a b h g = ap (λ a. a && b) h ∙ g
@@ -150,25 +147,18 @@ module _ (z : Objects) (x : ℕ) (p : List ℕ) (y : ℕ) (t : List ℕ) where
 
     -- each agrees or is behind this one
     agree_on : fin.get z s.1 ≡ fin.get z s.0 → (k l : List ℕ) → IsOneOf k l (standing O z) → (fin.get z l ≡ fin.get z k) ⊎ IsOneOf k l rest
-    agree_on g k l i = by (h.agree k l i)
-      where
-        one : ((k ≡ s.0) × (l ≡ s.1)) ⊎ IsOneOf k l rest → (fin.get z l ≡ fin.get z k) ⊎ IsOneOf k l rest
-        one (inl f) = inl (ap (fin.get z) f.1 ∙ g ∙ sym (ap (fin.get z) f.0))
-        one (inr j) = inr j
-
-        by : (fin.get z l ≡ fin.get z k) ⊎ IsOneOf k l (drop n (standing O z)) → (fin.get z l ≡ fin.get z k) ⊎ IsOneOf k l rest
-        by (inl f) = inl f
-        by (inr j) = one (subst (IsOneOf k l) e j)
+    agree_on g k l i = elim (h.agree k l i) [
+      | inl f ↦ inl f
+      | inr j ↦ elim (subst (IsOneOf k l) e j) [ inl f ↦ inl (ap (fin.get z) f.1 ∙ g ∙ sym (ap (fin.get z) f.0)) | inr j ↦ inr j ]
+    ]
 
     count_is : length (drop n c.stood) ≡ suc (length rest)
     count_is = ap length stood_is ∙ ap suc (length-map rest (λ (p : Move). p.0))
 
     more : 1 < length (drop n c.stood) → n + 1 < length (standing O z)
     more l =
-        let a = count_is in
         let b : length (drop n (standing O z)) ≡ suc (length rest) = ap length e in
-        let d = length-drop n (standing O z) in
-        omega (arith, l, a, b, d)
+        omega (arith, l, count_is, b, length-drop n (standing O z))
 
     agreed_by : fin.get z s.1 ≡ fin.get z s.0 → (b : Bool) → nat_lt 1 (length (drop n c.stood)) ≡ b → On (cond b (Next (Source c (n + 1))) (begun c)) z
     agreed_by g true f =
@@ -182,14 +172,10 @@ module _ (z : Objects) (x : ℕ) (p : List ℕ) (y : ℕ) (t : List ℕ) where
             agree = λ k l i. subst (λ r. (fin.get z l ≡ fin.get z k) ⊎ IsOneOf k l r) (sym next) (agree_on g k l i);
           },
         )
-    agreed_by g false f = begun_on c h.parts (may_copy h.placed (λ k l i. by k l (agree_on g k l i)))
+    agreed_by g false f = begun_on c h.parts (may_copy h.placed (λ k l i. elim (agree_on g k l i) [ inl a ↦ a | inr j ↦ absurd (none_in rest k l none j) ]))
       where
         none : length rest ≤ 0
         none = let a = count_is in let l = ltb-false 1 (length (drop n c.stood)) f in omega (arith, a, l)
-
-        by : (k l : List ℕ) → (fin.get z l ≡ fin.get z k) ⊎ IsOneOf k l rest → fin.get z l ≡ fin.get z k
-        by k l (inl a) = a
-        by k l (inr j) = absurd (none_in rest k l none j)
 
     -- the first that differs
     first_other : (fin.get z s.1 ≡ fin.get z s.0 → ⊥) → IsFirstOther z (x ∷ p) (y ∷ t) s.1
@@ -209,13 +195,10 @@ module _ (z : Objects) (x : ℕ) (p : List ℕ) (y : ℕ) (t : List ℕ) where
         at j i less (inl g) = false_true (irrefl text_total s.1) (ap (λ i. lt text_cmp i s.1) (sym g.1) ∙ less)
         at j i less (inr g) = false_true (lt_not text_total i s.1 less) (behind s.1 i (targets rest) rest_rises (in_targets rest j i g))
 
-        agrees : (j i : List ℕ) → is_lt (text_cmp i s.1) ≡ true → (fin.get z i ≡ fin.get z j) ⊎ IsOneOf j i (drop n (standing O z)) → (fin.get z i ≡ None) ⊎ (fin.get z i ≡ fin.get z j)
-        agrees j i less (inl g) = inr g
-        agrees j i less (inr g) = absurd (at j i less (subst (IsOneOf j i) e g))
-
         by : (j i : List ℕ) → IsMove z (x ∷ p) (y ∷ t) j i → is_lt (text_cmp i s.1) ≡ true → (fin.get z i ≡ None) ⊎ ((v : Object) × (fin.get z i ≡ Some v)) → (fin.get z i ≡ None) ⊎ (fin.get z i ≡ fin.get z j)
         by j i m less (inl g) = inl g
-        by j i m less (inr g) = agrees j i less (h.agree j i (standing_has z x p y t h.placed.place.source.directory j i m g))
+        by j i m less (inr g) =
+            elim (h.agree j i (standing_has z x p y t h.placed.place.source.directory j i m g)) [ inl f ↦ inr f | inr f ↦ absurd (at j i less (subst (IsOneOf j i) e f)) ]
 
     compared_on : (b : List ℕ) (g : Option ℕ) (v : Object) → fin.get z s.0 ≡ Some (record { bytes = b; header = g }) → fin.get z s.1 ≡ Some v → (r : Bool) → (text_eq b v.bytes && same_header g v.header) ≡ r → On (compared c n r) z
     compared_on b g v a d true f =
@@ -268,29 +251,12 @@ module _ (z : Objects) (x : ℕ) (p : List ℕ) (y : ℕ) (t : List ℕ) where
 
   -- ---- the new keys
 
-  all_fit : IsDirectory z (x ∷ p) → ((k : List ℕ) → IsIn k (keys_below (marker_of (x ∷ p)) z) → is_too_long (new_key (marker_of (x ∷ p)) (marker_of (y ∷ t)) k) ≡ false) → AllFit z (x ∷ p) (y ∷ t)
-  all_fit d f k l i =
-      let w = move_of (marker_of (x ∷ p)) (marker_of (y ∷ t)) (keys_below (marker_of (x ∷ p)) z) k l (to_move z x p y t d k l i) in
-      ap is_too_long w.1 ∙ f k w.0
-
-  first_too_long : (k : List ℕ) → IsDirectory z (x ∷ p) → new_keys (marker_of (x ∷ p)) (marker_of (y ∷ t)) (keys_below (marker_of (x ∷ p)) z) ≡ Err k → IsFirstTooLong z (x ∷ p) (y ∷ t) k
-  first_too_long k d e =
-      let w = first_long (marker_of (x ∷ p)) (marker_of (y ∷ t)) [] (keys_below (marker_of (x ∷ p)) z) k (listed_rises (marker_of (x ∷ p)) [] z) e in
-      record {
-        new = new_key (marker_of (x ∷ p)) (marker_of (y ∷ t)) k;
-        moves = from_move z x p y t d k (new_key (marker_of (x ∷ p)) (marker_of (y ∷ t)) k) (to_dir_move z x p y t k w.0);
-        long = w.1;
-        first = λ j l i less.
-            let v = move_of (marker_of (x ∷ p)) (marker_of (y ∷ t)) (keys_below (marker_of (x ∷ p)) z) j l (to_move z x p y t d j l i) in
-            ap is_too_long v.1 ∙ w.2 j v.0 less;
-      }
-
   with_places_on : (ks : List (List ℕ)) → HasPlace z (x ∷ p) (y ∷ t) → ks ≡ keys_below (marker_of (x ∷ p)) z → (r : Result (List (List ℕ)) (List ℕ)) → new_keys (marker_of (x ∷ p)) (marker_of (y ∷ t)) ks ≡ r → On (with_places ks r) z
-  with_places_on ks h e (Err k) f = (h, first_too_long k h.source.directory (ap (new_keys (marker_of (x ∷ p)) (marker_of (y ∷ t))) (sym e) ∙ f), refl)
+  with_places_on ks h e (Err k) f = (h, dir_long z x p y t k h.source.directory (ap (new_keys (marker_of (x ∷ p)) (marker_of (y ∷ t))) (sym e) ∙ f), refl)
   with_places_on ks h e (Ok ls) f =
       let w = all_found (marker_of (x ∷ p)) (marker_of (y ∷ t)) (keys_below (marker_of (x ∷ p)) z) ls (ap (new_keys (marker_of (x ∷ p)) (marker_of (y ∷ t))) (sym e) ∙ f) in (
         refl,
-        record { place = h; fit = all_fit h.source.directory w.1 },
+        record { place = h; fit = dir_fit z x p y t h.source.directory w.1 },
         e ∙ sym (sources_to (marker_of (x ∷ p)) (marker_of (y ∷ t)) (keys_below (marker_of (x ∷ p)) z)),
         w.0,
         walk_begins (marker_of (y ∷ t)) z,
@@ -320,19 +286,16 @@ module _ (z : Objects) (x : ℕ) (p : List ℕ) (y : ℕ) (t : List ℕ) where
       subst (λ b. On (on_walk O w (reply_in z (walk_asks (marker_of (x ∷ p)) w)) b) z) (sym (walk_fits (marker_of (x ∷ p)) w z))
       (walked_on (walked_entries w (reply_in z (walk_asks (marker_of (x ∷ p)) w))) a f (walk_goes (marker_of (x ∷ p)) z w h))
 
-  seen_on : (l : Look) → (IsOverlap (x ∷ p) (y ∷ t) → ⊥) → IsSeen l (Stands z (x ∷ p)) (fin.get z (x ∷ p) ≡ None) → On (here_at false l) z
-  seen_on There a h = (a, h, refl)
-  seen_on Nothing a h = (refl, a, h, walk_begins (marker_of (x ∷ p)) z)
-  seen_on _ a h = absurd h
-
-  here_on : (b c : Bool) → begins (marker_of (x ∷ p)) (marker_of (y ∷ t)) ≡ b → begins (marker_of (y ∷ t)) (marker_of (x ∷ p)) ≡ c → (l : Look) → IsSeen l (Stands z (x ∷ p)) (fin.get z (x ∷ p) ≡ None) → On (here_at (b || c) l) z
-  here_on true c e f l h = (inl e, refl)
-  here_on false true e f l h = (inr f, refl)
-  here_on false false e f l h = seen_on l apart h
+  here_on : (b c : Bool) → begins (marker_of (x ∷ p)) (marker_of (y ∷ t)) ≡ b → begins (marker_of (y ∷ t)) (marker_of (x ∷ p)) ≡ c
+      → On (here_at (b || c) (look_of (head (fin.get z (x ∷ p))))) z
+  here_on true c e f = (inl e, refl)
+  here_on false true e f = (inr f, refl)
+  here_on false false e f =
+      at_key (λ l. On (here_at false l) z) z (x ∷ p) (λ s. (apart e f, s, refl)) (λ n. (refl, apart e f, n, walk_begins (marker_of (x ∷ p)) z))
     where
-      apart : IsOverlap (x ∷ p) (y ∷ t) → ⊥
-      apart (inl g) = false_true e g
-      apart (inr g) = false_true f g
+      apart : begins (marker_of (x ∷ p)) (marker_of (y ∷ t)) ≡ false → begins (marker_of (y ∷ t)) (marker_of (x ∷ p)) ≡ false → IsOverlap (x ∷ p) (y ∷ t) → ⊥
+      apart e f (inl g) = false_true e g
+      apart e f (inr g) = false_true f g
 
   -- ---- each stage
 
@@ -343,7 +306,7 @@ module _ (z : Objects) (x : ℕ) (p : List ℕ) (y : ℕ) (t : List ℕ) where
   pub each : (s : CopyStage) (m : Objects) → holds O z s m → Led s m
   each Here m h =
       subst (Led Here) (sym h)
-      (here_on (begins (marker_of (x ∷ p)) (marker_of (y ∷ t))) (begins (marker_of (y ∷ t)) (marker_of (x ∷ p))) refl refl (look_of (head (fin.get z (x ∷ p)))) (head_tells z (x ∷ p)))
+      (here_on (begins (marker_of (x ∷ p)) (marker_of (y ∷ t))) (begins (marker_of (y ∷ t)) (marker_of (x ∷ p))) refl refl)
   each (Walk w) m h = subst (Led (Walk w)) (sym h.0) (walking w h.1 h.2 h.3)
   each (Up ks c) m h =
       let l = look_of (head (fin.get z c.first)) in

@@ -2,9 +2,8 @@
 use Rattle.std.specs.Prelude.{◌≡◌, ◌⊎◌, ℕ, ◌+◌, ◌*◌, ◌<◌, ◌≤◌, nat_lt, Bool, true, false, cond, List, [], ◌∷◌, Ok, Err, Option, Some, None, length}
 use Rattle.std.proofs.Common.{refl, sym, ap, subst, ◌∙◌, inl, inr, arith}
 use Rattle.path_keys.proofs.Common.{true≢false}
-use Rattle.fs_ops.specs.Prelude.{Objects, BucketContent, Scene, answer, apply, answer_at, apply_in, head, without, page, listed, only_reads, Request, DeleteObjects, Reply, Deleted, Refused, TooManyKeys, is_key, Step, Next, End, Goes, Falls, Look, There, Nothing, NoBucket, Other, look_of, Ask, Head, request_of, reply_in, objects_at, marker_of, keys_above, created, FsRefusal, AlreadyExists, NotDirectory, NoSuchBucket, Stands, SomeBelow, NoneBelow, HasFile, IsAbsent, Creates, look_asks, below_asks, NoFileAt, unless, climbing, climbed, upload_in}
-use Rattle.bucket_ops.specs.Prelude.{MaySend}
-use Rattle.bucket_ops.specs.Prelude.{reply_at}
+use Rattle.fs_ops.specs.Prelude.{Objects, BucketContent, Scene, answer, apply, answer_at, apply_in, head, without, only_reads, Request, DeleteObjects, Reply, Deleted, Refused, TooManyKeys, is_key, Step, Next, End, Goes, Falls, Look, There, NoBucket, Other, look_of, Ask, Head, request_of, reply_in, objects_at, marker_of, keys_above, created, FsRefusal, AlreadyExists, NotDirectory, NoSuchBucket, HasFile, IsAbsent, Creates, look_asks, below_asks, NoFileAt, unless, climbing, climbed, upload_in}
+use Rattle.bucket_ops.specs.Prelude.{MaySend, reply_at}
 use Rattle.std.specs.FinMap as fin
 use Rattle.store_frame.proofs.Reading.{reads_nothing}
 use Rattle.operations.specs.Courses.{IsCourse, IsCalm}
@@ -13,7 +12,7 @@ use Rattle.bucket_ops.proofs.AskLaws.{get_put, answered, applied_none, all_gone,
 use Rattle.fs_tree.specs.declared.answers.FsRefusal.TheVariants.{IsDirectory}
 use Rattle.fs_tree.specs.Tree as tree
 use Rattle.fs_tree.proofs.Above.{key_no_marker}
-use Rattle.fs_ops.proofs.Looks.{IsSeen, head_tells, page_tells}
+use Rattle.fs_ops.proofs.Looks.{head_tells, at_key, below_key}
 use Rattle.fs_ops.proofs.StepLaws.{not_missing}
 use Rattle.fs_ops.specs.declared.climb.Climbed.{Climbed}
 use Rattle.fs_ops.specs.declared.climb.Climbed.TheVariants.{File, On as Goes_on, Free}
@@ -31,17 +30,15 @@ use Rattle.fs_files.specs.code.Hearing as hearing
 use Rattle.fs_files.specs.code.Hearing.{heard}
 use Rattle.fs_files.specs.Creation.{Creation, IsCreation}
 use Rattle.fs_files.proofs.WritingLaws as files
-use Rattle.fs_files.proofs.WritingLaws.{placed_same, placed_by, Wrote, HeardSo, OwnHeard, LessLeft, RoomLeft, room_stays}
+use Rattle.fs_files.proofs.WritingLaws.{placed_same, placed_by, Wrote, HeardSo, OwnHeard, GoesOn, goes_further}
 use Rattle.fs_files.proofs.Creating.{created_above, makes_file, few_created}
 use Rattle.block_stream.specs.Holds.{HasRoom}
 use Rattle.fs_files.specs.code.Create.{Answer, CreateStep, asks, write_at, on_climb, climb, replace, here as here_at, on_here, on_below, drop_from, written, on, goes, IsOpen, IsDue, SomeDue, file_in, IsMade, least, HoldsIn, bucket_at, HoldsAt, holds, IsUndone, GivesFile, always_in, AlwaysFile, starts, request, stepped, led, gives, always, sends, upload_of, calm, leaves, write_left, left_at, left, Writes}
 
 -- where there is no bucket it ends, and else it goes on
 unless_so : {X : Type 0} (l : Look) (absent y : X) (P : X → Type 0) → (l ≡ NoBucket → P absent) → P y → P (unless l absent y)
-unless_so There absent y P f h = h
-unless_so Nothing absent y P f h = h
 unless_so NoBucket absent y P f h = f refl
-unless_so Other absent y P f h = h
+unless_so _ absent y P f h = h
 
 no_parts : (k n : ℕ) → n ≤ k * 10000 → k * 0 + n ≤ k * 10000
 no_parts k n h = let e : k * 0 ≡ 0 = Rattle.std.proofs.Math.Nat.mul-zero k in omega (arith, e, h)
@@ -67,6 +64,14 @@ module _ (o : Creation) (z : Scene) (ok : IsCreation o) where
   abbrev OnAt : Option BucketContent → CreateStep → Scene → Type 0
   OnAt v (Next x) s = HoldsAt v o z x s false
   OnAt v (End a) s = least o z → InFile v (λ m n. Creates o.path o.bytes o.overwrite o.policy m a n) (a ≡ Err NoSuchBucket) z B s × IsUndone a z s
+
+  -- what holds of a stage: its reply leads on, a sending that is lost keeps it, and what is sent is due
+  record IsLed (v : Option BucketContent) (x : CreateStage) (s : Scene) (repeated : Bool) : Type 0 where
+    steps : OnAt v (goes o x (answer s (asks o x)) repeated) (apply s (asks o x))
+    hides : HoldsAt v o z x (apply s (asks o x)) true
+    loses : HoldsAt v o z x s true
+    moments : least o z → InFile v (always_in o) (Unit {0}) z B s
+    asked : (only_reads (asks o x) ≡ true) ⊎ SomeDue o v
 
   -- ---- no bucket
 
@@ -125,26 +130,15 @@ module _ (o : Creation) (z : Scene) (ok : IsCreation o) where
     replace_goes true e h = climb_goes (inl (h, e))
     replace_goes false e h = refuses AlreadyExists (h, e, refl)
 
-    here_goes : (x : ℕ) (p : List ℕ) → o.path.key ≡ x ∷ p → (l : Look) → IsSeen l (Stands Z (x ∷ p)) (fin.get Z (x ∷ p) ≡ None) → At (here_at o l) z
-    here_goes x p e There h = replace_goes o.overwrite refl (subst (HasFile Z) (sym e) h)
-    here_goes x p e Nothing h = (refl, subst (NoFileAt Z) (sym e) h)
-    here_goes x p e _ h = absurd h
-
-    root_is : (k : List ℕ) → k ≡ [] → tree.IsDirectory Z k
-    root_is k e = subst (tree.IsDirectory Z) (sym e) (tt, tt)
-
     look_goes : (k : List ℕ) → o.path.key ≡ k → At (on_here k o (look_of (reply_in Z (look_asks k)))) z
-    look_goes [] e = refuses IsDirectory (root_is o.path.key e, refl)
-    look_goes (x ∷ p) e = here_goes x p e (look_of (head (fin.get Z (x ∷ p)))) (head_tells Z (x ∷ p))
-
-    below_goes : (x : ℕ) (p : List ℕ) → o.path.key ≡ x ∷ p → (l : Look) → fin.get Z (x ∷ p) ≡ None → IsSeen l (SomeBelow Z (marker_of (x ∷ p))) (NoneBelow Z (marker_of (x ∷ p))) → At (on_below o l) z
-    below_goes x p e There f h = refuses IsDirectory (subst (tree.IsDirectory Z) (sym e) (f, h), refl)
-    below_goes x p e Nothing f h = climb_goes (inr (subst (IsAbsent Z) (sym e) (f, h)))
-    below_goes x p e _ f h = absurd h
+    look_goes [] e = refuses IsDirectory (subst (tree.IsDirectory Z) (sym e) (tt, tt), refl)
+    look_goes (x ∷ p) e = at_key (λ l. At (here_at o l) z) Z (x ∷ p) (λ s. replace_goes o.overwrite refl (subst (HasFile Z) (sym e) s)) (λ n. (refl, subst (NoFileAt Z) (sym e) n))
 
     page_goes : (k : List ℕ) → o.path.key ≡ k → NoFileAt Z k → At (on_below o (look_of (reply_in Z (below_asks k 1)))) z
     page_goes [] e h = absurd h
-    page_goes (x ∷ p) e h = below_goes x p e (look_of (page 1 (listed (marker_of (x ∷ p)) false [] Z))) h (page_tells x (marker_of p) Z)
+    page_goes (x ∷ p) e h =
+        below_key (λ l. At (on_below o l) z) x (marker_of p) Z (λ s. refuses IsDirectory (subst (tree.IsDirectory Z) (sym e) (h, s), refl))
+        (λ n. climb_goes (inr (subst (IsAbsent Z) (sym e) (h, n))))
 
     -- what is read of the bucket in the scene z
     read_goes : (x : CreateStage) (a : Ask) → asks o x ≡ request_of B a → only_reads (request_of B a) ≡ true → (repeated : Bool) → At (on o x (reply_in Z a) repeated) z → (s : Scene) → s ≡ z → At (goes o x (answer s (asks o x)) repeated) (apply s (asks o x))
@@ -182,16 +176,16 @@ module _ (o : Creation) (z : Scene) (ok : IsCreation o) where
       abbrev r : Request
       r = writing.asks B w
 
-      heard_goes : (h : Heard) → RoomLeft B w h → (least o z → HeardSo z B w.key o.bytes c h (apply s r)) → At (written o h) (apply s r)
+      heard_goes : (h : Heard) → GoesOn B w h → (least o z → HeardSo z B w.key o.bytes c h (apply s r)) → At (written o h) (apply s r)
       heard_goes Done k f = wrote_goes Ks refl d (apply s r) (λ l. subst (λ k. Wrote z B k o.bytes c (apply s r)) key (f l))
-      heard_goes (On v) k f = (d, k.0, k.1 ∙ key, k.2 ∙ block, f)
+      heard_goes (On v) k f = (d, k.1, k.2 ∙ key, k.3 ∙ block, f)
       heard_goes Refusing k f = λ l. absurd (f l)
 
       stream_goes : At (goes o (Write w) (answer s r) repeated) (apply s r)
       stream_goes =
           unless_so (look_of (answer s r)) (End (Err NoSuchBucket)) (written o (heard w (answer s r) repeated)) (λ y. At y (apply s r))
           (λ e l. absurd (files.no_missing z B o.bytes c w s repeated (writes l) e))
-          (heard_goes (heard w (answer s r) repeated) (room_stays B w (answer s r) repeated room) (λ l. files.goes_on z B o.bytes c w s repeated (writes l)))
+          (heard_goes (heard w (answer s r) repeated) (goes_further B w room (answer s r) repeated) (λ l. files.goes_on z B o.bytes c w s repeated (writes l)))
 
     -- ---- the markers' deletion
 
@@ -236,54 +230,52 @@ module _ (o : Creation) (z : Scene) (ok : IsCreation o) where
 
     -- ---- each stage
 
-    steps : (x : CreateStage) (s : Scene) (repeated : Bool) → HoldsIn o z c x s repeated → At (goes o x (answer s (asks o x)) repeated) (apply s (asks o x))
-    steps Here s repeated h = read_goes Here (look_asks o.path.key) refl (reads_look B o.path.key) repeated (look_goes o.path.key refl) s h
-    steps Below s repeated h = read_goes Below (below_asks o.path.key 1) refl refl repeated (page_goes o.path.key refl h.1) s h.0
-    steps (Up d) s repeated h =
-        read_goes (Up d) (Head d.first) refl refl repeated
-        (on_goes (climbed d (look_of (head (fin.get Z d.first)))) h.1 (seen_on Z (keys_above o.path.key) d (look_of (head (fin.get Z d.first))) h.2 (head_tells Z d.first))) s h.0
-    steps (Write w) s repeated h = stream_goes w s repeated h.0 h.1 h.2 h.3 h.4
-    steps DropMarkers s repeated h = drop_goes s repeated h.0 h.1
-
     -- a look leaves the scene
     same_look : (a : Ask) → only_reads (request_of B a) ≡ true → (s : Scene) → s ≡ z → apply s (request_of B a) ≡ z
     same_look a reads s e = reads_nothing s (request_of B a) reads ∙ e
 
-    hides : (x : CreateStage) (s : Scene) (repeated : Bool) → HoldsIn o z c x s repeated → HoldsIn o z c x (apply s (asks o x)) true
-    hides Here s repeated h = same_look (look_asks o.path.key) (reads_look B o.path.key) s h
-    hides Below s repeated h = (same_look (below_asks o.path.key 1) refl s h.0, h.1)
-    hides (Up d) s repeated h = (same_look (Head d.first) refl s h.0, h.1, h.2)
-    hides (Write w) s repeated h = (h.0, h.1, h.2, h.3, λ l. files.hidden z B o.bytes c w s repeated (h.4 l))
-    hides DropMarkers s repeated h = (h.0, λ l. map_beside (λ m. m ≡ without (file_in o Z) Ks) (IsMade o Z) (apply s drops) (λ m e. inr e) (dropped s (h.1 l)))
-
-    loses : (x : CreateStage) (s : Scene) (repeated : Bool) → HoldsIn o z c x s repeated → HoldsIn o z c x s true
-    loses (Write w) s repeated h = (h.0, h.1, h.2, h.3, λ l. files.lost z B o.bytes c w s repeated (h.4 l))
-    loses _ s repeated h = h
-
-    still_at : (s : Scene) → s ≡ z → IsBeside z B c (always_in o Z) s
-    still_at s e = subst (IsBeside z B c (always_in o Z)) (sym e) (still (always_in o Z) (inl refl))
+    looks : (x : CreateStage) (a : Ask) → asks o x ≡ request_of B a → only_reads (request_of B a) ≡ true → (repeated : Bool)
+        → ((s : Scene) → s ≡ z → HoldsIn o z c x s true) → At (on o x (reply_in Z a) repeated) z → (s : Scene) → s ≡ z → IsLed (Some c) x s repeated
+    looks x a e reads repeated f h s g = record {
+      steps = read_goes x a e reads repeated h s g;
+      hides = f (apply s (asks o x)) (ap (apply s) e ∙ same_look a reads s g);
+      loses = f s g;
+      moments = λ l. subst (IsBeside z B c (always_in o Z)) (sym g) (still (always_in o Z) (inl refl));
+      asked = inl (ap only_reads e ∙ reads);
+    }
 
     written_so : (w : Writing) (m : Objects) → IsDue o Z → w.key ≡ o.path.key → IsFileOrNot Z w.key o.bytes m → always_in o Z m
     written_so w m d e (inl f) = inl f
     written_so w m d e (inr f) = inr (d, inl (f ∙ ap (λ k. fin.insert Z k (object_of o.bytes)) e))
 
-    moments : (x : CreateStage) (s : Scene) (repeated : Bool) → HoldsIn o z c x s repeated → least o z → IsBeside z B c (always_in o Z) s
-    moments Here s repeated h l = still_at s h
-    moments (Write w) s repeated h l = map_beside (IsFileOrNot Z w.key o.bytes) (always_in o Z) s (λ m e. written_so w m h.0 h.2 e) (h.4 l).beside
-    moments DropMarkers s repeated h l = map_beside (IsMade o Z) (always_in o Z) s (λ m e. inr (h.0, e)) (h.1 l)
-    moments _ s repeated h l = still_at s h.0
+    leads : (x : CreateStage) (s : Scene) (repeated : Bool) → HoldsIn o z c x s repeated → IsLed (Some c) x s repeated
+    leads Here s repeated h = looks Here (look_asks o.path.key) refl (reads_look B o.path.key) repeated (λ s g. g) (look_goes o.path.key refl) s h
+    leads Below s repeated h = looks Below (below_asks o.path.key 1) refl refl repeated (λ s g. (g, h.1)) (page_goes o.path.key refl h.1) s h.0
+    leads (Up d) s repeated h =
+        let l = look_of (head (fin.get Z d.first)) in
+        looks (Up d) (Head d.first) refl refl repeated (λ s g. (g, h.1, h.2)) (on_goes (climbed d l) h.1 (seen_on Z (keys_above o.path.key) d l h.2 (head_tells Z d.first))) s h.0
+    leads (Write w) s repeated h = record {
+      steps = stream_goes w s repeated h.0 h.1 h.2 h.3 h.4;
+      hides = (h.0, h.1, h.2, h.3, λ l. files.hidden z B o.bytes c w s repeated (h.4 l));
+      loses = (h.0, h.1, h.2, h.3, λ l. files.lost z B o.bytes c w s repeated (h.4 l));
+      moments = λ l. map_beside (IsFileOrNot Z w.key o.bytes) (always_in o Z) s (λ m e. written_so w m h.0 h.2 e) (h.4 l).beside;
+      asked = inr h.0;
+    }
+    leads DropMarkers s repeated h = record {
+      steps = drop_goes s repeated h.0 h.1;
+      hides = (h.0, λ l. map_beside (λ m. m ≡ without (file_in o Z) Ks) (IsMade o Z) (apply s drops) (λ m e. inr e) (dropped s (h.1 l)));
+      loses = h;
+      moments = λ l. map_beside (IsMade o Z) (always_in o Z) s (λ m e. inr (h.0, e)) (h.1 l);
+      asked = inr h.0;
+    }
 
     -- ---- where each sending was answered
 
     here_own : (y : CreateStep) (s : Scene) → s ≡ z → OwnStep o z y s
     here_own y s e = subst (OwnStep o z y) (sym e) (own_z o z y)
 
-    none_left : (ks : List (List ℕ)) (s : Scene) → NoneLeft z B s → OwnStep o z (drop_from ks) s
-    none_left [] s g = g
-    none_left (k ∷ ks) s g = λ id l e ne. g id l e
-
     written_own : (w : Writing) (v : Heard) (s : Scene) → HeardSo z B w.key o.bytes c v s → OwnHeard z B v s → OwnStep o z (written o v) s
-    written_own w Done s h g = none_left Ks s g
+    written_own w Done s h g = elim Ks as (λ ks. OwnStep o z (drop_from ks) s) [ [] ↦ g | k ∷ ks ↦ λ id l e ne. g id l e ]
     written_own w (On v) s h g = g
     written_own w Refusing s h g = absurd h
 
@@ -311,52 +303,29 @@ module _ (o : Creation) (z : Scene) (ok : IsCreation o) where
     owns (Write w) s h l g = stream_own w s (h.4 l) g
     owns DropMarkers s h l g = drop_own s (h.1 l) g
 
-    -- ---- what is sent
-
-    asked : (x : CreateStage) (s : Scene) (repeated : Bool) → HoldsIn o z c x s repeated → (only_reads (asks o x) ≡ true) ⊎ IsDue o Z
-    asked Here s repeated h = inl (reads_look B o.path.key)
-    asked (Write w) s repeated h = inr h.0
-    asked DropMarkers s repeated h = inr h.0
-    asked _ s repeated h = inl refl
-
   -- ---- whether there is the bucket or not
-
-  abbrev Steps : Option BucketContent → CreateStage → Scene → Bool → Type 0
-  Steps v x s repeated = OnAt v (goes o x (answer s (asks o x)) repeated) (apply s (asks o x))
-
-  none_steps : fin.get z.content.buckets B ≡ None → (x : CreateStage) (s : Scene) (repeated : Bool) → s ≡ z → x ≡ Here → Steps None x s repeated
-  none_steps e x s repeated h f =
-      subst (λ x. Steps None x s repeated) (sym f)
-      (let k = none_goes e s h in subst (λ y. OnAt None y (apply s (asks o Here))) (k.1 false ∙ sym (k.1 repeated)) k.0)
-
-  all_steps : (v : Option BucketContent) → fin.get z.content.buckets B ≡ v → (x : CreateStage) (s : Scene) (repeated : Bool) → HoldsAt v o z x s repeated → Steps v x s repeated
-  all_steps None e x s repeated h = none_steps e x s repeated h.0 h.1
-  all_steps (Some c) e x s repeated h = steps c e x s repeated h
 
   none_hides : fin.get z.content.buckets B ≡ None → (s : Scene) → s ≡ z → apply s (asks o Here) ≡ z
   none_hides e s h = ap (λ s. apply s (asks o Here)) h ∙ applied_none z B (look_asks o.path.key) (ap objects_of e)
 
-  all_hide : (v : Option BucketContent) → fin.get z.content.buckets B ≡ v → (x : CreateStage) (s : Scene) (repeated : Bool) → HoldsAt v o z x s repeated → HoldsAt v o z x (apply s (asks o x)) true
-  all_hide None e x s repeated h = (ap (λ x. apply s (asks o x)) h.1 ∙ none_hides e s h.0, h.1)
-  all_hide (Some c) e x s repeated h = hides c e x s repeated h
-
-  all_lose : (v : Option BucketContent) → fin.get z.content.buckets B ≡ v → (x : CreateStage) (s : Scene) (repeated : Bool) → HoldsAt v o z x s repeated → HoldsAt v o z x s true
-  all_lose None e x s repeated h = h
-  all_lose (Some c) e x s repeated h = loses c e x s repeated h
-
-  all_moments : (v : Option BucketContent) → fin.get z.content.buckets B ≡ v → (x : CreateStage) (s : Scene) (repeated : Bool) → HoldsAt v o z x s repeated → least o z → InFile v (always_in o) (Unit {0}) z B s
-  all_moments None e x s repeated h l = (h.0, tt)
-  all_moments (Some c) e x s repeated h l = moments c e x s repeated h l
+  all_led : (v : Option BucketContent) → fin.get z.content.buckets B ≡ v → (x : CreateStage) (s : Scene) (repeated : Bool) → HoldsAt v o z x s repeated → IsLed v x s repeated
+  all_led None e x s repeated h =
+      let k = none_goes e s h.0 in
+      subst (λ x. IsLed None x s repeated) (sym h.1)
+      (record {
+        steps = subst (λ y. OnAt None y (apply s (asks o Here))) (k.1 false ∙ sym (k.1 repeated)) k.0;
+        hides = (none_hides e s h.0, refl);
+        loses = (h.0, refl);
+        moments = λ l. (h.0, tt);
+        asked = inl (reads_look B o.path.key);
+      })
+  all_led (Some c) e x s repeated h = leads c e x s repeated h
 
   all_own : (v : Option BucketContent) → fin.get z.content.buckets B ≡ v → (x : CreateStage) (s : Scene) → HoldsAt v o z x s false → least o z → NoneBut (upload_of x) z B s → OwnStep o z (goes o x (answer s (asks o x)) false) (apply s (asks o x))
   all_own None e x s h l g =
       subst (λ x. OwnStep o z (goes o x (answer s (asks o x)) false) (apply s (asks o x))) (sym h.1)
       (subst (OwnStep o z (goes o Here (answer s (asks o Here)) false)) (sym (none_hides e s h.0)) (own_z o z (goes o Here (answer s (asks o Here)) false)))
   all_own (Some c) e x s h l g = owns c e x s h l g
-
-  all_asked : (v : Option BucketContent) → fin.get z.content.buckets B ≡ v → (x : CreateStage) (s : Scene) (repeated : Bool) → HoldsAt v o z x s repeated → (only_reads (asks o x) ≡ true) ⊎ SomeDue o v
-  all_asked None e x s repeated h = subst (λ x. (only_reads (asks o x) ≡ true) ⊎ SomeDue o None) (sym h.1) (inl (reads_look B o.path.key))
-  all_asked (Some c) e x s repeated h = asked c e x s repeated h
 
   began : (v : Option BucketContent) → HoldsAt v o z Here z false
   began None = (refl, refl)
@@ -387,69 +356,46 @@ abbrev FallsTo : Creation → CreateStep → ℕ → Type 0
 FallsTo o (Next x) n = left_at o x < n
 FallsTo o (End a) n = Unit {0}
 
-fall_write : (k : List ℕ) (o : Creation) (n : ℕ) → write_left o ≤ n → FallsTo o (write_at k o) n
-fall_write [] o n h = tt
-fall_write (x ∷ p) o n h = omega (arith, h)
-
 fall_climb : (o : Creation) (c : Climbed) (m n : ℕ) → IsShorter c m → m + write_left o ≤ n → FallsTo o (on_climb o c) n
 fall_climb o (File k) m n s h = tt
 fall_climb o (Goes_on c) m n s h = omega (arith, s, h)
-fall_climb o Free m n s h = fall_write o.path.key o n (omega (arith, h))
+fall_climb o Free m n s h = elim o.path.key as (λ k. FallsTo o (write_at k o) n) [ [] ↦ tt | x ∷ p ↦ omega (arith, h) ]
 
 fall_all : (o : Creation) (n : ℕ) → length (keys_above o.path.key) + write_left o ≤ n → FallsTo o (climb o) n
 fall_all o n h = fall_climb o (climbing (keys_above o.path.key)) (length (keys_above o.path.key)) n (climbing_falls (keys_above o.path.key)) h
 
-fall_replace : (w : Bool) (o : Creation) (n : ℕ) → length (keys_above o.path.key) + write_left o ≤ n → FallsTo o (replace w o) n
-fall_replace true o n h = fall_all o n h
-fall_replace false o n h = tt
-
 fall_here : (o : Creation) (l : Look) → FallsTo o (here_at o l) (left_at o Here)
-fall_here o There = fall_replace o.overwrite o (left_at o Here) (omega arith)
+fall_here o There = elim o.overwrite as (λ w. FallsTo o (replace w o) (left_at o Here)) [ true ↦ fall_all o (left_at o Here) (omega arith) | false ↦ tt ]
 fall_here o _ = omega arith
 
-fall_look : (k : List ℕ) (o : Creation) (l : Look) → FallsTo o (on_here k o l) (left_at o Here)
-fall_look [] o l = tt
-fall_look (x ∷ p) o l = fall_here o l
-
-fall_below : (o : Creation) (l : Look) → FallsTo o (on_below o l) (left_at o Below)
-fall_below o There = tt
-fall_below o _ = fall_all o (left_at o Below) (omega arith)
-
-fall_drop : (ks : List (List ℕ)) (o : Creation) (n : ℕ) → 0 < n → FallsTo o (drop_from ks) n
-fall_drop [] o n h = tt
-fall_drop (k ∷ ks) o n h = h
-
-fall_heard : (o : Creation) (w : Writing) (h : Heard) → LessLeft h (hearing.left w) → FallsTo o (written o h) (left_at o (Write w))
-fall_heard o w Done h = fall_drop (created o.policy o.path) o (left_at o (Write w)) (omega arith)
-fall_heard o w (On v) h = omega (arith, h)
+fall_heard : (o : Creation) (w : Writing) (h : Heard) → GoesOn o.path.bucket w h → FallsTo o (written o h) (left_at o (Write w))
+fall_heard o w Done h = elim (created o.policy o.path) as (λ ks. FallsTo o (drop_from ks) (left_at o (Write w))) [ [] ↦ tt | k ∷ ks ↦ (omega arith) ]
+fall_heard o w (On v) h = omega (arith, h.0)
 fall_heard o w Refusing h = tt
 
--- a stage's writing is of no empty blocks
-abbrev HasBlock : CreateStage → Type 0
-HasBlock (Write w) = 1 ≤ w.block
-HasBlock _ = Unit {0}
+-- a stage's writing has room
+abbrev HasBlock : Creation → CreateStage → Type 0
+HasBlock o (Write w) = HasRoom (stream_of o.path.bucket w)
+HasBlock o _ = Unit {0}
 
-falls_on : (o : Creation) (x : CreateStage) (r : Reply) (repeated : Bool) → HasBlock x → FallsTo o (on o x r repeated) (left_at o x)
-falls_on o Here r repeated h = fall_look o.path.key o (look_of r)
-falls_on o Below r repeated h = fall_below o (look_of r)
+falls_on : (o : Creation) (x : CreateStage) (r : Reply) (repeated : Bool) → HasBlock o x → FallsTo o (on o x r repeated) (left_at o x)
+falls_on o Here r repeated h = elim o.path.key as (λ k. FallsTo o (on_here k o (look_of r)) (left_at o Here)) [ [] ↦ tt | x ∷ p ↦ fall_here o (look_of r) ]
+falls_on o Below r repeated h = elim (look_of r) as (λ l. FallsTo o (on_below o l) (left_at o Below)) [ There ↦ tt | _ ↦ fall_all o (left_at o Below) (omega arith) ]
 falls_on o (Up c) r repeated h = fall_climb o (climbed c (look_of r)) (length c.rest) (left_at o (Up c)) (climbed_falls c (look_of r)) (omega arith)
-falls_on o (Write w) r repeated h = fall_heard o w (heard w r repeated) (files.falls w r repeated h)
+falls_on o (Write w) r repeated h = fall_heard o w (heard w r repeated) (goes_further o.path.bucket w h r repeated)
 falls_on o DropMarkers r repeated h = tt
 
-falls_to : (o : Creation) (x : CreateStage) (r : Reply) (repeated : Bool) → HasBlock x → FallsTo o (goes o x r repeated) (left_at o x)
+falls_to : (o : Creation) (x : CreateStage) (r : Reply) (repeated : Bool) → HasBlock o x → FallsTo o (goes o x r repeated) (left_at o x)
 falls_to o x r repeated h = unless_so (look_of r) (End (Err NoSuchBucket)) (on o x r repeated) (λ y. FallsTo o y (left_at o x)) (λ e. tt) (falls_on o x r repeated h)
 
 stepped_falls : (o : Creation) (y : CreateStep) (s : Scene) (n : ℕ) → FallsTo o y n → Falls left (stepped o y) s n
 stepped_falls o (Next x) s n h = h
 stepped_falls o (End a) s n h = tt
 
-has_block : (v : Option BucketContent) (o : Creation) (z : Scene) (x : CreateStage) (s : Scene) (repeated : Bool) → HoldsAt v o z x s repeated → HasBlock x
-has_block None o z x s repeated h = subst HasBlock (sym h.1) tt
-has_block (Some c) o z Here s repeated h = tt
-has_block (Some c) o z Below s repeated h = tt
-has_block (Some c) o z (Up d) s repeated h = tt
-has_block (Some c) o z (Write w) s repeated h = h.1.some
-has_block (Some c) o z DropMarkers s repeated h = tt
+has_block : (v : Option BucketContent) (o : Creation) (z : Scene) (x : CreateStage) (s : Scene) (repeated : Bool) → HoldsAt v o z x s repeated → HasBlock o x
+has_block None o z x s repeated h = subst (HasBlock o) (sym h.1) tt
+has_block (Some c) o z (Write w) s repeated h = h.1
+has_block (Some c) o z _ s repeated h = tt
 
 -- ---- the laws
 
@@ -460,16 +406,21 @@ course_goes : (o : CreateFile) (z : Scene) (p : CreateFile) (s : Scene) (repeate
 course_goes o z p s repeated h =
     subst (λ n. Goes (λ p s. holds o z p s false) (gives o z) (stepped n (goes n p.stage (answer s (asks n p.stage)) repeated)) (apply s (asks n p.stage))) (sym h.0)
     (goes_so o.file z h.1 (goes o.file p.stage (answer s (asks o.file p.stage)) repeated) (apply s (asks o.file p.stage))
-    (all_steps o.file z h.1 (bucket_at z o.file.path.bucket) refl p.stage s repeated h.2) o refl)
+    (all_led o.file z h.1 (bucket_at z o.file.path.bucket) refl p.stage s repeated h.2).steps o refl)
 
 course_hidden : (o : CreateFile) (z : Scene) (p : CreateFile) (s : Scene) (repeated : Bool) → holds o z p s repeated → holds o z p (apply s (request p)) true
-course_hidden o z p s repeated h =
-    (h.0, h.1, subst (λ n. HoldsAt (bucket_at z o.file.path.bucket) o.file z p.stage (apply s (asks n p.stage)) true) (sym h.0) (all_hide o.file z h.1 (bucket_at z o.file.path.bucket) refl p.stage s repeated h.2))
+course_hidden o z p s repeated h = (
+  h.0,
+  h.1,
+  subst (λ n. HoldsAt (bucket_at z o.file.path.bucket) o.file z p.stage (apply s (asks n p.stage)) true) (sym h.0)
+      (all_led o.file z h.1 (bucket_at z o.file.path.bucket) refl p.stage s repeated h.2).hides,
+)
 
 course_falls : (o : CreateFile) (z : Scene) (p : CreateFile) (s : Scene) (repeated : Bool) → holds o z p s repeated → Falls left (led p (answer s (request p)) repeated) (apply s (request p)) (left p s)
 course_falls o z p s repeated h =
     stepped_falls p.file (goes p.file p.stage (answer s (request p)) repeated) (apply s (request p)) (left p s)
-    (falls_to p.file p.stage (answer s (request p)) repeated (has_block (bucket_at z o.file.path.bucket) o.file z p.stage s repeated h.2))
+    (falls_to p.file p.stage (answer s (request p)) repeated
+    (subst (λ n. HasBlock n p.stage) (sym h.0) (has_block (bucket_at z o.file.path.bucket) o.file z p.stage s repeated h.2)))
 
 begins_so : (p : CreateFile) (s : Scene) → starts p → holds p s p s false
 begins_so p s h = (refl, h.0, subst (λ x. HoldsAt (bucket_at s p.file.path.bucket) p.file s x s false) (sym h.1) (began p.file s h.0 (bucket_at s p.file.path.bucket)))
@@ -477,12 +428,12 @@ begins_so p s h = (refl, h.0, subst (λ x. HoldsAt (bucket_at s p.file.path.buck
 pub create_laws : IsCourse starts request led holds gives always left
 create_laws = record {
   begin = λ p s h. begins_so p s h;
-  lost = λ o z p s repeated h. (h.0, h.1, all_lose o.file z h.1 (bucket_at z o.file.path.bucket) refl p.stage s repeated h.2);
+  lost = λ o z p s repeated h. (h.0, h.1, (all_led o.file z h.1 (bucket_at z o.file.path.bucket) refl p.stage s repeated h.2).loses);
   hidden = λ o z p s repeated h. course_hidden o z p s repeated h;
   goes_on = λ o z p s repeated h. course_goes o z p s repeated h;
   falls = λ o z p s repeated h. course_falls o z p s repeated h;
   no_rise = λ o z p s repeated h. omega arith;
-  during = λ o z p s repeated h l. all_moments o.file z h.1 (bucket_at z o.file.path.bucket) refl p.stage s repeated h.2 l;
+  during = λ o z p s repeated h l. (all_led o.file z h.1 (bucket_at z o.file.path.bucket) refl p.stage s repeated h.2).moments l;
   at_end = λ o z a s h. ends_always o.file z a s h;
 }
 
@@ -515,4 +466,5 @@ create_calm = record {
 
 pub create_asked : MaySend request holds sends
 create_asked o z p s repeated h =
-    subst (λ n. (only_reads (asks n p.stage) ≡ true) ⊎ SomeDue o.file (bucket_at z o.file.path.bucket)) (sym h.0) (all_asked o.file z h.1 (bucket_at z o.file.path.bucket) refl p.stage s repeated h.2)
+    subst (λ n. (only_reads (asks n p.stage) ≡ true) ⊎ SomeDue o.file (bucket_at z o.file.path.bucket)) (sym h.0)
+    (all_led o.file z h.1 (bucket_at z o.file.path.bucket) refl p.stage s repeated h.2).asked

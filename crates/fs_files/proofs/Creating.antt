@@ -10,7 +10,8 @@ use Rattle.path_keys.proofs.Last.{parts_round, front_is_key}
 use Rattle.fs_tree.specs.Changes.{MakesFile}
 use Rattle.fs_tree.proofs.Begins.{both, begins_trans, begins_marker, marker_is, marker_at}
 use Rattle.fs_tree.proofs.Above.{NoSlash, Cut, cut, none_above, more_above, above_begins, begins_above}
-use Rattle.bucket_ops.proofs.Below.{gone_in, kept_out}
+use Rattle.fs_ops.proofs.Showing.{element_some}
+use Rattle.bucket_ops.proofs.Below.{is_in, gone_in, kept_out}
 use Rattle.fs_files.specs.Placed.{object_of}
 
 -- these are markers of directories above a path
@@ -20,15 +21,6 @@ AreAbove k ks = (q : List ℕ) → IsIn q ks → (a : List ℕ) × (q ≡ marker
 pub created_above : (policy : MarkerPolicy) (p : Path) → AreAbove p.key (created policy p)
 created_above Keep p q i = absurd i
 created_above Delete p q i = let m = in_map marker_of q (keys_above p.key) i in (m.0, m.2, m.1)
-
-in_or_out : (q : List ℕ) (ks : List (List ℕ)) → IsIn q ks ⊎ (IsIn q ks → ⊥)
-in_or_out q [] = inr (λ i. i)
-in_or_out q (k ∷ ks) = by (same_or_other q k) (in_or_out q ks)
-  where
-    by : (q ≡ k) ⊎ (q ≡ k → ⊥) → IsIn q ks ⊎ (IsIn q ks → ⊥) → IsIn q (k ∷ ks) ⊎ (IsIn q (k ∷ ks) → ⊥)
-    by (inl e) o = inl (inl e)
-    by (inr n) (inl i) = inl (inr i)
-    by (inr n) (inr m) = inr (λ i. elim i [ inl e ↦ n e | inr j ↦ m j ])
 
 module _ (k bytes : List ℕ) (ks : List (List ℕ)) (z : Objects) (plain : is_marker k ≡ false) (above : AreAbove k ks) where
   abbrev n : Objects
@@ -51,7 +43,7 @@ module _ (k bytes : List ℕ) (ks : List (List ℕ)) (z : Objects) (plain : is_m
 
   dir_kept : (q : List ℕ) → HasDir z q → HasDir m q
   dir_kept [] h = tt
-  dir_kept (x ∷ q) h = by (same_or_other h.0 k) (in_or_out h.0 ks)
+  dir_kept (x ∷ q) h = by (same_or_other h.0 k) (is_in h.0 ks)
     where
       -- its witness was a marker above the file
       up : (a : List ℕ) → begins (marker_of (x ∷ q)) (marker_of a) ≡ true → IsIn a (keys_above k) → (x ∷ q ≡ a) ⊎ (begins (marker_of (x ∷ q)) a ≡ true) → begins (marker_of (x ∷ q)) k ≡ true
@@ -68,7 +60,7 @@ module _ (k bytes : List ℕ) (ks : List (List ℕ)) (z : Objects) (plain : is_m
 
   dir_only : (q : List ℕ) → HasDir m q → HasDir z q ⊎ IsIn q (keys_above k)
   dir_only [] h = inl tt
-  dir_only (x ∷ q) h = by (same_or_other h.0 k) (in_or_out h.0 ks)
+  dir_only (x ∷ q) h = by (same_or_other h.0 k) (is_in h.0 ks)
     where
       by : (h.0 ≡ k) ⊎ (h.0 ≡ k → ⊥) → IsIn h.0 ks ⊎ (IsIn h.0 ks → ⊥) → HasDir z (x ∷ q) ⊎ IsIn (x ∷ q) (keys_above k)
       by (inl e) o = inr (begins_above (x ∷ q) k (ap (begins (marker_of (x ∷ q))) (sym e) ∙ h.1))
@@ -89,10 +81,6 @@ module _ (k bytes : List ℕ) (ks : List (List ℕ)) (z : Objects) (plain : is_m
 
 not_more : (n : ℕ) → n < 1000 → nat_lt 1000 n ≡ false
 not_more n h = grind (arith, nat_tests)
-
-element_some : (e : List ℕ) → is_element e ≡ true → 0 < length e
-element_some [] h = absurd (false≢true h)
-element_some (x ∷ e) h = omega arith
 
 last_some : (p front back : List ℕ) → is_key p ≡ true → p ≡ front ++ 47 ∷ back → NoSlash back → 0 < length back
 last_some p front back k e h =
@@ -118,9 +106,6 @@ few_above (suc n) p l k = by (cut p) (λ front. few_above n front)
         let e = ap length (more_above p c.0 c.1 c.2 c.3) ∙ length-append (keys_above c.0) (c.0 ∷ []) in
         subst (λ v. 2 * v ≤ length p) (sym e) (more (length (keys_above c.0)) (length c.0) (length c.1) (length p) (ih c.0 less (front_is_key p c.0 c.1 k c.2 c.3)) long one)
 
-half : (a p : ℕ) → 2 * a ≤ p → p ≤ 1023 → a < 1000
-half a p h l = omega (arith, h, l)
-
 key_long : (p : List ℕ) → is_key p ≡ true → length p ≤ 1023
 key_long [] k = omega arith
 key_long (x ∷ p) k = (some_key (x ∷ p) (omega arith) k).1
@@ -129,4 +114,4 @@ pub few_created : (policy : MarkerPolicy) (p : Path) → is_key p.key ≡ true �
 few_created Keep p k = refl
 few_created Delete p k =
     ap (nat_lt 1000) (length-map (keys_above p.key) marker_of)
-    ∙ not_more (length (keys_above p.key)) (half (length (keys_above p.key)) (length p.key) (few_above (suc (length p.key)) p.key (omega arith) k) (key_long p.key k))
+    ∙ not_more (length (keys_above p.key)) (omega (arith, few_above (suc (length p.key)) p.key (omega arith) k, key_long p.key k))

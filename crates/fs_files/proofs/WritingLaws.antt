@@ -1,6 +1,6 @@
 -- A file that is written is a closed stream: its bytes are held, whatever the store loses, and nothing else changes. Contracts cite none of these laws.
-use Rattle.std.specs.Prelude.{◌≡◌, ◌⊎◌, ℕ, ◌+◌, ◌-◌, ◌<◌, ◌≤◌, ◌||◌, not, nat_lt, nat_le, Bool, true, false, cond, List, [], ◌∷◌, ◌++◌, take, drop, length, Option, Some, None, Result, Ok, Err}
-use Rattle.std.proofs.Common.{refl, sym, ap, subst, ◌∙◌, inl, inr, arith, length-drop}
+use Rattle.std.specs.Prelude.{◌≡◌, ◌⊎◌, ℕ, ◌+◌, ◌-◌, ◌<◌, ◌≤◌, ◌||◌, not, nat_lt, nat_le, Bool, true, false, cond, List, [], ◌∷◌, take, length, Option, Some, None, Result, Ok, Err}
+use Rattle.std.proofs.Common.{refl, sym, ap, subst, ◌∙◌, inl, inr, arith}
 use Rattle.path_keys.proofs.Common.{nat_tests, take_all, exact_bytes, insert_same, some_is, same_or_not, nat_other, nat_left, nat_gone}
 use Rattle.fs_ops.specs.Prelude.{unwrap_or, text_total, Objects, Uploads, Upload, BucketContent, Buckets, Scene, answer, apply, answer_at, apply_at, apply_in, bucket_of, part_put, complete_answer, completed, live, is_part_number, with_part, joined, Spelled, named_from, Request, PutObject, CreateUpload, UploadPart, CompleteUpload, Reply, Stored, Part, Completed, Refused, Refusal, NoSuchUpload, upload_in, NoBucket, look_of}
 use Rattle.store_frame.specs.Prelude.{draws}
@@ -12,7 +12,7 @@ use Rattle.block_stream.specs.declared.stage.Stage.{Stage}
 use Rattle.block_stream.specs.declared.stage.Stage.TheVariants.{Waiting, Putting, Beginning, Sending, Completing, Over}
 use Rattle.block_stream.specs.declared.mode.StreamEnd.TheVariants.{Done as Ended}
 use Rattle.block_stream.specs.Stream as streams
-use Rattle.block_stream.specs.Stream.{Stream, has_some, has_part, begin_or_wait, stage, stage_of, wanted, told, answers, ended, one_if, is_begun}
+use Rattle.block_stream.specs.Stream.{Stream, has_some, has_part, begin_or_wait, stage, stage_of, wanted, told, answers, ended}
 use Rattle.block_stream.specs.Holds.{HasRoom, Holds}
 use Rattle.block_stream.proofs.FillingLaws.{due, room_after, room_begun, held_at}
 use Rattle.block_stream.proofs.KeepingLaws as keeping
@@ -22,6 +22,30 @@ use Rattle.fs_files.specs.declared.writing.Heard.TheVariants.{Done, On, Refusing
 use Rattle.fs_files.specs.code.Writing.{Writing, unsent, stream_of, first_stage, later_stage, is_short, is_due, stage_by, stage_in, id_in, asks_at, asks}
 use Rattle.fs_files.specs.code.Create.{Writes}
 use Rattle.fs_files.specs.code.Hearing.{begun, parted, refused, heard_at, heard, left}
+
+-- ---- what a stage tells
+
+abbrev Known : Writing → Stage → Type 0
+Known w Putting = (w.upload ≡ None) × (is_short w ≡ true)
+Known w Beginning = w.upload ≡ None
+Known w Sending = (w.upload ≡ Some (id_in w)) × (is_due w ≡ true)
+Known w Completing = w.upload ≡ Some (id_in w)
+Known w _ = ⊥
+
+known : (w : Writing) → Known w (stage_in w)
+known w = by w.upload refl
+  where
+    first : (c : Bool) → is_short w ≡ c → w.upload ≡ None → Known w (first_stage c)
+    first true e u = (u, e)
+    first false e u = u
+
+    later : (c : Bool) → is_due w ≡ c → w.upload ≡ Some (id_in w) → Known w (later_stage c)
+    later true e u = (u, e)
+    later false e u = u
+
+    by : (u : Option ℕ) → w.upload ≡ u → Known w (stage_by u w)
+    by None e = first (is_short w) refl e
+    by (Some id) e = later (is_due w) refl (e ∙ ap Some (sym (ap (λ u. unwrap_or u 0) e)))
 
 -- ---- the stages are the stream's
 
@@ -59,31 +83,20 @@ module _ (b : List ℕ) (w : Writing) (some : 1 ≤ w.block) where
       by false e = ap (λ c. begin_or_wait (c || is_due w)) (not_less (length w.pending) w.block e)
 
   pub stage_is : stage M ≡ stage_in w
-  stage_is = by w.upload
-    where
-      end_stage : (c : Bool) → cond c Sending Completing ≡ later_stage c
-      end_stage true = refl
-      end_stage false = refl
+  stage_is = elim w.upload as (λ u. stage_of None u M ≡ stage_by u w) [
+    | None ↦ begin_stage
+    | Some id ↦ ap (λ c. cond c Sending Completing) part_due ∙ (elim (is_due w) as (λ c. cond c Sending Completing ≡ later_stage c) [ true ↦ refl | false ↦ refl ])
+  ]
 
-      by : (u : Option ℕ) → stage_of None u M ≡ stage_by u w
-      by None = begin_stage
-      by (Some id) = ap (λ c. cond c Sending Completing) part_due ∙ end_stage (is_due w)
-
-  asked_first : (c : Bool) → is_short w ≡ c → streams.asks (first_stage c) M ≡ Some (asks_at (first_stage c) b w)
-  asked_first true e = ap (λ x. Some (PutObject b w.key x None)) (take_all w.block w.pending (is_less (length w.pending) w.block e))
-  asked_first false e = refl
-
-  asked_later : (c : Bool) → streams.asks (later_stage c) M ≡ Some (asks_at (later_stage c) b w)
-  asked_later true = refl
-  asked_later false = refl
-
-  asked : (u : Option ℕ) → streams.asks (stage_by u w) M ≡ Some (asks_at (stage_by u w) b w)
-  asked None = asked_first (is_short w) refl
-  asked (Some id) = asked_later (is_due w)
+  asked : (g : Stage) → Known w g → streams.asks g M ≡ Some (asks_at g b w)
+  asked Putting k = ap (λ x. Some (PutObject b w.key x None)) (take_all w.block w.pending (is_less (length w.pending) w.block k.1))
+  asked Waiting k = absurd k
+  asked Over k = absurd k
+  asked _ k = refl
 
   -- it asks what the stream asks
   pub wanted_is : wanted M ≡ Some (asks b w)
-  wanted_is = ap (λ g. streams.asks g M) stage_is ∙ asked w.upload
+  wanted_is = ap (λ g. streams.asks g M) stage_is ∙ asked (stage_in w) (known w)
 
 -- ---- one bucket's requests
 
@@ -108,6 +121,10 @@ applied_at _ w z b d n = placed_by z b d n (CompleteUpload b w.key (id_in w) (na
 pub placed_there : (z : Scene) (b : List ℕ) (d c : BucketContent) (n : ℕ) (s : Scene) → s ≡ placed z b d n → fin.get s.content.buckets b ≡ Some c → c ≡ d
 placed_there z b d c n s e h = some_is (sym h ∙ ap (λ (s : Scene). fin.get s.content.buckets b) e ∙ get_put z.content.buckets b d)
 
+answered_there : (z : Scene) (b : List ℕ) (d : BucketContent) (n : ℕ) (s : Scene) → s ≡ placed z b d n → (r : Request)
+    → answer (placed z b d n) r ≡ answer_at (fin.get (placed z b d n).content.buckets b) n z.content.minimum r → answer s r ≡ answer_at (Some d) n z.content.minimum r
+answered_there z b d n s e r f = ap (λ s. answer s r) e ∙ f ∙ ap (λ o. answer_at o n z.content.minimum r) (get_put z.content.buckets b d)
+
 -- ---- what is kept
 
 -- the file stands
@@ -125,11 +142,10 @@ begins z b bytes key block c h least room = record {
 
 part_kept : (m : Uploads) (i j : ℕ) (o : Option Upload) (n : ℕ) (bytes : List ℕ) → (j ≡ i → ⊥) → fin.get (part_put m i o n bytes) j ≡ fin.get m j
 part_kept m i j None n bytes h = refl
-part_kept m i j (Some u) n bytes h = by (is_part_number n)
-  where
-    by : (c : Bool) → fin.get (cond c (fin.insert m i (with_part u n bytes)) m) j ≡ fin.get m j
-    by true = nat_other m i j (with_part u n bytes) h
-    by false = refl
+part_kept m i j (Some u) n bytes h = elim (is_part_number n) as (λ c. fin.get (cond c (fin.insert m i (with_part u n bytes)) m) j ≡ fin.get m j) [
+  | true ↦ nat_other m i j (with_part u n bytes) h
+  | false ↦ refl
+]
 
 ended_kept : (d : BucketContent) (key : List ℕ) (i j : ℕ) (r : Result (List ℕ) Refusal) → (j ≡ i → ⊥) → fin.get (completed d key i r).uploads j ≡ fin.get d.uploads j
 ended_kept d key i j (Ok bytes) h = nat_left d.uploads i j h
@@ -139,32 +155,23 @@ apart : (i j n : ℕ) → n ≤ i → j < n → j ≡ i → ⊥
 apart i j n h l e = omega (arith, h, l, e)
 
 module _ (z : Scene) (b bytes : List ℕ) (c : BucketContent) (w : Writing) (drawn : (id : ℕ) → w.upload ≡ Some id → z.content.next ≤ id) (d : BucketContent) (n : ℕ) (later : IsLater z c d n) where
-  abbrev After : Stage → Type 0
-  After g = IsLater z c (apply_in d n z.content.minimum (asks_at g b w)) (cond (draws (asks_at g b w)) (n + 1) n)
-
-  later_first : (short : Bool) → After (first_stage short)
-  later_first true = record { drawn = later.drawn; uploads = later.uploads }
-  later_first false = record {
+  later_after : (g : Stage) → Known w g → IsLater z c (apply_in d n z.content.minimum (asks_at g b w)) (cond (draws (asks_at g b w)) (n + 1) n)
+  later_after Putting k = record { drawn = later.drawn; uploads = later.uploads }
+  later_after Beginning k = record {
     drawn = let l = later.drawn in omega (arith, l);
     uploads = λ j l. nat_other d.uploads n j (record { key = w.key; parts = fin.empty }) (apart n j z.content.next later.drawn l) ∙ later.uploads j l;
   }
-
-  later_next : (due : Bool) → z.content.next ≤ id_in w → After (later_stage due)
-  later_next true h = record {
+  later_after Sending k = record {
     drawn = later.drawn;
-    uploads = λ j l. part_kept d.uploads (id_in w) j (live d.uploads w.key (id_in w)) (length w.tags + 1) (take w.block w.pending) (apart (id_in w) j z.content.next h l) ∙ later.uploads j l;
+    uploads = λ j l. part_kept d.uploads (id_in w) j (live d.uploads w.key (id_in w)) (length w.tags + 1) (take w.block w.pending)
+        (apart (id_in w) j z.content.next (drawn (id_in w) k.0) l) ∙ later.uploads j l;
   }
-  later_next false h = record {
+  later_after Completing k = record {
     drawn = later.drawn;
-    uploads = λ j l. ended_kept d w.key (id_in w) j (joined (live d.uploads w.key (id_in w)) (named_from 1 w.tags) z.content.minimum) (apart (id_in w) j z.content.next h l) ∙ later.uploads j l;
+    uploads = λ j l. ended_kept d w.key (id_in w) j (joined (live d.uploads w.key (id_in w)) (named_from 1 w.tags) z.content.minimum)
+        (apart (id_in w) j z.content.next (drawn (id_in w) k) l) ∙ later.uploads j l;
   }
-
-  later_after : After (stage_in w)
-  later_after = by w.upload refl
-    where
-      by : (u : Option ℕ) → w.upload ≡ u → After (stage_by u w)
-      by None e = later_first (is_short w)
-      by (Some id) e = later_next (is_due w) (subst (λ i. z.content.next ≤ i) (sym (ap (λ u. unwrap_or u 0) e)) (drawn id e))
+  later_after _ k = absurd k
 
 -- ---- a request of the stream
 
@@ -179,6 +186,9 @@ twice z m key bytes (inr e) = ap (λ (m : Objects). fin.insert m key (object_of 
 whole_is : (z m : Objects) (key bytes : List ℕ) → IsFileOrNot z key bytes m → fin.get m key ≡ Some (object_of bytes) → m ≡ fin.insert z key (object_of bytes)
 whole_is z m key bytes (inl e) g = e ∙ sym (insert_same text_total exact_bytes z key (object_of bytes) (ap (λ (m : Objects). fin.get m key) (sym e) ∙ g))
 whole_is z m key bytes (inr e) g = e
+
+drawn_same : (i j : ℕ) → Drawn i ≡ Drawn j → i ≡ j
+drawn_same i j e = cc
 
 -- what a reply has led to
 abbrev pub HeardSo : Scene → List ℕ → List ℕ → List ℕ → BucketContent → Heard → Scene → Type 0
@@ -215,8 +225,8 @@ module _ (z : Scene) (b bytes : List ℕ) (c : BucketContent) (w : Writing) (s :
   is_wanted : wanted S ≡ Some r
   is_wanted = wanted_is b w some_block
 
-  scene_after : apply s r ≡ placed z b (apply_in d n z.content.minimum r) (next_of n r)
-  scene_after = ap (λ s. apply s r) h.beside.scene ∙ applied_at (stage_in w) w z b d n
+  scene_after : (g : Stage) → apply s (asks_at g b w) ≡ placed z b (apply_in d n z.content.minimum (asks_at g b w)) (next_of n (asks_at g b w))
+  scene_after g = ap (λ s. apply s (asks_at g b w)) h.beside.scene ∙ applied_at g w z b d n
 
   -- what the stream holds and is told
   took : Holds (told (stage_in w) S repeated (answer s r)) (apply s r) false bytes
@@ -237,7 +247,6 @@ module _ (z : Scene) (b bytes : List ℕ) (c : BucketContent) (w : Writing) (s :
       again : (c : Bool) → Holds (streams.refused S c NoSuchUpload) s' false bytes → (e : BucketContent) × (fin.get s'.content.buckets b ≡ Some e) × (fin.get e.objects w.key ≡ Some (object_of bytes))
       again true k = stands s' k
       again false k = absurd k.held
-  completes (Refused x) s' f k = absurd (cc)
   completes _ s' f k = absurd (cc)
 
   joined_is : (m : Result (List ℕ) Refusal) → fin.get (completed d w.key (id_in w) m).objects w.key ≡ Some (object_of bytes) → IsFileOrNot c.objects w.key bytes (completed d w.key (id_in w) m).objects
@@ -247,58 +256,25 @@ module _ (z : Scene) (b bytes : List ℕ) (c : BucketContent) (w : Writing) (s :
   put_is : w.upload ≡ None → bytes ≡ w.pending
   put_is e = (held_at S h.holds.content repeated bytes None None refl e h.holds.held).0
 
-  objects_at : (g : Stage) → stage_in w ≡ g → IsFileOrNot c.objects w.key bytes (apply_in d n z.content.minimum (asks_at g b w)).objects
-  objects_at Putting e = inr (ap (λ x. fin.insert d.objects w.key (object_of x)) (sym (put_is (no_upload w.upload refl e))) ∙ twice c.objects d.objects w.key bytes h.beside.objects)
-    where
-      no_upload : (u : Option ℕ) → w.upload ≡ u → stage_by u w ≡ Putting → w.upload ≡ None
-      no_upload None f e = f
-      no_upload (Some id) f e = absurd (by (is_due w) e)
-        where
-          by : (c : Bool) → later_stage c ≡ Putting → ⊥
-          by true e = cc
-          by false e = cc
-  objects_at Beginning e = h.beside.objects
-  objects_at Sending e = h.beside.objects
-  objects_at Completing e =
-      let k = completes (answer s r) (apply s r) (subst (λ g. answers g (answer s r) ≡ true) e fits) (subst (λ g. Holds (told g S repeated (answer s r)) (apply s r) false bytes) e took) in
-      let f = placed_there z b (apply_in d n z.content.minimum r) k.0 (next_of n r) (apply s r) scene_after k.1 in
-      let g : fin.get (apply_in d n z.content.minimum (asks_at Completing b w)).objects w.key ≡ Some (object_of bytes) =
-      ap (λ g. fin.get (apply_in d n z.content.minimum (asks_at g b w)).objects w.key) (sym e) ∙ ap (λ (e : BucketContent). fin.get e.objects w.key) (sym f) ∙ k.2 in
-      joined_is (joined (live d.uploads w.key (id_in w)) (named_from 1 w.tags) z.content.minimum) g
-  objects_at Waiting e = absurd (waits w.upload e)
-    where
-      waits : (u : Option ℕ) → stage_by u w ≡ Waiting → ⊥
-      waits None e = by (is_short w) e
-        where
-          by : (c : Bool) → first_stage c ≡ Waiting → ⊥
-          by true e = cc
-          by false e = cc
-      waits (Some id) e = by (is_due w) e
-        where
-          by : (c : Bool) → later_stage c ≡ Waiting → ⊥
-          by true e = cc
-          by false e = cc
-  objects_at Over e = absurd (over w.upload e)
-    where
-      over : (u : Option ℕ) → stage_by u w ≡ Over → ⊥
-      over None e = by (is_short w) e
-        where
-          by : (c : Bool) → first_stage c ≡ Over → ⊥
-          by true e = cc
-          by false e = cc
-      over (Some id) e = by (is_due w) e
-        where
-          by : (c : Bool) → later_stage c ≡ Over → ⊥
-          by true e = cc
-          by false e = cc
+  objects_at : (g : Stage) → Known w g → answers g (answer s (asks_at g b w)) ≡ true → Holds (told g S repeated (answer s (asks_at g b w))) (apply s (asks_at g b w)) false bytes
+      → IsFileOrNot c.objects w.key bytes (apply_in d n z.content.minimum (asks_at g b w)).objects
+  objects_at Putting k f t = inr (ap (λ x. fin.insert d.objects w.key (object_of x)) (sym (put_is k.0)) ∙ twice c.objects d.objects w.key bytes h.beside.objects)
+  objects_at Completing k f t =
+      let r = asks_at Completing b w in
+      let e = completes (answer s r) (apply s r) f t in
+      let g = placed_there z b (apply_in d n z.content.minimum r) e.0 (next_of n r) (apply s r) (scene_after Completing) e.1 in
+      joined_is (joined (live d.uploads w.key (id_in w)) (named_from 1 w.tags) z.content.minimum) (ap (λ (e : BucketContent). fin.get e.objects w.key) (sym g) ∙ e.2)
+  objects_at Waiting k f t = absurd k
+  objects_at Over k f t = absurd k
+  objects_at _ k f t = h.beside.objects
 
   beside_after : IsBeside z b c (IsFileOrNot c.objects w.key bytes) (apply s r)
   beside_after = record {
     content = apply_in d n z.content.minimum r;
     next = next_of n r;
-    scene = scene_after;
-    later = later_after z b bytes c w h.drawn d n h.beside.later;
-    objects = objects_at (stage_in w) refl;
+    scene = scene_after (stage_in w);
+    later = later_after z b bytes c w h.drawn d n h.beside.later (stage_in w) (known w);
+    objects = objects_at (stage_in w) (known w) fits took;
   }
 
   -- its effect, whose answer was lost, keeps it
@@ -325,34 +301,31 @@ module _ (z : Scene) (b bytes : List ℕ) (c : BucketContent) (w : Writing) (s :
         objects = whole_is c.objects beside_after.content.objects w.key bytes beside_after.objects (ap (λ (e : BucketContent). fin.get e.objects w.key) (sym k) ∙ g);
       }
 
-  heard_so : (g : Stage) (a : Reply) → stage_in w ≡ g → answers g a ≡ true → Holds (told g S repeated a) (apply s r) false bytes → ((id : ℕ) → g ≡ Beginning → a ≡ Drawn id → z.content.next ≤ id) → So (heard_at g w a repeated) (apply s r)
-  heard_so Putting (Stored t) e f k i = let v = stands (apply s r) k in wrote v.0 v.1 v.2
-  heard_so Beginning (Drawn id) e f k i = record { beside = beside_after; drawn = λ j x. subst (λ j. z.content.next ≤ j) (some_is x) (i id refl refl); holds = k }
-  heard_so Sending (Part t) e f k i = record { beside = beside_after; drawn = h.drawn; holds = k }
-  heard_so Sending (Refused NoSuchUpload) e f k i = absurd k.held
-  heard_so Completing (Completed t) e f k i = let v = stands (apply s r) k in wrote v.0 v.1 v.2
-  heard_so Completing (Refused NoSuchUpload) e f k i = again repeated k
+  heard_so : (g : Stage) (a : Reply) → answers g a ≡ true → Holds (told g S repeated a) (apply s r) false bytes
+      → ((id : ℕ) → g ≡ Beginning → a ≡ Drawn id → z.content.next ≤ id) → So (heard_at g w a repeated) (apply s r)
+  heard_so Putting (Stored t) f k i = let v = stands (apply s r) k in wrote v.0 v.1 v.2
+  heard_so Beginning (Drawn id) f k i = record { beside = beside_after; drawn = λ j x. subst (λ j. z.content.next ≤ j) (some_is x) (i id refl refl); holds = k }
+  heard_so Sending (Part t) f k i = record { beside = beside_after; drawn = h.drawn; holds = k }
+  heard_so Sending (Refused NoSuchUpload) f k i = absurd k.held
+  heard_so Completing (Completed t) f k i = let v = stands (apply s r) k in wrote v.0 v.1 v.2
+  heard_so Completing (Refused NoSuchUpload) f k i = again repeated k
     where
       again : (c : Bool) → Holds (streams.refused S c NoSuchUpload) (apply s r) false bytes → So (refused c NoSuchUpload) (apply s r)
       again true k = let v = stands (apply s r) k in wrote v.0 v.1 v.2
       again false k = absurd k.held
-  heard_so _ _ e f k i = absurd (cc)
+  heard_so _ _ f k i = absurd (cc)
 
   -- the id that is drawn is a later one
   later_id : (id : ℕ) → stage_in w ≡ Beginning → answer s r ≡ Drawn id → z.content.next ≤ id
   later_id id e f =
-      let a : answer s (CreateUpload b w.key) ≡ Drawn n = ap (λ s. answer s (CreateUpload b w.key)) h.beside.scene ∙ ap (λ o. answer_at o n z.content.minimum (CreateUpload b w.key)) (get_put z.content.buckets b d) in
-      let g : Drawn n ≡ Drawn id = sym a ∙ ap (λ g. answer s (asks_at g b w)) (sym e) ∙ f in
-      subst (λ j. z.content.next ≤ j) (same g) h.beside.later.drawn
-    where
-      same : {i j : ℕ} → Drawn i ≡ Drawn j → i ≡ j
-      same {i} {j} g = cc
+      let a = answered_there z b d n s h.beside.scene (CreateUpload b w.key) refl in
+      subst (λ j. z.content.next ≤ j) (drawn_same n id (sym a ∙ ap (λ g. answer s (asks_at g b w)) (sym e) ∙ f)) h.beside.later.drawn
 
   pub no_missing : look_of (answer s r) ≡ NoBucket → ⊥
   no_missing e = not_gone (stage_in w) (answer s r) fits e
 
   pub goes_on : HeardSo z b w.key bytes c (heard w (answer s r) repeated) (apply s r)
-  goes_on = heard_so (stage_in w) (answer s r) refl fits took (λ id e f. later_id id e f)
+  goes_on = heard_so (stage_in w) (answer s r) fits took (λ id e f. later_id id e f)
 
 -- ---- where each sending was answered, its own upload alone is live
 
@@ -363,9 +336,6 @@ OwnHeard z b Refusing s = Unit {0}
 
 no_own : (u : Option ℕ) (id : ℕ) → u ≡ None → u ≡ Some id → ⊥
 no_own u id e f = cc
-
-drawn_same : (i j : ℕ) → Drawn i ≡ Drawn j → i ≡ j
-drawn_same i j e = cc
 
 module _ (z : Scene) (b bytes : List ℕ) (c : BucketContent) (w : Writing) (s : Scene) (h : Writes z b bytes c w s false) (own : NoneBut w.upload z b s) where
   abbrev dd : BucketContent
@@ -387,171 +357,64 @@ module _ (z : Scene) (b bytes : List ℕ) (c : BucketContent) (w : Writing) (s :
   other : (id : ℕ) → z.content.next ≤ id → upload_at z.content b id ≡ None → (w.upload ≡ Some id → ⊥) → fin.get dd.uploads id ≡ None
   other id l e ne = sym (there id) ∙ own id l e ne
 
-  put_own : (a : Reply) → w.upload ≡ None → OwnHeard z b (heard_at Putting w a false) (apply s (asks_at Putting b w))
-  put_own (Stored t) e = λ id l f. since Putting id ∙ other id l f (no_own w.upload id e)
-  put_own _ e = tt
-
-  begin_own : (a : Reply) → w.upload ≡ None → a ≡ Drawn nn → OwnHeard z b (heard_at Beginning w a false) (apply s (asks_at Beginning b w))
-  begin_own (Drawn i) e q = λ id l f ne.
-      since Beginning id
-      ∙ nat_other dd.uploads nn id (record { key = w.key; parts = fin.empty }) (λ g. ne (ap Some (drawn_same i nn q ∙ sym g)))
-      ∙ other id l f (no_own w.upload id e)
-  begin_own _ e q = tt
-
-  send_own : (a : Reply) → w.upload ≡ Some (id_in w) → OwnHeard z b (heard_at Sending w a false) (apply s (asks_at Sending b w))
-  send_own (Part t) e = λ id l f ne.
-      since Sending id
-      ∙ part_kept dd.uploads (id_in w) id (live dd.uploads w.key (id_in w)) (length w.tags + 1) (take w.block w.pending) (λ g. ne (e ∙ ap Some (sym g)))
-      ∙ other id l f ne
-  send_own _ e = tt
-
   ended_gone : (id : ℕ) (t : Spelled) (m : Result (List ℕ) Refusal) → id ≡ id_in w → complete_answer (named_from 1 w.tags) m ≡ Completed t → fin.get (completed dd w.key (id_in w) m).uploads id ≡ None
   ended_gone id t (Ok x) f e = nat_gone dd.uploads (id_in w) id f
   ended_gone id t (Err r) f e = absurd (cc)
 
-  refused_own : (r : Refusal) (v : Scene) → OwnHeard z b (refused false r) v
-  refused_own r v = tt
-
-  end_own : (a : Reply) → w.upload ≡ Some (id_in w) → a ≡ complete_answer (named_from 1 w.tags) (joined (live dd.uploads w.key (id_in w)) (named_from 1 w.tags) z.content.minimum)
-      → OwnHeard z b (heard_at Completing w a false) (apply s (asks_at Completing b w))
-  end_own (Completed t) e q = λ id l f. since Completing id ∙ by id l f (same_or_not id (id_in w))
+  own_at : (g : Stage) → Known w g → (a : Reply) → answer s (asks_at g b w) ≡ a → OwnHeard z b (heard_at g w a false) (apply s (asks_at g b w))
+  own_at Putting k (Stored t) e = λ id l f. since Putting id ∙ other id l f (no_own w.upload id k.0)
+  own_at Beginning k (Drawn i) e = λ id l f ne.
+      let q = drawn_same i nn (sym e ∙ answered_there z b dd nn s h.beside.scene (CreateUpload b w.key) refl) in
+      since Beginning id
+      ∙ nat_other dd.uploads nn id (record { key = w.key; parts = fin.empty }) (λ g. ne (ap Some (q ∙ sym g)))
+      ∙ other id l f (no_own w.upload id k)
+  own_at Sending k (Part t) e = λ id l f ne.
+      since Sending id
+      ∙ part_kept dd.uploads (id_in w) id (live dd.uploads w.key (id_in w)) (length w.tags + 1) (take w.block w.pending) (λ g. ne (k.0 ∙ ap Some (sym g)))
+      ∙ other id l f ne
+  own_at Completing k (Completed t) e = λ id l f. since Completing id ∙ by id l f (same_or_not id (id_in w))
     where
       by : (id : ℕ) → z.content.next ≤ id → upload_at z.content b id ≡ None → (id ≡ id_in w) ⊎ (id ≡ id_in w → ⊥) → fin.get (completed dd w.key (id_in w) (joined (live dd.uploads w.key (id_in w)) (named_from 1 w.tags) z.content.minimum)).uploads id ≡ None
-      by id l f (inl g) = ended_gone id t (joined (live dd.uploads w.key (id_in w)) (named_from 1 w.tags) z.content.minimum) g (sym q)
-      by id l f (inr g) = ended_kept dd w.key (id_in w) id (joined (live dd.uploads w.key (id_in w)) (named_from 1 w.tags) z.content.minimum) g ∙ other id l f (λ k. g (some_is (sym k ∙ e)))
-  end_own (Refused r) e q = refused_own r (apply s (asks_at Completing b w))
-  end_own _ e q = tt
+      by id l f (inl g) =
+          ended_gone id t (joined (live dd.uploads w.key (id_in w)) (named_from 1 w.tags) z.content.minimum) g
+          (sym (answered_there z b dd nn s h.beside.scene (CompleteUpload b w.key (id_in w) (named_from 1 w.tags)) refl) ∙ e)
+      by id l f (inr g) =
+          ended_kept dd w.key (id_in w) id (joined (live dd.uploads w.key (id_in w)) (named_from 1 w.tags) z.content.minimum) g ∙ other id l f (λ e. g (some_is (sym e ∙ k)))
+  own_at Waiting k a e = absurd k
+  own_at Over k a e = absurd k
+  own_at _ k _ e = tt
 
   pub own_goes : OwnHeard z b (heard w (answer s (asks b w)) false) (apply s (asks b w))
-  own_goes = by w.upload refl
-    where
-      first : (t : Bool) → w.upload ≡ None → OwnHeard z b (heard_at (first_stage t) w (answer s (asks_at (first_stage t) b w)) false) (apply s (asks_at (first_stage t) b w))
-      first true e = put_own (answer s (asks_at Putting b w)) e
-      first false e = begin_own (answer s (asks_at Beginning b w)) e
-          (ap (λ s. answer s (CreateUpload b w.key)) h.beside.scene ∙ ap (λ o. answer_at o nn z.content.minimum (CreateUpload b w.key)) (get_put z.content.buckets b dd))
-
-      later : (t : Bool) → w.upload ≡ Some (id_in w) → OwnHeard z b (heard_at (later_stage t) w (answer s (asks_at (later_stage t) b w)) false) (apply s (asks_at (later_stage t) b w))
-      later true e = send_own (answer s (asks_at Sending b w)) e
-      later false e = end_own (answer s (asks_at Completing b w)) e
-          (ap (λ s. answer s (CompleteUpload b w.key (id_in w) (named_from 1 w.tags))) h.beside.scene
-          ∙ ap (λ o. answer_at o nn z.content.minimum (CompleteUpload b w.key (id_in w) (named_from 1 w.tags))) (get_put z.content.buckets b dd))
-
-      by : (u : Option ℕ) → w.upload ≡ u → OwnHeard z b (heard_at (stage_by u w) w (answer s (asks_at (stage_by u w) b w)) false) (apply s (asks_at (stage_by u w) b w))
-      by None e = first (is_short w) e
-      by (Some id) e = later (is_due w) (e ∙ ap Some (sym (ap (λ u. unwrap_or u 0) e)))
+  own_goes = own_at (stage_in w) (known w) (answer s (asks b w)) refl
 
 -- ---- what is left falls, whatever is answered
 
-abbrev pub LessLeft : Heard → ℕ → Type 0
-LessLeft (On w) n = left w < n
-LessLeft _ n = Unit {0}
-
--- and it still has room, and is the same output
-abbrev pub RoomLeft : List ℕ → Writing → Heard → Type 0
-RoomLeft b w (On v) = HasRoom (stream_of b v) × (v.key ≡ w.key) × (v.block ≡ w.block)
-RoomLeft b w _ = Unit {0}
+-- what goes on has less left and still room, and is the same output
+abbrev pub GoesOn : List ℕ → Writing → Heard → Type 0
+GoesOn b w (On v) = (left v < left w) × HasRoom (stream_of b v) × (v.key ≡ w.key) × (v.block ≡ w.block)
+GoesOn b w _ = Unit {0}
 
 begun_left : (w : Writing) (id : ℕ) → w.upload ≡ None → left (begun w id) < left w
-begun_left w id e = by w.upload e
-  where
-    by : (u : Option ℕ) → u ≡ None → length w.pending + (0 + one_if (not (has_some w.tags))) < length w.pending + (one_if (not (is_begun u)) + one_if (not (has_some w.tags)))
-    by None e = omega arith
-    by (Some id) e = absurd (cc)
-
-snoc_has : {X : Type 0} (xs : List X) (x : X) → has_some (xs ++ x ∷ []) ≡ true
-snoc_has [] x = refl
-snoc_has (y ∷ xs) x = refl
+begun_left w id e = let h : 1 + left (begun w id) < 1 + left w = keeping.left_begun (stream_of [] w) id refl e in omega (arith, h)
 
 parted_left : (w : Writing) (t : Spelled) → 1 ≤ w.block → is_due w ≡ true → left (parted w t) < left w
-parted_left w t some due =
-    subst (λ c. length (drop w.block w.pending) + (one_if (not (is_begun w.upload)) + one_if (not c)) < left w) (sym (snoc_has w.tags t)) (by w.pending refl (has_some w.tags) refl due)
-  where
-    by : (p : List ℕ) → w.pending ≡ p → (c : Bool) → has_some w.tags ≡ c → (has_some p || not c) ≡ true → length (drop w.block w.pending) + (one_if (not (is_begun w.upload)) + 0) < left w
-    by (x ∷ p) e c f g =
-        let k : length (drop w.block w.pending) ≡ length w.pending - w.block = length-drop w.block w.pending in
-        let l : 0 < length w.pending = subst (λ (p : List ℕ). 0 < length p) (sym e) (omega arith) in
-        omega (arith, k, l, some)
-    by [] e true f g = absurd (cc)
-    by [] e false f g =
-        let k : length (drop w.block w.pending) ≡ length w.pending - w.block = length-drop w.block w.pending in
-        let l : one_if (not (has_some w.tags)) ≡ 1 = ap (λ c. one_if (not c)) f in
-        omega (arith, k, l)
+parted_left w t some d =
+    let h : 1 + left (parted w t) < 1 + left w = keeping.left_parted (stream_of [] w) t some (due (stream_of [] w) (part_due [] w some ∙ d)) in
+    omega (arith, h)
 
 -- a part that is due leaves room
 pub parted_room : (b : List ℕ) (w : Writing) (t : Spelled) → HasRoom (stream_of b w) → is_due w ≡ true → HasRoom (stream_of b (parted w t))
 parted_room b w t room d = room_after (stream_of b w) t room (due (stream_of b w) (part_due b w room.some ∙ d))
 
-pub begun_room : (b : List ℕ) (w : Writing) (id : ℕ) → HasRoom (stream_of b w) → HasRoom (stream_of b (begun w id))
-begun_room b w id room = room_begun (stream_of b w) id room
-
-no_more : (c : Bool) (r : Refusal) (n : ℕ) → LessLeft (refused c r) n
-no_more true NoSuchUpload n = tt
-no_more _ _ n = tt
-
-no_room : (b : List ℕ) (w : Writing) (c : Bool) (r : Refusal) → RoomLeft b w (refused c r)
-no_room b w true NoSuchUpload = tt
-no_room b w _ _ = tt
-
-put_falls : (w : Writing) (r : Reply) (repeated : Bool) → LessLeft (heard_at Putting w r repeated) (left w)
-put_falls w (Stored t) repeated = tt
-put_falls w _ repeated = tt
-
-begin_falls : (w : Writing) (r : Reply) (repeated : Bool) → w.upload ≡ None → LessLeft (heard_at Beginning w r repeated) (left w)
-begin_falls w (Drawn id) repeated e = begun_left w id e
-begin_falls w _ repeated e = tt
-
-send_falls : (w : Writing) (r : Reply) (repeated : Bool) → 1 ≤ w.block → is_due w ≡ true → LessLeft (heard_at Sending w r repeated) (left w)
-send_falls w (Part t) repeated some d = parted_left w t some d
-send_falls w _ repeated some d = tt
-
-end_falls : (w : Writing) (r : Reply) (repeated : Bool) → LessLeft (heard_at Completing w r repeated) (left w)
-end_falls w (Completed t) repeated = tt
-end_falls w (Refused r) repeated = no_more repeated r (left w)
-end_falls w _ repeated = tt
-
-pub falls : (w : Writing) (r : Reply) (repeated : Bool) → 1 ≤ w.block → LessLeft (heard w r repeated) (left w)
-falls w r repeated some = by w.upload refl
+pub goes_further : (b : List ℕ) (w : Writing) → HasRoom (stream_of b w) → (r : Reply) (repeated : Bool) → GoesOn b w (heard w r repeated)
+goes_further b w room r repeated = by (stage_in w) (known w) repeated r
   where
-    first : (c : Bool) → w.upload ≡ None → LessLeft (heard_at (first_stage c) w r repeated) (left w)
-    first true e = put_falls w r repeated
-    first false e = begin_falls w r repeated e
-
-    later : (c : Bool) → is_due w ≡ c → LessLeft (heard_at (later_stage c) w r repeated) (left w)
-    later true e = send_falls w r repeated some e
-    later false e = end_falls w r repeated
-
-    by : (u : Option ℕ) → w.upload ≡ u → LessLeft (heard_at (stage_by u w) w r repeated) (left w)
-    by None e = first (is_short w) e
-    by (Some id) e = later (is_due w) refl
-
-begin_room : (b : List ℕ) (w : Writing) (r : Reply) (repeated : Bool) → HasRoom (stream_of b w) → RoomLeft b w (heard_at Beginning w r repeated)
-begin_room b w (Drawn id) repeated room = (begun_room b w id room, refl, refl)
-begin_room b w _ repeated room = tt
-
-put_room : (b : List ℕ) (w : Writing) (r : Reply) (repeated : Bool) → RoomLeft b w (heard_at Putting w r repeated)
-put_room b w (Stored t) repeated = tt
-put_room b w _ repeated = tt
-
-send_room : (b : List ℕ) (w : Writing) (r : Reply) (repeated : Bool) → HasRoom (stream_of b w) → is_due w ≡ true → RoomLeft b w (heard_at Sending w r repeated)
-send_room b w (Part t) repeated room d = (parted_room b w t room d, refl, refl)
-send_room b w _ repeated room d = tt
-
-end_room : (b : List ℕ) (w : Writing) (r : Reply) (repeated : Bool) → RoomLeft b w (heard_at Completing w r repeated)
-end_room b w (Completed t) repeated = tt
-end_room b w (Refused r) repeated = no_room b w repeated r
-end_room b w _ repeated = tt
-
-pub room_stays : (b : List ℕ) (w : Writing) (r : Reply) (repeated : Bool) → HasRoom (stream_of b w) → RoomLeft b w (heard w r repeated)
-room_stays b w r repeated room = by w.upload
-  where
-    first : (c : Bool) → RoomLeft b w (heard_at (first_stage c) w r repeated)
-    first true = put_room b w r repeated
-    first false = begin_room b w r repeated room
-
-    later : (c : Bool) → is_due w ≡ c → RoomLeft b w (heard_at (later_stage c) w r repeated)
-    later true e = send_room b w r repeated room e
-    later false e = end_room b w r repeated
-
-    by : (u : Option ℕ) → RoomLeft b w (heard_at (stage_by u w) w r repeated)
-    by None = first (is_short w)
-    by (Some id) = later (is_due w) refl
+    by : (g : Stage) → Known w g → (repeated : Bool) (r : Reply) → GoesOn b w (heard_at g w r repeated)
+    by Putting k repeated (Stored t) = tt
+    by Beginning k repeated (Drawn id) = (begun_left w id k, room_begun (stream_of b w) id room, refl, refl)
+    by Sending k repeated (Part t) = (parted_left w t room.some k.1, parted_room b w t room k.1, refl, refl)
+    by Completing k true (Refused NoSuchUpload) = tt
+    by Completing k false (Refused r) = tt
+    by Waiting k repeated r = absurd k
+    by Over k repeated r = absurd k
+    by _ k _ _ = tt

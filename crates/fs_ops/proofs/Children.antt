@@ -1,7 +1,7 @@
 -- What a delimited listing has of a directory's children. Contracts cite none of these laws.
-use Rattle.std.specs.Prelude.{◌≡◌, ◌⊎◌, ℕ, ◌==◌, ◌&&◌, not, nat_eq, Bool, true, false, cond, List, [], ◌∷◌, ◌++◌, map, length, Option, Some, None}
+use Rattle.std.specs.Prelude.{◌≡◌, ◌⊎◌, ℕ, ◌==◌, ◌&&◌, not, Bool, true, false, cond, List, [], ◌∷◌, ◌++◌, map, length, Option, Some, None}
 use Rattle.std.proofs.Common.{refl, sym, ap, subst, ◌∙◌, inl, inr, append_assoc}
-use Rattle.path_keys.proofs.Common.{false≢true, eqb-true, append_cancel_left, append_cancel_right, not_so, lt, tied, map_sorted, some_is, none_some, nat_true, eq_nat, text_exact, in_map, map_in, in_filter, filter_in}
+use Rattle.path_keys.proofs.Common.{false≢true, eqb-true, append_cancel_left, append_cancel_right, not_so, lt, tied, map_sorted, some_is, none_some, nat_true, text_exact, in_map, map_in, in_filter, filter_in}
 use Rattle.store_frame.specs.Prelude.{option_map, before_slash, stem, entry_by}
 use Rattle.fs_ops.specs.Prelude.{filter, list_all, is_lt, text_cmp, is_other, Objects, begins, entry_of, listed, text_in, folded_from, is_again, Object, PageEntry, Prefix, IsIn, RisesFrom, Status, Directory, File, DirEntry, SomeBelow, NoneBelow}
 use Rattle.std.specs.FinMap as fin
@@ -10,6 +10,7 @@ use Rattle.store_frame.proofs.Flat.{found_in, found_at}
 use Rattle.store_frame.specs.Walk.{walked, text_of as walked_text}
 use Rattle.store_frame.proofs.Listed.{walked_listed}
 use Rattle.fs_tree.proofs.Begins.{both, begins_more}
+use Rattle.fs_tree.proofs.Moving.{rest_after}
 use Rattle.fs_tree.specs.Changes.{text_by}
 
 abbrev pub NoSlash : List ℕ → Type 0
@@ -57,25 +58,13 @@ cut (x ∷ r) = by (x == 47) refl (cut r)
     by false e (inl n) = inl (ap (λ b. not b && list_all (is_other 47) r) e ∙ n)
     by false e (inr c) = inr (x ∷ c.0, c.1, ap (λ l. x ∷ l) c.2, ap (λ b. not b && list_all (is_other 47) c.0) e ∙ c.3)
 
-pub behind : (q k : List ℕ) → begins q k ≡ true → (r : List ℕ) × (k ≡ q ++ r)
-behind [] k h = (k, refl)
-behind (x ∷ q) [] h = absurd (false≢true h)
-behind (x ∷ q) (y ∷ k) h =
-    let w = both (nat_eq x y) (begins q k) h in
-    let i = behind q k w.1 in
-    (i.0, (λ j. sym (eq_nat x y w.0) j ∷ i.1 j))
-
 -- a name with a `/` behind it has one
 slashed : (n m : List ℕ) → NoSlash m → m ≡ n ++ 47 ∷ [] → ⊥
 slashed n m h e = false≢true (sym (all n) ∙ ap (list_all (is_other 47)) (sym e) ∙ h)
   where
     all : (n : List ℕ) → list_all (is_other 47) (n ++ 47 ∷ []) ≡ false
     all [] = refl
-    all (x ∷ n) = ap (λ b. is_other 47 x && b) (all n) ∙ and_false (is_other 47 x)
-      where
-        and_false : (b : Bool) → (b && false) ≡ false
-        and_false true = refl
-        and_false false = refl
+    all (x ∷ n) = ap (λ b. is_other 47 x && b) (all n) ∙ (elim (is_other 47 x) as (λ b. (b && false) ≡ false) [ true ↦ refl | false ↦ refl ])
 
 -- ---- children as entries
 
@@ -110,17 +99,13 @@ some_behind (x ∷ n) w = refl
 abbrev Entry : Type 0
 Entry = List ℕ × Object
 
-folded_sub : (last : Option (List ℕ)) (xs : List PageEntry) (x : PageEntry) → IsIn x (folded_from last xs) → IsIn x xs
+pub folded_sub : (last : Option (List ℕ)) (xs : List PageEntry) (x : PageEntry) → IsIn x (folded_from last xs) → IsIn x xs
 folded_sub last [] x i = absurd i
 folded_sub last (y ∷ ys) x i = by (is_again last y) refl (folded_sub last ys x) (folded_sub (Some (text_in y)) ys x)
   where
     by : (b : Bool) → is_again last y ≡ b → (IsIn x (folded_from last ys) → IsIn x ys) → (IsIn x (folded_from (Some (text_in y)) ys) → IsIn x ys) → IsIn x (y ∷ ys)
     by true e old new = inr (old (subst (λ b. IsIn x (cond b (folded_from last ys) (y ∷ folded_from (Some (text_in y)) ys))) e i))
-    by false e old new = first (subst (λ b. IsIn x (cond b (folded_from last ys) (y ∷ folded_from (Some (text_in y)) ys))) e i)
-      where
-        first : (x ≡ y) ⊎ IsIn x (folded_from (Some (text_in y)) ys) → IsIn x (y ∷ ys)
-        first (inl e) = inl e
-        first (inr j) = inr (new j)
+    by false e old new = elim (subst (λ b. IsIn x (cond b (folded_from last ys) (y ∷ folded_from (Some (text_in y)) ys))) e i) [ inl e ↦ inl e | inr j ↦ inr (new j) ]
 
 -- an entry is listed, or another of its text is
 abbrev HasText : List ℕ → List PageEntry → Type 0
@@ -134,9 +119,6 @@ folded_all : (last : Option (List ℕ)) (xs : List PageEntry) (x : PageEntry) �
 folded_all last [] x i = absurd i
 folded_all last (y ∷ ys) x i = by (is_again last y) refl i (folded_all last ys x) (folded_all (Some (text_in y)) ys x)
   where
-    G : Bool → Type 0
-    G b = HasText (text_in x) (cond b (folded_from last ys) (y ∷ folded_from (Some (text_in y)) ys)) ⊎ (last ≡ Some (text_in x))
-
     later : HasText (text_in x) (folded_from (Some (text_in y)) ys) ⊎ (Some (text_in y) ≡ Some (text_in x)) → HasText (text_in x) (y ∷ folded_from (Some (text_in y)) ys) ⊎ (last ≡ Some (text_in x))
     later (inl h) = inl (h.0, inr h.1, h.2)
     later (inr e) = inl (y, inl refl, some_is e)
@@ -166,7 +148,7 @@ module _ (q : List ℕ) (z : Objects) where
     pub is_child : IsChild q z child
 
   shown_key : (k : List ℕ) (o : Object) → begins q k ≡ true → fin.get z k ≡ Some o → Shown (entry_of q true (k, o))
-  shown_key k o b g = by (behind q k b).0 (behind q k b).1 (cut (behind q k b).0)
+  shown_key k o b g = by (rest_after q k b).0 (rest_after q k b).1 (cut (rest_after q k b).0)
     where
       by : (r : List ℕ) → k ≡ q ++ r → Cut r → Shown (entry_of q true (k, o))
       by r e (inl n) = record {
@@ -182,8 +164,7 @@ module _ (q : List ℕ) (z : Objects) where
 
   pub shown_in : (mark : List ℕ) (x : PageEntry) → IsIn x (listed q true mark z) → Shown x
   shown_in mark x i =
-      let a = folded_sub None (filter (after mark) flat) x i in
-      let b = (in_filter (after mark) x flat a).0 in
+      let b = (in_filter (after mark) x flat (folded_sub None (filter (after mark) flat) x i)).0 in
       let c = in_map (entry_of q true) x (filter (λ (e : Entry). begins q e.0) (fin.entries z)) b in
       let d = in_filter (λ (e : Entry). begins q e.0) c.0 (fin.entries z) c.1 in
       let g : fin.get z c.0.0 ≡ Some c.0.1 = fin.get-entries z c.0.0 ∙ found_at (fin.entries z) c.0 (map_sorted text_cmp z) d.0 in
@@ -202,12 +183,10 @@ module _ (q : List ℕ) (z : Objects) where
   has_text k o g b l =
       let a = filter_in (λ (e : Entry). begins q e.0) (k, o) (fin.entries z) (found_in (fin.entries z) k o (sym (fin.get-entries z k) ∙ g)) b in
       let c = map_in (entry_of q true) (k, o) (filter (λ (e : Entry). begins q e.0) (fin.entries z)) a in
-      let d = filter_in (after []) (entry_of q true (k, o)) flat c l in
-      by (folded_all None (filter (after []) flat) (entry_of q true (k, o)) d)
-    where
-      by : HasText (text_in (entry_of q true (k, o))) all ⊎ (None ≡ Some (text_in (entry_of q true (k, o)))) → HasText (text_in (entry_of q true (k, o))) all
-      by (inl h) = h
-      by (inr e) = absurd (none_some refl e)
+      elim (folded_all None (filter (after []) flat) (entry_of q true (k, o)) (filter_in (after []) (entry_of q true (k, o)) flat c l)) [
+        | inl h ↦ h
+        | inr e ↦ absurd (none_some refl e)
+      ]
 
   -- ---- the children in order
 
@@ -215,14 +194,10 @@ module _ (q : List ℕ) (z : Objects) where
   rises_walked last [] = tt
   rises_walked last (e ∷ es) = by (begins q e.0) (lt text_cmp last (walked_text q true e.0)) refl (rises_walked last es) (rises_walked (walked_text q true e.0) es)
     where
-      same : (s : Option (List ℕ)) (k : List ℕ) (n : ℕ) → Rattle.store_frame.specs.Walk.text_by s k ≡ text_in (entry_by s k n)
-      same None k n = refl
-      same (Some s) k n = refl
-
       by : (b c : Bool) → lt text_cmp last (walked_text q true e.0) ≡ c → RisesFrom last (map text_in (walked q true last es)) → RisesFrom (walked_text q true e.0) (map text_in (walked q true (walked_text q true e.0) es))
           → RisesFrom last (map text_in (cond (b && c) (entry_of q true e ∷ walked q true (walked_text q true e.0) es) (walked q true last es)))
       by true true l old new =
-          let s = same (stem q e.0) e.0 (length e.1.bytes) in
+          let s = (elim (stem q e.0) as (λ s. Rattle.store_frame.specs.Walk.text_by s e.0 ≡ text_in (entry_by s e.0 (length e.1.bytes))) [ None ↦ refl | Some s ↦ refl ]) in
           (ap (lt text_cmp last) (sym s) ∙ l, subst (λ t. RisesFrom t (map text_in (walked q true (walked_text q true e.0) es))) s new)
       by true false l old new = old
       by false c l old new = old
@@ -268,8 +243,7 @@ module _ (q : List ℕ) (z : Objects) where
     pub file_listed : (n : List ℕ) (o : Object) → fin.get z (q ++ n) ≡ Some o → NoSlash n → lt text_cmp [] (q ++ n) ≡ true → IsIn (child_at n (File (length o.bytes))) ds
     file_listed n o g s l =
         let t : text_in (entry_of q true (q ++ n, o)) ≡ q ++ n = ap (λ s. text_in (entry_by s (q ++ n) (length o.bytes))) (stem_at q n s) in
-        let h = has_text (q ++ n) o g (begins_more q n) (ap (lt text_cmp []) t ∙ l) in
-        let w = entry_in (text_in (entry_of q true (q ++ n, o))) h in
+        let w = entry_in (text_in (entry_of q true (q ++ n, o))) (has_text (q ++ n) o g (begins_more q n) (ap (lt text_cmp []) t ∙ l)) in
         file_is n o w.0 g s w.1 (w.2 ∙ t)
 
     dir_is : (n : List ℕ) (d : DirEntry) → NoSlash n → IsIn d ds → q ++ text_by d.name d.status ≡ (q ++ n) ++ 47 ∷ [] → IsIn (child_at n Directory) ds

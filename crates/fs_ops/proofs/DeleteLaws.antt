@@ -2,7 +2,7 @@
 use Rattle.std.specs.Prelude.{◌≡◌, ◌⊎◌, ℕ, ◌+◌, ◌<◌, Bool, true, false, List, [], ◌∷◌, Option, Some, None, Ok, Err, take, if◌then◌else◌, map}
 use Rattle.std.proofs.Common.{refl, sym, ap, subst, ◌∙◌, arith, inl, inr}
 use Rattle.path_keys.proofs.Common.{false≢true, irrefl, same_or_other, text_is, text_true, text_here, text_other, text_gone, text_left, in_front, true_or_false}
-use Rattle.fs_ops.specs.Prelude.{is_lt, text_cmp, text_eq, text_total, Objects, head, without, page, listed, begins, text_in, Object, PageEntry, IsIn, RisesFrom, Step, Next, End, Goes, Falls, Look, There, Nothing, NoBucket, Other, look_of, reply_in, edited, IsPhases, MayAsk, marker_of, sweep_start, sweep_hears, all_go, Listing, Deleting, NotFound, NotEmpty, IsRoot, NoSuchBucket, Stands, SomeBelow, NoneBelow, marker, parent, marker_if, IsMarked, look_asks, prefix_of, NoFileAt, goes_by, IsStages, sweep_asks, sweep_left, LessLeft, fits, keys_below, Deletion, Answer, entries_in, Removed, ends, gives}
+use Rattle.fs_ops.specs.Prelude.{is_lt, text_cmp, text_eq, text_total, Objects, head, without, page, listed, begins, text_in, Object, PageEntry, IsIn, RisesFrom, Step, Next, End, Goes, Falls, Look, There, Nothing, look_of, reply_in, edited, IsPhases, MayAsk, marker_of, sweep_start, sweep_hears, all_go, Listing, Deleting, NotFound, NotEmpty, IsRoot, NoSuchBucket, SomeBelow, NoneBelow, marker, parent, marker_if, IsMarked, prefix_of, NoFileAt, goes_by, IsStages, sweep_asks, sweep_left, LessLeft, fits, keys_below, Deletion, Answer, entries_in, Removed, ends, gives}
 use Rattle.fs_tree.specs.Prelude.{IsEmpty, HasChildren, IsWithoutBelow}
 use Rattle.bucket_ops.specs.Prelude.{IsSweeping, IsSwept}
 use Rattle.std.specs.FinMap as fin
@@ -10,13 +10,14 @@ use Rattle.store_frame.proofs.Flat.{listed_rises}
 use Rattle.bucket_ops.proofs.AskLaws.{gone_still}
 use Rattle.list_walk.specs.Walks as walks
 use Rattle.fs_tree.proofs.Begins.{begins_all}
+use Rattle.fs_tree.proofs.Dropping.{if_marker}
 use Rattle.fs_ops.specs.declared.delete.Inside.{Inside}
 use Rattle.fs_ops.specs.declared.delete.Inside.TheVariants.{Empty, MarkerAlone, Children}
 use Rattle.fs_ops.specs.declared.delete.DeleteStage.{DeleteStage}
 use Rattle.fs_ops.specs.declared.delete.DeleteStage.TheVariants.{Here, DropFile, Below, DropMarker, Sweep, Parent, PutMarker}
 use Rattle.fs_ops.proofs.StepLaws.{phases_of}
-use Rattle.fs_ops.proofs.AtPathLaws.{looks_there}
-use Rattle.fs_ops.proofs.Looks.{IsSeen, head_tells, page_tells, none_listed}
+use Rattle.fs_ops.proofs.AtPathLaws.{looks_there, still_look}
+use Rattle.fs_ops.proofs.Looks.{at_key, below_key, none_listed}
 use Rattle.bucket_ops.proofs.Sweeps.{sweep_begins, sweep_goes, sweep_fits, sweep_falls, sweep_stays}
 use Rattle.bucket_ops.proofs.Below.{is_in, below_stands, stands_below, gone_in, kept_out}
 use Rattle.fs_ops.proofs.Deleting.{deletes}
@@ -46,8 +47,7 @@ module _ (z : Objects) (x : ℕ) (p : List ℕ) where
 
   alone : (e : PageEntry) → listed Q false [] z ≡ e ∷ [] → text_in e ≡ Q → IsEmpty z (x ∷ p)
   alone e h f =
-      let w = below_stands Q z Q (subst (λ l. IsIn Q (map text_in l)) (sym h) (inl (sym f))) in
-      (w.1, λ k b n. by k b n (fin.get z k) refl)
+      ((below_stands Q z Q (subst (λ l. IsIn Q (map text_in l)) (sym h) (inl (sym f)))).1, λ k b n. by k b n (fin.get z k) refl)
     where
       other : (k : List ℕ) → (k ≡ Q → ⊥) → IsIn k (map text_in (e ∷ [])) → ⊥
       other k n (inl g) = n (g ∙ f)
@@ -65,17 +65,16 @@ module _ (z : Objects) (x : ℕ) (p : List ℕ) where
   one e h false f = child (text_in e) (subst (λ l. IsIn (text_in e) (map text_in l)) (sym h) (inl refl)) (λ g. false≢true (sym f ∙ text_true (text_in e) Q g))
 
   two : (e f : PageEntry) (es : List PageEntry) → listed Q false [] z ≡ e ∷ f ∷ es → HasChildren z (x ∷ p)
-  two e f es h = by (same_or_other (text_in e) Q)
+  two e f es h = elim (same_or_other (text_in e) Q) [
+    | inr n ↦ child (text_in e) (subst (λ l. IsIn (text_in e) (map text_in l)) (sym h) (inl refl)) n
+    | inl g ↦ child (text_in f) (subst (λ l. IsIn (text_in f) (map text_in l)) (sym h) (inr (inl refl))) (later g)
+  ]
     where
       rises : is_lt (text_cmp (text_in e) (text_in f)) ≡ true
       rises = (subst (λ l. RisesFrom [] (map text_in l)) h (listed_rises Q [] z)).1.0
 
       later : text_in e ≡ Q → text_in f ≡ Q → ⊥
       later g i = false≢true (sym (irrefl text_total Q) ∙ ap (λ v. is_lt (text_cmp v Q)) (sym g) ∙ ap (λ v. is_lt (text_cmp (text_in e) v)) (sym i) ∙ rises)
-
-      by : (text_in e ≡ Q) ⊎ (text_in e ≡ Q → ⊥) → HasChildren z (x ∷ p)
-      by (inr n) = child (text_in e) (subst (λ l. IsIn (text_in e) (map text_in l)) (sym h) (inl refl)) n
-      by (inl g) = child (text_in f) (subst (λ l. IsIn (text_in f) (map text_in l)) (sym h) (inr (inl refl))) (later g)
 
   inside_tells : Tells z (x ∷ p) (inside Q (take 2 (listed Q false [] z)))
   inside_tells = by (listed Q false [] z) refl
@@ -87,13 +86,11 @@ module _ (z : Objects) (x : ℕ) (p : List ℕ) where
 
 -- ---- stages
 
-some_marker : (u k : List ℕ) → marker_if u ≡ Some k → marker_of u ≡ k
-some_marker [] k h = absurd (cc)
-some_marker (x ∷ u) k h = cc
-
-pub parent_page : (u k : List ℕ) (m : Objects) → marker_if u ≡ Some k → IsSeen (look_of (page 1 (listed k false [] m))) (SomeBelow m k) (NoneBelow m k)
-parent_page [] k m h = absurd (cc)
-parent_page (x ∷ u) k m h = subst (λ k. IsSeen (look_of (page 1 (listed k false [] m))) (SomeBelow m k) (NoneBelow m k)) (some_marker (x ∷ u) k h) (page_tells x (marker_of u) m)
+pub parent_key : (P : Look → Type 0) (u k : List ℕ) (m : Objects) → marker_if u ≡ Some k → (SomeBelow m k → P There) → (NoneBelow m k → P Nothing)
+    → P (look_of (page 1 (listed k false [] m)))
+parent_key P [] k m h f g = absurd (cc)
+parent_key P (x ∷ u) k m h f g =
+    subst (λ k. (SomeBelow m k → P There) → (NoneBelow m k → P Nothing) → P (look_of (page 1 (listed k false [] m)))) (if_marker (x ∷ u) k h) (below_key P x (marker_of u) m) f g
 
 module _ (recursive : Bool) (z : Objects) where
   abbrev D : List ℕ → Deletion
@@ -109,16 +106,8 @@ module _ (recursive : Bool) (z : Objects) where
       by None e = (m, h, subst (λ u. IsMarked u m m) (sym e) refl)
       by (Some k) e = (e, h)
 
-  here : (x : ℕ) (p : List ℕ) (l : Look) → IsSeen l (Stands z (x ∷ p)) (fin.get z (x ∷ p) ≡ None) → On (x ∷ p) (here_at l) z
-  here x p NoBucket h = absurd h
-  here x p Other h = absurd h
-  here x p _ h = (h, refl)
-
-  some_inside : (p : List ℕ) → HasChildren z p → SomeBelow z (marker_of p)
-  some_inside p h = (h.0, h.1, h.3, h.4)
-
   below_children : (b : Bool) → recursive ≡ b → (x : ℕ) (p : List ℕ) → fin.get z (x ∷ p) ≡ None → HasChildren z (x ∷ p) → On (x ∷ p) (children b) z
-  below_children true e x p f h = (f, some_inside (x ∷ p) h, e, sweep_begins (marker_of (x ∷ p)) z)
+  below_children true e x p f h = (f, (h.0, h.1, h.3, h.4), e, sweep_begins (marker_of (x ∷ p)) z)
   below_children false e x p f h = (e, f, h, refl)
 
   below : (x : ℕ) (p : List ℕ) (i : Inside) → fin.get z (x ∷ p) ≡ None → Tells z (x ∷ p) i → On (x ∷ p) (on_inside recursive i) z
@@ -131,11 +120,7 @@ module _ (recursive : Bool) (z : Objects) where
       inr (f, (marker_of (x ∷ p), begins_all (marker_of (x ∷ p)), h.0.0, h.0.1), λ _. h, record { gone = gone; others = others })
     where
       gone : (k : List ℕ) → begins (marker_of (x ∷ p)) k ≡ true → fin.get (fin.remove z (marker_of (x ∷ p))) k ≡ None
-      gone k b = by (same_or_other k (marker_of (x ∷ p)))
-        where
-          by : (k ≡ marker_of (x ∷ p)) ⊎ (k ≡ marker_of (x ∷ p) → ⊥) → fin.get (fin.remove z (marker_of (x ∷ p))) k ≡ None
-          by (inl e) = text_gone z (marker_of (x ∷ p)) k e
-          by (inr n) = text_left z (marker_of (x ∷ p)) k n ∙ h.1 k b n
+      gone k b = elim (same_or_other k (marker_of (x ∷ p))) [ inl e ↦ text_gone z (marker_of (x ∷ p)) k e | inr n ↦ text_left z (marker_of (x ∷ p)) k n ∙ h.1 k b n ]
 
       others : (k : List ℕ) → begins (marker_of (x ∷ p)) k ≡ false → fin.get (fin.remove z (marker_of (x ∷ p))) k ≡ fin.get z k
       others k b = text_left z (marker_of (x ∷ p)) k (λ e. false≢true (sym b ∙ ap (begins (marker_of (x ∷ p))) e ∙ begins_all (marker_of (x ∷ p))))
@@ -154,29 +139,23 @@ module _ (recursive : Bool) (z : Objects) where
       subst (λ b. On (x ∷ p) (on_sweep (D (x ∷ p)) w (reply_in m (sweep_asks (marker_of (x ∷ p)) w)) b) (edited (sweep_asks (marker_of (x ∷ p)) w) m)) (sym (sweep_fits (marker_of (x ∷ p)) w m))
       (after_sweep x p (edited (sweep_asks (marker_of (x ∷ p)) w) m) (sweep_hears all_go w (reply_in m (sweep_asks (marker_of (x ∷ p)) w))) f s e (sweep_goes (marker_of (x ∷ p)) z w m h))
 
-  parent_seen : (p k : List ℕ) (m : Objects) (l : Look) → marker_if (parent p) ≡ Some k → Removed (D p) z m → IsSeen l (SomeBelow m k) (NoneBelow m k) → On p (on_parent k l) m
-  parent_seen p k m There e h s = (m, h, subst (λ u. IsMarked u m m) (sym e) (inl (s, refl)))
-  parent_seen p k m Nothing e h s = (e, h, s)
-  parent_seen p k m _ e h s = absurd s
-
   -- the reply that is due leads on
   step : (p : List ℕ) (x : DeleteStage) (m : Objects) → holds (D p) z x m → On p (on (D p) x (reply_in m (asks (D p) x))) (edited (asks (D p) x) m)
+  step p (Parent k) m h = parent_key (λ l. On p (on_parent k l) m) (parent p) k m h.0 (λ s. (m, h.1, subst (λ u. IsMarked u m m) (sym h.0) (inl (s, refl)))) (λ n. (h.0, h.1, n))
+  step p (PutMarker k) m h = (m, h.1, subst (λ u. IsMarked u m (fin.insert m k marker)) (sym h.0) (inr (h.2, refl)))
   step [] Here m h = (refl, h)
-  step (x ∷ p) Here m h = subst (λ m. On (x ∷ p) (here_at (look_of (head (fin.get m (x ∷ p))))) m) (sym h) (here x p (look_of (head (fin.get z (x ∷ p)))) (head_tells z (x ∷ p)))
+  step (x ∷ p) Here m h =
+      subst (λ m. On (x ∷ p) (here_at (look_of (head (fin.get m (x ∷ p))))) m) (sym h) (at_key (λ l. On (x ∷ p) (here_at l) z) z (x ∷ p) (λ s. (s, refl)) (λ n. (n, refl)))
   step [] DropFile m h = absurd h.0.1
   step (x ∷ p) DropFile m h = upward (x ∷ p) (fin.remove m (x ∷ p)) (inl (h.0, ap (λ m. fin.remove m (x ∷ p)) h.1))
-  step [] Below m h = absurd h.0
   step (x ∷ p) Below m h =
       subst (λ m. On (x ∷ p) (on_inside recursive (inside (marker_of (x ∷ p)) (take 2 (listed (marker_of (x ∷ p)) false [] m)))) m) (sym h.1)
       (below x p (inside (marker_of (x ∷ p)) (take 2 (listed (marker_of (x ∷ p)) false [] z))) h.0 (inside_tells z x p))
-  step [] DropMarker m h = absurd h.0
   step (x ∷ p) DropMarker m h =
       subst (λ m. On (x ∷ p) (up (D (x ∷ p))) (fin.remove m (marker_of (x ∷ p)))) (sym h.2)
       (upward (x ∷ p) (fin.remove z (marker_of (x ∷ p))) (drop_marker x p h.0 h.1))
-  step [] (Sweep w) m h = absurd h.0
+  step [] _ m h = absurd h.0
   step (x ∷ p) (Sweep w) m h = sweeping x p w m h.0 h.1 h.2 h.3
-  step p (Parent k) m h = parent_seen p k m (look_of (page 1 (listed k false [] m))) h.0 h.1 (parent_page (parent p) k m h.0)
-  step p (PutMarker k) m h = (m, h.1, subst (λ u. IsMarked u m (fin.insert m k marker)) (sym h.0) (inr (h.2, refl)))
 
 -- ---- there is something to delete
 
@@ -199,11 +178,7 @@ module _ (o : Deletion) (z : Objects) where
   as_kept m k (inr h) = inr (inl h)
 
   gone_below : (ks : List (List ℕ)) → NoFileAt z o.path → ((k : List ℕ) → IsIn k ks → begins (prefix_of o.path) k ≡ true) → (k : List ℕ) → Gone (without z ks) k
-  gone_below ks free b k = by (is_in k ks)
-    where
-      by : IsIn k ks ⊎ (IsIn k ks → ⊥) → Gone (without z ks) k
-      by (inl h) = inr (gone_in z ks k h, inr (free, b k h))
-      by (inr g) = inl (kept_out z ks k g)
+  gone_below ks free b k = elim (is_in k ks) [ inl h ↦ inr (gone_in z ks k h, inr (free, b k h)) | inr g ↦ inl (kept_out z ks k g) ]
 
   gone_swept : (w : walks.Sweep) (m : Objects) → NoFileAt z o.path → IsSweeping (prefix_of o.path) z w m → (k : List ℕ) → Gone m k
   gone_swept (Listing keys) m free h k = inl (ap (λ m. fin.get m k) h.0)
@@ -217,22 +192,13 @@ module _ (o : Deletion) (z : Objects) where
       by : (k ≡ o.path) ⊎ (k ≡ o.path → ⊥) → Gone (fin.remove z o.path) k
       by (inl e) = inr (text_gone z o.path k e, inl (h.0, e))
       by (inr g) = inl (text_left z o.path k g)
-  gone_removed n (inr h) k = by (true_or_false (begins (prefix_of o.path) k))
-    where
-      by : (begins (prefix_of o.path) k ≡ true) ⊎ (begins (prefix_of o.path) k ≡ false) → Gone n k
-      by (inl t) = inr (h.3.gone k t, inr (h.0, t))
-      by (inr f) = inl (h.3.others k f)
+  gone_removed n (inr h) k = elim (true_or_false (begins (prefix_of o.path) k)) [ inl t ↦ inr (h.3.gone k t, inr (h.0, t)) | inr f ↦ inl (h.3.others k f) ]
 
   kept_marked : (q : List ℕ) (n : Objects) → marker_if (parent o.path) ≡ Some q → ((k : List ℕ) → Gone n k) → (k : List ℕ) → IsKept o z (fin.insert n q marker) k
-  kept_marked q n e h k = by (same_or_other k q)
-    where
-      old : fin.get (fin.insert n q marker) k ≡ fin.get n k → Gone n k → IsKept o z (fin.insert n q marker) k
-      old s (inl g) = inl (s ∙ g)
-      old s (inr g) = inr (inl (s ∙ g.0, g.1))
-
-      by : (k ≡ q) ⊎ (k ≡ q → ⊥) → IsKept o z (fin.insert n q marker) k
-      by (inl i) = inr (inr (e ∙ ap Some (sym i), text_here n q k marker i))
-      by (inr i) = old (text_other n q k marker i) (h k)
+  kept_marked q n e h k = elim (same_or_other k q) [
+    | inl i ↦ inr (inr (e ∙ ap Some (sym i), text_here n q k marker i))
+    | inr i ↦ elim (h k) [ inl g ↦ inl (text_other n q k marker i ∙ g) | inr g ↦ inr (inl (text_other n q k marker i ∙ g.0, g.1)) ]
+  ]
 
   during : (x : DeleteStage) (m : Objects) → holds o z x m → always o z m
   during Here m h = inl h
@@ -260,39 +226,23 @@ module _ (o : Deletion) (z : Objects) where
   fall_up None m n h = tt
   fall_up (Some k) m n h = h
 
-  fall_here : (l : Look) (m : Objects) → Falls (left o) (here_at l) m (sweep_left (prefix_of o.path) sweep_start m + 4)
-  fall_here There m = omega arith
-  fall_here _ m = omega arith
-
   fall_root : (p : List ℕ) (l : Look) (m : Objects) → Falls (left o) (on_here p l) m (sweep_left (prefix_of o.path) sweep_start m + 4)
   fall_root [] l m = tt
-  fall_root (x ∷ p) l m = fall_here l m
-
-  fall_children : (b : Bool) (m : Objects) → Falls (left o) (children b) m (sweep_left (prefix_of o.path) sweep_start m + 3)
-  fall_children true m = omega arith
-  fall_children false m = tt
+  fall_root (x ∷ p) l m = elim l as (λ l. Falls (left o) (here_at l) m (sweep_left (prefix_of o.path) sweep_start m + 4)) [ There ↦ omega arith | _ ↦ omega arith ]
 
   fall_inside : (i : Inside) (m : Objects) → Falls (left o) (on_inside o.recursive i) m (sweep_left (prefix_of o.path) sweep_start m + 3)
   fall_inside Empty m = tt
   fall_inside MarkerAlone m = omega arith
-  fall_inside Children m = fall_children o.recursive m
+  fall_inside Children m = elim o.recursive as (λ b. Falls (left o) (children b) m (sweep_left (prefix_of o.path) sweep_start m + 3)) [ true ↦ omega arith | false ↦ tt ]
 
   fall_swept : (w : Option walks.Sweep) (m : Objects) (n : ℕ) → LessLeft (prefix_of o.path) m w n → Falls (left o) (swept o w) m (n + 2)
   fall_swept (Some w) m n h = omega (arith, h)
   fall_swept None m n h = fall_up (marker_if (parent o.path)) m (n + 2) (omega (arith, h))
 
-  fall_parent : (k : List ℕ) (l : Look) (m : Objects) → Falls (left o) (on_parent k l) m 1
-  fall_parent k There m = tt
-  fall_parent k _ m = omega arith
-
 falls_sweep : (o : Deletion) (w : walks.Sweep) (m : Objects) → Falls (left o) (on_sweep o w (reply_in m (sweep_asks (prefix_of o.path) w)) (fits (reply_in m (sweep_asks (prefix_of o.path) w)))) (edited (sweep_asks (prefix_of o.path) w) m) (sweep_left (prefix_of o.path) w m + 2)
 falls_sweep o w m =
     subst (λ b. Falls (left o) (on_sweep o w (reply_in m (sweep_asks (prefix_of o.path) w)) b) (edited (sweep_asks (prefix_of o.path) w) m) (sweep_left (prefix_of o.path) w m + 2)) (sym (sweep_fits (prefix_of o.path) w m))
     (fall_swept o m (sweep_hears all_go w (reply_in m (sweep_asks (prefix_of o.path) w))) (edited (sweep_asks (prefix_of o.path) w) m) (sweep_left (prefix_of o.path) w m) (sweep_falls (prefix_of o.path) w m))
-
-still_look : (p : List ℕ) (m : Objects) → edited (asks (record { path = p; recursive = false }) Here) m ≡ m
-still_look [] m = refl
-still_look (x ∷ p) m = refl
 
 falls : (o : Deletion) (z : Objects) (x : DeleteStage) (m : Objects) → Falls (left o) (on o x (reply_in m (asks o x))) (edited (asks o x) m) (left o x m)
 falls o z Here m =
@@ -302,15 +252,11 @@ falls o z DropFile m = fall_up o z (marker_if (parent o.path)) (edited (asks o D
 falls o z Below m = fall_inside o z (inside (prefix_of o.path) (entries_in (reply_in m (asks o Below)))) m
 falls o z DropMarker m = fall_up o z (marker_if (parent o.path)) (edited (asks o DropMarker) m) 2 (omega arith)
 falls o z (Sweep w) m = falls_sweep o w m
-falls o z (Parent k) m = fall_parent o z k (look_of (reply_in m (asks o (Parent k)))) m
+falls o z (Parent k) m = elim (look_of (reply_in m (asks o (Parent k)))) as (λ l. Falls (left o) (on_parent k l) m 1) [ There ↦ tt | _ ↦ omega arith ]
 falls o z (PutMarker k) m = tt
 
-stays_here : (p : List ℕ) (m : Objects) → sweep_left (prefix_of p) sweep_start (edited (look_asks p) m) + 4 ≡ sweep_left (prefix_of p) sweep_start m + 4
-stays_here [] m = refl
-stays_here (x ∷ p) m = refl
-
 stays : (o : Deletion) (x : DeleteStage) (m : Objects) → left o x (edited (asks o x) m) ≡ left o x m
-stays o Here m = stays_here o.path m
+stays o Here m = ap (λ m. sweep_left (prefix_of o.path) sweep_start m + 4) (still_look o.path m)
 stays o (Sweep w) m = ap (λ n. n + 2) (sweep_stays (prefix_of o.path) w m)
 stays o _ m = refl
 
@@ -329,7 +275,7 @@ stages = record {
 }
 
 pub delete_laws : IsPhases {O = Deletion} first asks (goes_by on) holds gives always left (Err NoSuchBucket)
-delete_laws = phases_of stages
+delete_laws = phases_of (Err NoSuchBucket) stages
 
 -- ---- what is asked
 

@@ -5,7 +5,7 @@ use Rattle.fs_tree.proofs.Above.{key_no_marker}
 use Rattle.fs_tree.proofs.Dropping.{drops_file, drops_dir}
 use Rattle.fs_ops.proofs.StepLaws.{same_scene}
 
-no_cons : {x : ℕ} {p : List ℕ} → x ∷ p ≡ [] → ⊥
+pub no_cons : {x : ℕ} {p : List ℕ} → x ∷ p ≡ [] → ⊥
 no_cons e = cc
 
 abbrev deletion : Bool → List ℕ → Deletion
@@ -20,11 +20,7 @@ removed recursive x p z n m k (inr h) g =
 
 -- what a deletion gives is what it is in the tree
 pub deletes : (recursive : Bool) (p : List ℕ) (z : Objects) (a : Answer) (m : Objects) → is_key p ≡ true → ends (deletion recursive p) z a m → Deletes recursive p z a m
-deletes recursive [] z (Ok x) m k h = none h.1
-  where
-    none : Removed (deletion recursive []) z h.0 → Deletes recursive [] z (Ok tt) m
-    none (inl g) = absurd g.0.1
-    none (inr g) = absurd g.0
+deletes recursive [] z (Ok x) m k h = elim h.1 [ inl g ↦ absurd g.0.1 | inr g ↦ absurd g.0 ]
 deletes recursive [] z (Err IsRoot) m k h = (refl, h.1)
 deletes recursive [] z (Err NotFound) m k h = absurd h.0
 deletes recursive [] z (Err NotEmpty) m k h = absurd h.1

@@ -1,7 +1,7 @@
 -- What a directory holds, stage by stage.
-use Rattle.std.specs.Prelude.{◌≡◌, ◌⊎◌, ℕ, zero, suc, ◌+◌, ◌<◌, ◌≤◌, nat_lt, Bool, true, false, List, [], ◌∷◌, ◌++◌, map, take, drop, length, Ok, Err, Option, Some, None}
+use Rattle.std.specs.Prelude.{◌≡◌, ◌⊎◌, ℕ, suc, ◌+◌, ◌<◌, nat_lt, Bool, true, false, List, [], ◌∷◌, ◌++◌, map, take, drop, length, Ok, Err, Option, Some, None}
 use Rattle.std.proofs.Common.{refl, sym, ap, subst, ◌∙◌, inl, inr, arith, length-drop}
-use Rattle.path_keys.proofs.Common.{nat_tests, take_all, false≢true, lt}
+use Rattle.path_keys.proofs.Common.{ltb-true, ltb-false, take_all, false≢true, lt}
 use Rattle.fs_ops.specs.Prelude.{text_cmp, Objects, head, listed, text_in, Object, PageEntry, RisesFrom, Step, Goes, Falls, reply_in, edited, is_look, IsPhases, MayAsk, DirEntry, NotFound, NoSuchBucket, SomeBelow, NoFile, HasDir, Lists, prefix_of, goes_by, IsStages, IsStill, OnlyLooks, shown, added, all_added, last_text, children}
 use Rattle.std.specs.FinMap as fin
 use Rattle.store_frame.proofs.Listed.{listed_behind}
@@ -9,29 +9,22 @@ use Rattle.fs_ops.specs.declared.list.ListStage.{ListStage}
 use Rattle.fs_ops.specs.declared.list.ListStage.TheVariants.{Here, Pages}
 use Rattle.fs_ops.specs.code.Stat.{length_in}
 use Rattle.fs_ops.proofs.StepLaws.{phases_of}
-use Rattle.fs_ops.proofs.AtPathLaws.{looks_there}
+use Rattle.fs_ops.proofs.AtPathLaws.{looks_there, still_look}
 use Rattle.fs_ops.proofs.Children.{some_listed, none_listed, listed_rises}
 use Rattle.fs_ops.proofs.Showing.{shows_children}
+use Rattle.fs_ops.proofs.Deleting.{no_cons}
 use Rattle.fs_ops.specs.code.List.{Answer, first, asks, told, whole, paged, on, holds, left}
 
 -- ---- pages
 
 added_more : (q : List ℕ) (n : ℕ) (es : List PageEntry) (found : List DirEntry) → all_added q (all_added q found (take n es)) (drop n es) ≡ all_added q found es
-added_more q zero es found = refl
-added_more q (suc n) [] found = refl
 added_more q (suc n) (e ∷ es) found = added_more q n es (added found (shown q found e))
+added_more q _ _ found = refl
 
 -- what is listed behind a page are the others
 behind_page : (q mark : List ℕ) (z : Objects) (n : ℕ) (l : List PageEntry) → listed q true mark z ≡ l → listed q true (last_text mark (take n l)) z ≡ drop n l
-behind_page q mark z zero l h = h
-behind_page q mark z (suc n) [] h = h
 behind_page q mark z (suc n) (x ∷ xs) h = behind_page q (text_in x) z n xs (listed_behind q true mark z x xs h)
-
-not_less : (a b : ℕ) → nat_lt a b ≡ false → b ≤ a
-not_less a b h = grind (arith, nat_tests)
-
-is_less : (a b : ℕ) → nat_lt a b ≡ true → a < b
-is_less a b h = grind (arith, nat_tests)
+behind_page q mark z _ _ h = h
 
 -- a mark is what it was before nothing, and else it is not empty
 abbrev MarkOf : List ℕ → List ℕ → List PageEntry → Type 0
@@ -53,22 +46,15 @@ mark_of mark (x ∷ l) r = inr (omega arith, last_some (text_in x) l (some_after
 no_length : 0 < length {A = ℕ} [] → ⊥
 no_length h = omega (arith, h)
 
-no_cons : {y : ℕ} {k : List ℕ} → y ∷ k ≡ [] → ⊥
-no_cons e = cc
-
 module _ (z : Objects) where
   abbrev On : List ℕ → Step ListStage Answer → Objects → Type 0
   On o y m = Goes (holds o z) (Lists o z) y m
 
   -- ---- the directory, where something was listed
 
-  dir_is : (o : List ℕ) → SomeBelow z (prefix_of o) → HasDir z o
-  dir_is [] h = tt
-  dir_is (x ∷ p) h = h
-
   dir_paged : (o mark : List ℕ) (l : List PageEntry) → listed (prefix_of o) true mark z ≡ l → 0 < length l → HasDir z o
   dir_paged o mark [] e h = absurd (omega (arith, h))
-  dir_paged o mark (x ∷ l) e h = dir_is o (some_listed (prefix_of o) z mark x l e)
+  dir_paged o mark (x ∷ l) e h = (elim o as (λ o. SomeBelow z (prefix_of o) → HasDir z o) [ [] ↦ λ h. tt | x ∷ p ↦ λ h. h ]) (some_listed (prefix_of o) z mark x l e)
 
   full : (o : List ℕ) (found : List DirEntry) → NoFile z o → HasDir z o → found ≡ children (prefix_of o) z → Lists o z (Ok found) z
   full o found f d e = (inr ((f, d), subst (Rattle.fs_tree.specs.Changes.HasEntries o z) (sym e) (shows_children o z)), refl)
@@ -78,7 +64,7 @@ module _ (z : Objects) where
   module _ (o : List ℕ) (found : List DirEntry) (mark : List ℕ) (file : NoFile z o) (dir : (mark ≡ []) ⊎ HasDir z o) (l : List PageEntry) (e : listed (prefix_of o) true mark z ≡ l) (is : all_added (prefix_of o) found l ≡ children (prefix_of o) z) where
     more : nat_lt 1000 (length l) ≡ true → On o (paged o true (all_added (prefix_of o) found (take 1000 l)) (last_text mark (take 1000 l))) z
     more t =
-        let long : 0 < length l = let g = is_less 1000 (length l) t in omega (arith, g) in (
+        let long : 0 < length l = let g = ltb-true 1000 (length l) t in omega (arith, g) in (
           refl,
           file,
           inr (dir_paged o mark l e long),
@@ -96,7 +82,7 @@ module _ (z : Objects) where
 
     last : nat_lt 1000 (length l) ≡ false → On o (paged o false (all_added (prefix_of o) found (take 1000 l)) (last_text mark (take 1000 l))) z
     last t =
-        subst (λ k. On o (whole o (all_added (prefix_of o) found k) (last_text mark k)) z) (sym (take_all 1000 l (not_less 1000 (length l) t)))
+        subst (λ k. On o (whole o (all_added (prefix_of o) found k) (last_text mark k)) z) (sym (take_all 1000 l (ltb-false 1000 (length l) t)))
         (ended o file dir e is (last_text mark l) (mark_of mark l (subst (λ l. RisesFrom mark (map text_in l)) e (listed_rises (prefix_of o) z mark))))
 
     page_goes : (c : Bool) → nat_lt 1000 (length l) ≡ c → On o (paged o c (all_added (prefix_of o) found (take 1000 l)) (last_text mark (take 1000 l))) z
@@ -122,16 +108,12 @@ module _ (z : Objects) where
 -- ---- what is left
 
 fall_whole : (o : List ℕ) (found : List DirEntry) (mark : List ℕ) (m : Objects) (n : ℕ) → Falls (left o) (whole o found mark) m n
-fall_whole [] found mark m n = tt
 fall_whole (x ∷ p) found [] m n = tt
-fall_whole (x ∷ p) found (y ∷ mark) m n = tt
+fall_whole _ found _ m n = tt
 
 fall_page : (o mark : List ℕ) (found : List DirEntry) (m : Objects) (l : List PageEntry) → listed (prefix_of o) true mark m ≡ l → (c : Bool) → nat_lt 1000 (length l) ≡ c → Falls (left o) (paged o c found (last_text mark (take 1000 l))) m (length l)
 fall_page o mark found m l e true t =
-    let a = ap length (behind_page (prefix_of o) mark m 1000 l e) in
-    let b = length-drop 1000 l in
-    let c = is_less 1000 (length l) t in
-    omega (arith, a, b, c)
+    omega (arith, ap length (behind_page (prefix_of o) mark m 1000 l e), length-drop 1000 l, ltb-true 1000 (length l) t)
 fall_page o mark found m l e false t = fall_whole o found (last_text mark (take 1000 l)) m (length l)
 
 fall_here : (o : List ℕ) (n : Option ℕ) (m : Objects) → Falls (left o) (told o n) m (1 + length (listed (prefix_of o) true [] m))
@@ -145,36 +127,22 @@ falls o (Pages found mark) m =
     let l = listed (prefix_of o) true mark m in
     fall_page o mark (all_added (prefix_of o) found (take 1000 l)) m l refl (nat_lt 1000 (length l)) refl
 
-stays : (o : List ℕ) (x : ListStage) (m : Objects) → left o x (edited (asks o x) m) ≡ left o x m
-stays [] Here m = refl
-stays (x ∷ p) Here m = refl
-stays o (Pages found mark) m = refl
-
 same : (o : List ℕ) (z : Objects) (x : ListStage) (m : Objects) → holds o z x m → m ≡ z
 same o z Here m h = h
 same o z (Pages found mark) m h = h.0
 
-begun : (o : List ℕ) (z : Objects) → holds o z (first o) z
-begun [] z = (refl, tt, inl refl, refl)
-begun (x ∷ p) z = refl
-
-answered : (o : List ℕ) (z : Objects) (a : Answer) (m : Objects) → Lists o z a m → m ≡ z
-answered o z (Ok es) m h = h.1
-answered o z (Err NotFound) m h = h.1
-answered o z (Err r) m h = absurd h
-
 stages : IsStages {O = List ℕ} first asks on holds Lists IsStill left
 stages = record {
-  begin = λ o z. begun o z;
+  begin = λ o z. (elim o as (λ o. holds o z (first o) z) [ [] ↦ (refl, tt, inl refl, refl) | x ∷ p ↦ refl ]);
   goes_on = λ o z x m h. subst (λ m. Goes (holds o z) (Lists o z) (on o x (reply_in m (asks o x))) (edited (asks o x) m)) (sym (same o z x m h)) (step z o x (subst (holds o z x) (same o z x m h) h));
   falls = λ o z x m h. falls o x m;
-  stays = λ o z x m h. stays o x m;
+  stays = λ o z x m h. elim x as (λ x. left o x (edited (asks o x) m) ≡ left o x m) [ Here ↦ ap (left o Here) (still_look o m) | _ ↦ refl ];
   during = λ o z x m h. same o z x m h;
-  at_end = λ o z a m h. answered o z a m h;
+  at_end = λ o z a m h. ((elim a as (λ a. Lists o z a m → m ≡ z) [ Ok es ↦ λ h. h.1 | Err NotFound ↦ λ h. h.1 | Err r ↦ λ h. absurd h ]) h);
 }
 
 pub list_laws : IsPhases {O = List ℕ} first asks (goes_by on) holds Lists IsStill left (Err NoSuchBucket)
-list_laws = phases_of stages
+list_laws = phases_of (Err NoSuchBucket) stages
 
 pub list_asked : MayAsk {O = List ℕ} asks holds OnlyLooks
 list_asked o z Here m h = looks_there o

@@ -13,13 +13,9 @@ IsSeen _ there nothing = ⊥
 
 -- ---- a look at a key
 
-seen_key : (o : Option Object) → IsSeen (look_of (head o)) ((v : Object) × (o ≡ Some v)) (o ≡ None)
-seen_key None = refl
-seen_key (Some v) = (v, refl)
-
 -- it tells whether an object stands there
 pub head_tells : (m : Objects) (k : List ℕ) → IsSeen (look_of (head (fin.get m k))) (Stands m k) (fin.get m k ≡ None)
-head_tells m k = seen_key (fin.get m k)
+head_tells m k = elim (fin.get m k) as (λ o. IsSeen (look_of (head o)) ((v : Object) × (o ≡ Some v)) (o ≡ None)) [ None ↦ refl | Some v ↦ (v, refl) ]
 
 -- ---- a look below a prefix that is not empty
 
@@ -48,3 +44,17 @@ page_tells x q m = by (listed (x ∷ q) false [] m) refl
     by : (l : List PageEntry) → listed (x ∷ q) false [] m ≡ l → IsSeen (look_of (page 1 l)) (SomeBelow m (x ∷ q)) (NoneBelow m (x ∷ q))
     by [] e = none_listed x q m e
     by (y ∷ l) e = first_listed (x ∷ q) m y l e
+
+-- ---- what is so of either is so of what a look tells
+
+pub told : (A B : Type 0) (P : Look → Type 0) (l : Look) → IsSeen l A B → (A → P There) → (B → P Nothing) → P l
+told A B P There h f g = f h
+told A B P Nothing h f g = g h
+told A B P _ h f g = absurd h
+
+pub at_key : (P : Look → Type 0) (m : Objects) (k : List ℕ) → (Stands m k → P There) → (fin.get m k ≡ None → P Nothing) → P (look_of (head (fin.get m k)))
+at_key P m k f g = told (Stands m k) (fin.get m k ≡ None) P (look_of (head (fin.get m k))) (head_tells m k) f g
+
+pub below_key : (P : Look → Type 0) (x : ℕ) (q : List ℕ) (m : Objects) → (SomeBelow m (x ∷ q) → P There) → (NoneBelow m (x ∷ q) → P Nothing)
+    → P (look_of (page 1 (listed (x ∷ q) false [] m)))
+below_key P x q m f g = told (SomeBelow m (x ∷ q)) (NoneBelow m (x ∷ q)) P (look_of (page 1 (listed (x ∷ q) false [] m))) (page_tells x q m) f g

@@ -1,5 +1,5 @@
 -- The marker above a path.
-use Rattle.std.proofs.Common.{◌≡◌, Bool, true, false, ℕ, suc, List, [], ◌∷◌, ◌==◌, length, Option, Some, None, Result, IfOk, refl, sym, ap, subst, ◌∙◌, arith, if◌then◌else◌}
+use Rattle.std.proofs.Common.{◌≡◌, Bool, true, false, ℕ, suc, List, [], ◌∷◌, ◌==◌, length, Option, Some, None, refl, sym, ap, ◌∙◌, arith, if◌then◌else◌}
 use Rattle.path_keys.proofs.Common.{eqb-true, some_is}
 use Rattle.fs_ops.specs.Prelude.{Path, parent_of, marker_of, deleted, parent, marker_if}
 use Rattle.path_keys.proofs.Last.{before_none}
@@ -7,25 +7,18 @@ use Rattle.path_keys.proofs.Last.{before_none}
 no_some : {X : Type 0} {x : X} → None ≡ Some x → ⊥
 no_some e = cc
 
-not_zero : (n : ℕ) → (suc n == 0) ≡ false
-not_zero n = by (suc n == 0) refl
-  where
-    by : (b : Bool) → (suc n == 0) ≡ b → (suc n == 0) ≡ false
-    by false e = e
-    by true e = let z = eqb-true (suc n) 0 e in absurd (omega (arith, z))
+pub not_zero : (n : ℕ) → (suc n == 0) ≡ false
+not_zero n =
+    (elim (suc n == 0) as (λ b. (suc n == 0) ≡ b → (suc n == 0) ≡ false) [ false ↦ λ e. e | true ↦ λ e. let z = eqb-true (suc n) 0 e in absurd (omega (arith, z)) ]) refl
 
 abbrev marker_by : Bool → List ℕ → Option (List ℕ)
 marker_by b k = if b then None else Some (marker_of k)
 
-abbrev above_by : Bool → Path → Option Path
+abbrev pub above_by : Bool → Path → Option Path
 above_by b p = if b then None else Some (record { bucket = p.bucket; key = parent p.key })
 
 key_marker : (q : Path) → deleted q false ≡ marker_if q.key
-key_marker q = by q.key
-  where
-    by : (k : List ℕ) → marker_by (length k == 0) k ≡ marker_if k
-    by [] = refl
-    by (x ∷ k) = ap (λ b. marker_by b (x ∷ k)) (not_zero (length k))
+key_marker q = elim q.key as (λ k. marker_by (length k == 0) k ≡ marker_if k) [ [] ↦ refl | x ∷ k ↦ ap (λ b. marker_by b (x ∷ k)) (not_zero (length k)) ]
 
 pub marker_parent : (p : Path) (o : Option Path) (q : Path) → o ≡ parent_of p → o ≡ Some q → deleted q false ≡ marker_if (parent p.key)
 marker_parent p o q e f = by (length p.key == 0) (sym e ∙ f)
@@ -40,6 +33,3 @@ root_marker p o e f = by p.key refl (sym e ∙ f)
     by : (k : List ℕ) → p.key ≡ k → above_by (length k == 0) p ≡ None → None ≡ marker_if (parent p.key)
     by [] i h = ap marker_if (before_none [] refl) ∙ ap (λ k. marker_if (parent k)) (sym i)
     by (x ∷ k) i h = absurd (no_some (sym h ∙ ap (λ b. above_by b p) (not_zero (length k))))
-
-pub marked_so : {E : Type 0} (r : Result (Option (List ℕ)) E) (a b : Option (List ℕ)) → IfOk r (λ m. m ≡ a) → a ≡ b → IfOk r (λ m. m ≡ b)
-marked_so r a b h e = subst (λ a. IfOk r (λ m. m ≡ a)) e h

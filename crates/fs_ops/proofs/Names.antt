@@ -57,11 +57,11 @@ prefix_root (x ∷ p) e = absurd (cc)
 
 -- ---- the last element
 
-last_end : (ps : List (List ℕ)) (p : List ℕ) → last_of (ps ++ p ∷ []) ≡ p
+pub last_end : (ps : List (List ℕ)) (p : List ℕ) → last_of (ps ++ p ∷ []) ≡ p
 last_end (q ∷ r ∷ ps) p = last_end (r ∷ ps) p
 last_end _ p = refl
 
-at_end : {E : Type 0} (r : Result (List ℕ) E) (a b : List ℕ) → IfOk r (λ n. n ≡ a) → a ≡ b → IfOk r (λ n. n ≡ b)
+pub at_end : {E X : Type 0} (r : Result X E) (a b : X) → IfOk r (λ n. n ≡ a) → a ≡ b → IfOk r (λ n. n ≡ b)
 at_end r a b h e = subst (λ a. IfOk r (λ n. n ≡ a)) e h
 
 pub last_of_cut : {E : Type 0} (r : Result (List ℕ) E) (key front back : List ℕ) → key ≡ front ++ 47 ∷ back → list_all (is_other 47) back ≡ true → IfOk r (λ n. n ≡ back) → IfOk r (λ n. n ≡ own_name key)

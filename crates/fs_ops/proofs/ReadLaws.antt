@@ -1,16 +1,12 @@
 -- The bytes of a file are a question at its path.
-use Rattle.std.specs.Prelude.{◌≡◌, ℕ, List, [], ◌∷◌, Ok, Err, Option, Some, None}
+use Rattle.std.specs.Prelude.{◌≡◌, ℕ, List, ◌∷◌, Ok, Err, Option, Some, None}
 use Rattle.std.proofs.Common.{refl}
-use Rattle.fs_ops.specs.Prelude.{Objects, Object, Goes, edited, IsPhases, MayAsk, NotFound, NoSuchBucket, Reads, get_asks, goes_by, IsStill, OnlyLooks, first, told, holds, left}
+use Rattle.fs_ops.specs.Prelude.{Objects, Object, Goes, IsPhases, MayAsk, NotFound, NoSuchBucket, Reads, get_asks, goes_by, IsStill, OnlyLooks, first, told, holds, left}
 use Rattle.std.specs.FinMap as fin
 use Rattle.s3_types.specs.Answer.{found}
 use Rattle.fs_tree.specs.declared.answers.FsRefusal.TheVariants.{IsDirectory}
-use Rattle.fs_ops.proofs.AtPathLaws.{IsQuestion, question_laws, question_asked, gets_there}
+use Rattle.fs_ops.proofs.AtPathLaws.{IsQuestion, question_laws, question_asked, gets_there, look_still}
 use Rattle.fs_ops.specs.code.Read.{Answer, asks, bytes_in, on}
-
-nothing_edited : (p : List ℕ) (z : Objects) → edited (get_asks p) z ≡ z
-nothing_edited [] z = refl
-nothing_edited (x ∷ p) z = refl
 
 bytes_here : (x : ℕ) (p : List ℕ) (z : Objects) (v : Option Object) → fin.get z (x ∷ p) ≡ v → Goes (holds (x ∷ p) z) (Reads (x ∷ p) z) (told (bytes_in (found v))) z
 bytes_here x p z None e = (refl, e)
@@ -24,7 +20,7 @@ nothing_changed p z (Err r) m h = absurd h
 
 question : IsQuestion get_asks bytes_in (Err IsDirectory) Reads
 question = record {
-  still = nothing_edited;
+  still = λ p z. look_still (get_asks p) z (gets_there p);
   here = λ x p z. bytes_here x p z (fin.get z (x ∷ p)) refl;
   found = λ p z h. (h, refl);
   missing = λ p z h. (h, refl);

@@ -11,11 +11,12 @@ use Rattle.std.specs.FinMap as fin
 use Rattle.proof_base.proofs.Less.{less_of}
 use Rattle.words.specs.Parts.{parts_of}
 use Rattle.fs_tree.proofs.Begins.{both, begins_all, begins_more, begins_marker}
+use Rattle.fs_tree.proofs.Moving.{rest_after}
 use Rattle.fs_tree.proofs.Above.{file_element, dir_element}
 use Rattle.fs_tree.specs.Tree.{IsFile}
 use Rattle.fs_tree.specs.Changes.{text_by, text_of, HasEntries}
 use Rattle.fs_ops.specs.code.List.{is_file, is_file_named, has_file, file_by, first_of, dir_named, dir_by}
-use Rattle.fs_ops.proofs.Children.{NoSlash, Standing, behind, entry_at, entry_from, text_at, IsChild, shown_in, listed_rises, are_shown, file_listed, dir_listed}
+use Rattle.fs_ops.proofs.Children.{NoSlash, Standing, entry_at, entry_from, text_at, IsChild, shown_in, listed_rises, are_shown, file_listed, dir_listed}
 
 abbrev child_at : List ℕ → Status → DirEntry
 child_at n s = record { name = n; status = s }
@@ -54,11 +55,8 @@ begins_front (x ∷ n) (y ∷ m) h = let w = both (nat_eq x y) (begins n (marker
 
 begins_name : (n m : List ℕ) (s : Status) → lt text_cmp n (text_by m s) ≡ true → begins n (text_by m s) ≡ true → begins n m ≡ true
 begins_name n m (File l) h b = b
-begins_name n m Directory h b = by (begins_front n m b)
-  where
-    by : (n ≡ marker_of m) ⊎ (begins n m ≡ true) → begins n m ≡ true
-    by (inl e) = absurd (false_true (irrefl text_total (marker_of m)) (ap (λ n. lt text_cmp n (marker_of m)) (sym e) ∙ h))
-    by (inr g) = g
+begins_name n m Directory h b =
+    elim (begins_front n m b) [ inl e ↦ absurd (false_true (irrefl text_total (marker_of m)) (ap (λ n. lt text_cmp n (marker_of m)) (sym e) ∙ h)) | inr g ↦ g ]
 
 -- ---- what was found, the last first
 
@@ -90,10 +88,6 @@ file_among : (n : List ℕ) (l : ℕ) (es : List DirEntry) → Falls es → Belo
 file_among n l [] f b i = absurd i
 file_among n l (e ∷ es) f b i = by i (file_among n l es f.1 (λ d j. b d (inr j)))
   where
-    either : (a c : Bool) → c ≡ true → (a || c) ≡ true
-    either true c h = refl
-    either false c h = h
-
     own : among n (child_at n (File l) ∷ es) ≡ true
     own = among_more n (child_at n (File l)) es (begins_all n) ∙ ap (λ b. b || among n es) (text_true n n refl)
 
@@ -103,7 +97,7 @@ file_among n l (e ∷ es) f b i = by i (file_among n l es f.1 (λ d j. b d (inr 
         let low : lt text_cmp n (text_of e) ≡ true = f.0 (child_at n (File l)) j in
         let high : lt text_cmp (text_of e) (marker_of n) ≡ true = b e (inl refl) in
         let t = begins_name n e.name e.status low (between n (text_of e) (marker_of n) (lt_not text_total n (text_of e) low) (lt_not text_total (text_of e) (marker_of n) high) (begins_marker n)) in
-        among_more n e es t ∙ either (is_file_named n e) (among n es) (ih j)
+        among_more n e es t ∙ (elim (is_file_named n e) as (λ a. (a || (among n es)) ≡ true) [ true ↦ refl | false ↦ (ih j) ])
 
 -- what is found is a file of this name
 abbrev HasNamed : List ℕ → List DirEntry → Type 0
@@ -143,12 +137,14 @@ in_reverse x (y ∷ ys) (inr i) = subst (IsIn x) (sym (reversed y ys)) (in_front
 
 reverse_in : {X : Type 0} (x : X) (xs : List X) → IsIn x (reverse xs) → IsIn x xs
 reverse_in x [] i = absurd i
-reverse_in x (y ∷ ys) i = by (in_append x (reverse ys) (y ∷ []) (subst (IsIn x) (reversed y ys) i)) (reverse_in x ys)
-  where
-    by : IsIn x (reverse ys) ⊎ IsIn x (y ∷ []) → (IsIn x (reverse ys) → IsIn x ys) → IsIn x (y ∷ ys)
-    by (inl j) ih = inr (ih j)
-    by (inr (inl e)) ih = inl e
-    by (inr (inr j)) ih = absurd j
+reverse_in x (y ∷ ys) i = elim (in_append x (reverse ys) (y ∷ []) (subst (IsIn x) (reversed y ys) i)) [
+  | inl j ↦ inr (reverse_in x ys j)
+  | inr (inl e) ↦ inl e
+  | inr (inr j) ↦ absurd j
+]
+
+in_one : {X : Type 0} {x y : X} → IsIn x (y ∷ []) → x ≡ y
+in_one h = elim h [ inl e ↦ e | inr i ↦ absurd i ]
 
 above_end : (x : List ℕ) (es : List DirEntry) (d : DirEntry) → AllByRecursion (λ k. text_cmp x k ≡ Less) (map text_of es) → lt text_cmp x (text_of d) ≡ true → AllByRecursion (λ k. text_cmp x k ≡ Less) (map text_of (es ++ d ∷ []))
 above_end x [] d a h = (less_of (text_cmp x (text_of d)) h, tt)
@@ -211,8 +207,8 @@ module _ (ds firsts found : List DirEntry) (f : Found ds firsts found) (d : DirE
     sub = λ e j. elim (in_append e found (d ∷ []) j) [ inl k ↦ in_front e firsts (d ∷ []) (f.sub e k) | inr k ↦ in_back e firsts (d ∷ []) k ];
     files = λ x r l j. elim (in_append (child_at (x ∷ r) (File l)) firsts (d ∷ []) j) [ inl k ↦ in_front (child_at (x ∷ r) (File l)) found (d ∷ []) (f.files x r l k) | inr k ↦ in_back (child_at (x ∷ r) (File l)) found (d ∷ []) k ];
     dirs = λ n j. elim (in_append (child_at n Directory) firsts (d ∷ []) j) [ inl k ↦ old n (f.dirs n k) | inr k ↦ inl (in_back (child_at n Directory) found (d ∷ []) k) ];
-    once = λ x r l j k. elim (in_append (child_at (x ∷ r) Directory) found (d ∷ []) j) [ inl m ↦ f.once x r l m k | inr m ↦ own x r l m k ];
-    named = λ l j. elim (in_append (child_at [] (File l)) found (d ∷ []) j) [ inl k ↦ f.named l k | inr k ↦ elim k [ inl e ↦ none l e | inr m ↦ m ] ];
+    once = λ x r l j k. elim (in_append (child_at (x ∷ r) Directory) found (d ∷ []) j) [ inl m ↦ f.once x r l m k | inr m ↦ other x r l (sym (in_one m)) k ];
+    named = λ l j. elim (in_append (child_at [] (File l)) found (d ∷ []) j) [ inl k ↦ f.named l k | inr k ↦ none l (in_one k) ];
     falls = subst Falls (sym (reverse-append found (d ∷ []))) (before_back, f.falls);
     sorted = sorted_end found d f.sorted before;
   }
@@ -221,29 +217,17 @@ module _ (ds firsts found : List DirEntry) (f : Found ds firsts found) (d : DirE
       old n (inl k) = inl (in_front (child_at n Directory) found (d ∷ []) k)
       old n (inr k) = inr (k.0, in_front (child_at n (File k.0)) found (d ∷ []) k.1)
 
-      own : (x : ℕ) (r : List ℕ) (l : ℕ) → IsIn (child_at (x ∷ r) Directory) (d ∷ []) → IsIn (child_at (x ∷ r) (File l)) ds → ⊥
-      own x r l (inl e) k = other x r l (sym e) k
-      own x r l (inr m) k = absurd m
-
   -- it is passed over
   skips : ((x : ℕ) (r : List ℕ) (l : ℕ) → child_at (x ∷ r) (File l) ≡ d → ⊥) → ((n : List ℕ) → child_at n Directory ≡ d → HasNamed n found) → Found ds (firsts ++ d ∷ []) found
   skips other has = record {
     sub = λ e j. in_front e firsts (d ∷ []) (f.sub e j);
-    files = λ x r l j. elim (in_append (child_at (x ∷ r) (File l)) firsts (d ∷ []) j) [ inl k ↦ f.files x r l k | inr k ↦ absurd (none x r l k) ];
-    dirs = λ n j. elim (in_append (child_at n Directory) firsts (d ∷ []) j) [ inl k ↦ f.dirs n k | inr k ↦ inr (file n k) ];
+    files = λ x r l j. elim (in_append (child_at (x ∷ r) (File l)) firsts (d ∷ []) j) [ inl k ↦ f.files x r l k | inr k ↦ absurd (other x r l (in_one k)) ];
+    dirs = λ n j. elim (in_append (child_at n Directory) firsts (d ∷ []) j) [ inl k ↦ f.dirs n k | inr k ↦ inr (has n (in_one k)) ];
     once = f.once;
     named = f.named;
     falls = f.falls;
     sorted = f.sorted;
   }
-    where
-      none : (x : ℕ) (r : List ℕ) (l : ℕ) → IsIn (child_at (x ∷ r) (File l)) (d ∷ []) → ⊥
-      none x r l (inl e) = other x r l e
-      none x r l (inr m) = m
-
-      file : (n : List ℕ) → IsIn (child_at n Directory) (d ∷ []) → HasNamed n found
-      file n (inl e) = has n e
-      file n (inr m) = absurd m
 
 -- a child after those that are greater than a text
 abbrev Later : List ℕ → List DirEntry → Type 0
@@ -320,12 +304,10 @@ ordered t (d ∷ ds) h = h.1
 
 before_next : (firsts rest : List DirEntry) (d : DirEntry) → Below firsts (text_of d) → Later (text_of d) rest → Before (firsts ++ d ∷ []) rest
 before_next firsts [] d b a = tt
-before_next firsts (x ∷ rest) d b a = λ e i. by e (in_append e firsts (d ∷ []) i)
-  where
-    by : (e : DirEntry) → IsIn e firsts ⊎ IsIn e (d ∷ []) → lt text_cmp (text_of e) (text_of x) ≡ true
-    by e (inl i) = lt_trans text_total (text_of e) (text_of d) (text_of x) (b e i) a.0
-    by e (inr (inl g)) = ap (λ e. lt text_cmp (text_of e) (text_of x)) g ∙ a.0
-    by e (inr (inr i)) = absurd i
+before_next firsts (x ∷ rest) d b a = λ e i. elim (in_append e firsts (d ∷ []) i) [
+  | inl i ↦ lt_trans text_total (text_of e) (text_of d) (text_of x) (b e i) a.0
+  | inr i ↦ ap (λ e. lt text_cmp (text_of e) (text_of x)) (in_one i) ∙ a.0
+]
 
 -- all of them
 all_found : (ds firsts rest found : List DirEntry) → ds ≡ firsts ++ rest → Before firsts rest → Ordered rest → Found ds firsts found → Found ds ds (all_seen found rest)
@@ -340,31 +322,16 @@ below_is : (p n : List ℕ) → prefix_of p ++ n ≡ below p n
 below_is [] n = refl
 below_is (x ∷ p) n = append_assoc (x ∷ p) (47 ∷ []) n
 
-is_file_at : (k : List ℕ) (z : Objects) (o : Object) → 0 < length k → fin.get z k ≡ Some o → IsFile z k o
-is_file_at [] z o l h = absurd (omega (arith, l))
-is_file_at (x ∷ k) z o l h = h
-
-file_stands : (k : List ℕ) (z : Objects) (o : Object) → IsFile z k o → fin.get z k ≡ Some o
-file_stands [] z o h = absurd h
-file_stands (x ∷ k) z o h = h
-
-has_dir_at : (k : List ℕ) (z : Objects) → 0 < length k → SomeBelow z (marker_of k) → HasDir z k
-has_dir_at [] z l h = tt
-has_dir_at (x ∷ k) z l h = h
-
-dir_stands : (k : List ℕ) (z : Objects) → 0 < length k → HasDir z k → SomeBelow z (marker_of k)
-dir_stands [] z l h = absurd (omega (arith, l))
-dir_stands (x ∷ k) z l h = h
+-- a text that is not empty begins with something
+at_some : (P : List ℕ → Type 0) (k : List ℕ) → 0 < length k → ((x : ℕ) (r : List ℕ) → P (x ∷ r)) → P k
+at_some P [] l f = absurd (omega (arith, l))
+at_some P (x ∷ k) l f = f x k
 
 no_file_at : (k : List ℕ) (z : Objects) → fin.get z k ≡ None → NoFile z k
 no_file_at [] z h = tt
 no_file_at (x ∷ k) z h = h
 
-none_stands : (k : List ℕ) (z : Objects) → 0 < length k → NoFile z k → fin.get z k ≡ None
-none_stands [] z l h = absurd (omega (arith, l))
-none_stands (x ∷ k) z l h = h
-
-element_some : (n : List ℕ) → is_element n ≡ true → 0 < length n
+pub element_some : (n : List ℕ) → is_element n ≡ true → 0 < length n
 element_some [] h = absurd (false≢true h)
 element_some (x ∷ n) h = omega arith
 
@@ -373,21 +340,20 @@ module _ (p : List ℕ) (z : Objects) where
   Q = prefix_of p
 
   below_some : (n : List ℕ) → 0 < length n → 0 < length (below p n)
-  below_some n l = long p
-    where
-      long : (p : List ℕ) → 0 < length (below p n)
-      long [] = l
-      long (x ∷ p) = omega arith
+  below_some n l = elim p as (λ p. 0 < length (below p n)) [ [] ↦ l | x ∷ p ↦ omega arith ]
 
   module _ (ds found : List DirEntry) (entries : listed Q true [] z ≡ map (entry_from Q) ds) (are : (d : DirEntry) → IsIn d ds → IsChild Q z d) (f : Found ds ds found) where
     name_parts : (n : List ℕ) → IsName n → (is_element n ≡ true) × NoSlash n
     name_parts n h = both (is_element n) (list_all (is_other 47) n) h
 
+    named_some : (n : List ℕ) → IsName n → 0 < length (below p n)
+    named_some n h = below_some n (element_some n (name_parts n h).0)
+
     -- a file of a child's name is one of them
     file_of : (n : List ℕ) (o : Object) → IsName n → fin.get z (below p n) ≡ Some o → IsIn (child_at n (File (length o.bytes))) ds
     file_of n o h g =
         let w = name_parts n h in
-        file_listed Q z ds entries are n o (ap (fin.get z) (below_is p n) ∙ g) w.1 (behind_empty (Q ++ n) (subst (λ k. 0 < length k) (sym (below_is p n)) (below_some n (element_some n w.0))))
+        file_listed Q z ds entries are n o (ap (fin.get z) (below_is p n) ∙ g) w.1 (behind_empty (Q ++ n) (subst (λ k. 0 < length k) (sym (below_is p n)) (named_some n h)))
       where
         behind_empty : (k : List ℕ) → 0 < length k → lt text_cmp [] k ≡ true
         behind_empty [] l = absurd (omega (arith, l))
@@ -397,7 +363,7 @@ module _ (p : List ℕ) (z : Objects) where
     child_file : (n : List ℕ) (l : ℕ) → IsName n → IsIn (child_at n (File l)) ds → IsStatus z (below p n) (File l)
     child_file n l h i =
         let s = (are (child_at n (File l)) i).stands in
-        (s.0, is_file_at (below p n) z s.0 (below_some n (element_some n (name_parts n h).0)) (ap (fin.get z) (sym (below_is p n)) ∙ s.1), s.2)
+        (s.0, at_some (λ k. fin.get z k ≡ Some s.0 → IsFile z k s.0) (below p n) (named_some n h) (λ x r h. h) (ap (fin.get z) (sym (below_is p n)) ∙ s.1), s.2)
 
     no_file_of : (n : List ℕ) → IsName n → IsIn (child_at n Directory) found → fin.get z (below p n) ≡ None
     no_file_of n h i = by n h i (fin.get z (below p n)) refl
@@ -409,10 +375,13 @@ module _ (p : List ℕ) (z : Objects) where
 
     child_dir : (n : List ℕ) → IsName n → IsIn (child_at n Directory) found → IsStatus z (below p n) Directory
     child_dir n h i =
-        let long = below_some n (element_some n (name_parts n h).0) in
+        let long = named_some n h in
         let s = (are (child_at n Directory) (f.sub (child_at n Directory) i)).stands in
-        let at : Q ++ (n ++ 47 ∷ s.0) ≡ marker_of (below p n) ++ s.0 = sym (append_assoc Q n (47 ∷ s.0)) ∙ ap (λ k. k ++ 47 ∷ s.0) (below_is p n) ∙ sym (append_assoc (below p n) (47 ∷ []) s.0) in
-        (no_file_at (below p n) z (no_file_of n h i), has_dir_at (below p n) z long (Q ++ (n ++ 47 ∷ s.0), ap (begins (marker_of (below p n))) at ∙ begins_more (marker_of (below p n)) s.0, s.1, s.2))
+        let at : Q ++ (n ++ 47 ∷ s.0) ≡ marker_of (below p n) ++ s.0 = sym (append_assoc Q n (47 ∷ s.0)) ∙ ap (λ k. k ++ 47 ∷ s.0) (below_is p n) ∙ sym (append_assoc (below p n) (47 ∷ []) s.0) in (
+          no_file_at (below p n) z (no_file_of n h i),
+          at_some (λ k. SomeBelow z (marker_of k) → HasDir z k) (below p n) long (λ x r h. h)
+              (Q ++ (n ++ 47 ∷ s.0), ap (begins (marker_of (below p n))) at ∙ begins_more (marker_of (below p n)) s.0, s.1, s.2),
+        )
 
     name_of : (n : List ℕ) → NoSlash n → is_element n ≡ true → IsName n
     name_of n s h = ap (λ b. b && list_all (is_other 47) n) h ∙ s
@@ -425,13 +394,10 @@ module _ (p : List ℕ) (z : Objects) where
 
     file_entry : (n : List ℕ) (l : ℕ) → IsIn (child_at n (File l)) found → NoSlash n → Standing Q z n (File l) → Entry n (File l)
     file_entry [] l i s g = absurd (f.named l i)
-    file_entry (x ∷ n) l i s g = by (is_key (below p (x ∷ n))) refl
-      where
-        by : (b : Bool) → is_key (below p (x ∷ n)) ≡ b → Entry (x ∷ n) (File l)
-        by true e =
-            let h = name_of (x ∷ n) s (file_element p x n s (path_of (below p (x ∷ n)) e)) in
-            inl (h, child_file (x ∷ n) l h (f.sub (child_at (x ∷ n) (File l)) i))
-        by false e = inr ((g.0, ap (fin.get z) (sym (below_is p (x ∷ n))) ∙ g.1), e)
+    file_entry (x ∷ n) l i s g = (elim (is_key (below p (x ∷ n))) as (λ b. is_key (below p (x ∷ n)) ≡ b → Entry (x ∷ n) (File l)) [
+      | true ↦ λ e. let h = name_of (x ∷ n) s (file_element p x n s (path_of (below p (x ∷ n)) e)) in inl (h, child_file (x ∷ n) l h (f.sub (child_at (x ∷ n) (File l)) i))
+      | false ↦ λ e. inr ((g.0, ap (fin.get z) (sym (below_is p (x ∷ n))) ∙ g.1), e)
+    ]) refl
 
     dir_entry : (n : List ℕ) → IsIn (child_at n Directory) found → NoSlash n → Standing Q z n Directory → Entry n Directory
     dir_entry n i s g = by (is_key (below p n ++ 47 ∷ g.0)) refl
@@ -458,7 +424,9 @@ module _ (p : List ℕ) (z : Objects) where
         by (File l) k = let c = are (child_at e.name (File l)) (f.sub (child_at e.name (File l)) (own (File l) k)) in file_entry e.name l (own (File l) k) c.plain c.stands
 
     file_there : (n : List ℕ) (l : ℕ) → IsName n → IsStatus z (below p n) (File l) → IsIn (child_at n (File l)) found
-    file_there n l h s = by n h (subst (λ l. IsIn (child_at n (File l)) ds) s.2 (file_of n s.0 h (file_stands (below p n) z s.0 s.1)))
+    file_there n l h s =
+        by n h (subst (λ l. IsIn (child_at n (File l)) ds) s.2
+        (file_of n s.0 h (at_some (λ k. IsFile z k s.0 → fin.get z k ≡ Some s.0) (below p n) (named_some n h) (λ x r h. h) s.1)))
       where
         by : (n : List ℕ) → IsName n → IsIn (child_at n (File l)) ds → IsIn (child_at n (File l)) found
         by [] h i = absurd (false≢true (name_parts [] h).0)
@@ -468,13 +436,13 @@ module _ (p : List ℕ) (z : Objects) where
     dir_there n h s = by (f.dirs n (dir_listed Q z ds entries are n rest.0 key.2 (ap (fin.get z) (sym at) ∙ key.3) (name_parts n h).1))
       where
         long : 0 < length (below p n)
-        long = below_some n (element_some n (name_parts n h).0)
+        long = named_some n h
 
         key : SomeBelow z (marker_of (below p n))
-        key = dir_stands (below p n) z long s.1
+        key = at_some (λ k. HasDir z k → SomeBelow z (marker_of k)) (below p n) long (λ x r h. h) s.1
 
         rest : (r : List ℕ) × (key.0 ≡ marker_of (below p n) ++ r)
-        rest = behind (marker_of (below p n)) key.0 key.1
+        rest = rest_after (marker_of (below p n)) key.0 key.1
 
         at : key.0 ≡ Q ++ (n ++ 47 ∷ rest.0)
         at = rest.1 ∙ append_assoc (below p n) (47 ∷ []) rest.0 ∙ ap (λ k. k ++ 47 ∷ rest.0) (sym (below_is p n)) ∙ append_assoc Q n (47 ∷ rest.0)
@@ -482,7 +450,7 @@ module _ (p : List ℕ) (z : Objects) where
         by : IsIn (child_at n Directory) found ⊎ HasNamed n found → IsIn (child_at n Directory) found
         by (inl i) = i
         by (inr g) = let t = (are (child_at n (File g.0)) (f.sub (child_at n (File g.0)) g.1)).stands in
-            absurd (none_some (none_stands (below p n) z long s.0) (ap (fin.get z) (sym (below_is p n)) ∙ t.1))
+            absurd (none_some (at_some (λ k. NoFile z k → fin.get z k ≡ None) (below p n) long (λ x r h. h) s.0) (ap (fin.get z) (sym (below_is p n)) ∙ t.1))
 
     there : (n : List ℕ) (s : Status) → IsName n → IsStatus z (below p n) s → IsIn (child_at n s) found
     there n Directory h s = dir_there n h s

@@ -38,16 +38,9 @@ none_taken : (z : Scene) (m : ℕ) → after_all z (take m []) ≡ z
 none_taken z zero = refl
 none_taken z (suc m) = refl
 
-get_none : (n : ℕ) → slice_get [] n ≡ Some false → ⊥
-get_none zero h = none_some refl h
-get_none (suc n) h = none_some refl h
-
 none_unanswered : (many : ℕ) → 0 < many → HasUnanswered many [] → ⊥
 none_unanswered many some h =
-    let a = ap length h.is in
-    let b = length-append h.before (h.these ++ h.behind) in
-    let c = length-append h.these h.behind in
-    omega (arith, a, b, c, h.count, some)
+    omega (arith, ap length h.is, length-append h.before (h.these ++ h.behind), length-append h.these h.behind, h.count, some)
 
 pub performed_none : {A : Type 0} {actor : Actor} {event retries : ℕ} {old : Seen} {x : A}
     → (b : List ℕ) (always : Objects → Objects → Type 0) (sends : Request → Type 0) → ((m : Objects) → always m m)
@@ -61,7 +54,7 @@ performed_none {retries = retries} {old = old} b always sends same = record {
   moments = λ m. subst (AlwaysIn b always old.scene) (sym (none_taken old.scene m)) (still_in b always old.scene same);
   sent = tt;
   tried = record { tries = []; rest = []; entries = refl; each = tt; broken_off = tt; told = (refl, refl); fault = λ e h. none_unanswered (retries + 1) (omega arith) h };
-  literal = λ r w. get_none (w.0 + 0) (w.1 0 (omega arith));
+  literal = λ r w. ((elim (w.0 + 0) as (λ n. slice_get [] n ≡ Some false → ⊥) [ zero ↦ λ h. none_some refl h | suc n ↦ λ h. none_some refl h ]) (w.1 0 (omega arith)));
   foretold = tt;
   counts = record { made = refl; foretold = λ n. refl; losses = omega arith; kept = λ part e g. refl };
 }

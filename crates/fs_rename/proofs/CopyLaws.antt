@@ -1,27 +1,19 @@
 -- Copies of keys, one after another.
 use Rattle.std.proofs.Common.{◌≡◌, ◌⊎◌, inl, inr, ℕ, zero, suc, ◌+◌, ◌-◌, ◌<◌, ◌≤◌, ◌&&◌, nat_lt, Bool, true, false, List, [], ◌∷◌, ◌++◌, map, take, drop, length, Option, Some, None, refl, sym, ap, subst, ◌∙◌, arith}
-use Rattle.path_keys.proofs.Common.{ltb-true, ltb-false, take_all, text_here, text_other, none_some}
+use Rattle.std.proofs.lemmas.List.{drop-map}
+use Rattle.path_keys.proofs.Common.{ltb-true, nat_tests, length-map, take_all, text_here, text_other, none_some}
 use Rattle.fs_ops.specs.Prelude.{Objects, copied, Object, IsIn, edited, Stands}
 use Rattle.std.specs.FinMap as fin
 use Rattle.bucket_ops.proofs.Below.{is_in}
+use Rattle.fs_tree.proofs.Begins.{both}
 use Rattle.fs_rename.specs.declared.copying.Copying.{Copying}
 use Rattle.fs_rename.specs.Copies.{Move, IsOneOf, sources, targets, copied_all, copy_of, copy_asks, has_more, copied_next, IsCopying, IsCopied, copies_left, LessCopies, AreFree}
 
 -- ---- lists of moves
 
-map_behind : {X Y : Type 0} (f : X → Y) (n : ℕ) (xs : List X) → drop n (map f xs) ≡ map f (drop n xs)
-map_behind f zero xs = refl
-map_behind f (suc n) [] = refl
-map_behind f (suc n) (x ∷ xs) = map_behind f n xs
-
 pub map_front : {X Y : Type 0} (f : X → Y) (n : ℕ) (xs : List X) → take n (map f xs) ≡ map f (take n xs)
-map_front f zero xs = refl
-map_front f (suc n) [] = refl
 map_front f (suc n) (x ∷ xs) = ap (λ l. f x ∷ l) (map_front f n xs)
-
-map_count : {X Y : Type 0} (f : X → Y) (xs : List X) → length (map f xs) ≡ length xs
-map_count f [] = refl
-map_count f (x ∷ xs) = ap suc (map_count f xs)
+map_front f _ _ = refl
 
 pub some_left : (n : ℕ) (ps : List Move) → n < length ps → (p : Move) × (qs : List Move) × (drop n ps ≡ p ∷ qs)
 some_left n [] h = absurd (omega (arith, h))
@@ -54,10 +46,9 @@ is_source (p ∷ ps) k (inl e) = (p.1, inl (e, refl))
 is_source (p ∷ ps) k (inr h) = let w = is_source ps k h in (w.0, inr w.1)
 
 pub one_in_take : (n : ℕ) (k l : List ℕ) (ps : List Move) → IsOneOf k l (take n ps) → IsOneOf k l ps
-one_in_take zero k l ps h = absurd h
-one_in_take (suc n) k l [] h = absurd h
 one_in_take (suc n) k l (p ∷ ps) (inl e) = inl e
 one_in_take (suc n) k l (p ∷ ps) (inr h) = inr (one_in_take n k l ps h)
+one_in_take _ k l _ h = absurd h
 
 -- ---- one copy
 
@@ -125,30 +116,18 @@ copied_append m [] qs = refl
 copied_append m (p ∷ ps) qs = copied_append (copied m p.1 (fin.get m p.0)) ps qs
 
 more_true : (n l : ℕ) → (nat_lt n l && nat_lt 1 (l - n)) ≡ true → n + 1 < l
-more_true n l h = by (nat_lt n l) refl (nat_lt 1 (l - n)) refl h
-  where
-    by : (a : Bool) → nat_lt n l ≡ a → (b : Bool) → nat_lt 1 (l - n) ≡ b → (a && b) ≡ true → n + 1 < l
-    by true e true f g = let l = ltb-true 1 (l - n) f in omega arith
-    by true e false f g = absurd (cc)
-    by false e b f g = absurd (cc)
+more_true n l h = let w = ltb-true 1 (l - n) (both (nat_lt n l) (nat_lt 1 (l - n)) h).1 in omega (arith, w)
 
 more_false : (n l : ℕ) → n < l → (nat_lt n l && nat_lt 1 (l - n)) ≡ false → l ≤ suc n
-more_false n l k h = by (nat_lt n l) refl (nat_lt 1 (l - n)) refl h
-  where
-    by : (a : Bool) → nat_lt n l ≡ a → (b : Bool) → nat_lt 1 (l - n) ≡ b → (a && b) ≡ false → l ≤ suc n
-    by true e true f g = absurd (cc)
-    by true e false f g = let l = ltb-false 1 (l - n) f in omega arith
-    by false e b f g = let l = ltb-false n l e in omega arith
+more_false n l k h = grind (arith, nat_tests, h, k)
 
 module _ (z : Objects) (ps : List Move) where
   copied_one : (c : Copying) (m : Objects) → IsCopying z ps c m → edited (copy_asks c) m ≡ copied_all z (take (suc c.from) ps)
   copied_one c m h =
-      let some : c.from < length ps = subst (λ n. c.from < n) (ap length h.keys ∙ map_count (λ (p : Move). p.0) ps) h.some in
+      let some : c.from < length ps = subst (λ n. c.from < n) (ap length h.keys ∙ length-map ps (λ (p : Move). p.0)) h.some in
       let w = some_left c.from ps some in
-      let ks = ap (drop c.from) h.keys ∙ map_behind (λ (p : Move). p.0) c.from ps ∙ ap sources w.2 in
-      let ls = ap (drop c.from) h.places ∙ map_behind (λ (p : Move). p.1) c.from ps ∙ ap targets w.2 in
-      ap (λ l. edited (copy_of l (drop c.from c.places)) m) ks
-      ∙ ap (λ l. edited (copy_of (w.0.0 ∷ sources w.1) l) m) ls
+      ap (λ l. edited (copy_of l (drop c.from c.places)) m) (ap (drop c.from) h.keys ∙ drop-map (λ (p : Move). p.0) c.from ps ∙ ap sources w.2)
+      ∙ ap (λ l. edited (copy_of (w.0.0 ∷ sources w.1) l) m) (ap (drop c.from) h.places ∙ drop-map (λ (p : Move). p.1) c.from ps ∙ ap targets w.2)
       ∙ ap (λ m. copied m w.0.1 (fin.get m w.0.0)) h.copied
       ∙ sym (copied_append z (take c.from ps) (w.0 ∷ []))
       ∙ ap (copied_all z) (sym (take_one c.from ps w.0 w.1 w.2))
@@ -158,9 +137,8 @@ module _ (z : Objects) (ps : List Move) where
       let one : suc c.from ≡ c.from + 1 = omega arith in
       record { keys = h.keys; places = h.places; some = more_true c.from (length c.keys) e; copied = copied_one c m h ∙ ap (λ n. copied_all z (take n ps)) one }
   step false c m e h =
-      let count : length c.keys ≡ length ps = ap length h.keys ∙ map_count (λ (p : Move). p.0) ps in
-      let last = more_false c.from (length c.keys) h.some e in
-      (h.keys, copied_one c m h ∙ ap (copied_all z) (take_all (suc c.from) ps (omega (arith, count, last))))
+      let count : length c.keys ≡ length ps = ap length h.keys ∙ length-map ps (λ (p : Move). p.0) in
+      (h.keys, copied_one c m h ∙ ap (copied_all z) (take_all (suc c.from) ps (omega (arith, count, more_false c.from (length c.keys) h.some e))))
 
   -- the honest reply leads on
   pub copying_goes : (c : Copying) (m : Objects) → IsCopying z ps c m → IsCopied z ps (copied_next (has_more c) c) (edited (copy_asks c) m)

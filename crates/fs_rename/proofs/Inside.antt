@@ -1,5 +1,5 @@
 -- The new place inside a directory, and the paths above the target.
-use Rattle.std.proofs.Common.{◌≡◌, inl, inr, ℕ, suc, ◌<◌, ◌&&◌, ◌==◌, Bool, true, false, List, [], ◌∷◌, ◌++◌, length, Option, Some, None, Result, IfOk, refl, sym, ap, subst, ◌∙◌, arith, if◌then◌else◌}
+use Rattle.std.proofs.Common.{◌≡◌, inl, inr, ℕ, ◌<◌, ◌&&◌, ◌==◌, Bool, true, false, List, [], ◌∷◌, ◌++◌, length, Option, Some, None, refl, sym, ap, ◌∙◌, arith, if◌then◌else◌}
 use Rattle.fs_ops.specs.Prelude.{list_all, are_elements, is_element, Path, is_key, parent_of, is_marker, parent, last_of, own_name, inside, key_if, prefix_of}
 use Rattle.path_keys.proofs.Common.{false≢true, true≢false, list_all-append, one_part, parts_append, none_some, some_is}
 use Rattle.words.specs.Parts.{parts_of}
@@ -8,7 +8,9 @@ use Rattle.path_keys.proofs.Last.{parts_round, before_none}
 use Rattle.path_keys.proofs.Beneath.{below_elements}
 use Rattle.fs_tree.proofs.Begins.{both, marker_is}
 use Rattle.fs_tree.proofs.Above.{Cut, cut, marker_ends}
-use Rattle.fs_rename.proofs.Places.{not_zero, some_long}
+use Rattle.fs_ops.proofs.Names.{last_end}
+use Rattle.fs_ops.proofs.MarkerAbove.{not_zero, above_by}
+use Rattle.fs_rename.proofs.Places.{some_long}
 use Rattle.fs_rename.specs.code.Rename.{inside_of, place_by}
 
 -- ---- elements
@@ -32,10 +34,6 @@ key_is (x ∷ q) h = refl
 
 -- ---- the last element of a path
 
-last_end : (ps : List (List ℕ)) (p : List ℕ) → last_of (ps ++ p ∷ []) ≡ p
-last_end (q ∷ r ∷ ps) p = last_end (r ∷ ps) p
-last_end _ p = refl
-
 own_elements : (p : List ℕ) → are_elements p ≡ true → are_elements (own_name p) ≡ true
 own_elements p k = by (cut p)
   where
@@ -58,16 +56,13 @@ inside_text s t text f k h e = ap are_elements e ∙ inside_elements s t (some_l
 
 pub inside_none : (s t : List ℕ) → (length s == 0) ≡ true → inside_of s t ≡ None
 inside_none [] t h = refl
-inside_none (x ∷ s) t h = absurd (not_zero (length s) h)
+inside_none (x ∷ s) t h = absurd (true≢false (sym h ∙ not_zero (length s)))
 
 pub inside_some : (s t : List ℕ) → (length s == 0) ≡ false → is_key s ≡ true → is_key t ≡ true → inside_of s t ≡ Some (inside s t)
 inside_some [] t f k h = absurd (true≢false f)
 inside_some (x ∷ s) t f k h = key_is (inside (x ∷ s) t) (inside_elements (x ∷ s) t (omega arith) k h)
 
 -- ---- the path above a path
-
-abbrev above_by : Bool → Path → Option Path
-above_by b p = if b then None else Some (record { bucket = p.bucket; key = parent p.key })
 
 pub above_some : (p : Path) (o : Option Path) (q : Path) → o ≡ parent_of p → o ≡ Some q → q.key ≡ parent p.key
 above_some p o q e f = by (length p.key == 0) (sym e ∙ f)
@@ -76,22 +71,12 @@ above_some p o q e f = by (length p.key == 0) (sym e ∙ f)
     by true h = absurd (none_some refl h)
     by false h = sym (ap (λ (q : Path). q.key) (some_is h))
 
-zero_not : (n : ℕ) → (suc n == 0) ≡ false
-zero_not n = by (suc n == 0) refl
-  where
-    by : (b : Bool) → (suc n == 0) ≡ b → (suc n == 0) ≡ false
-    by false e = e
-    by true e = absurd (not_zero n e)
-
 pub above_none : (p : Path) (o : Option Path) → o ≡ parent_of p → o ≡ None → p.key ≡ parent p.key
 above_none p o e f = by p.key refl (sym e ∙ f)
   where
     by : (k : List ℕ) → p.key ≡ k → above_by (length k == 0) p ≡ None → p.key ≡ parent p.key
     by [] i h = i ∙ before_none [] refl ∙ ap parent (sym i)
-    by (x ∷ k) i h = absurd (none_some h (ap (λ b. above_by b p) (zero_not (length k))))
-
-pub is_above : {E : Type 0} (r : Result (List ℕ) E) (a b : List ℕ) → IfOk r (λ n. n ≡ a) → a ≡ b → IfOk r (λ n. n ≡ b)
-is_above r a b h e = subst (λ a. IfOk r (λ n. n ≡ a)) e h
+    by (x ∷ k) i h = absurd (none_some h (ap (λ b. above_by b p) (not_zero (length k))))
 
 -- what has a new place is below a marker
 pub place_marker : (s t q : List ℕ) (i : Bool) → place_by s t i ≡ Some q → is_marker (prefix_of s) ≡ true

@@ -10,11 +10,9 @@ use Rattle.fs_rename.specs.Keys.{new_by, new_key, fitting, with_front, new_keys}
 -- ---- markers and limits
 
 marker_got : (bs : List ℕ) (n b : ℕ) → suc n ≡ length bs → slice_get bs n ≡ Some b → nat_eq b 47 ≡ is_marker bs
-marker_got [] n b e h = absurd (omega (arith, e))
 marker_got (x ∷ []) zero b e h = ap (λ v. nat_eq v 47) (sym (some_is h))
-marker_got (x ∷ []) (suc n) b e h = absurd (omega (arith, e))
-marker_got (x ∷ y ∷ bs) zero b e h = absurd (omega (arith, e))
 marker_got (x ∷ y ∷ bs) (suc n) b e h = marker_got (y ∷ bs) n b (omega (arith, e)) h
+marker_got _ _ b e h = absurd (omega (arith, e))
 
 some_length : (bs : List ℕ) (b : ℕ) → slice_get bs (length bs - 1) ≡ Some b → suc (length bs - 1) ≡ length bs
 some_length [] b h = absurd (cc)
@@ -88,15 +86,11 @@ front_again : (new : List (List ℕ)) (q : List ℕ) (m : Result (List (List ℕ
 front_again new q (Ok qs) = ap Ok (sym (append_assoc new (q ∷ []) qs))
 front_again new q (Err k) = refl
 
-kept_is : (b : Bool) (q place : List ℕ) → cond b None (Some q) ≡ Some place → (b ≡ false) × (q ≡ place)
-kept_is true q place h = absurd (cc)
-kept_is false q place h = (refl, some_is h)
-
 -- a key that fits is behind the new keys so far
 pub one_more : (from to : List ℕ) (new : List (List ℕ)) (k place : List ℕ) (rest : List (List ℕ)) → fitting (new_key from to k) ≡ Some place
     → with_front new (new_keys from to (k ∷ rest)) ≡ with_front (new ++ place ∷ []) (new_keys from to rest)
 one_more from to new k place rest h =
     let q = new_key from to k in
     let m = new_keys from to rest in
-    let is = kept_is (is_too_long q) q place h in
+    let is = ((elim (is_too_long q) as (λ b. cond b None (Some q) ≡ Some place → (b ≡ false) × (q ≡ place)) [ true ↦ λ h. absurd (cc) | false ↦ λ h. (refl, some_is h) ]) h) in
     ap (λ b. with_front new (cond b (Err k) (with_front (q ∷ []) m))) is.0 ∙ front_again new q m ∙ ap (λ l. with_front (new ++ l ∷ []) m) is.1

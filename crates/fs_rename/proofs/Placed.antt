@@ -1,7 +1,7 @@
 -- The moves of a file, and of a directory with all that is below it.
 use Rattle.std.proofs.Common.{◌≡◌, ◌⊎◌, inl, inr, ℕ, cond, Bool, true, false, List, [], ◌∷◌, ◌++◌, Some, None, Result, Ok, Err, refl, sym, ap, subst, ◌∙◌}
-use Rattle.path_keys.proofs.Common.{false≢true, irrefl, lt_not, none_some, true_or_false, none_or_some}
-use Rattle.fs_ops.specs.Prelude.{is_lt, text_cmp, text_total, Objects, without, begins, Object, IsIn, RisesFrom, marker_of, Stands, NoneBelow, is_marker, HasFile, IsDirectory, parent, marker_if, IsMove, is_too_long, IsFileMoved, IsDirMoved, keys_below}
+use Rattle.path_keys.proofs.Common.{false≢true, append_cancel_left, irrefl, lt_not, none_some, true_or_false, none_or_some}
+use Rattle.fs_ops.specs.Prelude.{is_lt, text_cmp, text_total, Objects, without, begins, Object, IsIn, RisesFrom, marker_of, Stands, NoneBelow, is_marker, HasFile, IsDirectory, parent, marker_if, IsMove, is_too_long, AllFit, IsFirstTooLong, IsFileMoved, IsDirMoved, keys_below}
 use Rattle.std.specs.FinMap as fin
 use Rattle.store_frame.proofs.Flat.{listed_rises, behind}
 use Rattle.fs_tree.proofs.Begins.{begins_more, one_begins}
@@ -40,11 +40,7 @@ module _ (from to : List ℕ) where
   found x ks ls ih false f (Ok rs) g e =
       let w = ih rs g in
       let h : new_key from to x ∷ rs ≡ ls = cc in
-      (sym h ∙ ap (λ l. new_key from to x ∷ l) w.0, λ k i. each k i w.1)
-    where
-      each : (k : List ℕ) → (k ≡ x) ⊎ IsIn k ks → ((k : List ℕ) → IsIn k ks → is_too_long (new_key from to k) ≡ false) → is_too_long (new_key from to k) ≡ false
-      each k (inl i) h = ap (λ v. is_too_long (new_key from to v)) i ∙ f
-      each k (inr i) h = h k i
+      (sym h ∙ ap (λ l. new_key from to x ∷ l) w.0, λ k i. elim i [ inl i ↦ ap (λ v. is_too_long (new_key from to v)) i ∙ f | inr i ↦ w.1 k i ])
 
   pub all_found : (ks ls : List (List ℕ)) → new_keys from to ks ≡ Ok ls → (ls ≡ targets (moves_to from to ks)) × ((k : List ℕ) → IsIn k ks → is_too_long (new_key from to k) ≡ false)
   all_found [] ls e = (cc, λ k i. absurd i)
@@ -67,11 +63,7 @@ module _ (from to : List ℕ) where
   long x ks k o ih false f (Err y) g e =
       let h : y ≡ k = cc in
       let w = ih k (g ∙ ap Err h) in
-      (inr w.0, w.1, λ j i l. each j i l w.2)
-    where
-      each : (j : List ℕ) → (j ≡ x) ⊎ IsIn j ks → is_lt (text_cmp j k) ≡ true → ((j : List ℕ) → IsIn j ks → is_lt (text_cmp j k) ≡ true → is_too_long (new_key from to j) ≡ false) → is_too_long (new_key from to j) ≡ false
-      each j (inl i) l h = ap (λ v. is_too_long (new_key from to v)) i ∙ f
-      each j (inr i) l h = h j i l
+      (inr w.0, w.1, λ j i l. elim i [ inl i ↦ ap (λ v. is_too_long (new_key from to v)) i ∙ f | inr i ↦ w.2 j i l ])
 
   pub first_long : (x : List ℕ) (ks : List (List ℕ)) (k : List ℕ) → RisesFrom x ks → new_keys from to ks ≡ Err k → IsFirst ks k
   first_long x [] k o e = absurd (cc)
@@ -90,30 +82,12 @@ module _ (z : Objects) (x : ℕ) (p : List ℕ) (y : ℕ) (q : List ℕ) where
 
   pub file_free : HasFile z (x ∷ p) → fin.get z (y ∷ q) ≡ None → AreFree z F
   file_free h n = record {
-    stands = λ k l i. stood k l i;
-    free = λ k l i. free k l i;
-    one = λ k j l a b. same k j l a b;
-    only = λ k l i a b. only k l i a b;
+    stands = λ k l i. elim i [ inl e ↦ (h.0, ap (fin.get z) e.0 ∙ h.1) | inr e ↦ absurd e ];
+    free = λ k l i. elim i [ inl e ↦ ap (fin.get z) e.1 ∙ n | inr e ↦ absurd e ];
+    one = λ k j l a b. elim a [ inl a ↦ elim b [ inl b ↦ a.0 ∙ sym b.0 | inr b ↦ absurd b ] | inr a ↦ absurd a ];
+    only = λ k l i a b. elim a [ inl a ↦ elim b [ inl b ↦ a.1 ∙ sym b.1 | inr b ↦ absurd b ] | inr a ↦ absurd a ];
     rises = (refl, tt);
   }
-    where
-      stood : (k l : List ℕ) → IsOneOf k l F → Stands z k
-      stood k l (inl e) = (h.0, ap (fin.get z) e.0 ∙ h.1)
-      stood k l (inr e) = absurd e
-
-      free : (k l : List ℕ) → IsOneOf k l F → fin.get z l ≡ None
-      free k l (inl e) = ap (fin.get z) e.1 ∙ n
-      free k l (inr e) = absurd e
-
-      same : (k j l : List ℕ) → IsOneOf k l F → IsOneOf j l F → k ≡ j
-      same k j l (inl a) (inl b) = a.0 ∙ sym b.0
-      same k j l (inl a) (inr b) = absurd b
-      same k j l (inr a) b = absurd a
-
-      only : (k l i : List ℕ) → IsOneOf k l F → IsOneOf k i F → l ≡ i
-      only k l i (inl a) (inl b) = a.1 ∙ sym b.1
-      only k l i (inl a) (inr b) = absurd b
-      only k l i (inr a) b = absurd a
 
   pub file_to : HasFile z (x ∷ p) → (k l : List ℕ) → IsMove z (x ∷ p) (y ∷ q) k l → IsOneOf k l F
   file_to h k l m = inl (only_file z x p (y ∷ q) h k l m)
@@ -159,10 +133,6 @@ module _ (z : Objects) (x : ℕ) (p : List ℕ) (y : ℕ) (q : List ℕ) where
   dir_stands : (k l : List ℕ) → IsOneOf k l D → Stands z k
   dir_stands k l i = (below_stands P z k (move_of P Q (keys_below P z) k l i).0).1
 
-  same_rest : (a r s : List ℕ) → a ++ r ≡ a ++ s → r ≡ s
-  same_rest [] r s e = e
-  same_rest (b ∷ a) r s e = let f : a ++ r ≡ a ++ s = cc in same_rest a r s f
-
   begins_rest : (a k rest : List ℕ) → k ≡ a ++ rest → begins a k ≡ true
   begins_rest a k rest e = ap (begins a) e ∙ begins_more a rest
 
@@ -173,7 +143,7 @@ module _ (z : Objects) (x : ℕ) (p : List ℕ) (y : ℕ) (q : List ℕ) where
     one = λ k j l a b.
         let r = moved_rest k l a in
         let s = moved_rest j l b in
-        r.1 ∙ ap (λ v. P ++ v) (same_rest Q r.0 s.0 (sym r.2 ∙ s.2)) ∙ sym s.1;
+        r.1 ∙ ap (λ v. P ++ v) (append_cancel_left Q r.0 s.0 (sym r.2 ∙ s.2)) ∙ sym s.1;
     only = λ k l i a b. (move_of P Q (keys_below P z) k l a).1 ∙ sym (move_of P Q (keys_below P z) k i b).1;
     rises = subst (RisesFrom []) (sym (sources_to P Q (keys_below P z))) (listed_rises P [] z);
   }
@@ -183,9 +153,6 @@ module _ (z : Objects) (x : ℕ) (p : List ℕ) (y : ℕ) (q : List ℕ) where
       subst (λ l. IsOneOf (P ++ rest) l D) (new_is P Q rest)
       (to_move P Q (keys_below P z) (P ++ rest) (stands_below x (marker_of p) z (P ++ rest) v (begins_more P rest) s))
 
-  pub to_dir_move : (k : List ℕ) → IsIn k (keys_below P z) → IsOneOf k (new_key P Q k) D
-  to_dir_move k i = to_move P Q (keys_below P z) k i
-
   pub dir_to : IsDirectory z (x ∷ p) → (k l : List ℕ) → IsMove z (x ∷ p) (y ∷ q) k l → IsOneOf k l D
   dir_to h k l (inl m) = absurd (none_some h.0 m.0.1)
   dir_to h k l (inr m) =
@@ -194,6 +161,21 @@ module _ (z : Objects) (x : ℕ) (p : List ℕ) (y : ℕ) (q : List ℕ) where
 
   pub dir_from : IsDirectory z (x ∷ p) → (k l : List ℕ) → IsOneOf k l D → IsMove z (x ∷ p) (y ∷ q) k l
   dir_from h k l i = let r = moved_rest k l i in inr (h, dir_stands k l i, (r.0, r.1, r.2))
+
+  -- all its keys fit
+  pub dir_fit : IsDirectory z (x ∷ p) → ((k : List ℕ) → IsIn k (keys_below P z) → is_too_long (new_key P Q k) ≡ false) → AllFit z (x ∷ p) (y ∷ q)
+  dir_fit h f k l i = let w = move_of P Q (keys_below P z) k l (dir_to h k l i) in ap is_too_long w.1 ∙ f k w.0
+
+  -- or this is the first that does not
+  pub dir_long : (k : List ℕ) → IsDirectory z (x ∷ p) → new_keys P Q (keys_below P z) ≡ Err k → IsFirstTooLong z (x ∷ p) (y ∷ q) k
+  dir_long k h e =
+      let w = first_long P Q [] (keys_below P z) k (listed_rises P [] z) e in
+      record {
+        new = new_key P Q k;
+        moves = dir_from h k (new_key P Q k) (to_move P Q (keys_below P z) k w.0);
+        long = w.1;
+        first = λ j l i less. let v = move_of P Q (keys_below P z) j l (dir_to h j l i) in ap is_too_long v.1 ∙ w.2 j v.0 less;
+      }
 
   -- the marker above it is no key below it
   pub dir_apart : (k : List ℕ) → marker_if (parent (x ∷ p)) ≡ Some k → IsIn k (sources D) → ⊥
@@ -219,36 +201,26 @@ module _ (z : Objects) (x : ℕ) (p : List ℕ) (y : ℕ) (q : List ℕ) where
     no_target rest n i =
         let w = is_target D (Q ++ rest) i in
         let r = moved_rest w.0 (Q ++ rest) w.1 in
-        let s = dir_stands w.0 (Q ++ rest) w.1 in
-        none_some n (ap (λ v. fin.get z (P ++ v)) (same_rest Q rest r.0 r.2) ∙ ap (fin.get z) (sym r.1) ∙ s.1)
+        none_some n (ap (λ v. fin.get z (P ++ v)) (append_cancel_left Q rest r.0 r.2) ∙ ap (fin.get z) (sym r.1) ∙ (dir_stands w.0 (Q ++ rest) w.1).1)
 
     moved : (rest : List ℕ) → fin.get N (Q ++ rest) ≡ fin.get z (P ++ rest)
-    moved rest = by (none_or_some (fin.get z (P ++ rest)))
+    moved rest = elim (none_or_some (fin.get z (P ++ rest))) [
+      | inl n ↦ others_at_end None z D h (Q ++ rest) (no_source (Q ++ rest) free) (no_target rest n) ∙ free ∙ sym n
+      | inr s ↦ new_at_end None z D h (P ++ rest) (Q ++ rest) (to_dir rest s.0 s.1)
+    ]
       where
         free : fin.get z (Q ++ rest) ≡ None
         free = none (Q ++ rest) (begins_more Q rest)
 
-        by : (fin.get z (P ++ rest) ≡ None) ⊎ ((v : Object) × (fin.get z (P ++ rest) ≡ Some v)) → fin.get N (Q ++ rest) ≡ fin.get z (P ++ rest)
-        by (inl n) = others_at_end None z D h (Q ++ rest) (no_source (Q ++ rest) free) (no_target rest n) ∙ free ∙ sym n
-        by (inr s) = new_at_end None z D h (P ++ rest) (Q ++ rest) (to_dir rest s.0 s.1)
-
     gone : (k : List ℕ) → begins P k ≡ true → fin.get N k ≡ None
-    gone k b = by (none_or_some (fin.get z k))
+    gone k b = elim (none_or_some (fin.get z k)) [
+      | inl n ↦ others_at_end None z D h k (no_source k n) (other (true_or_false (begins Q k))) ∙ n
+      | inr s ↦ let w = is_source D k (subst (IsIn k) (sym (sources_to P Q (keys_below P z))) (stands_below x (marker_of p) z k s.0 b s.1)) in old_at_end None z D h k w.0 w.1
+    ]
       where
-        both : (begins P Q ≡ true) ⊎ (begins Q P ≡ true) → ⊥
-        both (inl f) = apart f
-        both (inr f) = above f
-
         other : (begins Q k ≡ true) ⊎ (begins Q k ≡ false) → IsIn k (targets D) → ⊥
-        other (inl t) i = both (one_begins P Q k b t)
+        other (inl t) i = elim (one_begins P Q k b t) [ inl f ↦ apart f | inr f ↦ above f ]
         other (inr f) i = not_target k f i
-
-        by : (fin.get z k ≡ None) ⊎ ((v : Object) × (fin.get z k ≡ Some v)) → fin.get N k ≡ None
-        by (inl n) = others_at_end None z D h k (no_source k n) (other (true_or_false (begins Q k))) ∙ n
-        by (inr s) =
-            let i = subst (IsIn k) (sym (sources_to P Q (keys_below P z))) (stands_below x (marker_of p) z k s.0 b s.1) in
-            let w = is_source D k i in
-            old_at_end None z D h k w.0 w.1
 
     pub dir_moved : IsDirMoved (x ∷ p) (y ∷ q) z N
     dir_moved = record {

@@ -1,13 +1,11 @@
 -- The target as a new place.
-use Rattle.std.proofs.Common.{◌≡◌, ℕ, suc, ◌<◌, ◌==◌, true, false, List, [], ◌∷◌, length, Some, None, refl, arith}
-use Rattle.path_keys.proofs.Common.{true≢false, eqb-true, none_some}
+use Rattle.std.proofs.Common.{◌≡◌, ℕ, ◌<◌, ◌==◌, true, false, List, [], ◌∷◌, length, Some, None, refl, sym, ◌∙◌, arith}
+use Rattle.path_keys.proofs.Common.{true≢false, none_some}
 use Rattle.fs_ops.specs.Prelude.{are_elements, is_key, is_marker, prefix_of}
 use Rattle.path_keys.proofs.Keys.{some_key}
+use Rattle.fs_ops.proofs.MarkerAbove.{not_zero}
 use Rattle.fs_tree.proofs.Begins.{marker_is}
 use Rattle.fs_rename.specs.Keys.{place_of}
-
-pub not_zero : (n : ℕ) → (suc n == 0) ≡ true → ⊥
-not_zero n e = let z = eqb-true (suc n) 0 e in absurd (omega (arith, z))
 
 pub some_long : (s : List ℕ) → (length s == 0) ≡ false → 0 < length s
 some_long [] h = absurd (true≢false h)
@@ -18,12 +16,12 @@ target_elements t f k = (some_key t (some_long t f) k).0
 
 pub source_none : (s t : List ℕ) → (length s == 0) ≡ true → place_of s t ≡ None
 source_none [] t h = refl
-source_none (x ∷ s) t h = absurd (not_zero (length s) h)
+source_none (x ∷ s) t h = absurd (true≢false (sym h ∙ not_zero (length s)))
 
 pub target_none : (s t : List ℕ) → (length t == 0) ≡ true → place_of s t ≡ None
 target_none [] t h = refl
 target_none (x ∷ s) [] h = refl
-target_none (x ∷ s) (y ∷ t) h = absurd (not_zero (length t) h)
+target_none (x ∷ s) (y ∷ t) h = absurd (true≢false (sym h ∙ not_zero (length t)))
 
 pub target_some : (s t : List ℕ) → (length s == 0) ≡ false → (length t == 0) ≡ false → place_of s t ≡ Some t
 target_some [] t f g = absurd (true≢false f)

@@ -1,30 +1,28 @@
 -- Renaming, stage by stage.
-use Rattle.std.specs.Prelude.{◌≡◌, ◌⊎◌, ℕ, ◌+◌, Bool, true, false, List, [], ◌∷◌, Option, Some, None, Result, Ok, Err, cond, drop}
+use Rattle.std.specs.Prelude.{◌≡◌, ℕ, ◌+◌, Bool, true, false, List, [], ◌∷◌, Option, Some, None, Result, Ok, Err, cond, drop}
 use Rattle.std.proofs.Common.{refl, sym, ap, subst, ◌∙◌, arith, inl, inr}
 use Rattle.path_keys.proofs.Common.{false≢true, append-nil, irrefl}
-use Rattle.fs_ops.specs.Prelude.{is_lt, text_cmp, text_total, Objects, page, listed, begins, PageEntry, IsIn, Step, End, Goes, Falls, Look, There, NoBucket, Other, look_of, reply_in, edited, is_look, IsPhases, MayAsk, marker_of, keys_on, Walked, More, Whole, walked_entries, Listing, Deleting, sweep_hears, deleting, all_go, SourceMissing, UnderSource, TargetFile, TargetExists, ParentMissing, ParentIsFile, TooLong, SomeBelow, NoneBelow, marker, HasFile, IsDirectory, IsAbsent, parent, marker_if, IsMarked, IsAtOrBelow, inside, is_too_long, AllFit, IsFirstTooLong, RenameRefusal, Renames, key_if, prefix_of, keys_below, walk_asks, IsWalking, IsWalked, fits, IsDeleted, sweep_asks}
+use Rattle.fs_ops.specs.Prelude.{is_lt, text_cmp, text_total, Objects, begins, PageEntry, IsIn, Step, Goes, Falls, Look, There, look_of, reply_in, edited, is_look, IsPhases, MayAsk, marker_of, keys_on, Walked, More, Whole, walked_entries, Listing, Deleting, sweep_hears, deleting, all_go, SourceMissing, UnderSource, TargetFile, TargetExists, ParentMissing, ParentIsFile, TooLong, marker, HasFile, IsDirectory, IsAbsent, parent, marker_if, IsMarked, IsAtOrBelow, inside, is_too_long, AllFit, IsFirstTooLong, RenameRefusal, Renames, key_if, prefix_of, keys_below, walk_asks, IsWalking, IsWalked, fits, IsDeleted, sweep_asks}
 use Rattle.fs_tree.specs.Prelude.{MayMove}
 use Rattle.std.specs.FinMap as fin
-use Rattle.store_frame.proofs.Flat.{listed_rises}
-use Rattle.bucket_ops.specs.declared.look.Look.TheVariants.{Nothing as NothingThere}
 use Rattle.list_walk.specs.Walks as walks
 use Rattle.fs_tree.specs.declared.rename.RenameRefusal.TheVariants.{NoSuchBucket}
 use Rattle.fs_tree.specs.Renames.{RenamesPath}
 use Rattle.fs_tree.proofs.Begins.{marker_at, begins_all, begins_trans, begins_marker}
-use Rattle.fs_ops.proofs.StepLaws.{not_missing}
+use Rattle.fs_ops.proofs.AtPathLaws.{look_still}
+use Rattle.fs_ops.proofs.StepLaws.{phases_of}
 use Rattle.bucket_ops.proofs.Sweeps.{sweep_fits, sweep_falls, sweep_stays}
 use Rattle.bucket_ops.proofs.Walks.{walk_fits, walk_goes, walk_falls}
 use Rattle.bucket_ops.proofs.Batches.{batch_goes, deleting_all}
 use Rattle.bucket_ops.proofs.Below.{stands_below}
-use Rattle.fs_ops.proofs.DeleteLaws.{parent_page}
-use Rattle.fs_ops.proofs.Looks.{IsSeen}
+use Rattle.fs_ops.proofs.DeleteLaws.{parent_key}
 use Rattle.fs_rename.specs.declared.copying.Copying.{Copying}
 use Rattle.fs_rename.specs.declared.copying.CopyStep.{CopyStep}
 use Rattle.fs_rename.specs.declared.copying.CopyStep.TheVariants.{Next as NextCopy, All}
-use Rattle.fs_rename.specs.Keys.{new_key, new_keys}
+use Rattle.fs_rename.specs.Keys.{new_keys}
 use Rattle.fs_rename.specs.Copies.{sources, copied_all, copy_asks, has_more, copied_next, IsCopied, copies_left, LessCopies, moves_of}
 use Rattle.fs_rename.proofs.CopyLaws.{copying_goes, copying_falls}
-use Rattle.fs_rename.proofs.Placed.{move_of, sources_to, all_found, first_long, only_file, dir_to, dir_from, to_dir_move}
+use Rattle.fs_rename.proofs.Placed.{sources_to, all_found, only_file, dir_fit, dir_long}
 use Rattle.fs_rename.specs.declared.stages.Spot.{Spot}
 use Rattle.fs_rename.specs.declared.stages.Spot.TheVariants.{Source, Target, Inside, Above}
 use Rattle.fs_rename.specs.declared.stages.Kind.{Kind}
@@ -34,37 +32,28 @@ use Rattle.fs_rename.specs.declared.stages.RenameStage.TheVariants.{Look as Look
 use Rattle.fs_rename.specs.code.Rename.{Renaming, Answer, place_at, asks_at, inside_asks_if, seen_inside, seen_at, is_root_at, is_none, kind_of, one_copy, file_to, go, begun as begun_at, on_source, on_target, on_inside, on_above, found, looked, with_places, listed_to, on_walked, on_walk, up_to, up, swept, on_copied, on_batch, on_parent, first, asks, on, goes, look_at_asks}
 use Rattle.fs_rename.specs.code.Meaning.{IsSource, Begun, Before, path_at, NoFileIf, IsReady, MayGo, IsMoved, holds, gives, always, sends, left}
 use Rattle.fs_rename.proofs.Seen.{Tells, TellsKind, place_tells, inside_tells}
+use Rattle.fs_rename.proofs.Told.{no_root, stands}
 use Rattle.fs_rename.proofs.Steps.{fall_looked, fall_walked, fall_swept, fall_all, fall_parent}
-
--- ---- the source
-
--- it is not the root
-no_root : (d : Bool) (z : Objects) → IsSource d z [] → ⊥
-no_root true z h = h.0
-no_root false z h = h.1
-
-stands : (d : Bool) (z : Objects) (x : ℕ) (p : List ℕ) → IsSource d z (x ∷ p) → HasFile z (x ∷ p) ⊎ IsDirectory z (x ∷ p)
-stands true z x p h = inr h
-stands false z x p h = inl h
 
 -- ---- a look changes nothing
 
-still_at : (p : List ℕ) (b : Bool) (m : Objects) → edited (asks_at p b) m ≡ m
-still_at [] true m = refl
-still_at [] false m = refl
-still_at (x ∷ p) true m = refl
-still_at (x ∷ p) false m = refl
+looks_at : (b : Bool) (p : List ℕ) → is_look (asks_at p b) ≡ true
+looks_at false [] = refl
+looks_at _ _ = refl
 
-still_in : (o : Renaming) (q : Option (List ℕ)) (b : Bool) (m : Objects) → edited (inside_asks_if o q b) m ≡ m
-still_in o None b m = still_at o.source b m
-still_in o (Some q) true m = refl
-still_in o (Some q) false m = refl
+looks_in : (o : Renaming) (q : Option (List ℕ)) (b : Bool) → is_look (inside_asks_if o q b) ≡ true
+looks_in o None b = looks_at b o.source
+looks_in o (Some q) true = refl
+looks_in o (Some q) false = refl
+
+looks_there : (o : Renaming) (s : Spot) (b : Bool) → is_look (look_at_asks o s b) ≡ true
+looks_there o Source b = looks_at b o.source
+looks_there o Target b = looks_at b o.target
+looks_there o Above b = looks_at b (parent o.target)
+looks_there o Inside b = looks_in o (place_at o true) b
 
 still : (o : Renaming) (s : Spot) (b : Bool) (m : Objects) → edited (look_at_asks o s b) m ≡ m
-still o Source b m = still_at o.source b m
-still o Target b m = still_at o.target b m
-still o Above b m = still_at (parent o.target) b m
-still o Inside b m = still_in o (place_at o true) b m
+still o s b m = look_still (look_at_asks o s b) m (looks_there o s b)
 
 module _ (x : ℕ) (p t : List ℕ) (z : Objects) where
   abbrev O : Renaming
@@ -88,11 +77,7 @@ module _ (x : ℕ) (p t : List ℕ) (z : Objects) where
 
   under_is : (t : List ℕ) → begins (marker_of (x ∷ p)) (prefix_of t) ≡ true → IsAtOrBelow (x ∷ p) t
   under_is [] b = absurd (false≢true b)
-  under_is (y ∷ t) b = by (marker_at (x ∷ p) (y ∷ t) b)
-    where
-      by : (x ∷ p ≡ y ∷ t) ⊎ (begins (marker_of (x ∷ p)) (y ∷ t) ≡ true) → IsAtOrBelow (x ∷ p) (y ∷ t)
-      by (inl e) = inl (sym e)
-      by (inr b) = inr b
+  under_is (y ∷ t) b = elim (marker_at (x ∷ p) (y ∷ t) b) [ inl e ↦ inl (sym e) | inr b ↦ inr b ]
 
   begins_at : (u d : Bool) → begins (marker_of (x ∷ p)) (prefix_of t) ≡ u → IsSource d z (x ∷ p) → On (begun_at u d) z
   begins_at true d e h = (stands d z x p h, under_is t e, refl)
@@ -102,10 +87,6 @@ module _ (x : ℕ) (p t : List ℕ) (z : Objects) where
   source_found File h = begins_at (begins (marker_of (x ∷ p)) (prefix_of t)) false refl h
   source_found Directory h = begins_at (begins (marker_of (x ∷ p)) (prefix_of t)) true refl h
   source_found Nothing h = (h, refl)
-
-  target_found : (d : Bool) (k : Kind) → Begun O z d → TellsKind z t k → On (on_target d k) z
-  target_found d File b h = (may_move d b, inl h, refl)
-  target_found d _ b h = (refl, (b, h), tt)
 
   -- ---- the file's own key, or the keys below the directory
 
@@ -147,7 +128,7 @@ module _ (x : ℕ) (p t : List ℕ) (z : Objects) where
 
   kind_found : (s : Spot) (d : Bool) (k : Kind) → Before O z s d → TellsKind z (path_at O s) k → On (found O s d k) z
   kind_found Source d k b h = source_found k h
-  kind_found Target d k b h = target_found d k b h
+  kind_found Target d k b h = (elim k as (λ k. TellsKind z t k → On (on_target d k) z) [ File ↦ λ h. (may_move d b, inl h, refl) | _ ↦ λ h. (refl, (b, h), tt) ]) h
   kind_found Inside d k b h = inside_found d k b.0 b.1 h
   kind_found Above d k b h = above_found d k b.0 b.1 h
 
@@ -160,27 +141,15 @@ module _ (x : ℕ) (p t : List ℕ) (z : Objects) where
   some_listed : IsSource true z (x ∷ p) → keys_below (marker_of (x ∷ p)) z ≡ [] → ⊥
   some_listed h e = subst (IsIn h.1.0) e (stands_below x (marker_of p) z h.1.0 h.1.2 h.1.1 h.1.3)
 
-  all_fit : (y : ℕ) (q : List ℕ) → IsSource true z (x ∷ p) → ((k : List ℕ) → IsIn k (keys_below (marker_of (x ∷ p)) z) → is_too_long (new_key (marker_of (x ∷ p)) (marker_of (y ∷ q)) k) ≡ false) → AllFit z (x ∷ p) (y ∷ q)
-  all_fit y q h f k l i =
-      let w = move_of (marker_of (x ∷ p)) (marker_of (y ∷ q)) (keys_below (marker_of (x ∷ p)) z) k l (dir_to z x p y q h k l i) in
-      ap is_too_long w.1 ∙ f k w.0
-
-  first_fit : (y : ℕ) (q k : List ℕ) → IsSource true z (x ∷ p) → new_keys (marker_of (x ∷ p)) (marker_of (y ∷ q)) (keys_below (marker_of (x ∷ p)) z) ≡ Err k → IsFirstTooLong z (x ∷ p) (y ∷ q) k
-  first_fit y q k h e =
-      let w = first_long (marker_of (x ∷ p)) (marker_of (y ∷ q)) [] (keys_below (marker_of (x ∷ p)) z) k (listed_rises (marker_of (x ∷ p)) [] z) e in
-      record {
-        new = new_key (marker_of (x ∷ p)) (marker_of (y ∷ q)) k;
-        moves = dir_from z x p y q h k (new_key (marker_of (x ∷ p)) (marker_of (y ∷ q)) k) (to_dir_move z x p y q k w.0);
-        long = w.1;
-        first = λ j l i less.
-            let v = move_of (marker_of (x ∷ p)) (marker_of (y ∷ q)) (keys_below (marker_of (x ∷ p)) z) j l (dir_to z x p y q h j l i) in
-            ap is_too_long v.1 ∙ w.2 j v.0 less;
-      }
-
   placed : (i : Bool) (y : ℕ) (q : List ℕ) → IsReady O z true i (y ∷ q) → (keys : List (List ℕ)) → keys ≡ keys_below (marker_of (x ∷ p)) z
       → (r : Result (List (List ℕ)) (List ℕ)) → new_keys (marker_of (x ∷ p)) (marker_of (y ∷ q)) keys ≡ r → On (with_places keys r) z
   placed i y q h keys e (Err k) f = (
-    (y ∷ q, record { source = may_move true h.begun; place = h.place; free = h.free }, first_fit y q k h.begun.source (ap (new_keys (marker_of (x ∷ p)) (marker_of (y ∷ q))) (sym e) ∙ f)),
+    (
+      y ∷ q,
+      record { source = may_move true h.begun; place = h.place; free = h.free },
+      dir_long z x p y q k h.begun.source
+          (ap (new_keys (marker_of (x ∷ p)) (marker_of (y ∷ q))) (sym e) ∙ f),
+    ),
     refl,
   )
   placed i y q h [] e (Ok ls) f = absurd (some_listed h.begun.source (sym e))
@@ -189,7 +158,7 @@ module _ (x : ℕ) (p t : List ℕ) (z : Objects) where
         true,
         i,
         y ∷ q,
-        record { ready = h; fit = all_fit y q h.begun.source w.1 },
+        record { ready = h; fit = dir_fit z x p y q h.begun.source w.1 },
         record { keys = e ∙ sym (sources_to (marker_of (x ∷ p)) (marker_of (y ∷ q)) (keys_below (marker_of (x ∷ p)) z)); places = w.0; some = omega arith; copied = refl },
       )
 
@@ -234,11 +203,6 @@ module _ (x : ℕ) (p t : List ℕ) (z : Objects) where
       (batches d i q g (deleting (drop 1000 (k ∷ ks))) (edited (sweep_asks (marker_of (x ∷ p)) (Deleting k ks)) m)
       (batch_goes (copied_all z (moves_of d (x ∷ p) q z)) (sources (moves_of d (x ∷ p) q z)) (k ∷ ks) m h))
 
-  parent_seen : (k : List ℕ) (m : Objects) (l : Look) → marker_if (parent (x ∷ p)) ≡ Some k → IsMoved O z m → IsSeen l (SomeBelow m k) (NoneBelow m k) → On (on_parent k l) m
-  parent_seen k m There e h s = (m, h, subst (λ u. IsMarked u m m) (sym e) (inl (s, refl)))
-  parent_seen k m NothingThere e h s = (e, h, s)
-  parent_seen k m _ e h s = absurd s
-
   -- ---- each stage
 
   tells_inside : (u : List ℕ) (b : Bool) → NoFileIf b z u → Tells z u (kind_of (is_none (key_if u)) b (seen_inside (key_if u) b (reply_in z (inside_asks_if O (key_if u) b))))
@@ -259,7 +223,7 @@ module _ (x : ℕ) (p t : List ℕ) (z : Objects) where
       subst (λ m. On (on_walk O i found (reply_in m (walk_asks (marker_of (x ∷ p)) found)) (fits (reply_in m (walk_asks (marker_of (x ∷ p)) found)))) m) (sym h.0) (walking i h.1.0 found h.1.1 h.2)
   step (Copy c) m h = copied_on h.0 h.1 h.2 h.3 (copied_next (has_more c) c) (edited (copy_asks c) m) (copying_goes z (moves_of h.0 (x ∷ p) h.2 z) c m h.4)
   step (Batch w) m h = batch_on h.0 h.1 h.2 h.3 w m h.4
-  step (Parent k) m h = parent_seen k m (look_of (page 1 (listed k false [] m))) h.0 h.1 (parent_page (parent (x ∷ p)) k m h.0)
+  step (Parent k) m h = parent_key (λ l. On (on_parent k l) m) (parent (x ∷ p)) k m h.0 (λ s. (m, h.1, subst (λ u. IsMarked u m m) (sym h.0) (inl (s, refl)))) (λ n. (h.0, h.1, n))
   step (PutMarker k) m h = (m, h.1, subst (λ u. IsMarked u m (fin.insert m k marker)) (sym h.0) (inr (h.2, refl)))
 
 -- ---- at the root
@@ -285,12 +249,9 @@ steps (x ∷ p) t z s m h = step x p t z s m h
 
 -- where no file was seen the look below a path tells
 told : (r b : Bool) (l : Look) → b ≡ true → kind_of r b l ≡ None → ⊥
-told true b l e f = absurd (cc)
-told false true There e f = absurd (cc)
-told false true NothingThere e f = absurd (cc)
-told false true NoBucket e f = absurd (cc)
-told false true Other e f = absurd (cc)
 told false false l e f = false≢true e
+told false true There e f = absurd (cc)
+told _ _ _ e f = absurd (cc)
 
 falls_walk : (o : Renaming) (i : Bool) (found : List PageEntry) (m : Objects) → Falls (left o) (on o (Walk i found) (reply_in m (asks o (Walk i found)))) m (left o (Walk i found) m)
 falls_walk o i found m =
@@ -358,38 +319,17 @@ at_end o z (Err r) m h = inl (refused_at o.source o.target z m r h)
 
 -- ---- the laws
 
-there : (o : Renaming) (s : RenameStage) (m : Objects) → on o s (reply_in m (asks o s)) ≡ goes o s (reply_in m (asks o s))
-there o s m = sym (not_missing (End (Err NoSuchBucket)) (on o s (reply_in m (asks o s))) m (asks o s))
-
 pub rename_laws : IsPhases {O = Renaming} first asks goes holds gives always left (Err NoSuchBucket)
-rename_laws = record {
+rename_laws = phases_of (Err NoSuchBucket) (record {
   begin = λ o z. (refl, tt, tt);
-  goes_on = λ o z s m h. subst (λ y. Goes (holds o z) (gives o z) y (edited (asks o s) m)) (there o s m) (steps o.source o.target z s m h);
-  falls = λ o z s m h. subst (λ y. Falls (left o) y (edited (asks o s) m) (left o s m)) (there o s m) (falls o z s m h);
+  goes_on = λ o z s m h. steps o.source o.target z s m h;
+  falls = falls;
   stays = λ o z s m h. stays o s m;
-  during = λ o z s m h. during o z s m h;
-  at_end = λ o z a m h. at_end o z a m h;
-  missing = λ o s. refl;
-}
+  during = during;
+  at_end = at_end;
+})
 
 -- ---- what is asked
-
-looks_at : (p : List ℕ) (b : Bool) → is_look (asks_at p b) ≡ true
-looks_at [] true = refl
-looks_at [] false = refl
-looks_at (x ∷ p) true = refl
-looks_at (x ∷ p) false = refl
-
-looks_in : (o : Renaming) (q : Option (List ℕ)) (b : Bool) → is_look (inside_asks_if o q b) ≡ true
-looks_in o None b = looks_at o.source b
-looks_in o (Some q) true = refl
-looks_in o (Some q) false = refl
-
-looks_there : (o : Renaming) (s : Spot) (b : Bool) → is_look (look_at_asks o s b) ≡ true
-looks_there o Source b = looks_at o.source b
-looks_there o Target b = looks_at o.target b
-looks_there o Above b = looks_at (parent o.target) b
-looks_there o Inside b = looks_in o (place_at o true) b
 
 pub rename_asked : MayAsk {O = Renaming} asks holds sends
 rename_asked o z (Looking s b d) m h = inl (looks_there o s b)

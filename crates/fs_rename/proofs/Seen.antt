@@ -1,13 +1,13 @@
 -- What the looks of a renaming tell.
-use Rattle.std.proofs.Common.{◌≡◌, ◌⊎◌, inl, inr, ℕ, Bool, true, false, List, [], ◌∷◌, ◌++◌, map, take, Option, Some, None, refl, sym, ap, subst, ◌∙◌, if◌then◌else◌}
+use Rattle.std.proofs.Common.{◌≡◌, inl, inr, ℕ, Bool, true, false, List, [], ◌∷◌, ◌++◌, map, take, Option, Some, None, refl, sym, ap, subst, ◌∙◌, if◌then◌else◌}
 use Rattle.path_keys.proofs.Common.{false≢true, append-nil, none_or_some, text_is, text_true}
-use Rattle.fs_ops.specs.Prelude.{is_lt, text_cmp, text_eq, Objects, head, page, listed, begins, text_in, Object, PageEntry, IsIn, RisesFrom, Look, There, NoBucket, Other, look_of, reply_in, marker_of, Stands, SomeBelow, NoneBelow, HasFile, IsDirectory, IsAbsent, NoFileAt, keys_below}
+use Rattle.fs_ops.specs.Prelude.{is_lt, text_cmp, text_eq, Objects, listed, begins, text_in, Object, PageEntry, IsIn, RisesFrom, There, look_of, reply_in, marker_of, Stands, HasFile, IsDirectory, IsAbsent, NoFileAt, keys_below}
 use Rattle.std.specs.FinMap as fin
 use Rattle.store_frame.proofs.Flat.{listed_rises, behind}
 use Rattle.bucket_ops.specs.declared.look.Look.TheVariants.{Nothing as NothingThere}
 use Rattle.fs_tree.proofs.Begins.{begins_all}
 use Rattle.fs_tree.proofs.Moving.{rest_after}
-use Rattle.fs_ops.proofs.Looks.{IsSeen, head_tells, page_tells}
+use Rattle.fs_ops.proofs.Looks.{IsSeen, told, at_key, below_key}
 use Rattle.fs_ops.proofs.Showing.{cmp_behind}
 use Rattle.bucket_ops.proofs.Below.{below_stands, stands_below}
 use Rattle.fs_rename.specs.declared.stages.Kind.{Kind}
@@ -26,21 +26,11 @@ abbrev pub Tells : Objects → List ℕ → Option Kind → Type 0
 Tells z p (Some k) = TellsKind z p k
 Tells z p None = NoFileAt z p
 
-file_tells : (z : Objects) (x : ℕ) (p : List ℕ) (l : Look) → IsSeen l (Stands z (x ∷ p)) (fin.get z (x ∷ p) ≡ None) → Tells z (x ∷ p) (kind_of false false l)
-file_tells z x p NoBucket h = absurd h
-file_tells z x p Other h = absurd h
-file_tells z x p _ h = h
-
-below_tells : (z : Objects) (x : ℕ) (p : List ℕ) (l : Look) → NoFileAt z (x ∷ p) → IsSeen l (SomeBelow z (marker_of (x ∷ p))) (NoneBelow z (marker_of (x ∷ p))) → Tells z (x ∷ p) (kind_of false true l)
-below_tells z x p NoBucket n h = absurd h
-below_tells z x p Other n h = absurd h
-below_tells z x p _ n h = (n, h)
-
 -- a look at a path, or below it
 pub place_tells : (z : Objects) (p : List ℕ) (b : Bool) → NoFileIf b z p → Tells z p (kind_of (is_root p) b (look_of (reply_in z (asks_at p b))))
 place_tells z [] b n = (tt, tt)
-place_tells z (x ∷ p) false n = file_tells z x p (look_of (head (fin.get z (x ∷ p)))) (head_tells z (x ∷ p))
-place_tells z (x ∷ p) true n = below_tells z x p (look_of (page 1 (listed (marker_of (x ∷ p)) false [] z))) n (page_tells x (marker_of p) z)
+place_tells z (x ∷ p) false n = at_key (λ l. Tells z (x ∷ p) (kind_of false false l)) z (x ∷ p) (λ s. s) (λ s. s)
+place_tells z (x ∷ p) true n = below_key (λ l. Tells z (x ∷ p) (kind_of false true l)) x (marker_of p) z (λ s. (n, s)) (λ s. (n, s))
 
 -- ---- the first key that begins with a path is the path, where it stands
 
@@ -59,35 +49,28 @@ module _ (z : Objects) (x : ℕ) (p : List ℕ) where
   Q = x ∷ p
 
   first_tells : (l : List PageEntry) → listed Q false [] z ≡ l → IsSeen (first_is Q (take 1 l)) (Stands z Q) (fin.get z Q ≡ None)
-  first_tells [] e = by (none_or_some (fin.get z Q))
-    where
-      by : (fin.get z Q ≡ None) ⊎ ((v : Object) × (fin.get z Q ≡ Some v)) → fin.get z Q ≡ None
-      by (inl n) = n
-      by (inr s) = absurd (subst (λ l. IsIn Q (map text_in l)) e (stands_below x p z Q s.0 (begins_all Q) s.1))
+  first_tells [] e = elim (none_or_some (fin.get z Q)) [ inl n ↦ n | inr s ↦ absurd (subst (λ l. IsIn Q (map text_in l)) e (stands_below x p z Q s.0 (begins_all Q) s.1)) ]
   first_tells (y ∷ l) e = by (text_eq (text_in y) Q) refl
     where
       is_there : IsIn (text_in y) (keys_below Q z)
       is_there = subst (λ l. IsIn (text_in y) (map text_in l)) (sym e) (inl refl)
 
-      none : (text_in y ≡ Q → ⊥) → (fin.get z Q ≡ None) ⊎ ((v : Object) × (fin.get z Q ≡ Some v)) → fin.get z Q ≡ None
-      none f (inl n) = n
-      none f (inr s) = absurd (other (subst (λ l. IsIn Q (map text_in l)) e (stands_below x p z Q s.0 (begins_all Q) s.1)))
-        where
-          rises : RisesFrom (text_in y) (map text_in l)
-          rises = (subst (λ l. RisesFrom [] (map text_in l)) e (listed_rises Q [] z)).1
+      rises : RisesFrom (text_in y) (map text_in l)
+      rises = (subst (λ l. RisesFrom [] (map text_in l)) e (listed_rises Q [] z)).1
 
-          other : (Q ≡ text_in y) ⊎ IsIn Q (map text_in l) → ⊥
-          other (inl g) = f (sym g)
-          other (inr i) = absurd (not_first (behind (text_in y) Q (map text_in l) rises i))
-            where
-              not_first : is_lt (text_cmp (text_in y) Q) ≡ true → ⊥
-              not_first g = not_less Q (text_in y) (below_stands Q z (text_in y) is_there).0 g
+      none : (text_in y ≡ Q → ⊥) → (v : Object) → fin.get z Q ≡ Some v → ⊥
+      none f v s = elim (subst (λ l. IsIn Q (map text_in l)) e (stands_below x p z Q v (begins_all Q) s)) [
+        | inl g ↦ f (sym g)
+        | inr i ↦ not_less Q (text_in y) (below_stands Q z (text_in y) is_there).0 (behind (text_in y) Q (map text_in l) rises i)
+      ]
 
       by : (b : Bool) → text_eq (text_in y) Q ≡ b → IsSeen (if b then There else NothingThere) (Stands z Q) (fin.get z Q ≡ None)
       by true t = subst (Stands z) (text_is (text_in y) Q t) (below_stands Q z (text_in y) is_there).1
-      by false t = none (λ g. false≢true (sym t ∙ text_true (text_in y) Q g)) (none_or_some (fin.get z Q))
+      by false t = elim (none_or_some (fin.get z Q)) [ inl n ↦ n | inr s ↦ absurd (none (λ g. false≢true (sym t ∙ text_true (text_in y) Q g)) s.0 s.1) ]
 
   -- a look at a path that may be over the limit of keys, or below it
   pub inside_tells : (b : Bool) → NoFileIf b z Q → Tells z Q (kind_of false b (seen_inside (Some Q) b (reply_in z (inside_asks Q b))))
-  inside_tells false n = file_tells z x p (first_is Q (take 1 (listed Q false [] z))) (first_tells (listed Q false [] z) refl)
-  inside_tells true n = below_tells z x p (look_of (page 1 (listed (marker_of Q) false [] z))) n (page_tells x (marker_of p) z)
+  inside_tells false n =
+      told (Stands z Q) (fin.get z Q ≡ None) (λ l. Tells z Q (kind_of false false l)) (first_is Q (take 1 (listed Q false [] z))) (first_tells (listed Q false [] z) refl)
+      (λ s. s) (λ s. s)
+  inside_tells true n = place_tells z Q true n

@@ -1,7 +1,7 @@
 -- A renaming comes to an end.
 use Rattle.std.specs.Prelude.{◌≡◌, ℕ, ◌+◌, ◌*◌, ◌<◌, Bool, true, false, List, [], ◌∷◌, Result, Ok, Err, Option, Some, None, length}
 use Rattle.std.proofs.Common.{refl, arith}
-use Rattle.fs_ops.specs.Prelude.{Objects, Falls, Look, There, PageEntry, keys_on, Walked, More, Whole, sweep_start, deleting, parent, marker_if, prefix_of, key_if, sweep_left, LessLeft, LessWalked}
+use Rattle.fs_ops.specs.Prelude.{Objects, begins, Falls, Look, There, PageEntry, keys_on, Walked, More, Whole, sweep_start, deleting, parent, marker_if, prefix_of, key_if, sweep_left, LessLeft, LessWalked}
 use Rattle.list_walk.specs.Walks as walks
 use Rattle.bucket_ops.proofs.Sweeps.{length_keys}
 use Rattle.fs_rename.specs.declared.copying.CopyStep.TheVariants.{All}
@@ -11,36 +11,30 @@ use Rattle.fs_rename.specs.declared.stages.Spot.TheVariants.{Source, Target, Ins
 use Rattle.fs_rename.specs.declared.stages.Kind.{Kind}
 use Rattle.fs_rename.specs.declared.stages.Kind.TheVariants.{File, Directory, Nothing}
 use Rattle.fs_rename.specs.code.Meaning.{looks_left, left}
-use Rattle.fs_rename.specs.code.Rename.{Renaming, place_at, one_copy, file_to, go, begun, on_kind, on_source, on_target, on_inside, on_above, found, looked, with_places, listed_to, on_walked, up_to, swept, on_copied, on_parent}
+use Rattle.fs_rename.specs.code.Rename.{Renaming, place_at, one_copy, file_to, go, begun, on_source, on_target, on_inside, on_above, found, looked, with_places, listed_to, on_walked, up_to, swept, on_copied, on_parent}
 
 -- ---- it falls
 
 module _ (o : Renaming) (m : Objects) where
   fall_copy : (k l : Option (List ℕ)) (n : ℕ) → 6 < n → Falls (left o) (one_copy k l) m n
-  fall_copy None l n h = tt
-  fall_copy (Some k) None n h = tt
   fall_copy (Some k) (Some l) n h = omega (arith, h)
-
-  fall_file : (q : Option (List ℕ)) (n : ℕ) → 6 < n → Falls (left o) (file_to o q) m n
-  fall_file None n h = tt
-  fall_file (Some q) n h = fall_copy (key_if o.source) (fitting q) n h
+  fall_copy _ _ n h = tt
 
   fall_go : (d i : Bool) (n : ℕ) → 2 * sweep_left (prefix_of o.source) sweep_start m + 4 < n → Falls (left o) (go o d i) m n
   fall_go true i n h = h
-  fall_go false i n h = fall_file (place_at o i) n (omega (arith, h))
+  fall_go false i n h = elim (place_at o i) as (λ q. Falls (left o) (file_to o q) m n) [ None ↦ tt | Some q ↦ fall_copy (key_if o.source) (fitting q) n (omega (arith, h)) ]
 
   fall_begun : (u d : Bool) (n : ℕ) → 2 * sweep_left (prefix_of o.source) sweep_start m + 8 < n → Falls (left o) (begun u d) m n
   fall_begun true d n h = tt
   fall_begun false d n h = omega (arith, h)
 
-  fall_kind : (u : Bool) (k : Kind) (n : ℕ) → 2 * sweep_left (prefix_of o.source) sweep_start m + 8 < n → Falls (left o) (on_kind u k) m n
-  fall_kind u File n h = fall_begun u false n h
-  fall_kind u Directory n h = fall_begun u true n h
-  fall_kind u Nothing n h = tt
-
   fall_source : (r : Bool) (k : Kind) (n : ℕ) → 2 * sweep_left (prefix_of o.source) sweep_start m + 8 < n → Falls (left o) (on_source o r k) m n
   fall_source true k n h = tt
-  fall_source false k n h = fall_kind _ k n h
+  fall_source false k n h = elim k as (λ k. Falls (left o) (on_source o false k) m n) [
+    | File ↦ fall_begun (begins (prefix_of o.source) (prefix_of o.target)) false n h
+    | Directory ↦ fall_begun (begins (prefix_of o.source) (prefix_of o.target)) true n h
+    | Nothing ↦ tt
+  ]
 
   fall_target : (d : Bool) (k : Kind) (n : ℕ) → 2 * sweep_left (prefix_of o.source) sweep_start m + 6 < n → Falls (left o) (on_target d k) m n
   fall_target d File n h = tt
@@ -69,22 +63,19 @@ module _ (o : Renaming) (m : Objects) where
   fall_looked s d b (Some k) f = fall_found s d k b
   fall_looked s d true None f = absurd (f refl refl)
   fall_looked Source d false None f = omega arith
-  fall_looked Target d false None f = omega arith
-  fall_looked Inside d false None f = omega arith
-  fall_looked Above d false None f = omega arith
+  fall_looked _ d false None f = omega arith
 
   fall_places : (ks : List (List ℕ)) (r : Result (List (List ℕ)) (List ℕ)) (n : ℕ) → 2 * length ks + 4 < n → Falls (left o) (with_places ks r) m n
   fall_places ks (Err k) n h = tt
   fall_places [] (Ok ls) n h = tt
   fall_places (k ∷ ks) (Ok ls) n h = omega (arith, h)
 
-  fall_listed : (q : Option (List ℕ)) (ks : List (List ℕ)) (n : ℕ) → 2 * length ks + 4 < n → Falls (left o) (listed_to o q ks) m n
-  fall_listed None ks n h = tt
-  fall_listed (Some q) ks n h = fall_places ks _ n h
-
   pub fall_walked : (i : Bool) (w : Walked PageEntry) (n : ℕ) → LessWalked (prefix_of o.source) m w n → Falls (left o) (on_walked o i w) m (2 * n + 4)
   fall_walked i (More found) n h = omega (arith, h)
-  fall_walked i (Whole found) n h = fall_listed (place_at o i) (keys_on found) (2 * n + 4) (let e = length_keys found in omega (arith, e, h))
+  fall_walked i (Whole found) n h = elim (place_at o i) as (λ q. Falls (left o) (listed_to o q (keys_on found)) m (2 * n + 4)) [
+    | None ↦ tt
+    | Some q ↦ fall_places (keys_on found) _ (2 * n + 4) (let e = length_keys found in omega (arith, e, h))
+  ]
 
   fall_up : (u : Option (List ℕ)) (n : ℕ) → 1 < n → Falls (left o) (up_to u) m n
   fall_up None n h = tt

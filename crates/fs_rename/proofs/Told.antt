@@ -1,5 +1,5 @@
 -- A renaming, in the tree.
-use Rattle.std.proofs.Common.{◌≡◌, ◌⊎◌, inl, inr, ℕ, Bool, true, false, List, [], ◌∷◌, take, Option, Some, Ok, Err, refl, sym, ap, subst, ◌∙◌, arith}
+use Rattle.std.proofs.Common.{◌≡◌, ◌⊎◌, inl, inr, ℕ, Bool, true, false, List, [], ◌∷◌, take, Option, Some, Ok, Err, sym, ap, subst, ◌∙◌, arith}
 use Rattle.fs_ops.specs.Prelude.{Objects, Scene, begins, without, IsIn, is_key, objects_at, GivesIn, AlwaysIn, marker_of, is_marker, HasDir, HasFile, IsDirectory, IsAbsent, parent, marker_if, IsMarked, inside, IsPlace, IsFileMoved, IsDirMoved, IsWhole, MayStand, Renames, IsDeleting}
 use Rattle.path_keys.proofs.Common.{none_some, in_front}
 use Rattle.fs_tree.specs.declared.rename.RenameRefusal.TheVariants.{NoSuchBucket}
@@ -18,9 +18,13 @@ use Rattle.fs_rename.proofs.Inside.{no_marker, inside_elements}
 
 -- ---- the source is not the root
 
-no_root : (d : Bool) (z : Objects) → IsSource d z [] → ⊥
+pub no_root : (d : Bool) (z : Objects) → IsSource d z [] → ⊥
 no_root true z h = h.0
 no_root false z h = h.1
+
+pub stands : (d : Bool) (z : Objects) (x : ℕ) (p : List ℕ) → IsSource d z (x ∷ p) → HasFile z (x ∷ p) ⊎ IsDirectory z (x ∷ p)
+stands true z x p h = inr h
+stands false z x p h = inl h
 
 -- ---- at any moment
 
@@ -36,27 +40,19 @@ module _ (x : ℕ) (p t : List ℕ) (z : Objects) where
   abbrev O : Renaming
   O = record { source = x ∷ p; target = t }
 
-  file_whole : (y : ℕ) (q : List ℕ) (m : Objects) → is_marker (x ∷ p) ≡ false → HasFile z (x ∷ p) → IsAbsent z (y ∷ q) → IsOnWay O z false (y ∷ q) m → IsWhole (x ∷ p) (y ∷ q) z m
-  file_whole y q m f h a w =
-      is_whole (x ∷ p) (y ∷ q) z m (moves_of false (x ∷ p) (y ∷ q) z) (file_to z x p y q h) (file_from z x p y q h)
-      (whole_of (marker_if (parent (x ∷ p))) z (moves_of false (x ∷ p) (y ∷ q) z) m (file_free z x p y q h a.0) (file_apart z x p y q f) w)
-
-  dir_whole : (y : ℕ) (q : List ℕ) (m : Objects) → IsDirectory z (x ∷ p) → IsAbsent z (y ∷ q) → IsOnWay O z true (y ∷ q) m → IsWhole (x ∷ p) (y ∷ q) z m
-  dir_whole y q m h a w =
-      is_whole (x ∷ p) (y ∷ q) z m (moves_of true (x ∷ p) (y ∷ q) z) (dir_to z x p y q h) (dir_from z x p y q h)
-      (whole_of (marker_if (parent (x ∷ p))) z (moves_of true (x ∷ p) (y ∷ q) z) m (dir_free z x p y q a.1) (dir_apart z x p y q) w)
-
   whole : (d i : Bool) (q : List ℕ) (m : Objects) → is_marker (x ∷ p) ≡ false → MayGo O z d i q → IsOnWay O z d q m → IsWhole (x ∷ p) q z m
   whole d i [] m f g w = absurd g.ready.free
-  whole false i (y ∷ q) m f g w = file_whole y q m f g.ready.begun.source g.ready.free w
-  whole true i (y ∷ q) m f g w = dir_whole y q m g.ready.begun.source g.ready.free w
-
-  stands : (d : Bool) → IsSource d z (x ∷ p) → HasFile z (x ∷ p) ⊎ IsDirectory z (x ∷ p)
-  stands true h = inr h
-  stands false h = inl h
+  whole false i (y ∷ q) m f g w =
+      let h = g.ready.begun.source in
+      is_whole (x ∷ p) (y ∷ q) z m (moves_of false (x ∷ p) (y ∷ q) z) (file_to z x p y q h) (file_from z x p y q h)
+      (whole_of (marker_if (parent (x ∷ p))) z (moves_of false (x ∷ p) (y ∷ q) z) m (file_free z x p y q h g.ready.free.0) (file_apart z x p y q f) w)
+  whole true i (y ∷ q) m f g w =
+      let h = g.ready.begun.source in
+      is_whole (x ∷ p) (y ∷ q) z m (moves_of true (x ∷ p) (y ∷ q) z) (dir_to z x p y q h) (dir_from z x p y q h)
+      (whole_of (marker_if (parent (x ∷ p))) z (moves_of true (x ∷ p) (y ∷ q) z) m (dir_free z x p y q g.ready.free.1) (dir_apart z x p y q) w)
 
   free_place : (d i : Bool) (q : List ℕ) → MayGo O z d i q → IsFreePlace z (x ∷ p) t q
-  free_place d i q g = record { source = record { stands = stands d g.ready.begun.source; apart = g.ready.begun.apart }; place = g.ready.place; free = g.ready.free }
+  free_place d i q g = record { source = record { stands = stands d z x p g.ready.begun.source; apart = g.ready.begun.apart }; place = g.ready.place; free = g.ready.free }
 
   may_stand : (m : Objects) → is_marker (x ∷ p) ≡ false → always O z m → MayStand (x ∷ p) t z m
   may_stand m f (inl e) = inl e
@@ -81,11 +77,8 @@ module _ (x : ℕ) (p t : List ℕ) (z : Objects) where
 
   place_no_marker : (q : List ℕ) → is_key (x ∷ p) ≡ true → is_key t ≡ true → IsPlace z (x ∷ p) t q → is_marker q ≡ false
   place_no_marker q k l (inl h) = ap is_marker h.1 ∙ no_marker (inside (x ∷ p) t) (inside_elements (x ∷ p) t (omega arith) k l)
-  place_no_marker q k l (inr h) = ap is_marker h.2 ∙ at t l h.0
-    where
-      at : (t : List ℕ) → is_key t ≡ true → IsAbsent z t → is_marker t ≡ false
-      at [] l a = absurd a
-      at (v ∷ t) l a = key_no_marker v t l
+  place_no_marker q k l (inr h) =
+      ap is_marker h.2 ∙ ((elim t as (λ t. is_key t ≡ true → IsAbsent z t → is_marker t ≡ false) [ [] ↦ λ l a. absurd a | v ∷ t ↦ λ l a. key_no_marker v t l ]) l h.0)
 
   renames_by : (d i : Bool) (q : List ℕ) (n m : Objects) → is_key (x ∷ p) ≡ true → is_key t ≡ true → MayGo O z d i q → n ≡ moved O z d q → IsMarked (marker_if (parent (x ∷ p))) n m → RenamesFile (x ∷ p) q z m ⊎ RenamesDir (x ∷ p) q z m
   renames_by d i [] n m k l g e w = absurd g.ready.free
@@ -99,38 +92,22 @@ module _ (x : ℕ) (p t : List ℕ) (z : Objects) where
   path_renames (Err r) m k l h = h
 
 -- what a renaming gives is what it is in the tree
-renames : (o : Renaming) (z : Objects) (a : Answer) (m : Objects) → is_key o.source ≡ true → is_key o.target ≡ true → gives o z a m → Renames o.source o.target z a m
-renames o z a m k l h = by o.source refl
-  where
-    root : (t : List ℕ) (a : Answer) → gives (record { source = []; target = t }) z a m → Renames [] t z a m
-    root t (Ok u) h = absurd (no_root h.1.0 z h.1.3.ready.begun.source)
-    root t (Err r) h = h
-
-    by : (p : List ℕ) → o.source ≡ p → Renames o.source o.target z a m
-    by [] e = subst (λ p. Renames p o.target z a m) (sym e) (root o.target a (subst (λ p. gives (record { source = p; target = o.target }) z a m) e h))
-    by (x ∷ p) e =
-        subst (λ p. Renames p o.target z a m) (sym e)
-        (path_renames x p o.target z a m (ap is_key (sym e) ∙ k) l (subst (λ p. gives (record { source = p; target = o.target }) z a m) e h))
+renames : (p t : List ℕ) (z : Objects) (a : Answer) (m : Objects) → is_key p ≡ true → is_key t ≡ true → gives (record { source = p; target = t }) z a m → Renames p t z a m
+renames [] t z (Ok u) m k l h = absurd (no_root h.1.0 z h.1.3.ready.begun.source)
+renames [] t z (Err r) m k l h = h
+renames (x ∷ p) t z a m k l h = path_renames x p t z a m k l h
 
 -- and at any moment each object of the source stands whole
-stand_whole : (o : Renaming) (z m : Objects) → is_key o.source ≡ true → always o z m → MayStand o.source o.target z m
-stand_whole o z m k h = by o.source refl
-  where
-    root : (t : List ℕ) → always (record { source = []; target = t }) z m → MayStand [] t z m
-    root t (inl e) = inl e
-    root t (inr h) = absurd (no_root h.0 z h.3.ready.begun.source)
-
-    by : (p : List ℕ) → o.source ≡ p → MayStand o.source o.target z m
-    by [] e = subst (λ p. MayStand p o.target z m) (sym e) (root o.target (subst (λ p. always (record { source = p; target = o.target }) z m) e h))
-    by (x ∷ p) e =
-        subst (λ p. MayStand p o.target z m) (sym e)
-        (may_stand x p o.target z m (key_no_marker x p (ap is_key (sym e) ∙ k)) (subst (λ p. always (record { source = p; target = o.target }) z m) e h))
+stand_whole : (p t : List ℕ) (z m : Objects) → is_key p ≡ true → always (record { source = p; target = t }) z m → MayStand p t z m
+stand_whole [] t z m k (inl e) = inl e
+stand_whole [] t z m k (inr h) = absurd (no_root h.0 z h.3.ready.begun.source)
+stand_whole (x ∷ p) t z m k h = may_stand x p t z m (key_no_marker x p k) h
 
 -- ---- in the bucket
 
 pub renames_in : (b : List ℕ) (o : Renaming) (z : Scene) (a : Answer) (s : Scene) → is_key o.source ≡ true → is_key o.target ≡ true → GivesIn b (gives o) (Err NoSuchBucket) z a s → GivesIn b (Renames o.source o.target) (Err NoSuchBucket) z a s
 renames_in b o z a s k l h =
-    same_scene (objects_at z b) z s b (λ m n. gives o m a n) (λ m n. Renames o.source o.target m a n) (a ≡ Err NoSuchBucket) (λ m n g. renames o m a n k l g) h
+    same_scene (objects_at z b) z s b (λ m n. gives o m a n) (λ m n. Renames o.source o.target m a n) (a ≡ Err NoSuchBucket) (λ m n g. renames o.source o.target m a n k l g) h
 
 pub whole_in : (b : List ℕ) (o : Renaming) (z s : Scene) → is_key o.source ≡ true → AlwaysIn b (always o) z s → AlwaysIn b (MayStand o.source o.target) z s
-whole_in b o z s k h = same_scene (objects_at z b) z s b (λ m n. always o m n) (λ m n. MayStand o.source o.target m n) (Unit {0}) (λ m n g. stand_whole o m n k g) h
+whole_in b o z s k h = same_scene (objects_at z b) z s b (λ m n. always o m n) (λ m n. MayStand o.source o.target m n) (Unit {0}) (λ m n g. stand_whole o.source o.target m n k g) h

@@ -1,7 +1,7 @@
 -- Each object stands whole while it is moved.
-use Rattle.std.proofs.Common.{◌≡◌, ◌⊎◌, inl, inr, ℕ, zero, suc, true, false, List, [], ◌∷◌, take, Option, Some, None, refl, sym, ap, subst, ◌∙◌}
+use Rattle.std.proofs.Common.{◌≡◌, ◌⊎◌, inl, inr, ℕ, suc, true, false, List, [], ◌∷◌, take, Option, Some, None, refl, sym, ap, subst, ◌∙◌}
 use Rattle.path_keys.proofs.Common.{false≢true, lt_not, same_or_other, text_here, text_other, none_some}
-use Rattle.fs_ops.specs.Prelude.{is_lt, text_cmp, text_total, Objects, without, IsIn, RisesFrom, NoneBelow, is_marker, marker, parent, marker_if, IsMarked, IsMove, IsWhole}
+use Rattle.fs_ops.specs.Prelude.{is_lt, text_cmp, text_total, Objects, without, IsIn, RisesFrom, NoneBelow, marker, parent, marker_if, IsMarked, IsMove, IsWhole}
 use Rattle.std.specs.FinMap as fin
 use Rattle.store_frame.proofs.Flat.{behind}
 use Rattle.fs_tree.proofs.Begins.{begins_all}
@@ -20,13 +20,12 @@ pub record AreWhole (u : Option (List ℕ)) (z : Objects) (ps : List Move) (m : 
 
 -- of keys that rise, those before one of the first are among the first
 earlier : (x : List ℕ) (ks : List (List ℕ)) → RisesFrom x ks → (n : ℕ) (k j : List ℕ) → IsIn k (take n ks) → IsIn j ks → is_lt (text_cmp j k) ≡ true → IsIn j (take n ks)
-earlier x [] r zero k j h i l = absurd h
-earlier x [] r (suc n) k j h i l = absurd h
-earlier x (q ∷ ks) r zero k j h i l = absurd h
 earlier x (q ∷ ks) r (suc n) k j h (inl e) l = inl e
 earlier x (q ∷ ks) r (suc n) k j (inl e) (inr i) l =
     absurd (false≢true (sym (lt_not text_total q j (behind q j ks r.1 i)) ∙ ap (λ v. is_lt (text_cmp j v)) (sym e) ∙ l))
 earlier x (q ∷ ks) r (suc n) k j (inr h) (inr i) l = inr (earlier q ks r.1 n k j h i l)
+earlier x [] r (suc n) k j h i l = absurd h
+earlier x _ r _ k j h i l = absurd h
 
 module _ (u : Option (List ℕ)) (z : Objects) (ps : List Move) (h : AreFree z ps) where
   -- ---- while keys are copied
@@ -44,11 +43,8 @@ module _ (u : Option (List ℕ)) (z : Objects) (ps : List Move) (h : AreFree z p
         subst (λ v. IsOneOf v l (take n ps)) (h.one w.0 k l (one_in_take n w.0 l ps w.1) i) w.1
 
     copying_new : (k l : List ℕ) → IsOneOf k l ps → (fin.get M l ≡ None) ⊎ (fin.get M l ≡ fin.get z k)
-    copying_new k l i = by (is_in l (targets (take n ps)))
-      where
-        by : IsIn l (targets (take n ps)) ⊎ (IsIn l (targets (take n ps)) → ⊥) → (fin.get M l ≡ None) ⊎ (fin.get M l ≡ fin.get z k)
-        by (inl t) = inr (copied_stand z ps h n k l (new_copied k l i t))
-        by (inr f) = inl (copies_keep z (take n ps) l f ∙ h.free k l i)
+    copying_new k l i =
+        elim (is_in l (targets (take n ps))) [ inl t ↦ inr (copied_stand z ps h n k l (new_copied k l i t)) | inr f ↦ inl (copies_keep z (take n ps) l f ∙ h.free k l i) ]
 
     copying_order : (k l j i : List ℕ) → IsOneOf k l ps → IsOneOf j i ps → is_lt (text_cmp j k) ≡ true → fin.get M l ≡ fin.get z k → fin.get M i ≡ fin.get z j
     copying_order k l j i a b less e = by (is_in l (targets (take n ps)))
@@ -87,11 +83,10 @@ module _ (u : Option (List ℕ)) (z : Objects) (ps : List Move) (h : AreFree z p
         ∙ all_stand z ps h k l i
 
     emptying_moved : (k l : List ℕ) → IsOneOf k l ps → (fin.get N k ≡ fin.get z k) ⊎ ((fin.get N k ≡ None) × (fin.get N l ≡ fin.get z k))
-    emptying_moved k l i = by (is_in k gone)
-      where
-        by : IsIn k gone ⊎ (IsIn k gone → ⊥) → (fin.get N k ≡ fin.get z k) ⊎ ((fin.get N k ≡ None) × (fin.get N l ≡ fin.get z k))
-        by (inl g) = inr (gone_in (copied_all z ps) gone k g, new_stays k l i)
-        by (inr f) = inl (kept_out (copied_all z ps) gone k f ∙ copies_keep z ps k (not_target z ps h k l i))
+    emptying_moved k l i = elim (is_in k gone) [
+      | inl g ↦ inr (gone_in (copied_all z ps) gone k g, new_stays k l i)
+      | inr f ↦ inl (kept_out (copied_all z ps) gone k f ∙ copies_keep z ps k (not_target z ps h k l i))
+    ]
 
     pub others_stay : (k : List ℕ) → (IsIn k (sources ps) → ⊥) → (IsIn k (targets ps) → ⊥) → fin.get N k ≡ fin.get z k
     others_stay k s t = kept_out (copied_all z ps) gone k (λ g. s (are k g)) ∙ copies_keep z ps k t
@@ -133,11 +128,8 @@ module _ (u : Option (List ℕ)) (z : Objects) (ps : List Move) (h : AreFree z p
     put_old k l i = text_other D q k marker (λ f. apart (subst (λ v. IsIn v (sources ps)) f (in_sources ps k l i))) ∙ old_at_end k l i
 
     put_others : (k : List ℕ) → (IsIn k (sources ps) → ⊥) → (IsIn k (targets ps) → ⊥) → (fin.get E k ≡ fin.get z k) ⊎ ((u ≡ Some k) × (fin.get E k ≡ Some marker))
-    put_others k s t = by (same_or_other k q)
-      where
-        by : (k ≡ q) ⊎ (k ≡ q → ⊥) → (fin.get E k ≡ fin.get z k) ⊎ ((u ≡ Some k) × (fin.get E k ≡ Some marker))
-        by (inl f) = inr (e ∙ ap Some (sym f), text_here D q k marker f)
-        by (inr f) = inl (text_other D q k marker f ∙ others_at_end k s t)
+    put_others k s t =
+        elim (same_or_other k q) [ inl f ↦ inr (e ∙ ap Some (sym f), text_here D q k marker f) | inr f ↦ inl (text_other D q k marker f ∙ others_at_end k s t) ]
 
     whole_put : AreWhole u z ps E
     whole_put = record {
@@ -164,7 +156,7 @@ is_whole p q z m ps to from h = record {
   new = λ k l i. h.new k l (to k l i);
   in_order = λ k l j i a b less e. h.in_order k l j i (to k l a) (to j i b) less e;
   all_first = λ k l j i a b e. h.all_first k l j i (to k l a) (to j i b) e;
-  files = λ k f e. file k f (h.others k (not_old k e.0) (not_new k e.1));
+  files = λ k f e. (elim (h.others k (not_old k e.0) (not_new k e.1)) [ inl e ↦ e | inr e ↦ absurd (false≢true (sym f ∙ marker_key (parent p) k e.0)) ]);
   markers = λ k e. h.others k (not_old k e.0) (not_new k e.1);
 }
   where
@@ -173,7 +165,3 @@ is_whole p q z m ps to from h = record {
 
     not_new : (k : List ℕ) → ((j : List ℕ) → IsMove z p q j k → ⊥) → IsIn k (targets ps) → ⊥
     not_new k f i = let w = is_target ps k i in f w.0 (from w.0 k w.1)
-
-    file : (k : List ℕ) → is_marker k ≡ false → (fin.get m k ≡ fin.get z k) ⊎ ((marker_if (parent p) ≡ Some k) × (fin.get m k ≡ Some marker)) → fin.get m k ≡ fin.get z k
-    file k f (inl e) = e
-    file k f (inr e) = absurd (false≢true (sym f ∙ marker_key (parent p) k e.0))

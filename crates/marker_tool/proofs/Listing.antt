@@ -1,13 +1,14 @@
 -- What a listing without a delimiter has: each object below a prefix behind a text, once and in order, with its length.
-use Rattle.std.specs.Prelude.{◌≡◌, ℕ, Bool, true, false, cond, List, [], ◌∷◌, ◌++◌, map, length, Option, Some, None}
+use Rattle.std.specs.Prelude.{◌≡◌, ℕ, Bool, true, false, cond, List, [], ◌∷◌, ◌++◌, map, length, Some, None}
 use Rattle.std.proofs.Common.{refl, sym, ap, subst, ◌∙◌, inl, inr}
-use Rattle.fs_ops.specs.Prelude.{filter, is_lt, Less, text_cmp, text_total, Objects, begins, entry_of, listed, text_in, folded_from, is_again, Object, PageEntry, IsIn, RisesFrom, last_from}
+use Rattle.fs_ops.specs.Prelude.{filter, is_lt, Less, text_cmp, text_total, Objects, begins, entry_of, listed, text_in, Object, PageEntry, IsIn, RisesFrom, last_from}
 use Rattle.store_frame.specs.Prelude.{Ordering, Equal, Greater}
 use Rattle.path_keys.proofs.Common.{lt, irrefl, lt_trans, map_sorted, from_prefix, some_is, false_true, text_exact, in_map, in_filter}
 use Rattle.std.specs.FinMap as fin
 use Rattle.proof_base.proofs.Less.{lt_back}
 use Rattle.s3_types.specs.declared.reply.PageEntry.TheVariants.{Object as Single}
 use Rattle.bucket_ops.proofs.Rising.{lower}
+use Rattle.fs_ops.proofs.Children.{folded_sub}
 use Rattle.store_frame.proofs.Flat.{listed_rises, listed_all, found_at}
 
 -- each object that stands below a prefix behind a text, once, in order, with the length of its bytes
@@ -43,19 +44,17 @@ last_less l x (k ∷ ks) b g = last_less k x ks (g k (inl refl)) (λ q i. g q (i
 -- some of what rises does
 pub rises_some : (p : List ℕ → Bool) (l : List ℕ) (ks : List (List ℕ)) → RisesFrom l ks → RisesFrom l (filter p ks)
 rises_some p l [] h = tt
-rises_some p l (k ∷ ks) h = by (p k) (rises_some p k ks h.1)
-  where
-    by : (b : Bool) → RisesFrom k (filter p ks) → RisesFrom l (cond b (k ∷ filter p ks) (filter p ks))
-    by true g = (h.0, g)
-    by false g = lower l k (filter p ks) h.0 g
+rises_some p l (k ∷ ks) h = elim (p k) as (λ b. RisesFrom l (cond b (k ∷ filter p ks) (filter p ks))) [
+  | true ↦ (h.0, rises_some p k ks h.1)
+  | false ↦ lower l k (filter p ks) h.0 (rises_some p k ks h.1)
+]
 
 pub rises_filter : {X : Type 0} (f : X → List ℕ) (p : X → Bool) (l : List ℕ) (xs : List X) → RisesFrom l (map f xs) → RisesFrom l (map f (filter p xs))
 rises_filter f p l [] h = tt
-rises_filter {X = X} f p l (x ∷ xs) h = by (p x) (rises_filter f p (f x) xs h.1)
-  where
-    by : (b : Bool) → RisesFrom (f x) (map f (filter p xs)) → RisesFrom l (map f (cond b (x ∷ filter p xs) (filter p xs)))
-    by true g = (h.0, g)
-    by false g = lower l (f x) (map f (filter p xs)) h.0 g
+rises_filter {X = X} f p l (x ∷ xs) h = elim (p x) as (λ b. RisesFrom l (map f (cond b (x ∷ filter p xs) (filter p xs)))) [
+  | true ↦ (h.0, rises_filter f p (f x) xs h.1)
+  | false ↦ lower l (f x) (map f (filter p xs)) h.0 (rises_filter f p (f x) xs h.1)
+]
 
 -- ---- a listing is one
 
@@ -63,20 +62,12 @@ rises_filter {X = X} f p l (x ∷ xs) h = by (p x) (rises_filter f p (f x) xs h.
 abbrev Entry : Type 0
 Entry = List ℕ × Object
 
-folded_in : (o : Option (List ℕ)) (e : PageEntry) (xs : List PageEntry) → IsIn e (folded_from o xs) → IsIn e xs
-folded_in o e [] i = i
-folded_in o e (x ∷ xs) i = by (is_again o x) i (folded_in o e xs) (folded_in (Some (text_in x)) e xs)
-  where
-    by : (b : Bool) → IsIn e (cond b (folded_from o xs) (x ∷ folded_from (Some (text_in x)) xs)) → (IsIn e (folded_from o xs) → IsIn e xs) → (IsIn e (folded_from (Some (text_in x)) xs) → IsIn e xs) → IsIn e (x ∷ xs)
-    by true i a c = inr (a i)
-    by false (inl s) a c = inl s
-    by false (inr i) a c = inr (c i)
-
 module _ (q l : List ℕ) (z : Objects) where
   listed_each : (e : PageEntry) → IsIn e (listed q false l z) → (k : List ℕ) × (o : Object) × (e ≡ Single k (length o.bytes)) × (begins q k ≡ true) × (fin.get z k ≡ Some o)
   listed_each e i =
       let below : List Entry = filter (λ (x : Entry). begins q x.0) (fin.entries z) in
-      let a = in_filter (λ x. is_lt (text_cmp l (text_in x))) e (map (entry_of q false) below) (folded_in None e (filter (λ x. is_lt (text_cmp l (text_in x))) (map (entry_of q false) below)) i) in
+      let a = in_filter (λ x. is_lt (text_cmp l (text_in x))) e (map (entry_of q false) below)
+      (folded_sub None (filter (λ x. is_lt (text_cmp l (text_in x))) (map (entry_of q false) below)) e i) in
       let c = in_map (entry_of q false) e below a.0 in
       let d = in_filter (λ (x : Entry). begins q x.0) c.0 (fin.entries z) c.1 in
       (c.0.0, c.0.1, c.2, d.1, fin.get-entries z c.0.0 ∙ found_at (fin.entries z) c.0 (map_sorted text_cmp z) d.0)

@@ -26,19 +26,12 @@ bare_bytes z k h g =
 
 -- a key has one kind
 pub one_kind : (z : Objects) (k : List ℕ) (a b : MarkerKind) → IsKind z k a → IsKind z k b → a ≡ b
-one_kind z k Surplus Surplus h g = refl
-one_kind z k Leaf Leaf h g = refl
-one_kind z k Odd Odd h g = refl
 one_kind z k Surplus Leaf h g = absurd (g.1 h.1)
 one_kind z k Leaf Surplus h g = absurd (h.1 g.1)
-one_kind z k Odd Surplus h g = absurd (bare_bytes z k g.0 h)
-one_kind z k Odd Leaf h g = absurd (bare_bytes z k g.0 h)
-one_kind z k Surplus Odd h g = absurd (bare_bytes z k h.0 g)
-one_kind z k Leaf Odd h g = absurd (bare_bytes z k h.0 g)
-
-stands_of : (z : Objects) (k : List ℕ) (a : MarkerKind) → IsKind z k a → Stands z k
-stands_of z k Odd h = (h.0, h.1)
-stands_of z k _ h = (h.0.0, h.0.1)
+one_kind z k Odd Odd h g = refl
+one_kind z k Odd _ h g = absurd (bare_bytes z k g.0 h)
+one_kind z k _ Odd h g = absurd (bare_bytes z k h.0 g)
+one_kind z k _ _ h g = refl
 
 -- a marker and what it is
 abbrev entry : List ℕ → MarkerKind → MarkerEntry
@@ -121,11 +114,10 @@ module _ (q : List ℕ) (z : Objects) where
 pub markers_rise : (l : List ℕ) (es : List PageEntry) → RisesFrom l (map text_in es) → RisesFrom l (map (λ x. x.key) (markers_in es))
 markers_rise l [] h = tt
 markers_rise l (Prefix t ∷ es) h = lower l t (map (λ x. x.key) (markers_in es)) h.0 (markers_rise t es h.1)
-markers_rise l (Single k n ∷ es) h = by (is_marker k) (markers_rise k es h.1)
-  where
-    by : (b : Bool) → RisesFrom k (map (λ x. x.key) (markers_in es)) → RisesFrom l (map (λ x. x.key) (cond b (entry k (kind_of n (goes_on k es)) ∷ []) [] ++ markers_in es))
-    by true old = (h.0, old)
-    by false old = lower l k (map (λ x. x.key) (markers_in es)) h.0 old
+markers_rise l (Single k n ∷ es) h = elim (is_marker k) as (λ b. RisesFrom l (map (λ x. x.key) (cond b (entry k (kind_of n (goes_on k es)) ∷ []) [] ++ markers_in es))) [
+  | true ↦ (h.0, markers_rise k es h.1)
+  | false ↦ lower l k (map (λ x. x.key) (markers_in es)) h.0 (markers_rise k es h.1)
+]
 
 pub some_marker : (k : List ℕ) → is_marker k ≡ true → lt text_cmp [] k ≡ true
 some_marker [] m = absurd (false≢true m)
@@ -137,7 +129,7 @@ module _ (p : List ℕ) (z : Objects) (es : List PageEntry) (h : IsListing (belo
   has_markers = record {
     each = λ x i. let w = each_marker (below p []) z [] es h x i in ((w.0, w.1), w.2);
     all = λ k kind b g.
-        let s = stands_of z k kind g in
+        let s = ((elim kind as (λ a. IsKind z k a → Stands z k) [ Odd ↦ λ h. (h.0, h.1) | _ ↦ λ h. (h.0.0, h.0.1) ]) g) in
         find_marker (below p []) z k kind b.1 g [] es h (length s.0.bytes) (h.all k s.0 s.1 b.0 (some_marker k b.1));
     rises = sorted [] (map (λ x. x.key) (markers_in es)) (markers_rise [] es h.rises);
   }

@@ -37,11 +37,7 @@ not_trimmed k m e =
     apart (trimmed k) k (subst (λ t. length (trimmed k) < length t) (sym w.1) (subst (λ t. length t < length (marker_of w.0)) (sym (ap trimmed w.1 ∙ trimmed_marker w.0)) (longer w.0))) (sym e)
 
 trimmed_begins : (k : List ℕ) → begins (trimmed k) k ≡ true
-trimmed_begins k = by (trimmed_is k)
-  where
-    by : (k ≡ trimmed k) ⊎ (k ≡ marker_of (trimmed k)) → begins (trimmed k) k ≡ true
-    by (inl e) = ap (begins (trimmed k)) e ∙ begins_all (trimmed k)
-    by (inr e) = ap (begins (trimmed k)) e ∙ begins_marker (trimmed k)
+trimmed_begins k = elim (trimmed_is k) [ inl e ↦ ap (begins (trimmed k)) e ∙ begins_all (trimmed k) | inr e ↦ ap (begins (trimmed k)) e ∙ begins_marker (trimmed k) ]
 
 -- each is a marker with which the key begins, and which it is not
 above_is : (t k : List ℕ) → IsIn t (markers_above k) → (is_marker t ≡ true) × (begins t k ≡ true) × (k ≡ t → ⊥)
@@ -53,10 +49,8 @@ above_is t k i =
     other : (d : List ℕ) → k ≡ marker_of d → begins (marker_of d) (trimmed k) ≡ true → (k ≡ trimmed k) ⊎ (k ≡ marker_of (trimmed k)) → ⊥
     other d e b (inl s) = not_trimmed k (ap is_marker e ∙ marker_is d) s
     other d e b (inr s) =
-        let l = begins_length (marker_of d) (trimmed k) b in
         let m : length (marker_of d) ≡ length (marker_of (trimmed k)) = ap length (sym e ∙ s) in
-        let n = longer (trimmed k) in
-        omega (arith, l, m, n)
+        omega (arith, begins_length (marker_of d) (trimmed k) b, m, longer (trimmed k))
 
 -- and they are all of these
 above_has : (t k : List ℕ) → is_marker t ≡ true → begins t k ≡ true → (k ≡ t → ⊥) → IsIn t (markers_above k)
@@ -67,18 +61,15 @@ above_has t k m b n =
   where
     by : (d : List ℕ) → t ≡ marker_of d → (k ≡ trimmed k) ⊎ (k ≡ marker_of (trimmed k)) → begins (marker_of d) (trimmed k) ≡ true
     by d e (inl s) = sym (ap (begins (marker_of d)) s) ∙ ap (λ t. begins t k) (sym e) ∙ b
-    by d e (inr s) = at (marker_at d (trimmed k) (ap (begins (marker_of d)) (sym s) ∙ ap (λ t. begins t k) (sym e) ∙ b))
-      where
-        at : (d ≡ trimmed k) ⊎ (begins (marker_of d) (trimmed k) ≡ true) → begins (marker_of d) (trimmed k) ≡ true
-        at (inl g) = absurd (n (s ∙ ap marker_of (sym g) ∙ sym e))
-        at (inr g) = g
+    by d e (inr s) = elim (marker_at d (trimmed k) (ap (begins (marker_of d)) (sym s) ∙ ap (λ t. begins t k) (sym e) ∙ b)) [
+      | inl g ↦ absurd (n (s ∙ ap marker_of (sym g) ∙ sym e))
+      | inr g ↦ g
+    ]
 
 parent_above : (d p : List ℕ) → IsIn d (keys_above p) → marker_of p ≡ marker_of d → ⊥
 parent_above d p i e =
-    let l = begins_length (marker_of d) p (above_begins d p i) in
     let m : length (marker_of p) ≡ length (marker_of d) = ap length e in
-    let n = longer p in
-    omega (arith, l, m, n)
+    omega (arith, begins_length (marker_of d) p (above_begins d p i), m, longer p)
 
 above_rise : (n : ℕ) (p : List ℕ) → length p < n → RisesFrom [] (map marker_of (keys_above p))
 above_rise zero p h = absurd (omega (arith, h))
@@ -139,15 +130,14 @@ module _ (q : List ℕ) where
   missing_each : (l : List ℕ) (es : List PageEntry) → RisesFrom l (map text_in es) → (t : List ℕ) → IsIn t (missing_from q l es) → IsWanted l es t
   missing_each l [] h t i = absurd i
   missing_each l (Prefix p ∷ es) h t i = later l (Prefix p) es t h.0 (missing_each p es h.1 t i)
-  missing_each l (Single k n ∷ es) h t i = by (in_append t (missing_at q l (Single k n)) (missing_from q k es) i) (missing_each k es h.1 t)
+  missing_each l (Single k n ∷ es) h t i = elim (in_append t (missing_at q l (Single k n)) (missing_from q k es) i) [
+    | inl i ↦ let w = due_is q l k h.0 t i in (w.0, w.2, w.3, no w.1, Single k n, inl refl, w.4)
+    | inr i ↦ later l (Single k n) es t h.0 (missing_each k es h.1 t i)
+  ]
     where
       no : lt text_cmp t k ≡ true → (t ≡ k) ⊎ IsIn t (map text_in es) → ⊥
       no g (inl s) = false_true (irrefl text_total k) (ap (λ t. lt text_cmp t k) (sym s) ∙ g)
       no g (inr i) = false_true (lt_not text_total t k g) (behind k t (map text_in es) h.1 i)
-
-      by : IsIn t (missing_at q l (Single k n)) ⊎ IsIn t (missing_from q k es) → (IsIn t (missing_from q k es) → IsWanted k es t) → IsWanted l (Single k n ∷ es) t
-      by (inl i) old = let w = due_is q l k h.0 t i in (w.0, w.2, w.3, no w.1, Single k n, inl refl, w.4)
-      by (inr i) old = later l (Single k n) es t h.0 (old i)
 
   missing_rise : (l : List ℕ) (es : List PageEntry) → RisesFrom l (map text_in es) → RisesFrom l (missing_from q l es)
   missing_rise l [] h = tt

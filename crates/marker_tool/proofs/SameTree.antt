@@ -15,30 +15,18 @@ use Rattle.marker_tool.proofs.Listing.{above}
 -- where only these surplus keys are gone
 pub cleaning_of : (p : List ℕ) (z m : Objects) (ks : List (List ℕ)) → IsDirectory z p → SameTree z m → ((k : List ℕ) → IsIn k ks → IsSurplus p z k) → ((k : List ℕ) → IsIn k ks → fin.get m k ≡ None)
     → ((k : List ℕ) → (IsIn k ks → ⊥) → fin.get m k ≡ fin.get z k) → IsCleaning p z m
-cleaning_of p z m ks d t s g o = record { tree = t; kept = λ k. by k (is_in k ks) }
-  where
-    by : (k : List ℕ) → IsIn k ks ⊎ (IsIn k ks → ⊥) → (fin.get m k ≡ fin.get z k) ⊎ ((fin.get m k ≡ None) × IsDirectory z p × IsSurplus p z k)
-    by k (inl i) = inr (g k i, d, s k i)
-    by k (inr n) = inl (o k n)
+cleaning_of p z m ks d t s g o = record { tree = t; kept = λ k. (elim (is_in k ks) [ inl i ↦ inr (g k i, d, s k i) | inr n ↦ inl (o k n) ]) }
 
 -- where only these missing ones are put
 pub filling_of : (p : List ℕ) (z m : Objects) (ks : List (List ℕ)) → IsDirectory z p → SameTree z m → ((k : List ℕ) → IsIn k ks → IsMissing p z k) → ((k : List ℕ) → IsIn k ks → fin.get m k ≡ Some marker)
     → ((k : List ℕ) → (IsIn k ks → ⊥) → fin.get m k ≡ fin.get z k) → IsFilling p z m
-filling_of p z m ks d t s g o = record { tree = t; kept = λ k. by k (is_in k ks) }
-  where
-    by : (k : List ℕ) → IsIn k ks ⊎ (IsIn k ks → ⊥) → (fin.get m k ≡ fin.get z k) ⊎ ((fin.get m k ≡ Some marker) × IsDirectory z p × IsMissing p z k)
-    by k (inl i) = inr (g k i, d, s k i)
-    by k (inr n) = inl (o k n)
+filling_of p z m ks d t s g o = record { tree = t; kept = λ k. (elim (is_in k ks) [ inl i ↦ inr (g k i, d, s k i) | inr n ↦ inl (o k n) ]) }
 
 -- ---- keys go with which others begin
 
 -- texts that begin with each other are one
 one_text : (a b : List ℕ) → begins a b ≡ true → begins b a ≡ true → b ≡ a
-one_text a b h g = by (same_or_other b a)
-  where
-    by : (b ≡ a) ⊎ (b ≡ a → ⊥) → b ≡ a
-    by (inl e) = e
-    by (inr n) = absurd (false_true (from_prefix b a g) (above a b h n))
+one_text a b h g = elim (same_or_other b a) [ inl e ↦ e | inr n ↦ absurd (false_true (from_prefix b a g) (above a b h n)) ]
 
 module _ (z : Objects) (k : List ℕ) (h : HasMore z k) where
   -- where one of them goes, the others are still such
@@ -53,11 +41,10 @@ module _ (z : Objects) (k : List ℕ) (h : HasMore z k) where
 
   -- and what was above one of them is above another key
   some_without : (t : List ℕ) → SomeBelow z t → SomeBelow (fin.remove z k) t
-  some_without t g = by (same_or_other g.0 k)
-    where
-      by : (g.0 ≡ k) ⊎ (g.0 ≡ k → ⊥) → SomeBelow (fin.remove z k) t
-      by (inl e) = (h.0, begins_trans t k h.0 (subst (λ j. begins t j ≡ true) e g.1) h.1, h.3.0, text_left z k h.0 h.2 ∙ h.3.1)
-      by (inr n) = (g.0, g.1, g.2, text_left z k g.0 n ∙ g.3)
+  some_without t g = elim (same_or_other g.0 k) [
+    | inl e ↦ (h.0, begins_trans t k h.0 (subst (λ j. begins t j ≡ true) e g.1) h.1, h.3.0, text_left z k h.0 h.2 ∙ h.3.1)
+    | inr n ↦ (g.0, g.1, g.2, text_left z k g.0 n ∙ g.3)
+  ]
 
 all_without : (ks : List (List ℕ)) (z : Objects) (t : List ℕ) → ((k : List ℕ) → IsIn k ks → HasMore z k) → SomeBelow z t → SomeBelow (without z ks) t
 all_without [] z t h g = g
@@ -69,11 +56,7 @@ without_append z [] qs = refl
 without_append z (k ∷ ks) qs = without_append (fin.remove z k) ks qs
 
 stood : (z : Objects) (ks : List (List ℕ)) (k : List ℕ) → Stands (without z ks) k → Stands z k
-stood z ks k h = by (is_in k ks)
-  where
-    by : IsIn k ks ⊎ (IsIn k ks → ⊥) → Stands z k
-    by (inl i) = absurd (none_some (gone_in z ks k i) h.1)
-    by (inr n) = (h.0, sym (kept_out z ks k n) ∙ h.1)
+stood z ks k h = elim (is_in k ks) [ inl i ↦ absurd (none_some (gone_in z ks k i) h.1) | inr n ↦ (h.0, sym (kept_out z ks k n) ∙ h.1) ]
 
 module _ (p : List ℕ) (z : Objects) (ks : List (List ℕ)) (h : (k : List ℕ) → IsIn k ks → IsSurplus p z k) where
   dirs_stay : (q : List ℕ) → HasDir z q → HasDir (without z ks) q
@@ -131,20 +114,13 @@ put_in z (x ∷ ks) k i = by i (is_in k ks) (put_in (fin.insert z x marker) ks k
     by (inr j) (inr n) old = absurd (n j)
 
 stands_with : (z : Objects) (ks : List (List ℕ)) (k : List ℕ) → Stands z k → Stands (with_markers z ks) k
-stands_with z ks k h = by (is_in k ks)
-  where
-    by : IsIn k ks ⊎ (IsIn k ks → ⊥) → Stands (with_markers z ks) k
-    by (inl i) = (marker, put_in z ks k i)
-    by (inr n) = (h.0, put_out z ks k n ∙ h.1)
+stands_with z ks k h = elim (is_in k ks) [ inl i ↦ (marker, put_in z ks k i) | inr n ↦ (h.0, put_out z ks k n ∙ h.1) ]
 
 module _ (p : List ℕ) (z : Objects) (ks : List (List ℕ)) (h : (k : List ℕ) → IsIn k ks → IsMissing p z k) where
   -- what is above a key was above one before
   some_was : (t : List ℕ) → SomeBelow (with_markers z ks) t → SomeBelow z t
-  some_was t g = by (is_in g.0 ks)
-    where
-      by : IsIn g.0 ks ⊎ (IsIn g.0 ks → ⊥) → SomeBelow z t
-      by (inl i) = let s = (h g.0 i).2 in (s.0, begins_trans t g.0 s.0 g.1 s.1, s.2, s.3)
-      by (inr n) = (g.0, g.1, g.2, sym (put_out z ks g.0 n) ∙ g.3)
+  some_was t g =
+      elim (is_in g.0 ks) [ inl i ↦ let s = (h g.0 i).2 in (s.0, begins_trans t g.0 s.0 g.1 s.1, s.2, s.3) | inr n ↦ (g.0, g.1, g.2, sym (put_out z ks g.0 n) ∙ g.3) ]
 
   dirs_kept : (q : List ℕ) → HasDir z q → HasDir (with_markers z ks) q
   dirs_kept [] g = tt
@@ -173,10 +149,6 @@ fills p z ks a = record {
   number = refl;
   put = put_in z ks;
   others = put_out z ks;
-  none = λ k s. by k s (is_in k ks);
+  none = λ k s. (elim (is_in k ks) [ inl i ↦ none_some s.1 (put_in z ks k i) | inr n ↦ n (a.all k (s.0, sym (put_out z ks k n) ∙ s.1, some_was p z ks a.each k s.2)) ]);
   tree = same_with p z ks a.each;
 }
-  where
-    by : (k : List ℕ) → IsMissing p (with_markers z ks) k → IsIn k ks ⊎ (IsIn k ks → ⊥) → ⊥
-    by k s (inl i) = none_some s.1 (put_in z ks k i)
-    by k s (inr n) = n (a.all k (s.0, sym (put_out z ks k n) ∙ s.1, some_was p z ks a.each k s.2))

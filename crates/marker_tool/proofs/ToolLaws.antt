@@ -1,12 +1,12 @@
 -- The stages of the marker tool keep what they promise, whatever is done in a directory.
-use Rattle.std.specs.Prelude.{◌≡◌, ◌⊎◌, ℕ, ◌+◌, ◌<◌, ◌≤◌, nat_lt, Bool, true, false, cond, List, [], ◌∷◌, ◌++◌, length, take, drop, Result, Ok, Err, Option, Some, None}
+use Rattle.std.specs.Prelude.{◌≡◌, ◌⊎◌, ℕ, ◌+◌, ◌<◌, ◌≤◌, nat_lt, Bool, true, false, cond, List, [], ◌∷◌, ◌++◌, length, take, drop, Result, Ok, Err, Option, Some}
 use Rattle.std.proofs.Common.{refl, sym, ap, subst, ◌∙◌, inl, inr, arith}
 use Rattle.path_keys.proofs.Common.{ltb-true, ltb-false, take-append-drop, take_all, length-drop, in_front, in_back}
-use Rattle.fs_ops.specs.Prelude.{Objects, head, PageEntry, IsIn, Step, Next, End, Goes, Falls, Look, There, Nothing, NoBucket, Other, look_of, Ask, reply_in, edited, IsPhases, MayAsk, Walked, More, Whole, walked_entries, all_below, walk_asks, fits, IsWalking, IsWalked, walk_left, LessWalked, marker_of, Stands, NoFile, IsDirectory, FsRefusal, NotFound, NotDirectory, NoSuchBucket, key_if, look_asks, prefix_of, goes_by, IsStages}
+use Rattle.fs_ops.specs.Prelude.{Objects, PageEntry, IsIn, Step, Next, End, Goes, Falls, Look, There, look_of, Ask, reply_in, edited, IsPhases, MayAsk, Walked, More, Whole, walked_entries, all_below, walk_asks, fits, IsWalking, IsWalked, walk_left, LessWalked, marker_of, NoFile, IsDirectory, FsRefusal, NotFound, NotDirectory, NoSuchBucket, key_if, look_asks, prefix_of, goes_by, IsStages}
 use Rattle.std.proofs.Math.Seq.{take-add}
 use Rattle.std.specs.FinMap as fin
 use Rattle.bucket_ops.proofs.Walks.{walk_fits, walk_begins, walk_goes, walk_falls}
-use Rattle.fs_ops.proofs.Looks.{IsSeen, head_tells, none_listed, first_listed}
+use Rattle.fs_ops.proofs.Looks.{at_key, none_listed, first_listed}
 use Rattle.fs_ops.proofs.StepLaws.{phases_of}
 use Rattle.fs_ops.proofs.AtPathLaws.{looks_there, still_look}
 use Rattle.marker_tool.specs.declared.tool.ToolStage.{ToolStage}
@@ -43,14 +43,9 @@ module _ {A : Type 0} {keys : List ℕ → List PageEntry → List (List ℕ)} {
 
     change_holds : (ks : List (List ℕ)) (n : ℕ) (a : A) → IsDirectory z o → ks ≡ Keys → a ≡ answer (prefix_of o) All → (b : Bool) → nat_lt batch (length (drop n ks)) ≡ b
         → On (cond b (Next (Change ks (n + batch) a)) (End (Ok a))) (changed z (take (n + batch) ks))
-    change_holds ks n a d e f true t =
-        let l = ltb-true batch (length (drop n ks)) t in
-        let s = length-drop n ks in
-        (d, e, f, omega (arith, l, s), refl)
+    change_holds ks n a d e f true t = (d, e, f, omega (arith, ltb-true batch (length (drop n ks)) t, length-drop n ks), refl)
     change_holds ks n a d e f false t =
-        let l = ltb-false batch (length (drop n ks)) t in
-        let s = length-drop n ks in
-        let all : length ks ≤ n + batch = omega (arith, l, s) in
+        let all : length ks ≤ n + batch = omega (arith, ltb-false batch (length (drop n ks)) t, length-drop n ks) in
         subst (λ a. gives o z (Ok a) (changed z (take (n + batch) ks))) (sym f)
         (subst (λ ks. gives o z (Ok (answer (prefix_of o) All)) (changed z ks)) (sym (take_all (n + batch) ks all ∙ e)) (w.given o z d))
 
@@ -88,14 +83,11 @@ module _ {A : Type 0} {keys : List ℕ → List PageEntry → List (List ℕ)} {
       subst (λ b. On o z (on_walk keys answer o es (reply_in z (walk_asks (prefix_of o) es)) b) z) (sym (walk_fits (prefix_of o) es z))
       (walked_holds o z (walked_entries es (reply_in z (walk_asks (prefix_of o) es))) f (walk_goes (prefix_of o) z es h))
 
-  key_seen : (x : ℕ) (p : List ℕ) (z : Objects) (l : Look) → IsSeen l (Stands z (x ∷ p)) (fin.get z (x ∷ p) ≡ None) → On (x ∷ p) z (on_key (Some (x ∷ p)) l) z
-  key_seen x p z There h = w.refused (x ∷ p) z (NotDirectory (x ∷ p)) (h, refl)
-  key_seen x p z Nothing h = (refl, h, walk_begins (marker_of (x ∷ p)) z)
-  key_seen x p z _ h = absurd h
-
   looked : (o : List ℕ) (z : Objects) → On o z (on_key (key_if o) (look_of (reply_in z (look_asks o)))) (edited (look_asks o) z)
   looked [] z = (refl, tt, walk_begins [] z)
-  looked (x ∷ p) z = key_seen x p z (look_of (head (fin.get z (x ∷ p)))) (head_tells z (x ∷ p))
+  looked (x ∷ p) z =
+      at_key (λ l. On (x ∷ p) z (on_key (Some (x ∷ p)) l) z) z (x ∷ p) (λ s. w.refused (x ∷ p) z (NotDirectory (x ∷ p)) (s, refl))
+      (λ n. (refl, n, walk_begins (marker_of (x ∷ p)) z))
 
   step : (o : List ℕ) (z : Objects) (x : ToolStage A) (m : Objects) → holds keys answer changed o z x m → On o z (on keys answer batch o x (reply_in m (asks changes o x))) (edited (asks changes o x) m)
   step o z Here m h = subst (λ m. On o z (on_key (key_if o) (look_of (reply_in m (look_asks o)))) (edited (look_asks o) m)) (sym h) (looked o z)
@@ -123,11 +115,8 @@ module _ {A : Type 0} {keys : List ℕ → List PageEntry → List (List ℕ)} {
   Most o m = length (keys (prefix_of o) (all_below (prefix_of o) m))
 
   fall_key : (o : List ℕ) (k : Option (List ℕ)) (l : Look) (m : Objects) → Fall o (on_key k l) m (Left o Here m)
-  fall_key o None l m = omega arith
   fall_key o (Some k) There m = tt
-  fall_key o (Some k) Nothing m = omega arith
-  fall_key o (Some k) NoBucket m = omega arith
-  fall_key o (Some k) Other m = omega arith
+  fall_key o _ _ m = omega arith
 
   fall_begun : (o : List ℕ) (ks : List (List ℕ)) (a : A) (m : Objects) (n : ℕ) → length ks < n → Fall o (begun ks a) m n
   fall_begun o [] a m n h = tt
@@ -160,22 +149,18 @@ module _ {A : Type 0} {keys : List ℕ → List PageEntry → List (List ℕ)} {
   falls o z (Walk es) m h = fall_walk o m es (subst (λ m. IsWalking (prefix_of o) m es) (sym h.0) h.2)
   falls o z (Change ks n a) m h = fall_change o ks n a (edited (changes (drop n ks)) m) (nat_lt batch (length (drop n ks))) refl h.3
 
-  stays : (o : List ℕ) (x : ToolStage A) (m : Objects) → Left o x (edited (asks changes o x) m) ≡ Left o x m
-  stays o Here m = ap (Left o Here) (still_look o m)
-  stays o _ m = refl
-
   stages : IsStages {O = List ℕ} first (asks changes) (on keys answer batch) (holds keys answer changed) gives always (left keys)
   stages = record {
     begin = λ o z. refl;
     goes_on = λ o z x m h. step o z x m h;
     falls = λ o z x m h. falls o z x m h;
-    stays = λ o z x m h. stays o x m;
+    stays = λ o z x m h. elim x as (λ x. Left o x (edited (asks changes o x) m) ≡ Left o x m) [ Here ↦ ap (Left o Here) (still_look o m) | _ ↦ refl ];
     during = λ o z x m h. during o z x m h;
     at_end = λ o z a m h. w.at_end o z a m h;
   }
 
   pub tool_laws : IsPhases {O = List ℕ} first (asks changes) (goes_by (on keys answer batch)) (holds keys answer changed) gives always (left keys) (Err NoSuchBucket)
-  tool_laws = phases_of stages
+  tool_laws = phases_of (Err NoSuchBucket) stages
 
   pub tool_asked : MayAsk {O = List ℕ} (asks changes) (holds keys answer changed) sends
   tool_asked o z Here m h = w.looks o z (look_asks o) (looks_there o)

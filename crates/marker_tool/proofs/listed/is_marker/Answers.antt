@@ -1,4 +1,4 @@
-use Rattle.std.proofs.Common.{◌≡◌, ◌∙◌, Bool, true, false, Some, None, refl, sym, ap, arith}
+use Rattle.std.proofs.Common.{◌≡◌, ◌∙◌, true, false, Some, None, refl, sym, ap, arith}
 use Rattle.path_keys.proofs.Common.{strip_suffix_char}
 use Rattle.fs_ops.specs.Prelude.{is_marker}
 use Rattle.fs_tree.proofs.Begins.{marker_is}
@@ -10,10 +10,7 @@ returns-in-Some c =
     sym (ap is_marker (strip_suffix_char 47 c.args.key.now (Some c.in-Some.field-0) c.in-Some.ensures.cases (omega arith)) ∙ marker_is c.in-Some.field-0.now)
 
 pub returns-in-None : goal.returns-in-None
-returns-in-None c = by (is_marker c.args.key.now) refl
-  where
-    by : (b : Bool) → is_marker c.args.key.now ≡ b → false ≡ is_marker c.args.key.now
-    by true e =
-        let w = marker_ends c.args.key.now e in
-        absurd (strip_suffix_char 47 c.args.key.now None c.in-None.ensures.cases (omega arith) w.0 w.1)
-    by false e = sym e
+returns-in-None c = (elim (is_marker c.args.key.now) as (λ b. is_marker c.args.key.now ≡ b → false ≡ is_marker c.args.key.now) [
+  | true ↦ λ e. let w = marker_ends c.args.key.now e in absurd (strip_suffix_char 47 c.args.key.now None c.in-None.ensures.cases (omega arith) w.0 w.1)
+  | false ↦ λ e. sym e
+]) refl

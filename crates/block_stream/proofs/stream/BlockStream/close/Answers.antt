@@ -1,5 +1,4 @@
 use Rattle.std.proofs.Common.{refl, sym, ap, ◌∙◌}
-use Rattle.std.specs.Prelude.{Ok}
 use Rattle.block_stream.specs.Stream.{Stream, shut, close}
 use Rattle.block_stream.specs.Kept.{seen, front_of, last_of}
 use Rattle.block_stream.proofs.Invariant.{close_in}
@@ -23,14 +22,14 @@ returns-clause-ok c =
     (c.in_ok-last.ensures ∙ ap last_of c.as_slice.ensures.value) refl c.put.ensures c.in_ok-asked.ensures.next c.in_ok-asked.ensures.added c.new.ensures.items).0 ∙ ap close c.self.view_is
 
 pub returns-clause-holds : goal.returns-clause-holds
-returns-clause-holds c = holds_closed {E = Unit {0}} (Ok tt) c.args.self.now _ c.requires (returns-clause-ok c)
+returns-clause-holds c = holds_closed c.args.self.now _ c.requires (returns-clause-ok c)
 
 pub returns-clause-asked : goal.returns-clause-asked
-returns-clause-asked c = asked_closed {E = Unit {0}} (Ok tt) c.args.self.now _ c.requires (returns-clause-ok c)
+returns-clause-asked c = asked_closed c.args.self.now _ c.requires (returns-clause-ok c)
 
 -- after a fault
 pub returns-then-is_some-clause-holds : goal.returns-then-is_some-clause-holds
 returns-then-is_some-clause-holds c =
     let s = c.self.inside in
     let m = seen s.output.mode s.output.bucket s.output.key s.output.block s.queue s.rest.items s.upload s.tags s.count s.closed s.end in
-    holds_closed {E = Unit {0}} (Ok tt) c.args.self.now (shut m) c.requires (shut_ended m (sym c.is_some.ensures ∙ c.if-is_some.true) ∙ ap close c.self.view_is)
+    holds_closed c.args.self.now (shut m) c.requires (shut_ended m (sym c.is_some.ensures ∙ c.if-is_some.true) ∙ ap close c.self.view_is)
