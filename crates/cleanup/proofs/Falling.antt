@@ -1,7 +1,7 @@
 -- What a clean has left falls.
-use Rattle.std.proofs.Common.{◌≡◌, ℕ, ◌+◌, ◌<◌, ◌≤◌, Bool, true, false, List, [], ◌∷◌, ◌++◌, length, Option, Some, None, refl, sym, ap, subst, ◌∙◌, arith}
-use Rattle.std.specs.Prelude.{codes}
-use Rattle.job_protocol.specs.Prelude.{filter, Scene, answer, apply, begins, Committer, Magic, Directory, Partitioned, Request, AbortUpload, ClusterDelete, UploadRef, Job, job_script, Walked, More, Whole, Sweep, sweep_start, sweep_asks, sweep_hears, all_go, uploads_after, walked_uploads, Clean, Walking, Aborting, Naming, Removing, CleanOver, clean_asks, clean_hears, aborted, aborting, walking, sweeping, removing, FitsUploads, FitsSweep, uploads_left, left_of, adds_key, one_if}
+use Rattle.std.proofs.Common.{◌≡◌, ℕ, ◌+◌, ◌<◌, ◌≤◌, Bool, true, false, List, [], ◌∷◌, ◌++◌, length, Option, Some, None, refl, sym, ap, subst, arith}
+use Rattle.std.specs.Prelude.{codes, IfSome}
+use Rattle.job_protocol.specs.Prelude.{filter, Scene, answer, apply, begins, Committer, Magic, Directory, Partitioned, Request, AbortUpload, ClusterDelete, UploadRef, Job, job_script, Walked, More, Whole, sweep_start, sweep_asks, sweep_hears, all_go, uploads_after, walked_uploads, Clean, Walking, Aborting, Naming, Removing, CleanOver, clean_asks, clean_hears, aborted, aborting, walking, sweeping, removing, uploads_left, left_of, adds_key, one_if}
 use Rattle.std.specs.FinMap as fin
 use Rattle.proof_base.proofs.Options.{some_is}
 use Rattle.magic_paths.specs.Layout as layout
@@ -14,9 +14,14 @@ use Rattle.cleanup.specs.Fits.{FitsClean}
 use Rattle.cleanup.specs.Left.{after_left, left_at}
 use Rattle.cleanup.specs.Laws.{CleansEnd}
 
-one_most : (b : Bool) → one_if b ≤ 1
+pub one_most : (b : Bool) → one_if b ≤ 1
 one_most true = omega arith
 one_most false = omega arith
+
+-- what holds of a request that is asked
+pub of_some : (P : Request → Type 0) (o : Option Request) (r : Request) → o ≡ Some r → IfSome o P → P r
+of_some P None r e h = absurd (cc)
+of_some P (Some x) r e h = subst P (some_is x r e) h
 
 -- ---- once the uploads are aborted
 
@@ -36,17 +41,9 @@ after_rises Magic j s r =
 after_rises Directory j s r = let o = growth.files (layout.cluster_prefix j.job) s r in omega (arith, o)
 after_rises Partitioned j s r = let o = growth.files (layout.cluster_prefix j.job) s r in omega (arith, o)
 
-aborted_left : (c : Committer) (j : Job) (s : Scene) → left_at j (aborted c) s ≡ after_left c j s
-aborted_left Magic j s = refl
-aborted_left _ j s = refl
-
 aborting_left : (j : Job) (us : List UploadRef) (s : Scene) → left_at j (aborting j.committer us) s ≡ length us + after_left j.committer j s
-aborting_left j [] s = let e = aborted_left j.committer j s in omega (arith, e)
+aborting_left j [] s = let e = elim j.committer as (λ c. left_at j (aborted c) s ≡ after_left c j s) [ Magic ↦ refl | _ ↦ refl ] in omega (arith, e)
 aborting_left j (u ∷ us) s = omega arith
-
-sweeping_left : (j : Job) (o : Option Sweep) (s : Scene) → left_at j (sweeping o) s ≡ left_of j.dest.bucket (layout.magic_prefix j.dest.key j.job) o s
-sweeping_left j (Some w) s = refl
-sweeping_left j None s = refl
 
 removing_left : (j : Job) (ps : List (List ℕ)) (s : Scene) → left_at j (removing ps) s ≡ length ps
 removing_left j [] s = refl
@@ -58,67 +55,39 @@ walked_left : (j : Job) (s : Scene) (n : ℕ) (x : Walked UploadRef) → LessUpl
 walked_left j s n (More found) h = omega (arith, h)
 walked_left j s n (Whole found) h = let e = aborting_left j found s in omega (arith, h, e)
 
-walking_falls : (j : Job) (found : List UploadRef) (s : Scene) → FitsUploads (answer s (uploads_after j.dest.bucket (j.dest.key ++ codes "/") found))
-    → left_at j (walking j.committer (walked_uploads found (answer s (uploads_after j.dest.bucket (j.dest.key ++ codes "/") found)))) (apply s (uploads_after j.dest.bucket (j.dest.key ++ codes "/") found)) < left_at j (Walking found) s
-walking_falls j found s h =
-    subst (λ z. left_at j (walking j.committer (walked_uploads found (answer s (uploads_after j.dest.bucket (j.dest.key ++ codes "/") found)))) z < left_at j (Walking found) s)
-    (sym (upload_laws.still j.dest.bucket (j.dest.key ++ codes "/") found s))
-    (walked_left j s (uploads_left j.dest.bucket (j.dest.key ++ codes "/") found s) (walked_uploads found (answer s (uploads_after j.dest.bucket (j.dest.key ++ codes "/") found)))
-    (upload_laws.falls j.dest.bucket (j.dest.key ++ codes "/") found s h))
+abbrev Falls : Job → Clean → Scene → Request → Type 0
+Falls j c s r = FitsClean c (answer s r) → left_at j (clean_hears (job_script j) c (answer s r)) (apply s r) < left_at j c s
 
-aborting_falls : (j : Job) (u : UploadRef) (us : List UploadRef) (s : Scene) → left_at j (aborting j.committer us) (apply s (AbortUpload j.dest.bucket u.key u.upload)) < left_at j (Aborting u us) s
-aborting_falls j u us s =
+falls_at : (j : Job) (c : Clean) (s : Scene) → IfSome (clean_asks (job_script j) c) (Falls j c s)
+falls_at j (Walking found) s = λ h.
+    let a = answer s (uploads_after j.dest.bucket (j.dest.key ++ codes "/") found) in
+    subst (λ z. left_at j (walking j.committer (walked_uploads found a)) z < left_at j (Walking found) s) (sym (upload_laws.still j.dest.bucket (j.dest.key ++ codes "/") found s))
+    (walked_left j s (uploads_left j.dest.bucket (j.dest.key ++ codes "/") found s) (walked_uploads found a) (upload_laws.falls j.dest.bucket (j.dest.key ++ codes "/") found s h))
+falls_at j (Aborting u us) s = λ h.
     let e = aborting_left j us (apply s (AbortUpload j.dest.bucket u.key u.upload)) in
     let k = after_keeps j.committer j s (AbortUpload j.dest.bucket u.key u.upload) refl refl in
     omega (arith, e, k)
-
-sweeping_falls : (j : Job) (w : Sweep) (s : Scene) → FitsSweep w (answer s (sweep_asks j.dest.bucket (layout.magic_prefix j.dest.key j.job) w))
-    → left_at j (sweeping (sweep_hears all_go w (answer s (sweep_asks j.dest.bucket (layout.magic_prefix j.dest.key j.job) w)))) (apply s (sweep_asks j.dest.bucket (layout.magic_prefix j.dest.key j.job) w)) < left_at j (Sweeping w) s
-sweeping_falls j w s h =
+falls_at j (Sweeping w) s = λ h.
+    let r = sweep_asks j.dest.bucket (layout.magic_prefix j.dest.key j.job) w in
     let f = sweep_laws.falls j.dest.bucket (layout.magic_prefix j.dest.key j.job) all_go w s h in
-    let e = sweeping_left j (sweep_hears all_go w (answer s (sweep_asks j.dest.bucket (layout.magic_prefix j.dest.key j.job) w))) (apply s (sweep_asks j.dest.bucket (layout.magic_prefix j.dest.key j.job) w)) in
+    let e = elim (sweep_hears all_go w (answer s r)) as (λ o. left_at j (sweeping o) (apply s r) ≡ left_of j.dest.bucket (layout.magic_prefix j.dest.key j.job) o (apply s r))
+    [ Some v ↦ refl | None ↦ refl ] in
     omega (arith, f, e)
+falls_at j Naming s = λ h. let e = removing_left j (filter (begins (layout.cluster_prefix j.job)) (fin.keys s.files)) s in omega (arith, e)
+falls_at j (Removing p ps) s = λ h. let e = removing_left j ps (apply s (ClusterDelete p)) in omega (arith, e)
+falls_at j (CleanOver end) s = tt
 
-naming_falls : (j : Job) (s : Scene) → left_at j (removing (filter (begins (layout.cluster_prefix j.job)) (fin.keys s.files))) s < left_at j Naming s
-naming_falls j s = let e = removing_left j (filter (begins (layout.cluster_prefix j.job)) (fin.keys s.files)) s in omega (arith, e)
+some_left : (j : Job) (c : Clean) (s : Scene) → IfSome (clean_asks (job_script j) c) (λ r. 0 < left_at j c s)
+some_left j (Sweeping w) s = sweep_laws.some j.dest.bucket (layout.magic_prefix j.dest.key j.job) w s
+some_left j (CleanOver end) s = tt
+some_left j _ s = omega arith
 
-removing_falls : (j : Job) (p : List ℕ) (ps : List (List ℕ)) (s : Scene) → left_at j (removing ps) (apply s (ClusterDelete p)) < left_at j (Removing p ps) s
-removing_falls j p ps s = let e = removing_left j ps (apply s (ClusterDelete p)) in omega (arith, e)
-
-none_some : {r : Request} → None ≡ Some r → ⊥
-none_some e = cc
-
-falls_at : (j : Job) (c : Clean) (s : Scene) (r : Request) → clean_asks (job_script j) c ≡ Some r → FitsClean c (answer s r) → left_at j (clean_hears (job_script j) c (answer s r)) (apply s r) < left_at j c s
-falls_at j (Walking found) s r e h =
-    subst (λ r. FitsClean (Walking found) (answer s r) → left_at j (clean_hears (job_script j) (Walking found) (answer s r)) (apply s r) < left_at j (Walking found) s) (some_is _ _ e) (walking_falls j found s) h
-falls_at j (Aborting u us) s r e h =
-    subst (λ r. left_at j (clean_hears (job_script j) (Aborting u us) (answer s r)) (apply s r) < left_at j (Aborting u us) s) (some_is _ _ e) (aborting_falls j u us s)
-falls_at j (Sweeping w) s r e h =
-    subst (λ r. FitsClean (Sweeping w) (answer s r) → left_at j (clean_hears (job_script j) (Sweeping w) (answer s r)) (apply s r) < left_at j (Sweeping w) s) (some_is _ _ e) (sweeping_falls j w s) h
-falls_at j Naming s r e h =
-    subst (λ r. left_at j (clean_hears (job_script j) Naming (answer s r)) (apply s r) < left_at j Naming s) (some_is _ _ e) (naming_falls j s)
-falls_at j (Removing p ps) s r e h =
-    subst (λ r. left_at j (clean_hears (job_script j) (Removing p ps) (answer s r)) (apply s r) < left_at j (Removing p ps) s) (some_is _ _ e) (removing_falls j p ps s)
-falls_at j (CleanOver end) s r e h = absurd (none_some e)
-
-some_left : (j : Job) (c : Clean) (s : Scene) (r : Request) → clean_asks (job_script j) c ≡ Some r → 0 < left_at j c s
-some_left j (Sweeping w) s r e = sweep_laws.some j.dest.bucket (layout.magic_prefix j.dest.key j.job) w s
-some_left j (CleanOver end) s r e = absurd (none_some e)
-some_left j _ s r e = omega arith
-
-same_left : (j : Job) (c : Clean) (s z : Scene) → z ≡ s → left_at j c z ≤ left_at j c s
-same_left j c s z e = let i = ap (left_at j c) e in omega (arith, i)
-
-keeps_aborting : (j : Job) (u : UploadRef) (us : List UploadRef) (s : Scene) → left_at j (Aborting u us) (apply s (AbortUpload j.dest.bucket u.key u.upload)) ≤ left_at j (Aborting u us) s
-keeps_aborting j u us s = let k = after_keeps j.committer j s (AbortUpload j.dest.bucket u.key u.upload) refl refl in omega (arith, k)
-
-no_rise_at : (j : Job) (c : Clean) (s : Scene) (r : Request) → clean_asks (job_script j) c ≡ Some r → left_at j c (apply s r) ≤ left_at j c s
-no_rise_at j (Walking found) s r e =
-    same_left j (Walking found) s (apply s r) (ap (apply s) (sym (some_is _ _ e)) ∙ upload_laws.still j.dest.bucket (j.dest.key ++ codes "/") found s)
-no_rise_at j (Aborting u us) s r e = subst (λ r. left_at j (Aborting u us) (apply s r) ≤ left_at j (Aborting u us) s) (some_is _ _ e) (keeps_aborting j u us s)
-no_rise_at j (Sweeping w) s r e = subst (λ r. left_at j (Sweeping w) (apply s r) ≤ left_at j (Sweeping w) s) (some_is _ _ e) (sweep_laws.no_rise j.dest.bucket (layout.magic_prefix j.dest.key j.job) w s)
-no_rise_at j Naming s r e = same_left j Naming s (apply s r) (ap (apply s) (sym (some_is _ _ e)))
-no_rise_at j _ s r e = omega arith
+no_rise_at : (j : Job) (c : Clean) (s : Scene) → IfSome (clean_asks (job_script j) c) (λ r. left_at j c (apply s r) ≤ left_at j c s)
+no_rise_at j (Walking found) s = let i = ap (left_at j (Walking found)) (upload_laws.still j.dest.bucket (j.dest.key ++ codes "/") found s) in omega (arith, i)
+no_rise_at j (Aborting u us) s = let k = after_keeps j.committer j s (AbortUpload j.dest.bucket u.key u.upload) refl refl in omega (arith, k)
+no_rise_at j (Sweeping w) s = sweep_laws.no_rise j.dest.bucket (layout.magic_prefix j.dest.key j.job) w s
+no_rise_at j (CleanOver end) s = tt
+no_rise_at j _ s = omega arith
 
 others_at : (j : Job) (c : Clean) (s : Scene) (r : Request) → left_at j c (apply s r) ≤ left_at j c s + 3
 others_at j (Walking found) s r =
@@ -136,8 +105,8 @@ others_at j _ s r = omega arith
 
 pub cleans_end : CleansEnd
 cleans_end = record {
-  falls = λ m s r b e h. falls_at m.plan m.operation s r e h;
-  falls_worn = λ m s r e. some_left m.plan m.operation s r e;
-  no_rise = λ m s r e. no_rise_at m.plan m.operation s r e;
+  falls = λ m s r b e h. of_some (Falls m.plan m.operation s) _ r e (falls_at m.plan m.operation s) h;
+  falls_worn = λ m s r e. of_some (λ r. 0 < left_at m.plan m.operation s) _ r e (some_left m.plan m.operation s);
+  no_rise = λ m s r e. of_some (λ r. left_at m.plan m.operation (apply s r) ≤ left_at m.plan m.operation s) _ r e (no_rise_at m.plan m.operation s);
   others = λ m s r. others_at m.plan m.operation s r;
 }

@@ -1,12 +1,12 @@
 -- How a sparing clean goes on.
 use Rattle.std.specs.Prelude.{◌≡◌, ℕ, List, [], ◌∷◌, ◌++◌, drop, Some}
 use Rattle.std.proofs.Common.{refl}
-use Rattle.job_protocol.specs.Prelude.{filter, Committer, Magic, Request, UploadRef, Reply, ClusterNames, Job, job_script, Walked, More, Whole}
+use Rattle.job_protocol.specs.Prelude.{filter, Committer, Magic, Request, UploadRef, Reply, ClusterNames, Job, job_script, More, Whole}
 use Rattle.machine.specs.Prelude.{AskLaws, Fine}
 use Rattle.list_walk.specs.Walks.{walked}
 use Rattle.job_protocol.specs.AtWork.{sparing_wants, sparing_told}
 use Rattle.magic_paths.specs.Places.{is_record}
-use Rattle.job_protocol.specs.Sparing.{Sparing, Walking, Naming, Reading, Aborting, Deleting, Removing, SparingOver, sparing_asks, sparing_hears, names, deleting, removing, emptying, aborting, reading_on, walking, naming}
+use Rattle.job_protocol.specs.Sparing.{Sparing, Walking, Naming, Reading, Aborting, Deleting, Removing, SparingOver, sparing_asks, sparing_hears, names, deleting, removing, aborting, reading_on, walking, naming}
 use Rattle.cleanup.specs.SparingFits.{FitsSparingDriving, sparing_standing, sparing_standing_of}
 
 fine_deleting : (ks : List (List ℕ)) → sparing_standing_of (deleting ks) ≡ Fine
@@ -17,29 +17,19 @@ fine_removing : (ps : List (List ℕ)) → sparing_standing_of (removing ps) ≡
 fine_removing [] = refl
 fine_removing (p ∷ ps) = refl
 
-fine_emptying : (c : Committer) (all : List (List ℕ)) → sparing_standing_of (emptying c all) ≡ Fine
-fine_emptying Magic all = fine_deleting all
-fine_emptying _ all = fine_removing all
-
 fine_aborting : (c : Committer) (us : List UploadRef) (all : List (List ℕ)) → sparing_standing_of (aborting c us all) ≡ Fine
-fine_aborting c [] all = fine_emptying c all
+fine_aborting Magic [] all = fine_deleting all
+fine_aborting _ [] all = fine_removing all
 fine_aborting c (u ∷ us) all = refl
 
 fine_reading : (c : Committer) (named : List UploadRef) (ps all : List (List ℕ)) → sparing_standing_of (reading_on c named ps all) ≡ Fine
 fine_reading c named [] all = fine_aborting c named all
 fine_reading c named (p ∷ ps) all = refl
 
-fine_walking : (c : Committer) (x : Walked (List ℕ)) → sparing_standing_of (walking c x) ≡ Fine
-fine_walking c (More keys) = refl
-fine_walking c (Whole keys) = fine_reading c [] (filter is_record keys) keys
-
-fine_naming : (c : Committer) (r : Reply) → sparing_standing_of (naming c r) ≡ Fine
-fine_naming c (ClusterNames paths) = fine_reading c [] paths paths
-fine_naming c _ = refl
-
 goes_on : (j : Job) (x : Sparing) (r : Request) (a : Reply) → sparing_asks (job_script j) x ≡ Some r → sparing_standing_of (sparing_hears (job_script j) x a) ≡ sparing_standing_of x
-goes_on j (Walking keys) r a e = fine_walking j.committer (walked keys a)
-goes_on j Naming r a e = fine_naming j.committer a
+goes_on j (Walking keys) r a e =
+    elim (walked keys a) as (λ x. sparing_standing_of (walking j.committer x) ≡ Fine) [ More ks ↦ refl | Whole ks ↦ fine_reading j.committer [] (filter is_record ks) ks ]
+goes_on j Naming r a e = elim a as (λ a. sparing_standing_of (naming j.committer a) ≡ Fine) [ ClusterNames paths ↦ fine_reading j.committer [] paths paths | _ ↦ refl ]
 goes_on j (Reading named p ps all) r a e = fine_reading j.committer (named ++ names a) ps all
 goes_on j (Aborting u us all) r a e = fine_aborting j.committer us all
 goes_on j (Deleting k ks) r a e = fine_deleting (drop 1000 (k ∷ ks))

@@ -5,7 +5,6 @@ use Rattle.std.proofs.Common.{Bor}
 use Rattle.s3_types.specs.Prelude.{StripsPrefix}
 use Rattle.job_protocol.specs.Prelude.{FindsTextPrefix, starts_with, bytes_decides, relative_in}
 use Rattle.path_keys.proofs.Common.{take-append-drop, take-append_seam, drop-append_seam}
-use Rattle.std.specs.Str.Pattern.{LacksTextAt}
 
 cut_yes : (pre rest : List ℕ) → cond (starts_with nat_eq (pre ++ rest) pre) (Some (drop (length pre) (pre ++ rest))) None ≡ Some rest
 cut_yes pre rest =
@@ -43,6 +42,3 @@ behind_front key text rest h front (Some x) cut =
     let whole : text ≡ key ++ rest = front.1.1 ∙ ap (λ v. key ++ v) (sym front.2) in
     let slash : rest ≡ 47 ∷ x.now = cut.1.1 ∙ ap (λ v. 47 ∷ v) (sym cut.2) in
     sym (relative_some key text x.now h (whole ∙ ap (λ v. key ++ v) slash))
-
-pub behind_none : (key text : List ℕ) → 0 < length key → LacksTextAt key text 0 → None ≡ relative_in key text
-behind_none key text h lacks = sym (relative_none key text h (λ r e. lacks (47 ∷ r) e))

@@ -1,35 +1,28 @@
 -- uploads of picks that write absent path twice are of different keys
-use Rattle.std.proofs.Common.{◌≡◌, ℕ, zero, suc, ◌+◌, ◌-◌, ◌<◌, ◌≤◌, ◌⊎◌, inl, inr, refl, ap, sym, subst, ◌∙◌, arith, List, [], ◌∷◌, ◌++◌, map, length, slice_get, Some, None, length-append}
+use Rattle.std.proofs.Common.{◌≡◌, ℕ, zero, suc, ◌+◌, ◌-◌, ◌<◌, ◌≤◌, inl, inr, refl, ap, sym, subst, ◌∙◌, arith, List, [], ◌∷◌, ◌++◌, map, length, slice_get, Some, None, length-append}
 use Rattle.job_protocol.specs.Prelude.{Pending, PendingSet, Job, nth, same_path, Sets, picks_of, all_commits, In, RequestsApart, read_script}
-use Rattle.job_protocol.proofs.Members.{in_left, in_right, map_in}
+use Rattle.job_protocol.proofs.Members.{in_left, in_right, map_in, in_append}
 use Rattle.job_protocol.proofs.LaneEnds.{requests_apart}
 use Rattle.job_protocol.proofs.Shared.{shared_none}
 use Rattle.commit_parts.specs.ReadSets.{AreRead}
 use Rattle.commit_parts.specs.Clashes.{Item, items_from, NoClash}
 use Rattle.commit_parts.specs.Relatives.{relative_of}
-use Rattle.commit_parts.proofs.Placing.{nth_get, nth_left, nth_right}
+use Rattle.commit_parts.proofs.Placing.{nth_get, nth_left, nth_right, less_or_not}
 use Rattle.commit_parts.proofs.SamePaths.{item_writes}
 
 -- two uploads of a set are of two keys
 abbrev SetsApart : Sets → Type 0
 SetsApart sets = (i : ℕ) (s : PendingSet) → slice_get sets i ≡ Some s → (m n : ℕ) (c d : Pending) → slice_get s.commits m ≡ Some c → slice_get s.commits n ≡ Some d → c.destination ≡ d.destination → m ≡ n
 
-less_or_not : (a b : ℕ) → (a < b) ⊎ (b ≤ a)
-less_or_not a b = grind arith
-
 in_nth : (ps : List Pending) (n : ℕ) → n < length ps → In (nth ps n) ps
 in_nth [] n h = absurd (omega arith)
 in_nth (p ∷ ps) zero h = inl refl
 in_nth (p ∷ ps) (suc n) h = inr (in_nth ps n (omega arith))
 
-split : (c : Pending) (xs ys : List Pending) → In c (xs ++ ys) → In c xs ⊎ In c ys
-split c [] ys h = inr h
-split c (x ∷ xs) ys h = elim h [ inl e ↦ inl (inl e) | inr i ↦ elim (split c xs ys i) [ inl j ↦ inl (inr j) | inr j ↦ inr j ] ]
-
 -- an upload of later sets is of a later task
 later_item : (k : ℕ) (sets : Sets) (c : Pending) → In c (all_commits sets) → (t : ℕ) × (k ≤ t) × In (let i : Item = (c.destination, t) in i) (items_from k sets)
 later_item k [] c h = absurd h
-later_item k (s ∷ ss) c h = elim (split c s.commits (all_commits ss) h) [
+later_item k (s ∷ ss) c h = elim (in_append c s.commits (all_commits ss) h) [
   | inl a ↦ (k, (omega arith), in_left (c.destination, k) (map (λ c. (c.destination, k)) s.commits) (items_from (k + 1) ss) (map_in {X = Pending} {Y = Item} (λ c. (c.destination, k)) s.commits c a))
   | inr b ↦ let r = later_item (k + 1) ss c b in let l : k + 1 ≤ r.0 = r.1 in (r.0, (omega arith), in_right (c.destination, r.0) (map (λ c. (c.destination, k)) s.commits) (items_from (k + 1) ss) r.2)
 ]

@@ -1,8 +1,8 @@
 -- the places of uploads
 use Rattle.std.proofs.Common.{◌≡◌, ℕ, zero, suc, ◌+◌, ◌-◌, ◌<◌, ◌≤◌, ◌⊎◌, inl, inr, refl, ap, sym, subst, ◌∙◌, arith, List, [], ◌∷◌, ◌++◌, length, slice_get, get_or, Some, length-append}
-use Rattle.path_keys.proofs.Common.{slice_get_within}
+use Rattle.path_keys.proofs.Common.{slice_get_within, get_or_from_slice_get}
 use Rattle.job_protocol.specs.Prelude.{Pending, PendingSet, nth, Sets, all_commits}
-use Rattle.job_protocol.proofs.Members.{get_left, some_is}
+use Rattle.job_protocol.proofs.Members.{get_left}
 use Rattle.commit_parts.specs.Places.{row, places_from}
 use Rattle.commit_parts.specs.declared.places.Place.{Place}
 
@@ -13,7 +13,7 @@ pub record IsAt (n : ℕ) (sets : Sets) (p : Place) (c : Pending) : Type 0 where
   pub there : slice_get sets (p.set - n) ≡ Some set
   pub upload : slice_get set.commits p.index ≡ Some c
 
-less_or_not : (a b : ℕ) → (a < b) ⊎ (b ≤ a)
+pub less_or_not : (a b : ℕ) → (a < b) ⊎ (b ≤ a)
 less_or_not a b = grind arith
 
 pub row_length : (set n : ℕ) → length (row set n) ≡ n
@@ -98,11 +98,6 @@ places_length k (s ∷ ss) =
     c)
     ∙ sym (length-append s.commits (all_commits ss))
 
-get_is : {X : Type 0} (xs : List X) (n : ℕ) (x d : X) → slice_get xs n ≡ Some x → get_or xs n d ≡ x
-get_is [] n x d e = absurd (cc)
-get_is (y ∷ ys) zero x d e = some_is e
-get_is (y ∷ ys) (suc n) x d e = get_is ys n x d e
-
 -- what is read of the tables of places, of sets and of a set's uploads
 record PlacedHere (sets : Sets) (places : List Place) (n : ℕ) (p : Place) : Type 0 where
   pub within : n < length places
@@ -114,20 +109,15 @@ placed_here : (sets : Sets) (places : List Place) (n : ℕ) (p : Place) → plac
 placed_here sets places n p e h i =
     let r = placed_at 0 sets n h in
     let there : slice_get places n ≡ Some r.0 = ap (λ v. slice_get v n) e ∙ r.1 in
-    let same : r.0 ≡ p = sym (get_is places n r.0 p there) ∙ sym i in
+    let same : r.0 ≡ p = sym (get_or_from_slice_get places n r.0 p there) ∙ sym i in
     let P : Place → Type 0 = λ v. PlacedHere sets places n v in
     subst P same (record { within = slice_get_within places n r.0 there; held = r.2.set; there = same_get sets r.0.set (r.0.set - 0) (omega arith) ∙ r.2.there; upload = r.2.upload })
-
-pub place_within : (sets : Sets) (places : List Place) (n : ℕ) → places ≡ places_from 0 sets → n < length (all_commits sets) → n < length places
-place_within sets places n e h =
-    let r = placed_at 0 sets n h in
-    slice_get_within places n r.0 (ap (λ v. slice_get v n) e ∙ r.1)
 
 pub set_within : (sets : Sets) (places : List Place) (n : ℕ) (p : Place) → places ≡ places_from 0 sets → n < length (all_commits sets) → p ≡ get_or places n p → p.set < length sets
 set_within sets places n p e h i = let r = placed_here sets places n p e h i in slice_get_within sets p.set r.held r.there
 
 held_is : (sets : Sets) (places : List Place) (n : ℕ) (p : Place) (s : PendingSet) → (r : PlacedHere sets places n p) → s ≡ get_or sets p.set s → r.held ≡ s
-held_is sets places n p s r g = sym (get_is sets p.set r.held s r.there) ∙ sym g
+held_is sets places n p s r g = sym (get_or_from_slice_get sets p.set r.held s r.there) ∙ sym g
 
 pub upload_within : (sets : Sets) (places : List Place) (n : ℕ) (p : Place) (s : PendingSet) → places ≡ places_from 0 sets → n < length (all_commits sets) → p ≡ get_or places n p → s ≡ get_or sets p.set s → p.index < length s.commits
 upload_within sets places n p s e h i g =
@@ -139,4 +129,4 @@ pub upload_is : (sets : Sets) (places : List Place) (n : ℕ) (p : Place) (s : P
 upload_is sets places n p s c e h i g k =
     let r = placed_here sets places n p e h i in
     let G : PendingSet → Type 0 = λ v. slice_get v.commits p.index ≡ Some (nth (all_commits sets) n) in
-    k ∙ get_is s.commits p.index (nth (all_commits sets) n) c (subst G (held_is sets places n p s r g) r.upload)
+    k ∙ get_or_from_slice_get s.commits p.index (nth (all_commits sets) n) c (subst G (held_is sets places n p s r g) r.upload)

@@ -1,8 +1,9 @@
 -- what the picks of the sets that were read write
 use Rattle.std.proofs.Common.{◌≡◌, ℕ, zero, suc, ◌+◌, ◌<◌, ◌≤◌, ◌⊎◌, inl, inr, refl, ap, sym, subst, ◌∙◌, Bool, true, false, cond, ◌&&◌, nat_eq, arith, List, [], ◌∷◌, ◌++◌, map, length, slice_get, take, drop, Option, Some, None, is_some}
-use Rattle.std.specs.Prelude.{Result, Ok, Err, IfOk}
+use Rattle.commit_parts.proofs.Trying.{take_next}
+use Rattle.std.specs.Prelude.{Result, IfOk}
 use Rattle.job_protocol.specs.Prelude.{insert_key, flat_map, lookup, unwrap_or, option_map, bytes_decides, text_cmp, text_eq, Path, Pending, PendingSet, File, has_path, Who, same_name, placed, Job, files_picked, files, wanted_below, wanted, ordered, wanted_paths, Sets, picks_of, all_commits, Marking, commit_asks, set_request, In, mark_text, compact_text, success_tree, SuccessMark, declared_of, read_script, job_script, Request, GetObject, PutObject, ClusterGet, Committer, Magic, Directory, Partitioned, nth}
-use Rattle.path_keys.proofs.Common.{drop_of_length-le, nat_tests, map-append, flat_map-append}
+use Rattle.path_keys.proofs.Common.{IfOk-weaker, drop_of_length-le, nat_tests, map-append, flat_map-append, append-nil, take_all, get_or_from_slice_get}
 use Rattle.job_protocol.proofs.Members.{in_left, in_right, in_append, in_map, map_in, some_is}
 use Rattle.commit_parts.specs.Relatives.{relative_of, paths_below}
 use Rattle.commit_parts.specs.Places.{places_from}
@@ -28,20 +29,6 @@ same_of a b c d e f = grind (arith, nat_tests)
 other_of : (a b : ℕ) (c : Bool) → b < a → nat_eq a b && c ≡ false
 other_of a b c h = grind (arith, nat_tests)
 
-if_true : {X : Type 0} (b : Bool) (x y : X) → b ≡ true → cond b x y ≡ x
-if_true true x y e = refl
-if_true false x y e = absurd (cc)
-
-if_false : {X : Type 0} (b : Bool) (x y : X) → b ≡ false → cond b x y ≡ y
-if_false true x y e = absurd (cc)
-if_false false x y e = refl
-
-lookup_here : {K X : Type 0} (test : K → Bool) (k : K) (x : X) (es : List (K × X)) → test k ≡ true → lookup test ((k, x) ∷ es) ≡ Some x
-lookup_here test k x es e = if_true (test k) (Some x) (lookup test es) e
-
-lookup_later : {K X : Type 0} (test : K → Bool) (k : K) (x : X) (es : List (K × X)) → test k ≡ false → lookup test ((k, x) ∷ es) ≡ lookup test es
-lookup_later test k x es e = if_false (test k) (Some x) (lookup test es) e
-
 abbrev who : ℕ → ℕ → Who
 who t a = record { task = t; attempt = a }
 
@@ -51,14 +38,16 @@ found_at dest n [] t s h e = absurd (cc)
 found_at dest n (x ∷ xs) zero s h e =
     let i : x ≡ s = some_is e in
     let k : x.task ≡ n + 0 = h zero x refl in
-    lookup_here (same_name (who (n + 0) s.attempt)) (who x.task x.attempt) (map (file_of dest) x.commits) (map (declared_of dest) xs) (same_of (n + 0) x.task s.attempt x.attempt (sym k) (ap (λ (v : PendingSet). v.attempt) (sym i))) ∙ ap (λ (v : PendingSet). Some (map (file_of dest) v.commits)) i
+    ap (λ b. cond b (Some (map (file_of dest) x.commits)) (lookup (same_name (who (n + 0) s.attempt)) (map (declared_of dest) xs)))
+    (same_of (n + 0) x.task s.attempt x.attempt (sym k) (ap (λ (v : PendingSet). v.attempt) (sym i))) ∙ ap (λ (v : PendingSet). Some (map (file_of dest) v.commits)) i
 found_at dest n (x ∷ xs) (suc t) s h e =
     let k : x.task ≡ n + 0 = h zero x refl in
     let later : (i : ℕ) (v : PendingSet) → slice_get xs i ≡ Some v → v.task ≡ n + 1 + i = λ i v g. (let m : v.task ≡ n + suc i = h (suc i) v g in omega arith) in
     let r = found_at dest (n + 1) xs t s later e in
     let P : ℕ → Type 0 = λ m. lookup (same_name (who m s.attempt)) (map (declared_of dest) xs) ≡ Some (map (file_of dest) s.commits) in
     let q : n + 1 + t ≡ n + suc t = omega arith in
-    lookup_later (same_name (who (n + suc t) s.attempt)) (who x.task x.attempt) (map (file_of dest) x.commits) (map (declared_of dest) xs) (other_of (n + suc t) x.task (nat_eq s.attempt x.attempt) (omega arith)) ∙ subst P q r
+    ap (λ b. cond b (Some (map (file_of dest) x.commits)) (lookup (same_name (who (n + suc t) s.attempt)) (map (declared_of dest) xs)))
+    (other_of (n + suc t) x.task (nat_eq s.attempt x.attempt) (omega arith)) ∙ subst P q r
 
 same_files : (fs : List File) → map (λ f. (f.0, f.1)) fs ≡ fs
 same_files [] = refl
@@ -78,26 +67,13 @@ files_at j sets t s each e =
 
 -- ---- all files
 
-take_more : (sets : Sets) (n : ℕ) (s : PendingSet) → slice_get sets n ≡ Some s → take (suc n) sets ≡ take n sets ++ s ∷ []
-take_more [] n s e = absurd (cc)
-take_more (x ∷ xs) zero s e = ap (λ (v : PendingSet). v ∷ []) (some_is e)
-take_more (x ∷ xs) (suc n) s e = ap (λ v. x ∷ v) (take_more xs n s e)
-
 get_at : (sets : Sets) (n : ℕ) → n < length sets → (s : PendingSet) × (slice_get sets n ≡ Some s)
 get_at [] n h = absurd (omega arith)
 get_at (x ∷ xs) zero h = (x, refl)
 get_at (x ∷ xs) (suc n) h = get_at xs n (omega arith)
 
-take_all : (sets : Sets) → take (length sets) sets ≡ sets
-take_all [] = refl
-take_all (x ∷ xs) = ap (λ v. x ∷ v) (take_all xs)
-
 abbrev files_in : Path → PendingSet → List File
 files_in dest s = map (file_of dest) s.commits
-
-nil_end : (fs : List File) → fs ++ [] ≡ fs
-nil_end [] = refl
-nil_end (f ∷ fs) = ap (λ v. f ∷ v) (nil_end fs)
 
 wanted_of : (j : Job) (sets : Sets) (n : ℕ) → AreRead j sets → n ≤ length sets → wanted_below (read_script j sets) (picks_of sets) n ≡ flat_map (files_in j.dest) (take n sets)
 wanted_of j sets zero each h = refl
@@ -107,9 +83,9 @@ wanted_of j sets (suc n) each h =
     let b = wanted_of j sets n each (omega arith) in
     let c : flat_map (files_in j.dest) (take n sets ++ r.0 ∷ []) ≡ flat_map (files_in j.dest) (take n sets) ++ (files_in j.dest r.0 ++ []) = flat_map-append (files_in j.dest) (take n sets) (r.0 ∷ []) in
     ap (λ v. v ++ files_picked (read_script j sets) n (picks_of sets n)) b
-    ∙ ap (λ v. flat_map (files_in j.dest) (take n sets) ++ v) (a ∙ sym (nil_end (files_in j.dest r.0)))
+    ∙ ap (λ v. flat_map (files_in j.dest) (take n sets) ++ v) (a ∙ sym (append-nil (files_in j.dest r.0)))
     ∙ sym c
-    ∙ ap (flat_map (files_in j.dest)) (sym (take_more sets n r.0 r.1))
+    ∙ ap (flat_map (files_in j.dest)) (sym (take_next sets n r.0 (omega arith) (sym (get_or_from_slice_get sets n r.0 r.0 r.1))))
 
 paths_in : (dest : Path) (cs : List Pending) → map (λ f. f.0) (map (file_of dest) cs) ≡ map (λ c. relative_of dest c.destination) cs
 paths_in dest [] = refl
@@ -127,7 +103,8 @@ paths_all dest (s ∷ ss) =
 pub wanted_are : (j : Job) (sets : Sets) → AreRead j sets → length sets ≡ j.tasks → map (λ f. f.0) (wanted (read_script j sets) (picks_of sets)) ≡ map (λ c. relative_of j.dest c.destination) (all_commits sets)
 wanted_are j sets each all =
     let h : j.tasks ≤ length sets = omega arith in
-    ap (map (λ f. f.0)) (wanted_of j sets j.tasks each h ∙ ap (λ n. flat_map (files_in j.dest) (take n sets)) (sym all) ∙ ap (flat_map (files_in j.dest)) (take_all sets)) ∙ paths_all j.dest sets
+    ap (map (λ f. f.0)) (wanted_of j sets j.tasks each h ∙ ap (λ n. flat_map (files_in j.dest) (take n sets)) (sym all)
+    ∙ ap (flat_map (files_in j.dest)) (take_all (length sets) sets (omega arith))) ∙ paths_all j.dest sets
 
 -- ---- who writes what
 
@@ -143,7 +120,8 @@ pub in_has : (dest : Path) (cs : List Pending) (c : Pending) → In c cs → has
 in_has dest [] c i = absurd i
 in_has dest (d ∷ cs) c (inl e) =
     let P : Pending → Type 0 = λ v. has_path (map (file_of dest) (d ∷ cs)) (relative_of dest v.destination) ≡ true in
-    subst P e (ap is_some (if_true (text_eq (relative_of dest d.destination) (relative_of dest d.destination)) (Some (let e : List ℕ = [] in e)) (lookup (text_eq (relative_of dest d.destination)) (map (file_of dest) cs)) ((bytes_decides (relative_of dest d.destination) (relative_of dest d.destination)).1 refl)))
+    subst P e (ap (λ b. is_some (cond b (Some (let e : List ℕ = [] in e)) (lookup (text_eq (relative_of dest d.destination)) (map (file_of dest) cs))))
+    ((bytes_decides (relative_of dest d.destination) (relative_of dest d.destination)).1 refl))
 in_has dest (d ∷ cs) c (inr i) = by (text_eq (relative_of dest c.destination) (relative_of dest d.destination)) (in_has dest cs c i)
   where
     by : (b : Bool) → has_path (map (file_of dest) cs) (relative_of dest c.destination) ≡ true → is_some (cond b (Some (let e : List ℕ = [] in e)) (lookup (text_eq (relative_of dest c.destination)) (map (file_of dest) cs))) ≡ true
@@ -217,12 +195,9 @@ get_asked r b c k l h e f =
 pub cluster_asked : {E : Type 0} (r : Result Request E) (k l : List ℕ) → IfOk r (λ q. q ≡ ClusterGet k) → k ≡ l → IfOk r (λ q. q ≡ ClusterGet l)
 cluster_asked r k l h e = let K : List ℕ → Type 0 = λ v. IfOk r (λ q. q ≡ ClusterGet v) in subst K e h
 
-if_more : {T E : Type 0} (r : Result T E) (P Q : T → Type 0) → ((x : T) → P x → Q x) → IfOk r P → IfOk r Q
-if_more (Ok x) P Q f h = f x h
-if_more (Err e) P Q f h = h
-
 pub wanted_listed : {E : Type 0} (r : Result (List (List ℕ)) E) (j : Job) (sets : Sets) (places : List Place) (keys : List (List ℕ)) → IfOk r (λ l. l ≡ keys) → keys ≡ ordered (paths_below j.dest (all_commits sets)) → HasAll j sets places → IfOk r (λ l. l ≡ wanted_paths (read_script j sets) (picks_of sets))
-wanted_listed r j sets places keys h g all = if_more r (λ l. l ≡ keys) (λ l. l ≡ wanted_paths (read_script j sets) (picks_of sets)) (λ l e. e ∙ (g ∙ wanted_ordered j sets all.each all.all)) h
+wanted_listed r j sets places keys h g all =
+    IfOk-weaker r (λ l. l ≡ keys) (λ l. l ≡ wanted_paths (read_script j sets) (picks_of sets)) (λ l e. e ∙ (g ∙ wanted_ordered j sets all.each all.all)) h
 
 -- the read of a set, by the committer
 pub stored_asked : {E : Type 0} (r : Result Request E) (j : Job) (t : ℕ) (c : Committer) → c ≡ Magic → c ≡ j.committer → IfOk r (λ q. q ≡ GetObject j.dest.bucket (layout.set_key j.dest.key j.job t)) → IfOk r (λ q. q ≡ set_request j.committer (job_script j) t)
@@ -240,5 +215,5 @@ mark_put r j sets bucket key bytes job files h b k t o f =
     t
     ∙ ap (λ v. compact_text (success_tree (let m : SuccessMark = record { job = v; committer = j.committer; files = files; stamp = j.stamp } in m))) o
     ∙ mark_is j sets files f in
-    if_more r (λ q. q ≡ PutObject bucket key bytes None) (λ q. Some q ≡ commit_asks (read_script j sets) (Marking sets 0))
+    IfOk-weaker r (λ q. q ≡ PutObject bucket key bytes None) (λ q. Some q ≡ commit_asks (read_script j sets) (Marking sets 0))
     (λ q e. ap Some (e ∙ ap (λ v. PutObject v key bytes None) b ∙ ap (λ v. PutObject j.dest.bucket v bytes None) k ∙ ap (λ v. PutObject j.dest.bucket (layout.success_key j.dest.key) v None) text)) h

@@ -1,5 +1,5 @@
 -- the path that two picks write is below the key that the search finds
-use Rattle.std.proofs.Common.{◌≡◌, ℕ, suc, ◌+◌, ◌<◌, ◌⊎◌, inl, inr, refl, ap, sym, subst, ◌∙◌, Bool, true, false, cond, nat_eq, arith, List, [], ◌∷◌, ◌++◌, length, slice_get, take, drop, Option, Some, None, is_some}
+use Rattle.std.proofs.Common.{◌≡◌, ℕ, suc, ◌+◌, ◌<◌, inl, inr, refl, ap, sym, subst, ◌∙◌, Bool, true, false, cond, nat_eq, arith, List, [], ◌∷◌, ◌++◌, length, slice_get, take, drop, Option, Some, None, is_some}
 use Rattle.job_protocol.specs.Prelude.{Ordering, Less, Equal, Greater, is_lt, nat_cmp, ordering_reverse, ordering_then, unwrap_or, option_map, starts_with, nat_cmp-IsAntisymmetric, slice_cmp-IsAntisymmetric, bytes_decides, text_cmp, text_total, Path, below, relative_in, Pending, PendingSet, File, has_path, Job, CommitEnd, SamePath, files_picked, writes, same_path, Sets, picks_of, In, IsShared, read_script}
 use Rattle.path_keys.proofs.Common.{nat_cmp_total, take-append-drop, slice_get_within}
 use Rattle.job_protocol.proofs.Members.{false_true}
@@ -9,6 +9,7 @@ use Rattle.commit_parts.specs.Relatives.{relative_of}
 use Rattle.commit_parts.specs.ReadSets.{AreRead}
 use Rattle.commit_parts.specs.Clashes.{Item, items_from, IsClash, IsBest}
 use Rattle.commit_parts.specs.declared.sharing.Clash.{Clash}
+use Rattle.commit_parts.proofs.Numbers.{three}
 use Rattle.commit_parts.proofs.ReadFiles.{files_at, has_in, in_has, item_at, at_item}
 
 -- ---- keys below a destination
@@ -94,9 +95,6 @@ record Pair (w : ℕ → Bool) (t u : ℕ) : Type 0 where
   pub last : w u ≡ true
   pub least : (v : ℕ) → v < u → w v ≡ true → v ≡ t
 
-three : (a b : ℕ) → (a < b) ⊎ ((a ≡ b) ⊎ (b < a))
-three a b = grind arith
-
 last_not : (w : ℕ → Bool) (t u v x : ℕ) → Pair w t u → Pair w v x → u < x → ⊥
 last_not w t u v x p q h =
     let l : t < u = p.order in
@@ -126,8 +124,8 @@ clash_ends j sets c e each all b s =
     let one : is_lt (text_cmp p s.0) ≡ false = s.4.least_path p c.first c.second h.order in_tasks f.writes_it g.writes_it in
     let two : is_lt (text_cmp (pre ++ s.0) c.key) ≡ false = h.least_key (pre ++ s.0) s.1 s.2 s.4.first a.item z.item in
     let K : List ℕ → Type 0 = λ k. is_lt (text_cmp (pre ++ s.0) k) ≡ false in
-    let three : is_lt (text_cmp s.0 p) ≡ false = ap is_lt (sym (front_cmp pre s.0 p)) ∙ subst K f.key two in
-    let same : p ≡ s.0 = neither_by p s.0 (text_cmp p s.0) refl one three in
+    let third : is_lt (text_cmp s.0 p) ≡ false = ap is_lt (sym (front_cmp pre s.0 p)) ∙ subst K f.key two in
+    let same : p ≡ s.0 = neither_by p s.0 (text_cmp p s.0) refl one third in
     let w = writes (read_script j sets) (picks_of sets) p in
     let W : List ℕ → Type 0 = λ q. Pair (writes (read_script j sets) (picks_of sets) q) s.1 s.2 in
     let mine : Pair w c.first c.second = record {

@@ -1,20 +1,14 @@
 -- the search for a key that two tasks write, upload by upload
-use Rattle.std.proofs.Common.{◌≡◌, ℕ, ◌<◌, ◌≤◌, ◌⊎◌, inl, inr, refl, ap, sym, subst, ◌∙◌, Bool, true, false, cond, arith, List, [], ◌∷◌, ◌++◌, map, not, ◌||◌, nat_eq, zero, suc, ◌+◌, length, take, get_or, append_assoc, Option, Some, None}
-use Rattle.std.specs.Prelude.{Result, Ok, Err, OnOk}
-use Rattle.job_protocol.specs.Prelude.{unwrap_or, is_lt, Pending, PendingSet, bytes_decides, text_cmp, text_eq, text_total, In}
-use Rattle.path_keys.proofs.Common.{nat_tests, map-append, slice_get_within, contrary, irrefl, lt_trans}
+use Rattle.std.proofs.Common.{◌≡◌, ℕ, ◌<◌, ◌≤◌, ◌⊎◌, inl, inr, refl, ap, sym, subst, ◌∙◌, Bool, true, false, cond, arith, List, [], ◌∷◌, ◌++◌, map, not, ◌||◌, nat_eq, suc, ◌+◌, length, take, get_or, append_assoc, Option, Some, None, length-take-le}
+use Rattle.commit_parts.proofs.Trying.{take_next}
+use Rattle.proof_base.proofs.Members.{eq_nat, nat_true, text_true, text_false, same_or_other}
+use Rattle.job_protocol.specs.Prelude.{unwrap_or, is_lt, Pending, PendingSet, text_cmp, text_eq, text_total, In}
+use Rattle.path_keys.proofs.Common.{map-append, slice_get_within, contrary, irrefl, lt_trans, append-nil}
 use Rattle.std.specs.HashMap.{HashMap, get, Updates}
 use Rattle.commit_parts.proofs.ReadFiles.{item_at}
 use Rattle.job_protocol.proofs.Members.{in_left, in_push, in_last, in_append, in_map, false_true}
 use Rattle.commit_parts.specs.Clashes.{Item, items_from, IsBest, IsOwner, Finds, is_better, clash_of}
 use Rattle.commit_parts.specs.declared.sharing.Clash.{Clash}
-
-either : (b : Bool) → (b ≡ true) ⊎ (b ≡ false)
-either true = inl refl
-either false = inr refl
-
-pub same_or_not : (p q : List ℕ) → (p ≡ q) ⊎ (p ≡ q → ⊥)
-same_or_not p q = elim (either (text_eq p q)) [ inl e ↦ inl ((bytes_decides p q).0 e) | inr e ↦ inr (λ h. false_true e ((bytes_decides p q).1 h)) ]
 
 below : (a b : ℕ) → a ≤ b → (a ≡ b) ⊎ (a < b)
 below a b h = grind arith
@@ -138,7 +132,7 @@ finds_new items q x owner owner' best none some others f =
     let N : Option ℕ → Type 0 = λ o. IsOwner items q o in
     let n = subst N none (f.owners q) in
     record {
-      owners = λ k. elim (same_or_not q k) [
+      owners = λ k. elim (same_or_other q k) [
         | inl e ↦ let P : List ℕ → Type 0 = λ l. IsOwner (items ++ (q, x) ∷ []) l (owner' l) in let S : Option ℕ → Type 0 = λ o. IsOwner (items ++ (q, x) ∷ []) q o in subst P e (subst S (sym some) (first_owner items q x n))
         | inr ne ↦ let S : Option ℕ → Type 0 = λ o. IsOwner (items ++ (q, x) ∷ []) k o in subst S (sym (others k ne)) (other_owner items q k x (owner k) ne (f.owners k))
       ];
@@ -146,7 +140,7 @@ finds_new items q x owner owner' best none some others f =
     }
 
 same_owners : (items : List Item) (q : List ℕ) (x f : ℕ) (owner : List ℕ → Option ℕ) → owner q ≡ Some f → f ≤ x → ((k : List ℕ) → IsOwner items k (owner k)) → (k : List ℕ) → IsOwner (items ++ (q, x) ∷ []) k (owner k)
-same_owners items q x f owner some le h k = elim (same_or_not q k) [
+same_owners items q x f owner some le h k = elim (same_or_other q k) [
   | inl e ↦
       let P : List ℕ → Type 0 = λ l. IsOwner (items ++ (q, x) ∷ []) l (owner l) in
       let S : Option ℕ → Type 0 = λ o. IsOwner (items ++ (q, x) ∷ []) q o in
@@ -157,10 +151,6 @@ same_owners items q x f owner some le h k = elim (same_or_not q k) [
 
 owner_in : (items : List Item) (q : List ℕ) (f : ℕ) (owner : List ℕ → Option ℕ) → owner q ≡ Some f → ((k : List ℕ) → IsOwner items k (owner k)) → IsOwner items q (Some f)
 owner_in items q f owner some h = let N : Option ℕ → Type 0 = λ o. IsOwner items q o in subst N some (h q)
-
--- of the same task once more
-pub finds_same : (items : List Item) (q : List ℕ) (x : ℕ) (owner : List ℕ → Option ℕ) (best : Option Clash) → owner q ≡ Some x → Finds items owner best → Finds (items ++ (q, x) ∷ []) owner best
-finds_same items q x owner best some f = record { owners = same_owners items q x x owner some (omega arith) f.owners; best = best_same items q x best (owner_in items q x owner some f.owners).0 f.best }
 
 -- of a key that is no better
 pub finds_kept : (items : List Item) (q : List ℕ) (x f : ℕ) (owner : List ℕ → Option ℕ) (best : Option Clash) → owner q ≡ Some f → AtMost items x → is_better q best ≡ false → Finds items owner best → Finds (items ++ (q, x) ∷ []) owner best
@@ -174,40 +164,26 @@ finds_better items q x f owner best some most ne better s =
     let o = owner_in items q f owner some s.owners in
     record { owners = same_owners items q x f owner some (most q f o.0) s.owners; best = best_better items q x f best most ne o better s.best }
 
--- before any
-pub finds_none : (owner : List ℕ → Option ℕ) → ((k : List ℕ) → owner k ≡ None) → Finds [] owner None
-finds_none owner none = record { owners = λ k. let N : Option ℕ → Type 0 = λ o. IsOwner [] k o in subst N (sym (none k)) (λ v i. i); best = λ k v y less i j. i }
-
 -- ---- what calls leave
-
-eq_is : (a b : ℕ) → nat_eq a b ≡ true → a ≡ b
-eq_is a b h = grind (arith, nat_tests)
-
-same_eq : (a b : ℕ) → a ≡ b → nat_eq a b ≡ true
-same_eq a b e = grind (arith, nat_tests)
-
-eq_not : (a b : ℕ) → nat_eq a b ≡ false → a ≡ b → ⊥
-eq_not a b h e = false_true h (same_eq a b e)
 
 finds_by : (items : List Item) (q : List ℕ) (x f : ℕ) (owner : List ℕ → Option ℕ) (best : Option Clash) (b c : Bool) → nat_eq f x ≡ b → is_better q best ≡ c → owner q ≡ Some f → AtMost items x → Finds items owner best
     → Finds (items ++ (q, x) ∷ []) owner (cond (b || not c) best (Some (record { key = q; first = f; second = x })))
-finds_by items q x f owner best true c e g some most s = finds_same items q x owner best (some ∙ ap Some (eq_is f x e)) s
+finds_by items q x f owner best true c e g some most s =
+    record {
+      owners = same_owners items q x x owner (some ∙ ap Some (eq_nat f x e)) (omega arith) s.owners;
+      best = best_same items q x best
+          (owner_in items q x owner (some ∙ ap Some (eq_nat f x e)) s.owners).0 s.best;
+    }
 finds_by items q x f owner best false false e g some most s = finds_kept items q x f owner best some most g s
-finds_by items q x f owner best false true e g some most s = finds_better items q x f owner best some most (eq_not f x e) g s
-
-at_self : (q : List ℕ) → text_eq q q ≡ true
-at_self q = (bytes_decides q q).1 refl
-
-at_other : (q k : List ℕ) → (q ≡ k → ⊥) → text_eq q k ≡ false
-at_other q k ne = elim (either (text_eq q k)) [ inl e ↦ absurd (ne ((bytes_decides q k).0 e)) | inr e ↦ e ]
+finds_by items q x f owner best false true e g some most s = finds_better items q x f owner best some most (λ i. false_true e (nat_true f x i)) g s
 
 -- the owner of the key is what it was, or this task
 owner_stays : {S : Type 0} (q : List ℕ) (x : ℕ) (o : Option ℕ) (m n : HashMap (List ℕ) ℕ S) → get text_eq m q ≡ o → Updates text_eq m n q (Some (unwrap_or o x)) → get text_eq n q ≡ Some (unwrap_or o x)
-owner_stays q x o m n e up = up.0 q ∙ ap (λ b. cond b (Some (unwrap_or o x)) (get text_eq m q)) (at_self q)
+owner_stays q x o m n e up = up.0 q ∙ ap (λ b. cond b (Some (unwrap_or o x)) (get text_eq m q)) (text_true q q refl)
 
 -- and those of the others are what they were
 others_stay : {S : Type 0} (q k : List ℕ) (w : Option ℕ) (m n : HashMap (List ℕ) ℕ S) → Updates text_eq m n q w → (q ≡ k → ⊥) → get text_eq n k ≡ get text_eq m k
-others_stay q k w m n up ne = up.0 k ∙ ap (λ b. cond b w (get text_eq m k)) (at_other q k ne)
+others_stay q k w m n up ne = up.0 k ∙ ap (λ b. cond b w (get text_eq m k)) (text_false q k ne)
 
 -- owners that are the same at each key
 same_finds : (items : List Item) (owner owner' : List ℕ → Option ℕ) (best : Option Clash) → ((k : List ℕ) → owner' k ≡ owner k) → Finds items owner best → Finds items owner' best
@@ -217,10 +193,10 @@ finds_at : {S : Type 0} (items : List Item) (q : List ℕ) (x : ℕ) (o : Option
     → Finds (items ++ (q, x) ∷ []) (get text_eq n) (clash_of q (unwrap_or o x) x best)
 finds_at items q x None m n best e up most s =
     let B : Bool → Type 0 = λ b. Finds (items ++ (q, x) ∷ []) (get text_eq n) (cond (b || not (is_better q best)) best (Some (record { key = q; first = x; second = x }))) in
-    subst B (sym (same_eq x x refl)) (finds_new items q x (get text_eq m) (get text_eq n) best e (owner_stays q x None m n e up) (λ k ne. others_stay q k (Some x) m n up ne) s)
+    subst B (sym (nat_true x x refl)) (finds_new items q x (get text_eq m) (get text_eq n) best e (owner_stays q x None m n e up) (λ k ne. others_stay q k (Some x) m n up ne) s)
 finds_at items q x (Some f) m n best e up most s =
     same_finds (items ++ (q, x) ∷ []) (get text_eq m) (get text_eq n) (clash_of q f x best)
-    (λ k. elim (same_or_not q k) [
+    (λ k. elim (same_or_other q k) [
       | inl is ↦ let P : List ℕ → Type 0 = λ l. get text_eq n l ≡ get text_eq m l in subst P is (owner_stays q x (Some f) m n e up ∙ sym e)
       | inr ne ↦ others_stay q k (Some f) m n up ne
     ])
@@ -233,10 +209,6 @@ finds_one items q x first m n best best' e up is most s =
     let B : Option Clash → Type 0 = λ v. Finds (items ++ (q, x) ∷ []) (get text_eq n) v in
     subst B (sym (is ∙ ap (λ t. clash_of q t x best) e)) (finds_at items q x (get text_eq m q) m n best refl up most s)
 
-pub on_ok : {T E A B : Type 0} (r : Result T E) → (A → B) → OnOk r A → OnOk r B
-on_ok (Ok x) f h = f h
-on_ok (Err e) f h = h
-
 -- ---- all uploads of a task
 
 most_of : (items : List Item) (t : ℕ) (cs : List Pending) → AtMost items t → AtMost (items ++ map (λ c. (c.destination, t)) cs) t
@@ -244,11 +216,6 @@ most_of items t cs most k v i = elim (in_append (let x : Item = (k, v) in x) ite
   | inl a ↦ most k v a
   | inr b ↦ let r = in_map {X = Pending} {Y = Item} (λ c. (c.destination, t)) cs (k, v) b in let e : t ≡ v = ap (λ (x : Item). x.1) r.2 in omega arith
 ]
-
-take_next : (cs : List Pending) (i : ℕ) (c : Pending) → i < length cs → c ≡ get_or cs i c → take (suc i) cs ≡ take i cs ++ c ∷ []
-take_next [] i c h e = absurd (omega arith)
-take_next (x ∷ xs) zero c h e = ap (λ (v : Pending). v ∷ []) (sym e)
-take_next (x ∷ xs) (suc i) c h e = ap (λ v. x ∷ v) (take_next xs i c (omega arith) e)
 
 pub adds_one : (items : List Item) (cs : List Pending) (i j t : ℕ) (c : Pending) (k : List ℕ) (owner owner' : List ℕ → Option ℕ) (best best' : Option Clash) → i < length cs → j ≡ suc i → c ≡ get_or cs i c → k ≡ c.destination
     → ((all : List Item) → AtMost all t → Finds all owner best → Finds (all ++ (k, t) ∷ []) owner' best') → AtMost items t → Finds (items ++ map (λ c. (c.destination, t)) (take i cs)) owner best → Finds (items ++ map (λ c. (c.destination, t)) (take j cs)) owner' best'
@@ -262,31 +229,13 @@ adds_one items cs i j t c k owner owner' best best' h s at key step most f =
 
 -- ---- all sets
 
-none_more : (xs : List Item) → xs ++ [] ≡ xs
-none_more [] = refl
-none_more (x ∷ xs) = ap (λ v. x ∷ v) (none_more xs)
-
-plus_none : (t : ℕ) → t ≡ t + 0
-plus_none t = omega arith
-
 items_more : (t : ℕ) (ss : List PendingSet) (s : PendingSet) → items_from t (ss ++ s ∷ []) ≡ items_from t ss ++ map (λ c. (c.destination, t + length ss)) s.commits
-items_more t [] s = none_more (map (λ c. (c.destination, t)) s.commits) ∙ ap (λ n. map (λ (c : Pending). let i : Item = (c.destination, n) in i) s.commits) (plus_none t)
+items_more t [] s =
+    let z : t ≡ t + 0 = omega arith in append-nil (map (λ c. (c.destination, t)) s.commits) ∙ ap (λ n. map (λ (c : Pending). let i : Item = (c.destination, n) in i) s.commits) z
 items_more t (x ∷ xs) s =
-    ap (λ v. map (λ c. (c.destination, t)) x.commits ++ v) (items_more (t + 1) xs s ∙ ap (λ n. items_from (t + 1) xs ++ map (λ (c : Pending). let i : Item = (c.destination, n) in i) s.commits) (plus_next t (length xs)))
+    let z : t + 1 + length xs ≡ t + suc (length xs) = omega arith in
+    ap (λ v. map (λ c. (c.destination, t)) x.commits ++ v) (items_more (t + 1) xs s ∙ ap (λ n. items_from (t + 1) xs ++ map (λ (c : Pending). let i : Item = (c.destination, n) in i) s.commits) z)
     ∙ sym (append_assoc (map (λ c. (c.destination, t)) x.commits) (items_from (t + 1) xs) (map (λ c. (c.destination, t + suc (length xs))) s.commits))
-  where
-    plus_next : (t n : ℕ) → t + 1 + n ≡ t + suc n
-    plus_next t n = omega arith
-
-set_next : (ss : List PendingSet) (i : ℕ) (s : PendingSet) → i < length ss → s ≡ get_or ss i s → take (suc i) ss ≡ take i ss ++ s ∷ []
-set_next [] i s h e = absurd (omega arith)
-set_next (x ∷ xs) zero s h e = ap (λ (v : PendingSet). v ∷ []) (sym e)
-set_next (x ∷ xs) (suc i) s h e = ap (λ v. x ∷ v) (set_next xs i s (omega arith) e)
-
-take_length : (ss : List PendingSet) (i : ℕ) → i < length ss → length (take i ss) ≡ i
-take_length [] i h = absurd (omega arith)
-take_length (x ∷ xs) zero h = refl
-take_length (x ∷ xs) (suc i) h = ap suc (take_length xs i (omega arith))
 
 items_below : (ss : List PendingSet) (n : ℕ) → length ss ≡ n → AtMost (items_from 0 ss) n
 items_below ss n e k v i =
@@ -301,8 +250,8 @@ adds_set ss i j s cs owner owner' best best' h g at e step f =
     let N : ℕ → Type 0 = λ n. Finds (items_from 0 (take n ss)) owner' best' in
     let F : List Item → Type 0 = λ v. Finds v owner' best' in
     let C : List Pending → Type 0 = λ v. Finds (items_from 0 (take i ss) ++ map (λ c. (c.destination, i)) v) owner' best' in
-    let len : length (take i ss) ≡ i = take_length ss i h in
+    let len : length (take i ss) ≡ i = length-take-le i ss (omega arith) in
     let z : i ≡ 0 + length (take i ss) = omega arith in
     let T : ℕ → Type 0 = λ n. Finds (items_from 0 (take i ss) ++ map (λ c. (c.destination, n)) s.commits) owner' best' in
-    let whole : items_from 0 (take i ss) ++ map (λ c. (c.destination, 0 + length (take i ss))) s.commits ≡ items_from 0 (take (suc i) ss) = sym (ap (items_from 0) (set_next ss i s h at) ∙ items_more 0 (take i ss) s) in
+    let whole : items_from 0 (take i ss) ++ map (λ c. (c.destination, 0 + length (take i ss))) s.commits ≡ items_from 0 (take (suc i) ss) = sym (ap (items_from 0) (take_next ss i s h at) ∙ items_more 0 (take i ss) s) in
     subst N (sym g) (subst F whole (subst T z (subst C e (step (items_from 0 (take i ss)) (items_below (take i ss) i len) f))))

@@ -1,5 +1,6 @@
 -- members by their numbers
-use Rattle.std.proofs.Common.{◌≡◌, ℕ, zero, suc, ◌<◌, ◌&&◌, ◌||◌, nat_eq, nat_lt, refl, ap, inl, inr, arith, List, [], ◌∷◌, length, get_or}
+use Rattle.std.proofs.Common.{◌≡◌, ℕ, zero, suc, ◌<◌, ◌&&◌, ◌||◌, nat_eq, nat_lt, refl, ap, inl, inr, arith, List, [], ◌∷◌, length, get_or, ◌+◌, ◌++◌, take, sym, ◌∙◌}
+use Rattle.path_keys.proofs.Common.{take_more}
 use Rattle.job_protocol.specs.Prelude.{list_any, Turn, is_tried, In}
 
 pub tried_any : (xs : List Turn) (n : ℕ) → list_any (λ (x : Turn). nat_eq n x.number && nat_lt 0 x.missed) xs ≡ is_tried xs n
@@ -11,3 +12,6 @@ pub in_at : (xs : List ℕ) (i d : ℕ) → i < length xs → In (get_or xs i d)
 in_at [] i d h = absurd (omega arith)
 in_at (x ∷ xs) zero d h = inl refl
 in_at (x ∷ xs) (suc i) d h = inr (in_at xs i d (omega arith))
+
+pub take_next : {X : Type 0} (xs : List X) (i : ℕ) (c : X) → i < length xs → c ≡ get_or xs i c → take (suc i) xs ≡ take i xs ++ c ∷ []
+take_next xs i c h e = let s : suc i ≡ i + 1 = omega arith in ap (λ n. take n xs) s ∙ take_more xs i c h ∙ ap (λ v. take i xs ++ v ∷ []) (sym e)

@@ -2,6 +2,7 @@
 use Rattle.std.proofs.Common.{◌≡◌, ℕ, zero, suc, ◌+◌, ◌<◌, ◌||◌, not, nat_eq, refl, inl, inr, ap, sym, subst, ◌∙◌, Bool, true, false, cond, arith, List, [], ◌∷◌, ◌++◌, map, reverse, length, drop, get_or, append-nil}
 use Rattle.path_keys.proofs.Common.{reverse-append, drop-cons, drop_of_length-le}
 use Rattle.job_protocol.specs.Prelude.{Request, Pending, Turn, nth, undo, chosen, is_tried, is_in, is_unsent, in_turn, abort, deletion, In}
+use Rattle.job_protocol.proofs.Members.{in_left, in_right}
 use Rattle.commit_parts.specs.Undos.{undo_request, number_in, NumbersWithin, Adds, IsRevert, with_tried, with_unsent}
 use Rattle.commit_parts.proofs.Trying.{in_at}
 use Rattle.commit_parts.specs.declared.undo.Undo.{Undo}
@@ -9,11 +10,15 @@ use Rattle.commit_parts.specs.declared.undo.Undo.TheVariants.{Abort, Delete}
 
 -- ---- what is added from number n on
 
+-- of the uploads that a test chooses
+abbrev pub chosen_part : (List Pending → List Request) → (ℕ → Bool) → ℕ → List Pending → List Request
+chosen_part w test n all = w (chosen test n (drop n all))
+
 abbrev pub tried_part : List Turn → ℕ → List Pending → List Request
-tried_part xs n all = undo (chosen (is_tried xs) n (drop n all))
+tried_part xs n all = chosen_part undo (is_tried xs) n all
 
 abbrev pub unsent_part : ℕ → List Turn → List ℕ → ℕ → List Pending → List Request
-unsent_part worn xs finished n all = map abort (chosen (is_unsent worn xs finished) n (drop n all))
+unsent_part worn xs finished n all = chosen_part (map abort) (is_unsent worn xs finished) n all
 
 abbrev pub done_part : List ℕ → ℕ → List Pending → List Request
 done_part finished n all = map deletion (map (nth all) (drop n finished))
@@ -23,67 +28,53 @@ drop_nth [] n h = absurd (omega arith)
 drop_nth (p ∷ ps) zero h = refl
 drop_nth (p ∷ ps) (suc n) h = drop_nth ps n (omega arith) ∙ (let e : suc n + 1 ≡ suc (n + 1) = omega arith in ap (λ m. nth ps n ∷ drop m (p ∷ ps)) (sym e))
 
-chosen_yes : (test : ℕ → Bool) (all : List Pending) (n : ℕ) → n < length all → test n ≡ true → chosen test n (drop n all) ≡ nth all n ∷ chosen test (n + 1) (drop (n + 1) all)
-chosen_yes test all n h t = ap (chosen test n) (drop_nth all n h) ∙ ap (λ b. cond b (nth all n ∷ chosen test (n + 1) (drop (n + 1) all)) (chosen test (n + 1) (drop (n + 1) all))) t
-
-chosen_no : (test : ℕ → Bool) (all : List Pending) (n : ℕ) → n < length all → test n ≡ false → chosen test n (drop n all) ≡ chosen test (n + 1) (drop (n + 1) all)
-chosen_no test all n h t = ap (chosen test n) (drop_nth all n h) ∙ ap (λ b. cond b (nth all n ∷ chosen test (n + 1) (drop (n + 1) all)) (chosen test (n + 1) (drop (n + 1) all))) t
+chosen_at : (test : ℕ → Bool) (all : List Pending) (n : ℕ) (b : Bool) → n < length all → test n ≡ b
+    → chosen test n (drop n all) ≡ cond b (nth all n ∷ chosen test (n + 1) (drop (n + 1) all)) (chosen test (n + 1) (drop (n + 1) all))
+chosen_at test all n b h t =
+    ap (chosen test n) (drop_nth all n h) ∙ ap (λ c. cond c (nth all n ∷ chosen test (n + 1) (drop (n + 1) all)) (chosen test (n + 1) (drop (n + 1) all))) t
 
 none_left : (all : List Pending) (total : ℕ) → length all ≡ total → drop total all ≡ []
 none_left all total e = drop_of_length-le all {i = total} (omega arith)
 
--- ---- what was sent and got no answer
+-- ---- what a test chooses
 
-pub tried_begin : (total : ℕ) (xs : List Turn) (l : List Undo) → Adds total (tried_part xs total) l l
-tried_begin total xs l = λ all e. ap (λ v. undo (chosen (is_tried xs) total v) ++ map (undo_request all) l) (sym (none_left all total e))
+module _ (w : List Pending → List Request) (test : ℕ → Bool) (total : ℕ) where
+  pub adds_begin : (l : List Undo) → [] ≡ w [] → Adds total (chosen_part w test total) l l
+  adds_begin l z = λ all e. ap (λ v. v ++ map (undo_request all) l) z ∙ ap (λ v. w (chosen test total v) ++ map (undo_request all) l) (sym (none_left all total e))
 
-pub tried_yes : (total : ℕ) (xs : List Turn) (n m : ℕ) (old new : List Undo) → n < total → m ≡ n + 1 → is_tried xs n ≡ true → Adds total (tried_part xs m) old new → Adds total (tried_part xs n) old (Abort n ∷ Delete n ∷ new)
-tried_yes total xs n m old new h i t a = λ all e.
-    ap (λ v. abort (nth all n) ∷ deletion (nth all n) ∷ v) (a all e)
-    ∙ ap (λ k. abort (nth all n) ∷ deletion (nth all n) ∷ (undo (chosen (is_tried xs) k (drop k all)) ++ map (undo_request all) old)) i
-    ∙ ap (λ v. undo v ++ map (undo_request all) old) (sym (chosen_yes (is_tried xs) all n (omega arith) t))
+  -- one more upload, where the test says so
+  adds_turn : (n m : ℕ) (old new last : List Undo) (put : Bool → List Undo) (b : Bool) → n < total → m ≡ n + 1 → test n ≡ b → last ≡ put b → put false ≡ new
+      → ((all ps : List Pending) → map (undo_request all) new ≡ w ps ++ map (undo_request all) old → map (undo_request all) (put true) ≡ w (nth all n ∷ ps) ++ map (undo_request all) old)
+      → Adds total (chosen_part w test m) old new → Adds total (chosen_part w test n) old last
+  adds_turn n m old new last put b h i t is same more a = λ all e.
+      let rest : List Pending = chosen test (n + 1) (drop (n + 1) all) in
+      let k : map (undo_request all) new ≡ w rest ++ map (undo_request all) old = a all e ∙ ap (λ x. w (chosen test x (drop x all)) ++ map (undo_request all) old) i in
+      ap (map (undo_request all)) is
+      ∙ (elim b as (λ c. map (undo_request all) (put c) ≡ w (cond c (nth all n ∷ rest) rest) ++ map (undo_request all) old)
+      [ true ↦ more all rest k | false ↦ ap (map (undo_request all)) same ∙ k ])
+      ∙ ap (λ v. w v ++ map (undo_request all) old) (sym (chosen_at test all n b (omega arith) t))
 
-pub tried_no : (total : ℕ) (xs : List Turn) (n m : ℕ) (old new : List Undo) → n < total → m ≡ n + 1 → is_tried xs n ≡ false → Adds total (tried_part xs m) old new → Adds total (tried_part xs n) old new
-tried_no total xs n m old new h i t a = λ all e.
-    a all e
-    ∙ ap (λ k. undo (chosen (is_tried xs) k (drop k all)) ++ map (undo_request all) old) i
-    ∙ ap (λ v. undo v ++ map (undo_request all) old) (sym (chosen_no (is_tried xs) all n (omega arith) t))
+  pub adds_end : (n : ℕ) (old new : List Undo) → n ≡ 0 → Adds total (chosen_part w test n) old new → Adds total (λ all. w (chosen test 0 all)) old new
+  adds_end n old new z a = λ all e. a all e ∙ ap (λ k. w (chosen test k (drop k all)) ++ map (undo_request all) old) z
 
-pub tried_end : (total : ℕ) (xs : List Turn) (n : ℕ) (old new : List Undo) → n ≡ 0 → Adds total (tried_part xs n) old new → Adds total (λ all. undo (chosen (is_tried xs) 0 all)) old new
-tried_end total xs n old new z a = λ all e. a all e ∙ ap (λ k. undo (chosen (is_tried xs) k (drop k all)) ++ map (undo_request all) old) z
+-- what was sent and got no answer
+pub tried_turn : (total : ℕ) (xs : List Turn) (n m : ℕ) (old new last : List Undo) → n < total → m ≡ n + 1 → last ≡ with_tried (is_tried xs n) n new → Adds total (tried_part xs m) old new → Adds total (tried_part xs n) old last
+tried_turn total xs n m old new last h i e a =
+    adds_turn undo (is_tried xs) total n m old new last (λ b. with_tried b n new) (is_tried xs n) h i refl e refl
+    (λ all ps k. ap (λ v. abort (nth all n) ∷ deletion (nth all n) ∷ v) k) a
 
--- ---- what was never sent
-
-pub unsent_begin : (total worn : ℕ) (xs : List Turn) (f : List ℕ) (l : List Undo) → Adds total (unsent_part worn xs f total) l l
-unsent_begin total worn xs f l = λ all e. ap (λ v. map abort (chosen (is_unsent worn xs f) total v) ++ map (undo_request all) l) (sym (none_left all total e))
-
-pub unsent_yes : (total worn : ℕ) (xs : List Turn) (f : List ℕ) (n m : ℕ) (old new : List Undo) → n < total → m ≡ n + 1 → is_unsent worn xs f n ≡ true → Adds total (unsent_part worn xs f m) old new → Adds total (unsent_part worn xs f n) old (Abort n ∷ new)
-unsent_yes total worn xs f n m old new h i t a = λ all e.
-    ap (λ v. abort (nth all n) ∷ v) (a all e)
-    ∙ ap (λ k. abort (nth all n) ∷ (map abort (chosen (is_unsent worn xs f) k (drop k all)) ++ map (undo_request all) old)) i
-    ∙ ap (λ v. map abort v ++ map (undo_request all) old) (sym (chosen_yes (is_unsent worn xs f) all n (omega arith) t))
-
-pub unsent_no : (total worn : ℕ) (xs : List Turn) (f : List ℕ) (n m : ℕ) (old new : List Undo) → n < total → m ≡ n + 1 → is_unsent worn xs f n ≡ false → Adds total (unsent_part worn xs f m) old new → Adds total (unsent_part worn xs f n) old new
-unsent_no total worn xs f n m old new h i t a = λ all e.
-    a all e
-    ∙ ap (λ k. map abort (chosen (is_unsent worn xs f) k (drop k all)) ++ map (undo_request all) old) i
-    ∙ ap (λ v. map abort v ++ map (undo_request all) old) (sym (chosen_no (is_unsent worn xs f) all n (omega arith) t))
-
-pub unsent_end : (total worn : ℕ) (xs : List Turn) (f : List ℕ) (n : ℕ) (old new : List Undo) → n ≡ 0 → Adds total (unsent_part worn xs f n) old new → Adds total (λ all. map abort (chosen (is_unsent worn xs f) 0 all)) old new
-unsent_end total worn xs f n old new z a = λ all e. a all e ∙ ap (λ k. map abort (chosen (is_unsent worn xs f) k (drop k all)) ++ map (undo_request all) old) z
+-- what was never sent; `sent` is told by three tests
+pub unsent_turn : (total worn : ℕ) (xs : List Turn) (f : List ℕ) (n m : ℕ) (old new last : List Undo) (sent : Bool) → n < total → m ≡ n + 1 → sent ≡ (nat_eq n worn || (is_tried xs n || is_in f n)) → last ≡ with_unsent sent n new → Adds total (unsent_part worn xs f m) old new → Adds total (unsent_part worn xs f n) old last
+unsent_turn total worn xs f n m old new last sent h i s e a =
+    let same : with_unsent sent n new ≡ cond (not sent) (Abort n ∷ new) new = elim sent as (λ b. with_unsent b n new ≡ cond (not b) (Abort n ∷ new) new)
+    [ true ↦ refl | false ↦ refl ] in
+    adds_turn (map abort) (is_unsent worn xs f) total n m old new last (λ b. cond b (Abort n ∷ new) new) (not sent) h i (ap not (sym s)) (e ∙ same) refl
+    (λ all ps k. ap (λ v. abort (nth all n) ∷ v) k) a
 
 -- ---- what is done
 
 pub done_begin : (total : ℕ) (f : List ℕ) (n : ℕ) (l : List Undo) → n ≡ length f → Adds total (done_part f n) l l
 done_begin total f n l h = λ all e. ap (λ v. map deletion (map (nth all) v) ++ map (undo_request all) l) (sym (drop_of_length-le f {i = n} (omega arith)))
-
-pub done_more : (total : ℕ) (f : List ℕ) (n m x : ℕ) (old new : List Undo) → n < length f → m ≡ n + 1 → get_or f n 0 ≡ x → Adds total (done_part f m) old new → Adds total (done_part f n) old (Delete x ∷ new)
-done_more total f n m x old new h i at a = λ all e.
-    let s : m ≡ suc n = omega arith in
-    ap (λ v. deletion (nth all x) ∷ v) (a all e)
-    ∙ ap (λ k. deletion (nth all x) ∷ (map deletion (map (nth all) (drop k f)) ++ map (undo_request all) old)) s
-    ∙ ap (λ y. deletion (nth all y) ∷ (map deletion (map (nth all) (drop (suc n) f)) ++ map (undo_request all) old)) (sym at)
-    ∙ ap (λ v. map deletion (map (nth all) v) ++ map (undo_request all) old) (sym (drop-cons f n 0 h))
 
 in_turn_last : (all : List Pending) (ys : List ℕ) (x : ℕ) → in_turn all (ys ++ x ∷ []) ≡ nth all x ∷ in_turn all ys
 in_turn_last all [] x = refl
@@ -96,47 +87,20 @@ in_turn_back all (x ∷ xs) = ap (in_turn all) (reverse-append (x ∷ []) xs) �
 pub done_end : (total : ℕ) (f : List ℕ) (n : ℕ) (old new : List Undo) → n ≡ 0 → Adds total (done_part f n) old new → Adds total (λ all. map deletion (in_turn all (reverse f))) old new
 done_end total f n old new z a = λ all e. a all e ∙ ap (λ k. map deletion (map (nth all) (drop k f)) ++ map (undo_request all) old) z ∙ ap (λ v. map deletion v ++ map (undo_request all) old) (sym (in_turn_back all f))
 
--- ---- all of it
-
-pub revert_is : (total worn : ℕ) (xs : List Turn) (finished : List ℕ) (a b c : List Undo) → Adds total (λ all. map abort (chosen (is_unsent worn xs finished) 0 all)) [] a → Adds total (λ all. map deletion (in_turn all finished)) a b → Adds total (λ all. undo (chosen (is_tried xs) 0 all)) b c
-    → IsRevert total worn xs finished (Abort worn ∷ Delete worn ∷ c)
-revert_is total worn xs finished a b c x y z = λ all e.
-    ap (λ v. abort (nth all worn) ∷ deletion (nth all worn) ∷ v)
-    (z all e ∙ ap (λ v. undo (chosen (is_tried xs) 0 all) ++ v) (y all e ∙ ap (λ v. map deletion (in_turn all finished) ++ v) (x all e ∙ append-nil (map abort (chosen (is_unsent worn xs finished) 0 all)))))
-
 -- ---- one turn of each loop
 
 number_below : (total : ℕ) (u : List Undo) (x : Undo) → number_in x < total → NumbersWithin total u → NumbersWithin total (x ∷ u)
 number_below total u x h w = λ y i. elim i [ inl e ↦ let P : Undo → Type 0 = λ v. number_in v < total in subst P e h | inr k ↦ w y k ]
 
-tried_by : (total : ℕ) (xs : List Turn) (n m : ℕ) (old new : List Undo) (b : Bool) → is_tried xs n ≡ b → n < total → m ≡ n + 1 → Adds total (tried_part xs m) old new → Adds total (tried_part xs n) old (with_tried b n new)
-tried_by total xs n m old new true e h i a = tried_yes total xs n m old new h i e a
-tried_by total xs n m old new false e h i a = tried_no total xs n m old new h i e a
-
-pub tried_turn : (total : ℕ) (xs : List Turn) (n m : ℕ) (old new last : List Undo) → n < total → m ≡ n + 1 → last ≡ with_tried (is_tried xs n) n new → Adds total (tried_part xs m) old new → Adds total (tried_part xs n) old last
-tried_turn total xs n m old new last h i e a = let P : List Undo → Type 0 = λ v. Adds total (tried_part xs n) old v in subst P (sym e) (tried_by total xs n m old new (is_tried xs n) refl h i a)
-
-tried_below_by : (total n : ℕ) (new : List Undo) (b : Bool) → n < total → NumbersWithin total new → NumbersWithin total (with_tried b n new)
-tried_below_by total n new true h w = number_below total (Delete n ∷ new) (Abort n) h (number_below total new (Delete n) h w)
-tried_below_by total n new false h w = w
-
 pub tried_below : (total n : ℕ) (new last : List Undo) (b : Bool) → n < total → last ≡ with_tried b n new → NumbersWithin total new → NumbersWithin total last
-tried_below total n new last b h e w = let P : List Undo → Type 0 = λ v. NumbersWithin total v in subst P (sym e) (tried_below_by total n new b h w)
-
-unsent_by : (total worn : ℕ) (xs : List Turn) (f : List ℕ) (n m : ℕ) (old new : List Undo) (b : Bool) → (nat_eq n worn || (is_tried xs n || is_in f n)) ≡ b → n < total → m ≡ n + 1 → Adds total (unsent_part worn xs f m) old new → Adds total (unsent_part worn xs f n) old (with_unsent b n new)
-unsent_by total worn xs f n m old new true e h i a = unsent_no total worn xs f n m old new h i (ap not e) a
-unsent_by total worn xs f n m old new false e h i a = unsent_yes total worn xs f n m old new h i (ap not e) a
-
--- `sent` is told by three tests
-pub unsent_turn : (total worn : ℕ) (xs : List Turn) (f : List ℕ) (n m : ℕ) (old new last : List Undo) (sent : Bool) → n < total → m ≡ n + 1 → sent ≡ (nat_eq n worn || (is_tried xs n || is_in f n)) → last ≡ with_unsent sent n new → Adds total (unsent_part worn xs f m) old new → Adds total (unsent_part worn xs f n) old last
-unsent_turn total worn xs f n m old new last sent h i s e a = let P : List Undo → Type 0 = λ v. Adds total (unsent_part worn xs f n) old v in subst P (sym e) (unsent_by total worn xs f n m old new sent (sym s) h i a)
-
-unsent_below_by : (total n : ℕ) (new : List Undo) (b : Bool) → n < total → NumbersWithin total new → NumbersWithin total (with_unsent b n new)
-unsent_below_by total n new true h w = w
-unsent_below_by total n new false h w = number_below total new (Abort n) h w
+tried_below total n new last b h e w =
+    let P : List Undo → Type 0 = λ v. NumbersWithin total v in
+    subst P (sym e) (elim b as (λ b. P (with_tried b n new)) [ true ↦ number_below total (Delete n ∷ new) (Abort n) h (number_below total new (Delete n) h w) | false ↦ w ])
 
 pub unsent_below : (total n : ℕ) (new last : List Undo) (b : Bool) → n < total → last ≡ with_unsent b n new → NumbersWithin total new → NumbersWithin total last
-unsent_below total n new last b h e w = let P : List Undo → Type 0 = λ v. NumbersWithin total v in subst P (sym e) (unsent_below_by total n new b h w)
+unsent_below total n new last b h e w =
+    let P : List Undo → Type 0 = λ v. NumbersWithin total v in
+    subst P (sym e) (elim b as (λ b. P (with_unsent b n new)) [ true ↦ w | false ↦ number_below total new (Abort n) h w ])
 
 get_any : (f : List ℕ) (n d e : ℕ) → n < length f → get_or f n d ≡ get_or f n e
 get_any [] n d e h = absurd (omega arith)
@@ -144,7 +108,13 @@ get_any (x ∷ xs) zero d e h = refl
 get_any (x ∷ xs) (suc n) d e h = get_any xs n d e (omega arith)
 
 pub done_turn : (total : ℕ) (f : List ℕ) (n m x : ℕ) (old new last : List Undo) → n < length f → m ≡ n + 1 → x ≡ get_or f n x → last ≡ Delete x ∷ new → Adds total (done_part f m) old new → Adds total (done_part f n) old last
-done_turn total f n m x old new last h i at e a = let P : List Undo → Type 0 = λ v. Adds total (done_part f n) old v in subst P (sym e) (done_more total f n m x old new h i (get_any f n 0 x h ∙ sym at) a)
+done_turn total f n m x old new last h i at e a = λ all t.
+    let s : m ≡ suc n = omega arith in
+    ap (map (undo_request all)) e
+    ∙ ap (λ v. deletion (nth all x) ∷ v) (a all t)
+    ∙ ap (λ k. deletion (nth all x) ∷ (map deletion (map (nth all) (drop k f)) ++ map (undo_request all) old)) s
+    ∙ ap (λ y. deletion (nth all y) ∷ (map deletion (map (nth all) (drop (suc n) f)) ++ map (undo_request all) old)) (at ∙ get_any f n x 0 h)
+    ∙ ap (λ v. map deletion (map (nth all) v) ++ map (undo_request all) old) (sym (drop-cons f n 0 h))
 
 pub done_below : (total x : ℕ) (new last : List Undo) → x < total → last ≡ Delete x ∷ new → NumbersWithin total new → NumbersWithin total last
 done_below total x new last h e w = let P : List Undo → Type 0 = λ v. NumbersWithin total v in subst P (sym e) (number_below total new (Delete x) h w)
@@ -154,22 +124,11 @@ finished_below total f n x all h at = let P : ℕ → Type 0 = λ v. In v f in a
 
 -- ---- the whole list
 
-in_join : (x : ℕ) (xs ys : List ℕ) → In x ys → In x (xs ++ ys)
-in_join x [] ys h = h
-in_join x (z ∷ xs) ys h = inr (in_join x xs ys h)
-
-in_joined : (x : ℕ) (xs ys : List ℕ) → In x xs → In x (xs ++ ys)
-in_joined x [] ys h = absurd h
-in_joined x (z ∷ xs) ys h = elim h [ inl e ↦ inl e | inr i ↦ inr (in_joined x xs ys i) ]
-
-in_back : (x : ℕ) (xs : List ℕ) → In x xs → In x (reverse xs)
+pub in_back : (x : ℕ) (xs : List ℕ) → In x xs → In x (reverse xs)
 in_back x [] h = h
 in_back x (z ∷ xs) h =
     let P : List ℕ → Type 0 = λ v. In x v in
-    subst P (sym (reverse-append (z ∷ []) xs)) (elim h [ inl e ↦ in_join x (reverse xs) (z ∷ []) (inl e) | inr i ↦ in_joined x (reverse xs) (z ∷ []) (in_back x xs i) ])
-
-pub in_front : (total : ℕ) (xs f : List ℕ) → reverse xs ≡ f → ((n : ℕ) → In n f → n < total) → (n : ℕ) → In n xs → n < total
-in_front total xs f e all n h = let P : List ℕ → Type 0 = λ v. In n v in all n (subst P e (in_back n xs h))
+    subst P (sym (reverse-append (z ∷ []) xs)) (elim h [ inl e ↦ in_right x (reverse xs) (z ∷ []) (inl e) | inr i ↦ in_left x (reverse xs) (z ∷ []) (in_back x xs i) ])
 
 pub all_within : (total worn : ℕ) (l a b c d e : List Undo) → worn < total → l ≡ [] → (NumbersWithin total l → NumbersWithin total a) → (NumbersWithin total a → NumbersWithin total b) → (NumbersWithin total b → NumbersWithin total c) → d ≡ Delete worn ∷ c → e ≡ Abort worn ∷ d → NumbersWithin total e
 all_within total worn l a b c d e h none x y z f g =
@@ -181,5 +140,8 @@ pub all_reverted : (total worn : ℕ) (xs : List Turn) (finished raw : List ℕ)
 all_reverted total worn xs finished raw l a b c d e back none x y z f g =
     let L : List Undo → Type 0 = λ v. Adds total (λ all. map abort (chosen (is_unsent worn xs finished) 0 all)) v a in
     let F : List ℕ → Type 0 = λ v. Adds total (λ all. map deletion (in_turn all v)) a b in
-    let P : List Undo → Type 0 = λ v. IsRevert total worn xs finished v in
-    subst P (sym (g ∙ ap (λ v. Abort worn ∷ v) f)) (revert_is total worn xs finished a b c (subst L none x) (subst F back y) z)
+    λ all t.
+    ap (map (undo_request all)) (g ∙ ap (λ v. Abort worn ∷ v) f)
+    ∙ ap (λ v. abort (nth all worn) ∷ deletion (nth all worn) ∷ v) (z all t
+    ∙ ap (λ v. undo (chosen (is_tried xs) 0 all) ++ v)
+    (subst F back y all t ∙ ap (λ v. map deletion (in_turn all finished) ++ v) (subst L none x all t ∙ append-nil (map abort (chosen (is_unsent worn xs finished) 0 all)))))

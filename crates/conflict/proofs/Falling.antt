@@ -1,16 +1,21 @@
 -- What a check before a commit has left falls.
-use Rattle.std.proofs.Common.{◌≡◌, ℕ, ◌+◌, ◌<◌, ◌≤◌, false, List, [], ◌∷◌, ◌++◌, length, take, Option, Some, None, refl, sym, ap, subst, ◌∙◌, arith}
-use Rattle.std.specs.Prelude.{codes}
-use Rattle.job_protocol.specs.Prelude.{BucketContent, Scene, answer, answer_at, apply, Request, ListPage, PageEntry, Reply, Page, listed, below, Job, job_script, Walked, More, Whole, keys_on, page_after, first_shown, lacks_bucket, FitsPage, walk_left, adds_key, LessWalk}
+use Rattle.std.proofs.Common.{◌≡◌, ℕ, ◌+◌, ◌<◌, ◌≤◌, false, List, [], ◌∷◌, ◌++◌, length, take, Option, Some, None, refl, sym, ap, subst, arith}
+use Rattle.std.specs.Prelude.{codes, IfSome}
+use Rattle.job_protocol.specs.Prelude.{BucketContent, Scene, answer, answer_at, apply, Request, ListPage, PageEntry, Reply, Page, listed, below, Job, job_script, Walked, More, Whole, keys_on, page_after, first_shown, lacks_bucket, walk_left, adds_key, LessWalk}
 use Rattle.std.specs.FinMap as fin
 use Rattle.proof_base.proofs.Members.{some_is, none_some, false_true}
 use Rattle.list_walk.specs.Walks.{walked}
 use Rattle.list_walk.proofs.Falling.{walk_laws}
 use Rattle.job_setup.proofs.Falling.{one_most, never_less}
-use Rattle.job_protocol.specs.Rechecks.{Check, Looking, Probing, CheckOver, probing, check_asks, looked_on, looked, probed, check_hears}
+use Rattle.job_protocol.specs.Rechecks.{Check, Looking, Probing, CheckOver, check_asks, looked, probed, check_hears}
 use Rattle.conflict.specs.Fits.{FitsLook}
 use Rattle.conflict.specs.Left.{left_at}
 use Rattle.conflict.specs.Laws.{ChecksFall}
+
+-- what holds of a request that is asked
+of_some : (P : Request → Type 0) (o : Option Request) (r : Request) → o ≡ Some r → IfSome o P → P r
+of_some P None r e h = absurd (none_some refl e)
+of_some P (Some x) r e h = subst P (some_is e) h
 
 -- ---- the look at the whole destination
 
@@ -18,33 +23,20 @@ module _ (j : Job) (keys : List (List ℕ)) (s : Scene) where
   abbrev Less : Walked (List ℕ) → Type 0
   Less x = LessWalk j.dest.bucket (j.dest.key ++ codes "/") s (walk_left j.dest.bucket (j.dest.key ++ codes "/") keys s) x
 
-  on_left : (x : Walked (List ℕ)) → Less x → left_at j (looked_on x) s < left_at j (Looking keys) s
-  on_left (More ks) h = h
-  on_left (Whole ks) h = omega arith
-
   by_left : (o : Option (List ℕ)) (x : Walked (List ℕ)) → Less x → left_at j (looked o x) s < left_at j (Looking keys) s
   by_left (Some p) x h = omega arith
-  by_left None x h = on_left x h
+  by_left None (More ks) h = h
+  by_left None (Whole ks) h = omega arith
 
   looked_left : (r : Reply) → Less (walked keys r) → left_at j (check_hears (job_script j) (Looking keys) r) s < left_at j (Looking keys) s
   looked_left (Page entries more) h = by_left (first_shown (job_script j) (keys_on entries)) (walked keys (Page entries more)) h
   looked_left _ h = absurd (never_less (walk_left j.dest.bucket (j.dest.key ++ codes "/") keys s) h)
 
-  looking_falls : FitsPage (answer s (page_after j.dest.bucket (j.dest.key ++ codes "/") keys))
-      → left_at j (check_hears (job_script j) (Looking keys) (answer s (page_after j.dest.bucket (j.dest.key ++ codes "/") keys))) (apply s (page_after j.dest.bucket (j.dest.key ++ codes "/") keys)) < left_at j (Looking keys) s
-  looking_falls h =
-      subst (λ z. left_at j (check_hears (job_script j) (Looking keys) (answer s (page_after j.dest.bucket (j.dest.key ++ codes "/") keys))) z < left_at j (Looking keys) s)
-      (sym (walk_laws.still j.dest.bucket (j.dest.key ++ codes "/") keys s))
-      (looked_left (answer s (page_after j.dest.bucket (j.dest.key ++ codes "/") keys)) (walk_laws.falls j.dest.bucket (j.dest.key ++ codes "/") keys s h))
-
 -- ---- the looks below partitions
 
-next_left : (j : Job) (ds : List (List ℕ)) (z : Scene) → left_at j (probing ds) z ≡ length ds
-next_left j [] z = refl
-next_left j (d ∷ ds) z = omega arith
-
 probed_left : (j : Job) (d : List ℕ) (ds : List (List ℕ)) (entries : List PageEntry) (z : Scene) → left_at j (probed d ds entries) z < 1 + length ds
-probed_left j d ds [] z = let e = next_left j ds z in omega (arith, e)
+probed_left j d [] [] z = omega arith
+probed_left j d (e ∷ ds) [] z = omega arith
 probed_left j d ds (e ∷ es) z = omega arith
 
 abbrev key_below : Job → List ℕ → Request
@@ -55,27 +47,27 @@ probing_by : (j : Job) (d : List ℕ) (ds : List (List ℕ)) (z : Scene) (o : Op
 probing_by j d ds z None next minimum h = absurd (false_true h refl)
 probing_by j d ds z (Some c) next minimum h = probed_left j d ds (take 1 (listed (below j.dest.key (d ++ codes "/")) false [] c.objects)) z
 
-probing_falls : (j : Job) (d : List ℕ) (ds : List (List ℕ)) (s : Scene) → lacks_bucket (answer s (key_below j d)) ≡ false
-    → left_at j (check_hears (job_script j) (Probing d ds) (answer s (key_below j d))) (apply s (key_below j d)) < left_at j (Probing d ds) s
-probing_falls j d ds s h = probing_by j d ds (apply s (key_below j d)) (fin.get s.content.buckets j.dest.bucket) s.content.next s.content.minimum h
-
 -- ---- a check
 
-falls_at : (j : Job) (c : Check) (s : Scene) (r : Request) → check_asks (job_script j) c ≡ Some r → FitsLook c (answer s r) → left_at j (check_hears (job_script j) c (answer s r)) (apply s r) < left_at j c s
-falls_at j (Looking keys) s r e h =
-    subst (λ r. FitsLook (Looking keys) (answer s r) → left_at j (check_hears (job_script j) (Looking keys) (answer s r)) (apply s r) < left_at j (Looking keys) s) (some_is e) (looking_falls j keys s) h
-falls_at j (Probing d ds) s r e h =
-    subst (λ r. FitsLook (Probing d ds) (answer s r) → left_at j (check_hears (job_script j) (Probing d ds) (answer s r)) (apply s r) < left_at j (Probing d ds) s) (some_is e) (probing_falls j d ds s) h
-falls_at j (CheckOver end) s r e h = absurd (none_some refl e)
+abbrev Falls : Job → Check → Scene → Request → Type 0
+Falls j c s r = FitsLook c (answer s r) → left_at j (check_hears (job_script j) c (answer s r)) (apply s r) < left_at j c s
 
-some_left : (j : Job) (c : Check) (s : Scene) (r : Request) → check_asks (job_script j) c ≡ Some r → 0 < left_at j c s
-some_left j (CheckOver end) s r e = absurd (none_some refl e)
-some_left j _ s r e = omega arith
+falls_at : (j : Job) (c : Check) (s : Scene) → IfSome (check_asks (job_script j) c) (Falls j c s)
+falls_at j (Looking keys) s = λ h.
+    let a = answer s (page_after j.dest.bucket (j.dest.key ++ codes "/") keys) in
+    subst (λ z. left_at j (check_hears (job_script j) (Looking keys) a) z < left_at j (Looking keys) s) (sym (walk_laws.still j.dest.bucket (j.dest.key ++ codes "/") keys s))
+    (looked_left j keys s a (walk_laws.falls j.dest.bucket (j.dest.key ++ codes "/") keys s h))
+falls_at j (Probing d ds) s = λ h. probing_by j d ds (apply s (key_below j d)) (fin.get s.content.buckets j.dest.bucket) s.content.next s.content.minimum h
+falls_at j (CheckOver end) s = tt
 
-no_rise_at : (j : Job) (c : Check) (s : Scene) (r : Request) → check_asks (job_script j) c ≡ Some r → left_at j c (apply s r) ≤ left_at j c s
-no_rise_at j (Looking keys) s r e =
-    let i = ap (left_at j (Looking keys)) (ap (apply s) (sym (some_is e)) ∙ walk_laws.still j.dest.bucket (j.dest.key ++ codes "/") keys s) in omega (arith, i)
-no_rise_at j _ s r e = omega arith
+some_left : (j : Job) (c : Check) (s : Scene) → IfSome (check_asks (job_script j) c) (λ r. 0 < left_at j c s)
+some_left j (CheckOver end) s = tt
+some_left j _ s = omega arith
+
+no_rise_at : (j : Job) (c : Check) (s : Scene) → IfSome (check_asks (job_script j) c) (λ r. left_at j c (apply s r) ≤ left_at j c s)
+no_rise_at j (Looking keys) s = let i = ap (left_at j (Looking keys)) (walk_laws.still j.dest.bucket (j.dest.key ++ codes "/") keys s) in omega (arith, i)
+no_rise_at j (CheckOver end) s = tt
+no_rise_at j _ s = omega arith
 
 others_at : (j : Job) (c : Check) (s : Scene) (r : Request) → left_at j c (apply s r) ≤ left_at j c s + 1
 others_at j (Looking keys) s r =
@@ -86,8 +78,8 @@ others_at j _ s r = omega arith
 
 pub checks_end : ChecksFall
 checks_end = record {
-  falls = λ m s r b e h. falls_at m.plan.job m.operation s r e h;
-  falls_worn = λ m s r e. some_left m.plan.job m.operation s r e;
-  no_rise = λ m s r e. no_rise_at m.plan.job m.operation s r e;
+  falls = λ m s r b e h. of_some (Falls m.plan.job m.operation s) _ r e (falls_at m.plan.job m.operation s) h;
+  falls_worn = λ m s r e. of_some (λ r. 0 < left_at m.plan.job m.operation s) _ r e (some_left m.plan.job m.operation s);
+  no_rise = λ m s r e. of_some (λ r. left_at m.plan.job m.operation (apply s r) ≤ left_at m.plan.job m.operation s) _ r e (no_rise_at m.plan.job m.operation s);
   others = λ m s r. others_at m.plan.job m.operation s r;
 }

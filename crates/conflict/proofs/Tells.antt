@@ -21,10 +21,6 @@ checks_tell = record { asks = λ w a k d ds. refl; goes = check_goes }
 same_prefixes : (w : Script) (picks : Picks) (c : Committer) (m : Mode) → m ≡ Replace → replaced c m w picks ≡ deleted c w.dest (partitions (wanted_paths w picks))
 same_prefixes w picks c m e = ap (λ m. replaced c m w picks) e ∙ (elim c as (λ c. replaced c Replace w picks ≡ deleted c w.dest (partitions (wanted_paths w picks))) [ Magic ↦ refl | _ ↦ refl ])
 
-starts : (w : Script) (sets : Sets) (prefixes : List (List ℕ)) → replacing w sets prefixes ≡ commit_deleting w sets (deletion_of w prefixes sweep_start)
-starts w sets [] = refl
-starts w sets (p ∷ ps) = refl
-
 goes_by : (w : Script) (sets : Sets) (p : List ℕ) (ps : List (List ℕ)) (o : Option Sweep) → swept w sets p ps o ≡ commit_deleting w sets (swept_on (deletion_of w [] sweep_start).spared p ps o)
 goes_by w sets p ps (Some s) = refl
 goes_by w sets p [] None = refl
@@ -33,7 +29,7 @@ goes_by w sets p (q ∷ qs) None = refl
 pub deletions_tell : DeletionsTell
 deletions_tell = record {
   prefixes = λ w picks e. same_prefixes w picks w.committer w.mode e;
-  starts = starts;
+  starts = λ w sets prefixes. elim prefixes as (λ ps. replacing w sets ps ≡ commit_deleting w sets (deletion_of w ps sweep_start)) [ [] ↦ refl | p ∷ ps ↦ refl ];
   asks = λ w sets p ps sweep missed. refl;
   goes = λ w sets p ps sweep missed r. goes_by w sets p ps (sweep_hears (is_no_magic w) sweep r);
 }

@@ -1,7 +1,7 @@
 -- where outcomes lead
 use Rattle.std.proofs.Common.{◌≡◌, ℕ, suc, ◌+◌, ◌<◌, ◌≤◌, refl, ap, sym, subst, ◌∙◌, Bool, true, false, nat_lt, cond, arith, List, [], ◌∷◌, ◌++◌, map, length, Option, Some, None, length-append, ◌^◌}
 use Rattle.path_keys.proofs.Common.{nat_tests, map-append, below_so}
-use Rattle.job_protocol.specs.Prelude.{Request, PendingSet, Job, Pick, Turn, Sweep, Sets, all_commits, Commit, Fetching, Replacing, Marking, Reverting, CommitOver, completing, commit_misses, read_script, sets_in}
+use Rattle.job_protocol.specs.Prelude.{Request, PendingSet, Job, Pick, Sets, all_commits, Commit, Fetching, Replacing, Marking, Reverting, CommitOver, completing, commit_misses, read_script, sets_in}
 use Rattle.job_model.specs.declared.ends.CommitEnd.TheVariants as ends
 use Rattle.job_model.specs.declared.ends.Stage.TheVariants as stages
 use Rattle.conflict.specs.Deletions.{Deletion}
@@ -9,7 +9,6 @@ use Rattle.commit_parts.specs.Tables.{LaneTable, first_missed}
 use Rattle.commit_parts.specs.Undos.{undo_request}
 use Rattle.commit_parts.specs.ReadSets.{IsSetOf, AreRead}
 use Rattle.commit_parts.specs.declared.places.Place.{Place}
-use Rattle.commit_parts.specs.declared.undo.Undo.{Undo}
 use Rattle.commit_laws.specs.Fitting.{SpellsSet, missed_of}
 use Rattle.commit_laws.proofs.CommitEnds.{read_more}
 use Rattle.job_commit.specs.Stages.{replacing_at, reverting_from, operation_of, counted, missed_in}
@@ -18,7 +17,7 @@ use Rattle.job_commit.specs.declared.basis.Basis.{Basis}
 use Rattle.job_commit.specs.declared.step.Step.{Step}
 use Rattle.job_commit.specs.declared.step.Step.TheVariants as steps
 use Rattle.job_commit.specs.declared.step.Next.{Next}
-use Rattle.job_commit.proofs.Steps.{holds_fetching, holds_replacing, holds_marking, holds_reverting, holds_over}
+use Rattle.job_commit.proofs.Steps.{some_so, holds_fetching, holds_replacing, holds_reverting, holds_over}
 
 -- ---- a set
 
@@ -71,61 +70,52 @@ if_so {b = b} c d e = let P : Bool → Type 0 = λ v. c ≡ cond v c d in subst 
 
 -- ---- what is sent again
 
-pub first_missed_of : (sets : Sets) (xs : List Turn) (done : List ℕ) → first_missed xs ≡ missed_of (completing sets xs done)
-first_missed_of sets [] done = refl
-first_missed_of sets (x ∷ xs) done = refl
-
-undo_missed : (sets : Sets) (u : List Undo) (m : ℕ) → (u ≡ [] → ⊥) → m ≡ missed_of (reverting_from m (map (undo_request (all_commits sets)) u))
-undo_missed sets [] m some = absurd (some refl)
-undo_missed sets (x ∷ xs) m some = refl
-
-deletion_missed : (sets : Sets) (m : ℕ) (sweep : Sweep) (ps : List (List ℕ)) → (ps ≡ [] → ⊥) → m ≡ missed_of (replacing_at sets m sweep ps)
-deletion_missed sets m sweep [] some = absurd (some refl)
-deletion_missed sets m sweep (p ∷ ps) some = refl
-
 -- the count of the step is the operation's
 pub missed_same : (j : Job) (sets : Sets) (places : List Place) (step : Step) → StepHolds j sets places step → missed_in step ≡ missed_of (operation_of sets step)
-missed_same j sets places (steps.Replacing d m) s = deletion_missed sets m d.sweep d.prefixes (s.deletes d m refl).some
-missed_same j sets places (steps.Completing l) s = first_missed_of sets l.turns l.finished
-missed_same j sets places (steps.Reverting u m) s = undo_missed sets u m (s.some u m refl)
+missed_same j sets places (steps.Replacing d m) s = some_so (λ ps. m ≡ missed_of (replacing_at sets m d.sweep ps)) (λ p ps. refl) d.prefixes (s.deletes d m refl).some
+missed_same j sets places (steps.Completing l) s = elim l.turns as (λ xs. first_missed xs ≡ missed_of (completing sets xs l.finished)) [ [] ↦ refl | x ∷ xs ↦ refl ]
+missed_same j sets places (steps.Reverting u m) s = some_so (λ u. m ≡ missed_of (reverting_from m (map (undo_request (all_commits sets)) u))) (λ x xs. refl) u (s.some u m refl)
 missed_same j sets places _ s = refl
-
-reverting_more : (j : Job) (sets : Sets) (u : List Undo) (m : ℕ) (lost : Bool) → (u ≡ [] → ⊥) → missed_of (reverting_from m (map (undo_request (all_commits sets)) u)) < j.retries → reverting_from (m + 1) (map (undo_request (all_commits sets)) u) ≡ missed_at j (reverting_from m (map (undo_request (all_commits sets)) u)) lost
-reverting_more j sets [] m lost some h = absurd (some refl)
-reverting_more j sets (x ∷ xs) m lost some h = if_so (Reverting (undo_request (all_commits sets) x) (map (undo_request (all_commits sets)) xs) (m + 1)) _ (below_so m j.retries h)
-
-replacing_more : (j : Job) (sets : Sets) (m : ℕ) (sweep : Sweep) (ps : List (List ℕ)) (lost : Bool) → (ps ≡ [] → ⊥) → missed_of (replacing_at sets m sweep ps) < j.retries → replacing_at sets (m + 1) sweep ps ≡ missed_at j (replacing_at sets m sweep ps) lost
-replacing_more j sets m sweep [] lost some h = absurd (some refl)
-replacing_more j sets m sweep (p ∷ ps) lost some h = if_so (Replacing sets p ps sweep (m + 1)) _ (below_so m j.retries h)
-
-replacing_asks : (j : Job) (sets : Sets) (m n : ℕ) (sweep : Sweep) (ps : List (List ℕ)) → (ps ≡ [] → ⊥) → asks j (replacing_at sets m sweep ps) ≡ asks j (replacing_at sets n sweep ps)
-replacing_asks j sets m n sweep [] some = absurd (some refl)
-replacing_asks j sets m n sweep (p ∷ ps) some = refl
-
-reverting_asks : (j : Job) (sets : Sets) (u : List Undo) (m n : ℕ) → (u ≡ [] → ⊥) → asks j (reverting_from m (map (undo_request (all_commits sets)) u)) ≡ asks j (reverting_from n (map (undo_request (all_commits sets)) u))
-reverting_asks j sets [] m n some = absurd (some refl)
-reverting_asks j sets (x ∷ xs) m n some = refl
 
 pub counted_is : (j : Job) (sets : Sets) (places : List Place) (step : Step) (lost : Bool) → ((l : LaneTable) → step ≡ steps.Completing l → ⊥) → StepHolds j sets places step → missed_of (operation_of sets step) < j.retries → operation_of sets (counted step) ≡ missed_at j (operation_of sets step) lost
 counted_is j sets places (steps.Fetching m) lost absent s h = if_so (Fetching sets (m + 1)) _ (below_so m j.retries h)
-counted_is j sets places (steps.Replacing d m) lost absent s h = replacing_more j sets m d.sweep d.prefixes lost (s.deletes d m refl).some h
+counted_is j sets places (steps.Replacing d m) lost absent s h =
+    some_so (λ ps. missed_of (replacing_at sets m d.sweep ps) < j.retries → replacing_at sets (m + 1) d.sweep ps ≡ missed_at j (replacing_at sets m d.sweep ps) lost)
+    (λ p ps h. if_so (Replacing sets p ps d.sweep (m + 1)) _ (below_so m j.retries h)) d.prefixes (s.deletes d m refl).some h
 counted_is j sets places (steps.Completing l) lost absent s h = absurd (absent l refl)
 counted_is j sets places (steps.Marking m) lost absent s h = if_so (Marking sets (m + 1)) _ (below_so m j.retries h)
-counted_is j sets places (steps.Reverting u m) lost absent s h = reverting_more j sets u m lost (s.some u m refl) h
+counted_is j sets places (steps.Reverting u m) lost absent s h =
+    let all = undo_request (all_commits sets) in
+    some_so (λ u. missed_of (reverting_from m (map all u)) < j.retries → reverting_from (m + 1) (map all u) ≡ missed_at j (reverting_from m (map all u)) lost)
+    (λ x xs h. if_so (Reverting (all x) (map all xs) (m + 1)) _ (below_so m j.retries h)) u (s.some u m refl) h
 counted_is j sets places (steps.Over end) lost absent s h = refl
 
 pub counted_holds : (j : Job) (sets : Sets) (places : List Place) (step : Step) → ((l : LaneTable) → step ≡ steps.Completing l → ⊥) → StepHolds j sets places step → StepHolds j sets places (counted step)
 counted_holds j sets places (steps.Fetching m) absent s = holds_fetching j sets places (m + 1) (s.reads m refl)
 counted_holds j sets places (steps.Replacing d m) absent s = holds_replacing j sets places d (m + 1) (s.deletes d m refl)
 counted_holds j sets places (steps.Completing l) absent s = absurd (absent l refl)
-counted_holds j sets places (steps.Marking m) absent s = holds_marking j sets places (m + 1)
+counted_holds j sets places (steps.Marking m) absent s =
+    record {
+      reads = λ k e. absurd (cc);
+      deletes = λ d k e. absurd (cc);
+      all = λ l e. absurd (cc);
+      lanes = λ l e. absurd (cc);
+      turns = λ l e. absurd
+          (cc);
+      placed = λ u k e. absurd (cc);
+      undo = λ u k e. absurd (cc);
+      some = λ u k e. absurd (cc);
+    }
 counted_holds j sets places (steps.Reverting u m) absent s = holds_reverting j sets places u (m + 1) (s.placed u m refl) (s.undo u m refl) (s.some u m refl)
 counted_holds j sets places (steps.Over end) absent s = holds_over j sets places end
 
 pub counted_asks : (j : Job) (sets : Sets) (places : List Place) (step : Step) → ((l : LaneTable) → step ≡ steps.Completing l → ⊥) → StepHolds j sets places step → asks j (operation_of sets step) ≡ asks j (operation_of sets (counted step))
-counted_asks j sets places (steps.Replacing d m) absent s = replacing_asks j sets m (m + 1) d.sweep d.prefixes (s.deletes d m refl).some
+counted_asks j sets places (steps.Replacing d m) absent s =
+    some_so (λ ps. asks j (replacing_at sets m d.sweep ps) ≡ asks j (replacing_at sets (m + 1) d.sweep ps)) (λ p ps. refl) d.prefixes (s.deletes d m refl).some
 counted_asks j sets places (steps.Completing l) absent s = absurd (absent l refl)
-counted_asks j sets places (steps.Reverting u m) absent s = reverting_asks j sets u m (m + 1) (s.some u m refl)
+counted_asks j sets places (steps.Reverting u m) absent s =
+    let all = undo_request (all_commits sets) in
+    some_so (λ u. asks j (reverting_from m (map all u)) ≡ asks j (reverting_from (m + 1) (map all u))) (λ x xs. refl) u (s.some u m refl)
 counted_asks j sets places _ absent s = refl
 
 -- the count fits
@@ -149,16 +139,14 @@ not_below m n h = grind (arith, nat_tests)
 if_not : {b : Bool} (c d : Commit) → b ≡ false → d ≡ cond b c d
 if_not {b = b} c d e = let P : Bool → Type 0 = λ v. d ≡ cond v c d in subst P (sym e) refl
 
-worn_at : (j : Job) (sets : Sets) (m : ℕ) (sweep : Sweep) (ps : List (List ℕ)) (lost : Bool) → (ps ≡ [] → ⊥) → j.retries ≤ missed_of (replacing_at sets m sweep ps) → CommitOver (ends.StoreFault stages.Delete) ≡ missed_at j (replacing_at sets m sweep ps) lost
-worn_at j sets m sweep [] lost some h = absurd (some refl)
-worn_at j sets m sweep (p ∷ ps) lost some h = if_not (Replacing sets p ps sweep (m + 1)) _ (not_below m j.retries h)
-
 pub worn_deletion : (j : Job) (sets : Sets) (places : List Place) (step : Step) (d : Deletion) (m : ℕ) (lost : Bool) (next : Next) → step ≡ steps.Replacing d m → StepHolds j sets places step → j.retries ≤ missed_of (operation_of sets step) → next ≡ record { step = steps.Over (ends.StoreFault stages.Delete); asked = None }
     → IsNext j sets places (missed_at j (operation_of sets step) lost) next
 worn_deletion j sets places step d m lost next e s h k =
     let x = s.deletes d m e in
     let low : j.retries ≤ missed_of (replacing_at sets m d.sweep d.prefixes) = subst (λ v. j.retries ≤ missed_of (operation_of sets v)) e h in
-    let is : CommitOver (ends.StoreFault stages.Delete) ≡ missed_at j (replacing_at sets m d.sweep d.prefixes) lost = worn_at j sets m d.sweep d.prefixes lost x.some low in
+    let is : CommitOver (ends.StoreFault stages.Delete) ≡ missed_at j (replacing_at sets m d.sweep d.prefixes) lost =
+    some_so (λ ps. j.retries ≤ missed_of (replacing_at sets m d.sweep ps) → CommitOver (ends.StoreFault stages.Delete) ≡ missed_at j (replacing_at sets m d.sweep ps) lost)
+    (λ p ps h. if_not (Replacing sets p ps d.sweep (m + 1)) _ (not_below m j.retries h)) d.prefixes x.some low in
     let P : Commit → Type 0 = λ v. IsNext j sets places v next in
     let Q : Next → Type 0 = λ v. IsNext j sets places (CommitOver (ends.StoreFault stages.Delete)) v in
     let S : Step → Type 0 = λ v. IsNext j sets places (missed_at j (operation_of sets v) lost) next in

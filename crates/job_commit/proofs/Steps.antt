@@ -1,8 +1,8 @@
 -- what is done next
 use Rattle.std.proofs.Common.{◌≡◌, ℕ, ◌+◌, ◌<◌, ◌≤◌, inl, inr, nat_lt, refl, ap, sym, subst, ◌∙◌, Bool, true, false, cond, arith, List, [], ◌∷◌, ◌++◌, map, length, drop, Option, Some, None, Result, OnOk}
 use Rattle.std.specs.Prelude.{⊤}
-use Rattle.path_keys.proofs.Common.{on_ok_weaker, below_is, below_so}
-use Rattle.job_protocol.specs.Prelude.{Request, Committer, Magic, Directory, Partitioned, Mode, Fail, Append, Replace, Reply, Path, Job, CommitEnd, Picks, same_path, wanted_paths, partitions, Sweep, sweep_start, sweep_hears, Turn, fresh_turn, again, follow, dealt, revert, Sets, all_commits, Commit, Fetching, completing, reverting, fetching, decided, replaced, replacing, worn_completion, picks_of, set_request, commit_hears, In, Table, read_script, job_script, sets_after, picked_after, Answered, Pick, Script}
+use Rattle.path_keys.proofs.Common.{append-nil, on_ok_weaker, below_is, below_so}
+use Rattle.job_protocol.specs.Prelude.{Request, Committer, Magic, Directory, Partitioned, Mode, Replace, Reply, Path, Job, CommitEnd, Picks, same_path, wanted_paths, partitions, Sweep, sweep_start, sweep_hears, Turn, fresh_turn, again, follow, dealt, revert, Sets, all_commits, Commit, Fetching, completing, reverting, fetching, decided, replaced, replacing, worn_completion, picks_of, set_request, commit_hears, In, Table, read_script, job_script, sets_after, picked_after, Answered, Pick, Script}
 use Rattle.job_model.specs.declared.ends.CommitEnd.TheVariants as ends
 use Rattle.job_protocol.proofs.Members.{in_push, in_append, some_is}
 use Rattle.conflict.specs.Deletions.{Deletion, deleted, spared, asks_below, deletion_asks, swept_on, hears_below, deletion_hears, FitsDeletion}
@@ -27,13 +27,15 @@ use Rattle.job_commit.specs.declared.step.Step.{Step}
 use Rattle.job_commit.specs.declared.step.Step.TheVariants as steps
 use Rattle.job_commit.specs.declared.step.Next.{Next}
 
+-- what holds of each list with a first item holds of one that is not empty
+pub some_so : {X : Type 0} (P : List X → Type 0) → ((x : X) (xs : List X) → P (x ∷ xs)) → (xs : List X) → (xs ≡ [] → ⊥) → P xs
+some_so P h [] some = absurd (some refl)
+some_so P h (x ∷ xs) some = h x xs
+
 -- ---- what each stage keeps
 
 pub holds_fetching : (j : Job) (sets : Sets) (places : List Place) (m : ℕ) → Reads j sets → StepHolds j sets places (steps.Fetching m)
 holds_fetching j sets places m h = record { reads = λ k e. h; deletes = λ d k e. absurd (cc); all = λ l e. absurd (cc); lanes = λ l e. absurd (cc); turns = λ l e. absurd (cc); placed = λ u k e. absurd (cc); undo = λ u k e. absurd (cc); some = λ u k e. absurd (cc) }
-
-pub holds_marking : (j : Job) (sets : Sets) (places : List Place) (m : ℕ) → StepHolds j sets places (steps.Marking m)
-holds_marking j sets places m = record { reads = λ k e. absurd (cc); deletes = λ d k e. absurd (cc); all = λ l e. absurd (cc); lanes = λ l e. absurd (cc); turns = λ l e. absurd (cc); placed = λ u k e. absurd (cc); undo = λ u k e. absurd (cc); some = λ u k e. absurd (cc) }
 
 undo_same : {u v : List Undo} {m n : ℕ} → steps.Reverting u m ≡ steps.Reverting v n → u ≡ v
 undo_same e = cc
@@ -68,12 +70,9 @@ first_within sets (y ∷ ys) done x w e = let i : y ≡ x = some_is e in w.turns
 
 -- ---- lanes after an outcome
 
-listed_if : (b : Bool) (x : Turn) → listed (cond b (Some x) None) ≡ cond b (x ∷ []) []
-listed_if true x = refl
-listed_if false x = refl
-
 follow_is : (lanes total n : ℕ) → listed (next_turn lanes total n) ≡ follow lanes total n
-follow_is lanes total n = listed_if (nat_lt (n + lanes) total) (fresh_turn (n + lanes))
+follow_is lanes total n =
+    elim (nat_lt (n + lanes) total) as (λ b. let x = fresh_turn (n + lanes) in listed (cond b (Some x) None) ≡ cond b (x ∷ []) []) [ true ↦ refl | false ↦ refl ]
 
 follow_within : (lanes total n : ℕ) (b : Bool) → nat_lt (n + lanes) total ≡ b → (y : Turn) → In y (cond b (fresh_turn (n + lanes) ∷ []) []) → y.number < total
 follow_within lanes total n true e y i = elim i [ inl f ↦ let g : n + lanes ≡ y.number = ap (λ (v : Turn). v.number) f in let l : n + lanes < total = below_is (n + lanes) total e in omega arith | inr h ↦ absurd h ]
@@ -118,14 +117,6 @@ again_within sets (y ∷ ys) done x lost l e is w =
 
 -- ---- taking back
 
-pub reverting_is : (rs : List Request) → reverting rs ≡ reverting_from 0 rs
-reverting_is [] = refl
-reverting_is (r ∷ rs) = refl
-
-nil_end : (xs : List Turn) → xs ++ [] ≡ xs
-nil_end [] = refl
-nil_end (x ∷ xs) = ap (λ v. x ∷ v) (nil_end xs)
-
 -- where a completion wore out
 pub worn_next : (j : Job) (sets : Sets) (places : List Place) (xs : List Turn) (done : List ℕ) (x : Turn) (l : LaneTable) (u : List Undo) (next : Next) → first_of xs ≡ Some x → places ≡ places_from 0 sets → l ≡ record { turns = drop 1 xs ++ listed None; finished = done }
     → IsRevert (length places) x.number l.turns l.finished u → IsNext j sets places (reverting_from 0 (map (undo_request (all_commits sets)) u)) next → IsNext j sets places (worn_out sets xs done) next
@@ -135,16 +126,10 @@ worn_next j sets places (y ∷ ys) done x l u next e p is r h =
     let same : map (undo_request (all_commits sets)) u ≡ revert (all_commits sets) y.number ys done =
     r (all_commits sets) total
     ∙ ap (λ (v : LaneTable). revert (all_commits sets) x.number v.turns v.finished) is
-    ∙ ap (λ v. revert (all_commits sets) x.number v done) (nil_end ys)
+    ∙ ap (λ v. revert (all_commits sets) x.number v done) (append-nil ys)
     ∙ ap (λ (v : Turn). revert (all_commits sets) v.number ys done) (sym (some_is e)) in
-    next_same (reverting_from 0 (map (undo_request (all_commits sets)) u)) (worn_completion sets y ys done) (ap (reverting_from 0) same ∙ sym (reverting_is (revert (all_commits sets) y.number ys done))) h
-
-pub finished_within : (sets : Sets) (places : List Place) (xs : List Turn) (done : List ℕ) (l : LaneTable) → places ≡ places_from 0 sets → l ≡ record { turns = drop 1 xs ++ listed None; finished = done } → LanesWithin sets (record { turns = xs; finished = done }) → (n : ℕ) → In n l.finished → n < length places
-finished_within sets places xs done l p is w n i =
-    let total : length places ≡ length (all_commits sets) = ap length p ∙ places_length 0 sets in
-    let P : LaneTable → Type 0 = λ v. In n v.finished in
-    let b : n < length (all_commits sets) = w.done n (subst P is i) in
-    omega arith
+    next_same (reverting_from 0 (map (undo_request (all_commits sets)) u)) (worn_completion sets y ys done)
+    (ap (reverting_from 0) same ∙ (elim (revert (all_commits sets) y.number ys done) as (λ rs. reverting_from 0 rs ≡ reverting rs) [ [] ↦ refl | r ∷ rs ↦ refl ])) h
 
 -- ---- the stages, with what each call gave
 
@@ -190,11 +175,6 @@ dealt_next r j sets places l lanes n next a e p is h =
 fetching_yes : (j : Job) (sets : Sets) → length sets < j.tasks → Fetching sets 0 ≡ fetching (read_script j sets) sets
 fetching_yes j sets h = let P : Bool → Type 0 = λ v. Fetching sets 0 ≡ cond v (Fetching sets 0) (decided (read_script j sets) sets (same_path (read_script j sets) (picks_of sets))) in subst P (sym (below_so (length sets) j.tasks h)) refl
 
--- the read of a set is the same by each script of the job
-read_same : (c : Committer) (j : Job) (sets : Sets) (n : ℕ) → set_request c (job_script j) n ≡ set_request c (read_script j sets) n
-read_same Magic j sets n = refl
-read_same _ j sets n = refl
-
 -- a set is read
 pub fetching_is : (j : Job) (sets : Sets) (places : List Place) (count t : ℕ) (r : Request) (next : Next) → AreRead j sets → count ≡ length sets → t ≡ j.tasks → count < t → r ≡ set_request j.committer (job_script j) count → next ≡ record { step = steps.Fetching 0; asked = Some r }
     → IsNext j sets places (fetching (read_script j sets) sets) next
@@ -202,19 +182,12 @@ fetching_is j sets places count t r next each e f h q k =
     let more : length sets < j.tasks = omega arith in
     next_as _ next k (next_same (Fetching sets 0) (fetching (read_script j sets) sets) (fetching_yes j sets more) (record {
       is = refl;
-      asked = ap Some (q ∙ (read_same j.committer j sets count ∙ ap (set_request j.committer (read_script j sets)) e));
+      asked = ap Some (q ∙ ((elim j.committer as (λ c. set_request c (job_script j) count ≡ set_request c (read_script j sets) count) [ Magic ↦ refl | _ ↦ refl ])
+          ∙ ap (set_request j.committer (read_script j sets)) e));
       step = holds_fetching j sets places 0 (record { each = each; more = more });
     }))
 
 -- ---- a deletion
-
-deleting_is : (j : Job) (sets : Sets) (sweep : Sweep) (ps : List (List ℕ)) (r : Request) → Some r ≡ asks_below j.dest.bucket sweep ps → replacing_at sets 0 sweep ps ≡ deleting_below (read_script j sets) sets sweep ps
-deleting_is j sets sweep [] r e = absurd (cc)
-deleting_is j sets sweep (p ∷ ps) r e = refl
-
-deleting_asks : (j : Job) (sets : Sets) (sweep : Sweep) (ps : List (List ℕ)) (r : Request) → Some r ≡ asks_below j.dest.bucket sweep ps → Some r ≡ asks j (deleting_below (read_script j sets) sets sweep ps)
-deleting_asks j sets sweep [] r e = absurd (cc)
-deleting_asks j sets sweep (p ∷ ps) r e = e
 
 some_below : (bucket : List ℕ) (sweep : Sweep) (ps : List (List ℕ)) (r : Request) → Some r ≡ asks_below bucket sweep ps → ps ≡ [] → ⊥
 some_below bucket sweep [] r e f = absurd (cc)
@@ -225,23 +198,22 @@ pub deleting_next : (j : Job) (sets : Sets) (places : List Place) (d : Deletion)
     → IsNext j sets places (commit_deleting (read_script j sets) sets d) next
 deleting_next j sets places d bucket r next all s b e k =
     let f : Some r ≡ asks_below j.dest.bucket d.sweep d.prefixes = e ∙ ap (λ v. asks_below v d.sweep d.prefixes) b in
+    let some = some_below j.dest.bucket d.sweep d.prefixes r f in
+    let w = read_script j sets in
     next_as _ next k (record {
-      is = deleting_is j sets d.sweep d.prefixes r f;
-      asked = deleting_asks j sets d.sweep d.prefixes r f;
-      step = holds_replacing j sets places d 0 (record { all = all; spared = s; some = some_below j.dest.bucket d.sweep d.prefixes r f });
+      is = some_so (λ ps. replacing_at sets 0 d.sweep ps ≡ deleting_below w sets d.sweep ps) (λ p ps. refl) d.prefixes some;
+      asked = f ∙ some_so (λ ps. asks_below j.dest.bucket d.sweep ps ≡ asks j (deleting_below w sets d.sweep ps)) (λ p ps. refl) d.prefixes some;
+      step = holds_replacing j sets places d 0 (record { all = all; spared = s; some = some });
     })
 
-over_below : (j : Job) (sets : Sets) (sweep : Sweep) (bucket : List ℕ) (ps : List (List ℕ)) → None ≡ asks_below bucket sweep ps → completing sets (dealt j.lanes (length (all_commits sets))) [] ≡ deleting_below (read_script j sets) sets sweep ps
+pub over_below : (j : Job) (sets : Sets) (sweep : Sweep) (bucket : List ℕ) (ps : List (List ℕ)) → None ≡ asks_below bucket sweep ps
+    → completing sets (dealt j.lanes (length (all_commits sets))) [] ≡ deleting_below (read_script j sets) sets sweep ps
 over_below j sets sweep bucket [] e = refl
 over_below j sets sweep bucket (p ∷ ps) e = absurd (cc)
 
--- it is over
-pub deleted_next : {E : Type 0} (r : Result ⊤ E) (j : Job) (sets : Sets) (places : List Place) (d : Deletion) (bucket : List ℕ) (next : Next) → None ≡ deletion_asks bucket d
-    → OnOk r (IsNext j sets places (completing sets (dealt j.lanes (length (all_commits sets))) []) next) → OnOk r (IsNext j sets places (commit_deleting (read_script j sets) sets d) next)
-deleted_next r j sets places d bucket next e h = on_ok_weaker r (next_same _ _ (over_below j sets d.sweep bucket d.prefixes e)) h
-
 -- how it begins
-begins_deleting : (j : Job) (sets : Sets) (d : Deletion) → j.mode ≡ Replace → (let w = read_script j sets in d ≡ record { prefixes = deleted j.committer j.dest (partitions (wanted_paths w (picks_of sets))); sweep = sweep_start; spared = spared j.dest })
+pub begins_deleting : (j : Job) (sets : Sets) (d : Deletion) → j.mode ≡ Replace
+    → (let w = read_script j sets in d ≡ record { prefixes = deleted j.committer j.dest (partitions (wanted_paths w (picks_of sets))); sweep = sweep_start; spared = spared j.dest })
     → commit_deleting (read_script j sets) sets d ≡ replacing (read_script j sets) sets (replaced j.committer j.mode (read_script j sets) (picks_of sets))
 begins_deleting j sets d m e =
     let w = read_script j sets in
@@ -252,39 +224,18 @@ begins_deleting j sets d m e =
 pub spared_is : (d : Deletion) (j : Job) (ps : List (List ℕ)) (sweep : Sweep) → d ≡ record { prefixes = ps; sweep = sweep; spared = spared j.dest } → d.spared ≡ spared j.dest
 spared_is d j ps sweep e = ap (λ (v : Deletion). v.spared) e
 
-pub replaced_next : {E : Type 0} (r : Result ⊤ E) (j : Job) (sets : Sets) (places : List Place) (d : Deletion) (mode : Mode) (next : Next) → mode ≡ j.mode → mode ≡ Replace → (let w = read_script j sets in d ≡ record { prefixes = deleted j.committer j.dest (partitions (wanted_paths w (picks_of sets))); sweep = sweep_start; spared = spared j.dest })
-    → OnOk r (IsNext j sets places (commit_deleting (read_script j sets) sets d) next) → OnOk r (IsNext j sets places (replacing (read_script j sets) sets (replaced j.committer j.mode (read_script j sets) (picks_of sets))) next)
-replaced_next r j sets places d mode next a b e h = on_ok_weaker r (next_same _ _ (begins_deleting j sets d (sym a ∙ b) e)) h
-
 -- a mode that keeps all
 kept_prefixes : (c : Committer) (m : Mode) (w : Script) (picks : Picks) → (m ≡ Replace → ⊥) → [] ≡ replaced c m w picks
 kept_prefixes Magic m w picks h = refl
-kept_prefixes Directory Fail w picks h = refl
-kept_prefixes Directory Append w picks h = refl
 kept_prefixes Directory Replace w picks h = absurd (h refl)
-kept_prefixes Partitioned Fail w picks h = refl
-kept_prefixes Partitioned Append w picks h = refl
 kept_prefixes Partitioned Replace w picks h = absurd (h refl)
+kept_prefixes _ _ w picks h = refl
 
-fail_keeps : (m : Mode) → m ≡ Fail → m ≡ Replace → ⊥
-fail_keeps m e f = cc
-
-append_keeps : (m : Mode) → m ≡ Append → m ≡ Replace → ⊥
-append_keeps m e f = cc
-
-kept_next : {E : Type 0} (r : Result ⊤ E) (j : Job) (sets : Sets) (places : List Place) (mode : Mode) (next : Next) → mode ≡ j.mode → (mode ≡ Replace → ⊥)
+pub kept_next : {E : Type 0} (r : Result ⊤ E) (j : Job) (sets : Sets) (places : List Place) (mode : Mode) (next : Next) → mode ≡ j.mode → (mode ≡ Replace → ⊥)
     → OnOk r (IsNext j sets places (completing sets (dealt j.lanes (length (all_commits sets))) []) next) → OnOk r (IsNext j sets places (replacing (read_script j sets) sets (replaced j.committer j.mode (read_script j sets) (picks_of sets))) next)
 kept_next r j sets places mode next a b h =
     let w = read_script j sets in
     on_ok_weaker r (next_same _ _ (ap (replacing w sets) (kept_prefixes j.committer j.mode w (picks_of sets) (λ e. b (a ∙ e))))) h
-
-pub failing_next : {E : Type 0} (r : Result ⊤ E) (j : Job) (sets : Sets) (places : List Place) (mode : Mode) (next : Next) → mode ≡ j.mode → mode ≡ Fail
-    → OnOk r (IsNext j sets places (completing sets (dealt j.lanes (length (all_commits sets))) []) next) → OnOk r (IsNext j sets places (replacing (read_script j sets) sets (replaced j.committer j.mode (read_script j sets) (picks_of sets))) next)
-failing_next r j sets places mode next a b h = kept_next r j sets places mode next a (fail_keeps mode b) h
-
-pub appending_next : {E : Type 0} (r : Result ⊤ E) (j : Job) (sets : Sets) (places : List Place) (mode : Mode) (next : Next) → mode ≡ j.mode → mode ≡ Append
-    → OnOk r (IsNext j sets places (completing sets (dealt j.lanes (length (all_commits sets))) []) next) → OnOk r (IsNext j sets places (replacing (read_script j sets) sets (replaced j.committer j.mode (read_script j sets) (picks_of sets))) next)
-appending_next r j sets places mode next a b h = kept_next r j sets places mode next a (append_keeps mode b) h
 
 -- ---- a deletion that hears
 
@@ -296,31 +247,18 @@ pub spared_still : (d e : Deletion) (r : Reply) (x : List ℕ) → e ≡ deletio
 spared_still d e r x f s = ap (λ (v : Deletion). v.spared) f ∙ (still_spared d d.prefixes r ∙ s)
 
 -- what fits the commit fits the deletion
-fits_below : (j : Job) (sets : Sets) (m : ℕ) (d : Deletion) (ps : List (List ℕ)) (r : Reply) → d.prefixes ≡ ps → FitsReply j (replacing_at sets m d.sweep ps) r → FitsDeletion d r
-fits_below j sets m d [] r e h = (let P : List (List ℕ) → Type 0 = λ v. FitsDeletion (record { prefixes = v; sweep = d.sweep; spared = d.spared }) r in subst P (sym e) tt)
-fits_below j sets m d (p ∷ ps) r e h = (let P : List (List ℕ) → Type 0 = λ v. FitsDeletion (record { prefixes = v; sweep = d.sweep; spared = d.spared }) r in subst P (sym e) h)
-
 pub fits_deletion : (j : Job) (sets : Sets) (m : ℕ) (d : Deletion) (r : Reply) → FitsReply j (replacing_at sets m d.sweep d.prefixes) r → FitsDeletion d r
-fits_deletion j sets m d r h = fits_below j sets m d d.prefixes r refl h
-
-heard_below : (j : Job) (sets : Sets) (m : ℕ) (sweep : Sweep) (ps : List (List ℕ)) (r : Reply) → (ps ≡ [] → ⊥) → (let w = read_script j sets in commit_deleting w sets (deletion_hears (deletion_of w ps sweep) r) ≡ commit_hears w (replacing_at sets m sweep ps) r)
-heard_below j sets m sweep [] r some = absurd (some refl)
-heard_below j sets m sweep (p ∷ ps) r some = sym (deletions_tell.goes (read_script j sets) sets p ps sweep m r)
+fits_deletion j sets m d r h =
+    (elim d.prefixes as (λ ps. FitsReply j (replacing_at sets m d.sweep ps) r → FitsDeletion (record { prefixes = ps; sweep = d.sweep; spared = d.spared }) r)
+    [ [] ↦ λ h. tt | p ∷ ps ↦ λ h. h ]) h
 
 -- the commit goes where the deletion does
 pub deletion_heard : (j : Job) (sets : Sets) (places : List Place) (m : ℕ) (d : Deletion) (r : Reply) → Deletes j sets places d → (let w = read_script j sets in commit_deleting w sets (deletion_hears d r) ≡ commit_hears w (replacing_at sets m d.sweep d.prefixes) r)
 deletion_heard j sets places m d r h =
     let w = read_script j sets in
     ap (λ s. commit_deleting w sets (deletion_hears (record { prefixes = d.prefixes; sweep = d.sweep; spared = s }) r)) h.spared
-    ∙ heard_below j sets m d.sweep d.prefixes r h.some
-
-sets_kept : (sets : Sets) (m : ℕ) (sweep : Sweep) (ps : List (List ℕ)) (r : Reply) → (ps ≡ [] → ⊥) → sets_after (replacing_at sets m sweep ps) (Answered r) ≡ sets
-sets_kept sets m sweep [] r some = absurd (some refl)
-sets_kept sets m sweep (p ∷ ps) r some = refl
-
-picks_kept : (sets : Sets) (m : ℕ) (sweep : Sweep) (ps : List (List ℕ)) (picked : List ℕ) (r : Reply) → (ps ≡ [] → ⊥) → picked ≡ picked_after picked (replacing_at sets m sweep ps) (Answered r)
-picks_kept sets m sweep [] picked r some = absurd (some refl)
-picks_kept sets m sweep (p ∷ ps) picked r some = refl
+    ∙ some_so (λ ps. commit_deleting w sets (deletion_hears (deletion_of w ps d.sweep) r) ≡ commit_hears w (replacing_at sets m d.sweep ps) r)
+    (λ p ps. sym (deletions_tell.goes w sets p ps d.sweep m r)) d.prefixes h.some
 
 -- what a deletion heard is what the commit heard
 pub deletion_told : {E : Type 0} (x : Result ⊤ E) (j : Job) (sets : Sets) (places : List Place) (picks : List Pick) (step : Step) (d : Deletion) (m : ℕ) (r : Reply) (next : Next) → step ≡ steps.Replacing d m → StepHolds j sets places step
@@ -328,7 +266,8 @@ pub deletion_told : {E : Type 0} (x : Result ⊤ E) (j : Job) (sets : Sets) (pla
 deletion_told x j sets places picks step d m r next e s h =
     let k = s.deletes d m e in
     let S : Step → Type 0 = λ v. OnOk x (Heard j sets picks (operation_of sets v) r sets places picks next) in
+    let kept = some_so (λ ps. sets_after (replacing_at sets m d.sweep ps) (Answered r) ≡ sets) (λ p ps. refl) d.prefixes k.some in
     subst S (sym e) (on_ok_weaker x (λ i. record {
-      next = next_same _ _ (deletion_heard j sets places m d r k ∙ ap (λ v. commit_hears (read_script j v) (replacing_at sets m d.sweep d.prefixes) r) (sym (sets_kept sets m d.sweep d.prefixes r k.some))) i;
-      picked = picks_kept sets m d.sweep d.prefixes (attempts_of picks) r k.some;
+      next = next_same _ _ (deletion_heard j sets places m d r k ∙ ap (λ v. commit_hears (read_script j v) (replacing_at sets m d.sweep d.prefixes) r) (sym kept)) i;
+      picked = some_so (λ ps. attempts_of picks ≡ picked_after (attempts_of picks) (replacing_at sets m d.sweep ps) (Answered r)) (λ p ps. refl) d.prefixes k.some;
     }) h)

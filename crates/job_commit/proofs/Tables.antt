@@ -1,5 +1,5 @@
 -- lanes after an outcome, with what each call gave
-use Rattle.std.proofs.Common.{◌≡◌, ℕ, ◌<◌, refl, ap, sym, subst, ◌∙◌, Bool, arith, List, [], ◌∷◌, ◌++◌, map, length, drop, Option, Some, None, Result, OnOk}
+use Rattle.std.proofs.Common.{◌≡◌, ℕ, ◌<◌, ap, sym, subst, ◌∙◌, Bool, arith, List, ◌∷◌, ◌++◌, map, length, drop, Option, Some, None, Result, OnOk}
 use Rattle.std.specs.Prelude.{⊤}
 use Rattle.path_keys.proofs.Common.{on_ok_weaker}
 use Rattle.job_protocol.specs.Prelude.{Job, Turn, again, In, Sets, all_commits, completing}
@@ -12,7 +12,7 @@ use Rattle.commit_parts.proofs.Placing.{places_length}
 use Rattle.job_commit.specs.Stages.{reverting_from, answered, worn_out}
 use Rattle.job_commit.specs.Holds.{LanesWithin, UndoWithin, IsNext}
 use Rattle.job_commit.specs.declared.step.Next.{Next}
-use Rattle.job_commit.proofs.Steps.{next_same, answered_lanes, answered_within, again_within, worn_next, finished_within, first_within}
+use Rattle.job_commit.proofs.Steps.{next_same, answered_lanes, answered_within, again_within, worn_next, first_within}
 
 -- ---- after an answer
 
@@ -46,10 +46,6 @@ answered_next r j sets places l l1 l2 x o n m lanes count next f a b c d e g h p
     let t = answered_table j sets places l l1 l2 x o n m lanes count f a b c d e g h in
     on_ok_weaker r (next_same _ _ (answered_lanes j sets places l.turns l.finished t.turn l2 (sym t.first) p t.is)) k
 
-no_lane_answered : (j : Job) (sets : Sets) (xs : List Turn) (done : List ℕ) → None ≡ first_of xs → completing sets xs done ≡ answered j sets xs done
-no_lane_answered j sets [] done e = refl
-no_lane_answered j sets (x ∷ xs) done e = absurd (cc)
-
 -- ---- after none
 
 again_table : (l l1 : LaneTable) (x y : Turn) (lost : Bool) → y ≡ again x lost → l1 ≡ record { turns = drop 1 l.turns ++ listed (Some y); finished = l.finished } → l1 ≡ record { turns = drop 1 l.turns ++ listed (Some (again x lost)); finished = l.finished }
@@ -61,7 +57,10 @@ again_still sets l l1 x y lost f e h w = again_within sets l.turns l.finished x 
 -- ---- where a completion wore out
 
 pub done_within : (sets : Sets) (places : List Place) (l l1 : LaneTable) (count : ℕ) → places ≡ places_from 0 sets → count ≡ length places → l1 ≡ record { turns = drop 1 l.turns ++ listed None; finished = l.finished } → LanesWithin sets l → (n : ℕ) → In n l1.finished → n < count
-done_within sets places l l1 count p c h w n i = let b : n < length places = finished_within sets places l.turns l.finished l1 p h w n i in omega arith
+done_within sets places l l1 count p c h w n i =
+    let b : n < length places =
+    (let total : length places ≡ length (all_commits sets) = ap length p ∙ places_length 0 sets in let P : LaneTable → Type 0 = λ v. In n v.finished in
+    let b : n < length (all_commits sets) = w.done n (subst P h i) in omega arith) in omega arith
 
 pub worn_within : (sets : Sets) (places : List Place) (l : LaneTable) (x : Turn) (n count : ℕ) → Some x ≡ first_of l.turns → n ≡ x.number → places ≡ places_from 0 sets → count ≡ length places → LanesWithin sets l → n < count
 worn_within sets places l x n count f e p c w =

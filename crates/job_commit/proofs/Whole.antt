@@ -1,39 +1,28 @@
 -- the machine as a whole
-use Rattle.std.proofs.Common.{◌≡◌, ℕ, refl, ap, sym, ◌∙◌, List, [], ◌∷◌, map, Option, Some, None}
-use Rattle.job_protocol.specs.Prelude.{Job, CommitEnd, Pick, Turn, Sets, all_commits, Commit, completing, commit_over, Committing, Sweep}
+use Rattle.std.proofs.Common.{◌≡◌, refl, ap, sym, ◌∙◌, List, [], ◌∷◌, map, Option, Some, None}
+use Rattle.job_protocol.specs.Prelude.{Job, CommitEnd, Pick, Sets, all_commits, Commit, completing, commit_over, Committing}
 use Rattle.commit_parts.specs.Undos.{undo_request}
 use Rattle.commit_parts.specs.declared.places.Place.{Place}
-use Rattle.commit_parts.specs.declared.undo.Undo.{Undo}
 use Rattle.commit_laws.specs.Fitting.{missed_of}
 use Rattle.job_commit.specs.Stages.{replacing_at, reverting_from, operation_of, missed_in}
 use Rattle.job_commit.specs.Holds.{attempts_of, StepHolds, Holds}
 use Rattle.job_commit.specs.declared.step.Step.{Step}
 use Rattle.job_commit.specs.declared.step.Step.TheVariants as steps
 use Rattle.job_commit.specs.declared.step.Next.{Next}
+use Rattle.job_commit.proofs.Steps.{some_so}
 use Rattle.job_commit.proofs.Goings.{missed_same}
 
 -- ---- the machine's end
-
-lanes_go_on : (sets : Sets) (xs : List Turn) (done : List ℕ) → commit_over (completing sets xs done) ≡ None
-lanes_go_on sets [] done = refl
-lanes_go_on sets (x ∷ xs) done = refl
-
-undo_goes_on : (sets : Sets) (u : List Undo) (m : ℕ) → (u ≡ [] → ⊥) → commit_over (reverting_from m (map (undo_request (all_commits sets)) u)) ≡ None
-undo_goes_on sets [] m some = absurd (some refl)
-undo_goes_on sets (x ∷ xs) m some = refl
-
-deletion_goes_on : (sets : Sets) (m : ℕ) (sweep : Sweep) (ps : List (List ℕ)) → commit_over (replacing_at sets m sweep ps) ≡ None
-deletion_goes_on sets m sweep [] = refl
-deletion_goes_on sets m sweep (p ∷ ps) = refl
 
 abbrev pub end_in : Step → Option CommitEnd
 end_in (steps.Over end) = Some end
 end_in _ = None
 
 pub end_is : (j : Job) (sets : Sets) (places : List Place) (step : Step) → StepHolds j sets places step → end_in step ≡ commit_over (operation_of sets step)
-end_is j sets places (steps.Replacing d m) s = sym (deletion_goes_on sets m d.sweep d.prefixes)
-end_is j sets places (steps.Completing l) s = sym (lanes_go_on sets l.turns l.finished)
-end_is j sets places (steps.Reverting u m) s = sym (undo_goes_on sets u m (s.some u m refl))
+end_is j sets places (steps.Replacing d m) s = elim d.prefixes as (λ ps. None ≡ commit_over (replacing_at sets m d.sweep ps)) [ [] ↦ refl | p ∷ ps ↦ refl ]
+end_is j sets places (steps.Completing l) s = elim l.turns as (λ xs. None ≡ commit_over (completing sets xs l.finished)) [ [] ↦ refl | x ∷ xs ↦ refl ]
+end_is j sets places (steps.Reverting u m) s =
+    sym (some_so (λ u. commit_over (reverting_from m (map (undo_request (all_commits sets)) u)) ≡ None) (λ x xs. refl) u (s.some u m refl))
 end_is j sets places _ s = refl
 
 abbrev pub seen : Job → List Pick → Commit → Committing

@@ -1,7 +1,7 @@
 -- What a set-up has left falls.
-use Rattle.std.proofs.Common.{◌≡◌, ℕ, ◌+◌, ◌<◌, ◌≤◌, inl, inr, Bool, true, false, cond, List, [], ◌++◌, Option, Some, None, refl, sym, ap, subst, ◌∙◌, arith}
-use Rattle.std.specs.Prelude.{codes}
-use Rattle.job_protocol.specs.Prelude.{Scene, answer, apply, Committer, Magic, Request, HeadObject, DeleteObject, Reply, Head, Page, Job, job_script, checks_all, Walked, More, Whole, keys_on, page_after, Sweep, sweep_start, sweep_asks, sweep_hears, all_go, Setup, Heading, Clearing, Sweeping, SetupOver, setup_asks, setup_hears, lacks_bucket, if_bucket, headed, first_shown, checked_on, checked_by, checked, cleared, FitsPage, FitsSweep, walk_left, left_of, adds_key, one_if, LessWalk}
+use Rattle.std.proofs.Common.{◌≡◌, ℕ, ◌+◌, ◌<◌, ◌≤◌, ◌⊎◌, inl, inr, Bool, true, false, cond, List, [], ◌++◌, Option, Some, None, refl, sym, ap, subst, arith}
+use Rattle.std.specs.Prelude.{codes, IfSome}
+use Rattle.job_protocol.specs.Prelude.{Scene, answer, apply, Committer, Magic, Request, HeadObject, DeleteObject, Reply, Head, Page, Job, job_script, checks_all, Walked, More, Whole, keys_on, page_after, sweep_start, sweep_asks, sweep_hears, all_go, Setup, Heading, Clearing, Sweeping, SetupOver, setup_asks, setup_hears, lacks_bucket, if_bucket, headed, first_shown, checked_by, checked, cleared, walk_left, left_of, adds_key, one_if, LessWalk}
 use Rattle.proof_base.proofs.Options.{some_is}
 use Rattle.magic_paths.specs.Layout as layout
 use Rattle.job_model.specs.declared.ends.SetupEnd.TheVariants as ends
@@ -13,6 +13,11 @@ use Rattle.job_setup.specs.Fits.{FitsSetup}
 use Rattle.job_setup.specs.Left.{cleared_left, left_at}
 use Rattle.job_setup.specs.Laws.{SetupsEnd}
 
+-- what holds of a request that is asked
+pub of_some : (P : Request → Type 0) (o : Option Request) (r : Request) → o ≡ Some r → IfSome o P → P r
+of_some P None r e h = absurd (cc)
+of_some P (Some x) r e h = subst P (some_is x r e) h
+
 pub one_most : (b : Bool) → one_if b ≤ 1
 one_most true = omega arith
 one_most false = omega arith
@@ -21,38 +26,19 @@ cleared_grows : (c : Committer) (j : Job) (s : Scene) (r : Request) → cleared_
 cleared_grows Magic j s r = sweep_laws.others j.dest.bucket (layout.magic_prefix j.dest.key j.job) sweep_start s r
 cleared_grows _ j s r = omega arith
 
-cleared_is : (c : Committer) (j : Job) (s : Scene) → left_at j (cleared c) s ≡ cleared_left c j s
-cleared_is Magic j s = refl
-cleared_is _ j s = refl
-
-sweeping_left : (j : Job) (o : Option Sweep) (s : Scene) → left_at j (sweeping o) s ≡ left_of j.dest.bucket (layout.magic_prefix j.dest.key j.job) o s
-sweeping_left j (Some w) s = refl
-sweeping_left j None s = refl
-
 -- ---- it falls
-
-nothing_left : (j : Job) (s : Scene) (b : Bool) → left_at j (cond b (Checking []) Clearing) s ≤ 1 + walk_left j.dest.bucket (j.dest.key ++ codes "/") [] s + cleared_left j.committer j s
-nothing_left j s true = omega arith
-nothing_left j s false = omega arith
 
 headed_left : (j : Job) (s : Scene) (r : Reply) → left_at j (headed (job_script j) r) s ≤ 1 + walk_left j.dest.bucket (j.dest.key ++ codes "/") [] s + cleared_left j.committer j s
 headed_left j s (Head len header) = omega arith
-headed_left j s _ = nothing_left j s (checks_all j.committer j.mode)
-
-heading_falls : (j : Job) (s : Scene) (a : Reply) → left_at j (headed (job_script j) a) (apply s (HeadObject j.dest.bucket j.dest.key)) < left_at j Heading s
-heading_falls j s a =
-    let l = headed_left j (apply s (HeadObject j.dest.bucket j.dest.key)) a in
-    let w = walk_laws.others j.dest.bucket (j.dest.key ++ codes "/") [] s (HeadObject j.dest.bucket j.dest.key) in
-    let c = cleared_grows j.committer j s (HeadObject j.dest.bucket j.dest.key) in
-    omega (arith, l, w, c)
-
-on_left : (j : Job) (keys : List (List ℕ)) (s : Scene) (x : Walked (List ℕ)) → LessWalk j.dest.bucket (j.dest.key ++ codes "/") s (walk_left j.dest.bucket (j.dest.key ++ codes "/") keys s) x → left_at j (checked_on x) s < left_at j (Checking keys) s
-on_left j keys s (More ks) h = omega (arith, h)
-on_left j keys s (Whole ks) h = omega arith
+headed_left j s _ =
+    elim (checks_all j.committer j.mode) as
+    (λ b. left_at j (cond b (Checking []) Clearing) s ≤ 1 + walk_left j.dest.bucket (j.dest.key ++ codes "/") [] s + cleared_left j.committer j s)
+    [ true ↦ omega arith | false ↦ omega arith ]
 
 by_left : (j : Job) (keys : List (List ℕ)) (s : Scene) (o : Option (List ℕ)) (x : Walked (List ℕ)) → LessWalk j.dest.bucket (j.dest.key ++ codes "/") s (walk_left j.dest.bucket (j.dest.key ++ codes "/") keys s) x → left_at j (checked_by o x) s < left_at j (Checking keys) s
 by_left j keys s (Some p) x h = omega arith
-by_left j keys s None x h = on_left j keys s x h
+by_left j keys s None (More ks) h = omega (arith, h)
+by_left j keys s None (Whole ks) h = omega arith
 
 pub never_less : (n : ℕ) → n < n → ⊥
 never_less n h = omega arith
@@ -61,75 +47,57 @@ checked_left : (j : Job) (keys : List (List ℕ)) (s : Scene) (r : Reply) → Le
 checked_left j keys s (Page entries more) h = by_left j keys s (first_shown (job_script j) (keys_on entries)) (walked keys (Page entries more)) h
 checked_left j keys s _ h = absurd (never_less (walk_left j.dest.bucket (j.dest.key ++ codes "/") keys s) h)
 
-checking_falls : (j : Job) (keys : List (List ℕ)) (s : Scene) → FitsPage (answer s (page_after j.dest.bucket (j.dest.key ++ codes "/") keys))
-    → left_at j (checked (job_script j) keys (answer s (page_after j.dest.bucket (j.dest.key ++ codes "/") keys))) (apply s (page_after j.dest.bucket (j.dest.key ++ codes "/") keys)) < left_at j (Checking keys) s
-checking_falls j keys s h =
-    subst (λ z. left_at j (checked (job_script j) keys (answer s (page_after j.dest.bucket (j.dest.key ++ codes "/") keys))) z < left_at j (Checking keys) s)
-    (sym (walk_laws.still j.dest.bucket (j.dest.key ++ codes "/") keys s))
-    (checked_left j keys s (answer s (page_after j.dest.bucket (j.dest.key ++ codes "/") keys)) (walk_laws.falls j.dest.bucket (j.dest.key ++ codes "/") keys s h))
-
-clearing_falls : (j : Job) (s : Scene) → left_at j (cleared j.committer) (apply s (DeleteObject j.dest.bucket (layout.success_key j.dest.key))) < left_at j Clearing s
-clearing_falls j s =
-    let c = cleared_grows j.committer j s (DeleteObject j.dest.bucket (layout.success_key j.dest.key)) in
-    let e = cleared_is j.committer j (apply s (DeleteObject j.dest.bucket (layout.success_key j.dest.key))) in
-    omega (arith, c, e)
-
-sweeping_falls : (j : Job) (w : Sweep) (s : Scene) → FitsSweep w (answer s (sweep_asks j.dest.bucket (layout.magic_prefix j.dest.key j.job) w))
-    → left_at j (sweeping (sweep_hears all_go w (answer s (sweep_asks j.dest.bucket (layout.magic_prefix j.dest.key j.job) w)))) (apply s (sweep_asks j.dest.bucket (layout.magic_prefix j.dest.key j.job) w)) < left_at j (Sweeping w) s
-sweeping_falls j w s h =
-    let f = sweep_laws.falls j.dest.bucket (layout.magic_prefix j.dest.key j.job) all_go w s h in
-    let e = sweeping_left j (sweep_hears all_go w (answer s (sweep_asks j.dest.bucket (layout.magic_prefix j.dest.key j.job) w))) (apply s (sweep_asks j.dest.bucket (layout.magic_prefix j.dest.key j.job) w)) in
-    omega (arith, f, e)
-
-none_some : {r : Request} → None ≡ Some r → ⊥
-none_some e = cc
-
-some_left : (j : Job) (c : Setup) (s : Scene) (r : Request) → setup_asks (job_script j) c ≡ Some r → 0 < left_at j c s
-some_left j (Sweeping w) s r e = sweep_laws.some j.dest.bucket (layout.magic_prefix j.dest.key j.job) w s
-some_left j (SetupOver end) s r e = absurd (none_some e)
-some_left j _ s r e = omega arith
+abbrev Falls : Job → Setup → Scene → Request → Type 0
+Falls j c s r = FitsSetup c (answer s r) → left_at j (setup_hears (job_script j) c (answer s r)) (apply s r) < left_at j c s
 
 -- as it goes on, and where it ends since the bucket is not there
-falls_if : (j : Job) (c : Setup) (s : Scene) (r : Request) (next : Setup) → setup_asks (job_script j) c ≡ Some r → left_at j next (apply s r) < left_at j c s → left_at j (if_bucket (answer s r) next) (apply s r) < left_at j c s
-falls_if j c s r next e h = if_bucket_so (λ m. left_at j m (apply s r) < left_at j c s) (answer s r) next (some_left j c s r e) h
+falls_if : (j : Job) (c : Setup) (s : Scene) (r : Request) (next : Setup) → 0 < left_at j c s → (lacks_bucket (answer s r) ≡ true) ⊎ (left_at j next (apply s r) < left_at j c s)
+    → left_at j (if_bucket (answer s r) next) (apply s r) < left_at j c s
+falls_if j c s r next some (inl h) = subst (λ b. left_at j (cond b (SetupOver ends.NoSuchBucket) next) (apply s r) < left_at j c s) (sym h) some
+falls_if j c s r next some (inr h) = if_bucket_so (λ m. left_at j m (apply s r) < left_at j c s) (answer s r) next some h
 
-falls_lost : (j : Job) (c : Setup) (s : Scene) (r : Request) (next : Setup) → setup_asks (job_script j) c ≡ Some r → lacks_bucket (answer s r) ≡ true → left_at j (if_bucket (answer s r) next) (apply s r) < left_at j c s
-falls_lost j c s r next e h = subst (λ b. left_at j (cond b (SetupOver ends.NoSuchBucket) next) (apply s r) < left_at j c s) (sym h) (some_left j c s r e)
+falls_at : (j : Job) (c : Setup) (s : Scene) → IfSome (setup_asks (job_script j) c) (Falls j c s)
+falls_at j Heading s = λ h.
+    let r = HeadObject j.dest.bucket j.dest.key in
+    let l = headed_left j (apply s r) (answer s r) in
+    let w = walk_laws.others j.dest.bucket (j.dest.key ++ codes "/") [] s r in
+    let c = cleared_grows j.committer j s r in
+    falls_if j Heading s r (headed (job_script j) (answer s r)) (omega arith) (inr (omega (arith, l, w, c)))
+falls_at j (Checking keys) s = λ h.
+    let r = page_after j.dest.bucket (j.dest.key ++ codes "/") keys in
+    let next = checked (job_script j) keys (answer s r) in
+    falls_if j (Checking keys) s r next (omega arith) (elim h [
+      | inl f ↦ inr (subst (λ z. left_at j next z < left_at j (Checking keys) s) (sym (walk_laws.still j.dest.bucket (j.dest.key ++ codes "/") keys s)) (checked_left j keys s (answer s r) (walk_laws.falls j.dest.bucket (j.dest.key ++ codes "/") keys s f)))
+      | inr l ↦ inl l
+    ])
+falls_at j Clearing s = λ h.
+    let r = DeleteObject j.dest.bucket (layout.success_key j.dest.key) in
+    let c = cleared_grows j.committer j s r in
+    let e = elim j.committer as (λ c. left_at j (cleared c) (apply s r) ≡ cleared_left c j (apply s r)) [ Magic ↦ refl | _ ↦ refl ] in
+    falls_if j Clearing s r (cleared j.committer) (omega arith) (inr (omega (arith, c, e)))
+falls_at j (Sweeping w) s = λ h.
+    let r = sweep_asks j.dest.bucket (layout.magic_prefix j.dest.key j.job) w in
+    let o = sweep_hears all_go w (answer s r) in
+    let e = elim o as (λ o. left_at j (sweeping o) (apply s r) ≡ left_of j.dest.bucket (layout.magic_prefix j.dest.key j.job) o (apply s r)) [ Some w ↦ refl | None ↦ refl ] in
+    falls_if j (Sweeping w) s r (sweeping o) (sweep_laws.some j.dest.bucket (layout.magic_prefix j.dest.key j.job) w s)
+    (elim h [ inl f ↦ let g = sweep_laws.falls j.dest.bucket (layout.magic_prefix j.dest.key j.job) all_go w s f in inr (omega (arith, g, e)) | inr l ↦ inl l ])
+falls_at j (SetupOver end) s = tt
 
-falls_at : (j : Job) (c : Setup) (s : Scene) (r : Request) → setup_asks (job_script j) c ≡ Some r → FitsSetup c (answer s r) → left_at j (setup_hears (job_script j) c (answer s r)) (apply s r) < left_at j c s
-falls_at j Heading s r e h =
-    falls_if j Heading s r (headed (job_script j) (answer s r)) e
-    (subst (λ r. left_at j (headed (job_script j) (answer s r)) (apply s r) < left_at j Heading s) (some_is _ _ e) (heading_falls j s (answer s (HeadObject j.dest.bucket j.dest.key))))
-falls_at j (Checking keys) s r e (inl h) =
-    falls_if j (Checking keys) s r (checked (job_script j) keys (answer s r)) e
-    (subst (λ r. FitsPage (answer s r) → left_at j (checked (job_script j) keys (answer s r)) (apply s r) < left_at j (Checking keys) s) (some_is _ _ e) (checking_falls j keys s) h)
-falls_at j (Checking keys) s r e (inr h) = falls_lost j (Checking keys) s r (checked (job_script j) keys (answer s r)) e h
-falls_at j Clearing s r e h =
-    falls_if j Clearing s r (cleared j.committer) e (subst (λ r. left_at j (cleared j.committer) (apply s r) < left_at j Clearing s) (some_is _ _ e) (clearing_falls j s))
-falls_at j (Sweeping w) s r e (inl h) =
-    falls_if j (Sweeping w) s r (sweeping (sweep_hears all_go w (answer s r))) e
-    (subst (λ r. FitsSweep w (answer s r) → left_at j (sweeping (sweep_hears all_go w (answer s r))) (apply s r) < left_at j (Sweeping w) s) (some_is _ _ e) (sweeping_falls j w s) h)
-falls_at j (Sweeping w) s r e (inr h) = falls_lost j (Sweeping w) s r (sweeping (sweep_hears all_go w (answer s r))) e h
-falls_at j (SetupOver end) s r e h = absurd (none_some e)
+some_left : (j : Job) (c : Setup) (s : Scene) → IfSome (setup_asks (job_script j) c) (λ r. 0 < left_at j c s)
+some_left j (Sweeping w) s = sweep_laws.some j.dest.bucket (layout.magic_prefix j.dest.key j.job) w s
+some_left j (SetupOver end) s = tt
+some_left j _ s = omega arith
 
-heading_keeps : (j : Job) (s : Scene) → left_at j Heading (apply s (HeadObject j.dest.bucket j.dest.key)) ≤ left_at j Heading s
-heading_keeps j s =
-    let w = walk_laws.others j.dest.bucket (j.dest.key ++ codes "/") [] s (HeadObject j.dest.bucket j.dest.key) in
-    let c = cleared_grows j.committer j s (HeadObject j.dest.bucket j.dest.key) in
+no_rise_at : (j : Job) (c : Setup) (s : Scene) → IfSome (setup_asks (job_script j) c) (λ r. left_at j c (apply s r) ≤ left_at j c s)
+no_rise_at j Heading s =
+    let r = HeadObject j.dest.bucket j.dest.key in
+    let w = walk_laws.others j.dest.bucket (j.dest.key ++ codes "/") [] s r in
+    let c = cleared_grows j.committer j s r in
     omega (arith, w, c)
-
-clearing_keeps : (j : Job) (s : Scene) → left_at j Clearing (apply s (DeleteObject j.dest.bucket (layout.success_key j.dest.key))) ≤ left_at j Clearing s
-clearing_keeps j s = let c = cleared_grows j.committer j s (DeleteObject j.dest.bucket (layout.success_key j.dest.key)) in omega (arith, c)
-
-same_left : (j : Job) (c : Setup) (s z : Scene) → z ≡ s → left_at j c z ≤ left_at j c s
-same_left j c s z e = let i = ap (left_at j c) e in omega (arith, i)
-
-no_rise_at : (j : Job) (c : Setup) (s : Scene) (r : Request) → setup_asks (job_script j) c ≡ Some r → left_at j c (apply s r) ≤ left_at j c s
-no_rise_at j Heading s r e = subst (λ r. left_at j Heading (apply s r) ≤ left_at j Heading s) (some_is _ _ e) (heading_keeps j s)
-no_rise_at j (Checking keys) s r e = same_left j (Checking keys) s (apply s r) (ap (apply s) (sym (some_is _ _ e)) ∙ walk_laws.still j.dest.bucket (j.dest.key ++ codes "/") keys s)
-no_rise_at j Clearing s r e = subst (λ r. left_at j Clearing (apply s r) ≤ left_at j Clearing s) (some_is _ _ e) (clearing_keeps j s)
-no_rise_at j (Sweeping w) s r e = subst (λ r. left_at j (Sweeping w) (apply s r) ≤ left_at j (Sweeping w) s) (some_is _ _ e) (sweep_laws.no_rise j.dest.bucket (layout.magic_prefix j.dest.key j.job) w s)
-no_rise_at j (SetupOver end) s r e = omega arith
+no_rise_at j (Checking keys) s = let i = ap (left_at j (Checking keys)) (walk_laws.still j.dest.bucket (j.dest.key ++ codes "/") keys s) in omega (arith, i)
+no_rise_at j Clearing s = let c = cleared_grows j.committer j s (DeleteObject j.dest.bucket (layout.success_key j.dest.key)) in omega (arith, c)
+no_rise_at j (Sweeping w) s = sweep_laws.no_rise j.dest.bucket (layout.magic_prefix j.dest.key j.job) w s
+no_rise_at j (SetupOver end) s = tt
 
 others_at : (j : Job) (c : Setup) (s : Scene) (r : Request) → left_at j c (apply s r) ≤ left_at j c s + 2
 others_at j Heading s r =
@@ -154,8 +122,8 @@ others_at j (SetupOver end) s r = omega arith
 
 pub set_ups_end : SetupsEnd
 set_ups_end = record {
-  falls = λ m s r b e h. falls_at m.plan m.operation s r e h;
-  falls_worn = λ m s r e. some_left m.plan m.operation s r e;
-  no_rise = λ m s r e. no_rise_at m.plan m.operation s r e;
+  falls = λ m s r b e h. of_some (Falls m.plan m.operation s) _ r e (falls_at m.plan m.operation s) h;
+  falls_worn = λ m s r e. of_some (λ r. 0 < left_at m.plan m.operation s) _ r e (some_left m.plan m.operation s);
+  no_rise = λ m s r e. of_some (λ r. left_at m.plan m.operation (apply s r) ≤ left_at m.plan m.operation s) _ r e (no_rise_at m.plan m.operation s);
   others = λ m s r. others_at m.plan m.operation s r;
 }

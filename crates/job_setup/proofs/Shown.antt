@@ -36,25 +36,19 @@ folder_last p b h = folder_got p (length p - 1) b (some_length p b (sym h)) (sym
 
 -- ---- the bounds of a destination
 
-pub dest_some : (j : Job) → IsJob j → 1 ≤ length j.dest.key
-dest_some j h =
+dest_tests : (j : Job) → IsJob j → (nat_le 1 (length j.dest.key) ≡ true) × (nat_le (length j.dest.key) 400 ≡ true)
+dest_tests j h =
     let a = and_parts _ (not (list_any is_reserved (parts_of 47 j.dest.key))) h.dest.below in
     let b = and_parts _ (not (ends_with nat_eq j.dest.key (13 ∷ []))) a.0 in
-    let c = and_parts (nat_le 1 (length j.dest.key)) (nat_le (length j.dest.key) 400) b.0 in
-    at_most_is 1 (length j.dest.key) c.0
+    and_parts (nat_le 1 (length j.dest.key)) (nat_le (length j.dest.key) 400) b.0
+
+pub dest_some : (j : Job) → IsJob j → 1 ≤ length j.dest.key
+dest_some j h = at_most_is 1 (length j.dest.key) (dest_tests j h).0
 
 pub dest_most : (j : Job) → IsJob j → length j.dest.key ≤ 400
-dest_most j h =
-    let a = and_parts _ (not (list_any is_reserved (parts_of 47 j.dest.key))) h.dest.below in
-    let b = and_parts _ (not (ends_with nat_eq j.dest.key (13 ∷ []))) a.0 in
-    let c = and_parts (nat_le 1 (length j.dest.key)) (nat_le (length j.dest.key) 400) b.0 in
-    at_most_is (length j.dest.key) 400 c.1
+dest_most j h = at_most_is (length j.dest.key) 400 (dest_tests j h).1
 
 -- ---- what stands behind a text
-
-drop_front : (front back : List ℕ) → drop (length front) (front ++ back) ≡ back
-drop_front [] back = refl
-drop_front (x ∷ xs) back = drop_front xs back
 
 begins_so : (front text rest : List ℕ) → text ≡ front ++ rest → starts_with nat_eq text front ≡ true
 begins_so front text rest e = (starts_is Decides-eqb text front (starts_with nat_eq text front) refl).1 rest e

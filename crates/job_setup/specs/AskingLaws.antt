@@ -1,41 +1,25 @@
 -- How a set-up stands.
-use Rattle.std.specs.Prelude.{◌≡◌, ℕ, Bool, true, false, cond, List, [], Option, Some, None}
+use Rattle.std.specs.Prelude.{◌≡◌, ℕ, true, false, cond, List, [], Option, Some, None}
 use Rattle.std.proofs.Common.{refl}
-use Rattle.job_protocol.specs.Prelude.{Committer, Magic, Directory, Partitioned, Request, Reply, Head, Page, Job, Script, job_script, setup_wants, setup_told, checks_all, Walked, More, Whole, keys_on, Sweep, sweep_hears, all_go, Setup, Heading, Clearing, Sweeping, SetupOver, setup_asks, setup_hears, if_bucket, headed, first_shown, checked_on, checked_by, checked, cleared}
+use Rattle.job_protocol.specs.Prelude.{Magic, Request, Reply, Head, Page, Job, Script, job_script, setup_wants, setup_told, checks_all, Walked, More, Whole, keys_on, sweep_hears, all_go, Setup, Heading, Clearing, Sweeping, SetupOver, setup_asks, setup_hears, if_bucket, headed, first_shown, checked_by, checked, cleared}
 use Rattle.machine.specs.Prelude.{AskLaws, Fine}
 use Rattle.list_walk.specs.Walks.{walked}
 use Rattle.job_protocol.specs.Setup.{Checking, sweeping}
 use Rattle.job_protocol.proofs.Faults.{if_bucket_so}
 use Rattle.job_setup.specs.Fits.{FitsDriving, standing, standing_of}
 
-fine_nothing : (b : Bool) → standing_of (cond b (Checking []) Clearing) ≡ Fine
-fine_nothing true = refl
-fine_nothing false = refl
-
 fine_headed : (w : Script) (r : Reply) → standing_of (headed w r) ≡ Fine
 fine_headed w (Head len header) = refl
-fine_headed w _ = fine_nothing (checks_all w.committer w.mode)
-
-fine_on : (x : Walked (List ℕ)) → standing_of (checked_on x) ≡ Fine
-fine_on (More keys) = refl
-fine_on (Whole keys) = refl
+fine_headed w _ = elim (checks_all w.committer w.mode) as (λ b. standing_of (cond b (Checking []) Clearing) ≡ Fine) [ true ↦ refl | false ↦ refl ]
 
 fine_by : (o : Option (List ℕ)) (x : Walked (List ℕ)) → standing_of (checked_by o x) ≡ Fine
 fine_by (Some p) x = refl
-fine_by None x = fine_on x
+fine_by None (More keys) = refl
+fine_by None (Whole keys) = refl
 
 fine_checked : (w : Script) (keys : List (List ℕ)) (r : Reply) → standing_of (checked w keys r) ≡ Fine
 fine_checked w keys (Page entries more) = fine_by (first_shown w (keys_on entries)) (walked keys (Page entries more))
 fine_checked w keys _ = refl
-
-fine_cleared : (c : Committer) → standing_of (cleared c) ≡ Fine
-fine_cleared Magic = refl
-fine_cleared Directory = refl
-fine_cleared Partitioned = refl
-
-fine_sweeping : (o : Option Sweep) → standing_of (sweeping o) ≡ Fine
-fine_sweeping (Some s) = refl
-fine_sweeping None = refl
 
 -- also where the bucket is not there
 fine_if : (r : Reply) (next : Setup) → standing_of next ≡ Fine → standing_of (if_bucket r next) ≡ Fine
@@ -44,8 +28,8 @@ fine_if r next h = if_bucket_so (λ c. standing_of c ≡ Fine) r next refl h
 goes_on : (j : Job) (c : Setup) (r : Request) (a : Reply) → setup_asks (job_script j) c ≡ Some r → standing_of (setup_hears (job_script j) c a) ≡ standing_of c
 goes_on j Heading r a e = fine_if a (headed (job_script j) a) (fine_headed (job_script j) a)
 goes_on j (Checking keys) r a e = fine_if a (checked (job_script j) keys a) (fine_checked (job_script j) keys a)
-goes_on j Clearing r a e = fine_if a (cleared j.committer) (fine_cleared j.committer)
-goes_on j (Sweeping s) r a e = fine_if a (sweeping (sweep_hears all_go s a)) (fine_sweeping (sweep_hears all_go s a))
+goes_on j Clearing r a e = fine_if a (cleared j.committer) (elim j.committer as (λ c. standing_of (cleared c) ≡ Fine) [ Magic ↦ refl | _ ↦ refl ])
+goes_on j (Sweeping s) r a e = let o = sweep_hears all_go s a in fine_if a (sweeping o) (elim o as (λ o. standing_of (sweeping o) ≡ Fine) [ Some w ↦ refl | None ↦ refl ])
 goes_on j (SetupOver end) r a e = refl
 
 pub setup_laws : AskLaws setup_wants setup_told FitsDriving standing

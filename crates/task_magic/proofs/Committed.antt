@@ -1,7 +1,9 @@
 -- Where replies lead a commit, by the places of the files that it commits.
 use Rattle.std.proofs.Common.{◌≡◌, ℕ, zero, suc, ◌+◌, ◌<◌, ◌≤◌, nat_lt, nat_le, Bool, true, false, cond, ◌||◌, List, [], ◌∷◌, ◌++◌, map, length, take, drop, get_or, slice_get, Option, Some, None, option_map, refl, sym, ap, subst, ◌∙◌, arith, add-one}
-use Rattle.job_protocol.specs.Prelude.{bytes_decides, Request, GetObject, Reply, Refused, NoSuchKey, Got, File, Who, Known, Task, Script, TaskEnd, Attempting, task_script, who_of, with_known, task_commit_told, is_set_key, files, record_key, keys_on, walked_by, Creating, Sending, TaskCommit, Looking, Reading, Publishing, Checking, Storing, Renaming, TaskCommitOver, task_commit_asks, task_commit_hears, in_order, reading, looked, looked_at, least_missing, read_record}
-use Rattle.path_keys.proofs.Common.{and_parts, drop_all, below_is, at_most_is, at_most_not}
+use Rattle.std.proofs.lemmas.Option.{slice_get_past}
+use Rattle.proof_base.proofs.Common.{slice_get-get_or}
+use Rattle.job_protocol.specs.Prelude.{bytes_decides, Request, GetObject, Reply, Refused, NoSuchKey, Got, File, Who, Known, Task, Script, TaskEnd, Attempting, task_script, who_of, with_known, task_commit_told, is_set_key, files, record_key, keys_on, walked_by, Creating, Sending, TaskCommit, Publishing, TaskCommitOver, task_commit_asks, task_commit_hears, in_order, reading, looked, looked_at, least_missing, read_record}
+use Rattle.path_keys.proofs.Common.{and_parts, drop_all, below_is, at_most_is, at_most_not, length-map, take_all, slice_get_within}
 use Rattle.s3_types.specs.declared.reply.Reply.TheVariants.{Object}
 use Rattle.magic_paths.specs.Layout as layout
 use Rattle.job_model.specs.declared.ends.TaskEnd.TheVariants as ends
@@ -11,33 +13,33 @@ use Rattle.task_magic.specs.declared.committing.Committing.{Committing}
 use Rattle.task_requests.specs.Publishing.{picked, IsPending, AreReady, are_places, drawn_of, FitsRecord}
 use Rattle.task_magic.specs.Committing.{commit_by, commit_of, HoldsCommit, AreRecords, record_of, is_no_key, publishes, known_if, with_sent, seen_in, least_unseen}
 use Rattle.task_machines.specs.Commits.{FitsCommit}
-use Rattle.task_magic.proofs.Listed.{missing_is}
+use Rattle.task_magic.proofs.Listed.{missing_by, or_true}
+use Rattle.task_requests.proofs.Told.{own_files}
 
 -- ---- the file at a place
 
 pub at_file : (fs : List File) (places : List ℕ) (at p : ℕ) → Some p ≡ slice_get places at → drop at (picked fs places) ≡ get_or fs p ([], []) ∷ drop (at + 1) (picked fs places)
-at_file fs [] zero p h = absurd (cc)
-at_file fs [] (suc at) p h = absurd (cc)
+at_file fs [] at p h = absurd (omega (arith, slice_get_within [] at p (sym h)))
 at_file fs (q ∷ places) zero p h = let same : p ≡ q = cc in ap (λ i. get_or fs i ([], []) ∷ picked fs places) (sym same)
 at_file fs (q ∷ places) (suc at) p h = at_file fs places at p h ∙ rw (add-one, add-one) refl
 
-pub past_files : (fs : List File) (places : List ℕ) (at : ℕ) → None ≡ slice_get places at → drop at (picked fs places) ≡ []
-past_files fs [] zero h = refl
-past_files fs [] (suc at) h = refl
-past_files fs (q ∷ places) zero h = absurd (cc)
-past_files fs (q ∷ places) (suc at) h = past_files fs places at h
+none_past : {X : Type 0} (xs : List X) (i : ℕ) → None ≡ slice_get xs i → length xs ≤ i
+none_past [] i h = omega arith
+none_past (x ∷ xs) zero h = absurd (cc)
+none_past (x ∷ xs) (suc i) h = let l = none_past xs i h in omega (arith, l)
+
+past_picked : (fs : List File) (places : List ℕ) (at : ℕ) → None ≡ slice_get places at → length (picked fs places) ≤ at
+past_picked fs places at h = omega (arith, length-map places (λ i. get_or fs i ([], [])), none_past places at h)
 
 pub within_at : (count : ℕ) (places : List ℕ) (at p : ℕ) → are_places count places ≡ true → Some p ≡ slice_get places at → p < count
-within_at count [] zero p k h = absurd (cc)
-within_at count [] (suc at) p k h = absurd (cc)
+within_at count [] at p k h = absurd (omega (arith, slice_get_within [] at p (sym h)))
 within_at count (q ∷ places) zero p k h = let same : p ≡ q = cc in below_is p count (ap (λ i. nat_lt i count) same ∙ (and_parts (nat_lt q count) (are_places count places) k).0)
 within_at count (q ∷ places) (suc at) p k h = within_at count places at p (and_parts (nat_lt q count) (are_places count places) k).1 h
 
 -- ---- what it asks
 
 asks_key : (t : Task) (cs fs : List File) (at : ℕ) (key : List ℕ) → Some key ≡ slice_get (map (record_of t) fs) at → Some (GetObject t.job.dest.bucket key) ≡ task_commit_asks (task_script t) (who_of t) t.known (reading cs (drop at fs))
-asks_key t cs [] zero key h = absurd (cc)
-asks_key t cs [] (suc at) key h = absurd (cc)
+asks_key t cs [] at key h = absurd (omega (arith, slice_get_within [] at key (sym h)))
 asks_key t cs (f ∷ fs) zero key h = let same : key ≡ record_of t f = cc in ap (λ (k : List ℕ). Some (GetObject t.job.dest.bucket k)) same
 asks_key t cs (f ∷ fs) (suc at) key h = asks_key t cs fs at key h
 
@@ -46,10 +48,9 @@ pub asks_record : (t : Task) (places : List ℕ) (keys : List (List ℕ)) (at : 
 asks_record t places keys at key e h = asks_key t (picked t.files places) (picked t.files places) at key (h ∙ ap (λ (l : List (List ℕ)). slice_get l at) e)
 
 place_none : (t : Task) (fs : List File) (places : List ℕ) (at : ℕ) → None ≡ slice_get (map (record_of t) (picked fs places)) at → None ≡ slice_get places at
-place_none t fs [] zero h = refl
-place_none t fs [] (suc at) h = refl
-place_none t fs (q ∷ places) zero h = absurd (cc)
-place_none t fs (q ∷ places) (suc at) h = place_none t fs places at h
+place_none t fs places at h =
+    let past = none_past (map (record_of t) (picked fs places)) at h in
+    sym (slice_get_past places at (omega (arith, length-map (picked fs places) (record_of t), length-map places (λ i. get_or fs i ([], [])), past)))
 
 -- behind the last record is no place
 pub no_place : (t : Task) (places : List ℕ) (keys : List (List ℕ)) (at : ℕ) → AreRecords t keys places → None ≡ slice_get keys at → None ≡ slice_get places at
@@ -57,34 +58,31 @@ no_place t places keys at e h = place_none t t.files places at (h ∙ ap (λ (l 
 
 pub asks_set : (t : Task) (places : List ℕ) (at : ℕ) → None ≡ slice_get places at
     → (let cs = picked t.files places in task_commit_asks (task_script t) (who_of t) t.known (Publishing cs) ≡ task_commit_asks (task_script t) (who_of t) t.known (reading cs (drop at cs)))
-asks_set t places at h = sym (ap (λ (l : List File). task_commit_asks (task_script t) (who_of t) t.known (reading (picked t.files places) l)) (past_files t.files places at h))
+asks_set t places at h =
+    sym (ap (λ (l : List File). task_commit_asks (task_script t) (who_of t) t.known (reading (picked t.files places) l))
+    (drop_all at (picked t.files places) (past_picked t.files places at h)))
 
 -- once all are read they are all ready
-all_taken : (fs : List File) (places : List ℕ) (at : ℕ) → None ≡ slice_get places at → take at (picked fs places) ≡ picked fs places
-all_taken fs [] zero h = refl
-all_taken fs [] (suc at) h = refl
-all_taken fs (q ∷ places) zero h = absurd (cc)
-all_taken fs (q ∷ places) (suc at) h = ap (λ (l : List File). get_or fs q ([], []) ∷ l) (all_taken fs places at h)
-
-pub all_ready : (t : Task) (places : List ℕ) (keys : List (List ℕ)) (at : ℕ) → HoldsCommit t places keys at → None ≡ slice_get places at → AreReady t (picked t.files places)
-all_ready t places keys at k h = subst (AreReady t) (all_taken t.files places at h) k.ready
+pub all_taken : (fs : List File) (places : List ℕ) (at : ℕ) → None ≡ slice_get places at → take at (picked fs places) ≡ picked fs places
+all_taken fs places at h = take_all at (picked fs places) (past_picked fs places at h)
 
 -- ---- a page
 
 module _ (t : Task) (old new keys : List (List ℕ)) (r : Reply) (more : Bool) (found : Option (List ℕ)) (seen : List Bool) (h : walked old r ≡ walked_by more new) (b : more ≡ false) (k : keys ≡ new)
     (s : seen ≡ seen_in t keys) (f : found ≡ least_unseen seen (map (record_of t) t.files)) where
-  found_is : found ≡ least_missing new (map (record_of t) (files (task_script t) (who_of t)))
-  found_is = f ∙ (missing_is t keys seen s ∙ ap (λ l. least_missing l (map (record_of t) (files (task_script t) (who_of t)))) k)
-
   walked_is : looked (task_script t) (who_of t) (walked old r) ≡ looked_at found (in_order (task_script t) (who_of t) new)
-  walked_is = ap (looked (task_script t) (who_of t)) (h ∙ ap (λ c. walked_by c new) b) ∙ ap (λ o. looked_at o (in_order (task_script t) (who_of t) new)) (sym found_is)
-
-  looked_by : (cs : List File) (others : List (List ℕ)) (o : Option (List ℕ)) → commit_by false others cs 0 (option_map (λ name. ends.Gone name) o) ≡ looked_at o cs
-  looked_by cs others (Some key) = refl
-  looked_by cs others None = refl
+  walked_is =
+      ap (looked (task_script t) (who_of t)) (h ∙ ap (λ c. walked_by c new) b)
+      ∙ ap (λ o. looked_at o (in_order (task_script t) (who_of t) new))
+      (sym (f ∙ ((ap (λ l. least_unseen l (map (record_of t) t.files)) s
+      ∙ (sym (missing_by keys (record_of t) t.files) ∙ ap (λ (l : List File). least_missing keys (map (record_of t) l)) (sym (own_files t))))
+      ∙ ap (λ l. least_missing l (map (record_of t) (files (task_script t) (who_of t)))) k)))
 
   pub page_looked : (cs : List File) (others : List (List ℕ)) (end : Option TaskEnd) → cs ≡ in_order (task_script t) (who_of t) keys → end ≡ option_map (λ name. ends.Gone name) found → commit_by false others cs 0 end ≡ looked (task_script t) (who_of t) (walked old r)
-  page_looked cs others end c n = ap (commit_by false others cs 0) n ∙ (looked_by cs others found ∙ (ap (looked_at found) (c ∙ ap (in_order (task_script t) (who_of t)) k) ∙ sym walked_is))
+  page_looked cs others end c n =
+      ap (commit_by false others cs 0) n
+      ∙ ((elim found as (λ o. commit_by false others cs 0 (option_map (λ name. ends.Gone name) o) ≡ looked_at o cs) [ Some key ↦ refl | None ↦ refl ])
+      ∙ (ap (looked_at found) (c ∙ ap (in_order (task_script t) (who_of t)) k) ∙ sym walked_is))
 
 -- ---- a record
 
@@ -120,8 +118,7 @@ ready_here w a k f (Refused NoSuchKey) h g = absurd (cc)
 ready_here w a k f _ h g = absurd h
 
 take_file : (fs : List File) (places : List ℕ) (at p : ℕ) → Some p ≡ slice_get places at → take (at + 1) (picked fs places) ≡ take at (picked fs places) ++ get_or fs p ([], []) ∷ []
-take_file fs [] zero p h = absurd (cc)
-take_file fs [] (suc at) p h = absurd (cc)
+take_file fs [] at p h = absurd (omega (arith, slice_get_within [] at p (sym h)))
 take_file fs (q ∷ places) zero p h = let same : p ≡ q = cc in ap (λ i. get_or fs i ([], []) ∷ []) (sym same)
 take_file fs (q ∷ places) (suc at) p h = rw add-one (ap (λ (l : List File). get_or fs q ([], []) ∷ l) (sym (rw add-one refl) ∙ take_file fs places at p h))
 
@@ -172,10 +169,6 @@ module _ (t : Task) (listing : Bool) (keys : List (List ℕ)) (places : List ℕ
 
 -- ---- what it learns
 
-or_true : (b : Bool) → (b || true) ≡ true
-or_true true = refl
-or_true false = refl
-
 is_set : (w : Script) (a : Who) → is_set_key w a.task w.dest.bucket (layout.set_key w.dest.key w.job a.task) ≡ true
 is_set w a = rw ((bytes_decides w.dest.bucket w.dest.bucket).1 refl, (bytes_decides (layout.set_key w.dest.key w.job a.task) (layout.set_key w.dest.key w.job a.task)).1 refl) refl
 
@@ -205,35 +198,23 @@ told_as t new h after r p e q g b =
 
 asks_known : (w : Script) (a : Who) (k : Known) (o : TaskCommit) (b : Bool) → task_commit_asks w a (known_if b k) o ≡ task_commit_asks w a k o
 asks_known w a k o false = refl
-asks_known w a k (Looking keys) true = refl
-asks_known w a k (Reading cs f fs) true = refl
-asks_known w a k (Publishing cs) true = refl
-asks_known w a k (Checking d ds) true = refl
 asks_known w a k (commits.Uploads f fs Creating) true = refl
 asks_known w a k (commits.Uploads f fs (Sending p ps)) true = refl
-asks_known w a k Storing true = refl
-asks_known w a k Renaming true = refl
-asks_known w a k (TaskCommitOver end) true = refl
+asks_known w a k _ true = refl
 
 pub next_as : (t new : Task) (after : Committing) (p : Bool) (x : Option Request) → new ≡ with_sent t p → x ≡ task_commit_asks (task_script t) (who_of t) t.known (commit_of t after) → x ≡ task_commit_asks (task_script new) (who_of new) new.known (commit_of new after)
 next_as t new after p x e h =
     h ∙ (sym (asks_known (task_script t) (who_of t) t.known (commit_of t after) p)
     ∙ sym (ap (λ (y : Task). task_commit_asks (task_script y) (who_of y) y.known (commit_of y after)) e))
 
--- it publishes behind the last record
-length_picked : (fs : List File) (places : List ℕ) → length (picked fs places) ≡ length places
-length_picked fs [] = refl
-length_picked fs (q ∷ places) = ap suc (length_picked fs places)
-
 some_place : (places : List ℕ) (at : ℕ) → at < length places → (p : ℕ) × (Some p ≡ slice_get places at)
-some_place [] at h = absurd (omega arith)
-some_place (q ∷ places) zero h = (q, refl)
-some_place (q ∷ places) (suc at) h = some_place places at (omega arith)
+some_place places at h = (get_or places at 0, sym (slice_get-get_or places at 0 h))
 
+-- it publishes behind the last record
 publishes_if : (fs : List File) (keys : List (List ℕ)) (places : List ℕ) (at n : ℕ) (b : Bool) → nat_le n at ≡ b → n ≡ length places → b ≡ publishes (commit_by false keys (picked fs places) at None)
 publishes_if fs keys places at n true t e =
     let most : n ≤ at = at_most_is n at t in
-    sym (ap (λ (l : List File). publishes (reading (picked fs places) l)) (drop_all at (picked fs places) (omega (arith, length_picked fs places, most))))
+    sym (ap (λ (l : List File). publishes (reading (picked fs places) l)) (drop_all at (picked fs places) (omega (arith, length-map places (λ i. get_or fs i ([], [])), most))))
 publishes_if fs keys places at n false t e =
     let there = some_place places at (let more : at < n = at_most_not n at t in omega (arith, more)) in
     sym (ap (λ (l : List File). publishes (reading (picked fs places) l)) (at_file fs places at there.0 there.1))

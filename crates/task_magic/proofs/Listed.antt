@@ -1,9 +1,10 @@
 -- Which files the keys of a listing are of.
 use Rattle.std.proofs.Common.{◌≡◌, ℕ, zero, suc, ◌+◌, ◌<◌, ◌≤◌, nat_eq, nat_lt, Bool, true, false, cond, ◌||◌, List, [], ◌∷◌, ◌++◌, map, length, drop, get_or, slice_get, Option, Some, None, option_map, codes, refl, sym, ap, subst, ◌∙◌, arith, add-one, append_assoc, length-append, replicate}
+use Rattle.proof_base.proofs.Members.{nat_true}
 use Rattle.std.specs.Prelude.{slice_set, is_some, IfSome}
 use Rattle.job_protocol.specs.Prelude.{filter, list_any, AllByRecursion, IsDistinct, position, keys_of, lookup, bytes_decides, text_eq, below, File, Task, task_script, who_of, files, attempt_dir, attempt_prefix, in_order, least_missing, least_of}
-use Rattle.path_keys.proofs.Common.{true≢false, nat_tests, flat_map-append, append_cancel_left, append_cancel_right, map-append, drop_all, list_any-append, list_all-append, or-false, drop-cons, below_so}
-use Rattle.proof_base.proofs.Common.{slice_get-get_or, position-Some, IsDistinct-head, IsDistinct-tail}
+use Rattle.path_keys.proofs.Common.{true≢false, nat_tests, flat_map-append, append_cancel_left, append_cancel_right, map-append, drop_all, list_any-append, list_all-append, or-false, drop-cons, below_so, append-nil, length-map}
+use Rattle.proof_base.proofs.Common.{slice_get-get_or, position-Some, IsDistinct-head, IsDistinct-tail, slice_get_within}
 use Rattle.std.proofs.lemmas.List.{get_or-map}
 use Rattle.magic_paths.proofs.Tails.{below_is}
 use Rattle.task_requests.specs.Publishing.{picked, are_places}
@@ -66,8 +67,7 @@ suc_zero : (i : ℕ) → nat_eq (suc i) zero ≡ false
 suc_zero i = grind (arith, nat_tests)
 
 all_at : (P : List ℕ → Type 0) (es : List File) (j : ℕ) (f : File) → AllByRecursion P (keys_of es) → slice_get es j ≡ Some f → P f.0
-all_at P [] zero f h e = absurd (cc)
-all_at P [] (suc j) f h e = absurd (cc)
+all_at P [] j f h e = absurd (omega (arith, slice_get_within [] j f e))
 all_at P (x ∷ es) zero f h e = let same : x ≡ f = cc in subst (λ (y : File). P y.0) same h.0
 all_at P (x ∷ es) (suc j) f h e = all_at P es j f h.1 e
 
@@ -86,13 +86,8 @@ at_place p (x ∷ es) (suc i) zero f d w h e =
     other (y ∷ l) (suc k) a b = other l k a.1 (omega arith)
 at_place p (x ∷ es) (suc i) (suc j) f d w h e = at_place p es i j f (IsDistinct-tail text_eq x.0 (keys_of es) d) (omega arith) h e ∙ sym (suc_eq i j)
 
-length_keys : (es : List File) → length (keys_of es) ≡ length es
-length_keys [] = refl
-length_keys (x ∷ es) = ap suc (length_keys es)
-
 none_at : (p : List ℕ) (es : List File) (j : ℕ) (f : File) → is_some (lookup (text_eq p) es) ≡ false → slice_get es j ≡ Some f → text_eq p f.0 ≡ false
-none_at p [] zero f h e = absurd (cc)
-none_at p [] (suc j) f h e = absurd (cc)
+none_at p [] j f h e = absurd (omega (arith, slice_get_within [] j f e))
 none_at p (x ∷ es) j f h e = by (text_eq p x.0) refl (none_at p es) j e
   where
     first : (b : Bool) → text_eq p x.0 ≡ b → is_some (cond b (Some x.1) (lookup (text_eq p) es)) ≡ false
@@ -108,7 +103,7 @@ path_place : (p : List ℕ) (es : List File) (r : Option ℕ) (j : ℕ) (f : Fil
 path_place p es None j f h s d e = none_at p es j f (sym s) e
 path_place p es (Some i) j f h s d e =
     let found = position-Some (text_eq p) (keys_of es) i [] (sym h) in
-    at_place p es i j f d (omega (arith, length_keys es, found.0)) found.1 e
+    at_place p es i j f d (omega (arith, length-map es (λ (f : File). f.0), found.0)) found.1 e
 
 pub path_found : (p : List ℕ) (es fs : List File) (r : Option ℕ) (j : ℕ) (f : File) → es ≡ fs → r ≡ position (text_eq p) (keys_of es) → is_some r ≡ is_some (lookup (text_eq p) es) → IsDistinct text_eq (keys_of es) → slice_get fs j ≡ Some f → text_eq p f.0 ≡ is_at r j
 path_found p es fs r j f h i s d e = path_place p es r j f i s d (ap (λ (l : List File). slice_get l j) h ∙ e)
@@ -139,20 +134,16 @@ picks_some g [] i w h = absurd (omega arith)
 picks_some g (x ∷ fs) zero w h = filter_by g x fs true (h zero x refl) ∙ ap (λ (l : List File). x ∷ l) (picks_none g fs (behind_zero g x fs h))
 picks_some g (x ∷ fs) (suc i) w h = filter_by g x fs false (h zero x refl ∙ suc_zero i) ∙ picks_some g fs i (omega arith) (behind_suc g x fs i h)
 
-append_nil : {X : Type 0} (l : List X) → l ++ [] ≡ l
-append_nil [] = refl
-append_nil (x ∷ l) = ap (λ z. x ∷ z) (append_nil l)
-
 one_more : (t : Task) (keys : List (List ℕ)) (k : List ℕ) → in_order (task_script t) (who_of t) (keys ++ k ∷ []) ≡ in_order (task_script t) (who_of t) keys ++ filter (λ f. text_eq (record_of t f) k) t.files
 one_more t keys k =
     let g : List ℕ → List File = λ k. filter (λ f. text_eq (record_of t f) k) (files (task_script t) (who_of t)) in
     flat_map-append g keys (k ∷ [])
-    ∙ ap (λ (l : List File). in_order (task_script t) (who_of t) keys ++ l) (append_nil (g k) ∙ ap (λ (l : List File). filter (λ f. text_eq (record_of t f) k) l) (own_files t))
+    ∙ ap (λ (l : List File). in_order (task_script t) (who_of t) keys ++ l) (append-nil (g k) ∙ ap (λ (l : List File). filter (λ f. text_eq (record_of t f) k) l) (own_files t))
 
 -- a key of no file adds none, and one of a file adds that one
 ordered_none : (t : Task) (keys : List (List ℕ)) (k : List ℕ) (places : List ℕ) → picked t.files places ≡ in_order (task_script t) (who_of t) keys → IsPlaceOf t k None → picked t.files places ≡ in_order (task_script t) (who_of t) (keys ++ k ∷ [])
 ordered_none t keys k places e h =
-    e ∙ sym (one_more t keys k ∙ (ap (λ (l : List File). in_order (task_script t) (who_of t) keys ++ l) (picks_none (λ f. text_eq (record_of t f) k) t.files h) ∙ append_nil (in_order (task_script t) (who_of t) keys)))
+    e ∙ sym (one_more t keys k ∙ (ap (λ (l : List File). in_order (task_script t) (who_of t) keys ++ l) (picks_none (λ f. text_eq (record_of t f) k) t.files h) ∙ append-nil (in_order (task_script t) (who_of t) keys)))
 
 ordered_some : (t : Task) (keys : List (List ℕ)) (k : List ℕ) (places : List ℕ) (i : ℕ) → picked t.files places ≡ in_order (task_script t) (who_of t) keys → i < length t.files → IsPlaceOf t k (Some i) → picked t.files (places ++ i ∷ []) ≡ in_order (task_script t) (who_of t) (keys ++ k ∷ [])
 ordered_some t keys k places i e w h =
@@ -167,14 +158,11 @@ places_more count places i h w =
 
 -- ---- the keys of the records
 
-same_place : (i : ℕ) → nat_eq i i ≡ true
-same_place i = grind (arith, nat_tests)
-
 record_there : (t : Task) (k : List ℕ) (i : ℕ) → i < length t.files → IsPlaceOf t k (Some i) → record_of t (get_or t.files i ([], [])) ≡ k
-record_there t k i w h = (bytes_decides (record_of t (get_or t.files i ([], []))) k).0 (h i (get_or t.files i ([], [])) (slice_get-get_or t.files i ([], []) w) ∙ same_place i)
+record_there t k i w h = (bytes_decides (record_of t (get_or t.files i ([], []))) k).0 (h i (get_or t.files i ([], [])) (slice_get-get_or t.files i ([], []) w) ∙ nat_true i i refl)
 
 pub records_with : (t : Task) (keys : List (List ℕ)) (places : List ℕ) (k : List ℕ) (place : Option ℕ) → AreRecords t keys places → IfSome place (λ i. i < length t.files) → IsPlaceOf t k place → AreRecords t (keys ++ records_in place k) (places ++ places_in place)
-records_with t keys places k None e w h = append_nil keys ∙ (e ∙ sym (ap (λ (l : List ℕ). map (record_of t) (picked t.files l)) (append_nil places)))
+records_with t keys places k None e w h = append-nil keys ∙ (e ∙ sym (ap (λ (l : List ℕ). map (record_of t) (picked t.files l)) (append-nil places)))
 records_with t keys places k (Some i) e w h =
     ap (λ (l : List (List ℕ)). l ++ k ∷ []) e
     ∙ (ap (λ (x : List ℕ). map (record_of t) (picked t.files places) ++ x ∷ []) (sym (record_there t k i w h))
@@ -182,7 +170,7 @@ records_with t keys places k (Some i) e w h =
 
 -- ---- which files are seen
 
-or_true : (b : Bool) → (b || true) ≡ true
+pub or_true : (b : Bool) → (b || true) ≡ true
 or_true true = refl
 or_true false = refl
 
@@ -208,56 +196,41 @@ seen_more t keys k =
     map_same (λ f. list_any (text_eq (record_of t f)) (keys ++ k ∷ [])) (λ f. list_any (text_eq (record_of t f)) keys || text_eq (record_of t f) k) t.files
     (λ f. list_any-append (text_eq (record_of t f)) keys (k ∷ []) ∙ ap (λ (b : Bool). list_any (text_eq (record_of t f)) keys || b) (or-false (text_eq (record_of t f) k)))
 
-none_seen : (t : Task) (keys : List (List ℕ)) (k : List ℕ) (seen : List Bool) → seen ≡ seen_in t keys → IsPlaceOf t k None → seen ≡ seen_in t (keys ++ k ∷ [])
-none_seen t keys k seen e h = e ∙ sym (seen_more t keys k ∙ seen_none (λ f. list_any (text_eq (record_of t f)) keys) (λ f. text_eq (record_of t f) k) t.files h)
-
-some_seen : (t : Task) (keys : List (List ℕ)) (k : List ℕ) (seen : List Bool) (i : ℕ) → seen ≡ seen_in t keys → i < length t.files → IsPlaceOf t k (Some i) → slice_set seen i true ≡ seen_in t (keys ++ k ∷ [])
-some_seen t keys k seen i e w h = ap (λ (l : List Bool). slice_set l i true) e ∙ sym (seen_more t keys k ∙ seen_some (λ f. list_any (text_eq (record_of t f)) keys) (λ f. text_eq (record_of t f) k) t.files i w h)
-
 -- ---- one more key
 
 pub ordered_with : (t : Task) (keys more : List (List ℕ)) (k : List ℕ) (places : List ℕ) (place : Option ℕ) → more ≡ keys ++ k ∷ [] → picked t.files places ≡ in_order (task_script t) (who_of t) keys → IfSome place (λ i. i < length t.files) → IsPlaceOf t k place
     → picked t.files (places ++ places_in place) ≡ in_order (task_script t) (who_of t) more
-ordered_with t keys more k places None m e w h = ap (picked t.files) (append_nil places) ∙ (ordered_none t keys k places e h ∙ ap (in_order (task_script t) (who_of t)) (sym m))
+ordered_with t keys more k places None m e w h = ap (picked t.files) (append-nil places) ∙ (ordered_none t keys k places e h ∙ ap (in_order (task_script t) (who_of t)) (sym m))
 ordered_with t keys more k places (Some i) m e w h = ordered_some t keys k places i e w h ∙ ap (in_order (task_script t) (who_of t)) (sym m)
 
 pub seen_with : (t : Task) (keys more : List (List ℕ)) (k : List ℕ) (seen : List Bool) (place : Option ℕ) → more ≡ keys ++ k ∷ [] → seen ≡ seen_in t keys → IfSome place (λ i. i < length t.files) → IsPlaceOf t k place → set_at seen place ≡ seen_in t more
-seen_with t keys more k seen None m e w h = none_seen t keys k seen e h ∙ ap (seen_in t) (sym m)
-seen_with t keys more k seen (Some i) m e w h = some_seen t keys k seen i e w h ∙ ap (seen_in t) (sym m)
+seen_with t keys more k seen None m e w h =
+    (e ∙ sym (seen_more t keys k ∙ seen_none (λ f. list_any (text_eq (record_of t f)) keys) (λ f. text_eq (record_of t f) k) t.files h)) ∙ ap (seen_in t) (sym m)
+seen_with t keys more k seen (Some i) m e w h =
+    (ap (λ (l : List Bool). slice_set l i true) e
+    ∙ sym (seen_more t keys k ∙ seen_some (λ f. list_any (text_eq (record_of t f)) keys) (λ f. text_eq (record_of t f) k) t.files i w h)) ∙ ap (seen_in t) (sym m)
 
 pub places_with : (count : ℕ) (places : List ℕ) (place : Option ℕ) → are_places count places ≡ true → IfSome place (λ i. i < count) → are_places count (places ++ places_in place) ≡ true
-places_with count places None h w = ap (are_places count) (append_nil places) ∙ h
+places_with count places None h w = ap (are_places count) (append-nil places) ∙ h
 places_with count places (Some i) h w = places_more count places i h w
-
-length_seen : (g : File → Bool) (fs : List File) → length (map g fs) ≡ length fs
-length_seen g [] = refl
-length_seen g (x ∷ fs) = ap suc (length_seen g fs)
 
 pub within_seen : (t : Task) (keys : List (List ℕ)) (seen : List Bool) (place : Option ℕ) → seen ≡ seen_in t keys → IfSome place (λ i. i < length t.files) → IfSome place (λ i. i < length seen)
 within_seen t keys seen None e w = tt
-within_seen t keys seen (Some i) e w = let n = (ap length e ∙ length_seen (λ f. list_any (text_eq (record_of t f)) keys) t.files) in omega (arith, n, w)
+within_seen t keys seen (Some i) e w = let n = (ap length e ∙ length-map t.files (λ f. list_any (text_eq (record_of t f)) keys)) in omega (arith, n, w)
 
-nothing_seen : (t : Task) (fs : List File) → replicate (length fs) false ≡ map (λ f. list_any (text_eq (record_of t f)) []) fs
+pub nothing_seen : (t : Task) (fs : List File) → replicate (length fs) false ≡ map (λ f. list_any (text_eq (record_of t f)) []) fs
 nothing_seen t [] = refl
 nothing_seen t (x ∷ fs) = ap (λ (l : List Bool). false ∷ l) (nothing_seen t fs)
 
-pub first_seen : (t : Task) (count : ℕ) (seen : List Bool) → count ≡ length t.files → seen ≡ replicate count false → seen ≡ seen_in t []
-first_seen t count seen n e = e ∙ (ap (λ m. replicate m false) n ∙ nothing_seen t t.files)
-
 -- ---- the least that is missing
 
-missing_by : (keys : List (List ℕ)) (g : File → List ℕ) (fs : List File) → least_missing keys (map g fs) ≡ least_unseen (map (λ f. list_any (text_eq (g f)) keys) fs) (map g fs)
+pub missing_by : (keys : List (List ℕ)) (g : File → List ℕ) (fs : List File) → least_missing keys (map g fs) ≡ least_unseen (map (λ f. list_any (text_eq (g f)) keys) fs) (map g fs)
 missing_by keys g [] = refl
 missing_by keys g (x ∷ fs) = by (missing_by keys g fs) (list_any (text_eq (g x)) keys)
   where
     by : least_missing keys (map g fs) ≡ least_unseen (map (λ f. list_any (text_eq (g f)) keys) fs) (map g fs) → (b : Bool) → cond b (least_missing keys (map g fs)) (Some (least_of (least_missing keys (map g fs)) (g x))) ≡ least_unseen (b ∷ map (λ f. list_any (text_eq (g f)) keys) fs) (g x ∷ map g fs)
     by r true = r
     by r false = ap (λ l. Some (least_of l (g x))) r
-
-pub missing_is : (t : Task) (keys : List (List ℕ)) (seen : List Bool) → seen ≡ seen_in t keys → least_unseen seen (map (record_of t) t.files) ≡ least_missing keys (map (record_of t) (files (task_script t) (who_of t)))
-missing_is t keys seen e =
-    ap (λ l. least_unseen l (map (record_of t) t.files)) e
-    ∙ (sym (missing_by keys (record_of t) t.files) ∙ ap (λ (l : List File). least_missing keys (map (record_of t) l)) (sym (own_files t)))
 
 -- the one behind so many, and the others
 cut_at : {X : Type 0} (xs : List X) (i : ℕ) (d : X) → i < length xs → drop i xs ≡ get_or xs i d ∷ drop (i + 1) xs
@@ -267,16 +240,12 @@ unseen_at : (seen : List Bool) (ks : List (List ℕ)) (i : ℕ) → i < length s
     → least_unseen (drop i seen) (drop i ks) ≡ least_unseen (get_or seen i false ∷ drop (i + 1) seen) (get_or ks i [] ∷ drop (i + 1) ks)
 unseen_at seen ks i w v = ap (λ l. least_unseen l (drop i ks)) (cut_at seen i false w) ∙ ap (λ l. least_unseen (get_or seen i false ∷ drop (i + 1) seen) l) (cut_at ks i [] v)
 
-length_map : (g : File → List ℕ) (fs : List File) → length (map g fs) ≡ length fs
-length_map g [] = refl
-length_map g (x ∷ fs) = ap suc (length_map g fs)
-
 module _ (t : Task) (seen : List Bool) (left i : ℕ) (least : Option (List ℕ)) (n : left ≡ i + 1) (w : left ≤ length seen) (same : length seen ≡ length t.files)
     (e : (let ks = map (record_of t) t.files in least ≡ least_unseen (drop left seen) (drop left ks))) where
   unseen_here : (b : Bool) → get_or seen i false ≡ b → (let ks = map (record_of t) t.files in least_unseen (drop i seen) (drop i ks) ≡ least_unseen (b ∷ drop left seen) (record_of t (get_or t.files i ([], [])) ∷ drop left ks))
   unseen_here b h =
       let ks = map (record_of t) t.files in
-      unseen_at seen ks i (omega arith) (omega (arith, length_map (record_of t) t.files))
+      unseen_at seen ks i (omega arith) (omega (arith, length-map t.files (record_of t)))
       ∙ (ap (λ c. least_unseen (c ∷ drop (i + 1) seen) (get_or ks i [] ∷ drop (i + 1) ks)) h
       ∙ (ap (λ k. least_unseen (b ∷ drop (i + 1) seen) (k ∷ drop (i + 1) ks)) (get_or-map (record_of t) t.files i ([], []) [] (omega arith))
       ∙ ap (λ m. least_unseen (b ∷ drop m seen) (record_of t (get_or t.files i ([], [])) ∷ drop m ks)) (sym n)))

@@ -2,12 +2,12 @@
 use Rattle.std.proofs.Common.{◌≡◌, ℕ, ◌<◌, Bool, false, List, [], ◌∷◌, ◌++◌, length, drop, codes, Option, Some, None, refl, sym, ap, subst, ◌∙◌, arith, length-drop}
 use Rattle.std.specs.Prelude.{IsSome}
 use Rattle.path_keys.proofs.Common.{false≢true}
-use Rattle.job_protocol.specs.Prelude.{Committer, Magic, Reply, Path, WornOut, File, Task, TaskEnd, Attempting, task_script, who_of, with_known, write_wants, write_told, files, Creating, Write, write_start, write_start_by, write_over, writing}
+use Rattle.job_protocol.specs.Prelude.{Committer, Magic, Reply, WornOut, File, Task, TaskEnd, Attempting, task_script, who_of, with_known, write_wants, write_told, files, Creating, Write, write_start, write_start_by, write_over, writing}
 use Rattle.job_model.specs.declared.ends.TaskEnd.TheVariants as ends
 use Rattle.job_protocol.specs.Writes as writes
 use Rattle.task_requests.specs.declared.stage.WriteStage.{WriteStage}
 use Rattle.task_requests.specs.declared.stage.WriteStage.TheVariants as stage
-use Rattle.task_requests.specs.Writing.{at_parts, at_stage, write_by, seen_write, Holds, IsOpen, IsWrite, dir_of, write_fits}
+use Rattle.task_requests.specs.Writing.{at_parts, at_stage, write_by, seen_write, IsOpen, write_fits}
 use Rattle.task_magic.specs.Writing.{done_if_none}
 use Rattle.task_requests.proofs.Told.{own_files, next_files, same_known, no_set}
 
@@ -19,10 +19,6 @@ with_files t (f ∷ fs) e = ap (at_stage (task_script t) t.minimum stage.Creatin
 
 pub start_is : (t : Task) → t.job.committer ≡ Magic → write_by t 0 stage.Creating (done_if_none t.files) ≡ write_start (task_script t) (who_of t)
 start_is t m = with_files t t.files refl ∙ (sym (next_files (task_script t) t.minimum t.files) ∙ (ap writing (sym (own_files t)) ∙ ap (λ (c : Committer). write_start_by c (files (task_script t) (who_of t))) (sym m)))
-
-open_if : (fs : List File) → IsOpen (done_if_none fs) 0 fs
-open_if [] = tt
-open_if (f ∷ fs) = omega arith
 
 -- ---- a request that wore out
 
@@ -52,10 +48,8 @@ parts_go_on f fs (p ∷ ps) = refl
 
 goes_on_at : (t : Task) (s : WriteStage) (l : List File) → 0 < length l → None ≡ write_over (at_stage (task_script t) t.minimum s l)
 goes_on_at t s [] h = absurd (omega arith)
-goes_on_at t stage.Creating (f ∷ fs) h = refl
 goes_on_at t (stage.Sending n) (f ∷ fs) h = parts_go_on f fs _
-goes_on_at t stage.Marking (f ∷ fs) h = refl
-goes_on_at t stage.Recording (f ∷ fs) h = refl
+goes_on_at t _ (f ∷ fs) h = refl
 
 pub end_is : (t : Task) (place : ℕ) (s : WriteStage) (e : Option TaskEnd) (m : Attempting Write) → seen_write t place s e ≡ m → IsOpen e place t.files → e ≡ write_over m.operation
 end_is t place s None m v o = goes_on_at t s (drop place t.files) (some t.files place o) ∙ ap (λ (x : Attempting Write). write_over x.operation) v

@@ -1,5 +1,6 @@
 -- Where the upload of a key that was drawn last stands.
 use Rattle.std.proofs.Common.{◌≡◌, ℕ, zero, suc, ◌+◌, ◌<◌, ◌≤◌, Bool, true, false, cond, List, [], ◌∷◌, ◌++◌, length, length-take-le, take, reverse, get_or, slice_get, Option, Some, None, refl, sym, ap, subst, ◌∙◌, arith}
+use Rattle.job_protocol.proofs.Members.{get_left}
 use Rattle.path_keys.proofs.Common.{true≢false, reverse-reverse, reverse-append, take_more, map-append, get_or_from_slice_get}
 use Rattle.job_protocol.specs.Prelude.{text_eq, Request, PutObject, Pending, are_tags, are_sizes, Task, task_script, who_of, Drawn, Known, File, Script, as_made, drawn_in, nothing_drawn, file_key, file_record, set_text, Publishing, task_commit_asks}
 use Rattle.proof_base.proofs.Options.{some_is}
@@ -11,12 +12,6 @@ get_end : (xs : List Drawn) (d : Drawn) → slice_get (xs ++ d ∷ []) (length x
 get_end [] d = refl
 get_end (x ∷ xs) d = get_end xs d
 
-get_front : (xs : List Drawn) (d y : Drawn) (i : ℕ) → slice_get xs i ≡ Some y → slice_get (xs ++ d ∷ []) i ≡ Some y
-get_front [] d y zero e = absurd (cc)
-get_front [] d y (suc i) e = absurd (cc)
-get_front (x ∷ xs) d y zero e = e
-get_front (x ∷ xs) d y (suc i) e = get_front xs d y i e
-
 last_of_push : (xs : List Drawn) (d : Drawn) (key : List ℕ) (b : Bool) → text_eq d.key key ≡ b → drawn_in (reverse (xs ++ d ∷ [])) key ≡ cond b d (drawn_in (reverse xs) key)
 last_of_push xs d key b e = ap (λ (l : List Drawn). drawn_in l key) (reverse-append xs (d ∷ [])) ∙ ap (λ (c : Bool). cond c d (drawn_in (reverse xs) key)) e
 
@@ -25,7 +20,7 @@ last_push xs d i old new key n h e = by (text_eq d.key key) refl
   where
     front : (o : Option ℕ) → text_eq d.key key ≡ false → IsLastAt xs key o → IsLastAt (xs ++ d ∷ []) key o
     front None g k = last_of_push xs d key false g ∙ k
-    front (Some j) g k = get_front xs d (drawn_in (reverse xs) key) j k ∙ ap (λ (x : Drawn). Some x) (sym (last_of_push xs d key false g))
+    front (Some j) g k = get_left xs (d ∷ []) j (drawn_in (reverse xs) key) k ∙ ap (λ (x : Drawn). Some x) (sym (last_of_push xs d key false g))
 
     by : (b : Bool) → text_eq d.key key ≡ b → IsLastAt (xs ++ d ∷ []) key new
     by true g = subst (IsLastAt (xs ++ d ∷ []) key) (sym (e ∙ ap (λ (c : Bool). cond c (Some i) old) g))
@@ -48,14 +43,6 @@ drawn_there w k f key o i h g e =
     subst (IsLastAt (as_made k.drawn) key) e h
     ∙ (ap (λ l. Some (drawn_in l key)) (made_back k.drawn) ∙ ap (λ q. Some (drawn_in k.drawn q)) g)
 
--- what is not there has no tags
-pub drawn_not : (w : Script) (k : Known) (f : File) (key : List ℕ) (o : Option ℕ) (n : ℕ) → IsLastAt (as_made k.drawn) key o → key ≡ file_key w f → o ≡ None → IsPending (drawn_of w k f) n → ⊥
-drawn_not w k f key o n h g e p =
-    let none : drawn_of w k f ≡ nothing_drawn =
-    ap (drawn_in k.drawn) (sym g) ∙ (ap (λ l. drawn_in l key) (sym (made_back k.drawn)) ∙ subst (IsLastAt (as_made k.drawn) key) e h) in
-    let bad : IsPending nothing_drawn n = subst (λ d. IsPending d n) none p in
-    true≢false (sym bad.0)
-
 -- ---- the file at a place, where what is known of its upload is a record
 
 module _ (t : Task) (place : ℕ) (f : File) (key : List ℕ) (o : Option ℕ) (at : Some f ≡ slice_get t.files place) (named : key ≡ file_key (task_script t) f) (last : IsLastAt (as_made t.known.drawn) key o)
@@ -67,7 +54,10 @@ module _ (t : Task) (place : ℕ) (f : File) (key : List ℕ) (o : Option ℕ) (
   is_ready = subst (λ (g : File). IsPending (drawn_of (task_script t) t.known g) (length g.1)) is_file ready
 
   pub not_none : None ≡ o → ⊥
-  not_none e = drawn_not (task_script t) t.known f key o (length f.1) last named (sym e) is_ready
+  not_none e =
+      let none : drawn_of (task_script t) t.known f ≡ nothing_drawn = ap (drawn_in t.known.drawn) (sym named)
+      ∙ (ap (λ l. drawn_in l key) (sym (made_back t.known.drawn)) ∙ subst (IsLastAt (as_made t.known.drawn) key) (sym e) last) in
+      let bad : IsPending nothing_drawn (length f.1) = subst (λ d. IsPending d (length f.1)) none is_ready in true≢false (sym bad.0)
 
   pub is_drawn : (i : ℕ) (d : Drawn) → Some i ≡ o → Some d ≡ slice_get (as_made t.known.drawn) i → d ≡ drawn_of (task_script t) t.known f
   is_drawn i d e g = some_is d (drawn_of (task_script t) t.known f) (g ∙ drawn_there (task_script t) t.known f key o i last named (sym e))

@@ -226,12 +226,12 @@ short_at [] i f e = absurd (cc)
 short_at (g ∷ fs) zero f e = let same : length g.1 ≡ length f.1 = ap (λ (x : File). length x.1) (some_is g f e) in omega arith
 short_at (g ∷ fs) (suc i) f e = let old = short_at fs i f e in omega arith
 
-pub file_is : (t : Task) (i : ℕ) (f : File) → IsJob t.job → IsTask t → slice_get t.files i ≡ Some f → IsFile t f
-file_is t i f j k e =
-    let one = short_at t.files i f e in
-    let all : bytes_of t.files ≤ 67108864 = k.few_bytes in
-    record { named = record { job = j; task = k; placed = placed_at t.job.job [] t.files i f k.files e }; short = omega arith }
-
 pub file_found : {X : Type 0} (t : Task) (i : ℕ) (g : X → File) (o : Option X) (es : List File) → option_map g o ≡ slice_get es i → es ≡ t.files → IsJob t.job → IsTask t → IfSome o (λ x. IsFile t (g x))
 file_found t i g None es e s j k = tt
-file_found t i g (Some x) es e s j k = file_is t i (g x) j k (sym (e ∙ ap (λ (l : List File). slice_get l i) s))
+file_found t i g (Some x) es e s j k =
+    let one = short_at t.files i (g x) (sym (e ∙ ap (λ (l : List File). slice_get l i) s)) in let all : bytes_of t.files ≤ 67108864 = k.few_bytes in
+    record {
+      named = record
+          { job = j; task = k; placed = placed_at t.job.job [] t.files i (g x) k.files (sym (e ∙ ap (λ (l : List File). slice_get l i) s)) };
+      short = omega arith;
+    }

@@ -1,35 +1,19 @@
 -- The steps of a write, by the parts that its machine keeps.
-use Rattle.std.proofs.Common.{◌≡◌, ℕ, zero, suc, ◌+◌, ◌<◌, ◌≤◌, nat_lt, nat_le, ◌==◌, Result, Ok, Err, Bool, true, false, cond, List, [], ◌∷◌, map, length, take, drop, get_or, slice_get, Option, Some, None, refl, sym, ap, subst, ◌∙◌, arith, length-take-le, length-drop}
+use Rattle.std.proofs.Common.{◌≡◌, ℕ, ◌+◌, ◌<◌, ◌≤◌, nat_lt, nat_le, ◌==◌, Result, Ok, Err, Bool, true, false, cond, List, [], ◌∷◌, map, length, take, drop, get_or, slice_get, Option, Some, None, refl, sym, ap, subst, ◌∙◌, arith, length-take-le, length-drop}
+use Rattle.proof_base.proofs.Common.{slice_get-get_or}
 use Rattle.std.specs.Prelude.{option_map, IfOk}
-use Rattle.path_keys.proofs.Common.{take_all, get_or_from_slice_get, slice_get_within, below_is, below_not, below_so, at_most_so, nat_tests, some_size, some_parts, few_parts}
-use Rattle.job_protocol.specs.Prelude.{list_all, sum, are_tags, fit, Spelled, is_plain_tag, Reply, Part, Refused, NoSuchUpload, Request, CreateUpload, UploadPart, PutObject, Path, Got, File, Task, Drawn, Known, with_last, Script, Attempting, task_script, who_of, with_known, write_wants, write_told, first_drawn, drawn_last, file_key, record_key, record_text, Write}
+use Rattle.path_keys.proofs.Common.{take_all, get_or_from_slice_get, slice_get_within, below_is, below_not, below_so, at_most_so, nat_tests, some_size, some_parts, few_parts, length-map}
+use Rattle.job_protocol.specs.Prelude.{list_all, sum, are_tags, fit, Spelled, is_plain_tag, Reply, Part, Refused, NoSuchUpload, Request, CreateUpload, UploadPart, PutObject, Path, Got, File, Task, Drawn, Known, with_last, Attempting, task_script, who_of, with_known, write_wants, write_told, first_drawn, drawn_last, file_key, record_key, record_text, Write}
 use Rattle.s3_types.specs.declared.reply.Reply.TheVariants.{Upload}
 use Rattle.job_model.specs.declared.ends.TaskEnd.TheVariants as ends
 use Rattle.job_protocol.specs.Writes as writes
 use Rattle.task_requests.specs.declared.stage.WriteStage.{WriteStage}
 use Rattle.task_requests.specs.declared.stage.WriteStage.TheVariants as stage
-use Rattle.task_requests.specs.Writing.{at_parts, at_stage, seen_write, is_new, HasSent, HoldsAt, Holds, IsWrite, dir_of, IsBehind, next_stage, with_drawn, with_tag, FitsCreate, FitsPart, write_fits, upload_in, tag_in, ended_by, part_behind, size_of, parts_in, asks_behind}
+use Rattle.task_requests.specs.Writing.{at_parts, seen_write, is_new, HasSent, HoldsAt, Holds, IsWrite, dir_of, IsBehind, next_stage, with_drawn, with_tag, FitsCreate, FitsPart, write_fits, upload_in, tag_in, ended_by, part_behind, size_of, parts_in, asks_behind}
 use Rattle.s3_types.proofs.Blocks.{drop-parts, sum_parts}
 use Rattle.task_requests.proofs.Told.{seen_at, front_is, none_left, created, part_gone, part_sent, has_more, take_next, marked, recorded}
 
--- ---- where nothing is to be shown
-
-creating_at : (w : Script) (minimum : ℕ) (k : Known) (l : List File) → HoldsAt w minimum k stage.Creating l
-creating_at w minimum k [] = tt
-creating_at w minimum k (f ∷ fs) = tt
-
 -- ---- a stage of a file, or the end
-
-asks_none : (t : Task) (s : WriteStage) (l : List File) → None ≡ write_wants (seen_at t l s) → at_stage (task_script t) t.minimum s l ≡ writes.WriteOver ends.Done
-asks_none t s [] e = refl
-asks_none t stage.Creating (f ∷ fs) e = absurd (cc)
-asks_none t (stage.Sending n) (f ∷ fs) e = parts_none (drop n (parts_in t f)) e
-  where
-    parts_none : (ps : List (List ℕ)) → None ≡ write_wants (record { plan = t; operation = at_parts f fs ps }) → at_parts f fs ps ≡ writes.WriteOver ends.Done
-    parts_none [] e = absurd (cc)
-    parts_none (p ∷ ps) e = absurd (cc)
-asks_none t stage.Marking (f ∷ fs) e = absurd (cc)
-asks_none t stage.Recording (f ∷ fs) e = absurd (cc)
 
 within_some : {A : Type 0} (t : Task) (s : WriteStage) (l : List File) (r : Request) → Some r ≡ write_wants (seen_at t l s) → (0 < length l → A) → A
 within_some t s [] r e k = absurd (cc)
@@ -41,9 +25,6 @@ turned t dir place s None d h e = record { dir = d; asked = refl; holds = h; wit
 
 -- ---- what is asked behind a part
 
-pub take_length : {X : Type 0} (n : ℕ) (xs : List X) → n ≤ length xs → length (take n xs) ≡ n
-take_length n xs h = length-take-le n xs h
-
 pub first_tags : (ds : List Drawn) (parts : List (List ℕ)) → HasSent ds parts → length (first_drawn ds).tags ≡ length parts
 first_tags [] parts h = absurd h
 first_tags (d ∷ ds) parts h = h.1
@@ -54,7 +35,7 @@ first_part t f n h = drop-parts (size_of t f.1) f.1 n h
 pub asks_part : (t : Task) (f : File) (fs : List File) (n : ℕ) → n < length (parts_in t f) → HasSent t.known.drawn (take n (parts_in t f)) → Some (asks_behind t f (stage.Sending n)) ≡ write_wants (seen_at t (f ∷ fs) (stage.Sending n))
 asks_part t f fs n h g =
     let within : n ≤ length (parts_in t f) = omega arith in
-    let tags : length (drawn_last t.known).tags ≡ n = first_tags t.known.drawn (take n (parts_in t f)) g ∙ take_length n (parts_in t f) within in
+    let tags : length (drawn_last t.known).tags ≡ n = first_tags t.known.drawn (take n (parts_in t f)) g ∙ length-take-le n (parts_in t f) within in
     ap (λ m. Some (UploadPart t.job.dest.bucket (file_key (task_script t) f) (drawn_last t.known).upload (m + 1) (part_behind t f.1 n))) (sym tags)
     ∙ ap (λ l. write_wants (record { plan = t; operation = at_parts f fs l })) (sym (first_part t f n h))
 
@@ -75,12 +56,6 @@ pub holds_next : (t : Task) (f : File) (fs : List File) (n : ℕ) → HasSent t.
 holds_next t f fs n h = holds_next_by t f fs n (nat_lt (n + 1) (length (parts_in t f))) refl h
 
 -- ---- the upload is begun
-
-pub begun_told : (t : Task) (place : ℕ) (f : File) (id : ℕ) (b : Bool) → slice_get t.files place ≡ Some f
-    → seen_write (with_known t (with_drawn t.known (file_key (task_script t) f) id)) place (stage.Sending 0) None ≡ write_told (seen_write t place stage.Creating None) (Got (Upload id) b)
-begun_told t place f id b e =
-    let t' = with_known t (with_drawn t.known (file_key (task_script t) f) id) in
-    subst (λ l. seen_at t' l (stage.Sending 0) ≡ write_told (seen_at t l stage.Creating) (Got (Upload id) b)) (sym (front_is t.files place f e)) (sym (created t f (drop (place + 1) t.files) id b))
 
 pub begun_kept : (t : Task) (dir : Path) (place : ℕ) (f : File) (id : ℕ) → slice_get t.files place ≡ Some f → dir ≡ dir_of t → is_new id t.known.drawn ≡ true
     → IsWrite (with_known t (with_drawn t.known (file_key (task_script t) f) id)) dir place (stage.Sending 0) None (Some (UploadPart t.job.dest.bucket (file_key (task_script t) f) id 1 (part_behind t f.1 0)))
@@ -110,12 +85,10 @@ sent_told t place n f tag b e h =
     subst (λ l. seen_at (with_known t (with_tag t.known tag (length p))) l (next_stage n (length (parts_in t f))) ≡ write_told (seen_at t l (stage.Sending n)) (Got (Part tag) b)) (sym (front_is t.files place f e))
     (sym (part_sent t f (drop (place + 1) t.files) n p tag b (take n (parts_in t f)) (first_part t f n k.0) k.1))
 
-same_upload : (tag : Spelled) (size : ℕ) (ds : List Drawn) → (first_drawn (with_last tag size ds)).upload ≡ (first_drawn ds).upload
-same_upload tag size [] = refl
-same_upload tag size (d ∷ ds) = refl
-
 asks_same : (t : Task) (f : File) (tag : Spelled) (size : ℕ) (s : WriteStage) → asks_behind t f s ≡ asks_behind (with_known t (with_tag t.known tag size)) f s
-asks_same t f tag size (stage.Sending n) = ap (λ u. UploadPart t.job.dest.bucket (file_key (task_script t) f) u (n + 1) (part_behind t f.1 n)) (sym (same_upload tag size t.known.drawn))
+asks_same t f tag size (stage.Sending n) =
+    ap (λ u. UploadPart t.job.dest.bucket (file_key (task_script t) f) u (n + 1) (part_behind t f.1 n))
+    (elim t.known.drawn as (λ ds. (first_drawn ds).upload ≡ (first_drawn (with_last tag size ds)).upload) [ [] ↦ refl | d ∷ ds ↦ refl ])
 asks_same t f tag size _ = refl
 
 pub sent_kept : (t : Task) (dir : Path) (place n : ℕ) (f : File) (tag : Spelled) → slice_get t.files place ≡ Some f → dir ≡ dir_of t → Holds t place (stage.Sending n) → is_plain_tag tag ≡ true
@@ -137,13 +110,6 @@ sent_kept t dir place n f tag e d h plain =
     }
 
 -- ---- the upload is gone
-
-pub gone_told : (t : Task) (place n : ℕ) (f : File) (b : Bool) → slice_get t.files place ≡ Some f → Holds t place (stage.Sending n)
-    → seen_write t place (stage.Sending n) (Some (ends.Gone (file_key (task_script t) f))) ≡ write_told (seen_write t place (stage.Sending n) None) (Got (Refused NoSuchUpload) b)
-gone_told t place n f b e h =
-    let k = holds_sending t place n f e h in
-    subst (λ l. record { plan = t; operation = writes.WriteOver (ends.Gone (file_key (task_script t) f)) } ≡ write_told (seen_at t l (stage.Sending n)) (Got (Refused NoSuchUpload) b)) (sym (front_is t.files place f e))
-    (sym (part_gone t f (drop (place + 1) t.files) n (part_behind t f.1 n) (drop (n + 1) (parts_in t f)) b (first_part t f n k.0)))
 
 -- ---- marker and record
 
@@ -173,12 +139,14 @@ known_of i t g k e h = ap (with_known i) h ∙ ap (λ (x : Task). with_known x (
 
 pub begun_told_by : (t t' : Task) (place : ℕ) (f : File) (key : List ℕ) (id : ℕ) (b : Bool) → t' ≡ with_known t (with_drawn t.known key id) → key ≡ file_key (task_script t) f → Some f ≡ slice_get t.files place
     → seen_write t' place (stage.Sending 0) None ≡ write_told (seen_write t place stage.Creating None) (Got (Upload id) b)
-begun_told_by t t' place f key id b e k s = ap (λ (x : Task). seen_write x place (stage.Sending 0) None) (e ∙ ap (λ l. with_known t (with_drawn t.known l id)) k) ∙ begun_told t place f id b (sym s)
+begun_told_by t t' place f key id b e k s =
+    ap (λ (x : Task). seen_write x place (stage.Sending 0) None) (e ∙ ap (λ l. with_known t (with_drawn t.known l id)) k)
+    ∙ (let t' = with_known t (with_drawn t.known (file_key (task_script t) f) id) in
+    subst (λ l. seen_at t' l (stage.Sending 0) ≡ write_told (seen_at t l stage.Creating) (Got (Upload id) b)) (sym (front_is t.files place f (sym s)))
+    (sym (created t f (drop (place + 1) t.files) id b)))
 
 pub at_place : (fs : List File) (place : ℕ) → place < length fs → Some (get_or fs place ([], [])) ≡ slice_get fs place
-at_place [] place h = absurd (omega arith)
-at_place (f ∷ fs) zero h = refl
-at_place (f ∷ fs) (suc i) h = at_place fs i (omega arith)
+at_place fs place h = sym (slice_get-get_or fs place ([], []) h)
 
 -- the file at a place
 pub file_is : (t : Task) (place : ℕ) (f : File) → Some f ≡ slice_get t.files place → f ≡ get_or t.files place ([], [])
@@ -236,7 +204,12 @@ recording_sent t place f s i e h = subst (HoldsAt (task_script t) t.minimum t.kn
 
 pub gone_told_by : (t : Task) (place n : ℕ) (f : File) (name : List ℕ) (b : Bool) → name ≡ file_key (task_script t) f → Some f ≡ slice_get t.files place → Holds t place (stage.Sending n)
     → seen_write t place (stage.Sending n) (Some (ends.Gone name)) ≡ write_told (seen_write t place (stage.Sending n) None) (Got (Refused NoSuchUpload) b)
-gone_told_by t place n f name b k e h = ap (λ l. seen_write t place (stage.Sending n) (Some (ends.Gone l))) k ∙ gone_told t place n f b (sym e) h
+gone_told_by t place n f name b k e h =
+    ap (λ l. seen_write t place (stage.Sending n) (Some (ends.Gone l))) k
+    ∙ (let k = holds_sending t place n f (sym e) h in
+    subst (λ l. record { plan = t; operation = writes.WriteOver (ends.Gone (file_key (task_script t) f)) } ≡ write_told (seen_at t l (stage.Sending n))
+    (Got (Refused NoSuchUpload) b)) (sym (front_is t.files place f (sym e)))
+    (sym (part_gone t f (drop (place + 1) t.files) n (part_behind t f.1 n) (drop (n + 1) (parts_in t f)) b (first_part t f n k.0))))
 
 -- ---- what is asked at a stage
 
@@ -278,14 +251,10 @@ record_tags t f d e h =
 same_number : (a b : ℕ) → a ≡ b → (a == b) ≡ true
 same_number a b e = grind (arith, nat_tests)
 
-length_map : (xs : List (List ℕ)) → length (map length xs) ≡ length xs
-length_map [] = refl
-length_map (x ∷ xs) = ap (λ n. suc n) (length_map xs)
-
 pub record_sizes : (t : Task) (f : File) (d : Drawn) → Some d ≡ slice_get t.known.drawn 0 → HasSent t.known.drawn (parts_in t f) → fit d.sizes (length d.tags) (length f.1) ≡ true
 record_sizes t f d e h =
     let k = (first_is t.known.drawn d e (parts_in t f) h).1 in
-    let count : (length d.sizes == length d.tags) ≡ true = same_number (length d.sizes) (length d.tags) (ap length k.1 ∙ (length_map (parts_in t f) ∙ sym k.0)) in
+    let count : (length d.sizes == length d.tags) ≡ true = same_number (length d.sizes) (length d.tags) (ap length k.1 ∙ (length-map (parts_in t f) length ∙ sym k.0)) in
     let all : (sum d.sizes == length f.1) ≡ true = same_number (sum d.sizes) (length f.1) (ap sum k.1 ∙ sum_parts (size_of t f.1) f.1 (some_size (length f.1) t.block t.minimum)) in
     rw (count, all) refl
 
@@ -295,9 +264,7 @@ record_last t f d e h = sym (first_is t.known.drawn d e (parts_in t f) h).0
 -- ---- replies
 
 pub some_file : (fs : List File) (place : ℕ) → place < length fs → (f : File) × (Some f ≡ slice_get fs place)
-some_file [] place h = absurd (omega arith)
-some_file (f ∷ fs) zero h = (f, refl)
-some_file (f ∷ fs) (suc i) h = some_file fs i (omega arith)
+some_file fs place h = (get_or fs place ([], []), sym (slice_get-get_or fs place ([], []) h))
 
 fits_creating : (t : Task) (l : List File) (r : Reply) (b : Bool) → 0 < length l → write_fits (seen_at t l stage.Creating) r b → FitsCreate t.known.drawn r
 fits_creating t [] r b h f = absurd (omega arith)

@@ -1,7 +1,8 @@
 -- Where replies lead a write, at the file that it is about.
 use Rattle.std.proofs.Common.{◌≡◌, ℕ, zero, suc, ◌+◌, ◌<◌, ◌≤◌, ◌||◌, nat_eq, nat_lt, not, Bool, true, false, cond, List, [], ◌∷◌, ◌++◌, map, length, take, drop, slice_get, get_or, Some, None, codes, refl, sym, ap, ◌∙◌, arith, append_assoc, length-append, add-one, lit<}
+use Rattle.proof_base.proofs.Members.{nat_true}
 use Rattle.job_protocol.specs.Prelude.{list_all, decimal, text_eq, Spelled, is_plain_tag, Reply, Part, Refused, NoSuchUpload, below, bytes_decides, Got, File, Who, same_name, placed, Task, Drawn, Known, with_last, Script, Attempting, task_script, who_of, with_known, write_told, first_drawn, is_set_key, files, file_key, sending, file_parts, Write, writing}
-use Rattle.path_keys.proofs.Common.{and_parts, nat_tests, not_so, contrary, one_longer, below_not, drop_all, list_all-append, or-false}
+use Rattle.path_keys.proofs.Common.{and_parts, nat_tests, not_so, contrary, one_longer, below_not, drop_all, list_all-append, or-false, append_cancel_left, map-append}
 use Rattle.s3_types.specs.declared.reply.Reply.TheVariants.{Upload}
 use Rattle.magic_paths.specs.Layout as layout
 use Rattle.magic_paths.proofs.Tails.{below_is}
@@ -42,15 +43,8 @@ none_left (g ∷ fs) (suc i) e = none_left fs i e
 
 -- ---- what is put below an attempt's directory is no set
 
-cancel : (x y z : List ℕ) → x ++ y ≡ x ++ z → y ≡ z
-cancel [] y z e = e
-cancel (a ∷ x) y z e = cancel x y z (cc)
-
 unlike : (a b : ℕ) → a ≡ b → b < a → ⊥
 unlike a b e h = omega arith
-
-differ : (x y : List ℕ) → codes "/tasks/" ++ x ≡ codes "/sets/task_" ++ y → ⊥
-differ x y e = unlike 116 115 (ap (λ (l : List ℕ). get_or l 1 0) e) (lit< tt)
 
 apart : (dest id p : List ℕ) (t a u : ℕ) → below (layout.attempt_key dest id t a) p ≡ layout.set_key dest id u → ⊥
 apart dest id p t a u e =
@@ -59,7 +53,7 @@ apart dest id p t a u e =
     let behind = decimal t ++ (codes "_" ++ (decimal a ++ codes "/__base")) in
     let is : root ++ 47 ∷ p ≡ dest ++ (codes "/__magic/job-" ++ (id ++ (codes "/tasks/" ++ (behind ++ 47 ∷ p)))) = (simp append_assoc) in
     let same = sym is ∙ (sym (below_is root p long) ∙ e) in
-    differ (behind ++ 47 ∷ p) (decimal u ++ codes ".pendingset") (cancel id _ _ (cancel (codes "/__magic/job-") _ _ (cancel dest _ _ same)))
+    unlike 116 115 (ap (λ (l : List ℕ). get_or l 1 0) (append_cancel_left id _ _ (append_cancel_left (codes "/__magic/job-") _ _ (append_cancel_left dest _ _ same)))) (lit< tt)
 
 pub no_set : (w : Script) (a : Who) (p : List ℕ) → is_set_key w a.task w.dest.bucket (below (layout.attempt_key w.dest.key w.job a.task a.attempt) p) ≡ false
 no_set w a p =
@@ -86,9 +80,6 @@ pub part_gone : (t : Task) (f : File) (fs : List File) (n : ℕ) (p : List ℕ) 
     → write_told (seen_at t (f ∷ fs) (stage.Sending n)) (Got (Refused NoSuchUpload) b) ≡ record { plan = t; operation = writes.WriteOver (ends.Gone (file_key (task_script t) f)) }
 part_gone t f fs n p ps b e = ap (λ l. write_told (record { plan = t; operation = at_parts f fs l }) (Got (Refused NoSuchUpload) b)) e
 
-self_eq : (n : ℕ) → nat_eq n n ≡ true
-self_eq n = grind (arith, nat_tests)
-
 learn_others : (id : ℕ) (tag : Spelled) (size : ℕ) (ds : List Drawn) → is_new id ds ≡ true → map (with_part id tag size) ds ≡ ds
 learn_others id tag size [] h = refl
 learn_others id tag size (d ∷ ds) h =
@@ -97,7 +88,9 @@ learn_others id tag size (d ∷ ds) h =
     ∙ ap (λ (l : List Drawn). d ∷ l) (learn_others id tag size ds p.1)
 
 learn_first : (tag : Spelled) (size : ℕ) (d : Drawn) (ds : List Drawn) → is_new d.upload ds ≡ true → map (with_part d.upload tag size) (d ∷ ds) ≡ with_last tag size (d ∷ ds)
-learn_first tag size d ds h = ap (λ (b : Bool). cond b (record { key = d.key; upload = d.upload; tags = d.tags ++ tag ∷ []; sizes = d.sizes ++ size ∷ [] }) d ∷ map (with_part d.upload tag size) ds) (self_eq d.upload)
+learn_first tag size d ds h =
+    ap (λ (b : Bool). cond b (record { key = d.key; upload = d.upload; tags = d.tags ++ tag ∷ []; sizes = d.sizes ++ size ∷ [] }) d ∷ map (with_part d.upload tag size) ds)
+    (nat_true d.upload d.upload refl)
     ∙ ap (λ (l : List Drawn). record { key = d.key; upload = d.upload; tags = d.tags ++ tag ∷ []; sizes = d.sizes ++ size ∷ [] } ∷ l) (learn_others d.upload tag size ds h)
 
 pub learn_last : (tag : Spelled) (size : ℕ) (ds : List Drawn) (parts : List (List ℕ)) → HasSent ds parts → map (with_part (first_drawn ds).upload tag size) ds ≡ with_last tag size ds
@@ -122,19 +115,18 @@ part_sent t f fs n p tag b parts e h =
 
 -- ---- what came back
 
-len_more : {X : Type 0} (xs : List X) (x : X) → length (xs ++ x ∷ []) ≡ length xs + 1
-len_more xs x = one_longer xs x
-
-map_more : {X Y : Type 0} (g : X → Y) (xs : List X) (x : X) → map g (xs ++ x ∷ []) ≡ map g xs ++ g x ∷ []
-map_more g [] x = refl
-map_more g (y ∷ xs) x = ap (λ l. g y ∷ l) (map_more g xs x)
-
 all_more : (tags : List Spelled) (tag : Spelled) → list_all is_plain_tag tags ≡ true → is_plain_tag tag ≡ true → list_all is_plain_tag (tags ++ tag ∷ []) ≡ true
 all_more tags tag h e = list_all-append is_plain_tag tags (tag ∷ []) ∙ rw (h, e) refl
 
 pub has_more : (ds : List Drawn) (parts : List (List ℕ)) (p : List ℕ) (tag : Spelled) → HasSent ds parts → is_plain_tag tag ≡ true → HasSent (with_last tag (length p) ds) (parts ++ p ∷ [])
 has_more [] parts p tag h e = absurd h
-has_more (d ∷ ds) parts p tag h e = (h.0, len_more d.tags tag ∙ (ap (λ n. n + 1) h.1 ∙ sym (len_more parts p)), ap (λ (l : List ℕ). l ++ length p ∷ []) h.2 ∙ sym (map_more length parts p), all_more d.tags tag h.3 e)
+has_more (d ∷ ds) parts p tag h e = (
+  h.0,
+  one_longer d.tags tag ∙ (ap (λ n. n + 1) h.1 ∙ sym (one_longer parts p)),
+  ap (λ (l : List ℕ). l ++ length p ∷ []) h.2
+      ∙ sym (map-append length parts (p ∷ [])),
+  all_more d.tags tag h.3 e,
+)
 
 pub take_next : (n : ℕ) (parts : List (List ℕ)) (p : List ℕ) (rest : List (List ℕ)) → drop n parts ≡ p ∷ rest → take (n + 1) parts ≡ take n parts ++ p ∷ []
 take_next zero [] p rest e = absurd (cc)

@@ -1,5 +1,5 @@
 -- What a staged commit asks, and where replies lead it.
-use Rattle.std.proofs.Common.{◌≡◌, ℕ, suc, ◌+◌, ◌<◌, ◌≤◌, ◌&&◌, nat_le, nat_lt, cond, Bool, true, false, List, [], ◌∷◌, ◌++◌, length, take, drop, get_or, slice_get, Option, Some, None, Result, Ok, Err, OnOk, OnErr, refl, sym, ap, subst, ◌∙◌, arith, length-drop}
+use Rattle.std.proofs.Common.{◌≡◌, ℕ, suc, ◌+◌, ◌<◌, ◌≤◌, ◌&&◌, nat_le, nat_lt, cond, Bool, true, false, List, [], ◌∷◌, ◌++◌, length, take, drop, get_or, slice_get, Option, Some, None, Result, Ok, Err, OnOk, OnErr, refl, sym, ap, subst, ◌∙◌, arith, length-drop, length-take-le}
 use Rattle.path_keys.proofs.Common.{true≢false, drop_all, take_all, at_most_is, at_most_so, below_is, below_not, some_parts}
 use Rattle.job_protocol.specs.Prelude.{Spelled, is_plain_tag, Committer, Magic, Request, CreateUpload, UploadPart, ClusterPut, Reply, Part, Refused, NoSuchUpload, Got, WornOut, Pending, PendingSet, File, Task, Drawn, Known, with_last, IsTask, Script, TaskEnd, Attempting, task_script, who_of, with_known, learned, task_commit_wants, task_commit_told, drawn_last, first_drawn, files, file_key, file_record, set_text, Creating, sending, TaskCommit, Storing, Renaming, TaskCommitOver, storing, checking, to_check, uploaded, renamed, temporary_path, task_commit_start, task_commit_start_by}
 use Rattle.machine.specs.Prelude.{Upload}
@@ -12,7 +12,7 @@ use Rattle.task_requests.specs.Writing.{is_new, one_more, HasSent, with_drawn, w
 use Rattle.task_requests.specs.declared.stage.WriteStage.{WriteStage}
 use Rattle.task_requests.specs.declared.stage.WriteStage.TheVariants as write_stages
 use Rattle.task_requests.proofs.Told.{own_files, front_is, none_left, learn_last, has_more, take_next}
-use Rattle.task_requests.proofs.Steps.{file_is, first_part, first_tags, take_length, some_drawn}
+use Rattle.task_requests.proofs.Steps.{file_is, first_part, first_tags, some_drawn}
 use Rattle.task_machines.specs.Commits.{FitsCommit}
 use Rattle.task_staging.specs.declared.staging.Stage.{Stage}
 use Rattle.task_staging.specs.declared.staging.Stage.TheVariants as stages
@@ -86,11 +86,9 @@ is_sent t s ds place n h i = by (drop place t.files) refl (subst (λ x. HoldsAt 
 pub none_checked : (t : Task) (s : Stage) (ds : List (List ℕ)) (place n : ℕ) → HoldsAt t s ds place → s ≡ stages.Sending n → ds ≡ []
 none_checked t s ds place n h i = (subst (λ x. HoldsAt t x ds place) i h).0
 
-pub part_within : {t : Task} {place n : ℕ} → IsSent t place n → place < length t.files
-part_within k = k.within
-
-pub part_more : {t : Task} {place n : ℕ} → IsSent t place n → n < length (parts_in t (file_at t place))
-part_more k = k.more
+-- the same of what is kept
+pub sent_here : (t : Task) (h : Staging) (n : ℕ) → h.end ≡ None → KeepsBy t h h.end → h.stage ≡ stages.Sending n → IsSent t h.place n
+sent_here t h n e k i = is_sent t h.stage h.checks h.place n (holds_open t h e k).at i
 
 pub part_behind_is : {t : Task} {place n : ℕ} → IsSent t place n → IsBehind (parts_in t (file_at t place)) t.known.drawn (write_stages.Sending n)
 part_behind_is {t = t} {place = place} {n = n} k = (k.more, some_drawn t.known.drawn (take n (parts_in t (file_at t place))) k.sent)
@@ -118,7 +116,7 @@ asks_next t s ds place end set e i n g = by (drop place t.files) refl ∙ sym (a
 from_part : (t : Task) (f : File) (fs : List File) (n : ℕ) → n < length (parts_in t f) → HasSent t.known.drawn (take n (parts_in t f)) → Some (asks_behind t f (write_stages.Sending n)) ≡ task_commit_wants (at t (sending_from f fs (drop n (parts_in t f))))
 from_part t f fs n h g =
     let within : n ≤ length (parts_in t f) = omega arith in
-    let tags : length (drawn_last t.known).tags ≡ n = first_tags t.known.drawn (take n (parts_in t f)) g ∙ take_length n (parts_in t f) within in
+    let tags : length (drawn_last t.known).tags ≡ n = first_tags t.known.drawn (take n (parts_in t f)) g ∙ length-take-le n (parts_in t f) within in
     ap (λ m. Some (UploadPart t.job.dest.bucket (file_key (task_script t) f) (drawn_last t.known).upload (m + 1) (part_behind t f.1 n))) (sym tags)
     ∙ ap (λ l. task_commit_wants (at t (sending_from f fs l))) (sym (first_part t f n h))
 
@@ -243,10 +241,6 @@ module _ (t : Task) (s : Stage) (ds : List (List ℕ)) (place : ℕ) (end : Opti
 
 -- ---- a part came back
 
-key_more : (tag : Spelled) (size : ℕ) (key : List ℕ) (ds : List Drawn) → IsOfKey key ds → IsOfKey key (with_last tag size ds)
-key_more tag size key [] h = absurd h
-key_more tag size key (d ∷ ds) h = h
-
 part_told : (t : Task) (f : File) (fs : List File) (n : ℕ) (tag : Spelled) (b : Bool) → n < length (parts_in t f) → HasSent t.known.drawn (take n (parts_in t f))
     → at (with_known t (with_tag t.known tag (length (part_behind t f.1 n)))) (sending_from f fs (drop (n + 1) (parts_in t f))) ≡ task_commit_told (at t (sending_from f fs (drop n (parts_in t f)))) (Got (Part tag) b)
 part_told t f fs n tag b h g =
@@ -285,7 +279,15 @@ module _ (t : Task) (s : Stage) (ds : List (List ℕ)) (place n : ℕ) (end : Op
 
   module _ (more : n + 1 < length (parts_in t (file_at t place))) where
     sent_more : IsSent after place (n + 1)
-    sent_more = record { within = here.within; more = more; sent = all_sent; key = key_more tag (length (part_behind t (file_at t place).1 n)) (file_key (task_script t) (file_at t place)) t.known.drawn here.key }
+    sent_more =
+        let key = file_key (task_script t) (file_at t place) in
+        let size' = length (part_behind t (file_at t place).1 n) in
+        record {
+          within = here.within;
+          more = more;
+          sent = all_sent;
+          key = (elim t.known.drawn as (λ ds. IsOfKey key ds → IsOfKey key (with_last tag size' ds)) [ [] ↦ λ h. h | d ∷ ds ↦ λ h. h ]) here.key;
+        }
 
     pub send_told : (b : Bool) → at t' (staged_by t' (stages.Sending (n + 1)) ds place end) ≡ task_commit_told (at t (staged_by t s ds place end)) (Got (Part tag) b)
     send_told b =
@@ -300,15 +302,12 @@ module _ (t : Task) (s : Stage) (ds : List (List ℕ)) (place n : ℕ) (end : Op
           at = (none_checked t s ds place n hold i, subst (HoldsSent (task_script t) t.minimum after.known (n + 1)) (sym (front_at t.files place here.within)) (sent_more.more, sent_more.sent, sent_more.key));
         })
 
-    same_upload : (ds : List Drawn) (size : ℕ) → (first_drawn (with_last tag size ds)).upload ≡ (first_drawn ds).upload
-    same_upload [] size = refl
-    same_upload (d ∷ ds) size = refl
-
     pub send_next : (r : Request) → r ≡ asks_behind t (file_at t place) (write_stages.Sending (n + 1)) → Some r ≡ task_commit_wants (at t' (staged_by t' (stages.Sending (n + 1)) ds place end))
     send_next r q =
         let f = file_at t place in
         ap Some q
-        ∙ (ap (λ x. Some (UploadPart t.job.dest.bucket (file_key (task_script t) f) x ((n + 1) + 1) (part_behind t f.1 (n + 1)))) (sym (same_upload t.known.drawn (length (part_behind t f.1 n))))
+        ∙ (ap (λ x. Some (UploadPart t.job.dest.bucket (file_key (task_script t) f) x ((n + 1) + 1) (part_behind t f.1 (n + 1))))
+        (elim t.known.drawn as (λ ds. (first_drawn ds).upload ≡ (first_drawn (with_last tag (length (part_behind t f.1 n)) ds)).upload) [ [] ↦ refl | d ∷ ds ↦ refl ])
         ∙ (asks_part after (stages.Sending (n + 1)) ds place (n + 1) end e refl sent_more ∙ sym (ap (λ x. task_commit_wants (at x (staged_by x (stages.Sending (n + 1)) ds place end))) after_is)))
 
     pub next_behind : IsBehind (parts_in t (file_at t place)) t.known.drawn (write_stages.Sending (n + 1))
@@ -378,25 +377,17 @@ unfolding Tells
 worn_storing t [] = refl
 worn_storing t (f ∷ fs) = refl
 
-worn_opening : (t : Task) (ds : List (List ℕ)) (fs : List File) → Tells t (opening ds fs)
-unfolding Tells
-worn_opening t [] fs = worn_storing t fs
-worn_opening t (d ∷ ds) fs = refl
-
 worn_from : (t : Task) (f : File) (fs : List File) (ps : List (List ℕ)) → Tells t (sending_from f fs ps)
 unfolding Tells
 worn_from t f fs [] = worn_storing t fs
 worn_from t f fs (p ∷ ps) = refl
 
-worn_sending : (t : Task) (n : ℕ) (fs : List File) → Tells t (sending_at (task_script t) t.minimum n fs)
-unfolding Tells
-worn_sending t n [] = refl
-worn_sending t n (f ∷ fs) = worn_from t f fs (drop n (parts_in t f))
-
 worn_at : (t : Task) (s : Stage) (ds : List (List ℕ)) (fs : List File) → Tells t (staged_at (task_script t) t.minimum s ds fs)
 unfolding Tells
-worn_at t stages.Opening ds fs = worn_opening t ds fs
-worn_at t (stages.Sending n) ds fs = worn_sending t n fs
+worn_at t stages.Opening [] fs = worn_storing t fs
+worn_at t stages.Opening (d ∷ ds) fs = refl
+worn_at t (stages.Sending n) ds [] = refl
+worn_at t (stages.Sending n) ds (f ∷ fs) = worn_from t f fs (drop n (parts_in t f))
 worn_at t stages.Renaming ds fs = refl
 
 worn_by : (t : Task) (s : Stage) (ds : List (List ℕ)) (place : ℕ) (end : Option TaskEnd) → Tells t (staged_by t s ds place end)

@@ -2,7 +2,7 @@
 use Rattle.std.proofs.Common.{◌≡◌, refl, sym, subst}
 use Rattle.std.specs.Prelude.{IsSome}
 use Rattle.path_keys.proofs.Common.{false≢true}
-use Rattle.job_protocol.specs.Prelude.{Committer, Magic, Task, TaskEnd, task_script, who_of, write_wants, files, write_start, write_start_by}
+use Rattle.job_protocol.specs.Prelude.{Magic, Task, TaskEnd, task_script, who_of, write_wants, files, write_start, write_start_by}
 use Rattle.job_model.specs.declared.ends.TaskEnd.TheVariants as ends
 use Rattle.job_protocol.specs.Writes as writes
 use Rattle.task_machines.specs.Tasks.{at}

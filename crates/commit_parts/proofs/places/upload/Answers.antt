@@ -1,8 +1,12 @@
-use Rattle.commit_parts.proofs.Placing.{place_within, set_within, upload_within, upload_is}
+use Rattle.commit_parts.proofs.Placing.{set_within, upload_within, upload_is, placed_at}
+use Rattle.std.proofs.Common.{ap, ◌∙◌, slice_get}
+use Rattle.path_keys.proofs.Common.{slice_get_within}
 use Rattle.commit_parts.proofs.places.upload.Goals as goal
 
 pub place_at-place-requires : goal.place_at-place-requires
-place_at-place-requires c = place_within c.args.sets.now c.args.places.now c.args.number c.requires.places c.requires.within
+place_at-place-requires c =
+    let r = placed_at 0 c.args.sets.now c.args.number c.requires.within in
+    slice_get_within c.args.places.now c.args.number r.0 (ap (λ v. slice_get v c.args.number) c.requires.places ∙ r.1)
 
 pub set_at-requires : goal.set_at-requires
 set_at-requires c = set_within c.args.sets.now c.args.places.now c.args.number c.place_at-place.result c.requires.places c.requires.within c.place_at-place.ensures

@@ -1,10 +1,10 @@
-use Rattle.std.proofs.Common.{◌≡◌, ◌+◌, ◌-◌, ◌<◌, ◌≤◌, arith}
-use Rattle.job_protocol.specs.Prelude.{is_tried}
-use Rattle.commit_parts.proofs.Undoing.{tried_begin, tried_turn, tried_below, tried_end}
+use Rattle.std.proofs.Common.{◌≡◌, ◌+◌, ◌-◌, ◌<◌, ◌≤◌, arith, refl}
+use Rattle.job_protocol.specs.Prelude.{undo, is_tried}
+use Rattle.commit_parts.proofs.Undoing.{adds_begin, adds_end, tried_turn, tried_below}
 use Rattle.commit_parts.proofs.reverting.add_tried.Goals as goal
 
 pub loop-n-init : goal.loop-n-init
-loop-n-init c = (omega arith, tried_begin c.args.total c.args.lanes.now.turns c.args.list.now, λ w. w)
+loop-n-init c = (omega arith, adds_begin undo (is_tried c.args.lanes.now.turns) c.args.total c.args.list.now refl, λ w. w)
 
 pub loop-n-preserved : goal.loop-n-preserved
 loop-n-preserved c =
@@ -17,7 +17,7 @@ loop-n-preserved c =
     )
 
 pub returns-clause-adds : goal.returns-clause-adds
-returns-clause-adds c = tried_end c.args.total c.args.lanes.now.turns c.loop-n.n c.args.list.now c.loop-n.list (omega arith) c.loop-n.invariant.1
+returns-clause-adds c = adds_end undo (is_tried c.args.lanes.now.turns) c.args.total c.loop-n.n c.args.list.now c.loop-n.list (omega arith) c.loop-n.invariant.1
 
 pub returns-clause-within : goal.returns-clause-within
 returns-clause-within c = c.loop-n.invariant.2

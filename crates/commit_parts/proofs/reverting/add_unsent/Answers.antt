@@ -1,10 +1,10 @@
-use Rattle.std.proofs.Common.{◌≡◌, ◌+◌, ◌-◌, ◌<◌, ◌≤◌, ◌||◌, nat_eq, arith, ap, ◌∙◌}
-use Rattle.job_protocol.specs.Prelude.{is_tried, is_in}
-use Rattle.commit_parts.proofs.Undoing.{unsent_begin, unsent_turn, unsent_below, unsent_end}
+use Rattle.std.proofs.Common.{◌≡◌, ◌+◌, ◌-◌, ◌<◌, ◌≤◌, ◌||◌, nat_eq, arith, refl, map, ap, ◌∙◌}
+use Rattle.job_protocol.specs.Prelude.{abort, is_tried, is_in, is_unsent}
+use Rattle.commit_parts.proofs.Undoing.{adds_begin, adds_end, unsent_turn, unsent_below}
 use Rattle.commit_parts.proofs.reverting.add_unsent.Goals as goal
 
 pub loop-n-init : goal.loop-n-init
-loop-n-init c = (omega arith, unsent_begin c.args.total c.args.worn c.args.lanes.now.turns c.args.lanes.now.finished c.args.list.now, λ w. w)
+loop-n-init c = (omega arith, adds_begin (map abort) (is_unsent c.args.worn c.args.lanes.now.turns c.args.lanes.now.finished) c.args.total c.args.list.now refl, λ w. w)
 
 pub loop-n-preserved : goal.loop-n-preserved
 loop-n-preserved c =
@@ -18,7 +18,9 @@ loop-n-preserved c =
     )
 
 pub returns-clause-adds : goal.returns-clause-adds
-returns-clause-adds c = unsent_end c.args.total c.args.worn c.args.lanes.now.turns c.args.lanes.now.finished c.loop-n.n c.args.list.now c.loop-n.list (omega arith) c.loop-n.invariant.1
+returns-clause-adds c =
+    adds_end (map abort) (is_unsent c.args.worn c.args.lanes.now.turns c.args.lanes.now.finished) c.args.total c.loop-n.n c.args.list.now c.loop-n.list
+    (omega arith) c.loop-n.invariant.1
 
 pub returns-clause-within : goal.returns-clause-within
 returns-clause-within c = c.loop-n.invariant.2

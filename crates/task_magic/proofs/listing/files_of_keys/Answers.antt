@@ -1,9 +1,9 @@
-use Rattle.std.proofs.Common.{◌∙◌, ap, sym, length, take, List, ℕ, ◌++◌, ◌∷◌, [], ◌+◌, map}
+use Rattle.std.proofs.Common.{◌∙◌, ap, sym, length, take, List, ℕ, ◌++◌, ◌∷◌, [], ◌+◌, map, replicate, false}
 use Rattle.path_keys.proofs.Common.{take_more}
 use Rattle.job_protocol.specs.Prelude.{Task}
 use Rattle.task_requests.specs.Publishing.{are_places, picked}
 use Rattle.task_magic.specs.Committing.{record_of}
-use Rattle.task_magic.proofs.Listed.{first_seen, ordered_with, records_with, seen_with, places_with, within_seen}
+use Rattle.task_magic.proofs.Listed.{ordered_with, records_with, seen_with, places_with, within_seen, nothing_seen}
 use Rattle.task_magic.proofs.listing.files_of_keys.Goals as goal
 
 pub loop-key-init : goal.loop-key-init
@@ -11,7 +11,8 @@ loop-key-init c = record {
   places = ap (are_places (length c.args.plan.now.files)) c.new.ensures;
   records = c.new-2.ensures ∙ sym (ap (λ (l : List ℕ). map (record_of c.args.plan.now) (picked c.args.plan.now.files l)) c.new.ensures);
   files = ap (picked c.args.plan.now.files) c.new.ensures;
-  seen = first_seen c.args.plan.now c.len.result c.in_ok-seen.seen.items (c.len.ensures ∙ ap (λ (t : Task). length t.files) c.plan.view_is) c.in_ok-seen.ensures;
+  seen = c.in_ok-seen.ensures
+      ∙ (ap (λ m. replicate m false) (c.len.ensures ∙ ap (λ (t : Task). length t.files) c.plan.view_is) ∙ nothing_seen c.args.plan.now c.args.plan.now.files);
 }
 
 pub add_place-requires : goal.add_place-requires

@@ -1,5 +1,7 @@
-use Rattle.task_requests.proofs.InOrder.{made_is}
+use Rattle.task_requests.proofs.InOrder.{made_reverse}
+use Rattle.path_keys.proofs.Common.{reverse-reverse}
+use Rattle.std.proofs.Common.{◌∙◌, sym, reverse, ap}
 use Rattle.task_requests.proofs.drawn.made.Goals as goal
 
 pub returns : goal.returns
-returns c = made_is c.args.known.now.drawn _ c.as_made.ensures
+returns c = sym (reverse-reverse _) ∙ (ap reverse c.as_made.ensures ∙ sym (made_reverse c.args.known.now.drawn))

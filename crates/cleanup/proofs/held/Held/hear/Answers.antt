@@ -1,8 +1,8 @@
-use Rattle.std.proofs.Common.{ap, ◌∙◌, length}
-use Rattle.job_protocol.specs.Prelude.{Job, job_script}
-use Rattle.cleanup.specs.Held.{clean_of}
+use Rattle.std.proofs.Common.{ap, ◌∙◌, length, sym, drop}
+use Rattle.job_protocol.specs.Prelude.{Job, job_script, clean_hears, removing}
+use Rattle.cleanup.specs.Held.{clean_of, within, clean_at}
 use Rattle.cleanup.specs.Places.{behind}
-use Rattle.cleanup.proofs.Places.{hears_aborting, hears_removing}
+use Rattle.cleanup.proofs.Places.{hears_aborting, remove_goes}
 use Rattle.cleanup.proofs.held.Held.hear.Goals as goal
 
 pub returns-in-Aborting-clause-goes : goal.returns-in-Aborting-clause-goes
@@ -16,7 +16,7 @@ returns-in-Aborting-clause-goes c =
 pub returns-in-Removing-clause-goes : goal.returns-in-Removing-clause-goes
 returns-in-Removing-clause-goes c =
     let h = c.args.self.now in
-    hears_removing (job_script c.args.plan.now) c.args.reply.now h.stage h.uploads h.sweep h.paths h.at c.next_place-at-in-Removing.result (clean_of c.remove_from.new.self)
-    c.in-Removing.is c.requires.there
-    (c.next_place-at-in-Removing.ensures ∙ ap (behind c.args.self.now.at 1) c.len-in-Removing.ensures)
-    c.remove_from.ensures.goes
+    c.remove_from.ensures.goes ∙ ap (λ m. removing (drop m h.paths)) (c.next_place-at-in-Removing.ensures ∙ ap (behind c.args.self.now.at 1) c.len-in-Removing.ensures)
+    ∙ remove_goes (job_script c.args.plan.now) c.args.reply.now h.paths h.at
+    (ap (λ s. within s h.at (length h.uploads) (length h.paths)) (sym c.in-Removing.is) ∙ c.requires.there)
+    ∙ ap (λ s. clean_hears (job_script c.args.plan.now) (clean_at s h.uploads h.sweep h.paths h.at) c.args.reply.now) (sym c.in-Removing.is)

@@ -1,5 +1,6 @@
 use Rattle.std.proofs.Common.{refl, sym, ◌∙◌}
-use Rattle.job_commit.proofs.Steps.{deleting_next, deleted_next}
+use Rattle.job_commit.proofs.Steps.{deleting_next, over_below, next_same}
+use Rattle.path_keys.proofs.Common.{on_ok_weaker}
 use Rattle.job_commit.proofs.basis.Basis.delete_on.Goals as goal
 
 pub returns-in-Some-clause-ok : goal.returns-in-Some-clause-ok
@@ -8,4 +9,6 @@ returns-in-Some-clause-ok c =
 
 pub returns-in-None-clause-ok : goal.returns-in-None-clause-ok
 returns-in-None-clause-ok c =
-    deleted_next c.dealing.result c.args.self.now.plan c.args.self.now.sets c.args.self.now.places c.args.deletion c.args.self.now.plan.dest.bucket c.dealing.new.next (sym c.in-None.is ∙ c.requires.asked) c.dealing.ensures.ok
+    on_ok_weaker c.dealing.result
+    (next_same _ _ (over_below c.args.self.now.plan c.args.self.now.sets c.args.deletion.sweep c.args.self.now.plan.dest.bucket c.args.deletion.prefixes
+    (sym c.in-None.is ∙ c.requires.asked))) c.dealing.ensures.ok

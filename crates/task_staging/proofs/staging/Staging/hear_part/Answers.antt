@@ -4,7 +4,7 @@ use Rattle.job_model.specs.declared.ends.TaskEnd.TheVariants as ends
 use Rattle.task_staging.specs.declared.staging.Staging.{Staging}
 use Rattle.task_staging.specs.Staging.{seen, Keeps}
 use Rattle.task_requests.proofs.Steps.{tag_plain, tag_none}
-use Rattle.task_staging.proofs.Staged.{holds_open, is_sent, part_within, open_fits, gone_told, told_part}
+use Rattle.task_staging.proofs.Staged.{holds_open, is_sent, sent_here, open_fits, gone_told, told_part}
 use Rattle.task_staging.proofs.staging.Staging.hear_part.Goals as goal
 
 pub add_part-requires-clause-plain : goal.add_part-requires-clause-plain
@@ -24,10 +24,7 @@ returns-in-Some c =
     }
 
 pub gone_name-requires : goal.gone_name-requires
-gone_name-requires c =
-    let t = c.args.plan.now in
-    let h = c.args.self.now in
-    part_within (is_sent t h.stage h.checks h.place c.args.sent (holds_open t h c.requires.at.end c.requires.at.keeps).at c.requires.at.stage)
+gone_name-requires c = (sent_here c.args.plan.now c.args.self.now c.args.sent c.requires.at.end c.requires.at.keeps c.requires.at.stage).within
 
 pub returns-in_ok-name-in-None : goal.returns-in_ok-name-in-None
 returns-in_ok-name-in-None c =

@@ -1,19 +1,13 @@
 use Rattle.std.proofs.Common.{ap, Some, ◌∙◌}
 use Rattle.job_protocol.specs.Prelude.{Request}
-use Rattle.task_staging.proofs.Staged.{holds_open, is_sent, part_within, part_behind_is, asks_part}
+use Rattle.task_staging.proofs.Staged.{holds_open, is_sent, sent_here, part_behind_is, asks_part}
 use Rattle.task_staging.proofs.staging.Staging.part_request.Goals as goal
 
 pub part_request-requires-clause-within : goal.part_request-requires-clause-within
-part_request-requires-clause-within c =
-    let t = c.args.plan.now in
-    let h = c.args.self.now in
-    part_within (is_sent t h.stage h.checks h.place c.args.sent (holds_open t h c.requires.end c.requires.keeps).at c.requires.stage)
+part_request-requires-clause-within c = (sent_here c.args.plan.now c.args.self.now c.args.sent c.requires.end c.requires.keeps c.requires.stage).within
 
 pub part_request-requires-clause-behind : goal.part_request-requires-clause-behind
-part_request-requires-clause-behind c =
-    let t = c.args.plan.now in
-    let h = c.args.self.now in
-    part_behind_is (is_sent t h.stage h.checks h.place c.args.sent (holds_open t h c.requires.end c.requires.keeps).at c.requires.stage)
+part_request-requires-clause-behind c = part_behind_is (sent_here c.args.plan.now c.args.self.now c.args.sent c.requires.end c.requires.keeps c.requires.stage)
 
 pub returns-in-Ok : goal.returns-in-Ok
 returns-in-Ok c =

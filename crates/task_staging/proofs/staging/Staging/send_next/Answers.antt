@@ -1,6 +1,6 @@
 use Rattle.std.proofs.Common.{refl, ◌∙◌, arith}
 use Rattle.path_keys.proofs.Common.{few_parts}
-use Rattle.task_staging.proofs.Staged.{keeps_open, file_at, holds_open, is_sent, part_within, next_behind, send_told, send_holds, send_next}
+use Rattle.task_staging.proofs.Staged.{keeps_open, file_at, holds_open, sent_here, next_behind, send_told, send_holds, send_next}
 use Rattle.task_staging.proofs.staging.Staging.send_next.Goals as goal
 
 pub overflow_add-sent : goal.overflow_add-sent
@@ -9,10 +9,7 @@ overflow_add-sent c =
     omega (arith, few_parts t.block t.minimum (file_at t c.args.self.now.place).1, c.requires.more)
 
 pub part_request-requires-clause-within : goal.part_request-requires-clause-within
-part_request-requires-clause-within c =
-    let t = c.args.plan.now in
-    let h = c.args.self.now in
-    part_within (is_sent t h.stage h.checks h.place c.args.sent (holds_open t h c.requires.at.end c.requires.at.keeps).at c.requires.at.stage)
+part_request-requires-clause-within c = (sent_here c.args.plan.now c.args.self.now c.args.sent c.requires.at.end c.requires.at.keeps c.requires.at.stage).within
 
 pub part_request-requires-clause-behind : goal.part_request-requires-clause-behind
 part_request-requires-clause-behind c =
