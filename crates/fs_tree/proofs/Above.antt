@@ -1,8 +1,9 @@
 -- The paths above a path.
-use Rattle.std.proofs.Common.{◌≡◌, ◌⊎◌, inl, inr, ℕ, zero, suc, ◌<◌, ◌&&◌, ◌==◌, not, nat_eq, nat_le, Bool, true, false, List, [], ◌∷◌, ◌++◌, map, length, refl, sym, ap, subst, ◌∙◌, arith, length-append, append_assoc}
+use Rattle.std.proofs.Common.{◌≡◌, ◌⊎◌, inl, inr, ℕ, zero, suc, ◌<◌, ◌&&◌, ◌==◌, not, nat_eq, nat_le, true, false, List, [], ◌∷◌, ◌++◌, map, length, refl, sym, ap, subst, ◌∙◌, arith, length-append, append_assoc}
 use Rattle.fs_tree.specs.Prelude.{list_all, is_other, is_element, are_elements, is_key_path, trimmed, begins, is_key, below, marker_of, keys_above, IsIn, is_marker, parent}
 use Rattle.s3_types.specs.Prelude.{join_with_byte}
-use Rattle.path_keys.proofs.Common.{false≢true, eqb-true, list_all-append, one_part, parts_append, eq_nat, in_append, in_front, in_last}
+use Rattle.proof_base.proofs.Bools.{contrary}
+use Rattle.path_keys.proofs.Common.{true_or_false, false≢true, eqb-true, list_all-append, one_part, parts_append, eq_nat, in_append, in_front, in_last}
 use Rattle.words.specs.Parts.{parts_of}
 use Rattle.path_keys.proofs.Ends.{no_end}
 use Rattle.path_keys.proofs.Keys.{some_key}
@@ -21,15 +22,10 @@ Cut p = NoSlash p ⊎ ((front : List ℕ) × (back : List ℕ) × (p ≡ front +
 
 pub cut : (p : List ℕ) → Cut p
 cut [] = inl refl
-cut (x ∷ p) = by (cut p)
-  where
-    here : (b : Bool) → (x == 47) ≡ b → NoSlash p → Cut (x ∷ p)
-    here true e n = inr ([], p, ap (λ v. v ∷ p) (eqb-true x 47 e), n)
-    here false e n = inl (ap (λ b. not b && list_all (is_other 47) p) e ∙ n)
-
-    by : Cut p → Cut (x ∷ p)
-    by (inl n) = here (x == 47) refl n
-    by (inr c) = inr (x ∷ c.0, c.1, ap (λ l. x ∷ l) c.2, c.3)
+cut (x ∷ p) = elim (cut p) [
+  | inr c ↦ inr (x ∷ c.0, c.1, ap (λ l. x ∷ l) c.2, c.3)
+  | inl n ↦ elim (true_or_false (x == 47)) [ inl e ↦ inr ([], p, ap (λ v. v ∷ p) (eqb-true x 47 e), n) | inr e ↦ inl (rw e n) ]
+]
 
 no_begin : (q p : List ℕ) → NoSlash p → begins (marker_of q) p ≡ true → ⊥
 no_begin q [] n h = no_empty q h
@@ -82,16 +78,14 @@ cut_shorter p front back n e h = let l = ap length e ∙ length-append front (47
 
 above_in : (n : ℕ) (q p : List ℕ) → length p < n → IsIn q (keys_above p) → begins (marker_of q) p ≡ true
 above_in zero q p l h = absurd (omega (arith, l))
-above_in (suc n) q p l h = by (cut p) (λ front g. above_in n q front g)
-  where
-    found : (front back : List ℕ) → p ≡ front ++ 47 ∷ back → (IsIn q (keys_above front) → begins (marker_of q) front ≡ true) → IsIn q (keys_above front) ⊎ IsIn q (front ∷ []) → begins (marker_of q) p ≡ true
-    found front back e ih (inl g) = begins_trans (marker_of q) front p (ih g) (ap (begins front) e ∙ begins_more front (47 ∷ back))
-    found front back e ih (inr (inl g)) = ap (λ v. begins (marker_of v) p) g ∙ ap (begins (marker_of front)) e ∙ front_begins front back
-    found front back e ih (inr (inr g)) = absurd g
-
-    by : Cut p → ((front : List ℕ) → length front < n → IsIn q (keys_above front) → begins (marker_of q) front ≡ true) → begins (marker_of q) p ≡ true
-    by (inl m) ih = absurd (subst (IsIn q) (none_above p m) h)
-    by (inr c) ih = found c.0 c.1 c.2 (ih c.0 (cut_shorter p c.0 c.1 n c.2 l)) (in_append q (keys_above c.0) (c.0 ∷ []) (subst (IsIn q) (more_above p c.0 c.1 c.2 c.3) h))
+above_in (suc n) q p l h = elim (cut p) [
+  | inl m ↦ absurd (rw (none_above p m) at h)
+  | inr c ↦ elim (in_append q (keys_above c.0) (c.0 ∷ []) (subst (IsIn q) (more_above p c.0 c.1 c.2 c.3) h)) [
+    | inl g ↦ begins_trans (marker_of q) c.0 p (above_in n q c.0 (cut_shorter p c.0 c.1 n c.2 l) g) (rw c.2 (begins_more c.0 (47 ∷ c.1)))
+    | inr (inl g) ↦ ap (λ v. begins (marker_of v) p) g ∙ ap (begins (marker_of c.0)) c.2 ∙ front_begins c.0 c.1
+    | inr (inr g) ↦ absurd g
+  ]
+]
 
 -- the marker of a directory above a path begins the path
 pub above_begins : (q p : List ℕ) → IsIn q (keys_above p) → begins (marker_of q) p ≡ true
@@ -99,17 +93,13 @@ above_begins q p h = above_in (suc (length p)) q p (omega arith) h
 
 in_above : (n : ℕ) (q p : List ℕ) → length p < n → begins (marker_of q) p ≡ true → IsIn q (keys_above p)
 in_above zero q p l h = absurd (omega (arith, l))
-in_above (suc n) q p l h = by (cut p) (λ front g. in_above n q front g)
-  where
-    found : (front : List ℕ) → (begins (marker_of q) front ≡ true → IsIn q (keys_above front)) → (q ≡ front) ⊎ (begins (marker_of q) front ≡ true) → IsIn q (keys_above front ++ front ∷ [])
-    found front ih (inl e) = subst (λ v. IsIn v (keys_above front ++ front ∷ [])) (sym e) (in_last front (keys_above front))
-    found front ih (inr g) = in_front q (keys_above front) (front ∷ []) (ih g)
-
-    by : Cut p → ((front : List ℕ) → length front < n → begins (marker_of q) front ≡ true → IsIn q (keys_above front)) → IsIn q (keys_above p)
-    by (inl m) ih = absurd (no_begin q p m h)
-    by (inr c) ih =
-        subst (IsIn q) (sym (more_above p c.0 c.1 c.2 c.3))
-        (found c.0 (ih c.0 (cut_shorter p c.0 c.1 n c.2 l)) (marker_at q c.0 (begins_cut q c.0 c.1 c.3 (ap (begins (marker_of q)) (sym c.2) ∙ h))))
+in_above (suc n) q p l h = elim (cut p) [
+  | inl m ↦ absurd (no_begin q p m h)
+  | inr c ↦ rw (more_above p c.0 c.1 c.2 c.3) (elim (marker_at q c.0 (begins_cut q c.0 c.1 c.3 (ap (begins (marker_of q)) (sym c.2) ∙ h))) [
+    | inl e ↦ rw e (in_last c.0 (keys_above c.0))
+    | inr g ↦ in_front q (keys_above c.0) (c.0 ∷ []) (in_above n q c.0 (cut_shorter p c.0 c.1 n c.2 l) g)
+  ])
+]
 
 -- and only theirs do
 pub begins_above : (q p : List ℕ) → begins (marker_of q) p ≡ true → IsIn q (keys_above p)
@@ -127,15 +117,11 @@ marker_ends (x ∷ y ∷ p) h = let w = marker_ends (y ∷ p) h in (x ∷ w.0, a
 
 -- it is no marker's
 pub key_no_marker : (x : ℕ) (p : List ℕ) → is_key (x ∷ p) ≡ true → is_marker (x ∷ p) ≡ false
-key_no_marker x p k = by (is_marker (x ∷ p)) refl
-  where
-    by : (b : Bool) → is_marker (x ∷ p) ≡ b → is_marker (x ∷ p) ≡ false
-    by false e = e
-    by true e =
-        let w = marker_ends (x ∷ p) e in
-        let parts = ap (parts_of 47) w.1 ∙ parts_append 47 w.0 [] ∙ ap (λ (l : List (List ℕ)). parts_of 47 w.0 ++ l) (one_part 47 [] refl) in
-        let all : (list_all is_element (parts_of 47 w.0) && false) ≡ true = sym (ap (list_all is_element) parts ∙ list_all-append is_element (parts_of 47 w.0) ([] ∷ [])) ∙ (some_key (x ∷ p) (omega arith) k).0 in
-        absurd (false≢true (both (list_all is_element (parts_of 47 w.0)) false all).1)
+key_no_marker x p k = contrary (is_marker (x ∷ p)) (λ e.
+    let w = marker_ends (x ∷ p) e in
+    let parts = ap (parts_of 47) w.1 ∙ parts_append 47 w.0 [] ∙ ap (λ (l : List (List ℕ)). parts_of 47 w.0 ++ l) (one_part 47 [] refl) in
+    let all : (list_all is_element (parts_of 47 w.0) && false) ≡ true = sym (ap (list_all is_element) parts ∙ list_all-append is_element (parts_of 47 w.0) ([] ∷ [])) ∙ (some_key (x ∷ p) (omega arith) k).0 in
+    (both (list_all is_element (parts_of 47 w.0)) false all).1)
 
 -- ---- the elements of an object's key
 
@@ -160,7 +146,10 @@ cut_elements a r h =
 
 -- before one that may be its last byte
 pub front_elements : (a r : List ℕ) → are_elements (trimmed (a ++ 47 ∷ r)) ≡ true → are_elements a ≡ true
-front_elements a r h = by (is_marker (47 ∷ r)) refl
+front_elements a r h = elim (true_or_false (is_marker (47 ∷ r))) [
+  | inl i ↦ let w = marker_ends (47 ∷ r) i in ended w.0 w.1
+  | inr i ↦ (cut_elements a r (ap are_elements (other_end (a ++ 47 ∷ r) (marker_behind a 47 r ∙ i)) ∙ h)).0
+]
   where
     ended : (f : List ℕ) → 47 ∷ r ≡ f ++ 47 ∷ [] → are_elements a ≡ true
     ended [] e = sym (marker_elements (a ++ 47 ∷ r) a (ap (λ l. a ++ l) e)) ∙ h
@@ -168,10 +157,6 @@ front_elements a r h = by (is_marker (47 ∷ r)) refl
         let s : 47 ≡ y = cc in
         let k : 47 ∷ r ≡ (47 ∷ f) ++ 47 ∷ [] = e ∙ ap (λ y. y ∷ f ++ 47 ∷ []) (sym s) in
         (cut_elements a f (sym (marker_elements (a ++ 47 ∷ r) (a ++ 47 ∷ f) (ap (λ l. a ++ l) k ∙ sym (append_assoc a (47 ∷ f) (47 ∷ [])))) ∙ h)).0
-
-    by : (b : Bool) → is_marker (47 ∷ r) ≡ b → are_elements a ≡ true
-    by true i = let w = marker_ends (47 ∷ r) i in ended w.0 w.1
-    by false i = (cut_elements a r (ap are_elements (other_end (a ++ 47 ∷ r) (marker_behind a 47 r ∙ i)) ∙ h)).0
 
 -- ---- the name of what is below a path
 

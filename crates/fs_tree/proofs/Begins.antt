@@ -9,11 +9,11 @@ both false b h = absurd (false≢true h)
 
 pub begins_more : (p t : List ℕ) → begins p (p ++ t) ≡ true
 begins_more [] t = refl
-begins_more (x ∷ p) t = ap (λ b. b && begins p (p ++ t)) (nat_true x x refl) ∙ begins_more p t
+begins_more (x ∷ p) t = rw (nat_true x x refl) (begins_more p t)
 
 pub begins_all : (p : List ℕ) → begins p p ≡ true
 begins_all [] = refl
-begins_all (x ∷ p) = ap (λ b. b && begins p p) (nat_true x x refl) ∙ begins_all p
+begins_all (x ∷ p) = rw (nat_true x x refl) (begins_all p)
 
 pub begins_marker : (p : List ℕ) → begins p (marker_of p) ≡ true
 begins_marker p = begins_more p (47 ∷ [])
@@ -35,11 +35,8 @@ one_begins (x ∷ a) (y ∷ b) [] h g = absurd (false≢true h)
 one_begins (x ∷ a) (y ∷ b) (z ∷ k) h g =
     let i = both (nat_eq x z) (begins a k) h in
     let j = both (nat_eq y z) (begins b k) g in
-    by (eq_nat x z i.0 ∙ sym (eq_nat y z j.0)) (one_begins a b k i.1 j.1)
-  where
-    by : x ≡ y → (begins a b ≡ true) ⊎ (begins b a ≡ true) → (begins (x ∷ a) (y ∷ b) ≡ true) ⊎ (begins (y ∷ b) (x ∷ a) ≡ true)
-    by e (inl i) = inl (ap (λ c. c && begins a b) (nat_true x y e) ∙ i)
-    by e (inr i) = inr (ap (λ c. c && begins b a) (nat_true y x (sym e)) ∙ i)
+    let e = eq_nat x z i.0 ∙ sym (eq_nat y z j.0) in
+    elim (one_begins a b k i.1 j.1) [ inl i ↦ inl (rw (nat_true x y e) i) | inr i ↦ inr (rw (nat_true y x (sym e)) i) ]
 
 pub begins_length : (p q : List ℕ) → begins p q ≡ true → length p ≤ length q
 begins_length [] q h = omega arith
@@ -63,8 +60,4 @@ marker_at (y ∷ q) [] h = absurd (no_empty q (both (nat_eq y 47) (begins (marke
 marker_at [] (x ∷ p) h = inr h
 marker_at (y ∷ q) (x ∷ p) h =
     let w = both (nat_eq y x) (begins (marker_of q) (marker_of p)) h in
-    by w.0 (marker_at q p w.1)
-  where
-    by : nat_eq y x ≡ true → (q ≡ p) ⊎ (begins (marker_of q) p ≡ true) → (y ∷ q ≡ x ∷ p) ⊎ (begins (marker_of (y ∷ q)) (x ∷ p) ≡ true)
-    by e (inl g) = inl (λ i. eq_nat y x e i ∷ g i)
-    by e (inr g) = inr (ap (λ b. b && begins (marker_of q) p) e ∙ g)
+    elim (marker_at q p w.1) [ inl g ↦ inl (λ i. eq_nat y x w.0 i ∷ g i) | inr g ↦ inr (rw w.0 g) ]

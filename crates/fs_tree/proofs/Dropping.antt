@@ -1,9 +1,10 @@
 -- Deleting a file or a directory, in the tree.
 use Rattle.std.proofs.Common.{◌≡◌, ◌⊎◌, inl, inr, ℕ, true, false, List, [], ◌∷◌, Option, Some, None, refl, sym, ap, subst, ◌∙◌, arith, length-append}
-use Rattle.path_keys.proofs.Common.{false≢true, none_some, some_is, true_or_false, same_or_other, text_gone, text_left, text_other}
-use Rattle.fs_tree.specs.Prelude.{Objects, begins, marker_of, Stands, SomeBelow, NoneBelow, is_marker, marker, HasDir, parent, marker_if, IsMarked, IsWithoutBelow}
+use Rattle.path_keys.proofs.Common.{false≢true, false_true, none_some, some_is, true_or_false, same_or_other, text_gone, text_left, text_other}
+use Rattle.fs_tree.specs.Prelude.{Objects, begins, marker_of, Stands, SomeBelow, is_marker, marker, HasDir, parent, marker_if, IsMarked, IsWithoutBelow}
 use Rattle.std.specs.FinMap as fin
 use Rattle.fs_tree.specs.Changes.{DropsFile, DropsDir}
+use Rattle.fs_tree.specs.Moves.{IsAtOrBelow}
 use Rattle.fs_tree.proofs.Begins.{begins_all, begins_trans, begins_marker, begins_length, one_begins, marker_is, marker_at}
 use Rattle.fs_tree.proofs.Above.{above_parent, parent_begins}
 use Rattle.fs_tree.proofs.Making.{put_stands, put_was, dir_of, has_marker}
@@ -39,24 +40,22 @@ marked_files u n m g k f = marked_other (marker_if u) n m g k (λ e. false≢tru
 
 -- ---- the path above
 
+-- no marker but the root's begins the root's
+pub not_above_root : (y : ℕ) (q : List ℕ) → begins (marker_of (y ∷ q)) (marker_of []) ≡ true → ⊥
+not_above_root y q h = let l = begins_length (marker_of (y ∷ q)) (marker_of []) h in omega (arith, l, length-append q (47 ∷ []))
+
 module _ (p : List ℕ) where
   -- the directory above is one still, and so are those above it
   pub above_kept : (u : List ℕ) → parent p ≡ u → (n m : Objects) → IsMarked (marker_if u) n m → (q : List ℕ) → begins (marker_of q) p ≡ true → HasDir m q
   above_kept u e n m g [] b = tt
-  above_kept [] e n m g (y ∷ q) b = absurd (too_long (above_parent (y ∷ q) p b))
-    where
-      too_long : begins (marker_of (y ∷ q)) (marker_of (parent p)) ≡ true → ⊥
-      too_long h =
-          let l = begins_length (marker_of (y ∷ q)) (marker_of []) (subst (λ v. begins (marker_of (y ∷ q)) (marker_of v) ≡ true) e h) in
-          omega (arith, l, length-append q (47 ∷ []))
-  above_kept (x ∷ u) e n m g (y ∷ q) b = by g
+  above_kept [] e n m g (y ∷ q) b = absurd (not_above_root y q (rw e at (above_parent (y ∷ q) p b)))
+  above_kept (x ∷ u) e n m g (y ∷ q) b = elim g [
+    | inl h ↦ rw h.1 (dir_of n (y ∷ q) (marker_of (x ∷ u)) up h.0)
+    | inr h ↦ rw h.1 (dir_of (fin.insert n (marker_of (x ∷ u)) marker) (y ∷ q) (marker_of (x ∷ u)) up (has_marker n (x ∷ u)))
+  ]
     where
       up : begins (marker_of (y ∷ q)) (marker_of (x ∷ u)) ≡ true
-      up = subst (λ v. begins (marker_of (y ∷ q)) (marker_of v) ≡ true) e (above_parent (y ∷ q) p b)
-
-      by : (SomeBelow n (marker_of (x ∷ u)) × (m ≡ n)) ⊎ (NoneBelow n (marker_of (x ∷ u)) × (m ≡ fin.insert n (marker_of (x ∷ u)) marker)) → HasDir m (y ∷ q)
-      by (inl h) = subst (λ m. HasDir m (y ∷ q)) (sym h.1) (dir_of n (y ∷ q) (marker_of (x ∷ u)) up h.0)
-      by (inr h) = subst (λ m. HasDir m (y ∷ q)) (sym h.1) (dir_of (fin.insert n (marker_of (x ∷ u)) marker) (y ∷ q) (marker_of (x ∷ u)) up (has_marker n (x ∷ u)))
+      up = rw e at (above_parent (y ∷ q) p b)
 
   -- a marker that begins the one above begins the path
   pub through : (u : List ℕ) → parent p ≡ u → (k q : List ℕ) → marker_if u ≡ Some k → begins (marker_of q) k ≡ true → begins (marker_of q) p ≡ true
@@ -95,20 +94,27 @@ module _ (p : List ℕ) (z m : Objects) (g : IsMarked (marker_if (parent p)) (fi
 
 -- ---- a directory
 
+-- the marker above a path is no key below it
+pub marker_not_below : (x : ℕ) (p u k : List ℕ) → parent (x ∷ p) ≡ u → marker_if u ≡ Some k → begins (marker_of (x ∷ p)) k ≡ true → ⊥
+marker_not_below x p [] k e f b = absurd (cc)
+marker_not_below x p (v ∷ u) k e f b =
+    let l = begins_length (marker_of (x ∷ p)) (marker_of (v ∷ u)) (ap (begins (marker_of (x ∷ p))) (some_is f) ∙ b) in
+    let s = begins_length (marker_of (v ∷ u)) (x ∷ p) (parent_begins (x ∷ p) v u e) in
+    omega (arith, l, s, length-append p (47 ∷ []))
+
+-- of a path that neither is another nor is below it: a directory at it, with a key that begins with the other's marker, is above the other
+pub stands_above : (x : ℕ) (p d k : List ℕ) → (IsAtOrBelow (x ∷ p) d → ⊥) → begins (marker_of d) k ≡ true → begins (marker_of (x ∷ p)) k ≡ true → begins (marker_of d) (x ∷ p) ≡ true
+stands_above x p d k f h t = elim (one_begins (marker_of d) (marker_of (x ∷ p)) k h t) [
+  | inl i ↦ elim (marker_at d (x ∷ p) i) [ inl e ↦ absurd (f (inl e)) | inr b ↦ b ]
+  | inr i ↦ elim (marker_at (x ∷ p) d i) [ inl e ↦ absurd (f (inl (sym e))) | inr b ↦ absurd (f (inr b)) ]
+]
+
 module _ (x : ℕ) (p : List ℕ) (z n m : Objects) (w : IsWithoutBelow (marker_of (x ∷ p)) z n) (g : IsMarked (marker_if (parent (x ∷ p))) n m) where
   abbrev Q : List ℕ
   Q = marker_of (x ∷ p)
 
-  -- the marker above is no key below the path
-  not_below : (u k : List ℕ) → parent (x ∷ p) ≡ u → marker_if u ≡ Some k → begins Q k ≡ true → ⊥
-  not_below [] k e f b = absurd (cc)
-  not_below (y ∷ u) k e f b =
-      let l = begins_length Q (marker_of (y ∷ u)) (ap (begins Q) (some_is f) ∙ b) in
-      let s = begins_length (marker_of (y ∷ u)) (x ∷ p) (parent_begins (x ∷ p) y u e) in
-      omega (arith, l, s, length-append p (47 ∷ []))
-
   gone_below : (k : List ℕ) → begins Q k ≡ true → fin.get m k ≡ None
-  gone_below k b = marked_other (marker_if (parent (x ∷ p))) n m g k (λ e. not_below (parent (x ∷ p)) k refl e b) ∙ w.gone k b
+  gone_below k b = marked_other (marker_if (parent (x ∷ p))) n m g k (λ e. marker_not_below x p (parent (x ∷ p)) k refl e b) ∙ w.gone k b
 
   stood : (k : List ℕ) → Stands n k → Stands z k
   stood k h = elim (true_or_false (begins Q k)) [ inl t ↦ absurd (none_some (w.gone k t) h.1) | inr f ↦ (h.0, sym (w.others k f) ∙ h.1) ]
@@ -119,19 +125,14 @@ module _ (x : ℕ) (p : List ℕ) (z n m : Objects) (w : IsWithoutBelow (marker_
 
   dirs_kept : (q : List ℕ) → begins Q (marker_of q) ≡ false → HasDir z q → HasDir m q
   dirs_kept [] b h = tt
-  dirs_kept (y ∷ q) b h = by (true_or_false (begins Q h.0))
+  dirs_kept (y ∷ q) b h = elim (true_or_false (begins Q h.0)) [
+    | inl t ↦ above_kept (x ∷ p) (parent (x ∷ p)) refl n m g (y ∷ q) (stands_above x p (y ∷ q) h.0 apart h.1 t)
+    | inr f ↦ let s = marked_stands (marker_if (parent (x ∷ p))) n m g h.0 (h.2, w.others h.0 f ∙ h.3) in (h.0, h.1, s.0, s.1)
+  ]
     where
-      up : (y ∷ q ≡ x ∷ p) ⊎ (begins (marker_of (y ∷ q)) (x ∷ p) ≡ true) → HasDir m (y ∷ q)
-      up (inl e) = absurd (false≢true (sym b ∙ ap (λ v. begins Q (marker_of v)) e ∙ begins_all Q))
-      up (inr i) = above_kept (x ∷ p) (parent (x ∷ p)) refl n m g (y ∷ q) i
-
-      one : (begins (marker_of (y ∷ q)) Q ≡ true) ⊎ (begins Q (marker_of (y ∷ q)) ≡ true) → HasDir m (y ∷ q)
-      one (inl i) = up (marker_at (y ∷ q) (x ∷ p) i)
-      one (inr i) = absurd (false≢true (sym b ∙ i))
-
-      by : (begins Q h.0 ≡ true) ⊎ (begins Q h.0 ≡ false) → HasDir m (y ∷ q)
-      by (inl t) = one (one_begins (marker_of (y ∷ q)) Q h.0 h.1 t)
-      by (inr f) = let s = marked_stands (marker_if (parent (x ∷ p))) n m g h.0 (h.2, w.others h.0 f ∙ h.3) in (h.0, h.1, s.0, s.1)
+      apart : IsAtOrBelow (x ∷ p) (y ∷ q) → ⊥
+      apart (inl e) = false_true b (ap (λ v. begins Q (marker_of v)) e ∙ begins_all Q)
+      apart (inr i) = false_true b (begins_trans Q (y ∷ q) (marker_of (y ∷ q)) i (begins_marker (y ∷ q)))
 
   dirs_only : SomeBelow z Q → (q : List ℕ) → HasDir m q → HasDir z q
   dirs_only d [] h = tt

@@ -1,16 +1,17 @@
 -- Moving a file or a directory, in the tree.
-use Rattle.std.proofs.Common.{◌≡◌, ◌⊎◌, inl, inr, ℕ, ◌&&◌, ◌<◌, nat_eq, Bool, true, false, List, [], ◌∷◌, ◌++◌, length, Option, Some, None, refl, sym, ap, subst, ◌∙◌, arith, length-append, append_assoc}
-use Rattle.fs_tree.specs.Prelude.{list_all, Objects, are_elements, is_element, begins, below, marker_of, Stands, SomeBelow, NoneBelow, is_marker, HasDir, HasFile, IsDirectory, IsAbsent, parent, marker_if, IsMarked, last_of, own_name, IsAtOrBelow, MayMove, inside, IsPlace, IsFileMoved, IsDirMoved}
-use Rattle.path_keys.proofs.Common.{false≢true, one_part, eq_nat, none_some, some_is, true_or_false, same_or_other}
+use Rattle.std.proofs.Common.{◌≡◌, ◌⊎◌, inl, inr, ℕ, nat_eq, true, false, List, [], ◌∷◌, ◌++◌, Some, None, refl, sym, ap, subst, ◌∙◌, append_assoc, append-nil}
+use Rattle.fs_tree.specs.Prelude.{Objects, begins, marker_of, Stands, SomeBelow, NoneBelow, is_marker, HasDir, HasFile, IsDirectory, IsAbsent, parent, marker_if, last_of, own_name, IsAtOrBelow, MayMove, inside, IsPlace, IsFileMoved, IsDirMoved}
+use Rattle.path_keys.proofs.Common.{false≢true, one_part, eq_nat, none_some, true_or_false, same_or_other}
 use Rattle.std.specs.FinMap as fin
 use Rattle.words.specs.Parts.{parts_of}
 use Rattle.path_keys.proofs.Last.{parts_round, before_slash, before_none}
 use Rattle.fs_tree.specs.Changes.{IsMarkedAbove}
 use Rattle.fs_tree.specs.Moves.{MovesFile, MovesDir}
-use Rattle.fs_tree.proofs.Begins.{both, begins_all, begins_more, begins_trans, begins_marker, begins_length, one_begins, marker_at}
-use Rattle.fs_tree.proofs.Above.{NoSlash, Cut, cut, above_parent, parent_begins}
-use Rattle.fs_tree.proofs.Making.{put_was, dir_of}
-use Rattle.fs_tree.proofs.Dropping.{if_marker, marked_was, marked_stands, marked_other, marker_key, marked_files, above_kept, through}
+use Rattle.fs_tree.proofs.Begins.{both, begins_more, begins_trans, begins_marker, marker_at}
+use Rattle.fs_tree.proofs.Above.{NoSlash, cut, above_parent}
+use Rattle.fs_tree.proofs.Making.{dir_of}
+pub use Rattle.fs_tree.proofs.Dropping.{marker_not_below}
+use Rattle.fs_tree.proofs.Dropping.{not_above_root, stands_above, marked_was, marked_stands, marked_other, marked_files, above_kept, through}
 
 -- ---- texts
 
@@ -50,13 +51,8 @@ place_above z p t q (inr h) = subst (λ q. HasDir z (parent q)) (sym h.2) h.1.1
 
 dirs_above : (z : Objects) (q u : List ℕ) → parent q ≡ u → HasDir z u → (d : List ℕ) → begins (marker_of d) q ≡ true → HasDir z d
 dirs_above z q u e h [] b = tt
-dirs_above z q [] e h (y ∷ d) b = absurd (too_long (subst (λ v. begins (marker_of (y ∷ d)) (marker_of v) ≡ true) e (above_parent (y ∷ d) q b)))
-  where
-    too_long : begins (marker_of (y ∷ d)) (marker_of []) ≡ true → ⊥
-    too_long h =
-        let l = begins_length (marker_of (y ∷ d)) (marker_of []) h in
-        omega (arith, l, length-append d (47 ∷ []))
-dirs_above z q (x ∷ u) e h (y ∷ d) b = dir_of z (y ∷ d) (marker_of (x ∷ u)) (subst (λ v. begins (marker_of (y ∷ d)) (marker_of v) ≡ true) e (above_parent (y ∷ d) q b)) h
+dirs_above z q [] e h (y ∷ d) b = absurd (not_above_root y d (rw e at (above_parent (y ∷ d) q b)))
+dirs_above z q (x ∷ u) e h (y ∷ d) b = dir_of z (y ∷ d) (marker_of (x ∷ u)) (rw e at (above_parent (y ∷ d) q b)) h
 
 -- the new place is neither the source nor below it
 pub place_apart : (z : Objects) (x : ℕ) (p t q : List ℕ) → MayMove z (x ∷ p) t → IsPlace z (x ∷ p) t q → IsAbsent z q → begins (marker_of (x ∷ p)) (marker_of q) ≡ true → ⊥
@@ -79,38 +75,31 @@ place_apart z x p t q m i n b = by (marker_at (x ∷ p) q b)
     by (inl e) = stands m.stands (subst (IsAbsent z) (sym e) n)
     by (inr b) = below b i
 
--- the marker above a path is no key below it
-pub marker_not_below : (x : ℕ) (p u k : List ℕ) → parent (x ∷ p) ≡ u → marker_if u ≡ Some k → begins (marker_of (x ∷ p)) k ≡ true → ⊥
-marker_not_below x p [] k e f b = absurd (cc)
-marker_not_below x p (v ∷ u) k e f b =
-    let l = begins_length (marker_of (x ∷ p)) (marker_of (v ∷ u)) (ap (begins (marker_of (x ∷ p))) (some_is f) ∙ b) in
-    let s = begins_length (marker_of (v ∷ u)) (x ∷ p) (parent_begins (x ∷ p) v u e) in
-    omega (arith, l, s, length-append p (47 ∷ []))
-
 -- ---- a file
 
 module _ (p q : List ℕ) (z n m : Objects) (w : IsFileMoved p q z n) (g : IsMarkedAbove p n m) (free : fin.get z q ≡ None) (above : HasDir z (parent q)) where
   file_kept : (d : List ℕ) → HasDir z d → HasDir m d
   file_kept [] h = tt
-  file_kept (x ∷ d) h = by (same_or_other h.0 p) (same_or_other h.0 q)
-    where
-      by : (h.0 ≡ p) ⊎ (h.0 ≡ p → ⊥) → (h.0 ≡ q) ⊎ (h.0 ≡ q → ⊥) → HasDir m (x ∷ d)
-      by (inl e) v = above_kept p (parent p) refl n m g (x ∷ d) (ap (begins (marker_of (x ∷ d))) (sym e) ∙ h.1)
-      by (inr f) (inl e) = absurd (none_some free (ap (fin.get z) (sym e) ∙ h.3))
-      by (inr f) (inr e) = let s = marked_stands (marker_if (parent p)) n m g h.0 (h.2, w.others h.0 f e ∙ h.3) in (h.0, h.1, s.0, s.1)
+  file_kept (x ∷ d) h = elim (same_or_other h.0 p) [
+    | inl e ↦ above_kept p (parent p) refl n m g (x ∷ d) (ap (begins (marker_of (x ∷ d))) (sym e) ∙ h.1)
+    | inr f ↦ elim (same_or_other h.0 q) [
+      | inl e ↦ absurd (none_some free (ap (fin.get z) (sym e) ∙ h.3))
+      | inr e ↦ let s = marked_stands (marker_if (parent p)) n m g h.0 (h.2, w.others h.0 f e ∙ h.3) in (h.0, h.1, s.0, s.1)
+    ]
+  ]
 
   file_only : Stands z p → (d : List ℕ) → HasDir m d → HasDir z d
   file_only s [] h = tt
-  file_only s (x ∷ d) h = by (marked_was (marker_if (parent p)) n m g h.0 (h.2, h.3))
-    where
-      stood : Stands n h.0 → (h.0 ≡ p) ⊎ (h.0 ≡ p → ⊥) → (h.0 ≡ q) ⊎ (h.0 ≡ q → ⊥) → HasDir z (x ∷ d)
-      stood v (inl e) u = absurd (none_some (ap (fin.get n) e ∙ w.gone) v.1)
-      stood v (inr f) (inl e) = dirs_above z q (parent q) refl above (x ∷ d) (ap (begins (marker_of (x ∷ d))) (sym e) ∙ h.1)
-      stood v (inr f) (inr e) = (h.0, h.1, v.0, sym (w.others h.0 f e) ∙ v.1)
-
-      by : Stands n h.0 ⊎ (marker_if (parent p) ≡ Some h.0) → HasDir z (x ∷ d)
-      by (inl v) = stood v (same_or_other h.0 p) (same_or_other h.0 q)
-      by (inr e) = (p, through p (parent p) refl h.0 (x ∷ d) e h.1, s.0, s.1)
+  file_only s (x ∷ d) h = elim (marked_was (marker_if (parent p)) n m g h.0 (h.2, h.3)) [
+    | inr e ↦ (p, through p (parent p) refl h.0 (x ∷ d) e h.1, s.0, s.1)
+    | inl v ↦ elim (same_or_other h.0 p) [
+      | inl e ↦ absurd (none_some (ap (fin.get n) e ∙ w.gone) v.1)
+      | inr f ↦ elim (same_or_other h.0 q) [
+        | inl e ↦ dirs_above z q (parent q) refl above (x ∷ d) (ap (begins (marker_of (x ∷ d))) (sym e) ∙ h.1)
+        | inr e ↦ (h.0, h.1, v.0, sym (w.others h.0 f e) ∙ v.1)
+      ]
+    ]
+  ]
 
   -- a file that is moved is so in the tree, and nothing else is
   pub moves_file : is_marker p ≡ false → is_marker q ≡ false → Stands z p → MovesFile p q z m
@@ -177,64 +166,37 @@ module _ (x : ℕ) (p : List ℕ) (y : ℕ) (q : List ℕ) (z n m : Objects) (w 
   dir_old : (rest : List ℕ) → HasDir m (Q ++ rest) → HasDir z (P ++ rest)
   dir_old rest h = subst (SomeBelow z) (marker_end P rest) (below_old (marker_of rest) (subst (SomeBelow m) (sym (marker_end Q rest)) h))
 
-  same_list : (a : List ℕ) → a ++ [] ≡ a
-  same_list [] = refl
-  same_list (b ∷ a) = ap (λ l. b ∷ l) (same_list a)
-
   stood : (k : List ℕ) → begins P k ≡ false → begins Q k ≡ false → Stands z k → Stands m k
   stood k a b h = marked_stands (marker_if (parent (x ∷ p))) n m g k (h.0, w.others k a b ∙ h.1)
 
   dirs_kept : (d : List ℕ) → (IsAtOrBelow (x ∷ p) d → ⊥) → HasDir z d → HasDir m d
   dirs_kept [] f h = tt
-  dirs_kept (v ∷ d) f h = by (true_or_false (begins P h.0)) (true_or_false (begins Q h.0))
-    where
-      up : (v ∷ d ≡ x ∷ p) ⊎ (begins (marker_of (v ∷ d)) (x ∷ p) ≡ true) → HasDir m (v ∷ d)
-      up (inl e) = absurd (f (inl e))
-      up (inr b) = above_kept (x ∷ p) (parent (x ∷ p)) refl n m g (v ∷ d) b
-
-      down : (x ∷ p ≡ v ∷ d) ⊎ (begins P (v ∷ d) ≡ true) → HasDir m (v ∷ d)
-      down (inl e) = absurd (f (inl (sym e)))
-      down (inr b) = absurd (f (inr b))
-
-      one : (begins (marker_of (v ∷ d)) P ≡ true) ⊎ (begins P (marker_of (v ∷ d)) ≡ true) → HasDir m (v ∷ d)
-      one (inl b) = up (marker_at (v ∷ d) (x ∷ p) b)
-      one (inr b) = down (marker_at (x ∷ p) (v ∷ d) b)
-
-      by : (begins P h.0 ≡ true) ⊎ (begins P h.0 ≡ false) → (begins Q h.0 ≡ true) ⊎ (begins Q h.0 ≡ false) → HasDir m (v ∷ d)
-      by (inl a) b = one (one_begins (marker_of (v ∷ d)) P h.0 h.1 a)
-      by (inr a) (inl b) = absurd (none_some (free h.0 b) h.3)
-      by (inr a) (inr b) = let s = stood h.0 a b (h.2, h.3) in (h.0, h.1, s.0, s.1)
+  dirs_kept (v ∷ d) f h = elim (true_or_false (begins P h.0)) [
+    | inl a ↦ above_kept (x ∷ p) (parent (x ∷ p)) refl n m g (v ∷ d) (stands_above x p (v ∷ d) h.0 f h.1 a)
+    | inr a ↦ elim (true_or_false (begins Q h.0)) [
+      | inl b ↦ absurd (none_some (free h.0 b) h.3)
+      | inr b ↦ let s = stood h.0 a b (h.2, h.3) in (h.0, h.1, s.0, s.1)
+    ]
+  ]
 
   dirs_only : (d : List ℕ) → (IsAtOrBelow (y ∷ q) d → ⊥) → HasDir m d → HasDir z d
   dirs_only [] f h = tt
-  dirs_only (v ∷ d) f h = by (marked_was (marker_if (parent (x ∷ p))) n m g h.0 (h.2, h.3))
-    where
-      up : (v ∷ d ≡ y ∷ q) ⊎ (begins (marker_of (v ∷ d)) (y ∷ q) ≡ true) → HasDir z (v ∷ d)
-      up (inl e) = absurd (f (inl e))
-      up (inr b) = dirs_above z (y ∷ q) (parent (y ∷ q)) refl above (v ∷ d) b
-
-      down : (y ∷ q ≡ v ∷ d) ⊎ (begins Q (v ∷ d) ≡ true) → HasDir z (v ∷ d)
-      down (inl e) = absurd (f (inl (sym e)))
-      down (inr b) = absurd (f (inr b))
-
-      one : (begins (marker_of (v ∷ d)) Q ≡ true) ⊎ (begins Q (marker_of (v ∷ d)) ≡ true) → HasDir z (v ∷ d)
-      one (inl b) = up (marker_at (v ∷ d) (y ∷ q) b)
-      one (inr b) = down (marker_at (y ∷ q) (v ∷ d) b)
-
-      was : Stands n h.0 → (begins P h.0 ≡ true) ⊎ (begins P h.0 ≡ false) → (begins Q h.0 ≡ true) ⊎ (begins Q h.0 ≡ false) → HasDir z (v ∷ d)
-      was s (inl a) b = absurd (none_some (w.gone h.0 a) s.1)
-      was s (inr a) (inl b) = one (one_begins (marker_of (v ∷ d)) Q h.0 h.1 b)
-      was s (inr a) (inr b) = (h.0, h.1, s.0, sym (w.others h.0 a b) ∙ s.1)
-
-      by : Stands n h.0 ⊎ (marker_if (parent (x ∷ p)) ≡ Some h.0) → HasDir z (v ∷ d)
-      by (inl s) = was s (true_or_false (begins P h.0)) (true_or_false (begins Q h.0))
-      by (inr e) = dir_of z (v ∷ d) P (begins_trans (marker_of (v ∷ d)) (x ∷ p) P (through (x ∷ p) (parent (x ∷ p)) refl h.0 (v ∷ d) e h.1) (begins_marker (x ∷ p))) there
+  dirs_only (v ∷ d) f h = elim (marked_was (marker_if (parent (x ∷ p))) n m g h.0 (h.2, h.3)) [
+    | inr e ↦ dir_of z (v ∷ d) P (begins_trans (marker_of (v ∷ d)) (x ∷ p) P (through (x ∷ p) (parent (x ∷ p)) refl h.0 (v ∷ d) e h.1) (begins_marker (x ∷ p))) there
+    | inl s ↦ elim (true_or_false (begins P h.0)) [
+      | inl a ↦ absurd (none_some (w.gone h.0 a) s.1)
+      | inr a ↦ elim (true_or_false (begins Q h.0)) [
+        | inl b ↦ dirs_above z (y ∷ q) (parent (y ∷ q)) refl above (v ∷ d) (stands_above y q (v ∷ d) h.0 f h.1 b)
+        | inr b ↦ (h.0, h.1, s.0, sym (w.others h.0 a b) ∙ s.1)
+      ]
+    ]
+  ]
 
   -- a directory that is moved with what is below it is so in the tree, and nothing else is
   pub moves_dir : MovesDir (x ∷ p) (y ∷ q) z m
   moves_dir = record {
     moved = moved_all;
-    directory = subst (SomeBelow m) (same_list Q) (below_new [] (subst (SomeBelow z) (sym (same_list P)) there));
+    directory = subst (SomeBelow m) (append-nil Q) (below_new [] (subst (SomeBelow z) (sym (append-nil P)) there));
     moved_dirs = λ rest h. dir_new rest h;
     only_moved = λ rest h. dir_old rest h;
     gone = gone_all;

@@ -1,5 +1,5 @@
 -- Moving a file or a directory to another place of its bucket (Hadoop FileSystem specification: rename).
-use Rattle.std.specs.Prelude.{◌≡◌, ◌⊎◌, ℕ, Bool, true, false, nat_lt, cond, List, [], ◌∷◌, ◌++◌, Some, None, length}
+use Rattle.std.specs.Prelude.{◌≡◌, ◌⊎◌, ℕ, Bool, true, false, nat_lt, cond, List, ◌++◌, Some, None, length}
 use Rattle.s3_types.specs.Prelude.{is_lt, text_cmp, Objects, begins}
 use Rattle.std.specs.FinMap as fin
 use Rattle.path_keys.specs.Paths.{below}

@@ -1,5 +1,5 @@
 -- What a renaming answers among the objects z of its bucket, and leaves: refusals in their order, each of which changes nothing (Hadoop FileSystem specification: rename).
-use Rattle.std.specs.Prelude.{◌≡◌, ◌⊎◌, ℕ, false, List, [], ◌∷◌, Result, Ok, Err}
+use Rattle.std.specs.Prelude.{◌≡◌, ◌⊎◌, ℕ, List, [], ◌∷◌, Result, Ok, Err}
 use Rattle.s3_types.specs.Prelude.{Objects}
 use Rattle.fs_tree.specs.declared.rename.RenameRefusal.{RenameRefusal}
 use Rattle.fs_tree.specs.declared.rename.RenameRefusal.TheVariants.{SourceMissing, SourceRoot, UnderSource, TargetFile, TargetExists, ParentMissing, ParentIsFile, TooLong}

@@ -1,14 +1,14 @@
 -- What requests leave of a content that an image can have.
-use Rattle.std.proofs.Common.{◌≡◌, ℕ, ◌+◌, ◌<◌, ◌≤◌, ◌^◌, ◌&&◌, nat_le, nat_lt, Bool, true, false, cond, T, List, [], ◌∷◌, ◌++◌, length, take, drop, Option, Some, None, Result, Ok, Err, refl, sym, ap, subst, ◌∙◌, arith}
-use Rattle.store_frame.specs.Prelude.{entries_sorted, find, is_lt, is_eq, eq_by_cmp, Ordering, Less, Equal, Greater, IsTotalOrder, nat_cmp_total, eq_by_cmp_equiv, text_eq, apply_in, draws}
+use Rattle.std.proofs.Common.{◌≡◌, ℕ, inl, inr, ◌+◌, ◌≤◌, ◌^◌, ◌&&◌, nat_le, nat_lt, Bool, true, false, cond, T, List, [], ◌∷◌, ◌++◌, length, take, drop, Option, Some, None, Ok, Err, refl, sym, ap, subst, ◌∙◌, arith}
+use Rattle.store_frame.specs.Prelude.{entries_sorted, find, is_lt, is_eq, eq_by_cmp, Ordering, Less, IsTotalOrder, nat_cmp_total, eq_by_cmp_equiv, text_eq, apply_in, draws}
 use Rattle.s3_types.specs.Prelude.{below_all, is_sorted}
-use Rattle.journal_log.specs.Prelude.{AllByRecursion, nat_cmp, text_cmp, text_total, is_bucket, is_key, Objects, Upload, Uploads, BucketContent, Content, new_bucket, new_content, is_part_number, with_key, with_part, live, joined, moment, apply_store, apply_at, bucket_of, without, copied, part_put, completed, aborted, MOST_ENTRIES, Object, Refusal, NamedPart, Request, MakeBucket, PutObject, DeleteObject, DeleteObjects, CopyObject, CreateUpload, UploadPart, CompleteUpload, AbortUpload, Entry, IsObject, IsBucket, IsContent, content_after, IsMade, KeepsImages}
+use Rattle.journal_log.specs.Prelude.{AllByRecursion, text_total, is_bucket, is_key, Objects, Upload, Uploads, BucketContent, Content, new_bucket, new_content, is_part_number, with_part, live, joined, moment, apply_store, apply_at, bucket_of, without, copied, part_put, completed, aborted, MOST_ENTRIES, Object, NamedPart, Request, MakeBucket, PutObject, DeleteObject, DeleteObjects, CopyObject, CreateUpload, UploadPart, CompleteUpload, AbortUpload, Entry, IsObject, IsBucket, IsContent, content_after, IsMade, KeepsImages}
 use Rattle.proof_base.proofs.Common.{and_parts, leb-true, le-leb, nat_tests, take_all, take-append-drop}
 use Rattle.std.specs.FinMap as fin
 use Rattle.proof_base.proofs.Bools.{both_T}
 use Rattle.proof_base.proofs.Tree.{tied, entries_empty}
 use Rattle.s3_types.specs.Answer.{made}
-use Rattle.proof_base.proofs.Members.{some_is, none_some, false_true, text_is, text_exact}
+use Rattle.proof_base.proofs.Members.{true_or_false, none_or_some, some_is, none_some, text_is, text_exact}
 use Rattle.store_image.specs.Content.{is_minimum, is_counter, is_id, IsEntry, AreEntries, IsPart, IsUpload}
 use Rattle.journal_log.specs.Changes.{changes}
 use Rattle.journal_log.proofs.Journals.{folded, changes_append, content_append}
@@ -28,11 +28,10 @@ module _ {K X : Type 0} {R : K → K → Ordering} (o : IsTotalOrder R) (exact :
       ap (λ b. cond b (Some e.1) (find R k es)) (not_tied (R k e.0) w.0) ∙ none_below k es w.1
 
   later : (e : K × X) (es : List (K × X)) (k : K) (v : X) → T (below_all R e.0 es) → find R k es ≡ Some v → find R k (e ∷ es) ≡ Some v
-  later e es k v h g = by (eq_by_cmp R k e.0) refl
-    where
-      by : (b : Bool) → eq_by_cmp R k e.0 ≡ b → cond (eq_by_cmp R k e.0) (Some e.1) (find R k es) ≡ Some v
-      by true t = absurd (none_some (ap (λ q. find R q es) (exact k e.0 (tied (R k e.0) t)) ∙ none_below e.0 es h) g)
-      by false t = ap (λ b. cond b (Some e.1) (find R k es)) t ∙ g
+  later e es k v h g = elim (true_or_false (eq_by_cmp R k e.0)) [
+    | inl t ↦ absurd (none_some (ap (λ q. find R q es) (exact k e.0 (tied (R k e.0) t)) ∙ none_below e.0 es h) g)
+    | inr n ↦ rw n g
+  ]
 
   first : (e : K × X) (es : List (K × X)) → find R e.0 (e ∷ es) ≡ Some e.1
   first e es = ap (λ b. cond b (Some e.1) (find R e.0 es)) ((eq_by_cmp_equiv o).refl e.0)
@@ -49,14 +48,10 @@ module _ {K X : Type 0} {R : K → K → Ordering} (o : IsTotalOrder R) (exact :
 
     found_is : (es : List (K × X)) → AllByRecursion IsOne es → (k : K) (v : X) → find R k es ≡ Some v → IsOne (k, v)
     found_is [] a k v g = absurd (none_some refl g)
-    found_is (e ∷ es) a k v g = by (eq_by_cmp R k e.0) refl (found_is es a.1 k v)
-      where
-        by : (b : Bool) → eq_by_cmp R k e.0 ≡ b → (find R k es ≡ Some v → IsOne (k, v)) → IsOne (k, v)
-        by true t old =
-            let key : e.0 ≡ k = sym (exact k e.0 (tied (R k e.0) t)) in
-            let value : e.1 ≡ v = some_is (sym (ap (λ b. cond b (Some e.1) (find R k es)) t) ∙ g) in
-            record { key = ap test (sym key) ∙ a.0.key; value = subst IsValue value a.0.value }
-        by false t old = old (sym (ap (λ b. cond b (Some e.1) (find R k es)) t) ∙ g)
+    found_is (e ∷ es) a k v g = elim (true_or_false (eq_by_cmp R k e.0)) [
+      | inr t ↦ found_is es a.1 k v (rw t at g)
+      | inl t ↦ record { key = ap test (exact k e.0 (tied (R k e.0) t)) ∙ a.0.key; value = subst IsValue (some_is (rw t at g)) a.0.value }
+    ]
 
     -- told key by key
     are_at : (m : fin.FinMap R X) → ((k : K) (v : X) → fin.get m k ≡ Some v → IsOne (k, v)) → AreEntries test IsValue m
@@ -69,21 +64,16 @@ module _ {K X : Type 0} {R : K → K → Ordering} (o : IsTotalOrder R) (exact :
     are_none = subst (AllByRecursion IsOne) (sym (entries_empty R)) tt
 
     put_in : (m : fin.FinMap R X) (k : K) (v : X) → AreEntries test IsValue m → test k ≡ true → IsValue v → AreEntries test IsValue (fin.insert m k v)
-    put_in m k v a is value = are_at (fin.insert m k v) (λ q w g. by q w (eq_by_cmp R q k) refl (sym (fin.get-insert o m k v q) ∙ g))
-      where
-        by : (q : K) (w : X) (b : Bool) → eq_by_cmp R q k ≡ b → cond (eq_by_cmp R q k) (Some v) (fin.get m q) ≡ Some w → IsOne (q, w)
-        by q w true t g = record {
-          key = ap test (exact q k (tied (R q k) t)) ∙ is;
-          value = subst IsValue (some_is (sym (ap (λ b. cond b (Some v) (fin.get m q)) t) ∙ g)) value;
-        }
-        by q w false t g = at m q w a (sym (ap (λ b. cond b (Some v) (fin.get m q)) t) ∙ g)
+    put_in m k v a is value = are_at (fin.insert m k v) (λ q w g. elim (true_or_false (eq_by_cmp R q k)) [
+      | inl t ↦ record { key = ap test (exact q k (tied (R q k) t)) ∙ is; value = subst IsValue (some_is (rw (fin.get-insert o m k v q, t) at g)) value }
+      | inr t ↦ at m q w a (rw (fin.get-insert o m k v q, t) at g)
+    ])
 
     taken_out : (m : fin.FinMap R X) (k : K) → AreEntries test IsValue m → AreEntries test IsValue (fin.remove m k)
-    taken_out m k a = are_at (fin.remove m k) (λ q w g. by q w (eq_by_cmp R q k) refl (sym (fin.get-remove o m k q) ∙ g))
-      where
-        by : (q : K) (w : X) (b : Bool) → eq_by_cmp R q k ≡ b → cond (eq_by_cmp R q k) None (fin.get m q) ≡ Some w → IsOne (q, w)
-        by q w true t g = absurd (none_some refl (sym (ap (λ b. cond b None (fin.get m q)) t) ∙ g))
-        by q w false t g = at m q w a (sym (ap (λ b. cond b None (fin.get m q)) t) ∙ g)
+    taken_out m k a = are_at (fin.remove m k) (λ q w g. elim (true_or_false (eq_by_cmp R q k)) [
+      | inl t ↦ absurd (none_some refl (rw (fin.get-remove o m k q, t) at g))
+      | inr t ↦ at m q w a (rw (fin.get-remove o m k q, t) at g)
+    ])
 
 all_more : {K X : Type 0} (p q : K → Bool) (V W : X → Type 0) → ((k : K) → p k ≡ true → q k ≡ true) → ((x : X) → V x → W x) → (es : List (K × X)) → AllByRecursion (IsEntry p V) es → AllByRecursion (IsEntry q W) es
 all_more p q V W f g [] a = tt
@@ -126,10 +116,6 @@ objects_out : (ks : List (List ℕ)) (m : Objects) → AreObjects m → AreObjec
 objects_out [] m a = a
 objects_out (k ∷ ks) m a = objects_out ks (fin.remove m k) (object_out m k a)
 
-some_out : (t : Bool) (ks : List (List ℕ)) (m : Objects) → AreObjects m → AreObjects (cond t m (without m ks))
-some_out true ks m a = a
-some_out false ks m a = objects_out ks m a
-
 -- a copy
 object_copied : (m : Objects) (source target : List ℕ) (x : Option Object) → fin.get m source ≡ x → AreObjects m → is_key target ≡ true → AreObjects (copied m target x)
 object_copied m source target None e a k = a
@@ -142,28 +128,25 @@ record IsLive (next : ℕ) (k : List ℕ) (id : ℕ) (u : Upload) : Type 0 where
   same : u.key ≡ k
 
 found_live : (next : ℕ) (m : Uploads) (k : List ℕ) (id : ℕ) (u : Upload) → AreUploads next m → live m k id ≡ Some u → IsLive next k id u
-found_live next m k id u a h = by (fin.get m id) refl h
-  where
-    own : (x : Upload) (b : Bool) → fin.get m id ≡ Some x → text_eq x.key k ≡ b → cond b (Some x) None ≡ Some u → IsLive next k id u
-    own x true e t g =
-        let is = at nat_cmp_total fin.nat_cmp-IsAntisymmetric (is_id next) IsUpload m id x a e in
-        subst (IsLive next k id) (some_is g) (record { number = is.key; upload = is.value; same = text_is x.key k t })
-    own x false e t g = absurd (none_some refl g)
-
-    by : (x : Option Upload) → fin.get m id ≡ x → with_key k x ≡ Some u → IsLive next k id u
-    by None e g = absurd (none_some refl g)
-    by (Some x) e g = own x (text_eq x.key k) e refl g
+found_live next m k id u a h = elim (none_or_some (fin.get m id)) [
+  | inl e ↦ absurd (none_some refl (rw e at h))
+  | inr x ↦ elim (true_or_false (text_eq x.0.key k)) [
+    | inr t ↦ absurd (none_some refl (rw (x.1, t) at h))
+    | inl t ↦
+        let is = at nat_cmp_total fin.nat_cmp-IsAntisymmetric (is_id next) IsUpload m id x.0 a x.1 in
+        subst (IsLive next k id) (some_is (rw (x.1, t) at h)) (record { number = is.key; upload = is.value; same = text_is x.0.key k t })
+  ]
+]
 
 part_in : (next : ℕ) (m : Uploads) (k : List ℕ) (id n : ℕ) (bytes : List ℕ) (x : Option Upload) → live m k id ≡ x → AreUploads next m → AreUploads next (part_put m id x n bytes)
 part_in next m k id n bytes None e a = a
-part_in next m k id n bytes (Some u) e a = by (is_part_number n) refl
-  where
-    by : (t : Bool) → is_part_number n ≡ t → AreUploads next (cond t (fin.insert m id (with_part u n bytes)) m)
-    by true t =
-        let is = found_live next m k id u a e in
-        upload_in next m id (with_part u n bytes) a is.number
-        (record { key = is.upload.key; parts = put_in nat_cmp_total fin.nat_cmp-IsAntisymmetric is_part_number IsPart u.parts n bytes is.upload.parts t tt })
-    by false t = a
+part_in next m k id n bytes (Some u) e a = elim (true_or_false (is_part_number n)) [
+  | inr t ↦ rw t a
+  | inl t ↦
+      let is = found_live next m k id u a e in
+      let parts = put_in nat_cmp_total fin.nat_cmp-IsAntisymmetric is_part_number IsPart u.parts n bytes is.upload.parts t tt in
+      rw t (upload_in next m id (with_part u n bytes) a is.number (record { key = is.upload.key; parts = parts }))
+]
 
 upload_aborted : (next : ℕ) (m : Uploads) (id : ℕ) (x : Option Upload) → AreUploads next m → AreUploads next (aborted m id x)
 upload_aborted next m id None a = a
@@ -171,22 +154,24 @@ upload_aborted next m id (Some u) a = upload_out next m id a
 
 upload_joined : (next minimum : ℕ) (b : BucketContent) (k : List ℕ) (id : ℕ) (ns : List NamedPart) (x : Option Upload) → live b.uploads k id ≡ x → IsBucket next b → IsBucket next (completed b k id (joined x ns minimum))
 upload_joined next minimum b k id ns None e h = h
-upload_joined next minimum b k id ns (Some u) e h = by (joined (Some u) ns minimum)
-  where
-    by : (r : Result (List ℕ) Refusal) → IsBucket next (completed b k id r)
-    by (Err r) = h
-    by (Ok bytes) =
-        let is = found_live next b.uploads k id u h.uploads e in
-        record {
-          objects = object_in b.objects k (record { bytes = bytes; header = None }) h.objects (ap is_key (sym is.same) ∙ is.upload.key) (record { header_fits = omega arith });
-          uploads = upload_out next b.uploads id h.uploads;
-        }
+upload_joined next minimum b k id ns (Some u) e h = elim (joined (Some u) ns minimum) as (λ r. IsBucket next (completed b k id r)) [
+  | Err r ↦ h
+  | Ok bytes ↦
+      let is = found_live next b.uploads k id u h.uploads e in
+      record {
+        objects = object_in b.objects k (record { bytes = bytes; header = None }) h.objects (ap is_key (sym is.same) ∙ is.upload.key) (record { header_fits = omega arith });
+        uploads = upload_out next b.uploads id h.uploads;
+      }
+]
 
 -- what a request leaves of its bucket
 in_bucket : (b : BucketContent) (next minimum : ℕ) (r : Request) → 1 ≤ next → IsMade r → IsBucket next b → IsBucket (cond (draws r) (next + 1) next) (apply_in b next minimum r)
 in_bucket b next minimum (PutObject n k bytes given) l m h = record { objects = object_in b.objects k (record { bytes = bytes; header = given }) h.objects m.0 (record { header_fits = m.1 }); uploads = h.uploads }
 in_bucket b next minimum (DeleteObject n k) l m h = record { objects = object_out b.objects k h.objects; uploads = h.uploads }
-in_bucket b next minimum (DeleteObjects n ks) l m h = record { objects = some_out (nat_lt MOST_ENTRIES (length ks)) ks b.objects h.objects; uploads = h.uploads }
+in_bucket b next minimum (DeleteObjects n ks) l m h = record {
+  objects = elim (nat_lt MOST_ENTRIES (length ks)) as (λ t. AreObjects (cond t b.objects (without b.objects ks))) [ true ↦ h.objects | false ↦ objects_out ks b.objects h.objects ];
+  uploads = h.uploads;
+}
 in_bucket b next minimum (CopyObject n source target) l m h = record { objects = object_copied b.objects source target (fin.get b.objects source) refl h.objects m; uploads = h.uploads }
 in_bucket b next minimum (CreateUpload n k) l m h = record {
   objects = h.objects;
@@ -221,11 +206,10 @@ new minimum h = record { minimum = h; counter = counter_of 1 (omega arith) (omeg
 
 one_made : (c : Content) (name : List ℕ) (x : Option BucketContent) → IsContent c → IsContent (made c name x)
 one_made c name (Some b) h = h
-one_made c name None h = by (is_bucket name) refl
-  where
-    by : (t : Bool) → is_bucket name ≡ t → IsContent (cond t (record { buckets = fin.insert c.buckets name new_bucket; next = c.next; minimum = c.minimum }) c)
-    by true t = record { minimum = h.minimum; counter = h.counter; buckets = put_in text_total text_exact is_bucket (IsBucket c.next) c.buckets name new_bucket h.buckets t (none_new c.next) }
-    by false t = h
+one_made c name None h = elim (true_or_false (is_bucket name)) [
+  | inl t ↦ rw t (record { minimum = h.minimum; counter = h.counter; buckets = put_in text_total text_exact is_bucket (IsBucket c.next) c.buckets name new_bucket h.buckets t (none_new c.next) })
+  | inr t ↦ rw t h
+]
 
 one_at : (c : Content) (r : Request) (x : Option BucketContent) → fin.get c.buckets (bucket_of r) ≡ x → IsContent c → IsMade r → (apply_at x c r).next ≤ 2 ^ 62 → IsContent (apply_at x c r)
 one_at c r None e h m few = h
@@ -257,11 +241,7 @@ same c = record { later = omega arith; least = refl }
 
 on_at : (c : Content) (r : Request) (o : Option BucketContent) → GoesOn c (apply_at o c r)
 on_at c r None = same c
-on_at c r (Some b) = record { later = by (draws r); least = refl }
-  where
-    by : (t : Bool) → c.next ≤ cond t (c.next + 1) c.next
-    by true = omega arith
-    by false = omega arith
+on_at c r (Some b) = record { later = elim (draws r) as (λ t. c.next ≤ cond t (c.next + 1) c.next) [ true ↦ omega arith | false ↦ omega arith ]; least = refl }
 
 on_made : (c : Content) (name : List ℕ) (o : Option BucketContent) → GoesOn c (made c name o)
 on_made c name None = elim (is_bucket name) as (λ t. GoesOn c (cond t (record { buckets = fin.insert c.buckets name new_bucket; next = c.next; minimum = c.minimum }) c)) [

@@ -4,7 +4,7 @@ use Rattle.journal_log.specs.Prelude.{AllByRecursion, Content, opening, moment, 
 use Rattle.proof_base.proofs.Common.{take-append-le, take_all}
 use Rattle.log_format.specs.declared.held.Held.{Held}
 use Rattle.shelf.specs.Logged.{grown}
-use Rattle.shelf.specs.Logged.Holding.{Nothing, Stands, BadAt}
+use Rattle.shelf.specs.Logged.Holding.{Nothing, Stands}
 use Rattle.store_image.proofs.Whole as images
 use Rattle.journal_log.specs.Changes.{changes}
 use Rattle.journal_log.specs.Kept.{Unfolds, last_event}
@@ -45,19 +45,17 @@ holds_one (Some s) p r h = h ∙ ap Some (grown_one s.holding r)
 
 pub holds_then : (o p q : Option Stored) (rs qs : List Request) → HoldsGrownBy o p rs → HoldsGrownBy p q qs → HoldsGrownBy o q (rs ++ qs)
 holds_then None None q rs qs h g = g
-holds_then None (Some t) q rs qs h g = absurd (cc)
-holds_then (Some s) None q rs qs h g = absurd (cc)
 holds_then (Some s) (Some t) q rs qs h g =
     let same : t.holding ≡ grown_by s.holding rs = cc in
     g ∙ ap (λ (x : Holding). Some (grown_by x qs)) same ∙ ap Some (grown_then s.holding rs qs)
+holds_then _ _ q rs qs h g = absurd (cc)
 
 pub holds_more : (c : Content) (o p : Option Stored) (rs more : List Request) → Holds o c rs → HoldsGrownBy o p more → Holds p c (rs ++ more)
 holds_more c None None rs more h g = tt
-holds_more c None (Some t) rs more h g = absurd (cc)
-holds_more c (Some s) None rs more h g = absurd (cc)
 holds_more c (Some s) (Some t) rs more h g =
     let same : t.holding ≡ grown_by s.holding more = cc in
     same ∙ ap (λ (x : Holding). grown_by x more) h
+holds_more c _ _ rs more h g = absurd (cc)
 
 -- ---- moments
 
@@ -101,11 +99,7 @@ split (x ∷ xs) ys [] e back h = let same : x ≡ e = cc in inl (xs, ap (λ (y 
 split (x ∷ xs) ys (z ∷ front) e back h =
     let same : x ≡ z = cc in
     let others : xs ++ ys ≡ front ++ e ∷ back = cc in
-    further same (split xs ys front e back others)
-  where
-    further : x ≡ z → ((rest : List Entry) × (xs ≡ front ++ e ∷ rest)) ⊎ ((more : List Entry) × (ys ≡ more ++ e ∷ back)) → ((rest : List Entry) × (x ∷ xs ≡ (z ∷ front) ++ e ∷ rest)) ⊎ ((more : List Entry) × (ys ≡ more ++ e ∷ back))
-    further same (inl is) = inl (is.0, ap (λ (y : Entry). y ∷ xs) same ∙ ap (λ (l : List Entry). z ∷ l) is.1)
-    further same (inr is) = inr is
+    elim (split xs ys front e back others) [ inl is ↦ inl (is.0, ap (λ (y : Entry). y ∷ xs) same ∙ ap (λ (l : List Entry). z ∷ l) is.1) | inr is ↦ inr is ]
 
 last_append : (n : ℕ) (xs ys : List Entry) → last_event n (xs ++ ys) ≡ last_event (last_event n xs) ys
 last_append n [] ys = refl
@@ -120,17 +114,16 @@ all_behind n [] ys all = all
 all_behind n (x ∷ xs) ys all = all_behind n xs ys all.1
 
 pub earlier : (es part : List Entry) (n : ℕ) (rs : List Request) → AllByRecursion (λ e. e.event ≡ n) part → Begins rs (changes part) → HasEarlier (es ++ part) (changes es ++ rs)
-earlier es part n rs all begins front back e is less = by (split es part front e back is)
-  where
-    by : ((rest : List Entry) × (es ≡ front ++ e ∷ rest)) ⊎ ((more : List Entry) × (part ≡ more ++ e ∷ back)) → Begins (changes (front ++ e ∷ [])) (changes es ++ rs)
-    by (inl h) =
-        let whole : es ≡ (front ++ e ∷ []) ++ h.0 = h.1 ∙ sym (append_assoc front (e ∷ []) h.0) in
-        let parts : changes es ≡ changes (front ++ e ∷ []) ++ changes h.0 = ap changes whole ∙ changes_append (front ++ e ∷ []) h.0 in
-        begins_longer (changes (front ++ e ∷ [])) (changes es) rs (changes h.0, sym parts)
-    by (inr h) =
-        let here = all_behind n h.0 (e ∷ back) (subst (AllByRecursion (λ (x : Entry). x.event ≡ n)) h.1 all) in
-        let last : last_event 0 (es ++ part) ≡ n = ap (last_event 0) is ∙ last_append 0 front (e ∷ back) ∙ last_same n e.event back here.1 here.0 in
-        absurd (omega (arith, less, last, here.0))
+earlier es part n rs all begins front back e is less = elim (split es part front e back is) [
+  | inl h ↦
+      let whole : es ≡ (front ++ e ∷ []) ++ h.0 = h.1 ∙ sym (append_assoc front (e ∷ []) h.0) in
+      let parts : changes es ≡ changes (front ++ e ∷ []) ++ changes h.0 = ap changes whole ∙ changes_append (front ++ e ∷ []) h.0 in
+      begins_longer (changes (front ++ e ∷ [])) (changes es) rs (changes h.0, sym parts)
+  | inr h ↦
+      let here = all_behind n h.0 (e ∷ back) (subst (AllByRecursion (λ (x : Entry). x.event ≡ n)) h.1 all) in
+      let last : last_event 0 (es ++ part) ≡ n = ap (last_event 0) is ∙ last_append 0 front (e ∷ back) ∙ last_same n e.event back here.1 here.0 in
+      absurd (omega (arith, less, last, here.0))
+]
 
 pub short : (c : Content) (o p : Option Stored) (es part : List Entry) (n : ℕ) → Holds o c (changes es) → AllByRecursion (λ e. e.event ≡ n) part → HoldsSome o p (changes part) → HoldsPart p c (es ++ part)
 short c o p es part n holds all grew = record {

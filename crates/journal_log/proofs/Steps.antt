@@ -59,11 +59,13 @@ module _ {S : Type 0} (F : Sight S) where
 
   -- the calls that were made then
   pub stops_of : (fault : ShelfStop) (rs : List Request) (old new : S) → Stopped F fault rs old new → Stops F rs old new
-  stops_of fault rs old new s = record { front = s.front; begins = (s.next ∷ s.rest, sym s.parts); at = s.at; answered = s.answered; last = by fault s.left_out }
-    where
-      by : (f : ShelfStop) → LeftOut F f s.next s.at new → (s.at ≡ new) ⊎ (F.answers s.at new ⊎ F.fails s.at new)
-      by Failed l = inr (inr l.1)
-      by NoMemory l = inr (inl l.1)
+  stops_of fault rs old new s = record {
+    front = s.front;
+    begins = (s.next ∷ s.rest, sym s.parts);
+    at = s.at;
+    answered = s.answered;
+    last = elim fault as (λ f. LeftOut F f s.next s.at new → (s.at ≡ new) ⊎ (F.answers s.at new ⊎ F.fails s.at new)) [ Failed ↦ λ l. inr (inr l.1) | NoMemory ↦ λ l. inr (inl l.1) ] s.left_out;
+  }
 
   pub stopped_then : (old mid new : S) (rs qs more : List Request) (fault : ShelfStop) → Appended F rs old mid → Stopped F fault qs mid new → Stopped F fault (rs ++ qs ++ more) old new
   stopped_then old mid new rs qs more fault first then = record {

@@ -1,8 +1,9 @@
 -- How many entries of a finite map pass a test, before and after one is put in or taken out.
-use Rattle.std.proofs.Common.{◌≡◌, ℕ, ◌+◌, ◌≤◌, Bool, true, false, not, cond, List, [], ◌∷◌, length, Some, None, refl, sym, ap, subst, ◌∙◌, arith}
+use Rattle.std.proofs.Common.{◌≡◌, ℕ, ◌+◌, ◌≤◌, Bool, true, false, not, cond, List, [], ◌∷◌, length, None, refl, sym, ap, subst, ◌∙◌, arith}
 use Rattle.s3_types.specs.Prelude.{FinMap, insert, remove, from_sorted, entries-from_sorted, get-from_sorted, get-from_entries, get-entries, get-remove, same_map, where_key, find-where_key}
 use Rattle.store_frame.specs.Prelude.{entries, entries_sorted, from_entries, entries-insert, find, put, by_order, filter, eq_by_cmp, is_eq, IsTotalOrder, eq_by_cmp_equiv, Ordering, Less, Equal, Greater}
 use Rattle.proof_base.proofs.Common.{CmpEqualImpliesEq}
+use Rattle.proof_base.proofs.Members.{none_some}
 use Rattle.std.specs.FinMap.Entries.{is_sorted-where_key}
 use Rattle.std.specs.Cmp.{alike_right}
 use Rattle.proof_base.proofs.Tree.{entries_empty}
@@ -21,36 +22,28 @@ one_most false = omega arith
 -- those that pass another test too are no more
 pub count_where : {E : Type 0} (t q : E → Bool) (es : List E) → count t (filter q es) ≤ count t es
 count_where t q [] = omega arith
-count_where t q (e ∷ es) = by (q e) (count_where t q es)
-  where
-    by : (b : Bool) → count t (filter q es) ≤ count t es → count t (cond b (e ∷ filter q es) (filter q es)) ≤ count t (e ∷ es)
-    by true ih = omega (arith, ih, count_more t e (filter q es), count_more t e es)
-    by false ih = omega (arith, ih, count_more t e es)
+count_where t q (e ∷ es) = elim (q e) as (λ b. count t (cond b (e ∷ filter q es) (filter q es)) ≤ count t (e ∷ es)) [
+      true ↦ omega (arith, count_where t q es, count_more t e (filter q es), count_more t e es)
+    | false ↦ omega (arith, count_where t q es, count_more t e es)
+  ]
 
 module _ {K X : Type 0} (R : K → K → Ordering) (t : K × X → Bool) where
   pub count_put : (k : K) (v : X) (es : List (K × X)) → count t (put R k v es) ≤ count t es + 1
   count_put k v [] = let m = one_most (t (k, v)) in omega (arith, count_more t (k, v) [], m)
-  count_put k v (e ∷ es) = by (R k e.0) (count_put k v es)
-    where
-      by : (r : Ordering) → count t (put R k v es) ≤ count t es + 1 → count t (by_order r ((k, v) ∷ e ∷ es) ((e.0, v) ∷ es) (e ∷ put R k v es)) ≤ count t (e ∷ es) + 1
-      by Less ih = let m = one_most (t (k, v)) in omega (arith, count_more t (k, v) (e ∷ es), m)
-      by Equal ih = let m = one_most (t (e.0, v)) in omega (arith, count_more t (e.0, v) es, count_more t e es, m)
-      by Greater ih = omega (arith, ih, count_more t e (put R k v es), count_more t e es)
+  count_put k v (e ∷ es) = elim (R k e.0) as (λ r. count t (by_order r ((k, v) ∷ e ∷ es) ((e.0, v) ∷ es) (e ∷ put R k v es)) ≤ count t (e ∷ es) + 1) [
+      Less ↦ omega (arith, count_more t (k, v) (e ∷ es), one_most (t (k, v)))
+    | Equal ↦ omega (arith, count_more t (e.0, v) es, count_more t e es, one_most (t (e.0, v)))
+    | Greater ↦ omega (arith, count_put k v es, count_more t e (put R k v es), count_more t e es)
+  ]
 
   -- a key that is new
   pub count_new : (k : K) (v : X) (es : List (K × X)) → find R k es ≡ None → count t (put R k v es) ≡ one (t (k, v)) + count t es
   count_new k v [] h = count_more t (k, v) []
-  count_new k v (e ∷ es) h = by (R k e.0) refl (count_new k v es)
-    where
-      by : (r : Ordering) → R k e.0 ≡ r → (find R k es ≡ None → count t (put R k v es) ≡ one (t (k, v)) + count t es) → count t (by_order r ((k, v) ∷ e ∷ es) ((e.0, v) ∷ es) (e ∷ put R k v es)) ≡ one (t (k, v)) + count t (e ∷ es)
-      by Less i ih = count_more t (k, v) (e ∷ es)
-      by Equal i ih = absurd (some_none (sym (ap (λ r. cond (is_eq r) (Some e.1) (find R k es)) i) ∙ h))
-        where
-          some_none : Some e.1 ≡ None → ⊥
-          some_none g = cc
-      by Greater i ih =
-          let g : find R k es ≡ None = sym (ap (λ r. cond (is_eq r) (Some e.1) (find R k es)) i) ∙ h in
-          omega (arith, ih g, count_more t e (put R k v es), count_more t e es)
+  count_new k v (e ∷ es) h = elim (R k e.0) as (λ r. R k e.0 ≡ r → count t (by_order r ((k, v) ∷ e ∷ es) ((e.0, v) ∷ es) (e ∷ put R k v es)) ≡ one (t (k, v)) + count t (e ∷ es)) [
+      Less ↦ λ i. count_more t (k, v) (e ∷ es)
+    | Equal ↦ λ i. absurd (none_some (rw i at h) refl)
+    | Greater ↦ λ i. omega (arith, count_new k v es (rw i at h), count_more t e (put R k v es), count_more t e es)
+  ] refl
 
 module _ {K X : Type 0} {R : K → K → Ordering} (o : IsTotalOrder R) where
   -- what a map has without a key

@@ -1,7 +1,7 @@
 -- What walks and sweeps have left falls.
-use Rattle.std.proofs.Common.{◌≡◌, ℕ, ◌+◌, ◌*◌, ◌-◌, ◌<◌, ◌≤◌, Bool, true, false, cond, suc, nat_lt, List, [], ◌∷◌, ◌++◌, length, take, drop, Option, Some, None, refl, sym, ap, subst, ◌∙◌, arith, length-append, length-drop}
-use Rattle.proof_base.proofs.Common.{length-take}
-use Rattle.store_frame.specs.Prelude.{filter, option_map, Scene, BucketContent, answer, answer_at, apply, listed, Request, UploadRef, PageEntry}
+use Rattle.std.proofs.Common.{◌≡◌, ℕ, ◌+◌, ◌*◌, ◌-◌, ◌<◌, ◌≤◌, Bool, true, false, cond, nat_lt, List, [], ◌∷◌, ◌++◌, length, take, drop, Option, Some, None, refl, sym, ap, subst, ◌∙◌, arith, length-append, length-drop}
+use Rattle.proof_base.proofs.Common.{length-take, length-map}
+use Rattle.store_frame.specs.Prelude.{text_in, filter, Scene, BucketContent, answer, answer_at, apply, listed, Request, UploadRef, PageEntry}
 use Rattle.std.specs.FinMap as fin
 use Rattle.proof_base.proofs.Numbers.{below_is}
 use Rattle.s3_types.specs.Multipart as uploads
@@ -26,21 +26,12 @@ rising m n h = omega arith
 
 length_chosen : (t : List ℕ → Bool) (ks : List (List ℕ)) → length (filter t ks) ≤ length ks
 length_chosen t [] = omega arith
-length_chosen t (k ∷ ks) = by (t k) (length_chosen t ks)
-  where
-    by : (b : Bool) → length (filter t ks) ≤ length ks → length (cond b (k ∷ filter t ks) (filter t ks)) ≤ length (k ∷ ks)
-    by true h = omega (arith, h)
-    by false h = omega (arith, h)
+length_chosen t (k ∷ ks) = elim (t k) as (λ b. length (cond b (k ∷ filter t ks) (filter t ks)) ≤ length (k ∷ ks)) [ true ↦ omega (arith, length_chosen t ks) | false ↦ omega (arith, length_chosen t ks) ]
 
 some_thousands : (n : ℕ) → 0 < n → 0 < thousands n
 some_thousands n h = omega arith
 
 -- ---- keys
-
--- the keys on a page are as many as its entries
-on_page : (entries : List PageEntry) → length (keys_on entries) ≡ length entries
-on_page [] = refl
-on_page (x ∷ xs) = ap (λ n. suc n) (on_page xs)
 
 module _ (b p : List ℕ) (keys : List (List ℕ)) (s : Scene) where
   -- what is left once a page of so many is added
@@ -56,10 +47,10 @@ module _ (b p : List ℕ) (keys : List (List ℕ)) (s : Scene) where
 
   -- a page that is full
   full : (l : List PageEntry) → 1000 < length l → length (keys ++ keys_on (take 1000 l)) ≡ length keys + 1000
-  full l h = let t = length-take 1000 l in omega (arith, length-append keys (keys_on (take 1000 l)), on_page (take 1000 l), t)
+  full l h = let t = length-take 1000 l in omega (arith, length-append keys (keys_on (take 1000 l)), length-map (take 1000 l) text_in, t)
 
   last_page : (l : List PageEntry) → length (keys ++ keys_on (take 1000 l)) ≤ length keys + length l
-  last_page l = let t = length-take 1000 l in omega (arith, length-append keys (keys_on (take 1000 l)), on_page (take 1000 l), t)
+  last_page l = let t = length-take 1000 l in omega (arith, length-append keys (keys_on (take 1000 l)), length-map (take 1000 l) text_in, t)
 
   -- ---- a walk
 

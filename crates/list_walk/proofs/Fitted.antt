@@ -1,5 +1,5 @@
 -- What the tests of replies say.
-use Rattle.std.proofs.Common.{◌≡◌, Bool, true, false, List, [], ◌∷◌, Decides, refl, sym, ap, subst, ◌∙◌}
+use Rattle.std.proofs.Common.{◌≡◌, Bool, List, [], ◌∷◌, Decides, refl, sym, ap, subst, ◌∙◌}
 use Rattle.proof_base.proofs.Common.{true≢false}
 use Rattle.store_frame.specs.Prelude.{list_all, Reply, Page, PageEntry, Prefix}
 use Rattle.std.proofs.lemmas.Bool.Decides.{Decides-at, Decides-and}

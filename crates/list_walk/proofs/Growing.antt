@@ -1,8 +1,9 @@
 -- What one request adds to what is there.
-use Rattle.std.proofs.Common.{◌≡◌, ℕ, ◌+◌, ◌≤◌, Bool, true, false, cond, List, [], ◌∷◌, length, nat_lt, Option, Some, None, Result, Ok, Err, refl, sym, ap, subst, ◌∙◌, arith}
+use Rattle.std.proofs.Common.{◌≡◌, ℕ, inl, inr, ◌+◌, ◌≤◌, true, false, cond, List, [], ◌∷◌, length, nat_lt, Option, Some, None, Ok, Err, refl, ap, ◌∙◌, arith}
 use Rattle.s3_types.specs.Prelude.{get-insert}
-use Rattle.store_frame.specs.Prelude.{filter, eq_by_cmp, nat_cmp, nat_cmp_total, Equal, text_cmp, text_total, is_bucket, Scene, Objects, Files, Upload, Uploads, BucketContent, Content, new_bucket, apply, apply_at, apply_in, bucket_of, without, copied, completed, renamed, aborted, part_put, begins, listed, live, is_part_number, joined, ref_of, with_part, Object, MOST_ENTRIES, Refusal, Request, MakeBucket, PutObject, DeleteObject, DeleteObjects, CopyObject, CreateUpload, UploadPart, CompleteUpload, AbortUpload, ClusterPut, ClusterRename, ClusterGet, ClusterDelete, ClusterList, UploadRef}
+use Rattle.store_frame.specs.Prelude.{filter, eq_by_cmp, nat_cmp, nat_cmp_total, Equal, text_cmp, text_total, is_bucket, Scene, Objects, Files, Upload, Uploads, BucketContent, Content, new_bucket, apply, apply_at, apply_in, bucket_of, without, copied, completed, renamed, aborted, part_put, begins, listed, live, is_part_number, joined, ref_of, with_part, Object, MOST_ENTRIES, Request, MakeBucket, PutObject, DeleteObject, DeleteObjects, CopyObject, CreateUpload, UploadPart, CompleteUpload, AbortUpload, ClusterPut, ClusterRename, ClusterGet, ClusterDelete, ClusterList, UploadRef}
 use Rattle.proof_base.proofs.Common.{exact_bytes}
+use Rattle.proof_base.proofs.Members.{true_or_false}
 use Rattle.std.specs.FinMap as fin
 use Rattle.proof_base.proofs.Tree.{tied, entries_empty}
 use Rattle.s3_types.specs.Answer.{made}
@@ -21,27 +22,17 @@ module _ (f : BucketContent → ℕ) (d : ℕ) where
   grown : (s : Scene) (r : Request) (o : Option BucketContent) → fin.get s.content.buckets (bucket_of r) ≡ o → ((c : BucketContent) (n m : ℕ) → f (apply_in c n m r) ≤ f c + d)
       → (b : List ℕ) → count_in f (fin.get (apply_at o s.content r).buckets b) ≤ count_in f (fin.get s.content.buckets b) + d
   grown s r None e h b = omega arith
-  grown s r (Some c) e h b =
-      subst (λ x. count_in f x ≤ count_in f (fin.get s.content.buckets b) + d) (sym (get-insert text_total s.content.buckets (bucket_of r) (apply_in c s.content.next s.content.minimum r) b))
-      (by (eq_by_cmp text_cmp b (bucket_of r)) refl)
-    where
-      by : (t : Bool) → eq_by_cmp text_cmp b (bucket_of r) ≡ t → count_in f (cond t (Some (apply_in c s.content.next s.content.minimum r)) (fin.get s.content.buckets b)) ≤ count_in f (fin.get s.content.buckets b) + d
-      by true t =
-          subst (λ x. f (apply_in c s.content.next s.content.minimum r) ≤ count_in f x + d) (sym e ∙ ap (fin.get s.content.buckets) (sym (exact_bytes b (bucket_of r) (tied (text_cmp b (bucket_of r)) t))))
-          (h c s.content.next s.content.minimum)
-      by false t = omega arith
+  grown s r (Some c) e h b = rw (get-insert text_total s.content.buckets (bucket_of r) (apply_in c s.content.next s.content.minimum r) b) (elim (true_or_false (eq_by_cmp text_cmp b (bucket_of r))) [
+    | inl t ↦ rw (t, exact_bytes b (bucket_of r) (tied (text_cmp b (bucket_of r)) t), e) (h c s.content.next s.content.minimum)
+    | inr t ↦ rw t (omega arith)
+  ])
 
   grown_new : f new_bucket ≡ 0 → (c : Content) (name : List ℕ) (o : Option BucketContent) (b : List ℕ) → count_in f (fin.get (made c name o).buckets b) ≤ count_in f (fin.get c.buckets b) + d
   grown_new z c name (Some x) b = omega arith
-  grown_new z c name None b = by (is_bucket name)
-    where
-      there : (t : Bool) → count_in f (cond t (Some new_bucket) (fin.get c.buckets b)) ≤ count_in f (fin.get c.buckets b) + d
-      there true = omega (arith, z)
-      there false = omega arith
-
-      by : (t : Bool) → count_in f (fin.get (cond t (record { buckets = fin.insert c.buckets name new_bucket; next = c.next; minimum = c.minimum }) c).buckets b) ≤ count_in f (fin.get c.buckets b) + d
-      by true = subst (λ x. count_in f x ≤ count_in f (fin.get c.buckets b) + d) (sym (get-insert text_total c.buckets name new_bucket b)) (there (eq_by_cmp text_cmp b name))
-      by false = omega arith
+  grown_new z c name None b = elim (true_or_false (is_bucket name)) [
+    | inr t ↦ rw t (omega arith)
+    | inl t ↦ rw (t, get-insert text_total c.buckets name new_bucket b) (elim (true_or_false (eq_by_cmp text_cmp b name)) [ inl e ↦ rw e (omega (arith, z)) | inr e ↦ rw e (omega arith) ])
+  ]
 
   pub grows : f new_bucket ≡ 0 → (s : Scene) (r : Request) → ((c : BucketContent) (n m : ℕ) → f (apply_in c n m r) ≤ f c + d) → (b : List ℕ) → in_bucket (apply s r) b f ≤ in_bucket s b f + d
   grows z s (MakeBucket name) h b = grown_new z s.content name (fin.get s.content.buckets name) b
@@ -55,6 +46,9 @@ module _ (f : BucketContent → ℕ) (d : ℕ) where
 -- ---- keys
 
 module _ (p a : List ℕ) where
+  abbrev K : Objects → ℕ
+  K m = length (listed p false a m)
+
   more_keys : (m : Objects) (k : List ℕ) (x : Object) → length (listed p false a (fin.insert m k x)) ≤ length (listed p false a m) + 1
   more_keys m k x = let i = count_insert text_total (is_left p a) m k x in omega (arith, i, listed_count p a m, listed_count p a (fin.insert m k x))
 
@@ -65,24 +59,12 @@ module _ (p a : List ℕ) where
   keys_without m [] = omega arith
   keys_without m (k ∷ ks) = let i = keys_without (fin.remove m k) ks in let j = no_more_keys m k in omega (arith, i, j)
 
-  keys_deleted : (b : Bool) (m : Objects) (ks : List (List ℕ)) → length (listed p false a (cond b m (without m ks))) ≤ length (listed p false a m)
-  keys_deleted true m ks = omega arith
-  keys_deleted false m ks = keys_without m ks
-
-  keys_copied : (m : Objects) (k : List ℕ) (o : Option Object) → length (listed p false a (copied m k o)) ≤ length (listed p false a m) + 1
-  keys_copied m k (Some x) = more_keys m k x
-  keys_copied m k None = omega arith
-
-  keys_completed : (c : BucketContent) (k : List ℕ) (id : ℕ) (r : Result (List ℕ) Refusal) → length (listed p false a (completed c k id r).objects) ≤ length (listed p false a c.objects) + 1
-  keys_completed c k id (Ok bytes) = more_keys c.objects k (record { bytes = bytes; header = None })
-  keys_completed c k id (Err r) = omega arith
-
   keys_by : (r : Request) (c : BucketContent) (n m : ℕ) → length (listed p false a (apply_in c n m r).objects) ≤ length (listed p false a c.objects) + one_if (adds_key r)
   keys_by (PutObject b k bytes header) c n m = more_keys c.objects k (record { bytes = bytes; header = header })
   keys_by (DeleteObject b k) c n m = let i = no_more_keys c.objects k in omega (arith, i)
-  keys_by (DeleteObjects b ks) c n m = let i = keys_deleted (nat_lt MOST_ENTRIES (length ks)) c.objects ks in omega (arith, i)
-  keys_by (CopyObject b source target) c n m = keys_copied c.objects target (fin.get c.objects source)
-  keys_by (CompleteUpload b k id ns) c n m = keys_completed c k id (joined (live c.uploads k id) ns m)
+  keys_by (DeleteObjects b ks) c n m = elim (nat_lt MOST_ENTRIES (length ks)) as (λ t. K (cond t c.objects (without c.objects ks)) ≤ K c.objects + 0) [ true ↦ omega arith | false ↦ omega (arith, keys_without c.objects ks) ]
+  keys_by (CopyObject b source target) c n m = elim (fin.get c.objects source) as (λ o. K (copied c.objects target o) ≤ K c.objects + 1) [ Some x ↦ more_keys c.objects target x | None ↦ omega arith ]
+  keys_by (CompleteUpload b k id ns) c n m = elim (joined (live c.uploads k id) ns m) as (λ r. K (completed c k id r).objects ≤ K c.objects + 1) [ Ok bytes ↦ more_keys c.objects k _ | Err r ↦ omega arith ]
   keys_by _ c n m = omega arith
 
   none_new : length (listed p false a new_bucket.objects) ≡ 0
@@ -91,33 +73,24 @@ module _ (p a : List ℕ) where
 -- ---- uploads
 
 module _ (p : List ℕ) (a : Option UploadRef) where
+  abbrev U : Uploads → ℕ
+  U m = length (uploads.listed p a m)
+
   more_refs : (m : Uploads) (i : ℕ) (u : Upload) → length (uploads.listed p a (fin.insert m i u)) ≤ length (uploads.listed p a m) + 1
   more_refs m i u = let j = count_insert nat_cmp_total (λ e. is_left_ref p a (ref_of e).0) m i u in omega (arith, j, refs_count p a m, refs_count p a (fin.insert m i u))
 
   no_more_refs : (m : Uploads) (i : ℕ) → length (uploads.listed p a (fin.remove m i)) ≤ length (uploads.listed p a m)
   no_more_refs m i = let j = count_remove nat_cmp_total exact_numbers (λ e. is_left_ref p a (ref_of e).0) m i in omega (arith, j, refs_count p a m, refs_count p a (fin.remove m i))
 
-  refs_put : (b : Bool) (m : Uploads) (i : ℕ) (u : Upload) → length (uploads.listed p a (cond b (fin.insert m i u) m)) ≤ length (uploads.listed p a m) + 1
-  refs_put true m i u = more_refs m i u
-  refs_put false m i u = omega arith
-
   refs_parted : (m : Uploads) (i : ℕ) (o : Option Upload) (n : ℕ) (bytes : List ℕ) → length (uploads.listed p a (part_put m i o n bytes)) ≤ length (uploads.listed p a m) + 1
   refs_parted m i None n bytes = omega arith
-  refs_parted m i (Some u) n bytes = refs_put (is_part_number n) m i (with_part u n bytes)
-
-  refs_aborted : (m : Uploads) (i : ℕ) (o : Option Upload) → length (uploads.listed p a (aborted m i o)) ≤ length (uploads.listed p a m)
-  refs_aborted m i (Some u) = no_more_refs m i
-  refs_aborted m i None = omega arith
-
-  refs_completed : (c : BucketContent) (k : List ℕ) (id : ℕ) (r : Result (List ℕ) Refusal) → length (uploads.listed p a (completed c k id r).uploads) ≤ length (uploads.listed p a c.uploads)
-  refs_completed c k id (Ok bytes) = no_more_refs c.uploads id
-  refs_completed c k id (Err r) = omega arith
+  refs_parted m i (Some u) n bytes = elim (is_part_number n) as (λ b. U (cond b (fin.insert m i (with_part u n bytes)) m) ≤ U m + 1) [ true ↦ more_refs m i (with_part u n bytes) | false ↦ omega arith ]
 
   refs_by : (r : Request) (c : BucketContent) (n m : ℕ) → length (uploads.listed p a (apply_in c n m r).uploads) ≤ length (uploads.listed p a c.uploads) + one_if (sets_upload r)
   refs_by (CreateUpload b k) c n m = more_refs c.uploads n (record { key = k; parts = fin.empty })
   refs_by (UploadPart b k id number bytes) c n m = refs_parted c.uploads id (live c.uploads k id) number bytes
-  refs_by (CompleteUpload b k id ns) c n m = let i = refs_completed c k id (joined (live c.uploads k id) ns m) in omega (arith, i)
-  refs_by (AbortUpload b k id) c n m = let i = refs_aborted c.uploads id (live c.uploads k id) in omega (arith, i)
+  refs_by (CompleteUpload b k id ns) c n m = elim (joined (live c.uploads k id) ns m) as (λ r. U (completed c k id r).uploads ≤ U c.uploads + 0) [ Ok bytes ↦ omega (arith, no_more_refs c.uploads id) | Err r ↦ omega arith ]
+  refs_by (AbortUpload b k id) c n m = elim (live c.uploads k id) as (λ o. U (aborted c.uploads id o) ≤ U c.uploads + 0) [ Some u ↦ omega (arith, no_more_refs c.uploads id) | None ↦ omega arith ]
   refs_by _ c n m = omega arith
 
   no_refs_new : length (uploads.listed p a new_bucket.uploads) ≡ 0

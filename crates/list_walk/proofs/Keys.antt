@@ -1,9 +1,9 @@
 -- Entries that are keys.
-use Rattle.std.proofs.Common.{◌≡◌, ℕ, zero, suc, Bool, true, false, cond, List, [], ◌∷◌, ◌++◌, map, take, Option, Some, None, Result, Ok, Err, IfOk, refl, sym, ap, ◌∙◌}
+use Rattle.std.proofs.Common.{◌≡◌, ℕ, suc, Bool, true, false, cond, List, [], ◌∷◌, ◌++◌, map, take, Option, Some, None, Result, Ok, Err, IfOk, refl, sym, ap, ◌∙◌}
 use Rattle.store_frame.specs.Prelude.{filter, is_lt, text_cmp, Objects, begins, entry_of, listed, text_in, folded_from, is_again, Object, PageEntry, Reply, Page}
 use Rattle.std.specs.FinMap as fin
 use Rattle.list_walk.specs.Walks.{Walked, More, Whole, walked_by, keys_on, walked, walked_entries}
-use Rattle.list_walk.specs.Fitting.{IsKey, AreKeys}
+use Rattle.list_walk.specs.Fitting.{AreKeys}
 
 pub are_keys : (es fs : List PageEntry) → AreKeys es → AreKeys fs → AreKeys (es ++ fs)
 are_keys [] fs h g = g
@@ -21,21 +21,18 @@ keys_mapped p (e ∷ es) = (tt, keys_mapped p es)
 
 keys_filtered : (test : PageEntry → Bool) (es : List PageEntry) → AreKeys es → AreKeys (filter test es)
 keys_filtered test [] h = tt
-keys_filtered test (e ∷ es) h =
-    (elim (test e) as (λ b. AreKeys (filter test es) → AreKeys (cond b (e ∷ filter test es) (filter test es))) [ true ↦ λ ih. (h.0, ih) | false ↦ λ ih. ih ]) (keys_filtered test es h.1)
+keys_filtered test (e ∷ es) h = elim (test e) as (λ b. AreKeys (cond b (e ∷ filter test es) (filter test es))) [ true ↦ (h.0, keys_filtered test es h.1) | false ↦ keys_filtered test es h.1 ]
 
 keys_folded : (last : Option (List ℕ)) (es : List PageEntry) → AreKeys es → AreKeys (folded_from last es)
 keys_folded last [] h = tt
-keys_folded last (e ∷ es) h = by (is_again last e) (keys_folded last es h.1) (keys_folded (Some (text_in e)) es h.1)
-  where
-    by : (b : Bool) → AreKeys (folded_from last es) → AreKeys (folded_from (Some (text_in e)) es) → AreKeys (cond b (folded_from last es) (e ∷ folded_from (Some (text_in e)) es))
-    by true a b = a
-    by false a b = (h.0, b)
+keys_folded last (e ∷ es) h = elim (is_again last e) as (λ b. AreKeys (cond b (folded_from last es) (e ∷ folded_from (Some (text_in e)) es))) [
+      true ↦ keys_folded last es h.1
+    | false ↦ (h.0, keys_folded (Some (text_in e)) es h.1)
+  ]
 
 keys_taken : (n : ℕ) (es : List PageEntry) → AreKeys es → AreKeys (take n es)
-keys_taken zero es h = tt
-keys_taken (suc n) [] h = tt
 keys_taken (suc n) (e ∷ es) h = (h.0, keys_taken n es h.1)
+keys_taken _ _ h = tt
 
 pub keys_listed : (p a : List ℕ) (m : Objects) → AreKeys (listed p false a m)
 keys_listed p a m = keys_folded None _ (keys_filtered (λ x. is_lt (text_cmp a (text_in x))) _ (keys_mapped p (filter (λ e. begins p e.0) (fin.entries m))))

@@ -1,10 +1,13 @@
 -- How many keys and uploads are listed.
-use Rattle.std.proofs.Common.{◌≡◌, ℕ, ◌+◌, zero, suc, Bool, true, false, ◌&&◌, cond, List, [], ◌∷◌, ◌++◌, length, map, take, drop, Option, Some, None, refl, sym, ap, ◌∙◌, arith}
-use Rattle.store_frame.specs.Prelude.{find, filter, AllByRecursion, keys_of, is_lt, is_eq, nat_cmp, ordering_then, IsTotalOrder, nat_cmp_total, Ordering, Less, Equal, Greater, text_cmp, text_total, Objects, Upload, Uploads, begins, entry_of, listed, text_in, ref_cmp, ref_of, refs, is_behind, Object, UploadRef, PageEntry}
-use Rattle.proof_base.proofs.Common.{then_total, on_total, sorted_head, sorted_tail}
+use Rattle.std.proofs.Common.{◌≡◌, ℕ, inl, inr, ◌+◌, zero, suc, Bool, true, false, ◌&&◌, cond, List, [], ◌∷◌, ◌++◌, length, map, take, drop, Option, Some, None, refl, sym, ap, ◌∙◌, arith}
+use Rattle.store_frame.specs.Prelude.{find, filter, AllByRecursion, keys_of, is_lt, is_eq, nat_cmp, ordering_then, IsTotalOrder, nat_cmp_total, Ordering, Less, Equal, text_cmp, text_total, Objects, Upload, Uploads, begins, listed, text_in, ref_cmp, ref_of, refs, is_behind, Object, UploadRef, PageEntry}
+use Rattle.std.proofs.Math.Bool.{and-false}
+use Rattle.proof_base.proofs.Bools.{and_true}
+use Rattle.proof_base.proofs.Members.{true_or_false}
+use Rattle.proof_base.proofs.Common.{and_parts, then_total, on_total, sorted_head, sorted_tail}
 use Rattle.std.specs.FinMap as fin
 use Rattle.std.specs.List.Sorted.{IsStrictlySortedBy}
-use Rattle.proof_base.proofs.Less.{lt, lt_trans}
+use Rattle.proof_base.proofs.Less.{lt, lt_trans, less_of}
 use Rattle.proof_base.proofs.Tree.{map_sorted}
 use Rattle.s3_types.specs.Multipart as uploads
 use Rattle.store_frame.specs.Walk.{walked}
@@ -25,41 +28,20 @@ Behind a ks = AllByRecursion (λ k. text_cmp a k ≡ Less) ks
 
 behind_all : (p a : List ℕ) (es : List (List ℕ × Object)) → Behind a (keys_of es) → count (is_left p a) es ≡ count (λ e. begins p e.0) es
 behind_all p a [] h = refl
-behind_all p a (e ∷ es) h =
-    count_more (is_left p a) e es
-    ∙ ap (λ b. one (begins p e.0 && b) + count (is_left p a) es) (ap is_lt h.0)
-    ∙ ap (λ n. one (begins p e.0 && true) + n) (behind_all p a es h.1)
-    ∙ ap (λ b. one b + count (λ e. begins p e.0) es) (and_true (begins p e.0))
-    ∙ sym (count_more (λ e. begins p e.0) e es)
-  where
-    and_true : (b : Bool) → (b && true) ≡ b
-    and_true true = refl
-    and_true false = refl
+behind_all p a (e ∷ es) h = rw (count_more (is_left p a) e es, count_more (λ e. begins p e.0) e es, ap is_lt h.0, and_true (begins p e.0), behind_all p a es h.1) refl
 
 behind_too : (a k : List ℕ) (ks : List (List ℕ)) → lt text_cmp a k ≡ true → Behind k ks → Behind a ks
 behind_too a k [] l h = tt
-behind_too a k (q ∷ ks) l h = (less (text_cmp a q) (lt_trans text_total a k q l (ap is_lt h.0)), behind_too a k ks l h.1)
-  where
-    less : (r : Ordering) → is_lt r ≡ true → r ≡ Less
-    less Less e = refl
-    less _ e = absurd (cc)
+behind_too a k (q ∷ ks) l h = (less_of (text_cmp a q) (lt_trans text_total a k q l (ap is_lt h.0)), behind_too a k ks l h.1)
 
 walked_count : (p a : List ℕ) (es : List (List ℕ × Object)) → IsStrictlySortedBy text_cmp (keys_of es) → length (walked p false a es) ≡ count (is_left p a) es
 walked_count p a [] s = refl
 walked_count p a (e ∷ es) s =
-    by (begins p e.0) (lt text_cmp a e.0) refl (λ b. walked_count p b es (sorted_tail text_cmp e.0 (keys_of es) s))
-    ∙ sym (count_more (is_left p a) e es)
-  where
-    later : Behind e.0 (keys_of es)
-    later = sorted_head text_cmp e.0 (keys_of es) s
-
-    by : (b c : Bool) → lt text_cmp a e.0 ≡ c → ((m : List ℕ) → length (walked p false m es) ≡ count (is_left p m) es)
-        → length (cond (b && c) (entry_of p false e ∷ walked p false e.0 es) (walked p false a es)) ≡ one (b && c) + count (is_left p a) es
-    by true true t ih =
-        let i = ih e.0 in let j = behind_all p e.0 es later in let k = behind_all p a es (behind_too a e.0 (keys_of es) t later) in
-        omega (arith, i, j, k)
-    by true false t ih = let i = ih a in omega (arith, i)
-    by false c t ih = let i = ih a in omega (arith, i)
+    let later = sorted_head text_cmp e.0 (keys_of es) s in let rest = sorted_tail text_cmp e.0 (keys_of es) s in
+    rw (count_more (is_left p a) e es) (elim (true_or_false (is_left p a e)) [
+      | inl t ↦ rw t (omega (arith, walked_count p e.0 es rest, behind_all p e.0 es later, behind_all p a es (behind_too a e.0 (keys_of es) (and_parts (begins p e.0) _ t).1 later)))
+      | inr n ↦ rw n (omega (arith, walked_count p a es rest))
+    ])
 
 -- as many are listed as there are left
 pub listed_count : (p a : List ℕ) (m : Objects) → length (listed p false a m) ≡ count (is_left p a) (fin.entries m)
@@ -108,19 +90,10 @@ count_mapped f t (x ∷ xs) = count_more t (f x) (map f xs) ∙ ap (λ n. one (t
 
 count_both : {A : Type 0} (p q : A → Bool) (xs : List A) → count p (filter q xs) ≡ count (λ x. p x && q x) xs
 count_both p q [] = refl
-count_both p q (x ∷ xs) = by (q x) (count_both p q xs) ∙ sym (count_more (λ x. p x && q x) x xs)
-  where
-    by : (b : Bool) → count p (filter q xs) ≡ count (λ x. p x && q x) xs → count p (cond b (x ∷ filter q xs) (filter q xs)) ≡ one (p x && b) + count (λ x. p x && q x) xs
-    by true ih = count_more p x (filter q xs) ∙ ap (λ n. one (p x) + n) ih ∙ ap (λ b. one b + count (λ x. p x && q x) xs) (sym (and_true (p x)))
-      where
-        and_true : (b : Bool) → (b && true) ≡ b
-        and_true true = refl
-        and_true false = refl
-    by false ih = let z : one (p x && false) ≡ 0 = ap one (and_false (p x)) in omega (arith, ih, z)
-      where
-        and_false : (b : Bool) → (b && false) ≡ false
-        and_false true = refl
-        and_false false = refl
+count_both p q (x ∷ xs) = rw (count_more (λ x. p x && q x) x xs) (elim (true_or_false (q x)) [
+  | inl t ↦ rw (t, and_true (p x), count_more p x (filter q xs), count_both p q xs) refl
+  | inr n ↦ rw (n, and-false (p x), count_both p q xs) (omega arith)
+])
 
 -- as many are listed as there are left
 pub refs_count : (p : List ℕ) (a : Option UploadRef) (m : Uploads) → length (uploads.listed p a m) ≡ count (λ e. is_left_ref p a (ref_of e).0) (fin.entries m)

@@ -1,5 +1,6 @@
 -- What is left of the live uploads behind a page of them.
-use Rattle.std.proofs.Common.{◌≡◌, ℕ, zero, suc, Bool, true, false, cond, List, [], ◌∷◌, ◌++◌, length, take, drop, map, Option, Some, None, refl, sym, ap, subst, ◌∙◌}
+use Rattle.std.proofs.Common.{◌≡◌, ℕ, inl, inr, zero, suc, Bool, true, false, List, [], ◌∷◌, ◌++◌, take, drop, map, Option, Some, None, refl, sym, ap, subst, ◌∙◌}
+use Rattle.proof_base.proofs.Members.{true_or_false}
 use Rattle.proof_base.proofs.Common.{sorted_head, sorted_tail}
 use Rattle.store_frame.specs.Prelude.{filter, AllByRecursion, is_lt, Less, Uploads, begins, ref_cmp, refs, is_behind, UploadRef}
 use Rattle.std.specs.List.Sorted.{IsStrictlySortedBy}
@@ -21,43 +22,39 @@ Later y zs = AllByRecursion (λ z. ref_cmp y z ≡ Less) zs
 
 all_pass : (f : UploadRef → Bool) (y : UploadRef) (zs : List UploadRef) → ((z : UploadRef) → lt ref_cmp y z ≡ true → f z ≡ true) → Later y zs → filter f zs ≡ zs
 all_pass f y [] u h = refl
-all_pass f y (z ∷ zs) u h = ap (λ b. cond b (z ∷ filter f zs) (filter f zs)) (u z (ap is_lt h.0)) ∙ ap (λ l. z ∷ l) (all_pass f y zs u h.1)
+all_pass f y (z ∷ zs) u h = rw (u z (ap is_lt h.0), all_pass f y zs u h.1) refl
 
 later_first : (q f : UploadRef → Bool) (y : UploadRef) (zs : List UploadRef) (x : UploadRef) (xs : List UploadRef) → Later y zs → filter q (filter f zs) ≡ x ∷ xs → lt ref_cmp y x ≡ true
 later_first q f y [] x xs l h = absurd (cc)
-later_first q f y (z ∷ zs) x xs l h = by (f z) refl (q z) refl (later_first q f y zs x xs l.1)
-  where
-    by : (b : Bool) → f z ≡ b → (c : Bool) → q z ≡ c → (filter q (filter f zs) ≡ x ∷ xs → lt ref_cmp y x ≡ true) → lt ref_cmp y x ≡ true
-    by false n c e ih = ih (ap (λ b. filter q (cond b (z ∷ filter f zs) (filter f zs))) (sym n) ∙ h)
-    by true t false e ih = ih (ap (λ b. cond b (z ∷ filter q (filter f zs)) (filter q (filter f zs))) (sym e) ∙ ap (λ b. filter q (cond b (z ∷ filter f zs) (filter f zs))) (sym t) ∙ h)
-    by true t true e ih =
-        let g : z ∷ filter q (filter f zs) ≡ x ∷ xs = ap (λ b. cond b (z ∷ filter q (filter f zs)) (filter q (filter f zs))) (sym e) ∙ ap (λ b. filter q (cond b (z ∷ filter f zs) (filter f zs))) (sym t) ∙ h in
-        let i : z ≡ x = cc in
-        subst (λ x. lt ref_cmp y x ≡ true) i (ap is_lt l.0)
+later_first q f y (z ∷ zs) x xs l h = elim (true_or_false (f z)) [
+  | inr n ↦ later_first q f y zs x xs l.1 (rw n at h)
+  | inl t ↦ elim (true_or_false (q z)) [
+    | inr e ↦ later_first q f y zs x xs l.1 (rw (t, e) at h)
+    | inl e ↦ let g : z ∷ filter q (filter f zs) ≡ x ∷ xs = rw (t, e) at h in let i : z ≡ x = cc in rw i at (ap is_lt l.0)
+  ]
+]
 
 refs_behind : (q : UploadRef → Bool) (m : Option UploadRef) (ys : List UploadRef) (x : UploadRef) (xs : List UploadRef) → IsStrictlySortedBy ref_cmp ys → filter q (filter (is_behind m) ys) ≡ x ∷ xs → filter q (filter (is_behind (Some x)) ys) ≡ xs
 refs_behind q m [] x xs s h = absurd (cc)
-refs_behind q m (y ∷ ys) x xs s h = by (is_behind m y) refl (q y) refl (refs_behind q m ys x xs (sorted_tail ref_cmp y ys s))
+refs_behind q m (y ∷ ys) x xs s h = elim (true_or_false (is_behind m y)) [
+  | inr n ↦ let g : filter q (filter (is_behind m) ys) ≡ x ∷ xs = rw n at h in rw (over g) (refs_behind q m ys x xs (sorted_tail ref_cmp y ys s) g)
+  | inl t ↦ elim (true_or_false (q y)) [
+    | inr e ↦ let g : filter q (filter (is_behind m) ys) ≡ x ∷ xs = rw (t, e) at h in rw (over g) (refs_behind q m ys x xs (sorted_tail ref_cmp y ys s) g)
+    | inl e ↦
+        let g : y ∷ filter q (filter (is_behind m) ys) ≡ x ∷ xs = rw (t, e) at h in
+        let i : y ≡ x = cc in
+        let j : filter q (filter (is_behind m) ys) ≡ xs = cc in
+        subst (λ x. filter q (filter (is_behind (Some x)) (y ∷ ys)) ≡ xs) i (rw (irrefl refs_total y)
+        (ap (filter q) (all_pass (is_behind (Some y)) y ys (λ z l. l) later ∙ sym (all_pass (is_behind m) y ys (λ z l. up m y z t l) later)) ∙ j))
+  ]
+]
   where
     later : Later y ys
     later = sorted_head ref_cmp y ys s
 
     -- y is passed over
-    over : filter q (filter (is_behind m) ys) ≡ x ∷ xs → (filter q (filter (is_behind m) ys) ≡ x ∷ xs → filter q (filter (is_behind (Some x)) ys) ≡ xs) → filter q (filter (is_behind (Some x)) (y ∷ ys)) ≡ xs
-    over g ih =
-        ap (λ b. filter q (cond b (y ∷ filter (is_behind (Some x)) ys) (filter (is_behind (Some x)) ys))) (lt_not refs_total y x (later_first q (is_behind m) y ys x xs later g))
-        ∙ ih g
-
-    by : (b : Bool) → is_behind m y ≡ b → (c : Bool) → q y ≡ c → (filter q (filter (is_behind m) ys) ≡ x ∷ xs → filter q (filter (is_behind (Some x)) ys) ≡ xs) → filter q (filter (is_behind (Some x)) (y ∷ ys)) ≡ xs
-    by false n c e ih = over (ap (λ b. filter q (cond b (y ∷ filter (is_behind m) ys) (filter (is_behind m) ys))) (sym n) ∙ h) ih
-    by true t false e ih = over (ap (λ b. cond b (y ∷ filter q (filter (is_behind m) ys)) (filter q (filter (is_behind m) ys))) (sym e) ∙ ap (λ b. filter q (cond b (y ∷ filter (is_behind m) ys) (filter (is_behind m) ys))) (sym t) ∙ h) ih
-    by true t true e ih =
-        let g : y ∷ filter q (filter (is_behind m) ys) ≡ x ∷ xs = ap (λ b. cond b (y ∷ filter q (filter (is_behind m) ys)) (filter q (filter (is_behind m) ys))) (sym e) ∙ ap (λ b. filter q (cond b (y ∷ filter (is_behind m) ys) (filter (is_behind m) ys))) (sym t) ∙ h in
-        let i : y ≡ x = cc in
-        let j : filter q (filter (is_behind m) ys) ≡ xs = cc in
-        subst (λ x. filter q (filter (is_behind (Some x)) (y ∷ ys)) ≡ xs) i
-        (ap (λ b. filter q (cond b (y ∷ filter (is_behind (Some y)) ys) (filter (is_behind (Some y)) ys))) (irrefl refs_total y)
-        ∙ ap (filter q) (all_pass (is_behind (Some y)) y ys (λ z l. l) later ∙ sym (all_pass (is_behind m) y ys (λ z l. up m y z t l) later)) ∙ j)
+    over : filter q (filter (is_behind m) ys) ≡ x ∷ xs → lt ref_cmp x y ≡ false
+    over g = lt_not refs_total y x (later_first q (is_behind m) y ys x xs later g)
 
 pub refs_append : (a : Option UploadRef) (found rs : List UploadRef) → last_ref a (found ++ rs) ≡ last_ref (last_ref a found) rs
 refs_append a [] rs = refl

@@ -1,19 +1,14 @@
 -- the first request that wore out: there is one answer, it is computed, and a counter of one request at a time finds it
 use Rattle.std.proofs.Common.{◌≡◌, ℕ, ◌+◌, ◌<◌, ◌&&◌, ◌||◌, not, zero, suc, refl, ap, sym, subst, ◌∙◌, inl, inr, Bool, true, false, cond, nat_lt, arith, List, [], ◌∷◌, ◌++◌, Option, Some, None, is_some, append_assoc, append-nil}
-use Rattle.proof_base.proofs.Common.{nat_tests}
-use Rattle.retries.specs.Prelude.{Request, Outcome, Answered, Slow, RequestLost, ReplyLost, Entry, same_request, Follows, Item, Retried, wants_of, fresh, step, wears, unanswered_by, is_zero, has_worn, worn_in, Counting, spent_in, was_answered, streak, IsWorn, NoneWorn, IsFirstWorn, WornFirst}
+use Rattle.proof_base.proofs.Common.{ltb-true, ltb-false}
+use Rattle.std.proofs.Math.Bool.{and-false}
+use Rattle.proof_base.proofs.Bools.{and_true}
+use Rattle.proof_base.proofs.Members.{true_or_false, false_true}
+use Rattle.retries.specs.Prelude.{Request, Outcome, Answered, Entry, same_request, Follows, Item, Retried, wants_of, fresh, step, wears, is_zero, has_worn, worn_in, Counting, spent_in, was_answered, streak, IsWorn, NoneWorn, IsFirstWorn, WornFirst}
 use Rattle.retries.specs.Worn.{first_worn_after}
-use Rattle.retries.proofs.Lists.{parted, true_or_false, false_true}
+use Rattle.retries.proofs.Lists.{parted}
 use Rattle.retries.proofs.SameRequest.{same_is, same_self}
 use Rattle.retries.proofs.Misses.{streak_same, streak_other, worn_now, worn_more, worn_grows}
-
-and_false : (b : Bool) → b && false ≡ false
-and_false true = refl
-and_false false = refl
-
-and_true : (b : Bool) → b && true ≡ b
-and_true true = refl
-and_true false = refl
 
 -- ---- one answer
 
@@ -53,27 +48,15 @@ snoc done e es = append_assoc done (e ∷ []) es
 lost_one : (retries : ℕ) (done : List Entry) (e : Entry) → NoneWorn retries done → nat_lt retries (streak e.request (done ++ e ∷ [])) ≡ false → NoneWorn retries (done ++ e ∷ [])
 lost_one retries done e none low q w = elim (worn_grows retries q done e w) [
   | inl v ↦ none q v
-  | inr v ↦ let i : q ≡ e.request = same_is q e.request v.0 in
-      let s : streak q (done ++ e ∷ []) ≡ streak e.request (done ++ e ∷ []) = ap (λ p. streak p (done ++ e ∷ [])) i in
-      let b : retries < streak q (done ++ e ∷ []) = v.1 in
-      let c : retries < streak e.request (done ++ e ∷ []) = subst (λ n. retries < n) s b in
-      contradicts c
+  | inr v ↦ let s = ap (λ p. streak p (done ++ e ∷ [])) (same_is q e.request v.0) in let b = v.1 in absurd (omega (arith, s, b, ltb-false retries (streak e.request (done ++ e ∷ [])) low))
 ]
-  where
-    contradicts : retries < streak e.request (done ++ e ∷ []) → ⊥
-    contradicts c = grind (arith, nat_tests)
-
-is_lower : (a b : ℕ) → nat_lt a b ≡ true → a < b
-is_lower a b h = grind (arith, nat_tests)
-
-computed_by : (retries : ℕ) (done : List Entry) (e : Entry) (es : List Entry) → NoneWorn retries done → (NoneWorn retries (done ++ e ∷ []) → WornFirst retries ((done ++ e ∷ []) ++ es) (first_worn_after retries (done ++ e ∷ []) es))
-    → (b : Bool) → nat_lt retries (streak e.request (done ++ e ∷ [])) ≡ b → WornFirst retries (done ++ e ∷ es) (cond b (Some e.request) (first_worn_after retries (done ++ e ∷ []) es))
-computed_by retries done e es none later true h = record { before = done; last = e; later = es; parts = refl; is_of = refl; worn = worn_now retries e.request (done ++ e ∷ []) (is_lower retries (streak e.request (done ++ e ∷ [])) h); first = none }
-computed_by retries done e es none later false h = subst (λ l. WornFirst retries l (first_worn_after retries (done ++ e ∷ []) es)) (snoc done e es) (later (lost_one retries done e none h))
 
 pub computed : (retries : ℕ) (done es : List Entry) → NoneWorn retries done → WornFirst retries (done ++ es) (first_worn_after retries done es)
 computed retries done [] none = subst (λ l. NoneWorn retries l) (sym (append-nil done)) none
-computed retries done (e ∷ es) none = computed_by retries done e es none (computed retries (done ++ e ∷ []) es) (nat_lt retries (streak e.request (done ++ e ∷ []))) refl
+computed retries done (e ∷ es) none = elim (true_or_false (nat_lt retries (streak e.request (done ++ e ∷ [])))) [
+  | inl h ↦ rw h (record { before = done; last = e; later = es; parts = refl; is_of = refl; worn = worn_now retries e.request (done ++ e ∷ []) (ltb-true _ _ h); first = none })
+  | inr h ↦ rw (h, ← snoc done e es) (computed retries (done ++ e ∷ []) es (lost_one retries done e none h))
+]
 
 -- nothing wore out before anything was sent
 pub none_sent : (retries : ℕ) → NoneWorn retries []
@@ -123,37 +106,57 @@ missed_one retries n done hand e c asked told =
       ];
     }
 
+-- ---- any operation that counts one request at a time
+
+module _ {M : Type 0} (retries : ℕ) (wants : M → Option Request) (tells : M → Outcome → M) (spare : M → ℕ) (holds : M → Bool) (c : Counting retries wants tells spare holds) where
+  abbrev Spends : List Entry → M → List Entry → Type 0
+  Spends done m es = holds m ≡ true → Counts retries done (wants m) (spare m) → Follows wants tells m es → WornFirst retries (done ++ es) (spent_in tells spare m es)
+
+  spent_missed : (done : List Entry) (m : M) (e : Entry) (es : List Entry) (n : ℕ) → spare m ≡ n → holds m ≡ true → Counts retries done (wants m) (spare m) → wants m ≡ Some e.request → was_answered e.outcome ≡ false
+      → Spends (done ++ e ∷ []) (tells m e.outcome) es → Follows wants tells (tells m e.outcome) es → WornFirst retries (done ++ e ∷ es) (cond (is_zero n) (Some e.request) (spent_in tells spare (tells m e.outcome) es))
+  spent_missed done m e es zero is i k asked told later f =
+      let s : streak e.request (done ++ e ∷ []) + spare m ≡ retries + 1 = missed_here retries (spare m) done (wants m) e k asked told in
+      record { before = done; last = e; later = es; parts = refl; is_of = refl; worn = worn_now retries e.request (done ++ e ∷ []) (omega arith); first = k.none }
+  spent_missed done m e es (suc n) is i k asked told later f =
+      let a = c.again m e.outcome n i told is in
+      rw (← snoc done e es) (later (c.kept m e.outcome i) (rw (a.0, a.1) (missed_one retries n done (wants m) e (rw is at k) asked told)) f)
+
+  spent : (done : List Entry) (m : M) (es : List Entry) → Spends done m es
+  spent done m [] i k f = rw (append-nil done) k.none
+  spent done m (e ∷ es) i k f = elim (true_or_false (was_answered e.outcome)) [
+    | inl told ↦
+        let d = answered_one retries (spare m) done (wants m) (wants (tells m e.outcome)) e k f.0 told in
+        rw (told, and-false (is_zero (spare m)), ← snoc done e es) (spent (done ++ e ∷ []) (tells m e.outcome) es (c.kept m e.outcome i) (rw (c.answered m e.outcome i told) d) f.1)
+    | inr told ↦ rw (told, and_true (is_zero (spare m))) (spent_missed done m e es (spare m) refl i k f.0 told (spent (done ++ e ∷ []) (tells m e.outcome) es) f.1)
+  ]
+
+  pub spent_first : (m : M) → holds m ≡ true → spare m ≡ retries → (es : List Entry) → Follows wants tells m es → WornFirst retries es (spent_in tells spare m es)
+  spent_first m i is es f = spent [] m es i (subst (λ n. Counts retries [] (wants m) n) (sym is) (all_still retries [] (wants m) (λ q. refl) (none_sent retries))) f
+
+-- ---- an operation of replies counts so
+
 module _ {M : Type 0} (retries : ℕ) (asks : M → Option Request) (after : M → Item → M) where
-  abbrev Goes : List Entry → Retried M → List Entry → Type 0
-  Goes done t es = Counts retries done (asks t.operation) t.spare → Follows (wants_of asks) (step retries after) t es → WornFirst retries (done ++ es) (worn_in retries after t es)
+  answered : (t : Retried M) (o : Outcome) → was_answered o ≡ true → (step retries after t o).spare ≡ retries
+  answered t (Answered r) h = refl
+  answered t _ h = absurd (false_true refl h)
 
-  one_missed : (done : List Entry) (m : M) (repeated again : Bool) (n : ℕ) (e : Entry) (es : List Entry) → Counts retries done (asks m) n → asks m ≡ Some e.request → was_answered e.outcome ≡ false
-      → ((t : Retried M) → Counts retries (done ++ e ∷ []) (asks t.operation) t.spare → Follows (wants_of asks) (step retries after) t es → WornFirst retries ((done ++ e ∷ []) ++ es) (worn_in retries after t es))
-      → Follows (wants_of asks) (step retries after) (unanswered_by retries after m again n) es
-      → WornFirst retries (done ++ e ∷ es) (cond (is_zero n) (Some e.request) (worn_in retries after (unanswered_by retries after m again n) es))
-  one_missed done m repeated again zero e es c asked told later f =
-      let s : streak e.request (done ++ e ∷ []) + 0 ≡ retries + 1 = missed_here retries 0 done (asks m) e c asked told in
-      record { before = done; last = e; later = es; parts = refl; is_of = refl; worn = worn_now retries e.request (done ++ e ∷ []) (omega arith); first = c.none }
-  one_missed done m repeated again (suc n) e es c asked told later f =
-      subst (λ l. WornFirst retries l (worn_in retries after (record { operation = m; spare = n; repeated = again }) es)) (snoc done e es)
-      (later (record { operation = m; spare = n; repeated = again }) (missed_one retries n done (asks m) e c asked told) f)
+  again : (t : Retried M) (o : Outcome) (n : ℕ) → was_answered o ≡ false → t.spare ≡ suc n → ((step retries after t o).spare ≡ n) × (asks (step retries after t o).operation ≡ asks t.operation)
+  again t (Answered r) n h e = absurd (false_true h refl)
+  again t _ n h e = rw e (refl, refl)
 
-  one_sent : (done : List Entry) (m : M) (repeated : Bool) (n : ℕ) (e : Entry) (o : Outcome) (es : List Entry) → e.outcome ≡ o → Counts retries done (asks m) n → asks m ≡ Some e.request
-      → ((t : Retried M) → Counts retries (done ++ e ∷ []) (asks t.operation) t.spare → Follows (wants_of asks) (step retries after) t es → WornFirst retries ((done ++ e ∷ []) ++ es) (worn_in retries after t es))
-      → Follows (wants_of asks) (step retries after) (step retries after (record { operation = m; spare = n; repeated = repeated }) o) es
-      → WornFirst retries (done ++ e ∷ es) (cond (wears (record { operation = m; spare = n; repeated = repeated }) o) (Some e.request) (worn_in retries after (step retries after (record { operation = m; spare = n; repeated = repeated }) o) es))
-  one_sent done m repeated n e (Answered r) es is c asked later f =
-      subst (λ l. WornFirst retries l (worn_in retries after (step retries after (record { operation = m; spare = n; repeated = repeated }) (Answered r)) es)) (snoc done e es)
-      (later (step retries after (record { operation = m; spare = n; repeated = repeated }) (Answered r)) (answered_one retries n done (asks m) _ e c asked (ap was_answered is)) f)
-  one_sent done m repeated n e Slow es is c asked later f = one_missed done m repeated repeated n e es c asked (ap was_answered is) later f
-  one_sent done m repeated n e _ es is c asked later f = one_missed done m repeated true n e es c asked (ap was_answered is) later f
+  counting : Counting retries (wants_of asks) (step retries after) (λ t. t.spare) (λ t. true)
+  counting = record { kept = λ t o h. refl; answered = λ t o h k. answered t o k; again = λ t o n h k e. again t o n k e }
 
-  counted : (done : List Entry) (t : Retried M) (es : List Entry) → Goes done t es
-  counted done t [] c f = subst (λ l. NoneWorn retries l) (sym (append-nil done)) c.none
-  counted done t (e ∷ es) c f = one_sent done t.operation t.repeated t.spare e e.outcome es refl c f.0 (λ u. counted (done ++ e ∷ []) u es) f.1
+  wears_is : (t : Retried M) (o : Outcome) → wears t o ≡ is_zero t.spare && not (was_answered o)
+  wears_is t (Answered r) = sym (and-false (is_zero t.spare))
+  wears_is t _ = sym (and_true (is_zero t.spare))
+
+  worn_is : (t : Retried M) (es : List Entry) → worn_in retries after t es ≡ spent_in (step retries after) (λ t. t.spare) t es
+  worn_is t [] = refl
+  worn_is t (e ∷ es) = rw (wears_is t e.outcome, worn_is (step retries after t e.outcome) es) refl
 
   pub counted_first : (m : M) (es : List Entry) → Follows (wants_of asks) (step retries after) (fresh retries m) es → WornFirst retries es (worn_in retries after (fresh retries m) es)
-  counted_first m es f = counted [] (fresh retries m) es (all_still retries [] (asks m) (λ q. refl) (none_sent retries)) f
+  counted_first m es f = rw (worn_is (fresh retries m) es) (spent_first retries (wants_of asks) (step retries after) (λ t. t.spare) (λ t. true) counting (fresh retries m) refl refl es f)
 
   or_some : (b c : Bool) (r : Request) (o : Option Request) → c ≡ is_some o → b || c ≡ is_some (cond b (Some r) o)
   or_some true c r o h = refl
@@ -166,42 +169,3 @@ module _ {M : Type 0} (retries : ℕ) (asks : M → Option Request) (after : M �
   pub exactly_worn : (m : M) (es : List Entry) → Follows (wants_of asks) (step retries after) (fresh retries m) es
       → (has_worn retries after (fresh retries m) es ≡ true → (r : Request) × IsWorn retries r es) × ((r : Request) → IsWorn retries r es → has_worn retries after (fresh retries m) es ≡ true)
   exactly_worn m es f = by_first retries es (worn_in retries after (fresh retries m) es) (counted_first m es f) _ (some_worn (fresh retries m) es)
-
--- ---- any operation that counts one request at a time
-
-module _ {M : Type 0} (retries : ℕ) (wants : M → Option Request) (tells : M → Outcome → M) (spare : M → ℕ) (holds : M → Bool) (c : Counting retries wants tells spare holds) where
-  abbrev Spends : List Entry → M → List Entry → Type 0
-  Spends done m es = holds m ≡ true → Counts retries done (wants m) (spare m) → Follows wants tells m es → WornFirst retries (done ++ es) (spent_in tells spare m es)
-
-  spent_answered : (done : List Entry) (m : M) (e : Entry) (es : List Entry) → holds m ≡ true → Counts retries done (wants m) (spare m) → wants m ≡ Some e.request → was_answered e.outcome ≡ true
-      → Spends (done ++ e ∷ []) (tells m e.outcome) es → Follows wants tells (tells m e.outcome) es → WornFirst retries (done ++ e ∷ es) (spent_in tells spare (tells m e.outcome) es)
-  spent_answered done m e es i k asked told later f =
-      let d : Counts retries (done ++ e ∷ []) (wants (tells m e.outcome)) (spare (tells m e.outcome)) =
-      subst (λ n. Counts retries (done ++ e ∷ []) (wants (tells m e.outcome)) n) (sym (c.answered m e.outcome i told)) (answered_one retries (spare m) done (wants m) (wants (tells m e.outcome)) e k asked told) in
-      subst (λ l. WornFirst retries l (spent_in tells spare (tells m e.outcome) es)) (snoc done e es) (later (c.kept m e.outcome i) d f)
-
-  spent_missed : (done : List Entry) (m : M) (e : Entry) (es : List Entry) (n : ℕ) → spare m ≡ n → holds m ≡ true → Counts retries done (wants m) (spare m) → wants m ≡ Some e.request → was_answered e.outcome ≡ false
-      → Spends (done ++ e ∷ []) (tells m e.outcome) es → Follows wants tells (tells m e.outcome) es → WornFirst retries (done ++ e ∷ es) (cond (is_zero n) (Some e.request) (spent_in tells spare (tells m e.outcome) es))
-  spent_missed done m e es zero is i k asked told later f =
-      let s : streak e.request (done ++ e ∷ []) + spare m ≡ retries + 1 = missed_here retries (spare m) done (wants m) e k asked told in
-      record { before = done; last = e; later = es; parts = refl; is_of = refl; worn = worn_now retries e.request (done ++ e ∷ []) (omega arith); first = k.none }
-  spent_missed done m e es (suc n) is i k asked told later f =
-      let a = c.again m e.outcome n i told is in
-      let k2 : Counts retries done (wants m) (suc n) = subst (λ x. Counts retries done (wants m) x) is k in
-      let d : Counts retries (done ++ e ∷ []) (wants m) n = missed_one retries n done (wants m) e k2 asked told in
-      let d2 : Counts retries (done ++ e ∷ []) (wants m) (spare (tells m e.outcome)) = subst (λ x. Counts retries (done ++ e ∷ []) (wants m) x) (sym a.0) d in
-      let d3 : Counts retries (done ++ e ∷ []) (wants (tells m e.outcome)) (spare (tells m e.outcome)) = subst (λ x. Counts retries (done ++ e ∷ []) x (spare (tells m e.outcome))) (sym a.1) d2 in
-      subst (λ l. WornFirst retries l (spent_in tells spare (tells m e.outcome) es)) (snoc done e es) (later (c.kept m e.outcome i) d3 f)
-
-  spent_by : (done : List Entry) (m : M) (e : Entry) (es : List Entry) (b : Bool) → was_answered e.outcome ≡ b → holds m ≡ true → Counts retries done (wants m) (spare m) → wants m ≡ Some e.request
-      → Spends (done ++ e ∷ []) (tells m e.outcome) es → Follows wants tells (tells m e.outcome) es
-      → WornFirst retries (done ++ e ∷ es) (cond (is_zero (spare m) && not b) (Some e.request) (spent_in tells spare (tells m e.outcome) es))
-  spent_by done m e es true told i k asked later f = subst (λ b. WornFirst retries (done ++ e ∷ es) (cond b (Some e.request) (spent_in tells spare (tells m e.outcome) es))) (sym (and_false (is_zero (spare m)))) (spent_answered done m e es i k asked told later f)
-  spent_by done m e es false told i k asked later f = subst (λ b. WornFirst retries (done ++ e ∷ es) (cond b (Some e.request) (spent_in tells spare (tells m e.outcome) es))) (sym (and_true (is_zero (spare m)))) (spent_missed done m e es (spare m) refl i k asked told later f)
-
-  spent : (done : List Entry) (m : M) (es : List Entry) → Spends done m es
-  spent done m [] i k f = subst (λ l. NoneWorn retries l) (sym (append-nil done)) k.none
-  spent done m (e ∷ es) i k f = spent_by done m e es (was_answered e.outcome) refl i k f.0 (spent (done ++ e ∷ []) (tells m e.outcome) es) f.1
-
-  pub spent_first : (m : M) → holds m ≡ true → spare m ≡ retries → (es : List Entry) → Follows wants tells m es → WornFirst retries es (spent_in tells spare m es)
-  spent_first m i is es f = spent [] m es i (subst (λ n. Counts retries [] (wants m) n) (sym is) (all_still retries [] (wants m) (λ q. refl) (none_sent retries))) f

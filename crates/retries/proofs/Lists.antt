@@ -1,5 +1,5 @@
 -- places in appended lists, and ways to part one
-use Rattle.std.proofs.Common.{◌≡◌, ℕ, ◌<◌, zero, suc, Some, refl, ap, sym, ◌∙◌, ◌⊎◌, inl, inr, Bool, true, false, arith, List, [], ◌∷◌, ◌++◌, length, slice_get}
+use Rattle.std.proofs.Common.{◌≡◌, ℕ, ◌<◌, zero, suc, Some, refl, ap, sym, ◌∙◌, ◌⊎◌, inl, inr, arith, List, [], ◌∷◌, ◌++◌, length, slice_get}
 
 pub get_left : {X : Type 0} (xs ys : List X) (n : ℕ) (x : X) → slice_get xs n ≡ Some x → slice_get (xs ++ ys) n ≡ Some x
 get_left [] ys n x e = absurd (cc)
@@ -22,15 +22,6 @@ parted (x ∷ fs) a bs (y ∷ cs) c ds e =
     let t : fs ++ a ∷ bs ≡ cs ++ c ∷ ds = cc in
     elim (parted fs a bs cs c ds t) [
       | inl r ↦ let i : x ∷ fs ≡ y ∷ cs = cc in inl (i, r.1)
-      | inr r ↦ elim r [
-        | inl z ↦ let i : y ∷ cs ≡ x ∷ (fs ++ a ∷ z.0) = ap (λ v. v ∷ cs) (sym h) ∙ ap (λ v. x ∷ v) z.1 in inr (inl (z.0, i))
-        | inr z ↦ let i : x ∷ fs ≡ y ∷ (cs ++ c ∷ z.0) = ap (λ v. v ∷ fs) h ∙ ap (λ v. y ∷ v) z.1 in inr (inr (z.0, i))
-      ]
+      | inr (inl z) ↦ let i : y ∷ cs ≡ x ∷ (fs ++ a ∷ z.0) = ap (λ v. v ∷ cs) (sym h) ∙ ap (λ v. x ∷ v) z.1 in inr (inl (z.0, i))
+      | inr (inr z) ↦ let i : x ∷ fs ≡ y ∷ (cs ++ c ∷ z.0) = ap (λ v. v ∷ fs) h ∙ ap (λ v. y ∷ v) z.1 in inr (inr (z.0, i))
     ]
-
-pub true_or_false : (b : Bool) → (b ≡ true) ⊎ (b ≡ false)
-true_or_false true = inl refl
-true_or_false false = inr refl
-
-pub false_true : {b : Bool} → b ≡ false → b ≡ true → ⊥
-false_true e f = cc

@@ -1,6 +1,7 @@
 -- the count of the last misses, and somewhere a row of them
 use Rattle.std.proofs.Common.{◌≡◌, ℕ, ◌+◌, ◌-◌, ◌<◌, ◌≤◌, zero, suc, Some, refl, ap, sym, subst, ◌∙◌, ◌⊎◌, inl, inr, Bool, true, false, cond, arith, List, [], ◌∷◌, ◌++◌, length, slice_get, length-append, append-nil}
-use Rattle.proof_base.proofs.Common.{slice_get_within}
+use Rattle.proof_base.proofs.Common.{slice_get_within, cases_lt}
+use Rattle.proof_base.proofs.Members.{true_or_false}
 use Rattle.retries.specs.Prelude.{Request, Entry, same_request, answers, was_answered, IsWorn, streak}
 use Rattle.retries.specs.Worn.{trail}
 use Rattle.retries.proofs.Lists.{get_left, get_before}
@@ -48,14 +49,11 @@ pub row_grows : (r : ℕ) (bs : List Bool) (b : Bool) → Row r (bs ++ b ∷ [])
 row_grows r bs b w =
     let l : length (bs ++ b ∷ []) ≡ length bs + 1 = length-append bs (b ∷ []) in
     let top : w.0 + r < length (bs ++ b ∷ []) = slice_get_within _ _ _ (w.1 r (omega arith)) in
-    elim (below_or_not (w.0 + r) (length bs)) [
+    elim (cases_lt (w.0 + r) (length bs)) [
       | inl low ↦ inl (w.0, λ i le. get_before bs (b ∷ []) (w.0 + i) false (omega arith) (w.1 i le))
       | inr high ↦ let m : length (bs ++ b ∷ []) ≤ trail 0 (bs ++ b ∷ []) + w.0 = missed_from 0 w.0 (bs ++ b ∷ []) (λ i low le. spot i low le l top high) in inr (omega arith)
     ]
   where
-    below_or_not : (a c : ℕ) → (a < c) ⊎ (c ≤ a)
-    below_or_not a c = grind arith
-
     spot : (i : ℕ) → w.0 ≤ i → i < length (bs ++ b ∷ []) → length (bs ++ b ∷ []) ≡ length bs + 1 → w.0 + r < length (bs ++ b ∷ []) → length bs ≤ w.0 + r → slice_get (bs ++ b ∷ []) i ≡ Some false
     spot i low le l top high = let e : w.0 + (i - w.0) ≡ i = omega arith in ap (slice_get (bs ++ b ∷ [])) (sym e) ∙ w.1 (i - w.0) (omega arith)
 
@@ -67,11 +65,10 @@ trail_append n (b ∷ bs) cs = trail_append (cond b 0 (n + 1)) bs cs
 
 answers_append : (q : Request) (xs ys : List Entry) → answers q (xs ++ ys) ≡ answers q xs ++ answers q ys
 answers_append q [] ys = refl
-answers_append q (x ∷ xs) ys = step (same_request q x.request) (was_answered x.outcome) _ (answers q xs) (answers q ys) (answers_append q xs ys)
-  where
-    step : (b c : Bool) (zs ms bs : List Bool) → zs ≡ ms ++ bs → cond b (c ∷ zs) zs ≡ cond b (c ∷ ms) ms ++ bs
-    step true c zs ms bs e = ap (λ v. c ∷ v) e
-    step false c zs ms bs e = e
+answers_append q (x ∷ xs) ys = elim (true_or_false (same_request q x.request)) [
+  | inl h ↦ rw (h, answers_append q xs ys) refl
+  | inr h ↦ rw (h, answers_append q xs ys) refl
+]
 
 answers_same : (q : Request) (es : List Entry) (e : Entry) → same_request q e.request ≡ true → answers q (es ++ e ∷ []) ≡ answers q es ++ was_answered e.outcome ∷ []
 answers_same q es e h = answers_append q es (e ∷ []) ∙ ap (λ b. answers q es ++ cond b (was_answered e.outcome ∷ []) []) h
@@ -93,7 +90,7 @@ worn_more r q es fs w = (w.0, λ i le. ap (λ v. slice_get v (w.0 + i)) (answers
 
 -- one more sending wears a request only if it is one of it
 pub worn_grows : (r : ℕ) (q : Request) (es : List Entry) (e : Entry) → IsWorn r q (es ++ e ∷ []) → IsWorn r q es ⊎ ((same_request q e.request ≡ true) × (r < streak q (es ++ e ∷ [])))
-worn_grows r q es e w = elim (either (same_request q e.request)) [
+worn_grows r q es e w = elim (true_or_false (same_request q e.request)) [
   | inl h ↦ let R : List Bool → Type 0 = λ v. Row r v in
       elim (row_grows r (answers q es) (was_answered e.outcome) (subst R (answers_same q es e h) w)) [
         | inl i ↦ inl i
@@ -101,7 +98,3 @@ worn_grows r q es e w = elim (either (same_request q e.request)) [
       ]
   | inr h ↦ let R : List Bool → Type 0 = λ v. Row r v in inl (subst R (answers_other q es e h) w)
 ]
-  where
-    either : (b : Bool) → (b ≡ true) ⊎ (b ≡ false)
-    either true = inl refl
-    either false = inr refl

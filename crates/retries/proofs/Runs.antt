@@ -1,5 +1,6 @@
 -- operations that go on by one sending
-use Rattle.std.proofs.Common.{◌≡◌, ℕ, zero, suc, ◌||◌, refl, ap, ◌∙◌, Bool, true, false, List, [], ◌∷◌, ◌++◌, take, Option, Some}
+use Rattle.std.proofs.Common.{◌≡◌, ℕ, zero, suc, ◌||◌, refl, ap, sym, ◌∙◌, List, [], ◌∷◌, ◌++◌, take, Option, Some}
+use Rattle.std.proofs.Math.Bool.{or_assoc, or-false}
 use Rattle.retries.specs.Prelude.{Request, Outcome, Entry, run, Follows, Item, Retried, step, wears, has_worn}
 
 pub run_more : {M : Type 0} (tells : M → Outcome → M) (m : M) (part : List Entry) (e : Entry) → run tells m (part ++ e ∷ []) ≡ tells (run tells m part) e.outcome
@@ -15,15 +16,7 @@ follows_take wants tells zero m part h = tt
 follows_take wants tells (suc n) m [] h = tt
 follows_take wants tells (suc n) m (e ∷ es) h = (h.0, follows_take wants tells n (tells m e.outcome) es h.1)
 
-or_assoc : (a b c : Bool) → (a || (b || c)) ≡ ((a || b) || c)
-or_assoc true b c = refl
-or_assoc false b c = refl
-
-or_false : (a : Bool) → (a || false) ≡ (false || a)
-or_false true = refl
-or_false false = refl
-
 pub has_worn_more : {M : Type 0} (retries : ℕ) (after : M → Item → M) (t : Retried M) (part : List Entry) (e : Entry)
     → has_worn retries after t (part ++ e ∷ []) ≡ (has_worn retries after t part || wears (run (step retries after) t part) e.outcome)
-has_worn_more retries after t [] e = or_false (wears t e.outcome)
-has_worn_more retries after t (x ∷ part) e = ap (λ b. wears t x.outcome || b) (has_worn_more retries after (step retries after t x.outcome) part e) ∙ or_assoc (wears t x.outcome) _ _
+has_worn_more retries after t [] e = or-false (wears t e.outcome)
+has_worn_more retries after t (x ∷ part) e = ap (λ b. wears t x.outcome || b) (has_worn_more retries after (step retries after t x.outcome) part e) ∙ sym (or_assoc (wears t x.outcome) _ _)

@@ -1,28 +1,15 @@
 -- requests that are the same by the test are equal
-use Rattle.std.proofs.Common.{◌≡◌, ℕ, refl, ap, ◌∙◌, Bool, true, false, nat_eq, ◌&&◌, arith, List, [], ◌∷◌, Option, Some, None}
-use Rattle.proof_base.proofs.Common.{nat_tests}
-use Rattle.retries.specs.Prelude.{bytes_decides, text_eq, Spelled, NamedPart, UploadRef, Request, MakeBucket, PutObject, GetObject, HeadObject, DeleteObject, DeleteObjects, CopyObject, ListPage, CreateUpload, UploadPart, CompleteUpload, AbortUpload, ListParts, ListUploads, ClusterPut, ClusterRename, ClusterGet, ClusterDelete, ClusterList, same_request}
+use Rattle.std.proofs.Common.{◌≡◌, ℕ, refl, ap, ◌∙◌, Bool, true, false, nat_eq, ◌&&◌, List, [], ◌∷◌, Option, Some, None}
+use Rattle.proof_base.proofs.Common.{and_parts as both, and_from as and_true}
+use Rattle.proof_base.proofs.Members.{eq_nat as number_is, nat_true, text_is, text_true, false_true}
+use Rattle.retries.specs.Prelude.{text_eq, Spelled, NamedPart, UploadRef, Request, MakeBucket, PutObject, GetObject, HeadObject, DeleteObject, DeleteObjects, CopyObject, ListPage, CreateUpload, UploadPart, CompleteUpload, AbortUpload, ListParts, ListUploads, ClusterPut, ClusterRename, ClusterGet, ClusterDelete, ClusterList, same_request}
 use Rattle.retries.specs.Same.{same_list, same_option, same_bool, same_part, same_ref}
-use Rattle.retries.proofs.Lists.{false_true}
-
-number_is : (a b : ℕ) → nat_eq a b ≡ true → a ≡ b
-number_is a b e = grind (arith, nat_tests)
 
 number_self : (n : ℕ) → nat_eq n n ≡ true
-number_self n = grind (arith, nat_tests)
-
-text_is : (a b : List ℕ) → text_eq a b ≡ true → a ≡ b
-text_is a b e = (bytes_decides a b).0 e
+number_self n = nat_true n n refl
 
 text_self : (a : List ℕ) → text_eq a a ≡ true
-text_self a = (bytes_decides a a).1 refl
-
-both : (a b : Bool) → a && b ≡ true → (a ≡ true) × (b ≡ true)
-both true b e = (refl, e)
-both false b e = absurd (false_true refl e)
-
-and_true : (a b : Bool) → a ≡ true → b ≡ true → a && b ≡ true
-and_true a b e f = ap (λ v. v && b) e ∙ f
+text_self a = text_true a a refl
 
 bool_is : (a b : Bool) → same_bool a b ≡ true → a ≡ b
 bool_is true true e = refl
@@ -74,9 +61,6 @@ ref_self r = and_true _ _ (text_self r.key) (number_self r.upload)
 pair_is : {Y : Type 0} (f : List ℕ → List ℕ → Y) (b c k l : List ℕ) → text_eq b c && text_eq k l ≡ true → f b k ≡ f c l
 pair_is f b c k l e = let s = both _ _ e in ap (λ v. f v k) (text_is b c s.0) ∙ ap (f c) (text_is k l s.1)
 
-three_is : {Y : Type 0} (f : List ℕ → List ℕ → List ℕ → Y) (b c k l x y : List ℕ) → text_eq b c && (text_eq k l && text_eq x y) ≡ true → f b k x ≡ f c l y
-three_is f b c k l x y e = let s = both _ _ e in ap (λ v. f v k x) (text_is b c s.0) ∙ pair_is (f c) k l x y s.1
-
 -- two texts and a number
 upload_is : {Y : Type 0} (f : List ℕ → List ℕ → ℕ → Y) (b c k l : List ℕ) (i j : ℕ) → text_eq b c && (text_eq k l && nat_eq i j) ≡ true → f b k i ≡ f c l j
 upload_is f b c k l i j e = let s = both _ _ e in let t = both _ _ s.1 in ap (λ v. f v k i) (text_is b c s.0) ∙ ap (λ v. f c v i) (text_is k l t.0) ∙ ap (f c l) (number_is i j t.1)
@@ -89,7 +73,7 @@ same_is (GetObject b k) (GetObject c l) e = pair_is GetObject b c k l e
 same_is (HeadObject b k) (HeadObject c l) e = pair_is HeadObject b c k l e
 same_is (DeleteObject b k) (DeleteObject c l) e = pair_is DeleteObject b c k l e
 same_is (DeleteObjects b ks) (DeleteObjects c ls) e = let s = both _ _ e in ap (λ v. DeleteObjects v ks) (text_is b c s.0) ∙ ap (DeleteObjects c) (list_is text_eq text_is ks ls s.1)
-same_is (CopyObject b s t) (CopyObject c u v) e = three_is CopyObject b c s u t v e
+same_is (CopyObject b s t) (CopyObject c u v) e = let w = both _ _ e in ap (λ x. CopyObject x s t) (text_is b c w.0) ∙ pair_is (CopyObject c) s u t v w.1
 same_is (ListPage b p d a n) (ListPage c q f z m) e = let s = both _ _ e in let t = both _ _ s.1 in let u = both _ _ t.1 in let v = both _ _ u.1 in
     ap (λ x. ListPage x p d a n) (text_is b c s.0) ∙ ap (λ x. ListPage c x d a n) (text_is p q t.0) ∙ ap (λ x. ListPage c q x a n) (bool_is d f u.0) ∙ ap (λ x. ListPage c q f x n) (text_is a z v.0) ∙ ap (ListPage c q f z) (number_is n m v.1)
 same_is (CreateUpload b k) (CreateUpload c l) e = pair_is CreateUpload b c k l e
@@ -110,21 +94,4 @@ same_is _ _ e = absurd (false_true refl e)
 
 pub same_self : (r : Request) → same_request r r ≡ true
 same_self (MakeBucket n) = text_self n
-same_self (PutObject b k x h) = and_true _ _ (text_self b) (and_true _ _ (text_self k) (and_true _ _ (text_self x) (option_self nat_eq number_self h)))
-same_self (GetObject b k) = and_true _ _ (text_self b) (text_self k)
-same_self (HeadObject b k) = and_true _ _ (text_self b) (text_self k)
-same_self (DeleteObject b k) = and_true _ _ (text_self b) (text_self k)
-same_self (DeleteObjects b ks) = and_true _ _ (text_self b) (list_self text_eq text_self ks)
-same_self (CopyObject b s t) = and_true _ _ (text_self b) (and_true _ _ (text_self s) (text_self t))
-same_self (ListPage b p d a n) = and_true _ _ (text_self b) (and_true _ _ (text_self p) (and_true _ _ (bool_self d) (and_true _ _ (text_self a) (number_self n))))
-same_self (CreateUpload b k) = and_true _ _ (text_self b) (text_self k)
-same_self (UploadPart b k i n x) = and_true _ _ (text_self b) (and_true _ _ (text_self k) (and_true _ _ (number_self i) (and_true _ _ (number_self n) (text_self x))))
-same_self (CompleteUpload b k i ps) = and_true _ _ (text_self b) (and_true _ _ (text_self k) (and_true _ _ (number_self i) (list_self same_part part_self ps)))
-same_self (AbortUpload b k i) = and_true _ _ (text_self b) (and_true _ _ (text_self k) (number_self i))
-same_self (ListParts b k i) = and_true _ _ (text_self b) (and_true _ _ (text_self k) (number_self i))
-same_self (ListUploads b p a n) = and_true _ _ (text_self b) (and_true _ _ (text_self p) (and_true _ _ (option_self same_ref ref_self a) (number_self n)))
-same_self (ClusterPut p x) = and_true _ _ (text_self p) (text_self x)
-same_self (ClusterRename s t) = and_true _ _ (text_self s) (text_self t)
-same_self (ClusterGet p) = text_self p
-same_self (ClusterDelete p) = text_self p
-same_self (ClusterList p) = text_self p
+same_self _ = search (and_true, text_self, number_self, bool_self, list_self, part_self, option_self, ref_self) depth 9

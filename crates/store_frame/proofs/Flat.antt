@@ -1,13 +1,14 @@
 -- A listing without a delimiter has the keys that stand, in order.
-use Rattle.std.proofs.Common.{◌≡◌, ℕ, zero, suc, ◌⊎◌, inl, inr, ◌≤◌, nat_lt, Bool, true, false, cond, List, [], ◌∷◌, ◌++◌, map, take, length, Some, None, refl, sym, ap, subst, ◌∙◌, arith}
-use Rattle.store_frame.specs.Prelude.{find, filter, AllByRecursion, keys_of, is_lt, eq_by_cmp, Ordering, Less, Equal, text_cmp, text_total, text_ties, Objects, begins, entry_of, listed, text_in, folded_from, is_again, Object, PageEntry, IsIn, RisesFrom, last_from}
-use Rattle.proof_base.proofs.Common.{ltb-false, false≢true, sorted_head, sorted_tail}
+use Rattle.std.proofs.Common.{◌≡◌, ℕ, zero, suc, ◌⊎◌, inl, inr, ◌≤◌, nat_lt, Bool, true, false, List, [], ◌∷◌, ◌++◌, map, take, length, Some, None, refl, sym, ap, subst, ◌∙◌, arith}
+use Rattle.store_frame.specs.Prelude.{find, filter, AllByRecursion, keys_of, is_lt, eq_by_cmp, Less, text_cmp, text_total, text_ties, Objects, begins, entry_of, listed, text_in, folded_from, is_again, Object, PageEntry, IsIn, RisesFrom, last_from}
+use Rattle.proof_base.proofs.Common.{ltb-false, sorted_head, sorted_tail}
 use Rattle.std.specs.FinMap as fin
 use Rattle.std.specs.List.Sorted.{IsStrictlySortedBy}
+use Rattle.proof_base.proofs.Bools.{contrary}
 use Rattle.proof_base.proofs.Less.{lt, irrefl, lt_trans}
 use Rattle.proof_base.proofs.Tree.{tied, map_sorted}
 use Rattle.store_frame.specs.Laws.{keys_listed}
-use Rattle.proof_base.proofs.Members.{some_is, none_some, false_true, text_exact, text_true, text_false, map_in, in_map, in_filter, filter_in}
+use Rattle.proof_base.proofs.Members.{true_or_false, some_is, none_some, false_true, text_exact, text_true, text_false, map_in, in_map, in_filter, filter_in}
 
 -- ---- what is listed rises
 
@@ -26,16 +27,13 @@ less_true k q e = ap is_lt e
 
 rises_above : (p k : List ℕ) (t : PageEntry → Bool) (es : List Entry) → AllByRecursion (λ q. text_cmp k q ≡ Less) (keys_of es) → IsStrictlySortedBy text_cmp (keys_of es) → RisesFrom k (texts (filter t (flat p es)))
 rises_above p k t [] a s = tt
-rises_above p k t (e ∷ es) a s = by (begins p e.0) (rises_above p k t es a.1 (sorted_tail text_cmp e.0 (keys_of es) s)) (rises_above p e.0 t es (sorted_head text_cmp e.0 (keys_of es) s) (sorted_tail text_cmp e.0 (keys_of es) s))
-  where
-    inner : (c : Bool) → RisesFrom k (texts (filter t (flat p es))) → RisesFrom e.0 (texts (filter t (flat p es))) → RisesFrom k (texts (cond c (entry_of p false e ∷ filter t (flat p es)) (filter t (flat p es))))
-    inner true old more = (less_true k e.0 a.0, more)
-    inner false old more = old
-
-    by : (b : Bool) → RisesFrom k (texts (filter t (flat p es))) → RisesFrom e.0 (texts (filter t (flat p es)))
-        → RisesFrom k (texts (filter t (map (entry_of p false) (cond b (e ∷ filter (λ (x : Entry). begins p x.0) es) (filter (λ (x : Entry). begins p x.0) es)))))
-    by true old more = inner (t (entry_of p false e)) old more
-    by false old more = old
+rises_above p k t (e ∷ es) a s = elim (true_or_false (begins p e.0)) [
+  | inr b ↦ rw b (rises_above p k t es a.1 (sorted_tail text_cmp e.0 (keys_of es) s))
+  | inl b ↦ elim (true_or_false (t (entry_of p false e))) [
+    | inr c ↦ rw (b, c) (rises_above p k t es a.1 (sorted_tail text_cmp e.0 (keys_of es) s))
+    | inl c ↦ rw (b, c) (less_true k e.0 a.0, rises_above p e.0 t es (sorted_head text_cmp e.0 (keys_of es) s) (sorted_tail text_cmp e.0 (keys_of es) s))
+  ]
+]
 
 -- the entries that are behind a text
 abbrev behind_of : List ℕ → List PageEntry → List PageEntry
@@ -43,31 +41,22 @@ behind_of l xs = filter (λ x. is_lt (text_cmp l (text_in x))) xs
 
 rises_behind : (p l : List ℕ) (es : List Entry) → IsStrictlySortedBy text_cmp (keys_of es) → RisesFrom l (texts (behind_of l (flat p es)))
 rises_behind p l [] s = tt
-rises_behind p l (e ∷ es) s = by (begins p e.0) (rises_behind p l es (sorted_tail text_cmp e.0 (keys_of es) s))
-  where
-    inner : (c : Bool) → is_lt (text_cmp l e.0) ≡ c → RisesFrom l (texts (behind_of l (flat p es))) → RisesFrom l (texts (cond c (entry_of p false e ∷ behind_of l (flat p es)) (behind_of l (flat p es))))
-    inner true h old = (h, rises_above p e.0 (λ x. is_lt (text_cmp l (text_in x))) es (sorted_head text_cmp e.0 (keys_of es) s) (sorted_tail text_cmp e.0 (keys_of es) s))
-    inner false h old = old
-
-    by : (b : Bool) → RisesFrom l (texts (behind_of l (flat p es))) → RisesFrom l (texts (behind_of l (map (entry_of p false) (cond b (e ∷ filter (λ (x : Entry). begins p x.0) es) (filter (λ (x : Entry). begins p x.0) es)))))
-    by true old = inner (is_lt (text_cmp l e.0)) refl old
-    by false old = old
+rises_behind p l (e ∷ es) s = elim (true_or_false (begins p e.0)) [
+  | inr b ↦ rw b (rises_behind p l es (sorted_tail text_cmp e.0 (keys_of es) s))
+  | inl b ↦ elim (true_or_false (is_lt (text_cmp l e.0))) [
+    | inr h ↦ rw (b, h) (rises_behind p l es (sorted_tail text_cmp e.0 (keys_of es) s))
+    | inl h ↦ rw (b, h) (h, rises_above p e.0 (λ x. is_lt (text_cmp l (text_in x))) es (sorted_head text_cmp e.0 (keys_of es) s) (sorted_tail text_cmp e.0 (keys_of es) s))
+  ]
+]
 
 -- ---- entries that rise are folded into themselves
 
-not_tied : (r : Ordering) → is_lt r ≡ true → r ≡ Equal → ⊥
-not_tied r h e = false≢true (sym (ap is_lt e) ∙ h)
-
 apart_again : (l : List ℕ) (x : PageEntry) → is_lt (text_cmp l (text_in x)) ≡ true → is_again (Some l) x ≡ false
-apart_again l x h = by (eq_by_cmp text_cmp l (text_in x)) refl
-  where
-    by : (b : Bool) → eq_by_cmp text_cmp l (text_in x) ≡ b → b ≡ false
-    by true e = absurd (not_tied (text_cmp l (text_in x)) h (tied (text_cmp l (text_in x)) e))
-    by false e = refl
+apart_again l x h = contrary _ (λ e. sym (ap is_lt (tied (text_cmp l (text_in x)) e)) ∙ h)
 
 folded_same : (l : List ℕ) (xs : List PageEntry) → RisesFrom l (texts xs) → folded_from (Some l) xs ≡ xs
 folded_same l [] h = refl
-folded_same l (x ∷ xs) h = ap (λ b. cond b (folded_from (Some l) xs) (x ∷ folded_from (Some (text_in x)) xs)) (apart_again l x h.0) ∙ ap (λ ys. x ∷ ys) (folded_same (text_in x) xs h.1)
+folded_same l (x ∷ xs) h = rw (apart_again l x h.0, folded_same (text_in x) xs h.1) refl
 
 folded_all : (l : List ℕ) (xs : List PageEntry) → RisesFrom l (texts xs) → folded_from None xs ≡ xs
 folded_all l [] h = refl
@@ -80,9 +69,8 @@ pub listed_rises : (p l : List ℕ) (m : Objects) → RisesFrom l (texts (listed
 listed_rises p l m = subst (λ xs. RisesFrom l (texts xs)) (sym (flat_is p l m)) (rises_behind p l (fin.entries m) (map_sorted text_cmp m))
 
 taken_rises : (n : ℕ) (xs : List PageEntry) (l : List ℕ) → RisesFrom l (texts xs) → RisesFrom l (texts (take n xs))
-taken_rises zero xs l h = tt
-taken_rises (suc n) [] l h = tt
 taken_rises (suc n) (x ∷ xs) l h = (h.0, taken_rises n xs (text_in x) h.1)
+taken_rises _ _ l h = tt
 
 pub page_rises : (n : ℕ) (p l : List ℕ) (m : Objects) → RisesFrom l (keys_listed n p l m)
 page_rises n p l m = taken_rises n (listed p false l m) l (listed_rises p l m)
@@ -109,14 +97,10 @@ last_append l (k ∷ ks) more = last_append k ks more
 
 pub found_in : (es : List Entry) (k : List ℕ) (x : Object) → find text_cmp k es ≡ Some x → IsIn (k, x) es
 found_in [] k x e = absurd (none_some refl e)
-found_in (p ∷ es) k x e = by (eq_by_cmp text_cmp k p.0) refl (found_in es k x)
-  where
-    by : (b : Bool) → eq_by_cmp text_cmp k p.0 ≡ b → (find text_cmp k es ≡ Some x → IsIn (k, x) es) → IsIn (k, x) (p ∷ es)
-    by true h old =
-        let same : k ≡ p.0 = text_exact k p.0 (tied _ h) in
-        let value : p.1 ≡ x = some_is (sym (ap (λ b. cond b (Some p.1) (find text_cmp k es)) h) ∙ e) in
-        inl (ap (λ q. (q, x)) same ∙ ap (λ v. (p.0, v)) (sym value))
-    by false h old = inr (old (sym (ap (λ b. cond b (Some p.1) (find text_cmp k es)) h) ∙ e))
+found_in (p ∷ es) k x e = elim (true_or_false (eq_by_cmp text_cmp k p.0)) [
+  | inr h ↦ inr (found_in es k x (rw h at e))
+  | inl h ↦ inl (ap (λ q. (q, x)) (text_exact k p.0 (tied _ h)) ∙ ap (λ v. (p.0, v)) (sym (some_is (rw h at e))))
+]
 
 above_all : (k : List ℕ) (es : List Entry) (e : Entry) → AllByRecursion (λ q. text_cmp k q ≡ Less) (keys_of es) → IsIn e es → text_cmp k e.0 ≡ Less
 above_all k [] e a i = absurd i
@@ -127,14 +111,12 @@ above_all k (p ∷ es) e a (inr i) = above_all k es e a.1 i
 pub found_at : (es : List Entry) (e : Entry) → IsStrictlySortedBy text_cmp (keys_of es) → IsIn e es → find text_cmp e.0 es ≡ Some e.1
 found_at [] e s i = absurd i
 found_at (p ∷ es) e s (inl is) =
-    let key : e.0 ≡ p.0 = ap (λ (x : Entry). x.0) is in
-    let tie : eq_by_cmp text_cmp e.0 p.0 ≡ true = sym (text_ties e.0 p.0) ∙ text_true e.0 p.0 key in
-    ap (λ b. cond b (Some p.1) (find text_cmp e.0 es)) tie ∙ ap (λ (x : Entry). Some x.1) (sym is)
+    let tie : eq_by_cmp text_cmp e.0 p.0 ≡ true = sym (text_ties e.0 p.0) ∙ text_true e.0 p.0 (ap (λ (x : Entry). x.0) is) in
+    rw tie (ap (λ (x : Entry). Some x.1) (sym is))
 found_at (p ∷ es) e s (inr i) =
     let above : is_lt (text_cmp p.0 e.0) ≡ true = less_true p.0 e.0 (above_all p.0 es e (sorted_head text_cmp p.0 (keys_of es) s) i) in
-    let other : e.0 ≡ p.0 → ⊥ = λ h. false_true (irrefl text_total p.0) (ap (lt text_cmp p.0) (sym h) ∙ above) in
-    let tie : eq_by_cmp text_cmp e.0 p.0 ≡ false = sym (text_ties e.0 p.0) ∙ text_false e.0 p.0 other in
-    ap (λ b. cond b (Some p.1) (find text_cmp e.0 es)) tie ∙ found_at es e (sorted_tail text_cmp p.0 (keys_of es) s) i
+    let tie : eq_by_cmp text_cmp e.0 p.0 ≡ false = sym (text_ties e.0 p.0) ∙ text_false e.0 p.0 (λ h. false_true (irrefl text_total p.0) (ap (lt text_cmp p.0) (sym h) ∙ above)) in
+    rw tie (found_at es e (sorted_tail text_cmp p.0 (keys_of es) s) i)
 
 pub listed_all : (p l : List ℕ) (m : Objects) (k : List ℕ) (x : Object) → fin.get m k ≡ Some x → begins p k ≡ true → is_lt (text_cmp l k) ≡ true → IsIn k (texts (listed p false l m))
 listed_all p l m k x e h g =
@@ -145,10 +127,9 @@ listed_all p l m k x e h g =
     subst (λ xs. IsIn k (texts xs)) (sym (flat_is p l m)) (map_in text_in (entry_of p false (k, x)) (behind_of l (flat p (fin.entries m))) d)
 
 taken_in : (n : ℕ) (xs : List PageEntry) (k : List ℕ) → IsIn k (texts (take n xs)) → IsIn k (texts xs)
-taken_in zero xs k i = absurd i
-taken_in (suc n) [] k i = absurd i
 taken_in (suc n) (x ∷ xs) k (inl e) = inl e
 taken_in (suc n) (x ∷ xs) k (inr i) = inr (taken_in n xs k i)
+taken_in _ _ k i = absurd i
 
 pub page_begins : (n : ℕ) (p l k : List ℕ) (m : Objects) → IsIn k (keys_listed n p l m) → (begins p k ≡ true) × ((x : Object) × (fin.get m k ≡ Some x))
 page_begins n p l k m i =

@@ -1,6 +1,8 @@
 -- What the walk finds is what is listed.
-use Rattle.std.proofs.Common.{◌≡◌, ℕ, Bool, true, false, ◌&&◌, cond, List, [], ◌∷◌, ◌++◌, Option, Some, None, refl, sym, ap, ◌∙◌, subst, map, length}
+use Rattle.std.proofs.Common.{◌≡◌, ℕ, inl, inr, Bool, true, false, ◌&&◌, cond, List, [], ◌∷◌, ◌++◌, Option, Some, None, refl, sym, ap, ◌∙◌, subst, map, length}
 use Rattle.proof_base.proofs.Common.{false≢true, exact_bytes, sorted_head, sorted_tail}
+use Rattle.std.proofs.lemmas.Bool.{cases_Bool}
+use Rattle.proof_base.proofs.Bools.{contrary}
 use Rattle.store_frame.specs.Prelude.{filter, keys_of, is_lt, is_eq, is_gt, Ordering, Less, Equal, Greater, text_cmp, Object, PageEntry, begins, stem_if, entry_by, entry_of, text_in, is_again, folded_from, listed, text_of, entries, Objects}
 use Rattle.std.specs.List.Sorted.{IsStrictlySortedBy}
 use Rattle.store_frame.specs.Walk.{text_by, walked}
@@ -26,17 +28,10 @@ entries_below p d es = map (entry_of p d) (filter (λ e. begins p e.0) es)
 
 walked_given : (p : List ℕ) (d : Bool) (a : List ℕ) (es : List (List ℕ × Object)) → walked p d a es ≡ given a (entries_below p d es)
 walked_given p d a [] = refl
-walked_given p d a (e ∷ es) = by (λ a. walked_given p d a es) (begins p e.0) refl
-  where
-    by : ((a : List ℕ) → walked p d a es ≡ given a (entries_below p d es)) → (b : Bool) → begins p e.0 ≡ b → walked p d a (e ∷ es) ≡ given a (entries_below p d (e ∷ es))
-    by ih false n =
-        skip_false (begins p e.0) (lt a (text_of p d e.0)) (entry_of p d e ∷ walked p d (text_of p d e.0) es) (walked p d a es) n ∙ ih a
-        ∙ sym (ap (λ b. given a (map (entry_of p d) (cond b (e ∷ filter (λ e. begins p e.0) es) (filter (λ e. begins p e.0) es)))) n)
-    by ih true t =
-        ap (λ b. cond (b && lt a (text_of p d e.0)) (entry_of p d e ∷ walked p d (text_of p d e.0) es) (walked p d a es)) t
-        ∙ (λ i. cond (lt a (text_of p d e.0)) (entry_of p d e ∷ ih (text_of p d e.0) i) (ih a i))
-        ∙ (λ i. let u = text_by_entry (stem_if d p e.0) e.0 (length e.1.bytes) i in cond (lt a u) (entry_of p d e ∷ given u (entries_below p d es)) (given a (entries_below p d es)))
-        ∙ sym (ap (λ b. given a (map (entry_of p d) (cond b (e ∷ filter (λ e. begins p e.0) es) (filter (λ e. begins p e.0) es)))) t)
+walked_given p d a (e ∷ es) = elim (cases_Bool (begins p e.0)) [
+  | inl t ↦ rw (t, text_by_entry (stem_if d p e.0) e.0 (length e.1.bytes), walked_given p d (text_in (entry_of p d e)) es, walked_given p d a es) refl
+  | inr n ↦ rw (n, walked_given p d a es) refl
+]
 
 -- texts that never fall
 abbrev Rising : List ℕ → List PageEntry → Type 0
@@ -47,7 +42,7 @@ all_kept : (b w : List ℕ) (xs : List PageEntry) → lt b w ≡ true → Rising
 all_kept b w [] l r = refl
 all_kept b w (x ∷ xs) l r =
     let h : lt b (text_in x) ≡ true = lt_le b w (text_in x) l r.0 in
-    ap (λ t. cond t (x ∷ filter (λ x. lt b (text_in x)) xs) (filter (λ x. lt b (text_in x)) xs)) h ∙ ap (λ l. x ∷ l) (all_kept b (text_in x) xs h r.1)
+    rw (h, all_kept b (text_in x) xs h r.1) refl
 
 lower : (u w : List ℕ) (xs : List PageEntry) → lt w u ≡ false → Rising w xs → Rising u xs
 lower u w [] l r = tt
@@ -59,22 +54,12 @@ same_after : (a u : List ℕ) (xs : List PageEntry) → lt a u ≡ true → Risi
 same_after a u [] l r = refl
 same_after a u (x ∷ xs) l r =
     let h : lt a (text_in x) ≡ true = lt_le a u (text_in x) l r.0 in
-    ap (λ t. folded_from (Some u) (cond t (x ∷ filter (λ x. lt a (text_in x)) xs) (filter (λ x. lt a (text_in x)) xs))) h
-    ∙ by (same_after a u xs l (lower u (text_in x) xs r.0 r.1)) (text_cmp u (text_in x)) refl
-  where
-    by : folded_from (Some u) (filter (λ x. lt a (text_in x)) xs) ≡ folded_from (Some u) (filter (λ x. lt u (text_in x)) xs)
-        → (o : Ordering) → text_cmp u (text_in x) ≡ o
-        → cond (is_eq (text_cmp u (text_in x))) (folded_from (Some u) (filter (λ x. lt a (text_in x)) xs)) (x ∷ folded_from (Some (text_in x)) (filter (λ x. lt a (text_in x)) xs))
-        ≡ folded_from (Some u) (cond (is_lt (text_cmp u (text_in x))) (x ∷ filter (λ x. lt u (text_in x)) xs) (filter (λ x. lt u (text_in x)) xs))
-    by ih Equal e =
-        ap (λ o. cond (is_eq o) (folded_from (Some u) (filter (λ x. lt a (text_in x)) xs)) (x ∷ folded_from (Some (text_in x)) (filter (λ x. lt a (text_in x)) xs))) e
-        ∙ ih ∙ sym (ap (λ o. folded_from (Some u) (cond (is_lt o) (x ∷ filter (λ x. lt u (text_in x)) xs) (filter (λ x. lt u (text_in x)) xs))) e)
-    by ih Less e =
-        ap (λ o. cond (is_eq o) (folded_from (Some u) (filter (λ x. lt a (text_in x)) xs)) (x ∷ folded_from (Some (text_in x)) (filter (λ x. lt a (text_in x)) xs))) e
-        ∙ ap (λ l. x ∷ folded_from (Some (text_in x)) l) (all_kept a (text_in x) xs (lt_le a u (text_in x) l r.0) r.1 ∙ sym (all_kept u (text_in x) xs (ap is_lt e) r.1))
-        ∙ sym (ap (λ o. cond (is_eq o) (folded_from (Some u) (filter (λ x. lt u (text_in x)) xs)) (x ∷ folded_from (Some (text_in x)) (filter (λ x. lt u (text_in x)) xs))) e)
-        ∙ sym (ap (λ o. folded_from (Some u) (cond (is_lt o) (x ∷ filter (λ x. lt u (text_in x)) xs) (filter (λ x. lt u (text_in x)) xs))) e)
-    by ih Greater e = absurd (false≢true (sym r.0 ∙ lt_back u (text_in x) ∙ ap is_gt e))
+    rw h ((elim (text_cmp u (text_in x)) as (λ o. text_cmp u (text_in x) ≡ o
+      → (is_again (Some u) x ≡ is_eq o) → folded_from (Some u) (x ∷ filter (λ x. lt a (text_in x)) xs) ≡ folded_from (Some u) (filter (λ x. lt u (text_in x)) (x ∷ xs))) [
+      | Equal ↦ λ e g. rw e (same_after a u xs l (lower u (text_in x) xs r.0 r.1))
+      | Less ↦ λ e g. rw (e, all_kept a (text_in x) xs h r.1, all_kept u (text_in x) xs (ap is_lt e) r.1, e) refl
+      | Greater ↦ λ e g. absurd (false≢true (sym r.0 ∙ lt_back u (text_in x) ∙ ap is_gt e))
+    ]) refl refl)
 
 abbrev Started : List PageEntry → Type 0
 Started [] = Unit {0}
@@ -99,52 +84,36 @@ not_again a (Some t) x h l = by (text_cmp t (text_in x)) refl
 
 given_listed : (a : List ℕ) (o : Option (List ℕ)) (xs : List PageEntry) → Last a o → Started xs → given a xs ≡ folded_from o (filter (λ x. lt a (text_in x)) xs)
 given_listed a o [] h s = refl
-given_listed a o (x ∷ xs) h s = by (λ a o l. given_listed a o xs l (start (text_in x) xs s)) (lt a (text_in x)) refl
-  where
-    by : ((a : List ℕ) (o : Option (List ℕ)) → Last a o → given a xs ≡ folded_from o (filter (λ x. lt a (text_in x)) xs))
-        → (b : Bool) → lt a (text_in x) ≡ b → given a (x ∷ xs) ≡ folded_from o (filter (λ x. lt a (text_in x)) (x ∷ xs))
-    by ih false n =
-        ap (λ b. cond b (x ∷ given (text_in x) xs) (given a xs)) n ∙ ih a o h
-        ∙ sym (ap (λ b. folded_from o (cond b (x ∷ filter (λ x. lt a (text_in x)) xs) (filter (λ x. lt a (text_in x)) xs))) n)
-    by ih true t =
-        ap (λ b. cond b (x ∷ given (text_in x) xs) (given a xs)) t
-        ∙ ap (λ l. x ∷ l) (ih (text_in x) (Some (text_in x)) (irrefl (text_in x)) ∙ sym (same_after a (text_in x) xs t s))
-        ∙ sym (ap (λ b. cond b (folded_from o (filter (λ x. lt a (text_in x)) xs)) (x ∷ folded_from (Some (text_in x)) (filter (λ x. lt a (text_in x)) xs))) (not_again a o x h t))
-        ∙ sym (ap (λ b. folded_from o (cond b (x ∷ filter (λ x. lt a (text_in x)) xs) (filter (λ x. lt a (text_in x)) xs))) t)
+given_listed a o (x ∷ xs) h s = elim (cases_Bool (lt a (text_in x))) [
+  | inr n ↦ rw (n, given_listed a o xs h (start (text_in x) xs s)) refl
+  | inl t ↦ rw (t, not_again a o x h t, given_listed (text_in x) (Some (text_in x)) xs (irrefl (text_in x)) (start (text_in x) xs s), same_after a (text_in x) xs t s) refl
+]
 
 -- a greater key below p has no smaller text
 text_rises : (p : List ℕ) (d : Bool) (k q : List ℕ) → lt k q ≡ true → lt (text_of p d q) (text_of p d k) ≡ false
 text_rises p d k q l = by (stem_if d p q) refl
   where
-    st : List ℕ → Option (List ℕ)
-    st = stem_if d p
-
-    none : (b : Bool) → (b ≡ true → false ≡ true) → b ≡ false
-    none true f = absurd (false≢true (f refl))
-    none false f = refl
-
     tk : lt k (text_of p d k) ≡ false
     tk = text_le p (stem_if d p) (stems p d) k (stem_if d p k) refl
 
     by : (o : Option (List ℕ)) → stem_if d p q ≡ o → lt (text_of p d q) (text_of p d k) ≡ false
-    by None n = ap (λ o. lt (text_by o q) (text_of p d k)) n ∙ le_le (text_of p d k) k q tk (lt_not k q l)
-    by (Some s) n = ap (λ o. lt (text_by o q) (text_of p d k)) n ∙ none (lt (s ++ 47 ∷ []) (text_of p d k)) (λ t.
+    by None n = rw n (le_le (text_of p d k) k q tk (lt_not k q l))
+    by (Some s) n = rw n (contrary (lt (s ++ 47 ∷ []) (text_of p d k)) (λ t.
         let b : begins (s ++ 47 ∷ []) k ≡ true = between (s ++ 47 ∷ []) k q (lt_not (s ++ 47 ∷ []) k (lt_le (s ++ 47 ∷ []) (text_of p d k) k t tk)) (lt_not k q l) ((stems p d).below q s n) in
-        sym (irrefl (s ++ 47 ∷ [])) ∙ ap (λ o. lt (s ++ 47 ∷ []) (text_by o k)) (sym ((stems p d).same q s k n b)) ∙ t)
+        sym (irrefl (s ++ 47 ∷ [])) ∙ (rw ((stems p d).same q s k n b) at t)))
 
 rises_after : (p : List ℕ) (d : Bool) (k : List ℕ) (es : List (List ℕ × Object)) → IsStrictlySortedBy text_cmp (k ∷ keys_of es) → Rising (text_of p d k) (entries_below p d es)
 rises_after p d k [] s = tt
-rises_after p d k (f ∷ es) s = by (rises_after p d f.0 es (sorted_tail text_cmp k (f.0 ∷ keys_of es) s)) (begins p f.0)
+rises_after p d k (f ∷ es) s =
+    let up : lt (text_in (entry_of p d f)) (text_of p d k) ≡ false = rw same at (text_rises p d k f.0 (ap is_lt (sorted_head text_cmp k (f.0 ∷ keys_of es) s).0)) in
+    let ih : Rising (text_in (entry_of p d f)) (entries_below p d es) = rw same at (rises_after p d f.0 es (sorted_tail text_cmp k (f.0 ∷ keys_of es) s)) in
+    elim (begins p f.0) as (λ b. Rising (text_of p d k) (map (entry_of p d) (cond b (f ∷ filter (λ e. begins p e.0) es) (filter (λ e. begins p e.0) es)))) [
+      true ↦ (up, ih)
+    | false ↦ lower (text_of p d k) (text_in (entry_of p d f)) (entries_below p d es) up ih
+    ]
   where
-    up : lt (text_of p d f.0) (text_of p d k) ≡ false
-    up = text_rises p d k f.0 (ap is_lt (sorted_head text_cmp k (f.0 ∷ keys_of es) s).0)
-
     same : text_of p d f.0 ≡ text_in (entry_of p d f)
     same = text_by_entry (stem_if d p f.0) f.0 (length f.1.bytes)
-
-    by : Rising (text_of p d f.0) (entries_below p d es) → (b : Bool) → Rising (text_of p d k) (map (entry_of p d) (cond b (f ∷ filter (λ e. begins p e.0) es) (filter (λ e. begins p e.0) es)))
-    by ih true = (ap (λ t. lt t (text_of p d k)) (sym same) ∙ up, subst (λ t. Rising t (entries_below p d es)) same ih)
-    by ih false = lower (text_of p d k) (text_of p d f.0) (entries_below p d es) up ih
 
 started : (p : List ℕ) (d : Bool) (es : List (List ℕ × Object)) → IsStrictlySortedBy text_cmp (keys_of es) → Started (entries_below p d es)
 started p d [] s = tt
@@ -162,26 +131,23 @@ walked_listed p d a m =
 
 given_greater : (a : List ℕ) (xs : List PageEntry) (x : PageEntry) (rest : List PageEntry) → given a xs ≡ x ∷ rest → lt a (text_in x) ≡ true
 given_greater a [] x rest h = absurd (cc)
-given_greater a (y ∷ ys) x rest h = (elim (lt a (text_in y)) as (λ b. lt a (text_in y) ≡ b → (given a ys ≡ x ∷ rest → lt a (text_in x) ≡ true) → lt a (text_in x) ≡ true) [
-      false ↦ λ n ih. ih (ap (λ b. cond b (y ∷ given (text_in y) ys) (given a ys)) (sym n) ∙ h)
-    | true ↦ λ t ih. let e : y ∷ given (text_in y) ys ≡ x ∷ rest = ap (λ b. cond b (y ∷ given (text_in y) ys) (given a ys)) (sym t) ∙ h in let f : y ≡ x = cc in subst (λ z. lt a (text_in z) ≡ true) f t
-  ]) refl (given_greater a ys x rest)
+given_greater a (y ∷ ys) x rest h = elim (cases_Bool (lt a (text_in y))) [
+  | inr n ↦ given_greater a ys x rest (rw n at h)
+  | inl t ↦ let e : y ∷ given (text_in y) ys ≡ x ∷ rest = rw t at h in let f : y ≡ x = cc in rw f at t
+]
 
 given_behind : (a : List ℕ) (xs : List PageEntry) (x : PageEntry) (rest : List PageEntry) → given a xs ≡ x ∷ rest → given (text_in x) xs ≡ rest
 given_behind a [] x rest h = absurd (cc)
-given_behind a (y ∷ ys) x rest h = by (lt a (text_in y)) refl (given_behind a ys x rest)
-  where
-    by : (b : Bool) → lt a (text_in y) ≡ b → (given a ys ≡ x ∷ rest → given (text_in x) ys ≡ rest) → given (text_in x) (y ∷ ys) ≡ rest
-    by false n ih =
-        let g : given a ys ≡ x ∷ rest = ap (λ b. cond b (y ∷ given (text_in y) ys) (given a ys)) (sym n) ∙ h in
-        ap (λ b. cond b (y ∷ given (text_in y) ys) (given (text_in x) ys)) (lt_not (text_in y) (text_in x) (le_lt (text_in y) a (text_in x) n (given_greater a ys x rest g)))
-        ∙ ih g
-    by true t ih =
-        let e : y ∷ given (text_in y) ys ≡ x ∷ rest = ap (λ b. cond b (y ∷ given (text_in y) ys) (given a ys)) (sym t) ∙ h in
-        let f : y ≡ x = cc in
-        let g : given (text_in y) ys ≡ rest = cc in
-        subst (λ z. given (text_in z) (y ∷ ys) ≡ rest) f
-        (ap (λ b. cond b (y ∷ given (text_in y) ys) (given (text_in y) ys)) (irrefl (text_in y)) ∙ g)
+given_behind a (y ∷ ys) x rest h = elim (cases_Bool (lt a (text_in y))) [
+  | inr n ↦
+      let g : given a ys ≡ x ∷ rest = rw n at h in
+      rw (lt_not (text_in y) (text_in x) (le_lt (text_in y) a (text_in x) n (given_greater a ys x rest g))) (given_behind a ys x rest g)
+  | inl t ↦
+      let e : y ∷ given (text_in y) ys ≡ x ∷ rest = rw t at h in
+      let f : y ≡ x = cc in
+      let g : given (text_in y) ys ≡ rest = cc in
+      rw (← f, irrefl (text_in y)) g
+]
 
 -- what is listed behind the first entry are the others
 pub listed_behind : (p : List ℕ) (d : Bool) (a : List ℕ) (m : Objects) (x : PageEntry) (rest : List PageEntry) → listed p d a m ≡ x ∷ rest → listed p d (text_in x) m ≡ rest

@@ -1,6 +1,7 @@
 -- Common prefixes.
-use Rattle.std.proofs.Common.{◌≡◌, ℕ, Bool, true, false, ◌&&◌, nat_eq, List, [], ◌∷◌, ◌++◌, Option, Some, None, refl, sym, ap, ◌∙◌, subst, cond}
+use Rattle.std.proofs.Common.{◌≡◌, ℕ, inl, inr, Bool, true, false, ◌&&◌, nat_eq, List, [], ◌∷◌, ◌++◌, Option, Some, None, refl, sym, ap, ◌∙◌, subst}
 use Rattle.proof_base.proofs.Common.{and_parts, false≢true, eqb-true, eq-eqb}
+use Rattle.std.proofs.lemmas.Bool.{cases_Bool}
 use Rattle.store_frame.specs.Prelude.{option_map, begins, before_slash, stem}
 
 record Mapped {A : Type 0} (f : A → A) (o : Option A) (s : A) : Type 0 where
@@ -28,76 +29,59 @@ both x b h = ap (λ c. c && b) (eq-eqb x x refl) ∙ h
 
 slash_below : (q s : List ℕ) → before_slash q ≡ Some s → begins (s ++ 47 ∷ []) q ≡ true
 slash_below [] s e = absurd (cc)
-slash_below (x ∷ q) s e = by (slash_below q) (nat_eq x 47) refl
-  where
-    by : ((r : List ℕ) → before_slash q ≡ Some r → begins (r ++ 47 ∷ []) q ≡ true) → (b : Bool) → nat_eq x 47 ≡ b → begins (s ++ 47 ∷ []) (x ∷ q) ≡ true
-    by ih true t =
-        let e' : Some [] ≡ Some s = ap (λ b. cond b (Some []) (option_map (λ s. x ∷ s) (before_slash q))) (sym t) ∙ e in
-        subst (λ s. begins (s ++ 47 ∷ []) (x ∷ q) ≡ true) (inner _ _ e') (subst (λ y. begins (47 ∷ []) (y ∷ q) ≡ true) (sym (eqb-true x 47 t)) refl)
-    by ih false t =
-        let m = mapped (λ s. x ∷ s) (before_slash q) s (ap (λ b. cond b (Some []) (option_map (λ s. x ∷ s) (before_slash q))) (sym t) ∙ e) in
-        subst (λ s. begins (s ++ 47 ∷ []) (x ∷ q) ≡ true) m.is (both x _ (ih m.from m.was))
+slash_below (x ∷ q) s e = elim (cases_Bool (nat_eq x 47)) [
+  | inl t ↦ rw (← inner [] s (rw t at e), eqb-true x 47 t) refl
+  | inr n ↦ let m = mapped (λ s. x ∷ s) (before_slash q) s (rw n at e) in rw (← m.is) (both x _ (slash_below q m.from m.was))
+]
 
 slash_same : (q s w : List ℕ) → before_slash q ≡ Some s → begins (s ++ 47 ∷ []) w ≡ true → before_slash w ≡ Some s
 slash_same [] s w e h = absurd (cc)
-slash_same (x ∷ q) s w e h = by (slash_same q) (nat_eq x 47) refl
+slash_same (x ∷ q) s w e h = elim (cases_Bool (nat_eq x 47)) [
+  | inl t ↦ let f : Some [] ≡ Some s = rw t at e in here w (rw (← inner [] s f) at h) ∙ f
+  | inr n ↦
+      let m = mapped (λ s. x ∷ s) (before_slash q) s (rw n at e) in
+      later (slash_same q) m.from w m.was n (rw (← m.is) at h) ∙ ap Some m.is
+]
   where
     here : (w : List ℕ) → begins (47 ∷ []) w ≡ true → before_slash w ≡ Some []
     here [] h = absurd (false≢true h)
-    here (y ∷ w) h = ap (λ b. cond b (Some []) (option_map (λ s. y ∷ s) (before_slash w))) (eq-eqb y 47 (sym (same_head 47 y true h)))
+    here (y ∷ w) h = rw (← same_head 47 y true h) refl
 
     later : ((r w : List ℕ) → before_slash q ≡ Some r → begins (r ++ 47 ∷ []) w ≡ true → before_slash w ≡ Some r) → (r w : List ℕ) → before_slash q ≡ Some r → nat_eq x 47 ≡ false → begins ((x ∷ r) ++ 47 ∷ []) w ≡ true → before_slash w ≡ Some (x ∷ r)
     later ih r [] e t h = absurd (false≢true h)
-    later ih r (y ∷ w) e t h =
-        let z : x ≡ y = same_head x y _ h in
-        subst (λ y. before_slash (y ∷ w) ≡ Some (x ∷ r)) z
-        (ap (λ b. cond b (Some []) (option_map (λ s. x ∷ s) (before_slash w))) t ∙ ap (option_map (λ s. x ∷ s)) (ih r w e (rest_of x y _ h)))
-
-    by : ((r w : List ℕ) → before_slash q ≡ Some r → begins (r ++ 47 ∷ []) w ≡ true → before_slash w ≡ Some r) → (b : Bool) → nat_eq x 47 ≡ b → before_slash w ≡ Some s
-    by ih true t =
-        let e' : Some [] ≡ Some s = ap (λ b. cond b (Some []) (option_map (λ s. x ∷ s) (before_slash q))) (sym t) ∙ e in
-        here w (subst (λ s. begins (s ++ 47 ∷ []) w ≡ true) (sym (inner _ _ e')) h) ∙ e'
-    by ih false t =
-        let m = mapped (λ s. x ∷ s) (before_slash q) s (ap (λ b. cond b (Some []) (option_map (λ s. x ∷ s) (before_slash q))) (sym t) ∙ e) in
-        later ih m.from w m.was t (subst (λ s. begins (s ++ 47 ∷ []) w ≡ true) (sym m.is) h) ∙ ap Some m.is
+    later ih r (y ∷ w) e t h = rw (← same_head x y _ h, t, ih r w e (rest_of x y _ h)) refl
 
 -- ---- after a prefix
 
 module _ (x : ℕ) (p : List ℕ) (y : ℕ) (q : List ℕ) (s : List ℕ) (e : stem (x ∷ p) (y ∷ q) ≡ Some s) where
   stem_step : (x ≡ y) × Mapped (λ s. y ∷ s) (stem p q) s
-  stem_step = by (nat_eq x y) refl
-    where
-      by : (b : Bool) → nat_eq x y ≡ b → (x ≡ y) × Mapped (λ s. y ∷ s) (stem p q) s
-      by true t = (eqb-true x y t, mapped (λ s. y ∷ s) (stem p q) s (ap (λ b. cond b (option_map (λ s. y ∷ s) (stem p q)) None) (sym t) ∙ e))
-      by false t = let n : None ≡ Some s = ap (λ b. cond b (option_map (λ s. y ∷ s) (stem p q)) None) (sym t) ∙ e in absurd (cc)
+  stem_step = elim (cases_Bool (nat_eq x y)) [
+    | inl t ↦ (eqb-true x y t, mapped (λ s. y ∷ s) (stem p q) s (rw t at e))
+    | inr t ↦ let n : None ≡ Some s = rw t at e in absurd (cc)
+  ]
 
 pub stem_below : (p q s : List ℕ) → stem p q ≡ Some s → begins (s ++ 47 ∷ []) q ≡ true
 stem_below [] q s e = slash_below q s e
 stem_below (x ∷ p) [] s e = absurd (cc)
 stem_below (x ∷ p) (y ∷ q) s e =
     let m = (stem_step x p y q s e).1 in
-    subst (λ s. begins (s ++ 47 ∷ []) (y ∷ q) ≡ true) m.is (both y _ (stem_below p q m.from m.was))
+    rw (← m.is) (both y _ (stem_below p q m.from m.was))
 
 pub stem_prefix : (p q s : List ℕ) → stem p q ≡ Some s → begins p (s ++ 47 ∷ []) ≡ true
 stem_prefix [] q s e = refl
 stem_prefix (x ∷ p) [] s e = absurd (cc)
 stem_prefix (x ∷ p) (y ∷ q) s e =
-    let m = (stem_step x p y q s e) in
-    subst (λ s. begins (x ∷ p) (s ++ 47 ∷ []) ≡ true) m.1.is
-    (subst (λ z. begins (z ∷ p) (y ∷ (m.1.from ++ 47 ∷ [])) ≡ true) (sym m.0) (both y _ (stem_prefix p q m.1.from m.1.was)))
+    let m = stem_step x p y q s e in
+    rw (← m.1.is) (subst (λ z. begins (z ∷ p) (y ∷ (m.1.from ++ 47 ∷ [])) ≡ true) (sym m.0) (both y _ (stem_prefix p q m.1.from m.1.was)))
 
 pub stem_same : (p q s w : List ℕ) → stem p q ≡ Some s → begins (s ++ 47 ∷ []) w ≡ true → stem p w ≡ Some s
 stem_same [] q s w e h = slash_same q s w e h
 stem_same (x ∷ p) [] s w e h = absurd (cc)
-stem_same (x ∷ p) (y ∷ q) s w e h = at (stem_same p q) w (subst (λ s. begins (s ++ 47 ∷ []) w ≡ true) (sym m.1.is) h) ∙ ap Some m.1.is
+stem_same (x ∷ p) (y ∷ q) s w e h = at (stem_same p q) w (rw (← m.1.is) at h) ∙ ap Some m.1.is
   where
     m : (x ≡ y) × Mapped (λ s. y ∷ s) (stem p q) s
     m = stem_step x p y q s e
 
     at : ((s w : List ℕ) → stem p q ≡ Some s → begins (s ++ 47 ∷ []) w ≡ true → stem p w ≡ Some s) → (w : List ℕ) → begins (y ∷ (m.1.from ++ 47 ∷ [])) w ≡ true → stem (x ∷ p) w ≡ Some (y ∷ m.1.from)
     at ih [] h = absurd (false≢true h)
-    at ih (z ∷ w) h =
-        let yz : y ≡ z = same_head y z _ h in
-        ap (λ b. cond b (option_map (λ s. z ∷ s) (stem p w)) None) (eq-eqb x z (m.0 ∙ yz))
-        ∙ ap (option_map (λ s. z ∷ s)) (ih m.1.from w m.1.was (rest_of y z _ h))
-        ∙ ap (λ z. Some (z ∷ m.1.from)) (sym yz)
+    at ih (z ∷ w) h = let yz : y ≡ z = same_head y z _ h in rw (eq-eqb x z (m.0 ∙ yz), ih m.1.from w m.1.was (rest_of y z _ h)) (ap (λ z. Some (z ∷ m.1.from)) (sym yz))

@@ -1,4 +1,4 @@
-use Rattle.std.proofs.Common.{◌≡◌, ◌⊎◌, inl, inr, true, false, List, ℕ, sym, ◌∙◌}
+use Rattle.std.proofs.Common.{◌≡◌, ◌⊎◌, inl, inr, true, List, ℕ, sym, ◌∙◌}
 use Rattle.path_keys.proofs.Common.{false≢true}
 use Rattle.s3_types.specs.Prelude.{is_key}
 use Rattle.fs_tree.specs.Prelude.{Objects, below, Status, Directory, File, Stands, IsStatus, IsName, HasOddKey}

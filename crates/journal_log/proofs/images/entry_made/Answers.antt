@@ -1,5 +1,5 @@
-use Rattle.std.proofs.Common.{List, sym, subst}
-use Rattle.journal_log.specs.Prelude.{AllByRecursion, Request, IsMade}
+use Rattle.std.proofs.Common.{sym, subst}
+use Rattle.journal_log.specs.Prelude.{AllByRecursion, IsMade}
 use Rattle.journal_log.proofs.images.entry_made.Goals as goal
 
 pub returns-in-Some : goal.returns-in-Some

@@ -1,5 +1,5 @@
 use Rattle.std.proofs.Common.{◌∙◌}
-use Rattle.journal_log.proofs.Replaces.{replaced, not_replaced, not_called}
+use Rattle.journal_log.proofs.Replaces.{replaced}
 use Rattle.journal_log.proofs.replacing.put_image.Goals as goal
 
 pub returns-in-Ok-replace-clause-ok : goal.returns-in-Ok-replace-clause-ok
