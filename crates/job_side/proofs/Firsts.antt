@@ -8,7 +8,7 @@ use Rattle.std.specs.FinMap as fin
 use Rattle.job_actor.proofs.Picking.{none_below}
 use Rattle.job_spec.specs.Eyes.{number_in}
 use Rattle.job_plans.specs.AtPlace.{task_at}
-use Rattle.job_steps.proofs.RunningStages.{mapped}
+use Rattle.job_safety.proofs.Sorts.{end_of}
 use Rattle.job_side.proofs.Places.{get_map, map_get}
 use Rattle.job_side.proofs.Moments.{never}
 use Rattle.job_states.specs.Standing.{standing}
@@ -41,7 +41,7 @@ take_more (y ∷ ys) (suc n) x e = ap (λ l. y ∷ l) (take_more ys n x e)
 -- one more attempt has its plan
 pub more_hands : {W : Type 0} (w : Script) (minimum n : ℕ) (p : Task) (hands new : List (Hand W)) → task_at w minimum n ≡ Some p → hands ≡ hands_of w minimum n → new ≡ hands ++ Plan (plans.Task p) ∷ [] → new ≡ hands_of w minimum (n + 1)
 more_hands w minimum n p hands new at e f =
-    let d = mapped (λ (a : Declared). task_of w minimum a.0 nothing_known) (slice_get w.attempts n) p at in
+    let d = end_of (λ (a : Declared). task_of w minimum a.0 nothing_known) (slice_get w.attempts n) p at in
     let s : suc n ≡ n + 1 = omega arith in
     let last : Plan (plans.Task p) ∷ [] ≡ map (plan_of w minimum) (d.0 ∷ []) = ap (λ t. Plan (plans.Task t) ∷ []) (sym d.2) in
     f ∙ ap (λ hs. hs ++ Plan (plans.Task p) ∷ []) e

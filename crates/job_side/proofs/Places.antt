@@ -4,7 +4,7 @@ use Rattle.std.specs.Prelude.{is_some, option_map}
 use Rattle.std.proofs.lemmas.Option.{slice_get-map}
 use Rattle.job_steps.specs.Prelude.{lookup, Actor, Driver, Who, Declared, same_name, actor_of, IsLegal, AreAttempts, Script, actors, is_own}
 use Rattle.job_spec.proofs.Common.{some_is, none_some, false_true, nat_true, or_parts}
-use Rattle.job_steps.proofs.RunningStages.{mapped}
+use Rattle.job_safety.proofs.Sorts.{end_of}
 use Rattle.job_spec.specs.Prelude.{declares}
 
 -- ---- lists
@@ -18,7 +18,7 @@ pub get_map : {X Y : Type 0} (f : X → Y) (xs : List X) (i : ℕ) (x : X) → s
 get_map f xs i x e = slice_get-map f xs i ∙ ap (option_map f) e
 
 pub map_get : {X Y : Type 0} (f : X → Y) (xs : List X) (i : ℕ) (y : Y) → slice_get (map f xs) i ≡ Some y → (x : X) × (slice_get xs i ≡ Some x) × (f x ≡ y)
-map_get f xs i y e = mapped f (slice_get xs i) y (sym (slice_get-map f xs i) ∙ e)
+map_get f xs i y e = end_of f (slice_get xs i) y (sym (slice_get-map f xs i) ∙ e)
 
 pub map_none : {X Y : Type 0} (f : X → Y) (xs : List X) (i : ℕ) → slice_get xs i ≡ None → slice_get (map f xs) i ≡ None
 map_none f xs i e = slice_get-map f xs i ∙ ap (option_map f) e

@@ -22,7 +22,7 @@ use Rattle.job_side.specs.declared.hands.Hand.TheVariants.{Plan, At, Empty}
 use Rattle.job_side.specs.declared.body.Body.{Body}
 use Rattle.job_side.proofs.Places.{apart, driver_first, attempt_at, there}
 use Rattle.job_side.proofs.Standings.{busy_at}
-use Rattle.job_safety.proofs.Cuts.{after_cut}
+use Rattle.job_traces.proofs.Changes.{after_parts}
 use Rattle.job_side.proofs.Seen.{eyes_more, foretold_as, foretold_last}
 use Rattle.job_side.proofs.Along.{carried, others_know}
 use Rattle.job_side.proofs.PicksStay.{same_picked, put_by_sent}
@@ -47,7 +47,7 @@ next_after s r _ = next_of s r
 pub scene_on : (opening : Content) (es : List Entry) (e : Entry)
     → moment opening (es ++ e ∷ []) (length (es ++ e ∷ [])) ≡ effect (moment opening es (length es)) e.request e.outcome
 scene_on opening es e =
-    ap (after_all (scene_at_first opening)) (take_whole (es ++ e ∷ [])) ∙ after_cut (scene_at_first opening) es (e ∷ [])
+    ap (after_all (scene_at_first opening)) (take_whole (es ++ e ∷ [])) ∙ after_parts (scene_at_first opening) es (e ∷ [])
     ∙ ap (λ fs. effect (after_all (scene_at_first opening) fs) e.request e.outcome) (sym (take_whole es))
 
 -- an entry of the event that goes on is the side's own in its eyes, under its own number

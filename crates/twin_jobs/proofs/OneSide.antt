@@ -9,7 +9,7 @@ use Rattle.job_traces.proofs.Changes.{moment_scene}
 use Rattle.job_steps.proofs.Running.{is_run}
 use Rattle.job_steps.proofs.Parts.{take_whole}
 use Rattle.job_safety.proofs.Ending.{ahead_none}
-use Rattle.job_safety.proofs.Cuts.{after_cut}
+use Rattle.job_traces.proofs.Changes.{after_parts}
 use Rattle.job_side.specs.Holds.{Quiet, AreOf, is_mine, setting_of}
 use Rattle.job_side.specs.Events.{knows_of}
 use Rattle.job_side.specs.Beside.{AreForeign}
@@ -166,5 +166,5 @@ module _ {W : Type 0} (wants : W → Option Request) (is_of : Setting → Actor 
         let foreign = foreign_to s s1 t old new part twins rn ro opening more are own_turn (side_run sides name s1 new a) opens (side_run sides (other_of name) t old b) in
         let scene =
         plain_scene (over s1 new) a.quiet ∙ ap (λ (c : Content). after_all (store.opening c) new.journal.entries) opening ∙ ap (after_all (store.opening old.opening)) more
-        ∙ after_cut (store.opening old.opening) old.journal.entries part ∙ ap (λ c. after_all c part) (sym (plain_scene (over s old) q)) in
+        ∙ after_parts (store.opening old.opening) old.journal.entries part ∙ ap (λ c. after_all c part) (sym (plain_scene (over s old) q)) in
         rests_beside wants is_of running picks_of (over t old) (over t new) b.quiet (search (opening, theirs_not, events, more, foreign, scene, n))
