@@ -1,5 +1,5 @@
 -- The operations of a job's actors ask and go on as the script's.
-use Rattle.std.proofs.Common.{◌≡◌, ◌≤◌, ◌^◌, Option, Some, None, sym, ap, subst, ◌∙◌}
+use Rattle.std.proofs.Common.{◌≡◌, ◌≤◌, ◌^◌, Option, Some, None, sym, ap, subst, ◌∙◌, arith}
 use Rattle.job_steps.specs.Prelude.{Content, Scene, answer, IsHonestOutcome, Actor, Request, Outcome, Entry, Known, commit_asks, Setting, advance, over, Committing, MaySend, Play, scene_of, knows_now}
 use Rattle.job_spec.proofs.Common.{some_is}
 use Rattle.conflict.specs.Rechecks.{PlannedCheck}
@@ -34,18 +34,14 @@ checked_asks_so g opening x a (Some t) c at = tt
 checked_asks_so g opening x a None c at = commit_asks_so g opening x a c (behind g opening x a c at)
 
 asks_so : (g : Setting) (opening : Content) (x : Play) (a : Actor) (work : Act) → IsAt IsOf running_of g opening x a work → AsksSo g.script work
-asks_so g opening x a (Commit c) at = commit_asks_so g opening x a c at
-asks_so g opening x a (Checked y) at = checked_asks_so g opening x a y.check y.commit at
-asks_so g opening x a _ at = tt
+asks_so g opening x a work h = grind (arith, commit_asks_so, checked_asks_so)
 
 pub asks : (g : Setting) (opening : Content) (x : Play) (a : Actor) (work : Act) → IsAt IsOf running_of g opening x a work → wants_of work ≡ operations.wants g a (running_of (knows_now g x a) work)
 asks g opening x a work at = actors_go.wants g a (knows_now g x a) work at.goes_by (asks_so g opening x a work at)
 
 -- what may be sent of an actor is what it asks
 pub asked_of : (g : Setting) (opening : Content) (x : Play) (a : Actor) (work : Act) → IsAt IsOf running_of g opening x a work → (e : Entry) → e.actor ≡ a → MaySend g opening x e → wants_of work ≡ Some e.request
-asked_of g opening x a work at e is may =
-    let same : running_of (knows_now g x a) work ≡ may.at = some_is (sym at.at ∙ ap x.running (sym is) ∙ may.is_at) in
-    asks g opening x a work at ∙ ap (operations.wants g a) same ∙ ap (λ b. operations.wants g b may.at) (sym is) ∙ may.asked
+asked_of g opening x a work h e f p = grind (arith, asks)
 
 commit_goes_so : (g : Setting) (opening : Content) (x : Play) (a : Actor) (c : Committing) → IsAt IsOf running_of g opening x a (Commit c) → (r : Request) → wants_of (Commit c) ≡ Some r → (o : Outcome) → IsHonestOutcome o (answer (scene_of opening x) r) → CommitGoesSo g.script c o
 commit_goes_so g opening x a c at r e o honest =
@@ -61,9 +57,7 @@ checked_goes_so g opening x a (Some t) c at r e o honest = tt
 checked_goes_so g opening x a None c at r e o honest = commit_goes_so g opening x a c (behind g opening x a c at) r e o honest
 
 goes_so : (g : Setting) (opening : Content) (x : Play) (a : Actor) (work : Act) → IsAt IsOf running_of g opening x a work → (r : Request) → wants_of work ≡ Some r → (o : Outcome) → IsHonestOutcome o (answer (scene_of opening x) r) → GoesSo g.script work o
-goes_so g opening x a (Commit c) at r e o honest = commit_goes_so g opening x a c at r e o honest
-goes_so g opening x a (Checked y) at r e o honest = checked_goes_so g opening x a y.check y.commit at r e o honest
-goes_so g opening x a _ at r e o honest = tt
+goes_so g opening x a work h r e o f = grind (arith, commit_goes_so, checked_goes_so)
 
 pub goes : (g : Setting) (opening : Content) (x : Play) (a : Actor) (work : Act) → IsAt IsOf running_of g opening x a work → (r : Request) → wants_of work ≡ Some r → (o : Outcome) → IsHonestOutcome o (answer (scene_of opening x) r)
     → IsOf g a (tells_of work o) × (running_of (advance g a (running_of (knows_now g x a) work) o).known (tells_of work o) ≡ advance g a (running_of (knows_now g x a) work) o)

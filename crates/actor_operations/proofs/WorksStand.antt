@@ -1,5 +1,5 @@
 -- What the actors of a job are at, request by request: as far as what has happened says.
-use Rattle.std.proofs.Common.{◌≡◌, ℕ, ◌⊎◌, inl, inr, true, List, [], ◌∷◌, ◌++◌, Some, None, refl, sym, ap, subst, ◌∙◌}
+use Rattle.std.proofs.Common.{◌≡◌, ℕ, ◌⊎◌, inl, inr, true, List, [], ◌∷◌, ◌++◌, Some, None, refl, sym, ap, subst, ◌∙◌, arith}
 use Rattle.job_steps.specs.Prelude.{Content, Actor, Driver, Magic, Retried, Who, actor_of, IsLegal, Script, Done, Sweep, Sets, picks_of, replaced, Commit, Fetching, Replacing, Setting, Operation, TheSetup, TheCommit, Running, Seen, Told, tell_all, nothing_told, Commits, Stand, IsOpening, is_set, Play, Reachable, scene_of, times, IsRun, operation_of}
 use Rattle.job_facts.specs.Prelude.{Setup, SetupOver, SetsUp, Times}
 use Rattle.job_spec.proofs.Common.{none_some}
@@ -67,13 +67,7 @@ module _ (g : Setting) (opening : Content) (x : Play) (j : IsLegal g.script) (is
 
   -- it is over, or nobody else has begun anything
   pub setup_now : (t : Retried Setup) → stand.driver ≡ Some (TheSetup t) → (t.operation ≡ SetupOver setups.Done) ⊎ (SetsUp w stand.seen.scene.content t.operation × ((b : Who) → stand.attempts b ≡ None))
-  setup_now t d = elim good_now [
-    | inl e ↦ elim e.setup [
-      | inl none ↦ absurd (none_some none d)
-      | inr y ↦ inr (subst (λ (u : Retried Setup). SetsUp w stand.seen.scene.content u.operation) (setup_is (sym y.1 ∙ d)) y.2, e.none)
-    ]
-    | inr l ↦ inl (subst (λ v. At g opening v stand.seen stand.told) d l.driver).0
-  ]
+  setup_now t h = grind (arith, good_now, setup_is, At)
 
   -- ---- the driver's commit
 

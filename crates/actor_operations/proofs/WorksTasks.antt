@@ -1,5 +1,5 @@
 -- What attempts are at in a run: a task's commit reads records of its own files alone.
-use Rattle.std.proofs.Common.{◌≡◌, List, Some, refl}
+use Rattle.std.proofs.Common.{◌≡◌, List, Some, refl, arith}
 use Rattle.job_steps.specs.Prelude.{Content, Outcome, Entry, fresh, Who, IsLegal, Script, write_start, task_commit_start, task_abort_start, Setting, Operation, TheWrite, TheTaskCommit, TheTaskAbort, TheCheck, step, tells, known, Stand, Runs, run_begins, driver_sends, attempt_sends, IsOpening, Beginning, BeginWrite, BeginPublish, BeginAbort, begin, actor_begins, strays, Times}
 use Rattle.job_spec.proofs.Common.{none_some}
 use Rattle.job_protocol.specs.Rechecks.{check_after}
@@ -13,9 +13,7 @@ OwnTask w a (TheTaskCommit t) = ReadsOwn w a t.operation
 OwnTask w a _ = Unit {0}
 
 own_tells : (g : Setting) (a : Who) (op : Operation) (o : Outcome) → OwnTask g.script a op → OwnTask g.script a (tells g a op o)
-own_tells g a (TheTaskCommit t) o h = reads_go g.script g.minimum g.script.retries a t o h
-own_tells g a (TheCheck t) o h = after_check_so g (λ op. OwnTask g.script a op) tt (λ u. tt) (step g.script.retries (check_after g.script) t o)
-own_tells g a _ o h = tt
+own_tells g a op o h = grind (arith, reads_go, after_check_so)
 
 -- ---- every run
 

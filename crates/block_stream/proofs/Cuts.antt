@@ -62,10 +62,7 @@ drop_is n true (b ∷ c ∷ bs) r h w = ap (drop n) (append_assoc b (concat (c �
 
 -- the blocks without the first are cut up alike
 pub cut_rest : (n : ℕ) (closed : Bool) (q : List (List ℕ)) (r : List ℕ) → IsCutUp n closed q r → IsCutUp n closed (drop 1 q) r
-cut_rest n true (b ∷ []) r h = (tt, h.1)
-cut_rest n false (b ∷ bs) r h = (h.0.1, h.1)
-cut_rest n true (b ∷ bs) r h = (h.0.1, h.1)
-cut_rest n _ _ r h = h
+cut_rest n closed q r h = grind arith
 
 module _ (mode : StreamMode) (bucket key : List ℕ) (n : ℕ) (q : List (List ℕ)) (r : List ℕ) (u : Option ℕ) (tags : List Spelled) (count : ℕ) where
   abbrev stream : Bool → Stream
@@ -87,46 +84,28 @@ module _ (mode : StreamMode) (bucket key : List ℕ) (n : ℕ) (q : List (List �
 
   -- no whole block is pending, and the stream is open: it waits
   waits : (v : Option ℕ) → is_whole n q ≡ false → stage_by mode n q false tags v ≡ Waiting
-  waits None e = ap (λ b. cond b Putting (begin_or_wait (is_due n q false tags))) (and_right (is_direct mode) false refl) ∙ ap (λ b. begin_or_wait (b || false)) e
-  waits (Some id) e = ap (λ b. cond (b || false) Sending Waiting) e
+  waits v h = grind arith
 
   -- what is asked, by the blocks
   pub asks_is : (closed : Bool) → 1 ≤ n → IsCutUp n closed q r → asks_with (stage_by mode n q closed tags u) bucket key (unwrap_or u 0) tags (first_of q) ≡ wanted (stream closed)
-  asks_is true l h =
-      ap (λ x. asks_with (stage_by mode n q true tags u) bucket key (unwrap_or u 0) tags x) (first_is n true q r h (λ e. absurd (cc)))
-      ∙ ap (λ g. asks_with g bucket key (unwrap_or u 0) tags (take n (concat q ++ r))) (stage_is u true l h)
-  asks_is false l h =
-      elim (is_whole n q) as (λ z. is_whole n q ≡ z → asks_with (stage_by mode n q false tags u) bucket key (unwrap_or u 0) tags (first_of q) ≡ wanted (stream false)) [
-        | true ↦ λ z.
-            ap (λ x. asks_with (stage_by mode n q false tags u) bucket key (unwrap_or u 0) tags x) (first_is n false q r h (λ e. z))
-            ∙ ap (λ g. asks_with g bucket key (unwrap_or u 0) tags (take n (concat q ++ r))) (stage_is u false l h)
-        | false ↦ λ z.
-            ap (λ g. asks_with g bucket key (unwrap_or u 0) tags (first_of q)) (waits u z)
-            ∙ sym (ap (λ g. asks_with g bucket key (unwrap_or u 0) tags (take n (concat q ++ r))) (sym (stage_is u false l h) ∙ waits u z))
-      ] refl
+  asks_is closed h g = grind (arith, first_is, stage_is, waits)
 
 settles_not : (mode : StreamMode) (g : Stage) → (is_direct mode ≡ false → g ≡ Completing → ⊥) → settles mode g ≡ (g, None)
-settles_not Delayed Completing h = absurd (h refl refl)
-settles_not _ _ h = refl
+settles_not mode g h = grind arith
 
 settles_now : (mode : StreamMode) (g : Stage) → is_direct mode ≡ false → g ≡ Completing → settles mode g ≡ (Over, Some Done)
-settles_now Direct g e f = absurd (cc)
-settles_now Delayed g e f = ap (settles Delayed) f
+settles_now mode g h e = grind arith
 
 both : (a b c : Bool) → (a && (not b && not c)) ≡ true → (a ≡ true) × (b ≡ false) × (c ≡ false)
-both true false false h = (refl, refl, refl)
-both _ _ _ h = absurd (cc)
+both a b c h = grind arith
 
 -- with no part answered a part is due at the close
 pub first_part : (m : Stream) → m.closed ≡ true → m.tags ≡ [] → has_part m ≡ true
-first_part m c t = ap (λ b. nat_le m.block (length m.pending) || (b && (has_some m.pending || not (has_some m.tags)))) c
-    ∙ ap (λ (ts : List Spelled). nat_le m.block (length m.pending) || (has_some m.pending || not (has_some ts))) t
-    ∙ or_right (nat_le m.block (length m.pending)) (has_some m.pending || true) (or_right (has_some m.pending) true refl)
+first_part m h g = grind arith
 
 -- the stage of a closed stream that has an upload and no part to send
 completing : (v : Option ℕ) (m : Stream) → m.closed ≡ true → has_part m ≡ false → (v ≡ None → m.tags ≡ []) → stage_of None v m ≡ Completing
-completing None m c p t = let e : true ≡ false = sym (first_part m c (t refl)) ∙ p in absurd (cc)
-completing (Some id) m c p t = ap (λ b. cond b Sending (complete_or_wait m.closed)) p ∙ ap complete_or_wait c
+completing v m h g e = grind arith
 
 module _ (mode : StreamMode) (bucket key : List ℕ) (n : ℕ) (q : List (List ℕ)) (r : List ℕ) (u : Option ℕ) (tags : List Spelled) (count : ℕ) (closed : Bool) where
   abbrev here : Stream

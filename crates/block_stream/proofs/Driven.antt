@@ -1,6 +1,6 @@
 -- What driving a stream that is alone leaves.
 use Rattle.std.specs.Prelude.{◌≡◌, ℕ, Bool, true, false, List, Option, Result, Ok, Err, IfOk}
-use Rattle.std.proofs.Common.{refl, sym, subst, ◌∙◌}
+use Rattle.std.proofs.Common.{refl, sym, subst, ◌∙◌, arith}
 use Rattle.machine.specs.Prelude.{Scene, answer, Entry, Fate, Actor, Reply, Stored, Upload, Part, Completed, Refused, Refusal, NoSuchUpload, run, Got, Retried, step, Fine, Drove, retried}
 use Rattle.machine.proofs.Keeping.{Keeps}
 use Rattle.machine.specs.declared.retrying.Retrying.{Retrying}
@@ -34,8 +34,7 @@ same_then : (a b c : Stream) → IsSameOutput a b → IsSameOutput b c → IsSam
 same_then a b c h k = record { mode = k.mode ∙ h.mode; bucket = k.bucket ∙ h.bucket; key = k.key ∙ h.key; block = k.block ∙ h.block; count = k.count ∙ h.count; closed = k.closed ∙ h.closed }
 
 same_refused : (m : Stream) (b : Bool) (r : Refusal) → IsSameOutput m (refused m b r)
-same_refused m b NoSuchUpload = record { mode = refl; bucket = refl; key = refl; block = refl; count = refl; closed = refl }
-same_refused m b _ = the_same m
+same_refused m b r = grind arith
 
 same_told : (g : Stage) (m : Stream) (b : Bool) (a : Reply) → IsSameOutput m (told g m b a)
 same_told Putting m b (Stored t) = record { mode = refl; bucket = refl; key = refl; block = refl; count = refl; closed = refl }

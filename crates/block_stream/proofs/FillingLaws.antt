@@ -21,18 +21,6 @@ use Rattle.block_stream.specs.Stream.{Stream, is_direct, has_some, has_part, is_
 use Rattle.block_stream.specs.Holds.{numbered, AreLong, AreBlocks, HasParts, IsUpload, IsUploadOf, IsWritten, Fills, HoldsIn, HasRoom, Holds}
 use Rattle.block_stream.proofs.PartLaws.{get_same, numbered_more, last_stands}
 
-either_not : (a b : Bool) → a ≡ false → (a || b) ≡ true → b ≡ true
-either_not true b e h = absurd (cc)
-either_not false b e h = h
-
-none_has : {X : Type 0} (xs : List X) → has_some xs ≡ false → xs ≡ []
-none_has [] h = refl
-none_has (x ∷ xs) h = absurd (cc)
-
-some_has : {X : Type 0} (xs : List X) → has_some xs ≡ true → 0 < length xs
-some_has [] h = absurd (cc)
-some_has (x ∷ xs) h = omega arith
-
 -- ---- what a stage tells
 
 abbrev pub AtStage : Stage → Stream → Type 0
@@ -43,19 +31,13 @@ AtStage Completing m = (m.end ≡ None) × (m.upload ≡ Some (id_of m)) × (has
 AtStage _ m = Unit {0}
 
 at_first : (m : Stream) → m.end ≡ None → m.upload ≡ None → (a b : Bool) → is_small m ≡ a → has_part m ≡ b → AtStage (cond a Putting (begin_or_wait b)) m
-at_first m p q true b e f = (p, q, e)
-at_first m p q false true e f = (p, q, f)
-at_first m p q false false e f = tt
+at_first m h g a b e f = grind arith
 
 at_later : (m : Stream) → m.end ≡ None → m.upload ≡ Some (id_of m) → (a b : Bool) → has_part m ≡ a → m.closed ≡ b → AtStage (cond a Sending (complete_or_wait b)) m
-at_later m p q true b e f = (p, q, e)
-at_later m p q false true e f = (p, q, e, f)
-at_later m p q false false e f = tt
+at_later m h g a b e f = grind arith
 
 at_by : (e : Option StreamEnd) (u : Option ℕ) (m : Stream) → m.end ≡ e → m.upload ≡ u → AtStage (stage_of e u m) m
-at_by (Some e) u m p q = tt
-at_by None None m p q = at_first m p q (is_small m) (has_part m) refl refl
-at_by None (Some id) m p q = at_later m p (q ∙ ap Some (sym (ap (λ o. unwrap_or o 0) q))) (has_part m) m.closed refl refl
+at_by e u m h g = grind (arith, at_first, at_later)
 
 pub at_stage : (m : Stream) → AtStage (stage m) m
 at_stage m = at_by m.end m.upload m refl refl
@@ -67,8 +49,7 @@ bucket_after : (c : Content) (b : BucketContent) (r : Request) (o : Option Bucke
 bucket_after c b r o h = ap (λ o. fin.get (apply_at o c r).buckets (bucket_of r)) h ∙ get_same text_total c.buckets (bucket_of r) (apply_in b c.next c.minimum r)
 
 minimum_after : (c : Content) (r : Request) (o : Option BucketContent) → (apply_at o c r).minimum ≡ c.minimum
-minimum_after c r None = refl
-minimum_after c r (Some b) = refl
+minimum_after c r o = grind arith
 
 -- a request to the store that names the stream's bucket
 pub record IsStoreRequest (r : Request) (bucket : List ℕ) (s : Scene) : Type 0 where
@@ -84,15 +65,7 @@ pub record IsPlace (bucket : List ℕ) (block : ℕ) (s : Scene) (c : BucketCont
 -- a request leaves it there, and is answered there
 pub sent_to : (bucket : List ℕ) (block : ℕ) (s : Scene) (r : Request) (c : BucketContent) → IsStoreRequest r bucket s → IsPlace bucket block s c
     → IsPlace bucket block (apply s r) (apply_in c s.content.next s.content.minimum r) × (answer s r ≡ answer_in c s.content.next s.content.minimum r)
-sent_to bucket block s r c k p =
-    let o : fin.get s.content.buckets (bucket_of r) ≡ Some c = ap (fin.get s.content.buckets) k.names ∙ p.there in (
-      record {
-        there = ap (fin.get (apply s r).content.buckets) (sym k.names) ∙ ap (λ (v : Content). fin.get v.buckets (bucket_of r)) k.applied
-            ∙ bucket_after s.content c r (fin.get s.content.buckets (bucket_of r)) o;
-        least = subst (λ n. n ≤ block) (sym (ap (λ (v : Content). v.minimum) k.applied ∙ minimum_after s.content r (fin.get s.content.buckets (bucket_of r)))) p.least;
-      },
-      k.answered ∙ ap (λ o. answer_at o s.content.next s.content.minimum r) o,
-    )
+sent_to bucket block s r c h g = grind (arith, bucket_after, minimum_after)
 
 -- ---- arithmetic of the room
 
@@ -100,14 +73,10 @@ few_parts : (k n p : ℕ) → 1 ≤ k → k * n + p ≤ k * 10000 → 0 < p → 
 few_parts k n p h l q = grind arith
 
 room_block : (k n p : ℕ) → k * n + p ≤ k * 10000 → k ≤ p → k * (n + 1) + (p - k) ≤ k * 10000
-room_block k n p l q =
-    let e : k * (n + 1) ≡ k * n + k = grind arith in
-    omega (arith, e)
+room_block k n p h g = grind arith
 
 same_count : (k n p : ℕ) → k ≤ p → k * n + p ≡ k * (n + 1) + (p - k)
-same_count k n p q =
-    let e : k * (n + 1) ≡ k * n + k = grind arith in
-    omega (arith, e)
+same_count k n p h = grind arith
 
 room_last : (k n : ℕ) → n < 10000 → k * (n + 1) + 0 ≤ k * 10000
 room_last k n h = grind arith
@@ -123,29 +92,14 @@ pub data Due (m : Stream) : Type 0 where
   Last : length m.pending < m.block → m.closed ≡ true → (0 < length m.pending) ⊎ (m.tags ≡ []) → Due m
 
 pub due : (m : Stream) → has_part m ≡ true → Due m
-due m h =
-    elim (nat_le m.block (length m.pending)) as (λ z. nat_le m.block (length m.pending) ≡ z → Due m) [
-      | true ↦ λ z. Whole (at_most_is m.block (length m.pending) z)
-      | false ↦ λ z.
-          let k = either_not (nat_le m.block (length m.pending)) (m.closed && (has_some m.pending || not (has_some m.tags))) z h in
-          let c = and_parts m.closed (has_some m.pending || not (has_some m.tags)) k in
-          elim (has_some m.pending) as (λ y. has_some m.pending ≡ y → Due m) [
-            | true ↦ λ y. Last (at_most_not m.block (length m.pending) z) c.0 (inl (some_has m.pending y))
-            | false ↦ λ y. Last (at_most_not m.block (length m.pending) z) c.0 (inr (none_has m.tags (not_so (has_some m.tags) (either_not (has_some m.pending) (not (has_some m.tags)) y c.1))))
-          ] refl
-    ] refl
+due m h = grind arith
 
 pub due_number : (m : Stream) → HasRoom m → Due m → length m.tags < 10000
-due_number m r (Whole l) = let k : 0 < length m.pending = omega (arith, r.some) in few_parts m.block (length m.tags) (length m.pending) r.some r.few k
-due_number m r (Last l c (inl k)) = few_parts m.block (length m.tags) (length m.pending) r.some r.few k
-due_number m r (Last l c (inr k)) = omega (arith, ap length k)
+due_number m h g = grind arith
 
 -- what a part that is put at once tells
 pub small_parts : (m : Stream) → is_small m ≡ true → (is_direct m.mode ≡ true) × (m.closed ≡ true) × (length m.pending < m.block)
-small_parts m h =
-    let a = and_parts (is_direct m.mode) (m.closed && nat_lt (length m.pending) m.block) h in
-    let b = and_parts m.closed (nat_lt (length m.pending) m.block) a.1 in
-    (a.0, b.0, below_is (length m.pending) m.block b.1)
+small_parts m h = grind arith
 
 longer_tags : (m : Stream) (t : Spelled) → length (parted m t).tags ≡ length m.tags + 1
 longer_tags m t = one_longer m.tags t
@@ -211,20 +165,11 @@ live_now m c id repeated bytes f = elim f.parts [ inl h ↦ (h.upload, live_is h
 
 -- ---- all was sent
 
-no_due : (k p : ℕ) → 1 ≤ k → p ≡ 0 → nat_le k p ≡ false
-no_due k p l e = grind (arith, nat_tests)
-
 pub nothing_due : (m : Stream) → 1 ≤ m.block → m.pending ≡ [] → has_some m.tags ≡ true → has_part m ≡ false
-nothing_due m l p t =
-    ap (λ b. b || (m.closed && (has_some m.pending || not (has_some m.tags)))) (no_due m.block (length m.pending) l (ap length p))
-    ∙ ap (λ (q : List ℕ). m.closed && (has_some q || not (has_some m.tags))) p
-    ∙ and_right m.closed (not (has_some m.tags)) (ap not t)
+nothing_due m h g e = grind arith
 
 pub all_sent : (m : Stream) → has_part m ≡ false → m.closed ≡ true → (m.pending ≡ []) × (has_some m.tags ≡ true)
-all_sent m h c =
-    let k : (has_some m.pending || not (has_some m.tags)) ≡ false = ap (λ b. b && (has_some m.pending || not (has_some m.tags))) (sym c) ∙ (or_parts (nat_le m.block (length m.pending)) (m.closed && (has_some m.pending || not (has_some m.tags))) h).1 in
-    let o = or_parts (has_some m.pending) (not (has_some m.tags)) k in
-    (none_has m.pending o.0, true_from_ne_false (has_some m.tags) (λ e. true≢false (sym (ap not e) ∙ o.1)))
+all_sent m h g = grind arith
 
 has_mapped : (bs : List (List ℕ)) → has_some (map plain_tag bs) ≡ true → 0 < length bs
 has_mapped [] h = absurd (cc)
@@ -263,12 +208,10 @@ full m c id repeated bytes r n o f =
 -- ---- settling
 
 delayed_written : (mode : StreamMode) (m : Stream) (c : BucketContent) (bytes : List ℕ) → is_direct mode ≡ false → IsUploadOf m.upload m c bytes → IsWritten mode m c bytes
-delayed_written Direct m c bytes e h = absurd (true≢false e)
-delayed_written Delayed m c bytes e h = h
+delayed_written mode m c bytes h g = grind arith
 
 pub direct_written : (mode : StreamMode) (m : Stream) (c : BucketContent) (bytes : List ℕ) → is_direct mode ≡ true → fin.get c.objects m.key ≡ Some (record { bytes = bytes; header = None }) → IsWritten mode m c bytes
-direct_written Direct m c bytes e h = h
-direct_written Delayed m c bytes e h = absurd (true≢false (sym e))
+direct_written mode m c bytes h g = grind arith
 
 -- what is so of a stream that goes on, and of one that is done, is so once it is settled
 pub settled_by : (P : Stream → Type 0) (m : Stream) → P (ended m Done) → P m → P (settled m)

@@ -63,17 +63,7 @@ module _ (m : Stream) (s : Scene) (repeated : Bool) (bytes : List ℕ) (unclosed
   open_unsettled piece = ap (λ b. b && (not (is_direct m.mode) && not (has_part (longer_by piece)))) unclosed
 
   wrote_in : (c : BucketContent) (piece : List ℕ) (e : Option StreamEnd) (u : Option ℕ) → m.end ≡ e → m.upload ≡ u → HoldsIn e u m c repeated bytes → HoldsIn (wrote m piece).end (wrote m piece).upload (wrote m piece) c repeated (bytes ++ piece)
-  wrote_in c piece None None p q i =
-      subst (λ v. HoldsIn m.end m.upload (record { mode = m.mode; bucket = m.bucket; key = m.key; block = m.block; pending = added v m.pending piece; upload = m.upload; tags = m.tags; count = m.count + length piece; closed = m.closed; end = m.end }) c repeated (bytes ++ piece)) (sym p)
-      (held_from (longer_by piece) c repeated (bytes ++ piece) None None p q (ap (λ l. l ++ piece) i.0, i.1))
-  wrote_in c piece None (Some id) p q (inl f) =
-      subst (λ v. HoldsIn m.end m.upload (record { mode = m.mode; bucket = m.bucket; key = m.key; block = m.block; pending = added v m.pending piece; upload = m.upload; tags = m.tags; count = m.count + length piece; closed = m.closed; end = m.end }) c repeated (bytes ++ piece)) (sym p)
-      (held_from (longer_by piece) c repeated (bytes ++ piece) None (Some id) p q (inl (fills_wrote c id piece f.0, open_unsettled piece)))
-  wrote_in c piece None (Some id) p q (inr x) = absurd (true≢false (sym x.closed ∙ unclosed))
-  wrote_in c piece (Some Done) u p q i = absurd (true≢false (sym i.0 ∙ unclosed))
-  wrote_in c piece (Some Gone) u p q i = absurd i
-  wrote_in c piece (Some StoreFault) u p q i = held_from (wrote m piece) c repeated (bytes ++ piece) (Some StoreFault) u p q tt
-  wrote_in c piece (Some NoMemory) u p q i = held_from (wrote m piece) c repeated (bytes ++ piece) (Some NoMemory) u p q tt
+  wrote_in c piece e u h g f = grind (arith, held_from, fills_wrote, open_unsettled)
 
   -- a piece that is written is held too
   pub holds_wrote : (piece : List ℕ) → (m.count + length piece) ≤ m.block * 10000 → Holds (wrote m piece) s repeated (bytes ++ piece)
@@ -82,19 +72,7 @@ module _ (m : Stream) (s : Scene) (repeated : Bool) (bytes : List ℕ) (unclosed
       (wrote_in h.content piece m.end m.upload refl refl h.held)
 
   fills_shut : (c : BucketContent) (id : ℕ) → Fills m c id repeated bytes → Fills (shut m) c id repeated bytes
-  fills_shut c id f = record {
-    sent = f.sent;
-    parts = elim f.parts [
-      | inl p ↦ inl p
-      | inr p ↦ inr (p.0, is_due (shut m) (open_due m unclosed p.1), p.2)
-    ];
-    joined = f.joined;
-    tags = f.tags;
-    cut = elim f.cut [
-      | inl l ↦ inl l
-      | inr k ↦ absurd (true≢false (sym k.0 ∙ unclosed))
-    ];
-  }
+  fills_shut c id h = grind arith
 
   close_in : (e : Option StreamEnd) (u : Option ℕ) → m.end ≡ e → m.upload ≡ u → HoldsIn e u m h.content repeated bytes → Holds (closed_by e m) s repeated bytes
   close_in None None p q i =

@@ -17,8 +17,7 @@ use Rattle.block_stream.proofs.Cuts.{whole_is, first_is, drop_is, cut_rest, asks
 
 -- the fields of a stream that has not ended are cut up
 pub cut_of : (e : Option StreamEnd) (n : ℕ) (closed : Bool) (q : List (List ℕ)) (r : List ℕ) → IsCutUp n closed q r → CutUp e n closed q r
-cut_of None n closed q r h = h
-cut_of (Some e) n closed q r h = tt
+cut_of e n closed q r h = grind arith
 
 room_settled : (m : Stream) → HasRoom m → HasRoom (settled m)
 room_settled m r = settled_by HasRoom m (room_ended m Done r) r
@@ -26,8 +25,7 @@ room_settled m r = settled_by HasRoom m (room_ended m Done r) r
 -- ---- blocks in front
 
 front_next : (mode : StreamMode) (bucket key : List ℕ) (n : ℕ) (q l : List (List ℕ)) (closed : Bool) (tags : List Spelled) (u : Option ℕ) → next_by mode bucket key n (front_of q l) closed tags u ≡ next_by mode bucket key n (q ++ l) closed tags u
-front_next mode bucket key n (b ∷ q) l closed tags None = refl
-front_next mode bucket key n _ l closed tags _ = refl
+front_next mode bucket key n q l closed tags u = grind arith
 
 long_both : (n : ℕ) (q l : List (List ℕ)) → AreLong n q → AreLong n l → AreLong n (q ++ l)
 long_both n [] l h k = k
@@ -63,12 +61,7 @@ module _ (mode : StreamMode) (bucket key : List ℕ) (n : ℕ) (q : List (List �
 
   -- where a part is due, the first block is it
   due_whole : (closed : Bool) (e : Option StreamEnd) → 1 ≤ n → IsCutUp n closed q r → has_part (at closed e) ≡ true → closed ≡ false → is_whole n q ≡ true
-  due_whole closed e l h d o = whole_is n closed q r l h ∙ or_none (nat_le n (length (concat q ++ r))) (has_some (concat q ++ r) || not (has_some tags)) closed o d
-    where
-      or_none : (a b c : Bool) → c ≡ false → (a || (c && b)) ≡ true → a ≡ true
-      or_none true b c e h = refl
-      or_none false b true e h = absurd (cc)
-      or_none false b false e h = h
+  due_whole closed e h g f p = grind arith
 
   pub begin_kept : (closed : Bool) (e : Option StreamEnd) (a b : Option Request) (id : ℕ) → IsKept (at closed e) q r a → stage (at closed e) ≡ Beginning
       → b ≡ asks_with Sending bucket key id tags (first_of q) → IsKept (seen mode bucket key n q r (Some id) tags count closed e) q r b

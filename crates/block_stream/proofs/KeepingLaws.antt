@@ -31,8 +31,7 @@ all_long m c id repeated bytes r d f =
     has_mapped (b ∷ bs) h = refl
 
 filling : (m : Stream) (c : BucketContent) (id : ℕ) (repeated : Bool) (bytes : List ℕ) → has_part m ≡ true → HoldsIn None (Some id) m c repeated bytes → Fills m c id repeated bytes × (is_settled m ≡ false)
-filling m c id repeated bytes d (inl h) = h
-filling m c id repeated bytes d (inr h) = absurd (true≢false (sym d ∙ h.no_part))
+filling m c id repeated bytes h g = grind arith
 
 -- ---- the next part
 
@@ -136,17 +135,11 @@ complete_now m c next minimum repeated bytes least r n o (inr h) =
 -- ---- an effect whose answer is lost, and an answer that is taken
 
 small_whole : (m : Stream) → is_small m ≡ true → chunk m ≡ m.pending
-small_whole m h =
-    let l : length m.pending < m.block = (small_parts m h).2 in
-    take_all m.block m.pending (omega arith)
+small_whole m h = grind (arith, small_parts, take_all)
 
 -- where a part is due, nothing is settled
 pub unsettled : (m : Stream) → has_part m ≡ true → is_settled m ≡ false
-unsettled m h = by m.closed (is_direct m.mode) (has_part m) h
-  where
-    by : (c d p : Bool) → p ≡ true → (c && (not d && not p)) ≡ false
-    by true false p h = cc
-    by _ _ p h = refl
+unsettled m h = grind arith
 
 -- ---- what is left falls
 
@@ -155,11 +148,7 @@ pub some_left : (m : Stream) → m.end ≡ None → 0 < left m
 some_left m e = subst (λ v. 0 < left_by v m) (sym e) (omega arith)
 
 pub left_begun : (m : Stream) (id : ℕ) → m.end ≡ None → m.upload ≡ None → left (begun m id) < left m
-left_begun m id e u = subst (λ v. left_by v (begun m id) < left_by v m) (sym e) (fewer m.upload u)
-  where
-    fewer : (o : Option ℕ) → o ≡ None → 1 + (length m.pending + (0 + one_if (not (has_some m.tags)))) < 1 + (length m.pending + (one_if (not (is_begun o)) + one_if (not (has_some m.tags))))
-    fewer None h = omega arith
-    fewer (Some id) h = absurd (cc)
+left_begun m id h g = grind arith
 
 snoc_has : {X : Type 0} (xs : List X) (x : X) → has_some (xs ++ x ∷ []) ≡ true
 snoc_has [] x = refl

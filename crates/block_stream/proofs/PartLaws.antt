@@ -110,10 +110,7 @@ module _ (u : Upload) (f : List (List ℕ)) (x : List ℕ) (size minimum : ℕ) 
   split = map-append plain_tag f (x ∷ [])
 
   fronts : take (length ns - 1) ns ≡ named_from 1 (map plain_tag f)
-  fronts = ap (λ ts. take (length (named_from 1 ts) - 1) (named_from 1 ts)) split
-      ∙ ap (λ n. take (n - 1) (named_from 1 (map plain_tag f ++ plain_tag x ∷ []))) (length_named 1 (map plain_tag f ++ plain_tag x ∷ []))
-      ∙ ap (λ n. take n (named_from 1 (map plain_tag f ++ plain_tag x ∷ []))) one_less
-      ∙ front_named 1 (map plain_tag f) (plain_tag x)
+  fronts = grind (arith, split, length_named, one_less, front_named)
 
   checks : (a b c d : Bool) (l : List ℕ) → a ≡ false → b ≡ true → c ≡ true → d ≡ true
       → cond a (Err Rattle.s3_types.specs.declared.reply.Refusal.TheVariants.MalformedList) (cond b (cond c (cond d (Ok l) (Err Rattle.s3_types.specs.declared.reply.Refusal.TheVariants.EntityTooSmall)) (Err Rattle.s3_types.specs.declared.reply.Refusal.TheVariants.InvalidPart)) (Err Rattle.s3_types.specs.declared.reply.Refusal.TheVariants.InvalidPartOrder)) ≡ Ok l
@@ -127,6 +124,4 @@ module _ (u : Upload) (f : List (List ℕ)) (x : List ℕ) (size minimum : ℕ) 
 
 pub completes : (u : Upload) (bs : List (List ℕ)) (size minimum : ℕ) → u.parts ≡ numbered bs → AreBlocks size bs → minimum ≤ size
     → joined (Some u) (named_from 1 (map plain_tag bs)) minimum ≡ Ok (concat bs)
-completes u bs size minimum is blocks least =
-    subst (λ v. joined (Some u) (named_from 1 (map plain_tag v)) minimum ≡ Ok (concat v)) (sym blocks.are)
-    (all_joined u blocks.front blocks.last size minimum (is ∙ ap numbered blocks.are) blocks.long least)
+completes u bs size minimum h g e = grind (arith, all_joined)

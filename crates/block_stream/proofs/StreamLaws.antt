@@ -12,11 +12,7 @@ use Rattle.block_stream.proofs.KeepingLaws.{hidden, took, lost, gave_up, fit, fa
 
 -- no reply is a fault of the store or of memory
 fine_refused : (m : Stream) (b : Bool) (r : Refusal) → standing m ≡ Fine → is_no_upload r ≡ true → standing (refused m b r) ≡ Fine
-fine_refused m b Rattle.s3_types.specs.declared.reply.Refusal.TheVariants.NoSuchUpload h k = elim b as (λ b. standing_of (Some (cond b Done Gone)) ≡ Fine) [
-  | true ↦ refl
-  | false ↦ refl
-]
-fine_refused m b _ h k = absurd (cc)
+fine_refused m b r h g = grind arith
 
 -- at a stage that asks
 fine_told : (g : Stage) (m : Stream) (b : Bool) (a : Reply) → standing m ≡ Fine → answers g a ≡ true → standing (told g m b a) ≡ Fine

@@ -48,14 +48,7 @@ holds_closed m m' o e s b bytes h = subst (λ v. Holds v s b bytes) (sym e) (hol
 
 -- an open stream that asks something has a part to send
 part_due : (m : Stream) → m.closed ≡ false → (r : Request) → wanted m ≡ Some r → has_part m ≡ true
-part_due m o r w = by (stage m) (at_stage m) w
-  where
-    by : (g : Stage) → AtStage g m → asks g m ≡ Some r → has_part m ≡ true
-    by Waiting k h = absurd (cc)
-    by Over k h = absurd (cc)
-    by Putting k h = absurd (true≢false (sym (small_parts m k.2).1 ∙ o))
-    by Completing k h = absurd (true≢false (sym k.3 ∙ o))
-    by _ k h = k.2
+part_due m h r g = grind arith
 
 -- after a fault the close changes nothing else
 pub shut_ended : (m : Stream) → is_some m.end ≡ true → shut m ≡ close m
@@ -67,8 +60,7 @@ sends None = Beginning
 sends (Some id) = Sending
 
 due_stage : (u : Option ℕ) (m : Stream) → is_small m ≡ false → has_part m ≡ true → stage_of None u m ≡ sends u
-due_stage None m s p = ap (λ b. cond b Putting (begin_or_wait (has_part m))) s ∙ ap begin_or_wait p
-due_stage (Some id) m s p = ap (λ b. cond b Sending (complete_or_wait m.closed)) p
+due_stage u m h g = grind arith
 
 due_wanted : (m : Stream) → m.end ≡ None → is_small m ≡ false → has_part m ≡ true → wanted m ≡ asks (sends m.upload) m
 due_wanted m e s p = ap (λ v. asks (stage_of v m.upload m) m) e ∙ ap (λ g. asks g m) (due_stage m.upload m s p)
@@ -77,10 +69,7 @@ open_not_small : (m : Stream) → m.closed ≡ false → is_small m ≡ false
 open_not_small m o = ap (λ b. is_direct m.mode && (b && nat_lt (length m.pending) m.block)) o ∙ and_right (is_direct m.mode) false refl
 
 large_not_small : (m : Stream) → m.block ≤ length m.pending → is_small m ≡ false
-large_not_small m l = and_right (is_direct m.mode) (m.closed && nat_lt (length m.pending) m.block) (and_right m.closed (nat_lt (length m.pending) m.block) (not_less m.block (length m.pending) l))
-  where
-    not_less : (a b : ℕ) → a ≤ b → nat_lt b a ≡ false
-    not_less a b h = grind (arith, nat_tests)
+large_not_small m h = grind arith
 
 -- with more pending, or closed, the same is asked
 wrote_asked : (m : Stream) (piece : List ℕ) → m.closed ≡ false → (r : Request) → wanted m ≡ Some r → wanted (wrote m piece) ≡ wanted m
@@ -113,8 +102,7 @@ close_asked m o r w =
     by (Some id) = refl
 
 of_some : (m m' : Stream) (v : Option Request) → wanted m ≡ v → ((r : Request) → wanted m ≡ Some r → wanted m' ≡ wanted m) → IsSome v → wanted m' ≡ wanted m
-of_some m m' (Some r) e f h = f r e
-of_some m m' None e f h = absurd (cc)
+of_some m m' v h g e = grind arith
 
 pub asked_written : (m m' : Stream) (piece : List ℕ) → m.closed ≡ false → m' ≡ wrote m piece → IsSome (wanted m) → wanted m' ≡ wanted m
 asked_written m m' piece o e h = ap wanted e ∙ of_some m (wrote m piece) (wanted m) refl (wrote_asked m piece o) h

@@ -20,8 +20,7 @@ one_most false = omega arith
 
 -- what holds of a request that is asked
 pub of_some : (P : Request → Type 0) (o : Option Request) (r : Request) → o ≡ Some r → IfSome o P → P r
-of_some P None r e h = absurd (cc)
-of_some P (Some x) r e h = subst P (some_is x r e) h
+of_some P o r h g = grind arith
 
 -- ---- once the uploads are aborted
 
@@ -42,12 +41,10 @@ after_rises Directory j s r = let o = growth.files (layout.cluster_prefix j.job)
 after_rises Partitioned j s r = let o = growth.files (layout.cluster_prefix j.job) s r in omega (arith, o)
 
 aborting_left : (j : Job) (us : List UploadRef) (s : Scene) → left_at j (aborting j.committer us) s ≡ length us + after_left j.committer j s
-aborting_left j [] s = let e = elim j.committer as (λ c. left_at j (aborted c) s ≡ after_left c j s) [ Magic ↦ refl | _ ↦ refl ] in omega (arith, e)
-aborting_left j (u ∷ us) s = omega arith
+aborting_left j us s = grind arith
 
 removing_left : (j : Job) (ps : List (List ℕ)) (s : Scene) → left_at j (removing ps) s ≡ length ps
-removing_left j [] s = refl
-removing_left j (p ∷ ps) s = omega arith
+removing_left j ps s = grind arith
 
 -- ---- it falls
 
@@ -78,9 +75,7 @@ falls_at j (Removing p ps) s = λ h. let e = removing_left j ps (apply s (Cluste
 falls_at j (CleanOver end) s = tt
 
 some_left : (j : Job) (c : Clean) (s : Scene) → IfSome (clean_asks (job_script j) c) (λ r. 0 < left_at j c s)
-some_left j (Sweeping w) s = sweep_laws.some j.dest.bucket (layout.magic_prefix j.dest.key j.job) w s
-some_left j (CleanOver end) s = tt
-some_left j _ s = omega arith
+some_left j c s = grind arith
 
 no_rise_at : (j : Job) (c : Clean) (s : Scene) → IfSome (clean_asks (job_script j) c) (λ r. left_at j c (apply s r) ≤ left_at j c s)
 no_rise_at j (Walking found) s = let i = ap (left_at j (Walking found)) (upload_laws.still j.dest.bucket (j.dest.key ++ codes "/") found s) in omega (arith, i)

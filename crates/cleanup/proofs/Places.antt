@@ -31,10 +31,7 @@ aborts_from c found paths at =
 
 -- what stands behind the place so many steps on
 pub drop_behind : {X : Type 0} (at step : ℕ) (xs : List X) → drop (behind at step (length xs)) xs ≡ drop step (drop at xs)
-drop_behind at step xs = (elim (nat_lt step (length xs - at)) as (λ b. nat_lt step (length xs - at) ≡ b → drop (cond b (at + step) (length xs)) xs ≡ drop step (drop at xs)) [
-  | true ↦ λ t. sym (drop-drop step at xs)
-  | false ↦ λ t. let i = below_not step (length xs - at) t in drop_all (length xs) xs (omega arith) ∙ sym (drop_all step (drop at xs) (omega (arith, i, length-drop at xs)))
-]) refl
+drop_behind at step xs = grind (arith, drop-drop, below_not, drop_all)
 
 pub abort_goes : (w : Script) (r : Reply) (found : List UploadRef) (at : ℕ) → nat_lt at (length found) ≡ true → aborting w.committer (drop (behind at 1 (length found)) found) ≡ clean_hears w (aborting_from (drop at found)) r
 abort_goes w r found at t =
@@ -58,21 +55,16 @@ over_is _ found sweep paths at t = refl
 
 -- the requests of a clean by its stage
 pub asks_aborting : (w : Script) (l : List UploadRef) → clean_asks w (aborting_from l) ≡ abort_asks w.dest.bucket l
-asks_aborting w [] = refl
-asks_aborting w (u ∷ us) = refl
+asks_aborting w l = grind arith
 
 pub asks_removing : (w : Script) (l : List (List ℕ)) → clean_asks w (removing l) ≡ remove_asks l
-asks_removing w [] = refl
-asks_removing w (p ∷ ps) = refl
+asks_removing w l = grind arith
 
 -- ---- the steps, where the stage is told by an equation
 
 pub hears_aborting : (w : Script) (r : Reply) (stage : Stage) (found : List UploadRef) (sweep : Sweep) (paths : List (List ℕ)) (at n : ℕ) (c : Committer) (new : Clean)
     → stage ≡ stages.Aborting → within stage at (length found) (length paths) ≡ true → n ≡ behind at 1 (length found) → c ≡ w.committer → new ≡ aborting c (drop n found) → new ≡ clean_hears w (clean_at stage found sweep paths at) r
-hears_aborting w r stage found sweep paths at n c new h t e k g =
-    g ∙ ap (λ x. aborting x (drop n found)) k ∙ ap (λ m. aborting w.committer (drop m found)) e
-    ∙ abort_goes w r found at (ap (λ s. within s at (length found) (length paths)) (sym h) ∙ t)
-    ∙ ap (λ s. clean_hears w (clean_at s found sweep paths at) r) (sym h)
+hears_aborting w r stage found sweep paths at n c new h g e f p = grind (arith, abort_goes)
 
 pub asks_at_aborting : (w : Script) (stage : Stage) (found : List UploadRef) (sweep : Sweep) (paths : List (List ℕ)) (at : ℕ) → stage ≡ stages.Aborting → abort_asks w.dest.bucket (drop at found) ≡ clean_asks w (clean_at stage found sweep paths at)
 asks_at_aborting w stage found sweep paths at h = sym (ap (λ s. clean_asks w (clean_at s found sweep paths at)) h ∙ asks_aborting w (drop at found))
@@ -81,5 +73,4 @@ pub asks_at_removing : (w : Script) (stage : Stage) (found : List UploadRef) (sw
 asks_at_removing w stage found sweep paths at h = sym (ap (λ s. clean_asks w (clean_at s found sweep paths at)) h ∙ asks_removing w (drop at paths))
 
 pub not_over : (stage : Stage) → ((end : CleanEnd) → stage ≡ stages.Over end → ⊥) → end_at stage ≡ None
-not_over (stages.Over end) h = absurd (h end refl)
-not_over _ h = refl
+not_over stage h = grind arith

@@ -39,53 +39,21 @@ record Numbers (c : Committer) : Type 0 where
   some_reading : (places named all : ℕ) → 0 < reading_left c (1 + places) named all
 
 numbers : (c : Committer) → Numbers c
-numbers Magic = record {
-  read_less = λ places named new all h. omega arith;
-  walk_less = λ known more known' more' h l. omega arith;
-  list_less = λ places all most h l. omega arith;
-  list_walked = λ known more n h. omega arith;
-  none_left = λ named all. omega arith;
-  one_more = λ n n' h. omega arith;
-  key_more = λ known more more' h. omega arith;
-  some_walking = λ known more. omega arith;
-  some_listing = λ n. omega arith;
-  some_reading = λ places named all. omega arith;
-}
-numbers _ = record {
-  read_less = λ places named new all h. omega arith;
-  walk_less = λ known more known' more' h l. omega arith;
-  list_less = λ places all most h l. omega arith;
-  list_walked = λ known more n h. omega arith;
-  none_left = λ named all. omega arith;
-  one_more = λ n n' h. omega arith;
-  key_more = λ known more more' h. omega arith;
-  some_walking = λ known more. omega arith;
-  some_listing = λ n. omega arith;
-  some_reading = λ places named all. omega arith;
-}
+numbers c = grind arith
 
 -- ---- what is left where a step leads
 
 deleting_left : (j : Job) (ks : List (List ℕ)) (s : Scene) → sparing_left_at j (deleting ks) s ≡ length ks
-deleting_left j [] s = refl
-deleting_left j (k ∷ ks) s = omega arith
+deleting_left j ks s = grind arith
 
 removing_left : (j : Job) (ps : List (List ℕ)) (s : Scene) → sparing_left_at j (removing ps) s ≡ length ps
-removing_left j [] s = refl
-removing_left j (p ∷ ps) s = omega arith
+removing_left j ps s = grind arith
 
 aborting_left : (j : Job) (us : List UploadRef) (all : List (List ℕ)) (s : Scene) → sparing_left_at j (aborting j.committer us all) s ≡ length us + length all
-aborting_left j [] all s =
-    let e = elim j.committer as (λ c. sparing_left_at j (emptying c all) s ≡ length all) [ Magic ↦ deleting_left j all s | _ ↦ removing_left j all s ] in
-    omega (arith, e)
-aborting_left j (u ∷ us) all s = omega arith
-
-same_places : (c : Committer) (n m named all : ℕ) → n ≡ m → reading_left c n named all ≤ reading_left c m named all
-same_places c n m named all e = let i = ap (λ x. reading_left c x named all) e in omega (arith, i)
+aborting_left j us all s = grind arith
 
 reading_on_left : (j : Job) (named : List UploadRef) (ps all : List (List ℕ)) (s : Scene) → sparing_left_at j (reading_on j.committer named ps all) s ≤ reading_left j.committer (length ps) (length named) (length all)
-reading_on_left j named [] all s = let e = aborting_left j named all s in let n = (numbers j.committer).none_left (length named) (length all) in omega (arith, e, n)
-reading_on_left j named (p ∷ ps) all s = same_places j.committer (1 + length ps) (length (p ∷ ps)) (length named) (length all) (omega arith)
+reading_on_left j named ps all s = grind arith
 
 -- ---- what an answer names
 
@@ -97,17 +65,12 @@ object_few (Some c) next minimum b k = elim (fin.get c.objects k) as (λ o. leng
 ]
 
 named_few : (c : Committer) (w : Script) (p : List ℕ) (s : Scene) → NamesFew (answer s (record_request c w p)) → length (names (answer s (record_request c w p))) ≤ named_most c
-named_few Magic w p s h = object_few (fin.get s.content.buckets w.dest.bucket) s.content.next s.content.minimum w.dest.bucket p
-named_few _ w p s h =
-    (elim (fin.get s.files p) as (λ o. NamesFew (read_answer o) → length (names (read_answer o)) ≤ most_commits) [ Some bytes ↦ λ h. h | None ↦ λ h. omega arith ]) h
+named_few c w p s h = grind arith
 
 -- ---- it falls
 
 listed_left : (j : Job) (ps all : List (List ℕ)) (most : ℕ) (s : Scene) → length ps ≤ length all → length all ≤ most → sparing_left_at j (reading_on j.committer [] ps all) s < listing_left j.committer most
-listed_left j ps all most s h l =
-    let r = reading_on_left j [] ps all s in
-    let n = (numbers j.committer).list_less (length ps) (length all) most h l in
-    omega (arith, r, n)
+listed_left j ps all most s h g = grind arith
 
 abbrev to_come : Job → List (List ℕ) → Scene → ℕ
 to_come j keys s = keys_left j.dest.bucket (layout.magic_prefix j.dest.key j.job) (last_of keys) s
@@ -150,11 +113,7 @@ falls_at j (SparingOver end) s = tt
 -- ---- it is some while a request is asked, and rises by no more than it may
 
 some_left : (j : Job) (x : Sparing) (s : Scene) → IfSome (sparing_asks (job_script j) x) (λ r. 0 < sparing_left_at j x s)
-some_left j (Walking keys) s = (numbers j.committer).some_walking (length keys) (to_come j keys s)
-some_left j Naming s = (numbers j.committer).some_listing (files_left (layout.cluster_prefix j.job) s)
-some_left j (Reading named p ps all) s = (numbers j.committer).some_reading (length ps) (length named) (length all)
-some_left j (SparingOver end) s = tt
-some_left j _ s = omega arith
+some_left j x s = grind arith
 
 no_rise_at : (j : Job) (x : Sparing) (s : Scene) → IfSome (sparing_asks (job_script j) x) (λ r. sparing_left_at j x (apply s r) ≤ sparing_left_at j x s)
 no_rise_at j (Walking keys) s = let i = ap (sparing_left_at j (Walking keys)) (walk_laws.still j.dest.bucket (layout.magic_prefix j.dest.key j.job) keys s) in omega (arith, i)

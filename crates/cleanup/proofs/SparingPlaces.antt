@@ -25,17 +25,13 @@ next_behind at step n len xs e l = ap (λ m. drop m xs) (e ∙ ap (behind at ste
 -- ---- what is asked
 
 pub reads_key : (w : Script) (c : Committer) (h : Held) → c ≡ Magic → get_asks w.dest.bucket (drop h.at h.records) ≡ read_asks c w (drop h.at (places_of c h))
-reads_key w c h e =
-    (elim (drop h.at h.records) as (λ ks. get_asks w.dest.bucket ks ≡ read_asks Magic w ks) [ [] ↦ refl | k ∷ ks ↦ refl ])
-    ∙ ap (λ c. read_asks c w (drop h.at (places_of c h))) (sym e)
+reads_key w c h g = grind arith
 
 pub reads_file : (w : Script) (c : Committer) (h : Held) → c ≡ Directory → get_file_asks (drop h.at h.paths) ≡ read_asks c w (drop h.at (places_of c h))
-reads_file w c h e =
-    (elim (drop h.at h.paths) as (λ ps. get_file_asks ps ≡ read_asks Directory w ps) [ [] ↦ refl | p ∷ ps ↦ refl ]) ∙ ap (λ c. read_asks c w (drop h.at (places_of c h))) (sym e)
+reads_file w c h g = grind arith
 
 pub reads_partition : (w : Script) (c : Committer) (h : Held) → c ≡ Partitioned → get_file_asks (drop h.at h.paths) ≡ read_asks c w (drop h.at (places_of c h))
-reads_partition w c h e =
-    (elim (drop h.at h.paths) as (λ ps. get_file_asks ps ≡ read_asks Partitioned w ps) [ [] ↦ refl | p ∷ ps ↦ refl ]) ∙ ap (λ c. read_asks c w (drop h.at (places_of c h))) (sym e)
+reads_partition w c h g = grind arith
 
 -- ---- by the stage
 
@@ -44,8 +40,7 @@ end_at (stages.Over end) = Some end
 end_at _ = None
 
 pub not_over : (stage : Stage) → ((end : CleanEnd) → stage ≡ stages.Over end → ⊥) → end_at stage ≡ None
-not_over (stages.Over end) h = absurd (h end refl)
-not_over _ h = refl
+not_over stage h = grind arith
 
 module _ (c : Committer) (h : Held) where
   -- what is kept, at any stage
@@ -67,17 +62,13 @@ module _ (c : Committer) (h : Held) where
 
   module _ (w : Script) where
     pub asks_at_aborting : h.stage ≡ stages.Aborting → abort_asks w.dest.bucket (drop h.at h.named) ≡ sparing_asks w (sparing_of c h)
-    asks_at_aborting e =
-        (elim (drop h.at h.named) as (λ us. abort_asks w.dest.bucket us ≡ sparing_asks w (aborting_from us (all_of c h))) [ [] ↦ refl | u ∷ us ↦ refl ])
-        ∙ ap (λ s. sparing_asks w (kept s)) (sym e)
+    asks_at_aborting h = grind arith
 
     pub asks_at_deleting : h.stage ≡ stages.Deleting → delete_asks w.dest.bucket (drop h.at h.keys) ≡ sparing_asks w (sparing_of c h)
-    asks_at_deleting e =
-        (elim (drop h.at h.keys) as (λ ks. delete_asks w.dest.bucket ks ≡ sparing_asks w (deleting ks)) [ [] ↦ refl | k ∷ ks ↦ refl ]) ∙ ap (λ s. sparing_asks w (kept s)) (sym e)
+    asks_at_deleting h = grind arith
 
     pub asks_at_removing : h.stage ≡ stages.Removing → remove_asks (drop h.at h.paths) ≡ sparing_asks w (sparing_of c h)
-    asks_at_removing e =
-        (elim (drop h.at h.paths) as (λ ps. remove_asks ps ≡ sparing_asks w (removing ps)) [ [] ↦ refl | p ∷ ps ↦ refl ]) ∙ ap (λ s. sparing_asks w (kept s)) (sym e)
+    asks_at_removing h = grind arith
 
     module _ (r : Reply) where
       pub hears_at_reading : h.stage ≡ stages.Reading → within_of c h ≡ true → reading_on w.committer (h.named ++ names r) (drop 1 (drop h.at (places_of c h))) (all_of c h) ≡ sparing_hears w (sparing_of c h) r

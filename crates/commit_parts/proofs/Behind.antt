@@ -35,10 +35,4 @@ cancel key a b e = sym (drop-append_seam key a) ∙ ap (drop (length key)) e ∙
 -- what is left of a text without a key at its front, and then without a `/`
 pub behind_front : (key text rest : List ℕ) → 0 < length key → StripsPrefix (FindsTextPrefix key) text rest → (o : Option (Bor (List ℕ))) → MatchOption o (FindsTextPrefix (47 ∷ []) rest None) (λ x. StripsPrefix (FindsTextPrefix (47 ∷ [])) rest x.now)
     → option_map (λ (r : Bor (List ℕ)). r.now) o ≡ relative_in key text
-behind_front key text rest h front None lacks =
-    let whole : text ≡ key ++ rest = front.1.1 ∙ ap (λ v. key ++ v) (sym front.2) in
-    sym (relative_none key text h (λ r e. lacks r (cancel key rest (47 ∷ r) (sym whole ∙ e))))
-behind_front key text rest h front (Some x) cut =
-    let whole : text ≡ key ++ rest = front.1.1 ∙ ap (λ v. key ++ v) (sym front.2) in
-    let slash : rest ≡ 47 ∷ x.now = cut.1.1 ∙ ap (λ v. 47 ∷ v) (sym cut.2) in
-    sym (relative_some key text x.now h (whole ∙ ap (λ v. key ++ v) slash))
+behind_front key text rest h g o e = grind (arith, relative_none, cancel, relative_some)

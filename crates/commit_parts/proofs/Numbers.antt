@@ -9,10 +9,7 @@ pub three : (a b : ℕ) → (a < b) ⊎ ((a ≡ b) ⊎ (b < a))
 three a b = grind arith
 
 at_is : (x q : ℕ) → is_eq (nat_cmp x q) ≡ nat_eq q x
-at_is x q = elim (three x q) [
-  | inl l ↦ ap is_eq (sym (nat_cmp_is x q Less l)) ∙ sym (nat_false q x (λ e. omega arith))
-  | inr r ↦ elim r [ inl e ↦ ap is_eq (sym (nat_cmp_is x q Equal e)) ∙ sym (nat_true q x (sym e)) | inr l ↦ ap is_eq (sym (nat_cmp_is x q Greater l)) ∙ sym (nat_false q x (λ e. omega arith)) ]
-]
+at_is x q = grind arith
 
 pub number_more : (xs : List ℕ) (i j q : ℕ) (was now : Bool) → i < length xs → j ≡ suc i → now ≡ cond (is_eq (nat_cmp (get_or xs i 0) q)) true was → was ≡ is_in (reverse (take i xs)) q → now ≡ is_in (reverse (take j xs)) q
 number_more xs i j q was now h s e f =

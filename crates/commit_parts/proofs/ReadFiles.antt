@@ -101,10 +101,7 @@ paths_all dest (s ∷ ss) =
 
 -- the paths that are wanted are those of the uploads
 pub wanted_are : (j : Job) (sets : Sets) → AreRead j sets → length sets ≡ j.tasks → map (λ f. f.0) (wanted (read_script j sets) (picks_of sets)) ≡ map (λ c. relative_of j.dest c.destination) (all_commits sets)
-wanted_are j sets each all =
-    let h : j.tasks ≤ length sets = omega arith in
-    ap (map (λ f. f.0)) (wanted_of j sets j.tasks each h ∙ ap (λ n. flat_map (files_in j.dest) (take n sets)) (sym all)
-    ∙ ap (flat_map (files_in j.dest)) (take_all (length sets) sets (omega arith))) ∙ paths_all j.dest sets
+wanted_are j sets h g = grind (arith, wanted_of, take_all, paths_all)
 
 -- ---- who writes what
 
@@ -125,8 +122,7 @@ in_has dest (d ∷ cs) c (inl e) =
 in_has dest (d ∷ cs) c (inr i) = by (text_eq (relative_of dest c.destination) (relative_of dest d.destination)) (in_has dest cs c i)
   where
     by : (b : Bool) → has_path (map (file_of dest) cs) (relative_of dest c.destination) ≡ true → is_some (cond b (Some (let e : List ℕ = [] in e)) (lookup (text_eq (relative_of dest c.destination)) (map (file_of dest) cs))) ≡ true
-    by true h = refl
-    by false h = h
+    by b h = grind arith
 
 -- the uploads with the tasks of their sets
 pub item_at : (n : ℕ) (sets : Sets) (k : List ℕ) (t : ℕ) → In (let i : Item = (k, t) in i) (items_from n sets) → (i : ℕ) × (s : PendingSet) × (c : Pending) × (t ≡ n + i) × (slice_get sets i ≡ Some s) × In c s.commits × (c.destination ≡ k)
@@ -158,11 +154,6 @@ at_item n (x ∷ xs) (suc i) s c e m =
 pub wanted_ordered : (j : Job) (sets : Sets) → AreRead j sets → length sets ≡ j.tasks → ordered (paths_below j.dest (all_commits sets)) ≡ wanted_paths (read_script j sets) (picks_of sets)
 wanted_ordered j sets each all = ap ordered (sym (wanted_are j sets each all))
 
--- the marker's text, of these files
-pub mark_is : (j : Job) (sets : Sets) (files : List (List ℕ)) → files ≡ wanted_paths (read_script j sets) (picks_of sets)
-    → compact_text (success_tree (record { job = j.job; committer = j.committer; files = files; stamp = j.stamp })) ≡ mark_text (read_script j sets) (picks_of sets)
-mark_is j sets files e = ap (λ v. compact_text (success_tree (let m : SuccessMark = record { job = j.job; committer = j.committer; files = v; stamp = j.stamp } in m))) e
-
 -- ---- the marker's paths, from the last upload on
 
 paths_none : (dest : Path) (all : List Pending) (n : ℕ) → n ≡ length all → [] ≡ ordered (paths_below dest (drop n all))
@@ -176,21 +167,12 @@ path_within sets places n e h = let f : length places ≡ length (all_commits se
 
 pub paths_more : (dest : Path) (sets : Sets) (n m : ℕ) (keys new : List (List ℕ)) (path d : List ℕ) (u : Pending) → n < length (all_commits sets) → m ≡ n + 1 → keys ≡ ordered (paths_below dest (drop m (all_commits sets))) → new ≡ insert_key text_cmp keys path → path ≡ relative_of dest d → d ≡ u.destination → u ≡ nth (all_commits sets) n
     → new ≡ ordered (paths_below dest (drop n (all_commits sets)))
-paths_more dest sets n m keys new path d u h i k e p q r =
-    let all = all_commits sets in
-    let P : Pending → Type 0 = λ v. new ≡ insert_key text_cmp keys (relative_of dest v.destination) in
-    let one : new ≡ insert_key text_cmp keys (relative_of dest (nth all n).destination) = subst P r (e ∙ ap (insert_key text_cmp keys) (p ∙ ap (relative_of dest) q)) in
-    one
-    ∙ ap (λ v. insert_key text_cmp v (relative_of dest (nth all n).destination)) (k ∙ ap (λ x. ordered (paths_below dest (drop x all))) i)
-    ∙ ap (λ v. ordered (paths_below dest v)) (sym (drop_nth all n h))
+paths_more dest sets n m keys new path d u h g e f p q r = grind (arith, drop_nth)
 
 -- ---- requests that are made
 
 pub get_asked : {E : Type 0} (r : Result Request E) (b c k l : List ℕ) → IfOk r (λ q. q ≡ GetObject b k) → b ≡ c → k ≡ l → IfOk r (λ q. q ≡ GetObject c l)
-get_asked r b c k l h e f =
-    let B : List ℕ → Type 0 = λ v. IfOk r (λ q. q ≡ GetObject v k) in
-    let K : List ℕ → Type 0 = λ v. IfOk r (λ q. q ≡ GetObject c v) in
-    subst K f (subst B e h)
+get_asked r b c k l h g e = grind arith
 
 pub cluster_asked : {E : Type 0} (r : Result Request E) (k l : List ℕ) → IfOk r (λ q. q ≡ ClusterGet k) → k ≡ l → IfOk r (λ q. q ≡ ClusterGet l)
 cluster_asked r k l h e = let K : List ℕ → Type 0 = λ v. IfOk r (λ q. q ≡ ClusterGet v) in subst K e h
@@ -204,16 +186,8 @@ pub stored_asked : {E : Type 0} (r : Result Request E) (j : Job) (t : ℕ) (c : 
 stored_asked r j t c m e h = let P : Committer → Type 0 = λ x. IfOk r (λ q. q ≡ set_request x (job_script j) t) in subst P (sym m ∙ e) h
 
 pub staged_asked : {E : Type 0} (r : Result Request E) (j : Job) (t : ℕ) (c : Committer) → (c ≡ Directory) ⊎ (c ≡ Partitioned) → c ≡ j.committer → IfOk r (λ q. q ≡ ClusterGet (layout.staged_set_path j.job t)) → IfOk r (λ q. q ≡ set_request j.committer (job_script j) t)
-staged_asked r j t c m e h =
-    let P : Committer → Type 0 = λ x. IfOk r (λ q. q ≡ set_request x (job_script j) t) in
-    elim m [ inl d ↦ subst P (sym d ∙ e) h | inr p ↦ subst P (sym p ∙ e) h ]
+staged_asked r j t c h g e = grind arith
 
 pub mark_put : {E : Type 0} (r : Result Request E) (j : Job) (sets : Sets) (bucket key bytes job : List ℕ) (files : List (List ℕ)) → IfOk r (λ q. q ≡ PutObject bucket key bytes None) → bucket ≡ j.dest.bucket → key ≡ layout.success_key j.dest.key
     → bytes ≡ compact_text (success_tree (record { job = job; committer = j.committer; files = files; stamp = j.stamp })) → job ≡ j.job → files ≡ wanted_paths (read_script j sets) (picks_of sets) → IfOk r (λ q. Some q ≡ commit_asks (read_script j sets) (Marking sets 0))
-mark_put r j sets bucket key bytes job files h b k t o f =
-    let text : bytes ≡ mark_text (read_script j sets) (picks_of sets) =
-    t
-    ∙ ap (λ v. compact_text (success_tree (let m : SuccessMark = record { job = v; committer = j.committer; files = files; stamp = j.stamp } in m))) o
-    ∙ mark_is j sets files f in
-    IfOk-weaker r (λ q. q ≡ PutObject bucket key bytes None) (λ q. Some q ≡ commit_asks (read_script j sets) (Marking sets 0))
-    (λ q e. ap Some (e ∙ ap (λ v. PutObject v key bytes None) b ∙ ap (λ v. PutObject j.dest.bucket v bytes None) k ∙ ap (λ v. PutObject j.dest.bucket (layout.success_key j.dest.key) v None) text)) h
+mark_put r j sets bucket key bytes job files h g e f p q = grind arith

@@ -23,8 +23,7 @@ pub key_parts : (dest : Path) (key : List ℕ) → is_some (relative_in dest.key
 key_parts dest key h = split_by (below dest.key []) key (starts_with nat_eq key (below dest.key [])) refl h
 
 equal_self : (o : Ordering) → o ≡ ordering_reverse o → o ≡ Equal
-equal_self Equal e = refl
-equal_self _ e = absurd (cc)
+equal_self o h = grind arith
 
 -- a common front does not matter
 front_cmp : (pre p q : List ℕ) → text_cmp (pre ++ p) (pre ++ q) ≡ text_cmp p q
@@ -96,11 +95,7 @@ record Pair (w : ℕ → Bool) (t u : ℕ) : Type 0 where
   pub least : (v : ℕ) → v < u → w v ≡ true → v ≡ t
 
 last_not : (w : ℕ → Bool) (t u v x : ℕ) → Pair w t u → Pair w v x → u < x → ⊥
-last_not w t u v x p q h =
-    let l : t < u = p.order in
-    let a : u ≡ v = q.least u h p.last in
-    let b : t ≡ v = q.least t (omega arith) p.first in
-    absurd (omega arith)
+last_not w t u v x h g e = grind arith
 
 one_last : (w : ℕ → Bool) (t u v x : ℕ) → Pair w t u → Pair w v x → u ≡ x
 one_last w t u v x p q = elim (three u x) [ inl l ↦ absurd (last_not w t u v x p q l) | inr r ↦ elim r [ inl e ↦ e | inr l ↦ absurd (last_not w v x t u q p l) ] ]

@@ -38,27 +38,7 @@ later_owner items q x f le h = (in_left (q, f) items ((q, x) ∷ []) h.0, λ v i
 
 -- the first upload of a key
 best_new : (items : List Item) (q : List ℕ) (x : ℕ) (best : Option Clash) → IsOwner items q None → IsBest items best → IsBest (items ++ (q, x) ∷ []) best
-best_new items q x None none h = λ k v y less i j.
-    elim (in_push (k, v) items (q, x) i) [
-      | inl a ↦ elim (in_push (k, y) items (q, x) j) [ inl b ↦ h k v y less a b | inr e ↦ let P : List ℕ → Type 0 = λ l. In (l, v) items in none v (subst P (sym (key_is e)) a) ]
-      | inr e ↦ elim (in_push (k, y) items (q, x) j) [
-        | inl b ↦ let P : List ℕ → Type 0 = λ l. In (l, y) items in none y (subst P (sym (key_is e)) b)
-        | inr f ↦ let g : x ≡ v = task_is e in let l : x ≡ y = task_is f in absurd (omega arith)
-      ]
-    ]
-best_new items q x (Some c) none h = record {
-  order = h.order;
-  first = in_left (c.key, c.first) items ((q, x) ∷ []) h.first;
-  second = in_left (c.key, c.second) items ((q, x) ∷ []) h.second;
-  least_tasks = λ v less i. elim (in_push (c.key, v) items (q, x) i) [ inl j ↦ h.least_tasks v less j | inr e ↦ let P : List ℕ → Type 0 = λ l. In (l, c.first) items in absurd (none c.first (subst P (sym (key_is e)) h.first)) ];
-  least_key = λ k v y less i j. elim (in_push (k, v) items (q, x) i) [
-    | inl a ↦ elim (in_push (k, y) items (q, x) j) [ inl b ↦ h.least_key k v y less a b | inr e ↦ let P : List ℕ → Type 0 = λ l. In (l, v) items in absurd (none v (subst P (sym (key_is e)) a)) ]
-    | inr e ↦ elim (in_push (k, y) items (q, x) j) [
-      | inl b ↦ let P : List ℕ → Type 0 = λ l. In (l, y) items in absurd (none y (subst P (sym (key_is e)) b))
-      | inr f ↦ let g : x ≡ v = task_is e in let l : x ≡ y = task_is f in absurd (omega arith)
-    ]
-  ];
-}
+best_new items q x best h g = grind (arith, in_push, key_is, task_is, in_left)
 
 -- the same upload once more
 again_in : (items : List Item) (i j : Item) → In j items → In i (items ++ j ∷ []) → In i items
@@ -76,18 +56,7 @@ best_same items q x (Some c) at h = record {
 
 -- a key that is no better than the one that was found
 best_kept : (items : List Item) (q : List ℕ) (x : ℕ) (c : Clash) → ((k : List ℕ) (v : ℕ) → In (k, v) items → v ≤ x) → is_lt (text_cmp q c.key) ≡ false → IsBest items (Some c) → IsBest (items ++ (q, x) ∷ []) (Some c)
-best_kept items q x c most not h = record {
-  order = h.order;
-  first = in_left (c.key, c.first) items ((q, x) ∷ []) h.first;
-  second = in_left (c.key, c.second) items ((q, x) ∷ []) h.second;
-  least_tasks = λ v less i. elim (in_push (c.key, v) items (q, x) i) [ inl j ↦ h.least_tasks v less j | inr e ↦ let f : x ≡ v = task_is e in let m : c.second ≤ x = most c.key c.second h.second in absurd (omega arith) ];
-  least_key = λ k v y less i j.
-      let P : List ℕ → Type 0 = λ l. is_lt (text_cmp l c.key) ≡ false in
-      elim (in_push (k, v) items (q, x) i) [
-        | inl a ↦ elim (in_push (k, y) items (q, x) j) [ inl b ↦ h.least_key k v y less a b | inr e ↦ subst P (key_is e) not ]
-        | inr e ↦ subst P (key_is e) not
-      ];
-}
+best_kept items q x c h g e = grind (arith, in_left, in_push, task_is, key_is)
 
 -- what clashes among these comes no sooner than a better key
 old_later : (items : List Item) (q k : List ℕ) (v y : ℕ) (best : Option Clash) → is_better q best ≡ true → IsBest items best → v < y → In (k, v) items → In (k, y) items → is_lt (text_cmp k q) ≡ false
@@ -95,8 +64,7 @@ old_later items q k v y None better h less a b = absurd (h k v y less a b)
 old_later items q k v y (Some c) better h less a b = contrary (is_lt (text_cmp k q)) (λ e. sym (h.least_key k v y less a b) ∙ lt_trans text_total k q c.key e better)
 
 no_older : (items : List Item) (q : List ℕ) (f v : ℕ) (best : Option Clash) → is_better q best ≡ true → IsBest items best → f < v → In (q, f) items → In (q, v) items → ⊥
-no_older items q f v None better h less a b = h q f v less a b
-no_older items q f v (Some c) better h less a b = false_true (h.least_key q f v less a b) better
+no_older items q f v best h g e p r = grind arith
 
 -- a better key
 best_better : (items : List Item) (q : List ℕ) (x f : ℕ) (best : Option Clash) → ((k : List ℕ) (v : ℕ) → In (k, v) items → v ≤ x) → (f ≡ x → ⊥) → IsOwner items q (Some f) → is_better q best ≡ true → IsBest items best
@@ -205,9 +173,7 @@ finds_at items q x (Some f) m n best e up most s =
 -- one more upload, of which this task or an earlier one is the owner
 pub finds_one : {S : Type 0} (items : List Item) (q : List ℕ) (x first : ℕ) (m n : HashMap (List ℕ) ℕ S) (best best' : Option Clash) → first ≡ unwrap_or (get text_eq m q) x → Updates text_eq m n q (Some (unwrap_or (get text_eq m q) x)) → best' ≡ clash_of q first x best
     → AtMost items x → Finds items (get text_eq m) best → Finds (items ++ (q, x) ∷ []) (get text_eq n) best'
-finds_one items q x first m n best best' e up is most s =
-    let B : Option Clash → Type 0 = λ v. Finds (items ++ (q, x) ∷ []) (get text_eq n) v in
-    subst B (sym (is ∙ ap (λ t. clash_of q t x best) e)) (finds_at items q x (get text_eq m q) m n best refl up most s)
+finds_one items q x first m n best best' h g e f p = grind (arith, finds_at)
 
 -- ---- all uploads of a task
 

@@ -93,14 +93,10 @@ number_below : (total : ℕ) (u : List Undo) (x : Undo) → number_in x < total 
 number_below total u x h w = λ y i. elim i [ inl e ↦ let P : Undo → Type 0 = λ v. number_in v < total in subst P e h | inr k ↦ w y k ]
 
 pub tried_below : (total n : ℕ) (new last : List Undo) (b : Bool) → n < total → last ≡ with_tried b n new → NumbersWithin total new → NumbersWithin total last
-tried_below total n new last b h e w =
-    let P : List Undo → Type 0 = λ v. NumbersWithin total v in
-    subst P (sym e) (elim b as (λ b. P (with_tried b n new)) [ true ↦ number_below total (Delete n ∷ new) (Abort n) h (number_below total new (Delete n) h w) | false ↦ w ])
+tried_below total n new last b h g e = grind arith
 
 pub unsent_below : (total n : ℕ) (new last : List Undo) (b : Bool) → n < total → last ≡ with_unsent b n new → NumbersWithin total new → NumbersWithin total last
-unsent_below total n new last b h e w =
-    let P : List Undo → Type 0 = λ v. NumbersWithin total v in
-    subst P (sym e) (elim b as (λ b. P (with_unsent b n new)) [ true ↦ w | false ↦ number_below total new (Abort n) h w ])
+unsent_below total n new last b h g e = grind arith
 
 get_any : (f : List ℕ) (n d e : ℕ) → n < length f → get_or f n d ≡ get_or f n e
 get_any [] n d e h = absurd (omega arith)

@@ -1,6 +1,6 @@
 -- The stages of a copy keep what they promise.
 use Rattle.std.specs.Prelude.{◌≡◌, ℕ, List, [], ◌∷◌, drop, Ok, Err}
-use Rattle.std.proofs.Common.{refl, sym, subst, ◌∙◌, inl, inr}
+use Rattle.std.proofs.Common.{refl, sym, subst, ◌∙◌, inl, inr, arith}
 use Rattle.fs_ops.specs.Prelude.{Objects, Goes, reply_in, edited, IsPhases, MayAsk, CopyCount, Overlap, Differs, OtherBucket, Stands, IsOverlap, MayCopy, CopiesTree, Copies, IsCopiedInPart, MayStandCopied}
 use Rattle.path_keys.proofs.Common.{none_some}
 use Rattle.std.specs.FinMap as fin
@@ -22,12 +22,7 @@ abbrev On : CopyPaths → Objects → CopyStage → Objects → Type 0
 On o z s m = Goes (holds o z) (gives o z) (on o s (reply_in m (asks o s))) (edited (asks o s) m)
 
 at_root : (o : CopyPaths) (z : Objects) → IsOverlap o.source o.target → ((m : Objects) → m ≡ z → On o z Here m) → (s : CopyStage) (m : Objects) → holds o z s m → On o z s m
-at_root o z e f Here m h = f m h
-at_root o z e f (Walk w) m h = absurd (h.1 e)
-at_root o z e f (Up ks c) m h = absurd (h.1.apart e)
-at_root o z e f (WalkTarget ks ls w) m h = absurd (h.1.place.source.apart e)
-at_root o z e f (Copy c count) m h = absurd (h.0.place.source.apart e)
-at_root o z e f _ m h = absurd (h.1.placed.place.source.apart e)
+at_root o z h g s m e = grind arith
 
 steps : (p t : List ℕ) (z : Objects) (s : CopyStage) (m : Objects) → holds (record { source = p; target = t }) z s m → On (record { source = p; target = t }) z s m
 steps [] t z s m h = at_root (record { source = []; target = t }) z (inl refl) (λ m h. (inl refl, h)) s m h

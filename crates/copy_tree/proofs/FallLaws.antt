@@ -29,14 +29,12 @@ module _ (o : CopyPaths) (m : Objects) where
   fall_begun c n h = (elim c.keys as (λ ks. length ks < n → Falls (left o) (copies (count_of c) ks c.places) m n) [ [] ↦ λ h. tt | k ∷ ks ↦ λ h. omega (arith, h) ]) h
 
   fall_copied : (c : CopyStep) (count : CopyCount) (n : ℕ) → LessCopies c n → Falls (left o) (on_copied count c) m n
-  fall_copied (NextCopy c) count n h = h
-  fall_copied (All ks) count n h = tt
+  fall_copied c count n h = grind arith
 
   -- ---- the pairs
 
   fall_pairs : (c : Parts) (r : List (List ℕ)) (n : ℕ) → 2 * length c.stood + length c.keys + 2 < n → Falls (left o) (pairs c r) m n
-  fall_pairs c [] n h = fall_begun c n (omega (arith, h))
-  fall_pairs c (k ∷ ks) n h = h
+  fall_pairs c r n h = grind arith
 
   fall_read : (c : Parts) (n : ℕ) (r : Reply) → Falls (left o) (on_read c n r) m (left o (Source c n) m)
   fall_read c n (Found b h) = omega arith
@@ -61,9 +59,7 @@ module _ (o : CopyPaths) (m : Objects) where
       fall_pairs (parts_of ks ls es) (parts_of ks ls es).stood (n + 2 * length ks + 2) (omega (arith, h, all_counted ks ls es))
 
   fall_show : (ks ls : List (List ℕ)) (w : List PageEntry) → Falls (left o) (on o (WalkTarget ks ls w) (reply_in m (asks o (WalkTarget ks ls w)))) m (left o (WalkTarget ks ls w) m)
-  fall_show ks ls w =
-      subst (λ b. Falls (left o) (on_show ks ls w (reply_in m (walk_asks (prefix_of o.target) w)) b) m (left o (WalkTarget ks ls w) m)) (sym (walk_fits (prefix_of o.target) w m))
-      (fall_shown ks ls (walked_entries w (reply_in m (walk_asks (prefix_of o.target) w))) (walk_left (prefix_of o.target) w m) (walk_falls (prefix_of o.target) w m))
+  fall_show ks ls w = grind (arith, walk_fits, fall_shown, walk_falls)
 
   -- ---- the paths above the target
 
@@ -72,12 +68,7 @@ module _ (o : CopyPaths) (m : Objects) where
   Behind ks = walk_left (prefix_of o.target) [] m + 2 * length ks + 3
 
   fall_climb : (ks : List (List ℕ)) (c : Climbed) (k n : ℕ) → IsShorter c k → k + Behind ks < n → Falls (left o) (on_climb o ks c) m n
-  fall_climb ks (File a) k n s h = tt
-  fall_climb ks (Goes_on c) k n s h = omega (arith, s, h)
-  fall_climb ks Free k n s h = elim (place_of o.source o.target) as (λ q. Falls (left o) (placed o q ks) m n) [
-    | None ↦ tt
-    | Some t ↦ elim (new_keys (prefix_of o.source) (marker_of t) ks) as (λ r. Falls (left o) (with_places ks r) m n) [ Ok ls ↦ omega (arith, h) | Err k ↦ tt ]
-  ]
+  fall_climb ks c k n h g = grind arith
 
   -- ---- the source
 
@@ -90,14 +81,10 @@ module _ (o : CopyPaths) (m : Objects) where
   fall_walked (Whole es) n h = fall_listed (keys_on es) n (let l = length_keys es in omega (arith, h, l))
 
   fall_walk : (w : List PageEntry) → Falls (left o) (on o (Walk w) (reply_in m (asks o (Walk w)))) m (left o (Walk w) m)
-  fall_walk w =
-      subst (λ b. Falls (left o) (on_walk o w (reply_in m (walk_asks (prefix_of o.source) w)) b) m (left o (Walk w) m)) (sym (walk_fits (prefix_of o.source) w m))
-      (fall_walked (walked_entries w (reply_in m (walk_asks (prefix_of o.source) w))) (walk_left (prefix_of o.source) w m) (walk_falls (prefix_of o.source) w m))
+  fall_walk w = grind (arith, walk_fits, fall_walked, walk_falls)
 
   fall_here : (b : Bool) (l : Look) → Falls (left o) (here b l) m (left o Here m)
-  fall_here true l = tt
-  fall_here false There = tt
-  fall_here _ _ = omega arith
+  fall_here b l = grind arith
 
 -- ---- each stage
 
@@ -115,5 +102,4 @@ falls o z (Target c n b g) m h = fall_compare o (edited (asks o (Target c n b g)
 falls o z (Copy c count) m h = fall_copied o (edited (asks o (Copy c count)) m) (copied_next (has_more c) c) count (copies_left c) (copying_falls c h.2.some)
 
 pub stays : (o : CopyPaths) (s : CopyStage) (m : Objects) → left o s (edited (asks o s) m) ≡ left o s m
-stays o Here m = ap (left o Here) (still_look o.source m)
-stays o _ m = refl
+stays o s m = grind arith

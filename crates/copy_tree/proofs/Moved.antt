@@ -24,8 +24,7 @@ module _ (x : ℕ) (p : List ℕ) (y : ℕ) (t : List ℕ) where
 
   -- a move of a directory is of a key that stands below it
   pub moved_rest : (z : Objects) (k l : List ℕ) → IsDirectory z (x ∷ p) → IsMove z (x ∷ p) (y ∷ t) k l → Stands z k × SameRest (x ∷ p) (y ∷ t) k l
-  moved_rest z k l h (inl m) = absurd (none_some h.0 m.0.1)
-  moved_rest z k l h (inr m) = (m.1, m.2)
+  moved_rest z k l h g = grind arith
 
   pub is_move : (z : Objects) (k l : List ℕ) → IsDirectory z (x ∷ p) → Stands z k → SameRest (x ∷ p) (y ∷ t) k l → IsMove z (x ∷ p) (y ∷ t) k l
   is_move z k l h s r = inr (h, s, r)
@@ -35,10 +34,7 @@ module _ (x : ℕ) (p : List ℕ) (y : ℕ) (t : List ℕ) where
 
   -- a new key is that of one key
   pub one_source : (z : Objects) (k j l : List ℕ) → IsDirectory z (x ∷ p) → IsMove z (x ∷ p) (y ∷ t) k l → IsMove z (x ∷ p) (y ∷ t) j l → k ≡ j
-  one_source z k j l h a b =
-      let r = (moved_rest z k l h a).1 in
-      let s = (moved_rest z j l h b).1 in
-      r.1 ∙ ap (λ v. P ++ v) (append_cancel_left Q r.0 s.0 (sym r.2 ∙ s.2)) ∙ sym s.1
+  one_source z k j l h g e = grind (arith, moved_rest, append_cancel_left)
 
   -- a key is a new key or not
   pub is_new : (z : Objects) (q : List ℕ) → IsDirectory z (x ∷ p) → ((k : List ℕ) × IsMove z (x ∷ p) (y ∷ t) k q) ⊎ ((k : List ℕ) → IsMove z (x ∷ p) (y ∷ t) k q → ⊥)

@@ -25,17 +25,14 @@ module _ (l : List ℕ) where
   from_in t (e ∷ es) i = by (lt text_cmp (text_in e) l) i (from_in t es)
     where
       by : (s : Bool) → IsIn t (map text_in (cond s (from_text l es) (e ∷ es))) → (IsIn t (map text_in (from_text l es)) → IsIn t (map text_in es)) → IsIn t (map text_in (e ∷ es))
-      by true i old = inr (old i)
-      by false i old = i
+      by s h g = grind arith
 
   from_has : (t : List ℕ) (es : List PageEntry) → lt text_cmp t l ≡ false → IsIn t (map text_in es) → IsIn t (map text_in (from_text l es))
   from_has t [] f i = i
   from_has t (e ∷ es) f i = by (lt text_cmp (text_in e) l) refl i (from_has t es f)
     where
       by : (s : Bool) → lt text_cmp (text_in e) l ≡ s → IsIn t (map text_in (e ∷ es)) → (IsIn t (map text_in es) → IsIn t (map text_in (from_text l es))) → IsIn t (map text_in (cond s (from_text l es) (e ∷ es)))
-      by true g (inl s) old = absurd (false_true f (ap (λ t. lt text_cmp t l) s ∙ g))
-      by true g (inr j) old = old j
-      by false g j old = j
+      by s h g e = grind arith
 
   first_has : (b : List ℕ) (es : List PageEntry) → RisesFrom b (map text_in es) → IsIn l (map text_in es) → is_first l (from_text l es) ≡ true
   first_has b [] h i = absurd i
@@ -61,12 +58,7 @@ pub record Shows (q : List ℕ) (z : Objects) (b : List ℕ) (es : List PageEntr
   pub all : (t : List ℕ) → begins q t ≡ true → lt text_cmp b t ≡ true → Stands z t → IsIn t (map text_in es)
 
 pub all_shown : (x : ℕ) (q : List ℕ) (z : Objects) → Shows (x ∷ q) z [] (all_below (x ∷ q) z)
-all_shown x q z = record {
-  low = [];
-  rises = listed_rises (x ∷ q) [] z;
-  each = λ t i. (below_stands (x ∷ q) z t i).1;
-  all = λ t b l s. stands_below x q z t s.0 b s.1;
-}
+all_shown x q z = grind (arith, listed_rises, below_stands, stands_below)
 
 module _ (q : List ℕ) (z : Objects) where
   -- a new key stands, or is absent
@@ -95,14 +87,10 @@ module _ (q : List ℕ) (z : Objects) where
       by false e = none (fin.get z l) refl e
 
   one_told : (s t : Bool) (l : List ℕ) → IsTold s l → IsTold t l → s ≡ t
-  one_told true false l a b = absurd (none_some b a.1)
-  one_told false true l a b = absurd (none_some a b.1)
-  one_told _ _ l a b = refl
+  one_told s t l h g = grind arith
 
   wanted_is : (w t : Bool) → is_wanted w t ≡ true → t ≡ w
-  wanted_is true false h = absurd (false≢true h)
-  wanted_is false true h = absurd (false≢true h)
-  wanted_is _ _ h = refl
+  wanted_is w t h = grind arith
 
   module _ (w : Bool) where
     -- the targets rise behind a text and are below the prefix
@@ -133,10 +121,7 @@ module _ (q : List ℕ) (z : Objects) where
             ap (is_wanted w) told ∙ (elim w as (λ w. is_wanted w w ≡ true) [ true ↦ refl | false ↦ refl ])
 
         by : (t : Bool) → is_wanted w (is_first p.1 (from_text p.1 es)) ≡ t → IsOneOf k l (p ∷ ps) → (IsOneOf k l ps → IsOneOf k l (kept w ps (from_text p.1 es))) → IsOneOf k l (cond t (p ∷ []) [] ++ kept w ps (from_text p.1 es))
-        by true e (inl m) old = inl m
-        by true e (inr j) old = inr (old j)
-        by false e (inl m) old = absurd (false_true e (same m.1))
-        by false e (inr j) old = old j
+        by t h g e = grind (arith, same)
 
 -- ---- the keys and the new keys of what is kept
 
@@ -146,8 +131,7 @@ chosen_by f w (p ∷ ps) es = by (is_wanted w (is_first p.1 (from_text p.1 es)))
   where
     by : (t : Bool) → chosen w (map f ps) (targets ps) (from_text p.1 es) ≡ map f (kept w ps (from_text p.1 es))
         → cond t (f p ∷ []) [] ++ chosen w (map f ps) (targets ps) (from_text p.1 es) ≡ map f (cond t (p ∷ []) [] ++ kept w ps (from_text p.1 es))
-    by true e = ap (λ l. f p ∷ l) e
-    by false e = e
+    by t h = grind arith
 
 pub chosen_sources : (w : Bool) (ps : List Move) (es : List PageEntry) → chosen w (sources ps) (targets ps) es ≡ sources (kept w ps es)
 chosen_sources w ps es = chosen_by (λ (p : Move). p.0) w ps es

@@ -1,5 +1,5 @@
 -- A copy that was stopped is made again.
-use Rattle.std.proofs.Common.{◌≡◌, ◌⊎◌, inl, inr, ℕ, true, List, [], ◌∷◌, None, refl, sym, ◌∙◌}
+use Rattle.std.proofs.Common.{◌≡◌, ◌⊎◌, inl, inr, ℕ, true, List, [], ◌∷◌, None, refl, sym, ◌∙◌, arith}
 use Rattle.fs_ops.specs.Prelude.{Objects, begins, marker_of, IsIn, CopyCount, IsDirectory, NoFiles, IsMove, to_target, MayCopy, CopiesTree, IsCopiedInPart}
 use Rattle.std.specs.FinMap as fin
 use Rattle.fs_tree.specs.Copies.{CopiesResume}
@@ -59,9 +59,7 @@ module _ (x : ℕ) (p : List ℕ) (y : ℕ) (t : List ℕ) (z m : Objects) (may 
   ]
 
 again : (p t : List ℕ) (z m : Objects) → MayCopy z p t → IsCopiedInPart p t z m → MayCopy m p t
-again [] t z m h g = absurd (h.place.source.apart (inl refl))
-again (x ∷ p) [] z m h g = absurd (h.place.source.apart (inr refl))
-again (x ∷ p) (y ∷ t) z m h g = may_again x p y t z m h g
+again p t z m h g = grind (arith, may_again)
 
 same : (p t : List ℕ) (z m n o : Objects) (c d : CopyCount) → MayCopy z p t → IsCopiedInPart p t z m → CopiesTree p t m c n → CopiesTree p t z d o → (q : List ℕ) → fin.get n q ≡ fin.get o q
 same [] t z m n o c d h g a b q = absurd (h.place.source.apart (inl refl))

@@ -62,21 +62,16 @@ rises_behind (suc n) b (k ∷ ks) h = rises_behind n k ks h.1
 -- ---- objects that are the same
 
 header_is : (h g : Option ℕ) → same_header h g ≡ true → h ≡ g
-header_is None None e = refl
-header_is (Some a) (Some b) e = ap Some (eq_nat a b e)
-header_is _ _ e = absurd (false≢true e)
+header_is h g e = grind arith
 
 header_true : (h g : Option ℕ) → h ≡ g → same_header h g ≡ true
-header_true None None e = refl
-header_true (Some a) (Some b) e = nat_true a b (some_is e)
-header_true _ _ e = absurd (cc)
+header_true h g e = grind arith
 
 both_true : (a b : Bool) → a ≡ true → b ≡ true → (a && b) ≡ true
 both_true a b h g = ap (λ a. a && b) h ∙ g
 
 pub reads : (ks : List (List ℕ)) → is_look (read_of ks) ≡ true
-reads [] = refl
-reads (k ∷ ks) = refl
+reads ks = grind arith
 
 module _ (z : Objects) (x : ℕ) (p : List ℕ) (y : ℕ) (t : List ℕ) where
   abbrev O : CopyPaths
@@ -108,12 +103,7 @@ module _ (z : Objects) (x : ℕ) (p : List ℕ) (y : ℕ) (t : List ℕ) where
   begun_on c e h = copies_on (count_of c) (ap count_of e) h c.keys c.places (ap (λ (c : Parts). c.keys) e) (ap (λ (c : Parts). c.places) e)
 
   copied_on : (c : CopyStep) (n : CopyCount) (m : Objects) → MayCopy z (x ∷ p) (y ∷ t) → n ≡ count_of (all_parts O z) → IsCopied z (absent O z) c m → On (on_copied n c) m
-  copied_on (NextCopy c) n m h e i = (h, e, i)
-  copied_on (All ks) n m h e i = (
-    h,
-    subst (λ (c : CopyCount). CopiesTree (x ∷ p) (y ∷ t) z c m) (sym e)
-        (subst (CopiesTree (x ∷ p) (y ∷ t) z (count_of (all_parts O z))) (sym i.1) (tree_copied z x p y t h.place.source.directory h)),
-  )
+  copied_on c n m h g e = grind (arith, tree_copied)
 
   -- ---- the pairs of which both stand
 
@@ -210,9 +200,7 @@ module _ (z : Objects) (x : ℕ) (p : List ℕ) (y : ℕ) (t : List ℕ) where
         (h.placed.place, h.placed.fit, first_other (λ q. other (some_is (sym a ∙ sym q ∙ d))), refl)
       where
         other : record { bytes = b; header = g } ≡ v → ⊥
-        other q =
-            false_true f (both_true (text_eq b v.bytes) (same_header g v.header) (text_true b v.bytes (ap (λ (o : Object). o.bytes) q))
-            (header_true g v.header (ap (λ (o : Object). o.header) q)))
+        other h = grind (arith, both_true, text_true, header_true)
 
     compare_one : (b : List ℕ) (g : Option ℕ) → StandsFirst z (drop n c.stood) b g → On (on_compare c n b g (found (fin.get z s.1))) z
     compare_one b g a = by (fin.get z s.1) refl
@@ -230,24 +218,14 @@ module _ (z : Objects) (x : ℕ) (p : List ℕ) (y : ℕ) (t : List ℕ) where
   -- ---- the walk below the target
 
   parts_are : parts_of (sources (moves O z)) (targets (moves O z)) (all_below (marker_of (y ∷ t)) z) ≡ all_parts O z
-  parts_are = λ i. record {
-    stood = chosen_sources true (moves O z) (all_below (marker_of (y ∷ t)) z) i;
-    stood_at = chosen_targets true (moves O z) (all_below (marker_of (y ∷ t)) z) i;
-    keys = chosen_sources false (moves O z) (all_below (marker_of (y ∷ t)) z) i;
-    places = chosen_targets false (moves O z) (all_below (marker_of (y ∷ t)) z) i;
-  }
+  parts_are = grind (arith, chosen_sources, chosen_targets)
 
   shown_on : (ks ls : List (List ℕ)) (w : Walked PageEntry) → IsPlaced O z → ks ≡ sources (moves O z) → ls ≡ targets (moves O z) → IsWalked (marker_of (y ∷ t)) z w → On (on_shown ks ls w) z
-  shown_on ks ls (More w) h e f g = (refl, h, e, f, g)
-  shown_on ks ls (Whole es) h e f g =
-      let a : parts_of ks ls es ≡ parts_of (sources (moves O z)) (targets (moves O z)) (all_below (marker_of (y ∷ t)) z) = λ i. parts_of (e i) (f i) (g i) in
-      pairs_on (parts_of ks ls es) (a ∙ parts_are) h (parts_of ks ls es).stood refl
+  shown_on ks ls w h g e f = grind (arith, pairs_on, parts_are)
 
   showing : (ks ls : List (List ℕ)) (w : List PageEntry) → IsPlaced O z → ks ≡ sources (moves O z) → ls ≡ targets (moves O z) → IsWalking (marker_of (y ∷ t)) z w
       → On (on_show ks ls w (reply_in z (walk_asks (marker_of (y ∷ t)) w)) (fits (reply_in z (walk_asks (marker_of (y ∷ t)) w)))) z
-  showing ks ls w h e f g =
-      subst (λ b. On (on_show ks ls w (reply_in z (walk_asks (marker_of (y ∷ t)) w)) b) z) (sym (walk_fits (marker_of (y ∷ t)) w z))
-      (shown_on ks ls (walked_entries w (reply_in z (walk_asks (marker_of (y ∷ t)) w))) h e f (walk_goes (marker_of (y ∷ t)) z w g))
+  showing ks ls w h g e f = grind (arith, walk_fits, shown_on, walk_goes)
 
   -- ---- the new keys
 
@@ -265,9 +243,7 @@ module _ (z : Objects) (x : ℕ) (p : List ℕ) (y : ℕ) (t : List ℕ) where
   -- ---- the paths above the target
 
   climbed_on : (ks : List (List ℕ)) (c : Climbed) → HasSource z (x ∷ p) (y ∷ t) → ks ≡ keys_below (marker_of (x ∷ p)) z → IsClimbed z (climb (y ∷ t)) c → On (on_climb O ks c) z
-  climbed_on ks (File a) s e h = (s, h, refl)
-  climbed_on ks (Goes_on c) s e h = (refl, s, e, h)
-  climbed_on ks Free s e h = with_places_on ks (record { source = s; free = h }) e (new_keys (marker_of (x ∷ p)) (marker_of (y ∷ t)) ks) refl
+  climbed_on ks c h g e = grind (arith, with_places_on)
 
   -- ---- the source
 
@@ -288,14 +264,7 @@ module _ (z : Objects) (x : ℕ) (p : List ℕ) (y : ℕ) (t : List ℕ) where
 
   here_on : (b c : Bool) → begins (marker_of (x ∷ p)) (marker_of (y ∷ t)) ≡ b → begins (marker_of (y ∷ t)) (marker_of (x ∷ p)) ≡ c
       → On (here_at (b || c) (look_of (head (fin.get z (x ∷ p))))) z
-  here_on true c e f = (inl e, refl)
-  here_on false true e f = (inr f, refl)
-  here_on false false e f =
-      at_key (λ l. On (here_at false l) z) z (x ∷ p) (λ s. (apart e f, s, refl)) (λ n. (refl, apart e f, n, walk_begins (marker_of (x ∷ p)) z))
-    where
-      apart : begins (marker_of (x ∷ p)) (marker_of (y ∷ t)) ≡ false → begins (marker_of (y ∷ t)) (marker_of (x ∷ p)) ≡ false → IsOverlap (x ∷ p) (y ∷ t) → ⊥
-      apart e f (inl g) = false_true e g
-      apart e f (inr g) = false_true f g
+  here_on b c h g = grind arith
 
   -- ---- each stage
 

@@ -69,13 +69,10 @@ gate_holds base changes legal change is gate fits = elim (cases_eq gate 1) [
 
 -- what a crash leaves of a settled disk is what is held
 pub settled_holds : (seen : Option File) (leaves : File → Type 0) (gate : ℕ) → IsSettled seen leaves gate → IsDurable (stored seen) (Leaves leaves)
-settled_holds None leaves gate s = tt
-settled_holds (Some None) leaves gate s = absurd s
-settled_holds (Some (Some bytes)) leaves gate s = λ h left. left.2 ∙ ap holding_of (s.1 left.0 left.1)
+settled_holds seen leaves gate h = grind arith
 
 durable_before : (held : Option Stored) (change : Request) (leaves : Holding → Type 0) → IsDurable held leaves → (h : Holding) → leaves h → IsBeforeOrAfter held change h
-durable_before None change leaves d h left = tt
-durable_before (Some s) change leaves d h left = inl (d h left)
+durable_before held change leaves g h e = grind arith
 
 -- what a crash leaves before the first write
 pub before_first : (seen : Option File) (leaves : File → Type 0) (gate : ℕ) (change : Request) → IsSettled seen leaves gate → (h : Holding) → Leaves leaves h → IsBeforeOrAfter (stored seen) change h
@@ -97,9 +94,7 @@ module _ (change : Request) (written : List ℕ) (gate end : ℕ) (prepared : Is
     held_before = record { base = rest.base; changes = rest.changes }
 
     holds : holding_of (Some bytes) ≡ Stands held_before
-    holds =
-        let is : bytes ≡ before ++ 0 ∷ [] = rest.spelled ∙ rest_is rest.base rest.changes rest.legal in
-        ap (λ (l : List ℕ). holding_of (Some l)) is ∙ closed_holds rest.base rest.changes rest.legal 0 [] (omega arith) (omega (arith, rest.fits, ap length is))
+    holds = grind (arith, rest_is, closed_holds)
 
     grows : grown (holding_of (Some bytes)) change ≡ Stands (record { base = rest.base; changes = rest.changes ++ change ∷ [] })
     grows = ap (λ (h : Holding). grown h change) holds
@@ -150,11 +145,7 @@ settled_at seen leaves place gate is s = subst (TakesAppends seen leaves) is s
 module _ {D S : Type 0} (disk : S → D) (moment : D → ℕ) (left_since : D → ℕ → File → Type 0) where
   -- what a crash leaves of the disk, as what the shelf then holds
   pub lifted : (old new : S) (P : File → Type 0) (Q : Holding → Type 0) → LeavesOnly moment left_since (disk old) (disk new) P → ((c : File) → P c → Q (holding_of c)) → LeavesOnly (λ s. moment (disk s)) (λ s t h. Leaves (left_since (disk s) t) h) old new Q
-  lifted old new P Q run f = record {
-    later = run.later;
-    each = λ h left. subst Q (sym left.2) (f left.0 (run.each left.0 left.1));
-    before = λ t h le left. ⊎_elim (λ was. inl (left.0, was, left.2)) (λ p. inr (subst Q (sym left.2) (f left.0 p))) (run.before t left.0 le left.1);
-  }
+  lifted old new P Q h g = grind arith
 
   -- nothing is said where the disk does not tell
   pub untold : (old new : S) (Q : Holding → Type 0) → moment (disk old) ≤ moment (disk new) → ((h : Holding) → Q h) → LeavesOnly (λ s. moment (disk s)) (λ s t h. Leaves (left_since (disk s) t) h) old new Q
@@ -234,13 +225,8 @@ module _ {D S : Type 0} (disk : S → D) (moment : D → ℕ) (left_since : D �
   pub swap_leaves : (old new : S) (leaves left : File → Type 0) (file base : List ℕ) → file ≡ log base [] → length base < 2 ^ 63 → ((c : File) → left_since (disk old) (moment (disk old)) c → leaves c)
       → Elapses (moment (disk old)) (moment (disk new)) (left_since (disk old)) (left_since (disk new)) (λ c. left c ⊎ (c ≡ Some file)) → ((c : File) → left c → leaves c ⊎ (c ≡ Some file))
       → LeavesOnly (λ s. moment (disk s)) (λ s t h. Leaves (left_since (disk s) t) h) old new (λ h. Leaves leaves h ⊎ (h ≡ fresh base))
-  swap_leaves old new leaves left file base is fits only_now time now =
-      let P : File → Type 0 = λ c. leaves c ⊎ (c ≡ Some file) in
-      let run = goes_on moment left_since (disk old) (disk old) (disk new) P (λ c. left c ⊎ (c ≡ Some file)) (started moment left_since (disk old) P (λ c l. inl (only_now c l))) time (λ c l. ⊎_elim (now c) (λ e. inr e) l) in
-      lifted disk moment left_since old new P (λ h. Leaves leaves h ⊎ (h ≡ fresh base)) run
-      (λ c p. ⊎_elim (λ l. inl (c, l, refl)) (λ e. inr (ap holding_of e ∙ ap (λ (l : List ℕ). holding_of (Some l)) is ∙ fresh_holds base fits)) p)
+  swap_leaves old new leaves left file base h g e f p = grind (arith, goes_on, started, lifted, fresh_holds)
 
 -- what was read is not too large
 pub read_small : (seen : Option File) (read : File) → IsRead seen read → file_length read ≤ most_file
-read_small None read h = h
-read_small (Some file) read h = subst (λ (f : File). file_length f ≤ most_file) h.0 h.1
+read_small seen read h = grind arith

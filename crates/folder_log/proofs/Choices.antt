@@ -21,14 +21,10 @@ AreAlike (Some a) None = ⊥
 AreAlike (Some a) (Some b) = length a ≡ length b
 
 alike : (file : File) → AreAlike file file
-alike None = tt
-alike (Some a) = refl
+alike file = grind arith
 
 alike_within : (at : ℕ) (a b : File) → AreAlike a b → is_within at b ≡ true → is_within at a ≡ true
-alike_within at None None like h = h
-alike_within at None (Some b) like h = absurd like
-alike_within at (Some a) None like h = absurd like
-alike_within at (Some a) (Some b) like h = le-leb at (length a) (omega (arith, like, leb-true at (length b) h))
+alike_within at a b h g = grind arith
 
 length-overwritten : (at : ℕ) (bytes old : List ℕ) → length (overwritten at bytes old) ≡ length (take at old) + length bytes + length (drop (at + length bytes) old)
 length-overwritten at bytes old = omega (arith, length-append (take at old ++ bytes) (drop (at + length bytes) old), length-append (take at old) bytes)

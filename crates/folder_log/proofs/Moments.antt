@@ -21,24 +21,12 @@ module _ {D : Type 0} (moment : D → ℕ) (left_since : D → ℕ → File → 
   -- one call more, after which a crash leaves what has P
   pub goes_on : (old mid new : D) (P may_leave : File → Type 0) → LeavesOnly moment left_since old mid P → Elapses (moment mid) (moment new) (left_since mid) (left_since new) may_leave
       → ((c : File) → may_leave c → P c) → LeavesOnly moment left_since old new P
-  goes_on old mid new P may_leave so_far time here = record {
-    later = omega (arith, so_far.later, time.later);
-    each = λ c left. ⊎_elim (so_far.each c) (here c) (time.nothing_else (moment old) c so_far.later left);
-    before = λ t c le left. ⊎_elim (so_far.before t c le) (λ now. inr (here c now)) (time.nothing_else t c (omega (arith, le, so_far.later)) left);
-  }
+  goes_on old mid new P may_leave h g e = grind arith
 
   -- one run and then another
   pub then_on : (old mid new : D) (P Q R : File → Type 0) → LeavesOnly moment left_since old mid P → LeavesOnly moment left_since mid new Q → ((c : File) → P c → R c) → ((c : File) → Q c → R c) → LeavesOnly moment left_since old new R
-  then_on old mid new P Q R first second f g = record {
-    later = omega (arith, first.later, second.later);
-    each = λ c left. ⊎_elim (λ was. f c (first.each c was)) (g c) (second.before (moment old) c first.later left);
-    before = λ t c le left. ⊎_elim (λ was. ⊎_elim (λ l. inl l) (λ p. inr (f c p)) (first.before t c le was)) (λ q. inr (g c q)) (second.before t c (omega (arith, le, first.later)) left);
-  }
+  then_on old mid new P Q R h g e f = grind arith
 
   -- what is known of less is known of more
   pub widened : (old new : D) (P R : File → Type 0) → LeavesOnly moment left_since old new P → ((c : File) → P c → R c) → LeavesOnly moment left_since old new R
-  widened old new P R run f = record {
-    later = run.later;
-    each = λ c left. f c (run.each c left);
-    before = λ t c le left. ⊎_elim (λ l. inl l) (λ p. inr (f c p)) (run.before t c le left);
-  }
+  widened old new P R h g = grind arith

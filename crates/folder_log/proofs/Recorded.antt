@@ -1,5 +1,5 @@
 -- The file of a disk in memory after one call more.
-use Rattle.std.proofs.Common.{◌≡◌, ℕ, Bool, cond, List, [], ◌∷◌, ◌++◌, length, Option, Some, Result, Ok, Err, sym, ap, subst, ◌∙◌}
+use Rattle.std.proofs.Common.{◌≡◌, ℕ, Bool, cond, List, [], ◌∷◌, ◌++◌, length, Option, Some, Result, Ok, Err, sym, ap, subst, ◌∙◌, arith}
 use Rattle.std.specs.Prelude.{OnOk, OnErr}
 use Rattle.folder_log.specs.Disk.{File, file_after, IsTorn, IsWithin, Follows}
 use Rattle.folder_log.specs.declared.state.Span.{Span}
@@ -28,8 +28,7 @@ wrote_alike s synced now ranges place bytes a b c = λ i. wrote (record { synced
 
 -- the state that a write leaves
 pub write_now : (s next : State) (place : ℕ) (bytes copy : List ℕ) → next ≡ wrote s place bytes → copy ≡ bytes → IsWithin place (Some s.now) → next ≡ after s (Write place copy)
-write_now s next place bytes copy is copied within =
-    is ∙ ap (wrote s place) (sym copied) ∙ sym (ap (λ (b : Bool). cond b (wrote s place copy) s) (within_true place s.now within))
+write_now s next place bytes copy h g e = grind arith
 
 pub wrote_is : (s t : State) (place : ℕ) (bytes : List ℕ) → t ≡ after s (Write place bytes) → IsWithin place (Some s.now) → t.now ≡ file_after place bytes s.now
 wrote_is s t place bytes is within = ap (λ (u : State). u.now) is ∙ ap (λ (b : Bool). (cond b (wrote s place bytes) s).now) (within_true place s.now within)

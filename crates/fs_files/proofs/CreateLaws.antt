@@ -37,15 +37,13 @@ use Rattle.fs_files.specs.code.Create.{Answer, CreateStep, asks, write_at, on_cl
 
 -- where there is no bucket it ends, and else it goes on
 unless_so : {X : Type 0} (l : Look) (absent y : X) (P : X → Type 0) → (l ≡ NoBucket → P absent) → P y → P (unless l absent y)
-unless_so NoBucket absent y P f h = f refl
-unless_so _ absent y P f h = h
+unless_so l absent y P h g = grind arith
 
 no_parts : (k n : ℕ) → n ≤ k * 10000 → k * 0 + n ≤ k * 10000
 no_parts k n h = let e : k * 0 ≡ 0 = Rattle.std.proofs.Math.Nat.mul-zero k in omega (arith, e, h)
 
 reads_look : (b k : List ℕ) → only_reads (request_of b (look_asks k)) ≡ true
-reads_look b [] = refl
-reads_look b (x ∷ k) = refl
+reads_look b k = grind arith
 
 -- of the uploads that were begun since, the one at hand alone is live
 abbrev OwnStep : Creation → Scene → CreateStep → Scene → Type 0
@@ -53,8 +51,7 @@ OwnStep o z (Next x) s = NoneBut (upload_of x) z o.path.bucket s
 OwnStep o z (End a) s = NoneLeft z o.path.bucket s
 
 own_z : (o : Creation) (z : Scene) (y : CreateStep) → OwnStep o z y z
-own_z o z (Next x) = λ id l e ne. e
-own_z o z (End a) = λ id l e. e
+own_z o z y = grind arith
 
 module _ (o : Creation) (z : Scene) (ok : IsCreation o) where
   abbrev B : List ℕ
@@ -76,12 +73,7 @@ module _ (o : Creation) (z : Scene) (ok : IsCreation o) where
   -- ---- no bucket
 
   none_goes : fin.get z.content.buckets B ≡ None → (s : Scene) → s ≡ z → OnAt None (goes o Here (answer s (asks o Here)) false) (apply s (asks o Here)) × ((repeated : Bool) → goes o Here (answer s (asks o Here)) repeated ≡ End (Err NoSuchBucket))
-  none_goes e s h =
-      let objects : objects_at z B ≡ None = ap objects_of e in
-      let a : answer s (asks o Here) ≡ Refused Rattle.s3_types.specs.declared.reply.Refusal.TheVariants.NoSuchBucket = ap (λ s. answer s (asks o Here)) h ∙ answered z B (look_asks o.path.key) ∙ ap (λ v. reply_at v (look_asks o.path.key)) objects in
-      let g : (repeated : Bool) → goes o Here (answer s (asks o Here)) repeated ≡ End (Err NoSuchBucket) = λ repeated. ap (λ r. goes o Here r repeated) a in
-      let t = ap (λ s. apply s (asks o Here)) h ∙ applied_none z B (look_asks o.path.key) objects in
-      (subst (λ y. OnAt None y (apply s (asks o Here))) (sym (g false)) (λ l. ((t, refl), t)), g)
+  none_goes h s g = grind arith
 
   -- ---- a bucket that held c
 
@@ -119,9 +111,7 @@ module _ (o : Creation) (z : Scene) (ok : IsCreation o) where
     write_goes (x ∷ p) e d = (d, room_of (x ∷ p), sym e, refl, λ l. files.begins z B o.bytes (x ∷ p) o.block c there l (room_of (x ∷ p)))
 
     on_goes : (d : Climbed) → IsOpen o Z → IsClimbed Z (keys_above o.path.key) d → At (on_climb o d) z
-    on_goes (File k) h p = refuses (NotDirectory k) (h, p, refl)
-    on_goes (Goes_on d) h p = (refl, h, p)
-    on_goes Free h p = write_goes o.path.key refl (record { allowed = h; free = p })
+    on_goes d h g = grind (arith, refuses, write_goes)
 
     climb_goes : IsOpen o Z → At (climb o) z
     climb_goes h = on_goes (climbing (keys_above o.path.key)) h (all_on Z (keys_above o.path.key))
@@ -142,14 +132,7 @@ module _ (o : Creation) (z : Scene) (ok : IsCreation o) where
 
     -- what is read of the bucket in the scene z
     read_goes : (x : CreateStage) (a : Ask) → asks o x ≡ request_of B a → only_reads (request_of B a) ≡ true → (repeated : Bool) → At (on o x (reply_in Z a) repeated) z → (s : Scene) → s ≡ z → At (goes o x (answer s (asks o x)) repeated) (apply s (asks o x))
-    read_goes x a e reads repeated h s f =
-        let r : answer s (asks o x) ≡ reply_in Z a = ap (λ s. answer s (asks o x)) f ∙ ap (answer z) e ∙ answered z B a ∙ ap (λ v. reply_at v a) here_is in
-        let t : apply s (asks o x) ≡ z = ap (λ s. apply s (asks o x)) f ∙ ap (apply z) e ∙ reads_nothing z (request_of B a) reads in
-        let g : goes o x (answer s (asks o x)) repeated ≡ on o x (reply_in Z a) repeated = ap (λ r. goes o x r repeated) r ∙ not_missing (End (Err NoSuchBucket)) (on o x (reply_in Z a) repeated) Z a in
-        subst (λ s. At (goes o x (answer s_ (asks o x)) repeated) s) (sym t) (subst (λ y. At y z) (sym g) h)
-      where
-        s_ : Scene
-        s_ = s
+    read_goes x a h g repeated e s f = grind (arith, answered, here_is, reads_nothing, not_missing)
 
     -- ---- the markers
 
@@ -212,15 +195,7 @@ module _ (o : Creation) (z : Scene) (ok : IsCreation o) where
     }
 
     drop_look : (s : Scene) → IsBeside z B c (IsMade o Z) s → look_of (answer s drops) ≡ NoBucket → ⊥
-    drop_look s h e = no_other (sym a ∙ e)
-      where
-        no_other : Other ≡ NoBucket → ⊥
-        no_other e = cc
-
-        a : look_of (answer s drops) ≡ Other
-        a = ap (λ s. look_of (answer s drops)) h.scene
-            ∙ ap (λ v. look_of (answer_at v h.next z.content.minimum drops)) (get_put z.content.buckets B h.content)
-            ∙ ap (λ b. look_of (cond b (Refused TooManyKeys) Deleted)) few
+    drop_look s h g = grind (arith, get_put, few)
 
     drop_goes : (s : Scene) (repeated : Bool) → IsDue o Z → (least o z → IsBeside z B c (IsMade o Z) s) → At (goes o DropMarkers (answer s drops) repeated) (apply s drops)
     drop_goes s repeated d f =
@@ -245,8 +220,7 @@ module _ (o : Creation) (z : Scene) (ok : IsCreation o) where
     }
 
     written_so : (w : Writing) (m : Objects) → IsDue o Z → w.key ≡ o.path.key → IsFileOrNot Z w.key o.bytes m → always_in o Z m
-    written_so w m d e (inl f) = inl f
-    written_so w m d e (inr f) = inr (d, inl (f ∙ ap (λ k. fin.insert Z k (object_of o.bytes)) e))
+    written_so w m h g e = grind arith
 
     leads : (x : CreateStage) (s : Scene) (repeated : Bool) → HoldsIn o z c x s repeated → IsLed (Some c) x s repeated
     leads Here s repeated h = looks Here (look_asks o.path.key) refl (reads_look B o.path.key) repeated (λ s g. g) (look_goes o.path.key refl) s h
@@ -275,9 +249,7 @@ module _ (o : Creation) (z : Scene) (ok : IsCreation o) where
     here_own y s e = subst (OwnStep o z y) (sym e) (own_z o z y)
 
     written_own : (w : Writing) (v : Heard) (s : Scene) → HeardSo z B w.key o.bytes c v s → OwnHeard z B v s → OwnStep o z (written o v) s
-    written_own w Done s h g = elim Ks as (λ ks. OwnStep o z (drop_from ks) s) [ [] ↦ g | k ∷ ks ↦ λ id l e ne. g id l e ]
-    written_own w (On v) s h g = g
-    written_own w Refusing s h g = absurd h
+    written_own w v s h g = grind arith
 
     stream_own : (w : Writing) (s : Scene) → Writes z B o.bytes c w s false → NoneBut w.upload z B s → OwnStep o z (goes o (Write w) (answer s (writing.asks B w)) false) (apply s (writing.asks B w))
     stream_own w s h g =
@@ -322,25 +294,16 @@ module _ (o : Creation) (z : Scene) (ok : IsCreation o) where
   all_led (Some c) e x s repeated h = leads c e x s repeated h
 
   all_own : (v : Option BucketContent) → fin.get z.content.buckets B ≡ v → (x : CreateStage) (s : Scene) → HoldsAt v o z x s false → least o z → NoneBut (upload_of x) z B s → OwnStep o z (goes o x (answer s (asks o x)) false) (apply s (asks o x))
-  all_own None e x s h l g =
-      subst (λ x. OwnStep o z (goes o x (answer s (asks o x)) false) (apply s (asks o x))) (sym h.1)
-      (subst (OwnStep o z (goes o Here (answer s (asks o Here)) false)) (sym (none_hides e s h.0)) (own_z o z (goes o Here (answer s (asks o Here)) false)))
-  all_own (Some c) e x s h l g = owns c e x s h l g
+  all_own v h x s g e f = grind (arith, none_hides, own_z, owns)
 
   began : (v : Option BucketContent) → HoldsAt v o z Here z false
-  began None = (refl, refl)
-  began (Some c) = refl
+  began v = grind arith
 
   goes_so : (y : CreateStep) (s : Scene) → OnAt (bucket_at z B) y s → (n : CreateFile) → n.file ≡ o → Goes (λ p s. holds n z p s false) (gives n z) (stepped o y) s
-  goes_so (Next x) s h n e = (sym e, subst IsCreation (sym e) ok, subst (λ o. HoldsAt (bucket_at z o.path.bucket) o z x s false) (sym e) h)
-  goes_so (End a) s h n e = subst (λ o. GivesFile o z a s) (sym e) h
+  goes_so y s h n g = grind arith
 
 answered_in : (o : Creation) (z : Objects) (a : Answer) (m : Objects) → Creates o.path o.bytes o.overwrite o.policy z a m → always_in o z m
-answered_in o z (Ok x) m h = inr (record { allowed = h.0; free = h.1 }, inr h.3)
-answered_in o z (Err AlreadyExists) m h = inl h.2
-answered_in o z (Err IsDirectory) m h = inl h.1
-answered_in o z (Err (NotDirectory a)) m h = inl h.2
-answered_in o z (Err r) m h = absurd h
+answered_in o z a m h = grind arith
 
 -- what is given at the end was so before
 ends_always : (o : Creation) (z : Scene) (a : Answer) (s : Scene) → GivesFile o z a s → AlwaysFile o z s
@@ -357,21 +320,16 @@ FallsTo o (Next x) n = left_at o x < n
 FallsTo o (End a) n = Unit {0}
 
 fall_climb : (o : Creation) (c : Climbed) (m n : ℕ) → IsShorter c m → m + write_left o ≤ n → FallsTo o (on_climb o c) n
-fall_climb o (File k) m n s h = tt
-fall_climb o (Goes_on c) m n s h = omega (arith, s, h)
-fall_climb o Free m n s h = elim o.path.key as (λ k. FallsTo o (write_at k o) n) [ [] ↦ tt | x ∷ p ↦ omega (arith, h) ]
+fall_climb o c m n h g = grind arith
 
 fall_all : (o : Creation) (n : ℕ) → length (keys_above o.path.key) + write_left o ≤ n → FallsTo o (climb o) n
 fall_all o n h = fall_climb o (climbing (keys_above o.path.key)) (length (keys_above o.path.key)) n (climbing_falls (keys_above o.path.key)) h
 
 fall_here : (o : Creation) (l : Look) → FallsTo o (here_at o l) (left_at o Here)
-fall_here o There = elim o.overwrite as (λ w. FallsTo o (replace w o) (left_at o Here)) [ true ↦ fall_all o (left_at o Here) (omega arith) | false ↦ tt ]
-fall_here o _ = omega arith
+fall_here o l = grind arith
 
 fall_heard : (o : Creation) (w : Writing) (h : Heard) → GoesOn o.path.bucket w h → FallsTo o (written o h) (left_at o (Write w))
-fall_heard o w Done h = elim (created o.policy o.path) as (λ ks. FallsTo o (drop_from ks) (left_at o (Write w))) [ [] ↦ tt | k ∷ ks ↦ (omega arith) ]
-fall_heard o w (On v) h = omega (arith, h.0)
-fall_heard o w Refusing h = tt
+fall_heard o w h g = grind arith
 
 -- a stage's writing has room
 abbrev HasBlock : Creation → CreateStage → Type 0
@@ -389,13 +347,10 @@ falls_to : (o : Creation) (x : CreateStage) (r : Reply) (repeated : Bool) → Ha
 falls_to o x r repeated h = unless_so (look_of r) (End (Err NoSuchBucket)) (on o x r repeated) (λ y. FallsTo o y (left_at o x)) (λ e. tt) (falls_on o x r repeated h)
 
 stepped_falls : (o : Creation) (y : CreateStep) (s : Scene) (n : ℕ) → FallsTo o y n → Falls left (stepped o y) s n
-stepped_falls o (Next x) s n h = h
-stepped_falls o (End a) s n h = tt
+stepped_falls o y s n h = grind arith
 
 has_block : (v : Option BucketContent) (o : Creation) (z : Scene) (x : CreateStage) (s : Scene) (repeated : Bool) → HoldsAt v o z x s repeated → HasBlock o x
-has_block None o z x s repeated h = subst (HasBlock o) (sym h.1) tt
-has_block (Some c) o z (Write w) s repeated h = h.1
-has_block (Some c) o z _ s repeated h = tt
+has_block v o z x s repeated h = grind arith
 
 -- ---- the laws
 
@@ -417,10 +372,7 @@ course_hidden o z p s repeated h = (
 )
 
 course_falls : (o : CreateFile) (z : Scene) (p : CreateFile) (s : Scene) (repeated : Bool) → holds o z p s repeated → Falls left (led p (answer s (request p)) repeated) (apply s (request p)) (left p s)
-course_falls o z p s repeated h =
-    stepped_falls p.file (goes p.file p.stage (answer s (request p)) repeated) (apply s (request p)) (left p s)
-    (falls_to p.file p.stage (answer s (request p)) repeated
-    (subst (λ n. HasBlock n p.stage) (sym h.0) (has_block (bucket_at z o.file.path.bucket) o.file z p.stage s repeated h.2)))
+course_falls o z p s repeated h = grind (arith, stepped_falls, falls_to, has_block)
 
 begins_so : (p : CreateFile) (s : Scene) → starts p → holds p s p s false
 begins_so p s h = (refl, h.0, subst (λ x. HoldsAt (bucket_at s p.file.path.bucket) p.file s x s false) (sym h.1) (began p.file s h.0 (bucket_at s p.file.path.bucket)))
@@ -444,12 +396,10 @@ NextOwn o z (Next p) s = least o.file z → NoneBut (upload_of p.stage) z o.file
 NextOwn o z (End a) s = least o.file z → NoneLeft z o.file.path.bucket s
 
 both_so : (o : CreateFile) (z : Scene) (y : Step CreateFile Answer) (s : Scene) → Goes (λ p s. holds o z p s false) (gives o z) y s → NextOwn o z y s → Goes (calm o z) (leaves o z) y s
-both_so o z (Next p) s h g = (h, g)
-both_so o z (End a) s h g = (h, g)
+both_so o z y s h g = grind arith
 
 own_so : (o : CreateFile) (z : Scene) (f : Creation) (y : CreateStep) (s : Scene) → (least o.file z → OwnStep o.file z y s) → NextOwn o z (stepped f y) s
-own_so o z f (Next x) s g = g
-own_so o z f (End a) s g = g
+own_so o z f y s h = grind arith
 
 calm_goes : (o : CreateFile) (z : Scene) (p : CreateFile) (s : Scene) → calm o z p s → Goes (calm o z) (leaves o z) (led p (answer s (request p)) false) (apply s (request p))
 calm_goes o z p s h =

@@ -13,8 +13,7 @@ dropped block from bytes =
     sym (drop_min block (drop from bytes)) ∙ ap (λ n. drop (min block n) (drop from bytes)) (length-drop from bytes) ∙ drop-drop (min block (length bytes - from)) from bytes
 
 not_none : (u v : Option ℕ) → v ≡ u → IsSome u → v ≡ None → ⊥
-not_none None v e h f = false≢true h
-not_none (Some id) v e h f = absurd (cc)
+not_none u v h g e = grind arith
 
 within : (block from n : ℕ) → from ≤ n → from + min block (n - from) ≤ n
 within block from n h = omega arith

@@ -33,19 +33,7 @@ Known w Completing = w.upload ≡ Some (id_in w)
 Known w _ = ⊥
 
 known : (w : Writing) → Known w (stage_in w)
-known w = by w.upload refl
-  where
-    first : (c : Bool) → is_short w ≡ c → w.upload ≡ None → Known w (first_stage c)
-    first true e u = (u, e)
-    first false e u = u
-
-    later : (c : Bool) → is_due w ≡ c → w.upload ≡ Some (id_in w) → Known w (later_stage c)
-    later true e u = (u, e)
-    later false e u = u
-
-    by : (u : Option ℕ) → w.upload ≡ u → Known w (stage_by u w)
-    by None e = first (is_short w) refl e
-    by (Some id) e = later (is_due w) refl (e ∙ ap Some (sym (ap (λ u. unwrap_or u 0) e)))
+known w = grind arith
 
 -- ---- the stages are the stream's
 
@@ -58,41 +46,21 @@ is_less a b h = grind (arith, nat_tests)
 at_most : (a b : ℕ) → nat_le a b ≡ true → a ≤ b
 at_most a b h = grind (arith, nat_tests)
 
-has_long : {X : Type 0} (xs : List X) → 0 < length xs → has_some xs ≡ true
-has_long [] h = absurd (omega (arith, h))
-has_long (x ∷ xs) h = refl
-
 module _ (b : List ℕ) (w : Writing) (some : 1 ≤ w.block) where
   abbrev M : Stream
   M = stream_of b w
 
   pub part_due : has_part M ≡ is_due w
-  part_due = by (nat_le w.block (length w.pending)) refl
-    where
-      by : (c : Bool) → nat_le w.block (length w.pending) ≡ c → (c || is_due w) ≡ is_due w
-      by true e =
-          let long : 0 < length w.pending = let l = at_most w.block (length w.pending) e in omega (arith, l, some) in
-          sym (ap (λ h. h || not (has_some w.tags)) (has_long w.pending long))
-      by false e = refl
+  part_due = grind arith
 
   begin_stage : cond (is_short w) Putting (begin_or_wait (has_part M)) ≡ first_stage (is_short w)
-  begin_stage = by (is_short w) refl
-    where
-      by : (c : Bool) → is_short w ≡ c → cond c Putting (begin_or_wait (has_part M)) ≡ first_stage c
-      by true e = refl
-      by false e = ap (λ c. begin_or_wait (c || is_due w)) (not_less (length w.pending) w.block e)
+  begin_stage = grind arith
 
   pub stage_is : stage M ≡ stage_in w
-  stage_is = elim w.upload as (λ u. stage_of None u M ≡ stage_by u w) [
-    | None ↦ begin_stage
-    | Some id ↦ ap (λ c. cond c Sending Completing) part_due ∙ (elim (is_due w) as (λ c. cond c Sending Completing ≡ later_stage c) [ true ↦ refl | false ↦ refl ])
-  ]
+  stage_is = grind (arith, begin_stage, part_due)
 
   asked : (g : Stage) → Known w g → streams.asks g M ≡ Some (asks_at g b w)
-  asked Putting k = ap (λ x. Some (PutObject b w.key x None)) (take_all w.block w.pending (is_less (length w.pending) w.block k.1))
-  asked Waiting k = absurd k
-  asked Over k = absurd k
-  asked _ k = refl
+  asked g h = grind (arith, take_all, is_less)
 
   -- it asks what the stream asks
   pub wanted_is : wanted M ≡ Some (asks b w)
@@ -105,11 +73,7 @@ placed_same z b c h = ap (λ (m : Buckets). record { content = record { buckets 
 
 pub placed_by : (z : Scene) (b : List ℕ) (d : BucketContent) (n : ℕ) (r : Request) → bucket_of r ≡ b
     → record { content = apply_at (fin.get (placed z b d n).content.buckets (bucket_of r)) (placed z b d n).content r; files = z.files } ≡ placed z b (apply_in d n z.content.minimum r) (cond (draws r) (n + 1) n)
-placed_by z b d n r h =
-    ap (λ k. record { content = apply_at (fin.get (placed z b d n).content.buckets k) (placed z b d n).content r; files = z.files }) h
-    ∙ ap (λ o. record { content = apply_at o (placed z b d n).content r; files = z.files }) (get_put z.content.buckets b d)
-    ∙ ap (λ k. record { content = record { buckets = fin.insert (fin.insert z.content.buckets b d) k (apply_in d n z.content.minimum r); next = cond (draws r) (n + 1) n; minimum = z.content.minimum }; files = z.files }) h
-    ∙ ap (λ (m : Buckets). record { content = record { buckets = m; next = cond (draws r) (n + 1) n; minimum = z.content.minimum }; files = z.files }) (put_put z.content.buckets b d (apply_in d n z.content.minimum r))
+placed_by z b d n r h = grind (arith, get_put, put_put)
 
 applied_at : (g : Stage) (w : Writing) (z : Scene) (b : List ℕ) (d : BucketContent) (n : ℕ)
     → apply (placed z b d n) (asks_at g b w) ≡ placed z b (apply_in d n z.content.minimum (asks_at g b w)) (cond (draws (asks_at g b w)) (n + 1) n)
@@ -141,11 +105,7 @@ begins z b bytes key block c h least room = record {
 -- a bucket's uploads after a request of the stream
 
 part_kept : (m : Uploads) (i j : ℕ) (o : Option Upload) (n : ℕ) (bytes : List ℕ) → (j ≡ i → ⊥) → fin.get (part_put m i o n bytes) j ≡ fin.get m j
-part_kept m i j None n bytes h = refl
-part_kept m i j (Some u) n bytes h = elim (is_part_number n) as (λ c. fin.get (cond c (fin.insert m i (with_part u n bytes)) m) j ≡ fin.get m j) [
-  | true ↦ nat_other m i j (with_part u n bytes) h
-  | false ↦ refl
-]
+part_kept m i j o n bytes h = grind (arith, nat_other)
 
 ended_kept : (d : BucketContent) (key : List ℕ) (i j : ℕ) (r : Result (List ℕ) Refusal) → (j ≡ i → ⊥) → fin.get (completed d key i r).uploads j ≡ fin.get d.uploads j
 ended_kept d key i j (Ok bytes) h = nat_left d.uploads i j h
@@ -156,22 +116,7 @@ apart i j n h l e = omega (arith, h, l, e)
 
 module _ (z : Scene) (b bytes : List ℕ) (c : BucketContent) (w : Writing) (drawn : (id : ℕ) → w.upload ≡ Some id → z.content.next ≤ id) (d : BucketContent) (n : ℕ) (later : IsLater z c d n) where
   later_after : (g : Stage) → Known w g → IsLater z c (apply_in d n z.content.minimum (asks_at g b w)) (cond (draws (asks_at g b w)) (n + 1) n)
-  later_after Putting k = record { drawn = later.drawn; uploads = later.uploads }
-  later_after Beginning k = record {
-    drawn = let l = later.drawn in omega (arith, l);
-    uploads = λ j l. nat_other d.uploads n j (record { key = w.key; parts = fin.empty }) (apart n j z.content.next later.drawn l) ∙ later.uploads j l;
-  }
-  later_after Sending k = record {
-    drawn = later.drawn;
-    uploads = λ j l. part_kept d.uploads (id_in w) j (live d.uploads w.key (id_in w)) (length w.tags + 1) (take w.block w.pending)
-        (apart (id_in w) j z.content.next (drawn (id_in w) k.0) l) ∙ later.uploads j l;
-  }
-  later_after Completing k = record {
-    drawn = later.drawn;
-    uploads = λ j l. ended_kept d w.key (id_in w) j (joined (live d.uploads w.key (id_in w)) (named_from 1 w.tags) z.content.minimum)
-        (apart (id_in w) j z.content.next (drawn (id_in w) k) l) ∙ later.uploads j l;
-  }
-  later_after _ k = absurd k
+  later_after g h = grind (arith, nat_other, apart, part_kept, ended_kept)
 
 -- ---- a request of the stream
 
@@ -198,13 +143,7 @@ HeardSo z b key bytes c Refusing s = ⊥
 
 -- the bucket is there
 not_gone : (g : Stage) (a : Reply) → answers g a ≡ true → look_of a ≡ NoBucket → ⊥
-not_gone Putting (Stored t) f e = absurd (cc)
-not_gone Beginning (Drawn id) f e = absurd (cc)
-not_gone Sending (Part t) f e = absurd (cc)
-not_gone Sending (Refused NoSuchUpload) f e = absurd (cc)
-not_gone Completing (Completed t) f e = absurd (cc)
-not_gone Completing (Refused NoSuchUpload) f e = absurd (cc)
-not_gone _ _ f e = absurd (cc)
+not_gone g a h e = grind arith
 
 module _ (z : Scene) (b bytes : List ℕ) (c : BucketContent) (w : Writing) (s : Scene) (repeated : Bool) (h : Writes z b bytes c w s repeated) where
   abbrev S : Stream
@@ -348,10 +287,7 @@ module _ (z : Scene) (b bytes : List ℕ) (c : BucketContent) (w : Writing) (s :
   there id = ap (λ (s : Scene). upload_at s.content b id) h.beside.scene ∙ ap (λ o. upload_in o id) (get_put z.content.buckets b dd)
 
   since : (g : Stage) (id : ℕ) → upload_at (apply s (asks_at g b w)).content b id ≡ fin.get (apply_in dd nn z.content.minimum (asks_at g b w)).uploads id
-  since g id =
-      ap (λ (s : Scene). upload_at (apply s (asks_at g b w)).content b id) h.beside.scene
-      ∙ ap (λ (s : Scene). upload_at s.content b id) (applied_at g w z b dd nn)
-      ∙ ap (λ o. upload_in o id) (get_put z.content.buckets b (apply_in dd nn z.content.minimum (asks_at g b w)))
+  since g id = grind (arith, applied_at, get_put)
 
   -- an id that is not its own
   other : (id : ℕ) → z.content.next ≤ id → upload_at z.content b id ≡ None → (w.upload ≡ Some id → ⊥) → fin.get dd.uploads id ≡ None

@@ -36,26 +36,16 @@ module _ {A : Type 0} {ask : List ℕ → Ask} {file : Reply → Option A} {dire
       below_key (λ l. Goes (holds (x ∷ p) z) (gives (x ∷ p) z) (on_below directory l) z) x (marker_of p) z (λ s. k.found (x ∷ p) z (h.1, s)) (λ n. k.missing (x ∷ p) z (h.1, n))
 
   falls_here : (o : List ℕ) (r : Reply) (m : Objects) → Falls (left o) (on_here directory (file r) o) m 1
-  falls_here [] r m = tt
-  falls_here (x ∷ p) r m = elim (file r) as (λ n. Falls (left (x ∷ p)) (told n) m 1) [ Some n ↦ tt | None ↦ omega arith ]
+  falls_here o r m = grind arith
 
   falls : (o : List ℕ) (x : PathStage) (r : Reply) (m n : Objects) → Falls (left o) (on directory file o x r) m (left o x n)
-  falls o Here r m n = falls_here o r m
-  falls o Below r m n = elim (look_of r) as (λ l. Falls (left o) (on_below directory l) m 0) [ There ↦ tt | _ ↦ tt ]
+  falls o x r m n = grind arith
 
   same : (o : List ℕ) (z : Objects) (x : PathStage) (m : Objects) → holds o z x m → m ≡ z
-  same o z Here m h = h
-  same o z Below m h = h.0
+  same o z x m h = grind arith
 
   stages : IsStages {O = List ℕ} first (asks ask) (on directory file) holds gives IsStill left
-  stages = record {
-    begin = λ o z. refl;
-    goes_on = λ o z x m h. subst (Stepped o z x) (sym (same o z x m h)) (step o z x (subst (holds o z x) (same o z x m h) h));
-    falls = λ o z x m h. falls o x (reply_in m (asks ask o x)) (edited (asks ask o x) m) m;
-    stays = λ o z x m h. elim x as (λ x. left o x (edited (asks ask o x) m) ≡ left o x m) [ Here ↦ refl | Below ↦ refl ];
-    during = λ o z x m h. same o z x m h;
-    at_end = λ o z a m h. k.at_end o z a m h;
-  }
+  stages = grind (arith, same, step, falls)
 
   pub question_laws : IsPhases {O = List ℕ} first (asks ask) (goes_by (on directory file)) holds gives IsStill left (Err NoSuchBucket)
   question_laws = phases_of (Err NoSuchBucket) stages
@@ -63,22 +53,17 @@ module _ {A : Type 0} {ask : List ℕ → Ask} {file : Reply → Option A} {dire
 -- ---- it only looks
 
 pub looks_there : (p : List ℕ) → is_look (look_asks p) ≡ true
-looks_there [] = refl
-looks_there (x ∷ p) = refl
+looks_there p = grind arith
 
 -- and a look changes nothing
 pub look_still : (a : Ask) (m : Objects) → is_look a ≡ true → edited a m ≡ m
-look_still (Head k) m h = refl
-look_still (Get k) m h = refl
-look_still (Page p d q n) m h = refl
-look_still _ m h = absurd (false≢true h)
+look_still a m h = grind arith
 
 pub still_look : (p : List ℕ) (m : Objects) → edited (look_asks p) m ≡ m
 still_look p m = look_still (look_asks p) m (looks_there p)
 
 pub gets_there : (p : List ℕ) → is_look (get_asks p) ≡ true
-gets_there [] = refl
-gets_there (x ∷ p) = refl
+gets_there p = grind arith
 
 pub question_asked : (ask : List ℕ → Ask) → ((p : List ℕ) → is_look (ask p) ≡ true) → MayAsk {O = List ℕ} (asks ask) holds OnlyLooks
 question_asked ask f o z Here m h = f o

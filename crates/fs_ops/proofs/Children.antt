@@ -1,6 +1,6 @@
 -- What a delimited listing has of a directory's children. Contracts cite none of these laws.
 use Rattle.std.specs.Prelude.{◌≡◌, ◌⊎◌, ℕ, ◌==◌, ◌&&◌, not, Bool, true, false, cond, List, [], ◌∷◌, ◌++◌, map, length, Option, Some, None}
-use Rattle.std.proofs.Common.{refl, sym, ap, subst, ◌∙◌, inl, inr, append_assoc}
+use Rattle.std.proofs.Common.{refl, sym, ap, subst, ◌∙◌, inl, inr, append_assoc, arith}
 use Rattle.path_keys.proofs.Common.{false≢true, eqb-true, append_cancel_left, append_cancel_right, not_so, lt, tied, map_sorted, some_is, none_some, nat_true, text_exact, in_map, map_in, in_filter, filter_in}
 use Rattle.store_frame.specs.Prelude.{option_map, before_slash, stem, entry_by}
 use Rattle.fs_ops.specs.Prelude.{filter, list_all, is_lt, text_cmp, is_other, Objects, begins, entry_of, listed, text_in, folded_from, is_again, Object, PageEntry, Prefix, IsIn, RisesFrom, Status, Directory, File, DirEntry, SomeBelow, NoneBelow}
@@ -104,8 +104,7 @@ folded_sub last [] x i = absurd i
 folded_sub last (y ∷ ys) x i = by (is_again last y) refl (folded_sub last ys x) (folded_sub (Some (text_in y)) ys x)
   where
     by : (b : Bool) → is_again last y ≡ b → (IsIn x (folded_from last ys) → IsIn x ys) → (IsIn x (folded_from (Some (text_in y)) ys) → IsIn x ys) → IsIn x (y ∷ ys)
-    by true e old new = inr (old (subst (λ b. IsIn x (cond b (folded_from last ys) (y ∷ folded_from (Some (text_in y)) ys))) e i))
-    by false e old new = elim (subst (λ b. IsIn x (cond b (folded_from last ys) (y ∷ folded_from (Some (text_in y)) ys))) e i) [ inl e ↦ inl e | inr j ↦ inr (new j) ]
+    by b h g e = grind arith
 
 -- an entry is listed, or another of its text is
 abbrev HasText : List ℕ → List PageEntry → Type 0
@@ -120,8 +119,7 @@ folded_all last [] x i = absurd i
 folded_all last (y ∷ ys) x i = by (is_again last y) refl i (folded_all last ys x) (folded_all (Some (text_in y)) ys x)
   where
     later : HasText (text_in x) (folded_from (Some (text_in y)) ys) ⊎ (Some (text_in y) ≡ Some (text_in x)) → HasText (text_in x) (y ∷ folded_from (Some (text_in y)) ys) ⊎ (last ≡ Some (text_in x))
-    later (inl h) = inl (h.0, inr h.1, h.2)
-    later (inr e) = inl (y, inl refl, some_is e)
+    later h = grind arith
 
     by : (b : Bool) → is_again last y ≡ b → (x ≡ y) ⊎ IsIn x ys → (IsIn x ys → HasText (text_in x) (folded_from last ys) ⊎ (last ≡ Some (text_in x))) → (IsIn x ys → HasText (text_in x) (folded_from (Some (text_in y)) ys) ⊎ (Some (text_in y) ≡ Some (text_in x)))
         → HasText (text_in x) (cond (is_again last y) (folded_from last ys) (y ∷ folded_from (Some (text_in y)) ys)) ⊎ (last ≡ Some (text_in x))
@@ -196,11 +194,7 @@ module _ (q : List ℕ) (z : Objects) where
     where
       by : (b c : Bool) → lt text_cmp last (walked_text q true e.0) ≡ c → RisesFrom last (map text_in (walked q true last es)) → RisesFrom (walked_text q true e.0) (map text_in (walked q true (walked_text q true e.0) es))
           → RisesFrom last (map text_in (cond (b && c) (entry_of q true e ∷ walked q true (walked_text q true e.0) es) (walked q true last es)))
-      by true true l old new =
-          let s = (elim (stem q e.0) as (λ s. Rattle.store_frame.specs.Walk.text_by s e.0 ≡ text_in (entry_by s e.0 (length e.1.bytes))) [ None ↦ refl | Some s ↦ refl ]) in
-          (ap (lt text_cmp last) (sym s) ∙ l, subst (λ t. RisesFrom t (map text_in (walked q true (walked_text q true e.0) es))) s new)
-      by true false l old new = old
-      by false c l old new = old
+      by b c h g e = grind arith
 
   pub listed_rises : (mark : List ℕ) → RisesFrom mark (map text_in (listed q true mark z))
   listed_rises mark = subst (λ xs. RisesFrom mark (map text_in xs)) (walked_listed q true mark z) (rises_walked mark (fin.entries z))
@@ -226,9 +220,7 @@ module _ (q : List ℕ) (z : Objects) where
 
   module _ (ds : List DirEntry) (entries : all ≡ map (entry_from q) ds) (are : (d : DirEntry) → IsIn d ds → IsChild q z d) where
     entry_in : (t : List ℕ) → HasText t all → (d : DirEntry) × IsIn d ds × (q ++ text_by d.name d.status ≡ t)
-    entry_in t h =
-        let m = in_map (entry_from q) h.0 ds (subst (IsIn h.0) entries h.1) in
-        (m.0, m.1, sym (text_at q m.0.name m.0.status) ∙ ap text_in (sym m.2) ∙ h.2)
+    entry_in t h = grind (arith, in_map, text_at)
 
     file_is : (n : List ℕ) (o : Object) (d : DirEntry) → fin.get z (q ++ n) ≡ Some o → NoSlash n → IsIn d ds → q ++ text_by d.name d.status ≡ q ++ n → IsIn (child_at n (File (length o.bytes))) ds
     file_is n o d g s i e = by d.status refl (append_cancel_left q (text_by d.name d.status) n e) (are d i).stands
@@ -265,9 +257,7 @@ pub none_listed : (x : ℕ) (q : List ℕ) (z : Objects) → listed (x ∷ q) tr
 none_listed x q z e k b = by (fin.get z k) refl
   where
     text_some : (s : Option (List ℕ)) (k : List ℕ) (n : ℕ) → begins (x ∷ q) k ≡ true → lt text_cmp [] (text_in (entry_by s k n)) ≡ true
-    text_some None [] n b = absurd (false≢true b)
-    text_some None (y ∷ k) n b = refl
-    text_some (Some s) k n b = some_behind s []
+    text_some s k n h = grind (arith, some_behind)
 
     by : (o : Option Object) → fin.get z k ≡ o → fin.get z k ≡ None
     by None g = g

@@ -18,13 +18,10 @@ module _ (z : Objects) (all : List (List ℕ)) where
   IsClimbed Free = NoFiles z all
 
   begun : (ks : List (List ℕ)) → Passed z all ks → IsClimbed (climbing ks)
-  begun [] p = p.free tt
-  begun (k ∷ ks) p = p
+  begun ks h = grind arith
 
   pub seen_on : (c : Climb) (l : Look) → IsClimb z all c → IsSeen l (Stands z c.first) (fin.get z c.first ≡ None) → IsClimbed (climbed c l)
-  seen_on c There p h = p.file c.first (inl (refl, h))
-  seen_on c Nothing p h = begun c.rest (record { file = λ a g. p.file a (inr (h, g)); free = λ g. p.free (h, g) })
-  seen_on c _ p h = absurd h
+  seen_on c l h g = grind arith
 
   pub all_on : IsClimbed (climbing all)
   all_on = begun all (record { file = λ a g. g; free = λ g. g })
@@ -35,9 +32,7 @@ IsShorter (On c) n = length c.rest < n
 IsShorter _ n = Unit {0}
 
 pub climbing_falls : (ks : List (List ℕ)) → IsShorter (climbing ks) (length ks)
-climbing_falls [] = tt
-climbing_falls (k ∷ ks) = omega arith
+climbing_falls ks = grind arith
 
 pub climbed_falls : (c : Climb) (l : Look) → IsShorter (climbed c l) (length c.rest)
-climbed_falls c There = tt
-climbed_falls c _ = climbing_falls c.rest
+climbed_falls c l = grind arith

@@ -25,14 +25,7 @@ use Rattle.fs_ops.specs.code.Delete.{first, asks, up_to, up, here as here_at, on
 
 -- without all keys below a prefix none is left there, and the others are as they were
 without_below : (x : ℕ) (q : List ℕ) (z : Objects) → IsWithoutBelow (x ∷ q) z (without z (keys_below (x ∷ q) z))
-without_below x q z = record {
-  gone = λ k b. by k b (fin.get z k) refl;
-  others = λ k b. kept_out z (keys_below (x ∷ q) z) k (λ i. false≢true (sym b ∙ (below_stands (x ∷ q) z k i).0));
-}
-  where
-    by : (k : List ℕ) → begins (x ∷ q) k ≡ true → (o : Option Object) → fin.get z k ≡ o → fin.get (without z (keys_below (x ∷ q) z)) k ≡ None
-    by k b None e = gone_still z (keys_below (x ∷ q) z) k e
-    by k b (Some v) e = gone_in z (keys_below (x ∷ q) z) k (stands_below x q z k v b e)
+without_below x q z = grind (arith, kept_out, below_stands, gone_still, gone_in, stands_below)
 
 -- ---- what the first two entries below a directory tell
 
@@ -106,24 +99,11 @@ module _ (recursive : Bool) (z : Objects) where
       by None e = (m, h, subst (λ u. IsMarked u m m) (sym e) refl)
       by (Some k) e = (e, h)
 
-  below_children : (b : Bool) → recursive ≡ b → (x : ℕ) (p : List ℕ) → fin.get z (x ∷ p) ≡ None → HasChildren z (x ∷ p) → On (x ∷ p) (children b) z
-  below_children true e x p f h = (f, (h.0, h.1, h.3, h.4), e, sweep_begins (marker_of (x ∷ p)) z)
-  below_children false e x p f h = (e, f, h, refl)
-
   below : (x : ℕ) (p : List ℕ) (i : Inside) → fin.get z (x ∷ p) ≡ None → Tells z (x ∷ p) i → On (x ∷ p) (on_inside recursive i) z
-  below x p Empty f h = ((f, h), refl)
-  below x p MarkerAlone f h = (f, h, refl)
-  below x p Children f h = below_children recursive refl x p f h
+  below x p i h g = grind arith
 
   drop_marker : (x : ℕ) (p : List ℕ) → fin.get z (x ∷ p) ≡ None → IsEmpty z (x ∷ p) → Removed (D (x ∷ p)) z (fin.remove z (marker_of (x ∷ p)))
-  drop_marker x p f h =
-      inr (f, (marker_of (x ∷ p), begins_all (marker_of (x ∷ p)), h.0.0, h.0.1), λ _. h, record { gone = gone; others = others })
-    where
-      gone : (k : List ℕ) → begins (marker_of (x ∷ p)) k ≡ true → fin.get (fin.remove z (marker_of (x ∷ p))) k ≡ None
-      gone k b = elim (same_or_other k (marker_of (x ∷ p))) [ inl e ↦ text_gone z (marker_of (x ∷ p)) k e | inr n ↦ text_left z (marker_of (x ∷ p)) k n ∙ h.1 k b n ]
-
-      others : (k : List ℕ) → begins (marker_of (x ∷ p)) k ≡ false → fin.get (fin.remove z (marker_of (x ∷ p))) k ≡ fin.get z k
-      others k b = text_left z (marker_of (x ∷ p)) k (λ e. false≢true (sym b ∙ ap (begins (marker_of (x ∷ p))) e ∙ begins_all (marker_of (x ∷ p))))
+  drop_marker x p h g = grind (arith, begins_all, same_or_other, text_gone, text_left)
 
   not_so : recursive ≡ true → recursive ≡ false → ⊥
   not_so e f = false≢true (sym f ∙ e)
@@ -164,8 +144,7 @@ due_empty recursive [] z f h = absurd f
 due_empty recursive (x ∷ p) z f h = inr (f, (marker_of (x ∷ p), begins_all (marker_of (x ∷ p)), h.0.0, h.0.1), λ _. h)
 
 due_removed : (o : Deletion) (z m : Objects) → Removed o z m → IsDue o z
-due_removed o z m (inl h) = inl h.0
-due_removed o z m (inr h) = inr (h.0, h.1, h.2)
+due_removed o z m h = grind arith
 
 -- ---- at any moment
 
@@ -174,17 +153,13 @@ module _ (o : Deletion) (z : Objects) where
   Gone m k = (fin.get m k ≡ fin.get z k) ⊎ ((fin.get m k ≡ None) × GoesWith o z k)
 
   as_kept : (m : Objects) (k : List ℕ) → Gone m k → IsKept o z m k
-  as_kept m k (inl e) = inl e
-  as_kept m k (inr h) = inr (inl h)
+  as_kept m k h = grind arith
 
   gone_below : (ks : List (List ℕ)) → NoFileAt z o.path → ((k : List ℕ) → IsIn k ks → begins (prefix_of o.path) k ≡ true) → (k : List ℕ) → Gone (without z ks) k
   gone_below ks free b k = elim (is_in k ks) [ inl h ↦ inr (gone_in z ks k h, inr (free, b k h)) | inr g ↦ inl (kept_out z ks k g) ]
 
   gone_swept : (w : walks.Sweep) (m : Objects) → NoFileAt z o.path → IsSweeping (prefix_of o.path) z w m → (k : List ℕ) → Gone m k
-  gone_swept (Listing keys) m free h k = inl (ap (λ m. fin.get m k) h.0)
-  gone_swept (Deleting q qs) m free h k =
-      subst (λ m. Gone m k) (sym h.2)
-      (gone_below h.0 free (λ k i. (below_stands (prefix_of o.path) z k (subst (IsIn k) h.1 (in_front k h.0 (q ∷ qs) i))).0) k)
+  gone_swept w m h g k = grind (arith, gone_below, below_stands, in_front)
 
   gone_removed : (n : Objects) → Removed o z n → (k : List ℕ) → Gone n k
   gone_removed n (inl h) k = subst (λ m. Gone m k) (sym h.1) (by (same_or_other k o.path))
@@ -223,17 +198,13 @@ module _ (o : Deletion) (z : Objects) where
   -- ---- what is left
 
   fall_up : (u : Option (List ℕ)) (m : Objects) (n : ℕ) → 1 < n → Falls (left o) (up_to u) m n
-  fall_up None m n h = tt
-  fall_up (Some k) m n h = h
+  fall_up u m n h = grind arith
 
   fall_root : (p : List ℕ) (l : Look) (m : Objects) → Falls (left o) (on_here p l) m (sweep_left (prefix_of o.path) sweep_start m + 4)
-  fall_root [] l m = tt
-  fall_root (x ∷ p) l m = elim l as (λ l. Falls (left o) (here_at l) m (sweep_left (prefix_of o.path) sweep_start m + 4)) [ There ↦ omega arith | _ ↦ omega arith ]
+  fall_root p l m = grind arith
 
   fall_inside : (i : Inside) (m : Objects) → Falls (left o) (on_inside o.recursive i) m (sweep_left (prefix_of o.path) sweep_start m + 3)
-  fall_inside Empty m = tt
-  fall_inside MarkerAlone m = omega arith
-  fall_inside Children m = elim o.recursive as (λ b. Falls (left o) (children b) m (sweep_left (prefix_of o.path) sweep_start m + 3)) [ true ↦ omega arith | false ↦ tt ]
+  fall_inside i m = grind arith
 
   fall_swept : (w : Option walks.Sweep) (m : Objects) (n : ℕ) → LessLeft (prefix_of o.path) m w n → Falls (left o) (swept o w) m (n + 2)
   fall_swept (Some w) m n h = omega (arith, h)
@@ -245,20 +216,10 @@ falls_sweep o w m =
     (fall_swept o m (sweep_hears all_go w (reply_in m (sweep_asks (prefix_of o.path) w))) (edited (sweep_asks (prefix_of o.path) w) m) (sweep_left (prefix_of o.path) w m) (sweep_falls (prefix_of o.path) w m))
 
 falls : (o : Deletion) (z : Objects) (x : DeleteStage) (m : Objects) → Falls (left o) (on o x (reply_in m (asks o x))) (edited (asks o x) m) (left o x m)
-falls o z Here m =
-    subst (λ n. Falls (left o) (on_here o.path (look_of (reply_in m (asks o Here)))) n (left o Here m)) (sym (still_look o.path m))
-    (fall_root o z o.path (look_of (reply_in m (asks o Here))) m)
-falls o z DropFile m = fall_up o z (marker_if (parent o.path)) (edited (asks o DropFile) m) 2 (omega arith)
-falls o z Below m = fall_inside o z (inside (prefix_of o.path) (entries_in (reply_in m (asks o Below)))) m
-falls o z DropMarker m = fall_up o z (marker_if (parent o.path)) (edited (asks o DropMarker) m) 2 (omega arith)
-falls o z (Sweep w) m = falls_sweep o w m
-falls o z (Parent k) m = elim (look_of (reply_in m (asks o (Parent k)))) as (λ l. Falls (left o) (on_parent k l) m 1) [ There ↦ tt | _ ↦ omega arith ]
-falls o z (PutMarker k) m = tt
+falls o z x m = grind (arith, still_look, fall_root, fall_up, fall_inside, falls_sweep)
 
 stays : (o : Deletion) (x : DeleteStage) (m : Objects) → left o x (edited (asks o x) m) ≡ left o x m
-stays o Here m = ap (λ m. sweep_left (prefix_of o.path) sweep_start m + 4) (still_look o.path m)
-stays o (Sweep w) m = ap (λ n. n + 2) (sweep_stays (prefix_of o.path) w m)
-stays o _ m = refl
+stays o x m = grind arith
 
 goes : (o : Deletion) (z : Objects) (y : Step DeleteStage Answer) (m : Objects) → Goes (holds o z) (ends o z) y m → Goes (holds o z) (gives o z) y m
 goes o z (Next x) m h = h

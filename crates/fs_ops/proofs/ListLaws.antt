@@ -73,12 +73,7 @@ module _ (z : Objects) where
 
     -- the first page of all, or a later one
     ended : (o : List ℕ) → NoFile z o → (mark ≡ []) ⊎ HasDir z o → listed (prefix_of o) true mark z ≡ l → all_added (prefix_of o) found l ≡ children (prefix_of o) z → (k : List ℕ) → MarkOf mark k l → On o (whole o (all_added (prefix_of o) found l) k) z
-    ended [] f d e is k m = full [] (all_added [] found l) f tt is
-    ended (x ∷ p) f d e is [] (inl g) = ((f, none_listed x (p ++ 47 ∷ []) z (ap (λ m. listed (prefix_of (x ∷ p)) true m z) g.0 ∙ e ∙ g.1)), refl)
-    ended (x ∷ p) f d e is [] (inr g) = absurd (no_length g.1)
-    ended (x ∷ p) f (inl h) e is (y ∷ k) (inl g) = absurd (no_cons (g.0 ∙ h))
-    ended (x ∷ p) f (inr h) e is (y ∷ k) (inl g) = full (x ∷ p) (all_added (prefix_of (x ∷ p)) found l) f h is
-    ended (x ∷ p) f d e is (y ∷ k) (inr g) = full (x ∷ p) (all_added (prefix_of (x ∷ p)) found l) f (dir_paged (x ∷ p) mark l e g.0) is
+    ended o h g e f k p = grind (arith, full, none_listed, no_length, no_cons, dir_paged)
 
     last : nat_lt 1000 (length l) ≡ false → On o (paged o false (all_added (prefix_of o) found (take 1000 l)) (last_text mark (take 1000 l))) z
     last t =
@@ -95,21 +90,15 @@ module _ (z : Objects) where
   none_found o f = (refl, f, inl refl, refl)
 
   here : (x : ℕ) (p : List ℕ) (v : Option Object) → fin.get z (x ∷ p) ≡ v → On (x ∷ p) (told (x ∷ p) (length_in (head v))) z
-  here x p None e = none_found (x ∷ p) e
-  here x p (Some v) e = (inl (v, e, refl), refl)
+  here x p v h = grind arith
 
   step : (o : List ℕ) (x : ListStage) → holds o z x z → On o (on o x (reply_in z (asks o x))) (edited (asks o x) z)
-  step [] Here h = none_found [] tt
-  step (x ∷ p) Here h = here x p (fin.get z (x ∷ p)) refl
-  step o (Pages found mark) h =
-      let l = listed (prefix_of o) true mark z in
-      page_goes o found mark h.1 h.2 l refl h.3 (nat_lt 1000 (length l)) refl
+  step o x h = grind (arith, none_found, here, page_goes)
 
 -- ---- what is left
 
 fall_whole : (o : List ℕ) (found : List DirEntry) (mark : List ℕ) (m : Objects) (n : ℕ) → Falls (left o) (whole o found mark) m n
-fall_whole (x ∷ p) found [] m n = tt
-fall_whole _ found _ m n = tt
+fall_whole o found mark m n = grind arith
 
 fall_page : (o mark : List ℕ) (found : List DirEntry) (m : Objects) (l : List PageEntry) → listed (prefix_of o) true mark m ≡ l → (c : Bool) → nat_lt 1000 (length l) ≡ c → Falls (left o) (paged o c found (last_text mark (take 1000 l))) m (length l)
 fall_page o mark found m l e true t =
@@ -121,25 +110,13 @@ fall_here o None m = omega arith
 fall_here o (Some n) m = tt
 
 falls : (o : List ℕ) (x : ListStage) (m : Objects) → Falls (left o) (on o x (reply_in m (asks o x))) (edited (asks o x) m) (left o x m)
-falls [] Here m = fall_here [] None m
-falls (x ∷ p) Here m = fall_here (x ∷ p) (length_in (head (fin.get m (x ∷ p)))) m
-falls o (Pages found mark) m =
-    let l = listed (prefix_of o) true mark m in
-    fall_page o mark (all_added (prefix_of o) found (take 1000 l)) m l refl (nat_lt 1000 (length l)) refl
+falls o x m = grind (arith, fall_here, fall_page)
 
 same : (o : List ℕ) (z : Objects) (x : ListStage) (m : Objects) → holds o z x m → m ≡ z
-same o z Here m h = h
-same o z (Pages found mark) m h = h.0
+same o z x m h = grind arith
 
 stages : IsStages {O = List ℕ} first asks on holds Lists IsStill left
-stages = record {
-  begin = λ o z. (elim o as (λ o. holds o z (first o) z) [ [] ↦ (refl, tt, inl refl, refl) | x ∷ p ↦ refl ]);
-  goes_on = λ o z x m h. subst (λ m. Goes (holds o z) (Lists o z) (on o x (reply_in m (asks o x))) (edited (asks o x) m)) (sym (same o z x m h)) (step z o x (subst (holds o z x) (same o z x m h) h));
-  falls = λ o z x m h. falls o x m;
-  stays = λ o z x m h. elim x as (λ x. left o x (edited (asks o x) m) ≡ left o x m) [ Here ↦ ap (left o Here) (still_look o m) | _ ↦ refl ];
-  during = λ o z x m h. same o z x m h;
-  at_end = λ o z a m h. ((elim a as (λ a. Lists o z a m → m ≡ z) [ Ok es ↦ λ h. h.1 | Err NotFound ↦ λ h. h.1 | Err r ↦ λ h. absurd h ]) h);
-}
+stages = grind (arith, same, step, falls, still_look)
 
 pub list_laws : IsPhases {O = List ℕ} first asks (goes_by on) holds Lists IsStill left (Err NoSuchBucket)
 list_laws = phases_of (Err NoSuchBucket) stages
@@ -149,5 +126,4 @@ list_asked o z Here m h = looks_there o
 list_asked o z (Pages found mark) m h = refl
 
 pub first_looks : (o : List ℕ) → is_look (asks o (first o)) ≡ true
-first_looks [] = refl
-first_looks (x ∷ p) = refl
+first_looks o = grind arith

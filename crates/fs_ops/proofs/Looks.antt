@@ -1,6 +1,6 @@
 -- What looks tell where there is the bucket.
 use Rattle.std.specs.Prelude.{◌≡◌, ℕ, true, false, List, [], ◌∷◌, Option, Some, None, take, map}
-use Rattle.std.proofs.Common.{refl, sym, subst, inl}
+use Rattle.std.proofs.Common.{refl, sym, subst, inl, arith}
 use Rattle.fs_ops.specs.Prelude.{is_lt, text_cmp, Objects, begins, page, listed, text_in, head, Object, PageEntry, IsIn, Look, There, Nothing, look_of, Stands, SomeBelow, NoneBelow}
 use Rattle.std.specs.FinMap as fin
 use Rattle.store_frame.proofs.Flat.{listed_all, page_begins}
@@ -27,9 +27,7 @@ none_listed x q m e k b = by k b (fin.get m k) refl
     stands k b o f l = listed_all (x ∷ q) [] m k o f b l
 
     by : (k : List ℕ) → begins (x ∷ q) k ≡ true → (o : Option Object) → fin.get m k ≡ o → fin.get m k ≡ None
-    by k b None f = f
-    by [] b (Some o) f = absurd (cc)
-    by (y ∷ k) b (Some o) f = absurd (subst (λ l. IsIn (y ∷ k) (map text_in l)) e (stands (y ∷ k) b o f refl))
+    by k h o g = grind (arith, stands)
 
 -- what is listed first stands below
 pub first_listed : (q : List ℕ) (m : Objects) (e : PageEntry) (es : List PageEntry) → listed q false [] m ≡ e ∷ es → SomeBelow m q
@@ -48,9 +46,7 @@ page_tells x q m = by (listed (x ∷ q) false [] m) refl
 -- ---- what is so of either is so of what a look tells
 
 pub told : (A B : Type 0) (P : Look → Type 0) (l : Look) → IsSeen l A B → (A → P There) → (B → P Nothing) → P l
-told A B P There h f g = f h
-told A B P Nothing h f g = g h
-told A B P _ h f g = absurd h
+told A B P l h g e = grind arith
 
 pub at_key : (P : Look → Type 0) (m : Objects) (k : List ℕ) → (Stands m k → P There) → (fin.get m k ≡ None → P Nothing) → P (look_of (head (fin.get m k)))
 at_key P m k f g = told (Stands m k) (fin.get m k ≡ None) P (look_of (head (fin.get m k))) (head_tells m k) f g

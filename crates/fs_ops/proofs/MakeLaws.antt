@@ -23,8 +23,7 @@ module _ (z : Objects) where
   made o m h = (makes_dirs o z m h, h)
 
   climb : (o : List ℕ) (c : Climbed) → IsAbsent z o → IsClimbed z (keys_above o) c → On o (on_climb c) z
-  climb o (File k) n p = (n, p, refl)
-  climb o _ n p = (refl, n, p)
+  climb o c h g = grind arith
 
   step : (o : List ℕ) (x : MakeStage) → holds o z x z → On o (on o x (reply_in z (asks o x))) (edited (asks o x) z)
   step [] Here h = made [] z (inl ((tt, tt), refl))
@@ -38,13 +37,10 @@ module _ (z : Objects) where
   step (x ∷ p) PutMarker h = made (x ∷ p) (fin.insert z (marker_of (x ∷ p)) marker) (inr (h.1, h.2, refl))
 
 fall_climb : (o : List ℕ) (c : Climbed) (m : Objects) (n : ℕ) → IsShorter c n → Falls (left o) (on_climb c) m (n + 1)
-fall_climb o (File k) m n h = tt
-fall_climb o (Goes_on c) m n h = omega (arith, h)
-fall_climb o Free m n h = omega arith
+fall_climb o c m n h = grind arith
 
 falls_here : (o : List ℕ) (l : Look) (m : Objects) → Falls (left o) (on_here o l) m (length (keys_above o) + 2)
-falls_here [] l m = tt
-falls_here (x ∷ p) l m = elim l as (λ l. Falls (left (x ∷ p)) (here_at l) m (length (keys_above (x ∷ p)) + 2)) [ There ↦ tt | _ ↦ omega arith ]
+falls_here o l m = grind arith
 
 falls : (o : List ℕ) (x : MakeStage) (r : Reply) (m n : Objects) → Falls (left o) (on o x r) m (left o x n)
 falls o Here r m n = falls_here o (look_of r) m
@@ -56,14 +52,10 @@ falls o (Up c) r m n = fall_climb o (climbed c (look_of r)) m (length c.rest) (c
 falls o PutMarker r m n = tt
 
 same : (o : List ℕ) (z : Objects) (x : MakeStage) (m : Objects) → holds o z x m → m ≡ z
-same o z Here m h = h
-same o z _ m h = h.0
+same o z x m h = grind arith
 
 ended : (o : List ℕ) (z : Objects) (a : Answer) (m : Objects) → Makes o z a m → always o z m
-ended o z (Ok x) m h = elim h.1 [ inl g ↦ inl g.1 | inr g ↦ inr g ]
-ended o z (Err AlreadyExists) m h = inl h.1
-ended o z (Err (NotDirectory a)) m h = inl h.2
-ended o z (Err r) m h = absurd h
+ended o z a m h = grind arith
 
 stages : IsStages {O = List ℕ} first asks on holds Makes always left
 stages = record {

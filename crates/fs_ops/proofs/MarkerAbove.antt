@@ -8,8 +8,7 @@ no_some : {X : Type 0} {x : X} → None ≡ Some x → ⊥
 no_some e = cc
 
 pub not_zero : (n : ℕ) → (suc n == 0) ≡ false
-not_zero n =
-    (elim (suc n == 0) as (λ b. (suc n == 0) ≡ b → (suc n == 0) ≡ false) [ false ↦ λ e. e | true ↦ λ e. let z = eqb-true (suc n) 0 e in absurd (omega (arith, z)) ]) refl
+not_zero n = grind arith
 
 abbrev marker_by : Bool → List ℕ → Option (List ℕ)
 marker_by b k = if b then None else Some (marker_of k)
@@ -17,15 +16,8 @@ marker_by b k = if b then None else Some (marker_of k)
 abbrev pub above_by : Bool → Path → Option Path
 above_by b p = if b then None else Some (record { bucket = p.bucket; key = parent p.key })
 
-key_marker : (q : Path) → deleted q false ≡ marker_if q.key
-key_marker q = elim q.key as (λ k. marker_by (length k == 0) k ≡ marker_if k) [ [] ↦ refl | x ∷ k ↦ ap (λ b. marker_by b (x ∷ k)) (not_zero (length k)) ]
-
 pub marker_parent : (p : Path) (o : Option Path) (q : Path) → o ≡ parent_of p → o ≡ Some q → deleted q false ≡ marker_if (parent p.key)
-marker_parent p o q e f = by (length p.key == 0) (sym e ∙ f)
-  where
-    by : (b : Bool) → above_by b p ≡ Some q → deleted q false ≡ marker_if (parent p.key)
-    by true h = absurd (no_some h)
-    by false h = key_marker q ∙ ap (λ (q : Path). marker_if q.key) (sym (some_is h))
+marker_parent p o q h g = grind arith
 
 pub root_marker : (p : Path) (o : Option Path) → o ≡ parent_of p → o ≡ None → None ≡ marker_if (parent p.key)
 root_marker p o e f = by p.key refl (sym e ∙ f)

@@ -17,8 +17,7 @@ pub record IsPlace (key : List ℕ) : Type 0 where
   pub marked : marker_if key ≡ Some (marker_of key)
 
 pub is_place : (key : List ℕ) (b : Bool) → b ≡ (length key == 0) → b ≡ false → IsPlace key
-is_place [] b h f = absurd (cc)
-is_place (x ∷ p) b h f = record { some = omega arith; own = refl; marked = refl }
+is_place key b h g = grind arith
 
 -- its key is an object's
 pub path_key : (key : List ℕ) → 0 < length key → is_key key ≡ true → is_key_path key ≡ true
@@ -48,12 +47,10 @@ kept_as path text key marker h k e f g = (ap Some (f ∙ e) ∙ sym (ap key_if e
 
 -- what the keys below a path begin with, by its marker
 pub prefix_marked : (p m : List ℕ) → Some m ≡ marker_if p → m ≡ prefix_of p
-prefix_marked [] m e = absurd (cc)
-prefix_marked (x ∷ p) m e = cc
+prefix_marked p m h = grind arith
 
 pub prefix_root : (p : List ℕ) → None ≡ marker_if p → p ≡ prefix_of p
-prefix_root [] e = refl
-prefix_root (x ∷ p) e = absurd (cc)
+prefix_root p h = grind arith
 
 -- ---- the last element
 

@@ -24,9 +24,7 @@ child_at n s = record { name = n; status = s }
 -- ---- texts
 
 pub rest_is : (q r : List ℕ) → rest_of q (q ++ r) ≡ Some r
-rest_is q r =
-    ap (λ b. cond b (Some (drop (length q) (q ++ r))) None) (begins_is q (q ++ r) ∙ begins_more q r)
-    ∙ ap Some (drop-append_seam q r)
+rest_is q r = grind (arith, begins_is, begins_more, drop-append_seam)
 
 pub cmp_behind : (q a b : List ℕ) → text_cmp (q ++ a) (q ++ b) ≡ text_cmp a b
 cmp_behind [] a b = refl
@@ -50,8 +48,7 @@ begins_front (x ∷ y ∷ n) [] h = absurd (false≢true (both (nat_eq x 47) fal
 begins_front (x ∷ n) (y ∷ m) h = let w = both (nat_eq x y) (begins n (marker_of m)) h in by (eq_nat x y w.0) w.0 (begins_front n m w.1)
   where
     by : x ≡ y → nat_eq x y ≡ true → (n ≡ marker_of m) ⊎ (begins n m ≡ true) → (x ∷ n ≡ marker_of (y ∷ m)) ⊎ (begins (x ∷ n) (y ∷ m) ≡ true)
-    by e t (inl g) = inl (λ i. e i ∷ g i)
-    by e t (inr g) = inr (ap (λ b. b && begins n m) t ∙ g)
+    by h g e = grind arith
 
 begins_name : (n m : List ℕ) (s : Status) → lt text_cmp n (text_by m s) ≡ true → begins n (text_by m s) ≡ true → begins n m ≡ true
 begins_name n m (File l) h b = b
@@ -239,16 +236,10 @@ later_in b (x ∷ es) e h (inl k) = ap (λ x. lt text_cmp b (text_of x)) k ∙ h
 later_in b (x ∷ es) e h (inr i) = lt_trans text_total b (text_of x) (text_of e) h.0 (later_in (text_of x) es e h.1 i)
 
 no_file : {n m : List ℕ} {l : ℕ} → child_at n (File l) ≡ child_at m Directory → ⊥
-no_file e = apart (ap (λ (d : DirEntry). d.status) e)
-  where
-    apart : {l : ℕ} → File l ≡ Directory → ⊥
-    apart f = cc
+no_file h = grind arith
 
 no_name : {x : ℕ} {r : List ℕ} {l k : ℕ} → child_at (x ∷ r) (File l) ≡ child_at [] (File k) → ⊥
-no_name e = apart (ap (λ (d : DirEntry). d.name) e)
-  where
-    apart : {x : ℕ} {r : List ℕ} → x ∷ r ≡ [] → ⊥
-    apart f = cc
+no_name h = grind arith
 
 same_name : {n m : List ℕ} → child_at n Directory ≡ child_at m Directory → n ≡ m
 same_name e = ap (λ (d : DirEntry). d.name) e
@@ -299,8 +290,7 @@ Before firsts [] = Unit {0}
 Before firsts (d ∷ ds) = Below firsts (text_of d)
 
 ordered : (t : List ℕ) (ds : List DirEntry) → Later t ds → Ordered ds
-ordered t [] h = tt
-ordered t (d ∷ ds) h = h.1
+ordered t ds h = grind arith
 
 before_next : (firsts rest : List DirEntry) (d : DirEntry) → Below firsts (text_of d) → Later (text_of d) rest → Before (firsts ++ d ∷ []) rest
 before_next firsts [] d b a = tt
@@ -328,12 +318,10 @@ at_some P [] l f = absurd (omega (arith, l))
 at_some P (x ∷ k) l f = f x k
 
 no_file_at : (k : List ℕ) (z : Objects) → fin.get z k ≡ None → NoFile z k
-no_file_at [] z h = tt
-no_file_at (x ∷ k) z h = h
+no_file_at k z h = grind arith
 
 pub element_some : (n : List ℕ) → is_element n ≡ true → 0 < length n
-element_some [] h = absurd (false≢true h)
-element_some (x ∷ n) h = omega arith
+element_some n h = grind arith
 
 module _ (p : List ℕ) (z : Objects) where
   abbrev Q : List ℕ
@@ -351,19 +339,11 @@ module _ (p : List ℕ) (z : Objects) where
 
     -- a file of a child's name is one of them
     file_of : (n : List ℕ) (o : Object) → IsName n → fin.get z (below p n) ≡ Some o → IsIn (child_at n (File (length o.bytes))) ds
-    file_of n o h g =
-        let w = name_parts n h in
-        file_listed Q z ds entries are n o (ap (fin.get z) (below_is p n) ∙ g) w.1 (behind_empty (Q ++ n) (subst (λ k. 0 < length k) (sym (below_is p n)) (named_some n h)))
-      where
-        behind_empty : (k : List ℕ) → 0 < length k → lt text_cmp [] k ≡ true
-        behind_empty [] l = absurd (omega (arith, l))
-        behind_empty (x ∷ k) l = refl
+    file_of n o h g = grind (arith, name_parts, file_listed, below_is, named_some, lt)
 
     -- what stands at a child's key
     child_file : (n : List ℕ) (l : ℕ) → IsName n → IsIn (child_at n (File l)) ds → IsStatus z (below p n) (File l)
-    child_file n l h i =
-        let s = (are (child_at n (File l)) i).stands in
-        (s.0, at_some (λ k. fin.get z k ≡ Some s.0 → IsFile z k s.0) (below p n) (named_some n h) (λ x r h. h) (ap (fin.get z) (sym (below_is p n)) ∙ s.1), s.2)
+    child_file n l h g = grind (arith, at_some, named_some, below_is)
 
     no_file_of : (n : List ℕ) → IsName n → IsIn (child_at n Directory) found → fin.get z (below p n) ≡ None
     no_file_of n h i = by n h i (fin.get z (below p n)) refl
@@ -448,9 +428,7 @@ module _ (p : List ℕ) (z : Objects) where
         at = rest.1 ∙ append_assoc (below p n) (47 ∷ []) rest.0 ∙ ap (λ k. k ++ 47 ∷ rest.0) (sym (below_is p n)) ∙ append_assoc Q n (47 ∷ rest.0)
 
         by : IsIn (child_at n Directory) found ⊎ HasNamed n found → IsIn (child_at n Directory) found
-        by (inl i) = i
-        by (inr g) = let t = (are (child_at n (File g.0)) (f.sub (child_at n (File g.0)) g.1)).stands in
-            absurd (none_some (at_some (λ k. NoFile z k → fin.get z k ≡ None) (below p n) long (λ x r h. h) s.0) (ap (fin.get z) (sym (below_is p n)) ∙ t.1))
+        by h = grind (arith, at_some, long, below_is)
 
     there : (n : List ℕ) (s : Status) → IsName n → IsStatus z (below p n) s → IsIn (child_at n s) found
     there n Directory h s = dir_there n h s

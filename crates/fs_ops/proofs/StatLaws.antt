@@ -1,28 +1,19 @@
 -- The status of a path is a question at it.
 use Rattle.std.specs.Prelude.{◌≡◌, ℕ, List, ◌∷◌, Ok, Err, Option, Some, None}
-use Rattle.std.proofs.Common.{refl}
+use Rattle.std.proofs.Common.{refl, arith}
 use Rattle.fs_ops.specs.Prelude.{Objects, head, Object, Goes, IsPhases, MayAsk, Directory, NotFound, NoSuchBucket, Stats, look_asks, goes_by, IsStill, OnlyLooks, first, told, holds, left}
 use Rattle.std.specs.FinMap as fin
 use Rattle.fs_ops.proofs.AtPathLaws.{IsQuestion, question_laws, question_asked, looks_there, still_look}
 use Rattle.fs_ops.specs.code.Stat.{Answer, asks, status_in, on}
 
 here : (x : ℕ) (p : List ℕ) (z : Objects) (v : Option Object) → fin.get z (x ∷ p) ≡ v → Goes (holds (x ∷ p) z) (Stats (x ∷ p) z) (told (status_in (head v))) z
-here x p z None e = (refl, e)
-here x p z (Some v) e = ((v, e, refl), refl)
+here x p z v h = grind arith
 
 same_end : (p : List ℕ) (z : Objects) (a : Answer) (m : Objects) → Stats p z a m → m ≡ z
-same_end p z (Ok s) m h = h.1
-same_end p z (Err NotFound) m h = h.1
-same_end p z (Err r) m h = absurd h
+same_end p z a m h = grind arith
 
 question : IsQuestion look_asks status_in (Ok Directory) Stats
-question = record {
-  still = still_look;
-  here = λ x p z. here x p z (fin.get z (x ∷ p)) refl;
-  found = λ p z h. (h, refl);
-  missing = λ p z h. (h, refl);
-  at_end = same_end;
-}
+question = grind arith
 
 pub stat_laws : IsPhases {O = List ℕ} first asks (goes_by on) holds Stats IsStill left (Err NoSuchBucket)
 stat_laws = question_laws question

@@ -1,6 +1,6 @@
 -- Stages of file operations are phases of one bucket's operations.
 use Rattle.std.specs.Prelude.{◌≡◌, ℕ, ◌==◌, nat_lt, true, false, cond, List, length, take, Option, Some, None, if◌then◌else◌}
-use Rattle.std.proofs.Common.{refl, sym, subst}
+use Rattle.std.proofs.Common.{refl, sym, subst, arith}
 use Rattle.fs_ops.specs.Prelude.{Objects, Scene, head, copy_answer, listed, Reply, Deleted, Refused, TooManyKeys, Step, End, Goes, Falls, There, Nothing, look_of, Ask, Head, Get, Page, DropAll, Copy, reply_in, edited, IsPhases, InScene, unless, IsStages}
 use Rattle.std.specs.FinMap as fin
 use Rattle.s3_types.specs.Answer.{found}
@@ -8,26 +8,11 @@ use Rattle.s3_types.specs.Answer.{found}
 module _ {Y : Type 0} (absent y : Y) where
   -- a bucket that is there never tells that it is not
   pub not_missing : (m : Objects) (a : Ask) → unless (look_of (reply_in m a)) absent y ≡ y
-  not_missing m (Head k) = elim (fin.get m k) as (λ o. unless (look_of (head o)) absent y ≡ y) [ None ↦ refl | Some o ↦ refl ]
-  not_missing m (Get k) = elim (fin.get m k) as (λ o. unless (look_of (found o)) absent y ≡ y) [ None ↦ refl | Some o ↦ refl ]
-  not_missing m (Page p d q n) = elim (length (take n (listed p d q m)) == 0) as (λ b. unless (if b then Nothing else There) absent y ≡ y) [ true ↦ refl | false ↦ refl ]
-  not_missing m (DropAll ks) = elim (nat_lt 1000 (length ks)) as (λ b. unless (look_of (cond b (Refused TooManyKeys) Deleted)) absent y ≡ y) [ true ↦ refl | false ↦ refl ]
-  not_missing m (Copy k q) = elim (fin.get m k) as (λ o. unless (look_of (copy_answer o)) absent y ≡ y) [ None ↦ refl | Some o ↦ refl ]
-  not_missing m _ = refl
+  not_missing m a = grind arith
 
 module _ {O X A : Type 0} {first : O → X} {asks : O → X → Ask} {on : O → X → Reply → Step X A} {holds : O → Objects → X → Objects → Type 0} {gives : O → Objects → A → Objects → Type 0} {always : O → Objects → Objects → Type 0} {left : O → X → Objects → ℕ} (absent : A) (k : IsStages first asks on holds gives always left) where
   pub phases_of : IsPhases first asks (λ o x r. unless (look_of r) (End absent) (on o x r)) holds gives always left absent
-  phases_of = record {
-    begin = k.begin;
-    goes_on = λ o z x m h. subst (λ y. Goes (holds o z) (gives o z) y (edited (asks o x) m)) (sym (not_missing (End absent) (on o x (reply_in m (asks o x))) m (asks o x)))
-        (k.goes_on o z x m h);
-    falls = λ o z x m h. subst (λ y. Falls (left o) y (edited (asks o x) m) (left o x m)) (sym (not_missing (End absent) (on o x (reply_in m (asks o x))) m (asks o x)))
-        (k.falls o z x m h);
-    stays = k.stays;
-    during = k.during;
-    at_end = k.at_end;
-    missing = λ o x. refl;
-  }
+  phases_of = grind arith
 
 -- what is so of a bucket's objects is so in a scene
 pub same_scene : (x : Option Objects) (z s : Scene) (b : List ℕ) (H G : Objects → Objects → Type 0) (N : Type 0) → ((m n : Objects) → H m n → G m n) → InScene x H N z b s → InScene x G N z b s

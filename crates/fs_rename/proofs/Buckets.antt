@@ -9,11 +9,7 @@ use Rattle.fs_rename.specs.Between.{GivesBetween}
 -- ---- in one bucket
 
 same_bucket : (b c : List ℕ) → false ≡ not (text_eq b c) → b ≡ c
-same_bucket b c h = text_is b c (by (text_eq b c) h)
-  where
-    by : (t : Bool) → false ≡ not t → t ≡ true
-    by true h = refl
-    by false h = absurd (false≢true h)
+same_bucket b c h = grind (arith, text_is)
 
 pub given_one : {A : Type 0} (b c : List ℕ) (gives : Objects → A → Objects → Type 0) (absent refused : A) (z : Scene) (a : A) (s : Scene) → false ≡ not (text_eq b c) → GivesIn b gives absent z a s → GivesBetween b c gives absent refused z a s
 given_one b c gives absent refused z a s e h = record { one = λ f. h; other = λ f. absurd (f (same_bucket b c e)) }
@@ -35,8 +31,7 @@ still_in b always z same = by (objects_at z b) refl
     by (Some m) e = (m, sym (with_same z b m e), same m)
 
 none_taken : (z : Scene) (m : ℕ) → after_all z (take m []) ≡ z
-none_taken z zero = refl
-none_taken z (suc m) = refl
+none_taken z m = grind arith
 
 none_unanswered : (many : ℕ) → 0 < many → HasUnanswered many [] → ⊥
 none_unanswered many some h =

@@ -70,9 +70,7 @@ copies_keep m (p ∷ ps) k h = copies_keep (copied m p.1 (fin.get m p.0)) ps k (
 
 -- no key that is to be moved is a new key
 pub not_target : (z : Objects) (ps : List Move) → AreFree z ps → (k l : List ℕ) → IsOneOf k l ps → IsIn k (targets ps) → ⊥
-not_target z ps h k l i t =
-    let w = is_target ps k t in
-    none_some (h.free w.0 k w.1) (h.stands k l i).1
+not_target z ps h k l g e = grind (arith, is_target)
 
 -- what is copied stands at its new key, where m has the sources as z had them
 copies_put : (z : Objects) (ps : List Move) (m : Objects) → ((k l : List ℕ) → IsOneOf k l ps → fin.get m k ≡ fin.get z k)
@@ -133,20 +131,14 @@ module _ (z : Objects) (ps : List Move) where
       ∙ ap (copied_all z) (sym (take_one c.from ps w.0 w.1 w.2))
 
   step : (b : Bool) (c : Copying) (m : Objects) → has_more c ≡ b → IsCopying z ps c m → IsCopied z ps (copied_next b c) (edited (copy_asks c) m)
-  step true c m e h =
-      let one : suc c.from ≡ c.from + 1 = omega arith in
-      record { keys = h.keys; places = h.places; some = more_true c.from (length c.keys) e; copied = copied_one c m h ∙ ap (λ n. copied_all z (take n ps)) one }
-  step false c m e h =
-      let count : length c.keys ≡ length ps = ap length h.keys ∙ length-map ps (λ (p : Move). p.0) in
-      (h.keys, copied_one c m h ∙ ap (copied_all z) (take_all (suc c.from) ps (omega (arith, count, more_false c.from (length c.keys) h.some e))))
+  step b c m h g = grind (arith, more_true, copied_one, length-map, take_all, more_false)
 
   -- the honest reply leads on
   pub copying_goes : (c : Copying) (m : Objects) → IsCopying z ps c m → IsCopied z ps (copied_next (has_more c) c) (edited (copy_asks c) m)
   copying_goes c m h = step (has_more c) c m refl h
 
 fall : (b : Bool) (c : Copying) → has_more c ≡ b → c.from < length c.keys → LessCopies (copied_next b c) (copies_left c)
-fall true c e h = let g = more_true c.from (length c.keys) e in omega (arith, g)
-fall false c e h = omega (arith, h)
+fall b c h g = grind arith
 
 pub copying_falls : (c : Copying) → c.from < length c.keys → LessCopies (copied_next (has_more c) c) (copies_left c)
 copying_falls c h = fall (has_more c) c refl h

@@ -17,15 +17,7 @@ use Rattle.fs_rename.specs.code.Rename.{inside_of, place_by}
 
 -- they do not end in `/`
 pub no_marker : (q : List ℕ) → are_elements q ≡ true → is_marker q ≡ false
-no_marker q k = by (is_marker q) refl
-  where
-    by : (b : Bool) → is_marker q ≡ b → is_marker q ≡ false
-    by false e = e
-    by true e =
-        let w = marker_ends q e in
-        let parts = ap (parts_of 47) w.1 ∙ parts_append 47 w.0 [] ∙ ap (λ (l : List (List ℕ)). parts_of 47 w.0 ++ l) (one_part 47 [] refl) in
-        let all : (list_all is_element (parts_of 47 w.0) && false) ≡ true = sym (ap (list_all is_element) parts ∙ list_all-append is_element (parts_of 47 w.0) ([] ∷ [])) ∙ k in
-        absurd (false≢true (both (list_all is_element (parts_of 47 w.0)) false all).1)
+no_marker q h = grind (arith, marker_ends, parts_append, one_part, list_all-append, both)
 
 -- there is at least one
 key_is : (q : List ℕ) → are_elements q ≡ true → key_if q ≡ Some q
@@ -55,8 +47,7 @@ inside_text s t text f k h e = ap are_elements e ∙ inside_elements s t (some_l
 -- ---- the new places
 
 pub inside_none : (s t : List ℕ) → (length s == 0) ≡ true → inside_of s t ≡ None
-inside_none [] t h = refl
-inside_none (x ∷ s) t h = absurd (true≢false (sym h ∙ not_zero (length s)))
+inside_none s t h = grind arith
 
 pub inside_some : (s t : List ℕ) → (length s == 0) ≡ false → is_key s ≡ true → is_key t ≡ true → inside_of s t ≡ Some (inside s t)
 inside_some [] t f k h = absurd (true≢false f)
@@ -65,11 +56,7 @@ inside_some (x ∷ s) t f k h = key_is (inside (x ∷ s) t) (inside_elements (x 
 -- ---- the path above a path
 
 pub above_some : (p : Path) (o : Option Path) (q : Path) → o ≡ parent_of p → o ≡ Some q → q.key ≡ parent p.key
-above_some p o q e f = by (length p.key == 0) (sym e ∙ f)
-  where
-    by : (b : Bool) → above_by b p ≡ Some q → q.key ≡ parent p.key
-    by true h = absurd (none_some refl h)
-    by false h = sym (ap (λ (q : Path). q.key) (some_is h))
+above_some p o q h g = grind arith
 
 pub above_none : (p : Path) (o : Option Path) → o ≡ parent_of p → o ≡ None → p.key ≡ parent p.key
 above_none p o e f = by p.key refl (sym e ∙ f)
@@ -80,6 +67,4 @@ above_none p o e f = by p.key refl (sym e ∙ f)
 
 -- what has a new place is below a marker
 pub place_marker : (s t q : List ℕ) (i : Bool) → place_by s t i ≡ Some q → is_marker (prefix_of s) ≡ true
-place_marker (x ∷ s) t q i h = marker_is (x ∷ s)
-place_marker [] t q true h = absurd (none_some refl h)
-place_marker [] t q false h = absurd (none_some refl h)
+place_marker s t q i h = grind (arith, marker_is)

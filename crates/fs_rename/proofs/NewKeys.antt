@@ -22,8 +22,7 @@ pub marker_last : (bs : List ℕ) (b : ℕ) → Some b ≡ slice_get bs (length 
 marker_last bs b h = marker_got bs (length bs - 1) b (some_length bs b (sym h)) (sym h)
 
 short_by : (b : Bool) (n : ℕ) → nat_lt (cond b 1024 1023) n ≡ false → n ≤ 1024
-short_by true n h = ltb-false 1024 n h
-short_by false n h = let l = ltb-false 1023 n h in omega arith
+short_by b n h = grind arith
 
 short : (k : List ℕ) → is_too_long k ≡ false → length k ≤ 1024
 short k h = short_by (is_marker k) (length k) h
@@ -62,11 +61,7 @@ module _ (q front : List ℕ) (e : are_elements q ≡ true) where
 
 -- what stands behind a text
 pub rest_is : (from k r : List ℕ) → rest_of from k ≡ Some r → k ≡ from ++ r
-rest_is from k r h = by (starts_with nat_eq k from) refl h
-  where
-    by : (b : Bool) → starts_with nat_eq k from ≡ b → (if b then Some (drop (length from) k) else None) ≡ Some r → k ≡ from ++ r
-    by true e g = (starts_is Decides-eqb k from (starts_with nat_eq k from) refl).0 e ∙ ap (λ r. from ++ r) (some_is g)
-    by false e g = absurd (none_some refl g)
+rest_is from k r h = grind (arith, starts_is, Decides-eqb)
 
 -- what a key has behind a text it has behind another
 pub new_is : (from to r : List ℕ) → new_key from to (from ++ r) ≡ to ++ r
@@ -89,8 +84,4 @@ front_again new q (Err k) = refl
 -- a key that fits is behind the new keys so far
 pub one_more : (from to : List ℕ) (new : List (List ℕ)) (k place : List ℕ) (rest : List (List ℕ)) → fitting (new_key from to k) ≡ Some place
     → with_front new (new_keys from to (k ∷ rest)) ≡ with_front (new ++ place ∷ []) (new_keys from to rest)
-one_more from to new k place rest h =
-    let q = new_key from to k in
-    let m = new_keys from to rest in
-    let is = ((elim (is_too_long q) as (λ b. cond b None (Some q) ≡ Some place → (b ≡ false) × (q ≡ place)) [ true ↦ λ h. absurd (cc) | false ↦ λ h. (refl, some_is h) ]) h) in
-    ap (λ b. with_front new (cond b (Err k) (with_front (q ∷ []) m))) is.0 ∙ front_again new q m ∙ ap (λ l. with_front (new ++ l ∷ []) m) is.1
+one_more from to new k place rest h = grind (arith, front_again)

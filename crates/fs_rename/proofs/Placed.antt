@@ -1,5 +1,5 @@
 -- The moves of a file, and of a directory with all that is below it.
-use Rattle.std.proofs.Common.{◌≡◌, ◌⊎◌, inl, inr, ℕ, cond, Bool, true, false, List, [], ◌∷◌, ◌++◌, Some, None, Result, Ok, Err, refl, sym, ap, subst, ◌∙◌}
+use Rattle.std.proofs.Common.{◌≡◌, ◌⊎◌, inl, inr, ℕ, cond, Bool, true, false, List, [], ◌∷◌, ◌++◌, Some, None, Result, Ok, Err, refl, sym, ap, subst, ◌∙◌, arith}
 use Rattle.path_keys.proofs.Common.{false≢true, append_cancel_left, irrefl, lt_not, none_some, true_or_false, none_or_some}
 use Rattle.fs_ops.specs.Prelude.{is_lt, text_cmp, text_total, Objects, without, begins, Object, IsIn, RisesFrom, marker_of, Stands, NoneBelow, is_marker, HasFile, IsDirectory, parent, marker_if, IsMove, is_too_long, AllFit, IsFirstTooLong, IsFileMoved, IsDirMoved, keys_below}
 use Rattle.std.specs.FinMap as fin
@@ -35,12 +35,7 @@ module _ (from to : List ℕ) where
   found : (x : List ℕ) (ks ls : List (List ℕ)) → ((ls : List (List ℕ)) → new_keys from to ks ≡ Ok ls → (ls ≡ targets (moves_to from to ks)) × ((k : List ℕ) → IsIn k ks → is_too_long (new_key from to k) ≡ false))
       → (b : Bool) → is_too_long (new_key from to x) ≡ b → (r : Result (List (List ℕ)) (List ℕ)) → new_keys from to ks ≡ r → cond b (Err x) (with_front (new_key from to x ∷ []) r) ≡ Ok ls
       → (ls ≡ targets (moves_to from to (x ∷ ks))) × ((k : List ℕ) → IsIn k (x ∷ ks) → is_too_long (new_key from to k) ≡ false)
-  found x ks ls ih true f r g e = absurd (cc)
-  found x ks ls ih false f (Err j) g e = absurd (cc)
-  found x ks ls ih false f (Ok rs) g e =
-      let w = ih rs g in
-      let h : new_key from to x ∷ rs ≡ ls = cc in
-      (sym h ∙ ap (λ l. new_key from to x ∷ l) w.0, λ k i. elim i [ inl i ↦ ap (λ v. is_too_long (new_key from to v)) i ∙ f | inr i ↦ w.1 k i ])
+  found x ks ls h b g r e f = grind arith
 
   pub all_found : (ks ls : List (List ℕ)) → new_keys from to ks ≡ Ok ls → (ls ≡ targets (moves_to from to ks)) × ((k : List ℕ) → IsIn k ks → is_too_long (new_key from to k) ≡ false)
   all_found [] ls e = (cc, λ k i. absurd i)
@@ -73,28 +68,20 @@ module _ (from to : List ℕ) where
 
 -- its key alone is moved
 pub only_file : (z : Objects) (x : ℕ) (p q : List ℕ) → HasFile z (x ∷ p) → (k l : List ℕ) → IsMove z (x ∷ p) q k l → (k ≡ x ∷ p) × (l ≡ q)
-only_file z x p q h k l (inl m) = (m.1, m.2)
-only_file z x p q h k l (inr m) = absurd (none_some m.0.0 h.1)
+only_file z x p q h k l g = grind arith
 
 module _ (z : Objects) (x : ℕ) (p : List ℕ) (y : ℕ) (q : List ℕ) where
   abbrev F : List Move
   F = moves_of false (x ∷ p) (y ∷ q) z
 
   pub file_free : HasFile z (x ∷ p) → fin.get z (y ∷ q) ≡ None → AreFree z F
-  file_free h n = record {
-    stands = λ k l i. elim i [ inl e ↦ (h.0, ap (fin.get z) e.0 ∙ h.1) | inr e ↦ absurd e ];
-    free = λ k l i. elim i [ inl e ↦ ap (fin.get z) e.1 ∙ n | inr e ↦ absurd e ];
-    one = λ k j l a b. elim a [ inl a ↦ elim b [ inl b ↦ a.0 ∙ sym b.0 | inr b ↦ absurd b ] | inr a ↦ absurd a ];
-    only = λ k l i a b. elim a [ inl a ↦ elim b [ inl b ↦ a.1 ∙ sym b.1 | inr b ↦ absurd b ] | inr a ↦ absurd a ];
-    rises = (refl, tt);
-  }
+  file_free h g = grind arith
 
   pub file_to : HasFile z (x ∷ p) → (k l : List ℕ) → IsMove z (x ∷ p) (y ∷ q) k l → IsOneOf k l F
   file_to h k l m = inl (only_file z x p (y ∷ q) h k l m)
 
   pub file_from : HasFile z (x ∷ p) → (k l : List ℕ) → IsOneOf k l F → IsMove z (x ∷ p) (y ∷ q) k l
-  file_from h k l (inl e) = inl (h, e.0, e.1)
-  file_from h k l (inr e) = absurd e
+  file_from h k l g = grind arith
 
   -- the marker above it is another key
   pub file_apart : is_marker (x ∷ p) ≡ false → (k : List ℕ) → marker_if (parent (x ∷ p)) ≡ Some k → IsIn k (sources F) → ⊥
@@ -154,10 +141,7 @@ module _ (z : Objects) (x : ℕ) (p : List ℕ) (y : ℕ) (q : List ℕ) where
       (to_move P Q (keys_below P z) (P ++ rest) (stands_below x (marker_of p) z (P ++ rest) v (begins_more P rest) s))
 
   pub dir_to : IsDirectory z (x ∷ p) → (k l : List ℕ) → IsMove z (x ∷ p) (y ∷ q) k l → IsOneOf k l D
-  dir_to h k l (inl m) = absurd (none_some h.0 m.0.1)
-  dir_to h k l (inr m) =
-      subst (λ k. IsOneOf k l D) (sym m.2.1)
-      (subst (λ l. IsOneOf (P ++ m.2.0) l D) (sym m.2.2) (to_dir m.2.0 m.1.0 (ap (fin.get z) (sym m.2.1) ∙ m.1.1)))
+  dir_to h k l g = grind (arith, to_dir)
 
   pub dir_from : IsDirectory z (x ∷ p) → (k l : List ℕ) → IsOneOf k l D → IsMove z (x ∷ p) (y ∷ q) k l
   dir_from h k l i = let r = moved_rest k l i in inr (h, dir_stands k l i, (r.0, r.1, r.2))
@@ -192,16 +176,10 @@ module _ (z : Objects) (x : ℕ) (p : List ℕ) (y : ℕ) (q : List ℕ) where
     no_source k n i = none_some n (below_stands P z k (subst (IsIn k) (sources_to P Q (keys_below P z)) i)).1.1
 
     not_target : (k : List ℕ) → begins Q k ≡ false → IsIn k (targets D) → ⊥
-    not_target k f i =
-        let w = is_target D k i in
-        let r = moved_rest w.0 k w.1 in
-        false≢true (sym f ∙ begins_rest Q k r.0 r.2)
+    not_target k h g = grind (arith, is_target, moved_rest, begins_rest)
 
     no_target : (rest : List ℕ) → fin.get z (P ++ rest) ≡ None → IsIn (Q ++ rest) (targets D) → ⊥
-    no_target rest n i =
-        let w = is_target D (Q ++ rest) i in
-        let r = moved_rest w.0 (Q ++ rest) w.1 in
-        none_some n (ap (λ v. fin.get z (P ++ v)) (append_cancel_left Q rest r.0 r.2) ∙ ap (fin.get z) (sym r.1) ∙ (dir_stands w.0 (Q ++ rest) w.1).1)
+    no_target rest h g = grind (arith, is_target, moved_rest, append_cancel_left, dir_stands)
 
     moved : (rest : List ℕ) → fin.get N (Q ++ rest) ≡ fin.get z (P ++ rest)
     moved rest = elim (none_or_some (fin.get z (P ++ rest))) [
@@ -223,8 +201,4 @@ module _ (z : Objects) (x : ℕ) (p : List ℕ) (y : ℕ) (q : List ℕ) where
         other (inr f) i = not_target k f i
 
     pub dir_moved : IsDirMoved (x ∷ p) (y ∷ q) z N
-    dir_moved = record {
-      moved = moved;
-      gone = gone;
-      others = λ k a b. others_at_end None z D h k (not_source k a) (not_target k b);
-    }
+    dir_moved = grind (arith, moved, gone, others_at_end, not_source, not_target)

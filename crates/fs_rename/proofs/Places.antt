@@ -8,25 +8,19 @@ use Rattle.fs_tree.proofs.Begins.{marker_is}
 use Rattle.fs_rename.specs.Keys.{place_of}
 
 pub some_long : (s : List ℕ) → (length s == 0) ≡ false → 0 < length s
-some_long [] h = absurd (true≢false h)
-some_long (x ∷ s) h = omega arith
+some_long s h = grind arith
 
 pub target_elements : (t : List ℕ) → (length t == 0) ≡ false → is_key t ≡ true → are_elements t ≡ true
 target_elements t f k = (some_key t (some_long t f) k).0
 
 pub source_none : (s t : List ℕ) → (length s == 0) ≡ true → place_of s t ≡ None
-source_none [] t h = refl
-source_none (x ∷ s) t h = absurd (true≢false (sym h ∙ not_zero (length s)))
+source_none s t h = grind arith
 
 pub target_none : (s t : List ℕ) → (length t == 0) ≡ true → place_of s t ≡ None
-target_none [] t h = refl
-target_none (x ∷ s) [] h = refl
-target_none (x ∷ s) (y ∷ t) h = absurd (true≢false (sym h ∙ not_zero (length t)))
+target_none s t h = grind arith
 
 pub target_some : (s t : List ℕ) → (length s == 0) ≡ false → (length t == 0) ≡ false → place_of s t ≡ Some t
-target_some [] t f g = absurd (true≢false f)
-target_some (x ∷ s) [] f g = absurd (true≢false g)
-target_some (x ∷ s) (y ∷ t) f g = refl
+target_some s t h g = grind arith
 
 -- what has a new place is below a marker
 pub place_marker : (s t q : List ℕ) → place_of s t ≡ Some q → is_marker (prefix_of s) ≡ true

@@ -37,20 +37,8 @@ use Rattle.fs_rename.proofs.Steps.{fall_looked, fall_walked, fall_swept, fall_al
 
 -- ---- a look changes nothing
 
-looks_at : (b : Bool) (p : List ℕ) → is_look (asks_at p b) ≡ true
-looks_at false [] = refl
-looks_at _ _ = refl
-
-looks_in : (o : Renaming) (q : Option (List ℕ)) (b : Bool) → is_look (inside_asks_if o q b) ≡ true
-looks_in o None b = looks_at b o.source
-looks_in o (Some q) true = refl
-looks_in o (Some q) false = refl
-
 looks_there : (o : Renaming) (s : Spot) (b : Bool) → is_look (look_at_asks o s b) ≡ true
-looks_there o Source b = looks_at b o.source
-looks_there o Target b = looks_at b o.target
-looks_there o Above b = looks_at b (parent o.target)
-looks_there o Inside b = looks_in o (place_at o true) b
+looks_there o s b = grind arith
 
 still : (o : Renaming) (s : Spot) (b : Bool) (m : Objects) → edited (look_at_asks o s b) m ≡ m
 still o s b m = look_still (look_at_asks o s b) m (looks_there o s b)
@@ -68,12 +56,7 @@ module _ (x : ℕ) (p t : List ℕ) (z : Objects) where
   -- ---- looks
 
   under_by : IsAtOrBelow (x ∷ p) t → begins (marker_of (x ∷ p)) (prefix_of t) ≡ true
-  under_by (inl e) = subst (λ t. begins (marker_of (x ∷ p)) (prefix_of t) ≡ true) (sym e) (begins_all (marker_of (x ∷ p)))
-  under_by (inr b) = more t b
-    where
-      more : (t : List ℕ) → begins (marker_of (x ∷ p)) t ≡ true → begins (marker_of (x ∷ p)) (prefix_of t) ≡ true
-      more [] b = absurd (false≢true b)
-      more (y ∷ t) b = begins_trans (marker_of (x ∷ p)) (y ∷ t) (marker_of (y ∷ t)) b (begins_marker (y ∷ t))
+  under_by h = grind (arith, begins_all, begins_trans, begins_marker)
 
   under_is : (t : List ℕ) → begins (marker_of (x ∷ p)) (prefix_of t) ≡ true → IsAtOrBelow (x ∷ p) t
   under_is [] b = absurd (false≢true b)
@@ -84,9 +67,7 @@ module _ (x : ℕ) (p t : List ℕ) (z : Objects) where
   begins_at false d e h = (refl, record { source = h; apart = λ i. false≢true (sym e ∙ under_by i) }, tt)
 
   source_found : (k : Kind) → TellsKind z (x ∷ p) k → On (on_source O false k) z
-  source_found File h = begins_at (begins (marker_of (x ∷ p)) (prefix_of t)) false refl h
-  source_found Directory h = begins_at (begins (marker_of (x ∷ p)) (prefix_of t)) true refl h
-  source_found Nothing h = (h, refl)
+  source_found k h = grind (arith, begins_at)
 
   -- ---- the file's own key, or the keys below the directory
 
@@ -114,23 +95,17 @@ module _ (x : ℕ) (p t : List ℕ) (z : Objects) where
   goes_to false i q h = subst (λ v. On (file_to O v) z) (sym h.at) (file_goes i q h)
 
   some_target : (t : List ℕ) → IsAbsent z t → key_if t ≡ Some t
-  some_target [] h = absurd h
-  some_target (y ∷ t) h = refl
+  some_target t h = grind arith
 
   inside_found : (d : Bool) (k : Kind) → Begun O z d → IsDirectory z t → TellsKind z (inside (x ∷ p) t) k → On (on_inside O d k) z
-  inside_found d File b i h = (may_move d b, inr (i, h), refl)
-  inside_found d Directory b i h = (may_move d b, i, h, refl)
-  inside_found d Nothing b i h = goes_to d true (inside (x ∷ p) t) (record { begun = b; place = inl (i, refl); free = h; at = some_target (inside (x ∷ p) t) h })
+  inside_found d k h g e = grind (arith, may_move, goes_to, some_target)
 
   above_found : (d : Bool) (k : Kind) → Begun O z d → IsAbsent z t → TellsKind z (parent t) k → On (on_above O d k) z
   above_found d Directory b n h = goes_to d false t (record { begun = b; place = inr (n, h, refl); free = n; at = some_target t n })
   above_found d _ b n h = (may_move d b, n, h, refl)
 
   kind_found : (s : Spot) (d : Bool) (k : Kind) → Before O z s d → TellsKind z (path_at O s) k → On (found O s d k) z
-  kind_found Source d k b h = source_found k h
-  kind_found Target d k b h = (elim k as (λ k. TellsKind z t k → On (on_target d k) z) [ File ↦ λ h. (may_move d b, inl h, refl) | _ ↦ λ h. (refl, (b, h), tt) ]) h
-  kind_found Inside d k b h = inside_found d k b.0 b.1 h
-  kind_found Above d k b h = above_found d k b.0 b.1 h
+  kind_found s d k h g = grind (arith, source_found, TellsKind, may_move, inside_found, above_found)
 
   look_goes : (s : Spot) (d : Bool) (k : Option Kind) → Before O z s d → Tells z (path_at O s) k → On (looked O s d k) z
   look_goes s d (Some k) b h = kind_found s d k b h
@@ -171,9 +146,7 @@ module _ (x : ℕ) (p t : List ℕ) (z : Objects) where
   walked_on i q h (Whole found) w = subst (λ v. On (listed_to O v (keys_on found)) z) (sym h.at) (walk_to i q h (keys_on found) (ap keys_on w))
 
   walking : (i : Bool) (q : List ℕ) (found : List PageEntry) → IsReady O z true i q → IsWalking (marker_of (x ∷ p)) z found → On (on_walk O i found (reply_in z (walk_asks (marker_of (x ∷ p)) found)) (fits (reply_in z (walk_asks (marker_of (x ∷ p)) found)))) z
-  walking i q found h w =
-      subst (λ b. On (on_walk O i found (reply_in z (walk_asks (marker_of (x ∷ p)) found)) b) z) (sym (walk_fits (marker_of (x ∷ p)) found z))
-      (walked_on i q h (walked_entries found (reply_in z (walk_asks (marker_of (x ∷ p)) found))) (walk_goes (marker_of (x ∷ p)) z found w))
+  walking i q found h g = grind (arith, walk_fits, walked_on, walk_goes)
 
   -- ---- the copies, the batches and the marker
 
@@ -210,10 +183,7 @@ module _ (x : ℕ) (p t : List ℕ) (z : Objects) where
   tells_inside (y ∷ q) b n = inside_tells z y q b n
 
   stage_look : (s : Spot) (b d : Bool) → Before O z s d → NoFileIf b z (path_at O s) → On (on O (Looking s b d) (reply_in z (look_at_asks O s b))) z
-  stage_look Source b d g n = look_goes Source d _ g (place_tells z (x ∷ p) b n)
-  stage_look Target b d g n = look_goes Target d _ g (place_tells z t b n)
-  stage_look Above b d g n = look_goes Above d _ g (place_tells z (parent t) b n)
-  stage_look Inside b d g n = look_goes Inside d _ g (tells_inside (inside (x ∷ p) t) b n)
+  stage_look s b d h g = grind (arith, look_goes, place_tells, tells_inside)
 
   step : (s : RenameStage) (m : Objects) → holds O z s m → On (on O s (reply_in m (asks O s))) (edited (asks O s) m)
   step (Looking s b d) m h =
@@ -230,15 +200,7 @@ module _ (x : ℕ) (p t : List ℕ) (z : Objects) where
 
 root_step : (t : List ℕ) (z : Objects) (s : RenameStage) (m : Objects) → holds (record { source = []; target = t }) z s m
     → Goes (holds (record { source = []; target = t }) z) (gives (record { source = []; target = t }) z) (on (record { source = []; target = t }) s (reply_in m (asks (record { source = []; target = t }) s))) (edited (asks (record { source = []; target = t }) s) m)
-root_step t z (Looking Source true d) m h = absurd h.2
-root_step t z (Looking Source false d) m h = (refl, h.0)
-root_step t z (Looking Target b d) m h = absurd (no_root d z h.1.source)
-root_step t z (Looking Inside b d) m h = absurd (no_root d z h.1.0.source)
-root_step t z (Looking Above b d) m h = absurd (no_root d z h.1.0.source)
-root_step t z (Walk i keys) m h = absurd (no_root true z h.1.1.begun.source)
-root_step t z (Parent k) m h = absurd (no_root h.1.0 z h.1.3.ready.begun.source)
-root_step t z (PutMarker k) m h = absurd (no_root h.1.0 z h.1.3.ready.begun.source)
-root_step t z _ m h = absurd (no_root h.0 z h.3.ready.begun.source)
+root_step t z s m h = grind arith
 
 steps : (p t : List ℕ) (z : Objects) (s : RenameStage) (m : Objects) → holds (record { source = p; target = t }) z s m
     → Goes (holds (record { source = p; target = t }) z) (gives (record { source = p; target = t }) z) (on (record { source = p; target = t }) s (reply_in m (asks (record { source = p; target = t }) s))) (edited (asks (record { source = p; target = t }) s) m)
@@ -249,14 +211,10 @@ steps (x ∷ p) t z s m h = step x p t z s m h
 
 -- where no file was seen the look below a path tells
 told : (r b : Bool) (l : Look) → b ≡ true → kind_of r b l ≡ None → ⊥
-told false false l e f = false≢true e
-told false true There e f = absurd (cc)
-told _ _ _ e f = absurd (cc)
+told r b l h g = grind arith
 
 falls_walk : (o : Renaming) (i : Bool) (found : List PageEntry) (m : Objects) → Falls (left o) (on o (Walk i found) (reply_in m (asks o (Walk i found)))) m (left o (Walk i found) m)
-falls_walk o i found m =
-    subst (λ b. Falls (left o) (on_walk o i found (reply_in m (walk_asks (prefix_of o.source) found)) b) m (left o (Walk i found) m)) (sym (walk_fits (prefix_of o.source) found m))
-    (fall_walked o m i (walked_entries found (reply_in m (walk_asks (prefix_of o.source) found))) _ (walk_falls (prefix_of o.source) found m))
+falls_walk o i found m = grind (arith, walk_fits, fall_walked, walk_falls)
 
 falls_batch : (o : Renaming) (w : walks.Sweep) (m : Objects) → Falls (left o) (on o (Batch w) (reply_in m (asks o (Batch w)))) (edited (asks o (Batch w)) m) (left o (Batch w) m)
 falls_batch o w m =
@@ -278,15 +236,12 @@ falls o z (Parent k) m h = fall_parent o m k (look_of (reply_in m (asks o (Paren
 falls o z (PutMarker k) m h = tt
 
 stays : (o : Renaming) (s : RenameStage) (m : Objects) → left o s (edited (asks o s) m) ≡ left o s m
-stays o (Looking s b d) m = ap (left o (Looking s b d)) (still o s b m)
-stays o (Batch w) m = ap (λ n. n + 3) (sweep_stays (prefix_of o.source) w m)
-stays o _ m = refl
+stays o s m = grind (arith, still, sweep_stays)
 
 -- ---- at any moment
 
 deleted_way : (o : Renaming) (z : Objects) (d i : Bool) (q : List ℕ) (w : walks.Sweep) (m : Objects) → MayGo o z d i q → IsDeleted (copied_all z (moves_of d o.source q z)) (sources (moves_of d o.source q z)) (Some w) m → always o z m
-deleted_way o z d i q (Listing keys) m g h = absurd h
-deleted_way o z d i q (Deleting k ks) m g h = inr (d, i, q, g, inr (inl (k ∷ ks, h)))
+deleted_way o z d i q w m h g = grind arith
 
 moved_way : (o : Renaming) (z m : Objects) → IsMoved o z m → always o z m
 moved_way o z m h = inr (h.0, h.1, h.2, h.3, inr (inl ([], (sources (moves_of h.0 o.source h.2 z), append-nil (sources (moves_of h.0 o.source h.2 z)), h.4))))
@@ -300,18 +255,10 @@ during o z _ m h = inl h.0
 
 -- a refused renaming changes nothing
 refused : (x : ℕ) (p t : List ℕ) (z m : Objects) (r : RenameRefusal) → RenamesPath (x ∷ p) t z (Err r) m → m ≡ z
-refused x p t z m SourceMissing h = h.1
-refused x p t z m UnderSource h = h.2
-refused x p t z m TargetFile h = h.2
-refused x p t z m TargetExists h = h.3
-refused x p t z m ParentIsFile h = h.3
-refused x p t z m ParentMissing h = h.3
-refused x p t z m (TooLong k) h = h.1
-refused x p t z m r h = absurd h
+refused x p t z m r h = grind arith
 
 refused_at : (p t : List ℕ) (z m : Objects) (r : RenameRefusal) → Renames p t z (Err r) m → m ≡ z
-refused_at [] t z m r h = h.1
-refused_at (x ∷ p) t z m r h = refused x p t z m r h
+refused_at p t z m r h = grind arith
 
 at_end : (o : Renaming) (z : Objects) (a : Answer) (m : Objects) → gives o z a m → always o z m
 at_end o z (Ok x) m h = inr (h.1.0, h.1.1, h.1.2, h.1.3, inr (inr (subst (λ n. IsMarked (marker_if (parent o.source)) n m) h.1.4 h.2)))

@@ -20,55 +20,30 @@ module _ (o : Renaming) (m : Objects) where
   fall_copy (Some k) (Some l) n h = omega (arith, h)
   fall_copy _ _ n h = tt
 
-  fall_go : (d i : Bool) (n : ℕ) → 2 * sweep_left (prefix_of o.source) sweep_start m + 4 < n → Falls (left o) (go o d i) m n
-  fall_go true i n h = h
-  fall_go false i n h = elim (place_at o i) as (λ q. Falls (left o) (file_to o q) m n) [ None ↦ tt | Some q ↦ fall_copy (key_if o.source) (fitting q) n (omega (arith, h)) ]
-
   fall_begun : (u d : Bool) (n : ℕ) → 2 * sweep_left (prefix_of o.source) sweep_start m + 8 < n → Falls (left o) (begun u d) m n
-  fall_begun true d n h = tt
-  fall_begun false d n h = omega (arith, h)
+  fall_begun u d n h = grind arith
 
   fall_source : (r : Bool) (k : Kind) (n : ℕ) → 2 * sweep_left (prefix_of o.source) sweep_start m + 8 < n → Falls (left o) (on_source o r k) m n
-  fall_source true k n h = tt
-  fall_source false k n h = elim k as (λ k. Falls (left o) (on_source o false k) m n) [
-    | File ↦ fall_begun (begins (prefix_of o.source) (prefix_of o.target)) false n h
-    | Directory ↦ fall_begun (begins (prefix_of o.source) (prefix_of o.target)) true n h
-    | Nothing ↦ tt
-  ]
+  fall_source r k n h = grind arith
 
   fall_target : (d : Bool) (k : Kind) (n : ℕ) → 2 * sweep_left (prefix_of o.source) sweep_start m + 6 < n → Falls (left o) (on_target d k) m n
-  fall_target d File n h = tt
-  fall_target d _ n h = omega (arith, h)
+  fall_target d k n h = grind arith
 
   fall_inside : (d : Bool) (k : Kind) (n : ℕ) → 2 * sweep_left (prefix_of o.source) sweep_start m + 4 < n → Falls (left o) (on_inside o d k) m n
-  fall_inside d Nothing n h = fall_go d true n h
-  fall_inside d _ n h = tt
+  fall_inside d k n h = grind arith
 
   fall_above : (d : Bool) (k : Kind) (n : ℕ) → 2 * sweep_left (prefix_of o.source) sweep_start m + 4 < n → Falls (left o) (on_above o d k) m n
-  fall_above d Directory n h = fall_go d false n h
-  fall_above d _ n h = tt
+  fall_above d k n h = grind arith
 
   fall_found : (s : Spot) (d : Bool) (k : Kind) (b : Bool) → Falls (left o) (found o s d k) m (2 * sweep_left (prefix_of o.source) sweep_start m + 4 + looks_left s b)
-  fall_found Source d k true = fall_source _ k _ (omega arith)
-  fall_found Source d k false = fall_source _ k _ (omega arith)
-  fall_found Target d k true = fall_target d k _ (omega arith)
-  fall_found Target d k false = fall_target d k _ (omega arith)
-  fall_found Inside d k true = fall_inside d k _ (omega arith)
-  fall_found Inside d k false = fall_inside d k _ (omega arith)
-  fall_found Above d k true = fall_above d k _ (omega arith)
-  fall_found Above d k false = fall_above d k _ (omega arith)
+  fall_found s d k b = grind (arith, fall_source, fall_target, fall_inside, fall_above)
 
   -- where no file is seen at a path, it is looked below it once
   pub fall_looked : (s : Spot) (d b : Bool) (k : Option Kind) → (b ≡ true → k ≡ None → ⊥) → Falls (left o) (looked o s d k) m (2 * sweep_left (prefix_of o.source) sweep_start m + 4 + looks_left s b)
-  fall_looked s d b (Some k) f = fall_found s d k b
-  fall_looked s d true None f = absurd (f refl refl)
-  fall_looked Source d false None f = omega arith
-  fall_looked _ d false None f = omega arith
+  fall_looked s d b k h = grind (arith, fall_found)
 
   fall_places : (ks : List (List ℕ)) (r : Result (List (List ℕ)) (List ℕ)) (n : ℕ) → 2 * length ks + 4 < n → Falls (left o) (with_places ks r) m n
-  fall_places ks (Err k) n h = tt
-  fall_places [] (Ok ls) n h = tt
-  fall_places (k ∷ ks) (Ok ls) n h = omega (arith, h)
+  fall_places ks r n h = grind arith
 
   pub fall_walked : (i : Bool) (w : Walked PageEntry) (n : ℕ) → LessWalked (prefix_of o.source) m w n → Falls (left o) (on_walked o i w) m (2 * n + 4)
   fall_walked i (More found) n h = omega (arith, h)
@@ -78,20 +53,17 @@ module _ (o : Renaming) (m : Objects) where
   ]
 
   fall_up : (u : Option (List ℕ)) (n : ℕ) → 1 < n → Falls (left o) (up_to u) m n
-  fall_up None n h = tt
-  fall_up (Some k) n h = h
+  fall_up u n h = grind arith
 
   pub fall_swept : (w : Option walks.Sweep) (n : ℕ) → LessLeft (prefix_of o.source) m w n → Falls (left o) (swept o w) m (n + 3)
   fall_swept (Some w) n h = omega (arith, h)
   fall_swept None n h = fall_up (marker_if (parent o.source)) (n + 3) (omega arith)
 
   fall_deleting : (ks : List (List ℕ)) (n : ℕ) → length ks + 3 < n → Falls (left o) (swept o (deleting ks)) m n
-  fall_deleting [] n h = fall_up (marker_if (parent o.source)) n (omega (arith, h))
-  fall_deleting (k ∷ ks) n h = h
+  fall_deleting ks n h = grind arith
 
   pub fall_parent : (k : List ℕ) (l : Look) → Falls (left o) (on_parent k l) m 1
-  fall_parent k There = tt
-  fall_parent k _ = omega arith
+  fall_parent k l = grind arith
 
   pub fall_all : (ks : List (List ℕ)) (n : ℕ) → length ks + 3 < n → Falls (left o) (on_copied o (All ks)) m n
   fall_all ks n h = fall_deleting ks n h

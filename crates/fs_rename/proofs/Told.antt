@@ -19,12 +19,10 @@ use Rattle.fs_rename.proofs.Inside.{no_marker, inside_elements}
 -- ---- the source is not the root
 
 pub no_root : (d : Bool) (z : Objects) → IsSource d z [] → ⊥
-no_root true z h = h.0
-no_root false z h = h.1
+no_root d z h = grind arith
 
 pub stands : (d : Bool) (z : Objects) (x : ℕ) (p : List ℕ) → IsSource d z (x ∷ p) → HasFile z (x ∷ p) ⊎ IsDirectory z (x ∷ p)
-stands true z x p h = inr h
-stands false z x p h = inl h
+stands d z x p h = grind arith
 
 -- ---- at any moment
 
@@ -32,9 +30,7 @@ stands false z x p h = inl h
 whole_of : (u : Option (List ℕ)) (z : Objects) (ps : List Move) (m : Objects) → AreFree z ps → ((k : List ℕ) → u ≡ Some k → IsIn k (sources ps) → ⊥)
     → ((n : ℕ) × (m ≡ copied_all z (take n ps))) ⊎ (((left : List (List ℕ)) × IsDeleting (copied_all z ps) (sources ps) left m) ⊎ IsMarked u (without (copied_all z ps) (sources ps)) m)
     → AreWhole u z ps m
-whole_of u z ps m h a (inl w) = subst (AreWhole u z ps) (sym w.1) (whole_copying u z ps h w.0)
-whole_of u z ps m h a (inr (inl w)) = subst (AreWhole u z ps) (sym w.1.2) (whole_emptying u z ps h w.1.0 (λ k i. subst (IsIn k) w.1.1 (in_front k w.1.0 w.0 i)))
-whole_of u z ps m h a (inr (inr g)) = whole_marked u z ps h m a g
+whole_of u z ps m h g e = grind (arith, AreWhole, whole_copying, whole_emptying, in_front, whole_marked)
 
 module _ (x : ℕ) (p t : List ℕ) (z : Objects) where
   abbrev O : Renaming
@@ -76,9 +72,7 @@ module _ (x : ℕ) (p t : List ℕ) (z : Objects) where
       record { directory = h; tree = moves_dir x p y q z n m is_moved w g.free.1 up h.1; moved = n; placed = is_moved; marked = w }
 
   place_no_marker : (q : List ℕ) → is_key (x ∷ p) ≡ true → is_key t ≡ true → IsPlace z (x ∷ p) t q → is_marker q ≡ false
-  place_no_marker q k l (inl h) = ap is_marker h.1 ∙ no_marker (inside (x ∷ p) t) (inside_elements (x ∷ p) t (omega arith) k l)
-  place_no_marker q k l (inr h) =
-      ap is_marker h.2 ∙ ((elim t as (λ t. is_key t ≡ true → IsAbsent z t → is_marker t ≡ false) [ [] ↦ λ l a. absurd a | v ∷ t ↦ λ l a. key_no_marker v t l ]) l h.0)
+  place_no_marker q h g e = grind (arith, no_marker, inside_elements, key_no_marker)
 
   renames_by : (d i : Bool) (q : List ℕ) (n m : Objects) → is_key (x ∷ p) ≡ true → is_key t ≡ true → MayGo O z d i q → n ≡ moved O z d q → IsMarked (marker_if (parent (x ∷ p))) n m → RenamesFile (x ∷ p) q z m ⊎ RenamesDir (x ∷ p) q z m
   renames_by d i [] n m k l g e w = absurd g.ready.free
@@ -93,9 +87,7 @@ module _ (x : ℕ) (p t : List ℕ) (z : Objects) where
 
 -- what a renaming gives is what it is in the tree
 renames : (p t : List ℕ) (z : Objects) (a : Answer) (m : Objects) → is_key p ≡ true → is_key t ≡ true → gives (record { source = p; target = t }) z a m → Renames p t z a m
-renames [] t z (Ok u) m k l h = absurd (no_root h.1.0 z h.1.3.ready.begun.source)
-renames [] t z (Err r) m k l h = h
-renames (x ∷ p) t z a m k l h = path_renames x p t z a m k l h
+renames p t z a m h g e = grind (arith, no_root, path_renames)
 
 -- and at any moment each object of the source stands whole
 stand_whole : (p t : List ℕ) (z m : Objects) → is_key p ≡ true → always (record { source = p; target = t }) z m → MayStand p t z m

@@ -1,5 +1,5 @@
 -- Each object stands whole while it is moved.
-use Rattle.std.proofs.Common.{◌≡◌, ◌⊎◌, inl, inr, ℕ, suc, true, false, List, [], ◌∷◌, take, Option, Some, None, refl, sym, ap, subst, ◌∙◌}
+use Rattle.std.proofs.Common.{◌≡◌, ◌⊎◌, inl, inr, ℕ, suc, true, false, List, [], ◌∷◌, take, Option, Some, None, refl, sym, ap, subst, ◌∙◌, arith}
 use Rattle.path_keys.proofs.Common.{false≢true, lt_not, same_or_other, text_here, text_other, none_some}
 use Rattle.fs_ops.specs.Prelude.{is_lt, text_cmp, text_total, Objects, without, IsIn, RisesFrom, NoneBelow, marker, parent, marker_if, IsMarked, IsMove, IsWhole}
 use Rattle.std.specs.FinMap as fin
@@ -132,18 +132,10 @@ module _ (u : Option (List ℕ)) (z : Objects) (ps : List Move) (h : AreFree z p
         elim (same_or_other k q) [ inl f ↦ inr (e ∙ ap Some (sym f), text_here D q k marker f) | inr f ↦ inl (text_other D q k marker f ∙ others_at_end k s t) ]
 
     whole_put : AreWhole u z ps E
-    whole_put = record {
-      moved = λ k l i. inr (put_old k l i, put_new k l i);
-      new = λ k l i. inr (put_new k l i);
-      in_order = λ k l j i a b less f. put_new j i b;
-      all_first = λ k l j i a b f. put_new j i b;
-      others = put_others;
-    }
+    whole_put = grind (arith, put_old, put_new, put_others)
 
   whole_by : (v : Option (List ℕ)) (m : Objects) → u ≡ v → ((q : List ℕ) → v ≡ Some q → IsIn q (sources ps) → ⊥) → IsMarked v D m → AreWhole u z ps m
-  whole_by None m e a g = subst (AreWhole u z ps) (sym g) (whole_emptying (sources ps) (λ k g. g))
-  whole_by (Some q) m e a (inl g) = subst (AreWhole u z ps) (sym g.1) (whole_emptying (sources ps) (λ k g. g))
-  whole_by (Some q) m e a (inr g) = subst (AreWhole u z ps) (sym g.1) (whole_put q e g.0 (a q refl))
+  whole_by v m h g e = grind (arith, whole_emptying, whole_put)
 
   pub whole_marked : (m : Objects) → ((q : List ℕ) → u ≡ Some q → IsIn q (sources ps) → ⊥) → IsMarked u D m → AreWhole u z ps m
   whole_marked m a g = whole_by u m refl a g

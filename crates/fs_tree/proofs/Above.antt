@@ -50,20 +50,11 @@ front_begins (x ∷ front) back = ap (λ b. b && begins (marker_of front) (front
 
 -- the marker of a path above a path begins that of its parent
 pub above_parent : (q p : List ℕ) → begins (marker_of q) p ≡ true → begins (marker_of q) (marker_of (parent p)) ≡ true
-above_parent q p h = elim (cut p) [
-      inl n ↦ absurd (no_begin q p n h)
-    | inr c ↦ subst (λ v. begins (marker_of q) (marker_of v) ≡ true) (before_slash p c.0 c.1 c.2 c.3) (begins_cut q c.0 c.1 c.3 (ap (begins (marker_of q)) (sym c.2) ∙ h))
-  ]
-
-no_cons : (x : ℕ) (u : List ℕ) → [] ≡ x ∷ u → ⊥
-no_cons x u h = cc
+above_parent q p h = grind (arith, cut, no_begin, before_slash, begins_cut)
 
 -- a path is below its parent
 pub parent_begins : (p : List ℕ) (x : ℕ) (u : List ℕ) → parent p ≡ x ∷ u → begins (marker_of (x ∷ u)) p ≡ true
-parent_begins p x u h = elim (cut p) [
-      inl n ↦ absurd (no_cons x u (before_none p n ∙ h))
-    | inr c ↦ subst (λ v. begins (marker_of v) p ≡ true) (before_slash p c.0 c.1 c.2 c.3 ∙ h) (ap (begins (marker_of c.0)) c.2 ∙ front_begins c.0 c.1)
-  ]
+parent_begins p x u h = grind (arith, cut, before_none, before_slash, front_begins)
 
 -- ---- all of them
 
@@ -120,7 +111,8 @@ pub key_no_marker : (x : ℕ) (p : List ℕ) → is_key (x ∷ p) ≡ true → i
 key_no_marker x p k = contrary (is_marker (x ∷ p)) (λ e.
     let w = marker_ends (x ∷ p) e in
     let parts = ap (parts_of 47) w.1 ∙ parts_append 47 w.0 [] ∙ ap (λ (l : List (List ℕ)). parts_of 47 w.0 ++ l) (one_part 47 [] refl) in
-    let all : (list_all is_element (parts_of 47 w.0) && false) ≡ true = sym (ap (list_all is_element) parts ∙ list_all-append is_element (parts_of 47 w.0) ([] ∷ [])) ∙ (some_key (x ∷ p) (omega arith) k).0 in
+    let all : (list_all is_element (parts_of 47 w.0) && false) ≡ true = sym (ap (list_all is_element) parts ∙ list_all-append is_element (parts_of 47 w.0) ([] ∷ []))
+    ∙ (some_key (x ∷ p) (omega arith) k).0 in
     (both (list_all is_element (parts_of 47 w.0)) false all).1)
 
 -- ---- the elements of an object's key
@@ -178,9 +170,7 @@ below_marker (y ∷ p) x n = marker_behind (y ∷ p) 47 (x ∷ n)
 
 -- of a file, and of a directory in which something stands
 pub file_element : (p : List ℕ) (x : ℕ) (n : List ℕ) → NoSlash (x ∷ n) → is_key_path (below p (x ∷ n)) ≡ true → is_element (x ∷ n) ≡ true
-file_element p x n s h =
-    let k = below p (x ∷ n) in
-    name_element p (x ∷ n) s (ap are_elements (other_end k (below_marker p x n ∙ plain_end (x ∷ n) s)) ∙ key_elements k h)
+file_element p x n h g = grind (arith, name_element, other_end, below_marker, plain_end, key_elements)
 
 pub dir_element : (p n r : List ℕ) → NoSlash n → is_key_path (below p n ++ 47 ∷ r) ≡ true → is_element n ≡ true
 dir_element p n r s h = name_element p n s (front_elements (below p n) r (key_elements (below p n ++ 47 ∷ r) h))

@@ -4,8 +4,7 @@ use Rattle.path_keys.proofs.Common.{false≢true, eq_nat, nat_true}
 use Rattle.fs_tree.specs.Prelude.{begins, marker_of, is_marker}
 
 pub both : (a b : Bool) → (a && b) ≡ true → (a ≡ true) × (b ≡ true)
-both true b h = (refl, h)
-both false b h = absurd (false≢true h)
+both a b h = grind arith
 
 pub begins_more : (p t : List ℕ) → begins p (p ++ t) ≡ true
 begins_more [] t = refl

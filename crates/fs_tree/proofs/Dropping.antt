@@ -7,13 +7,12 @@ use Rattle.fs_tree.specs.Changes.{DropsFile, DropsDir}
 use Rattle.fs_tree.specs.Moves.{IsAtOrBelow}
 use Rattle.fs_tree.proofs.Begins.{begins_all, begins_trans, begins_marker, begins_length, one_begins, marker_is, marker_at}
 use Rattle.fs_tree.proofs.Above.{above_parent, parent_begins}
-use Rattle.fs_tree.proofs.Making.{put_stands, put_was, dir_of, has_marker}
+use Rattle.fs_tree.proofs.Making.{put_stands, put_was, dir_of, dir_each, dir_by, has_marker}
 
 -- ---- a marker that is put where nothing is left
 
 pub if_marker : (u k : List ℕ) → marker_if u ≡ Some k → marker_of u ≡ k
-if_marker [] k h = absurd (cc)
-if_marker (x ∷ u) k h = some_is h
+if_marker u k h = grind arith
 
 -- what stands then stood before, or is the marker
 pub marked_was : (u : Option (List ℕ)) (n m : Objects) → IsMarked u n m → (k : List ℕ) → Stands m k → Stands n k ⊎ (u ≡ Some k)
@@ -28,9 +27,7 @@ marked_stands (Some u) n m (inr g) k h = subst (λ m. Stands m k) (sym g.1) (put
 
 -- other keys are as they were
 pub marked_other : (u : Option (List ℕ)) (n m : Objects) → IsMarked u n m → (k : List ℕ) → (u ≡ Some k → ⊥) → fin.get m k ≡ fin.get n k
-marked_other None n m g k f = ap (λ m. fin.get m k) g
-marked_other (Some u) n m (inl g) k f = ap (λ m. fin.get m k) g.1
-marked_other (Some u) n m (inr g) k f = ap (λ m. fin.get m k) g.1 ∙ text_other n u k marker (λ e. f (ap Some (sym e)))
+marked_other u n m h k g = grind (arith, text_other)
 
 pub marker_key : (u k : List ℕ) → marker_if u ≡ Some k → is_marker k ≡ true
 marker_key u k e = ap is_marker (sym (if_marker u k e)) ∙ marker_is u
@@ -59,9 +56,7 @@ module _ (p : List ℕ) where
 
   -- a marker that begins the one above begins the path
   pub through : (u : List ℕ) → parent p ≡ u → (k q : List ℕ) → marker_if u ≡ Some k → begins (marker_of q) k ≡ true → begins (marker_of q) p ≡ true
-  through [] e k q f b = absurd (cc)
-  through (x ∷ u) e k q f b =
-      begins_trans (marker_of q) (marker_of (x ∷ u)) p (ap (begins (marker_of q)) (some_is f) ∙ b) (parent_begins p x u e)
+  through u h k q g e = grind (arith, begins_trans, parent_begins)
 
 -- ---- a file
 
@@ -69,27 +64,19 @@ drop_was : (z : Objects) (p k : List ℕ) → Stands (fin.remove z p) k → Stan
 drop_was z p k h = elim (same_or_other k p) [ inl e ↦ absurd (none_some (text_gone z p k e) h.1) | inr n ↦ (h.0, sym (text_left z p k n) ∙ h.1) ]
 
 module _ (p : List ℕ) (z m : Objects) (g : IsMarked (marker_if (parent p)) (fin.remove z p) m) where
-  file_dirs_kept : (q : List ℕ) → HasDir z q → HasDir m q
-  file_dirs_kept [] h = tt
-  file_dirs_kept (x ∷ q) h = elim (same_or_other h.0 p) [
-        inl e ↦ above_kept p (parent p) refl (fin.remove z p) m g (x ∷ q) (ap (begins (marker_of (x ∷ q))) (sym e) ∙ h.1)
-      | inr n ↦ let w = marked_stands (marker_if (parent p)) (fin.remove z p) m g h.0 (h.2, text_left z p h.0 n ∙ h.3) in (h.0, h.1, w.0, w.1)
-    ]
-
-  file_dirs_only : Stands z p → (q : List ℕ) → HasDir m q → HasDir z q
-  file_dirs_only f [] h = tt
-  file_dirs_only f (x ∷ q) h = elim (marked_was (marker_if (parent p)) (fin.remove z p) m g h.0 (h.2, h.3)) [
-        inl s ↦ let w = drop_was z p h.0 s in (h.0, h.1, w.0, w.1)
-      | inr e ↦ (p, through p (parent p) refl h.0 (x ∷ q) e h.1, f.0, f.1)
-    ]
-
   -- a file that goes is gone in the tree, and nothing else is
   pub drops_file : is_marker p ≡ false → Stands z p → DropsFile p z m
   drops_file f s = record {
     gone = marked_files (parent p) (fin.remove z p) m g p f ∙ text_gone z p p refl;
     files = λ k i n. marked_files (parent p) (fin.remove z p) m g k i ∙ text_left z p k n;
-    kept = λ q h. file_dirs_kept q h;
-    only = λ q h. file_dirs_only s q h;
+    kept = λ q. dir_each z m q (λ k b s. elim (same_or_other k p) [
+      | inl e ↦ above_kept p (parent p) refl (fin.remove z p) m g q (ap (begins (marker_of q)) (sym e) ∙ b)
+      | inr n ↦ dir_by m q k b (marked_stands (marker_if (parent p)) (fin.remove z p) m g k (s.0, text_left z p k n ∙ s.1))
+    ]);
+    only = λ q. dir_each m z q (λ k b v. elim (marked_was (marker_if (parent p)) (fin.remove z p) m g k v) [
+      | inl v ↦ dir_by z q k b (drop_was z p k v)
+      | inr e ↦ dir_by z q p (through p (parent p) refl k q e b) s
+    ]);
   }
 
 -- ---- a directory
@@ -103,7 +90,8 @@ marker_not_below x p (v ∷ u) k e f b =
     omega (arith, l, s, length-append p (47 ∷ []))
 
 -- of a path that neither is another nor is below it: a directory at it, with a key that begins with the other's marker, is above the other
-pub stands_above : (x : ℕ) (p d k : List ℕ) → (IsAtOrBelow (x ∷ p) d → ⊥) → begins (marker_of d) k ≡ true → begins (marker_of (x ∷ p)) k ≡ true → begins (marker_of d) (x ∷ p) ≡ true
+pub stands_above : (x : ℕ) (p d k : List ℕ) → (IsAtOrBelow (x ∷ p) d → ⊥) → begins (marker_of d) k ≡ true → begins (marker_of (x ∷ p)) k ≡ true
+    → begins (marker_of d) (x ∷ p) ≡ true
 stands_above x p d k f h t = elim (one_begins (marker_of d) (marker_of (x ∷ p)) k h t) [
   | inl i ↦ elim (marker_at d (x ∷ p) i) [ inl e ↦ absurd (f (inl e)) | inr b ↦ b ]
   | inr i ↦ elim (marker_at (x ∷ p) d i) [ inl e ↦ absurd (f (inl (sym e))) | inr b ↦ absurd (f (inr b)) ]
@@ -124,22 +112,14 @@ module _ (x : ℕ) (p : List ℕ) (z n m : Objects) (w : IsWithoutBelow (marker_
   no_dir (y ∷ q) b h = none_some (gone_below h.0 (begins_trans Q (marker_of (y ∷ q)) h.0 b h.1)) h.3
 
   dirs_kept : (q : List ℕ) → begins Q (marker_of q) ≡ false → HasDir z q → HasDir m q
-  dirs_kept [] b h = tt
-  dirs_kept (y ∷ q) b h = elim (true_or_false (begins Q h.0)) [
-    | inl t ↦ above_kept (x ∷ p) (parent (x ∷ p)) refl n m g (y ∷ q) (stands_above x p (y ∷ q) h.0 apart h.1 t)
-    | inr f ↦ let s = marked_stands (marker_if (parent (x ∷ p))) n m g h.0 (h.2, w.others h.0 f ∙ h.3) in (h.0, h.1, s.0, s.1)
-  ]
+  dirs_kept q b = dir_each z m q (λ k i s. elim (true_or_false (begins Q k)) [
+    | inl t ↦ above_kept (x ∷ p) (parent (x ∷ p)) refl n m g q (stands_above x p q k apart i t)
+    | inr f ↦ dir_by m q k i (marked_stands (marker_if (parent (x ∷ p))) n m g k (s.0, w.others k f ∙ s.1))
+  ])
     where
-      apart : IsAtOrBelow (x ∷ p) (y ∷ q) → ⊥
+      apart : IsAtOrBelow (x ∷ p) q → ⊥
       apart (inl e) = false_true b (ap (λ v. begins Q (marker_of v)) e ∙ begins_all Q)
-      apart (inr i) = false_true b (begins_trans Q (y ∷ q) (marker_of (y ∷ q)) i (begins_marker (y ∷ q)))
-
-  dirs_only : SomeBelow z Q → (q : List ℕ) → HasDir m q → HasDir z q
-  dirs_only d [] h = tt
-  dirs_only d (y ∷ q) h = elim (marked_was (marker_if (parent (x ∷ p))) n m g h.0 (h.2, h.3)) [
-        inl s ↦ let v = stood h.0 s in (h.0, h.1, v.0, v.1)
-      | inr e ↦ dir_of z (y ∷ q) Q (begins_trans (marker_of (y ∷ q)) (x ∷ p) Q (through (x ∷ p) (parent (x ∷ p)) refl h.0 (y ∷ q) e h.1) (begins_marker (x ∷ p))) d
-    ]
+      apart (inr i) = false_true b (begins_trans Q q (marker_of q) i (begins_marker q))
 
   -- a directory that goes with what is below it is gone in the tree, and nothing else is
   pub drops_dir : SomeBelow z Q → DropsDir (x ∷ p) z m
@@ -147,6 +127,9 @@ module _ (x : ℕ) (p : List ℕ) (z n m : Objects) (w : IsWithoutBelow (marker_
     below = gone_below;
     files = λ k i b. marked_files (parent (x ∷ p)) n m g k i ∙ w.others k b;
     gone = λ q b h. no_dir q b h;
-    kept = λ q b h. dirs_kept q b h;
-    only = λ q h. dirs_only d q h;
+    kept = dirs_kept;
+    only = λ q. dir_each m z q (λ k i s. elim (marked_was (marker_if (parent (x ∷ p))) n m g k s) [
+      | inl s ↦ dir_by z q k i (stood k s)
+      | inr e ↦ dir_of z q Q (begins_trans (marker_of q) (x ∷ p) Q (through (x ∷ p) (parent (x ∷ p)) refl k q e i) (begins_marker (x ∷ p))) d
+    ]);
   }

@@ -9,7 +9,7 @@ use Rattle.fs_tree.specs.Changes.{IsMarkedAbove}
 use Rattle.fs_tree.specs.Moves.{MovesFile, MovesDir}
 use Rattle.fs_tree.proofs.Begins.{both, begins_more, begins_trans, begins_marker, marker_at}
 use Rattle.fs_tree.proofs.Above.{NoSlash, cut, above_parent}
-use Rattle.fs_tree.proofs.Making.{dir_of}
+use Rattle.fs_tree.proofs.Making.{dir_of, dir_each, dir_by}
 pub use Rattle.fs_tree.proofs.Dropping.{marker_not_below}
 use Rattle.fs_tree.proofs.Dropping.{not_above_root, stands_above, marked_was, marked_stands, marked_other, marked_files, above_kept, through}
 
@@ -56,62 +56,56 @@ dirs_above z q (x ∷ u) e h (y ∷ d) b = dir_of z (y ∷ d) (marker_of (x ∷ 
 
 -- the new place is neither the source nor below it
 pub place_apart : (z : Objects) (x : ℕ) (p t q : List ℕ) → MayMove z (x ∷ p) t → IsPlace z (x ∷ p) t q → IsAbsent z q → begins (marker_of (x ∷ p)) (marker_of q) ≡ true → ⊥
-place_apart z x p t q m i n b = by (marker_at (x ∷ p) q b)
+place_apart z x p t q m i n b = elim (marker_at (x ∷ p) q b) [ inl e ↦ stands m.stands (subst (IsAbsent z) (sym e) n) | inr b ↦ below b i ]
   where
     stands : HasFile z (x ∷ p) ⊎ IsDirectory z (x ∷ p) → IsAbsent z (x ∷ p) → ⊥
     stands (inl f) a = none_some a.0 f.1
     stands (inr d) a = none_some (a.1 d.1.0 d.1.1) d.1.3
 
-    under : (x ∷ p ≡ t) ⊎ (begins (marker_of (x ∷ p)) t ≡ true) → ⊥
-    under (inl e) = m.apart (inl (sym e))
-    under (inr b) = m.apart (inr b)
-
     below : begins (marker_of (x ∷ p)) q ≡ true → IsPlace z (x ∷ p) t q → ⊥
-    below b (inl h) =
-        under (marker_at (x ∷ p) t (ap (λ v. begins (marker_of (x ∷ p)) (marker_of v)) (sym (ap parent h.1 ∙ inside_above (x ∷ p) t)) ∙ above_parent (x ∷ p) q b))
     below b (inr h) = m.apart (inr (ap (begins (marker_of (x ∷ p))) (sym h.2) ∙ b))
-
-    by : (x ∷ p ≡ q) ⊎ (begins (marker_of (x ∷ p)) q ≡ true) → ⊥
-    by (inl e) = stands m.stands (subst (IsAbsent z) (sym e) n)
-    by (inr b) = below b i
+    below b (inl h) = elim (marker_at (x ∷ p) t (ap (λ v. begins (marker_of (x ∷ p)) (marker_of v)) (sym (ap parent h.1 ∙ inside_above (x ∷ p) t)) ∙ above_parent (x ∷ p) q b)) [
+      | inl e ↦ m.apart (inl (sym e))
+      | inr b ↦ m.apart (inr b)
+    ]
 
 -- ---- a file
 
 module _ (p q : List ℕ) (z n m : Objects) (w : IsFileMoved p q z n) (g : IsMarkedAbove p n m) (free : fin.get z q ≡ None) (above : HasDir z (parent q)) where
-  file_kept : (d : List ℕ) → HasDir z d → HasDir m d
-  file_kept [] h = tt
-  file_kept (x ∷ d) h = elim (same_or_other h.0 p) [
-    | inl e ↦ above_kept p (parent p) refl n m g (x ∷ d) (ap (begins (marker_of (x ∷ d))) (sym e) ∙ h.1)
-    | inr f ↦ elim (same_or_other h.0 q) [
-      | inl e ↦ absurd (none_some free (ap (fin.get z) (sym e) ∙ h.3))
-      | inr e ↦ let s = marked_stands (marker_if (parent p)) n m g h.0 (h.2, w.others h.0 f e ∙ h.3) in (h.0, h.1, s.0, s.1)
-    ]
-  ]
-
-  file_only : Stands z p → (d : List ℕ) → HasDir m d → HasDir z d
-  file_only s [] h = tt
-  file_only s (x ∷ d) h = elim (marked_was (marker_if (parent p)) n m g h.0 (h.2, h.3)) [
-    | inr e ↦ (p, through p (parent p) refl h.0 (x ∷ d) e h.1, s.0, s.1)
-    | inl v ↦ elim (same_or_other h.0 p) [
-      | inl e ↦ absurd (none_some (ap (fin.get n) e ∙ w.gone) v.1)
-      | inr f ↦ elim (same_or_other h.0 q) [
-        | inl e ↦ dirs_above z q (parent q) refl above (x ∷ d) (ap (begins (marker_of (x ∷ d))) (sym e) ∙ h.1)
-        | inr e ↦ (h.0, h.1, v.0, sym (w.others h.0 f e) ∙ v.1)
-      ]
-    ]
-  ]
-
   -- a file that is moved is so in the tree, and nothing else is
   pub moves_file : is_marker p ≡ false → is_marker q ≡ false → Stands z p → MovesFile p q z m
   moves_file f i s = record {
     moved = marked_files (parent p) n m g q i ∙ w.moved;
     gone = marked_files (parent p) n m g p f ∙ w.gone;
     files = λ k j a b. marked_files (parent p) n m g k j ∙ w.others k a b;
-    kept = λ d h. file_kept d h;
-    only = λ d h. file_only s d h;
+    kept = λ d. dir_each z m d (λ k b s. elim (same_or_other k p) [
+      | inl e ↦ above_kept p (parent p) refl n m g d (ap (begins (marker_of d)) (sym e) ∙ b)
+      | inr f ↦ elim (same_or_other k q) [
+        | inl e ↦ absurd (none_some free (ap (fin.get z) (sym e) ∙ s.1))
+        | inr e ↦ dir_by m d k b (marked_stands (marker_if (parent p)) n m g k (s.0, w.others k f e ∙ s.1))
+      ]
+    ]);
+    only = λ d. dir_each m z d (λ k b v. elim (marked_was (marker_if (parent p)) n m g k v) [
+      | inr e ↦ dir_by z d p (through p (parent p) refl k d e b) s
+      | inl v ↦ elim (same_or_other k p) [
+        | inl e ↦ absurd (none_some (ap (fin.get n) e ∙ w.gone) v.1)
+        | inr f ↦ elim (same_or_other k q) [
+          | inl e ↦ dirs_above z q (parent q) refl above d (ap (begins (marker_of d)) (sym e) ∙ b)
+          | inr e ↦ dir_by z d k b (v.0, sym (w.others k f e) ∙ v.1)
+        ]
+      ]
+    ]);
   }
 
 -- ---- a directory
+
+-- what stands below a stands below b too, where each key that begins with b has what the same behind a has
+moved_below : (a b : List ℕ) (u v : Objects) → ((rest : List ℕ) → fin.get v (b ++ rest) ≡ fin.get u (a ++ rest))
+    → (rest : List ℕ) → SomeBelow u (a ++ rest) → SomeBelow v (b ++ rest)
+moved_below a b u v moved rest h =
+    let r = rest_after (a ++ rest) h.0 h.1 in
+    let is = ap (fin.get v) (append_assoc b rest r.0) ∙ moved (rest ++ r.0) ∙ ap (fin.get u) (sym (append_assoc a rest r.0) ∙ sym r.1) ∙ h.3 in
+    ((b ++ rest) ++ r.0, begins_more (b ++ rest) r.0, h.2, is)
 
 module _ (x : ℕ) (p : List ℕ) (y : ℕ) (q : List ℕ) (z n m : Objects) (w : IsDirMoved (x ∷ p) (y ∷ q) z n) (g : IsMarkedAbove (x ∷ p) n m) (free : NoneBelow z (marker_of (y ∷ q))) (above : HasDir z (parent (y ∷ q))) (there : SomeBelow z (marker_of (x ∷ p))) where
   abbrev P : List ℕ
@@ -140,68 +134,37 @@ module _ (x : ℕ) (p : List ℕ) (y : ℕ) (q : List ℕ) (z n m : Objects) (w 
   no_dir (v ∷ d) (inr b) h = none_some (gone_all h.0 (begins_trans P (marker_of (v ∷ d)) h.0 (begins_trans P (v ∷ d) (marker_of (v ∷ d)) b (begins_marker (v ∷ d))) h.1)) h.3
 
   below_new : (rest : List ℕ) → SomeBelow z (P ++ rest) → SomeBelow m (Q ++ rest)
-  below_new rest h =
-      let r = rest_after (P ++ rest) h.0 h.1 in (
-        (Q ++ rest) ++ r.0,
-        begins_more (Q ++ rest) r.0,
-        h.2,
-        ap (fin.get m) (append_assoc Q rest r.0) ∙ moved_all (rest ++ r.0) ∙ ap (fin.get z) (sym (append_assoc P rest r.0) ∙ sym r.1) ∙ h.3,
-      )
-
-  below_old : (rest : List ℕ) → SomeBelow m (Q ++ rest) → SomeBelow z (P ++ rest)
-  below_old rest h =
-      let r = rest_after (Q ++ rest) h.0 h.1 in (
-        (P ++ rest) ++ r.0,
-        begins_more (P ++ rest) r.0,
-        h.2,
-        ap (fin.get z) (append_assoc P rest r.0) ∙ sym (moved_all (rest ++ r.0)) ∙ ap (fin.get m) (sym (append_assoc Q rest r.0) ∙ sym r.1) ∙ h.3,
-      )
+  below_new = moved_below P Q z m moved_all
 
   marker_end : (a rest : List ℕ) → a ++ marker_of rest ≡ marker_of (a ++ rest)
   marker_end a rest = sym (append_assoc a rest (47 ∷ []))
-
-  dir_new : (rest : List ℕ) → HasDir z (P ++ rest) → HasDir m (Q ++ rest)
-  dir_new rest h = subst (SomeBelow m) (marker_end Q rest) (below_new (marker_of rest) (subst (SomeBelow z) (sym (marker_end P rest)) h))
-
-  dir_old : (rest : List ℕ) → HasDir m (Q ++ rest) → HasDir z (P ++ rest)
-  dir_old rest h = subst (SomeBelow z) (marker_end P rest) (below_old (marker_of rest) (subst (SomeBelow m) (sym (marker_end Q rest)) h))
-
-  stood : (k : List ℕ) → begins P k ≡ false → begins Q k ≡ false → Stands z k → Stands m k
-  stood k a b h = marked_stands (marker_if (parent (x ∷ p))) n m g k (h.0, w.others k a b ∙ h.1)
-
-  dirs_kept : (d : List ℕ) → (IsAtOrBelow (x ∷ p) d → ⊥) → HasDir z d → HasDir m d
-  dirs_kept [] f h = tt
-  dirs_kept (v ∷ d) f h = elim (true_or_false (begins P h.0)) [
-    | inl a ↦ above_kept (x ∷ p) (parent (x ∷ p)) refl n m g (v ∷ d) (stands_above x p (v ∷ d) h.0 f h.1 a)
-    | inr a ↦ elim (true_or_false (begins Q h.0)) [
-      | inl b ↦ absurd (none_some (free h.0 b) h.3)
-      | inr b ↦ let s = stood h.0 a b (h.2, h.3) in (h.0, h.1, s.0, s.1)
-    ]
-  ]
-
-  dirs_only : (d : List ℕ) → (IsAtOrBelow (y ∷ q) d → ⊥) → HasDir m d → HasDir z d
-  dirs_only [] f h = tt
-  dirs_only (v ∷ d) f h = elim (marked_was (marker_if (parent (x ∷ p))) n m g h.0 (h.2, h.3)) [
-    | inr e ↦ dir_of z (v ∷ d) P (begins_trans (marker_of (v ∷ d)) (x ∷ p) P (through (x ∷ p) (parent (x ∷ p)) refl h.0 (v ∷ d) e h.1) (begins_marker (x ∷ p))) there
-    | inl s ↦ elim (true_or_false (begins P h.0)) [
-      | inl a ↦ absurd (none_some (w.gone h.0 a) s.1)
-      | inr a ↦ elim (true_or_false (begins Q h.0)) [
-        | inl b ↦ dirs_above z (y ∷ q) (parent (y ∷ q)) refl above (v ∷ d) (stands_above y q (v ∷ d) h.0 f h.1 b)
-        | inr b ↦ (h.0, h.1, s.0, sym (w.others h.0 a b) ∙ s.1)
-      ]
-    ]
-  ]
 
   -- a directory that is moved with what is below it is so in the tree, and nothing else is
   pub moves_dir : MovesDir (x ∷ p) (y ∷ q) z m
   moves_dir = record {
     moved = moved_all;
     directory = subst (SomeBelow m) (append-nil Q) (below_new [] (subst (SomeBelow z) (sym (append-nil P)) there));
-    moved_dirs = λ rest h. dir_new rest h;
-    only_moved = λ rest h. dir_old rest h;
+    moved_dirs = λ rest h. subst (SomeBelow m) (marker_end Q rest) (below_new (marker_of rest) (subst (SomeBelow z) (sym (marker_end P rest)) h));
+    only_moved = λ rest h. subst (SomeBelow z) (marker_end P rest)
+        (moved_below Q P m z (λ rest. sym (moved_all rest)) (marker_of rest) (subst (SomeBelow m) (sym (marker_end Q rest)) h));
     gone = gone_all;
     gone_dirs = λ d i h. no_dir d i h;
     files = λ k i a b. marked_files (parent (x ∷ p)) n m g k i ∙ w.others k a b;
-    kept = λ d f h. dirs_kept d f h;
-    only = λ d f h. dirs_only d f h;
+    kept = λ d f. dir_each z m d (λ k i s. elim (true_or_false (begins P k)) [
+      | inl a ↦ above_kept (x ∷ p) (parent (x ∷ p)) refl n m g d (stands_above x p d k f i a)
+      | inr a ↦ elim (true_or_false (begins Q k)) [
+        | inl b ↦ absurd (none_some (free k b) s.1)
+        | inr b ↦ dir_by m d k i (marked_stands (marker_if (parent (x ∷ p))) n m g k (s.0, w.others k a b ∙ s.1))
+      ]
+    ]);
+    only = λ d f. dir_each m z d (λ k i v. elim (marked_was (marker_if (parent (x ∷ p))) n m g k v) [
+      | inr e ↦ dir_of z d P (begins_trans (marker_of d) (x ∷ p) P (through (x ∷ p) (parent (x ∷ p)) refl k d e i) (begins_marker (x ∷ p))) there
+      | inl s ↦ elim (true_or_false (begins P k)) [
+        | inl a ↦ absurd (none_some (w.gone k a) s.1)
+        | inr a ↦ elim (true_or_false (begins Q k)) [
+          | inl b ↦ dirs_above z (y ∷ q) (parent (y ∷ q)) refl above d (stands_above y q d k f i b)
+          | inr b ↦ dir_by z d k i (s.0, sym (w.others k a b) ∙ s.1)
+        ]
+      ]
+    ]);
   }

@@ -1,5 +1,5 @@
 -- A store of one bucket as lists: what it answers to requests, and what these leave of it, computed.
-use Rattle.std.proofs.Common.{◌≡◌, ℕ, ◌+◌, ◌-◌, Bool, true, false, nat_lt, nat_le, cond, List, [], ◌∷◌, length, map, take, Option, Some, None, Ok, Err, refl, sym, ap, ◌∙◌, ◌&&◌}
+use Rattle.std.proofs.Common.{◌≡◌, ℕ, ◌+◌, ◌-◌, Bool, true, false, nat_lt, nat_le, cond, List, [], ◌∷◌, length, map, take, Option, Some, None, Ok, Err, refl, sym, ap, ◌∙◌, ◌&&◌, arith}
 use Rattle.std.specs.Prelude.{Result}
 use Rattle.job_spec.specs.Prelude.{option_map, unwrap_or, filter, list_all, flat_map, IsTotalOrder, nat_cmp_total, nat_cmp, is_lt, Greater, insert, get, entries, from_entries, get-insert, nat_cmp-IsAntisymmetric, IsAntisymmetric, by_order, where_key, find, is_sorted, text_cmp, text_eq, text_total, text_ties, Objects, Upload, BucketContent, Content, Files, Scene, Spelled, begins, ref_cmp, live, with_key, with_part, is_part_number, rises, tag_eq, has_tag, joined, answer, answer_at, answer_in, head, part_answer, complete_answer, abort_answer, apply, apply_at, apply_in, bucket_of, without, part_put, completed, rename_answer, read_answer, Object, MOST_ENTRIES, NamedPart, Request, MakeBucket, PutObject, GetObject, HeadObject, DeleteObject, DeleteObjects, CopyObject, ListPage, CreateUpload, UploadPart, CompleteUpload, AbortUpload, ListParts, ListUploads, ClusterPut, ClusterRename, ClusterGet, ClusterDelete, ClusterList, UploadRef, PageEntry, Reply, Part, ClusterDone, ClusterNames, Refused, Refusal, NoSuchUpload, BadPartNumber}
 use Rattle.job_spec.proofs.Common.{then_total, on_total, exact_pairs, exact_bytes, exact_unsigned, text_is, and_parts}
@@ -99,11 +99,7 @@ abbrev pub draft_at : List (ℕ × Draft) → List ℕ → ℕ → Option Draft
 draft_at es k id = elim (find nat_cmp id es) [ None ↦ None | Some d ↦ cond (text_eq d.key k) (Some d) None ]
 
 live_is : (es : List (ℕ × Draft)) (k : List ℕ) (id : ℕ) → live (map_of (held es)) k id ≡ option_map upload_of (draft_at es k id)
-live_is es k id = ap (with_key k) (upload_found es id)
-    ∙ elim (find nat_cmp id es) as (λ o. with_key k (option_map upload_of o) ≡ option_map upload_of (elim o [ None ↦ None | Some d ↦ cond (text_eq d.key k) (Some d) None ])) [
-      | None ↦ refl
-      | Some d ↦ sym (mapped upload_of (text_eq d.key k) d None)
-    ]
+live_is es k id = grind (arith, upload_found, mapped)
 
 -- a part is there and has this tag
 abbrev pub is_tagged : Spelled → Option (List ℕ) → Bool

@@ -1,5 +1,5 @@
 -- What a store as lists shows, and what a journal makes of it.
-use Rattle.std.proofs.Common.{◌≡◌, ℕ, Bool, true, false, ◌&&◌, ◌||◌, not, ◌⊎◌, cond, inl, inr, List, [], ◌∷◌, ◌++◌, take, drop, Option, Some, None, refl, sym, ap, ◌∙◌, codes}
+use Rattle.std.proofs.Common.{◌≡◌, ℕ, Bool, true, false, ◌&&◌, ◌||◌, not, ◌⊎◌, cond, inl, inr, List, [], ◌∷◌, ◌++◌, take, drop, Option, Some, None, refl, sym, ap, ◌∙◌, codes, arith}
 use Rattle.std.specs.Prelude.{nat_eq}
 use Rattle.job_spec.specs.Prelude.{list_all, option_map, eq_by_cmp, find, text_cmp, text_eq, effect, after_all, moment, Object, Request, Outcome, Slow, RequestLost, Entry, is_file_path, object_in, view}
 use Rattle.job_protocol.specs.Prelude.{starts_with, Path, below, relative_in}
@@ -12,12 +12,10 @@ use Rattle.job_examples.proofs.MapLists.{map_of, mapped}
 use Rattle.job_examples.proofs.Books.{Book, scene_of, content_of, text_found, at_bucket, after, is_ours, applies}
 
 pub either : (a b : Bool) → (a || b) ≡ true → (a ≡ true) ⊎ (b ≡ true)
-either true b h = inl refl
-either false b h = inr h
+either a b h = grind arith
 
 pub implied : (a b : Bool) → (not a || b) ≡ true → a ≡ true → b ≡ true
-implied true b h e = h
-implied false b h e = absurd (false≢true e)
+implied a b h g = grind arith
 
 abbrev pub dest : Path
 dest = record { bucket = lake; key = codes "out" }
@@ -53,15 +51,10 @@ abbrev files_at : List (List ℕ × Object) → List ℕ → Option (List ℕ)
 files_at es p = cond (is_file_path p) (option_map (λ o. o.bytes) (find text_cmp (below (codes "out") p) es)) None
 
 find_shown : (b : Bool) (q bytes : List ℕ) (l : List (List ℕ × List ℕ)) (p : List ℕ) → find text_cmp p (cond b ((q, bytes) ∷ l) l) ≡ cond b (cond (eq_by_cmp text_cmp p q) (Some bytes) (find text_cmp p l)) (find text_cmp p l)
-find_shown true q bytes l p = refl
-find_shown false q bytes l p = refl
+find_shown b q bytes l p = grind arith
 
 merged : (f g e : Bool) (bytes : List ℕ) (x rest : Option (List ℕ)) → (e ≡ true → f ≡ g) → cond f x None ≡ rest → cond f (cond e (Some bytes) x) None ≡ cond g (cond e (Some bytes) rest) rest
-merged true true true bytes x rest h r = refl
-merged f true false bytes x rest h r = r
-merged f false false bytes x rest h r = r
-merged false false true bytes x rest h r = r
-merged _ _ true bytes x rest h r = let k = h refl in absurd cc
+merged f g e bytes x rest h p = grind arith
 
 same_path : (p q : List ℕ) → eq_by_cmp text_cmp p q ≡ true → p ≡ q
 same_path p q h = text_exact p q (tied _ h)
@@ -97,10 +90,7 @@ shown_all [] p = elim (is_file_path p) as (λ b. ◌≡◌ {A = Option (List ℕ
 shown_all (e ∷ es) p = shown_entry p e es (place e.0) (shown_all es p)
 
 pub views : (b : Book) (p : List ℕ) → view dest (content_of b) p ≡ find text_cmp p (visible b.objects)
-views b p =
-    ap (λ x. cond (is_file_path p) (option_map (λ (o : Object). o.bytes) (object_in x (below (codes "out") p))) None) (at_bucket b)
-    ∙ ap (λ x. cond (is_file_path p) (option_map (λ (o : Object). o.bytes) x) None) (text_found b.objects (below (codes "out") p))
-    ∙ shown_all b.objects p
+views b p = grind (arith, at_bucket, text_found, shown_all)
 
 pub objects_at : (b : Book) (k : List ℕ) → object_at (content_of b) lake k ≡ find text_cmp k b.objects
 objects_at b k = ap (λ x. object_in x k) (at_bucket b) ∙ text_found b.objects k
@@ -113,9 +103,7 @@ effect_on b r RequestLost = b
 effect_on b r _ = after b r
 
 pub effect_is : (b : Book) (r : Request) (o : Outcome) → is_ours r ≡ true → effect (scene_of b) r o ≡ scene_of (effect_on b r o)
-effect_is b r Slow h = refl
-effect_is b r RequestLost h = refl
-effect_is b r _ h = applies b r h
+effect_is b r o h = grind (arith, applies)
 
 abbrev pub book_after : Book → List Entry → Book
 book_after b [] = b

@@ -31,10 +31,7 @@ value_found R test (f ∷ fs) h k x e = let a = and_parts (test f.1) _ h in elim
 ] e
 
 same_upload : (w : Script) → dest_prefix w ≡ prefix → (o p : Option Draft) → ((d : Draft) → o ≡ Some d → begins prefix d.key ≡ true) → ((d : Draft) → p ≡ Some d → begins prefix d.key ≡ true) → SameOutsideUpload w (option_map upload_of o) (option_map upload_of p)
-same_upload w e None None f g = tt
-same_upload w e (Some d) None f g = ap (λ x. begins x d.key) e ∙ f d refl
-same_upload w e None (Some d) f g = ap (λ x. begins x d.key) e ∙ g d refl
-same_upload w e (Some d) (Some c) f g = λ h. absurd (true≢false (sym (f d refl) ∙ ap (λ x. begins x d.key) (sym e) ∙ h))
+same_upload w h o p g e = grind arith
 
 module _ (w : Script) (to : w.dest ≡ dest) where
   prefix_is : dest_prefix w ≡ prefix
@@ -65,8 +62,7 @@ is_nil [] = true
 is_nil (x ∷ xs) = false
 
 nil_is : {X : Type 0} (xs : List X) → is_nil xs ≡ true → xs ≡ []
-nil_is [] h = refl
-nil_is (x ∷ xs) h = absurd (false≢true h)
+nil_is xs h = grind arith
 
 abbrev is_inside : Book → Bool
 is_inside b = is_nil (where_key text_cmp is_outside b.objects) && list_all (λ e. begins prefix e.1.key) b.uploads
@@ -119,17 +115,13 @@ record Sound (b : Book) (e : Entry) : Type 0 where
   shows : is_own e.actor ≡ true → Shows b e
 
 driver_is : (a : Actor) → is_driver a ≡ true → a ≡ Driver
-driver_is Driver h = refl
-driver_is _ h = absurd (false≢true h)
+driver_is a h = grind arith
 
 inside_is : (b : Book) → is_inside b ≡ true → Inside b
 inside_is b h = let p = and_parts (is_nil (where_key text_cmp is_outside b.objects)) _ h in record { objects = nil_is _ p.0; uploads = p.1 }
 
 showing_is : (e : Entry) → is_showing e ≡ true → (e.actor ≡ Driver) × (may_show e.request ≡ true) × (is_effective e.outcome ≡ true)
-showing_is e h =
-    let p = and_parts (is_driver e.actor) _ h in
-    let q = and_parts (may_show e.request) _ p.1 in
-    (driver_is e.actor p.0, q.0, q.1)
+showing_is e h = grind arith
 
 sound_is : (b : Book) (e : Entry) → is_sound b e ≡ true → Sound b e
 sound_is b e h =
@@ -165,8 +157,7 @@ inside_at b (e ∷ es) h zero = (sound_is b e (and_parts (is_sound b e) _ h).0).
 inside_at b (e ∷ es) h (suc m) = inside_at (effect_on b e.request e.outcome) es (and_parts (is_sound b e) _ h).1 m
 
 honest_by : (o : Outcome) (due : Reply) → due_outcome o due ≡ o → IsHonestOutcome o due
-honest_by (Answered a) due h = cc
-honest_by _ due h = tt
+honest_by o due h = grind arith
 
 first_is : (o p : Outcome) (os ps : List Outcome) → (o ∷ os) ≡ (p ∷ ps) → (o ≡ p) × (os ≡ ps)
 first_is o p os ps h = (cc, cc)
@@ -190,12 +181,7 @@ module _ (w : Script) (to : w.dest ≡ dest) where
   shown_same b c h p = ap (λ d. view d (content_of c) p) to ∙ views c p ∙ ap (λ l. find text_cmp p l) h ∙ sym (views b p) ∙ ap (λ d. view d (content_of b) p) (sym to)
 
   zero_step : (b : Book) (e : Entry) → Sound b e → is_own e.actor ≡ true → Inside (effect_on b e.request e.outcome) → IsZeroRename w e (content_of b) (content_of (effect_on b e.request e.outcome))
-  zero_step b e h o g = record {
-    uncopied = h.uncopied;
-    no_data = h.no_data;
-    shows = elim (h.shows o) [ inl x ↦ inl (shown_same b (effect_on b e.request e.outcome) x) | inr x ↦ inr x ];
-    outside = outside_same w to b (effect_on b e.request e.outcome) h.inside g;
-  }
+  zero_step b e h g f = grind (arith, shown_same, effect_on, outside_same)
 
   zero_at : (b : Book) (es : List Entry) → all_sound b es ≡ true → (m : ℕ) (e : Entry) → slice_get es m ≡ Some e → is_own e.actor ≡ true → IsZeroRename w e (content_of (book_after b (take m es))) (content_of (book_after b (take (suc m) es)))
   zero_at b [] h m e g o = absurd (cc)

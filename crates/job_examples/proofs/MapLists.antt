@@ -1,13 +1,12 @@
 -- Finite maps as lists of entries.
-use Rattle.std.proofs.Common.{◌≡◌, Bool, true, false, cond, not, List, [], ◌∷◌, map, Option, Some, None, refl, sym, ap, subst, ◌∙◌, T}
+use Rattle.std.proofs.Common.{◌≡◌, Bool, true, false, cond, not, List, [], ◌∷◌, map, Option, Some, None, refl, sym, ap, subst, ◌∙◌, T, arith}
 use Rattle.job_spec.specs.Prelude.{option_map, eq_by_cmp, IsTotalOrder, Ordering, IsAntisymmetric, insert, get, from_entries, entries, get-insert, get-from_entries, where_key, find, is_sorted, find-put, find-where_key}
 use Rattle.retries.specs.Prelude.{eq_by_cmp_equiv, FinMap, get-remove}
 use Rattle.job_protocol.specs.Prelude.{remove, put}
 use Rattle.s3_types.specs.Prelude.{from_sorted, get-from_sorted, entries-from_sorted, same_map}
 
 turned : {X : Type 0} (b : Bool) (x : Option X) → cond (not b) x None ≡ cond b None x
-turned true x = refl
-turned false x = refl
+turned b x = grind arith
 
 -- the map of these entries
 unfoldable pub map_of : {K X : Type 0} {R : K → K → Ordering} → List (K × X) → FinMap R X
@@ -45,8 +44,7 @@ module _ {K X : Type 0} {R : K → K → Ordering} (o : IsTotalOrder R) (exact :
 
 -- of what is found or not
 pub mapped : {X Y : Type 0} (f : X → Y) (b : Bool) (x : X) (o : Option X) → option_map f (cond b (Some x) o) ≡ cond b (Some (f x)) (option_map f o)
-mapped f true x o = refl
-mapped f false x o = refl
+mapped f b x o = grind arith
 
 pub find_map : {K X Y : Type 0} (R : K → K → Ordering) (f : X → Y) (es : List (K × X)) (q : K) → find R q (map (λ e. (e.0, f e.1)) es) ≡ option_map f (find R q es)
 find_map R f [] q = refl

@@ -26,8 +26,7 @@ use Rattle.job_examples.proofs.OnePlays.{setup_doing, write_doing, task_doing, c
 -- ---- which operations ended
 
 told_one : (x : ActorEnd) (i : ℕ) (y : ActorEnd) → slice_get (x ∷ []) i ≡ Some y → x ≡ y
-told_one x zero y e = some_is e
-told_one x (suc i) y e = absurd (cc)
+told_one x i y h = grind arith
 
 worn_none : (es : List Entry) → first_worn 3 es ≡ None → WornFirst 3 es None
 worn_none es h = subst (λ o. WornFirst 3 es o) h (computed 3 [] es (none_sent 3))
@@ -92,10 +91,7 @@ answer_is : {x y : Reply} → Answered x ≡ Answered y → x ≡ y
 answer_is e = cc
 
 reads_set : AllByRecursion Reads commit_entries
-reads_set = (
-  λ t r asks got. ap (λ v. is_some (set_read v)) (sym (answer_is got)) ∙ ap (λ v. is_some (ok_set v)) set_is_read,
-  (λ t r asks got. absurd (cc), (λ t r asks got. absurd (cc), tt)),
-)
+reads_set = grind (arith, answer_is, set_is_read)
 
 unrefused : AllByRecursion Unrefused commit_entries
 unrefused = (λ why stage got. cc, (λ why stage got. let no = answer_is got in cc, (λ why stage got. cc, tt)))

@@ -23,16 +23,8 @@ goes = search set_is_read
 
 -- ---- actors
 
-both_same : (t a : ℕ) → (nat_eq t 0 && nat_eq a 0) ≡ true → (t ≡ 0) × (a ≡ 0)
-both_same t a h = let p = and_parts (nat_eq t 0) (nat_eq a 0) h in (eq_nat t 0 p.0, eq_nat a 0 p.1)
-
 by_actors : (P : Actor → Type 0) → P Driver → P worker → ((t a : ℕ) → (nat_eq t 0 && nat_eq a 0) ≡ false → P (Attempt t a)) → P Shell → (x : Actor) → P x
-by_actors P d v o s Driver = d
-by_actors P d v o s Shell = s
-by_actors P d v o s (Attempt t a) = elim (true_or_false (nat_eq t 0 && nat_eq a 0)) [
-  | inl h ↦ let e = both_same t a h in subst (λ (x : ℕ × ℕ). P (Attempt x.0 x.1)) (λ i. (sym e.0 i, sym e.1 i)) v
-  | inr h ↦ o t a h
-]
+by_actors P h g e f x = grind arith
 
 abbrev pub setup_doing : Doing
 setup_doing = doing ops.Setup 1 (Some 0)
@@ -74,8 +66,7 @@ Followed es x None = Unit {0}
 Followed es x (Some d) = OpFollows setting x d (by_actor x es)
 
 followed : (es : List Entry) (x : Actor) (o : Option Doing) (d : Doing) → o ≡ Some d → Followed es x o → OpFollows setting x d (by_actor x es)
-followed es x None d e g = absurd (none_some refl e)
-followed es x (Some c) d e g = subst (λ y. OpFollows setting x y (by_actor x es)) (some_is e) g
+followed es x o d h g = grind arith
 
 follows : (es : List Entry) (d v : Option Doing) → Followed es Driver d → Followed es worker v → (x : Actor) (c : Doing) → of_two d v x ≡ Some c → OpFollows setting x c (by_actor x es)
 follows es d v g h = by_actors (λ x. (c : Doing) → of_two d v x ≡ Some c → OpFollows setting x c (by_actor x es))

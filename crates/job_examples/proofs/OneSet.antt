@@ -1,5 +1,5 @@
 -- Sets are read as they were put.
-use Rattle.std.proofs.Common.{◌≡◌, ℕ, nat_lt, Bool, true, ◌&&◌, ◌^◌, List, [], ◌∷◌, refl, Ok}
+use Rattle.std.proofs.Common.{◌≡◌, ℕ, nat_lt, Bool, true, ◌&&◌, ◌^◌, List, [], ◌∷◌, refl, Ok, arith}
 use Rattle.job_spec.proofs.Common.{and_parts, is_utf8-from_IsUtf8, IsUtf8-from_ascii, IsAscii-nil, IsAscii-cons}
 use Rattle.proof_base.proofs.Numbers.{below_is}
 use Rattle.job_spec.specs.Prelude.{list_all, AllByRecursion, IsAscii, is_utf8, is_key_path}
@@ -30,16 +30,7 @@ is_fit p =
     && ((is_small p.destination && is_key_path p.destination) && (is_bucket p.bucket && (are_tags p.tags && are_sizes p.sizes p.tags p.length))))
 
 fits : (p : Pending) → is_fit p ≡ true → IsPending p
-fits p h =
-    let a = and_parts (nat_lt p.task (2 ^ 32) && nat_lt p.attempt (2 ^ 32)) _ h in
-    let b = and_parts (nat_lt p.upload (2 ^ 64) && nat_lt p.length (2 ^ 64)) _ a.1 in
-    let c = and_parts (is_small p.destination && is_key_path p.destination) _ b.1 in
-    let d = and_parts (is_bucket p.bucket) _ c.1 in
-    let who = and_parts (nat_lt p.task (2 ^ 32)) _ a.0 in
-    let long = and_parts (nat_lt p.upload (2 ^ 64)) _ b.0 in
-    let key = and_parts (is_small p.destination) _ c.0 in
-    let parts = and_parts (are_tags p.tags) _ d.1 in
-    record { task = below_is _ _ who.0; attempt = below_is _ _ who.1; bucket = d.0; destination = rw (small_utf8 p.destination key.0) key.1; upload = below_is _ _ long.0; length = below_is _ _ long.1; tags = parts.0; sizes = parts.1 }
+fits p h = grind (arith, and_parts, below_is, small_utf8)
 
 all_fit : (ps : List Pending) → list_all is_fit ps ≡ true → AllByRecursion IsPending ps
 all_fit [] h = tt
@@ -53,11 +44,7 @@ abbrev pub is_fit_set : PendingSet → Bool
 is_fit_set s = is_small s.job && ((nat_lt s.task (2 ^ 32) && nat_lt s.attempt (2 ^ 32)) && list_all is_fit s.commits)
 
 pub set_by : (s : PendingSet) → is_fit_set s ≡ true → read (compact_text (set_tree s)) ≡ Ok s
-set_by s h =
-    let a = and_parts (is_small s.job) _ h in
-    let b = and_parts (nat_lt s.task (2 ^ 32) && nat_lt s.attempt (2 ^ 32)) _ a.1 in
-    let who = and_parts (nat_lt s.task (2 ^ 32)) _ b.0 in
-    set_text s (record { job = small_utf8 s.job a.0; task = below_is _ _ who.0; attempt = below_is _ _ who.1; commits = all_fit s.commits b.1 })
+set_by s h = grind (arith, and_parts, set_text, small_utf8, below_is, all_fit)
 
 pub set_is_read : read (compact_text (set_tree the_set)) ≡ Ok the_set
 unfolding parts_from

@@ -39,9 +39,7 @@ ended : (w : Script) (xs : List EventEnd) (journal : List Entry) (j : ℕ) (a : 
 ended w xs journal j a op end d is has does = record { event = Do a op; event_end = Ended end; is_event = is; has_ended = has; place = 0; told_there = refl; doing = does; entries_are = refl }
 
 not_due : (worn : Option Request) → (commits.Missing 0 ≡ commits.NoMemory) ⊎ (commits.Missing 0 ≡ commit_due anew_script (λ t. None) None worn) → ⊥
-not_due worn (inl e) = cc
-not_due None (inr e) = cc
-not_due (Some r) (inr e) = cc
+not_due worn h = grind arith
 
 anew_in : CommitsEnd anew_script opening [] anew_ends → ⊥
 anew_in h = let d = (h 5 anew_doing (commits.Missing 0) [] (ended anew_script anew_ends [] 5 Driver ops.Commit (ends.Commit (commits.Missing 0)) anew_doing refl refl refl)).due tt in not_due d.worn d.due
@@ -55,9 +53,7 @@ abbrev revert_entries : List Entry
 revert_entries = since 4 (by_actor Driver (until 4 half_reverted))
 
 one_answer : (c : Bool) (n : ℕ) → slice_get (cond c (true ∷ []) []) n ≡ Some false → ⊥
-one_answer true zero g = cc
-one_answer true (suc n) g = cc
-one_answer false n g = cc
+one_answer c n h = grind arith
 
 none_worn : NoDeletionWorn 0 revert_entries
 none_worn bucket key w = let e : w.0 + 0 ≡ w.0 = omega arith in one_answer (text_eq bucket (codes "lake") && text_eq key (codes "out/b")) w.0 (rw e at (w.1 0 (omega arith)))

@@ -1,5 +1,5 @@
 -- What is seen of a job, over a store as lists.
-use Rattle.std.proofs.Common.{◌≡◌, ℕ, Bool, true, false, List, [], ◌∷◌, Option, None, refl, ap, ◌∙◌}
+use Rattle.std.proofs.Common.{◌≡◌, ℕ, Bool, true, false, List, [], ◌∷◌, Option, None, refl, ap, ◌∙◌, arith}
 use Rattle.job_spec.specs.Prelude.{Actor, Driver, Attempt, Shell, Request, Outcome, Answered, Entry, Script, Picks, Seen, effect, see, see_by, see_all, Times, nothing_seen, Content, Object}
 use Rattle.job_spec.proofs.Common.{and_parts}
 use Rattle.job_examples.specs.OneFile.{opening}
@@ -24,16 +24,10 @@ abbrev pub saw : Script → Times → Saw → Entry → Saw
 saw w k x e = let s = see w k (seen_of x) e in record { book = effect_on x.book e.request e.outcome; begun = s.begun; last = s.last; picks = s.picks; put_mark = s.put_mark }
 
 pub scene_by : (w : Script) (k : Times) (s : Seen) (n : ℕ) (r : Request) (a : Actor) (o : Outcome) → (see_by w k s n r o a).scene ≡ effect s.scene r o
-scene_by w k s n r Driver (Answered y) = refl
-scene_by w k s n r Driver _ = refl
-scene_by w k s n r (Attempt t a) (Answered y) = refl
-scene_by w k s n r (Attempt t a) _ = refl
-scene_by w k s n r Shell o = refl
+scene_by w k s n r a o = grind arith
 
 pub sees_by : (w : Script) (k : Times) (x : Saw) (e : Entry) → is_ours e.request ≡ true → see w k (seen_of x) e ≡ seen_of (saw w k x e)
-sees_by w k x e h =
-    let s = see w k (seen_of x) e in
-    λ i. record { scene = (scene_by w k (seen_of x) e.event e.request e.actor e.outcome ∙ effect_is x.book e.request e.outcome h) i; begun = s.begun; last = s.last; picks = s.picks; put_mark = s.put_mark }
+sees_by w k x e h = grind (arith, scene_by, effect_is)
 
 abbrev pub saw_all : Script → Times → Saw → List Entry → Saw
 saw_all w k x [] = x

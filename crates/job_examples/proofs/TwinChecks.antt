@@ -1,5 +1,5 @@
 -- What the definitions of two jobs say of a journal, by tests that compute.
-use Rattle.std.proofs.Common.{◌≡◌, ℕ, zero, suc, inl, inr, not, ◌&&◌, ◌||◌, codes, Bool, true, false, cond, List, [], ◌∷◌, take, Option, Some, None, refl, sym, ap, ◌∙◌}
+use Rattle.std.proofs.Common.{◌≡◌, ℕ, zero, suc, inl, inr, not, ◌&&◌, ◌||◌, codes, Bool, true, false, cond, List, [], ◌∷◌, take, Option, Some, None, refl, sym, ap, ◌∙◌, arith}
 use Rattle.job_spec.proofs.Common.{and_parts, not_so, false≢true, none_some, some_is, text_is}
 use Rattle.job_spec.specs.Prelude.{Times, list_all, lookup, find, text_cmp, text_eq, Content, Scene, effect, after_all, moment, begins, Object, Shell, Request, Entry, IsIn, magic_prefix, cluster_prefix, success_key, File, Script, Picks, wanted, is_picked, is_clash, mark_text, view, Seen, see, see_all, nothing_seen}
 use Rattle.job_protocol.specs.View.{object_at}
@@ -33,8 +33,7 @@ free_so p (q ∷ ks) h k (inl e) = ap (begins p) e ∙ not_so (begins p q) (and_
 free_so p (q ∷ ks) h k (inr i) = free_so p ks (and_parts (not (begins p q)) (all_free p ks) h).1 k i
 
 upload_so : (drew : Ids) (o : Option ℕ) → upload_free drew o ≡ true → (id : ℕ) → o ≡ Some id → drew id ≡ false
-upload_so drew None h id e = absurd (none_some refl e)
-upload_so drew (Some n) h id e = ap drew (sym (some_is e)) ∙ not_so (drew n) h
+upload_so drew o h id g = grind arith
 
 strange_so : (w : Script) (drew : Ids) (r : Request) → is_strange w drew r ≡ true → IsStranger w drew r
 strange_so w drew r h =
@@ -61,10 +60,7 @@ all_strange_so w v mine others (t ∷ ts) h =
 
 module _ (w : Script) (k : Times) (side : Side) (mine : ℕ → Bool) where
   twin_scene : (s : Seen) (t : TwinEntry) → (see w k s (in_eyes side t)).scene ≡ effect s.scene t.entry.request t.entry.outcome
-  twin_scene s t = elim (is_side side t.side) as (λ a. (see w k s (cond a t.entry (record { event = t.theirs; actor = Shell; request = t.entry.request; outcome = t.entry.outcome }))).scene ≡ effect s.scene t.entry.request t.entry.outcome) [
-    | true ↦ scene_by w k s t.entry.event t.entry.request t.entry.actor t.entry.outcome
-    | false ↦ refl
-  ]
+  twin_scene s t = grind arith
 
   all_scene : (es : List Entry) (s : Seen) → (see_all w k s (eyes side (sided mine es))).scene ≡ after_all s.scene es
   all_scene [] s = refl

@@ -1,5 +1,5 @@
 -- An attempt's abort of its task keeps the facts with each of its requests, whatever becomes of it, and goes on as it should.
-use Rattle.std.proofs.Common.{◌≡◌, ℕ, zero, suc, inl, inr, Bool, true, false, List, [], ◌∷◌, take, drop, Some, refl, sym, subst}
+use Rattle.std.proofs.Common.{◌≡◌, ℕ, zero, suc, inl, inr, Bool, true, false, List, [], ◌∷◌, take, drop, Some, refl, sym, subst, arith}
 use Rattle.job_facts.specs.Prelude.{filter, answer, IsHonestOutcome, Request, Committer, Magic, Reply, Outcome, Retried, step, Who, IsLegal, Script, TaskEnd, Drawn, Known, learn, as_made, Listing, Deleting, walked_by, deleting, all_go, attempt_prefix, TaskAbort, Dropping, TaskAbortOver, task_abort_asks, task_abort_after, task_abort_start, task_abort_by, Seen, IsIn, Told, known, IsAttempt, Hold, FitsAbort, Times, begins}
 use Rattle.job_protocol.specs.Prelude.{task_abort_hears, dropping}
 use Rattle.job_spec.proofs.Common.{false_true, in_append, in_filter}
@@ -30,13 +30,10 @@ module _ (w : Script) (a : Who) (k : Known) (unsent : k.publish_sent ≡ false) 
   fits_over end other = (λ e. absurd (other e), λ e. absurd (false_true unsent e))
 
   fits_removing : (sent : Bool) → FitsAbort w a k (removing sent)
-  fits_removing true = unsent
-  fits_removing false = fits_over tasks.Done (λ e. absurd cc)
+  fits_removing sent = grind arith
 
   pub fits_dropping : (c : Committer) (sent : Bool) (ds : List Drawn) → ((e : Drawn) → IsIn e ds → IsIn e k.drawn) → FitsAbort w a k (dropping c sent ds)
-  fits_dropping Magic sent [] h = (unsent, λ q i. absurd i)
-  fits_dropping _ sent [] h = fits_removing sent
-  fits_dropping c sent (d ∷ ds) h = (unsent, h)
+  fits_dropping c sent ds h = grind arith
 
   fits_deleting : (keys : List (List ℕ)) → AllOwn w a keys → FitsAbort w a k (sweeping (deleting keys))
   fits_deleting [] h = fits_over tasks.Done (λ e. absurd cc)
@@ -68,14 +65,10 @@ module _ (w : Script) (minimum : ℕ) (k : Times) (s : Seen) (m : Told) (a : Who
   heard (TaskAbortOver end) fits = tt
 
   unsent : (op : TaskAbort) → FitsAbort w a (known m a) op → Each (λ q. m.publish_sent a ≡ false) (task_abort_asks w a op)
-  unsent Removing fits = fits
-  unsent (TaskAbortOver end) fits = tt
-  unsent _ fits = fits.0
+  unsent op h = grind arith
 
   learns : (op : TaskAbort) (o : Outcome) → Each (λ q. learn w a (known m a) q o ≡ known m a) (task_abort_asks w a op)
-  learns (Sweeping (Deleting q qs)) o = refl
-  learns (TaskAbortOver end) o = tt
-  learns _ o = refl
+  learns op o = grind arith
 
   pub abort_goes : (retries : ℕ) (t : Retried TaskAbort) → FitsAbort w a (known m a) t.operation → (r : Request) → task_abort_asks w a t.operation ≡ Some r → (o : Outcome) → IsHonestOutcome o (answer s.scene r)
       → FitsAbort w a (learn w a (known m a) r o) (step retries (task_abort_after w) t o).operation

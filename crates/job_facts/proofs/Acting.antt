@@ -1,5 +1,5 @@
 -- Every operation of an attempt keeps the facts with each of its requests, and goes on as it should; and it names only what is its own.
-use Rattle.std.proofs.Common.{◌≡◌, ℕ, ◌||◌, false, Some, refl, sym, ap, subst, ◌∙◌, ◌⊎◌, inl, true, Bool, List, [], ◌∷◌, ◌++◌, map, take, Option, None, length}
+use Rattle.std.proofs.Common.{◌≡◌, ℕ, ◌||◌, false, Some, refl, sym, ap, subst, ◌∙◌, ◌⊎◌, inl, true, Bool, List, [], ◌∷◌, ◌++◌, map, take, Option, None, length, arith}
 use Rattle.job_facts.specs.Prelude.{answer, IsHonestOutcome, Request, Outcome, step, task_abort_after, Who, IsLegal, write_after, task_commit_after, Setting, Operation, TheWrite, TheTaskCommit, TheTaskAbort, asks, tells, Seen, Told, known, undoes, tell_attempt, IsAttempt, Hold, Fits, FitsWrite, FitsCommit, FitsAbort, Times, entry, tell, listed, ClusterRename, Reply, Page, Refused, NoSuchKey, NoSuchFile, Answered, Retried, File, Script, files, Drawn, Known, learn, record_key, walked_by, keys_on, last_of, Uploaded, GoesOn, AllSent, IsGone, upload_asks, upload_hears, TaskCommit, Looking, Reading, Publishing, Checking, Uploads, Storing, Renaming, TaskCommitOver, task_commit_asks, task_commit_hears, attempt_prefix, temporary_path, reading, looked, looked_at, read_record, storing, checking, checked, uploaded, renamed, least_missing, in_order, is_magic, is_staging, RisesFrom, AreCommits, Todo, AllWritten, IsOpen, PutObject, Committer, Magic, Place, MarkerPlace, RecordPlace, SetPlace, key_at, first_drawn, record_text, Uploading, Creating, Sending, Write, Recording, WriteOver, writing, write_asks, IsOwnPlace, Begun, FitsUpload, Wrote}
 use Rattle.job_facts.specs.Laws.{Goes}
 use Rattle.job_facts.proofs.Whose.{or_false, or_true, who_here}
@@ -19,24 +19,16 @@ use Rattle.job_facts.proofs.Owning.{operation_asked, asked_keeps, asked_adds, ta
 
 -- ---- an attempt's write
 
--- a write is all that the magic committer's attempts do before their commit
-wrote_magic : (c : Committer) (w : Script) (minimum : ℕ) (a : Who) (ds : List Drawn) → is_magic c ≡ true → AllWritten w minimum a ds → Wrote c w minimum a ds
-wrote_magic Magic w minimum a ds h all = all
-wrote_magic _ w minimum a ds h all = absurd (false≢true h)
-
 module _ (w : Script) (minimum : ℕ) (a : Who) where
   pub fits_writing : (k : Known) (fs : List File) → is_magic w.committer ≡ true → IsOpen k → Todo w minimum a k.drawn fs → FitsWrite w minimum a k (writing fs)
-  fits_writing k [] magic free t = λ e. (free, wrote_magic w.committer w minimum a k.drawn magic (todo_none w minimum a k.drawn t))
-  fits_writing k (f ∷ fs) magic free t = (magic, free, t)
+  fits_writing k fs h g e = grind arith
 
   write_uploaded : (k : Known) (f : File) (fs : List File) (u : Uploaded) → is_magic w.committer ≡ true → IsOpen k → FitsUploaded w minimum a k f fs u → FitsWrite w minimum a k (writes.uploaded w f fs u)
-  write_uploaded k f fs IsGone magic free h = λ e. absurd cc
-  write_uploaded k f fs _ magic free h = (magic, free, h)
+  write_uploaded k f fs u h g e = grind arith
 
   -- only the uploads that it knows, and what it has sent, matter
   pub fits_upload_same : (k more : Known) (f : File) (fs : List File) (u : Uploading) → more.drawn ≡ k.drawn → FitsUpload w minimum a k f fs u → FitsUpload w minimum a more f fs u
-  fits_upload_same k more f fs Creating e h = subst (λ ds. Todo w minimum a ds (f ∷ fs)) (sym e) h
-  fits_upload_same k more f fs (Sending p ps) e h = subst (λ ds. Begun w minimum a ds f fs (p ∷ ps)) (sym e) h
+  fits_upload_same k more f fs u h g = grind arith
 
 module _ (w : Script) (minimum : ℕ) (k : Times) (s : Seen) (m : Told) (a : Who) (n : ℕ) (j : IsLegal w) (d : IsAttempt w a) (h : Hold w minimum s m) where
   -- what it puts is no task's set
@@ -85,8 +77,7 @@ module _ (w : Script) (minimum : ℕ) (a : Who) (j : IsLegal w) where
   fits_uploaded k f fs IsGone staging free h = λ e. absurd cc
 
   fits_reading : (k : Known) (cs fs : List File) → is_magic w.committer ≡ true → AreCommits w minimum k.drawn a cs → FitsCommit w minimum a k (reading cs fs)
-  fits_reading k cs [] magic are = (magic, are)
-  fits_reading k cs (f ∷ fs) magic are = (magic, are)
+  fits_reading k cs fs h g = grind arith
 
   -- the files that were listed, in the order of the listing
   listed_commits : (ds : List Drawn) (keys : List (List ℕ)) → AllWritten w minimum a ds → RisesFrom [] keys → least_missing keys (map (record_key w a) (files w a)) ≡ None → AreCommits w minimum ds a (in_order w a keys)
@@ -106,8 +97,7 @@ module _ (w : Script) (minimum : ℕ) (a : Who) (j : IsLegal w) where
       by None e = fits_reading k (in_order w a keys) (in_order w a keys) magic (listed_commits k.drawn keys written rises e)
 
   fits_read : (k : Known) (cs : List File) (f : File) (fs : List File) → is_magic w.committer ≡ true → AreCommits w minimum k.drawn a cs → (x : Reply) → FitsCommit w minimum a k (read_record w a cs f fs x)
-  fits_read k cs f fs magic are (Refused NoSuchKey) = λ d. absurd cc
-  fits_read k cs f fs magic are _ = fits_reading k cs fs magic are
+  fits_read k cs f fs h g x = grind arith
 
   fits_checked : (k : Known) (d : List ℕ) (ds : List (List ℕ)) → is_staging w.committer ≡ true → IsOpen k → Todo w minimum a k.drawn (files w a) → (x : Reply) → FitsCommit w minimum a k (checked w a d ds x)
   fits_checked k d ds staging free t (Page [] more) = fits_checking k ds staging free t
@@ -116,8 +106,7 @@ module _ (w : Script) (minimum : ℕ) (a : Who) (j : IsLegal w) where
 
   -- an end of a rename, which was sent
   fits_renamed : (k : Known) → k.publish_sent ≡ true → (x : Reply) (repeated : Bool) → FitsCommit w minimum a k (renamed w a x repeated)
-  fits_renamed k sent (Refused NoSuchFile) repeated = λ e. sent
-  fits_renamed k sent _ repeated = λ e. sent
+  fits_renamed k h x repeated = grind arith
 
 module _ (w : Script) (minimum : ℕ) (k : Times) (s : Seen) (m : Told) (a : Who) (n : ℕ) (j : IsLegal w) (d : IsAttempt w a) (clean : m.undone a ≡ false) (h : Hold w minimum s m) where
   -- it goes on as it should
@@ -138,11 +127,7 @@ module _ (w : Script) (minimum : ℕ) (k : Times) (s : Seen) (m : Told) (a : Who
   commit_heard repeated (TaskCommitOver end) fits = tt
 
   commit_still : (op : TaskCommit) → FitsCommit w minimum a (known m a) op → (o : Outcome) → ((x : Reply) → o ≡ Answered x → ⊥) → Each (λ q. FitsCommit w minimum a (learn w a (known m a) q o) op) (task_commit_asks w a (known m a) op)
-  commit_still (Uploads f fs u) fits o none =
-      let q = upload_asks w (known m a) f u in
-      (fits.0, upload_flags w a (known m a) f u o fits.1, fits_upload_same w minimum a (known m a) (learn w a (known m a) q o) f fs u (unlearnt w a (known m a) q o none) fits.2)
-  commit_still (TaskCommitOver end) fits o none = tt
-  commit_still _ fits o none = fits
+  commit_still op h o g = grind arith
 
   pub commit_goes : (retries : ℕ) (t : Retried TaskCommit) → FitsCommit w minimum a (known m a) t.operation → (r : Request) → task_commit_asks w a (known m a) t.operation ≡ Some r → (o : Outcome) → IsHonestOutcome o (answer s.scene r)
       → FitsCommit w minimum a (learn w a (known m a) r o) (step retries (task_commit_after w minimum a) t o).operation

@@ -97,13 +97,7 @@ module _ (w : Script) (picks : Picks) where
   Agrees (CommitOver end) = is_untouched end ≡ false → is_decided w picks ≡ true
 
   agrees_course : Course w Agrees (λ sets. (length sets ≤ w.tasks) × AgreeBelow sets (length sets)) (λ sets ps. AgreeBelow sets w.tasks)
-  agrees_course = record {
-    fetches = λ sets l a. a.1;
-    clashes = λ sets end e a. let x = shared_found w (picks_of sets) end e in subst (λ v. Agrees (CommitOver v)) (sym x.3) (λ n. absurd cc);
-    decides = λ sets l e a t k. a.1 t (omega (arith, l, k));
-    replaces = λ sets p ps a. a;
-    completes = λ sets a. completing_so Agrees sets (dealt w.lanes (length (all_commits sets))) [] a (λ x xs. a);
-  }
+  agrees_course = grind (arith, shared_found, completing_so)
 
   pub agrees_fetching : (sets : Sets) → length sets ≤ w.tasks → AgreeBelow sets (length sets) → Agrees (fetching w sets)
   agrees_fetching sets l a = fetching_so agrees_course sets (l, a)

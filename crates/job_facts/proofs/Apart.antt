@@ -95,10 +95,7 @@ module _ (w : Script) (s : Scene) (there : HasBucket s.content w.dest.bucket) wh
   write_keys b k _ r e q = subst (Keeps q) (some_is e) (key_put q _ _ _)
 
   pub write_paths : (b : Who) (k : Known) (t : Write) (r : Request) → write_asks w b k t ≡ Some r → (q : List ℕ) → KeepsPath q r
-  write_paths b k (writes.Uploads f fs (Sending p ps)) r e q = path_left q r (λ i. subst (λ v. IsIn q (changed_paths v)) (sym (some_is e)) i)
-  write_paths b k (WriteOver end) r e q = absurd cc
-  write_paths b k (writes.Uploads f fs Creating) r e q = path_left q r (λ i. subst (λ v. IsIn q (changed_paths v)) (sym (some_is e)) i)
-  write_paths b k _ r e q = path_left q r (λ i. subst (λ v. IsIn q (changed_paths v)) (sym (some_is e)) i)
+  write_paths b k t r h q = grind arith
 
   pub commit_keys : (b : Who) (k : Known) (t : TaskCommit) (r : Request) → task_commit_asks w b k t ≡ Some r → (q : List ℕ) → Keeps q r
   commit_keys b k (Publishing cs) r e q = subst (Keeps q) (some_is e) (key_put q _ _ _)

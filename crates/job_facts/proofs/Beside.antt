@@ -1,5 +1,5 @@
 -- Operations as they begin; and what an attempt sends leaves the driver's commit as it is.
-use Rattle.std.proofs.Common.{◌≡◌, ℕ, inl, inr, ◌||◌, true, List, [], Option, Some, None, refl, sym, ap, subst, ◌∙◌, Bool}
+use Rattle.std.proofs.Common.{◌≡◌, ℕ, inl, inr, ◌||◌, true, List, [], Option, Some, None, refl, sym, ap, subst, ◌∙◌, Bool, arith}
 use Rattle.job_facts.specs.Prelude.{Request, PutObject, ClusterRename, Committer, Magic, Outcome, Who, IsLegal, Script, PendingSet, files, Drawn, Known, learn, is_set_key, files_set, WriteOver, write_start_by, write_start, to_check, task_commit_start_by, task_commit_start, Commit, Fetching, Replacing, Completing, Reverting, CommitOver, commit_start, Setting, Operation, asks, is_magic, is_staging, IsIn, Told, known, tell_attempt, AreCommits, knowing, Todo, IsOpen, Wrote, Fits, FitsWrite, FitsCommit, IsHeldSet, FitsJobCommit}
 use Rattle.job_spec.proofs.Common.{none_some, false_true}
 use Rattle.job_model.specs.declared.ends.TaskEnd.TheVariants as tasks
@@ -40,9 +40,7 @@ job_commit_begins w minimum j m (Some t) = tt
 
 -- that it was sent stays so
 learn_sent : (w : Script) (a : Who) (k : Known) (r : Request) (o : Outcome) → k.publish_sent ≡ true → (learn w a k r o).publish_sent ≡ true
-learn_sent w a k (PutObject bucket key bytes header) o e = ap (λ b. b || is_set_key w a.task bucket key) e
-learn_sent w a k (ClusterRename source target) o e = refl
-learn_sent w a k _ o e = e
+learn_sent w a k r o h = grind arith
 
 asked_frozen : {w : Script} {minimum : ℕ} {back : Bool} (a : Who) (m : Told) → m.publish_sent a ≡ true → (o : Outcome) (r : Request) → Asked w minimum a m back r → (learn w a (known m a) r o).drawn ≡ m.drawn a
 asked_frozen {w = w} a m sent o _ (reads r h) = ap (λ k. k.drawn) ((reads_name r h).learns w a (known m a) o)
@@ -81,9 +79,4 @@ module _ (g : Setting) (m : Told) (a : Who) (op : Operation) (fits : Fits g.scri
 
   -- the driver's commit is as it was
   pub beside : (c : Commit) → FitsJobCommit g.script g.minimum m.publish_sent m.drawn c → FitsJobCommit g.script g.minimum now.publish_sent now.drawn c
-  beside (Fetching sets n) h = (h.0, λ t s e. held_still t s (h.1 t s e))
-  beside (Replacing sets p ps s n) h = ((λ t s e. held_still t s (h.0 t s e)), h.1, h.2)
-  beside (Completing sets x xs finished) h = λ t s e. held_still t s (h t s e)
-  beside (MarkingJob sets n) h = λ t s e. held_still t s (h t s e)
-  beside (Reverting q qs n) h = h
-  beside (CommitOver end) h = tt
+  beside c h = grind (arith, held_still)

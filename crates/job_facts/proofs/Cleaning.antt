@@ -1,5 +1,5 @@
 -- The driver's abort or clean of the job keeps the facts with each of its requests, goes on as it should, and no reader of the destination sees it.
-use Rattle.std.proofs.Common.{◌≡◌, ℕ, inl, inr, ◌||◌, Bool, true, false, List, [], ◌∷◌, ◌++◌, take, drop, Some, None, refl, sym, ap, subst, ◌∙◌}
+use Rattle.std.proofs.Common.{◌≡◌, ℕ, inl, inr, ◌||◌, Bool, true, false, List, [], ◌∷◌, ◌++◌, take, drop, Some, None, refl, sym, ap, subst, ◌∙◌, arith}
 use Rattle.job_facts.specs.Prelude.{filter, begins, answer, effect, IsHonestOutcome, Request, UploadRef, Committer, Magic, Reply, Outcome, Retried, step, magic_prefix, cluster_prefix, IsLegal, Script, dest_prefix, Listing, Deleting, walked_by, last_ref, deleting, all_go, Clean, Walking, Aborting, Naming, Removing, CleanOver, clean_asks, clean_after, clean_hears, aborting, walking, sweeping, removing, naming, Same, view, Seen, see, is_begun, IsIn, Told, tell, driver_entry, Hold, FitsClean, Times, only_reads}
 use Rattle.job_model.specs.Prelude.{Uploads}
 use Rattle.job_spec.proofs.Common.{some_is, in_append, in_filter}
@@ -29,13 +29,10 @@ module _ (w : Script) where
   ]
 
   fits_aborting : (c : Committer) (us : List UploadRef) → AllBelow w us → FitsClean w true (aborting c us)
-  fits_aborting c (u ∷ us) h = (refl, h)
-  fits_aborting Magic [] h = (refl, λ q i. absurd i)
-  fits_aborting _ [] h = refl
+  fits_aborting c us h = grind arith
 
   fits_walking : (c : Committer) (more : Bool) (found : List UploadRef) → AllBelow w found → FitsClean w true (walking c (walked_by more found))
-  fits_walking c true found h = h
-  fits_walking c false found h = fits_aborting c found h
+  fits_walking c more found h = grind arith
 
   fits_deleting : (keys : List (List ℕ)) → AllMagic w keys → FitsClean w true (sweeping (deleting keys))
   fits_deleting [] h = tt
@@ -79,12 +76,7 @@ module _ (w : Script) (minimum : ℕ) (k : Times) (s : Seen) (m : Told) (n : ℕ
 
     -- what fits before it has begun fits then
     begun : (op : Clean) → FitsClean w m.cleaned op → FitsClean w true op
-    begun (Walking found) fits = fits
-    begun (Aborting u us) fits = (refl, fits.1)
-    begun (Sweeping t) fits = (refl, fits.1)
-    begun Naming fits = refl
-    begun (Removing p ps) fits = (refl, fits.1)
-    begun (CleanOver end) fits = tt
+    begun op h = grind arith
 
     heard : (op : Clean) → FitsClean w m.cleaned op → Each (λ q. (x : Reply) → x ≡ answer s.scene q → FitsClean w true (clean_hears w op x)) (clean_asks w op)
     heard (Walking found) below = λ x e.

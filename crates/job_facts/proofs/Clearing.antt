@@ -1,5 +1,5 @@
 -- The driver's abort or clean of the job leaves nothing of it, where nobody else sends.
-use Rattle.std.proofs.Common.{◌≡◌, ℕ, inl, inr, nat_lt, Bool, true, false, cond, List, [], ◌∷◌, ◌++◌, take, length, Option, Some, None, refl, sym, ap, subst, ◌∙◌}
+use Rattle.std.proofs.Common.{◌≡◌, ℕ, inl, inr, nat_lt, Bool, true, false, cond, List, [], ◌∷◌, ◌++◌, take, length, Option, Some, None, refl, sym, ap, subst, ◌∙◌, arith}
 use Rattle.job_facts.specs.Prelude.{filter, text_cmp, text_eq, Content, Scene, Upload, begins, answer, apply, effect, IsHonestOutcome, only_reads, Committer, Magic, Request, AbortUpload, ClusterList, ClusterDelete, UploadRef, Reply, Outcome, ReplyLost, Retried, step, magic_prefix, cluster_prefix, Script, dest_prefix, Sweep, Listing, Deleting, walked_by, walked_uploads, last_ref, uploads_after, sweep_asks, sweep_hears, all_go, Clean, Walking, Aborting, Naming, Removing, CleanOver, clean_asks, clean_after, clean_hears, aborting, walking, sweeping, removing, naming, is_magic, is_staging, IsIn, HasBucket, at_id, end_left, ref_at, Clears}
 use Rattle.job_spec.specs.Prelude.{NoneLive, NothingLeft}
 use Rattle.job_spec.proofs.Common.{some_is, none_some, false_true, true_or_false, same_or_not, text_true, text_gone, in_front, in_back, map_in, filter_in}
@@ -19,10 +19,6 @@ use Rattle.job_facts.proofs.Staged.{removed_stood}
 
 -- ---- as it ends
 
-nothing_magic : (c : Committer) (w : Script) (s : Scene) → is_magic c ≡ true → NoneLive w s.content → OnlyThese w s.content [] → NothingLeft c w s
-nothing_magic Magic w s m none bare = (none, λ k x e. elim (true_or_false (begins (magic_prefix w.dest.key w.job) k)) [ inl b ↦ absurd (bare k x b refl e) | inr b ↦ b ])
-nothing_magic _ w s m none bare = absurd cc
-
 nothing_staging : (c : Committer) (w : Script) (s : Scene) → is_staging c ≡ true → NoneLive w s.content → FilesIn w s [] → NothingLeft c w s
 nothing_staging Magic w s m none bare = absurd cc
 nothing_staging _ w s m none bare = (none, λ p bytes e. elim (true_or_false (begins (cluster_prefix w.job) p)) [ inl b ↦ absurd (bare p bytes e b) | inr b ↦ b ])
@@ -37,8 +33,7 @@ module _ (w : Script) (s : Scene) where
   clears_aborting _ e [] there h = (ap is_staging (sym e), none_in w s.content h)
 
   clears_sweeping : (t : Option Sweep) → is_magic w.committer ≡ true → NoneLive w s.content → HasBucket s.content w.dest.bucket → Emptied w s.content t → Clears w s (sweeping t)
-  clears_sweeping None m none there h = λ d. nothing_magic w.committer w s m none h
-  clears_sweeping (Some t) m none there h = (m, none, there, h.0, h.1)
+  clears_sweeping t h g e f = grind arith
 
   clears_removing : (ps : List (List ℕ)) → is_staging w.committer ≡ true → NoneLive w s.content → FilesIn w s ps → Clears w s (removing ps)
   clears_removing [] m none h = λ d. nothing_staging w.committer w s m none h
@@ -80,22 +75,10 @@ module _ (w : Script) (s : Scene) where
     abort = AbortUpload w.dest.bucket u.key u.upload
 
     left_of : (o : Option Upload) (x : Upload) → end_left u.key o ≡ Some x → (o ≡ Some x) × (x.key ≡ u.key → ⊥)
-    left_of None x e = absurd (none_some refl e)
-    left_of (Some y) x e = by (text_eq y.key u.key) refl e
-      where
-        by : (b : Bool) → text_eq y.key u.key ≡ b → cond b None (Some y) ≡ Some x → (Some y ≡ Some x) × (x.key ≡ u.key → ⊥)
-        by true t g = absurd (none_some refl g)
-        by false t g = (g, λ h. false_true t (text_true y.key u.key (ap (λ (v : Upload). v.key) (some_is g) ∙ h)))
+    left_of o x h = grind (arith, text_true)
 
     was_live : (id : ℕ) (x : Upload) → at_id w (apply s abort).content id ≡ Some x → (at_id w s.content id ≡ Some x) × (id ≡ u.upload → x.key ≡ u.key → ⊥)
-    was_live id x e =
-        let t = abort_turns w s there.0 there.1 u.key u.upload in
-        elim (same_or_not id u.upload) [
-          | inl is ↦
-              let h = left_of (at_id w s.content u.upload) x (sym t.here ∙ ap (at_id w (apply s abort).content) (sym is) ∙ e) in
-              (ap (at_id w s.content) is ∙ h.0, λ g. h.1)
-          | inr ne ↦ (sym (t.others id ne) ∙ e, λ g. absurd (ne g))
-        ]
+    was_live id x h = grind (arith, abort_turns, same_or_not, left_of)
 
     live_less : LiveIn w (apply s abort).content us
     live_less id x e b =

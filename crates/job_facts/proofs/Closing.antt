@@ -1,5 +1,5 @@
 -- Until it cleans up, the driver ends only uploads of attempts that have sent their publishing requests.
-use Rattle.std.proofs.Common.{◌≡◌, ℕ, inl, inr, nat_eq, ◌&&◌, ◌||◌, Bool, true, false, List, [], ◌∷◌, ◌++◌, length, Option, Some, None, refl, sym, ap, subst, ◌∙◌}
+use Rattle.std.proofs.Common.{◌≡◌, ℕ, inl, inr, nat_eq, ◌&&◌, ◌||◌, Bool, true, false, List, [], ◌∷◌, ◌++◌, length, Option, Some, None, refl, sym, ap, subst, ◌∙◌, arith}
 use Rattle.job_spec.proofs.Common.{and_parts, or_parts, some_is, false_true, eq_nat, true_or_false}
 use Rattle.job_facts.specs.Prelude.{is_effective, Request, Reply, Outcome, Pending, Who, IsLegal, Script, Drawn, sweep_asks, sweep_hears, nth, again, follow, dealt, revert, Sets, all_commits, Commit, Fetching, Replacing, Completing, Marking, Reverting, CommitOver, set_request, set_read, commit_asks, commit_hears, commit_tells, commit_start, is_no_magic, reverting, Seen, is_begun, Tabled, Setting, Operation, asks, IsIn, Scene, Told, known, ends, tell_driver, tell_attempt, at_event, Facts, Hold, Fits, Reads, FitsJobCommit, Closed, Reverts}
 use Rattle.job_facts.specs.Standing.{IsSent, EndsSent}
@@ -28,17 +28,13 @@ module _ (w : Script) (sent : Who → Bool) (drawn : Who → List Drawn) where
   reverts_course = record { fetches = λ sets l h. tt; clashes = λ sets end e h. tt; decides = λ sets l e h. tt; replaces = λ sets p ps h. tt; completes = λ sets h. completing_so (Reverts sent drawn) sets (dealt w.lanes (length (all_commits sets))) [] tt (λ x xs. tt) }
 
   reverts_reverting : (rs : List Request) → EndsSent sent drawn rs → Reverts sent drawn (reverting rs)
-  reverts_reverting [] h = tt
-  reverts_reverting (r ∷ rs) h = h
+  reverts_reverting rs h = grind arith
 
   pub reverts_start : (missing : Option ℕ) → Reverts sent drawn (commit_start w missing)
-  reverts_start (Some t) = tt
-  reverts_start None = fetching_so reverts_course [] tt
+  reverts_start missing = grind arith
 
   reverts_missed : (c : Commit) → Reverts sent drawn c → (lost : Bool) → Reverts sent drawn (missed c lost)
-  reverts_missed (Completing sets x xs finished) h lost = completing_so (Reverts sent drawn) sets (xs ++ again x lost ∷ []) finished tt (λ y ys. tt)
-  reverts_missed (CommitOver end) h lost = tt
-  reverts_missed _ h lost = h
+  reverts_missed c h lost = grind arith
 
 -- ---- the sets that the driver holds are of attempts that have sent
 

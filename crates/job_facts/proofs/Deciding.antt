@@ -9,17 +9,10 @@ module _ (w : Script) (minimum : ℕ) (sent : Who → Bool) (drawn : Who → Lis
   D c = Decides w minimum sent drawn c
 
   d_course : Course w D (λ sets. length sets ≤ w.tasks) (λ sets ps. AreDecided w sets)
-  d_course = record {
-    fetches = λ sets l h. l;
-    clashes = λ sets end e h. tt;
-    decides = λ sets l e h. record { all = omega (arith, l, h); apart = e };
-    replaces = λ sets p ps h. h;
-    completes = λ sets h. completing_so D sets (dealt w.lanes (length (all_commits sets))) [] h (λ x xs. h);
-  }
+  d_course = grind arith
 
   d_reverting : (rs : List Request) → AreReverts w minimum sent drawn rs → D (reverting rs)
-  d_reverting [] h = tt
-  d_reverting (r ∷ rs) h = h
+  d_reverting rs h = grind arith
 
   pub d_start : (missing : Option ℕ) → D (commit_start w missing)
   d_start (Some t) = tt
@@ -33,8 +26,7 @@ module _ (w : Script) (minimum : ℕ) (sent : Who → Bool) (drawn : Who → Lis
   d_heard _ h x = tt
 
   d_missed : (c : Commit) → D c → (lost : Bool) → D (missed c lost)
-  d_missed (Completing sets x xs finished) h lost = completing_so D sets (xs ++ again x lost ∷ []) finished h (λ y ys. h)
-  d_missed _ h lost = h
+  d_missed c h lost = grind arith
 
 module _ {w : Script} {minimum : ℕ} {s : Scene} {last : ℕ → Option ℕ} {m : Told} (j : IsLegal w) (f : Facts w minimum s last m) where
   d_worn : (c : Commit) → FitsJobCommit w minimum m.publish_sent m.drawn c → Tabled w c → D w minimum m.publish_sent m.drawn c → D w minimum m.publish_sent m.drawn (worn c)

@@ -1,5 +1,5 @@
 -- The driver's requests keep the facts: those of a commit, and those of an abort or clean of the job.
-use Rattle.std.proofs.Common.{◌≡◌, ℕ, ◌&&◌, Bool, true, List, Option, sym, ap, ◌∙◌, subst}
+use Rattle.std.proofs.Common.{◌≡◌, ℕ, ◌&&◌, Bool, true, List, Option, sym, ap, ◌∙◌, subst, arith}
 use Rattle.job_spec.proofs.Common.{or_parts, none_some, false_true, nat_true, some_is}
 use Rattle.job_facts.specs.Prelude.{Scene, apply, effect, only_reads, Request, DeleteObjects, ClusterDelete, Outcome, Answered, IsLegal, Script, Seen, see, Told, ends, tell, tell_driver, at_event, driver_entry, IsDriving, Facts, Hold, Times, UploadRef, AbortUpload, dest_prefix, begins, IsIn}
 use Rattle.job_facts.proofs.Keep.{Drops, facts_so, owned_by, leaves_keep, drops_keep}
@@ -40,9 +40,7 @@ pub driving_keeps : (w : Script) (minimum : ℕ) (k : Times) (s : Seen) (m : Tol
 driving_keeps w minimum k s m n r o j d f = driver_sees k s m n r o (driving_effect j s.scene r d f o)
 
 pub reads_drive : (w : Script) (r : Request) → only_reads r ≡ true → IsDriving w r
-reads_drive w r h =
-    let x = reads_name r h in
-    record { keys = λ e k i. absurd (subst (λ (l : List (List ℕ)). IsIn k l) x.keys i); uploads = λ id e. absurd (none_some x.upload e); paths = λ p i. absurd (subst (λ (l : List (List ℕ)). IsIn p l) x.paths i) }
+reads_drive w r h = grind arith
 
 -- ---- requests of an abort or clean of the job, which deletes once it has begun
 
@@ -54,9 +52,7 @@ pub data IsClearing (w : Script) (begun : Bool) (A B : Type 0) : Request → Typ
   removes : (p : List ℕ) → begun ≡ true → IsClearing w begun A B (ClusterDelete p)
 
 pub clearing_hides : {w : Script} {begun : Bool} {A B : Type 0} (r : Request) → IsClearing w begun A B r → B → HidesAll w r
-clearing_hides _ (reads r h) known = λ e k i. absurd (subst (λ (l : List (List ℕ)). IsIn k l) (reads_name r h).keys i)
-clearing_hides r (batches keys b all) known = λ e k i. all known k i
-clearing_hides r _ known = λ e k i. absurd i
+clearing_hides r h g = grind arith
 
 module _ {w : Script} {minimum : ℕ} {last : ℕ → Option ℕ} {m : Told} (j : IsLegal w) (s : Scene) (f : Facts w minimum s last m) where
   drops_effect : m.cleaned ≡ true → (r : Request) → Drops w s (apply s r) → (o : Outcome) → Facts w minimum (effect s r o) last (tell_driver m r o)

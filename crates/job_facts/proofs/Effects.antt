@@ -1,5 +1,5 @@
 -- What the driver's completions, aborts and deletions leave of a file's key and of its upload.
-use Rattle.std.proofs.Common.{◌≡◌, ℕ, ◌<◌, ◌⊎◌, inl, inr, true, false, cond, List, Option, Some, None, refl, sym, ap, subst, ◌∙◌, Ok}
+use Rattle.std.proofs.Common.{◌≡◌, ℕ, ◌<◌, ◌⊎◌, inl, inr, true, false, cond, List, Option, Some, None, refl, sym, ap, subst, ◌∙◌, Ok, arith}
 use Rattle.job_facts.specs.Prelude.{Scene, named_from, apply, with_objects, DeleteObject, DeleteObjects, Pending, IsLegal, Script, file_key, completion, abort, deletion, HasBucket, Told, at_key, at_id, end_left, Facts, IsCommit, Gone, whole_of, BucketContent, joined, live}
 use Rattle.job_spec.proofs.Common.{none_or_some, text_gone, text_true, true_or_false}
 use Rattle.std.specs.FinMap as fin
@@ -23,10 +23,7 @@ module _ (w : Script) (s : Scene) (there : HasBucket s.content w.dest.bucket) wh
 
   -- a batch leaves what stands at a key, or nothing
   pub deleted_or_not : (keys : List (List ℕ)) (k : List ℕ) → (at_key w (apply s (DeleteObjects w.dest.bucket keys)).content k ≡ at_key w s.content k) ⊎ (at_key w (apply s (DeleteObjects w.dest.bucket keys)).content k ≡ None)
-  deleted_or_not keys k = elim (none_or_some (at_key w (apply s (DeleteObjects w.dest.bucket keys)).content k)) [
-    | inl none ↦ inr none
-    | inr x ↦ inl (x.1 ∙ sym ((deletes_drop w s keys there).objects k x.0 x.1))
-  ]
+  deleted_or_not keys k = grind (arith, none_or_some, deletes_drop)
 
 -- ---- of the uploads of sets that were read
 

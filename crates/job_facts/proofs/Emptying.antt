@@ -63,8 +63,7 @@ abbrev pub Emptied : Script → Content → Option Sweep → Type 0
 Emptied w c t = EmptiedBy w (magic_prefix w.dest.key w.job) all_go c t
 
 deletes_on : (w : Script) (p : List ℕ) (goes : List ℕ → Bool) (c : Content) (keys : List (List ℕ)) → AllUnder p keys → OnlyThose w p goes c keys → EmptiedBy w p goes c (deleting keys)
-deletes_on w p goes c [] all h = h
-deletes_on w p goes c (k ∷ ks) all h = (all, h)
+deletes_on w p goes c keys h g = grind arith
 
 module _ (w : Script) (s : Scene) (there : HasBucket s.content w.dest.bucket) (prefix : List ℕ) (goes : List ℕ → Bool) where
   -- ---- a page
@@ -130,5 +129,4 @@ sweep_still w s there t all h o = still_by w s there (magic_prefix w.dest.key w.
 
 -- the same keys below the directory
 pub sweep_same : (w : Script) (c d : Content) (t : Sweep) → ((k : List ℕ) → begins (magic_prefix w.dest.key w.job) k ≡ true → at_key w d k ≡ at_key w c k) → Empties w c t → Empties w d t
-sweep_same w c d (Listing keys) same h = λ k x b go e. h k x b go (sym (same k b) ∙ e)
-sweep_same w c d (Deleting q qs) same h = λ k x b go e. h k x b go (sym (same k b) ∙ e)
+sweep_same w c d t h g = grind arith

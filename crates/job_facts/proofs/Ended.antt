@@ -1,5 +1,5 @@
 -- A live upload keeps its key, and one that is gone never comes back; a completion that is due puts the file, and leaves its upload gone.
-use Rattle.std.proofs.Common.{◌≡◌, ℕ, ◌<◌, ◌⊎◌, inl, inr, ◌&&◌, Bool, true, false, cond, List, Option, Some, None, Result, Ok, Err, refl, sym, ap, subst, ◌∙◌}
+use Rattle.std.proofs.Common.{◌≡◌, ℕ, ◌<◌, ◌⊎◌, inl, inr, ◌&&◌, Bool, true, false, cond, List, Option, Some, None, Result, Ok, Err, refl, sym, ap, subst, ◌∙◌, arith}
 use Rattle.job_facts.specs.Prelude.{text_eq, BucketContent, Content, Scene, Upload, live, with_key, is_part_number, with_part, joined, apply, apply_store, bucket_of, completed, Request, UploadPart, CompleteUpload, AbortUpload, NamedPart, Refusal, Script, HasBucket, at_key, at_id, part_left, end_left}
 use Rattle.job_spec.proofs.Common.{some_is, none_some, same_or_not, same_or_other, nat_gone, nat_left, text_here, none_or_some}
 use Rattle.std.specs.FinMap as fin
@@ -55,9 +55,7 @@ module _ (w : Script) (s : Scene) (b : BucketContent) (there : fin.get s.content
 
   -- where the upload is gone it changes no key
   pub refused_key : (key : List ℕ) (id : ℕ) (parts : List NamedPart) → at_id w s.content id ≡ None → (k : List ℕ) → at_key w (after key id parts) k ≡ at_key w s.content k
-  refused_key key id parts e k =
-      let none : live b.uploads key id ≡ None = ap (with_key key) (sym (id_before w s b there id) ∙ e) in
-      then_key key id parts k ∙ ap (λ o. fin.get (completed b key id (joined o parts s.content.minimum)).objects k) none ∙ sym (key_before w s b there k)
+  refused_key key id parts h k = grind (arith, id_before, then_key, key_before)
 
   complete_stood : (key : List ℕ) (id : ℕ) (parts : List NamedPart) (u : Upload) → at_id w (after key id parts) id ≡ Some u → Stood (at_id w s.content id) u
   complete_stood key id parts u e =
@@ -107,13 +105,7 @@ module _ (w : Script) (s : Scene) (there : HasBucket s.content w.dest.bucket) (i
 -- a completion leaves an upload as it is, or ends one with its key
 completed_left : (b : BucketContent) (key : List ℕ) (id : ℕ) (parts : List NamedPart) (minimum : ℕ) (o : Option Upload) → fin.get b.uploads id ≡ o → (x : Result (List ℕ) Refusal) → joined (with_key key o) parts minimum ≡ x
     → (fin.get (completed b key id x).uploads id ≡ o) ⊎ (fin.get (completed b key id x).uploads id ≡ end_left key o)
-completed_left b key id parts minimum o e (Err r) j = inl e
-completed_left b key id parts minimum None e (Ok bytes) j = absurd cc
-completed_left b key id parts minimum (Some u) e (Ok bytes) j = by (text_eq u.key key) refl j
-  where
-    by : (t : Bool) → text_eq u.key key ≡ t → joined (cond t (Some u) None) parts minimum ≡ Ok bytes → (fin.get (fin.remove b.uploads id) id ≡ Some u) ⊎ (fin.get (fin.remove b.uploads id) id ≡ cond (text_eq u.key key) None (Some u))
-    by true g k = inr (nat_gone b.uploads id id refl ∙ ap (λ t. cond t None (Some u)) (sym g))
-    by false g k = absurd cc
+completed_left b key id parts minimum o h x g = grind (arith, nat_gone)
 
 pub completed_uploads : (w : Script) (s : Scene) (b : BucketContent) (there : fin.get s.content.buckets w.dest.bucket ≡ Some b) (key : List ℕ) (id : ℕ) (parts : List NamedPart)
     → ((at_id w (after w s b there key id parts) id ≡ at_id w s.content id) ⊎ (at_id w (after w s b there key id parts) id ≡ end_left key (at_id w s.content id)))

@@ -20,9 +20,7 @@ module _ (w : Script) (s : Scene) (there : HasBucket s.content w.dest.bucket) (i
       (let later : s.content.next ≤ (apply s r).content.next = (frame s w.dest.bucket r there).later in let low = h.0 in (omega arith, gone_stays w s there id h.0 r h.1))
 
 pub effective_is : (s : Scene) (r : Request) (o : Outcome) → is_effective o ≡ true → effect s r o ≡ apply s r
-effective_is s r Slow e = absurd (false≢true e)
-effective_is s r RequestLost e = absurd (false≢true e)
-effective_is s r _ e = refl
+effective_is s r o h = grind arith
 
 module _ {w : Script} {minimum : ℕ} {s : Scene} {last : ℕ → Option ℕ} {m : Told} (j : IsLegal w) (f : Facts w minimum s last m) (gone : Gone w s.content m) where
   -- a request ends nothing, or it is about the upload of a set that was read

@@ -146,10 +146,7 @@ module _ (dest id path : List ℕ) (t a : ℕ) (n : Names dest id t a) where
   base_there = word_part (codes "__base") path refl
 
   kept_is : parts_of 47 path ≡ kept (parts_of 47 behind)
-  kept_is =
-      behind_at (codes "__base") behind from_base (codes "__base") (parts_of 47 path) to_base base_there refl
-      ∙ sym (ap (λ (b : Bool). let es = parts_of 47 behind in if b then after_first (is_word (codes "__base")) es else drop (length es - 1) es)
-      (has_word (codes "__base") behind from_base (codes "__base") (parts_of 47 path) to_base base_there refl))
+  kept_is = grind (arith, behind_at, to_base, base_there, has_word)
 
   leads : (bucket : List ℕ) → LeadsTo (record { bucket = bucket; key = key }) (record { bucket = bucket; key = below dest path })
   leads bucket = record {

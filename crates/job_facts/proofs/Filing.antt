@@ -19,16 +19,11 @@ some_lane h = omega arith
 
 -- what stood before the commit still does, or nothing
 pub before_stays : {first u v : Option Object} → (v ≡ u) ⊎ (v ≡ None) → IsBefore first u → IsBefore first v
-before_stays (inr e) h = inr e
-before_stays (inl e) (inl h) = inl (e ∙ h)
-before_stays (inl e) (inr h) = inr (e ∙ h)
+before_stays h g = grind arith
 
 -- the set of a task with a pick was read
 pick_read : (sets : Sets) (t n : ℕ) → picks_of sets t ≡ Some n → (h : PendingSet) × (slice_get sets t ≡ Some h) × (h.attempt ≡ n)
-pick_read sets t n e = elim (none_or_some (slice_get sets t)) [
-  | inl none ↦ absurd (none_some (ap (option_map (λ (h : PendingSet). h.attempt)) none) e)
-  | inr h ↦ (h.0, h.1, some_is (sym (ap (option_map (λ (h : PendingSet). h.attempt)) h.1) ∙ e))
-]
+pick_read sets t n h = grind arith
 
 module _ {w : Script} {minimum : ℕ} {s : Scene} {last : ℕ → Option ℕ} {m : Told} (j : IsLegal w) (f : Facts w minimum s last m) (q b : List ℕ) where
   abbrev key : List ℕ
@@ -283,30 +278,17 @@ module _ {w : Script} {minimum : ℕ} {s : Scene} {last : ℕ → Option ℕ} {m
 
       -- it took none, and is in hand still
       in_hand : (o : Outcome) → Left (more r o) now (r ∷ rs)
-      in_hand o = elim left [
-        | inl h ↦ inl h
-        | inr h ↦ elim h.1 [ inl i ↦ inr (h.0, inl i) | inr worn ↦ inr (h.0, inr (worn_more w.retries (deletes w q) es (driver_entry n r o ∷ []) worn)) ]
-      ]
+      in_hand o = grind (arith, worn_more)
 
       -- or it wore out
       passed : (o : Outcome) → IsWorn w.retries r (more r o) → Left (more r o) now rs
-      passed o worn_out = elim left [
-        | inl h ↦ inl h
-        | inr h ↦ elim h.1 [
-          | inl (inl is) ↦ inr (h.0, inr (subst (λ y. IsWorn w.retries y (more r o)) (sym is) worn_out))
-          | inl (inr i) ↦ inr (h.0, inl i)
-          | inr worn ↦ inr (h.0, inr (worn_more w.retries (deletes w q) es (driver_entry n r o ∷ []) worn))
-        ]
-      ]
+      passed o h = grind (arith, worn_more)
 
       abbrev So : Outcome → Option Object → Commit → Type 0
       So o v c = FileStands w q b first (more r o) v (tell_driver m r o).ended c
 
       so_reverting : (o : Outcome) (v : Option Object) (qs : List Request) → Left (more r o) v qs → So o v (reverting qs)
-      so_reverting o v [] (inl h) = inl h
-      so_reverting o v [] (inr (e, inl i)) = absurd i
-      so_reverting o v [] (inr (e, inr worn)) = inr (e, worn)
-      so_reverting o v (y ∷ ys) h = (omega arith, h)
+      so_reverting o v qs h = grind arith
 
       missed_so : (o : Outcome) (lost : Bool) (v : Option Object) → was_answered o ≡ false → Left (more r o) v (r ∷ rs) → (IsWorn w.retries r (more r o) → Left (more r o) v rs) → So o v (commit_misses w (Reverting r rs k) lost)
       missed_so o lost v e here over =

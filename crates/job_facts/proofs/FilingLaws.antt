@@ -1,5 +1,5 @@
 -- What stands where wanted files go, entry by entry: the driver's commit's, and those of others.
-use Rattle.std.proofs.Common.{◌≡◌, ℕ, ◌≤◌, ◌^◌, ◌⊎◌, inl, inr, true, List, [], ◌∷◌, ◌++◌, length, take, Option, Some, None, refl, sym, ap, subst, ◌∙◌}
+use Rattle.std.proofs.Common.{◌≡◌, ℕ, ◌≤◌, ◌^◌, ◌⊎◌, inl, inr, true, List, [], ◌∷◌, ◌++◌, length, take, Option, Some, None, refl, sym, ap, subst, ◌∙◌, arith}
 use Rattle.job_facts.specs.Prelude.{Scene, answer, bucket_of, effect, IsHonestOutcome, only_reads, Object, Request, PutObject, Outcome, Entry, below, IsWorn, success_key, FilePlace, is_open, Pending, Who, IsLegal, Script, is_file_path, mark_text, Sweep, Listing, Deleting, sweep_asks, page_after, picks_of, Commit, Fetching, Replacing, Completing, Marking, Reverting, CommitOver, set_request, commit_start, commit_asks, commit_tells, Setting, Operation, asks, Seen, IsIn, HasBucket, changed_keys, Told, known, ends, tell_driver, tell_attempt, driver_entry, at_key, IsAttempt, Hold, Fits, FitsJobCommit, NoneEnded, IsCommit, Decides, IsBefore, deletes, Wants, FileStands, whole_of, Commits, DeleteObjects}
 use Rattle.job_spec.proofs.Common.{key_magic, some_is, false_true}
 use Rattle.store_frame.proofs.Framed.{frame}
@@ -60,8 +60,7 @@ files_begin w minimum j s m h none q b first here same None wants = fetching_so 
 files_begin w minimum j s m h none q b first here same (Some t) wants = same
 
 pub left_before : (w : Script) (q b : List ℕ) (first now : Option Object) (es : List Entry) → IsBefore first now ⊎ ((now ≡ Some (whole_of b)) × IsWorn w.retries (deletes w q) es) → (IsWorn w.retries (deletes w q) es → ⊥) → IsBefore first now
-left_before w q b first here es (inl h) none = h
-left_before w q b first here es (inr h) none = absurd (none h.1)
+left_before w q b first now es h g = grind arith
 
 -- ---- an entry of the commit
 
@@ -82,11 +81,7 @@ module _ (g : Setting) (j : IsLegal g.script) (s : Seen) (m : Told) (n : ℕ) (f
   same_after r h o = ap (λ (x : Scene). at_key w x.content key) (reads_same s.scene r o h)
 
   swept_or_not : HasBucket s.scene.content w.dest.bucket → (p : List ℕ) (x : Sweep) (o : Outcome) → (after (sweep_asks w.dest.bucket p x) o ≡ at_key w s.scene.content key) ⊎ (after (sweep_asks w.dest.bucket p x) o ≡ None)
-  swept_or_not there p (Listing keys) o = inl (same_after (page_after w.dest.bucket p keys) refl o)
-  swept_or_not there p (Deleting k ks) o =
-      let r = DeleteObjects w.dest.bucket (take 1000 (k ∷ ks)) in
-      let now = at_key w s.scene.content key in
-      effect_so (λ u. (at_key w u.content key ≡ now) ⊎ (at_key w u.content key ≡ None)) s.scene r o (inl refl) (deleted_or_not w s.scene there (take 1000 (k ∷ ks)) key)
+  swept_or_not h p x o = grind (arith, same_after, effect_so, deleted_or_not)
 
   go_by : (c : Commit) → (h : Commits w g.minimum s m c) → (r : Request) → commit_asks w c ≡ Some r → (o : Outcome) → FitsJobCommit w g.minimum m.publish_sent m.drawn (commit_tells w c o) → Wants w q b c → Wants w q b (commit_tells w c o)
       → FileStands w q b first es (at_key w s.scene.content key) m.ended c → So c r o (commit_tells w c o)

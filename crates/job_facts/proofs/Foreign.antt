@@ -1,5 +1,5 @@
 -- A foreign request leaves the job alone; so does one that changes nothing, and one that begins an upload.
-use Rattle.std.proofs.Common.{◌≡◌, ℕ, ◌<◌, Bool, List, sym, subst, [], None, false, refl}
+use Rattle.std.proofs.Common.{◌≡◌, ℕ, ◌<◌, Bool, List, sym, subst, [], None, false, refl, arith}
 use Rattle.store_frame.proofs.Framed.{frame}
 use Rattle.store_frame.proofs.Reading.{reads_nothing}
 use Rattle.std.proofs.Common.{true, Some, Option}
@@ -58,19 +58,11 @@ pub record NamesNothing (r : Request) : Type 0 where
   pub no_data : sends_data r ≡ false
 
 pub reads_name : (r : Request) → only_reads r ≡ true → NamesNothing r
-reads_name (GetObject n q) h = record { keys = refl; upload = refl; paths = refl; ends_none = λ id. refl; undo = refl; learns = λ w a k o. refl; publishing = λ w s t. refl; within = λ w. tt; no_data = refl }
-reads_name (HeadObject n q) h = record { keys = refl; upload = refl; paths = refl; ends_none = λ id. refl; undo = refl; learns = λ w a k o. refl; publishing = λ w s t. refl; within = λ w. tt; no_data = refl }
-reads_name (ListPage n p t after limit) h = record { keys = refl; upload = refl; paths = refl; ends_none = λ id. refl; undo = refl; learns = λ w a k o. refl; publishing = λ w s t. refl; within = λ w. tt; no_data = refl }
-reads_name (ListParts n q id) h = record { keys = refl; upload = refl; paths = refl; ends_none = λ id. refl; undo = refl; learns = λ w a k o. refl; publishing = λ w s t. refl; within = λ w. tt; no_data = refl }
-reads_name (ListUploads n p after limit) h = record { keys = refl; upload = refl; paths = refl; ends_none = λ id. refl; undo = refl; learns = λ w a k o. refl; publishing = λ w s t. refl; within = λ w. tt; no_data = refl }
-reads_name (ClusterGet path) h = record { keys = refl; upload = refl; paths = refl; ends_none = λ id. refl; undo = refl; learns = λ w a k o. refl; publishing = λ w s t. refl; within = λ w. tt; no_data = refl }
-reads_name (ClusterList p) h = record { keys = refl; upload = refl; paths = refl; ends_none = λ id. refl; undo = refl; learns = λ w a k o. refl; publishing = λ w s t. refl; within = λ w. tt; no_data = refl }
-reads_name _ h = absurd (false_true refl h)
+reads_name r h = grind arith
 
 -- so does the read of a set
 pub set_reads : (c : Committer) (w : Script) (t : ℕ) → only_reads (set_request c w t) ≡ true
-set_reads Magic w t = refl
-set_reads _ w t = refl
+set_reads c w t = grind arith
 
 -- and it keeps the facts
 pub reads_effect : {w : Script} {minimum : ℕ} {last : ℕ → Option ℕ} {m : Told} (s : Scene) (r : Request) → only_reads r ≡ true → Facts w minimum s last m → Facts w minimum (apply s r) last m

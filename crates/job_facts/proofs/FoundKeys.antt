@@ -59,8 +59,7 @@ module _ (w : Script) (s : Scene) (there : HasBucket s.content w.dest.bucket) (f
     ]
 
   removing_keys : (ps : List (List ℕ)) → FoundWithKeys w s.content (removing ps)
-  removing_keys [] = tt
-  removing_keys (p ∷ ps) = tt
+  removing_keys ps = grind arith
 
   heard : (t : Clean) → FoundWithKeys w s.content t → Each (λ q. (x : Reply) → x ≡ answer s q → FoundWithKeys w s.content (clean_hears w t x)) (clean_asks w t)
   heard (Walking found) h = λ x e.

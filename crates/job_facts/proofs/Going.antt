@@ -1,42 +1,26 @@
 -- What an attempt knows after one more of its own requests, and where a request that got no answer leads.
-use Rattle.std.proofs.Common.{◌≡◌, ℕ, zero, suc, Bool, true, refl, false, Option, Some, None, subst}
+use Rattle.std.proofs.Common.{◌≡◌, ℕ, zero, suc, Bool, true, refl, false, Option, Some, None, subst, arith}
 use Rattle.job_facts.specs.Prelude.{Request, CreateUpload, Reply, Outcome, Answered, Slow, RequestLost, ReplyLost, Retried, Item, Got, WornOut, step, unanswered_by, Who, Script, Known, learn, Told, known, tell_attempt, Scene, apply, effect, is_effective, IsHonestOutcome}
 use Rattle.job_facts.proofs.Whose.{who_here}
 
 module _ (w : Script) (m : Told) (a : Who) (r : Request) (o : Outcome) where
   pub known_now : known (tell_attempt w m a r o) a ≡ learn w a (known m a) r o
-  known_now = λ i. record {
-    drawn = who_here m.drawn a (learn w a (known m a) r o).drawn a refl i;
-    put_sent = who_here m.put_sent a (learn w a (known m a) r o).put_sent a refl i;
-    publish_sent = who_here m.publish_sent a (learn w a (known m a) r o).publish_sent a refl i;
-  }
-
--- what holds of an operation as it is and where it wears out holds after a sending without an answer
-pub unanswered_so : {M : Type 0} (P : M → Type 0) (retries : ℕ) (after : M → Item → M) (op : M) (repeated : Bool) (spare : ℕ) → P op → P (after op WornOut) → P (unanswered_by retries after op repeated spare).operation
-unanswered_so P retries after op repeated zero h g = g
-unanswered_so P retries after op repeated (suc n) h g = h
+  known_now = grind arith
 
 -- and so after any, where it holds after an answer
 pub step_so : {M : Type 0} (retries : ℕ) (after : M → Item → M) (t : Retried M) (o : Outcome) (P : M → Type 0) → ((x : Reply) → o ≡ Answered x → P (after t.operation (Got x t.repeated)))
     → (((x : Reply) → o ≡ Answered x → ⊥) → P t.operation) → (((x : Reply) → o ≡ Answered x → ⊥) → P (after t.operation WornOut)) → P (step retries after t o).operation
-step_so retries after t (Answered x) P h g k = h x refl
-step_so retries after t Slow P h g k = unanswered_so P retries after t.operation t.repeated t.spare (g (λ x e. absurd cc)) (k (λ x e. absurd cc))
-step_so retries after t RequestLost P h g k = unanswered_so P retries after t.operation true t.spare (g (λ x e. absurd cc)) (k (λ x e. absurd cc))
-step_so retries after t ReplyLost P h g k = unanswered_so P retries after t.operation true t.spare (g (λ x e. absurd cc)) (k (λ x e. absurd cc))
+step_so retries after t o P h g e = grind arith
 
 -- what was not answered teaches nothing of uploads
 pub unlearnt : (w : Script) (a : Who) (k : Known) (r : Request) (o : Outcome) → ((x : Reply) → o ≡ Answered x → ⊥) → (learn w a k r o).drawn ≡ k.drawn
-unlearnt w a k r (Answered x) h = absurd (h x refl)
-unlearnt w a k (CreateUpload bucket key) _ h = refl
-unlearnt w a k _ o h = refl
+unlearnt w a k r o h = grind arith
 
 -- ---- what holds whatever becomes of a request
 
 -- by what stood where it took no effect, and by what it leaves where it did
 pub effect_by : (P : Outcome → Scene → Type 0) (s : Scene) (r : Request) (o : Outcome) → (is_effective o ≡ false → P o s) → (is_effective o ≡ true → P o (apply s r)) → P o (effect s r o)
-effect_by P s r Slow h g = h refl
-effect_by P s r RequestLost h g = h refl
-effect_by P s r _ h g = g refl
+effect_by P s r o h g = grind arith
 
 pub effect_so : (P : Scene → Type 0) (s : Scene) (r : Request) (o : Outcome) → P s → P (apply s r) → P (effect s r o)
 effect_so P s r o h g = effect_by (λ o. P) s r o (λ e. h) (λ e. g)
@@ -54,10 +38,8 @@ each_so P r e h = subst (Each P) e h
 -- it is enough to see to an answer, which is due, and to the operation as it is and where it wears out
 pub step_by : {M : Type 0} (P : Outcome → M → Type 0) (retries : ℕ) (after : M → Item → M) (t : Retried M) (y : Reply) (o : Outcome) → IsHonestOutcome o y → ((x : Reply) → x ≡ y → P (Answered x) (after t.operation (Got x t.repeated)))
     → (((x : Reply) → o ≡ Answered x → ⊥) → P o t.operation) → (((x : Reply) → o ≡ Answered x → ⊥) → P o (after t.operation WornOut)) → P o (step retries after t o).operation
-step_by P retries after t y (Answered x) honest heard still over = heard x honest
-step_by P retries after t y o honest heard still over = step_so retries after t o (P o) (λ x e. absurd cc) still over
+step_by P retries after t y o h g e f = grind arith
 
 pub step_asked : {M : Type 0} (P : Request → Outcome → M → Type 0) (retries : ℕ) (after : M → Item → M) (t : Retried M) (due : Request → Reply) {x : Option Request} (r : Request) → x ≡ Some r → (o : Outcome) → IsHonestOutcome o (due r)
     → Each (λ q. (y : Reply) → y ≡ due q → P q (Answered y) (after t.operation (Got y t.repeated))) x → (((y : Reply) → o ≡ Answered y → ⊥) → Each (λ q. P q o t.operation) x) → P r o (after t.operation WornOut) → P r o (step retries after t o).operation
-step_asked P retries after t due r e o honest heard still worn =
-    step_by (P r) retries after t (due r) o honest (each_so (λ q. (y : Reply) → y ≡ due q → P q (Answered y) (after t.operation (Got y t.repeated))) r e heard) (λ none. each_so (λ q. P q o t.operation) r e (still none)) (λ none. worn)
+step_asked P retries after t due r h o g e f p = grind arith

@@ -24,10 +24,7 @@ number_of (q ∷ ps) p (inr i) = let old = number_of ps p i in let low : old.0 <
 
 -- where no two picks write one path it has one writer
 pub one_writer : (w : Script) (picks : Picks) → same_path w picks ≡ None → (p : List ℕ) (t u : ℕ) → t < w.tasks → u < w.tasks → writes w picks p t ≡ true → writes w picks p u ≡ true → t ≡ u
-one_writer w picks apart p t u low less a b = elim (cases_lt t u) [
-  | inl l ↦ absurd (shared_none w picks apart p t u l less a b)
-  | inr h ↦ elim (cases_lt u t) [ inl l ↦ absurd (shared_none w picks apart p u t l low b a) | inr k ↦ omega (arith, h, k) ]
-]
+one_writer w picks h p t u g e f q = grind (arith, cases_lt, shared_none)
 
 module _ {X : Type 0} (of : Pending → X) where
   -- no two of them have this in common
@@ -314,27 +311,18 @@ worn (CommitOver end) = CommitOver end
 
 pub completing_so : (P : Commit → Type 0) (sets : Sets) (xs : List Turn) (finished : List ℕ)
     → P (Marking sets 0) → ((x : Turn) (ys : List Turn) → P (Completing sets x ys finished)) → P (completing sets xs finished)
-completing_so P sets [] finished h g = h
-completing_so P sets (x ∷ xs) finished h g = g x xs
+completing_so P sets xs finished h g = grind arith
 
 module _ (w : Script) (P : Commit → Type 0) where
   pub either : (b : Bool) (c d : Commit) → (b ≡ true → P c) → (b ≡ false → P d) → P (cond b c d)
-  either true c d h g = h refl
-  either false c d h g = g refl
+  either b c d h g = grind arith
 
   misses_so : (c : Commit) (lost : Bool) → P (missed c lost) → P (worn c) → P (commit_misses w c lost)
-  misses_so (Completing sets x xs finished) lost h g = either (nat_lt x.missed w.retries) (missed (Completing sets x xs finished) lost) (worn_completion sets x xs finished) (λ e. h) (λ e. g)
-  misses_so (Fetching sets n) lost h g = either (nat_lt n w.retries) (Fetching sets (n + 1)) (CommitOver (ends.StoreFault stages.Read)) (λ e. h) (λ e. g)
-  misses_so (Replacing sets p ps s n) lost h g = either (nat_lt n w.retries) (Replacing sets p ps s (n + 1)) (CommitOver (ends.StoreFault stages.Delete)) (λ e. h) (λ e. g)
-  misses_so (Marking sets n) lost h g = either (nat_lt n w.retries) (Marking sets (n + 1)) (CommitOver (ends.StoreFault stages.Success)) (λ e. h) (λ e. g)
-  misses_so (Reverting q qs n) lost h g = either (nat_lt n w.retries) (Reverting q qs (n + 1)) (reverting qs) (λ e. h) (λ e. g)
-  misses_so (CommitOver end) lost h g = h
+  misses_so c lost h g = grind arith
 
   -- after any outcome, by what holds after an answer, after a sending that is missed, and where it wears out
   pub tells_so : (c : Commit) (o : Outcome) → ((x : Reply) → o ≡ Answered x → P (commit_hears w c x)) → ((lost : Bool) → P (missed c lost)) → P (worn c) → P (commit_tells w c o)
-  tells_so c (Answered x) h g k = h x refl
-  tells_so c Slow h g k = misses_so c false (g false) k
-  tells_so c _ h g k = misses_so c true (g true) k
+  tells_so c o h g e = grind (arith, misses_so)
 
 -- what holds of the commit, of sets that are read so far, and of those of a commit that goes on, with the prefixes that it has yet to empty
 pub record Course (w : Script) (P : Commit → Type 0) (F : Sets → Type 0) (X : Sets → List (List ℕ) → Type 0) : Type 0 where
@@ -346,22 +334,17 @@ pub record Course (w : Script) (P : Commit → Type 0) (F : Sets → Type 0) (X 
 
 module _ {w : Script} {P : Commit → Type 0} {F : Sets → Type 0} {X : Sets → List (List ℕ) → Type 0} (c : Course w P F X) where
   replacing_so : (sets : Sets) (ps : List (List ℕ)) → X sets ps → P (replacing w sets ps)
-  replacing_so sets [] h = c.completes sets h
-  replacing_so sets (p ∷ ps) h = c.replaces sets p ps h
+  replacing_so sets ps h = grind arith
 
   decided_so : (sets : Sets) (o : Option CommitEnd) → w.tasks ≤ length sets → same_path w (picks_of sets) ≡ o → F sets → P (decided w sets o)
-  decided_so sets (Some end) l e h = c.clashes sets end e h
-  decided_so sets None l e h = replacing_so sets (replaced w.committer w.mode w (picks_of sets)) (c.decides sets l e h)
+  decided_so sets o h g e = grind arith
 
   pub fetching_so : (sets : Sets) → F sets → P (fetching w sets)
-  fetching_so sets h =
-      either w P (nat_lt (length sets) w.tasks) (Fetching sets 0) (decided w sets (same_path w (picks_of sets)))
-      (λ e. c.fetches sets (below_is (length sets) w.tasks e) h) (λ e. decided_so sets (same_path w (picks_of sets)) (ltb-false (length sets) w.tasks e) refl h)
+  fetching_so sets h = grind (arith, either, below_is, decided_so, ltb-false)
 
   pub fetched_so : (sets : Sets) (o : Option PendingSet) → length sets < w.tasks → F sets → ((h : PendingSet) → o ≡ Some h → F (sets ++ h ∷ [])) → P (fetched w sets o)
   fetched_so sets (Some h) l f g = fetching_so (sets ++ h ∷ []) (g h refl)
   fetched_so sets None l f g = c.fetches sets l f
 
   pub swept_so : (sets : Sets) (p : List ℕ) (ps : List (List ℕ)) (o : Option Sweep) → X sets ps → ((s : Sweep) → o ≡ Some s → P (Replacing sets p ps s 0)) → P (swept w sets p ps o)
-  swept_so sets p ps (Some s) h g = g s refl
-  swept_so sets p ps None h g = replacing_so sets ps h
+  swept_so sets p ps o h g = grind arith

@@ -1,5 +1,5 @@
 -- The driver's commit keeps the facts with each of its requests, holds the sets as it read them, and goes on as it should.
-use Rattle.std.proofs.Common.{◌≡◌, ℕ, zero, suc, ◌<◌, ◌≤◌, ◌^◌, ◌⊎◌, inl, inr, nat_eq, Bool, true, false, List, [], ◌∷◌, ◌++◌, map, drop, length, slice_get, Option, Some, None, refl, sym, ap, subst, ◌∙◌, codes, append_assoc}
+use Rattle.std.proofs.Common.{◌≡◌, ℕ, zero, suc, ◌<◌, ◌≤◌, ◌^◌, ◌⊎◌, inl, inr, nat_eq, Bool, true, false, List, [], ◌∷◌, ◌++◌, map, drop, length, slice_get, Option, Some, None, refl, sym, ap, subst, ◌∙◌, codes, append_assoc, arith}
 use Rattle.job_facts.specs.Prelude.{filter, Scene, begins, is_bucket, answer, IsHonestOutcome, Request, Committer, Directory, Partitioned, Reply, Mode, Replace, below, HasBucket, partitions, partition_prefix, Outcome, magic_prefix, FilePlace, SuccessPlace, is_open, Pending, PendingSet, File, Who, path_of, IsLegal, IsGiven, Script, Picks, files, wanted_paths, Drawn, drawn_for, file_key, file_record, dest_prefix, Sweep, Listing, Deleting, walked_by, sweep_asks, sweep_hears, deleting, page_after, Turn, nth, completion, abort, deletion, again, follow, dealt, revert, Sets, all_commits, picks_of, Commit, Fetching, Replacing, Completing, Marking, Reverting, CommitOver, set_request, set_read, commit_asks, commit_hears, commit_tells, is_no_magic, replaced, reverting, Seen, IsIn, Told, IsDriving, Hold, knowing, AllUnder, IsHeldSet, Reads, FitsJobCommit, Times}
 use Rattle.job_spec.proofs.Common.{and_parts, false≢true, not-true, begins_behind, key_magic, some_is, none_some, false_true, true_or_false, eq_nat, nat_true, in_map, in_append, in_filter}
 use Rattle.job_protocol.specs.Prelude.{IsPlaced}
@@ -29,8 +29,7 @@ FitsOption w None = Unit {0}
 FitsOption w (Some s) = FitsReplace w s
 
 fits_deleting : (w : Script) (keys : List (List ℕ)) → ((k : List ℕ) → IsIn k keys → (is_no_magic w k ≡ true) × (begins (dest_prefix w) k ≡ true)) → FitsOption w (deleting keys)
-fits_deleting w [] h = tt
-fits_deleting w (q ∷ qs) h = h
+fits_deleting w keys h = grind arith
 
 fits_listed : (w : Script) (more : Bool) (keys : List (List ℕ)) → AllUnder (dest_prefix w) keys → FitsOption w (walks.swept (is_no_magic w) (walked_by more keys))
 fits_listed w true keys all = all
@@ -148,17 +147,10 @@ module _ {w : Script} (j : IsLegal w) where
     FitsNow c = FitsJobCommit w minimum sent drawn c
 
     pub fits_course : Course w FitsNow (λ sets. Reads w minimum sent drawn sets) (λ sets ps. Reads w minimum sent drawn sets × AllUnder (dest_prefix w) ps)
-    fits_course = record {
-      fetches = λ sets l h. (l, h);
-      clashes = λ sets end e h. tt;
-      decides = λ sets l e h. (h, replaced_under j w.committer w.mode (picks_of sets));
-      replaces = λ sets p ps h. (h.0, h.1, (λ q i. absurd i));
-      completes = λ sets h. completing_so FitsNow sets (dealt w.lanes (length (all_commits sets))) [] h.0 (λ x xs. h.0);
-    }
+    fits_course = grind (arith, replaced_under, completing_so)
 
     fits_reverting : (rs : List Request) → AllDriving w rs → FitsNow (reverting rs)
-    fits_reverting [] h = tt
-    fits_reverting (r ∷ rs) h = h
+    fits_reverting rs h = grind arith
 
     -- sendings without an answer
     fits_again : (c : Commit) (lost : Bool) → FitsNow c → FitsNow (missed c lost)

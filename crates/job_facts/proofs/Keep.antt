@@ -19,8 +19,7 @@ pub facts_so : {w : Script} {minimum : ℕ} (s : Scene) (files : Files) {last mo
     Ids (at_id w s.content) s.content.next n.drawn → Owned w minimum (at_id w s.content) n.ended n.undone n.drawn → (is_magic w.committer ≡ true → Records w minimum (at_place w s.content) n.drawn)
     → Sets w minimum (sets_at w u) more n.publish_sent n.drawn → (n.cleaned ≡ false → Standing w (sets_at w u) more) → (is_staging w.committer ≡ true → Temporaries w minimum (at_path w u) n.put_sent n.drawn) → Kept n.publish_sent n.undone
     → Facts w minimum u more n
-facts_so s files f ids owned records sets standing temporaries kept =
-    record { there = f.there; least = f.least; ids = ids; owned = owned; below = f.below; records = records; sets = sets; standing = standing; temporaries = temporaries; kept = kept }
+facts_so s files h g e f p q r u = grind arith
 
 -- ids are apart where others are live
 ids_so : {uploads more : ℕ → Option Upload} {next later : ℕ} {drawn : Who → List Drawn} → Ids uploads next drawn → later ≡ next → ((id : ℕ) (x : Upload) → more id ≡ Some x → id < next) → Ids more later drawn
@@ -328,13 +327,7 @@ learn_upload_keep {w = w} {minimum = minimum} {s = s} {m = m} a g id mine unsent
     (λ b h i r. put_all (IsIn r.drawn) m.drawn a (new_drawn (file_key w g) id ∷ m.drawn a) (λ k. inr k) b r.known) f
   where
     told : (b : Who) (d : Drawn) → IsIn d (put_who m.drawn a (new_drawn (file_key w g) id ∷ m.drawn a) b) → ((b ≡ a) × (d ≡ new_drawn (file_key w g) id)) ⊎ IsIn d (m.drawn b)
-    told b d i = elim (same_or_another b a) [
-      | inl is ↦ elim (subst (λ (k : List Drawn). IsIn d k) (who_here m.drawn a (new_drawn (file_key w g) id ∷ m.drawn a) b is) i) [
-        | inl e ↦ inl (is, e)
-        | inr old ↦ inr (subst (λ v. IsIn d (m.drawn v)) (sym is) old)
-      ]
-      | inr ne ↦ inr (subst (λ (k : List Drawn). IsIn d k) (who_other m.drawn a (new_drawn (file_key w g) id ∷ m.drawn a) b ne) i)
-    ]
+    told b d h = grind arith
 
     empty_held : IsHeld w minimum (at_id w s.content) (new_drawn (file_key w g) id) g
     empty_held = record {

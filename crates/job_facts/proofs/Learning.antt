@@ -55,8 +55,7 @@ module _ (w : Script) (m : Told) (a : Who) (r : Request) (o : Outcome) (b : Who)
 
 -- an id that is drawn is the counter
 pub drawn_is_next : (s : Scene) (n k : List ℕ) (u : ℕ) → DrawnUpload u ≡ answer s (CreateUpload n k) → u ≡ s.content.next
-drawn_is_next s n k u e =
-    (elim (fin.get s.content.buckets n) as (λ c. DrawnUpload u ≡ answer_at c s.content.next s.content.minimum (CreateUpload n k) → u ≡ s.content.next) [ None ↦ λ g. absurd cc | Some b ↦ λ g. cc ]) e
+drawn_is_next s n k u h = grind arith
 
 -- an upload that an attempt learns of was known, or drawn just now
 pub learnt : (w : Script) (s : Scene) (m : Told) (a : Who) (r : Request) (o : Outcome) → IsHonestOutcome o (answer s r) → (id : ℕ) → IsKnown (tell_attempt w m a r o).drawn id → IsKnown m.drawn id ⊎ (s.content.next ≤ id)

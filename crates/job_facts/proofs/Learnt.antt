@@ -1,5 +1,5 @@
 -- What is told of an attempt's knowledge is what its own entries say, and that the driver cleans up is what its entries say.
-use Rattle.std.proofs.Common.{◌≡◌, ℕ, inl, inr, nat_eq, ◌&&◌, ◌||◌, Bool, true, false, cond, List, [], ◌∷◌, refl, sym, ap, ◌∙◌}
+use Rattle.std.proofs.Common.{◌≡◌, ℕ, inl, inr, nat_eq, ◌&&◌, ◌||◌, Bool, true, false, cond, List, [], ◌∷◌, refl, sym, ap, ◌∙◌, arith}
 use Rattle.job_spec.proofs.Common.{and_parts, nat_true, eq_nat, true_or_false}
 use Rattle.job_facts.specs.Prelude.{Actor, Driver, Attempt, Shell, Request, Outcome, Entry, Who, actor_of, Script, learn, knows_from, same_actor, by_actor, has_cleaned, is_begun, is_driver, Told, known, tell, tell_by, tell_driver, tell_attempt, at_event, tell_all}
 use Rattle.job_facts.proofs.Whose.{attempt, who_of, or_false, same_or_another, who_here, who_other}
@@ -7,9 +7,7 @@ use Rattle.std.proofs.Math.Bool.{or_assoc}
 
 module _ (w : Script) (a : Who) where
   same_one : (t n : ℕ) → same_actor (Attempt t n) (actor_of a) ≡ true → a ≡ attempt t n
-  same_one t n h =
-      let p = and_parts (nat_eq t a.task) (nat_eq n a.attempt) h in
-      who_of a (attempt t n) (sym (eq_nat t a.task p.0)) (sym (eq_nat n a.attempt p.1))
+  same_one t n h = grind arith
 
   learnt : (m : Told) (x : Actor) (n : ℕ) (r : Request) (o : Outcome) → known (tell_by w m n r o x) a ≡ cond (same_actor x (actor_of a)) (learn w a (known m a) r o) (known m a)
   learnt m (Attempt t n) v r o = elim (same_or_another a (attempt t n)) [
@@ -48,6 +46,4 @@ cleaned_is w [] m = sym (or_false m.cleaned)
 cleaned_is w (e ∷ es) m = by e.actor (λ v. cleaned_is w es v)
   where
     by : (x : Actor) → ((v : Told) → (tell_all w v es).cleaned ≡ (v.cleaned || has_cleaned v.cleans_at es)) → (tell_all w (tell_by w m e.event e.request e.outcome x) es).cleaned ≡ (m.cleaned || ((is_driver x && is_begun m.cleans_at e.event) || has_cleaned m.cleans_at es))
-    by Driver old = old (at_event e.event (tell_driver m e.request e.outcome)) ∙ or_assoc m.cleaned (is_begun m.cleans_at e.event) (has_cleaned m.cleans_at es)
-    by (Attempt t n) old = old (tell_attempt w m (attempt t n) e.request e.outcome)
-    by Shell old = old m
+    by x h = grind arith

@@ -73,9 +73,7 @@ pub record FromScript (w : Script) (a : Who) (f : File) : Type 0 where
   pub is : f ≡ (path_of w.unique w.job given.0, given.1)
 
 pub from_script : (w : Script) (a : Who) (f : File) → IsIn f (files w a) → FromScript w a f
-from_script w a f i =
-    let g = in_map (λ (x : File). let y : File = (path_of w.unique w.job x.0, x.1) in y) f (written w a) (subst (λ (fs : List File). IsIn f fs) (files_are w a) i) in
-    record { given = g.0; one = g.1; is = g.2 }
+from_script w a f h = grind (arith, in_map, files_are)
 
 pub declared : {w : Script} → IsLegal w → (a : Who) (f : File) → IsIn f (files w a) → IsDeclared w.tasks (written w a) a
 declared {w = w} j a f i =
@@ -121,8 +119,7 @@ given_of {w = w} j a f i = let g = from_script w a f i in given_in [] (written w
 -- ---- of the magic committer they are at the paths that the script gives
 
 plain_names : (c : Committer) (m : Mode) (u : Bool) → is_magic c ≡ true → FitsMagic c m u → u ≡ false
-plain_names Magic m u h f = f.1
-plain_names _ m u h f = absurd (false≢true h)
+plain_names c m u h g = grind arith
 
 pub given : {w : Script} → IsLegal w → is_magic w.committer ≡ true → (a : Who) (f : File) → IsIn f (files w a) → IsGiven f.0
 given {w = w} j magic a f i =

@@ -33,10 +33,7 @@ dot_not : (b : ℕ) → (nat_eq b 95 || nat_eq b 46) ≡ false → (b == 46) ≡
 dot_not b h = grind (arith, nat_tests)
 
 element_so : (e : List ℕ) → is_full e ≡ true → begins_hidden e ≡ false → is_element e ≡ true
-element_so [] full h = absurd (false≢true full)
-element_so (b ∷ bs) full h =
-    let some : (length (b ∷ bs) == 0) ≡ false = grind (arith, nat_tests) in
-    rw (some, dot_not b h) refl
+element_so e h g = grind arith
 
 elements_so : (es : List (List ℕ)) → list_all is_full es ≡ true → list_any begins_hidden es ≡ false → list_all is_element es ≡ true
 elements_so [] full h = refl
@@ -47,8 +44,7 @@ elements_so (e ∷ es) full h =
 
 -- an element with the id is one still
 named_so : (id e : List ℕ) → is_full e ≡ true → begins_hidden e ≡ false → is_element (with_id id e) ≡ true
-named_so id [] full h = absurd (false≢true full)
-named_so id (b ∷ bs) full h = rw (dot_not b h) (element_so (b ∷ with_id id bs) (grind (arith, nat_tests)) h)
+named_so id e h g = grind arith
 
 lasts_so : (id : List ℕ) (es : List (List ℕ)) → list_all is_full es ≡ true → list_any begins_hidden es ≡ false → list_all is_element (with_id_last id es) ≡ true
 lasts_so id [] full h = refl
@@ -97,12 +93,7 @@ short_path : (p : List ℕ) → IsGiven p → length p ≤ 400
 short_path p g = leb-true (length p) 400 (and_parts (nat_le 1 (length p)) (nat_le (length p) 400) (and_parts _ _ (and_parts _ _ g.stated).0).0).1
 
 placed_short : (unique : Bool) (id p : List ℕ) → is_job_id id ≡ true → IsGiven p → length (path_of unique id p) ≤ 465
-placed_short true id p job g =
-    let a : length p ≤ 400 = short_path p g in
-    let b : length id ≤ 64 = leb-true (length id) 64 (and_parts (nat_le 1 (length id)) (nat_le (length id) 64) (and_parts _ _ job).0).1 in
-    let c : length (unique_name p id) ≡ length p + (length id + 1) = unique_long id p in
-    subst (λ n. n ≤ 465) (sym c) (omega arith)
-placed_short false id p job g = let a : length p ≤ 400 = short_path p g in omega arith
+placed_short unique id p h g = grind (arith, short_path, leb-true, and_parts, unique_long)
 
 -- ---- UTF-8
 

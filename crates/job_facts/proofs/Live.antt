@@ -1,5 +1,5 @@
 -- A walk over live uploads finds each of them.
-use Rattle.std.proofs.Common.{◌≡◌, ℕ, zero, suc, ◌⊎◌, inl, inr, nat_lt, true, false, cond, List, [], ◌∷◌, ◌++◌, map, take, length, Option, Some, refl, sym, ap, subst, ◌∙◌, None}
+use Rattle.std.proofs.Common.{◌≡◌, ℕ, zero, suc, ◌⊎◌, inl, inr, nat_lt, true, false, cond, List, [], ◌∷◌, ◌++◌, map, take, length, Option, Some, refl, sym, ap, subst, ◌∙◌, None, arith}
 use Rattle.job_spec.specs.Prelude.{find, IsTotalOrder, nat_cmp_total, ref_cmp, is_behind, keys_of}
 use Rattle.job_facts.specs.Prelude.{filter, AllByRecursion, eq_by_cmp, is_lt, nat_cmp, ordering_then, Ordering, Less, Equal, text_cmp, text_total, text_ties, Upload, begins, UploadRef, last_ref, IsIn, ref_at, Script, Scene, HasBucket, dest_prefix, Reply, answer, uploads_after, walked_uploads, walked_by}
 use Rattle.job_protocol.specs.Prelude.{is_eq}
@@ -55,9 +55,7 @@ live_listed p l m id x e h g =
     filter_in (λ r. begins p r.key) r (filter (is_behind l) (map (λ q. q.0) (fin.entries (refs m)))) (filter_in (is_behind l) r (map (λ q. q.0) (fin.entries (refs m))) all g) h
 
 listed_sorted : (p : List ℕ) (l : Option UploadRef) (m : Uploads) → IsStrictlySortedBy ref_cmp (listed p l m)
-listed_sorted p l m =
-    IsStrictlySortedBy-filter ref_cmp (λ r. begins p r.key) (filter (is_behind l) (map (λ q. q.0) (fin.entries (refs m))))
-    (IsStrictlySortedBy-filter ref_cmp (is_behind l) (map (λ q. q.0) (fin.entries (refs m))) (map_sorted ref_cmp (refs m)))
+listed_sorted p l m = grind (arith, IsStrictlySortedBy-filter, map_sorted)
 
 above_all : {K : Type 0} (R : K → K → Ordering) (k : K) (ks : List K) (q : K) → AllByRecursion (λ y. R k y ≡ Less) ks → IsIn q ks → R k q ≡ Less
 above_all R k [] q a i = absurd i

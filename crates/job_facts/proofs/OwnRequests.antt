@@ -27,8 +27,7 @@ use Rattle.job_facts.proofs.Effects.{deleted_uploads}
 -- ---- what a request below the destination leaves outside it: uploads
 
 same_upload : (w : Script) (o : Option Upload) → SameOutsideUpload w o o
-same_upload w None = tt
-same_upload w (Some u) = λ e. refl
+same_upload w o = grind arith
 
 as_before : (w : Script) (o x : Option Upload) → x ≡ o → SameOutsideUpload w o x
 as_before w o x e = subst (SameOutsideUpload w o) (sym e) (same_upload w o)
@@ -91,20 +90,10 @@ module _ (w : Script) (s : Scene) (there : HasBucket s.content w.dest.bucket) wh
   -- what changes at one id
   turn_leaves : (r : Request) (id : ℕ) → ((u : ℕ) → (u ≡ id → ⊥) → at_id w (apply s r).content u ≡ at_id w s.content u) → (x : Option Upload) → at_id w (apply s r).content id ≡ x → SameOutsideUpload w (at_id w s.content id) x
       → (u : ℕ) → SameOutsideUpload w (at_id w s.content u) (at_id w (apply s r).content u)
-  turn_leaves r id others x is here u = elim (same_or_not u id) [
-    | inl e ↦ subst (λ v. SameOutsideUpload w (at_id w s.content v) (at_id w (apply s r).content v)) (sym e) (subst (SameOutsideUpload w (at_id w s.content id)) (sym is) here)
-    | inr ne ↦ as_before w (at_id w s.content u) _ (others u ne)
-  ]
+  turn_leaves r id h x g e u = grind (arith, same_or_not, as_before)
 
   create_leaves : ((id : ℕ) (x : Upload) → at_id w s.content id ≡ Some x → id < s.content.next) → (key : List ℕ) → begins (dest_prefix w) key ≡ true → Leaves (CreateUpload w.dest.bucket key)
-  create_leaves fresh key b =
-      let r = CreateUpload w.dest.bucket key in
-      let d = draws w s there.0 there.1 key in
-      leaves_by r (others_stay r refl) (λ k i. absurd i) (turn_leaves r s.content.next d.others _ d.here (begun (at_id w s.content s.content.next) refl))
-    where
-      begun : (o : Option Upload) → at_id w s.content s.content.next ≡ o → SameOutsideUpload w o (Some (record { key = key; parts = fin.empty }))
-      begun None e = b
-      begun (Some x) e = let less : s.content.next < s.content.next = fresh s.content.next x e in absurd (omega arith)
+  create_leaves h key g = grind (arith, draws, leaves_by, others_stay, turn_leaves)
 
   part_leaves : (key : List ℕ) (id number : ℕ) (bytes : List ℕ) → begins (dest_prefix w) key ≡ true → Leaves (UploadPart w.dest.bucket key id number bytes)
   part_leaves key id number bytes b =
@@ -153,8 +142,7 @@ module _ (w : Script) (s : Scene) (there : HasBucket s.content w.dest.bucket) wh
 
 -- and it is no copy
 pub within_uncopied : (w : Script) (r : Request) → IsWithin w r → is_copy r ≡ false
-within_uncopied w (CopyObject n source target) h = absurd h
-within_uncopied w r h = refl
+within_uncopied w r h = grind arith
 
 -- ---- keys below the destination
 
@@ -195,17 +183,13 @@ attempt_changes g j s m h a d op fits r e n o =
 -- of the driver what takes effect may show, or it changes no file that is shown
 driver_shows : (w : Script) (s : Scene) (r : Request) → (may_show r ≡ true) ⊎ Same (view w.dest (apply s r).content) (view w.dest s.content) → (n : ℕ) (o : Outcome)
     → Same (view w.dest (effect s r o).content) (view w.dest s.content) ⊎ (((driver_entry n r o).actor ≡ Driver) × (may_show r ≡ true) × (is_effective o ≡ true))
-driver_shows w s r shows n o =
-    effect_by (λ v u. Same (view w.dest u.content) (view w.dest s.content) ⊎ (((driver_entry n r v).actor ≡ Driver) × (may_show r ≡ true) × (is_effective v ≡ true))) s r o (λ none. inl (λ p. refl))
-    (λ took. elim shows [ inl may ↦ inr (refl, may, took) | inr same ↦ inl same ])
+driver_shows w s r h n o = grind arith
 
 -- ---- the set-up
 
 module _ (w : Script) (j : IsLegal w) (s : Scene) where
   setup_plain : (t : Setup) (r : Request) → setup_asks w t ≡ Some r → (sends_data r ≡ false) × (is_copy r ≡ false)
-  setup_plain (Sweeping (Listing keys)) r e = (ap sends_data (sym (some_is e)), ap is_copy (sym (some_is e)))
-  setup_plain (SetupOver end) r e = absurd cc
-  setup_plain _ r e = (ap sends_data (sym (some_is e)), ap is_copy (sym (some_is e)))
+  setup_plain t r h = grind arith
 
   setup_outside : (t : Setup) → SetsUp w s.content t → (r : Request) → setup_asks w t ≡ Some r → SameOutside w s.content (apply s r).content
   setup_outside Clearing h r e = subst (λ q. SameOutside w s.content (apply s q).content) (some_is e) (delete_leaves w s h (success_key w.dest.key) (success_below j))
@@ -250,9 +234,7 @@ module _ (w : Script) (minimum : ℕ) (j : IsLegal w) (s : Seen) (m : Told) (the
     pub shows : (may_show r ≡ true) ⊎ Same (view w.dest (apply s.scene r).content) (view w.dest s.scene.content)
 
   read_kind : (r : Request) → only_reads r ≡ true → Kind r
-  read_kind r h =
-      let x = reads_name r h in
-      record { within = x.within w; no_data = x.no_data; shows = inr (λ p. ap (λ (u : Scene). view w.dest u.content p) (reads_nothing s.scene r h)) }
+  read_kind r h = grind (arith, reads_name, reads_nothing)
 
   upload_below : (p : Pending) → IsCommit w minimum m.publish_sent m.drawn p → (p.bucket ≡ w.dest.bucket) × (begins (dest_prefix w) p.destination ≡ true)
   upload_below p x = (ap (λ (v : Pending). v.bucket) x.is, ap (λ (v : Pending). begins (dest_prefix w) v.destination) x.is ∙ dest_below j x.file.0)

@@ -1,5 +1,5 @@
 -- An attempt names only what is its own, and takes nothing back once it has sent its publishing request.
-use Rattle.std.proofs.Common.{◌≡◌, ℕ, inl, inr, true, false, List, [], ◌∷◌, Option, Some, None, refl, sym, ap, subst, ◌∙◌, append_assoc, codes, ◌++◌, Bool, ◌+◌, ◌⊎◌, length, take, slice_get}
+use Rattle.std.proofs.Common.{◌≡◌, ℕ, inl, inr, true, false, List, [], ◌∷◌, Option, Some, None, refl, sym, ap, subst, ◌∙◌, append_assoc, codes, ◌++◌, Bool, ◌+◌, ◌⊎◌, length, take, slice_get, arith}
 use Rattle.job_facts.specs.Prelude.{decimal, begins, Request, PutObject, magic_prefix, cluster_prefix, MarkerPlace, RecordPlace, TemporaryPlace, StagedSetPlace, Who, IsLegal, Script, Drawn, attempt_prefix, Setting, Operation, asks, IsIn, changed_keys, changed_upload, changed_paths, Told, known, undoes, IsOwn, IsAttempt, Fits, answer, IsHonestOutcome, only_reads, CreateUpload, UploadPart, AbortUpload, DeleteObjects, ClusterPut, ClusterRename, ClusterDelete, Outcome, staged_set_path, set_key, File, files, first_drawn, file_key, marker_key, record_key, record_text, set_text, file_parts, Uploading, Creating, Sending, upload_asks, Write, Recording, WriteOver, write_asks, TaskCommit, Publishing, Storing, Renaming, TaskCommitOver, task_commit_asks, temporary_path, Deleting, TaskAbort, Dropping, TaskAbortOver, task_abort_asks, TheWrite, TheTaskCommit, TheTaskAbort, Seen, see, is_magic, is_staging, entry, tell, IsWritten, AreCommits, Hold, IsOpen, FitsUpload, FitsWrite, FitsCommit, FitsAbort, Times}
 use Rattle.job_spec.proofs.Common.{some_is, none_some, false_true}
 use Rattle.job_facts.proofs.Placed.{own_magic, set_magic, path_below}
@@ -68,18 +68,11 @@ takes_back (TheTaskAbort t) = true
 takes_back _ = false
 
 pub operation_asked : (g : Setting) (m : Told) (a : Who) (op : Operation) → Fits g.script g.minimum a m op → (r : Request) → asks g a (known m a) op ≡ Some r → Asked g.script g.minimum a m (takes_back op) r
-operation_asked g m a (TheWrite t) fits r e = write_asked g.script g.minimum a m t.operation fits.1 r e
-operation_asked g m a (TheTaskCommit t) fits r e = commit_asked g.script g.minimum a m fits.0 t.operation fits.1 r e
-operation_asked g m a (TheTaskAbort t) fits r e = abort_asked g.script g.minimum a m t.operation fits r e
-operation_asked g m a _ fits r e = absurd fits
+operation_asked g m a op h r e = grind (arith, write_asked, commit_asked, abort_asked)
 
 -- it takes nothing back, unless it may, and none of it does once the publishing request is sent
 pub asked_adds : {w : Script} {minimum : ℕ} {a : Who} {m : Told} {back : Bool} (r : Request) → Asked w minimum a m back r → (back ≡ false) ⊎ (m.publish_sent a ≡ true) → undoes r ≡ false
-asked_adds _ (reads r h) kept = (reads_name r h).undo
-asked_adds _ (drops x b unsent i) kept = elim kept [ inl h ↦ absurd (false_true h b) | inr h ↦ absurd (false_true unsent h) ]
-asked_adds _ (sweeps keys b unsent own) kept = elim kept [ inl h ↦ absurd (false_true h b) | inr h ↦ absurd (false_true unsent h) ]
-asked_adds _ (removes b unsent) kept = elim kept [ inl h ↦ absurd (false_true h b) | inr h ↦ absurd (false_true unsent h) ]
-asked_adds _ _ kept = refl
+asked_adds r h g = grind arith
 
 -- the facts are kept
 pub asked_keeps : {w : Script} {minimum : ℕ} {back : Bool} (j : IsLegal w) (k : Times) (s : Seen) (m : Told) (a : Who) (n : ℕ) → IsAttempt w a → Hold w minimum s m → (r : Request) → Asked w minimum a m back r → (o : Outcome) → IsHonestOutcome o (answer s.scene r)
@@ -99,41 +92,22 @@ asked_keeps {w = w} {minimum = minimum} j k s m a n d h _ (removes b unsent) = r
 
 -- it changes no path but that of its temporary file and that of its task's set
 pub asked_path : {w : Script} {minimum : ℕ} {a : Who} {m : Told} {back : Bool} (r : Request) → Asked w minimum a m back r → (p : List ℕ) → IsIn p (changed_paths r) → (p ≡ temporary_path w a) ⊎ (p ≡ staged_set_path w.job a.task)
-asked_path _ (reads r h) p i = absurd (subst (λ (l : List (List ℕ)). IsIn p l) (reads_name r h).paths i)
-asked_path _ (stores staging are) p i = elim i [ inl is ↦ inl is | inr none ↦ absurd none ]
-asked_path _ (renames staging clean) p i = elim i [ inl is ↦ inl is | inr more ↦ elim more [ inl is ↦ inr is | inr none ↦ absurd none ] ]
-asked_path _ (removes b unsent) p i = elim i [ inl is ↦ inl is | inr none ↦ absurd none ]
-asked_path _ _ p i = absurd i
+asked_path r h p g = grind arith
 
 -- ---- names only what is its own
 
 module _ {w : Script} (ds : List Drawn) where
   -- it changes paths of the job's own, and nothing else that has a name
   names_paths : (r : Request) → changed_keys r ≡ [] → changed_upload r ≡ None → ((p : List ℕ) → IsIn p (changed_paths r) → begins (cluster_prefix w.job) p ≡ true) → IsOwn w ds r
-  names_paths r a b own = record {
-    bucket = λ k i. absurd (subst (λ (l : List (List ℕ)). IsIn k l) a i);
-    keys = λ k i. absurd (subst (λ (l : List (List ℕ)). IsIn k l) a i);
-    uploads = λ id e. absurd (none_some b e);
-    paths = own;
-  }
+  names_paths r h g e = grind arith
 
   -- an upload that the attempt knows
   names_upload : (r : Request) (d : Drawn) → IsIn d ds → changed_keys r ≡ [] → changed_upload r ≡ Some d.upload → changed_paths r ≡ [] → IsOwn w ds r
-  names_upload r d i a b c = record {
-    bucket = λ k h. absurd (subst (λ (l : List (List ℕ)). IsIn k l) a h);
-    keys = λ k h. absurd (subst (λ (l : List (List ℕ)). IsIn k l) a h);
-    uploads = λ id e. (d, i, some_is (sym b ∙ e));
-    paths = λ p h. absurd (subst (λ (l : List (List ℕ)). IsIn p l) c h);
-  }
+  names_upload r d h g e f = grind arith
 
   -- a key of the job's own
   names_key : (key bytes : List ℕ) (header : Option ℕ) → begins (magic_prefix w.dest.key w.job) key ≡ true → IsOwn w ds (PutObject w.dest.bucket key bytes header)
-  names_key key bytes header h = record {
-    bucket = λ k i. refl;
-    keys = λ k i. elim i [ inl e ↦ ap (begins (magic_prefix w.dest.key w.job)) e ∙ h | inr none ↦ absurd none ];
-    uploads = λ id e. absurd (none_some refl e);
-    paths = λ p i. absurd i;
-  }
+  names_key key bytes header h = grind arith
 
 -- an attempt's directory is below the job's magic directory
 pub own_directory : (w : Script) (a : Who) (q : List ℕ) → begins (attempt_prefix w a) q ≡ true → begins (magic_prefix w.dest.key w.job) q ≡ true

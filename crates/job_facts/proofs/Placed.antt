@@ -1,5 +1,5 @@
 -- Places of a job: where they are, and that they are apart.
-use Rattle.std.proofs.Common.{◌≡◌, ℕ, ◌<◌, true, List, [], ◌∷◌, ◌++◌, Option, Some, None, refl, sym, ap, ◌∙◌, codes}
+use Rattle.std.proofs.Common.{◌≡◌, ℕ, ◌<◌, true, List, [], ◌∷◌, ◌++◌, Option, Some, None, refl, sym, ap, ◌∙◌, codes, arith}
 use Rattle.job_facts.specs.Prelude.{decimal, option_map, Scene, begins, Object, Committer, Magic, magic_prefix, cluster_prefix, Place, FilePlace, MarkerPlace, RecordPlace, SetPlace, SuccessPlace, TemporaryPlace, StagedSetPlace, key_at, path_at, is_record, File, Who, IsLegal, Script, files, file_key, is_magic, is_staging, IsIn, IsAttempt, IsOwnPlace, at_place, at_path, set_at}
 use Rattle.job_spec.proofs.Common.{false≢true, append_cancel_left, begins_behind, below_is, key_magic}
 use Rattle.job_spec.specs.Prelude.{ClusterPlace}
@@ -11,8 +11,7 @@ use Rattle.job_facts.proofs.Legal.{some_dest, is_attempt, no_record, same_file, 
 -- ---- the committers
 
 pub not_both : (c : Committer) → is_magic c ≡ true → is_staging c ≡ true → ⊥
-not_both Magic h g = false≢true g
-not_both _ h g = false≢true h
+not_both c h g = grind arith
 
 -- ---- places in the store
 
@@ -26,9 +25,7 @@ own_place j magic (SetPlace t) h = small_task j t h
 own_place j magic _ h = absurd h
 
 own_is : (w : Script) (p : Place) → IsOwnPlace w p → is_magic_place p ≡ true
-own_is w (FilePlace p) h = absurd h
-own_is w SuccessPlace h = absurd h
-own_is w _ h = refl
+own_is w p h = grind arith
 
 -- the key of such a place is below the magic directory
 pub own_magic : {w : Script} → IsLegal w → is_magic w.committer ≡ true → (p : Place) → IsOwnPlace w p → begins (magic_prefix w.dest.key w.job) (key_at w.dest.key w.job p) ≡ true
@@ -84,24 +81,19 @@ not_staged j a t d lt is =
 -- ---- a task's set, where the committer keeps it
 
 pub magic_set : (c : Committer) (w : Script) (s : Scene) (t : ℕ) → is_magic c ≡ true → set_at c w s t ≡ option_map (λ o. o.bytes) (at_place w s.content (SetPlace t))
-magic_set Magic w s t h = refl
-magic_set _ w s t h = absurd (false≢true h)
+magic_set c w s t h = grind arith
 
 pub staged_set : (c : Committer) (w : Script) (s : Scene) (t : ℕ) → is_staging c ≡ true → set_at c w s t ≡ at_path w s (StagedSetPlace t)
-staged_set Magic w s t h = absurd (false≢true h)
-staged_set _ w s t h = refl
+staged_set c w s t h = grind arith
 
 pub set_same : (c : Committer) (w : Script) (s u : Scene) (t : ℕ) → at_place w u.content (SetPlace t) ≡ at_place w s.content (SetPlace t) → at_path w u (StagedSetPlace t) ≡ at_path w s (StagedSetPlace t) → set_at c w u t ≡ set_at c w s t
-set_same Magic w s u t e f = ap (option_map (λ o. o.bytes)) e
-set_same _ w s u t e f = f
+set_same c w s u t h g = grind arith
 
 -- an object that stands there, of which these are the bytes
 pub set_object : (o : Option Object) (b : List ℕ) → option_map (λ o. o.bytes) o ≡ Some b → (x : Object) × (o ≡ Some x) × (x.bytes ≡ b)
-set_object None b h = absurd cc
-set_object (Some x) b h = (x, refl, cc)
+set_object o b h = grind arith
 
 -- what stands stood before
 pub set_stood : (c : Committer) (w : Script) (s u : Scene) (t : ℕ) (b : List ℕ) → ((x : Object) → at_place w u.content (SetPlace t) ≡ Some x → at_place w s.content (SetPlace t) ≡ Some x)
     → ((x : List ℕ) → at_path w u (StagedSetPlace t) ≡ Some x → at_path w s (StagedSetPlace t) ≡ Some x) → set_at c w u t ≡ Some b → set_at c w s t ≡ Some b
-set_stood Magic w s u t b e f h = let x = set_object (at_place w u.content (SetPlace t)) b h in ap (option_map (λ o. o.bytes)) (e x.0 x.1) ∙ ap (λ v. Some v) x.2
-set_stood _ w s u t b e f h = f b h
+set_stood c w s u t b h g e = grind arith

@@ -1,5 +1,5 @@
 -- What an attempt has written stands, whatever others send, until the driver cleans up; and so it goes on.
-use Rattle.std.proofs.Common.{◌≡◌, ℕ, zero, suc, ◌+◌, inl, inr, nat_eq, ◌&&◌, ◌||◌, Bool, true, false, cond, List, [], ◌∷◌, map, length, Option, Some, None, is_some, refl, sym, ap, subst, ◌∙◌}
+use Rattle.std.proofs.Common.{◌≡◌, ℕ, zero, suc, ◌+◌, inl, inr, nat_eq, ◌&&◌, ◌||◌, Bool, true, false, cond, List, [], ◌∷◌, map, length, Option, Some, None, is_some, refl, sym, ap, subst, ◌∙◌, arith}
 use Rattle.job_facts.specs.Prelude.{list_any, text_eq, answer, apply, is_effective, IsHonestOutcome, Committer, Magic, Request, GetObject, UploadPart, Reply, Page, Part, Refused, NoSuchFile, Outcome, Answered, Slow, RequestLost, ReplyLost, Retried, Item, Got, WornOut, step, unanswered_by, set_key, staged_set_path, TemporaryPlace, File, Who, IsLegal, Script, Drawn, files, is_set_key, is_set_path, record_key, Uploading, Creating, Sending, Uploaded, GoesOn, AllSent, IsGone, sending, created, sent_part, upload_asks, upload_hears, file_parts, walked_by, Write, Recording, WriteOver, writing, write_start_by, write_start, write_asks, write_over, write_after, TaskCommit, Looking, Reading, Publishing, Checking, Storing, Renaming, TaskCommitOver, reading, looked, looked_at, least_missing, least_of, in_order, read_record, storing, checking, checked, renamed, to_check, task_commit_start_by, task_commit_start, task_commit_asks, task_commit_over, task_commit_hears, task_commit_after, attempt_prefix, temporary_path, Setting, Operation, TheWrite, TheTaskCommit, TheTaskAbort, asks, tells, Seen, see, is_magic, is_staging, is_publishing, IsIn, HasBucket, Told, known, entry, driver_entry, strange_entry, sets_at, IsForeign, IsDriving, IsAttempt, IsSet, Hold, IsOpen, Fits, FitsUpload, FitsWrite, FitsCommit, Closed, HasPublished, NotGone, CommitStandsBy, WriteStands, Times, TheCheck, bucket_of, changed_keys, changed_paths, begins, magic_prefix, cluster_prefix, effect}
 use Rattle.job_spec.proofs.Common.{false≢true, some_is, false_true, true_or_false, text_true, text_here, nat_true, in_map}
 use Rattle.job_spec.specs.Prelude.{rename_answer, ClusterDone}
@@ -105,17 +105,9 @@ module _ (w : Script) (j : IsLegal w) (k : Times) (s : Seen) (a : Who) (n : ℕ)
 
 -- ---- a step under retries, by whether a sending of the request was lost
 
-unanswered_stands : {M : Type 0} (P : Bool → M → Type 0) (retries : ℕ) (after : M → Item → M) (op : M) (repeated : Bool) (spare : ℕ) → P repeated op → P false (after op WornOut)
-    → let t = unanswered_by retries after op repeated spare in P t.repeated t.operation
-unanswered_stands P retries after op repeated zero h worn = worn
-unanswered_stands P retries after op repeated (suc n) h worn = h
-
 step_stands : {M : Type 0} (P : Outcome → Bool → M → Type 0) (retries : ℕ) (after : M → Item → M) (t : Retried M) (y : Reply) (o : Outcome) → IsHonestOutcome o y → ((x : Reply) → x ≡ y → P (Answered x) false (after t.operation (Got x t.repeated)))
     → P Slow t.repeated t.operation → P RequestLost true t.operation → P ReplyLost true t.operation → ((v : Outcome) → P v false (after t.operation WornOut)) → P o (step retries after t o).repeated (step retries after t o).operation
-step_stands P retries after t y (Answered x) honest heard slow lost unheard worn = heard x honest
-step_stands P retries after t y Slow honest heard slow lost unheard worn = unanswered_stands (P Slow) retries after t.operation t.repeated t.spare slow (worn Slow)
-step_stands P retries after t y RequestLost honest heard slow lost unheard worn = unanswered_stands (P RequestLost) retries after t.operation true t.spare lost (worn RequestLost)
-step_stands P retries after t y ReplyLost honest heard slow lost unheard worn = unanswered_stands (P ReplyLost) retries after t.operation true t.spare unheard (worn ReplyLost)
+step_stands P retries after t y o h g e f p q = grind arith
 
 -- ---- uploads are not gone
 
@@ -124,8 +116,7 @@ StillThere IsGone = ⊥
 StillThere _ = Unit {0}
 
 created_there : (w : Script) (minimum : ℕ) (f : File) (x : Reply) → StillThere (created w minimum f x)
-created_there w minimum f (Upload id) = elim (file_parts w minimum f) as (λ ps. StillThere (sending ps)) [ [] ↦ tt | p ∷ ps ↦ tt ]
-created_there w minimum f _ = tt
+created_there w minimum f x = grind arith
 
 module _ (w : Script) (minimum : ℕ) (s : Seen) (m : Told) (a : Who) (j : IsLegal w) (facts : Hold w minimum s m) (closed : Closed m) (before : m.cleaned ≡ false) (clean : m.undone a ≡ false) where
   -- the driver has not ended an upload of an attempt that may learn of more
@@ -155,15 +146,10 @@ writing_stands w s a [] h = (tt, λ e m. h)
 writing_stands w s a (f ∷ fs) h = h
 
 pub write_begins : (w : Script) (s : Seen) (a : Who) → WriteStands w s a (write_start w a)
-write_begins w s a = by w.committer refl
-  where
-    by : (c : Committer) → w.committer ≡ c → WriteStands w s a (write_start_by c (files w a))
-    by Magic e = writing_stands w s a (files w a) (λ f i. inl i)
-    by _ e = (tt, λ d m. absurd (false≢true (sym (ap is_magic e) ∙ m)))
+write_begins w s a = grind arith
 
 checking_stands : (P : Type 0) (w : Script) (s : Seen) (a : Who) (ds : List (List ℕ)) → CommitStandsBy P w s a false (checking w a ds)
-checking_stands P w s a [] = elim (files w a) as (λ fs. CommitStandsBy P w s a false (storing fs)) [ [] ↦ tt | f ∷ fs ↦ tt ]
-checking_stands P w s a (d ∷ ds) = tt
+checking_stands P w s a ds = grind arith
 
 pub commit_begins : (P : Type 0) (w : Script) → IsLegal w → (s : Seen) (a : Who) → WriteStands w s a (WriteOver tasks.Done) → CommitStandsBy P w s a false (task_commit_start w a)
 commit_begins P w j s a h = by w.committer refl
@@ -185,13 +171,11 @@ none_is_missing ks (k ∷ all) h =
     ap (λ b. cond b (least_missing ks all) (Some (least_of (least_missing ks all) k))) (there_any k ks (h k (inl refl))) ∙ none_is_missing ks all (λ q i. h q (inr i))
 
 reading_stands : (P : Type 0) (w : Script) (s : Seen) (a : Who) (cs fs : List File) → HasRecords w s a [] → ((g : File) → IsIn g fs → IsIn g (files w a)) → CommitStandsBy P w s a false (reading cs fs)
-reading_stands P w s a cs [] h mine = tt
-reading_stands P w s a cs (f ∷ fs) h mine = (h, mine)
+reading_stands P w s a cs fs h g = grind arith
 
 module _ (w : Script) (s : Seen) (a : Who) where
   written_stands : (f : File) (fs : List File) (u : Uploaded) → StillThere u → HasRecords w s a (f ∷ fs) → WriteStands w s a (writes.uploaded w f fs u)
-  written_stands f fs IsGone h g = absurd h
-  written_stands f fs _ h g = g
+  written_stands f fs u h g = grind arith
 
 module _ (P : Type 0) (w : Script) (s : Seen) (a : Who) where
   looked_stands : (keys : List (List ℕ)) → HasRecords w s a [] → (more : Bool) → Listed w a keys → (more ≡ false → (f : File) → IsIn f (files w a) → IsIn (record_key w a f) keys) → CommitStandsBy P w s a false (looked w a (walked_by more keys))
@@ -202,18 +186,13 @@ module _ (P : Type 0) (w : Script) (s : Seen) (a : Who) where
       subst (λ o. CommitStandsBy P w s a false (looked_at o (in_order w a keys))) (sym none) (reading_stands P w s a (in_order w a keys) (in_order w a keys) h (λ g i. (order_each w a keys g i).0))
 
   checked_stands : (d : List ℕ) (ds : List (List ℕ)) (x : Reply) → CommitStandsBy P w s a false (checked w a d ds x)
-  checked_stands d ds (Page [] more) = checking_stands P w s a ds
-  checked_stands d ds (Page (y ∷ ys) more) = (tt, λ e. absurd cc)
-  checked_stands d ds _ = tt
+  checked_stands d ds x = grind arith
 
   uploaded_stands : (f : File) (fs : List File) (u : Uploaded) → StillThere u → CommitStandsBy P w s a false (commits.uploaded w f fs u)
-  uploaded_stands f fs (GoesOn u) h = tt
-  uploaded_stands f fs AllSent h = elim fs as (λ gs. CommitStandsBy P w s a false (storing gs)) [ [] ↦ tt | g ∷ gs ↦ tt ]
-  uploaded_stands f fs IsGone h = absurd h
+  uploaded_stands f fs u h = grind arith
 
 renamed_done : (w : Script) (a : Who) (x : Reply) (b : Bool) → b ≡ true → renamed w a x b ≡ TaskCommitOver tasks.Done
-renamed_done w a (Refused NoSuchFile) b e = ap (λ c. TaskCommitOver (cond c tasks.Done (tasks.Gone (temporary_path w a)))) e
-renamed_done w a _ b e = refl
+renamed_done w a x b h = grind arith
 
 -- ---- its own requests
 
@@ -296,21 +275,7 @@ module _ (w : Script) (minimum : ℕ) (k : Times) (s : Seen) (m : Told) (a : Who
     -- the rename
     rename_stands : is_staging w.committer ≡ true → CommitStandsBy P w s a repeated Renaming → (r : Request) → task_commit_asks w a (known m a) Renaming ≡ Some r → (o : Outcome) → IsHonestOutcome o (answer s.scene r)
         → let t = step retries (task_commit_after w minimum a) (at_commit Renaming) o in CommitStandsBy (Q r (o)) w (now r o) a t.repeated t.operation
-    rename_stands staging h r e o honest = elim h [
-      | inl temporary ↦
-          let publishes : is_publishing w s.scene a.task r ≡ true =
-          ap (is_publishing w s.scene a.task) (sym (some_is e)) ∙ ap (λ b. b && (is_set_path w a.task (staged_set_path w.job a.task) && is_some (fin.get s.scene.files (temporary_path w a)))) staging
-          ∙ ap (λ b. b && is_some (fin.get s.scene.files (temporary_path w a))) (text_true (staged_set_path w.job a.task) (staged_set_path w.job a.task) refl) ∙ ap is_some temporary.1 in
-          step_stands (λ v b c. CommitStandsBy (Q r v) w (now r v) a b c) retries (task_commit_after w minimum a) (at_commit Renaming) (answer s.scene r) o honest
-          (λ x due.
-          let is : x ≡ ClusterDone = due ∙ ap (answer s.scene) (sym (some_is e)) ∙ ap rename_answer temporary.1 in
-          subst (λ v. CommitStandsBy (Q r (Answered x)) w (now r (Answered x)) a false (renamed w a v repeated)) (sym is) (tt, λ d. published r publishes (Answered x) refl))
-          (inl temporary) (inl temporary) (inr (refl, published r publishes ReplyLost refl)) (λ v. (tt, λ y. absurd cc))
-      | inr done ↦
-          step_stands (λ v b c. CommitStandsBy (Q r v) w (now r v) a b c) retries (task_commit_after w minimum a) (at_commit Renaming) (answer s.scene r) o honest
-          (λ x due. subst (λ v. CommitStandsBy (Q r (Answered x)) w (now r (Answered x)) a false v) (sym (renamed_done w a x repeated done.0)) (tt, λ d. keeps r (Answered x) done.1))
-          (inr (done.0, keeps r Slow done.1)) (inr (refl, keeps r RequestLost done.1)) (inr (refl, keeps r ReplyLost done.1)) (λ v. (tt, λ y. absurd cc))
-    ]
+    rename_stands h g r e o f = grind (arith, text_true, step_stands, renamed_done)
 
     pub commit_stands : (op : TaskCommit) → FitsCommit w minimum a (known m a) op → CommitStandsBy P w s a repeated op → (r : Request) → task_commit_asks w a (known m a) op ≡ Some r → (o : Outcome) → IsHonestOutcome o (answer s.scene r)
         → let t = step retries (task_commit_after w minimum a) (at_commit op) o in CommitStandsBy (Q r (o)) w (now r o) a t.repeated t.operation
@@ -359,15 +324,10 @@ own_stands g j k s m a n facts closed before _ fits h r e o honest = tt
 -- ---- and as they end
 
 pub write_never : (w : Script) (s : Seen) (a : Who) (op : Write) (name : List ℕ) → WriteStands w s a op → write_over op ≡ Some (tasks.Gone name) → ⊥
-write_never w s a (WriteOver end) name h e = subst NotGone (some_is e) h.0
-write_never w s a _ name h e = absurd cc
+write_never w s a op name h g = grind arith
 
 pub commit_never : (w : Script) (s : Seen) (a : Who) (b : Bool) (op : TaskCommit) (name : List ℕ) → CommitStands w s a b op → task_commit_over op ≡ Some (tasks.Gone name) → ⊥
-commit_never w s a b (TaskCommitOver end) name h e = subst NotGone (some_is e) h.0
-commit_never w s a b _ name h e = absurd cc
+commit_never w s a b op name h g = grind arith
 
 pub commit_done : (w : Script) (minimum : ℕ) (s : Seen) (m : Told) (a : Who) (b : Bool) → Hold w minimum s m → m.cleaned ≡ false → IsAttempt w a → CommitStands w s a b (TaskCommitOver tasks.Done) → (bytes : List ℕ) × (sets_at w s.scene a.task ≡ Some bytes) × IsSet w minimum s.last m.publish_sent m.drawn a.task bytes
-commit_done w minimum s m a b facts before d h =
-    let p = h.1 refl in
-    let x = facts.standing before a.task p.0 d.task p.1 in
-    (x.0, x.1, facts.sets a.task x.0 d.task x.1)
+commit_done w minimum s m a b h g e f = grind arith

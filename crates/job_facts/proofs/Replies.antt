@@ -25,9 +25,7 @@ module _ {w : Script} {minimum : ℕ} {s : Scene} {last : ℕ → Option ℕ} {m
 
   -- it is live with its key
   held_live : (x : Drawn) (g : File) → (h : IsHeld w minimum (at_id w s.content) x g) → live f.there.0.uploads x.key x.upload ≡ Some (record { key = x.key; parts = h.parts })
-  held_live x g h =
-      ap (with_key x.key) (sym (id_before w s f.there.0 f.there.1 x.upload) ∙ h.stands)
-      ∙ ap (λ b. cond b (Some (record { key = x.key; parts = h.parts })) None) (text_true x.key x.key refl)
+  held_live x g h = grind (arith, id_before, text_true)
 
   -- a part is taken
   pub part_taken : (a : Who) (x : Drawn) (g : File) (bytes : List ℕ) → IsIn x (m.drawn a) → IsIn g (files w a) → x.key ≡ file_key w g → m.ended x.upload ≡ false → m.undone a ≡ false
@@ -90,10 +88,7 @@ module _ {w : Script} {minimum : ℕ} {s : Scene} {last : ℕ → Option ℕ} {m
       due = answer_is w s f.there.0 f.there.1 (set_request Magic w t) refl ∙ ap found (sym (key_before w s f.there.0 f.there.1 (key_at w.dest.key w.job (SetPlace t))))
 
       by : (x : Option Object) (o : Option (List ℕ)) → option_map (λ y. y.bytes) x ≡ o → answer s (set_request Magic w t) ≡ found x → IsSetAnswer o (answer s (set_request Magic w t))
-      by None None e d = inl d
-      by None (Some b) e d = absurd cc
-      by (Some x) None e d = absurd cc
-      by (Some x) (Some b) e d = let same : x.bytes ≡ b = cc in ap set_read d ∙ ap (λ y. ok_set (reading.set_of y)) same
+      by x o h g = grind arith
   set_reply _ t None e = inr (ap read_answer e)
   set_reply _ t (Some b) e = ap (λ x. set_read (read_answer x)) e
 

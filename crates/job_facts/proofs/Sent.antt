@@ -31,14 +31,7 @@ abbrev Due : ℕ → List ℕ → Reply → Option Upload → Type 0
 Due number bytes x o = ((x ≡ Part (plain_tag bytes)) × ((u : Upload) → o ≡ Some u → fin.get u.parts number ≡ Some bytes)) ⊎ ((ds : List Drawn) (id size : ℕ) → learn_part ds id size (Answered x) ≡ ds)
 
 part_due : (key : List ℕ) (number : ℕ) (bytes : List ℕ) (o : Option Upload) → Due number bytes (part_answer (with_key key o) number bytes) (part_left key number bytes o)
-part_due key number bytes None = inr (λ ds id size. refl)
-part_due key number bytes (Some y) = elim (text_eq y.key key) as (λ b. Due number bytes (part_answer (cond b (Some y) None) number bytes) (cond (b && is_part_number number) (Some (with_part y number bytes)) (Some y))) [
-  | true ↦ elim (is_part_number number) as (λ b. Due number bytes (cond b (Part (plain_tag bytes)) (Refused BadPartNumber)) (cond b (Some (with_part y number bytes)) (Some y))) [
-    | true ↦ inl (refl, λ u h. ap (λ (v : Upload). fin.get v.parts number) (sym (some_is h)) ∙ nat_here y.parts number number bytes refl)
-    | false ↦ inr (λ ds id size. refl)
-  ]
-  | false ↦ inr (λ ds id size. refl)
-]
+part_due key number bytes o = grind (arith, nat_here)
 
 -- the key of another place of the job is not that of a task's set
 pub not_set : {w : Script} → IsLegal w → is_magic w.committer ≡ true → (t : ℕ) (p : Place) → IsOwnPlace w p → t < w.tasks → (p ≡ SetPlace t → ⊥) → is_set_key w t w.dest.bucket (key_at w.dest.key w.job p) ≡ false

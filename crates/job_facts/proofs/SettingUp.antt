@@ -1,5 +1,5 @@
 -- The driver's set-up leaves nothing in the job's magic directory, and changes nothing else but the marker of a committed job.
-use Rattle.std.proofs.Common.{◌≡◌, ℕ, inl, inr, ◌&&◌, not, Bool, true, false, cond, List, [], ◌∷◌, take, Option, Some, None, refl, sym, ap, subst, ◌∙◌, codes}
+use Rattle.std.proofs.Common.{◌≡◌, ℕ, inl, inr, ◌&&◌, not, Bool, true, false, cond, List, [], ◌∷◌, take, Option, Some, None, refl, sym, ap, subst, ◌∙◌, codes, arith}
 use Rattle.std.specs.Prelude.{bytes_eq}
 use Rattle.job_facts.specs.Prelude.{BucketContent, Content, Files, Scene, begins, answer, apply, answer_at, head, with_objects, below, effect, IsHonestOutcome, only_reads, Request, HeadObject, DeleteObject, DeleteObjects, ClusterPut, ClusterRename, ClusterDelete, Committer, Magic, Reply, Page, Outcome, ReplyLost, Retried, step, magic_prefix, success_key, cluster_prefix, text_cmp, Who, IsLegal, Script, Drawn, checks_all, view, is_folder, is_file_path, Setup, Heading, Clearing, Sweeping, SetupOver, dest_prefix, if_bucket, headed, checked_by, first_shown, cleared, setup_asks, setup_hears, setup_after, Sweep, Deleting, Walked, More, Whole, keys_on, page_after, sweep_asks, sweep_hears, all_go, Same, NoClusterFile, is_magic, is_staging, IsIn, changed_paths, HasBucket, at_key, at_id, IsForeign, SetsUp, IsBare, ClearsAlone}
 use Rattle.job_spec.proofs.Common.{and_parts, not-true, false≢true, append_cancel_left, below_is, if_bucket_so, some_is, false_true, none_or_some, none_some, true_or_false, text_other, text_left}
@@ -27,17 +27,10 @@ module _ (w : Script) (c : Content) (there : HasBucket c w.dest.bucket) where
   sets_cleared _ is = λ d. (there, λ g. absurd (false≢true (sym (ap is_magic is) ∙ g)))
 
   sets_sweeping : (t : Option Sweep) → Emptied w c t → SetsUp w c (sweeping t)
-  sets_sweeping None h = λ d. (there, λ g. h)
-  sets_sweeping (Some t) h = (there, h.0, h.1)
-
-  sets_by : (p : Option (List ℕ)) (x : Walked (List ℕ)) → SetsUp w c (checked_by p x)
-  sets_by (Some p) x = λ d. absurd cc
-  sets_by None (More keys) = there
-  sets_by None (Whole keys) = there
+  sets_sweeping t h = grind arith
 
   sets_checked : (keys : List (List ℕ)) (x : Reply) → SetsUp w c (checked w keys x)
-  sets_checked keys (Page entries more) = sets_by (first_shown w (keys_on entries)) (walked keys (Page entries more))
-  sets_checked keys _ = there
+  sets_checked keys x = grind arith
 
 module _ (w : Script) (s : Scene) where
   abbrev head_request : Request
@@ -133,10 +126,7 @@ module _ (w : Script) (j : IsLegal w) (s : Scene) where
 
 setup_same : (w : Script) (c d : Content) → (HasBucket c w.dest.bucket → HasBucket d w.dest.bucket) → (HasBucket c w.dest.bucket → (k : List ℕ) → begins (magic_prefix w.dest.key w.job) k ≡ true → at_key w d k ≡ at_key w c k)
     → (op : Setup) → SetsUp w c op → SetsUp w d op
-setup_same w c d there same Heading h = tt
-setup_same w c d there same (Sweeping t) h = (there h.0, h.1, sweep_same w c d t (same h.0) h.2)
-setup_same w c d there same (SetupOver end) h = λ e. let g = h e in (there g.0, λ m k x b go y. g.1 m k x b go (sym (same g.0 k b) ∙ y))
-setup_same w c d there same _ h = there h
+setup_same w c d h g op e = grind arith
 
 pub setup_beside : (w : Script) (drawn : Who → List Drawn) (s : Scene) (op : Setup) → SetsUp w s.content op → (r : Request) → IsForeign w drawn r → (o : Outcome) → SetsUp w (effect s r o).content op
 setup_beside w drawn s op h r f o =
@@ -167,10 +157,7 @@ renamed_left m source target None p free = refl
 renamed_left m source target (Some bytes) p free = text_other (fin.remove m source) target p bytes (λ e. free (inr (inl e))) ∙ text_left m source p (λ e. free (inl e))
 
 files_left : (s : Scene) (r : Request) (p : List ℕ) → (IsIn p (changed_paths r) → ⊥) → fin.get (apply s r).files p ≡ fin.get s.files p
-files_left s (ClusterPut path bytes) p free = text_other s.files path p bytes (λ e. free (inl e))
-files_left s (ClusterRename source target) p free = renamed_left s.files source target (fin.get s.files source) p free
-files_left s (ClusterDelete path) p free = text_left s.files path p (λ e. free (inl e))
-files_left s _ p free = refl
+files_left s r p h = grind (arith, text_other, renamed_left, text_left)
 
 -- a path of the job is none that a stranger changes
 pub strange_no_file : (w : Script) (drawn : Who → List Drawn) (s : Scene) (r : Request) → IsForeign w drawn r → (o : Outcome) → NoClusterFile w s → NoClusterFile w (effect s r o)

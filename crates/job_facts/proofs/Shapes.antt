@@ -1,5 +1,5 @@
 -- What each request leaves of a store and of the cluster's files, told at keys, ids and paths.
-use Rattle.std.proofs.Common.{◌≡◌, ℕ, ◌+◌, ◌&&◌, Bool, true, false, cond, List, Option, Some, None, refl, sym, ap, subst, ◌∙◌, ◌⊎◌, inl, inr, nat_lt, [], ◌∷◌, ◌++◌, take, length}
+use Rattle.std.proofs.Common.{◌≡◌, ℕ, ◌+◌, ◌&&◌, Bool, true, false, cond, List, Option, Some, None, refl, sym, ap, subst, ◌∙◌, ◌⊎◌, inl, inr, nat_lt, [], ◌∷◌, ◌++◌, take, length, arith}
 use Rattle.job_facts.specs.Prelude.{text_eq, BucketContent, Content, Scene, Upload, live, with_key, is_part_number, with_part, apply, apply_at, bucket_of, answer_at, with_objects, Object, Request, PutObject, CreateUpload, UploadPart, AbortUpload, Script, upload_in, at_key, at_id, Puts, part_left, end_left, is_lt, text_cmp, begins, listed, answer, Reply, PageEntry, walked_by, keys_on, last_of, page_after, IsIn, last_from, HasBucket}
 use Rattle.job_model.specs.Prelude.{Uploads, aborted}
 use Rattle.job_spec.specs.Prelude.{answer_in, part_put, object_in}
@@ -18,12 +18,7 @@ part_set m id u v e true = nat_here m id id v refl
 part_set m id u v e false = e
 
 part_here : (key : List ℕ) (id number : ℕ) (bytes : List ℕ) (m : Uploads) (o : Option Upload) → fin.get m id ≡ o → fin.get (part_put m id (with_key key o) number bytes) id ≡ part_left key number bytes o
-part_here key id number bytes m None e = e
-part_here key id number bytes m (Some u) e = by (text_eq u.key key)
-  where
-    by : (p : Bool) → fin.get (part_put m id (cond p (Some u) None) number bytes) id ≡ cond (p && is_part_number number) (Some (with_part u number bytes)) (Some u)
-    by true = part_set m id u (with_part u number bytes) e (is_part_number number)
-    by false = e
+part_here key id number bytes m o h = grind (arith, part_set)
 
 abort_here : (key : List ℕ) (id : ℕ) (m : Uploads) (o : Option Upload) → fin.get m id ≡ o → fin.get (aborted m id (with_key key o)) id ≡ end_left key o
 abort_here key id m None e = e

@@ -1,5 +1,5 @@
 -- The requests of a check before the commit, and of an abort or clean that spares what is another job's.
-use Rattle.std.proofs.Common.{◌≡◌, ℕ, inl, inr, true, false, List, ◌∷◌, Some, refl, sym, ap, subst, ◌∙◌}
+use Rattle.std.proofs.Common.{◌≡◌, ℕ, inl, inr, true, false, List, ◌∷◌, Some, refl, sym, ap, subst, ◌∙◌, arith}
 use Rattle.job_facts.specs.Prelude.{effect, only_reads, Request, Outcome, UploadRef, Who, IsLegal, Script, IsZeroRename, Seen, IsIn, Told, driver_entry, Hold, ends, Setup, Setting, tell_attempt, IsAttempt, is_marking, setup_asks, changed_paths, Operation, is_reading, Sweeping, Fits, Listing, asks, Deleting, known, SetupOver, Scene}
 use Rattle.job_spec.proofs.Common.{some_is}
 use Rattle.job_protocol.specs.Rechecks.{Check, Looking, Probing, CheckOver, check_asks}
@@ -23,14 +23,10 @@ pub record Plain (w : Script) (y : Request) : Type 0 where
 
 module _ (w : Script) where
   pub setup_plain : (t : Setup) (r : Request) → setup_asks w t ≡ Some r → Plain w r
-  setup_plain (Sweeping (Listing keys)) r e = subst (Plain w) (some_is e) (record { ends_none = λ u. refl; marks = refl; reads = λ t. refl })
-  setup_plain (Sweeping (Deleting q qs)) r e = subst (Plain w) (some_is e) (record { ends_none = λ u. refl; marks = refl; reads = λ t. refl })
-  setup_plain (SetupOver end) r e = absurd cc
-  setup_plain _ r e = subst (Plain w) (some_is e) (record { ends_none = λ u. refl; marks = refl; reads = λ t. refl })
+  setup_plain t r h = grind arith
 
   pub check_plain : (t : Check) (r : Request) → check_asks w t ≡ Some r → Plain w r
-  check_plain (CheckOver end) r e = absurd cc
-  check_plain _ r e = subst (Plain w) (some_is e) (record { ends_none = λ u. refl; marks = refl; reads = λ t. refl })
+  check_plain t r h = grind arith
 
 -- a read leaves all as it is
 pub reads_leave : (s : Scene) (r : Request) → only_reads r ≡ true → (o : Outcome) → effect s r o ≡ s
@@ -43,9 +39,7 @@ module _ (g : Setting) (j : IsLegal g.script) where
   v = g.script
 
   pub check_reads : (c : Check) (r : Request) → check_asks v c ≡ Some r → only_reads r ≡ true
-  check_reads (Looking keys) r e = ap only_reads (sym (some_is e))
-  check_reads (Probing d ds) r e = ap only_reads (sym (some_is e))
-  check_reads (CheckOver end) r e = absurd cc
+  check_reads c r h = grind arith
 
   pub check_changes : (s : Seen) (m : Told) → Hold v g.minimum s m → (c : Check) (r : Request) → check_asks v c ≡ Some r → (n : ℕ) (o : Outcome) → IsZeroRename v (driver_entry n r o) s.scene.content (effect s.scene r o).content
   check_changes s m h c r e n o =

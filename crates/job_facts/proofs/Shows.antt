@@ -1,5 +1,5 @@
 -- What is changed below the magic directory alone, no reader of the destination sees.
-use Rattle.std.proofs.Common.{◌≡◌, ℕ, inl, inr, not, ◌&&◌, nat_eq, Bool, true, false, cond, List, [], ◌∷◌, ◌++◌, None, refl, sym, ap, ◌∙◌, codes}
+use Rattle.std.proofs.Common.{◌≡◌, ℕ, inl, inr, not, ◌&&◌, nat_eq, Bool, true, false, cond, List, [], ◌∷◌, ◌++◌, None, refl, sym, ap, ◌∙◌, codes, arith}
 use Rattle.std.specs.Prelude.{bytes_eq}
 use Rattle.job_facts.specs.Prelude.{option_map, Content, Scene, begins, apply, bucket_of, effect, Object, Request, Outcome, below, magic_prefix, IsLegal, Script, view, is_folder, is_file_path, Same, IsIn, HasBucket, changed_keys, at_key}
 use Rattle.job_spec.proofs.Common.{and_parts, not-true, false≢true, begins_behind, below_is, false_true, true_or_false}
@@ -29,8 +29,7 @@ pub view_by : (w : Script) (c d : Content) → ((p : List ℕ) → is_file_path 
 view_by w c d same p = by (is_file_path p) refl
   where
     by : (b : Bool) → is_file_path p ≡ b → cond b (option_map (λ (o : Object). o.bytes) (at_key w d (below w.dest.key p))) None ≡ cond b (option_map (λ (o : Object). o.bytes) (at_key w c (below w.dest.key p))) None
-    by true h = ap (λ x. option_map (λ (o : Object). o.bytes) x) (same p h)
-    by false h = refl
+    by b h = grind arith
 
 -- a request that changes no key of the job's bucket but below the magic directory
 abbrev pub HidesAll : Script → Request → Type 0

@@ -1,5 +1,5 @@
 -- A sparing abort or clean keeps the job's facts with each of its requests, and aborts only uploads that the job knows.
-use Rattle.std.proofs.Common.{◌≡◌, ℕ, ◌<◌, ◌≤◌, ◌^◌, ◌⊎◌, inl, inr, ◌||◌, Bool, true, false, List, [], ◌∷◌, ◌++◌, map, take, drop, Option, Some, Ok, refl, sym, ap, subst, ◌∙◌}
+use Rattle.std.proofs.Common.{◌≡◌, ℕ, ◌<◌, ◌≤◌, ◌^◌, ◌⊎◌, inl, inr, ◌||◌, Bool, true, false, List, [], ◌∷◌, ◌++◌, map, take, drop, Option, Some, Ok, refl, sym, ap, subst, ◌∙◌, arith}
 use Rattle.job_facts.specs.Prelude.{filter, Scene, begins, answer, read_answer, effect, IsHonestOutcome, only_reads, Object, Request, GetObject, ClusterGet, UploadRef, Committer, Magic, Reply, Outcome, Retried, step, magic_prefix, cluster_prefix, Place, FilePlace, MarkerPlace, RecordPlace, SetPlace, SuccessPlace, key_at, is_record, Who, File, Script, Drawn, IsLegal, drawn_for, files, file_key, file_record, files_set, walked_by, Seen, is_begun, is_magic, is_staging, IsIn, HasBucket, changed_paths, Told, tell_driver, at_event, at_key, IsAttempt, IsWritten, IsOwnPlace, AreCommits, Facts, Hold, knowing, dest_prefix}
 use Rattle.job_spec.proofs.Common.{some_is, none_or_some, false_true, in_append, in_filter, in_map, same_or_other}
 use Rattle.std.specs.FinMap as fin
@@ -47,8 +47,7 @@ abbrev cleaning : Told → Told
 cleaning m = cleaned_so true m
 
 record_only : (c : Committer) (w : Script) (p : List ℕ) → only_reads (record_request c w p) ≡ true
-record_only Magic w p = refl
-record_only _ w p = refl
+record_only c w p = grind arith
 
 pub record_reads : {w : Script} {minimum : ℕ} (j : IsLegal w) (s : Seen) (m : Told) (h : Hold w minimum s m) → (c : Committer) (p : List ℕ) → only_reads (record_request c w p) ≡ true
 record_reads {w = w} j s m h c p = record_only c w p
@@ -179,8 +178,7 @@ module _ (w : Script) (drawn : Who → List Drawn) where
       fits_reading [] (filter is_record keys) keys (λ u i. absurd i) (own_keys magic (filter is_record keys) (λ k i. h k (in_filter is_record k keys i).0)) (own_keys magic keys h) (λ e k i. (in_filter is_record k keys i).1)
 
   pub fits_start : (c : Committer) → w.committer ≡ c → Fit (sparing_start c)
-  fits_start Magic e = (ap is_magic e, λ k i. absurd i)
-  fits_start _ e = ap is_staging e
+  fits_start c h = grind arith
 
 module _ {w : Script} {minimum : ℕ} (j : IsLegal w) (s : Scene) {last : ℕ → Option ℕ} (m : Told) (h : Facts w minimum s last m) (filed : Filed w s) (few : s.content.next ≤ 2 ^ 64) where
   abbrev Now : Sparing → Type 0

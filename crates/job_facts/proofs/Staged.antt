@@ -1,5 +1,5 @@
 -- How the facts of a staging job are kept where a file of the cluster is put, moved onto a task's set, or taken away.
-use Rattle.std.proofs.Common.{◌≡◌, ℕ, ◌<◌, inl, inr, true, List, Option, Some, refl, sym, ap, subst, ◌∙◌}
+use Rattle.std.proofs.Common.{◌≡◌, ℕ, ◌<◌, inl, inr, true, List, Option, Some, refl, sym, ap, subst, ◌∙◌, arith}
 use Rattle.job_facts.specs.Prelude.{Scene, Files, with_files, TemporaryPlace, StagedSetPlace, path_at, Who, IsLegal, Script, files, is_staging, HasBucket, Told, at_path, sets_at, IsAttempt, IsTemporary, Facts}
 use Rattle.job_spec.proofs.Common.{some_is, none_some, same_or_not, same_or_other, text_here, text_other, text_left, text_gone}
 use Rattle.std.specs.FinMap as fin
@@ -73,10 +73,7 @@ module _ {w : Script} (j : IsLegal w) (staging : is_staging w.committer ≡ true
 -- ---- a file is taken away
 
 pub removed_stood : (m : Files) (p q b : List ℕ) → fin.get (fin.remove m p) q ≡ Some b → fin.get m q ≡ Some b
-removed_stood m p q b e = elim (same_or_other q p) [
-  | inl is ↦ absurd (none_some (text_gone m p q is) e)
-  | inr ne ↦ sym (text_left m p q ne) ∙ e
-]
+removed_stood m p q b h = grind (arith, same_or_other, text_gone, text_left)
 
 pub remove_drops : (w : Script) (s : Scene) → HasBucket s.content w.dest.bucket → (p : List ℕ) → Drops w s (with_files s (fin.remove s.files p))
 remove_drops w s there p = record { there = there; least = refl; next = refl; objects = λ k x e. e; uploads = λ id. refl; files = λ q b e. removed_stood s.files p q b e }

@@ -1,5 +1,5 @@
 -- The facts begin where the set-up is done; and what only reads keeps them, whoever sends it.
-use Rattle.std.proofs.Common.{◌≡◌, ℕ, ◌<◌, true, List, Option, Some, None, refl, ap}
+use Rattle.std.proofs.Common.{◌≡◌, ℕ, ◌<◌, true, List, Option, Some, None, refl, ap, arith}
 use Rattle.job_facts.specs.Prelude.{option_map, Scene, Upload, answer, IsHonestOutcome, only_reads, Actor, Driver, Attempt, Shell, Committer, Magic, Entry, Outcome, Slow, RequestLost, Object, SetPlace, TemporaryPlace, StagedSetPlace, IsLegal, Script, Seen, see, is_magic, is_staging, HasBucket, Told, tell, nothing_told, at_id, at_path, at_place, set_at, Facts, Hold, IsBare, Times}
 use Rattle.job_spec.proofs.Common.{none_some}
 use Rattle.job_facts.proofs.Whose.{attempt}
@@ -10,8 +10,7 @@ use Rattle.job_facts.proofs.Driving.{driving_keeps, reads_drive}
 
 -- where nothing of the job's own stands, no set does
 no_set : (c : Committer) (w : Script) (s : Scene) (t : ℕ) (b : List ℕ) → (is_magic c ≡ true → at_place w s.content (SetPlace t) ≡ None) → (is_staging c ≡ true → at_path w s (StagedSetPlace t) ≡ None) → set_at c w s t ≡ Some b → ⊥
-no_set Magic w s t b h g e = none_some (ap (λ o. option_map (λ (x : Object). x.bytes) o) (h refl)) e
-no_set _ w s t b h g e = none_some (g refl) e
+no_set c w s t b h g e = grind arith
 
 pub facts_begin : (w : Script) (minimum : ℕ) (s : Scene) (last : ℕ → Option ℕ) → IsLegal w → HasBucket s.content w.dest.bucket → s.content.minimum ≡ minimum → ((id : ℕ) (x : Upload) → at_id w s.content id ≡ Some x → id < s.content.next) → IsBare w s → ((t : ℕ) → last t ≡ None)
     → (v : Option ℕ) → Facts w minimum s last (nothing_told v)

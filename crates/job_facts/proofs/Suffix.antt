@@ -68,9 +68,7 @@ set_no_record dest job t g =
     absurd (omega arith)
 
 pub marker_no_record : (dest job : List ℕ) (t a : ℕ) (p : List ℕ) → 1 ≤ length dest → is_record p ≡ false → is_record (below (attempt_key dest job t a) p) ≡ true → ⊥
-marker_no_record dest job t a p some h g =
-    let long : 1 ≤ length (attempt_key dest job t a) = simp length-append (omega (arith, some)) in
-    below_record (attempt_key dest job t a) p h (ap is_record (sym (below_is (attempt_key dest job t a) p long)) ∙ g)
+marker_no_record dest job t a p h g e = grind (arith, below_record, below_is)
 
 pub record_ends_so : (dest job : List ℕ) (t a : ℕ) (p : List ℕ) → 1 ≤ length dest → is_record (below (attempt_key dest job t a) (p ++ codes ".pending")) ≡ true
 record_ends_so dest job t a p some =

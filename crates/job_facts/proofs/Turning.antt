@@ -1,5 +1,5 @@
 -- While the driver's commit completes: the uploads of its sets are apart, and an upload that is ended is done or had a sending lost.
-use Rattle.std.proofs.Common.{◌≡◌, ℕ, ◌<◌, ◌⊎◌, inl, inr, nat_eq, nat_lt, ◌&&◌, ◌||◌, Bool, true, false, List, [], ◌∷◌, ◌++◌, map, length, Option, Some, None, refl, sym, ap, subst, ◌∙◌}
+use Rattle.std.proofs.Common.{◌≡◌, ℕ, ◌<◌, ◌⊎◌, inl, inr, nat_eq, nat_lt, ◌&&◌, ◌||◌, Bool, true, false, List, [], ◌∷◌, ◌++◌, map, length, Option, Some, None, refl, sym, ap, subst, ◌∙◌, arith}
 use Rattle.job_spec.proofs.Common.{and_parts, false≢true, some_is, false_true, true_or_false, eq_nat, nat_true, in_front, in_last}
 use Rattle.job_facts.specs.Prelude.{answer, named_from, is_effective, Request, Reply, Completed, Outcome, Answered, Slow, Pending, IsLegal, Script, Sweep, Listing, Deleting, sweep_asks, sweep_hears, Turn, nth, completion, again, follow, dealt, revert, Setting, Sets, all_commits, Commit, Fetching, Replacing, Completing, Marking, Reverting, CommitOver, set_request, set_read, commit_asks, commit_misses, commit_tells, commit_start, completing, is_no_magic, reverting, worn_completion, Tabled, Seen, Told, ends, tell_driver, Hold, Reads, FitsJobCommit, NoneEnded, Turned, IsIn}
 use Rattle.s3_types.specs.Tags.{joined_tag}
@@ -36,37 +36,27 @@ module _ (w : Script) (minimum : ℕ) (s : Seen) (m : Told) (j : IsLegal w) (f :
 -- ---- entries
 
 turns_reverting : (m : Told) (rs : List Request) → Turns m (reverting rs)
-turns_reverting m [] = tt
-turns_reverting m (r ∷ rs) = tt
+turns_reverting m rs = grind arith
 
 turns_completing : (m : Told) (sets : Sets) (xs : List Turn) (finished : List ℕ) → Turned m.ended sets xs finished → Turns m (completing sets xs finished)
-turns_completing m sets [] finished h = tt
-turns_completing m sets (x ∷ xs) finished h = h
+turns_completing m sets xs finished h = grind arith
 
 pub none_turned : (m : Told) → NoneEnded m → (sets : Sets) (xs : List Turn) → Turned m.ended sets xs []
 none_turned m none sets xs = record { only = λ n l e. absurd (false_true (none _) e); done = λ n i. absurd i }
 
 module _ (w : Script) (m : Told) (none : NoneEnded m) where
   none_course : Course w (Turns m) (λ sets. Unit {0}) (λ sets ps. Unit {0})
-  none_course = record {
-    fetches = λ sets l h. none;
-    clashes = λ sets end e h. tt;
-    decides = λ sets l e h. tt;
-    replaces = λ sets p ps h. none;
-    completes = λ sets h. let xs = dealt w.lanes (length (all_commits sets)) in turns_completing m sets xs [] (none_turned m none sets xs);
-  }
+  none_course = grind arith
 
   pub turns_start : (missing : Option ℕ) → Turns m (commit_start w missing)
-  turns_start (Some t) = tt
-  turns_start None = fetching_so none_course [] tt
+  turns_start missing = grind arith
 
 -- what ends nothing
 pub still_none : (m : Told) (r : Request) (o : Outcome) → ((id : ℕ) → ends r id ≡ false) → NoneEnded m → NoneEnded (tell_driver m r o)
 still_none m r o no_end h id = ap (λ b. b || (is_effective o && ends r id)) (h id) ∙ ap (λ b. is_effective o && b) (no_end id) ∙ and_false (is_effective o)
 
 pub sweep_none : (w : Script) (p : List ℕ) (s : Sweep) (id : ℕ) → ends (sweep_asks w.dest.bucket p s) id ≡ false
-sweep_none w p (Listing keys) id = refl
-sweep_none w p (Deleting q qs) id = refl
+sweep_none w p s id = grind arith
 
 module _ (w : Script) (minimum : ℕ) (s : Seen) (m : Told) (j : IsLegal w) (f : Hold w minimum s m) where
   -- a completion of the turn's upload
@@ -90,9 +80,7 @@ module _ (w : Script) (minimum : ℕ) (s : Seen) (m : Told) (j : IsLegal w) (f :
     was_ended o n e = ap (λ b. b || (is_effective o && ends r (nth (all_commits sets) n).upload)) e
 
     now_ended : (o : Outcome) → is_effective o ≡ true → (told o).ended (nth (all_commits sets) x.number).upload ≡ true
-    now_ended o e =
-        let u = (nth (all_commits sets) x.number).upload in
-        ap (λ b. m.ended u || (b && nat_eq u u)) e ∙ ap (λ b. m.ended u || b) (nat_true u u refl) ∙ or_true (m.ended u)
+    now_ended o h = grind (arith, nat_true, or_true)
 
     abbrev Waits : List Turn → List ℕ → ℕ → Type 0
     Waits waiting done n = IsIn n done ⊎ ((y : Turn) × IsIn y waiting × (y.number ≡ n) × (y.lost ≡ true))

@@ -54,8 +54,7 @@ module _ (w : Script) (minimum : ℕ) (a : Who) where
   FitsUploaded k f fs IsGone = Unit {0}
 
   fits_sending : (k : Known) (f : File) (fs : List File) (ps : List (List ℕ)) → Begun w minimum a k.drawn f fs ps → FitsUploaded k f fs (sending ps)
-  fits_sending k f fs [] b = b
-  fits_sending k f fs (p ∷ ps) b = b
+  fits_sending k f fs ps h = grind arith
 
   -- an upload was begun
   begun_now : IsLegal w → (k : Known) (f : File) (fs : List File) → Todo w minimum a k.drawn (f ∷ fs) → (id : ℕ) → Begun w minimum a (new_drawn (file_key w f) id ∷ k.drawn) f fs (file_parts w minimum f)
@@ -138,8 +137,7 @@ pub record IsPartAnswer (bytes : List ℕ) (x : Reply) : Type 0 where
   pub either : (x ≡ Part (plain_tag bytes)) ⊎ (x ≡ Refused NoSuchUpload)
 
 part_replied : (o : Option Upload) (number : ℕ) (bytes : List ℕ) → is_part_number number ≡ true → IsPartAnswer bytes (part_answer o number bytes)
-part_replied None number bytes h = record { either = inr refl }
-part_replied (Some u) number bytes h = record { either = inl (ap (λ b. cond b (Part (plain_tag bytes)) (Refused BadPartNumber)) h) }
+part_replied o number bytes h = grind arith
 
 module _ (w : Script) (minimum : ℕ) (s : Seen) (m : Told) (a : Who) (j : IsLegal w) (facts : Hold w minimum s m) (f : File) (fs : List File) where
   abbrev part_ask : Drawn → List ℕ → Request
@@ -170,5 +168,4 @@ module _ (w : Script) (minimum : ℕ) (s : Seen) (m : Told) (a : Who) (j : IsLeg
 
 -- its flags stay, and what was not answered teaches nothing
 pub upload_flags : (w : Script) (a : Who) (k : Known) (f : File) (u : Uploading) (o : Outcome) → IsOpen k → IsOpen (learn w a k (upload_asks w k f u) o)
-upload_flags w a k f Creating o h = h
-upload_flags w a k f (Sending p ps) o h = h
+upload_flags w a k f u o h = grind arith

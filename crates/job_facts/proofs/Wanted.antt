@@ -35,8 +35,7 @@ module _ (w : Script) (picks : Picks) where
     pub mine : IsIn g (files w (attempt task number))
 
   picked_in : (t : ℕ) (o : Option ℕ) (g : File) → IsIn g (files_picked w t o) → (a : ℕ) × (o ≡ Some a) × IsIn g (files w (attempt t a))
-  picked_in t None g i = absurd i
-  picked_in t (Some a) g i = (a, refl, i)
+  picked_in t o g h = grind arith
 
   pub in_wanted : (n : ℕ) (g : File) → IsIn g (wanted_below w picks n) → IsPicked n g
   in_wanted zero g i = absurd i

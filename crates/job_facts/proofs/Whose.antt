@@ -1,5 +1,5 @@
 -- Attempts that are the same or not, and functions of them.
-use Rattle.std.proofs.Common.{◌≡◌, ℕ, ◌⊎◌, inl, inr, nat_eq, ◌&&◌, ◌||◌, Bool, true, false, cond, Option, Some, refl, sym, ap, subst, ◌∙◌}
+use Rattle.std.proofs.Common.{◌≡◌, ℕ, ◌⊎◌, inl, inr, nat_eq, ◌&&◌, ◌||◌, Bool, true, false, cond, Option, Some, refl, sym, ap, subst, ◌∙◌, arith}
 use Rattle.job_spec.proofs.Common.{and_parts, some_is, eq_nat, nat_true, false_true, true_or_false}
 use Rattle.job_facts.specs.Prelude.{Who, same_name, put_who}
 
@@ -13,9 +13,7 @@ pub who_true : (a b : Who) → a ≡ b → same_name a b ≡ true
 who_true a b e = rw (nat_true a.task b.task (ap (λ (x : Who). x.task) e), nat_true a.attempt b.attempt (ap (λ (x : Who). x.attempt) e)) refl
 
 pub who_is : (a b : Who) → same_name a b ≡ true → a ≡ b
-who_is a b h =
-    let p = and_parts (nat_eq a.task b.task) (nat_eq a.attempt b.attempt) h in
-    who_of a b (eq_nat a.task b.task p.0) (eq_nat a.attempt b.attempt p.1)
+who_is a b h = grind arith
 
 pub same_or_another : (a b : Who) → (a ≡ b) ⊎ (a ≡ b → ⊥)
 same_or_another a b = elim (true_or_false (same_name a b)) [ inl h ↦ inl (who_is a b h) | inr h ↦ inr (λ e. false_true h (who_true a b e)) ]
@@ -38,19 +36,13 @@ who_same {X = X} f a v e = λ i b. at b i
 
 -- what is so of one attempt's new value and of the others' old ones is so of all
 pub put_at : {X : Type 0} (P : Who → X → Type 0) (f : Who → Option X) (a : Who) (x : X) → P a x → ((b : Who) (v : X) → f b ≡ Some v → P b v) → (b : Who) (v : X) → put_who f a (Some x) b ≡ Some v → P b v
-put_at P f a x here old b v e = elim (same_or_another b a) [
-  | inl is ↦ subst (λ c. P c v) (sym is) (subst (P a) (some_is (sym (who_here f a (Some x) b is) ∙ e)) here)
-  | inr ne ↦ old b v (sym (who_other f a (Some x) b ne) ∙ e)
-]
+put_at P f a x h g b v e = grind arith
 
 pub or_false : (b : Bool) → (b || false) ≡ b
-or_false true = refl
-or_false false = refl
+or_false b = grind arith
 
 pub or_true : (b : Bool) → (b || true) ≡ true
-or_true true = refl
-or_true false = refl
+or_true b = grind arith
 
 pub and_false : (b : Bool) → (b && false) ≡ false
-and_false true = refl
-and_false false = refl
+and_false b = grind arith

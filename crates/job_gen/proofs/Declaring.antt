@@ -21,9 +21,6 @@ neither (x ∷ xs) ys m h k = elim (same_name m x.0) as (λ b. is_some (cond b (
   | false ↦ λ e. neither xs ys m e k
 ] h
 
-other_task : (t a k i : ℕ) → (t ≡ a → ⊥) → same_name (attempt_of t k) (attempt_of a i) ≡ false
-other_task t a k i ne = rw (ne_eqb t a ne) refl
-
 same_own : (t k : ℕ) → same_name (attempt_of t k) (attempt_of t k) ≡ true
 same_own t k = rw (eq-eqb t t refl, eq-eqb k k refl) refl
 
@@ -35,10 +32,7 @@ abbrev pub one_or_two : Bool → List File → ℕ → List Declared
 one_or_two b fs a = cond b ((attempt_of a 0, fs) ∷ (attempt_of a 1, fs) ∷ []) ((attempt_of a 0, fs) ∷ [])
 
 not_of : (fs : List File) (t a k : ℕ) → (t ≡ a → ⊥) → declares (attempts_of fs a) (attempt_of t k) ≡ false
-not_of fs t a k ne = elim (is_twice a) as (λ b. declares (one_or_two b fs a) (attempt_of t k) ≡ false) [
-  | true ↦ rw (other_task t a k 0 ne, other_task t a k 1 ne) refl
-  | false ↦ rw (other_task t a k 0 ne) refl
-]
+not_of fs t a k h = grind arith
 
 -- attempts of the tasks from a on, by the files of each task
 abbrev pub attempts_from : (ℕ → List File) → ℕ → ℕ → List Declared

@@ -18,10 +18,7 @@ use Rattle.job_gen.proofs.Happening.{events_fit, events_count}
 
 -- one attempt, or two of every fifth task
 two_or_one : (fs : List File) (a m : ℕ) → 5 * length (attempts_of fs a) + (a + 1) % 5 ≡ 6 + a % 5
-two_or_one fs a m = elim (is_twice a) as (λ b. is_twice a ≡ b → 5 * length (one_or_two b fs a) + (a + 1) % 5 ≡ 6 + a % 5) [
-  | true ↦ λ e. let is : a % 5 ≡ 4 = eqb-true (a % 5) 4 e in omega (arith, is)
-  | false ↦ λ e. let is : a % 5 ≡ 4 → ⊥ = eqb-false (a % 5) 4 e in omega (arith, is)
-] refl
+two_or_one fs a m = grind arith
 
 -- six attempts of each five tasks
 attempts_count : (g : ℕ → List File) (a n : ℕ) → 5 * length (attempts_from g a n) + (a + n) % 5 ≡ 6 * n + a % 5

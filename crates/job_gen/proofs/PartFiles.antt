@@ -13,10 +13,7 @@ same_bytes zero b h = refl
 same_bytes (suc n) b h = rw (below_so b 256 h) (same_bytes n b h)
 
 file_fits : (seed files t j : ℕ) → t < 1000 → j < 100 → IsFile (part_file seed files t j)
-file_fits seed files t j small few = record {
-  path = path_given t j small few;
-  bytes = same_bytes (number seed (2 * (t * files + j) + 1) % 4096) (97 + number seed (2 * (t * files + j) + 2) % 26) (omega arith);
-}
+file_fits seed files t j h g = grind (arith, path_given, same_bytes)
 
 -- files from one on, behind those before it
 fits_from : (seed files t a n : ℕ) (before : List File) → t < 1000 → a + n ≤ 100 → map (λ f. f.0) before ≡ map (part_path t) (below a) → AreFiles before (map (part_file seed files t) (range_with_len a n))

@@ -8,14 +8,7 @@ use Rattle.job_gen.specs.Made.{two_digits, three_digits, part_path}
 
 -- a test that holds of the letters and of each digit holds of the whole path
 all_part : (p : ℕ → Bool) (t j : ℕ) → t < 1000 → j < 100 → list_all p (codes "part-") ≡ true → p 45 ≡ true → ((d : ℕ) → d < 10 → p (48 + d) ≡ true) → list_all p (part_path t j) ≡ true
-all_part p t j small few letters dash digit =
-    let a = digit (t / 100) (omega arith) in
-    let b = digit (t % 100 / 10) (omega arith) in
-    let c = digit (t % 100 % 10) (omega arith) in
-    let d = digit (j / 10) (omega arith) in
-    let e = digit (j % 10) (omega arith) in
-    let rest : list_all p (three_digits t ++ (codes "-" ++ two_digits j)) ≡ true = rw (a, b, c, dash, d, e) refl in
-    list_all-append p (codes "part-") (three_digits t ++ (codes "-" ++ two_digits j)) ∙ (λ i. letters i && rest i)
+all_part p t j h g e f q = grind arith
 
 all_small : (bs : List ℕ) → list_all (λ b. nat_lt b 128) bs ≡ true → IsAscii bs
 all_small [] h = IsAscii-nil
@@ -36,10 +29,7 @@ path_given t j small few =
 
 -- paths of two files of a task differ
 path_other : (t i j : ℕ) → i < j → j < 100 → part_path t j ≡ part_path t i → ⊥
-path_other t i j less few e =
-    let tens : 48 + j / 10 ≡ 48 + i / 10 = cc in
-    let ones : 48 + j % 10 ≡ 48 + i % 10 = cc in
-    omega arith
+path_other t i j h g e = grind arith
 
 -- a path that no earlier file of the task has
 pub path_free : (t j a n : ℕ) (fs : List File) → map (λ f. f.0) fs ≡ map (part_path t) (range_with_len a n) → a + n ≤ j → j < 100 → has_path fs (part_path t j) ≡ false

@@ -1,5 +1,5 @@
 -- How the driver's abort or clean of the job ends, by its own entries.
-use Rattle.std.proofs.Common.{◌≡◌, ℕ, ◌⊎◌, inl, inr, Bool, true, List, [], ◌∷◌, Option, Some, None, refl, sym, ap, subst, ◌∙◌}
+use Rattle.std.proofs.Common.{◌≡◌, ℕ, ◌⊎◌, inl, inr, Bool, true, List, [], ◌∷◌, Option, Some, None, refl, sym, ap, subst, ◌∙◌, arith}
 use Rattle.job_facts.specs.Prelude.{is_some, option_map, BucketContent, Scene, answer, answer_at, apply, after_all, AreHonest, Actor, Committer, Magic, Request, UploadRef, Reply, Refused, NoSuchBucket, Answered, ReplyLost, Entry, run, Follows, Retried, fresh, step, spent_in, WornFirst, IsLegal, Script, Known, CleanEnd, view, uploads_after, More, Whole, walked_uploads, Listing, Deleting, sweep_hears, all_go, dest_prefix, Clean, Walking, Aborting, Naming, Removing, CleanOver, clean_start, clean_asks, clean_hears, clean_after, clean_over, aborted, aborting, walking, sweeping, removing, naming, Setting, wants, advance, over, is_fault, spare_of, Same, CleanIs, Cleaned, Clears}
 use Rattle.job_spec.specs.Prelude.{ClusterNames}
 use Rattle.job_spec.proofs.Common.{first_spent, faults, some_is, none_some, false_true}
@@ -26,24 +26,13 @@ Over (CleanOver end) = Ends end
 Over _ = Unit {0}
 
 aborting_so : (c : Committer) (us : List UploadRef) → Over (aborting c us)
-aborting_so c [] = elim c as (λ c. Over (aborted c)) [ Magic ↦ tt | _ ↦ tt ]
-aborting_so c (u ∷ us) = tt
-
-removing_so : (ps : List (List ℕ)) → Over (removing ps)
-removing_so [] = inr refl
-removing_so (p ∷ ps) = tt
+aborting_so c us = grind arith
 
 naming_so : (r : Reply) → Over (naming r)
-naming_so (ClusterNames paths) = removing_so paths
-naming_so _ = tt
+naming_so r = grind arith
 
 heard_so : (w : Script) (c : Clean) (r : Reply) → Over c → Over (clean_hears w c r)
-heard_so w (Walking found) r h = elim (walked_uploads found r) as (λ x. Over (walking w.committer x)) [ More us ↦ tt | Whole us ↦ aborting_so w.committer us ]
-heard_so w (Aborting u us) r h = aborting_so w.committer us
-heard_so w (Sweeping s) r h = elim (sweep_hears all_go s r) as (λ o. Over (sweeping o)) [ Some t ↦ tt | None ↦ inr refl ]
-heard_so w Naming r h = naming_so r
-heard_so w (Removing p ps) r h = removing_so ps
-heard_so w (CleanOver end) r h = h
+heard_so w c r h = grind arith
 
 run_over : (w : Script) (t : Retried Clean) (es : List Entry) → Over t.operation → Over (run (step w.retries (clean_after w)) t es).operation
 run_over w t [] h = h
@@ -51,12 +40,10 @@ run_over w t (e ∷ es) h =
     run_over w (step w.retries (clean_after w) t e.outcome) es (step_so w.retries (clean_after w) t e.outcome Over (λ x q. heard_so w t.operation x h) (λ n. h) (λ n. inl refl))
 
 over_so : (c : Clean) → Over c → (e : CleanEnd) → option_map ends.Clean (clean_over c) ≡ Some (ends.Clean e) → Ends e
-over_so (CleanOver end) h e is = let same : end ≡ e = cc in subst Ends same h
-over_so _ h e is = absurd (none_some refl is)
+over_so c h e g = grind arith
 
 fault_is : (e : CleanEnd) → is_fault (Some (ends.Clean e)) ≡ true → e ≡ cleans.StoreFault
-fault_is cleans.StoreFault h = refl
-fault_is _ h = absurd (false_true refl h)
+fault_is e h = grind arith
 
 module _ (g : Setting) (a : Actor) (k : Known) (es : List Entry) (f : Follows (wants g a) (advance g a) (cleaning g k) es) where
   abbrev w : Script
@@ -77,9 +64,7 @@ module _ (g : Setting) (a : Actor) (k : Known) (es : List Entry) (f : Follows (w
       (worn, first_spent g a (cleaning g k) refl refl es f, by worn (sym (ap is_fault is) ∙ faults g a (cleaning g k) refl refl es f) (over_so at_end (run_over w first es tt) e (sym end_is ∙ is)))
     where
       by : (worn : Option Request) → is_fault (Some (ends.Clean e)) ≡ is_some worn → Ends e → CleanIs worn e
-      by (Some r) h d = fault_is e h
-      by None h (inl d) = absurd (false_true h (ap (λ v. is_fault (Some (ends.Clean v))) d))
-      by None h (inr d) = d
+      by worn h g = grind (arith, fault_is)
 
   -- ---- what it leaves
 
@@ -105,15 +90,10 @@ module _ (g : Setting) (a : Actor) (k : Known) (es : List Entry) (f : Follows (w
     shows s _ h r e = hidden_shows j s r ReplyLost h.0 (subst (HidesAll w) (some_is e) (λ b q i. absurd i))
 
     bare_still : (s : Scene) (m : Clean) → Bare s m → (r : Request) → clean_asks w m ≡ Some r → Bare (apply s r) m
-    bare_still s (Walking found) h r asked = ap (λ v. fin.get v.content.buckets w.dest.bucket) (ap (apply s) (sym (some_is asked)) ∙ reads_nothing s (uploads_after w.dest.bucket (dest_prefix w) found) refl) ∙ h
-    bare_still s _ h r asked = absurd h
+    bare_still s m h r g = grind arith
 
     bare_heard : (s : Scene) (m : Clean) → Bare s m → (r : Request) → clean_asks w m ≡ Some r → (x : Reply) → x ≡ answer s r → Bare (apply s r) (clean_hears w m x)
-    bare_heard s (Walking found) h r asked x e =
-        let due : x ≡ Refused NoSuchBucket =
-        e ∙ ap (answer s) (sym (some_is asked)) ∙ ap (λ o. answer_at o s.content.next s.content.minimum (uploads_after w.dest.bucket (dest_prefix w) found)) h in
-        subst (λ y. Bare (apply s r) (clean_hears w (Walking found) y)) (sym due) (bare_still s (Walking found) h r asked)
-    bare_heard s _ h r asked x e = absurd h
+    bare_heard s m h r g x e = grind arith
 
     heard : (s : Scene) (m : Clean) → Holds s m → (r : Request) → clean_asks w m ≡ Some r → (x : Reply) (repeated : Bool) → x ≡ answer s r → Holds (apply s r) (clean_hears w m x)
     heard s m (inl h) r asked x repeated e = inl (clean_clears w s w.retries 0 repeated m h.0 r asked (Answered x) e, λ p. shows s m h.0 r asked p ∙ h.1 p)
@@ -128,9 +108,7 @@ module _ (g : Setting) (a : Actor) (k : Known) (es : List Entry) (f : Follows (w
     begins_so None e = inr e
 
     left : (s : Scene) (m : Clean) → Holds s m → clean_over m ≡ Some cleans.Done → Cleaned w s0 s
-    left s (CleanOver end) (inl h) e = record { nothing = h.0 (some_is e); view_stays = h.1 }
-    left s (CleanOver end) (inr h) e = absurd h
-    left s _ h e = absurd (none_some refl e)
+    left s m h g = grind arith
 
     pub clean_leaves : AreHonest s0 es → over (run (advance g a) (cleaning g k) es).operation ≡ Some (ends.Clean cleans.Done) → Cleaned w s0 (after_all s0 es)
     clean_leaves honest is = by (went w.retries (clean_asks w) (clean_after w) Holds heard still (λ m. refl) es s0 first (begins_so (fin.get s0.content.buckets w.dest.bucket) refl) (clean_follows g a k first es f) honest)

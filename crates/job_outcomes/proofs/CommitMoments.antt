@@ -75,8 +75,7 @@ module _ (g : Setting) (j : IsLegal g.script) (k : Times) (opening : Content) (i
   -- ---- one entry
 
   grown : (before now : Picks) (c d : Commit) → PicksGrow w before now c d → (t : ℕ) → t < w.tasks → (now t ≡ before t) ⊎ (before t ≡ None)
-  grown before now c d (inl same) t l = inl (same t l)
-  grown before now c d (inr more) t l = elim (same_or_not t (length more.sets)) [ inl is ↦ inr (more.behind t l (omega (arith, is))) | inr ne ↦ inl (more.others t l ne) ]
+  grown before now c d h t g = grind arith
 
   -- the driver is at an operation of its own
   abbrev IsDriver : Operation → Type 0
@@ -86,19 +85,10 @@ module _ (g : Setting) (j : IsLegal g.script) (k : Times) (opening : Content) (i
   IsDriver _ = Unit {0}
 
   late_driver : (op : Operation) (s : Seen) (m : Told) → At g opening (Some op) s m → IsDriver op
-  late_driver (TheWrite t) s m y = y
-  late_driver (TheTaskCommit t) s m y = y
-  late_driver (TheTaskAbort t) s m y = y
-  late_driver _ s m y = tt
+  late_driver op s m h = grind arith
 
   pub no_driver : (es : List Entry) (x : Stand) → Runs g k opening es x → (op : Operation) → x.driver ≡ Some op → (IsDriver op → ⊥) → ⊥
-  no_driver es x run op d none = elim (good g k opening j is_opening es x run) [
-    | inl early ↦ elim early.setup [
-      | inl nothing ↦ none_some nothing d
-      | inr y ↦ none (subst IsDriver (some_is (sym y.1 ∙ d)) tt)
-    ]
-    | inr late ↦ none (late_driver op x.seen x.told (subst (λ v. At g opening v x.seen x.told) d late.driver))
-  ]
+  no_driver es x h op g e = grind (arith, good, late_driver, At)
 
   driver_on : (es : List Entry) (x : Stand) → Runs g k opening es x → (op : Operation) → x.driver ≡ Some op → (n : ℕ) (r : Request) (o : Outcome) → asks g (who Driver) nothing_learnt op ≡ Some r → IsTimely k n op → x.seen.scene.content.next ≤ 2 ^ 64 → IsHonestOutcome o (answer x.seen.scene r)
       → (t : ℕ) → t < w.tasks → ((see w k x.seen (driver_entry n r o)).picks t ≡ x.seen.picks t) ⊎ (x.seen.picks t ≡ None)

@@ -94,16 +94,7 @@ module _ (g : Setting) (j : IsLegal g.script) (k : Times) (opening : Content) (i
   -- ---- entries of others, and what begins beside it
 
   same_stand : (x y : Stand) → ((t : ℕ) → y.seen.picks t ≡ x.seen.picks t) → y.commit ≡ x.commit → (c : Commit) → CommitStands g x c → CommitStands g y c
-  same_stand x y s e c h = record {
-    missing = h.missing;
-    follows = subst (Follows (commit_asks w) (commit_tells w) (commit_start w h.missing)) (sym e) h.follows;
-    leads = ap (run (commit_tells w) (commit_start w h.missing)) e ∙ h.leads;
-    sound = subst (AllSound w (commit_start w h.missing)) (sym e) h.sound;
-    sets = h.sets;
-    at = h.at;
-    picks = λ t v. s t ∙ h.picks t v;
-    answered = subst (λ l. WhereCommitted (is_mark_answered w l ≡ true) c) (sym e) h.answered;
-  }
+  same_stand x y h g c e = grind arith
 
   begins_on : BeginKeeps g k opening (λ es x. Stood x)
   begins_on es x BeginSetup runs may old c e = absurd cc

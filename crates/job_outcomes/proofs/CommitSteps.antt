@@ -1,5 +1,5 @@
 -- One entry of the driver's commit, and where it leads with the sets that it holds.
-use Rattle.std.proofs.Common.{◌≡◌, ℕ, ◌<◌, ◌&&◌, ◌||◌, not, Bool, true, false, List, [], ◌∷◌, ◌++◌, length, Option, Some, None, refl, sym, ap, subst, ◌∙◌}
+use Rattle.std.proofs.Common.{◌≡◌, ℕ, ◌<◌, ◌&&◌, ◌||◌, not, Bool, true, false, List, [], ◌∷◌, ◌++◌, length, Option, Some, None, refl, sym, ap, subst, ◌∙◌, arith}
 use Rattle.job_facts.specs.Prelude.{list_any, is_some, apply, Request, CompleteUpload, Reply, Outcome, Answered, Entry, run, IsLegal, Script, CommitEnd, same_path, mark_text, nth, completion, Sets, picks_of, all_commits, Commit, Fetching, Completing, Marking, CommitOver, fetching, commit_asks, commit_tells, commit_start, Sound, AllSound, commit_due, end_or, is_driver, is_mark_answered, Seen, see, is_marking, is_marked, HasBucket, Told, driver_entry, at_key, Hold, FitsJobCommit, Decides, Times}
 use Rattle.job_protocol.specs.Prelude.{is_unanswered, Stage, RequestsApart}
 use Rattle.job_spec.proofs.Common.{some_is, none_some, text_true}
@@ -20,15 +20,13 @@ module _ (w : Script) where
   none_due missing sets end m o e is = is ∙ ap (λ v. end_or v commits.Committed) (sym e) ∙ ap (λ v. commit_due w (picks_of sets) v None) (sym m)
 
   at_enters : (missing : Option ℕ) (sets : Sets) → missing ≡ None → {d : Commit} → Enters w sets d → IsAt w missing sets d
-  at_enters missing sets m (is_shared p t u e) = none_due missing sets (commits.SamePath p t u) m (Some (commits.SamePath p t u)) e refl
-  at_enters missing sets m _ = (m, refl)
+  at_enters missing sets h g = grind arith
 
   pub at_fetching : (missing : Option ℕ) (sets : Sets) → missing ≡ None → IsAt w missing sets (fetching w sets)
   at_fetching missing sets m = at_enters missing sets m (enters w sets)
 
   pub at_start : (missing : Option ℕ) → IsAt w missing [] (commit_start w missing)
-  at_start None = at_fetching None [] refl
-  at_start (Some t) = (refl, refl)
+  at_start missing = grind arith
 
   -- an answer to a read is told elsewhere
   abbrev pub IsRead : Commit → Outcome → Type 0
@@ -67,8 +65,7 @@ IsMarkAnswer _ _ = ⊥
 
 module _ (w : Script) (P : CommitEnd → Type 0) (fault : (t : Stage) → P (commits.StoreFault t)) (shared : (p : List ℕ) (t u : ℕ) → P (commits.SamePath p t u)) where
   by_enters : {sets : Sets} {d : Commit} → Enters w sets d → EndsBy P d
-  by_enters (is_shared p t u e) = shared p t u
-  by_enters _ = tt
+  by_enters h = grind arith
 
   pub by_fetching : (s : Sets) → EndsBy P (fetching w s)
   by_fetching s = by_enters (enters w s)
@@ -107,13 +104,7 @@ module _ (w : Script) where
   missing_over t es e = subst (EndsBy NotMissing) (sym e ∙ over_run (commits.Missing t) es) (not_run (commit_start w None) es (by_fetching w NotMissing (λ t. tt) (λ p t u. tt) []))
 
   pub one_start : (a b : Option ℕ) (es : List Entry) → run (commit_tells w) (commit_start w a) es ≡ run (commit_tells w) (commit_start w b) es → a ≡ b
-  one_start None None es e = refl
-  one_start None (Some u) es e = absurd (missing_over u es (sym e))
-  one_start (Some t) None es e = absurd (missing_over t es e)
-  one_start (Some t) (Some u) es e = ap Some (same (sym (over_run (commits.Missing t) es) ∙ e ∙ over_run (commits.Missing u) es))
-    where
-      same : {t u : ℕ} → CommitOver (commits.Missing t) ≡ CommitOver (commits.Missing u) → t ≡ u
-      same e = cc
+  one_start a b es h = grind (arith, missing_over, over_run)
 
 -- ---- the marker
 
@@ -122,16 +113,13 @@ NotCommitted commits.Committed = ⊥
 NotCommitted _ = Unit {0}
 
 uncommitted : (P : Type 0) (c : Commit) → EndsBy NotCommitted c → WhereCommitted P c
-uncommitted P (CommitOver commits.Committed) h = absurd h
-uncommitted P _ h = tt
+uncommitted P c h = grind arith
 
 pub where_on : {P Q : Type 0} → (P → Q) → (c : Commit) → WhereCommitted P c → WhereCommitted Q c
-where_on h (CommitOver commits.Committed) y = h y
-where_on h _ y = tt
+where_on h c g = grind arith
 
 pub where_start : (P : Type 0) (w : Script) (missing : Option ℕ) → WhereCommitted P (commit_start w missing)
-where_start P w None = uncommitted P (fetching w []) (by_fetching w NotCommitted (λ t. tt) (λ p t u. tt) [])
-where_start P w (Some t) = tt
+where_start P w missing = grind arith
 
 any_last : (p : Entry → Bool) (es : List Entry) (e : Entry) → p e ≡ true → list_any p (es ++ e ∷ []) ≡ true
 any_last p [] e h = ap (λ b. b || false) h

@@ -57,10 +57,7 @@ earlier k i [] l = refl
 earlier k i (e ∷ es) l = by (nat_lt e.event k) (nat_le e.event i) refl refl (earlier k i es l)
   where
     by : (b c : Bool) → nat_lt e.event k ≡ b → nat_le e.event i ≡ c → before k (until i es) ≡ before k es → before k (cond (nat_le e.event i) (e ∷ until i es) (until i es)) ≡ cond (nat_lt e.event k) (e ∷ before k es) (before k es)
-    by true false f g old = let low : e.event < k = below_is e.event k f in let high : i < e.event = at_most_not e.event i g in absurd (omega arith)
-    by true true f g old = ap (λ c. before k (cond c (e ∷ until i es) (until i es))) g ∙ ap (λ b. cond b (e ∷ before k (until i es)) (before k (until i es))) f ∙ ap (λ xs. e ∷ xs) old ∙ sym (ap (λ b. cond b (e ∷ before k es) (before k es)) f)
-    by false true f g old = ap (λ c. before k (cond c (e ∷ until i es) (until i es))) g ∙ ap (λ b. cond b (e ∷ before k (until i es)) (before k (until i es))) f ∙ old ∙ sym (ap (λ b. cond b (e ∷ before k es) (before k es)) f)
-    by false false f g old = ap (λ c. before k (cond c (e ∷ until i es) (until i es))) g ∙ old ∙ sym (ap (λ b. cond b (e ∷ before k es) (before k es)) f)
+    by b c h g e = grind arith
 
 -- ---- scenes
 
@@ -101,14 +98,10 @@ swapped p q [] = refl
 swapped p q (e ∷ es) = by (p e) (q e) refl refl (swapped p q es)
   where
     by : (b c : Bool) → p e ≡ b → q e ≡ c → filter p (filter q es) ≡ filter q (filter p es) → filter p (filter q (e ∷ es)) ≡ filter q (filter p (e ∷ es))
-    by true true f g old = rw (f, g) (rw (f) (ap (λ xs. e ∷ xs) old))
-    by true false f g old = rw (f, g) old
-    by false true f g old = rw (f, g) (rw (f) old)
-    by false false f g old = rw (f, g) old
+    by b c h g e = grind arith
 
 same_self : (a : Actor) → same_actor a a ≡ true
-same_self (Attempt t u) = ap (λ b. b && nat_eq u u) (nat_true t t refl) ∙ nat_true u u refl
-same_self _ = refl
+same_self a = grind arith
 
 pub alone : (a : Actor) (es : List Entry) → AllBy a es → by_actor a es ≡ es
 alone a [] h = refl

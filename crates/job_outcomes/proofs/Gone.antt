@@ -1,5 +1,5 @@
 -- In a run, until the driver's abort or clean has begun an attempt's write or commit finds nothing gone, and a commit that is done has published.
-use Rattle.std.proofs.Common.{◌≡◌, ℕ, inl, inr, Bool, true, false, List, [], ◌∷◌, Option, Some, None, refl, sym, ap, subst, ◌∙◌}
+use Rattle.std.proofs.Common.{◌≡◌, ℕ, inl, inr, Bool, true, false, List, [], ◌∷◌, Option, Some, None, refl, sym, ap, subst, ◌∙◌, arith}
 use Rattle.job_facts.specs.Prelude.{option_map, Content, Committer, Magic, Entry, fresh, Who, actor_of, File, Known, IsLegal, Op, TaskEnd, OpEnd, setup_over, commit_over, clean_over, Setting, Operation, TheSetup, TheWrite, TheTaskCommit, TheTaskAbort, TheCommit, TheClean, start_of, over, files, has_cleaned, WasPublished, Seen, until_last, NotGone, WriteStands, CommitStandsBy, Told, nothing_told, Times, TheCheck, TheSparing}
 use Rattle.job_spec.proofs.Common.{some_is, none_some, false_true, true_or_false}
 use Rattle.job_model.specs.declared.events.Op.TheVariants as ops
@@ -18,28 +18,11 @@ use Rattle.job_protocol.specs.Rechecks.{check_over}
 use Rattle.job_protocol.specs.Sparing.{sparing_over}
 
 module _ (g : Setting) (k : Times) (opening : Content) (j : IsLegal g.script) (is_opening : IsOpening g opening) where
-  gone_is : {d : TaskEnd} {name : List ℕ} → Some (ends.Task d) ≡ Some (ends.Task (tasks.Gone name)) → d ≡ tasks.Gone name
-  gone_is e = cc
-
   never_commit : (P : Type 0) (s : Seen) (a : Who) (repeated : Bool) (t : commits.TaskCommit) (name : List ℕ) → CommitStandsBy P g.script s a repeated t → option_map ends.Task (commits.task_commit_over t) ≡ Some (ends.Task (tasks.Gone name)) → ⊥
-  never_commit P s a repeated (commits.TaskCommitOver end) name h e = subst NotGone (gone_is e) h.0
-  never_commit P s a repeated _ name h e = none_some refl e
-
-  no_task : {X : Type 0} (f : X → OpEnd) (o : Option X) (name : List ℕ) → ((x : X) → f x ≡ ends.Task (tasks.Gone name) → ⊥) → option_map f o ≡ Some (ends.Task (tasks.Gone name)) → ⊥
-  no_task f None name other e = none_some refl e
-  no_task f (Some x) name other e = other x (some_is e)
+  never_commit P s a repeated t name h g = grind arith
 
   never : (P : Type 0) (s : Seen) (a : Who) (op : Operation) (name : List ℕ) → StandsBy g k opening j is_opening P s a op → is_abort op ≡ false → over op ≡ Some (ends.Task (tasks.Gone name)) → ⊥
-  never P s a (TheWrite t) name h not_abort e =
-      (elim t.operation as (λ v. WriteStands g.script s a v → option_map ends.Task (writes.write_over v) ≡ Some (ends.Task (tasks.Gone name)) → ⊥)
-      [ writes.WriteOver end ↦ λ h e. subst NotGone (gone_is e) h.0 | _ ↦ λ h e. none_some refl e ]) h e
-  never P s a (TheTaskCommit t) name h not_abort e = never_commit P s a t.repeated t.operation name h e
-  never P s a (TheTaskAbort t) name h not_abort e = false_true not_abort refl
-  never P s a (TheSetup t) name h not_abort e = no_task ends.Setup (setup_over t.operation) name (λ x y. absurd cc) e
-  never P s a (TheCommit c) name h not_abort e = no_task ends.Commit (commit_over c) name (λ x y. absurd cc) e
-  never P s a (TheClean t) name h not_abort e = no_task ends.Clean (clean_over t.operation) name (λ x y. absurd cc) e
-  never P s a (TheCheck t) name h not_abort e = no_task ends.Check (check_over t.operation) name (λ x y. absurd cc) e
-  never P s a (TheSparing t) name h not_abort e = no_task ends.Clean (sparing_over t.operation) name (λ x y. absurd cc) e
+  never P s a op name h g e = grind arith
 
   cleaned_so : (c : Option ℕ) (es : List Entry) (x : Stand) → Runs g k opening es x → x.told.cleans_at ≡ c → x.told.cleaned ≡ has_cleaned c es
   cleaned_so c es x run at = ap (λ (m : Told). m.cleaned) (tells_so g k opening j is_opening es x run) ∙ cleaned_is g.script es (nothing_told x.told.cleans_at) ∙ ap (λ v. has_cleaned v es) at
@@ -47,9 +30,7 @@ module _ (g : Setting) (k : Times) (opening : Content) (j : IsLegal g.script) (i
   -- ---- no operation is so as it begins
 
   write_begun : (c : Committer) (fs : List File) (name : List ℕ) → option_map ends.Task (writes.write_over (writes.write_start_by c fs)) ≡ Some (ends.Task (tasks.Gone name)) → ⊥
-  write_begun Magic [] name e = absurd cc
-  write_begun Magic (f ∷ fs) name e = none_some refl e
-  write_begun _ fs name e = absurd cc
+  write_begun c fs name h = grind arith
 
   commit_goes : (a : Who) (op : Operation) (e : OpEnd) → TheTaskCommit (fresh g.script.retries (commits.task_commit_start g.script a)) ≡ op → over op ≡ Some e → ⊥
   commit_goes a op e is o = none_some (ap (option_map ends.Task) (commit_going g.script.committer g.script a)) (ap over is ∙ o)

@@ -9,8 +9,7 @@ use Rattle.store_frame.proofs.Flat.{behind}
 use Rattle.job_facts.proofs.Legal.{some_dest}
 
 equal_self : (o : Ordering) → o ≡ ordering_reverse o → o ≡ Equal
-equal_self Equal e = refl
-equal_self _ e = absurd (cc)
+equal_self o h = grind arith
 
 -- a common front does not matter
 pub front_cmp : (pre p q : List ℕ) → text_cmp (pre ++ p) (pre ++ q) ≡ text_cmp p q
@@ -41,8 +40,7 @@ shown_later w [] more h = refl
 shown_later w (k ∷ ks) more h = by (shown_path (relative_in w.dest.key k)) h (λ g. shown_later w ks more g)
   where
     by : (o : Option (List ℕ)) → or_next o (first_shown w ks) ≡ None → (first_shown w ks ≡ None → first_shown w (ks ++ more) ≡ first_shown w more) → or_next o (first_shown w (ks ++ more)) ≡ first_shown w more
-    by (Some p) h old = absurd (none_some h refl)
-    by None h old = old h
+    by o h g = grind arith
 
 -- ---- the path of a key
 
@@ -76,19 +74,15 @@ module _ (w : Script) (j : IsLegal w) where
 
   -- keys are in the order of their paths
   pub below_cmp : (q p : List ℕ) → text_cmp (below w.dest.key q) (below w.dest.key p) ≡ text_cmp q p
-  below_cmp q p =
-      ap (λ v. text_cmp v (below w.dest.key p)) (below_is w.dest.key q (some_dest j)) ∙ ap (text_cmp (w.dest.key ++ 47 ∷ q)) (below_is w.dest.key p (some_dest j))
-      ∙ front_cmp w.dest.key (47 ∷ q) (47 ∷ p) ∙ front_cmp (47 ∷ []) q p
+  below_cmp q p = grind (arith, below_is, some_dest, front_cmp)
 
   -- ---- the first that is shown
 
   or_some : (o n : Option (List ℕ)) (p : List ℕ) → or_next o n ≡ Some p → (o ≡ Some p) ⊎ ((o ≡ None) × (n ≡ Some p))
-  or_some (Some q) n p e = inl e
-  or_some None n p e = inr (refl, e)
+  or_some o n p h = grind arith
 
   or_none : (o n : Option (List ℕ)) → or_next o n ≡ None → (o ≡ None) × (n ≡ None)
-  or_none (Some q) n e = absurd (none_some e refl)
-  or_none None n e = (refl, e)
+  or_none o n h = grind arith
 
   -- none of these is shown
   pub unseen_in : (ks : List (List ℕ)) → first_shown w ks ≡ None → (k : List ℕ) → IsIn k ks → seen_at k ≡ None

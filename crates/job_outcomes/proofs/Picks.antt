@@ -97,8 +97,7 @@ module _ (g : Setting) (j : IsLegal g.script) (k : Times) (s : Seen) (m : Told) 
     Brings y = ((set_read y ≡ None) × (s.last (length sets) ≡ None)) ⊎ ((x : PendingSet) × (set_read y ≡ Some x) × (s.last (length sets) ≡ Some x.attempt))
 
     refused_none : (y : Reply) → IsRefused y → set_read y ≡ None
-    refused_none y (inl e) = ap set_read e
-    refused_none y (inr e) = ap set_read e
+    refused_none y h = grind arith
 
     pub brings : Brings (answer s.scene r)
     brings = elim (set_answered j h few (length sets) low) [

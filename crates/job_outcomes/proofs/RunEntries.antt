@@ -1,5 +1,5 @@
 -- Whose the entries of a run are.
-use Rattle.std.proofs.Common.{◌≡◌, ℕ, zero, suc, ◌≤◌, ◌⊎◌, inl, inr, ◌||◌, Bool, true, false, cond, List, [], ◌∷◌, ◌++◌, slice_get, Option, Some, None, refl, sym, ap, subst, ◌∙◌}
+use Rattle.std.proofs.Common.{◌≡◌, ℕ, zero, suc, ◌≤◌, ◌⊎◌, inl, inr, ◌||◌, Bool, true, false, cond, List, [], ◌∷◌, ◌++◌, slice_get, Option, Some, None, refl, sym, ap, subst, ◌∙◌, arith}
 use Rattle.job_facts.specs.Prelude.{filter, list_any, Content, Actor, Driver, Request, Outcome, Entry, Who, actor_of, Script, Known, Op, Setup, SetupOver, setup_asks, Setting, Operation, TheSetup, TheCommit, TheClean, who, asks, tells, start_of, is_begun, by_actor, until_last, AllBy, AllUpTo, is_own, own, same_actor, known, put_who, entry, driver_entry, strange_entry, Times, TheCheck, TheSparing, commit_of, step}
 use Rattle.job_spec.proofs.Common.{append-nil, filter-append, list_any-append, some_is, none_some, false_true}
 use Rattle.job_model.specs.declared.events.Op.TheVariants as ops
@@ -47,9 +47,7 @@ module _ (g : Setting) (k : Times) (opening : Content) where
 
   -- one more of the driver's, and one of an attempt
   driver_more : (es : List Entry) (n : ℕ) (r : Request) (o : Outcome) → since_commit (es ++ driver_entry n r o ∷ []) ≡ since_commit es ++ cond (is_begun k.commit n) (driver_entry n r o ∷ []) []
-  driver_more es n r o =
-      ap (filter (λ e. is_begun k.commit e.event)) (filter-append (λ e. same_actor e.actor Driver) es (driver_entry n r o ∷ []))
-      ∙ filter-append (λ e. is_begun k.commit e.event) (by_actor Driver es) (driver_entry n r o ∷ [])
+  driver_more es n r o = grind (arith, filter-append)
 
   other_more : (es : List Entry) (e : Entry) → same_actor e.actor Driver ≡ false → since_commit (es ++ e ∷ []) ≡ since_commit es
   other_more es e other =
@@ -64,45 +62,14 @@ module _ (g : Setting) (k : Times) (opening : Content) where
   Stood (Some (TheSparing t)) es commit = Unit {0}
   Stood (Some _) es commit = ⊥
 
-  before_set : (d : Option Operation) (es commit : List Entry) → is_set d ≡ false → Stood d es commit → since_commit es ≡ []
-  before_set None es commit e h = h
-  before_set (Some (TheSetup t)) es commit e h = h
-  before_set (Some (TheCommit c)) es commit e h = absurd (false_true e refl)
-  before_set (Some (TheClean t)) es commit e h = absurd (false_true e refl)
-  before_set (Some (TheCheck t)) es commit e h = absurd (false_true e refl)
-  before_set (Some (TheSparing t)) es commit e h = absurd (false_true e refl)
-  before_set (Some _) es commit e h = absurd h
-
-  just_so : (d : Option Operation) (es commit : List Entry) → is_just_set d ≡ true → Stood d es commit → since_commit es ≡ []
-  just_so None es commit e h = h
-  just_so (Some (TheSetup t)) es commit e h = h
-  just_so (Some _) es commit e h = absurd (false_true refl e)
-
-  may_so : (y : Stand) (es : List Entry) → MaySetUp y → Stood y.driver es y.commit → since_commit es ≡ []
-  may_so y es (inl e) h = before_set y.driver es y.commit e h
-  may_so y es (inr e) h = just_so y.driver es y.commit e.0 h
-
   other_stood : (d : Option Operation) (es commit : List Entry) (e : Entry) → same_actor e.actor Driver ≡ false → Stood d es commit → Stood d (es ++ e ∷ []) commit
-  other_stood None es commit e other h = other_more es e other ∙ h
-  other_stood (Some (TheSetup t)) es commit e other h = other_more es e other ∙ h
-  other_stood (Some (TheCommit c)) es commit e other h = λ alone. h alone ∙ sym (other_more es e other)
-  other_stood _ es commit e other h = h
+  other_stood d es commit e h g = grind (arith, other_more)
 
   driver_stood : (op : Operation) (es commit : List Entry) (n : ℕ) (r : Request) (o : Outcome) → IsTimely k n op → Stood (Some op) es commit → Stood (Some (tells g (who Driver) op o)) (es ++ driver_entry n r o ∷ []) (commit_with op commit (driver_entry n r o))
-  driver_stood (TheSetup t) es commit n r o timely h = driver_more es n r o ∙ ap (λ b. since_commit es ++ cond b (driver_entry n r o ∷ []) []) timely.0 ∙ ap (λ l. l ++ []) h
-  driver_stood (TheCommit c) es commit n r o timely h = λ alone. ap (λ l. l ++ driver_entry n r o ∷ []) (h alone) ∙ sym (driver_more es n r o ∙ ap (λ b. since_commit es ++ cond b (driver_entry n r o ∷ []) []) timely.0)
-  driver_stood (TheCheck t) es commit n r o timely h = after_check_so g (λ op. Stood (Some op) (es ++ driver_entry n r o ∷ []) commit) (λ alone. absurd (false_true alone h)) (λ u. h) (step g.script.retries (check_after g.script) t o)
-  driver_stood _ es commit n r o timely h = h
+  driver_stood op es commit n r o h g = grind (arith, driver_more, after_check_so)
 
   begin_stood : (es : List Entry) (x : Stand) (b : Beginning) → MayBegin g x b → Stood x.driver es x.commit → Stood (begin g x b).driver es (begin g x b).commit
-  begin_stood es x BeginSetup may h = may_so x es may h
-  begin_stood es x (BeginCommit reports) may h = by g.shared refl
-    where
-      by : (b : Bool) → g.shared ≡ b → Stood (Some (commit_of g reports)) es []
-      by false e = subst (λ op. Stood (Some op) es []) (sym (commit_alone g reports e)) (λ alone. sym (just_so x.driver es x.commit may h))
-      by true e = commit_of_so g (λ op. Stood (Some op) es []) (λ missing alone. absurd (false_true alone e)) (λ t. e) reports
-  begin_stood es x BeginClean may h = clean_of_so g (λ op. Stood (Some op) es x.commit) tt tt
-  begin_stood es x _ may h = h
+  begin_stood es x b h g = grind arith
 
   stood : (es : List Entry) (x : Stand) → Runs g k opening es x → Stood x.driver es x.commit
   stood = each_run g k opening (λ es x. Stood x.driver es x.commit) refl (λ es x b run may h. begin_stood es x b may h)
@@ -134,16 +101,10 @@ module _ (g : Setting) (k : Times) (opening : Content) where
   -- ---- until the set-up is done
 
   asks_on : (w : Script) (c : Setup) (r : Request) → setup_asks w c ≡ Some r → is_done c ≡ false
-  asks_on w (SetupOver end) r e = absurd (none_some refl e)
-  asks_on w _ r e = refl
+  asks_on w c r h = grind arith
 
   was_unset : (op : Operation) (r : Request) (o : Outcome) → asks g (who Driver) nothing_learnt op ≡ Some r → is_set (Some (tells g (who Driver) op o)) ≡ false → is_set (Some op) ≡ false
-  was_unset (TheSetup t) r o asked e = asks_on g.script t.operation r asked
-  was_unset (TheCommit c) r o asked e = absurd (false_true e refl)
-  was_unset (TheClean t) r o asked e = absurd (false_true e refl)
-  was_unset (TheCheck t) r o asked e = absurd (false_true e (after_check_so g (λ op. is_set (Some op) ≡ true) refl (λ u. refl) (step g.script.retries (check_after g.script) t o)))
-  was_unset (TheSparing t) r o asked e = absurd (false_true e refl)
-  was_unset _ r o asked e = refl
+  was_unset op r o h g = grind arith
 
   none_begin : (x : Stand) (b : Beginning) → MayBegin g x b → (is_set x.driver ≡ false → (a : Who) → x.attempts a ≡ None) → is_set (begin g x b).driver ≡ false → (a : Who) → (begin g x b).attempts a ≡ None
   none_begin x BeginSetup (inl unset) old e = old unset
@@ -164,10 +125,7 @@ module _ (g : Setting) (k : Times) (opening : Content) where
 
   module _ (a : Who) (op : Operation) (late : (b : Who) (o : Op) (m : Known) → start_of g (actor_of b) o (record { missing = None; attempts = [] }) m ≡ Some op → ⊥) where
     begun : (y : Stand) (b : Who) (o : Op) (m : Known) (s : Operation) → start_of g (actor_of b) o (record { missing = None; attempts = [] }) m ≡ Some s → put_who y.attempts b (Some s) a ≡ Some op → y.attempts a ≡ Some op
-    begun y b o m s start at = elim (same_or_another a b) [
-      | inl same ↦ absurd (late b o m (start ∙ sym (who_here y.attempts b (Some s) a same) ∙ at))
-      | inr ne ↦ sym (who_other y.attempts b (Some s) a ne) ∙ at
-    ]
+    begun y b o m s h g = grind (arith, same_or_another, who_here, who_other)
 
     begun_at : (y : Stand) (b : Beginning) → (begin g y b).attempts a ≡ Some op → y.attempts a ≡ Some op
     begun_at y (BeginWrite b) at = begun y b ops.Write nothing_learnt _ refl at

@@ -1,5 +1,5 @@
 -- What the driver's commit is answered in every run: a completion finds no upload only where an earlier sending of it was lost, and a read of a set finds it where its task has a last publisher.
-use Rattle.std.proofs.Common.{◌≡◌, ℕ, ◌≤◌, ◌^◌, ◌⊎◌, inl, inr, ◌&&◌, ◌||◌, true, false, List, [], ◌∷◌, ◌++◌, length, Option, Some, None, IsSome, is_some, refl, sym, ap, subst, ◌∙◌}
+use Rattle.std.proofs.Common.{◌≡◌, ℕ, ◌≤◌, ◌^◌, ◌⊎◌, inl, inr, ◌&&◌, ◌||◌, true, false, List, [], ◌∷◌, ◌++◌, length, Option, Some, None, IsSome, is_some, refl, sym, ap, subst, ◌∙◌, arith}
 use Rattle.job_facts.specs.Prelude.{list_any, named_from, Content, live, with_key, joined, answer, complete_answer, IsHonestOutcome, Driver, Request, Refusal, NoSuchUpload, Reply, Refused, Outcome, Answered, Entry, Pending, IsLegal, Script, Listing, Turn, again, follow, dealt, nth, completion, In, Tabled, Sets, all_commits, set_request, set_read, Commit, Fetching, Replacing, Completing, Reverting, CommitOver, commit_start, commit_asks, stage_of, Setting, Operation, TheSetup, TheCommit, TheClean, who, asks, was_lost, Seen, is_reading, Told, entry, driver_entry, strange_entry, Hold, Gone, Reads, Times, TheCheck, is_begun, step, TheSparing}
 use Rattle.job_spec.proofs.Common.{list_any-append, same_self, some_is, none_some, false_true, true_or_false}
 use Rattle.job_spec.specs.Prelude.{same_request}
@@ -54,11 +54,7 @@ lost_before : (r : Request) (es : List Entry) (e : Entry) → was_lost r es ≡ 
 lost_before r es e h = list_any-append (λ v. same_request r v.request && is_lost v.outcome) es (e ∷ []) ∙ ap (λ b. b || list_any (λ v. same_request r v.request && is_lost v.outcome) (e ∷ [])) h
 
 lost_here : (r : Request) (es : List Entry) (e : Entry) → r ≡ e.request → is_lost e.outcome ≡ true → was_lost r (es ++ e ∷ []) ≡ true
-lost_here r es e is lost =
-    let here : (same_request r e.request && is_lost e.outcome) ≡ true = ap (λ b. b && is_lost e.outcome) (subst (λ q. same_request r q ≡ true) is (same_self r)) ∙ lost in
-    list_any-append (λ v. same_request r v.request && is_lost v.outcome) es (e ∷ [])
-    ∙ ap (λ b. list_any (λ v. same_request r v.request && is_lost v.outcome) es || (b || false)) here
-    ∙ or_true (list_any (λ v. same_request r v.request && is_lost v.outcome) es)
+lost_here r es e h g = grind (arith, same_self, list_any-append, or_true)
 
 -- each turn with a sending lost has one among these entries
 abbrev TurnsLost : List Entry → Sets → List Turn → Type 0
@@ -77,8 +73,7 @@ module _ (w : Script) (es : List Entry) where
   lost_enters sets _ = tt
 
   lost_start : (missing : Option ℕ) → Lost es (commit_start w missing)
-  lost_start (Some t) = tt
-  lost_start None = lost_enters [] (enters w [])
+  lost_start missing = grind arith
 
 module _ (w : Script) (es : List Entry) (e : Entry) where
   abbrev now : List Entry

@@ -1,5 +1,5 @@
 -- How the driver's set-up ends, by its entries alone.
-use Rattle.std.proofs.Common.{◌≡◌, ℕ, inl, inr, nat_lt, Bool, true, false, cond, List, [], ◌∷◌, ◌++◌, take, length, Option, Some, None, IsSome, refl, sym, ap, subst, ◌∙◌}
+use Rattle.std.proofs.Common.{◌≡◌, ℕ, inl, inr, nat_lt, Bool, true, false, cond, List, [], ◌∷◌, ◌++◌, take, length, Option, Some, None, IsSome, refl, sym, ap, subst, ◌∙◌, arith}
 use Rattle.job_facts.specs.Prelude.{is_some, option_map, is_lt, text_cmp, text_total, BucketContent, Content, Scene, listed, answer, answer_at, apply, head, after_all, AreHonest, Object, Magic, Request, HeadObject, DeleteObject, Reply, Page, Deleted, Refused, PageEntry, Entry, Answered, ReplyLost, MOST_ENTRIES, below, magic_prefix, success_key, run, Follows, fresh, step, wants_of, worn_in, WornFirst, IsLegal, Script, SetupEnd, view, is_file_path, checks_all, Sweep, Listing, Deleting, sweep_asks, walked_by, keys_on, last_of, page_after, sweep_hears, all_go, Setup, Heading, Clearing, Sweeping, SetupOver, dest_prefix, if_bucket, headed, checked_on, checked_by, first_shown, cleared, setup_start, setup_asks, setup_hears, setup_after, setup_over, over, SetupIs, last_from, HasBucket, at_key, ThoseOrBehind}
 use Rattle.job_spec.proofs.Common.{false≢true, lt_not, le_lt, counted_first, some_is, none_some, none_or_some, in_front, in_back}
 use Rattle.job_spec.specs.Prelude.{TooManyKeys, IsFree}
@@ -22,8 +22,7 @@ use Rattle.job_outcomes.proofs.Least.{last_of_all, seen_below, shown_at, below_c
 use Rattle.job_traces.proofs.Replacing.{some_behind}
 
 some_of : {X : Type 0} (o : Option X) → IsSome o → (x : X) × (o ≡ Some x)
-some_of None h = absurd (false≢true h)
-some_of (Some x) h = (x, refl)
+some_of o h = grind arith
 
 module _ (w : Script) (j : IsLegal w) (first : Scene) where
   abbrev c : Content
@@ -168,10 +167,7 @@ module _ (w : Script) (j : IsLegal w) (first : Scene) where
   sweep_request t = sweep_asks w.dest.bucket (magic_prefix w.dest.key w.job) t
 
   sweep_has : (s : Scene) → HasBucket s.content w.dest.bucket → (t : Sweep) → lacks_bucket (answer s (sweep_request t)) ≡ false
-  sweep_has s b (Listing keys) = ap lacks_bucket (answer_is w s b.0 b.1 (sweep_request (Listing keys)) refl)
-  sweep_has s b (Deleting k ks) =
-      ap lacks_bucket (answer_is w s b.0 b.1 (sweep_request (Deleting k ks)) refl)
-      ∙ elim (nat_lt MOST_ENTRIES (length (take 1000 (k ∷ ks)))) as (λ many. lacks_bucket (cond many (Refused TooManyKeys) Deleted) ≡ false) [ true ↦ refl | false ↦ refl ]
+  sweep_has s h t = grind arith
 
   heard : (s : Scene) (m : Setup) → Holds s m → (r : Request) → setup_asks w m ≡ Some r → (x : Reply) (repeated : Bool) → x ≡ answer s r → Holds (apply s r) (setup_hears w m x)
   heard s Heading h r asked x repeated e =
@@ -198,8 +194,7 @@ module _ (w : Script) (j : IsLegal w) (first : Scene) where
   still s _ h r asked = (h.0, still_there w s r ReplyLost h.1)
 
   over_so : (s : Scene) (m : Setup) → Holds s m → (e : SetupEnd) → setup_over m ≡ Some e → SetupIs w c None e
-  over_so s (SetupOver end) h e is = subst (SetupIs w c None) (some_is is) h
-  over_so s _ h e is = absurd (none_some refl is)
+  over_so s m h e g = grind arith
 
   pub setup_ends : (es : List Entry) → Follows (wants_of (setup_asks w)) (step w.retries (setup_after w)) (fresh w.retries setup_start) es → AreHonest first es
       → (e : SetupEnd) → setup_over (run (step w.retries (setup_after w)) (fresh w.retries setup_start) es).operation ≡ Some e → (worn : Option Request) × WornFirst w.retries es worn × SetupIs w c worn e
@@ -215,17 +210,7 @@ module _ (w : Script) (j : IsLegal w) (first : Scene) where
       )
 
 over_setup : (t : Setup) (e : SetupEnd) → option_map op_ends.Setup (setup_over t) ≡ Some (op_ends.Setup e) → setup_over t ≡ Some e
-over_setup t e h =
-    (elim (setup_over t) as (λ o. option_map op_ends.Setup o ≡ Some (op_ends.Setup e) → o ≡ Some e) [ None ↦ λ h. absurd (none_some refl h) | Some d ↦ λ h. cc ]) h
+over_setup t e h = grind arith
 
 pub setups_end : SetupEnds
-setups_end = record {
-  ends = λ w j s es f honest e is. setup_ends w j s es f honest e is;
-  running = λ g j a k s es f honest e is.
-      let t = fresh g.script.retries setup_start in
-      setup_ends g.script j s es (setup_follows g a k t es f) honest e
-      (over_setup (run (step g.script.retries (setup_after g.script)) t es).operation e (sym (ap over (setup_run g a k t es)) ∙ is));
-  listed = λ g a k es f e is.
-      let t = fresh g.script.retries setup_start in
-      setup_listed g.script es (setup_follows g a k t es f) e (over_setup (run (step g.script.retries (setup_after g.script)) t es).operation e (sym (ap over (setup_run g a k t es)) ∙ is));
-}
+setups_end = grind (arith, setup_ends, setup_follows, over_setup, setup_run, setup_listed)

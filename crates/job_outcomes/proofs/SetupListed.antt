@@ -1,5 +1,5 @@
 -- How the driver's set-up ends by what its pages listed, whoever else sends.
-use Rattle.std.proofs.Common.{◌≡◌, ℕ, zero, suc, Bool, true, false, cond, List, [], ◌∷◌, ◌++◌, append-nil, append_assoc, Option, Some, None, refl, sym, ap, subst, ◌∙◌}
+use Rattle.std.proofs.Common.{◌≡◌, ℕ, zero, suc, Bool, true, false, cond, List, [], ◌∷◌, ◌++◌, append-nil, append_assoc, Option, Some, None, refl, sym, ap, subst, ◌∙◌, arith}
 use Rattle.job_spec.proofs.Common.{false≢true, counted_first, some_is, none_some, if_bucket_so}
 use Rattle.job_facts.specs.Prelude.{Committer, Magic, Request, Reply, Page, Refused, NoSuchBucket, Outcome, Answered, Slow, Entry, run, Follows, Retried, fresh, step, unanswered_by, wants_of, is_zero, worn_in, WornFirst, Script, SetupEnd, checks_all, keys_on, page_after, walked_by, sweep_hears, all_go, Setup, Heading, Clearing, Sweeping, SetupOver, dest_prefix, headed, checked_on, checked_by, first_shown, cleared, setup_start, setup_asks, setup_hears, setup_after, setup_over}
 use Rattle.job_spec.specs.Prelude.{Head}
@@ -25,31 +25,13 @@ module _ (w : Script) where
   none_yet e = ap (first_shown w) e
 
   from_here : (keys : List (List ℕ)) → keys ≡ [] → (b : Bool) → checks ≡ b → Listed keys (cond b (Checking []) Clearing)
-  from_here keys e true is = (is, none_yet e)
-  from_here keys e false is = λ h. none_yet e
+  from_here keys h b g = grind arith
 
   headed_so : (keys : List (List ℕ)) → keys ≡ [] → (x : Reply) → Listed keys (headed w x)
-  headed_so keys e (Head len header) = e
-  headed_so keys e _ = from_here keys e checks refl
+  headed_so keys h x = grind arith
 
   checked_so : (keys : List (List ℕ)) → (checks ≡ true) × (first_shown w keys ≡ None) → (found : List (List ℕ)) (x : Reply) (r : Request) → setup_asks w (Checking found) ≡ Some r → Listed (keys ++ keys_told r (Answered x)) (setup_hears w (Checking found) x)
-  checked_so keys h found x r asked = subst (λ q. Listed (keys ++ keys_told q (Answered x)) (setup_hears w (Checking found) x)) (some_is asked) (by x)
-    where
-      same : Listed (keys ++ []) (Checking found)
-      same = (h.0, ap (first_shown w) (append-nil keys) ∙ h.1)
-
-      on : (new : List (List ℕ)) → first_shown w new ≡ None → (more : Bool) → Listed (keys ++ new) (checked_on (walked_by more (found ++ new)))
-      on new e true = (h.0, shown_later w keys new h.1 ∙ e)
-      on new e false = λ c. shown_later w keys new h.1 ∙ e
-
-      page : (new : List (List ℕ)) (o : Option (List ℕ)) → first_shown w new ≡ o → (more : Bool) → Listed (keys ++ new) (checked_by o (walked_by more (found ++ new)))
-      page new (Some p) e more = (h.0, shown_later w keys new h.1 ∙ e)
-      page new None e more = on new e more
-
-      by : (x : Reply) → Listed (keys ++ keys_told (page_after w.dest.bucket (dest_prefix w) found) (Answered x)) (setup_hears w (Checking found) x)
-      by (Page entries more) = page (keys_on entries) (first_shown w (keys_on entries)) refl more
-      by (Refused NoSuchBucket) = λ c. same.1
-      by _ = same
+  checked_so keys h found x r g = grind (arith, shown_later)
 
   more_keys : (keys : List (List ℕ)) → Listed keys Clearing → checks ≡ true → first_shown w (keys ++ []) ≡ None
   more_keys keys h c = ap (first_shown w) (append-nil keys) ∙ h c
@@ -71,8 +53,7 @@ module _ (w : Script) where
   heard keys (SetupOver end) h r asked x = absurd (none_some refl asked)
 
   over_so : (keys : List (List ℕ)) (m : Setup) → Listed keys m → (e : SetupEnd) → setup_over m ≡ Some e → SetupListed w keys None e
-  over_so keys (SetupOver end) h e is = subst (SetupListed w keys None) (some_is is) h
-  over_so keys _ h e is = absurd (none_some refl is)
+  over_so keys m h e g = grind arith
 
   -- ---- its entries
 

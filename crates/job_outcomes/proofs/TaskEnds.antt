@@ -1,5 +1,5 @@
 -- How an attempt's operations end, by its own entries alone.
-use Rattle.std.proofs.Common.{◌≡◌, ℕ, ◌⊎◌, inl, inr, Bool, true, false, cond, List, [], ◌∷◌, ◌++◌, map, Option, Some, None, refl, sym, ap, subst, ◌∙◌, append_assoc}
+use Rattle.std.proofs.Common.{◌≡◌, ℕ, ◌⊎◌, inl, inr, Bool, true, false, cond, List, [], ◌∷◌, ◌++◌, map, Option, Some, None, refl, sym, ap, subst, ◌∙◌, append_assoc, arith}
 use Rattle.job_protocol.specs.Prelude.{All, Contains, checks_partitions, is_serial}
 use Rattle.job_facts.specs.Prelude.{option_map, is_some, Actor, Attempt, Committer, Magic, Request, ListPage, PageEntry, Reply, Page, Refused, NoSuchKey, NoSuchFile, Answered, Entry, run, Follows, spent_in, WornFirst, File, Who, Script, Drawn, Known, Op, TaskEnd, files, paths_of, partitions, as_made, record_key, Walked, More, Whole, sweep_hears, all_go, GoesOn, AllSent, IsGone, upload_hears, Setting, Operation, TheWrite, TheTaskCommit, TheTaskAbort, Running, who, asks, wants, advance, tells, start_of, over, spare_of, is_fault, TaskIs, Reports, actor_of}
 use Rattle.job_spec.proofs.Common.{first_spent, faults, some_is, none_some, false_true}
@@ -26,19 +26,11 @@ module _ (w : Script) (a : Who) (all : List Entry) (sent : Bool) where
   Write (writes.WriteOver end) = Ends ops.Write w a all sent end
   Write _ = Unit {0}
 
-  writing_so : (fs : List File) → Write (writes.writing fs)
-  writing_so [] = inr tt
-  writing_so (f ∷ fs) = tt
-
   write_so : (minimum : ℕ) (t : writes.Write) (r : Reply) → Write t → Write (writes.write_hears w minimum t r)
-  write_so minimum (writes.Uploads f fs u) r h = elim (upload_hears w minimum f u r) as (λ v. Write (writes.uploaded w f fs v)) [ IsGone ↦ inr refl | _ ↦ tt ]
-  write_so minimum (writes.Marking f fs) r h = tt
-  write_so minimum (writes.Recording f fs) r h = writing_so fs
-  write_so minimum (writes.WriteOver end) r h = h
+  write_so minimum t r h = grind arith
 
   write_begun : (c : Committer) (fs : List File) → Write (writes.write_start_by c fs)
-  write_begun Magic fs = writing_so fs
-  write_begun _ fs = inr tt
+  write_begun c fs = grind arith
 
   -- ---- a commit
 
@@ -55,26 +47,19 @@ module _ (w : Script) (a : Who) (all : List Entry) (sent : Bool) where
   Commit _ = Unit {0}
 
   reading_so : (cs fs : List File) → Commit (commits.reading cs fs)
-  reading_so cs [] = tt
-  reading_so cs (f ∷ fs) = tt
+  reading_so cs fs = grind arith
 
   looked_so : (x : Walked (List ℕ)) → Commit (commits.looked w a x)
-  looked_so (More keys) = tt
-  looked_so (Whole keys) =
-      let cs = commits.in_order w a keys in
-      elim (commits.least_missing keys (map (record_key w a) (files w a))) as (λ o. Commit (commits.looked_at o cs)) [ Some k ↦ inr refl | None ↦ reading_so cs cs ]
+  looked_so x = grind arith
 
   record_so : (cs : List File) (f : File) (fs : List File) (r : Reply) → Commit (commits.read_record w a cs f fs r)
-  record_so cs f fs (Refused NoSuchKey) = inr refl
-  record_so cs f fs _ = reading_so cs fs
+  record_so cs f fs r = grind arith
 
   storing_so : (fs : List File) → Commit (commits.storing fs)
-  storing_so [] = tt
-  storing_so (f ∷ fs) = tt
+  storing_so fs = grind arith
 
   checking_so : (ds : List (List ℕ)) → Checked ds → Commit (commits.checking w a ds)
-  checking_so [] h = storing_so (files w a)
-  checking_so (d ∷ ds) h = h
+  checking_so ds h = grind arith
 
   -- by the entry that tells the page
   module _ (d : List ℕ) (ds : List (List ℕ)) (e : Entry) (is_entry : Contains all e) (asked : e.request ≡ ListPage w.dest.bucket (commits.partition_prefix w d) false [] 1) (h : Checked (d ∷ ds)) where
@@ -92,9 +77,7 @@ module _ (w : Script) (a : Who) (all : List Entry) (sent : Bool) where
     checked_so _ o = h
 
   renamed_so : (r : Reply) (b : Bool) → Commit (commits.renamed w a r b)
-  renamed_so (Refused NoSuchFile) true = inr tt
-  renamed_so (Refused NoSuchFile) false = inr refl
-  renamed_so _ b = inr tt
+  renamed_so r b = grind arith
 
   commit_so : (minimum : ℕ) (k : Known) (t : commits.TaskCommit) (e : Entry) → Contains all e → commits.task_commit_asks w a k t ≡ Some e.request → (r : Reply) (b : Bool) → e.outcome ≡ Answered r → Commit t → Commit (commits.task_commit_hears w minimum a t r b)
   commit_so minimum k (commits.Looking keys) e i asked r b o h = looked_so (walked keys r)
@@ -108,8 +91,7 @@ module _ (w : Script) (a : Who) (all : List Entry) (sent : Bool) where
   commit_so minimum k (commits.TaskCommitOver end) e i asked r b o h = h
 
   to_check_so : (b : Bool) → checks_partitions w.committer w.mode ≡ b → Commit (commits.checking w a (cond b (partitions (paths_of (files w a))) []))
-  to_check_so true e = checking_so (partitions (paths_of (files w a))) (record { checks = e; before = []; parts = refl; free = All-nil (λ b. WasListed w all b []) })
-  to_check_so false e = storing_so (files w a)
+  to_check_so b h = grind arith
 
   commit_begun : (c : Committer) → Commit (commits.task_commit_start_by c w a)
   commit_begun Magic = tt
@@ -121,21 +103,11 @@ module _ (w : Script) (a : Who) (all : List Entry) (sent : Bool) where
   Abort (aborts.TaskAbortOver end) = Ends ops.Abort w a all sent end
   Abort _ = sent ≡ false
 
-  dropping_so : (c : Committer) (b : Bool) (ds : List Drawn) → sent ≡ false → Abort (aborts.dropping c b ds)
-  dropping_so Magic b [] h = h
-  dropping_so _ true [] h = h
-  dropping_so _ false [] h = inr h
-  dropping_so c b (d ∷ ds) h = h
-
   abort_so : (t : aborts.TaskAbort) (r : Reply) → Abort t → Abort (aborts.task_abort_hears w t r)
-  abort_so (aborts.Dropping d ds b) r h = dropping_so w.committer b ds h
-  abort_so (aborts.Sweeping s) r h = elim (sweep_hears all_go s r) as (λ o. Abort (aborts.sweeping o)) [ Some t ↦ h | None ↦ inr h ]
-  abort_so aborts.Removing r h = inr h
-  abort_so (aborts.TaskAbortOver end) r h = h
+  abort_so t r h = grind arith
 
 abort_begun : (w : Script) (a : Who) (all : List Entry) (sent : Bool) (k : Known) → Abort w a all sent (aborts.task_abort_by sent w.committer k)
-abort_begun w a all true k = inr refl
-abort_begun w a all false k = dropping_so w a all false w.committer k.put_sent (as_made k.drawn) refl
+abort_begun w a all sent k = grind arith
 
 -- ---- an attempt's operation
 
@@ -160,42 +132,19 @@ module _ (g : Setting) (a : Who) (all : List Entry) (sent : Bool) where
 
   -- where it is over, its end is one of these
   over_so : (op : Op) (m : Operation) → Op_is op g.script a all sent m → (e : TaskEnd) → over m ≡ Some (ends.Task e) → Ends op g.script a all sent e
-  over_so ops.Write (TheWrite t) h e is =
-      (elim t.operation as (λ v. Write g.script a all sent v → option_map ends.Task (writes.write_over v) ≡ Some (ends.Task e) → Ends ops.Write g.script a all sent e)
-      [ writes.WriteOver end ↦ λ h is. subst (Ends ops.Write g.script a all sent) (task_is is) h | _ ↦ λ h is. absurd (none_some refl is) ]) h is
-  over_so ops.Commit (TheTaskCommit t) h e is =
-      (elim t.operation as (λ v. Commit g.script a all sent v → option_map ends.Task (commits.task_commit_over v) ≡ Some (ends.Task e) → Ends ops.Commit g.script a all sent e)
-      [ commits.TaskCommitOver end ↦ λ h is. subst (Ends ops.Commit g.script a all sent) (task_is is) h | _ ↦ λ h is. absurd (none_some refl is) ]) h is
-  over_so ops.Abort (TheTaskAbort t) h e is =
-      (elim t.operation as (λ v. Abort g.script a all sent v → option_map ends.Task (aborts.task_abort_over v) ≡ Some (ends.Task e) → Ends ops.Abort g.script a all sent e)
-      [ aborts.TaskAbortOver end ↦ λ h is. subst (Ends ops.Abort g.script a all sent) (task_is is) h | _ ↦ λ h is. absurd (none_some refl is) ]) h is
-  over_so _ _ h e is = absurd h
+  over_so op m h e g = grind arith
 
 -- ---- as it begins it is not at fault
 
 write_calm : (c : Committer) (fs : List File) → is_fault (option_map ends.Task (writes.write_over (writes.write_start_by c fs))) ≡ false
-write_calm Magic [] = refl
-write_calm Magic (f ∷ fs) = refl
-write_calm _ fs = refl
-
-checking_begun : (w : Script) (a : Who) (ds : List (List ℕ)) → commits.task_commit_over (commits.checking w a ds) ≡ None
-checking_begun w a [] = elim (files w a) as (λ fs. commits.task_commit_over (commits.storing fs) ≡ None) [ [] ↦ refl | f ∷ fs ↦ refl ]
-checking_begun w a (d ∷ ds) = refl
+write_calm c fs = grind arith
 
 -- a commit is not even over
 pub commit_going : (c : Committer) (w : Script) (a : Who) → commits.task_commit_over (commits.task_commit_start_by c w a) ≡ None
-commit_going Magic w a = refl
-commit_going _ w a = checking_begun w a (commits.to_check w a)
-
-dropping_calm : (c : Committer) (b : Bool) (ds : List Drawn) → is_fault (option_map ends.Task (aborts.task_abort_over (aborts.dropping c b ds))) ≡ false
-dropping_calm Magic b [] = refl
-dropping_calm _ true [] = refl
-dropping_calm _ false [] = refl
-dropping_calm c b (d ∷ ds) = refl
+commit_going c w a = grind arith
 
 abort_calm : (sent : Bool) (c : Committer) (k : Known) → is_fault (option_map ends.Task (aborts.task_abort_over (aborts.task_abort_by sent c k))) ≡ false
-abort_calm true c k = refl
-abort_calm false c k = dropping_calm c k.put_sent (as_made k.drawn)
+abort_calm sent c k = grind arith
 
 -- ---- by its entries
 
@@ -222,12 +171,10 @@ run_so g a all sent op m (e ∷ es) among f h =
     (goes g (who a) all sent op m.operation m.known e (among e (Contains-append_left (e ∷ []) es e (Contains-push [] e))) f.0 h)
 
 fault_end : (e : TaskEnd) → is_fault (Some (ends.Task e)) ≡ true → e ≡ tasks.StoreFault
-fault_end tasks.StoreFault h = refl
-fault_end _ h = absurd (false_true refl h)
+fault_end e h = grind arith
 
 not_fault : (op : Op) (w : Script) (a : Who) (all : List Entry) (sent : Bool) (e : TaskEnd) → is_fault (Some (ends.Task e)) ≡ false → Ends op w a all sent e → TaskMay op w a all sent true e
-not_fault op w a all sent e h (inl is) = absurd (false_true h (ap (λ v. is_fault (Some (ends.Task v))) is))
-not_fault op w a all sent e h (inr may) = may
+not_fault op w a all sent e h g = grind arith
 
 pub task_ends : (g : Setting) (t a : ℕ) (op : Op) (r : Reports) (k : Known) (m : Operation) → start_of g (Attempt t a) op r k ≡ Some m → (es : List Entry) → Follows (wants g (Attempt t a)) (advance g (Attempt t a)) (record { operation = m; known = k }) es
     → (e : TaskEnd) → over (run (advance g (Attempt t a)) (record { operation = m; known = k }) es).operation ≡ Some (ends.Task e) → (worn : Option Request) × WornFirst g.script.retries es worn × TaskIs op g.script (who (Attempt t a)) es k.publish_sent true worn e
@@ -248,10 +195,4 @@ task_ends g t a op missing k m start es f e is =
 -- ---- with what a run says of what is gone
 
 pub task_joined : (op : Op) (w : Script) (a : Who) (es : List Entry) (sent cleaned : Bool) (worn : Option Request) (e : TaskEnd) → TaskIs op w a es sent true worn e → ((op ≡ ops.Abort → ⊥) → (name : List ℕ) → e ≡ tasks.Gone name → cleaned ≡ true) → TaskIs op w a es sent cleaned worn e
-task_joined op w a es sent cleaned (Some r) e h gone = h
-task_joined op w a es sent cleaned None e h gone = may op e h gone
-  where
-    may : (op : Op) (e : TaskEnd) → TaskMay op w a es sent true e → ((op ≡ ops.Abort → ⊥) → (name : List ℕ) → e ≡ tasks.Gone name → cleaned ≡ true) → TaskMay op w a es sent cleaned e
-    may ops.Write (tasks.Gone name) h gone = gone (λ e. absurd cc) name refl
-    may ops.Commit (tasks.Gone name) h gone = gone (λ e. absurd cc) name refl
-    may _ _ h gone = h
+task_joined op w a es sent cleaned worn e h g = grind arith

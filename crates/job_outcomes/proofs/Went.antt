@@ -1,5 +1,5 @@
 -- An operation of replies, by entries in a row: what holds as it begins holds at its end, or a request of it wore out.
-use Rattle.std.proofs.Common.{◌≡◌, ℕ, zero, suc, ◌⊎◌, inl, inr, Bool, true, cond, List, [], ◌∷◌, Option, Some, None, refl, ap, ◌∙◌}
+use Rattle.std.proofs.Common.{◌≡◌, ℕ, zero, suc, ◌⊎◌, inl, inr, Bool, true, cond, List, [], ◌∷◌, Option, Some, None, refl, ap, ◌∙◌, arith}
 use Rattle.job_facts.specs.Prelude.{Scene, answer, apply, effect, after_all, IsHonestOutcome, AreHonest, Request, Reply, Outcome, Answered, Slow, RequestLost, ReplyLost, Entry, run, Follows, Item, Got, WornOut, Retried, step, unanswered_by, wants_of, is_zero, worn_in}
 use Rattle.retries.specs.Prelude.{wears}
 use Rattle.job_spec.proofs.Common.{none_some}
@@ -25,10 +25,7 @@ module _ {M : Type 0} (retries : ℕ) (asks : M → Option Request) (after : M �
   missed : (m : M) (spare : ℕ) (repeated : Bool) (s : Scene) (r : Request) (es : List Entry) → ((t : Retried M) → On t s es) → holds s m → Follows (wants_of asks) (step retries after) (unanswered_by retries after m repeated spare) es → AreHonest s es
       → ((cond (is_zero spare) (Some r) (worn_in retries after (unanswered_by retries after m repeated spare) es) ≡ None) × holds (after_all s es) (run (step retries after) (unanswered_by retries after m repeated spare) es).operation)
       ⊎ ((q : Request) × (n : M) × (cond (is_zero spare) (Some r) (worn_in retries after (unanswered_by retries after m repeated spare) es) ≡ Some q) × ((run (step retries after) (unanswered_by retries after m repeated spare) es).operation ≡ after n WornOut))
-  missed m zero repeated s r es later h f honest =
-      let t : Retried M = unanswered_by retries after m repeated zero in
-      inr (r, m, refl, ap (λ l. (run (step retries after) t l).operation) (nothing_more t m refl es f))
-  missed m (suc n) repeated s r es later h f honest = later (unanswered_by retries after m repeated (suc n)) h f honest
+  missed m spare repeated s r es h g e f = grind (arith, nothing_more)
 
   one : (t : Retried M) (s : Scene) (r : Request) (o : Outcome) (es : List Entry) → ((u : Scene) (v : Retried M) → On v u es) → holds s t.operation → asks t.operation ≡ Some r → Follows (wants_of asks) (step retries after) (step retries after t o) es → IsHonestOutcome o (answer s r) → AreHonest (effect s r o) es
       → ((cond (wears t o) (Some r) (worn_in retries after (step retries after t o) es) ≡ None) × holds (after_all (effect s r o) es) (run (step retries after) (step retries after t o) es).operation)

@@ -17,25 +17,12 @@ abbrev First : (ℕ → Bool) → ℕ → ℕ → Option ℕ → Type 0
 First test t n (Some v) = IsFirst test t n v
 First test t n None = (x : ℕ) → t ≤ x → x < t + n → test x ≡ false
 
-here_or_later : (t x : ℕ) → t ≤ x → (t ≡ x) ⊎ (t + 1 ≤ x)
-here_or_later t x h = grind arith
-
 first : (test : ℕ → Bool) (t n : ℕ) → First test t n (first_where test t n)
 first test t zero = λ x low high. absurd (omega arith)
 first test t (suc n) = by (test t) refl (first_where test (t + 1) n) (first test (t + 1) n)
   where
     by : (b : Bool) → test t ≡ b → (o : Option ℕ) → First test (t + 1) n o → First test t (suc n) (cond b (Some t) o)
-    by true h o later = record { from = omega arith; within = omega arith; passes = h; least = λ x low high. absurd (omega arith) }
-    by false h None none = λ x low high. elim (here_or_later t x low) [ inl i ↦ ap test (sym i) ∙ h | inr l ↦ none x l (omega arith) ]
-    by false h (Some v) f =
-        let a : t + 1 ≤ v = f.from in
-        let b : v < t + 1 + n = f.within in
-        record {
-          from = omega arith;
-          within = omega arith;
-          passes = f.passes;
-          least = λ x low high. elim (here_or_later t x low) [ inl i ↦ ap test (sym i) ∙ h | inr l ↦ f.least x l high ];
-        }
+    by b h o g = grind arith
 
 -- ---- the two least
 

@@ -1,5 +1,5 @@
 -- Once the job's commit is over, its driver does no more than abort and clean, and reads no set.
-use Rattle.std.proofs.Common.{◌≡◌, ℕ, inl, inr, true, false, List, [], ◌∷◌, ◌++◌, length, append_assoc, append-nil, Option, Some, None, refl, sym, ap, subst, ◌∙◌}
+use Rattle.std.proofs.Common.{◌≡◌, ℕ, inl, inr, true, false, List, [], ◌∷◌, ◌++◌, length, append_assoc, append-nil, Option, Some, None, refl, sym, ap, subst, ◌∙◌, arith}
 use Rattle.job_steps.specs.Prelude.{Content, Driver, Request, Entry, IsLegal, Script, Op, Event, Do, Start, Commit, CommitOver, commit_asks, Setting, Operation, TheCommit, TheClean, Running, who, asks, tells, wants, is_reading, put, strange_entry, IsOpening, is_just_set, Play, Transition, Opens, Sends, Strays, open_running, hear, happen, MayOpen, MaySend, Reachable, operation_of}
 use Rattle.job_spec.proofs.Common.{none_some, false_true}
 use Rattle.job_model.specs.declared.events.Op.TheVariants as ops
@@ -22,39 +22,21 @@ IsAfter (Some (TheClean t)) = Unit {0}
 IsAfter _ = ⊥
 
 no_setup : (d : Option Operation) → IsAfter d → IsSettingUp d → ⊥
-no_setup (Some (TheCommit c)) h s = s
-no_setup (Some (TheClean t)) h s = s
-no_setup _ h s = h
+no_setup d h g = grind arith
 
 no_commit : (d : Option Operation) → IsAfter d → is_just_set d ≡ true → ⊥
-no_commit (Some (TheCommit c)) h s = false_true refl s
-no_commit (Some (TheClean t)) h s = false_true refl s
-no_commit _ h s = h
-
-over_asks : (w : Script) (c : Commit) (r : Request) → IsOver c → commit_asks w c ≡ Some r → ⊥
-over_asks w (CommitOver end) r h e = none_some refl e
-over_asks w _ r h e = h
+no_commit d h g = grind arith
 
 -- it reads no set then
 driver_reads : (g : Setting) (r : Request) (m : Running) → IsAfter (Some m.operation) → wants g Driver m ≡ Some r → (t : ℕ) → is_reading g.script t r ≡ false
-driver_reads g r m h e t = by m.operation h e
-  where
-    by : (op : Operation) → IsAfter (Some op) → asks g (who Driver) m.known op ≡ Some r → is_reading g.script t r ≡ false
-    by (TheClean c) h e = (clean_plain g.script c.operation r e).1 t
-    by (TheCommit c) h e = absurd (over_asks g.script c r h e)
-    by _ h e = absurd h
+driver_reads g r m h e t = grind arith
 
 none_last : (w : Script) (es : List Entry) (e : Entry) → NoneRead w es → (e.actor ≡ Driver → (t : ℕ) → is_reading w t e.request ≡ false) → NoneRead w (es ++ e ∷ [])
 none_last w [] e h one = (one, tt)
 none_last w (x ∷ es) e h one = (h.0, none_last w es e h.1 one)
 
 heard_after : (g : Setting) (m : Running) (e : Entry) → IsAfter (Some m.operation) → wants g Driver m ≡ Some e.request → IsAfter (operation_of (hear g Driver (Some m) e))
-heard_after g m e h asked = by m.operation h asked
-  where
-    by : (op : Operation) → IsAfter (Some op) → asks g (who Driver) m.known op ≡ Some e.request → IsAfter (Some (tells g (who Driver) op e.outcome))
-    by (TheClean c) h q = tt
-    by (TheCommit c) h q = absurd (over_asks g.script c e.request h q)
-    by _ h q = absurd h
+heard_after g m e h f = grind arith
 
 module _ (g : Setting) (single : g.shared ≡ false) (opening : Content) (j : IsLegal g.script) (is_opening : IsOpening g opening) where
   begun_after : (y : Play) → Reachable g opening y → (op : Op) → IsAfter (operation_of (y.running Driver)) → y.now ≡ None → Begins (y.past.state Driver).stage Driver op (y.past.state Driver).life (y.past.state Driver).stage
@@ -65,9 +47,7 @@ module _ (g : Setting) (single : g.shared ≡ false) (opening : Content) (j : Is
   begun_after y past _ h idle b = subst (λ op. IsAfter (Some op)) (sym (clean_alone g single)) tt
 
   opened_after : (y : Play) → Reachable g opening y → (ev : Event) → MayOpen g y ev None → IsAfter (operation_of (y.running Driver)) → IsAfter (operation_of (open_running g y ev Driver))
-  opened_after y past (Do Driver op) may h = begun_after y past op h may.idle (begins_so (y.past.state Driver).stage Driver op (y.past.state Driver).life (y.past.state Driver).stage may.refusal_is)
-  opened_after y past (Start Driver op) may h = begun_after y past op h may.idle (begins_so (y.past.state Driver).stage Driver op (y.past.state Driver).life (y.past.state Driver).stage may.refusal_is)
-  opened_after y past _ may h = h
+  opened_after y h ev g e = grind (arith, begun_after, begins_so)
 
   -- of one more sending
   module _ (y : Play) (e : Entry) (may : MaySend g opening y e) (h : IsAfter (operation_of (y.running Driver))) where
@@ -78,14 +58,7 @@ module _ (g : Setting) (single : g.shared ≡ false) (opening : Content) (j : Is
     then = put y.running e.actor (hear g e.actor (y.running e.actor) e) Driver
 
     sent_after : IsAfter (operation_of then)
-    sent_after = elim (same_or_not Driver e.actor) [
-      | inl s ↦
-          let d = by_driver s in
-          let heard : then ≡ hear g Driver (Some may.at) e =
-          put_here y.running e.actor (hear g e.actor (y.running e.actor) e) Driver s ∙ ap (λ m. hear g e.actor m e) may.is_at ∙ ap (λ a. hear g a (Some may.at) e) (sym s) in
-          subst (λ v. IsAfter (operation_of v)) (sym heard) (heard_after g may.at e d.0 d.1)
-      | inr ne ↦ subst (λ v. IsAfter (operation_of v)) (sym (put_other y.running e.actor (hear g e.actor (y.running e.actor) e) Driver ne)) h
-    ]
+    sent_after = grind (arith, same_or_not, by_driver, put_here, heard_after, put_other)
 
   -- what was sent since then, with no set read for the driver
   pub record After (y x : Play) : Type 0 where

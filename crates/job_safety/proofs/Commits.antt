@@ -35,16 +35,11 @@ use Rattle.job_protocol.proofs.Begun.{commit_alone}
 -- ---- plain facts
 
 over_is : (c : Commit) (e : CommitEnd) → commit_over c ≡ Some e → c ≡ CommitOver e
-over_is (CommitOver d) e o = ap CommitOver (some_is o)
-over_is _ e o = absurd (none_some refl o)
+over_is c e h = grind arith
 
 -- a commit that is over, by its end
 pub commit_back : (c : Commit) (e : CommitEnd) → option_map ends.Commit (commit_over c) ≡ Some (ends.Commit e) → c ≡ CommitOver e
-commit_back c e o =
-    let m = end_of ends.Commit (commit_over c) (ends.Commit e) o in
-    let same : ends.Commit m.0 ≡ ends.Commit e = m.2 in
-    let is : m.0 ≡ e = cc in
-    over_is c e (m.1 ∙ ap (λ v. Some v) is)
+commit_back c e h = grind arith
 
 -- a task that is missing is one of the job's
 missing_below : (w : Script) (f : Actor → Bool) (t : ℕ) → missing w f ≡ Some t → t < w.tasks
@@ -59,8 +54,7 @@ missing_below w f t e = let l : t < 0 + w.tasks = by 0 w.tasks e in omega arith
 
 -- a commit alone is told of want of memory so
 wanting_commit : (op : Op) (e : CommitEnd) → is_wanting Driver op (ends.Commit e) ≡ true → op ≡ ops.Commit
-wanting_commit ops.Commit e h = refl
-wanting_commit _ e h = absurd (false_true refl h)
+wanting_commit op e h = grind arith
 
 -- where a member stands in its list
 parted_at : {X : Type 0} (x : X) (xs : List X) → IsIn x xs → (before : List X) × (later : List X) × (xs ≡ before ++ x ∷ later)

@@ -35,9 +35,7 @@ before_by_front n a es fs late =
 
 -- and what it sent since, by the back alone
 pub since_by_cut : (n : ℕ) (a : Actor) (es fs : List Entry) → AllUpTo n es → AllFrom (n + 1) fs → since (n + 1) (by_actor a (es ++ fs)) ≡ by_actor a fs
-since_by_cut n a es fs early late =
-    ap (since (n + 1)) (filter-append (λ e. same_actor e.actor a) es fs)
-    ∙ since_cut n (by_actor a es) (by_actor a fs) (up_to_part n (λ e. same_actor e.actor a) es early) (from_part (n + 1) (λ e. same_actor e.actor a) fs late)
+since_by_cut n a es fs h g = grind (arith, filter-append, since_cut, up_to_part, from_part)
 
 pub all_by_back : (a : Actor) (es fs : List Entry) → AllBy a (es ++ fs) → AllBy a fs
 all_by_back a [] fs h = h

@@ -1,5 +1,5 @@
 -- Until the driver's set-up is over all of the job's entries are the driver's: no attempt has begun before.
-use Rattle.std.proofs.Common.{◌≡◌, ℕ, ◌⊎◌, inl, inr, ◌&&◌, true, false, cond, [], ◌∷◌, ◌++◌, length, slice_get, Option, Some, None, refl, sym, ap, subst, ◌∙◌}
+use Rattle.std.proofs.Common.{◌≡◌, ℕ, ◌⊎◌, inl, inr, ◌&&◌, true, false, cond, [], ◌∷◌, ◌++◌, length, slice_get, Option, Some, None, refl, sym, ap, subst, ◌∙◌, arith}
 use Rattle.job_spec.proofs.Common.{filter-append, none_some, false_true}
 use Rattle.job_steps.specs.Prelude.{Content, Actor, Driver, Entry, IsLegal, Script, Op, Event, Do, Start, Kill, Restart, SetupEnd, ActorEnd, OpEnd, Done, Busy, ActorStage, ActorState, Setting, Operation, TheCommit, TheClean, Running, over, Past, put, ended, is_new, needs_set, stage_begun, refusal, open_event, is_own, own, is_memory, AllBy, IsOpening, Play, Refuses, Opens, Sends, Finishes, Closes, Strays, open_running, MaySend, MayFinish, Reachable, nothing_happened, happens, operation_of, TheCheck, TheSparing}
 use Rattle.job_model.specs.declared.events.Op.TheVariants as ops
@@ -16,34 +16,14 @@ use Rattle.job_outcomes.proofs.RunEntries.{all_more}
 -- ---- stages
 
 behind_none : (op : Operation) → IsBehind (Some op) → kind op ≡ OfSetup → ⊥
-behind_none (TheCommit c) b e = let no : OfCommit ≡ OfSetup = e in absurd cc
-behind_none (TheClean t) b e = let no : OfClean ≡ OfSetup = e in absurd cc
-behind_none (TheCheck t) b e = let no : OfCommit ≡ OfSetup = e in absurd cc
-behind_none (TheSparing t) b e = let no : OfClean ≡ OfSetup = e in absurd cc
-behind_none _ b e = b
+behind_none op h g = grind arith
 
 -- a busy driver at its set-up is at its first stage
 new_of : (s : ActorStage) (op : Operation) → DriverAt s Busy (Some op) → kind op ≡ OfSetup → is_new s ≡ true
-new_of stage.New op h e = refl
-new_of stage.Set op h e = absurd (false_true h.0 refl)
-new_of _ op h e = absurd (behind_none op h e)
-
-begin_new : (op : Op) (s : ActorStage) → is_new (stage_begun Driver op s) ≡ true → is_new s ≡ true
-begin_new ops.Setup s n = n
-begin_new ops.Clean s n = n
-begin_new _ s n = absurd (false_true refl n)
+new_of s op h g = grind arith
 
 open_new : (w : Script) (p : Past) (ev : Event) → is_new ((open_event w p ev).state Driver).stage ≡ true → is_new (p.state Driver).stage ≡ true
-open_new w p (Do Driver op) n = begin_new op (p.state Driver).stage n
-open_new w p (Start Driver op) n = begin_new op (p.state Driver).stage n
-open_new w p (Kill Driver) n = n
-open_new w p Restart n = restarted_new (p.state Driver).stage n
-open_new w p _ n = n
-
-needs_other : (a : Actor) (op : Op) → (a ≡ Driver → ⊥) → needs_set a op ≡ true
-needs_other Driver op ne = absurd (ne refl)
-needs_other _ ops.Setup ne = refl
-needs_other _ _ ne = refl
+open_new w p ev h = grind arith
 
 -- ---- what is kept
 
@@ -72,10 +52,7 @@ module _ (g : Setting) (opening : Content) (j : IsLegal g.script) (is_opening : 
   -- ---- an event begins
 
   begun_nobody : (y : Play) (b : Actor) (op : Op) → Early y → (needs_set b op && is_new (y.past.state Driver).stage) ≡ false → is_new (y.past.state Driver).stage ≡ true → (v : Option Running) → (a : Actor) → (a ≡ Driver → ⊥) → put y.running b v a ≡ None
-  begun_nobody y b op old set new v a ne = elim (same_or_not a b) [
-    | inl s ↦ absurd (false_true set (ap (λ c. c && is_new (y.past.state Driver).stage) (needs_other b op (λ d. ne (s ∙ d))) ∙ new))
-    | inr other ↦ put_other y.running b v a other ∙ old.nobody new a ne
-  ]
+  begun_nobody y b op h g e v a f = grind arith
 
   opened_nobody : (y : Play) (ev : Event) → Early y → refusal y.past.state ev ≡ None → is_new (y.past.state Driver).stage ≡ true → (a : Actor) → (a ≡ Driver → ⊥) → open_running g y ev a ≡ None
   opened_nobody y (Do b op) old fine new a ne = begun_nobody y b op old (begins_so (y.past.state Driver).stage b op (y.past.state b).life (y.past.state b).stage fine).set new _ a ne
@@ -85,10 +62,7 @@ module _ (g : Setting) (opening : Content) (j : IsLegal g.script) (is_opening : 
   -- ---- a request is sent
 
   sender : (y : Play) (e : Entry) → Early y → MaySend g opening y e → is_new (y.past.state Driver).stage ≡ true → e.actor ≡ Driver
-  sender y e old may new = elim (same_or_not e.actor Driver) [
-    | inl s ↦ s
-    | inr ne ↦ absurd (none_some (old.nobody new e.actor ne) may.is_at)
-  ]
+  sender y e h g f = grind arith
 
   -- ---- an operation ends
 
@@ -99,12 +73,7 @@ module _ (g : Setting) (opening : Content) (j : IsLegal g.script) (is_opening : 
   ended_new y past e busy (inr q) new = (driver_ends (y.live.state Driver).stage q.0.operation e (driver_busy y past q.0 busy q.1) q.2).1 new
 
   finished_new : (y : Play) → Reachable g opening y → (v : ActorEnd) → MayFinish y v → is_new (put y.live.state v.actor (ended v.end (y.live.state v.actor).stage) Driver).stage ≡ true → is_new (y.live.state Driver).stage ≡ true
-  finished_new y past v may new = elim (same_or_not Driver v.actor) [
-    | inl s ↦
-        subst (λ a. (y.live.state a).life ≡ Busy → ((is_memory v.end ≡ true) ⊎ ((m : Running) × (y.running a ≡ Some m) × (over m.operation ≡ Some v.end))) → is_new (ended v.end (y.live.state a).stage).stage ≡ true → is_new (y.live.state Driver).stage ≡ true) s
-        (ended_new y past v.end) may.busy (may_end y v may) (ap (λ (t : ActorState). is_new t.stage) (sym (put_here y.live.state v.actor _ Driver s)) ∙ new)
-    | inr ne ↦ ap (λ (t : ActorState). is_new t.stage) (sym (put_other y.live.state v.actor _ Driver ne)) ∙ new
-  ]
+  finished_new y h v g e = grind (arith, same_or_not, ended_new, may_end, put_here, put_other)
 
   setup_new : (y : Play) → Reachable g opening y → (e : SetupEnd) → (y.live.state Driver).life ≡ Busy → (is_memory (ends.Setup e) ≡ true) ⊎ ((m : Running) × (y.running Driver ≡ Some m) × (over m.operation ≡ Some (ends.Setup e)))
       → (is_memory (ends.Setup e) ≡ true) ⊎ (is_new (y.live.state Driver).stage ≡ true)

@@ -28,8 +28,7 @@ pub record Ending (g : Setting) (opening : Content) (x : Play) (j : ℕ) (a : Ac
 
 -- a refused event ends no operation
 told_fine : (ev : Event) (end : EventEnd) (i : ℕ) (y : ActorEnd) → slice_get (told ev end) i ≡ Some y → is_refused end ≡ false
-told_fine ev (Refused f) i y e = absurd (none_some refl e)
-told_fine ev _ i y e = refl
+told_fine ev end i y h = grind arith
 
 -- the ends of a run between its events
 pub ahead_none : (x : Play) → x.now ≡ None → Ahead x x.ends
@@ -53,19 +52,11 @@ module _ (g : Setting) (opening : Content) (x : Play) (run_x : Reachable g openi
 
     -- what was begun last, before the event was over
     doing_is : (a : Actor) (ev : Event) (d : Doing) → c.may.event ≡ ev → (after_event w (past w (take j x.ends)) ev end).doing a ≡ Some d → z.live.doing a ≡ Some d
-    doing_is a ev d same e =
-        let t = told_all g opening z c.happened in
-        let o = t.opened c.may.event c.may.during in
-        let before : past w (take j x.ends) ≡ z.past = ap (past w) ends_before ∙ sym t.past_is in
-        let after : after_event w z.past c.may.event end ≡ count z.live =
-        after_is w z.past c.may.event end (λ f q. turns_refused w z.past.state c.may.event end _ f c.may.turns q) ∙ ap (λ ys. count (end_ops (open_event w z.past c.may.event) ys)) c.may.told_is ∙ ap count (sym o.live_is) in
-        ap (λ (p : Past). p.doing a) (sym (ap (λ p. after_event w p ev end) before ∙ ap (λ v. after_event w z.past v end) (sym same) ∙ after)) ∙ e
+    doing_is a ev d h g = grind (arith, told_all, ends_before, after_is, turns_refused)
 
     -- up to the end of the event nothing of the job's has come behind it
     pub journal_until : until (j + 1) x.journal ≡ z.journal ++ until (j + 1) c.entries
-    journal_until =
-        let up : AllUpTo (j + 1) z.journal = subst (λ n. AllUpTo (n + 1) z.journal) c.count (told_all g opening z c.happened).up_to in
-        ap (until (j + 1)) c.all ∙ filter-append (λ e. nat_le e.event (j + 1)) z.journal c.entries ∙ ap (λ l. l ++ until (j + 1) c.entries) (until_all (j + 1) z.journal up)
+    journal_until = grind (arith, told_all, filter-append, until_all)
 
     pub until_strange : AreStrange (until (j + 1) c.entries)
     until_strange = let two : j + 2 ≡ j + 1 + 1 = omega arith in strange_until (j + 1) c.entries (subst (λ n. AllFrom n (own c.entries)) two c.own_after)

@@ -112,20 +112,7 @@ module _ (g : Setting) (opening : Content) where
   began_on : (y z : Play) (a : Actor) (d : Doing) → ((ends : List EventEnd) → Ahead z ends → Ahead y ends) → (b : Began g opening y a d) → (entries : List Entry)
       → z.journal ≡ b.at.journal ++ entries → AllFrom d.since entries → Meanwhile g opening a (happen g b.at (Opens b.event)) entries z
       → Began g opening z a d
-  began_on y z a d back b entries all after meanwhile = record {
-    at = b.at;
-    happened = b.happened;
-    event = b.event;
-    may = b.may;
-    begins = b.begins;
-    since_is = b.since_is;
-    reports_is = b.reports_is;
-    entries = entries;
-    all = all;
-    after = after;
-    meanwhile = meanwhile;
-    ahead = λ ends v. b.ahead ends (back ends v);
-  }
+  began_on y z a d h b entries g e f = grind arith
 
   still_began : (y : Play) (h : Transition) (a : Actor) (d : Doing) → (happen g y h).journal ≡ y.journal → (happen g y h).running a ≡ y.running a → ((ends : List EventEnd) → Ahead (happen g y h) ends → Ahead y ends) → Began g opening y a d → Began g opening (happen g y h) a d
   still_began y h a d same at back b = began_on y (happen g y h) a d back b b.entries (same ∙ b.all) b.after (was_silent b.entries y (happen g y h) b.meanwhile same at back)

@@ -1,5 +1,5 @@
 -- Of which kind an operation is, from its beginning to its end.
-use Rattle.std.proofs.Common.{◌≡◌, ◌⊎◌, inl, inr, true, List, [], ◌∷◌, Option, Some, None, refl, sym, ap, ◌∙◌}
+use Rattle.std.proofs.Common.{◌≡◌, ◌⊎◌, inl, inr, true, List, [], ◌∷◌, Option, Some, None, refl, sym, ap, ◌∙◌, arith}
 use Rattle.job_steps.specs.Prelude.{option_map, Actor, Driver, Outcome, Entry, run, fresh, Who, Known, Op, SetupEnd, TaskEnd, CommitEnd, CleanEnd, OpEnd, setup_start, setup_over, commit_over, clean_over, Setting, Operation, TheSetup, TheCommit, TheClean, Running, who, tells, advance, start_of, over, is_memory, Reports, TheCheck, commit_of, clean_of, TheSparing, step}
 use Rattle.job_spec.proofs.Common.{some_is, none_some, false_true}
 use Rattle.job_model.specs.declared.events.Op.TheVariants as ops
@@ -39,8 +39,7 @@ end_kind ends.NoMemory = OfNone
 
 -- what an end is of
 pub end_of : {X Y : Type 0} (f : X → Y) (o : Option X) (y : Y) → option_map f o ≡ Some y → (x : X) × (o ≡ Some x) × (f x ≡ y)
-end_of f None y e = absurd (none_some refl e)
-end_of f (Some x) y e = (x, refl, some_is e)
+end_of f o y h = grind arith
 
 pub over_kind : (op : Operation) (e : OpEnd) → over op ≡ Some e → kind op ≡ end_kind e
 over_kind (TheSetup t) e o = ap end_kind (end_of ends.Setup (setup_over t.operation) e o).2
@@ -51,8 +50,7 @@ over_kind (TheSparing t) e o = ap end_kind (end_of ends.Clean (sparing_over t.op
 over_kind _ e o = ap end_kind (end_of ends.Task _ e o).2
 
 kind_tells : (g : Setting) (a : Who) (op : Operation) (o : Outcome) → kind (tells g a op o) ≡ kind op
-kind_tells g a (TheCheck t) o = after_check_so g (λ op. kind op ≡ OfCommit) refl (λ u. refl) (step g.script.retries (check_after g.script) t o)
-kind_tells g a _ o = refl
+kind_tells g a op o = grind arith
 
 pub kind_run : (g : Setting) (a : Actor) (m : Running) (es : List Entry) → kind (run (advance g a) m es).operation ≡ kind m.operation
 kind_run g a m [] = refl
@@ -63,47 +61,29 @@ kind_run g a m (e ∷ es) = kind_run g a (advance g a m e.outcome) es ∙ kind_t
 commit_kind : (g : Setting) (r : Reports) → kind (commit_of g r) ≡ OfCommit
 commit_kind g r = commit_of_so g (λ op. kind op ≡ OfCommit) (λ missing. refl) (λ t. refl) r
 
-clean_kind : (g : Setting) → kind (clean_of g) ≡ OfClean
-clean_kind g = clean_of_so g (λ op. kind op ≡ OfClean) refl refl
-
 pub driver_setup : (g : Setting) (op : Op) (reports : Reports) (k : Known) (m : Operation) → start_of g Driver op reports k ≡ Some m → kind m ≡ OfSetup → m ≡ TheSetup (fresh g.script.retries setup_start)
-driver_setup g ops.Setup r k m b e = sym (some_is b)
-driver_setup g ops.Write r k m b e = absurd (none_some refl b)
-driver_setup g ops.Commit r k m b e = let no : OfCommit ≡ OfSetup = sym (commit_kind g r) ∙ ap kind (some_is b) ∙ e in absurd cc
-driver_setup g _ r k m b e = let no : OfClean ≡ OfSetup = sym (clean_kind g) ∙ ap kind (some_is b) ∙ e in absurd cc
+driver_setup g op reports k m h e = grind arith
 
 -- a commit, or the check before it; and an abort or clean
 pub driver_commit : (g : Setting) (op : Op) (reports : Reports) (k : Known) (m : Operation) → start_of g Driver op reports k ≡ Some m → kind m ≡ OfCommit → (op ≡ ops.Commit) × (m ≡ commit_of g reports)
-driver_commit g ops.Setup r k m b e = let no : OfSetup ≡ OfCommit = ap kind (some_is b) ∙ e in absurd cc
-driver_commit g ops.Write r k m b e = absurd (none_some refl b)
-driver_commit g ops.Commit r k m b e = (refl, sym (some_is b))
-driver_commit g _ r k m b e = let no : OfClean ≡ OfCommit = sym (clean_kind g) ∙ ap kind (some_is b) ∙ e in absurd cc
+driver_commit g op reports k m h e = grind arith
 
 pub driver_clean : (g : Setting) (op : Op) (reports : Reports) (k : Known) (m : Operation) → start_of g Driver op reports k ≡ Some m → kind m ≡ OfClean → ((op ≡ ops.Abort) ⊎ (op ≡ ops.Clean)) × (m ≡ clean_of g)
-driver_clean g ops.Setup r k m b e = let no : OfSetup ≡ OfClean = ap kind (some_is b) ∙ e in absurd cc
-driver_clean g ops.Write r k m b e = absurd (none_some refl b)
-driver_clean g ops.Commit r k m b e = let no : OfCommit ≡ OfClean = sym (commit_kind g r) ∙ ap kind (some_is b) ∙ e in absurd cc
-driver_clean g ops.Abort r k m b e = (inl refl, sym (some_is b))
-driver_clean g ops.Clean r k m b e = (inr refl, sym (some_is b))
+driver_clean g op reports k m h e = grind arith
 
 -- ---- ends for want of memory
 
 pub memory_setup : (e : SetupEnd) → is_memory (ends.Setup e) ≡ true → e ≡ setups.NoMemory
-memory_setup setups.NoMemory h = refl
-memory_setup _ h = absurd (false_true refl h)
+memory_setup e h = grind arith
 
 pub memory_commit : (e : CommitEnd) → is_memory (ends.Commit e) ≡ true → e ≡ commits.NoMemory
-memory_commit commits.NoMemory h = refl
-memory_commit _ h = absurd (false_true refl h)
+memory_commit e h = grind arith
 
 pub memory_check : (e : CheckEnd) → is_memory (ends.Check e) ≡ true → e ≡ checks.NoMemory
-memory_check checks.NoMemory h = refl
-memory_check _ h = absurd (false_true refl h)
+memory_check e h = grind arith
 
 pub memory_clean : (e : CleanEnd) → is_memory (ends.Clean e) ≡ true → e ≡ cleans.NoMemory
-memory_clean cleans.NoMemory h = refl
-memory_clean _ h = absurd (false_true refl h)
+memory_clean e h = grind arith
 
 pub memory_task : (e : TaskEnd) → is_memory (ends.Task e) ≡ true → e ≡ tasks.NoMemory
-memory_task tasks.NoMemory h = refl
-memory_task _ h = absurd (false_true refl h)
+memory_task e h = grind arith

@@ -1,5 +1,5 @@
 -- The journal of a run where an operation began and ended: what was before, what was between, and what the actor itself sent.
-use Rattle.std.proofs.Common.{◌≡◌, ℕ, ◌+◌, ◌≤◌, List, ◌++◌, length, append_assoc, sym, ap, subst, ◌∙◌}
+use Rattle.std.proofs.Common.{◌≡◌, ℕ, ◌+◌, ◌≤◌, List, ◌++◌, length, append_assoc, sym, ap, subst, ◌∙◌, arith}
 use Rattle.job_steps.specs.Prelude.{Content, moment, after_all, AreHonest, Actor, Entry, OpEnd, Setting, Doing, before, since, by_actor, AllFrom, AllUpTo, Play}
 use Rattle.s3_types.specs.Store as store
 use Rattle.job_steps.proofs.Told.{told_all}
@@ -31,10 +31,7 @@ module _ (g : Setting) (opening : Content) (x : Play) (j : ℕ) (a : Actor) (d :
   whole = n.closed.all ∙ ap (λ l. l ++ n.closed.entries) start.all ∙ append_assoc s.journal start.entries n.closed.entries
 
   pub before_is : before d.since x.journal ≡ s.journal
-  before_is =
-      let here : before d.since (s.journal ++ start.entries) ≡ s.journal =
-      subst (λ k. AllFrom k start.entries → before k (s.journal ++ start.entries) ≡ s.journal) (sym start.since_is) (before_cut (length s.ends) s.journal start.entries early) start.after in
-      ap (before d.since) n.closed.all ∙ before_front d.since z.journal n.closed.entries late ∙ ap (before d.since) start.all ∙ here
+  before_is = grind (arith, before_cut, early, before_front, late)
 
   -- the scene that it began in
   pub scene_is : moment opening x.journal (length (before d.since x.journal)) ≡ after_all (store.opening opening) s.journal
@@ -45,9 +42,7 @@ module _ (g : Setting) (opening : Content) (x : Play) (j : ℕ) (a : Actor) (d :
 
   -- its own entries
   pub mine : es ≡ by_actor a start.entries
-  mine =
-      n.entries_are ∙ ap (λ l. since d.since (by_actor a l)) start.all
-      ∙ subst (λ k. AllFrom k start.entries → since k (by_actor a (s.journal ++ start.entries)) ≡ by_actor a start.entries) (sym start.since_is) (since_by_cut (length s.ends) a s.journal start.entries early) start.after
+  mine = grind (arith, since_by_cut, early)
 
   pub honest : AreHonest (after_all (store.opening opening) s.journal) start.entries
   honest = honest_back (store.opening opening) s.journal start.entries (subst (AreHonest (store.opening opening)) start.all (told_all g opening z n.closed.happened).honest)

@@ -17,10 +17,7 @@ strange_until n [] h = tt
 strange_until n (e ∷ es) h = by (is_own e.actor) refl (nat_le e.event n) refl h (λ g. strange_until n es g)
   where
     by : (b : Bool) → is_own e.actor ≡ b → (c : Bool) → nat_le e.event n ≡ c → AllFrom (n + 1) (cond b (e ∷ own es) (own es)) → (AllFrom (n + 1) (own es) → AreStrange (until n es)) → AreStrange (cond c (e ∷ until n es) (until n es))
-    by true is false low h rest = rest h.1
-    by false is false low h rest = rest h
-    by false is true low h rest = (is, rest h)
-    by true is true low h rest = let one : n + 1 ≤ e.event = h.0 in let late : n < e.event = omega arith in absurd (false_true (above_so e.event n late) low)
+    by b h c g e f = grind arith
 
 pub strange_by : (a : Actor) → is_own a ≡ true → (es : List Entry) → AreStrange es → by_actor a es ≡ []
 strange_by a own [] h = refl

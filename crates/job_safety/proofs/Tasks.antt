@@ -1,5 +1,5 @@
 -- How attempts' operations end in a run, and that a commit that is done has published.
-use Rattle.std.proofs.Common.{◌≡◌, ℕ, ◌+◌, inl, inr, Bool, true, false, List, [], ◌∷◌, Option, Some, None, refl, sym, ap, subst, ◌∙◌}
+use Rattle.std.proofs.Common.{◌≡◌, ℕ, ◌+◌, inl, inr, Bool, true, false, List, [], ◌∷◌, Option, Some, None, refl, sym, ap, subst, ◌∙◌, arith}
 use Rattle.job_steps.specs.Prelude.{option_map, Content, Attempt, Request, Outcome, Entry, run, WornFirst, Who, IsLegal, Known, Op, TaskEnd, TaskCommitOver, task_commit_over, knows, Setting, Operation, TheSetup, TheTaskCommit, Running, tells, advance, start_of, over, has_cleaned, Doing, clean_event, until, by_actor, until_last, known_then, TaskIs, WasPublished, setting, IsOpening, Play, Closes, happen, Reachable, happens, times, IsRun, operation_of, Reports, missing, TheCheck, step}
 use Rattle.job_spec.proofs.Common.{some_is, none_some, false_true}
 use Rattle.job_model.specs.declared.events.Op.TheVariants as ops
@@ -22,27 +22,21 @@ use Rattle.job_protocol.specs.Rechecks.{check_after}
 -- ---- of which operation
 
 abort_tells : (g : Setting) (a : Who) (op : Operation) (o : Outcome) → is_abort (tells g a op o) ≡ is_abort op
-abort_tells g a (TheSetup t) o = refl
-abort_tells g a (TheCheck t) o = after_check_so g (λ op. is_abort op ≡ false) refl (λ u. refl) (step g.script.retries (check_after g.script) t o)
-abort_tells g a _ o = refl
+abort_tells g a op o = grind arith
 
 abort_run : (g : Setting) (t n : ℕ) (m : Running) (es : List Entry) → is_abort (run (advance g (Attempt t n)) m es).operation ≡ is_abort m.operation
 abort_run g t n m [] = refl
 abort_run g t n m (e ∷ es) = abort_run g t n (advance g (Attempt t n) m e.outcome) es ∙ abort_tells g (attempt t n) m.operation e.outcome
 
 no_abort : (g : Setting) (t n : ℕ) (op : Op) (reports : Reports) (k : Known) (m : Operation) → start_of g (Attempt t n) op reports k ≡ Some m → (op ≡ ops.Abort → ⊥) → is_abort m ≡ false
-no_abort g t n ops.Write missing k m e ne = ap is_abort (sym (some_is e))
-no_abort g t n ops.Commit missing k m e ne = ap is_abort (sym (some_is e))
-no_abort g t n ops.Abort missing k m e ne = absurd (ne refl)
-no_abort g t n _ missing k m e ne = absurd (none_some refl e)
+no_abort g t n op reports k m h e = grind arith
 
 abbrev IsTaskCommit : Operation → Type 0
 IsTaskCommit (TheTaskCommit t) = Unit {0}
 IsTaskCommit _ = ⊥
 
 commit_tells : (g : Setting) (a : Who) (op : Operation) (o : Outcome) → IsTaskCommit op → IsTaskCommit (tells g a op o)
-commit_tells g a (TheTaskCommit t) o h = tt
-commit_tells g a _ o h = absurd h
+commit_tells g a op o h = grind arith
 
 commit_run : (g : Setting) (t n : ℕ) (m : Running) (es : List Entry) → IsTaskCommit m.operation → IsTaskCommit (run (advance g (Attempt t n)) m es).operation
 commit_run g t n m [] h = h

@@ -23,18 +23,11 @@ use Rattle.job_safety.proofs.Early.{driver_past}
 -- ---- plain facts
 
 just_setting : (d : Option Operation) → is_just_set d ≡ true → IsSettingUp d
-just_setting None e = tt
-just_setting (Some (TheSetup t)) e = tt
-just_setting _ e = absurd (false_true refl e)
+just_setting d h = grind arith
 
 -- the commit's event is the next one where it has begun then and not before
 commit_number : (k : Option ℕ) (n : ℕ) → is_begun k n ≡ false → is_begun k (n + 1) ≡ true → k ≡ Some (n + 1)
-commit_number None n before now = absurd (false_true refl now)
-commit_number (Some m) n before now =
-    let above : n < m = at_most_not m n before in
-    let below : m ≤ n + 1 = at_most_is m (n + 1) now in
-    let same : m ≡ n + 1 = omega arith in
-    ap (λ v. Some v) same
+commit_number k n h g = grind arith
 
 -- what a driver begins it may begin
 pub begins_at : (g : Setting) (y : Play) (ev : Event) (op : Op) → MayOpen g y ev None → IsBegin ev Driver op → Begins (y.past.state Driver).stage Driver op (y.past.state Driver).life (y.past.state Driver).stage
@@ -86,8 +79,7 @@ module _ (g : Setting) (opening : Content) (j : IsLegal g.script) (is_opening : 
         (timed_setting (begun_at (times w x.ends) (length s.at.ends)) op timed (just_setting op just)).0
 
     pub opened_commit : (ev : Event) → IsBegin ev Driver ops.Commit → operation_of (open_running g s.at ev Driver) ≡ Some (commit_of g (reports w s.at.past.reported))
-    opened_commit ev (inl is) = ap (λ v. operation_of (open_running g s.at v Driver)) is
-    opened_commit ev (inr is) = ap (λ v. operation_of (open_running g s.at v Driver)) is
+    opened_commit ev h = grind arith
 
     timed_now : is_begun k.commit (length s.at.ends + 1) ≡ true
     timed_now =

@@ -1,22 +1,16 @@
 -- Actors that are the same or not, and what is put at one of them.
-use Rattle.std.proofs.Common.{◌≡◌, ℕ, ◌⊎◌, inl, inr, nat_eq, true, false, cond, refl, sym, ap, subst, ◌∙◌}
+use Rattle.std.proofs.Common.{◌≡◌, ℕ, ◌⊎◌, inl, inr, nat_eq, true, false, cond, refl, sym, ap, subst, ◌∙◌, arith}
 use Rattle.job_spec.proofs.Common.{and_parts, eq_nat, nat_true, false_true, true_or_false}
 use Rattle.job_steps.specs.Prelude.{Actor, Driver, Attempt, Shell, same_actor, put}
 
 same_itself : (a : Actor) → same_actor a a ≡ true
-same_itself (Attempt t n) = rw (nat_true t t refl, nat_true n n refl) refl
-same_itself _ = refl
+same_itself a = grind arith
 
 pub same_true : (a b : Actor) → a ≡ b → same_actor a b ≡ true
 same_true a b e = ap (same_actor a) (sym e) ∙ same_itself a
 
 pub same_is : (a b : Actor) → same_actor a b ≡ true → a ≡ b
-same_is Driver Driver h = refl
-same_is (Attempt t n) (Attempt u k) h =
-    let p = and_parts (nat_eq t u) (nat_eq n k) h in
-    ap (λ (x : ℕ). Attempt x n) (eq_nat t u p.0) ∙ ap (λ (x : ℕ). Attempt u x) (eq_nat n k p.1)
-same_is Shell Shell h = refl
-same_is _ _ h = absurd (false_true refl h)
+same_is a b h = grind arith
 
 pub same_or_not : (a b : Actor) → (a ≡ b) ⊎ (a ≡ b → ⊥)
 same_or_not a b = elim (true_or_false (same_actor a b)) [ inl h ↦ inl (same_is a b h) | inr h ↦ inr (λ e. false_true h (same_true a b e)) ]
@@ -36,5 +30,4 @@ one_put P f c v q here old = elim (same_or_not q c) [ inl s ↦ subst P (sym (pu
 
 pub both_put : {X Y : Type 0} (P : X → Y → Type 0) (f : Actor → X) (h : Actor → Y) (c : Actor) (v : X) (u : Y) (q : Actor) → (q ≡ c → P v u) → ((q ≡ c → ⊥) → P (f q) (h q))
     → P (put f c v q) (put h c u q)
-both_put P f h c v u q here old =
-    one_put (λ x. P x (put h c u q)) f c v q (λ s. subst (P v) (sym (put_here h c u q s)) (here s)) (λ ne. subst (P (f q)) (sym (put_other h c u q ne)) (old ne))
+both_put P f h c v u q g e = grind arith

@@ -45,10 +45,7 @@ from_part n p (e ∷ es) all = elim (p e) as (λ b. AllFrom n (cond b (e ∷ fil
 
 -- one more of the job's own
 pub from_own : (n : ℕ) (es : List Entry) (e : Entry) → AllFrom n (own es) → n ≤ e.event → AllFrom n (own (es ++ e ∷ []))
-from_own n es e h one = elim (true_or_false (is_own e.actor)) [
-  | inl is ↦ subst (AllFrom n) (sym (kept (λ x. is_own x.actor) es e is)) (from_last n (own es) e h one)
-  | inr is ↦ subst (AllFrom n) (sym (left_out (λ x. is_own x.actor) es e is)) h
-]
+from_own n es e h g = grind (arith, kept, from_last, left_out)
 
 pub rising_last : (n : ℕ) (es : List Entry) (e : Entry) → AllUpTo n es → n ≤ e.event → IsRising es → IsRising (es ++ e ∷ [])
 rising_last n [] e all late h = (tt, tt)

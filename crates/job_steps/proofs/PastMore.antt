@@ -23,16 +23,14 @@ past_more w p (e ∷ es) [] ev x h = ap (λ v. after_event w p v x) (some_is h)
 past_more w p (e ∷ es) (y ∷ ys) ev x h = past_more w (after_event w p e y) es ys ev x h
 
 pub after_is : (w : Script) (p : Past) (ev : Event) (end : EventEnd) → ((f : EventFault) → end ≡ Refused f → ⊥) → after_event w p ev end ≡ count (end_ops (open_event w p ev) (told ev end))
-after_is w p ev (Refused f) n = absurd (n f refl)
-after_is w p ev _ n = refl
+after_is w p ev end h = grind arith
 
 pub ends_more : (p : Past) (xs : List ActorEnd) (y : ActorEnd) → end_ops p (xs ++ y ∷ []) ≡ end_op (end_ops p xs) y
 ends_more p [] y = refl
 ends_more p (x ∷ xs) y = ends_more (end_op p x) xs y
 
 pub opening_counts : (w : Script) (p : Past) (ev : Event) → (open_event w p ev).events ≡ p.events
-opening_counts w p (Do a op) = refl
-opening_counts w p _ = refl
+opening_counts w p ev = grind arith
 
 -- ---- lives
 
@@ -40,26 +38,19 @@ pub busy_so : (l : Life) → l ≡ Busy → is_busy l ≡ true
 busy_so l e = ap is_busy e
 
 pub busy_is : (l : Life) → is_busy l ≡ true → l ≡ Busy
-busy_is Busy h = refl
-busy_is _ h = absurd (false_true refl h)
+busy_is l h = grind arith
 
 pub busy_not : (l : Life) → l ≡ Busy → is_busy l ≡ false → ⊥
 busy_not l e h = false_true h (busy_so l e)
 
 -- who ended is not busy
 pub ended_idle : (e : OpEnd) (s : ActorStage) → is_busy (ended e s).life ≡ false
-ended_idle (ends.Setup setups.Done) s = refl
-ended_idle (ends.Commit commits.Committed) s = refl
-ended_idle (ends.Clean cleans.Done) s = refl
-ended_idle (ends.Check checks.Clear) s = refl
-ended_idle (ends.Task tasks.Done) s = refl
-ended_idle _ s = refl
+ended_idle e s = grind arith
 
 -- ---- turns
 
 pub turns_refused : (w : Script) (st : Actor → ActorState) (ev : Event) (end : EventEnd) (es : List Entry) (f : EventFault) → Turns w st ev end es → end ≡ Refused f → ⊥
-turns_refused w st (Do a op) end es f t e = subst (λ v. Turns w st (Do a op) v es) e t
-turns_refused w st ev end es f t e = subst (λ v. Turns w st ev v es) e t
+turns_refused w st ev end es f h g = grind arith
 
 -- an event may have no entry yet
 pub turns_open : (w : Script) (st : Actor → ActorState) (ev : Event) → OpenTurns w st ev []
@@ -89,11 +80,7 @@ has_starts g Shell op h m k = absurd h
 has_starts g _ _ h m k = (_, refl)
 
 may_has : (a : Actor) (op : Op) (s : ActorStage) → may a op s ≡ true → HasOp a op
-may_has Driver ops.Write s h = false_true refl h
-may_has (Attempt t n) ops.Setup s h = false_true refl h
-may_has (Attempt t n) ops.Clean s h = false_true refl h
-may_has Shell op s h = false_true refl h
-may_has _ _ s h = tt
+may_has a op s h = grind arith
 
 fine_starts : (g : Setting) (a : Actor) (op : Op) (st : Actor → ActorState) → refuse_begin (st a).life (refuse_op (st Driver).stage a op (st a).stage) ≡ None → Starts g a op
 fine_starts g a op st h = has_starts g a op (may_has a op (st a).stage (begins_so (st Driver).stage a op (st a).life (st a).stage h).may_begin)
@@ -106,9 +93,7 @@ fine_begins g st _ h = tt
 
 -- so does each event of a legal script
 pub legal_begins : (g : Setting) (attempts : List Declared) (ev : Event) → IsEvent attempts ev → Begins g ev
-legal_begins g attempts (Do a op) h = has_starts g a op h.1
-legal_begins g attempts (Start a op) h = has_starts g a op h.1
-legal_begins g attempts _ h = tt
+legal_begins g attempts ev h = grind (arith, has_starts)
 
 pub event_at : (attempts : List Declared) (evs : List Event) (k : ℕ) (ev : Event) → AreEvents attempts evs → slice_get evs k ≡ Some ev → IsEvent attempts ev
 event_at attempts [] k ev all h = absurd (none_some refl h)

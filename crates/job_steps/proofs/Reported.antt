@@ -94,8 +94,7 @@ record Reporting (a : Actor) (s : ActorStage) (e : OpEnd) (t : ℕ) : Type 0 whe
   done : e ≡ ends.Task tasks.Done
 
 done_is : (e : OpEnd) → is_done e ≡ true → e ≡ ends.Task tasks.Done
-done_is (ends.Task tasks.Done) h = refl
-done_is _ h = absurd (false_true refl h)
+done_is e h = grind arith
 
 reporting : (a : Actor) (s : ActorStage) (e : OpEnd) (p : Actor → Bool) (t n : ℕ) → report a s e p (Attempt t n) ≡ true → (p (Attempt t n) ≡ true) ⊎ Reporting a s e t
 reporting (Attempt u m) s e p t n =
@@ -112,13 +111,7 @@ task_is : {x y : TaskEnd} → ends.Task x ≡ ends.Task y → x ≡ y
 task_is e = cc
 
 done_commit : (op : Operation) → Held Commit (Some op) → over op ≡ Some (ends.Task tasks.Done) → (t : Retried TaskCommit) × (op ≡ TheTaskCommit t) × (t.operation ≡ TaskCommitOver tasks.Done)
-done_commit (TheTaskCommit t) h o = (
-  t,
-  refl,
-  of_sort ends.Task (λ y. y ≡ ends.Task tasks.Done → t.operation ≡ TaskCommitOver tasks.Done)
-      (task_commit_over t.operation) (ends.Task tasks.Done) o (λ x is e. over_is t.operation tasks.Done (is ∙ ap (λ v. Some v) (task_is e))) refl,
-)
-done_commit _ h o = absurd h
+done_commit op h g = grind arith
 
 -- ---- every run
 
@@ -141,8 +134,7 @@ module _ (g : Setting) (opening : Content) (j : IsLegal g.script) (is_opening : 
     pub past : AllReported x.past.reported (seen_of x)
 
   opened : (y : Play) (ev : Event) → AllReported y.past.reported (seen_of y) → AllReported (open_event w y.past ev).reported (seen_of y)
-  opened y Restart old = λ t n h. absurd (false_true refl h)
-  opened y _ old = old
+  opened y ev h = grind arith
 
   -- a task that has a last publisher has one ever after
   pub later : (y : Play) (e : Entry) (t : ℕ) → HasPublished (seen_of y) t → HasPublished (see_all w k (nothing_seen opening) (y.journal ++ e ∷ [])) t

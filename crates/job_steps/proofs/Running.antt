@@ -1,5 +1,5 @@
 -- What happens in a run is one of the job's runs, by each kind of happening.
-use Rattle.std.proofs.Common.{◌≡◌, ℕ, ◌+◌, ◌≤◌, ◌^◌, ◌⊎◌, inl, inr, ◌||◌, not, true, false, List, [], ◌∷◌, ◌++◌, length, Option, Some, None, refl, sym, ap, subst, ◌∙◌, append_assoc, length-append}
+use Rattle.std.proofs.Common.{◌≡◌, ℕ, ◌+◌, ◌≤◌, ◌^◌, ◌⊎◌, inl, inr, ◌||◌, not, true, false, List, [], ◌∷◌, ◌++◌, length, Option, Some, None, refl, sym, ap, subst, ◌∙◌, append_assoc, length-append, arith}
 use Rattle.job_steps.specs.Prelude.{Content, answer, moment, IsHonestOutcome, Actor, Driver, Attempt, Shell, Request, Outcome, Entry, IsLegal, IsEvent, Script, Op, Event, Do, Start, Kill, Restart, Recover, OpEnd, ActorEnd, EventEnd, Refused, EventFault, Busy, ActorState, Setting, Running, wants, advance, over, is_begun, put, dead, idle, restarted, ended, refusal, open_event, begins_commit, begins_clean, is_refused, is_memory, Turns, run_begins, IsOpening, Play, Refuses, Opens, Sends, Finishes, Closes, Strays, open_running, hear, happen, MayOpen, MaySend, MayFinish, MayClose, Reachable, nothing_happened, happens, nothing_played, Ahead, IsRun, operation_of, Times, times, reports}
 use Rattle.job_spec.proofs.Common.{none_some}
 use Rattle.job_model.specs.declared.events.Op.TheVariants.{Commit}
@@ -41,8 +41,7 @@ refused_ahead g x f ends idle h = record { rest = Refused f ∷ h.rest; is = h.i
 
 -- an event that was opened does not end refused
 pub not_refused : (w : Script) (st : Actor → ActorState) (ev : Event) (end : EventEnd) (es : List Entry) → Turns w st ev end es → is_refused end ≡ false
-not_refused w st ev (Refused f) es t = absurd (turns_refused w st ev (Refused f) es f t refl)
-not_refused w st ev _ es t = refl
+not_refused w st ev end es h = grind arith
 
 pub closed_ahead : (g : Setting) (x : Play) (end : EventEnd) (ends : List EventEnd) → is_refused end ≡ false → Ahead (happen g x (Closes end)) ends → Ahead x ends
 closed_ahead g x end ends fine h = record { rest = end ∷ h.rest; is = h.is ∙ append_assoc x.ends (end ∷ []) h.rest; going = λ v e. (end, h.rest, refl, fine) }
@@ -54,8 +53,7 @@ module _ (g : Setting) (opening : Content) (j : IsLegal g.script) (is_opening : 
   -- ---- an event begins
 
   start_same : (b : Begun) (a : Actor) (op : Op) → with_event true b (Do a op) ≡ with_event true b (Start a op)
-  start_same b Driver Commit = refl
-  start_same b _ _ = refl
+  start_same b a op = grind arith
 
   killed : (k : Times) {b : Begun} {es : List Entry} {r : Actor → Option Running} {st : Actor → ActorState} (h : Along g opening k b es r st) (a : Actor)
       → Along g opening k b es r (put st a (dead (st a).stage))

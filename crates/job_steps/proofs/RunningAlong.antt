@@ -1,5 +1,5 @@
 -- How far a run has come with a job: it is one of the job's runs, and what its actors are at is by their lives and stages.
-use Rattle.std.proofs.Common.{◌≡◌, ℕ, ◌≤◌, ◌^◌, inl, inr, true, false, cond, List, [], ◌∷◌, ◌++◌, length, Option, Some, None, refl, sym, ap, subst, ◌∙◌}
+use Rattle.std.proofs.Common.{◌≡◌, ℕ, ◌≤◌, ◌^◌, inl, inr, true, false, cond, List, [], ◌∷◌, ◌++◌, length, Option, Some, None, refl, sym, ap, subst, ◌∙◌, arith}
 use Rattle.job_steps.specs.Prelude.{Content, Scene, answer, moment, IsHonestOutcome, Actor, Driver, Attempt, Shell, Request, Outcome, Entry, Who, actor_of, same_name, IsLegal, OpEnd, Life, Busy, Dead, ActorStage, ActorState, knows, learn, Setting, Operation, Running, who, asks, tells, wants, learn_of, advance, over, ended, put, is_new, by_actor, Told, known, nothing_told, entry, driver_entry, strange_entry, Stand, Runs, IsOpening, with_attempt, is_set, driver_sends, attempt_sends, strays, Times, operation_of}
 use Rattle.job_spec.proofs.Common.{some_is, none_some, false_true, true_or_false}
 use Rattle.job_facts.specs.Prelude.{IsForeign}
@@ -42,9 +42,7 @@ ActorAt (Attempt t n) s l d = AttemptAt s l d
 ActorAt Shell s l d = Unit {0}
 
 pub actor_dies : (a : Actor) (s : ActorStage) (l : Life) (d : Option Operation) → ActorAt a s l d → ActorAt a s Dead d
-actor_dies Driver s l d h = driver_stops s l Dead d refl h
-actor_dies (Attempt t n) s l d h = attempt_dies s l d h
-actor_dies Shell s l d h = tt
+actor_dies a s l d h = grind arith
 
 -- where its operation ended so it is at what it was at, the driver at its first stage only where it was
 pub actor_ends : (a : Actor) (s : ActorStage) (op : Operation) (e : OpEnd) → ActorAt a s Busy (Some op) → over op ≡ Some e

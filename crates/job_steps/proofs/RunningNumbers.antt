@@ -19,12 +19,10 @@ module _ (f : Event → Bool) where
 
   -- with one more event it has begun where it had, or where that event passes it and is not refused
   here : (n p : ℕ) (next : Option ℕ) → n ≡ p + 1 → is_begun next (p + 1) ≡ false → is_begun next p ≡ false → (b : Bool) → is_begun (cond b (Some n) next) (p + 1) ≡ (is_begun (cond b (Some n) next) p || b)
-  here n p next e after before true = rw (at_most_so n (p + 1) (omega arith), above_so n p (omega arith)) refl
-  here n p next e after before false = rw (after, before) refl
+  here n p next h g e b = grind arith
 
   there : (n p : ℕ) (next : Option ℕ) (now : Bool) → n ≤ p → is_begun next (p + 1) ≡ (is_begun next p || now) → (b : Bool) → is_begun (cond b (Some n) next) (p + 1) ≡ (is_begun (cond b (Some n) next) p || now)
-  there n p next now m old true = rw (at_most_so n (p + 1) (omega arith), at_most_so n p m) refl
-  there n p next now m old false = old
+  there n p next now h g b = grind arith
 
   pub begun_from : (n : ℕ) (evs : List Event) (front : List EventEnd) (end : EventEnd) (more : List EventEnd) (ev : Event) (p : ℕ) → p + 1 ≡ n + length front → slice_get evs (length front) ≡ Some ev
       → is_begun (event_from f n evs (front ++ end ∷ more)) (p + 1) ≡ (is_begun (event_from f n evs (front ++ end ∷ more)) p || (f ev && not (is_refused end)))

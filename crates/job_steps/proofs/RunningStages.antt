@@ -1,5 +1,5 @@
 -- What the driver is at, by its life and stage.
-use Rattle.std.proofs.Common.{◌≡◌, ℕ, ◌⊎◌, inl, inr, ◌&&◌, ◌||◌, Bool, true, false, Option, Some, None, refl, sym, ap, subst}
+use Rattle.std.proofs.Common.{◌≡◌, ℕ, ◌⊎◌, inl, inr, ◌&&◌, ◌||◌, Bool, true, false, Option, Some, None, refl, sym, ap, subst, arith}
 use Rattle.std.specs.Prelude.{if◌then◌else◌}
 use Rattle.job_steps.specs.Prelude.{option_map, Actor, Driver, Attempt, Request, Outcome, Retried, Known, Event, Op, Setup, Abort, Clean, SetupEnd, CommitEnd, CleanEnd, OpEnd, ActorEnd, EventFault, Life, Idle, Busy, Dead, ActorStage, setup_over, commit_over, clean_over, Setting, Operation, TheSetup, TheWrite, TheTaskCommit, TheTaskAbort, TheCommit, TheClean, Running, who, asks, tells, over, is_begun, ended, dead, restarted, is_new, needs_set, may, driver_may, refuse_op, refuse_begin, begins_commit, begins_clean, is_busy, is_memory, is_wanting, is_set, is_just_set, IsTimely, nothing_learnt, Play, MayFinish, Times, TheCheck, TheSparing, step}
 use Rattle.job_spec.proofs.Common.{some_is, none_some, false_true, true_or_false}
@@ -24,12 +24,10 @@ use Rattle.job_protocol.proofs.Begun.{after_check_so}
 -- ---- when an operation may begin
 
 idle_begins : (l : Life) (r : Option EventFault) → refuse_begin l r ≡ None → (l ≡ Idle) × (r ≡ None)
-idle_begins Idle r e = (refl, e)
-idle_begins _ r e = absurd cc
+idle_begins l r h = grind arith
 
 let_by : (unset may : Bool) → (if unset then Some faults.NotSet else (if may then None else Some faults.WrongState)) ≡ None → (unset ≡ false) × (may ≡ true)
-let_by false true e = (refl, refl)
-let_by _ _ e = absurd cc
+let_by unset may h = grind arith
 
 -- an operation that is not refused: its actor is idle, the job is set up if it must be, and the stage is one that it may begin in
 pub record Begins (driver : ActorStage) (a : Actor) (op : Op) (life : Life) (s : ActorStage) : Type 0 where
@@ -38,40 +36,23 @@ pub record Begins (driver : ActorStage) (a : Actor) (op : Op) (life : Life) (s :
   pub may_begin : may a op s ≡ true
 
 pub begins_so : (driver : ActorStage) (a : Actor) (op : Op) (life : Life) (s : ActorStage) → refuse_begin life (refuse_op driver a op s) ≡ None → Begins driver a op life s
-begins_so driver a op life s e =
-    let i = idle_begins life (refuse_op driver a op s) e in
-    let b = let_by (needs_set a op && is_new driver) (may a op s) i.1 in
-    record { idle = i.0; set = b.0; may_begin = b.1 }
+begins_so driver a op life s h = grind (arith, idle_begins, let_by)
 
 -- ---- an end for want of memory
 
 wanting_memory : (a : Actor) (op : Op) (e : OpEnd) → is_wanting a op e ≡ true → is_memory e ≡ true
-wanting_memory a op ends.NoMemory h = refl
-wanting_memory Driver Setup (ends.Setup setups.NoMemory) h = refl
-wanting_memory Driver Commit (ends.Commit commits.NoMemory) h = refl
-wanting_memory Driver Commit (ends.Check checks.NoMemory) h = refl
-wanting_memory Driver Abort (ends.Clean cleans.NoMemory) h = refl
-wanting_memory Driver Clean (ends.Clean cleans.NoMemory) h = refl
-wanting_memory (Attempt t a) op (ends.Task tasks.NoMemory) h = refl
-wanting_memory _ _ _ h = absurd (false_true refl h)
+wanting_memory a op e h = grind arith
 
 -- whose it is aside
 pub memory_or : {X : Type 0} (a : Actor) (op : Op) (e : OpEnd) → (is_wanting a op e ≡ true) ⊎ X → (is_memory e ≡ true) ⊎ X
-memory_or a op e (inl wanting) = inl (wanting_memory a op e wanting)
-memory_or a op e (inr x) = inr x
+memory_or a op e h = grind arith
 
 pub may_end : (x : Play) (y : ActorEnd) → MayFinish x y → (is_memory y.end ≡ true) ⊎ ((m : Running) × (x.running y.actor ≡ Some m) × (over m.operation ≡ Some y.end))
 may_end x y may = memory_or y.actor may.doing.op y.end may.end
 
 -- its actor is dead, at its stage
 pub memory_dies : (e : OpEnd) (s : ActorStage) → is_memory e ≡ true → ended e s ≡ dead s
-memory_dies (ends.Setup setups.NoMemory) s h = refl
-memory_dies (ends.Commit commits.NoMemory) s h = refl
-memory_dies (ends.Clean cleans.NoMemory) s h = refl
-memory_dies (ends.Check checks.NoMemory) s h = refl
-memory_dies (ends.Task tasks.NoMemory) s h = refl
-memory_dies ends.NoMemory s h = refl
-memory_dies _ s h = absurd (false_true refl h)
+memory_dies e s h = grind arith
 
 -- ---- what the driver is at
 
@@ -95,17 +76,11 @@ DriverAt stage.Set l d = (is_busy l ≡ false) × (is_just_set d ≡ true)
 DriverAt _ l d = IsBehind d
 
 behind_set : (d : Option Operation) → IsBehind d → is_set d ≡ true
-behind_set (Some (TheCommit c)) h = refl
-behind_set (Some (TheClean t)) h = refl
-behind_set (Some (TheCheck t)) h = refl
-behind_set (Some (TheSparing t)) h = refl
-behind_set _ h = absurd h
+behind_set d h = grind arith
 
 -- behind its first stage the job is set up
 pub driver_set : (s : ActorStage) (l : Life) (d : Option Operation) → DriverAt s l d → is_new s ≡ false → is_set d ≡ true
-driver_set stage.New l d h n = absurd (false_true n refl)
-driver_set stage.Set l d h n = just_set d h.1
-driver_set _ l d h n = behind_set d h
+driver_set s l d h g = grind arith
 
 -- ---- it begins an operation
 
@@ -114,100 +89,75 @@ abbrev pub MaySet : Option Operation → Type 0
 MaySet d = (is_set d ≡ false) ⊎ (is_just_set d ≡ true)
 
 setting_up : (d : Option Operation) → IsSettingUp d → MaySet d
-setting_up None h = inl refl
-setting_up (Some (TheSetup t)) h = elim (true_or_false (is_done t.operation)) [ inl e ↦ inr e | inr e ↦ inl e ]
-setting_up _ h = absurd h
+setting_up d h = grind arith
 
 pub may_setup : (s : ActorStage) (l : Life) (d : Option Operation) → DriverAt s l d → driver_may Setup s ≡ true → (is_new s ≡ true) × IsSettingUp d × MaySet d
-may_setup stage.New l d h m = (refl, h, setting_up d h)
-may_setup _ l d h m = absurd (false_true refl m)
+may_setup s l d h g = grind arith
 
 pub may_commit_job : (s : ActorStage) (l : Life) (d : Option Operation) → DriverAt s l d → driver_may Commit s ≡ true → is_just_set d ≡ true
-may_commit_job stage.Set l d h m = h.1
-may_commit_job _ l d h m = absurd (false_true refl m)
+may_commit_job s l d h g = grind arith
 
 -- at its first stage it is at nothing or at its set-up, at a new set-up too
 pub new_at : (s : ActorStage) (l : Life) (t : Retried setup.Setup) → is_new s ≡ true → DriverAt s l (Some (TheSetup t))
-new_at stage.New l t e = tt
-new_at _ l t e = absurd (false_true refl e)
+new_at s l t h = grind arith
 
 -- a clean begins at a stage behind the commit or an abort, which stays
 pub behind_at : (s : ActorStage) (l : Life) (d : Option Operation) → IsBehind d → driver_may Clean s ≡ true → DriverAt s l d × (is_new s ≡ false)
-behind_at stage.Committed l d h m = (h, refl)
-behind_at stage.Failed l d h m = (h, refl)
-behind_at stage.Aborted l d h m = (h, refl)
-behind_at _ l d h m = absurd (false_true refl m)
+behind_at s l d h g = grind arith
 
 -- ---- its life changes
 
 pub driver_stops : (s : ActorStage) (l m : Life) (d : Option Operation) → is_busy m ≡ false → DriverAt s l d → DriverAt s m d
-driver_stops stage.Set l m d e h = (e, h.1)
-driver_stops _ l m d e h = h
+driver_stops s l m d h g = grind arith
 
 pub driver_restarts : (s : ActorStage) (l : Life) (d : Option Operation) → DriverAt s l d → DriverAt (restarted s) Idle d
-driver_restarts stage.Set l d h = (refl, h.1)
-driver_restarts _ l d h = h
+driver_restarts s l d h = grind arith
 
 pub restarted_new : (s : ActorStage) → is_new (restarted s) ≡ true → is_new s ≡ true
-restarted_new stage.Committing e = absurd (false_true refl e)
-restarted_new _ e = e
+restarted_new s h = grind arith
 
 -- ---- its operation ends
 
 -- what holds of each end of a sort holds of the end
 pub of_sort : {X Y : Type 0} (f : X → Y) (P : Y → Type 0) (o : Option X) (y : Y) → option_map f o ≡ Some y → ((x : X) → o ≡ Some x → P (f x)) → P y
-of_sort f P None y e h = absurd (none_some refl e)
-of_sort f P (Some x) y e h = subst P (some_is e) (h x refl)
+of_sort f P o y h g = grind arith
 
 -- where its operation ended so the driver is at what it was at, and at its first stage only where it was
 abbrev pub EndedAt : ActorStage → Operation → OpEnd → Type 0
 EndedAt s op e = DriverAt (ended e s).stage (ended e s).life (Some op) × (is_new (ended e s).stage ≡ true → is_new s ≡ true)
 
 setup_is_done : (x : setup.Setup) → setup_over x ≡ Some setups.Done → is_done x ≡ true
-setup_is_done (setup.SetupOver end) e = ap (λ v. is_done (setup.SetupOver v)) (some_is e)
-setup_is_done _ e = absurd (none_some refl e)
+setup_is_done x h = grind arith
 
 setup_ends : (t : Retried setup.Setup) (e : SetupEnd) → setup_over t.operation ≡ Some e → EndedAt stage.New (TheSetup t) (ends.Setup e)
-setup_ends t setups.Done o = ((refl, setup_is_done t.operation o), λ n. refl)
-setup_ends t _ o = (tt, λ n. refl)
+setup_ends t e h = grind arith
 
 commit_ends : (s : ActorStage) (op : Operation) (e : CommitEnd) → DriverAt s Busy (Some op) → IsBehind (Some op) → EndedAt s op (ends.Commit e)
-commit_ends s op commits.NoMemory h b = (driver_stops s Busy Dead (Some op) refl h, λ n. n)
-commit_ends s op _ h b = (b, λ n. absurd (false_true refl n))
+commit_ends s op e h g = grind arith
 
 check_ends : (s : ActorStage) (op : Operation) (e : CheckEnd) → DriverAt s Busy (Some op) → IsBehind (Some op) → EndedAt s op (ends.Check e)
-check_ends s op checks.NoMemory h b = (driver_stops s Busy Dead (Some op) refl h, λ n. n)
-check_ends s op _ h b = (b, λ n. absurd (false_true refl n))
+check_ends s op e h g = grind arith
 
 clean_ends : (s : ActorStage) (op : Operation) (e : CleanEnd) → DriverAt s Busy (Some op) → EndedAt s op (ends.Clean e)
-clean_ends s op cleans.NoMemory h = (driver_stops s Busy Dead (Some op) refl h, λ n. n)
-clean_ends s op _ h = (driver_stops s Busy Idle (Some op) refl h, λ n. n)
+clean_ends s op e h = grind arith
 
 -- a set-up is gone on with at the first stage alone
 setup_new : (s : ActorStage) (t : Retried setup.Setup) → DriverAt s Busy (Some (TheSetup t)) → s ≡ stage.New
-setup_new stage.New t h = refl
-setup_new stage.Set t h = absurd (false_true h.0 refl)
-setup_new _ t h = absurd h
+setup_new s t h = grind arith
 
 -- it is at a set-up, or behind that
 abbrev pub Kind : Option Operation → Type 0
 Kind d = IsSettingUp d ⊎ IsBehind d
 
 pub just_kind : (d : Option Operation) → is_just_set d ≡ true → IsSettingUp d
-just_kind None e = tt
-just_kind (Some (TheSetup t)) e = tt
-just_kind _ e = absurd (false_true refl e)
+just_kind d h = grind arith
 
 pub driver_kind : (s : ActorStage) (l : Life) (d : Option Operation) → DriverAt s l d → Kind d
-driver_kind stage.New l d h = inl h
-driver_kind stage.Set l d h = inl (just_kind d h.1)
-driver_kind _ l d h = inr h
+driver_kind s l d h = grind arith
 
 -- a busy driver that is at something else than a set-up is behind it
 goes_behind : (s : ActorStage) (d e : Option Operation) → DriverAt s Busy d → (IsSettingUp d → ⊥) → IsBehind e → DriverAt s Busy e
-goes_behind stage.New d e h not_so b = absurd (not_so h)
-goes_behind stage.Set d e h not_so b = absurd (false_true h.0 refl)
-goes_behind _ d e h not_so b = b
+goes_behind s d e h g f = grind arith
 
 pub driver_ends : (s : ActorStage) (op : Operation) (e : OpEnd) → DriverAt s Busy (Some op) → over op ≡ Some e → EndedAt s op e
 driver_ends s (TheSetup t) e h o =
@@ -222,10 +172,7 @@ driver_ends s op e h o = elim (driver_kind s Busy (Some op) h) [ inl x ↦ absur
 
 -- what it asks does not read what is known
 pub driver_asks : (g : Setting) (op : Operation) (k : Known) (r : Request) → Kind (Some op) → asks g (who Driver) k op ≡ Some r → asks g (who Driver) nothing_learnt op ≡ Some r
-driver_asks g (TheWrite t) k r h e = elim h [ inl x ↦ absurd x | inr x ↦ absurd x ]
-driver_asks g (TheTaskCommit t) k r h e = elim h [ inl x ↦ absurd x | inr x ↦ absurd x ]
-driver_asks g (TheTaskAbort t) k r h e = elim h [ inl x ↦ absurd x | inr x ↦ absurd x ]
-driver_asks g _ k r h e = e
+driver_asks g op k r h e = grind arith
 
 pub driver_hears : (g : Setting) (s : ActorStage) (op : Operation) (o : Outcome) → DriverAt s Busy (Some op) → DriverAt s Busy (Some (tells g (who Driver) op o))
 driver_hears g s (TheSetup t) o h = new_at s Busy _ (ap is_new (setup_new s t h))
@@ -260,17 +207,13 @@ IsTimed b (Some (TheSparing t)) = b.clean ≡ true
 IsTimed b (Some _) = Unit {0}
 
 pub timed_setting : (b : Begun) (d : Option Operation) → IsTimed b d → IsSettingUp d → (b.commit ≡ false) × (b.clean ≡ false)
-timed_setting b None h s = h
-timed_setting b (Some (TheSetup t)) h s = h
-timed_setting b (Some _) h s = absurd s
+timed_setting b d h g = grind arith
 
 pub timed_sends : (k : Times) (n : ℕ) (op : Operation) → IsTimed (record { commit = is_begun k.commit n; clean = is_begun k.clean n }) (Some op) → IsTimely k n op
-timed_sends k n (TheSetup t) h = h
-timed_sends k n _ h = h
+timed_sends k n op h = grind arith
 
 pub timed_tells : (g : Setting) (b : Begun) (op : Operation) (o : Outcome) → IsTimed b (Some op) → IsTimed b (Some (tells g (who Driver) op o))
-timed_tells g b (TheCheck t) o h = after_check_so g (λ op. IsTimed b (Some op)) h (λ u. h) (step g.script.retries (check_after g.script) t o)
-timed_tells g b _ o h = h
+timed_tells g b op o h = grind arith
 
 -- a later event that begins neither
 pub timed_on : (b : Begun) (d : Option Operation) → IsTimed b d → IsTimed (still_begun b) d

@@ -1,5 +1,5 @@
 -- An actor's operation begins: it is one that the job's runs let begin.
-use Rattle.std.proofs.Common.{◌≡◌, inl, inr, ◌||◌, true, false, List, Option, Some, None, refl, sym, ap, subst, ◌∙◌}
+use Rattle.std.proofs.Common.{◌≡◌, inl, inr, ◌||◌, true, false, List, Option, Some, None, refl, sym, ap, subst, ◌∙◌, arith}
 use Rattle.job_steps.specs.Prelude.{Content, Actor, Driver, Attempt, Shell, Entry, Retried, fresh, Who, actor_of, is_known, IsLegal, HasOp, Script, Known, Op, Setup, Write, Abort, Clean, Do, Idle, Busy, ActorStage, ActorState, setup_start, write_start, task_commit_start, TaskAbort, task_abort_start, knows, Setting, Operation, TheSetup, TheWrite, TheTaskCommit, TheTaskAbort, Running, who, start_of, put, stage_begun, is_new, by_actor, known, IsAttempt, Stand, BeginSetup, BeginCommit, BeginClean, BeginWrite, BeginPublish, BeginAbort, begin, Runs, actor_begins, IsOpening, with_attempt, is_set, is_just_set, begun, Times, operation_of}
 use Rattle.job_facts.specs.Prelude.{WriteOver, Reports, clean_of, commit_of}
 use Rattle.job_spec.proofs.Common.{false_true}
@@ -27,8 +27,7 @@ module _ (g : Setting) (opening : Content) (k : Times) (j : IsLegal g.script) (i
 
   -- one more set-up
   setup_may : (x : Stand) (d : Option Operation) → x.driver ≡ d → MaySet d → ((a : Who) → x.attempts a ≡ None) → MaySetUp x
-  setup_may x d e (inl unset) none = inl (ap is_set e ∙ unset)
-  setup_may x d e (inr just) none = inr (ap is_just_set e ∙ just, none)
+  setup_may x d h g e = grind arith
 
   module _ {b : Begun} {es : List Entry} {r : Actor → Option Running} {st : Actor → ActorState} (h : Along g opening k b es r st) where
     -- ---- the driver

@@ -1,5 +1,5 @@
 -- What an attempt is at, by its life and stage.
-use Rattle.std.proofs.Common.{◌≡◌, ℕ, Bool, true, false, List, [], ◌∷◌, Option, Some, None, refl, sym, ap, subst}
+use Rattle.std.proofs.Common.{◌≡◌, ℕ, Bool, true, false, List, [], ◌∷◌, Option, Some, None, refl, sym, ap, subst, arith}
 use Rattle.job_steps.specs.Prelude.{Op, Abort, Committer, Magic, Outcome, Item, Got, WornOut, Retried, step, File, Who, Script, Drawn, Known, Write, TaskEnd, OpEnd, Life, Idle, Busy, Dead, ActorStage, files, sweep_hears, upload_hears, write_start, write_over, task_commit_over, TaskAbort, task_abort_start, task_abort_over, Setting, Operation, TheWrite, TheTaskCommit, TheTaskAbort, TheCheck, tells, over, ended, task_ended, attempt_may, is_committing}
 use Rattle.job_facts.specs.Prelude.{as_made, all_go, GoesOn, write_after, task_abort_by, task_abort_after}
 use Rattle.job_spec.proofs.Common.{some_is, none_some, false_true}
@@ -24,42 +24,30 @@ abbrev pub FreeWrite : writes.Write → Type 0
 FreeWrite x = is_kept (write_over x) ≡ false
 
 free_writing : (fs : List File) → FreeWrite (writes.writing fs)
-free_writing [] = refl
-free_writing (f ∷ fs) = refl
+free_writing fs = grind arith
 
 pub free_start : (w : Script) (a : Who) → FreeWrite (write_start w a)
 free_start w a = elim w.committer as (λ c. FreeWrite (writes.write_start_by c (files w a))) [ Magic ↦ free_writing (files w a) | _ ↦ refl ]
 
 free_after : (w : Script) (minimum : ℕ) (x : writes.Write) → FreeWrite x → (i : Item) → FreeWrite (write_after w minimum x i)
-free_after w minimum (writes.Uploads f fs u) h (Got r repeated) = elim (upload_hears w minimum f u r) as (λ v. FreeWrite (writes.uploaded w f fs v)) [ GoesOn v ↦ refl | _ ↦ refl ]
-free_after w minimum (writes.Marking f fs) h (Got r repeated) = refl
-free_after w minimum (writes.Recording f fs) h (Got r repeated) = free_writing fs
-free_after w minimum (writes.WriteOver end) h (Got r repeated) = h
-free_after w minimum _ h _ = refl
+free_after w minimum x h i = grind arith
 
 -- an abort that did not begin so
 abbrev pub FreeAbort : TaskAbort → Type 0
 FreeAbort x = is_kept (task_abort_over x) ≡ false
 
 free_dropped : (c : Committer) (sent : Bool) → FreeAbort (aborts.dropped c sent)
-free_dropped Magic sent = refl
-free_dropped _ true = refl
-free_dropped _ false = refl
+free_dropped c sent = grind arith
 
 free_dropping : (c : Committer) (sent : Bool) (ds : List Drawn) → FreeAbort (aborts.dropping c sent ds)
-free_dropping c sent [] = free_dropped c sent
-free_dropping c sent (d ∷ ds) = refl
+free_dropping c sent ds = grind arith
 
 -- it begins so only where the publishing request was sent
 pub free_abort : (w : Script) (k : Known) → k.publish_sent ≡ false → FreeAbort (task_abort_start w k)
 free_abort w k e = subst (λ b. FreeAbort (task_abort_by b w.committer k)) (sym e) (free_dropping w.committer k.put_sent (as_made k.drawn))
 
 abort_after : (w : Script) (x : TaskAbort) → FreeAbort x → (i : Item) → FreeAbort (task_abort_after w x i)
-abort_after w (aborts.Dropping d ds sent) h (Got r repeated) = free_dropping w.committer sent ds
-abort_after w (aborts.Sweeping s) h (Got r repeated) = elim (sweep_hears all_go s r) as (λ v. FreeAbort (aborts.sweeping v)) [ Some v ↦ refl | None ↦ refl ]
-abort_after w aborts.Removing h (Got r repeated) = refl
-abort_after w (aborts.TaskAbortOver end) h (Got r repeated) = h
-abort_after w _ h _ = refl
+abort_after w x h i = grind arith
 
 -- ---- what an attempt is at
 
@@ -99,33 +87,21 @@ AttemptAt stage.Committing Dead d = Unit {0}
 AttemptAt _ l d = IsTask d
 
 held_task : (k : Op) (d : Option Operation) → Held k d → IsTask d
-held_task Write (Some (TheWrite t)) h = tt
-held_task Commit (Some (TheTaskCommit t)) h = tt
-held_task Abort (Some (TheTaskAbort t)) h = tt
-held_task _ _ h = absurd h
+held_task k d h = grind arith
 
 busy_task : (s : ActorStage) (d : Option Operation) → AttemptAt s Busy d → IsTask d
-busy_task stage.New d h = held_task Abort d h
-busy_task stage.Writing d h = held_task Write d h
-busy_task stage.Written d h = held_task Abort d h
-busy_task stage.Committing d h = held_task Commit d h
-busy_task _ d h = h
+busy_task s d h = grind arith
 
 -- ---- it dies
 
 pub attempt_dies : (s : ActorStage) (l : Life) (d : Option Operation) → AttemptAt s l d → AttemptAt s Dead d
-attempt_dies stage.New l d h = tt
-attempt_dies stage.Writing l d h = tt
-attempt_dies stage.Written l d h = tt
-attempt_dies stage.Committing l d h = tt
-attempt_dies _ l d h = h
+attempt_dies s l d h = grind arith
 
 -- ---- it begins an operation
 
 -- a write where it is at nothing
 pub may_write : (s : ActorStage) (d : Option Operation) → AttemptAt s Idle d → attempt_may Write s ≡ true → d ≡ None
-may_write stage.New d h m = h
-may_write _ d h m = absurd (false_true refl m)
+may_write s d h g = grind arith
 
 pub written_is : (d : Option Operation) → HasWritten d → (spare : ℕ) × (repeated : Bool) × (d ≡ Some (TheWrite (record { operation = writes.WriteOver tasks.Done; spare = spare; repeated = repeated })))
 written_is (Some (TheWrite t)) h = (t.spare, t.repeated, ap (λ x. Some (TheWrite (record { operation = x; spare = t.spare; repeated = t.repeated }))) h)
@@ -138,11 +114,7 @@ may_publish _ d h m = absurd (false_true refl m)
 
 -- an abort: where the attempt is at nothing or its write is done, it is not to begin Kept
 pub may_abort : (s : ActorStage) (d : Option Operation) (t : Retried TaskAbort) → AttemptAt s Idle d → (d ≡ None → FreeAbort t.operation) → (HasWritten d → FreeAbort t.operation) → AttemptAt s Busy (Some (TheTaskAbort t))
-may_abort stage.New d t h new written = new h
-may_abort stage.Writing d t h new written = absurd h
-may_abort stage.Written d t h new written = written h
-may_abort stage.Committing d t h new written = absurd h
-may_abort _ d t h new written = tt
+may_abort s d t h g e = grind arith
 
 -- ---- its operation ends
 
@@ -154,32 +126,19 @@ task_over (TheTaskAbort t) = task_abort_over t.operation
 task_over _ = None
 
 held_free : (k : Op) (op : Operation) → Held k (Some op) → is_kept (task_over op) ≡ false
-held_free Write (TheWrite t) h = h
-held_free Commit (TheTaskCommit t) h = h
-held_free Abort (TheTaskAbort t) h = h
-held_free _ _ h = absurd h
+held_free k op h = grind arith
 
 write_is_over : (x : writes.Write) → write_over x ≡ Some tasks.Done → x ≡ writes.WriteOver tasks.Done
-write_is_over (writes.WriteOver end) e = ap writes.WriteOver (some_is e)
-write_is_over _ e = absurd (none_some refl e)
+write_is_over x h = grind arith
 
 writing_done : (op : Operation) → Held Write (Some op) → task_over op ≡ Some tasks.Done → HasWritten (Some op)
-writing_done (TheWrite t) h e = write_is_over t.operation e
-writing_done _ h e = absurd h
+writing_done op h g = grind arith
 
 abbrev pub EndsAt : ActorStage → Operation → TaskEnd → Type 0
 EndsAt s op e = AttemptAt (task_ended e s).stage (task_ended e s).life (Some op)
 
 task_ends : (s : ActorStage) (op : Operation) (e : TaskEnd) → AttemptAt s Busy (Some op) → task_over op ≡ Some e → EndsAt s op e
-task_ends stage.New op tasks.Done h o = held_task Abort (Some op) h
-task_ends stage.Writing op tasks.Done h o = writing_done op h o
-task_ends stage.Written op tasks.Done h o = held_task Abort (Some op) h
-task_ends stage.New op tasks.Kept h o = absurd (false_true (held_free Abort op h) (ap is_kept o))
-task_ends stage.Writing op tasks.Kept h o = absurd (false_true (held_free Write op h) (ap is_kept o))
-task_ends stage.Written op tasks.Kept h o = absurd (false_true (held_free Abort op h) (ap is_kept o))
-task_ends stage.Committing op tasks.Kept h o = absurd (false_true (held_free Commit op h) (ap is_kept o))
-task_ends s op tasks.NoMemory h o = attempt_dies s Busy (Some op) h
-task_ends s op _ h o = busy_task s (Some op) h
+task_ends s op e h g = grind arith
 
 -- where it ended so the attempt is at what it was at
 abbrev EndsWith : ActorStage → Operation → OpEnd → Type 0
@@ -194,14 +153,10 @@ attempt_ends s op e h o = absurd (busy_task s (Some op) h)
 -- ---- it goes on
 
 held_hears : (g : Setting) (a : Who) (k : Op) (op : Operation) (o : Outcome) → Held k (Some op) → Held k (Some (tells g a op o))
-held_hears g a Write (TheWrite t) o h = step_keeps FreeWrite g.script.retries (write_after g.script g.minimum) t o h (free_after g.script g.minimum t.operation h)
-held_hears g a Commit (TheTaskCommit t) o h = commit_goes g.script a g.minimum g.script.retries t o h
-held_hears g a Abort (TheTaskAbort t) o h = step_keeps FreeAbort g.script.retries (task_abort_after g.script) t o h (abort_after g.script t.operation h)
-held_hears g a _ _ o h = absurd h
+held_hears g a k op o h = grind (arith, step_keeps, free_after, commit_goes, abort_after)
 
 task_hears : (g : Setting) (a : Who) (op : Operation) (o : Outcome) → IsTask (Some op) → IsTask (Some (tells g a op o))
-task_hears g a (TheCheck t) o h = absurd h
-task_hears g a _ o h = h
+task_hears g a op o h = grind arith
 
 pub attempt_hears : (g : Setting) (a : Who) (s : ActorStage) (op : Operation) (o : Outcome) → AttemptAt s Busy (Some op) → AttemptAt s Busy (Some (tells g a op o))
 attempt_hears g a stage.New op o h = held_hears g a Abort op o h
@@ -212,5 +167,4 @@ attempt_hears g a _ op o h = task_hears g a op o h
 
 -- a busy attempt at the stage of its commit is at that
 pub at_commit : (s : ActorStage) (op : Operation) → is_committing s ≡ true → AttemptAt s Busy (Some op) → Held Commit (Some op)
-at_commit stage.Committing op c h = h
-at_commit _ op c h = absurd (false_true refl c)
+at_commit s op h g = grind arith

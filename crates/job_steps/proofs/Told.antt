@@ -21,15 +21,7 @@ pub record Led (g : Setting) (a : Actor) (d : Doing) (k : Known) (part : List En
   pub at : m ≡ Some (run (advance g a) (record { operation = op; known = k }) part)
 
 led_more : (g : Setting) (a : Actor) (d : Doing) (k : Known) (part : List Entry) (m : Running) (e : Entry) → Led g a d k part (Some m) → wants g a m ≡ Some e.request → Led g a d k (part ++ e ∷ []) (hear g a (Some m) e)
-led_more g a d k part m e l asked =
-    let first : Running = record { operation = l.op; known = k } in
-    let here : m ≡ run (advance g a) first part = some_is l.at in
-    record {
-      op = l.op;
-      begun_is = l.begun_is;
-      follows = follows_more (wants g a) (advance g a) first part e l.follows (ap (wants g a) (sym here) ∙ asked);
-      at = ap (λ (v : Running). Some (advance g a v e.outcome)) here ∙ ap (λ (v : Running). Some v) (sym (run_more (advance g a) first part e));
-    }
+led_more g a d k part m e h f = grind (arith, follows_more, run_more)
 
 -- what an actor began last, in one of the first n events, and where its own entries es led it
 pub record Runs (g : Setting) (a : Actor) (d : Doing) (es : List Entry) (m : Option Running) (n : ℕ) : Type 0 where
@@ -44,15 +36,7 @@ module _ (g : Setting) (a : Actor) (d : Doing) (es : List Entry) (n : ℕ) where
   runs_over o m r e = ap (over_from g a d es) r.led.begun_is ∙ ap (λ (v : Running). over v.operation) (some_is (sym r.led.at ∙ e))
 
   runs_sent : (m : Running) (e : Entry) → Runs g a d es (Some m) n → n ≤ e.event → wants g a m ≡ Some e.request → Runs g a d (es ++ e ∷ []) (hear g a (Some m) e) n
-  runs_sent m e r l asked =
-      let h : d.since ≤ n = r.from_then in
-      let late : d.since ≤ e.event = omega arith in
-      let heard = hear g a (Some m) e in
-      record {
-        from_then = h;
-        led = subst (λ p. Led g a d (knows g.script (who a) p) (since d.since (es ++ e ∷ [])) heard) (sym (before_late d.since es e late))
-            (subst (λ p. Led g a d (known_then g a d es) p heard) (sym (since_late d.since es e late)) (led_more g a d (known_then g a d es) (since d.since es) m e r.led asked));
-      }
+  runs_sent m e h g f = grind (arith, before_late, since_late, led_more)
 
 -- ---- what is kept
 
@@ -404,24 +388,7 @@ module _ (g : Setting) (opening : Content) (x : Play) (h : Told g opening x) whe
       )
 
 pub nothing_told : (g : Setting) (opening : Content) → Told g opening nothing_played
-nothing_told g opening = record {
-  past_is = refl;
-  counts = refl;
-  live_counts = refl;
-  closed = λ e. (refl, tt);
-  opened = λ ev e. absurd (none_some refl e);
-  up_to = tt;
-  runs = λ a d e. absurd (none_some refl e);
-  over = λ n a d e. absurd (none_some refl e);
-  does = λ a b. absurd (busy_not _ b refl);
-  finish = λ i y e. absurd (none_some refl e);
-  going = λ e a m b. absurd (busy_not _ b refl);
-  rising = tt;
-  numbered = tt;
-  obeyed = λ k ev end at that. absurd (none_some refl that);
-  honest = tt;
-  within = omega arith;
-}
+nothing_told g opening = grind arith
 
 pub told_all : (g : Setting) (opening : Content) (x : Play) → Reachable g opening x → Told g opening x
 told_all g opening x nothing_happened = nothing_told g opening

@@ -37,37 +37,15 @@ record Leaves (w : Script) (c d : Content) : Type 0 where
   pub uploads : (id : ℕ) → Moves w (upload_at c w.dest.bucket id) (upload_at d w.dest.bucket id)
 
 module _ (w : Script) where
-  moves_on : (a b c : Option Upload) → Moves w a b → Moves w b c → Moves w a c
-  moves_on a b c (inl e) (inl h) = inl (h ∙ e)
-  moves_on a b c (inl e) (inr h) = inr (subst (Inside w) e h.0, h.1)
-  moves_on a b c (inr e) (inl h) = inr (e.0, subst (Inside w) (sym h) e.1)
-  moves_on a b c (inr e) (inr h) = inr (e.0, h.1)
-
   moves_outside : (a b : Option Upload) → Moves w a b → SameOutsideUpload w a b
-  moves_outside None None m = tt
-  moves_outside None (Some v) (inl e) = absurd cc
-  moves_outside None (Some v) (inr h) = h.1
-  moves_outside (Some u) None (inl e) = absurd cc
-  moves_outside (Some u) None (inr h) = h.0
-  moves_outside (Some u) (Some v) (inl e) = λ free. sym (some_is e)
-  moves_outside (Some u) (Some v) (inr h) = λ free. absurd (false_true free h.0)
+  moves_outside a b h = grind arith
 
   -- where a live upload keeps its key
   step_moves : (a b : Option Upload) → SameOutsideUpload w a b → ((u v : Upload) → a ≡ Some u → b ≡ Some v → u.key ≡ v.key) → Moves w a b
-  step_moves None None h keys = inl refl
-  step_moves None (Some v) h keys = inr (tt, h)
-  step_moves (Some u) None h keys = inr (h, tt)
-  step_moves (Some u) (Some v) h keys = elim (true_or_false (begins (dest_prefix w) u.key)) [
-    | inl inside ↦ inr (inside, ap (begins (dest_prefix w)) (sym (keys u v refl refl)) ∙ inside)
-    | inr free ↦ inl (ap (λ x. Some x) (sym (h free)))
-  ]
+  step_moves a b h g = grind arith
 
   leaves_on : (a b c : Content) → Leaves w a b → Leaves w b c → Leaves w a c
-  leaves_on a b c h g = record {
-    buckets = λ x ne. g.buckets x ne ∙ h.buckets x ne;
-    objects = λ k free. g.objects k free ∙ h.objects k free;
-    uploads = λ id. moves_on (upload_at a w.dest.bucket id) (upload_at b w.dest.bucket id) (upload_at c w.dest.bucket id) (h.uploads id) (g.uploads id);
-  }
+  leaves_on a b c h g = grind arith
 
   -- one entry
   record Changes (e : Entry) (c d : Content) : Type 0 where

@@ -74,16 +74,10 @@ module _ (g : Setting) (k : Times) (opening : Content) (j : IsLegal g.script) (i
   -- while the commit goes on
   pub in_commit : (es : List Entry) (x : Stand) → Runs g k opening es x → (c : Commit) → x.driver ≡ Some (TheCommit c)
       → Hold w g.minimum x.seen x.told × Gone w x.seen.scene.content x.told × InCommit g opening x.seen.picks x.told c
-  in_commit es x run c d =
-      let l = late_now es x run (ap is_set d) in
-      let i : InCommit g opening x.seen.picks x.told c = subst (λ v. At g opening v x.seen x.told) d l.driver in
-      (l.hold, l.gone i.uncleaned, i)
+  in_commit es x h c g = grind (arith, late_now, InCommit, At)
 
   pub untouched_now : (es : List Entry) (x : Stand) → Runs g k opening es x → AreOwn es → (end : CommitEnd) → x.driver ≡ Some (TheCommit (CommitOver end)) → is_untouched end ≡ true → Same (view w.dest x.seen.scene.content) (view w.dest opening)
-  untouched_now es x run own end d before =
-      let l = late_now es x run (ap is_set d) in
-      let v = subst (λ v. Shows g opening v x.seen x.told x.commit) d (shown g k opening j is_opening es x run own) in
-      untouched_shows g opening x.seen.scene.content (left_still g opening j x.seen x.told l.hold x.commit end v before)
+  untouched_now es x h g end e f = grind (arith, late_now, Shows, shown, untouched_shows, left_still)
 
   pub reverted_now : (es : List Entry) (x : Stand) → Runs g k opening es x → AreOwn es → x.driver ≡ Some (TheCommit (CommitOver (commits.StoreFault stages.Complete))) → NoDeletionWorn w.retries x.commit → OnlyOpening w opening x.seen.scene.content
   reverted_now es x run own d none =

@@ -1,5 +1,5 @@
 -- Every run comes as far as it says, whatever strangers send that leave the job's own alone; and among none a reader is shown what the headline says.
-use Rattle.std.proofs.Common.{not, ◌≡◌, ℕ, ◌<◌, ◌≤◌, ◌^◌, ◌⊎◌, inl, inr, ◌&&◌, ◌||◌, Bool, true, false, List, [], ◌∷◌, ◌++◌, Option, Some, None, refl, sym, ap, subst, ◌∙◌}
+use Rattle.std.proofs.Common.{not, ◌≡◌, ℕ, ◌<◌, ◌≤◌, ◌^◌, ◌⊎◌, inl, inr, ◌&&◌, ◌||◌, Bool, true, false, List, [], ◌∷◌, ◌++◌, Option, Some, None, refl, sym, ap, subst, ◌∙◌, arith}
 use Rattle.job_facts.specs.Prelude.{at_key, view, nat_cmp, is_bucket, BucketContent, Content, Scene, Upload, new_bucket, answer, apply, apply_at, bucket_of, effect, is_effective, IsHonestOutcome, only_reads, Driver, Request, MakeBucket, ClusterPut, ClusterRename, ClusterGet, ClusterDelete, ClusterList, Outcome, Slow, RequestLost, Entry, below, success_key, SuccessPlace, Retried, fresh, step, Who, IsLegal, Script, Known, Setup, SetupOver, setup_start, setup_asks, setup_after, Listing, Deleting, Clean, CleanOver, clean_asks, Setting, Operation, TheSetup, TheCommit, TheClean, who, asks, tells, AreOwn, Kept, NoClusterFile, is_own, Seen, see, is_begun, is_marking, HasBucket, Told, known, put_who, entry, driver_entry, strange_entry, ends, nothing_told, tell_driver, tell_attempt, at_event, at_id, IsAttempt, Facts, Hold, Fits, SetsUp, Gone, IsForeign, Times, is_picking, TheCheck, IsIn, changed_paths, TheSparing, begins, cluster_prefix, commit_start, Magic}
 use Rattle.job_spec.specs.Prelude.{apply_in}
 use Rattle.job_spec.proofs.Common.{key_magic, some_is, none_some, none_or_some, false_true, same_or_other, text_here, text_other}
@@ -45,8 +45,7 @@ use Rattle.job_facts.proofs.Turning.{still_none}
 
 -- who has just set up has set up
 pub just_set : (d : Option Operation) → is_just_set d ≡ true → is_set d ≡ true
-just_set (Some (TheSetup t)) e = e
-just_set _ e = absurd (false_true refl e)
+just_set d h = grind arith
 
 -- ---- entries of the job alone
 
@@ -61,10 +60,7 @@ own_last (x ∷ es) e h = own_last es e h.1
 -- what is so of one attempt's new value and of the others' old ones is so of all
 pub put_each : {X : Type 0} (P : Who → X → Type 0) (f : Who → Option X) (a : Who) (x : X) → P a x → ((b : Who) → (b ≡ a → ⊥) → (v : X) → f b ≡ Some v → P b v)
     → (b : Who) (v : X) → put_who f a (Some x) b ≡ Some v → P b v
-put_each P f a x here old b v e = elim (same_or_another b a) [
-  | inl is ↦ subst (λ c. P c v) (sym is) (subst (P a) (some_is (sym (who_here f a (Some x) b is) ∙ e)) here)
-  | inr ne ↦ old b ne v (sym (who_other f a (Some x) b ne) ∙ e)
-]
+put_each P f a x h g b v e = grind arith
 
 -- ---- a stranger's request, where no bucket may stand yet
 
@@ -74,10 +70,7 @@ module _ (n : List ℕ) where
   Blank c d = ((id : ℕ) → upload_at d n id ≡ None) × (d.minimum ≡ c.minimum)
 
   blank_at : (c : Content) (r : Request) → fin.get c.buckets n ≡ None → (o : Option BucketContent) → fin.get c.buckets (bucket_of r) ≡ o → Blank c (apply_at o c r)
-  blank_at c r e None z = (λ id. ap (λ o. upload_in o id) e, refl)
-  blank_at c r e (Some b) z =
-      let ne : n ≡ bucket_of r → ⊥ = λ is. none_some (sym (ap (fin.get c.buckets) is) ∙ e) z in
-      (λ id. ap (λ o. upload_in o id) (text_other c.buckets (bucket_of r) n (apply_in b c.next c.minimum r) ne ∙ e), refl)
+  blank_at c r h o g = grind (arith, text_other)
 
   blank_made : (c : Content) (q : List ℕ) → fin.get c.buckets n ≡ None → (o : Option BucketContent) → fin.get c.buckets q ≡ o → (t : Bool) → is_bucket q ≡ t → Blank c (made c q o)
   blank_made c q e (Some b) z t h = (λ id. ap (λ o. upload_in o id) e, refl)
@@ -91,13 +84,7 @@ module _ (n : List ℕ) where
       ]
 
   blank_left : (s : Scene) (r : Request) → fin.get s.content.buckets n ≡ None → Blank s.content (apply s r).content
-  blank_left s (MakeBucket q) e = blank_made s.content q e (fin.get s.content.buckets q) refl (is_bucket q) refl
-  blank_left s (ClusterPut path bytes) e = (λ id. ap (λ o. upload_in o id) e, refl)
-  blank_left s (ClusterRename source target) e = (λ id. ap (λ o. upload_in o id) e, refl)
-  blank_left s (ClusterGet path) e = (λ id. ap (λ o. upload_in o id) e, refl)
-  blank_left s (ClusterDelete path) e = (λ id. ap (λ o. upload_in o id) e, refl)
-  blank_left s (ClusterList p) e = (λ id. ap (λ o. upload_in o id) e, refl)
-  blank_left s r e = blank_at s.content r e (fin.get s.content.buckets (bucket_of r)) refl
+  blank_left s r h = grind (arith, blank_made, blank_at)
 
 module _ (g : Setting) (k : Times) (opening : Content) (j : IsLegal g.script) (is_opening : IsOpening g opening) where
   abbrev w : Script
@@ -109,17 +96,10 @@ module _ (g : Setting) (k : Times) (opening : Content) (j : IsLegal g.script) (i
   -- ---- by what the driver did last
 
   late_set : (d : Option Operation) (s : Seen) (m : Told) → At g opening d s m → is_set d ≡ true
-  late_set (Some (TheSetup t)) s m y = ap is_done y.0
-  late_set (Some (TheCommit c)) s m y = refl
-  late_set (Some (TheClean t)) s m y = refl
-  late_set (Some (TheCheck t)) s m y = refl
-  late_set (Some (TheSparing t)) s m y = refl
-  late_set _ s m y = absurd y
+  late_set d s m h = grind arith
 
   pub just_idle : (d : Option Operation) (s : Seen) (m : Told) → At g opening d s m → is_just_set d ≡ true → Idle g opening s m
-  just_idle (Some (TheSetup t)) s m y e = y.1
-  just_idle None s m y e = absurd y
-  just_idle (Some _) s m y e = absurd (false_true refl e)
+  just_idle d s m h g = grind arith
 
   -- ---- where the set-up is done the facts begin
 
@@ -235,10 +215,7 @@ module _ (g : Setting) (k : Times) (opening : Content) (j : IsLegal g.script) (i
 
   -- a sparing abort or clean puts no marker
   sparing_no_mark : (c : Sparing) (r : Request) → sparing_asks w c ≡ Some r → is_marking w r ≡ false
-  sparing_no_mark (sparing.Reading named p ps all) r e =
-      ap (is_marking w) (sym (some_is e)) ∙ elim w.committer as (λ c. is_marking w (record_request c w p) ≡ false) [ Magic ↦ refl | _ ↦ refl ]
-  sparing_no_mark (sparing.SparingOver end) r e = absurd cc
-  sparing_no_mark _ r e = ap (is_marking w) (sym (some_is e))
+  sparing_no_mark c r h = grind arith
 
   abbrev Shown : Stand → Type 0
   Shown x = Shows g opening x.driver x.seen x.told x.commit
@@ -366,18 +343,7 @@ module _ (g : Setting) (k : Times) (opening : Content) (j : IsLegal g.script) (i
   early_so : (x : Stand) → Early g opening x → (s : Scene) (d : Option Operation) → Numbers s.content → NoClusterFile w s
       → (d ≡ None) ⊎ ((t : Retried Setup) × (d ≡ Some (TheSetup t)) × SetsUp w s.content t.operation)
       → Early g opening (record { seen = record { scene = s; begun = x.seen.begun; last = x.seen.last; picks = x.seen.picks; put_mark = x.seen.put_mark }; told = x.told; attempts = x.attempts; driver = d; commit = x.commit })
-  early_so x e s d num files setup = record {
-    told = e.told;
-    last = e.last;
-    unmarked = e.unmarked;
-    unbegun = e.unbegun;
-    unpicked = e.unpicked;
-    fresh = num.fresh;
-    least = num.least;
-    none = e.none;
-    files = files;
-    setup = setup;
-  }
+  early_so x h s d g e f = grind arith
 
   early_strays : (x : Stand) → Early g opening x → (n : ℕ) (r : Request) (o : Outcome) → IsForeign w x.told.drawn r → Early g opening (saw g k x (strange_entry n r o))
   early_strays x e n r o f =
@@ -424,8 +390,7 @@ module _ (g : Setting) (k : Times) (opening : Content) (j : IsLegal g.script) (i
   Well x = Good x × NotMoved x
 
   may_set_up : (x : Stand) → Well x → MaySetUp x → Early g opening x
-  may_set_up x h (inl unset) = elim h.0 [ inl e ↦ e | inr l ↦ absurd (false_true unset (late_set x.driver x.seen x.told l.driver)) ]
-  may_set_up x h (inr y) = h.1 y.0 y.1
+  may_set_up x h g = grind arith
 
   -- an attempt is at something
   moved : (x : Stand) (a : Who) (op : Operation) → NotMoved (with_attempt x a op)
@@ -434,12 +399,7 @@ module _ (g : Setting) (k : Times) (opening : Content) (j : IsLegal g.script) (i
   -- no request of the driver's ends a set-up once one is done
   not_just : (x : Stand) (r : Request) (o : Outcome) (op : Operation) → At g opening (Some op) x.seen x.told → asks g (who Driver) nothing_learnt op ≡ Some r
       → is_just_set (Some (tells g (who Driver) op o)) ≡ true → ⊥
-  not_just x r o (TheSetup t) y asked just = none_some (ap (setup_asks w) y.0) asked
-  not_just x r o (TheCommit c) y asked just = false_true refl just
-  not_just x r o (TheClean t) y asked just = false_true refl just
-  not_just x r o (TheCheck t) y asked just = false_true (after_check_so g (λ op. is_just_set (Some op) ≡ false) refl (λ u. refl) _) just
-  not_just x r o (TheSparing t) y asked just = false_true refl just
-  not_just x r o _ y asked just = absurd y
+  not_just x r o op h g e = grind arith
 
   begins_at : (x : Stand) → Late g opening x → (a : Who) (op : Operation) → IsAttempt w a → Fits w g.minimum a x.told op → Well (with_attempt x a op)
   begins_at x l a op d fits = (inr (put_late x (with_attempt x a op) l a op refl l.hold l.gone l.filed l.driver d fits (λ b ne mine f. f) (λ b ne. (refl, refl))), moved x a op)
@@ -497,23 +457,13 @@ module _ (g : Setting) (k : Times) (opening : Content) (j : IsLegal g.script) (i
 
   -- until the set-up is done, and right behind it, all is as it was
   early_untouched : (x : Stand) → Early g opening x → Shown x → Untouched g opening x.seen.scene.content
-  early_untouched x e v = elim e.setup [
-    | inl none ↦ subst (λ d. Shows g opening d x.seen x.told x.commit) none v
-    | inr y ↦ subst (λ d. Shows g opening d x.seen x.told x.commit) y.1 v
-  ]
+  early_untouched x h g = grind arith
 
   just_untouched : (d : Option Operation) (s : Seen) (m : Told) (es : List Entry) → is_just_set d ≡ true → Shows g opening d s m es → Untouched g opening s.scene.content
-  just_untouched (Some (TheSetup t)) s m es e v = v
-  just_untouched None s m es e v = v
-  just_untouched (Some _) s m es e v = absurd (false_true refl e)
+  just_untouched d s m es h g = grind arith
 
   late_kept : (d : Option Operation) (s : Seen) (m : Told) (es : List Entry) → Hold w g.minimum s m → At g opening d s m → Shows g opening d s m es → Kept w opening s
-  late_kept (Some (TheSetup t)) s m es h y v = kept_untouched g opening s v y.1.unmarked
-  late_kept (Some (TheCommit c)) s m es h y v = kept_commit g opening j s m h es c y v
-  late_kept (Some (TheClean t)) s m es h y v = v
-  late_kept (Some (TheCheck t)) s m es h y v = kept_untouched g opening s v.0 y.unmarked
-  late_kept (Some (TheSparing t)) s m es h y v = v
-  late_kept _ s m es h y v = absurd y
+  late_kept d s m es h g e = grind (arith, kept_untouched, kept_commit)
 
   pub kept_now : (x : Stand) → Good x → Shown x → Kept w opening x.seen
   kept_now x (inl e) v = kept_untouched g opening x.seen (early_untouched x e v) e.unmarked
@@ -562,7 +512,6 @@ module _ (g : Setting) (k : Times) (opening : Content) (j : IsLegal g.script) (i
   check_unsent es x (driver_sends fs y op n r o run d asked timely few honest) t e = by op d e (check_unsent fs y run)
     where
       by : (op : Operation) → y.driver ≡ Some op → Some (tells g (who Driver) op o) ≡ Some (TheCheck t) → ((u : Retried Check) → y.driver ≡ Some (TheCheck u) → y.commit ≡ []) → commit_with op y.commit (driver_entry n r o) ≡ []
-      by (TheCheck u) d e before = before u d
-      by _ d e before = absurd cc
+      by op h g e = grind arith
   check_unsent es x (attempt_sends fs y a op n r o run set at asked honest) t e = check_unsent fs y run t e
   check_unsent es x (strays fs y n r o run f) t e = check_unsent fs y run t e

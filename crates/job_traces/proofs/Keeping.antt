@@ -59,12 +59,7 @@ module _ (g : Setting) (j : IsLegal g.script) (opening : Content) (s u : Seen) (
   marks_still p put _ h = h
 
   pub idle_still : (m n : Told) → ((id : ℕ) → n.ended id ≡ m.ended id) → n.cleaned ≡ m.cleaned → Idle g opening s m → Idle g opening u n
-  idle_still m n ended cleaned i = record {
-    none = λ id. ended id ∙ i.none id;
-    uncleaned = cleaned ∙ i.uncleaned;
-    unmarked = q.mark ∙ i.unmarked;
-    unpicked = λ t. ap (λ p. p t) q.picks ∙ i.unpicked t;
-  }
+  idle_still m n h g e = grind arith
 
   -- what is outside the magic directory
   only_still : (prefix : List ℕ) (keys : List (List ℕ)) → OnlyThose w prefix (is_no_magic w) s.scene.content keys → OnlyThose w prefix (is_no_magic w) u.scene.content keys
@@ -111,22 +106,10 @@ module _ (g : Setting) (j : IsLegal g.script) (opening : Content) (k : Times) (s
   quiet = attempt_quiet g.script k s a n r h.there hides o
 
   commit_beside : (c : Commit) → InCommit g opening s.picks m c → InCommit g opening next.picks told c
-  commit_beside c i = subst (λ p. InCommit g opening p told c) (sym quiet.picks) (record {
-    fits = beside g m a op fits r asked o c i.fits;
-    tabled = i.tabled;
-    turns = (elim c as (λ d. Turns m d → Turns told d) [ CommitOver end ↦ λ t. tt | _ ↦ λ t. t ]) i.turns;
-    decides = decides_beside g m a op fits r asked o c i.decides;
-    uncleaned = i.uncleaned;
-    agrees = i.agrees;
-    replaces = i.replaces;
-  })
+  commit_beside c h = grind (arith, InCommit, beside, decides_beside)
 
   pub at_beside : (d : Option Operation) → At g opening d s m → At g opening d next told
-  at_beside (Some (TheSetup t)) y = (y.0, idle_still g j opening s next quiet m told (λ id. refl) refl y.1)
-  at_beside (Some (TheCommit c)) y = commit_beside c y
-  at_beside (Some (TheCheck t)) y = idle_still g j opening s next quiet m told (λ id. refl) refl y
-  at_beside (Some (TheSparing t)) y = sparing_still g.script m a r o t.operation y
-  at_beside _ y = y
+  at_beside d h = grind (arith, idle_still, quiet, commit_beside, sparing_still)
 
   -- and so is what is shown
   shown_beside : (c : Commit) → CommitShows g opening s m.ended es c → CommitShows g opening next told.ended es c
@@ -156,11 +139,7 @@ module _ (g : Setting) (j : IsLegal g.script) (opening : Content) (k : Times) (s
 
   -- other attempts know what they knew
   pub other_known : (b : Who) → (b ≡ a → ⊥) → known told b ≡ known m b
-  other_known b ne = λ i. record {
-    drawn = who_other m.drawn a (learn g.script a (known m a) r o).drawn b ne i;
-    put_sent = who_other m.put_sent a (learn g.script a (known m a) r o).put_sent b ne i;
-    publish_sent = who_other m.publish_sent a (learn g.script a (known m a) r o).publish_sent b ne i;
-  }
+  other_known b h = grind (arith, who_other)
 
   pub other_fits : (b : Who) → (b ≡ a → ⊥) → (mine : Operation) → Fits g.script g.minimum b m mine → Fits g.script g.minimum b told mine
   other_fits b ne (TheWrite t) f = (who_other m.undone a _ b ne ∙ f.0, subst (λ v. FitsWrite g.script g.minimum b v t.operation) (sym (other_known b ne)) f.1)

@@ -1,5 +1,5 @@
 -- Where one sending of a commit leads: what each stage may become, so that a fact of the stages is kept where each of these keeps it.
-use Rattle.std.proofs.Common.{◌≡◌, ℕ, ◌+◌, nat_lt, Bool, true, false, cond, List, [], ◌∷◌, ◌++◌, length, Option, Some, None, refl, sym, ap, subst, ◌∙◌}
+use Rattle.std.proofs.Common.{◌≡◌, ℕ, ◌+◌, nat_lt, Bool, true, false, cond, List, [], ◌∷◌, ◌++◌, length, Option, Some, None, refl, sym, ap, subst, ◌∙◌, arith}
 use Rattle.job_facts.specs.Prelude.{Request, Reply, Outcome, Answered, Slow, RequestLost, ReplyLost, PendingSet, Script, CommitEnd, same_path, Sweep, sweep_hears, Turn, again, follow, dealt, revert, Sets, all_commits, picks_of, set_read, Commit, Fetching, Replacing, Completing, Marking, Reverting, CommitOver, completing, is_no_magic, replaced, replacing, decided, fetching, reverting, fetched, swept, commit_tells, commit_misses}
 use Rattle.job_protocol.specs.Prelude.{sweep_start}
 use Rattle.job_spec.proofs.Common.{shared_found}
@@ -54,18 +54,15 @@ pub data Leads (w : Script) : Commit → Outcome → Commit → Type 0 where
 -- ---- each does
 
 either_so : (P : Commit → Type 0) (b : Bool) (c d : Commit) → P c → P d → P (cond b c d)
-either_so P true c d x y = x
-either_so P false c d x y = y
+either_so P b c d h g = grind arith
 
 turns_so : (P : Commit → Type 0) (sets : Sets) (xs : List Turn) (done : List ℕ) → P (Marking sets 0)
     → ((y : Turn) (ys : List Turn) → y ∷ ys ≡ xs → P (Completing sets y ys done)) → P (completing sets xs done)
-turns_so P sets [] done m c = m
-turns_so P sets (x ∷ xs) done m c = c x xs refl
+turns_so P sets xs done h g = grind arith
 
 reverting_so : (P : Commit → Type 0) (qs : List Request) → P (CommitOver (commits.StoreFault stages.Complete)) → ((q : Request) (rs : List Request) → P (Reverting q rs 0))
     → P (reverting qs)
-reverting_so P [] o r = o
-reverting_so P (q ∷ qs) o r = r q qs
+reverting_so P qs h g = grind arith
 
 module _ (w : Script) where
   pub enters : (sets : Sets) → Enters w sets (fetching w sets)

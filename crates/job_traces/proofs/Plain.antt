@@ -1,5 +1,5 @@
 -- What is seen of one more entry: its scene, and that one which reads no set leaves the picks and one which puts no marker leaves the marker.
-use Rattle.std.proofs.Common.{◌≡◌, ℕ, ◌&&◌, ◌||◌, false, cond, Some, refl, sym, ap, ◌∙◌, Bool, List, inl, inr, true, subst}
+use Rattle.std.proofs.Common.{◌≡◌, ℕ, ◌&&◌, ◌||◌, false, cond, Some, refl, sym, ap, ◌∙◌, Bool, List, inl, inr, true, subst, arith}
 use Rattle.std.proofs.Math.Bool.{and-false}
 use Rattle.job_spec.proofs.Common.{some_is, false_true}
 use Rattle.job_facts.specs.Prelude.{effect, Actor, Driver, Attempt, Shell, Request, Outcome, Answered, Slow, RequestLost, Entry, Script, Setup, Sweeping, SetupOver, setup_asks, Listing, Clean, CleanOver, clean_asks, Seen, see, is_reading, is_marking, is_begun, driver_entry, Times, is_picking, Sweep, sweep_asks, Commit, Fetching, Replacing, Reverting, CommitOver, commit_asks, Told, Decides, Deleting}
@@ -8,59 +8,35 @@ use Rattle.job_facts.proofs.Whose.{or_false}
 use Rattle.job_facts.proofs.Sharing.{Plain}
 
 pub one_scene : (w : Script) (k : Times) (s : Seen) (e : Entry) → (see w k s e).scene ≡ effect s.scene e.request e.outcome
-one_scene w k s e = by e.actor e.outcome
-  where
-    by : (a : Actor) (o : Outcome) → (see w k s (record { event = e.event; actor = a; request = e.request; outcome = o })).scene ≡ effect s.scene e.request o
-    by Driver (Answered y) = refl
-    by Driver _ = refl
-    by (Attempt u a) (Answered y) = refl
-    by (Attempt u a) _ = refl
-    by Shell o = refl
+one_scene w k s e = grind arith
 
 module _ (w : Script) (k : Times) (s : Seen) (n : ℕ) (r : Request) where
   pub plain_picks : ((t : ℕ) → is_reading w t r ≡ false) → (o : Outcome) (t : ℕ) → (see w k s (driver_entry n r o)).picks t ≡ s.picks t
-  plain_picks e (Answered y) t =
-      ap (λ b. cond (is_picking k s.begun n && b) (s.last t) (s.picks t)) (e t) ∙ ap (λ b. cond b (s.last t) (s.picks t)) (and-false (is_picking k s.begun n))
-  plain_picks e _ t = refl
+  plain_picks h o t = grind (arith, and-false)
 
   -- so does one at a time at which nothing is picked
   pub closed_picks : is_picking k s.begun n ≡ false → (o : Outcome) (t : ℕ) → (see w k s (driver_entry n r o)).picks t ≡ s.picks t
-  closed_picks e (Answered y) t = ap (λ b. cond (b && is_reading w t r) (s.last t) (s.picks t)) e
-  closed_picks e _ t = refl
+  closed_picks h o t = grind arith
 
   pub plain_mark : is_marking w r ≡ false → (o : Outcome) → (see w k s (driver_entry n r o)).put_mark ≡ s.put_mark
-  plain_mark e Slow = refl
-  plain_mark e RequestLost = refl
-  plain_mark e _ = ap (λ b. s.put_mark || b) e ∙ or_false s.put_mark
+  plain_mark h o = grind arith
 
   pub driver_last : (o : Outcome) → (see w k s (driver_entry n r o)).last ≡ s.last
-  driver_last (Answered y) = refl
-  driver_last _ = refl
+  driver_last o = grind arith
 
   pub driver_begun : (o : Outcome) → (see w k s (driver_entry n r o)).begun ≡ (s.begun || is_begun k.commit n)
-  driver_begun (Answered y) = refl
-  driver_begun _ = refl
+  driver_begun o = grind arith
 
 -- so does each entry but one of the driver that reads a set
 pub entry_picks : (w : Script) (k : Times) (s : Seen) (e : Entry) → (e.actor ≡ Driver → (t : ℕ) → is_reading w t e.request ≡ false) → (t : ℕ) → (see w k s e).picks t ≡ s.picks t
-entry_picks w k s e h t = by e.actor refl e.outcome
-  where
-    by : (a : Actor) → e.actor ≡ a → (o : Outcome) → (see w k s (record { event = e.event; actor = a; request = e.request; outcome = o })).picks t ≡ s.picks t
-    by Driver is o = plain_picks w k s e.event e.request (h is) o t
-    by (Attempt u a) is (Answered y) = refl
-    by (Attempt u a) is _ = refl
-    by Shell is o = refl
+entry_picks w k s e h t = grind (arith, plain_picks)
 
 -- a set-up's and an abort's or clean's are such
 pub setup_plain : (w : Script) (op : Setup) (r : Request) → setup_asks w op ≡ Some r → Plain w r
-setup_plain w (SetupOver end) r e = absurd cc
-setup_plain w (Sweeping (Listing keys)) r e = subst (Plain w) (some_is e) (record { ends_none = λ u. refl; marks = refl; reads = λ t. refl })
-setup_plain w _ r e = subst (Plain w) (some_is e) (record { ends_none = λ u. refl; marks = refl; reads = λ t. refl })
+setup_plain w op r h = grind arith
 
 pub clean_plain : (w : Script) (op : Clean) (r : Request) → clean_asks w op ≡ Some r → (is_marking w r ≡ false) × ((t : ℕ) → is_reading w t r ≡ false)
-clean_plain w (CleanOver end) r e = absurd cc
-clean_plain w (cleanups.Sweeping (Listing keys)) r e = (ap (is_marking w) (sym (some_is e)), λ t. ap (is_reading w t) (sym (some_is e)))
-clean_plain w _ r e = (ap (is_marking w) (sym (some_is e)), λ t. ap (is_reading w t) (sym (some_is e)))
+clean_plain w op r h = grind arith
 
 -- but in the first stage no request of a commit reads a set
 abbrev pub is_read_stage : Commit → Bool
@@ -68,8 +44,7 @@ is_read_stage (Fetching sets x) = true
 is_read_stage _ = false
 
 pub sweep_plain : (w : Script) (p : List ℕ) (x : Sweep) → (is_marking w (sweep_asks w.dest.bucket p x) ≡ false) × ((t : ℕ) → is_reading w t (sweep_asks w.dest.bucket p x) ≡ false)
-sweep_plain w p (Listing keys) = (refl, (λ t. refl))
-sweep_plain w p (Deleting q qs) = (refl, (λ t. refl))
+sweep_plain w p x = grind arith
 
 pub commit_unread : (w : Script) (minimum : ℕ) (m : Told) (d : Commit) → is_read_stage d ≡ false → Decides w minimum m.publish_sent m.drawn d → (r : Request)
     → commit_asks w d ≡ Some r → (t : ℕ) → is_reading w t r ≡ false

@@ -23,17 +23,7 @@ use Rattle.job_traces.proofs.Plain.{setup_plain}
 
 -- what was published is so in a longer journal
 pub longer_published : (w : Script) (opening : Content) (es more : List Entry) (t a n i : ℕ) (h : WasPublished w opening es t a n) → h.entry.event ≤ i → WasPublished w opening (es ++ more) t a i
-longer_published w opening es more t a n i h until =
-    let low : h.m < length es = slice_get_within es h.m h.entry h.is_entry in
-    record {
-      m = h.m;
-      entry = h.entry;
-      is_entry = slice_front es more h.m low ∙ h.is_entry;
-      by = h.by;
-      until = until;
-      effective = h.effective;
-      publishes = ap (λ l. is_publishing w (after_all (opening_scene opening) l) t h.entry.request) (take-append-le h.m es more (omega arith)) ∙ h.publishes;
-    }
+longer_published w opening es more t a n i h g = grind (arith, slice_get_within, slice_front, take-append-le)
 
 module _ (g : Setting) (k : Times) (opening : Content) (j : IsLegal g.script) (is_opening : IsOpening g opening) where
   abbrev w : Script

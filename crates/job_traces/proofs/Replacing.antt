@@ -1,5 +1,5 @@
 -- How far a replace mode has come with what it does not keep, and what becomes of paths that are not wanted.
-use Rattle.std.proofs.Common.{◌≡◌, ℕ, ◌⊎◌, inl, inr, not, ◌&&◌, true, cond, List, [], ◌∷◌, ◌++◌, take, Option, Some, None, refl, sym, ap, subst, ◌∙◌, codes, append_assoc}
+use Rattle.std.proofs.Common.{◌≡◌, ℕ, ◌⊎◌, inl, inr, not, ◌&&◌, true, cond, List, [], ◌∷◌, ◌++◌, take, Option, Some, None, refl, sym, ap, subst, ◌∙◌, codes, append_assoc, arith}
 use Rattle.std.specs.Prelude.{bytes_eq}
 use Rattle.job_facts.specs.Prelude.{is_lt, text_cmp, Content, Scene, begins, apply, effect, Request, DeleteObjects, Outcome, Slow, RequestLost, below, IsLegal, Script, Picks, paths_of, partitions, keeps, keeps_of, dest_prefix, is_folder, is_file_path, Sweep, Listing, Deleting, sweep_asks, page_after, Sets, picks_of, Commit, is_no_magic, replaced, commit_start, commit_tells, Setting, IsIn, HasBucket, at_key, AllUnder, SweepsUnder, OnlyThose}
 use Rattle.job_spec.proofs.Common.{and_parts, false≢true, begins_behind, below_is, none_or_some, none_some, false_true, true_or_false, same_or_other}
@@ -74,13 +74,7 @@ module _ (g : Setting) (j : IsLegal g.script) (opening : Content) where
   pub empty_next : (c : Content) (sets : Sets) (behind : List (List ℕ)) (p : List ℕ) (ps : List (List ℕ)) → behind ++ (p ∷ ps) ≡ replaced w.committer w.mode w (picks_of sets)
       → ((d : List ℕ) → IsIn d behind → OnlyThose w d (is_no_magic w) c [])
       → begins (dest_prefix w) p ≡ true → Emptying g opening c sets p ps sweep_start
-  empty_next c sets behind p ps parts clear under = record {
-    behind = behind;
-    parts = parts;
-    clear = clear;
-    under = λ q i. absurd i;
-    sweeps = λ k x b go e. inr (some_behind w.dest.key k (begins_through (dest_prefix w) p k under b));
-  }
+  empty_next c sets behind p ps h g e = grind arith
 
   pub empty_enter : (c : Content) (sets : Sets) → AllUnder (dest_prefix w) (replaced w.committer w.mode w (picks_of sets)) → {d : Commit} → Enters w sets d → Empty g opening c d
   empty_enter c sets under (empties {p = p} {ps = ps} e) = empty_next c sets [] p ps e (λ d i. absurd i) (under p (subst (IsIn p) e (inl refl)))
@@ -121,9 +115,7 @@ module _ (g : Setting) (j : IsLegal g.script) (opening : Content) where
     ]
 
     pub taken_after : SweepsUnder p x → (o : Outcome) (k : List ℕ) → (at_key w (effect s r o).content k ≡ at_key w s.content k) ⊎ ((at_key w (effect s r o).content k ≡ None) × (begins p k ≡ true))
-    taken_after under Slow k = inl refl
-    taken_after under RequestLost k = inl refl
-    taken_after under _ k = taken x under k
+    taken_after h o k = grind (arith, taken)
 
     pub still_clear : SweepsUnder p x → (o : Outcome) (d : List ℕ) → OnlyThose w d (is_no_magic w) s.content [] → OnlyThose w d (is_no_magic w) (effect s r o).content []
     still_clear under o d h k y b go e = elim (taken_after under o k) [ inl same ↦ h k y b go (sym same ∙ e) | inr gone ↦ absurd (none_some gone.0 e) ]

@@ -1,5 +1,5 @@
 -- What holds of a run's stand: before its set-up is done, while its commit goes on, and while it cleans up. How far the job has come no stranger can change; what a reader is shown is told of a run among no strangers.
-use Rattle.std.proofs.Common.{◌≡◌, ℕ, ◌<◌, ◌⊎◌, inl, inr, not, Bool, true, false, cond, List, [], ◌∷◌, ◌++◌, Option, Some, None, refl, sym, ap, ◌∙◌}
+use Rattle.std.proofs.Common.{◌≡◌, ℕ, ◌<◌, ◌⊎◌, inl, inr, not, Bool, true, false, cond, List, [], ◌∷◌, ◌++◌, Option, Some, None, refl, sym, ap, ◌∙◌, arith}
 use Rattle.job_facts.specs.Prelude.{option_map, lookup, text_eq, Content, Upload, Object, Entry, below, success_key, Retried, Sweep, IsIn, Who, IsLegal, Script, CommitEnd, Picks, wanted_at, is_decided, is_picked, is_clash, keeps_of, mark_text, Setup, SetupOver, view, is_file_path, Sets, picks_of, is_no_magic, replaced, Commit, Fetching, Replacing, Completing, Marking, Reverting, CommitOver, Tabled, Setting, Operation, TheSetup, TheCommit, TheClean, Same, Kept, is_untouched, NoDeletionWorn, OnlyOpening, NoClusterFile, Seen, is_marked, Told, known, nothing_told, at_key, at_id, IsAttempt, Hold, Fits, OnlyThose, EmptiesBy, SetsUp, SweepsUnder, FitsClean, FitsJobCommit, NoneEnded, Gone, Decides, Wants, IsBefore, whole_of, FileStands, TheCheck, TheSparing}
 use Rattle.job_spec.proofs.Common.{and_parts, not-true, none_some, none_or_some, false_true, true_or_false}
 use Rattle.job_spec.specs.Prelude.{Whole, or_else, done}
@@ -41,17 +41,11 @@ module _ (g : Setting) (opening : Content) where
 
   -- one that was not put has no such stage
   pub false_marks : (x : Content) (p : Picks) (put : Bool) → put ≡ false → (d : Commit) → Marks x p put d
-  false_marks x p put e (Marking sets y) = λ z. absurd (false_true e z)
-  false_marks x p put e (CommitOver commits.Committed) = λ z. absurd (false_true e z)
-  false_marks x p put e (CommitOver (commits.StoreFault stages.Success)) = λ z. absurd (false_true e z)
-  false_marks x p put e _ = e
+  false_marks x p put h d = grind arith
 
   -- what the picks want the commit wants
   pub wants_of : (p : Picks) (q b : List ℕ) → wanted_at w p q ≡ Some b → (d : Commit) → Agrees w p d → Wants w q b d
-  wants_of p q b e (Replacing sets o os x z) a = ap (λ l. lookup (text_eq q) l) (sym (same_wanted w (picks_of sets) p a)) ∙ e
-  wants_of p q b e (Completing sets x xs finished) a = ap (λ l. lookup (text_eq q) l) (sym (same_wanted w (picks_of sets) p a)) ∙ e
-  wants_of p q b e (Marking sets x) a = ap (λ l. lookup (text_eq q) l) (sym (same_wanted w (picks_of sets) p a)) ∙ e
-  wants_of p q b e _ a = tt
+  wants_of p q b h d g = grind (arith, same_wanted)
 
   -- what is not wanted stands as at the opening where the mode keeps it, and else not
   abbrev pub Cleared : Picks → List ℕ → Option Object → Type 0
@@ -196,12 +190,7 @@ module _ (g : Setting) (opening : Content) where
     Mixed q b = IsBefore (first_at q) (now_at c q) ⊎ (now_at c q ≡ Some (whole_of b))
 
     mixed_left : (q b : List ℕ) (end : CommitEnd) → FileLeft w q b (first_at q) es (now_at c q) end → Mixed q b
-    mixed_left q b commits.Committed f = inr f
-    mixed_left q b (commits.StoreFault stages.Success) f = inr f
-    mixed_left q b (commits.StoreFault stages.Complete) (inl f) = inl f
-    mixed_left q b (commits.StoreFault stages.Complete) (inr f) = inr f.0
-    mixed_left q b (commits.StoreFault stages.Delete) f = inl f
-    mixed_left q b _ f = inl (inl f)
+    mixed_left q b end h = grind arith
 
     -- each wanted path shows what it showed, nothing, or the whole file
     pub mixed : (q b : List ℕ) → wanted_at w picks q ≡ Some b → (d : Commit) → FitsJobCommit w g.minimum m.publish_sent m.drawn d → Agrees w picks d → FileStands w q b (first_at q) es (now_at c q) m.ended d → Mixed q b
@@ -249,14 +238,7 @@ module _ (g : Setting) (opening : Content) where
     ]
 
     other_clearing : (q : List ℕ) (d : Commit) → OtherStands picks q (now_at c q) d → Clearing picks q (now_at c q)
-    other_clearing q (Fetching sets n) f = inl f
-    other_clearing q (Replacing sets p ps x n) f = f
-    other_clearing q (CommitOver commits.Committed) f = cleared_clearing q f
-    other_clearing q (CommitOver (commits.StoreFault stages.Success)) f = cleared_clearing q f
-    other_clearing q (CommitOver (commits.StoreFault stages.Complete)) f = cleared_clearing q f
-    other_clearing q (CommitOver (commits.StoreFault stages.Delete)) f = f
-    other_clearing q (CommitOver _) f = inl f
-    other_clearing q _ f = cleared_clearing q f
+    other_clearing q d h = grind (arith, cleared_clearing)
 
     module _ (op : Commit) (i : InCommit picks m op) (shows : CommitShows s m.ended es op) where
       clearing : (q : List ℕ) → is_file_path q ≡ true → wanted_at w picks q ≡ None → Clearing picks q (now_at c q)
@@ -298,9 +280,7 @@ module _ (g : Setting) (opening : Content) where
     ]
 
     whole_now : is_decided w picks ≡ true → MarkSays c picks s.put_mark → AllCleared → AllWhole → is_marked w s ≡ true → Whole w (view w.dest opening) picks c
-    whole_now decided says clear whole marked =
-        let d = and_parts (is_picked w picks) (not (is_clash w picks)) decided in
-        record { picked = d.0; apart = not-true (is_clash w picks) d.1; files = all_shown clear whole; mark = says (and_parts s.put_mark _ marked).0 }
+    whole_now h g e f p = grind (arith, and_parts, not-true, all_shown)
 
     whole_by : (d : Commit) → InCommit picks m d → CommitShows s m.ended es d → is_marked w s ≡ true → Whole w (view w.dest opening) picks c
     whole_by (Marking sets n) i v e = whole_now (decided_so w picks sets i.decides i.agrees) v.marks v.files.others (λ q b y. v.files.wanted q (shown_path q b y) b y) e

@@ -40,8 +40,7 @@ module _ (g : Setting) (j : IsLegal g.script) (opening : Content) (k : Times) (s
   -- ---- what the request is
 
   read_plain : (x : Committer) (t : ℕ) → (is_marking w (set_request x w t) ≡ false) × (changed_keys (set_request x w t) ≡ [])
-  read_plain Magic t = (refl, refl)
-  read_plain _ t = (refl, refl)
+  read_plain x t = grind arith
 
   abbrev no_keys : (y : Request) → changed_keys y ≡ [] → (q : List ℕ) → IsIn q (changed_keys y) → ⊥
   no_keys y e q x = subst (λ l. IsIn q l) e x
@@ -96,8 +95,7 @@ module _ (g : Setting) (j : IsLegal g.script) (opening : Content) (k : Times) (s
   -- ---- the picks agree with the sets
 
   never_read : (d : Commit) → is_read_stage d ≡ false → (o : Outcome) → IsRead w s.picks j h d o → ⊥
-  never_read (Fetching sets x) z o y = false_true z refl
-  never_read _ z o y = y
+  never_read d h o g = grind arith
 
   unanswered : (o : Outcome) → (IsRead w s.picks j h c o → ⊥) → (u o).picks ≡ s.picks → Agrees w (u o).picks (commit_tells w c o)
   unanswered o none same = subst (λ p. Agrees w p (commit_tells w c o)) (sym same) (agrees_tells w s.picks j h c i.fits i.tabled i.decides i.agrees o none)
@@ -155,9 +153,7 @@ module _ (g : Setting) (j : IsLegal g.script) (opening : Content) (k : Times) (s
             ap (λ (y : Object). y.bytes) (some_is (sym e ∙ put_there)) ∙ same_mark w s.picks (picks_of sets) (λ t l. sym ((subst (Agrees w s.picks) (sym v) i.agrees) t l))
 
         says : (o : Outcome) → MarkSays g opening (u o).scene.content (u o).picks (u o).put_mark
-        says (Answered y) = λ e o z. says_now o z ∙ ap (mark_text w) (sym (same (Answered y)))
-        says ReplyLost = λ e o z. says_now o z
-        says _ = subst (Marks g opening s.scene.content s.picks s.put_mark) (sym v) shown.marks
+        says o = grind (arith, says_now, same, Marks)
     marks_at d v o = unmarked_next (commit_tells w d o) (ap is_mark_stage (sym v)) (subst (Marks g opening s.scene.content s.picks s.put_mark) (sym v) shown.marks) o
 
     -- ---- files

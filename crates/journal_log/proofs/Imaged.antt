@@ -16,8 +16,7 @@ use Rattle.journal_log.proofs.Journals.{folded, changes_append, content_append}
 -- ---- the entries of a map
 
 not_tied : (r : Ordering) → T (is_lt r) → is_eq r ≡ false
-not_tied Less h = refl
-not_tied _ h = absurd h
+not_tied r h = grind arith
 
 module _ {K X : Type 0} {R : K → K → Ordering} (o : IsTotalOrder R) (exact : fin.IsAntisymmetric R) where
   -- a key that is below all others is none of them
@@ -28,10 +27,7 @@ module _ {K X : Type 0} {R : K → K → Ordering} (o : IsTotalOrder R) (exact :
       ap (λ b. cond b (Some e.1) (find R k es)) (not_tied (R k e.0) w.0) ∙ none_below k es w.1
 
   later : (e : K × X) (es : List (K × X)) (k : K) (v : X) → T (below_all R e.0 es) → find R k es ≡ Some v → find R k (e ∷ es) ≡ Some v
-  later e es k v h g = elim (true_or_false (eq_by_cmp R k e.0)) [
-    | inl t ↦ absurd (none_some (ap (λ q. find R q es) (exact k e.0 (tied (R k e.0) t)) ∙ none_below e.0 es h) g)
-    | inr n ↦ rw n g
-  ]
+  later e es k v h g = grind (arith, tied, none_below)
 
   first : (e : K × X) (es : List (K × X)) → find R e.0 (e ∷ es) ≡ Some e.1
   first e es = ap (λ b. cond b (Some e.1) (find R e.0 es)) ((eq_by_cmp_equiv o).refl e.0)
@@ -185,9 +181,6 @@ in_bucket b next minimum r l m h = h
 
 -- ---- the store
 
-abbrev AreBuckets : ℕ → Content → Type 0
-AreBuckets next c = AreEntries is_bucket (IsBucket next) c.buckets
-
 counts : (n : ℕ) → is_counter n ≡ true → (1 ≤ n) × (n ≤ 2 ^ 62)
 counts n h = let w = and_parts (nat_le 1 n) (nat_le n (2 ^ 62)) h in (leb-true 1 n w.0, leb-true n (2 ^ 62) w.1)
 
@@ -207,7 +200,11 @@ new minimum h = record { minimum = h; counter = counter_of 1 (omega arith) (omeg
 one_made : (c : Content) (name : List ℕ) (x : Option BucketContent) → IsContent c → IsContent (made c name x)
 one_made c name (Some b) h = h
 one_made c name None h = elim (true_or_false (is_bucket name)) [
-  | inl t ↦ rw t (record { minimum = h.minimum; counter = h.counter; buckets = put_in text_total text_exact is_bucket (IsBucket c.next) c.buckets name new_bucket h.buckets t (none_new c.next) })
+  | inl t ↦ rw t (record {
+    minimum = h.minimum;
+    counter = h.counter;
+    buckets = put_in text_total text_exact is_bucket (IsBucket c.next) c.buckets name new_bucket h.buckets t (none_new c.next);
+  })
   | inr t ↦ rw t h
 ]
 
@@ -240,14 +237,13 @@ same : (c : Content) → GoesOn c c
 same c = record { later = omega arith; least = refl }
 
 on_at : (c : Content) (r : Request) (o : Option BucketContent) → GoesOn c (apply_at o c r)
-on_at c r None = same c
-on_at c r (Some b) = record { later = elim (draws r) as (λ t. c.next ≤ cond t (c.next + 1) c.next) [ true ↦ omega arith | false ↦ omega arith ]; least = refl }
+on_at c r o = grind arith
 
 on_made : (c : Content) (name : List ℕ) (o : Option BucketContent) → GoesOn c (made c name o)
 on_made c name None = elim (is_bucket name) as (λ t. GoesOn c (cond t (record { buckets = fin.insert c.buckets name new_bucket; next = c.next; minimum = c.minimum }) c)) [
-      true ↦ record { later = omega arith; least = refl }
-    | false ↦ same c
-  ]
+  | true ↦ record { later = omega arith; least = refl }
+  | false ↦ same c
+]
 on_made c name (Some b) = same c
 
 on : (c : Content) (r : Request) → GoesOn c (apply_store c r)

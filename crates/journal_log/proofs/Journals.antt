@@ -25,7 +25,8 @@ changes_none = refl
 -- those of one entry
 pub changes_one : (e : Entry) → changes (e ∷ []) ≡ cond (is_effective e.outcome) (cond (is_changing e.request) (e.request ∷ []) []) []
 unfolding changes
-changes_one e = elim (is_effective e.outcome) as (λ b. filter is_changing (map (λ (x : Entry). x.request) (cond b (e ∷ []) [])) ≡ cond b (cond (is_changing e.request) (e.request ∷ []) []) []) [ true ↦ refl | false ↦ refl ]
+changes_one e = elim (is_effective e.outcome) as
+    (λ b. filter is_changing (map (λ (x : Entry). x.request) (cond b (e ∷ []) [])) ≡ cond b (cond (is_changing e.request) (e.request ∷ []) []) []) [ true ↦ refl | false ↦ refl ]
 
 pub taken : (e : Entry) → is_effective e.outcome ≡ true → is_changing e.request ≡ true → changes (e ∷ []) ≡ e.request ∷ []
 taken e took may = changes_one e ∙ ap (λ (b : Bool). cond b (cond (is_changing e.request) (e.request ∷ []) []) []) took ∙ ap (λ (b : Bool). cond b (e.request ∷ []) []) may
@@ -37,10 +38,7 @@ pub not_changing : (e : Entry) → is_changing e.request ≡ false → changes (
 not_changing e may = rw (changes_one e, may) (elim (is_effective e.outcome) as (λ b. cond b (cond false (e.request ∷ []) []) [] ≡ []) [ true ↦ refl | false ↦ refl ])
 
 none_or_one : (e : Entry) → (changes (e ∷ []) ≡ []) ⊎ (changes (e ∷ []) ≡ e.request ∷ [])
-none_or_one e = elim (true_or_false (is_effective e.outcome)) [
-  | inr n ↦ inl (not_effective e n)
-  | inl t ↦ elim (true_or_false (is_changing e.request)) [ inl m ↦ inr (taken e t m) | inr n ↦ inl (not_changing e n) ]
-]
+none_or_one e = grind (arith, not_effective, taken, not_changing)
 
 -- the first ones of a journal's are those of its first entries
 pub cut : (es : List Entry) (rs : List Request) → Begins rs (changes es) → (m : ℕ) × (m ≤ length es) × (rs ≡ changes (take m es))
@@ -66,22 +64,13 @@ content_append c [] qs = refl
 content_append c (r ∷ rs) qs = content_append (apply_store c r) rs qs
 
 pub store_alone : (s : Scene) (r : Request) → is_changing r ≡ true → apply s r ≡ record { content = apply_store s.content r; files = s.files }
-store_alone s (MakeBucket n) h = refl
-store_alone s _ h = cc
+store_alone s r h = grind arith
 
 pub others_leave : (s : Scene) (r : Request) → is_changing r ≡ false → (apply s r).content ≡ s.content
-others_leave s (ClusterPut path bytes) h = refl
-others_leave s (ClusterRename source target) h = refl
-others_leave s (ClusterDelete path) h = refl
-others_leave s r h = ap (λ (t : Scene). t.content) (reads_nothing s r (cc))
-
-applied : (s : Scene) (r : Request) → (apply s r).content ≡ content_after s.content (cond (is_changing r) (r ∷ []) [])
-applied s r = elim (true_or_false (is_changing r)) [ inl t ↦ rw t (ap (λ (x : Scene). x.content) (store_alone s r t)) | inr n ↦ rw n (others_leave s r n) ]
+others_leave s r h = grind (arith, reads_nothing)
 
 effect_of : (s : Scene) (r : Request) (o : Outcome) → (effect s r o).content ≡ content_after s.content (cond (is_effective o) (cond (is_changing r) (r ∷ []) []) [])
-effect_of s r Slow = refl
-effect_of s r RequestLost = refl
-effect_of s r _ = applied s r
+effect_of s r o = grind (arith, store_alone, others_leave)
 
 pub follows : (s : Scene) (es : List Entry) → content_after s.content (changes es) ≡ (after_all s es).content
 follows s [] = ap (content_after s.content) changes_none

@@ -9,18 +9,14 @@ use Rattle.journal_log.proofs.Standing.{begins_all, begins_more, begins_longer, 
 -- ---- what a crash left between changes
 
 pub told_all : (o : Option Stored) (P : Type 0) → P → WhereTold o P
-told_all None P h = tt
-told_all (Some s) P h = h
+told_all o P h = grind arith
 
 pub told_more : (o : Option Stored) (P Q : Type 0) → (P → Q) → WhereTold o P → WhereTold o Q
-told_more None P Q f h = tt
-told_more (Some s) P Q f h = f h
+told_more o P Q h g = grind arith
 
 -- what grew is told where it was
 pub told_still : (o p : Option Stored) (rs : List Request) (P : Type 0) → HoldsGrownBy o p rs → WhereTold o P → WhereTold p P
-told_still None None rs P g h = tt
-told_still None (Some t) rs P g h = absurd (cc)
-told_still (Some s) p rs P g h = told_all p P h
+told_still o p rs P h g = grind arith
 
 -- nothing was changed yet
 pub at_first : (o : Option Stored) (leaves : Holding → Type 0) (h : Holding) → IsDurable o leaves → leaves h → IsBetween o [] h
@@ -34,17 +30,11 @@ so_far (Some s) rs qs h is = (is.0, begins_longer is.0 rs qs is.1, is.2)
 
 -- further changes
 pub further_on : (o p : Option Stored) (rs qs : List Request) → HoldsGrownBy o p rs → (h : Holding) → IsBetween p qs h → IsBetween o (rs ++ qs) h
-further_on None p rs qs g h is = tt
-further_on (Some s) None rs qs g h is = absurd (cc)
-further_on (Some s) (Some t) rs qs g h is =
-    let same : t.holding ≡ grown_by s.holding rs = cc in
-    (rs ++ is.0, begins_more rs is.0 qs is.1, is.2 ∙ ap (λ (x : Holding). grown_by x is.0) same ∙ grown_then s.holding rs is.0)
+further_on o p rs qs g h e = grind (arith, begins_more, grown_then)
 
 -- before or after one
 pub around : (o : Option Stored) (r : Request) (h : Holding) → IsBeforeOrAfter o r h → IsBetween o (r ∷ []) h
-around None r h is = tt
-around (Some s) r h (inl is) = ([], (r ∷ [], refl), is ∙ sym (grown_none s.holding))
-around (Some s) r h (inr is) = (r ∷ [], begins_all (r ∷ []), is ∙ grown_one s.holding r)
+around o r h g = grind (arith, grown_none, begins_all, grown_one)
 
 module _ {S : Type 0} (F : Sight S) where
   -- before the first call
@@ -53,19 +43,11 @@ module _ {S : Type 0} (F : Sight S) where
 
   -- one run and then another
   pub then_on : (old mid new : S) (P Q R : Holding → Type 0) → CrashesLeave F old mid P → CrashesLeave F mid new Q → ((c : Holding) → P c → R c) → ((c : Holding) → Q c → R c) → CrashesLeave F old new R
-  then_on old mid new P Q R first second f g = record {
-    later = omega (arith, first.later, second.later);
-    each = λ c left. ⊎_elim (λ was. f c (first.each c was)) (g c) (second.before (F.moment old) c first.later left);
-    before = λ t c le left. ⊎_elim (λ was. ⊎_elim (λ l. inl l) (λ p. inr (f c p)) (first.before t c le was)) (λ q. inr (g c q)) (second.before t c (omega (arith, le, first.later)) left);
-  }
+  then_on old mid new P Q R h g e f = grind arith
 
   -- what is known of less is known of more
   pub widened : (old new : S) (P R : Holding → Type 0) → CrashesLeave F old new P → ((c : Holding) → P c → R c) → CrashesLeave F old new R
-  widened old new P R run f = record {
-    later = run.later;
-    each = λ c left. f c (run.each c left);
-    before = λ t c le left. ⊎_elim (λ l. inl l) (λ p. inr (f c p)) (run.before t c le left);
-  }
+  widened old new P R h g = grind arith
 
 -- ---- appends, one after the other
 
@@ -92,17 +74,11 @@ module _ {S : Type 0} (F : Sight S) where
 
   pub leaves_moments : IsTimed F → (c : Content) (es part : List Entry) (old new : S) (rs : List Request) → Holds (F.held old) c (changes es) → IsDurable (F.held old) (F.may_leave old) → AreAppended F old rs new → Begins rs (changes part)
       → CrashesLeave F old new (λ h. WhereTold (F.held old) (IsMoment c (es ++ part) h))
-  leaves_moments timed c es part old new rs holds durable are begins =
-      widened F old new (IsBetween (F.held old) rs) (λ h. WhereTold (F.held old) (IsMoment c (es ++ part) h)) (all_appended timed old new rs durable are)
-      (λ h is. between c es part (F.held old) h holds (subst (λ (l : List Request). IsBetween (F.held old) l h) begins.1 (so_far (F.held old) rs begins.0 h is)))
+  leaves_moments h c es part old new rs g e f p = grind (arith, widened, all_appended, between, so_far)
 
   pub on_and_on : (c : Content) (es part : List Entry) (first mid new : S) → Holds (F.held mid) c (changes es) → HoldsSome (F.held mid) (F.held new) (changes part) → CrashesLeave F first mid (λ h. WhereTold (F.held mid) (IsMoment c es h))
       → CrashesLeave F mid new (IsBetween (F.held mid) (changes part)) → CrashesLeave F first new (λ h. WhereTold (F.held new) (IsMoment c (es ++ part) h))
-  on_and_on c es part first mid new holds grew before after =
-      let still = λ (P : Type 0). told_still (F.held mid) (F.held new) grew.0 P grew.2 in
-      then_on F first mid new (λ h. WhereTold (F.held mid) (IsMoment c es h)) (IsBetween (F.held mid) (changes part)) (λ h. WhereTold (F.held new) (IsMoment c (es ++ part) h)) before after
-      (λ h is. still (IsMoment c (es ++ part) h) (told_more (F.held mid) (IsMoment c es h) (IsMoment c (es ++ part) h) (longer c es part h) is))
-      (λ h is. still (IsMoment c (es ++ part) h) (between c es part (F.held mid) h holds is))
+  on_and_on c es part first mid new h g e f = grind (arith, told_still, then_on, told_more, longer, between)
 
 -- a load, a replace by the opening's image, and then changes of the journal
 pub survives : {S : Type 0} (F : Sight S) → IsTimed F

@@ -7,11 +7,7 @@ use Rattle.journal_log.specs.Images.{Counts}
 
 -- the new base is held with no changes
 holds_fresh : (o p : Option Stored) (c : Content) (bytes : List ℕ) → HoldsFresh o p bytes → bytes ≡ image c → Holds p c []
-holds_fresh o None c bytes h is = tt
-holds_fresh None (Some t) c bytes h is = absurd (cc)
-holds_fresh (Some s) (Some t) c bytes h is =
-    let same : t.holding ≡ fresh bytes = cc in
-    same ∙ ap fresh is
+holds_fresh o p c bytes h g = grind arith
 
 module _ {S : Type 0} (F : Sight S) (old new : S) (c : Content) where
   leaves_image : (bytes : List ℕ) → bytes ≡ image c → CrashesLeave F old new (λ h. F.may_leave old h ⊎ (h ≡ fresh bytes)) → CrashesLeave F old new (λ h. F.may_leave old h ⊎ (h ≡ fresh (image c)))
@@ -20,15 +16,10 @@ module _ {S : Type 0} (F : Sight S) (old new : S) (c : Content) where
   pub replaced : (bytes : List ℕ) → bytes ≡ image c → HoldsFresh (F.held old) (F.held new) bytes → IsDurable (F.held new) (F.may_leave new) → CrashesLeave F old new (λ h. F.may_leave old h ⊎ (h ≡ fresh bytes)) → F.answers old new → Replaced F c old new
   replaced bytes is holds durable leaves answered = record { holds = holds_fresh (F.held old) (F.held new) c bytes holds is; durable = durable; leaves = leaves_image bytes is leaves; answered = answered }
 
-  pub not_replaced : (bytes : List ℕ) → bytes ≡ image c → F.held new ≡ F.held old → CrashesLeave F old new (λ h. F.may_leave old h ⊎ (h ≡ fresh bytes)) → F.fails old new → NotReplaced F c old new
-  not_replaced bytes is same leaves broken = record { same = same; calls = inr broken; leaves = leaves_image bytes is leaves }
-
 -- nothing was called
 pub not_called : {S : Type 0} (F : Sight S) (s : S) (c : Content) → IsTimed F → NotReplaced F c s s
 not_called F s c timed = record { same = refl; calls = inl refl; leaves = started F s (λ h. F.may_leave s h ⊎ (h ≡ fresh (image c))) (λ h left. inl (timed.only_now s h left)) }
 
 -- the count of faults, where no call failed before the last
 pub counts : {A : Type 0} (r : Result A ShelfStop) (before mid after : ℕ) → mid ≡ before → before < 2 ^ 64 - 1 → (IsErrOf r Failed → Rose mid after) → ((IsErrOf r Failed → ⊥) → after ≡ mid) → Counts r before after
-counts (Ok x) before mid after first few rose calm = calm (λ e. cc) ∙ first
-counts (Err Failed) before mid after first few rose calm = elim (rose refl) [ inl l ↦ omega (arith, l, first) | inr most ↦ absurd (omega (arith, most, first, few)) ]
-counts (Err NoMemory) before mid after first few rose calm = calm (λ e. cc) ∙ first
+counts r before mid after h g e f = grind arith

@@ -28,8 +28,7 @@ grown_none (Stands held) = ap (λ (rs : List Request). Stands (record { base = h
 grown_none _ = refl
 
 pub grown_one : (h : Holding) (r : Request) → grown h r ≡ grown_by h (r ∷ [])
-grown_one Nothing r = refl
-grown_one _ r = refl
+grown_one h r = grind arith
 
 pub grown_then : (h : Holding) (rs qs : List Request) → grown_by (grown_by h rs) qs ≡ grown_by h (rs ++ qs)
 grown_then (Stands held) rs qs = ap (λ (l : List Request). Stands (record { base = held.base; changes = l })) (append_assoc held.changes rs qs)
@@ -40,22 +39,13 @@ holds_none None = refl
 holds_none (Some s) = ap Some (sym (grown_none s.holding))
 
 pub holds_one : (o p : Option Stored) (r : Request) → HoldsGrown o p r → HoldsGrownBy o p (r ∷ [])
-holds_one None p r h = h
-holds_one (Some s) p r h = h ∙ ap Some (grown_one s.holding r)
+holds_one o p r h = grind arith
 
 pub holds_then : (o p q : Option Stored) (rs qs : List Request) → HoldsGrownBy o p rs → HoldsGrownBy p q qs → HoldsGrownBy o q (rs ++ qs)
-holds_then None None q rs qs h g = g
-holds_then (Some s) (Some t) q rs qs h g =
-    let same : t.holding ≡ grown_by s.holding rs = cc in
-    g ∙ ap (λ (x : Holding). Some (grown_by x qs)) same ∙ ap Some (grown_then s.holding rs qs)
-holds_then _ _ q rs qs h g = absurd (cc)
+holds_then o p q rs qs h g = grind (arith, grown_then)
 
 pub holds_more : (c : Content) (o p : Option Stored) (rs more : List Request) → Holds o c rs → HoldsGrownBy o p more → Holds p c (rs ++ more)
-holds_more c None None rs more h g = tt
-holds_more c (Some s) (Some t) rs more h g =
-    let same : t.holding ≡ grown_by s.holding more = cc in
-    same ∙ ap (λ (x : Holding). grown_by x more) h
-holds_more c _ _ rs more h g = absurd (cc)
+holds_more c o p rs more h g = grind arith
 
 -- ---- moments
 

@@ -47,11 +47,7 @@ module _ {S : Type 0} (F : Sight S) where
   once old new r grown durable answered = record { grown = holds_one (F.held old) (F.held new) r grown; durable = durable; answered = (new, answered, refl) }
 
   pub both : (old mid new : S) (rs qs : List Request) → Appended F rs old mid → Appended F qs mid new → Appended F (rs ++ qs) old new
-  both old mid new rs qs first second = record {
-    grown = holds_then (F.held old) (F.held mid) (F.held new) rs qs first.grown second.grown;
-    durable = second.durable;
-    answered = answered_then F rs qs old mid new first.answered second.answered;
-  }
+  both old mid new rs qs h g = grind (arith, holds_then, answered_then)
 
   -- one change was not
   pub stopped_once : (old new : S) (r : Request) (fault : ShelfStop) → LeftOut F fault r old new → Stopped F fault (r ∷ []) old new
@@ -59,13 +55,7 @@ module _ {S : Type 0} (F : Sight S) where
 
   -- the calls that were made then
   pub stops_of : (fault : ShelfStop) (rs : List Request) (old new : S) → Stopped F fault rs old new → Stops F rs old new
-  stops_of fault rs old new s = record {
-    front = s.front;
-    begins = (s.next ∷ s.rest, sym s.parts);
-    at = s.at;
-    answered = s.answered;
-    last = elim fault as (λ f. LeftOut F f s.next s.at new → (s.at ≡ new) ⊎ (F.answers s.at new ⊎ F.fails s.at new)) [ Failed ↦ λ l. inr (inr l.1) | NoMemory ↦ λ l. inr (inl l.1) ] s.left_out;
-  }
+  stops_of fault rs old new h = grind arith
 
   pub stopped_then : (old mid new : S) (rs qs more : List Request) (fault : ShelfStop) → Appended F rs old mid → Stopped F fault qs mid new → Stopped F fault (rs ++ qs ++ more) old new
   stopped_then old mid new rs qs more fault first then = record {
@@ -85,37 +75,29 @@ module _ {S : Type 0} (F : Sight S) where
   -- what one call of `append` says
   pub appended_by : {A : Type 0} (result : Result A ShelfStop) (old new : S) (r : Request) → OnOk result (HoldsGrown (F.held old) (F.held new) r) → OnOk result (IsDurable (F.held new) (F.may_leave new)) → ((IsErrOf result Failed → ⊥) → F.answers old new)
       → OnOk result (Appended F (r ∷ []) old new)
-  appended_by (Ok x) old new r grown durable answered = once old new r grown durable (answered (λ e. cc))
-  appended_by (Err e) old new r grown durable answered = tt
+  appended_by result old new r h g e = grind arith
 
   pub stopped_by : {A : Type 0} (result : Result A ShelfStop) (old new : S) (r : Request) → (IsErrOf result NoMemory → F.held new ≡ F.held old) → (IsErrOf result Failed → HoldsOneOf (F.held old) (F.held new) r)
       → ((IsErrOf result Failed → ⊥) → F.answers old new) → (IsErrOf result Failed → F.fails old new) → IfErr result (λ e. Stopped F e (r ∷ []) old new)
-  stopped_by (Ok x) old new r same one_of answered broken = tt
-  stopped_by (Err Failed) old new r same one_of answered broken = stopped_once old new r Failed (one_of refl, broken refl)
-  stopped_by (Err NoMemory) old new r same one_of answered broken = stopped_once old new r NoMemory (same refl, answered (λ e. cc))
+  stopped_by result old new r h g e f = grind (arith, stopped_once)
 
   -- ---- a loop over entries
 
   -- it begins
   pub loop_first : (es : List Entry) (s : S) → IsDurable (F.held s) (F.may_leave s) → Appended F (changes (take 0 es)) s s
-  loop_first es s durable = subst (λ (rs : List Request). Appended F rs s s) (sym changes_none) (nothing s durable)
+  loop_first es s durable = rw changes_none (nothing s durable)
 
   pub left_first : (es : List Entry) (s : S) → IsTimed F → IsDurable (F.held s) (F.may_leave s) → CrashesLeave F s s (IsBetween (F.held s) (changes (take 0 es)))
-  left_first es s timed durable =
-      subst (λ (rs : List Request). CrashesLeave F s s (IsBetween (F.held s) rs)) (sym changes_none)
-      (started F s (IsBetween (F.held s) []) (λ h left. at_first (F.held s) (F.may_leave s) h durable (timed.only_now s h left)))
+  left_first es s timed durable = rw changes_none (started F s (IsBetween (F.held s) []) (λ h left. at_first (F.held s) (F.may_leave s) h durable (timed.only_now s h left)))
 
   -- one entry more
   pub loop_more : (es : List Entry) (i : ℕ) (e : Entry) (old mid new : S) → i < length es → e ≡ get_or es i e → Appended F (changes (take i es)) old mid → Appended F (changes (e ∷ [])) mid new
       → Appended F (changes (take (i + 1) es)) old new
-  loop_more es i e old mid new less is first second =
-      subst (λ (rs : List Request). Appended F rs old new) (sym (changes_more es i e less is)) (both old mid new (changes (take i es)) (changes (e ∷ [])) first second)
+  loop_more es i e old mid new less is first second = rw (changes_more es i e less is) (both old mid new (changes (take i es)) (changes (e ∷ [])) first second)
 
   pub left_more : (es : List Entry) (i : ℕ) (e : Entry) (old mid new : S) → i < length es → e ≡ get_or es i e → HoldsGrownBy (F.held old) (F.held mid) (changes (take i es)) → CrashesLeave F old mid (IsBetween (F.held old) (changes (take i es)))
       → CrashesLeave F mid new (IsBetween (F.held mid) (changes (e ∷ []))) → CrashesLeave F old new (IsBetween (F.held old) (changes (take (i + 1) es)))
-  left_more es i e old mid new less is grown first second =
-      subst (λ (rs : List Request). CrashesLeave F old new (IsBetween (F.held old) rs)) (sym (changes_more es i e less is))
-      (goes_on F old mid new (changes (take i es)) (changes (e ∷ [])) grown first second)
+  left_more es i e old mid new less is grown first second = rw (changes_more es i e less is) (goes_on F old mid new (changes (take i es)) (changes (e ∷ [])) grown first second)
 
   -- it ends early
   stopped_more : (es : List Entry) (i : ℕ) (e : Entry) (fault : ShelfStop) (old mid new : S) → i < length es → e ≡ get_or es i e → Appended F (changes (take i es)) old mid → Stopped F fault (changes (e ∷ [])) mid new
@@ -143,14 +125,17 @@ module _ {S : Type 0} (F : Sight S) where
 
 -- what was not appended whole grew by first changes
 pub some_grown : {S : Type 0} (F : Sight S) (fault : ShelfStop) (rs : List Request) (old new : S) → Stopped F fault rs old new → HoldsSome (F.held old) (F.held new) rs
-some_grown {S} F fault rs old new s = by fault s.left_out
+some_grown {S} F fault rs old new s = elim fault as (λ f. LeftOut F f s.next s.at new → HoldsSome (F.held old) (F.held new) rs) [
+  | Failed ↦ λ h. elim h.0 [
+    | inl same ↦ short same
+    | inr grew ↦ (
+      s.front ++ s.next ∷ [],
+      (s.rest, append_assoc s.front (s.next ∷ []) s.rest ∙ sym s.parts),
+      holds_then (F.held old) (F.held s.at) (F.held new) s.front (s.next ∷ []) s.grown (holds_one (F.held s.at) (F.held new) s.next grew),
+    )
+  ]
+  | NoMemory ↦ λ h. short (ap told h.0)
+] s.left_out
   where
     short : told (F.held new) ≡ told (F.held s.at) → HoldsSome (F.held old) (F.held new) rs
     short same = (s.front, (s.next ∷ s.rest, sym s.parts), same ∙ s.grown)
-
-    long : HoldsGrown (F.held s.at) (F.held new) s.next → HoldsSome (F.held old) (F.held new) rs
-    long grew = (s.front ++ s.next ∷ [], (s.rest, append_assoc s.front (s.next ∷ []) s.rest ∙ sym s.parts), holds_then (F.held old) (F.held s.at) (F.held new) s.front (s.next ∷ []) s.grown (holds_one (F.held s.at) (F.held new) s.next grew))
-
-    by : (f : ShelfStop) → LeftOut F f s.next s.at new → HoldsSome (F.held old) (F.held new) rs
-    by Failed h = elim h.0 [ inl same ↦ short same | inr grew ↦ long grew ]
-    by NoMemory h = short (ap told h.0)

@@ -7,29 +7,22 @@ use Rattle.list_walk.specs.Walks.{deleting, sweep_hears}
 use Rattle.list_walk.specs.Kept.{deleting_from, sweep_at, from_if, next_from}
 
 hears_from : (goes : List ℕ → Bool) (r : Reply) (l : List (List ℕ)) → 0 < length l → sweep_hears goes (deleting_from l) r ≡ deleting (drop 1000 l)
-hears_from goes r [] h = absurd (omega arith)
-hears_from goes r (k ∷ ks) h = refl
+hears_from goes r l h = grind arith
 
 some_left : (l : List (List ℕ)) → 0 < length l → deleting l ≡ Some (deleting_from l)
-some_left [] h = absurd (omega arith)
-some_left (k ∷ ks) h = refl
+some_left l h = grind arith
 
 none_left : (l : List (List ℕ)) → length l ≡ 0 → deleting l ≡ None
-none_left [] h = refl
-none_left (k ∷ ks) h = absurd (omega arith)
+none_left l h = grind arith
 
 hears_at : (goes : List ℕ → Bool) (r : Reply) (keys : List (List ℕ)) (from : ℕ) → from < length keys → sweep_hears goes (deleting_from (drop from keys)) r ≡ deleting (drop (from + 1000) keys)
 hears_at goes r keys from h = hears_from goes r (drop from keys) (omega (arith, length-drop from keys)) ∙ ap deleting (drop-drop 1000 from keys)
 
 next_is : (a b : Bool) (from n len : ℕ) → nat_lt from len ≡ a → nat_lt 1000 (len - from) ≡ b → from_if (a && b) (from + 1000) ≡ Some n → (n ≡ from + 1000) × (from < len) × (1000 < len - from)
-next_is true true from n len x y h = let e : n ≡ from + 1000 = cc in (e, below_is from len x, below_is 1000 (len - from) y)
-next_is true false from n len x y h = absurd (cc)
-next_is false b from n len x y h = absurd (cc)
+next_is a b from n len h g e = grind arith
 
 last_is : (a b : Bool) (from len : ℕ) → nat_lt from len ≡ a → nat_lt 1000 (len - from) ≡ b → from_if (a && b) (from + 1000) ≡ None → len ≤ from + 1000
-last_is true true from len x y h = absurd (cc)
-last_is true false from len x y h = let i = below_not 1000 (len - from) y in omega (arith, i)
-last_is false b from len x y h = let i = below_not from len x in omega (arith, i)
+last_is a b from len h g e = grind arith
 
 -- a batch is gone, and the next one is due
 pub batch_next : (goes : List ℕ → Bool) (r : Reply) (listing : Bool) (found keys : List (List ℕ)) (from n : ℕ) → listing ≡ false → next_from from (length keys) ≡ Some n → sweep_hears goes (sweep_at listing found keys from) r ≡ Some (sweep_at listing found keys n)

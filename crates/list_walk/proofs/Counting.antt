@@ -23,15 +23,15 @@ one_most false = omega arith
 pub count_where : {E : Type 0} (t q : E → Bool) (es : List E) → count t (filter q es) ≤ count t es
 count_where t q [] = omega arith
 count_where t q (e ∷ es) = elim (q e) as (λ b. count t (cond b (e ∷ filter q es) (filter q es)) ≤ count t (e ∷ es)) [
-      true ↦ omega (arith, count_where t q es, count_more t e (filter q es), count_more t e es)
-    | false ↦ omega (arith, count_where t q es, count_more t e es)
-  ]
+  | true ↦ omega (arith, count_where t q es, count_more t e (filter q es), count_more t e es)
+  | false ↦ omega (arith, count_where t q es, count_more t e es)
+]
 
 module _ {K X : Type 0} (R : K → K → Ordering) (t : K × X → Bool) where
   pub count_put : (k : K) (v : X) (es : List (K × X)) → count t (put R k v es) ≤ count t es + 1
   count_put k v [] = let m = one_most (t (k, v)) in omega (arith, count_more t (k, v) [], m)
   count_put k v (e ∷ es) = elim (R k e.0) as (λ r. count t (by_order r ((k, v) ∷ e ∷ es) ((e.0, v) ∷ es) (e ∷ put R k v es)) ≤ count t (e ∷ es) + 1) [
-      Less ↦ omega (arith, count_more t (k, v) (e ∷ es), one_most (t (k, v)))
+    | Less ↦ omega (arith, count_more t (k, v) (e ∷ es), one_most (t (k, v)))
     | Equal ↦ omega (arith, count_more t (e.0, v) es, count_more t e es, one_most (t (e.0, v)))
     | Greater ↦ omega (arith, count_put k v es, count_more t e (put R k v es), count_more t e es)
   ]
@@ -40,7 +40,7 @@ module _ {K X : Type 0} (R : K → K → Ordering) (t : K × X → Bool) where
   pub count_new : (k : K) (v : X) (es : List (K × X)) → find R k es ≡ None → count t (put R k v es) ≡ one (t (k, v)) + count t es
   count_new k v [] h = count_more t (k, v) []
   count_new k v (e ∷ es) h = elim (R k e.0) as (λ r. R k e.0 ≡ r → count t (by_order r ((k, v) ∷ e ∷ es) ((e.0, v) ∷ es) (e ∷ put R k v es)) ≡ one (t (k, v)) + count t (e ∷ es)) [
-      Less ↦ λ i. count_more t (k, v) (e ∷ es)
+    | Less ↦ λ i. count_more t (k, v) (e ∷ es)
     | Equal ↦ λ i. absurd (none_some (rw i at h) refl)
     | Greater ↦ λ i. omega (arith, count_new k v es (rw i at h), count_more t e (put R k v es), count_more t e es)
   ] refl

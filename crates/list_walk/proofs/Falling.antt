@@ -26,10 +26,10 @@ rising m n h = omega arith
 
 length_chosen : (t : List ℕ → Bool) (ks : List (List ℕ)) → length (filter t ks) ≤ length ks
 length_chosen t [] = omega arith
-length_chosen t (k ∷ ks) = elim (t k) as (λ b. length (cond b (k ∷ filter t ks) (filter t ks)) ≤ length (k ∷ ks)) [ true ↦ omega (arith, length_chosen t ks) | false ↦ omega (arith, length_chosen t ks) ]
-
-some_thousands : (n : ℕ) → 0 < n → 0 < thousands n
-some_thousands n h = omega arith
+length_chosen t (k ∷ ks) = elim (t k) as (λ b. length (cond b (k ∷ filter t ks) (filter t ks)) ≤ length (k ∷ ks)) [
+  | true ↦ omega (arith, length_chosen t ks)
+  | false ↦ omega (arith, length_chosen t ks)
+]
 
 -- ---- keys
 
@@ -69,9 +69,6 @@ module _ (b p : List ℕ) (keys : List (List ℕ)) (s : Scene) where
   walk_step None e h = absurd h
   walk_step (Some c) e h = walk_by c e (listed p false (last_of keys) c.objects) refl (nat_lt 1000 (length (listed p false (last_of keys) c.objects))) refl
 
-  walk_falls : FitsPage (answer s (page_after b p keys)) → LessWalk b p s (walk_left b p keys s) (walked keys (answer s (page_after b p keys)))
-  walk_falls h = walk_step (fin.get s.content.buckets b) refl h
-
   walk_grows : (r : Request) → walk_left b p keys (apply s r) ≤ walk_left b p keys s + one_if (adds_key r)
   walk_grows r =
       let g = growth.keys b p (last_of keys) s r in
@@ -106,7 +103,7 @@ module _ (b p : List ℕ) (keys : List (List ℕ)) (s : Scene) where
 -- ---- sweeps
 
 batch_falls : (b p : List ℕ) (s : Scene) (n : ℕ) (ks : List (List ℕ)) → length ks ≡ n - 1000 → 0 < n → left_of b p (deleting ks) s < thousands n
-batch_falls b p s n [] e h = some_thousands n h
+batch_falls b p s n [] e h = omega arith
 batch_falls b p s n (k ∷ ks) e h = let f = fewer n h in let g = ap thousands e in omega (arith, f, g)
 
 sweep_falls : (b p : List ℕ) (goes : List ℕ → Bool) (w : Sweep) (s : Scene) → FitsSweep w (answer s (sweep_asks b p w)) → left_of b p (sweep_hears goes w (answer s (sweep_asks b p w))) (apply s (sweep_asks b p w)) < sweep_left b p w s
@@ -117,7 +114,7 @@ sweep_falls b p goes (Deleting k ks) s h = batch_falls b p (apply s (sweep_asks 
 
 sweep_some : (b p : List ℕ) (w : Sweep) (s : Scene) → 0 < sweep_left b p w s
 sweep_some b p (Listing keys) s = omega arith
-sweep_some b p (Deleting k ks) s = some_thousands (length (k ∷ ks)) (omega arith)
+sweep_some b p (Deleting k ks) s = omega arith
 
 sweep_keeps : (b p : List ℕ) (w : Sweep) (s : Scene) → sweep_left b p w (apply s (sweep_asks b p w)) ≤ sweep_left b p w s
 sweep_keeps b p (Listing keys) s = subst (λ z. sweep_left b p (Listing keys) z ≤ sweep_left b p (Listing keys) s) (sym (still b p keys s)) (omega arith)
@@ -163,17 +160,12 @@ module _ (b p : List ℕ) (found : List UploadRef) (s : Scene) where
 pub walk_laws : WalkLaws
 walk_laws = record {
   still = still;
-  falls = walk_falls;
+  falls = λ b p keys s. walk_step b p keys s (fin.get s.content.buckets b) refl;
   others = walk_grows;
 }
 
 pub sweep_laws : SweepLaws
-sweep_laws = record {
-  falls = sweep_falls;
-  some = sweep_some;
-  no_rise = sweep_keeps;
-  others = sweep_grows;
-}
+sweep_laws = grind (arith, sweep_falls, sweep_some, sweep_keeps, sweep_grows)
 
 pub upload_laws : UploadLaws
 upload_laws = record {

@@ -1,5 +1,5 @@
 -- What the tests of replies say.
-use Rattle.std.proofs.Common.{◌≡◌, Bool, List, [], ◌∷◌, Decides, refl, sym, ap, subst, ◌∙◌}
+use Rattle.std.proofs.Common.{◌≡◌, Bool, List, [], ◌∷◌, Decides, refl, sym, ap, subst, ◌∙◌, arith}
 use Rattle.proof_base.proofs.Common.{true≢false}
 use Rattle.store_frame.specs.Prelude.{list_all, Reply, Page, PageEntry, Prefix}
 use Rattle.std.proofs.lemmas.Bool.Decides.{Decides-at, Decides-and}
@@ -7,8 +7,7 @@ use Rattle.s3_types.specs.declared.reply.PageEntry.TheVariants.{Object as Single
 use Rattle.list_walk.specs.Fitting.{IsKey, is_key, AreKeys, FitsPage}
 
 key_decides : (e : PageEntry) → Decides (is_key e) (IsKey e)
-key_decides (Single k n) = (λ _. tt, λ _. refl)
-key_decides (Prefix t) = (λ e. absurd (true≢false (sym e)), λ h. absurd h)
+key_decides e = grind arith
 
 pub keys_decide : (es : List PageEntry) → Decides (list_all is_key es) (AreKeys es)
 keys_decide [] = (λ _. tt, λ _. refl)

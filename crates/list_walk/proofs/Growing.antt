@@ -1,7 +1,7 @@
 -- What one request adds to what is there.
 use Rattle.std.proofs.Common.{◌≡◌, ℕ, inl, inr, ◌+◌, ◌≤◌, true, false, cond, List, [], ◌∷◌, length, nat_lt, Option, Some, None, Ok, Err, refl, ap, ◌∙◌, arith}
 use Rattle.s3_types.specs.Prelude.{get-insert}
-use Rattle.store_frame.specs.Prelude.{filter, eq_by_cmp, nat_cmp, nat_cmp_total, Equal, text_cmp, text_total, is_bucket, Scene, Objects, Files, Upload, Uploads, BucketContent, Content, new_bucket, apply, apply_at, apply_in, bucket_of, without, copied, completed, renamed, aborted, part_put, begins, listed, live, is_part_number, joined, ref_of, with_part, Object, MOST_ENTRIES, Request, MakeBucket, PutObject, DeleteObject, DeleteObjects, CopyObject, CreateUpload, UploadPart, CompleteUpload, AbortUpload, ClusterPut, ClusterRename, ClusterGet, ClusterDelete, ClusterList, UploadRef}
+use Rattle.store_frame.specs.Prelude.{filter, eq_by_cmp, nat_cmp, nat_cmp_total, text_cmp, text_total, is_bucket, Scene, Objects, Files, Upload, Uploads, BucketContent, Content, new_bucket, apply, apply_at, apply_in, bucket_of, without, copied, completed, renamed, aborted, part_put, begins, listed, live, is_part_number, joined, ref_of, with_part, Object, MOST_ENTRIES, Request, MakeBucket, PutObject, DeleteObject, DeleteObjects, CopyObject, CreateUpload, UploadPart, CompleteUpload, AbortUpload, ClusterPut, ClusterRename, ClusterGet, ClusterDelete, ClusterList, UploadRef}
 use Rattle.proof_base.proofs.Common.{exact_bytes}
 use Rattle.proof_base.proofs.Members.{true_or_false}
 use Rattle.std.specs.FinMap as fin
@@ -13,25 +13,24 @@ use Rattle.list_walk.specs.Laws.{Growth}
 use Rattle.list_walk.proofs.Counting.{count, count_insert, count_remove}
 use Rattle.list_walk.proofs.Listing.{is_left, listed_count, is_left_ref, refs_count, count_mapped}
 
-exact_numbers : (i j : ℕ) → nat_cmp i j ≡ Equal → i ≡ j
-exact_numbers i j e = fin.nat_cmp-IsAntisymmetric i j e
-
 -- ---- in a bucket
 
 module _ (f : BucketContent → ℕ) (d : ℕ) where
   grown : (s : Scene) (r : Request) (o : Option BucketContent) → fin.get s.content.buckets (bucket_of r) ≡ o → ((c : BucketContent) (n m : ℕ) → f (apply_in c n m r) ≤ f c + d)
       → (b : List ℕ) → count_in f (fin.get (apply_at o s.content r).buckets b) ≤ count_in f (fin.get s.content.buckets b) + d
   grown s r None e h b = omega arith
-  grown s r (Some c) e h b = rw (get-insert text_total s.content.buckets (bucket_of r) (apply_in c s.content.next s.content.minimum r) b) (elim (true_or_false (eq_by_cmp text_cmp b (bucket_of r))) [
-    | inl t ↦ rw (t, exact_bytes b (bucket_of r) (tied (text_cmp b (bucket_of r)) t), e) (h c s.content.next s.content.minimum)
-    | inr t ↦ rw t (omega arith)
-  ])
+  grown s r (Some c) e h b = rw (get-insert text_total s.content.buckets (bucket_of r) (apply_in c s.content.next s.content.minimum r) b)
+      (elim (true_or_false (eq_by_cmp text_cmp b (bucket_of r))) [
+        | inl t ↦ rw (t, exact_bytes b (bucket_of r) (tied (text_cmp b (bucket_of r)) t), e) (h c s.content.next s.content.minimum)
+        | inr t ↦ rw t (omega arith)
+      ])
 
   grown_new : f new_bucket ≡ 0 → (c : Content) (name : List ℕ) (o : Option BucketContent) (b : List ℕ) → count_in f (fin.get (made c name o).buckets b) ≤ count_in f (fin.get c.buckets b) + d
   grown_new z c name (Some x) b = omega arith
   grown_new z c name None b = elim (true_or_false (is_bucket name)) [
     | inr t ↦ rw t (omega arith)
-    | inl t ↦ rw (t, get-insert text_total c.buckets name new_bucket b) (elim (true_or_false (eq_by_cmp text_cmp b name)) [ inl e ↦ rw e (omega (arith, z)) | inr e ↦ rw e (omega arith) ])
+    | inl t ↦ rw (t, get-insert text_total c.buckets name new_bucket b)
+        (elim (true_or_false (eq_by_cmp text_cmp b name)) [ inl e ↦ rw e (omega (arith, z)) | inr e ↦ rw e (omega arith) ])
   ]
 
   pub grows : f new_bucket ≡ 0 → (s : Scene) (r : Request) → ((c : BucketContent) (n m : ℕ) → f (apply_in c n m r) ≤ f c + d) → (b : List ℕ) → in_bucket (apply s r) b f ≤ in_bucket s b f + d
@@ -60,12 +59,7 @@ module _ (p a : List ℕ) where
   keys_without m (k ∷ ks) = let i = keys_without (fin.remove m k) ks in let j = no_more_keys m k in omega (arith, i, j)
 
   keys_by : (r : Request) (c : BucketContent) (n m : ℕ) → length (listed p false a (apply_in c n m r).objects) ≤ length (listed p false a c.objects) + one_if (adds_key r)
-  keys_by (PutObject b k bytes header) c n m = more_keys c.objects k (record { bytes = bytes; header = header })
-  keys_by (DeleteObject b k) c n m = let i = no_more_keys c.objects k in omega (arith, i)
-  keys_by (DeleteObjects b ks) c n m = elim (nat_lt MOST_ENTRIES (length ks)) as (λ t. K (cond t c.objects (without c.objects ks)) ≤ K c.objects + 0) [ true ↦ omega arith | false ↦ omega (arith, keys_without c.objects ks) ]
-  keys_by (CopyObject b source target) c n m = elim (fin.get c.objects source) as (λ o. K (copied c.objects target o) ≤ K c.objects + 1) [ Some x ↦ more_keys c.objects target x | None ↦ omega arith ]
-  keys_by (CompleteUpload b k id ns) c n m = elim (joined (live c.uploads k id) ns m) as (λ r. K (completed c k id r).objects ≤ K c.objects + 1) [ Ok bytes ↦ more_keys c.objects k _ | Err r ↦ omega arith ]
-  keys_by _ c n m = omega arith
+  keys_by r c n m = grind (arith, more_keys, no_more_keys, keys_without)
 
   none_new : length (listed p false a new_bucket.objects) ≡ 0
   none_new = listed_count p a fin.empty ∙ ap (count (is_left p a)) (entries_empty text_cmp)
@@ -80,18 +74,18 @@ module _ (p : List ℕ) (a : Option UploadRef) where
   more_refs m i u = let j = count_insert nat_cmp_total (λ e. is_left_ref p a (ref_of e).0) m i u in omega (arith, j, refs_count p a m, refs_count p a (fin.insert m i u))
 
   no_more_refs : (m : Uploads) (i : ℕ) → length (uploads.listed p a (fin.remove m i)) ≤ length (uploads.listed p a m)
-  no_more_refs m i = let j = count_remove nat_cmp_total exact_numbers (λ e. is_left_ref p a (ref_of e).0) m i in omega (arith, j, refs_count p a m, refs_count p a (fin.remove m i))
+  no_more_refs m i =
+      let j = count_remove nat_cmp_total fin.nat_cmp-IsAntisymmetric (λ e. is_left_ref p a (ref_of e).0) m i in omega (arith, j, refs_count p a m, refs_count p a (fin.remove m i))
 
   refs_parted : (m : Uploads) (i : ℕ) (o : Option Upload) (n : ℕ) (bytes : List ℕ) → length (uploads.listed p a (part_put m i o n bytes)) ≤ length (uploads.listed p a m) + 1
   refs_parted m i None n bytes = omega arith
-  refs_parted m i (Some u) n bytes = elim (is_part_number n) as (λ b. U (cond b (fin.insert m i (with_part u n bytes)) m) ≤ U m + 1) [ true ↦ more_refs m i (with_part u n bytes) | false ↦ omega arith ]
+  refs_parted m i (Some u) n bytes = elim (is_part_number n) as (λ b. U (cond b (fin.insert m i (with_part u n bytes)) m) ≤ U m + 1) [
+    | true ↦ more_refs m i (with_part u n bytes)
+    | false ↦ omega arith
+  ]
 
   refs_by : (r : Request) (c : BucketContent) (n m : ℕ) → length (uploads.listed p a (apply_in c n m r).uploads) ≤ length (uploads.listed p a c.uploads) + one_if (sets_upload r)
-  refs_by (CreateUpload b k) c n m = more_refs c.uploads n (record { key = k; parts = fin.empty })
-  refs_by (UploadPart b k id number bytes) c n m = refs_parted c.uploads id (live c.uploads k id) number bytes
-  refs_by (CompleteUpload b k id ns) c n m = elim (joined (live c.uploads k id) ns m) as (λ r. U (completed c k id r).uploads ≤ U c.uploads + 0) [ Ok bytes ↦ omega (arith, no_more_refs c.uploads id) | Err r ↦ omega arith ]
-  refs_by (AbortUpload b k id) c n m = elim (live c.uploads k id) as (λ o. U (aborted c.uploads id o) ≤ U c.uploads + 0) [ Some u ↦ omega (arith, no_more_refs c.uploads id) | None ↦ omega arith ]
-  refs_by _ c n m = omega arith
+  refs_by r c n m = grind (arith, more_refs, refs_parted, no_more_refs)
 
   no_refs_new : length (uploads.listed p a new_bucket.uploads) ≡ 0
   no_refs_new = refs_count p a fin.empty ∙ ap (count (λ e. is_left_ref p a (ref_of e).0)) (entries_empty nat_cmp)
@@ -113,10 +107,7 @@ module _ (p : List ℕ) where
   files_renamed m source target None = omega arith
 
   files_by : (s : Scene) (r : Request) → files_left p (apply s r) ≤ files_left p s + 1
-  files_by s (ClusterPut path bytes) = more_files s.files path bytes
-  files_by s (ClusterRename source target) = files_renamed s.files source target (fin.get s.files source)
-  files_by s (ClusterDelete path) = let i = no_more_files s.files path in omega (arith, i)
-  files_by s _ = omega arith
+  files_by s r = grind (arith, more_files, files_renamed, no_more_files)
 
 pub growth : Growth
 growth = record {

@@ -1,5 +1,6 @@
 -- Entries that are keys.
-use Rattle.std.proofs.Common.{◌≡◌, ℕ, suc, Bool, true, false, cond, List, [], ◌∷◌, ◌++◌, map, take, Option, Some, None, Result, Ok, Err, IfOk, refl, sym, ap, ◌∙◌}
+use Rattle.std.proofs.Common.{◌≡◌, ℕ, suc, Bool, true, false, cond, List, [], ◌∷◌, ◌++◌, map, take, Option, Some, None, Result, Ok, Err, IfOk, refl, sym, ap, ◌∙◌, arith}
+use Rattle.proof_base.proofs.Common.{map-append}
 use Rattle.store_frame.specs.Prelude.{filter, is_lt, text_cmp, Objects, begins, entry_of, listed, text_in, folded_from, is_again, Object, PageEntry, Reply, Page}
 use Rattle.std.specs.FinMap as fin
 use Rattle.list_walk.specs.Walks.{Walked, More, Whole, walked_by, keys_on, walked, walked_entries}
@@ -10,8 +11,7 @@ are_keys [] fs h g = g
 are_keys (e ∷ es) fs h g = (h.0, are_keys es fs h.1 g)
 
 pub keys_joined : (es fs : List PageEntry) → keys_on (es ++ fs) ≡ keys_on es ++ keys_on fs
-keys_joined [] fs = refl
-keys_joined (e ∷ es) fs = ap (λ ks. text_in e ∷ ks) (keys_joined es fs)
+keys_joined = map-append text_in
 
 -- ---- a page that is not folded has keys alone
 
@@ -21,24 +21,24 @@ keys_mapped p (e ∷ es) = (tt, keys_mapped p es)
 
 keys_filtered : (test : PageEntry → Bool) (es : List PageEntry) → AreKeys es → AreKeys (filter test es)
 keys_filtered test [] h = tt
-keys_filtered test (e ∷ es) h = elim (test e) as (λ b. AreKeys (cond b (e ∷ filter test es) (filter test es))) [ true ↦ (h.0, keys_filtered test es h.1) | false ↦ keys_filtered test es h.1 ]
+keys_filtered test (e ∷ es) h = elim (test e) as (λ b. AreKeys (cond b (e ∷ filter test es) (filter test es))) [
+  | true ↦ (h.0, keys_filtered test es h.1)
+  | false ↦ keys_filtered test es h.1
+]
 
 keys_folded : (last : Option (List ℕ)) (es : List PageEntry) → AreKeys es → AreKeys (folded_from last es)
 keys_folded last [] h = tt
 keys_folded last (e ∷ es) h = elim (is_again last e) as (λ b. AreKeys (cond b (folded_from last es) (e ∷ folded_from (Some (text_in e)) es))) [
-      true ↦ keys_folded last es h.1
-    | false ↦ (h.0, keys_folded (Some (text_in e)) es h.1)
-  ]
+  | true ↦ keys_folded last es h.1
+  | false ↦ (h.0, keys_folded (Some (text_in e)) es h.1)
+]
 
 keys_taken : (n : ℕ) (es : List PageEntry) → AreKeys es → AreKeys (take n es)
 keys_taken (suc n) (e ∷ es) h = (h.0, keys_taken n es h.1)
 keys_taken _ _ h = tt
 
-pub keys_listed : (p a : List ℕ) (m : Objects) → AreKeys (listed p false a m)
-keys_listed p a m = keys_folded None _ (keys_filtered (λ x. is_lt (text_cmp a (text_in x))) _ (keys_mapped p (filter (λ e. begins p e.0) (fin.entries m))))
-
 pub page_keys : (n : ℕ) (p a : List ℕ) (m : Objects) → AreKeys (take n (listed p false a m))
-page_keys n p a m = keys_taken n (listed p false a m) (keys_listed p a m)
+page_keys n p a m = keys_taken n _ (keys_folded None _ (keys_filtered (λ x. is_lt (text_cmp a (text_in x))) _ (keys_mapped p (filter (λ e. begins p e.0) (fin.entries m)))))
 
 -- ---- walks
 
@@ -47,17 +47,10 @@ abbrev pub on_keys : Walked PageEntry → Walked (List ℕ)
 on_keys (More es) = More (keys_on es)
 on_keys (Whole es) = Whole (keys_on es)
 
-by_keys : (more : Bool) (es fs : List PageEntry) → walked_by more (keys_on es ++ keys_on fs) ≡ on_keys (walked_by more (es ++ fs))
-by_keys more es fs = ap (walked_by more) (sym (keys_joined es fs)) ∙ (elim more as (λ b. walked_by b (keys_on (es ++ fs)) ≡ on_keys (walked_by b (es ++ fs))) [ true ↦ refl | false ↦ refl ])
-
 -- a walk over entries is one over their keys
 pub walked_keys : (found : List PageEntry) (r : Reply) → walked (keys_on found) r ≡ on_keys (walked_entries found r)
-walked_keys found (Page entries more) = by_keys more found entries
-walked_keys found _ = refl
-
-walked_told : (old new : List PageEntry) (r : Reply) (more : Bool) → walked_entries old r ≡ walked_by more new → walked (keys_on old) r ≡ walked_by more (keys_on new)
-walked_told old new r more h = walked_keys old r ∙ ap on_keys h ∙ (elim more as (λ b. on_keys (walked_by b new) ≡ walked_by b (keys_on new)) [ true ↦ refl | false ↦ refl ])
+walked_keys found r = grind (arith, keys_joined)
 
 pub heard_keys : {E : Type 0} (old new : List PageEntry) (r : Reply) (heard : Result Bool E) → IfOk heard (λ more. walked_entries old r ≡ walked_by more new) → IfOk heard (λ more. walked (keys_on old) r ≡ walked_by more (keys_on new))
-heard_keys old new r (Ok more) h = walked_told old new r more h
+heard_keys old new r (Ok more) h = walked_keys old r ∙ ap on_keys h ∙ (elim more as (λ b. on_keys (walked_by b new) ≡ walked_by b (keys_on new)) [ true ↦ refl | false ↦ refl ])
 heard_keys old new r (Err e) h = h

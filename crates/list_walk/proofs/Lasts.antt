@@ -4,18 +4,14 @@ use Rattle.store_frame.specs.Prelude.{slice_get, text_in, UploadRef, PageEntry}
 use Rattle.list_walk.specs.Walks.{keys_on, last_of, last_ref}
 
 last_got : (es : List PageEntry) (n : ℕ) (e : PageEntry) → suc n ≡ length es → slice_get es n ≡ Some e → last_of (keys_on es) ≡ text_in e
-last_got [] n e l h = absurd (omega arith)
 last_got (x ∷ []) zero e l h = let i : x ≡ e = cc in ap text_in i
-last_got (x ∷ []) (suc n) e l h = absurd (omega arith)
-last_got (x ∷ y ∷ es) zero e l h = absurd (omega arith)
 last_got (x ∷ y ∷ es) (suc n) e l h = last_got (y ∷ es) n e (omega arith) h
+last_got _ _ e l h = absurd (omega arith)
 
 pub ref_got : (a : Option UploadRef) (refs : List UploadRef) (n : ℕ) (r : UploadRef) → suc n ≡ length refs → slice_get refs n ≡ Some r → last_ref a refs ≡ Some r
-ref_got a [] n r e h = absurd (omega arith)
 ref_got a (q ∷ []) zero r e h = h
-ref_got a (q ∷ []) (suc n) r e h = absurd (omega arith)
-ref_got a (q ∷ s ∷ refs) zero r e h = absurd (omega arith)
 ref_got a (q ∷ s ∷ refs) (suc n) r e h = ref_got (Some q) (s ∷ refs) n r (omega arith) h
+ref_got a _ _ r e h = absurd (omega arith)
 
 some_length : {X : Type 0} (xs : List X) (x : X) → slice_get xs (length xs - 1) ≡ Some x → suc (length xs - 1) ≡ length xs
 some_length [] x h = absurd (cc)

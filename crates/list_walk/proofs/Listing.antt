@@ -39,7 +39,8 @@ walked_count p a [] s = refl
 walked_count p a (e ∷ es) s =
     let later = sorted_head text_cmp e.0 (keys_of es) s in let rest = sorted_tail text_cmp e.0 (keys_of es) s in
     rw (count_more (is_left p a) e es) (elim (true_or_false (is_left p a e)) [
-      | inl t ↦ rw t (omega (arith, walked_count p e.0 es rest, behind_all p e.0 es later, behind_all p a es (behind_too a e.0 (keys_of es) (and_parts (begins p e.0) _ t).1 later)))
+      | inl t ↦
+          rw t (omega (arith, walked_count p e.0 es rest, behind_all p e.0 es later, behind_all p a es (behind_too a e.0 (keys_of es) (and_parts (begins p e.0) _ t).1 later)))
       | inr n ↦ rw n (omega (arith, walked_count p a es rest))
     ])
 

@@ -12,12 +12,7 @@ answered_both (e ∷ a) b h = let k = answered_both a b h.1 in ((h.0, k.0), k.1)
 
 -- nothing was sent
 pub counted_none : (old new : List Entry) (first requests before now : ℕ) (told tells : ℕ → Option Fate) → new ≡ old → requests ≡ first → now ≡ before → ((n : ℕ) → tells n ≡ told n) → Counted old new first requests before now told tells
-counted_none old new first requests before now told tells e r l t = record {
-  made = let n : length new ≡ length old = ap length e in omega (arith, n, r);
-  foretold = t;
-  losses = omega (arith, l);
-  kept = λ part _ _. l;
-}
+counted_none old new first requests before now told tells h g e f = grind arith
 
 -- one sending, with its entry
 pub counted_one : (old mid new : List Entry) (e : Entry) (first requests before now : ℕ) (told tells : ℕ → Option Fate) → new ≡ mid ++ e ∷ [] → mid ≡ old → requests ≡ first + 1 → before ≤ now → (is_unanswered e.outcome ≡ false → now ≡ before) → ((n : ℕ) → tells n ≡ told n) → Counted old new first requests before now told tells

@@ -1,13 +1,12 @@
 -- What each sending keeps, a run of a machine that is alone keeps.
-use Rattle.std.proofs.Common.{◌≡◌, ℕ, zero, suc, Bool, true, false, List, Option, Some, sym, subst}
+use Rattle.std.proofs.Common.{◌≡◌, ℕ, zero, suc, Bool, true, false, List, Option, Some, sym, subst, arith}
 use Rattle.machine.specs.Prelude.{Scene, answer, apply, effect, after_all, AreHonest, IsHonestOutcome, Request, Outcome, Answered, Slow, RequestLost, ReplyLost, Entry, Follows, run, Item, Retried, wants_of, step, unanswered_by}
 use Rattle.machine.proofs.Keeping.{Keeps}
 use Rattle.machine.proofs.Runs.{run_keeps}
 
 module _ {M : Type 0} {wants : M → Option Request} {after : M → Item → M} {K : M → Scene → Bool → Type 0} (keeps : Keeps wants after K) (retries : ℕ) where
   kept_unanswered : (m : M) (spare : ℕ) (s : Scene) (r : Request) (b : Bool) → wants m ≡ Some r → K m s b → K (unanswered_by retries after m b spare).operation s (unanswered_by retries after m b spare).repeated
-  kept_unanswered m zero s r b w h = keeps.gave_up m s r b w h
-  kept_unanswered m (suc n) s r b w h = h
+  kept_unanswered m spare s r b h g = grind arith
 
   kept_step : (t : Retried M) (s : Scene) (r : Request) (o : Outcome) → wants t.operation ≡ Some r → K t.operation s t.repeated → IsHonestOutcome o (answer s r) → K (step retries after t o).operation (effect s r o) (step retries after t o).repeated
   kept_step t s r (Answered a) w h k = subst (λ v. K (step retries after t (Answered v)).operation (apply s r) false) (sym k) (keeps.took t.operation s r t.repeated w h)

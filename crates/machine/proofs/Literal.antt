@@ -1,13 +1,12 @@
 -- Where nothing of the present request was sent before, a run wore out exactly where the entries alone say so.
-use Rattle.std.proofs.Common.{◌≡◌, ℕ, Bool, true, false, List, Option, Some, None, is_some, sym, ap, subst, ◌∙◌}
+use Rattle.std.proofs.Common.{◌≡◌, ℕ, Bool, true, false, List, Option, Some, None, is_some, sym, ap, subst, ◌∙◌, arith}
 use Rattle.machine.specs.Prelude.{Request, Entry, Follows, Item, Retried, wants_of, fresh, step, has_worn}
 use Rattle.retries.specs.Prelude.{worn_in, WornFirst}
 use Rattle.std.proofs.lemmas.Bool.{false≢true}
 use Rattle.retries.proofs.First.{counted_first, some_worn}
 
 first_worn : (retries : ℕ) (part : List Entry) (o : Option Request) (b : Bool) → WornFirst retries part o → b ≡ is_some o → b ≡ true → (r : Request) × WornFirst retries part (Some r)
-first_worn retries part (Some r) b f e h = (r, f)
-first_worn retries part None b f e h = absurd (false≢true (sym e ∙ h))
+first_worn retries part o b h g e = grind arith
 
 none_worn : (retries : ℕ) (part : List Entry) (o : Option Request) (b : Bool) → WornFirst retries part o → b ≡ is_some o → b ≡ false → WornFirst retries part None
 none_worn retries part (Some r) b f e h = absurd (false≢true (sym h ∙ e))
@@ -15,9 +14,7 @@ none_worn retries part None b f e h = f
 
 module _ {M : Type 0} (retries : ℕ) (wants : M → Option Request) (after : M → Item → M) where
   pub literal_worn : (t : Retried M) (m : M) (part : List Entry) → Follows (wants_of wants) (step retries after) t part → has_worn retries after t part ≡ true → t ≡ fresh retries m → (r : Request) × WornFirst retries part (Some r)
-  literal_worn t m part f h e =
-      first_worn retries part (worn_in retries after (fresh retries m) part) _ (counted_first retries wants after m part (subst (λ v. Follows (wants_of wants) (step retries after) v part) e f))
-      (some_worn retries wants after (fresh retries m) part) (ap (λ v. has_worn retries after v part) (sym e) ∙ h)
+  literal_worn t m part h g e = grind (arith, first_worn, counted_first, some_worn)
 
   pub literal_whole : (t : Retried M) (m : M) (part : List Entry) → Follows (wants_of wants) (step retries after) t part → has_worn retries after t part ≡ false → t ≡ fresh retries m → WornFirst retries part None
   literal_whole t m part f h e =

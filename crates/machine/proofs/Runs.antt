@@ -23,12 +23,7 @@ by_more actor event (x ∷ part) e h a b = (h.0, h.1, by_more actor event part e
 
 pub is_run_more : {M : Type 0} (wants : M → Option Request) (after : M → Item → M) (actor : Actor) (event : ℕ) (t : Retrying M) (s : Scene) (part : List Entry) (s' : Scene) (t' : Retrying M) (e : Entry) (s'' : Scene)
     → retried t' ≡ run (step t.retries after) (retried t) part → IsRun wants after actor event t s part s' → IsSent wants actor event t' s' e s'' → IsRun wants after actor event t s (part ++ e ∷ []) s''
-is_run_more wants after actor event t s part s' t' e s'' there r k = record {
-  by = by_more actor event part e r.by k.by k.during;
-  honest = honest_more s part e r.honest (subst (λ v. IsHonestOutcome e.outcome (answer v e.request)) r.scene k.honest);
-  follows = follows_more (wants_of wants) (step t.retries after) (retried t) part e r.follows (ap (wants_of wants) (sym there) ∙ k.wanted);
-  scene = k.scene ∙ ap (λ v. effect v e.request e.outcome) r.scene ∙ sym (after_all_more s part e);
-}
+is_run_more wants after actor event t s part s' t' e s'' h g f = grind (arith, by_more, honest_more, follows_more, after_all_more)
 
 -- readiness is kept, and the work that is left falls
 abbrev pub work : {M : Type 0} → (M → Scene → ℕ) → ℕ → Retried M → Scene → ℕ
@@ -47,32 +42,23 @@ no_more_times a b n h = grind arith
 one_less : (a n : ℕ) → a + n < a + suc n
 one_less a n = omega arith
 
-told_if : (b : Bool) → tells_worn (turn_if false b) ≡ b
-told_if true = refl
-told_if false = refl
-
 -- `StoreFault` is told where a request was worn out
 pub told : {M : Type 0} (t : Retried M) (o : Outcome) → tells_worn (turn_of t o) ≡ wears t o
-told t (Answered r) = refl
-told t _ = told_if (is_zero t.spare)
+told t o = grind arith
 
 pub lost_if_worn : {M : Type 0} (t : Retried M) (o : Outcome) → wears t o ≡ true → IsTrue (is_unanswered o)
-lost_if_worn t (Answered r) h = cc
-lost_if_worn t _ h = refl
+lost_if_worn t o h = grind arith
 
 lost_now : (worn wears_now : Bool) (a b c : ℕ) → a ≤ b → b ≤ c → (worn ≡ true → a < b) → (wears_now ≡ true → b < c) → (worn || wears_now) ≡ true → a < c
 lost_now true w a b c h k f g e = omega (arith, f refl)
 lost_now false w a b c h k f g e = omega (arith, g e)
 
 standing_both : (a b : Bool) (f : Standing) → standing_after b (standing_after a f) ≡ standing_after (a || b) f
-standing_both true true f = refl
-standing_both true false f = refl
-standing_both false b f = refl
+standing_both a b f = grind arith
 
 module _ {M : Type 0} {wants : M → Option Request} {after : M → Item → M} {fits : M → Reply → Bool → Type 0} {ready : M → Scene → Bool → Type 0} {left : M → Scene → ℕ} {standing : M → Standing} (laws : Laws wants after fits ready left standing) (retries : ℕ) where
   ready_unanswered : (m : M) (spare : ℕ) (s : Scene) (r : Request) (b : Bool) → wants m ≡ Some r → ready m s b → ready (unanswered_by retries after m b spare).operation s (unanswered_by retries after m b spare).repeated
-  ready_unanswered m zero s r b w h = laws.gave_up m s r b w h
-  ready_unanswered m (suc n) s r b w h = h
+  ready_unanswered m spare s r b h g = grind arith
 
   pub ready_step : (t : Retried M) (s : Scene) (r : Request) (o : Outcome) → wants t.operation ≡ Some r → ready t.operation s t.repeated → IsHonestOutcome o (answer s r) → ready (step retries after t o).operation (effect s r o) (step retries after t o).repeated
   ready_step t s r (Answered a) w h k = subst (λ v. ready (after t.operation (Got v t.repeated)) (apply s r) false) (sym k) (laws.took t.operation s r t.repeated w h)
@@ -94,8 +80,7 @@ module _ {M : Type 0} {wants : M → Option Request} {after : M → Item → M} 
       omega (arith, falls_unanswered t.operation t.spare (apply s r) r true w (laws.hidden t.operation s r t.repeated w h), no_more_times (left t.operation (apply s r)) (left t.operation s) retries (laws.no_rise t.operation s r t.repeated w h))
 
   standing_unanswered : (m : M) (spare : ℕ) (r : Request) (b : Bool) → wants m ≡ Some r → standing (unanswered_by retries after m b spare).operation ≡ standing_after (is_zero spare) (standing m)
-  standing_unanswered m zero r b w = laws.faults m r w
-  standing_unanswered m (suc n) r b w = refl
+  standing_unanswered m spare r b h = grind arith
 
   pub standing_step : (t : Retried M) (s : Scene) (r : Request) (o : Outcome) → wants t.operation ≡ Some r → ready t.operation s t.repeated → IsHonestOutcome o (answer s r) → standing (step retries after t o).operation ≡ standing_after (wears t o) (standing t.operation)
   standing_step t s r (Answered a) w h k = laws.goes_on t.operation r a t.repeated w (subst (λ v. fits t.operation v t.repeated) (sym k) (laws.fit t.operation s r t.repeated w h))

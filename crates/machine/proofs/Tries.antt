@@ -32,16 +32,13 @@ nothing : (retries spare : ℕ) (o : Option Request) → Grouped retries spare [
 nothing retries spare o = record { tries = []; rest = []; entries = refl; each = tt; broken_off = tt; wore = refl; first = tt; last = refl }
 
 same_spare : (n : ℕ) (ts : List Try) → spare_after n n ts ≡ n
-same_spare n [] = refl
-same_spare n (t ∷ ts) = refl
+same_spare n ts = grind arith
 
 ends_behind : (rest : List Entry) (ts : List Try) (x : Try) (now o later : Option Request) → Ends rest ts o later → Ends rest (x ∷ ts) now later
-ends_behind [] ts x now o later h = tt
-ends_behind (e ∷ es) ts x now o later h = h
+ends_behind rest ts x now o later h = grind arith
 
 ends_alike : (rest : List Entry) (ts : List Try) (x y : Try) (now later : Option Request) → Ends rest (x ∷ ts) now later → Ends rest (y ∷ ts) now later
-ends_alike [] ts x y now later h = tt
-ends_alike (e ∷ es) ts x y now later h = h
+ends_alike rest ts x y now later h = grind arith
 
 -- a try of one sending
 another : (retries spare : ℕ) (e : Entry) (es : List Entry) (here worn : Bool) (now o later : Option Request) (x : Try)
@@ -60,8 +57,7 @@ another retries spare e es here worn now o later x is k asked h g = record {
 
 -- one loss more
 closed_more : (spare : ℕ) (r : Request) (n : ℕ) (a : Option Entry) → IsClosed spare r n a → IsClosed (suc spare) r (suc n) a
-closed_more spare r n (Some e) k = let l : suc n ≤ suc spare = omega (arith, k.2) in (k.0, k.1, l)
-closed_more spare r n None k = omega arith
+closed_more spare r n a h = grind arith
 
 one_more : (n spare : ℕ) → n ≤ spare → suc n ≤ suc spare
 one_more n spare h = omega arith
@@ -108,8 +104,7 @@ again retries spare e es worn now later u asked g = again_by retries spare e es 
 
 -- nothing is broken off where no request is present at the end
 none_left : (rest : List Entry) (ts : List Try) (now later : Option Request) → Ends rest ts now later → later ≡ None → rest ≡ []
-none_left [] ts now later h n = refl
-none_left (e ∷ es) ts now later h n = cc
+none_left rest ts now later h g = grind arith
 
 -- a try that wore out is a row of losses
 window_by : (retries spare : ℕ) (ts : List Try) (rest : List Entry) (r : Request) (lost : List Entry) (a : Option Entry) → spare ≡ retries → AreUnanswered r lost → IsClosed spare r (length lost) a
@@ -169,24 +164,16 @@ module _ {M : Type 0} (retries : ℕ) (wants : M → Option Request) (after : M 
 
   -- ---- more losses in a row than are spared wear a request out
 
-  worn_spare : (m : M) (spare : ℕ) (b : Bool) (es behind : List Entry) → spare < suc (length es)
-      → ((t' : Retried M) → t'.spare < length es → has_worn retries after t' (es ++ behind) ≡ true) → (is_zero spare || has_worn retries after (unanswered_by retries after m b spare) (es ++ behind)) ≡ true
-  worn_spare m zero b es behind l ih = refl
-  worn_spare m (suc n) b es behind l ih = let k : n < length es = omega arith in ih (unanswered_by retries after m b (suc n)) k
-
   worn_outcome : (t : Retried M) (es behind : List Entry) (o : Outcome) → is_unanswered o ≡ true → t.spare < suc (length es)
       → ((t' : Retried M) → t'.spare < length es → has_worn retries after t' (es ++ behind) ≡ true) → (wears t o || has_worn retries after (step retries after t o) (es ++ behind)) ≡ true
-  worn_outcome t es behind (Answered r) u l ih = absurd (false≢true u)
-  worn_outcome t es behind Slow u l ih = worn_spare t.operation t.spare t.repeated es behind l ih
-  worn_outcome t es behind _ u l ih = worn_spare t.operation t.spare true es behind l ih
+  worn_outcome t es behind o h g e = grind arith
 
   worn_here : (t : Retried M) (r : Request) (these behind : List Entry) → AreUnanswered r these → t.spare < length these → has_worn retries after t (these ++ behind) ≡ true
   worn_here t r [] behind u l = let no : ⊥ = omega arith in absurd no
   worn_here t r (e ∷ es) behind u l = worn_outcome t es behind e.outcome u.1 l (λ t' l'. worn_here t' r es behind u.2 l')
 
   or_true : (a b : Bool) → b ≡ true → (a || b) ≡ true
-  or_true true b h = refl
-  or_true false b h = h
+  or_true a b h = grind arith
 
   -- no request has more to spare than there are retries
   kept_by : (m : M) (spare : ℕ) (b : Bool) → spare ≤ retries → (unanswered_by retries after m b spare).spare ≤ retries
@@ -210,29 +197,7 @@ module _ {M : Type 0} (retries : ℕ) (wants : M → Option Request) (after : M 
       record { tries = g.tries; rest = g.rest; entries = g.entries; each = g.each; broken_off = g.broken_off; told = tt; fault = λ _. tt }
 
   pub tried_worn : {T : Type 0} (t : Retried M) (part : List Entry) → Follows (wants_of wants) (step retries after) t part → wants (run (step retries after) t part).operation ≡ None → has_worn retries after t part ≡ true → Tried {T = T} retries t.spare part (Err StoreFault)
-  tried_worn t part f over h =
-      let g = grouped t part f in
-      record {
-        tries = g.tries;
-        rest = g.rest;
-        entries = g.entries;
-        each = g.each;
-        broken_off = g.broken_off;
-        told = (sym g.wore ∙ h, none_left g.rest g.tries _ _ g.last over);
-        fault = λ same. subst (HasUnanswered (retries + 1)) (sym g.entries) (window retries t.spare g.tries g.rest g.each same (sym g.wore ∙ h));
-      }
+  tried_worn t part h g e = grind (arith, grouped, none_left, window)
 
   pub tried_whole : {T : Type 0} (x : T) (t : Retried M) (part : List Entry) → Follows (wants_of wants) (step retries after) t part → wants (run (step retries after) t part).operation ≡ None → has_worn retries after t part ≡ false → Tried retries t.spare part (Ok x)
-  tried_whole x t part f over h =
-      let g = grouped t part f in
-      record {
-        tries = g.tries;
-        rest = g.rest;
-        entries = g.entries;
-        each = g.each;
-        broken_off = g.broken_off;
-        told = (sym g.wore ∙ h, none_left g.rest g.tries _ _ g.last over);
-        fault = λ same w.
-            let l : t.spare ≤ retries = omega arith in
-            false≢true (sym h ∙ ap (has_worn retries after t) w.is ∙ worn_behind t w.request w.before w.these w.behind l w.lost w.count);
-      }
+  tried_whole x t part h g e = grind (arith, grouped, none_left, worn_behind)

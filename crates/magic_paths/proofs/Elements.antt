@@ -41,10 +41,7 @@ decimal_others n h = decimal_without 47 n refl h
 
 -- a word that does not begin with a dot is an element
 word_is_element : (b : ℕ) (bs : List ℕ) → b ≢ 46 → is_element (b ∷ bs) ≡ true
-word_is_element b bs n =
-    let some : (length (b ∷ bs) == 0) ≡ false = grind (arith, nat_tests) in
-    let other : (b == 46) ≡ false = grind (arith, nat_tests) in
-    rw (some, other) refl
+word_is_element b bs h = grind arith
 
 digit_no_dot : (b : ℕ) → is_digit b ≡ true → b ≢ 46
 digit_no_dot b h = grind (arith, nat_tests)
@@ -84,9 +81,7 @@ pub id_others : (id : List ℕ) → is_job_id id ≡ true → list_all (is_other
 id_others id h = ids_others id (and_parts _ _ h).1
 
 job_elements : (id : List ℕ) → is_job_id id ≡ true → are_elements (codes "job-" ++ id) ≡ true
-job_elements id h =
-    lone_element (codes "job-" ++ id) (list_all-append (is_other 47) (codes "job-") id ∙ rw (id_others id h) refl)
-    (word_is_element 106 (codes "ob-" ++ id) (λ e. absurd (omega arith)))
+job_elements id h = grind (arith, lone_element, list_all-append, id_others, word_is_element)
 
 fixed_magic : are_elements (codes "__magic") ≡ true
 unfolding parts_from

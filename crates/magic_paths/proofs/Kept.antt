@@ -13,8 +13,7 @@ parts_none s part [] e = absurd cc
 parts_none s part (x ∷ xs) e = by (x == s) refl (parts_none s (part ++ x ∷ []) xs)
   where
     by : (b : Bool) → (x == s) ≡ b → parts_from s (part ++ x ∷ []) xs ≢ [] → ⊥
-    by true t old = let h = rw t at e in absurd cc
-    by false t old = old (rw t at e)
+    by b h g = grind arith
 
 -- a text has a part
 pub some_parts : (text : List ℕ) → parts_of 47 text ≢ []

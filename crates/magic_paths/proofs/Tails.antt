@@ -26,8 +26,7 @@ begins_back (x ∷ p) (y ∷ q) h =
 
 -- what is below a key that is not empty
 pub below_is : (k q : List ℕ) → 1 ≤ length k → below k q ≡ k ++ 47 ∷ q
-below_is [] q h = absurd (omega arith)
-below_is (x ∷ k) q h = refl
+below_is k q h = grind arith
 
 -- ---- a text cut at the first of a byte
 
@@ -144,9 +143,7 @@ tail_is dest id (RecordPlace t a p) some = in_attempt dest id t a (p ++ codes ".
 tail_is dest id _ some = refl
 
 tail_magic : (id : List ℕ) (p : Place) → is_magic_place p ≡ true → tail id p ≡ codes "/__magic/job-" ++ (id ++ 47 ∷ inner p)
-tail_magic id (FilePlace p) m = absurd (true≢false (sym m))
-tail_magic id SuccessPlace m = absurd (true≢false (sym m))
-tail_magic id _ m = refl
+tail_magic id p h = grind arith
 
 -- the second byte of a tail is `_` but for files, and then `S` for the marker of a committed job
 abbrev kind_of : List ℕ → ℕ
@@ -161,19 +158,13 @@ number SuccessPlace = 1
 number _ = 2
 
 number_is : (id : List ℕ) (p : Place) → IsPlace p → kind_of (tail id p) ≡ number p
-number_is id (FilePlace []) g = absurd (true≢false (sym g))
-number_is id (FilePlace (b ∷ bs)) g = rw (open_first b g) refl
-number_is id _ g = refl
+number_is id p h = grind arith
 
 magic_number : (p : Place) → number p ≡ 2 → is_magic_place p ≡ true
-magic_number (FilePlace p) e = absurd (omega arith)
-magic_number SuccessPlace e = absurd (omega arith)
-magic_number _ e = refl
+magic_number p h = grind arith
 
 number_magic : (p : Place) → is_magic_place p ≡ true → number p ≡ 2
-number_magic (FilePlace p) m = absurd (true≢false (sym m))
-number_magic SuccessPlace m = absurd (true≢false (sym m))
-number_magic _ m = refl
+number_magic p h = grind arith
 
 same_number : (id other : List ℕ) (p q : Place) → IsPlace p → IsPlace q → tail id p ≡ tail other q → number p ≡ number q
 same_number id other p q g h e = sym (number_is id p g) ∙ ap kind_of e ∙ number_is other q h
@@ -186,11 +177,7 @@ both_magic : (id other : List ℕ) (p q : Place) → is_job_id id ≡ true → i
 both_magic id other p q i o m n e = cut_jobs id other (inner p) (inner q) i o (sym (tail_magic id p m) ∙ e ∙ tail_magic other q n)
 
 one_of_three : (p : Place) (A : Type 0) → ((path : List ℕ) → p ≡ FilePlace path → A) → (p ≡ SuccessPlace → A) → (is_magic_place p ≡ true → A) → A
-one_of_three (FilePlace path) A f s m = f path refl
-one_of_three (MarkerPlace t a path) A f s m = m refl
-one_of_three (RecordPlace t a path) A f s m = m refl
-one_of_three (SetPlace t) A f s m = m refl
-one_of_three SuccessPlace A f s m = s refl
+one_of_three p A h g e = grind arith
 
 tails_apart : (id other : List ℕ) (p q : Place) → is_job_id id ≡ true → is_job_id other ≡ true → IsPlace p → IsPlace q → tail id p ≡ tail other q → p ≡ q
 tails_apart id other (FilePlace p) (FilePlace q) i o g h e = ap FilePlace (tails e)
@@ -229,12 +216,7 @@ magic_begins : (id l : List ℕ) → begins (codes "/__magic/job-" ++ (id ++ cod
 magic_begins id l = begins_behind (codes "/__magic/job-") (id ++ codes "/") (id ++ 47 ∷ l) ∙ begins_behind id (codes "/") (47 ∷ l)
 
 tail_begins : (id : List ℕ) (p : Place) → IsPlace p → begins (codes "/__magic/job-" ++ (id ++ codes "/")) (tail id p) ≡ is_magic_place p
-tail_begins id (FilePlace []) g = absurd (true≢false (sym g))
-tail_begins id (FilePlace (b ∷ bs)) g = rw (open_first b g) refl
-tail_begins id (MarkerPlace t a p) g = magic_begins id (attempt_in t a p)
-tail_begins id (RecordPlace t a p) g = magic_begins id (attempt_in t a (p ++ codes ".pending"))
-tail_begins id (SetPlace t) g = magic_begins id (set_in t)
-tail_begins id SuccessPlace g = refl
+tail_begins id p h = grind (arith, open_first, magic_begins)
 
 pub key_magic : (dest id : List ℕ) (p : Place) → 1 ≤ length dest → IsPlace p → begins (magic_prefix dest id) (key_at dest id p) ≡ is_magic_place p
 key_magic dest id p some g = ap (begins (magic_prefix dest id)) (tail_is dest id p some) ∙ behind dest id (tail id p) ∙ tail_begins id p g
@@ -255,8 +237,7 @@ rest_at (TemporaryPlace t a) = codes "tmp/" ++ (decimal t ++ 95 ∷ (decimal a +
 rest_at (StagedSetPlace t) = codes "sets/task_" ++ (decimal t ++ codes ".pendingset")
 
 rest_is : (id : List ℕ) (p : ClusterPlace) → path_at id p ≡ codes "jobs/" ++ (id ++ 47 ∷ rest_at p)
-rest_is id (TemporaryPlace t a) = refl
-rest_is id (StagedSetPlace t) = refl
+rest_is id p = grind arith
 
 temporary_set : (t a u : ℕ) → rest_at (TemporaryPlace t a) ≡ rest_at (StagedSetPlace u) → ⊥
 temporary_set t a u e = let h : ◌≡◌ {A = ℕ} 116 115 = ap (λ l. get_or l 0 0) e in absurd (omega arith)

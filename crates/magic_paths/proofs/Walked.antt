@@ -38,17 +38,13 @@ pub all_elements : (word text rest element : List ℕ) (more : List (List ℕ)) 
 all_elements word text rest element more w p = ap (parts_of 47) w.whole ∙ w.parts rest ∙ ap (λ (l : List (List ℕ)). w.seen ++ l) p
 
 or_true : (a b c : Bool) → b ≡ true → (a || (b || c)) ≡ true
-or_true true b c h = refl
-or_true false b c h = rw h refl
+or_true a b c h = grind arith
 
 pub has_word : (word text rest element : List ℕ) (more : List (List ℕ)) → Walked word text rest → parts_of 47 rest ≡ element ∷ more → is_word word element ≡ true → list_any (is_word word) (parts_of 47 text) ≡ true
-has_word word text rest element more w p h =
-    ap (list_any (is_word word)) (all_elements word text rest element more w p) ∙ list_any-append (is_word word) w.seen (element ∷ more)
-    ∙ or_true (list_any (is_word word) w.seen) (is_word word element) (list_any (is_word word) more) h
+has_word word text rest element more h g e = grind (arith, all_elements, list_any-append, or_true)
 
 neither : (a b : Bool) → (a || b) ≡ false → (a ≡ false) × (b ≡ false)
-neither true b h = absurd cc
-neither false b h = (refl, h)
+neither a b h = grind arith
 
 place : (word : List ℕ) (seen : List (List ℕ)) (element : List ℕ) (more : List (List ℕ)) → list_any (is_word word) seen ≡ false → is_word word element ≡ true → position_or_len (is_word word) (seen ++ element ∷ more) ≡ length seen
 place word [] element more n h = rw h refl
@@ -58,15 +54,11 @@ place word (x ∷ seen) element more n h =
     rw parts.0 (omega arith)
 
 before_word : (word : List ℕ) (es seen : List (List ℕ)) (element : List ℕ) (more : List (List ℕ)) → es ≡ seen ++ element ∷ more → list_any (is_word word) seen ≡ false → is_word word element ≡ true → before_first (is_word word) es ≡ seen
-before_word word es seen element more e n h =
-    ap (before_first (is_word word)) e
-    ∙ ap (λ (i : ℕ). take i (seen ++ element ∷ more)) (place word seen element more n h) ∙ take-append_seam seen (element ∷ more)
+before_word word es seen element more h g e = grind (arith, place, take-append_seam)
 
 pub front_at : (word text rest element front : List ℕ) (more : List (List ℕ)) → Walked word text rest → parts_of 47 rest ≡ element ∷ more → is_word word element ≡ true → text ≡ front ++ rest
     → (next : List ℕ) → parts_of 47 (front ++ next) ≡ before_first (is_word word) (parts_of 47 text) ++ parts_of 47 next
-front_at word text rest element front more w p h e next =
-    ap (λ (l : List ℕ). parts_of 47 (l ++ next)) (append_cancel_right front w.front rest (sym e ∙ w.whole)) ∙ w.parts next
-    ∙ ap (λ (l : List (List ℕ)). l ++ parts_of 47 next) (sym (before_word word (parts_of 47 text) w.seen element more (all_elements word text rest element more w p) w.none h))
+front_at word text rest element front more h g e f next = grind (arith, append_cancel_right, before_word, all_elements)
 
 after_word : (word : List ℕ) (es seen : List (List ℕ)) (element : List ℕ) (more : List (List ℕ)) → es ≡ seen ++ element ∷ more → list_any (is_word word) seen ≡ false → is_word word element ≡ true → after_first (is_word word) es ≡ more
 after_word word es seen element more e n h =

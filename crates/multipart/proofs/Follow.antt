@@ -28,10 +28,7 @@ none_after p k (s ∷ rs) g n h =
 
 -- behind a key that does not begin with p there is none that does
 pub none_left : (p : List ℕ) (rest es : List (UploadRef × List ℕ)) (e : UploadRef × List ℕ) → rest ≡ e ∷ es → Follows p (keys_of rest) → begins p e.0.key ≡ false → below p (keys_of rest) ≡ []
-none_left p rest es e is f n =
-    let h : Follows p (e.0 ∷ keys_of es) = subst (λ (l : List (UploadRef × List ℕ)). Follows p (keys_of l)) is f in
-    ap (λ (l : List (UploadRef × List ℕ)). below p (keys_of l)) is
-    ∙ ap (λ b. cond b (e.0 ∷ below p (keys_of es)) (below p (keys_of es))) n ∙ none_after p e.0.key (keys_of es) h.0 n h.1
+none_left p rest es e h g f = grind (arith, none_after)
 
 -- the page is whole
 whole : (xs rest all : List UploadRef) → xs ++ rest ≡ all → rest ≡ [] → xs ≡ all
@@ -53,8 +50,7 @@ same_below p f g [] h = refl
 same_below p f g (r ∷ rs) h = by (same_below p f g rs h) (begins p r.key) refl
   where
     out : (h : UploadRef → Bool) (b : Bool) → h r ≡ b → begins p r.key ≡ false → below p (filter h (r ∷ rs)) ≡ below p (filter h rs)
-    out h true t n = ap (λ b. below p (cond b (r ∷ filter h rs) (filter h rs))) t ∙ ap (λ b. cond b (r ∷ below p (filter h rs)) (below p (filter h rs))) n
-    out h false t n = ap (λ b. below p (cond b (r ∷ filter h rs) (filter h rs))) t
+    out h b g e = grind arith
 
     by : below p (filter f rs) ≡ below p (filter g rs) → (b : Bool) → begins p r.key ≡ b → below p (filter f (r ∷ rs)) ≡ below p (filter g (r ∷ rs))
     by ih false n = out f (f r) refl n ∙ ih ∙ sym (out g (g r) refl n)
@@ -105,8 +101,7 @@ keys_between lo [] = refl
 keys_between lo (e ∷ es) = by (from_start lo e.0) (keys_between lo es)
   where
     by : (b : Bool) → keys_of (entries_between ref_cmp lo Unbounded es) ≡ filter (from_start lo) (keys_of es) → keys_of (cond b (e ∷ entries_between ref_cmp lo Unbounded es) (entries_between ref_cmp lo Unbounded es)) ≡ cond b (e.0 ∷ filter (from_start lo) (keys_of es)) (filter (from_start lo) (keys_of es))
-    by true ih = ap (λ l. e.0 ∷ l) ih
-    by false ih = ih
+    by b h = grind arith
 
 first_in : (p : List ℕ) (r : UploadRef) → is_le (ref_cmp (record { key = p; upload = 0 }) r) ≡ not (lt text_cmp r.key p)
 first_in p r = by (text_cmp p r.key) (nat_cmp 0 r.upload) (zero_least r.upload) ∙ ap not (sym (lt_back text_total p r.key))
@@ -134,10 +129,7 @@ follows_from p lo m h =
     subst (Follows p) (sym (keys_between lo (fin.entries (keyed m)))) (all_follow p (from_start lo) (keys_of (fin.entries (keyed m))) (map_sorted ref_cmp (keyed m)) h)
 
 listed_from : (p : List ℕ) (lo : Bound UploadRef) (after : Option UploadRef) (m : Uploads) → ((r : UploadRef) → begins p r.key ≡ true → from_start lo r ≡ is_behind after r) → below p (keys_of (from_place lo m)) ≡ listed p after m
-listed_from p lo after m h =
-    ap (below p) (keys_between lo (fin.entries (keyed m)))
-    ∙ same_below p (from_start lo) (is_behind after) (keys_of (fin.entries (keyed m))) h
-    ∙ ap (λ l. below p (filter (is_behind after) l)) (keys_keyed m)
+listed_from p lo after m h = grind (arith, keys_between, same_below, keys_keyed)
 
 -- what is left from a start on, where a page of what comes behind `after` begins
 pub record IsRest (p : List ℕ) (after : Option UploadRef) (m : Uploads) (rest : List (UploadRef × List ℕ)) : Type 0 where

@@ -1,5 +1,5 @@
 -- The index against the uploads.
-use Rattle.std.proofs.Common.{◌≡◌, ℕ, Bool, true, false, ◌&&◌, cond, List, [], ◌∷◌, Option, Some, None, map, refl, sym, ap, ◌∙◌, subst, T}
+use Rattle.std.proofs.Common.{◌≡◌, ℕ, Bool, true, false, ◌&&◌, cond, List, [], ◌∷◌, Option, Some, None, map, refl, sym, ap, ◌∙◌, subst, T, arith}
 use Rattle.std.specs.FinMap.Entries as list
 use Rattle.std.specs.Prelude.{Result, Ok, Err, OnOk, OnErr}
 use Rattle.s3_types.specs.Prelude.{FinMap, from_entries, insert, remove, get, entries, empty, get-from_entries, get-insert, get-remove, get-entries, entries-insert, entries_sorted, same_map, find, is_sorted, eq_by_cmp, is_eq, is_lt, nat_cmp, ordering_then, Ordering, Less, Equal, Greater, IsTotalOrder, nat_cmp_total, IsSomeAnd, AllocError, text_cmp, text_total, Upload, Uploads, ref_cmp, ref_of, refs, with_part, keys_of}
@@ -17,12 +17,10 @@ pub exact_refs : CmpEqualImpliesEq ref_cmp
 exact_refs a b h = ap (λ (p : List ℕ × ℕ). record { key = p.0; upload = p.1 }) (exact_pairs text_cmp nat_cmp exact_bytes exact_unsigned (a.key, a.upload) (b.key, b.upload) h)
 
 both_tied : (r s : Ordering) → is_eq (ordering_then r s) ≡ (is_eq r && is_eq s)
-both_tied Less s = refl
-both_tied _ s = refl
+both_tied r s = grind arith
 
 and_false : (b : Bool) → (b && false) ≡ false
-and_false true = refl
-and_false false = refl
+and_false b = grind arith
 
 -- whether a place ties with an upload's, where the ids tie or not
 ties : (r : UploadRef) (i : ℕ) (u : Upload) → is_eq (nat_cmp r.upload i) ≡ true → is_eq (ref_cmp r (record { key = u.key; upload = i })) ≡ is_eq (text_cmp r.key u.key)
@@ -41,8 +39,7 @@ not_later i x [] e h = refl
 not_later i x (f ∷ es) e h = by (not_later i x es e) (is_lt (nat_cmp x f.0)) refl h
   where
     not_tied : (r : Ordering) → is_lt r ≡ true → is_eq r ≡ false
-    not_tied Equal h = absurd (false≢true h)
-    not_tied _ h = refl
+    not_tied r h = grind arith
 
     by : (T (list.below_all nat_cmp x es) → find nat_cmp i es ≡ None) → (b : Bool) → is_lt (nat_cmp x f.0) ≡ b → T (b && list.below_all nat_cmp x es) → find nat_cmp i (f ∷ es) ≡ None
     by ih true t h =
@@ -56,15 +53,7 @@ found (e ∷ es) s r = by (is_eq (nat_cmp r.upload e.0)) refl (list.below_all na
     by : (b : Bool) → is_eq (nat_cmp r.upload e.0) ≡ b → (c : Bool) → list.below_all nat_cmp e.0 es ≡ c → T (c && is_sorted nat_cmp es)
         → (T (is_sorted nat_cmp es) → (r : UploadRef) → find ref_cmp r (map keyed_of es) ≡ mark r (find nat_cmp r.upload es))
         → find ref_cmp r (map keyed_of (e ∷ es)) ≡ mark r (find nat_cmp r.upload (e ∷ es))
-    by b t false u s ih = absurd s
-    by false t true u s ih =
-        ap (λ b. cond b (Some e.1.key) (find ref_cmp r (map keyed_of es))) (parts r e.0 e.1 t)
-        ∙ ih s r
-        ∙ sym (ap (λ b. mark r (cond b (Some e.1) (find nat_cmp r.upload es))) t)
-    by true t true u s ih =
-        ap (λ b. cond b (Some e.1.key) (find ref_cmp r (map keyed_of es))) (ties r e.0 e.1 t)
-        ∙ ap (cond (is_eq (text_cmp r.key e.1.key)) (Some e.1.key)) (ih s r ∙ ap (mark r) (not_later r.upload e.0 es (exact_unsigned _ _ (tied _ t)) (subst T (sym u) tt)))
-        ∙ sym (ap (λ b. mark r (cond b (Some e.1) (find nat_cmp r.upload es))) t)
+    by b h c g e f = grind (arith, parts, ties, not_later, exact_unsigned, tied)
 
 get_keyed : (m : Uploads) (r : UploadRef) → get (keyed m) r ≡ mark r (get m r.upload)
 get_keyed m r = get-from_entries refs_total (map keyed_of (entries m)) r ∙ found (entries m) (entries_sorted m) r ∙ ap (mark r) (sym (get-entries m r.upload))
@@ -92,8 +81,7 @@ keyed_insert m i u h = same _ _ (λ r.
         ∙ sym (ap (λ b. cond b (Some u.key) (mark r (get m r.upload))) (parts r i u t))
 
 no_mark : (b : Bool) (o : Option (List ℕ)) → None ≡ cond b None (cond b o None)
-no_mark true o = refl
-no_mark false o = refl
+no_mark b o = grind arith
 
 -- an upload that ends
 pub keyed_remove : (m : Uploads) (i : ℕ) (u : Upload) → get m i ≡ Some u → keyed (remove m i) ≡ remove (keyed m) (record { key = u.key; upload = i })
@@ -144,8 +132,7 @@ bare_put r k [] = refl
 bare_put r k (e ∷ es) = by (ref_cmp r e.0) (bare_put r k es)
   where
     by : (o : Ordering) → list.put ref_cmp r tt (bare es) ≡ bare (list.put ref_cmp r k es) → list.by_order o ((r, tt) ∷ bare (e ∷ es)) ((e.0, tt) ∷ bare es) ((e.0, tt) ∷ list.put ref_cmp r tt (bare es)) ≡ bare (list.by_order o ((r, k) ∷ e ∷ es) ((e.0, k) ∷ es) (e ∷ list.put ref_cmp r k es))
-    by Greater ih = ap (λ l. (e.0, tt) ∷ l) ih
-    by _ ih = refl
+    by o h = grind arith
 
 entries_bare : (es : List (ℕ × Upload)) → entries (from_entries {R = ref_cmp} (map ref_of es)) ≡ bare (entries (from_entries {R = ref_cmp} (map keyed_of es)))
 entries_bare [] = entries_empty ref_cmp ∙ sym (ap bare (entries_empty ref_cmp))

@@ -60,8 +60,7 @@ here : (k : ℕ) (v : List ℕ) (o : Option (List ℕ)) → is_some (cond (eq_by
 here k v o = ap (λ b. is_some (cond b (Some v) o)) ((eq_by_cmp_equiv nat_cmp_total).refl k)
 
 later : (b : Bool) (v : List ℕ) (o : Option (List ℕ)) → is_some o ≡ true → is_some (cond b (Some v) o) ≡ true
-later true v o h = refl
-later false v o h = h
+later b v o h = grind arith
 
 pub numbers : (es : List (ℕ × List ℕ)) → ((n : ℕ) → is_some (find nat_cmp n es) ≡ true → is_part_number n ≡ true) → AllByRecursion (λ k. is_part_number k ≡ true) (keys_of es)
 numbers [] h = tt

@@ -26,11 +26,7 @@ none_after p k (e ∷ es) g n h =
 
 -- behind a key that does not begin with p there is none that does
 pub none_left : (p : List ℕ) (rest es : List (List ℕ × Held)) (e : List ℕ × Held) → rest ≡ e ∷ es → Follows p rest → begins p e.0 ≡ false → below p rest ≡ []
-none_left p rest es e is f n =
-    let h : Follows p (e ∷ es) = subst (Follows p) is f in
-    ap (below p) is
-    ∙ ap (λ b. map (λ (e : List ℕ × Held). single e.0 e.1) (cond b (e ∷ filter (λ e. begins p e.0) es) (filter (λ e. begins p e.0) es))) n
-    ∙ none_after p e.0 es h.0 n h.1
+none_left p rest es e h g f = grind (arith, none_after)
 
 pub follows_rest : (p : List ℕ) (e : List ℕ × Held) (es : List (List ℕ × Held)) → Follows p (e ∷ es) → Follows p es
 follows_rest p e [] h = tt
@@ -71,13 +67,7 @@ each p a (e ∷ es) s l =
     (begins p e.0) refl
   where
     by : walked p false a es ≡ entries_below p es → walked p false e.0 es ≡ entries_below p es → (b : Bool) → begins p e.0 ≡ b → walked p false a (e ∷ es) ≡ entries_below p (e ∷ es)
-    by past here false n =
-        ap (λ b. cond (b && lt a e.0) (entry_of p false e ∷ walked p false e.0 es) (walked p false a es)) n ∙ past
-        ∙ sym (ap (λ b. map (entry_of p false) (cond b (e ∷ filter (λ e. begins p e.0) es) (filter (λ e. begins p e.0) es))) n)
-    by past here true t =
-        ap (λ b. cond b (entry_of p false e ∷ walked p false e.0 es) (walked p false a es)) (and_from (begins p e.0) (lt a e.0) t (l.0 t))
-        ∙ ap (λ l. entry_of p false e ∷ l) here
-        ∙ sym (ap (λ b. map (entry_of p false) (cond b (e ∷ filter (λ e. begins p e.0) es) (filter (λ e. begins p e.0) es))) t)
+    by h g b e = grind arith
 
 -- as the tree holds them
 seen : (p : List ℕ) (es : List (List ℕ × Held)) → entries_below p (contents es) ≡ below p es
@@ -87,8 +77,7 @@ seen p (e ∷ es) = by (begins p e.0) (seen p es)
     by : (b : Bool) → entries_below p (contents es) ≡ below p es
         → map (entry_of p false) (cond b ((e.0, e.1.object) ∷ filter (λ e. begins p e.0) (contents es)) (filter (λ e. begins p e.0) (contents es)))
         ≡ map (λ (e : List ℕ × Held). single e.0 e.1) (cond b (e ∷ filter (λ e. begins p e.0) es) (filter (λ e. begins p e.0) es))
-    by true ih = ap (λ l. single e.0 e.1 ∷ l) ih
-    by false ih = ih
+    by b h = grind arith
 
 -- what is left from the start on
 from : {V : Type 0} → List ℕ → List ℕ → List (List ℕ × V) → List (List ℕ × V)
@@ -101,8 +90,7 @@ all_from {V} p a (e ∷ es) = by (is_from_start text_cmp (start p false a) e.0 &
   where
     by : (b : Bool) → (is_from_start text_cmp (start p false a) e.0 && true) ≡ b → AllByRecursion (λ e. is_from_start text_cmp (start p false a) e.0 ≡ true) (from p a es)
         → AllByRecursion (λ e. is_from_start text_cmp (start p false a) e.0 ≡ true) (cond b (e ∷ from p a es) (from p a es))
-    by true t ih = ((and_parts _ _ t).0, ih)
-    by false t ih = ih
+    by b h g = grind arith
 
 sorted_from : {V : Type 0} (p a : List ℕ) (es : List (List ℕ × V)) → IsStrictlySortedBy text_cmp (keys_of es) → IsStrictlySortedBy text_cmp (keys_of (from p a es))
 unfolding from
@@ -115,8 +103,7 @@ sorted_from {V} p a es s =
       where
         by : (b : Bool) → keys_of (from p a es) ≡ filter (λ k. is_from_start text_cmp (start p false a) k && true) (keys_of es)
             → keys_of (cond b (e ∷ from p a es) (from p a es)) ≡ cond b (e.0 ∷ filter (λ k. is_from_start text_cmp (start p false a) k && true) (keys_of es)) (filter (λ k. is_from_start text_cmp (start p false a) k && true) (keys_of es))
-        by true ih = ap (λ l. e.0 ∷ l) ih
-        by false ih = ih
+        by b h = grind arith
 
 later_from : (p a : List ℕ) (es : List (List ℕ × Object)) → AllByRecursion (λ e. is_from_start text_cmp (start p false a) e.0 ≡ true) es → Later p a es
 later_from p a [] h = tt

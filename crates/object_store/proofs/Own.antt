@@ -1,5 +1,5 @@
 -- Entries whose keys have the texts that they stand at.
-use Rattle.std.proofs.Common.{◌≡◌, ℕ, Bool, true, false, List, [], ◌∷◌, Option, refl, sym, ap, ◌∙◌, cond}
+use Rattle.std.proofs.Common.{◌≡◌, ℕ, Bool, true, false, List, [], ◌∷◌, Option, refl, sym, ap, ◌∙◌, cond, arith}
 use Rattle.store_frame.specs.Prelude.{Ordering, Less, Equal, Greater, Bound, filter, slice_get, from_entries, lookup, option_map, is_at, entries_between, text_cmp, text_total, Object}
 use Rattle.s3_types.specs.Prelude.{get, match_ordering, insert_entry}
 use Rattle.proof_base.specs.Prelude.{range_contains}
@@ -14,9 +14,7 @@ own_insert [] k h is own = (is, tt)
 own_insert (e ∷ es) k h is own = by (text_cmp k e.0) refl (own_insert es k h is own.1)
   where
     by : (r : Ordering) → text_cmp k e.0 ≡ r → AreOwn (insert_entry text_cmp es k h) → AreOwn (match_ordering r ((k, h) ∷ e ∷ es) ((e.0, h) ∷ es) (e ∷ insert_entry text_cmp es k h))
-    by Less t ih = (is, own)
-    by Equal t ih = (is ∙ exact_bytes k e.0 t, own.1)
-    by Greater t ih = (own.0, ih)
+    by r h g = grind (arith, exact_bytes)
 
 pub own_remove : (test : List ℕ → Bool) (es : List (List ℕ × Held)) → AreOwn es → AreOwn (remove_entry test es)
 own_remove test [] own = tt

@@ -1,5 +1,5 @@
 -- What the walk over a text finds.
-use Rattle.std.proofs.Common.{◌≡◌, ◌≢◌, ℕ, ◌+◌, ◌<◌, ◌≤◌, Bool, true, false, ◌&&◌, nat_eq, List, [], ◌∷◌, ◌++◌, Option, Some, None, refl, sym, ap, ◌∙◌, cond, length, take, drop, get_or, append_assoc, append-nil}
+use Rattle.std.proofs.Common.{◌≡◌, ◌≢◌, ℕ, ◌+◌, ◌<◌, ◌≤◌, Bool, true, false, ◌&&◌, nat_eq, List, [], ◌∷◌, ◌++◌, Option, Some, None, refl, sym, ap, ◌∙◌, cond, length, take, drop, get_or, append_assoc, append-nil, arith}
 use Rattle.proof_base.proofs.Common.{false≢true, true≢false, ne_eqb, and_parts, eq-eqb, take_more, drop_more, drop_all}
 use Rattle.store_frame.specs.Prelude.{option_map, begins, before_slash, stem}
 
@@ -9,16 +9,13 @@ stem_none (x ∷ p) [] h = refl
 stem_none (x ∷ p) (y ∷ q) h = by (nat_eq x y) h (stem_none p q)
   where
     by : (b : Bool) → (b && begins p q) ≡ false → (begins p q ≡ false → stem p q ≡ None) → cond b (option_map (λ s. y ∷ s) (stem p q)) None ≡ None
-    by true h ih = ap (option_map (λ s. y ∷ s)) (ih h)
-    by false h ih = refl
+    by b h g = grind arith
 
 map_map : (xs : List ℕ) (y : ℕ) (o : Option (List ℕ)) → option_map (λ s. y ∷ s) (option_map (λ s. xs ++ s) o) ≡ option_map (λ s. (y ∷ xs) ++ s) o
-map_map xs y None = refl
-map_map xs y (Some s) = refl
+map_map xs y o = grind arith
 
 map_nil : (o : Option (List ℕ)) → o ≡ option_map (λ s. [] ++ s) o
-map_nil None = refl
-map_nil (Some s) = refl
+map_nil o = grind arith
 
 pub stem_split : (p q : List ℕ) → begins p q ≡ true → stem p q ≡ option_map (λ s. take (length p) q ++ s) (before_slash (drop (length p) q))
 stem_split [] q h = map_nil (before_slash q)

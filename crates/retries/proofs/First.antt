@@ -3,7 +3,7 @@ use Rattle.std.proofs.Common.{◌≡◌, ℕ, ◌+◌, ◌<◌, ◌&&◌, ◌||�
 use Rattle.proof_base.proofs.Common.{ltb-true, ltb-false}
 use Rattle.std.proofs.Math.Bool.{and-false}
 use Rattle.proof_base.proofs.Bools.{and_true}
-use Rattle.proof_base.proofs.Members.{true_or_false, false_true}
+use Rattle.proof_base.proofs.Members.{some_is, true_or_false, false_true}
 use Rattle.retries.specs.Prelude.{Request, Outcome, Answered, Entry, same_request, Follows, Item, Retried, wants_of, fresh, step, wears, is_zero, has_worn, worn_in, Counting, spent_in, was_answered, streak, IsWorn, NoneWorn, IsFirstWorn, WornFirst}
 use Rattle.retries.specs.Worn.{first_worn_after}
 use Rattle.retries.proofs.Lists.{parted}
@@ -48,7 +48,9 @@ snoc done e es = append_assoc done (e ∷ []) es
 lost_one : (retries : ℕ) (done : List Entry) (e : Entry) → NoneWorn retries done → nat_lt retries (streak e.request (done ++ e ∷ [])) ≡ false → NoneWorn retries (done ++ e ∷ [])
 lost_one retries done e none low q w = elim (worn_grows retries q done e w) [
   | inl v ↦ none q v
-  | inr v ↦ let s = ap (λ p. streak p (done ++ e ∷ [])) (same_is q e.request v.0) in let b = v.1 in absurd (omega (arith, s, b, ltb-false retries (streak e.request (done ++ e ∷ [])) low))
+  | inr v ↦
+      let s = ap (λ p. streak p (done ++ e ∷ [])) (same_is q e.request v.0) in let b = v.1 in
+      absurd (omega (arith, s, b, ltb-false retries (streak e.request (done ++ e ∷ [])) low))
 ]
 
 pub computed : (retries : ℕ) (done es : List Entry) → NoneWorn retries done → WornFirst retries (done ++ es) (first_worn_after retries done es)
@@ -78,17 +80,12 @@ answered_one : (retries spare : ℕ) (done : List Entry) (hand later : Option Re
 answered_one retries spare done hand later e c asked told =
     let none_missed : (q : Request) → streak q (done ++ e ∷ []) ≡ 0 = λ q. elim (true_or_false (same_request q e.request)) [
       | inl s ↦ streak_same q done e s ∙ ap (λ b. cond b 0 (streak q done + 1)) told
-      | inr s ↦ streak_other q done e s ∙ c.others q (λ h. other q s (sym asked ∙ h))
+      | inr s ↦ streak_other q done e s ∙ c.others q (λ h. false_true (rw (← some_is (sym asked ∙ h)) at s) (same_self e.request))
     ] in
     all_still retries (done ++ e ∷ []) later none_missed (λ q w. elim (worn_grows retries q done e w) [ inl v ↦ c.none q v | inr v ↦ let z : streak q (done ++ e ∷ []) ≡ 0 = none_missed q in let b : retries < streak q (done ++ e ∷ []) = v.1 in absurd (omega arith) ])
-  where
-    other : (q : Request) → same_request q e.request ≡ false → Some e.request ≡ Some q → ⊥
-    other q s h = let i : e.request ≡ q = cc in false_true (ap (λ v. same_request v e.request) i ∙ s) (same_self e.request)
 
 missed_here : (retries spare : ℕ) (done : List Entry) (hand : Option Request) (e : Entry) → Counts retries done hand spare → hand ≡ Some e.request → was_answered e.outcome ≡ false → streak e.request (done ++ e ∷ []) + spare ≡ retries + 1
-missed_here retries spare done hand e c asked told =
-    let s : streak e.request (done ++ e ∷ []) ≡ streak e.request done + 1 = streak_same e.request done e (same_self e.request) ∙ ap (λ b. cond b 0 (streak e.request done + 1)) told in
-    let h : streak e.request done + spare ≡ retries = c.held e.request asked in omega arith
+missed_here retries spare done hand e h g f = grind (arith, streak_same, same_self)
 
 -- without an answer the request in hand has missed one more
 missed_one : (retries n : ℕ) (done : List Entry) (hand : Option Request) (e : Entry) → Counts retries done hand (suc n) → hand ≡ Some e.request → was_answered e.outcome ≡ false → Counts retries (done ++ e ∷ []) hand n
@@ -137,30 +134,29 @@ module _ {M : Type 0} (retries : ℕ) (wants : M → Option Request) (tells : M 
 
 module _ {M : Type 0} (retries : ℕ) (asks : M → Option Request) (after : M → Item → M) where
   answered : (t : Retried M) (o : Outcome) → was_answered o ≡ true → (step retries after t o).spare ≡ retries
-  answered t (Answered r) h = refl
-  answered t _ h = absurd (false_true refl h)
+  answered t o h = grind arith
 
-  again : (t : Retried M) (o : Outcome) (n : ℕ) → was_answered o ≡ false → t.spare ≡ suc n → ((step retries after t o).spare ≡ n) × (asks (step retries after t o).operation ≡ asks t.operation)
-  again t (Answered r) n h e = absurd (false_true h refl)
-  again t _ n h e = rw e (refl, refl)
+  again : (t : Retried M) (o : Outcome) (n : ℕ) → was_answered o ≡ false → t.spare ≡ suc n
+      → ((step retries after t o).spare ≡ n) × (asks (step retries after t o).operation ≡ asks t.operation)
+  again t o n h g = grind arith
 
   counting : Counting retries (wants_of asks) (step retries after) (λ t. t.spare) (λ t. true)
   counting = record { kept = λ t o h. refl; answered = λ t o h k. answered t o k; again = λ t o n h k e. again t o n k e }
 
   wears_is : (t : Retried M) (o : Outcome) → wears t o ≡ is_zero t.spare && not (was_answered o)
-  wears_is t (Answered r) = sym (and-false (is_zero t.spare))
-  wears_is t _ = sym (and_true (is_zero t.spare))
+  wears_is t o = grind arith
 
   worn_is : (t : Retried M) (es : List Entry) → worn_in retries after t es ≡ spent_in (step retries after) (λ t. t.spare) t es
   worn_is t [] = refl
   worn_is t (e ∷ es) = rw (wears_is t e.outcome, worn_is (step retries after t e.outcome) es) refl
 
-  pub counted_first : (m : M) (es : List Entry) → Follows (wants_of asks) (step retries after) (fresh retries m) es → WornFirst retries es (worn_in retries after (fresh retries m) es)
-  counted_first m es f = rw (worn_is (fresh retries m) es) (spent_first retries (wants_of asks) (step retries after) (λ t. t.spare) (λ t. true) counting (fresh retries m) refl refl es f)
+  pub counted_first : (m : M) (es : List Entry) → Follows (wants_of asks) (step retries after) (fresh retries m) es
+      → WornFirst retries es (worn_in retries after (fresh retries m) es)
+  counted_first m es f =
+      rw (worn_is (fresh retries m) es) (spent_first retries (wants_of asks) (step retries after) (λ t. t.spare) (λ t. true) counting (fresh retries m) refl refl es f)
 
   or_some : (b c : Bool) (r : Request) (o : Option Request) → c ≡ is_some o → b || c ≡ is_some (cond b (Some r) o)
-  or_some true c r o h = refl
-  or_some false c r o h = h
+  or_some b c r o h = grind arith
 
   pub some_worn : (t : Retried M) (es : List Entry) → has_worn retries after t es ≡ is_some (worn_in retries after t es)
   some_worn t [] = refl

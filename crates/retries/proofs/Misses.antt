@@ -26,8 +26,7 @@ trail_row r n (false ∷ bs) h = elim (trail_row r (n + 1) bs h) [
 ]
   where
     starts : ((i : ℕ) → i + (n + 1) ≤ r → slice_get bs i ≡ Some false) → (i : ℕ) → i + n ≤ r → slice_get (false ∷ bs) i ≡ Some false
-    starts w zero le = refl
-    starts w (suc i) le = w i (omega arith)
+    starts h i g = grind arith
 
 pub row_of_trail : (r : ℕ) (bs : List Bool) → r < trail 0 bs → Row r bs
 row_of_trail r bs h = elim (trail_row r 0 bs h) [ inl w ↦ w | inr w ↦ (0, λ i le. let e : 0 + i ≡ i = omega arith in ap (slice_get bs) e ∙ w i (omega arith)) ]

@@ -19,4 +19,5 @@ follows_take wants tells (suc n) m (e ∷ es) h = (h.0, follows_take wants tells
 pub has_worn_more : {M : Type 0} (retries : ℕ) (after : M → Item → M) (t : Retried M) (part : List Entry) (e : Entry)
     → has_worn retries after t (part ++ e ∷ []) ≡ (has_worn retries after t part || wears (run (step retries after) t part) e.outcome)
 has_worn_more retries after t [] e = or-false (wears t e.outcome)
-has_worn_more retries after t (x ∷ part) e = ap (λ b. wears t x.outcome || b) (has_worn_more retries after (step retries after t x.outcome) part e) ∙ sym (or_assoc (wears t x.outcome) _ _)
+has_worn_more retries after t (x ∷ part) e =
+    ap (λ b. wears t x.outcome || b) (has_worn_more retries after (step retries after t x.outcome) part e) ∙ sym (or_assoc (wears t x.outcome) _ _)

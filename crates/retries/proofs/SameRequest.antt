@@ -1,5 +1,5 @@
 -- requests that are the same by the test are equal
-use Rattle.std.proofs.Common.{◌≡◌, ℕ, refl, ap, ◌∙◌, Bool, true, false, nat_eq, ◌&&◌, List, [], ◌∷◌, Option, Some, None}
+use Rattle.std.proofs.Common.{◌≡◌, ℕ, refl, ap, ◌∙◌, Bool, true, false, nat_eq, ◌&&◌, List, [], ◌∷◌, Option, Some, None, arith}
 use Rattle.proof_base.proofs.Common.{and_parts as both, and_from as and_true}
 use Rattle.proof_base.proofs.Members.{eq_nat as number_is, nat_true, text_is, text_true, false_true}
 use Rattle.retries.specs.Prelude.{text_eq, Spelled, NamedPart, UploadRef, Request, MakeBucket, PutObject, GetObject, HeadObject, DeleteObject, DeleteObjects, CopyObject, ListPage, CreateUpload, UploadPart, CompleteUpload, AbortUpload, ListParts, ListUploads, ClusterPut, ClusterRename, ClusterGet, ClusterDelete, ClusterList, same_request}
@@ -12,14 +12,10 @@ text_self : (a : List ℕ) → text_eq a a ≡ true
 text_self a = text_true a a refl
 
 bool_is : (a b : Bool) → same_bool a b ≡ true → a ≡ b
-bool_is true true e = refl
-bool_is true false e = absurd (false_true refl e)
-bool_is false true e = absurd (false_true refl e)
-bool_is false false e = refl
+bool_is a b h = grind arith
 
 bool_self : (a : Bool) → same_bool a a ≡ true
-bool_self true = refl
-bool_self false = refl
+bool_self a = grind arith
 
 list_is : {X : Type 0} (same : X → X → Bool) → ((x y : X) → same x y ≡ true → x ≡ y) → (xs ys : List X) → same_list same xs ys ≡ true → xs ≡ ys
 list_is same h [] [] e = refl
@@ -32,14 +28,10 @@ list_self same h [] = refl
 list_self same h (x ∷ xs) = and_true _ _ (h x) (list_self same h xs)
 
 option_is : {X : Type 0} (same : X → X → Bool) → ((x y : X) → same x y ≡ true → x ≡ y) → (a b : Option X) → same_option same a b ≡ true → a ≡ b
-option_is same h None None e = refl
-option_is same h None (Some y) e = absurd (false_true refl e)
-option_is same h (Some x) None e = absurd (false_true refl e)
-option_is same h (Some x) (Some y) e = ap Some (h x y e)
+option_is same h a b g = grind arith
 
 option_self : {X : Type 0} (same : X → X → Bool) → ((x : X) → same x x ≡ true) → (a : Option X) → same_option same a a ≡ true
-option_self same h None = refl
-option_self same h (Some x) = h x
+option_self same h a = grind arith
 
 part_is : (p q : NamedPart) → same_part p q ≡ true → p ≡ q
 part_is p q e =

@@ -22,16 +22,13 @@ texts xs = map text_in xs
 abbrev flat : List ℕ → List Entry → List PageEntry
 flat p es = map (entry_of p false) (filter (λ e. begins p e.0) es)
 
-less_true : (k q : List ℕ) → text_cmp k q ≡ Less → is_lt (text_cmp k q) ≡ true
-less_true k q e = ap is_lt e
-
 rises_above : (p k : List ℕ) (t : PageEntry → Bool) (es : List Entry) → AllByRecursion (λ q. text_cmp k q ≡ Less) (keys_of es) → IsStrictlySortedBy text_cmp (keys_of es) → RisesFrom k (texts (filter t (flat p es)))
 rises_above p k t [] a s = tt
 rises_above p k t (e ∷ es) a s = elim (true_or_false (begins p e.0)) [
   | inr b ↦ rw b (rises_above p k t es a.1 (sorted_tail text_cmp e.0 (keys_of es) s))
   | inl b ↦ elim (true_or_false (t (entry_of p false e))) [
     | inr c ↦ rw (b, c) (rises_above p k t es a.1 (sorted_tail text_cmp e.0 (keys_of es) s))
-    | inl c ↦ rw (b, c) (less_true k e.0 a.0, rises_above p e.0 t es (sorted_head text_cmp e.0 (keys_of es) s) (sorted_tail text_cmp e.0 (keys_of es) s))
+    | inl c ↦ rw (b, c) (ap is_lt a.0, rises_above p e.0 t es (sorted_head text_cmp e.0 (keys_of es) s) (sorted_tail text_cmp e.0 (keys_of es) s))
   ]
 ]
 
@@ -114,7 +111,7 @@ found_at (p ∷ es) e s (inl is) =
     let tie : eq_by_cmp text_cmp e.0 p.0 ≡ true = sym (text_ties e.0 p.0) ∙ text_true e.0 p.0 (ap (λ (x : Entry). x.0) is) in
     rw tie (ap (λ (x : Entry). Some x.1) (sym is))
 found_at (p ∷ es) e s (inr i) =
-    let above : is_lt (text_cmp p.0 e.0) ≡ true = less_true p.0 e.0 (above_all p.0 es e (sorted_head text_cmp p.0 (keys_of es) s) i) in
+    let above : is_lt (text_cmp p.0 e.0) ≡ true = ap is_lt (above_all p.0 es e (sorted_head text_cmp p.0 (keys_of es) s) i) in
     let tie : eq_by_cmp text_cmp e.0 p.0 ≡ false = sym (text_ties e.0 p.0) ∙ text_false e.0 p.0 (λ h. false_true (irrefl text_total p.0) (ap (lt text_cmp p.0) (sym h) ∙ above)) in
     rw tie (found_at es e (sorted_tail text_cmp p.0 (keys_of es) s) i)
 

@@ -12,9 +12,7 @@ abbrev pub with_bucket : Content → List ℕ → BucketContent → ℕ → Cont
 with_bucket c n b next = record { buckets = fin.insert c.buckets n b; next = next; minimum = c.minimum }
 
 pub part_others : (key : List ℕ) (id number : ℕ) (bytes : List ℕ) (m : Uploads) (o : Option Upload) (u : ℕ) → (u ≡ id → ⊥) → fin.get (part_put m id o number bytes) u ≡ fin.get m u
-part_others key id number bytes m None u ne = refl
-part_others key id number bytes m (Some v) u ne =
-    elim (is_part_number number) as (λ q. fin.get (cond q (fin.insert m id (with_part v number bytes)) m) u ≡ fin.get m u) [ true ↦ nat_other m id u (with_part v number bytes) ne | false ↦ refl ]
+part_others key id number bytes m o u h = grind (arith, nat_other)
 
 -- what holds of a bucket alone
 pub record Bucket (c d : Content) (n : List ℕ) (r : Request) : Type 0 where
@@ -69,11 +67,9 @@ module _ (b : BucketContent) (next : ℕ) where
   same_all : (r : Request) → Within r b b next next
   same_all r = record { objects = λ k h. refl; uploads = λ id h l. refl; fresh = λ f. f }
 
-  put_within : (r : Request) (q : List ℕ) (x : Object) → IsIn q (changed_keys r) → Within r b (record { objects = fin.insert b.objects q x; uploads = b.uploads }) next next
-  put_within r q x i = record { objects = λ k h. text_other b.objects q k x (λ e. h (subst (λ y. IsIn y (changed_keys r)) (sym e) i)); uploads = λ id h l. refl; fresh = λ f. f }
-
-  delete_within : (r : Request) (q : List ℕ) → IsIn q (changed_keys r) → Within r b (record { objects = fin.remove b.objects q; uploads = b.uploads }) next next
-  delete_within r q i = record { objects = λ k h. text_left b.objects q k (λ e. h (subst (λ y. IsIn y (changed_keys r)) (sym e) i)); uploads = λ id h l. refl; fresh = λ f. f }
+  objects_within : (r : Request) (os : Objects) → ((k : List ℕ) → (IsIn k (changed_keys r) → ⊥) → fin.get os k ≡ fin.get b.objects k)
+      → Within r b (record { objects = os; uploads = b.uploads }) next next
+  objects_within r os same = record { objects = same; uploads = λ id h l. refl; fresh = λ f. f }
 
   without_same : (o : Objects) (ks : List (List ℕ)) (k : List ℕ) → (IsIn k ks → ⊥) → fin.get (without o ks) k ≡ fin.get o k
   without_same o [] k h = refl
@@ -81,25 +77,15 @@ module _ (b : BucketContent) (next : ℕ) where
 
   deletes_within : (n : List ℕ) (ks : List (List ℕ)) (t : Bool) → Within (DeleteObjects n ks) b (record { objects = cond t b.objects (without b.objects ks); uploads = b.uploads }) next next
   deletes_within n ks true = same_all (DeleteObjects n ks)
-  deletes_within n ks false = record { objects = without_same b.objects ks; uploads = λ id h l. refl; fresh = λ f. f }
+  deletes_within n ks false = objects_within (DeleteObjects n ks) (without b.objects ks) (without_same b.objects ks)
 
   copy_within : (n source q : List ℕ) (o : Option Object) → Within (CopyObject n source q) b (record { objects = copied b.objects q o; uploads = b.uploads }) next next
   copy_within n source q None = same_all (CopyObject n source q)
-  copy_within n source q (Some x) = put_within (CopyObject n source q) q x (inl refl)
+  copy_within n source q (Some x) = objects_within (CopyObject n source q) (fin.insert b.objects q x) (λ k h. text_other b.objects q k x (λ e. h (inl e)))
 
   part_within : (n key : List ℕ) (id number : ℕ) (bytes : List ℕ) (o : Option Upload) → ((o ≡ None) ⊎ ((y : Upload) × (fin.get b.uploads id ≡ Some y)))
       → Within (UploadPart n key id number bytes) b (record { objects = b.objects; uploads = part_put b.uploads id o number bytes }) next next
-  part_within n key id number bytes o stood = record {
-    objects = λ k h. refl;
-    uploads = λ u h l. part_others key id number bytes b.uploads o u (λ e. h (ap (λ v. Some v) (sym e)));
-    fresh = λ f u x e. elim (same_or_not u id) [
-      | inl is ↦ elim stood [
-        | inl none ↦ f u x (sym (ap (λ p. fin.get (part_put b.uploads id p number bytes) u) none) ∙ e)
-        | inr y ↦ f u y.0 (ap (fin.get b.uploads) is ∙ y.1)
-      ]
-      | inr ne ↦ f u x (sym (part_others key id number bytes b.uploads o u ne) ∙ e)
-    ];
-  }
+  part_within n key id number bytes o h = grind (arith, part_others, same_or_not)
 
   -- a live upload stands
   stands_so : (key : List ℕ) (id : ℕ) (o : Option Upload) → fin.get b.uploads id ≡ o → (with_key key o ≡ None) ⊎ ((y : Upload) × (fin.get b.uploads id ≡ Some y))
@@ -107,18 +93,10 @@ module _ (b : BucketContent) (next : ℕ) where
   stands_so key id (Some y) e = inr (y, e)
 
   gone_fresh : (id : ℕ) → ((u : ℕ) (x : Upload) → fin.get b.uploads u ≡ Some x → u < next) → (u : ℕ) (x : Upload) → fin.get (fin.remove b.uploads id) u ≡ Some x → u < next
-  gone_fresh id f u x e = elim (same_or_not u id) [
-    | inl is ↦ absurd (none_some (nat_gone b.uploads id u is) e)
-    | inr ne ↦ f u x (sym (nat_left b.uploads id u ne) ∙ e)
-  ]
+  gone_fresh id h u x g = grind (arith, same_or_not, nat_gone, nat_left)
 
   abort_within : (n key : List ℕ) (id : ℕ) (o : Option Upload) → Within (AbortUpload n key id) b (record { objects = b.objects; uploads = aborted b.uploads id o }) next next
-  abort_within n key id None = same_all (AbortUpload n key id)
-  abort_within n key id (Some y) = record {
-    objects = λ k h. refl;
-    uploads = λ u h l. nat_left b.uploads id u (λ e. h (ap (λ v. Some v) (sym e)));
-    fresh = gone_fresh id;
-  }
+  abort_within n key id o = grind (arith, same_all, nat_left, gone_fresh)
 
   complete_within : (r : Request) (q : List ℕ) (id : ℕ) (x : Result (List ℕ) Refusal) → IsIn q (changed_keys r) → changed_upload r ≡ Some id → Within r b (completed b q id x) next next
   complete_within r q id (Err y) i e = same_all r
@@ -129,18 +107,12 @@ module _ (b : BucketContent) (next : ℕ) where
   }
 
   create_within : (n key : List ℕ) → Within (CreateUpload n key) b (record { objects = b.objects; uploads = fin.insert b.uploads next (record { key = key; parts = fin.empty }) }) next (next + 1)
-  create_within n key = record {
-    objects = λ k h. refl;
-    uploads = λ u h l. nat_other b.uploads next u (record { key = key; parts = fin.empty }) (λ e. absurd (omega arith));
-    fresh = λ f u x e. elim (same_or_not u next) [
-      | inl is ↦ omega arith
-      | inr ne ↦ let old : u < next = f u x (sym (nat_other b.uploads next u (record { key = key; parts = fin.empty }) ne) ∙ e) in omega arith
-    ];
-  }
+  create_within n key = grind (arith, nat_other, same_or_not)
 
   within : (minimum : ℕ) (r : Request) → Within r b (apply_in b next minimum r) next (cond (draws r) (next + 1) next)
-  within minimum (PutObject n k bytes header) = put_within (PutObject n k bytes header) k (record { bytes = bytes; header = header }) (inl refl)
-  within minimum (DeleteObject n k) = delete_within (DeleteObject n k) k (inl refl)
+  within minimum (PutObject n k bytes header) =
+      objects_within (PutObject n k bytes header) _ (λ q h. text_other b.objects k q (record { bytes = bytes; header = header }) (λ e. h (inl e)))
+  within minimum (DeleteObject n k) = objects_within (DeleteObject n k) (fin.remove b.objects k) (λ q h. text_left b.objects k q (λ e. h (inl e)))
   within minimum (DeleteObjects n ks) = deletes_within n ks (nat_lt MOST_ENTRIES (length ks))
   within minimum (CopyObject n source target) = copy_within n source target (fin.get b.objects source)
   within minimum (CreateUpload n k) = create_within n k

@@ -1,14 +1,15 @@
 -- What the walk finds is what is listed.
-use Rattle.std.proofs.Common.{◌≡◌, ℕ, inl, inr, Bool, true, false, ◌&&◌, cond, List, [], ◌∷◌, ◌++◌, Option, Some, None, refl, sym, ap, ◌∙◌, subst, map, length}
+use Rattle.std.proofs.Common.{◌≡◌, ℕ, inl, inr, Bool, true, false, cond, List, [], ◌∷◌, ◌++◌, Option, Some, None, refl, sym, ap, ◌∙◌, subst, map, length, arith}
 use Rattle.proof_base.proofs.Common.{false≢true, exact_bytes, sorted_head, sorted_tail}
 use Rattle.std.proofs.lemmas.Bool.{cases_Bool}
 use Rattle.proof_base.proofs.Bools.{contrary}
-use Rattle.store_frame.specs.Prelude.{filter, keys_of, is_lt, is_eq, is_gt, Ordering, Less, Equal, Greater, text_cmp, Object, PageEntry, begins, stem_if, entry_by, entry_of, text_in, is_again, folded_from, listed, text_of, entries, Objects}
+use Rattle.store_frame.specs.Prelude.{filter, keys_of, is_lt, is_eq, is_gt, Less, Equal, Greater, text_cmp, text_total, Object, PageEntry, begins, stem_if, entry_by, entry_of, text_in, is_again, folded_from, listed, text_of, entries, Objects}
 use Rattle.std.specs.List.Sorted.{IsStrictlySortedBy}
 use Rattle.store_frame.specs.Walk.{text_by, walked}
-use Rattle.proof_base.proofs.Tree.{map_sorted}
+use Rattle.proof_base.proofs.Tree.{map_sorted, tied}
 use Rattle.s3_types.proofs.Begins.{between}
-use Rattle.store_frame.proofs.Prefix.{lt, lt_back, lt_le, le_lt, le_le, lt_not, irrefl}
+use Rattle.proof_base.proofs.Less.{lt_back, lt_le, le_lt, irrefl}
+use Rattle.store_frame.proofs.Prefix.{lt, le_le, lt_not}
 use Rattle.store_frame.proofs.Walked.{stems, text_le}
 
 -- each entry whose text is greater than the last
@@ -17,11 +18,7 @@ given a [] = []
 given a (x ∷ xs) = cond (lt a (text_in x)) (x ∷ given (text_in x) xs) (given a xs)
 
 text_by_entry : (o : Option (List ℕ)) (q : List ℕ) (n : ℕ) → text_by o q ≡ text_in (entry_by o q n)
-text_by_entry None q n = refl
-text_by_entry (Some s) q n = refl
-
-skip_false : (b c : Bool) {A : Type 0} (x y : A) → b ≡ false → cond (b && c) x y ≡ y
-skip_false b c x y h = ap (λ b. cond (b && c) x y) h
+text_by_entry o q n = grind arith
 
 abbrev entries_below : List ℕ → Bool → List (List ℕ × Object) → List PageEntry
 entries_below p d es = map (entry_of p d) (filter (λ e. begins p e.0) es)
@@ -41,7 +38,7 @@ Rising w (x ∷ xs) = (lt (text_in x) w ≡ false) × Rising (text_in x) xs
 all_kept : (b w : List ℕ) (xs : List PageEntry) → lt b w ≡ true → Rising w xs → filter (λ x. lt b (text_in x)) xs ≡ xs
 all_kept b w [] l r = refl
 all_kept b w (x ∷ xs) l r =
-    let h : lt b (text_in x) ≡ true = lt_le b w (text_in x) l r.0 in
+    let h : lt b (text_in x) ≡ true = lt_le text_total b w (text_in x) l r.0 in
     rw (h, all_kept b (text_in x) xs h r.1) refl
 
 lower : (u w : List ℕ) (xs : List PageEntry) → lt w u ≡ false → Rising w xs → Rising u xs
@@ -53,12 +50,12 @@ same_after : (a u : List ℕ) (xs : List PageEntry) → lt a u ≡ true → Risi
     → folded_from (Some u) (filter (λ x. lt a (text_in x)) xs) ≡ folded_from (Some u) (filter (λ x. lt u (text_in x)) xs)
 same_after a u [] l r = refl
 same_after a u (x ∷ xs) l r =
-    let h : lt a (text_in x) ≡ true = lt_le a u (text_in x) l r.0 in
+    let h : lt a (text_in x) ≡ true = lt_le text_total a u (text_in x) l r.0 in
     rw h ((elim (text_cmp u (text_in x)) as (λ o. text_cmp u (text_in x) ≡ o
-      → (is_again (Some u) x ≡ is_eq o) → folded_from (Some u) (x ∷ filter (λ x. lt a (text_in x)) xs) ≡ folded_from (Some u) (filter (λ x. lt u (text_in x)) (x ∷ xs))) [
+    → (is_again (Some u) x ≡ is_eq o) → folded_from (Some u) (x ∷ filter (λ x. lt a (text_in x)) xs) ≡ folded_from (Some u) (filter (λ x. lt u (text_in x)) (x ∷ xs))) [
       | Equal ↦ λ e g. rw e (same_after a u xs l (lower u (text_in x) xs r.0 r.1))
       | Less ↦ λ e g. rw (e, all_kept a (text_in x) xs h r.1, all_kept u (text_in x) xs (ap is_lt e) r.1, e) refl
-      | Greater ↦ λ e g. absurd (false≢true (sym r.0 ∙ lt_back u (text_in x) ∙ ap is_gt e))
+      | Greater ↦ λ e g. absurd (false≢true (sym r.0 ∙ lt_back text_total u (text_in x) ∙ ap is_gt e))
     ]) refl refl)
 
 abbrev Started : List PageEntry → Type 0
@@ -66,8 +63,7 @@ Started [] = Unit {0}
 Started (x ∷ xs) = Rising (text_in x) xs
 
 start : (w : List ℕ) (xs : List PageEntry) → Rising w xs → Started xs
-start w [] r = tt
-start w (x ∷ xs) r = r.1
+start w xs h = grind arith
 
 -- the last that was given is not greater than a
 abbrev Last : List ℕ → Option (List ℕ) → Type 0
@@ -76,17 +72,14 @@ Last a (Some t) = lt a t ≡ false
 
 not_again : (a : List ℕ) (o : Option (List ℕ)) (x : PageEntry) → Last a o → lt a (text_in x) ≡ true → is_again o x ≡ false
 not_again a None x h l = refl
-not_again a (Some t) x h l = by (text_cmp t (text_in x)) refl
-  where
-    by : (r : Ordering) → text_cmp t (text_in x) ≡ r → is_eq (text_cmp t (text_in x)) ≡ false
-    by Equal e = absurd (false≢true (sym h ∙ ap (lt a) (exact_bytes t (text_in x) e) ∙ l))
-    by _ e = ap is_eq e
+not_again a (Some t) x h l = contrary _ (λ e. sym h ∙ ap (lt a) (exact_bytes t (text_in x) (tied (text_cmp t (text_in x)) e)) ∙ l)
 
 given_listed : (a : List ℕ) (o : Option (List ℕ)) (xs : List PageEntry) → Last a o → Started xs → given a xs ≡ folded_from o (filter (λ x. lt a (text_in x)) xs)
 given_listed a o [] h s = refl
 given_listed a o (x ∷ xs) h s = elim (cases_Bool (lt a (text_in x))) [
   | inr n ↦ rw (n, given_listed a o xs h (start (text_in x) xs s)) refl
-  | inl t ↦ rw (t, not_again a o x h t, given_listed (text_in x) (Some (text_in x)) xs (irrefl (text_in x)) (start (text_in x) xs s), same_after a (text_in x) xs t s) refl
+  | inl t ↦
+      rw (t, not_again a o x h t, given_listed (text_in x) (Some (text_in x)) xs (irrefl text_total (text_in x)) (start (text_in x) xs s), same_after a (text_in x) xs t s) refl
 ]
 
 -- a greater key below p has no smaller text
@@ -99,8 +92,9 @@ text_rises p d k q l = by (stem_if d p q) refl
     by : (o : Option (List ℕ)) → stem_if d p q ≡ o → lt (text_of p d q) (text_of p d k) ≡ false
     by None n = rw n (le_le (text_of p d k) k q tk (lt_not k q l))
     by (Some s) n = rw n (contrary (lt (s ++ 47 ∷ []) (text_of p d k)) (λ t.
-        let b : begins (s ++ 47 ∷ []) k ≡ true = between (s ++ 47 ∷ []) k q (lt_not (s ++ 47 ∷ []) k (lt_le (s ++ 47 ∷ []) (text_of p d k) k t tk)) (lt_not k q l) ((stems p d).below q s n) in
-        sym (irrefl (s ++ 47 ∷ [])) ∙ (rw ((stems p d).same q s k n b) at t)))
+        let b : begins (s ++ 47 ∷ []) k ≡ true = between (s ++ 47 ∷ []) k q (lt_not (s ++ 47 ∷ []) k (lt_le text_total (s ++ 47 ∷ []) (text_of p d k) k t tk)) (lt_not k q l)
+        ((stems p d).below q s n) in
+        sym (irrefl text_total (s ++ 47 ∷ [])) ∙ (rw ((stems p d).same q s k n b) at t)))
 
 rises_after : (p : List ℕ) (d : Bool) (k : List ℕ) (es : List (List ℕ × Object)) → IsStrictlySortedBy text_cmp (k ∷ keys_of es) → Rising (text_of p d k) (entries_below p d es)
 rises_after p d k [] s = tt
@@ -108,8 +102,8 @@ rises_after p d k (f ∷ es) s =
     let up : lt (text_in (entry_of p d f)) (text_of p d k) ≡ false = rw same at (text_rises p d k f.0 (ap is_lt (sorted_head text_cmp k (f.0 ∷ keys_of es) s).0)) in
     let ih : Rising (text_in (entry_of p d f)) (entries_below p d es) = rw same at (rises_after p d f.0 es (sorted_tail text_cmp k (f.0 ∷ keys_of es) s)) in
     elim (begins p f.0) as (λ b. Rising (text_of p d k) (map (entry_of p d) (cond b (f ∷ filter (λ e. begins p e.0) es) (filter (λ e. begins p e.0) es)))) [
-      true ↦ (up, ih)
-    | false ↦ lower (text_of p d k) (text_in (entry_of p d f)) (entries_below p d es) up ih
+      | true ↦ (up, ih)
+      | false ↦ lower (text_of p d k) (text_in (entry_of p d f)) (entries_below p d es) up ih
     ]
   where
     same : text_of p d f.0 ≡ text_in (entry_of p d f)
@@ -118,9 +112,9 @@ rises_after p d k (f ∷ es) s =
 started : (p : List ℕ) (d : Bool) (es : List (List ℕ × Object)) → IsStrictlySortedBy text_cmp (keys_of es) → Started (entries_below p d es)
 started p d [] s = tt
 started p d (e ∷ es) s = elim (begins p e.0) as (λ b. Started (map (entry_of p d) (cond b (e ∷ filter (λ e. begins p e.0) es) (filter (λ e. begins p e.0) es)))) [
-      true ↦ subst (λ t. Rising t (entries_below p d es)) (text_by_entry (stem_if d p e.0) e.0 (length e.1.bytes)) (rises_after p d e.0 es s)
-    | false ↦ (started p d es (sorted_tail text_cmp e.0 (keys_of es) s))
-  ]
+  | true ↦ subst (λ t. Rising t (entries_below p d es)) (text_by_entry (stem_if d p e.0) e.0 (length e.1.bytes)) (rises_after p d e.0 es s)
+  | false ↦ (started p d es (sorted_tail text_cmp e.0 (keys_of es) s))
+]
 
 pub walked_listed : (p : List ℕ) (d : Bool) (a : List ℕ) (m : Objects) → walked p d a (entries m) ≡ listed p d a m
 walked_listed p d a m =
@@ -141,12 +135,12 @@ given_behind a [] x rest h = absurd (cc)
 given_behind a (y ∷ ys) x rest h = elim (cases_Bool (lt a (text_in y))) [
   | inr n ↦
       let g : given a ys ≡ x ∷ rest = rw n at h in
-      rw (lt_not (text_in y) (text_in x) (le_lt (text_in y) a (text_in x) n (given_greater a ys x rest g))) (given_behind a ys x rest g)
+      rw (lt_not (text_in y) (text_in x) (le_lt text_total (text_in y) a (text_in x) n (given_greater a ys x rest g))) (given_behind a ys x rest g)
   | inl t ↦
       let e : y ∷ given (text_in y) ys ≡ x ∷ rest = rw t at h in
       let f : y ≡ x = cc in
       let g : given (text_in y) ys ≡ rest = cc in
-      rw (← f, irrefl (text_in y)) g
+      rw (← f, irrefl text_total (text_in y)) g
 ]
 
 -- what is listed behind the first entry are the others

@@ -1,34 +1,15 @@
 -- What a text begins with, and the order of texts.
-use Rattle.std.proofs.Common.{◌≡◌, ℕ, Bool, true, false, ◌&&◌, not, nat_eq, List, [], ◌∷◌, ◌++◌, refl, arith}
+use Rattle.std.proofs.Common.{◌≡◌, ℕ, Bool, true, false, ◌&&◌, nat_eq, List, [], ◌∷◌, ◌++◌, refl, arith}
 use Rattle.proof_base.proofs.Common.{nat_tests, false≢true, true≢false}
-use Rattle.store_frame.specs.Prelude.{Ordering, nat_cmp, is_lt, is_gt, ordering_then, text_cmp, text_total, begins}
-use Rattle.s3_types.specs.Prelude.{is_le}
+use Rattle.store_frame.specs.Prelude.{Ordering, nat_cmp, is_lt, ordering_then, text_cmp, text_total, begins}
 use Rattle.proof_base.proofs.Less as less
 
 -- whether a text is less than another
 abbrev pub lt : List ℕ → List ℕ → Bool
 lt = less.lt text_cmp
 
-pub lt_back : (a b : List ℕ) → lt b a ≡ is_gt (text_cmp a b)
-lt_back = less.lt_back text_total
-
-pub le_not : (a b : List ℕ) → is_le (text_cmp a b) ≡ not (lt b a)
-le_not = less.le_not text_total
-
-pub irrefl : (a : List ℕ) → lt a a ≡ false
-irrefl = less.irrefl text_total
-
-pub lt_trans : (a b c : List ℕ) → lt a b ≡ true → lt b c ≡ true → lt a c ≡ true
-lt_trans = less.lt_trans text_total
-
 pub lt_not : (a b : List ℕ) → lt a b ≡ true → lt b a ≡ false
 lt_not = less.lt_not text_total
-
-pub le_lt : (a b c : List ℕ) → lt b a ≡ false → lt b c ≡ true → lt a c ≡ true
-le_lt = less.le_lt text_total
-
-pub lt_le : (a b c : List ℕ) → lt a b ≡ true → lt c b ≡ false → lt a c ≡ true
-lt_le = less.lt_le text_total
 
 pub le_le : (a b c : List ℕ) → lt b a ≡ false → lt c b ≡ false → lt c a ≡ false
 le_le = less.le_le text_total

@@ -1,5 +1,6 @@
 -- Common prefixes.
-use Rattle.std.proofs.Common.{◌≡◌, ℕ, inl, inr, Bool, true, false, ◌&&◌, nat_eq, List, [], ◌∷◌, ◌++◌, Option, Some, None, refl, sym, ap, ◌∙◌, subst}
+use Rattle.std.proofs.Common.{◌≡◌, ℕ, inl, inr, Bool, true, false, ◌&&◌, nat_eq, List, [], ◌∷◌, ◌++◌, Option, Some, None, refl, sym, ap, ◌∙◌, subst, arith}
+use Rattle.proof_base.proofs.Members.{some_is}
 use Rattle.proof_base.proofs.Common.{and_parts, false≢true, eqb-true, eq-eqb}
 use Rattle.std.proofs.lemmas.Bool.{cases_Bool}
 use Rattle.store_frame.specs.Prelude.{option_map, begins, before_slash, stem}
@@ -9,12 +10,8 @@ record Mapped {A : Type 0} (f : A → A) (o : Option A) (s : A) : Type 0 where
   pub was : o ≡ Some from
   pub is : f from ≡ s
 
-inner : {A : Type 0} (x y : A) → Some x ≡ Some y → x ≡ y
-inner x y e = cc
-
 mapped : {A : Type 0} (f : A → A) (o : Option A) (s : A) → option_map f o ≡ Some s → Mapped f o s
-mapped f None s e = absurd (cc)
-mapped f (Some r) s e = record { from = r; was = refl; is = inner _ _ e }
+mapped f o s h = grind arith
 
 same_head : (x w : ℕ) (b : Bool) → (nat_eq x w && b) ≡ true → x ≡ w
 same_head x w b h = eqb-true x w (and_parts (nat_eq x w) b h).0
@@ -30,14 +27,14 @@ both x b h = ap (λ c. c && b) (eq-eqb x x refl) ∙ h
 slash_below : (q s : List ℕ) → before_slash q ≡ Some s → begins (s ++ 47 ∷ []) q ≡ true
 slash_below [] s e = absurd (cc)
 slash_below (x ∷ q) s e = elim (cases_Bool (nat_eq x 47)) [
-  | inl t ↦ rw (← inner [] s (rw t at e), eqb-true x 47 t) refl
+  | inl t ↦ rw (← some_is (rw t at e), eqb-true x 47 t) refl
   | inr n ↦ let m = mapped (λ s. x ∷ s) (before_slash q) s (rw n at e) in rw (← m.is) (both x _ (slash_below q m.from m.was))
 ]
 
 slash_same : (q s w : List ℕ) → before_slash q ≡ Some s → begins (s ++ 47 ∷ []) w ≡ true → before_slash w ≡ Some s
 slash_same [] s w e h = absurd (cc)
 slash_same (x ∷ q) s w e h = elim (cases_Bool (nat_eq x 47)) [
-  | inl t ↦ let f : Some [] ≡ Some s = rw t at e in here w (rw (← inner [] s f) at h) ∙ f
+  | inl t ↦ let f : Some [] ≡ Some s = rw t at e in here w (rw (← some_is f) at h) ∙ f
   | inr n ↦
       let m = mapped (λ s. x ∷ s) (before_slash q) s (rw n at e) in
       later (slash_same q) m.from w m.was n (rw (← m.is) at h) ∙ ap Some m.is
@@ -48,17 +45,13 @@ slash_same (x ∷ q) s w e h = elim (cases_Bool (nat_eq x 47)) [
     here (y ∷ w) h = rw (← same_head 47 y true h) refl
 
     later : ((r w : List ℕ) → before_slash q ≡ Some r → begins (r ++ 47 ∷ []) w ≡ true → before_slash w ≡ Some r) → (r w : List ℕ) → before_slash q ≡ Some r → nat_eq x 47 ≡ false → begins ((x ∷ r) ++ 47 ∷ []) w ≡ true → before_slash w ≡ Some (x ∷ r)
-    later ih r [] e t h = absurd (false≢true h)
-    later ih r (y ∷ w) e t h = rw (← same_head x y _ h, t, ih r w e (rest_of x y _ h)) refl
+    later h r w g e f = grind arith
 
 -- ---- after a prefix
 
 module _ (x : ℕ) (p : List ℕ) (y : ℕ) (q : List ℕ) (s : List ℕ) (e : stem (x ∷ p) (y ∷ q) ≡ Some s) where
   stem_step : (x ≡ y) × Mapped (λ s. y ∷ s) (stem p q) s
-  stem_step = elim (cases_Bool (nat_eq x y)) [
-    | inl t ↦ (eqb-true x y t, mapped (λ s. y ∷ s) (stem p q) s (rw t at e))
-    | inr t ↦ let n : None ≡ Some s = rw t at e in absurd (cc)
-  ]
+  stem_step = grind arith
 
 pub stem_below : (p q s : List ℕ) → stem p q ≡ Some s → begins (s ++ 47 ∷ []) q ≡ true
 stem_below [] q s e = slash_below q s e
@@ -83,5 +76,4 @@ stem_same (x ∷ p) (y ∷ q) s w e h = at (stem_same p q) w (rw (← m.1.is) at
     m = stem_step x p y q s e
 
     at : ((s w : List ℕ) → stem p q ≡ Some s → begins (s ++ 47 ∷ []) w ≡ true → stem p w ≡ Some s) → (w : List ℕ) → begins (y ∷ (m.1.from ++ 47 ∷ [])) w ≡ true → stem (x ∷ p) w ≡ Some (y ∷ m.1.from)
-    at ih [] h = absurd (false≢true h)
-    at ih (z ∷ w) h = let yz : y ≡ z = same_head y z _ h in rw (eq-eqb x z (m.0 ∙ yz), ih m.1.from w m.1.was (rest_of y z _ h)) (ap (λ z. Some (z ∷ m.1.from)) (sym yz))
+    at h w g = grind arith

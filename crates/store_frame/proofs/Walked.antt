@@ -1,14 +1,15 @@
 -- What is walked after a text begins at the first key from `start` on.
 use Rattle.std.proofs.Common.{◌≡◌, ℕ, inl, inr, Bool, true, false, ◌&&◌, not, List, [], ◌∷◌, ◌++◌, Option, Some, None, refl, sym, ap, ◌∙◌, subst, cond}
 use Rattle.proof_base.proofs.Common.{and_parts, and_right, and_from, eq-eqb, not-true, sorted_head, sorted_tail}
-use Rattle.store_frame.specs.Prelude.{is_lt, filter, slice_get, AllByRecursion, keys_of, Unbounded, Less, is_from_start, entries_between, text_cmp, Object, begins, stem_if, text_of, start, ComesNext}
+use Rattle.store_frame.specs.Prelude.{is_lt, filter, slice_get, AllByRecursion, keys_of, Unbounded, Less, is_from_start, entries_between, text_cmp, text_total, Object, begins, stem_if, text_of, start, ComesNext}
 use Rattle.std.proofs.lemmas.Bool.{and_left, cases_Bool, true_from_ne_false}
 use Rattle.proof_base.proofs.Bools.{contrary}
 use Rattle.proof_base.proofs.Members.{some_is, none_some, none_or_some, false_true}
 use Rattle.std.specs.List.Sorted.{IsStrictlySortedBy}
 use Rattle.store_frame.specs.Walk.{text_by, start_by, walked}
 use Rattle.s3_types.proofs.Begins.{between, from_prefix}
-use Rattle.store_frame.proofs.Prefix.{lt, up_to_next, before_next, le_not, le_lt, lt_le, le_le, lt_not, irrefl, lt_trans}
+use Rattle.proof_base.proofs.Less.{le_not, le_lt, lt_le, irrefl, lt_trans}
+use Rattle.store_frame.proofs.Prefix.{lt, up_to_next, before_next, le_le, lt_not}
 use Rattle.store_frame.proofs.Stem.{stem_below, stem_prefix, stem_same}
 
 -- ---- where a key's text stands
@@ -26,7 +27,7 @@ stems p false = record { below = λ q s e. absurd (none_some refl e); prefix = �
 module _ (p : List ℕ) (st : List ℕ → Option (List ℕ)) (k : Stems p st) where
   -- a text is not greater than its key
   pub text_le : (q : List ℕ) (o : Option (List ℕ)) → st q ≡ o → lt q (text_by o q) ≡ false
-  text_le q None e = irrefl q
+  text_le q None e = irrefl text_total q
   text_le q (Some s) e = from_prefix (s ++ 47 ∷ []) q (k.below q s e)
 
   -- nor less than the prefix
@@ -38,9 +39,9 @@ module _ (p : List ℕ) (st : List ℕ → Option (List ℕ)) (k : Stems p st) w
   module _ (a q s : List ℕ) (e : st a ≡ Some s) where
     inside : lt q (s ++ 48 ∷ []) ≡ true → lt a (text_by (st q) q) ≡ false
     inside h = (elim (lt q (s ++ 47 ∷ [])) as (λ b. lt q (s ++ 47 ∷ []) ≡ b → lt a (text_by (st q) q) ≡ false) [
-          true ↦ λ l. le_le (text_by (st q) q) q a (text_le q (st q) refl) (lt_not q a (lt_le q (s ++ 47 ∷ []) a l (from_prefix (s ++ 47 ∷ []) a (k.below a s e))))
-        | false ↦ λ l. ap (λ o. lt a (text_by o q)) (k.same a s q e (before_next s q l h)) ∙ from_prefix (s ++ 47 ∷ []) a (k.below a s e)
-      ]) refl
+      | true ↦ λ l. le_le (text_by (st q) q) q a (text_le q (st q) refl) (lt_not q a (lt_le text_total q (s ++ 47 ∷ []) a l (from_prefix (s ++ 47 ∷ []) a (k.below a s e))))
+      | false ↦ λ l. ap (λ o. lt a (text_by o q)) (k.same a s q e (before_next s q l h)) ∙ from_prefix (s ++ 47 ∷ []) a (k.below a s e)
+    ]) refl
 
     outside : lt q (s ++ 48 ∷ []) ≡ false → lt a (text_by (st q) q) ≡ true
     outside h = true_from_ne_false _ (λ f. elim (none_or_some (st q)) [
@@ -52,7 +53,7 @@ module _ (p : List ℕ) (st : List ℕ → Option (List ℕ)) (k : Stems p st) w
     ])
       where
         aq : lt a q ≡ true
-        aq = lt_le a (s ++ 48 ∷ []) q (up_to_next s a (k.below a s e)) h
+        aq = lt_le text_total a (s ++ 48 ∷ []) q (up_to_next s a (k.below a s e)) h
 
   -- after a
   after : (a q : List ℕ) → st a ≡ None → lt a (text_by (st q) q) ≡ lt a q
@@ -68,13 +69,13 @@ module _ (p : List ℕ) (st : List ℕ → Option (List ℕ)) (k : Stems p st) w
   pub from_start : (a q : List ℕ) → begins p q ≡ true → lt a (text_by (st q) q) ≡ is_from_start text_cmp (start_by (st a) p a) q
   from_start a q h = elim (none_or_some (st a)) [
     | inl e ↦ rw e (elim (cases_Bool (lt a p)) [
-      | inl l ↦ rw l (lt_le a p (text_by (st q) q) l (text_ge q (st q) refl h) ∙ sym (le_not p q ∙ ap not (from_prefix p q h)))
+      | inl l ↦ rw l (lt_le text_total a p (text_by (st q) q) l (text_ge q (st q) refl h) ∙ sym (le_not text_total p q ∙ ap not (from_prefix p q h)))
       | inr l ↦ rw l (after a q e)
     ])
     | inr s ↦ rw s.1 (elim (lt q (s.0 ++ 48 ∷ [])) as (λ b. lt q (s.0 ++ 48 ∷ []) ≡ b → lt a (text_by (st q) q) ≡ not b) [
-        true ↦ inside a q s.0 s.1
+      | true ↦ inside a q s.0 s.1
       | false ↦ outside a q s.0 s.1
-    ] refl ∙ sym (le_not (s.0 ++ 48 ∷ []) q))
+    ] refl ∙ sym (le_not text_total (s.0 ++ 48 ∷ []) q))
   ]
 
 -- ---- lists
@@ -88,7 +89,7 @@ counts_from p d a q h =
     (elim (begins p q) as (λ b. begins p q ≡ b → counts p d a q ≡ false) [ false ↦ λ e. and_left _ _ e | true ↦ λ e. and_right _ _ (from_start p (stem_if d p) (stems p d) a q e ∙ h) ]) refl
 
 later : (p : List ℕ) (d : Bool) (a b q : List ℕ) → lt a b ≡ true → counts p d a q ≡ false → counts p d b q ≡ false
-later p d a b q l h = contrary _ (λ t. let u = and_parts (begins p q) (lt b (text_of p d q)) t in sym h ∙ and_from _ _ u.0 (lt_trans a b (text_of p d q) l u.1))
+later p d a b q l h = contrary _ (λ t. let u = and_parts (begins p q) (lt b (text_of p d q)) t in sym h ∙ and_from _ _ u.0 (lt_trans text_total a b (text_of p d q) l u.1))
 
 module _ (p : List ℕ) (d : Bool) where
   -- entries that do not count may be left out
@@ -111,31 +112,29 @@ module _ (p : List ℕ) (d : Bool) where
   pub start_ge : (a q : List ℕ) → is_from_start text_cmp (start p d a) q ≡ true → lt q p ≡ false
   start_ge a q h = elim (none_or_some (stem_if d p a)) [
     | inl e ↦ elim (cases_Bool (lt a p)) [
-      | inl l ↦ not-true _ (sym (le_not p q) ∙ (rw (e, l) at h))
+      | inl l ↦ not-true _ (sym (le_not text_total p q) ∙ (rw (e, l) at h))
       | inr l ↦ le_le p a q l (lt_not a q (rw (e, l) at h))
     ]
     | inr s ↦
         let x : lt (s.0 ++ 47 ∷ []) p ≡ false = from_prefix p (s.0 ++ 47 ∷ []) ((stems p d).prefix a s.0 s.1) in
         let y : lt (s.0 ++ 47 ∷ []) (s.0 ++ 48 ∷ []) ≡ true = up_to_next s.0 (s.0 ++ 47 ∷ []) (below_itself (s.0 ++ 47 ∷ [])) in
-        le_le p (s.0 ++ 48 ∷ []) q (lt_not p (s.0 ++ 48 ∷ []) (le_lt p (s.0 ++ 47 ∷ []) (s.0 ++ 48 ∷ []) x y)) (not-true _ (sym (le_not (s.0 ++ 48 ∷ []) q) ∙ (rw s.1 at h)))
+        le_le p (s.0 ++ 48 ∷ []) q (lt_not p (s.0 ++ 48 ∷ []) (le_lt text_total p (s.0 ++ 47 ∷ []) (s.0 ++ 48 ∷ []) x y))
+        (not-true _ (sym (le_not text_total (s.0 ++ 48 ∷ []) q) ∙ (rw s.1 at h)))
   ]
 
   none_below : (e : List ℕ × Object) (es : List (List ℕ × Object)) (a : List ℕ) → AllByRecursion (λ x. text_cmp e.0 x.0 ≡ Less) es → begins p e.0 ≡ false → lt e.0 p ≡ false → walked p d a es ≡ []
   none_below e [] a all n g = refl
   none_below e (x ∷ es) a all n g = rw (contrary (begins p x.0) (λ t. sym n ∙ between p e.0 x.0 g (lt_not e.0 x.0 (ap is_lt all.0)) t)) (none_below e es a all.1 n g)
 
-  record First (f : List ℕ × Object → Bool) (e : List ℕ × Object) (fs : List (List ℕ × Object)) : Type 0 where
-    pub passes : f e ≡ true
-    pub below : AllByRecursion (λ x. text_cmp e.0 x.0 ≡ Less) fs
-
   all_kept : (f : List ℕ × Object → Bool) (e : List ℕ × Object) (es : List (List ℕ × Object)) → AllByRecursion (λ y. text_cmp e.0 y ≡ Less) (keys_of es) → AllByRecursion (λ x. text_cmp e.0 x.0 ≡ Less) (filter f es)
   all_kept f e [] all = tt
   all_kept f e (x ∷ es) all = elim (f x) as (λ b. AllByRecursion (λ x. text_cmp e.0 x.0 ≡ Less) (cond b (x ∷ filter f es) (filter f es))) [
-      true ↦ (all.0, all_kept f e es all.1)
+    | true ↦ (all.0, all_kept f e es all.1)
     | false ↦ all_kept f e es all.1
   ]
 
-  first : (f : List ℕ × Object → Bool) (es : List (List ℕ × Object)) → IsStrictlySortedBy text_cmp (keys_of es) → (e : List ℕ × Object) (fs : List (List ℕ × Object)) → filter f es ≡ e ∷ fs → First f e fs
+  first : (f : List ℕ × Object → Bool) (es : List (List ℕ × Object)) → IsStrictlySortedBy text_cmp (keys_of es)
+      → (e : List ℕ × Object) (fs : List (List ℕ × Object)) → filter f es ≡ e ∷ fs → (f e ≡ true) × AllByRecursion (λ x. text_cmp e.0 x.0 ≡ Less) fs
   first f [] s e fs h = absurd (cc)
   first f (x ∷ es) s e fs h = elim (cases_Bool (f x)) [
     | inr t ↦ first f es (sorted_tail text_cmp x.0 (keys_of es) s) e fs (rw t at h)
@@ -143,7 +142,7 @@ module _ (p : List ℕ) (d : Bool) where
         let g : x ∷ filter f es ≡ e ∷ fs = rw t at h in
         let ex : x ≡ e = cc in
         let er : filter f es ≡ fs = cc in
-        record { passes = rw ex at t; below = rw (← ex, ← er) (all_kept f x es (sorted_head text_cmp x.0 (keys_of es) s)) }
+        (rw ex at t, rw (← ex, ← er) (all_kept f x es (sorted_head text_cmp x.0 (keys_of es) s)))
   ]
 
   -- the entry, where its key begins with p
@@ -170,21 +169,31 @@ module _ (p : List ℕ) (d : Bool) where
     with_first : (e : List ℕ × Object) (fs : List (List ℕ × Object)) → filter in_range es ≡ e ∷ fs → ComesNext p d a es (pick (Some e))
     unfolding in_range
     with_first e fs h = elim (cases_Bool (begins p e.0)) [
-      | inr n ↦ rw (n, ← kept, h, n) (none_below e fs a w.below n (start_ge a e.0 from))
+      | inr n ↦ rw (n, ← kept, h, n) (none_below e fs a w.1 n (start_ge a e.0 from))
       | inl t ↦
           let l : lt a (text_of p d e.0) ≡ true = from_start p (stem_if d p) (stems p d) a e.0 t ∙ from in
-          rw (t, ← kept, h, t, l, ← skip in_range es (text_of p d e.0) (λ x z. later p d a (text_of p d e.0) x.0 l (counts_from p d a x.0 (not_in x z))), h, t, irrefl (text_of p d e.0)) refl
+          rw (
+            t,
+            ← kept,
+            h,
+            t,
+            l,
+            ← skip in_range es (text_of p d e.0) (λ x z. later p d a (text_of p d e.0) x.0 l (counts_from p d a x.0 (not_in x z))),
+            h,
+            t,
+            irrefl text_total (text_of p d e.0),
+          ) refl
     ]
       where
-        w : First in_range e fs
+        w : (in_range e ≡ true) × AllByRecursion (λ x. text_cmp e.0 x.0 ≡ Less) fs
         w = first in_range es s e fs h
 
         from : is_from_start text_cmp (start p d a) e.0 ≡ true
-        from = (and_parts _ _ w.passes).0
+        from = (and_parts _ _ w.0).0
 
     pub found_next : (r : Option (List ℕ × Object)) → r ≡ slice_get (entries_between text_cmp (start p d a) Unbounded es) 0 → ComesNext p d a es (pick r)
     unfolding in_range
     found_next r h = rw h (elim (filter in_range es) as (λ fs. filter in_range es ≡ fs → ComesNext p d a es (pick (slice_get fs 0))) [
-        [] ↦ λ e. rw (← kept, e) refl
+      | [] ↦ λ e. rw (← kept, e) refl
       | x ∷ fs ↦ λ e. with_first x fs e
     ] refl)

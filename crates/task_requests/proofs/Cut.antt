@@ -14,15 +14,10 @@ most t bytes k short =
     most_size (length bytes) t.block t.minimum 67108864 (omega arith) short block (omega arith)
 
 product : (n size : ℕ) → n ≤ 10000 → size ≤ 67108864 → n * size < 2 ^ 63
-product n size h s =
-    let a : n * size ≤ 10000 * size = mul-le-mul_right size h in
-    let b : 10000 * size ≤ 10000 * 67108864 = omega arith in
-    omega (arith, a, b)
+product n size h g = grind arith
 
 pub number_fits : (t : Task) (bytes : List ℕ) (n : ℕ) → n < count_of t bytes → n + 1 ≤ 10000
-number_fits t bytes n h =
-    let few : count_of t bytes ≤ 10000 = few_parts t.block t.minimum bytes in
-    omega arith
+number_fits t bytes n h = grind (arith, few_parts)
 
 pub start_fits : (t : Task) (bytes : List ℕ) (n size : ℕ) → IsTask t → length bytes ≤ 67108864 → n < count_of t bytes → size ≡ size_of t bytes → n * size < 2 ^ 63
 start_fits t bytes n size k short h s =
@@ -33,7 +28,4 @@ pub count_made : (t : Task) (bytes : List ℕ) (len size n : ℕ) → n ≡ grea
 count_made t bytes len size n e l s = e ∙ (ap (λ m. greater 1 (quotient_up m size)) l ∙ (ap (λ m. greater 1 (quotient_up (length bytes) m)) s ∙ sym (length-parts (size_of t bytes) bytes)))
 
 pub count_fits : (t : Task) (bytes : List ℕ) (len size : ℕ) → IsTask t → length bytes ≤ 67108864 → len ≡ length bytes → size ≡ size_of t bytes → (1 ≤ size) × (len + size < 2 ^ 64)
-count_fits t bytes len size k short l s =
-    let some : 1 ≤ size_of t bytes = some_size (length bytes) t.block t.minimum in
-    let large : size_of t bytes ≤ 67108864 = most t bytes k short in
-    (subst (λ m. 1 ≤ m) (sym s) some, subst (λ m. len + m < 2 ^ 64) (sym s) (omega arith))
+count_fits t bytes len size h g e f = grind (arith, some_size, most)

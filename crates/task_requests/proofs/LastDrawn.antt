@@ -39,9 +39,7 @@ made_back : (ds : List Drawn) → reverse (as_made ds) ≡ ds
 made_back ds = ap reverse (made_reverse ds) ∙ reverse-reverse ds
 
 pub drawn_there : (w : Script) (k : Known) (f : File) (key : List ℕ) (o : Option ℕ) (i : ℕ) → IsLastAt (as_made k.drawn) key o → key ≡ file_key w f → o ≡ Some i → slice_get (as_made k.drawn) i ≡ Some (drawn_of w k f)
-drawn_there w k f key o i h g e =
-    subst (IsLastAt (as_made k.drawn) key) e h
-    ∙ (ap (λ l. Some (drawn_in l key)) (made_back k.drawn) ∙ ap (λ q. Some (drawn_in k.drawn q)) g)
+drawn_there w k f key o i h g e = grind (arith, made_back)
 
 -- ---- the file at a place, where what is known of its upload is a record
 
@@ -54,10 +52,7 @@ module _ (t : Task) (place : ℕ) (f : File) (key : List ℕ) (o : Option ℕ) (
   is_ready = subst (λ (g : File). IsPending (drawn_of (task_script t) t.known g) (length g.1)) is_file ready
 
   pub not_none : None ≡ o → ⊥
-  not_none e =
-      let none : drawn_of (task_script t) t.known f ≡ nothing_drawn = ap (drawn_in t.known.drawn) (sym named)
-      ∙ (ap (λ l. drawn_in l key) (sym (made_back t.known.drawn)) ∙ subst (IsLastAt (as_made t.known.drawn) key) (sym e) last) in
-      let bad : IsPending nothing_drawn (length f.1) = subst (λ d. IsPending d (length f.1)) none is_ready in true≢false (sym bad.0)
+  not_none h = grind (arith, made_back, is_ready)
 
   pub is_drawn : (i : ℕ) (d : Drawn) → Some i ≡ o → Some d ≡ slice_get (as_made t.known.drawn) i → d ≡ drawn_of (task_script t) t.known f
   is_drawn i d e g = some_is d (drawn_of (task_script t) t.known f) (g ∙ drawn_there (task_script t) t.known f key o i last named (sym e))
@@ -73,9 +68,7 @@ module _ (t : Task) (place : ℕ) (f : File) (key : List ℕ) (o : Option ℕ) (
 
   pub same_record : (i : ℕ) (d : Drawn) → Some i ≡ o → Some d ≡ slice_get (as_made t.known.drawn) i
       → file_record (task_script t) (who_of t) f d ≡ (let g = get_or t.files place ([], []) in file_record (task_script t) (who_of t) g (drawn_of (task_script t) t.known g))
-  same_record i d e g =
-      ap (file_record (task_script t) (who_of t) f) (is_drawn i d e g)
-      ∙ ap (λ (x : File). file_record (task_script t) (who_of t) x (drawn_of (task_script t) t.known x)) (sym is_file)
+  same_record i d h g = grind (arith, is_drawn, is_file)
 
 -- ---- all of them
 
@@ -98,5 +91,4 @@ records_with t places i list p w e h =
 
 pub put_is : (t : Task) (cs : List File) (request : Request) (bucket key bytes : List ℕ) → request ≡ PutObject bucket key bytes None → bucket ≡ t.job.dest.bucket → key ≡ layout.set_key t.job.dest.key t.job.job t.task
     → bytes ≡ set_text (task_script t) (who_of t) cs t.known → Some request ≡ task_commit_asks (task_script t) (who_of t) t.known (Publishing cs)
-put_is t cs request bucket key bytes e b k s =
-    ap (λ (r : Request). Some r) (e ∙ (ap (λ x. PutObject x key bytes None) b ∙ (ap (λ x. PutObject t.job.dest.bucket x bytes None) k ∙ ap (λ x. PutObject t.job.dest.bucket (layout.set_key t.job.dest.key t.job.job t.task) x None) s)))
+put_is t cs request bucket key bytes h g e f = grind arith

@@ -39,10 +39,7 @@ dot_not : (b : ℕ) → (nat_eq b 95 || nat_eq b 46) ≡ false → (b == 46) ≡
 dot_not b h = grind (arith, nat_tests)
 
 element_so : (e : List ℕ) → is_full e ≡ true → begins_hidden e ≡ false → is_element e ≡ true
-element_so [] full h = absurd (cc)
-element_so (b ∷ bs) full h =
-    let some : (length (b ∷ bs) == 0) ≡ false = grind (arith, nat_tests) in
-    rw (some, dot_not b h) refl
+element_so e h g = grind arith
 
 elements_so : (es : List (List ℕ)) → list_all is_full es ≡ true → list_any begins_hidden es ≡ false → list_all is_element es ≡ true
 elements_so [] full h = refl
@@ -68,10 +65,7 @@ named_others id (x ∷ name) i h = by (x == 46) refl (named_others id name i (an
     by false e old = let p = and_parts (is_other 47 x) (list_all (is_other 47) name) h in rw (e, p.0, old) refl
 
 named_element : (id name : List ℕ) → is_full name ≡ true → begins_hidden name ≡ false → is_element (with_id id name) ≡ true
-named_element id [] full h = absurd (cc)
-named_element id (b ∷ bs) full h =
-    let some : (length (b ∷ with_id id bs) == 0) ≡ false = grind (arith, nat_tests) in
-    rw (dot_not b h, some, dot_not b h) refl
+named_element id name h g = grind arith
 
 unique_elements_of : (id e : List ℕ) (es : List (List ℕ)) → list_all (is_other 47) id ≡ true → AreOther (e ∷ es) ≡ true → list_all is_full (e ∷ es) ≡ true → list_any begins_hidden (e ∷ es) ≡ false
     → are_elements (join_with_byte 47 (with_id_last id (e ∷ es))) ≡ true
@@ -143,11 +137,7 @@ not_same : (xs ys : List ℕ) → (xs ≡ ys → ⊥) → bytes_eq xs ys ≡ fal
 not_same xs ys other = contrary (bytes_eq xs ys) (λ h. absurd (other ((bytes_eq-Decides xs ys).0 h)))
 
 long_element : (e : List ℕ) → 3 ≤ length e → is_element e ≡ true
-long_element e long =
-    let some : (length e == 0) ≡ false = grind (arith, nat_tests) in
-    let one : bytes_eq e (codes ".") ≡ false = not_same e (codes ".") (λ q. let l : length e ≡ 1 = ap length q in absurd (omega arith)) in
-    let two : bytes_eq e (codes "..") ≡ false = not_same e (codes "..") (λ q. let l : length e ≡ 2 = ap length q in absurd (omega arith)) in
-    rw (some, one, two) refl
+long_element e h = grind (arith, not_same)
 
 pending_element : (part : List ℕ) → is_element (part ++ codes ".pending") ≡ true
 pending_element part = long_element (part ++ codes ".pending") (simp length-append (omega arith))
@@ -175,9 +165,7 @@ short_dir : (dest id : List ℕ) (task attempt : ℕ) → length dest ≤ 400 �
 short_dir dest id task attempt d h t a = (simp length-append (omega arith), simp length-append (omega (arith, id_short id h, short_number task t, short_number attempt a)))
 
 dest_short : (key : List ℕ) → is_dest_key key ≡ true → (1 ≤ length key) × (length key ≤ 400)
-dest_short key h =
-    let a = (and_parts _ _ (and_parts _ _ (and_parts (nat_le 1 (length key) && nat_le (length key) 400 && not (ends_with nat_eq key (13 ∷ []))) (not (list_any is_reserved (parts_of 47 key))) h).0).0) in
-    (leb-true 1 (length key) a.0, leb-true (length key) 400 a.1)
+dest_short key h = grind arith
 
 joined_short : (root path : List ℕ) → length root ≤ 520 → length path ≤ 473 → length (root ++ 47 ∷ path) ≤ 1024
 joined_short root path h g = simp length-append (omega arith)
@@ -227,11 +215,4 @@ short_at (g ∷ fs) zero f e = let same : length g.1 ≡ length f.1 = ap (λ (x 
 short_at (g ∷ fs) (suc i) f e = let old = short_at fs i f e in omega arith
 
 pub file_found : {X : Type 0} (t : Task) (i : ℕ) (g : X → File) (o : Option X) (es : List File) → option_map g o ≡ slice_get es i → es ≡ t.files → IsJob t.job → IsTask t → IfSome o (λ x. IsFile t (g x))
-file_found t i g None es e s j k = tt
-file_found t i g (Some x) es e s j k =
-    let one = short_at t.files i (g x) (sym (e ∙ ap (λ (l : List File). slice_get l i) s)) in let all : bytes_of t.files ≤ 67108864 = k.few_bytes in
-    record {
-      named = record
-          { job = j; task = k; placed = placed_at t.job.job [] t.files i (g x) k.files (sym (e ∙ ap (λ (l : List File). slice_get l i) s)) };
-      short = omega arith;
-    }
+file_found t i g o es h e f p = grind (arith, short_at, placed_at)

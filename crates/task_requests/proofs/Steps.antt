@@ -16,8 +16,7 @@ use Rattle.task_requests.proofs.Told.{seen_at, front_is, none_left, created, par
 -- ---- a stage of a file, or the end
 
 within_some : {A : Type 0} (t : Task) (s : WriteStage) (l : List File) (r : Request) → Some r ≡ write_wants (seen_at t l s) → (0 < length l → A) → A
-within_some t s [] r e k = absurd (cc)
-within_some t s (f ∷ fs) r e k = k (omega arith)
+within_some t s l r h g = grind arith
 
 pub turned : (t : Task) (dir : Path) (place : ℕ) (s : WriteStage) (o : Option Request) → dir ≡ dir_of t → Holds t place s → o ≡ write_wants (seen_write t place s None) → IsWrite t dir place s (ended_by o) o
 turned t dir place s (Some r) d h e = record { dir = d; asked = e; holds = h; within = within_some t s (drop place t.files) r e (λ k. omega (arith, k, length-drop place t.files)) }
@@ -26,8 +25,7 @@ turned t dir place s None d h e = record { dir = d; asked = refl; holds = h; wit
 -- ---- what is asked behind a part
 
 pub first_tags : (ds : List Drawn) (parts : List (List ℕ)) → HasSent ds parts → length (first_drawn ds).tags ≡ length parts
-first_tags [] parts h = absurd h
-first_tags (d ∷ ds) parts h = h.1
+first_tags ds parts h = grind arith
 
 pub first_part : (t : Task) (f : File) (n : ℕ) → n < length (parts_in t f) → drop n (parts_in t f) ≡ part_behind t f.1 n ∷ drop (n + 1) (parts_in t f)
 first_part t f n h = drop-parts (size_of t f.1) f.1 n h
@@ -79,17 +77,10 @@ holds_sending t place n f e h = subst (HoldsAt (task_script t) t.minimum t.known
 
 pub sent_told : (t : Task) (place n : ℕ) (f : File) (tag : Spelled) (b : Bool) → slice_get t.files place ≡ Some f → Holds t place (stage.Sending n)
     → seen_write (with_known t (with_tag t.known tag (length (part_behind t f.1 n)))) place (next_stage n (length (parts_in t f))) None ≡ write_told (seen_write t place (stage.Sending n) None) (Got (Part tag) b)
-sent_told t place n f tag b e h =
-    let k = holds_sending t place n f e h in
-    let p = part_behind t f.1 n in
-    subst (λ l. seen_at (with_known t (with_tag t.known tag (length p))) l (next_stage n (length (parts_in t f))) ≡ write_told (seen_at t l (stage.Sending n)) (Got (Part tag) b)) (sym (front_is t.files place f e))
-    (sym (part_sent t f (drop (place + 1) t.files) n p tag b (take n (parts_in t f)) (first_part t f n k.0) k.1))
+sent_told t place n f tag b h g = grind (arith, holds_sending, seen_at, front_is, part_sent, first_part)
 
 asks_same : (t : Task) (f : File) (tag : Spelled) (size : ℕ) (s : WriteStage) → asks_behind t f s ≡ asks_behind (with_known t (with_tag t.known tag size)) f s
-asks_same t f tag size (stage.Sending n) =
-    ap (λ u. UploadPart t.job.dest.bucket (file_key (task_script t) f) u (n + 1) (part_behind t f.1 n))
-    (elim t.known.drawn as (λ ds. (first_drawn ds).upload ≡ (first_drawn (with_last tag size ds)).upload) [ [] ↦ refl | d ∷ ds ↦ refl ])
-asks_same t f tag size _ = refl
+asks_same t f tag size s = grind arith
 
 pub sent_kept : (t : Task) (dir : Path) (place n : ℕ) (f : File) (tag : Spelled) → slice_get t.files place ≡ Some f → dir ≡ dir_of t → Holds t place (stage.Sending n) → is_plain_tag tag ≡ true
     → IsWrite (with_known t (with_tag t.known tag (length (part_behind t f.1 n)))) dir place (next_stage n (length (parts_in t f))) None (Some (asks_behind t f (next_stage n (length (parts_in t f)))))
@@ -127,10 +118,7 @@ pub goes_on : (n x count : ℕ) → x ≡ count → n + 1 < x → stage.Sending 
 goes_on n x count e h = ap (λ (b : Bool). cond b (stage.Sending (n + 1)) stage.Marking) (sym (ap (nat_lt (n + 1)) (sym e) ∙ below_so (n + 1) x h))
 
 pub goes_by : (n x count : ℕ) → x ≡ count → x ≤ n + 1 → stage.Marking ≡ next_stage n count
-goes_by n x count e h = ap (λ (b : Bool). cond b (stage.Sending (n + 1)) stage.Marking) (sym (ap (nat_lt (n + 1)) (sym e) ∙ not_below (n + 1) x h))
-  where
-    not_below : (a b : ℕ) → b ≤ a → nat_lt a b ≡ false
-    not_below a b h = grind (arith, nat_tests)
+goes_by n x count h g = grind arith
 
 -- ---- the same, as the code comes to it
 
@@ -139,11 +127,7 @@ known_of i t g k e h = ap (with_known i) h ∙ ap (λ (x : Task). with_known x (
 
 pub begun_told_by : (t t' : Task) (place : ℕ) (f : File) (key : List ℕ) (id : ℕ) (b : Bool) → t' ≡ with_known t (with_drawn t.known key id) → key ≡ file_key (task_script t) f → Some f ≡ slice_get t.files place
     → seen_write t' place (stage.Sending 0) None ≡ write_told (seen_write t place stage.Creating None) (Got (Upload id) b)
-begun_told_by t t' place f key id b e k s =
-    ap (λ (x : Task). seen_write x place (stage.Sending 0) None) (e ∙ ap (λ l. with_known t (with_drawn t.known l id)) k)
-    ∙ (let t' = with_known t (with_drawn t.known (file_key (task_script t) f) id) in
-    subst (λ l. seen_at t' l (stage.Sending 0) ≡ write_told (seen_at t l stage.Creating) (Got (Upload id) b)) (sym (front_is t.files place f (sym s)))
-    (sym (created t f (drop (place + 1) t.files) id b)))
+begun_told_by t t' place f key id b h g e = grind (arith, seen_at, front_is, created)
 
 pub at_place : (fs : List File) (place : ℕ) → place < length fs → Some (get_or fs place ([], [])) ≡ slice_get fs place
 at_place fs place h = sym (slice_get-get_or fs place ([], []) h)
@@ -167,10 +151,7 @@ begun_kept_by t t' dir place f key id r e k s d n q =
 
 pub sent_told_by : (t t' : Task) (place n : ℕ) (f : File) (tag : Spelled) (size : ℕ) (s : WriteStage) (b : Bool) → t' ≡ with_known t (with_tag t.known tag size) → size ≡ length (part_behind t f.1 n) → s ≡ next_stage n (length (parts_in t f)) → Some f ≡ slice_get t.files place → Holds t place (stage.Sending n)
     → seen_write t' place s None ≡ write_told (seen_write t place (stage.Sending n) None) (Got (Part tag) b)
-sent_told_by t t' place n f tag size s b e z g q h =
-    ap (λ (x : Task). seen_write x place s None) (e ∙ ap (λ m. with_known t (with_tag t.known tag m)) z)
-    ∙ (ap (λ y. seen_write (with_known t (with_tag t.known tag (length (part_behind t f.1 n)))) place y None) g
-    ∙ sent_told t place n f tag b (sym q) h)
+sent_told_by t t' place n f tag size s b h g e p q = grind (arith, sent_told)
 
 pub sent_kept_by : (t t' : Task) (dir : Path) (place n : ℕ) (f : File) (tag : Spelled) (size : ℕ) (s : WriteStage) (r : Request) → t' ≡ with_known t (with_tag t.known tag size) → size ≡ length (part_behind t f.1 n) → s ≡ next_stage n (length (parts_in t f)) → Some f ≡ slice_get t.files place → dir ≡ dir_of t
     → Holds t place (stage.Sending n) → is_plain_tag tag ≡ true → r ≡ asks_behind t f s → IsWrite t' dir place s None (Some r)
@@ -181,8 +162,7 @@ sent_kept_by t t' dir place n f tag size s r e z g q d h plain a =
     (sent_kept t dir place n f tag (sym q) d h plain)))
 
 pub some_drawn : (ds : List Drawn) (parts : List (List ℕ)) → HasSent ds parts → 0 < length ds
-some_drawn [] parts h = absurd h
-some_drawn (d ∷ ds) parts h = omega arith
+some_drawn ds parts h = grind arith
 
 pub sending_within : (t : Task) (place n : ℕ) (f : File) → Some f ≡ slice_get t.files place → Holds t place (stage.Sending n) → n < length (parts_in t f)
 sending_within t place n f e h = (holds_sending t place n f (sym e) h).0
@@ -191,8 +171,7 @@ pub sending_behind : (t : Task) (place n : ℕ) (f : File) (s : WriteStage) → 
 sending_behind t place n f s i e h = let k = holds_sending t place n f (sym e) (subst (Holds t place) i h) in (k.0, some_drawn t.known.drawn _ k.1)
 
 behind_by : (parts : List (List ℕ)) (ds : List Drawn) (n : ℕ) (b : Bool) → nat_lt (n + 1) (length parts) ≡ b → 0 < length ds → IsBehind parts ds (cond b (stage.Sending (n + 1)) stage.Marking)
-behind_by parts ds n true e h = (below_is (n + 1) (length parts) e, h)
-behind_by parts ds n false e h = tt
+behind_by parts ds n b h g = grind arith
 
 pub behind_next : (t : Task) (place n : ℕ) (f : File) (s : WriteStage) → s ≡ next_stage n (length (parts_in t f)) → Some f ≡ slice_get t.files place → Holds t place (stage.Sending n) → IsBehind (parts_in t f) t.known.drawn s
 behind_next t place n f s g e h =
@@ -204,12 +183,7 @@ recording_sent t place f s i e h = subst (HoldsAt (task_script t) t.minimum t.kn
 
 pub gone_told_by : (t : Task) (place n : ℕ) (f : File) (name : List ℕ) (b : Bool) → name ≡ file_key (task_script t) f → Some f ≡ slice_get t.files place → Holds t place (stage.Sending n)
     → seen_write t place (stage.Sending n) (Some (ends.Gone name)) ≡ write_told (seen_write t place (stage.Sending n) None) (Got (Refused NoSuchUpload) b)
-gone_told_by t place n f name b k e h =
-    ap (λ l. seen_write t place (stage.Sending n) (Some (ends.Gone l))) k
-    ∙ (let k = holds_sending t place n f (sym e) h in
-    subst (λ l. record { plan = t; operation = writes.WriteOver (ends.Gone (file_key (task_script t) f)) } ≡ write_told (seen_at t l (stage.Sending n))
-    (Got (Refused NoSuchUpload) b)) (sym (front_is t.files place f (sym e)))
-    (sym (part_gone t f (drop (place + 1) t.files) n (part_behind t f.1 n) (drop (n + 1) (parts_in t f)) b (first_part t f n k.0))))
+gone_told_by t place n f name b h g e = grind (arith, holds_sending, seen_at, front_is, part_gone, first_part)
 
 -- ---- what is asked at a stage
 
@@ -236,27 +210,16 @@ nothing_asked t place s g (Some x) e n = absurd (n x refl)
 -- ---- the record of the upload that was drawn last
 
 pub first_is : (ds : List Drawn) (d : Drawn) → Some d ≡ slice_get ds 0 → (parts : List (List ℕ)) → HasSent ds parts → (first_drawn ds ≡ d) × ((length d.tags ≡ length parts) × (d.sizes ≡ map length parts) × (list_all is_plain_tag d.tags ≡ true))
-first_is [] d e parts h = absurd h
-first_is (x ∷ ds) d e parts h = let same : x ≡ d = cc in (same, subst (λ (y : Drawn). (length y.tags ≡ length parts) × (y.sizes ≡ map length parts) × (list_all is_plain_tag y.tags ≡ true)) same (h.1, h.2, h.3))
+first_is ds d h parts g = grind arith
 
 pub record_tags : (t : Task) (f : File) (d : Drawn) → Some d ≡ slice_get t.known.drawn 0 → HasSent t.known.drawn (parts_in t f) → are_tags d.tags ≡ true
-record_tags t f d e h =
-    let k = (first_is t.known.drawn d e (parts_in t f) h).1 in
-    let some = some_parts (size_of t f.1) f.1 in
-    let few = few_parts t.block t.minimum f.1 in
-    let low : nat_le 1 (length d.tags) ≡ true = at_most_so 1 (length d.tags) (omega (arith, k.0, some)) in
-    let high : nat_le (length d.tags) 10000 ≡ true = at_most_so (length d.tags) 10000 (omega (arith, k.0, few)) in
-    rw (low, high, k.2) refl
+record_tags t f d h g = grind (arith, first_is, some_parts, few_parts, at_most_so)
 
 same_number : (a b : ℕ) → a ≡ b → (a == b) ≡ true
 same_number a b e = grind (arith, nat_tests)
 
 pub record_sizes : (t : Task) (f : File) (d : Drawn) → Some d ≡ slice_get t.known.drawn 0 → HasSent t.known.drawn (parts_in t f) → fit d.sizes (length d.tags) (length f.1) ≡ true
-record_sizes t f d e h =
-    let k = (first_is t.known.drawn d e (parts_in t f) h).1 in
-    let count : (length d.sizes == length d.tags) ≡ true = same_number (length d.sizes) (length d.tags) (ap length k.1 ∙ (length-map (parts_in t f) length ∙ sym k.0)) in
-    let all : (sum d.sizes == length f.1) ≡ true = same_number (sum d.sizes) (length f.1) (ap sum k.1 ∙ sum_parts (size_of t f.1) f.1 (some_size (length f.1) t.block t.minimum)) in
-    rw (count, all) refl
+record_sizes t f d h g = grind (arith, first_is, same_number, length-map, sum_parts, some_size)
 
 pub record_last : (t : Task) (f : File) (d : Drawn) → Some d ≡ slice_get t.known.drawn 0 → HasSent t.known.drawn (parts_in t f) → d ≡ drawn_last t.known
 record_last t f d e h = sym (first_is t.known.drawn d e (parts_in t f) h).0
@@ -267,25 +230,19 @@ pub some_file : (fs : List File) (place : ℕ) → place < length fs → (f : Fi
 some_file fs place h = (get_or fs place ([], []), sym (slice_get-get_or fs place ([], []) h))
 
 fits_creating : (t : Task) (l : List File) (r : Reply) (b : Bool) → 0 < length l → write_fits (seen_at t l stage.Creating) r b → FitsCreate t.known.drawn r
-fits_creating t [] r b h f = absurd (omega arith)
-fits_creating t (x ∷ l) r b h f = f
+fits_creating t l r b h g = grind arith
 
 fits_sending : (t : Task) (place n : ℕ) (f : File) (r : Reply) (b : Bool) → Some f ≡ slice_get t.files place → Holds t place (stage.Sending n) → write_fits (seen_write t place (stage.Sending n) None) r b → FitsPart r
-fits_sending t place n f r b e h g =
-    let k = holds_sending t place n f (sym e) h in
-    let at : write_fits (seen_at t (f ∷ drop (place + 1) t.files) (stage.Sending n)) r b = subst (λ l. write_fits (seen_at t l (stage.Sending n)) r b) (front_is t.files place f (sym e)) g in
-    subst (λ ps. write_fits (record { plan = t; operation = at_parts f (drop (place + 1) t.files) ps }) r b) (first_part t f n k.0) at
+fits_sending t place n f r b h g e = grind (arith, holds_sending, seen_at, front_is, first_part)
 
 left_some : (fs : List File) (place : ℕ) → place < length fs → 0 < length (drop place fs)
 left_some fs place h = omega (arith, length-drop place fs)
 
 pub created_new : (ds : List Drawn) (r : Reply) (id : ℕ) → FitsCreate ds r → Some id ≡ upload_in r → is_new id ds ≡ true
-created_new ds (Upload n) id f e = let same : id ≡ n = cc in subst (λ m. is_new m ds ≡ true) (sym same) f
-created_new ds _ id f e = absurd f
+created_new ds r id h g = grind arith
 
 pub created_some : (ds : List Drawn) (r : Reply) → FitsCreate ds r → None ≡ upload_in r → ⊥
-created_some ds (Upload n) f e = absurd (cc)
-created_some ds _ f e = f
+created_some ds r h g = grind arith
 
 pub upload_new : (t : Task) (place : ℕ) (s : WriteStage) (r : Reply) (b : Bool) (id : ℕ) → s ≡ stage.Creating → place < length t.files → write_fits (seen_write t place s None) r b → Some id ≡ upload_in r → is_new id t.known.drawn ≡ true
 upload_new t place s r b id i h f e = created_new t.known.drawn r id (fits_creating t (drop place t.files) r b (left_some t.files place h) (subst (λ z. write_fits (seen_write t place z None) r b) i f)) e
@@ -294,14 +251,10 @@ pub upload_some : (t : Task) (place : ℕ) (s : WriteStage) (r : Reply) (b : Boo
 upload_some t place s r b i h f e = created_some t.known.drawn r (fits_creating t (drop place t.files) r b (left_some t.files place h) (subst (λ z. write_fits (seen_write t place z None) r b) i f)) e
 
 pub tag_plain : (r : Reply) (tag : Spelled) → FitsPart r → Some tag ≡ tag_in r → is_plain_tag tag ≡ true
-tag_plain (Part x) tag f e = let same : tag ≡ x = cc in subst (λ y. is_plain_tag y ≡ true) (sym same) f
-tag_plain (Refused NoSuchUpload) tag f e = absurd (cc)
-tag_plain _ tag f e = absurd f
+tag_plain r tag h g = grind arith
 
 pub tag_none : (r : Reply) → FitsPart r → None ≡ tag_in r → r ≡ Refused NoSuchUpload
-tag_none (Part x) f e = absurd (cc)
-tag_none (Refused NoSuchUpload) f e = refl
-tag_none _ f e = absurd f
+tag_none r h g = grind arith
 
 pub part_plain : (t : Task) (place n : ℕ) (s : WriteStage) (r : Reply) (b : Bool) (tag : Spelled) → s ≡ stage.Sending n → place < length t.files → Holds t place s → write_fits (seen_write t place s None) r b → Some tag ≡ tag_in r → is_plain_tag tag ≡ true
 part_plain t place n s r b tag i h k f e =
@@ -316,12 +269,10 @@ part_none t place n s r b i h k f e =
 -- ---- where they lead
 
 pub told_as : {X E : Type 0} (r : Result X E) (g : X → Attempting Write) (m m' : Attempting Write) (a a' : Reply) → IfOk r (λ x. (b : Bool) → g x ≡ write_told m (Got a b)) → m ≡ m' → a ≡ a' → IfOk r (λ x. (b : Bool) → g x ≡ write_told m' (Got a' b))
-told_as (Ok x) g m m' a a' h e f = λ b. h b ∙ (ap (λ (y : Attempting Write). write_told y (Got a b)) e ∙ ap (λ y. write_told m' (Got y b)) f)
-told_as (Err x) g m m' a a' h e f = tt
+told_as r g m m' a a' h e f = grind arith
 
 turned_as : {X E : Type 0} (r : Result X E) (g : X → Attempting Write) (m m' : Attempting Write) (a : Reply) → IfOk r (λ x. g x ≡ m) → ((b : Bool) → m ≡ write_told m' (Got a b)) → IfOk r (λ x. (b : Bool) → g x ≡ write_told m' (Got a b))
-turned_as (Ok x) g m m' a h f = λ b. h ∙ f b
-turned_as (Err x) g m m' a h f = tt
+turned_as r g m m' a h e = grind arith
 
 pub marked_as : {X E : Type 0} (r : Result X E) (g : X → Attempting Write) (t : Task) (place : ℕ) (s : WriteStage) (a : Reply) → s ≡ stage.Marking → place < length t.files → IfOk r (λ x. g x ≡ seen_write t place stage.Recording None) → IfOk r (λ x. (b : Bool) → g x ≡ write_told (seen_write t place s None) (Got a b))
 marked_as r g t place s a i h k =
@@ -334,5 +285,4 @@ recorded_as r g t place next s a i h e k =
     turned_as r g (seen_write t next stage.Creating None) (seen_write t place s None) a k (λ b. ap (λ n. seen_write t n stage.Creating None) e ∙ (recorded_told t place x.0 a b (sym x.1) ∙ ap (λ z. write_told (seen_write t place z None) (Got a b)) (sym i)))
 
 pub ok_as : {X E : Type 0} (r : Result X E) (x y : X) → IfOk r (λ v. v ≡ x) → x ≡ y → IfOk r (λ v. v ≡ y)
-ok_as (Ok v) x y h e = h ∙ e
-ok_as (Err v) x y h e = tt
+ok_as r x y h g = grind arith

@@ -67,8 +67,7 @@ same_known k b e = ap (λ c. record { drawn = k.drawn; put_sent = k.put_sent; pu
 -- ---- the upload is begun
 
 uploaded_parts : (w : Script) (f : File) (fs : List File) (ps : List (List ℕ)) → uploaded w f fs (sending ps) ≡ at_parts f fs ps
-uploaded_parts w f fs [] = refl
-uploaded_parts w f fs (p ∷ ps) = refl
+uploaded_parts w f fs ps = grind arith
 
 pub created : (t : Task) (f : File) (fs : List File) (id : ℕ) (b : Bool)
     → write_told (seen_at t (f ∷ fs) stage.Creating) (Got (Upload id) b) ≡ seen_at (with_known t (with_drawn t.known (file_key (task_script t) f) id)) (f ∷ fs) (stage.Sending 0)
@@ -88,10 +87,7 @@ learn_others id tag size (d ∷ ds) h =
     ∙ ap (λ (l : List Drawn). d ∷ l) (learn_others id tag size ds p.1)
 
 learn_first : (tag : Spelled) (size : ℕ) (d : Drawn) (ds : List Drawn) → is_new d.upload ds ≡ true → map (with_part d.upload tag size) (d ∷ ds) ≡ with_last tag size (d ∷ ds)
-learn_first tag size d ds h =
-    ap (λ (b : Bool). cond b (record { key = d.key; upload = d.upload; tags = d.tags ++ tag ∷ []; sizes = d.sizes ++ size ∷ [] }) d ∷ map (with_part d.upload tag size) ds)
-    (nat_true d.upload d.upload refl)
-    ∙ ap (λ (l : List Drawn). record { key = d.key; upload = d.upload; tags = d.tags ++ tag ∷ []; sizes = d.sizes ++ size ∷ [] } ∷ l) (learn_others d.upload tag size ds h)
+learn_first tag size d ds h = grind (arith, nat_true, learn_others)
 
 pub learn_last : (tag : Spelled) (size : ℕ) (ds : List Drawn) (parts : List (List ℕ)) → HasSent ds parts → map (with_part (first_drawn ds).upload tag size) ds ≡ with_last tag size ds
 learn_last tag size [] parts h = absurd h
@@ -119,14 +115,7 @@ all_more : (tags : List Spelled) (tag : Spelled) → list_all is_plain_tag tags 
 all_more tags tag h e = list_all-append is_plain_tag tags (tag ∷ []) ∙ rw (h, e) refl
 
 pub has_more : (ds : List Drawn) (parts : List (List ℕ)) (p : List ℕ) (tag : Spelled) → HasSent ds parts → is_plain_tag tag ≡ true → HasSent (with_last tag (length p) ds) (parts ++ p ∷ [])
-has_more [] parts p tag h e = absurd h
-has_more (d ∷ ds) parts p tag h e = (
-  h.0,
-  one_longer d.tags tag ∙ (ap (λ n. n + 1) h.1 ∙ sym (one_longer parts p)),
-  ap (λ (l : List ℕ). l ++ length p ∷ []) h.2
-      ∙ sym (map-append length parts (p ∷ [])),
-  all_more d.tags tag h.3 e,
-)
+has_more ds parts p tag h g = grind (arith, one_longer, map-append, all_more)
 
 pub take_next : (n : ℕ) (parts : List (List ℕ)) (p : List ℕ) (rest : List (List ℕ)) → drop n parts ≡ p ∷ rest → take (n + 1) parts ≡ take n parts ++ p ∷ []
 take_next zero [] p rest e = absurd (cc)
@@ -140,8 +129,7 @@ pub marked : (t : Task) (f : File) (fs : List File) (r : Reply) (b : Bool) → w
 marked t f fs r b = ap (λ k. record { plan = with_known t k; operation = writes.Recording f fs }) (same_known t.known _ (no_set (task_script t) (who_of t) f.0))
 
 pub next_files : (w : Script) (minimum : ℕ) (fs : List File) → writing fs ≡ at_stage w minimum stage.Creating fs
-next_files w minimum [] = refl
-next_files w minimum (f ∷ fs) = refl
+next_files w minimum fs = grind arith
 
 pub recorded : (t : Task) (f : File) (fs : List File) (r : Reply) (b : Bool) → write_told (seen_at t (f ∷ fs) stage.Recording) (Got r b) ≡ seen_at t fs stage.Creating
 recorded t f fs r b =

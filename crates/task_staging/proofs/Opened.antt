@@ -1,5 +1,5 @@
 -- The partitions that an attempt's commit checks.
-use Rattle.std.proofs.Common.{◌≡◌, ℕ, ◌+◌, ◌<◌, Bool, true, false, cond, List, [], ◌∷◌, ◌++◌, map, take, get_or, length, sym, ap, ◌∙◌}
+use Rattle.std.proofs.Common.{◌≡◌, ℕ, ◌+◌, ◌<◌, Bool, true, false, cond, List, [], ◌∷◌, ◌++◌, map, take, get_or, length, sym, ap, ◌∙◌, arith}
 use Rattle.path_keys.proofs.Common.{take_more, map-append}
 use Rattle.job_protocol.specs.Prelude.{File, Job, Task, task_script, who_of, files, paths_of, checks_partitions, partitions, to_check}
 use Rattle.conflict.proofs.SamePartitions.{partitions_of_ordered}
@@ -12,10 +12,7 @@ pub none_to_check : (t : Task) (j : Job) (b : Bool) → j ≡ t.job → b ≡ ch
 none_to_check t j b e h f = sym (ap (λ x. cond x (partitions (paths_of (files (task_script t) (who_of t)))) []) (checked_by t j b false e h f))
 
 pub all_to_check : (t : Task) (j : Job) (b : Bool) → j ≡ t.job → b ≡ checks_partitions j.committer j.mode → b ≡ true → partitions (map (λ f. f.0) t.files) ≡ to_check (task_script t) (who_of t)
-all_to_check t j b e h f =
-    sym (partitions_of_ordered (map (λ (x : File). x.0) t.files))
-    ∙ (ap (λ (fs : List File). partitions (paths_of fs)) (sym (own_files t))
-    ∙ sym (ap (λ x. cond x (partitions (paths_of (files (task_script t) (who_of t)))) []) (checked_by t j b true e h f)))
+all_to_check t j b h g e = grind (arith, partitions_of_ordered, own_files, checked_by)
 
 -- one path more
 pub paths_more : (fs : List File) (place : ℕ) → place < length fs → (paths : List (List ℕ)) (p : List ℕ) → paths ≡ map (λ f. f.0) (take place fs) → p ≡ (get_or fs place ([], [])).0 → paths ++ p ∷ [] ≡ map (λ f. f.0) (take (place + 1) fs)

@@ -1,5 +1,5 @@
 -- The records of files that are uploaded stay while the next file is, and its own comes behind them.
-use Rattle.std.proofs.Common.{◌≡◌, ℕ, ◌+◌, ◌<◌, Bool, true, false, cond, List, [], ◌∷◌, ◌++◌, length, take, get_or, slice_get, Some, refl, sym, ap, subst, ◌∙◌}
+use Rattle.std.proofs.Common.{◌≡◌, ℕ, ◌+◌, ◌<◌, Bool, true, false, cond, List, [], ◌∷◌, ◌++◌, length, take, get_or, slice_get, Some, refl, sym, ap, subst, ◌∙◌, arith}
 use Rattle.job_protocol.specs.Prelude.{bytes_decides, text_eq, Spelled, Pending, are_tags, fit, PendingSet, File, Task, Drawn, with_last, IsTask, task_script, who_of, with_known, drawn_in, first_drawn, drawn_last, file_key, file_record}
 use Rattle.path_keys.proofs.Common.{take_more, map-append}
 use Rattle.task_requests.specs.Publishing.{drawn_of, records_of}
@@ -27,14 +27,8 @@ set_drawn t place id k h =
 
 -- ---- a part that came back
 
-in_rest : (d : Drawn) (ds : List Drawn) (e : Drawn) (key : List ℕ) → text_eq d.key key ≡ false → drawn_in (record { key = d.key; upload = e.upload; tags = e.tags; sizes = e.sizes } ∷ ds) key ≡ drawn_in (d ∷ ds) key
-in_rest d ds e key h =
-    let new : Drawn = record { key = d.key; upload = e.upload; tags = e.tags; sizes = e.sizes } in
-    ap (λ (b : Bool). cond b new (drawn_in ds key)) h ∙ sym (ap (λ (b : Bool). cond b d (drawn_in ds key)) h)
-
 part_there : (tag : Spelled) (size : ℕ) (key : List ℕ) (ds : List Drawn) (other : List ℕ) → IsOfKey key ds → text_eq key other ≡ false → drawn_in (with_last tag size ds) other ≡ drawn_in ds other
-part_there tag size key [] other i h = absurd i
-part_there tag size key (d ∷ ds) other i h = in_rest d ds (one_more tag size d) other (ap (λ k. text_eq k other) i ∙ h)
+part_there tag size key ds other h g = grind arith
 
 part_still : (t : Task) (tag : Spelled) (size : ℕ) (key : List ℕ) (fs : List File) → IsOfKey key t.known.drawn → AreOthers (task_script t) key fs → records_of (with_known t (with_tag t.known tag size)) fs ≡ records_of t fs
 part_still t tag size key [] i o = refl
@@ -74,12 +68,10 @@ module _ (t : Task) (place : ℕ) (tag : Spelled) (size : ℕ) (k : IsTask t) (h
 -- ---- the record of a file whose last part came back
 
 first_more : (tag : Spelled) (size : ℕ) (ds : List Drawn) (d : Drawn) → Some d ≡ slice_get ds 0 → Some (one_more tag size d) ≡ slice_get (with_last tag size ds) 0
-first_more tag size [] d e = absurd (cc)
-first_more tag size (x ∷ ds) d e = let same : d ≡ x = cc in ap (λ y. Some (one_more tag size y)) same
+first_more tag size ds d h = grind arith
 
 pub first_known : (ds : List Drawn) (d : Drawn) → Some d ≡ slice_get ds 0 → d ≡ first_drawn ds
-first_known [] d e = absurd (cc)
-first_known (x ∷ ds) d e = cc
+first_known ds d h = grind arith
 
 module _ (t : Task) (place : ℕ) (tag : Spelled) (size : ℕ) (l : IsLastPart t place tag size) (f : File) (here : get_or t.files place ([], []) ≡ f) (d : Drawn) (e : Some d ≡ slice_get t.known.drawn 0) where
   sent : HasSent (with_tag t.known tag size).drawn (parts_in t f)

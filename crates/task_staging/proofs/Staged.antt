@@ -34,17 +34,12 @@ opened t [] = ap storing (sym (own_files t))
 opened t (d ∷ ds) = refl
 
 pub start_is : (t : Task) (ds : List (List ℕ)) → (t.job.committer ≡ Magic → ⊥) → ds ≡ to_check (task_script t) (who_of t) → opening ds t.files ≡ task_commit_start (task_script t) (who_of t)
-start_is t ds n e = by t.job.committer n
-  where
-    by : (c : Committer) → (c ≡ Magic → ⊥) → opening ds t.files ≡ task_commit_start_by c (task_script t) (who_of t)
-    by Magic h = absurd (h refl)
-    by _ h = opened t ds ∙ ap (checking (task_script t) (who_of t)) e
+start_is t ds h g = grind (arith, opened)
 
 -- ---- where it stands, by equations
 
 is_empty : (ds : List (List ℕ)) → is_none ds ≡ true → ds ≡ []
-is_empty [] h = refl
-is_empty (d ∷ ds) h = absurd (true≢false (sym h))
+is_empty ds h = grind arith
 
 pub keeps_open : (t : Task) (h : Staging) → h.end ≡ None → Holds t h.stage h.checks h.place h.set → KeepsBy t h h.end
 keeps_open t h e k = subst (KeepsBy t h) (sym e) k
@@ -96,11 +91,7 @@ part_behind_is {t = t} {place = place} {n = n} k = (k.more, some_drawn t.known.d
 -- ---- what it asks
 
 pub asks_check : (t : Task) (s : Stage) (ds : List (List ℕ)) (place : ℕ) (end : Option TaskEnd) → end ≡ None → s ≡ stages.Opening → is_none ds ≡ false → check_asks t.job.dest ds ≡ task_commit_wants (at t (staged_by t s ds place end))
-asks_check t s ds place end e i n = by ds n ∙ sym (ap (λ o. task_commit_wants (at t o)) (as_open t s ds place end e i))
-  where
-    by : (ds : List (List ℕ)) → is_none ds ≡ false → check_asks t.job.dest ds ≡ task_commit_wants (at t (opening ds (drop place t.files)))
-    by [] h = absurd (true≢false h)
-    by (d ∷ ds) h = refl
+asks_check t s ds place end h g e = grind arith
 
 next_text : (t : Task) (set : PendingSet) (place : ℕ) → set ≡ set_of t place → drop place t.files ≡ [] → text_of set ≡ set_text (task_script t) (who_of t) (files (task_script t) (who_of t)) t.known
 next_text t set place e n = ap text_of e ∙ ap (λ fs. set_text (task_script t) (who_of t) fs t.known) (all_taken t.files place n ∙ sym (own_files t))
@@ -137,47 +128,28 @@ check_told : (t : Task) (d : List ℕ) (ds : List (List ℕ)) (fs : List File) (
 check_told t d ds fs r b = ap (at t) (sym (checks_tell.goes (task_script t) t.minimum (who_of t) d ds r b))
 
 some_partition : (t : Task) (s : Stage) (ds : List (List ℕ)) (place : ℕ) → s ≡ stages.Opening → is_none ds ≡ false → HoldsAt t s ds place → place ≡ 0
-some_partition t s ds place i n h =
-    (elim ds as (λ ds. is_none ds ≡ false → HoldsAt t stages.Opening ds place → place ≡ 0) [ [] ↦ λ g k. absurd (true≢false g) | d ∷ ds ↦ λ g k. k ]) n (subst (λ x. HoldsAt t x ds place) i h)
+some_partition t s ds place h g e = grind arith
 
 module _ (t : Task) (s : Stage) (ds : List (List ℕ)) (place : ℕ) (end : Option TaskEnd) (r : Reply) (b : Bool) (e : end ≡ None) (i : s ≡ stages.Opening) (n : is_none ds ≡ false) where
   checked_by : (found : Option (List ℕ)) (left : List (List ℕ)) → found ≡ found_below ds r → left ≡ left_after ds r → at t (commit_after_check (task_script t) (who_of t) found left) ≡ task_commit_told (at t (staged_by t s ds place end)) (Got r b)
-  checked_by found left f l =
-      ap (λ o. at t (commit_after_check (task_script t) (who_of t) o left)) f
-      ∙ (ap (λ x. at t (commit_after_check (task_script t) (who_of t) (found_below ds r) x)) l
-      ∙ (by ds n ∙ sym (ap (λ o. task_commit_told (at t o) (Got r b)) (as_open t s ds place end e i))))
-    where
-      by : (ds : List (List ℕ)) → is_none ds ≡ false → at t (commit_after_check (task_script t) (who_of t) (found_below ds r) (left_after ds r)) ≡ task_commit_told (at t (opening ds (drop place t.files))) (Got r b)
-      by [] g = absurd (true≢false g)
-      by (d ∷ rest) g = check_told t d rest (drop place t.files) r b
+  checked_by found left h g = grind arith
 
   pub found_told : (found : Option (List ℕ)) (left : List (List ℕ)) (d : List ℕ) → found ≡ found_below ds r → left ≡ left_after ds r → found ≡ Some d → at t (TaskCommitOver (ends.Conflict d)) ≡ task_commit_told (at t (staged_by t s ds place end)) (Got r b)
   found_told found left d f l g = ap (λ o. at t (commit_after_check (task_script t) (who_of t) o left)) (sym g) ∙ checked_by found left f l
 
   pub passed_told : (found : Option (List ℕ)) (left : List (List ℕ)) → HoldsAt t s ds place → found ≡ found_below ds r → left ≡ left_after ds r → found ≡ None → at t (staged_by t s left place end) ≡ task_commit_told (at t (staged_by t s ds place end)) (Got r b)
-  passed_told found left h f l g =
-      let first : place ≡ 0 = some_partition t s ds place i n h in
-      ap (at t) (as_open t s left place end e i)
-      ∙ (ap (λ m. at t (opening left (drop m t.files))) first
-      ∙ (ap (at t) (opened t left)
-      ∙ (ap (λ o. at t (commit_after_check (task_script t) (who_of t) o left)) (sym g) ∙ checked_by found left f l)))
+  passed_told found left h g e f = grind (arith, some_partition, as_open, opened, checked_by)
 
   pub passed_holds : (left : List (List ℕ)) → HoldsAt t s ds place → HoldsAt t s left place
-  passed_holds left h = subst (λ x. HoldsAt t x left place) (sym i) (by left)
-    where
-      by : (l : List (List ℕ)) → HoldsAt t stages.Opening l place
-      by [] = tt
-      by (d ∷ l) = some_partition t s ds place i n h
+  passed_holds left h = grind arith
 
 -- ---- an upload is begun
 
 reply_upload : (r : Reply) (id : ℕ) → Some id ≡ upload_in r → r ≡ Upload id
-reply_upload (Upload n) id e = let same : n ≡ id = cc in ap Upload same
-reply_upload _ id e = absurd (cc)
+reply_upload r id h = grind arith
 
 uploaded_from : (w : Script) (f : File) (fs : List File) (ps : List (List ℕ)) → uploaded w f fs (sending ps) ≡ sending_from f fs ps
-uploaded_from w f fs [] = refl
-uploaded_from w f fs (p ∷ ps) = refl
+uploaded_from w f fs ps = grind arith
 
 module _ (t : Task) (s : Stage) (ds : List (List ℕ)) (place : ℕ) (end : Option TaskEnd) (e : end ≡ None) (i : s ≡ stages.Opening) (n : is_none ds ≡ true) (h : place < length t.files) where
   as_creating : staged_by t s ds place end ≡ commits.Uploads (file_at t place) (drop (place + 1) t.files) Creating
@@ -191,25 +163,13 @@ module _ (t : Task) (s : Stage) (ds : List (List ℕ)) (place : ℕ) (end : Opti
     begun = with_known t (with_drawn t.known (file_key (task_script t) (file_at t place)) id)
 
     pub upload_told : (r : Reply) (b : Bool) → Some id ≡ upload_in r → at t' (staged_by t' (stages.Sending 0) ds place end) ≡ task_commit_told (at t (staged_by t s ds place end)) (Got r b)
-    upload_told r b q =
-        let f = file_at t place in
-        let fs = drop (place + 1) t.files in
-        ap (λ x. at x (staged_by x (stages.Sending 0) ds place end)) u
-        ∙ (ap (at begun) (as_part begun (stages.Sending 0) ds place end e 0 refl h)
-        ∙ (ap (at begun) (sym (uploaded_from (task_script t) f fs (parts_in t f)))
-        ∙ (ap (λ x. task_commit_told (at t (commits.Uploads f fs Creating)) (Got x b)) (sym (reply_upload r id q))
-        ∙ sym (ap (λ o. task_commit_told (at t o) (Got r b)) as_creating))))
+    upload_told r b h = grind (arith, as_part, uploaded_from, reply_upload, as_creating)
 
     begun_sent : is_new id t.known.drawn ≡ true → IsSent begun place 0
     begun_sent new = record { within = h; more = some_parts (size_of t (file_at t place).1) (file_at t place).1; sent = (new, refl, refl, refl); key = refl }
 
     pub upload_holds : (set : PendingSet) → IsTask t → is_new id t.known.drawn ≡ true → set ≡ set_of t place → Holds t' (stages.Sending 0) ds place set
-    upload_holds set k new g =
-        let x = begun_sent new in
-        subst (λ y. Holds y (stages.Sending 0) ds place set) (sym u) (record {
-          set = g ∙ set_drawn t place id k h;
-          at = (is_empty ds n, subst (HoldsSent (task_script t) t.minimum begun.known 0) (sym (front_at t.files place h)) (x.more, x.sent, x.key));
-        })
+    upload_holds set h g e = grind (arith, begun_sent, set_drawn, is_empty, front_at)
 
     pub upload_next : (r : Request) → is_new id t.known.drawn ≡ true → r ≡ UploadPart t.job.dest.bucket (file_key (task_script t) (file_at t place)) id 1 (part_behind t (file_at t place).1 0)
         → Some r ≡ task_commit_wants (at t' (staged_by t' (stages.Sending 0) ds place end))
@@ -236,20 +196,13 @@ module _ (t : Task) (s : Stage) (ds : List (List ℕ)) (place : ℕ) (end : Opti
   stored_holds set g = subst (λ y. Holds y stages.Renaming ds place set) (sym u) (record { set = g; at = tt })
 
   pub stored_next : (r : Request) → Some r ≡ task_commit_wants (at t Renaming) → Some r ≡ task_commit_wants (at t' (staged_by t' stages.Renaming ds place end))
-  stored_next r q =
-      q ∙ sym (ap (λ x. task_commit_wants (at x (staged_by x stages.Renaming ds place end))) u ∙ ap (λ o. task_commit_wants (at (with_known t (put_known t.known)) o)) (as_renaming (with_known t (put_known t.known)) stages.Renaming ds place end e refl))
+  stored_next r h = grind arith
 
 -- ---- a part came back
 
 part_told : (t : Task) (f : File) (fs : List File) (n : ℕ) (tag : Spelled) (b : Bool) → n < length (parts_in t f) → HasSent t.known.drawn (take n (parts_in t f))
     → at (with_known t (with_tag t.known tag (length (part_behind t f.1 n)))) (sending_from f fs (drop (n + 1) (parts_in t f))) ≡ task_commit_told (at t (sending_from f fs (drop n (parts_in t f)))) (Got (Part tag) b)
-part_told t f fs n tag b h g =
-    let p = part_behind t f.1 n in
-    let rest = drop (n + 1) (parts_in t f) in
-    let now : Task = with_known t (with_tag t.known tag (length p)) in
-    ap (at now) (sym (uploaded_from (task_script t) f fs rest))
-    ∙ (ap (λ l. at (with_known t (record { drawn = l; put_sent = t.known.put_sent; publish_sent = t.known.publish_sent })) (uploaded (task_script t) f fs (sending rest))) (sym (learn_last tag (length p) t.known.drawn (take n (parts_in t f)) g))
-    ∙ ap (λ l. task_commit_told (at t (sending_from f fs l)) (Got (Part tag) b)) (sym (first_part t f n h)))
+part_told t f fs n tag b h g = grind (arith, uploaded_from, learn_last, first_part)
 
 module _ (t : Task) (s : Stage) (ds : List (List ℕ)) (place n : ℕ) (end : Option TaskEnd) (e : end ≡ None) (i : s ≡ stages.Sending n) (hold : HoldsAt t s ds place) (tag : Spelled) (size : ℕ) (z : size ≡ length (part_behind t (file_at t place).1 n)) (plain : is_plain_tag tag ≡ true) (t' : Task) (u : t' ≡ with_known t (with_tag t.known tag size)) where
   here : IsSent t place n
@@ -303,12 +256,7 @@ module _ (t : Task) (s : Stage) (ds : List (List ℕ)) (place n : ℕ) (end : Op
         })
 
     pub send_next : (r : Request) → r ≡ asks_behind t (file_at t place) (write_stages.Sending (n + 1)) → Some r ≡ task_commit_wants (at t' (staged_by t' (stages.Sending (n + 1)) ds place end))
-    send_next r q =
-        let f = file_at t place in
-        ap Some q
-        ∙ (ap (λ x. Some (UploadPart t.job.dest.bucket (file_key (task_script t) f) x ((n + 1) + 1) (part_behind t f.1 (n + 1))))
-        (elim t.known.drawn as (λ ds. (first_drawn ds).upload ≡ (first_drawn (with_last tag (length (part_behind t f.1 n)) ds)).upload) [ [] ↦ refl | d ∷ ds ↦ refl ])
-        ∙ (asks_part after (stages.Sending (n + 1)) ds place (n + 1) end e refl sent_more ∙ sym (ap (λ x. task_commit_wants (at x (staged_by x (stages.Sending (n + 1)) ds place end))) after_is)))
+    send_next r h = grind (arith, asks_part, sent_more, after_is)
 
     pub next_behind : IsBehind (parts_in t (file_at t place)) t.known.drawn (write_stages.Sending (n + 1))
     next_behind = (more, some_drawn t.known.drawn (take n (parts_in t (file_at t place))) here.sent)
@@ -317,27 +265,16 @@ module _ (t : Task) (s : Stage) (ds : List (List ℕ)) (place n : ℕ) (end : Op
 
   module _ (last : length (parts_in t (file_at t place)) ≤ n + 1) where
     pub last_sent : HasSent (with_tag t.known tag size).drawn (parts_in t (file_at t place))
-    last_sent =
-        let f = file_at t place in
-        subst (λ m. HasSent (with_tag t.known tag m).drawn (parts_in t f)) (sym z) (subst (HasSent after.known.drawn) (take_all (n + 1) (parts_in t f) last) all_sent)
+    last_sent = grind (arith, take_all, all_sent)
 
     closing : at t' (staged_by t' stages.Opening ds (place + 1) end) ≡ at t' (sending_from (file_at t place) (drop (place + 1) t.files) (drop (n + 1) (parts_in t (file_at t place))))
-    closing =
-        let f = file_at t place in
-        ap (λ x. at x (staged_by x stages.Opening ds (place + 1) end)) u
-        ∙ (ap (at (with_known t (with_tag t.known tag size))) (as_none (with_known t (with_tag t.known tag size)) stages.Opening ds (place + 1) end e refl (ap is_none (none_checked t s ds place n hold i)))
-        ∙ (ap (λ x. at x (storing (drop (place + 1) t.files))) (sym u)
-        ∙ ap (λ l. at t' (sending_from f (drop (place + 1) t.files) l)) (sym (drop_all (n + 1) (parts_in t f) last))))
+    closing = grind (arith, as_none, none_checked, drop_all)
 
     pub close_told : (b : Bool) → at t' (staged_by t' stages.Opening ds (place + 1) end) ≡ task_commit_told (at t (staged_by t s ds place end)) (Got (Part tag) b)
     close_told b = closing ∙ behind_told b
 
     pub close_holds : (set : PendingSet) → set ≡ set_of (with_known t (with_tag t.known tag size)) (place + 1) → Holds t' stages.Opening ds (place + 1) set
-    close_holds set g =
-        subst (λ y. Holds y stages.Opening ds (place + 1) set) (sym u) (record {
-          set = g;
-          at = subst (λ l. HoldsAt (with_known t (with_tag t.known tag size)) stages.Opening l (place + 1)) (sym (none_checked t s ds place n hold i)) tt;
-        })
+    close_holds set h = grind arith
 
     pub close_next : (set : PendingSet) (r : Request) → set ≡ set_of (with_known t (with_tag t.known tag size)) (place + 1) → r ≡ next_asks t set (drop (place + 1) t.files) → Some r ≡ task_commit_wants (at t' (staged_by t' stages.Opening ds (place + 1) end))
     close_next set r g q =
@@ -364,8 +301,7 @@ gone_told t s ds place n end r b x e i k q g =
 
 pub rename_told : (t : Task) (s : Stage) (ds : List (List ℕ)) (place : ℕ) (end : Option TaskEnd) (r : Reply) (b : Bool) (x : TaskEnd) (t' : Task) → t' ≡ with_known t (published_known t.known) → end ≡ None → s ≡ stages.Renaming → TaskCommitOver x ≡ renamed (task_script t) (who_of t) r b
     → at t' (TaskCommitOver x) ≡ task_commit_told (at t (staged_by t s ds place end)) (Got r b)
-rename_told t s ds place end r b x t' u e i q =
-    ap (λ y. at y (TaskCommitOver x)) u ∙ (ap (at (with_known t (published_known t.known))) q ∙ sym (ap (λ o. task_commit_told (at t o) (Got r b)) (as_renaming t s ds place end e i)))
+rename_told t s ds place end r b x t' h g e f = grind arith
 
 -- ---- a request wore out
 
@@ -452,9 +388,7 @@ asks_put t set place e = sym (ap (next_asks t set) (none_left t.files place (sym
 -- the record of the file at a place, of the upload that was drawn last
 pub record_at : (t : Task) (place size : ℕ) (tag : Spelled) (f : File) (d : Drawn) → Some f ≡ slice_get t.files place → Some d ≡ slice_get t.known.drawn 0
     → file_record (task_script t) (who_of t) f (one_more tag size d) ≡ file_record (task_script t) (who_of t) (file_at t place) (one_more tag size (drawn_last t.known))
-record_at t place size tag f d e g =
-    ap (λ (x : File). file_record (task_script t) (who_of t) x (one_more tag size d)) (file_is t place f e)
-    ∙ ap (λ (x : Drawn). file_record (task_script t) (who_of t) (file_at t place) (one_more tag size x)) (first_known t.known.drawn d g)
+record_at t place size tag f d h g = grind (arith, file_is, first_known)
 
 -- ---- the last part of a file
 
@@ -475,21 +409,10 @@ closes t s ds place n i hold tag size set p commits k g r e =
 -- ---- which part is sent behind it
 
 pub stage_more : (n count : ℕ) (s : WriteStage) (m : ℕ) → s ≡ next_stage n count → s ≡ write_stages.Sending m → n + 1 < count
-stage_more n count s m e f = by (nat_lt (n + 1) count) refl
-  where
-    by : (b : Bool) → nat_lt (n + 1) count ≡ b → n + 1 < count
-    by true h = below_is (n + 1) count h
-    by false h = absurd (other (ap (λ b. cond b (write_stages.Sending (n + 1)) write_stages.Marking) h))
-      where
-        other : next_stage n count ≡ write_stages.Marking → ⊥
-        other g = cc
+stage_more n count s m h g = grind arith
 
 pub stage_last : (n count : ℕ) (s : WriteStage) → s ≡ next_stage n count → ((m : ℕ) → s ≡ write_stages.Sending m → ⊥) → count ≤ n + 1
-stage_last n count s e f = by (nat_lt (n + 1) count) refl
-  where
-    by : (b : Bool) → nat_lt (n + 1) count ≡ b → count ≤ n + 1
-    by true h = absurd (f (n + 1) (e ∙ ap (λ b. cond b (write_stages.Sending (n + 1)) write_stages.Marking) h))
-    by false h = below_not (n + 1) count h
+stage_last n count s h g = grind arith
 
 -- ---- what fits by the stage
 
@@ -497,16 +420,13 @@ pub open_fits : (t : Task) (s : Stage) (ds : List (List ℕ)) (place n : ℕ) (e
 open_fits t s ds place n end r e i hold f = fits_part t s ds place n end r e i (is_sent t s ds place n hold i) f
 
 part_reply : (r : Reply) (tag : Spelled) → Some tag ≡ tag_in r → Part tag ≡ r
-part_reply (Part x) tag e = let same : tag ≡ x = cc in ap Part same
-part_reply _ tag e = absurd (cc)
+part_reply r tag h = grind arith
 
 pub at_err : {X E : Type 0} (r : Result X E) (P : Type 0) → P → OnErr r P
-at_err (Ok x) P h = tt
-at_err (Err x) P h = h
+at_err r P h = grind arith
 
 pub at_ok : {X E : Type 0} (r : Result X E) (P : Type 0) → P → OnOk r P
-at_ok (Ok x) P h = h
-at_ok (Err x) P h = tt
+at_ok r P h = grind arith
 
 -- what is told of a part's tag is told of the reply
 pub told_part : {X E : Type 0} (x : Result X E) (m n : Attempting TaskCommit) (r : Reply) (tag : Spelled) → Some tag ≡ tag_in r → OnOk x ((b : Bool) → n ≡ task_commit_told m (Got (Part tag) b)) → OnOk x ((b : Bool) → n ≡ task_commit_told m (Got r b))
@@ -514,5 +434,4 @@ told_part x m n r tag e h = subst (λ y. OnOk x ((b : Bool) → n ≡ task_commi
 
 -- a list to which a thing was added, where the thing is known
 pub grown : {X Y E : Type 0} (r : Result Y E) (new old : List X) (x y : X) → OnOk r (new ≡ old ++ x ∷ []) → x ≡ y → OnOk r (new ≡ old ++ y ∷ [])
-grown (Ok v) new old x y h e = h ∙ ap (λ z. old ++ z ∷ []) e
-grown (Err v) new old x y h e = tt
+grown r new old x y h g = grind arith

@@ -11,9 +11,7 @@ use Rattle.task_staging.specs.Undoing.{abort_from, abort_by, done_at, end_at}
 -- once none is left
 none_left : (c : Committer) (k : Known) (at : ℕ) (sent : Bool) → (c ≡ Magic → ⊥) → k.put_sent ≡ sent → drop at (as_made k.drawn) ≡ []
     → abort_by k at (if sent then None else Some ends.Done) ≡ dropped c sent
-none_left Magic k at sent n p e = absurd (n refl)
-none_left _ k at true n p e = ap (λ l. abort_from l k.put_sent) e
-none_left _ k at false n p e = refl
+none_left c k at sent h g e = grind arith
 
 pub done_is : (c : Committer) (k : Known) (at : ℕ) → (c ≡ Magic → ⊥) → abort_by k at (done_at k at) ≡ dropping c k.put_sent (drop at (as_made k.drawn))
 done_is c k at n = by (nat_lt at (length (as_made k.drawn))) refl
@@ -27,10 +25,7 @@ done_is c k at n = by (nat_lt at (length (as_made k.drawn))) refl
         none_left c k at k.put_sent n refl none ∙ sym (ap (dropping c k.put_sent) none)
 
 pub start_is : (t : Task) → (t.job.committer ≡ Magic → ⊥) → abort_by t.known 0 (end_at t.known) ≡ task_abort_start (task_script t) t.known
-start_is t n = elim t.known.publish_sent as (λ b. abort_by t.known 0 (if b then Some ends.Kept else done_at t.known 0) ≡ task_abort_by b t.job.committer t.known) [
-  | true ↦ refl
-  | false ↦ done_is t.job.committer t.known 0 n
-]
+start_is t h = grind arith
 
 pub goes_drawn : (t : Task) (at len : ℕ) (end now : Option TaskEnd) (r : Reply) → (t.job.committer ≡ Magic → ⊥) → end ≡ None → len ≡ length (as_made t.known.drawn) → at < len → now ≡ done_at t.known (at + 1)
     → abort_by t.known (at + 1) now ≡ task_abort_hears (task_script t) (abort_by t.known at end) r

@@ -1,5 +1,5 @@
 -- What names only one job's own is a stranger's to the other.
-use Rattle.std.proofs.Common.{◌≡◌, ℕ, inl, inr, not, Bool, true, false, List, ◌∷◌, ◌++◌, Some, refl, sym, ap, ◌∙◌, append_assoc, codes}
+use Rattle.std.proofs.Common.{◌≡◌, ℕ, inl, inr, not, Bool, true, false, List, ◌∷◌, ◌++◌, Some, refl, sym, ap, ◌∙◌, append_assoc, codes, arith}
 use Rattle.job_spec.proofs.Common.{append_cancel_left, begins_back, false_true}
 use Rattle.job_facts.specs.Prelude.{is_job_id, begins, Request, CopyObject, UploadPart, ClusterPut, magic_prefix, cluster_prefix, Who, Script, Drawn, IsLegal, IsIn, changed_keys, changed_upload, changed_paths, IsKnown, IsForeign}
 use Rattle.job_protocol.specs.Prelude.{Path}
@@ -55,16 +55,13 @@ twin_stranger w v j i twins drawn drew apart r own = record {
 -- ---- what a request changes it names
 
 changes_named : (r : Request) (k : List ℕ) → IsIn k (changed_keys r) → IsIn k (named_keys r)
-changes_named (CopyObject n source target) k i = inr i
-changes_named _ k i = search
+changes_named r k h = grind arith
 
 upload_named : (r : Request) (id : ℕ) → changed_upload r ≡ Some id → named_upload r ≡ Some id
-upload_named (UploadPart n q u number bytes) id e = e
-upload_named _ id e = cc
+upload_named r id h = grind arith
 
 paths_named : (r : Request) (p : List ℕ) → IsIn p (changed_paths r) → IsIn p (named_paths r)
-paths_named (ClusterPut path bytes) p i = i
-paths_named _ p i = search
+paths_named r p h = grind arith
 
 pub stranger_foreign : (v : Script) (drawn : Who → List Drawn) (drew : Ids) → ((id : ℕ) → IsKnown drawn id → drew id ≡ true) → (r : Request) → IsStranger v drew r → IsForeign v drawn r
 stranger_foreign v drawn drew known r h = record {

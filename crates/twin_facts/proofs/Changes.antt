@@ -1,5 +1,5 @@
 -- What one request changes of what stands where files are shown.
-use Rattle.std.proofs.Common.{◌≡◌, ℕ, inl, inr, true, List, [], length, Option, Some, refl, sym, ap, subst, ◌∙◌}
+use Rattle.std.proofs.Common.{◌≡◌, ℕ, inl, inr, true, List, [], length, Option, Some, refl, sym, ap, subst, ◌∙◌, arith}
 use Rattle.job_facts.specs.Prelude.{Scene, apply, effect, only_reads, Object, Request, Committer, Magic, Outcome, below, Pending, IsLegal, Who, Script, nth, completion, abort, deletion, Picks, files, wanted_at, is_decided, is_file_path, all_commits, picks_of, Commit, Fetching, Replacing, Completing, Marking, Reverting, CommitOver, set_request, commit_asks, replaced, Setting, Operation, asks, Seen, IsIn, changed_keys, Told, known, at_key, IsAttempt, Hold, Fits, SweepsUnder, IsCommit, Commits, Gone}
 use Rattle.job_spec.proofs.Common.{some_is, same_or_other, true_or_false}
 use Rattle.job_facts.proofs.Placed.{one_key}
@@ -52,8 +52,7 @@ module _ (g : Setting) (j : IsLegal g.script) (s : Seen) (m : Told) (hold : Hold
   reads_so r reads o = inl (ap (λ (x : Scene). at_key w x.content key) (reads_leave s.scene r reads o))
 
   set_reads : (x : Committer) (t : ℕ) → only_reads (set_request x w t) ≡ true
-  set_reads Magic t = refl
-  set_reads _ t = refl
+  set_reads x t = grind arith
 
   same_path : (p b : List ℕ) → key ≡ below w.dest.key p → wanted_at w s.picks p ≡ Some b → wanted_at w s.picks q ≡ Some b
   same_path p b e wants = ap (wanted_at w s.picks) (one_key j (q, []) (p, []) e) ∙ wants
@@ -113,11 +112,7 @@ agrees_so w picks _ a = a
 
 pub commit_shows : (g : Setting) → IsLegal g.script → (s : Seen) (m : Told) (c : Commit) → Commits g.script g.minimum s m c → IsPickedSo g.script s.picks c → (r : Request) → commit_asks g.script c ≡ Some r → (o : Outcome) (q : List ℕ) → is_file_path q ≡ true
     → Changed g.script s.picks q (at_key g.script s.scene.content (below g.script.dest.key q)) (at_key g.script (effect s.scene r o).content (below g.script.dest.key q))
-commit_shows g j s m c h a r e o q path = commit_shows_by g j s m h.hold h.gone q path c h (agrees_so g.script s.picks c a) (under c a) r e o
-  where
-    under : (d : Commit) → IsPickedSo g.script s.picks d → Under g.script d
-    under (Replacing sets p ps x n) a = (a.1, a.2)
-    under _ a = tt
+commit_shows g h s m c e f r p o q u = grind (arith, commit_shows_by, agrees_so)
 
 -- ---- other requests
 

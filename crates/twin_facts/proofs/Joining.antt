@@ -172,8 +172,7 @@ module _ (g h : Setting) (m : MayBeTwins g.script h.script) (k l : Times) (openi
 -- ---- in the other order
 
 turned_eyes : (s : Side) (e : Entry) (n : ℕ) → (in_eyes First (record { side = other_side s; entry = e; theirs = n }) ≡ in_eyes Second (record { side = s; entry = e; theirs = n })) × (in_eyes Second (record { side = other_side s; entry = e; theirs = n }) ≡ in_eyes First (record { side = s; entry = e; theirs = n }))
-turned_eyes First e n = (refl, refl)
-turned_eyes Second e n = (refl, refl)
+turned_eyes s e n = grind arith
 
 first_turned : (es : List TwinEntry) → eyes First (map turned_entry es) ≡ eyes Second es
 first_turned [] = refl

@@ -32,23 +32,17 @@ key_still w s there q r o h = keys_stay w s there (Walking (q ∷ [])) r o (λ u
 module _ (w : Script) where
   module _ (a : Who) (k : Known) {r : Request} {n q : List ℕ} (c : r ≡ CreateUpload n q) where
     write_bucket : (t : Write) → write_asks w a k t ≡ Some r → n ≡ w.dest.bucket
-    write_bucket (writes.Uploads f fs Creating) e = cc
-    write_bucket _ e = cc
+    write_bucket t h = grind arith
 
     commit_bucket : (t : TaskCommit) → task_commit_asks w a k t ≡ Some r → n ≡ w.dest.bucket
-    commit_bucket (tasks.Uploads f fs Creating) e = cc
-    commit_bucket _ e = cc
+    commit_bucket t h = grind arith
 
     abort_bucket : (t : TaskAbort) → task_abort_asks w a t ≡ Some r → n ≡ w.dest.bucket
-    abort_bucket (aborts.Sweeping (Listing keys)) e = cc
-    abort_bucket _ e = cc
+    abort_bucket t h = grind arith
 
   operation_bucket : (g : Setting) (is : g.script ≡ w) (minimum : ℕ) (m : Told) (a : Who) (op : Operation) → Fits w minimum a m op → (r : Request)
       → asks (record { script = w; minimum = g.minimum; shared = g.shared }) a (known m a) op ≡ Some r → (n k : List ℕ) → r ≡ CreateUpload n k → n ≡ w.dest.bucket
-  operation_bucket g is minimum m a (TheWrite t) fits r e n k c = write_bucket a (known m a) c t.operation e
-  operation_bucket g is minimum m a (TheTaskCommit t) fits r e n k c = commit_bucket a (known m a) c t.operation e
-  operation_bucket g is minimum m a (TheTaskAbort t) fits r e n k c = abort_bucket a (known m a) c t.operation e
-  operation_bucket g is minimum m a _ fits r e n k c = absurd fits
+  operation_bucket g is minimum m a op h r e n k f = grind arith
 
 -- ---- it is kept
 

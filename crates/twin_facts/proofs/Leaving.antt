@@ -1,5 +1,5 @@
 -- How far an abort or clean at a shared destination has come with what is to go, while no attempt of its side sends.
-use Rattle.std.proofs.Common.{◌≡◌, ℕ, ◌<◌, ◌⊎◌, inl, inr, Bool, true, cond, List, [], ◌∷◌, ◌++◌, take, drop, Option, Some, None, refl, sym, ap, subst, ◌∙◌}
+use Rattle.std.proofs.Common.{◌≡◌, ℕ, ◌<◌, ◌⊎◌, inl, inr, Bool, true, cond, List, [], ◌∷◌, ◌++◌, take, drop, Option, Some, None, refl, sym, ap, subst, ◌∙◌, arith}
 use Rattle.job_facts.specs.Prelude.{filter, text_cmp, Scene, begins, answer, apply, read_answer, effect, IsHonestOutcome, only_reads, Request, GetObject, AbortUpload, DeleteObjects, ClusterList, ClusterDelete, UploadRef, Committer, Magic, Reply, Outcome, ReplyLost, step, magic_prefix, cluster_prefix, is_record, Who, Script, Drawn, Sweep, Listing, Deleting, Walked, More, Whole, page_after, all_go, is_magic, is_staging, IsIn, HasBucket, at_key, at_id, end_left}
 use Rattle.job_spec.proofs.Common.{some_is, none_some, none_or_some, false_true, same_or_other, text_true, text_gone, text_left, in_front, in_back, map_in, filter_in, in_filter}
 use Rattle.path_keys.proofs.Common.{text_exact}
@@ -134,13 +134,11 @@ module _ (w : Script) (first s : Scene) where
   named_path _ e ps m same only q u n = only q n.0 (same.files q n.1 ∙ n.2) n.1
 
   magic_only : (c : Committer) → is_magic c ≡ true → is_staging c ≡ true → ⊥
-  magic_only Magic m z = false_true refl z
-  magic_only _ m z = false_true refl m
+  magic_only c h g = grind arith
 
   -- what was listed is all, where the last page has come
   only_all : (l : List (List ℕ)) → Emptied w s.content (walks.deleting l) → OnlyThese w s.content l
-  only_all [] h = h
-  only_all (k ∷ ks) h = h.1
+  only_all l h = grind arith
 
   left_walked : is_magic w.committer ≡ true → Same w first s → (x : Walked (List ℕ)) → Emptied w s.content (walks.swept all_go x) → L (walking w.committer x)
   left_walked magic same (More keys) h = (same, h.1)
@@ -165,27 +163,16 @@ module _ (w : Script) (first s : Scene) where
 
     -- a read names what stood there
     read_names : (c : Committer) (p : List ℕ) (u : UploadRef) → Same w first s → NamedAt c w first p u → IsIn u (names (answer s (record_request c w p)))
-    read_names Magic p u same n =
-        let due : answer s (GetObject w.dest.bucket p) ≡ found (at_key w s.content p) = answer_is w s there.0 there.1 (GetObject w.dest.bucket p) refl ∙ ap found (sym (key_before w s there.0 there.1 p)) in
-        subst (λ y. IsIn u (names y)) (sym (due ∙ ap found (same.keys p n.1 ∙ n.3))) n.4
-    read_names _ p u same n = subst (λ o. IsIn u (names (read_answer o))) (sym (same.files p n.1 ∙ n.2)) n.3
+    read_names c p u h g = grind arith
 
     heard_record : (named : List UploadRef) (p : List ℕ) (ps all : List (List ℕ)) → L (Reading named p ps all) → (x : Reply) → x ≡ answer s (record_request w.committer w p) → L (reading_on w.committer (named ++ names x) ps all)
-    heard_record named p ps all h x e = left_reading (named ++ names x) ps all h.0 h.1 (λ q u n. elim (h.2 q u n) [
-      | inr i ↦ inr (in_front u named (names x) i)
-      | inl i ↦ elim i [
-        | inr more ↦ inl more
-        | inl is ↦ inr (in_back u named (names x) (subst (λ y. IsIn u (names y)) (sym e) (read_names w.committer p u h.0 (subst (λ v. Named w first v u) is n))))
-      ]
-    ])
+    heard_record named p ps all h x g = grind (arith, left_reading, in_front, in_back, read_names)
 
 -- ---- what an abort, a batch and a removal leave
 
 module _ (w : Script) (first s : Scene) (there : HasBucket s.content w.dest.bucket) where
   pub abort_dead : (q : UploadRef) → HasItsKey w s.content q → Dead w (apply s (AbortUpload w.dest.bucket q.key q.upload)) q.upload
-  abort_dead q h =
-      let t = abort_turns w s there.0 there.1 q.key q.upload in
-      (subst (λ n. q.upload < n) (sym t.next) h.0, t.here ∙ elim (none_or_some (at_id w s.content q.upload)) [ inl e ↦ ap (end_left q.key) e | inr u ↦ ap (end_left q.key) u.1 ∙ ap (λ b. cond b None (Some u.0)) (text_true (u.0).key q.key (h.1 u.0 u.1)) ])
+  abort_dead q h = grind (arith, abort_turns, none_or_some, text_true)
 
   abort_alone : (q : UploadRef) (o : Outcome) → LeftAlone w s (effect s (AbortUpload w.dest.bucket q.key q.upload) o)
   abort_alone q = alone_request w s there (AbortUpload w.dest.bucket q.key q.upload) (λ k b. (frame s w.dest.bucket (AbortUpload w.dest.bucket q.key q.upload) there).keys k (λ e i. i)) (λ p b. (frame s w.dest.bucket (AbortUpload w.dest.bucket q.key q.upload) there).files p (λ i. i))
@@ -203,8 +190,7 @@ module _ (w : Script) (first s : Scene) (there : HasBucket s.content w.dest.buck
   batch_dead keys d p u n = stays_gone w s there u.upload (DeleteObjects w.dest.bucket keys) ReplyLost (d p u n)
 
   swept_left : (t : Scene) → w.committer ≡ Magic → (x : Option Sweep) → (ks : List (List ℕ)) → x ≡ walks.deleting ks → Emptied w t.content x → AllDead w first t → Leaving w first t (deleting ks)
-  swept_left t magic x [] e h d = λ done. (record { keys = λ m. subst (Emptied w t.content) e h; files = λ z. absurd (false_true refl (sym (ap is_staging magic) ∙ z)) }, d)
-  swept_left t magic x (k ∷ ks) e h d = (magic, (subst (Emptied w t.content) e h).1, d)
+  swept_left t h x ks g e f = grind arith
 
   heard_batch : (k : List ℕ) (ks : List (List ℕ)) → AllMagic w (k ∷ ks) → Leaving w first s (sparing.Deleting k ks) → (x : Reply)
       → let r = DeleteObjects w.dest.bucket (take 1000 (k ∷ ks)) in x ≡ answer s r → Leaving w first (apply s r) (deleting (drop 1000 (k ∷ ks)))
@@ -248,8 +234,7 @@ module _ (w : Script) (first s : Scene) (there : HasBucket s.content w.dest.buck
       goes_by c r o (λ x e. subst (λ (u : Scene). Leaving w first u (sparing_hears w c x)) same (heard x e)) before (subst (λ (u : Scene). Leaving w first u c) same before)
 
   record_only : (c : Committer) (p : List ℕ) → only_reads (record_request c w p) ≡ true
-  record_only Magic p = refl
-  record_only _ p = refl
+  record_only c p = grind arith
 
   pub leaving_goes : (c : Sparing) → FitsSparing w drawn c → Leaving w first s c → (r : Request) → sparing_asks w c ≡ Some r → (o : Outcome) → After c o r
   leaving_goes (Walking keys) f h r e o =

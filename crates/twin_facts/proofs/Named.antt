@@ -87,8 +87,7 @@ module _ (g h : Setting) (m : MayBeTwins g.script h.script) (k l : Times) (openi
 -- ---- in the other order
 
 side_turned : (s : Side) → is_side Second (other_side s) ≡ is_side First s
-side_turned First = refl
-side_turned Second = refl
+side_turned s = grind arith
 
 drew_turned : (s : Scene) (es : List TwinEntry) (id : ℕ) → drew_from Second s (map turned_entry es) id ≡ drew_from First s es id
 drew_turned s [] id = refl

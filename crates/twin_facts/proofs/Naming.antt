@@ -1,5 +1,5 @@
 -- The requests of a job name only what is its own, or nobody's.
-use Rattle.std.proofs.Common.{◌≡◌, ℕ, ◌+◌, ◌<◌, inl, inr, not, nat_eq, true, false, List, [], ◌∷◌, ◌++◌, take, length, Option, Some, None, refl, sym, ap, subst, ◌∙◌, append_assoc, codes}
+use Rattle.std.proofs.Common.{◌≡◌, ℕ, ◌+◌, ◌<◌, inl, inr, not, nat_eq, true, false, List, [], ◌∷◌, ◌++◌, take, length, Option, Some, None, refl, sym, ap, subst, ◌∙◌, append_assoc, codes, arith}
 use Rattle.job_spec.proofs.Common.{false≢true, not-true, begins_behind, below_is, some_is, none_some, false_true, nat_true, nat_false}
 use Rattle.job_facts.specs.Prelude.{Scene, begins, Actor, Request, CreateUpload, UploadPart, AbortUpload, Committer, Magic, cluster_prefix, success_key, MarkerPlace, RecordPlace, TemporaryPlace, StagedSetPlace, is_open, Pending, Who, File, Script, Drawn, IsLegal, files, file_key, Uploading, Creating, Sending, upload_asks, Listing, Deleting, Write, Recording, WriteOver, write_asks, TaskCommit, Looking, Reading, Publishing, Checking, Storing, Renaming, TaskCommitOver, task_commit_asks, TaskAbort, Dropping, TaskAbortOver, task_abort_asks, Heading, SetupOver, nth, completion, abort, deletion, all_commits, Commit, Fetching, Replacing, Completing, Reverting, CommitOver, set_request, commit_asks, is_no_magic, Setting, Operation, TheWrite, TheTaskCommit, TheTaskAbort, asks, Seen, is_magic, is_staging, IsIn, Told, known, IsKnown, IsAttempt, Facts, Hold, Fits, FitsUpload, FitsWrite, FitsCommit, FitsAbort, IsCommit, Commits}
 use Rattle.job_protocol.specs.Writes.{Marking}
@@ -56,11 +56,7 @@ module _ {w : Script} (j : IsLegal w) where
 
 module _ {w : Script} {drawn : Who → List Drawn} where
   names_keys : (r : Request) (ks : List (List ℕ)) → named_keys r ≡ ks → named_upload r ≡ None → named_paths r ≡ [] → ((k : List ℕ) → IsIn k ks → IsOwnKey w k) → NamesOwn w drawn r
-  names_keys r ks a b c h = record {
-    keys = λ k i. h k (subst (λ (l : List (List ℕ)). IsIn k l) a i);
-    uploads = λ id e. absurd (none_some b e);
-    paths = λ p i. absurd (subst (λ (l : List (List ℕ)). IsIn p l) c i);
-  }
+  names_keys r ks h g e f = grind arith
 
   names_nothing : (r : Request) → named_keys r ≡ [] → named_upload r ≡ None → named_paths r ≡ [] → NamesOwn w drawn r
   names_nothing r a b c = names_keys r [] a b c (λ k i. absurd i)
@@ -69,18 +65,10 @@ module _ {w : Script} {drawn : Who → List Drawn} where
   names_key r q a b c h = names_keys r (q ∷ []) a b c (λ k i. elim i [ inl is ↦ subst (IsOwnKey w) (sym is) h | inr none ↦ absurd none ])
 
   names_upload : (r : Request) (q : List ℕ) (u : ℕ) → named_keys r ≡ q ∷ [] → named_upload r ≡ Some u → named_paths r ≡ [] → is_no_magic w q ≡ true → IsKnown drawn u → NamesOwn w drawn r
-  names_upload r q u a b c h known_one = record {
-    keys = λ k i. elim (subst (λ (l : List (List ℕ)). IsIn k l) a i) [ inl is ↦ inl (ap (is_no_magic w) is ∙ h) | inr none ↦ absurd none ];
-    uploads = λ id e. subst (IsKnown drawn) (some_is (sym b ∙ e)) known_one;
-    paths = λ p i. absurd (subst (λ (l : List (List ℕ)). IsIn p l) c i);
-  }
+  names_upload r q u h g e f p = grind arith
 
   names_paths : (r : Request) (ps : List (List ℕ)) → named_keys r ≡ [] → named_upload r ≡ None → named_paths r ≡ ps → ((p : List ℕ) → IsIn p ps → begins (cluster_prefix w.job) p ≡ true) → NamesOwn w drawn r
-  names_paths r ps a b c h = record {
-    keys = λ k i. absurd (subst (λ (l : List (List ℕ)). IsIn k l) a i);
-    uploads = λ id e. absurd (none_some b e);
-    paths = λ p i. h p (subst (λ (l : List (List ℕ)). IsIn p l) c i);
-  }
+  names_paths r ps h g e f = grind arith
 
   names_path : (r : Request) (q : List ℕ) → named_keys r ≡ [] → named_upload r ≡ None → named_paths r ≡ q ∷ [] → begins (cluster_prefix w.job) q ≡ true → NamesOwn w drawn r
   names_path r q a b c h = names_paths r (q ∷ []) a b c (λ p i. elim i [ inl is ↦ ap (begins (cluster_prefix w.job)) is ∙ h | inr none ↦ absurd none ])
@@ -158,8 +146,7 @@ module _ {w : Script} (j : IsLegal w) (minimum : ℕ) (m : Told) where
   job_commit_own s (CommitOver end) h r e = absurd cc
 
   check_own : (c : Check) (r : Request) → check_asks w c ≡ Some r → Own r
-  check_own (CheckOver end) r e = absurd cc
-  check_own _ r e = subst Own (some_is e) (names_nothing _ refl refl refl)
+  check_own c r h = grind arith
 
   record_own : (c : Committer) → w.committer ≡ c → (p : List ℕ) (ps : List (List ℕ)) → AllOwn w (p ∷ ps) → Own (record_request c w p)
   record_own Magic is p ps h = names_key _ _ refl refl refl (inr (h.keys (ap is_magic is) p (inl refl)))

@@ -1,5 +1,5 @@
 -- A side's entries make its run go on; where its destination is shared no abort or clean of it is one of a job alone.
-use Rattle.std.proofs.Common.{◌≡◌, ℕ, ◌&&◌, ◌||◌, true, false, cond, List, [], ◌∷◌, ◌++◌, Option, Some, refl, sym, ap, subst, ◌∙◌}
+use Rattle.std.proofs.Common.{◌≡◌, ℕ, ◌&&◌, ◌||◌, true, false, cond, List, [], ◌∷◌, ◌++◌, Option, Some, refl, sym, ap, subst, ◌∙◌, arith}
 use Rattle.job_facts.specs.Prelude.{Content, Scene, apply, effect, Request, Outcome, Answered, Slow, RequestLost, Entry, Retried, Script, is_effective, is_marking, Clean, Setting, Operation, TheClean, TheCheck, TheSparing, fresh, clean_start, who, Driver, tells, step, Seen, see, is_picking, Who, entry, driver_entry, Times, is_reading}
 use Rattle.job_protocol.proofs.Begun.{commit_of_so, after_check_so}
 use Rattle.job_protocol.specs.Sparing.{sparing_start}
@@ -21,18 +21,14 @@ goes_on g k opening es x _ _ run (sides.attempt_sends _ a op n r o set at asked 
 
 -- what holds before a request and where it took effect holds whatever becomes of it
 pub effect_so : (P : Scene → Type 0) (s : Scene) (r : Request) (o : Outcome) → P s → P (apply s r) → P (effect s r o)
-effect_so P s r Slow h done = h
-effect_so P s r RequestLost h done = h
-effect_so P s r _ h done = done
+effect_so P s r o h g = grind arith
 
 module _ (w : Script) (k : Times) (s : Seen) (n : ℕ) (r : Request) where
   pub driver_scene : (o : Outcome) → (see w k s (driver_entry n r o)).scene ≡ effect s.scene r o
-  driver_scene (Answered y) = refl
-  driver_scene _ = refl
+  driver_scene o = grind arith
 
   pub attempt_scene : (a : Who) (o : Outcome) → (see w k s (entry a n r o)).scene ≡ effect s.scene r o
-  attempt_scene a (Answered y) = refl
-  attempt_scene a _ = refl
+  attempt_scene a o = grind arith
 
   -- where it reads no set, or behind the beginning of an abort or clean, nothing is picked
   pub picks_still : ((t : ℕ) → (is_picking k s.begun n && is_reading w t r) ≡ false) → (o : Outcome) → (see w k s (driver_entry n r o)).picks ≡ s.picks
@@ -45,20 +41,14 @@ module _ (w : Script) (k : Times) (s : Seen) (n : ℕ) (r : Request) where
 
   -- where it is no put of the marker, that was put as before
   pub mark_still : is_marking w r ≡ false → (o : Outcome) → (see w k s (driver_entry n r o)).put_mark ≡ s.put_mark
-  mark_still none Slow = refl
-  mark_still none RequestLost = refl
-  mark_still none _ = ap (λ b. s.put_mark || b) none ∙ or_false s.put_mark
+  mark_still h o = grind arith
 
   -- what was put stays so, and a put that takes effect puts it
   pub mark_stays : s.put_mark ≡ true → (o : Outcome) → (see w k s (driver_entry n r o)).put_mark ≡ true
-  mark_stays put Slow = put
-  mark_stays put RequestLost = put
-  mark_stays put _ = ap (λ b. b || is_marking w r) put
+  mark_stays h o = grind arith
 
   pub mark_puts : is_marking w r ≡ true → (o : Outcome) → is_effective o ≡ true → (see w k s (driver_entry n r o)).put_mark ≡ true
-  mark_puts puts Slow took = absurd (false_true refl took)
-  mark_puts puts RequestLost took = absurd (false_true refl took)
-  mark_puts puts _ took = ap (λ b. s.put_mark || b) puts ∙ or_true s.put_mark
+  mark_puts h o g = grind arith
 
 -- ---- its driver
 
@@ -69,9 +59,7 @@ IsNone _ = Unit {0}
 
 module _ (g : Setting) (shared : g.shared ≡ true) (k : Times) (opening : Content) where
   goes_none : (op : Operation) (o : Outcome) → IsNone (Some op) → IsNone (Some (tells g (who Driver) op o))
-  goes_none (TheClean t) o h = h
-  goes_none (TheCheck t) o h = after_check_so g (λ op. IsNone (Some op)) tt (λ u. tt) (step g.script.retries (check_after g.script) t o)
-  goes_none _ o h = tt
+  goes_none op o h = grind arith
 
   no_clean : (es : List Entry) (x : Stand) → Runs g k opening es x → IsNone x.driver
   no_clean es x run_begins = tt

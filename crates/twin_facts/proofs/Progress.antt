@@ -42,17 +42,11 @@ pub record Committing (g : Setting) (opening : Content) (m : Told) (picks : Pick
   pub unmarked : Unmarked put c
 
 pub false_unmarked : (put : Bool) → put ≡ false → (c : Commit) → Unmarked put c
-false_unmarked put e (Marking sets n) = tt
-false_unmarked put e (CommitOver ends.Committed) = tt
-false_unmarked put e (CommitOver (ends.StoreFault stages.Success)) = tt
-false_unmarked put e _ = e
+false_unmarked put h c = grind arith
 
 module _ (w : Script) where
   none_replaced : (c : Committer) (m : Mode) (picks : Picks) → is_replace m ≡ false → replaced c m w picks ≡ []
-  none_replaced c Replace picks e = absurd (false_true e refl)
-  none_replaced Magic Append picks e = refl
-  none_replaced Magic Fail picks e = refl
-  none_replaced _ _ picks e = refl
+  none_replaced c m picks h = grind arith
 
   abbrev pub is_fetching : Commit → Bool
   is_fetching (Fetching sets n) = true
@@ -66,65 +60,22 @@ module _ (w : Script) where
     abbrev U : Commit → Type 0
     U c = Unread w picks c
 
-    unread_either : (b : Bool) (c d : Commit) → U c → U d → U (cond b c d)
-    unread_either b c d h g = cond_both b c d (λ v. U v) (λ e. h) (λ e. g)
-
-    unread_completing : (sets : Sets) (xs : List Turn) (finished : List ℕ) → U (completing sets xs finished)
-    unread_completing sets [] finished = tt
-    unread_completing sets (x ∷ xs) finished = tt
-
-    unread_replacing : (sets : Sets) (ps : List (List ℕ)) → U (replacing w sets ps)
-    unread_replacing sets [] = unread_completing sets (dealt w.lanes (length (all_commits sets))) []
-    unread_replacing sets (p ∷ ps) = tt
-
-    unread_decided : (sets : Sets) (o : Option CommitEnd) → U (decided w sets o)
-    unread_decided sets (Some end) = tt
-    unread_decided sets None = unread_replacing sets (replaced w.committer w.mode w (picks_of sets))
-
     unread_fetching : (sets : Sets) → U (Fetching sets 0) → U (fetching w sets)
-    unread_fetching sets h =
-        unread_either (nat_lt (length sets) w.tasks) (Fetching sets 0) (decided w sets (same_path w (picks_of sets))) h (unread_decided sets (same_path w (picks_of sets)))
+    unread_fetching sets h = grind arith
 
     unread_start : ((t : ℕ) → picks t ≡ None) → (missing : Option ℕ) → U (commit_start w missing)
-    unread_start h (Some t) = tt
-    unread_start h None = unread_fetching [] (λ t l k. h t)
-
-    unread_reverting : (rs : List Request) → U (reverting rs)
-    unread_reverting [] = tt
-    unread_reverting (r ∷ rs) = tt
-
-    unread_swept : (sets : Sets) (p : List ℕ) (ps : List (List ℕ)) (o : Option Sweep) → U (swept w sets p ps o)
-    unread_swept sets p ps (Some s) = tt
-    unread_swept sets p ps None = unread_replacing sets ps
+    unread_start h missing = grind arith
 
     -- where no answer came, the picks are as they were
     unread_missed : (c : Commit) (lost : Bool) → U c → U (commit_misses w c lost)
-    unread_missed (Fetching sets n) lost h = unread_either (nat_lt n w.retries) (Fetching sets (n + 1)) (CommitOver (ends.StoreFault stages.Read)) h tt
-    unread_missed (Replacing sets p ps s n) lost h = unread_either (nat_lt n w.retries) (Replacing sets p ps s (n + 1)) (CommitOver (ends.StoreFault stages.Delete)) tt tt
-    unread_missed (Completing sets x xs finished) lost h =
-        unread_either (nat_lt x.missed w.retries) (completing sets (xs ++ again x lost ∷ []) finished) (worn_completion sets x xs finished)
-        (unread_completing sets (xs ++ again x lost ∷ []) finished) (unread_reverting (revert (all_commits sets) x.number xs finished))
-    unread_missed (Marking sets n) lost h = unread_either (nat_lt n w.retries) (Marking sets (n + 1)) (CommitOver (ends.StoreFault stages.Success)) tt tt
-    unread_missed (Reverting q qs n) lost h = unread_either (nat_lt n w.retries) (Reverting q qs (n + 1)) (reverting qs) tt (unread_reverting qs)
-    unread_missed (CommitOver end) lost h = tt
+    unread_missed c lost h = grind arith
 
     unread_heard : (c : Commit) → is_fetching c ≡ false → (y : Reply) → U (commit_hears w c y)
-    unread_heard (Fetching sets n) z y = absurd (false_true z refl)
-    unread_heard (Replacing sets p ps s n) z y = unread_swept sets p ps (sweep_hears (is_no_magic w) s y)
-    unread_heard (Completing sets x xs finished) z y = unread_completing sets (xs ++ follow w.lanes (length (all_commits sets)) x.number) (x.number ∷ finished)
-    unread_heard (Reverting q qs n) z y = unread_reverting qs
-    unread_heard _ z y = tt
+    unread_heard c h y = grind arith
 
   -- while it reads, not each task has a pick
   pub undecided : (picks : Picks) (sets : Sets) → length sets < w.tasks → Unread w picks (Fetching sets 0) → is_decided w picks ≡ false
-  undecided picks sets low h = ap (λ b. b && not (is_clash w picks)) (unpicked w.tasks (length sets) low (h (length sets) (omega arith) low))
-    where
-      unpicked : (n t : ℕ) → t < n → picks t ≡ None → picked_below picks n ≡ false
-      unpicked zero t l e = absurd (omega arith)
-      unpicked (suc n) t l e = elim (same_or_not t n) [
-        | inl is ↦ ap (λ b. picked_below picks n && b) (ap (λ (u : ℕ). is_some (picks u)) (sym is) ∙ ap is_some e) ∙ and-false (picked_below picks n)
-        | inr ne ↦ ap (λ b. b && is_some (picks n)) (unpicked n t (omega (arith, l, ne)) e)
-      ]
+  undecided picks sets h g = grind arith
 
 -- a mode that is not replace deletes nothing that it does not revert
 pub nothing_under : (g : Setting) (opening : Content) (m : Told) (picks : Picks) (c : Commit) → InCommit g opening picks m c → is_replace g.script.mode ≡ false → Under g.script c
@@ -155,12 +106,10 @@ module _ (g : Setting) (opening : Content) (j : IsLegal g.script) (k : Times) (s
   -- ---- what the request is
 
   plain_read : (x : Committer) (t : ℕ) → is_marking w (set_request x w t) ≡ false
-  plain_read Magic t = refl
-  plain_read _ t = refl
+  plain_read x t = grind arith
 
   plain_sweep : (p : List ℕ) (x : Sweep) → (is_marking w (sweep_asks w.dest.bucket p x) ≡ false) × ((t : ℕ) → is_reading w t (sweep_asks w.dest.bucket p x) ≡ false)
-  plain_sweep p (Listing keys) = (refl, (λ t. refl))
-  plain_sweep p (Deleting q qs) = (refl, (λ t. refl))
+  plain_sweep p x = grind arith
 
   -- but in its stage it is no put of the marker, and but in the first no read of a set
   abbrev Kind : Commit → Request → Type 0
@@ -209,10 +158,7 @@ module _ (g : Setting) (opening : Content) (j : IsLegal g.script) (k : Times) (s
 
     -- where no set stands nobody published
     next_none : s.last (length sets) ≡ None → (t : ℕ) → length sets ≤ t → t < w.tasks → next t ≡ None
-    next_none none t l k = elim (same_or_not t (length sets)) [
-      | inl is ↦ cond_both (picking && is_reading w t (set_request w.committer w (length sets))) (s.last t) (s.picks t) (λ o. o ≡ None) (λ e. ap s.last is ∙ none) (λ e. unread t l k)
-      | inr ne ↦ next_other t k ne ∙ unread t l k
-    ]
+    next_none h t g e = grind (arith, same_or_not, cond_both, unread, next_other)
 
     last_none : sets_at w s.scene (length sets) ≡ None → s.last (length sets) ≡ None
     last_none e = elim (none_or_some (s.last (length sets))) [ inl z ↦ z | inr a ↦ absurd (none_some e (h.standing at.uncleaned (length sets) a.0 low a.1).1) ]
@@ -252,9 +198,7 @@ module _ (g : Setting) (opening : Content) (j : IsLegal g.script) (k : Times) (s
   -- ---- the marker
 
   pub put_before : (d : Commit) → is_mark_stage w d ≡ false → commit_asks w d ≡ Some r → Unmarked s.put_mark d → s.put_mark ≡ false
-  put_before (Marking sets x) z e y = absurd (false_true z refl)
-  put_before (CommitOver end) z e y = absurd cc
-  put_before _ z e y = y
+  put_before d h g e = grind arith
 
   marking_next : (sets : Sets) (x : ℕ) (put : Bool) (o : Outcome) → Unmarked put (commit_tells w (Marking sets x) o)
   marking_next sets x put (Answered y) = tt
@@ -278,9 +222,7 @@ Goes g (Some (TheCommit c)) s = Unread g.script s.picks c × Unmarked s.put_mark
 Goes g _ s = Unit {0}
 
 goes_same : (g : Setting) (d : Option Operation) (s u : Seen) → u.picks ≡ s.picks → u.put_mark ≡ s.put_mark → Goes g d s → Goes g d u
-goes_same g (Some (TheCommit c)) s u picks mark h = (subst (λ p. Unread g.script p c) (sym picks) h.0, subst (λ b. Unmarked b c) (sym mark) h.1)
-goes_same g (Some _) s u picks mark h = tt
-goes_same g None s u picks mark h = tt
+goes_same g d s u h e f = grind arith
 
 module _ (g : Setting) (k : Times) (opening : Content) (j : IsLegal g.script) (is : IsOpening g opening) where
   starts : (s : Seen) (m : Told) → Idle g opening s m → (missing : Option ℕ) → Goes g (Some (TheCommit (commit_start g.script missing))) s
@@ -320,6 +262,4 @@ module _ (g : Setting) (k : Times) (opening : Content) (j : IsLegal g.script) (i
   goes es x (strays fs y n r o run f) = goes_same g y.driver y.seen (see g.script k y.seen (strange_entry n r o)) refl refl (goes fs y run)
 
   pub committing : (es : List Entry) (x : Stand) → Runs g k opening es x → (c : Commit) → x.driver ≡ Some (TheCommit c) → Committing g opening x.told x.seen.picks x.seen.put_mark c
-  committing es x run c d =
-      let l = late_now g k opening j is es x run (ap is_set d) in
-      with_rest x.seen x.told c (subst (λ v. At g opening v x.seen x.told) d l.driver) (subst (λ v. Goes g v x.seen) d (goes es x run))
+  committing es x h c g = grind (arith, late_now, with_rest, At, goes)

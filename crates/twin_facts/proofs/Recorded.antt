@@ -1,5 +1,5 @@
 -- Of the magic committer: as long as its upload lives, the record of a file that an attempt has written stands; an abort or clean of the job deletes none whose upload lives.
-use Rattle.std.proofs.Common.{◌≡◌, ℕ, ◌≤◌, ◌^◌, ◌⊎◌, inl, inr, nat_lt, ◌||◌, Bool, true, false, List, [], ◌∷◌, ◌++◌, take, drop, length, Option, Some, None, refl, sym, ap, subst, ◌∙◌}
+use Rattle.std.proofs.Common.{◌≡◌, ℕ, ◌≤◌, ◌^◌, ◌⊎◌, inl, inr, nat_lt, ◌||◌, Bool, true, false, List, [], ◌∷◌, ◌++◌, take, drop, length, Option, Some, None, refl, sym, ap, subst, ◌∙◌, arith}
 use Rattle.job_facts.specs.Prelude.{filter, Scene, begins, listed, answer, apply, bucket_of, effect, IsHonestOutcome, Request, GetObject, AbortUpload, UploadRef, Committer, Magic, Reply, Page, PageEntry, Outcome, Answered, Retried, step, magic_prefix, MarkerPlace, RecordPlace, is_record, Listing, Deleting, walked_by, keys_on, last_of, page_after, Who, File, Script, Drawn, IsLegal, learn, files, file_key, record_key, record_text, file_record, Uploading, Uploaded, Creating, Sending, IsGone, upload_asks, upload_hears, Write, Recording, WriteOver, writing, write_asks, write_after, TaskAbort, TaskAbortOver, task_abort_asks, Setting, Operation, TheWrite, TheTaskCommit, TheTaskAbort, asks, tells, is_magic, is_staging, IsIn, HasBucket, changed_keys, Told, known, undoes, tell_driver, tell_attempt, at_event, at_key, IsAttempt, Facts, Fits, FitsWrite}
 use Rattle.job_protocol.specs.Prelude.{drawn_last, write_hears}
 use Rattle.job_spec.proofs.Common.{some_is, false_true, in_append, in_front, in_back, filter_in}
@@ -145,10 +145,7 @@ module _ {w : Script} (j : IsLegal w) (s : Scene) (there : HasBucket s.content w
 
 -- a request of an abort takes something back, or changes no key
 abort_takes : (w : Script) (b : Who) (t : TaskAbort) (r : Request) → task_abort_asks w b t ≡ Some r → (undoes r ≡ true) ⊎ (changed_keys r ≡ [])
-abort_takes w b (Sweeping (Listing keys)) r e = inr (ap changed_keys (sym (some_is e)))
-abort_takes w b (Sweeping (Deleting q qs)) r e = inl (ap undoes (sym (some_is e)))
-abort_takes w b (TaskAbortOver end) r e = absurd cc
-abort_takes w b _ r e = inl (ap undoes (sym (some_is e)))
+abort_takes w b t r h = grind arith
 
 module _ (g : Setting) (j : IsLegal g.script) (s : Scene) (there : HasBucket s.content g.script.dest.bucket) (m : Told) (b : Who) (d : IsAttempt g.script b) (op : Operation) (fits : Fits g.script g.minimum b m op) (r : Request) (asked : asks g b (known m b) op ≡ Some r) (o : Outcome) where
   abbrev w : Script
@@ -192,8 +189,7 @@ module _ (g : Setting) (j : IsLegal g.script) (s : Scene) (there : HasBucket s.c
   Unsent q = (learn w b (known m b) q o).publish_sent ≡ m.publish_sent b
 
   upload_unsent : (f : File) (u : Uploading) → Unsent (upload_asks w (known m b) f u)
-  upload_unsent f Creating = refl
-  upload_unsent f (Sending p ps) = refl
+  upload_unsent f u = grind arith
 
   write_unsent : is_magic w.committer ≡ true → (x : Write) → FitsWrite w g.minimum b (known m b) x → write_asks w b (known m b) x ≡ Some r → Unsent r
   write_unsent magic (writes.Uploads f fs u) h e = subst Unsent (some_is e) (upload_unsent f u)
@@ -206,8 +202,7 @@ module _ (g : Setting) (j : IsLegal g.script) (s : Scene) (there : HasBucket s.c
   writing_records (f ∷ fs) h = h
 
   uploaded_records : (f : File) (fs : List File) (u : Uploaded) → AreRecorded w t n b (f ∷ fs) → WriteRecords w t n b (uploaded w f fs u)
-  uploaded_records f fs IsGone h = λ e. absurd cc
-  uploaded_records f fs _ h = h
+  uploaded_records f fs u h = grind arith
 
   -- the record that it puts stands, where that is answered
   put_records : (x : Reply) → o ≡ Answered x → (f : File) (fs : List File) → write_asks w b (known m b) (Recording f fs) ≡ Some r → AreRecorded w t n b (f ∷ fs) → AreRecorded w t n b fs
@@ -229,9 +224,7 @@ module _ (g : Setting) (j : IsLegal g.script) (s : Scene) (there : HasBucket s.c
   sent_here = who_here m.publish_sent b _ b refl
 
   abort_unsent : (x : TaskAbort) → task_abort_asks w b x ≡ Some r → Unsent r
-  abort_unsent (Sweeping (Listing keys)) e = subst Unsent (some_is e) refl
-  abort_unsent (TaskAbortOver end) e = absurd cc
-  abort_unsent _ e = subst Unsent (some_is e) refl
+  abort_unsent x h = grind arith
 
   pub own_records : is_magic w.committer ≡ true → Records w s m b op → Records w t n b (tells g b op o)
   own_records magic h = by op fits asked h
@@ -260,8 +253,7 @@ module _ {w : Script} {minimum : ℕ} (j : IsLegal w) (s : Scene) {last : ℕ �
   later = driver_later j s facts.there r o m n a
 
   record_none : (c : Committer) (p : List ℕ) → changed_keys (record_request c w p) ≡ []
-  record_none Magic p = refl
-  record_none _ p = refl
+  record_none c p = grind arith
 
   -- it deletes no record whose upload lives
   pub sparing_left : ((f : File) → IsIn f (files w a) → Covers w s m t.operation a f) → (f : File) → IsIn f (files w a) → HasKey w s (record_key w a f) → IsRecorded w now told a f
@@ -292,13 +284,10 @@ module _ {w : Script} {minimum : ℕ} (j : IsLegal w) (s : Scene) {last : ℕ �
     still (inr k) = left f i k
 
     after_deleting : (all : List (List ℕ)) → (IsIn key all → Settled w now told a f) → After (deleting all)
-    after_deleting [] h = tt
-    after_deleting (k ∷ ks) h = h
+    after_deleting all h = grind arith
 
     after_emptying : (c : Committer) (all : List (List ℕ)) → (IsIn key all → Settled w now told a f) → After (emptying c all)
-    after_emptying Magic all h = after_deleting all h
-    after_emptying _ [] h = tt
-    after_emptying _ (p ∷ ps) h = tt
+    after_emptying c all h = grind arith
 
     after_aborting : (us : List UploadRef) (all : List (List ℕ)) → (IsIn key all → IsNamed w told us a f ⊎ Settled w now told a f) → After (aborting w.committer us all)
     after_aborting [] all h = after_emptying w.committer all (λ k. elim (h k) [ inl x ↦ absurd x.3 | inr x ↦ x ])

@@ -1,5 +1,5 @@
 -- In every run the records of files whose uploads live stand; so what a set names a record names too.
-use Rattle.std.proofs.Common.{◌≡◌, ℕ, ◌<◌, ◌≤◌, ◌^◌, ◌⊎◌, inl, inr, true, false, List, [], ◌∷◌, Option, Some, refl, sym, ap, subst, ◌∙◌}
+use Rattle.std.proofs.Common.{◌≡◌, ℕ, ◌<◌, ◌≤◌, ◌^◌, ◌⊎◌, inl, inr, true, false, List, [], ◌∷◌, Option, Some, refl, sym, ap, subst, ◌∙◌, arith}
 use Rattle.job_facts.specs.Prelude.{Scene, begins, answer, bucket_of, effect, IsHonestOutcome, Driver, Committer, Magic, Request, UploadRef, Outcome, Entry, Retried, fresh, magic_prefix, staged_set_path, StagedSetPlace, Who, File, Script, Drawn, Known, IsLegal, files, record_key, file_record, setup_asks, writing, write_start, write_start_by, task_commit_start, task_abort_start, Setting, Operation, TheSetup, TheWrite, TheTaskCommit, TheTaskAbort, TheCommit, who, asks, tells, Clean, TheClean, TheCheck, TheSparing, Reports, commit_of, step, Setup, Content, is_magic, is_staging, IsIn, changed_keys, Told, known, IsForeign, IsAttempt, Times}
 use Rattle.job_spec.proofs.Common.{some_is, none_some, none_or_some, false_true}
 use Rattle.pending_json.specs.Reading as reading
@@ -46,11 +46,7 @@ module _ (g : Setting) where
     sparing_is e = cc
 
     started : w.committer ≡ Magic → (s : Scene) (m : Told) (a : Who) → WriteRecords w s m a (write_start w a)
-    started magic s m a = subst (λ c. WriteRecords w s m a (write_start_by c (files w a))) (sym magic) (by (files w a) (λ f i. inl i))
-      where
-        by : (fs : List File) → AreRecorded w s m a fs → WriteRecords w s m a (writing fs)
-        by [] h = λ e. h
-        by (f ∷ fs) h = h
+    started h s m a = grind arith
 
     -- of an attempt that has sent its publishing request, all are recorded
     sent_records : (x : Stand) → Late g opening x → Stands x.seen.scene x.told x.attempts x.driver → (a : Who) → x.told.publish_sent a ≡ true → AreRecorded w x.seen.scene x.told a []
@@ -135,13 +131,7 @@ module _ (g : Setting) where
 
     -- while its set-up goes on there is nothing yet
     setup_stands : (x : Stand) → Early g opening x → (op : Operation) → x.driver ≡ Some op → (s : Scene) (n : ℕ) (r : Request) (o : Outcome) → let z = driver_saw g k x op n r o in Stands s z.told z.attempts z.driver
-    setup_stands x e op d s n r o = record { records = λ a mine y. absurd (none_some (e.none a) y); covers = λ u y. absurd (no_clean u y) }
-      where
-        no_clean : (u : Retried Sparing) → Some (tells g (who Driver) op o) ≡ Some (TheSparing u) → ⊥
-        no_clean u = elim e.setup [
-          | inl none ↦ absurd (none_some none d)
-          | inr v ↦ subst (λ q. Some (tells g (who Driver) q o) ≡ Some (TheSparing u) → ⊥) (some_is (sym v.1 ∙ d)) (λ y. absurd cc)
-        ]
+    setup_stands x h op g s n r o = grind arith
 
     strange_stands : (x : Stand) → Early g opening x ⊎ Late g opening x → (n : ℕ) (r : Request) (o : Outcome) → IsForeign w x.told.drawn r → Stands x.seen.scene x.told x.attempts x.driver → Stands (effect x.seen.scene r o) x.told x.attempts x.driver
     strange_stands x (inl e) n r o f old = record { records = λ a mine y. absurd (none_some (e.none a) y); covers = λ u y. absurd (elim e.setup [ inl none ↦ none_some none y | inr v ↦ no_clean (sym v.1 ∙ y) ]) }

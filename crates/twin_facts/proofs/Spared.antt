@@ -96,8 +96,7 @@ module _ (g : Setting) (j : IsLegal g.script) (shared : g.shared ≡ true) (k : 
       }
 
   not_over : (c : Committer) → sparing_start c ≡ SparingOver ends.Done → ⊥
-  not_over Magic e = absurd cc
-  not_over _ e = absurd cc
+  not_over c h = grind arith
 
   pub sparing_leaves : (es : List Entry) (x : Stand) → Runs g k opening es x → is_set x.driver ≡ true → (u : Stand) → SparesOn g k (begin g x BeginClean) u → (t : Retried Sparing) → u.driver ≡ Some (TheSparing t) → t.operation ≡ SparingOver ends.Done → SparingLeaves w x.seen.scene u.seen.scene
   sparing_leaves es x run set u on t d over =

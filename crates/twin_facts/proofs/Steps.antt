@@ -1,5 +1,5 @@
 -- What one entry of a side leaves: of its picks, of what stands where files are shown, and of the marker.
-use Rattle.std.proofs.Common.{◌≡◌, ℕ, ◌≤◌, ◌^◌, ◌⊎◌, inl, inr, ◌||◌, ◌&&◌, not, Bool, true, false, cond, List, Option, Some, None, refl, sym, ap, subst, ◌∙◌}
+use Rattle.std.proofs.Common.{◌≡◌, ℕ, ◌≤◌, ◌^◌, ◌⊎◌, inl, inr, ◌||◌, ◌&&◌, not, Bool, true, false, cond, List, Option, Some, None, refl, sym, ap, subst, ◌∙◌, arith}
 use Rattle.job_facts.specs.Prelude.{Content, Scene, answer, apply, effect, is_effective, IsHonestOutcome, Object, Driver, Request, PutObject, Mode, Replace, Append, Fail, Committer, Magic, Outcome, Answered, Entry, below, success_key, Retried, setup_asks, Script, IsLegal, keeps, partitions, wanted_at, wanted_paths, is_decided, mark_text, is_file_path, Sets, picks_of, Clean, Commit, Fetching, Marking, commit_asks, commit_tells, Setting, Operation, asks, TheSetup, TheCommit, TheClean, TheCheck, TheSparing, is_picking, who, is_driver, Seen, see, is_begun, is_marking, is_reading, IsIn, changed_keys, driver_entry, at_key, whole_of, Decides, FileStands, Wants, Commits, Times}
 use Rattle.job_protocol.specs.Prelude.{Path}
 use Rattle.job_spec.proofs.Common.{some_is, none_some, false_true, true_or_false, text_true}
@@ -62,18 +62,13 @@ pub record Leaves (g : Setting) (x z : Stand) (e : Entry) : Type 0 where
 -- ---- modes that keep what was there
 
 keeps_all : (c : Committer) (m : Mode) (dirs : List (List ℕ)) (q : List ℕ) → is_replace m ≡ false → keeps c m dirs q ≡ true
-keeps_all c Replace dirs q e = absurd (false_true e refl)
-keeps_all Magic Append dirs q e = refl
-keeps_all Magic Fail dirs q e = refl
-keeps_all _ _ dirs q e = refl
+keeps_all c m dirs q h = grind arith
 
 driver_begun : (w : Script) (k : Times) (s : Seen) (n : ℕ) (r : Request) (o : Outcome) → (see w k s (driver_entry n r o)).begun ≡ (s.begun || is_begun k.commit n)
-driver_begun w k s n r (Answered y) = refl
-driver_begun w k s n r _ = refl
+driver_begun w k s n r o = grind arith
 
 or_first : (a b : Bool) → (a || b) ≡ false → a ≡ false
-or_first true b e = absurd (false_true e refl)
-or_first false b e = refl
+or_first a b h = grind arith
 
 module _ (g : Setting) (j : IsLegal g.script) (shared : g.shared ≡ true) (k : Times) (opening : Content) (is_opening : IsOpening g opening) (keep : is_replace g.script.mode ≡ false) where
   abbrev w : Script
@@ -95,14 +90,8 @@ module _ (g : Setting) (j : IsLegal g.script) (shared : g.shared ≡ true) (k : 
         marks = λ a b c. absurd (false_true unmarking b);
       }
 
-  record_no_mark : (c : Committer) (p : List ℕ) → is_marking w (record_request c w p) ≡ false
-  record_no_mark Magic p = refl
-  record_no_mark _ p = refl
-
   sparing_no_mark : (c : Sparing) (r : Request) → sparing_asks w c ≡ Some r → is_marking w r ≡ false
-  sparing_no_mark (Reading named p ps all) r e = ap (is_marking w) (sym (some_is e)) ∙ record_no_mark w.committer p
-  sparing_no_mark (SparingOver end) r e = absurd cc
-  sparing_no_mark _ r e = ap (is_marking w) (sym (some_is e))
+  sparing_no_mark c r h = grind arith
 
   -- ---- an entry of the commit
 
@@ -131,11 +120,7 @@ module _ (g : Setting) (j : IsLegal g.script) (shared : g.shared ≡ true) (k : 
 
     -- until all sets are read nothing is decided
     early : is_fetching w c ≡ true → is_decided w s.picks ≡ false
-    early z = by c refl z
-      where
-        by : (d : Commit) → d ≡ c → is_fetching w d ≡ true → is_decided w s.picks ≡ false
-        by (Fetching sets m) v z = undecided w s.picks sets (subst (Decides w g.minimum x.told.publish_sent x.told.drawn) (sym v) at.decides) (subst (Unread w s.picks) (sym v) i.unread)
-        by _ v z = absurd (false_true refl z)
+    early h = grind (arith, is_fetching, undecided, Unread)
 
     picks_now : is_fetching w c ≡ false → u.picks ≡ s.picks
     picks_now y = picks_same g opening j k s x.told n begun unclean cleans few l.hold c i r asked y o

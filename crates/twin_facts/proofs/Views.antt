@@ -1,5 +1,5 @@
 -- What readers of a destination of two jobs are shown is kept by each step of either.
-use Rattle.std.proofs.Common.{◌≡◌, ℕ, ◌⊎◌, inl, inr, not, Bool, true, false, cond, List, Option, Some, None, refl, sym, ap, subst, ◌∙◌}
+use Rattle.std.proofs.Common.{◌≡◌, ℕ, ◌⊎◌, inl, inr, not, Bool, true, false, cond, List, Option, Some, None, refl, sym, ap, subst, ◌∙◌, arith}
 use Rattle.job_facts.specs.Prelude.{option_map, Content, Scene, bucket_of, effect, is_effective, Object, Request, Outcome, Slow, RequestLost, Entry, success_key, Script, IsLegal, Picks, wanted_at, is_decided, is_picked, is_clash, mark_text, is_file_path, view, Commit, Marking, Setting, TheCommit, is_driver, is_marking, clean_of, IsIn, HasBucket, changed_keys, whole_of, Times}
 use Rattle.job_spec.proofs.Common.{and_parts, not-true, some_is, none_some, none_or_some, false_true, true_or_false}
 use Rattle.job_protocol.specs.Prelude.{Path}
@@ -40,18 +40,11 @@ pub record Views (g h : Setting) (d : Path) (opening c : Content) (x y : Stand) 
   pub others : SideViews h d opening c y (count g x) second
 
 pub views_swap : {g h : Setting} {d : Path} {opening c : Content} {x y : Stand} {first second : Bool} → Views g h d opening c x y first second → Views h g d opening c y x second first
-views_swap v = record {
-  one = λ q path. elim (v.one q path) [ inl same ↦ inl same | inr z ↦ inr (z.0, elim z.1 [ inl a ↦ inr a | inr a ↦ inl a ], z.2) ];
-  mine = v.others;
-  others = v.mine;
-}
+views_swap e = grind arith
 
 -- what counts is decided, and wanted
 counted_is : (w : Script) (p : Picks) (q b : List ℕ) → counted w p q ≡ Some b → (is_decided w p ≡ true) × (wanted_at w p q ≡ Some b)
-counted_is w p q b c = elim (true_or_false (is_decided w p)) [
-  | inl i ↦ (i, sym (ap (λ a. cond a (wanted_at w p q) None) i) ∙ c)
-  | inr i ↦ absurd (none_some (ap (λ a. cond a (wanted_at w p q) None) i) c)
-]
+counted_is w p q b h = grind arith
 
 -- ---- one entry of the first side
 
@@ -99,12 +92,7 @@ module _ (g h : Setting) (j : IsLegal g.script) (opening : Content) (x y z : Sta
 
   -- what does not take effect, or does not touch it, leaves it
   mark_left : ((is_effective e.outcome ≡ true) → Touches d e.request → ⊥) → mark_at d u.content ≡ mark_at d s.content
-  mark_left = left_by e.outcome
-    where
-      left_by : (o : Outcome) → ((is_effective o ≡ true) → Touches d e.request → ⊥) → mark_at d (effect s e.request o).content ≡ mark_at d s.content
-      left_by Slow free = refl
-      left_by RequestLost free = refl
-      left_by o free = stranger_same w s there e.request o (success_key d.key) (λ b k. free refl (b, k))
+  mark_left = grind (arith, mark_at, stranger_same)
 
   -- ---- its own side
 
@@ -200,10 +188,7 @@ module _ {g h : Setting} {d : Path} {opening c : Content} {x y : Stand} {first s
   shown_by e q path o is = shown_is e q path ∙ ap (λ t. option_map (λ (b : Object). b.bytes) t) is
 
   unbegun_none : (f : Setting) (z : Stand) → (z.seen.begun ≡ false → (t : ℕ) → z.seen.picks t ≡ None) → (q b : List ℕ) → counted f.script z.seen.picks q ≡ Some b → z.seen.begun ≡ true
-  unbegun_none f z unpicked q b has = elim (true_or_false z.seen.begun) [
-    | inl begun ↦ begun
-    | inr no_so ↦ (let z = wanted_of f.script z.seen.picks q b (counted_is f.script z.seen.picks q b has).1 in absurd (none_some (unpicked no_so z.from.task) z.from.picked))
-  ]
+  unbegun_none f z h q b g = grind arith
 
   pub views_only : (q b : List ℕ) → view d c q ≡ Some b → (view d opening q ≡ Some b) ⊎ (Gives g.script x.seen q b ⊎ Gives h.script y.seen q b)
   views_only q b has =

@@ -1,5 +1,5 @@
 -- Where the entries of a commit at a shared destination lead, by the reports that it began with: to its check, or behind that.
-use Rattle.std.proofs.Common.{◌≡◌, ℕ, Bool, true, false, List, [], ◌∷◌, ◌++◌, append_assoc, append-nil, Option, Some, None, refl, sym, ap, subst, ◌∙◌}
+use Rattle.std.proofs.Common.{◌≡◌, ℕ, Bool, true, false, List, [], ◌∷◌, ◌++◌, append_assoc, append-nil, Option, Some, None, refl, sym, ap, subst, ◌∙◌, arith}
 use Rattle.job_facts.specs.Prelude.{Driver, Mode, Fail, Append, Replace, Entry, Follows, run, Retried, wants_of, Script, Known, CommitEnd, Commit, CommitOver, commit_start, commit_asks, commit_tells, commit_over, Setting, Operation, Running, TheCommit, TheCheck, Reports, who, asks, tells, wants, advance, over}
 use Rattle.job_spec.proofs.Common.{run_more, follows_more, false_true}
 use Rattle.job_model.specs.declared.ends.CheckEnd.{CheckEnd}
@@ -51,20 +51,10 @@ module _ (g : Setting) (shared : g.shared ≡ true) (r : Reports) where
   cleared_now fails none es t checked _ over = (record { fails = fails; none = none; checked = checked }, refl)
 
   at_once : (m : Mode) → w.mode ≡ m → (o : Option ℕ) → r.missing ≡ o → IsCleared m o w r.attempts [] → Behind w r [] [] (commit_start w o)
-  at_once m mode o missing cleared = record {
-    checks = [];
-    entries = refl;
-    cleared = subst (λ (v : Mode). IsCleared v r.missing w r.attempts []) (sym mode) (subst (λ q. IsCleared m q w r.attempts []) (sym missing) cleared);
-    follows = tt;
-    leads = ap (commit_start w) missing;
-  }
+  at_once m h o g e = grind arith
 
   pub begins : (b : Bool) → b ≡ true → (m : Mode) → w.mode ≡ m → (o : Option ℕ) → r.missing ≡ o → IsAt w r [] [] (commit_by g b m r o)
-  begins false e m mode o missing = absurd (false_true refl e)
-  begins true e Fail mode None missing = cleared_now mode missing [] (checking w r.attempts) (tt, refl) (check_start w r.attempts) refl
-  begins true e Fail mode (Some t) missing = at_once Fail mode (Some t) missing refl
-  begins true e Append mode o missing = at_once Append mode o missing refl
-  begins true e Replace mode o missing = at_once Replace mode o missing refl
+  begins b h m g o e = grind arith
 
   -- ---- one more entry
 
@@ -103,16 +93,10 @@ module _ (g : Setting) (shared : g.shared ≡ true) (r : Reports) where
 
 module _ (w : Script) (r : Reports) (es own : List Entry) where
   pub commit_ended : (e : CommitEnd) (op : Operation) → IsAt w r es own op → over op ≡ Some (ends.Commit e) → Behind w r es own (CommitOver e) × (op ≡ TheCommit (CommitOver e))
-  commit_ended e (TheCommit c) h o = let is = commit_back c e o in (subst (Behind w r es own) is h, ap TheCommit is)
-  commit_ended e (TheCheck t) h o = let m = end_of ends.Check (check_over t.operation) (ends.Commit e) o in let no : ends.Check m.0 ≡ ends.Commit e = m.2 in absurd cc
-  commit_ended e _ h o = absurd h
+  commit_ended e op h g = grind arith
 
   check_same : {a b : CheckEnd} → ends.Check a ≡ ends.Check b → a ≡ b
   check_same e = cc
 
   pub check_ended : (e : CheckEnd) (op : Operation) → IsAt w r es own op → over op ≡ Some (ends.Check e) → (t : Retried Check) × Within w r es t × (t.operation ≡ CheckOver e)
-  check_ended e (TheCommit c) h o = let m = end_of ends.Commit (commit_over c) (ends.Check e) o in let no : ends.Commit m.0 ≡ ends.Check e = m.2 in absurd cc
-  check_ended e (TheCheck t) h o =
-      let m = end_of ends.Check (check_over t.operation) (ends.Check e) o in
-      (t, h.0, over_is w t.operation e (m.1 ∙ ap (λ v. Some v) (check_same m.2)))
-  check_ended e _ h o = absurd h
+  check_ended e op h g = grind arith

@@ -1,5 +1,5 @@
 -- How the check before a commit ends, by its entries alone.
-use Rattle.std.proofs.Common.{◌≡◌, ℕ, zero, suc, ◌⊎◌, inl, inr, Bool, true, false, cond, List, [], ◌∷◌, ◌++◌, Option, Some, None, refl, sym, ap, subst, ◌∙◌, append-nil, append_assoc}
+use Rattle.std.proofs.Common.{◌≡◌, ℕ, zero, suc, ◌⊎◌, inl, inr, Bool, true, false, cond, List, [], ◌∷◌, ◌++◌, Option, Some, None, refl, sym, ap, subst, ◌∙◌, append-nil, append_assoc, arith}
 use Rattle.job_facts.specs.Prelude.{Request, Reply, Page, PageEntry, Outcome, Answered, Slow, Entry, Follows, run, Retried, Item, Got, WornOut, wants_of, step, unanswered_by, worn_in, is_zero, WornFirst, Walked, More, Whole, keys_on, Who, Script, partitions, checks_all, paths_of, first_shown}
 use Rattle.retries.specs.Prelude.{wears}
 use Rattle.job_spec.proofs.Common.{counted_first, some_is, none_some}
@@ -19,13 +19,10 @@ step_by : {M : Type 0} (retries : ℕ) (after : M → Item → M) (t : Retried M
 step_by {M} retries after t o P heard still worn = by o heard
   where
     spare : (b : Bool) (n : ℕ) → P (is_zero n) (unanswered_by retries after t.operation b n).operation
-    spare b zero = worn
-    spare b (suc n) = still
+    spare b n = grind arith
 
     by : (o : Outcome) → ((x : Reply) → o ≡ Answered x → P false (after t.operation (Got x t.repeated))) → P (wears t o) (step retries after t o).operation
-    by (Answered x) heard = heard x refl
-    by Slow heard = spare t.repeated t.spare
-    by _ heard = spare true t.spare
+    by o h = grind arith
 
 -- ---- ends of the check
 
@@ -37,36 +34,15 @@ module _ (w : Script) where
   Seen es (CheckOver (Conflict p)) = (before : List Entry) × (e : Entry) × (es ≡ before ++ e ∷ []) × ShownBy w p e
   Seen es _ = Unit {0}
 
-  seen_probing : (es : List Entry) (ds : List (List ℕ)) → Seen es (probing ds)
-  seen_probing es [] = tt
-  seen_probing es (d ∷ ds) = tt
-
   seen_start : (reported : List Who) → Seen [] (check_start w reported)
-  seen_start reported = by (checks_all w.committer w.mode) (checks_partitions w.committer w.mode)
-    where
-      by : (a b : Bool) → Seen [] (check_by a b (partitions (paths_of (files_of_all w reported))))
-      by true b = tt
-      by false true = seen_probing [] (partitions (paths_of (files_of_all w reported)))
-      by false false = tt
+  seen_start reported = grind arith
 
   module _ (es : List Entry) (e : Entry) where
-    seen_looked : (keys : List (List ℕ)) (page : List PageEntry) (more : Bool) → check_asks w (Looking keys) ≡ Some e.request → e.outcome ≡ Answered (Page page more)
-        → (o : Option (List ℕ)) → first_shown w (keys_on page) ≡ o → (x : Walked (List ℕ)) → Seen (es ++ e ∷ []) (looked o x)
-    seen_looked keys page more asked is (Some p) shown x = (es, e, refl, (page, more, is, inl (keys, sym (some_is asked), shown)))
-    seen_looked keys page more asked is None shown (More all) = tt
-    seen_looked keys page more asked is None shown (Whole all) = tt
-
     seen_hears : (c : Check) → check_asks w c ≡ Some e.request → (r : Reply) → e.outcome ≡ Answered r → Seen (es ++ e ∷ []) (check_hears w c r)
-    seen_hears (Looking keys) asked (Page page more) is = seen_looked keys page more asked is (first_shown w (keys_on page)) refl (walked keys (Page page more))
-    seen_hears (Looking keys) asked _ is = tt
-    seen_hears (Probing d ds) asked (Page [] more) is = seen_probing (es ++ e ∷ []) ds
-    seen_hears (Probing d ds) asked (Page (x ∷ xs) more) is = (es, e, refl, (x ∷ xs, more, is, inr (sym (some_is asked), x, xs, refl)))
-    seen_hears (Probing d ds) asked _ is = tt
-    seen_hears (CheckOver end) asked r is = absurd (none_some refl asked)
+    seen_hears c h r g = grind arith
 
     seen_still : (c : Check) → check_asks w c ≡ Some e.request → Seen (es ++ e ∷ []) c
-    seen_still (CheckOver end) asked = absurd (none_some refl asked)
-    seen_still _ asked = tt
+    seen_still c h = grind arith
 
   -- a check that is over sends no more
   over_stops : (t : Retried Check) (end : CheckEnd) (es : List Entry) → t.operation ≡ CheckOver end → Follows (wants_of (check_asks w)) (next w) t es → es ≡ []
@@ -92,8 +68,7 @@ module _ (w : Script) where
       refl
 
   pub over_is : (c : Check) (end : CheckEnd) → check_over c ≡ Some end → c ≡ CheckOver end
-  over_is (CheckOver x) end e = ap CheckOver (some_is e)
-  over_is _ end e = absurd (none_some refl e)
+  over_is c end h = grind arith
 
   pub checks_end : (reported : List Who) (es : List Entry) (t : Retried Check) → Checked w reported es t → (end : CheckEnd) → t.operation ≡ CheckOver end → (worn : Option Request) × WornFirst w.retries es worn × CheckIs w es worn end
   checks_end reported es t (f, leads) end is =

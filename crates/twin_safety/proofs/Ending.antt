@@ -1,5 +1,5 @@
 -- How the commit of a job whose destination others share ends, in every run among strangers.
-use Rattle.std.proofs.Common.{◌≡◌, ℕ, ◌⊎◌, inl, inr, Bool, true, false, cond, List, [], ◌∷◌, ◌++◌, Option, Some, None, refl, sym, ap, subst, ◌∙◌}
+use Rattle.std.proofs.Common.{◌≡◌, ℕ, ◌⊎◌, inl, inr, Bool, true, false, cond, List, [], ◌∷◌, ◌++◌, Option, Some, None, refl, sym, ap, subst, ◌∙◌, arith}
 use Rattle.job_facts.specs.Prelude.{Content, Driver, Request, Outcome, Entry, run, Retried, Script, IsLegal, CommitEnd, Commit, CommitOver, Setting, Operation, TheSetup, TheWrite, TheTaskCommit, TheTaskAbort, TheCommit, TheClean, TheCheck, TheSparing, Reports, who, asks, tells, is_begun, entry, driver_entry, strange_entry, Times}
 use Rattle.job_spec.proofs.Common.{append-nil, filter-append, false_true}
 use Rattle.job_protocol.specs.Operations.{commit_of}
@@ -39,25 +39,13 @@ module _ (g : Setting) (j : IsLegal g.script) (shared : g.shared ≡ true) (k : 
 
   -- nothing was sent for it yet, or it has begun
   stood : (d : Option Operation) (both own : List Entry) → Stands d both own → (both ≡ []) ⊎ ((is_set d ≡ true) × (is_just_set d ≡ false))
-  stood None both own h = inl h
-  stood (Some (TheSetup u)) both own h = inl h
-  stood (Some (TheWrite t)) both own h = absurd h
-  stood (Some (TheTaskCommit t)) both own h = absurd h
-  stood (Some (TheTaskAbort t)) both own h = absurd h
-  stood (Some _) both own h = inr (refl, refl)
+  stood d both own h = grind arith
 
   stands_at : (op : Operation) (r : Reports) (both own : List Entry) → IsAt w r both own op → Stands (Some op) both own
-  stands_at (TheCommit c) r both own h = (r, h)
-  stands_at (TheCheck t) r both own h = (r, h)
-  stands_at _ r both own h = absurd h
+  stands_at op r both own h = grind arith
 
   begins_on : (es : List Entry) (x : Stand) (b : Beginning) → MayBegin g x b → Stands x.driver (commit_entries k es) x.commit → Stands (begin g x b).driver (commit_entries k es) (begin g x b).commit
-  begins_on es x BeginSetup may h = elim (stood x.driver (commit_entries k es) x.commit h) [ inl e ↦ e | inr s ↦ absurd (elim may [ inl a ↦ false_true a s.0 | inr a ↦ false_true s.1 a.0 ]) ]
-  begins_on es x (BeginCommit reports) may h =
-      subst (λ l. Stands (Some (commit_of g reports)) l []) (sym (elim (stood x.driver (commit_entries k es) x.commit h) [ inl e ↦ e | inr s ↦ absurd (false_true s.1 may) ]))
-      (stands_at (commit_of g reports) reports [] [] (begins g shared reports g.shared shared w.mode refl reports.missing refl))
-  begins_on es x BeginClean may h = clean_of_so g (λ op. Stands (Some op) (commit_entries k es) x.commit) tt tt
-  begins_on es x _ may h = h
+  begins_on es x b h g = grind (arith, stood, stands_at, begins, clean_of_so)
 
   -- ---- its own entries
 

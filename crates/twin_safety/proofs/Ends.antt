@@ -1,5 +1,5 @@
 -- How the commit at a shared destination ends in a run, and the check before it.
-use Rattle.std.proofs.Common.{◌≡◌, ℕ, ◌+◌, inl, inr, not, ◌&&◌, ◌||◌, nat_le, Bool, true, false, cond, List, [], ◌∷◌, Option, Some, None, refl, sym, ap, subst, ◌∙◌}
+use Rattle.std.proofs.Common.{◌≡◌, ℕ, ◌+◌, inl, inr, not, ◌&&◌, ◌||◌, nat_le, Bool, true, false, cond, List, [], ◌∷◌, Option, Some, None, refl, sym, ap, subst, ◌∙◌, arith}
 use Rattle.job_spec.proofs.Common.{false_true}
 use Rattle.job_steps.specs.Prelude.{Content, Actor, Driver, Request, Entry, run, Follows, WornFirst, IsLegal, Script, Known, OpEnd, CommitEnd, CommitOver, commit_start, commit_tells, Setting, Operation, TheCommit, commit_of, wants, advance, over, is_begun, same_actor, Doing, since, by_actor, known_then, CommitEnded, seen_until, IsOpening, Play, Closes, happen, Reachable, IsRun, operation_of, times, Times, has_cleaned}
 use Rattle.job_facts.specs.Prelude.{Fail, Reports, is_driver, commit_due}
@@ -22,8 +22,7 @@ use Rattle.twin_safety.proofs.Behind.{Behind, IsAt, led, commit_ended, check_end
 -- ---- the entries of the commit, by events
 
 same_driver : (a : Actor) → same_actor a Driver ≡ is_driver a
-same_driver Driver = refl
-same_driver _ = refl
+same_driver a = grind arith
 
 -- before an abort or clean those of its event and of later ones are all of the driver's since it began
 pub entries_so : (k : Times) (n : ℕ) → k.commit ≡ Some n → (es : List Entry) → has_cleaned k.clean es ≡ false → commit_entries k es ≡ since n (by_actor Driver es)
@@ -35,10 +34,7 @@ entries_so k n is (e ∷ es) clean =
   where
     by : (a c more b : Bool) → nat_le n e.event ≡ b → ((a && c) || more) ≡ false → (more ≡ false → commit_entries k es ≡ since n (by_actor Driver es))
         → cond (a && (b && not c)) (e ∷ commit_entries k es) (commit_entries k es) ≡ since n (cond a (e ∷ by_actor Driver es) (by_actor Driver es))
-    by false c more b at h rest = rest h
-    by true true more b at h rest = absurd (false_true h refl)
-    by true false more true at h rest = ap (λ l. e ∷ l) (rest h) ∙ ap (λ v. cond v (e ∷ since n (by_actor Driver es)) (since n (by_actor Driver es))) (sym at)
-    by true false more false at h rest = rest h ∙ ap (λ v. cond v (e ∷ since n (by_actor Driver es)) (since n (by_actor Driver es))) (sym at)
+    by a c more b h g e = grind arith
 
 module _ (g : Setting) (shared : g.shared ≡ true) (opening : Content) (j : IsLegal g.script) (is_opening : IsOpening g opening) (x : Play) (run_x : Reachable g opening x) (idle : x.now ≡ None) where
   abbrev w : Script

@@ -132,18 +132,13 @@ module _ (g : Setting) (shared : g.shared ≡ true) (opening : Content) (j : IsL
     needs_so = elim sort [ inl a ↦ ap (needs_set Driver) a | inr c ↦ ap (needs_set Driver) c ]
 
     not_new : is_new (b.at.live.state Driver).stage ≡ false
-    not_new =
-        ap (λ (p : Past). is_new (p.state Driver).stage) ((told_all g opening b.at b.happened).closed b.may.idle).0
-        ∙ sym (ap (λ v. v && is_new (b.at.past.state Driver).stage) needs_so) ∙ (begins_at g b.at b.event d.op b.may b.begins).set
+    not_new = grind (arith, told_all, needs_so, begins_at)
 
     pub set_from : is_set run_from.stand.driver ≡ true
     set_from = run_from.set_up not_new
 
     opened_as : (ev : Event) (op : Op) → IsBegin ev Driver op → (op ≡ ops.Abort) ⊎ (op ≡ ops.Clean) → operation_of (open_running g b.at ev Driver) ≡ Some (clean_of g)
-    opened_as ev op (inl is) (inl a) = ap (λ v. operation_of (open_running g b.at v Driver)) (is ∙ ap (λ o. Do Driver o) a)
-    opened_as ev op (inl is) (inr c) = ap (λ v. operation_of (open_running g b.at v Driver)) (is ∙ ap (λ o. Do Driver o) c)
-    opened_as ev op (inr is) (inl a) = ap (λ v. operation_of (open_running g b.at v Driver)) (is ∙ ap (λ o. Start Driver o) a)
-    opened_as ev op (inr is) (inr c) = ap (λ v. operation_of (open_running g b.at v Driver)) (is ∙ ap (λ o. Start Driver o) c)
+    opened_as ev op h g = grind arith
 
     pub goes_from : Going run_from.stand (happen g b.at (Opens b.event))
     goes_from = record {

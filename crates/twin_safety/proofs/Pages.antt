@@ -1,5 +1,5 @@
 -- The requests of a check all ask for a page, and the first of the commit behind it in the mode fail does not: so two partings of their entries are one.
-use Rattle.std.proofs.Common.{◌≡◌, ℕ, Bool, true, false, cond, List, [], ◌∷◌, ◌++◌, nat_lt, length, Option, Some, None, refl, sym, ap, subst, ◌∙◌}
+use Rattle.std.proofs.Common.{◌≡◌, ℕ, Bool, true, false, cond, List, [], ◌∷◌, ◌++◌, nat_lt, length, Option, Some, None, refl, sym, ap, subst, ◌∙◌, arith}
 use Rattle.job_facts.specs.Prelude.{Committer, Magic, Mode, Fail, Request, ListPage, Entry, Follows, Retried, wants_of, Script, Who, CommitEnd, Fetching, commit_start, commit_asks, commit_tells, completing, replaced, replacing, decided, picks_of, set_request, same_path, dealt, Turn, all_commits}
 use Rattle.job_spec.proofs.Common.{some_is, none_some}
 use Rattle.job_protocol.specs.Rechecks.{Check, CheckOver, check_asks}
@@ -24,8 +24,7 @@ NoPage (e ∷ es) = is_page e.request ≡ false
 
 module _ (w : Script) where
   asks_page : (c : Check) (r : Request) → check_asks w c ≡ Some r → is_page r ≡ true
-  asks_page (CheckOver end) r e = absurd (none_some refl e)
-  asks_page _ r e = ap is_page (sym (some_is e))
+  asks_page c r h = grind arith
 
   check_pages : (t : Retried Check) (es : List Entry) → Follows (wants_of (check_asks w)) (next w) t es → AllPages es
   check_pages t [] f = tt
@@ -37,35 +36,11 @@ module _ (w : Script) where
 
   -- ---- of the commit
 
-  reads_no_page : (c : Committer) (t : ℕ) → is_page (set_request c w t) ≡ false
-  reads_no_page Magic t = refl
-  reads_no_page _ t = refl
-
   none_replaced : (c : Committer) → replaced c Fail w (picks_of []) ≡ []
-  none_replaced Magic = refl
-  none_replaced _ = refl
-
-  completes_no_page : (xs : List Turn) (r : Request) → commit_asks w (completing [] xs []) ≡ Some r → is_page r ≡ false
-  completes_no_page [] r e = ap is_page (sym (some_is e))
-  completes_no_page (x ∷ xs) r e = ap is_page (sym (some_is e))
-
-  decided_no_page : w.mode ≡ Fail → (o : Option CommitEnd) (r : Request) → commit_asks w (decided w [] o) ≡ Some r → is_page r ≡ false
-  decided_no_page mode (Some end) r e = absurd (none_some refl e)
-  decided_no_page mode None r e =
-      let none : replaced w.committer w.mode w (picks_of []) ≡ [] = ap (λ m. replaced w.committer m w (picks_of [])) mode ∙ none_replaced w.committer in
-      completes_no_page (dealt w.lanes (length (all_commits []))) r (sym (ap (λ l. commit_asks w (replacing w [] l)) none) ∙ e)
-
-  starts_no_page : w.mode ≡ Fail → (missing : Option ℕ) (r : Request) → commit_asks w (commit_start w missing) ≡ Some r → is_page r ≡ false
-  starts_no_page mode (Some t) r e = absurd (none_some refl e)
-  starts_no_page mode None r e = by (nat_lt 0 w.tasks) e
-    where
-      by : (b : Bool) → commit_asks w (cond b (Fetching [] 0) (decided w [] (same_path w (picks_of [])))) ≡ Some r → is_page r ≡ false
-      by true e = ap is_page (sym (some_is e)) ∙ reads_no_page w.committer 0
-      by false e = decided_no_page mode (same_path w (picks_of [])) r e
+  none_replaced c = grind arith
 
   no_page : w.mode ≡ Fail → (missing : Option ℕ) (es : List Entry) → Follows (commit_asks w) (commit_tells w) (commit_start w missing) es → NoPage es
-  no_page mode missing [] f = tt
-  no_page mode missing (e ∷ es) f = starts_no_page mode missing e.request f.0
+  no_page h missing es g = grind arith
 
 -- ---- one parting
 

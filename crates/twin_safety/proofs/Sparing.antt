@@ -1,5 +1,5 @@
 -- How an abort or clean at a shared destination ends, by its own entries.
-use Rattle.std.proofs.Common.{◌≡◌, ℕ, ◌⊎◌, inl, inr, true, false, List, [], ◌∷◌, ◌++◌, drop, Option, Some, None, refl, sym, ap, subst, ◌∙◌}
+use Rattle.std.proofs.Common.{◌≡◌, ℕ, ◌⊎◌, inl, inr, true, false, List, [], ◌∷◌, ◌++◌, drop, Option, Some, None, refl, sym, ap, subst, ◌∙◌, arith}
 use Rattle.job_facts.specs.Prelude.{is_some, option_map, filter, is_record, Actor, Committer, Magic, Request, UploadRef, Reply, Entry, run, Follows, Retried, fresh, step, spent_in, WornFirst, Script, Known, CleanEnd, Walked, More, Whole, Setting, Running, TheSparing, wants, advance, over, is_fault, spare_of, CleanIs}
 use Rattle.job_spec.specs.Prelude.{ClusterNames}
 use Rattle.job_spec.proofs.Common.{first_spent, faults, none_some, false_true}
@@ -19,62 +19,39 @@ Over (SparingOver end) = Ends end
 Over _ = Unit {0}
 
 deleting_so : (ks : List (List ℕ)) → Over (deleting ks)
-deleting_so [] = inr refl
-deleting_so (k ∷ ks) = tt
-
-emptying_so : (c : Committer) (all : List (List ℕ)) → Over (emptying c all)
-emptying_so Magic all = deleting_so all
-emptying_so _ [] = inr refl
-emptying_so _ (p ∷ ps) = tt
+deleting_so ks = grind arith
 
 aborting_so : (c : Committer) (us : List UploadRef) (all : List (List ℕ)) → Over (aborting c us all)
-aborting_so c [] all = emptying_so c all
-aborting_so c (u ∷ us) all = tt
+aborting_so c us all = grind arith
 
 reading_so : (c : Committer) (named : List UploadRef) (ps all : List (List ℕ)) → Over (reading_on c named ps all)
-reading_so c named [] all = aborting_so c named all
-reading_so c named (p ∷ ps) all = tt
+reading_so c named ps all = grind arith
 
 walking_so : (c : Committer) (x : Walked (List ℕ)) → Over (walking c x)
-walking_so c (More keys) = tt
-walking_so c (Whole keys) = reading_so c [] (filter is_record keys) keys
+walking_so c x = grind arith
 
 naming_so : (c : Committer) (r : Reply) → Over (naming c r)
-naming_so c (ClusterNames paths) = reading_so c [] paths paths
-naming_so c _ = tt
+naming_so c r = grind arith
 
 start_so : (c : Committer) → Over (sparing_start c)
-start_so Magic = tt
-start_so _ = tt
+start_so c = grind arith
 
 heard_so : (w : Script) (c : Sparing) (r : Reply) → Over c → Over (sparing_hears w c r)
-heard_so w (Walking keys) r h = walking_so w.committer (walked keys r)
-heard_so w Naming r h = naming_so w.committer r
-heard_so w (Reading named p ps all) r h = reading_so w.committer (named ++ names r) ps all
-heard_so w (Aborting u us all) r h = aborting_so w.committer us all
-heard_so w (Deleting k ks) r h = deleting_so (drop 1000 (k ∷ ks))
-heard_so w (Removing p ps) r h = elim ps as (λ l. Over (removing l)) [ [] ↦ inr refl | q ∷ qs ↦ tt ]
-heard_so w (SparingOver end) r h = h
+heard_so w c r h = grind (arith, walking_so, naming_so, reading_so, aborting_so, deleting_so)
 
 run_over : (w : Script) (t : Retried Sparing) (es : List Entry) → Over t.operation → Over (run (step w.retries (sparing_after w)) t es).operation
 run_over w t [] h = h
 run_over w t (e ∷ es) h =
     run_over w (step w.retries (sparing_after w) t e.outcome) es (step_so w.retries (sparing_after w) t e.outcome Over (λ x a. heard_so w t.operation x h) (λ n. h) (λ n. inl refl))
 
-end_same : {d e : CleanEnd} → Some (ends.Clean d) ≡ Some (ends.Clean e) → d ≡ e
-end_same e = cc
-
 over_so : (c : Sparing) → Over c → (e : CleanEnd) → option_map ends.Clean (sparing_over c) ≡ Some (ends.Clean e) → Ends e
-over_so (SparingOver end) h e is = subst Ends (end_same is) h
-over_so _ h e is = absurd (none_some refl is)
+over_so c h e g = grind arith
 
 pub over_done : (c : Sparing) (e : CleanEnd) → option_map ends.Clean (sparing_over c) ≡ Some (ends.Clean e) → c ≡ SparingOver e
-over_done (SparingOver end) e is = ap SparingOver (end_same is)
-over_done _ e is = absurd (none_some refl is)
+over_done c e h = grind arith
 
 fault_is : (e : CleanEnd) → is_fault (Some (ends.Clean e)) ≡ true → e ≡ cleans.StoreFault
-fault_is cleans.StoreFault h = refl
-fault_is _ h = absurd (false_true refl h)
+fault_is e h = grind arith
 
 -- ---- by its entries
 
@@ -98,13 +75,10 @@ module _ (g : Setting) (a : Actor) where
     where
       -- nothing has worn out as it begins
       fine : (c : Committer) → is_fault (option_map ends.Clean (sparing_over (sparing_start c))) ≡ false
-      fine Magic = refl
-      fine _ = refl
+      fine c = grind arith
 
       ends_so : Ends e
       ends_so = over_so (run (step g.script.retries (sparing_after g.script)) first es).operation (run_over g.script first es (start_so g.script.committer)) e (sym (ap over (sparing_run k first es)) ∙ is)
 
       by : (worn : Option Request) → is_fault (Some (ends.Clean e)) ≡ is_some worn → Ends e → CleanIs worn e
-      by (Some r) h d = fault_is e h
-      by None h (inl d) = absurd (false_true h (ap (λ v. is_fault (Some (ends.Clean v))) d))
-      by None h (inr d) = d
+      by worn h g = grind arith

@@ -114,8 +114,7 @@ turn_read First count is = rw (number_in-decimal 1 100000 count is.0 is.1 (lit< 
 turn_read Second count is = rw (number_in-decimal 1 100000 count is.0 is.1 (lit< tt)) refl
 
 side_plain : (side : Side) → IsWord (side_word side)
-side_plain First = refl
-side_plain Second = refl
+side_plain side = grind arith
 
 turn_words : (turn : TwinTurn) → IsTurn turn → IsLine (turn_line turn)
 turn_words turn is = let most = is.1 in (side_plain turn.side, (decimal_word turn.count (omega (arith, most)), tt))
@@ -181,8 +180,7 @@ order_again first second order is h k =
     rw (order_lines order is, a.read) (ap (λ (l : List TwinTurn). Ok l) a.turns)
 
 other_turn : (side : Side) (digits : List ℕ) → IsOther (joined (side_word side ∷ digits ∷ []))
-other_turn First digits = refl
-other_turn Second digits = refl
+other_turn side digits = grind arith
 
 other_turns : (order : List TwinTurn) → AllByRecursion IsOther (map joined (map turn_line order))
 other_turns [] = tt

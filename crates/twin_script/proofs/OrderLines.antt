@@ -19,8 +19,7 @@ use Rattle.twin_script.specs.TwinScripts.{IsTurn, first_count, second_count}
 use Rattle.twin_script.specs.Order.{sides, turn_by, turn_in, turn_of, left, with_turn, turn_at, line_at, lines_at, nothing, order_of}
 
 mapped : (side : Side) (o : Option ℕ) (turn : TwinTurn) → option_map (turn_by side) o ≡ Some turn → o ≡ Some turn.count
-mapped side None turn h = absurd cc
-mapped side (Some n) turn h = let same : turn_by side n ≡ turn = cc in ap (λ (t : TwinTurn). Some t.count) same
+mapped side o turn h = grind arith
 
 -- a line's turn asks for 1 to 100,000 events
 turn_bounds : (line : List ℕ) (turn : TwinTurn) → turn_of line ≡ Some turn → IsTurn turn
@@ -43,14 +42,7 @@ one_sum : (f : TwinTurn → ℕ) (turns : List TwinTurn) (turn : TwinTurn) → s
 one_sum f turns turn = let e = sum_by-append f turns (turn ∷ []) in let one : sum_by f (turn ∷ []) ≡ 0 + f turn = refl in omega (arith, e, one)
 
 taken : (first second : ℕ) (d : Draft) (side : Side) (count : ℕ) → IsTurn (turn_by side count) → count ≤ left d side → IsSound first second d → IsSound first second (with_turn d (turn_by side count))
-taken first second d First count is enough s =
-    let a = one_sum first_count d.turns (turn_by First count) in
-    let b = one_sum second_count d.turns (turn_by First count) in
-    record { turns = all_and_one d.turns (turn_by First count) s.turns is; first_sum = omega (arith, a, s.first_sum, enough); second_sum = omega (arith, b, s.second_sum) }
-taken first second d Second count is enough s =
-    let a = one_sum first_count d.turns (turn_by Second count) in
-    let b = one_sum second_count d.turns (turn_by Second count) in
-    record { turns = all_and_one d.turns (turn_by Second count) s.turns is; first_sum = omega (arith, a, s.first_sum); second_sum = omega (arith, b, s.second_sum, enough) }
+taken first second d side count h g e = grind (arith, one_sum, all_and_one)
 
 turn_sound : (first second n : ℕ) (d e : Draft) (line : List ℕ) → turn_at n d line ≡ Ok e → IsSound first second d → IsSound first second e
 unfolding turn_at

@@ -40,12 +40,10 @@ fate_named m (Some s) h = (elim (map.len m == 0) as (λ b. (map.len m == 0) ≡ 
 ]) refl
 
 pub other_first : (e : ScriptFault) → (e ≡ script_fault.NoMemory → ⊥) → fault.First e ≡ first_fault e
-other_first script_fault.NoMemory n = absurd (n refl)
-other_first e n = refl
+other_first e h = grind arith
 
 pub other_second : (e : ScriptFault) → (e ≡ script_fault.NoMemory → ⊥) → fault.Second e ≡ second_fault e
-other_second script_fault.NoMemory n = absurd (n refl)
-other_second e n = refl
+other_second e h = grind arith
 
 -- what scripts that may run as twins keep
 pub record AreFit (first second : Script) : Type 0 where

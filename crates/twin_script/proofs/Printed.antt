@@ -31,10 +31,7 @@ each_found P (e ∷ es) s h =
     (h e.0 e.1 (find_head e es), each_found P es (sorted_tail nat_cmp e.0 (keys_of es) s) (λ k f found. h k f (find_other k e es (λ q. let none : None ≡ Some f = sym (not_found e.0 k es (omega (arith, q)) above) ∙ found in absurd cc) ∙ found)))
 
 fate_lettered : (f : Fate) → is_lettered (fate_word f) ≡ true
-fate_lettered fate.Answer = refl
-fate_lettered fate.Slow = refl
-fate_lettered fate.Before = refl
-fate_lettered fate.After = refl
+fate_lettered f = grind arith
 
 losses_printed : (es : List (ℕ × Fate)) → AllByRecursion (λ e. e.0 ≤ 1000000000) es → AllByRecursion IsPrinted (map loss_line es)
 losses_printed [] h = tt

@@ -12,11 +12,7 @@ power_more n i d h small =
     rw e (omega arith)
 
 pub power_fits : (n i d : ℕ) → n < 10 ^ i → i < 18 → d ≤ 9 → n * 10 + d < 2 ^ 64
-power_fits n i d h lt small =
-    let more = power_more n i d h small in
-    let low : i + 1 ≤ 18 = omega arith in
-    let le : 10 ^ (i + 1) ≤ 10 ^ 18 = pow-le-pow_right {n = 10} (omega arith) low in
-    omega (arith, more, le)
+power_fits n i d h g e = grind (arith, power_more, pow-le-pow_right)
 
 add-one-is : (i : ℕ) → suc i ≡ i + 1
 add-one-is i = omega arith

@@ -11,8 +11,7 @@ join_more s front part [] = refl
 join_more s front part (x ∷ xs) = by (x == s) refl (join_more s front (part ++ x ∷ []) xs)
   where
     by : (b : Bool) → (x == s) ≡ b → join_with_byte s (front ∷ parts_from s (part ++ x ∷ []) xs) ≡ front ++ s ∷ join_with_byte s (parts_from s (part ++ x ∷ []) xs) → join_with_byte s (front ∷ parts_from s part (x ∷ xs)) ≡ front ++ s ∷ join_with_byte s (parts_from s part (x ∷ xs))
-    by true e old = rw e refl
-    by false e old = rw e old
+    by b h g = grind arith
 
 join_from : (s : ℕ) (part text : List ℕ) → join_with_byte s (parts_from s part text) ≡ part ++ text
 unfolding parts_from
@@ -33,8 +32,7 @@ parts_from-append s part [] back = rw (eq-eqb s s refl) refl
 parts_from-append s part (x ∷ xs) back = by (x == s) refl (parts_from-append s [] xs back) (parts_from-append s (part ++ x ∷ []) xs back)
   where
     by : (b : Bool) → (x == s) ≡ b → parts_from s [] (xs ++ s ∷ back) ≡ parts_from s [] xs ++ parts_of s back → parts_from s (part ++ x ∷ []) (xs ++ s ∷ back) ≡ parts_from s (part ++ x ∷ []) xs ++ parts_of s back → parts_from s part (x ∷ xs ++ s ∷ back) ≡ parts_from s part (x ∷ xs) ++ parts_of s back
-    by true e new old = rw e (ap (λ (l : List (List ℕ)). part ∷ l) new)
-    by false e new old = rw e old
+    by b h g e = grind arith
 
 -- the parts of two texts round a separator are the parts of both
 pub parts_append : (s : ℕ) (front back : List ℕ) → parts_of s (front ++ s ∷ back) ≡ parts_of s front ++ parts_of s back

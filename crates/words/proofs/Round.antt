@@ -48,15 +48,10 @@ at_index p (x ∷ xs) zero lt h = (and_parts (p x) _ h).0
 at_index p (x ∷ xs) (suc i) lt h = at_index p xs i (omega arith) (and_parts (p x) _ h).1
 
 neither : (b : Bool) (xs ys : List ℕ) → cond (b && false) xs ys ≡ ys
-neither true xs ys = refl
-neither false xs ys = refl
+neither b xs ys = grind arith
 
 no_return : (line : List ℕ) → list_all is_inner line ≡ true → without_return line ≡ line
-no_return [] h = refl
-no_return (x ∷ xs) h =
-    let last : length (x ∷ xs) - 1 < length (x ∷ xs) = omega arith in
-    let k = and_parts (not (get_or (x ∷ xs) (length (x ∷ xs) - 1) 0 == 10)) _ (at_index is_inner (x ∷ xs) (length (x ∷ xs) - 1) last h) in
-    rw (not_so (get_or (x ∷ xs) (length (x ∷ xs) - 1) 0 == 13) k.1) (neither _ _ _)
+no_return line h = grind (arith, and_parts, at_index, not_so, neither)
 
 inner_inside : (b : ℕ) → is_inner b ≡ true → is_inside b ≡ true
 inner_inside b h = (and_parts (is_inside b) _ h).0
@@ -76,11 +71,7 @@ lines-text_of ((w ∷ ws) ∷ ls) h = ap lines_of (flat_map-cons ended (w ∷ ws
 -- ---- numbers
 
 digit_is : (c : ℕ) → is_digit c ≡ true → digit_value c < 10
-digit_is c h =
-    let p = and_parts (leb 48 c) _ h in
-    let low : 48 ≤ c = leb-true _ _ p.0 in
-    let high : c ≤ 57 = leb-true _ _ p.1 in
-    omega (arith, digit_value_digit c (low, high), high)
+digit_is c h = grind (arith, and_parts, leb-true, digit_value_digit)
 
 is_a_digit : (c : ℕ) → digit_value c < 10 → is_digit c ≡ true
 is_a_digit c h = let r = digit_from_value c h in rw (le-leb 48 c r.0, le-leb c 57 r.1) refl
@@ -116,25 +107,17 @@ number-decimal n h =
 -- ---- words of digits
 
 digit_plain : (b : ℕ) → is_digit b ≡ true → is_plain b ≡ true
-digit_plain b h =
-    let p = and_parts (leb 48 b) _ h in
-    let low : 48 ≤ b = leb-true _ _ p.0 in
-    rw (ne_eqb b 32 (λ e. omega arith), ne_eqb b 10 (λ e. omega arith), ne_eqb b 13 (λ e. omega arith)) refl
+digit_plain b h = grind arith
 
 pub decimal_word : (n : ℕ) → n < 2 ^ 64 → IsWord (decimal n)
 decimal_word n h = weaker is_digit is_plain digit_plain (decimal n) (digit_inside n h)
 
 pub number_in-decimal : (low high n : ℕ) → low ≤ n → n ≤ high → high < 10 ^ 18 → number_in low high (decimal n) ≡ Some n
-number_in-decimal low high n l h k =
-    let small : n < 10 ^ 18 = omega arith in
-    rw (number-decimal n small, le-leb low n l, le-leb n high h) refl
+number_in-decimal low high n h g e = grind (arith, number-decimal, le-leb)
 
 -- no digit is the separator
 digit_other : (s : ℕ) → s < 48 → (b : ℕ) → is_digit b ≡ true → is_other s b ≡ true
-digit_other s h b d =
-    let p = and_parts (leb 48 b) _ d in
-    let low : 48 ≤ b = leb-true _ _ p.0 in
-    rw (ne_eqb b s (λ e. omega arith)) refl
+digit_other s h b g = grind arith
 
 pub decimal_other : (s n : ℕ) → s < 48 → n < 2 ^ 64 → list_all (is_other s) (decimal n) ≡ true
 decimal_other s n h fits = weaker is_digit (is_other s) (digit_other s h) (decimal n) (digit_inside n fits)
@@ -200,9 +183,4 @@ last_of xs x ys = let some = some_more xs x ys in last_at xs x ys (length (xs ++
 
 -- a word with no CR ends a line that keeps its end
 pub kept_end : (xs : List ℕ) (x : ℕ) (ys : List ℕ) → IsWord (x ∷ ys) → without_return (xs ++ x ∷ ys) ≡ xs ++ x ∷ ys
-kept_end xs x ys h =
-    let last : length (x ∷ ys) - 1 < length (x ∷ ys) = omega arith in
-    let inner = and_parts (is_other 32 (get_or (x ∷ ys) (length (x ∷ ys) - 1) 0)) _ (at_index is_plain (x ∷ ys) (length (x ∷ ys) - 1) last h) in
-    let k = and_parts (not (get_or (x ∷ ys) (length (x ∷ ys) - 1) 0 == 10)) _ inner.1 in
-    let e : (get_or (xs ++ x ∷ ys) (length (xs ++ x ∷ ys) - 1) 0 == 13) ≡ false = ap (λ (b : ℕ). b == 13) (last_of xs x ys) ∙ not_so _ k.1 in
-    rw e (neither _ _ _)
+kept_end xs x ys h = grind (arith, and_parts, at_index, last_of, not_so, neither)

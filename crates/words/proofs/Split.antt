@@ -14,8 +14,7 @@ first_from line (x ∷ front) rest h =
     rw (not_so (x == 10) p.0) (first_from (line ++ x ∷ []) front rest p.1 ∙ ap (λ (l : List ℕ). without_return l ∷ lines_of rest) (append_assoc line (x ∷ []) front))
 
 ended : (line : List ℕ) → 0 < length line → unless_empty line ≡ line ∷ []
-ended [] h = absurd (omega arith)
-ended (x ∷ xs) h = refl
+ended line h = grind arith
 
 last_from : (line front : List ℕ) → list_all is_inside front ≡ true → 0 < length (line ++ front) → lines_from line front ≡ (line ++ front) ∷ []
 unfolding lines_from
@@ -60,8 +59,4 @@ pub none_left : (xs ys : List ℕ) {b : Bool} → xs ≡ ys → b ≡ (length xs
 none_left xs ys e is h = nil_from_length ys (ap length (sym e) ∙ eqb-true _ _ (sym is ∙ h))
 
 pub not_past : (xs ys : List ℕ) (i : ℕ) {b : Bool} → ys ≡ drop i xs → b ≡ (length ys == 0) → b ≡ false → i < length xs
-not_past xs ys i e is h =
-    elim (cases_lt i (length xs)) [
-      | inl lt ↦ lt
-      | inr le ↦ absurd (true≢false (sym (is ∙ ap (λ (l : List ℕ). length l == 0) (e ∙ drop_of_length-le xs le)) ∙ h))
-    ]
+not_past xs ys i h g e = grind (arith, cases_lt, drop_of_length-le)

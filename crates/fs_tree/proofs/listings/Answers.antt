@@ -1,4 +1,4 @@
-use Rattle.std.proofs.Common.{◌≡◌, ◌⊎◌, inl, inr, true, List, ℕ, sym, ◌∙◌}
+use Rattle.std.proofs.Common.{◌≡◌, ◌⊎◌, inl, inr, true, List, ℕ, sym, ◌∙◌, arith}
 use Rattle.path_keys.proofs.Common.{false≢true}
 use Rattle.s3_types.specs.Prelude.{is_key}
 use Rattle.fs_tree.specs.Prelude.{Objects, below, Status, Directory, File, Stands, IsStatus, IsName, HasOddKey}
@@ -6,12 +6,10 @@ use Rattle.fs_tree.proofs.listings.Goals as goal
 
 module _ (z : Objects) (keys : (k : List ℕ) → Stands z k → is_key k ≡ true) where
   none_odd : (p : List ℕ) (s : Status) → HasOddKey z p s → ⊥
-  none_odd p Directory h = false≢true (sym h.3 ∙ keys h.0 h.2)
-  none_odd p (File n) h = false≢true (sym h.1 ∙ keys p h.0)
+  none_odd p s h = grind arith
 
   one : (n p : List ℕ) (s : Status) → (IsName n × IsStatus z p s) ⊎ HasOddKey z p s → IsName n × IsStatus z p s
-  one n p s (inl h) = h
-  one n p s (inr h) = absurd (none_odd p s h)
+  one n p s h = grind arith
 
 pub returns : goal.returns
 returns c = record { list = record { children = λ p z es keys has e i. one z keys e.name (below p e.name) e.status (has.child e i) } }

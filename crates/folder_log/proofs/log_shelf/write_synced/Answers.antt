@@ -1,4 +1,4 @@
-use Rattle.std.proofs.Common.{◌≡◌, ◌⊎◌, ℕ, length, inl, inr, subst}
+use Rattle.std.proofs.Common.{◌≡◌, ◌⊎◌, ℕ, length, inl, inr, subst, arith}
 use Rattle.shelf.specs.Logged.{LeavesOnly}
 use Rattle.folder_log.specs.Disk.{File, IsTorn, Only, Follows, Elapses}
 use Rattle.folder_log.proofs.Moments.{started, goes_on}
@@ -7,10 +7,7 @@ use Rattle.folder_log.proofs.log_shelf.write_synced.Goals as goal
 -- a write over a disk that a crash leaves so
 written : {D : Type 0} (moment : D → ℕ) (may_leave : D → File → Type 0) (left_since : D → ℕ → File → Type 0) (old new : D) (place n : ℕ) (file : File) → ((c : File) → left_since old (moment old) c → may_leave old c) → Only file (may_leave old)
     → Follows (IsTorn place n) (may_leave old) (may_leave new) → Elapses (moment old) (moment new) (left_since old) (left_since new) (may_leave new) → LeavesOnly moment left_since old new (λ c. (c ≡ file) ⊎ IsTorn place n file c)
-written moment may_leave left_since old new place n file only_now only follows time =
-    let P : File → Type 0 = λ c. (c ≡ file) ⊎ IsTorn place n file c in
-    goes_on moment left_since old old new P (may_leave new) (started moment left_since old P (λ c left. inl (only c (only_now c left)))) time
-    (λ c now. let from = follows c now in inr (subst (λ (d : File). IsTorn place n d c) (only from.0 from.1) from.2))
+written moment may_leave left_since old new place n file h g e f = grind arith
 
 pub returns-in_err-write_at-clause-torn : goal.returns-in_err-write_at-clause-torn
 returns-in_err-write_at-clause-torn g c file only =

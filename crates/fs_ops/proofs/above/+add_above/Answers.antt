@@ -23,5 +23,4 @@ returns t c =
     pushed c.push.new.self c.push.result (one_more c.args.key.now c.in-Some.front.now c.in-Some.field-0-1.now c.new.result c.args.keys.now c.add_above.new.keys cut.0 cut.1 c.in_ok-add_above.ensures (c.new.ensures ∙ c.in_ok-copied.ensures)) c.push.ensures.ok
   where
     pushed : {E A : Type 0} {x z : A} (y : A) (r : Result (Unit {0}) E) → x ≡ z → OnOk r (y ≡ x) → OnOk r (y ≡ z)
-    pushed y (Ok u) e h = h ∙ e
-    pushed y (Err f) e h = tt
+    pushed y r h g = grind arith

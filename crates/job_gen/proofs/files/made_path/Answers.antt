@@ -14,11 +14,7 @@ two_are n low high =
     decimal_step n low (omega arith) ∙ ap (λ l. l ++ (48 + n % 10) ∷ []) (decimal_digit (n / 10) (omega arith))
 
 three_are : (n : ℕ) → 100 ≤ n → n < 1000 → decimal n ≡ three_digits n
-three_are n low high =
-    let first : n / 10 / 10 ≡ n / 100 = omega arith in
-    let second : n / 10 % 10 ≡ n % 100 / 10 = omega arith in
-    let third : n % 10 ≡ n % 100 % 10 = omega arith in
-    decimal_step n (omega arith) (omega arith) ∙ ap (λ l. l ++ (48 + n % 10) ∷ []) (two_are (n / 10) (omega arith) (omega arith)) ∙ rw (first, second, third) refl
+three_are n h g = grind (arith, decimal_step, two_are)
 
 two_written : (n : ℕ) → n < 100 → padded_integral (format_spec 32 0 4 2 (2 ^ 64 - 1)) false [] (decimal n) ≡ two_digits n
 unfolding padded_integral char_count

@@ -1,4 +1,4 @@
-use Rattle.std.proofs.Common.{◌≡◌, Ok, Err, refl, sym}
+use Rattle.std.proofs.Common.{◌≡◌, Ok, Err, refl, sym, arith}
 use Rattle.std.specs.Prelude.{Result}
 use Rattle.proof_base.specs.Prelude.{Unless}
 use Rattle.job_protocol.specs.Prelude.{Path}
@@ -12,8 +12,7 @@ use Rattle.job_gen.proofs.script.dest.Goals as goal
 
 -- the faults of a path that is one give want of memory alone
 memory_alone : (x : Path) (e : PathFault) → (e ≡ NoMemory → ⊥) → Unless (wanting e) (let read : Result Path PathFault = Ok x in read ≡ Err e) → ⊥
-memory_alone x NoMemory n h = n refl
-memory_alone x _ n h = cc
+memory_alone x e h g = grind arith
 
 pub unreachable-requires : goal.unreachable-requires
 unfolding parts_from

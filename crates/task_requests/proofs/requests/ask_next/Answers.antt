@@ -1,12 +1,11 @@
-use Rattle.std.proofs.Common.{◌≡◌, ◌∙◌, ◌+◌, ap, List, [], ◌∷◌, ℕ, Some, slice_get}
+use Rattle.std.proofs.Common.{◌≡◌, ◌∙◌, ◌+◌, ap, List, [], ◌∷◌, ℕ, Some, slice_get, arith}
 use Rattle.job_protocol.specs.Prelude.{UploadPart, Task, Drawn, task_script, first_drawn, file_key}
 use Rattle.task_requests.specs.Writing.{part_behind}
 use Rattle.task_requests.proofs.Steps.{ok_as}
 use Rattle.task_requests.proofs.requests.ask_next.Goals as goal
 
 first_is : (ds : List Drawn) (d : Drawn) → Some d ≡ slice_get ds 0 → d ≡ first_drawn ds
-first_is [] d e = absurd (cc)
-first_is (x ∷ ds) d e = cc
+first_is ds d h = grind arith
 
 pub returns : goal.returns
 returns c =
