@@ -16,8 +16,8 @@ use Rattle.list_walk.proofs.Growing.{grows, growth}
 use Rattle.job_protocol.specs.TaskCommits as commits
 use Rattle.task_machines.specs.Commits.{commit_left_at, commit_left}
 use Rattle.task_machines.specs.Aborts.{after_left, abort_left_at, abort_left}
-use Rattle.actor_operations.specs.Falls.{as_times}
 use Rattle.actor_operations.specs.Beside.{PutsNone, AttemptsStay}
+use Rattle.proof_base.proofs.Numbers.{no_more_times}
 
 module _ {K X : Type 0} (R : K → K → Ordering) (t : K × X → Bool) where
   -- one is put that does not pass, as none of its key does
@@ -94,6 +94,6 @@ abort_stays w a x s r h = grind (arith, after_stays, sweep_stays)
 pub attempts_stay : AttemptsStay
 attempts_stay = record {
   writes = λ t s r. omega arith;
-  commits = λ t s r h. let i = as_times (commit_left t.machine (apply s r)) (commit_left t.machine s) t.retries (commit_stays (task_script t.machine.plan) t.machine.plan.minimum (who_of t.machine.plan) t.machine.operation s r h) in omega (arith, i);
-  aborts = λ t s r h. let i = as_times (abort_left t.machine (apply s r)) (abort_left t.machine s) t.retries (abort_stays (task_script t.machine.plan) (who_of t.machine.plan) t.machine.operation s r h) in omega (arith, i);
+  commits = λ t s r h. let i = no_more_times (commit_left t.machine (apply s r)) (commit_left t.machine s) t.retries (commit_stays (task_script t.machine.plan) t.machine.plan.minimum (who_of t.machine.plan) t.machine.operation s r h) in omega (arith, i);
+  aborts = λ t s r h. let i = no_more_times (abort_left t.machine (apply s r)) (abort_left t.machine s) t.retries (abort_stays (task_script t.machine.plan) (who_of t.machine.plan) t.machine.operation s r h) in omega (arith, i);
 }

@@ -27,12 +27,13 @@ use Rattle.actor_operations.specs.ActLaws.{act_laws}
 use Rattle.actor_operations.specs.Plans.{known_now, running_of, IsOf}
 use Rattle.actor_operations.specs.Beside.{PutsNone, below}
 use Rattle.actor_operations.specs.Rising.{rise}
-use Rattle.actor_operations.specs.Falls.{as_times}
 use Rattle.actor_operations.proofs.Beside.{attempts_stay}
 use Rattle.actor_operations.proofs.WorksStand.{stand, driver_is, never_replaces}
 use Rattle.actor_operations.proofs.WorksGo.{commit_at, behind, asks}
 use Rattle.actor_operations.proofs.ActorsGo.{checked_plan}
 use Rattle.actor_operations.proofs.WorksDue.{by_attempt, fine_at}
+use Rattle.proof_base.proofs.Numbers.{no_more_times}
+use Rattle.std.proofs.Math.Nat.{le_refl}
 
 -- ---- keys that are apart from an attempt's directory
 
@@ -251,9 +252,6 @@ module _ (g : Setting) (opening : Content) (x : Play) where
 
 -- ---- numbers
 
-same_or_less : (n : ℕ) → n ≤ n
-same_or_less n = omega arith
-
 less : (k n : ℕ) → k ≤ 3 → k ≤ 3 + n
 less k n h = omega (arith, h)
 
@@ -262,7 +260,7 @@ none_most n most e = omega (arith, e)
 
 -- so many times the sendings of a request are no more than the most
 fewer : (k n : ℕ) (w : Script) → k ≤ 3 + most_commits → n ≡ w.retries → k * (n + 1) ≤ rise w
-fewer k n w h e = subst (λ v. k * (v + 1) ≤ rise w) (sym e) (as_times k (3 + most_commits) w.retries h)
+fewer k n w h e = subst (λ v. k * (v + 1) ≤ rise w) (sym e) (no_more_times k (3 + most_commits) w.retries h)
 
 with_none : (m n most : ℕ) → n ≡ 0 → m ≤ most → m + n ≤ most
 with_none m n most e h = omega (arith, e, h)
@@ -281,7 +279,7 @@ pub beside : (g : Setting) (opening : Content) (x : Play) (a b : Actor) (work ot
 beside g opening x a b (acts.Setup t) other at bt ne r e = by_driver g opening x a (acts.Setup t) r at.goes_by.actor (fewer 2 t.retries g.script (less 2 most_commits (omega arith)) at.goes_by.retries)
 beside g opening x a b (acts.Commit c) other at bt ne r e = by_driver g opening x a (acts.Commit c) r at.goes_by.0 (none_most (rise_of (acts.Commit c) r) (rise g.script) (commit_calm g opening x a b c other at bt ne r e))
 beside g opening x a b (acts.Clean t) other at bt ne r e = by_driver g opening x a (acts.Clean t) r at.goes_by.actor (fewer 3 t.retries g.script (less 3 most_commits (omega arith)) at.goes_by.retries)
-beside g opening x a b (acts.Sparing t) other at bt ne r e = by_driver g opening x a (acts.Sparing t) r at.goes_by.actor (fewer (3 + most_commits) t.retries g.script (same_or_less (3 + most_commits)) at.goes_by.retries)
+beside g opening x a b (acts.Sparing t) other at bt ne r e = by_driver g opening x a (acts.Sparing t) r at.goes_by.actor (fewer (3 + most_commits) t.retries g.script (le_refl (3 + most_commits)) at.goes_by.retries)
 beside g opening x a b (acts.Checked y) other at bt ne r e = checked_beside g opening x a b y.check y.commit other at bt ne r e
 beside g opening x a b (acts.Write t) other at bt ne r e =
     let o = by_attempt g opening x a (acts.Write t) at.goes_by.actor at in

@@ -38,6 +38,7 @@ use Rattle.actor_operations.proofs.WorksStand.{run, stand, scene_is, driver_is, 
 use Rattle.actor_operations.proofs.WorksFew.{reads_few}
 use Rattle.actor_operations.proofs.WorksSparing.{sparing_due}
 use Rattle.actor_operations.proofs.WorksGo.{few_now, commit_at, behind, asks}
+use Rattle.proof_base.proofs.Numbers.{above_zero}
 
 -- what is due to a machine's request fits it under its retries
 outcome_fits : {M : Type 0} (wants : M → Option Request) (fits : M → Reply → Bool → Type 0) (t : Retrying M) (s : Scene) → FitsDue wants fits t.machine s → (r : Request) (o : Outcome) → wants t.machine ≡ Some r → IsHonestOutcome o (answer s r) → FitsOutcome fits t o
@@ -93,9 +94,6 @@ module _ (g : Setting) (opening : Content) (x : Play) where
       let l = late_driver at (ap is_set (driver_at at at.goes_by.actor)) in
       due_now at clean_wants clean_fits t (driving_by clean_wants clean_fits t.machine (job_of g.script) (here at).seen.scene at.goes_by.plan (clean_due g.script (here at).seen.scene l.hold.there t.machine.operation))
 
-  some_lane : {n : ℕ} → 1 ≤ n → 0 < n
-  some_lane l = omega arith
-
   due_commit : (a : Actor) (c : Committing) → At a (Commit c) → Due (Commit c)
   due_commit a c at r o e honest =
       let s = (here at).seen in
@@ -106,7 +104,7 @@ module _ (g : Setting) (opening : Content) (x : Play) where
       let is : c.plan ≡ job_of g.script = at.goes_by.1 in
       let wanted : commit_wants (record { plan = job_of g.script; picked = c.picked; operation = c.operation }) ≡ Some r = ap (λ p. commit_wants (record { plan = p; picked = c.picked; operation = c.operation })) (sym is) ∙ e in
       record {
-        lanes = subst (λ (p : Job). 0 < p.lanes) (sym is) (some_lane at.legal.one_lane);
+        lanes = subst (λ (p : Job). 0 < p.lanes) (sym is) (above_zero at.legal.one_lane);
         fits = subst (λ p. FitsCommit (record { plan = p; picked = c.picked; operation = c.operation }) o) (sym is) (job_due g.script g.minimum s (here at).told at.legal few c.operation v.commits v.stands c.picked r wanted o due);
         few = reads_few g.script g.minimum s.scene s.last (here at).told at.legal v.commits.hold few c.operation v.commits.fits r asked o due;
       }

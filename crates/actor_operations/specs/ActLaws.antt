@@ -32,6 +32,7 @@ use Rattle.commit_laws.specs.Laws.{left}
 use Rattle.s3_types.specs.Prelude.{only_reads}
 use Rattle.actor_operations.specs.Acts.{stepped, sendings_left, is_clear, checked_wants, checked_told, FitsChecked, checked_end, checked_left, checked_rise, wants_of, tells_of, FitsAct, end_of, left_of, rise_of}
 use Rattle.actor_operations.specs.Falls.{sending_falls, sending_rises}
+use Rattle.proof_base.proofs.Options.{some_mapped}
 
 -- ---- it asks exactly until it has ended
 
@@ -93,10 +94,6 @@ check_goes_on : (m : PlannedCheck) (o : checks.Check) → is_some (check_wants (
 check_goes_on m (checks.Looking keys) = refl
 check_goes_on m (checks.Probing d ds) = refl
 check_goes_on m (checks.CheckOver end) = refl
-
-mapped : {X Y : Type 0} (f : X → Y) (o : Option X) → is_some (option_map f o) ≡ is_some o
-mapped f (Some x) = refl
-mapped f None = refl
 
 asks_on : {X Y : Type 0} (f : X → Y) (o : Option X) (b : Bool) → b ≡ not (is_some o) → b ≡ not (is_some (option_map f o))
 asks_on f (Some x) b h = h

@@ -7,12 +7,7 @@ use Rattle.job_protocol.specs.Prelude.{FallsAmong}
 use Rattle.std.proofs.Math.Nat.{add-mul}
 use Rattle.machine.specs.declared.retrying.Retrying.{Retrying}
 use Rattle.actor_operations.specs.Acts.{under, stepped, sendings_left}
-
-more_times : (a b n : ℕ) → a < b → a * (n + 1) + (n + 1) ≤ b * (n + 1)
-more_times a b n h = grind arith
-
-pub as_times : (a b n : ℕ) → a ≤ b → a * (n + 1) ≤ b * (n + 1)
-as_times a b n h = grind arith
+use Rattle.proof_base.proofs.Numbers.{more_times, no_more_times}
 
 less_work : (a b n x : ℕ) → a < b → a * (n + 1) + n < b * (n + 1) + x
 less_work a b n x h = omega (arith, more_times a b n h)
@@ -20,14 +15,14 @@ less_work a b n x h = omega (arith, more_times a b n h)
 spread : (a b k n : ℕ) → a ≤ b + k → a * (n + 1) ≤ b * (n + 1) + k * (n + 1)
 spread a b k n h =
     let e : (b + k) * (n + 1) ≡ b * (n + 1) + k * (n + 1) = add-mul b k (n + 1) in
-    omega (arith, as_times a (b + k) n h, e)
+    omega (arith, no_more_times a (b + k) n h, e)
 
 -- a sending got no answer, and the scene is t
 unanswered_falls : {M : Type 0} {wants : M → Option Request} {after : M → Item → M} {fits : M → Reply → Bool → Type 0} {left : M → Scene → ℕ} {rise : ℕ} → FallsAmong wants after fits left rise
     → (retries : ℕ) (m : M) (spare : ℕ) (repeated : Bool) (s t : Scene) (r : Request) → wants m ≡ Some r → left m t ≤ left m s
     → sendings_left left (under retries (unanswered_by retries after m repeated spare)) t < left m s * (retries + 1) + spare
 unanswered_falls {after = after} {left = left} h retries m zero repeated s t r w le = less_work (left (after m WornOut) t) (left m s) retries 0 (let k = h.falls_worn m t r w in omega (arith, k, le))
-unanswered_falls {left = left} h retries m (suc n) repeated s t r w le = omega (arith, as_times (left m t) (left m s) retries le)
+unanswered_falls {left = left} h retries m (suc n) repeated s t r w le = omega (arith, no_more_times (left m t) (left m s) retries le)
 
 -- it falls with each sending of its own
 pub sending_falls : {M : Type 0} {wants : M → Option Request} {after : M → Item → M} {fits : M → Reply → Bool → Type 0} {left : M → Scene → ℕ} {rise : ℕ} → FallsAmong wants after fits left rise

@@ -3,7 +3,6 @@ use Rattle.std.proofs.Common.{◌≡◌, ℕ, ◌+◌, ◌<◌, ◌≤◌, Bool,
 use Rattle.std.specs.Prelude.{codes, IfSome}
 use Rattle.job_protocol.specs.Prelude.{filter, Scene, answer, apply, begins, Committer, Magic, Directory, Partitioned, Request, AbortUpload, ClusterDelete, UploadRef, Job, job_script, Walked, More, Whole, sweep_start, sweep_asks, sweep_hears, all_go, uploads_after, walked_uploads, Clean, Walking, Aborting, Naming, Removing, CleanOver, clean_asks, clean_hears, aborted, aborting, walking, sweeping, removing, uploads_left, left_of, adds_key, one_if}
 use Rattle.std.specs.FinMap as fin
-use Rattle.proof_base.proofs.Options.{some_is}
 use Rattle.magic_paths.specs.Layout as layout
 use Rattle.job_protocol.specs.Cleanups.{Sweeping}
 use Rattle.list_walk.specs.Left.{sets_upload}
@@ -13,10 +12,8 @@ use Rattle.list_walk.proofs.Falling.{sweep_laws, upload_laws}
 use Rattle.cleanup.specs.Fits.{FitsClean}
 use Rattle.cleanup.specs.Left.{after_left, left_at}
 use Rattle.cleanup.specs.Laws.{CleansEnd}
-
-pub one_most : (b : Bool) → one_if b ≤ 1
-one_most true = omega arith
-one_most false = omega arith
+use Rattle.std.proofs.lemmas.Option.{same_Some}
+use Rattle.list_walk.proofs.Counting.{one_most}
 
 -- what holds of a request that is asked
 pub of_some : (P : Request → Type 0) (o : Option Request) (r : Request) → o ≡ Some r → IfSome o P → P r

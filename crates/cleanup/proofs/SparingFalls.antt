@@ -16,8 +16,9 @@ use Rattle.job_protocol.specs.Sparing.{Sparing, Walking, Naming, Reading, Aborti
 use Rattle.cleanup.specs.SparingFits.{most_commits, NamesFew, FitsSparing}
 use Rattle.cleanup.specs.SparingLeft.{named_most, reading_left, listing_left, walking_left, sparing_left_at}
 use Rattle.cleanup.specs.Laws.{SparingsEnd}
-use Rattle.cleanup.proofs.Falling.{one_most, of_some}
+use Rattle.cleanup.proofs.Falling.{of_some}
 use Rattle.cleanup.proofs.Pages.{Moved, page_moves}
+use Rattle.list_walk.proofs.Counting.{one_most}
 
 -- ---- the numbers alone
 

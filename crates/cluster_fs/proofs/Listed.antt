@@ -3,10 +3,11 @@ use Rattle.std.proofs.Common.{◌≡◌, ℕ, Bool, true, false, ◌&&◌, not, 
 use Rattle.proof_base.proofs.Common.{false≢true, not-true, sorted_head, sorted_tail}
 use Rattle.s3_types.specs.Prelude.{filter, keys_of, entries_between, is_lt, is_le, Included, Unbounded, text_cmp, text_total, begins}
 use Rattle.std.specs.List.Sorted.{IsStrictlySortedBy}
-use Rattle.proof_base.proofs.Bools.{contrary, and_true}
+use Rattle.proof_base.proofs.Bools.{contrary}
 use Rattle.proof_base.proofs.Less.{lt, le_not, le_le, lt_not}
 use Rattle.s3_types.proofs.Begins.{between, from_prefix}
 use Rattle.cluster_fs.specs.Cluster.{Follows}
+use Rattle.std.proofs.Math.Bool.{and-true}
 
 none_after : (p k : List ℕ) (ks : List (List ℕ)) → lt text_cmp k p ≡ false → begins p k ≡ false → Follows k ks → filter (begins p) ks ≡ []
 none_after p k [] g n h = refl
@@ -28,7 +29,7 @@ abbrev from_on : List ℕ → List ℕ → Bool
 from_on p k = is_le (text_cmp p k) && true
 
 is_from : (p k : List ℕ) → from_on p k ≡ not (lt text_cmp k p)
-is_from p k = and_true _ ∙ le_not text_total p k
+is_from p k = and-true _ ∙ le_not text_total p k
 
 keys_between : {X : Type 0} (p : List ℕ) (es : List (List ℕ × X)) → keys_of (entries_between text_cmp (Included p) Unbounded es) ≡ filter (from_on p) (keys_of es)
 keys_between p [] = refl

@@ -12,8 +12,8 @@ use Rattle.commit_parts.specs.ReadSets.{IsSetOf}
 use Rattle.commit_laws.specs.Fitting.{SpellsSet, FitsCommit}
 use Rattle.commit_parts.specs.ReadSets.{AreRead}
 use Rattle.commit_laws.specs.Laws.{start, AllFit, set_heard, sets_heard, due}
-use Rattle.job_protocol.proofs.Members.{get_before}
 use Rattle.commit_parts.proofs.KeysApart.{sets_apart}
+use Rattle.proof_base.proofs.Lists.{get_before}
 
 less_or_same : (a b : ℕ) → a < b + 1 → (a < b) ⊎ (a ≡ b)
 less_or_same a b h = grind arith

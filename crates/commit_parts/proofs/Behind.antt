@@ -5,6 +5,7 @@ use Rattle.std.proofs.Common.{Bor}
 use Rattle.s3_types.specs.Prelude.{StripsPrefix}
 use Rattle.job_protocol.specs.Prelude.{FindsTextPrefix, starts_with, bytes_decides, relative_in}
 use Rattle.path_keys.proofs.Common.{take-append-drop, take-append_seam, drop-append_seam}
+use Rattle.proof_base.proofs.Lists.{front_cancels}
 
 cut_yes : (pre rest : List ℕ) → cond (starts_with nat_eq (pre ++ rest) pre) (Some (drop (length pre) (pre ++ rest))) None ≡ Some rest
 cut_yes pre rest =
@@ -29,10 +30,7 @@ pub relative_none : (key text : List ℕ) → 0 < length key → ((rest : List �
 relative_none [] text h absent = absurd (omega arith)
 relative_none (x ∷ xs) text h absent = cut_no ((x ∷ xs) ++ 47 ∷ []) text (starts_with nat_eq text ((x ∷ xs) ++ 47 ∷ [])) refl (λ rest e. absent rest (e ∙ append_assoc (x ∷ xs) (47 ∷ []) rest))
 
-cancel : (key a b : List ℕ) → key ++ a ≡ key ++ b → a ≡ b
-cancel key a b e = sym (drop-append_seam key a) ∙ ap (drop (length key)) e ∙ drop-append_seam key b
-
 -- what is left of a text without a key at its front, and then without a `/`
 pub behind_front : (key text rest : List ℕ) → 0 < length key → StripsPrefix (FindsTextPrefix key) text rest → (o : Option (Bor (List ℕ))) → MatchOption o (FindsTextPrefix (47 ∷ []) rest None) (λ x. StripsPrefix (FindsTextPrefix (47 ∷ [])) rest x.now)
     → option_map (λ (r : Bor (List ℕ)). r.now) o ≡ relative_in key text
-behind_front key text rest h g o e = grind (arith, relative_none, cancel, relative_some)
+behind_front key text rest h g o e = grind (arith, relative_none, front_cancels, relative_some)

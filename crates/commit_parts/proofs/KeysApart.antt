@@ -7,8 +7,9 @@ use Rattle.job_protocol.proofs.Shared.{shared_none}
 use Rattle.commit_parts.specs.ReadSets.{AreRead}
 use Rattle.commit_parts.specs.Clashes.{Item, items_from, NoClash}
 use Rattle.commit_parts.specs.Relatives.{relative_of}
-use Rattle.commit_parts.proofs.Placing.{nth_get, nth_left, nth_right, less_or_not}
+use Rattle.commit_parts.proofs.Placing.{nth_get, nth_left, nth_right}
 use Rattle.commit_parts.proofs.SamePaths.{item_writes}
+use Rattle.std.proofs.lemmas.Bool.{cases_lt}
 
 -- two uploads of a set are of two keys
 abbrev SetsApart : Sets → Type 0
@@ -41,13 +42,13 @@ keys_apart k [] apart absent m n low high e = absurd (omega arith)
 keys_apart k (s ∷ ss) apart absent m n low high e =
     let all : length (s.commits ++ all_commits ss) ≡ length s.commits + length (all_commits ss) = length-append s.commits (all_commits ss) in
     let rest : NoClash (items_from (k + 1) ss) = λ q v x l i j. absent q v x l (in_right (q, v) (map (λ c. (c.destination, k)) s.commits) (items_from (k + 1) ss) i) (in_right (q, x) (map (λ c. (c.destination, k)) s.commits) (items_from (k + 1) ss) j) in
-    elim (less_or_not m (length s.commits)) [
-      | inl a ↦ elim (less_or_not n (length s.commits)) [
+    elim (cases_lt m (length s.commits)) [
+      | inl a ↦ elim (cases_lt n (length s.commits)) [
         | inl b ↦ apart 0 s refl m n (nth s.commits m) (nth s.commits n) (nth_get s.commits m a) (nth_get s.commits n b) (ap (λ (v : Pending). v.destination) (sym (nth_left s.commits (all_commits ss) m a)) ∙ e ∙ ap (λ (v : Pending). v.destination) (nth_left s.commits (all_commits ss) n b))
         | inr b ↦ absurd (never k s ss (nth s.commits m) (nth (all_commits ss) (n - length s.commits)) absent (in_nth s.commits m a) (in_nth (all_commits ss) (n - length s.commits) (omega arith))
             (ap (λ (v : Pending). v.destination) (sym (nth_left s.commits (all_commits ss) m a)) ∙ e ∙ ap (λ (v : Pending). v.destination) (nth_right s.commits (all_commits ss) n b)))
       ]
-      | inr a ↦ elim (less_or_not n (length s.commits)) [
+      | inr a ↦ elim (cases_lt n (length s.commits)) [
         | inl b ↦ absurd (never k s ss (nth s.commits n) (nth (all_commits ss) (m - length s.commits)) absent (in_nth s.commits n b) (in_nth (all_commits ss) (m - length s.commits) (omega arith))
             (ap (λ (v : Pending). v.destination) (sym (nth_left s.commits (all_commits ss) n b)) ∙ sym e ∙ ap (λ (v : Pending). v.destination) (nth_right s.commits (all_commits ss) m a)))
         | inr b ↦

@@ -2,9 +2,10 @@
 use Rattle.std.proofs.Common.{◌≡◌, ℕ, zero, suc, ◌+◌, ◌-◌, ◌<◌, ◌≤◌, ◌⊎◌, inl, inr, refl, ap, sym, subst, ◌∙◌, arith, List, [], ◌∷◌, ◌++◌, length, slice_get, get_or, Some, length-append}
 use Rattle.path_keys.proofs.Common.{slice_get_within, get_or_from_slice_get}
 use Rattle.job_protocol.specs.Prelude.{Pending, PendingSet, nth, Sets, all_commits}
-use Rattle.job_protocol.proofs.Members.{get_left}
 use Rattle.commit_parts.specs.Places.{row, places_from}
 use Rattle.commit_parts.specs.declared.places.Place.{Place}
+use Rattle.std.proofs.lemmas.Bool.{cases_lt}
+use Rattle.proof_base.proofs.Lists.{get_left}
 
 -- where an upload stands
 pub record IsAt (n : ℕ) (sets : Sets) (p : Place) (c : Pending) : Type 0 where
@@ -12,9 +13,6 @@ pub record IsAt (n : ℕ) (sets : Sets) (p : Place) (c : Pending) : Type 0 where
   pub low : n ≤ p.set
   pub there : slice_get sets (p.set - n) ≡ Some set
   pub upload : slice_get set.commits p.index ≡ Some c
-
-pub less_or_not : (a b : ℕ) → (a < b) ⊎ (b ≤ a)
-less_or_not a b = grind arith
 
 pub row_length : (set n : ℕ) → length (row set n) ≡ n
 row_length set zero = refl
@@ -30,7 +28,7 @@ get_right (x ∷ xs) ys (suc n) h = get_right xs ys n (omega arith) ∙ same_get
 
 row_get : (set n k : ℕ) → k < n → slice_get (row set n) k ≡ Some (record { set = set; index = k })
 row_get set zero k h = absurd (omega arith)
-row_get set (suc n) k h = elim (less_or_not k n) [
+row_get set (suc n) k h = elim (cases_lt k n) [
   | inl l ↦ get_left (row set n) (record { set = set; index = n } ∷ []) k (record { set = set; index = k }) (row_get set n k l)
   | inr g ↦
       let e : k ≡ n = omega arith in
@@ -62,7 +60,7 @@ placed_at k [] n h = absurd (omega arith)
 placed_at k (s ∷ ss) n h =
     let len : length (row k (length s.commits)) ≡ length s.commits = row_length k (length s.commits) in
     let all : length (s.commits ++ all_commits ss) ≡ length s.commits + length (all_commits ss) = length-append s.commits (all_commits ss) in
-    elim (less_or_not n (length s.commits)) [
+    elim (cases_lt n (length s.commits)) [
       | inl l ↦ (
         record { set = k; index = n },
         get_left (row k (length s.commits)) (places_from (k + 1) ss) n (record { set = k; index = n }) (row_get k (length s.commits) n l),

@@ -11,6 +11,7 @@ use Rattle.commit_parts.specs.Clashes.{Item, items_from, IsClash, IsBest}
 use Rattle.commit_parts.specs.declared.sharing.Clash.{Clash}
 use Rattle.commit_parts.proofs.Numbers.{three}
 use Rattle.commit_parts.proofs.ReadFiles.{files_at, has_in, in_has, item_at, at_item}
+use Rattle.proof_base.proofs.Less.{equal_self}
 
 -- ---- keys below a destination
 
@@ -21,9 +22,6 @@ split_by pre text false e h = absurd (cc)
 -- a key that is below a destination has its path behind
 pub key_parts : (dest : Path) (key : List ℕ) → is_some (relative_in dest.key key) ≡ true → key ≡ below dest.key [] ++ relative_of dest key
 key_parts dest key h = split_by (below dest.key []) key (starts_with nat_eq key (below dest.key [])) refl h
-
-equal_self : (o : Ordering) → o ≡ ordering_reverse o → o ≡ Equal
-equal_self o h = grind arith
 
 -- a common front does not matter
 front_cmp : (pre p q : List ℕ) → text_cmp (pre ++ p) (pre ++ q) ≡ text_cmp p q

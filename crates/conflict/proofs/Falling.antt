@@ -6,16 +6,12 @@ use Rattle.std.specs.FinMap as fin
 use Rattle.proof_base.proofs.Members.{some_is, none_some, false_true}
 use Rattle.list_walk.specs.Walks.{walked}
 use Rattle.list_walk.proofs.Falling.{walk_laws}
-use Rattle.job_setup.proofs.Falling.{one_most, never_less}
+use Rattle.job_setup.proofs.Falling.{never_less, of_some}
 use Rattle.job_protocol.specs.Rechecks.{Check, Looking, Probing, CheckOver, check_asks, looked, probed, check_hears}
 use Rattle.conflict.specs.Fits.{FitsLook}
 use Rattle.conflict.specs.Left.{left_at}
 use Rattle.conflict.specs.Laws.{ChecksFall}
-
--- what holds of a request that is asked
-of_some : (P : Request → Type 0) (o : Option Request) (r : Request) → o ≡ Some r → IfSome o P → P r
-of_some P None r e h = absurd (none_some refl e)
-of_some P (Some x) r e h = subst P (some_is e) h
+use Rattle.list_walk.proofs.Counting.{one_most}
 
 -- ---- the look at the whole destination
 

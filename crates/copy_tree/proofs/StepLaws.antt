@@ -8,7 +8,6 @@ use Rattle.std.specs.FinMap as fin
 use Rattle.s3_types.specs.Answer.{found}
 use Rattle.store_frame.proofs.Flat.{behind}
 use Rattle.fs_tree.specs.Copies.{IsFirstOther}
-use Rattle.fs_tree.proofs.Begins.{both}
 use Rattle.fs_ops.proofs.Looks.{head_tells, at_key, none_listed, first_listed}
 use Rattle.fs_ops.specs.declared.climb.Climbed.{Climbed}
 use Rattle.fs_ops.specs.declared.climb.Climbed.TheVariants.{File, On as Goes_on, Free}
@@ -29,6 +28,7 @@ use Rattle.copy_tree.specs.code.Meaning.{moves, standing, absent, all_parts, IsP
 use Rattle.copy_tree.proofs.Moved.{moved_rest}
 use Rattle.copy_tree.proofs.PartLaws.{chosen_sources, chosen_targets}
 use Rattle.copy_tree.proofs.MoveLaws.{standing_rise, standing_each, standing_has, absent_each, tree_copied}
+use Rattle.std.proofs.lemmas.Bool.{and_from, and_parts}
 
 -- ---- lists of moves
 
@@ -67,9 +67,6 @@ header_is h g e = grind arith
 header_true : (h g : Option ℕ) → h ≡ g → same_header h g ≡ true
 header_true h g e = grind arith
 
-both_true : (a b : Bool) → a ≡ true → b ≡ true → (a && b) ≡ true
-both_true a b h g = ap (λ a. a && b) h ∙ g
-
 pub reads : (ks : List (List ℕ)) → is_look (read_of ks) ≡ true
 reads ks = grind arith
 
@@ -105,7 +102,7 @@ module _ (z : Objects) (x : ℕ) (p : List ℕ) (y : ℕ) (t : List ℕ) where
   copied_on : (c : CopyStep) (n : CopyCount) (m : Objects) → MayCopy z (x ∷ p) (y ∷ t) → n ≡ count_of (all_parts O z) → IsCopied z (absent O z) c m → On (on_copied n c) m
   copied_on c n m h g e = grind (arith, tree_copied)
 
-  -- ---- the pairs of which both stand
+  -- ---- the pairs of which and_parts stand
 
   pairs_on : (c : Parts) → c ≡ all_parts O z → IsPlaced O z → (r : List (List ℕ)) → c.stood ≡ r → On (pairs c r) z
   pairs_on c e h [] f =
@@ -192,7 +189,7 @@ module _ (z : Objects) (x : ℕ) (p : List ℕ) (y : ℕ) (t : List ℕ) where
 
     compared_on : (b : List ℕ) (g : Option ℕ) (v : Object) → fin.get z s.0 ≡ Some (record { bytes = b; header = g }) → fin.get z s.1 ≡ Some v → (r : Bool) → (text_eq b v.bytes && same_header g v.header) ≡ r → On (compared c n r) z
     compared_on b g v a d true f =
-        let w = both (text_eq b v.bytes) (same_header g v.header) f in
+        let w = and_parts (text_eq b v.bytes) (same_header g v.header) f in
         let same : v ≡ record { bytes = b; header = g } = λ i. record { bytes = sym (text_is b v.bytes w.0) i; header = sym (header_is g v.header w.1) i } in
         agreed_by (d ∙ ap Some same ∙ sym a) (nat_lt 1 (length (drop n c.stood))) refl
     compared_on b g v a d false f =
@@ -200,7 +197,7 @@ module _ (z : Objects) (x : ℕ) (p : List ℕ) (y : ℕ) (t : List ℕ) where
         (h.placed.place, h.placed.fit, first_other (λ q. other (some_is (sym a ∙ sym q ∙ d))), refl)
       where
         other : record { bytes = b; header = g } ≡ v → ⊥
-        other h = grind (arith, both_true, text_true, header_true)
+        other h = grind (arith, and_from, text_true, header_true)
 
     compare_one : (b : List ℕ) (g : Option ℕ) → StandsFirst z (drop n c.stood) b g → On (on_compare c n b g (found (fin.get z s.1))) z
     compare_one b g a = by (fin.get z s.1) refl

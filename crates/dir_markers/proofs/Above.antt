@@ -8,6 +8,7 @@ use Rattle.path_keys.specs.Paths.{is_key}
 use Rattle.path_keys.proofs.Keys.{some_key, key_from}
 use Rattle.path_keys.proofs.Last.{parts_round}
 use Rattle.dir_markers.specs.Markers.{marker_of, fronts, keys_above}
+use Rattle.proof_base.proofs.Bools.{all_three}
 
 map_append : {X Y : Type 0} (f : X → Y) (xs ys : List X) → map f (xs ++ ys) ≡ map f xs ++ map f ys
 map_append f [] ys = refl
@@ -60,10 +61,6 @@ marker_is_key key some k =
     let least : nat_le 1 (length (marker_of key)) ≡ true = at_most_so 1 (length (marker_of key)) (omega (arith, long)) in
     let most : nat_le (length (marker_of key)) 1024 ≡ true = at_most_so (length (marker_of key)) 1024 (omega (arith, long, short)) in
     all_three _ _ _ least most (ap are_elements (trimmed_marker key) ∙ is.0)
-  where
-    all_three : (a b c : Bool) → a ≡ true → b ≡ true → c ≡ true → (a && b && c) ≡ true
-    all_three a b c h i j = rw (h, i, j) refl
-
 -- what stands before a key's last `/` is not the root
 trimmed_short : (key : List ℕ) → length (trimmed key) ≤ length key
 trimmed_short key = by (nat_lt 0 (length key) && (slice_index key (length key - 1) == 47))

@@ -8,11 +8,12 @@ use Rattle.words.specs.Parts.{parts_of}
 use Rattle.path_keys.proofs.Keys.{some_key}
 use Rattle.path_keys.proofs.Last.{parts_round, front_is_key}
 use Rattle.fs_tree.specs.Changes.{MakesFile}
-use Rattle.fs_tree.proofs.Begins.{both, begins_trans, begins_marker, marker_is, marker_at}
+use Rattle.fs_tree.proofs.Begins.{begins_trans, begins_marker, marker_is, marker_at}
 use Rattle.fs_tree.proofs.Above.{NoSlash, Cut, cut, none_above, more_above, above_begins, begins_above}
 use Rattle.fs_ops.proofs.Showing.{element_some}
 use Rattle.bucket_ops.proofs.Below.{is_in, gone_in, kept_out}
 use Rattle.fs_files.specs.Placed.{object_of}
+use Rattle.std.proofs.lemmas.Bool.{and_parts}
 
 -- these are markers of directories above a path
 abbrev pub AreAbove : List ℕ → List (List ℕ) → Type 0
@@ -87,7 +88,7 @@ last_some p front back k e h =
     let long : length p ≡ length front + suc (length back) = ap length e ∙ length-append front (47 ∷ back) in
     let some : 0 < length p = omega (arith, long) in
     let all = sym (ap (list_all is_element) (parts_round p front back e h) ∙ list_all-append is_element (parts_of 47 front) (back ∷ [])) ∙ (some_key p some k).0 in
-    element_some back (both (is_element back) true (both (list_all is_element (parts_of 47 front)) (is_element back && true) all).1).0
+    element_some back (and_parts (is_element back) true (and_parts (list_all is_element (parts_of 47 front)) (is_element back && true) all).1).0
 
 more : (a f b p : ℕ) → 2 * a ≤ f → p ≡ f + suc b → 0 < b → 2 * (a + 1) ≤ p
 more a f b p h e g = omega (arith, h, e, g)

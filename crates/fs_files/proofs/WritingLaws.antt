@@ -22,6 +22,7 @@ use Rattle.fs_files.specs.declared.writing.Heard.TheVariants.{Done, On, Refusing
 use Rattle.fs_files.specs.code.Writing.{Writing, unsent, stream_of, first_stage, later_stage, is_short, is_due, stage_by, stage_in, id_in, asks_at, asks}
 use Rattle.fs_files.specs.code.Create.{Writes}
 use Rattle.fs_files.specs.code.Hearing.{begun, parted, refused, heard_at, heard, left}
+use Rattle.proof_base.proofs.Numbers.{at_most_is}
 
 -- ---- what a stage tells
 
@@ -42,9 +43,6 @@ not_less a b h = grind (arith, nat_tests)
 
 is_less : (a b : ℕ) → nat_lt a b ≡ true → a ≤ b
 is_less a b h = grind (arith, nat_tests)
-
-at_most : (a b : ℕ) → nat_le a b ≡ true → a ≤ b
-at_most a b h = grind (arith, nat_tests)
 
 module _ (b : List ℕ) (w : Writing) (some : 1 ≤ w.block) where
   abbrev M : Stream

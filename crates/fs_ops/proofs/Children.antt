@@ -9,9 +9,10 @@ use Rattle.s3_types.specs.declared.reply.PageEntry.TheVariants.{Object as Single
 use Rattle.store_frame.proofs.Flat.{found_in, found_at}
 use Rattle.store_frame.specs.Walk.{walked, text_of as walked_text}
 use Rattle.store_frame.proofs.Listed.{walked_listed}
-use Rattle.fs_tree.proofs.Begins.{both, begins_more}
+use Rattle.fs_tree.proofs.Begins.{begins_more}
 use Rattle.fs_tree.proofs.Moving.{rest_after}
 use Rattle.fs_tree.specs.Changes.{text_by}
+use Rattle.std.proofs.lemmas.Bool.{and_parts}
 
 abbrev pub NoSlash : List ℕ → Type 0
 NoSlash n = list_all (is_other 47) n ≡ true
@@ -24,13 +25,13 @@ child_at n s = record { name = n; status = s }
 before_at : (n : List ℕ) → NoSlash n → before_slash n ≡ None
 before_at [] h = refl
 before_at (x ∷ n) h =
-    let w = both (not (x == 47)) (list_all (is_other 47) n) h in
+    let w = and_parts (not (x == 47)) (list_all (is_other 47) n) h in
     ap (λ b. cond b (Some []) (option_map (λ s. x ∷ s) (before_slash n))) (not_so (x == 47) w.0) ∙ ap (option_map (λ s. x ∷ s)) (before_at n w.1)
 
 before_one : (n w : List ℕ) → NoSlash n → before_slash (n ++ 47 ∷ w) ≡ Some n
 before_one [] w h = refl
 before_one (x ∷ n) w h =
-    let g = both (not (x == 47)) (list_all (is_other 47) n) h in
+    let g = and_parts (not (x == 47)) (list_all (is_other 47) n) h in
     ap (λ b. cond b (Some []) (option_map (λ s. x ∷ s) (before_slash (n ++ 47 ∷ w)))) (not_so (x == 47) g.0) ∙ ap (option_map (λ s. x ∷ s)) (before_one n w g.1)
 
 stem_more : (q k : List ℕ) (x : ℕ) → stem (x ∷ q) (x ∷ k) ≡ option_map (λ s. x ∷ s) (stem q k)

@@ -3,9 +3,7 @@ use Rattle.std.proofs.Common.{◌≡◌, Bool, true, false, ℕ, suc, List, [], 
 use Rattle.path_keys.proofs.Common.{eqb-true, some_is}
 use Rattle.fs_ops.specs.Prelude.{Path, parent_of, marker_of, deleted, parent, marker_if}
 use Rattle.path_keys.proofs.Last.{before_none}
-
-no_some : {X : Type 0} {x : X} → None ≡ Some x → ⊥
-no_some e = cc
+use Rattle.proof_base.proofs.Options.{none_some}
 
 pub not_zero : (n : ℕ) → (suc n == 0) ≡ false
 not_zero n = grind arith
@@ -24,4 +22,4 @@ root_marker p o e f = by p.key refl (sym e ∙ f)
   where
     by : (k : List ℕ) → p.key ≡ k → above_by (length k == 0) p ≡ None → None ≡ marker_if (parent p.key)
     by [] i h = ap marker_if (before_none [] refl) ∙ ap (λ k. marker_if (parent k)) (sym i)
-    by (x ∷ k) i h = absurd (no_some (sym h ∙ ap (λ b. above_by b p) (not_zero (length k))))
+    by (x ∷ k) i h = absurd (none_some (sym h ∙ ap (λ b. above_by b p) (not_zero (length k))))

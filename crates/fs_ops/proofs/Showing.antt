@@ -10,13 +10,14 @@ use Rattle.std.specs.List.Sorted.{IsStrictlySortedBy}
 use Rattle.std.specs.FinMap as fin
 use Rattle.proof_base.proofs.Less.{less_of}
 use Rattle.words.specs.Parts.{parts_of}
-use Rattle.fs_tree.proofs.Begins.{both, begins_all, begins_more, begins_marker}
+use Rattle.fs_tree.proofs.Begins.{begins_all, begins_more, begins_marker}
 use Rattle.fs_tree.proofs.Moving.{rest_after}
 use Rattle.fs_tree.proofs.Above.{file_element, dir_element}
 use Rattle.fs_tree.specs.Tree.{IsFile}
 use Rattle.fs_tree.specs.Changes.{text_by, text_of, HasEntries}
 use Rattle.fs_ops.specs.code.List.{is_file, is_file_named, has_file, file_by, first_of, dir_named, dir_by}
 use Rattle.fs_ops.proofs.Children.{NoSlash, Standing, entry_at, entry_from, text_at, IsChild, shown_in, listed_rises, are_shown, file_listed, dir_listed}
+use Rattle.std.proofs.lemmas.Bool.{and_parts}
 
 abbrev child_at : List ℕ → Status → DirEntry
 child_at n s = record { name = n; status = s }
@@ -43,9 +44,9 @@ before_marker n = ap (λ l. lt text_cmp l (marker_of n)) (sym (append-nil n)) �
 -- what begins a directory's text begins its name, or is the text
 begins_front : (n m : List ℕ) → begins n (marker_of m) ≡ true → (n ≡ marker_of m) ⊎ (begins n m ≡ true)
 begins_front [] m h = inr refl
-begins_front (x ∷ []) [] h = inl (ap (λ v. v ∷ []) (eq_nat x 47 (both (nat_eq x 47) true h).0))
-begins_front (x ∷ y ∷ n) [] h = absurd (false≢true (both (nat_eq x 47) false h).1)
-begins_front (x ∷ n) (y ∷ m) h = let w = both (nat_eq x y) (begins n (marker_of m)) h in by (eq_nat x y w.0) w.0 (begins_front n m w.1)
+begins_front (x ∷ []) [] h = inl (ap (λ v. v ∷ []) (eq_nat x 47 (and_parts (nat_eq x 47) true h).0))
+begins_front (x ∷ y ∷ n) [] h = absurd (false≢true (and_parts (nat_eq x 47) false h).1)
+begins_front (x ∷ n) (y ∷ m) h = let w = and_parts (nat_eq x y) (begins n (marker_of m)) h in by (eq_nat x y w.0) w.0 (begins_front n m w.1)
   where
     by : x ≡ y → nat_eq x y ≡ true → (n ≡ marker_of m) ⊎ (begins n m ≡ true) → (x ∷ n ≡ marker_of (y ∷ m)) ⊎ (begins (x ∷ n) (y ∷ m) ≡ true)
     by h g e = grind arith
@@ -101,7 +102,7 @@ abbrev HasNamed : List ℕ → List DirEntry → Type 0
 HasNamed n es = (l : ℕ) × IsIn (child_at n (File l)) es
 
 named_is : (n : List ℕ) (e : DirEntry) (es : List DirEntry) → is_file_named n e ≡ true → HasNamed n (e ∷ es)
-named_is n e es h = let w = both (is_file e.status) (text_eq e.name n) h in by e.status refl w.0 (text_is e.name n w.1)
+named_is n e es h = let w = and_parts (is_file e.status) (text_eq e.name n) h in by e.status refl w.0 (text_is e.name n w.1)
   where
     by : (s : Status) → e.status ≡ s → is_file s ≡ true → e.name ≡ n → HasNamed n (e ∷ es)
     by Directory f h g = absurd (false≢true h)
@@ -332,7 +333,7 @@ module _ (p : List ℕ) (z : Objects) where
 
   module _ (ds found : List DirEntry) (entries : listed Q true [] z ≡ map (entry_from Q) ds) (are : (d : DirEntry) → IsIn d ds → IsChild Q z d) (f : Found ds ds found) where
     name_parts : (n : List ℕ) → IsName n → (is_element n ≡ true) × NoSlash n
-    name_parts n h = both (is_element n) (list_all (is_other 47) n) h
+    name_parts n h = and_parts (is_element n) (list_all (is_other 47) n) h
 
     named_some : (n : List ℕ) → IsName n → 0 < length (below p n)
     named_some n h = below_some n (element_some n (name_parts n h).0)
@@ -367,7 +368,7 @@ module _ (p : List ℕ) (z : Objects) where
     name_of n s h = ap (λ b. b && list_all (is_other 47) n) h ∙ s
 
     path_of : (k : List ℕ) → is_key k ≡ true → is_key_path k ≡ true
-    path_of k h = (both (is_utf8 k) (is_key_path k) h).1
+    path_of k h = (and_parts (is_utf8 k) (is_key_path k) h).1
 
     abbrev Entry : List ℕ → Status → Type 0
     Entry n s = (IsName n × IsStatus z (below p n) s) ⊎ HasOddKey z (below p n) s

@@ -5,15 +5,12 @@ use Rattle.path_keys.proofs.Common.{ltb-true, nat_tests, length-map, take_all, t
 use Rattle.fs_ops.specs.Prelude.{Objects, copied, Object, IsIn, edited, Stands}
 use Rattle.std.specs.FinMap as fin
 use Rattle.bucket_ops.proofs.Below.{is_in}
-use Rattle.fs_tree.proofs.Begins.{both}
 use Rattle.fs_rename.specs.declared.copying.Copying.{Copying}
 use Rattle.fs_rename.specs.Copies.{Move, IsOneOf, sources, targets, copied_all, copy_of, copy_asks, has_more, copied_next, IsCopying, IsCopied, copies_left, LessCopies, AreFree}
+use Rattle.std.specs.List.{take-map}
+use Rattle.std.proofs.lemmas.Bool.{and_parts}
 
 -- ---- lists of moves
-
-pub map_front : {X Y : Type 0} (f : X → Y) (n : ℕ) (xs : List X) → take n (map f xs) ≡ map f (take n xs)
-map_front f (suc n) (x ∷ xs) = ap (λ l. f x ∷ l) (map_front f n xs)
-map_front f _ _ = refl
 
 pub some_left : (n : ℕ) (ps : List Move) → n < length ps → (p : Move) × (qs : List Move) × (drop n ps ≡ p ∷ qs)
 some_left n [] h = absurd (omega (arith, h))
@@ -114,7 +111,7 @@ copied_append m [] qs = refl
 copied_append m (p ∷ ps) qs = copied_append (copied m p.1 (fin.get m p.0)) ps qs
 
 more_true : (n l : ℕ) → (nat_lt n l && nat_lt 1 (l - n)) ≡ true → n + 1 < l
-more_true n l h = let w = ltb-true 1 (l - n) (both (nat_lt n l) (nat_lt 1 (l - n)) h).1 in omega (arith, w)
+more_true n l h = let w = ltb-true 1 (l - n) (and_parts (nat_lt n l) (nat_lt 1 (l - n)) h).1 in omega (arith, w)
 
 more_false : (n l : ℕ) → n < l → (nat_lt n l && nat_lt 1 (l - n)) ≡ false → l ≤ suc n
 more_false n l k h = grind (arith, nat_tests, h, k)

@@ -6,18 +6,19 @@ use Rattle.words.specs.Parts.{parts_of}
 use Rattle.path_keys.proofs.Keys.{some_key}
 use Rattle.path_keys.proofs.Last.{parts_round, before_none}
 use Rattle.path_keys.proofs.Beneath.{below_elements}
-use Rattle.fs_tree.proofs.Begins.{both, marker_is}
+use Rattle.fs_tree.proofs.Begins.{marker_is}
 use Rattle.fs_tree.proofs.Above.{Cut, cut, marker_ends}
 use Rattle.fs_ops.proofs.Names.{last_end}
 use Rattle.fs_ops.proofs.MarkerAbove.{not_zero, above_by}
 use Rattle.fs_rename.proofs.Places.{some_long}
 use Rattle.fs_rename.specs.code.Rename.{inside_of, place_by}
+use Rattle.std.proofs.lemmas.Bool.{and_parts}
 
 -- ---- elements
 
 -- they do not end in `/`
 pub no_marker : (q : List ℕ) → are_elements q ≡ true → is_marker q ≡ false
-no_marker q h = grind (arith, marker_ends, parts_append, one_part, list_all-append, both)
+no_marker q h = grind (arith, marker_ends, parts_append, one_part, list_all-append, and_parts)
 
 -- there is at least one
 key_is : (q : List ℕ) → are_elements q ≡ true → key_if q ≡ Some q
@@ -35,7 +36,7 @@ own_elements p k = by (cut p)
         let e = parts_round p c.0 c.1 c.2 c.3 in
         let name : own_name p ≡ c.1 = ap last_of e ∙ last_end (parts_of 47 c.0) c.1 in
         let all = sym (ap (list_all is_element) e ∙ list_all-append is_element (parts_of 47 c.0) (c.1 ∷ [])) ∙ k in
-        ap are_elements name ∙ ap (list_all is_element) (one_part 47 c.1 c.3) ∙ (both (list_all is_element (parts_of 47 c.0)) (list_all is_element (c.1 ∷ [])) all).1
+        ap are_elements name ∙ ap (list_all is_element) (one_part 47 c.1 c.3) ∙ (and_parts (list_all is_element (parts_of 47 c.0)) (list_all is_element (c.1 ∷ [])) all).1
 
 -- the path inside the target has elements alone
 pub inside_elements : (s t : List ℕ) → 0 < length s → is_key s ≡ true → is_key t ≡ true → are_elements (inside s t) ≡ true

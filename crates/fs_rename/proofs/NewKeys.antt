@@ -6,6 +6,8 @@ use Rattle.path_keys.proofs.Beneath.{elements_append, key_path_from}
 use Rattle.fs_tree.proofs.Above.{marker_ends, marker_behind, other_end, cut_elements, key_elements, marker_elements}
 use Rattle.fs_ops.proofs.Showing.{rest_is as rest_follows}
 use Rattle.fs_rename.specs.Keys.{new_by, new_key, fitting, with_front, new_keys}
+use Rattle.proof_base.proofs.Bools.{all_three}
+use Rattle.proof_base.proofs.Lists.{some_length}
 
 -- ---- markers and limits
 
@@ -13,10 +15,6 @@ marker_got : (bs : List ℕ) (n b : ℕ) → suc n ≡ length bs → slice_get b
 marker_got (x ∷ []) zero b e h = ap (λ v. nat_eq v 47) (sym (some_is h))
 marker_got (x ∷ y ∷ bs) (suc n) b e h = marker_got (y ∷ bs) n b (omega (arith, e)) h
 marker_got _ _ b e h = absurd (omega (arith, e))
-
-some_length : (bs : List ℕ) (b : ℕ) → slice_get bs (length bs - 1) ≡ Some b → suc (length bs - 1) ≡ length bs
-some_length [] b h = absurd (cc)
-some_length (x ∷ bs) b h = omega arith
 
 pub marker_last : (bs : List ℕ) (b : ℕ) → Some b ≡ slice_get bs (length bs - 1) → nat_eq b 47 ≡ is_marker bs
 marker_last bs b h = marker_got bs (length bs - 1) b (some_length bs b (sym h)) (sym h)
@@ -31,9 +29,6 @@ short k h = short_by (is_marker k) (length k) h
 
 pub base_key : (q : List ℕ) → are_elements q ≡ true → is_too_long q ≡ false → is_key_path q ≡ true
 base_key q e f = key_path_from q e (short q f)
-
-all_three : (a b c : Bool) → a ≡ true → b ≡ true → c ≡ true → (a && b && c) ≡ true
-all_three a b c h i j = rw (h, i, j) refl
 
 key_path : (t : List ℕ) → 1 ≤ length t → length t ≤ 1024 → are_elements (trimmed t) ≡ true → is_key_path t ≡ true
 key_path t some most h = all_three _ _ _ (le-leb 1 (length t) some) (le-leb (length t) 1024 most) h

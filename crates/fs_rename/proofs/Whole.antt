@@ -8,7 +8,8 @@ use Rattle.fs_tree.proofs.Begins.{begins_all}
 use Rattle.fs_tree.proofs.Dropping.{marker_key}
 use Rattle.bucket_ops.proofs.Below.{is_in, gone_in, kept_out}
 use Rattle.fs_rename.specs.Copies.{Move, IsOneOf, sources, targets, copied_all, AreFree}
-use Rattle.fs_rename.proofs.CopyLaws.{map_front, in_targets, in_sources, is_target, is_source, one_in_take, copies_keep, not_target, copied_stand, all_stand}
+use Rattle.fs_rename.proofs.CopyLaws.{in_targets, in_sources, is_target, is_source, one_in_take, copies_keep, not_target, copied_stand, all_stand}
+use Rattle.std.specs.List.{take-map}
 
 -- the moves are under way, or done and a marker u is put
 pub record AreWhole (u : Option (List ℕ)) (z : Objects) (ps : List Move) (m : Objects) : Type 0 where
@@ -50,7 +51,7 @@ module _ (u : Option (List ℕ)) (z : Objects) (ps : List Move) (h : AreFree z p
     copying_order k l j i a b less e = by (is_in l (targets (take n ps)))
       where
         first : IsIn k (take n (sources ps)) → IsIn j (sources (take n ps))
-        first g = subst (IsIn j) (map_front (λ (p : Move). p.0) n ps) (earlier [] (sources ps) h.rises n k j g (in_sources ps j i b) less)
+        first g = subst (IsIn j) (take-map (λ (p : Move). p.0) n ps) (earlier [] (sources ps) h.rises n k j g (in_sources ps j i b) less)
 
         found : (w : (l : List ℕ) × IsOneOf j l (take n ps)) → IsOneOf j i (take n ps)
         found w = subst (λ v. IsOneOf j v (take n ps)) (h.only j w.0 i (one_in_take n j w.0 ps w.1) b) w.1
@@ -58,7 +59,7 @@ module _ (u : Option (List ℕ)) (z : Objects) (ps : List Move) (h : AreFree z p
         by : IsIn l (targets (take n ps)) ⊎ (IsIn l (targets (take n ps)) → ⊥) → fin.get M i ≡ fin.get z j
         by (inl t) =
             copied_stand z ps h n j i
-            (found (is_source (take n ps) j (first (subst (IsIn k) (sym (map_front (λ (p : Move). p.0) n ps)) (in_sources (take n ps) k l (new_copied k l a t))))))
+            (found (is_source (take n ps) j (first (subst (IsIn k) (sym (take-map (λ (p : Move). p.0) n ps)) (in_sources (take n ps) k l (new_copied k l a t))))))
         by (inr f) = absurd (none_some (sym e ∙ copies_keep z (take n ps) l f ∙ h.free k l a) (h.stands k l a).1)
 
     pub whole_copying : AreWhole u z ps M

@@ -10,7 +10,8 @@ use Rattle.path_keys.proofs.Keys.{some_key}
 use Rattle.path_keys.proofs.Last.{parts_round, before_slash, before_none}
 use Rattle.dir_markers.specs.Markers.{fronts}
 use Rattle.dir_markers.proofs.Above.{above_more, trimmed_marker}
-use Rattle.fs_tree.proofs.Begins.{both, begins_more, begins_all, begins_trans, begins_marker, marker_is, marker_at, no_empty}
+use Rattle.fs_tree.proofs.Begins.{begins_more, begins_all, begins_trans, begins_marker, marker_is, marker_at, no_empty}
+use Rattle.std.proofs.lemmas.Bool.{and_parts}
 
 -- ---- a text cut at its last `/`
 
@@ -30,21 +31,21 @@ cut (x ∷ p) = elim (cut p) [
 no_begin : (q p : List ℕ) → NoSlash p → begins (marker_of q) p ≡ true → ⊥
 no_begin q [] n h = no_empty q h
 no_begin [] (x ∷ p) n h =
-    let e : 47 ≡ x = eq_nat 47 x (both (nat_eq 47 x) true h).0 in
+    let e : 47 ≡ x = eq_nat 47 x (and_parts (nat_eq 47 x) true h).0 in
     false≢true (ap (λ v. not (v == 47) && list_all (is_other 47) p) e ∙ n)
-no_begin (y ∷ q) (x ∷ p) n h = no_begin q p (both (not (x == 47)) (list_all (is_other 47) p) n).1 (both (nat_eq y x) (begins (marker_of q) p) h).1
+no_begin (y ∷ q) (x ∷ p) n h = no_begin q p (and_parts (not (x == 47)) (list_all (is_other 47) p) n).1 (and_parts (nat_eq y x) (begins (marker_of q) p) h).1
 
 begins_cut : (q front back : List ℕ) → NoSlash back → begins (marker_of q) (front ++ 47 ∷ back) ≡ true → begins (marker_of q) (marker_of front) ≡ true
 begins_cut [] [] back n h = refl
 begins_cut [] (x ∷ front) back n h = h
-begins_cut (y ∷ q) [] back n h = absurd (no_begin q back n (both (nat_eq y 47) (begins (marker_of q) back) h).1)
+begins_cut (y ∷ q) [] back n h = absurd (no_begin q back n (and_parts (nat_eq y 47) (begins (marker_of q) back) h).1)
 begins_cut (y ∷ q) (x ∷ front) back n h =
-    let w = both (nat_eq y x) (begins (marker_of q) (front ++ 47 ∷ back)) h in
+    let w = and_parts (nat_eq y x) (begins (marker_of q) (front ++ 47 ∷ back)) h in
     ap (λ b. b && begins (marker_of q) (marker_of front)) w.0 ∙ begins_cut q front back n w.1
 
 front_begins : (front back : List ℕ) → begins (marker_of front) (front ++ 47 ∷ back) ≡ true
 front_begins [] back = refl
-front_begins (x ∷ front) back = ap (λ b. b && begins (marker_of front) (front ++ 47 ∷ back)) (both (nat_eq x x) (begins front front) (begins_all (x ∷ front))).0 ∙ front_begins front back
+front_begins (x ∷ front) back = ap (λ b. b && begins (marker_of front) (front ++ 47 ∷ back)) (and_parts (nat_eq x x) (begins front front) (begins_all (x ∷ front))).0 ∙ front_begins front back
 
 -- ---- the path above a path
 
@@ -113,7 +114,7 @@ key_no_marker x p k = contrary (is_marker (x ∷ p)) (λ e.
     let parts = ap (parts_of 47) w.1 ∙ parts_append 47 w.0 [] ∙ ap (λ (l : List (List ℕ)). parts_of 47 w.0 ++ l) (one_part 47 [] refl) in
     let all : (list_all is_element (parts_of 47 w.0) && false) ≡ true = sym (ap (list_all is_element) parts ∙ list_all-append is_element (parts_of 47 w.0) ([] ∷ []))
     ∙ (some_key (x ∷ p) (omega arith) k).0 in
-    (both (list_all is_element (parts_of 47 w.0)) false all).1)
+    (and_parts (list_all is_element (parts_of 47 w.0)) false all).1)
 
 -- ---- the elements of an object's key
 
@@ -129,12 +130,12 @@ pub marker_elements : (t front : List ℕ) → t ≡ front ++ 47 ∷ [] → are_
 marker_elements t front e = ap (λ t. are_elements (trimmed t)) e ∙ ap are_elements (trimmed_marker front)
 
 pub key_elements : (k : List ℕ) → is_key_path k ≡ true → are_elements (trimmed k) ≡ true
-key_elements k h = (both (nat_le 1 (length k) && nat_le (length k) 1024) (are_elements (trimmed k)) h).1
+key_elements k h = (and_parts (nat_le 1 (length k) && nat_le (length k) 1024) (are_elements (trimmed k)) h).1
 
 -- before a `/` and behind it
 pub cut_elements : (a r : List ℕ) → are_elements (a ++ 47 ∷ r) ≡ true → (are_elements a ≡ true) × (are_elements r ≡ true)
 cut_elements a r h =
-    both (are_elements a) (are_elements r) (sym (ap (list_all is_element) (parts_append 47 a r) ∙ list_all-append is_element (parts_of 47 a) (parts_of 47 r)) ∙ h)
+    and_parts (are_elements a) (are_elements r) (sym (ap (list_all is_element) (parts_append 47 a r) ∙ list_all-append is_element (parts_of 47 a) (parts_of 47 r)) ∙ h)
 
 -- before one that may be its last byte
 pub front_elements : (a r : List ℕ) → are_elements (trimmed (a ++ 47 ∷ r)) ≡ true → are_elements a ≡ true
@@ -155,10 +156,10 @@ front_elements a r h = elim (true_or_false (is_marker (47 ∷ r))) [
 pub plain_end : (n : List ℕ) → NoSlash n → is_marker n ≡ false
 plain_end [] s = refl
 plain_end (x ∷ []) s = (elim (x == 47) as (λ b. (x == 47) ≡ b → (x == 47) ≡ false) [ true ↦ λ e. absurd (false≢true (sym (ap (λ b. not b && true) e) ∙ s)) | false ↦ λ e. e ]) refl
-plain_end (x ∷ y ∷ n) s = plain_end (y ∷ n) (both (not (x == 47)) (list_all (is_other 47) (y ∷ n)) s).1
+plain_end (x ∷ y ∷ n) s = plain_end (y ∷ n) (and_parts (not (x == 47)) (list_all (is_other 47) (y ∷ n)) s).1
 
 pub name_element : (p n : List ℕ) → NoSlash n → are_elements (below p n) ≡ true → is_element n ≡ true
-name_element p n s h = (both (is_element n) true (sym (ap (list_all is_element) (one_part 47 n s)) ∙ behind p h)).0
+name_element p n s h = (and_parts (is_element n) true (sym (ap (list_all is_element) (one_part 47 n s)) ∙ behind p h)).0
   where
     behind : (p : List ℕ) → are_elements (below p n) ≡ true → are_elements n ≡ true
     behind [] h = h

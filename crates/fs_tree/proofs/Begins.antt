@@ -2,9 +2,7 @@
 use Rattle.std.proofs.Common.{◌≡◌, ◌⊎◌, inl, inr, ℕ, ◌&&◌, ◌≤◌, nat_eq, Bool, true, false, List, [], ◌∷◌, ◌++◌, length, refl, sym, ap, ◌∙◌, arith}
 use Rattle.path_keys.proofs.Common.{false≢true, eq_nat, nat_true}
 use Rattle.fs_tree.specs.Prelude.{begins, marker_of, is_marker}
-
-pub both : (a b : Bool) → (a && b) ≡ true → (a ≡ true) × (b ≡ true)
-both a b h = grind arith
+use Rattle.std.proofs.lemmas.Bool.{and_parts}
 
 pub begins_more : (p t : List ℕ) → begins p (p ++ t) ≡ true
 begins_more [] t = refl
@@ -22,8 +20,8 @@ begins_trans [] q k h g = refl
 begins_trans (x ∷ p) [] k h g = absurd (false≢true h)
 begins_trans (x ∷ p) (y ∷ q) [] h g = absurd (false≢true g)
 begins_trans (x ∷ p) (y ∷ q) (z ∷ k) h g =
-    let a = both (nat_eq x y) (begins p q) h in
-    let b = both (nat_eq y z) (begins q k) g in
+    let a = and_parts (nat_eq x y) (begins p q) h in
+    let b = and_parts (nat_eq y z) (begins q k) g in
     ap (λ c. c && begins p k) (ap (λ v. nat_eq v z) (eq_nat x y a.0) ∙ b.0) ∙ begins_trans p q k a.1 b.1
 
 -- of two beginnings of one text, one begins with the other
@@ -32,15 +30,15 @@ one_begins [] b k h g = inl refl
 one_begins (x ∷ a) [] k h g = inr refl
 one_begins (x ∷ a) (y ∷ b) [] h g = absurd (false≢true h)
 one_begins (x ∷ a) (y ∷ b) (z ∷ k) h g =
-    let i = both (nat_eq x z) (begins a k) h in
-    let j = both (nat_eq y z) (begins b k) g in
+    let i = and_parts (nat_eq x z) (begins a k) h in
+    let j = and_parts (nat_eq y z) (begins b k) g in
     let e = eq_nat x z i.0 ∙ sym (eq_nat y z j.0) in
     elim (one_begins a b k i.1 j.1) [ inl i ↦ inl (rw (nat_true x y e) i) | inr i ↦ inr (rw (nat_true y x (sym e)) i) ]
 
 pub begins_length : (p q : List ℕ) → begins p q ≡ true → length p ≤ length q
 begins_length [] q h = omega arith
 begins_length (x ∷ p) [] h = absurd (false≢true h)
-begins_length (x ∷ p) (y ∷ q) h = let e = begins_length p q (both (nat_eq x y) (begins p q) h).1 in omega (arith, e)
+begins_length (x ∷ p) (y ∷ q) h = let e = begins_length p q (and_parts (nat_eq x y) (begins p q) h).1 in omega (arith, e)
 
 -- a marker's key ends in `/`
 pub marker_is : (p : List ℕ) → is_marker (marker_of p) ≡ true
@@ -55,8 +53,8 @@ no_empty (y ∷ q) h = false≢true h
 -- a marker that begins with another is that of the same path, or of one below it
 pub marker_at : (q p : List ℕ) → begins (marker_of q) (marker_of p) ≡ true → (q ≡ p) ⊎ (begins (marker_of q) p ≡ true)
 marker_at [] [] h = inl refl
-marker_at (y ∷ q) [] h = absurd (no_empty q (both (nat_eq y 47) (begins (marker_of q) []) h).1)
+marker_at (y ∷ q) [] h = absurd (no_empty q (and_parts (nat_eq y 47) (begins (marker_of q) []) h).1)
 marker_at [] (x ∷ p) h = inr h
 marker_at (y ∷ q) (x ∷ p) h =
-    let w = both (nat_eq y x) (begins (marker_of q) (marker_of p)) h in
+    let w = and_parts (nat_eq y x) (begins (marker_of q) (marker_of p)) h in
     elim (marker_at q p w.1) [ inl g ↦ inl (λ i. eq_nat y x w.0 i ∷ g i) | inr g ↦ inr (rw w.0 g) ]

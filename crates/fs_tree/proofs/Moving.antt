@@ -7,11 +7,12 @@ use Rattle.words.specs.Parts.{parts_of}
 use Rattle.path_keys.proofs.Last.{parts_round, before_slash, before_none}
 use Rattle.fs_tree.specs.Changes.{IsMarkedAbove}
 use Rattle.fs_tree.specs.Moves.{MovesFile, MovesDir}
-use Rattle.fs_tree.proofs.Begins.{both, begins_more, begins_trans, begins_marker, marker_at}
+use Rattle.fs_tree.proofs.Begins.{begins_more, begins_trans, begins_marker, marker_at}
 use Rattle.fs_tree.proofs.Above.{NoSlash, cut, above_parent}
 use Rattle.fs_tree.proofs.Making.{dir_of, dir_each, dir_by}
 pub use Rattle.fs_tree.proofs.Dropping.{marker_not_below}
 use Rattle.fs_tree.proofs.Dropping.{not_above_root, stands_above, marked_was, marked_stands, marked_other, marked_files, above_kept, through}
+use Rattle.std.proofs.lemmas.Bool.{and_parts}
 
 -- ---- texts
 
@@ -20,7 +21,7 @@ pub rest_after : (p k : List ℕ) → begins p k ≡ true → (rest : List ℕ) 
 rest_after [] k h = (k, refl)
 rest_after (x ∷ p) [] h = absurd (false≢true h)
 rest_after (x ∷ p) (y ∷ k) h =
-    let w = both (nat_eq x y) (begins p k) h in
+    let w = and_parts (nat_eq x y) (begins p k) h in
     let r = rest_after p k w.1 in
     (r.0, same x y p k r.0 w.0 r.1)
   where

@@ -14,6 +14,7 @@ use Rattle.job_protocol.proofs.Begun.{after_check_so, clean_of_so, commit_of_so}
 use Rattle.job_facts.proofs.Sharing.{check_plain}
 use Rattle.job_traces.proofs.EveryRun.{just_set, checked_idle, cleans_is}
 use Rattle.job_actor.proofs.Picking.{unpicked}
+use Rattle.proof_base.proofs.Options.{both_hold}
 
 -- ---- what is read of a task
 
@@ -38,10 +39,6 @@ reads_so w minimum j s m h uncleaned few t low x e = by (sets_at w s.scene t) re
         let y = h.sets t b low stands in
         inr (files_set w y.by y.commits (knowing (m.drawn y.by)), ap set_read e ∙ set_reply j h w.committer t (Some b) stands ∙ ap ok_set (bytes_read j h few t b low y), y.latest)
 
--- a pick that is taken, and one that is left as it is
-taken : (b c : Bool) (x y : Option ℕ) → b ≡ true → c ≡ true → cond (b && c) x y ≡ x
-taken b c x y h g = rw (h, g) refl
-
 pub left : (b c : Bool) (x y : Option ℕ) → c ≡ false → cond (b && c) x y ≡ y
 left true c x y h = ap (λ d. cond d x y) h
 left false c x y h = refl
@@ -52,7 +49,7 @@ module _ (w : Script) (j : IsLegal w) (s : Seen) (begun : Bool) (has_begun : beg
   next = picks_by w begun s.last s.picks (set_request w.committer w t)
 
   pub next_here : next t ≡ s.last t
-  next_here = taken begun _ (s.last t) (s.picks t) has_begun (reads_it j t)
+  next_here = both_hold begun _ (s.last t) (s.picks t) has_begun (reads_it j t)
 
   pub next_other : (u : ℕ) → u < w.tasks → (u ≡ t → ⊥) → next u ≡ s.picks u
   next_other u l ne = left begun _ (s.last u) (s.picks u) (reads_other j u t l low ne)

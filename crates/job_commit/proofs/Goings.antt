@@ -18,6 +18,7 @@ use Rattle.job_commit.specs.declared.step.Step.{Step}
 use Rattle.job_commit.specs.declared.step.Step.TheVariants as steps
 use Rattle.job_commit.specs.declared.step.Next.{Next}
 use Rattle.job_commit.proofs.Steps.{some_so, holds_fetching, holds_replacing, holds_reverting, holds_over}
+use Rattle.proof_base.proofs.Numbers.{not_below}
 
 -- ---- a set
 
@@ -132,9 +133,6 @@ again_counted j sets places old step last lost asked is absent s h e f =
     subst P (sym (f ∙ ap counted is)) (record { is = same; asked = e ∙ counted_asks j sets places old absent' s ∙ ap (asks j) same; step = counted_holds j sets places old absent' s })
 
 -- ---- a request of a deletion wore out
-
-not_below : (m n : ℕ) → n ≤ m → nat_lt m n ≡ false
-not_below m n h = grind (arith, nat_tests)
 
 if_not : {b : Bool} (c d : Commit) → b ≡ false → d ≡ cond b c d
 if_not {b = b} c d e = let P : Bool → Type 0 = λ v. d ≡ cond v c d in subst P (sym e) refl

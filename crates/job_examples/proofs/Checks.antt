@@ -10,9 +10,7 @@ use Rattle.job_examples.specs.Jobs.{lake}
 use Rattle.proof_base.proofs.Members.{text_exact}
 use Rattle.job_examples.proofs.MapLists.{map_of, mapped}
 use Rattle.job_examples.proofs.Books.{Book, scene_of, content_of, text_found, at_bucket, after, is_ours, applies}
-
-pub either : (a b : Bool) → (a || b) ≡ true → (a ≡ true) ⊎ (b ≡ true)
-either a b h = grind arith
+use Rattle.std.proofs.lemmas.Bool.{or_cases}
 
 pub implied : (a b : Bool) → (not a || b) ≡ true → a ≡ true → b ≡ true
 implied a b h g = grind arith

@@ -8,7 +8,8 @@ use Rattle.job_examples.specs.Jobs.{lake}
 use Rattle.proof_base.proofs.Members.{text_exact}
 use Rattle.job_examples.proofs.MapLists.{map_of}
 use Rattle.job_examples.proofs.Books.{Book, Draft, upload_of, scene_of, content_of, is_ours, reply, is_ordered, answers, at_bucket, no_other, upload_found}
-use Rattle.job_examples.proofs.Checks.{either, implied, dest, same_files, files_are, visible, views, objects_at, are_ours, without_files, effect_on, effect_is, book_after, moment_is}
+use Rattle.job_examples.proofs.Checks.{implied, dest, same_files, files_are, visible, views, objects_at, are_ours, without_files, effect_on, effect_is, book_after, moment_is}
+use Rattle.std.proofs.lemmas.Bool.{or_cases}
 
 -- ---- what is outside the destination
 
@@ -136,7 +137,7 @@ sound_is b e h =
       inside = inside_is b r.0;
       uncopied = not_so _ s.0;
       no_data = λ d. not_so _ (subst (λ x. not (is_driver x && sends_data e.request) ≡ true) d t.0);
-      shows = λ o. elim (either _ _ (implied _ _ t.1 o)) [ inl f ↦ inl (files_are _ _ f) | inr g ↦ inr (showing_is e g) ];
+      shows = λ o. elim (or_cases _ _ (implied _ _ t.1 o)) [ inl f ↦ inl (files_are _ _ f) | inr g ↦ inr (showing_is e g) ];
     }
 
 -- ---- of a journal

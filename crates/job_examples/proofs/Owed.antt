@@ -6,8 +6,9 @@ use Rattle.job_spec.proofs.Common.{and_parts, false≢true, tied, not_so, text_i
 use Rattle.job_protocol.specs.View.{object_at}
 use Rattle.proof_base.proofs.Members.{text_exact}
 use Rattle.job_examples.proofs.Books.{Book, content_of, is_ours}
-use Rattle.job_examples.proofs.Checks.{either, implied, Listed, same_files, files_are, dest, visible, views, objects_at, without_files}
+use Rattle.job_examples.proofs.Checks.{implied, Listed, same_files, files_are, dest, visible, views, objects_at, without_files}
 use Rattle.job_examples.proofs.Sights.{Saw, seen_of, saw, sees_by, opens, opens_is}
+use Rattle.std.proofs.lemmas.Bool.{or_cases}
 
 -- ---- tests of lists
 
@@ -91,7 +92,7 @@ module _ (w : Script) (to : w.dest ≡ dest) (b : Book) where
   same x e p = shows x.book p ∙ ap (λ l. find text_cmp p l) e ∙ sym (shows b p)
 
   allowed : (x : Saw) → list_all (is_allowed w x.picks os) (visible x.book.objects) ≡ true → (p bytes : List ℕ) → view w.dest (content_of x.book) p ≡ Some bytes → (view w.dest (content_of b) p ≡ Some bytes) ⊎ (wanted_at w x.picks p ≡ Some bytes)
-  allowed x h p bytes e = elim (either _ _ (found_in (is_allowed w x.picks os) (visible x.book.objects) h p bytes (sym (shows x.book p) ∙ e))) [
+  allowed x h p bytes e = elim (or_cases _ _ (found_in (is_allowed w x.picks os) (visible x.book.objects) h p bytes (sym (shows x.book p) ∙ e))) [
     | inl g ↦ inl (shows b p ∙ at_is (find text_cmp p os) bytes g)
     | inr g ↦ inr (at_is (wanted_at w x.picks p) bytes g)
   ]

@@ -8,12 +8,13 @@ use Rattle.twin_facts.specs.Sides.{Side, First, Second, is_side, TwinEntry, in_e
 use Rattle.twin_facts.specs.TwinLaws.{Gives, counted, Marked, is_marked_by}
 use Rattle.twin_facts.specs.Events.{seen_twin, AtMoment}
 use Rattle.job_examples.specs.OneFile.{opening}
-use Rattle.job_examples.proofs.Checks.{either, implied, dest, are_ours, visible}
+use Rattle.job_examples.proofs.Checks.{implied, dest, are_ours, visible}
 use Rattle.job_examples.proofs.Sights.{nothing, scene_by}
 use Rattle.job_examples.proofs.Kept.{book_at, file_then, object_then, lookup_is}
 use Rattle.job_examples.proofs.Owed.{is_at, at_is, found_in}
 use Rattle.job_examples.specs.Jobs.{lake}
 use Rattle.job_examples.specs.TwoMagic.{sided, StrangeBy, AllStrange}
+use Rattle.std.proofs.lemmas.Bool.{or_cases}
 
 -- ---- strangers
 
@@ -137,7 +138,7 @@ module _ (w v : Script) (k l : Times) (mine : ℕ → Bool) (journal : List Entr
       let first = seen_scene w k First mine opening journal m in
       record {
         shows = record {
-          only = λ p b e. inr (elim (either _ _ (found_in (λ f. gives w s f || gives v t f) (visible os) a.0 p b (sym (there w s to first p) ∙ e))) [ inl g ↦ inl (gives_so w s p b g) | inr g ↦ inr (gives_so v t p b g) ]);
+          only = λ p b e. inr (elim (or_cases _ _ (found_in (λ f. gives w s f || gives v t f) (visible os) a.0 p b (sym (there w s to first p) ∙ e))) [ inl g ↦ inl (gives_so w s p b g) | inr g ↦ inr (gives_so v t p b g) ]);
           kept = λ p b e. absurd (none_some (file_then nothing journal ours 0 p) (sym (ap (λ d. view d opening p) to) ∙ e));
         };
         first = λ e. marked_so w v s t.picks to first (implied _ _ b.0 e);

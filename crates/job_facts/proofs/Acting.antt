@@ -2,7 +2,7 @@
 use Rattle.std.proofs.Common.{◌≡◌, ℕ, ◌||◌, false, Some, refl, sym, ap, subst, ◌∙◌, ◌⊎◌, inl, true, Bool, List, [], ◌∷◌, ◌++◌, map, take, Option, None, length, arith}
 use Rattle.job_facts.specs.Prelude.{answer, IsHonestOutcome, Request, Outcome, step, task_abort_after, Who, IsLegal, write_after, task_commit_after, Setting, Operation, TheWrite, TheTaskCommit, TheTaskAbort, asks, tells, Seen, Told, known, undoes, tell_attempt, IsAttempt, Hold, Fits, FitsWrite, FitsCommit, FitsAbort, Times, entry, tell, listed, ClusterRename, Reply, Page, Refused, NoSuchKey, NoSuchFile, Answered, Retried, File, Script, files, Drawn, Known, learn, record_key, walked_by, keys_on, last_of, Uploaded, GoesOn, AllSent, IsGone, upload_asks, upload_hears, TaskCommit, Looking, Reading, Publishing, Checking, Uploads, Storing, Renaming, TaskCommitOver, task_commit_asks, task_commit_hears, attempt_prefix, temporary_path, reading, looked, looked_at, read_record, storing, checking, checked, uploaded, renamed, least_missing, in_order, is_magic, is_staging, RisesFrom, AreCommits, Todo, AllWritten, IsOpen, PutObject, Committer, Magic, Place, MarkerPlace, RecordPlace, SetPlace, key_at, first_drawn, record_text, Uploading, Creating, Sending, Write, Recording, WriteOver, writing, write_asks, IsOwnPlace, Begun, FitsUpload, Wrote}
 use Rattle.job_facts.specs.Laws.{Goes}
-use Rattle.job_facts.proofs.Whose.{or_false, or_true, who_here}
+use Rattle.job_facts.proofs.Whose.{who_here}
 use Rattle.job_facts.proofs.Going.{known_now, Each, step_asked, unlearnt}
 use Rattle.job_facts.proofs.Aborting.{abort_goes}
 use Rattle.job_spec.proofs.Common.{map_in, false≢true}
@@ -16,6 +16,7 @@ use Rattle.job_protocol.specs.Writes as writes
 use Rattle.job_protocol.specs.Prelude.{write_hears}
 use Rattle.job_facts.proofs.Shapes.{last_so, page_is}
 use Rattle.job_facts.proofs.Owning.{operation_asked, asked_keeps, asked_adds, takes_back}
+use Rattle.std.proofs.Math.Bool.{or-false, or-true}
 
 -- ---- an attempt's write
 
@@ -33,7 +34,7 @@ module _ (w : Script) (minimum : ℕ) (a : Who) where
 module _ (w : Script) (minimum : ℕ) (k : Times) (s : Seen) (m : Told) (a : Who) (n : ℕ) (j : IsLegal w) (d : IsAttempt w a) (h : Hold w minimum s m) where
   -- what it puts is no task's set
   put_open : (p : Place) (bytes : List ℕ) (header : Option ℕ) → is_magic w.committer ≡ true → IsOwnPlace w p → (p ≡ SetPlace a.task → ⊥) → (o : Outcome) → IsOpen (known m a) → IsOpen (learn w a (known m a) (PutObject w.dest.bucket (key_at w.dest.key w.job p) bytes header) o)
-  put_open p bytes header magic own ne o free = (ap (λ b. m.publish_sent a || b) (not_set j magic a.task p own d.task ne) ∙ or_false (m.publish_sent a) ∙ free.0, free.1)
+  put_open p bytes header magic own ne o free = (ap (λ b. m.publish_sent a || b) (not_set j magic a.task p own d.task ne) ∙ or-false (m.publish_sent a) ∙ free.0, free.1)
 
   -- it goes on as it should
   write_heard : (op : Write) → FitsWrite w minimum a (known m a) op → Each (λ q. (x : Reply) → x ≡ answer s.scene q → FitsWrite w minimum a (learn w a (known m a) q (Answered x)) (write_hears w minimum op x)) (write_asks w a (known m a) op)
@@ -118,7 +119,7 @@ module _ (w : Script) (minimum : ℕ) (k : Times) (s : Seen) (m : Told) (a : Who
       let rises : RisesFrom [] (keys ++ found) = joins [] keys found fits.2 (subst (λ l. RisesFrom l found) (last_so keys) (page_rises 1000 p (last_of keys) h.there.0.objects)) in
       subst (λ y. FitsCommit w minimum a (known m a) (looked w a y)) (sym (page_is w s.scene h.there p keys x e)) (fits_looked w minimum a j (known m a) (keys ++ found) fits.0 fits.1 rises _)
   commit_heard repeated (Reading cs f fs) fits = λ x e. fits_read w minimum a j (known m a) cs f fs fits.0 fits.1 x
-  commit_heard repeated (Publishing cs) fits = λ x e z. ap (λ b. m.publish_sent a || b) (is_set_here w a) ∙ or_true (m.publish_sent a)
+  commit_heard repeated (Publishing cs) fits = λ x e z. ap (λ b. m.publish_sent a || b) (is_set_here w a) ∙ or-true (m.publish_sent a)
   commit_heard repeated (Checking p ps) fits = λ x e. fits_checked w minimum a j (known m a) p ps fits.0 fits.1 fits.2 x
   commit_heard repeated (Uploads f fs u) fits = λ x e.
       fits_uploaded w minimum a j (learn w a (known m a) (upload_asks w (known m a) f u) (Answered x)) f fs (upload_hears w minimum f u x) fits.0 (upload_flags w a (known m a) f u (Answered x) fits.1) (upload_goes w minimum s m a j h f fs u fits.2 x e)
@@ -141,7 +142,7 @@ module _ (g : Setting) (j : IsLegal g.script) (k : Times) (s : Seen) (m : Told) 
       record { hold = asked_keeps j k s m a n d h r asked o honest; fits = goes op fits e (asked_adds r asked) }
     where
       clean_now : m.undone a ≡ false → undoes r ≡ false → (tell_attempt g.script m a r o).undone a ≡ false
-      clean_now clean adds = who_here m.undone a (m.undone a || undoes r) a refl ∙ ap (λ b. m.undone a || b) adds ∙ or_false (m.undone a) ∙ clean
+      clean_now clean adds = who_here m.undone a (m.undone a || undoes r) a refl ∙ ap (λ b. m.undone a || b) adds ∙ or-false (m.undone a) ∙ clean
 
       goes : (op : Operation) → Fits g.script g.minimum a m op → asks g a (known m a) op ≡ Some r → ((takes_back op ≡ false) ⊎ (m.publish_sent a ≡ true) → undoes r ≡ false) → Fits g.script g.minimum a (tell g.script m (entry a n r o)) (tells g a op o)
       goes (TheWrite t) fits e adds = (

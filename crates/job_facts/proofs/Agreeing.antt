@@ -7,9 +7,10 @@ use Rattle.magic_paths.proofs.Tails.{below_is as paths_below}
 use Rattle.job_facts.proofs.Legal.{some_dest}
 use Rattle.job_facts.proofs.JobCommitting.{dest_below}
 use Rattle.job_protocol.specs.Conflicts.{is_below_any}
-use Rattle.job_facts.proofs.Whose.{attempt, or_true}
+use Rattle.job_facts.proofs.Whose.{attempt}
 use Rattle.job_facts.proofs.Held.{of_sets, task_low, revert_each, missed, worn, tells_so, Course, fetching_so, swept_so, completing_so}
 use Rattle.job_facts.proofs.Wanted.{wanted_here, still_apart}
+use Rattle.std.proofs.Math.Bool.{or-true}
 
 -- ---- what a replace mode deletes is what it does not keep
 
@@ -24,7 +25,7 @@ below_some (d ∷ dirs) q h = elim (true_or_false (begins (d ++ 47 ∷ []) q)) [
 below_one : (dirs : List (List ℕ)) (q d : List ℕ) → IsIn d dirs → begins (d ++ 47 ∷ []) q ≡ true → is_below_any dirs q ≡ true
 below_one [] q d i h = absurd i
 below_one (e ∷ dirs) q d (inl is) h = ap (λ x. begins (x ++ 47 ∷ []) q || is_below_any dirs q) (sym is) ∙ ap (λ b. b || is_below_any dirs q) h
-below_one (e ∷ dirs) q d (inr i) h = ap (λ b. begins (e ++ 47 ∷ []) q || b) (below_one dirs q d i h) ∙ or_true (begins (e ++ 47 ∷ []) q)
+below_one (e ∷ dirs) q d (inr i) h = ap (λ b. begins (e ++ 47 ∷ []) q || b) (below_one dirs q d i h) ∙ or-true (begins (e ++ 47 ∷ []) q)
 
 -- below a partition's prefix is what is below the partition
 partition_is : {w : Script} → IsLegal w → (d q : List ℕ) → begins (partition_prefix w d) (below w.dest.key q) ≡ begins (d ++ 47 ∷ []) q

@@ -8,13 +8,13 @@ use Rattle.s3_types.specs.Multipart as multipart
 use Rattle.list_walk.specs.Walks.{swept}
 use Rattle.job_protocol.specs.Cleanups.{Sweeping}
 use Rattle.job_facts.specs.Driver.{AllMagic, AllCluster, AllBelow}
-use Rattle.job_facts.proofs.Whose.{or_true}
 use Rattle.job_facts.proofs.Going.{Each, each_so, step_by}
 use Rattle.job_facts.proofs.Driving.{IsClearing, reads, aborts, batches, removes, clearing_keeps, clearing_hides}
 use Rattle.job_facts.proofs.Aborting.{taken, taken_in, dropped_in}
 use Rattle.job_facts.proofs.Shows.{HidesAll, hidden_shows}
 use Rattle.job_facts.proofs.Live.{refs_is}
 use Rattle.job_facts.proofs.Shapes.{more_keys, page_is, page_each}
+use Rattle.std.proofs.Math.Bool.{or-true}
 
 -- ---- what is found
 
@@ -69,7 +69,7 @@ module _ (w : Script) (minimum : ℕ) (k : Times) (s : Seen) (m : Told) (n : ℕ
   -- it goes on as it should
   module _ (timely : is_begun m.cleans_at n ≡ true) (retries : ℕ) (spare : ℕ) (repeated : Bool) where
     now : (m.cleaned || is_begun m.cleans_at n) ≡ true
-    now = ap (λ b. m.cleaned || b) timely ∙ or_true m.cleaned
+    now = ap (λ b. m.cleaned || b) timely ∙ or-true m.cleaned
 
     abbrev at : Clean → Retried Clean
     at op = record { operation = op; spare = spare; repeated = repeated }

@@ -14,8 +14,9 @@ use Rattle.job_facts.proofs.Shapes.{id_before, abort_turns}
 use Rattle.job_facts.proofs.Going.{Each, each_so, step_by, effect_so}
 use Rattle.job_facts.proofs.Undone.{deletes_drop}
 use Rattle.job_facts.proofs.Emptying.{still_there, sweep_begins, sweep_empties, sweep_still, Emptied}
-use Rattle.job_facts.proofs.Live.{find_in, last_more, page_covers, page_all, refs_rest, refs_is}
+use Rattle.job_facts.proofs.Live.{find_in, page_covers, page_all, refs_rest, refs_is}
 use Rattle.job_facts.proofs.Staged.{removed_stood}
+use Rattle.list_walk.proofs.Uploads.{refs_append}
 
 -- ---- as it ends
 
@@ -55,7 +56,7 @@ module _ (w : Script) (s : Scene) where
       | inl i ↦ inl (in_front (ref_at id u) found (take 1000 rest) i)
       | inr l ↦ elim (page_covers (dest_prefix w) (last_ref None found) there.0.uploads id u (here id u e) b l 1000) [
         | inl i ↦ inl (in_back (ref_at id u) found (take 1000 rest) i)
-        | inr g ↦ inr (ap (λ v. multipart.is_behind v (ref_at id u)) (last_more None found (take 1000 rest)) ∙ g)
+        | inr g ↦ inr (ap (λ v. multipart.is_behind v (ref_at id u)) (refs_append None found (take 1000 rest)) ∙ g)
       ]
     ]
 

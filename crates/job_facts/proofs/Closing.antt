@@ -3,11 +3,11 @@ use Rattle.std.proofs.Common.{◌≡◌, ℕ, inl, inr, nat_eq, ◌&&◌, ◌||�
 use Rattle.job_spec.proofs.Common.{and_parts, or_parts, some_is, false_true, eq_nat, true_or_false}
 use Rattle.job_facts.specs.Prelude.{is_effective, Request, Reply, Outcome, Pending, Who, IsLegal, Script, Drawn, sweep_asks, sweep_hears, nth, again, follow, dealt, revert, Sets, all_commits, Commit, Fetching, Replacing, Completing, Marking, Reverting, CommitOver, set_request, set_read, commit_asks, commit_hears, commit_tells, commit_start, is_no_magic, reverting, Seen, is_begun, Tabled, Setting, Operation, asks, IsIn, Scene, Told, known, ends, tell_driver, tell_attempt, at_event, Facts, Hold, Fits, Reads, FitsJobCommit, Closed, Reverts}
 use Rattle.job_facts.specs.Standing.{IsSent, EndsSent}
-use Rattle.job_facts.proofs.Whose.{or_true}
 use Rattle.job_facts.proofs.Held.{nth_of, of_sets, revert_each, missed, worn, tells_so, Course, fetching_so, swept_so, fetched_so, completing_so}
 use Rattle.job_facts.proofs.Beside.{still_sent, still_known}
 use Rattle.job_facts.proofs.Foreign.{set_reads, reads_name}
 use Rattle.job_facts.proofs.Turning.{sweep_none}
+use Rattle.std.proofs.Math.Bool.{or-true}
 
 module _ (w : Script) (sent : Who → Bool) (drawn : Who → List Drawn) where
   abbrev EndsOnly : Request → Type 0
@@ -113,7 +113,7 @@ commit_closes g j s m h closed c f t v r e n o = (
 
 -- and of its abort or clean, which has begun then
 pub clean_begun : (m : Told) (n : ℕ) → is_begun m.cleans_at n ≡ true → (r : Request) (o : Outcome) → (at_event n (tell_driver m r o)).cleaned ≡ true
-clean_begun m n timely r o = ap (λ b. m.cleaned || b) timely ∙ or_true m.cleaned
+clean_begun m n timely r o = ap (λ b. m.cleaned || b) timely ∙ or-true m.cleaned
 
 pub clean_closes : (m : Told) (n : ℕ) → is_begun m.cleans_at n ≡ true → (r : Request) (o : Outcome) → Closed (at_event n (tell_driver m r o))
 clean_closes m n timely r o c id x = absurd (false_true c (clean_begun m n timely r o))

@@ -6,16 +6,15 @@ use Rattle.path_keys.proofs.Common.{below_is}
 use Rattle.job_spec.specs.Prelude.{was_answered, streak}
 use Rattle.retries.proofs.Misses.{streak_same, worn_now, worn_more}
 use Rattle.job_protocol.proofs.Tables.{table_dealt, table_answered, table_again, all_done}
-use Rattle.job_facts.proofs.Whose.{attempt, or_true, or_false, and_false}
+use Rattle.job_facts.proofs.Whose.{attempt}
 use Rattle.job_facts.proofs.Placed.{one_key}
 use Rattle.job_facts.proofs.Turning.{none_turned}
 use Rattle.job_facts.proofs.Held.{nth_of, number_of, of_sets, uploads_uniq, destinations_uniq, set_has, task_low, to_in, from_in, deletes_tried, deletes_done, either, tells_so, Course, fetched_so, swept_so, completing_so}
 use Rattle.job_facts.proofs.Wanted.{wanted_of, wanted_here}
 use Rattle.job_facts.proofs.Effects.{completes_file, completes_nothing, other_key, abort_keys, deletion_is, deletion_key, deletion_other}
 use Rattle.job_facts.proofs.Going.{effect_so}
-
-some_lane : {n : ℕ} → 1 ≤ n → 0 < n
-some_lane h = omega arith
+use Rattle.std.proofs.Math.Bool.{and-false, or-false, or-true}
+use Rattle.proof_base.proofs.Numbers.{above_zero}
 
 -- what stood before the commit still does, or nothing
 pub before_stays : {first u v : Option Object} → (v ≡ u) ⊎ (v ≡ None) → IsBefore first u → IsBefore first v
@@ -91,7 +90,7 @@ module _ {w : Script} {minimum : ℕ} {s : Scene} {last : ℕ → Option ℕ} {m
           let xs = dealt w.lanes (length (all_commits sets)) in
           let reads = completing_so (λ c. FitsJobCommit w minimum m.publish_sent m.drawn c → Reads w minimum m.publish_sent m.drawn sets) sets xs [] (λ h. h) (λ y ys h. h) fits in
           let these = completing_so (λ c. Wants w q b c → wanted_at w (picks_of sets) q ≡ Some b) sets xs [] (λ h. h) (λ y ys h. h) wants in
-          stands_completing sets told now xs [] reads these (table_dealt w.lanes w.retries (length (all_commits sets)) (some_lane j.one_lane)) (none_turned told none sets xs)
+          stands_completing sets told now xs [] reads these (table_dealt w.lanes w.retries (length (all_commits sets)) (above_zero j.one_lane)) (none_turned told none sets xs)
           (λ p i e. ((λ g. absurd (false_true (none p.upload) g)), (λ g. before)));
     }
 
@@ -157,13 +156,13 @@ module _ {w : Script} {minimum : ℕ} {s : Scene} {last : ℕ → Option ℕ} {m
     Here o = ((told o).ended p.upload ≡ true → after (completion p) o ≡ Some (whole_of b)) × ((told o).ended p.upload ≡ false → IsBefore first (after (completion p) o))
 
     here : p.destination ≡ at → (o : Outcome) → Here o
-    here e Slow = let h = old p (nth_of all x.number low) e in ((λ g. h.0 (sym (or_false (m.ended p.upload)) ∙ g)), (λ g. h.1 (sym (or_false (m.ended p.upload)) ∙ g)))
-    here e RequestLost = let h = old p (nth_of all x.number low) e in ((λ g. h.0 (sym (or_false (m.ended p.upload)) ∙ g)), (λ g. h.1 (sym (or_false (m.ended p.upload)) ∙ g)))
-    here e _ = ((λ g. whole_now e), (λ g. absurd (false_true g (ap (λ v. m.ended p.upload || v) (nat_true p.upload p.upload refl) ∙ or_true (m.ended p.upload)))))
+    here e Slow = let h = old p (nth_of all x.number low) e in ((λ g. h.0 (sym (or-false (m.ended p.upload)) ∙ g)), (λ g. h.1 (sym (or-false (m.ended p.upload)) ∙ g)))
+    here e RequestLost = let h = old p (nth_of all x.number low) e in ((λ g. h.0 (sym (or-false (m.ended p.upload)) ∙ g)), (λ g. h.1 (sym (or-false (m.ended p.upload)) ∙ g)))
+    here e _ = ((λ g. whole_now e), (λ g. absurd (false_true g (ap (λ v. m.ended p.upload || v) (nat_true p.upload p.upload refl) ∙ or-true (m.ended p.upload)))))
 
     -- another upload is as it was
     ended_same : (o : Outcome) (u : ℕ) → (u ≡ p.upload → ⊥) → (told o).ended u ≡ m.ended u
-    ended_same o u ne = ap (λ v. m.ended u || (is_effective o && v)) (nat_false u p.upload ne) ∙ ap (λ v. m.ended u || v) (and_false (is_effective o)) ∙ or_false (m.ended u)
+    ended_same o u ne = ap (λ v. m.ended u || (is_effective o && v)) (nat_false u p.upload ne) ∙ ap (λ v. m.ended u || v) (and-false (is_effective o)) ∙ or-false (m.ended u)
 
     clause_after : (o : Outcome) → Clause j f q b first sets (after (completion p) o) (told o).ended
     clause_after o v i e =
@@ -227,7 +226,7 @@ module _ {w : Script} {minimum : ℕ} {s : Scene} {last : ℕ → Option ℕ} {m
         → (o : Outcome) → Now o (commit_tells w (Completing sets x xs finished) o)
     completing_stands h g (Answered y) =
         stands_completing j f q b first (more (completion p) (Answered y)) sets (told (Answered y)) (after (completion p) (Answered y)) (xs ++ follow w.lanes (length all) x.number) (x.number ∷ finished) reads wants
-        (table_answered x (some_lane j.one_lane) t) (h y) (clause_after (Answered y))
+        (table_answered x (above_zero j.one_lane) t) (h y) (clause_after (Answered y))
     completing_stands h g Slow = missed Slow false (g Slow false (λ e. absurd (false_true refl e)))
     completing_stands h g o = missed o true (g o true (λ e. refl))
 

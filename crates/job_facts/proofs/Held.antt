@@ -2,13 +2,14 @@
 use Rattle.std.proofs.Common.{◌≡◌, ℕ, zero, suc, ◌+◌, ◌<◌, ◌≤◌, inl, inr, true, List, [], ◌∷◌, ◌++◌, map, length, slice_get, Option, Some, None, refl, sym, ap, subst, ◌∙◌, arith, ◌⊎◌, ◌&&◌, ◌||◌, nat_eq, nat_lt, Bool, false, cond}
 use Rattle.job_facts.specs.Prelude.{option_map, Scene, Pending, PendingSet, File, Who, IsLegal, Script, Drawn, Picks, files, files_picked, writes, same_path, drawn_for, drawn_in, file_key, file_record, nth, Sets, all_commits, picks_of, IsIn, Told, ApartFiles, Facts, knowing, IsHeldSet, Reads, IsCommit, Request, Turn, abort, deletion, chosen, undo, in_turn, is_tried, is_unsent, revert, In, Reply, Outcome, Answered, Slow, CommitEnd, Sweep, Listing, again, dealt, Commit, Fetching, Replacing, Completing, Marking, Reverting, CommitOver, commit_hears, commit_misses, commit_tells, completing, replaced, replacing, decided, fetching, fetched, swept, reverting, worn_completion}
 use Rattle.job_spec.proofs.Common.{shared_none, some_is, none_some, in_map, map_in, in_append, in_front, in_back, cases_lt, nat_true, lt-ltb, ltb-false}
-use Rattle.job_facts.proofs.Whose.{attempt, or_true}
+use Rattle.job_facts.proofs.Whose.{attempt}
 use Rattle.job_facts.proofs.Legal.{is_attempt, has}
 use Rattle.job_facts.proofs.Placed.{one_key}
 use Rattle.job_facts.proofs.Legible.{drawn_is}
 use Rattle.path_keys.proofs.Common.{below_is}
 use Rattle.job_model.specs.declared.ends.CommitEnd.TheVariants as ends
 use Rattle.job_model.specs.declared.ends.Stage.TheVariants as stages
+use Rattle.std.proofs.Math.Bool.{or-true}
 
 -- ---- lists of uploads
 
@@ -254,7 +255,7 @@ tried (x ∷ xs) y (inl e) some =
     let has : nat_lt 0 y.missed ≡ true = lt-ltb 0 y.missed (omega (arith, some)) in
     ap (λ (z : Turn). (nat_eq y.number z.number && nat_lt 0 z.missed) || is_tried xs y.number) e
     ∙ ap (λ b. (b && nat_lt 0 y.missed) || is_tried xs y.number) (nat_true y.number y.number refl) ∙ ap (λ b. b || is_tried xs y.number) has
-tried (x ∷ xs) y (inr i) some = let b = nat_eq y.number x.number && nat_lt 0 x.missed in ap (λ c. b || c) (tried xs y i some) ∙ or_true b
+tried (x ∷ xs) y (inr i) some = let b = nat_eq y.number x.number && nat_lt 0 x.missed in ap (λ c. b || c) (tried xs y i some) ∙ or-true b
 
 -- what holds of each of the uploads, of what wore out and of what is done holds of what its requests are about
 pub revert_so : (P : Pending → Type 0) (all : List Pending) (worn : ℕ) (xs : List Turn) (finished : List ℕ) → ((p : Pending) → IsIn p all → P p) → P (nth all worn) → ((n : ℕ) → In n finished → P (nth all n)) → (r : Request) → IsIn r (revert all worn xs finished)

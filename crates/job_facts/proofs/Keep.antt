@@ -9,8 +9,9 @@ use Rattle.job_facts.proofs.Placed.{not_both, record_place, own_place, record_ma
 use Rattle.job_facts.proofs.Legal.{small_task}
 use Rattle.s3_types.specs.Tags.{plain_tag}
 use Rattle.job_protocol.specs.Knowledge.{with_part as drawn_part}
-use Rattle.job_facts.proofs.Whose.{same_or_another, who_here, who_other, and_false}
+use Rattle.job_facts.proofs.Whose.{same_or_another, who_here, who_other}
 use Rattle.job_facts.specs.Told.{with_known}
+use Rattle.std.proofs.Math.Bool.{and-false}
 
 -- ---- what stays
 
@@ -466,7 +467,7 @@ told_is m a k u d p s v = λ i. record { drawn = d i; put_sent = p i; publish_se
 
 -- the last publishers, where it published nothing
 pub last_if : (task attempt : ℕ) (last : ℕ → Option ℕ) (b : Bool) → b ≡ false → (λ t. cond (nat_eq t task && b) (Some attempt) (last t)) ≡ last
-last_if task attempt last b e = λ i t. (ap (λ v. cond (nat_eq t task && v) (Some attempt) (last t)) e ∙ ap (λ v. cond v (Some attempt) (last t)) (and_false (nat_eq t task))) i
+last_if task attempt last b e = λ i t. (ap (λ v. cond (nat_eq t task && v) (Some attempt) (last t)) e ∙ ap (λ v. cond v (Some attempt) (last t)) (and-false (nat_eq t task))) i
 
 -- it is enough to see to what is told, and to its effect
 module _ (w : Script) (minimum : ℕ) (k : Times) (s : Seen) (m : Told) (a : Who) (n : ℕ) (r : Request) where

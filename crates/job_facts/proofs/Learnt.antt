@@ -2,8 +2,8 @@
 use Rattle.std.proofs.Common.{◌≡◌, ℕ, inl, inr, nat_eq, ◌&&◌, ◌||◌, Bool, true, false, cond, List, [], ◌∷◌, refl, sym, ap, ◌∙◌, arith}
 use Rattle.job_spec.proofs.Common.{and_parts, nat_true, eq_nat, true_or_false}
 use Rattle.job_facts.specs.Prelude.{Actor, Driver, Attempt, Shell, Request, Outcome, Entry, Who, actor_of, Script, learn, knows_from, same_actor, by_actor, has_cleaned, is_begun, is_driver, Told, known, tell, tell_by, tell_driver, tell_attempt, at_event, tell_all}
-use Rattle.job_facts.proofs.Whose.{attempt, who_of, or_false, same_or_another, who_here, who_other}
-use Rattle.std.proofs.Math.Bool.{or_assoc}
+use Rattle.job_facts.proofs.Whose.{attempt, who_of, same_or_another, who_here, who_other}
+use Rattle.std.proofs.Math.Bool.{or_assoc, or-false}
 
 module _ (w : Script) (a : Who) where
   same_one : (t n : ℕ) → same_actor (Attempt t n) (actor_of a) ≡ true → a ≡ attempt t n
@@ -42,7 +42,7 @@ module _ (w : Script) (a : Who) where
 -- ---- the driver cleans up
 
 pub cleaned_is : (w : Script) (es : List Entry) (m : Told) → (tell_all w m es).cleaned ≡ (m.cleaned || has_cleaned m.cleans_at es)
-cleaned_is w [] m = sym (or_false m.cleaned)
+cleaned_is w [] m = sym (or-false m.cleaned)
 cleaned_is w (e ∷ es) m = by e.actor (λ v. cleaned_is w es v)
   where
     by : (x : Actor) → ((v : Told) → (tell_all w v es).cleaned ≡ (v.cleaned || has_cleaned v.cleans_at es)) → (tell_all w (tell_by w m e.event e.request e.outcome x) es).cleaned ≡ (m.cleaned || ((is_driver x && is_begun m.cleans_at e.event) || has_cleaned m.cleans_at es))

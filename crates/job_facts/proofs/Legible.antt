@@ -24,13 +24,12 @@ use Rattle.words.specs.Parts.{parts_of}
 use Rattle.s3_types.specs.Names as names
 use Rattle.path_keys.proofs.Beneath.{below_elements, key_path_from}
 use Rattle.job_model.proofs.Unique.{Cut, cut_id}
+use Rattle.proof_base.proofs.Numbers.{dot_not}
+use Rattle.proof_base.proofs.Lists.{one_byte}
 
 -- ---- the keys of an attempt's files are keys, also where their names are made unique to the job
 
 -- ---- elements
-
-dot_not : (b : ℕ) → (nat_eq b 95 || nat_eq b 46) ≡ false → (b == 46) ≡ false
-dot_not b h = grind (arith, nat_tests)
 
 element_so : (e : List ℕ) → is_full e ≡ true → begins_hidden e ≡ false → is_element e ≡ true
 element_so e h g = grind arith
@@ -96,9 +95,6 @@ placed_short : (unique : Bool) (id p : List ℕ) → is_job_id id ≡ true → I
 placed_short unique id p h g = grind (arith, short_path, leb-true, and_parts, unique_long)
 
 -- ---- UTF-8
-
-one_byte : (b : ℕ) → b < 128 → IsUtf8 (b ∷ [])
-one_byte b h = IsUtf8-from_ascii (b ∷ []) (IsAscii-cons b [] h IsAscii-nil)
 
 id_ascii : (bs : List ℕ) → list_all is_id_byte bs ≡ true → IsAscii bs
 id_ascii [] h = IsAscii-nil

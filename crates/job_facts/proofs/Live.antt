@@ -13,6 +13,7 @@ use Rattle.std.specs.List.Sorted.{IsStrictlySortedBy}
 use Rattle.s3_types.specs.Multipart.{listed}
 use Rattle.proof_base.proofs.Members.{ties}
 use Rattle.job_facts.proofs.Shapes.{answer_is}
+use Rattle.list_walk.proofs.Uploads.{refs_append}
 
 refs_total : IsTotalOrder ref_cmp
 refs_total = then_total (on_total (λ r. r.key) text_total) (on_total (λ r. r.upload) nat_cmp_total)
@@ -68,10 +69,6 @@ take_or zero rs l r s h i = inr h
 take_or (suc n) [] l r s h i = absurd i
 take_or (suc n) (q ∷ rs) l r s h (inl e) = inl (inl e)
 take_or (suc n) (q ∷ rs) l r s h (inr i) = elim (take_or n rs (Some q) r (sorted_tail ref_cmp q rs s) (ap is_lt (above_all ref_cmp q rs r (sorted_head ref_cmp q rs s) i)) i) [ inl g ↦ inl (inr g) | inr g ↦ inr g ]
-
-pub last_more : (l : Option UploadRef) (rs more : List UploadRef) → last_ref l (rs ++ more) ≡ last_ref (last_ref l rs) more
-last_more l [] more = refl
-last_more l (r ∷ rs) more = last_more (Some r) rs more
 
 module _ (p : List ℕ) (l : Option UploadRef) (m : Uploads) (id : ℕ) (x : Upload) (e : fin.get m id ≡ Some x) (h : begins p x.key ≡ true) (g : is_behind l (ref_at id x) ≡ true) where
   -- a live upload behind the last one is on the page, or behind its last

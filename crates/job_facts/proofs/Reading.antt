@@ -8,14 +8,13 @@ use Rattle.job_facts.proofs.Placed.{one_place, one_path}
 use Rattle.job_facts.proofs.Replies.{set_answered}
 use Rattle.job_facts.proofs.Agreeing.{AgreeBelow, Agrees, agrees_fetching}
 use Rattle.std.specs.Cmp.Derive.{both_true}
-use Rattle.job_facts.proofs.Whose.{and_false}
+use Rattle.std.proofs.lemmas.Bool.{and_right}
+use Rattle.proof_base.proofs.Lists.{slice_last}
+use Rattle.std.proofs.Math.Bool.{and-false}
 
 -- ---- which task a read is of
 
 module _ {w : Script} (j : IsLegal w) where
-  and_end : (a b : Bool) → b ≡ false → (a && b) ≡ false
-  and_end a b h = ap (λ c. a && c) h ∙ and_false a
-
   reads_by : (c : Committer) → w.committer ≡ c → (t : ℕ) → is_reading w t (set_request c w t) ≡ true
   reads_by Magic e t = both_true (ap is_magic e) (both_true (text_true w.dest.bucket w.dest.bucket refl) (text_true (layout.set_key w.dest.key w.job t) (layout.set_key w.dest.key w.job t) refl))
   reads_by _ e t = both_true (ap is_staging e) (text_true (layout.staged_set_path w.job t) (layout.staged_set_path w.job t) refl)
@@ -24,8 +23,8 @@ module _ {w : Script} (j : IsLegal w) where
   reads_it t = reads_by w.committer refl t
 
   other_by : (c : Committer) → (t u : ℕ) → t < w.tasks → u < w.tasks → (t ≡ u → ⊥) → is_reading w t (set_request c w u) ≡ false
-  other_by Magic t u l k ne = and_end _ _ (and_end _ _ (text_false _ _ (λ e. ne (let at : SetPlace u ≡ SetPlace t = one_place j (SetPlace u) (SetPlace t) (small_task j u k) (small_task j t l) e in cc))))
-  other_by _ t u l k ne = and_end _ _ (text_false _ _ (λ e. ne (let at : StagedSetPlace u ≡ StagedSetPlace t = one_path j (StagedSetPlace u) (StagedSetPlace t) (small_task j u k) (small_task j t l) e in cc)))
+  other_by Magic t u l k ne = and_right _ _ (and_right _ _ (text_false _ _ (λ e. ne (let at : SetPlace u ≡ SetPlace t = one_place j (SetPlace u) (SetPlace t) (small_task j u k) (small_task j t l) e in cc))))
+  other_by _ t u l k ne = and_right _ _ (text_false _ _ (λ e. ne (let at : StagedSetPlace u ≡ StagedSetPlace t = one_path j (StagedSetPlace u) (StagedSetPlace t) (small_task j u k) (small_task j t l) e in cc)))
 
   pub reads_other : (t u : ℕ) → t < w.tasks → u < w.tasks → (t ≡ u → ⊥) → is_reading w t (set_request w.committer w u) ≡ false
   reads_other t u l k ne = other_by w.committer t u l k ne
@@ -37,17 +36,13 @@ slice_front [] y n l = absurd (omega arith)
 slice_front (x ∷ xs) y zero l = refl
 slice_front (x ∷ xs) y (suc n) l = slice_front xs y n (omega arith)
 
-slice_last : {X : Type 0} (xs : List X) (y : X) → slice_get (xs ++ y ∷ []) (length xs) ≡ Some y
-slice_last [] y = refl
-slice_last (x ∷ xs) y = slice_last xs y
-
 module _ {w : Script} {minimum : ℕ} {s : Scene} {last : ℕ → Option ℕ} {m : Told} (j : IsLegal w) (f : Facts w minimum s last m) (few : s.content.next ≤ 2 ^ 64) (picks : Picks) (sets : Sets) (low : length sets < w.tasks) (agree : AgreeBelow w picks sets (length sets)) (begun : Bool) (has_begun : begun ≡ true) where
   -- the picks after the answer
   abbrev next : Picks
   next = picks_by w begun last picks (set_request w.committer w (length sets))
 
   next_other : (t : ℕ) → t < w.tasks → (t ≡ length sets → ⊥) → next t ≡ picks t
-  next_other t l ne = ap (λ b. cond (begun && b) (last t) (picks t)) (reads_other j t (length sets) l low ne) ∙ ap (λ b. cond b (last t) (picks t)) (and_false begun)
+  next_other t l ne = ap (λ b. cond (begun && b) (last t) (picks t)) (reads_other j t (length sets) l low ne) ∙ ap (λ b. cond b (last t) (picks t)) (and-false begun)
 
   next_here : next (length sets) ≡ last (length sets)
   next_here = ap (λ b. cond (begun && b) (last (length sets)) (picks (length sets))) (reads_it j (length sets)) ∙ ap (λ b. cond (b && true) (last (length sets)) (picks (length sets))) has_begun

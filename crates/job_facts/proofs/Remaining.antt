@@ -22,8 +22,8 @@ use Rattle.job_facts.proofs.Ordered.{order_each}
 use Rattle.job_facts.proofs.Emptying.{magic_some}
 use Rattle.job_facts.proofs.Apart.{HasKey, HasPath, record_own, record_below, another, key_left, path_left, write_keys, write_paths, commit_keys, abort_keys}
 use Rattle.job_facts.proofs.Going.{effect_so}
-use Rattle.job_facts.proofs.Whose.{or_true}
 use Rattle.job_facts.proofs.Owning.{operation_asked, asked_path}
+use Rattle.std.proofs.Math.Bool.{or-true}
 
 -- ---- from one moment to another what it has written stays
 
@@ -163,7 +163,7 @@ commit_begins P w j s a h = by w.committer refl
 there_any : (k : List ℕ) (ks : List (List ℕ)) → IsIn k ks → list_any (text_eq k) ks ≡ true
 there_any k [] i = absurd i
 there_any k (q ∷ ks) (inl e) = ap (λ b. b || list_any (text_eq k) ks) (text_true k q e)
-there_any k (q ∷ ks) (inr i) = ap (λ b. text_eq k q || b) (there_any k ks i) ∙ or_true (text_eq k q)
+there_any k (q ∷ ks) (inr i) = ap (λ b. text_eq k q || b) (there_any k ks i) ∙ or-true (text_eq k q)
 
 none_is_missing : (ks all : List (List ℕ)) → ((k : List ℕ) → IsIn k all → IsIn k ks) → least_missing ks all ≡ None
 none_is_missing ks [] h = refl

@@ -6,7 +6,7 @@ use Rattle.job_protocol.specs.Prelude.{learn_part}
 use Rattle.std.specs.FinMap as fin
 use Rattle.s3_types.specs.Tags.{plain_tag}
 use Rattle.job_facts.specs.Stores.{Turns}
-use Rattle.job_facts.proofs.Whose.{who_of, who_same, or_false, and_false, who_here, or_true}
+use Rattle.job_facts.proofs.Whose.{who_of, who_same, who_here}
 use Rattle.job_facts.proofs.Legal.{same_file, small_task}
 use Rattle.job_facts.proofs.Placed.{own_place, one_place, set_same, not_staged}
 use Rattle.job_facts.proofs.Shapes.{id_before, puts, draws, part_turns, answer_is, abort_turns}
@@ -17,6 +17,7 @@ use Rattle.job_model.specs.Prelude.{renamed}
 use Rattle.store_frame.proofs.Framed.{frame}
 use Rattle.job_facts.proofs.Staged.{stage_keep, rename_keep, remove_drops}
 use Rattle.job_facts.proofs.Undone.{deletes_drop, set_apart}
+use Rattle.std.proofs.Math.Bool.{and-false, or-false, or-true}
 
 -- ---- a request that neither publishes, nor puts a temporary file, nor takes anything away
 
@@ -36,7 +37,7 @@ part_due key number bytes o = grind (arith, nat_here)
 -- the key of another place of the job is not that of a task's set
 pub not_set : {w : Script} → IsLegal w → is_magic w.committer ≡ true → (t : ℕ) (p : Place) → IsOwnPlace w p → t < w.tasks → (p ≡ SetPlace t → ⊥) → is_set_key w t w.dest.bucket (key_at w.dest.key w.job p) ≡ false
 not_set {w = w} j magic t p own small ne =
-    ap (λ b. text_eq w.dest.bucket w.dest.bucket && b) (text_false _ _ (λ e. ne (one_place j p (SetPlace t) (own_place j magic p own) (small_task j t small) e))) ∙ and_false _
+    ap (λ b. text_eq w.dest.bucket w.dest.bucket && b) (text_false _ _ (λ e. ne (one_place j p (SetPlace t) (own_place j magic p own) (small_task j t small) e))) ∙ and-false _
 
 pub is_set_here : (w : Script) (a : Who) → is_set_key w a.task w.dest.bucket (set_key w.dest.key w.job a.task) ≡ true
 is_set_here w a = rw (text_true w.dest.bucket w.dest.bucket refl, text_true (set_key w.dest.key w.job a.task) (set_key w.dest.key w.job a.task) refl) refl
@@ -53,7 +54,7 @@ module _ (w : Script) (minimum : ℕ) (k : Times) (s : Seen) (m : Told) (a : Who
   no_news ds e = λ i. record m { drawn = who_same m.drawn a ds e i }
 
   plain_told : (r : Request) → IsPlain w s.scene a (known m a) r → (o : Outcome) → tell_attempt w m a r o ≡ learning (learn w a (known m a) r o).drawn
-  plain_told r p o = told_is m a _ _ refl (who_same m.put_sent a _ (p.put o)) (who_same m.publish_sent a _ (p.publish o)) (who_same m.undone a _ (ap (λ b. m.undone a || b) p.undo ∙ or_false (m.undone a)))
+  plain_told r p o = told_is m a _ _ refl (who_same m.put_sent a _ (p.put o)) (who_same m.publish_sent a _ (p.publish o)) (who_same m.undone a _ (ap (λ b. m.undone a || b) p.undo ∙ or-false (m.undone a)))
 
   -- it is enough to see to its effect, where it teaches nothing of uploads
   quiet_keeps : (r : Request) → IsPlain w s.scene a (known m a) r → ((o : Outcome) → (learn w a (known m a) r o).drawn ≡ m.drawn a) → Facts w minimum (apply s.scene r) s.last m → Keeps r
@@ -110,7 +111,7 @@ module _ (w : Script) (minimum : ℕ) (k : Times) (s : Seen) (m : Told) (a : Who
   other_put_keeps j magic p bytes header own task no_set of_record =
       let other : is_set_key w a.task w.dest.bucket (key_at w.dest.key w.job p) ≡ false = not_set j magic a.task p own task (λ e. no_set a.task (sym e)) in
       quiet_keeps (PutObject w.dest.bucket (key_at w.dest.key w.job p) bytes header)
-      (record { put = λ o. refl; publish = λ o. ap (λ b. m.publish_sent a || b) other ∙ or_false (m.publish_sent a); undo = refl; publishing = ap (λ b. is_magic w.committer && b) other ∙ and_false (is_magic w.committer) }) (λ o. refl)
+      (record { put = λ o. refl; publish = λ o. ap (λ b. m.publish_sent a || b) other ∙ or-false (m.publish_sent a); undo = refl; publishing = ap (λ b. is_magic w.committer && b) other ∙ and-false (is_magic w.committer) }) (λ o. refl)
       (put_keep j magic p (record { bytes = bytes; header = header }) own (puts w s.scene f.there.0 f.there.1 (key_at w.dest.key w.job p) bytes header) of_record (λ t h e. absurd (no_set t e)) (λ t ne. refl) f)
 
   -- the record of a file whose upload is complete
@@ -136,7 +137,7 @@ module _ (w : Script) (minimum : ℕ) (k : Times) (s : Seen) (m : Told) (a : Who
   pub set_keeps : IsLegal w → is_magic w.committer ≡ true → IsAttempt w a → m.undone a ≡ false → (cs : List File) → AreCommits w minimum (m.drawn a) a cs → Keeps (PutObject w.dest.bucket (set_key w.dest.key w.job a.task) (set_text w a cs (known m a)) None)
   set_keeps j magic d clean cs are o honest =
       attempt_by w minimum k s m a n set_put o has_sent
-      (told_is m a _ _ (who_same m.drawn a _ refl) (who_same m.put_sent a _ refl) (ap (λ b. put_who m.publish_sent a b) (ap (λ b. m.publish_sent a || b) (is_set_here w a) ∙ or_true (m.publish_sent a))) (who_same m.undone a _ (or_false (m.undone a))))
+      (told_is m a _ _ (who_same m.drawn a _ refl) (who_same m.put_sent a _ refl) (ap (λ b. put_who m.publish_sent a b) (ap (λ b. m.publish_sent a || b) (is_set_here w a) ∙ or-true (m.publish_sent a))) (who_same m.undone a _ (or-false (m.undone a))))
       (sends_publish a clean f)
       (put_keep j magic (SetPlace a.task) (record { bytes = set_text w a cs (known m a); header = None }) d.task (puts w s.scene f.there.0 f.there.1 (set_key w.dest.key w.job a.task) (set_text w a cs (known m a)) None)
       (λ c g i e. absurd cc) of_set (λ t ne. rw (nat_false t a.task (λ e. ne (ap SetPlace e))) refl) (sends_publish a clean f))
@@ -155,7 +156,7 @@ module _ (w : Script) (minimum : ℕ) (k : Times) (s : Seen) (m : Told) (a : Who
   pub stage_keeps : IsLegal w → is_staging w.committer ≡ true → IsAttempt w a → AreCommits w minimum (m.drawn a) a (files w a) → Keeps (ClusterPut (temporary_path w a) (set_text w a (files w a) (known m a)))
   stage_keeps j staging d are o honest =
       attempt_plain w minimum k s m a n (ClusterPut (temporary_path w a) (set_text w a (files w a) (known m a))) refl o (record m { put_sent = put_who m.put_sent a true })
-      (told_is m a _ _ (who_same m.drawn a _ refl) refl (who_same m.publish_sent a _ refl) (who_same m.undone a _ (or_false (m.undone a)))) (sends_put a f)
+      (told_is m a _ _ (who_same m.drawn a _ refl) refl (who_same m.publish_sent a _ refl) (who_same m.undone a _ (or-false (m.undone a)))) (sends_put a f)
       (stage_keep j staging a d (set_text w a (files w a) (known m a)) (record { has_put = who_here m.put_sent a true a refl; are = are; text = refl }) (sends_put a f))
 
   -- ---- and rename it onto the task's set, where it stands
@@ -180,7 +181,7 @@ module _ (w : Script) (minimum : ℕ) (k : Times) (s : Seen) (m : Told) (a : Who
     pub rename_keeps : Keeps (ClusterRename (temporary_path w a) (staged_set_path w.job a.task))
     rename_keeps o honest =
         attempt_by w minimum k s m a n (ClusterRename (temporary_path w a) (staged_set_path w.job a.task)) o has_sent
-        (told_is m a _ _ (who_same m.drawn a _ refl) (who_same m.put_sent a _ refl) refl (who_same m.undone a _ (or_false (m.undone a)))) (sends_publish a clean f) (rename_by (fin.get s.scene.files (temporary_path w a)) refl)
+        (told_is m a _ _ (who_same m.drawn a _ refl) (who_same m.put_sent a _ refl) refl (who_same m.undone a _ (or-false (m.undone a)))) (sends_publish a clean f) (rename_by (fin.get s.scene.files (temporary_path w a)) refl)
 
   -- ---- what takes something away, before the attempt has sent its publishing request
 
@@ -193,7 +194,7 @@ module _ (w : Script) (minimum : ℕ) (k : Times) (s : Seen) (m : Told) (a : Who
   undo_keeps unsent r undo learns publishing acts o honest =
       attempt_plain w minimum k s m a n r publishing o takes_back
       (told_is m a _ _ (who_same m.drawn a _ (ap (λ k. k.drawn) (learns o))) (who_same m.put_sent a _ (ap (λ k. k.put_sent) (learns o))) (who_same m.publish_sent a _ (ap (λ k. k.publish_sent) (learns o)))
-      (ap (λ b. put_who m.undone a b) (ap (λ b. m.undone a || b) undo ∙ or_true (m.undone a)))) (sends_undo a unsent f) (acts (sends_undo a unsent f))
+      (ap (λ b. put_who m.undone a b) (ap (λ b. m.undone a || b) undo ∙ or-true (m.undone a)))) (sends_undo a unsent f) (acts (sends_undo a unsent f))
 
   -- an abort of an upload that it knows
   pub abort_keeps : IsLegal w → (x : Drawn) → IsIn x (m.drawn a) → m.publish_sent a ≡ false → Keeps (AbortUpload w.dest.bucket x.key x.upload)

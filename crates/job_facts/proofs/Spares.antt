@@ -13,13 +13,13 @@ use Rattle.job_facts.proofs.Going.{Each, each_so, step_by, effect_so}
 use Rattle.job_facts.proofs.Legal.{some_dest, no_record}
 use Rattle.job_facts.proofs.Legible.{drawn_is, record_read, set_read}
 use Rattle.job_facts.proofs.Placed.{staged_set, not_both}
-use Rattle.job_facts.proofs.Whose.{or_true}
 use Rattle.job_facts.proofs.Shapes.{answer_is, key_before, more_keys, page_is, page_each}
 use Rattle.job_protocol.specs.Sparing.{Sparing, Walking, Naming, Reading, Aborting, Deleting, Removing, SparingOver, sparing_start, record_request, sparing_asks, sparing_hears, sparing_after, ref_of, names, record_names, set_names, deleting, removing, emptying, aborting, reading_on, walking, naming}
 use Rattle.job_facts.specs.Spares.{AllKnown, AllOwn, FitsSparing, IsOwnPath, Filed}
 use Rattle.job_facts.proofs.Suffix.{set_no_record, marker_no_record}
 use Rattle.job_facts.proofs.JobCommitting.{dest_below}
 use Rattle.job_facts.proofs.Keep.{facts_so}
+use Rattle.std.proofs.Math.Bool.{or-true}
 
 -- ---- what stands below the job's directory in the cluster
 
@@ -76,7 +76,7 @@ module _ {w : Script} {minimum : ℕ} (j : IsLegal w) (s : Seen) (m : Told) (h :
   sparing_keeps n timely c r e o = subst (Facts w minimum (effect s.scene r o) s.last) (sym same) (clearing_effect {m = cleaning m} j s.scene cleans r (sparing_asked w m.drawn c r e) o)
     where
       same : at_event n (tell_driver m r o) ≡ tell_driver (cleaning m) r o
-      same = ap (λ b. cleaned_so b (tell_driver m r o)) (ap (λ b. m.cleaned || b) timely ∙ or_true m.cleaned)
+      same = ap (λ b. cleaned_so b (tell_driver m r o)) (ap (λ b. m.cleaned || b) timely ∙ or-true m.cleaned)
 
       cleans : Hold w minimum s (cleaning m)
       cleans = facts_so s.scene s.scene.files h h.ids h.owned h.records h.sets (λ c. absurd (false_true c refl)) h.temporaries h.kept

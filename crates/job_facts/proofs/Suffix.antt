@@ -5,7 +5,7 @@ use Rattle.path_keys.proofs.Common.{take-append-drop}
 use Rattle.retries.specs.Prelude.{text_equiv}
 use Rattle.job_protocol.specs.Prelude.{attempt_key}
 use Rattle.job_spec.proofs.Common.{below_is, text_is, false_true, drop_at}
-use Rattle.job_facts.proofs.Whose.{or_true}
+use Rattle.std.proofs.Math.Bool.{or-true}
 
 abbrev ending : List ℕ
 ending = codes ".pending"
@@ -36,7 +36,7 @@ has_slash (x ∷ l) = nat_eq 47 x || has_slash l
 
 slash_in : (r p : List ℕ) → has_slash (r ++ 47 ∷ p) ≡ true
 slash_in [] p = refl
-slash_in (x ∷ r) p = ap (λ b. nat_eq 47 x || b) (slash_in r p) ∙ or_true (nat_eq 47 x)
+slash_in (x ∷ r) p = ap (λ b. nat_eq 47 x || b) (slash_in r p) ∙ or-true (nat_eq 47 x)
 
 -- a path below a directory ends so only where it does itself
 pub below_record : (a p : List ℕ) → is_record p ≡ false → is_record (a ++ 47 ∷ p) ≡ true → ⊥

@@ -4,10 +4,10 @@ use Rattle.job_spec.proofs.Common.{and_parts, false≢true, some_is, false_true,
 use Rattle.job_facts.specs.Prelude.{answer, named_from, is_effective, Request, Reply, Completed, Outcome, Answered, Slow, Pending, IsLegal, Script, Sweep, Listing, Deleting, sweep_asks, sweep_hears, Turn, nth, completion, again, follow, dealt, revert, Setting, Sets, all_commits, Commit, Fetching, Replacing, Completing, Marking, Reverting, CommitOver, set_request, set_read, commit_asks, commit_misses, commit_tells, commit_start, completing, is_no_magic, reverting, worn_completion, Tabled, Seen, Told, ends, tell_driver, Hold, Reads, FitsJobCommit, NoneEnded, Turned, IsIn}
 use Rattle.s3_types.specs.Tags.{joined_tag}
 use Rattle.job_facts.specs.Turning.{Turns}
-use Rattle.job_facts.proofs.Whose.{or_true, and_false}
 use Rattle.job_facts.proofs.Replies.{completed}
 use Rattle.job_facts.proofs.Held.{nth_of, of_sets, uploads_uniq, to_in, either, tells_so, Course, fetching_so, fetched_so, swept_so}
 use Rattle.job_facts.proofs.Foreign.{set_reads, reads_name}
+use Rattle.std.proofs.Math.Bool.{and-false, or-true}
 
 module _ (w : Script) (minimum : ℕ) (s : Seen) (m : Told) (j : IsLegal w) (f : Hold w minimum s m) where
   pub uploads_apart : (sets : Sets) → Reads w minimum m.publish_sent m.drawn sets → (i n : ℕ) → i < length (all_commits sets) → n < length (all_commits sets) → (nth (all_commits sets) i).upload ≡ (nth (all_commits sets) n).upload → i ≡ n
@@ -53,7 +53,7 @@ module _ (w : Script) (m : Told) (none : NoneEnded m) where
 
 -- what ends nothing
 pub still_none : (m : Told) (r : Request) (o : Outcome) → ((id : ℕ) → ends r id ≡ false) → NoneEnded m → NoneEnded (tell_driver m r o)
-still_none m r o no_end h id = ap (λ b. b || (is_effective o && ends r id)) (h id) ∙ ap (λ b. is_effective o && b) (no_end id) ∙ and_false (is_effective o)
+still_none m r o no_end h id = ap (λ b. b || (is_effective o && ends r id)) (h id) ∙ ap (λ b. is_effective o && b) (no_end id) ∙ and-false (is_effective o)
 
 pub sweep_none : (w : Script) (p : List ℕ) (s : Sweep) (id : ℕ) → ends (sweep_asks w.dest.bucket p s) id ≡ false
 sweep_none w p s id = grind arith
@@ -80,7 +80,7 @@ module _ (w : Script) (minimum : ℕ) (s : Seen) (m : Told) (j : IsLegal w) (f :
     was_ended o n e = ap (λ b. b || (is_effective o && ends r (nth (all_commits sets) n).upload)) e
 
     now_ended : (o : Outcome) → is_effective o ≡ true → (told o).ended (nth (all_commits sets) x.number).upload ≡ true
-    now_ended o h = grind (arith, nat_true, or_true)
+    now_ended o h = grind (arith, nat_true, or-true)
 
     abbrev Waits : List Turn → List ℕ → ℕ → Type 0
     Waits waiting done n = IsIn n done ⊎ ((y : Turn) × IsIn y waiting × (y.number ≡ n) × (y.lost ≡ true))
@@ -109,7 +109,7 @@ module _ (w : Script) (minimum : ℕ) (s : Seen) (m : Told) (j : IsLegal w) (f :
 
     pub missed_turned : (o : Outcome) (lost : Bool) → (is_effective o ≡ true → lost ≡ true) → Turned (told o).ended sets (xs ++ again x lost ∷ []) finished
     missed_turned o lost so = turned_by o _ _
-        (λ h. inr (again x lost, in_last (again x lost) xs, refl, elim h [ inl e ↦ ap (λ b. x.lost || b) (so e) ∙ or_true x.lost | inr e ↦ ap (λ b. b || lost) e ]))
+        (λ h. inr (again x lost, in_last (again x lost) xs, refl, elim h [ inl e ↦ ap (λ b. x.lost || b) (so e) ∙ or-true x.lost | inr e ↦ ap (λ b. b || lost) e ]))
         (λ n i. i) (λ z i. in_front z xs (again x lost ∷ []) i) (λ n i. was_ended o n (turns.done n i))
 
     missed_turns : (o : Outcome) (lost : Bool) → (is_effective o ≡ true → lost ≡ true) → Turns (told o) (commit_misses w (Completing sets x xs finished) lost)

@@ -2,6 +2,7 @@
 use Rattle.std.proofs.Common.{◌≡◌, ℕ, ◌⊎◌, inl, inr, nat_eq, ◌&&◌, ◌||◌, Bool, true, false, cond, Option, Some, refl, sym, ap, subst, ◌∙◌, arith}
 use Rattle.job_spec.proofs.Common.{and_parts, some_is, eq_nat, nat_true, false_true, true_or_false}
 use Rattle.job_facts.specs.Prelude.{Who, same_name, put_who}
+use Rattle.std.proofs.Math.Bool.{and-false, or-false, or-true}
 
 abbrev pub attempt : ℕ → ℕ → Who
 attempt t n = record { task = t; attempt = n }
@@ -37,12 +38,3 @@ who_same {X = X} f a v e = λ i b. at b i
 -- what is so of one attempt's new value and of the others' old ones is so of all
 pub put_at : {X : Type 0} (P : Who → X → Type 0) (f : Who → Option X) (a : Who) (x : X) → P a x → ((b : Who) (v : X) → f b ≡ Some v → P b v) → (b : Who) (v : X) → put_who f a (Some x) b ≡ Some v → P b v
 put_at P f a x h g b v e = grind arith
-
-pub or_false : (b : Bool) → (b || false) ≡ b
-or_false b = grind arith
-
-pub or_true : (b : Bool) → (b || true) ≡ true
-or_true b = grind arith
-
-pub and_false : (b : Bool) → (b && false) ≡ false
-and_false b = grind arith

@@ -3,11 +3,11 @@ use Rattle.std.proofs.Common.{◌≡◌, ℕ, zero, suc, ◌+◌, ◌-◌, ◌<�
 use Rattle.std.specs.Prelude.{OnOk, OnErr, ⊤}
 use Rattle.job_model.specs.Prelude.{AllocError, lookup, File, Declared, last_files, with_file}
 use Rattle.path_keys.proofs.Common.{none_is}
-use Rattle.proof_base.proofs.Options.{some_is}
 use Rattle.job_model.specs.declared.attempts.AttemptName.{AttemptName}
 use Rattle.std.specs.Map.{values_of}
 use Rattle.indexmap.specs.IndexMap.{IndexMap, insert_entry, set_value_at}
 use Rattle.indexmap.proofs.CallerLemmas.{insert_entry-new}
+use Rattle.std.proofs.lemmas.Option.{same_Some}
 
 pub insert_new : {K X S : Type 0} (eq : K → K → Bool) (m : IndexMap K X S) (k : K) (v : X) (es : List (K × X)) → m.entries ≡ es → is_some (lookup (eq k) es) ≡ false → insert_entry eq m.entries k v ≡ es ++ (k, v) ∷ []
 insert_new {K} {X} eq m k v es e h =
@@ -15,14 +15,14 @@ insert_new {K} {X} eq m k v es e h =
 
 last_at : (es : List Declared) (i : ℕ) (fs : List File) → i + 1 ≡ length es → slice_get (values_of es) i ≡ Some fs → last_files es ≡ fs
 last_at [] i fs n h = absurd (omega arith)
-last_at (a ∷ []) zero fs n h = some_is _ _ h
+last_at (a ∷ []) zero fs n h = same_Some _ _ h
 last_at (a ∷ []) (suc i) fs n h = absurd (omega arith)
 last_at (a ∷ b ∷ bs) zero fs n h = absurd (omega arith)
 last_at (a ∷ b ∷ bs) (suc i) fs n h = last_at (b ∷ bs) i fs (omega arith) h
 
 added_at : (es : List Declared) (i : ℕ) (fs : List File) (p b : List ℕ) → i + 1 ≡ length es → slice_get (values_of es) i ≡ Some fs → set_value_at es i (fs ++ (p, b) ∷ []) ≡ with_file es p b
 added_at [] i fs p b n h = absurd (omega arith)
-added_at (a ∷ []) zero fs p b n h = ap (λ (l : List File). (a.0, l ++ (p, b) ∷ []) ∷ []) (sym (some_is _ _ h))
+added_at (a ∷ []) zero fs p b n h = ap (λ (l : List File). (a.0, l ++ (p, b) ∷ []) ∷ []) (sym (same_Some _ _ h))
 added_at (a ∷ []) (suc i) fs p b n h = absurd (omega arith)
 added_at (a ∷ c ∷ cs) zero fs p b n h = absurd (omega arith)
 added_at (a ∷ c ∷ cs) (suc i) fs p b n h = ap (λ (l : List Declared). a ∷ l) (added_at (c ∷ cs) i fs p b (omega arith) h)
@@ -46,7 +46,7 @@ added_known es now fs more p b e h m =
 
 value_at : (es : List Declared) (i : ℕ) (name : AttemptName) (fs : List File) → Some (name, fs) ≡ slice_get es i → Some fs ≡ slice_get (values_of es) i
 value_at [] i name fs h = absurd cc
-value_at (e ∷ es) zero name fs h = ap (λ (d : Declared). Some d.1) (some_is _ _ h)
+value_at (e ∷ es) zero name fs h = ap (λ (d : Declared). Some d.1) (same_Some _ _ h)
 value_at (e ∷ es) (suc i) name fs h = value_at es i name fs h
 
 pub last_entry : (es now : List Declared) (name : AttemptName) (fs : List File) → es ≡ now → Some (name, fs) ≡ slice_get es (length es - 1) → last_files now ≡ fs
@@ -58,7 +58,7 @@ added_ok (Err e) x y A h f = tt
 
 same_at : (es : List Declared) (i : ℕ) (fs : List File) → slice_get (values_of es) i ≡ Some fs → set_value_at es i fs ≡ es
 same_at [] i fs h = refl
-same_at (a ∷ rest) zero fs h = ap (λ (l : List File). (a.0, l) ∷ rest) (sym (some_is _ _ h))
+same_at (a ∷ rest) zero fs h = ap (λ (l : List File). (a.0, l) ∷ rest) (sym (same_Some _ _ h))
 same_at (a ∷ rest) (suc i) fs h = ap (λ (l : List Declared). a ∷ l) (same_at rest i fs h)
 
 -- the last files as they were leave the attempts as they were

@@ -7,11 +7,11 @@ use Rattle.magic_paths.specs.Layout as layout
 use Rattle.retries.proofs.SameRequest.{same_is}
 use Rattle.job_model.specs.declared.ends.CommitEnd.TheVariants as commits
 use Rattle.job_model.specs.declared.ends.Stage.TheVariants as stages
-use Rattle.job_facts.proofs.Whose.{or_true}
 use Rattle.job_facts.proofs.Shapes.{puts}
 use Rattle.job_facts.proofs.Turning.{uploads_apart}
 use Rattle.job_traces.proofs.Leads.{Enters, is_shared, enters, Leads, fetches, reads_none, is_marked as marked_now, is_reverted, stays_over, read_worn, sweep_worn, mark_worn, reverts, none_reverts, leads}
 use Rattle.job_outcomes.specs.CommitRuns.{IsAt, WhereCommitted}
+use Rattle.std.proofs.Math.Bool.{or-true}
 
 -- ---- where outcomes lead with the sets
 
@@ -123,7 +123,7 @@ where_start P w missing = grind arith
 
 any_last : (p : Entry → Bool) (es : List Entry) (e : Entry) → p e ≡ true → list_any p (es ++ e ∷ []) ≡ true
 any_last p [] e h = ap (λ b. b || false) h
-any_last p (x ∷ es) e h = ap (λ b. p x || b) (any_last p es e h) ∙ or_true (p x)
+any_last p (x ∷ es) e h = ap (λ b. p x || b) (any_last p es e h) ∙ or-true (p x)
 
 module _ (w : Script) (k : Times) (s : Seen) (there : HasBucket s.scene.content w.dest.bucket) (n : ℕ) (r : Request) (es : List Entry) where
   marks_request : (sets : Sets) (x : ℕ) → commit_asks w (Marking sets x) ≡ Some r → is_marking w r ≡ true
@@ -134,7 +134,7 @@ module _ (w : Script) (k : Times) (s : Seen) (there : HasBucket s.scene.content 
   put_stands sets x asked y =
       ap (λ b. (s.put_mark || b) && is_some (at_key w (apply s.scene r).content (layout.success_key w.dest.key))) (marks_request sets x asked)
       ∙ ap (λ o. (s.put_mark || true) && is_some o) (ap (λ q. at_key w (apply s.scene q).content (layout.success_key w.dest.key)) (sym (some_is asked)) ∙ (puts w s.scene there.0 there.1 (layout.success_key w.dest.key) (mark_text w (picks_of sets)) None).here)
-      ∙ ap (λ b. b && true) (or_true s.put_mark)
+      ∙ ap (λ b. b && true) (or-true s.put_mark)
 
   -- after one more entry of the commit
   where_next : (P : Outcome → Type 0) → ((sets : Sets) (x : ℕ) → commit_asks w (Marking sets x) ≡ Some r → (y : Reply) → P (Answered y)) → (c : Commit) → commit_asks w c ≡ Some r → (o : Outcome) → WhereCommitted (P o) (commit_tells w c o)

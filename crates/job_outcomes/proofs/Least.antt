@@ -7,9 +7,7 @@ use Rattle.job_spec.proofs.Common.{lt_not, le_lt, begins_back, below_is, some_is
 use Rattle.path_keys.proofs.Beneath.{behind_some}
 use Rattle.store_frame.proofs.Flat.{behind}
 use Rattle.job_facts.proofs.Legal.{some_dest}
-
-equal_self : (o : Ordering) → o ≡ ordering_reverse o → o ≡ Equal
-equal_self o h = grind arith
+use Rattle.proof_base.proofs.Less.{equal_self}
 
 -- a common front does not matter
 pub front_cmp : (pre p q : List ℕ) → text_cmp (pre ++ p) (pre ++ q) ≡ text_cmp p q

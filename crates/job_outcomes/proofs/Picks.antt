@@ -6,12 +6,12 @@ use Rattle.s3_types.specs.Answer.{found}
 use Rattle.job_facts.proofs.Shapes.{answer_is, key_before}
 use Rattle.job_facts.proofs.Replies.{set_answered}
 use Rattle.job_facts.proofs.Reading.{reads_it, reads_other}
-use Rattle.job_traces.proofs.Lists.{slice_last}
 use Rattle.job_traces.proofs.Plain.{plain_picks, commit_unread}
 use Rattle.std.proofs.Math.Bool.{and-false}
 use Rattle.std.proofs.lemmas.Option.{slice_get_past}
 use Rattle.job_outcomes.specs.CommitRuns.{IsAt, ArePicks, PicksGrow}
 use Rattle.job_outcomes.proofs.CommitSteps.{at_fetching, IsRead, at_tells}
+use Rattle.proof_base.proofs.Lists.{slice_last}
 
 -- ---- one more set
 

@@ -4,12 +4,13 @@ use Rattle.job_facts.specs.Prelude.{filter, list_any, Content, Actor, Driver, Re
 use Rattle.job_spec.proofs.Common.{append-nil, filter-append, list_any-append, some_is, none_some, false_true}
 use Rattle.job_model.specs.declared.events.Op.TheVariants as ops
 use Rattle.job_traces.specs.Runs.{Stand, Runs, attempt_sends, is_set, is_done, is_just_set, MaySetUp, IsTimely, commit_with, nothing_learnt, Beginning, BeginSetup, BeginCommit, BeginClean, BeginWrite, BeginPublish, BeginAbort, begin, MayBegin}
-use Rattle.job_facts.proofs.Whose.{same_or_another, who_true, who_false, who_here, who_other, or_false, or_true}
+use Rattle.job_facts.proofs.Whose.{same_or_another, who_true, who_false, who_here, who_other}
 use Rattle.job_outcomes.specs.RunEntries.{RunEntries}
 use Rattle.job_traces.proofs.Folds.{each_run}
 use Rattle.job_protocol.proofs.Begun.{after_check_so, commit_of_so, clean_of_so, commit_alone}
 use Rattle.job_protocol.specs.Rechecks.{check_after}
 use Rattle.job_traces.proofs.Published.{longer_published}
+use Rattle.std.proofs.Math.Bool.{or-false, or-true}
 
 -- ---- up to an actor's last entry
 
@@ -17,7 +18,7 @@ use Rattle.job_traces.proofs.Published.{longer_published}
 last_own : (a : Actor) (es : List Entry) (e : Entry) → same_actor e.actor a ≡ true → until_last a (es ++ e ∷ []) ≡ es ++ e ∷ []
 last_own a [] e h = ap (λ b. cond (b || false) (e ∷ []) []) h
 last_own a (x ∷ es) e h =
-    let any : list_any (λ y. same_actor y.actor a) (x ∷ es ++ e ∷ []) ≡ true = list_any-append (λ y. same_actor y.actor a) (x ∷ es) (e ∷ []) ∙ ap (λ b. list_any (λ y. same_actor y.actor a) (x ∷ es) || (b || false)) h ∙ or_true _ in
+    let any : list_any (λ y. same_actor y.actor a) (x ∷ es ++ e ∷ []) ≡ true = list_any-append (λ y. same_actor y.actor a) (x ∷ es) (e ∷ []) ∙ ap (λ b. list_any (λ y. same_actor y.actor a) (x ∷ es) || (b || false)) h ∙ or-true _ in
     ap (λ b. cond b (x ∷ until_last a (es ++ e ∷ [])) []) any ∙ ap (λ l. x ∷ l) (last_own a es e h)
 
 pub last_other : (a : Actor) (es fs : List Entry) → list_any (λ y. same_actor y.actor a) fs ≡ false → until_last a (es ++ fs) ≡ until_last a es
@@ -25,7 +26,7 @@ last_other a [] [] h = refl
 last_other a [] (f ∷ fs) h = ap (λ b. cond b (f ∷ until_last a fs) []) h
 last_other a (x ∷ es) fs h =
     let any : list_any (λ y. same_actor y.actor a) (x ∷ es ++ fs) ≡ list_any (λ y. same_actor y.actor a) (x ∷ es) =
-    list_any-append (λ y. same_actor y.actor a) (x ∷ es) fs ∙ ap (λ b. list_any (λ y. same_actor y.actor a) (x ∷ es) || b) h ∙ or_false _ in
+    list_any-append (λ y. same_actor y.actor a) (x ∷ es) fs ∙ ap (λ b. list_any (λ y. same_actor y.actor a) (x ∷ es) || b) h ∙ or-false _ in
     ap (λ b. cond b (x ∷ until_last a (es ++ fs)) []) any ∙ ap (λ l. cond (list_any (λ y. same_actor y.actor a) (x ∷ es)) (x ∷ l) []) (last_other a es fs h)
 
 -- others follow it

@@ -10,7 +10,6 @@ use Rattle.job_protocol.proofs.Tables.{dealt_fresh, follow_cases}
 use Rattle.job_spec.specs.OperationEnds.{is_lost}
 use Rattle.job_facts.specs.Turning.{Turns}
 use Rattle.job_traces.specs.Runs.{Stand, Runs, Beginning, BeginSetup, BeginCommit, BeginClean, begin, IsOpening, IsTimely, nothing_learnt}
-use Rattle.job_facts.proofs.Whose.{or_true}
 use Rattle.job_facts.proofs.Held.{nth_of, of_sets}
 use Rattle.job_facts.proofs.Replies.{completed}
 use Rattle.job_facts.proofs.Shapes.{id_before, answer_is}
@@ -29,6 +28,7 @@ use Rattle.job_protocol.proofs.Begun.{after_check_so, commit_of_so, clean_of_so}
 use Rattle.job_protocol.specs.Rechecks.{check_after}
 use Rattle.job_facts.proofs.Sharing.{check_plain}
 use Rattle.job_traces.proofs.EveryRun.{check_unsent}
+use Rattle.std.proofs.Math.Bool.{or-true}
 
 -- ---- a fact of each of a list's members, by those before it
 
@@ -54,7 +54,7 @@ lost_before : (r : Request) (es : List Entry) (e : Entry) → was_lost r es ≡ 
 lost_before r es e h = list_any-append (λ v. same_request r v.request && is_lost v.outcome) es (e ∷ []) ∙ ap (λ b. b || list_any (λ v. same_request r v.request && is_lost v.outcome) (e ∷ [])) h
 
 lost_here : (r : Request) (es : List Entry) (e : Entry) → r ≡ e.request → is_lost e.outcome ≡ true → was_lost r (es ++ e ∷ []) ≡ true
-lost_here r es e h g = grind (arith, same_self, list_any-append, or_true)
+lost_here r es e h g = grind (arith, same_self, list_any-append, or-true)
 
 -- each turn with a sending lost has one among these entries
 abbrev TurnsLost : List Entry → Sets → List Turn → Type 0

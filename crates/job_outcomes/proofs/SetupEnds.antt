@@ -20,9 +20,7 @@ use Rattle.job_outcomes.proofs.Went.{went}
 use Rattle.job_outcomes.proofs.SetupListed.{setup_listed}
 use Rattle.job_outcomes.proofs.Least.{last_of_all, seen_below, shown_at, below_cmp, unseen_in, shown_later, first_of}
 use Rattle.job_traces.proofs.Replacing.{some_behind}
-
-some_of : {X : Type 0} (o : Option X) → IsSome o → (x : X) × (o ≡ Some x)
-some_of o h = grind arith
+use Rattle.proof_base.proofs.Options.{some_of}
 
 module _ (w : Script) (j : IsLegal w) (first : Scene) where
   abbrev c : Content

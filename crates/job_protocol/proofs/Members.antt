@@ -1,6 +1,7 @@
 -- members, places and appended lists
 use Rattle.std.proofs.Common.{◌≡◌, ℕ, ◌<◌, zero, suc, Some, refl, ap, ◌⊎◌, inl, inr, arith, List, [], ◌∷◌, ◌++◌, length, slice_get, map}
 use Rattle.job_protocol.specs.Prelude.{In}
+use Rattle.proof_base.proofs.Lists.{get_before, get_left}
 pub use Rattle.path_keys.proofs.Common.{false_true, map-append, none_some, some_is, true_or_false}
 
 pub in_append : {X : Type 0} (x : X) (xs ys : List X) → In x (xs ++ ys) → In x xs ⊎ In x ys
@@ -29,13 +30,3 @@ in_map f (x ∷ xs) y h = elim h [ inl e ↦ (x, inl refl, e) | inr i ↦ let r 
 pub map_in : {X Y : Type 0} (f : X → Y) (xs : List X) (x : X) → In x xs → In (f x) (map f xs)
 map_in f [] x h = absurd h
 map_in f (z ∷ xs) x h = elim h [ inl e ↦ inl (ap f e) | inr i ↦ inr (map_in f xs x i) ]
-
-pub get_left : {X : Type 0} (xs ys : List X) (n : ℕ) (x : X) → slice_get xs n ≡ Some x → slice_get (xs ++ ys) n ≡ Some x
-get_left [] ys n x e = absurd (cc)
-get_left (z ∷ xs) ys zero x e = e
-get_left (z ∷ xs) ys (suc n) x e = get_left xs ys n x e
-
-pub get_before : {X : Type 0} (xs ys : List X) (n : ℕ) (x : X) → n < length xs → slice_get (xs ++ ys) n ≡ Some x → slice_get xs n ≡ Some x
-get_before [] ys n x h e = absurd (omega arith)
-get_before (z ∷ xs) ys zero x h e = e
-get_before (z ∷ xs) ys (suc n) x h e = get_before xs ys n x (omega arith) e

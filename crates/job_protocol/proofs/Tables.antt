@@ -4,12 +4,10 @@ use Rattle.path_keys.proofs.Common.{nat_tests}
 use Rattle.job_protocol.specs.Prelude.{Turn, fresh_turn, again, follow, first_turns, dealt, In, ahead, Table}
 use Rattle.job_protocol.specs.LaneTable.{After, Apart}
 use Rattle.job_protocol.proofs.Members.{in_append, in_left, in_right, in_push}
+use Rattle.std.proofs.lemmas.Bool.{cases_lt}
 
 pub lt_or_not : (a b : ℕ) → ((nat_lt a b ≡ true) × (a < b)) ⊎ ((nat_lt a b ≡ false) × (b ≤ a))
 lt_or_not a b = grind (arith, nat_tests)
-
-pub less_or_not : (a b : ℕ) → (a < b) ⊎ (b ≤ a)
-less_or_not a b = grind arith
 
 -- ---- lanes
 
@@ -48,7 +46,7 @@ meet lanes a b (suc k) (suc l) low high e = meet lanes a b k l low high (omega a
 -- each number is in some lane
 lane_of : (lanes n top : ℕ) → n < top → 0 < lanes → (a : ℕ) × (a < lanes) × (a ≤ n) × After lanes a n
 lane_of lanes n zero h some = absurd (omega arith)
-lane_of lanes n (suc top) h some = elim (less_or_not n lanes) [
+lane_of lanes n (suc top) h some = elim (cases_lt n lanes) [
   | inl low ↦ (n, low, omega arith, after_self lanes n)
   | inr high ↦
       let r = lane_of lanes (n - lanes) top (omega arith) some in
@@ -69,7 +67,7 @@ in_first (suc m) x h = elim (in_push x (first_turns m) (fresh_turn m) h) [
 
 first_in : (m a : ℕ) → a < m → In (fresh_turn a) (first_turns m)
 first_in zero a h = absurd (omega arith)
-first_in (suc m) a h = elim (less_or_not a m) [
+first_in (suc m) a h = elim (cases_lt a m) [
   | inl low ↦ in_left (fresh_turn a) (first_turns m) (fresh_turn m ∷ []) (first_in m a low)
   | inr high ↦ let e : m ≡ a = omega arith in in_right (fresh_turn a) (first_turns m) (fresh_turn m ∷ []) (inl (ap fresh_turn e))
 ]

@@ -8,6 +8,7 @@ use Rattle.job_facts.proofs.Replies.{set_reply, bytes_read}
 use Rattle.job_refinement.specs.Due.{SetStands}
 use Rattle.job_refinement.specs.Picked.{ArePicked, IsEachPicked}
 use Rattle.job_refinement.specs.Laws.{PicksTell}
+use Rattle.proof_base.proofs.Options.{both_hold}
 
 -- ---- lists with one more
 
@@ -56,10 +57,6 @@ begins_picked w s none missing = (λ t l. none t, elim missing as (λ o. IsEachP
 
 -- ---- a sending
 
--- a pick that is taken, and one that is left as it is
-taken : (b c : Bool) (x y : Option ℕ) → b ≡ true → c ≡ true → cond (b && c) x y ≡ x
-taken b c x y h g = rw (h, g) refl
-
 left : (b c : Bool) (x y : Option ℕ) → c ≡ false → cond (b && c) x y ≡ y
 left b c x y h = grind arith
 
@@ -87,7 +84,7 @@ module _ (g : Setting) (j : IsLegal g.script) (k : Times) (s : Seen) (m : Told) 
     picked_now : (x : Reply) → ArePicked w (see w k s (driver_entry n read (Answered x))) (picked ++ attempt ∷ [])
     picked_now x t l = elim (same_or_not t (length sets)) [
       | inl same ↦
-          taken (is_picking k s.begun n) (is_reading w t read) (s.last t) (s.picks t) begun (ap (λ i. is_reading w i read) same ∙ reads_it j (length sets))
+          both_hold (is_picking k s.begun n) (is_reading w t read) (s.last t) (s.picks t) begun (ap (λ i. is_reading w i read) same ∙ reads_it j (length sets))
           ∙ ap s.last same ∙ latest ∙ sym (ap (slice_get (picked ++ attempt ∷ [])) (same ∙ sym long) ∙ get_last picked attempt)
       | inr ne ↦ left (is_picking k s.begun n) (is_reading w t read) (s.last t) (s.picks t) (reads_other j t (length sets) l low ne) ∙ are t l ∙ sym (get_other picked attempt t (λ d. ne (d ∙ long)))
     ]

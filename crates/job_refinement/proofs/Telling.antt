@@ -11,6 +11,7 @@ use Rattle.job_facts.proofs.JobCommitting.{one_more_set}
 use Rattle.job_facts.proofs.Replies.{set_answered}
 use Rattle.conflict.proofs.Rising.{ordered_same}
 use Rattle.job_refinement.proofs.HeldSets.{path_back, uploads_of, are_read, same_read}
+use Rattle.std.specs.Cmp.{both_ways}
 
 -- ---- files of the same paths
 
@@ -42,11 +43,8 @@ in_path [] p i = absurd i
 in_path (f ∷ fs) p (inl e) = ap (λ b. is_some (cond b (Some f.1) (lookup (text_eq p) fs))) (text_true p f.0 e)
 in_path (f ∷ fs) p (inr i) = grind (arith, in_path fs p i)
 
-same_bools : (a b : Bool) → (a ≡ true → b ≡ true) → (b ≡ true → a ≡ true) → a ≡ b
-same_bools a b h g = grind arith
-
 same_has : (xs ys : List File) → SamePaths xs ys → (p : List ℕ) → has_path xs p ≡ has_path ys p
-same_has xs ys h p = same_bools (has_path xs p) (has_path ys p) (λ e. in_path ys p (h.there p (path_in xs p e))) (λ e. in_path xs p (h.back p (path_in ys p e)))
+same_has xs ys h p = both_ways (has_path xs p) (has_path ys p) (λ e. in_path ys p (h.there p (path_in xs p e))) (λ e. in_path xs p (h.back p (path_in ys p e)))
 
 -- what is deleted for a replace mode does not matter
 replacing_same : (w : Script) (known sets : Sets) (ps : List (List ℕ)) → replacing (read_script (job_of w) known) sets ps ≡ replacing w sets ps

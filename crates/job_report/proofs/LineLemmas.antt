@@ -5,6 +5,7 @@ use Rattle.job_spec.specs.Prelude.{flat_map, lookup, Who, Declared, same_name, d
 use Rattle.job_model.specs.Prelude.{zip, enumerate_from}
 use Rattle.job_spec.proofs.Common.{drop_all, append-nil, eq-eqb}
 use Rattle.job_spec.specs.ReportText.{actor_lines, closing, report_text}
+use Rattle.proof_base.proofs.Lists.{both_written}
 
 -- nothing is left to write
 pub all_written : {X : Type 0} (f : X → List ℕ) (left : List X) (text all : List ℕ) → text ++ flat_map f left ≡ all → left ≡ [] → text ≡ all
@@ -49,10 +50,6 @@ line_more f left next d text now all h written rest =
     ap (λ l. l ++ flat_map f next) written ∙ append_assoc text (f d) (flat_map f next) ∙ ap (λ (l : List Declared). text ++ flat_map f l) (sym h) ∙ rest
 
 -- ---- the whole report
-
--- two parts are written, one after the other
-pub both_written : (none first all one two : List ℕ) → first ≡ none ++ one → all ≡ first ++ two → all ≡ none ++ (one ++ two)
-both_written none first all one two h g = g ∙ ap (λ l. l ++ two) h ∙ append_assoc none one two
 
 -- what is written part by part is the report
 pub report_is : (w : Script) (events : List Event) (xs ends : List EventEnd) (picks chosen : List Pick) (due sent : ℕ) (none first second third all : List ℕ)

@@ -24,13 +24,14 @@ use Rattle.job_outcomes.proofs.RunEntries.{run_entries}
 use Rattle.job_traces.proofs.EveryRun.{own_front}
 use Rattle.job_safety.specs.Laws.{CommitsEndAmong}
 use Rattle.job_safety.proofs.Cuts.{moment_cut}
-use Rattle.job_safety.proofs.Sorts.{end_of, over_kind, kind_run, driver_commit, memory_commit}
+use Rattle.job_safety.proofs.Sorts.{over_kind, kind_run, driver_commit, memory_commit}
 use Rattle.job_safety.proofs.History.{Began, IsBegin}
 use Rattle.job_safety.proofs.Ending.{Ending, ahead_none, ending, until_own}
 use Rattle.job_safety.proofs.Spans.{start, mine}
 use Rattle.job_safety.proofs.Timed.{run_then, ahead_opened, ahead_start, opened_commit, number_is, unclean_then, taken_then, picks_then}
 use Rattle.job_safety.proofs.After.{IsAfter, After, after_commit}
 use Rattle.job_protocol.proofs.Begun.{commit_alone}
+use Rattle.proof_base.proofs.Options.{end_of}
 
 -- ---- plain facts
 

@@ -13,6 +13,7 @@ use Rattle.job_model.specs.declared.ends.OpEnd.TheVariants as ends
 use Rattle.job_protocol.proofs.Begun.{after_check_so, commit_of_so, clean_of_so}
 use Rattle.job_protocol.specs.Rechecks.{check_after, check_over}
 use Rattle.job_protocol.specs.Sparing.{sparing_over}
+use Rattle.proof_base.proofs.Options.{end_of}
 
 pub data Kind : Type 0 where
   OfSetup : Kind
@@ -36,10 +37,6 @@ end_kind (ends.Commit e) = OfCommit
 end_kind (ends.Clean e) = OfClean
 end_kind (ends.Task e) = OfTask
 end_kind ends.NoMemory = OfNone
-
--- what an end is of
-pub end_of : {X Y : Type 0} (f : X → Y) (o : Option X) (y : Y) → option_map f o ≡ Some y → (x : X) × (o ≡ Some x) × (f x ≡ y)
-end_of f o y h = grind arith
 
 pub over_kind : (op : Operation) (e : OpEnd) → over op ≡ Some e → kind op ≡ end_kind e
 over_kind (TheSetup t) e o = ap end_kind (end_of ends.Setup (setup_over t.operation) e o).2

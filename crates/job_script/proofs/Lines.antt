@@ -13,6 +13,7 @@ use Rattle.job_script.specs.declared.kinds.Kind.{Kind}
 use Rattle.job_script.specs.Kinds.{Line}
 use Rattle.job_script.specs.Script.{kind_of, enters, is_skipped, said_at, words_at, line_at, lines_at}
 use Rattle.job_script.proofs.Words.{is_letter, is_lettered, literal_word, plain_word}
+use Rattle.proof_base.proofs.Lists.{one_byte}
 
 -- ---- a printed line
 
@@ -74,9 +75,6 @@ are_lines ((w ∷ ws) ∷ ls) h = (record { bare = bares (w ∷ ws) h.0.words; k
 -- what the text of printed lines is read as
 pub lines_printed : (ls : List Line) → AllByRecursion IsPrinted ls → lines_of (text_of ls) ≡ map joined ls
 lines_printed ls h = lines_again ls (are_lines ls h)
-
-one_byte : (b : ℕ) → b < 128 → IsUtf8 (b ∷ [])
-one_byte b h = IsUtf8-from_ascii (b ∷ []) (IsAscii-cons b [] h IsAscii-nil)
 
 joined_utf8 : (ws : Line) → AllByRecursion IsScriptWord ws → IsUtf8 (joined ws)
 joined_utf8 [] h = IsUtf8-nil

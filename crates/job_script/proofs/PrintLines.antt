@@ -8,14 +8,11 @@ use Rattle.job_script.specs.declared.head.HeadWord.{HeadWord}
 use Rattle.job_script.specs.Kinds.{Line}
 use Rattle.job_script.specs.HeadLines.{value_lines, row_lines, loss_lines, head_order, head_lines}
 use Rattle.job_script.specs.Print.{attempt_lines, event_line, script_text}
+use Rattle.proof_base.proofs.Lists.{both_written}
 
 -- lines behind lines
 text_of_both : (xs ys : List Line) → text_of (xs ++ ys) ≡ text_of xs ++ text_of ys
 text_of_both xs ys = flat_map-append ended xs ys
-
--- one text, and the next behind it
-both : (old one new first second : List ℕ) → one ≡ old ++ first → new ≡ one ++ second → new ≡ old ++ (first ++ second)
-both old one new first second e f = f ∙ ap (λ l. l ++ second) e ∙ append_assoc old first second
 
 -- a text that is written behind another
 pub record Wrote (old new text : List ℕ) : Type 0 where
@@ -26,7 +23,7 @@ pub line : (old new name : List ℕ) (value same : Option (List ℕ)) → new �
 line old new name value same e f = record { is = e ∙ ap (λ v. old ++ text_of (value_lines name v)) f }
 
 pub behind : {old one new first second : List ℕ} → Wrote old one first → Wrote one new second → Wrote old new (first ++ second)
-behind {old = old} {one = one} {new = new} {first = first} {second = second} e f = record { is = both old one new first second e.is f.is }
+behind {old = old} {one = one} {new = new} {first = first} {second = second} e f = record { is = both_written old one new first second e.is f.is }
 
 pub no_more : (old : List ℕ) → Wrote old old []
 no_more old = record { is = sym (append-nil old) }
@@ -38,7 +35,7 @@ each_text s (w ∷ ws) = ap (λ l. text_of (row_lines s w) ++ l) (each_text s ws
 -- what is written line by line is the head
 pub head_is : (s t : Script) (old values : List ℕ) → t ≡ s → Wrote old values (flat_map (λ w. text_of (row_lines t w)) head_order) → values ++ text_of (loss_lines t.fates) ≡ old ++ text_of (head_lines s)
 head_is s t old values same e =
-    both old values _ _ (text_of (loss_lines t.fates)) (e.is ∙ ap (λ l. old ++ l) (each_text t head_order)) refl
+    both_written old values _ _ (text_of (loss_lines t.fates)) (e.is ∙ ap (λ l. old ++ l) (each_text t head_order)) refl
     ∙ ap (λ l. old ++ l) (sym (text_of_both (flat_map (row_lines t) head_order) (loss_lines t.fates)))
     ∙ ap (λ (w : Script). old ++ text_of (head_lines w)) same
 
@@ -52,7 +49,7 @@ unfolding script_text
 script_is s t events none head attempts all same given start e1 e2 e3 =
     let second : attempts ≡ head ++ text_of (flat_map attempt_lines s.attempts) = e2 ∙ ap (λ (w : Script). head ++ text_of (flat_map attempt_lines w.attempts)) same in
     let third : all ≡ attempts ++ text_of (map event_line s.events) = e3 ∙ ap (λ (es : List Event). attempts ++ text_of (map event_line es)) (given ∙ ap (λ (w : Script). w.events) same) in
-    both none head all _ _ e1 (both head attempts all _ _ second third)
+    both_written none head all _ _ e1 (both_written head attempts all _ _ second third)
     ∙ ap (λ l. l ++ (text_of (head_lines s) ++ (text_of (flat_map attempt_lines s.attempts) ++ text_of (map event_line s.events)))) start
     ∙ ap (λ l. text_of (head_lines s) ++ l) (sym (text_of_both (flat_map attempt_lines s.attempts) (map event_line s.events)))
     ∙ sym (text_of_both (head_lines s) (flat_map attempt_lines s.attempts ++ map event_line s.events))

@@ -2,7 +2,6 @@
 use Rattle.std.proofs.Common.{◌≡◌, ℕ, ◌+◌, ◌<◌, ◌≤◌, ◌⊎◌, inl, inr, Bool, true, false, cond, List, [], ◌++◌, Option, Some, None, refl, sym, ap, subst, arith}
 use Rattle.std.specs.Prelude.{codes, IfSome}
 use Rattle.job_protocol.specs.Prelude.{Scene, answer, apply, Committer, Magic, Request, HeadObject, DeleteObject, Reply, Head, Page, Job, job_script, checks_all, Walked, More, Whole, keys_on, page_after, sweep_start, sweep_asks, sweep_hears, all_go, Setup, Heading, Clearing, Sweeping, SetupOver, setup_asks, setup_hears, lacks_bucket, if_bucket, headed, first_shown, checked_by, checked, cleared, walk_left, left_of, adds_key, one_if, LessWalk}
-use Rattle.proof_base.proofs.Options.{some_is}
 use Rattle.magic_paths.specs.Layout as layout
 use Rattle.job_model.specs.declared.ends.SetupEnd.TheVariants as ends
 use Rattle.list_walk.specs.Walks.{walked}
@@ -12,15 +11,13 @@ use Rattle.list_walk.proofs.Falling.{walk_laws, sweep_laws}
 use Rattle.job_setup.specs.Fits.{FitsSetup}
 use Rattle.job_setup.specs.Left.{cleared_left, left_at}
 use Rattle.job_setup.specs.Laws.{SetupsEnd}
+use Rattle.std.proofs.lemmas.Option.{same_Some}
+use Rattle.list_walk.proofs.Counting.{one_most}
 
 -- what holds of a request that is asked
 pub of_some : (P : Request → Type 0) (o : Option Request) (r : Request) → o ≡ Some r → IfSome o P → P r
 of_some P None r e h = absurd (cc)
-of_some P (Some x) r e h = subst P (some_is x r e) h
-
-pub one_most : (b : Bool) → one_if b ≤ 1
-one_most true = omega arith
-one_most false = omega arith
+of_some P (Some x) r e h = subst P (same_Some x r e) h
 
 cleared_grows : (c : Committer) (j : Job) (s : Scene) (r : Request) → cleared_left c j (apply s r) ≤ cleared_left c j s + one_if (adds_key r)
 cleared_grows Magic j s r = sweep_laws.others j.dest.bucket (layout.magic_prefix j.dest.key j.job) sweep_start s r

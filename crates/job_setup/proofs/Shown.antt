@@ -6,6 +6,7 @@ use Rattle.s3_types.specs.Prelude.{MatchOption}
 use Rattle.path_keys.proofs.Common.{Decides-eqb, starts_is, and_parts, at_most_is}
 use Rattle.words.specs.Parts.{parts_of}
 use Rattle.job_setup.specs.Files.{path_behind, first_of}
+use Rattle.proof_base.proofs.Lists.{some_length}
 
 path_is : (key k : List ℕ) → 1 ≤ length key → path_behind (key ++ codes "/") k ≡ relative_in key k
 path_is [] k h = absurd (omega arith)
@@ -26,10 +27,6 @@ folder_got (x ∷ []) zero b e h = let i : x ≡ b = cc in ap (λ y. y == 47) i
 folder_got (x ∷ []) (suc n) b e h = absurd (omega arith)
 folder_got (x ∷ y ∷ p) zero b e h = absurd (omega arith)
 folder_got (x ∷ y ∷ p) (suc n) b e h = folder_got (y ∷ p) n b (omega arith) h
-
-some_length : (p : List ℕ) (b : ℕ) → slice_get p (length p - 1) ≡ Some b → suc (length p - 1) ≡ length p
-some_length [] b h = absurd (cc)
-some_length (y ∷ ys) b h = omega arith
 
 pub folder_last : (p : List ℕ) (b : ℕ) → Some b ≡ slice_get p (length p - 1) → is_folder p ≡ (b == 47)
 folder_last p b h = folder_got p (length p - 1) b (some_length p b (sym h)) (sym h)

@@ -18,9 +18,7 @@ use Rattle.job_side.specs.declared.body.Body.{Body}
 use Rattle.job_side.proofs.Places.{apart}
 use Rattle.job_side.proofs.Standings.{busy_at, busy_nowhere}
 use Rattle.job_side.proofs.PicksStay.{decides_not, picked_ended, put_by_ended}
-
-pub is_something : {X : Type 0} (o : Option X) → IsSome o → (x : X) × (o ≡ Some x)
-is_something o h = elim (none_or_some o) [ inl e ↦ absurd (false_true (ap is_some e) h) | inr s ↦ s ]
+use Rattle.proof_base.proofs.Options.{some_of}
 
 -- ---- places
 
@@ -128,7 +126,7 @@ module _ {W : Type 0} (is_of : Setting → Actor → W → Type 0) (running : Kn
     done end hands =
         let x = h.play in
         let g = setting_of b in
-        let ev = is_something b.side.event during in
+        let ev = some_of b.side.event during in
         let life = busy_is (x.live.state y.actor).life now in
         let d = (told_all g b.shared.opening x h.happened).does y.actor life in
         let may : MayFinish x y = record { event = ev.0; during = sym h.now ∙ ev.1; busy = life; doing = d.0; does = d.1; end = elim end [ inl wanting ↦ inl (wanting d.0.op) | inr q ↦ inr q ] } in

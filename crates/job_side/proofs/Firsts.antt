@@ -8,7 +8,6 @@ use Rattle.std.specs.FinMap as fin
 use Rattle.job_actor.proofs.Picking.{none_below}
 use Rattle.job_spec.specs.Eyes.{number_in}
 use Rattle.job_plans.specs.AtPlace.{task_at}
-use Rattle.job_safety.proofs.Sorts.{end_of}
 use Rattle.job_side.proofs.Places.{get_map, map_get}
 use Rattle.job_side.proofs.Moments.{never}
 use Rattle.job_states.specs.Standing.{standing}
@@ -20,6 +19,7 @@ use Rattle.job_side.specs.Firsts.{IsBegun, IsFirstShared, IsFirstSide, planned}
 use Rattle.job_side.specs.declared.hands.Hand.{Hand}
 use Rattle.job_side.specs.declared.hands.Hand.TheVariants.{Plan, Empty}
 use Rattle.job_side.specs.declared.body.Body.{Body}
+use Rattle.proof_base.proofs.Options.{end_of}
 
 -- ---- hands
 

@@ -4,8 +4,8 @@ use Rattle.std.specs.Prelude.{is_some, option_map}
 use Rattle.std.proofs.lemmas.Option.{slice_get-map}
 use Rattle.job_steps.specs.Prelude.{lookup, Actor, Driver, Who, Declared, same_name, actor_of, IsLegal, AreAttempts, Script, actors, is_own}
 use Rattle.job_spec.proofs.Common.{some_is, none_some, false_true, nat_true, or_parts}
-use Rattle.job_safety.proofs.Sorts.{end_of}
 use Rattle.job_spec.specs.Prelude.{declares}
+use Rattle.proof_base.proofs.Options.{end_of}
 
 -- ---- lists
 

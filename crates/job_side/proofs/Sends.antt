@@ -4,7 +4,7 @@ use Rattle.job_spec.proofs.Common.{false_true, true_or_false, slice_get_within}
 use Rattle.job_steps.specs.Prelude.{Content, Scene, answer, apply, effect, after_all, IsHonestOutcome, moment, fate_at, IsForetold, AreForetold, Fate, Ledger, Actor, Driver, Request, Outcome, Slow, RequestLost, Entry, Known, Script, OpEnd, Pick, Setting, Running, advance, actors, Play, Sends, hear, happen, knows_now, MaySend, happens}
 use Rattle.job_facts.specs.Prelude.{ClusterPut, ClusterRename, ClusterGet, ClusterDelete, ClusterList}
 use Rattle.job_spec.specs.Prelude.{in_eyes}
-use Rattle.proof_base.proofs.Options.{none_is}
+use Rattle.proof_base.proofs.Options.{none_is, some_of}
 use Rattle.s3_types.specs.Store.{opening as scene_at_first}
 use Rattle.store_link.specs.Link.{LossyLink}
 use Rattle.store_link.proofs.Ids.{next_store}
@@ -26,7 +26,7 @@ use Rattle.job_traces.proofs.Changes.{after_parts}
 use Rattle.job_side.proofs.Seen.{eyes_more, foretold_as, foretold_last}
 use Rattle.job_side.proofs.Along.{carried, others_know}
 use Rattle.job_side.proofs.PicksStay.{same_picked, put_by_sent}
-use Rattle.job_side.proofs.Finishes.{is_something, hands_by}
+use Rattle.job_side.proofs.Finishes.{hands_by}
 
 -- ---- scenes
 
@@ -108,7 +108,7 @@ module _ {W : Type 0} (wants : W → Option Request) (tells : W → Outcome → 
 
       pub may : MaySend (setting_of b) b.shared.opening h.play (record { event = length b.side.ends.items + 1; actor = actor; request = r; outcome = o })
       may =
-          let ev = is_something b.side.event during in
+          let ev = some_of b.side.event during in
           let moment : b.side.event ≡ h.play.now = h.now in
           let life = busy_is (x.live.state actor).life (sym (busy_at b.side.script b.side.states x.live h.stands place actor here) ∙ busy) in
           let asked_then = sym (works.asks g b.shared.opening x actor m at) ∙ asked in

@@ -3,6 +3,7 @@ use Rattle.std.proofs.Common.{◌≡◌, ℕ, zero, suc, ◌+◌, ◌-◌, ◌�
 use Rattle.job_spec.specs.Prelude.{Content, Scene, opening, effect, after_all, moment, AreHonest, IsHonest, Actor, Driver, Attempt, Shell, Request, Outcome, Answered, Slow, RequestLost, ReplyLost, Entry, Script, Seen, see, see_by, see_all, nothing_seen, seen, Times, is_publishing, AllFrom, IsRising, in_eyes}
 use Rattle.job_spec.specs.Seen.{see_driver, see_attempt}
 use Rattle.job_spec.specs.Eyes.{number_in, entry_in}
+use Rattle.std.proofs.Math.Nat.{le_refl, le_trans}
 
 -- ---- what is seen
 
@@ -64,19 +65,12 @@ next_number mine n = by (mine (suc n))
     by false = omega arith
 
 number_grows_by : (mine : ℕ → Bool) (n d : ℕ) → number_in mine n ≤ number_in mine (n + d)
-number_grows_by mine n zero = let e : n + 0 ≡ n = omega arith in subst (λ m. number_in mine n ≤ number_in mine m) (sym e) (same (number_in mine n))
-  where
-    same : (x : ℕ) → x ≤ x
-    same x = omega arith
+number_grows_by mine n zero = let e : n + 0 ≡ n = omega arith in subst (λ m. number_in mine n ≤ number_in mine m) (sym e) (le_refl (number_in mine n))
 number_grows_by mine n (suc d) =
     let e : n + suc d ≡ suc (n + d) = omega arith in
     let h : number_in mine n ≤ number_in mine (n + d) = number_grows_by mine n d in
     let k : number_in mine (n + d) ≤ number_in mine (suc (n + d)) = next_number mine (n + d) in
-    subst (λ m. number_in mine n ≤ number_in mine m) (sym e) (both h k)
-  where
-    both : {a b c : ℕ} → a ≤ b → b ≤ c → a ≤ c
-    both h k = omega arith
-
+    subst (λ m. number_in mine n ≤ number_in mine m) (sym e) (le_trans h k)
 number_grows : (mine : ℕ → Bool) (n m : ℕ) → n ≤ m → number_in mine n ≤ number_in mine m
 number_grows mine n m h = let e : n + (m - n) ≡ m = omega arith in subst (λ x. number_in mine n ≤ number_in mine x) e (number_grows_by mine n (m - n))
 

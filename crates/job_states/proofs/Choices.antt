@@ -2,9 +2,7 @@
 use Rattle.std.proofs.Common.{◌≡◌, ℕ, ◌+◌, ◌*◌, ◌/◌, ◌%◌, ◌^◌, ◌==◌, ◌<◌, List, length, get_or, slice_get, Some, true, false, ap, arith, rules}
 use Rattle.job_spec.proofs.Common.{nat_tests, slice_get-get_or}
 use Rattle.job_spec.specs.Prelude.{draw, place}
-
-pub mod_below : (x n : ℕ) → 0 < n → x % n < n
-mod_below x n h = search (arith, rules)
+use Rattle.std.proofs.lemmas.Nat.{mod_below}
 
 pub next_drawn : (seed n drawn : ℕ) → drawn ≡ draw seed n → (1103515245 * drawn + 12345) % 2147483648 ≡ draw seed (n + 1)
 next_drawn seed n drawn h = grind arith

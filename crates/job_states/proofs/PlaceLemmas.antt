@@ -3,27 +3,18 @@ use Rattle.std.proofs.Common.{◌≡◌, ℕ, zero, suc, ◌<◌, nat_eq, true, 
 use Rattle.std.specs.Prelude.{is_some, option_map}
 use Rattle.job_spec.specs.Prelude.{lookup, keys_of, AllByRecursion, Actor, Driver, Shell, Who, Declared, same_name, actor_of, is_known, Script, same_actor, actors}
 use Rattle.job_protocol.specs.Prelude.{position, IsDistinct}
-use Rattle.std.proofs.lemmas.Option.{slice_get-map}
+use Rattle.std.proofs.lemmas.Option.{slice_get-map, same_Some}
 use Rattle.proof_base.proofs.Common.{length-map, position-Some, IsDistinct-head, IsDistinct-tail}
 use Rattle.job_spec.proofs.Common.{slice_get-get_or, nat_tests}
-use Rattle.proof_base.proofs.Options.{some_is}
 use Rattle.job_states.specs.declared.standing.Standing.{Standing}
 use Rattle.std.specs.Option.{IfSome}
 use Rattle.job_states.specs.Stands.{is_at, IsPlace, ChangesAt}
+use Rattle.proof_base.proofs.Numbers.{suc_not, suc_same, zero_not}
 
 -- ---- tests
 
 pub same_exact : (b a : Actor) → same_actor b a ≡ true → b ≡ a
 same_exact b a h = grind (arith, nat_tests)
-
-suc_same : (i j : ℕ) → nat_eq (suc i) (suc j) ≡ nat_eq i j
-suc_same i j = grind (arith, nat_tests)
-
-zero_not : (j : ℕ) → nat_eq zero (suc j) ≡ false
-zero_not j = grind (arith, nat_tests)
-
-suc_not : (i : ℕ) → nat_eq (suc i) zero ≡ false
-suc_not i = grind (arith, nat_tests)
 
 -- ---- a list of actors, in which one stands at a place alone
 
@@ -59,7 +50,7 @@ put_there w a i x f g standings place is change =
 
 pub found_there : (w : Script) (a : Actor) (i : ℕ) (x : Standing) (f : Actor → Standing) (standings : List Standing) → IsPlace w a (Some i) → standings ≡ map f (actors w) → slice_get standings i ≡ Some x → x ≡ f a
 found_there w a i x f standings place is found =
-    some_is x (f a) (sym found ∙ ap (λ (l : List Standing). slice_get l i) is ∙ get_some (actors w) a i f place.within place.only)
+    same_Some x (f a) (sym found ∙ ap (λ (l : List Standing). slice_get l i) is ∙ get_some (actors w) a i f place.within place.only)
 
 -- who has no place is not of the job
 pub no_place : (w : Script) (a : Actor) → IsPlace w a None → is_known w.attempts a ≡ true → ⊥
@@ -70,7 +61,7 @@ no_place w a place known = true≢false (sym (place.known ∙ known))
 -- the place of an attempt among the attempts, from its place among their names
 name_there : (ds : List Declared) (j : ℕ) (b : Actor) → slice_get (map (λ d. actor_of d.0) ds) j ≡ Some b → (q : Who) × (slice_get (keys_of ds) j ≡ Some q) × (b ≡ actor_of q)
 name_there [] j b e = absurd cc
-name_there (d ∷ ds) zero b e = (d.0, refl, sym (some_is (actor_of d.0) b e))
+name_there (d ∷ ds) zero b e = (d.0, refl, sym (same_Some (actor_of d.0) b e))
 name_there (d ∷ ds) (suc j) b e = name_there ds j b e
 
 -- it stands where the names say
@@ -92,7 +83,7 @@ name_of_actor x y = grind (arith, nat_tests)
 
 each_at : (P : Who → Type 0) (ns : List Who) (j : ℕ) (q : Who) → AllByRecursion P ns → slice_get ns j ≡ Some q → P q
 each_at P [] j q h e = absurd cc
-each_at P (n ∷ ns) zero q h e = subst P (some_is n q e) h.0
+each_at P (n ∷ ns) zero q h e = subst P (same_Some n q e) h.0
 each_at P (n ∷ ns) (suc j) q h e = each_at P ns j q h.1 e
 
 name_at : (p : Who) (ns : List Who) (i j : ℕ) (q r : Who) → IsDistinct same_name ns → slice_get ns i ≡ Some r → same_name p r ≡ true → slice_get ns j ≡ Some q → same_name p q ≡ nat_eq i j

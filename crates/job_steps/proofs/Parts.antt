@@ -3,6 +3,7 @@ use Rattle.std.proofs.Common.{◌≡◌, ℕ, zero, suc, ◌+◌, ◌<◌, ◌�
 use Rattle.std.proofs.Math.Bool.{and-false}
 use Rattle.job_steps.specs.Prelude.{filter, Scene, answer, effect, after_all, AreHonest, IsHonestOutcome, Actor, Shell, Request, Outcome, Entry, strange_entry, same_actor, is_own, own, of_event, until, before, since, by_actor, AllFrom, IsRising, AllUpTo}
 use Rattle.job_spec.proofs.Common.{nat_tests, nat_false, take_all, filter-append, below_so, at_most_so, above_so, some_is, none_some, false_true, true_or_false}
+use Rattle.proof_base.proofs.Numbers.{not_below}
 
 -- ---- any lists
 
@@ -53,9 +54,6 @@ rising_last n (x ∷ es) e all late h = let one : x.event ≤ n = all.0 in (from
 
 -- ---- parts by events
 
-below_no : (m n : ℕ) → n ≤ m → nat_lt m n ≡ false
-below_no m n h = grind (arith, nat_tests)
-
 -- a test that takes all, and one that takes none
 all_taken : (p : Entry → Bool) (n : ℕ) (es : List Entry) → ((e : Entry) → e.event ≤ n → p e ≡ true) → AllUpTo n es → filter p es ≡ es
 all_taken p n [] h all = refl
@@ -82,7 +80,7 @@ event_none n es =
     none_taken (λ e. is_own e.actor && nat_eq e.event (n + 1)) n es (λ e l. ap (λ b. is_own e.actor && b) (nat_false e.event (n + 1) (λ is. absurd (omega (arith, is, l)))) ∙ and-false (is_own e.actor))
 
 pub before_late : (k : ℕ) (es : List Entry) (e : Entry) → k ≤ e.event → before k (es ++ e ∷ []) ≡ before k es
-before_late k es e h = left_out (λ x. nat_lt x.event k) es e (below_no e.event k h)
+before_late k es e h = left_out (λ x. nat_lt x.event k) es e (not_below e.event k h)
 
 pub since_late : (k : ℕ) (es : List Entry) (e : Entry) → k ≤ e.event → since k (es ++ e ∷ []) ≡ since k es ++ e ∷ []
 since_late k es e h = kept (λ x. nat_le k x.event) es e (at_most_so k e.event h)

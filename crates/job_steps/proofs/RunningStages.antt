@@ -13,13 +13,13 @@ use Rattle.job_model.specs.declared.ends.EventFault.TheVariants as faults
 use Rattle.job_model.specs.declared.states.ActorStage.TheVariants as stage
 use Rattle.job_protocol.specs.Setup as setup
 use Rattle.job_traces.specs.Runs.{is_done}
-use Rattle.job_facts.proofs.Whose.{or_false}
 use Rattle.job_traces.proofs.EveryRun.{just_set}
 use Rattle.job_model.specs.declared.ends.CheckEnd.{CheckEnd}
 use Rattle.job_model.specs.declared.ends.CheckEnd.TheVariants as checks
 use Rattle.job_protocol.specs.Rechecks.{check_after, check_over}
 use Rattle.job_protocol.specs.Sparing.{sparing_over}
 use Rattle.job_protocol.proofs.Begun.{after_check_so}
+use Rattle.std.proofs.Math.Bool.{or-false}
 
 -- ---- when an operation may begin
 
@@ -217,4 +217,4 @@ timed_tells g b op o h = grind arith
 
 -- a later event that begins neither
 pub timed_on : (b : Begun) (d : Option Operation) → IsTimed b d → IsTimed (still_begun b) d
-timed_on b d h = subst (λ c. IsTimed c d) (λ i. record { commit = sym (or_false b.commit) i; clean = sym (or_false b.clean) i }) h
+timed_on b d h = subst (λ c. IsTimed c d) (λ i. record { commit = sym (or-false b.commit) i; clean = sym (or-false b.clean) i }) h

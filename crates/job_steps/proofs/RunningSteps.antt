@@ -6,7 +6,7 @@ use Rattle.job_spec.proofs.Common.{false_true}
 use Rattle.job_model.specs.declared.events.Op.TheVariants.{Commit}
 use Rattle.job_model.specs.declared.ends.TaskEnd.TheVariants as tasks
 use Rattle.job_traces.specs.Runs.{MaySetUp}
-use Rattle.job_facts.proofs.Whose.{attempt, or_false, or_true}
+use Rattle.job_facts.proofs.Whose.{attempt}
 use Rattle.job_traces.proofs.Running.{Late}
 use Rattle.job_traces.proofs.Entries.{late_now}
 use Rattle.job_steps.proofs.RunningNumbers.{known_attempt}
@@ -16,6 +16,7 @@ use Rattle.job_steps.proofs.RunningTasks.{AttemptAt, FreeAbort, HasWritten, free
 use Rattle.job_steps.proofs.RunningAlong.{Along, told_known, set_up, driver_begins, attempt_begins}
 use Rattle.job_protocol.proofs.Begun.{commit_of_so, clean_of_so}
 use Rattle.job_model.specs.declared.states.ActorStage.TheVariants as stage
+use Rattle.std.proofs.Math.Bool.{or-false, or-true}
 
 -- the state of an actor that begins this at its stage
 abbrev pub busy_at : Actor → Op → ActorStage → ActorState
@@ -50,20 +51,20 @@ module _ (g : Setting) (opening : Content) (k : Times) (j : IsLegal g.script) (i
         let op = TheSetup (fresh w.retries setup_start) in
         let may_set = setup_may h.stand (operation_of (r Driver)) h.driver m.2 (λ a. h.attempts a ∙ h.unset m.0 a) in
         let t = timed_setting b (operation_of (r Driver)) h.timed m.1 in
-        let early : ((b.commit || false) ≡ false) × ((b.clean || false) ≡ false) = (or_false b.commit ∙ t.0, or_false b.clean ∙ t.1) in
+        let early : ((b.commit || false) ≡ false) × ((b.clean || false) ≡ false) = (or-false b.commit ∙ t.0, or-false b.clean ∙ t.1) in
         driver_begins g opening k j is_opening h (still_begun b) (record { operation = op; known = kn }) (busy_at Driver Setup s) (begin g h.stand BeginSetup)
         (actor_begins es h.stand BeginSetup h.runs may_set) refl refl refl early (new_at s Busy (fresh w.retries setup_start) m.0) (λ n. n)
     driver_op kn reports Commit may legal =
         let s = (st Driver).stage in
         let just : is_just_set h.stand.driver ≡ true = ap is_just_set h.driver ∙ may_commit_job s (st Driver).life (operation_of (r Driver)) h.driver_at may.may_begin in
         let t = timed_setting b (operation_of (r Driver)) h.timed (just_kind (operation_of (r Driver)) (sym (ap is_just_set h.driver) ∙ just)) in
-        let timed : ((b.commit || true) ≡ true) × ((b.clean || false) ≡ false) = (or_true b.commit, or_false b.clean ∙ t.1) in
+        let timed : ((b.commit || true) ≡ true) × ((b.clean || false) ≡ false) = (or-true b.commit, or-false b.clean ∙ t.1) in
         driver_begins g opening k j is_opening h (with_event true b (Do Driver Commit)) (record { operation = commit_of g reports; known = kn }) (busy_at Driver Commit s) (begin g h.stand (BeginCommit reports))
         (actor_begins es h.stand (BeginCommit reports) h.runs just) refl refl refl (commit_of_so g (λ op. IsTimed (with_event true b (Do Driver Commit)) (Some op)) (λ missing. timed) (λ t. timed) reports)
         (commit_of_so g (λ op. DriverAt stage.Committing Busy (Some op)) (λ missing. tt) (λ t. tt) reports) (λ n. absurd (false_true refl n))
-    driver_op kn reports Abort may legal = starts_clean (with_event true b (Do Driver Abort)) kn (busy_at Driver Abort (st Driver).stage) may.set (or_true b.clean) (λ t i. (i, refl))
+    driver_op kn reports Abort may legal = starts_clean (with_event true b (Do Driver Abort)) kn (busy_at Driver Abort (st Driver).stage) may.set (or-true b.clean) (λ t i. (i, refl))
     driver_op kn reports Clean may legal =
-        starts_clean (with_event true b (Do Driver Clean)) kn (busy_at Driver Clean (st Driver).stage) may.set (or_true b.clean) (λ t i. behind_at (st Driver).stage Busy (Some t) i may.may_begin)
+        starts_clean (with_event true b (Do Driver Clean)) kn (busy_at Driver Clean (st Driver).stage) may.set (or-true b.clean) (λ t i. behind_at (st Driver).stage Busy (Some t) i may.may_begin)
     driver_op kn reports Write may legal = absurd legal
 
     -- whether the commit has begun is as it was

@@ -13,13 +13,14 @@ use Rattle.job_traces.proofs.Running.{At, Late}
 use Rattle.job_facts.proofs.OwnRequests.{setup_changes, attempt_changes, commit_changes, clean_changes}
 use Rattle.job_traces.proofs.EveryRun.{good, late, own_front, own_last}
 use Rattle.job_traces.proofs.Entries.{take_all, front, own_taken}
-use Rattle.job_traces.proofs.Lists.{slice_front, slice_last}
+use Rattle.job_traces.proofs.Lists.{slice_front}
 use Rattle.job_traces.proofs.Plain.{one_scene}
 use Rattle.job_traces.proofs.Folds.{each_run, each_seen}
 use Rattle.std.proofs.lemmas.Bool.{cases_lt}
 use Rattle.std.proofs.lemmas.List.{take-append-le}
 use Rattle.job_spec.proofs.Common.{slice_get_within}
 use Rattle.job_facts.proofs.Sharing.{check_changes, sparing_changes}
+use Rattle.proof_base.proofs.Lists.{slice_last}
 
 -- ---- contents that are the same outside
 

@@ -6,6 +6,7 @@ use Rattle.job_spec.proofs.Common.{shared_found}
 use Rattle.job_spec.specs.OperationEnds.{is_lost}
 use Rattle.job_model.specs.declared.ends.CommitEnd.TheVariants as commits
 use Rattle.job_model.specs.declared.ends.Stage.TheVariants as stages
+use Rattle.job_protocol.proofs.LaneTables.{either_so}
 
 -- where it goes on with these sets
 pub data Enters (w : Script) (sets : Sets) : Commit → Type 0 where
@@ -52,9 +53,6 @@ pub data Leads (w : Script) : Commit → Outcome → Commit → Type 0 where
   none_reverts : {sets : Sets} {x : Turn} {xs : List Turn} {done : List ℕ} {o : Outcome} → Leads w (Completing sets x xs done) o (CommitOver (commits.StoreFault stages.Complete))
 
 -- ---- each does
-
-either_so : (P : Commit → Type 0) (b : Bool) (c d : Commit) → P c → P d → P (cond b c d)
-either_so P b c d h g = grind arith
 
 turns_so : (P : Commit → Type 0) (sets : Sets) (xs : List Turn) (done : List ℕ) → P (Marking sets 0)
     → ((y : Turn) (ys : List Turn) → y ∷ ys ≡ xs → P (Completing sets y ys done)) → P (completing sets xs done)

@@ -13,13 +13,14 @@ use Rattle.job_traces.proofs.Running.{At, Late}
 use Rattle.job_traces.proofs.EveryRun.{good, cleans_is, late, put_each}
 use Rattle.job_traces.proofs.Folds.{BeginKeeps, DriverKeeps, AttemptKeeps, StrangerKeeps, each_run, commit_is, driven}
 use Rattle.job_traces.proofs.Changes.{earlier, moment_scene}
-use Rattle.job_traces.proofs.Lists.{slice_front, slice_last}
+use Rattle.job_traces.proofs.Lists.{slice_front}
 use Rattle.job_protocol.proofs.Begun.{after_check_so, commit_of_so, clean_of_so}
 use Rattle.job_facts.proofs.Sharing.{check_plain, check_reads}
 use Rattle.job_facts.proofs.Driving.{reads_drive}
 use Rattle.s3_types.specs.Store.{opening as opening_scene}
 use Rattle.std.proofs.lemmas.List.{take-append-le}
 use Rattle.job_traces.proofs.Plain.{setup_plain}
+use Rattle.proof_base.proofs.Lists.{slice_last}
 
 -- what was published is so in a longer journal
 pub longer_published : (w : Script) (opening : Content) (es more : List Entry) (t a n i : ℕ) (h : WasPublished w opening es t a n) → h.entry.event ≤ i → WasPublished w opening (es ++ more) t a i

@@ -14,6 +14,7 @@ use Rattle.job_facts.proofs.Agreeing.{AgreeBelow, Agrees, unkept_prefix}
 use Rattle.job_traces.proofs.Running.{first_at, now_at, Cleared, Clearing, OtherStands, Emptying, Empty, Replaces}
 use Rattle.job_protocol.specs.Prelude.{sweep_start}
 use Rattle.job_traces.proofs.Leads.{Enters, empties, deals, deals_none, enters, Leads, fetches, sweeps_on, empties_next, sweeps_again, leads}
+use Rattle.job_facts.proofs.Spares.{in_or_not}
 
 -- a file's path is not below the magic directory
 pub path_no_magic : {w : Script} → IsLegal w → (q : List ℕ) → is_file_path q ≡ true → is_no_magic w (below w.dest.key q) ≡ true
@@ -28,13 +29,6 @@ pub some_behind : (p k : List ℕ) → begins (p ++ codes "/") k ≡ true → is
 some_behind [] [] h = absurd (false≢true h)
 some_behind (x ∷ p) [] h = absurd (false≢true h)
 some_behind p (x ∷ k) h = refl
-
-in_or_not : (k : List ℕ) (ks : List (List ℕ)) → IsIn k ks ⊎ (IsIn k ks → ⊥)
-in_or_not k [] = inr (λ i. i)
-in_or_not k (q ∷ ks) = elim (same_or_other k q) [
-  | inl e ↦ inl (inl e)
-  | inr ne ↦ elim (in_or_not k ks) [ inl i ↦ inl (inr i) | inr out ↦ inr (λ i. elim i [ inl e ↦ ne e | inr h ↦ out h ]) ]
-]
 
 module _ (g : Setting) (j : IsLegal g.script) (opening : Content) where
   abbrev w : Script

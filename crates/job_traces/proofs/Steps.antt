@@ -2,7 +2,6 @@
 use Rattle.std.proofs.Common.{not, ◌≡◌, ℕ, ◌<◌, ◌≤◌, ◌^◌, inl, inr, ◌&&◌, ◌||◌, Bool, true, false, List, [], ◌∷◌, ◌++◌, length, Option, Some, None, refl, sym, ap, subst, ◌∙◌, arith, append_assoc}
 use Rattle.job_facts.specs.Prelude.{Content, Scene, begins, answer, apply, effect, IsHonestOutcome, Object, Request, PutObject, Committer, Magic, Reply, Outcome, Answered, ReplyLost, Entry, below, magic_prefix, success_key, IsLegal, Script, Picks, wanted_at, mark_text, is_file_path, nth, Sets, all_commits, picks_of, Commit, Fetching, Replacing, Completing, Marking, Reverting, CommitOver, set_request, set_read, commit_asks, commit_tells, fetched, replaced, is_no_magic, Table, Tabled, Setting, Seen, see, is_begun, is_marking, picks_by, IsIn, changed_keys, HasBucket, Told, tell_driver, at_event, driver_entry, at_key, Hold, FitsJobCommit, Gone, Decides, FileStands, Wants, Commits, AllUnder, OnlyThose, EmptiesBy, Sweep, sweep_asks, sweep_hears, keeps_of, dest_prefix, Times, is_picking}
 use Rattle.job_spec.proofs.Common.{tabled_tells, some_is, none_some, false_true, in_append, in_back, none_or_some}
-use Rattle.job_facts.proofs.Whose.{or_true}
 use Rattle.job_facts.proofs.Placed.{one_key}
 use Rattle.job_facts.proofs.Shows.{HidesAll}
 use Rattle.job_facts.proofs.Shapes.{puts}
@@ -20,6 +19,7 @@ use Rattle.job_facts.proofs.Emptying.{EmptiedBy, swept_by, still_by}
 use Rattle.job_traces.proofs.Replacing.{keeps_same, replaces_tells, cleared_so, others_enter, empty_next, empty_enter, still_clear, taken_after}
 use Rattle.job_traces.proofs.Leads.{Leads, fetches, sweeps_on, empties_next, deals_then, marks_then, is_marked, sweeps_again, leads}
 use Rattle.job_traces.proofs.Plain.{one_scene, plain_picks, plain_mark, driver_begun, is_read_stage, sweep_plain, commit_unread}
+use Rattle.std.proofs.Math.Bool.{or-true}
 
 -- a key outside the magic directory, where a request hides all it changes
 pub hidden_same : (w : Script) (s : Scene) → HasBucket s.content w.dest.bucket → (r : Request) → HidesAll w r → (o : Outcome) → (k : List ℕ) → begins (magic_prefix w.dest.key w.job) k ≡ false → at_key w (effect s r o).content k ≡ at_key w s.content k
@@ -27,7 +27,7 @@ hidden_same w s there r h o k free = stranger_same w s there r o k (λ b i. fals
 
 -- in its time a commit picks
 pub commit_picks : (k : Times) (begun : Bool) (n : ℕ) → is_begun k.commit n ≡ true → is_begun k.clean n ≡ false → is_picking k begun n ≡ true
-commit_picks k begun n e f = ap (λ b. b && not (is_begun k.clean n)) (ap (λ b. begun || b) e ∙ or_true begun) ∙ ap not f
+commit_picks k begun n e f = ap (λ b. b && not (is_begun k.clean n)) (ap (λ b. begun || b) e ∙ or-true begun) ∙ ap not f
 
 module _ (g : Setting) (j : IsLegal g.script) (opening : Content) (k : Times) (s : Seen) (m : Told) (n : ℕ) (begins_it : is_begun k.commit n ≡ true) (unclean : is_begun k.clean n ≡ false) (cleans : m.cleans_at ≡ k.clean) (few : s.scene.content.next ≤ 2 ^ 64) (h : Hold g.script g.minimum s m) (c : Commit)
     (i : InCommit g opening s.picks m c) (r : Request) (asked : commit_asks g.script c ≡ Some r) where
@@ -290,7 +290,7 @@ module _ (g : Setting) (j : IsLegal g.script) (opening : Content) (k : Times) (s
         let agrees = agrees_at c refl o honest in
         record {
           marks = marks_at c refl o;
-          early = λ e. absurd (false_true e (driver_begun w k s n r o ∙ ap (λ b. s.begun || b) begins_it ∙ or_true s.begun));
+          early = λ e. absurd (false_true e (driver_begun w k s n r o ∙ ap (λ b. s.begun || b) begins_it ∙ or-true s.begun));
           empty = subst (λ (x : Scene). Empty g opening x.content (commit_tells w c o)) (sym (scene_is o)) (empty_leads (leads w c o) refl honest);
           files = record {
             wanted = λ q p b e.

@@ -5,13 +5,13 @@ use Rattle.s3_types.specs.Prelude.{below_all, is_sorted}
 use Rattle.journal_log.specs.Prelude.{AllByRecursion, text_total, is_bucket, is_key, Objects, Upload, Uploads, BucketContent, Content, new_bucket, new_content, is_part_number, with_part, live, joined, moment, apply_store, apply_at, bucket_of, without, copied, part_put, completed, aborted, MOST_ENTRIES, Object, NamedPart, Request, MakeBucket, PutObject, DeleteObject, DeleteObjects, CopyObject, CreateUpload, UploadPart, CompleteUpload, AbortUpload, Entry, IsObject, IsBucket, IsContent, content_after, IsMade, KeepsImages}
 use Rattle.proof_base.proofs.Common.{and_parts, leb-true, le-leb, nat_tests, take_all, take-append-drop}
 use Rattle.std.specs.FinMap as fin
-use Rattle.proof_base.proofs.Bools.{both_T}
 use Rattle.proof_base.proofs.Tree.{tied, entries_empty}
 use Rattle.s3_types.specs.Answer.{made}
 use Rattle.proof_base.proofs.Members.{true_or_false, none_or_some, some_is, none_some, text_is, text_exact}
 use Rattle.store_image.specs.Content.{is_minimum, is_counter, is_id, IsEntry, AreEntries, IsPart, IsUpload}
 use Rattle.journal_log.specs.Changes.{changes}
 use Rattle.journal_log.proofs.Journals.{folded, changes_append, content_append}
+use Rattle.std.proofs.Math.Facts.{and_yes}
 
 -- ---- the entries of a map
 
@@ -23,7 +23,7 @@ module _ {K X : Type 0} {R : K → K → Ordering} (o : IsTotalOrder R) (exact :
   none_below : (k : K) (es : List (K × X)) → T (below_all R k es) → find R k es ≡ None
   none_below k [] h = refl
   none_below k (e ∷ es) h =
-      let w = both_T (is_lt (R k e.0)) (below_all R k es) h in
+      let w = and_yes (is_lt (R k e.0)) (below_all R k es) h in
       ap (λ b. cond b (Some e.1) (find R k es)) (not_tied (R k e.0) w.0) ∙ none_below k es w.1
 
   later : (e : K × X) (es : List (K × X)) (k : K) (v : X) → T (below_all R e.0 es) → find R k es ≡ Some v → find R k (e ∷ es) ≡ Some v
@@ -39,7 +39,7 @@ module _ {K X : Type 0} {R : K → K → Ordering} (o : IsTotalOrder R) (exact :
     are_found : (es : List (K × X)) → T (is_sorted R es) → ((k : K) (v : X) → find R k es ≡ Some v → IsOne (k, v)) → AllByRecursion IsOne es
     are_found [] s h = tt
     are_found (e ∷ es) s h =
-        let w = both_T (below_all R e.0 es) (is_sorted R es) s in
+        let w = and_yes (below_all R e.0 es) (is_sorted R es) s in
         (h e.0 e.1 (first e es), are_found es w.1 (λ k v g. h k v (later e es k v w.0 g)))
 
     found_is : (es : List (K × X)) → AllByRecursion IsOne es → (k : K) (v : X) → find R k es ≡ Some v → IsOne (k, v)

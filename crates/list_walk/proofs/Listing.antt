@@ -1,8 +1,7 @@
 -- How many keys and uploads are listed.
 use Rattle.std.proofs.Common.{◌≡◌, ℕ, inl, inr, ◌+◌, zero, suc, Bool, true, false, ◌&&◌, cond, List, [], ◌∷◌, ◌++◌, length, map, take, drop, Option, Some, None, refl, sym, ap, ◌∙◌, arith}
 use Rattle.store_frame.specs.Prelude.{find, filter, AllByRecursion, keys_of, is_lt, is_eq, nat_cmp, ordering_then, IsTotalOrder, nat_cmp_total, Ordering, Less, Equal, text_cmp, text_total, Objects, Upload, Uploads, begins, listed, text_in, ref_cmp, ref_of, refs, is_behind, Object, UploadRef, PageEntry}
-use Rattle.std.proofs.Math.Bool.{and-false}
-use Rattle.proof_base.proofs.Bools.{and_true}
+use Rattle.std.proofs.Math.Bool.{and-false, and-true}
 use Rattle.proof_base.proofs.Members.{true_or_false}
 use Rattle.proof_base.proofs.Common.{and_parts, then_total, on_total, sorted_head, sorted_tail}
 use Rattle.std.specs.FinMap as fin
@@ -28,7 +27,7 @@ Behind a ks = AllByRecursion (λ k. text_cmp a k ≡ Less) ks
 
 behind_all : (p a : List ℕ) (es : List (List ℕ × Object)) → Behind a (keys_of es) → count (is_left p a) es ≡ count (λ e. begins p e.0) es
 behind_all p a [] h = refl
-behind_all p a (e ∷ es) h = rw (count_more (is_left p a) e es, count_more (λ e. begins p e.0) e es, ap is_lt h.0, and_true (begins p e.0), behind_all p a es h.1) refl
+behind_all p a (e ∷ es) h = rw (count_more (is_left p a) e es, count_more (λ e. begins p e.0) e es, ap is_lt h.0, and-true (begins p e.0), behind_all p a es h.1) refl
 
 behind_too : (a k : List ℕ) (ks : List (List ℕ)) → lt text_cmp a k ≡ true → Behind k ks → Behind a ks
 behind_too a k [] l h = tt
@@ -92,7 +91,7 @@ count_mapped f t (x ∷ xs) = count_more t (f x) (map f xs) ∙ ap (λ n. one (t
 count_both : {A : Type 0} (p q : A → Bool) (xs : List A) → count p (filter q xs) ≡ count (λ x. p x && q x) xs
 count_both p q [] = refl
 count_both p q (x ∷ xs) = rw (count_more (λ x. p x && q x) x xs) (elim (true_or_false (q x)) [
-  | inl t ↦ rw (t, and_true (p x), count_more p x (filter q xs), count_both p q xs) refl
+  | inl t ↦ rw (t, and-true (p x), count_more p x (filter q xs), count_both p q xs) refl
   | inr n ↦ rw (n, and-false (p x), count_both p q xs) (omega arith)
 ])
 

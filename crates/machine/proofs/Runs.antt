@@ -8,6 +8,7 @@ use Rattle.machine.specs.Prelude.{Scene, answer, apply, effect, after_all, AreHo
 use Rattle.machine.specs.Drove.{IsSent}
 use Rattle.machine.specs.declared.retrying.Retrying.{Retrying}
 use Rattle.machine.proofs.Counts.{counted_then}
+use Rattle.proof_base.proofs.Numbers.{more_times, no_more_times}
 
 pub after_all_more : (s : Scene) (part : List Entry) (e : Entry) → after_all s (part ++ e ∷ []) ≡ effect (after_all s part) e.request e.outcome
 after_all_more s [] e = refl
@@ -29,15 +30,8 @@ is_run_more wants after actor event t s part s' t' e s'' h g f = grind (arith, b
 abbrev pub work : {M : Type 0} → (M → Scene → ℕ) → ℕ → Retried M → Scene → ℕ
 work left retries t s = left t.operation s * (retries + 1) + t.spare
 
--- arithmetic of the measure
-more_times : (a b n : ℕ) → a < b → a * (n + 1) + (n + 1) ≤ b * (n + 1)
-more_times a b n h = grind arith
-
 less_work : (a b n x y : ℕ) → a < b → x ≤ n → a * (n + 1) + x < b * (n + 1) + y
 less_work a b n x y h k = omega (arith, more_times a b n h)
-
-no_more_times : (a b n : ℕ) → a ≤ b → a * (n + 1) ≤ b * (n + 1)
-no_more_times a b n h = grind arith
 
 one_less : (a n : ℕ) → a + n < a + suc n
 one_less a n = omega arith

@@ -1,7 +1,7 @@
 -- A run falls into tries, and wore out exactly where one of them did.
 use Rattle.std.proofs.Common.{◌≡◌, ℕ, zero, suc, ◌+◌, ◌<◌, ◌≤◌, Bool, true, false, ◌||◌, List, [], ◌∷◌, ◌++◌, length, Option, Some, None, Ok, Err, refl, sym, ap, subst, ◌∙◌, arith, append_assoc, append-nil}
 use Rattle.machine.specs.Prelude.{is_unanswered, Request, Outcome, Answered, Slow, Entry, Follows, run, Item, Retried, wants_of, step, wears, is_zero, has_worn, unanswered_by, some_worn, HasUnanswered, Tried}
-use Rattle.std.proofs.lemmas.Bool.{false≢true}
+use Rattle.std.proofs.lemmas.Bool.{false≢true, or_right}
 use Rattle.machine.specs.Tries.{AreUnanswered, Try, IsTry, AreTries, IsClosed, spare_after, answer_in, sendings_of, is_worn, IsBrokenOff}
 use Rattle.machine.specs.declared.driving.DriveStop.TheVariants.{StoreFault, NoMemory}
 
@@ -172,9 +172,6 @@ module _ {M : Type 0} (retries : ℕ) (wants : M → Option Request) (after : M 
   worn_here t r [] behind u l = let no : ⊥ = omega arith in absurd no
   worn_here t r (e ∷ es) behind u l = worn_outcome t es behind e.outcome u.1 l (λ t' l'. worn_here t' r es behind u.2 l')
 
-  or_true : (a b : Bool) → b ≡ true → (a || b) ≡ true
-  or_true a b h = grind arith
-
   -- no request has more to spare than there are retries
   kept_by : (m : M) (spare : ℕ) (b : Bool) → spare ≤ retries → (unanswered_by retries after m b spare).spare ≤ retries
   kept_by m zero b h = omega arith
@@ -187,7 +184,7 @@ module _ {M : Type 0} (retries : ℕ) (wants : M → Option Request) (after : M 
 
   worn_behind : (t : Retried M) (r : Request) (before these behind : List Entry) → t.spare ≤ retries → AreUnanswered r these → length these ≡ retries + 1 → has_worn retries after t (before ++ (these ++ behind)) ≡ true
   worn_behind t r [] these behind l u n = let m : t.spare < length these = omega arith in worn_here t r these behind u m
-  worn_behind t r (e ∷ es) these behind l u n = or_true (wears t e.outcome) _ (worn_behind (step retries after t e.outcome) r es these behind (kept t e.outcome l) u n)
+  worn_behind t r (e ∷ es) these behind l u n = or_right (wears t e.outcome) _ (worn_behind (step retries after t e.outcome) r es these behind (kept t e.outcome l) u n)
 
   -- ---- what driving tells of it
 

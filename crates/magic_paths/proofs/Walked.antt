@@ -4,6 +4,7 @@ use Rattle.s3_types.specs.Prelude.{list_any, position_or_len, before_first, afte
 use Rattle.path_keys.proofs.Common.{append_cancel_right, list_any-append, take-append_seam, drop-append_seam, parts_append}
 use Rattle.words.specs.Parts.{parts_of}
 use Rattle.magic_paths.specs.Finals.{is_word}
+use Rattle.std.proofs.lemmas.Bool.{or_parts}
 
 -- a front of a text is passed, whose elements are seen, and none of these is the word
 pub record Walked (word text rest : List ℕ) : Type 0 where
@@ -43,13 +44,10 @@ or_true a b c h = grind arith
 pub has_word : (word text rest element : List ℕ) (more : List (List ℕ)) → Walked word text rest → parts_of 47 rest ≡ element ∷ more → is_word word element ≡ true → list_any (is_word word) (parts_of 47 text) ≡ true
 has_word word text rest element more h g e = grind (arith, all_elements, list_any-append, or_true)
 
-neither : (a b : Bool) → (a || b) ≡ false → (a ≡ false) × (b ≡ false)
-neither a b h = grind arith
-
 place : (word : List ℕ) (seen : List (List ℕ)) (element : List ℕ) (more : List (List ℕ)) → list_any (is_word word) seen ≡ false → is_word word element ≡ true → position_or_len (is_word word) (seen ++ element ∷ more) ≡ length seen
 place word [] element more n h = rw h refl
 place word (x ∷ seen) element more n h =
-    let parts = neither (is_word word x) (list_any (is_word word) seen) n in
+    let parts = or_parts (is_word word x) (list_any (is_word word) seen) n in
     let old : position_or_len (is_word word) (seen ++ element ∷ more) ≡ length seen = place word seen element more parts.1 h in
     rw parts.0 (omega arith)
 

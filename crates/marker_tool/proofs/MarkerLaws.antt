@@ -11,12 +11,9 @@ use Rattle.fs_tree.proofs.Begins.{begins_trans}
 use Rattle.marker_tool.specs.Markers.{goes_on, kind_of, marker_at, markers_in, is_surplus, surplus_in}
 use Rattle.bucket_ops.proofs.Rising.{lower, sorted}
 use Rattle.marker_tool.proofs.Listing.{IsListing, above, rises_filter, behind_first}
+use Rattle.proof_base.proofs.Numbers.{positive}
 
 -- ---- what a marker is
-
-not_zero : (n : ℕ) → (n == 0) ≡ false → 0 < n
-not_zero zero h = absurd (false≢true (sym h))
-not_zero (suc n) h = omega arith
 
 bare_bytes : (z : Objects) (k : List ℕ) → IsBare z k → HasBytes z k → ⊥
 bare_bytes z k h g =
@@ -64,7 +61,7 @@ module _ (q : List ℕ) (z : Objects) where
 
   kind_by : (k : List ℕ) (o : Object) (n : ℕ) (b c : Bool) → fin.get z k ≡ Some o → n ≡ length o.bytes → (n == 0) ≡ b → (c ≡ true → HasMore z k) → (HasMore z k → c ≡ true)
       → IsKind z k (if b then (if c then Surplus else Leaf) else Odd)
-  kind_by k o n false c g e t f h = (o, g, subst (λ n. 0 < n) e (not_zero n t))
+  kind_by k o n false c g e t f h = (o, g, subst (λ n. 0 < n) e (positive n t))
   kind_by k o n true true g e t f h = ((o, g, sym e ∙ eqb-true n 0 t), f refl)
   kind_by k o n true false g e t f h = ((o, g, sym e ∙ eqb-true n 0 t), λ more. false≢true (h more))
 

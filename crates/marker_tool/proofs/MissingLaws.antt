@@ -7,12 +7,13 @@ use Rattle.std.specs.FinMap as fin
 use Rattle.s3_types.specs.declared.reply.PageEntry.TheVariants.{Object as Single}
 use Rattle.dir_markers.proofs.Above.{trimmed_marker}
 use Rattle.store_frame.proofs.Flat.{behind, joins}
-use Rattle.fs_tree.proofs.Begins.{both, begins_trans, begins_length, begins_all, begins_marker, marker_is, marker_at}
+use Rattle.fs_tree.proofs.Begins.{begins_trans, begins_length, begins_all, begins_marker, marker_is, marker_at}
 use Rattle.fs_tree.proofs.Above.{Cut, cut, none_above, more_above, above_begins, begins_above, above_marker, marker_ends, other_end}
 use Rattle.marker_tool.specs.Markers.{markers_above, is_due, missing_at, missing_from, missing_in}
 use Rattle.marker_tool.proofs.MarkerLaws.{some_marker}
 use Rattle.bucket_ops.proofs.Rising.{lower, sorted}
 use Rattle.marker_tool.proofs.Listing.{IsListing, above, rises_from, rises_end, rises_some, last_less, behind_first}
+use Rattle.std.proofs.lemmas.Bool.{and_parts}
 
 -- ---- the markers above a key
 
@@ -97,7 +98,7 @@ module _ (q l k : List ℕ) (h : lt text_cmp l k ≡ true) where
   due_is : (t : List ℕ) → IsIn t (filter (is_due q l) (markers_above k)) → IsDue t
   due_is t i =
       let a = in_filter (is_due q l) t (markers_above k) i in
-      let c = both (begins q t) (not (begins t l)) a.1 in
+      let c = and_parts (begins q t) (not (begins t l)) a.1 in
       let w = above_is t k a.0 in
       (by w.1 (not_so (begins t l) c.1) (true_or_false (lt text_cmp l t)), above t k w.1 w.2, w.0, c.0, w.1)
     where

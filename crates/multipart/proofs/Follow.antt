@@ -4,7 +4,7 @@ use Rattle.proof_base.proofs.Common.{false≢true, not-true, nat_tests, take_all
 use Rattle.s3_types.specs.Prelude.{filter, keys_of, entries_between, is_from_start, nat_cmp, ordering_then, is_lt, is_le, is_gt, Ordering, Less, Equal, Greater, Bound, Included, Excluded, Unbounded, text_cmp, text_total, begins, Uploads, ref_cmp, refs, is_behind}
 use Rattle.std.specs.FinMap as fin
 use Rattle.std.specs.List.Sorted.{IsStrictlySortedBy}
-use Rattle.proof_base.proofs.Bools.{contrary, and_true}
+use Rattle.proof_base.proofs.Bools.{contrary}
 use Rattle.proof_base.proofs.Less.{lt, lt_back, le_le, lt_le, less_of}
 use Rattle.proof_base.proofs.Tree.{map_sorted}
 use Rattle.s3_types.specs.Multipart.{listed}
@@ -13,6 +13,8 @@ use Rattle.multipart.specs.Index.{keyed}
 use Rattle.multipart.specs.Listing.{below, Follows, AreOwn}
 use Rattle.s3_types.proofs.Begins.{between, from_prefix}
 use Rattle.multipart.proofs.Keyed.{keys_keyed, keyed_own}
+use Rattle.proof_base.proofs.Numbers.{no_less}
+use Rattle.std.proofs.Math.Bool.{and-true}
 
 -- ---- the end of a page
 
@@ -37,11 +39,8 @@ whole xs rest all told none = sym (append-nil xs) ∙ ap (λ l. xs ++ l) (sym no
 pub taken : (n : ℕ) (xs rest all : List UploadRef) → xs ++ rest ≡ all → rest ≡ [] → length xs ≤ n → xs ≡ take n all
 taken n xs rest all told none l = sym (take_all n xs l) ∙ ap (take n) (whole xs rest all told none)
 
-at_most : (n k : ℕ) → k ≤ n → false ≡ nat_lt n k
-at_most n k h = grind (arith, nat_tests)
-
 pub no_more : (n : ℕ) (xs rest all : List UploadRef) → xs ++ rest ≡ all → rest ≡ [] → length xs ≤ n → false ≡ nat_lt n (length all)
-no_more n xs rest all told none l = at_most n (length xs) l ∙ ap (λ l. nat_lt n (length l)) (whole xs rest all told none)
+no_more n xs rest all told none l = no_less n (length xs) l ∙ ap (λ l. nat_lt n (length l)) (whole xs rest all told none)
 
 -- ---- from a start on
 
@@ -155,14 +154,14 @@ own_from lo m = filter_own _ (fin.entries (keyed m)) (keyed_own m)
 
 pub first_rest : (p k : List ℕ) (m : Uploads) (rest : List (UploadRef × List ℕ)) → rest ≡ from_place (first_of k) m → k ≡ p → IsRest p None m rest
 first_rest p k m rest e q = subst (IsRest p None m) (sym (e ∙ ap (λ k. from_place (first_of k) m) q)) (record {
-  follows = follows_from p (first_of p) m (λ r h. not-true _ (sym (first_in p r) ∙ sym (and_true _) ∙ h));
+  follows = follows_from p (first_of p) m (λ r h. not-true _ (sym (first_in p r) ∙ sym (and-true _) ∙ h));
   own = own_from (first_of p) m;
-  listed_all = listed_from p (first_of p) None m (λ r b. and_true _ ∙ first_in p r ∙ ap not (from_prefix p r.key b));
+  listed_all = listed_from p (first_of p) None m (λ r b. and-true _ ∙ first_in p r ∙ ap not (from_prefix p r.key b));
 })
 
 pub later_rest : (p : List ℕ) (a b : UploadRef) (m : Uploads) (rest : List (UploadRef × List ℕ)) → rest ≡ from_place (Excluded b) m → b ≡ a → lt text_cmp a.key p ≡ false → IsRest p (Some a) m rest
 later_rest p a b m rest e q l = subst (IsRest p (Some a) m) (sym (e ∙ ap (λ b. from_place (Excluded b) m) q)) (record {
-  follows = follows_from p (Excluded a) m (λ r h. le_le text_total p a.key r.key l (not_falling a r (less_of _ (sym (and_true _) ∙ h))));
+  follows = follows_from p (Excluded a) m (λ r h. le_le text_total p a.key r.key l (not_falling a r (less_of _ (sym (and-true _) ∙ h))));
   own = own_from (Excluded a) m;
-  listed_all = listed_from p (Excluded a) (Some a) m (λ r b. and_true _);
+  listed_all = listed_from p (Excluded a) (Some a) m (λ r b. and-true _);
 })

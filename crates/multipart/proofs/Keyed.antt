@@ -4,11 +4,11 @@ use Rattle.std.specs.FinMap.Entries as list
 use Rattle.std.specs.Prelude.{Result, Ok, Err, OnOk, OnErr}
 use Rattle.s3_types.specs.Prelude.{FinMap, from_entries, insert, remove, get, entries, empty, get-from_entries, get-insert, get-remove, get-entries, entries-insert, entries_sorted, same_map, find, is_sorted, eq_by_cmp, is_eq, is_lt, nat_cmp, ordering_then, Ordering, Less, Equal, Greater, IsTotalOrder, nat_cmp_total, IsSomeAnd, AllocError, text_cmp, text_total, Upload, Uploads, ref_cmp, ref_of, refs, with_part, keys_of}
 use Rattle.proof_base.proofs.Common.{then_total, on_total, false≢true, CmpEqualImpliesEq, exact_pairs, exact_bytes, exact_unsigned}
-use Rattle.proof_base.proofs.Bools.{and_true}
 use Rattle.proof_base.proofs.Tree.{entries_empty, tied}
 use Rattle.s3_types.specs.declared.request.UploadRef.{UploadRef}
 use Rattle.multipart.specs.Index.{keyed, keyed_of}
 use Rattle.multipart.specs.Listing.{AreOwn}
+use Rattle.std.proofs.Math.Bool.{and-false, and-true}
 
 pub refs_total : IsTotalOrder ref_cmp
 refs_total = then_total (on_total (λ r. r.key) text_total) (on_total (λ r. r.upload) nat_cmp_total)
@@ -19,15 +19,12 @@ exact_refs a b h = ap (λ (p : List ℕ × ℕ). record { key = p.0; upload = p.
 both_tied : (r s : Ordering) → is_eq (ordering_then r s) ≡ (is_eq r && is_eq s)
 both_tied r s = grind arith
 
-and_false : (b : Bool) → (b && false) ≡ false
-and_false b = grind arith
-
 -- whether a place ties with an upload's, where the ids tie or not
 ties : (r : UploadRef) (i : ℕ) (u : Upload) → is_eq (nat_cmp r.upload i) ≡ true → is_eq (ref_cmp r (record { key = u.key; upload = i })) ≡ is_eq (text_cmp r.key u.key)
-ties r i u t = both_tied (text_cmp r.key u.key) (nat_cmp r.upload i) ∙ ap (λ b. is_eq (text_cmp r.key u.key) && b) t ∙ and_true _
+ties r i u t = both_tied (text_cmp r.key u.key) (nat_cmp r.upload i) ∙ ap (λ b. is_eq (text_cmp r.key u.key) && b) t ∙ and-true _
 
 parts : (r : UploadRef) (i : ℕ) (u : Upload) → is_eq (nat_cmp r.upload i) ≡ false → is_eq (ref_cmp r (record { key = u.key; upload = i })) ≡ false
-parts r i u t = both_tied (text_cmp r.key u.key) (nat_cmp r.upload i) ∙ ap (λ b. is_eq (text_cmp r.key u.key) && b) t ∙ and_false _
+parts r i u t = both_tied (text_cmp r.key u.key) (nat_cmp r.upload i) ∙ ap (λ b. is_eq (text_cmp r.key u.key) && b) t ∙ and-false _
 
 -- an upload is listed by its own key
 abbrev mark : UploadRef → Option Upload → Option (List ℕ)

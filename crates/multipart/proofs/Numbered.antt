@@ -5,7 +5,7 @@ use Rattle.proof_base.specs.Prelude.{len, len-entries}
 use Rattle.proof_base.proofs.Common.{nat_tests, sorted_head, sorted_tail, false≢true, and_parts, exact_unsigned}
 use Rattle.std.specs.List.Sorted.{IsStrictlySortedBy}
 use Rattle.std.proofs.lemmas.Map.Entries.{length-keys_of}
-use Rattle.proof_base.proofs.Numbers.{less_is}
+use Rattle.proof_base.proofs.Numbers.{less_is, below_is}
 use Rattle.s3_types.specs.declared.request.NamedPart.{NamedPart}
 use Rattle.multipart.specs.Numbers.{AreNumbered}
 use Rattle.proof_base.proofs.Tree.{tied, map_sorted}
@@ -30,15 +30,12 @@ few_from n (x ∷ ns) m r s =
     let p = and_parts _ (rises_from x.number ns) r in
     let q = and_parts (is_part_number x.number) (list_all (λ p. is_part_number p.number) ns) s in
     let most : x.number ≤ 10000 = small x.number q.0 in
-    let less_is : n < x.number = above n x.number p.0 in
+    let less_is : n < x.number = below_is n x.number p.0 in
     let rest : length ns + x.number ≤ 10000 = few_from x.number ns most p.1 q.1 in
     omega arith
   where
     small : (k : ℕ) → is_part_number k ≡ true → k ≤ 10000
     small k h = grind arith
-
-    above : (a b : ℕ) → nat_lt a b ≡ true → a < b
-    above a b h = grind arith
 
 -- a list of parts whose numbers rise has at most 10,000
 pub few : (ns : List NamedPart) → rises ns ≡ true → list_all (λ p. is_part_number p.number) ns ≡ true → length ns ≤ 10000

@@ -13,7 +13,7 @@ use Rattle.std.proofs.lemmas.Bool.{cases_lt}
 use Rattle.std.proofs.lemmas.Map.Entries.{length-keys_of}
 use Rattle.std.proofs.lemmas.Map.Keys.{Less-from_sorted, sorted_head, sorted_tail}
 use Rattle.proof_base.proofs.Common.{nat_tests}
-use Rattle.proof_base.proofs.Numbers.{less_is}
+use Rattle.proof_base.proofs.Numbers.{less_is, greater_is}
 use Rattle.proof_base.proofs.Tree.{entries_made, map_sorted}
 use Rattle.multipart.specs.Numbers.{IsPlace, is_number_at}
 
@@ -72,11 +72,8 @@ module _ {X : Type 0} where
   miss : (n : ℕ) (es : List (ℕ × X)) (i : ℕ) → i ≤ length es → AllWithin (λ e. nat_cmp e.0 n ≡ Less) es 0 i → AllWithin (λ e. nat_cmp e.0 n ≡ Greater) es i (length es) → IsPlace n es i × (is_number_at es i n ≡ false)
   miss n [] zero le a b = (tt, refl)
   miss n [] (suc i) le a b = absurd (omega arith)
-  miss n (e ∷ es) zero le a b = let up : n < e.0 = above e.0 n (b 0 e (omega arith) (omega arith)) in (omega (arith, up), other e.0 n up)
+  miss n (e ∷ es) zero le a b = let up : n < e.0 = greater_is e.0 n (b 0 e (omega arith) (omega arith)) in (omega (arith, up), other e.0 n up)
     where
-      above : (a b : ℕ) → nat_cmp a b ≡ Greater → b < a
-      above a b h = grind (arith, nat_tests)
-
       other : (a b : ℕ) → b < a → nat_eq a b ≡ false
       other a b h = grind (arith, nat_tests)
   miss n (e ∷ es) (suc i) le a b =

@@ -14,6 +14,7 @@ use Rattle.store_frame.specs.Walk.{walked}
 use Rattle.object_store.proofs.Own.{own_filter}
 use Rattle.store_frame.proofs.Prefix.{lt, le_le, lt_not}
 use Rattle.store_frame.proofs.Walked.{stems, from_start, start_ge, kept_between}
+use Rattle.proof_base.proofs.Numbers.{no_less}
 
 -- ---- the end of a page
 
@@ -39,11 +40,8 @@ whole xs rest all told none = sym (append-nil xs) ∙ ap (λ l. xs ++ l) (sym no
 pub taken : (n : ℕ) (xs rest all : List PageEntry) → xs ++ rest ≡ all → rest ≡ [] → length xs ≤ n → xs ≡ take n all
 taken n xs rest all told none l = sym (take_all n xs l) ∙ ap (take n) (whole xs rest all told none)
 
-at_most : (n k : ℕ) → k ≤ n → false ≡ nat_lt n k
-at_most n k h = grind (arith, nat_tests)
-
 pub no_more : (n : ℕ) (xs rest all : List PageEntry) → xs ++ rest ≡ all → rest ≡ [] → length xs ≤ n → false ≡ nat_lt n (length all)
-no_more n xs rest all told none l = at_most n (length xs) l ∙ ap (λ l. nat_lt n (length l)) (whole xs rest all told none)
+no_more n xs rest all told none l = no_less n (length xs) l ∙ ap (λ l. nat_lt n (length l)) (whole xs rest all told none)
 
 -- ---- from the start on
 

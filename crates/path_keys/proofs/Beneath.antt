@@ -8,6 +8,8 @@ use Rattle.path_keys.specs.Paths.{is_key, first_fault, below, relative_in}
 use Rattle.path_keys.proofs.Ends.{no_end}
 use Rattle.path_keys.proofs.Keys.{some_key, key_from}
 use Rattle.path_keys.proofs.Faults.{no_fault}
+use Rattle.proof_base.proofs.Bools.{all_three}
+use Rattle.proof_base.proofs.Lists.{drop_front}
 
 -- elements, a `/` and elements
 pub elements_append : (front back : List ℕ) → are_elements front ≡ true → are_elements back ≡ true → are_elements (front ++ 47 ∷ back) ≡ true
@@ -27,9 +29,6 @@ no_empty_end path front h e =
     let all = sym (ap (list_all is_element) (ap (parts_of 47) e ∙ parts_append 47 front []) ∙ list_all-append is_element (parts_of 47 front) (parts_of 47 [])) ∙ h in
     absurd (false≢true (and_parts (are_elements front) (are_elements []) all).1)
 
-all_three : (a b c : Bool) → a ≡ true → b ≡ true → c ≡ true → (a && b && c) ≡ true
-all_three a b c h i j = rw (h, i, j) refl
-
 -- elements of few bytes are an object's key
 pub key_path_from : (path : List ℕ) → are_elements path ≡ true → length path ≤ 1024 → is_key_path path ≡ true
 unfolding parts_from
@@ -37,10 +36,6 @@ key_path_from [] h short = absurd (false≢true h)
 key_path_from (x ∷ xs) h short =
     all_three _ _ _ (le-leb 1 (length (x ∷ xs)) (omega arith)) (le-leb (length (x ∷ xs)) 1024 short)
     (ap are_elements (sym (no_end (x ∷ xs) (λ front e. no_empty_end (x ∷ xs) front h e))) ∙ h)
-
-drop_front : (front back : List ℕ) → drop (length front) (front ++ back) ≡ back
-drop_front [] back = refl
-drop_front (x ∷ xs) back = drop_front xs back
 
 begins : (front text rest : List ℕ) → text ≡ front ++ rest → (starts_with nat_eq text front ≡ true) × (drop (length front) text ≡ rest)
 begins front text rest e = ((starts_is Decides-eqb text front (starts_with nat_eq text front) refl).1 rest e, ap (drop (length front)) e ∙ drop_front front rest)

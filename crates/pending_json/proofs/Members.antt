@@ -7,9 +7,9 @@ use Rattle.std.proofs.lemmas.Cmp.{nat_list_cmp_total, tied_itself}
 use Rattle.std.proofs.lemmas.Map.Text.{is_eq-slice_cmp}
 use Rattle.serde_json.specs.Data.{put}
 use Rattle.proof_base.proofs.Less.{less_of}
-use Rattle.proof_base.proofs.Options.{some_is}
 use Rattle.pending_json.specs.declared.fault.RecordFault.TheVariants.{ExtraField}
 use Rattle.pending_json.specs.Fields.{is_one_of}
+use Rattle.std.proofs.lemmas.Option.{same_Some}
 
 -- every name is above this one
 abbrev pub Above : List ℕ → Members → Type 0
@@ -84,7 +84,7 @@ same_first : (k l : List ℕ) → k ≡ l → (d e : Data) (cs bs : Members) →
 same_first k l at d e cs bs a b h again =
     let b0 : Above k bs = subst (λ x. Above x bs) (sym at) b in
     let g : Agree (member k d cs) (member k e bs) = subst (λ x. Agree (member k d cs) (member x e bs)) (sym at) h in
-    let first : d ≡ e = some_is d e (sym (at_first k d cs) ∙ g k ∙ at_first k e bs) in
+    let first : d ≡ e = same_Some d e (sym (at_first k d cs) ∙ g k ∙ at_first k e bs) in
     let rest : cs ≡ bs = again (λ m. rest_agrees_at k m d e cs bs a b0 (g m) _ refl) in
     ap₂ (λ (x : List ℕ) (y : Data). member x y cs) at first ∙ ap (member l e) rest
 

@@ -2,15 +2,12 @@
 use Rattle.std.proofs.Common.{◌≡◌, ℕ, ◌+◌, ◌==◌, ◌<◌, ◌≤◌, ◌^◌, true, List, [], ◌∷◌, length, arith}
 use Rattle.pending_json.specs.Prelude.{AllByRecursion, sum, fit}
 use Rattle.proof_base.proofs.Common.{and_parts, eqb-true, sum_by-cons}
-
--- the first and the others
-summed : (n : ℕ) (ns : List ℕ) → sum (n ∷ ns) ≡ n + sum ns
-summed n ns = sum_by-cons (λ x. x) n ns
+use Rattle.proof_base.proofs.Lists.{sum_first}
 
 -- none is more than what all are at most
 below_all : (ns : List ℕ) (most : ℕ) → sum ns ≤ most → most < 2 ^ 64 → AllByRecursion (λ n. n < 2 ^ 64) ns
 below_all [] most h k = tt
-below_all (n ∷ ns) most h k = let s = summed n ns in (omega (arith, s, h, k), below_all ns most (omega (arith, s, h)) k)
+below_all (n ∷ ns) most h k = let s = sum_first n ns in (omega (arith, s, h, k), below_all ns most (omega (arith, s, h)) k)
 
 -- each length of a file is below 2^64
 pub each_below : (ns : List ℕ) (count total : ℕ) → fit ns count total ≡ true → total < 2 ^ 64 → AllByRecursion (λ n. n < 2 ^ 64) ns

@@ -12,6 +12,7 @@ use Rattle.pending_json.specs.Trees.{upload_tree, mark_tree}
 use Rattle.pending_json.specs.declared.records.PendingSet.{PendingSet}
 use Rattle.pending_json.specs.declared.records.SuccessMark.{SuccessMark}
 use Rattle.pending_json.proofs.Floats.{pending_has_none, set_has_none, success_has_none}
+use Rattle.proof_base.proofs.Options.{some_mapped}
 
 -- ---- lists
 
@@ -75,10 +76,6 @@ sizes_are ns ms old new same h = subst (λ x. SendsSizes x old new) same h
 
 pub begun_with : (m n : ℕ) (old new : Log) → m ≡ n → Logs old new (map_begins (Some m)) → Logs old new (map_begins (Some n))
 begun_with m n old new same h = subst (λ x. Logs old new (map_begins (Some x))) same h
-
-pub told : {A B : Type 0} (f : A → B) (o : Option A) → is_some (option_map f o) ≡ is_some o
-told f None = refl
-told f (Some x) = refl
 
 module _ (p : Pending) (a b c d e f g h i j k z : Log)
     (attempt : SendsMember (codes "attempt") (whole p.attempt) b c) (bucket : SendsMember (codes "bucket") (string p.bucket) c d) (destination : SendsMember (codes "destination") (string p.destination) d e)

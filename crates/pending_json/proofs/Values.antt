@@ -2,12 +2,13 @@
 use Rattle.std.proofs.Common.{◌≡◌, ℕ, ◌<◌, ◌==◌, ltb, leb, ◌^◌, Bool, true, false, ◌&&◌, cond, List, [], ◌∷◌, map, length, Option, Some, None, is_some, option_map, option_and_then, Result, Ok, Err, codes, bytes_eq, refl, sym, ap, ap₂, subst, ◌∙◌}
 use Rattle.pending_json.specs.Prelude.{list_all, unsigned, Data, number, string, array, object, Items, no_items, item, Members, as_str, as_array, as_object, items_of, Spelled, is_plain_tag, Committer, Magic, Directory, Partitioned, of_kind, field, as_whole, as_u32, as_word, as_committer, all_of, as_texts, is_tag_text, tag_of, as_tag, is_count, as_tags, sizes_in, are_tags, fit, whole, wholes, version_of, texts, tag_digits, committer_word}
 use Rattle.proof_base.proofs.Common.{ltb-true, and_parts, eqb-true, cond_some, option_and_then_some, bytes_eq-Decides}
-use Rattle.proof_base.proofs.Options.{some_is}
+use Rattle.proof_base.proofs.Options.{end_of}
 use Rattle.proof_base.proofs.Reading.{parted, passed, same_ok}
 use Rattle.serde_json.specs.Find.{get}
 use Rattle.pending_json.specs.declared.fault.RecordFault.{RecordFault}
 use Rattle.pending_json.specs.declared.fault.RecordFault.TheVariants.{WrongVersion}
 use Rattle.pending_json.specs.Fields.{present, kept, committer_of, as_sizes, version_in, is_sized}
+use Rattle.std.proofs.lemmas.Option.{same_Some}
 
 -- ---- steps that gave something
 
@@ -72,21 +73,17 @@ is_committer v c e = option_and_then_some committer_of (as_str v) c e (λ s e1 e
 
 -- ---- lists
 
-map_some : {A B : Type 0} (f : A → B) (o : Option A) (y : B) → option_map f o ≡ Some y → (x : A) × (o ≡ Some x) × (f x ≡ y)
-map_some f None y e = absurd cc
-map_some f (Some x) y e = (x, refl, cc)
-
 -- items of a kind whose values stand for one tree each
 items_are : {A : Type 0} (kind : Data → Option A) (shown : A → Data) → ((d : Data) (x : A) → kind d ≡ Some x → d ≡ shown x) → (ds : Items) (xs : List A) → all_of kind ds ≡ Some xs → ds ≡ items_of (map shown xs)
 items_are kind shown is no_items xs e = let h : [] ≡ xs = cc in subst (λ x. no_items ≡ items_of (map shown x)) h refl
 items_are kind shown is (item d ds) xs e = option_and_then_some (λ x. option_map (λ ys. x ∷ ys) (all_of kind ds)) (kind d) xs e
-    (λ x e1 e2. let q = map_some (λ ys. x ∷ ys) (all_of kind ds) xs e2 in
+    (λ x e1 e2. let q = end_of (λ ys. x ∷ ys) (all_of kind ds) xs e2 in
     subst (λ ys. item d ds ≡ items_of (map shown ys)) q.2 (ap₂ item (is d x e1) (items_are kind shown is ds q.0 q.1)))
 
 items_pass : {A : Type 0} (kind : Data → Option A) (test : A → Bool) → ((d : Data) (x : A) → kind d ≡ Some x → test x ≡ true) → (ds : Items) (xs : List A) → all_of kind ds ≡ Some xs → list_all test xs ≡ true
 items_pass kind test is no_items xs e = let h : [] ≡ xs = cc in subst (λ x. list_all test x ≡ true) h refl
 items_pass kind test is (item d ds) xs e = option_and_then_some (λ x. option_map (λ ys. x ∷ ys) (all_of kind ds)) (kind d) xs e
-    (λ x e1 e2. let q = map_some (λ ys. x ∷ ys) (all_of kind ds) xs e2 in
+    (λ x e1 e2. let q = end_of (λ ys. x ∷ ys) (all_of kind ds) xs e2 in
     subst (λ ys. list_all test ys ≡ true) q.2 (rw (is d x e1) (items_pass kind test is ds q.0 q.1)))
 
 items_again : {A : Type 0} (kind : Data → Option A) (shown : A → Data) (test : A → Bool) → ((x : A) → test x ≡ true → kind (shown x) ≡ Some x) → (xs : List A) → list_all test xs ≡ true → all_of kind (items_of (map shown xs)) ≡ Some xs
@@ -191,4 +188,4 @@ sizes_ok true count total d sizes e =
     let p = parted (field (as_sizes count total) (codes "sizes") d) _ sizes e in
     let s : Some p.value ≡ sizes = same_ok (Some p.value) sizes p.next in
     let f = field_ok (as_sizes count total) (codes "sizes") d p.value p.first in
-    (ap is_some (sym s), λ ns is. f.1 ∙ ap Some (is_sizes count total f.0 p.value f.2 ∙ ap (λ x. array (wholes x)) (some_is p.value ns (s ∙ is))))
+    (ap is_some (sym s), λ ns is. f.1 ∙ ap Some (is_sizes count total f.0 p.value f.2 ∙ ap (λ x. array (wholes x)) (same_Some p.value ns (s ∙ is))))

@@ -1,6 +1,11 @@
 -- Truth values.
 use Rattle.std.proofs.Common.{◌≡◌, Bool, true, false, not, ◌&&◌, T, refl}
 use Rattle.std.proofs.lemmas.Bool.{false≢true}
+use Rattle.std.proofs.Math.Bool.{and-true}
+use Rattle.std.proofs.Math.Facts.{and_yes}
+
+pub all_three : (a b c : Bool) → a ≡ true → b ≡ true → c ≡ true → (a && b && c) ≡ true
+all_three a b c h i j = rw (h, i, j) refl
 
 -- what is not so
 pub not_so : (b : Bool) → not b ≡ true → b ≡ false
@@ -11,11 +16,3 @@ not_so false h = refl
 pub contrary : (b : Bool) → (b ≡ true → false ≡ true) → b ≡ false
 contrary true f = absurd (false≢true (f refl))
 contrary false f = refl
-
-pub and_true : (b : Bool) → (b && true) ≡ b
-and_true true = refl
-and_true false = refl
-
-pub both_T : (a b : Bool) → T (a && b) → T a × T b
-both_T true b h = (tt, h)
-both_T false b h = absurd h

@@ -5,7 +5,7 @@ use Rattle.std.specs.List.Sorted.{IsStrictlySortedBy}
 use Rattle.std.proofs.lemmas.Bool.{cases_lt, cases_order}
 use Rattle.std.proofs.lemmas.Bool.Decides.{nat_tests}
 use Rattle.std.proofs.lemmas.Map.Keys.{sorted_head, sorted_tail}
-use Rattle.proof_base.proofs.Numbers.{less_is, below_so}
+use Rattle.proof_base.proofs.Numbers.{less_is, below_so, not_below}
 use Rattle.proof_base.proofs.Tree.{map_sorted}
 
 pub same_key : (k : ℕ) → eq_by_cmp nat_cmp k k ≡ true
@@ -13,9 +13,6 @@ same_key k = grind (arith, nat_tests)
 
 pub other_key : (j k : ℕ) → (j ≡ k → ⊥) → eq_by_cmp nat_cmp j k ≡ false
 other_key j k h = grind (arith, nat_tests)
-
-below_no : (j k : ℕ) → k ≤ j → nat_lt j k ≡ false
-below_no j k h = grind (arith, nat_tests)
 
 module _ {X : Type 0} where
   -- the entries from a number on
@@ -43,7 +40,7 @@ module _ {X : Type 0} where
   skips n e es lt = ap (λ b. cond b (from_on n es) (e ∷ es)) (below_so e.0 n lt)
 
   keeps : (n : ℕ) (e : ℕ × X) (es : List (ℕ × X)) → n ≤ e.0 → from_on n (e ∷ es) ≡ e ∷ es
-  keeps n e es le = ap (λ b. cond b (from_on n es) (e ∷ es)) (below_no e.0 n le)
+  keeps n e es le = ap (λ b. cond b (from_on n es) (e ∷ es)) (not_below e.0 n le)
 
   keeps_all : (k : ℕ) (es : List (ℕ × X)) → AreAbove k es → from_on (k + 1) es ≡ es
   keeps_all k [] h = refl

@@ -1,8 +1,11 @@
 -- A total order by the test whether one is less than another.
-use Rattle.std.proofs.Common.{◌≡◌, Bool, true, false, not, refl, sym, ap, ◌∙◌}
+use Rattle.std.proofs.Common.{◌≡◌, Bool, true, false, not, refl, sym, ap, ◌∙◌, arith}
 use Rattle.proof_base.specs.Prelude.{Ordering, Less, Equal, Greater, is_lt, is_le, is_gt, ordering_reverse, IsTotalOrder}
 use Rattle.std.proofs.lemmas.Bool.{false≢true}
 use Rattle.proof_base.proofs.Bools.{contrary}
+
+pub equal_self : (o : Ordering) → o ≡ ordering_reverse o → o ≡ Equal
+equal_self o h = grind arith
 
 turned : (r : Ordering) → is_lt (ordering_reverse r) ≡ is_gt r
 turned Less = refl

@@ -1,10 +1,54 @@
 -- Lists of any values.
-use Rattle.std.proofs.Common.{◌≡◌, ℕ, ◌+◌, suc, ◌<◌, Bool, true, List, [], ◌∷◌, ◌++◌, length, length-append, take, drop, get_or, refl, sym, ap, ◌∙◌, arith}
+use Rattle.std.proofs.Common.{◌≡◌, ℕ, ◌+◌, suc, ◌<◌, Bool, true, List, [], ◌∷◌, ◌++◌, length, length-append, take, drop, get_or, refl, sym, ap, ◌∙◌, arith, Some, append_assoc, slice_get, zero, ◌-◌, ◌^◌, ◌≤◌}
 use Rattle.proof_base.specs.Prelude.{list_all}
 use Rattle.std.proofs.lemmas.Bool.{and_parts}
 use Rattle.std.proofs.lemmas.List.{take-append-drop}
 use Rattle.std.proofs.Math.ListN.{drop_of_length-le}
-use Rattle.std.proofs.Math.Seq.{drop-cons}
+use Rattle.std.proofs.Math.Seq.{drop-cons, drop-append_seam}
+use Rattle.std.specs.List.{slice_get, sum}
+use Rattle.std.proofs.lemmas.Str.{IsUtf8-from_ascii}
+use Rattle.std.specs.Fmt.{decimal}
+use Rattle.std.proofs.lemmas.List.Sums.{sum_by-cons}
+use Rattle.std.proofs.lemmas.Fmt.{length-decimal-le}
+use Rattle.std.proofs.lemmas.Str.Ascii.{IsAscii-cons, IsAscii-nil}
+use Rattle.std.specs.Str.{IsUtf8}
+
+pub sum_first : (n : ℕ) (ns : List ℕ) → sum (n ∷ ns) ≡ n + sum ns
+sum_first n ns = sum_by-cons (λ x. x) n ns
+
+pub get_left : {X : Type 0} (xs ys : List X) (n : ℕ) (x : X) → slice_get xs n ≡ Some x → slice_get (xs ++ ys) n ≡ Some x
+get_left [] ys n x e = absurd (cc)
+get_left (z ∷ xs) ys zero x e = e
+get_left (z ∷ xs) ys (suc n) x e = get_left xs ys n x e
+
+pub get_before : {X : Type 0} (xs ys : List X) (n : ℕ) (x : X) → n < length xs → slice_get (xs ++ ys) n ≡ Some x → slice_get xs n ≡ Some x
+get_before [] ys n x h e = absurd (omega arith)
+get_before (z ∷ xs) ys zero x h e = e
+get_before (z ∷ xs) ys (suc n) x h e = get_before xs ys n x (omega arith) e
+
+pub drop_front : (front back : List ℕ) → drop (length front) (front ++ back) ≡ back
+drop_front [] back = refl
+drop_front (x ∷ xs) back = drop_front xs back
+
+pub both_written : (none first all one two : List ℕ) → first ≡ none ++ one → all ≡ first ++ two → all ≡ none ++ (one ++ two)
+both_written none first all one two h g = g ∙ ap (λ l. l ++ two) h ∙ append_assoc none one two
+
+pub one_byte : (b : ℕ) → b < 128 → IsUtf8 (b ∷ [])
+one_byte b h = IsUtf8-from_ascii (b ∷ []) (IsAscii-cons b [] h IsAscii-nil)
+
+pub slice_last : {X : Type 0} (xs : List X) (y : X) → slice_get (xs ++ y ∷ []) (length xs) ≡ Some y
+slice_last [] y = refl
+slice_last (x ∷ xs) y = slice_last xs y
+
+pub short_number : (n : ℕ) → n < 2 ^ 32 → length (decimal n) ≤ 10
+short_number n h = length-decimal-le 10 n (omega arith) (omega arith) (omega arith)
+
+pub front_cancels : (key a b : List ℕ) → key ++ a ≡ key ++ b → a ≡ b
+front_cancels key a b e = sym (drop-append_seam key a) ∙ ap (drop (length key)) e ∙ drop-append_seam key b
+
+pub some_length : (p : List ℕ) (b : ℕ) → slice_get p (length p - 1) ≡ Some b → suc (length p - 1) ≡ length p
+some_length [] b h = absurd (cc)
+some_length (y ∷ ys) b h = omega arith
 
 pub one_longer : {A : Type 0} (xs : List A) (x : A) → length (xs ++ x ∷ []) ≡ length xs + 1
 one_longer xs x = length-append xs (x ∷ [])

@@ -1,7 +1,42 @@
 -- Comparisons of numbers as tests.
-use Rattle.std.proofs.Common.{◌≡◌, ℕ, ◌<◌, ◌≤◌, ◌==◌, nat_lt, nat_le, true, false, arith}
+use Rattle.std.proofs.Common.{◌≡◌, ℕ, ◌<◌, ◌≤◌, ◌==◌, nat_lt, nat_le, true, false, arith, Bool, cond, nat_eq, suc, zero, ◌*◌, ◌+◌, ◌||◌}
 use Rattle.proof_base.specs.Prelude.{Less, nat_cmp}
 use Rattle.std.proofs.lemmas.Bool.Decides.{nat_tests}
+use Rattle.std.specs.declared.cmp.Ordering.TheVariants.{Greater}
+
+pub not_below : (j k : ℕ) → k ≤ j → nat_lt j k ≡ false
+not_below j k h = grind (arith, nat_tests)
+
+pub greater_is : (a b : ℕ) → nat_cmp a b ≡ Greater → b < a
+greater_is a b h = grind (arith, nat_tests, h)
+
+pub next_most : (t : Bool) (n : ℕ) → n ≤ cond t (n + 1) n
+next_most true n = omega arith
+next_most false n = omega arith
+
+pub suc_same : (i j : ℕ) → nat_eq (suc i) (suc j) ≡ nat_eq i j
+suc_same i j = grind (arith, nat_tests)
+
+pub zero_not : (j : ℕ) → nat_eq zero (suc j) ≡ false
+zero_not j = grind (arith, nat_tests)
+
+pub suc_not : (i : ℕ) → nat_eq (suc i) zero ≡ false
+suc_not i = grind (arith, nat_tests)
+
+pub above_zero : {n : ℕ} → 1 ≤ n → 0 < n
+above_zero h = omega arith
+
+pub dot_not : (b : ℕ) → (nat_eq b 95 || nat_eq b 46) ≡ false → (b == 46) ≡ false
+dot_not b h = grind (arith, nat_tests)
+
+pub no_less : (n k : ℕ) → k ≤ n → false ≡ nat_lt n k
+no_less n k h = grind (arith, nat_tests)
+
+pub more_times : (a b n : ℕ) → a < b → a * (n + 1) + (n + 1) ≤ b * (n + 1)
+more_times a b n h = grind arith
+
+pub no_more_times : (a b n : ℕ) → a ≤ b → a * (n + 1) ≤ b * (n + 1)
+no_more_times a b n h = grind arith
 
 pub below_is : (a b : ℕ) → nat_lt a b ≡ true → a < b
 below_is a b h = grind (arith, nat_tests)

@@ -6,7 +6,7 @@ use Rattle.std.specs.Map.Iter.{TakesFirst}
 use Rattle.std.specs.List.Sorted.{IsStrictlySortedBy}
 use Rattle.std.proofs.lemmas.Map.Keys.{sorted_head, sorted_tail}
 use Rattle.std.proofs.lemmas.Map.Lookups.{CmpEqualImpliesEq}
-use Rattle.proof_base.proofs.Bools.{both_T}
+use Rattle.std.proofs.Math.Facts.{and_yes}
 
 no_length : {A : Type 0} (es : List A) → length es ≡ 0 → es ≡ []
 no_length [] e = refl
@@ -85,12 +85,12 @@ less_T _ h = absurd h
 module _ {K X : Type 0} (R : K → K → Ordering) where
   all_above : (k : K) (es : List (K × X)) → T (below_all R k es) → AllByRecursion (λ y. R k y ≡ Less) (keys_of es)
   all_above k [] h = tt
-  all_above k (e ∷ es) h = let p = both_T (is_lt (R k e.0)) (below_all R k es) h in (less_T _ p.0, all_above k es p.1)
+  all_above k (e ∷ es) h = let p = and_yes (is_lt (R k e.0)) (below_all R k es) h in (less_T _ p.0, all_above k es p.1)
 
   sorted_keys : (es : List (K × X)) → T (is_sorted R es) → IsStrictlySortedBy R (keys_of es)
   unfolding IsStrictlySortedBy
   sorted_keys [] h = tt
-  sorted_keys (e ∷ es) h = let p = both_T (below_all R e.0 es) (is_sorted R es) h in (all_above e.0 es p.0, sorted_keys es p.1)
+  sorted_keys (e ∷ es) h = let p = and_yes (below_all R e.0 es) (is_sorted R es) h in (all_above e.0 es p.0, sorted_keys es p.1)
 
   -- the keys of any finite map rise
   pub map_sorted : (m : FinMap R X) → IsStrictlySortedBy R (keys_of (entries m))

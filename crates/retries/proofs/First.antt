@@ -1,8 +1,7 @@
 -- the first request that wore out: there is one answer, it is computed, and a counter of one request at a time finds it
 use Rattle.std.proofs.Common.{◌≡◌, ℕ, ◌+◌, ◌<◌, ◌&&◌, ◌||◌, not, zero, suc, refl, ap, sym, subst, ◌∙◌, inl, inr, Bool, true, false, cond, nat_lt, arith, List, [], ◌∷◌, ◌++◌, Option, Some, None, is_some, append_assoc, append-nil}
 use Rattle.proof_base.proofs.Common.{ltb-true, ltb-false}
-use Rattle.std.proofs.Math.Bool.{and-false}
-use Rattle.proof_base.proofs.Bools.{and_true}
+use Rattle.std.proofs.Math.Bool.{and-false, and-true}
 use Rattle.proof_base.proofs.Members.{some_is, true_or_false, false_true}
 use Rattle.retries.specs.Prelude.{Request, Outcome, Answered, Entry, same_request, Follows, Item, Retried, wants_of, fresh, step, wears, is_zero, has_worn, worn_in, Counting, spent_in, was_answered, streak, IsWorn, NoneWorn, IsFirstWorn, WornFirst}
 use Rattle.retries.specs.Worn.{first_worn_after}
@@ -124,7 +123,7 @@ module _ {M : Type 0} (retries : ℕ) (wants : M → Option Request) (tells : M 
     | inl told ↦
         let d = answered_one retries (spare m) done (wants m) (wants (tells m e.outcome)) e k f.0 told in
         rw (told, and-false (is_zero (spare m)), ← snoc done e es) (spent (done ++ e ∷ []) (tells m e.outcome) es (c.kept m e.outcome i) (rw (c.answered m e.outcome i told) d) f.1)
-    | inr told ↦ rw (told, and_true (is_zero (spare m))) (spent_missed done m e es (spare m) refl i k f.0 told (spent (done ++ e ∷ []) (tells m e.outcome) es) f.1)
+    | inr told ↦ rw (told, and-true (is_zero (spare m))) (spent_missed done m e es (spare m) refl i k f.0 told (spent (done ++ e ∷ []) (tells m e.outcome) es) f.1)
   ]
 
   pub spent_first : (m : M) → holds m ≡ true → spare m ≡ retries → (es : List Entry) → Follows wants tells m es → WornFirst retries es (spent_in tells spare m es)

@@ -1,15 +1,6 @@
 -- places in appended lists, and ways to part one
 use Rattle.std.proofs.Common.{◌≡◌, ℕ, ◌<◌, zero, suc, Some, refl, ap, sym, ◌∙◌, ◌⊎◌, inl, inr, arith, List, [], ◌∷◌, ◌++◌, length, slice_get}
-
-pub get_left : {X : Type 0} (xs ys : List X) (n : ℕ) (x : X) → slice_get xs n ≡ Some x → slice_get (xs ++ ys) n ≡ Some x
-get_left [] ys n x e = absurd (cc)
-get_left (z ∷ xs) ys zero x e = e
-get_left (z ∷ xs) ys (suc n) x e = get_left xs ys n x e
-
-pub get_before : {X : Type 0} (xs ys : List X) (n : ℕ) (x : X) → n < length xs → slice_get (xs ++ ys) n ≡ Some x → slice_get xs n ≡ Some x
-get_before [] ys n x h e = absurd (omega arith)
-get_before (z ∷ xs) ys zero x h e = e
-get_before (z ∷ xs) ys (suc n) x h e = get_before xs ys n x (omega arith) e
+use Rattle.proof_base.proofs.Lists.{get_before, get_left}
 
 -- two ways to part a list
 pub parted : {X : Type 0} (fs : List X) (a : X) (bs : List X) (cs : List X) (c : X) (ds : List X) → fs ++ a ∷ bs ≡ cs ++ c ∷ ds

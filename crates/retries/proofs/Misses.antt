@@ -4,7 +4,7 @@ use Rattle.proof_base.proofs.Common.{slice_get_within, cases_lt}
 use Rattle.proof_base.proofs.Members.{true_or_false}
 use Rattle.retries.specs.Prelude.{Request, Entry, same_request, answers, was_answered, IsWorn, streak}
 use Rattle.retries.specs.Worn.{trail}
-use Rattle.retries.proofs.Lists.{get_left, get_before}
+use Rattle.proof_base.proofs.Lists.{get_before, get_left}
 
 -- ---- lists of answers
 

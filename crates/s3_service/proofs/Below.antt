@@ -9,6 +9,7 @@ use Rattle.s3_types.specs.declared.request.Request.TheVariants.{MakeBucket, PutO
 use Rattle.s3_service.specs.Ids.{IsFresh, AreBelow}
 use Rattle.s3_service.specs.Changed.{with_bucket}
 use Rattle.s3_service.proofs.Changed.{present, absent}
+use Rattle.proof_base.proofs.Numbers.{next_most}
 
 inner : (x y : BucketContent) → Some x ≡ Some y → x ≡ y
 inner x y e = cc
@@ -80,18 +81,14 @@ kept_fresh b n minimum (CompleteUpload x k id ns) f = completed_fresh b k id n (
 kept_fresh b n minimum (AbortUpload x k id) f = aborted_fresh b.uploads id n (live b.uploads k id) f
 kept_fresh b n minimum _ f = f
 
-next_le : (t : Bool) (n : ℕ) → n ≤ cond t (n + 1) n
-next_le true n = omega arith
-next_le false n = omega arith
-
 pub kept_below : (m w : Buckets) (n minimum : ℕ) (k : List ℕ) (r : Request) → AreBelow m n → w ≡ with_bucket m k (λ b. apply_in b n minimum r) → AreBelow w (cond (draws r) (n + 1) n)
 kept_below m w n minimum k r below h = by (get m k) refl
   where
     by : (o : Option BucketContent) → get m k ≡ o → AreBelow w (cond (draws r) (n + 1) n)
-    by None e = subst (λ (w : Buckets). AreBelow w (cond (draws r) (n + 1) n)) (sym (h ∙ absent m k (λ b. apply_in b n minimum r) e)) (λ q b is i l. below q b is i (omega (arith, next_le (draws r) n, l)))
+    by None e = subst (λ (w : Buckets). AreBelow w (cond (draws r) (n + 1) n)) (sym (h ∙ absent m k (λ b. apply_in b n minimum r) e)) (λ q b is i l. below q b is i (omega (arith, next_most (draws r) n, l)))
     by (Some b) e =
         subst (λ (w : Buckets). AreBelow w (cond (draws r) (n + 1) n)) (sym (h ∙ present m k (λ b. apply_in b n minimum r) b e))
-        (below_insert m n (cond (draws r) (n + 1) n) k (apply_in b n minimum r) below (next_le (draws r) n) (kept_fresh b n minimum r (below k b e)))
+        (below_insert m n (cond (draws r) (n + 1) n) k (apply_in b n minimum r) below (next_most (draws r) n) (kept_fresh b n minimum r (below k b e)))
 
 -- a put that was made or was not
 pub put_below : {T E : Type 0} (made : Result T E) (m w : Buckets) (n minimum : ℕ) (k : List ℕ) (r : Request) → draws r ≡ false → AreBelow m n → OnOk made (w ≡ with_bucket m k (λ b. apply_in b n minimum r)) → OnErr made (w ≡ m) → AreBelow w n

@@ -1,11 +1,11 @@
 -- A request that names a bucket.
 use Rattle.std.proofs.Common.{◌≡◌, ℕ, List, Some, refl, sym, ap, ◌∙◌}
 use Rattle.s3_types.specs.Prelude.{get, Content, apply_store, answer_at, apply_at, bucket_of}
-use Rattle.proof_base.proofs.Options.{some_is}
 use Rattle.s3_types.specs.Answer.{answer_store}
 use Rattle.s3_types.specs.declared.request.Request.{Request}
 use Rattle.s3_types.specs.declared.request.Request.TheVariants.{MakeBucket, PutObject, GetObject, HeadObject, DeleteObject, DeleteObjects, CopyObject, ListPage, CreateUpload, UploadPart, CompleteUpload, AbortUpload, ListParts, ListUploads, ClusterPut, ClusterRename, ClusterGet, ClusterDelete, ClusterList}
 use Rattle.s3_service.specs.Named.{named}
+use Rattle.std.proofs.lemmas.Option.{same_Some}
 
 -- what the store answers and leaves, where a request names a bucket
 pub record GoesTo (c : Content) (r : Request) (n : List ℕ) : Type 0 where
@@ -27,4 +27,4 @@ goes_to c (ClusterRename s t) n e = absurd cc
 goes_to c (ClusterGet p) n e = absurd cc
 goes_to c (ClusterDelete p) n e = absurd cc
 goes_to c (ClusterList p) n e = absurd cc
-goes_to c _ n e = same c _ n (some_is _ _ (sym e)) refl refl
+goes_to c _ n e = same c _ n (same_Some _ _ (sym e)) refl refl

@@ -3,10 +3,12 @@ use Rattle.std.proofs.Common.{◌≡◌, ℕ, zero, suc, ◌+◌, ◌-◌, ◌*�
 use Rattle.s3_types.specs.Prelude.{flat_map, sum, quotient_up, greater}
 use Rattle.proof_base.proofs.Common.{mul-le-mul_left, nil_from_length}
 use Rattle.words.proofs.Common.{mul-le-mul_right, take-append-drop, drop-drop, take_all, sum_by-cons, nat_tests}
-use Rattle.std.proofs.Math.Nat.{mul-suc, suc-mul, mul_comm, div-lt_iff_lt-mul}
+use Rattle.std.proofs.Math.Nat.{mul-suc, suc-mul, mul_comm, div-lt_iff_lt-mul, le_trans}
 use Rattle.std.proofs.lemmas.List.Sums.{sum-map}
-use Rattle.proof_base.proofs.Options.{some_is}
+use Rattle.proof_base.proofs.Options.{none_some}
 use Rattle.s3_types.specs.Blocks.{block_of, blocks, parts_of}
+use Rattle.proof_base.proofs.Lists.{sum_first}
+use Rattle.std.proofs.lemmas.Option.{same_Some}
 
 -- ---- as they are defined
 
@@ -126,9 +128,6 @@ drop-parts size bytes i h =
 
 -- ---- they are the file
 
-le_trans : {a b c : ℕ} → a ≤ b → b ≤ c → a ≤ c
-le_trans h g = omega arith
-
 -- so many blocks hold the file
 parts_enough : (size : ℕ) (bytes : List ℕ) → 1 ≤ size → length bytes ≤ greater 1 (quotient_up (length bytes) size) * size
 parts_enough size bytes some = le_trans (quotient_enough (length bytes) size some) (mul-le-mul_right size (greater_right 1 (quotient_up (length bytes) size)))
@@ -148,13 +147,10 @@ parts_joined size bytes some = ap (λ (l : List (List ℕ)). flat_map (λ b. b) 
 -- all but the last are whole
 whole_block : (n size : ℕ) (bytes b : List ℕ) (i : ℕ) → slice_get (blocks n size bytes) i ≡ Some b → suc i * size ≤ length bytes → length b ≡ size
 whole_block zero size bytes b i e h = absurd (none_some e)
-  where
-    none_some : {X : Type 0} {x : X} → None ≡ Some x → ⊥
-    none_some e = cc
 whole_block (suc n) size bytes b zero e h =
     let one : suc zero * size ≡ size = suc-mul zero size ∙ omega arith in
     let fits : length (take size bytes) ≡ size = length-take-le size bytes (omega arith) in
-    ap length (sym (some_is _ _ e)) ∙ fits
+    ap length (sym (same_Some _ _ e)) ∙ fits
 whole_block (suc n) size bytes b (suc i) e h =
     let more : suc (suc i) * size ≡ suc i * size + size = suc-mul (suc i) size in
     let long : length (drop size bytes) ≡ length bytes - size = length-drop size bytes in
@@ -173,13 +169,6 @@ whole_part size bytes b i some e h = elim (greater_is 1 (quotient_up (length byt
 ]
 
 -- ---- their sizes together
-
-sum_first : (x : ℕ) (xs : List ℕ) → sum (x ∷ xs) ≡ x + sum xs
-sum_first x xs = sym (ap sum (map_self (x ∷ xs))) ∙ (sum-map (λ n. n) (x ∷ xs) ∙ (sum_by-cons (λ n. n) x xs ∙ ap (λ n. x + n) (sym (sum-map (λ n. n) xs) ∙ ap sum (map_self xs))))
-  where
-    map_self : (ys : List ℕ) → map (λ n. n) ys ≡ ys
-    map_self [] = refl
-    map_self (y ∷ ys) = ap (λ (l : List ℕ). y ∷ l) (map_self ys)
 
 sum_blocks : (n size : ℕ) (bytes : List ℕ) → length bytes ≤ n * size → sum (map length (blocks n size bytes)) ≡ length bytes
 sum_blocks zero size bytes h = sym (ap length (nil_from_length bytes (omega arith)))

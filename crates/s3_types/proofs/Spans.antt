@@ -3,10 +3,11 @@ use Rattle.std.proofs.Common.{◌≡◌, ℕ, zero, suc, ◌+◌, ◌-◌, ◌<�
 use Rattle.std.specs.Prelude.{IsSome}
 use Rattle.words.proofs.Common.{nat_tests, false≢true, true≢false, exact_unsigned, less_is, below_is, below_not, at_most_so, at_most_not, above_so, at_most_is}
 use Rattle.s3_types.specs.Prelude.{get, get-insert, get-empty, same_map, slice_get, nat_cmp_total, nat_cmp, eq_by_cmp, is_le, match_ordering, insert_entry, entries_between, Ordering, Less, Equal, Greater, Included, Unbounded, FateMap, is_answer, IsFirstNamed, IsFirstFrom, named, AreApart, from_on, first_in}
-use Rattle.proof_base.proofs.Options.{some_is}
 use Rattle.s3_types.specs.Fates.{with_fates}
 use Rattle.s3_types.specs.declared.fates.Fate.{Fate}
 use Rattle.s3_types.specs.declared.fates.Span.{Span}
+use Rattle.std.proofs.lemmas.Option.{same_Some}
+use Rattle.proof_base.proofs.Numbers.{greater_is}
 
 -- ---- the map
 
@@ -93,7 +94,7 @@ at_on low f (x ∷ es) e a h k l g = by (nat_lt x.0 f) refl (at_on (x.0 + 1) f e
     by : (b : Bool) → nat_lt x.0 f ≡ b → (from_on f es ≡ Some e → (k : ℕ) → f ≤ k → k ≤ e.0 → span_at es k ≡ cond (nat_le e.1.first k) (Some e.1.fate) None) → span_at (x ∷ es) k ≡ cond (nat_le e.1.first k) (Some e.1.fate) None
     by true t ih = ap (λ b. cond b (Some x.1.fate) (span_at es k)) (ended x.1.first x.0 f k t l) ∙ ih (ap (λ b. cond b (from_on f es) (Some x)) (sym t) ∙ h) k l g
     by false t ih =
-        let i : x ≡ e = some_is x e (ap (λ b. cond b (from_on f es) (Some x)) (sym t) ∙ h) in
+        let i : x ≡ e = same_Some x e (ap (λ b. cond b (from_on f es) (Some x)) (sym t) ∙ h) in
         let g' : k ≤ x.0 = subst (λ (y : ℕ × Span). k ≤ y.0) (sym i) g in
         let b : k < x.0 + 1 = omega (arith, g') in
         ap (λ b. cond b (Some x.1.fate) (span_at es k)) (within x.1.first x.0 k g')
@@ -116,16 +117,13 @@ is_row low f (x ∷ es) e a h = by (nat_lt x.0 f) refl (is_row (x.0 + 1) f es e 
         let r = ih (ap (λ b. cond b (from_on f es) (Some x)) (sym t) ∙ h) in
         record { begins = omega (arith, r.begins, a.0, a.1); some = r.some; lost = r.lost; ends = r.ends }
     by false t ih =
-        subst (IsRow low f) (some_is x e (ap (λ b. cond b (from_on f es) (Some x)) (sym t) ∙ h))
+        subst (IsRow low f) (same_Some x e (ap (λ b. cond b (from_on f es) (Some x)) (sym t) ∙ h))
         (record { begins = a.0; some = a.1; lost = a.2; ends = below_not x.0 f t })
 
 -- ---- a new row
 
 equal_is : (a b : ℕ) → nat_cmp a b ≡ Equal → a ≡ b
 equal_is a b h = exact_unsigned a b h
-
-greater_is : (a b : ℕ) → nat_cmp a b ≡ Greater → b < a
-greater_is a b h = grind (arith, nat_tests, h)
 
 -- nothing is named between f and l
 abbrev pub IsFree : ℕ → ℕ → List (ℕ × Span) → Type 0
@@ -226,7 +224,7 @@ said f l n None h = absurd (cc)
 said f l n (Some e) h = by (nat_le e.1.first l) refl
   where
     by : (b : Bool) → nat_le e.1.first l ≡ b → Said f l n (Some e)
-    by true t = record { row = e; is = refl; starts = at_most_is e.1.first l t; at = sym (some_is _ _ (ap (λ b. cond b (Some (max e.1.first f)) None) (sym t) ∙ h)) }
+    by true t = record { row = e; is = refl; starts = at_most_is e.1.first l t; at = sym (same_Some _ _ (ap (λ b. cond b (Some (max e.1.first f)) None) (sym t) ∙ h)) }
     by false t = let n : None ≡ Some n = ap (λ b. cond b (Some (max e.1.first f)) None) (sym t) ∙ h in absurd (cc)
 
 some_named : (o : Option Fate) (f : Fate) → o ≡ Some f → IsSome o

@@ -14,7 +14,7 @@ use Rattle.s3a_shell.specs.Doings.{Did, most_input, CreatedUnless, Does}
 use Rattle.s3a_shell.specs.Stays.{bucket_in}
 use Rattle.s3a_shell.specs.Moving.{DidBetween}
 use Rattle.s3a_shell.specs.Uploading.{AbortedIn}
-use Rattle.s3a_shell.proofs.SameBucket.{same_or_not}
+use Rattle.proof_base.proofs.Members.{same_or_other}
 
 -- no upload has an id from n on
 abbrev NoneFrom : ℕ → Content → List ℕ → Type 0
@@ -48,7 +48,7 @@ made_next c name None = by (is_bucket name)
     by false = refl
 
 between_next : {A : Type 0} {gives : Objects → A → Objects → Type 0} {absent refused : A} {says : A → Said} (from to : Path) (z : Scene) (what : Said) (s : Scene) → DidBetween from to gives absent refused says z what s → s.content.next ≡ z.content.next
-between_next {gives = gives} {absent = absent} from to z what s h = by (same_or_not from.bucket to.bucket)
+between_next {gives = gives} {absent = absent} from to z what s h = by (same_or_other from.bucket to.bucket)
   where
     by : (from.bucket ≡ to.bucket) ⊎ (from.bucket ≡ to.bucket → ⊥) → s.content.next ≡ z.content.next
     by (inl f) = given_next from.bucket gives absent z h.answer s (h.given.one f)

@@ -8,6 +8,7 @@ use Rattle.durable_store.specs.declared.held.Held.{Held}
 use Rattle.durable_store.specs.declared.held.Held.TheVariants.{Nothing, Store, Faulty}
 use Rattle.s3a_shell.specs.Sendings.{has_changed}
 use Rattle.s3a_shell.specs.Commanded.{init_work, work_said, Done, DoneOn, IsWork}
+use Rattle.std.proofs.lemmas.Result.{IfOk-weaker}
 
 pub init_plain : (minimum : Option ℕ) (held : Held) → IsPlain (init_work minimum held)
 unfolding init_work
@@ -34,10 +35,6 @@ on_plain command bytes (Faulty number place) work h = subst IsPlain (sym h) tt
 pub work_plain : (command : Command) (bytes : List ℕ) (held : Held) (work : Work) → IsWork command bytes held work → IsPlain work
 work_plain (Init minimum) bytes held work h = subst IsPlain (sym h) (init_plain minimum held)
 work_plain command bytes held work h = on_plain command bytes held work h
-
-pub ok_more : {A E : Type 0} (r : Result A E) (P Q : A → Type 0) → ((x : A) → P x → Q x) → IfOk r P → IfOk r Q
-ok_more (Ok x) P Q f h = f x h
-ok_more (Err e) P Q f h = tt
 
 -- a command that is not `init`
 pub not_init : (command : Command) (bytes : List ℕ) (held : Held) (work : Work) → ((minimum : Option ℕ) → command ≡ Init minimum → ⊥) → DoneOn command bytes held work → IsWork command bytes held work

@@ -16,7 +16,7 @@ use Rattle.s3a_shell.specs.Doings.{Did, most_input, CreatedUnless, Does}
 use Rattle.s3a_shell.specs.Stays.{OnlyIn, bucket_in, IsBelow, ended_by}
 use Rattle.s3a_shell.specs.Moving.{DidBetween}
 use Rattle.s3a_shell.specs.Uploading.{DidAbort, AbortedIn}
-use Rattle.s3a_shell.proofs.SameBucket.{same_or_not}
+use Rattle.proof_base.proofs.Members.{same_or_other}
 
 abbrev pub none : ℕ → Type 0
 none = λ id. ⊥
@@ -76,7 +76,7 @@ did_only : {A : Type 0} (p : Path) (gives : Objects → Result A FsRefusal → O
 did_only p gives text z what s h = given_only p.bucket gives (Err NoSuchBucket) z h.answer s h.given
 
 between_only : {A : Type 0} {gives : Objects → A → Objects → Type 0} {absent refused : A} {says : A → Said} (from to : Path) (z : Scene) (what : Said) (s : Scene) → DidBetween from to gives absent refused says z what s → OnlyIn from.bucket none z.content s.content
-between_only {gives = gives} {absent = absent} from to z what s h = by (same_or_not from.bucket to.bucket)
+between_only {gives = gives} {absent = absent} from to z what s h = by (same_or_other from.bucket to.bucket)
   where
     by : (from.bucket ≡ to.bucket) ⊎ (from.bucket ≡ to.bucket → ⊥) → OnlyIn from.bucket none z.content s.content
     by (inl f) = given_only from.bucket gives absent z h.answer s (h.given.one f)

@@ -12,6 +12,7 @@ use Rattle.s3_types.specs.Answer.{made}
 use Rattle.s3_types.specs.Tags.{plain_tag}
 use Rattle.journal_log.proofs.Journals.{others_leave}
 use Rattle.s3a_shell.specs.Sendings.{is_refusal, is_taken, is_change, has_changed}
+use Rattle.std.proofs.lemmas.Bool.{not-false, or_parts}
 
 -- ---- a refused request
 
@@ -87,18 +88,9 @@ refused_leaves s _ t h = absurd (cc)
 
 answered_leaves : (s : Scene) (r : Request) (t : Bool) → is_changing r ≡ t → (t && not (is_refusal (answer s r))) ≡ false → (apply s r).content ≡ s.content
 answered_leaves s r false e h = others_leave s r e
-answered_leaves s r true e h = refused_leaves s r e (by (is_refusal (answer s r)) h)
-  where
-    by : (b : Bool) → not b ≡ false → b ≡ true
-    by true h = refl
-    by false h = absurd (cc)
-
+answered_leaves s r true e h = refused_leaves s r e (not-false (is_refusal (answer s r)) h)
 one_leaves : (s : Scene) (r : Request) (a : Reply) → a ≡ answer s r → (is_changing r && not (is_refusal a)) ≡ false → (apply s r).content ≡ s.content
 one_leaves s r a e h = answered_leaves s r (is_changing r) refl (subst (λ (x : Reply). (is_changing r && not (is_refusal x)) ≡ false) e h)
-
-neither : (x y : Bool) → (x || y) ≡ false → (x ≡ false) × (y ≡ false)
-neither true y h = absurd (cc)
-neither false y h = (refl, h)
 
 outcome_leaves : (s : Scene) (r : Request) (o : Outcome) → IsHonestOutcome o (answer s r) → is_unanswered o ≡ false → (is_changing r && is_taken o) ≡ false → (effect s r o).content ≡ s.content
 outcome_leaves s r (Answered a) honest answered h = one_leaves s r a honest h
@@ -108,5 +100,5 @@ outcome_leaves s r _ honest answered h = absurd (cc)
 pub no_change : (es : List Entry) (s : Scene) → AreHonest s es → AreAnswered es → has_changed es ≡ false → (after_all s es).content ≡ s.content
 no_change [] s honest answered h = refl
 no_change (e ∷ es) s honest answered h =
-    let parts = neither (is_change e) (has_changed es) h in
+    let parts = or_parts (is_change e) (has_changed es) h in
     no_change es (effect s e.request e.outcome) honest.1 answered.1 parts.1 ∙ outcome_leaves s e.request e.outcome honest.0 answered.0 parts.0

@@ -16,7 +16,7 @@ use Rattle.s3a_shell.specs.Texts.{status_line, entry_lines, marker_lines, cleane
 use Rattle.s3a_shell.specs.Moving.{DidBetween}
 use Rattle.s3a_shell.specs.Uploading.{AbortedIn}
 use Rattle.s3a_shell.specs.Doings.{Did, most_input, CreatedUnless, refusal_word, refused_or_fine, DidMake, Does}
-use Rattle.s3a_shell.proofs.SameBucket.{same_or_not}
+use Rattle.proof_base.proofs.Members.{same_or_other}
 
 -- a refusal changes nothing
 abbrev pub Keeps : {A R : Type 0} → (Objects → Result A R → Objects → Type 0) → Type 0
@@ -99,7 +99,7 @@ copies_keep p t m n _ h = absurd h
 
 between_keeps : {A R : Type 0} {gives : Objects → Result A R → Objects → Type 0} {absent refused : Result A R} {says : Result A R → Said} (from to : Path) (z : Scene) (what : Said) (s : Scene)
     → Keeps gives → ((x : A) → (says (Ok x)).refused ≡ false) → DidBetween from to gives absent refused says z what s → what.refused ≡ true → s ≡ z
-between_keeps {A = A} {R = R} {gives = gives} {absent = absent} {says = says} from to z what s keeps fine h e = by (same_or_not from.bucket to.bucket)
+between_keeps {A = A} {R = R} {gives = gives} {absent = absent} {says = says} from to z what s keeps fine h e = by (same_or_other from.bucket to.bucket)
   where
     one : (a : Result A R) → GivesIn from.bucket gives absent z a s → what ≡ says a → s ≡ z
     one (Ok x) g t = let no : false ≡ true = sym (fine x) ∙ sym (ap (λ (w : Said). w.refused) t) ∙ e in absurd (cc)

@@ -6,6 +6,7 @@ use Rattle.s3_types.specs.Answer.{made}
 use Rattle.store_frame.specs.Held.{object_in, upload_at}
 use Rattle.store_frame.specs.Frame.{Frame}
 use Rattle.proof_base.proofs.Members.{none_some, same_or_not, same_or_other, nat_other, nat_gone, nat_left, text_here, text_other, text_left}
+use Rattle.proof_base.proofs.Numbers.{next_most}
 
 -- a store with this in place of a bucket
 abbrev pub with_bucket : Content → List ℕ → BucketContent → ℕ → Content
@@ -123,17 +124,13 @@ module _ (b : BucketContent) (next : ℕ) where
 
 -- ---- in any bucket
 
-rises : (t : Bool) (n : ℕ) → n ≤ cond t (n + 1) n
-rises true n = omega arith
-rises false n = omega arith
-
 at_bucket : (c : Content) (n : List ℕ) (r : Request) (o : Option BucketContent) → fin.get c.buckets (bucket_of r) ≡ o → Bucket c (apply_at o c r) n r
 at_bucket c n r None e = frame_all c n r
 at_bucket c n r (Some b) e = elim (same_or_other n (bucket_of r)) [
-  | inr ne ↦ frame_other c n (bucket_of r) r (apply_in b c.next c.minimum r) (cond (draws r) (c.next + 1) c.next) ne (rises (draws r) c.next)
+  | inr ne ↦ frame_other c n (bucket_of r) r (apply_in b c.next c.minimum r) (cond (draws r) (c.next + 1) c.next) ne (next_most (draws r) c.next)
   | inl is ↦
       let P : List ℕ → Type 0 = λ q. Bucket c (with_bucket c q (apply_in b c.next c.minimum r) (cond (draws r) (c.next + 1) c.next)) n r in
-      subst P is (frame_within c n r b (sym is) (ap (fin.get c.buckets) is ∙ e) (apply_in b c.next c.minimum r) (cond (draws r) (c.next + 1) c.next) (rises (draws r) c.next) (within b c.next c.minimum r))
+      subst P is (frame_within c n r b (sym is) (ap (fin.get c.buckets) is ∙ e) (apply_in b c.next c.minimum r) (cond (draws r) (c.next + 1) c.next) (next_most (draws r) c.next) (within b c.next c.minimum r))
 ]
 
 made_frame : (c : Content) (n q : List ℕ) (r : Request) (o : Option BucketContent) → fin.get c.buckets q ≡ o → HasBucket c n → (t : Bool) → is_bucket q ≡ t → Bucket c (made c q o) n r

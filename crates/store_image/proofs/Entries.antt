@@ -4,7 +4,6 @@ use Rattle.std.specs.Prelude.{◌&&◌}
 use Rattle.s3_types.specs.Prelude.{entries_sorted, put, below_all, is_sorted, Width, to_be_bytes, flat_map, AllByRecursion, is_lt, ordering_reverse, Ordering, Greater, IsTotalOrder}
 use Rattle.proof_base.proofs.Common.{append-nil, flat_map-cons}
 use Rattle.std.specs.FinMap as fin
-use Rattle.proof_base.proofs.Bools.{both_T}
 use Rattle.proof_base.proofs.Less.{less_of}
 use Rattle.proof_base.proofs.Tree.{entries_empty}
 use Rattle.proof_base.proofs.Reading.{parted, same_ok}
@@ -14,6 +13,7 @@ use Rattle.store_image.specs.Content.{IsEntry, AreEntries}
 use Rattle.store_image.specs.Reading.{Read, number_at, is_after, rising_at, with_entries, map_at, counted_at}
 use Rattle.store_image.proofs.Steps.{number_takes, number_again}
 use Rattle.store_image.proofs.Maps.{after_both}
+use Rattle.std.proofs.Math.Facts.{and_yes}
 
 -- ---- maps
 
@@ -38,13 +38,13 @@ module _ {K X : Type 0} (R : K → K → Ordering) where
   rises_from : (k : K) (es : List (K × X)) → T (below_all R k es) → T (is_sorted R es) → Rises (Some k) es
   rises_from k [] b s = tt
   rises_from k (e ∷ es) b s =
-      let first = both_T (is_lt (R k e.0)) (below_all R k es) b in
-      let rest = both_T (below_all R e.0 es) (is_sorted R es) s in
+      let first = and_yes (is_lt (R k e.0)) (below_all R k es) b in
+      let rest = and_yes (below_all R e.0 es) (is_sorted R es) s in
       (true_T _ first.0, rises_from e.0 es rest.0 rest.1)
 
   sorted_rises : (es : List (K × X)) → T (is_sorted R es) → Rises None es
   sorted_rises [] s = tt
-  sorted_rises (e ∷ es) s = let rest = both_T (below_all R e.0 es) (is_sorted R es) s in (refl, rises_from e.0 es rest.0 rest.1)
+  sorted_rises (e ∷ es) s = let rest = and_yes (below_all R e.0 es) (is_sorted R es) s in (refl, rises_from e.0 es rest.0 rest.1)
 
   pub map_rises : (m : fin.FinMap R X) → Rises None (fin.entries m)
   map_rises m = sorted_rises (fin.entries m) (entries_sorted m)

@@ -1,14 +1,11 @@
 -- What an abort has left falls.
 use Rattle.std.proofs.Common.{◌≡◌, ◌+◌, ◌<◌, ◌≤◌, Bool, true, false, List, [], ◌∷◌, length, Option, Some, None, refl, ap, subst, arith}
 use Rattle.job_protocol.specs.Prelude.{Scene, answer, apply, Committer, Magic, Request, AbortUpload, Who, Drawn, Script, task_script, who_of, task_abort_wants, task_abort_told, FallsAmong, Sweep, sweep_start, sweep_asks, sweep_hears, all_go, attempt_prefix, TaskAbort, Dropping, TaskAbortOver, task_abort_asks, task_abort_hears, dropping, FitsSweep, left_of, adds_key, one_if}
-use Rattle.proof_base.proofs.Options.{some_is}
 use Rattle.job_protocol.specs.TaskAborts.{Sweeping, Removing, removing, dropped, sweeping}
 use Rattle.list_walk.proofs.Falling.{sweep_laws}
 use Rattle.task_machines.specs.Aborts.{FitsAbort, abort_fits, own_left, after_left, abort_left_at, abort_left}
-
-pub one_most : (b : Bool) → one_if b ≤ 1
-one_most true = omega arith
-one_most false = omega arith
+use Rattle.std.proofs.lemmas.Option.{same_Some}
+use Rattle.list_walk.proofs.Counting.{one_most}
 
 -- ---- the sweep
 
@@ -68,9 +65,9 @@ none_some e = cc
 
 falls_at : (w : Script) (a : Who) (o : TaskAbort) (s : Scene) (r : Request) → task_abort_asks w a o ≡ Some r → FitsAbort o (answer s r) → abort_left_at w a (task_abort_hears w o (answer s r)) (apply s r) < abort_left_at w a o s
 falls_at w a (Dropping d ds sent) s r e h =
-    subst (λ r. abort_left_at w a (task_abort_hears w (Dropping d ds sent) (answer s r)) (apply s r) < abort_left_at w a (Dropping d ds sent) s) (some_is _ _ e) (dropping_falls w a d ds sent s)
+    subst (λ r. abort_left_at w a (task_abort_hears w (Dropping d ds sent) (answer s r)) (apply s r) < abort_left_at w a (Dropping d ds sent) s) (same_Some _ _ e) (dropping_falls w a d ds sent s)
 falls_at w a (Sweeping v) s r e h =
-    subst (λ r. FitsAbort (Sweeping v) (answer s r) → abort_left_at w a (task_abort_hears w (Sweeping v) (answer s r)) (apply s r) < abort_left_at w a (Sweeping v) s) (some_is _ _ e) (sweeping_falls w a v s) h
+    subst (λ r. FitsAbort (Sweeping v) (answer s r) → abort_left_at w a (task_abort_hears w (Sweeping v) (answer s r)) (apply s r) < abort_left_at w a (Sweeping v) s) (same_Some _ _ e) (sweeping_falls w a v s) h
 falls_at w a Removing s r e h = omega arith
 falls_at w a (TaskAbortOver end) s r e h = absurd (none_some e)
 
@@ -83,8 +80,8 @@ keeps_dropping : (w : Script) (a : Who) (d : Drawn) (ds : List Drawn) (sent : Bo
 keeps_dropping w a d ds sent s = let k = after_keeps w.committer w a s (AbortUpload w.dest.bucket d.key d.upload) refl in omega (arith, k)
 
 no_rise_at : (w : Script) (a : Who) (o : TaskAbort) (s : Scene) (r : Request) → task_abort_asks w a o ≡ Some r → abort_left_at w a o (apply s r) ≤ abort_left_at w a o s
-no_rise_at w a (Dropping d ds sent) s r e = subst (λ r. abort_left_at w a (Dropping d ds sent) (apply s r) ≤ abort_left_at w a (Dropping d ds sent) s) (some_is _ _ e) (keeps_dropping w a d ds sent s)
-no_rise_at w a (Sweeping v) s r e = subst (λ r. abort_left_at w a (Sweeping v) (apply s r) ≤ abort_left_at w a (Sweeping v) s) (some_is _ _ e) (sweep_laws.no_rise w.dest.bucket (attempt_prefix w a) v s)
+no_rise_at w a (Dropping d ds sent) s r e = subst (λ r. abort_left_at w a (Dropping d ds sent) (apply s r) ≤ abort_left_at w a (Dropping d ds sent) s) (same_Some _ _ e) (keeps_dropping w a d ds sent s)
+no_rise_at w a (Sweeping v) s r e = subst (λ r. abort_left_at w a (Sweeping v) (apply s r) ≤ abort_left_at w a (Sweeping v) s) (same_Some _ _ e) (sweep_laws.no_rise w.dest.bucket (attempt_prefix w a) v s)
 no_rise_at w a _ s r e = omega arith
 
 others_at : (w : Script) (a : Who) (o : TaskAbort) (s : Scene) (r : Request) → abort_left_at w a o (apply s r) ≤ abort_left_at w a o s + 1

@@ -2,7 +2,6 @@
 use Rattle.std.proofs.Common.{◌≡◌, ℕ, ◌+◌, ◌<◌, ◌≤◌, nat_lt, Bool, true, false, cond, List, [], ◌∷◌, map, length, take, length-append, Option, Some, None, refl, sym, ap, subst, ◌∙◌, arith, inl, inr}
 use Rattle.job_protocol.specs.Prelude.{filter, flat_map, bytes_decides, text_eq, Scene, BucketContent, answer, answer_at, apply, listed, Request, ListPage, Reply, Page, Part, Refused, PageEntry, NoSuchKey, NoSuchUpload, NoSuchFile, IsIn, RisesFrom, File, Who, Drawn, Known, Script, task_script, who_of, task_commit_wants, task_commit_told, FallsAmong, files, record_key, Uploading, Creating, Sending, file_parts, sending, created, sent_part, upload_hears, Walked, More, Whole, page_after, TaskCommit, Looking, Reading, Publishing, Checking, Storing, Renaming, TaskCommitOver, attempt_prefix, partition_prefix, task_commit_asks, task_commit_hears, in_order, reading, looked_at, looked, read_record, least_missing, storing, checking, uploaded, renamed, FitsPage, walk_left, adds_key, LessWalk}
 use Rattle.machine.specs.Prelude.{Upload}
-use Rattle.proof_base.proofs.Options.{some_is}
 use Rattle.std.specs.FinMap as fin
 use Rattle.s3_types.specs.declared.reply.Reply.TheVariants.{Object}
 use Rattle.store_frame.proofs.Flat.{not_again}
@@ -13,7 +12,9 @@ use Rattle.list_walk.proofs.Falling.{walk_laws}
 use Rattle.task_requests.specs.Publishing.{FitsRecord}
 use Rattle.task_requests.specs.Writing.{FitsCreate, FitsPart, FitsUpload}
 use Rattle.task_machines.specs.Commits.{FitsListing, FitsCommit, commit_fits, upload_left, uploads_left, commit_left_at, commit_left}
-use Rattle.task_machines.proofs.AbortFalls.{one_most, none_some}
+use Rattle.task_machines.proofs.AbortFalls.{none_some}
+use Rattle.std.proofs.lemmas.Option.{same_Some}
+use Rattle.list_walk.proofs.Counting.{one_most}
 
 -- ---- keys that rise pick each file once
 
@@ -173,11 +174,11 @@ some_upload w minimum f (Sending p ps) = omega arith
 
 falls_at : (w : Script) (minimum : ℕ) (a : Who) (k : Known) (o : TaskCommit) (s : Scene) (r : Request) (b : Bool) → task_commit_asks w a k o ≡ Some r → FitsCommit w a k o (answer s r) → commit_left_at w minimum a (task_commit_hears w minimum a o (answer s r) b) (apply s r) < commit_left_at w minimum a o s
 falls_at w minimum a k (Looking keys) s r b e h =
-    subst (λ r. FitsListing keys (answer s r) → commit_left_at w minimum a (looked w a (walked keys (answer s r))) (apply s r) < commit_left_at w minimum a (Looking keys) s) (some_is _ _ e) (looking_falls w minimum a keys s) h
+    subst (λ r. FitsListing keys (answer s r) → commit_left_at w minimum a (looked w a (walked keys (answer s r))) (apply s r) < commit_left_at w minimum a (Looking keys) s) (same_Some _ _ e) (looking_falls w minimum a keys s) h
 falls_at w minimum a k (Reading cs f fs) s r b e h = read_falls w minimum a k cs f fs (answer s r) (apply s r) h
 falls_at w minimum a k (Publishing cs) s r b e h = omega arith
 falls_at w minimum a k (Checking d ds) s r b e h =
-    subst (λ r. FitsPage (answer s r) → commit_left_at w minimum a (checked w a d ds (answer s r)) (apply s r) < commit_left_at w minimum a (Checking d ds) s) (some_is _ _ e) (checked_falls w minimum a d ds s) h
+    subst (λ r. FitsPage (answer s r) → commit_left_at w minimum a (checked w a d ds (answer s r)) (apply s r) < commit_left_at w minimum a (Checking d ds) s) (same_Some _ _ e) (checked_falls w minimum a d ds s) h
 falls_at w minimum a k (commits.Uploads f fs u) s r b e h = uploads_fall w minimum a k f fs u (answer s r) s (apply s r) h
 falls_at w minimum a k Storing s r b e h = omega arith
 falls_at w minimum a k Renaming s r b e h = let z = renamed_left w minimum a (answer s r) b (apply s r) in omega (arith, z)
@@ -192,7 +193,7 @@ same_left : (w : Script) (minimum : ℕ) (a : Who) (o : TaskCommit) (s z : Scene
 same_left w minimum a o s z e = let i = ap (commit_left_at w minimum a o) e in omega (arith, i)
 
 no_rise_at : (w : Script) (minimum : ℕ) (a : Who) (k : Known) (o : TaskCommit) (s : Scene) (r : Request) → task_commit_asks w a k o ≡ Some r → commit_left_at w minimum a o (apply s r) ≤ commit_left_at w minimum a o s
-no_rise_at w minimum a k (Looking keys) s r e = same_left w minimum a (Looking keys) s (apply s r) (ap (apply s) (sym (some_is _ _ e)) ∙ walk_laws.still w.dest.bucket (attempt_prefix w a) keys s)
+no_rise_at w minimum a k (Looking keys) s r e = same_left w minimum a (Looking keys) s (apply s r) (ap (apply s) (sym (same_Some _ _ e)) ∙ walk_laws.still w.dest.bucket (attempt_prefix w a) keys s)
 no_rise_at w minimum a k _ s r e = omega arith
 
 others_at : (w : Script) (minimum : ℕ) (a : Who) (o : TaskCommit) (s : Scene) (r : Request) → commit_left_at w minimum a o (apply s r) ≤ commit_left_at w minimum a o s + 1

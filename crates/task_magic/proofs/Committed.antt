@@ -13,8 +13,9 @@ use Rattle.task_magic.specs.declared.committing.Committing.{Committing}
 use Rattle.task_requests.specs.Publishing.{picked, IsPending, AreReady, are_places, drawn_of, FitsRecord}
 use Rattle.task_magic.specs.Committing.{commit_by, commit_of, HoldsCommit, AreRecords, record_of, is_no_key, publishes, known_if, with_sent, seen_in, least_unseen}
 use Rattle.task_machines.specs.Commits.{FitsCommit}
-use Rattle.task_magic.proofs.Listed.{missing_by, or_true}
+use Rattle.task_magic.proofs.Listed.{missing_by}
 use Rattle.task_requests.proofs.Told.{own_files}
+use Rattle.std.proofs.Math.Bool.{or-true}
 
 -- ---- the file at a place
 
@@ -173,7 +174,7 @@ is_set : (w : Script) (a : Who) → is_set_key w a.task w.dest.bucket (layout.se
 is_set w a = rw ((bytes_decides w.dest.bucket w.dest.bucket).1 refl, (bytes_decides (layout.set_key w.dest.key w.job a.task) (layout.set_key w.dest.key w.job a.task)).1 refl) refl
 
 set_known : (t : Task) → (let after : Known = record { drawn = t.known.drawn; put_sent = t.known.put_sent; publish_sent = t.known.publish_sent || is_set_key (task_script t) t.task t.job.dest.bucket (layout.set_key t.job.dest.key t.job.job t.task) } in after ≡ known_if true t.known)
-set_known t = ap (λ (b : Bool). let k : Known = record { drawn = t.known.drawn; put_sent = t.known.put_sent; publish_sent = b } in k) (ap (λ b. t.known.publish_sent || b) (is_set (task_script t) (who_of t)) ∙ or_true t.known.publish_sent)
+set_known t = ap (λ (b : Bool). let k : Known = record { drawn = t.known.drawn; put_sent = t.known.put_sent; publish_sent = b } in k) (ap (λ b. t.known.publish_sent || b) (is_set (task_script t) (who_of t)) ∙ or-true t.known.publish_sent)
 
 reading_got : (t : Task) (cs fs : List File) (r : Reply) (b : Bool) → task_commit_told (record { plan = t; operation = reading cs fs }) (Got r b) ≡ record { plan = with_sent t (publishes (reading cs fs)); operation = task_commit_hears (task_script t) t.minimum (who_of t) (reading cs fs) r false }
 reading_got t cs [] r b = ap (λ (k : Known). let m : Attempting TaskCommit = record { plan = with_known t k; operation = TaskCommitOver ends.Done } in m) (set_known t)

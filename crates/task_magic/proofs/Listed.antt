@@ -1,6 +1,6 @@
 -- Which files the keys of a listing are of.
 use Rattle.std.proofs.Common.{◌≡◌, ℕ, zero, suc, ◌+◌, ◌<◌, ◌≤◌, nat_eq, nat_lt, Bool, true, false, cond, ◌||◌, List, [], ◌∷◌, ◌++◌, map, length, drop, get_or, slice_get, Option, Some, None, option_map, codes, refl, sym, ap, subst, ◌∙◌, arith, add-one, append_assoc, length-append, replicate}
-use Rattle.proof_base.proofs.Members.{nat_true}
+use Rattle.proof_base.proofs.Members.{nat_true, text_false}
 use Rattle.std.specs.Prelude.{slice_set, is_some, IfSome}
 use Rattle.job_protocol.specs.Prelude.{filter, list_any, AllByRecursion, IsDistinct, position, keys_of, lookup, bytes_decides, text_eq, below, File, Task, task_script, who_of, files, attempt_dir, attempt_prefix, in_order, least_missing, least_of}
 use Rattle.path_keys.proofs.Common.{true≢false, nat_tests, flat_map-append, append_cancel_left, append_cancel_right, map-append, drop_all, list_any-append, list_all-append, or-false, drop-cons, below_so, append-nil, length-map}
@@ -11,6 +11,8 @@ use Rattle.task_requests.specs.Publishing.{picked, are_places}
 use Rattle.job_model.specs.declared.ends.TaskEnd.TheVariants as ends
 use Rattle.task_magic.specs.Committing.{record_of, AreRecords, IsRecordAt, IsPlaceOf, is_at, places_in, records_in, set_at, seen_in, least_unseen}
 use Rattle.task_requests.proofs.Told.{own_files}
+use Rattle.proof_base.proofs.Numbers.{suc_not, suc_same, zero_not}
+use Rattle.std.proofs.Math.Bool.{or-true}
 
 -- ---- tests on texts
 
@@ -22,9 +24,6 @@ same_test x y u v f g = by (text_eq x y) (text_eq u v) refl refl
     by true false d e = absurd (true≢false (sym ((bytes_decides u v).1 (f ((bytes_decides x y).0 d))) ∙ e))
     by false true d e = absurd (true≢false (sym ((bytes_decides x y).1 (g ((bytes_decides u v).0 e))) ∙ d))
     by false false d e = refl
-
-differs : (x y : List ℕ) → (x ≡ y → ⊥) → text_eq x y ≡ false
-differs x y f = (elim (text_eq x y) as (λ b. text_eq x y ≡ b → b ≡ false) [ true ↦ λ e. absurd (f ((bytes_decides x y).0 e)) | false ↦ λ e. refl ]) refl
 
 -- ---- the key of a record
 
@@ -47,7 +46,7 @@ record_test t f key prefix path p h =
 -- a key that is no record's is of no file
 pub record_none : (t : Task) (f : File) (key prefix : List ℕ) → prefix ≡ attempt_prefix (task_script t) (who_of t) → ((path : List ℕ) → IsRecordAt prefix key path → ⊥) → text_eq (record_of t f) key ≡ false
 record_none t f key prefix p h =
-    differs (record_of t f) key (λ e. h f.0 (sym e ∙ (record_is t (f.0 ++ codes ".pending") ∙ ap (λ (l : List ℕ). l ++ (f.0 ++ codes ".pending")) (sym p))))
+    text_false (record_of t f) key (λ e. h f.0 (sym e ∙ (record_is t (f.0 ++ codes ".pending") ∙ ap (λ (l : List ℕ). l ++ (f.0 ++ codes ".pending")) (sym p))))
 
 pub record_as : (p q k l x y : List ℕ) → IsRecordAt p k x → p ≡ q → k ≡ l → x ≡ y → IsRecordAt q l y
 record_as p q k l x y h e f g = sym f ∙ (h ∙ (ap (λ (z : List ℕ). z ++ (x ++ codes ".pending")) e ∙ ap (λ (z : List ℕ). q ++ (z ++ codes ".pending")) g))
@@ -56,15 +55,6 @@ pub no_record_as : (p q k l : List ℕ) → ((path : List ℕ) → IsRecordAt p 
 no_record_as p q k l h e f path g = h path (record_as q p l k path path g (sym e) (sym f) refl)
 
 -- ---- the place of a path
-
-suc_eq : (i j : ℕ) → nat_eq (suc i) (suc j) ≡ nat_eq i j
-suc_eq i j = grind (arith, nat_tests)
-
-zero_suc : (j : ℕ) → nat_eq zero (suc j) ≡ false
-zero_suc j = grind (arith, nat_tests)
-
-suc_zero : (i : ℕ) → nat_eq (suc i) zero ≡ false
-suc_zero i = grind (arith, nat_tests)
 
 all_at : (P : List ℕ → Type 0) (es : List File) (j : ℕ) (f : File) → AllByRecursion P (keys_of es) → slice_get es j ≡ Some f → P f.0
 all_at P [] j f h e = absurd (omega (arith, slice_get_within [] j f e))
@@ -75,16 +65,16 @@ at_place : (p : List ℕ) (es : List File) (i j : ℕ) (f : File) → IsDistinct
 at_place p [] i j f d w h e = absurd (omega arith)
 at_place p (x ∷ es) zero zero f d w h e = let same : x ≡ f = cc in subst (λ (y : File). text_eq p y.0 ≡ true) same h
 at_place p (x ∷ es) zero (suc j) f d w h e =
-    subst (λ q. text_eq q f.0 ≡ false) (sym ((bytes_decides p x.0).0 h)) (all_at (λ k. text_eq x.0 k ≡ false) es j f (IsDistinct-head text_eq x.0 (keys_of es) d) e) ∙ sym (zero_suc j)
+    subst (λ q. text_eq q f.0 ≡ false) (sym ((bytes_decides p x.0).0 h)) (all_at (λ k. text_eq x.0 k ≡ false) es j f (IsDistinct-head text_eq x.0 (keys_of es) d) e) ∙ sym (zero_not j)
 at_place p (x ∷ es) (suc i) zero f d w h e =
     let same : x ≡ f = cc in
-    subst (λ (y : File). text_eq p y.0 ≡ false) same (differs p x.0 (λ q. true≢false (sym (subst (λ z. text_eq z (get_or (keys_of es) i []) ≡ true) q h) ∙ other es i (IsDistinct-head text_eq x.0 (keys_of es) d) (omega arith)))) ∙ sym (suc_zero i)
+    subst (λ (y : File). text_eq p y.0 ≡ false) same (text_false p x.0 (λ q. true≢false (sym (subst (λ z. text_eq z (get_or (keys_of es) i []) ≡ true) q h) ∙ other es i (IsDistinct-head text_eq x.0 (keys_of es) d) (omega arith)))) ∙ sym (suc_not i)
   where
     other : (l : List File) (k : ℕ) → AllByRecursion (λ y. text_eq x.0 y ≡ false) (keys_of l) → k < length l → text_eq x.0 (get_or (keys_of l) k []) ≡ false
     other [] k a b = absurd (omega arith)
     other (y ∷ l) zero a b = a.0
     other (y ∷ l) (suc k) a b = other l k a.1 (omega arith)
-at_place p (x ∷ es) (suc i) (suc j) f d w h e = at_place p es i j f (IsDistinct-tail text_eq x.0 (keys_of es) d) (omega arith) h e ∙ sym (suc_eq i j)
+at_place p (x ∷ es) (suc i) (suc j) f d w h e = at_place p es i j f (IsDistinct-tail text_eq x.0 (keys_of es) d) (omega arith) h e ∙ sym (suc_same i j)
 
 none_at : (p : List ℕ) (es : List File) (j : ℕ) (f : File) → is_some (lookup (text_eq p) es) ≡ false → slice_get es j ≡ Some f → text_eq p f.0 ≡ false
 none_at p [] j f h e = absurd (omega (arith, slice_get_within [] j f e))
@@ -120,10 +110,10 @@ behind_none : (g : File → Bool) (x : File) (fs : List File) → PicksAt g (x �
 behind_none g x fs h j f e = h (suc j) f e
 
 behind_zero : (g : File → Bool) (x : File) (fs : List File) → PicksAt g (x ∷ fs) (Some zero) → PicksAt g fs None
-behind_zero g x fs h j f e = h (suc j) f e ∙ zero_suc j
+behind_zero g x fs h j f e = h (suc j) f e ∙ zero_not j
 
 behind_suc : (g : File → Bool) (x : File) (fs : List File) (i : ℕ) → PicksAt g (x ∷ fs) (Some (suc i)) → PicksAt g fs (Some i)
-behind_suc g x fs i h j f e = h (suc j) f e ∙ suc_eq i j
+behind_suc g x fs i h j f e = h (suc j) f e ∙ suc_same i j
 
 picks_none : (g : File → Bool) (fs : List File) → PicksAt g fs None → filter g fs ≡ []
 picks_none g [] h = refl
@@ -132,7 +122,7 @@ picks_none g (x ∷ fs) h = filter_by g x fs false (h zero x refl) ∙ picks_non
 picks_some : (g : File → Bool) (fs : List File) (i : ℕ) → i < length fs → PicksAt g fs (Some i) → filter g fs ≡ get_or fs i ([], []) ∷ []
 picks_some g [] i w h = absurd (omega arith)
 picks_some g (x ∷ fs) zero w h = filter_by g x fs true (h zero x refl) ∙ ap (λ (l : List File). x ∷ l) (picks_none g fs (behind_zero g x fs h))
-picks_some g (x ∷ fs) (suc i) w h = filter_by g x fs false (h zero x refl ∙ suc_zero i) ∙ picks_some g fs i (omega arith) (behind_suc g x fs i h)
+picks_some g (x ∷ fs) (suc i) w h = filter_by g x fs false (h zero x refl ∙ suc_not i) ∙ picks_some g fs i (omega arith) (behind_suc g x fs i h)
 
 one_more : (t : Task) (keys : List (List ℕ)) (k : List ℕ) → in_order (task_script t) (who_of t) (keys ++ k ∷ []) ≡ in_order (task_script t) (who_of t) keys ++ filter (λ f. text_eq (record_of t f) k) t.files
 one_more t keys k =
@@ -170,10 +160,6 @@ records_with t keys places k (Some i) e w h =
 
 -- ---- which files are seen
 
-pub or_true : (b : Bool) → (b || true) ≡ true
-or_true true = refl
-or_true false = refl
-
 seen_by : (g : File → Bool) (h : File → Bool) (x : File) (fs : List File) (b : Bool) (rest : List Bool) → h x ≡ b → map (λ f. g f || h f) fs ≡ rest → map (λ f. g f || h f) (x ∷ fs) ≡ (g x || b) ∷ rest
 seen_by g h x fs b rest e r = ap (λ (c : Bool). (g x || c) ∷ map (λ f. g f || h f) fs) e ∙ ap (λ (l : List Bool). (g x || b) ∷ l) r
 
@@ -183,9 +169,9 @@ seen_none g h (x ∷ fs) p = seen_by g h x fs false (map g fs) (p zero x refl) (
 
 seen_some : (g h : File → Bool) (fs : List File) (i : ℕ) → i < length fs → PicksAt h fs (Some i) → map (λ f. g f || h f) fs ≡ slice_set (map g fs) i true
 seen_some g h [] i w p = absurd (omega arith)
-seen_some g h (x ∷ fs) zero w p = seen_by g h x fs true (map g fs) (p zero x refl) (seen_none g h fs (behind_zero h x fs p)) ∙ ap (λ (b : Bool). b ∷ map g fs) (or_true (g x))
+seen_some g h (x ∷ fs) zero w p = seen_by g h x fs true (map g fs) (p zero x refl) (seen_none g h fs (behind_zero h x fs p)) ∙ ap (λ (b : Bool). b ∷ map g fs) (or-true (g x))
 seen_some g h (x ∷ fs) (suc i) w p =
-    seen_by g h x fs false (slice_set (map g fs) i true) (p zero x refl ∙ suc_zero i) (seen_some g h fs i (omega arith) (behind_suc h x fs i p)) ∙ ap (λ (b : Bool). b ∷ slice_set (map g fs) i true) (or-false (g x))
+    seen_by g h x fs false (slice_set (map g fs) i true) (p zero x refl ∙ suc_not i) (seen_some g h fs i (omega arith) (behind_suc h x fs i p)) ∙ ap (λ (b : Bool). b ∷ slice_set (map g fs) i true) (or-false (g x))
 
 map_same : (g h : File → Bool) (fs : List File) → ((f : File) → g f ≡ h f) → map g fs ≡ map h fs
 map_same g h [] e = refl

@@ -1,12 +1,12 @@
 -- Where the upload of a key that was drawn last stands.
 use Rattle.std.proofs.Common.{◌≡◌, ℕ, zero, suc, ◌+◌, ◌<◌, ◌≤◌, Bool, true, false, cond, List, [], ◌∷◌, ◌++◌, length, length-take-le, take, reverse, get_or, slice_get, Option, Some, None, refl, sym, ap, subst, ◌∙◌, arith}
-use Rattle.job_protocol.proofs.Members.{get_left}
 use Rattle.path_keys.proofs.Common.{true≢false, reverse-reverse, reverse-append, take_more, map-append, get_or_from_slice_get}
 use Rattle.job_protocol.specs.Prelude.{text_eq, Request, PutObject, Pending, are_tags, are_sizes, Task, task_script, who_of, Drawn, Known, File, Script, as_made, drawn_in, nothing_drawn, file_key, file_record, set_text, Publishing, task_commit_asks}
-use Rattle.proof_base.proofs.Options.{some_is}
 use Rattle.magic_paths.specs.Layout as layout
 use Rattle.task_requests.specs.Publishing.{IsLastAt, IsPending, AreReady, picked, drawn_of, records_of}
 use Rattle.task_requests.proofs.InOrder.{made_reverse}
+use Rattle.proof_base.proofs.Lists.{get_left}
+use Rattle.std.proofs.lemmas.Option.{same_Some}
 
 get_end : (xs : List Drawn) (d : Drawn) → slice_get (xs ++ d ∷ []) (length xs) ≡ Some d
 get_end [] d = refl
@@ -55,7 +55,7 @@ module _ (t : Task) (place : ℕ) (f : File) (key : List ℕ) (o : Option ℕ) (
   not_none h = grind (arith, made_back, is_ready)
 
   pub is_drawn : (i : ℕ) (d : Drawn) → Some i ≡ o → Some d ≡ slice_get (as_made t.known.drawn) i → d ≡ drawn_of (task_script t) t.known f
-  is_drawn i d e g = some_is d (drawn_of (task_script t) t.known f) (g ∙ drawn_there (task_script t) t.known f key o i last named (sym e))
+  is_drawn i d e g = same_Some d (drawn_of (task_script t) t.known f) (g ∙ drawn_there (task_script t) t.known f key o i last named (sym e))
 
   pub not_behind : (i : ℕ) → Some i ≡ o → None ≡ slice_get (as_made t.known.drawn) i → ⊥
   not_behind i e g = let both : None ≡ Some (drawn_of (task_script t) t.known f) = g ∙ drawn_there (task_script t) t.known f key o i last named (sym e) in absurd (cc)

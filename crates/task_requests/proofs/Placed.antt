@@ -9,8 +9,10 @@ use Rattle.job_protocol.specs.Prelude.{list_all, list_any, join_with_byte, ends_
 use Rattle.path_keys.proofs.Common.{and_parts, or_parts, leb-true, nat_tests, list_all-append, join_parts, one_part, lone_from, contrary, bytes_eq-Decides, length-decimal-le}
 use Rattle.job_model.specs.Prelude.{is_other, is_dest_key, is_path}
 use Rattle.magic_paths.proofs.Tails.{below_is}
-use Rattle.proof_base.proofs.Options.{some_is}
 use Rattle.task_requests.specs.Writing.{IsFile, IsNamed, dir_of}
+use Rattle.proof_base.proofs.Lists.{short_number}
+use Rattle.proof_base.proofs.Numbers.{dot_not}
+use Rattle.std.proofs.lemmas.Option.{same_Some}
 
 -- ---- one of the files
 
@@ -34,9 +36,6 @@ others_from part (x ∷ text) h = by (x == 47) refl (others_from [] text refl) (
     by false e old new = rw e (new (list_all-append (is_other 47) part (x ∷ []) ∙ rw (h, e) refl))
 
 -- ---- elements
-
-dot_not : (b : ℕ) → (nat_eq b 95 || nat_eq b 46) ≡ false → (b == 46) ≡ false
-dot_not b h = grind (arith, nat_tests)
 
 element_so : (e : List ℕ) → is_full e ≡ true → begins_hidden e ≡ false → is_element e ≡ true
 element_so e h g = grind arith
@@ -158,9 +157,6 @@ pending_from part (x ∷ text) h = by (x == 47) refl (pending_from [] text) (pen
 
 -- ---- keys below an attempt's directory
 
-short_number : (n : ℕ) → n < 2 ^ 32 → length (decimal n) ≤ 10
-short_number n h = length-decimal-le 10 n (omega arith) (omega arith) (omega arith)
-
 short_dir : (dest id : List ℕ) (task attempt : ℕ) → length dest ≤ 400 → is_job_id id ≡ true → task < 2 ^ 32 → attempt < 2 ^ 32 → (1 ≤ length (attempt_key dest id task attempt)) × (length (attempt_key dest id task attempt) ≤ 520)
 short_dir dest id task attempt d h t a = (simp length-append (omega arith), simp length-append (omega (arith, id_short id h, short_number task t, short_number attempt a)))
 
@@ -211,7 +207,7 @@ record_elements t path name n s = ap are_elements s ∙ (pending_from [] path (n
 
 short_at : (files : List File) (i : ℕ) (f : File) → slice_get files i ≡ Some f → length f.1 ≤ bytes_of files
 short_at [] i f e = absurd (cc)
-short_at (g ∷ fs) zero f e = let same : length g.1 ≡ length f.1 = ap (λ (x : File). length x.1) (some_is g f e) in omega arith
+short_at (g ∷ fs) zero f e = let same : length g.1 ≡ length f.1 = ap (λ (x : File). length x.1) (same_Some g f e) in omega arith
 short_at (g ∷ fs) (suc i) f e = let old = short_at fs i f e in omega arith
 
 pub file_found : {X : Type 0} (t : Task) (i : ℕ) (g : X → File) (o : Option X) (es : List File) → option_map g o ≡ slice_get es i → es ≡ t.files → IsJob t.job → IsTask t → IfSome o (λ x. IsFile t (g x))

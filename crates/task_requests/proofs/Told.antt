@@ -13,6 +13,7 @@ use Rattle.job_protocol.specs.Writes.{uploaded}
 use Rattle.task_requests.specs.declared.stage.WriteStage.{WriteStage}
 use Rattle.task_requests.specs.declared.stage.WriteStage.TheVariants as stage
 use Rattle.task_requests.specs.Writing.{at_parts, at_stage, is_new, HasSent, next_stage, with_drawn, with_tag}
+use Rattle.pending_json.proofs.Candidates.{plain_more}
 
 -- a write whose files from here on are to be written
 abbrev pub seen_at : Task → List File → WriteStage → Attempting Write
@@ -111,11 +112,8 @@ part_sent t f fs n p tag b parts e h =
 
 -- ---- what came back
 
-all_more : (tags : List Spelled) (tag : Spelled) → list_all is_plain_tag tags ≡ true → is_plain_tag tag ≡ true → list_all is_plain_tag (tags ++ tag ∷ []) ≡ true
-all_more tags tag h e = list_all-append is_plain_tag tags (tag ∷ []) ∙ rw (h, e) refl
-
 pub has_more : (ds : List Drawn) (parts : List (List ℕ)) (p : List ℕ) (tag : Spelled) → HasSent ds parts → is_plain_tag tag ≡ true → HasSent (with_last tag (length p) ds) (parts ++ p ∷ [])
-has_more ds parts p tag h g = grind (arith, one_longer, map-append, all_more)
+has_more ds parts p tag h g = grind (arith, one_longer, map-append, plain_more)
 
 pub take_next : (n : ℕ) (parts : List (List ℕ)) (p : List ℕ) (rest : List (List ℕ)) → drop n parts ≡ p ∷ rest → take (n + 1) parts ≡ take n parts ++ p ∷ []
 take_next zero [] p rest e = absurd (cc)

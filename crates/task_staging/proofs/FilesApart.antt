@@ -2,6 +2,7 @@
 use Rattle.std.proofs.Common.{◌≡◌, ℕ, zero, suc, ◌+◌, ◌<◌, Bool, true, false, cond, is_some, List, [], ◌∷◌, ◌++◌, length, take, drop, get_or, Some, refl, sym, ap, ◌∙◌, arith, add-one, append_assoc}
 use Rattle.job_protocol.specs.Prelude.{lookup, bytes_decides, text_eq, below, File, has_path, ArePlaced, Script, file_key}
 use Rattle.path_keys.proofs.Common.{append-nil, take-append-drop, contrary}
+use Rattle.proof_base.proofs.Lists.{front_cancels}
 
 -- ---- the file at a place
 
@@ -21,13 +22,9 @@ free_before id before (f ∷ fs) zero a h = ap (λ l. has_path l f.0) (append-ni
 free_before id before (f ∷ fs) (suc i) a h =
     ap (λ l. has_path l (get_or fs i ([], [])).0) (sym (append_assoc before (f ∷ []) (take i fs))) ∙ free_before id (before ++ f ∷ []) fs i a.3 (omega arith)
 
-cancel : (x p q : List ℕ) → x ++ p ≡ x ++ q → p ≡ q
-cancel [] p q e = e
-cancel (a ∷ x) p q e = cancel x p q (cc)
-
 below_same : (key p q : List ℕ) → below key p ≡ below key q → p ≡ q
 below_same [] p q e = e
-below_same (x ∷ xs) p q e = let same : 47 ∷ p ≡ 47 ∷ q = cancel (x ∷ xs) (47 ∷ p) (47 ∷ q) e in cc
+below_same (x ∷ xs) p q e = let same : 47 ∷ p ≡ 47 ∷ q = front_cancels (x ∷ xs) (47 ∷ p) (47 ∷ q) e in cc
 
 other_key : (key p q : List ℕ) → text_eq p q ≡ false → text_eq (below key p) (below key q) ≡ false
 other_key key p q h = contrary (text_eq (below key p) (below key q)) (λ e. sym h ∙ (bytes_decides p q).1 (below_same key p q ((bytes_decides (below key p) (below key q)).0 e)))

@@ -19,8 +19,8 @@ use Rattle.job_protocol.specs.Rechecks.{Check, check_asks}
 use Rattle.job_facts.specs.Spares.{FitsSparing}
 use Rattle.job_facts.proofs.Sharing.{reads_leave, check_reads, sparing_hides}
 use Rattle.twin_facts.specs.Requests.{SetsUpBy}
-use Rattle.twin_facts.proofs.OneSide.{effect_so}
 use Rattle.twin_facts.specs.Shown.{Changed, OfWanted, IsPickedSo}
+use Rattle.job_facts.proofs.Going.{effect_so}
 
 -- what is below a prefix that is emptied
 abbrev pub Under : Script → Commit → Type 0

@@ -16,14 +16,13 @@ use Rattle.job_facts.specs.Clearing.{FilesIn}
 use Rattle.job_facts.specs.Filed.{HasItsKey}
 use Rattle.job_facts.proofs.Emptying.{sweep_begins, sweep_empties, sweep_still, sweep_same, Emptied}
 use Rattle.job_facts.proofs.EndedGone.{stays_gone}
-use Rattle.job_facts.proofs.Going.{step_so}
+use Rattle.job_facts.proofs.Going.{step_so, effect_so}
 use Rattle.job_facts.proofs.Live.{find_in}
 use Rattle.job_facts.proofs.Shapes.{answer_is, key_before, abort_turns}
 use Rattle.job_protocol.specs.Sparing.{Sparing, Walking, Naming, Reading, Aborting, Removing, SparingOver, sparing_start, record_request, sparing_asks, sparing_hears, sparing_after, names, record_names, set_names, deleting, removing, emptying, aborting, reading_on, walking, naming}
 use Rattle.job_protocol.specs.Sparing as sparing
 use Rattle.job_facts.specs.Spares.{AllKnown, FitsSparing}
 use Rattle.twin_facts.specs.Spared.{NamedAt}
-use Rattle.twin_facts.proofs.OneSide.{effect_so}
 use Rattle.twin_facts.proofs.Keyed.{Keyed}
 
 -- an upload is gone

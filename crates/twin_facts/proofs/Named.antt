@@ -4,13 +4,13 @@ use Rattle.std.specs.List.{AllByRecursion}
 use Rattle.job_spec.proofs.Common.{above_so}
 use Rattle.job_facts.specs.Prelude.{Content, Scene, effect, nothing_seen, Request, Entry, Script, Setting, Times}
 use Rattle.job_traces.specs.Runs.{Stand, IsOpening}
-use Rattle.job_facts.proofs.Whose.{or_false}
 use Rattle.twin_facts.specs.Names.{named_upload, IsStranger, Ids}
 use Rattle.twin_facts.specs.Sides.{Side, First, Second, is_side, TwinEntry, Sends, eyes, drawn_by, drew_from, drew, observed, TwinRun, twins_begin, first_begins, second_begins, first_sends, second_sends, IsTwinOpening}
 use Rattle.twin_facts.specs.TwinLaws.{MayBeTwins, other_side, turned_entry}
 use Rattle.twin_facts.specs.Named.{NamesNoneOfOthers}
 use Rattle.twin_facts.proofs.Pairs.{effect_later, own_of, sends_scene, strange}
 use Rattle.twin_facts.proofs.TwinRuns.{All, all_so, opens_first, turned_twins, turned_opening, drew_own, drew_not, turned}
+use Rattle.std.proofs.Math.Bool.{or-false}
 
 -- ---- what was sent, by the uploads that were drawn
 
@@ -73,7 +73,7 @@ module _ (g h : Setting) (m : MayBeTwins g.script h.script) (k l : Times) (openi
       let now = drew Second opening (es ++ t ∷ []) in
       let same : (id : ℕ) → id < s.content.next → now id ≡ d id = λ id low.
       sym (ap (λ (f : Ids). f id) (drew_own g h m k l opening is Second refl es s a.scene e n))
-      ∙ ap (λ c. d id || (c && nat_lt id (effect s e.request e.outcome).content.next)) (above_so s.content.next id low) ∙ or_false (d id) in
+      ∙ ap (λ c. d id || (c && nat_lt id (effect s e.request e.outcome).content.next)) (above_so s.content.next id low) ∙ or-false (d id) in
       one_more First h.script now (observed g k x n e).seen.scene.content.next es t
       (grown First h.script d now s.content.next (observed g k x n e).seen.scene.content.next (effect_later s e.request e.outcome) same es old) (λ f. absurd cc)
 

@@ -4,12 +4,12 @@ use Rattle.job_facts.specs.Prelude.{Content, Scene, apply, effect, Request, Outc
 use Rattle.job_protocol.proofs.Begun.{commit_of_so, after_check_so}
 use Rattle.job_protocol.specs.Sparing.{sparing_start}
 use Rattle.job_protocol.specs.Rechecks.{check_after}
-use Rattle.std.proofs.Math.Bool.{and-false}
+use Rattle.std.proofs.Math.Bool.{and-false, or-false, or-true}
 use Rattle.job_spec.proofs.Common.{false_true}
-use Rattle.job_facts.proofs.Whose.{or_false, or_true}
 use Rattle.job_traces.specs.Runs.{Stand, Runs, run_begins, actor_begins, driver_sends, attempt_sends, strays, BeginSetup, BeginCommit, BeginClean}
 use Rattle.twin_facts.specs.Sides as sides
 use Rattle.twin_facts.specs.Sides.{Sends}
+use Rattle.job_facts.proofs.Going.{effect_so}
 
 -- ---- the run of a side
 
@@ -18,10 +18,6 @@ goes_on g k opening es x _ _ run (sides.driver_sends _ op n r o d asked timely f
 goes_on g k opening es x _ _ run (sides.attempt_sends _ a op n r o set at asked honest) = attempt_sends es x a op n r o run set at asked honest
 
 -- ---- what one entry leaves
-
--- what holds before a request and where it took effect holds whatever becomes of it
-pub effect_so : (P : Scene → Type 0) (s : Scene) (r : Request) (o : Outcome) → P s → P (apply s r) → P (effect s r o)
-effect_so P s r o h g = grind arith
 
 module _ (w : Script) (k : Times) (s : Seen) (n : ℕ) (r : Request) where
   pub driver_scene : (o : Outcome) → (see w k s (driver_entry n r o)).scene ≡ effect s.scene r o

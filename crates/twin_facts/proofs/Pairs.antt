@@ -9,7 +9,6 @@ use Rattle.store_frame.specs.Prelude.{MakeBucket, ClusterPut, ClusterRename, Clu
 use Rattle.s3_types.specs.Answer.{made}
 use Rattle.store_frame.proofs.Framed.{frame}
 use Rattle.job_facts.proofs.Learning.{learnt}
-use Rattle.job_facts.proofs.Whose.{or_true}
 use Rattle.job_traces.specs.Runs.{Stand, nothing_learnt, Runs, actor_begins, strays, Beginning, MayBegin, begin, IsOpening}
 use Rattle.job_traces.proofs.Running.{At, Late, Early}
 use Rattle.job_traces.proofs.EveryRun.{good}
@@ -21,7 +20,10 @@ use Rattle.twin_facts.specs.Sides.{observed, drawn_by, Sends, driver_sends, atte
 use Rattle.twin_facts.specs.TwinLaws.{MayBeTwins}
 use Rattle.twin_facts.proofs.Apart.{not_true, twin_stranger, stranger_foreign}
 use Rattle.twin_facts.proofs.Naming.{sends_own, setup_own}
-use Rattle.twin_facts.proofs.OneSide.{goes_on, effect_so, driver_scene, attempt_scene, never_cleans}
+use Rattle.twin_facts.proofs.OneSide.{goes_on, driver_scene, attempt_scene, never_cleans}
+use Rattle.std.proofs.Math.Bool.{or-true}
+use Rattle.proof_base.proofs.Numbers.{below_is}
+use Rattle.job_facts.proofs.Going.{effect_so}
 
 -- ---- ids
 
@@ -89,9 +91,6 @@ module _ (g : Setting) (j : IsLegal g.script) (shared : g.shared ≡ true) (k : 
 
 -- ---- two sides
 
-below_is : (a b : ℕ) → nat_lt a b ≡ true → a < b
-below_is a b h = grind (arith, nat_tests)
-
 -- with what a sending drew
 abbrev pub more : Ids → Scene → Request → Outcome → Ids
 more d s r o id = d id || drawn_by s r o id
@@ -151,7 +150,7 @@ module _ {g h : Setting} (m : MayBeTwins g.script h.script) (shared : g.shared �
 
   just_drawn : (id : ℕ) → x.seen.scene.content.next ≤ id → id < z.seen.scene.content.next → d3 id ≡ true
   just_drawn id a b =
-      ap (λ c. d1 id || c) (and_from _ _ (at_most_so x.seen.scene.content.next id a) (below_so id (effect x.seen.scene r o).content.next (subst (λ (s : Scene). id < s.content.next) at b))) ∙ or_true (d1 id)
+      ap (λ c. d1 id || c) (and_from _ _ (at_most_so x.seen.scene.content.next id a) (below_so id (effect x.seen.scene r o).content.next (subst (λ (s : Scene). id < s.content.next) at b))) ∙ or-true (d1 id)
 
   pub paired : Pair g h k l opening (fs ++ e ∷ []) (gs ++ strange_entry n r o ∷ []) d3 d2 z (observed h l y n e)
   paired = record {

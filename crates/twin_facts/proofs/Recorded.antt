@@ -15,21 +15,21 @@ use Rattle.job_facts.specs.Filed.{HasItsKey}
 use Rattle.job_facts.proofs.Aborting.{taken_in, dropped_in}
 use Rattle.job_facts.proofs.Apart.{HasKey, key_left, write_keys, commit_keys, abort_keys, another, record_below}
 use Rattle.job_facts.proofs.EndedGone.{stays_gone}
-use Rattle.job_facts.proofs.Going.{step_so}
+use Rattle.job_facts.proofs.Going.{step_so, effect_so}
 use Rattle.job_facts.proofs.Legal.{some_dest}
 use Rattle.job_facts.proofs.Legible.{record_read}
 use Rattle.job_facts.proofs.Sent.{not_set}
 use Rattle.job_facts.proofs.Shapes.{answer_is, key_before, puts}
-use Rattle.job_facts.proofs.Whose.{same_or_another, who_here, who_other, or_false, or_true}
+use Rattle.job_facts.proofs.Whose.{same_or_another, who_here, who_other}
 use Rattle.job_protocol.specs.Sparing.{Sparing, Walking, Naming, Reading, Aborting, Removing, SparingOver, record_request, sparing_asks, sparing_hears, sparing_after, names, record_names, ref_of, deleting, removing, emptying, aborting, reading_on, walking}
 use Rattle.job_protocol.specs.Sparing as sparing
 use Rattle.job_facts.specs.Spares.{FitsSparing}
-use Rattle.twin_facts.proofs.OneSide.{effect_so}
 use Rattle.twin_facts.proofs.Keyed.{Keyed, ref}
 use Rattle.twin_facts.proofs.Leaving.{Dead, abort_dead}
 use Rattle.job_facts.proofs.Learning.{Knows, known_still}
 use Rattle.job_facts.proofs.Spares.{in_or_not}
 use Rattle.job_facts.proofs.Suffix.{record_ends_so}
+use Rattle.std.proofs.Math.Bool.{or-false, or-true}
 
 -- ---- what becomes of a file's record
 
@@ -165,7 +165,7 @@ module _ (g : Setting) (j : IsLegal g.script) (s : Scene) (there : HasBucket s.c
       stays acts = inr (effect_so (λ t. HasKey w t (record_key w a f)) s r o h (acts h))
 
       own : (a ≡ b) → (undoes r ≡ true) ⊎ (changed_keys r ≡ []) → IsRecorded w t n a f
-      own is (inl u) = inl (inl (who_here m.undone b _ a is ∙ ap (λ z. m.undone b || z) u ∙ or_true (m.undone b)))
+      own is (inl u) = inl (inl (who_here m.undone b _ a is ∙ ap (λ z. m.undone b || z) u ∙ or-true (m.undone b)))
       own is (inr none) = stays (key_left w s there (record_key w a f) r (λ e x. subst (λ (l : List (List ℕ)). IsIn (record_key w a f) l) none x))
 
       by : (op : Operation) → Fits w g.minimum b m op → asks g b (known m b) op ≡ Some r → IsRecorded w t n a f
@@ -193,8 +193,8 @@ module _ (g : Setting) (j : IsLegal g.script) (s : Scene) (there : HasBucket s.c
 
   write_unsent : is_magic w.committer ≡ true → (x : Write) → FitsWrite w g.minimum b (known m b) x → write_asks w b (known m b) x ≡ Some r → Unsent r
   write_unsent magic (writes.Uploads f fs u) h e = subst Unsent (some_is e) (upload_unsent f u)
-  write_unsent magic (Marking f fs) h e = subst Unsent (some_is e) (ap (λ z. m.publish_sent b || z) (not_set j magic b.task (MarkerPlace b.task b.attempt f.0) (f, h.2.each f (inl refl), refl) d.task (λ z. absurd cc)) ∙ or_false (m.publish_sent b))
-  write_unsent magic (Recording f fs) h e = subst Unsent (some_is e) (ap (λ z. m.publish_sent b || z) (not_set j magic b.task (RecordPlace b.task b.attempt f.0) (f, h.2.each f (inl refl), refl) d.task (λ z. absurd cc)) ∙ or_false (m.publish_sent b))
+  write_unsent magic (Marking f fs) h e = subst Unsent (some_is e) (ap (λ z. m.publish_sent b || z) (not_set j magic b.task (MarkerPlace b.task b.attempt f.0) (f, h.2.each f (inl refl), refl) d.task (λ z. absurd cc)) ∙ or-false (m.publish_sent b))
+  write_unsent magic (Recording f fs) h e = subst Unsent (some_is e) (ap (λ z. m.publish_sent b || z) (not_set j magic b.task (RecordPlace b.task b.attempt f.0) (f, h.2.each f (inl refl), refl) d.task (λ z. absurd cc)) ∙ or-false (m.publish_sent b))
   write_unsent magic (WriteOver end) h e = absurd cc
 
   writing_records : (fs : List File) → AreRecorded w t n b fs → WriteRecords w t n b (writing fs)

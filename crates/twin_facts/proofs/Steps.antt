@@ -5,9 +5,8 @@ use Rattle.job_protocol.specs.Prelude.{Path}
 use Rattle.job_spec.proofs.Common.{some_is, none_some, false_true, true_or_false, text_true}
 use Rattle.job_protocol.specs.View.{object_at}
 use Rattle.job_traces.specs.Runs.{Stand, IsTimely, nothing_learnt, Runs, IsOpening}
-use Rattle.std.proofs.Math.Bool.{and-false}
+use Rattle.std.proofs.Math.Bool.{and-false, or-true}
 use Rattle.job_facts.proofs.EndedGone.{effective_is}
-use Rattle.job_facts.proofs.Whose.{or_true}
 use Rattle.job_facts.proofs.Owning.{operation_own}
 use Rattle.job_facts.proofs.SettingUp.{no_success}
 use Rattle.job_facts.proofs.Shapes.{puts}
@@ -25,6 +24,7 @@ use Rattle.twin_facts.specs.Sides.{Sends, driver_sends, attempt_sends, attempt_s
 use Rattle.twin_facts.proofs.Changes.{commit_shows_by, setup_shows, attempt_shows, check_shows, sparing_shows}
 use Rattle.twin_facts.proofs.Progress.{Committing, Unread, nothing_under, kind, is_fetching, is_mark_stage, undecided, picks_same, mark_same, put_before, committing_next, committing}
 use Rattle.twin_facts.proofs.OneSide.{picks_still, unread_picks, mark_still, mark_stays, mark_puts, never_cleans}
+use Rattle.job_traces.proofs.Folds.{commit_is}
 
 -- the object at a path of a destination
 abbrev pub obj : Path → Content → List ℕ → Option Object
@@ -185,13 +185,10 @@ module _ (g : Setting) (j : IsLegal g.script) (shared : g.shared ≡ true) (k : 
           files_go g j s x.told c all few q b first x.commit y.0 y.1 r asked n o honest
           (wants_of g opening u.picks q b wants (commit_tells w c o) (committing_next g opening j k s x.told n begun unclean cleans few l.hold c i r asked o honest).alone.agrees)
 
-    commit_is : {a b : Commit} → Some (TheCommit a) ≡ Some (TheCommit b) → a ≡ b
-    commit_is e = cc
-
     pub commit_leaves : Leaves g x next (driver_entry n r o)
     commit_leaves = record {
       picks = elim (true_or_false (is_fetching w c)) [ inl y ↦ inr (early y) | inr y ↦ inl (picks_now y) ];
-      unbegun = λ e. absurd (false_true e (driver_begun w k s n r o ∙ ap (λ b. s.begun || b) begun ∙ or_true s.begun));
+      unbegun = λ e. absurd (false_true e (driver_begun w k s n r o ∙ ap (λ b. s.begun || b) begun ∙ or-true s.begun));
       shows = shows_now;
       put_still = λ e. elim (stage c refl) [
         | inl y ↦ absurd (false_true (put_before g opening j k s x.told n begun unclean cleans few l.hold c i r asked c y asked i.unmarked) e)

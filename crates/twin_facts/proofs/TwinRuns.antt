@@ -6,9 +6,8 @@ use Rattle.job_protocol.specs.Prelude.{Path}
 use Rattle.job_spec.specs.Scope.{upload_at}
 use Rattle.job_traces.specs.Runs.{Stand, first_stand, Beginning, MayBegin, begin, run_begins, IsOpening}
 use Rattle.job_traces.proofs.Entries.{late_now}
-use Rattle.std.proofs.Math.Bool.{or_assoc}
+use Rattle.std.proofs.Math.Bool.{or_assoc, or-false, or-true}
 use Rattle.std.proofs.lemmas.Bool.{and_from}
-use Rattle.job_facts.proofs.Whose.{or_false, or_true}
 use Rattle.twin_facts.specs.Names.{Ids}
 use Rattle.twin_facts.specs.Laws.{AreTwins}
 use Rattle.twin_facts.specs.TwinLaws.{turned_entry, touches_mark, marks_by, is_marked_by, MayBeTwins, TwinsKeep}
@@ -26,7 +25,7 @@ snoc_marked w side b (x ∷ es) e = snoc_marked w side (marks_by w side b x) es 
 any_in : (k : List ℕ) (l : List (List ℕ)) → IsIn k l → list_any (text_eq k) l ≡ true
 any_in k [] i = absurd i
 any_in k (x ∷ l) (inl is) = ap (λ b. b || list_any (text_eq k) l) (text_true k x is)
-any_in k (x ∷ l) (inr i) = ap (λ b. text_eq k x || b) (any_in k l i) ∙ or_true (text_eq k x)
+any_in k (x ∷ l) (inr i) = ap (λ b. text_eq k x || b) (any_in k l i) ∙ or-true (text_eq k x)
 
 touched : (w : Script) (r : Request) → Touches w.dest r → touches_mark w r ≡ true
 touched w r t = rw (text_true (bucket_of r) w.dest.bucket t.0, any_in (success_key w.dest.key) (changed_keys r) t.1) refl
@@ -63,7 +62,7 @@ scene_more s [] t = refl
 scene_more s (x ∷ es) t = scene_more (effect s x.entry.request x.entry.outcome) es t
 
 drew_more : (side : Side) (s : Scene) (es : List TwinEntry) (t : TwinEntry) (id : ℕ) → drew_from side s (es ++ t ∷ []) id ≡ (drew_from side s es id || (is_side side t.side && drawn_by (scene_of s es) t.entry.request t.entry.outcome id))
-drew_more side s [] t id = or_false (is_side side t.side && drawn_by s t.entry.request t.entry.outcome id)
+drew_more side s [] t id = or-false (is_side side t.side && drawn_by s t.entry.request t.entry.outcome id)
 drew_more side s (x ∷ es) t id =
     let u = effect s x.entry.request x.entry.outcome in
     let b = is_side side x.side && drawn_by s x.entry.request x.entry.outcome id in
@@ -163,7 +162,7 @@ module _ (g h : Setting) (m : MayBeTwins g.script h.script) (k l : Times) (openi
 
   pub drew_not : (side other : Side) → is_side side other ≡ false → (es : List TwinEntry) (e : Entry) (n : ℕ) → drew side opening es ≡ drew side opening (es ++ record { side = other; entry = e; theirs = n } ∷ [])
   drew_not side other differ es e n i id =
-      sym (drew_more side (nothing_seen opening).scene es (record { side = other; entry = e; theirs = n }) id ∙ ap (λ b. drew side opening es id || (b && drawn_by (scene_of (nothing_seen opening).scene es) e.request e.outcome id)) differ ∙ or_false (drew side opening es id)) i
+      sym (drew_more side (nothing_seen opening).scene es (record { side = other; entry = e; theirs = n }) id ∙ ap (λ b. drew side opening es id || (b && drawn_by (scene_of (nothing_seen opening).scene es) e.request e.outcome id)) differ ∙ or-false (drew side opening es id)) i
 
   -- one more entry, as each side reads it
   all_more : (es : List TwinEntry) (t : TwinEntry) (d e : Ids) {x y : Stand} → d ≡ drew First opening (es ++ t ∷ []) → e ≡ drew Second opening (es ++ t ∷ [])

@@ -8,11 +8,11 @@ use Rattle.job_model.specs.declared.ends.OpEnd.TheVariants as ends
 use Rattle.job_protocol.specs.Operations.{after_check_by, commit_by, commit_of}
 use Rattle.job_protocol.specs.Rechecks.{Check, CheckOver, check_start, check_asks, check_over}
 use Rattle.job_traces.specs.Runs.{commit_with}
-use Rattle.job_safety.proofs.Sorts.{end_of}
 use Rattle.job_safety.proofs.Commits.{commit_back}
 use Rattle.twin_safety.specs.Checks.{checking, next, Checked}
 use Rattle.twin_safety.specs.Ends.{IsCleared}
 use Rattle.twin_safety.proofs.Checking.{over_is, checked_clear}
+use Rattle.proof_base.proofs.Options.{end_of}
 
 -- at its check, which asked for all of these
 pub record Within (w : Script) (r : Reports) (es : List Entry) (t : Retried Check) : Type 0 where

@@ -4,6 +4,7 @@ use Rattle.proof_base.specs.Prelude.{list_all}
 use Rattle.proof_base.proofs.Common.{and_parts, leb-true, drop_of_length-le, drop-cons}
 use Rattle.std.proofs.Math.Nat.{pow-suc, pow-le-pow_right}
 use Rattle.words.specs.Numbers.{is_digit, digits_from}
+use Rattle.std.proofs.Math.Numerals.{suc-eq-add-one}
 
 pub power_more : (n i d : ℕ) → n < 10 ^ i → d ≤ 9 → n * 10 + d < 10 ^ (i + 1)
 power_more n i d h small =
@@ -14,15 +15,12 @@ power_more n i d h small =
 pub power_fits : (n i d : ℕ) → n < 10 ^ i → i < 18 → d ≤ 9 → n * 10 + d < 2 ^ 64
 power_fits n i d h g e = grind (arith, power_more, pow-le-pow_right)
 
-add-one-is : (i : ℕ) → suc i ≡ i + 1
-add-one-is i = omega arith
-
 pub next_digit : (text : List ℕ) (i : ℕ) → i < length text → list_all is_digit (drop i text) ≡ true → (48 ≤ get_or text i 0) × (get_or text i 0 ≤ 57) × (list_all is_digit (drop (i + 1) text) ≡ true)
 next_digit text i lt h =
     let e : drop i text ≡ get_or text i 0 ∷ drop (suc i) text = drop-cons text i 0 lt in
     let p = and_parts (is_digit (get_or text i 0)) _ (sym (ap (list_all is_digit) e) ∙ h) in
     let q = and_parts _ _ p.0 in
-    let k : suc i ≡ i + 1 = add-one-is i in
+    let k : suc i ≡ i + 1 = suc-eq-add-one i in
     (leb-true _ _ q.0, leb-true _ _ q.1, subst (λ (j : ℕ). list_all is_digit (drop j text) ≡ true) k p.1)
 
 pub one_more_digit : (n : ℕ) (text : List ℕ) (i : ℕ) → i < length text → digits_from n (drop i text) ≡ digits_from (n * 10 + (get_or text i 0 - 48)) (drop (i + 1) text)

@@ -1,7 +1,7 @@
 use Rattle.job_spec.specs.Prelude.{past}
 use Rattle.proof_base.proofs.Common.{on_ok_weaker}
-use Rattle.job_report.proofs.LineLemmas.{both_written}
 use Rattle.job_report.proofs.lines.write_actors.Goals as goal
+use Rattle.proof_base.proofs.Lists.{both_written}
 
 pub returns : goal.returns
 returns c =

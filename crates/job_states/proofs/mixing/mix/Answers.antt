@@ -1,7 +1,8 @@
 use Rattle.std.proofs.Common.{◌≡◌, ◌%◌, length, vec_len, refl, ap, sym, ◌∙◌, arith, rules}
-use Rattle.job_states.proofs.Choices.{picked, next_small, mod_below, is_zero}
+use Rattle.job_states.proofs.Choices.{picked, next_small, is_zero}
 use Rattle.job_states.proofs.MixTurns.{mixes_begin, mixes_on, mixes_end, mixes_die, mixes_over}
 use Rattle.job_states.proofs.mixing.mix.Goals as goal
+use Rattle.std.proofs.lemmas.Nat.{mod_below}
 
 pub mixing-init : goal.mixing-init
 mixing-init g c = (

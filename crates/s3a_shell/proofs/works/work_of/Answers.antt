@@ -2,15 +2,16 @@ use Rattle.std.proofs.Common.{◌≡◌, sym, subst}
 use Rattle.durable_store.specs.Works.{IsPlain}
 use Rattle.durable_store.specs.Doing.{work_in}
 use Rattle.s3a_shell.specs.Commanded.{init_work, DoneOn, IsWork}
-use Rattle.s3a_shell.proofs.Plain.{init_plain, work_plain, ok_more, not_init}
+use Rattle.s3a_shell.proofs.Plain.{init_plain, work_plain, not_init}
 use Rattle.s3a_shell.proofs.works.work_of.Goals as goal
+use Rattle.std.proofs.lemmas.Result.{IfOk-weaker}
 
 pub returns-in-Init-clause-plain : goal.returns-in-Init-clause-plain
 returns-in-Init-clause-plain c =
-    ok_more c.init_work.result (λ w. work_in w ≡ init_work c.in-Init.minimum c.args.held) (λ w. IsPlain (work_in w)) (λ w h. subst IsPlain (sym h) (init_plain c.in-Init.minimum c.args.held)) c.init_work.ensures
+    IfOk-weaker c.init_work.result (λ w. work_in w ≡ init_work c.in-Init.minimum c.args.held) (λ w. IsPlain (work_in w)) (λ w h. subst IsPlain (sym h) (init_plain c.in-Init.minimum c.args.held)) c.init_work.ensures
 
 pub returns-in_default : goal.returns-in_default
 returns-in_default c =
     let command = c.args.command.now in
-    let does = ok_more c.done_on.result (λ w. DoneOn command c.args.bytes c.args.held (work_in w)) (λ w. IsWork command c.args.bytes c.args.held (work_in w)) (λ w h. not_init command c.args.bytes c.args.held (work_in w) c.in_default.not-Init h) c.done_on.ensures in
-    record { work = does; plain = ok_more c.done_on.result (λ w. IsWork command c.args.bytes c.args.held (work_in w)) (λ w. IsPlain (work_in w)) (λ w h. work_plain command c.args.bytes c.args.held (work_in w) h) does }
+    let does = IfOk-weaker c.done_on.result (λ w. DoneOn command c.args.bytes c.args.held (work_in w)) (λ w. IsWork command c.args.bytes c.args.held (work_in w)) (λ w h. not_init command c.args.bytes c.args.held (work_in w) c.in_default.not-Init h) c.done_on.ensures in
+    record { work = does; plain = IfOk-weaker c.done_on.result (λ w. IsWork command c.args.bytes c.args.held (work_in w)) (λ w. IsPlain (work_in w)) (λ w h. work_plain command c.args.bytes c.args.held (work_in w) h) does }
