@@ -1,17 +1,6 @@
 -- The operations of a job's actors go on as the script has it.
-use Rattle.std.proofs.Common.{◌≡◌, Option, Some, None, refl, sym, ap, ◌∙◌, arith}
-use Rattle.job_steps.specs.Prelude.{Actor, Driver, Outcome, Known, setup_asks, setup_after, clean_asks, clean_after, commit_asks, commit_tells, Setting, Operation, TheSetup, TheWrite, TheTaskCommit, TheTaskAbort, TheCommit, TheClean, TheSparing, Running, who, wants, tells, after_check, advance, over, Committing, job_of, job_script, read_script, sets_in, sets_after, setup_told, clean_told}
-use Rattle.job_protocol.specs.AtWork.{sparing_told}
-use Rattle.job_protocol.specs.Sparing.{sparing_asks, sparing_after}
-use Rattle.job_spec.proofs.Common.{jobs_tell}
-use Rattle.conflict.specs.Rechecks.{PlannedCheck, check_told}
-use Rattle.machine.specs.declared.retrying.Retrying.{Retrying}
-use Rattle.actor_operations.specs.declared.act.Act.{Act}
+use Rattle.actor_operations.proofs.Common.{Act, Actor, ActorsGo, AsksSo, CheckedAsksSo, CheckedGoesSo, Committing, Driver, GoesSo, IsOf, IsPlanOf, Known, None, OfChecked, Operation, Option, Outcome, PlannedCheck, Retrying, Running, Setting, Some, TheClean, TheCommit, TheSetup, TheSparing, TheTaskAbort, TheTaskCommit, TheWrite, advance, after_check, ap, arith, check_told, checked_at, checked_told, checked_wants, clean_after, clean_asks, clean_told, commit_asks, commit_tells, end_of, job_of, job_script, jobs_tell, over, plan_of, read_script, refl, running_of, sets_after, sets_in, setup_after, setup_asks, setup_told, sparing_after, sparing_asks, sparing_told, stepped, sym, tells, tells_of, wants, wants_of, who, ◌∙◌, ◌≡◌}
 use Rattle.actor_operations.specs.declared.act.Act.TheVariants.{Setup, Write, CommitTask, AbortTask, Commit, Clean, Sparing, Checked}
-use Rattle.actor_operations.specs.Acts.{stepped, checked_wants, checked_told, wants_of, tells_of, end_of}
-use Rattle.actor_operations.specs.Plans.{plan_of, checked_at, running_of, OfChecked, IsOf, CheckedAsksSo, AsksSo, CheckedGoesSo, GoesSo}
-use Rattle.job_actor.specs.Plans.{IsPlanOf}
-use Rattle.actor_operations.specs.Laws.{ActorsGo}
 use Rattle.actor_operations.proofs.Going.{attempts_go, attempts_ask, driver_goes, write_tells, task_commit_tells, abort_tells, setup_goes, clean_goes}
 use Rattle.actor_operations.proofs.Checking.{sparing_asks_same, sparing_goes, check_goes, until_at}
 

@@ -1,24 +1,11 @@
 -- Operations as they begin.
-use Rattle.std.proofs.Common.{◌≡◌, ℕ, true, false, cond, List, [], Option, Some, Result, IfOk, refl, sym, ap, subst, ◌∙◌, arith}
+use Rattle.actor_operations.proofs.Common.{Act, Actor, Attempt, Attempting, Committing, Driver, Fail, IfOk, IsLegal, IsPlanOf, IsReport, Job, Known, List, Mode, Op, Option, PlannedCheck, Reports, Request, RequestLost, Result, Retrying, Setting, Shell, Some, Starts, Task, TheSetup, TheTaskCommit, TheWrite, Who, [], actor_of, ap, arith, begins_same, commit_over, cond, false, job_of, learn_of, least_missing, refl, setup_start, some_is, start, start_of, subst, sym, task_commit_start, task_commit_wants, task_of, task_script, tasks_tell, true, until_clear, who_of, write_start, write_wants, ℕ, ◌∙◌, ◌≡◌}
 use Rattle.std.specs.Prelude.{is_some}
-use Rattle.job_steps.specs.Prelude.{Actor, Driver, Attempt, Shell, actor_of, Who, Request, RequestLost, Job, Task, Known, IsLegal, Op, commit_over, setup_start, write_start, task_commit_start, Reports, Setting, TheSetup, TheWrite, TheTaskCommit, learn_of, start_of, Attempting, Committing, job_of, task_of, task_script, who_of, write_wants, task_commit_wants}
-use Rattle.job_spec.proofs.Common.{some_is, tasks_tell}
 use Rattle.job_model.specs.declared.events.Op.TheVariants as ops
-use Rattle.job_protocol.specs.Prelude.{Mode, Fail}
 use Rattle.job_protocol.specs.Operations as protocol
-use Rattle.commit_laws.specs.Fitting.{least_missing}
-use Rattle.commit_laws.specs.Laws.{start}
-use Rattle.conflict.specs.Rechecks.{PlannedCheck}
-use Rattle.machine.specs.declared.retrying.Retrying.{Retrying}
 use Rattle.job_actor.specs.declared.plan.Plan.TheVariants as plans
 use Rattle.job_actor.specs.declared.reported.Reported.{Reported}
-use Rattle.job_actor.specs.Plans.{IsPlanOf}
-use Rattle.job_actor.specs.Reports.{IsReport}
-use Rattle.job_actor.specs.Works.{Starts}
-use Rattle.job_refinement.proofs.Telling.{begins_same}
-use Rattle.actor_operations.specs.declared.act.Act.{Act}
 use Rattle.actor_operations.specs.declared.act.Act.TheVariants.{Commit, Checked}
-use Rattle.actor_operations.specs.Acts.{until_clear}
 use Rattle.actor_operations.specs.Plans.{counted, known_now, running_of, picks_of, OfAttempt, IsOf}
 use Rattle.actor_operations.specs.Laws.{Begun, StartsSo, BeginsSetup, BeginsTask, BeginsJob, BeginsCommit, BeginsClean, unsent, setup_of, write_of, commit_task_of, abort_task_of, check_of, is_missing, commit_by, driver_commit, clean_by}
 use Rattle.actor_operations.proofs.Going.{not_self}

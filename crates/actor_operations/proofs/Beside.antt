@@ -1,11 +1,6 @@
 -- What an attempt has left is not raised by a request that puts nothing below its directory.
-use Rattle.std.proofs.Common.{◌≡◌, ℕ, ◌+◌, ◌*◌, ◌≤◌, inl, Bool, false, ◌&&◌, List, [], ◌∷◌, length, Option, Some, None, Result, Ok, Err, refl, sym, ap, subst, ◌∙◌, arith}
+use Rattle.actor_operations.proofs.Common.{AttemptsStay, Bool, BucketContent, Committer, CompleteUpload, CopyObject, Deleting, Equal, Err, List, Listing, Magic, None, Object, Objects, Ok, Option, Ordering, PutObject, PutsNone, Refusal, Request, Result, Scene, Script, Some, Sweep, TaskAbort, TaskCommit, Who, [], ap, apply, arith, attempt_prefix, begins, completed, copied, exact_bytes, false, inl, joined, keys_left, last_of, length, listed, live, new_bucket, no_more_times, put, refl, subst, sweep_left, sweep_start, sym, task_script, text_cmp, text_total, thousands, walk_left, who_of, ℕ, ◌&&◌, ◌*◌, ◌+◌, ◌∙◌, ◌∷◌, ◌≡◌, ◌≤◌}
 use Rattle.store_frame.specs.Prelude.{entries-insert}
-use Rattle.job_protocol.specs.Prelude.{put, keys_left, walk_left, sweep_left, thousands, sweep_start}
-use Rattle.job_facts.specs.Prelude.{Ordering, Equal, text_cmp, text_total, Objects, new_bucket, completed, listed, live, joined, Object, Refusal, last_of}
-use Rattle.job_spec.proofs.Common.{exact_bytes}
-use Rattle.job_steps.specs.Prelude.{Scene, BucketContent, apply, begins, Committer, Magic, Request, PutObject, CopyObject, CompleteUpload, Script, Who, Sweep, Listing, Deleting, TaskCommit, attempt_prefix, TaskAbort, task_script, who_of}
-use Rattle.machine.specs.Prelude.{copied}
 use Rattle.std.specs.FinMap as fin
 use Rattle.proof_base.proofs.Less.{lt}
 use Rattle.proof_base.proofs.Tree.{entries_empty}
@@ -16,8 +11,6 @@ use Rattle.list_walk.proofs.Growing.{grows, growth}
 use Rattle.job_protocol.specs.TaskCommits as commits
 use Rattle.task_machines.specs.Commits.{commit_left_at, commit_left}
 use Rattle.task_machines.specs.Aborts.{after_left, abort_left_at, abort_left}
-use Rattle.actor_operations.specs.Beside.{PutsNone, AttemptsStay}
-use Rattle.proof_base.proofs.Numbers.{no_more_times}
 
 module _ {K X : Type 0} (R : K → K → Ordering) (t : K × X → Bool) where
   -- one is put that does not pass, as none of its key does

@@ -1,13 +1,6 @@
 -- A job's commit behind its check goes as the script's, and so does a sparing abort or clean.
-use Rattle.std.proofs.Common.{◌≡◌, ℕ, Bool, true, false, None, ap, ◌∙◌, arith}
-use Rattle.job_steps.specs.Prelude.{Outcome, Answered, Slow, Item, Got, step, unanswered_by, Script, commit_start, Setting, Committing, after_check, job_of, job_script}
-use Rattle.job_protocol.specs.AtWork.{sparing_told}
-use Rattle.job_protocol.specs.Rechecks.{Check, check_after}
+use Rattle.actor_operations.proofs.Common.{Answered, Bool, Check, Committing, Got, Item, None, Outcome, PlannedCheck, Retrying, Script, Setting, Slow, after_check, ap, arith, check_after, check_told, checked_at, commit_start, counted, false, job_of, job_script, sparing_told, step, stepped, true, unanswered_by, until_clear, ℕ, ◌∙◌, ◌≡◌}
 use Rattle.job_protocol.specs.Sparing as sparings
-use Rattle.conflict.specs.Rechecks.{PlannedCheck, check_told}
-use Rattle.machine.specs.declared.retrying.Retrying.{Retrying}
-use Rattle.actor_operations.specs.Acts.{stepped, until_clear}
-use Rattle.actor_operations.specs.Plans.{counted, checked_at}
 
 -- ---- by the job's plan
 

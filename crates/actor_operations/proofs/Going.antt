@@ -1,15 +1,9 @@
 -- Machines under their retries go as the operations of the script.
-use Rattle.std.proofs.Common.{◌≡◌, ℕ, ◌≤◌, nat_lt, Bool, false, cond, Option, sym, ap, subst, ◌∙◌, arith}
-use Rattle.job_spec.proofs.Common.{nat_tests, tasks_tell, jobs_tell}
-use Rattle.job_steps.specs.Prelude.{Request, Reply, Outcome, Answered, Slow, RequestLost, ReplyLost, Item, Got, WornOut, step, Who, Known, Job, Script, setup_after, clean_after, learn_of, Attempting, Driving, task_of, job_of, task_script, write_wants, write_told, task_commit_wants, task_commit_told, task_abort_wants, task_abort_told, setup_told, clean_told}
-use Rattle.job_facts.specs.Prelude.{Setup, Clean, learned}
-use Rattle.machine.specs.declared.retrying.Retrying.{Retrying}
+use Rattle.actor_operations.proofs.Common.{Answered, Attempting, Bool, Clean, Driving, Got, Item, Job, Known, Option, Outcome, Reply, ReplyLost, Request, RequestLost, Retrying, Script, Setup, Slow, Who, WornOut, ap, arith, clean_after, clean_told, cond, counted, false, job_of, jobs_tell, known_now, learn_of, learned, nat_lt, nat_tests, setup_after, setup_told, step, stepped, subst, sym, task_abort_told, task_abort_wants, task_commit_told, task_commit_wants, task_of, task_script, tasks_tell, write_told, write_wants, ℕ, ◌∙◌, ◌≡◌, ◌≤◌}
 use Rattle.job_protocol.specs.Writes as writes
 use Rattle.job_protocol.specs.TaskCommits as commits
 use Rattle.job_protocol.specs.TaskAborts as aborts
 use Rattle.job_refinement.proofs.Planned.{same_write, same_commit}
-use Rattle.actor_operations.specs.Acts.{stepped}
-use Rattle.actor_operations.specs.Plans.{counted, known_now}
 
 -- ---- what is learned of sendings that got no answer
 

@@ -14,3 +14,4 @@ pub mod WorksGo
 pub mod WorksDue
 pub mod WorksBeside
 pub mod WorkLaws
+mod Common

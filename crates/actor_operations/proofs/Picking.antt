@@ -1,6 +1,5 @@
 -- What a job's operations have picked, beside what is seen.
-use Rattle.std.proofs.Common.{◌≡◌, ℕ, suc, ◌+◌, ◌&&◌, true, false, cond, List, [], ◌∷◌, ◌++◌, length, Option, Some, None, refl, sym, ap, subst, ◌∙◌, arith}
-use Rattle.job_steps.specs.Prelude.{is_some, Content, Request, Actor, Driver, Outcome, Answered, Entry, PendingSet, Script, Known, Pick, setup_asks, clean_asks, job_script, Committing, Driving, Setting, Seen, see, is_begun, is_reading, Play, Sends, MaySend, happen, operation_of, times}
+use Rattle.actor_operations.proofs.Common.{Act, Actor, Answered, Committing, Content, Driver, Driving, Entry, IsAt, Known, List, MaySend, None, Option, Outcome, PendingSet, Pick, PlannedCheck, Play, Request, Retrying, Script, Seen, Sends, Setting, Some, [], ap, arith, carried, clean_asks, cond, false, happen, is_begun, is_reading, is_some, job_script, length, number, operation_of, refl, see, setup_asks, subst, suc, sym, tells_of, times, true, ℕ, ◌&&◌, ◌++◌, ◌+◌, ◌∙◌, ◌∷◌, ◌≡◌}
 use Rattle.job_facts.specs.Prelude.{with_pick, picked_after, Times, is_picking}
 use Rattle.job_protocol.specs.Setup as setups
 use Rattle.job_protocol.specs.Cleanups as cleans
@@ -9,18 +8,12 @@ use Rattle.job_protocol.specs.Sparing as sparings
 use Rattle.job_protocol.specs.JobCommits.{Commit as JobCommit}
 use Rattle.job_steps.proofs.RunningNumbers.{begun_at}
 use Rattle.job_steps.proofs.RunningStages.{IsTimed}
-use Rattle.job_steps.proofs.Running.{number, carried}
-use Rattle.conflict.specs.Rechecks.{PlannedCheck}
-use Rattle.machine.specs.declared.retrying.Retrying.{Retrying}
 use Rattle.job_commit.specs.Holds.{picks_from}
 use Rattle.job_actor.specs.Picks.{ArePicksOf, HasPicked, LeavesPicks, is_job_commit}
-use Rattle.job_actor.specs.Works.{IsAt}
 use Rattle.job_actor.proofs.Unread.{attempt_picks, left}
 use Rattle.job_actor.proofs.Keeping.{with_read, picks_then, picks_go_on}
 use Rattle.job_actor.proofs.Staying.{picks_stay, same_picks}
-use Rattle.actor_operations.specs.declared.act.Act.{Act}
 use Rattle.actor_operations.specs.declared.act.Act.TheVariants.{Setup, Commit, Sparing, Checked}
-use Rattle.actor_operations.specs.Acts.{tells_of}
 use Rattle.actor_operations.specs.Plans.{picks_of, running_of, IsAttempt, IsOf}
 use Rattle.actor_operations.proofs.WorksGo.{behind, asked_of}
 

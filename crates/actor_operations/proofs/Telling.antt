@@ -1,8 +1,5 @@
 -- Operations as they are told outcomes, and what want of memory leaves of them.
-use Rattle.std.proofs.Common.{◌≡◌, ℕ, true, false, cond, Some, None, refl, sym, ap, subst, ◌∙◌}
-use Rattle.job_steps.specs.Prelude.{option_map, Retried, OutOfMemory, Attempting, Driving, Committing, setup_wants, setup_told, write_wants, write_told, task_commit_wants, task_commit_told, task_abort_wants, task_abort_told, commit_wants, clean_wants, clean_told}
-use Rattle.machine.specs.Prelude.{retried}
-use Rattle.machine.specs.declared.retrying.Retrying.{Retrying}
+use Rattle.actor_operations.proofs.Common.{Attempting, Committing, Driving, None, OutOfMemory, PlannedCheck, Retried, Retrying, Some, ap, check_told, check_wants, checked_end, checked_wants, clean_told, clean_wants, commit_wants, cond, end_of, false, is_clear, option_map, refl, retried, setup_told, setup_wants, sparing_told, sparing_wants, subst, sym, task_abort_told, task_abort_wants, task_commit_told, task_commit_wants, true, under, until_clear, wants_of, without_memory, write_told, write_wants, ℕ, ◌∙◌, ◌≡◌}
 use Rattle.job_model.specs.declared.ends.OpEnd.TheVariants as ends
 use Rattle.job_protocol.specs.Setup as setups
 use Rattle.job_protocol.specs.Writes as writes
@@ -12,12 +9,8 @@ use Rattle.job_protocol.specs.JobCommits as jobs
 use Rattle.job_protocol.specs.Cleanups as cleans
 use Rattle.job_protocol.specs.Rechecks as checks
 use Rattle.job_protocol.specs.Sparing as sparings
-use Rattle.job_protocol.specs.AtWork.{sparing_wants, sparing_told}
-use Rattle.conflict.specs.Rechecks.{PlannedCheck, check_wants, check_told}
-use Rattle.commit_laws.specs.Fitting.{without_memory}
 use Rattle.job_actor.specs.Acts.{EndsWanting}
 use Rattle.actor_operations.specs.declared.act.Act.TheVariants.{Setup, Write, CommitTask, AbortTask, Commit, Clean, Sparing}
-use Rattle.actor_operations.specs.Acts.{under, is_clear, until_clear, checked_wants, checked_end, wants_of, end_of}
 
 -- a machine by its counter and its retries
 pub whole : {M : Type 0} (t : Retrying M) (x : Retried M) (retries : ℕ) → retried t ≡ x → t.retries ≡ retries → t ≡ under retries x

@@ -1,8 +1,6 @@
 -- What operations of a job's actors owe to a world.
-use Rattle.job_actor.specs.Works.{WorkLaws}
-use Rattle.actor_operations.specs.Acts.{wants_of, tells_of, FitsAct, end_of, left_of}
+use Rattle.actor_operations.proofs.Common.{FitsAct, WorkLaws, end_of, left_of, rise, tells_of, wants_of}
 use Rattle.actor_operations.specs.Plans.{running_of, picks_of, IsOf}
-use Rattle.actor_operations.specs.Rising.{rise}
 use Rattle.actor_operations.proofs.Picking.{act_has_picks, act_picks, act_leaves}
 use Rattle.actor_operations.proofs.WorksGo.{asks, goes, ends}
 use Rattle.actor_operations.proofs.WorksDue.{due}

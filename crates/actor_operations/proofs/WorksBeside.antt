@@ -1,8 +1,5 @@
 -- What a job's actor has left beside the requests of the others: an attempt's is not raised, and the driver's by no more than so much.
-use Rattle.std.proofs.Common.{◌≡◌, ℕ, ◌+◌, ◌*◌, ◌≤◌, inl, inr, true, false, List, [], ◌∷◌, ◌++◌, length, codes, Option, Some, None, refl, sym, ap, subst, ◌∙◌, arith, append_assoc, append-nil, length-append}
-use Rattle.job_facts.specs.Prelude.{decimal, bucket_of, set_key, Pending, attempt_dir, marker_key, Uploading, upload_asks, nth, is_magic, FitsWrite, FitsCommit, IsDriving}
-use Rattle.job_steps.specs.Prelude.{Content, apply, begins, Actor, Driver, Committer, Magic, Request, PutObject, adds_key, one_if, Who, actor_of, File, Job, job_of, Task, Known, IsLegal, Script, record_key, Sweep, attempt_prefix, Sets, all_commits, set_request, Commit, Fetching, Replacing, Completing, Marking, Reverting, CommitOver, commit_asks, commit_start, Setting, Committing, task_of, write_wants, task_commit_wants, Seen, Told, IsAttempt, Commits, Play, scene_of, knows_now}
-use Rattle.job_spec.proofs.Common.{begins_behind, below_is, some_is, none_some, false_true, true_or_false}
+use Rattle.actor_operations.proofs.Common.{Act, Actor, Commit, CommitOver, Commits, Committer, Committing, Completing, Content, Driver, Fetching, File, FitsCommit, FitsWrite, IsAt, IsAttempt, IsDriving, IsLegal, IsOf, Job, Known, List, Magic, Marking, None, Option, Pending, PlannedCheck, Play, PutObject, PutsNone, Replacing, Request, Retrying, Reverting, Script, Seen, Sets, Setting, Some, Sweep, Task, Told, Uploading, Who, [], actor_of, adds_key, all_commits, ap, append-nil, append_assoc, apply, arith, attempt_dir, attempt_prefix, begins, begins_behind, below, below_is, bucket_of, codes, commit_asks, commit_start, decimal, false, false_true, inl, inr, is_magic, job_of, known_now, knows_now, left_of, length, length-append, marker_key, most_commits, no_more_times, none_some, nth, one_if, record_key, refl, rise, rise_for, rise_of, running_of, scene_of, set_key, set_request, some_dest, some_is, subst, sym, task_commit_wants, task_of, true, true_or_false, upload_asks, wants_of, write_wants, ℕ, ◌*◌, ◌++◌, ◌+◌, ◌∙◌, ◌∷◌, ◌≡◌, ◌≤◌}
 use Rattle.commit_laws.specs.Laws.{rise_of as commit_rise_of}
 use Rattle.job_protocol.specs.Setup as setups
 use Rattle.job_protocol.specs.Writes as writes
@@ -11,28 +8,17 @@ use Rattle.job_protocol.specs.TaskAborts as aborts
 use Rattle.job_protocol.specs.Cleanups as cleans
 use Rattle.job_protocol.specs.Rechecks as checks
 use Rattle.job_protocol.specs.Sparing as sparings
-use Rattle.conflict.specs.Rechecks.{PlannedCheck}
-use Rattle.machine.specs.declared.retrying.Retrying.{Retrying}
-use Rattle.job_facts.proofs.Legal.{some_dest}
 use Rattle.job_facts.proofs.Owning.{own_directory}
 use Rattle.job_facts.proofs.Apart.{another}
 use Rattle.job_facts.proofs.JobCommitting.{begins_through, commit_drives}
 use Rattle.job_facts.proofs.Held.{nth_of, of_sets}
-use Rattle.job_actor.specs.Works.{IsAt, rise_for}
-use Rattle.actor_operations.specs.declared.act.Act.{Act}
 use Rattle.actor_operations.specs.declared.act.Act.TheVariants as acts
-use Rattle.cleanup.specs.SparingFits.{most_commits}
-use Rattle.actor_operations.specs.Acts.{wants_of, left_of, rise_of}
 use Rattle.actor_operations.specs.ActLaws.{act_laws}
-use Rattle.actor_operations.specs.Plans.{known_now, running_of, IsOf}
-use Rattle.actor_operations.specs.Beside.{PutsNone, below}
-use Rattle.actor_operations.specs.Rising.{rise}
 use Rattle.actor_operations.proofs.Beside.{attempts_stay}
 use Rattle.actor_operations.proofs.WorksStand.{stand, driver_is, never_replaces}
 use Rattle.actor_operations.proofs.WorksGo.{commit_at, behind, asks}
 use Rattle.actor_operations.proofs.ActorsGo.{checked_plan}
 use Rattle.actor_operations.proofs.WorksDue.{by_attempt, fine_at}
-use Rattle.proof_base.proofs.Numbers.{no_more_times}
 use Rattle.std.proofs.Math.Nat.{le_refl}
 
 -- ---- keys that are apart from an attempt's directory

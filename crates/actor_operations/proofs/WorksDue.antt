@@ -1,17 +1,11 @@
 -- Each outcome that is due to what a job's actor asks fits.
-use Rattle.std.proofs.Common.{◌≡◌, ℕ, ◌<◌, ◌≤◌, inl, inr, nat_lt, Bool, true, Option, Some, None, sym, ap, subst, ◌∙◌, arith}
-use Rattle.job_steps.specs.Prelude.{Content, Scene, answer, IsHonestOutcome, Actor, Driver, Request, Reply, Outcome, Who, actor_of, Job, Task, Known, commit_asks, Setting, Operation, Attempting, Driving, Committing, job_of, task_of, task_script, who_of, setup_wants, write_wants, task_commit_wants, task_abort_wants, commit_wants, clean_wants, known, Stand, is_set, Play, scene_of, knows_now}
-use Rattle.machine.specs.Prelude.{FitsOutcome}
-use Rattle.job_spec.proofs.Common.{none_some}
-use Rattle.machine.specs.declared.retrying.Retrying.{Retrying}
+use Rattle.actor_operations.proofs.Common.{Act, Actor, Attempting, Bool, Committing, Content, Driver, Driving, FitsAct, FitsDue, FitsOutcome, FitsSparing, IsAt, IsHonestOutcome, Job, Known, Late, None, Operation, Option, Outcome, PlannedCheck, Play, Reply, Request, Retrying, Scene, Setting, Some, Stand, Task, Who, above_zero, actor_of, answer, ap, arith, check_wants, clean_wants, commit_asks, commit_wants, inl, inr, is_set, job_of, known, knows_now, nat_lt, none_some, scene_of, setup_wants, sparing_wants, subst, sym, task_abort_wants, task_commit_wants, task_of, task_script, true, wants_of, who_of, write_wants, ℕ, ◌<◌, ◌∙◌, ◌≡◌, ◌≤◌}
 use Rattle.job_protocol.specs.Setup as setups
 use Rattle.job_protocol.specs.Writes as writes
 use Rattle.job_protocol.specs.TaskCommits as commits
 use Rattle.job_protocol.specs.TaskAborts as aborts
 use Rattle.job_protocol.specs.Cleanups as cleans
 use Rattle.job_protocol.specs.Sparing as sparings
-use Rattle.job_protocol.specs.AtWork.{sparing_wants}
-use Rattle.conflict.specs.Rechecks.{PlannedCheck, check_wants}
 use Rattle.conflict.specs.Fits.{FitsCheck as check_fits}
 use Rattle.task_requests.specs.Writing.{write_fits}
 use Rattle.task_machines.specs.Commits.{commit_fits as task_commit_fits}
@@ -20,25 +14,18 @@ use Rattle.job_setup.specs.Fits.{FitsDriving as setup_fits}
 use Rattle.cleanup.specs.Fits.{FitsDriving as clean_fits}
 use Rattle.cleanup.specs.SparingFits.{FitsSparingDriving as sparing_fits}
 use Rattle.job_facts.specs.Prelude.{Fits, IsAttempt as IsDeclared}
-use Rattle.job_facts.specs.Spares.{FitsSparing}
 use Rattle.job_traces.proofs.Running as running
-use Rattle.job_traces.proofs.Running.{Late}
 use Rattle.commit_laws.specs.Fitting.{FitsCommit}
 use Rattle.job_actor.specs.Posting.{DueFits}
-use Rattle.job_actor.specs.Works.{IsAt}
-use Rattle.job_refinement.specs.Due.{FitsDue}
 use Rattle.job_refinement.proofs.Attempts.{write_due, commit_due, abort_due}
 use Rattle.job_refinement.proofs.Drivers.{setup_due, clean_due, check_due, job_due}
-use Rattle.actor_operations.specs.declared.act.Act.{Act}
 use Rattle.actor_operations.specs.declared.act.Act.TheVariants.{Setup, Write, CommitTask, AbortTask, Commit, Clean, Sparing, Checked}
-use Rattle.actor_operations.specs.Acts.{wants_of, FitsAct}
 use Rattle.actor_operations.specs.Plans.{counted, known_now, running_of, IsAttempt, IsOf}
 use Rattle.actor_operations.proofs.Going.{drawn_by}
 use Rattle.actor_operations.proofs.WorksStand.{run, stand, scene_is, driver_is, attempt_is, late_by, late_set, own_now, setup_now}
 use Rattle.actor_operations.proofs.WorksFew.{reads_few}
 use Rattle.actor_operations.proofs.WorksSparing.{sparing_due}
 use Rattle.actor_operations.proofs.WorksGo.{few_now, commit_at, behind, asks}
-use Rattle.proof_base.proofs.Numbers.{above_zero}
 
 -- what is due to a machine's request fits it under its retries
 outcome_fits : {M : Type 0} (wants : M → Option Request) (fits : M → Reply → Bool → Type 0) (t : Retrying M) (s : Scene) → FitsDue wants fits t.machine s → (r : Request) (o : Outcome) → wants t.machine ≡ Some r → IsHonestOutcome o (answer s r) → FitsOutcome fits t o

@@ -1,13 +1,7 @@
 -- A set that the driver reads in a legal job has no more uploads than the job has files.
-use Rattle.std.proofs.Common.{◌≡◌, ℕ, suc, ◌<◌, ◌≤◌, ◌^◌, inl, inr, List, [], ◌∷◌, length, Option, Some, refl, sym, ap, subst, ◌∙◌, arith}
-use Rattle.job_facts.specs.Prelude.{unwrap_or, drawn_for, file_key, file_record, ApartFiles, AreCommits, Facts, FitsJobCommit}
-use Rattle.job_steps.specs.Prelude.{lookup, Scene, answer, IsHonestOutcome, Request, Outcome, Answered, IsIn, File, Who, Declared, same_name, IsLegal, Script, Drawn, files, files_set, set_request, set_read, Commit, Fetching, commit_asks, Told, knowing}
-use Rattle.job_spec.proofs.Common.{length-map, some_is}
+use Rattle.actor_operations.proofs.Common.{Answered, ApartFiles, AreCommits, Commit, Declared, Drawn, Facts, Fetching, File, FitsJobCommit, HasFew, IsHonestOutcome, IsIn, IsLegal, List, Option, Outcome, ReadsFew, Request, Scene, Script, Some, Told, Who, [], answer, ap, arith, commit_asks, drawn_for, file_key, file_record, files, files_are, files_set, inl, inr, knowing, length, length-map, lookup, most_commits, refl, same_name, set_read, set_request, some_is, subst, suc, sym, unwrap_or, written, ℕ, ◌<◌, ◌^◌, ◌∙◌, ◌∷◌, ◌≡◌, ◌≤◌}
 use Rattle.job_spec.specs.Prelude.{files_in}
-use Rattle.job_facts.proofs.Legal.{written, files_are}
 use Rattle.job_facts.proofs.Replies.{set_answered}
-use Rattle.commit_laws.specs.Laws.{HasFew, ReadsFew}
-use Rattle.cleanup.specs.SparingFits.{most_commits}
 
 -- ---- files apart among others are no more than those
 

@@ -1,16 +1,7 @@
 -- The operations of a job's actors ask and go on as the script's.
-use Rattle.std.proofs.Common.{◌≡◌, ◌≤◌, ◌^◌, Option, Some, None, sym, ap, subst, ◌∙◌, arith}
-use Rattle.job_steps.specs.Prelude.{Content, Scene, answer, IsHonestOutcome, Actor, Request, Outcome, Entry, Known, commit_asks, Setting, advance, over, Committing, MaySend, Play, scene_of, knows_now}
-use Rattle.job_spec.proofs.Common.{some_is}
-use Rattle.conflict.specs.Rechecks.{PlannedCheck}
-use Rattle.machine.specs.declared.retrying.Retrying.{Retrying}
+use Rattle.actor_operations.proofs.Common.{Act, Actor, AsksSo, CheckedAsksSo, CheckedGoesSo, CommitAsksSo, CommitGoesSo, Committing, Content, Entry, GoesSo, IsAt, IsHonestOutcome, IsOf, Known, MaySend, None, Option, Outcome, PlannedCheck, Play, Request, Retrying, Scene, Setting, Some, advance, answer, ap, arith, asks_same, commit_asks, end_of, knows_now, over, running_of, scene_of, some_is, subst, sym, tells_of, tells_same, wants_of, ◌^◌, ◌∙◌, ◌≡◌, ◌≤◌}
 use Rattle.job_protocol.specs.Operations as operations
-use Rattle.job_actor.specs.Works.{IsAt}
-use Rattle.job_refinement.proofs.Telling.{asks_same, tells_same}
-use Rattle.actor_operations.specs.declared.act.Act.{Act}
 use Rattle.actor_operations.specs.declared.act.Act.TheVariants.{Commit, Checked}
-use Rattle.actor_operations.specs.Acts.{wants_of, tells_of, end_of}
-use Rattle.actor_operations.specs.Plans.{running_of, IsOf, CommitAsksSo, CheckedAsksSo, AsksSo, CommitGoesSo, CheckedGoesSo, GoesSo}
 use Rattle.actor_operations.proofs.ActorsGo.{actors_go}
 use Rattle.actor_operations.proofs.WorksStand.{stand, scene_is, driver_is, CommitNow, commit_now}
 

@@ -1,13 +1,7 @@
 -- Until the driver cleans up each task has a last publisher where the driver's commit reads sets.
-use Rattle.std.proofs.Common.{◌≡◌, ℕ, inl, inr, Bool, true, List, [], length, Option, Some, None, refl, sym, ap, subst, ◌∙◌, arith}
-use Rattle.job_steps.specs.Prelude.{Content, Actor, Driver, Outcome, Entry, Known, IsLegal, Script, Op, Event, Do, Start, EventEnd, Commit, Fetching, fetching, commit_start, Setting, Operation, TheCommit, TheCheck, commit_of, commit_by, reports, fresh, who, tells, start_of, Seen, see_all, nothing_seen, missing, IsOpening, HasPublished, Play, Refuses, Opens, Sends, Finishes, Closes, knows_now, begun, open_running, hear, happen, MaySend, Reachable, nothing_happened, happens, Strays, Ahead, operation_of, strange_entry, times}
+use Rattle.actor_operations.proofs.Common.{Actor, Ahead, AllPublished, Bool, Closes, Commit, Content, Do, Driver, Entry, Event, EventEnd, Fail, Fetching, Finishes, HasPublished, IsLegal, IsOpening, Known, List, MaySend, Mode, None, Op, Opens, Operation, Option, Outcome, Play, Reachable, Refuses, Script, Seen, Sends, Setting, Some, Start, Strays, TheCheck, TheCommit, [], after_check_so, ap, arith, begun, check_start, clean_of_so, closed_ahead, commit_by, commit_of, commit_start, fetching, finished_ahead, fresh, happen, happens, hear, inl, inr, knows_now, length, missing, not_refused, nothing_happened, nothing_seen, open_running, opened_ahead, operation_of, refl, refused_ahead, reports, see_all, sent_ahead, start_of, strange_entry, strayed_ahead, subst, sym, tells, times, true, who, ℕ, ◌∙◌, ◌≡◌}
 use Rattle.job_model.specs.declared.events.Op.TheVariants as ops
-use Rattle.job_protocol.specs.Prelude.{Mode, Fail}
-use Rattle.job_protocol.specs.Rechecks.{check_start}
-use Rattle.job_protocol.proofs.Begun.{after_check_so, clean_of_so}
 use Rattle.job_steps.proofs.Actors.{same_or_not, put_here, put_other}
-use Rattle.job_steps.proofs.Running.{sent_ahead, finished_ahead, opened_ahead, refused_ahead, not_refused, closed_ahead, strayed_ahead}
-use Rattle.job_refinement.specs.Due.{AllPublished}
 use Rattle.job_steps.proofs.Reported.{AllReported, all_published, Unclean, later, unclean_before, reported}
 
 -- ---- the driver's commit

@@ -1,17 +1,12 @@
 -- Each answer that is due to a sparing abort or clean fits: a set that it reads names no more uploads than the job has files.
-use Rattle.std.proofs.Common.{◌≡◌, ℕ, ◌<◌, ◌≤◌, ◌^◌, inl, inr, true, List, [], ◌∷◌, length, Option, Some, None, Ok, refl, sym, ap, subst, ◌∙◌, arith}
+use Rattle.actor_operations.proofs.Common.{AllOwn, ClusterBytes, Filed, FitsDue, FitsSparing, List, None, Ok, Option, Some, [], ap, arith, inl, inr, length, length-map, refl, some_is, sparing_wants, subst, sym, true, ℕ, ◌<◌, ◌^◌, ◌∙◌, ◌∷◌, ◌≡◌, ◌≤◌}
 use Rattle.job_facts.specs.Prelude.{Scene, answer, read_answer, begins, GetObject, ClusterGet, Committer, Magic, Directory, Partitioned, File, Who, IsLegal, Script, files, files_set, magic_prefix, cluster_prefix, Told, IsAttempt, is_staging, AreCommits, Facts, knowing}
-use Rattle.job_protocol.specs.Prelude.{ClusterBytes}
 use Rattle.std.specs.FinMap as fin
 use Rattle.pending_json.specs.Reading as reading
-use Rattle.job_spec.proofs.Common.{length-map, some_is}
-use Rattle.job_protocol.specs.AtWork.{sparing_wants}
 use Rattle.job_protocol.specs.Sparing.{Sparing, Walking, Reading, record_request, ref_of, set_names}
 use Rattle.cleanup.specs.SparingFits.{most_commits, NamesFew, FitsSparing as FitsAnswer, FitsSparingDriving}
-use Rattle.job_facts.specs.Spares.{AllOwn, FitsSparing, Filed}
 use Rattle.job_facts.proofs.Legible.{set_read}
 use Rattle.job_facts.proofs.Placed.{staged_set}
-use Rattle.job_refinement.specs.Due.{FitsDue}
 use Rattle.job_refinement.specs.Plans.{driving}
 use Rattle.job_refinement.proofs.Pages.{page_fits}
 use Rattle.actor_operations.proofs.Checking.{sparing_asks_same}

@@ -1,17 +1,11 @@
 -- What the actors of a job are at, request by request: as far as what has happened says.
-use Rattle.std.proofs.Common.{◌≡◌, ℕ, ◌⊎◌, inl, inr, true, List, [], ◌∷◌, ◌++◌, Some, None, refl, sym, ap, subst, ◌∙◌, arith}
-use Rattle.job_steps.specs.Prelude.{Content, Actor, Driver, Magic, Retried, Who, actor_of, IsLegal, Script, Done, Sweep, Sets, picks_of, replaced, Commit, Fetching, Replacing, Setting, Operation, TheSetup, TheCommit, Running, Seen, Told, tell_all, nothing_told, Commits, Stand, IsOpening, is_set, Play, Reachable, scene_of, times, IsRun, operation_of}
+use Rattle.actor_operations.proofs.Common.{Actor, At, Commit, Commits, Content, Done, Driver, Early, Fetching, InCommit, IsLegal, IsOpening, IsRun, Late, List, Magic, None, Operation, Play, Reachable, Replaces, Replacing, Retried, Running, Script, Seen, SetStands, Sets, Setting, Some, Stand, Sweep, TheCommit, TheSetup, Told, Who, [], actor_of, ap, arith, inl, inr, is_run, is_set, none_some, nothing_told, operation_of, picks_of, refl, replaced, scene_of, set_stands, subst, sym, tell_all, times, true, ℕ, ◌++◌, ◌∙◌, ◌∷◌, ◌≡◌, ◌⊎◌}
 use Rattle.job_facts.specs.Prelude.{Setup, SetupOver, SetsUp, Times}
-use Rattle.job_spec.proofs.Common.{none_some}
 use Rattle.job_model.specs.declared.ends.SetupEnd.TheVariants as setups
-use Rattle.job_traces.proofs.Running.{Replaces, InCommit, At, Early, Late}
 use Rattle.job_traces.proofs.EveryRun.{good}
 use Rattle.job_traces.proofs.Entries.{sees, tells_so, late_now}
 use Rattle.job_traces.proofs.Changes.{moment_scene}
-use Rattle.job_steps.proofs.Running.{is_run}
 use Rattle.job_steps.proofs.RunningCommits.{goes_on}
-use Rattle.job_refinement.specs.Due.{SetStands}
-use Rattle.job_refinement.proofs.Kept.{set_stands}
 use Rattle.actor_operations.proofs.WorksTasks.{OwnTask, own_task}
 use Rattle.actor_operations.proofs.WorksReported.{AllRead, DriverReads, driver_reads}
 

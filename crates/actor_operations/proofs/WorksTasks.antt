@@ -1,12 +1,6 @@
 -- What attempts are at in a run: a task's commit reads records of its own files alone.
-use Rattle.std.proofs.Common.{◌≡◌, List, Some, refl, arith}
-use Rattle.job_steps.specs.Prelude.{Content, Outcome, Entry, fresh, Who, IsLegal, Script, write_start, task_commit_start, task_abort_start, Setting, Operation, TheWrite, TheTaskCommit, TheTaskAbort, TheCheck, step, tells, known, Stand, Runs, run_begins, driver_sends, attempt_sends, IsOpening, Beginning, BeginWrite, BeginPublish, BeginAbort, begin, actor_begins, strays, Times}
-use Rattle.job_spec.proofs.Common.{none_some}
-use Rattle.job_protocol.specs.Rechecks.{check_after}
-use Rattle.job_protocol.proofs.Begun.{after_check_so}
+use Rattle.actor_operations.proofs.Common.{BeginAbort, BeginPublish, BeginWrite, Beginning, Content, Entry, IsLegal, IsOpening, List, Operation, Outcome, ReadsOwn, Runs, Script, Setting, Some, Stand, TheCheck, TheTaskAbort, TheTaskCommit, TheWrite, Times, Who, actor_begins, after_check_so, arith, attempt_sends, begin, check_after, driver_sends, fresh, known, none_some, reads_begin, reads_go, refl, run_begins, step, strays, task_abort_start, task_commit_start, tells, write_start, ◌≡◌}
 use Rattle.job_facts.proofs.Whose.{put_at}
-use Rattle.job_refinement.specs.Due.{ReadsOwn}
-use Rattle.job_refinement.proofs.Kept.{reads_begin, reads_go}
 
 abbrev pub OwnTask : Script → Who → Operation → Type 0
 OwnTask w a (TheTaskCommit t) = ReadsOwn w a t.operation

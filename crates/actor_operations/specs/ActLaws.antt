@@ -1,7 +1,27 @@
 -- What holds of every operation of a job's actors.
-use Rattle.std.specs.Prelude.{◌≡◌, ℕ, ◌+◌, ◌<◌, ◌≤◌, Bool, true, false, not, cond, Option, Some, None, is_some}
-use Rattle.std.proofs.Common.{refl, ap, arith, sym, ◌∙◌}
-use Rattle.job_steps.specs.Prelude.{option_map, Scene, answer, apply, effect, IsHonestOutcome, Request, Reply, Outcome, Answered, Slow, RequestLost, ReplyLost, Attempting, Driving, Committing, setup_wants, write_wants, task_commit_wants, task_abort_wants, commit_wants, clean_wants}
+use Rattle.std.specs.Prelude.{Bool, None, Option, Some, cond, false, is_some, not, true, ℕ, ◌+◌, ◌<◌, ◌≡◌, ◌≤◌}
+use Rattle.std.proofs.Common.{ap, arith, refl, sym, ◌∙◌}
+use Rattle.job_facts.specs.Prelude.{Answered, Attempting, Committing, Driving, IsHonestOutcome, Outcome, Reply, ReplyLost, Request, RequestLost, Scene, Slow, answer, apply, clean_wants, commit_wants, effect, only_reads, option_map, setup_wants, task_abort_wants, task_commit_wants, write_wants}
+use Rattle.job_protocol.specs.AtWork.{sparing_wants}
+use Rattle.proof_base.proofs.Members.{none_some, some_is}
+use Rattle.store_frame.proofs.Reading.{reads_nothing}
+use Rattle.job_setup.proofs.Falling.{set_ups_end}
+use Rattle.task_machines.proofs.WriteFalls.{write_falls}
+use Rattle.commit_laws.proofs.Falling.{commit_falls}
+use Rattle.cleanup.proofs.Falling.{cleans_end}
+use Rattle.cleanup.proofs.SparingFalls.{sparings_end}
+use Rattle.conflict.specs.Left.{check_left}
+use Rattle.conflict.specs.Rechecks.{PlannedCheck, check_told, check_wants}
+use Rattle.conflict.proofs.Falling.{checks_end}
+use Rattle.job_actor.specs.Acts.{ActLaws}
+use Rattle.actor_operations.specs.declared.act.Act.{Act}
+use Rattle.actor_operations.specs.declared.act.Act.TheVariants.{AbortTask, Checked, Clean, Commit, CommitTask, Setup, Sparing, Write}
+use Rattle.machine.specs.declared.retrying.Retrying.{Retrying}
+use Rattle.cleanup.specs.SparingFits.{most_commits}
+use Rattle.commit_laws.specs.Laws.{left}
+use Rattle.actor_operations.specs.Acts.{FitsAct, FitsChecked, checked_end, checked_left, checked_rise, checked_told, checked_wants, end_of, is_clear, left_of, rise_of, sendings_left, stepped, tells_of, wants_of}
+use Rattle.actor_operations.specs.Falls.{sending_falls, sending_rises}
+use Rattle.proof_base.proofs.Options.{some_mapped}
 use Rattle.job_protocol.specs.Setup as setups
 use Rattle.job_protocol.specs.Writes as writes
 use Rattle.job_protocol.specs.TaskCommits as commits
@@ -10,29 +30,8 @@ use Rattle.job_protocol.specs.JobCommits as jobs
 use Rattle.job_protocol.specs.Cleanups as cleans
 use Rattle.job_protocol.specs.Rechecks as checks
 use Rattle.job_protocol.specs.Sparing as sparings
-use Rattle.job_protocol.specs.AtWork.{sparing_wants}
-use Rattle.proof_base.proofs.Members.{some_is, none_some}
-use Rattle.store_frame.proofs.Reading.{reads_nothing}
-use Rattle.job_setup.proofs.Falling.{set_ups_end}
-use Rattle.task_machines.proofs.WriteFalls.{write_falls}
 use Rattle.task_machines.proofs.CommitFalls.{commit_falls as task_commit_falls}
 use Rattle.task_machines.proofs.AbortFalls.{abort_falls as task_abort_falls}
-use Rattle.commit_laws.proofs.Falling.{commit_falls}
-use Rattle.cleanup.proofs.Falling.{cleans_end}
-use Rattle.cleanup.proofs.SparingFalls.{sparings_end}
-use Rattle.conflict.specs.Left.{check_left}
-use Rattle.conflict.specs.Rechecks.{PlannedCheck, check_wants, check_told}
-use Rattle.conflict.proofs.Falling.{checks_end}
-use Rattle.job_actor.specs.Acts.{ActLaws}
-use Rattle.actor_operations.specs.declared.act.Act.{Act}
-use Rattle.actor_operations.specs.declared.act.Act.TheVariants.{Setup, Write, CommitTask, AbortTask, Commit, Clean, Sparing, Checked}
-use Rattle.machine.specs.declared.retrying.Retrying.{Retrying}
-use Rattle.cleanup.specs.SparingFits.{most_commits}
-use Rattle.commit_laws.specs.Laws.{left}
-use Rattle.s3_types.specs.Prelude.{only_reads}
-use Rattle.actor_operations.specs.Acts.{stepped, sendings_left, is_clear, checked_wants, checked_told, FitsChecked, checked_end, checked_left, checked_rise, wants_of, tells_of, FitsAct, end_of, left_of, rise_of}
-use Rattle.actor_operations.specs.Falls.{sending_falls, sending_rises}
-use Rattle.proof_base.proofs.Options.{some_mapped}
 
 -- ---- it asks exactly until it has ended
 

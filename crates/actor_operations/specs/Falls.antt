@@ -1,12 +1,11 @@
 -- What a machine under its retries has left, among others that send.
-use Rattle.std.specs.Prelude.{◌≡◌, ℕ, zero, suc, ◌+◌, ◌*◌, ◌<◌, ◌≤◌, Bool, true, Option, Some}
-use Rattle.std.proofs.Common.{arith, sym, subst}
-use Rattle.job_steps.specs.Prelude.{Scene, answer, apply, effect, IsHonestOutcome, Request, Reply, Outcome, Answered, Slow, RequestLost, ReplyLost, Item, Got, WornOut, unanswered_by}
-use Rattle.machine.specs.Prelude.{FitsOutcome}
+use Rattle.std.specs.Prelude.{Bool, Option, Some, suc, true, zero, ℕ, ◌*◌, ◌+◌, ◌<◌, ◌≡◌, ◌≤◌}
+use Rattle.std.proofs.Common.{arith, subst, sym}
+use Rattle.machine.specs.Prelude.{Answered, FitsOutcome, Got, IsHonestOutcome, Item, Outcome, Reply, ReplyLost, Request, RequestLost, Scene, Slow, WornOut, answer, apply, effect, unanswered_by}
 use Rattle.job_protocol.specs.Prelude.{FallsAmong}
 use Rattle.std.proofs.Math.Nat.{add-mul}
 use Rattle.machine.specs.declared.retrying.Retrying.{Retrying}
-use Rattle.actor_operations.specs.Acts.{under, stepped, sendings_left}
+use Rattle.actor_operations.specs.Acts.{sendings_left, stepped, under}
 use Rattle.proof_base.proofs.Numbers.{more_times, no_more_times}
 
 less_work : (a b n x : ℕ) → a < b → a * (n + 1) + n < b * (n + 1) + x

@@ -1,8 +1,5 @@
 -- Blocks that are cut off what was written.
-use Rattle.std.proofs.Common.{◌≡◌, ℕ, ◌+◌, ◌-◌, ◌<◌, List, [], ◌∷◌, ◌++◌, length, take, drop, sym, ap, subst, ◌∙◌, arith, append_assoc, length-append}
-use Rattle.machine.specs.Prelude.{concat}
-use Rattle.proof_base.proofs.Common.{append-nil, take-append-drop, concat-append}
-use Rattle.block_stream.specs.Holds.{AreLong}
+use Rattle.block_stream.proofs.Common.{AreLong, List, [], ap, append-nil, append_assoc, arith, concat, concat-append, drop, length, length-append, subst, sym, take, take-append-drop, ℕ, ◌++◌, ◌+◌, ◌-◌, ◌<◌, ◌∙◌, ◌∷◌, ◌≡◌}
 use Rattle.block_stream.proofs.KeepingLaws.{long_more}
 
 -- one block more

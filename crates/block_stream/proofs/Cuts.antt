@@ -1,18 +1,6 @@
 -- What a stream's blocks tell of what is pending.
 use Rattle.std.specs.Prelude.{◌≡◌, ℕ, ◌+◌, ◌<◌, ◌≤◌, ◌&&◌, ◌||◌, Bool, true, false, not, nat_le, nat_lt, cond, List, [], ◌∷◌, ◌++◌, length, take, drop, Option, Some, None}
-use Rattle.std.proofs.Common.{refl, sym, ap, subst, ◌∙◌, arith, append_assoc, length-append}
-use Rattle.machine.specs.Prelude.{concat, unwrap_or, Spelled}
-use Rattle.proof_base.proofs.Common.{and_right, append-nil, take_all, take-append-le, drop_all, drop-append_seam, nat_tests}
-use Rattle.block_stream.specs.Kept.{next_at, IsCutUp, seen, first_of, is_whole, is_due, is_short, stage_by, settles}
-use Rattle.std.proofs.lemmas.Bool.{or_right}
-use Rattle.proof_base.proofs.Numbers.{at_most_so, above_so}
-use Rattle.block_stream.specs.declared.mode.StreamMode.{StreamMode}
-use Rattle.block_stream.specs.declared.mode.StreamMode.TheVariants.{Direct, Delayed}
-use Rattle.block_stream.specs.declared.mode.StreamEnd.{StreamEnd}
-use Rattle.block_stream.specs.declared.mode.StreamEnd.TheVariants.{Done}
-use Rattle.block_stream.specs.declared.stage.Stage.{Stage}
-use Rattle.block_stream.specs.declared.stage.Stage.TheVariants.{Waiting, Putting, Sending, Completing, Over}
-use Rattle.block_stream.specs.Stream.{Stream, is_direct, has_some, has_part, is_small, begin_or_wait, complete_or_wait, stage_of, asks_with, wanted, is_settled, settled, ended}
+use Rattle.block_stream.proofs.Common.{Completing, Delayed, Direct, Done, IsCutUp, Over, Putting, Sending, Spelled, Stage, Stream, StreamEnd, StreamMode, Waiting, above_so, and_right, ap, append-nil, append_assoc, arith, asks_with, at_most_so, begin_or_wait, complete_or_wait, concat, drop-append_seam, drop_all, ended, first_of, has_part, has_some, is_direct, is_due, is_settled, is_short, is_small, is_whole, length-append, nat_tests, next_at, or_right, refl, seen, settled, settles, stage_by, stage_of, subst, sym, take-append-le, take_all, unwrap_or, wanted, ◌∙◌}
 use Rattle.block_stream.proofs.FillingLaws.{AtStage, at_stage}
 
 -- bytes that begin with a whole block

@@ -1,15 +1,10 @@
 -- What driving a stream that is alone leaves.
 use Rattle.std.specs.Prelude.{◌≡◌, ℕ, Bool, true, false, List, Option, Result, Ok, Err, IfOk}
-use Rattle.std.proofs.Common.{refl, sym, subst, ◌∙◌, arith}
-use Rattle.machine.specs.Prelude.{Scene, answer, Entry, Fate, Actor, Reply, Stored, Upload, Part, Completed, Refused, Refusal, NoSuchUpload, run, Got, Retried, step, Fine, Drove, retried}
+use Rattle.block_stream.proofs.Common.{Actor, Beginning, Completed, Completing, Drove, Entry, Fate, Fine, Got, Holds, IsReady, NoSuchUpload, Part, Putting, Refusal, Refused, Reply, Retried, Scene, Sending, Stage, Stored, Stream, Upload, answer, arith, ended, moved, parted, refl, refused, retried, run, settled, stage, standing, step, subst, sym, told, wanted, ◌∙◌}
 use Rattle.machine.proofs.Keeping.{Keeps}
 use Rattle.machine.specs.declared.retrying.Retrying.{Retrying}
 use Rattle.machine.specs.declared.driving.DriveStop.{DriveStop}
 use Rattle.machine.proofs.Keeps.{kept_run}
-use Rattle.block_stream.specs.declared.stage.Stage.{Stage}
-use Rattle.block_stream.specs.declared.stage.Stage.TheVariants.{Putting, Beginning, Sending, Completing}
-use Rattle.block_stream.specs.Stream.{Stream, stage, wanted, moved, told, refused, ended, settled, parted, standing}
-use Rattle.block_stream.specs.Holds.{Holds, IsReady}
 use Rattle.block_stream.specs.Stored.{IsStored, IsSameOutput}
 use Rattle.block_stream.proofs.FillingLaws.{settled_by}
 use Rattle.block_stream.proofs.KeepingLaws.{hidden, took, lost, gave_up}

@@ -1,13 +1,6 @@
 -- What a stream that has ended well has stored.
 use Rattle.std.specs.Prelude.{◌≡◌, ℕ, Bool, true, false, cond, List, Option, Some, None}
-use Rattle.std.proofs.Common.{refl, sym, ap, subst, ◌∙◌, arith}
-use Rattle.proof_base.proofs.Common.{none-some}
-use Rattle.machine.specs.Prelude.{Scene, BucketContent, Fine}
-use Rattle.block_stream.specs.declared.mode.StreamEnd.{StreamEnd}
-use Rattle.block_stream.specs.declared.mode.StreamEnd.TheVariants.{Done, Gone}
-use Rattle.block_stream.specs.declared.stage.Stage.TheVariants.{Putting, Sending}
-use Rattle.block_stream.specs.Stream.{Stream, has_part, is_small, begin_or_wait, complete_or_wait, stage_of, asks, wanted, standing, standing_of}
-use Rattle.block_stream.specs.Holds.{IsWritten, HoldsIn, Holds}
+use Rattle.block_stream.proofs.Common.{BucketContent, Done, Fine, Gone, Holds, HoldsIn, IsWritten, Putting, Scene, Sending, Stream, StreamEnd, ap, arith, asks, begin_or_wait, complete_or_wait, has_part, is_small, none-some, refl, stage_of, standing, standing_of, subst, sym, wanted, ◌∙◌}
 use Rattle.block_stream.proofs.Cuts.{first_part}
 
 -- a closed stream that has not ended asks something

@@ -1,24 +1,10 @@
 -- Laws of an upload that is being filled: its parts, its room, and what is known once all was sent. Contracts cite none of them.
 use Rattle.std.specs.Prelude.{◌≡◌, ◌⊎◌, ℕ, ◌+◌, ◌-◌, ◌*◌, ◌<◌, ◌≤◌, ◌&&◌, ◌||◌, Bool, true, false, not, nat_le, nat_lt, cond, List, [], ◌∷◌, ◌++◌, length, map, drop, Option, Some, None}
-use Rattle.std.proofs.Common.{refl, sym, ap, subst, ◌∙◌, arith, inl, inr, length-drop, true≢false}
-use Rattle.machine.specs.Prelude.{concat, nat_cmp_total, Scene, Content, BucketContent, live, with_key, is_part_number, with_part, answer, apply, answer_in, apply_in, apply_at, answer_at, bucket_of, part_put, unwrap_or, Spelled, Request, UploadPart}
-use Rattle.proof_base.proofs.Common.{drop_all, append-nil, length-map, and_parts, and_right, or_parts, nat_tests, none-some, exact_unsigned}
+use Rattle.block_stream.proofs.Common.{AreBlocks, AreLong, Beginning, BucketContent, Completing, Content, Delayed, Direct, Done, Fills, HasParts, HasRoom, Holds, HoldsIn, IsUpload, IsUploadOf, IsWritten, Putting, Request, Scene, Sending, Spelled, Stage, Stream, StreamEnd, StreamMode, UploadPart, and_parts, and_right, answer, answer_at, answer_in, ap, append-nil, apply, apply_at, apply_in, arith, at_most_is, at_most_not, begin_or_wait, begun, below_is, bucket_of, chunk, complete_or_wait, concat, drop_all, ended, exact_unsigned, has_part, has_some, id_of, inl, inr, is_direct, is_part_number, is_settled, is_small, length-drop, length-map, live, nat_cmp_total, nat_tests, none-some, numbered, one_longer, or_parts, part_put, parted, plain_tag, refl, settled, stage, stage_of, subst, sym, true_from_ne_false, true≢false, unwrap_or, with_key, with_part, ◌∙◌}
 use Rattle.retries.specs.Prelude.{text_eq, text_equiv, text_total, Upload}
-use Rattle.std.proofs.lemmas.Bool.{true_from_ne_false}
 use Rattle.proof_base.proofs.Bools.{not_so}
-use Rattle.proof_base.proofs.Numbers.{below_is, at_most_is, at_most_not}
-use Rattle.proof_base.proofs.Lists.{one_longer}
 use Rattle.std.specs.FinMap as fin
 use Rattle.proof_base.proofs.Tree.{insert_same}
-use Rattle.s3_types.specs.Tags.{plain_tag}
-use Rattle.block_stream.specs.declared.mode.StreamMode.{StreamMode}
-use Rattle.block_stream.specs.declared.mode.StreamMode.TheVariants.{Direct, Delayed}
-use Rattle.block_stream.specs.declared.mode.StreamEnd.{StreamEnd}
-use Rattle.block_stream.specs.declared.mode.StreamEnd.TheVariants.{Done}
-use Rattle.block_stream.specs.declared.stage.Stage.{Stage}
-use Rattle.block_stream.specs.declared.stage.Stage.TheVariants.{Putting, Beginning, Sending, Completing}
-use Rattle.block_stream.specs.Stream.{Stream, is_direct, has_some, has_part, is_small, begin_or_wait, complete_or_wait, stage_of, stage, chunk, id_of, ended, is_settled, settled, begun, parted}
-use Rattle.block_stream.specs.Holds.{numbered, AreLong, AreBlocks, HasParts, IsUpload, IsUploadOf, IsWritten, Fills, HoldsIn, HasRoom, Holds}
 use Rattle.block_stream.proofs.PartLaws.{get_same, numbered_more, last_stands}
 
 -- ---- what a stage tells

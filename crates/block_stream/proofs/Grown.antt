@@ -1,15 +1,8 @@
 -- A piece and the close keep what a stream holds.
 use Rattle.std.specs.Prelude.{◌≡◌, ℕ, ◌+◌, ◌*◌, ◌≤◌, ◌&&◌, ◌||◌, Bool, true, false, not, cond, List, [], ◌∷◌, ◌++◌, length, Option, Some, None}
-use Rattle.std.proofs.Common.{refl, sym, ap, subst, ◌∙◌, arith, inl, inr, append_assoc, length-append, true≢false}
-use Rattle.machine.specs.Prelude.{concat, Scene, BucketContent}
-use Rattle.proof_base.proofs.Common.{take-append-le}
-use Rattle.proof_base.proofs.Numbers.{at_most_so}
+use Rattle.block_stream.proofs.Common.{BucketContent, Done, Fills, Gone, HasParts, HasRoom, Holds, HoldsIn, NoMemory, Scene, StoreFault, Stream, StreamEnd, added, ap, append_assoc, arith, at_most_so, close, closed_by, concat, ended, has_part, has_some, inl, inr, is_direct, is_settled, length-append, refl, shut, subst, sym, take-append-le, true≢false, wrote, ◌∙◌}
 use Rattle.block_stream.proofs.KeepingLaws.{unsettled}
 use Rattle.block_stream.proofs.Cuts.{first_part}
-use Rattle.block_stream.specs.declared.mode.StreamEnd.{StreamEnd}
-use Rattle.block_stream.specs.declared.mode.StreamEnd.TheVariants.{Done, Gone, StoreFault, NoMemory}
-use Rattle.block_stream.specs.Stream.{Stream, is_direct, has_some, has_part, ended, is_settled, added, wrote, shut, closed_by, close}
-use Rattle.block_stream.specs.Holds.{HasParts, Fills, HoldsIn, HasRoom, Holds}
 use Rattle.block_stream.proofs.FillingLaws.{holds_of, held_from, Whole, Last, due, settle}
 
 pub room_wrote : (m : Stream) (piece : List ℕ) → m.closed ≡ false → (m.count + length piece) ≤ m.block * 10000 → HasRoom m → HasRoom (wrote m piece)

@@ -1,15 +1,6 @@
 -- Each change keeps what the fields of a stream keep.
 use Rattle.std.specs.Prelude.{◌≡◌, ℕ, ◌+◌, ◌-◌, ◌*◌, ◌<◌, ◌≤◌, ◌&&◌, ◌||◌, Bool, true, false, not, nat_le, cond, List, [], ◌∷◌, ◌++◌, length, drop, Option, Some, None}
-use Rattle.std.proofs.Common.{refl, sym, ap, subst, ◌∙◌, arith, append_assoc, length-append}
-use Rattle.machine.specs.Prelude.{concat, Spelled, Request}
-use Rattle.proof_base.proofs.Common.{append-nil, concat-append, none-some}
-use Rattle.block_stream.specs.declared.mode.StreamMode.{StreamMode}
-use Rattle.block_stream.specs.declared.mode.StreamEnd.{StreamEnd}
-use Rattle.block_stream.specs.declared.mode.StreamEnd.TheVariants.{Done}
-use Rattle.block_stream.specs.declared.stage.Stage.TheVariants.{Beginning, Sending}
-use Rattle.block_stream.specs.Stream.{Stream, has_some, has_part, stage, stage_of, complete_or_wait, asks, asks_with, wanted, ended, parted, settled, added, wrote, shut, closed_by, close}
-use Rattle.block_stream.specs.Holds.{AreLong, HasRoom}
-use Rattle.block_stream.specs.Kept.{AreCut, IsCutUp, CutUp, seen, IsKept, first_of, front_of, last_of, is_whole, next_by}
+use Rattle.block_stream.proofs.Common.{AreCut, AreLong, Beginning, CutUp, Done, HasRoom, IsCutUp, IsKept, Request, Sending, Spelled, Stream, StreamEnd, StreamMode, added, ap, append-nil, append_assoc, arith, asks, asks_with, close, closed_by, complete_or_wait, concat, concat-append, ended, first_of, front_of, has_part, has_some, is_whole, last_of, length-append, next_by, none-some, parted, refl, seen, settled, shut, stage, stage_of, subst, sym, wanted, wrote, ◌∙◌}
 use Rattle.block_stream.proofs.FillingLaws.{AtStage, at_stage, settled_by, due, room_after, room_ended, room_begun}
 use Rattle.block_stream.proofs.KeepingLaws.{unsettled}
 use Rattle.block_stream.proofs.Grown.{room_wrote, room_shut}

@@ -1,18 +1,8 @@
 -- Laws of a stream that is alone: it holds what was written, whatever the store loses. Contracts cite none of them.
 use Rattle.std.specs.Prelude.{◌≡◌, ◌⊎◌, ℕ, ◌+◌, ◌-◌, ◌<◌, ◌≤◌, ◌&&◌, Bool, true, false, not, cond, List, [], ◌∷◌, ◌++◌, length, map, drop, Option, Some, None, Ok, Err}
-use Rattle.std.proofs.Common.{refl, sym, ap, subst, ◌∙◌, arith, inl, inr, append_assoc, length-drop, true≢false}
-use Rattle.machine.specs.Prelude.{concat, nat_cmp_total, eq_by_cmp_equiv, Scene, BucketContent, live, with_key, joined, answer, apply, answer_in, apply_in, part_answer, complete_answer, completed, Spelled, Request, PutObject, CreateUpload, UploadPart, CompleteUpload, NamedPart, Reply, Part, Completed, Refused, NoSuchUpload, named_from}
-use Rattle.proof_base.proofs.Common.{map-append, take-append-drop, take_all, drop_all, append-nil, length-take-le, concat-append}
+use Rattle.block_stream.proofs.Common.{AreBlocks, AreLong, Beginning, BucketContent, CompleteUpload, Completed, Completing, CreateUpload, Done, Fills, Gone, HasParts, HasRoom, Holds, HoldsIn, IsHidden, NamedPart, NoSuchUpload, Over, Part, PutObject, Putting, Refused, Reply, Request, Scene, Sending, Spelled, Stage, StoreFault, Stream, StreamEnd, UploadPart, Waiting, answer, answer_in, answers, ap, append-nil, append_assoc, apply, apply_in, arith, asks, begun, chunk, complete_answer, completed, concat, concat-append, drop_all, ended, eq_by_cmp_equiv, has_part, has_some, id_of, inl, inr, is_begun, is_direct, is_settled, is_small, joined, joined_tag, left, left_by, length-drop, length-take-le, live, map-append, named_from, nat_cmp_total, one_if, one_longer, part_answer, parted, plain_tag, refl, settled, stage, stage_of, subst, sym, take-append-drop, take_all, told, true≢false, wanted, with_key, ◌∙◌}
 use Rattle.retries.specs.Prelude.{get-remove, text_total, Upload}
-use Rattle.proof_base.proofs.Lists.{one_longer}
 use Rattle.std.specs.FinMap as fin
-use Rattle.s3_types.specs.Tags.{plain_tag, joined_tag}
-use Rattle.block_stream.specs.declared.mode.StreamEnd.{StreamEnd}
-use Rattle.block_stream.specs.declared.mode.StreamEnd.TheVariants.{Done, Gone, StoreFault}
-use Rattle.block_stream.specs.declared.stage.Stage.{Stage}
-use Rattle.block_stream.specs.declared.stage.Stage.TheVariants.{Waiting, Putting, Beginning, Sending, Completing, Over}
-use Rattle.block_stream.specs.Stream.{Stream, is_direct, has_some, has_part, is_small, stage_of, stage, chunk, id_of, asks, wanted, ended, is_settled, settled, begun, parted, told, answers, left, left_by, one_if, is_begun}
-use Rattle.block_stream.specs.Holds.{AreLong, AreBlocks, HasParts, Fills, IsHidden, HoldsIn, HasRoom, Holds}
 use Rattle.block_stream.proofs.PartLaws.{get_same, completes}
 use Rattle.block_stream.proofs.FillingLaws.{AtStage, at_stage, IsStoreRequest, IsPlace, place_of, sent_to, holds_of, held_at, held_from, Due, Whole, Last, due, due_number, room_after, room_ended, room_begun, nothing_due, full, settled_by, settle, sent_now, live_now, is_number, small_parts, direct_written, live_is}
 

@@ -9,3 +9,4 @@ pub mod FillingLaws
 pub mod KeepingLaws
 pub mod PartLaws
 pub mod StreamLaws
+mod Common

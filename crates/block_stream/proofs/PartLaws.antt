@@ -1,14 +1,8 @@
 -- Laws of numbered parts and of their completion. Contracts cite none of them.
 use Rattle.std.specs.Prelude.{◌≡◌, ℕ, suc, ◌+◌, ◌-◌, ◌<◌, ◌≤◌, ◌&&◌, Bool, true, false, nat_le, nat_eq, cond, List, [], ◌∷◌, ◌++◌, length, map, take, Option, Some, Ok, Err}
-use Rattle.std.proofs.Common.{refl, sym, ap, subst, ◌∙◌, arith}
-use Rattle.machine.specs.Prelude.{list_all, flat_map, concat, nat_cmp, Ordering, eq_by_cmp_equiv, nat_cmp_total, Parts, Spelled, joined, NamedPart, named_from}
-use Rattle.proof_base.proofs.Common.{map-append, nat_tests}
+use Rattle.block_stream.proofs.Common.{AreBlocks, AreLong, NamedPart, Ordering, Parts, Spelled, ap, arith, at_most_so, below_so, concat, eq_by_cmp_equiv, flat_map, joined, list_all, map-append, named_from, nat_cmp, nat_cmp_total, nat_tests, numbered, numbered_from, one_longer, plain_tag, refl, subst, sym, ◌∙◌}
 use Rattle.retries.specs.Prelude.{FinMap, get-insert, eq_by_cmp, IsTotalOrder, text_equiv, Upload, rises_from, rises, is_sent, has_tag, tag_eq, is_large, bytes_of, is_none_named}
 use Rattle.std.specs.FinMap as fin
-use Rattle.proof_base.proofs.Numbers.{below_so, at_most_so}
-use Rattle.proof_base.proofs.Lists.{one_longer}
-use Rattle.s3_types.specs.Tags.{plain_tag}
-use Rattle.block_stream.specs.Holds.{numbered_from, numbered, AreLong, AreBlocks}
 
 -- what was put stands
 pub get_same : {K X : Type 0} {R : K → K → Ordering} (o : IsTotalOrder R) (m : FinMap R X) (k : K) (v : X) → fin.get (fin.insert m k v) k ≡ Some v

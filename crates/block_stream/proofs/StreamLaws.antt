@@ -1,12 +1,6 @@
 -- The laws of a stream as a machine. Contracts cite none of them; the machine names `stream_laws` as what holds of it.
 use Rattle.std.specs.Prelude.{◌≡◌, Bool, true, false, cond, Some}
-use Rattle.std.proofs.Common.{refl, sym, ap, ◌∙◌, arith}
-use Rattle.machine.specs.Prelude.{Reply, Stored, Upload, Part, Completed, Refused, Refusal, Fine, Laws}
-use Rattle.block_stream.specs.declared.mode.StreamEnd.TheVariants.{Done, Gone}
-use Rattle.block_stream.specs.declared.stage.Stage.{Stage}
-use Rattle.block_stream.specs.declared.stage.Stage.TheVariants.{Putting, Beginning, Sending, Completing}
-use Rattle.block_stream.specs.Stream.{Stream, stage, wanted, parted, refused, told, moved, answers, Fits, left, standing, standing_of, is_no_upload}
-use Rattle.block_stream.specs.Holds.{IsReady}
+use Rattle.block_stream.proofs.Common.{Beginning, Completed, Completing, Done, Fine, Fits, Gone, IsReady, Laws, Part, Putting, Refusal, Refused, Reply, Sending, Stage, Stored, Stream, Upload, answers, ap, arith, is_no_upload, left, moved, parted, refl, refused, stage, standing, standing_of, sym, told, wanted, ◌∙◌}
 use Rattle.block_stream.proofs.FillingLaws.{settled_by}
 use Rattle.block_stream.proofs.KeepingLaws.{hidden, took, lost, gave_up, fit, falls, some_left, asks_alive}
 

@@ -1,16 +1,7 @@
 -- What a write and the close keep.
 use Rattle.std.specs.Prelude.{◌≡◌, ◌+◌, ◌*◌, ◌≤◌, ◌&&◌, ℕ, Bool, true, false, nat_lt, cond, List, [], ◌++◌, length, take, Option, Some, None, Result, Ok, Err, OnOk, IsSome, is_some}
-use Rattle.std.proofs.Common.{refl, sym, ap, subst, ◌∙◌, arith, true≢false}
-use Rattle.proof_base.proofs.Common.{and_right, take-append-le, nat_tests}
-use Rattle.machine.specs.Prelude.{Scene, BucketContent, Spelled, Request}
+use Rattle.block_stream.proofs.Common.{Beginning, BucketContent, Completing, Done, Holds, Over, Putting, Request, Scene, Sending, Spelled, Stage, Stream, StreamMode, Waiting, added, and_right, ap, arith, asks, asks_with, begin_or_wait, close, closed_by, complete_or_wait, ended, fresh, has_part, id_of, is_direct, is_small, nat_tests, refl, seen, shut, stage, stage_of, subst, sym, take-append-le, true≢false, wanted, wrote, ◌∙◌}
 use Rattle.std.specs.FinMap as fin
-use Rattle.block_stream.specs.declared.mode.StreamMode.{StreamMode}
-use Rattle.block_stream.specs.declared.mode.StreamEnd.TheVariants.{Done}
-use Rattle.block_stream.specs.declared.stage.Stage.{Stage}
-use Rattle.block_stream.specs.declared.stage.Stage.TheVariants.{Waiting, Putting, Beginning, Sending, Completing, Over}
-use Rattle.block_stream.specs.Stream.{Stream, fresh, is_direct, has_part, is_small, ended, begin_or_wait, complete_or_wait, stage_of, stage, asks_with, id_of, asks, wanted, added, wrote, shut, closed_by, close}
-use Rattle.block_stream.specs.Holds.{Holds}
-use Rattle.block_stream.specs.Kept.{seen}
 use Rattle.block_stream.proofs.FillingLaws.{AtStage, at_stage, small_parts}
 use Rattle.block_stream.proofs.KeepingLaws.{asks_alive, unsettled}
 use Rattle.block_stream.proofs.Grown.{open_due, is_due, longer, holds_wrote, holds_close}

@@ -1,11 +1,10 @@
 -- Codes, by which proofs tell streams apart; each stands with the law that it is read back.
-use Rattle.std.specs.Prelude.{◌≡◌, ℕ, Bool, true, false, List, Option, refl}
-use Rattle.s3_types.specs.Prelude.{Coded, code_by, coded×, coded_ℕ, coded_list, coded_option, coded_bool, coded_text}
-use Rattle.machine.specs.Prelude.{Spelled}
+use Rattle.std.specs.Prelude.{Bool, List, Option, false, refl, true, ℕ, ◌≡◌}
+use Rattle.s3_types.specs.Prelude.{Coded, Spelled, code_by, coded_bool, coded_list, coded_option, coded_text, coded_ℕ, coded×}
 use Rattle.block_stream.specs.declared.mode.StreamMode.{StreamMode}
-use Rattle.block_stream.specs.declared.mode.StreamMode.TheVariants.{Direct, Delayed}
+use Rattle.block_stream.specs.declared.mode.StreamMode.TheVariants.{Delayed, Direct}
 use Rattle.block_stream.specs.declared.mode.StreamEnd.{StreamEnd}
-use Rattle.block_stream.specs.declared.mode.StreamEnd.TheVariants.{Done, Gone, StoreFault, NoMemory}
+use Rattle.block_stream.specs.declared.mode.StreamEnd.TheVariants.{Done, Gone, NoMemory, StoreFault}
 use Rattle.block_stream.specs.Stream.{Stream}
 
 -- a stream's mode as a bit

@@ -1,12 +1,8 @@
 -- What requests on the objects of one bucket do.
 use Rattle.std.specs.Prelude.{◌≡◌, ℕ, Bool, true, false, nat_lt, cond, List, [], ◌∷◌, Option, Some, None, length}
-use Rattle.std.proofs.Common.{refl, sym, ap, ◌∙◌, ◌⊎◌, inl, inr}
-use Rattle.proof_base.proofs.Common.{exact_bytes}
+use Rattle.bucket_ops.proofs.Common.{Ask, BucketContent, Buckets, Copy, Drop, DropAll, Head, Object, Objects, Put, Repeats, Request, Scene, answer, answer_at, ap, apply, apply_at, copied, copy_answer, edited, exact_bytes, inl, inr, insert_same, objects_at, refl, reply_at, reply_in, request_of, same_or_other, sym, text_cmp, text_gone, text_here, text_left, text_other, text_total, with_objects, with_objects_if, without, ◌∙◌, ◌⊎◌}
 use Rattle.s3_types.specs.Prelude.{same_map}
-use Rattle.bucket_ops.specs.Prelude.{text_cmp, text_total, Objects, BucketContent, Buckets, Scene, answer, apply, answer_at, apply_at, copy_answer, copied, without, Object, Request, Ask, Head, Put, Drop, DropAll, Copy, request_of, reply_in, edited, reply_at, objects_at, with_objects_if, with_objects, Repeats}
 use Rattle.std.specs.FinMap as fin
-use Rattle.proof_base.proofs.Tree.{insert_same}
-use Rattle.proof_base.proofs.Members.{same_or_other, text_here, text_other, text_gone, text_left}
 use Rattle.bucket_ops.specs.Asks.{objects_of}
 
 -- ---- finite maps

@@ -1,9 +1,6 @@
 -- Keys are deleted batch by batch.
-use Rattle.std.proofs.Common.{◌≡◌, ℕ, nat_lt, Bool, true, false, cond, List, [], ◌∷◌, ◌++◌, take, drop, length, refl, sym, ap, subst, ◌∙◌, arith, append_assoc}
-use Rattle.proof_base.proofs.Common.{append-nil, take-append-drop, length-take}
-use Rattle.bucket_ops.specs.Prelude.{Objects, without, deleting, DropAll, edited, IsDeleting, IsDeleted}
+use Rattle.bucket_ops.proofs.Common.{Bool, DropAll, IsDeleted, IsDeleting, List, Objects, [], ap, append-nil, append_assoc, arith, below_is, cond, deleting, drop, edited, false, length, length-take, nat_lt, refl, subst, sym, take, take-append-drop, true, without, ℕ, ◌++◌, ◌∙◌, ◌∷◌, ◌≡◌}
 use Rattle.std.specs.FinMap as fin
-use Rattle.proof_base.proofs.Numbers.{below_is}
 
 without_append : (m : Objects) (ks qs : List (List ℕ)) → without m (ks ++ qs) ≡ without (without m ks) qs
 without_append m [] qs = refl

@@ -1,9 +1,6 @@
 -- The keys below a prefix, and objects without some keys.
-use Rattle.std.proofs.Common.{◌≡◌, ◌⊎◌, ℕ, true, false, List, [], ◌∷◌, length, Some, None, refl, sym, subst, ◌∙◌, inl, inr, arith}
-use Rattle.proof_base.proofs.Common.{false≢true, take_all}
-use Rattle.bucket_ops.specs.Prelude.{Objects, without, begins, listed, Object, IsIn, keys_on, keys_below}
+use Rattle.bucket_ops.proofs.Common.{IsIn, List, None, Object, Objects, Some, [], arith, begins, false, false≢true, inl, inr, keys_below, keys_on, length, listed, refl, same_or_other, subst, sym, take_all, text_gone, text_left, true, without, ℕ, ◌∙◌, ◌∷◌, ◌≡◌, ◌⊎◌}
 use Rattle.std.specs.FinMap as fin
-use Rattle.proof_base.proofs.Members.{same_or_other, text_gone, text_left}
 use Rattle.store_frame.proofs.Flat.{listed_all, page_begins}
 use Rattle.bucket_ops.proofs.AskLaws.{gone_still}
 

@@ -6,3 +6,4 @@ pub mod Walks
 pub mod Batches
 pub mod Sweeps
 pub mod UploadLaws
+mod Common

@@ -1,10 +1,8 @@
 -- An operation on the objects of one bucket is an operation.
 use Rattle.std.specs.Prelude.{◌≡◌, ℕ, ◌<◌, List, Option, Some, None}
-use Rattle.std.proofs.Common.{refl, sym, ap, subst, ◌∙◌}
-use Rattle.bucket_ops.specs.Prelude.{Objects, Scene, answer, apply, Reply, Step, Next, End, Ask, request_of, reply_in, edited, reply_at, objects_at, with_objects, Goes, Falls, IsPlan, MaySend, reached, IsPhases, MayAsk, InScene, SendsAt, SendsIn}
+use Rattle.bucket_ops.proofs.Common.{Ask, End, Falls, Goes, InScene, IsPhases, IsPlan, MayAsk, MaySend, Next, Objects, Reply, Scene, SendsAt, SendsIn, Step, answer, ap, apply, edited, objects_at, reached, refl, reply_at, reply_in, request_of, sends_of, subst, sym, with_objects, ◌∙◌}
 use Rattle.bucket_ops.specs.declared.bucket.InBucket.{InBucket}
 use Rattle.bucket_ops.proofs.AskLaws.{answered, applied_none, applied_some, with_same, objects_with, with_with, repeats}
-use Rattle.operations.proofs.PlanLaws.{sends_of}
 use Rattle.bucket_ops.specs.Phases.{request, stepped, led, Holds, Gives, Always, Sends, left_at, left_in, Starts}
 
 in_scene : (x : Option Objects) (z s : Scene) (b : List ℕ) (H G : Objects → Objects → Type 0) (N : Type 0) → ((m n : Objects) → H m n → G m n) → InScene x H N z b s → InScene x G (Unit {0}) z b s

@@ -1,12 +1,6 @@
 -- A sweep lists all keys and deletes them, and ends.
-use Rattle.std.proofs.Common.{◌≡◌, ℕ, ◌+◌, ◌*◌, ◌<◌, suc, nat_lt, Bool, true, false, cond, List, [], ◌∷◌, map, take, drop, length, refl, sym, ap, subst, ◌∙◌, arith, length-drop}
-use Rattle.proof_base.proofs.Common.{false≢true}
-use Rattle.bucket_ops.specs.Prelude.{filter, Objects, Reply, Deleted, Refused, TooManyKeys, listed, PageEntry, keys_on, last_of, Walked, More, Whole, walked_entries, Listing, Deleting, sweep_start, sweep_hears, deleting, all_go, DropAll, reply_in, edited, fits, keys_below, walk_asks, IsWalking, IsWalked, LessWalked, sweep_asks, IsDeleted, IsSweeping, IsSwept, sweep_left, LessLeft}
-use Rattle.proof_base.proofs.Tree.{filter_all}
+use Rattle.bucket_ops.proofs.Common.{Bool, Deleted, Deleting, DropAll, FitsSweep, IsDeleted, IsSweeping, IsSwept, IsWalked, IsWalking, LessLeft, LessWalked, List, Listing, More, Objects, PageEntry, Refused, Reply, Sweep, TooManyKeys, Walked, Whole, [], all_go, ap, arith, cond, deleting, drop, edited, false, false≢true, filter, filter_all, fits, keys_below, keys_on, last_of, length, length-drop, listed, map, nat_lt, on_keys, refl, reply_in, subst, suc, sweep_asks, sweep_hears, sweep_left, sweep_start, swept, sym, take, true, walk_asks, walked_entries, walked_keys, ℕ, ◌*◌, ◌+◌, ◌<◌, ◌∙◌, ◌∷◌, ◌≡◌}
 use Rattle.s3_types.specs.declared.reply.PageEntry.TheVariants.{Object as Single}
-use Rattle.list_walk.specs.Walks.{Sweep, swept}
-use Rattle.list_walk.specs.Fitting.{FitsSweep}
-use Rattle.list_walk.proofs.Keys.{on_keys, walked_keys}
 use Rattle.bucket_ops.proofs.Walks.{fits_decides, page_fits, walk_goes, walk_falls}
 use Rattle.bucket_ops.proofs.Batches.{within, deleting_all, batch_goes}
 

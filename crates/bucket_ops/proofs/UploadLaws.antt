@@ -1,14 +1,9 @@
 -- The walk over live uploads is an operation whose requests may all be made again.
 use Rattle.std.specs.Prelude.{◌≡◌, nat_lt, Bool, true, false, List, [], ◌++◌, take, drop, length, Option, Some, None, option_map}
-use Rattle.std.proofs.Common.{refl, sym, ap, subst, ◌∙◌, arith, append_assoc, length-drop}
-use Rattle.proof_base.proofs.Common.{take-append-drop, take_all}
-use Rattle.bucket_ops.specs.Prelude.{Scene, BucketContent, answer, answer_at, apply, UploadRef, Goes, Falls, MaySend, walked_by, uploads_from, Repeats, IsPlan, reached}
+use Rattle.bucket_ops.proofs.Common.{BucketContent, Falls, Goes, IsPlan, MaySend, Repeats, Scene, UploadRef, answer, answer_at, ap, append_assoc, apply, arith, below_is, below_not, last_ref, length-drop, reached, refl, sends_of, subst, sym, take-append-drop, take_all, uploads_from, walked_by, ◌∙◌}
 use Rattle.std.specs.FinMap as fin
-use Rattle.proof_base.proofs.Numbers.{below_is, below_not}
 use Rattle.s3_types.specs.Multipart.{listed}
 use Rattle.store_frame.proofs.Reading.{reads_nothing}
-use Rattle.operations.proofs.PlanLaws.{sends_of}
-use Rattle.list_walk.specs.Walks.{last_ref}
 use Rattle.list_walk.proofs.Uploads.{behind_uploads, refs_append}
 use Rattle.bucket_ops.specs.declared.uploads.UploadsBelow.{UploadsBelow}
 use Rattle.bucket_ops.specs.Uploads.{asks, led, goes, Begins, IsListing, Gives, IsSame, Pages, size, left}

@@ -1,12 +1,7 @@
 -- A walk goes on by pages, and ends.
-use Rattle.std.proofs.Common.{◌≡◌, ℕ, ◌+◌, ◌*◌, nat_lt, Bool, true, false, List, [], ◌++◌, take, drop, length, Decides, refl, sym, ap, ◌∙◌, arith, append_assoc, length-append, length-drop}
-use Rattle.proof_base.proofs.Common.{true≢false, take-append-drop, take_all, length-take}
-use Rattle.bucket_ops.specs.Prelude.{Objects, page, listed, Reply, Refused, Refusal, PageEntry, keys_on, last_of, walked_by, walked_entries, reply_in, fits, walk_asks, IsWalking, IsWalked, walk_left, LessWalked, NoSuchBucket}
+use Rattle.bucket_ops.proofs.Common.{Bool, Decides, FitsPage, IsWalked, IsWalking, LessWalked, List, NoSuchBucket, Objects, PageEntry, Refusal, Refused, Reply, [], ap, append_assoc, arith, below_is, below_not, drop, false, fits, keys_joined, keys_on, last_of, length, length-append, length-drop, length-take, listed, nat_lt, page, page_keys, refl, reply_in, sym, take, take-append-drop, take_all, true, true≢false, walk_asks, walk_left, walked_by, walked_entries, ℕ, ◌*◌, ◌++◌, ◌+◌, ◌∙◌, ◌≡◌}
 use Rattle.machine.specs.Prelude.{Page}
-use Rattle.proof_base.proofs.Numbers.{below_is, below_not}
-use Rattle.list_walk.specs.Fitting.{FitsPage}
 use Rattle.list_walk.proofs.Fitted.{keys_decide}
-use Rattle.list_walk.proofs.Keys.{keys_joined, page_keys}
 use Rattle.list_walk.proofs.Listing.{last_append, behind_page}
 use Rattle.bucket_ops.specs.Walking.{is_there}
 

@@ -1,10 +1,9 @@
 -- A sweep of all keys below a prefix: what is left of the objects while it lists and deletes in batches (Amazon S3 API: DeleteObjects).
-use Rattle.std.specs.Prelude.{◌≡◌, ℕ, ◌+◌, ◌*◌, ◌<◌, false, List, [], ◌∷◌, ◌++◌, take, length, Option, Some, None}
-use Rattle.s3_types.specs.declared.reply.PageEntry.{PageEntry}
-use Rattle.machine.specs.Prelude.{Objects, without, listed}
-use Rattle.bucket_ops.specs.Asks.{Ask, Page, DropAll}
-use Rattle.list_walk.specs.Walks.{keys_on, last_of, Sweep, Listing, Deleting}
-use Rattle.bucket_ops.specs.Walking.{keys_below, IsWalking}
+use Rattle.std.specs.Prelude.{List, None, Option, Some, [], false, length, take, ℕ, ◌*◌, ◌++◌, ◌+◌, ◌<◌, ◌∷◌, ◌≡◌}
+use Rattle.store_frame.specs.Prelude.{Objects, PageEntry, listed, without}
+use Rattle.bucket_ops.specs.Asks.{Ask, DropAll, Page}
+use Rattle.list_walk.specs.Walks.{Deleting, Listing, Sweep, keys_on, last_of}
+use Rattle.bucket_ops.specs.Walking.{IsWalking, keys_below}
 
 -- what a sweep asks of the bucket
 abbrev pub sweep_asks : List ℕ → Sweep → Ask

@@ -1,13 +1,12 @@
 -- A walk over the live uploads of a bucket below a prefix, as an operation (Amazon S3 API: ListMultipartUploads).
-use Rattle.std.specs.Prelude.{◌≡◌, ℕ, List, [], ◌++◌, length, Option, Some, None, option_map}
-use Rattle.s3_types.specs.declared.request.UploadRef.{UploadRef}
-use Rattle.machine.specs.Prelude.{Scene, Request, Reply, Refused, Refusal, NoSuchBucket}
+use Rattle.std.specs.Prelude.{List, None, Option, Some, [], length, option_map, ℕ, ◌++◌, ◌≡◌}
+use Rattle.store_frame.specs.Prelude.{NoSuchBucket, Refusal, Refused, Reply, Request, Scene, UploadRef}
 use Rattle.operations.specs.declared.plan.Step.{Step}
-use Rattle.operations.specs.declared.plan.Step.TheVariants.{Next, End}
-use Rattle.std.specs.FinMap as fin
+use Rattle.operations.specs.declared.plan.Step.TheVariants.{End, Next}
 use Rattle.s3_types.specs.Multipart.{listed}
-use Rattle.list_walk.specs.Walks.{Walked, More, Whole, last_ref, uploads_after, walked_uploads}
+use Rattle.list_walk.specs.Walks.{More, Walked, Whole, last_ref, uploads_after, walked_uploads}
 use Rattle.bucket_ops.specs.declared.uploads.UploadsBelow.{UploadsBelow}
+use Rattle.std.specs.FinMap as fin
 
 -- the live uploads whose keys begin with a prefix and that come behind one of them, in order, where there is the bucket
 abbrev pub uploads_from : Scene → List ℕ → List ℕ → Option UploadRef → Option (List UploadRef)

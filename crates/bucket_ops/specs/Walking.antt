@@ -1,12 +1,10 @@
 -- A walk over all keys below a prefix, as a part of an operation on a bucket's objects (Amazon S3 API: ListObjectsV2).
-use Rattle.std.specs.Prelude.{◌≡◌, ℕ, ◌+◌, ◌*◌, ◌<◌, Bool, true, false, List, [], ◌++◌, length}
-use Rattle.std.specs.List.{list_all}
-use Rattle.s3_types.specs.declared.reply.PageEntry.{PageEntry}
-use Rattle.machine.specs.Prelude.{Objects, listed, Reply, Refused, Refusal, NoSuchBucket}
+use Rattle.std.specs.Prelude.{Bool, List, [], false, length, true, ℕ, ◌*◌, ◌++◌, ◌+◌, ◌<◌, ◌≡◌}
+use Rattle.store_frame.specs.Prelude.{NoSuchBucket, Objects, PageEntry, Refusal, Refused, Reply, list_all, listed}
 use Rattle.bucket_ops.specs.Asks.{Ask, Page}
-use Rattle.s3_types.specs.declared.reply.Reply.TheVariants.{Page as APage}
-use Rattle.list_walk.specs.Walks.{keys_on, last_of, Walked, More, Whole}
+use Rattle.list_walk.specs.Walks.{More, Walked, Whole, keys_on, last_of}
 use Rattle.list_walk.specs.Fitting.{is_key}
+use Rattle.s3_types.specs.declared.reply.Reply.TheVariants.{Page as APage}
 
 -- the entries of all keys below a prefix, and the keys
 abbrev pub all_below : List ℕ → Objects → List PageEntry

@@ -1,19 +1,12 @@
 -- What a clean has left falls.
-use Rattle.std.proofs.Common.{◌≡◌, ℕ, ◌+◌, ◌<◌, ◌≤◌, Bool, true, false, List, [], ◌∷◌, ◌++◌, length, Option, Some, None, refl, sym, ap, subst, arith}
-use Rattle.std.specs.Prelude.{codes, IfSome}
-use Rattle.job_protocol.specs.Prelude.{filter, Scene, answer, apply, begins, Committer, Magic, Directory, Partitioned, Request, AbortUpload, ClusterDelete, UploadRef, Job, job_script, Walked, More, Whole, sweep_start, sweep_asks, sweep_hears, all_go, uploads_after, walked_uploads, Clean, Walking, Aborting, Naming, Removing, CleanOver, clean_asks, clean_hears, aborted, aborting, walking, sweeping, removing, uploads_left, left_of, adds_key, one_if}
+use Rattle.cleanup.proofs.Common.{AbortUpload, Aborting, Bool, Clean, CleanOver, CleansEnd, ClusterDelete, Committer, Directory, IfSome, Job, List, Magic, More, Naming, None, Option, Partitioned, Removing, Request, Scene, Some, UploadRef, Walked, Walking, Whole, [], aborted, aborting, adds_key, all_go, answer, ap, apply, arith, begins, clean_asks, clean_hears, codes, false, filter, growth, job_script, left_of, length, one_if, one_most, refl, removing, sets_upload, subst, sweep_asks, sweep_hears, sweep_laws, sweep_start, sweeping, sym, true, upload_laws, uploads_after, uploads_left, walked_uploads, walking, ℕ, ◌++◌, ◌+◌, ◌<◌, ◌∷◌, ◌≡◌, ◌≤◌}
 use Rattle.std.specs.FinMap as fin
 use Rattle.magic_paths.specs.Layout as layout
 use Rattle.job_protocol.specs.Cleanups.{Sweeping}
-use Rattle.list_walk.specs.Left.{sets_upload}
 use Rattle.list_walk.specs.Laws.{LessUploads}
-use Rattle.list_walk.proofs.Growing.{growth}
-use Rattle.list_walk.proofs.Falling.{sweep_laws, upload_laws}
 use Rattle.cleanup.specs.Fits.{FitsClean}
 use Rattle.cleanup.specs.Left.{after_left, left_at}
-use Rattle.cleanup.specs.Laws.{CleansEnd}
 use Rattle.std.proofs.lemmas.Option.{same_Some}
-use Rattle.list_walk.proofs.Counting.{one_most}
 
 -- what holds of a request that is asked
 pub of_some : (P : Request → Type 0) (o : Option Request) (r : Request) → o ≡ Some r → IfSome o P → P r

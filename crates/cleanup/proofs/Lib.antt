@@ -3,3 +3,4 @@ pub mod Places
 pub mod Pages
 pub mod SparingPlaces
 pub mod SparingFalls
+mod Common

@@ -1,12 +1,9 @@
 -- A page moves keys from those that are to come to those that are known.
-use Rattle.std.proofs.Common.{◌≡◌, ℕ, ◌+◌, ◌-◌, ◌<◌, ◌≤◌, Bool, true, false, List, ◌++◌, length, nat_lt, take, Option, Some, None, refl, ap, ◌∙◌, arith, length-append, length-drop}
+use Rattle.cleanup.proofs.Common.{Bool, BucketContent, FitsPage, List, More, None, Option, PageEntry, Scene, Some, Walked, Whole, answer, answer_at, ap, arith, count_in, false, keys_left, keys_on, last_of, length, length-append, length-drop, listed, nat_lt, page_after, refl, take, true, walked, walked_by, ℕ, ◌++◌, ◌+◌, ◌-◌, ◌<◌, ◌∙◌, ◌≡◌, ◌≤◌}
 use Rattle.proof_base.proofs.Common.{length-map, length-take}
-use Rattle.job_protocol.specs.Prelude.{Scene, BucketContent, answer, answer_at, listed, PageEntry, Walked, More, Whole, walked_by, keys_on, last_of, page_after, keys_left, FitsPage}
 use Rattle.std.specs.FinMap as fin
 use Rattle.proof_base.proofs.Numbers.{below_is}
 use Rattle.s3_types.specs.Pages.{text_in}
-use Rattle.list_walk.specs.Walks.{walked}
-use Rattle.list_walk.specs.Left.{count_in}
 use Rattle.list_walk.proofs.Listing.{last_from, last_append, behind_page}
 
 -- no more keys are known and to come than these, and of those to come fewer, where more pages are

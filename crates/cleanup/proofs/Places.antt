@@ -1,8 +1,6 @@
 -- Places among uploads and paths.
-use Rattle.std.proofs.Common.{◌≡◌, ℕ, ◌+◌, ◌-◌, ◌<◌, nat_lt, true, false, cond, List, [], ◌∷◌, length, drop, Option, Some, None, refl, sym, ap, ◌∙◌, arith, length-drop}
-use Rattle.job_protocol.specs.Prelude.{Committer, Magic, UploadRef, Reply, Script, CleanEnd, Sweep, sweep_start, Clean, clean_asks, clean_hears, clean_over, aborted, aborting, removing}
+use Rattle.cleanup.proofs.Common.{Clean, CleanEnd, Committer, List, Magic, None, Option, Reply, Script, Some, Sweep, UploadRef, [], abort_asks, aborted, aborting, ap, arith, behind, clean_asks, clean_hears, clean_over, cond, drop, false, length, length-drop, nat_lt, refl, remove_asks, removing, sweep_start, sym, true, ℕ, ◌+◌, ◌-◌, ◌<◌, ◌∙◌, ◌∷◌, ◌≡◌}
 use Rattle.path_keys.proofs.Common.{drop-drop, drop_all, below_is, below_not}
-use Rattle.cleanup.specs.Places.{behind, abort_asks, remove_asks}
 use Rattle.cleanup.specs.Held.{clean_at, within, abort_stage, stage_after, aborting_from}
 use Rattle.cleanup.specs.declared.held.Stage.{Stage}
 use Rattle.cleanup.specs.declared.held.Stage.TheVariants as stages

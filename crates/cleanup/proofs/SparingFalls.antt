@@ -1,24 +1,15 @@
 -- What a sparing clean has left falls.
-use Rattle.std.proofs.Common.{◌≡◌, ℕ, ◌+◌, ◌-◌, ◌<◌, ◌≤◌, not, List, [], ◌∷◌, ◌++◌, length, take, drop, Option, Some, None, Ok, Err, refl, sym, ap, subst, arith, length-append, length-drop}
-use Rattle.job_protocol.specs.Prelude.{filter, Scene, BucketContent, answer, answer_at, apply, begins, Committer, Magic, Request, AbortUpload, ClusterDelete, DeleteObjects, GetObject, UploadRef, Job, Script, job_script, Walked, More, Whole, last_of, page_after, keys_left, adds_key}
-use Rattle.std.specs.Prelude.{IfSome}
+use Rattle.cleanup.proofs.Common.{AbortUpload, BucketContent, ClusterDelete, Committer, DeleteObjects, Err, GetObject, IfSome, Job, List, Magic, More, None, Ok, Option, Request, Scene, Script, Some, SparingsEnd, UploadRef, Walked, Whole, [], adds_key, answer, answer_at, ap, apply, arith, begins, drop, files_left, filter, growth, is_record, job_script, keys_left, last_of, length, length-append, length-drop, not, one_most, page_after, refl, subst, sym, take, walk_laws, walked, ℕ, ◌++◌, ◌+◌, ◌-◌, ◌<◌, ◌∷◌, ◌≡◌, ◌≤◌}
 use Rattle.std.specs.FinMap as fin
 use Rattle.std.proofs.lemmas.List.Filters.{length-filter_both}
 use Rattle.pending_json.specs.Reading as reading
 use Rattle.s3_types.specs.Answer.{found, read_answer}
 use Rattle.magic_paths.specs.Layout as layout
-use Rattle.magic_paths.specs.Places.{is_record}
-use Rattle.list_walk.specs.Walks.{walked}
-use Rattle.list_walk.specs.Left.{files_left}
-use Rattle.list_walk.proofs.Growing.{growth}
-use Rattle.list_walk.proofs.Falling.{walk_laws}
 use Rattle.job_protocol.specs.Sparing.{Sparing, Walking, Naming, Reading, Aborting, Deleting, Removing, SparingOver, record_request, record_names, names, sparing_asks, sparing_hears, deleting, removing, emptying, aborting, reading_on, walking}
 use Rattle.cleanup.specs.SparingFits.{most_commits, NamesFew, FitsSparing}
 use Rattle.cleanup.specs.SparingLeft.{named_most, reading_left, listing_left, walking_left, sparing_left_at}
-use Rattle.cleanup.specs.Laws.{SparingsEnd}
 use Rattle.cleanup.proofs.Falling.{of_some}
 use Rattle.cleanup.proofs.Pages.{Moved, page_moves}
-use Rattle.list_walk.proofs.Counting.{one_most}
 
 -- ---- the numbers alone
 

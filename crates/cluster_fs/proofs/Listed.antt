@@ -1,12 +1,9 @@
 -- The paths that begin with a text stand in a row.
-use Rattle.std.proofs.Common.{◌≡◌, ℕ, Bool, true, false, ◌&&◌, not, cond, List, [], ◌∷◌, ◌++◌, refl, sym, ap, ◌∙◌, subst}
-use Rattle.proof_base.proofs.Common.{false≢true, not-true, sorted_head, sorted_tail}
-use Rattle.s3_types.specs.Prelude.{filter, keys_of, entries_between, is_lt, is_le, Included, Unbounded, text_cmp, text_total, begins}
+use Rattle.cluster_fs.proofs.Common.{Bool, Follows, Included, List, Unbounded, [], ap, begins, cond, entries_between, false, false≢true, filter, is_le, is_lt, keys_of, not, not-true, refl, sorted_head, sorted_tail, subst, sym, text_cmp, text_total, true, ℕ, ◌&&◌, ◌++◌, ◌∙◌, ◌∷◌, ◌≡◌}
 use Rattle.std.specs.List.Sorted.{IsStrictlySortedBy}
 use Rattle.proof_base.proofs.Bools.{contrary}
 use Rattle.proof_base.proofs.Less.{lt, le_not, le_le, lt_not}
 use Rattle.s3_types.proofs.Begins.{between, from_prefix}
-use Rattle.cluster_fs.specs.Cluster.{Follows}
 use Rattle.std.proofs.Math.Bool.{and-true}
 
 none_after : (p k : List ℕ) (ks : List (List ℕ)) → lt text_cmp k p ≡ false → begins p k ≡ false → Follows k ks → filter (begins p) ks ≡ []

@@ -1,8 +1,5 @@
 -- A file that is put at the target and then taken from the source.
-use Rattle.std.proofs.Common.{◌≡◌, ℕ, Bool, true, false, cond, List, Option, Some, None, refl, sym, ap, ◌∙◌}
-use Rattle.s3_types.specs.Prelude.{FinMap, insert, remove, get, get-insert, get-remove, same_map, eq_by_cmp, text_cmp, text_eq, text_total, text_ties, Files}
-use Rattle.proof_base.proofs.Common.{false≢true, exact_bytes}
-use Rattle.proof_base.proofs.Tree.{tied}
+use Rattle.cluster_fs.proofs.Common.{Bool, Files, FinMap, List, None, Option, Some, ap, cond, eq_by_cmp, exact_bytes, false, false≢true, get, get-insert, get-remove, insert, refl, remove, same_map, sym, text_cmp, text_eq, text_ties, text_total, tied, true, ℕ, ◌∙◌, ◌≡◌}
 
 -- whether two paths are one
 abbrev is_at : List ℕ → List ℕ → Bool

@@ -1,19 +1,18 @@
 -- a commit ends by its own entries
-use Rattle.std.proofs.Common.{◌≡◌, ℕ, ◌+◌, ◌<◌, ◌≤◌, ◌⊎◌, inl, inr, nat_lt, refl, ap, sym, subst, ◌∙◌, Bool, true, false, cond, arith, List, [], ◌∷◌, ◌++◌, map, length, slice_get, Option, Some, None, append_assoc, append-nil, length-append}
+use Rattle.std.proofs.Common.{Bool, List, None, Option, Some, [], ap, append-nil, append_assoc, arith, cond, false, inl, inr, length, length-append, map, nat_lt, refl, slice_get, subst, sym, true, ℕ, ◌++◌, ◌+◌, ◌<◌, ◌∙◌, ◌∷◌, ◌≡◌, ◌≤◌, ◌⊎◌}
 use Rattle.path_keys.proofs.Common.{below_is, below_not, slice_get_within}
-use Rattle.job_protocol.specs.Prelude.{Committer, Request, GetObject, ClusterGet, Reply, Outcome, Answered, Slow, Entry, Pending, PendingSet, run, Follows, WornFirst, Script, Job, CommitEnd, same_path, Sweep, sweep_asks, Turn, again, chosen, undo, in_turn, abort, deletion, revert, is_tried, is_unsent, Sets, picks_of, all_commits, set_read, set_request, Commit, Fetching, Replacing, Completing, Marking, Reverting, CommitOver, completing, replacing, decided, fetching, fetched, reverting, worn_completion, commit_asks, commit_hears, commit_misses, commit_tells, commit_over, RequestsApart, Sound, AllSound, EndIs, Committing, read_script, sets_in, sets_after, with_set, with_pick, picked_after, commit_wants, commit_told}
+use Rattle.job_protocol.specs.Prelude.{AllSound, Answered, ClusterGet, Commit, CommitEnd, CommitOver, Committer, Committing, Completing, EndIs, Entry, Fetching, Follows, GetObject, Job, Marking, Outcome, Pending, PendingSet, Replacing, Reply, Request, RequestsApart, Reverting, Script, Sets, Slow, Sound, Sweep, Turn, WornFirst, abort, again, all_commits, chosen, commit_asks, commit_hears, commit_misses, commit_over, commit_tells, commit_told, commit_wants, completing, decided, deletion, fetched, fetching, in_turn, is_tried, is_unsent, picked_after, picks_of, read_script, replacing, revert, reverting, run, same_path, set_read, set_request, sets_after, sets_in, sweep_asks, undo, with_pick, with_set, worn_completion}
 use Rattle.retries.proofs.First.{none_sent}
-use Rattle.job_model.specs.declared.ends.CommitEnd.TheVariants as ends
-use Rattle.job_model.specs.declared.ends.Stage.TheVariants as stages
-use Rattle.job_protocol.proofs.Members.{some_is, none_some}
+use Rattle.job_protocol.proofs.Members.{none_some, some_is}
 use Rattle.job_protocol.proofs.LaneEnds.{ends_by_worn}
 use Rattle.commit_parts.specs.Tables.{listed}
-use Rattle.commit_parts.specs.ReadSets.{IsSetOf}
-use Rattle.commit_laws.specs.Fitting.{SpellsSet, FitsCommit}
-use Rattle.commit_parts.specs.ReadSets.{AreRead}
-use Rattle.commit_laws.specs.Laws.{start, AllFit, set_heard, sets_heard, due}
+use Rattle.commit_parts.specs.ReadSets.{AreRead, IsSetOf}
+use Rattle.commit_laws.specs.Fitting.{FitsCommit, SpellsSet}
+use Rattle.commit_laws.specs.Laws.{AllFit, due, set_heard, sets_heard, start}
 use Rattle.commit_parts.proofs.KeysApart.{sets_apart}
 use Rattle.proof_base.proofs.Lists.{get_before}
+use Rattle.job_model.specs.declared.ends.CommitEnd.TheVariants as ends
+use Rattle.job_model.specs.declared.ends.Stage.TheVariants as stages
 
 less_or_same : (a b : ℕ) → a < b + 1 → (a < b) ⊎ (a ≡ b)
 less_or_same a b h = grind arith

@@ -1,11 +1,7 @@
 -- what follows a key and a `/`
-use Rattle.std.proofs.Common.{◌≡◌, ℕ, ◌<◌, nat_eq, refl, ap, sym, subst, ◌∙◌, Bool, true, false, cond, arith, List, [], ◌∷◌, ◌++◌, length, take, drop, Option, Some, None, append_assoc}
+use Rattle.commit_parts.proofs.Common.{Bool, Bor, FindsTextPrefix, List, None, Option, Some, [], ap, append_assoc, arith, bytes_decides, cond, drop, drop-append_seam, false, front_cancels, length, nat_eq, refl, relative_in, starts_with, subst, sym, take, take-append-drop, take-append_seam, true, ℕ, ◌++◌, ◌<◌, ◌∙◌, ◌∷◌, ◌≡◌}
 use Rattle.std.specs.Prelude.{MatchOption, option_map}
-use Rattle.std.proofs.Common.{Bor}
 use Rattle.s3_types.specs.Prelude.{StripsPrefix}
-use Rattle.job_protocol.specs.Prelude.{FindsTextPrefix, starts_with, bytes_decides, relative_in}
-use Rattle.path_keys.proofs.Common.{take-append-drop, take-append_seam, drop-append_seam}
-use Rattle.proof_base.proofs.Lists.{front_cancels}
 
 cut_yes : (pre rest : List ℕ) → cond (starts_with nat_eq (pre ++ rest) pre) (Some (drop (length pre) (pre ++ rest))) None ≡ Some rest
 cut_yes pre rest =

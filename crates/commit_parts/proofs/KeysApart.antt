@@ -1,15 +1,8 @@
 -- uploads of picks that write absent path twice are of different keys
-use Rattle.std.proofs.Common.{◌≡◌, ℕ, zero, suc, ◌+◌, ◌-◌, ◌<◌, ◌≤◌, inl, inr, refl, ap, sym, subst, ◌∙◌, arith, List, [], ◌∷◌, ◌++◌, map, length, slice_get, Some, None, length-append}
-use Rattle.job_protocol.specs.Prelude.{Pending, PendingSet, Job, nth, same_path, Sets, picks_of, all_commits, In, RequestsApart, read_script}
-use Rattle.job_protocol.proofs.Members.{in_left, in_right, map_in, in_append}
+use Rattle.commit_parts.proofs.Common.{AreRead, In, Item, Job, List, NoClash, None, Pending, PendingSet, RequestsApart, Sets, Some, [], all_commits, ap, arith, cases_lt, in_append, in_left, in_right, inl, inr, items_from, length, length-append, map, map_in, nth, picks_of, read_script, refl, relative_of, same_path, shared_none, slice_get, subst, suc, sym, zero, ℕ, ◌++◌, ◌+◌, ◌-◌, ◌<◌, ◌∙◌, ◌∷◌, ◌≡◌, ◌≤◌}
 use Rattle.job_protocol.proofs.LaneEnds.{requests_apart}
-use Rattle.job_protocol.proofs.Shared.{shared_none}
-use Rattle.commit_parts.specs.ReadSets.{AreRead}
-use Rattle.commit_parts.specs.Clashes.{Item, items_from, NoClash}
-use Rattle.commit_parts.specs.Relatives.{relative_of}
 use Rattle.commit_parts.proofs.Placing.{nth_get, nth_left, nth_right}
 use Rattle.commit_parts.proofs.SamePaths.{item_writes}
-use Rattle.std.proofs.lemmas.Bool.{cases_lt}
 
 -- two uploads of a set are of two keys
 abbrev SetsApart : Sets → Type 0

@@ -7,3 +7,4 @@ mod Behind
 mod Trying
 pub mod KeysApart
 mod Numbers
+mod Common

@@ -1,8 +1,5 @@
 -- a set of numbers that grows
-use Rattle.std.proofs.Common.{◌≡◌, ℕ, suc, ◌<◌, ◌⊎◌, inl, inr, ◌||◌, nat_eq, refl, ap, sym, subst, ◌∙◌, Bool, true, false, cond, arith, List, [], ◌∷◌, length, take, reverse, get_or, ◌+◌}
-use Rattle.proof_base.proofs.Members.{nat_true, nat_false}
-use Rattle.job_protocol.specs.Prelude.{Less, Equal, Greater, nat_cmp, is_eq, is_in}
-use Rattle.path_keys.proofs.Common.{reverse-append, take_more}
+use Rattle.commit_parts.proofs.Common.{Bool, Equal, Greater, Less, List, [], ap, arith, cond, false, get_or, inl, inr, is_eq, is_in, length, nat_cmp, nat_eq, nat_false, nat_true, refl, reverse, reverse-append, subst, suc, sym, take, take_more, true, ℕ, ◌+◌, ◌<◌, ◌||◌, ◌∙◌, ◌∷◌, ◌≡◌, ◌⊎◌}
 use Rattle.std.specs.Cmp.{nat_cmp_is}
 
 pub three : (a b : ℕ) → (a < b) ⊎ ((a ≡ b) ⊎ (b < a))

@@ -1,11 +1,5 @@
 -- the places of uploads
-use Rattle.std.proofs.Common.{◌≡◌, ℕ, zero, suc, ◌+◌, ◌-◌, ◌<◌, ◌≤◌, ◌⊎◌, inl, inr, refl, ap, sym, subst, ◌∙◌, arith, List, [], ◌∷◌, ◌++◌, length, slice_get, get_or, Some, length-append}
-use Rattle.path_keys.proofs.Common.{slice_get_within, get_or_from_slice_get}
-use Rattle.job_protocol.specs.Prelude.{Pending, PendingSet, nth, Sets, all_commits}
-use Rattle.commit_parts.specs.Places.{row, places_from}
-use Rattle.commit_parts.specs.declared.places.Place.{Place}
-use Rattle.std.proofs.lemmas.Bool.{cases_lt}
-use Rattle.proof_base.proofs.Lists.{get_left}
+use Rattle.commit_parts.proofs.Common.{List, Pending, PendingSet, Place, Sets, Some, [], all_commits, ap, arith, cases_lt, get_left, get_or, get_or_from_slice_get, inl, inr, length, length-append, nth, places_from, refl, row, slice_get, slice_get_within, subst, suc, sym, zero, ℕ, ◌++◌, ◌+◌, ◌-◌, ◌<◌, ◌∙◌, ◌∷◌, ◌≡◌, ◌≤◌, ◌⊎◌}
 
 -- where an upload stands
 pub record IsAt (n : ℕ) (sets : Sets) (p : Place) (c : Pending) : Type 0 where

@@ -1,18 +1,11 @@
 -- what the picks of the sets that were read write
-use Rattle.std.proofs.Common.{◌≡◌, ℕ, zero, suc, ◌+◌, ◌<◌, ◌≤◌, ◌⊎◌, inl, inr, refl, ap, sym, subst, ◌∙◌, Bool, true, false, cond, ◌&&◌, nat_eq, arith, List, [], ◌∷◌, ◌++◌, map, length, slice_get, take, drop, Option, Some, None, is_some}
+use Rattle.commit_parts.proofs.Common.{AreRead, Bool, ClusterGet, Committer, Directory, File, GetObject, HasAll, In, Item, Job, List, Magic, Marking, None, Option, Partitioned, Path, Pending, PendingSet, Place, PutObject, Request, Sets, Some, SuccessMark, Who, [], all_commits, ap, arith, bytes_decides, commit_asks, compact_text, cond, declared_of, drop, false, files, files_picked, flat_map, has_path, in_append, in_left, in_map, in_right, inl, inr, insert_key, is_some, items_from, job_script, length, lookup, map, map_in, mark_text, nat_eq, nth, option_map, ordered, paths_below, picks_of, placed, places_from, read_script, refl, relative_of, same_name, set_request, slice_get, some_is, subst, suc, success_tree, sym, take, text_cmp, text_eq, true, unwrap_or, wanted, wanted_below, wanted_paths, zero, ℕ, ◌&&◌, ◌++◌, ◌+◌, ◌<◌, ◌∙◌, ◌∷◌, ◌≡◌, ◌≤◌, ◌⊎◌}
 use Rattle.commit_parts.proofs.Trying.{take_next}
 use Rattle.std.specs.Prelude.{Result, IfOk}
-use Rattle.job_protocol.specs.Prelude.{insert_key, flat_map, lookup, unwrap_or, option_map, bytes_decides, text_cmp, text_eq, Path, Pending, PendingSet, File, has_path, Who, same_name, placed, Job, files_picked, files, wanted_below, wanted, ordered, wanted_paths, Sets, picks_of, all_commits, Marking, commit_asks, set_request, In, mark_text, compact_text, success_tree, SuccessMark, declared_of, read_script, job_script, Request, GetObject, PutObject, ClusterGet, Committer, Magic, Directory, Partitioned, nth}
 use Rattle.path_keys.proofs.Common.{IfOk-weaker, drop_of_length-le, nat_tests, map-append, flat_map-append, append-nil, take_all, get_or_from_slice_get}
-use Rattle.job_protocol.proofs.Members.{in_left, in_right, in_append, in_map, map_in, some_is}
-use Rattle.commit_parts.specs.Relatives.{relative_of, paths_below}
-use Rattle.commit_parts.specs.Places.{places_from}
-use Rattle.commit_parts.specs.declared.places.Place.{Place}
 use Rattle.commit_parts.proofs.Placing.{places_length}
 use Rattle.commit_parts.proofs.Undoing.{drop_nth}
 use Rattle.magic_paths.specs.Layout as layout
-use Rattle.commit_parts.specs.ReadSets.{AreRead, HasAll}
-use Rattle.commit_parts.specs.Clashes.{Item, items_from}
 
 -- an upload's file, whose bytes are not told
 abbrev pub file_of : Path → Pending → File

@@ -1,14 +1,6 @@
 -- the path that two picks write is below the key that the search finds
-use Rattle.std.proofs.Common.{◌≡◌, ℕ, suc, ◌+◌, ◌<◌, inl, inr, refl, ap, sym, subst, ◌∙◌, Bool, true, false, cond, nat_eq, arith, List, [], ◌∷◌, ◌++◌, length, slice_get, take, drop, Option, Some, None, is_some}
-use Rattle.job_protocol.specs.Prelude.{Ordering, Less, Equal, Greater, is_lt, nat_cmp, ordering_reverse, ordering_then, unwrap_or, option_map, starts_with, nat_cmp-IsAntisymmetric, slice_cmp-IsAntisymmetric, bytes_decides, text_cmp, text_total, Path, below, relative_in, Pending, PendingSet, File, has_path, Job, CommitEnd, SamePath, files_picked, writes, same_path, Sets, picks_of, In, IsShared, read_script}
-use Rattle.path_keys.proofs.Common.{nat_cmp_total, take-append-drop, slice_get_within}
-use Rattle.job_protocol.proofs.Members.{false_true}
-use Rattle.job_protocol.proofs.Shared.{shared_found, shared_none}
+use Rattle.commit_parts.proofs.Common.{AreRead, Bool, Clash, CommitEnd, Equal, File, Greater, In, IsBest, IsClash, IsShared, Item, Job, Less, List, None, Option, Ordering, Path, Pending, PendingSet, SamePath, Sets, Some, [], ap, arith, below, bytes_decides, cond, drop, false, false_true, files_picked, has_path, inl, inr, is_lt, is_some, items_from, length, nat_cmp, nat_cmp-IsAntisymmetric, nat_cmp_total, nat_eq, option_map, ordering_reverse, ordering_then, picks_of, read_script, refl, relative_in, relative_of, same_path, shared_found, shared_none, slice_cmp-IsAntisymmetric, slice_get, slice_get_within, starts_with, subst, suc, sym, take, take-append-drop, text_cmp, text_total, true, unwrap_or, writes, ℕ, ◌++◌, ◌+◌, ◌<◌, ◌∙◌, ◌∷◌, ◌≡◌}
 use Rattle.commit_parts.specs.Apart.{end_of}
-use Rattle.commit_parts.specs.Relatives.{relative_of}
-use Rattle.commit_parts.specs.ReadSets.{AreRead}
-use Rattle.commit_parts.specs.Clashes.{Item, items_from, IsClash, IsBest}
-use Rattle.commit_parts.specs.declared.sharing.Clash.{Clash}
 use Rattle.commit_parts.proofs.Numbers.{three}
 use Rattle.commit_parts.proofs.ReadFiles.{files_at, has_in, in_has, item_at, at_item}
 use Rattle.proof_base.proofs.Less.{equal_self}

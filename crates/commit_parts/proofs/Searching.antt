@@ -1,14 +1,8 @@
 -- the search for a key that two tasks write, upload by upload
-use Rattle.std.proofs.Common.{◌≡◌, ℕ, ◌<◌, ◌≤◌, ◌⊎◌, inl, inr, refl, ap, sym, subst, ◌∙◌, Bool, true, false, cond, arith, List, [], ◌∷◌, ◌++◌, map, not, ◌||◌, nat_eq, suc, ◌+◌, length, take, get_or, append_assoc, Option, Some, None, length-take-le}
+use Rattle.commit_parts.proofs.Common.{Bool, Clash, Finds, HashMap, In, IsBest, IsOwner, Item, List, None, Option, Pending, PendingSet, Some, Updates, [], ap, append_assoc, arith, clash_of, cond, eq_nat, false, false_true, get, get_or, in_append, in_last, in_left, in_map, in_push, inl, inr, is_better, is_lt, items_from, length, length-take-le, map, nat_eq, nat_true, not, refl, same_or_other, subst, suc, sym, take, text_cmp, text_eq, text_false, text_total, text_true, true, unwrap_or, ℕ, ◌++◌, ◌+◌, ◌<◌, ◌||◌, ◌∙◌, ◌∷◌, ◌≡◌, ◌≤◌, ◌⊎◌}
 use Rattle.commit_parts.proofs.Trying.{take_next}
-use Rattle.proof_base.proofs.Members.{eq_nat, nat_true, text_true, text_false, same_or_other}
-use Rattle.job_protocol.specs.Prelude.{unwrap_or, is_lt, Pending, PendingSet, text_cmp, text_eq, text_total, In}
 use Rattle.path_keys.proofs.Common.{map-append, slice_get_within, contrary, irrefl, lt_trans, append-nil}
-use Rattle.std.specs.HashMap.{HashMap, get, Updates}
 use Rattle.commit_parts.proofs.ReadFiles.{item_at}
-use Rattle.job_protocol.proofs.Members.{in_left, in_push, in_last, in_append, in_map, false_true}
-use Rattle.commit_parts.specs.Clashes.{Item, items_from, IsBest, IsOwner, Finds, is_better, clash_of}
-use Rattle.commit_parts.specs.declared.sharing.Clash.{Clash}
 
 below : (a b : ℕ) → a ≤ b → (a ≡ b) ⊎ (a < b)
 below a b h = grind arith

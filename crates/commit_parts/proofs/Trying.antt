@@ -1,7 +1,5 @@
 -- members by their numbers
-use Rattle.std.proofs.Common.{◌≡◌, ℕ, zero, suc, ◌<◌, ◌&&◌, ◌||◌, nat_eq, nat_lt, refl, ap, inl, inr, arith, List, [], ◌∷◌, length, get_or, ◌+◌, ◌++◌, take, sym, ◌∙◌}
-use Rattle.path_keys.proofs.Common.{take_more}
-use Rattle.job_protocol.specs.Prelude.{list_any, Turn, is_tried, In}
+use Rattle.commit_parts.proofs.Common.{In, List, Turn, [], ap, arith, get_or, inl, inr, is_tried, length, list_any, nat_eq, nat_lt, refl, suc, sym, take, take_more, zero, ℕ, ◌&&◌, ◌++◌, ◌+◌, ◌<◌, ◌||◌, ◌∙◌, ◌∷◌, ◌≡◌}
 
 pub tried_any : (xs : List Turn) (n : ℕ) → list_any (λ (x : Turn). nat_eq n x.number && nat_lt 0 x.missed) xs ≡ is_tried xs n
 tried_any [] n = refl

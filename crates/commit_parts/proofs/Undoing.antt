@@ -1,9 +1,5 @@
 -- the list of what is taken back, built from its end
-use Rattle.std.proofs.Common.{◌≡◌, ℕ, zero, suc, ◌+◌, ◌<◌, ◌||◌, not, nat_eq, refl, inl, inr, ap, sym, subst, ◌∙◌, Bool, true, false, cond, arith, List, [], ◌∷◌, ◌++◌, map, reverse, length, drop, get_or, append-nil}
-use Rattle.path_keys.proofs.Common.{reverse-append, drop-cons, drop_of_length-le}
-use Rattle.job_protocol.specs.Prelude.{Request, Pending, Turn, nth, undo, chosen, is_tried, is_in, is_unsent, in_turn, abort, deletion, In}
-use Rattle.job_protocol.proofs.Members.{in_left, in_right}
-use Rattle.commit_parts.specs.Undos.{undo_request, number_in, NumbersWithin, Adds, IsRevert, with_tried, with_unsent}
+use Rattle.commit_parts.proofs.Common.{Adds, Bool, In, IsRevert, List, NumbersWithin, Pending, Request, Turn, [], abort, ap, append-nil, arith, chosen, cond, deletion, drop, drop-cons, drop_of_length-le, false, get_or, in_left, in_right, in_turn, inl, inr, is_in, is_tried, is_unsent, length, map, nat_eq, not, nth, number_in, refl, reverse, reverse-append, subst, suc, sym, true, undo, undo_request, with_tried, with_unsent, zero, ℕ, ◌++◌, ◌+◌, ◌<◌, ◌||◌, ◌∙◌, ◌∷◌, ◌≡◌}
 use Rattle.commit_parts.proofs.Trying.{in_at}
 use Rattle.commit_parts.specs.declared.undo.Undo.{Undo}
 use Rattle.commit_parts.specs.declared.undo.Undo.TheVariants.{Abort, Delete}

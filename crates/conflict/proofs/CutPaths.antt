@@ -1,7 +1,5 @@
 -- The directory that a path is in, by where the path is cut; and what begins with a directory and a `/`.
-use Rattle.std.proofs.Common.{◌≡◌, ℕ, ◌&&◌, not, nat_eq, Bool, true, false, cond, List, [], ◌∷◌, ◌++◌, Option, Some, None, refl, sym, ap, ◌∙◌}
-use Rattle.job_protocol.specs.Prelude.{list_all, begins, ordered, dir_of, with_dir, dirs_of, partitions}
-use Rattle.path_keys.proofs.Common.{and_parts, true≢false, Decides-eqb}
+use Rattle.conflict.proofs.Common.{Bool, Decides-eqb, List, None, Option, Some, [], and_parts, ap, begins, cond, dir_of, dirs_of, false, list_all, nat_eq, not, ordered, partitions, refl, sym, true, true≢false, with_dir, ℕ, ◌&&◌, ◌++◌, ◌∙◌, ◌∷◌, ◌≡◌}
 use Rattle.job_model.specs.Prelude.{is_other}
 use Rattle.job_protocol.specs.Conflicts.{dir_from}
 use Rattle.conflict.specs.Partitions.{with_partition}

@@ -1,10 +1,6 @@
 -- Where replies lead a deletion, by the prefixes and the place of the one that it has come to.
-use Rattle.std.proofs.Common.{◌≡◌, ℕ, zero, suc, ◌+◌, ◌<◌, ◌≤◌, nat_le, not, Bool, true, false, List, [], ◌∷◌, length, drop, refl, sym, ap, subst, ◌∙◌, arith, add-one}
-use Rattle.path_keys.proofs.Common.{drop_all, at_most_is, at_most_not}
-use Rattle.job_protocol.specs.Prelude.{begins, Reply, Sweep, sweep_start, sweep_hears, FitsSweep}
+use Rattle.conflict.proofs.Common.{Bool, Deletion, FitsBelow, FitsDeletion, FitsSweep, List, Reply, Sweep, [], add-one, ap, arith, at_most_is, at_most_not, begins, deletion_hears, drop, drop_all, false, hears_below, is_none, length, nat_le, not, refl, subst, suc, sweep_hears, sweep_start, swept_on, sym, true, zero, ℕ, ◌+◌, ◌<◌, ◌∙◌, ◌∷◌, ◌≡◌, ◌≤◌}
 use Rattle.list_walk.specs.Kept.{kept}
-use Rattle.conflict.specs.Checks.{is_none}
-use Rattle.conflict.specs.Deletions.{Deletion, FitsDeletion, FitsBelow, hears_below, swept_on, deletion_hears}
 
 pub first_of : {X : Type 0} (xs : List X) (at : ℕ) → at < length xs → (x : X) × (drop at xs ≡ x ∷ drop (at + 1) xs)
 first_of [] at h = absurd (omega arith)

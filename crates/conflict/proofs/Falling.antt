@@ -1,7 +1,6 @@
 -- What a check before a commit has left falls.
-use Rattle.std.proofs.Common.{◌≡◌, ℕ, ◌+◌, ◌<◌, ◌≤◌, false, List, [], ◌∷◌, ◌++◌, length, take, Option, Some, None, refl, sym, ap, subst, arith}
+use Rattle.conflict.proofs.Common.{BucketContent, ChecksFall, Job, LessWalk, List, ListPage, More, None, Option, Page, PageEntry, Reply, Request, Scene, Some, Walked, Whole, [], adds_key, answer, answer_at, ap, apply, arith, below, false, first_shown, job_script, keys_on, lacks_bucket, length, listed, page_after, refl, subst, sym, take, walk_left, ℕ, ◌++◌, ◌+◌, ◌<◌, ◌∷◌, ◌≡◌, ◌≤◌}
 use Rattle.std.specs.Prelude.{codes, IfSome}
-use Rattle.job_protocol.specs.Prelude.{BucketContent, Scene, answer, answer_at, apply, Request, ListPage, PageEntry, Reply, Page, listed, below, Job, job_script, Walked, More, Whole, keys_on, page_after, first_shown, lacks_bucket, walk_left, adds_key, LessWalk}
 use Rattle.std.specs.FinMap as fin
 use Rattle.proof_base.proofs.Members.{some_is, none_some, false_true}
 use Rattle.list_walk.specs.Walks.{walked}
@@ -10,7 +9,6 @@ use Rattle.job_setup.proofs.Falling.{never_less, of_some}
 use Rattle.job_protocol.specs.Rechecks.{Check, Looking, Probing, CheckOver, check_asks, looked, probed, check_hears}
 use Rattle.conflict.specs.Fits.{FitsLook}
 use Rattle.conflict.specs.Left.{left_at}
-use Rattle.conflict.specs.Laws.{ChecksFall}
 use Rattle.list_walk.proofs.Counting.{one_most}
 
 -- ---- the look at the whole destination

@@ -4,3 +4,4 @@ pub mod Deleting
 pub mod Rising
 pub mod SamePartitions
 pub mod Falling
+mod Common

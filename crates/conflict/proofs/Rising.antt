@@ -1,7 +1,5 @@
 -- Texts in order are told by which they are.
-use Rattle.std.proofs.Common.{◌≡◌, ℕ, ◌⊎◌, inl, inr, List, [], ◌∷◌, refl, sym, ap, subst, ◌∙◌}
-use Rattle.job_protocol.specs.Prelude.{insert_key, ordering_reverse, match_ordering, Ordering, Less, Equal, Greater, text_cmp, text_total, IsIn, ordered}
-use Rattle.path_keys.proofs.Common.{text_exact}
+use Rattle.conflict.proofs.Common.{Equal, Greater, IsIn, Less, List, Ordering, [], ap, inl, inr, insert_key, match_ordering, ordered, ordering_reverse, refl, subst, sym, text_cmp, text_exact, text_total, ℕ, ◌∙◌, ◌∷◌, ◌≡◌, ◌⊎◌}
 
 abbrev Rises : List (List ℕ) → Type 0
 Rises [] = Unit {0}

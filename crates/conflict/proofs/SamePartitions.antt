@@ -1,6 +1,5 @@
 -- The partitions of paths are told by which paths they are.
-use Rattle.std.proofs.Common.{◌≡◌, ℕ, inl, inr, List, [], ◌∷◌, Option, Some, None, refl, sym, ap, subst, ◌∙◌}
-use Rattle.job_protocol.specs.Prelude.{IsIn, ordered, dir_of, with_dir, dirs_of, partitions}
+use Rattle.conflict.proofs.Common.{IsIn, List, None, Option, Some, [], ap, dir_of, dirs_of, inl, inr, ordered, partitions, refl, subst, sym, with_dir, ℕ, ◌∙◌, ◌∷◌, ◌≡◌}
 use Rattle.conflict.proofs.Rising.{in_ordered, from_ordered, ordered_same}
 
 dir_in : (d p : List ℕ) (ps : List (List ℕ)) → IsIn p ps → dir_of p ≡ Some d → IsIn d (dirs_of ps)

@@ -1,9 +1,5 @@
 -- Checks and deletions lead where the operations that hold them go.
-use Rattle.std.proofs.Common.{◌≡◌, ℕ, Bool, List, [], ◌∷◌, Option, Some, None, refl, ap, ◌∙◌}
-use Rattle.job_protocol.specs.Prelude.{Committer, Magic, Mode, Replace, Reply, Page, Who, Script, Picks, wanted_paths, partitions, Sweep, sweep_start, sweep_hears, Checking, task_commit_hears, Sets, is_no_magic, replaced, replacing, swept}
-use Rattle.conflict.specs.Checks.{found_below, left_after}
-use Rattle.conflict.specs.Deletions.{deleted, swept_on}
-use Rattle.conflict.specs.Laws.{commit_after_check, ChecksTell, commit_deleting, deletion_of, DeletionsTell}
+use Rattle.conflict.proofs.Common.{Bool, Checking, ChecksTell, Committer, DeletionsTell, List, Magic, Mode, None, Option, Page, Picks, Replace, Reply, Script, Sets, Some, Sweep, Who, [], ap, commit_after_check, commit_deleting, deleted, deletion_of, found_below, is_no_magic, left_after, partitions, refl, replaced, replacing, sweep_hears, sweep_start, swept, swept_on, task_commit_hears, wanted_paths, ℕ, ◌∙◌, ◌∷◌, ◌≡◌}
 
 -- ---- a check
 

@@ -1,16 +1,8 @@
 -- The stages of a copy keep what they promise.
 use Rattle.std.specs.Prelude.{◌≡◌, ℕ, List, [], ◌∷◌, drop, Ok, Err}
-use Rattle.std.proofs.Common.{refl, sym, subst, ◌∙◌, inl, inr, arith}
-use Rattle.fs_ops.specs.Prelude.{Objects, Goes, reply_in, edited, IsPhases, MayAsk, CopyCount, Overlap, Differs, OtherBucket, Stands, IsOverlap, MayCopy, CopiesTree, Copies, IsCopiedInPart, MayStandCopied}
-use Rattle.path_keys.proofs.Common.{none_some}
+use Rattle.copy_tree.proofs.Common.{Answer, Copies, CopiesTree, Copy, CopyCount, CopyPaths, CopyStage, Differs, Goes, Here, IsCopiedInPart, IsOverlap, IsPhases, MayAsk, MayCopy, MayStandCopied, NoSuchBucket, Objects, OtherBucket, Overlap, Source, Stands, Target, Up, Walk, WalkTarget, always, arith, asks, edited, first, gives, goes, holds, inl, inr, left, looks_there, none_some, on, refl, reply_in, sends, subst, sym, ◌∙◌}
 use Rattle.std.specs.FinMap as fin
-use Rattle.fs_tree.specs.declared.copy.CopyRefusal.TheVariants.{NoSuchBucket}
-use Rattle.fs_ops.proofs.AtPathLaws.{looks_there}
 use Rattle.fs_ops.proofs.StepLaws.{phases_of}
-use Rattle.copy_tree.specs.declared.stages.CopyStage.{CopyStage}
-use Rattle.copy_tree.specs.declared.stages.CopyStage.TheVariants.{Here, Walk, Up, WalkTarget, Source, Target, Copy}
-use Rattle.copy_tree.specs.code.Copy.{CopyPaths, Answer, first, asks, on, goes}
-use Rattle.copy_tree.specs.code.Meaning.{holds, gives, always, sends, left}
 use Rattle.copy_tree.proofs.Moved.{is_new}
 use Rattle.copy_tree.proofs.MoveLaws.{in_part}
 use Rattle.copy_tree.proofs.StepLaws.{each, reads, sent_copy}

@@ -1,11 +1,8 @@
 -- What the copy of a tree has done.
-use Rattle.std.proofs.Common.{◌≡◌, ℕ, List, Result, Err, IfOk, subst}
-use Rattle.fs_ops.specs.Prelude.{Scene, Actor, Seen, Performed, AlwaysIn, SendsIn, OtherBucket}
+use Rattle.copy_tree.proofs.Common.{Actor, AlwaysIn, Err, IfOk, List, NoSuchBucket, OtherBucket, Performed, Result, Scene, Seen, SendsIn, always, gives, sends, subst, ℕ, ◌≡◌}
 use Rattle.bucket_ops.specs.Prelude.{DriveStop}
-use Rattle.fs_tree.specs.declared.copy.CopyRefusal.TheVariants.{NoSuchBucket}
 use Rattle.fs_rename.specs.Between.{Route, GivesBetween}
 use Rattle.copy_tree.specs.code.Copy.{CopyPaths, Answer, first as first_stage, asks}
-use Rattle.copy_tree.specs.code.Meaning.{gives, always, sends}
 use Rattle.copy_tree.specs.Public.{CopiesIn, StandsCopied, CopySends}
 
 -- what a copy is kept as

@@ -1,25 +1,11 @@
 -- A copy comes to an end.
 use Rattle.std.specs.Prelude.{◌≡◌, ℕ, ◌+◌, ◌*◌, ◌<◌, ◌&&◌, nat_lt, Bool, true, false, cond, List, [], ◌∷◌, length, drop, Option, Some, None, Ok, Err}
-use Rattle.std.proofs.Common.{refl, sym, ap, subst, arith}
-use Rattle.path_keys.proofs.Common.{ltb-true, length-drop}
-use Rattle.fs_ops.specs.Prelude.{text_eq, Objects, PageEntry, Reply, Next, Falls, Look, There, look_of, reply_in, edited, marker_of, keys_on, Walked, More, Whole, walked_entries, CopyCount, prefix_of, look_asks, climbing, climbed, walk_asks, walk_left, LessWalked}
+use Rattle.copy_tree.proofs.Common.{Climbed, Copy, CopyCount, CopyPaths, CopyStage, CopyStep, Falls, Here, LessCopies, LessWalked, Look, More, Next, Objects, PageEntry, Parts, Reply, Source, Target, There, Up, Walk, WalkTarget, Walked, Whole, ap, arith, asks, begun, climb, climbed, climbing, compared, copied_next, copies, copies_left, copying_falls, count_of, differ, edited, has_more, here, holds, keys_on, left, length-drop, listed, look_asks, look_of, ltb-true, marker_of, new_keys, on, on_climb, on_compare, on_copied, on_read, on_show, on_shown, on_walk, on_walked, overlaps, pairs, parts_of, place_of, placed, prefix_of, refl, reply_in, same_header, still_look, subst, sym, text_eq, walk_asks, walk_falls, walk_fits, walk_left, walked_entries, with_places}
 use Rattle.s3_types.specs.declared.reply.Reply.TheVariants.{Object as Found}
-use Rattle.fs_ops.specs.declared.climb.Climbed.{Climbed}
 use Rattle.fs_ops.specs.declared.climb.Climbed.TheVariants.{File, On as Goes_on, Free}
-use Rattle.fs_ops.proofs.AtPathLaws.{still_look}
 use Rattle.fs_ops.proofs.Climbing.{IsShorter, climbing_falls, climbed_falls}
 use Rattle.bucket_ops.proofs.Sweeps.{length_keys}
-use Rattle.bucket_ops.proofs.Walks.{walk_fits, walk_falls}
-use Rattle.fs_rename.specs.declared.copying.CopyStep.{CopyStep}
 use Rattle.fs_rename.specs.declared.copying.CopyStep.TheVariants.{Next as NextCopy, All}
-use Rattle.fs_rename.specs.Keys.{new_keys, place_of}
-use Rattle.fs_rename.specs.Copies.{has_more, copied_next, copies_left, LessCopies}
-use Rattle.fs_rename.proofs.CopyLaws.{copying_falls}
-use Rattle.copy_tree.specs.declared.stages.Parts.{Parts}
-use Rattle.copy_tree.specs.declared.stages.CopyStage.{CopyStage}
-use Rattle.copy_tree.specs.declared.stages.CopyStage.TheVariants.{Here, Walk, Up, WalkTarget, Source, Target, Copy}
-use Rattle.copy_tree.specs.code.Copy.{CopyPaths, asks, on, here, overlaps, on_walked, on_walk, listed, climb, on_climb, placed, with_places, on_shown, on_show, parts_of, pairs, on_read, differ, same_header, compared, on_compare, begun, copies, count_of, on_copied}
-use Rattle.copy_tree.specs.code.Meaning.{holds, left}
 use Rattle.copy_tree.proofs.PartLaws.{all_counted}
 
 module _ (o : CopyPaths) (m : Objects) where

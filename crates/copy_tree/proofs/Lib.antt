@@ -6,3 +6,4 @@ pub mod MoveLaws
 pub mod Moved
 pub mod PartLaws
 pub mod StepLaws
+mod Common

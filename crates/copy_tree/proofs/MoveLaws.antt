@@ -1,22 +1,10 @@
 -- The moves of a directory, in order, and those of them whose new key stands or is absent.
 use Rattle.std.specs.Prelude.{◌≡◌, ◌⊎◌, ℕ, true, false, List, [], ◌∷◌, ◌++◌, take, Some, None}
-use Rattle.std.proofs.Common.{refl, sym, ap, subst, ◌∙◌, inl, inr}
-use Rattle.fs_ops.specs.Prelude.{is_lt, text_cmp, Objects, begins, Object, marker_of, IsIn, RisesFrom, Stands, IsDirectory, IsMove, AreAll, MayCopy, CopiesTree, IsCopiedInPart, all_below, keys_below}
-use Rattle.path_keys.proofs.Common.{lt, none_some, none_or_some}
+use Rattle.copy_tree.proofs.Common.{AreAll, AreFree, CopiesTree, CopyPaths, IsCopiedInPart, IsDirectory, IsIn, IsMove, IsOneOf, MayCopy, Object, Objects, RisesFrom, Stands, absent, all_below, all_parts, all_stand, ap, begins, below_stands, copied_all, copied_stand, copies_keep, count_of, dir_from, dir_to, in_targets, inl, inr, is_in, is_lt, is_target, keys_below, listed_rises, lt, marker_of, move_of, moves, moves_to, new_key, none_or_some, none_some, one_in_take, refl, rest_after, sorted, sources, sources_to, standing, subst, sym, targets, text_cmp, ◌∙◌}
 use Rattle.std.specs.FinMap as fin
-use Rattle.store_frame.proofs.Flat.{listed_rises}
-use Rattle.fs_tree.proofs.Moving.{rest_after}
 use Rattle.fs_ops.proofs.Showing.{cmp_behind}
-use Rattle.bucket_ops.proofs.Below.{is_in, below_stands}
-use Rattle.fs_rename.specs.Keys.{new_key}
-use Rattle.fs_rename.specs.Copies.{IsOneOf, sources, targets, copied_all, AreFree, moves_to}
-use Rattle.fs_rename.proofs.CopyLaws.{in_targets, is_target, one_in_take, copies_keep, copied_stand, all_stand}
 use Rattle.fs_rename.proofs.NewKeys.{new_is}
-use Rattle.fs_rename.proofs.Placed.{move_of, sources_to, dir_to, dir_from}
-use Rattle.copy_tree.specs.code.Copy.{CopyPaths, count_of}
-use Rattle.copy_tree.specs.code.Meaning.{moves, standing, absent, all_parts}
 use Rattle.copy_tree.proofs.Moved.{moved_rest, move_below, one_source}
-use Rattle.bucket_ops.proofs.Rising.{sorted}
 use Rattle.copy_tree.proofs.PartLaws.{all_shown, kept_each, kept_has, sources_rise, targets_rise}
 
 -- a new key keeps the order of keys

@@ -1,12 +1,9 @@
 -- The moves of a directory to a place, where neither path is the other or below it.
 use Rattle.std.specs.Prelude.{◌≡◌, ◌⊎◌, ℕ, ◌+◌, ◌≤◌, true, false, List, [], ◌∷◌, ◌++◌, length, Some, None}
-use Rattle.std.proofs.Common.{refl, sym, ap, ◌∙◌, inl, inr, arith, length-append}
-use Rattle.path_keys.proofs.Common.{false≢true, append_cancel_left, none_some, true_or_false, none_or_some, in_append}
-use Rattle.fs_ops.specs.Prelude.{Objects, begins, Object, marker_of, keys_above, IsIn, Stands, IsDirectory, IsMove, IsOverlap, to_target}
+use Rattle.copy_tree.proofs.Common.{IsDirectory, IsIn, IsMove, IsOverlap, Object, Objects, Stands, ap, append_cancel_left, arith, begins, false≢true, in_append, inl, inr, keys_above, length-append, marker_of, none_or_some, none_some, refl, rest_after, sym, to_target, true_or_false, ◌∙◌}
 use Rattle.std.specs.FinMap as fin
 use Rattle.fs_tree.proofs.Begins.{begins_more, begins_trans, begins_marker, begins_length, one_begins}
 use Rattle.fs_tree.proofs.Above.{above_begins}
-use Rattle.fs_tree.proofs.Moving.{rest_after}
 
 -- a key and its new key have the same rest behind the markers of their directories
 abbrev pub SameRest : List ℕ → List ℕ → List ℕ → List ℕ → Type 0

@@ -1,14 +1,7 @@
 -- Of the moves those are kept whose new key stands, or those whose new key does not.
 use Rattle.std.specs.Prelude.{◌≡◌, ℕ, ◌+◌, ◌≤◌, Bool, true, false, cond, List, [], ◌∷◌, ◌++◌, map, length, Option, Some, None}
-use Rattle.std.proofs.Common.{refl, sym, ap, subst, ◌∙◌, inl, inr, arith}
-use Rattle.path_keys.proofs.Common.{false≢true, lt, irrefl, lt_trans, lt_not, none_some, false_true, text_is, text_true}
-use Rattle.fs_ops.specs.Prelude.{text_cmp, text_total, Objects, begins, text_in, Object, PageEntry, IsIn, RisesFrom, Stands, all_below}
+use Rattle.copy_tree.proofs.Common.{IsIn, IsOneOf, Move, Object, Objects, PageEntry, RisesFrom, Stands, all_below, ap, arith, begins, behind, below_stands, chosen, false_true, false≢true, from_text, inl, inr, irrefl, is_first, is_wanted, kept, listed_rises, lower, lt, lt_not, lt_trans, none_some, refl, sources, stands_below, subst, sym, targets, text_cmp, text_in, text_is, text_total, text_true, ◌∙◌}
 use Rattle.std.specs.FinMap as fin
-use Rattle.store_frame.proofs.Flat.{behind, listed_rises}
-use Rattle.bucket_ops.proofs.Below.{below_stands, stands_below}
-use Rattle.bucket_ops.proofs.Rising.{lower}
-use Rattle.fs_rename.specs.Copies.{Move, IsOneOf, sources, targets}
-use Rattle.copy_tree.specs.Parts.{from_text, is_first, is_wanted, chosen, kept}
 
 -- ---- entries from a text
 

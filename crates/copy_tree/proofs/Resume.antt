@@ -1,8 +1,6 @@
 -- A copy that was stopped is made again.
-use Rattle.std.proofs.Common.{◌≡◌, ◌⊎◌, inl, inr, ℕ, true, List, [], ◌∷◌, None, refl, sym, ◌∙◌, arith}
-use Rattle.fs_ops.specs.Prelude.{Objects, begins, marker_of, IsIn, CopyCount, IsDirectory, NoFiles, IsMove, to_target, MayCopy, CopiesTree, IsCopiedInPart}
+use Rattle.copy_tree.proofs.Common.{CopiesResume, CopiesTree, CopyCount, IsCopiedInPart, IsDirectory, IsIn, IsMove, List, MayCopy, NoFiles, None, Objects, [], arith, begins, inl, inr, marker_of, refl, sym, to_target, true, ℕ, ◌∙◌, ◌∷◌, ◌≡◌, ◌⊎◌}
 use Rattle.std.specs.FinMap as fin
-use Rattle.fs_tree.specs.Copies.{CopiesResume}
 use Rattle.copy_tree.proofs.Moved.{begins_rest, moved_rest, is_move, move_below, is_new, not_above, source_not_new, path_not_new}
 
 module _ (x : ℕ) (p : List ℕ) (y : ℕ) (t : List ℕ) (z m : Objects) (may : MayCopy z (x ∷ p) (y ∷ t)) (part : IsCopiedInPart (x ∷ p) (y ∷ t) z m) where

@@ -1,30 +1,15 @@
 -- A copy goes on, stage by stage.
 use Rattle.std.specs.Prelude.{◌≡◌, ◌⊎◌, ℕ, zero, suc, ◌+◌, ◌<◌, ◌≤◌, ◌||◌, ◌&&◌, nat_lt, Bool, true, false, cond, List, [], ◌∷◌, ◌++◌, length, drop, Option, Some, None, Result, Ok, Err}
-use Rattle.std.proofs.Common.{refl, sym, ap, subst, ◌∙◌, inl, inr, arith}
-use Rattle.path_keys.proofs.Common.{false≢true, ltb-true, ltb-false, length-drop, length-map, lt, irrefl, lt_not, none_some, some_is, none_or_some, false_true, text_is, text_true, eq_nat, nat_true}
-use Rattle.fs_ops.specs.Prelude.{is_lt, text_cmp, text_total, text_eq, Objects, head, begins, Object, PageEntry, IsIn, RisesFrom, Step, Next, Goes, look_of, reply_in, edited, is_look, marker_of, keys_on, Walked, More, Whole, walked_entries, CopyCount, Stands, IsMove, IsOverlap, HasSource, HasPlace, MayCopy, CopiesTree, climbing, climbed, all_below, keys_below, walk_asks, fits, IsWalking, IsWalked}
+use Rattle.copy_tree.proofs.Common.{Climbed, CopiesTree, Copy, CopyCount, CopyStage, CopyStep, Goes, HasPlace, HasSource, Here, IsComparing, IsCopied, IsCopying, IsFirstOther, IsIn, IsMove, IsOneOf, IsOverlap, IsPlaced, IsWalked, IsWalking, MayCopy, More, Move, Next, Object, Objects, PageEntry, Parts, RisesFrom, Source, Stands, StandsFirst, Step, Target, Up, Walk, WalkTarget, Walked, Whole, absent, all_below, all_found, all_parts, ap, arith, begins, behind, climbed, climbing, copied_all, copied_next, copy_asks, copy_of, copying_goes, dir_fit, dir_long, edited, eq_nat, false_true, false≢true, fits, gives, has_more, head, holds, in_sources, in_targets, inl, inr, irrefl, is_look, is_lt, keys_below, keys_on, length-drop, length-map, look_of, lt, lt_not, ltb-false, ltb-true, marker_of, moves, nat_true, new_keys, none_or_some, none_some, refl, reply_in, sends, some_is, some_left, sources, sources_to, standing, subst, sym, targets, text_cmp, text_eq, text_is, text_total, text_true, walk_asks, walk_begins, walk_fits, walk_goes, walked_entries, ◌∙◌}
 use Rattle.std.proofs.lemmas.List.{drop-map}
 use Rattle.std.specs.FinMap as fin
 use Rattle.s3_types.specs.Answer.{found}
-use Rattle.store_frame.proofs.Flat.{behind}
-use Rattle.fs_tree.specs.Copies.{IsFirstOther}
 use Rattle.fs_ops.proofs.Looks.{head_tells, at_key, none_listed, first_listed}
-use Rattle.fs_ops.specs.declared.climb.Climbed.{Climbed}
 use Rattle.fs_ops.specs.declared.climb.Climbed.TheVariants.{File, On as Goes_on, Free}
 use Rattle.fs_ops.proofs.Climbing.{IsClimbed, seen_on as climb_on, all_on}
-use Rattle.bucket_ops.proofs.Walks.{walk_fits, walk_begins, walk_goes}
 use Rattle.fs_rename.specs.declared.copying.Copying.{Copying}
-use Rattle.fs_rename.specs.declared.copying.CopyStep.{CopyStep}
 use Rattle.fs_rename.specs.declared.copying.CopyStep.TheVariants.{Next as NextCopy, All}
-use Rattle.fs_rename.specs.Keys.{new_keys}
-use Rattle.fs_rename.specs.Copies.{Move, IsOneOf, sources, targets, copied_all, copy_of, copy_asks, has_more, copied_next, IsCopying, IsCopied}
-use Rattle.fs_rename.proofs.CopyLaws.{some_left, in_sources, in_targets, copying_goes}
-use Rattle.fs_rename.proofs.Placed.{sources_to, all_found, dir_fit, dir_long}
-use Rattle.copy_tree.specs.declared.stages.Parts.{Parts}
-use Rattle.copy_tree.specs.declared.stages.CopyStage.{CopyStage}
-use Rattle.copy_tree.specs.declared.stages.CopyStage.TheVariants.{Here, Walk, Up, WalkTarget, Source, Target, Copy}
 use Rattle.copy_tree.specs.code.Copy.{CopyPaths, Answer, asks, on, here as here_at, on_walked, on_walk, listed, climb, on_climb, with_places, on_shown, on_show, parts_of, pairs, read_of, on_read, same_header, differ, compared, on_compare, begun, copies, count_of, on_copied}
-use Rattle.copy_tree.specs.code.Meaning.{moves, standing, absent, all_parts, IsPlaced, IsComparing, StandsFirst, holds, gives, sends}
 use Rattle.copy_tree.proofs.Moved.{moved_rest}
 use Rattle.copy_tree.proofs.PartLaws.{chosen_sources, chosen_targets}
 use Rattle.copy_tree.proofs.MoveLaws.{standing_rise, standing_each, standing_has, absent_each, tree_copied}

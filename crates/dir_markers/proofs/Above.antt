@@ -61,6 +61,7 @@ marker_is_key key some k =
     let least : nat_le 1 (length (marker_of key)) ≡ true = at_most_so 1 (length (marker_of key)) (omega (arith, long)) in
     let most : nat_le (length (marker_of key)) 1024 ≡ true = at_most_so (length (marker_of key)) 1024 (omega (arith, long, short)) in
     all_three _ _ _ least most (ap are_elements (trimmed_marker key) ∙ is.0)
+
 -- what stands before a key's last `/` is not the root
 trimmed_short : (key : List ℕ) → length (trimmed key) ≤ length key
 trimmed_short key = by (nat_lt 0 (length key) && (slice_index key (length key - 1) == 47))

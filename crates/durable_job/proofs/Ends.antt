@@ -1,19 +1,12 @@
 -- What was played, by what the world of the jobs leaves.
-use Rattle.std.proofs.Common.{◌≡◌, ℕ, ◌+◌, ◌-◌, Bool, false, List, length, Option, None, sym, ap, subst, ◌∙◌, arith}
+use Rattle.durable_job.proofs.Common.{Bool, Content, Entry, EventEnd, Finished, IsHeld, IsPlayed, KeepsImages, List, None, One, Option, Pick, Script, ShelfStop, Side, Sight, Stays, Survives, Twins, TwinsStay, Two, ap, arith, false, left_of, length, moment, sides_in, subst, sym, turns_left, verdict, ℕ, ◌+◌, ◌-◌, ◌∙◌, ◌≡◌}
 use Rattle.s3_types.specs.Ledger.{Ledger}
-use Rattle.job_spec.specs.Prelude.{Content, Entry, Script, Pick, EventEnd, moment, Finished, verdict}
-use Rattle.journal_log.specs.Prelude.{Sight, ShelfStop, KeepsImages}
 use Rattle.job_world.specs.Worlds as one
-use Rattle.twin_script.specs.TwinScripts.{Twins, sides_in}
-use Rattle.twin_script.specs.declared.turns.Side.{Side}
 use Rattle.twin_script.specs.declared.turns.TwinTurn.{TwinTurn}
 use Rattle.twin_jobs.specs.Played.{told_of}
 use Rattle.twin_jobs.specs.Worlds as two
 use Rattle.twin_jobs.specs.declared.played.JobLeft.{JobLeft}
-use Rattle.durable_job.specs.Moves.{Stays, left_of, TwinsStay, turns_left}
 use Rattle.durable_job.specs.Jobs.{IsOfOne, KeepsOne, verdict_of_two, told_both, run_told}
-use Rattle.durable_job.specs.Played.{IsHeld, Survives, IsPlayed}
-use Rattle.durable_job.specs.declared.jobs.Jobs.TheVariants.{One, Two}
 use Rattle.durable_job.specs.declared.jobs.Told.{Told}
 
 -- ---- of both kinds

@@ -1,9 +1,5 @@
 -- What is kept of a run since its opening store was put in place of what a shelf held.
-use Rattle.std.proofs.Common.{◌≡◌, List, [], length, Some, None, ap, subst, ◌∙◌}
-use Rattle.job_spec.specs.Prelude.{Content, Entry, moment}
-use Rattle.journal_log.specs.Prelude.{Sight, CrashesLeave, ShelfStop, Replaced, NotReplaced, IsMoment, WhereTold}
-use Rattle.durable_job.specs.Pace.{InPace, Behind}
-use Rattle.durable_job.specs.Played.{IsHeld, Survives}
+use Rattle.durable_job.proofs.Common.{Behind, Content, CrashesLeave, Entry, InPace, IsHeld, IsMoment, List, None, NotReplaced, Replaced, ShelfStop, Sight, Some, Survives, WhereTold, [], ap, length, moment, subst, ◌∙◌, ◌≡◌}
 
 -- the store of a run in which nothing was sent
 pub opening_is : (d c : Content) (es : List Entry) → d ≡ (moment c es (length es)).content → es ≡ [] → d ≡ c

@@ -2,3 +2,4 @@ pub mod Paces
 pub mod Turns
 pub mod Held
 pub mod Ends
+mod Common

@@ -1,18 +1,11 @@
 -- How a shelf goes on with a run, step by step.
-use Rattle.std.proofs.Common.{◌≡◌, inl, inr, ℕ, ◌+◌, ◌-◌, ◌^◌, ◌<◌, ◌≤◌, Bool, true, false, List, [], ◌∷◌, ◌++◌, append-nil, length, length-append, slice_get, drop, Option, Some, None, Result, Ok, Err, OnOk, OnErr, IsErrOf, refl, sym, ap, subst, ◌∙◌, arith}
+use Rattle.durable_job.proofs.Common.{Adds, Appended, AreAnswered, Begins, Behind, Bool, Content, Counts, CrashesLeave, Entry, Err, Event, Failed, FoundNone, Holding, Holds, HoldsPart, InPace, IsBetween, IsDurable, IsErrOf, IsMoment, IsTimed, List, NoMemory, None, Ok, OnErr, OnOk, Option, Request, Result, Rose, Run, Script, ShelfStop, Sight, Some, Stays, Stepped, Stopped, Stored, WentOn, WhereTold, [], ap, append-nil, arith, drop, drop_at, false, inl, inr, left_of, length, length-append, refl, slice_get, slice_get_within, subst, sym, true, ℕ, ◌++◌, ◌+◌, ◌-◌, ◌<◌, ◌^◌, ◌∙◌, ◌∷◌, ◌≡◌, ◌≤◌}
 use Rattle.std.proofs.lemmas.Option.{slice_get_cases}
-use Rattle.job_spec.proofs.Common.{drop_at, slice_get_within}
-use Rattle.job_spec.specs.Prelude.{Content, Request, Entry, Script, Event}
-use Rattle.journal_log.specs.Prelude.{Rose, Holding, Stored, IsDurable, Sight, CrashesLeave, IsTimed, ShelfStop, Failed, NoMemory, Begins, IsMoment, Holds, HoldsPart, WhereTold, IsBetween, AreAnswered, Appended, Stopped}
 use Rattle.journal_log.specs.Changes.{changes}
 use Rattle.journal_log.proofs.Journals.{changes_append, changes_none}
 use Rattle.journal_log.proofs.Standing.{begins_all, begins_more, holds_none, holds_more, short, some}
 use Rattle.journal_log.proofs.Leaving.{started, on_and_on}
 use Rattle.journal_log.proofs.Steps.{answered_then, some_grown, stops_of}
-use Rattle.job_world.specs.Worlds.{Run, WentOn, FoundNone}
-use Rattle.durable_job.specs.Moves.{Adds, Stepped, Stays, left_of}
-use Rattle.durable_job.specs.Played.{Counts}
-use Rattle.durable_job.specs.Pace.{InPace, Behind}
 
 -- ---- a step of a world
 

@@ -1,10 +1,7 @@
 -- A step of a world of two jobs.
-use Rattle.std.proofs.Common.{◌≡◌, ℕ, ◌+◌, ◌-◌, ◌<◌, Bool, [], ◌∷◌, length, length-append, Option, Some, None, is_some, refl, sym, ap, subst, ◌∙◌, arith}
-use Rattle.job_spec.proofs.Common.{slice_get_within}
-use Rattle.twin_script.specs.declared.turns.Side.{Side}
+use Rattle.durable_job.proofs.Common.{Bool, None, Option, Side, Some, Stepped, TwinsStay, [], ap, arith, is_some, length, length-append, refl, slice_get_within, subst, sym, turns_left, ℕ, ◌+◌, ◌-◌, ◌<◌, ◌∙◌, ◌∷◌, ◌≡◌}
 use Rattle.twin_script.specs.declared.turns.Side.TheVariants.{First, Second}
 use Rattle.twin_jobs.specs.Worlds.{JobRun, Run, played, Played, Turned, FoundNone}
-use Rattle.durable_job.specs.Moves.{Stepped, TwinsStay, turns_left}
 
 -- nothing changed
 self_stays : (r : Run) → TwinsStay r r

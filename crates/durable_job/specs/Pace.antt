@@ -1,7 +1,6 @@
 -- How a shelf keeps pace with a run.
 use Rattle.std.specs.Prelude.{List}
-use Rattle.job_spec.specs.Prelude.{Content, Entry}
-use Rattle.journal_log.specs.Prelude.{IsDurable, Sight, CrashesLeave, IsMoment, Holds, HoldsPart, WhereTold, AreAnswered, Stops}
+use Rattle.journal_log.specs.Prelude.{AreAnswered, Content, CrashesLeave, Entry, Holds, HoldsPart, IsDurable, IsMoment, Sight, Stops, WhereTold}
 use Rattle.journal_log.specs.Changes.{changes}
 
 -- since this state the shelf took all that a run changed, and a crash since then left a moment of it

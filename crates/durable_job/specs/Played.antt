@@ -1,9 +1,8 @@
 -- What comes of jobs that are played over a shelf.
-use Rattle.std.specs.Prelude.{◌≡◌, ◌⊎◌, ℕ, ◌<◌, List, length, Option, Some, None}
-use Rattle.job_spec.specs.Prelude.{Content, Entry, moment}
-use Rattle.journal_log.specs.Prelude.{fresh, IsDurable, Sight, CrashesLeave, ShelfStop, Failed, NoMemory, image, IsMoment, Holds, HoldsPart, WhereTold, AreCalled, AreStopped, KeepsImages}
+use Rattle.std.specs.Prelude.{List, None, Option, Some, length, ℕ, ◌<◌, ◌≡◌, ◌⊎◌}
+use Rattle.journal_log.specs.Prelude.{AreCalled, AreStopped, Content, CrashesLeave, Entry, Failed, Holds, HoldsPart, IsDurable, IsMoment, KeepsImages, NoMemory, ShelfStop, Sight, WhereTold, fresh, image, moment}
 use Rattle.journal_log.specs.Changes.{changes}
-use Rattle.durable_job.specs.Jobs.{ArePromised, AreFinished, verdict_of}
+use Rattle.durable_job.specs.Jobs.{AreFinished, ArePromised, verdict_of}
 use Rattle.durable_job.specs.declared.jobs.Jobs.{Jobs}
 use Rattle.durable_job.specs.declared.playing.Kept.{Kept}
 

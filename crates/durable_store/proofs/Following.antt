@@ -1,10 +1,7 @@
 -- What changes leave of a store.
-use Rattle.std.proofs.Common.{◌≡◌, ◌<◌, ◌^◌, true, false, List, [], Option, Some, None, refl, ap, ◌∙◌, arith}
-use Rattle.journal_log.specs.Prelude.{BucketContent, Content, opening, apply_store, apply_at, Request, GetObject, HeadObject, ListPage, ListParts, ListUploads, ClusterPut, ClusterRename, ClusterGet, ClusterDelete, ClusterList, is_changing, content_after}
+use Rattle.durable_store.proofs.Common.{BucketContent, ClusterDelete, ClusterGet, ClusterList, ClusterPut, ClusterRename, Content, GetObject, HeadObject, List, ListPage, ListParts, ListUploads, None, Option, Request, Some, [], ap, apply_at, apply_store, arith, content_after, false, is_changing, on_and_on, opening, others_leave, refl, true, ◌<◌, ◌^◌, ◌∙◌, ◌≡◌}
 use Rattle.std.specs.FinMap as fin
 use Rattle.s3_types.specs.Requests.{is_cluster}
-use Rattle.journal_log.proofs.Imaged.{on_and_on}
-use Rattle.journal_log.proofs.Journals.{others_leave}
 
 -- ---- one request
 

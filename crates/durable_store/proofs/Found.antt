@@ -1,18 +1,14 @@
 -- What is found on a shelf, by what was loaded.
-use Rattle.std.proofs.Common.{◌≡◌, ◌⊎◌, inl, inr, ℕ, ◌<◌, ◌≤◌, ◌^◌, ◌||◌, nat_lt, nat_le, Bool, true, false, cond, List, Option, Some, None, Result, Ok, Err, IfOk, length, refl, sym, ap, subst, ◌∙◌, arith}
-use Rattle.proof_base.proofs.Common.{nat_tests, and_parts, leb-true}
-use Rattle.journal_log.specs.Prelude.{AllByRecursion, text_cmp, text_total, is_bucket, is_key, Content, Request, Stored, most_base, most_file, IsSmall, image, IsObject, IsBucket, IsContent, content_after, IsMade, kept}
+use Rattle.durable_store.proofs.Common.{AllByRecursion, AreAtKeys, Bool, Content, Err, IfOk, IsBucket, IsContent, IsMade, IsObject, IsOf, IsSmall, IsSound, List, None, Ok, Option, Request, Result, Some, Stored, all, and_parts, ap, arith, at, cond, content_after, false, image, inl, inr, is_bucket, is_key, kept, leb-true, length, most_base, most_file, nat_le, nat_lt, nat_tests, refl, subst, sym, text_cmp, text_total, true, ℕ, ◌<◌, ◌^◌, ◌||◌, ◌∙◌, ◌≡◌, ◌≤◌, ◌⊎◌}
 use Rattle.std.specs.FinMap as fin
 use Rattle.log_format.specs.declared.held.Held as logs
 use Rattle.shelf.specs.Logged.{IsLoaded, IsTooLarge, IsBad}
 use Rattle.shelf.specs.Logged.Holding.{Stands}
 use Rattle.store_image.proofs.Whole as images
 use Rattle.store_image.specs.Reading.{content_in}
-use Rattle.journal_log.proofs.Imaged.{all, at}
 use Rattle.durable_store.specs.declared.held.Held.{Held}
 use Rattle.durable_store.specs.declared.held.Held.TheVariants.{Nothing, Store, Faulty}
 use Rattle.durable_store.specs.Stores.{counted, unfolded, read_as, found}
-use Rattle.durable_store.specs.Outcomes.{IsSound, AreAtKeys, IsOf}
 
 -- ---- the store that is unfolded
 
@@ -29,9 +25,9 @@ many d h =
 -- it is what the base and the changes stand for
 pub stood : (held : logs.Held) (c : Content) → held.base ≡ image c → IsOf (counted (content_after c held.changes)) (Stands held)
 stood held c is = elim (nat_lt (2 ^ 62) (content_after c held.changes).next) as (λ t. IsOf (cond t (Faulty 5 0) (Store (content_after c held.changes))) (Stands held)) [
-      true ↦ tt
-    | false ↦ record { first = c; is_image = is; folded = refl }
-  ]
+  | true ↦ tt
+  | false ↦ record { first = c; is_image = is; folded = refl }
+]
 
 -- so what was followed stands for what is held
 pub stand_if : {E : Type 0} (r : Result Held E) (held : logs.Held) (c : Content) (rs : List Request) → rs ≡ held.changes → held.base ≡ image c → IfOk r (λ h. h ≡ counted (content_after c rs)) → IfOk r (λ h. IsOf h (Stands held))

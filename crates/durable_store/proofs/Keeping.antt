@@ -1,12 +1,7 @@
 -- What is answered, by what came of a save, and which statuses of what is said are none of the shelf.
-use Rattle.std.proofs.Common.{◌≢◌, ℕ, List, Result, Ok, Err}
-use Rattle.journal_log.specs.Prelude.{Content, Entry, ShelfStop, Failed, NoMemory}
+use Rattle.durable_store.proofs.Common.{Content, Entry, Err, Failed, IsAnswer, IsSaid, List, NoMemory, Ok, Result, Saves, ShelfStop, Status, failed, saved, status_of, text_at, wanting, ℕ, ◌≢◌}
 use Rattle.exit_status.specs.Statuses.{code}
-use Rattle.exit_status.specs.declared.statuses.Status.{Status}
 use Rattle.exit_status.specs.declared.statuses.Status.TheVariants.{Done, Refused, BadImage}
-use Rattle.durable_store.specs.Works.{Saves, IsSaid}
-use Rattle.durable_store.specs.Outcomes.IsAnswer.{saved, failed, wanting}
-use Rattle.durable_store.specs.Outcomes.{status_of, text_at, IsAnswer}
 
 -- of a save
 pub saved_answer : {A : Type 0} (r : Result A ShelfStop) (c : Content) (text : List ℕ) (es : List Entry) → IsAnswer (Saves c text es) (status_of r) (text_at (status_of r) text) es

@@ -2,3 +2,4 @@ pub mod Following
 pub mod Found
 pub mod Replacing
 pub mod Keeping
+mod Common

@@ -1,8 +1,5 @@
 -- How a save goes on behind the image.
-use Rattle.std.proofs.Common.{◌≡◌, ◌⊎◌, inl, inr, List, [], Option, Some, None, Result, Ok, Err, OnOk, OnErr, IfErr, refl, sym, subst, ◌∙◌}
-use Rattle.journal_log.specs.Prelude.{AllByRecursion, Content, Request, Entry, Holding, Stored, fresh, IsDurable, Sight, CrashesLeave, IsTimed, ShelfStop, image, IsMoment, Holds, HoldsPart, HoldsGrownBy, HoldsSome, WhereTold, IsBetween, Stopped, AreCut, Replaced}
-use Rattle.journal_log.specs.Changes.{changes}
-use Rattle.journal_log.proofs.Journals.{changes_none}
+use Rattle.durable_store.proofs.Common.{AllByRecursion, AreCut, Content, CrashesLeave, Entry, Err, Holding, Holds, HoldsGrownBy, HoldsPart, HoldsSome, IfErr, IsBetween, IsDurable, IsMoment, IsTimed, List, None, Ok, OnErr, OnOk, Option, Replaced, Request, Result, ShelfStop, Sight, Some, Stopped, Stored, WhereTold, [], changes, changes_none, fresh, image, inl, inr, refl, subst, sym, ◌∙◌, ◌≡◌, ◌⊎◌}
 use Rattle.journal_log.proofs.Standing.{begins_all, holds_more, some, short}
 use Rattle.journal_log.proofs.Leaving.{told_all, started, widened, on_and_on, survives}
 use Rattle.journal_log.proofs.Steps.{stops_of}

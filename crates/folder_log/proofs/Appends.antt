@@ -1,20 +1,13 @@
 -- What a log stands for while a change is appended to it.
-use Rattle.std.proofs.Common.{◌≡◌, ◌≢◌, ◌⊎◌, inl, inr, ⊎_elim, ℕ, ◌+◌, ◌<◌, ◌≤◌, ◌^◌, List, [], ◌∷◌, ◌++◌, length, Option, Some, None, Result, Ok, Err, true≢false, refl, sym, ap, subst, ◌∙◌, append_assoc, length-append, arith}
-use Rattle.std.specs.Prelude.{is_some, OnOk}
+use Rattle.folder_log.proofs.Common.{Elapses, Err, File, Holding, HoldsFresh, HoldsGrown, HoldsOneOf, IsAtRest, IsBeforeOrAfter, IsClosed, IsDurable, IsLeftOf, IsPrepared, IsRead, IsSettled, IsWithin, Leaves, LeavesOnly, List, None, Ok, OnOk, Only, Option, Result, Settles, ShowsNow, Some, Stored, TakesAppends, [], ap, append-nil, append_assoc, arith, as_holding, cases_eq, file_length, fresh, grown, head, headed, holding_of, inl, inr, is_some, length, length-append, log, long, magic, most_file, opened, record_of, refl, stored, stored_of, subst, sym, told, true≢false, ℕ, ⊎_elim, ◌++◌, ◌+◌, ◌<◌, ◌^◌, ◌∙◌, ◌∷◌, ◌≡◌, ◌≢◌, ◌≤◌, ◌⊎◌}
 use Rattle.s3_types.specs.Prelude.{AllByRecursion}
-use Rattle.std.proofs.lemmas.Bool.{cases_eq}
-use Rattle.std.proofs.lemmas.List.{append-nil}
 use Rattle.std.proofs.lemmas.Grind.{flat_map-append}
 use Rattle.s3_types.specs.declared.request.Request.{Request}
 use Rattle.log_format.specs.Change.{IsChange}
-use Rattle.log_format.specs.Log.{magic, long, head, headed, opened, record_of, log}
 use Rattle.log_format.specs.declared.held.Held.{Held}
 use Rattle.log_format.proofs.Files.{file_again}
-use Rattle.shelf.specs.Logged.{Holding, Stored, most_file, grown, told, fresh, LeavesOnly, IsBeforeOrAfter, IsDurable, HoldsGrown, HoldsOneOf, HoldsFresh}
 use Rattle.shelf.specs.Logged.Holding.{Stands}
-use Rattle.folder_log.specs.Disk.{File, file_length, IsRead, IsWithin, Only, Settles, ShowsNow, Elapses}
 use Rattle.folder_log.proofs.Moments.{started, goes_on}
-use Rattle.folder_log.specs.Kept.{as_holding, holding_of, stored_of, stored, Leaves, IsAtRest, IsSettled, TakesAppends, IsClosed, IsLeftOf, IsPrepared}
 
 -- ---- what files hold
 

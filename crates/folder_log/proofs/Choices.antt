@@ -1,17 +1,7 @@
 -- What a crash leaves by choice is one of what it may leave.
-use Rattle.std.proofs.Common.{◌≡◌, ℕ, ◌+◌, ◌<◌, Bool, true, false, cond, List, [], ◌∷◌, ◌++◌, length, get_or, replicate, take, drop, Some, None, Result, Ok, Err, refl, sym, ap, subst, ◌∙◌, arith, length-append, length-take, length-drop}
-use Rattle.std.specs.Prelude.{IfOk}
-use Rattle.std.proofs.lemmas.Bool.{leb-true, le-leb}
-use Rattle.std.proofs.lemmas.List.{length-replicate, at_drop_more}
-use Rattle.folder_log.specs.Disk.{File, IsTorn, overwritten, file_after}
-use Rattle.folder_log.specs.declared.state.Span.{Span}
-use Rattle.folder_log.specs.declared.state.State.{State}
+use Rattle.folder_log.proofs.Common.{Bool, DiskCall, Err, File, IfOk, IsImage, IsTorn, IsTornBy, List, None, Ok, Recorded, Result, Some, Span, State, Swap, Sync, Write, [], after, after_all, after_torn, ap, arith, at_drop_more, at_rest, cond, drop, false, file_after, filled, get_or, is_within, le-leb, leb-true, left_by, length, length-append, length-drop, length-replicate, length-take, overwritten, refl, replicate, shown, span, state_in, subst, sym, take, torn_last, torn_same, true, wrote, ℕ, ◌++◌, ◌+◌, ◌<◌, ◌∙◌, ◌∷◌, ◌≡◌}
 use Rattle.folder_log.specs.declared.state.Choice.{Choice}
 use Rattle.folder_log.specs.declared.state.Choice.TheVariants.{Lost, Kept, Torn}
-use Rattle.folder_log.specs.declared.state.DiskCall.{DiskCall}
-use Rattle.folder_log.specs.declared.state.DiskCall.TheVariants.{Swap, Write, Sync}
-use Rattle.folder_log.specs.Calls.{at_rest, is_within, wrote, after, after_all, IsTornBy, IsImage, filled, left_by, Recorded, state_in}
-use Rattle.folder_log.specs.Images.{span, torn_same, torn_last, after_torn, shown}
 
 -- both files are there and have one length, or neither is there
 abbrev AreAlike : File → File → Type 0

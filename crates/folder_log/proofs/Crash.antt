@@ -1,8 +1,5 @@
 -- What a crash leaves in the two steps of an append, as bytes.
-use Rattle.std.proofs.Common.{◌≡◌, ◌⊎◌, ℕ, ◌+◌, List, [], ◌∷◌, ◌++◌, length, get_or, take, drop, Some, None, sym, ◌∙◌, ap, arith, append_assoc, length-append, length-drop, take-append-drop, inl, inr}
-use Rattle.std.proofs.lemmas.List.{take_at, drop_at, drop_more, take_all, drop_all, append-nil}
-use Rattle.folder_log.specs.Disk.{File, Torn, IsTorn, overwritten}
-use Rattle.folder_log.specs.Kept.{IsLeftOf}
+use Rattle.folder_log.proofs.Common.{File, IsLeftOf, IsTorn, List, None, Some, Torn, [], ap, append-nil, append_assoc, arith, drop, drop_all, drop_at, drop_more, get_or, inl, inr, length, length-append, length-drop, overwritten, sym, take, take-append-drop, take_all, take_at, ℕ, ◌++◌, ◌+◌, ◌∙◌, ◌∷◌, ◌≡◌, ◌⊎◌}
 
 some_file : (a b : List ℕ) → (let x : File = Some a in x ≡ Some b) → a ≡ b
 some_file a b e = cc

@@ -3,3 +3,4 @@ pub mod Moments
 pub mod Appends
 pub mod Recorded
 pub mod Choices
+mod Common

@@ -1,7 +1,5 @@
 -- How a run of calls goes on.
-use Rattle.std.proofs.Common.{◌≡◌, inl, inr, ⊎_elim, ℕ, ◌+◌, ◌≤◌, arith, ap, ◌∙◌}
-use Rattle.shelf.specs.Logged.{LeavesOnly}
-use Rattle.folder_log.specs.Disk.{File, Elapses, more, FewMore}
+use Rattle.folder_log.proofs.Common.{Elapses, FewMore, File, LeavesOnly, ap, arith, inl, inr, more, ℕ, ⊎_elim, ◌+◌, ◌∙◌, ◌≡◌, ◌≤◌}
 
 -- counts of calls, one run behind another
 pub more_more : (m n c : ℕ) → more n (more m c) ≡ more (m + n) c

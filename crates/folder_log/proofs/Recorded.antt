@@ -1,13 +1,6 @@
 -- The file of a disk in memory after one call more.
-use Rattle.std.proofs.Common.{◌≡◌, ℕ, Bool, cond, List, [], ◌∷◌, ◌++◌, length, Option, Some, Result, Ok, Err, sym, ap, subst, ◌∙◌, arith}
+use Rattle.folder_log.proofs.Common.{Bool, DiskCall, Err, File, Follows, IsImage, IsTorn, IsWithin, List, Ok, Option, Recorded, Result, Some, Span, State, Write, [], after, after_last, ap, arith, at_rest, cond, file_after, last_of, length, state_in, state_of, subst, sym, within_true, write_follows, wrote, ℕ, ◌++◌, ◌∙◌, ◌∷◌, ◌≡◌}
 use Rattle.std.specs.Prelude.{OnOk, OnErr}
-use Rattle.folder_log.specs.Disk.{File, file_after, IsTorn, IsWithin, Follows}
-use Rattle.folder_log.specs.declared.state.Span.{Span}
-use Rattle.folder_log.specs.declared.state.State.{State}
-use Rattle.folder_log.specs.declared.state.DiskCall.{DiskCall}
-use Rattle.folder_log.specs.declared.state.DiskCall.TheVariants.{Write}
-use Rattle.folder_log.specs.Calls.{at_rest, wrote, after, state_of, last_of, Recorded, state_in, IsImage}
-use Rattle.folder_log.specs.Images.{after_last, within_true, write_follows}
 
 pub set_now : (first : File) (calls new : List DiskCall) (call : DiskCall) (set : Option State) (next : State) → new ≡ calls ++ call ∷ [] → set ≡ Some next → next ≡ after (state_of first calls) call → last_of set first ≡ state_of first new
 set_now first calls new call set next more is now =

@@ -1,17 +1,13 @@
 -- Making a file, stage by stage.
 use Rattle.std.specs.Prelude.{◌≡◌, ◌⊎◌, ℕ, ◌+◌, ◌*◌, ◌<◌, ◌≤◌, nat_lt, Bool, true, false, cond, List, [], ◌∷◌, Ok, Err, Option, Some, None, length}
-use Rattle.std.proofs.Common.{refl, sym, ap, subst, ◌∙◌, inl, inr, arith}
-use Rattle.path_keys.proofs.Common.{true≢false}
-use Rattle.fs_ops.specs.Prelude.{Objects, BucketContent, Scene, answer, apply, answer_at, apply_in, head, without, only_reads, Request, DeleteObjects, Reply, Deleted, Refused, TooManyKeys, is_key, Step, Next, End, Goes, Falls, Look, There, NoBucket, Other, look_of, Ask, Head, request_of, reply_in, objects_at, marker_of, keys_above, created, FsRefusal, AlreadyExists, NotDirectory, NoSuchBucket, HasFile, IsAbsent, Creates, look_asks, below_asks, NoFileAt, unless, climbing, climbed, upload_in}
+use Rattle.fs_files.proofs.Common.{AlreadyExists, Ask, BucketContent, Creates, DeleteObjects, Deleted, Done, End, Falls, FsRefusal, Goes, HasFile, HasRoom, Head, Heard, InFile, IsAbsent, IsBeside, IsFileOrNot, Look, Next, NoBucket, NoFileAt, NoSuchBucket, NoneBut, NoneLeft, NotDirectory, Objects, On, Other, Refused, Refusing, Reply, Request, Scene, Step, There, TooManyKeys, Writing, all_gone, answer, answer_at, answered, ap, applied_none, apply, apply_in, are_gone, arith, below_asks, climbed, climbing, created, get_put, head, heard, inl, inr, is_key, key_no_marker, keys_above, look_asks, look_of, marker_of, object_of, objects_at, only_reads, placed, refl, reply_in, request_of, stream_of, subst, sym, true≢false, unless, unsent, upload_at, upload_in, without, ◌∙◌}
 use Rattle.bucket_ops.specs.Prelude.{MaySend, reply_at}
 use Rattle.std.specs.FinMap as fin
 use Rattle.store_frame.proofs.Reading.{reads_nothing}
 use Rattle.operations.specs.Courses.{IsCourse, IsCalm}
 use Rattle.bucket_ops.specs.Asks.{objects_of}
-use Rattle.bucket_ops.proofs.AskLaws.{get_put, answered, applied_none, all_gone, are_gone}
 use Rattle.fs_tree.specs.declared.answers.FsRefusal.TheVariants.{IsDirectory}
 use Rattle.fs_tree.specs.Tree as tree
-use Rattle.fs_tree.proofs.Above.{key_no_marker}
 use Rattle.fs_ops.proofs.Looks.{head_tells, at_key, below_key}
 use Rattle.fs_ops.proofs.StepLaws.{not_missing}
 use Rattle.fs_ops.specs.declared.climb.Climbed.{Climbed}
@@ -20,19 +16,12 @@ use Rattle.fs_ops.proofs.Climbing.{IsClimbed, seen_on, all_on, IsShorter, climbi
 use Rattle.fs_files.specs.declared.create.CreateStage.{CreateStage}
 use Rattle.fs_files.specs.declared.create.CreateStage.TheVariants.{Here, Below, Up, Write, DropMarkers}
 use Rattle.fs_files.specs.declared.create.CreateFile.{CreateFile}
-use Rattle.store_frame.specs.Held.{upload_at}
-use Rattle.fs_files.specs.Placed.{placed, IsBeside, InFile, IsFileOrNot, NoneBut, NoneLeft, object_of}
 use Rattle.fs_files.specs.code.Writing as writing
-use Rattle.fs_files.specs.declared.writing.Heard.{Heard}
-use Rattle.fs_files.specs.declared.writing.Heard.TheVariants.{Done, On, Refusing}
-use Rattle.fs_files.specs.code.Writing.{Writing, unsent, stream_of}
 use Rattle.fs_files.specs.code.Hearing as hearing
-use Rattle.fs_files.specs.code.Hearing.{heard}
 use Rattle.fs_files.specs.Creation.{Creation, IsCreation}
 use Rattle.fs_files.proofs.WritingLaws as files
 use Rattle.fs_files.proofs.WritingLaws.{placed_same, placed_by, Wrote, HeardSo, OwnHeard, GoesOn, goes_further}
 use Rattle.fs_files.proofs.Creating.{created_above, makes_file, few_created}
-use Rattle.block_stream.specs.Holds.{HasRoom}
 use Rattle.fs_files.specs.code.Create.{Answer, CreateStep, asks, write_at, on_climb, climb, replace, here as here_at, on_here, on_below, drop_from, written, on, goes, IsOpen, IsDue, SomeDue, file_in, IsMade, least, HoldsIn, bucket_at, HoldsAt, holds, IsUndone, GivesFile, always_in, AlwaysFile, starts, request, stepped, led, gives, always, sends, upload_of, calm, leaves, write_left, left_at, left, Writes}
 
 -- where there is no bucket it ends, and else it goes on

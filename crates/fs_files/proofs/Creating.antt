@@ -1,18 +1,14 @@
 -- Making a file, in the tree. Contracts cite none of these laws.
 use Rattle.std.specs.Prelude.{◌≡◌, ◌⊎◌, ℕ, zero, suc, ◌+◌, ◌*◌, ◌<◌, ◌≤◌, ◌&&◌, nat_lt, true, false, List, [], ◌∷◌, ◌++◌, length, Some}
-use Rattle.std.proofs.Common.{refl, sym, ap, subst, ◌∙◌, inl, inr, arith, length-append}
-use Rattle.fs_ops.specs.Prelude.{list_all, is_element, Objects, without, begins, IsIn, Path, is_key, marker_of, keys_above, created, MarkerPolicy, Keep, Delete, is_marker, HasDir}
-use Rattle.path_keys.proofs.Common.{length-map, list_all-append, false≢true, nat_tests, none_some, same_or_other, text_here, text_other, in_map}
+use Rattle.fs_files.proofs.Common.{Cut, Delete, HasDir, IsIn, Keep, MarkerPolicy, NoSlash, Objects, Path, above_begins, ap, arith, begins, begins_above, created, cut, false≢true, in_map, inl, inr, is_element, is_key, is_marker, keys_above, length-append, length-map, list_all, list_all-append, marker_of, more_above, nat_tests, none_above, none_some, object_of, refl, same_or_other, subst, sym, text_here, text_other, without, ◌∙◌}
 use Rattle.std.specs.FinMap as fin
 use Rattle.words.specs.Parts.{parts_of}
 use Rattle.path_keys.proofs.Keys.{some_key}
 use Rattle.path_keys.proofs.Last.{parts_round, front_is_key}
 use Rattle.fs_tree.specs.Changes.{MakesFile}
 use Rattle.fs_tree.proofs.Begins.{begins_trans, begins_marker, marker_is, marker_at}
-use Rattle.fs_tree.proofs.Above.{NoSlash, Cut, cut, none_above, more_above, above_begins, begins_above}
 use Rattle.fs_ops.proofs.Showing.{element_some}
 use Rattle.bucket_ops.proofs.Below.{is_in, gone_in, kept_out}
-use Rattle.fs_files.specs.Placed.{object_of}
 use Rattle.std.proofs.lemmas.Bool.{and_parts}
 
 -- these are markers of directories above a path

@@ -2,3 +2,4 @@ pub mod Parted
 pub mod CreateLaws
 pub mod Creating
 pub mod WritingLaws
+mod Common

@@ -1,10 +1,6 @@
 -- A file that is written after one part more.
-use Rattle.std.proofs.Common.{◌≡◌, ℕ, ◌+◌, ◌-◌, ◌≤◌, min, true, List, [], ◌∷◌, ◌++◌, length, drop, Option, Some, None, IsSome, sym, ap, subst, ◌∙◌, arith, length-drop}
-use Rattle.path_keys.proofs.Common.{false≢true, drop-drop}
-use Rattle.fs_ops.specs.Prelude.{Spelled}
+use Rattle.fs_files.proofs.Common.{HasRoom, IsKept, IsSome, List, None, Option, Some, Spelled, Writing, [], ap, arith, drop, drop-drop, false≢true, is_due, length, length-drop, min, seen, stream_of, subst, sym, true, ℕ, ◌++◌, ◌+◌, ◌-◌, ◌∙◌, ◌∷◌, ◌≡◌, ◌≤◌}
 use Rattle.std.proofs.lemmas.List.{drop_min}
-use Rattle.block_stream.specs.Holds.{HasRoom}
-use Rattle.fs_files.specs.code.Writing.{Writing, stream_of, is_due, seen, IsKept}
 use Rattle.fs_files.proofs.WritingLaws.{parted_room}
 
 -- what is pending is what is behind it

@@ -1,27 +1,17 @@
 -- A file that is written is a closed stream: its bytes are held, whatever the store loses, and nothing else changes. Contracts cite none of these laws.
 use Rattle.std.specs.Prelude.{◌≡◌, ◌⊎◌, ℕ, ◌+◌, ◌-◌, ◌<◌, ◌≤◌, ◌||◌, not, nat_lt, nat_le, Bool, true, false, cond, List, [], ◌∷◌, take, length, Option, Some, None, Result, Ok, Err}
-use Rattle.std.proofs.Common.{refl, sym, ap, subst, ◌∙◌, inl, inr, arith}
-use Rattle.path_keys.proofs.Common.{nat_tests, take_all, exact_bytes, insert_same, some_is, same_or_not, nat_other, nat_left, nat_gone}
-use Rattle.fs_ops.specs.Prelude.{unwrap_or, text_total, Objects, Uploads, Upload, BucketContent, Buckets, Scene, answer, apply, answer_at, apply_at, apply_in, bucket_of, part_put, complete_answer, completed, live, is_part_number, with_part, joined, Spelled, named_from, Request, PutObject, CreateUpload, UploadPart, CompleteUpload, Reply, Stored, Part, Completed, Refused, Refusal, NoSuchUpload, upload_in, NoBucket, look_of}
+use Rattle.fs_files.proofs.Common.{BucketContent, Buckets, CompleteUpload, Completed, CreateUpload, Done, HasRoom, Heard, Holds, IsBeside, IsFileOrNot, IsLater, NoBucket, NoSuchUpload, NoneBut, NoneLeft, Objects, On, Part, PutObject, Refusal, Refused, Refusing, Reply, Request, Scene, Spelled, Stored, Upload, UploadPart, Uploads, Writing, answer, answer_at, ap, apply, apply_at, apply_in, arith, asks, asks_at, begun, bucket_of, complete_answer, completed, exact_bytes, first_stage, get_put, heard, heard_at, id_in, inl, inr, insert_same, is_due, is_part_number, is_short, joined, later_stage, left, live, look_of, named_from, nat_gone, nat_left, nat_other, nat_tests, object_of, part_put, parted, placed, put_put, refl, refused, same_or_not, some_is, stage_by, stage_in, stream_of, subst, sym, take_all, text_total, unsent, unwrap_or, upload_at, upload_in, with_part, ◌∙◌}
 use Rattle.store_frame.specs.Prelude.{draws}
 use Rattle.std.specs.FinMap as fin
 use Rattle.s3_types.specs.declared.reply.Reply.TheVariants.{Upload as Drawn}
-use Rattle.store_frame.specs.Held.{upload_at}
-use Rattle.bucket_ops.proofs.AskLaws.{get_put, put_put}
 use Rattle.block_stream.specs.declared.stage.Stage.{Stage}
 use Rattle.block_stream.specs.declared.stage.Stage.TheVariants.{Waiting, Putting, Beginning, Sending, Completing, Over}
 use Rattle.block_stream.specs.declared.mode.StreamEnd.TheVariants.{Done as Ended}
 use Rattle.block_stream.specs.Stream as streams
 use Rattle.block_stream.specs.Stream.{Stream, has_some, has_part, begin_or_wait, stage, stage_of, wanted, told, answers, ended}
-use Rattle.block_stream.specs.Holds.{HasRoom, Holds}
 use Rattle.block_stream.proofs.FillingLaws.{due, room_after, room_begun, held_at}
 use Rattle.block_stream.proofs.KeepingLaws as keeping
-use Rattle.fs_files.specs.Placed.{placed, IsLater, IsBeside, IsFileOrNot, NoneBut, NoneLeft, object_of}
-use Rattle.fs_files.specs.declared.writing.Heard.{Heard}
-use Rattle.fs_files.specs.declared.writing.Heard.TheVariants.{Done, On, Refusing}
-use Rattle.fs_files.specs.code.Writing.{Writing, unsent, stream_of, first_stage, later_stage, is_short, is_due, stage_by, stage_in, id_in, asks_at, asks}
 use Rattle.fs_files.specs.code.Create.{Writes}
-use Rattle.fs_files.specs.code.Hearing.{begun, parted, refused, heard_at, heard, left}
 use Rattle.proof_base.proofs.Numbers.{at_most_is}
 
 -- ---- what a stage tells

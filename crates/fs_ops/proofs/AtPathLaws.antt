@@ -1,11 +1,9 @@
 -- What stands at a path, stage by stage, whatever is asked of a file there.
 use Rattle.std.specs.Prelude.{◌≡◌, true, ℕ, List, [], ◌∷◌, Result, Err, Option, Some, None}
-use Rattle.std.proofs.Common.{refl, sym, subst, ◌∙◌, arith}
-use Rattle.fs_ops.specs.Prelude.{Objects, Reply, Goes, Falls, There, look_of, Ask, Head, Get, Page, reply_in, edited, is_look, IsPhases, MayAsk, marker_of, FsRefusal, NotFound, NoSuchBucket, IsDirectory, IsAbsent, look_asks, get_asks, goes_by, IsStages, IsStill, OnlyLooks, first, told, holds, left}
+use Rattle.fs_ops.proofs.Common.{Ask, Falls, FsRefusal, Get, Goes, Head, IsAbsent, IsDirectory, IsPhases, IsStages, IsStill, MayAsk, NoSuchBucket, NotFound, Objects, OnlyLooks, Page, Reply, There, arith, edited, false≢true, first, get_asks, goes_by, holds, is_look, left, look_asks, look_of, marker_of, refl, reply_in, subst, sym, told, ◌∙◌}
 use Rattle.std.specs.FinMap as fin
 use Rattle.fs_ops.specs.declared.at_path.PathStage.{PathStage}
 use Rattle.fs_ops.specs.declared.at_path.PathStage.TheVariants.{Here, Below}
-use Rattle.path_keys.proofs.Common.{false≢true}
 use Rattle.fs_ops.proofs.StepLaws.{phases_of}
 use Rattle.fs_ops.proofs.Looks.{below_key}
 use Rattle.fs_ops.specs.code.AtPath.{asks, on_here, on_below, on}

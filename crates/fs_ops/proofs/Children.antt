@@ -1,18 +1,10 @@
 -- What a delimited listing has of a directory's children. Contracts cite none of these laws.
 use Rattle.std.specs.Prelude.{◌≡◌, ◌⊎◌, ℕ, ◌==◌, ◌&&◌, not, Bool, true, false, cond, List, [], ◌∷◌, ◌++◌, map, length, Option, Some, None}
-use Rattle.std.proofs.Common.{refl, sym, ap, subst, ◌∙◌, inl, inr, append_assoc, arith}
-use Rattle.path_keys.proofs.Common.{false≢true, eqb-true, append_cancel_left, append_cancel_right, not_so, lt, tied, map_sorted, some_is, none_some, nat_true, text_exact, in_map, map_in, in_filter, filter_in}
+use Rattle.fs_ops.proofs.Common.{DirEntry, Directory, File, IsIn, NoneBelow, Object, Objects, PageEntry, Prefix, RisesFrom, SomeBelow, Status, and_parts, ap, append_assoc, append_cancel_left, append_cancel_right, arith, begins, begins_more, entry_of, eqb-true, false≢true, filter, filter_in, folded_from, found_at, found_in, in_filter, in_map, inl, inr, is_again, is_lt, is_other, list_all, listed, lt, map_in, map_sorted, nat_true, none_some, not_so, refl, rest_after, some_is, subst, sym, text_by, text_cmp, text_exact, text_in, tied, walked_listed, ◌∙◌}
 use Rattle.store_frame.specs.Prelude.{option_map, before_slash, stem, entry_by}
-use Rattle.fs_ops.specs.Prelude.{filter, list_all, is_lt, text_cmp, is_other, Objects, begins, entry_of, listed, text_in, folded_from, is_again, Object, PageEntry, Prefix, IsIn, RisesFrom, Status, Directory, File, DirEntry, SomeBelow, NoneBelow}
 use Rattle.std.specs.FinMap as fin
 use Rattle.s3_types.specs.declared.reply.PageEntry.TheVariants.{Object as Single}
-use Rattle.store_frame.proofs.Flat.{found_in, found_at}
 use Rattle.store_frame.specs.Walk.{walked, text_of as walked_text}
-use Rattle.store_frame.proofs.Listed.{walked_listed}
-use Rattle.fs_tree.proofs.Begins.{begins_more}
-use Rattle.fs_tree.proofs.Moving.{rest_after}
-use Rattle.fs_tree.specs.Changes.{text_by}
-use Rattle.std.proofs.lemmas.Bool.{and_parts}
 
 abbrev pub NoSlash : List ℕ → Type 0
 NoSlash n = list_all (is_other 47) n ≡ true

@@ -1,12 +1,9 @@
 -- What a climb over the directories above a path has seen.
 use Rattle.std.specs.Prelude.{◌≡◌, ℕ, ◌<◌, List, [], ◌∷◌, None, length}
-use Rattle.std.proofs.Common.{refl, arith, inl, inr}
-use Rattle.fs_ops.specs.Prelude.{Objects, Look, There, Nothing, Stands, NoFiles, climbing, climbed, IsClimb}
-use Rattle.fs_tree.specs.Prelude.{IsFirstFile}
+use Rattle.fs_ops.proofs.Common.{Climbed, IsClimb, IsFirstFile, Look, NoFiles, Nothing, Objects, Stands, There, arith, climbed, climbing, inl, inr, refl}
 use Rattle.std.specs.FinMap as fin
 use Rattle.fs_ops.proofs.Looks.{IsSeen}
 use Rattle.fs_ops.specs.declared.climb.Climb.{Climb}
-use Rattle.fs_ops.specs.declared.climb.Climbed.{Climbed}
 use Rattle.fs_ops.specs.declared.climb.Climbed.TheVariants.{File, On, Free}
 use Rattle.fs_ops.specs.code.Climbs.{Passed}
 

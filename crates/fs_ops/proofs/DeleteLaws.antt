@@ -1,16 +1,10 @@
 -- Deleting a path, stage by stage.
 use Rattle.std.specs.Prelude.{◌≡◌, ◌⊎◌, ℕ, ◌+◌, ◌<◌, Bool, true, false, List, [], ◌∷◌, Option, Some, None, Ok, Err, take, if◌then◌else◌, map}
-use Rattle.std.proofs.Common.{refl, sym, ap, subst, ◌∙◌, arith, inl, inr}
-use Rattle.path_keys.proofs.Common.{false≢true, irrefl, same_or_other, text_is, text_true, text_here, text_other, text_gone, text_left, in_front, true_or_false}
-use Rattle.fs_ops.specs.Prelude.{is_lt, text_cmp, text_eq, text_total, Objects, head, without, page, listed, begins, text_in, Object, PageEntry, IsIn, RisesFrom, Step, Next, End, Goes, Falls, Look, There, Nothing, look_of, reply_in, edited, IsPhases, MayAsk, marker_of, sweep_start, sweep_hears, all_go, Listing, Deleting, NotFound, NotEmpty, IsRoot, NoSuchBucket, SomeBelow, NoneBelow, marker, parent, marker_if, IsMarked, prefix_of, NoFileAt, goes_by, IsStages, sweep_asks, sweep_left, LessLeft, fits, keys_below, Deletion, Answer, entries_in, Removed, ends, gives}
-use Rattle.fs_tree.specs.Prelude.{IsEmpty, HasChildren, IsWithoutBelow}
+use Rattle.fs_ops.proofs.Common.{Answer, Deleting, Deletion, End, Falls, Goes, HasChildren, IsEmpty, IsIn, IsMarked, IsPhases, IsRoot, IsStages, IsWithoutBelow, LessLeft, Listing, Look, MayAsk, Next, NoFileAt, NoSuchBucket, NoneBelow, NotEmpty, NotFound, Nothing, Object, Objects, PageEntry, Removed, RisesFrom, SomeBelow, Step, There, all_go, ap, arith, begins, begins_all, edited, ends, entries_in, false≢true, fits, gives, goes_by, head, if_marker, in_front, inl, inr, irrefl, is_lt, keys_below, listed, listed_rises, look_of, marker, marker_if, marker_of, page, parent, prefix_of, refl, reply_in, same_or_other, subst, sweep_asks, sweep_begins, sweep_falls, sweep_fits, sweep_goes, sweep_hears, sweep_left, sweep_start, sweep_stays, sym, text_cmp, text_eq, text_gone, text_here, text_in, text_is, text_left, text_other, text_total, text_true, true_or_false, without, ◌∙◌}
 use Rattle.bucket_ops.specs.Prelude.{IsSweeping, IsSwept}
 use Rattle.std.specs.FinMap as fin
-use Rattle.store_frame.proofs.Flat.{listed_rises}
 use Rattle.bucket_ops.proofs.AskLaws.{gone_still}
 use Rattle.list_walk.specs.Walks as walks
-use Rattle.fs_tree.proofs.Begins.{begins_all}
-use Rattle.fs_tree.proofs.Dropping.{if_marker}
 use Rattle.fs_ops.specs.declared.delete.Inside.{Inside}
 use Rattle.fs_ops.specs.declared.delete.Inside.TheVariants.{Empty, MarkerAlone, Children}
 use Rattle.fs_ops.specs.declared.delete.DeleteStage.{DeleteStage}
@@ -18,7 +12,6 @@ use Rattle.fs_ops.specs.declared.delete.DeleteStage.TheVariants.{Here, DropFile,
 use Rattle.fs_ops.proofs.StepLaws.{phases_of}
 use Rattle.fs_ops.proofs.AtPathLaws.{looks_there, still_look}
 use Rattle.fs_ops.proofs.Looks.{at_key, below_key, none_listed}
-use Rattle.bucket_ops.proofs.Sweeps.{sweep_begins, sweep_goes, sweep_fits, sweep_falls, sweep_stays}
 use Rattle.bucket_ops.proofs.Below.{is_in, below_stands, stands_below, gone_in, kept_out}
 use Rattle.fs_ops.proofs.Deleting.{deletes}
 use Rattle.fs_ops.specs.code.Delete.{first, asks, up_to, up, here as here_at, on_here, inside, children, on_inside, swept, on_sweep, on_parent, on, holds, IsDue, sends, GoesWith, IsKept, always, left}

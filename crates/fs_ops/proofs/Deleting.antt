@@ -1,8 +1,5 @@
 -- A deletion, in the tree.
-use Rattle.std.proofs.Common.{◌≡◌, inl, inr, ℕ, Bool, true, List, [], ◌∷◌, Ok, Err, refl, subst}
-use Rattle.fs_ops.specs.Prelude.{Objects, Scene, is_key, objects_at, GivesIn, NotFound, NotEmpty, IsRoot, NoSuchBucket, parent, marker_if, IsMarked, Deletes, Deletion, Answer, Removed, ends, gives}
-use Rattle.fs_tree.proofs.Above.{key_no_marker}
-use Rattle.fs_tree.proofs.Dropping.{drops_file, drops_dir}
+use Rattle.fs_ops.proofs.Common.{Answer, Bool, Deletes, Deletion, Err, GivesIn, IsMarked, IsRoot, List, NoSuchBucket, NotEmpty, NotFound, Objects, Ok, Removed, Scene, [], drops_dir, drops_file, ends, gives, inl, inr, is_key, key_no_marker, marker_if, objects_at, parent, refl, subst, true, ℕ, ◌∷◌, ◌≡◌}
 use Rattle.fs_ops.proofs.StepLaws.{same_scene}
 
 pub no_cons : {x : ℕ} {p : List ℕ} → x ∷ p ≡ [] → ⊥

@@ -12,3 +12,4 @@ pub mod ReadLaws
 pub mod Showing
 pub mod StatLaws
 pub mod StepLaws
+mod Common

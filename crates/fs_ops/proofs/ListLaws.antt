@@ -1,13 +1,9 @@
 -- What a directory holds, stage by stage.
 use Rattle.std.specs.Prelude.{◌≡◌, ◌⊎◌, ℕ, suc, ◌+◌, ◌<◌, nat_lt, Bool, true, false, List, [], ◌∷◌, ◌++◌, map, take, drop, length, Ok, Err, Option, Some, None}
-use Rattle.std.proofs.Common.{refl, sym, ap, subst, ◌∙◌, inl, inr, arith, length-drop}
-use Rattle.path_keys.proofs.Common.{ltb-true, ltb-false, take_all, false≢true, lt}
-use Rattle.fs_ops.specs.Prelude.{text_cmp, Objects, head, listed, text_in, Object, PageEntry, RisesFrom, Step, Goes, Falls, reply_in, edited, is_look, IsPhases, MayAsk, DirEntry, NotFound, NoSuchBucket, SomeBelow, NoFile, HasDir, Lists, prefix_of, goes_by, IsStages, IsStill, OnlyLooks, shown, added, all_added, last_text, children}
+use Rattle.fs_ops.proofs.Common.{DirEntry, Falls, Goes, HasDir, IsPhases, IsStages, IsStill, Lists, MayAsk, NoFile, NoSuchBucket, NotFound, Object, Objects, OnlyLooks, PageEntry, RisesFrom, SomeBelow, Step, added, all_added, ap, arith, children, edited, false≢true, goes_by, head, inl, inr, is_look, last_text, length-drop, length_in, listed, listed_behind, lt, ltb-false, ltb-true, prefix_of, refl, reply_in, shown, subst, sym, take_all, text_cmp, text_in, ◌∙◌}
 use Rattle.std.specs.FinMap as fin
-use Rattle.store_frame.proofs.Listed.{listed_behind}
 use Rattle.fs_ops.specs.declared.list.ListStage.{ListStage}
 use Rattle.fs_ops.specs.declared.list.ListStage.TheVariants.{Here, Pages}
-use Rattle.fs_ops.specs.code.Stat.{length_in}
 use Rattle.fs_ops.proofs.StepLaws.{phases_of}
 use Rattle.fs_ops.proofs.AtPathLaws.{looks_there, still_look}
 use Rattle.fs_ops.proofs.Children.{some_listed, none_listed, listed_rises}

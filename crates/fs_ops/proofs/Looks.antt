@@ -1,9 +1,7 @@
 -- What looks tell where there is the bucket.
 use Rattle.std.specs.Prelude.{◌≡◌, ℕ, true, false, List, [], ◌∷◌, Option, Some, None, take, map}
-use Rattle.std.proofs.Common.{refl, sym, subst, inl, arith}
-use Rattle.fs_ops.specs.Prelude.{is_lt, text_cmp, Objects, begins, page, listed, text_in, head, Object, PageEntry, IsIn, Look, There, Nothing, look_of, Stands, SomeBelow, NoneBelow}
+use Rattle.fs_ops.proofs.Common.{IsIn, Look, NoneBelow, Nothing, Object, Objects, PageEntry, SomeBelow, Stands, There, arith, begins, head, inl, is_lt, listed, listed_all, look_of, page, page_begins, refl, subst, sym, text_cmp, text_in}
 use Rattle.std.specs.FinMap as fin
-use Rattle.store_frame.proofs.Flat.{listed_all, page_begins}
 
 -- what a look says is so
 abbrev pub IsSeen : Look → Type 0 → Type 0 → Type 0

@@ -1,8 +1,5 @@
 -- The marker above a path.
-use Rattle.std.proofs.Common.{◌≡◌, Bool, true, false, ℕ, suc, List, [], ◌∷◌, ◌==◌, length, Option, Some, None, refl, sym, ap, ◌∙◌, arith, if◌then◌else◌}
-use Rattle.path_keys.proofs.Common.{eqb-true, some_is}
-use Rattle.fs_ops.specs.Prelude.{Path, parent_of, marker_of, deleted, parent, marker_if}
-use Rattle.path_keys.proofs.Last.{before_none}
+use Rattle.fs_ops.proofs.Common.{Bool, List, None, Option, Path, Some, [], ap, arith, before_none, deleted, eqb-true, false, if◌then◌else◌, length, marker_if, marker_of, parent, parent_of, refl, some_is, suc, sym, true, ℕ, ◌==◌, ◌∙◌, ◌∷◌, ◌≡◌}
 use Rattle.proof_base.proofs.Options.{none_some}
 
 pub not_zero : (n : ℕ) → (suc n == 0) ≡ false

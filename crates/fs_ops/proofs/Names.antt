@@ -1,14 +1,9 @@
 -- The keys of paths and of the directories above them, and what texts have behind a prefix.
-use Rattle.std.proofs.Common.{◌≡◌, ℕ, ◌<◌, ◌==◌, nat_eq, Bool, true, false, List, [], ◌∷◌, ◌++◌, drop, length, Option, Some, None, option_map, Bor, Result, IfOk, if◌then◌else◌, refl, sym, ap, subst, ◌∙◌, arith, append_assoc}
-use Rattle.fs_ops.specs.Prelude.{list_all, starts_with, is_other, is_key_path, is_key, marker_of, keys_above, marker_if, last_of, own_name, key_if, prefix_of, rest_of}
+use Rattle.fs_ops.proofs.Common.{Bool, Bor, Decides-eqb, IfOk, List, None, Option, Result, Some, [], ap, append-nil, append_assoc, arith, drop, false, front_is_key, if◌then◌else◌, is_key, is_key_path, is_other, key_if, keys_above, last_of, length, list_all, marker_if, marker_of, more_above, nat_eq, none_above, one_part, option_map, own_name, parts_of, parts_round, prefix_of, refl, rest_of, starts_is, starts_with, subst, sym, true, ℕ, ◌++◌, ◌<◌, ◌==◌, ◌∙◌, ◌∷◌, ◌≡◌}
 use Rattle.s3_types.specs.Prelude.{MatchOption, FindsTextPrefix, StripsPrefix}
-use Rattle.path_keys.proofs.Common.{Decides-eqb, starts_is, append-nil, one_part}
-use Rattle.words.specs.Parts.{parts_of}
 use Rattle.path_keys.proofs.Keys.{some_key}
-use Rattle.path_keys.proofs.Last.{front_is_key, parts_round}
 use Rattle.path_keys.proofs.Beneath.{key_path_from}
 use Rattle.dir_markers.proofs.Above.{front_some}
-use Rattle.fs_tree.proofs.Above.{none_above, more_above}
 
 -- a path that is not the root
 pub record IsPlace (key : List ℕ) : Type 0 where

@@ -1,9 +1,7 @@
 -- The bytes of a file are a question at its path.
 use Rattle.std.specs.Prelude.{◌≡◌, ℕ, List, ◌∷◌, Ok, Err, Option, Some, None}
-use Rattle.std.proofs.Common.{refl, arith}
-use Rattle.fs_ops.specs.Prelude.{Objects, Object, Goes, IsPhases, MayAsk, NotFound, NoSuchBucket, Reads, get_asks, goes_by, IsStill, OnlyLooks, first, told, holds, left}
+use Rattle.fs_ops.proofs.Common.{Goes, IsPhases, IsStill, MayAsk, NoSuchBucket, NotFound, Object, Objects, OnlyLooks, Reads, arith, first, found, get_asks, goes_by, holds, left, refl, told}
 use Rattle.std.specs.FinMap as fin
-use Rattle.s3_types.specs.Answer.{found}
 use Rattle.fs_tree.specs.declared.answers.FsRefusal.TheVariants.{IsDirectory}
 use Rattle.fs_ops.proofs.AtPathLaws.{IsQuestion, question_laws, question_asked, gets_there, look_still}
 use Rattle.fs_ops.specs.code.Read.{Answer, asks, bytes_in, on}

@@ -1,7 +1,6 @@
 -- The status of a path is a question at it.
 use Rattle.std.specs.Prelude.{◌≡◌, ℕ, List, ◌∷◌, Ok, Err, Option, Some, None}
-use Rattle.std.proofs.Common.{refl, arith}
-use Rattle.fs_ops.specs.Prelude.{Objects, head, Object, Goes, IsPhases, MayAsk, Directory, NotFound, NoSuchBucket, Stats, look_asks, goes_by, IsStill, OnlyLooks, first, told, holds, left}
+use Rattle.fs_ops.proofs.Common.{Directory, Goes, IsPhases, IsStill, MayAsk, NoSuchBucket, NotFound, Object, Objects, OnlyLooks, Stats, arith, first, goes_by, head, holds, left, look_asks, refl, told}
 use Rattle.std.specs.FinMap as fin
 use Rattle.fs_ops.proofs.AtPathLaws.{IsQuestion, question_laws, question_asked, looks_there, still_look}
 use Rattle.fs_ops.specs.code.Stat.{Answer, asks, status_in, on}

@@ -1,9 +1,7 @@
 -- Stages of file operations are phases of one bucket's operations.
 use Rattle.std.specs.Prelude.{◌≡◌, ℕ, ◌==◌, nat_lt, true, false, cond, List, length, take, Option, Some, None, if◌then◌else◌}
-use Rattle.std.proofs.Common.{refl, sym, subst, arith}
-use Rattle.fs_ops.specs.Prelude.{Objects, Scene, head, copy_answer, listed, Reply, Deleted, Refused, TooManyKeys, Step, End, Goes, Falls, There, Nothing, look_of, Ask, Head, Get, Page, DropAll, Copy, reply_in, edited, IsPhases, InScene, unless, IsStages}
+use Rattle.fs_ops.proofs.Common.{Ask, Copy, Deleted, DropAll, End, Falls, Get, Goes, Head, InScene, IsPhases, IsStages, Nothing, Objects, Page, Refused, Reply, Scene, Step, There, TooManyKeys, arith, copy_answer, edited, found, head, listed, look_of, refl, reply_in, subst, sym, unless}
 use Rattle.std.specs.FinMap as fin
-use Rattle.s3_types.specs.Answer.{found}
 
 module _ {Y : Type 0} (absent y : Y) where
   -- a bucket that is there never tells that it is not

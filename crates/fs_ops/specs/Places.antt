@@ -1,8 +1,7 @@
 -- What is asked of a path.
-use Rattle.std.specs.Prelude.{◌≡◌, ℕ, false, List, [], ◌∷◌, Option, Some, None}
-use Rattle.bucket_ops.specs.Prelude.{Objects, Ask, Head, Get, Page, Put}
+use Rattle.std.specs.Prelude.{List, None, Option, Some, [], false, ℕ, ◌∷◌, ◌≡◌}
+use Rattle.bucket_ops.specs.Prelude.{Ask, Drop, Get, Head, Objects, Page, Put}
 use Rattle.fs_tree.specs.Prelude.{below, marker_of}
-use Rattle.bucket_ops.specs.Prelude.{Drop}
 use Rattle.std.specs.FinMap as fin
 
 -- the key of a path; the root has none

@@ -1,10 +1,7 @@
 -- An operation in one bucket, or between two of them.
-use Rattle.std.proofs.Common.{◌≡◌, ℕ, zero, suc, ◌+◌, ◌<◌, Bool, true, false, not, List, [], ◌++◌, take, length, Some, None, Option, Ok, refl, sym, ap, subst, ◌∙◌, arith, length-append}
-use Rattle.fs_ops.specs.Prelude.{slice_get, text_eq, Objects, Scene, after_all, Actor, Request, Seen, Performed, objects_at, InScene, GivesIn, AlwaysIn}
-use Rattle.path_keys.proofs.Common.{false≢true, append-nil, none_some, text_is, text_true}
+use Rattle.fs_rename.proofs.Common.{Actor, AlwaysIn, Bool, GivesBetween, GivesIn, InScene, List, None, Objects, Ok, Option, Performed, Request, Scene, Seen, Some, [], after_all, ap, append-nil, arith, false, false≢true, length, length-append, none_some, not, objects_at, refl, slice_get, subst, suc, sym, take, text_eq, text_is, text_true, true, zero, ℕ, ◌++◌, ◌+◌, ◌<◌, ◌∙◌, ◌≡◌}
 use Rattle.machine.specs.Prelude.{HasUnanswered}
 use Rattle.bucket_ops.proofs.AskLaws.{with_same}
-use Rattle.fs_rename.specs.Between.{GivesBetween}
 
 -- ---- in one bucket
 

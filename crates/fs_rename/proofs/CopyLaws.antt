@@ -1,14 +1,6 @@
 -- Copies of keys, one after another.
-use Rattle.std.proofs.Common.{◌≡◌, ◌⊎◌, inl, inr, ℕ, zero, suc, ◌+◌, ◌-◌, ◌<◌, ◌≤◌, ◌&&◌, nat_lt, Bool, true, false, List, [], ◌∷◌, ◌++◌, map, take, drop, length, Option, Some, None, refl, sym, ap, subst, ◌∙◌, arith}
-use Rattle.std.proofs.lemmas.List.{drop-map}
-use Rattle.path_keys.proofs.Common.{ltb-true, nat_tests, length-map, take_all, text_here, text_other, none_some}
-use Rattle.fs_ops.specs.Prelude.{Objects, copied, Object, IsIn, edited, Stands}
+use Rattle.fs_rename.proofs.Common.{AreFree, Bool, Copying, IsCopied, IsCopying, IsIn, IsOneOf, LessCopies, List, Move, None, Object, Objects, Option, Some, Stands, [], and_parts, ap, arith, copied, copied_all, copied_next, copies_left, copy_asks, copy_of, drop, drop-map, edited, false, has_more, inl, inr, is_in, length, length-map, ltb-true, map, nat_lt, nat_tests, none_some, refl, sources, subst, suc, sym, take, take-map, take_all, targets, text_here, text_other, true, zero, ℕ, ◌&&◌, ◌++◌, ◌+◌, ◌-◌, ◌<◌, ◌∙◌, ◌∷◌, ◌≡◌, ◌≤◌, ◌⊎◌}
 use Rattle.std.specs.FinMap as fin
-use Rattle.bucket_ops.proofs.Below.{is_in}
-use Rattle.fs_rename.specs.declared.copying.Copying.{Copying}
-use Rattle.fs_rename.specs.Copies.{Move, IsOneOf, sources, targets, copied_all, copy_of, copy_asks, has_more, copied_next, IsCopying, IsCopied, copies_left, LessCopies, AreFree}
-use Rattle.std.specs.List.{take-map}
-use Rattle.std.proofs.lemmas.Bool.{and_parts}
 
 -- ---- lists of moves
 

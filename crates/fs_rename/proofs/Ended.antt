@@ -1,11 +1,7 @@
 -- What the renaming of a path has done.
-use Rattle.std.proofs.Common.{◌≡◌, ℕ, true, List, take, Result, Ok, Err, IfOk, subst}
-use Rattle.fs_ops.specs.Prelude.{Scene, after_all, Actor, Seen, Performed, is_key, AlwaysIn, SendsIn}
+use Rattle.fs_rename.proofs.Common.{Actor, AlwaysIn, Err, GivesBetween, IfOk, List, NoSuchBucket, Ok, OtherBucket, Performed, Result, Route, Scene, Seen, SendsIn, after_all, always, gives, is_key, sends, subst, take, true, ℕ, ◌≡◌}
 use Rattle.bucket_ops.specs.Prelude.{DriveStop}
-use Rattle.fs_tree.specs.declared.rename.RenameRefusal.TheVariants.{OtherBucket, NoSuchBucket}
-use Rattle.fs_rename.specs.Between.{Route, GivesBetween}
 use Rattle.fs_rename.specs.code.Rename.{Renaming, Answer, first as first_stage, asks}
-use Rattle.fs_rename.specs.code.Meaning.{gives, always, sends}
 use Rattle.fs_rename.specs.Public.{RenamesIn, StandsWhole, RenameSends}
 use Rattle.fs_rename.proofs.Told.{renames_in, whole_in}
 

@@ -1,18 +1,8 @@
 -- The new place inside a directory, and the paths above the target.
-use Rattle.std.proofs.Common.{◌≡◌, inl, inr, ℕ, ◌<◌, ◌&&◌, ◌==◌, Bool, true, false, List, [], ◌∷◌, ◌++◌, length, Option, Some, None, refl, sym, ap, ◌∙◌, arith, if◌then◌else◌}
-use Rattle.fs_ops.specs.Prelude.{list_all, are_elements, is_element, Path, is_key, parent_of, is_marker, parent, last_of, own_name, inside, key_if, prefix_of}
-use Rattle.path_keys.proofs.Common.{false≢true, true≢false, list_all-append, one_part, parts_append, none_some, some_is}
+use Rattle.fs_rename.proofs.Common.{Bool, Cut, List, None, Option, Path, Some, [], above_by, and_parts, ap, are_elements, arith, below_elements, cut, false, false≢true, if◌then◌else◌, inl, inr, inside, inside_of, is_element, is_key, is_marker, key_if, last_end, last_of, length, list_all, list_all-append, marker_ends, marker_is, none_some, not_zero, one_part, own_name, parent, parent_of, parts_append, place_by, prefix_of, refl, some_is, some_key, sym, true, true≢false, ℕ, ◌&&◌, ◌++◌, ◌<◌, ◌==◌, ◌∙◌, ◌∷◌, ◌≡◌}
 use Rattle.words.specs.Parts.{parts_of}
-use Rattle.path_keys.proofs.Keys.{some_key}
 use Rattle.path_keys.proofs.Last.{parts_round, before_none}
-use Rattle.path_keys.proofs.Beneath.{below_elements}
-use Rattle.fs_tree.proofs.Begins.{marker_is}
-use Rattle.fs_tree.proofs.Above.{Cut, cut, marker_ends}
-use Rattle.fs_ops.proofs.Names.{last_end}
-use Rattle.fs_ops.proofs.MarkerAbove.{not_zero, above_by}
 use Rattle.fs_rename.proofs.Places.{some_long}
-use Rattle.fs_rename.specs.code.Rename.{inside_of, place_by}
-use Rattle.std.proofs.lemmas.Bool.{and_parts}
 
 -- ---- elements
 

@@ -10,3 +10,4 @@ pub mod Ended
 pub mod RenameLaws
 pub mod Seen
 pub mod Steps
+mod Common

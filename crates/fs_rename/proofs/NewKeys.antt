@@ -1,11 +1,6 @@
 -- New keys are keys.
-use Rattle.std.proofs.Common.{◌≡◌, ℕ, zero, suc, ◌-◌, ◌≤◌, ◌&&◌, nat_eq, nat_lt, cond, Bool, true, false, List, [], ◌∷◌, ◌++◌, length, drop, Some, None, Result, Ok, Err, refl, sym, ap, ◌∙◌, arith, length-append, append_assoc, if◌then◌else◌}
-use Rattle.fs_ops.specs.Prelude.{slice_get, starts_with, are_elements, is_key_path, trimmed, marker_of, is_marker, is_too_long, rest_of}
-use Rattle.path_keys.proofs.Common.{le-leb, ltb-false, Decides-eqb, starts_is, some_is, none_some}
-use Rattle.path_keys.proofs.Beneath.{elements_append, key_path_from}
-use Rattle.fs_tree.proofs.Above.{marker_ends, marker_behind, other_end, cut_elements, key_elements, marker_elements}
+use Rattle.fs_rename.proofs.Common.{Bool, Decides-eqb, Err, List, None, Ok, Result, Some, [], ap, append_assoc, are_elements, arith, cond, cut_elements, drop, elements_append, false, fitting, if◌then◌else◌, is_key_path, is_marker, is_too_long, key_elements, key_path_from, le-leb, length, length-append, ltb-false, marker_behind, marker_elements, marker_ends, marker_of, nat_eq, nat_lt, new_by, new_key, new_keys, none_some, other_end, refl, rest_of, slice_get, some_is, starts_is, starts_with, suc, sym, trimmed, true, with_front, zero, ℕ, ◌&&◌, ◌++◌, ◌-◌, ◌∙◌, ◌∷◌, ◌≡◌, ◌≤◌}
 use Rattle.fs_ops.proofs.Showing.{rest_is as rest_follows}
-use Rattle.fs_rename.specs.Keys.{new_by, new_key, fitting, with_front, new_keys}
 use Rattle.proof_base.proofs.Bools.{all_three}
 use Rattle.proof_base.proofs.Lists.{some_length}
 

@@ -1,15 +1,6 @@
 -- The moves of a file, and of a directory with all that is below it.
-use Rattle.std.proofs.Common.{◌≡◌, ◌⊎◌, inl, inr, ℕ, cond, Bool, true, false, List, [], ◌∷◌, ◌++◌, Some, None, Result, Ok, Err, refl, sym, ap, subst, ◌∙◌, arith}
-use Rattle.path_keys.proofs.Common.{false≢true, append_cancel_left, irrefl, lt_not, none_some, true_or_false, none_or_some}
-use Rattle.fs_ops.specs.Prelude.{is_lt, text_cmp, text_total, Objects, without, begins, Object, IsIn, RisesFrom, marker_of, Stands, NoneBelow, is_marker, HasFile, IsDirectory, parent, marker_if, IsMove, is_too_long, AllFit, IsFirstTooLong, IsFileMoved, IsDirMoved, keys_below}
+use Rattle.fs_rename.proofs.Common.{AllFit, AreFree, Bool, Err, HasFile, IsDirMoved, IsDirectory, IsFileMoved, IsFirstTooLong, IsIn, IsMove, IsOneOf, List, Move, None, NoneBelow, Object, Objects, Ok, Result, RisesFrom, Some, Stands, [], ap, append_cancel_left, arith, begins, begins_more, behind, below_stands, cond, copied_all, false, false≢true, inl, inr, irrefl, is_lt, is_marker, is_too_long, keys_below, listed_rises, lt_not, marker_if, marker_key, marker_not_below, marker_of, moves_of, moves_to, new_key, new_keys, none_or_some, none_some, one_begins, parent, refl, rest_after, sources, stands_below, subst, sym, targets, text_cmp, text_total, true, true_or_false, with_front, without, ℕ, ◌++◌, ◌∙◌, ◌∷◌, ◌≡◌, ◌⊎◌}
 use Rattle.std.specs.FinMap as fin
-use Rattle.store_frame.proofs.Flat.{listed_rises, behind}
-use Rattle.fs_tree.proofs.Begins.{begins_more, one_begins}
-use Rattle.fs_tree.proofs.Dropping.{marker_key}
-use Rattle.fs_tree.proofs.Moving.{rest_after, marker_not_below}
-use Rattle.bucket_ops.proofs.Below.{below_stands, stands_below}
-use Rattle.fs_rename.specs.Keys.{new_key, with_front, new_keys}
-use Rattle.fs_rename.specs.Copies.{Move, IsOneOf, sources, targets, copied_all, AreFree, moves_to, moves_of}
 use Rattle.fs_rename.proofs.CopyLaws.{is_source, is_target}
 use Rattle.fs_rename.proofs.Whole.{new_at_end, old_at_end, others_at_end}
 use Rattle.fs_rename.proofs.NewKeys.{new_is}

@@ -1,11 +1,5 @@
 -- The target as a new place.
-use Rattle.std.proofs.Common.{◌≡◌, ℕ, ◌<◌, ◌==◌, true, false, List, [], ◌∷◌, length, Some, None, refl, sym, ◌∙◌, arith}
-use Rattle.path_keys.proofs.Common.{true≢false, none_some}
-use Rattle.fs_ops.specs.Prelude.{are_elements, is_key, is_marker, prefix_of}
-use Rattle.path_keys.proofs.Keys.{some_key}
-use Rattle.fs_ops.proofs.MarkerAbove.{not_zero}
-use Rattle.fs_tree.proofs.Begins.{marker_is}
-use Rattle.fs_rename.specs.Keys.{place_of}
+use Rattle.fs_rename.proofs.Common.{List, None, Some, [], are_elements, arith, false, is_key, is_marker, length, marker_is, none_some, not_zero, place_of, prefix_of, refl, some_key, sym, true, true≢false, ℕ, ◌<◌, ◌==◌, ◌∙◌, ◌∷◌, ◌≡◌}
 
 pub some_long : (s : List ℕ) → (length s == 0) ≡ false → 0 < length s
 some_long s h = grind arith

@@ -1,36 +1,19 @@
 -- Renaming, stage by stage.
 use Rattle.std.specs.Prelude.{◌≡◌, ℕ, ◌+◌, Bool, true, false, List, [], ◌∷◌, Option, Some, None, Result, Ok, Err, cond, drop}
-use Rattle.std.proofs.Common.{refl, sym, ap, subst, ◌∙◌, arith, inl, inr}
-use Rattle.path_keys.proofs.Common.{false≢true, append-nil, irrefl}
-use Rattle.fs_ops.specs.Prelude.{is_lt, text_cmp, text_total, Objects, begins, PageEntry, IsIn, Step, Goes, Falls, Look, There, look_of, reply_in, edited, is_look, IsPhases, MayAsk, marker_of, keys_on, Walked, More, Whole, walked_entries, Listing, Deleting, sweep_hears, deleting, all_go, SourceMissing, UnderSource, TargetFile, TargetExists, ParentMissing, ParentIsFile, TooLong, marker, HasFile, IsDirectory, IsAbsent, parent, marker_if, IsMarked, IsAtOrBelow, inside, is_too_long, AllFit, IsFirstTooLong, RenameRefusal, Renames, key_if, prefix_of, keys_below, walk_asks, IsWalking, IsWalked, fits, IsDeleted, sweep_asks}
+use Rattle.fs_rename.proofs.Common.{Above, AllFit, Before, Begun, Copying, Deleting, Directory, Falls, File, Goes, HasFile, Inside, IsAbsent, IsAtOrBelow, IsCopied, IsDeleted, IsDirectory, IsFirstTooLong, IsIn, IsMarked, IsMoved, IsPhases, IsReady, IsSource, IsWalked, IsWalking, Kind, LessCopies, Listing, Look, MayAsk, MayGo, More, NoFileIf, NoSuchBucket, Nothing, Objects, PageEntry, ParentIsFile, ParentMissing, RenameRefusal, Renames, RenamesPath, Source, SourceMissing, Spot, Step, Target, TargetExists, TargetFile, There, TooLong, UnderSource, Walked, Whole, all_go, always, ap, append-nil, arith, begins, begins_all, begins_marker, begins_trans, copied_all, copied_next, copies_left, copy_asks, deleting, edited, false≢true, fits, gives, has_more, holds, inl, inr, inside, irrefl, is_look, is_lt, is_too_long, key_if, keys_below, keys_on, left, look_of, marker, marker_at, marker_if, marker_of, moves_of, new_keys, parent, path_at, phases_of, prefix_of, refl, reply_in, sends, sources, stands_below, subst, sweep_asks, sweep_falls, sweep_fits, sweep_hears, sweep_stays, sym, text_cmp, text_total, walk_asks, walk_falls, walk_fits, walk_goes, walked_entries, ◌∙◌}
 use Rattle.fs_tree.specs.Prelude.{MayMove}
 use Rattle.std.specs.FinMap as fin
 use Rattle.list_walk.specs.Walks as walks
-use Rattle.fs_tree.specs.declared.rename.RenameRefusal.TheVariants.{NoSuchBucket}
-use Rattle.fs_tree.specs.Renames.{RenamesPath}
-use Rattle.fs_tree.proofs.Begins.{marker_at, begins_all, begins_trans, begins_marker}
 use Rattle.fs_ops.proofs.AtPathLaws.{look_still}
-use Rattle.fs_ops.proofs.StepLaws.{phases_of}
-use Rattle.bucket_ops.proofs.Sweeps.{sweep_fits, sweep_falls, sweep_stays}
-use Rattle.bucket_ops.proofs.Walks.{walk_fits, walk_goes, walk_falls}
 use Rattle.bucket_ops.proofs.Batches.{batch_goes, deleting_all}
-use Rattle.bucket_ops.proofs.Below.{stands_below}
 use Rattle.fs_ops.proofs.DeleteLaws.{parent_key}
-use Rattle.fs_rename.specs.declared.copying.Copying.{Copying}
 use Rattle.fs_rename.specs.declared.copying.CopyStep.{CopyStep}
 use Rattle.fs_rename.specs.declared.copying.CopyStep.TheVariants.{Next as NextCopy, All}
-use Rattle.fs_rename.specs.Keys.{new_keys}
-use Rattle.fs_rename.specs.Copies.{sources, copied_all, copy_asks, has_more, copied_next, IsCopied, copies_left, LessCopies, moves_of}
 use Rattle.fs_rename.proofs.CopyLaws.{copying_goes, copying_falls}
 use Rattle.fs_rename.proofs.Placed.{sources_to, all_found, only_file, dir_fit, dir_long}
-use Rattle.fs_rename.specs.declared.stages.Spot.{Spot}
-use Rattle.fs_rename.specs.declared.stages.Spot.TheVariants.{Source, Target, Inside, Above}
-use Rattle.fs_rename.specs.declared.stages.Kind.{Kind}
-use Rattle.fs_rename.specs.declared.stages.Kind.TheVariants.{File, Directory, Nothing}
 use Rattle.fs_rename.specs.declared.stages.RenameStage.{RenameStage}
 use Rattle.fs_rename.specs.declared.stages.RenameStage.TheVariants.{Look as Looking, Walk, Copy, Batch, Parent, PutMarker}
 use Rattle.fs_rename.specs.code.Rename.{Renaming, Answer, place_at, asks_at, inside_asks_if, seen_inside, seen_at, is_root_at, is_none, kind_of, one_copy, file_to, go, begun as begun_at, on_source, on_target, on_inside, on_above, found, looked, with_places, listed_to, on_walked, on_walk, up_to, up, swept, on_copied, on_batch, on_parent, first, asks, on, goes, look_at_asks}
-use Rattle.fs_rename.specs.code.Meaning.{IsSource, Begun, Before, path_at, NoFileIf, IsReady, MayGo, IsMoved, holds, gives, always, sends, left}
 use Rattle.fs_rename.proofs.Seen.{Tells, TellsKind, place_tells, inside_tells}
 use Rattle.fs_rename.proofs.Told.{no_root, stands}
 use Rattle.fs_rename.proofs.Steps.{fall_looked, fall_walked, fall_swept, fall_all, fall_parent}

@@ -1,19 +1,9 @@
 -- What the looks of a renaming tell.
-use Rattle.std.proofs.Common.{◌≡◌, inl, inr, ℕ, Bool, true, false, List, [], ◌∷◌, ◌++◌, map, take, Option, Some, None, refl, sym, ap, subst, ◌∙◌, if◌then◌else◌}
-use Rattle.path_keys.proofs.Common.{false≢true, append-nil, none_or_some, text_is, text_true}
-use Rattle.fs_ops.specs.Prelude.{is_lt, text_cmp, text_eq, Objects, listed, begins, text_in, Object, PageEntry, IsIn, RisesFrom, There, look_of, reply_in, marker_of, Stands, HasFile, IsDirectory, IsAbsent, NoFileAt, keys_below}
+use Rattle.fs_rename.proofs.Common.{Bool, Directory, File, HasFile, IsAbsent, IsDirectory, IsIn, Kind, List, NoFileAt, NoFileIf, None, Nothing, Object, Objects, Option, PageEntry, RisesFrom, Some, Stands, There, [], ap, append-nil, asks_at, begins, begins_all, behind, below_stands, false, false≢true, first_is, if◌then◌else◌, inl, inr, inside_asks, is_lt, is_root, keys_below, kind_of, listed, listed_rises, look_of, map, marker_of, none_or_some, refl, reply_in, rest_after, seen_inside, stands_below, subst, sym, take, text_cmp, text_eq, text_in, text_is, text_true, true, ℕ, ◌++◌, ◌∙◌, ◌∷◌, ◌≡◌}
 use Rattle.std.specs.FinMap as fin
-use Rattle.store_frame.proofs.Flat.{listed_rises, behind}
 use Rattle.bucket_ops.specs.declared.look.Look.TheVariants.{Nothing as NothingThere}
-use Rattle.fs_tree.proofs.Begins.{begins_all}
-use Rattle.fs_tree.proofs.Moving.{rest_after}
 use Rattle.fs_ops.proofs.Looks.{IsSeen, told, at_key, below_key}
 use Rattle.fs_ops.proofs.Showing.{cmp_behind}
-use Rattle.bucket_ops.proofs.Below.{below_stands, stands_below}
-use Rattle.fs_rename.specs.declared.stages.Kind.{Kind}
-use Rattle.fs_rename.specs.declared.stages.Kind.TheVariants.{File, Directory, Nothing}
-use Rattle.fs_rename.specs.code.Rename.{asks_at, inside_asks, first_is, seen_inside, is_root, kind_of}
-use Rattle.fs_rename.specs.code.Meaning.{NoFileIf}
 
 -- what stands at a path
 abbrev pub TellsKind : Objects → List ℕ → Kind → Type 0

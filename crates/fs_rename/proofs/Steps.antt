@@ -1,17 +1,8 @@
 -- A renaming comes to an end.
 use Rattle.std.specs.Prelude.{◌≡◌, ℕ, ◌+◌, ◌*◌, ◌<◌, Bool, true, false, List, [], ◌∷◌, Result, Ok, Err, Option, Some, None, length}
-use Rattle.std.proofs.Common.{refl, arith}
-use Rattle.fs_ops.specs.Prelude.{Objects, begins, Falls, Look, There, PageEntry, keys_on, Walked, More, Whole, sweep_start, deleting, parent, marker_if, prefix_of, key_if, sweep_left, LessLeft, LessWalked}
+use Rattle.fs_rename.proofs.Common.{Above, Directory, Falls, File, Inside, Kind, LessLeft, LessWalked, Look, More, Nothing, Objects, PageEntry, Renaming, Source, Spot, Target, There, Walked, Whole, arith, begins, begun, deleting, file_to, fitting, found, go, key_if, keys_on, left, length_keys, listed_to, looked, looks_left, marker_if, on_above, on_copied, on_inside, on_parent, on_source, on_target, on_walked, one_copy, parent, place_at, prefix_of, refl, sweep_left, sweep_start, swept, up_to, with_places}
 use Rattle.list_walk.specs.Walks as walks
-use Rattle.bucket_ops.proofs.Sweeps.{length_keys}
 use Rattle.fs_rename.specs.declared.copying.CopyStep.TheVariants.{All}
-use Rattle.fs_rename.specs.Keys.{fitting}
-use Rattle.fs_rename.specs.declared.stages.Spot.{Spot}
-use Rattle.fs_rename.specs.declared.stages.Spot.TheVariants.{Source, Target, Inside, Above}
-use Rattle.fs_rename.specs.declared.stages.Kind.{Kind}
-use Rattle.fs_rename.specs.declared.stages.Kind.TheVariants.{File, Directory, Nothing}
-use Rattle.fs_rename.specs.code.Meaning.{looks_left, left}
-use Rattle.fs_rename.specs.code.Rename.{Renaming, place_at, one_copy, file_to, go, begun, on_source, on_target, on_inside, on_above, found, looked, with_places, listed_to, on_walked, up_to, swept, on_copied, on_parent}
 
 -- ---- it falls
 

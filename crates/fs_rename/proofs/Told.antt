@@ -1,19 +1,8 @@
 -- A renaming, in the tree.
-use Rattle.std.proofs.Common.{◌≡◌, ◌⊎◌, inl, inr, ℕ, Bool, true, false, List, [], ◌∷◌, take, Option, Some, Ok, Err, sym, ap, subst, ◌∙◌, arith}
-use Rattle.fs_ops.specs.Prelude.{Objects, Scene, begins, without, IsIn, is_key, objects_at, GivesIn, AlwaysIn, marker_of, is_marker, HasDir, HasFile, IsDirectory, IsAbsent, parent, marker_if, IsMarked, inside, IsPlace, IsFileMoved, IsDirMoved, IsWhole, MayStand, Renames, IsDeleting}
-use Rattle.path_keys.proofs.Common.{none_some, in_front}
-use Rattle.fs_tree.specs.declared.rename.RenameRefusal.TheVariants.{NoSuchBucket}
+use Rattle.fs_rename.proofs.Common.{AlwaysIn, Answer, AreFree, Bool, Err, GivesIn, HasDir, HasFile, IsAbsent, IsDeleting, IsDirMoved, IsDirectory, IsFileMoved, IsIn, IsMarked, IsOnWay, IsPlace, IsSource, IsWhole, List, MayGo, MayStand, Move, NoSuchBucket, Objects, Ok, Option, Renames, RenamesDir, RenamesFile, Renaming, Scene, Some, [], always, ap, arith, begins, begins_trans, copied_all, false, gives, in_front, inl, inr, inside, is_key, is_marker, key_no_marker, marker_if, marker_of, moved, moves_dir, moves_file, moves_of, none_some, objects_at, parent, place_above, place_apart, same_scene, sources, subst, sym, take, true, without, ℕ, ◌∙◌, ◌∷◌, ◌≡◌, ◌⊎◌}
 use Rattle.fs_tree.specs.Moves.{IsFreePlace}
-use Rattle.fs_tree.specs.Renames.{RenamesFile, RenamesDir}
-use Rattle.fs_tree.proofs.Begins.{begins_trans}
-use Rattle.fs_tree.proofs.Above.{key_no_marker}
-use Rattle.fs_tree.proofs.Moving.{place_above, place_apart, moves_file, moves_dir}
-use Rattle.fs_ops.proofs.StepLaws.{same_scene}
-use Rattle.fs_rename.specs.Copies.{Move, sources, copied_all, AreFree, moves_of}
 use Rattle.fs_rename.proofs.Whole.{AreWhole, whole_copying, whole_emptying, whole_marked, is_whole}
 use Rattle.fs_rename.proofs.Placed.{file_free, file_to, file_from, file_apart, file_moved, dir_free, dir_to, dir_from, dir_apart, dir_moved}
-use Rattle.fs_rename.specs.code.Rename.{Renaming, Answer}
-use Rattle.fs_rename.specs.code.Meaning.{IsSource, MayGo, moved, gives, IsOnWay, always}
 use Rattle.fs_rename.proofs.Inside.{no_marker, inside_elements}
 
 -- ---- the source is not the root

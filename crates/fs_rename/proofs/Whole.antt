@@ -1,15 +1,7 @@
 -- Each object stands whole while it is moved.
-use Rattle.std.proofs.Common.{◌≡◌, ◌⊎◌, inl, inr, ℕ, suc, true, false, List, [], ◌∷◌, take, Option, Some, None, refl, sym, ap, subst, ◌∙◌, arith}
-use Rattle.path_keys.proofs.Common.{false≢true, lt_not, same_or_other, text_here, text_other, none_some}
-use Rattle.fs_ops.specs.Prelude.{is_lt, text_cmp, text_total, Objects, without, IsIn, RisesFrom, NoneBelow, marker, parent, marker_if, IsMarked, IsMove, IsWhole}
+use Rattle.fs_rename.proofs.Common.{AreFree, IsIn, IsMarked, IsMove, IsOneOf, IsWhole, List, Move, None, NoneBelow, Objects, Option, RisesFrom, Some, [], ap, arith, begins_all, behind, copied_all, false, false≢true, gone_in, inl, inr, is_in, is_lt, kept_out, lt_not, marker, marker_if, marker_key, none_some, parent, refl, same_or_other, sources, subst, suc, sym, take, take-map, targets, text_cmp, text_here, text_other, text_total, true, without, ℕ, ◌∙◌, ◌∷◌, ◌≡◌, ◌⊎◌}
 use Rattle.std.specs.FinMap as fin
-use Rattle.store_frame.proofs.Flat.{behind}
-use Rattle.fs_tree.proofs.Begins.{begins_all}
-use Rattle.fs_tree.proofs.Dropping.{marker_key}
-use Rattle.bucket_ops.proofs.Below.{is_in, gone_in, kept_out}
-use Rattle.fs_rename.specs.Copies.{Move, IsOneOf, sources, targets, copied_all, AreFree}
 use Rattle.fs_rename.proofs.CopyLaws.{in_targets, in_sources, is_target, is_source, one_in_take, copies_keep, not_target, copied_stand, all_stand}
-use Rattle.std.specs.List.{take-map}
 
 -- the moves are under way, or done and a marker u is put
 pub record AreWhole (u : Option (List ℕ)) (z : Objects) (ps : List Move) (m : Objects) : Type 0 where

@@ -1,17 +1,11 @@
 -- The paths above a path.
-use Rattle.std.proofs.Common.{◌≡◌, ◌⊎◌, inl, inr, ℕ, zero, suc, ◌<◌, ◌&&◌, ◌==◌, not, nat_eq, nat_le, true, false, List, [], ◌∷◌, ◌++◌, map, length, refl, sym, ap, subst, ◌∙◌, arith, length-append, append_assoc}
-use Rattle.fs_tree.specs.Prelude.{list_all, is_other, is_element, are_elements, is_key_path, trimmed, begins, is_key, below, marker_of, keys_above, IsIn, is_marker, parent}
-use Rattle.s3_types.specs.Prelude.{join_with_byte}
+use Rattle.fs_tree.proofs.Common.{IsIn, List, [], and_parts, ap, append_assoc, are_elements, arith, before_none, before_slash, begins, below, eq_nat, eqb-true, false, false≢true, in_append, in_front, in_last, inl, inr, is_element, is_key, is_key_path, is_marker, is_other, join_with_byte, keys_above, length, length-append, list_all, list_all-append, map, marker_of, nat_eq, nat_le, not, one_part, parent, parts_append, parts_of, parts_round, refl, subst, suc, sym, trimmed, true, true_or_false, zero, ℕ, ◌&&◌, ◌++◌, ◌<◌, ◌==◌, ◌∙◌, ◌∷◌, ◌≡◌, ◌⊎◌}
 use Rattle.proof_base.proofs.Bools.{contrary}
-use Rattle.path_keys.proofs.Common.{true_or_false, false≢true, eqb-true, list_all-append, one_part, parts_append, eq_nat, in_append, in_front, in_last}
-use Rattle.words.specs.Parts.{parts_of}
 use Rattle.path_keys.proofs.Ends.{no_end}
 use Rattle.path_keys.proofs.Keys.{some_key}
-use Rattle.path_keys.proofs.Last.{parts_round, before_slash, before_none}
 use Rattle.dir_markers.specs.Markers.{fronts}
 use Rattle.dir_markers.proofs.Above.{above_more, trimmed_marker}
 use Rattle.fs_tree.proofs.Begins.{begins_more, begins_all, begins_trans, begins_marker, marker_is, marker_at, no_empty}
-use Rattle.std.proofs.lemmas.Bool.{and_parts}
 
 -- ---- a text cut at its last `/`
 

@@ -1,8 +1,5 @@
 -- Texts that begin with others, and markers.
-use Rattle.std.proofs.Common.{◌≡◌, ◌⊎◌, inl, inr, ℕ, ◌&&◌, ◌≤◌, nat_eq, Bool, true, false, List, [], ◌∷◌, ◌++◌, length, refl, sym, ap, ◌∙◌, arith}
-use Rattle.path_keys.proofs.Common.{false≢true, eq_nat, nat_true}
-use Rattle.fs_tree.specs.Prelude.{begins, marker_of, is_marker}
-use Rattle.std.proofs.lemmas.Bool.{and_parts}
+use Rattle.fs_tree.proofs.Common.{Bool, List, [], and_parts, ap, arith, begins, eq_nat, false, false≢true, inl, inr, is_marker, length, marker_of, nat_eq, nat_true, refl, sym, true, ℕ, ◌&&◌, ◌++◌, ◌∙◌, ◌∷◌, ◌≡◌, ◌≤◌, ◌⊎◌}
 
 pub begins_more : (p t : List ℕ) → begins p (p ++ t) ≡ true
 begins_more [] t = refl

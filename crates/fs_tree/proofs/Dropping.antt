@@ -1,13 +1,9 @@
 -- Deleting a file or a directory, in the tree.
-use Rattle.std.proofs.Common.{◌≡◌, ◌⊎◌, inl, inr, ℕ, true, false, List, [], ◌∷◌, Option, Some, None, refl, sym, ap, subst, ◌∙◌, arith, length-append}
-use Rattle.path_keys.proofs.Common.{false≢true, false_true, none_some, some_is, true_or_false, same_or_other, text_gone, text_left, text_other}
-use Rattle.fs_tree.specs.Prelude.{Objects, begins, marker_of, Stands, SomeBelow, is_marker, marker, HasDir, parent, marker_if, IsMarked, IsWithoutBelow}
-use Rattle.std.specs.FinMap as fin
-use Rattle.fs_tree.specs.Changes.{DropsFile, DropsDir}
-use Rattle.fs_tree.specs.Moves.{IsAtOrBelow}
-use Rattle.fs_tree.proofs.Begins.{begins_all, begins_trans, begins_marker, begins_length, one_begins, marker_is, marker_at}
+use Rattle.fs_tree.proofs.Common.{DropsDir, DropsFile, HasDir, IsAtOrBelow, IsMarked, IsWithoutBelow, List, None, Objects, Option, Some, SomeBelow, Stands, [], ap, arith, begins, false, false_true, false≢true, inl, inr, is_marker, length-append, marker, marker_if, marker_of, none_some, parent, refl, same_or_other, some_is, subst, sym, text_gone, text_left, text_other, true, true_or_false, ℕ, ◌∙◌, ◌∷◌, ◌≡◌, ◌⊎◌}
+use Rattle.fs_tree.proofs.Begins.{begins_all, begins_length, begins_marker, begins_trans, marker_at, marker_is, one_begins}
 use Rattle.fs_tree.proofs.Above.{above_parent, parent_begins}
-use Rattle.fs_tree.proofs.Making.{put_stands, put_was, dir_of, dir_each, dir_by, has_marker}
+use Rattle.fs_tree.proofs.Making.{dir_by, dir_each, dir_of, has_marker, put_stands, put_was}
+use Rattle.std.specs.FinMap as fin
 
 -- ---- a marker that is put where nothing is left
 

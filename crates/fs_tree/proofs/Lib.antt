@@ -3,3 +3,4 @@ pub mod Above
 pub mod Making
 pub mod Dropping
 pub mod Moving
+mod Common

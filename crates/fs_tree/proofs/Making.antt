@@ -1,9 +1,6 @@
 -- Making a directory, in the tree.
-use Rattle.std.proofs.Common.{◌≡◌, ◌⊎◌, inl, inr, ℕ, true, List, [], ◌∷◌, refl, sym, ap, subst, ◌∙◌, arith}
-use Rattle.path_keys.proofs.Common.{false≢true, same_or_other, text_here, text_other}
-use Rattle.fs_tree.specs.Prelude.{Objects, begins, Object, marker_of, keys_above, IsIn, Stands, SomeBelow, is_marker, marker, HasDir, PutsDir}
+use Rattle.fs_tree.proofs.Common.{HasDir, IsIn, List, MakesDirs, Object, Objects, PutsDir, SomeBelow, Stands, [], ap, arith, begins, false≢true, inl, inr, is_marker, keys_above, marker, marker_of, refl, same_or_other, subst, sym, text_here, text_other, true, ℕ, ◌∙◌, ◌∷◌, ◌≡◌, ◌⊎◌}
 use Rattle.std.specs.FinMap as fin
-use Rattle.fs_tree.specs.Changes.{MakesDirs}
 use Rattle.fs_tree.proofs.Begins.{begins_all, begins_trans, marker_is, marker_at, no_empty}
 use Rattle.fs_tree.proofs.Above.{above_begins, begins_above, above_marker}
 

@@ -1,18 +1,11 @@
 -- Moving a file or a directory, in the tree.
-use Rattle.std.proofs.Common.{◌≡◌, ◌⊎◌, inl, inr, ℕ, nat_eq, true, false, List, [], ◌∷◌, ◌++◌, Some, None, refl, sym, ap, subst, ◌∙◌, append_assoc, append-nil}
-use Rattle.fs_tree.specs.Prelude.{Objects, begins, marker_of, Stands, SomeBelow, NoneBelow, is_marker, HasDir, HasFile, IsDirectory, IsAbsent, parent, marker_if, last_of, own_name, IsAtOrBelow, MayMove, inside, IsPlace, IsFileMoved, IsDirMoved}
-use Rattle.path_keys.proofs.Common.{false≢true, one_part, eq_nat, none_some, true_or_false, same_or_other}
+use Rattle.fs_tree.proofs.Common.{HasDir, HasFile, IsAbsent, IsAtOrBelow, IsDirMoved, IsDirectory, IsFileMoved, IsMarkedAbove, IsPlace, List, MayMove, MovesDir, MovesFile, None, NoneBelow, Objects, Some, SomeBelow, Stands, [], and_parts, ap, append-nil, append_assoc, before_none, before_slash, begins, eq_nat, false, false≢true, inl, inr, inside, is_marker, last_of, marker_if, marker_of, nat_eq, none_some, one_part, own_name, parent, parts_of, parts_round, refl, same_or_other, subst, sym, true, true_or_false, ℕ, ◌++◌, ◌∙◌, ◌∷◌, ◌≡◌, ◌⊎◌}
 use Rattle.std.specs.FinMap as fin
-use Rattle.words.specs.Parts.{parts_of}
-use Rattle.path_keys.proofs.Last.{parts_round, before_slash, before_none}
-use Rattle.fs_tree.specs.Changes.{IsMarkedAbove}
-use Rattle.fs_tree.specs.Moves.{MovesFile, MovesDir}
 use Rattle.fs_tree.proofs.Begins.{begins_more, begins_trans, begins_marker, marker_at}
 use Rattle.fs_tree.proofs.Above.{NoSlash, cut, above_parent}
 use Rattle.fs_tree.proofs.Making.{dir_of, dir_each, dir_by}
 pub use Rattle.fs_tree.proofs.Dropping.{marker_not_below}
 use Rattle.fs_tree.proofs.Dropping.{not_above_root, stands_above, marked_was, marked_stands, marked_other, marked_files, above_kept, through}
-use Rattle.std.proofs.lemmas.Bool.{and_parts}
 
 -- ---- texts
 

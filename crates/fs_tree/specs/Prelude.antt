@@ -7,10 +7,5 @@ pub use Rattle.fs_tree.specs.Changes.{HasOddKey, IsMarked, IsName, IsWithoutBelo
 pub use Rattle.fs_tree.specs.Moves.{IsAtOrBelow, IsDirMoved, IsFileMoved, IsPlace, MayMove, inside}
 pub use Rattle.fs_tree.specs.Tree.{HasChildren, HasDir, HasFile, IsAbsent, IsDirectory, IsEmpty, IsFirstFile, IsStatus, NoFile, NoFiles, NoneBelow, SomeBelow, Stands, is_marker, marker}
 pub use Rattle.path_keys.specs.Paths.{below, is_key}
-pub use Rattle.proof_base.specs.Members.{IsIn}
-pub use Rattle.s3_types.specs.Names.{are_elements, is_element, is_key_path, trimmed}
-pub use Rattle.s3_types.specs.Pages.{begins}
-pub use Rattle.s3_types.specs.Store.{Objects}
+pub use Rattle.s3_types.specs.Prelude.{IsIn, Objects, are_elements, begins, is_element, is_key_path, is_other, list_all, trimmed}
 pub use Rattle.s3_types.specs.declared.object.Object.{Object}
-pub use Rattle.std.specs.List.{list_all}
-pub use Rattle.words.specs.Parts.{is_other}

@@ -1,16 +1,8 @@
 -- That the picks which the job's commit keeps are those that are seen, after each of its sendings.
-use Rattle.std.proofs.Common.{◌≡◌, ℕ, ◌<◌, ◌≤◌, ◌^◌, inl, inr, true, false, zero, suc, List, [], ◌∷◌, ◌++◌, length, take, Option, Some, None, refl, sym, ap, subst, ◌∙◌, arith}
-use Rattle.job_steps.specs.Prelude.{is_some, Content, Scene, answer, IsHonestOutcome, Request, Driver, Reply, Outcome, Answered, Slow, RequestLost, ReplyLost, Entry, PendingSet, Known, IsLegal, Script, Pick, Listing, Sets, picks_of, set_request, set_read, Commit, Fetching, Replacing, Completing, Marking, Reverting, CommitOver, commit_asks, Setting, TheCommit, wants, Seen, see, see_by, see_all, nothing_seen, is_begun, is_reading, picks_below, Told, driver_entry, Hold, Decides, IsOpening, is_set, Play, Sends, happen, MaySend, Reachable, times, operation_of, Times, is_picking}
-use Rattle.job_spec.proofs.Common.{some_is, none_some, same_or_not}
+use Rattle.job_actor.proofs.Common.{Answered, ArePicksOf, At, Commit, CommitOver, Completing, Content, Decides, Driver, Entry, Fetching, Hold, InCommit, IsHonestOutcome, IsLegal, IsOpening, IsTimed, Known, List, Listing, Marking, MaySend, None, Option, Outcome, PendingSet, Pick, Play, Reachable, Replacing, Reply, ReplyLost, Request, RequestLost, Reverting, Scene, Script, Seen, Sends, Sets, Setting, Slow, Some, TheCommit, Times, Told, [], answer, ap, arith, carried, commit_asks, commit_picks, driver_entry, false, happen, inl, inr, is_begun, is_picking, is_reading, is_set, is_some, late_now, length, none_some, nothing_seen, number, operation_of, picks_below, picks_of, refl, same_or_not, see, see_all, see_by, see_more, sees, sent_ahead, set_read, set_request, some_is, subst, suc, sym, take, take_all, times, true, wants, zero, ℕ, ◌++◌, ◌<◌, ◌^◌, ◌∙◌, ◌∷◌, ◌≡◌, ◌≤◌}
 use Rattle.job_facts.proofs.Agreeing.{AgreeBelow, Agrees}
-use Rattle.job_traces.proofs.Running.{At, InCommit}
-use Rattle.job_traces.proofs.Steps.{commit_picks}
-use Rattle.job_traces.proofs.Entries.{take_all, see_more, sees, late_now}
 use Rattle.job_traces.proofs.Changes.{moment_scene}
 use Rattle.job_steps.proofs.RunningNumbers.{begun_at}
-use Rattle.job_steps.proofs.RunningStages.{IsTimed}
-use Rattle.job_steps.proofs.Running.{number, carried, sent_ahead}
-use Rattle.job_actor.specs.Picks.{ArePicksOf}
 use Rattle.job_actor.proofs.Tallies.{below_same, below_more}
 use Rattle.job_actor.proofs.Unread.{reads_so, left, next, next_here, next_other, Free, FreeAt, unread}
 

@@ -4,3 +4,4 @@ pub mod Tallies
 pub mod Unread
 pub mod Keeping
 pub mod Staying
+mod Common

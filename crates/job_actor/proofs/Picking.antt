@@ -1,16 +1,6 @@
 -- That the driver's commit is at work exactly where it was begun last, and that nothing is picked before it.
-use Rattle.std.proofs.Common.{◌≡◌, ℕ, zero, suc, ◌+◌, true, false, [], ◌++◌, length, Option, Some, None, refl, sym, ap, subst, ◌∙◌, arith}
-use Rattle.job_spec.proofs.Common.{false≢true, none_some}
-use Rattle.job_steps.specs.Prelude.{Content, Actor, Driver, Outcome, Entry, Known, IsLegal, Op, Abort, Clean, Event, Do, Start, ActorState, Picks, Setting, Operation, TheSetup, TheCheck, Running, who, tells, start_of, Seen, see_all, nothing_seen, put, reports, Reports, open_event, refusal, driver_may, begins_commit, is_commit, picked, picks_below, Told, IsOpening, is_just_set, Play, Refuses, Opens, Sends, Finishes, Closes, Strays, begun, knows_now, open_running, hear, MayOpen, Reachable, nothing_happened, happens, operation_of, times, step}
+use Rattle.job_actor.proofs.Common.{Abort, Actor, ActorState, ArePicksOf, At, Clean, Closes, Content, Do, Driver, DriverAt, Entry, Event, Finishes, IsLegal, IsOpening, Known, MayOpen, None, Op, Opens, Operation, Option, Outcome, Picks, PicksGo, Play, Reachable, Refuses, Reports, Running, Seen, Sends, Setting, Some, Start, Strays, TheCheck, TheSetup, Told, [], after_check_so, ap, arith, begins_commit, begins_so, begun, carried, check_after, clean_of_so, commit_of_so, driver_may, false, false≢true, happens, hear, is_commit, is_committing, is_job_commit, is_just_set, just_set, knows_now, late_now, length, may_commit_job, none_some, nothing_happened, nothing_seen, open_event, open_running, operation_of, picked, picks_below, put, refl, refusal, reports, see_all, sees, start_of, step, subst, suc, sym, take_all, tells, times, true, who, zero, ℕ, ◌++◌, ◌+◌, ◌∙◌, ◌≡◌}
 use Rattle.job_model.specs.declared.events.Op.TheVariants.{Commit}
-use Rattle.job_protocol.specs.Rechecks.{check_after}
-use Rattle.job_protocol.proofs.Begun.{after_check_so, clean_of_so, commit_of_so}
-use Rattle.job_traces.proofs.Running.{At}
-use Rattle.job_traces.proofs.Entries.{take_all, sees, late_now}
-use Rattle.job_traces.proofs.EveryRun.{just_set}
-use Rattle.job_steps.proofs.RunningStages.{DriverAt, begins_so, may_commit_job}
-use Rattle.job_steps.proofs.Running.{carried}
-use Rattle.job_actor.specs.Picks.{PicksGo, ArePicksOf, is_job_commit, is_committing}
 
 -- ---- what the driver began last
 

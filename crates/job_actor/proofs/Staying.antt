@@ -1,10 +1,6 @@
 -- The picks of a run stay while nobody sends who picks.
-use Rattle.std.proofs.Common.{◌≡◌, List, [], ◌∷◌, ◌++◌, length, sym, ap, ◌∙◌}
-use Rattle.job_steps.specs.Prelude.{Content, Entry, EventEnd, Pick, Script, Setting, Seen, see, see_all, seen, nothing_seen, all_picks, picks_below, Play, Sends, happen, Times, times}
-use Rattle.job_traces.proofs.Entries.{see_more}
+use Rattle.job_actor.proofs.Common.{ArePicksOf, Content, Entry, EventEnd, LeavesPicks, List, Pick, Play, Script, Seen, Sends, Setting, Times, [], all_picks, ap, happen, length, nothing_seen, picks_below, see, see_all, see_more, seen, sent_ahead, sym, times, ◌++◌, ◌∙◌, ◌∷◌, ◌≡◌}
 use Rattle.job_steps.proofs.Parts.{take_whole}
-use Rattle.job_steps.proofs.Running.{sent_ahead}
-use Rattle.job_actor.specs.Picks.{ArePicksOf, LeavesPicks}
 
 all_of : (w : Script) (k : Times) (opening : Content) (es : List Entry) → seen w k opening es (length es) ≡ see_all w k (nothing_seen opening) es
 all_of w k opening es = ap (see_all w k (nothing_seen opening)) (take_whole es)

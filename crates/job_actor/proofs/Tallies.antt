@@ -1,7 +1,5 @@
 -- The picks of a report, as one more set is read.
-use Rattle.std.proofs.Common.{◌≡◌, ℕ, zero, suc, ◌<◌, ◌≤◌, ◌⊎◌, inl, inr, true, List, [], ◌∷◌, ◌++◌, length, Option, Some, None, refl, sym, ap, ◌∙◌, arith, length-append}
-use Rattle.job_steps.specs.Prelude.{is_some, Pick, Picks, picked, picks_below}
-use Rattle.job_spec.proofs.Common.{append-nil}
+use Rattle.job_actor.proofs.Common.{List, None, Option, Pick, Picks, Some, [], ap, append-nil, arith, inl, inr, is_some, length, length-append, picked, picks_below, refl, suc, sym, true, zero, ℕ, ◌++◌, ◌<◌, ◌∙◌, ◌∷◌, ◌≡◌, ◌≤◌, ◌⊎◌}
 
 pub below_same : (p q : Picks) (n : ℕ) → ((t : ℕ) → t < n → p t ≡ q t) → picks_below p n ≡ picks_below q n
 below_same p q zero h = refl

@@ -1,18 +1,10 @@
 -- While the job's commit reads, nothing is picked of the tasks whose sets it has yet to read.
-use Rattle.std.proofs.Common.{◌≡◌, ℕ, nat_lt, ◌<◌, ◌≤◌, ◌^◌, ◌⊎◌, inl, inr, ◌&&◌, Bool, true, false, cond, List, [], ◌∷◌, ◌++◌, length, Option, Some, None, refl, sym, ap, subst, ◌∙◌, arith, length-append}
-use Rattle.job_steps.specs.Prelude.{Content, answer, IsHonestOutcome, Request, Driver, Reply, Outcome, Answered, Slow, Entry, PendingSet, Who, IsLegal, Script, CommitEnd, Picks, files_set, Sweep, sweep_hears, Turn, again, follow, dealt, revert, Sets, picks_of, all_commits, set_request, set_read, Commit, Fetching, Replacing, Completing, Marking, Reverting, CommitOver, is_no_magic, completing, replaced, replacing, fetching, fetched, swept, reverting, worn_completion, commit_start, commit_asks, commit_misses, commit_tells, Setting, Operation, TheSetup, TheCommit, TheCheck, step, who, asks, tells, Seen, see, Told, entry, driver_entry, Hold, knowing, Decides, Stand, Beginning, BeginSetup, BeginCommit, BeginClean, begin, Runs, run_begins, actor_begins, driver_sends, attempt_sends, strays, IsOpening, IsTimely, nothing_learnt, is_set}
+use Rattle.job_actor.proofs.Common.{Answered, At, BeginClean, BeginCommit, BeginSetup, Beginning, Bool, Commit, CommitEnd, CommitOver, Completing, Content, Decides, Driver, Entry, Fetching, Hold, InCommit, IsHonestOutcome, IsLegal, IsOpening, IsTimely, List, Marking, None, Operation, Option, Outcome, PendingSet, Picks, Replacing, Reply, Request, Reverting, Runs, Script, Seen, Sets, Setting, Slow, Some, Stand, Sweep, TheCheck, TheCommit, TheSetup, Told, Turn, Who, [], actor_begins, after_check_so, again, all_commits, answer, ap, arith, asks, attempt_sends, begin, check_after, checked_idle, clean_of_so, cleans_is, commit_asks, commit_misses, commit_of_so, commit_picks, commit_start, commit_tells, completing, cond, dealt, driver_entry, driver_sends, entry, false, fetched, fetching, files_set, follow, inl, inr, is_no_magic, is_set, just_set, knowing, late_now, length, length-append, nat_lt, none_or_some, none_some, nothing_learnt, picks_of, refl, replaced, replacing, revert, reverting, run_begins, same_or_not, see, set_read, set_request, some_is, step, strays, subst, sweep_hears, swept, sym, tells, true, who, worn_completion, ℕ, ◌&&◌, ◌++◌, ◌<◌, ◌^◌, ◌∙◌, ◌∷◌, ◌≡◌, ◌≤◌, ◌⊎◌}
 use Rattle.job_facts.specs.Prelude.{same_path, ok_set, decided, picks_by, sets_at, IsSetAnswer, Times, is_picking}
-use Rattle.job_spec.proofs.Common.{some_is, none_some, none_or_some, same_or_not}
 use Rattle.job_traces.specs.Runs.{MayBegin}
 use Rattle.job_facts.proofs.Reading.{reads_it, reads_other}
 use Rattle.job_facts.proofs.Replies.{set_reply, bytes_read}
-use Rattle.job_traces.proofs.Running.{At, InCommit}
-use Rattle.job_traces.proofs.Steps.{commit_picks}
-use Rattle.job_traces.proofs.Entries.{late_now}
-use Rattle.job_protocol.specs.Rechecks.{check_after}
-use Rattle.job_protocol.proofs.Begun.{after_check_so, clean_of_so, commit_of_so}
 use Rattle.job_facts.proofs.Sharing.{check_plain}
-use Rattle.job_traces.proofs.EveryRun.{just_set, checked_idle, cleans_is}
 use Rattle.job_actor.proofs.Picking.{unpicked}
 use Rattle.proof_base.proofs.Options.{both_hold}
 

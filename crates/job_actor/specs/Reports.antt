@@ -1,12 +1,11 @@
 -- What a driver knows of its tasks as it begins an operation.
-use Rattle.std.specs.Prelude.{◌≡◌, ℕ, List, Some, is_some}
-use Rattle.job_steps.specs.Prelude.{Actor, Driver, Who, Script, Op, Reports, Setting}
-use Rattle.job_model.specs.declared.events.Op.TheVariants as ops
-use Rattle.job_protocol.specs.Conflicts as conflicts
-use Rattle.job_protocol.specs.Outputs.{paths_of}
+use Rattle.std.specs.Prelude.{List, Some, is_some, ℕ, ◌≡◌}
+use Rattle.job_protocol.specs.Prelude.{Actor, Driver, Op, Reports, Script, Setting, Who, paths_of}
 use Rattle.job_protocol.specs.Rechecks.{files_of_all}
 use Rattle.commit_laws.specs.Fitting.{least_missing}
 use Rattle.job_actor.specs.declared.reported.Reported.{Reported}
+use Rattle.job_model.specs.declared.events.Op.TheVariants as ops
+use Rattle.job_protocol.specs.Conflicts as conflicts
 
 -- the partitions of the files of attempts
 abbrev pub report_dirs : Script → List Who → List (List ℕ)

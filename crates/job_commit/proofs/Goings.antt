@@ -1,22 +1,9 @@
 -- where outcomes lead
-use Rattle.std.proofs.Common.{◌≡◌, ℕ, suc, ◌+◌, ◌<◌, ◌≤◌, refl, ap, sym, subst, ◌∙◌, Bool, true, false, nat_lt, cond, arith, List, [], ◌∷◌, ◌++◌, map, length, Option, Some, None, length-append, ◌^◌}
-use Rattle.path_keys.proofs.Common.{nat_tests, map-append, below_so}
-use Rattle.job_protocol.specs.Prelude.{Request, PendingSet, Job, Pick, Sets, all_commits, Commit, Fetching, Replacing, Marking, Reverting, CommitOver, completing, commit_misses, read_script, sets_in}
+use Rattle.job_commit.proofs.Common.{AreRead, Basis, Bool, Commit, CommitOver, Deletion, Fetching, IsNext, IsSetOf, Job, LaneTable, List, Marking, Next, None, Option, PendingSet, Pick, PicksHold, Place, Reads, Replacing, Request, Reverting, Sets, Some, SpellsSet, Step, StepHolds, [], all_commits, ap, arith, asks, attempts_of, below_so, commit_misses, completing, cond, counted, false, first_missed, length, length-append, map, map-append, missed_in, missed_of, nat_lt, nat_tests, operation_of, picks_from, read_script, refl, replacing_at, reverting_from, sets_in, subst, suc, sym, true, undo_request, ℕ, ◌++◌, ◌+◌, ◌<◌, ◌^◌, ◌∙◌, ◌∷◌, ◌≡◌, ◌≤◌}
 use Rattle.job_model.specs.declared.ends.CommitEnd.TheVariants as ends
 use Rattle.job_model.specs.declared.ends.Stage.TheVariants as stages
-use Rattle.conflict.specs.Deletions.{Deletion}
-use Rattle.commit_parts.specs.Tables.{LaneTable, first_missed}
-use Rattle.commit_parts.specs.Undos.{undo_request}
-use Rattle.commit_parts.specs.ReadSets.{IsSetOf, AreRead}
-use Rattle.commit_parts.specs.declared.places.Place.{Place}
-use Rattle.commit_laws.specs.Fitting.{SpellsSet, missed_of}
 use Rattle.commit_laws.proofs.CommitEnds.{read_more}
-use Rattle.job_commit.specs.Stages.{replacing_at, reverting_from, operation_of, counted, missed_in}
-use Rattle.job_commit.specs.Holds.{picks_from, attempts_of, Reads, StepHolds, asks, PicksHold, IsNext}
-use Rattle.job_commit.specs.declared.basis.Basis.{Basis}
-use Rattle.job_commit.specs.declared.step.Step.{Step}
 use Rattle.job_commit.specs.declared.step.Step.TheVariants as steps
-use Rattle.job_commit.specs.declared.step.Next.{Next}
 use Rattle.job_commit.proofs.Steps.{some_so, holds_fetching, holds_replacing, holds_reverting, holds_over}
 use Rattle.proof_base.proofs.Numbers.{not_below}
 

@@ -4,3 +4,4 @@ pub mod Goings
 pub mod Tables
 pub mod Whole
 pub mod Lost
+mod Common

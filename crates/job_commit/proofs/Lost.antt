@@ -1,11 +1,6 @@
 -- Whether a sending of the present completion was lost, by what the machine keeps.
-use Rattle.std.proofs.Common.{◌≡◌, false, List, [], ◌∷◌, map, refl, ap, ◌∙◌}
-use Rattle.job_protocol.specs.Prelude.{Job, Pick, Sets, all_commits, completing, Committing}
-use Rattle.commit_parts.specs.Undos.{undo_request}
-use Rattle.job_commit.specs.Stages.{operation_of, replacing_at, reverting_from, first_lost, lost_in}
+use Rattle.job_commit.proofs.Common.{Committing, Job, List, Pick, Sets, Step, [], all_commits, ap, attempts_of, completing, false, first_lost, lost_in, map, operation_of, refl, replacing_at, reverting_from, undo_request, ◌∙◌, ◌∷◌, ◌≡◌}
 use Rattle.job_commit.specs.Turns.{lost_of}
-use Rattle.job_commit.specs.Holds.{attempts_of}
-use Rattle.job_commit.specs.declared.step.Step.{Step}
 use Rattle.job_commit.specs.declared.step.Step.TheVariants as steps
 
 of_step : (sets : Sets) (step : Step) → lost_in step ≡ lost_of (operation_of sets step)

@@ -1,6 +1,5 @@
 -- the first number that passes a test
-use Rattle.std.proofs.Common.{◌≡◌, ℕ, zero, suc, ◌+◌, ◌<◌, ◌≤◌, ◌⊎◌, inl, inr, refl, ap, ◌∙◌, Bool, true, false, not, cond, arith, Some, None}
-use Rattle.job_protocol.specs.Prelude.{first_where}
+use Rattle.job_commit.proofs.Common.{Bool, None, Some, ap, arith, cond, false, first_where, inl, inr, not, refl, suc, true, zero, ℕ, ◌+◌, ◌<◌, ◌∙◌, ◌≡◌, ◌≤◌, ◌⊎◌}
 
 least_or_later : (b t : ℕ) → b ≤ t → (b ≡ t) ⊎ (b + 1 ≤ t)
 least_or_later b t h = grind arith

@@ -1,31 +1,15 @@
 -- what is done next
-use Rattle.std.proofs.Common.{◌≡◌, ℕ, ◌+◌, ◌<◌, ◌≤◌, inl, inr, nat_lt, refl, ap, sym, subst, ◌∙◌, Bool, true, false, cond, arith, List, [], ◌∷◌, ◌++◌, map, length, drop, Option, Some, None, Result, OnOk}
-use Rattle.std.specs.Prelude.{⊤}
-use Rattle.path_keys.proofs.Common.{append-nil, on_ok_weaker, below_is, below_so}
-use Rattle.job_protocol.specs.Prelude.{Request, Committer, Magic, Directory, Partitioned, Mode, Replace, Reply, Path, Job, CommitEnd, Picks, same_path, wanted_paths, partitions, Sweep, sweep_start, sweep_hears, Turn, fresh_turn, again, follow, dealt, revert, Sets, all_commits, Commit, Fetching, completing, reverting, fetching, decided, replaced, replacing, worn_completion, picks_of, set_request, commit_hears, In, Table, read_script, job_script, sets_after, picked_after, Answered, Pick, Script}
+use Rattle.job_commit.proofs.Common.{Answered, AreRead, Bool, Commit, CommitEnd, Committer, Deletes, Deletion, Directory, Fetching, FitsDeletion, FitsReply, HasAll, Heard, In, IsNext, IsRevert, Job, LaneTable, LanesWithin, List, Magic, Mode, Next, None, OnOk, Option, Partitioned, Path, Pick, Picks, Place, Reads, Replace, Reply, Request, Result, Script, Sets, Some, Step, StepHolds, Sweep, Table, Turn, Undo, UndoWithin, [], again, all_commits, answered, ap, append-nil, arith, asks, asks_below, attempts_of, below_is, below_so, commit_hears, completing, cond, dealt, decided, deleted, deletion_asks, deletion_hears, drop, false, fetching, first_of, follow, fresh_turn, hears_below, inl, inr, job_script, length, listed, map, nat_lt, next_turn, on_ok_weaker, operation_of, partitions, picked_after, picks_of, places_from, places_length, read_script, refl, replaced, replacing, replacing_at, revert, reverting, reverting_from, same_path, set_request, sets_after, spared, subst, sweep_hears, sweep_start, swept_on, sym, true, undo_request, wanted_paths, worn_completion, worn_out, ℕ, ⊤, ◌++◌, ◌+◌, ◌<◌, ◌∙◌, ◌∷◌, ◌≡◌, ◌≤◌}
 use Rattle.job_model.specs.declared.ends.CommitEnd.TheVariants as ends
 use Rattle.job_protocol.proofs.Members.{in_push, in_append, some_is}
-use Rattle.conflict.specs.Deletions.{Deletion, deleted, spared, asks_below, deletion_asks, swept_on, hears_below, deletion_hears, FitsDeletion}
 use Rattle.conflict.specs.Laws.{deleting_below, commit_deleting, deletion_of}
 use Rattle.conflict.proofs.Tells.{deletions_tell}
-use Rattle.commit_laws.specs.Fitting.{FitsReply}
 use Rattle.job_protocol.proofs.Tables.{table_dealt}
-use Rattle.commit_parts.specs.Tables.{LaneTable, first_of, listed, next_turn}
-use Rattle.commit_parts.specs.Undos.{undo_request, IsRevert}
-use Rattle.commit_parts.specs.Places.{places_from}
 use Rattle.commit_parts.specs.Relatives.{relative_of}
 use Rattle.commit_parts.specs.Clashes.{items_from, IsBest}
-use Rattle.commit_parts.specs.ReadSets.{AreRead, HasAll}
-use Rattle.commit_parts.specs.declared.places.Place.{Place}
 use Rattle.commit_parts.specs.declared.sharing.Clash.{Clash}
-use Rattle.commit_parts.specs.declared.undo.Undo.{Undo}
-use Rattle.commit_parts.proofs.Placing.{places_length}
 use Rattle.commit_parts.proofs.SamePaths.{same_path_is}
-use Rattle.job_commit.specs.Stages.{operation_of, replacing_at, reverting_from, answered, worn_out}
-use Rattle.job_commit.specs.Holds.{attempts_of, Heard, Reads, Deletes, LanesWithin, UndoWithin, StepHolds, asks, IsNext}
-use Rattle.job_commit.specs.declared.step.Step.{Step}
 use Rattle.job_commit.specs.declared.step.Step.TheVariants as steps
-use Rattle.job_commit.specs.declared.step.Next.{Next}
 
 -- what holds of each list with a first item holds of one that is not empty
 pub some_so : {X : Type 0} (P : List X → Type 0) → ((x : X) (xs : List X) → P (x ∷ xs)) → (xs : List X) → (xs ≡ [] → ⊥) → P xs

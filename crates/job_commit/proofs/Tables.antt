@@ -1,17 +1,5 @@
 -- lanes after an outcome, with what each call gave
-use Rattle.std.proofs.Common.{◌≡◌, ℕ, ◌<◌, ap, sym, subst, ◌∙◌, Bool, arith, List, ◌∷◌, ◌++◌, map, length, drop, Option, Some, None, Result, OnOk}
-use Rattle.std.specs.Prelude.{⊤}
-use Rattle.path_keys.proofs.Common.{on_ok_weaker}
-use Rattle.job_protocol.specs.Prelude.{Job, Turn, again, In, Sets, all_commits, completing}
-use Rattle.commit_parts.specs.Tables.{LaneTable, first_of, listed, next_turn}
-use Rattle.commit_parts.specs.Undos.{undo_request, IsRevert, NumbersWithin}
-use Rattle.commit_parts.specs.Places.{places_from}
-use Rattle.commit_parts.specs.declared.places.Place.{Place}
-use Rattle.commit_parts.specs.declared.undo.Undo.{Undo}
-use Rattle.commit_parts.proofs.Placing.{places_length}
-use Rattle.job_commit.specs.Stages.{reverting_from, answered, worn_out}
-use Rattle.job_commit.specs.Holds.{LanesWithin, UndoWithin, IsNext}
-use Rattle.job_commit.specs.declared.step.Next.{Next}
+use Rattle.job_commit.proofs.Common.{Bool, In, IsNext, IsRevert, Job, LaneTable, LanesWithin, List, Next, None, NumbersWithin, OnOk, Option, Place, Result, Sets, Some, Turn, Undo, UndoWithin, again, all_commits, answered, ap, arith, completing, drop, first_of, length, listed, map, next_turn, on_ok_weaker, places_from, places_length, reverting_from, subst, sym, undo_request, worn_out, ℕ, ⊤, ◌++◌, ◌<◌, ◌∙◌, ◌∷◌, ◌≡◌}
 use Rattle.job_commit.proofs.Steps.{next_same, answered_lanes, answered_within, again_within, worn_next, first_within}
 
 -- ---- after an answer

@@ -1,14 +1,6 @@
 -- the machine as a whole
-use Rattle.std.proofs.Common.{◌≡◌, refl, ap, sym, ◌∙◌, List, [], ◌∷◌, map, Option, Some, None}
-use Rattle.job_protocol.specs.Prelude.{Job, CommitEnd, Pick, Sets, all_commits, Commit, completing, commit_over, Committing}
-use Rattle.commit_parts.specs.Undos.{undo_request}
-use Rattle.commit_parts.specs.declared.places.Place.{Place}
-use Rattle.commit_laws.specs.Fitting.{missed_of}
-use Rattle.job_commit.specs.Stages.{replacing_at, reverting_from, operation_of, missed_in}
-use Rattle.job_commit.specs.Holds.{attempts_of, StepHolds, Holds}
-use Rattle.job_commit.specs.declared.step.Step.{Step}
+use Rattle.job_commit.proofs.Common.{Commit, CommitEnd, Committing, Holds, Job, List, Next, None, Option, Pick, Place, Sets, Some, Step, StepHolds, [], all_commits, ap, attempts_of, commit_over, completing, map, missed_in, missed_of, operation_of, refl, replacing_at, reverting_from, sym, undo_request, ◌∙◌, ◌∷◌, ◌≡◌}
 use Rattle.job_commit.specs.declared.step.Step.TheVariants as steps
-use Rattle.job_commit.specs.declared.step.Next.{Next}
 use Rattle.job_commit.proofs.Steps.{some_so}
 use Rattle.job_commit.proofs.Goings.{missed_same}
 

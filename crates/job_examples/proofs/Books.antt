@@ -1,18 +1,10 @@
 -- A store of one bucket as lists: what it answers to requests, and what these leave of it, computed.
-use Rattle.std.proofs.Common.{◌≡◌, ℕ, ◌+◌, ◌-◌, Bool, true, false, nat_lt, nat_le, cond, List, [], ◌∷◌, length, map, take, Option, Some, None, Ok, Err, refl, sym, ap, ◌∙◌, ◌&&◌, arith}
-use Rattle.std.specs.Prelude.{Result}
-use Rattle.job_spec.specs.Prelude.{option_map, unwrap_or, filter, list_all, flat_map, IsTotalOrder, nat_cmp_total, nat_cmp, is_lt, Greater, insert, get, entries, from_entries, get-insert, nat_cmp-IsAntisymmetric, IsAntisymmetric, by_order, where_key, find, is_sorted, text_cmp, text_eq, text_total, text_ties, Objects, Upload, BucketContent, Content, Files, Scene, Spelled, begins, ref_cmp, live, with_key, with_part, is_part_number, rises, tag_eq, has_tag, joined, answer, answer_at, answer_in, head, part_answer, complete_answer, abort_answer, apply, apply_at, apply_in, bucket_of, without, part_put, completed, rename_answer, read_answer, Object, MOST_ENTRIES, NamedPart, Request, MakeBucket, PutObject, GetObject, HeadObject, DeleteObject, DeleteObjects, CopyObject, ListPage, CreateUpload, UploadPart, CompleteUpload, AbortUpload, ListParts, ListUploads, ClusterPut, ClusterRename, ClusterGet, ClusterDelete, ClusterList, UploadRef, PageEntry, Reply, Part, ClusterDone, ClusterNames, Refused, Refusal, NoSuchUpload, BadPartNumber}
-use Rattle.job_spec.proofs.Common.{then_total, on_total, exact_pairs, exact_bytes, exact_unsigned, text_is, and_parts}
-use Rattle.proof_base.proofs.Members.{text_exact}
-use Rattle.job_protocol.specs.Prelude.{remove, put}
-use Rattle.s3_types.specs.Prelude.{empty, get-empty, Buckets, draws}
+use Rattle.job_examples.proofs.Common.{AbortUpload, BadPartNumber, Bool, BucketContent, Buckets, ClusterDelete, ClusterDone, ClusterGet, ClusterList, ClusterNames, ClusterPut, ClusterRename, CompleteUpload, Content, CopyObject, CreateUpload, DeleteObject, DeleteObjects, Err, Files, GetObject, Greater, HeadObject, IsAntisymmetric, IsTotalOrder, List, ListPage, ListParts, ListUploads, MOST_ENTRIES, MakeBucket, NamedPart, NoSuchUpload, None, Object, Objects, Ok, Option, PageEntry, Part, PutObject, Refusal, Refused, Reply, Request, Result, Scene, Some, Spelled, Upload, UploadPart, UploadRef, [], abort_answer, and_parts, answer, answer_at, answer_in, ap, apply, apply_at, apply_in, arith, begins, bucket_of, by_order, complete_answer, completed, cond, draws, empty, entries, exact_bytes, exact_pairs, exact_unsigned, false, filter, find, flat_map, from_entries, get, get-empty, get-insert, has_tag, head, insert, is_lt, is_none_named, is_part_number, is_sorted, joined, lake, length, list_all, live, map, nat_cmp, nat_cmp-IsAntisymmetric, nat_cmp_total, nat_le, nat_lt, on_total, option_map, part_answer, part_put, put, read_answer, ref_cmp, refl, remove, rename_answer, rises, sym, tag_eq, take, text_cmp, text_eq, text_exact, text_is, text_ties, text_total, then_total, true, unwrap_or, where_key, with_key, with_part, without, ℕ, ◌&&◌, ◌+◌, ◌-◌, ◌∙◌, ◌∷◌, ◌≡◌}
 use Rattle.job_model.specs.Prelude.{aborted, renamed}
-use Rattle.retries.specs.Prelude.{is_none_named}
 use Rattle.s3_types.specs.Pages as pages
 use Rattle.s3_types.specs.Multipart as uploads
 use Rattle.s3_types.specs.Answer.{found, with_objects, with_uploads, with_files}
 use Rattle.s3_types.specs.declared.reply.Refusal.TheVariants.{MalformedList, InvalidPartOrder, InvalidPart, EntityTooSmall}
-use Rattle.job_examples.specs.Jobs.{lake}
 use Rattle.job_examples.proofs.Tagged.{told_tag, told_is}
 use Rattle.job_examples.proofs.MapLists.{map_of, others, found_is, put_is, removed_is, get_put, put_twice, sorted_is, find_map, mapped}
 

@@ -1,16 +1,8 @@
 -- What a store as lists shows, and what a journal makes of it.
-use Rattle.std.proofs.Common.{◌≡◌, ℕ, Bool, true, false, ◌&&◌, ◌||◌, not, ◌⊎◌, cond, inl, inr, List, [], ◌∷◌, ◌++◌, take, drop, Option, Some, None, refl, sym, ap, ◌∙◌, codes, arith}
-use Rattle.std.specs.Prelude.{nat_eq}
-use Rattle.job_spec.specs.Prelude.{list_all, option_map, eq_by_cmp, find, text_cmp, text_eq, effect, after_all, moment, Object, Request, Outcome, Slow, RequestLost, Entry, is_file_path, object_in, view}
-use Rattle.job_protocol.specs.Prelude.{starts_with, Path, below, relative_in}
-use Rattle.job_spec.proofs.Common.{and_parts, false≢true, tied, text_is, none_some, some_is, true_or_false}
+use Rattle.job_examples.proofs.Common.{Bool, Entry, List, None, Object, Option, Outcome, Path, Request, RequestLost, Slow, Some, [], after_all, and_parts, ap, arith, below, codes, cond, drop, effect, eq_by_cmp, false, false≢true, find, inl, inr, is_file_path, lake, list_all, moment, nat_eq, none_some, not, object_at, object_in, option_map, or_cases, refl, relative_in, some_is, starts_with, sym, take, text_cmp, text_eq, text_exact, text_is, tied, true, true_or_false, view, ℕ, ◌&&◌, ◌++◌, ◌||◌, ◌∙◌, ◌∷◌, ◌≡◌, ◌⊎◌}
 use Rattle.path_keys.proofs.Common.{Decides-eqb, starts_is}
-use Rattle.job_protocol.specs.View.{object_at}
-use Rattle.job_examples.specs.Jobs.{lake}
-use Rattle.proof_base.proofs.Members.{text_exact}
 use Rattle.job_examples.proofs.MapLists.{map_of, mapped}
 use Rattle.job_examples.proofs.Books.{Book, scene_of, content_of, text_found, at_bucket, after, is_ours, applies}
-use Rattle.std.proofs.lemmas.Bool.{or_cases}
 
 pub implied : (a b : Bool) → (not a || b) ≡ true → a ≡ true → b ≡ true
 implied a b h g = grind arith

@@ -1,26 +1,19 @@
 -- Runs of four files: killed between completions, reverted, with a lost reply in two lanes, killed in lanes, and aborted after a restart.
-use Rattle.std.proofs.Common.{◌≡◌, ℕ, List, [], ◌∷◌, drop, Some, None, Ok, refl, codes}
-use Rattle.job_protocol.specs.Prelude.{compact_text, set_tree}
-use Rattle.job_spec.specs.Prelude.{FateMap, Driver, Event}
+use Rattle.job_examples.proofs.Common.{Driver, Event, FateMap, Goes, Keeps, List, None, Ok, Some, [], codes, commits_at, compact_text, drop, opening, refl, set_of, set_tree, ℕ, ◌∷◌, ◌≡◌}
 use Rattle.std.specs.Fmt.{digits}
 use Rattle.json.specs.Print.{escape_byte}
 use Rattle.words.specs.Parts.{parts_from}
 use Rattle.s3_types.specs.Blocks.{block_of, parts_of}
-use Rattle.pending_json.specs.Reading.{set_of}
 use Rattle.job_model.specs.declared.events.Op.TheVariants as ops
 use Rattle.job_model.specs.declared.ends.CommitEnd.TheVariants as commits
 use Rattle.job_model.specs.declared.ends.Stage.TheVariants as stages
 use Rattle.job_model.specs.declared.ends.OpEnd.TheVariants as ends
-use Rattle.job_examples.specs.Jobs.{commits_at}
 use Rattle.job_examples.specs.FourFiles.{script, the_set, journal, attempt_entries, FourFiles}
 use Rattle.job_examples.specs.FourFileLanes as files
-use Rattle.job_examples.specs.FourFileLanes.{Goes}
 use Rattle.job_examples.specs.LanesReverted as back
 use Rattle.job_examples.specs.LanesLost as lost
 use Rattle.job_examples.specs.LanesKilled as killed
 use Rattle.job_examples.specs.Restarted as anew
-use Rattle.job_examples.specs.OneFile.{opening}
-use Rattle.job_examples.specs.Runs.{Keeps}
 use Rattle.job_examples.proofs.OneSet.{set_by}
 use Rattle.job_examples.proofs.Sights.{nothing}
 use Rattle.job_examples.proofs.Kept.{keeps, always_kept, honours, files_then, object_then, upload_then}

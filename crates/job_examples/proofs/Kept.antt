@@ -1,11 +1,5 @@
 -- What whole runs over a store as lists keep and show, by tests that compute.
-use Rattle.std.proofs.Common.{◌≡◌, ℕ, zero, suc, ◌+◌, Bool, true, cond, ◌&&◌, inl, inr, List, [], ◌∷◌, map, take, Some, refl, sym, ap, subst, ◌∙◌}
-use Rattle.job_spec.specs.Prelude.{list_all, lookup, nat_cmp, eq_by_cmp, option_map, nat_cmp_total, from_entries, get-from_entries, find, text_cmp, text_eq, text_ties, Content, fate_or, fate_at, AreForetold, fate_of, moment, IsHonest, Fate, Object, Entry, Script, view, Always, ZeroRename, OutsideStays, upload_in, Times}
-use Rattle.job_spec.proofs.Common.{and_parts, text_is, true_or_false}
-use Rattle.job_protocol.specs.View.{object_at}
-use Rattle.job_spec.specs.Scope.{upload_at}
-use Rattle.job_examples.specs.Jobs.{lake}
-use Rattle.job_examples.specs.Runs.{Keeps}
+use Rattle.job_examples.proofs.Common.{Always, AreForetold, Bool, Content, Entry, Fate, IsHonest, Keeps, List, Object, OutsideStays, Script, Some, Times, ZeroRename, [], and_parts, ap, cond, eq_by_cmp, fate_at, fate_of, fate_or, find, from_entries, get-from_entries, inl, inr, lake, list_all, lookup, map, moment, nat_cmp, nat_cmp_total, object_at, option_map, refl, subst, suc, sym, take, text_cmp, text_eq, text_is, text_ties, true, true_or_false, upload_at, upload_in, view, zero, ℕ, ◌&&◌, ◌+◌, ◌∙◌, ◌∷◌, ◌≡◌}
 use Rattle.job_examples.proofs.Books.{Book, scene_of, at_bucket, upload_of, upload_found}
 use Rattle.job_examples.proofs.Checks.{Listed, same_files, files_are, dest, visible, views, objects_at, are_ours, without_files, effect_on, book_after, moment_is}
 use Rattle.job_examples.proofs.Sights.{opens, Start}

@@ -15,3 +15,4 @@ pub mod FourFileRuns
 pub mod TaskRuns
 pub mod TwinChecks
 pub mod TwinRuns
+mod Common

@@ -1,9 +1,5 @@
 -- Finite maps as lists of entries.
-use Rattle.std.proofs.Common.{◌≡◌, Bool, true, false, cond, not, List, [], ◌∷◌, map, Option, Some, None, refl, sym, ap, subst, ◌∙◌, T, arith}
-use Rattle.job_spec.specs.Prelude.{option_map, eq_by_cmp, IsTotalOrder, Ordering, IsAntisymmetric, insert, get, from_entries, entries, get-insert, get-from_entries, where_key, find, is_sorted, find-put, find-where_key}
-use Rattle.retries.specs.Prelude.{eq_by_cmp_equiv, FinMap, get-remove}
-use Rattle.job_protocol.specs.Prelude.{remove, put}
-use Rattle.s3_types.specs.Prelude.{from_sorted, get-from_sorted, entries-from_sorted, same_map}
+use Rattle.job_examples.proofs.Common.{Bool, FinMap, IsAntisymmetric, IsTotalOrder, List, None, Option, Ordering, Some, T, [], ap, arith, cond, entries, entries-from_sorted, eq_by_cmp, eq_by_cmp_equiv, false, find, find-put, find-where_key, from_entries, from_sorted, get, get-from_entries, get-from_sorted, get-insert, get-remove, insert, is_sorted, map, not, option_map, put, refl, remove, same_map, subst, sym, true, where_key, ◌∙◌, ◌∷◌, ◌≡◌}
 
 turned : {X : Type 0} (b : Bool) (x : Option X) → cond (not b) x None ≡ cond b None x
 turned b x = grind arith

@@ -1,27 +1,19 @@
 -- The operations of the run of one attempt with one file end as is due, and the run is finished.
-use Rattle.std.proofs.Common.{◌≡◌, ◌⊎◌, ℕ, zero, suc, ◌+◌, true, ◌&&◌, List, [], ◌∷◌, ◌++◌, length, take, Option, Some, None, is_some, refl, sym, ap, subst, ◌∙◌, codes, inr, arith}
+use Rattle.job_examples.proofs.Common.{Actor, ActorEnd, AllByRecursion, Answered, Attempt, CommitEnds, Do, Doing, Driver, Ended, EndedIn, Entry, IsFree, IsSome, Keeps, List, Magic, None, OneFileFinished, Op, OpEnd, Option, Promised, Refusal, Refused, Reply, Request, SetupIs, Some, TaskIs, WasPublished, WornFirst, [], after_event, all_picks, ap, arith, before, by_actor, clean_event, codes, commit_entries, commits_at, computed, first_worn, has_cleaned, inr, is_marked, is_some, journal, known_then, length, moment, none_sent, none_some, ok_set, opening, past, refl, script, see_all, seen, seen_until, set_read, set_request, setting, since, slice_get, some_is, stage_of, subst, suc, sym, take, the_ends, the_picks, the_publishing, told, true, until, until_last, worker, zero, ℕ, ◌&&◌, ◌++◌, ◌+◌, ◌∙◌, ◌∷◌, ◌≡◌, ◌⊎◌}
 use Rattle.std.specs.Fmt.{digits}
 use Rattle.json.specs.Print.{escape_byte}
-use Rattle.std.specs.Prelude.{IsSome}
-use Rattle.job_spec.specs.Prelude.{AllByRecursion, slice_get, moment, Actor, Driver, Attempt, Magic, Request, Refusal, Reply, Refused, Answered, Entry, WornFirst, first_worn, Op, Do, OpEnd, ActorEnd, Ended, set_request, set_read, ok_set, stage_of, Doing, past, after_event, told, clean_event, seen, see_all, is_marked, until, since, before, by_actor, until_last, EndedIn, has_cleaned, known_then, SetupIs, TaskIs, IsFree, WasPublished, CommitEnds, Promised, seen_until, setting, all_picks}
-use Rattle.job_spec.proofs.Common.{computed, none_sent, some_is, none_some}
+use Rattle.job_examples.proofs.Books.{at_bucket}
+use Rattle.job_examples.proofs.Checks.{objects_at}
+use Rattle.job_examples.proofs.OneSet.{set_is_read}
+use Rattle.job_examples.proofs.Sights.{empty_book, nothing, opening_is, opens, opens_is, saw_all, sees}
+use Rattle.job_examples.proofs.Kept.{keeps}
+use Rattle.job_examples.proofs.OnePlays.{commit_doing, plays, setup_doing, task_doing, write_doing}
 use Rattle.job_model.specs.declared.events.Op.TheVariants as ops
 use Rattle.job_model.specs.declared.ends.SetupEnd.TheVariants as setups
 use Rattle.job_model.specs.declared.ends.TaskEnd.TheVariants as tasks
 use Rattle.job_model.specs.declared.ends.CommitEnd.TheVariants as commits
 use Rattle.job_model.specs.declared.ends.Stage.TheVariants as stages
 use Rattle.job_model.specs.declared.ends.OpEnd.TheVariants as ends
-use Rattle.job_examples.specs.Jobs.{worker, commits_at}
-use Rattle.job_examples.specs.OneFile.{script, opening, journal, commit_entries, the_publishing}
-use Rattle.job_examples.specs.OneFinished.{the_ends, the_picks, OneFileFinished}
-use Rattle.job_examples.proofs.Books.{at_bucket}
-use Rattle.job_examples.proofs.Checks.{objects_at}
-use Rattle.job_examples.proofs.OneSet.{set_is_read}
-use Rattle.job_examples.proofs.Sights.{opens, saw_all, sees, empty_book, opening_is, opens_is}
-use Rattle.job_examples.specs.Runs.{Keeps}
-use Rattle.job_examples.proofs.Sights.{nothing}
-use Rattle.job_examples.proofs.Kept.{keeps}
-use Rattle.job_examples.proofs.OnePlays.{setup_doing, write_doing, task_doing, commit_doing, plays}
 
 -- ---- which operations ended
 

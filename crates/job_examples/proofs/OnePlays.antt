@@ -1,18 +1,13 @@
 -- The run of one attempt with one file plays as its script says.
-use Rattle.std.proofs.Common.{◌≡◌, ◌⊎◌, ℕ, zero, suc, ◌+◌, true, false, ◌&&◌, cond, List, [], ◌∷◌, ◌∙◌, length, take, Option, Some, None, refl, sym, ap, subst, inl, inr, arith}
+use Rattle.job_examples.proofs.Common.{Actor, ActorEnd, AllBy, AllObeyed, Attempt, Do, Doing, Driver, Ended, Entry, Event, EventEnd, List, None, Obeyed, Op, OpEnd, OpFollows, Option, Plays, Setting, Shell, Some, [], after_event, and_parts, ap, arith, by_actor, cond, doing, eq_nat, false, false_true, inl, inr, is_busy, is_wanting, length, nat_eq, none_some, of_event, op_over, past, refl, refusal, slice_get, some_is, subst, suc, sym, take, the_ends, true, true_or_false, until, worker, zero, ℕ, ◌&&◌, ◌+◌, ◌∙◌, ◌∷◌, ◌≡◌, ◌⊎◌}
 use Rattle.std.specs.Fmt.{digits}
-use Rattle.std.specs.Prelude.{nat_eq}
-use Rattle.job_spec.specs.Prelude.{slice_get, Actor, Driver, Attempt, Shell, Entry, Op, Event, Do, OpEnd, ActorEnd, EventEnd, Ended, Setting, Doing, past, refusal, after_event, of_event, until, by_actor, AllBy, is_busy, is_wanting, OpFollows, op_over, Obeyed, AllObeyed, Plays}
-use Rattle.job_spec.proofs.Common.{and_parts, eq_nat, none_some, some_is, false_true, true_or_false}
 use Rattle.s3_types.specs.Blocks.{block_of, parts_of}
 use Rattle.job_model.specs.declared.events.Op.TheVariants as ops
 use Rattle.job_model.specs.declared.ends.SetupEnd.TheVariants as setups
 use Rattle.job_model.specs.declared.ends.TaskEnd.TheVariants as tasks
 use Rattle.job_model.specs.declared.ends.CommitEnd.TheVariants as commits
 use Rattle.job_model.specs.declared.ends.OpEnd.TheVariants as ends
-use Rattle.job_examples.specs.Jobs.{worker, doing}
 use Rattle.job_examples.specs.OneFile.{script, setting, journal, OneFileRuns}
-use Rattle.job_examples.specs.OneFinished.{the_ends}
 use Rattle.job_examples.proofs.OneSet.{set_is_read}
 
 -- ---- the operations

@@ -1,16 +1,12 @@
 -- Sets are read as they were put.
-use Rattle.std.proofs.Common.{◌≡◌, ℕ, nat_lt, Bool, true, ◌&&◌, ◌^◌, List, [], ◌∷◌, refl, Ok, arith}
-use Rattle.job_spec.proofs.Common.{and_parts, is_utf8-from_IsUtf8, IsUtf8-from_ascii, IsAscii-nil, IsAscii-cons}
+use Rattle.job_examples.proofs.Common.{AllByRecursion, Bool, IsAscii, IsAscii-cons, IsAscii-nil, IsPending, IsUtf8-from_ascii, List, Ok, Pending, PendingSet, [], and_parts, arith, compact_text, is_key_path, is_utf8, is_utf8-from_IsUtf8, list_all, nat_lt, pending_tree, refl, set_tree, the_set, true, ℕ, ◌&&◌, ◌^◌, ◌∷◌, ◌≡◌}
 use Rattle.proof_base.proofs.Numbers.{below_is}
-use Rattle.job_spec.specs.Prelude.{list_all, AllByRecursion, IsAscii, is_utf8, is_key_path}
-use Rattle.job_protocol.specs.Prelude.{compact_text, pending_tree, set_tree, IsPending, Pending, PendingSet}
 use Rattle.pending_json.specs.Prelude.{are_tags, are_sizes, is_bucket}
 use Rattle.std.specs.Fmt.{digits}
 use Rattle.json.specs.Print.{escape_byte}
 use Rattle.words.specs.Parts.{parts_from}
 use Rattle.pending_json.specs.Reading.{pending_of, set_of as read}
 use Rattle.pending_json.proofs.RoundTrip.{pending_text, set_text}
-use Rattle.job_examples.specs.OneFile.{the_set}
 use Rattle.job_examples.specs.Modes.{staged_set, staged_text}
 
 abbrev pub is_small : List ℕ → Bool

@@ -1,14 +1,8 @@
 -- What is owed at each moment of a run over a store as lists, as tests that compute.
-use Rattle.std.proofs.Common.{◌≡◌, ◌≤◌, ◌⊎◌, ℕ, zero, suc, Bool, true, false, ◌&&◌, ◌||◌, not, cond, List, [], ◌∷◌, ◌++◌, length, take, Option, Some, None, is_some, refl, sym, ap, subst, ◌∙◌, codes, inl, inr, arith}
-use Rattle.job_spec.specs.Prelude.{list_all, lookup, eq_by_cmp, where_key, find, find-put, find-where_key, text_cmp, text_eq, text_total, text_ties, Object, Entry, success_key, Script, view, Picks, wanted, wanted_at, is_picked, is_clash, is_decided, keeps_of, mark_text, see_all, Same, or_else, done, Kept, Always, Times}
-use Rattle.job_protocol.specs.Prelude.{put}
-use Rattle.job_spec.proofs.Common.{and_parts, false≢true, tied, not_so, text_is, some_is, true_or_false}
-use Rattle.job_protocol.specs.View.{object_at}
-use Rattle.proof_base.proofs.Members.{text_exact}
+use Rattle.job_examples.proofs.Common.{Always, Bool, Entry, Kept, List, None, Object, Option, Picks, Same, Script, Some, Times, [], and_parts, ap, arith, codes, cond, done, eq_by_cmp, false, false≢true, find, find-put, find-where_key, inl, inr, is_clash, is_decided, is_picked, is_some, keeps_of, length, list_all, lookup, mark_text, not, not_so, object_at, or_cases, or_else, put, refl, see_all, some_is, subst, suc, success_key, sym, take, text_cmp, text_eq, text_exact, text_is, text_ties, text_total, tied, true, true_or_false, view, wanted, wanted_at, where_key, zero, ℕ, ◌&&◌, ◌++◌, ◌||◌, ◌∙◌, ◌∷◌, ◌≡◌, ◌≤◌, ◌⊎◌}
 use Rattle.job_examples.proofs.Books.{Book, content_of, is_ours}
 use Rattle.job_examples.proofs.Checks.{implied, Listed, same_files, files_are, dest, visible, views, objects_at, without_files}
 use Rattle.job_examples.proofs.Sights.{Saw, seen_of, saw, sees_by, opens, opens_is}
-use Rattle.std.proofs.lemmas.Bool.{or_cases}
 
 -- ---- tests of lists
 

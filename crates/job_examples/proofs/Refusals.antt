@@ -1,15 +1,11 @@
 -- Journals that show what they should not.
-use Rattle.std.proofs.Common.{◌≡◌, true, ◌&&◌, List, [], ◌∷◌, length, None, is_some, refl, sym, ap, subst, ◌∙◌, codes, inl, inr, arith}
-use Rattle.job_spec.proofs.Common.{take_all, and_parts, none_some}
-use Rattle.job_spec.specs.Prelude.{list_all, Entry, Pick, Script, see_all, nothing_seen, AreOwn, is_own, Kept, Always, Promised, Times}
+use Rattle.job_examples.proofs.Common.{Always, AreOwn, Entry, Kept, List, None, Pick, Promised, Script, Times, [], and_parts, ap, arith, before_commit, codes, commits_at, inl, inr, is_own, is_some, length, list_all, none_some, nothing_seen, refl, script, see_all, subst, sym, take_all, true, ◌&&◌, ◌∙◌, ◌∷◌, ◌≡◌}
 use Rattle.std.specs.Fmt.{digits}
-use Rattle.job_examples.specs.OneFile.{script}
 use Rattle.job_examples.specs.Refused.{old_opening, foreign, torn, early, unread, marked_early, kept_gone, Misshown, MisshownRuns}
 use Rattle.job_examples.proofs.MapLists.{map_of}
 use Rattle.job_examples.proofs.Books.{Book, content_of}
 use Rattle.job_examples.proofs.Checks.{views, objects_at, are_ours, without_files}
 use Rattle.job_examples.proofs.Sights.{Saw, seen_of, opens, saw_all, sees, opens_is, Start, book_with, empty_book, nothing}
-use Rattle.job_examples.specs.Jobs.{before_commit, commits_at}
 
 abbrev old_book : Book
 old_book = book_with (codes "out/old") (record { bytes = codes "old"; header = None })

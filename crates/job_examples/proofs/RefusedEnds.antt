@@ -1,6 +1,5 @@
 -- Ends that are not due.
-use Rattle.std.proofs.Common.{◌≡◌, ◌⊎◌, ℕ, zero, suc, ◌+◌, ◌≤◌, Bool, true, false, cond, ◌&&◌, List, [], ◌∷◌, Option, Some, None, is_some, refl, sym, ap, subst, take, ◌∙◌, codes, inl, inr, arith}
-use Rattle.job_spec.specs.Prelude.{slice_get, text_eq, Driver, Request, Entry, Do, OpEnd, Ended, op_over, Plays, Always, EndedIn, Script, EventEnd, Actor, Op, after_event, past, commit_due, NoDeletionWorn, CommitsEnd, Doing, until, since, by_actor, is_wanting}
+use Rattle.job_examples.proofs.Common.{Actor, Always, Bool, CommitsEnd, Do, Doing, Driver, Ended, EndedIn, Entry, EventEnd, List, NoDeletionWorn, None, Op, OpEnd, Option, Plays, Request, Script, Some, [], after_event, ap, arith, by_actor, codes, commit_due, commits_at, cond, doing, false, inl, inr, is_some, is_wanting, none_some, op_over, past, refl, since, slice_get, some_is, subst, suc, sym, take, text_eq, true, until, zero, ℕ, ◌&&◌, ◌+◌, ◌∙◌, ◌∷◌, ◌≡◌, ◌≤◌, ◌⊎◌}
 use Rattle.std.specs.Fmt.{digits}
 use Rattle.job_model.specs.declared.events.Op.TheVariants as ops
 use Rattle.job_model.specs.declared.ends.CommitEnd.TheVariants as commits
@@ -14,8 +13,6 @@ use Rattle.job_examples.proofs.Sights.{Saw, opens, saw_all, empty_book, nothing}
 use Rattle.job_examples.proofs.Kept.{files_then}
 use Rattle.job_examples.proofs.Refusals.{at_end, owns_all}
 use Rattle.job_examples.proofs.OnePlays.{commit_doing}
-use Rattle.job_spec.proofs.Common.{some_is, none_some}
-use Rattle.job_examples.specs.Jobs.{doing, commits_at}
 
 -- ---- two attempts of one task
 

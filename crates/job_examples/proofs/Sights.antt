@@ -1,8 +1,5 @@
 -- What is seen of a job, over a store as lists.
-use Rattle.std.proofs.Common.{◌≡◌, ℕ, Bool, true, false, List, [], ◌∷◌, Option, None, refl, ap, ◌∙◌, arith}
-use Rattle.job_spec.specs.Prelude.{Actor, Driver, Attempt, Shell, Request, Outcome, Answered, Entry, Script, Picks, Seen, effect, see, see_by, see_all, Times, nothing_seen, Content, Object}
-use Rattle.job_spec.proofs.Common.{and_parts}
-use Rattle.job_examples.specs.OneFile.{opening}
+use Rattle.job_examples.proofs.Common.{Actor, Answered, Attempt, Bool, Content, Driver, Entry, List, None, Object, Option, Outcome, Picks, Request, Script, Seen, Shell, Times, [], and_parts, ap, arith, effect, false, nothing_seen, opening, refl, see, see_all, see_by, true, ℕ, ◌∙◌, ◌∷◌, ◌≡◌}
 use Rattle.job_examples.proofs.MapLists.{map_of}
 use Rattle.job_examples.proofs.Books.{Book, content_of, scene_of, is_ours}
 use Rattle.job_examples.proofs.Checks.{effect_on, effect_is, are_ours, without_files}

@@ -1,14 +1,9 @@
 -- Tags of short contents, computed.
-use Rattle.std.proofs.Common.{◌≡◌, ℕ, zero, suc, Bool, true, false, cond, List, refl, ap, ◌∙◌, take, drop, codes}
-use Rattle.std.specs.Prelude.{slice_index}
-use Rattle.s3_types.specs.Prelude.{encode_lower}
-use Rattle.job_spec.specs.Prelude.{text_eq, Spelled}
+use Rattle.job_examples.proofs.Common.{Bool, List, Spelled, ap, codes, cond, drop, encode_lower, false, hello_tag, refl, slice_index, suc, take, text_eq, text_is, true, zero, ℕ, ◌∙◌, ◌≡◌}
 use Rattle.hex.specs.Hex.{encode_with}
 use Rattle.md5.specs.Md5.{md5, initial_hash, round, rounds, step_fn, step_constants, step_shifts, word_place, compress, add_state, block_words, hash_after, digest_bytes, padded_message}
 use Rattle.s3_types.specs.Tags.{plain_tag}
-use Rattle.job_examples.specs.Jobs.{hello_tag}
 use Rattle.job_examples.specs.TwoAttempts.{world}
-use Rattle.job_spec.proofs.Common.{text_is}
 
 -- ---- a digest, step by step: as `md5` says it, but that each step is worked out once
 

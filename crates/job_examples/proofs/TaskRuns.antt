@@ -1,22 +1,15 @@
 -- Runs of which a last put or a set's put wears out, of tasks that share a path, of a taken partition, and of two attempts of one task.
-use Rattle.std.proofs.Common.{◌≡◌, ℕ, not, Bool, List, [], ◌∷◌, Ok, refl, sym, ◌∙◌, codes}
-use Rattle.job_protocol.specs.Prelude.{compact_text, set_tree}
-use Rattle.job_spec.specs.Prelude.{After, moment, begins, Magic, Entry, Event, NothingLeft}
-use Rattle.job_spec.proofs.Common.{none_some, not_so}
+use Rattle.job_examples.proofs.Common.{After, Bool, Entry, Event, Keeps, List, Magic, NothingLeft, Ok, [], begins, codes, commits_at, compact_text, moment, none_some, not, not_so, opening, refl, set_key, set_of, set_tree, sym, ℕ, ◌∙◌, ◌∷◌, ◌≡◌}
 use Rattle.std.specs.Fmt.{digits}
 use Rattle.json.specs.Print.{escape_byte}
 use Rattle.words.specs.Parts.{parts_from}
 use Rattle.s3_types.specs.Blocks.{block_of, parts_of}
-use Rattle.pending_json.specs.Reading.{set_of}
-use Rattle.job_examples.specs.Jobs.{set_key, commits_at}
-use Rattle.job_examples.specs.OneFile.{opening}
 use Rattle.job_examples.specs.LostMark as mark
 use Rattle.job_examples.specs.LostSet as lost
 use Rattle.job_examples.specs.SharedPath as shared
 use Rattle.job_examples.specs.Taken as taken
 use Rattle.job_examples.specs.TwoAttempts as two
 use Rattle.job_examples.specs.NewDriver as anew
-use Rattle.job_examples.specs.Runs.{Keeps}
 use Rattle.job_examples.proofs.OneSet.{set_by}
 use Rattle.job_examples.proofs.OneSet as one
 use Rattle.job_examples.proofs.MapLists.{map_of}

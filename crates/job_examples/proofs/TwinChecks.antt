@@ -1,20 +1,10 @@
 -- What the definitions of two jobs say of a journal, by tests that compute.
-use Rattle.std.proofs.Common.{◌≡◌, ℕ, zero, suc, inl, inr, not, ◌&&◌, ◌||◌, codes, Bool, true, false, cond, List, [], ◌∷◌, take, Option, Some, None, refl, sym, ap, ◌∙◌, arith}
-use Rattle.job_spec.proofs.Common.{and_parts, not_so, false≢true, none_some, some_is, text_is}
-use Rattle.job_spec.specs.Prelude.{Times, list_all, lookup, find, text_cmp, text_eq, Content, Scene, effect, after_all, moment, begins, Object, Shell, Request, Entry, IsIn, magic_prefix, cluster_prefix, success_key, File, Script, Picks, wanted, is_picked, is_clash, mark_text, view, Seen, see, see_all, nothing_seen}
-use Rattle.job_protocol.specs.View.{object_at}
-use Rattle.twin_facts.specs.Names.{Ids, named_keys, named_upload, named_paths, IsStranger}
-use Rattle.twin_facts.specs.Sides.{Side, First, Second, is_side, TwinEntry, in_eyes, eyes}
+use Rattle.job_examples.proofs.Common.{AllStrange, AtMoment, Bool, Content, Entry, File, First, Ids, IsIn, IsStranger, List, None, Object, Option, Picks, Request, Scene, Script, Second, Seen, Shell, Side, Some, StrangeBy, Times, TwinEntry, [], after_all, and_parts, ap, arith, begins, cluster_prefix, codes, cond, effect, eyes, false, false≢true, find, in_eyes, inl, inr, is_clash, is_picked, is_side, lake, list_all, lookup, magic_prefix, mark_text, moment, named_keys, named_paths, named_upload, none_some, not, not_so, nothing_seen, object_at, opening, or_cases, refl, see, see_all, seen_twin, sided, some_is, suc, success_key, sym, take, text_cmp, text_eq, text_is, true, view, wanted, zero, ℕ, ◌&&◌, ◌||◌, ◌∙◌, ◌∷◌, ◌≡◌}
 use Rattle.twin_facts.specs.TwinLaws.{Gives, counted, Marked, is_marked_by}
-use Rattle.twin_facts.specs.Events.{seen_twin, AtMoment}
-use Rattle.job_examples.specs.OneFile.{opening}
 use Rattle.job_examples.proofs.Checks.{implied, dest, are_ours, visible}
 use Rattle.job_examples.proofs.Sights.{nothing, scene_by}
 use Rattle.job_examples.proofs.Kept.{book_at, file_then, object_then, lookup_is}
 use Rattle.job_examples.proofs.Owed.{is_at, at_is, found_in}
-use Rattle.job_examples.specs.Jobs.{lake}
-use Rattle.job_examples.specs.TwoMagic.{sided, StrangeBy, AllStrange}
-use Rattle.std.proofs.lemmas.Bool.{or_cases}
 
 -- ---- strangers
 

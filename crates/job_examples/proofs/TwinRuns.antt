@@ -1,10 +1,6 @@
 -- Runs of two jobs: of the magic committer, as each of them sees it and by events, and of one whose check finds the other's file.
-use Rattle.std.proofs.Common.{◌≡◌, ℕ, List, false, [], ◌∷◌, ◌++◌, Some, None, refl, ap, ◌∙◌, codes}
-use Rattle.job_spec.specs.Prelude.{Scene, Driver, AbortUpload, ListPage, ListUploads, Page, view, OpFollows, by_actor}
-use Rattle.job_spec.proofs.Common.{false_true, none_some}
-use Rattle.job_protocol.specs.Prelude.{Follows}
+use Rattle.job_examples.proofs.Common.{AbortUpload, AtMoment, Driver, Follows, Goes, IsStranger, List, ListPage, ListUploads, None, OpFollows, Page, Prepared, Scene, Second, Some, [], ap, by_actor, codes, false, false_true, none_some, of_file, opening, out, refl, view, wants_of, ℕ, ◌++◌, ◌∙◌, ◌∷◌, ◌≡◌}
 use Rattle.job_protocol.specs.Sparing.{sparing_asks}
-use Rattle.retries.specs.Prelude.{wants_of}
 use Rattle.std.specs.Fmt.{digits}
 use Rattle.json.specs.Print.{escape_byte}
 use Rattle.words.specs.Parts.{parts_from}
@@ -13,13 +9,7 @@ use Rattle.job_model.specs.declared.events.Op.TheVariants as ops
 use Rattle.job_model.specs.declared.ends.CheckEnd.TheVariants.{Conflict}
 use Rattle.job_model.specs.declared.ends.CommitEnd.TheVariants as commits
 use Rattle.job_model.specs.declared.ends.OpEnd.TheVariants as ends
-use Rattle.twin_facts.specs.Names.{IsStranger}
-use Rattle.twin_facts.specs.Sides.{Second}
-use Rattle.twin_facts.specs.Events.{AtMoment}
 use Rattle.job_examples.specs.Jobs.{lake, setting, doing, commits_at}
-use Rattle.job_examples.specs.OneFile.{opening}
-use Rattle.job_examples.specs.FourFiles.{of_file}
-use Rattle.job_examples.specs.FourFileLanes.{out, Goes, Prepared}
 use Rattle.job_examples.specs.TwoJobs.{ja, jb, magic, set_key, set_of, marks, quiet_entries, clean_entries, journal, mine, eyes, other_eyes, Kept, TwoJobs, TheOther}
 use Rattle.job_examples.specs.TwoMagic.{first_times, entries, drew_first, drew_second, begun, next, hasty, TwoMagic}
 use Rattle.job_examples.specs.Conflict as conflict

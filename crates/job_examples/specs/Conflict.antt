@@ -1,24 +1,22 @@
 -- Two jobs at one destination, of which the first is of the directory committer with the mode fail: the other's file is there before its commit.
-use Rattle.std.specs.Prelude.{◌≡◌, ℕ, true, false, List, [], ◌∷◌, ◌++◌, length, Option, Some, None, codes}
-use Rattle.job_protocol.specs.Prelude.{compact_text, set_tree, PendingSet, who}
-use Rattle.job_spec.specs.Prelude.{IsHonest, Driver, Directory, Fail, HeadObject, DeleteObject, ListPage, CreateUpload, UploadPart, ClusterPut, ClusterRename, Reply, Deleted, Page, Part, ClusterDone, Refused, NoSuchKey, Entry, Answered, Script, Do}
+use Rattle.std.specs.Prelude.{List, None, Option, Some, [], codes, false, length, true, ℕ, ◌++◌, ◌∷◌, ◌≡◌}
+use Rattle.job_protocol.specs.Prelude.{Answered, ClusterPut, ClusterRename, CreateUpload, DeleteObject, Directory, Do, Driver, Entry, Fail, HeadObject, IsHonest, ListPage, NoSuchKey, OpEnd, Operation, Page, Part, PendingSet, Refused, Reply, Script, Setting, UploadPart, asks, commit_of, compact_text, over, set_tree, tells, who}
+use Rattle.job_spec.specs.Prelude.{ClusterDone, Deleted}
 use Rattle.s3_types.specs.declared.reply.Reply.TheVariants.{Upload}
-use Rattle.s3_types.specs.declared.reply.PageEntry.TheVariants.{Object as Listed}
-use Rattle.job_model.specs.declared.events.Op.TheVariants as ops
 use Rattle.job_traces.specs.Runs.{nothing_learnt}
-use Rattle.job_examples.specs.Jobs.{commits_at, lake, job, attempt, worker, said, hello_tag, setting}
+use Rattle.job_examples.specs.Jobs.{attempt, commits_at, hello_tag, job, lake, said, setting, worker}
 use Rattle.job_examples.specs.OneFile.{opening}
-use Rattle.job_examples.specs.Runs.{hello, upload, set_of}
-use Rattle.job_examples.specs.FourFileLanes.{out, completes}
-use Rattle.job_examples.specs.TwoJobs.{jb, set_key, below_attempt, pending, set_bytes, mark_bytes, prepares, reads, marks, mine}
+use Rattle.job_examples.specs.Runs.{hello, set_of, upload}
+use Rattle.job_examples.specs.FourFileLanes.{completes, out}
+use Rattle.job_examples.specs.TwoJobs.{below_attempt, jb, mark_bytes, marks, mine, pending, prepares, reads, set_bytes, set_key}
 use Rattle.job_model.specs.declared.ends.CheckEnd.TheVariants.{Conflict}
-use Rattle.job_model.specs.declared.ends.OpEnd.{OpEnd}
-use Rattle.job_model.specs.declared.ends.OpEnd.TheVariants as ends
-use Rattle.job_protocol.specs.Operations.{Setting, Operation, asks, tells, over, commit_of}
 use Rattle.twin_facts.specs.Sides.{Second, TwinEntry}
 use Rattle.twin_facts.specs.TwinLaws.{is_marked_by}
 use Rattle.twin_facts.specs.Events.{AtMoment}
-use Rattle.job_examples.specs.TwoMagic.{sided, AllStrange, drew_first, drew_second}
+use Rattle.job_examples.specs.TwoMagic.{AllStrange, drew_first, drew_second, sided}
+use Rattle.s3_types.specs.declared.reply.PageEntry.TheVariants.{Object as Listed}
+use Rattle.job_model.specs.declared.events.Op.TheVariants as ops
+use Rattle.job_model.specs.declared.ends.OpEnd.TheVariants as ends
 
 abbrev pub ja : Script
 ja = record (job Directory Fail 1 3 1 (attempt 0 0 ((codes "x", codes "hello") ∷ []) ∷ []) (Do Driver ops.Setup ∷ Do worker ops.Write ∷ Do worker ops.Commit ∷ Do Driver ops.Commit ∷ [])) { job = codes "ja" }

@@ -1,7 +1,6 @@
 -- The job that the runs are of, and entries of its journals.
-use Rattle.std.specs.Prelude.{ℕ, List, [], ◌∷◌, Option, None, codes, false, Some}
-use Rattle.job_spec.specs.Prelude.{Spelled, Actor, Attempt, Request, Reply, Outcome, Answered, Entry, Committer, Mode, File, Declared, Script, Op, Event, EventEnd, Ended, OpEnd, Known, Setting, Operation, Running, wants, advance, over, Doing, Times}
-use Rattle.job_protocol.specs.Prelude.{Reports}
+use Rattle.std.specs.Prelude.{List, None, Option, Some, [], codes, false, ℕ, ◌∷◌}
+use Rattle.job_spec.specs.Prelude.{Actor, Answered, Attempt, Committer, Declared, Doing, Ended, Entry, Event, EventEnd, File, Known, Mode, Op, OpEnd, Operation, Outcome, Reply, Reports, Request, Running, Script, Setting, Spelled, Times, advance, over, wants}
 use Rattle.job_model.specs.declared.ends.SetupEnd.TheVariants as setups
 use Rattle.job_model.specs.declared.ends.TaskEnd.TheVariants as tasks
 use Rattle.job_model.specs.declared.ends.OpEnd.TheVariants as ends

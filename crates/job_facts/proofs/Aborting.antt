@@ -1,12 +1,8 @@
 -- An attempt's abort of its task keeps the facts with each of its requests, whatever becomes of it, and goes on as it should.
-use Rattle.std.proofs.Common.{◌≡◌, ℕ, zero, suc, inl, inr, Bool, true, false, List, [], ◌∷◌, take, drop, Some, refl, sym, subst, arith}
-use Rattle.job_facts.specs.Prelude.{filter, answer, IsHonestOutcome, Request, Committer, Magic, Reply, Outcome, Retried, step, Who, IsLegal, Script, TaskEnd, Drawn, Known, learn, as_made, Listing, Deleting, walked_by, deleting, all_go, attempt_prefix, TaskAbort, Dropping, TaskAbortOver, task_abort_asks, task_abort_after, task_abort_start, task_abort_by, Seen, IsIn, Told, known, IsAttempt, Hold, FitsAbort, Times, begins}
-use Rattle.job_protocol.specs.Prelude.{task_abort_hears, dropping}
-use Rattle.job_spec.proofs.Common.{false_true, in_append, in_filter}
+use Rattle.job_facts.proofs.Common.{AllOwn, Bool, Committer, Deleting, Drawn, Dropping, FitsAbort, Hold, IsAttempt, IsHonestOutcome, IsIn, IsLegal, Known, List, Listing, Magic, Outcome, Reply, Request, Retried, Script, Seen, Some, TaskAbort, TaskAbortOver, TaskEnd, Times, Told, Who, [], all_go, answer, arith, as_made, attempt_prefix, begins, deleting, drop, dropping, false, false_true, filter, in_append, in_filter, inl, inr, known, learn, refl, step, subst, suc, sym, take, task_abort_after, task_abort_asks, task_abort_by, task_abort_hears, task_abort_start, true, walked_by, zero, ℕ, ◌∷◌, ◌≡◌}
 use Rattle.job_model.specs.declared.ends.TaskEnd.TheVariants as tasks
 use Rattle.list_walk.specs.Walks.{swept}
 use Rattle.job_protocol.specs.TaskAborts.{Sweeping, Removing, removing, sweeping}
-use Rattle.job_facts.specs.Fits.{AllOwn}
 use Rattle.job_facts.proofs.Going.{Each, each_so, step_by}
 use Rattle.job_facts.proofs.Shapes.{more_keys, page_is, page_each}
 

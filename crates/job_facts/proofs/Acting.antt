@@ -1,22 +1,16 @@
 -- Every operation of an attempt keeps the facts with each of its requests, and goes on as it should; and it names only what is its own.
-use Rattle.std.proofs.Common.{◌≡◌, ℕ, ◌||◌, false, Some, refl, sym, ap, subst, ◌∙◌, ◌⊎◌, inl, true, Bool, List, [], ◌∷◌, ◌++◌, map, take, Option, None, length, arith}
-use Rattle.job_facts.specs.Prelude.{answer, IsHonestOutcome, Request, Outcome, step, task_abort_after, Who, IsLegal, write_after, task_commit_after, Setting, Operation, TheWrite, TheTaskCommit, TheTaskAbort, asks, tells, Seen, Told, known, undoes, tell_attempt, IsAttempt, Hold, Fits, FitsWrite, FitsCommit, FitsAbort, Times, entry, tell, listed, ClusterRename, Reply, Page, Refused, NoSuchKey, NoSuchFile, Answered, Retried, File, Script, files, Drawn, Known, learn, record_key, walked_by, keys_on, last_of, Uploaded, GoesOn, AllSent, IsGone, upload_asks, upload_hears, TaskCommit, Looking, Reading, Publishing, Checking, Uploads, Storing, Renaming, TaskCommitOver, task_commit_asks, task_commit_hears, attempt_prefix, temporary_path, reading, looked, looked_at, read_record, storing, checking, checked, uploaded, renamed, least_missing, in_order, is_magic, is_staging, RisesFrom, AreCommits, Todo, AllWritten, IsOpen, PutObject, Committer, Magic, Place, MarkerPlace, RecordPlace, SetPlace, key_at, first_drawn, record_text, Uploading, Creating, Sending, Write, Recording, WriteOver, writing, write_asks, IsOwnPlace, Begun, FitsUpload, Wrote}
-use Rattle.job_facts.specs.Laws.{Goes}
+use Rattle.job_facts.proofs.Common.{AllSent, AllWritten, Answered, AreCommits, Begun, Bool, Checking, ClusterRename, Committer, Creating, Drawn, File, Fits, FitsAbort, FitsCommit, FitsUpload, FitsWrite, Goes, GoesOn, Hold, IsAttempt, IsGone, IsHonestOutcome, IsLegal, IsOpen, IsOwnPlace, Known, List, Looking, Magic, MarkerPlace, NoSuchFile, NoSuchKey, None, Operation, Option, Outcome, Page, Place, Publishing, PutObject, Reading, RecordPlace, Recording, Refused, Renaming, Reply, Request, Retried, RisesFrom, Script, Seen, Sending, SetPlace, Setting, Some, Storing, TaskCommit, TaskCommitOver, TheTaskAbort, TheTaskCommit, TheWrite, Times, Todo, Told, Uploaded, Uploading, Uploads, Who, Write, WriteOver, Wrote, [], answer, ap, arith, asks, attempt_prefix, checked, checking, entry, false, false≢true, files, first_drawn, in_order, inl, is_magic, is_staging, joins, key_at, keys_on, known, last_of, learn, least_missing, length, listed, looked, looked_at, map, map_in, or-false, or-true, page_rises, read_record, reading, record_key, record_text, refl, renamed, step, storing, subst, sym, take, task_abort_after, task_commit_after, task_commit_asks, task_commit_hears, tell, tell_attempt, tells, temporary_path, true, undoes, upload_asks, upload_hears, uploaded, walked_by, write_after, write_asks, write_hears, writing, ℕ, ◌++◌, ◌||◌, ◌∙◌, ◌∷◌, ◌≡◌, ◌⊎◌}
 use Rattle.job_facts.proofs.Whose.{who_here}
 use Rattle.job_facts.proofs.Going.{known_now, Each, step_asked, unlearnt}
 use Rattle.job_facts.proofs.Aborting.{abort_goes}
-use Rattle.job_spec.proofs.Common.{map_in, false≢true}
 use Rattle.magic_paths.specs.Layout as layout
-use Rattle.store_frame.proofs.Flat.{page_rises, joins}
 use Rattle.job_facts.proofs.Legal.{files_apart}
 use Rattle.job_facts.proofs.Ordered.{order_each, order_all, order_apart, none_missing}
 use Rattle.job_facts.proofs.Sent.{is_set_here, not_set}
 use Rattle.job_facts.proofs.Uploads.{FitsUploaded, next_todo, todo_none, all_commits, upload_goes, upload_flags}
 use Rattle.job_protocol.specs.Writes as writes
-use Rattle.job_protocol.specs.Prelude.{write_hears}
 use Rattle.job_facts.proofs.Shapes.{last_so, page_is}
 use Rattle.job_facts.proofs.Owning.{operation_asked, asked_keeps, asked_adds, takes_back}
-use Rattle.std.proofs.Math.Bool.{or-false, or-true}
 
 -- ---- an attempt's write
 

@@ -1,14 +1,9 @@
 -- What a request of an attempt leaves standing of another's, and of its own.
-use Rattle.std.proofs.Common.{◌≡◌, ℕ, ◌≤◌, inl, inr, true, false, List, [], ◌∷◌, ◌++◌, take, length, Option, Some, refl, sym, ap, subst, ◌∙◌, arith, append_assoc, length-append, codes}
-use Rattle.job_facts.specs.Prelude.{decimal, Scene, begins, apply, bucket_of, Object, Request, PutObject, AbortUpload, DeleteObjects, magic_prefix, File, Who, IsLegal, Script, Known, attempt_dir, record_key, Uploading, Creating, Sending, upload_asks, Deleting, Write, WriteOver, write_asks, TaskCommit, Publishing, TaskCommitOver, task_commit_asks, attempt_prefix, TaskAbort, Dropping, TaskAbortOver, task_abort_asks, IsIn, HasBucket, changed_keys, changed_paths, at_key, IsAttempt, FitsAbort}
-use Rattle.job_spec.proofs.Common.{append_cancel_left, begins_behind, begins_back, below_is, decimal_without, some_is, false_true, true_or_false, same_or_other}
-use Rattle.path_keys.proofs.Common.{decimal_injective}
+use Rattle.job_facts.proofs.Common.{AbortUpload, Creating, DeleteObjects, Deleting, Dropping, File, FitsAbort, HasBucket, IsAttempt, IsIn, IsLegal, Known, List, Object, Option, Publishing, PutObject, Request, Scene, Script, Sending, Some, TaskAbort, TaskAbortOver, TaskCommit, TaskCommitOver, Uploading, Who, Write, WriteOver, [], ap, append_assoc, append_cancel_left, apply, arith, at_key, attempt_dir, attempt_prefix, begins, begins_back, begins_behind, below_is, bucket_of, changed_keys, changed_paths, codes, cut_once, decimal, decimal_injective, decimal_without, false, false_true, frame, inl, inr, length, length-append, magic_prefix, record_key, refl, same_or_other, some_is, subst, sym, take, task_abort_asks, task_commit_asks, true, true_or_false, upload_asks, write_asks, ℕ, ◌++◌, ◌∙◌, ◌∷◌, ◌≡◌, ◌≤◌}
 use Rattle.std.specs.FinMap as fin
-use Rattle.magic_paths.proofs.Tails.{cut_once}
 use Rattle.job_protocol.specs.Writes as writes
 use Rattle.job_protocol.specs.TaskCommits as commits
 use Rattle.job_protocol.specs.TaskAborts.{Sweeping}
-use Rattle.store_frame.proofs.Framed.{frame}
 use Rattle.job_facts.proofs.Whose.{who_of}
 use Rattle.job_facts.proofs.Legal.{some_dest, small_attempt}
 use Rattle.job_facts.proofs.Shapes.{puts}

@@ -1,20 +1,16 @@
 -- The driver's abort or clean of the job keeps the facts with each of its requests, goes on as it should, and no reader of the destination sees it.
-use Rattle.std.proofs.Common.{◌≡◌, ℕ, inl, inr, ◌||◌, Bool, true, false, List, [], ◌∷◌, ◌++◌, take, drop, Some, None, refl, sym, ap, subst, ◌∙◌, arith}
-use Rattle.job_facts.specs.Prelude.{filter, begins, answer, effect, IsHonestOutcome, Request, UploadRef, Committer, Magic, Reply, Outcome, Retried, step, magic_prefix, cluster_prefix, IsLegal, Script, dest_prefix, Listing, Deleting, walked_by, last_ref, deleting, all_go, Clean, Walking, Aborting, Naming, Removing, CleanOver, clean_asks, clean_after, clean_hears, aborting, walking, sweeping, removing, naming, Same, view, Seen, see, is_begun, IsIn, Told, tell, driver_entry, Hold, FitsClean, Times, only_reads}
+use Rattle.job_facts.proofs.Common.{Aborting, AllBelow, AllCluster, AllMagic, Bool, Clean, CleanOver, Committer, Deleting, FitsClean, Hold, IsHonestOutcome, IsIn, IsLegal, List, Listing, Magic, Naming, None, Outcome, Removing, Reply, Request, Retried, Same, Script, Seen, Some, Times, Told, UploadRef, Walking, [], aborting, all_go, answer, ap, arith, begins, clean_after, clean_asks, clean_hears, cluster_prefix, deleting, dest_prefix, driver_entry, drop, effect, false, filter, in_append, in_filter, inl, inr, is_begun, last_ref, magic_prefix, naming, only_reads, or-true, refl, removing, see, some_is, step, subst, sweeping, sym, take, tell, true, view, walked_by, walking, ℕ, ◌++◌, ◌||◌, ◌∙◌, ◌∷◌, ◌≡◌}
 use Rattle.job_model.specs.Prelude.{Uploads}
-use Rattle.job_spec.proofs.Common.{some_is, in_append, in_filter}
 use Rattle.std.specs.FinMap as fin
 use Rattle.s3_types.specs.Multipart as multipart
 use Rattle.list_walk.specs.Walks.{swept}
 use Rattle.job_protocol.specs.Cleanups.{Sweeping}
-use Rattle.job_facts.specs.Driver.{AllMagic, AllCluster, AllBelow}
 use Rattle.job_facts.proofs.Going.{Each, each_so, step_by}
 use Rattle.job_facts.proofs.Driving.{IsClearing, reads, aborts, batches, removes, clearing_keeps, clearing_hides}
 use Rattle.job_facts.proofs.Aborting.{taken, taken_in, dropped_in}
 use Rattle.job_facts.proofs.Shows.{HidesAll, hidden_shows}
 use Rattle.job_facts.proofs.Live.{refs_is}
 use Rattle.job_facts.proofs.Shapes.{more_keys, page_is, page_each}
-use Rattle.std.proofs.Math.Bool.{or-true}
 
 -- ---- what is found
 

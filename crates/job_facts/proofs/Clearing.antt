@@ -1,14 +1,8 @@
 -- The driver's abort or clean of the job leaves nothing of it, where nobody else sends.
-use Rattle.std.proofs.Common.{◌≡◌, ℕ, inl, inr, nat_lt, Bool, true, false, cond, List, [], ◌∷◌, ◌++◌, take, length, Option, Some, None, refl, sym, ap, subst, ◌∙◌, arith}
-use Rattle.job_facts.specs.Prelude.{filter, text_cmp, text_eq, Content, Scene, Upload, begins, answer, apply, effect, IsHonestOutcome, only_reads, Committer, Magic, Request, AbortUpload, ClusterList, ClusterDelete, UploadRef, Reply, Outcome, ReplyLost, Retried, step, magic_prefix, cluster_prefix, Script, dest_prefix, Sweep, Listing, Deleting, walked_by, walked_uploads, last_ref, uploads_after, sweep_asks, sweep_hears, all_go, Clean, Walking, Aborting, Naming, Removing, CleanOver, clean_asks, clean_after, clean_hears, aborting, walking, sweeping, removing, naming, is_magic, is_staging, IsIn, HasBucket, at_id, end_left, ref_at, Clears}
-use Rattle.job_spec.specs.Prelude.{NoneLive, NothingLeft}
-use Rattle.job_spec.proofs.Common.{some_is, none_some, false_true, true_or_false, same_or_not, text_true, text_gone, in_front, in_back, map_in, filter_in}
-use Rattle.path_keys.proofs.Common.{text_exact}
+use Rattle.job_facts.proofs.Common.{AbortUpload, Aborting, Bool, Clean, CleanOver, Clears, ClusterDelete, ClusterList, Committer, Content, Deleting, HasBucket, IsHonestOutcome, IsIn, List, Listing, Magic, Naming, None, NoneLive, NothingLeft, OnlyThese, Option, Outcome, Removing, Reply, ReplyLost, Request, Retried, Scene, Script, Some, Sweep, Upload, UploadRef, Walking, [], aborting, all_go, answer, ap, apply, arith, at_id, begins, clean_after, clean_asks, clean_hears, cluster_prefix, cond, dest_prefix, effect, end_left, false, false_true, filter, filter_in, in_back, in_front, inl, inr, is_magic, is_staging, last_ref, length, magic_prefix, map_in, naming, nat_lt, none_some, only_reads, reads_nothing, ref_at, refl, refs_append, removing, same_or_not, some_is, step, subst, sweep_asks, sweep_hears, sweeping, sym, take, text_cmp, text_eq, text_exact, text_gone, text_true, true, true_or_false, uploads_after, walked_by, walked_uploads, walking, ℕ, ◌++◌, ◌∙◌, ◌∷◌, ◌≡◌}
 use Rattle.std.specs.FinMap as fin
 use Rattle.s3_types.specs.Multipart as multipart
 use Rattle.job_protocol.specs.Cleanups.{Sweeping}
-use Rattle.store_frame.proofs.Reading.{reads_nothing}
-use Rattle.job_facts.specs.Emptying.{OnlyThese}
 use Rattle.job_facts.specs.Clearing.{LiveIn, LiveOrBehind, FilesIn}
 use Rattle.job_facts.proofs.Shapes.{id_before, abort_turns}
 use Rattle.job_facts.proofs.Going.{Each, each_so, step_by, effect_so}
@@ -16,7 +10,6 @@ use Rattle.job_facts.proofs.Undone.{deletes_drop}
 use Rattle.job_facts.proofs.Emptying.{still_there, sweep_begins, sweep_empties, sweep_still, Emptied}
 use Rattle.job_facts.proofs.Live.{find_in, page_covers, page_all, refs_rest, refs_is}
 use Rattle.job_facts.proofs.Staged.{removed_stood}
-use Rattle.list_walk.proofs.Uploads.{refs_append}
 
 -- ---- as it ends
 

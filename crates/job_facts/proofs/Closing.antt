@@ -1,13 +1,9 @@
 -- Until it cleans up, the driver ends only uploads of attempts that have sent their publishing requests.
-use Rattle.std.proofs.Common.{◌≡◌, ℕ, inl, inr, nat_eq, ◌&&◌, ◌||◌, Bool, true, false, List, [], ◌∷◌, ◌++◌, length, Option, Some, None, refl, sym, ap, subst, ◌∙◌, arith}
-use Rattle.job_spec.proofs.Common.{and_parts, or_parts, some_is, false_true, eq_nat, true_or_false}
-use Rattle.job_facts.specs.Prelude.{is_effective, Request, Reply, Outcome, Pending, Who, IsLegal, Script, Drawn, sweep_asks, sweep_hears, nth, again, follow, dealt, revert, Sets, all_commits, Commit, Fetching, Replacing, Completing, Marking, Reverting, CommitOver, set_request, set_read, commit_asks, commit_hears, commit_tells, commit_start, is_no_magic, reverting, Seen, is_begun, Tabled, Setting, Operation, asks, IsIn, Scene, Told, known, ends, tell_driver, tell_attempt, at_event, Facts, Hold, Fits, Reads, FitsJobCommit, Closed, Reverts}
-use Rattle.job_facts.specs.Standing.{IsSent, EndsSent}
+use Rattle.job_facts.proofs.Common.{Bool, Closed, Commit, CommitOver, Completing, Drawn, EndsSent, Facts, Fetching, Fits, FitsJobCommit, Hold, IsIn, IsLegal, IsSent, List, Marking, None, Operation, Option, Outcome, Pending, Reads, Replacing, Reply, Request, Reverting, Reverts, Scene, Script, Seen, Sets, Setting, Some, Tabled, Told, Who, [], again, all_commits, and_parts, ap, arith, asks, at_event, commit_asks, commit_hears, commit_start, commit_tells, dealt, ends, eq_nat, false, false_true, follow, inl, inr, is_begun, is_effective, is_no_magic, known, length, nat_eq, nth, or-true, or_parts, refl, revert, reverting, set_read, set_request, some_is, subst, sweep_asks, sweep_hears, sym, tell_attempt, tell_driver, true, true_or_false, ℕ, ◌&&◌, ◌++◌, ◌||◌, ◌∙◌, ◌∷◌, ◌≡◌}
 use Rattle.job_facts.proofs.Held.{nth_of, of_sets, revert_each, missed, worn, tells_so, Course, fetching_so, swept_so, fetched_so, completing_so}
 use Rattle.job_facts.proofs.Beside.{still_sent, still_known}
 use Rattle.job_facts.proofs.Foreign.{set_reads, reads_name}
 use Rattle.job_facts.proofs.Turning.{sweep_none}
-use Rattle.std.proofs.Math.Bool.{or-true}
 
 module _ (w : Script) (sent : Who → Bool) (drawn : Who → List Drawn) where
   abbrev EndsOnly : Request → Type 0

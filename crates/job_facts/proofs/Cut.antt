@@ -1,13 +1,9 @@
 -- The parts of a file of a script.
-use Rattle.std.proofs.Common.{◌≡◌, ℕ, suc, ◌<◌, ◌≤◌, List, length, slice_get, Some, sym, subst, zero, ◌+◌, ◌-◌, ◌&&◌, true, [], ◌∷◌, ◌++◌, map, take, Option, Ok, refl, ap, ◌∙◌, arith}
-use Rattle.job_facts.specs.Prelude.{flat_map, File, Script, file_parts, list_all, named_from, Upload, Spelled, joined, NamedPart, Drawn, IsHeld}
+use Rattle.job_facts.proofs.Common.{Drawn, File, IsHeld, List, NamedPart, Ok, Option, Parts, Script, Some, Spelled, Upload, [], ap, arith, file_parts, flat_map, has_tag, joined, le-leb, length, list_all, lt-ltb, map, named_from, nat_true, plain_tag, refl, slice_get, slice_get_within, some_is, subst, suc, sym, tag_eq, take, text_true, true, zero, ℕ, ◌&&◌, ◌++◌, ◌+◌, ◌-◌, ◌<◌, ◌∙◌, ◌∷◌, ◌≡◌, ◌≤◌}
 use Rattle.s3_types.specs.Blocks.{block_of}
 use Rattle.s3_types.proofs.Blocks as blocks
-use Rattle.job_spec.proofs.Common.{le-leb, lt-ltb, slice_get_within, some_is, nat_true, text_true}
-use Rattle.job_spec.specs.Prelude.{Parts, has_tag, tag_eq}
 use Rattle.retries.specs.Prelude.{rises_from, is_sent, is_large, bytes_of}
 use Rattle.std.specs.FinMap as fin
-use Rattle.s3_types.specs.Tags.{plain_tag}
 
 module _ (w : Script) (minimum : ℕ) (f : File) where
   abbrev size_of : ℕ

@@ -1,7 +1,5 @@
 -- The driver's commit has decided as it goes on with its sets, and a revert names their uploads alone.
-use Rattle.std.proofs.Common.{◌≡◌, ℕ, ◌+◌, ◌≤◌, inl, inr, Bool, List, [], ◌∷◌, ◌++◌, length, Option, Some, None, refl, arith, length-append}
-use Rattle.job_facts.specs.Prelude.{Scene, Request, Reply, Outcome, Who, IsLegal, Script, Drawn, sweep_hears, again, follow, dealt, revert, all_commits, Commit, Fetching, Replacing, Completing, Reverting, set_read, commit_hears, commit_tells, commit_start, is_no_magic, reverting, Tabled, Told, Facts, FitsJobCommit, AreDecided, Decides}
-use Rattle.job_facts.specs.Filed.{AreReverts}
+use Rattle.job_facts.proofs.Common.{AreDecided, AreReverts, Bool, Commit, Completing, Decides, Drawn, Facts, Fetching, FitsJobCommit, IsLegal, List, None, Option, Outcome, Replacing, Reply, Request, Reverting, Scene, Script, Some, Tabled, Told, Who, [], again, all_commits, arith, commit_hears, commit_start, commit_tells, dealt, follow, inl, inr, is_no_magic, length, length-append, refl, revert, reverting, set_read, sweep_hears, ℕ, ◌++◌, ◌+◌, ◌∷◌, ◌≡◌, ◌≤◌}
 use Rattle.job_facts.proofs.Held.{of_sets, revert_each, missed, worn, tells_so, Course, fetching_so, fetched_so, swept_so, completing_so}
 
 module _ (w : Script) (minimum : ℕ) (sent : Who → Bool) (drawn : Who → List Drawn) where

@@ -1,9 +1,6 @@
 -- What the driver's completions, aborts and deletions leave of a file's key and of its upload.
-use Rattle.std.proofs.Common.{◌≡◌, ℕ, ◌<◌, ◌⊎◌, inl, inr, true, false, cond, List, Option, Some, None, refl, sym, ap, subst, ◌∙◌, Ok, arith}
-use Rattle.job_facts.specs.Prelude.{Scene, named_from, apply, with_objects, DeleteObject, DeleteObjects, Pending, IsLegal, Script, file_key, completion, abort, deletion, HasBucket, Told, at_key, at_id, end_left, Facts, IsCommit, Gone, whole_of, BucketContent, joined, live}
-use Rattle.job_spec.proofs.Common.{none_or_some, text_gone, text_true, true_or_false}
+use Rattle.job_facts.proofs.Common.{BucketContent, DeleteObject, DeleteObjects, Facts, Gone, HasBucket, IsCommit, IsLegal, List, None, Ok, Option, Pending, Scene, Script, Some, Told, abort, ap, apply, arith, at_id, at_key, completion, cond, deletion, end_left, false, file_key, frame, inl, inr, joined, live, named_from, none_or_some, refl, subst, sym, text_gone, text_true, true, true_or_false, whole_of, with_objects, ℕ, ◌<◌, ◌∙◌, ◌≡◌, ◌⊎◌}
 use Rattle.std.specs.FinMap as fin
-use Rattle.store_frame.proofs.Framed.{frame}
 use Rattle.job_facts.proofs.Shapes.{key_after, id_before, id_after, store_is, abort_turns}
 use Rattle.job_facts.proofs.Undone.{deletes_drop}
 use Rattle.job_facts.proofs.Ended.{completes_key, completes_id, refused_key, gone_stays}

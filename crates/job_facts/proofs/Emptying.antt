@@ -1,14 +1,7 @@
 -- A sweep of the job's magic directory leaves nothing there, where none but the driver changes it.
-use Rattle.std.proofs.Common.{◌≡◌, ℕ, zero, suc, ◌≤◌, ◌⊎◌, inl, inr, nat_lt, Bool, true, false, cond, List, [], ◌∷◌, ◌++◌, take, drop, length, Option, Some, None, refl, sym, ap, subst, ◌∙◌, arith, codes}
-use Rattle.job_facts.specs.Prelude.{filter, is_lt, eq_by_cmp, text_cmp, text_total, text_ties, Content, Objects, Scene, begins, answer, apply, apply_store, with_objects, without, effect, MOST_ENTRIES, Object, Request, DeleteObjects, Reply, Outcome, only_reads, magic_prefix, Script, Sweep, Listing, Deleting, walked_by, page_after, deleting, sweep_asks, sweep_hears, all_go, IsIn, HasBucket, at_key, AllUnder, SweepsUnder, OnlyThose, ThoseOrBehind, EmptiesBy}
-use Rattle.job_spec.proofs.Common.{false≢true, none_some, text_true, in_filter, filter_in}
+use Rattle.job_facts.proofs.Common.{AllUnder, Bool, Content, DeleteObjects, Deleting, Empties, EmptiesBy, FitsSweep, HasBucket, IsIn, List, Listing, MOST_ENTRIES, None, Object, Objects, OnlyThose, Option, Outcome, Reply, Request, Scene, Script, Some, Sweep, SweepsUnder, ThoseOrBehind, [], all_go, answer, ap, apply, apply_store, arith, at_key, begins, codes, cond, deleting, drop, effect, eq_by_cmp, false, false≢true, filter, filter_in, frame, in_filter, inl, inr, is_lt, le-ltb, length, magic_prefix, nat_lt, none_some, only_reads, page_after, reads_nothing, refl, subst, suc, sweep_asks, sweep_hears, sym, take, text_cmp, text_ties, text_total, text_true, true, walked_by, with_bucket, with_objects, without, zero, ℕ, ◌++◌, ◌∙◌, ◌∷◌, ◌≡◌, ◌≤◌, ◌⊎◌}
 use Rattle.std.specs.FinMap as fin
-use Rattle.std.proofs.lemmas.Bool.{le-ltb}
 use Rattle.list_walk.specs.Walks.{walked, swept}
-use Rattle.store_frame.proofs.Framed.{with_bucket, frame}
-use Rattle.store_frame.proofs.Reading.{reads_nothing}
-use Rattle.job_facts.specs.Driver.{FitsSweep}
-use Rattle.job_facts.specs.Emptying.{Empties}
 use Rattle.job_facts.proofs.Shapes.{key_before, key_after, store_is, rest, more_keys, page_is, page_each, still_covered, all_covered}
 use Rattle.job_facts.proofs.Aborting.{dropped_in}
 use Rattle.job_facts.proofs.Undone.{stood_before}

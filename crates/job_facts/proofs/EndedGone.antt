@@ -1,8 +1,5 @@
 -- Each upload that the driver has ended is gone; what stands where files go after each entry of its commit.
-use Rattle.std.proofs.Common.{◌≡◌, ℕ, ◌<◌, ◌≤◌, ◌⊎◌, inl, inr, ◌&&◌, ◌||◌, Bool, true, false, length, Option, Some, None, refl, sym, ap, subst, ◌∙◌, arith}
-use Rattle.job_spec.proofs.Common.{and_parts, false≢true, some_is, false_true, eq_nat, true_or_false}
-use Rattle.job_facts.specs.Prelude.{Scene, apply, effect, is_effective, Request, Outcome, Slow, RequestLost, Pending, IsLegal, Script, nth, completion, abort, deletion, all_commits, Commit, Fetching, Replacing, Completing, Marking, Reverting, CommitOver, set_request, commit_asks, Tabled, HasBucket, Told, ends, nothing_told, tell_driver, at_id, Facts, FitsJobCommit, IsCommit, Gone, Decides}
-use Rattle.store_frame.proofs.Framed.{frame}
+use Rattle.job_facts.proofs.Common.{Bool, Commit, CommitOver, Completing, Decides, Facts, Fetching, FitsJobCommit, Gone, HasBucket, IsCommit, IsLegal, Marking, None, Option, Outcome, Pending, Replacing, Request, RequestLost, Reverting, Scene, Script, Slow, Some, Tabled, Told, abort, all_commits, and_parts, ap, apply, arith, at_id, commit_asks, completion, deletion, effect, ends, eq_nat, false, false_true, false≢true, frame, inl, inr, is_effective, length, nothing_told, nth, refl, set_request, some_is, subst, sym, tell_driver, true, true_or_false, ℕ, ◌&&◌, ◌<◌, ◌||◌, ◌∙◌, ◌≡◌, ◌≤◌, ◌⊎◌}
 use Rattle.job_facts.proofs.Held.{nth_of, of_sets}
 use Rattle.job_facts.proofs.Ended.{gone_stays}
 use Rattle.job_facts.proofs.Effects.{upload_low, completion_ends, abort_ends}

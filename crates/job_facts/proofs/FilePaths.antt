@@ -1,20 +1,12 @@
 -- The paths of the job's files are such as a reader of the destination is shown.
-use Rattle.std.proofs.Common.{◌≡◌, ℕ, ◌==◌, nat_eq, if◌then◌else◌, Bool, true, false, List, [], ◌∷◌, ◌++◌, length, inl, inr, refl, ap, ◌∙◌, arith, ◌-◌, ◌<◌, ◌≤◌, ◌^◌, drop, codes, sym, append_assoc}
-use Rattle.job_facts.specs.Prelude.{list_all, is_open, File, Who, IsLegal, IsGiven, is_full, with_id, with_id_last, path_of, Script, files, is_folder, is_file_path, IsIn, decimal, list_any, is_job_id, below, MarkerPlace}
-use Rattle.job_spec.proofs.Common.{and_parts, lt-ltb, not-true, false≢true, nat_tests, true_or_false, false_true, id_bytes, unique_parts, or_parts, list_all-append, not_so, decimal_without, below_is}
+use Rattle.job_facts.proofs.Common.{Bool, File, IsGiven, IsIn, IsLegal, LeadsTo, List, MarkerPlace, MarkersLead, Script, Who, [], after_first, and_parts, ap, append_assoc, arith, attempt_key, below, below_is, codes, decimal, decimal_nonempty, decimal_without, drop, false, false_true, false≢true, files, id_bytes, if◌then◌else◌, inl, inr, is_file_path, is_folder, is_full, is_job_id, is_open, is_other, is_reserved, length, list_all, list_all-append, list_any, lt-ltb, nat_eq, nat_tests, not-true, not_so, one_part, or_parts, parts_append, path_of, refl, sym, tail_is, true, true_or_false, unique_parts, with_id, with_id_last, ℕ, ◌++◌, ◌-◌, ◌<◌, ◌==◌, ◌^◌, ◌∙◌, ◌∷◌, ◌≡◌, ◌≤◌}
 use Rattle.words.specs.Parts.{parts_from, parts_of}
 use Rattle.job_facts.proofs.Legal.{from_script, given_of, some_dest, is_attempt, small_attempt}
 use Rattle.job_facts.proofs.JobCommitting.{file_open}
-use Rattle.s3_types.specs.Prelude.{after_first}
-use Rattle.path_keys.proofs.Common.{decimal_nonempty, parts_append, one_part}
-use Rattle.job_model.specs.Prelude.{is_other}
-use Rattle.job_protocol.specs.Prelude.{attempt_key, is_reserved}
 use Rattle.magic_paths.specs.Finals.{is_word, has_magic, after_magic, kept}
 use Rattle.magic_paths.proofs.Elements.{id_others}
 use Rattle.magic_paths.proofs.Kept.{some_parts, final_parts}
-use Rattle.magic_paths.proofs.Tails.{tail_is}
 use Rattle.magic_paths.proofs.Walked.{Walked, begun, stepped, has_word, front_at, behind_at}
-use Rattle.job_facts.specs.Laws.{MarkersLead, LeadsTo}
 use Rattle.job_facts.proofs.Legible.{full_parts}
 
 -- a text that ends in `/` has an empty part

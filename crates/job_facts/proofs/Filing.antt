@@ -1,9 +1,6 @@
 -- What stands where the files of the sets go, while the driver's commit completes their uploads and where it reverts.
-use Rattle.std.proofs.Common.{◌≡◌, ℕ, ◌+◌, ◌<◌, ◌≤◌, ◌⊎◌, inl, inr, nat_lt, ◌&&◌, ◌||◌, Bool, true, false, cond, List, [], ◌∷◌, ◌++◌, length, slice_get, Option, Some, None, refl, sym, ap, subst, ◌∙◌, arith}
-use Rattle.job_facts.specs.Prelude.{option_map, Scene, apply, effect, is_effective, Object, Request, DeleteObject, Reply, Outcome, Answered, Slow, RequestLost, ReplyLost, Entry, below, Pending, PendingSet, IsWorn, IsLegal, Script, wanted_at, same_path, files, Sweep, sweep_hears, Turn, nth, completion, abort, deletion, again, follow, dealt, revert, Sets, all_commits, picks_of, Commit, Fetching, Replacing, Completing, Marking, Reverting, CommitOver, set_read, commit_misses, commit_tells, completing, is_no_magic, reverting, worn_completion, In, Table, Tabled, IsIn, changed_upload, Told, driver_entry, tell_driver, at_key, Facts, Reads, FitsJobCommit, NoneEnded, Turned, IsCommit, Gone, AreDecided, whole_of, IsBefore, deletes, Wants, FileStands}
-use Rattle.job_spec.proofs.Common.{ltb-false, same_self, shared_found, some_is, none_some, false_true, true_or_false, same_or_not, same_or_other, nat_false, nat_true, in_append, none_or_some}
+use Rattle.job_facts.proofs.Common.{Answered, AreDecided, Bool, Commit, CommitOver, Completing, DeleteObject, Entry, Facts, Fetching, FileStands, FitsJobCommit, Gone, In, IsBefore, IsCommit, IsIn, IsLegal, IsWorn, List, Marking, None, NoneEnded, Object, Option, Outcome, Pending, PendingSet, Reads, Replacing, Reply, ReplyLost, Request, RequestLost, Reverting, Scene, Script, Sets, Slow, Some, Sweep, Table, Tabled, Told, Turn, Turned, Wants, [], abort, above_zero, again, all_commits, and-false, ap, apply, arith, at_key, below, changed_upload, commit_misses, commit_tells, completing, completion, cond, dealt, deletes, deletion, driver_entry, effect, false, false_true, files, follow, in_append, inl, inr, is_effective, is_no_magic, length, ltb-false, nat_false, nat_lt, nat_true, none_or_some, none_some, nth, option_map, or-false, or-true, picks_of, refl, revert, reverting, same_or_not, same_or_other, same_path, same_self, set_read, shared_found, slice_get, some_is, streak, subst, sweep_hears, sym, tell_driver, true, true_or_false, wanted_at, was_answered, whole_of, worn_completion, ℕ, ◌&&◌, ◌++◌, ◌+◌, ◌<◌, ◌||◌, ◌∙◌, ◌∷◌, ◌≡◌, ◌≤◌, ◌⊎◌}
 use Rattle.path_keys.proofs.Common.{below_is}
-use Rattle.job_spec.specs.Prelude.{was_answered, streak}
 use Rattle.retries.proofs.Misses.{streak_same, worn_now, worn_more}
 use Rattle.job_protocol.proofs.Tables.{table_dealt, table_answered, table_again, all_done}
 use Rattle.job_facts.proofs.Whose.{attempt}
@@ -13,8 +10,6 @@ use Rattle.job_facts.proofs.Held.{nth_of, number_of, of_sets, uploads_uniq, dest
 use Rattle.job_facts.proofs.Wanted.{wanted_of, wanted_here}
 use Rattle.job_facts.proofs.Effects.{completes_file, completes_nothing, other_key, abort_keys, deletion_is, deletion_key, deletion_other}
 use Rattle.job_facts.proofs.Going.{effect_so}
-use Rattle.std.proofs.Math.Bool.{and-false, or-false, or-true}
-use Rattle.proof_base.proofs.Numbers.{above_zero}
 
 -- what stood before the commit still does, or nothing
 pub before_stays : {first u v : Option Object} → (v ≡ u) ⊎ (v ≡ None) → IsBefore first u → IsBefore first v

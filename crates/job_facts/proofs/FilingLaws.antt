@@ -1,8 +1,5 @@
 -- What stands where wanted files go, entry by entry: the driver's commit's, and those of others.
-use Rattle.std.proofs.Common.{◌≡◌, ℕ, ◌≤◌, ◌^◌, ◌⊎◌, inl, inr, true, List, [], ◌∷◌, ◌++◌, length, take, Option, Some, None, refl, sym, ap, subst, ◌∙◌, arith}
-use Rattle.job_facts.specs.Prelude.{Scene, answer, bucket_of, effect, IsHonestOutcome, only_reads, Object, Request, PutObject, Outcome, Entry, below, IsWorn, success_key, FilePlace, is_open, Pending, Who, IsLegal, Script, is_file_path, mark_text, Sweep, Listing, Deleting, sweep_asks, page_after, picks_of, Commit, Fetching, Replacing, Completing, Marking, Reverting, CommitOver, set_request, commit_start, commit_asks, commit_tells, Setting, Operation, asks, Seen, IsIn, HasBucket, changed_keys, Told, known, ends, tell_driver, tell_attempt, driver_entry, at_key, IsAttempt, Hold, Fits, FitsJobCommit, NoneEnded, IsCommit, Decides, IsBefore, deletes, Wants, FileStands, whole_of, Commits, DeleteObjects}
-use Rattle.job_spec.proofs.Common.{key_magic, some_is, false_true}
-use Rattle.store_frame.proofs.Framed.{frame}
+use Rattle.job_facts.proofs.Common.{Commit, CommitOver, Commits, Completing, Decides, DeleteObjects, Deleting, Entry, Fetching, FilePlace, FileStands, Fits, FitsJobCommit, HasBucket, Hold, IsAttempt, IsBefore, IsCommit, IsHonestOutcome, IsIn, IsLegal, IsWorn, List, Listing, Marking, None, NoneEnded, Object, Operation, Option, Outcome, Pending, PutObject, Replacing, Request, Reverting, Scene, Script, Seen, Setting, Some, Sweep, Told, Wants, Who, [], answer, ap, arith, asks, at_key, below, bucket_of, changed_keys, commit_asks, commit_start, commit_tells, deletes, driver_entry, effect, ends, false_true, frame, inl, inr, is_file_path, is_open, key_magic, known, length, mark_text, only_reads, page_after, picks_of, refl, set_request, some_is, subst, success_key, sweep_asks, sym, take, tell_attempt, tell_driver, true, whole_of, ℕ, ◌++◌, ◌^◌, ◌∙◌, ◌∷◌, ◌≡◌, ◌≤◌, ◌⊎◌}
 use Rattle.job_facts.proofs.Legal.{some_dest}
 use Rattle.job_facts.proofs.Beside.{still_sent, still_known, job_commit_begins}
 use Rattle.job_facts.proofs.Owning.{operation_own}

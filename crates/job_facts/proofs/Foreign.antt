@@ -1,12 +1,6 @@
 -- A foreign request leaves the job alone; so does one that changes nothing, and one that begins an upload.
-use Rattle.std.proofs.Common.{◌≡◌, ℕ, ◌<◌, Bool, List, sym, subst, [], None, false, refl, arith}
-use Rattle.store_frame.proofs.Framed.{frame}
-use Rattle.store_frame.proofs.Reading.{reads_nothing}
-use Rattle.std.proofs.Common.{true, Some, Option}
-use Rattle.job_facts.specs.Prelude.{Scene, Upload, apply, only_reads, Request, Outcome, Slow, RequestLost, Who, IsLegal, Script, Drawn, Seen, see, HasBucket, Told, tell, strange_entry, at_id, IsKnown, Leaves, IsForeign, Facts, Hold, Times, changed_keys, changed_upload, changed_paths, ends, undoes, learn, Known, is_publishing, IsWithin, GetObject, HeadObject, ListPage, ListParts, ListUploads, ClusterGet, ClusterList, Committer, Magic, set_request, bucket_of, IsIn, magic_prefix, cluster_prefix, begins}
-use Rattle.job_spec.proofs.Common.{false_true}
+use Rattle.job_facts.proofs.Common.{Bool, ClusterGet, ClusterList, Committer, Drawn, Facts, GetObject, HasBucket, HeadObject, Hold, IsForeign, IsIn, IsKnown, IsLegal, IsWithin, Known, Leaves, List, ListPage, ListParts, ListUploads, Magic, None, Option, Outcome, Request, RequestLost, Scene, Script, Seen, Slow, Some, Times, Told, Upload, Who, [], apply, arith, at_id, begins, bucket_of, changed_keys, changed_paths, changed_upload, cluster_prefix, ends, false, false_true, frame, is_publishing, learn, magic_prefix, only_reads, reads_nothing, refl, see, sends_data, set_request, strange_entry, subst, sym, tell, true, undoes, ℕ, ◌<◌, ◌≡◌}
 use Rattle.job_facts.proofs.Keep.{leaves_keep}
-use Rattle.job_spec.specs.Prelude.{sends_data}
 
 -- what is known of the scene before
 pub record Stood (w : Script) (drawn : Who → List Drawn) (s : Scene) : Type 0 where

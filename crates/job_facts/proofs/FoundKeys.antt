@@ -1,11 +1,7 @@
 -- What an abort or clean of the job found has the key that it was found with as long as it lives; so what its aborts end is gone.
-use Rattle.std.proofs.Common.{◌≡◌, ℕ, ◌<◌, ◌≤◌, inl, inr, ◌&&◌, ◌||◌, Bool, true, false, List, [], ◌∷◌, ◌++◌, take, Some, None, refl, sym, ap, subst, ◌∙◌, arith, cond}
-use Rattle.job_facts.specs.Prelude.{filter, Content, Scene, Upload, begins, answer, apply, effect, is_effective, IsHonestOutcome, Request, AbortUpload, UploadRef, Committer, Magic, Reply, Outcome, Answered, Retried, step, Script, dest_prefix, Listing, walked_by, last_ref, sweep_hears, all_go, Clean, Walking, Aborting, Naming, Removing, CleanOver, clean_asks, clean_after, clean_hears, aborting, walking, sweeping, removing, naming, HasBucket, Told, ends, tell_driver, at_id, end_left, Gone, cluster_prefix}
-use Rattle.job_spec.proofs.Common.{and_parts, some_is, false_true, eq_nat, text_true, in_append, true_or_false}
+use Rattle.job_facts.proofs.Common.{AbortUpload, Aborting, AllHaveKeys, Answered, Bool, Clean, CleanOver, Committer, Content, FoundWithKeys, Gone, HasBucket, HasItsKey, IsHonestOutcome, List, Listing, Magic, Naming, None, Outcome, Removing, Reply, Request, Retried, Scene, Script, Some, Told, Upload, UploadRef, Walking, [], aborting, all_go, and_parts, answer, ap, apply, arith, at_id, begins, clean_after, clean_asks, clean_hears, cluster_prefix, cond, dest_prefix, effect, end_left, ends, eq_nat, false, false_true, filter, frame, in_append, inl, inr, is_effective, last_ref, naming, refl, removing, some_is, step, subst, sweep_hears, sweeping, sym, take, tell_driver, text_true, true, true_or_false, walked_by, walking, ℕ, ◌&&◌, ◌++◌, ◌<◌, ◌||◌, ◌∙◌, ◌∷◌, ◌≡◌, ◌≤◌}
 use Rattle.std.specs.FinMap as fin
 use Rattle.job_protocol.specs.Cleanups.{Sweeping}
-use Rattle.store_frame.proofs.Framed.{frame}
-use Rattle.job_facts.specs.Filed.{HasItsKey, AllHaveKeys, FoundWithKeys}
 use Rattle.job_facts.proofs.Ended.{stood_so}
 use Rattle.job_facts.proofs.EndedGone.{stays_gone, effective_is}
 use Rattle.job_facts.proofs.Going.{Each, each_so, step_by, effect_so}

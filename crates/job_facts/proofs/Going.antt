@@ -1,6 +1,5 @@
 -- What an attempt knows after one more of its own requests, and where a request that got no answer leads.
-use Rattle.std.proofs.Common.{◌≡◌, ℕ, zero, suc, Bool, true, refl, false, Option, Some, None, subst, arith}
-use Rattle.job_facts.specs.Prelude.{Request, CreateUpload, Reply, Outcome, Answered, Slow, RequestLost, ReplyLost, Retried, Item, Got, WornOut, step, unanswered_by, Who, Script, Known, learn, Told, known, tell_attempt, Scene, apply, effect, is_effective, IsHonestOutcome}
+use Rattle.job_facts.proofs.Common.{Answered, Bool, CreateUpload, Got, IsHonestOutcome, Item, Known, None, Option, Outcome, Reply, ReplyLost, Request, RequestLost, Retried, Scene, Script, Slow, Some, Told, Who, WornOut, apply, arith, effect, false, is_effective, known, learn, refl, step, subst, suc, tell_attempt, true, unanswered_by, zero, ℕ, ◌≡◌}
 use Rattle.job_facts.proofs.Whose.{who_here}
 
 module _ (w : Script) (m : Told) (a : Who) (r : Request) (o : Outcome) where

@@ -1,7 +1,5 @@
 -- The uploads of the sets that the driver holds: whose they are, and that no two have one upload or, where no two attempts write one path, one destination.
-use Rattle.std.proofs.Common.{◌≡◌, ℕ, zero, suc, ◌+◌, ◌<◌, ◌≤◌, inl, inr, true, List, [], ◌∷◌, ◌++◌, map, length, slice_get, Option, Some, None, refl, sym, ap, subst, ◌∙◌, arith, ◌⊎◌, ◌&&◌, ◌||◌, nat_eq, nat_lt, Bool, false, cond}
-use Rattle.job_facts.specs.Prelude.{option_map, Scene, Pending, PendingSet, File, Who, IsLegal, Script, Drawn, Picks, files, files_picked, writes, same_path, drawn_for, drawn_in, file_key, file_record, nth, Sets, all_commits, picks_of, IsIn, Told, ApartFiles, Facts, knowing, IsHeldSet, Reads, IsCommit, Request, Turn, abort, deletion, chosen, undo, in_turn, is_tried, is_unsent, revert, In, Reply, Outcome, Answered, Slow, CommitEnd, Sweep, Listing, again, dealt, Commit, Fetching, Replacing, Completing, Marking, Reverting, CommitOver, commit_hears, commit_misses, commit_tells, completing, replaced, replacing, decided, fetching, fetched, swept, reverting, worn_completion}
-use Rattle.job_spec.proofs.Common.{shared_none, some_is, none_some, in_map, map_in, in_append, in_front, in_back, cases_lt, nat_true, lt-ltb, ltb-false}
+use Rattle.job_facts.proofs.Common.{Answered, ApartFiles, Bool, Commit, CommitEnd, CommitOver, Completing, Drawn, Facts, Fetching, File, In, IsCommit, IsHeldSet, IsIn, IsLegal, List, Listing, Marking, None, Option, Outcome, Pending, PendingSet, Picks, Reads, Replacing, Reply, Request, Reverting, Scene, Script, Sets, Slow, Some, Sweep, Told, Turn, Who, [], abort, again, all_commits, ap, arith, cases_lt, chosen, commit_hears, commit_misses, commit_tells, completing, cond, dealt, decided, deletion, drawn_for, drawn_in, false, fetched, fetching, file_key, file_record, files, files_picked, in_append, in_back, in_front, in_map, in_turn, inl, inr, is_tried, is_unsent, knowing, length, lt-ltb, ltb-false, map, map_in, nat_eq, nat_lt, nat_true, none_some, nth, option_map, or-true, picks_of, refl, replaced, replacing, revert, reverting, same_path, shared_none, slice_get, some_is, subst, suc, swept, sym, true, undo, worn_completion, writes, zero, ℕ, ◌&&◌, ◌++◌, ◌+◌, ◌<◌, ◌||◌, ◌∙◌, ◌∷◌, ◌≡◌, ◌≤◌, ◌⊎◌}
 use Rattle.job_facts.proofs.Whose.{attempt}
 use Rattle.job_facts.proofs.Legal.{is_attempt, has}
 use Rattle.job_facts.proofs.Placed.{one_key}
@@ -9,7 +7,6 @@ use Rattle.job_facts.proofs.Legible.{drawn_is}
 use Rattle.path_keys.proofs.Common.{below_is}
 use Rattle.job_model.specs.declared.ends.CommitEnd.TheVariants as ends
 use Rattle.job_model.specs.declared.ends.Stage.TheVariants as stages
-use Rattle.std.proofs.Math.Bool.{or-true}
 
 -- ---- lists of uploads
 

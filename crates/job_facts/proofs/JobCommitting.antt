@@ -1,13 +1,7 @@
 -- The driver's commit keeps the facts with each of its requests, holds the sets as it read them, and goes on as it should.
-use Rattle.std.proofs.Common.{◌≡◌, ℕ, zero, suc, ◌<◌, ◌≤◌, ◌^◌, ◌⊎◌, inl, inr, nat_eq, Bool, true, false, List, [], ◌∷◌, ◌++◌, map, drop, length, slice_get, Option, Some, None, refl, sym, ap, subst, ◌∙◌, codes, append_assoc, arith}
-use Rattle.job_facts.specs.Prelude.{filter, Scene, begins, is_bucket, answer, IsHonestOutcome, Request, Committer, Directory, Partitioned, Reply, Mode, Replace, below, HasBucket, partitions, partition_prefix, Outcome, magic_prefix, FilePlace, SuccessPlace, is_open, Pending, PendingSet, File, Who, path_of, IsLegal, IsGiven, Script, Picks, files, wanted_paths, Drawn, drawn_for, file_key, file_record, dest_prefix, Sweep, Listing, Deleting, walked_by, sweep_asks, sweep_hears, deleting, page_after, Turn, nth, completion, abort, deletion, again, follow, dealt, revert, Sets, all_commits, picks_of, Commit, Fetching, Replacing, Completing, Marking, Reverting, CommitOver, set_request, set_read, commit_asks, commit_hears, commit_tells, is_no_magic, replaced, reverting, Seen, IsIn, Told, IsDriving, Hold, knowing, AllUnder, IsHeldSet, Reads, FitsJobCommit, Times}
-use Rattle.job_spec.proofs.Common.{and_parts, false≢true, not-true, begins_behind, key_magic, some_is, none_some, false_true, true_or_false, eq_nat, nat_true, in_map, in_append, in_filter}
-use Rattle.job_protocol.specs.Prelude.{IsPlaced}
+use Rattle.job_facts.proofs.Common.{AllDriving, AllUnder, Bool, Commit, CommitOver, Committer, Completing, Deleting, Directory, Drawn, Fetching, File, FilePlace, FitsJobCommit, FitsReplace, HasBucket, Hold, IsDriving, IsGiven, IsHeldSet, IsHonestOutcome, IsIn, IsLegal, IsPlaced, List, Listing, Marking, Mode, None, Option, Outcome, Partitioned, Pending, PendingSet, Picks, Reads, Replace, Replacing, Reply, Request, Reverting, Scene, Script, Seen, Sets, Some, SuccessPlace, Sweep, Times, Told, Turn, Who, [], abort, again, all_commits, and_parts, answer, ap, append_assoc, arith, begins, begins_behind, below, codes, commit_asks, commit_hears, commit_tells, completion, dealt, deleting, deletion, dest_prefix, drawn_for, drop, eq_nat, false, false_true, false≢true, file_key, file_record, files, filter, follow, in_append, in_filter, in_map, inl, inr, is_bucket, is_no_magic, is_open, key_magic, knowing, length, magic_prefix, map, nat_eq, nat_true, none_some, not-true, nth, page_after, partition_prefix, partitions, path_of, picks_of, placed_open, refl, replaced, revert, reverting, set_read, set_request, slice_get, some_is, subst, suc, sweep_asks, sweep_hears, sym, true, true_or_false, walked, walked_by, wanted_paths, zero, ℕ, ◌++◌, ◌<◌, ◌^◌, ◌∙◌, ◌∷◌, ◌≡◌, ◌≤◌, ◌⊎◌}
 use Rattle.magic_paths.proofs.Tails.{below_is as paths_below}
-use Rattle.job_model.proofs.PathBounds.{placed_open}
-use Rattle.list_walk.specs.Walks.{walked}
 use Rattle.list_walk.specs.Walks as walks
-use Rattle.job_facts.specs.Driver.{FitsReplace, AllDriving}
 use Rattle.job_facts.proofs.Legal.{some_dest, from_script, given_of}
 use Rattle.job_facts.proofs.Driving.{reads_drive}
 use Rattle.job_facts.proofs.Aborting.{taken_in, dropped_in}

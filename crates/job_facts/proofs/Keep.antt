@@ -1,17 +1,12 @@
 -- How the facts are kept where a scene changes: where it leaves the job alone, where things are taken away, where an object or a file is put at a place, and where an upload changes.
-use Rattle.std.proofs.Common.{◌≡◌, ℕ, suc, ◌<◌, ◌≤◌, inl, inr, ◌&&◌, Bool, true, false, cond, List, slice_get, Option, Some, None, refl, sym, ap, subst, ◌∙◌, arith, zero, ◌⊎◌, nat_eq, [], ◌∷◌, ◌++◌, map, length, take, length-append}
-use Rattle.job_facts.specs.Prelude.{option_map, Scene, Upload, Files, is_part_number, with_part, Object, Place, RecordPlace, SetPlace, TemporaryPlace, StagedSetPlace, key_at, path_at, File, Who, IsLegal, Script, files, Drawn, file_key, file_parts, is_magic, IsIn, HasBucket, Told, at_key, at_place, at_id, sets_at, Leaves, Puts, part_left, end_left, IsHeld, IsOwned, IsRecord, IsOwnPlace, IsSet, Facts, with_files, at_path, is_staging, nat_cmp, Spelled, set_text, put_who, IsKnown, IsWritten, AreCommits, IsTemporary, knowing, Known, Times, Seen, see, Request, Outcome, Slow, RequestLost, tell_attempt, apply, last_by, Hold, entry, tell, is_publishing}
-use Rattle.job_spec.proofs.Common.{some_is, none_some, false_true, same_or_not, same_or_other, text_true, nat_here, nat_other, nat_true, nat_false, in_map, map_in, map-append}
+use Rattle.job_facts.proofs.Common.{AreCommits, Bool, Drawn, Facts, File, Files, HasBucket, Hold, IsHeld, IsIn, IsKnown, IsLegal, IsOwnPlace, IsOwned, IsRecord, IsSet, IsTemporary, IsWritten, Known, Leaves, List, None, Object, Option, Outcome, Place, Puts, RecordPlace, Request, RequestLost, Scene, Script, Seen, SetPlace, Slow, Some, Spelled, StagedSetPlace, TemporaryPlace, Times, Told, Turns, Upload, Who, [], and-false, ap, apply, arith, at_id, at_key, at_path, at_place, cond, end_left, entry, false, false_true, file_key, file_parts, files, in_map, inl, inr, is_magic, is_part_number, is_publishing, is_staging, key_at, knowing, last_by, length, length-append, map, map-append, map_in, nat_cmp, nat_eq, nat_false, nat_here, nat_other, nat_true, none_some, option_map, part_left, path_at, plain_tag, put_who, refl, same_or_not, same_or_other, see, set_text, sets_at, slice_get, some_is, subst, suc, sym, take, tell, tell_attempt, text_true, true, with_files, with_part, zero, ℕ, ◌&&◌, ◌++◌, ◌<◌, ◌∙◌, ◌∷◌, ◌≡◌, ◌≤◌, ◌⊎◌}
 use Rattle.std.specs.FinMap as fin
-use Rattle.job_facts.specs.Stores.{Turns}
 use Rattle.job_facts.specs.Facts.{Owned, Ids, Records, Sets, Standing, Temporaries, Kept}
 use Rattle.job_facts.proofs.Placed.{not_both, record_place, own_place, record_magic, set_magic, one_place, key_file, path_below, magic_set, set_same, set_stood, set_object}
 use Rattle.job_facts.proofs.Legal.{small_task}
-use Rattle.s3_types.specs.Tags.{plain_tag}
 use Rattle.job_protocol.specs.Knowledge.{with_part as drawn_part}
 use Rattle.job_facts.proofs.Whose.{same_or_another, who_here, who_other}
 use Rattle.job_facts.specs.Told.{with_known}
-use Rattle.std.proofs.Math.Bool.{and-false}
 
 -- ---- what stays
 

@@ -1,7 +1,5 @@
 -- What an attempt learns from an entry of its own: an upload that it has begun, or more parts of one that it knows.
-use Rattle.std.proofs.Common.{◌≡◌, ℕ, ◌≤◌, ◌⊎◌, inl, inr, List, length, Some, None, refl, sym, ap, subst, ◌∙◌, arith}
-use Rattle.job_facts.specs.Prelude.{Scene, answer, answer_at, IsHonestOutcome, Request, CreateUpload, UploadPart, Part, Outcome, Answered, Who, Script, Drawn, learn, IsIn, Told, known, tell_attempt, IsKnown}
-use Rattle.job_spec.proofs.Common.{map_in, in_map}
+use Rattle.job_facts.proofs.Common.{Answered, CreateUpload, Drawn, IsHonestOutcome, IsIn, IsKnown, List, None, Outcome, Part, Request, Scene, Script, Some, Told, UploadPart, Who, answer, answer_at, ap, arith, in_map, inl, inr, known, learn, length, map_in, refl, subst, sym, tell_attempt, ℕ, ◌∙◌, ◌≡◌, ◌≤◌, ◌⊎◌}
 use Rattle.std.specs.FinMap as fin
 use Rattle.s3_types.specs.declared.reply.Reply.TheVariants.{Upload as DrawnUpload}
 use Rattle.job_protocol.specs.Knowledge.{with_part}

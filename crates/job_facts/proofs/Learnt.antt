@@ -1,9 +1,6 @@
 -- What is told of an attempt's knowledge is what its own entries say, and that the driver cleans up is what its entries say.
-use Rattle.std.proofs.Common.{◌≡◌, ℕ, inl, inr, nat_eq, ◌&&◌, ◌||◌, Bool, true, false, cond, List, [], ◌∷◌, refl, sym, ap, ◌∙◌, arith}
-use Rattle.job_spec.proofs.Common.{and_parts, nat_true, eq_nat, true_or_false}
-use Rattle.job_facts.specs.Prelude.{Actor, Driver, Attempt, Shell, Request, Outcome, Entry, Who, actor_of, Script, learn, knows_from, same_actor, by_actor, has_cleaned, is_begun, is_driver, Told, known, tell, tell_by, tell_driver, tell_attempt, at_event, tell_all}
+use Rattle.job_facts.proofs.Common.{Actor, Attempt, Bool, Driver, Entry, List, Outcome, Request, Script, Shell, Told, Who, [], actor_of, and_parts, ap, arith, at_event, by_actor, cond, eq_nat, false, has_cleaned, inl, inr, is_begun, is_driver, known, knows_from, learn, nat_eq, nat_true, or-false, or_assoc, refl, same_actor, sym, tell, tell_all, tell_attempt, tell_by, tell_driver, true, true_or_false, ℕ, ◌&&◌, ◌||◌, ◌∙◌, ◌∷◌, ◌≡◌}
 use Rattle.job_facts.proofs.Whose.{attempt, who_of, same_or_another, who_here, who_other}
-use Rattle.std.proofs.Math.Bool.{or_assoc, or-false}
 
 module _ (w : Script) (a : Who) where
   same_one : (t n : ℕ) → same_actor (Attempt t n) (actor_of a) ≡ true → a ≡ attempt t n

@@ -1,11 +1,5 @@
 -- What the bounds of a script give of its attempts' files.
-use Rattle.std.proofs.Common.{◌≡◌, ℕ, ◌<◌, ◌≤◌, ◌^◌, inl, inr, Bool, true, false, cond, is_some, List, [], ◌∷◌, ◌++◌, length, Some, None, refl, sym, ap, subst, ◌∙◌, arith}
-use Rattle.job_facts.specs.Prelude.{lookup, unwrap_or, option_map, text_eq, Committer, Magic, Mode, is_job_id, is_record, File, has_path, Who, Declared, same_name, path_of, placed, IsLegal, IsGiven, AreAttempts, Script, files, is_magic, IsIn, IsAttempt, ApartFiles}
-use Rattle.job_spec.proofs.Common.{and_parts, leb-true, false≢true, eq_nat, false_true, text_true, in_front, in_last, in_map}
-use Rattle.job_model.specs.Prelude.{FitsMagic}
-use Rattle.job_spec.specs.Prelude.{AreFiles}
-use Rattle.job_model.proofs.PathBounds.{given_place}
-use Rattle.job_model.proofs.Unique.{path_same}
+use Rattle.job_facts.proofs.Common.{ApartFiles, AreAttempts, AreFiles, Bool, Committer, Declared, File, FitsMagic, IsAttempt, IsGiven, IsIn, IsLegal, List, Magic, Mode, None, Script, Some, Who, [], and_parts, ap, arith, cond, eq_nat, false, false_true, false≢true, files, given_place, has_path, in_front, in_last, in_map, inl, inr, is_job_id, is_magic, is_record, is_some, leb-true, length, lookup, option_map, path_of, path_same, placed, refl, same_name, subst, sym, text_eq, text_true, true, unwrap_or, ℕ, ◌++◌, ◌<◌, ◌^◌, ◌∙◌, ◌∷◌, ◌≡◌, ◌≤◌}
 
 -- ---- the destination's key is not empty
 

@@ -1,13 +1,7 @@
 -- The records and sets that attempts put are within their bounds, so that what reads them gets them back.
-use Rattle.std.proofs.Common.{◌≡◌, ℕ, zero, suc, ◌+◌, ◌<◌, ◌≤◌, ◌^◌, inl, inr, Bool, true, false, cond, List, [], ◌∷◌, ◌++◌, map, length, Option, Some, Ok, refl, sym, ap, subst, ◌∙◌, arith, length-append, eq-eqb, ◌==◌, nat_le, nat_eq, ◌||◌}
+use Rattle.job_facts.proofs.Common.{AllByRecursion, AreCommits, Bool, Cut, Declared, Drawn, Facts, File, IsAscii, IsAscii-cons, IsAscii-nil, IsAttempt, IsBytes, IsGiven, IsIn, IsLegal, IsPending, IsUtf8, IsUtf8-append, IsUtf8-from_ascii, IsUtf8-from_is_utf8, IsWritten, List, Ok, Option, Scene, Script, Some, Told, Who, [], and_parts, ap, append-nil, are_elements, are_sizes, arith, begins_hidden, below, below_is, both_true, bytes_in, bytes_of, compact_text, cond, cut_id, dot_not, drawn_in, eq-eqb, false, false≢true, file_key, file_parts, file_record, files, files_set, flat_map, id_bytes, inl, inr, is_element, is_full, is_hex, is_id_byte, is_job_id, is_plain_tag, is_utf8, is_utf8-from_IsUtf8, join_parts, join_with_byte, knowing, le-leb, leb-true, length, length-append, length-map, list_all, list_any, lookup, map, nat_eq, nat_le, nat_tests, nat_true, one_byte, or_parts, parts_of, path_of, pending_tree, placed, refl, same_name, same_or_other, set_tree, slice_index, some_part, subst, suc, sum, sym, take_all, text_false, text_true, true, unique_name, unique_parts, unwrap_or, utf8_cut, w32, with_id, with_id_last, zero, ℕ, ◌++◌, ◌+◌, ◌<◌, ◌==◌, ◌^◌, ◌||◌, ◌∙◌, ◌∷◌, ◌≡◌, ◌≤◌}
 use Rattle.std.specs.Int.{to_le_bytes}
-use Rattle.std.specs.Prelude.{slice_index}
-use Rattle.job_facts.specs.Prelude.{list_all, flat_map, AllByRecursion, lookup, unwrap_or, compact_text, File, Who, Declared, same_name, placed, IsLegal, Script, files, Drawn, drawn_in, file_key, file_record, files_set, file_parts, Scene, IsIn, Told, IsAttempt, IsWritten, AreCommits, Facts, knowing, list_any, is_job_id, below, is_full, with_id, with_id_last, path_of, IsGiven}
-use Rattle.job_protocol.specs.Prelude.{sum, is_plain_tag, are_sizes, IsPending, pending_tree, set_tree, join_with_byte, is_element, are_elements, begins_hidden, unique_name}
-use Rattle.job_spec.proofs.Common.{le-leb, is_utf8-from_IsUtf8, nat_true, text_true, text_false, same_or_other, length-map, and_parts, or_parts, leb-true, false≢true, nat_tests, append-nil, IsUtf8-from_ascii, IsAscii-nil, IsAscii-cons, below_is, unique_parts, id_bytes, take_all}
 use Rattle.words.proofs.Common.{sum_by-cons}
-use Rattle.s3_types.specs.Prelude.{w32, IsBytes, is_hex}
-use Rattle.job_spec.specs.Prelude.{bytes_of, bytes_in, IsAscii, is_utf8}
 use Rattle.md5.specs.Md5.{md5, digest_bytes}
 use Rattle.s3_types.proofs.Digits.{encoded_hex, plain_tag_length}
 use Rattle.s3_types.specs.Tags.{plain_tag}
@@ -17,15 +11,8 @@ use Rattle.job_protocol.proofs.Sizes.{sizes_told}
 use Rattle.job_facts.proofs.Cut.{parts_some, parts_few, parts_joined}
 use Rattle.job_facts.proofs.Legal.{files_are, is_attempt, written, some_dest, from_script, given_of}
 use Rattle.job_facts.proofs.Placed.{key_file}
-use Rattle.std.specs.Cmp.Derive.{both_true}
-use Rattle.job_model.specs.Prelude.{IsUtf8, is_id_byte}
-use Rattle.path_keys.proofs.Common.{IsUtf8-from_is_utf8, IsUtf8-append, join_parts, utf8_cut, some_part}
-use Rattle.words.specs.Parts.{parts_of}
 use Rattle.s3_types.specs.Names as names
 use Rattle.path_keys.proofs.Beneath.{below_elements, key_path_from}
-use Rattle.job_model.proofs.Unique.{Cut, cut_id}
-use Rattle.proof_base.proofs.Numbers.{dot_not}
-use Rattle.proof_base.proofs.Lists.{one_byte}
 
 -- ---- the keys of an attempt's files are keys, also where their names are made unique to the job
 

@@ -48,3 +48,4 @@ pub mod Suffix
 pub mod Spares
 pub mod Learning
 pub mod Sharing
+mod Common

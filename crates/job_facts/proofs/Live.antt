@@ -1,19 +1,12 @@
 -- A walk over live uploads finds each of them.
-use Rattle.std.proofs.Common.{◌≡◌, ℕ, zero, suc, ◌⊎◌, inl, inr, nat_lt, true, false, cond, List, [], ◌∷◌, ◌++◌, map, take, length, Option, Some, refl, sym, ap, subst, ◌∙◌, None, arith}
-use Rattle.job_spec.specs.Prelude.{find, IsTotalOrder, nat_cmp_total, ref_cmp, is_behind, keys_of}
-use Rattle.job_facts.specs.Prelude.{filter, AllByRecursion, eq_by_cmp, is_lt, nat_cmp, ordering_then, Ordering, Less, Equal, text_cmp, text_total, text_ties, Upload, begins, UploadRef, last_ref, IsIn, ref_at, Script, Scene, HasBucket, dest_prefix, Reply, answer, uploads_after, walked_uploads, walked_by}
-use Rattle.job_protocol.specs.Prelude.{is_eq}
-use Rattle.job_spec.proofs.Common.{ltb-false, then_total, on_total, take_all, exact_pairs, exact_bytes, exact_unsigned, tied, some_is, none_some, nat_true, text_true, map_in, filter_in, in_map, in_filter, true_or_false}
+use Rattle.job_facts.proofs.Common.{AllByRecursion, Equal, HasBucket, IsIn, IsTotalOrder, Less, List, None, Option, Ordering, Reply, Scene, Script, Some, Upload, UploadRef, [], answer, ap, arith, begins, cond, dest_prefix, eq_by_cmp, exact_bytes, exact_pairs, exact_unsigned, false, filter, filter_in, find, find_head, find_other, in_filter, in_map, inl, inr, is_behind, is_eq, is_lt, keys_of, last_ref, length, ltb-false, map, map_in, map_sorted, nat_cmp, nat_cmp_total, nat_lt, nat_true, none_some, on_total, ordering_then, ref_at, ref_cmp, ref_of, refl, refs, refs_append, some_is, sorted_head, sorted_tail, subst, suc, sym, take, take_all, text_cmp, text_ties, text_total, text_true, then_total, tied, true, true_or_false, uploads_after, walked_by, walked_uploads, zero, ℕ, ◌++◌, ◌∙◌, ◌∷◌, ◌≡◌, ◌⊎◌}
 use Rattle.proof_base.proofs.Common.{IsStrictlySortedBy-filter, CmpEqualImpliesEq}
-use Rattle.path_keys.proofs.Common.{sorted_head, sorted_tail, map_sorted, find_head, find_other}
 use Rattle.job_model.specs.Prelude.{Uploads}
-use Rattle.store_frame.specs.Prelude.{ref_of, refs}
 use Rattle.std.specs.FinMap as fin
 use Rattle.std.specs.List.Sorted.{IsStrictlySortedBy}
 use Rattle.s3_types.specs.Multipart.{listed}
 use Rattle.proof_base.proofs.Members.{ties}
 use Rattle.job_facts.proofs.Shapes.{answer_is}
-use Rattle.list_walk.proofs.Uploads.{refs_append}
 
 refs_total : IsTotalOrder ref_cmp
 refs_total = then_total (on_total (λ r. r.key) text_total) (on_total (λ r. r.upload) nat_cmp_total)

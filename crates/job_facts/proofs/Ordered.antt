@@ -1,8 +1,5 @@
 -- The files whose records are listed, in the order of the listing, are all of them and each once.
-use Rattle.std.proofs.Common.{◌≡◌, ℕ, inl, inr, ◌||◌, Bool, true, false, cond, List, [], ◌∷◌, ◌++◌, Some, None, refl, sym, ap, subst, ◌∙◌}
-use Rattle.job_facts.specs.Prelude.{filter, flat_map, list_any, text_eq, File, Who, Script, files, record_key, least_of, least_missing, in_order, IsIn, RisesFrom, ApartFiles}
-use Rattle.job_spec.proofs.Common.{false≢true, text_true, text_is, in_front, in_back, in_append, in_filter, filter_in, true_or_false}
-use Rattle.store_frame.proofs.Flat.{not_again}
+use Rattle.job_facts.proofs.Common.{ApartFiles, Bool, File, IsIn, List, None, RisesFrom, Script, Some, Who, [], ap, cond, false, false≢true, files, filter, filter_in, flat_map, in_append, in_back, in_filter, in_front, in_order, inl, inr, least_missing, least_of, list_any, not_again, record_key, refl, subst, sym, text_eq, text_is, text_true, true, true_or_false, ℕ, ◌++◌, ◌||◌, ◌∙◌, ◌∷◌, ◌≡◌}
 
 apart_filter : (f : File → Bool) (fs : List File) → ApartFiles fs → ApartFiles (filter f fs)
 apart_filter f [] h = tt

@@ -1,11 +1,6 @@
 -- The requests of the job's actors: below the destination, and none but the driver's commit's changes what a reader is shown.
-use Rattle.std.proofs.Common.{◌≡◌, ℕ, ◌⊎◌, inl, inr, true, false, List, ◌∷◌, ◌++◌, take, length, Option, Some, None, refl, sym, ap, subst, ◌∙◌, codes, Bool, ◌<◌, ◌&&◌, cond, [], arith}
-use Rattle.job_facts.specs.Prelude.{Scene, begins, apply, effect, is_effective, only_reads, Driver, Request, PutObject, Outcome, ReplyLost, magic_prefix, success_key, Pending, Who, IsLegal, Script, dest_prefix, Setup, Clearing, Sweeping, SetupOver, setup_asks, Listing, Deleting, page_after, nth, abort, all_commits, Commit, Fetching, Replacing, Completing, Reverting, CommitOver, set_request, commit_asks, Clean, clean_asks, Setting, Operation, asks, view, IsZeroRename, is_copy, SameOutside, Same, Seen, Told, known, entry, driver_entry, IsAttempt, Facts, Hold, Fits, SetsUp, FitsClean, IsCommit, Commits, IsWithin, MarkerPlace, RecordPlace, text_eq, BucketContent, Content, Upload, is_part_number, with_part, apply_at, bucket_of, NamedPart, MakeBucket, GetObject, HeadObject, DeleteObject, DeleteObjects, CopyObject, ListPage, CreateUpload, UploadPart, CompleteUpload, AbortUpload, ListParts, ListUploads, SameOutsideUpload, IsIn, HasBucket, changed_keys, at_id, part_left, end_left}
-use Rattle.job_spec.proofs.Common.{begins_behind, some_is, false_true, same_or_not, text_is, text_true, text_other}
-use Rattle.job_spec.specs.Prelude.{sends_data, may_show}
+use Rattle.job_facts.proofs.Common.{AbortUpload, Bool, BucketContent, Clean, Clearing, Commit, CommitOver, Commits, CompleteUpload, Completing, Content, CopyObject, CreateUpload, DeleteObject, DeleteObjects, Deleting, Driver, Facts, Fetching, Fits, FitsClean, GetObject, HasBucket, HeadObject, Hold, IsAttempt, IsCommit, IsIn, IsLegal, IsWithin, IsZeroRename, List, ListPage, ListParts, ListUploads, Listing, MakeBucket, MarkerPlace, NamedPart, None, Operation, Option, Outcome, Pending, PutObject, RecordPlace, Replacing, ReplyLost, Request, Reverting, Same, SameOutside, SameOutsideUpload, Scene, Script, Seen, SetsUp, Setting, Setup, SetupOver, Some, Sweeping, Told, Upload, UploadPart, Who, [], abort, all_commits, ap, apply, apply_at, arith, asks, at_id, begins, begins_behind, bucket_of, changed_keys, clean_asks, codes, commit_asks, cond, dest_prefix, driver_entry, effect, end_left, entry, false, false_true, frame, inl, inr, is_copy, is_effective, is_part_number, known, length, magic_prefix, may_show, nth, only_reads, page_after, part_left, reads_nothing, refl, same_or_not, sends_data, set_request, setup_asks, some_is, subst, success_key, sym, take, text_eq, text_is, text_other, text_true, true, view, with_part, ℕ, ◌&&◌, ◌++◌, ◌<◌, ◌∙◌, ◌∷◌, ◌≡◌, ◌⊎◌}
 use Rattle.job_protocol.specs.JobCommits as commits
-use Rattle.store_frame.proofs.Framed.{frame}
-use Rattle.store_frame.proofs.Reading.{reads_nothing}
 use Rattle.job_facts.proofs.Shows.{hidden_shows}
 use Rattle.job_facts.proofs.SettingUp.{setup_alone, view_but}
 use Rattle.job_facts.proofs.Aborting.{taken_in}

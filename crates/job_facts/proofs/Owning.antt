@@ -1,7 +1,5 @@
 -- An attempt names only what is its own, and takes nothing back once it has sent its publishing request.
-use Rattle.std.proofs.Common.{◌≡◌, ℕ, inl, inr, true, false, List, [], ◌∷◌, Option, Some, None, refl, sym, ap, subst, ◌∙◌, append_assoc, codes, ◌++◌, Bool, ◌+◌, ◌⊎◌, length, take, slice_get, arith}
-use Rattle.job_facts.specs.Prelude.{decimal, begins, Request, PutObject, magic_prefix, cluster_prefix, MarkerPlace, RecordPlace, TemporaryPlace, StagedSetPlace, Who, IsLegal, Script, Drawn, attempt_prefix, Setting, Operation, asks, IsIn, changed_keys, changed_upload, changed_paths, Told, known, undoes, IsOwn, IsAttempt, Fits, answer, IsHonestOutcome, only_reads, CreateUpload, UploadPart, AbortUpload, DeleteObjects, ClusterPut, ClusterRename, ClusterDelete, Outcome, staged_set_path, set_key, File, files, first_drawn, file_key, marker_key, record_key, record_text, set_text, file_parts, Uploading, Creating, Sending, upload_asks, Write, Recording, WriteOver, write_asks, TaskCommit, Publishing, Storing, Renaming, TaskCommitOver, task_commit_asks, temporary_path, Deleting, TaskAbort, Dropping, TaskAbortOver, task_abort_asks, TheWrite, TheTaskCommit, TheTaskAbort, Seen, see, is_magic, is_staging, entry, tell, IsWritten, AreCommits, Hold, IsOpen, FitsUpload, FitsWrite, FitsCommit, FitsAbort, Times}
-use Rattle.job_spec.proofs.Common.{some_is, none_some, false_true}
+use Rattle.job_facts.proofs.Common.{AbortUpload, AllOwn, AreCommits, Bool, ClusterDelete, ClusterPut, ClusterRename, CreateUpload, Creating, DeleteObjects, Deleting, Drawn, Dropping, File, Fits, FitsAbort, FitsCommit, FitsUpload, FitsWrite, Hold, IsAttempt, IsHonestOutcome, IsIn, IsLegal, IsOpen, IsOwn, IsWritten, List, MarkerPlace, None, Operation, Option, Outcome, Publishing, PutObject, RecordPlace, Recording, Renaming, Request, Script, Seen, Sending, Setting, Some, StagedSetPlace, Storing, TaskAbort, TaskAbortOver, TaskCommit, TaskCommitOver, TemporaryPlace, TheTaskAbort, TheTaskCommit, TheWrite, Times, Told, UploadPart, Uploading, Who, Write, WriteOver, [], answer, ap, append_assoc, arith, asks, attempt_prefix, begins, changed_keys, changed_paths, changed_upload, cluster_prefix, codes, decimal, entry, false, false_true, file_key, file_parts, files, first_drawn, inl, inr, is_magic, is_staging, known, length, magic_prefix, marker_key, none_some, only_reads, record_key, record_text, refl, see, set_key, set_text, slice_get, some_is, staged_set_path, subst, sym, take, task_abort_asks, task_commit_asks, tell, temporary_path, true, undoes, upload_asks, write_asks, ℕ, ◌++◌, ◌+◌, ◌∙◌, ◌∷◌, ◌≡◌, ◌⊎◌}
 use Rattle.job_facts.proofs.Placed.{own_magic, set_magic, path_below}
 use Rattle.job_facts.proofs.Shows.{begins_front}
 use Rattle.job_facts.proofs.Foreign.{reads_name}
@@ -9,7 +7,6 @@ use Rattle.job_protocol.specs.Writes.{Marking}
 use Rattle.job_protocol.specs.Writes as writes
 use Rattle.job_protocol.specs.TaskCommits as commits
 use Rattle.job_protocol.specs.TaskAborts.{Sweeping, Removing}
-use Rattle.job_facts.specs.Fits.{AllOwn}
 use Rattle.job_facts.proofs.Sent.{read_keeps, create_keeps, part_keeps, other_put_keeps, record_keeps, set_keeps, stage_keeps, rename_keeps, abort_keeps, delete_keeps, remove_keeps}
 use Rattle.job_facts.proofs.Aborting.{taken_in}
 use Rattle.job_facts.proofs.Uploads.{drop_more, latest_in, asks_part, begun_written}

@@ -1,10 +1,6 @@
 -- Places of a job: where they are, and that they are apart.
-use Rattle.std.proofs.Common.{◌≡◌, ℕ, ◌<◌, true, List, [], ◌∷◌, ◌++◌, Option, Some, None, refl, sym, ap, ◌∙◌, codes, arith}
-use Rattle.job_facts.specs.Prelude.{decimal, option_map, Scene, begins, Object, Committer, Magic, magic_prefix, cluster_prefix, Place, FilePlace, MarkerPlace, RecordPlace, SetPlace, SuccessPlace, TemporaryPlace, StagedSetPlace, key_at, path_at, is_record, File, Who, IsLegal, Script, files, file_key, is_magic, is_staging, IsIn, IsAttempt, IsOwnPlace, at_place, at_path, set_at}
-use Rattle.job_spec.proofs.Common.{false≢true, append_cancel_left, begins_behind, below_is, key_magic}
-use Rattle.job_spec.specs.Prelude.{ClusterPlace}
+use Rattle.job_facts.proofs.Common.{ClusterPlace, Committer, File, FilePlace, IsAttempt, IsIn, IsLegal, IsOwnPlace, List, Magic, MarkerPlace, None, Object, Option, Place, RecordPlace, Scene, Script, SetPlace, Some, StagedSetPlace, SuccessPlace, TemporaryPlace, Who, [], ap, append_cancel_left, arith, at_path, at_place, begins, begins_behind, below_is, cluster_prefix, codes, decimal, false≢true, file_key, files, is_magic, is_record, is_staging, key_at, key_magic, keys_apart, magic_prefix, option_map, path_at, paths_apart, refl, set_at, sym, true, ℕ, ◌++◌, ◌<◌, ◌∙◌, ◌∷◌, ◌≡◌}
 use Rattle.magic_paths.specs.Places.{IsPlace, IsClusterPlace, is_magic_place}
-use Rattle.magic_paths.proofs.Tails.{keys_apart, paths_apart}
 use Rattle.job_facts.proofs.Whose.{attempt, who_of}
 use Rattle.job_facts.proofs.Legal.{some_dest, is_attempt, no_record, same_file, small_task, small_attempt}
 

@@ -1,16 +1,10 @@
 -- The picks that are seen as the driver's commit reads the sets.
-use Rattle.std.proofs.Common.{◌≡◌, ℕ, zero, suc, ◌+◌, ◌<◌, ◌≤◌, ◌^◌, inl, inr, ◌&&◌, Bool, true, false, cond, List, [], ◌∷◌, ◌++◌, length, slice_get, Option, Some, refl, sym, ap, subst, ◌∙◌, arith, length-append}
-use Rattle.job_facts.specs.Prelude.{option_map, Scene, answer, Committer, Magic, Reply, SetPlace, StagedSetPlace, PendingSet, IsLegal, Script, Picks, files_set, Sets, set_request, set_read, fetched, is_magic, is_staging, is_reading, picks_by, Told, Facts, knowing}
-use Rattle.job_spec.proofs.Common.{text_true, text_false, cases_lt}
+use Rattle.job_facts.proofs.Common.{Bool, Committer, Facts, IsLegal, List, Magic, Option, PendingSet, Picks, Reply, Scene, Script, SetPlace, Sets, Some, StagedSetPlace, Told, [], and-false, and_right, answer, ap, arith, both_true, cases_lt, cond, false, fetched, files_set, inl, inr, is_magic, is_reading, is_staging, knowing, length, length-append, option_map, picks_by, refl, set_read, set_request, slice_get, slice_last, subst, suc, sym, text_false, text_true, true, zero, ℕ, ◌&&◌, ◌++◌, ◌+◌, ◌<◌, ◌^◌, ◌∙◌, ◌∷◌, ◌≡◌, ◌≤◌}
 use Rattle.magic_paths.specs.Layout as layout
 use Rattle.job_facts.proofs.Legal.{small_task}
 use Rattle.job_facts.proofs.Placed.{one_place, one_path}
 use Rattle.job_facts.proofs.Replies.{set_answered}
 use Rattle.job_facts.proofs.Agreeing.{AgreeBelow, Agrees, agrees_fetching}
-use Rattle.std.specs.Cmp.Derive.{both_true}
-use Rattle.std.proofs.lemmas.Bool.{and_right}
-use Rattle.proof_base.proofs.Lists.{slice_last}
-use Rattle.std.proofs.Math.Bool.{and-false}
 
 -- ---- which task a read is of
 

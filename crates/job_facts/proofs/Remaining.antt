@@ -1,19 +1,11 @@
 -- What an attempt has written stands, whatever others send, until the driver cleans up; and so it goes on.
-use Rattle.std.proofs.Common.{◌≡◌, ℕ, zero, suc, ◌+◌, inl, inr, nat_eq, ◌&&◌, ◌||◌, Bool, true, false, cond, List, [], ◌∷◌, map, length, Option, Some, None, is_some, refl, sym, ap, subst, ◌∙◌, arith}
-use Rattle.job_facts.specs.Prelude.{list_any, text_eq, answer, apply, is_effective, IsHonestOutcome, Committer, Magic, Request, GetObject, UploadPart, Reply, Page, Part, Refused, NoSuchFile, Outcome, Answered, Slow, RequestLost, ReplyLost, Retried, Item, Got, WornOut, step, unanswered_by, set_key, staged_set_path, TemporaryPlace, File, Who, IsLegal, Script, Drawn, files, is_set_key, is_set_path, record_key, Uploading, Creating, Sending, Uploaded, GoesOn, AllSent, IsGone, sending, created, sent_part, upload_asks, upload_hears, file_parts, walked_by, Write, Recording, WriteOver, writing, write_start_by, write_start, write_asks, write_over, write_after, TaskCommit, Looking, Reading, Publishing, Checking, Storing, Renaming, TaskCommitOver, reading, looked, looked_at, least_missing, least_of, in_order, read_record, storing, checking, checked, renamed, to_check, task_commit_start_by, task_commit_start, task_commit_asks, task_commit_over, task_commit_hears, task_commit_after, attempt_prefix, temporary_path, Setting, Operation, TheWrite, TheTaskCommit, TheTaskAbort, asks, tells, Seen, see, is_magic, is_staging, is_publishing, IsIn, HasBucket, Told, known, entry, driver_entry, strange_entry, sets_at, IsForeign, IsDriving, IsAttempt, IsSet, Hold, IsOpen, Fits, FitsUpload, FitsWrite, FitsCommit, Closed, HasPublished, NotGone, CommitStandsBy, WriteStands, Times, TheCheck, bucket_of, changed_keys, changed_paths, begins, magic_prefix, cluster_prefix, effect}
-use Rattle.job_spec.proofs.Common.{false≢true, some_is, false_true, true_or_false, text_true, text_here, nat_true, in_map}
-use Rattle.job_spec.specs.Prelude.{rename_answer, ClusterDone}
-use Rattle.job_protocol.specs.Prelude.{write_hears}
+use Rattle.job_facts.proofs.Common.{AllSent, Answered, Bool, Checking, Closed, ClusterDone, CommitStands, CommitStandsBy, Committer, Creating, Drawn, File, Fits, FitsCommit, FitsUpload, FitsWrite, GetObject, GoesOn, Got, HasBucket, HasPublished, HasRecord, HasRecords, HasTemporary, Hold, IsAttempt, IsDriving, IsForeign, IsGone, IsHonestOutcome, IsIn, IsLegal, IsOpen, IsSet, Item, List, Listed, Looking, Magic, NoSuchFile, None, NotGone, Operation, Option, Outcome, Page, Part, Publishing, Reading, Recording, Refused, Renaming, Reply, ReplyLost, Request, RequestLost, Retried, Script, Seen, Sending, Setting, Slow, Some, Stands, Storing, TaskCommit, TaskCommitOver, TemporaryPlace, TheCheck, TheTaskAbort, TheTaskCommit, TheWrite, Times, Told, UploadPart, Uploaded, Uploading, Who, WornOut, Write, WriteOver, WriteStands, [], answer, ap, apply, arith, asks, attempt_prefix, begins, bucket_of, changed_keys, changed_paths, checked, checking, cluster_prefix, cond, created, driver_entry, effect, entry, false, false_true, false≢true, file_parts, files, found, in_map, in_order, inl, inr, is_effective, is_magic, is_publishing, is_set_key, is_set_path, is_some, is_staging, known, least_missing, least_of, length, list_any, looked, looked_at, magic_prefix, map, nat_eq, nat_true, or-true, plain_tag, read_record, reading, record_key, refl, rename_answer, renamed, see, sending, sent_part, set_key, sets_at, some_is, staged_set_path, step, storing, strange_entry, subst, suc, sym, task_commit_after, task_commit_asks, task_commit_hears, task_commit_over, task_commit_start, task_commit_start_by, tells, temporary_path, text_eq, text_here, text_true, to_check, true, true_or_false, unanswered_by, upload_asks, upload_hears, walked, walked_by, write_after, write_asks, write_hears, write_over, write_start, write_start_by, writing, zero, ℕ, ◌&&◌, ◌+◌, ◌||◌, ◌∙◌, ◌∷◌, ◌≡◌}
 use Rattle.std.specs.FinMap as fin
-use Rattle.s3_types.specs.Tags.{plain_tag}
-use Rattle.s3_types.specs.Answer.{found}
 use Rattle.s3_types.specs.declared.reply.Reply.TheVariants.{Upload}
 use Rattle.job_model.specs.declared.ends.TaskEnd.TheVariants as tasks
-use Rattle.list_walk.specs.Walks.{walked}
 use Rattle.job_protocol.specs.Writes.{Marking}
 use Rattle.job_protocol.specs.Writes as writes
 use Rattle.job_protocol.specs.TaskCommits as commits
-use Rattle.job_facts.specs.Standing.{HasRecord, HasRecords, HasTemporary, Listed, CommitStands, Stands}
 use Rattle.job_facts.proofs.Placed.{path_below, one_temporary, not_staged}
 use Rattle.job_facts.proofs.Shapes.{key_before, answer_is, puts, more_keys, page_is, still_covered, all_covered}
 use Rattle.job_facts.proofs.Uploads.{drop_more, latest_in, asks_part}
@@ -23,7 +15,6 @@ use Rattle.job_facts.proofs.Emptying.{magic_some}
 use Rattle.job_facts.proofs.Apart.{HasKey, HasPath, record_own, record_below, another, key_left, path_left, write_keys, write_paths, commit_keys, abort_keys}
 use Rattle.job_facts.proofs.Going.{effect_so}
 use Rattle.job_facts.proofs.Owning.{operation_asked, asked_path}
-use Rattle.std.proofs.Math.Bool.{or-true}
 
 -- ---- from one moment to another what it has written stays
 

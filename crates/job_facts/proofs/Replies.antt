@@ -1,12 +1,7 @@
 -- The answers that are due, where the facts hold.
-use Rattle.std.proofs.Common.{◌≡◌, ℕ, ◌+◌, ◌<◌, ◌≤◌, ◌^◌, ◌⊎◌, inl, inr, true, false, cond, List, map, length, slice_get, Option, Some, None, Ok, refl, sym, ap, subst, ◌∙◌, arith}
-use Rattle.job_facts.specs.Prelude.{option_map, named_from, Scene, live, with_key, joined, answer, read_answer, part_answer, complete_answer, Object, GetObject, UploadPart, CompleteUpload, Committer, Magic, Part, Completed, Refused, NoSuchKey, BadPartNumber, SetPlace, key_at, File, Who, IsLegal, Script, files, Drawn, drawn_in, file_key, record_key, record_text, files_set, file_parts, set_request, set_read, ok_set, is_magic, IsIn, Told, at_key, at_id, at_place, sets_at, set_at, IsAttempt, IsHeld, IsWritten, IsSet, Facts, knowing, IsSetAnswer}
-use Rattle.job_spec.proofs.Common.{slice_get_within, none_or_some, text_true}
-use Rattle.s3_types.specs.Tags.{plain_tag, joined_tag}
-use Rattle.s3_types.specs.Answer.{found}
+use Rattle.job_facts.proofs.Common.{BadPartNumber, Committer, CompleteUpload, Completed, Drawn, Facts, File, GetObject, IsAttempt, IsHeld, IsIn, IsLegal, IsSet, IsSetAnswer, IsWritten, List, Magic, NoSuchKey, None, Object, Ok, Option, Part, Refused, Scene, Script, SetAnswered, SetPlace, Some, Told, UploadPart, Who, answer, ap, arith, at_id, at_key, at_place, complete_answer, cond, drawn_in, false, file_key, file_parts, files, files_set, found, inl, inr, is_magic, joined, joined_tag, key_at, knowing, length, live, map, named_from, none_or_some, ok_set, option_map, part_answer, plain_tag, read_answer, record_key, record_text, refl, set_at, set_read, set_request, sets_at, slice_get, slice_get_within, subst, sym, text_true, true, with_key, ℕ, ◌+◌, ◌<◌, ◌^◌, ◌∙◌, ◌≡◌, ◌≤◌, ◌⊎◌}
 use Rattle.s3_types.specs.declared.reply.Reply.TheVariants.{Object as Found}
 use Rattle.pending_json.specs.Reading as reading
-use Rattle.job_facts.specs.Laws.{SetAnswered}
 use Rattle.job_facts.proofs.Cut.{parts_few, held_joined}
 use Rattle.job_facts.proofs.Legible as legible
 use Rattle.job_facts.proofs.Legible.{drawn_is, written_tags}

@@ -1,11 +1,6 @@
 -- Each kind of request of an attempt keeps the facts, whatever becomes of it.
-use Rattle.std.proofs.Common.{◌≡◌, ℕ, suc, ◌+◌, ◌<◌, ◌⊎◌, inl, inr, ◌&&◌, ◌||◌, Bool, true, false, cond, List, length, slice_get, Option, Some, None, refl, sym, ap, subst, ◌∙◌, arith, nat_eq, is_some}
-use Rattle.job_spec.proofs.Common.{slice_get_within, some_is, none_some, text_false, nat_here, text_true, nat_true, nat_false, false_true, text_left}
-use Rattle.job_facts.specs.Prelude.{text_eq, Scene, Upload, with_key, is_part_number, with_part, answer, apply, part_answer, IsHonestOutcome, only_reads, Request, PutObject, CreateUpload, UploadPart, Reply, Part, Refused, BadPartNumber, Outcome, Answered, Place, RecordPlace, SetPlace, key_at, File, Who, IsLegal, Script, files, Drawn, Known, learn, is_set_key, file_key, record_key, record_text, file_parts, Seen, see, is_magic, is_publishing, IsIn, Told, known, put_who, undoes, entry, tell, tell_attempt, at_id, IsKnown, part_left, IsWritten, IsRecord, IsOwnPlace, Facts, Hold, Times, set_key, staged_set_path, set_text, AreCommits, IsSet, IsAttempt, IsOpen, ClusterPut, ClusterRename, ClusterDelete, AbortUpload, DeleteObjects, temporary_path, is_staging, is_set_path, last_by, with_files, begins, attempt_prefix}
-use Rattle.job_protocol.specs.Prelude.{learn_part}
+use Rattle.job_facts.proofs.Common.{AbortUpload, Answered, AreCommits, BadPartNumber, Bool, ClusterDelete, ClusterPut, ClusterRename, CreateUpload, DeleteObjects, Drawn, Facts, File, Hold, IsAttempt, IsHonestOutcome, IsIn, IsKnown, IsLegal, IsOpen, IsOwnPlace, IsRecord, IsSet, IsWritten, Known, List, None, Option, Outcome, Part, Place, PutObject, RecordPlace, Refused, Reply, Request, Scene, Script, Seen, SetPlace, Some, Times, Told, Turns, Upload, UploadPart, Who, and-false, answer, ap, apply, arith, at_id, attempt_prefix, begins, cond, entry, false, false_true, file_key, file_parts, files, frame, inl, inr, is_magic, is_part_number, is_publishing, is_set_key, is_set_path, is_some, is_staging, key_at, known, last_by, learn, learn_part, length, nat_eq, nat_false, nat_here, nat_true, none_some, only_reads, or-false, or-true, part_answer, part_left, plain_tag, put_who, record_key, record_text, refl, see, set_key, set_text, slice_get, slice_get_within, some_is, staged_set_path, subst, suc, sym, tell, tell_attempt, temporary_path, text_eq, text_false, text_left, text_true, true, undoes, with_files, with_key, with_part, ℕ, ◌&&◌, ◌+◌, ◌<◌, ◌||◌, ◌∙◌, ◌≡◌, ◌⊎◌}
 use Rattle.std.specs.FinMap as fin
-use Rattle.s3_types.specs.Tags.{plain_tag}
-use Rattle.job_facts.specs.Stores.{Turns}
 use Rattle.job_facts.proofs.Whose.{who_of, who_same, who_here}
 use Rattle.job_facts.proofs.Legal.{same_file, small_task}
 use Rattle.job_facts.proofs.Placed.{own_place, one_place, set_same, not_staged}
@@ -14,10 +9,8 @@ use Rattle.job_facts.proofs.Foreign.{stood, foreign_effect, reads_effect, reads_
 use Rattle.job_facts.proofs.Keep.{put_keep, part_keep, drops_keep, abort_keep, learn_upload_keep, learn_part_keep, told_is, last_if, attempt_plain, sends_publish, sends_put, sends_undo, attempt_by}
 use Rattle.job_facts.proofs.Going.{unlearnt}
 use Rattle.job_model.specs.Prelude.{renamed}
-use Rattle.store_frame.proofs.Framed.{frame}
 use Rattle.job_facts.proofs.Staged.{stage_keep, rename_keep, remove_drops}
 use Rattle.job_facts.proofs.Undone.{deletes_drop, set_apart}
-use Rattle.std.proofs.Math.Bool.{and-false, or-false, or-true}
 
 -- ---- a request that neither publishes, nor puts a temporary file, nor takes anything away
 

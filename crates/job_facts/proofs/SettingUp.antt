@@ -1,16 +1,10 @@
 -- The driver's set-up leaves nothing in the job's magic directory, and changes nothing else but the marker of a committed job.
-use Rattle.std.proofs.Common.{◌≡◌, ℕ, inl, inr, ◌&&◌, not, Bool, true, false, cond, List, [], ◌∷◌, take, Option, Some, None, refl, sym, ap, subst, ◌∙◌, codes, arith}
-use Rattle.std.specs.Prelude.{bytes_eq}
-use Rattle.job_facts.specs.Prelude.{BucketContent, Content, Files, Scene, begins, answer, apply, answer_at, head, with_objects, below, effect, IsHonestOutcome, only_reads, Request, HeadObject, DeleteObject, DeleteObjects, ClusterPut, ClusterRename, ClusterDelete, Committer, Magic, Reply, Page, Outcome, ReplyLost, Retried, step, magic_prefix, success_key, cluster_prefix, text_cmp, Who, IsLegal, Script, Drawn, checks_all, view, is_folder, is_file_path, Setup, Heading, Clearing, Sweeping, SetupOver, dest_prefix, if_bucket, headed, checked_by, first_shown, cleared, setup_asks, setup_hears, setup_after, Sweep, Deleting, Walked, More, Whole, keys_on, page_after, sweep_asks, sweep_hears, all_go, Same, NoClusterFile, is_magic, is_staging, IsIn, changed_paths, HasBucket, at_key, at_id, IsForeign, SetsUp, IsBare, ClearsAlone}
-use Rattle.job_spec.proofs.Common.{and_parts, not-true, false≢true, append_cancel_left, below_is, if_bucket_so, some_is, false_true, none_or_some, none_some, true_or_false, text_other, text_left}
+use Rattle.job_facts.proofs.Common.{Bool, BucketContent, Clearing, ClearsAlone, ClusterDelete, ClusterPut, ClusterRename, Committer, Content, DeleteObject, DeleteObjects, Deleting, Drawn, Files, HasBucket, HeadObject, Heading, IsBare, IsForeign, IsHonestOutcome, IsIn, IsLegal, List, Magic, More, NoClusterFile, None, Option, Outcome, Page, Reply, ReplyLost, Request, Retried, Same, Scene, Script, SetsUp, Setup, SetupOver, Some, Sweep, Sweeping, Walked, Who, Whole, [], all_go, and_parts, answer, answer_at, ap, append_cancel_left, apply, arith, at_id, at_key, begins, below, below_is, bytes_eq, changed_paths, checked_by, checks_all, cleared, cluster_prefix, codes, cond, dest_prefix, effect, false, false_true, false≢true, first_shown, frame, head, headed, if_bucket, if_bucket_so, inl, inr, is_file_path, is_folder, is_magic, is_staging, keys_on, magic_prefix, none_or_some, none_some, not, not-true, only_reads, page_after, reads_nothing, refl, setup_after, setup_asks, setup_hears, some_is, step, subst, success_key, sweep_asks, sweep_hears, sym, take, text_cmp, text_left, text_other, true, true_or_false, view, walked, with_objects, ℕ, ◌&&◌, ◌∙◌, ◌∷◌, ◌≡◌}
 use Rattle.job_model.specs.Prelude.{renamed}
 use Rattle.job_protocol.specs.Prelude.{checked}
 use Rattle.std.specs.FinMap as fin
 use Rattle.job_model.specs.declared.ends.SetupEnd.TheVariants as ends
 use Rattle.job_protocol.specs.Setup.{Checking, sweeping}
-use Rattle.list_walk.specs.Walks.{walked}
-use Rattle.store_frame.proofs.Framed.{frame}
-use Rattle.store_frame.proofs.Reading.{reads_nothing}
 use Rattle.job_facts.proofs.Legal.{some_dest}
 use Rattle.job_facts.proofs.Shapes.{id_before, id_after, store_is}
 use Rattle.job_facts.proofs.Undone.{deletes_drop}

@@ -1,15 +1,7 @@
 -- What each request leaves of a store and of the cluster's files, told at keys, ids and paths.
-use Rattle.std.proofs.Common.{◌≡◌, ℕ, ◌+◌, ◌&&◌, Bool, true, false, cond, List, Option, Some, None, refl, sym, ap, subst, ◌∙◌, ◌⊎◌, inl, inr, nat_lt, [], ◌∷◌, ◌++◌, take, length, arith}
-use Rattle.job_facts.specs.Prelude.{text_eq, BucketContent, Content, Scene, Upload, live, with_key, is_part_number, with_part, apply, apply_at, bucket_of, answer_at, with_objects, Object, Request, PutObject, CreateUpload, UploadPart, AbortUpload, Script, upload_in, at_key, at_id, Puts, part_left, end_left, is_lt, text_cmp, begins, listed, answer, Reply, PageEntry, walked_by, keys_on, last_of, page_after, IsIn, last_from, HasBucket}
+use Rattle.job_facts.proofs.Common.{AbortUpload, Bool, BucketContent, Content, CreateUpload, Draws, HasBucket, IsIn, List, None, Object, Option, PageEntry, PutObject, Puts, Reply, Request, Scene, Script, Some, Turns, Upload, UploadPart, [], answer, answer_at, answer_in, ap, apply, apply_at, arith, at_id, at_key, begins, bucket_of, cond, end_left, false, in_append, in_back, in_front, inl, inr, is_lt, is_part_number, keys_on, last_append, last_from, last_of, length, listed, live, nat_gone, nat_here, nat_left, nat_lt, nat_other, object_in, page_after, page_all, page_begins, page_covers, part_left, part_others, part_put, refl, subst, sym, take, text_cmp, text_eq, text_here, text_other, true, upload_in, walked, walked_by, with_bucket, with_key, with_objects, with_part, with_uploads, ℕ, ◌&&◌, ◌++◌, ◌+◌, ◌∙◌, ◌∷◌, ◌≡◌, ◌⊎◌}
 use Rattle.job_model.specs.Prelude.{Uploads, aborted}
-use Rattle.job_spec.specs.Prelude.{answer_in, part_put, object_in}
-use Rattle.store_frame.specs.Prelude.{with_uploads}
-use Rattle.job_spec.proofs.Common.{nat_here, nat_other, nat_gone, nat_left, text_here, text_other, in_append, in_front, in_back}
 use Rattle.std.specs.FinMap as fin
-use Rattle.store_frame.proofs.Framed.{with_bucket, part_others}
-use Rattle.job_facts.specs.Stores.{Turns, Draws}
-use Rattle.list_walk.specs.Walks.{walked}
-use Rattle.store_frame.proofs.Flat.{page_begins, page_covers, page_all, last_append}
 
 -- ---- a part, and an end, at its id and at others
 

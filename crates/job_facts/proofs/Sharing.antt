@@ -1,11 +1,8 @@
 -- The requests of a check before the commit, and of an abort or clean that spares what is another job's.
-use Rattle.std.proofs.Common.{◌≡◌, ℕ, inl, inr, true, false, List, ◌∷◌, Some, refl, sym, ap, subst, ◌∙◌, arith}
-use Rattle.job_facts.specs.Prelude.{effect, only_reads, Request, Outcome, UploadRef, Who, IsLegal, Script, IsZeroRename, Seen, IsIn, Told, driver_entry, Hold, ends, Setup, Setting, tell_attempt, IsAttempt, is_marking, setup_asks, changed_paths, Operation, is_reading, Sweeping, Fits, Listing, asks, Deleting, known, SetupOver, Scene}
-use Rattle.job_spec.proofs.Common.{some_is}
+use Rattle.job_facts.proofs.Common.{AllKnown, Deleting, Fits, FitsSparing, Hold, IsAttempt, IsIn, IsLegal, IsOwnPath, IsZeroRename, List, Listing, Operation, Outcome, Request, Scene, Script, Seen, Setting, Setup, SetupOver, Some, Sweeping, Told, UploadRef, Who, ap, arith, asks, changed_paths, driver_entry, effect, ends, false, inl, inr, is_marking, is_reading, known, only_reads, refl, setup_asks, some_is, subst, sym, tell_attempt, true, ℕ, ◌∙◌, ◌∷◌, ◌≡◌}
 use Rattle.job_protocol.specs.Rechecks.{Check, Looking, Probing, CheckOver, check_asks}
 use Rattle.job_protocol.specs.Sparing.{Sparing, Walking, Naming, Aborting, SparingOver, sparing_asks, record_request}
 use Rattle.job_protocol.specs.Sparing as sparing
-use Rattle.job_facts.specs.Spares.{AllKnown, FitsSparing, IsOwnPath}
 use Rattle.job_facts.proofs.Shows.{HidesAll}
 use Rattle.job_facts.proofs.OwnRequests.{clearing_changes}
 use Rattle.job_facts.proofs.Learning.{known_still}

@@ -1,9 +1,5 @@
 -- What is changed below the magic directory alone, no reader of the destination sees.
-use Rattle.std.proofs.Common.{◌≡◌, ℕ, inl, inr, not, ◌&&◌, nat_eq, Bool, true, false, cond, List, [], ◌∷◌, ◌++◌, None, refl, sym, ap, ◌∙◌, codes, arith}
-use Rattle.std.specs.Prelude.{bytes_eq}
-use Rattle.job_facts.specs.Prelude.{option_map, Content, Scene, begins, apply, bucket_of, effect, Object, Request, Outcome, below, magic_prefix, IsLegal, Script, view, is_folder, is_file_path, Same, IsIn, HasBucket, changed_keys, at_key}
-use Rattle.job_spec.proofs.Common.{and_parts, not-true, false≢true, begins_behind, below_is, false_true, true_or_false}
-use Rattle.store_frame.proofs.Framed.{frame}
+use Rattle.job_facts.proofs.Common.{Bool, Content, HasBucket, IsIn, IsLegal, List, None, Object, Outcome, Request, Same, Scene, Script, [], and_parts, ap, apply, arith, at_key, begins, begins_behind, below, below_is, bucket_of, bytes_eq, changed_keys, codes, cond, effect, false, false_true, false≢true, frame, inl, inr, is_file_path, is_folder, magic_prefix, nat_eq, not, not-true, option_map, refl, sym, true, true_or_false, view, ℕ, ◌&&◌, ◌++◌, ◌∙◌, ◌∷◌, ◌≡◌}
 use Rattle.job_facts.proofs.Legal.{some_dest}
 use Rattle.job_facts.proofs.Going.{effect_so}
 

@@ -1,12 +1,7 @@
 -- A sparing abort or clean keeps the job's facts with each of its requests, and aborts only uploads that the job knows.
-use Rattle.std.proofs.Common.{◌≡◌, ℕ, ◌<◌, ◌≤◌, ◌^◌, ◌⊎◌, inl, inr, ◌||◌, Bool, true, false, List, [], ◌∷◌, ◌++◌, map, take, drop, Option, Some, Ok, refl, sym, ap, subst, ◌∙◌, arith}
-use Rattle.job_facts.specs.Prelude.{filter, Scene, begins, answer, read_answer, effect, IsHonestOutcome, only_reads, Object, Request, GetObject, ClusterGet, UploadRef, Committer, Magic, Reply, Outcome, Retried, step, magic_prefix, cluster_prefix, Place, FilePlace, MarkerPlace, RecordPlace, SetPlace, SuccessPlace, key_at, is_record, Who, File, Script, Drawn, IsLegal, drawn_for, files, file_key, file_record, files_set, walked_by, Seen, is_begun, is_magic, is_staging, IsIn, HasBucket, changed_paths, Told, tell_driver, at_event, at_key, IsAttempt, IsWritten, IsOwnPlace, AreCommits, Facts, Hold, knowing, dest_prefix}
-use Rattle.job_spec.proofs.Common.{some_is, none_or_some, false_true, in_append, in_filter, in_map, same_or_other}
+use Rattle.job_facts.proofs.Common.{AllCluster, AllMagic, AreCommits, Bool, ClusterGet, Committer, Drawn, Facts, File, FilePlace, GetObject, HasBucket, Hold, IsAttempt, IsHonestOutcome, IsIn, IsLegal, IsOwnPlace, IsWritten, List, Magic, MarkerPlace, Object, Ok, Option, Outcome, Place, RecordPlace, Reply, Request, Retried, Scene, Script, Seen, SetPlace, Some, SuccessPlace, Told, UploadRef, Who, [], answer, ap, arith, at_event, at_key, begins, changed_paths, cluster_prefix, dest_prefix, drawn_for, drop, effect, false, false_true, file_key, file_record, files, files_set, filter, found, frame, in_append, in_filter, in_map, inl, inr, is_begun, is_magic, is_record, is_staging, key_at, knowing, magic_prefix, map, none_or_some, only_reads, or-true, read_answer, refl, same_or_other, some_is, step, subst, sym, take, tell_driver, true, walked_by, ℕ, ◌++◌, ◌<◌, ◌^◌, ◌||◌, ◌∙◌, ◌∷◌, ◌≡◌, ◌≤◌, ◌⊎◌}
 use Rattle.std.specs.FinMap as fin
-use Rattle.s3_types.specs.Answer.{found}
 use Rattle.pending_json.specs.Reading as reading
-use Rattle.store_frame.proofs.Framed.{frame}
-use Rattle.job_facts.specs.Driver.{AllMagic, AllCluster}
 use Rattle.job_facts.proofs.Aborting.{dropped_in, taken_in}
 use Rattle.job_facts.proofs.Driving.{IsClearing, reads, aborts, batches, removes, clearing_effect}
 use Rattle.job_facts.proofs.Going.{Each, each_so, step_by, effect_so}
@@ -19,7 +14,6 @@ use Rattle.job_facts.specs.Spares.{AllKnown, AllOwn, FitsSparing, IsOwnPath, Fil
 use Rattle.job_facts.proofs.Suffix.{set_no_record, marker_no_record}
 use Rattle.job_facts.proofs.JobCommitting.{dest_below}
 use Rattle.job_facts.proofs.Keep.{facts_so}
-use Rattle.std.proofs.Math.Bool.{or-true}
 
 -- ---- what stands below the job's directory in the cluster
 

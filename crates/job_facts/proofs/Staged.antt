@@ -1,7 +1,5 @@
 -- How the facts of a staging job are kept where a file of the cluster is put, moved onto a task's set, or taken away.
-use Rattle.std.proofs.Common.{◌≡◌, ℕ, ◌<◌, inl, inr, true, List, Option, Some, refl, sym, ap, subst, ◌∙◌, arith}
-use Rattle.job_facts.specs.Prelude.{Scene, Files, with_files, TemporaryPlace, StagedSetPlace, path_at, Who, IsLegal, Script, files, is_staging, HasBucket, Told, at_path, sets_at, IsAttempt, IsTemporary, Facts}
-use Rattle.job_spec.proofs.Common.{some_is, none_some, same_or_not, same_or_other, text_here, text_other, text_left, text_gone}
+use Rattle.job_facts.proofs.Common.{Facts, Files, HasBucket, IsAttempt, IsLegal, IsTemporary, List, Option, Scene, Script, Some, StagedSetPlace, TemporaryPlace, Told, Who, ap, arith, at_path, files, inl, inr, is_staging, none_some, path_at, refl, same_or_not, same_or_other, sets_at, some_is, subst, sym, text_gone, text_here, text_left, text_other, true, with_files, ℕ, ◌<◌, ◌∙◌, ◌≡◌}
 use Rattle.std.specs.FinMap as fin
 use Rattle.job_facts.proofs.Legal.{small_task}
 use Rattle.job_facts.proofs.Keep.{Drops, facts_so}

@@ -1,7 +1,5 @@
 -- The facts begin where the set-up is done; and what only reads keeps them, whoever sends it.
-use Rattle.std.proofs.Common.{◌≡◌, ℕ, ◌<◌, true, List, Option, Some, None, refl, ap, arith}
-use Rattle.job_facts.specs.Prelude.{option_map, Scene, Upload, answer, IsHonestOutcome, only_reads, Actor, Driver, Attempt, Shell, Committer, Magic, Entry, Outcome, Slow, RequestLost, Object, SetPlace, TemporaryPlace, StagedSetPlace, IsLegal, Script, Seen, see, is_magic, is_staging, HasBucket, Told, tell, nothing_told, at_id, at_path, at_place, set_at, Facts, Hold, IsBare, Times}
-use Rattle.job_spec.proofs.Common.{none_some}
+use Rattle.job_facts.proofs.Common.{Actor, Attempt, Committer, Driver, Entry, Facts, HasBucket, Hold, IsBare, IsHonestOutcome, IsLegal, List, Magic, None, Object, Option, Outcome, RequestLost, Scene, Script, Seen, SetPlace, Shell, Slow, Some, StagedSetPlace, TemporaryPlace, Times, Told, Upload, answer, ap, arith, at_id, at_path, at_place, is_magic, is_staging, none_some, nothing_told, only_reads, option_map, refl, see, set_at, tell, true, ℕ, ◌<◌, ◌≡◌}
 use Rattle.job_facts.proofs.Whose.{attempt}
 use Rattle.job_facts.proofs.Placed.{record_magic, set_magic, path_below}
 use Rattle.job_facts.proofs.Sent.{read_keeps}

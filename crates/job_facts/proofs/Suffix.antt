@@ -1,11 +1,5 @@
 -- Of the keys below a job's magic directory exactly those of records end as records do.
-use Rattle.std.proofs.Common.{◌≡◌, ℕ, ◌+◌, ◌-◌, ◌≤◌, ◌⊎◌, inl, inr, nat_eq, ◌||◌, Bool, true, false, List, [], ◌∷◌, ◌++◌, length, drop, take, refl, sym, ap, ◌∙◌, arith, append_assoc, length-append, codes}
-use Rattle.job_facts.specs.Prelude.{decimal, text_eq, below, set_key, is_record}
-use Rattle.path_keys.proofs.Common.{take-append-drop}
-use Rattle.retries.specs.Prelude.{text_equiv}
-use Rattle.job_protocol.specs.Prelude.{attempt_key}
-use Rattle.job_spec.proofs.Common.{below_is, text_is, false_true, drop_at}
-use Rattle.std.proofs.Math.Bool.{or-true}
+use Rattle.job_facts.proofs.Common.{Bool, List, [], ap, append_assoc, arith, attempt_key, below, below_is, codes, decimal, drop, drop_at, false, false_true, inl, inr, is_record, length, length-append, nat_eq, or-true, refl, set_key, sym, take, take-append-drop, text_eq, text_equiv, text_is, true, ℕ, ◌++◌, ◌+◌, ◌-◌, ◌||◌, ◌∙◌, ◌∷◌, ◌≡◌, ◌≤◌, ◌⊎◌}
 
 abbrev ending : List ℕ
 ending = codes ".pending"

@@ -1,13 +1,9 @@
 -- While the driver's commit completes: the uploads of its sets are apart, and an upload that is ended is done or had a sending lost.
-use Rattle.std.proofs.Common.{◌≡◌, ℕ, ◌<◌, ◌⊎◌, inl, inr, nat_eq, nat_lt, ◌&&◌, ◌||◌, Bool, true, false, List, [], ◌∷◌, ◌++◌, map, length, Option, Some, None, refl, sym, ap, subst, ◌∙◌, arith}
-use Rattle.job_spec.proofs.Common.{and_parts, false≢true, some_is, false_true, true_or_false, eq_nat, nat_true, in_front, in_last}
-use Rattle.job_facts.specs.Prelude.{answer, named_from, is_effective, Request, Reply, Completed, Outcome, Answered, Slow, Pending, IsLegal, Script, Sweep, Listing, Deleting, sweep_asks, sweep_hears, Turn, nth, completion, again, follow, dealt, revert, Setting, Sets, all_commits, Commit, Fetching, Replacing, Completing, Marking, Reverting, CommitOver, set_request, set_read, commit_asks, commit_misses, commit_tells, commit_start, completing, is_no_magic, reverting, worn_completion, Tabled, Seen, Told, ends, tell_driver, Hold, Reads, FitsJobCommit, NoneEnded, Turned, IsIn}
-use Rattle.s3_types.specs.Tags.{joined_tag}
+use Rattle.job_facts.proofs.Common.{Answered, Bool, Commit, CommitOver, Completed, Completing, Deleting, Fetching, FitsJobCommit, Hold, IsIn, IsLegal, List, Listing, Marking, None, NoneEnded, Option, Outcome, Pending, Reads, Replacing, Reply, Request, Reverting, Script, Seen, Sets, Setting, Slow, Some, Sweep, Tabled, Told, Turn, Turned, [], again, all_commits, and-false, and_parts, answer, ap, arith, commit_asks, commit_misses, commit_start, commit_tells, completing, completion, dealt, ends, eq_nat, false, false_true, false≢true, follow, in_front, in_last, inl, inr, is_effective, is_no_magic, joined_tag, length, map, named_from, nat_eq, nat_lt, nat_true, nth, or-true, refl, revert, reverting, set_read, set_request, some_is, subst, sweep_asks, sweep_hears, sym, tell_driver, true, true_or_false, worn_completion, ℕ, ◌&&◌, ◌++◌, ◌<◌, ◌||◌, ◌∙◌, ◌∷◌, ◌≡◌, ◌⊎◌}
 use Rattle.job_facts.specs.Turning.{Turns}
 use Rattle.job_facts.proofs.Replies.{completed}
 use Rattle.job_facts.proofs.Held.{nth_of, of_sets, uploads_uniq, to_in, either, tells_so, Course, fetching_so, fetched_so, swept_so}
 use Rattle.job_facts.proofs.Foreign.{set_reads, reads_name}
-use Rattle.std.proofs.Math.Bool.{and-false, or-true}
 
 module _ (w : Script) (minimum : ℕ) (s : Seen) (m : Told) (j : IsLegal w) (f : Hold w minimum s m) where
   pub uploads_apart : (sets : Sets) → Reads w minimum m.publish_sent m.drawn sets → (i n : ℕ) → i < length (all_commits sets) → n < length (all_commits sets) → (nth (all_commits sets) i).upload ≡ (nth (all_commits sets) n).upload → i ≡ n

@@ -1,7 +1,5 @@
 -- What deletions leave: what stands stood before, and no upload changes.
-use Rattle.std.proofs.Common.{◌≡◌, ℕ, nat_lt, true, false, cond, List, [], ◌∷◌, ◌++◌, length, Some, None, refl, sym, ap, subst, ◌∙◌, codes, append_assoc}
-use Rattle.job_facts.specs.Prelude.{decimal, eq_by_cmp, text_cmp, text_total, Scene, Objects, begins, apply, without, DeleteObjects, Object, MOST_ENTRIES, SetPlace, key_at, Who, Script, attempt_prefix, HasBucket}
-use Rattle.job_spec.proofs.Common.{begins_behind, none_some}
+use Rattle.job_facts.proofs.Common.{DeleteObjects, HasBucket, List, MOST_ENTRIES, None, Object, Objects, Scene, Script, SetPlace, Some, Who, [], ap, append_assoc, apply, attempt_prefix, begins, begins_behind, codes, cond, decimal, eq_by_cmp, false, key_at, length, nat_lt, none_some, refl, subst, sym, text_cmp, text_total, true, without, ℕ, ◌++◌, ◌∙◌, ◌∷◌, ◌≡◌}
 use Rattle.std.specs.FinMap as fin
 use Rattle.job_facts.proofs.Shapes.{key_before, key_after, id_before, id_after, bucket_after, store_is, with_store}
 use Rattle.job_facts.proofs.Keep.{Drops}

@@ -1,8 +1,5 @@
 -- How a file's upload goes on, of any committer: what it asks keeps the facts, and it comes as far as it says.
-use Rattle.std.proofs.Common.{◌≡◌, ℕ, zero, suc, ◌+◌, ◌-◌, ◌<◌, ◌≤◌, ◌⊎◌, inl, inr, true, cond, List, [], ◌∷◌, ◌++◌, map, length, drop, slice_get, Option, Some, None, refl, sym, ap, subst, ◌∙◌, arith, length-drop}
-use Rattle.job_spec.proofs.Common.{nat_tests, in_map, map_in}
-use Rattle.job_facts.specs.Prelude.{Upload, Spelled, live, is_part_number, answer, part_answer, Request, CreateUpload, UploadPart, Reply, Part, Refused, NoSuchUpload, BadPartNumber, Outcome, Answered, File, Who, IsLegal, Script, files, Drawn, Known, learn, first_drawn, file_key, Uploading, Creating, Sending, Uploaded, GoesOn, AllSent, IsGone, upload_asks, upload_hears, file_parts, sending, created, sent_part, Seen, IsIn, Told, known, IsWritten, AreCommits, Hold, Todo, Begun, AllWritten, IsOpen, FitsUpload}
-use Rattle.s3_types.specs.Tags.{plain_tag}
+use Rattle.job_facts.proofs.Common.{AllSent, AllWritten, Answered, AreCommits, BadPartNumber, Begun, CreateUpload, Creating, Drawn, File, FitsUpload, GoesOn, Hold, IsGone, IsIn, IsLegal, IsOpen, IsWritten, Known, List, NoSuchUpload, None, Option, Outcome, Part, Refused, Reply, Request, Script, Seen, Sending, Some, Spelled, Todo, Told, Upload, UploadPart, Uploaded, Uploading, Who, [], answer, ap, arith, cond, created, drop, file_key, file_parts, files, first_drawn, in_map, inl, inr, is_part_number, known, learn, length, length-drop, live, map, map_in, nat_tests, part_answer, plain_tag, refl, sending, sent_part, slice_get, subst, suc, sym, true, upload_asks, upload_hears, zero, ℕ, ◌++◌, ◌+◌, ◌-◌, ◌<◌, ◌∙◌, ◌∷◌, ◌≡◌, ◌≤◌, ◌⊎◌}
 use Rattle.s3_types.specs.declared.reply.Reply.TheVariants.{Upload as TheUpload}
 use Rattle.job_protocol.specs.Knowledge.{with_part}
 use Rattle.job_facts.proofs.Cut.{parts_few}

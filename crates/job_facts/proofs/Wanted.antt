@@ -1,7 +1,6 @@
 -- The files that picks want, by task and attempt.
-use Rattle.std.proofs.Common.{◌≡◌, ℕ, zero, suc, ◌<◌, inl, inr, ◌&&◌, Bool, true, cond, List, [], ◌∷◌, ◌++◌, Option, Some, None, refl, sym, ap, subst, ◌∙◌, arith}
+use Rattle.job_facts.proofs.Common.{Bool, List, None, Option, Some, [], ap, arith, cond, false_true, in_append, in_back, in_front, inl, inr, none_or_some, none_some, refl, same_or_not, shared_found, shared_none, some_is, subst, suc, sym, text_is, true, true_or_false, zero, ℕ, ◌&&◌, ◌++◌, ◌<◌, ◌∙◌, ◌∷◌, ◌≡◌}
 use Rattle.job_facts.specs.Prelude.{is_some, lookup, text_eq, compact_text, success_tree, File, IsLegal, Script, Picks, files, files_picked, wanted, wanted_below, wanted_at, paths_of, writes, same_path, picked_below, is_picked, mark_text, IsIn}
-use Rattle.job_spec.proofs.Common.{shared_found, shared_none, some_is, none_some, same_or_not, text_is, in_append, in_front, in_back, true_or_false, none_or_some, false_true}
 use Rattle.job_facts.proofs.Whose.{attempt}
 use Rattle.job_facts.proofs.Legal.{same_file, has}
 use Rattle.job_facts.proofs.Held.{one_writer}

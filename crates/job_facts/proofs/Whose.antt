@@ -1,8 +1,5 @@
 -- Attempts that are the same or not, and functions of them.
-use Rattle.std.proofs.Common.{◌≡◌, ℕ, ◌⊎◌, inl, inr, nat_eq, ◌&&◌, ◌||◌, Bool, true, false, cond, Option, Some, refl, sym, ap, subst, ◌∙◌, arith}
-use Rattle.job_spec.proofs.Common.{and_parts, some_is, eq_nat, nat_true, false_true, true_or_false}
-use Rattle.job_facts.specs.Prelude.{Who, same_name, put_who}
-use Rattle.std.proofs.Math.Bool.{and-false, or-false, or-true}
+use Rattle.job_facts.proofs.Common.{Bool, Option, Some, Who, and-false, and_parts, ap, arith, cond, eq_nat, false, false_true, inl, inr, nat_eq, nat_true, or-false, or-true, put_who, refl, same_name, some_is, subst, sym, true, true_or_false, ℕ, ◌&&◌, ◌||◌, ◌∙◌, ◌≡◌, ◌⊎◌}
 
 abbrev pub attempt : ℕ → ℕ → Who
 attempt t n = record { task = t; attempt = n }

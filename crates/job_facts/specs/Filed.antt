@@ -1,13 +1,12 @@
 -- The uploads of the sets that the driver holds, and what stands where their files go while its commit runs.
-use Rattle.std.specs.Prelude.{◌≡◌, ℕ, ◌<◌, ◌≤◌, ◌⊎◌, Bool, true, false, List, ◌∷◌, length, Option, Some, None}
-use Rattle.job_spec.specs.Prelude.{Content, Upload, Object, Entry, Request, DeleteObject, streak, IsWorn, File, Who, Script, Drawn, CommitEnd, files, wanted_at, same_path, file_record, abort, deletion, Sets, all_commits, picks_of, Commit, Fetching, Replacing, Completing, Marking, Reverting, CommitOver, IsIn, UploadRef, Clean, Walking, Aborting, Naming, Removing, CleanOver}
-use Rattle.job_protocol.specs.Prelude.{below, Pending}
-use Rattle.job_model.specs.declared.ends.CommitEnd.TheVariants as ends
-use Rattle.job_model.specs.declared.ends.Stage.TheVariants as stages
+use Rattle.std.specs.Prelude.{Bool, List, None, Option, Some, false, length, true, ℕ, ◌<◌, ◌∷◌, ◌≡◌, ◌≤◌, ◌⊎◌}
+use Rattle.job_protocol.specs.Prelude.{Aborting, Clean, CleanOver, Commit, CommitEnd, CommitOver, Completing, Content, DeleteObject, Drawn, Entry, Fetching, File, IsIn, IsWorn, Marking, Naming, Object, Pending, Removing, Replacing, Request, Reverting, Script, Sets, Upload, UploadRef, Walking, Who, abort, all_commits, below, deletion, file_record, files, picks_of, same_path, streak, wanted_at}
 use Rattle.job_facts.specs.Told.{Told}
 use Rattle.job_facts.specs.Stores.{at_id}
 use Rattle.job_facts.specs.Facts.{IsWritten}
 use Rattle.job_protocol.specs.Cleanups.{Sweeping}
+use Rattle.job_model.specs.declared.ends.CommitEnd.TheVariants as ends
+use Rattle.job_model.specs.declared.ends.Stage.TheVariants as stages
 
 -- ---- uploads
 

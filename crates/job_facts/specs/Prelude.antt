@@ -14,101 +14,24 @@ pub use Rattle.job_facts.specs.Stores.{IsKnown, Leaves, Puts, at_id, at_key, at_
 pub use Rattle.job_facts.specs.Told.{Told, at_event, driver_entry, ends, entry, known, nothing_told, put_who, strange_entry, tell, tell_all, tell_attempt, tell_by, tell_driver, undoes}
 pub use Rattle.job_facts.specs.Turning.{NoneEnded, Turned}
 pub use Rattle.job_facts.specs.Within.{IsWithin}
-pub use Rattle.job_model.specs.Attempts.{Declared, Who, actor_of, same_name}
-pub use Rattle.job_model.specs.Files.{File, has_path}
-pub use Rattle.job_model.specs.JobScript.{Script}
-pub use Rattle.job_model.specs.Known.{Drawn, Known}
-pub use Rattle.job_model.specs.Legal.{AreAttempts, IsGiven, IsLegal}
-pub use Rattle.job_model.specs.Paths.{is_full}
-pub use Rattle.job_model.specs.Placed.{path_of, placed, with_id, with_id_last}
-pub use Rattle.job_model.specs.declared.ends.ActorEnd.{ActorEnd}
-pub use Rattle.job_model.specs.declared.ends.CleanEnd.{CleanEnd}
-pub use Rattle.job_model.specs.declared.ends.CommitEnd.{CommitEnd}
-pub use Rattle.job_model.specs.declared.ends.EventEnd.{EventEnd}
-pub use Rattle.job_model.specs.declared.ends.EventFault.{EventFault}
-pub use Rattle.job_model.specs.declared.ends.OpEnd.{OpEnd}
-pub use Rattle.job_model.specs.declared.ends.SetupEnd.{SetupEnd}
-pub use Rattle.job_model.specs.declared.ends.TaskEnd.{TaskEnd}
-pub use Rattle.job_model.specs.declared.events.Event.{Event}
-pub use Rattle.job_model.specs.declared.events.Event.TheVariants.{Do, Kill, Mix, Recover, Restart, Run, Start, Step}
-pub use Rattle.job_model.specs.declared.events.Op.{Op}
-pub use Rattle.job_model.specs.declared.states.Life.TheVariants.{Busy}
-pub use Rattle.job_protocol.specs.AtWork.{Attempting, Committing, Driving, clean_told, clean_wants, commit_told, commit_wants, job_of, learned, picked_after, read_script, sets_after, sets_in, setup_told, setup_wants, task_abort_told, task_abort_wants, task_commit_told, task_commit_wants, task_of, task_script, who_of, with_pick, write_told, write_wants}
-pub use Rattle.job_protocol.specs.Cleanups.{Aborting, Clean, CleanOver, Naming, Removing, Walking, aborted, aborting, clean_after, clean_asks, clean_hears, clean_over, clean_start, naming, removing, sweeping, walking}
-pub use Rattle.job_protocol.specs.Conflicts.{checks_all, keeps, keeps_of, partitions}
-pub use Rattle.job_protocol.specs.JobCommits.{Commit, CommitOver, Completing, Fetching, Marking, Replacing, Reverting, Sets, all_commits, commit_asks, commit_hears, commit_misses, commit_over, commit_start, commit_tells, completing, decided, fetched, fetching, is_no_magic, ok_set, picks_of, replaced, replacing, reverting, set_read, set_request, stage_of, swept, worn_completion}
-pub use Rattle.job_protocol.specs.Knowledge.{as_made, drawn_for, drawn_in, first_drawn, is_set_key, is_set_path, knows, knows_from, learn}
-pub use Rattle.job_protocol.specs.LaneTable.{AllSound, In, Sound, Table, Tabled}
-pub use Rattle.job_protocol.specs.Lanes.{Turn, abort, again, chosen, completion, dealt, deletion, follow, in_turn, is_tried, is_unsent, nth, revert, undo}
-pub use Rattle.job_protocol.specs.Laws.{is_fault, spare_of}
-pub use Rattle.job_protocol.specs.Operations.{Operation, Reports, Running, Setting, TheCheck, TheClean, TheCommit, TheSetup, TheSparing, TheTaskAbort, TheTaskCommit, TheWrite, advance, after_check, after_check_by, asks, clean_of, commit_by, commit_of, over, start_of, tells, wants, who}
-pub use Rattle.job_protocol.specs.Outputs.{Picks, files, files_picked, first_shared, is_clash, is_decided, is_picked, paths_of, picked_below, same_path, shared_by, two_where, wanted, wanted_at, wanted_below, wanted_paths, writes}
-pub use Rattle.job_protocol.specs.Records.{attempt_dir, file_key, file_record, files_set, mark_text, marker_key, record_key, record_text, set_text}
-pub use Rattle.job_protocol.specs.Setup.{Clearing, Heading, Setup, SetupOver, Sweeping, checked_by, checked_on, cleared, dest_prefix, first_shown, headed, if_bucket, or_next, setup_after, setup_asks, setup_hears, setup_over, setup_start, shown_path}
-pub use Rattle.job_protocol.specs.TaskAborts.{Dropping, TaskAbort, TaskAbortOver, task_abort_after, task_abort_asks, task_abort_by, task_abort_start}
-pub use Rattle.job_protocol.specs.TaskCommits.{Checking, Looking, Publishing, Reading, Renaming, Storing, TaskCommit, TaskCommitOver, Uploads, attempt_prefix, checked, checking, in_order, least_missing, least_of, looked, looked_at, partition_prefix, read_record, reading, renamed, storing, task_commit_after, task_commit_asks, task_commit_hears, task_commit_over, task_commit_start, task_commit_start_by, temporary_path, to_check, uploaded}
-pub use Rattle.job_protocol.specs.Uploading.{AllSent, Creating, GoesOn, IsGone, Sending, Uploaded, Uploading, created, file_parts, sending, sent_part, upload_asks, upload_hears}
-pub use Rattle.job_protocol.specs.View.{is_file_path, is_folder, view}
-pub use Rattle.job_protocol.specs.Writes.{Recording, Write, WriteOver, write_after, write_asks, write_over, write_start, write_start_by, writing}
-pub use Rattle.job_spec.specs.Ends.{CommitEnded, commit_due, end_or, has_cleaned, is_driver, is_mark_answered}
-pub use Rattle.job_spec.specs.Entries.{AreOwn, IsZeroRename, ZeroRename, is_copy}
-pub use Rattle.job_spec.specs.Follows.{Plays}
-pub use Rattle.job_spec.specs.Headline.{Always, Between, Kept, Same}
-pub use Rattle.job_spec.specs.OperationEnds.{CleanIs, Cleaned, NoDeletionWorn, OnlyOpening, SetupIs, TaskIs, WasPublished, is_untouched, was_lost}
+pub use Rattle.job_protocol.specs.Conflicts.{keeps}
+pub use Rattle.job_protocol.specs.Knowledge.{knows_from}
+pub use Rattle.job_protocol.specs.Outputs.{picked_below}
+pub use Rattle.job_protocol.specs.Prelude.{AbortUpload, Aborting, Actor, ActorEnd, AllByRecursion, AllSent, AllSound, Answered, Append, AreAttempts, Attempt, Attempting, BucketContent, Busy, Checking, Clean, CleanEnd, CleanOver, Clearing, ClusterDelete, ClusterGet, ClusterPut, ClusterRename, Commit, CommitEnd, CommitOver, Committer, Committing, CompleteUpload, Completing, Content, CopyObject, CreateUpload, Creating, Declared, DeleteObject, DeleteObjects, Deleting, Directory, Do, Drawn, Driver, Driving, Dropping, Entry, Equal, Event, EventEnd, EventFault, Fail, Fetching, File, FitsPage, FitsSweep, Follows, GetObject, GoesOn, Got, HeadObject, Heading, In, IsGiven, IsGone, IsHonest, IsIn, IsLegal, IsWorn, Item, Kill, Known, Less, ListPage, Listing, Looking, Magic, Marking, Mix, Mode, More, Naming, NoSuchBucket, NoSuchFile, NoSuchKey, NoSuchUpload, Object, Op, OpEnd, Operation, Ordering, OutOfMemory, Outcome, Page, PageEntry, Part, Partitioned, Pending, PendingSet, Picks, Publishing, PutObject, Reading, Recover, Refusal, Refused, Removing, Renaming, Replace, Replacing, Reply, ReplyLost, Reports, Request, RequestLost, Restart, Retried, Reverting, RisesFrom, Run, Running, Scene, Script, Sending, Sets, Setting, Setup, SetupEnd, SetupOver, Shell, Slow, Sound, Spelled, Start, Step, Storing, Sweep, Sweeping, Table, Tabled, TaskAbort, TaskAbortOver, TaskCommit, TaskCommitOver, TaskEnd, TheCheck, TheClean, TheCommit, TheSetup, TheSparing, TheTaskAbort, TheTaskCommit, TheWrite, Turn, Upload, UploadPart, UploadRef, Uploaded, Uploading, Walked, Walking, Who, Whole, WornFirst, WornOut, Write, WriteOver, abort, aborted, aborting, actor_of, advance, after_check, after_check_by, again, all_commits, all_go, answer, answer_at, apply, as_made, asks, attempt_dir, attempt_prefix, begins, below, checked_by, checked_on, checking, checks_all, chosen, clean_asks, clean_hears, clean_of, clean_over, clean_told, clean_wants, cleared, commit_asks, commit_by, commit_hears, commit_misses, commit_of, commit_over, commit_start, commit_tells, commit_told, commit_wants, compact_text, completing, completion, created, dealt, decided, decimal, deletion, dest_prefix, drawn_for, drawn_in, effect, fetched, fetching, file_key, file_parts, file_record, files, files_picked, files_set, filter, first_drawn, first_shared, first_shown, flat_map, follow, has_path, headed, if_bucket, in_order, in_turn, is_clash, is_decided, is_effective, is_fault, is_folder, is_full, is_job_id, is_lt, is_no_magic, is_picked, is_set_key, is_set_path, is_tried, is_unsent, is_zero, job_of, keeps_of, keys_on, knows, last_of, last_ref, learn, learned, least_missing, least_of, list_all, list_any, listed, looked, looked_at, lookup, mark_text, marker_key, moment, naming, nat_cmp, nth, option_map, or_next, ordering_then, over, page_after, partition_prefix, partitions, path_of, paths_of, picked_after, picks_of, placed, read_record, read_script, reading, record_key, record_text, relative_in, removing, renamed, replaced, replacing, revert, reverting, run, same_name, same_path, sending, sent_part, set_key, set_read, set_request, set_text, sets_after, sets_in, setup_after, setup_asks, setup_hears, setup_told, setup_wants, shared_by, shown_path, spare_of, spent_in, stage_of, staged_set_path, start_of, step, storing, success_key, success_tree, sweep_asks, sweep_hears, sweeping, swept, task_abort_asks, task_abort_by, task_abort_start, task_abort_told, task_abort_wants, task_commit_asks, task_commit_hears, task_commit_over, task_commit_start, task_commit_start_by, task_commit_told, task_commit_wants, task_of, task_script, tells, temporary_path, text_cmp, text_eq, text_total, to_check, two_where, unanswered_by, undo, unwrap_or, upload_asks, upload_hears, uploaded, uploads_after, view, walked_by, walked_uploads, walking, wanted, wanted_at, wanted_below, wanted_paths, wants, who, who_of, with_id, with_id_last, with_pick, worn_completion, write_over, write_start, write_start_by, write_told, write_wants, writes, writing}
+pub use Rattle.job_protocol.specs.Setup.{setup_over}
+pub use Rattle.job_protocol.specs.TaskAborts.{task_abort_after}
+pub use Rattle.job_protocol.specs.TaskCommits.{Uploads, checked, task_commit_after}
+pub use Rattle.job_protocol.specs.Writes.{write_after, write_asks}
+pub use Rattle.job_spec.specs.Ends.{CommitEnded}
+pub use Rattle.job_spec.specs.Headline.{Between}
+pub use Rattle.job_spec.specs.OperationEnds.{CleanIs, Cleaned, OnlyOpening, is_untouched, was_lost}
+pub use Rattle.job_spec.specs.Prelude.{AllBy, AllFrom, AllUpTo, Always, AreHonest, AreOwn, BadPartNumber, ClusterList, Completed, Deleted, Doing, FilePlace, Files, IsHonestOutcome, IsRising, IsZeroRename, Kept, ListParts, ListUploads, MOST_ENTRIES, MakeBucket, MarkerPlace, NamedPart, NoClusterFile, NoDeletionWorn, Objects, Past, Place, Plays, RecordPlace, Recording, Same, SameOutside, SameOutsideUpload, Seen, SetPlace, SetupIs, StagedSetPlace, SuccessPlace, TaskIs, TemporaryPlace, Times, Turns, WasPublished, ZeroRename, after_all, apply_at, apply_store, before, bucket_of, by_actor, clean_after, clean_event, clean_start, cluster_prefix, commit_due, commit_event, complete_answer, completed, end_op, end_or, eq_by_cmp, has_cleaned, head, is_begun, is_bucket, is_copy, is_driver, is_file_path, is_magic, is_mark_answered, is_marked, is_marking, is_open, is_own, is_part_number, is_picking, is_publishing, is_staging, is_wanting, joined, key_at, live, magic_prefix, missing, named_from, new_bucket, nothing_past, nothing_seen, of_event, ok_set, only_reads, open_event, own, part_answer, past, path_at, picks_by, put, read_answer, refusal, same_actor, see, see_all, seen, setup_start, since, text_ties, times, told, until, until_last, upload_in, with_key, with_part, without}
 pub use Rattle.job_spec.specs.Promise.{picked, picks_below}
-pub use Rattle.job_spec.specs.Scope.{NoClusterFile, SameOutside, SameOutsideUpload, upload_in}
-pub use Rattle.job_spec.specs.Seen.{Seen, Times, is_begun, is_magic, is_marked, is_marking, is_picking, is_publishing, is_reading, is_staging, last_by, nothing_seen, picks_by, see, see_all, seen}
-pub use Rattle.job_spec.specs.States.{Doing, Past, clean_event, commit_event, end_op, is_new, is_refused, missing, nothing_past, open_event, past, put, refusal, same_actor, times, told}
-pub use Rattle.job_spec.specs.Turns.{AllBy, AllFrom, AllUpTo, IsRising, Turns, before, by_actor, is_own, is_wanting, of_event, own, since, until, until_last}
-pub use Rattle.list_walk.specs.Fitting.{FitsPage, FitsSweep}
-pub use Rattle.list_walk.specs.Walks.{Deleting, Listing, More, Sweep, Walked, Whole, all_go, deleting, keys_on, last_of, last_ref, page_after, sweep_asks, sweep_hears, uploads_after, walked_by, walked_uploads}
-pub use Rattle.magic_paths.specs.Layout.{cluster_prefix, magic_prefix, set_key, staged_set_path, success_key}
-pub use Rattle.magic_paths.specs.Places.{FilePlace, MarkerPlace, Place, RecordPlace, SetPlace, StagedSetPlace, SuccessPlace, TemporaryPlace, is_open, is_record, key_at, path_at}
-pub use Rattle.path_keys.specs.Paths.{below, relative_in}
-pub use Rattle.pending_json.specs.Pending.{Pending}
-pub use Rattle.pending_json.specs.Trees.{success_tree}
-pub use Rattle.pending_json.specs.declared.records.PendingSet.{PendingSet}
-pub use Rattle.proof_base.specs.Members.{IsIn, RisesFrom, last_from}
-pub use Rattle.proof_base.specs.Order.{text_cmp, text_eq, text_ties, text_total}
-pub use Rattle.retries.specs.Operation.{Follows, run}
-pub use Rattle.retries.specs.Retries.{Got, Item, OutOfMemory, Retried, WornOut, fresh, is_zero, spent_in, step, unanswered_by, wants_of, worn_in}
-pub use Rattle.retries.specs.Worn.{IsWorn, WornFirst}
-pub use Rattle.s3_types.specs.Answer.{answer, answer_at, apply, apply_at, apply_store, bucket_of, complete_answer, completed, head, part_answer, read_answer, with_files, with_objects, without}
-pub use Rattle.s3_types.specs.Blocks.{named_from}
-pub use Rattle.s3_types.specs.Moment.{AreHonest, IsHonest, IsHonestOutcome, after_all, effect, is_effective, moment}
-pub use Rattle.s3_types.specs.Multipart.{is_part_number, joined, live, with_key, with_part}
-pub use Rattle.s3_types.specs.Names.{is_bucket, is_job_id}
-pub use Rattle.s3_types.specs.Pages.{begins, listed}
-pub use Rattle.s3_types.specs.Requests.{only_reads}
-pub use Rattle.s3_types.specs.Store.{BucketContent, Content, Files, Objects, Scene, Upload, new_bucket}
-pub use Rattle.s3_types.specs.Tags.{Spelled}
-pub use Rattle.s3_types.specs.declared.journal.Entry.{Entry}
-pub use Rattle.s3_types.specs.declared.journal.Outcome.{Outcome}
-pub use Rattle.s3_types.specs.declared.journal.Outcome.TheVariants.{Answered, ReplyLost, RequestLost, Slow}
-pub use Rattle.s3_types.specs.declared.limits.TheConstants.{MOST_ENTRIES}
-pub use Rattle.s3_types.specs.declared.object.Object.{Object}
-pub use Rattle.s3_types.specs.declared.reply.PageEntry.{PageEntry}
-pub use Rattle.s3_types.specs.declared.reply.Refusal.{Refusal}
-pub use Rattle.s3_types.specs.declared.reply.Refusal.TheVariants.{BadPartNumber, NoSuchBucket, NoSuchFile, NoSuchKey, NoSuchUpload}
-pub use Rattle.s3_types.specs.declared.reply.Reply.{Reply}
-pub use Rattle.s3_types.specs.declared.reply.Reply.TheVariants.{Completed, Deleted, Page, Part, Refused}
-pub use Rattle.s3_types.specs.declared.request.Actor.{Actor}
-pub use Rattle.s3_types.specs.declared.request.Actor.TheVariants.{Attempt, Driver, Shell}
-pub use Rattle.s3_types.specs.declared.request.Committer.{Committer}
-pub use Rattle.s3_types.specs.declared.request.Committer.TheVariants.{Directory, Magic, Partitioned}
-pub use Rattle.s3_types.specs.declared.request.Mode.{Mode}
-pub use Rattle.s3_types.specs.declared.request.Mode.TheVariants.{Append, Fail, Replace}
-pub use Rattle.s3_types.specs.declared.request.NamedPart.{NamedPart}
-pub use Rattle.s3_types.specs.declared.request.Request.{Request}
-pub use Rattle.s3_types.specs.declared.request.Request.TheVariants.{AbortUpload, ClusterDelete, ClusterGet, ClusterList, ClusterPut, ClusterRename, CompleteUpload, CopyObject, CreateUpload, DeleteObject, DeleteObjects, GetObject, HeadObject, ListPage, ListParts, ListUploads, MakeBucket, PutObject, UploadPart}
-pub use Rattle.s3_types.specs.declared.request.UploadRef.{UploadRef}
-pub use Rattle.serde_json.specs.Written.{compact_text}
-pub use Rattle.std.specs.Fmt.{decimal}
-pub use Rattle.std.specs.List.{AllByRecursion, filter, flat_map, list_all, list_any}
-pub use Rattle.std.specs.Map.{lookup}
-pub use Rattle.std.specs.Option.{is_some, option_map, unwrap_or}
-pub use Rattle.std.specs.Ordering.{eq_by_cmp, is_lt, nat_cmp, ordering_then}
-pub use Rattle.std.specs.declared.cmp.Ordering.{Ordering}
-pub use Rattle.std.specs.declared.cmp.Ordering.TheVariants.{Equal, Less}
-pub use Rattle.store_frame.specs.Frame.{changed_keys, changed_paths, changed_upload}
-pub use Rattle.store_frame.specs.Held.{HasBucket}
+pub use Rattle.job_spec.specs.Seen.{is_reading, last_by}
+pub use Rattle.job_spec.specs.States.{is_new, is_refused}
+pub use Rattle.list_walk.specs.Walks.{deleting}
+pub use Rattle.magic_paths.specs.Places.{is_record}
+pub use Rattle.retries.specs.Retries.{fresh, wants_of, worn_in}
+pub use Rattle.s3_types.specs.Answer.{with_files}
+pub use Rattle.std.specs.Option.{is_some}
+pub use Rattle.store_frame.specs.Prelude.{HasBucket, changed_keys, changed_paths, changed_upload, last_from, with_objects}

@@ -1,8 +1,6 @@
 -- Files that are added to an attempt one by one.
-use Rattle.std.proofs.Common.{◌≡◌, ℕ, false, List, [], ◌∷◌, ◌++◌, refl, sym, ap, subst, ◌∙◌, append_assoc}
+use Rattle.job_gen.proofs.Common.{AreFiles, Declared, File, List, Who, [], ap, append_assoc, false, has_path, last_files, refl, subst, sym, with_file, ℕ, ◌++◌, ◌∙◌, ◌∷◌, ◌≡◌}
 use Rattle.job_spec.proofs.Common.{append-nil}
-use Rattle.job_spec.specs.Prelude.{File, has_path, Who, Declared, last_files, AreFiles}
-use Rattle.job_model.specs.Prelude.{with_file}
 
 last_of : (before : List Declared) (a : Declared) → last_files (before ++ a ∷ []) ≡ a.1
 last_of (b ∷ c ∷ before) a = last_of (c ∷ before) a

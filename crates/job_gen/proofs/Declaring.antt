@@ -1,9 +1,6 @@
 -- The attempts of a made job.
-use Rattle.std.proofs.Common.{◌≡◌, ℕ, zero, suc, ◌+◌, ◌<◌, ◌≤◌, Bool, true, false, cond, is_some, inl, inr, List, [], ◌∷◌, ◌++◌, Some, refl, sym, subst, arith, append_assoc}
-use Rattle.job_spec.specs.Prelude.{flat_map, range_with_len, lookup, File, Who, Declared, same_name, declares, AreFiles, AreAttempts}
-use Rattle.job_spec.proofs.Common.{eq-eqb, cases_lt}
+use Rattle.job_gen.proofs.Common.{AreAttempts, AreFiles, Bool, Declared, File, List, Some, Who, [], append_assoc, arith, attempt_of, attempts_of, cases_lt, cond, declares, eq-eqb, false, flat_map, inl, inr, is_some, is_twice, lookup, range_with_len, refl, same_name, subst, suc, sym, true, zero, ℕ, ◌++◌, ◌+◌, ◌<◌, ◌∷◌, ◌≡◌, ◌≤◌}
 use Rattle.proof_base.proofs.Common.{ne_eqb}
-use Rattle.job_gen.specs.Made.{attempt_of, is_twice, attempts_of}
 use Rattle.job_gen.proofs.Ranges.{flat_map_next}
 
 -- ---- which attempts are declared

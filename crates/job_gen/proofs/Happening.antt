@@ -1,8 +1,5 @@
 -- The events of a made job.
-use Rattle.std.proofs.Common.{◌≡◌, ℕ, zero, suc, ◌+◌, ◌*◌, ◌%◌, ◌^◌, ◌<◌, ◌≤◌, true, false, cond, inl, inr, List, [], ◌∷◌, ◌++◌, map, filter, length, length-append, refl, ◌∙◌, arith, append_assoc}
-use Rattle.job_spec.specs.Prelude.{flat_map, range_with_len, Declared, declares, is_known, IsEvent, AreEvents, Event, Do, Mix, Driver}
-use Rattle.job_spec.proofs.Common.{length-map-range_with_len, true_or_false}
-use Rattle.job_model.specs.declared.events.Op.TheVariants.{Setup, Commit, Clean}
+use Rattle.job_gen.proofs.Common.{AreEvents, Clean, Commit, Declared, Do, Driver, Event, IsEvent, List, Mix, Setup, [], append_assoc, arith, cond, declares, false, filter, flat_map, inl, inr, is_known, length, length-append, length-map-range_with_len, map, range_with_len, refl, suc, true, true_or_false, zero, ℕ, ◌%◌, ◌*◌, ◌++◌, ◌+◌, ◌<◌, ◌^◌, ◌∙◌, ◌∷◌, ◌≡◌, ◌≤◌}
 use Rattle.job_gen.specs.Made.{below, attempt_of, is_twice, start_write, second_writes, committer_of, start_commit, mix_by, made_events}
 
 -- ---- they are such as a script may say

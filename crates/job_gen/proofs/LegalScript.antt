@@ -1,12 +1,9 @@
 -- A made script keeps the bounds of a script.
-use Rattle.std.proofs.Common.{◌≡◌, ℕ, zero, suc, ◌+◌, ◌*◌, ◌%◌, ◌≤◌, true, false, List, [], ◌∷◌, ◌++◌, length, length-append, refl, ap, arith}
-use Rattle.job_spec.proofs.Common.{eqb-true, none_some}
-use Rattle.job_spec.specs.Prelude.{AllByRecursion, File, Declared, files_in, bytes_of, bytes_in, IsLegal, nat_cmp}
+use Rattle.job_gen.proofs.Common.{AllByRecursion, AreFates, Declared, File, IsDest, IsLegal, List, [], ap, arith, bytes_in, bytes_of, eqb-true, false, files_in, length, length-append, nat_cmp, none_some, refl, suc, true, zero, ℕ, ◌%◌, ◌*◌, ◌++◌, ◌+◌, ◌∷◌, ◌≡◌, ◌≤◌}
 use Rattle.std.proofs.lemmas.Bool.{eqb-false}
 use Rattle.job_gen.specs.Made.{attempt_of, is_twice, attempts_of, part_files, made_attempts, made_dest, made_script}
 use Rattle.job_gen.proofs.Declaring.{attempts_from, one_or_two, attempts_fit, has_first, has_second, known}
 use Rattle.std.specs.Prelude.{codes}
-use Rattle.job_model.specs.Prelude.{IsDest, AreFates}
 use Rattle.std.specs.FinMap as fin
 use Rattle.words.specs.Parts.{parts_from}
 use Rattle.job_gen.proofs.PartPaths.{text_fits}

@@ -5,3 +5,4 @@ pub mod Adding
 pub mod Declaring
 pub mod Happening
 pub mod LegalScript
+mod Common

@@ -1,8 +1,5 @@
 -- The files of a made job's task.
-use Rattle.std.proofs.Common.{◌≡◌, ℕ, zero, suc, ◌+◌, ◌*◌, ◌%◌, ◌<◌, ◌≤◌, true, List, [], ◌∷◌, ◌++◌, map, length, replicate, refl, sym, ap, ◌∙◌, arith}
-use Rattle.job_spec.specs.Prelude.{range_with_len, File, AreFiles, bytes_of}
-use Rattle.job_spec.proofs.Common.{map-append, length-map-range_with_len, below_so}
-use Rattle.job_model.specs.Prelude.{are_bytes, IsFile}
+use Rattle.job_gen.proofs.Common.{AreFiles, File, IsFile, List, [], ap, are_bytes, arith, below_so, bytes_of, length, length-map-range_with_len, map, map-append, range_with_len, refl, replicate, suc, sym, true, zero, ℕ, ◌%◌, ◌*◌, ◌++◌, ◌+◌, ◌<◌, ◌∙◌, ◌∷◌, ◌≡◌, ◌≤◌}
 use Rattle.std.proofs.lemmas.List.{length-replicate}
 use Rattle.job_gen.specs.Made.{below, number, part_path, content, part_file, part_files}
 use Rattle.job_gen.proofs.Ranges.{map_more}

@@ -1,10 +1,5 @@
 -- The paths of a made job's files.
-use Rattle.std.proofs.Common.{◌≡◌, ℕ, zero, suc, ◌+◌, ◌/◌, ◌%◌, ◌<◌, ◌≤◌, nat_lt, Bool, true, false, cond, is_some, ◌&&◌, List, [], ◌∷◌, ◌++◌, map, codes, Some, refl, ap, ◌∙◌, arith}
-use Rattle.job_spec.specs.Prelude.{list_all, range_with_len, lookup, IsAscii, is_utf8, text_eq, File, has_path, IsGiven}
-use Rattle.job_spec.proofs.Common.{and_parts, nat_tests, list_all-append, is_utf8-from_IsUtf8, IsUtf8-from_ascii, IsAscii-nil, IsAscii-cons, text_false}
-use Rattle.path_keys.proofs.Common.{below_is, one_part}
-use Rattle.job_model.specs.Prelude.{is_other, is_bare}
-use Rattle.job_gen.specs.Made.{two_digits, three_digits, part_path}
+use Rattle.job_gen.proofs.Common.{Bool, File, IsAscii, IsAscii-cons, IsAscii-nil, IsGiven, IsUtf8-from_ascii, List, Some, [], and_parts, ap, arith, below_is, codes, cond, false, has_path, is_bare, is_other, is_some, is_utf8, is_utf8-from_IsUtf8, list_all, list_all-append, lookup, map, nat_lt, nat_tests, one_part, part_path, range_with_len, refl, suc, text_eq, text_false, three_digits, true, two_digits, zero, ℕ, ◌%◌, ◌&&◌, ◌++◌, ◌+◌, ◌/◌, ◌<◌, ◌∙◌, ◌∷◌, ◌≡◌, ◌≤◌}
 
 -- a test that holds of the letters and of each digit holds of the whole path
 all_part : (p : ℕ → Bool) (t j : ℕ) → t < 1000 → j < 100 → list_all p (codes "part-") ≡ true → p 45 ≡ true → ((d : ℕ) → d < 10 → p (48 + d) ≡ true) → list_all p (part_path t j) ≡ true

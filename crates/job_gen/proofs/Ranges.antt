@@ -1,9 +1,5 @@
 -- The numbers below a number, and one more of them.
-use Rattle.std.proofs.Common.{◌≡◌, ℕ, zero, suc, ◌+◌, Bool, true, false, List, [], ◌∷◌, ◌++◌, map, filter, refl, sym, ap, ◌∙◌, arith, append_assoc, append-nil}
-use Rattle.job_spec.specs.Prelude.{flat_map, range_with_len}
-use Rattle.job_spec.proofs.Common.{map-append, filter-append}
-use Rattle.path_keys.proofs.Common.{flat_map-append}
-use Rattle.job_gen.specs.Made.{below}
+use Rattle.job_gen.proofs.Common.{Bool, List, [], ap, append-nil, append_assoc, arith, below, false, filter, filter-append, flat_map, flat_map-append, map, map-append, range_with_len, refl, suc, sym, true, zero, ℕ, ◌++◌, ◌+◌, ◌∙◌, ◌∷◌, ◌≡◌}
 
 range_more : (a n : ℕ) → range_with_len a (suc n) ≡ range_with_len a n ++ (a + n) ∷ []
 range_more a zero = let e : a ≡ a + 0 = omega arith in ap (λ (x : ℕ). x ∷ []) e

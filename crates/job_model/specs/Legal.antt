@@ -1,21 +1,20 @@
 -- The bounds of what a script says.
-use Rattle.std.specs.Prelude.{◌≡◌, ℕ, ◌+◌, ◌<◌, ◌≤◌, ◌^◌, Bool, true, false, List, [], ◌∷◌, ◌++◌, length, nat_lt, IfSome}
-use Rattle.std.specs.Prelude.{Some}
-use Rattle.pending_json.specs.Prelude.{list_all, is_utf8, FateMap, is_answer, is_bucket, MOST_SCRIPT_BYTES, Fate, Actor, Committer, Mode, is_job_id}
+use Rattle.std.specs.Prelude.{Bool, IfSome, List, Some, [], false, length, nat_lt, true, ℕ, ◌++◌, ◌+◌, ◌<◌, ◌^◌, ◌∷◌, ◌≡◌, ◌≤◌}
+use Rattle.pending_json.specs.Prelude.{Actor, Committer, Fate, FateMap, MOST_SCRIPT_BYTES, Mode, is_answer, is_bucket, is_job_id, is_utf8, list_all}
 use Rattle.s3_types.specs.Prelude.{IsBare}
-use Rattle.std.specs.FinMap as map
-use Rattle.s3_types.specs.declared.request.Actor.TheVariants as actor
-use Rattle.s3_types.specs.declared.request.Committer.TheVariants as committer
-use Rattle.s3_types.specs.declared.request.Mode.TheVariants as mode
 use Rattle.path_keys.specs.Paths.{Path, is_key}
 use Rattle.job_model.specs.Files.{File, has_path}
 use Rattle.job_model.specs.Attempts.{Declared, declares, is_known}
 use Rattle.job_model.specs.declared.events.Op.{Op}
-use Rattle.job_model.specs.declared.events.Op.TheVariants as op
 use Rattle.job_model.specs.declared.events.Event.{Event}
-use Rattle.job_model.specs.declared.events.Event.TheVariants as event
 use Rattle.job_model.specs.JobScript.{Script}
-use Rattle.job_model.specs.Paths.{is_path, is_hidden, is_dest_key}
+use Rattle.job_model.specs.Paths.{is_dest_key, is_hidden, is_path}
+use Rattle.std.specs.FinMap as map
+use Rattle.s3_types.specs.declared.request.Actor.TheVariants as actor
+use Rattle.s3_types.specs.declared.request.Committer.TheVariants as committer
+use Rattle.s3_types.specs.declared.request.Mode.TheVariants as mode
+use Rattle.job_model.specs.declared.events.Op.TheVariants as op
+use Rattle.job_model.specs.declared.events.Event.TheVariants as event
 
 -- a word of a script: UTF-8 without blank and LF
 abbrev pub IsScriptWord : List ℕ → Type 0

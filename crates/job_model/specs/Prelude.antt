@@ -12,51 +12,26 @@ pub use Rattle.job_model.specs.Words.{op_word}
 pub use Rattle.magic_paths.specs.Places.{is_open, is_record}
 pub use Rattle.path_keys.specs.Paths.{Path, below, bucket_in, first_fault, is_key, named, path_in, relative_in}
 pub use Rattle.path_keys.specs.declared.fault.PathFault.{PathFault}
-pub use Rattle.pending_json.specs.Pending.{Pending}
-pub use Rattle.pending_json.specs.Trees.{committer_word, pending_tree, set_tree, success_tree}
+pub use Rattle.pending_json.specs.Prelude.{Actor, Attempt, Committer, Directory, Driver, Fail, Fate, MOST_SCRIPT_BYTES, Magic, Mode, Partitioned, Pending, Replace, Shell, actor_text, committer_word, lookup, pending_tree, set_tree, success_tree}
 pub use Rattle.pending_json.specs.declared.records.PendingSet.{PendingSet}
 pub use Rattle.pending_json.specs.declared.records.SuccessMark.{SuccessMark}
-pub use Rattle.proof_base.specs.Order.{text_cmp, text_eq}
-pub use Rattle.proof_base.specs.Reading.{check, free, need, ◌>>=◌}
-pub use Rattle.s3_types.specs.Answer.{aborted, answer, apply, renamed}
-pub use Rattle.s3_types.specs.Blocks.{named_from}
-pub use Rattle.s3_types.specs.Fates.{FateMap, is_answer}
+pub use Rattle.proof_base.specs.Reading.{check, free}
+pub use Rattle.s3_types.specs.Answer.{answer}
 pub use Rattle.s3_types.specs.Moment.{effect}
-pub use Rattle.s3_types.specs.Names.{is_bucket, is_element, is_id_byte, is_job_id, trimmed}
-pub use Rattle.s3_types.specs.Pages.{begins}
-pub use Rattle.s3_types.specs.Spelling.{actor_text}
-pub use Rattle.s3_types.specs.Store.{BucketContent, Content, Scene, Uploads}
-pub use Rattle.s3_types.specs.Tags.{Spelled}
-pub use Rattle.s3_types.specs.declared.fates.Fate.{Fate}
+pub use Rattle.s3_types.specs.Prelude.{AllByRecursion, AllocError, BucketContent, Content, FateMap, IsAscii, IsBare, IsUtf8, Scene, Spelled, Uploads, aborted, apply, begins, decimal, ends_with, eq_by_cmp, filter, find, flat_map, get, is_answer, is_bucket, is_element, is_id_byte, is_job_id, is_lt, is_other, is_utf8, join_with_byte, keys_of, list_all, list_any, named_from, nat_cmp, nat_cmp_total, need, option_map, option_or, renamed, starts_with, text_cmp, text_eq, trimmed, ◌>>=◌}
 pub use Rattle.s3_types.specs.declared.journal.Entry.{Entry}
 pub use Rattle.s3_types.specs.declared.journal.Outcome.{Outcome}
 pub use Rattle.s3_types.specs.declared.journal.Outcome.TheVariants.{Answered, ReplyLost, RequestLost, Slow}
-pub use Rattle.s3_types.specs.declared.limits.TheConstants.{MOST_SCRIPT_BYTES}
 pub use Rattle.s3_types.specs.declared.object.Object.{Object}
 pub use Rattle.s3_types.specs.declared.reply.Refusal.TheVariants.{NoSuchBucket, NoSuchFile, NoSuchKey, NoSuchUpload}
 pub use Rattle.s3_types.specs.declared.reply.Reply.{Reply}
 pub use Rattle.s3_types.specs.declared.reply.Reply.TheVariants.{ClusterBytes, ClusterNames, Completed, Head, Page, Part, Refused}
-pub use Rattle.s3_types.specs.declared.request.Actor.{Actor}
-pub use Rattle.s3_types.specs.declared.request.Actor.TheVariants.{Attempt, Driver, Shell}
-pub use Rattle.s3_types.specs.declared.request.Committer.{Committer}
-pub use Rattle.s3_types.specs.declared.request.Committer.TheVariants.{Directory, Magic, Partitioned}
-pub use Rattle.s3_types.specs.declared.request.Mode.{Mode}
-pub use Rattle.s3_types.specs.declared.request.Mode.TheVariants.{Fail, Replace}
 pub use Rattle.s3_types.specs.declared.request.Request.{Request}
 pub use Rattle.s3_types.specs.declared.request.Request.TheVariants.{AbortUpload, ClusterDelete, ClusterGet, ClusterList, ClusterPut, ClusterRename, CompleteUpload, CreateUpload, DeleteObject, DeleteObjects, GetObject, HeadObject, ListPage, PutObject, UploadPart}
 pub use Rattle.s3_types.specs.declared.request.UploadRef.{UploadRef}
 pub use Rattle.std.specs.BTreeSet.{insert_key}
-pub use Rattle.std.specs.Cmp.{nat_cmp_total}
-pub use Rattle.std.specs.FinMap.{get}
-pub use Rattle.std.specs.FinMap.Entries.{find}
-pub use Rattle.std.specs.Fmt.{decimal}
-pub use Rattle.std.specs.List.{AllByRecursion, ends_with, enumerate_from, filter, flat_map, join_by, join_with_byte, list_all, list_any, remove, starts_with, zip}
-pub use Rattle.std.specs.Map.{keys_of, lookup}
-pub use Rattle.std.specs.Option.{option_map, option_or, unwrap_or}
-pub use Rattle.std.specs.Ordering.{eq_by_cmp, is_lt, nat_cmp}
-pub use Rattle.std.specs.Str.{IsAscii, IsUtf8, is_utf8}
-pub use Rattle.std.specs.declared.alloc.AllocError.{AllocError}
+pub use Rattle.std.specs.List.{enumerate_from, join_by, remove, zip}
+pub use Rattle.std.specs.Option.{unwrap_or}
 pub use Rattle.words.specs.Lines.{is_inside, lines_of, without_return}
-pub use Rattle.words.specs.Parts.{is_other}
 pub use Rattle.words.specs.Shapes.{at_most_one, one, text, two, two_and_more}
-pub use Rattle.words.specs.Words.{IsBare, IsWord, ended, is_bare, text_of, words_of}
+pub use Rattle.words.specs.Words.{IsWord, ended, is_bare, text_of, words_of}

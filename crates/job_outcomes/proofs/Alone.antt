@@ -1,6 +1,5 @@
 -- The driver's operations do not ask what an attempt knows.
-use Rattle.std.proofs.Common.{◌≡◌, List, [], ◌∷◌, refl}
-use Rattle.job_facts.specs.Prelude.{Actor, Entry, run, Follows, Retried, step, wants_of, Known, Setup, setup_asks, setup_after, Clean, clean_asks, clean_after, Commit, commit_asks, commit_tells, Setting, TheSetup, TheCommit, TheClean, wants, advance}
+use Rattle.job_outcomes.proofs.Common.{Actor, Clean, Commit, Entry, Follows, Known, List, Retried, Setting, Setup, TheClean, TheCommit, TheSetup, [], advance, clean_after, clean_asks, commit_asks, commit_tells, refl, run, setup_after, setup_asks, step, wants, wants_of, ◌∷◌, ◌≡◌}
 use Rattle.job_outcomes.specs.Alone.{at, GoAlone}
 
 module _ (g : Setting) (a : Actor) where

@@ -1,26 +1,12 @@
 -- The picks at each moment of a run.
-use Rattle.std.proofs.Common.{◌≡◌, ℕ, zero, suc, ◌+◌, ◌-◌, ◌<◌, ◌≤◌, ◌^◌, ◌⊎◌, inl, inr, ◌&&◌, ◌||◌, not, true, false, List, [], ◌∷◌, ◌++◌, length, take, Option, Some, None, refl, sym, ap, subst, ◌∙◌, arith, length-append}
-use Rattle.job_facts.specs.Prelude.{is_some, option_map, Content, Scene, answer, after_all, moment, IsHonestOutcome, Driver, Request, Outcome, Entry, PendingSet, IsLegal, Script, CommitEnd, Picks, same_path, picked_below, is_picked, is_clash, is_decided, view, Sets, picks_of, Commit, CommitOver, commit_tells, Setting, Operation, TheSetup, TheWrite, TheTaskCommit, TheTaskAbort, TheCommit, TheClean, who, asks, commit_due, end_or, Same, Always, is_untouched, Seen, see, is_begun, see_all, seen, nothing_seen, Told, entry, driver_entry, strange_entry, Times, TheCheck, TheSparing}
-use Rattle.job_spec.proofs.Common.{and_parts, some_is, none_some, false_true, true_or_false, same_or_not}
+use Rattle.job_outcomes.proofs.Common.{At, CommitStands, IsDue, IsOpening, IsTimely, List, None, Option, PicksGrow, Runs, Some, Stand, [], and-false, ap, arith, check_plain, clean_plain, closed_picks, each_run, entry_picks, false, false_true, good, inl, inr, length, length-append, none_some, not, nothing_learnt, one_scene, plain_picks, refl, same_or_not, same_picked, see_more, sees, setup_plain, slice_get_past, some_is, subst, suc, sym, take, take-append-add, take_all, true, true_or_false, zero, ℕ, ◌&&◌, ◌++◌, ◌+◌, ◌-◌, ◌<◌, ◌^◌, ◌||◌, ◌∙◌, ◌∷◌, ◌≡◌, ◌≤◌, ◌⊎◌}
+use Rattle.proof_base.proofs.Common.{and_parts, cases_lt, take-append-le}
+use Rattle.job_facts.specs.Prelude.{Always, Commit, CommitEnd, CommitOver, Content, Driver, Entry, IsHonestOutcome, IsLegal, Operation, Outcome, PendingSet, Picks, Request, Same, Scene, Script, Seen, Sets, Setting, TheCheck, TheClean, TheCommit, TheSetup, TheSparing, TheTaskAbort, TheTaskCommit, TheWrite, Times, Told, after_all, answer, asks, commit_due, commit_tells, driver_entry, end_or, entry, is_begun, is_clash, is_decided, is_picked, is_some, is_untouched, moment, nothing_seen, option_map, picked_below, picks_of, same_path, see, see_all, seen, strange_entry, view, who}
+use Rattle.job_outcomes.specs.CommitMoments.{CommitMoments, NoneRead}
+use Rattle.job_outcomes.proofs.Shared.{same_shared}
+use Rattle.job_outcomes.proofs.CommitRuns.{attempts_leave, picks_on, stood}
 use Rattle.job_model.specs.declared.ends.CommitEnd.TheVariants as commits
 use Rattle.job_model.specs.declared.ends.Stage.TheVariants as stages
-use Rattle.job_traces.specs.Runs.{Stand, Runs, IsOpening, IsTimely, nothing_learnt}
-use Rattle.job_facts.proofs.Wanted.{same_picked}
-use Rattle.job_traces.proofs.Running.{At}
-use Rattle.job_traces.proofs.Entries.{take_all, see_more, sees}
-use Rattle.job_traces.proofs.Plain.{one_scene, plain_picks, closed_picks, setup_plain, clean_plain, entry_picks}
-use Rattle.job_traces.proofs.Folds.{each_run}
-use Rattle.std.proofs.Math.Bool.{and-false}
-use Rattle.std.proofs.Math.Seq.{take-append-add}
-use Rattle.std.proofs.lemmas.Bool.{cases_lt}
-use Rattle.std.proofs.lemmas.List.{take-append-le}
-use Rattle.std.proofs.lemmas.Option.{slice_get_past}
-use Rattle.job_traces.proofs.EveryRun.{good}
-use Rattle.job_outcomes.specs.CommitRuns.{IsDue, CommitStands, PicksGrow}
-use Rattle.job_outcomes.specs.CommitMoments.{NoneRead, CommitMoments}
-use Rattle.job_outcomes.proofs.Shared.{same_shared}
-use Rattle.job_outcomes.proofs.CommitRuns.{stood, picks_on, attempts_leave}
-use Rattle.job_facts.proofs.Sharing.{check_plain}
 
 -- ---- the scene that is seen
 

@@ -1,10 +1,7 @@
 -- Entries whose events never fall, cut before an event and behind one.
-use Rattle.std.proofs.Common.{◌≡◌, ℕ, ◌+◌, ◌<◌, ◌≤◌, inl, inr, nat_lt, nat_le, nat_eq, ◌&&◌, Bool, true, false, cond, List, [], ◌∷◌, ◌++◌, length, take, refl, sym, ap, subst, ◌∙◌, arith}
-use Rattle.job_facts.specs.Prelude.{filter, Content, Scene, effect, after_all, moment, AreHonest, IsHonest, Actor, Attempt, Entry, same_actor, until, before, since, by_actor, AllBy, AllFrom, IsRising}
+use Rattle.job_outcomes.proofs.Common.{Actor, AllBy, AllFrom, AreHonest, Attempt, Bool, Content, Entry, IsHonest, IsRising, List, Scene, [], above_so, after_all, ap, arith, at_most_not, at_most_so, before, by_actor, cond, effect, false, filter, inl, inr, length, moment, nat_eq, nat_le, nat_lt, nat_tests, nat_true, refl, same_actor, since, subst, sym, take, take-append_seam, true, true_or_false, until, ℕ, ◌&&◌, ◌++◌, ◌+◌, ◌<◌, ◌∙◌, ◌∷◌, ◌≡◌, ◌≤◌}
 use Rattle.path_keys.proofs.Common.{below_is, below_not}
-use Rattle.job_spec.proofs.Common.{at_most_so, at_most_not, above_so, true_or_false, nat_tests, nat_true}
 use Rattle.s3_types.specs.Store.{opening as opening_scene}
-use Rattle.std.proofs.Math.Seq.{take-append_seam}
 use Rattle.job_outcomes.specs.EventRows.{EventRows}
 use Rattle.job_traces.proofs.Changes.{after_parts}
 

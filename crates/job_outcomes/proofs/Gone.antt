@@ -1,20 +1,14 @@
 -- In a run, until the driver's abort or clean has begun an attempt's write or commit finds nothing gone, and a commit that is done has published.
-use Rattle.std.proofs.Common.{◌≡◌, ℕ, inl, inr, Bool, true, false, List, [], ◌∷◌, Option, Some, None, refl, sym, ap, subst, ◌∙◌, arith}
-use Rattle.job_facts.specs.Prelude.{option_map, Content, Committer, Magic, Entry, fresh, Who, actor_of, File, Known, IsLegal, Op, TaskEnd, OpEnd, setup_over, commit_over, clean_over, Setting, Operation, TheSetup, TheWrite, TheTaskCommit, TheTaskAbort, TheCommit, TheClean, start_of, over, files, has_cleaned, WasPublished, Seen, until_last, NotGone, WriteStands, CommitStandsBy, Told, nothing_told, Times, TheCheck, TheSparing}
-use Rattle.job_spec.proofs.Common.{some_is, none_some, false_true, true_or_false}
+use Rattle.job_outcomes.proofs.Common.{Bool, CommitStandsBy, Committer, Content, Entry, File, IsLegal, IsOpening, Known, List, Magic, None, NotGone, Op, OpEnd, Operation, Option, Own, Runs, Seen, Setting, Some, Stand, StandsBy, TaskEnd, TheCheck, TheClean, TheCommit, TheSetup, TheSparing, TheTaskAbort, TheTaskCommit, TheWrite, Times, Told, WasPublished, Who, WriteStands, [], actor_of, ap, arith, check_over, clean_over, commit_over, false, false_true, files, fresh, has_cleaned, has_published, inl, inr, longer_published, none_some, nothing_told, option_map, over, refl, setup_over, some_is, standing, start_of, subst, sym, tells_so, true, true_or_false, until_last, ℕ, ◌∙◌, ◌∷◌, ◌≡◌}
 use Rattle.job_model.specs.declared.events.Op.TheVariants as ops
 use Rattle.job_model.specs.declared.ends.TaskEnd.TheVariants as tasks
 use Rattle.job_model.specs.declared.ends.OpEnd.TheVariants as ends
 use Rattle.job_protocol.specs.Writes as writes
 use Rattle.job_protocol.specs.TaskCommits as commits
-use Rattle.job_traces.specs.Runs.{Runs, Stand, IsOpening}
-use Rattle.job_traces.proofs.Entries.{tells_so}
 use Rattle.job_facts.proofs.Learnt.{cleaned_is}
-use Rattle.job_traces.proofs.Published.{Own, StandsBy, standing, has_published, longer_published}
 use Rattle.job_outcomes.specs.TaskEnds.{is_abort}
 use Rattle.job_outcomes.proofs.TaskEnds.{commit_going}
 use Rattle.job_outcomes.proofs.RunEntries.{at_last, behind_last}
-use Rattle.job_protocol.specs.Rechecks.{check_over}
 use Rattle.job_protocol.specs.Sparing.{sparing_over}
 
 module _ (g : Setting) (k : Times) (opening : Content) (j : IsLegal g.script) (is_opening : IsOpening g opening) where

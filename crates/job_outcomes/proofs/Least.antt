@@ -1,12 +1,6 @@
 -- The first file that is shown among the keys below a destination, as they are listed page by page.
-use Rattle.std.proofs.Common.{◌≡◌, ℕ, ◌⊎◌, inl, inr, Bool, true, false, cond, List, [], ◌∷◌, ◌++◌, Option, Some, None, refl, sym, ap, ◌∙◌, arith, codes, append_assoc}
-use Rattle.job_facts.specs.Prelude.{Ordering, Equal, is_lt, nat_cmp, ordering_then, text_cmp, text_total, below, relative_in, begins, IsLegal, Script, is_file_path, dest_prefix, shown_path, or_next, first_shown, IsIn, RisesFrom, last_from}
-use Rattle.job_protocol.specs.Prelude.{ordering_reverse}
-use Rattle.path_keys.proofs.Common.{nat_cmp_total, irrefl}
-use Rattle.job_spec.proofs.Common.{lt_not, le_lt, begins_back, below_is, some_is, none_some, true_or_false, false_true}
+use Rattle.job_outcomes.proofs.Common.{Bool, Equal, IsIn, IsLegal, List, None, Option, Ordering, RisesFrom, Script, Some, [], ap, append_assoc, arith, begins, begins_back, behind, below, below_is, codes, cond, dest_prefix, false, false_true, first_shown, inl, inr, irrefl, is_file_path, is_lt, last_from, le_lt, lt_not, nat_cmp, nat_cmp_total, none_some, or_next, ordering_reverse, ordering_then, refl, relative_in, shown_path, some_dest, some_is, sym, text_cmp, text_total, true, true_or_false, ℕ, ◌++◌, ◌∙◌, ◌∷◌, ◌≡◌, ◌⊎◌}
 use Rattle.path_keys.proofs.Beneath.{behind_some}
-use Rattle.store_frame.proofs.Flat.{behind}
-use Rattle.job_facts.proofs.Legal.{some_dest}
 use Rattle.proof_base.proofs.Less.{equal_self}
 
 -- a common front does not matter

@@ -14,3 +14,4 @@ pub mod RunEntries
 pub mod CommitMoments
 pub mod Served
 pub mod EventRows
+mod Common

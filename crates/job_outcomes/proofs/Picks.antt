@@ -1,15 +1,6 @@
 -- The picks that are seen after one more entry of the driver's commit.
-use Rattle.std.proofs.Common.{◌≡◌, ℕ, zero, suc, ◌<◌, ◌≤◌, ◌^◌, ◌⊎◌, inl, inr, ◌&&◌, Bool, true, false, cond, List, [], ◌∷◌, ◌++◌, length, slice_get, Option, Some, None, refl, sym, ap, subst, ◌∙◌, arith}
-use Rattle.job_facts.specs.Prelude.{option_map, answer, read_answer, IsHonestOutcome, Object, Committer, Magic, Request, Reply, Refused, NoSuchKey, NoSuchFile, Outcome, Answered, SetPlace, key_at, PendingSet, IsLegal, files_set, Script, Picks, Sets, picks_of, set_request, set_read, Commit, Fetching, CommitOver, fetched, commit_asks, commit_tells, Setting, Seen, see, picks_by, Told, driver_entry, at_place, sets_at, set_at, Hold, knowing, Decides, Times, is_picking}
-use Rattle.job_spec.proofs.Common.{some_is, none_some, same_or_not, none_or_some}
+use Rattle.job_outcomes.proofs.Common.{Answered, ArePicks, Bool, Commit, CommitOver, Committer, Decides, Fetching, Hold, IsAt, IsHonestOutcome, IsLegal, List, Magic, NoSuchFile, NoSuchKey, None, Object, Option, Outcome, PendingSet, Picks, PicksGrow, Refused, Reply, Request, Script, Seen, SetPlace, Sets, Setting, Some, Times, Told, [], and-false, answer, answer_is, ap, arith, at_place, commit_asks, commit_tells, commit_unread, cond, driver_entry, false, fetched, files_set, inl, inr, is_picking, key_at, key_before, knowing, length, none_or_some, none_some, option_map, picks_by, picks_of, plain_picks, read_answer, reads_it, reads_other, refl, same_or_not, see, set_answered, set_at, set_read, set_request, sets_at, slice_get, slice_get_past, some_is, subst, suc, sym, true, zero, ℕ, ◌&&◌, ◌++◌, ◌<◌, ◌^◌, ◌∙◌, ◌∷◌, ◌≡◌, ◌≤◌, ◌⊎◌}
 use Rattle.s3_types.specs.Answer.{found}
-use Rattle.job_facts.proofs.Shapes.{answer_is, key_before}
-use Rattle.job_facts.proofs.Replies.{set_answered}
-use Rattle.job_facts.proofs.Reading.{reads_it, reads_other}
-use Rattle.job_traces.proofs.Plain.{plain_picks, commit_unread}
-use Rattle.std.proofs.Math.Bool.{and-false}
-use Rattle.std.proofs.lemmas.Option.{slice_get_past}
-use Rattle.job_outcomes.specs.CommitRuns.{IsAt, ArePicks, PicksGrow}
 use Rattle.job_outcomes.proofs.CommitSteps.{at_fetching, IsRead, at_tells}
 use Rattle.proof_base.proofs.Lists.{slice_last}
 

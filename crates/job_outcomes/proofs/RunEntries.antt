@@ -1,16 +1,9 @@
 -- Whose the entries of a run are.
-use Rattle.std.proofs.Common.{◌≡◌, ℕ, zero, suc, ◌≤◌, ◌⊎◌, inl, inr, ◌||◌, Bool, true, false, cond, List, [], ◌∷◌, ◌++◌, slice_get, Option, Some, None, refl, sym, ap, subst, ◌∙◌, arith}
-use Rattle.job_facts.specs.Prelude.{filter, list_any, Content, Actor, Driver, Request, Outcome, Entry, Who, actor_of, Script, Known, Op, Setup, SetupOver, setup_asks, Setting, Operation, TheSetup, TheCommit, TheClean, who, asks, tells, start_of, is_begun, by_actor, until_last, AllBy, AllUpTo, is_own, own, same_actor, known, put_who, entry, driver_entry, strange_entry, Times, TheCheck, TheSparing, commit_of, step}
+use Rattle.job_outcomes.proofs.Common.{Actor, AllBy, AllUpTo, BeginAbort, BeginClean, BeginCommit, BeginPublish, BeginSetup, BeginWrite, Beginning, Bool, Content, Driver, Entry, IsTimely, Known, List, MayBegin, MaySetUp, None, Op, Operation, Option, Outcome, Request, Runs, Script, Setting, Setup, SetupOver, Some, Stand, TheCheck, TheClean, TheCommit, TheSetup, TheSparing, Times, Who, [], actor_of, after_check_so, ap, arith, asks, attempt_sends, begin, by_actor, check_after, clean_of_so, commit_alone, commit_of, commit_of_so, commit_with, cond, driver_entry, each_run, entry, false, filter, inl, inr, is_begun, is_done, is_just_set, is_own, is_set, known, list_any, longer_published, nothing_learnt, or-false, or-true, own, put_who, refl, same_actor, setup_asks, slice_get, start_of, step, strange_entry, subst, suc, sym, tells, true, until_last, who, zero, ℕ, ◌++◌, ◌||◌, ◌∙◌, ◌∷◌, ◌≡◌, ◌≤◌, ◌⊎◌}
 use Rattle.job_spec.proofs.Common.{append-nil, filter-append, list_any-append, some_is, none_some, false_true}
 use Rattle.job_model.specs.declared.events.Op.TheVariants as ops
-use Rattle.job_traces.specs.Runs.{Stand, Runs, attempt_sends, is_set, is_done, is_just_set, MaySetUp, IsTimely, commit_with, nothing_learnt, Beginning, BeginSetup, BeginCommit, BeginClean, BeginWrite, BeginPublish, BeginAbort, begin, MayBegin}
 use Rattle.job_facts.proofs.Whose.{same_or_another, who_true, who_false, who_here, who_other}
 use Rattle.job_outcomes.specs.RunEntries.{RunEntries}
-use Rattle.job_traces.proofs.Folds.{each_run}
-use Rattle.job_protocol.proofs.Begun.{after_check_so, commit_of_so, clean_of_so, commit_alone}
-use Rattle.job_protocol.specs.Rechecks.{check_after}
-use Rattle.job_traces.proofs.Published.{longer_published}
-use Rattle.std.proofs.Math.Bool.{or-false, or-true}
 
 -- ---- up to an actor's last entry
 

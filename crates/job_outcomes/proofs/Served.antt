@@ -1,34 +1,14 @@
 -- What the driver's commit is answered in every run: a completion finds no upload only where an earlier sending of it was lost, and a read of a set finds it where its task has a last publisher.
-use Rattle.std.proofs.Common.{◌≡◌, ℕ, ◌≤◌, ◌^◌, ◌⊎◌, inl, inr, ◌&&◌, ◌||◌, true, false, List, [], ◌∷◌, ◌++◌, length, Option, Some, None, IsSome, is_some, refl, sym, ap, subst, ◌∙◌, arith}
-use Rattle.job_facts.specs.Prelude.{list_any, named_from, Content, live, with_key, joined, answer, complete_answer, IsHonestOutcome, Driver, Request, Refusal, NoSuchUpload, Reply, Refused, Outcome, Answered, Entry, Pending, IsLegal, Script, Listing, Turn, again, follow, dealt, nth, completion, In, Tabled, Sets, all_commits, set_request, set_read, Commit, Fetching, Replacing, Completing, Reverting, CommitOver, commit_start, commit_asks, stage_of, Setting, Operation, TheSetup, TheCommit, TheClean, who, asks, was_lost, Seen, is_reading, Told, entry, driver_entry, strange_entry, Hold, Gone, Reads, Times, TheCheck, is_begun, step, TheSparing}
-use Rattle.job_spec.proofs.Common.{list_any-append, same_self, some_is, none_some, false_true, true_or_false}
-use Rattle.job_spec.specs.Prelude.{same_request}
+use Rattle.job_outcomes.proofs.Common.{Answered, ArePicks, BeginClean, BeginCommit, BeginSetup, Beginning, Commit, CommitAnswers, CommitOver, Completing, Content, Driver, DriverKeeps, Entry, Fetching, Gone, Hold, In, IsHonestOutcome, IsLegal, IsOpening, IsSome, IsTimely, List, Listing, NoSuchUpload, None, Operation, Option, Outcome, Pending, Reads, Refusal, Refused, Replacing, Reply, Request, Reverting, Runs, Script, Seen, Sets, Setting, Some, Stand, Tabled, TheCheck, TheClean, TheCommit, TheSetup, TheSparing, Times, Told, Turn, Unpublished, [], after_check_so, again, all_commits, answer, answer_is, ap, arith, asks, begin, check_after, check_plain, check_unsent, clean_of_so, clean_plain, commit_asks, commit_is, commit_of_so, commit_picks, commit_start, commit_unread, complete_answer, completed, completion, dealt, driver_entry, each_run, entry, false, false_true, follow, id_before, in_commit, inl, inr, is_begun, is_lost, is_reading, is_some, joined, length, list_any, list_any-append, live, named_from, none_some, nothing_learnt, nth, or-true, read_stage, reads_it, refl, same_request, same_self, sees, set_read, set_request, setup_plain, some_is, stage_of, step, strange_entry, subst, sym, true, true_or_false, turn_answered, was_lost, who, with_key, ℕ, ◌&&◌, ◌++◌, ◌^◌, ◌||◌, ◌∙◌, ◌∷◌, ◌≡◌, ◌≤◌, ◌⊎◌}
 use Rattle.job_model.specs.declared.ends.Stage.TheVariants as stages
-use Rattle.job_protocol.proofs.LaneEnds.{read_stage}
 use Rattle.job_protocol.proofs.Members.{in_append, in_push}
 use Rattle.job_protocol.proofs.Tables.{dealt_fresh, follow_cases}
-use Rattle.job_spec.specs.OperationEnds.{is_lost}
 use Rattle.job_facts.specs.Turning.{Turns}
-use Rattle.job_traces.specs.Runs.{Stand, Runs, Beginning, BeginSetup, BeginCommit, BeginClean, begin, IsOpening, IsTimely, nothing_learnt}
 use Rattle.job_facts.proofs.Held.{nth_of, of_sets}
-use Rattle.job_facts.proofs.Replies.{completed}
-use Rattle.job_facts.proofs.Shapes.{id_before, answer_is}
-use Rattle.job_facts.proofs.Turning.{turn_answered}
-use Rattle.job_facts.proofs.Reading.{reads_it}
-use Rattle.job_traces.proofs.Entries.{in_commit, sees}
-use Rattle.job_traces.proofs.Steps.{commit_picks}
 use Rattle.job_traces.proofs.Leads.{Enters, deals, enters, Leads, fetches, deals_then, completes, completes_again, leads}
-use Rattle.job_traces.proofs.Plain.{setup_plain, clean_plain, commit_unread}
-use Rattle.job_traces.proofs.Folds.{DriverKeeps, each_run, commit_is}
-use Rattle.job_outcomes.specs.CommitRuns.{ArePicks, Unpublished, CommitAnswers}
 use Rattle.job_outcomes.proofs.Picks.{brings}
 use Rattle.job_outcomes.proofs.CommitRuns.{stood}
 use Rattle.job_outcomes.proofs.CommitMoments.{no_driver}
-use Rattle.job_protocol.proofs.Begun.{after_check_so, commit_of_so, clean_of_so}
-use Rattle.job_protocol.specs.Rechecks.{check_after}
-use Rattle.job_facts.proofs.Sharing.{check_plain}
-use Rattle.job_traces.proofs.EveryRun.{check_unsent}
-use Rattle.std.proofs.Math.Bool.{or-true}
 
 -- ---- a fact of each of a list's members, by those before it
 

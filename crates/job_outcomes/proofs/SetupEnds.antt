@@ -1,20 +1,12 @@
 -- How the driver's set-up ends, by its entries alone.
-use Rattle.std.proofs.Common.{◌≡◌, ℕ, inl, inr, nat_lt, Bool, true, false, cond, List, [], ◌∷◌, ◌++◌, take, length, Option, Some, None, IsSome, refl, sym, ap, subst, ◌∙◌, arith}
+use Rattle.job_outcomes.proofs.Common.{Bool, IsFree, IsLeastShown, IsSome, List, None, Option, SetupEnds, Some, TooManyKeys, [], answer_is, ap, arith, checked, cond, counted_first, false, false≢true, in_back, in_front, inl, inr, key_before, lacks_bucket, last_append, le_lt, length, lt_not, nat_lt, none_or_some, none_some, page_all, page_begins, page_covers, page_rises, reads_nothing, refl, some_is, subst, sym, take, true, ℕ, ◌++◌, ◌∙◌, ◌∷◌, ◌≡◌}
 use Rattle.job_facts.specs.Prelude.{is_some, option_map, is_lt, text_cmp, text_total, BucketContent, Content, Scene, listed, answer, answer_at, apply, head, after_all, AreHonest, Object, Magic, Request, HeadObject, DeleteObject, Reply, Page, Deleted, Refused, PageEntry, Entry, Answered, ReplyLost, MOST_ENTRIES, below, magic_prefix, success_key, run, Follows, fresh, step, wants_of, worn_in, WornFirst, IsLegal, Script, SetupEnd, view, is_file_path, checks_all, Sweep, Listing, Deleting, sweep_asks, walked_by, keys_on, last_of, page_after, sweep_hears, all_go, Setup, Heading, Clearing, Sweeping, SetupOver, dest_prefix, if_bucket, headed, checked_on, checked_by, first_shown, cleared, setup_start, setup_asks, setup_hears, setup_after, setup_over, over, SetupIs, last_from, HasBucket, at_key, ThoseOrBehind}
-use Rattle.job_spec.proofs.Common.{false≢true, lt_not, le_lt, counted_first, some_is, none_some, none_or_some, in_front, in_back}
-use Rattle.job_spec.specs.Prelude.{TooManyKeys, IsFree}
-use Rattle.job_protocol.specs.Prelude.{lacks_bucket, checked}
 use Rattle.std.specs.FinMap as fin
 use Rattle.job_model.specs.declared.ends.OpEnd.TheVariants as op_ends
 use Rattle.job_model.specs.declared.ends.SetupEnd.TheVariants as setups
 use Rattle.job_protocol.specs.Setup.{Checking, sweeping}
-use Rattle.job_spec.specs.OperationEnds.{IsLeastShown}
-use Rattle.store_frame.proofs.Flat.{page_rises, page_begins, page_covers, page_all, last_append}
-use Rattle.store_frame.proofs.Reading.{reads_nothing}
 use Rattle.job_facts.proofs.Emptying.{last_so, still_there}
-use Rattle.job_facts.proofs.Shapes.{key_before, answer_is}
 use Rattle.job_facts.proofs.JobCommitting.{dest_below}
-use Rattle.job_outcomes.specs.SetupEnds.{SetupEnds}
 use Rattle.job_outcomes.proofs.Alone.{setup_follows, setup_run}
 use Rattle.job_outcomes.proofs.Went.{went}
 use Rattle.job_outcomes.proofs.SetupListed.{setup_listed}

@@ -1,11 +1,7 @@
 -- How the driver's set-up ends by what its pages listed, whoever else sends.
-use Rattle.std.proofs.Common.{◌≡◌, ℕ, zero, suc, Bool, true, false, cond, List, [], ◌∷◌, ◌++◌, append-nil, append_assoc, Option, Some, None, refl, sym, ap, subst, ◌∙◌, arith}
-use Rattle.job_spec.proofs.Common.{false≢true, counted_first, some_is, none_some, if_bucket_so}
-use Rattle.job_facts.specs.Prelude.{Committer, Magic, Request, Reply, Page, Refused, NoSuchBucket, Outcome, Answered, Slow, Entry, run, Follows, Retried, fresh, step, unanswered_by, wants_of, is_zero, worn_in, WornFirst, Script, SetupEnd, checks_all, keys_on, page_after, walked_by, sweep_hears, all_go, Setup, Heading, Clearing, Sweeping, SetupOver, dest_prefix, headed, checked_on, checked_by, first_shown, cleared, setup_start, setup_asks, setup_hears, setup_after, setup_over}
-use Rattle.job_spec.specs.Prelude.{Head}
+use Rattle.job_outcomes.proofs.Common.{Answered, Bool, Clearing, Committer, Entry, Follows, Head, Heading, List, Magic, NoSuchBucket, None, Option, Outcome, Page, Refused, Reply, Request, Retried, Script, Setup, SetupEnd, SetupListed, SetupOver, Slow, Some, Sweeping, WornFirst, [], all_go, ap, append-nil, append_assoc, arith, checked_by, checked_on, checks_all, cleared, cond, counted_first, dest_prefix, false, false≢true, first_shown, fresh, headed, if_bucket_so, is_zero, keys_listed, keys_on, keys_told, none_some, page_after, refl, run, setup_after, setup_asks, setup_hears, setup_over, setup_start, some_is, step, subst, suc, sweep_hears, sym, true, unanswered_by, walked_by, wants_of, worn_in, zero, ℕ, ◌++◌, ◌∙◌, ◌∷◌, ◌≡◌}
 use Rattle.job_model.specs.declared.ends.SetupEnd.TheVariants as setups
 use Rattle.job_protocol.specs.Setup.{Checking, sweeping}
-use Rattle.job_outcomes.specs.SetupEnds.{keys_told, keys_listed, SetupListed}
 use Rattle.job_outcomes.proofs.Least.{shown_later}
 
 module _ (w : Script) where

@@ -1,9 +1,5 @@
 -- Picks that are the same of all tasks share the same path.
-use Rattle.std.proofs.Common.{◌≡◌, ℕ, zero, suc, ◌+◌, ◌-◌, ◌<◌, ◌≤◌, Bool, cond, List, [], ◌∷◌, Option, Some, None, refl, ap, ◌∙◌, arith}
-use Rattle.job_facts.specs.Prelude.{option_map, Script, Picks, files_picked, paths_of, wanted_paths, writes, two_where, shared_by, first_shared, same_path, has_path}
-use Rattle.job_spec.specs.Prelude.{first_where}
-use Rattle.job_protocol.specs.Prelude.{second_where}
-use Rattle.job_facts.proofs.Wanted.{same_wanted}
+use Rattle.job_outcomes.proofs.Common.{Bool, List, None, Option, Picks, Script, Some, [], ap, arith, cond, files_picked, first_shared, first_where, has_path, option_map, paths_of, refl, same_path, same_wanted, second_where, shared_by, suc, two_where, wanted_paths, writes, zero, ℕ, ◌+◌, ◌-◌, ◌<◌, ◌∙◌, ◌∷◌, ◌≡◌, ◌≤◌}
 
 first_same : (a b : ℕ → Bool) (t n : ℕ) → ((u : ℕ) → t ≤ u → u < t + n → a u ≡ b u) → first_where a t n ≡ first_where b t n
 first_same a b t zero h = refl

@@ -1,8 +1,6 @@
 -- An operation of replies, by entries in a row: what holds as it begins holds at its end, or a request of it wore out.
-use Rattle.std.proofs.Common.{◌≡◌, ℕ, zero, suc, ◌⊎◌, inl, inr, Bool, true, cond, List, [], ◌∷◌, Option, Some, None, refl, ap, ◌∙◌, arith}
-use Rattle.job_facts.specs.Prelude.{Scene, answer, apply, effect, after_all, IsHonestOutcome, AreHonest, Request, Reply, Outcome, Answered, Slow, RequestLost, ReplyLost, Entry, run, Follows, Item, Got, WornOut, Retried, step, unanswered_by, wants_of, is_zero, worn_in}
+use Rattle.job_outcomes.proofs.Common.{Answered, AreHonest, Bool, Entry, Follows, Got, IsHonestOutcome, Item, List, None, Option, Outcome, Reply, ReplyLost, Request, RequestLost, Retried, Scene, Slow, Some, WornOut, [], after_all, answer, ap, apply, arith, cond, effect, inl, inr, is_zero, none_some, refl, run, step, suc, true, unanswered_by, wants_of, worn_in, zero, ℕ, ◌∙◌, ◌∷◌, ◌≡◌, ◌⊎◌}
 use Rattle.retries.specs.Prelude.{wears}
-use Rattle.job_spec.proofs.Common.{none_some}
 
 module _ {M : Type 0} (retries : ℕ) (asks : M → Option Request) (after : M → Item → M) (holds : Scene → M → Type 0)
     (heard : (s : Scene) (m : M) → holds s m → (r : Request) → asks m ≡ Some r → (x : Reply) (repeated : Bool) → x ≡ answer s r → holds (apply s r) (after m (Got x repeated)))

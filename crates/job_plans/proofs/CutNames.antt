@@ -1,7 +1,5 @@
 -- A name with a job's id, by where it is cut, and a path by its last element.
-use Rattle.std.proofs.Common.{◌≡◌, ℕ, ◌==◌, not, Bool, true, false, List, [], ◌∷◌, ◌++◌, refl, sym, ap, ◌∙◌, append_assoc}
-use Rattle.job_protocol.specs.Prelude.{list_all, join_with_byte, with_id, with_id_last, unique_name}
-use Rattle.path_keys.proofs.Common.{and_parts, true≢false, some_part, join_parts, parts_append, one_part}
+use Rattle.job_plans.proofs.Common.{Bool, List, [], and_parts, ap, append_assoc, false, join_parts, join_with_byte, list_all, not, one_part, parts_append, refl, some_part, sym, true, true≢false, unique_name, with_id, with_id_last, ℕ, ◌++◌, ◌==◌, ◌∙◌, ◌∷◌, ◌≡◌}
 use Rattle.job_model.specs.Prelude.{is_other}
 use Rattle.words.specs.Parts.{parts_of}
 

@@ -1,7 +1,5 @@
 -- The files of a legal script at the paths where they go: each path stands once.
-use Rattle.std.proofs.Common.{◌≡◌, ℕ, ◌+◌, inl, inr, Bool, true, false, cond, is_some, List, [], ◌∷◌, ◌++◌, length, Some, refl, sym, ap, subst, ◌∙◌, append_assoc}
-use Rattle.job_protocol.specs.Prelude.{lookup, text_eq, is_job_id, File, has_path, IsGiven, AreFiles, bytes_of, path_of, placed, IsPlaced, ArePlaced}
-use Rattle.path_keys.proofs.Common.{append-nil, map-append, length-map, text_is, text_true, false_true}
+use Rattle.job_plans.proofs.Common.{AreFiles, ArePlaced, Bool, File, IsGiven, IsPlaced, List, Some, [], ap, append-nil, append_assoc, bytes_of, cond, false, false_true, has_path, inl, inr, is_job_id, is_some, length, length-map, lookup, map-append, path_of, placed, refl, subst, sym, text_eq, text_is, text_true, true, ℕ, ◌++◌, ◌+◌, ◌∙◌, ◌∷◌, ◌≡◌}
 use Rattle.job_model.proofs.Unique.{path_same}
 
 -- a file at its path

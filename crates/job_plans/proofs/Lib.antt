@@ -2,3 +2,4 @@ pub mod CutNames
 pub mod FilePlans
 pub mod PlanBounds
 pub mod Reports
+mod Common

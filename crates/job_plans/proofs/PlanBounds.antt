@@ -1,6 +1,5 @@
 -- The plans that a legal script gives keep their bounds.
-use Rattle.std.proofs.Common.{◌≡◌, ℕ, zero, suc, ◌<◌, ◌≤◌, List, [], ◌∷◌, ◌++◌, length, slice_get, Option, Some, refl, sym, subst, ap, ◌∙◌, arith}
-use Rattle.job_protocol.specs.Prelude.{lookup, unwrap_or, option_map, MOST_MINIMUM, MOST_SCRIPT_BYTES, File, Who, Declared, same_name, Job, Task, Known, nothing_known, Script, IsLegal, AreFiles, AreAttempts, files_in, bytes_of, bytes_in, placed, IsTask, job_of, task_of, files}
+use Rattle.job_plans.proofs.Common.{AreAttempts, AreFiles, Declared, File, IsLegal, IsTask, Job, Known, List, MOST_MINIMUM, MOST_SCRIPT_BYTES, Option, Script, Some, Task, Who, [], ap, arith, bytes_in, bytes_of, files, files_in, job_of, length, lookup, nothing_known, option_map, placed, refl, same_name, slice_get, subst, suc, sym, task_of, unwrap_or, zero, ℕ, ◌++◌, ◌<◌, ◌∙◌, ◌∷◌, ◌≡◌, ◌≤◌}
 use Rattle.job_plans.specs.AtPlace.{task_at}
 use Rattle.job_plans.proofs.FilePlans.{are_placed, as_many, as_long}
 

@@ -1,10 +1,6 @@
 -- The paths of the files of reported attempts, attempt by attempt.
-use Rattle.std.proofs.Common.{◌≡◌, ℕ, zero, suc, ◌+◌, Bool, true, false, cond, List, [], ◌∷◌, ◌++◌, map, take, get_or, slice_get, Option, Some, refl, sym, ap, ◌∙◌, arith}
+use Rattle.job_plans.proofs.Common.{Bool, Declared, File, List, Option, Script, Some, Who, [], ap, append-nil, arith, cond, false, files, files_of_all, get_or, lookup, map, map-append, option_map, placed, refl, same_name, slice_get, suc, sym, take, those, true, unwrap_or, zero, ℕ, ◌++◌, ◌+◌, ◌∙◌, ◌∷◌, ◌≡◌}
 use Rattle.std.proofs.lemmas.Grind.{flat_map-append}
-use Rattle.path_keys.proofs.Common.{append-nil, map-append}
-use Rattle.job_protocol.specs.Prelude.{lookup, unwrap_or, option_map, same_name, File, Who, Declared, Script, placed, files}
-use Rattle.job_protocol.specs.Rechecks.{files_of_all}
-use Rattle.job_plans.specs.Reported.{those}
 
 -- one attempt more, which is reported
 those_more : (ds : List Declared) (bs : List Bool) (i : ℕ) (d : Declared) → slice_get ds i ≡ Some d → get_or bs i false ≡ true → those (take (suc i) ds) (take (suc i) bs) ≡ those (take i ds) (take i bs) ++ d.0 ∷ []

@@ -1,7 +1,5 @@
 -- What holds of each operation with which a commit, a commit behind its check, or an abort or clean of a job may begin.
-use Rattle.std.proofs.Common.{◌≡◌, ap, ℕ, Bool, true, false, Option, None, cond}
-use Rattle.job_protocol.specs.Prelude.{Mode, Fail, Retried, Setting, Operation, TheCommit, TheClean, TheCheck, TheSparing, Reports, after_check, after_check_by, commit_by, commit_of, clean_of, commit_start}
-use Rattle.retries.specs.Prelude.{fresh}
+use Rattle.job_protocol.proofs.Common.{Bool, Fail, Mode, None, Operation, Option, Reports, Retried, Setting, TheCheck, TheClean, TheCommit, TheSparing, after_check, after_check_by, ap, clean_of, commit_by, commit_of, commit_start, cond, false, fresh, true, ℕ, ◌≡◌}
 use Rattle.job_model.specs.declared.ends.CheckEnd.TheVariants.{Clear}
 use Rattle.job_protocol.specs.Cleanups.{clean_start}
 use Rattle.job_protocol.specs.Rechecks.{Check, CheckOver}

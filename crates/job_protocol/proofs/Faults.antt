@@ -1,6 +1,5 @@
 -- an operation of one request at a time is at fault exactly where a request of it wore out
-use Rattle.std.proofs.Common.{◌≡◌, ℕ, zero, suc, refl, Bool, true, false, cond, ◌&&◌, not, arith, List, [], ◌∷◌, drop, Option, Some, None, is_some}
-use Rattle.job_protocol.specs.Prelude.{option_map, Actor, Committer, Request, UploadRef, Reply, Outcome, Entry, run, Follows, is_zero, spent_in, was_answered, Who, Script, OpEnd, Walked, sweep_hears, all_go, Setting, Operation, Running, who, tells, over, wants, advance, OneOf, is_serial, spare_of, is_fault}
+use Rattle.job_protocol.proofs.Common.{Actor, Bool, Committer, Entry, Follows, List, None, OneOf, OpEnd, Operation, Option, Outcome, Reply, Request, Running, Script, Setting, Some, UploadRef, Walked, Who, [], advance, all_go, arith, cond, drop, false, is_fault, is_serial, is_some, is_zero, not, option_map, over, refl, run, spare_of, spent_in, suc, sweep_hears, tells, true, wants, was_answered, who, zero, ℕ, ◌&&◌, ◌∷◌, ◌≡◌}
 use Rattle.job_model.specs.declared.ends.OpEnd.TheVariants as ends
 use Rattle.job_model.specs.declared.ends.SetupEnd.TheVariants as setups
 use Rattle.list_walk.specs.Walks.{walked}

@@ -1,7 +1,5 @@
 -- one more sending, and what is in hand
-use Rattle.std.proofs.Common.{◌≡◌, ℕ, ◌+◌, ◌<◌, ◌≤◌, refl, ap, sym, subst, ◌∙◌, inl, inr, true, false, cond, arith, List, [], ◌∷◌, ◌++◌, append_assoc}
-use Rattle.job_protocol.specs.Prelude.{Request, Entry, same_request, was_answered, streak, IsWorn, IsFirstWorn, In}
-use Rattle.retries.proofs.SameRequest.{same_is}
+use Rattle.job_protocol.proofs.Common.{Entry, In, IsFirstWorn, IsWorn, List, Request, [], ap, append_assoc, arith, cond, false, inl, inr, refl, same_is, same_request, streak, subst, sym, true, was_answered, ℕ, ◌++◌, ◌+◌, ◌<◌, ◌∙◌, ◌∷◌, ◌≡◌, ◌≤◌}
 use Rattle.retries.proofs.Misses.{streak_same, streak_other, worn_now, worn_grows}
 use Rattle.job_protocol.proofs.Members.{true_or_false, none_some, false_true, in_append, in_left, in_push, in_last}
 

@@ -1,9 +1,6 @@
 -- the counters of a job's commit agree with its entries, and it ends by its first worn request
-use Rattle.std.proofs.Common.{◌≡◌, ℕ, ◌+◌, ◌<◌, Option, Some, None, refl, ap, sym, subst, ◌∙◌, inl, inr, Bool, true, false, cond, nat_lt, List, [], ◌∷◌, ◌++◌, length, map, append_assoc, append-nil, arith}
-use Rattle.job_protocol.specs.Prelude.{Committer, Request, PutObject, CompleteUpload, Reply, Outcome, Entry, same_request, run, Follows, was_answered, IsFirstWorn, WornFirst, Script, CommitEnd, Stage, Sweep, sweep_asks, sweep_hears, mark_text, Turn, fresh_turn, again, follow, nth, completion, revert, Sets, picks_of, all_commits, set_read, set_request, Commit, Fetching, Replacing, Completing, Marking, Reverting, CommitOver, completing, is_no_magic, reverting, worn_completion, commit_asks, commit_hears, commit_misses, commit_tells, commit_start, commit_over, stage_of, In, Table, Tabled, RequestsApart, Sound, AllSound, EndIs}
-use Rattle.retries.specs.Prelude.{NoneWorn}
+use Rattle.job_protocol.proofs.Common.{AllSound, Bool, Commit, CommitEnd, CommitOver, Committer, CompleteUpload, Completing, EndIs, Entry, Fetching, Follows, In, IsFirstWorn, List, Marking, None, NoneWorn, Option, Outcome, PutObject, Replacing, Reply, Request, RequestsApart, Reverting, Script, Sets, Some, Sound, Stage, Sweep, Table, Tabled, Turn, WornFirst, [], again, all_commits, ap, append-nil, append_assoc, arith, commit_asks, commit_hears, commit_misses, commit_over, commit_start, commit_tells, completing, completion, cond, false, follow, fresh_turn, inl, inr, is_no_magic, length, map, mark_text, nat_lt, nth, picks_of, refl, revert, reverting, run, same_is, same_request, same_self, set_read, set_request, stage_of, subst, sweep_asks, sweep_hears, sym, true, was_answered, worn_completion, ℕ, ◌++◌, ◌+◌, ◌<◌, ◌∙◌, ◌∷◌, ◌≡◌}
 use Rattle.magic_paths.specs.Layout as layout
-use Rattle.retries.proofs.SameRequest.{same_is, same_self}
 use Rattle.job_model.specs.declared.ends.CommitEnd.TheVariants as commits
 use Rattle.job_model.specs.declared.ends.Stage.TheVariants as stages
 use Rattle.job_protocol.proofs.Members.{true_or_false, some_is, none_some, in_map, map-append}

@@ -1,6 +1,5 @@
 -- the table of lanes is kept by each sending
-use Rattle.std.proofs.Common.{ℕ, ◌<◌, sym, subst, inl, inr, Bool, cond, List, [], ◌∷◌, ◌++◌, length, Option, Some, None, arith}
-use Rattle.job_protocol.specs.Prelude.{Request, Reply, Outcome, PendingSet, Script, CommitEnd, shared_by, first_shared, two_where, writes, Picks, Sweep, sweep_hears, Turn, again, follow, dealt, revert, Sets, picks_of, all_commits, set_read, Commit, Fetching, Replacing, Completing, Reverting, CommitOver, completing, is_no_magic, replaced, replacing, decided, fetching, fetched, swept, reverting, worn_completion, commit_hears, commit_misses, commit_tells, commit_start, Table, Tabled}
+use Rattle.job_protocol.proofs.Common.{Bool, Commit, CommitEnd, CommitOver, Completing, Fetching, List, None, Option, Outcome, PendingSet, Picks, Replacing, Reply, Request, Reverting, Script, Sets, Some, Sweep, Table, Tabled, Turn, [], again, all_commits, arith, commit_hears, commit_misses, commit_start, commit_tells, completing, cond, dealt, decided, fetched, fetching, first_shared, follow, inl, inr, is_no_magic, length, picks_of, replaced, replacing, revert, reverting, set_read, shared_by, subst, sweep_hears, swept, sym, two_where, worn_completion, writes, ℕ, ◌++◌, ◌<◌, ◌∷◌}
 use Rattle.job_model.specs.declared.ends.CommitEnd.TheVariants as ends
 use Rattle.job_protocol.proofs.Tables.{lt_or_not, table_dealt, table_answered, table_again}
 

@@ -11,3 +11,4 @@ pub mod Orders
 pub mod Told
 pub mod Sizes
 pub mod Begun
+mod Common

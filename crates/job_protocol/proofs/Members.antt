@@ -1,6 +1,5 @@
 -- members, places and appended lists
-use Rattle.std.proofs.Common.{◌≡◌, ℕ, ◌<◌, zero, suc, Some, refl, ap, ◌⊎◌, inl, inr, arith, List, [], ◌∷◌, ◌++◌, length, slice_get, map}
-use Rattle.job_protocol.specs.Prelude.{In}
+use Rattle.job_protocol.proofs.Common.{In, List, Some, [], ap, arith, inl, inr, length, map, refl, slice_get, suc, zero, ℕ, ◌++◌, ◌<◌, ◌∷◌, ◌≡◌, ◌⊎◌}
 use Rattle.proof_base.proofs.Lists.{get_before, get_left}
 pub use Rattle.path_keys.proofs.Common.{false_true, map-append, none_some, some_is, true_or_false}
 

@@ -1,9 +1,6 @@
 -- the head of the table is the next upload by the numbers alone
-use Rattle.std.proofs.Common.{◌≡◌, ℕ, ◌+◌, ◌%◌, ◌<◌, ◌≤◌, zero, suc, min, None, refl, ap, sym, subst, ◌∙◌, inl, inr, Bool, arith, List, [], ◌∷◌, ◌++◌, length, append-nil, mod-lt, mod-eq_of_lt}
-use Rattle.path_keys.proofs.Common.{nat_tests}
-use Rattle.job_protocol.specs.Prelude.{Request, Reply, Entry, Outcome, run, Script, sweep_hears, Turn, fresh_turn, follow, first_turns, dealt, Sets, all_commits, set_read, Commit, Fetching, Replacing, Completing, Reverting, completing, is_no_magic, reverting, commit_hears, commit_misses, commit_tells, commit_start, In, ahead, Table, Tabled}
+use Rattle.job_protocol.proofs.Common.{After, Bool, Commit, Completing, Entry, Fetching, In, List, None, Outcome, Replacing, Reply, Request, Reverting, Script, Sets, Table, Tabled, Turn, [], ahead, all_commits, ap, append-nil, arith, commit_hears, commit_misses, commit_start, commit_tells, completing, dealt, first_turns, follow, fresh_turn, inl, inr, is_no_magic, length, min, mod-eq_of_lt, mod-lt, nat_tests, refl, reverting, run, set_read, subst, suc, sweep_hears, sym, zero, ℕ, ◌%◌, ◌++◌, ◌+◌, ◌<◌, ◌∙◌, ◌∷◌, ◌≡◌, ◌≤◌}
 use Rattle.std.proofs.Math.Nat.{add-mod_right}
-use Rattle.job_protocol.specs.LaneTable.{After}
 use Rattle.job_protocol.specs.LaneOrder.{distance, after_lane, IsNext, next_lane, lane_after}
 use Rattle.job_protocol.proofs.Members.{in_push}
 use Rattle.job_protocol.proofs.Tables.{after_low, in_first, follow_cases, not_done}

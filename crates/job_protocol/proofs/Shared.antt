@@ -1,7 +1,6 @@
 -- the least path that two picks write, with the two least tasks that do
-use Rattle.std.proofs.Common.{◌≡◌, ℕ, zero, suc, ◌+◌, ◌-◌, ◌<◌, ◌≤◌, ◌⊎◌, inl, inr, refl, ap, sym, subst, ◌∙◌, Bool, true, false, cond, arith, List, [], ◌∷◌, map, Option, Some, None}
+use Rattle.job_protocol.proofs.Common.{Bool, CommitEnd, Equal, File, Greater, In, IsShared, Less, List, None, Option, Ordering, Picks, SamePath, Script, Some, [], ap, arith, bytes_decides, cond, false, files_picked, first_shared, first_where, has_path, inl, inr, insert_key, is_lt, map, match_ordering, nat_cmp-IsAntisymmetric, option_map, ordered, ordering_reverse, refl, same_path, second_where, shared_by, slice_cmp-IsAntisymmetric, subst, suc, sym, text_cmp, text_eq, text_total, true, two_where, wanted, wanted_below, wanted_paths, writes, zero, ℕ, ◌+◌, ◌-◌, ◌<◌, ◌∙◌, ◌∷◌, ◌≡◌, ◌≤◌, ◌⊎◌}
 use Rattle.proof_base.proofs.Less.{irrefl, lt_not}
-use Rattle.job_protocol.specs.Prelude.{Ordering, Less, Equal, Greater, is_lt, ordering_reverse, match_ordering, option_map, insert_key, nat_cmp-IsAntisymmetric, slice_cmp-IsAntisymmetric, bytes_decides, text_cmp, text_eq, text_total, File, has_path, Script, CommitEnd, SamePath, Picks, files_picked, wanted_below, wanted, ordered, wanted_paths, writes, first_where, second_where, two_where, shared_by, first_shared, same_path, IsShared, In}
 use Rattle.job_protocol.proofs.Members.{false_true, true_or_false, in_left, in_right, map-append}
 
 -- ---- the least number that passes a test

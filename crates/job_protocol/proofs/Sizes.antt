@@ -1,6 +1,5 @@
 -- sizes that fit a record are told by it or not
-use Rattle.std.proofs.Common.{◌≡◌, ℕ, true, List, Some, arith}
-use Rattle.job_protocol.specs.Prelude.{Spelled, Committer, are_sizes}
+use Rattle.job_protocol.proofs.Common.{Committer, List, Some, Spelled, are_sizes, arith, true, ℕ, ◌≡◌}
 use Rattle.job_protocol.specs.Records.{sizes_by}
 
 pub sizes_told : (c : Committer) (sizes : List ℕ) (tags : List Spelled) (total : ℕ)

@@ -1,6 +1,5 @@
 -- an operation asks a request exactly until it is over, and each actor has its operations
-use Rattle.std.proofs.Common.{◌≡◌, is_some, arith}
-use Rattle.job_protocol.specs.Prelude.{Actor, Who, Op, Known, Setting, Operation, Reports, asks, over, start_of, OneOf}
+use Rattle.job_protocol.proofs.Common.{Actor, Known, OneOf, Op, Operation, Reports, Setting, Who, arith, asks, is_some, over, start_of, ◌≡◌}
 use Rattle.job_protocol.specs.Laws.{has_op}
 
 pub goes_on : (g : Setting) (a : Who) (k : Known) (op : Operation) → OneOf (asks g a k op) (over op)

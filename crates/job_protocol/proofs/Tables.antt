@@ -1,8 +1,5 @@
 -- the table of lanes as it is dealt, and after each outcome
-use Rattle.std.proofs.Common.{◌≡◌, ℕ, ◌+◌, ◌-◌, ◌<◌, ◌≤◌, zero, suc, min, refl, ap, sym, subst, ◌∙◌, ◌⊎◌, inl, inr, Bool, true, false, nat_lt, arith, List, [], ◌∷◌, ◌++◌, append-nil}
-use Rattle.path_keys.proofs.Common.{nat_tests}
-use Rattle.job_protocol.specs.Prelude.{Turn, fresh_turn, again, follow, first_turns, dealt, In, ahead, Table}
-use Rattle.job_protocol.specs.LaneTable.{After, Apart}
+use Rattle.job_protocol.proofs.Common.{After, Apart, Bool, In, List, Table, Turn, [], again, ahead, ap, append-nil, arith, dealt, false, first_turns, follow, fresh_turn, inl, inr, min, nat_lt, nat_tests, refl, subst, suc, sym, true, zero, ℕ, ◌++◌, ◌+◌, ◌-◌, ◌<◌, ◌∙◌, ◌∷◌, ◌≡◌, ◌≤◌, ◌⊎◌}
 use Rattle.job_protocol.proofs.Members.{in_append, in_left, in_right, in_push}
 use Rattle.std.proofs.lemmas.Bool.{cases_lt}
 

@@ -1,7 +1,5 @@
 -- plans tell what operations ask, and where they go
-use Rattle.std.proofs.Common.{◌≡◌, ℕ, refl, ap, ◌∙◌, true, false, cond, List, [], ◌∷◌, map, Some, arith}
-use Rattle.job_protocol.specs.Prelude.{filter, flat_map, text_eq, Committer, Magic, ClusterPut, Reply, Item, File, Who, same_name, Known, placed, Script, files, paths_of, checks_partitions, partitions, record_key, set_text, Walked, More, Whole, Creating, Setup, setup_asks, setup_after, job_of, task_of, task_script, job_script}
-use Rattle.path_keys.proofs.Common.{nat_tests}
+use Rattle.job_protocol.proofs.Common.{ClusterPut, Committer, Creating, File, Item, Known, List, Magic, More, Reply, Script, Setup, Some, Walked, Who, Whole, [], ap, arith, checks_partitions, cond, false, files, filter, flat_map, job_of, job_script, map, nat_tests, partitions, paths_of, placed, record_key, refl, same_name, set_text, setup_after, setup_asks, task_of, task_script, text_eq, true, ℕ, ◌∙◌, ◌∷◌, ◌≡◌}
 use Rattle.job_protocol.specs.Writes as writes
 use Rattle.job_protocol.specs.TaskCommits as commits
 use Rattle.job_protocol.specs.TaskAborts as aborts

@@ -1,7 +1,5 @@
 -- an operation of one request at a time counts its sendings, and is at fault exactly where a request wore out
-use Rattle.std.proofs.Common.{◌≡◌, ℕ, suc, refl, ap, true, false, List, map, Option, Some, None, arith}
-use Rattle.job_protocol.specs.Prelude.{compact_text, Actor, Request, PutObject, ClusterPut, Outcome, Entry, set_tree, Follows, spent_in, was_answered, WornFirst, File, Who, Script, files, Drawn, Known, drawn_in, file_key, file_record, Uploading, upload_asks, Setting, Operation, Running, who, asks, tells, wants, learn_of, advance, is_serial, spare_of}
-use Rattle.retries.specs.Prelude.{Counting}
+use Rattle.job_protocol.proofs.Common.{Actor, ClusterPut, Counting, Drawn, Entry, File, Follows, Known, List, None, Operation, Option, Outcome, PutObject, Request, Running, Script, Setting, Some, Uploading, Who, WornFirst, advance, ap, arith, asks, compact_text, drawn_in, false, file_key, file_record, files, is_serial, learn_of, map, refl, set_tree, spare_of, spent_in, suc, tells, true, upload_asks, wants, was_answered, who, ℕ, ◌≡◌}
 use Rattle.magic_paths.specs.Layout as layout
 use Rattle.retries.proofs.First.{spent_first}
 use Rattle.job_protocol.specs.Writes as writes

@@ -1,7 +1,6 @@
 -- How much an operation has left, among others that send.
-use Rattle.std.specs.Prelude.{◌≡◌, ℕ, ◌+◌, ◌<◌, ◌≤◌, Bool, Option, Some}
-use Rattle.job_model.specs.Prelude.{Scene, answer, apply, Request, Reply, Outcome, Answered, effect}
-use Rattle.retries.specs.Prelude.{Item, Got, WornOut}
+use Rattle.std.specs.Prelude.{Bool, Option, Some, ℕ, ◌+◌, ◌<◌, ◌≡◌, ◌≤◌}
+use Rattle.retries.specs.Prelude.{Answered, Got, Item, Outcome, Reply, Request, Scene, WornOut, answer, apply, effect}
 
 -- what is left of an operation of replies: at most so many answers and worn requests are to come where nobody else sends
 pub record FallsAmong {M : Type 0} (wants : M → Option Request) (after : M → Item → M) (fits : M → Reply → Bool → Type 0) (left : M → Scene → ℕ) (rise : ℕ) : Type 0 where

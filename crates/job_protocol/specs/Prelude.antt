@@ -1,13 +1,8 @@
 -- Definitions of this crate and of those below it that specifications and proofs cite, passed on from one place. Declares nothing.
-pub use Rattle.job_model.specs.Attempts.{Declared, Who, actor_of, same_name}
-pub use Rattle.job_model.specs.Files.{File, has_path}
-pub use Rattle.job_model.specs.JobScript.{Script}
-pub use Rattle.job_model.specs.Jobs.{Job, Task, has_task}
-pub use Rattle.job_model.specs.Known.{Drawn, Known, nothing_known, with_last}
-pub use Rattle.job_model.specs.Legal.{AreAttempts, AreFiles, IsGiven, IsLegal, bytes_in, bytes_of, files_in}
-pub use Rattle.job_model.specs.Paths.{begins_hidden, is_full, is_reserved}
-pub use Rattle.job_model.specs.Placed.{path_of, placed, unique_name, with_id, with_id_last}
-pub use Rattle.job_model.specs.Plans.{ArePlaced, IsJob, IsPlaced, IsTask}
+pub use Rattle.job_model.specs.Jobs.{has_task}
+pub use Rattle.job_model.specs.Placed.{placed}
+pub use Rattle.job_model.specs.Plans.{ArePlaced, IsJob, IsTask}
+pub use Rattle.job_model.specs.Prelude.{AbortUpload, Actor, AllByRecursion, Answered, AreAttempts, AreFiles, Attempt, BucketContent, ClusterBytes, ClusterDelete, ClusterGet, ClusterNames, ClusterPut, ClusterRename, Committer, CompleteUpload, Content, CreateUpload, Declared, DeleteObject, DeleteObjects, Directory, Drawn, Driver, Entry, Fail, File, GetObject, Head, HeadObject, IsGiven, IsLegal, IsPlaced, Job, Known, ListPage, MOST_SCRIPT_BYTES, Magic, Mode, NoSuchBucket, NoSuchFile, NoSuchKey, NoSuchUpload, Object, Outcome, Page, Part, Partitioned, Path, Pending, PendingSet, PutObject, Refused, Replace, Reply, ReplyLost, Request, RequestLost, Scene, Script, Shell, Slow, Spelled, SuccessMark, Task, UploadPart, UploadRef, Who, actor_of, answer, apply, begins, begins_hidden, below, bytes_in, bytes_of, decimal, effect, ends_with, files_in, filter, flat_map, has_path, insert_key, is_element, is_full, is_job_id, is_lt, is_reserved, join_with_byte, keys_of, list_all, list_any, lookup, nat_cmp, nothing_known, option_map, path_of, pending_tree, relative_in, same_name, set_tree, starts_with, success_tree, text_cmp, text_eq, unique_name, unwrap_or, with_id, with_id_last, with_last}
 pub use Rattle.job_model.specs.declared.ends.ActorEnd.{ActorEnd}
 pub use Rattle.job_model.specs.declared.ends.CleanEnd.{CleanEnd}
 pub use Rattle.job_model.specs.declared.ends.CommitEnd.{CommitEnd}
@@ -51,56 +46,15 @@ pub use Rattle.list_walk.specs.Laws.{LessWalk}
 pub use Rattle.list_walk.specs.Left.{adds_key, keys_left, left_of, one_if, sweep_left, thousands, uploads_left, walk_left}
 pub use Rattle.list_walk.specs.Walks.{Deleting, Listing, More, Sweep, Walked, Whole, all_go, keys_on, last_of, last_ref, page_after, sweep_asks, sweep_hears, sweep_start, uploads_after, walked_by, walked_uploads}
 pub use Rattle.magic_paths.specs.Layout.{attempt_key, set_key, staged_set_path, success_key}
-pub use Rattle.path_keys.specs.Paths.{Path, below, relative_in}
-pub use Rattle.pending_json.specs.Pending.{Pending, are_sizes, are_tags, fit}
-pub use Rattle.pending_json.specs.Records.{IsPending}
-pub use Rattle.pending_json.specs.Trees.{pending_tree, set_tree, success_tree}
-pub use Rattle.pending_json.specs.declared.records.PendingSet.{PendingSet}
-pub use Rattle.pending_json.specs.declared.records.SuccessMark.{SuccessMark}
-pub use Rattle.proof_base.specs.Members.{IsIn, RisesFrom}
-pub use Rattle.proof_base.specs.Order.{text_cmp, text_eq, text_total}
-pub use Rattle.retries.specs.Operation.{Follows, run}
-pub use Rattle.retries.specs.Retries.{Got, Item, OutOfMemory, Retried, WornOut, is_zero, spent_in, step, unanswered_by}
-pub use Rattle.retries.specs.Same.{same_request}
-pub use Rattle.retries.specs.Worn.{IsFirstWorn, IsWorn, WornFirst, streak, was_answered}
-pub use Rattle.s3_types.specs.Answer.{answer, answer_at, apply}
+pub use Rattle.pending_json.specs.Prelude.{Append, IsPending, are_sizes, are_tags, compact_text, fit}
+pub use Rattle.retries.specs.Prelude.{AreForetold, CopyObject, Follows, Got, IsFirstWorn, IsWorn, Item, OutOfMemory, Retried, WornFirst, WornOut, bytes_decides, is_unanswered, is_zero, run, same_request, spent_in, step, streak, unanswered_by, was_answered}
 pub use Rattle.s3_types.specs.Fates.{fate_at}
-pub use Rattle.s3_types.specs.Foretold.{AreForetold}
-pub use Rattle.s3_types.specs.Moment.{IsHonest, effect, is_effective, is_unanswered, moment}
-pub use Rattle.s3_types.specs.Names.{are_elements, is_element, is_job_id, is_key_path}
-pub use Rattle.s3_types.specs.Pages.{begins, listed}
-pub use Rattle.s3_types.specs.Store.{BucketContent, Content, Scene, Upload, opening}
-pub use Rattle.s3_types.specs.Tags.{Spelled, is_plain_tag}
-pub use Rattle.s3_types.specs.declared.journal.Entry.{Entry}
-pub use Rattle.s3_types.specs.declared.journal.Outcome.{Outcome}
-pub use Rattle.s3_types.specs.declared.journal.Outcome.TheVariants.{Answered, ReplyLost, RequestLost, Slow}
-pub use Rattle.s3_types.specs.declared.limits.TheConstants.{MOST_MINIMUM, MOST_SCRIPT_BYTES}
-pub use Rattle.s3_types.specs.declared.object.Object.{Object}
+pub use Rattle.s3_types.specs.Moment.{IsHonest, is_effective, moment}
+pub use Rattle.s3_types.specs.Prelude.{Equal, FindsTextPrefix, Greater, IsIn, Less, Ordering, RisesFrom, Upload, answer_at, are_elements, is_eq, is_key_path, is_plain_tag, listed, match_ordering, ordering_reverse, ordering_then, put, remove, slice_get, sum, text_total}
+pub use Rattle.s3_types.specs.Store.{opening}
+pub use Rattle.s3_types.specs.declared.limits.TheConstants.{MOST_MINIMUM}
 pub use Rattle.s3_types.specs.declared.reply.PageEntry.{PageEntry}
 pub use Rattle.s3_types.specs.declared.reply.Refusal.{Refusal}
-pub use Rattle.s3_types.specs.declared.reply.Refusal.TheVariants.{NoSuchBucket, NoSuchFile, NoSuchKey, NoSuchUpload}
-pub use Rattle.s3_types.specs.declared.reply.Reply.{Reply}
-pub use Rattle.s3_types.specs.declared.reply.Reply.TheVariants.{ClusterBytes, ClusterNames, Head, Page, Part, Refused}
-pub use Rattle.s3_types.specs.declared.request.Actor.{Actor}
-pub use Rattle.s3_types.specs.declared.request.Actor.TheVariants.{Attempt, Driver, Shell}
-pub use Rattle.s3_types.specs.declared.request.Committer.{Committer}
-pub use Rattle.s3_types.specs.declared.request.Committer.TheVariants.{Directory, Magic, Partitioned}
-pub use Rattle.s3_types.specs.declared.request.Mode.{Mode}
-pub use Rattle.s3_types.specs.declared.request.Mode.TheVariants.{Append, Fail, Replace}
-pub use Rattle.s3_types.specs.declared.request.Request.{Request}
-pub use Rattle.s3_types.specs.declared.request.Request.TheVariants.{AbortUpload, ClusterDelete, ClusterGet, ClusterPut, ClusterRename, CompleteUpload, CopyObject, CreateUpload, DeleteObject, DeleteObjects, GetObject, HeadObject, ListPage, PutObject, UploadPart}
-pub use Rattle.s3_types.specs.declared.request.UploadRef.{UploadRef}
-pub use Rattle.serde_json.specs.Written.{compact_text}
 pub use Rattle.std.specs.BTreeMap.{get}
-pub use Rattle.std.specs.BTreeSet.{insert_key}
-pub use Rattle.std.specs.Cmp.Lexicographic.{bytes_decides}
-pub use Rattle.std.specs.FinMap.{nat_cmp-IsAntisymmetric, remove, slice_cmp-IsAntisymmetric}
-pub use Rattle.std.specs.FinMap.Entries.{put}
-pub use Rattle.std.specs.Fmt.{decimal}
-pub use Rattle.std.specs.List.{All, AllByRecursion, Contains, IsDistinct, ends_with, filter, flat_map, join_with_byte, list_all, list_any, position, slice_get, starts_with, sum}
-pub use Rattle.std.specs.Map.{keys_of, lookup}
-pub use Rattle.std.specs.Option.{option_map, unwrap_or}
-pub use Rattle.std.specs.Ordering.{is_eq, is_lt, match_ordering, nat_cmp, ordering_reverse, ordering_then}
-pub use Rattle.std.specs.Str.Pattern.{FindsTextPrefix}
-pub use Rattle.std.specs.declared.cmp.Ordering.{Ordering}
-pub use Rattle.std.specs.declared.cmp.Ordering.TheVariants.{Equal, Greater, Less}
+pub use Rattle.std.specs.FinMap.{nat_cmp-IsAntisymmetric, slice_cmp-IsAntisymmetric}
+pub use Rattle.std.specs.List.{All, Contains, IsDistinct, position}

@@ -1,15 +1,14 @@
 -- The driver's abort or clean of a job at a shared destination: it aborts only the uploads that the job's own records and sets name, and lists no uploads (Hadoop, S3A committer architecture: cleanup by the job's own pending files).
-use Rattle.std.specs.Prelude.{ℕ, List, [], ◌∷◌, ◌++◌, take, drop, map, Option, Some, None, Result, Ok, Err}
-use Rattle.job_model.specs.Prelude.{filter, Request, GetObject, DeleteObjects, AbortUpload, ClusterList, ClusterDelete, UploadRef, Committer, Magic, Directory, Partitioned, Reply, ClusterBytes, is_record, Pending, PendingSet, Script}
-use Rattle.s3_types.specs.declared.request.Request.TheVariants.{ClusterGet}
-use Rattle.s3_types.specs.declared.reply.Reply.TheVariants.{Object, ClusterNames}
-use Rattle.retries.specs.Prelude.{Item, Got, WornOut, OutOfMemory}
-use Rattle.magic_paths.specs.Layout as layout
-use Rattle.pending_json.specs.Reading as reading
+use Rattle.std.specs.Prelude.{Err, List, None, Ok, Option, Result, Some, [], drop, map, take, ℕ, ◌++◌, ◌∷◌}
+use Rattle.job_model.specs.Prelude.{ClusterBytes, Committer, Directory, Magic, Partitioned, Pending, PendingSet, Script, filter, is_record}
+use Rattle.retries.specs.Prelude.{AbortUpload, ClusterDelete, ClusterGet, ClusterList, DeleteObjects, GetObject, Got, Item, OutOfMemory, Reply, Request, UploadRef, WornOut}
+use Rattle.s3_types.specs.declared.reply.Reply.TheVariants.{ClusterNames, Object}
 use Rattle.pending_json.specs.declared.fault.RecordFault.{RecordFault}
 use Rattle.job_model.specs.declared.ends.CleanEnd.{CleanEnd}
+use Rattle.list_walk.specs.Walks.{More, Walked, Whole, page_after, walked}
+use Rattle.magic_paths.specs.Layout as layout
+use Rattle.pending_json.specs.Reading as reading
 use Rattle.job_model.specs.declared.ends.CleanEnd.TheVariants as ends
-use Rattle.list_walk.specs.Walks.{Walked, More, Whole, page_after, walked}
 
 -- how far a sparing abort or clean has come
 pub data Sparing : Type 0 where

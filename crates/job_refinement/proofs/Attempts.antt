@@ -1,7 +1,5 @@
 -- The answers that are due to an attempt's machines.
-use Rattle.std.proofs.Common.{◌≡◌, ℕ, suc, ◌+◌, ◌<◌, ◌≤◌, ◌^◌, inl, inr, nat_eq, nat_lt, true, false, List, [], ◌∷◌, ◌++◌, length, take, Option, Some, None, refl, sym, ap, subst, ◌∙◌, arith}
-use Rattle.job_facts.specs.Prelude.{Scene, Upload, listed, live, is_part_number, answer, part_answer, GetObject, ListPage, CreateUpload, UploadPart, Page, PageEntry, HasBucket, IsIn, RisesFrom, File, Who, IsLegal, Script, Drawn, Known, files, drawn_in, first_drawn, file_key, record_key, record_text, keys_on, last_of, page_after, Creating, Sending, file_parts, Write, TaskCommit, Looking, Reading, Checking, attempt_prefix, partition_prefix, TaskAbort, write_wants, task_commit_wants, task_abort_wants, is_magic, FitsPage, Told, known, AreCommits, Facts, Begun, FitsWrite, FitsCommit}
-use Rattle.job_spec.proofs.Common.{some_is, nat_false}
+use Rattle.job_refinement.proofs.Common.{AreCommits, Begun, Checking, CreateUpload, Creating, Drawn, Facts, File, FitsCommit, FitsDue, FitsPage, FitsWrite, GetObject, HasBucket, IsIn, IsLegal, Known, List, ListPage, Looking, None, Option, Page, PageEntry, Reading, ReadsOwn, RisesFrom, Scene, Script, Sending, Some, TaskAbort, TaskCommit, Told, Upload, UploadPart, Who, Write, [], answer, answer_is, ap, arith, at_work, attempt_prefix, drawn_in, false, file_key, file_parts, files, first_drawn, inl, inr, is_magic, is_part_number, keys_on, known, last_of, length, listed, live, nat_eq, nat_false, nat_lt, page_after, page_keys, part_answer, partition_prefix, record_key, record_text, record_there, refl, some_is, subst, suc, sym, take, task_abort_wants, task_commit_wants, true, write_wants, ℕ, ◌++◌, ◌+◌, ◌<◌, ◌^◌, ◌∙◌, ◌∷◌, ◌≡◌, ◌≤◌}
 use Rattle.store_frame.proofs.Flat.{page_rises, joins}
 use Rattle.list_walk.specs.Walks as walks
 use Rattle.job_protocol.specs.Writes as writes
@@ -15,12 +13,7 @@ use Rattle.task_machines.specs.Aborts.{abort_fits}
 use Rattle.job_facts.proofs.Cut.{parts_few}
 use Rattle.job_facts.proofs.Emptying.{last_so}
 use Rattle.job_facts.proofs.Legible.{plain_so, drawn_is, legal_record, written_sizes}
-use Rattle.job_facts.proofs.Replies.{record_there}
-use Rattle.job_facts.proofs.Shapes.{answer_is}
 use Rattle.job_facts.proofs.Uploads.{drop_more, number_fits}
-use Rattle.job_refinement.specs.Plans.{at_work}
-use Rattle.job_refinement.specs.Due.{FitsDue, ReadsOwn}
-use Rattle.list_walk.proofs.Keys.{page_keys}
 use Rattle.job_refinement.proofs.Pages.{sweep_fits}
 
 -- ---- an upload

@@ -1,8 +1,5 @@
 -- How far the driver's commit has come is kept, whoever sends.
-use Rattle.std.proofs.Common.{◌≡◌, ℕ, ◌<◌, ◌≤◌, ◌^◌, ◌⊎◌, ◌||◌, false, Option, Some, None, refl, sym, ap, subst, ◌∙◌, arith}
-use Rattle.job_spec.proofs.Common.{tabled_start, tabled_tells}
-use Rattle.job_facts.specs.Prelude.{Scene, answer, effect, IsHonestOutcome, Request, Outcome, Who, IsLegal, Script, Commit, commit_start, commit_asks, commit_tells, Setting, Operation, asks, Seen, see, is_begun, is_magic, Told, known, tell, entry, driver_entry, strange_entry, IsForeign, IsAttempt, Hold, Fits, Gone, Commits, NoneEnded, Times}
-use Rattle.job_facts.specs.Turning.{Turns}
+use Rattle.job_refinement.proofs.Common.{Commit, Commits, Fits, Gone, Hold, IsAttempt, IsForeign, IsHonestOutcome, IsLegal, None, NoneEnded, Operation, Option, Outcome, Request, Scene, Script, Seen, Setting, Some, Times, Told, Turns, Who, answer, ap, arith, asks, commit_asks, commit_drives, commit_fits, commit_start, commit_tells, commit_turns, driver_entry, effect, entry, false, is_begun, is_magic, known, refl, see, strange_entry, subst, sym, tabled_start, tabled_tells, tell, ℕ, ◌<◌, ◌^◌, ◌||◌, ◌∙◌, ◌≡◌, ◌≤◌, ◌⊎◌}
 use Rattle.job_facts.proofs.Acting.{operation_goes}
 use Rattle.job_facts.proofs.Beside.{beside, job_commit_begins}
 use Rattle.job_facts.proofs.Deciding.{d_start, decides_goes}
@@ -10,8 +7,6 @@ use Rattle.job_facts.proofs.Driving.{driving_keeps}
 use Rattle.job_facts.proofs.EndedGone.{commit_gone, others_gone}
 use Rattle.job_facts.proofs.FilingLaws.{decides_beside}
 use Rattle.job_facts.proofs.Foreign.{foreign_keeps}
-use Rattle.job_facts.proofs.JobCommitting.{commit_drives, commit_fits}
-use Rattle.job_facts.proofs.Turning.{commit_turns}
 
 -- ---- the beginning
 

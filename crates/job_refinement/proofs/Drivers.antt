@@ -1,9 +1,6 @@
 -- The answers that are due to the driver's machines.
-use Rattle.std.proofs.Common.{◌≡◌, ℕ, ◌<◌, ◌≤◌, ◌^◌, ◌⊎◌, inl, inr, true, false, List, [], length, Option, Some, None, refl, sym, ap, subst, ◌∙◌, arith}
-use Rattle.job_facts.specs.Prelude.{named_from, Scene, Upload, live, with_key, joined, answer, complete_answer, IsHonestOutcome, Request, PutObject, ListPage, Refused, NoSuchBucket, Outcome, Answered, Pending, HasBucket, IsLegal, Script, Turn, nth, completion, abort, deletion, Setup, dest_prefix, partition_prefix, Clean, Sets, all_commits, set_request, set_read, ok_set, Commit, Fetching, Replacing, Completing, Marking, Reverting, CommitOver, job_of, setup_wants, clean_wants, commit_wants, Seen, magic_prefix, FitsSweep, Told, sets_at, Hold, SetsUp, IsCommit, Gone, Commits, Tabled, Reads}
+use Rattle.job_refinement.proofs.Common.{Answered, Clean, Commit, CommitOver, Commits, Completing, Fetching, FitsCompletion, FitsDue, FitsSweep, Gone, HasBucket, Hold, IsCommit, IsHonestOutcome, IsLegal, List, ListPage, Marking, NoSuchBucket, None, Option, Outcome, Pending, PutObject, Reads, Refused, Replacing, Request, Reverting, Scene, Script, Seen, SetStands, Sets, SetsUp, Setup, Some, Tabled, Told, Turn, Turns, Upload, [], abort, all_commits, answer, answer_is, ap, arith, bytes_read, clean_wants, commit_wants, committing, complete_answer, completed, completion, deletion, dest_prefix, driving, false, id_before, inl, inr, job_of, joined, lacks_bucket, length, live, magic_prefix, named_from, none_some, nth, ok_set, partition_prefix, rechecking, refl, set_read, set_reply, set_request, sets_at, setup_wants, some_is, subst, sym, true, true_or_false, turn_answered, with_key, ℕ, ◌<◌, ◌^◌, ◌∙◌, ◌≡◌, ◌≤◌, ◌⊎◌}
 use Rattle.job_spec.specs.Prelude.{abort_answer}
-use Rattle.job_spec.proofs.Common.{some_is, none_some, true_or_false}
-use Rattle.job_protocol.specs.Prelude.{FitsCompletion, lacks_bucket}
 use Rattle.job_protocol.specs.Setup as setup
 use Rattle.job_protocol.specs.Cleanups as clean
 use Rattle.job_setup.specs.Fits as setups
@@ -12,13 +9,7 @@ use Rattle.job_protocol.specs.Rechecks as checks
 use Rattle.conflict.specs.Rechecks.{check_wants}
 use Rattle.conflict.specs.Fits.{FitsLook, FitsCheck}
 use Rattle.commit_laws.specs.Fitting.{SpellsSet, FitsReply, FitsCommit}
-use Rattle.job_facts.specs.Turning.{Turns}
 use Rattle.job_facts.proofs.Held.{nth_of, of_sets}
-use Rattle.job_facts.proofs.Replies.{completed, set_reply, bytes_read}
-use Rattle.job_facts.proofs.Shapes.{id_before, answer_is}
-use Rattle.job_facts.proofs.Turning.{turn_answered}
-use Rattle.job_refinement.specs.Plans.{driving, committing, rechecking}
-use Rattle.job_refinement.specs.Due.{FitsDue, SetStands}
 use Rattle.job_refinement.proofs.Pages.{page_fits, sweep_fits, uploads_fit}
 use Rattle.job_refinement.proofs.HeldSets.{set_is, same_read}
 

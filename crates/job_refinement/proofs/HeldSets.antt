@@ -1,7 +1,5 @@
 -- The sets of attempts of the job are sets of its tasks.
-use Rattle.std.proofs.Common.{◌≡◌, ℕ, zero, suc, inl, inr, Bool, List, [], ◌∷◌, map, slice_get, Some, is_some, refl, sym, ap, subst, ◌∙◌, arith}
-use Rattle.job_facts.specs.Prelude.{Committer, relative_in, Pending, IsIn, File, Who, IsLegal, Script, Drawn, drawn_for, file_key, file_record, files_set, Sets, set_request, job_of, read_script, ApartFiles, AreCommits, knowing, Reads}
-use Rattle.job_spec.proofs.Common.{below_is, some_is, none_some}
+use Rattle.job_refinement.proofs.Common.{ApartFiles, AreCommits, Bool, Committer, Drawn, File, IsIn, IsLegal, List, Pending, Reads, Script, Sets, Some, Who, [], ap, arith, below_is, drawn_for, file_key, file_record, files_set, inl, inr, is_some, job_of, knowing, map, none_some, read_script, refl, relative_in, set_request, slice_get, some_is, subst, suc, sym, zero, ℕ, ◌∙◌, ◌∷◌, ◌≡◌}
 use Rattle.path_keys.proofs.Beneath.{behind_some}
 use Rattle.job_facts.proofs.Legal.{some_dest}
 use Rattle.job_facts.proofs.Placed.{one_key}

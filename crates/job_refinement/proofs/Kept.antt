@@ -1,10 +1,8 @@
 -- What is to be known of operations beside the facts is kept.
-use Rattle.std.proofs.Common.{◌≡◌, ℕ, Bool, false, List, length, arith}
-use Rattle.job_facts.specs.Prelude.{Reply, Outcome, Retried, step, IsIn, File, Who, Script, files, Walked, TaskCommit, Looking, reading, looked, task_commit_start, task_commit_hears, task_commit_after, Commit, Fetching, Seen, Told, Hold, FitsJobCommit}
+use Rattle.job_refinement.proofs.Common.{AllPublished, Bool, Commit, Fetching, File, FitsJobCommit, Hold, IsIn, List, Looking, Outcome, ReadsOwn, Reply, Retried, Script, Seen, SetStands, TaskCommit, Told, Walked, Who, arith, false, files, length, looked, reading, step, task_commit_after, task_commit_hears, task_commit_start, ℕ, ◌≡◌}
 use Rattle.list_walk.specs.Walks.{walked}
 use Rattle.job_facts.proofs.Going.{step_so}
 use Rattle.job_facts.proofs.Ordered.{order_each}
-use Rattle.job_refinement.specs.Due.{ReadsOwn, SetStands, AllPublished}
 
 -- ---- the records that a task's commit reads
 

@@ -8,3 +8,4 @@ pub mod Telling
 pub mod Picking
 pub mod Planned
 pub mod Others
+mod Common

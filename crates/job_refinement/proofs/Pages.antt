@@ -1,9 +1,5 @@
 -- The answers to requests for pages, where their bucket is there.
-use Rattle.std.proofs.Common.{ℕ, List, refl, sym, subst}
-use Rattle.job_facts.specs.Prelude.{Scene, answer, UploadRef, HasBucket, Script, Sweep, Listing, Deleting, last_of, page_after, uploads_after, sweep_asks, FitsPage, FitsSweep}
-use Rattle.job_protocol.specs.Prelude.{FitsUploads}
-use Rattle.job_facts.proofs.Shapes.{answer_is}
-use Rattle.list_walk.proofs.Keys.{page_keys}
+use Rattle.job_refinement.proofs.Common.{Deleting, FitsPage, FitsSweep, FitsUploads, HasBucket, List, Listing, Scene, Script, Sweep, UploadRef, answer, answer_is, last_of, page_after, page_keys, refl, subst, sweep_asks, sym, uploads_after, ℕ}
 
 -- ---- answers
 

@@ -1,13 +1,8 @@
 -- The attempts that the driver's commit has picked are those that are seen.
-use Rattle.std.proofs.Common.{◌≡◌, ℕ, zero, suc, ◌+◌, ◌<◌, ◌≤◌, ◌^◌, inl, inr, nat_lt, ◌&&◌, Bool, true, false, cond, List, [], ◌∷◌, ◌++◌, length, slice_get, Option, Some, None, refl, sym, ap, subst, ◌∙◌, arith, length-append}
-use Rattle.job_facts.specs.Prelude.{answer, IsHonestOutcome, Request, Reply, Outcome, Answered, Slow, PendingSet, Who, IsLegal, Script, CommitEnd, same_path, files_set, Listing, Sets, picks_of, set_request, set_read, ok_set, Commit, Fetching, Replacing, Reverting, CommitOver, decided, fetching, fetched, commit_start, commit_asks, commit_misses, commit_tells, with_pick, picked_after, Setting, Seen, see, is_reading, Told, entry, driver_entry, knowing, Commits, Times, is_picking}
-use Rattle.job_spec.proofs.Common.{some_is, none_some, same_or_not}
+use Rattle.job_refinement.proofs.Common.{Answered, Bool, Commit, CommitEnd, CommitOver, Commits, Fetching, IsHonestOutcome, IsLegal, List, Listing, None, Option, Outcome, PendingSet, PicksTell, Replacing, Reply, Request, Reverting, Script, Seen, SetStands, Sets, Setting, Slow, Some, Times, Told, Who, [], answer, ap, arith, bytes_read, commit_asks, commit_misses, commit_start, commit_tells, cond, decided, driver_entry, entry, false, fetched, fetching, files_set, inl, inr, is_picking, is_reading, knowing, length, length-append, nat_lt, none_some, ok_set, picked_after, picks_of, refl, same_or_not, same_path, see, set_read, set_reply, set_request, slice_get, some_is, subst, suc, sym, true, with_pick, zero, ℕ, ◌&&◌, ◌++◌, ◌+◌, ◌<◌, ◌^◌, ◌∙◌, ◌∷◌, ◌≡◌, ◌≤◌}
 use Rattle.pending_json.specs.Reading as reading
 use Rattle.job_facts.proofs.Reading.{reads_it, reads_other}
-use Rattle.job_facts.proofs.Replies.{set_reply, bytes_read}
-use Rattle.job_refinement.specs.Due.{SetStands}
 use Rattle.job_refinement.specs.Picked.{ArePicked, IsEachPicked}
-use Rattle.job_refinement.specs.Laws.{PicksTell}
 use Rattle.proof_base.proofs.Options.{both_hold}
 
 -- ---- lists with one more

@@ -1,10 +1,6 @@
 -- Machines that go by plans want what their operations ask by the script, and go where that is told.
-use Rattle.std.proofs.Common.{◌≡◌, ℕ, [], Option, Some, None, refl, ap, ◌∙◌, arith}
-use Rattle.job_facts.specs.Prelude.{Request, PutObject, ClusterPut, Outcome, Item, Retried, step, File, Who, Script, Known, files, set_text, Uploading, upload_asks, setup_after, Write, write_asks, write_after, TaskCommit, Publishing, Uploads, Storing, task_commit_asks, task_commit_after, temporary_path, TaskAbort, task_abort_asks, task_abort_after, clean_after, Attempting, Driving, task_of, task_script, learned, write_told, task_commit_wants, task_commit_told, task_abort_told, setup_told, clean_told, picked_after, knowing}
-use Rattle.job_spec.proofs.Common.{tasks_tell, jobs_tell}
+use Rattle.job_refinement.proofs.Common.{Attempting, ClusterPut, Driving, File, Item, Known, MachinesTell, None, Option, Outcome, Publishing, PutObject, Request, Retried, Script, Some, Storing, TaskAbort, TaskCommit, Uploading, Uploads, Who, Write, [], ap, arith, at_work, clean_after, clean_told, committing, driven, driving, files, heard, jobs_tell, knowing, known_then, learned, picked_after, planned, refl, set_text, setup_after, setup_told, step, task_abort_after, task_abort_asks, task_abort_told, task_commit_after, task_commit_asks, task_commit_told, task_commit_wants, task_of, task_script, tasks_tell, temporary_path, upload_asks, write_after, write_asks, write_told, ℕ, ◌∙◌, ◌≡◌}
 use Rattle.magic_paths.specs.Layout as layout
-use Rattle.job_refinement.specs.Plans.{at_work, planned, driving, driven, committing, heard, known_then}
-use Rattle.job_refinement.specs.Laws.{MachinesTell}
 use Rattle.job_refinement.proofs.Telling.{begins_same, asks_same, tells_same}
 
 -- ---- what is learnt, by a plan

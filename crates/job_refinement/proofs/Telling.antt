@@ -1,14 +1,9 @@
 -- The script that the sets tell is as good as the job's for the commit that holds them.
-use Rattle.std.proofs.Common.{◌≡◌, ℕ, zero, suc, ◌<◌, ◌≤◌, ◌^◌, inl, inr, nat_lt, Bool, true, false, cond, List, [], ◌∷◌, ◌++◌, map, length, slice_get, Option, Some, None, is_some, refl, sym, ap, subst, ◌∙◌, arith}
-use Rattle.job_facts.specs.Prelude.{lookup, option_map, unwrap_or, text_eq, compact_text, Scene, answer, IsHonestOutcome, Committer, Mode, Request, PutObject, Reply, Outcome, Answered, Slow, Pending, success_tree, PendingSet, IsIn, File, has_path, Who, IsLegal, Script, Drawn, CommitEnd, Picks, files, files_picked, wanted_below, wanted, wanted_paths, writes, two_where, shared_by, first_shared, same_path, file_key, mark_text, files_set, Sweep, Listing, Sets, picks_of, set_request, set_read, Commit, Fetching, Replacing, Marking, commit_asks, commit_tells, commit_start, replaced, replacing, decided, fetching, fetched, swept, job_of, read_script, sets_in, sets_after, Told, Facts, knowing, IsHeldSet, Reads, FitsJobCommit}
-use Rattle.job_spec.proofs.Common.{map-append, none_some, false_true, true_or_false, text_is, text_true, in_map, map_in, in_append, in_front, in_back}
-use Rattle.job_protocol.specs.Prelude.{with_set}
+use Rattle.job_refinement.proofs.Common.{Answered, Bool, Commit, CommitEnd, Committer, Drawn, Facts, Fetching, File, FitsJobCommit, IsHeldSet, IsHonestOutcome, IsIn, IsLegal, List, Listing, Marking, Mode, None, Option, Outcome, Pending, PendingSet, Picks, PutObject, Reads, Replacing, Reply, Request, Scene, Script, Sets, Slow, Some, Sweep, Told, Who, [], answer, ap, arith, commit_asks, commit_start, commit_tells, compact_text, cond, decided, false, false_true, fetched, fetching, file_key, files, files_picked, files_set, first_shared, has_path, in_append, in_back, in_front, in_map, inl, inr, is_some, job_of, knowing, length, lookup, map, map-append, map_in, mark_text, nat_lt, none_some, one_more_set, option_map, picks_of, read_script, refl, replaced, replacing, same_path, set_answered, set_read, set_request, sets_after, sets_in, shared_by, slice_get, subst, suc, success_tree, swept, sym, text_eq, text_is, text_true, true, true_or_false, two_where, unwrap_or, wanted, wanted_below, wanted_paths, with_set, writes, zero, ℕ, ◌++◌, ◌<◌, ◌^◌, ◌∙◌, ◌∷◌, ◌≡◌, ◌≤◌}
 use Rattle.magic_paths.specs.Layout as layout
 use Rattle.commit_parts.specs.Relatives.{relative_of}
 use Rattle.commit_parts.proofs.ReadFiles.{file_of, files_at}
 use Rattle.job_facts.proofs.Whose.{attempt}
-use Rattle.job_facts.proofs.JobCommitting.{one_more_set}
-use Rattle.job_facts.proofs.Replies.{set_answered}
 use Rattle.conflict.proofs.Rising.{ordered_same}
 use Rattle.job_refinement.proofs.HeldSets.{path_back, uploads_of, are_read, same_read}
 use Rattle.std.specs.Cmp.{both_ways}

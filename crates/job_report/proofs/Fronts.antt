@@ -1,7 +1,5 @@
 -- Fronts and rests of lists, and of what stands in pairs or numbered.
-use Rattle.std.proofs.Common.{◌≡◌, ℕ, zero, suc, ◌+◌, ◌≤◌, ◌<◌, min, List, [], ◌∷◌, ◌++◌, length, take, drop, ◌⊎◌, inl, inr, refl, sym, ap, ◌∙◌, arith}
-use Rattle.job_model.specs.Prelude.{zip, enumerate_from}
-use Rattle.proof_base.proofs.Common.{cases_lt, take_all, drop_all}
+use Rattle.job_report.proofs.Common.{List, [], ap, arith, cases_lt, drop, drop_all, enumerate_from, inl, inr, length, min, refl, suc, sym, take, take_all, zero, zip, ℕ, ◌++◌, ◌+◌, ◌<◌, ◌∙◌, ◌∷◌, ◌≡◌, ◌≤◌, ◌⊎◌}
 
 -- pairs of two fronts are a front of the pairs
 pub zip_take : {A B : Type 0} (k : ℕ) (xs : List A) (ys : List B) → zip (take k xs) (take k ys) ≡ take k (zip xs ys)

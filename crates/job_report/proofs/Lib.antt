@@ -2,3 +2,4 @@ pub mod LineLemmas
 pub mod Fronts
 pub mod Turns
 pub mod Whole
+mod Common

@@ -1,11 +1,8 @@
 -- The lines of a report as they are written one after another.
-use Rattle.std.proofs.Common.{◌≡◌, ℕ, ◌+◌, ◌≤◌, Bool, true, false, cond, List, [], ◌∷◌, ◌++◌, length, drop, refl, sym, ap, subst, ◌∙◌, append_assoc}
+use Rattle.job_report.proofs.Common.{Bool, Declared, Event, EventEnd, List, Pick, Script, Who, [], ap, append_assoc, both_written, cond, declares, drop, enumerate_from, event_lines, false, flat_map, length, lookup, pick_line, refl, same_name, subst, sym, true, zip, ℕ, ◌++◌, ◌+◌, ◌∙◌, ◌∷◌, ◌≡◌, ◌≤◌}
 use Rattle.std.specs.Prelude.{is_some, Some}
-use Rattle.job_spec.specs.Prelude.{flat_map, lookup, Who, Declared, same_name, declares, Script, Event, EventEnd, Pick, event_lines, pick_line}
-use Rattle.job_model.specs.Prelude.{zip, enumerate_from}
 use Rattle.job_spec.proofs.Common.{drop_all, append-nil, eq-eqb}
 use Rattle.job_spec.specs.ReportText.{actor_lines, closing, report_text}
-use Rattle.proof_base.proofs.Lists.{both_written}
 
 -- nothing is left to write
 pub all_written : {X : Type 0} (f : X → List ℕ) (left : List X) (text all : List ℕ) → text ++ flat_map f left ≡ all → left ≡ [] → text ≡ all

@@ -1,17 +1,9 @@
 -- What a turn tells, and what is left behind it.
-use Rattle.std.proofs.Common.{◌≡◌, ℕ, zero, suc, ◌+◌, ◌-◌, ◌≤◌, min, List, [], ◌∷◌, ◌++◌, map, replicate, length, take, drop, refl, sym, ap, ◌∙◌, append_assoc, arith, length-take, length-drop}
-use Rattle.job_model.specs.Prelude.{zip, enumerate_from, flat_map}
-use Rattle.job_spec.specs.Prelude.{Event, EventEnd}
-use Rattle.job_spec.specs.ReportText.{event_line, event_lines}
-use Rattle.proof_base.proofs.Common.{drop-drop, length-map}
+use Rattle.job_report.proofs.Common.{Event, EventEnd, First, List, Second, TwinTurn, [], ap, append_assoc, arith, drop, drop-drop, enumerate_from, event_line, event_lines, flat_map, in_turn, left_lines, length, length-drop, length-map, length-take, letter, map, min, next_lines, played_line, refl, replicate, suc, sym, take, zero, zip, ℕ, ◌++◌, ◌+◌, ◌-◌, ◌∙◌, ◌∷◌, ◌≡◌, ◌≤◌}
 use Rattle.std.proofs.lemmas.List.Concat.{flat_map-append}
 use Rattle.twin_script.specs.TwinScripts.{sides_in}
 use Rattle.twin_script.specs.declared.turns.Side.{Side}
-use Rattle.twin_script.specs.declared.turns.Side.TheVariants.{First, Second}
-use Rattle.twin_script.specs.declared.turns.TwinTurn.{TwinTurn}
-use Rattle.job_report.specs.TwinText.{letter, played_line, in_turn}
-use Rattle.job_report.specs.Left.{next_lines, left_lines}
-use Rattle.job_report.proofs.Fronts.{zip_take, zip_drop, length_zip, take_same, drop_same, numbered_on}
+use Rattle.job_report.proofs.Fronts.{drop_same, length_zip, numbered_on, take_same, zip_drop, zip_take}
 
 -- ---- a side's next events
 

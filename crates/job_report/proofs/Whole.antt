@@ -1,8 +1,5 @@
 -- The parts of a report of two jobs, written one after another.
-use Rattle.std.proofs.Common.{◌≡◌, ℕ, List, [], ◌++◌, ap, ◌∙◌}
-use Rattle.job_spec.specs.ReportText.{closing}
-use Rattle.twin_script.specs.declared.turns.Side.TheVariants.{First, Second}
-use Rattle.twin_script.specs.declared.turns.TwinTurn.{TwinTurn}
+use Rattle.job_report.proofs.Common.{First, List, Second, TwinTurn, [], ap, closing, ℕ, ◌++◌, ◌∙◌, ◌≡◌}
 use Rattle.job_report.specs.TwinText.{Told, ended_of, played_lines, pick_lines, side_lines, twins_report}
 
 -- what is written part by part is the report

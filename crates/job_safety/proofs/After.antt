@@ -1,15 +1,9 @@
 -- Once the job's commit is over, its driver does no more than abort and clean, and reads no set.
-use Rattle.std.proofs.Common.{◌≡◌, ℕ, inl, inr, true, false, List, [], ◌∷◌, ◌++◌, length, append_assoc, append-nil, Option, Some, None, refl, sym, ap, subst, ◌∙◌, arith}
-use Rattle.job_steps.specs.Prelude.{Content, Driver, Request, Entry, IsLegal, Script, Op, Event, Do, Start, Commit, CommitOver, commit_asks, Setting, Operation, TheCommit, TheClean, Running, who, asks, tells, wants, is_reading, put, strange_entry, IsOpening, is_just_set, Play, Transition, Opens, Sends, Strays, open_running, hear, happen, MayOpen, MaySend, Reachable, operation_of}
-use Rattle.job_spec.proofs.Common.{none_some, false_true}
+use Rattle.job_safety.proofs.Common.{Begins, Commit, CommitOver, Content, Do, Driver, Entry, Event, IsLegal, IsOpening, IsSettingUp, List, MayOpen, MaySend, None, Op, Opens, Operation, Option, Play, Reachable, Request, Running, Script, Sends, Setting, Some, Start, Strays, TheClean, TheCommit, Transition, [], ap, append-nil, append_assoc, arith, asks, begins_so, clean_alone, clean_plain, commit_asks, false, false_true, happen, hear, inl, inr, is_just_set, is_reading, length, may_commit_job, may_setup, none_some, open_running, operation_of, put, put_here, put_other, refl, same_or_not, strange_entry, subst, sym, tells, true, wants, who, ℕ, ◌++◌, ◌∙◌, ◌∷◌, ◌≡◌}
 use Rattle.job_model.specs.declared.events.Op.TheVariants as ops
-use Rattle.job_steps.proofs.Actors.{same_or_not, put_here, put_other}
-use Rattle.job_steps.proofs.RunningStages.{IsSettingUp, Begins, begins_so, may_setup, may_commit_job}
 use Rattle.job_outcomes.specs.CommitMoments.{NoneRead}
-use Rattle.job_traces.proofs.Plain.{clean_plain}
 use Rattle.job_safety.proofs.History.{Later, at_once, later}
 use Rattle.job_safety.proofs.Early.{driver_past}
-use Rattle.job_protocol.proofs.Begun.{clean_alone}
 
 -- the driver's commit is over, or it aborts or cleans
 abbrev pub IsOver : Commit → Type 0

@@ -1,14 +1,9 @@
 -- How the driver's abort or clean of the job ends in a run.
-use Rattle.std.proofs.Common.{◌≡◌, ℕ, ◌+◌, inl, inr, nat_le, List, [], ◌++◌, length, append-nil, Some, None, refl, sym, ap, subst, ◌∙◌, false, arith}
-use Rattle.job_spec.proofs.Common.{filter-append, false_true}
-use Rattle.job_steps.specs.Prelude.{Content, Scene, moment, after_all, AreHonest, Driver, Entry, run, Follows, fresh, IsLegal, Known, CleanEnd, clean_start, Setting, Operation, TheClean, wants, advance, over, Doing, until, before, since, by_actor, is_memory, AllBy, known_then, CleansEnd, Play, Reachable}
-use Rattle.job_facts.specs.Prelude.{Cleaned}
+use Rattle.job_safety.proofs.Common.{AllBy, AreHonest, CleanEnd, Cleaned, CleansEnd, Content, Doing, Driver, Entry, Follows, IsLegal, Known, List, None, Operation, Play, Reachable, Scene, Setting, Some, TheClean, [], advance, after_all, ap, append-nil, arith, before, by_actor, clean_alone, clean_start, false, false_true, filter-append, fresh, from_part, inl, inr, is_memory, known_then, length, moment, nat_le, over, refl, run, since, subst, sym, until, wants, ℕ, ◌++◌, ◌+◌, ◌∙◌, ◌≡◌}
 use Rattle.s3_types.specs.Store as store
 use Rattle.job_model.specs.declared.ends.CleanEnd.TheVariants as cleans
 use Rattle.job_model.specs.declared.ends.OpEnd.TheVariants as ends
-use Rattle.job_steps.proofs.Parts.{from_part}
 use Rattle.job_outcomes.proofs.CleanEnds.{cleans_end}
-use Rattle.job_protocol.proofs.Begun.{clean_alone}
 use Rattle.job_safety.proofs.Cuts.{moment_cut, all_by_back}
 use Rattle.job_outcomes.proofs.EventRows.{alone as by_all, all_since}
 use Rattle.job_safety.proofs.Strange.{driver_none}

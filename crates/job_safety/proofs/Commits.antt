@@ -1,28 +1,17 @@
 -- How the driver's commit ends in a run, and what it leaves.
-use Rattle.std.proofs.Common.{◌≡◌, ℕ, zero, suc, ◌+◌, ◌<◌, ◌≤◌, inl, inr, Bool, true, false, cond, List, [], ◌∷◌, ◌++◌, filter, length, Option, Some, None, IsSome, append_assoc, refl, sym, ap, subst, ◌∙◌, arith, ◌&&◌}
-use Rattle.job_steps.specs.Prelude.{option_map, Content, Scene, moment, after_all, Driver, Reply, Answered, Entry, run, Follows, IsLegal, Script, Known, Op, CommitEnd, Commit, CommitOver, commit_start, commit_asks, commit_tells, commit_over, set_request, set_read, Setting, Running, start_of, TheCommit, advance, over, see_all, nothing_seen, is_begun, same_actor, Doing, missing, first_not, clean_event, until, by_actor, is_wanting, known_then, CommitEnded, CommitServed, AreOwn, seen_until, IsIn, Told, tell_all, nothing_told, HasPublished, IsOpening, Play, Opens, Closes, open_running, happen, Reachable, happens, IsRun, operation_of, times}
+use Rattle.job_safety.proofs.Common.{Answered, AreOwn, Bool, Closes, Commit, CommitEnd, CommitEnded, CommitOver, CommitServed, CommitsEndAmong, Content, Doing, Driver, Entry, Follows, HasPublished, IsIn, IsLegal, IsOpening, IsRun, IsSome, Known, List, None, Op, Opens, Option, Play, Reachable, Reply, Running, Scene, Script, Setting, Some, TheCommit, Told, [], advance, after_all, always, ap, append_assoc, arith, by_actor, clean_event, commit_alone, commit_asks, commit_moments, commit_over, commit_start, commit_tells, computed, cond, end_of, false, false_true, filter, first_not, happen, happens, in_back, in_commit, in_filter, inl, inr, is_begun, is_run, is_wanting, known_then, length, missing, moment, moment_scene, none_or_some, none_sent, none_some, nothing_seen, nothing_told, open_running, operation_of, option_map, or_parts, over, own_front, refl, reverted_now, run, run_entries, same_actor, same_is, see_all, see_parts, seen_until, sees, set_read, set_request, some_is, start_of, subst, suc, sym, take_all, tell_all, tells_so, times, told_all, true, true_or_false, until, zero, ℕ, ◌&&◌, ◌++◌, ◌+◌, ◌<◌, ◌∙◌, ◌∷◌, ◌≡◌, ◌≤◌}
 use Rattle.job_spec.specs.Prelude.{first_worn, CommitsEnd, reports, is_reported}
-use Rattle.job_spec.proofs.Common.{computed, none_sent, some_is, none_some, none_or_some, or_parts, true_or_false, false_true, in_back, in_filter}
 use Rattle.job_facts.specs.Prelude.{view, Same, Always, is_marked, commit_due, is_untouched, NoDeletionWorn, OnlyOpening, Times, Actor, Reports, list_any, is_driver}
 use Rattle.s3_types.specs.Store as store
 use Rattle.job_model.specs.declared.events.Op.TheVariants as ops
 use Rattle.job_model.specs.declared.ends.CommitEnd.TheVariants as commits
 use Rattle.job_model.specs.declared.ends.Stage.TheVariants as stages
 use Rattle.job_model.specs.declared.ends.OpEnd.TheVariants as ends
-use Rattle.job_traces.proofs.Entries.{take_all, in_commit, sees, tells_so, always, reverted_now}
-use Rattle.job_traces.proofs.Changes.{moment_scene}
-use Rattle.job_steps.proofs.Actors.{same_is}
-use Rattle.job_steps.proofs.Told.{told_all}
 use Rattle.job_steps.proofs.Reported.{last_more, all_published, reported}
-use Rattle.job_steps.proofs.Running.{is_run}
 use Rattle.job_outcomes.specs.CommitRuns.{IsDue, CommitStands}
 use Rattle.job_outcomes.proofs.Alone.{go_alone}
 use Rattle.job_outcomes.proofs.CommitRuns.{no_entry, commit_runs}
-use Rattle.job_outcomes.proofs.CommitMoments.{see_parts, commit_moments}
 use Rattle.job_outcomes.proofs.Served.{commit_answers}
-use Rattle.job_outcomes.proofs.RunEntries.{run_entries}
-use Rattle.job_traces.proofs.EveryRun.{own_front}
-use Rattle.job_safety.specs.Laws.{CommitsEndAmong}
 use Rattle.job_safety.proofs.Cuts.{moment_cut}
 use Rattle.job_safety.proofs.Sorts.{over_kind, kind_run, driver_commit, memory_commit}
 use Rattle.job_safety.proofs.History.{Began, IsBegin}
@@ -30,8 +19,6 @@ use Rattle.job_safety.proofs.Ending.{Ending, ahead_none, ending, until_own}
 use Rattle.job_safety.proofs.Spans.{start, mine}
 use Rattle.job_safety.proofs.Timed.{run_then, ahead_opened, ahead_start, opened_commit, number_is, unclean_then, taken_then, picks_then}
 use Rattle.job_safety.proofs.After.{IsAfter, After, after_commit}
-use Rattle.job_protocol.proofs.Begun.{commit_alone}
-use Rattle.proof_base.proofs.Options.{end_of}
 
 -- ---- plain facts
 

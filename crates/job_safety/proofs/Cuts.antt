@@ -1,11 +1,6 @@
 -- A journal that is cut in two where an event begins or ends: its parts by events and actors, and its moments.
-use Rattle.std.proofs.Common.{◌≡◌, ℕ, ◌+◌, ◌≤◌, nat_le, nat_lt, List, [], ◌∷◌, ◌++◌, length, append-nil, ap, ◌∙◌, arith}
-use Rattle.job_spec.proofs.Common.{filter-append}
-use Rattle.job_steps.specs.Prelude.{Content, after_all, moment, Actor, Entry, same_actor, before, since, by_actor, AllBy, AllFrom, AllUpTo}
+use Rattle.job_safety.proofs.Common.{Actor, AllBy, AllFrom, AllUpTo, Content, Entry, List, [], after_all, all_since, ap, append-nil, arith, before, before_all, by_actor, filter-append, from_part, length, moment, nat_le, nat_lt, none_before, same_actor, since, since_none, take-append_seam, up_to_part, ℕ, ◌++◌, ◌+◌, ◌∙◌, ◌∷◌, ◌≡◌, ◌≤◌}
 use Rattle.s3_types.specs.Store as store
-use Rattle.std.proofs.Math.Seq.{take-append_seam}
-use Rattle.job_outcomes.proofs.EventRows.{none_before, all_since}
-use Rattle.job_steps.proofs.Parts.{before_all, since_none, up_to_part, from_part}
 
 -- ---- entries of later events
 

@@ -1,17 +1,9 @@
 -- Until the driver's set-up is over all of the job's entries are the driver's: no attempt has begun before.
-use Rattle.std.proofs.Common.{◌≡◌, ℕ, ◌⊎◌, inl, inr, ◌&&◌, true, false, cond, [], ◌∷◌, ◌++◌, length, slice_get, Option, Some, None, refl, sym, ap, subst, ◌∙◌, arith}
-use Rattle.job_spec.proofs.Common.{filter-append, none_some, false_true}
-use Rattle.job_steps.specs.Prelude.{Content, Actor, Driver, Entry, IsLegal, Script, Op, Event, Do, Start, Kill, Restart, SetupEnd, ActorEnd, OpEnd, Done, Busy, ActorStage, ActorState, Setting, Operation, TheCommit, TheClean, Running, over, Past, put, ended, is_new, needs_set, stage_begun, refusal, open_event, is_own, own, is_memory, AllBy, IsOpening, Play, Refuses, Opens, Sends, Finishes, Closes, Strays, open_running, MaySend, MayFinish, Reachable, nothing_happened, happens, operation_of, TheCheck, TheSparing}
+use Rattle.job_safety.proofs.Common.{Actor, ActorEnd, ActorStage, ActorState, AllBy, Busy, Closes, Content, Do, Done, Driver, DriverAt, Entry, Event, Finishes, IsBehind, IsLegal, IsOpening, Kill, MayFinish, MaySend, None, Op, OpEnd, Opens, Operation, Option, Past, Play, Reachable, Refuses, Restart, Running, Script, Sends, Setting, SetupEnd, Some, Start, Strays, TheCheck, TheClean, TheCommit, TheSparing, [], all_more, ap, arith, begins_so, carried, cond, driver_ends, ended, false, false_true, filter-append, get_last, happens, inl, inr, is_memory, is_new, is_own, length, may_end, memory_dies, needs_set, none_some, nothing_happened, open_event, open_running, operation_of, over, own, own_own, put, put_here, put_other, refl, refusal, restarted_new, same_or_not, slice_get, stage_begun, subst, sym, told_all, true, ℕ, ◌&&◌, ◌++◌, ◌∙◌, ◌∷◌, ◌≡◌, ◌⊎◌}
 use Rattle.job_model.specs.declared.events.Op.TheVariants as ops
 use Rattle.job_model.specs.declared.ends.OpEnd.TheVariants as ends
 use Rattle.job_model.specs.declared.states.ActorStage.TheVariants as stage
-use Rattle.job_steps.proofs.Parts.{get_last, own_own}
-use Rattle.job_steps.proofs.Actors.{same_or_not, put_here, put_other}
-use Rattle.job_steps.proofs.RunningStages.{DriverAt, IsBehind, begins_so, memory_dies, may_end, restarted_new, driver_ends}
-use Rattle.job_steps.proofs.Running.{carried}
-use Rattle.job_steps.proofs.Told.{told_all}
 use Rattle.job_safety.proofs.Sorts.{kind, OfSetup, OfCommit, OfClean, over_kind}
-use Rattle.job_outcomes.proofs.RunEntries.{all_more}
 
 -- ---- stages
 

@@ -1,12 +1,7 @@
 -- An operation that ended in an event of a run, at the moment right before that event was over.
-use Rattle.std.proofs.Common.{◌≡◌, ℕ, ◌+◌, ◌≤◌, ◌⊎◌, inl, inr, true, false, List, [], ◌∷◌, ◌++◌, length, take, slice_get, append_assoc, append-nil, Some, None, refl, sym, ap, subst, ◌∙◌, arith, nat_le}
-use Rattle.job_spec.proofs.Common.{take-append-le, filter-append, some_is, none_some}
-use Rattle.job_steps.specs.Prelude.{Content, Actor, Entry, run, Follows, Script, Event, OpEnd, ActorEnd, EventEnd, Refused, Setting, Operation, Running, wants, advance, start_of, over, Past, Doing, past, end_ops, open_event, after_event, told, is_refused, AreOwn, is_own, own, until, since, by_actor, is_memory, AllFrom, AllUpTo, known_then, EndedIn, Play, Reachable, Ahead, same_actor}
+use Rattle.job_safety.proofs.Common.{Actor, ActorEnd, Ahead, AllFrom, AllUpTo, AreOwn, Content, Doing, EndedIn, Entry, Event, EventEnd, Follows, List, None, OpEnd, Operation, Past, Play, Reachable, Refused, Running, Script, Setting, Some, [], advance, after_event, ap, append-nil, append_assoc, arith, by_actor, end_ops, false, filter-append, inl, inr, is_memory, is_own, is_refused, known_then, length, memory_or, nat_le, none_some, open_event, over, own, past, refl, run, same_actor, since, slice_get, some_is, start_of, subst, sym, take, take-append-le, take_whole, told, told_all, true, until, until_all, wants, ℕ, ◌++◌, ◌+◌, ◌∙◌, ◌∷◌, ◌≡◌, ◌≤◌, ◌⊎◌}
 use Rattle.job_spec.specs.States.{count}
-use Rattle.job_steps.proofs.Parts.{take_whole, until_all}
 use Rattle.job_steps.proofs.PastMore.{after_is, turns_refused}
-use Rattle.job_steps.proofs.RunningStages.{memory_or}
-use Rattle.job_steps.proofs.Told.{told_all}
 use Rattle.job_safety.proofs.Strange.{AreStrange, strange_until, strange_by, strange_none, own_back, own_part}
 use Rattle.job_safety.proofs.History.{Closed, closed_at}
 

@@ -1,11 +1,5 @@
 -- That the facts of one job hold of what happened in its run, from the end of its set-up on.
-use Rattle.std.proofs.Common.{◌≡◌, ℕ, false, sym, ap, subst, ◌∙◌}
-use Rattle.job_spec.proofs.Common.{not_so}
-use Rattle.job_steps.specs.Prelude.{Driver, Seen, nothing_seen, see_all, Past, is_new, past, clean_event, Hold, Told, nothing_told, tell_all, times}
-use Rattle.job_traces.proofs.Entries.{sees, tells_so, late_now}
-use Rattle.job_steps.proofs.Played.{happenings_play}
-use Rattle.job_steps.proofs.Running.{is_run}
-use Rattle.job_safety.specs.Laws.{RunsHoldFacts}
+use Rattle.job_safety.proofs.Common.{Driver, Hold, Past, RunsHoldFacts, Seen, Told, ap, clean_event, false, happenings_play, is_new, is_run, late_now, not_so, nothing_seen, nothing_told, past, see_all, sees, subst, sym, tell_all, tells_so, times, ℕ, ◌∙◌, ◌≡◌}
 use Rattle.job_safety.proofs.Ending.{ahead_none}
 
 pub runs_hold_facts : RunsHoldFacts

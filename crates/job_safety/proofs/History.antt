@@ -1,11 +1,5 @@
 -- What happened, looked back at: how an event came to its end, how an operation began, and what came later.
-use Rattle.std.proofs.Common.{◌≡◌, ℕ, ◌+◌, ◌<◌, ◌≤◌, ◌⊎◌, inl, inr, false, List, [], ◌∷◌, ◌++◌, length, slice_get, append_assoc, append-nil, Option, Some, None, refl, sym, ap, subst, ◌∙◌, arith}
-use Rattle.job_spec.proofs.Common.{slice_get_within, some_is, none_some, false_true}
-use Rattle.job_steps.specs.Prelude.{Content, Actor, Request, Outcome, Entry, Op, Event, Do, Start, EventEnd, Refused, Setting, Running, Past, Doing, put, reports, is_refused, open_event, own, AllFrom, begun, start_of, knows_now, open_running, strange_entry, Play, Transition, Refuses, Opens, Sends, Finishes, Closes, Strays, happen, MayOpen, MaySend, MayClose, MayStray, Enabled, Reachable, nothing_happened, happens, Ahead, reports}
-use Rattle.job_steps.proofs.Parts.{get_last, from_last, from_own, own_own}
-use Rattle.job_steps.proofs.Actors.{same_or_not, put_here, put_other}
-use Rattle.job_steps.proofs.Told.{told_all}
-use Rattle.job_steps.proofs.Running.{sent_ahead, finished_ahead, opened_ahead, refused_ahead, not_refused, closed_ahead, strayed_ahead}
+use Rattle.job_safety.proofs.Common.{Actor, Ahead, AllFrom, Closes, Content, Do, Doing, Enabled, Entry, Event, EventEnd, Finishes, List, MayClose, MayOpen, MaySend, MayStray, None, Op, Opens, Option, Outcome, Past, Play, Reachable, Refused, Refuses, Request, Running, Sends, Setting, Some, Start, Strays, Transition, [], ap, append-nil, append_assoc, arith, begun, closed_ahead, false, false_true, finished_ahead, from_last, from_own, get_last, happen, happens, inl, inr, is_refused, knows_now, length, none_some, not_refused, nothing_happened, open_event, open_running, opened_ahead, own, own_own, put, put_here, put_other, refl, refused_ahead, reports, same_or_not, sent_ahead, slice_get, slice_get_within, some_is, start_of, strange_entry, strayed_ahead, subst, sym, told_all, ℕ, ◌++◌, ◌+◌, ◌<◌, ◌∙◌, ◌∷◌, ◌≡◌, ◌≤◌, ◌⊎◌}
 
 -- what happened since then
 pub data Later (g : Setting) (opening : Content) (y : Play) : Play → Type 0 where

@@ -1,11 +1,5 @@
 -- That all that is promised of a job holds of what happened in its run.
-use Rattle.std.proofs.Common.{ℕ, sym, ap, subst, false, ◌∙◌}
-use Rattle.job_steps.specs.Prelude.{Script, Setting, Plays, times}
-use Rattle.job_traces.proofs.Entries.{always}
-use Rattle.job_traces.proofs.Changes.{runs_rename, runs_outside}
-use Rattle.job_steps.proofs.Played.{happenings_play}
-use Rattle.job_steps.proofs.Running.{is_run}
-use Rattle.job_safety.specs.Laws.{RunsAreKept, RunsAreKeptAmong}
+use Rattle.job_safety.proofs.Common.{Plays, RunsAreKept, RunsAreKeptAmong, Script, Setting, always, ap, false, happenings_play, is_run, runs_outside, runs_rename, subst, sym, times, ℕ, ◌∙◌}
 use Rattle.job_safety.proofs.Ending.{ahead_none}
 use Rattle.job_safety.proofs.Setups.{setups_kept, setups_among}
 use Rattle.job_safety.proofs.Tasks.{tasks_kept, publishes_kept}

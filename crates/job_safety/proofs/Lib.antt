@@ -13,3 +13,4 @@ pub mod Timed
 pub mod Commits
 pub mod Facts
 pub mod Kept
+mod Common

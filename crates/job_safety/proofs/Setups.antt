@@ -1,12 +1,7 @@
 -- How the driver's set-up ends in a run.
-use Rattle.std.proofs.Common.{◌≡◌, ℕ, inl, inr, true, List, length, Option, Some, None, refl, sym, subst, ◌∙◌}
-use Rattle.job_steps.specs.Prelude.{Content, Scene, moment, after_all, AreHonest, Driver, Request, Entry, run, Follows, Retried, fresh, WornFirst, IsLegal, Known, SetupEnd, setup_start, Setting, Operation, TheSetup, wants, advance, over, Doing, is_new, before, by_actor, AllBy, known_then, AreOwn, IsOpening, Play, Reachable}
-use Rattle.job_facts.specs.Prelude.{Setup, SetupIs}
-use Rattle.job_spec.specs.Prelude.{SetupsEnd}
+use Rattle.job_safety.proofs.Common.{AllBy, AreHonest, AreOwn, Content, Doing, Driver, Entry, Follows, IsLegal, IsOpening, Known, List, None, Operation, Option, Play, Reachable, Request, Retried, Scene, Setting, Setup, SetupEnd, SetupIs, SetupsEnd, SetupsEndAmong, Some, TheSetup, WornFirst, advance, after_all, before, by_actor, fresh, inl, inr, is_new, known_then, length, moment, over, own_front, refl, run, setup_start, subst, sym, true, wants, ℕ, ◌∙◌, ◌≡◌}
 use Rattle.s3_types.specs.Store as store
 use Rattle.job_model.specs.declared.ends.OpEnd.TheVariants as ends
-use Rattle.job_safety.specs.Laws.{SetupsEndAmong}
-use Rattle.job_traces.proofs.EveryRun.{own_front}
 use Rattle.job_outcomes.proofs.SetupEnds.{setups_end}
 use Rattle.job_safety.proofs.Cuts.{all_by_back}
 use Rattle.job_outcomes.proofs.EventRows.{alone as by_all}

@@ -1,7 +1,5 @@
 -- Of which kind an operation is, from its beginning to its end.
-use Rattle.std.proofs.Common.{◌≡◌, ◌⊎◌, inl, inr, true, List, [], ◌∷◌, Option, Some, None, refl, sym, ap, ◌∙◌, arith}
-use Rattle.job_steps.specs.Prelude.{option_map, Actor, Driver, Outcome, Entry, run, fresh, Who, Known, Op, SetupEnd, TaskEnd, CommitEnd, CleanEnd, OpEnd, setup_start, setup_over, commit_over, clean_over, Setting, Operation, TheSetup, TheCommit, TheClean, Running, who, tells, advance, start_of, over, is_memory, Reports, TheCheck, commit_of, clean_of, TheSparing, step}
-use Rattle.job_spec.proofs.Common.{some_is, none_some, false_true}
+use Rattle.job_safety.proofs.Common.{Actor, CleanEnd, CommitEnd, Driver, Entry, Known, List, None, Op, OpEnd, Operation, Option, Outcome, Reports, Running, Setting, SetupEnd, Some, TaskEnd, TheCheck, TheClean, TheCommit, TheSetup, TheSparing, Who, [], advance, after_check_so, ap, arith, check_after, check_over, clean_of, clean_of_so, clean_over, commit_of, commit_of_so, commit_over, end_of, false_true, fresh, inl, inr, is_memory, none_some, option_map, over, refl, run, setup_over, setup_start, some_is, start_of, step, sym, tells, true, who, ◌∙◌, ◌∷◌, ◌≡◌, ◌⊎◌}
 use Rattle.job_model.specs.declared.events.Op.TheVariants as ops
 use Rattle.job_model.specs.declared.ends.SetupEnd.TheVariants as setups
 use Rattle.job_model.specs.declared.ends.TaskEnd.TheVariants as tasks
@@ -10,10 +8,7 @@ use Rattle.job_model.specs.declared.ends.CleanEnd.TheVariants as cleans
 use Rattle.job_model.specs.declared.ends.CheckEnd.{CheckEnd}
 use Rattle.job_model.specs.declared.ends.CheckEnd.TheVariants as checks
 use Rattle.job_model.specs.declared.ends.OpEnd.TheVariants as ends
-use Rattle.job_protocol.proofs.Begun.{after_check_so, commit_of_so, clean_of_so}
-use Rattle.job_protocol.specs.Rechecks.{check_after, check_over}
 use Rattle.job_protocol.specs.Sparing.{sparing_over}
-use Rattle.proof_base.proofs.Options.{end_of}
 
 pub data Kind : Type 0 where
   OfSetup : Kind

@@ -1,13 +1,9 @@
 -- The journal of a run where an operation began and ended: what was before, what was between, and what the actor itself sent.
-use Rattle.std.proofs.Common.{◌≡◌, ℕ, ◌+◌, ◌≤◌, List, ◌++◌, length, append_assoc, sym, ap, subst, ◌∙◌, arith}
-use Rattle.job_steps.specs.Prelude.{Content, moment, after_all, AreHonest, Actor, Entry, OpEnd, Setting, Doing, before, since, by_actor, AllFrom, AllUpTo, Play}
+use Rattle.job_safety.proofs.Common.{Actor, AllFrom, AllUpTo, AreHonest, Content, Doing, Entry, List, OpEnd, Play, Setting, after_all, after_parts, ap, append_assoc, arith, before, by_actor, honest_back, length, moment, since, subst, sym, told_all, ℕ, ◌++◌, ◌+◌, ◌∙◌, ◌≡◌, ◌≤◌}
 use Rattle.s3_types.specs.Store as store
-use Rattle.job_steps.proofs.Told.{told_all}
 use Rattle.job_safety.proofs.Cuts.{from_more, before_front, before_cut, since_cut, before_by_front, since_by_cut, moment_cut}
-use Rattle.job_outcomes.proofs.EventRows.{honest_back}
 use Rattle.job_safety.proofs.History.{Began, began}
 use Rattle.job_safety.proofs.Ending.{Ending}
-use Rattle.job_traces.proofs.Changes.{after_parts}
 
 module _ (g : Setting) (opening : Content) (x : Play) (j : ℕ) (a : Actor) (d : Doing) (end : OpEnd) (es : List Entry) (n : Ending g opening x j a d end es) where
   abbrev z : Play

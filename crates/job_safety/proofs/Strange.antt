@@ -1,11 +1,6 @@
 -- Entries of strangers between the events of a run: no actor of the job sent them, and nothing is told of them.
-use Rattle.std.proofs.Common.{◌≡◌, ℕ, ◌+◌, ◌<◌, ◌≤◌, nat_le, ◌||◌, Bool, true, false, cond, List, [], ◌∷◌, ◌++◌, refl, ap, ◌∙◌, arith}
-use Rattle.job_steps.specs.Prelude.{filter, Actor, Driver, Entry, Script, same_actor, AreOwn, Seen, see, see_all, is_own, own, until, by_actor, until_last, AllBy, AllFrom}
-use Rattle.job_facts.specs.Prelude.{list_any, Times}
-use Rattle.job_spec.proofs.Common.{above_so, false_true}
-use Rattle.job_steps.proofs.Actors.{same_false}
-use Rattle.job_outcomes.proofs.RunEntries.{last_other}
-use Rattle.job_traces.proofs.Plain.{entry_picks}
+use Rattle.job_safety.proofs.Common.{Bool, List, [], above_so, ap, arith, cond, entry_picks, false, false_true, last_other, nat_le, refl, same_false, true, ℕ, ◌++◌, ◌+◌, ◌<◌, ◌||◌, ◌∙◌, ◌∷◌, ◌≡◌, ◌≤◌}
+use Rattle.job_facts.specs.Prelude.{Actor, AllBy, AllFrom, AreOwn, Driver, Entry, Script, Seen, Times, by_actor, filter, is_own, list_any, own, same_actor, see, see_all, until, until_last}
 
 abbrev pub AreStrange : List Entry → Type 0
 AreStrange [] = Unit {0}

@@ -1,23 +1,16 @@
 -- How attempts' operations end in a run, and that a commit that is done has published.
-use Rattle.std.proofs.Common.{◌≡◌, ℕ, ◌+◌, inl, inr, Bool, true, false, List, [], ◌∷◌, Option, Some, None, refl, sym, ap, subst, ◌∙◌, arith}
-use Rattle.job_steps.specs.Prelude.{option_map, Content, Attempt, Request, Outcome, Entry, run, WornFirst, Who, IsLegal, Known, Op, TaskEnd, TaskCommitOver, task_commit_over, knows, Setting, Operation, TheSetup, TheTaskCommit, Running, tells, advance, start_of, over, has_cleaned, Doing, clean_event, until, by_actor, until_last, known_then, TaskIs, WasPublished, setting, IsOpening, Play, Closes, happen, Reachable, happens, times, IsRun, operation_of, Reports, missing, TheCheck, step}
-use Rattle.job_spec.proofs.Common.{some_is, none_some, false_true}
+use Rattle.job_safety.proofs.Common.{Attempt, Bool, Closes, Content, Doing, Entry, IsLegal, IsOpening, IsRun, Known, List, None, Op, Operation, Option, Outcome, Play, PublishesAmong, Reachable, Reports, Request, Running, Setting, Some, TaskCommitOver, TaskEnd, TaskIs, TasksEndAmong, TheCheck, TheSetup, TheTaskCommit, WasPublished, Who, WornFirst, [], advance, after_check_so, ap, arith, by_actor, check_after, clean_event, false, false_true, happen, happens, has_cleaned, inl, inr, is_run, known_then, knows, missing, none_some, operation_of, option_map, over, refl, run, run_entries, setting, some_is, start_of, step, subst, sym, task_commit_over, tells, times, true, until, until_last, ℕ, ◌+◌, ◌∙◌, ◌∷◌, ◌≡◌}
 use Rattle.job_model.specs.declared.events.Op.TheVariants as ops
 use Rattle.job_model.specs.declared.ends.TaskEnd.TheVariants as tasks
 use Rattle.job_model.specs.declared.ends.OpEnd.TheVariants as ends
-use Rattle.job_safety.specs.Laws.{TasksEndAmong, PublishesAmong}
 use Rattle.job_facts.proofs.Whose.{attempt}
-use Rattle.job_steps.proofs.Running.{is_run}
 use Rattle.job_outcomes.specs.TaskEnds.{is_abort}
 use Rattle.job_outcomes.proofs.TaskEnds.{task_ends, task_joined}
 use Rattle.job_outcomes.proofs.Gone.{gone_cleaned, done_published}
-use Rattle.job_outcomes.proofs.RunEntries.{run_entries}
 use Rattle.job_safety.proofs.Sorts.{memory_task}
 use Rattle.job_safety.proofs.Ending.{Ending, ahead_none, ending, journal_until, until_strange}
 use Rattle.job_safety.proofs.Strange.{strange_last}
 use Rattle.job_safety.proofs.Spans.{known_is}
-use Rattle.job_protocol.proofs.Begun.{after_check_so}
-use Rattle.job_protocol.specs.Rechecks.{check_after}
 
 -- ---- of which operation
 

@@ -1,24 +1,13 @@
 -- At the end of an event in which the driver's operation ended: the run then, the event in which its commit began, and what is seen.
-use Rattle.std.proofs.Common.{◌≡◌, ℕ, ◌+◌, ◌<◌, ◌≤◌, inl, inr, true, false, List, length, take, Option, Some, None, refl, sym, ap, subst, ◌∙◌, arith}
-use Rattle.job_steps.specs.Prelude.{Content, Driver, Entry, IsLegal, Script, Event, Op, OpEnd, Commit, Setting, Operation, commit_of, TheCommit, TheSetup, see_all, nothing_seen, is_begun, Seen, refusal, Doing, driver_may, until, since, seen_until, Told, nothing_told, IsOpening, is_just_set, Play, MayOpen, Opens, Closes, open_running, happen, Reachable, happens, Ahead, IsRun, operation_of, times, Times, has_cleaned}
-use Rattle.job_spec.specs.Prelude.{reports}
-use Rattle.job_spec.proofs.Common.{at_most_is, at_most_not, false_true}
+use Rattle.job_safety.proofs.Common.{Ahead, Begins, Begun, Closes, Commit, Content, Doing, Driver, Entry, Event, IsLegal, IsOpening, IsRun, IsSettingUp, IsTimed, List, MayOpen, None, Op, OpEnd, Opens, Operation, Option, Play, Reachable, Script, Seen, Setting, Some, TheCommit, TheSetup, Times, Told, ap, arith, at_most_is, at_most_not, begins_so, carried, closed_ahead, commit_of, commit_of_so, driver_may, event_rows, false, false_true, happen, happens, has_cleaned, in_commit, inl, inr, is_begun, is_just_set, is_run, length, may_commit_job, not_refused, nothing_seen, nothing_told, number, open_running, opened_ahead, operation_of, refl, refusal, reports, see_all, see_parts, seen_until, sees, since, subst, sym, take, take-append_seam, tells_so, timed_setting, times, told_all, true, until, ℕ, ◌+◌, ◌<◌, ◌∙◌, ◌≡◌, ◌≤◌}
 use Rattle.job_facts.proofs.Learnt.{cleaned_is}
-use Rattle.job_model.specs.declared.events.Op.TheVariants as ops
-use Rattle.job_protocol.proofs.Begun.{commit_of_so}
-use Rattle.job_traces.proofs.Entries.{in_commit, sees, tells_so}
-use Rattle.job_steps.proofs.RunningStages.{Begins, begins_so, IsSettingUp, IsTimed, timed_setting, may_commit_job, Begun}
-use Rattle.job_steps.proofs.Told.{told_all}
 use Rattle.job_steps.proofs.RunningNumbers.{begun_at}
-use Rattle.job_steps.proofs.Running.{number, is_run, carried, opened_ahead, closed_ahead, not_refused}
-use Rattle.job_outcomes.proofs.CommitMoments.{see_parts}
-use Rattle.job_outcomes.proofs.EventRows.{event_rows}
-use Rattle.std.proofs.Math.Seq.{take-append_seam}
 use Rattle.job_safety.proofs.History.{Began, IsBegin}
 use Rattle.job_safety.proofs.Ending.{Ending, ahead_none, journal_until, until_strange}
 use Rattle.job_safety.proofs.Spans.{start}
 use Rattle.job_safety.proofs.Strange.{strange_picks}
 use Rattle.job_safety.proofs.Early.{driver_past}
+use Rattle.job_model.specs.declared.events.Op.TheVariants as ops
 
 -- ---- plain facts
 

@@ -1,23 +1,12 @@
 -- The lines of attempts and their files: what is printed is read again, and what is read is within bounds.
-use Rattle.std.proofs.Common.{◌≡◌, ℕ, ◌+◌, ◌<◌, ◌≤◌, Bool, true, false, List, [], ◌∷◌, ◌++◌, length, map, Option, Some, None, Ok, refl, sym, ap, subst, ◌∙◌, arith, append_assoc, decimal, lit<}
+use Rattle.job_script.proofs.Common.{AllByRecursion, AreAttempts, AreFiles, AttemptName, BadLine, BadPath, Bool, Declared, Draft, File, Group, Head, HiddenPath, IsFile, IsScriptWord, List, None, Ok, Option, RepeatedName, ScriptFault, Some, TooLarge, [], actor_text, ap, append-nil, append_assoc, arith, attempt_lines, bytes_in, bytes_of, check, decimal, declares, false, file_line, files_in, flat_map, has_path, hex_word, is_hidden, is_path, last_files, le-leb, leb-true, length, length-append, lit<, lt-ltb, ltb-true, map, need, needed, number_in-decimal, one_longer, option_or, parted, parts_of, refl, subst, sym, true, two_and_more, two_numbers, with_file, ℕ, ◌++◌, ◌+◌, ◌<◌, ◌>>=◌, ◌∙◌, ◌∷◌, ◌≡◌, ◌≤◌}
 use Rattle.std.specs.Prelude.{codes, nat_le, nat_lt, not}
-use Rattle.job_model.specs.Prelude.{flat_map, AllByRecursion, option_or, ◌>>=◌, need, check, two_and_more, actor_text, File, has_path, Declared, declares, last_files, with_file, is_path, is_hidden, IsScriptWord, IsFile, AreFiles, AreAttempts, files_in, bytes_of, bytes_in}
-use Rattle.path_keys.proofs.Common.{leb-true, ltb-true, lt-ltb, le-leb, append-nil, one_longer, parted, needed, number_in-decimal, two_numbers}
-use Rattle.proof_base.proofs.Common.{length-append}
-use Rattle.words.specs.Parts.{parts_of}
 use Rattle.s3_types.specs.declared.request.Actor.TheVariants as actor
-use Rattle.job_model.specs.declared.attempts.AttemptName.{AttemptName}
-use Rattle.job_script.specs.declared.fault.ScriptFault.{ScriptFault}
-use Rattle.job_script.specs.declared.fault.ScriptFault.TheVariants.{BadLine, RepeatedName, BadPath, HiddenPath, TooLarge}
-use Rattle.job_script.specs.declared.draft.Draft.{Draft}
-use Rattle.job_script.specs.declared.draft.Group.{Group}
 use Rattle.job_script.specs.declared.draft.Group.TheVariants as group
-use Rattle.job_script.specs.declared.head.Head.{Head}
 use Rattle.job_script.specs.declared.kinds.Kind.TheVariants as kind
 use Rattle.job_script.specs.Content.{hex_bytes, hex_at, content_at}
 use Rattle.job_script.specs.AttemptLines.{name_at, attempt_at, file_at, outside_at}
 use Rattle.job_script.specs.Script.{enters, said_at, words_at}
-use Rattle.job_script.specs.Print.{hex_word, file_line, attempt_lines}
 use Rattle.job_script.proofs.Words.{is_lettered, lettered, decimal_letters, letters_end, number_bounds, literal_word}
 use Rattle.job_script.proofs.Lines.{IsPrinted, lettered_word, plain_last, printed, Goes, goes_on, goes_through, each_goes, said}
 use Rattle.job_script.proofs.FileBytes.{hex_again, hex_lettered, content_sound}

@@ -1,25 +1,16 @@
 -- The text of a destination is read as it again, and what is read as a path.
-use Rattle.std.proofs.Common.{◌≡◌, ◌≢◌, ℕ, ◌<◌, true, false, not, List, [], ◌∷◌, ◌++◌, length, drop, Option, Some, None, Ok, refl, sym, ap, ◌∙◌, arith, append_assoc, subst, true≢false}
+use Rattle.job_script.proofs.Common.{Decides-eqb, IsDest, IsScriptWord, IsUtf8-append, IsUtf8-from_is_utf8, IsUtf8-nil, List, None, Ok, Option, Path, PathFault, Some, [], and_parts, ap, append_assoc, arith, bucket_in, bucket_utf8, cond_some, drop, ends_with, false, first_fault, is_bare, is_bucket, is_dest_key, is_element, is_key, is_name_byte, is_other, is_utf8-from_IsUtf8, join_parts, join_with_byte, leb-true, length, list_all, list_all-append, named, need, needed, not, not_so, option_or, part_from, parted, parts_of, passed, path_in, path_text, refl, same_ok, starts_is, starts_with, subst, sym, trimmed, true, true≢false, weaker, without_return, ℕ, ◌++◌, ◌<◌, ◌∙◌, ◌∷◌, ◌≡◌, ◌≢◌}
 use Rattle.std.specs.Prelude.{nat_eq, codes, nat_le}
-use Rattle.job_model.specs.Prelude.{list_all, ends_with, starts_with, join_with_byte, option_or, without_return, is_other, is_bare, is_bucket, is_element, trimmed, Path, is_key, path_in, named, bucket_in, first_fault, PathFault, IsDest, IsScriptWord, need, is_dest_key}
-use Rattle.path_keys.proofs.Common.{and_parts, leb-true, list_all-append, IsUtf8-append, IsUtf8-from_is_utf8, is_utf8-from_IsUtf8, Decides-eqb, starts_is, join_parts, not_so, weaker, cond_some, parted, same_ok, needed}
-use Rattle.s3_types.specs.Prelude.{is_name_byte}
-use Rattle.std.proofs.lemmas.Str.{IsUtf8-nil}
-use Rattle.words.specs.Parts.{parts_of}
 use Rattle.std.proofs.lemmas.Slice.Eq.{ends_is}
 use Rattle.words.proofs.Cuts.{no_return}
-use Rattle.words.proofs.Split.{part_from}
-use Rattle.s3_types.proofs.Utf8.{bucket_utf8}
 use Rattle.path_keys.specs.Paths.{key_of, element_fault, without_scheme}
 use Rattle.path_keys.specs.declared.fault.PathFault.TheVariants.{BadScheme, BadBucket, TooLong}
 use Rattle.path_keys.proofs.Ends.{no_end}
 use Rattle.path_keys.proofs.Keys.{some_key}
 use Rattle.path_keys.proofs.Faults.{text_fits, key_is, key_of_text}
 use Rattle.path_keys.proofs.Last.{parts_round}
-use Rattle.job_script.specs.HeadLines.{path_text}
 use Rattle.job_script.proofs.Words.{literal_word, IsClean, clean_cut, clean_end, script_word}
 use Rattle.job_script.proofs.Lines.{IsLast}
-use Rattle.proof_base.proofs.Reading.{passed}
 
 -- ---- what is printed is read again
 

@@ -1,30 +1,18 @@
 -- The lines of events: what is printed is read again, and what is read is within bounds.
-use Rattle.std.proofs.Common.{◌≡◌, ℕ, ◌+◌, ◌<◌, ◌≤◌, Bool, true, false, cond, List, [], ◌∷◌, ◌++◌, length, map, Option, Some, Ok, refl, sym, ap, subst, ◌∙◌, arith, decimal, lit<}
+use Rattle.job_script.proofs.Common.{Actor, AllByRecursion, AreAttempts, AreEvents, AttemptName, BadLine, Bool, Declared, Draft, Event, File, Group, HasOp, Head, IsEvent, List, Ok, Option, Some, TooLarge, UnknownActor, [], actor_of, actor_text, ap, arith, bytes_eq-Decides, check, checked, cond, contrary, decimal, declares, event_line, false, is_known, length, length-append, lit<, lone_from, lookup, lt-ltb, ltb-true, made_so, map, name_at, need, needed, number_in-decimal, one, op_word, parted, parts_of, refl, same_name, same_ok, subst, sym, true, two, two_numbers, ℕ, ◌++◌, ◌+◌, ◌<◌, ◌>>=◌, ◌∙◌, ◌∷◌, ◌≡◌, ◌≤◌}
 use Rattle.std.specs.Prelude.{is_some, codes, nat_lt, if◌then◌else◌}
-use Rattle.job_model.specs.Prelude.{AllByRecursion, ◌>>=◌, need, check, one, two, Actor, actor_text, lookup, File, Declared, actor_of, declares, is_known, same_name, AreAttempts, AreEvents, HasOp, IsEvent, op_word}
-use Rattle.path_keys.proofs.Common.{ltb-true, lt-ltb, bytes_eq-Decides, contrary, parted, same_ok, needed, checked, made_so, number_in-decimal, two_numbers, lone_from}
-use Rattle.proof_base.proofs.Common.{length-append}
-use Rattle.words.specs.Parts.{parts_of}
 use Rattle.s3_types.specs.declared.request.Actor.TheVariants as actor
-use Rattle.job_model.specs.declared.attempts.AttemptName.{AttemptName}
 use Rattle.job_model.specs.declared.events.Op.{Op}
 use Rattle.job_model.specs.declared.events.Op.TheVariants as op
-use Rattle.job_model.specs.declared.events.Event.{Event}
 use Rattle.job_model.specs.declared.events.Event.TheVariants as event
-use Rattle.job_script.specs.declared.fault.ScriptFault.TheVariants.{BadLine, UnknownActor, TooLarge}
-use Rattle.job_script.specs.declared.draft.Draft.{Draft}
-use Rattle.job_script.specs.declared.draft.Group.{Group}
 use Rattle.job_script.specs.declared.draft.Group.TheVariants as group
-use Rattle.job_script.specs.declared.head.Head.{Head}
 use Rattle.job_script.specs.declared.kinds.EventWord.{EventWord}
 use Rattle.job_script.specs.declared.kinds.EventWord.TheVariants as words
 use Rattle.job_script.specs.declared.kinds.Kind.TheVariants as kind
 use Rattle.job_script.specs.Kinds.{named, driver_ops, attempt_ops}
 use Rattle.job_script.specs.HeadLines.{value_at, number}
-use Rattle.job_script.specs.AttemptLines.{name_at}
 use Rattle.job_script.specs.EventLines.{is_driver, actor_at, op_of, order_at, alone_at, step_at, restart_at, recover_at, event_at, event_line_at}
 use Rattle.job_script.specs.Script.{kind_of, said_at, words_at}
-use Rattle.job_script.specs.Print.{event_line}
 use Rattle.job_script.proofs.Words.{is_lettered, decimal_lettered, number_bounds}
 use Rattle.job_script.proofs.Lines.{IsPrinted, printed, Goes, goes_on, each_goes, said}
 use Rattle.job_script.proofs.HeadLines.{drafted}

@@ -1,16 +1,8 @@
 -- The bytes of a file: what is printed is read again, and what is read are bytes.
-use Rattle.std.proofs.Common.{◌≡◌, ℕ, ◌+◌, ◌/◌, ◌%◌, ◌<◌, ◌≤◌, ◌==◌, Bool, true, false, List, [], ◌∷◌, ◌++◌, length, Some, None, refl, ap, subst, ◌∙◌, arith, zero, suc, Ok, ltb, slice_index, Result}
-use Rattle.std.specs.Prelude.{◌&&◌, nat_lt, if◌then◌else◌, replicate}
-use Rattle.job_model.specs.Prelude.{list_all, AllByRecursion, IsUtf8, IsScriptWord, are_bytes, text}
-use Rattle.path_keys.proofs.Common.{and_parts, ltb-true, lt-ltb, IsUtf8-from_is_utf8, list_all-append, needed}
-use Rattle.s3_types.specs.Prelude.{encode_lower, lower_digits, IsBytes}
+use Rattle.job_script.proofs.Common.{AllByRecursion, BadLine, Bool, IsBytes, IsScriptWord, IsUtf8, IsUtf8-from_is_utf8, List, None, Ok, Result, Some, [], and_parts, ap, are_bytes, arith, encode_lower, encodes-chars, false, hex_word, if◌then◌else◌, joined, length, list_all, list_all-append, lower_digits, lt-ltb, ltb, ltb-true, nat_lt, needed, refl, replicate, scalars-chars, slice_index, subst, suc, text, true, zero, ℕ, ◌%◌, ◌&&◌, ◌++◌, ◌+◌, ◌/◌, ◌<◌, ◌==◌, ◌∙◌, ◌∷◌, ◌≡◌, ◌≤◌}
 use Rattle.std.specs.Str.{chars}
-use Rattle.std.proofs.lemmas.Str.{encodes-chars, scalars-chars}
-use Rattle.words.specs.Words.{joined}
 use Rattle.job_script.specs.Content.{hex_bytes, text_at, hex_at, fill_at, content_at}
-use Rattle.job_script.specs.Print.{hex_word}
 use Rattle.std.proofs.Math.Utf8.{encode, encodes, next, scalar, scalars, scalar_cases}
-use Rattle.job_script.specs.declared.fault.ScriptFault.TheVariants.{BadLine}
 use Rattle.job_script.proofs.Words.{either, is_lettered, lettered, is_letter, number_bounds}
 use Rattle.hex.specs.Hex.{encode_with, decode_of}
 use Rattle.std.specs.Result.{result_ok}

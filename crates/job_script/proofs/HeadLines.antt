@@ -1,19 +1,10 @@
 -- The lines of a script's head that give one value: what is printed is read again, and what is read is within bounds.
-use Rattle.std.proofs.Common.{◌≡◌, ℕ, ◌+◌, ◌<◌, ◌≤◌, ◌^◌, ◌==◌, Bool, true, false, List, [], ◌∷◌, ◌++◌, length, Option, Some, None, Result, Ok, refl, sym, ap, subst, ◌∙◌, arith, decimal, lit<}
+use Rattle.job_script.proofs.Common.{AllByRecursion, AreFates, BadLine, BadNumber, BadPath, Bool, Committer, Declared, DestIsRoot, Draft, Event, Group, Head, HeadWord, IsDest, IsLegal, IsScriptWord, List, Mode, None, Ok, Option, Path, PathFault, Result, Script, ScriptFault, Some, [], ap, arith, bytes_in, check, checked, committer_word, decimal, false, files_in, flat_map, is_dest_key, is_job_id, length, lit<, lt-ltb, need, needed, number_in-decimal, one, parted, path_in, refl, same_ok, subst, sym, true, ℕ, ◌++◌, ◌+◌, ◌<◌, ◌==◌, ◌^◌, ◌∙◌, ◌∷◌, ◌≡◌, ◌≤◌}
 use Rattle.std.specs.Prelude.{codes, nat_lt, option_map, IfSome}
-use Rattle.job_model.specs.Prelude.{flat_map, AllByRecursion, need, check, one, is_job_id, Committer, Mode, Path, path_in, PathFault, committer_word, Declared, Script, IsLegal, IsDest, IsScriptWord, AreFates, files_in, bytes_in, is_dest_key}
-use Rattle.path_keys.proofs.Common.{lt-ltb, parted, same_ok, needed, checked, number_in-decimal}
 use Rattle.proof_base.proofs.Numbers.{positive}
 use Rattle.s3_types.specs.declared.request.Committer.TheVariants as committer
 use Rattle.s3_types.specs.declared.request.Mode.TheVariants as mode
-use Rattle.job_model.specs.declared.events.Event.{Event}
-use Rattle.job_script.specs.declared.fault.ScriptFault.{ScriptFault}
-use Rattle.job_script.specs.declared.fault.ScriptFault.TheVariants.{BadLine, BadPath, DestIsRoot, BadNumber}
-use Rattle.job_script.specs.declared.draft.Draft.{Draft}
-use Rattle.job_script.specs.declared.draft.Group.{Group}
 use Rattle.job_script.specs.declared.draft.Group.TheVariants as group
-use Rattle.job_script.specs.declared.head.Head.{Head}
-use Rattle.job_script.specs.declared.head.HeadWord.{HeadWord}
 use Rattle.job_script.specs.declared.head.HeadWord.TheVariants as head
 use Rattle.job_script.specs.declared.kinds.Kind.TheVariants as kind
 use Rattle.job_script.specs.Kinds.{Names, named, committers, modes, answers, mode_word, answer_word}

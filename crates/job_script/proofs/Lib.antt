@@ -8,3 +8,4 @@ pub mod AttemptLines
 pub mod EventLines
 pub mod Whole
 pub mod PrintLines
+mod Common

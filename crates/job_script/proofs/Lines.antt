@@ -1,19 +1,7 @@
 -- The lines of a printed text are read again, one after another.
-use Rattle.std.proofs.Common.{◌≡◌, ℕ, ◌+◌, ◌<◌, true, false, List, [], ◌∷◌, ◌++◌, length, map, Some, Ok, sym, ap, subst, ◌∙◌, arith, append_assoc}
-use Rattle.std.specs.Prelude.{nat_lt}
-use Rattle.job_model.specs.Prelude.{list_all, AllByRecursion, IsUtf8, is_utf8, ◌>>=◌, lines_of, without_return, ended, text_of, IsBare, IsScriptWord}
-use Rattle.path_keys.proofs.Common.{and_parts, append-nil, map-append, IsUtf8-append, IsUtf8-from_ascii, IsUtf8-from_is_utf8, is_utf8-from_IsUtf8, IsAscii-nil, IsAscii-cons}
-use Rattle.proof_base.proofs.Common.{length-append}
-use Rattle.std.proofs.lemmas.Str.{IsUtf8-nil}
-use Rattle.words.specs.Words.{joined}
-use Rattle.words.proofs.Round.{AreLines, lines_again, bare-joined, kept_end}
-use Rattle.job_script.specs.declared.draft.Draft.{Draft}
-use Rattle.job_script.specs.declared.draft.Group.{Group}
-use Rattle.job_script.specs.declared.kinds.Kind.{Kind}
-use Rattle.job_script.specs.Kinds.{Line}
+use Rattle.job_script.proofs.Common.{AllByRecursion, AreLines, Draft, Group, IsAscii-cons, IsAscii-nil, IsBare, IsScriptWord, IsUtf8, IsUtf8-append, IsUtf8-from_ascii, IsUtf8-from_is_utf8, IsUtf8-nil, Kind, Line, List, Ok, Some, [], and_parts, ap, append-nil, append_assoc, arith, bare-joined, ended, false, is_utf8, is_utf8-from_IsUtf8, joined, kept_end, length, length-append, lines_again, lines_of, list_all, map, map-append, nat_lt, one_byte, subst, sym, text_of, true, without_return, ℕ, ◌++◌, ◌+◌, ◌<◌, ◌>>=◌, ◌∙◌, ◌∷◌, ◌≡◌}
 use Rattle.job_script.specs.Script.{kind_of, enters, is_skipped, said_at, words_at, line_at, lines_at}
 use Rattle.job_script.proofs.Words.{is_letter, is_lettered, literal_word, plain_word}
-use Rattle.proof_base.proofs.Lists.{one_byte}
 
 -- ---- a printed line
 

@@ -1,23 +1,15 @@
 -- The lines of sendings that have a fate: what is printed is read again, and what is read is within bounds.
-use Rattle.std.proofs.Common.{◌≡◌, ℕ, ◌+◌, ◌<◌, ◌≤◌, Bool, true, false, cond, List, [], ◌∷◌, length, map, Option, Some, None, Ok, refl, sym, ap, subst, ◌∙◌, arith, decimal, lit<, Result, Err, inl, inr, ◌↔◌, zero, suc, ◌||◌, true≢false, is_some, ◌++◌, append_assoc}
+use Rattle.job_script.proofs.Common.{AllByRecursion, AreFates, Bool, Err, Fate, FateMap, Head, HeadWord, IsFirstFrom, IsFirstNamed, List, None, Ok, Option, RepeatedName, Result, ScriptFault, Some, TooLarge, [], ap, append-nil, append_assoc, arith, cases_lt, check, cond, contrary, decimal, ended, eq_by_cmp, exact_unsigned, false, fate_word, fates, find, find_head, find_other, inl, inr, is_answer, is_some, keys_of, le-leb, length, lit<, lt-ltb, map, map_sorted, nat_cmp, nat_cmp_total, nat_tests, need, none_is, number_in-decimal, parted, refl, same_ok, sorted_head, sorted_tail, subst, suc, sym, text_of, true, true≢false, zero, ℕ, ◌++◌, ◌+◌, ◌<◌, ◌>>=◌, ◌||◌, ◌↔◌, ◌∙◌, ◌∷◌, ◌≡◌, ◌≤◌}
 use Rattle.std.specs.Prelude.{IfSome, codes, is_some, ◌&&◌, nat_le, nat_lt, ⊤, IsErrOf, OnOk}
-use Rattle.job_model.specs.Prelude.{AllByRecursion, keys_of, find, nat_cmp, eq_by_cmp, nat_cmp_total, FateMap, is_answer, Fate, AreFates, ◌>>=◌, need, check, ended, text_of}
-use Rattle.path_keys.proofs.Common.{lt-ltb, le-leb, cases_lt, sorted_head, sorted_tail, exact_unsigned, nat_tests, map_sorted, number_in-decimal, find_head, find_other, parted, same_ok, contrary, none_is, append-nil}
-use Rattle.s3_types.specs.Prelude.{IsFirstNamed, IsFirstFrom}
 use Rattle.words.proofs.Common.{less_is}
 use Rattle.std.specs.List.Sorted.{IsStrictlySortedBy}
 use Rattle.s3_types.specs.Fates.{with_fates}
-use Rattle.job_script.specs.declared.head.Head.{Head}
 use Rattle.job_script.specs.declared.draft.Loss.{Loss}
-use Rattle.job_script.specs.Kinds.{fates, fate_word}
 use Rattle.job_script.specs.HeadLines.{loss_at, loss_of, named_at, has_one, count_of, row, loss_line, loss_lines}
 use Rattle.proof_base.proofs.EntriesFrom.{AreAbove, other_key, not_found, entries_from, no_entry_from, entry_from, all_entries_from}
 use Rattle.job_script.proofs.Words.{number_bounds, decimal_lettered}
 use Rattle.job_script.proofs.Lines.{IsPrinted, printed, Goes, goes_nowhere, goes_on, said, goes_through}
 use Rattle.s3_types.proofs.Spans.{get_with_fates}
-use Rattle.job_script.specs.declared.fault.ScriptFault.{ScriptFault}
-use Rattle.job_script.specs.declared.fault.ScriptFault.TheVariants.{RepeatedName, TooLarge}
-use Rattle.job_script.specs.declared.head.HeadWord.{HeadWord}
 use Rattle.s3_types.specs.declared.fates.FateFault.{FateFault}
 use Rattle.s3_types.specs.declared.fates.FateFault.TheVariants.{Taken}
 use Rattle.job_script.specs.Script.{words_at, said_at}

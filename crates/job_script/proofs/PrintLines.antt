@@ -1,14 +1,7 @@
 -- Lines that are written one after another.
-use Rattle.std.proofs.Common.{◌≡◌, ℕ, List, [], ◌∷◌, ◌++◌, map, Option, refl, sym, ap, ◌∙◌, append_assoc}
-use Rattle.job_model.specs.Prelude.{flat_map, ended, text_of, Script}
-use Rattle.path_keys.proofs.Common.{append-nil}
+use Rattle.job_script.proofs.Common.{Event, HeadWord, Line, List, Option, Script, [], ap, append-nil, append_assoc, both_written, ended, flat_map, head_lines, head_order, loss_lines, map, refl, row_lines, sym, text_of, value_lines, ℕ, ◌++◌, ◌∙◌, ◌∷◌, ◌≡◌}
 use Rattle.std.proofs.lemmas.List.Concat.{flat_map-append}
-use Rattle.job_model.specs.declared.events.Event.{Event}
-use Rattle.job_script.specs.declared.head.HeadWord.{HeadWord}
-use Rattle.job_script.specs.Kinds.{Line}
-use Rattle.job_script.specs.HeadLines.{value_lines, row_lines, loss_lines, head_order, head_lines}
 use Rattle.job_script.specs.Print.{attempt_lines, event_line, script_text}
-use Rattle.proof_base.proofs.Lists.{both_written}
 
 -- lines behind lines
 text_of_both : (xs ys : List Line) → text_of (xs ++ ys) ≡ text_of xs ++ text_of ys

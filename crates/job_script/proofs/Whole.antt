@@ -1,21 +1,10 @@
 -- The whole script: its printed text is read again, and what is read has the bounds of a script.
-use Rattle.std.proofs.Common.{◌≡◌, ℕ, ◌+◌, ◌<◌, ◌≤◌, ◌^◌, ◌==◌, Bool, true, false, List, [], ◌∷◌, ◌++◌, length, map, Option, Some, None, Ok, refl, sym, ap, subst, ◌∙◌, arith}
-use Rattle.std.specs.Prelude.{⊤, IfSome, if◌then◌else◌}
-use Rattle.job_model.specs.Prelude.{flat_map, AllByRecursion, unwrap_or, nat_cmp, is_utf8, need, lines_of, is_inside, words_of, text_of, Fate, Committer, Mode, Path, Declared, Script, IsLegal, FitsMagic, AreEvents, AreFates, AreAttempts, IsScriptWord}
-use Rattle.path_keys.proofs.Common.{le-leb, one_longer, parted, same_ok, needed}
+use Rattle.job_script.proofs.Common.{AllByRecursion, AreAttempts, AreEvents, AreFates, BadLine, Bool, Committer, Declared, Draft, Event, Fate, FitsMagic, Group, Head, IfSome, IsLegal, IsScriptWord, Kind, List, MissingHead, Mode, None, Ok, Option, Path, Script, Some, UnknownWord, [], ap, arith, false, flat_map, head_at, head_lines, head_order, if◌then◌else◌, is_inside, is_utf8, le-leb, length, lines_of, loss_at, loss_lines, map, nat_cmp, need, needed, no_head, none_left, one_longer, parted, refl, row_lines, same_ok, subst, sym, text_of, true, unless, unwrap_or, words_of, ℕ, ⊤, ◌++◌, ◌+◌, ◌<◌, ◌==◌, ◌^◌, ◌∙◌, ◌∷◌, ◌≡◌, ◌≤◌}
 use Rattle.std.specs.FinMap as fin
 use Rattle.words.specs.Lines.{lines_from}
-use Rattle.words.proofs.Split.{none_left}
-use Rattle.job_model.specs.declared.events.Event.{Event}
-use Rattle.job_script.specs.declared.fault.ScriptFault.TheVariants.{BadLine, UnknownWord, MissingHead}
-use Rattle.job_script.specs.declared.draft.Draft.{Draft}
-use Rattle.job_script.specs.declared.draft.Group.{Group}
 use Rattle.job_script.specs.declared.draft.Group.TheVariants as group
-use Rattle.job_script.specs.declared.head.Head.{Head}
 use Rattle.job_script.specs.declared.head.HeadWord.TheVariants as head
-use Rattle.job_script.specs.declared.kinds.Kind.{Kind}
 use Rattle.job_script.specs.declared.kinds.Kind.TheVariants as kind
-use Rattle.job_script.specs.HeadLines.{unless, no_head, head_order, row_lines, loss_lines, head_lines, head_at, loss_at}
 use Rattle.job_script.specs.Script.{kind_of, enters, is_skipped, said_at, words_at, line_at, lines_at, nothing, mode_in, unique_in, all_inside, complete, script_of}
 use Rattle.job_script.specs.Print.{attempt_lines, event_line, script_lines, script_text}
 use Rattle.job_script.proofs.Words.{IsClean, text_clean, line_words}

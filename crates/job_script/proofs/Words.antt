@@ -1,14 +1,9 @@
 -- Numbers and names that words tell, words of letters, and the words of a text in UTF-8.
-use Rattle.std.proofs.Common.{◌≡◌, ℕ, ◌-◌, ◌<◌, ◌≤◌, ◌^◌, ◌==◌, Bool, true, false, cond, List, [], ◌∷◌, ◌++◌, length, take, drop, get_or, Option, Some, refl, sym, ap, subst, ◌∙◌, arith, append_assoc, decimal}
+use Rattle.job_script.proofs.Common.{AllByRecursion, Bool, IsAscii, IsAscii-cons, IsAscii-nil, IsBare, IsCharBoundary-before_ascii, IsScriptWord, IsUtf8, IsUtf8-from_ascii, IsUtf8-from_is_utf8, IsUtf8-take, IsWord, List, Option, Some, [], and_parts, ap, append-nil, append_assoc, arith, cond, decimal, decimal_nonempty, digit_inside, drop, eqb-true, false, get_or, is_bare, is_id_byte, is_inside, is_job_id, is_plain, is_utf8, is_utf8-from_IsUtf8, leb-true, length, lines_of, list_all, list_all-append, lt-ltb, ltb-true, nat_tests, refl, subst, sym, take, take-append-drop, true, utf8_cut, weaker, without_return, word_bare, words_of, ℕ, ◌++◌, ◌-◌, ◌<◌, ◌==◌, ◌^◌, ◌∙◌, ◌∷◌, ◌≡◌, ◌≤◌}
 use Rattle.std.specs.Prelude.{◌&&◌, nat_lt, bytes_eq, slice_index, if◌then◌else◌}
-use Rattle.job_model.specs.Prelude.{list_all, AllByRecursion, IsAscii, IsUtf8, is_utf8, lines_of, is_inside, without_return, words_of, IsWord, is_bare, IsBare, is_job_id, is_id_byte, IsScriptWord}
-use Rattle.path_keys.proofs.Common.{and_parts, eqb-true, leb-true, ltb-true, lt-ltb, nat_tests, decimal_nonempty, append-nil, take-append-drop, list_all-append, IsUtf8-from_ascii, is_utf8-from_IsUtf8, IsUtf8-from_is_utf8, IsAscii-nil, IsAscii-cons, weaker, utf8_cut}
-use Rattle.proof_base.proofs.Common.{IsUtf8-take, IsCharBoundary-before_ascii}
 use Rattle.words.specs.Lines.{lines_from, unless_empty}
 use Rattle.words.specs.Numbers.{number_in, is_digit}
 use Rattle.words.specs.Parts.{parts_from}
-use Rattle.words.specs.Words.{is_plain}
-use Rattle.words.proofs.Round.{word_bare, digit_inside}
 use Rattle.job_script.specs.Kinds.{Names, named}
 
 pub either : {A : Type 0} (P : A → Type 0) (b : Bool) (x y : A) → (b ≡ true → P x) → (b ≡ false → P y) → P (cond b x y)

@@ -1,14 +1,7 @@
 -- What is carried along a run of a job: what each actor knew as it last sent, who commits the job, and how many events there were.
-use Rattle.std.proofs.Common.{◌≡◌, ◌<◌, inl, inr, true, false, List, [], ◌∷◌, ◌++◌, length, Option, Some, None, refl, sym, ap, subst, ◌∙◌}
-use Rattle.job_spec.proofs.Common.{some_is, none_some, slice_get_within}
-use Rattle.job_steps.specs.Prelude.{Content, Actor, Driver, Attempt, Shell, Outcome, Request, Entry, Who, Known, Script, Op, Event, Do, Start, learn, knows, Setting, Operation, Running, TheSetup, who, tells, learn_of, advance, start_of, put, Reports, TheCheck, step, by_actor, Play, Opens, Sends, Finishes, Strays, begun, begin_running, open_running, hear, happen, MayOpen, MaySend, Reachable, nothing_happened, happens, nothing_played, knows_now}
-use Rattle.job_facts.specs.Prelude.{knows_from}
+use Rattle.job_side.proofs.Common.{Actor, Attempt, Content, Do, Driver, Entry, Event, Finishes, Known, List, MayOpen, MaySend, None, Op, Opens, Operation, Option, Outcome, Play, Reachable, Reports, Request, Running, Script, Sends, Setting, Shell, Some, Start, Strays, TheCheck, TheSetup, Who, [], advance, after_check_so, ap, begin_running, begun, by_actor, by_another, by_itself, by_own, false, happen, happens, hear, inl, inr, is_committing, is_job_commit, knows, knows_from, knows_now, learn, learn_of, length, none_some, nothing_happened, nothing_played, open_running, put, put_here, put_other, refl, same_false, same_or_not, same_true, slice_get_within, some_is, start_of, step, subst, sym, tells, true, who, ◌++◌, ◌<◌, ◌∙◌, ◌∷◌, ◌≡◌}
 use Rattle.job_model.specs.declared.events.Op.TheVariants as ops
-use Rattle.job_steps.proofs.Actors.{same_true, same_or_not, put_here, put_other, same_false}
-use Rattle.job_steps.proofs.Parts.{by_itself, by_another, by_own}
-use Rattle.job_actor.specs.Picks.{is_job_commit, is_committing}
 use Rattle.job_protocol.specs.Rechecks.{check_after}
-use Rattle.job_protocol.proofs.Begun.{after_check_so}
 
 -- what is carried
 pub record Carried (g : Setting) (x : Play) : Type 0 where

@@ -1,19 +1,6 @@
 -- An actor of a world begins an operation: what it goes by, and that all holds but for its hand.
-use Rattle.std.proofs.Common.{◌≡◌, ℕ, ◌-◌, ◌^◌, ◌<◌, inl, inr, not, true, List, slice_get, Option, Some, None, vec_len, vec_capacity, refl, sym, ap, subst, ◌∙◌, arith}
-use Rattle.std.specs.Prelude.{is_some, IfOk, Result}
-use Rattle.job_spec.proofs.Common.{IfOk-weaker, none_some}
-use Rattle.job_steps.specs.Prelude.{Request, Actor, Driver, is_known, Known, Script, HasOp, IsEvent, IsLegal, Op, Event, EventFault, OpEnd, Pick, Life, Idle, Setting, Running, start_of, over, Past, actors, Reports, reports, refusal, refuse_begin, open_event, Play, Opens, MayOpen, begun, happen, knows_now}
-use Rattle.job_actor.specs.Plans.{IsPlanOf}
+use Rattle.job_side.proofs.Common.{Actor, At, BeginsBy, Begun, Body, Driver, Emptied, Empty, Event, EventFault, GivesPlan, Hand, HandIs, HasOp, HasRoom, Holds, Idle, IfOk, IfOk-weaker, IsEvent, IsFine, IsLegal, IsOpened, IsPlace, IsPlanOf, IsTurn, IsWork, Known, Life, List, MayOpen, Next, None, Op, OpEnd, Opens, Option, Past, Pick, PicksGo, Plan, Play, PutBy, Quiet, Reports, Request, Result, Running, Script, Setting, Some, Stands, Starts, actors, all_but, all_sound, ap, arith, begun, happen, inl, inr, is_job_commit, is_known, is_some, knows_now, knows_of, none_is, none_some, not, open_event, over, picks_in, refl, refusal, refuse_begin, reports, setting_of, slice_get, start_of, subst, sym, true, vec_capacity, vec_len, ℕ, ◌-◌, ◌<◌, ◌^◌, ◌∙◌, ◌≡◌}
 use Rattle.job_actor.specs.declared.plan.Plan as acting
-use Rattle.proof_base.proofs.Options.{none_is}
-use Rattle.job_states.specs.Stands.{Stands, IsPlace}
-use Rattle.job_actor.specs.Works.{Starts}
-use Rattle.job_actor.specs.Picks.{PicksGo, is_job_commit}
-use Rattle.job_side.specs.Holds.{Holds, IsTurn, HandIs, PutBy, Quiet, all_sound, all_but, setting_of}
-use Rattle.job_side.specs.Events.{Next, IsFine, HasRoom, IsOpened, Emptied, picks_in, knows_of, GivesPlan, IsWork, Begun, BeginsBy}
-use Rattle.job_side.specs.declared.hands.Hand.{Hand}
-use Rattle.job_side.specs.declared.hands.Hand.TheVariants.{Plan, At, Empty}
-use Rattle.job_side.specs.declared.body.Body.{Body}
 use Rattle.job_side.proofs.Along.{carried}
 use Rattle.job_side.proofs.Finishes.{has_hand}
 use Rattle.job_side.proofs.Frames.{opened_is}

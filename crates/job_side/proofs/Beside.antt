@@ -1,22 +1,9 @@
 -- Another's event leaves what a side keeps between its own.
-use Rattle.std.proofs.Common.{◌≡◌, ℕ, suc, ◌+◌, inl, inr, cond, false, true, Bool, List, [], ◌∷◌, ◌++◌, map, length, append-nil, append_assoc, Option, Some, None, refl, sym, ap, subst, ◌∙◌, arith}
-use Rattle.job_spec.proofs.Common.{map-append}
-use Rattle.job_steps.specs.Prelude.{Content, Scene, effect, after_all, Request, Actor, Shell, Outcome, Entry, Who, actor_of, Known, Drawn, Pick, EventEnd, knows, Setting, Running, who, ArePicked, all_picks, is_own, by_actor, strange_entry, Play, Strays, Reachable, happens, happen, scene_of, knows_now, Ahead}
-use Rattle.job_spec.specs.Prelude.{in_eyes}
-use Rattle.job_spec.specs.Eyes.{number_in, entry_in}
-use Rattle.job_steps.proofs.Parts.{by_own}
-use Rattle.job_states.specs.Stands.{Stands}
-use Rattle.job_actor.specs.Plans.{IsPlanOf}
-use Rattle.job_actor.specs.Picks.{ArePicksOf, HasPicked}
-use Rattle.job_side.specs.Holds.{IsTurn, HandsAre, HandIs, PutBy, Quiet, all_sound, is_mine, setting_of}
-use Rattle.job_side.specs.Events.{knows_of}
+use Rattle.job_side.proofs.Common.{Actor, Ahead, ArePicked, ArePicksOf, At, Bool, Content, Drawn, Empty, Entry, EventEnd, Hand, HandIs, HandsAre, HasPicked, IsPlanOf, IsTurn, Known, List, None, Option, Outcome, Pick, Plan, Play, PutBy, Quiet, Reachable, Request, Running, Scene, Setting, Shell, Some, Stands, Strays, Who, [], actor_of, after_all, all_picks, all_sound, ap, append-nil, append_assoc, arith, by_actor, by_own, cond, effect, entry_in, false, happen, happens, in_eyes, inl, inr, is_mine, is_own, knows, knows_now, knows_of, length, map, map-append, number_in, picks_stay, refl, scene_of, setting_of, strange_entry, subst, suc, sym, true, who, ℕ, ◌++◌, ◌+◌, ◌∙◌, ◌∷◌, ◌≡◌}
 use Rattle.job_side.specs.Beside.{AreForeign, RestsBeside}
-use Rattle.job_side.specs.declared.hands.Hand.{Hand}
-use Rattle.job_side.specs.declared.hands.Hand.TheVariants.{Plan, At, Empty}
 use Rattle.job_side.specs.declared.body.Side.{Side}
 use Rattle.job_side.proofs.Places.{own_at}
 use Rattle.job_side.proofs.Moments.{never}
-use Rattle.job_actor.proofs.Staying.{picks_stay}
 use Rattle.job_side.proofs.Sends.{scene_on}
 
 -- ---- in a side's eyes

@@ -1,10 +1,5 @@
 -- The places of the busy actors of a legal script's run.
-use Rattle.std.proofs.Common.{◌≡◌, ℕ, zero, suc, ◌≤◌, Bool, true, false, cond, List, [], ◌∷◌, map, length, slice_get, Option, Some, refl, sym, ap, ◌∙◌, arith}
-use Rattle.job_steps.specs.Prelude.{filter, Actor, Script, IsLegal, Past, actors, is_busy, busy_actors}
-use Rattle.job_spec.proofs.Common.{some_is, none_some, length-map}
-use Rattle.job_states.specs.Stands.{Kept, Stands}
-use Rattle.job_states.specs.Mixes.{IsNotIn, AreApart}
-use Rattle.job_side.specs.Holds.{is_busy_at}
+use Rattle.job_side.proofs.Common.{Actor, AreApart, Bool, IsLegal, IsNotIn, Kept, List, Option, Past, Script, Some, Stands, [], actors, ap, arith, busy_actors, cond, false, filter, is_busy, is_busy_at, length, length-map, map, none_some, refl, slice_get, some_is, suc, sym, true, zero, ℕ, ◌∙◌, ◌∷◌, ◌≡◌, ◌≤◌}
 use Rattle.job_side.proofs.Places.{get_map, map_get, one_place}
 use Rattle.job_side.proofs.Standings.{busy_at}
 

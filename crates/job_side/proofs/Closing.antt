@@ -1,19 +1,6 @@
 -- An event of a world has its end: all holds between events again.
-use Rattle.std.proofs.Common.{◌≡◌, ◌+◌, not, true, List, [], ◌∷◌, ◌++◌, length, length-append, Option, Some, None, Vec, Global, refl, sym, ap, subst, ◌∙◌}
-use Rattle.std.specs.Prelude.{is_some}
-use Rattle.job_spec.proofs.Common.{some_is, not_so}
-use Rattle.proof_base.proofs.Options.{none_is}
-use Rattle.job_steps.specs.Prelude.{Request, Actor, Driver, Known, Event, EventEnd, Refused, EventFault, ActorEnd, OpEnd, Pick, Busy, Setting, Running, over, Past, is_busy, moment, of_event, Turns, Play, Refuses, Closes, Reachable, happen, happens, MayClose}
-use Rattle.job_spec.specs.States.{count}
-use Rattle.job_steps.proofs.PastMore.{busy_so}
-use Rattle.job_states.specs.Stands.{Kept, Stands}
-use Rattle.job_side.specs.Sending.{Asks}
-use Rattle.job_side.specs.Holds.{Holds, HandIs, HandsAre, NoneOver, Going, Quiet, IsTurn, is_mine, seen_by, all_sound, setting_of, is_busy_at}
-use Rattle.job_side.specs.Events.{Next, ByTurns, end_of}
+use Rattle.job_side.proofs.Common.{Actor, ActorEnd, Asks, At, Body, Busy, ByTurns, Closes, Driver, Event, EventEnd, EventFault, Global, Going, Hand, HandIs, HandsAre, Holds, IsTurn, Kept, Known, List, MayClose, Next, None, NoneOver, OpEnd, Option, Past, Pick, Play, Quiet, Reachable, Refused, Refuses, Request, Running, Setting, Some, Stands, Turns, Vec, [], all_sound, ap, busy_so, count, end_of, happen, happens, is_busy, is_busy_at, is_mine, is_some, length, length-append, moment, none_is, not, not_so, of_event, over, refl, seen_by, setting_of, some_is, subst, sym, true, ◌++◌, ◌+◌, ◌∙◌, ◌∷◌, ◌≡◌}
 use Rattle.job_side.specs.Events as events
-use Rattle.job_side.specs.declared.hands.Hand.{Hand}
-use Rattle.job_side.specs.declared.hands.Hand.TheVariants.{At}
-use Rattle.job_side.specs.declared.body.Body.{Body}
 use Rattle.job_side.proofs.Kept.{Leaves, hand_kept, put_by_kept, refuse_leaves, close_leaves}
 use Rattle.job_side.proofs.Standings.{place_known, same_actors}
 use Rattle.job_side.proofs.Seen.{next_number}

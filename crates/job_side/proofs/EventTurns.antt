@@ -1,15 +1,8 @@
 -- The entries that an event of a world has are by turns.
-use Rattle.std.proofs.Common.{◌≡◌, ℕ, Bool, true, false, List, [], ◌∷◌, ◌++◌, map, length, slice_get, Some, refl, sym, ap, subst, ◌∙◌}
+use Rattle.job_side.proofs.Common.{Actor, AllBy, AllOf, Body, Bool, ByTurns, Do, Entry, Event, EventEnd, IsFine, IsStill, Kill, List, Mix, Mixing, Op, Ran, Recover, Restart, Run, Same, Scene, Script, Some, Start, Step, StepEnds, Stepped, TakenUp, [], actor_or, actors, ap, busy_actors, event_entries, false, is_memory, length, map, none_some, past, refl, slice_get, subst, sym, table_of, true, ℕ, ◌++◌, ◌∙◌, ◌∷◌, ◌≡◌}
 use Rattle.std.proofs.lemmas.List.{map-id}
 use Rattle.std.proofs.lemmas.Simd.{map-map}
-use Rattle.job_spec.proofs.Common.{none_some}
-use Rattle.job_steps.specs.Prelude.{Scene, Actor, Entry, Script, Op, Event, Do, Start, Step, Run, Kill, Mix, Restart, Recover, EventEnd, actors, past, AllBy, is_memory, busy_actors}
-use Rattle.job_spec.specs.Prelude.{StepEnds, Mixing}
-use Rattle.job_states.specs.Turning.{Ran, Stepped}
 use Rattle.job_states.specs.Mixes as mixes
-use Rattle.job_side.specs.Holds.{Same, table_of, actor_or}
-use Rattle.job_side.specs.Events.{ByTurns, TakenUp, AllOf, IsStill, IsFine, event_entries}
-use Rattle.job_side.specs.declared.body.Body.{Body}
 
 -- ---- by the end that an event has
 

@@ -1,24 +1,10 @@
 -- What holds of a world where an operation of one of its actors ends.
-use Rattle.std.proofs.Common.{◌≡◌, ℕ, ◌+◌, ◌<◌, ◌≤◌, ◌⊎◌, inl, inr, Bool, true, false, List, [], ◌∷◌, ◌++◌, length, slice_get, Option, Some, IsSome, Vec, Global, vec_capacity, refl, sym, ap, subst, ◌∙◌, append-nil, arith}
-use Rattle.std.specs.Prelude.{is_some}
-use Rattle.job_spec.proofs.Common.{some_is, none_some, false_true, none_or_some, slice_get_within}
-use Rattle.job_steps.specs.Prelude.{Content, Entry, Actor, Driver, Known, IsLegal, Script, Op, OpEnd, ActorEnd, Pick, ActorState, Setting, Running, over, Past, actors, ended, is_commit, decide, end_op, is_busy, is_memory, is_wanting, lacked_memory, Play, Finishes, happen, MayFinish, Reachable, happens, knows_now}
+use Rattle.job_side.proofs.Common.{Actor, ActorEnd, ActorState, AreOf, At, Body, Bool, Content, Driver, Empty, Entry, Finishes, Global, Hand, HandIs, HandsAre, Holds, IsLegal, IsLost, IsOver, IsSome, Kept, Known, List, MayFinish, Op, OpEnd, Option, Past, Pick, Plan, Play, Reachable, Running, Script, Setting, Some, Stands, Vec, [], actors, all_sound, ap, append-nil, arith, busy_is, decide, end_op, ended, ended_idle, false, false_true, hand_end, happen, happens, inl, inr, is_busy, is_busy_at, is_commit, is_committing, is_memory, is_some, is_wanting, knows_now, lacked_memory, length, none_or_some, none_some, over, put_here, put_other, refl, setting_of, slice_get, slice_get_within, some_is, some_of, subst, sym, told_all, true, vec_capacity, ℕ, ◌++◌, ◌+◌, ◌<◌, ◌∙◌, ◌∷◌, ◌≡◌, ◌≤◌, ◌⊎◌}
 use Rattle.proof_base.proofs.Members.{same_or_not as same_number}
 use Rattle.job_model.specs.declared.ends.OpEnd.TheVariants as ends
-use Rattle.job_states.specs.Stands.{Kept, Stands}
-use Rattle.job_steps.proofs.Actors.{put_here, put_other}
-use Rattle.job_steps.proofs.Told.{told_all}
-use Rattle.job_steps.proofs.PastMore.{busy_is, ended_idle}
-use Rattle.job_actor.specs.Picks.{is_committing}
-use Rattle.job_side.specs.Sending.{hand_end}
-use Rattle.job_side.specs.Holds.{Holds, HandIs, HandsAre, IsLost, IsOver, AreOf, all_sound, is_busy_at, setting_of}
-use Rattle.job_side.specs.declared.hands.Hand.{Hand}
-use Rattle.job_side.specs.declared.hands.Hand.TheVariants.{Plan, At, Empty}
-use Rattle.job_side.specs.declared.body.Body.{Body}
 use Rattle.job_side.proofs.Places.{apart}
 use Rattle.job_side.proofs.Standings.{busy_at, busy_nowhere}
 use Rattle.job_side.proofs.PicksStay.{decides_not, picked_ended, put_by_ended}
-use Rattle.proof_base.proofs.Options.{some_of}
 
 -- ---- places
 

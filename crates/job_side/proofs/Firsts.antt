@@ -1,24 +1,11 @@
 -- A job of which nothing has happened.
-use Rattle.std.proofs.Common.{◌≡◌, ℕ, zero, suc, ◌+◌, ◌<◌, ◌≤◌, ◌^◌, inl, inr, false, List, [], ◌∷◌, ◌++◌, map, take, length, slice_get, Option, Some, None, refl, sym, ap, subst, ◌∙◌, arith}
-use Rattle.job_spec.proofs.Common.{length-map, cases_lt, map-append, take_all, some_is, none_some, false_true}
-use Rattle.job_steps.specs.Prelude.{Content, fate_at, AreForetold, Request, Actor, Driver, Declared, actor_of, Task, Known, nothing_known, Script, Pick, Setting, Running, task_of, all_picks, actors, nothing_past, IsOpening, nothing_played, nothing_happened}
-use Rattle.job_facts.specs.Prelude.{Upload, upload_in, at_id}
-use Rattle.job_spec.specs.Prelude.{opening, in_eyes}
+use Rattle.job_side.proofs.Common.{Actor, AreBelow, AreForetold, ArePicksOf, Body, Content, Declared, Driver, Empty, Hand, HandIs, HandsAre, Holds, IsOpening, IsTurn, Known, List, None, NoneOver, Option, Pick, Plan, PutBy, Quiet, Request, Running, Script, Setting, Some, Task, Upload, [], actor_of, actors, all_picks, all_sound, ap, arith, at_id, cases_lt, false, false_true, fate_at, in_eyes, inl, inr, is_busy_at, is_mine, length, length-map, map, map-append, none_below, none_some, nothing_happened, nothing_known, nothing_past, nothing_played, number_in, opening, refl, setting_of, slice_get, some_is, standing, subst, suc, sym, take, take_all, task_of, upload_in, zero, ℕ, ◌++◌, ◌+◌, ◌<◌, ◌^◌, ◌∙◌, ◌∷◌, ◌≡◌, ◌≤◌}
 use Rattle.std.specs.FinMap as fin
-use Rattle.job_actor.proofs.Picking.{none_below}
-use Rattle.job_spec.specs.Eyes.{number_in}
 use Rattle.job_plans.specs.AtPlace.{task_at}
 use Rattle.job_side.proofs.Places.{get_map, map_get}
 use Rattle.job_side.proofs.Moments.{never}
-use Rattle.job_states.specs.Standing.{standing}
-use Rattle.job_actor.specs.Picks.{ArePicksOf}
 use Rattle.job_actor.specs.declared.plan.Plan.TheVariants as plans
-use Rattle.s3_service.specs.Ids.{AreBelow}
-use Rattle.job_side.specs.Holds.{Holds, IsTurn, HandIs, HandsAre, PutBy, NoneOver, Quiet, is_mine, all_sound, setting_of, is_busy_at}
 use Rattle.job_side.specs.Firsts.{IsBegun, IsFirstShared, IsFirstSide, planned}
-use Rattle.job_side.specs.declared.hands.Hand.{Hand}
-use Rattle.job_side.specs.declared.hands.Hand.TheVariants.{Plan, Empty}
-use Rattle.job_side.specs.declared.body.Body.{Body}
 use Rattle.proof_base.proofs.Options.{end_of}
 
 -- ---- hands

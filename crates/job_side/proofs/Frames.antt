@@ -1,10 +1,5 @@
 -- What an event of a world leaves as it was, step by step.
-use Rattle.std.proofs.Common.{◌≡◌, ℕ, ◌+◌, ◌<◌, [], ◌∷◌, ◌++◌, append_assoc, length, Some, vec_len, vec_capacity, ap, subst, ◌∙◌}
-use Rattle.job_steps.specs.Prelude.{Event, of_event}
-use Rattle.job_spec.specs.Prelude.{in_eyes}
-use Rattle.job_side.specs.Holds.{Same, AreOf, both_of, is_mine, seen_by, stays_on}
-use Rattle.job_side.specs.Events.{IsOpened, Emptied, Entered, Grown, HasRoom, ByTurns, event_entries}
-use Rattle.job_side.specs.declared.body.Body.{Body}
+use Rattle.job_side.proofs.Common.{AreOf, Body, ByTurns, Emptied, Entered, Event, Grown, HasRoom, IsOpened, Same, Some, [], ap, append_assoc, both_of, event_entries, in_eyes, is_mine, length, of_event, seen_by, stays_on, subst, vec_capacity, vec_len, ℕ, ◌++◌, ◌+◌, ◌<◌, ◌∙◌, ◌∷◌, ◌≡◌}
 
 module _ {W : Type 0} where
   -- an opened world, of which a hand was taken out

@@ -1,14 +1,5 @@
 -- What a hand and the picks that were put by keep from one moment of a run to a later one that leaves their actor.
-use Rattle.std.proofs.Common.{◌≡◌, inl, inr, Bool, true, false, List, Option, Some, None, refl, sym, ap, subst, ◌∙◌}
-use Rattle.job_steps.specs.Prelude.{open_event, open_running, Content, Actor, Driver, Known, Op, Event, Do, Start, Kill, Restart, EventEnd, EventFault, Pick, Dead, ActorState, knows, Setting, Running, who, Past, Decided, put, commit_begun, dead, idle, restarted, is_busy, by_actor, ArePicked, all_picks, lacked_memory, Play, Refuses, Opens, Closes, happen, MayClose, Ahead}
-use Rattle.job_actor.specs.Plans.{IsPlanOf}
-use Rattle.job_steps.proofs.Actors.{same_or_not, put_here, put_other}
-use Rattle.job_steps.proofs.Running.{opened_ahead, refused_ahead, not_refused, closed_ahead}
-use Rattle.job_actor.specs.Picks.{ArePicksOf, HasPicked, is_committing}
-use Rattle.job_side.specs.Holds.{HandIs, PutBy}
-use Rattle.job_side.specs.Events.{BeginsBy}
-use Rattle.job_side.specs.declared.hands.Hand.{Hand}
-use Rattle.job_side.specs.declared.hands.Hand.TheVariants.{Plan, At, Empty}
+use Rattle.job_side.proofs.Common.{Actor, ActorState, Ahead, ArePicked, ArePicksOf, At, BeginsBy, Bool, Closes, Content, Dead, Decided, Do, Driver, Empty, Event, EventEnd, EventFault, Hand, HandIs, HasPicked, IsPlanOf, Kill, Known, List, MayClose, None, Op, Opens, Option, Past, Pick, Plan, Play, PutBy, Refuses, Restart, Running, Setting, Some, Start, all_picks, ap, by_actor, closed_ahead, commit_begun, dead, false, happen, idle, inl, inr, is_busy, is_committing, knows, lacked_memory, not_refused, open_event, open_running, opened_ahead, put, put_here, put_other, refl, refused_ahead, restarted, same_or_not, subst, sym, true, who, ◌∙◌, ◌≡◌}
 
 -- from x to y nothing was sent, and an actor was left as it was
 pub record Leaves (x y : Play) (a : Actor) : Type 0 where

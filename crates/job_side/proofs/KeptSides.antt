@@ -1,15 +1,7 @@
 -- That a side keeps, between its events, what no stranger can break.
-use Rattle.std.proofs.Common.{◌≡◌, ◌<◌, false, List, length, slice_get, Option, Some, None, refl, sym, ◌∙◌, arith}
-use Rattle.std.specs.Prelude.{is_some}
-use Rattle.job_steps.specs.Prelude.{Content, Request, Actor, Driver, Known, Pick, Setting, Running, ArePicked, all_picks, lacked_memory, Play}
+use Rattle.job_side.proofs.Common.{Actor, ArePicked, Body, Content, Driver, Hand, HandIs, Known, List, None, Option, Pick, Play, PutBy, Quiet, Request, Running, Setting, Some, ahead_none, all_picks, arith, false, is_job_commit, is_some, lacked_memory, length, picks_in, refl, seen_by, setting_of, slice_get, sym, ◌<◌, ◌∙◌, ◌≡◌}
 use Rattle.job_safety.specs.Laws as laws
-use Rattle.job_safety.proofs.Ending.{ahead_none}
 use Rattle.job_safety.proofs.Kept as kept
-use Rattle.job_actor.specs.Picks.{is_job_commit}
-use Rattle.job_side.specs.Holds.{HandIs, PutBy, Quiet, seen_by, setting_of}
-use Rattle.job_side.specs.Events.{picks_in}
-use Rattle.job_side.specs.declared.hands.Hand.{Hand}
-use Rattle.job_side.specs.declared.body.Body.{Body}
 use Rattle.job_side.proofs.Places.{there}
 use Rattle.job_side.proofs.Picked.{hand_put}
 

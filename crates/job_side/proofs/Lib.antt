@@ -26,3 +26,4 @@ pub mod Rooms
 pub mod Firsts
 pub mod KeptSides
 pub mod Beside
+mod Common

@@ -1,12 +1,7 @@
 -- Of a legal script's run: who is busy is of the job, an attempt that is idle has ended its operation, and restarts are few.
-use Rattle.std.proofs.Common.{◌≡◌, ◌+◌, ◌≤◌, inl, inr, true, List, [], ◌∷◌, ◌++◌, length, length-append, Option, Some, None, refl, sym, ap, subst, ◌∙◌, arith}
+use Rattle.job_side.proofs.Common.{Actor, ActorEnd, ActorState, Busy, Closes, Content, Dead, Declared, Do, Driver, Enabled, Event, EventEnd, Finishes, Idle, IsEvent, IsLegal, Kill, Life, List, None, Opens, Option, Past, Play, Reachable, Refused, Refuses, Restart, Running, Script, Sends, Setting, Some, Start, Strays, Transition, [], ap, arith, dead, end_op, ended, ended_idle, event_at, false_true, happen, happens, idle, inl, inr, is_busy, is_known, length, length-append, none_some, nothing_happened, open_event, open_running, over, put, put_other, refl, restarted, some_is, subst, sym, told_all, true, ◌++◌, ◌+◌, ◌∙◌, ◌∷◌, ◌≡◌, ◌≤◌}
 use Rattle.std.specs.Prelude.{IsSome, is_some}
-use Rattle.job_spec.proofs.Common.{some_is, none_some, false_true}
-use Rattle.job_steps.specs.Prelude.{Content, Actor, Driver, Declared, is_known, Script, IsLegal, IsEvent, Event, Do, Start, Kill, Restart, ActorEnd, EventEnd, Refused, Life, Idle, Busy, Dead, ActorState, Setting, Running, over, Past, put, dead, idle, restarted, end_op, open_event, ended, is_busy, Play, Transition, Refuses, Opens, Sends, Finishes, Closes, Strays, open_running, happen, Enabled, Reachable, nothing_happened, happens}
-use Rattle.job_steps.proofs.Actors.{put_other}
-use Rattle.job_steps.proofs.PastMore.{event_at, ended_idle}
 use Rattle.job_steps.proofs.RunningStages.{may_end, memory_dies}
-use Rattle.job_steps.proofs.Told.{told_all}
 use Rattle.job_side.proofs.Along.{put_all}
 
 -- ---- who is busy is of the job

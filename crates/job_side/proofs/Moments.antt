@@ -1,16 +1,6 @@
 -- What a world that holds says of its run: which event may begin, that its numbers are small, and what stands at its places.
-use Rattle.std.proofs.Common.{◌≡◌, ℕ, ◌+◌, ◌-◌, ◌^◌, ◌<◌, Bool, List, [], length, slice_get, Option, Some, None, sym, ap, subst, ◌∙◌, arith}
+use Rattle.job_side.proofs.Common.{Actor, Body, Bool, Event, EventFault, Hand, Holds, IsEvent, Known, List, MayOpen, Next, None, Option, Past, Pick, Play, Running, Setting, Some, Stands, Told, [], actors, ap, arith, by_actor, event_at, event_entries, event_none, false_true, is_busy, is_busy_at, knows, knows_now, knows_of, length, of_event, past, refusal, seen_by, setting_of, slice_get, slice_get_within, subst, sym, told_all, who, ℕ, ◌+◌, ◌-◌, ◌<◌, ◌^◌, ◌∙◌, ◌≡◌}
 use Rattle.std.specs.Prelude.{IsSome, is_some}
-use Rattle.job_spec.proofs.Common.{slice_get_within, false_true}
-use Rattle.job_steps.specs.Prelude.{Actor, Known, IsEvent, Event, EventFault, Pick, Setting, Running, Past, actors, refusal, past, is_busy, of_event, Play, MayOpen, knows, knows_now, who, by_actor}
-use Rattle.job_steps.proofs.Parts.{event_none}
-use Rattle.job_steps.proofs.PastMore.{event_at}
-use Rattle.job_steps.proofs.Told.{Told, told_all}
-use Rattle.job_states.specs.Stands.{Stands}
-use Rattle.job_side.specs.Holds.{Holds, seen_by, setting_of, is_busy_at}
-use Rattle.job_side.specs.Events.{Next, event_entries, knows_of}
-use Rattle.job_side.specs.declared.hands.Hand.{Hand}
-use Rattle.job_side.specs.declared.body.Body.{Body}
 use Rattle.job_side.proofs.Lives.{Lives, lives}
 use Rattle.job_side.proofs.Places.{there}
 use Rattle.job_side.proofs.Standings.{busy_at}

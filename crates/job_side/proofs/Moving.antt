@@ -1,13 +1,5 @@
 -- Events of a world that move busy actors, or nobody: what is asked of turns and of the event's end.
-use Rattle.std.proofs.Common.{◌≡◌, ℕ, ◌-◌, ◌<◌, ◌≤◌, true, List, map, length, slice_get, Option, Some, None, vec_len, vec_capacity, refl, sym, ap, subst, ◌∙◌, arith}
-use Rattle.job_spec.proofs.Common.{none_some}
-use Rattle.job_steps.specs.Prelude.{Request, Actor, is_known, Known, Script, IsEvent, Event, Do, Start, Step, Run, Mix, Pick, Life, Busy, ActorState, Setting, Running, Past, actors, past, refusal, open_event, is_busy, busy_actors}
-use Rattle.job_spec.specs.States.{refuse_move}
-use Rattle.job_states.specs.Stands.{Stands, IsPlace}
-use Rattle.job_states.specs.Mixes.{AreApart}
-use Rattle.job_side.specs.Holds.{is_busy_at}
-use Rattle.job_side.specs.Events.{BeginsNone, HasEntered, AreBusy, IsStill}
-use Rattle.job_side.specs.declared.body.Body.{Body}
+use Rattle.job_side.proofs.Common.{Actor, ActorState, AreApart, AreBusy, BeginsNone, Body, Busy, Do, Event, HasEntered, IsEvent, IsPlace, IsStill, Known, Life, List, Mix, None, Option, Past, Pick, Request, Run, Running, Script, Setting, Some, Stands, Start, Step, actors, ap, arith, busy_actors, is_busy, is_busy_at, is_known, length, map, none_some, open_event, past, refl, refusal, refuse_move, slice_get, subst, sym, true, vec_capacity, vec_len, ℕ, ◌-◌, ◌<◌, ◌∙◌, ◌≡◌, ◌≤◌}
 use Rattle.job_side.proofs.Busy.{busy_apart, busy_going, busy_few}
 use Rattle.job_side.proofs.Standings.{placed, busy_at}
 

@@ -1,12 +1,5 @@
 -- An event of a world begins: all holds then, but for the hand of one that begins an operation.
-use Rattle.std.proofs.Common.{◌≡◌, ℕ, inl, inr, not, Bool, true, List, length, slice_get, Option, Some, None, refl, sym, ap, subst, ◌∙◌}
-use Rattle.job_spec.proofs.Common.{false_true, true_or_false, nat_true}
-use Rattle.job_steps.specs.Prelude.{Request, Actor, Driver, Known, Op, Event, Do, Start, Pick, ActorState, Setting, Running, Past, actors, open_event, is_busy, Play, Opens, happen, happens}
-use Rattle.job_steps.proofs.Actors.{put_here}
-use Rattle.job_states.specs.Stands.{Stands}
-use Rattle.job_side.specs.Holds.{Holds, IsTurn, HandsAre, PutBy, Quiet, all_sound, all_but, setting_of, is_busy_at}
-use Rattle.job_side.specs.Events.{Next, IsFine, HasRoom, IsOpened, BeginsBy, BeginsNone, HasEntered}
-use Rattle.job_side.specs.declared.body.Body.{Body}
+use Rattle.job_side.proofs.Common.{Actor, ActorState, BeginsBy, BeginsNone, Body, Bool, Do, Driver, Event, HandsAre, HasEntered, HasRoom, Holds, IsFine, IsOpened, IsTurn, Known, List, Next, None, Op, Opens, Option, Past, Pick, Play, PutBy, Quiet, Request, Running, Setting, Some, Stands, Start, actors, all_but, all_sound, ap, false_true, happen, happens, inl, inr, is_busy, is_busy_at, length, nat_true, not, open_event, put_here, refl, setting_of, slice_get, subst, sym, true, true_or_false, ℕ, ◌∙◌, ◌≡◌}
 use Rattle.job_side.proofs.Kept.{begins_by, Leaves, Spares, hand_kept, put_by_kept, open_leaves}
 use Rattle.job_side.proofs.Standings.{busy_actor}
 use Rattle.job_side.proofs.Moments.{past_of, is_idle, live_of, may_open, no_entries, busy_of}

@@ -1,19 +1,7 @@
 -- What the driver has picked, as it begins another operation.
-use Rattle.std.proofs.Common.{◌≡◌, inl, inr, true, false, List, [], ◌∷◌, ◌++◌, append-nil, Option, Some, None, refl, sym, ap, subst, ◌∙◌}
-use Rattle.std.specs.Prelude.{is_some, unwrap_or}
-use Rattle.job_spec.proofs.Common.{false_true, true_or_false}
-use Rattle.job_steps.specs.Prelude.{Content, Actor, Driver, Attempt, Known, IsLegal, Op, Event, Do, Start, EventEnd, Pick, Setting, Running, start_of, Past, Decided, open_event, commit_begun, begins_commit, Reports, reports, ArePicked, all_picks, lacked_memory, IsOpening, Play, Reachable, Opens, MayOpen, begun, open_running, happen, knows_now, Ahead}
-use Rattle.job_protocol.proofs.Begun.{clean_of_so, commit_of_so}
+use Rattle.job_side.proofs.Common.{Actor, Ahead, ArePicked, ArePicksOf, At, Attempt, BeginsBy, Content, Decided, Do, Driver, Empty, Event, EventEnd, Hand, HandIs, HasPicked, IsLegal, IsOpening, Known, List, MayOpen, None, Op, Opens, Option, Past, Pick, PicksGo, Plan, Play, PutBy, Reachable, Reports, Running, Setting, Some, Start, [], ahead_none, all_picks, ap, append-nil, begins_commit, begun, clean_of_so, commit_begun, commit_of_so, false, false_true, happen, inl, inr, is_committing, is_job_commit, is_some, knows_now, lacked_memory, open_event, open_running, opened_ahead, picks_in, put_here, refl, reports, start_of, subst, sym, true, true_or_false, unwrap_or, ◌++◌, ◌∙◌, ◌∷◌, ◌≡◌}
 use Rattle.job_model.specs.declared.events.Op.TheVariants as ops
-use Rattle.job_steps.proofs.Actors.{put_here}
-use Rattle.job_actor.specs.Picks.{ArePicksOf, HasPicked, PicksGo, is_committing, is_job_commit}
-use Rattle.job_safety.proofs.Ending.{ahead_none}
-use Rattle.job_side.specs.Holds.{HandIs, PutBy}
-use Rattle.job_side.specs.Events.{BeginsBy, picks_in}
-use Rattle.job_side.specs.declared.hands.Hand.{Hand}
-use Rattle.job_side.specs.declared.hands.Hand.TheVariants.{Plan, At, Empty}
 use Rattle.job_side.proofs.Kept.{begins_by, picks_of_kept}
-use Rattle.job_steps.proofs.Running.{opened_ahead}
 
 -- what an actor has begun then
 pub begun_running : (g : Setting) (x : Play) (ev : Event) (a : Actor) (op : Op) → BeginsBy ev a op

@@ -1,11 +1,5 @@
 -- The picks of a run stay while nobody sends who picks.
-use Rattle.std.proofs.Common.{◌≡◌, inl, inr, Bool, true, false, List, Option, Some, None, refl, sym, ap, subst, ◌∙◌}
-use Rattle.job_steps.specs.Prelude.{Content, Actor, Driver, Attempt, Entry, ActorEnd, OpEnd, Pick, Setting, Decided, is_commit, decide, ArePicked, lacked_memory, Play, Sends, Finishes, happen, MaySend}
-use Rattle.job_steps.proofs.Actors.{same_or_not}
-use Rattle.job_steps.proofs.Running.{sent_ahead, finished_ahead}
-use Rattle.job_actor.specs.Picks.{HasPicked, LeavesPicks, is_committing}
-use Rattle.job_actor.proofs.Staying.{same_picks}
-use Rattle.job_side.specs.Holds.{PutBy}
+use Rattle.job_side.proofs.Common.{Actor, ActorEnd, ArePicked, Attempt, Bool, Content, Decided, Driver, Entry, Finishes, HasPicked, LeavesPicks, List, MaySend, None, OpEnd, Option, Pick, Play, PutBy, Sends, Setting, Some, ap, decide, false, finished_ahead, happen, inl, inr, is_commit, is_committing, lacked_memory, refl, same_or_not, same_picks, sent_ahead, subst, sym, true, ◌∙◌, ◌≡◌}
 use Rattle.job_side.proofs.Along.{commits_on}
 
 -- an attempt's end decides nothing of the driver's

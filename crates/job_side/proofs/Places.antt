@@ -1,10 +1,6 @@
 -- The actors of a legal script stand apart, each at one place.
-use Rattle.std.proofs.Common.{◌≡◌, ℕ, zero, suc, ◌<◌, ◌&&◌, ◌||◌, nat_eq, Bool, true, false, cond, List, [], ◌∷◌, ◌++◌, map, length, slice_get, Some, None, refl, sym, ap, subst, ◌∙◌, arith}
-use Rattle.std.specs.Prelude.{is_some, option_map}
+use Rattle.job_side.proofs.Common.{Actor, AreAttempts, Bool, Declared, Driver, IsLegal, List, None, Script, Some, Who, [], actor_of, actors, ap, arith, cond, declares, false, false_true, is_own, is_some, length, lookup, map, nat_eq, nat_true, none_some, option_map, or_parts, refl, same_name, slice_get, some_is, subst, suc, sym, true, zero, ℕ, ◌&&◌, ◌++◌, ◌<◌, ◌||◌, ◌∙◌, ◌∷◌, ◌≡◌}
 use Rattle.std.proofs.lemmas.Option.{slice_get-map}
-use Rattle.job_steps.specs.Prelude.{lookup, Actor, Driver, Who, Declared, same_name, actor_of, IsLegal, AreAttempts, Script, actors, is_own}
-use Rattle.job_spec.proofs.Common.{some_is, none_some, false_true, nat_true, or_parts}
-use Rattle.job_spec.specs.Prelude.{declares}
 use Rattle.proof_base.proofs.Options.{end_of}
 
 -- ---- lists

@@ -1,20 +1,8 @@
 -- What a sending of a busy actor leaves of a world, whatever became of it.
-use Rattle.std.proofs.Common.{◌≡◌, ℕ, ◌+◌, ◌<◌, ◌≤◌, ◌^◌, not, Bool, true, List, length, slice_get, Option, Some, IsSome, Vec, Global, refl, sym, ap, subst, ◌∙◌, arith}
-use Rattle.job_spec.proofs.Common.{some_is, false_true, nat_true}
-use Rattle.job_steps.specs.Prelude.{Scene, effect, fate_at, AreForetold, Ledger, Actor, Request, Outcome, Known, Script, OpEnd, Pick, Setting, Running, actors}
-use Rattle.job_spec.specs.Prelude.{in_eyes}
-use Rattle.store_link.specs.Link.{LossyLink}
-use Rattle.job_actor.specs.Acts.{ActLaws}
+use Rattle.job_side.proofs.Common.{ActLaws, Actor, AreForetold, Around, Asks, At, Body, Bool, FellAt, Global, Hand, HandDue, HandPosted, HandsAre, Holds, IsSome, Known, Ledger, List, LossyLink, OpEnd, Option, Outcome, Pick, PostedAt, Request, Running, Scene, Script, Setting, Some, Vec, WorkLaws, Wrote, actors, all_but, all_sound, ap, arith, effect, false_true, fate_at, hand_left, in_eyes, is_busy_at, is_mine, length, nat_true, not, raised, refl, setting_of, slice_get, some_is, subst, sym, true, ℕ, ◌+◌, ◌<◌, ◌^◌, ◌∙◌, ◌≡◌, ◌≤◌}
 use Rattle.job_actor.specs.Posting.{Sight, sight, Grew, DueFits}
 use Rattle.job_actor.specs.declared.posting.Posted.{Posted}
 use Rattle.job_actor.specs.declared.posting.Posted.TheVariants.{Unsent, Broken, Heard}
-use Rattle.job_actor.specs.Works.{WorkLaws}
-use Rattle.job_side.specs.Sending.{Asks, HandDue, HandPosted}
-use Rattle.job_side.specs.Holds.{Holds, HandsAre, is_mine, all_sound, all_but, is_busy_at, setting_of, hand_left}
-use Rattle.job_side.specs.Posts.{Around, Wrote, FellAt, PostedAt, raised}
-use Rattle.job_side.specs.declared.hands.Hand.{Hand}
-use Rattle.job_side.specs.declared.hands.Hand.TheVariants.{At}
-use Rattle.job_side.specs.declared.body.Body.{Body}
 use Rattle.job_side.proofs.Sends.{eyes_own, is_at, sent_holds, sent_raises}
 use Rattle.job_side.proofs.Seen.{foretold_as}
 

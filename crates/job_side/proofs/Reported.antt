@@ -1,23 +1,11 @@
 -- What a driver is told of its tasks is what was reported.
-use Rattle.std.proofs.Common.{◌≡◌, ℕ, zero, suc, ◌+◌, ◌<◌, ◌≤◌, Bool, true, false, cond, List, [], ◌∷◌, ◌++◌, map, take, length, slice_get, Option, Some, None, refl, sym, ap, ◌∙◌, arith, length-append}
-use Rattle.std.specs.Prelude.{is_some}
-use Rattle.job_spec.proofs.Common.{map-append, take_all, some_is, none_some, false_true, nat_true}
-use Rattle.job_steps.specs.Prelude.{lookup, filter, Actor, Driver, Attempt, Who, actor_of, same_name, Declared, is_known, Known, Op, Script, Setting, Past, Reports, reports, missing, start_of, actors}
+use Rattle.job_protocol.specs.Prelude.{Actor, Attempt, Declared, Driver, Known, Op, Reports, Script, Setting, TheCommit, Who, actor_of, commit_of, commit_start, filter, lookup, same_name, start_of}
+use Rattle.job_side.proofs.Common.{AreFlags, ArePartitions, Body, Bool, IsTold, IsUntold, Kept, List, None, Option, Past, Some, Stands, [], actors, ap, arith, commit_alone, cond, false, false_true, flags_to, is_known, is_some, length, length-append, map, map-append, missing, nat_true, none_some, of_tasks, refl, report_dirs, reports, setting_of, slice_get, some_is, suc, sym, take, take_all, those, true, zero, ℕ, ◌++◌, ◌+◌, ◌<◌, ◌∙◌, ◌∷◌, ◌≡◌, ◌≤◌}
 use Rattle.job_model.specs.declared.events.Op.TheVariants.{Commit, Write}
-use Rattle.job_protocol.proofs.Begun.{commit_alone}
-use Rattle.job_protocol.specs.Operations.{commit_of, TheCommit}
-use Rattle.job_protocol.specs.JobCommits.{commit_start}
 use Rattle.commit_laws.specs.Fitting.{least_missing}
-use Rattle.job_states.specs.Stands.{Kept, Stands}
-use Rattle.job_plans.specs.Reported.{those}
-use Rattle.job_actor.specs.Reports.{report_dirs}
 use Rattle.job_actor.specs.declared.reported.Reported.{Reported}
-use Rattle.job_side.specs.Holds.{setting_of}
-use Rattle.job_side.specs.Events.{of_tasks}
-use Rattle.job_side.specs.Reporting.{flags_to, AreFlags, ArePartitions, IsTold, IsUntold}
-use Rattle.job_side.specs.declared.body.Body.{Body}
 use Rattle.job_side.proofs.Firsts.{take_more}
-use Rattle.job_side.proofs.Places.{there, get_map}
+use Rattle.job_side.proofs.Places.{get_map, there}
 
 -- ---- the actor at an attempt's place
 

@@ -1,10 +1,5 @@
 -- Room is taken in a world before its next event, which changes nothing else; and why that event is refused, if it is.
-use Rattle.std.proofs.Common.{◌≡◌, ◌+◌, List, [], ◌∷◌, ◌++◌, length, slice_get, Option, sym, ap, subst, ◌∙◌}
-use Rattle.job_steps.specs.Prelude.{fate_at, Request, Actor, Known, Event, EventFault, Pick, Setting, Running, Past, past, refusal}
-use Rattle.job_states.specs.Stands.{Stands}
-use Rattle.job_side.specs.Holds.{Quiet, IsTurn, AreOf, is_mine, stays_on, all_sound}
-use Rattle.job_side.specs.Events.{Next, Grown, IsAsBefore}
-use Rattle.job_side.specs.declared.body.Body.{Body}
+use Rattle.job_side.proofs.Common.{Actor, AreOf, Body, Event, EventFault, Grown, IsAsBefore, IsTurn, Known, List, Next, Option, Past, Pick, Quiet, Request, Running, Setting, Stands, [], all_sound, ap, fate_at, is_mine, length, past, refusal, slice_get, stays_on, subst, sym, ◌++◌, ◌+◌, ◌∙◌, ◌∷◌, ◌≡◌}
 use Rattle.job_side.specs.declared.body.Shared.{Shared}
 use Rattle.job_side.proofs.Moments.{never, stands_of}
 

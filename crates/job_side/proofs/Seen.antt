@@ -1,9 +1,5 @@
 -- One more entry in a side's eyes.
-use Rattle.std.proofs.Common.{◌≡◌, ℕ, suc, ◌+◌, cond, Bool, true, List, [], ◌∷◌, ◌++◌, length, Option, sym, ap, subst, ◌∙◌, arith}
-use Rattle.job_spec.proofs.Common.{map-append}
-use Rattle.job_steps.specs.Prelude.{IsForetold, AreForetold, Fate, Actor, Shell, Request, Outcome, Entry}
-use Rattle.job_spec.specs.Prelude.{in_eyes}
-use Rattle.job_spec.specs.Eyes.{number_in, entry_in}
+use Rattle.job_side.proofs.Common.{Actor, AreForetold, Bool, Entry, Fate, IsForetold, List, Option, Outcome, Request, Shell, [], ap, arith, cond, entry_in, in_eyes, length, map-append, number_in, subst, suc, sym, true, ℕ, ◌++◌, ◌+◌, ◌∙◌, ◌∷◌, ◌≡◌}
 
 module _ (mine : ℕ → Bool) where
   -- the next event has the next number, where it is the side's own

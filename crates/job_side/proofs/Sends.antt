@@ -1,25 +1,7 @@
 -- What holds of a world where one of its busy actors has sent a request.
-use Rattle.std.proofs.Common.{◌≡◌, ℕ, zero, suc, ◌+◌, ◌<◌, ◌≤◌, ◌^◌, inl, inr, Bool, true, false, List, [], ◌∷◌, ◌++◌, length, slice_get, Option, Some, None, IsSome, Vec, Global, refl, sym, ap, subst, ◌∙◌, arith, length-append}
-use Rattle.job_spec.proofs.Common.{false_true, true_or_false, slice_get_within}
-use Rattle.job_steps.specs.Prelude.{Content, Scene, answer, apply, effect, after_all, IsHonestOutcome, moment, fate_at, IsForetold, AreForetold, Fate, Ledger, Actor, Driver, Request, Outcome, Slow, RequestLost, Entry, Known, Script, OpEnd, Pick, Setting, Running, advance, actors, Play, Sends, hear, happen, knows_now, MaySend, happens}
-use Rattle.job_facts.specs.Prelude.{ClusterPut, ClusterRename, ClusterGet, ClusterDelete, ClusterList}
-use Rattle.job_spec.specs.Prelude.{in_eyes}
-use Rattle.proof_base.proofs.Options.{none_is, some_of}
+use Rattle.job_side.proofs.Common.{Actor, AreForetold, At, Body, Bool, ClusterDelete, ClusterGet, ClusterList, ClusterPut, ClusterRename, Content, Driver, Empty, Entry, Fate, Global, Hand, HandIs, HandsAre, HasPicked, Holds, IsAt, IsForetold, IsHonestOutcome, IsPlanOf, IsSome, IsTurn, Known, LeavesPicks, Ledger, List, LossyLink, MaySend, None, OpEnd, Option, Outcome, Pick, Plan, Play, RaisedBy, Request, RequestLost, Running, Scene, Script, Sends, Setting, Slow, Some, Vec, WorkLaws, [], actors, advance, after_all, all_sound, answer, ap, apply, arith, busy_is, effect, false, false_true, fate_at, hand_left, happen, happens, hear, in_eyes, inl, inr, is_busy_at, is_committing, is_job_commit, is_mine, knows_now, length, length-append, moment, none_is, number_in, put_here, put_other, raised, refl, rise_for, same_or_not, seen_by, setting_of, slice_get, slice_get_within, some_of, subst, suc, sym, take_whole, true, true_or_false, zero, ℕ, ◌++◌, ◌+◌, ◌<◌, ◌^◌, ◌∙◌, ◌∷◌, ◌≡◌, ◌≤◌}
 use Rattle.s3_types.specs.Store.{opening as scene_at_first}
-use Rattle.store_link.specs.Link.{LossyLink}
 use Rattle.store_link.proofs.Ids.{next_store}
-use Rattle.job_spec.specs.Eyes.{number_in}
-use Rattle.job_actor.specs.Plans.{IsPlanOf}
-use Rattle.job_steps.proofs.Actors.{same_or_not, put_here, put_other}
-use Rattle.job_steps.proofs.Parts.{take_whole}
-use Rattle.job_steps.proofs.PastMore.{busy_is}
-use Rattle.job_actor.specs.Picks.{HasPicked, LeavesPicks, is_job_commit, is_committing}
-use Rattle.job_actor.specs.Works.{WorkLaws, IsAt, rise_for}
-use Rattle.job_side.specs.Holds.{Holds, HandIs, HandsAre, IsTurn, is_mine, seen_by, all_sound, is_busy_at, setting_of, hand_left}
-use Rattle.job_side.specs.Posts.{RaisedBy, raised}
-use Rattle.job_side.specs.declared.hands.Hand.{Hand}
-use Rattle.job_side.specs.declared.hands.Hand.TheVariants.{Plan, At, Empty}
-use Rattle.job_side.specs.declared.body.Body.{Body}
 use Rattle.job_side.proofs.Places.{apart, driver_first, attempt_at, there}
 use Rattle.job_side.proofs.Standings.{busy_at}
 use Rattle.job_traces.proofs.Changes.{after_parts}

@@ -1,14 +1,5 @@
 -- Who is busy, by the standings that are kept of a run.
-use Rattle.std.proofs.Common.{◌≡◌, ℕ, suc, inl, inr, true, false, List, [], ◌∷◌, map, slice_get, Some, None, refl, sym, ap, ◌∙◌}
-use Rattle.std.specs.Prelude.{is_some, option_map}
-use Rattle.job_steps.specs.Prelude.{lookup, Actor, Driver, Attempt, Shell, Who, Declared, same_name, actor_of, is_known, Script, Past, actors, is_busy}
-use Rattle.job_spec.proofs.Common.{none_or_some, true_or_false, false_true, nat_true, nat_false}
-use Rattle.job_steps.proofs.Actors.{same_true}
-use Rattle.job_states.specs.Standing.{standing}
-use Rattle.job_states.specs.Stands.{Kept, Stands, IsPlace}
-use Rattle.job_states.specs.declared.standing.Standing.{Standing}
-use Rattle.job_states.proofs.PlaceLemmas.{same_exact}
-use Rattle.job_side.specs.Holds.{busy_in, is_busy_at}
+use Rattle.job_side.proofs.Common.{Actor, Attempt, Declared, Driver, IsPlace, Kept, List, None, Past, Script, Shell, Some, Standing, Stands, Who, [], actor_of, actors, ap, busy_in, false, false_true, inl, inr, is_busy, is_busy_at, is_known, is_some, lookup, map, nat_false, nat_true, none_or_some, option_map, refl, same_exact, same_name, same_true, slice_get, standing, suc, sym, true, true_or_false, ℕ, ◌∙◌, ◌∷◌, ◌≡◌}
 use Rattle.job_side.proofs.Places.{there, get_map, map_none}
 
 -- ---- places

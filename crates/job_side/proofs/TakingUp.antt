@@ -1,14 +1,5 @@
 -- An actor of a world has the operation in hand that it began, which goes on or ends at once.
-use Rattle.std.proofs.Common.{◌≡◌, ℕ, ◌<◌, not, Bool, true, List, length, slice_get, slice_set, Option, Some, sym, ap, subst, ◌∙◌}
-use Rattle.std.specs.Prelude.{Result, Ok}
-use Rattle.job_spec.proofs.Common.{length-set, nat_false}
-use Rattle.job_steps.specs.Prelude.{Request, Actor, Known, OpEnd, Pick, Setting, Running}
-use Rattle.job_side.specs.Sending.{Asks}
-use Rattle.job_side.specs.Holds.{HandsAre, all_sound, setting_of, is_busy_at}
-use Rattle.job_side.specs.Events.{Begun, InHand, Handed, TakenUp}
-use Rattle.job_side.specs.declared.hands.Hand.{Hand}
-use Rattle.job_side.specs.declared.hands.Hand.TheVariants.{At}
-use Rattle.job_side.specs.declared.body.Body.{Body}
+use Rattle.job_side.proofs.Common.{Actor, Asks, At, Begun, Body, Bool, Hand, Handed, HandsAre, InHand, Known, List, Ok, OpEnd, Option, Pick, Request, Result, Running, Setting, Some, TakenUp, all_sound, ap, is_busy_at, length, length-set, nat_false, not, setting_of, slice_get, slice_set, subst, sym, true, ℕ, ◌<◌, ◌∙◌, ◌≡◌}
 use Rattle.job_side.proofs.Standings.{placed}
 use Rattle.job_side.proofs.Finishes.{hands_by}
 use Rattle.job_side.proofs.Writes.{set_so, set_other}

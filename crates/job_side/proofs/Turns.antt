@@ -1,20 +1,8 @@
 -- What a turn of a busy actor of a world comes to.
-use Rattle.std.proofs.Common.{◌≡◌, ℕ, ◌+◌, ◌-◌, ◌<◌, ◌≤◌, inl, inr, ◌&&◌, not, nat_eq, Bool, true, cond, List, [], ◌∷◌, ◌++◌, length, slice_get, Option, Some, None, IsSome, Vec, Global, vec_len, vec_capacity, refl, sym, ap, subst, ◌∙◌, arith, rules, length-append, append-nil}
-use Rattle.std.specs.Prelude.{is_some}
-use Rattle.job_steps.specs.Prelude.{filter, Scene, Actor, Request, Outcome, Entry, Known, Script, ActorEnd, OpEnd, NoMemory, Pick, Setting, Running, actors, is_own, of_event, is_memory}
-use Rattle.job_spec.proofs.Common.{filter-append, some_is, false_true, nat_true}
-use Rattle.job_spec.specs.Prelude.{in_eyes}
+use Rattle.job_side.proofs.Common.{ActLaws, Actor, ActorEnd, AreOf, Around, Asks, Beside, Body, Bool, Ending, Entry, FellAt, Global, Going, Hand, Holds, IsOver, IsSome, IsWorking, Kept, Known, List, NoMemory, None, OpEnd, Option, Outcome, Pick, RaisedBy, Request, Running, Same, Scene, Script, Sending, Setting, Some, Table, Turned, Vec, Wrote, [], actor_or, actors, all_sound, ap, append-nil, arith, cond, false_true, filter, filter-append, hand_end, in_eyes, inl, inr, is_busy_at, is_memory, is_mine, is_own, is_some, length, length-append, nat_eq, nat_true, not, of_event, refl, rules, same_laws, seen_by, slice_get, some_is, subst, sym, table_of, true, vec_capacity, vec_len, ℕ, ◌&&◌, ◌++◌, ◌+◌, ◌-◌, ◌<◌, ◌∙◌, ◌∷◌, ◌≡◌, ◌≤◌}
 use Rattle.proof_base.proofs.Members.{same_or_not as same_number}
-use Rattle.job_actor.specs.Acts.{ActLaws}
-use Rattle.job_states.specs.Stands.{Kept}
-use Rattle.job_states.specs.Turning.{Table, Beside, Sending, Ending, Turned}
 use Rattle.job_states.specs.declared.actors.Turn.{Turn}
 use Rattle.job_states.specs.declared.actors.Turn.TheVariants.{GoesOn, Ended, Died}
-use Rattle.job_side.specs.Sending.{Asks, hand_end}
-use Rattle.job_side.specs.Holds.{Holds, Going, Same, same_laws, AreOf, is_mine, seen_by, IsOver, all_sound, is_busy_at, actor_or, table_of}
-use Rattle.job_side.specs.Posts.{Around, Wrote, RaisedBy, FellAt, IsWorking}
-use Rattle.job_side.specs.declared.hands.Hand.{Hand}
-use Rattle.job_side.specs.declared.body.Body.{Body}
 use Rattle.job_side.proofs.Places.{own_at}
 use Rattle.job_side.proofs.Weights.{Lighter, lighter}
 use Rattle.job_side.proofs.Finishes.{has_hand}

@@ -1,12 +1,6 @@
 -- What the busy actors of a world weigh falls with each turn.
-use Rattle.std.proofs.Common.{◌≡◌, ℕ, zero, suc, ◌+◌, ◌<◌, ◌≤◌, ◌⊎◌, inl, inr, Bool, true, false, cond, List, [], ◌∷◌, length, slice_get, Some, refl, sym, ◌∙◌, arith}
+use Rattle.job_side.proofs.Common.{Bool, Hand, List, Scene, Some, Standing, [], arith, cond, false, hand_left, inl, inr, is_busy_at, length, raised, refl, slice_get, some_is, suc, sym, true, weight, weights, zero, ℕ, ◌+◌, ◌<◌, ◌∙◌, ◌∷◌, ◌≡◌, ◌≤◌, ◌⊎◌}
 use Rattle.proof_base.proofs.Common.{mul-le-mul_left}
-use Rattle.job_spec.proofs.Common.{some_is}
-use Rattle.job_steps.specs.Prelude.{Scene}
-use Rattle.job_states.specs.declared.standing.Standing.{Standing}
-use Rattle.job_side.specs.Holds.{is_busy_at, hand_left, weight, weights}
-use Rattle.job_side.specs.Posts.{raised}
-use Rattle.job_side.specs.declared.hands.Hand.{Hand}
 
 -- what one hand weighs at its place
 abbrev share : {W : Type 0} → (W → Scene → ℕ) → ℕ → Scene → List Standing → ℕ → Hand W → ℕ

@@ -8,6 +8,7 @@ pub use Rattle.job_protocol.proofs.Wearing.{first_spent}
 pub use Rattle.magic_paths.proofs.Elements.{decimal_without}
 pub use Rattle.magic_paths.proofs.Tails.{begins_back, begins_behind, below_is, key_magic}
 pub use Rattle.proof_base.proofs.Bools.{not_so}
+pub use Rattle.proof_base.proofs.Common.{IfOk-weaker, IsUtf8-from_ascii, and_parts, append-nil, cases_lt, drop_all, drop_at, eq-eqb, eqb-true, exact_bytes, exact_pairs, exact_unsigned, false≢true, filter-append, is_utf8-from_IsUtf8, le-leb, leb-true, length-map, length-take, list_all-append, lt-ltb, ltb-false, map-append, nat_tests, not-true, on_total, or_parts, slice_get-get_or, slice_get_within, take-append-le, take_all, then_total, true≢false}
 pub use Rattle.proof_base.proofs.Less.{le_lt, lt_not}
 pub use Rattle.proof_base.proofs.Members.{eq_nat, false_true, filter_in, in_append, in_back, in_filter, in_front, in_last, in_map, map_in, nat_false, nat_gone, nat_here, nat_left, nat_other, nat_true, none_or_some, none_some, same_or_not, same_or_other, some_is, text_false, text_gone, text_here, text_is, text_left, text_other, text_true, true_or_false}
 pub use Rattle.proof_base.proofs.Numbers.{above_so, at_most_is, at_most_not, at_most_so, below_so}
@@ -16,16 +17,8 @@ pub use Rattle.retries.proofs.First.{computed, counted_first, none_sent}
 pub use Rattle.retries.proofs.Runs.{follows_more, run_more}
 pub use Rattle.retries.proofs.SameRequest.{same_self}
 pub use Rattle.std.proofs.Math.ListN.{length-set}
-pub use Rattle.std.proofs.lemmas.Bool.{and_parts, cases_lt, eq-eqb, eqb-true, false≢true, le-leb, leb-true, lt-ltb, ltb-false, not-true, or_parts, true≢false}
-pub use Rattle.std.proofs.lemmas.Bool.Decides.{nat_tests}
-pub use Rattle.std.proofs.lemmas.Cmp.{on_total, then_total}
 pub use Rattle.std.proofs.lemmas.Fmt.{decimal_digit}
-pub use Rattle.std.proofs.lemmas.List.{append-nil, append_cancel_left, drop_all, drop_at, length-map, length-take, map-append, take-append-le, take_all}
-pub use Rattle.std.proofs.lemmas.List.Elements.{filter-append}
-pub use Rattle.std.proofs.lemmas.List.Folds.{list_all-append, list_any-append}
+pub use Rattle.std.proofs.lemmas.List.{append_cancel_left}
+pub use Rattle.std.proofs.lemmas.List.Folds.{list_any-append}
 pub use Rattle.std.proofs.lemmas.List.FromFn.{length-map-range_with_len}
-pub use Rattle.std.proofs.lemmas.Map.Lookups.{exact_bytes, exact_pairs, exact_unsigned}
-pub use Rattle.std.proofs.lemmas.Option.{slice_get-get_or, slice_get_within}
-pub use Rattle.std.proofs.lemmas.Result.{IfOk-weaker}
-pub use Rattle.std.proofs.lemmas.Str.{IsUtf8-from_ascii, is_utf8-from_IsUtf8}
 pub use Rattle.std.proofs.lemmas.Str.Ascii.{IsAscii-cons, IsAscii-nil}

@@ -55,6 +55,7 @@ forgets_after w xs h a = ap (λ (p : Past). p.reported a) (restart_after w xs h)
 none_reports : (t : ℕ) (ds : List Declared) → list_any (λ a. nat_eq a.0.task t && false) ds ≡ false
 none_reports t [] = refl
 none_reports t (d ∷ ds) = ap (λ b. b || list_any (λ (a : Declared). nat_eq a.0.task t && false) ds) (and-false (nat_eq d.0.task t)) ∙ none_reports t ds
+
 first_missed : (w : Script) (tasks n : ℕ) → tasks ≡ suc n → first_not (is_reported w (λ a. false)) 0 tasks ≡ Some 0
 first_missed w tasks n h = ap (first_not (is_reported w (λ a. false)) 0) h ∙ ap (λ b. cond b (first_not (is_reported w (λ a. false)) 1 n) (Some 0)) (none_reports 0 w.attempts)
 

@@ -71,6 +71,7 @@ number_grows_by mine n (suc d) =
     let h : number_in mine n ≤ number_in mine (n + d) = number_grows_by mine n d in
     let k : number_in mine (n + d) ≤ number_in mine (suc (n + d)) = next_number mine (n + d) in
     subst (λ m. number_in mine n ≤ number_in mine m) (sym e) (le_trans h k)
+
 number_grows : (mine : ℕ → Bool) (n m : ℕ) → n ≤ m → number_in mine n ≤ number_in mine m
 number_grows mine n m h = let e : n + (m - n) ≡ m = omega arith in subst (λ x. number_in mine n ≤ number_in mine x) e (number_grows_by mine n (m - n))
 

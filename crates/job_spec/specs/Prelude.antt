@@ -1,42 +1,11 @@
 -- Definitions of this crate and of those below it that specifications and proofs cite, passed on from one place. Declares nothing.
-pub use Rattle.job_model.specs.Attempts.{Declared, Who, actor_of, declares, is_known, last_files, same_name}
-pub use Rattle.job_model.specs.Files.{File, has_path}
-pub use Rattle.job_model.specs.JobScript.{Script}
-pub use Rattle.job_model.specs.Jobs.{has_task}
-pub use Rattle.job_model.specs.Known.{Drawn, Known, nothing_known}
-pub use Rattle.job_model.specs.Legal.{AreAttempts, AreEvents, AreFiles, IsEvent, IsGiven, IsLegal, bytes_in, bytes_of, files_in}
-pub use Rattle.job_model.specs.Placed.{placed}
-pub use Rattle.job_model.specs.declared.ends.ActorEnd.{ActorEnd}
-pub use Rattle.job_model.specs.declared.ends.CommitEnd.{CommitEnd}
-pub use Rattle.job_model.specs.declared.ends.EventEnd.{EventEnd}
-pub use Rattle.job_model.specs.declared.ends.EventEnd.TheVariants.{Done, Ended}
-pub use Rattle.job_model.specs.declared.ends.EventFault.{EventFault}
-pub use Rattle.job_model.specs.declared.ends.OpEnd.{OpEnd}
-pub use Rattle.job_model.specs.declared.ends.Pick.{Pick}
-pub use Rattle.job_model.specs.declared.ends.SetupEnd.{SetupEnd}
-pub use Rattle.job_model.specs.declared.ends.TaskEnd.{TaskEnd}
-pub use Rattle.job_model.specs.declared.events.Event.{Event}
-pub use Rattle.job_model.specs.declared.events.Event.TheVariants.{Do, Kill, Mix, Recover, Restart, Start, Step}
-pub use Rattle.job_model.specs.declared.events.Op.{Op}
-pub use Rattle.job_model.specs.declared.events.Op.TheVariants.{Abort}
-pub use Rattle.job_model.specs.declared.states.ActorStage.{ActorStage}
-pub use Rattle.job_model.specs.declared.states.ActorState.{ActorState}
-pub use Rattle.job_model.specs.declared.states.Life.TheVariants.{Busy, Idle}
-pub use Rattle.job_protocol.specs.Cleanups.{Aborting, Clean, CleanOver, Naming, Removing, Walking, clean_after, clean_asks, clean_start}
-pub use Rattle.job_protocol.specs.Conflicts.{keeps_of}
-pub use Rattle.job_protocol.specs.JobCommits.{Commit, CommitOver, Completing, Fetching, Marking, Replacing, Reverting, Sets, all_commits, commit_asks, commit_start, commit_tells, decided, is_no_magic, ok_set, picks_of, replacing, set_read, set_request, stage_of}
-pub use Rattle.job_protocol.specs.Knowledge.{drawn_in, is_set_path, knows, learn}
-pub use Rattle.job_protocol.specs.LaneTable.{Tabled}
-pub use Rattle.job_protocol.specs.Lanes.{Turn, abort, completion, deletion, nth}
-pub use Rattle.job_protocol.specs.Operations.{Operation, Reports, Running, Setting, TheCheck, TheClean, TheCommit, TheSetup, TheSparing, TheTaskAbort, TheTaskCommit, TheWrite, advance, asks, over, start_of, tells, wants}
-pub use Rattle.job_protocol.specs.Outputs.{Picks, files, first_where, is_clash, is_decided, is_picked, same_path, wanted, wanted_at}
-pub use Rattle.job_protocol.specs.Records.{file_key, file_record, files_set, mark_text, marker_key, record_key, record_text, set_text}
-pub use Rattle.job_protocol.specs.Setup.{Clearing, Heading, Setup, SetupOver, Sweeping, dest_prefix, setup_after, setup_asks, setup_start}
-pub use Rattle.job_protocol.specs.TaskAborts.{Dropping, TaskAbort, TaskAbortOver, task_abort_start}
-pub use Rattle.job_protocol.specs.TaskCommits.{Checking, Looking, Publishing, Reading, Renaming, Storing, TaskCommit, TaskCommitOver, attempt_prefix, task_commit_over, task_commit_start}
-pub use Rattle.job_protocol.specs.Uploading.{Creating, Sending, Uploading, file_parts}
-pub use Rattle.job_protocol.specs.View.{is_file_path, object_in, view}
-pub use Rattle.job_protocol.specs.Writes.{Recording, Write, WriteOver, write_over, write_start}
+pub use Rattle.job_model.specs.Prelude.{AreEvents, Completed, IsEvent, declares, is_known, is_open, last_files, remove}
+pub use Rattle.job_protocol.specs.Cleanups.{clean_after, clean_start}
+pub use Rattle.job_protocol.specs.JobCommits.{ok_set}
+pub use Rattle.job_protocol.specs.Prelude.{Abort, AbortUpload, Aborting, Actor, ActorEnd, ActorStage, ActorState, AllByRecursion, Answered, Append, AreAttempts, AreFiles, AreForetold, Attempt, BucketContent, Busy, Checking, Clean, CleanOver, Clearing, ClusterDelete, ClusterGet, ClusterNames, ClusterPut, ClusterRename, Commit, CommitEnd, CommitOver, Committer, CompleteUpload, Completing, Content, CopyObject, CreateUpload, Creating, Declared, DeleteObject, DeleteObjects, Directory, Do, Done, Drawn, Driver, Dropping, Ended, Entry, Equal, Event, EventEnd, EventFault, Fail, Fetching, File, GetObject, Greater, Head, HeadObject, Heading, Idle, IsGiven, IsHonest, IsIn, IsLegal, IsWorn, Kill, Known, Less, ListPage, Looking, MOST_MINIMUM, MOST_SCRIPT_BYTES, Magic, Marking, Mix, Mode, Naming, NoSuchBucket, NoSuchFile, NoSuchKey, NoSuchUpload, Object, Op, OpEnd, Operation, Ordering, Outcome, Page, PageEntry, Part, Partitioned, Pick, Picks, Publishing, PutObject, Reading, Recover, Refusal, Refused, Removing, Renaming, Replace, Replacing, Reply, ReplyLost, Reports, Request, RequestLost, Restart, Retried, Reverting, RisesFrom, Running, Scene, Script, Sending, Sets, Setting, Setup, SetupEnd, SetupOver, Shell, Slow, Spelled, Start, Step, Storing, Sweeping, Tabled, TaskAbort, TaskAbortOver, TaskCommit, TaskCommitOver, TaskEnd, TheCheck, TheClean, TheCommit, TheSetup, TheSparing, TheTaskAbort, TheTaskCommit, TheWrite, Turn, Upload, UploadPart, UploadRef, Uploading, Walking, Who, WornFirst, Write, WriteOver, abort, actor_of, advance, all_commits, answer, answer_at, apply, asks, attempt_prefix, begins, bytes_in, bytes_of, clean_asks, commit_asks, commit_start, commit_tells, completion, decided, decimal, deletion, dest_prefix, drawn_in, effect, fate_at, file_key, file_parts, file_record, files, files_in, files_set, filter, first_where, flat_map, has_path, has_task, is_clash, is_decided, is_effective, is_key_path, is_lt, is_no_magic, is_picked, is_set_path, keeps_of, keys_of, knows, learn, list_all, lookup, mark_text, marker_key, moment, nat_cmp, nat_cmp-IsAntisymmetric, nothing_known, nth, opening, option_map, over, picks_of, placed, record_key, record_text, replacing, same_name, same_path, same_request, set_read, set_request, set_text, setup_after, setup_asks, slice_get, stage_of, start_of, step, streak, success_key, task_abort_start, task_commit_over, task_commit_start, tells, text_cmp, text_eq, text_total, unwrap_or, view, wanted, wanted_at, wants, was_answered, write_over, write_start}
+pub use Rattle.job_protocol.specs.Setup.{setup_start}
+pub use Rattle.job_protocol.specs.View.{is_file_path, object_in}
+pub use Rattle.job_protocol.specs.Writes.{Recording}
 pub use Rattle.job_spec.specs.Ends.{EndedIn, commit_due, end_or, has_cleaned, is_driver, is_mark_answered}
 pub use Rattle.job_spec.specs.Entries.{AreOwn, IsZeroRename, OutsideStays, ZeroRename, is_copy, may_show, sends_data}
 pub use Rattle.job_spec.specs.Eyes.{in_eyes}
@@ -49,54 +18,17 @@ pub use Rattle.job_spec.specs.Scope.{NoClusterFile, NoneLive, NothingLeft, SameO
 pub use Rattle.job_spec.specs.Seen.{Seen, Times, is_begun, is_magic, is_marked, is_marking, is_picking, is_publishing, is_staging, nothing_seen, picks_by, see, see_all, see_by, seen}
 pub use Rattle.job_spec.specs.States.{Decided, Doing, EndedSo, NotBegun, Past, Unended, actors, after_event, begin, clean_event, commit_event, dead, decide, end_op, end_ops, end_verdict, ended, first_not, idle, is_commit, is_committing, is_done, is_reported, kill, missing, nothing_past, open_event, past, past_from, put, refusal, report, reports, restart, restarted, same_actor, stage_begun, stage_done, times, told, verdict, verdict_or}
 pub use Rattle.job_spec.specs.Turns.{AllBy, AllFrom, AllUpTo, IsRising, Mixing, StepEnds, Turns, before, by_actor, draw, is_busy, is_memory, is_own, is_wanting, mix_begins, of_event, own, place, since, until, until_last}
-pub use Rattle.magic_paths.specs.Layout.{cluster_prefix, magic_prefix, success_key}
-pub use Rattle.magic_paths.specs.Places.{ClusterPlace, FilePlace, MarkerPlace, Place, RecordPlace, SetPlace, StagedSetPlace, SuccessPlace, TemporaryPlace, is_open, key_at, path_at}
-pub use Rattle.proof_base.specs.Members.{IsIn, RisesFrom}
-pub use Rattle.proof_base.specs.Order.{text_cmp, text_eq, text_ties, text_total}
-pub use Rattle.retries.specs.Retries.{Retried, step}
-pub use Rattle.retries.specs.Same.{same_request}
-pub use Rattle.retries.specs.Worn.{IsWorn, WornFirst, first_worn, streak, was_answered}
-pub use Rattle.s3_types.specs.Answer.{abort_answer, answer, answer_at, answer_in, apply, apply_at, apply_in, apply_store, bucket_of, complete_answer, completed, head, part_answer, part_put, read_answer, rename_answer, without}
-pub use Rattle.s3_types.specs.Blocks.{named_from}
-pub use Rattle.s3_types.specs.Fates.{FateMap, fate_at, fate_or}
-pub use Rattle.s3_types.specs.Foretold.{AreForetold, fate_of}
-pub use Rattle.s3_types.specs.Moment.{AreHonest, IsHonest, IsHonestOutcome, after_all, effect, is_effective, moment}
-pub use Rattle.s3_types.specs.Multipart.{has_tag, is_behind, is_part_number, joined, live, ref_cmp, rises, tag_eq, with_key, with_part}
-pub use Rattle.s3_types.specs.Names.{is_bucket, is_key, is_key_path}
-pub use Rattle.s3_types.specs.Pages.{begins}
-pub use Rattle.s3_types.specs.Requests.{only_reads}
-pub use Rattle.s3_types.specs.Store.{BucketContent, Content, Files, Objects, Parts, Scene, Upload, new_bucket, new_content, opening}
-pub use Rattle.s3_types.specs.Tags.{Spelled}
-pub use Rattle.s3_types.specs.declared.fates.Fate.{Fate}
+pub use Rattle.magic_paths.specs.Layout.{cluster_prefix, magic_prefix}
+pub use Rattle.magic_paths.specs.Places.{ClusterPlace, FilePlace, MarkerPlace, Place, RecordPlace, SetPlace, StagedSetPlace, SuccessPlace, TemporaryPlace, key_at, path_at}
+pub use Rattle.retries.specs.Prelude.{AreHonest, ClusterList, Fate, IsHonestOutcome, ListParts, ListUploads, MakeBucket, NamedPart, after_all, has_tag, tag_eq}
+pub use Rattle.retries.specs.Worn.{first_worn}
+pub use Rattle.s3_types.specs.Answer.{abort_answer, complete_answer, head, part_answer, read_answer, rename_answer}
+pub use Rattle.s3_types.specs.Prelude.{FateMap, Files, IsAscii, IsTotalOrder, Objects, Parts, answer_in, apply_at, apply_in, apply_store, bucket_of, completed, entries, eq_by_cmp, fate_of, fate_or, find, find-where_key, from_entries, get, get-from_entries, get-insert, insert, is_behind, is_bucket, is_key, is_part_number, is_sorted, is_utf8, joined, live, named_from, nat_cmp_total, new_bucket, only_reads, part_put, ref_cmp, rises, text_ties, where_key, with_key, with_part, without}
+pub use Rattle.s3_types.specs.Store.{new_content}
 pub use Rattle.s3_types.specs.declared.fates.Fate.TheVariants.{After, Answer}
-pub use Rattle.s3_types.specs.declared.journal.Entry.{Entry}
-pub use Rattle.s3_types.specs.declared.journal.Outcome.{Outcome}
-pub use Rattle.s3_types.specs.declared.journal.Outcome.TheVariants.{Answered, ReplyLost, RequestLost, Slow}
-pub use Rattle.s3_types.specs.declared.limits.TheConstants.{MOST_ENTRIES, MOST_MINIMUM, MOST_SCRIPT_BYTES}
-pub use Rattle.s3_types.specs.declared.object.Object.{Object}
-pub use Rattle.s3_types.specs.declared.reply.PageEntry.{PageEntry}
-pub use Rattle.s3_types.specs.declared.reply.Refusal.{Refusal}
-pub use Rattle.s3_types.specs.declared.reply.Refusal.TheVariants.{BadPartNumber, NoSuchBucket, NoSuchFile, NoSuchKey, NoSuchUpload, TooManyKeys}
-pub use Rattle.s3_types.specs.declared.reply.Reply.{Reply}
-pub use Rattle.s3_types.specs.declared.reply.Reply.TheVariants.{Aborted, ClusterDone, ClusterNames, Completed, Deleted, Head, Page, Part, Refused, Stored}
-pub use Rattle.s3_types.specs.declared.request.Actor.{Actor}
-pub use Rattle.s3_types.specs.declared.request.Actor.TheVariants.{Attempt, Driver, Shell}
-pub use Rattle.s3_types.specs.declared.request.Committer.{Committer}
-pub use Rattle.s3_types.specs.declared.request.Committer.TheVariants.{Directory, Magic, Partitioned}
-pub use Rattle.s3_types.specs.declared.request.Mode.{Mode}
-pub use Rattle.s3_types.specs.declared.request.Mode.TheVariants.{Append, Fail, Replace}
-pub use Rattle.s3_types.specs.declared.request.NamedPart.{NamedPart}
-pub use Rattle.s3_types.specs.declared.request.Request.{Request}
-pub use Rattle.s3_types.specs.declared.request.Request.TheVariants.{AbortUpload, ClusterDelete, ClusterGet, ClusterList, ClusterPut, ClusterRename, CompleteUpload, CopyObject, CreateUpload, DeleteObject, DeleteObjects, GetObject, HeadObject, ListPage, ListParts, ListUploads, MakeBucket, PutObject, UploadPart}
-pub use Rattle.s3_types.specs.declared.request.UploadRef.{UploadRef}
-pub use Rattle.std.specs.Cmp.{IsTotalOrder, nat_cmp_total}
-pub use Rattle.std.specs.FinMap.{IsAntisymmetric, entries, from_entries, get, get-from_entries, get-insert, insert, nat_cmp-IsAntisymmetric}
-pub use Rattle.std.specs.FinMap.Entries.{by_order, find, find-put, find-where_key, is_sorted, where_key}
-pub use Rattle.std.specs.Fmt.{decimal}
-pub use Rattle.std.specs.List.{AllByRecursion, filter, flat_map, list_all, range_with_len, remove, slice_get}
-pub use Rattle.std.specs.Map.{keys_of, lookup}
-pub use Rattle.std.specs.Option.{option_map, unwrap_or}
-pub use Rattle.std.specs.Ordering.{eq_by_cmp, is_lt, nat_cmp}
-pub use Rattle.std.specs.Str.{IsAscii, is_utf8}
-pub use Rattle.std.specs.declared.cmp.Ordering.{Ordering}
-pub use Rattle.std.specs.declared.cmp.Ordering.TheVariants.{Equal, Greater, Less}
+pub use Rattle.s3_types.specs.declared.limits.TheConstants.{MOST_ENTRIES}
+pub use Rattle.s3_types.specs.declared.reply.Refusal.TheVariants.{BadPartNumber, TooManyKeys}
+pub use Rattle.s3_types.specs.declared.reply.Reply.TheVariants.{Aborted, ClusterDone, Deleted, Stored}
+pub use Rattle.std.specs.FinMap.{IsAntisymmetric}
+pub use Rattle.std.specs.FinMap.Entries.{by_order, find-put}
+pub use Rattle.std.specs.List.{range_with_len}

@@ -1,8 +1,5 @@
 -- Turns of one actor, one after another.
-use Rattle.std.proofs.Common.{◌≡◌, ℕ, ◌+◌, ◌<◌, ◌≤◌, Bool, true, false, List, [], ◌∷◌, ◌++◌, length, length-append, append_assoc, append-nil, refl, sym, ap, ◌∙◌, arith}
-use Rattle.job_spec.specs.Prelude.{Actor, Entry, AllBy, StepEnds}
-use Rattle.job_states.specs.Turning.{Table, Beside, Ending, Turned, Going, Ran}
-use Rattle.job_states.specs.declared.actors.Turn.TheVariants.{GoesOn, Ended, Died}
+use Rattle.job_states.proofs.Common.{Actor, AllBy, Beside, Bool, Died, Ended, Ending, Entry, GoesOn, Going, List, Ran, StepEnds, Table, Turned, [], ap, append-nil, append_assoc, arith, false, length, length-append, refl, sym, true, ℕ, ◌++◌, ◌+◌, ◌<◌, ◌∙◌, ◌∷◌, ◌≡◌, ◌≤◌}
 
 pub all_by_more : (a : Actor) (es : List Entry) (e : Entry) → AllBy a es → e.actor ≡ a → AllBy a (es ++ e ∷ [])
 all_by_more a [] e h is = (is, tt)

@@ -1,8 +1,5 @@
 -- The choice of who sends next in a mix.
-use Rattle.std.proofs.Common.{◌≡◌, ℕ, ◌+◌, ◌*◌, ◌/◌, ◌%◌, ◌^◌, ◌==◌, ◌<◌, List, length, get_or, slice_get, Some, true, false, ap, arith, rules}
-use Rattle.job_spec.proofs.Common.{nat_tests, slice_get-get_or}
-use Rattle.job_spec.specs.Prelude.{draw, place}
-use Rattle.std.proofs.lemmas.Nat.{mod_below}
+use Rattle.job_states.proofs.Common.{List, Some, ap, arith, draw, false, get_or, length, mod_below, nat_tests, place, rules, slice_get, slice_get-get_or, true, ℕ, ◌%◌, ◌*◌, ◌+◌, ◌/◌, ◌<◌, ◌==◌, ◌^◌, ◌≡◌}
 
 pub next_drawn : (seed n drawn : ℕ) → drawn ≡ draw seed n → (1103515245 * drawn + 12345) % 2147483648 ≡ draw seed (n + 1)
 next_drawn seed n drawn h = grind arith

@@ -1,9 +1,6 @@
 -- Events of a script, one after another.
-use Rattle.std.proofs.Common.{◌≡◌, ℕ, zero, suc, ◌+◌, ◌<◌, List, [], ◌∷◌, length, drop, get_or, sym, ap, subst, ◌∙◌, arith}
-use Rattle.proof_base.proofs.Common.{drop_more}
-use Rattle.job_spec.specs.Prelude.{Declared, Script, IsEvent, AreEvents, Event, EventFault, EventEnd, Past, open_event, told, end_ops, after_event}
+use Rattle.job_states.proofs.Common.{AreEvents, Declared, Event, EventEnd, EventFault, IsEvent, List, Past, Script, [], after_event, ap, arith, count, drop, drop_more, end_ops, get_or, length, open_event, subst, suc, sym, told, zero, ℕ, ◌+◌, ◌<◌, ◌∙◌, ◌∷◌, ◌≡◌}
 use Rattle.job_model.specs.declared.ends.EventEnd.TheVariants.{Refused}
-use Rattle.job_spec.specs.States.{count}
 
 -- an event that is not refused is opened, and then its ends come
 pub after_played : (w : Script) (p : Past) (ev : Event) (end : EventEnd) → ((f : EventFault) → end ≡ Refused f → ⊥) → after_event w p ev end ≡ count (end_ops (open_event w p ev) (told ev end))

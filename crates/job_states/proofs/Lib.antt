@@ -7,3 +7,4 @@ pub mod AloneTurns
 pub mod MixPlaces
 pub mod Choices
 pub mod MixTurns
+mod Common

@@ -1,10 +1,5 @@
 -- Lists of places that are apart, and their actors.
-use Rattle.std.proofs.Common.{◌≡◌, ℕ, zero, suc, List, [], ◌∷◌, map, slice_get, Some, refl, sym, ap, ◌∙◌}
-use Rattle.job_spec.specs.Prelude.{remove}
-use Rattle.std.specs.Prelude.{option_map}
-use Rattle.std.proofs.lemmas.Option.{slice_get-map}
-use Rattle.job_spec.proofs.Common.{some_is, none_some}
-use Rattle.job_states.specs.Mixes.{IsNotIn, AreApart}
+use Rattle.job_states.proofs.Common.{AreApart, IsNotIn, List, Some, [], ap, map, none_some, option_map, refl, remove, slice_get, slice_get-map, some_is, suc, sym, zero, ℕ, ◌∙◌, ◌∷◌, ◌≡◌}
 
 not_in_get : (a : ℕ) (xs : List ℕ) (i b : ℕ) → IsNotIn a xs → slice_get xs i ≡ Some b → b ≡ a → ⊥
 not_in_get a [] i b n e h = none_some refl e

@@ -1,13 +1,8 @@
 -- Turns of actors that are mixed.
-use Rattle.std.proofs.Common.{◌≡◌, ℕ, ◌+◌, ◌*◌, ◌/◌, ◌%◌, ◌^◌, ◌<◌, ◌≤◌, inl, inr, true≢false, List, [], ◌∷◌, ◌++◌, map, length, length-append, append_assoc, append-nil, slice_get, Some, refl, sym, ap, subst, ◌∙◌, arith}
-use Rattle.job_spec.specs.Prelude.{remove, Actor, Entry, ActorEnd, OpEnd, Mixing, mix_begins, draw, place}
-use Rattle.job_spec.proofs.Common.{slice_get_within, length-map, none_some, same_or_not}
+use Rattle.job_states.proofs.Common.{Actor, ActorEnd, AreApart, AreGoing, Beside, Died, Ended, Ending, Entry, GoesOn, List, Mixed, Mixes, Mixing, OpEnd, Some, Table, Turned, [], ap, append-nil, append_assoc, arith, draw, inl, inr, length, length-append, length-map, map, mix_begins, none_some, place, refl, remove, same_or_not, slice_get, slice_get_within, subst, sym, true≢false, ℕ, ◌%◌, ◌*◌, ◌++◌, ◌+◌, ◌/◌, ◌<◌, ◌^◌, ◌∙◌, ◌∷◌, ◌≡◌, ◌≤◌}
 use Rattle.std.proofs.lemmas.List.{nil_from_length}
 use Rattle.std.proofs.lemmas.List.Edits.{length-remove}
 use Rattle.job_spec.specs.Turns.{mix_sends, mix_ends, mix_dies}
-use Rattle.job_states.specs.Turning.{Table, Beside, Ending, Turned}
-use Rattle.job_states.specs.Mixes.{AreApart, AreGoing, Mixed, Mixes}
-use Rattle.job_states.specs.declared.actors.Turn.TheVariants.{GoesOn, Ended, Died}
 use Rattle.job_states.proofs.MixPlaces.{remove_apart, remove_get, get_remove, get_map, remove_map}
 use Rattle.job_states.proofs.Choices.{place_is, next_drawn}
 

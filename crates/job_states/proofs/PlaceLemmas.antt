@@ -1,14 +1,7 @@
 -- Actors at their places.
-use Rattle.std.proofs.Common.{◌≡◌, ℕ, zero, suc, ◌<◌, nat_eq, true, false, true≢false, ◌+◌, List, [], ◌∷◌, map, set, get_or, length, slice_get, Option, Some, None, refl, sym, ap, subst, ◌∙◌, arith}
-use Rattle.std.specs.Prelude.{is_some, option_map}
-use Rattle.job_spec.specs.Prelude.{lookup, keys_of, AllByRecursion, Actor, Driver, Shell, Who, Declared, same_name, actor_of, is_known, Script, same_actor, actors}
-use Rattle.job_protocol.specs.Prelude.{position, IsDistinct}
-use Rattle.std.proofs.lemmas.Option.{slice_get-map, same_Some}
+use Rattle.job_states.proofs.Common.{Actor, AllByRecursion, ChangesAt, Declared, Driver, IsDistinct, IsPlace, List, None, Option, Script, Shell, Some, Standing, Who, [], actor_of, actors, ap, arith, false, get_or, is_at, is_known, is_some, keys_of, length, lookup, map, nat_eq, nat_tests, option_map, position, refl, same_Some, same_actor, same_name, set, slice_get, slice_get-get_or, slice_get-map, subst, suc, sym, true, true≢false, zero, ℕ, ◌+◌, ◌<◌, ◌∙◌, ◌∷◌, ◌≡◌}
 use Rattle.proof_base.proofs.Common.{length-map, position-Some, IsDistinct-head, IsDistinct-tail}
-use Rattle.job_spec.proofs.Common.{slice_get-get_or, nat_tests}
-use Rattle.job_states.specs.declared.standing.Standing.{Standing}
 use Rattle.std.specs.Option.{IfSome}
-use Rattle.job_states.specs.Stands.{is_at, IsPlace, ChangesAt}
 use Rattle.proof_base.proofs.Numbers.{suc_not, suc_same, zero_not}
 
 -- ---- tests

@@ -1,14 +1,7 @@
 -- Which tasks are reported, as a list of truth values, and who is busy.
-use Rattle.std.proofs.Common.{◌≡◌, ℕ, zero, suc, ◌+◌, ◌<◌, ◌≤◌, nat_eq, nat_lt, Bool, true, false, cond, ◌&&◌, ◌||◌, not, ◌⊎◌, inl, inr, List, [], ◌∷◌, ◌++◌, map, set, length, take, replicate, get_or, slice_get, Some, unwrap_or, refl, sym, ap, subst, ◌∙◌, arith, append_assoc, length-append}
-use Rattle.job_spec.specs.Prelude.{range_with_len, filter, nat_cmp, first_where, has_task, first_not, is_busy}
-use Rattle.job_protocol.specs.Prelude.{insert_key}
-use Rattle.job_spec.proofs.Common.{nat_tests}
-use Rattle.proof_base.proofs.Common.{take-append_seam}
+use Rattle.job_states.proofs.Common.{Bool, List, Some, Standing, [], ap, append_assoc, arith, busy_from, cond, false, filter, first_false, first_not, first_where, get_or, has_task, inl, inr, insert_key, is_busy, length, length-append, map, nat_cmp, nat_eq, nat_lt, nat_tests, not, range_with_len, refl, replicate, set, slice_get, slice_get_past, subst, suc, sym, take, take-append_seam, tested, true, unwrap_or, zero, ℕ, ◌&&◌, ◌++◌, ◌+◌, ◌<◌, ◌||◌, ◌∙◌, ◌∷◌, ◌≡◌, ◌≤◌, ◌⊎◌}
 use Rattle.std.proofs.lemmas.List.FromFn.{length-range_with_len, length-map-range_with_len}
 use Rattle.std.proofs.lemmas.Simd.{splat_is_map}
-use Rattle.std.proofs.lemmas.Option.{slice_get_past}
-use Rattle.job_states.specs.declared.standing.Standing.{Standing}
-use Rattle.job_states.specs.Stands.{tested, first_false, busy_from}
 
 -- ---- tests of tasks
 

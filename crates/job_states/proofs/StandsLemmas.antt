@@ -1,12 +1,5 @@
 -- What is kept goes with the fold over events and ends.
-use Rattle.std.proofs.Common.{◌≡◌, Bool, true, false, ◌&&◌, Option, arith}
-use Rattle.std.specs.Prelude.{option_map}
-use Rattle.job_spec.specs.Prelude.{Actor, Driver, is_known, Script, Op, OpEnd, ActorEnd, ActorStage, ActorState, Past, Doing, Decided, put, idle, ended, restarted, begin, kill, end_op, report, is_reported, is_committing, is_done, is_commit, decide}
-use Rattle.job_model.specs.declared.events.Op.TheVariants.{Setup, Commit}
-use Rattle.job_spec.specs.States.{is_setup}
-use Rattle.job_states.specs.declared.standing.Standing.{Standing}
-use Rattle.job_states.specs.Standing.{standing, fresh, begun_in, ended_in, killed_in, renewed_in, began, decision}
-use Rattle.job_states.specs.Stands.{tested, told_by, ChangesAt}
+use Rattle.job_states.proofs.Common.{Actor, ActorEnd, ActorStage, ActorState, Bool, ChangesAt, Commit, Decided, Doing, Driver, Op, OpEnd, Option, Past, Script, Setup, Standing, arith, began, begin, begun_in, decide, decision, end_op, ended, ended_in, false, fresh, idle, is_commit, is_committing, is_done, is_known, is_reported, is_setup, kill, killed_in, option_map, put, renewed_in, report, restarted, standing, tested, told_by, true, ◌&&◌, ◌≡◌}
 use Rattle.job_states.proofs.ReportLemmas.{same_tests}
 use Rattle.job_states.proofs.ToldLemmas.{told_more}
 

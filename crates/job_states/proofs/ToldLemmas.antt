@@ -1,10 +1,6 @@
 -- One more attempt that has reported is one more task.
-use Rattle.std.proofs.Common.{◌≡◌, ℕ, nat_eq, Bool, false, ◌&&◌, ◌||◌, List, [], ◌∷◌, ◌++◌, suc, zero, ◌<◌, map, set, take, drop, length, get_or, arith, refl, ap}
-use Rattle.std.specs.Prelude.{is_some}
+use Rattle.job_states.proofs.Common.{Actor, Attempt, Bool, Declared, Driver, List, Script, Shell, Who, [], actor_of, ap, arith, drop, false, get_or, is_known, is_reported, is_some, length, lookup, map, nat_eq, nat_tests, put, refl, same_name, set, suc, take, tested, told_by, zero, ℕ, ◌&&◌, ◌++◌, ◌<◌, ◌||◌, ◌∷◌, ◌≡◌}
 use Rattle.std.specs.List.{list_any}
-use Rattle.job_spec.specs.Prelude.{lookup, Actor, Driver, Attempt, Shell, Who, Declared, same_name, actor_of, is_known, Script, put, is_reported}
-use Rattle.job_spec.proofs.Common.{nat_tests}
-use Rattle.job_states.specs.Stands.{tested, told_by}
 use Rattle.job_states.proofs.ReportLemmas.{same_tests}
 
 of_declared : (ds : List Declared) (q : Who) (b : Bool) (f : Actor → Bool) (t : ℕ)

@@ -1,7 +1,5 @@
 -- Actors that are the same or not, and what is put at one of them.
-use Rattle.std.proofs.Common.{◌≡◌, ℕ, ◌⊎◌, inl, inr, nat_eq, true, false, cond, refl, sym, ap, subst, ◌∙◌, arith}
-use Rattle.job_spec.proofs.Common.{and_parts, eq_nat, nat_true, false_true, true_or_false}
-use Rattle.job_steps.specs.Prelude.{Actor, Driver, Attempt, Shell, same_actor, put}
+use Rattle.job_steps.proofs.Common.{Actor, Attempt, Driver, Shell, and_parts, ap, arith, cond, eq_nat, false, false_true, inl, inr, nat_eq, nat_true, put, refl, same_actor, subst, sym, true, true_or_false, ℕ, ◌∙◌, ◌≡◌, ◌⊎◌}
 
 same_itself : (a : Actor) → same_actor a a ≡ true
 same_itself a = grind arith

@@ -11,3 +11,4 @@ pub mod RunningSteps
 pub mod Running
 pub mod RunningCommits
 pub mod Reported
+mod Common

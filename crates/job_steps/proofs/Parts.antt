@@ -1,8 +1,5 @@
 -- Parts of a journal to which one entry is added.
-use Rattle.std.proofs.Common.{◌≡◌, ℕ, zero, suc, ◌+◌, ◌<◌, ◌≤◌, ◌⊎◌, inl, inr, ◌&&◌, nat_eq, nat_le, nat_lt, Bool, true, false, cond, List, [], ◌∷◌, ◌++◌, length, take, slice_get, append-nil, Some, refl, sym, ap, subst, ◌∙◌, arith}
-use Rattle.std.proofs.Math.Bool.{and-false}
-use Rattle.job_steps.specs.Prelude.{filter, Scene, answer, effect, after_all, AreHonest, IsHonestOutcome, Actor, Shell, Request, Outcome, Entry, strange_entry, same_actor, is_own, own, of_event, until, before, since, by_actor, AllFrom, IsRising, AllUpTo}
-use Rattle.job_spec.proofs.Common.{nat_tests, nat_false, take_all, filter-append, below_so, at_most_so, above_so, some_is, none_some, false_true, true_or_false}
+use Rattle.job_steps.proofs.Common.{Actor, AllFrom, AllUpTo, AreHonest, Bool, Entry, IsHonestOutcome, IsRising, List, Outcome, Request, Scene, Shell, Some, [], above_so, after_all, and-false, answer, ap, append-nil, arith, at_most_so, before, below_so, by_actor, cond, effect, false, false_true, filter, filter-append, inl, inr, is_own, length, nat_eq, nat_false, nat_le, nat_lt, nat_tests, none_some, of_event, own, refl, same_actor, since, slice_get, some_is, strange_entry, subst, suc, sym, take, take_all, true, true_or_false, until, zero, ℕ, ◌&&◌, ◌++◌, ◌+◌, ◌<◌, ◌∙◌, ◌∷◌, ◌≡◌, ◌≤◌, ◌⊎◌}
 use Rattle.proof_base.proofs.Numbers.{not_below}
 
 -- ---- any lists

@@ -1,7 +1,5 @@
 -- What is past after one more event or end, who is busy then, and which operations events begin.
-use Rattle.std.proofs.Common.{◌≡◌, ℕ, zero, suc, ◌≤◌, true, false, List, [], ◌∷◌, ◌++◌, length, slice_get, Some, None, refl, ap, subst, arith}
-use Rattle.job_spec.proofs.Common.{some_is, none_some, false_true}
-use Rattle.job_steps.specs.Prelude.{Actor, Driver, Attempt, Shell, Entry, Declared, Script, Known, HasOp, IsEvent, AreEvents, Op, Event, Do, Start, Step, Run, Mix, OpEnd, ActorEnd, EventEnd, Refused, EventFault, Life, Busy, ActorStage, ActorState, Setting, Operation, start_of, Past, after_event, open_event, end_op, end_ops, told, ended, may, refuse_op, refuse_begin, refusal, is_busy, busy_actors, Turns, OpenTurns}
+use Rattle.job_steps.proofs.Common.{Actor, ActorEnd, ActorStage, ActorState, AreEvents, Attempt, Busy, Declared, Do, Driver, Entry, Event, EventEnd, EventFault, HasOp, IsEvent, Known, Life, List, Mix, None, Op, OpEnd, OpenTurns, Operation, Past, Refused, Run, Script, Setting, Shell, Some, Start, Step, Turns, [], after_event, ap, arith, busy_actors, count, end_op, end_ops, ended, false, false_true, is_busy, length, may, none_some, open_event, refl, refusal, refuse_begin, refuse_op, slice_get, some_is, start_of, subst, suc, told, true, zero, ℕ, ◌++◌, ◌∷◌, ◌≡◌, ◌≤◌}
 use Rattle.job_spec.specs.Prelude.{past_from, mix_begins, Reports}
 use Rattle.job_model.specs.declared.events.Op.TheVariants as ops
 use Rattle.job_model.specs.declared.ends.SetupEnd.TheVariants as setups
@@ -9,7 +7,6 @@ use Rattle.job_model.specs.declared.ends.TaskEnd.TheVariants as tasks
 use Rattle.job_model.specs.declared.ends.CommitEnd.TheVariants as commits
 use Rattle.job_model.specs.declared.ends.CleanEnd.TheVariants as cleans
 use Rattle.job_model.specs.declared.ends.OpEnd.TheVariants as ends
-use Rattle.job_spec.specs.States.{count}
 use Rattle.job_model.specs.declared.ends.CheckEnd.TheVariants as checks
 use Rattle.job_steps.proofs.RunningStages.{begins_so}
 

@@ -1,7 +1,5 @@
 -- Between events a run has done what its events say.
-use Rattle.std.proofs.Common.{◌≡◌, ◌+◌, [], length, slice_get, Some, None, sym, ap, subst, ◌∙◌}
-use Rattle.job_steps.specs.Prelude.{Content, Actor, IsLegal, Event, Setting, Past, Doing, open_event, past, of_event, by_actor, OpenTurns, AllUpTo, OpFollows, Play, Reachable, open_running, IsPlayed}
-use Rattle.job_spec.specs.Follows.{IsUnended}
+use Rattle.job_steps.proofs.Common.{Actor, AllUpTo, Content, Doing, Event, IsLegal, IsPlayed, IsUnended, None, OpFollows, OpenTurns, Past, Play, Reachable, Setting, Some, [], ap, by_actor, length, of_event, open_event, open_running, past, slice_get, subst, sym, ◌+◌, ◌∙◌, ◌≡◌}
 use Rattle.job_steps.proofs.Parts.{event_none}
 use Rattle.job_steps.proofs.PastMore.{turns_open, legal_begins, event_at}
 use Rattle.job_steps.proofs.Told.{Told, AllRun, runs_follow, opened_run, told_all}

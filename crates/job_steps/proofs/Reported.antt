@@ -1,14 +1,9 @@
 -- Until the driver cleans up each task that is reported has a last publisher.
-use Rattle.std.proofs.Common.{◌≡◌, ℕ, zero, suc, ◌+◌, ◌<◌, ◌≤◌, ◌⊎◌, inl, inr, nat_eq, ◌&&◌, ◌||◌, Bool, true, false, cond, List, [], ◌∷◌, ◌++◌, Some, None, refl, sym, ap, subst, ◌∙◌, arith, take, slice_get, length}
-use Rattle.job_steps.specs.Prelude.{Content, Actor, Driver, Attempt, Outcome, Slow, RequestLost, Entry, Request, Who, actor_of, IsLegal, Script, Event, Restart, TaskEnd, OpEnd, ActorEnd, EventEnd, Busy, ActorStage, Retried, TaskCommit, TaskCommitOver, task_commit_over, Setting, Operation, TheTaskCommit, Running, over, Seen, see, see_all, nothing_seen, see_by, seen, is_begun, first_not, is_committing, open_event, clean_event, is_memory, IsOpening, Stand, Runs, HasPublished, Told, tell_all, nothing_told, strange_entry, Play, Refuses, Opens, Sends, Finishes, Closes, Strays, happen, MayFinish, Reachable, nothing_happened, happens, times, Ahead, IsRun, operation_of}
-use Rattle.job_spec.proofs.Common.{and_parts, some_is, none_some, false_true, true_or_false, same_or_not, eq_nat, nat_true}
+use Rattle.job_steps.proofs.Common.{Actor, ActorEnd, ActorStage, Ahead, Attempt, Bool, Busy, Closes, Commit, Content, Driver, Entry, Event, EventEnd, Finishes, HasPublished, IsLegal, IsOpening, IsRun, List, MayFinish, None, OpEnd, Opens, Operation, Outcome, Play, Reachable, Refuses, Request, RequestLost, Restart, Retried, Running, Runs, Script, Seen, Sends, Setting, Slow, Some, Stand, Strays, TaskCommit, TaskCommitOver, TaskEnd, TheTaskCommit, Told, Who, [], actor_of, and_parts, ap, arith, attempt, clean_event, cond, eq_nat, false, false_true, first_not, happen, happens, inl, inr, is_begun, is_committing, is_memory, length, nat_eq, nat_true, none_some, nothing_happened, nothing_seen, nothing_told, open_event, operation_of, or_cases, over, refl, same_or_not, see, see_all, see_by, see_more, seen, sees, slice_get, some_is, strange_entry, subst, suc, sym, take, task_commit_over, tell_all, tells_so, times, true, true_or_false, zero, ℕ, ◌&&◌, ◌++◌, ◌+◌, ◌<◌, ◌||◌, ◌∙◌, ◌∷◌, ◌≡◌, ◌≤◌, ◌⊎◌}
 use Rattle.job_facts.specs.Prelude.{is_publishing, tell, tell_by, is_effective, Times, Declared, missing, list_any}
 use Rattle.job_spec.specs.Prelude.{report, is_done, is_reported}
-use Rattle.std.proofs.lemmas.Bool.{or_cases}
 use Rattle.job_model.specs.declared.ends.TaskEnd.TheVariants as tasks
 use Rattle.job_model.specs.declared.ends.OpEnd.TheVariants as ends
-use Rattle.job_traces.proofs.Entries.{see_more, sees, tells_so}
-use Rattle.job_model.specs.declared.events.Op.TheVariants.{Commit}
 use Rattle.job_steps.proofs.RunningStages.{may_end, of_sort}
 use Rattle.job_steps.proofs.Running.{carried, is_run, sent_ahead, strayed_ahead, finished_ahead, opened_ahead, refused_ahead, not_refused, closed_ahead}
 use Rattle.job_spec.proofs.Told.{scene_is, last_still}
@@ -17,7 +12,6 @@ use Rattle.job_steps.proofs.RunningCommits.{over_is}
 use Rattle.job_steps.proofs.RunningTasks.{Held, at_commit}
 use Rattle.job_steps.proofs.RunningAlong.{busy_at}
 use Rattle.job_steps.proofs.Actors.{one_put}
-use Rattle.job_facts.proofs.Whose.{attempt}
 
 -- who has begun to clean up has begun to ever after
 tell_keeps : (w : Script) (m : Told) (e : Entry) → m.cleaned ≡ true → (tell w m e).cleaned ≡ true

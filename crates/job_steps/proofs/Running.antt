@@ -1,11 +1,5 @@
 -- What happens in a run is one of the job's runs, by each kind of happening.
-use Rattle.std.proofs.Common.{◌≡◌, ℕ, ◌+◌, ◌≤◌, ◌^◌, ◌⊎◌, inl, inr, ◌||◌, not, true, false, List, [], ◌∷◌, ◌++◌, length, Option, Some, None, refl, sym, ap, subst, ◌∙◌, append_assoc, length-append, arith}
-use Rattle.job_steps.specs.Prelude.{Content, answer, moment, IsHonestOutcome, Actor, Driver, Attempt, Shell, Request, Outcome, Entry, IsLegal, IsEvent, Script, Op, Event, Do, Start, Kill, Restart, Recover, OpEnd, ActorEnd, EventEnd, Refused, EventFault, Busy, ActorState, Setting, Running, wants, advance, over, is_begun, put, dead, idle, restarted, ended, refusal, open_event, begins_commit, begins_clean, is_refused, is_memory, Turns, run_begins, IsOpening, Play, Refuses, Opens, Sends, Finishes, Closes, Strays, open_running, hear, happen, MayOpen, MaySend, MayFinish, MayClose, Reachable, nothing_happened, happens, nothing_played, Ahead, IsRun, operation_of, Times, times, reports}
-use Rattle.job_spec.proofs.Common.{none_some}
-use Rattle.job_model.specs.declared.events.Op.TheVariants.{Commit}
-use Rattle.job_traces.specs.Runs.{first_stand}
-use Rattle.job_facts.proofs.Whose.{attempt}
-use Rattle.std.proofs.Math.Bool.{and-false}
+use Rattle.job_steps.proofs.Common.{Actor, ActorEnd, ActorState, Ahead, Attempt, Busy, Closes, Commit, Content, Do, Driver, Entry, Event, EventEnd, EventFault, Finishes, IsEvent, IsHonestOutcome, IsLegal, IsOpening, IsRun, Kill, List, MayClose, MayFinish, MayOpen, MaySend, None, Op, OpEnd, Opens, Option, Outcome, Play, Reachable, Recover, Refused, Refuses, Request, Restart, Running, Script, Sends, Setting, Shell, Some, Start, Strays, Times, Turns, [], advance, and-false, answer, ap, append_assoc, arith, attempt, begins_clean, begins_commit, dead, ended, false, first_stand, happen, happens, hear, idle, inl, inr, is_begun, is_memory, is_refused, length, length-append, moment, none_some, not, nothing_happened, nothing_played, open_event, open_running, operation_of, over, put, refl, refusal, reports, restarted, run_begins, subst, sym, times, true, wants, ℕ, ◌++◌, ◌+◌, ◌^◌, ◌||◌, ◌∙◌, ◌∷◌, ◌≡◌, ◌≤◌, ◌⊎◌}
 use Rattle.job_steps.proofs.PastMore.{turns_refused, event_at}
 use Rattle.job_steps.proofs.RunningNumbers.{begun_next, unbegun, begun_at}
 use Rattle.job_steps.proofs.RunningStages.{begins_so, memory_dies, may_end, driver_restarts, restarted_new, Begun, with_event, still_begun}

@@ -1,12 +1,6 @@
 -- How far a run has come with a job: it is one of the job's runs, and what its actors are at is by their lives and stages.
-use Rattle.std.proofs.Common.{◌≡◌, ℕ, ◌≤◌, ◌^◌, inl, inr, true, false, cond, List, [], ◌∷◌, ◌++◌, length, Option, Some, None, refl, sym, ap, subst, ◌∙◌, arith}
-use Rattle.job_steps.specs.Prelude.{Content, Scene, answer, moment, IsHonestOutcome, Actor, Driver, Attempt, Shell, Request, Outcome, Entry, Who, actor_of, same_name, IsLegal, OpEnd, Life, Busy, Dead, ActorStage, ActorState, knows, learn, Setting, Operation, Running, who, asks, tells, wants, learn_of, advance, over, ended, put, is_new, by_actor, Told, known, nothing_told, entry, driver_entry, strange_entry, Stand, Runs, IsOpening, with_attempt, is_set, driver_sends, attempt_sends, strays, Times, operation_of}
-use Rattle.job_spec.proofs.Common.{some_is, none_some, false_true, true_or_false}
-use Rattle.job_facts.specs.Prelude.{IsForeign}
-use Rattle.job_traces.specs.Runs.{saw, with_driver, with_commit, commit_with}
-use Rattle.job_facts.proofs.Whose.{attempt, who_is}
+use Rattle.job_steps.proofs.Common.{Actor, ActorStage, ActorState, Attempt, Busy, Content, Dead, Driver, Entry, IsForeign, IsHonestOutcome, IsLegal, IsOpening, Life, List, None, OpEnd, Operation, Option, Outcome, Request, Running, Runs, Scene, Setting, Shell, Some, Stand, Times, Told, Who, [], actor_of, advance, answer, ap, arith, asks, attempt, attempt_sends, by_actor, commit_with, cond, driver_entry, driver_sends, ended, entry, false, false_true, inl, inr, is_new, is_set, known, knows, learn, learn_of, length, moment, none_some, nothing_told, operation_of, over, put, refl, same_name, saw, some_is, strange_entry, strays, subst, sym, tells, tells_so, true, true_or_false, wants, who, who_is, with_attempt, with_commit, with_driver, ℕ, ◌++◌, ◌^◌, ◌∙◌, ◌∷◌, ◌≡◌, ◌≤◌}
 use Rattle.job_facts.proofs.Learnt.{known_is}
-use Rattle.job_traces.proofs.Entries.{tells_so}
 use Rattle.job_traces.proofs.Changes.{moment_scene}
 use Rattle.job_steps.proofs.Actors.{one_put}
 use Rattle.job_steps.proofs.RunningNumbers.{begun_at}

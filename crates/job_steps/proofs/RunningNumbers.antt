@@ -1,11 +1,6 @@
 -- Where the event of the job's commit is, by the events and ends that are there and to come; and what a script's bounds say of its events.
-use Rattle.std.proofs.Common.{◌≡◌, ℕ, ◌+◌, ◌<◌, ◌≤◌, ◌&&◌, ◌||◌, not, Bool, true, false, cond, is_some, List, [], ◌∷◌, ◌++◌, length, slice_get, Option, Some, refl, sym, ap, subst, ◌∙◌, arith, inl, inr}
-use Rattle.job_steps.specs.Prelude.{lookup, Attempt, Who, Declared, is_known, same_name, IsLegal, AreAttempts, Script, Event, EventEnd, is_begun, begins_commit, begins_clean, is_refused, commit_event, clean_event, Times, times, IsAttempt}
-use Rattle.job_spec.proofs.Common.{at_most_so, above_so, some_is, none_some, true_or_false}
-use Rattle.std.proofs.lemmas.Bool.{cond_both}
-use Rattle.job_spec.specs.States.{event_from}
+use Rattle.job_steps.proofs.Common.{AreAttempts, Attempt, Bool, Declared, Event, EventEnd, IsAttempt, IsLegal, List, Option, Script, Some, Times, Who, [], above_so, ap, arith, at_most_so, attempt, begins_clean, begins_commit, clean_event, commit_event, cond, cond_both, event_from, false, inl, inr, is_begun, is_known, is_refused, is_some, length, lookup, none_some, not, refl, same_name, slice_get, some_is, subst, sym, times, true, true_or_false, who_is, ℕ, ◌&&◌, ◌++◌, ◌+◌, ◌<◌, ◌||◌, ◌∙◌, ◌∷◌, ◌≡◌, ◌≤◌}
 use Rattle.job_steps.proofs.RunningStages.{Begun, with_event}
-use Rattle.job_facts.proofs.Whose.{attempt, who_is}
 
 -- ---- the first event that passes a test
 

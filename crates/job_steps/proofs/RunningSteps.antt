@@ -1,22 +1,13 @@
 -- An actor's operation begins: it is one that the job's runs let begin.
-use Rattle.std.proofs.Common.{◌≡◌, inl, inr, ◌||◌, true, false, List, Option, Some, None, refl, sym, ap, subst, ◌∙◌, arith}
-use Rattle.job_steps.specs.Prelude.{Content, Actor, Driver, Attempt, Shell, Entry, Retried, fresh, Who, actor_of, is_known, IsLegal, HasOp, Script, Known, Op, Setup, Write, Abort, Clean, Do, Idle, Busy, ActorStage, ActorState, setup_start, write_start, task_commit_start, TaskAbort, task_abort_start, knows, Setting, Operation, TheSetup, TheWrite, TheTaskCommit, TheTaskAbort, Running, who, start_of, put, stage_begun, is_new, by_actor, known, IsAttempt, Stand, BeginSetup, BeginCommit, BeginClean, BeginWrite, BeginPublish, BeginAbort, begin, Runs, actor_begins, IsOpening, with_attempt, is_set, is_just_set, begun, Times, operation_of}
-use Rattle.job_facts.specs.Prelude.{WriteOver, Reports, clean_of, commit_of}
-use Rattle.job_spec.proofs.Common.{false_true}
-use Rattle.job_model.specs.declared.events.Op.TheVariants.{Commit}
+use Rattle.job_steps.proofs.Common.{Abort, Actor, ActorStage, ActorState, Attempt, BeginAbort, BeginClean, BeginCommit, BeginPublish, BeginSetup, BeginWrite, Busy, Clean, Commit, Content, Do, Driver, Entry, HasOp, Idle, IsAttempt, IsLegal, IsOpening, Known, List, MaySetUp, None, Op, Operation, Option, Reports, Retried, Running, Runs, Script, Setting, Setup, Shell, Some, Stand, TaskAbort, TheSetup, TheTaskAbort, TheTaskCommit, TheWrite, Times, Who, Write, WriteOver, actor_begins, actor_of, ap, arith, attempt, begin, begun, by_actor, clean_of, clean_of_so, commit_of, commit_of_so, false, false_true, fresh, inl, inr, is_just_set, is_known, is_new, is_set, known, knows, late_now, operation_of, or-false, or-true, put, refl, setup_start, stage_begun, start_of, subst, sym, task_abort_start, task_commit_start, true, who, with_attempt, write_start, ◌||◌, ◌∙◌, ◌≡◌}
 use Rattle.job_model.specs.declared.ends.TaskEnd.TheVariants as tasks
-use Rattle.job_traces.specs.Runs.{MaySetUp}
-use Rattle.job_facts.proofs.Whose.{attempt}
 use Rattle.job_traces.proofs.Running.{Late}
-use Rattle.job_traces.proofs.Entries.{late_now}
 use Rattle.job_steps.proofs.RunningNumbers.{known_attempt}
 use Rattle.job_steps.proofs.RunningStages.{Begun, with_event, still_begun, Begins, MaySet, IsBehind, DriverAt, just_kind, may_setup, may_commit_job, new_at, behind_at, timed_setting, timed_on, IsTimed}
 use Rattle.job_steps.proofs.RunningCommits.{commit_begins}
 use Rattle.job_steps.proofs.RunningTasks.{AttemptAt, FreeAbort, HasWritten, free_start, free_abort, may_write, written_is, may_publish, may_abort}
 use Rattle.job_steps.proofs.RunningAlong.{Along, told_known, set_up, driver_begins, attempt_begins}
-use Rattle.job_protocol.proofs.Begun.{commit_of_so, clean_of_so}
 use Rattle.job_model.specs.declared.states.ActorStage.TheVariants as stage
-use Rattle.std.proofs.Math.Bool.{or-false, or-true}
 
 -- the state of an actor that begins this at its stage
 abbrev pub busy_at : Actor → Op → ActorStage → ActorState

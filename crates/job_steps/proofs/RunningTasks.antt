@@ -1,15 +1,10 @@
 -- What an attempt is at, by its life and stage.
-use Rattle.std.proofs.Common.{◌≡◌, ℕ, Bool, true, false, List, [], ◌∷◌, Option, Some, None, refl, sym, ap, subst, arith}
-use Rattle.job_steps.specs.Prelude.{Op, Abort, Committer, Magic, Outcome, Item, Got, WornOut, Retried, step, File, Who, Script, Drawn, Known, Write, TaskEnd, OpEnd, Life, Idle, Busy, Dead, ActorStage, files, sweep_hears, upload_hears, write_start, write_over, task_commit_over, TaskAbort, task_abort_start, task_abort_over, Setting, Operation, TheWrite, TheTaskCommit, TheTaskAbort, TheCheck, tells, over, ended, task_ended, attempt_may, is_committing}
-use Rattle.job_facts.specs.Prelude.{as_made, all_go, GoesOn, write_after, task_abort_by, task_abort_after}
-use Rattle.job_spec.proofs.Common.{some_is, none_some, false_true}
-use Rattle.job_model.specs.declared.events.Op.TheVariants.{Commit}
+use Rattle.job_steps.proofs.Common.{Abort, ActorStage, Bool, Busy, Commit, Committer, Dead, Drawn, File, GoesOn, Got, Idle, Item, Known, Life, List, Magic, None, Op, OpEnd, Operation, Option, Outcome, Retried, Script, Setting, Some, TaskAbort, TaskEnd, TheCheck, TheTaskAbort, TheTaskCommit, TheWrite, Who, WornOut, Write, [], all_go, ap, arith, as_made, attempt_may, ended, false, false_true, files, is_committing, none_some, over, refl, some_is, step, step_so, subst, sweep_hears, sym, task_abort_after, task_abort_by, task_abort_over, task_abort_start, task_commit_over, task_ended, tells, true, upload_hears, write_after, write_over, write_start, ℕ, ◌∷◌, ◌≡◌}
 use Rattle.job_model.specs.declared.ends.TaskEnd.TheVariants as tasks
 use Rattle.job_model.specs.declared.ends.OpEnd.TheVariants as ends
 use Rattle.job_model.specs.declared.states.ActorStage.TheVariants as stage
 use Rattle.job_protocol.specs.Writes as writes
 use Rattle.job_protocol.specs.TaskAborts as aborts
-use Rattle.job_facts.proofs.Going.{step_so}
 use Rattle.job_steps.proofs.RunningCommits.{is_kept, FreeCommit, commit_goes}
 use Rattle.job_steps.proofs.RunningStages.{of_sort}
 

@@ -1,12 +1,7 @@
 -- What happened so far is as the script's events say, by the journal and the ends alone: each happening keeps it.
-use Rattle.std.proofs.Common.{◌≡◌, ℕ, ◌+◌, ◌<◌, ◌≤◌, ◌⊎◌, inl, inr, true, false, List, [], ◌∷◌, ◌++◌, length, take, slice_get, length-append, Option, Some, None, refl, sym, ap, subst, ◌∙◌, arith}
-use Rattle.job_spec.proofs.Common.{slice_get_within, take-append-le, some_is, none_some, run_more, follows_more}
-use Rattle.job_steps.specs.Prelude.{run, Follows, Content, answer, after_all, IsHonestOutcome, Actor, Driver, Shell, Request, Outcome, Entry, Script, Known, Op, Event, Do, Start, Kill, Restart, ActorEnd, EventEnd, Refused, EventFault, Busy, ActorState, knows, Setting, Operation, Running, who, wants, advance, start_of, over, Past, Doing, told, same_actor, put, idle, dead, restarted, ended, end_op, end_ops, open_event, after_event, refusal, nothing_past, past, of_event, until, before, since, by_actor, is_busy, is_wanting, Turns, AllFrom, IsRising, AllUpTo, own, strange_entry, known_then, OpFollows, Play, nothing_played, knows_now, Refuses, Opens, Sends, Finishes, Closes, Strays, begun, begin_running, open_running, hear, happen, MayOpen, MaySend, MayFinish, MayClose, MayStray, Reachable, nothing_happened, happens}
-use Rattle.job_facts.specs.Prelude.{IsHonest}
+use Rattle.job_steps.proofs.Common.{Actor, ActorEnd, ActorState, AllFrom, AllUpTo, Busy, Closes, Content, Do, Doing, Driver, Entry, Event, EventEnd, EventFault, Finishes, Follows, FollowsFrom, IsHonest, IsHonestOutcome, IsRising, Kill, Known, List, MayClose, MayFinish, MayOpen, MaySend, MayStray, None, Op, OpFollows, Opens, Operation, Option, Outcome, Past, Play, Reachable, Refused, Refuses, Request, Restart, Running, Script, Sends, Setting, Shell, Some, Start, Strays, Turns, [], advance, after_all, after_event, answer, ap, arith, before, begin_running, begun, by_actor, count, dead, end_op, end_ops, ended, false, follows_more, happen, happens, hear, idle, inl, inr, is_busy, is_wanting, known_then, knows, knows_now, length, length-append, none_some, nothing_happened, nothing_past, nothing_played, of_event, open_event, open_running, over, over_from, own, past, put, refl, refusal, restarted, run, run_more, same_actor, since, slice_get, slice_get_within, some_is, start_of, strange_entry, subst, sym, take, take-append-le, told, true, until, wants, who, ℕ, ◌++◌, ◌+◌, ◌<◌, ◌∙◌, ◌∷◌, ◌≡◌, ◌≤◌, ◌⊎◌}
 use Rattle.job_spec.specs.Prelude.{begin, op_over, Obeyed, AllObeyed, reports}
 use Rattle.s3_types.specs.Store as store
-use Rattle.job_spec.specs.States.{count}
-use Rattle.job_spec.specs.Follows.{FollowsFrom, over_from}
 use Rattle.job_steps.proofs.Parts.{get_last, take_whole, up_to_more, up_to_last, up_to_part, from_own, rising_last, until_all, before_all, since_none, event_none, before_late, since_late, until_late, until_either, by_itself, by_another, by_own, event_own, own_own, honest_last}
 use Rattle.job_steps.proofs.Actors.{same_true, same_false, put_other, one_put, both_put}
 use Rattle.job_steps.proofs.PastMore.{past_more, after_is, ends_more, opening_counts, busy_is, busy_not, ended_idle, turns_refused, Starts, Begins, fine_begins}

@@ -1,13 +1,10 @@
 -- What a run's entries say, at each of its moments.
-use Rattle.std.proofs.Common.{◌≡◌, ℕ, ◌+◌, ◌≤◌, inl, inr, true, List, [], ◌∷◌, ◌++◌, length, take, drop, Some, refl, sym, ap, subst, ◌∙◌, arith, length-append}
-use Rattle.job_facts.specs.Prelude.{Content, Hold, Gone, Commit, Entry, IsLegal, Script, CommitEnd, view, CommitOver, Setting, TheCommit, AreOwn, Same, Kept, Always, is_untouched, NoDeletionWorn, OnlyOpening, Seen, see, see_all, nothing_seen, Told, entry, driver_entry, strange_entry, nothing_told, tell, tell_all, Times}
+use Rattle.job_traces.proofs.Common.{Always, AreOwn, Commit, CommitEnd, CommitOver, Content, Entry, Gone, Hold, IsLegal, IsOpening, Kept, List, NoDeletionWorn, OnlyOpening, Runs, Same, Script, Seen, Setting, Some, Stand, TheCommit, Times, Told, [], ap, arith, attempt_sends, cases_lt, driver_entry, driver_sends, drop, entry, first_stand, inl, inr, is_set, is_untouched, length, length-append, nothing_seen, nothing_told, refl, run_begins, see, see_all, strange_entry, strays, subst, sym, take, tell, tell_all, true, view, ℕ, ◌++◌, ◌+◌, ◌∙◌, ◌∷◌, ◌≡◌, ◌≤◌}
 use Rattle.job_model.specs.declared.ends.CommitEnd.TheVariants as commits
 use Rattle.job_model.specs.declared.ends.Stage.TheVariants as stages
-use Rattle.job_traces.specs.Runs.{Stand, first_stand, Runs, run_begins, driver_sends, attempt_sends, strays, IsOpening, is_set}
 use Rattle.job_traces.proofs.Running.{At, InCommit, Late, Shows, untouched_shows, left_still, reverted_shows}
 use Rattle.job_traces.proofs.EveryRun.{good, shown, kept_now, late, cleans_is, own_front}
 use Rattle.job_traces.proofs.Folds.{each_run, each_seen}
-use Rattle.std.proofs.lemmas.Bool.{cases_lt}
 use Rattle.std.proofs.lemmas.List.{take_all as all_taken, take-append-le, take-append-drop}
 
 -- ---- one more entry

@@ -1,8 +1,5 @@
 -- Every run comes as far as it says, whatever strangers send that leave the job's own alone; and among none a reader is shown what the headline says.
-use Rattle.std.proofs.Common.{not, ◌≡◌, ℕ, ◌<◌, ◌≤◌, ◌^◌, ◌⊎◌, inl, inr, ◌&&◌, ◌||◌, Bool, true, false, List, [], ◌∷◌, ◌++◌, Option, Some, None, refl, sym, ap, subst, ◌∙◌, arith}
-use Rattle.job_facts.specs.Prelude.{at_key, view, nat_cmp, is_bucket, BucketContent, Content, Scene, Upload, new_bucket, answer, apply, apply_at, bucket_of, effect, is_effective, IsHonestOutcome, only_reads, Driver, Request, MakeBucket, ClusterPut, ClusterRename, ClusterGet, ClusterDelete, ClusterList, Outcome, Slow, RequestLost, Entry, below, success_key, SuccessPlace, Retried, fresh, step, Who, IsLegal, Script, Known, Setup, SetupOver, setup_start, setup_asks, setup_after, Listing, Deleting, Clean, CleanOver, clean_asks, Setting, Operation, TheSetup, TheCommit, TheClean, who, asks, tells, AreOwn, Kept, NoClusterFile, is_own, Seen, see, is_begun, is_marking, HasBucket, Told, known, put_who, entry, driver_entry, strange_entry, ends, nothing_told, tell_driver, tell_attempt, at_event, at_id, IsAttempt, Facts, Hold, Fits, SetsUp, Gone, IsForeign, Times, is_picking, TheCheck, IsIn, changed_paths, TheSparing, begins, cluster_prefix, commit_start, Magic}
-use Rattle.job_spec.specs.Prelude.{apply_in}
-use Rattle.job_spec.proofs.Common.{key_magic, some_is, none_some, none_or_some, false_true, same_or_other, text_here, text_other}
+use Rattle.job_traces.proofs.Common.{AreOwn, BeginAbort, BeginClean, BeginCommit, BeginPublish, BeginSetup, BeginWrite, Beginning, Bool, BucketContent, Clean, CleanOver, ClusterDelete, ClusterGet, ClusterList, ClusterPut, ClusterRename, Content, Deleting, Driver, Entry, Facts, Filed, Fits, Gone, HasBucket, HidesAll, Hold, IsAttempt, IsForeign, IsHonestOutcome, IsIn, IsLegal, IsOpening, IsTimely, Kept, Known, List, Listing, Magic, MakeBucket, MayBegin, MaySetUp, NoClusterFile, None, Operation, Option, Outcome, Plain, Request, RequestLost, Retried, Runs, Scene, Script, Seen, SetsUp, Setting, Setup, SetupOver, Slow, Some, Stand, SuccessPlace, TheCheck, TheClean, TheCommit, TheSetup, TheSparing, Times, Told, Upload, Who, [], abort_fits, actor_begins, after_check_so, and-false, answer, ap, apply, apply_at, apply_in, arith, asks, at_event, at_id, at_key, attempt_sends, begin, begins, begins_commit, begins_write, below, bucket_of, changed_paths, check_plain, check_reads, clean_asks, clean_begun, clean_of_so, cluster_prefix, commit_drives, commit_of_so, commit_start, commit_with, driver_entry, driver_sends, driving_keeps, effect, empty_none, ends, entry, false, false_true, filed_keeps, first_stand, fits_start, frame, fresh, hidden_shows, inl, inr, is_begun, is_bucket, is_done, is_effective, is_just_set, is_marking, is_own, is_picking, is_set, key_magic, known, nat_cmp, new_bucket, no_success, none_or_some, none_some, not, nothing_learnt, nothing_told, only_reads, operation_paths, put_who, reads_drive, reads_leave, record_reads, refl, run_begins, same_or_another, same_or_other, saw, see, setup_after, setup_alone, setup_asks, setup_beside, setup_done, setup_goes, setup_no_file, setup_start, shown_key, some_dest, some_is, sparing_goes, sparing_hides, sparing_keeps, step, still_none, strange_entry, strange_no_file, strays, subst, success_key, sym, tell_attempt, tell_driver, tells, text_here, text_other, true, view, who, who_here, who_other, with_attempt, with_commit, with_driver, ℕ, ◌&&◌, ◌++◌, ◌<◌, ◌^◌, ◌||◌, ◌∙◌, ◌∷◌, ◌≡◌, ◌≤◌, ◌⊎◌}
 use Rattle.store_frame.specs.Prelude.{upload_in}
 use Rattle.std.specs.FinMap as fin
 use Rattle.s3_types.specs.Store.{opening as opening_scene}
@@ -10,38 +7,21 @@ use Rattle.s3_types.specs.Answer.{made}
 use Rattle.job_model.specs.declared.ends.SetupEnd.TheVariants as setups
 use Rattle.job_protocol.specs.Cleanups as cleanups
 use Rattle.store_frame.specs.Held.{upload_at}
-use Rattle.store_frame.proofs.Framed.{frame}
-use Rattle.job_traces.specs.Runs.{Stand, Beginning, BeginSetup, BeginCommit, BeginClean, BeginWrite, BeginPublish, BeginAbort, begin, MayBegin, Runs, run_begins, actor_begins, driver_sends, attempt_sends, strays, IsOpening, first_stand, with_attempt, with_driver, saw, commit_with, with_commit, is_done, is_set, is_just_set, MaySetUp, IsTimely, nothing_learnt}
-use Rattle.job_facts.proofs.Whose.{same_or_another, who_here, who_other}
-use Rattle.job_facts.proofs.Legal.{some_dest}
-use Rattle.job_facts.proofs.Shows.{shown_key, HidesAll, hidden_shows}
 use Rattle.job_facts.proofs.Starting.{facts_begin}
-use Rattle.job_facts.proofs.SettingUp.{setup_goes, setup_alone, setup_beside, setup_done, setup_no_file, strange_no_file, empty_none, no_success}
 use Rattle.job_facts.proofs.Owning.{operation_own}
 use Rattle.job_facts.proofs.Acting.{operation_goes}
-use Rattle.job_facts.proofs.Aborting.{abort_fits}
-use Rattle.job_facts.proofs.Beside.{begins_write, begins_commit}
 use Rattle.job_facts.proofs.Cleaning.{clean_keeps, clean_goes, clean_hides}
-use Rattle.job_facts.proofs.Closing.{clean_begun}
-use Rattle.job_facts.proofs.Driving.{driving_keeps, reads_drive}
-use Rattle.job_facts.proofs.JobCommitting.{commit_drives}
 use Rattle.job_facts.proofs.EndedGone.{first_gone, commit_gone, others_gone}
 use Rattle.job_facts.proofs.Foreign.{foreign_keeps}
 use Rattle.job_traces.proofs.Running.{Untouched, Idle, At, Early, Late, Shows, kept_untouched, kept_commit, CommitShows}
 use Rattle.job_traces.proofs.Steps.{hidden_same, commit_next, commit_shown}
 use Rattle.job_traces.proofs.Folds.{DriverKeeps, each_run, driven}
 use Rattle.job_traces.proofs.Plain.{one_scene, plain_picks, closed_picks, plain_mark, driver_last, driver_begun, setup_plain, clean_plain}
-use Rattle.std.proofs.Math.Bool.{and-false}
 use Rattle.job_traces.proofs.Keeping.{kept_next, at_beside, shows_beside, other_fits, other_known, commit_starts, commit_shows}
 use Rattle.job_protocol.specs.Rechecks.{Check, check_after}
 use Rattle.job_protocol.specs.Sparing.{Sparing, sparing_asks, sparing_after, record_request}
 use Rattle.job_protocol.specs.Sparing as sparing
-use Rattle.job_protocol.proofs.Begun.{after_check_so, commit_of_so, clean_of_so}
-use Rattle.job_facts.proofs.Sharing.{Plain, check_plain, check_reads, sparing_hides, operation_paths, reads_leave}
-use Rattle.job_facts.proofs.Spares.{filed_keeps, sparing_keeps, sparing_goes, record_reads, fits_start}
-use Rattle.job_facts.specs.Spares.{Filed}
 use Rattle.job_facts.proofs.Staged.{remove_drops}
-use Rattle.job_facts.proofs.Turning.{still_none}
 
 -- who has just set up has set up
 pub just_set : (d : Option Operation) → is_just_set d ≡ true → is_set d ≡ true

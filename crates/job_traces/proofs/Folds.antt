@@ -1,7 +1,5 @@
 -- Facts of every run, by what each of its steps keeps.
-use Rattle.std.proofs.Common.{◌≡◌, ℕ, ◌≤◌, ◌^◌, true, List, [], ◌∷◌, ◌++◌, Some}
-use Rattle.job_facts.specs.Prelude.{Content, answer, IsHonestOutcome, Driver, Request, Outcome, Entry, Who, Commit, TheCommit, Setting, Operation, who, asks, tells, Seen, see, nothing_seen, Told, tell, nothing_told, known, entry, driver_entry, strange_entry, Times, IsForeign}
-use Rattle.job_traces.specs.Runs.{Stand, Beginning, begin, MayBegin, Runs, run_begins, actor_begins, driver_sends, attempt_sends, strays, first_stand, with_attempt, with_driver, saw, commit_with, with_commit, is_set, IsTimely, nothing_learnt}
+use Rattle.job_traces.proofs.Common.{Beginning, Commit, Content, Driver, Entry, IsForeign, IsHonestOutcome, IsTimely, List, MayBegin, Operation, Outcome, Request, Runs, Seen, Setting, Some, Stand, TheCommit, Times, Told, Who, [], actor_begins, answer, asks, attempt_sends, begin, commit_with, driver_entry, driver_sends, entry, first_stand, is_set, known, nothing_learnt, nothing_seen, nothing_told, run_begins, saw, see, strange_entry, strays, tell, tells, true, who, with_attempt, with_commit, with_driver, ℕ, ◌++◌, ◌^◌, ◌∷◌, ◌≡◌, ◌≤◌}
 
 pub commit_is : {c d : Commit} → Some (TheCommit c) ≡ Some (TheCommit d) → c ≡ d
 commit_is e = cc

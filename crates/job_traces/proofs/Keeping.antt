@@ -1,26 +1,12 @@
 -- What holds of a run's stand is kept by every step of the run.
-use Rattle.std.proofs.Common.{◌≡◌, ℕ, inl, inr, ◌&&◌, Bool, true, false, List, [], ◌∷◌, Option, Some, None, refl, sym, ap, subst, ◌∙◌, arith}
-use Rattle.job_facts.specs.Prelude.{is_some, Content, Scene, begins, Request, Outcome, Answered, ReplyLost, Entry, below, magic_prefix, success_key, SuccessPlace, Who, IsLegal, Script, Picks, learn, view, is_file_path, picks_of, is_no_magic, Commit, Replacing, Marking, CommitOver, commit_start, Setting, Operation, TheSetup, TheWrite, TheTaskCommit, TheTaskAbort, TheCommit, TheClean, asks, Same, Between, Kept, Seen, see, HasBucket, Told, known, entry, tell_attempt, at_key, Hold, Fits, FitsWrite, FitsCommit, FitsAbort, FileStands, OnlyThose, EmptiesBy, Sweep, Listing, Deleting, Times, TheCheck, TheSparing}
-use Rattle.job_spec.proofs.Common.{key_magic, tabled_start, false_true, true_or_false}
-use Rattle.job_spec.specs.Prelude.{Whole}
+use Rattle.job_traces.proofs.Common.{Agrees, Answered, Between, Bool, Commit, CommitOver, Content, Deleting, EmptiesBy, Entry, FileStands, Fits, FitsAbort, FitsCommit, FitsWrite, HasBucket, HidesAll, Hold, IsLegal, Kept, List, Listing, Marking, None, OnlyThose, Operation, Option, Outcome, Picks, Replacing, ReplyLost, Request, Same, Scene, Script, Seen, Setting, Some, SuccessPlace, Sweep, TheCheck, TheClean, TheCommit, TheSetup, TheSparing, TheTaskAbort, TheTaskCommit, TheWrite, Times, Told, Turns, Who, Whole, [], agrees_start, ap, arith, asks, at_key, begins, below, beside, commit_start, d_start, decides_beside, entry, false, false_true, files_begin, hidden_shows, inl, inr, is_file_path, is_no_magic, is_some, job_commit_begins, key_magic, known, learn, magic_prefix, no_magic, picks_of, refl, replaced_under, see, shown_key, some_dest, sparing_still, subst, success_key, sym, tabled_start, tell_attempt, true, true_or_false, turns_start, view, who_other, ℕ, ◌&&◌, ◌∙◌, ◌∷◌, ◌≡◌}
 use Rattle.job_model.specs.declared.ends.CommitEnd.TheVariants as commits
 use Rattle.job_model.specs.declared.ends.Stage.TheVariants as stages
-use Rattle.job_facts.specs.Turning.{Turns}
-use Rattle.job_facts.proofs.JobCommitting.{no_magic, replaced_under}
 use Rattle.job_traces.proofs.Replacing.{empty_enter, others_enter, start_replaces}
 use Rattle.job_traces.proofs.Leads.{enters}
 use Rattle.job_traces.proofs.Plain.{one_scene}
-use Rattle.job_facts.proofs.Whose.{who_other}
-use Rattle.job_facts.proofs.Legal.{some_dest}
-use Rattle.job_facts.proofs.Shows.{shown_key, HidesAll, hidden_shows}
-use Rattle.job_facts.proofs.Beside.{beside, job_commit_begins}
-use Rattle.job_facts.proofs.Turning.{turns_start}
-use Rattle.job_facts.proofs.Deciding.{d_start}
-use Rattle.job_facts.proofs.FilingLaws.{decides_beside, files_begin}
-use Rattle.job_facts.proofs.Agreeing.{Agrees, agrees_start}
 use Rattle.job_traces.proofs.Running.{first_at, now_at, Untouched, MarkSays, Marks, Files, OtherStands, Empty, InCommit, CommitShows, Idle, At, Shows, false_marks, wants_of}
 use Rattle.job_traces.proofs.Steps.{hidden_same}
-use Rattle.job_facts.proofs.Sharing.{sparing_still}
 
 -- ---- what is quiet
 

@@ -1,8 +1,5 @@
 -- Where one sending of a commit leads: what each stage may become, so that a fact of the stages is kept where each of these keeps it.
-use Rattle.std.proofs.Common.{◌≡◌, ℕ, ◌+◌, nat_lt, Bool, true, false, cond, List, [], ◌∷◌, ◌++◌, length, Option, Some, None, refl, sym, ap, subst, ◌∙◌, arith}
-use Rattle.job_facts.specs.Prelude.{Request, Reply, Outcome, Answered, Slow, RequestLost, ReplyLost, PendingSet, Script, CommitEnd, same_path, Sweep, sweep_hears, Turn, again, follow, dealt, revert, Sets, all_commits, picks_of, set_read, Commit, Fetching, Replacing, Completing, Marking, Reverting, CommitOver, completing, is_no_magic, replaced, replacing, decided, fetching, reverting, fetched, swept, commit_tells, commit_misses}
-use Rattle.job_protocol.specs.Prelude.{sweep_start}
-use Rattle.job_spec.proofs.Common.{shared_found}
+use Rattle.job_traces.proofs.Common.{Answered, Bool, Commit, CommitEnd, CommitOver, Completing, Fetching, List, Marking, None, Option, Outcome, PendingSet, Replacing, Reply, ReplyLost, Request, RequestLost, Reverting, Script, Sets, Slow, Some, Sweep, Turn, [], again, all_commits, ap, arith, commit_misses, commit_tells, completing, cond, dealt, decided, false, fetched, fetching, follow, is_no_magic, length, nat_lt, picks_of, refl, replaced, replacing, revert, reverting, same_path, set_read, shared_found, subst, sweep_hears, sweep_start, swept, sym, true, ℕ, ◌++◌, ◌+◌, ◌∙◌, ◌∷◌, ◌≡◌}
 use Rattle.job_spec.specs.OperationEnds.{is_lost}
 use Rattle.job_model.specs.declared.ends.CommitEnd.TheVariants as commits
 use Rattle.job_model.specs.declared.ends.Stage.TheVariants as stages

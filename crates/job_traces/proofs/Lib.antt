@@ -10,3 +10,4 @@ pub mod Replacing
 pub mod Entries
 pub mod Changes
 pub mod Published
+mod Common

@@ -1,6 +1,5 @@
 -- Elements of a list that has more behind it.
-use Rattle.std.proofs.Common.{◌≡◌, ℕ, zero, suc, ◌<◌, List, [], ◌∷◌, ◌++◌, length, slice_get, Some, refl, arith}
-use Rattle.proof_base.proofs.Lists.{slice_last}
+use Rattle.job_traces.proofs.Common.{List, Some, [], arith, length, refl, slice_get, slice_last, suc, zero, ℕ, ◌++◌, ◌<◌, ◌∷◌, ◌≡◌}
 
 pub slice_front : {X : Type 0} (xs ys : List X) (n : ℕ) → n < length xs → slice_get (xs ++ ys) n ≡ slice_get xs n
 slice_front [] ys n l = absurd (omega arith)

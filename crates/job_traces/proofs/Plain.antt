@@ -1,10 +1,6 @@
 -- What is seen of one more entry: its scene, and that one which reads no set leaves the picks and one which puts no marker leaves the marker.
-use Rattle.std.proofs.Common.{◌≡◌, ℕ, ◌&&◌, ◌||◌, false, cond, Some, refl, sym, ap, ◌∙◌, Bool, List, inl, inr, true, subst, arith}
-use Rattle.std.proofs.Math.Bool.{and-false, or-false}
-use Rattle.job_spec.proofs.Common.{some_is, false_true}
-use Rattle.job_facts.specs.Prelude.{effect, Actor, Driver, Attempt, Shell, Request, Outcome, Answered, Slow, RequestLost, Entry, Script, Setup, Sweeping, SetupOver, setup_asks, Listing, Clean, CleanOver, clean_asks, Seen, see, is_reading, is_marking, is_begun, driver_entry, Times, is_picking, Sweep, sweep_asks, Commit, Fetching, Replacing, Reverting, CommitOver, commit_asks, Told, Decides, Deleting}
+use Rattle.job_traces.proofs.Common.{Actor, Answered, Attempt, Bool, Clean, CleanOver, Commit, CommitOver, Decides, Deleting, Driver, Entry, Fetching, List, Listing, Outcome, Plain, Replacing, Request, RequestLost, Reverting, Script, Seen, Setup, SetupOver, Shell, Slow, Some, Sweep, Sweeping, Times, Told, and-false, ap, arith, clean_asks, commit_asks, cond, driver_entry, effect, false, false_true, inl, inr, is_begun, is_marking, is_picking, is_reading, or-false, refl, see, setup_asks, some_is, subst, sweep_asks, sym, true, ℕ, ◌&&◌, ◌||◌, ◌∙◌, ◌≡◌}
 use Rattle.job_protocol.specs.Cleanups as cleanups
-use Rattle.job_facts.proofs.Sharing.{Plain}
 
 pub one_scene : (w : Script) (k : Times) (s : Seen) (e : Entry) → (see w k s e).scene ≡ effect s.scene e.request e.outcome
 one_scene w k s e = grind arith

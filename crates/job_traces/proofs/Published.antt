@@ -1,12 +1,6 @@
 -- In a run, until the driver cleans up, an attempt's commit that is done has published its own set.
-use Rattle.std.proofs.Common.{◌≡◌, ℕ, ◌<◌, inl, inr, Bool, true, false, List, [], ◌∷◌, ◌++◌, length, Some, refl, sym, ap, subst, ◌∙◌, arith, None, ◌≤◌}
-use Rattle.job_spec.proofs.Common.{false≢true, slice_get_within, some_is, none_some, false_true}
-use Rattle.job_facts.specs.Prelude.{Content, answer, is_effective, IsHonestOutcome, Driver, Request, Outcome, Entry, fresh, step, setup_after, Who, IsLegal, Script, setup_asks, write_start, TaskCommitOver, task_commit_start, task_abort_start, Commit, Setting, Operation, TheSetup, TheWrite, TheTaskCommit, TheTaskAbort, TheCommit, who, asks, tells, WasPublished, Seen, see, is_publishing, known, entry, driver_entry, strange_entry, Fits, Closed, Reverts, WriteStands, CommitStandsBy, Times, is_begun, TheCheck, after_all}
+use Rattle.job_traces.proofs.Common.{BeginAbort, BeginClean, BeginCommit, BeginPublish, BeginSetup, BeginWrite, Bool, Closed, Commit, CommitStandsBy, Content, Driver, Entry, Fits, IsHonestOutcome, IsLegal, IsOpening, IsTimely, List, None, Operation, Outcome, Request, Reverts, Runs, Script, Seen, Setting, Some, Stand, TaskCommitOver, TheCheck, TheCommit, TheSetup, TheTaskAbort, TheTaskCommit, TheWrite, Times, WasPublished, Who, WriteStands, [], after_all, after_check_so, answer, ap, arith, asks, attempt_closes, attempt_reverts, check_plain, check_reads, clean_begun, clean_closes, clean_of_so, commit_closes, commit_drives, commit_of_so, driver_closes, driver_entry, entry, false, false_true, false≢true, fresh, inl, inr, is_begun, is_effective, is_publishing, known, length, none_some, nothing_learnt, put_at, reads_drive, refl, reverts_start, see, setup_after, setup_asks, slice_get_within, slice_last, some_is, step, strange_entry, subst, sym, take-append-le, task_abort_start, task_commit_start, tells, true, who, with_attempt, write_start, ℕ, ◌++◌, ◌<◌, ◌∙◌, ◌∷◌, ◌≡◌, ◌≤◌}
 use Rattle.job_model.specs.declared.ends.TaskEnd.TheVariants as tasks
-use Rattle.job_traces.specs.Runs.{Stand, BeginSetup, BeginCommit, BeginClean, BeginWrite, BeginPublish, BeginAbort, Runs, IsOpening, IsTimely, nothing_learnt, with_attempt}
-use Rattle.job_facts.proofs.Whose.{put_at}
-use Rattle.job_facts.proofs.Closing.{reverts_start, driver_closes, commit_closes, clean_closes, clean_begun, attempt_closes, attempt_reverts}
-use Rattle.job_facts.proofs.JobCommitting.{commit_drives}
 use Rattle.job_facts.proofs.Remaining.{Stood, write_kept, commit_kept_by, other_stood, driver_stood, strange_stood, write_stands, commit_stands}
 use Rattle.job_facts.proofs.Remaining as remaining
 use Rattle.job_traces.proofs.Running.{At, Late}
@@ -14,13 +8,8 @@ use Rattle.job_traces.proofs.EveryRun.{good, cleans_is, late, put_each}
 use Rattle.job_traces.proofs.Folds.{BeginKeeps, DriverKeeps, AttemptKeeps, StrangerKeeps, each_run, commit_is, driven}
 use Rattle.job_traces.proofs.Changes.{earlier, moment_scene}
 use Rattle.job_traces.proofs.Lists.{slice_front}
-use Rattle.job_protocol.proofs.Begun.{after_check_so, commit_of_so, clean_of_so}
-use Rattle.job_facts.proofs.Sharing.{check_plain, check_reads}
-use Rattle.job_facts.proofs.Driving.{reads_drive}
 use Rattle.s3_types.specs.Store.{opening as opening_scene}
-use Rattle.std.proofs.lemmas.List.{take-append-le}
 use Rattle.job_traces.proofs.Plain.{setup_plain}
-use Rattle.proof_base.proofs.Lists.{slice_last}
 
 -- what was published is so in a longer journal
 pub longer_published : (w : Script) (opening : Content) (es more : List Entry) (t a n i : ℕ) (h : WasPublished w opening es t a n) → h.entry.event ≤ i → WasPublished w opening (es ++ more) t a i

@@ -1,20 +1,10 @@
 -- How far a replace mode has come with what it does not keep, and what becomes of paths that are not wanted.
-use Rattle.std.proofs.Common.{◌≡◌, ℕ, ◌⊎◌, inl, inr, not, ◌&&◌, true, cond, List, [], ◌∷◌, ◌++◌, take, Option, Some, None, refl, sym, ap, subst, ◌∙◌, codes, append_assoc, arith}
+use Rattle.job_traces.proofs.Common.{AgreeBelow, Agrees, AllUnder, Commit, Content, DeleteObjects, Deleting, HasBucket, IsIn, IsLegal, List, Listing, None, OnlyThose, Option, Outcome, Picks, Request, RequestLost, Scene, Script, Sets, Setting, Slow, Some, Sweep, SweepsUnder, [], and_parts, ap, append_assoc, apply, arith, at_key, begins, begins_behind, begins_through, below, below_is, codes, commit_start, commit_tells, cond, dest_prefix, effect, false_true, false≢true, frame, in_or_not, inl, inr, is_file_path, is_folder, is_lt, is_no_magic, keeps, keeps_of, none_or_some, none_some, not, page_after, partitions, paths_of, picks_of, refl, replaced, same_or_other, same_wanted, some_dest, subst, sweep_asks, sweep_start, sym, take, taken_in, text_cmp, true, true_or_false, unkept_prefix, ℕ, ◌&&◌, ◌++◌, ◌∙◌, ◌∷◌, ◌≡◌, ◌⊎◌}
 use Rattle.std.specs.Prelude.{bytes_eq}
-use Rattle.job_facts.specs.Prelude.{is_lt, text_cmp, Content, Scene, begins, apply, effect, Request, DeleteObjects, Outcome, Slow, RequestLost, below, IsLegal, Script, Picks, paths_of, partitions, keeps, keeps_of, dest_prefix, is_folder, is_file_path, Sweep, Listing, Deleting, sweep_asks, page_after, Sets, picks_of, Commit, is_no_magic, replaced, commit_start, commit_tells, Setting, IsIn, HasBucket, at_key, AllUnder, SweepsUnder, OnlyThose}
-use Rattle.job_spec.proofs.Common.{and_parts, false≢true, begins_behind, below_is, none_or_some, none_some, false_true, true_or_false, same_or_other}
-use Rattle.store_frame.proofs.Framed.{frame}
 use Rattle.store_frame.proofs.Reading.{reads_nothing}
-use Rattle.job_facts.proofs.Legal.{some_dest}
-use Rattle.job_facts.proofs.Aborting.{taken_in}
-use Rattle.job_facts.proofs.JobCommitting.{begins_through}
 use Rattle.job_facts.proofs.Effects.{deleted_or_not}
-use Rattle.job_facts.proofs.Wanted.{same_wanted}
-use Rattle.job_facts.proofs.Agreeing.{AgreeBelow, Agrees, unkept_prefix}
 use Rattle.job_traces.proofs.Running.{first_at, now_at, Cleared, Clearing, OtherStands, Emptying, Empty, Replaces}
-use Rattle.job_protocol.specs.Prelude.{sweep_start}
 use Rattle.job_traces.proofs.Leads.{Enters, empties, deals, deals_none, enters, Leads, fetches, sweeps_on, empties_next, sweeps_again, leads}
-use Rattle.job_facts.proofs.Spares.{in_or_not}
 
 -- a file's path is not below the magic directory
 pub path_no_magic : {w : Script} → IsLegal w → (q : List ℕ) → is_file_path q ≡ true → is_no_magic w (below w.dest.key q) ≡ true

@@ -1,19 +1,11 @@
 -- What holds of a run's stand: before its set-up is done, while its commit goes on, and while it cleans up. How far the job has come no stranger can change; what a reader is shown is told of a run among no strangers.
-use Rattle.std.proofs.Common.{◌≡◌, ℕ, ◌<◌, ◌⊎◌, inl, inr, not, Bool, true, false, cond, List, [], ◌∷◌, ◌++◌, Option, Some, None, refl, sym, ap, ◌∙◌, arith}
-use Rattle.job_facts.specs.Prelude.{option_map, lookup, text_eq, Content, Upload, Object, Entry, below, success_key, Retried, Sweep, IsIn, Who, IsLegal, Script, CommitEnd, Picks, wanted_at, is_decided, is_picked, is_clash, keeps_of, mark_text, Setup, SetupOver, view, is_file_path, Sets, picks_of, is_no_magic, replaced, Commit, Fetching, Replacing, Completing, Marking, Reverting, CommitOver, Tabled, Setting, Operation, TheSetup, TheCommit, TheClean, Same, Kept, is_untouched, NoDeletionWorn, OnlyOpening, NoClusterFile, Seen, is_marked, Told, known, nothing_told, at_key, at_id, IsAttempt, Hold, Fits, OnlyThose, EmptiesBy, SetsUp, SweepsUnder, FitsClean, FitsJobCommit, NoneEnded, Gone, Decides, Wants, IsBefore, whole_of, FileStands, TheCheck, TheSparing}
-use Rattle.job_spec.proofs.Common.{and_parts, not-true, none_some, none_or_some, false_true, true_or_false}
-use Rattle.job_spec.specs.Prelude.{Whole, or_else, done}
+use Rattle.job_traces.proofs.Common.{Agrees, Bool, Commit, CommitEnd, CommitOver, Completing, Content, Decides, EmptiesBy, Entry, Fetching, FileStands, Filed, Fits, FitsClean, FitsJobCommit, FitsSparing, Gone, Hold, IsAttempt, IsBefore, IsIn, IsLegal, Kept, List, Marking, NoClusterFile, NoDeletionWorn, None, NoneEnded, Object, OnlyOpening, OnlyThose, Operation, Option, Picks, Replacing, Retried, Reverting, Same, Script, Seen, Sets, SetsUp, Setting, Setup, SetupOver, Some, Stand, Sweep, SweepsUnder, Tabled, TheCheck, TheClean, TheCommit, TheSetup, TheSparing, Told, Turns, Upload, Wants, Who, Whole, [], and_parts, ap, arith, at_id, at_key, below, cond, decided_so, done, false, false_true, inl, inr, is_clash, is_decided, is_file_path, is_marked, is_no_magic, is_picked, is_untouched, keeps_of, known, lookup, mark_text, none_or_some, none_some, not, not-true, nothing_told, option_map, or_else, picks_of, refl, replaced, same_wanted, success_key, sym, text_eq, true, true_or_false, view, wanted_at, wanted_of, whole_of, ℕ, ◌++◌, ◌<◌, ◌∙◌, ◌∷◌, ◌≡◌, ◌⊎◌}
 use Rattle.job_model.specs.declared.ends.CommitEnd.TheVariants as commits
 use Rattle.job_model.specs.declared.ends.Stage.TheVariants as stages
 use Rattle.job_model.specs.declared.ends.SetupEnd.TheVariants as setups
-use Rattle.job_facts.specs.Turning.{Turns}
 use Rattle.job_facts.specs.Filed.{FileLeft}
-use Rattle.job_traces.specs.Runs.{Stand}
-use Rattle.job_facts.proofs.Agreeing.{Agrees, decided_so}
-use Rattle.job_facts.proofs.Wanted.{same_wanted, wanted_of}
 use Rattle.job_facts.proofs.FilePaths.{file_path}
 use Rattle.job_facts.proofs.Filing.{wanted_upload}
-use Rattle.job_facts.specs.Spares.{FitsSparing, Filed}
 
 module _ (g : Setting) (opening : Content) where
   abbrev pub w : Script

@@ -1,25 +1,14 @@
 -- Each step of a run keeps what holds of its stand.
-use Rattle.std.proofs.Common.{not, ◌≡◌, ℕ, ◌<◌, ◌≤◌, ◌^◌, inl, inr, ◌&&◌, ◌||◌, Bool, true, false, List, [], ◌∷◌, ◌++◌, length, Option, Some, None, refl, sym, ap, subst, ◌∙◌, arith, append_assoc}
-use Rattle.job_facts.specs.Prelude.{Content, Scene, begins, answer, apply, effect, IsHonestOutcome, Object, Request, PutObject, Committer, Magic, Reply, Outcome, Answered, ReplyLost, Entry, below, magic_prefix, success_key, IsLegal, Script, Picks, wanted_at, mark_text, is_file_path, nth, Sets, all_commits, picks_of, Commit, Fetching, Replacing, Completing, Marking, Reverting, CommitOver, set_request, set_read, commit_asks, commit_tells, fetched, replaced, is_no_magic, Table, Tabled, Setting, Seen, see, is_begun, is_marking, picks_by, IsIn, changed_keys, HasBucket, Told, tell_driver, at_event, driver_entry, at_key, Hold, FitsJobCommit, Gone, Decides, FileStands, Wants, Commits, AllUnder, OnlyThose, EmptiesBy, Sweep, sweep_asks, sweep_hears, keeps_of, dest_prefix, Times, is_picking}
-use Rattle.job_spec.proofs.Common.{tabled_tells, some_is, none_some, false_true, in_append, in_back, none_or_some}
+use Rattle.job_traces.proofs.Common.{AgreeBelow, Agrees, AllUnder, Answered, Bool, Commit, CommitOver, Commits, Committer, Completing, Content, Decides, EmptiesBy, Entry, Fetching, FileStands, FitsJobCommit, Gone, HasBucket, HidesAll, Hold, IsHonestOutcome, IsIn, IsLegal, IsRead, List, Magic, Marking, None, Object, OnlyThose, Option, Outcome, Picks, PutObject, Replacing, Reply, ReplyLost, Request, Reverting, Scene, Script, Seen, Sets, Setting, Some, Sweep, Table, Tabled, Times, Told, Wants, [], agrees_tells, all_commits, answer, ap, append_assoc, apply, arith, at_event, at_key, begins, below, changed_keys, commit_asks, commit_fits, commit_tells, commit_turns, decides_goes, dest_prefix, driver_entry, effect, false, false_true, fetched, files_go, in_append, in_back, inl, inr, is_begun, is_file_path, is_marking, is_no_magic, is_picking, keeps_of, length, magic_prefix, mark_text, no_success, none_or_some, none_some, not, nth, or-true, picks_by, picks_of, prefix_unkept, refl, replaced, replaced_under, same_mark, see, set_read, set_request, some_is, stranger_same, subst, success_key, sweep_asks, sweep_hears, sym, tabled_tells, tell_driver, true, upload_wanted, wanted_at, ℕ, ◌&&◌, ◌++◌, ◌<◌, ◌^◌, ◌||◌, ◌∙◌, ◌∷◌, ◌≡◌, ◌≤◌}
 use Rattle.job_facts.proofs.Placed.{one_key}
-use Rattle.job_facts.proofs.Shows.{HidesAll}
 use Rattle.job_facts.proofs.Shapes.{puts}
-use Rattle.job_facts.proofs.SettingUp.{no_success}
-use Rattle.job_facts.proofs.JobCommitting.{commit_fits, replaced_under}
 use Rattle.job_facts.proofs.Held.{nth_of}
-use Rattle.job_facts.proofs.Wanted.{same_mark}
-use Rattle.job_facts.proofs.Turning.{commit_turns}
-use Rattle.job_facts.proofs.Deciding.{decides_goes}
-use Rattle.job_facts.proofs.FilingLaws.{files_go, stranger_same}
-use Rattle.job_facts.proofs.Agreeing.{AgreeBelow, Agrees, upload_wanted, IsRead, agrees_tells, prefix_unkept}
 use Rattle.job_facts.proofs.Reading.{agrees_read}
 use Rattle.job_traces.proofs.Running.{first_at, now_at, MarkSays, Marks, InCommit, CommitShows, Cleared, Clearing, OtherStands, Emptying, Empty, false_marks, wants_of}
 use Rattle.job_facts.proofs.Emptying.{EmptiedBy, swept_by, still_by}
 use Rattle.job_traces.proofs.Replacing.{keeps_same, replaces_tells, cleared_so, others_enter, empty_next, empty_enter, still_clear, taken_after}
 use Rattle.job_traces.proofs.Leads.{Leads, fetches, sweeps_on, empties_next, deals_then, marks_then, is_marked, sweeps_again, leads}
 use Rattle.job_traces.proofs.Plain.{one_scene, plain_picks, plain_mark, driver_begun, is_read_stage, sweep_plain, commit_unread}
-use Rattle.std.proofs.Math.Bool.{or-true}
 
 -- a key outside the magic directory, where a request hides all it changes
 pub hidden_same : (w : Script) (s : Scene) → HasBucket s.content w.dest.bucket → (r : Request) → HidesAll w r → (o : Outcome) → (k : List ℕ) → begins (magic_prefix w.dest.key w.job) k ≡ false → at_key w (effect s r o).content k ≡ at_key w s.content k

@@ -1,9 +1,7 @@
 -- That a world keeps what is promised of its job, between its events.
-use Rattle.std.proofs.Common.{◌≡◌, ℕ, zero, suc, ◌+◌, Bool, true, false, List, [], ◌∷◌, ◌++◌, length, slice_get, Option, Some, None, refl, sym, ap, subst, ◌∙◌, arith}
+use Rattle.job_world.proofs.Common.{Actor, AllByRecursion, AreOwn, Bool, Content, Entry, Event, EventEnd, Finished, IsHonest, IsPlayed, Keeps, Known, List, None, Option, Past, Pick, Play, Promised, Request, Run, Running, Script, Sent, Setting, Some, WentOn, [], all_picks, ap, arith, begun, false, fate_at, in_eyes, lacked_memory, length, moment, past, refl, run_of, slice_get, subst, suc, sym, true, zero, ℕ, ◌++◌, ◌+◌, ◌∙◌, ◌∷◌, ◌≡◌}
 use Rattle.std.specs.Prelude.{Result, Ok, Err, OnOk, OnErr}
-use Rattle.job_steps.specs.Prelude.{AllByRecursion, Content, moment, fate_at, Request, Actor, Entry, Known, Script, EventEnd, Event, Pick, Setting, Running, Past, past, AreOwn, Promised, Sent, Finished, all_picks, lacked_memory, Play, IsPlayed}
 use Rattle.job_spec.proofs.Common.{slice_get_within}
-use Rattle.job_spec.specs.Prelude.{IsHonest, in_eyes}
 use Rattle.job_spec.specs.Eyes.{number_in}
 use Rattle.job_spec.proofs.Told.{alone}
 use Rattle.job_states.specs.Stands.{Stands}
@@ -14,7 +12,6 @@ use Rattle.job_safety.proofs.Kept.{runs_are_kept}
 use Rattle.job_side.specs.Holds.{AreOf, Quiet, IsTurn, is_mine, all_sound, setting_of}
 use Rattle.job_side.specs.Events.{Grown, IsAsBefore, picks_in}
 use Rattle.job_side.specs.Firsts.{IsFirstShared, IsFirstSide}
-use Rattle.job_world.specs.Worlds.{Run, run_of, begun, Keeps, WentOn}
 use Rattle.job_side.specs.declared.body.Body.{Body}
 use Rattle.job_side.specs.declared.body.Shared.{Shared}
 use Rattle.job_side.proofs.Moments.{stands_of}

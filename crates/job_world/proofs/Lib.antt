@@ -1,1 +1,2 @@
 pub mod KeptWorlds
+mod Common

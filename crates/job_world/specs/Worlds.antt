@@ -1,7 +1,6 @@
 -- A world as its callers see it.
-use Rattle.std.specs.Prelude.{◌≡◌, ◌+◌, ◌≤◌, ◌^◌, [], ◌∷◌, ◌++◌, List, length, slice_get, Bool, true, false, Option}
-use Rattle.job_steps.specs.Prelude.{AllByRecursion, Content, Entry, Script, EventEnd, Pick, AreOwn, Promised, Sent}
-use Rattle.job_spec.specs.Prelude.{MOST_MINIMUM}
+use Rattle.std.specs.Prelude.{Bool, List, Option, [], false, length, slice_get, true, ◌++◌, ◌+◌, ◌^◌, ◌∷◌, ◌≡◌, ◌≤◌}
+use Rattle.job_spec.specs.Prelude.{AllByRecursion, AreOwn, Content, Entry, EventEnd, MOST_MINIMUM, Pick, Promised, Script, Sent}
 use Rattle.job_safety.specs.Laws.{FactsHold}
 use Rattle.job_side.specs.Events.{picks_in}
 use Rattle.job_side.specs.declared.body.Body.{Body}

@@ -1,15 +1,10 @@
 -- What requests leave of a content that an image can have.
-use Rattle.std.proofs.Common.{◌≡◌, ℕ, inl, inr, ◌+◌, ◌≤◌, ◌^◌, ◌&&◌, nat_le, nat_lt, Bool, true, false, cond, T, List, [], ◌∷◌, ◌++◌, length, take, drop, Option, Some, None, Ok, Err, refl, sym, ap, subst, ◌∙◌, arith}
-use Rattle.store_frame.specs.Prelude.{entries_sorted, find, is_lt, is_eq, eq_by_cmp, Ordering, Less, IsTotalOrder, nat_cmp_total, eq_by_cmp_equiv, text_eq, apply_in, draws}
+use Rattle.journal_log.proofs.Common.{AbortUpload, AllByRecursion, Bool, BucketContent, CompleteUpload, Content, CopyObject, CreateUpload, DeleteObject, DeleteObjects, Entry, Err, IsBucket, IsContent, IsMade, IsObject, IsTotalOrder, KeepsImages, Less, List, MOST_ENTRIES, MakeBucket, NamedPart, None, Object, Objects, Ok, Option, Ordering, PutObject, Request, Some, T, Upload, UploadPart, Uploads, [], aborted, and_parts, ap, apply_at, apply_in, apply_store, arith, bucket_of, changes, completed, cond, content_after, copied, draws, drop, entries_sorted, eq_by_cmp, eq_by_cmp_equiv, false, find, inl, inr, is_bucket, is_eq, is_key, is_lt, is_part_number, joined, le-leb, leb-true, length, live, moment, nat_cmp_total, nat_le, nat_lt, nat_tests, new_bucket, new_content, none_or_some, none_some, part_put, refl, some_is, subst, sym, take, take-append-drop, take_all, text_eq, text_exact, text_is, text_total, true, true_or_false, with_part, without, ℕ, ◌&&◌, ◌++◌, ◌+◌, ◌^◌, ◌∙◌, ◌∷◌, ◌≡◌, ◌≤◌}
 use Rattle.s3_types.specs.Prelude.{below_all, is_sorted}
-use Rattle.journal_log.specs.Prelude.{AllByRecursion, text_total, is_bucket, is_key, Objects, Upload, Uploads, BucketContent, Content, new_bucket, new_content, is_part_number, with_part, live, joined, moment, apply_store, apply_at, bucket_of, without, copied, part_put, completed, aborted, MOST_ENTRIES, Object, NamedPart, Request, MakeBucket, PutObject, DeleteObject, DeleteObjects, CopyObject, CreateUpload, UploadPart, CompleteUpload, AbortUpload, Entry, IsObject, IsBucket, IsContent, content_after, IsMade, KeepsImages}
-use Rattle.proof_base.proofs.Common.{and_parts, leb-true, le-leb, nat_tests, take_all, take-append-drop}
 use Rattle.std.specs.FinMap as fin
 use Rattle.proof_base.proofs.Tree.{tied, entries_empty}
 use Rattle.s3_types.specs.Answer.{made}
-use Rattle.proof_base.proofs.Members.{true_or_false, none_or_some, some_is, none_some, text_is, text_exact}
 use Rattle.store_image.specs.Content.{is_minimum, is_counter, is_id, IsEntry, AreEntries, IsPart, IsUpload}
-use Rattle.journal_log.specs.Changes.{changes}
 use Rattle.journal_log.proofs.Journals.{folded, changes_append, content_append}
 use Rattle.std.proofs.Math.Facts.{and_yes}
 

@@ -1,9 +1,5 @@
 -- The changes of journals, and what they make of a content.
-use Rattle.std.proofs.Common.{◌≡◌, ◌⊎◌, inl, inr, ℕ, suc, ◌≤◌, Bool, true, false, cond, List, [], ◌∷◌, ◌++◌, length, take, map, refl, sym, ap, ◌∙◌, arith}
-use Rattle.store_frame.specs.Prelude.{filter, is_effective}
-use Rattle.proof_base.proofs.Common.{map-append, filter-append}
-use Rattle.journal_log.specs.Prelude.{Content, Scene, opening, apply, apply_store, effect, after_all, moment, Request, MakeBucket, ClusterPut, ClusterRename, ClusterDelete, Entry, Outcome, Slow, RequestLost, is_changing, content_after, Begins}
-use Rattle.proof_base.proofs.Members.{true_or_false}
+use Rattle.journal_log.proofs.Common.{Begins, Bool, ClusterDelete, ClusterPut, ClusterRename, Content, Entry, List, MakeBucket, Outcome, Request, RequestLost, Scene, Slow, [], after_all, ap, apply, apply_store, arith, cond, content_after, effect, false, filter, filter-append, inl, inr, is_changing, is_effective, length, map, map-append, moment, opening, refl, suc, sym, take, true, true_or_false, ℕ, ◌++◌, ◌∙◌, ◌∷◌, ◌≡◌, ◌≤◌, ◌⊎◌}
 use Rattle.store_frame.proofs.Reading.{reads_nothing}
 use Rattle.journal_log.specs.Changes.{changes}
 

@@ -1,8 +1,5 @@
 -- How what crashes leave goes on from one call to the next.
-use Rattle.std.proofs.Common.{◌≡◌, ◌⊎◌, inl, inr, ⊎_elim, List, [], ◌∷◌, ◌++◌, Option, Some, None, refl, sym, ap, subst, ◌∙◌, arith}
-use Rattle.journal_log.specs.Prelude.{Content, Request, Entry, Holding, Stored, fresh, IsDurable, Sight, CrashesLeave, IsTimed, image, Begins, IsMoment, Holds, grown_by, HoldsGrownBy, HoldsSome, WhereTold, IsBetween}
-use Rattle.shelf.specs.Logged.{IsBeforeOrAfter}
-use Rattle.journal_log.specs.Changes.{changes}
+use Rattle.journal_log.proofs.Common.{Begins, Content, CrashesLeave, Entry, Holding, Holds, HoldsGrownBy, HoldsSome, IsBeforeOrAfter, IsBetween, IsDurable, IsMoment, IsTimed, List, None, Option, Request, Sight, Some, Stored, WhereTold, [], ap, arith, changes, fresh, grown_by, image, inl, inr, refl, subst, sym, ⊎_elim, ◌++◌, ◌∙◌, ◌∷◌, ◌≡◌, ◌⊎◌}
 use Rattle.journal_log.specs.Crashes.{IsAppended, AreAppended}
 use Rattle.journal_log.proofs.Standing.{begins_all, begins_more, begins_longer, grown_none, grown_one, grown_then, holds_one, some, longer, between}
 

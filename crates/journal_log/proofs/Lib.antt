@@ -4,3 +4,4 @@ pub mod Leaving
 pub mod Imaged
 pub mod Steps
 pub mod Replaces
+mod Common

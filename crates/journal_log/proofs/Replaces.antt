@@ -1,7 +1,5 @@
 -- What a call of `replace` leaves of a shelf.
-use Rattle.std.proofs.Common.{◌≡◌, ◌⊎◌, inl, inr, ℕ, ◌<◌, ◌-◌, ◌^◌, List, [], Option, Some, None, Result, Ok, Err, IsErrOf, refl, ap, subst, ◌∙◌, arith}
-use Rattle.journal_log.specs.Prelude.{Content, Stored, fresh, IsDurable, Sight, CrashesLeave, IsTimed, Rose, ShelfStop, Failed, NoMemory, image, Holds, Replaced, NotReplaced}
-use Rattle.shelf.specs.Logged.{HoldsFresh}
+use Rattle.journal_log.proofs.Common.{Content, CrashesLeave, Err, Failed, Holds, HoldsFresh, IsDurable, IsErrOf, IsTimed, List, NoMemory, None, NotReplaced, Ok, Option, Replaced, Result, Rose, ShelfStop, Sight, Some, Stored, [], ap, arith, fresh, image, inl, inr, refl, subst, ℕ, ◌-◌, ◌<◌, ◌^◌, ◌∙◌, ◌≡◌, ◌⊎◌}
 use Rattle.journal_log.proofs.Leaving.{started}
 use Rattle.journal_log.specs.Images.{Counts}
 

@@ -1,12 +1,8 @@
 -- What a shelf stands for that holds changes of a run.
-use Rattle.std.proofs.Common.{◌≡◌, ◌⊎◌, inl, inr, ℕ, ◌<◌, ◌^◌, List, [], ◌∷◌, ◌++◌, length, take, Option, Some, None, refl, sym, ap, subst, ◌∙◌, append_assoc, append-nil, arith, length-append}
-use Rattle.journal_log.specs.Prelude.{AllByRecursion, Content, opening, moment, after_all, Request, Entry, Holding, Stored, HoldsGrown, IsDurable, IsContent, content_after, Begins, StandsFor, IsMoment, kept, Holds, HasEarlier, HoldsPart, grown_by, HoldsGrownBy, HoldsSome, WhereTold, IsBetween, IsLast}
-use Rattle.proof_base.proofs.Common.{take-append-le, take_all}
+use Rattle.journal_log.proofs.Common.{AllByRecursion, Begins, Content, Entry, HasEarlier, Holding, Holds, HoldsGrown, HoldsGrownBy, HoldsPart, HoldsSome, IsBetween, IsContent, IsDurable, IsLast, IsMoment, List, None, Option, Request, Some, StandsFor, Stored, WhereTold, [], after_all, ap, append-nil, append_assoc, arith, changes, content_after, grown, grown_by, inl, inr, kept, length, length-append, moment, opening, refl, subst, sym, take, take-append-le, take_all, ℕ, ◌++◌, ◌<◌, ◌^◌, ◌∙◌, ◌∷◌, ◌≡◌, ◌⊎◌}
 use Rattle.log_format.specs.declared.held.Held.{Held}
-use Rattle.shelf.specs.Logged.{grown}
 use Rattle.shelf.specs.Logged.Holding.{Nothing, Stands}
 use Rattle.store_image.proofs.Whole as images
-use Rattle.journal_log.specs.Changes.{changes}
 use Rattle.journal_log.specs.Kept.{Unfolds, last_event}
 use Rattle.journal_log.proofs.Journals.{changes_append, cut, folded}
 

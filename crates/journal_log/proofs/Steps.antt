@@ -1,9 +1,5 @@
 -- How a run of appends goes on by one entry.
-use Rattle.std.proofs.Common.{◌≡◌, ◌⊎◌, inl, inr, ℕ, ◌+◌, ◌<◌, List, [], ◌∷◌, ◌++◌, length, get_or, take, drop, ◌-◌, length-drop, Result, Ok, Err, OnOk, IfErr, IsErrOf, refl, sym, ap, subst, ◌∙◌, append_assoc, arith}
-use Rattle.proof_base.proofs.Common.{take_all, take_more, take-append-drop}
-use Rattle.journal_log.specs.Prelude.{Request, Entry, IsDurable, HoldsGrown, Sight, CrashesLeave, IsTimed, ShelfStop, Failed, NoMemory, HoldsGrownBy, HoldsSome, IsBetween, AreAnswered, Appended, Stopped, Stops}
-use Rattle.shelf.specs.Logged.{told, HoldsOneOf}
-use Rattle.journal_log.specs.Changes.{changes}
+use Rattle.journal_log.proofs.Common.{Appended, AreAnswered, CrashesLeave, Entry, Err, Failed, HoldsGrown, HoldsGrownBy, HoldsOneOf, HoldsSome, IfErr, IsBetween, IsDurable, IsErrOf, IsTimed, List, NoMemory, Ok, OnOk, Request, Result, ShelfStop, Sight, Stopped, Stops, [], ap, append_assoc, arith, changes, drop, get_or, inl, inr, length, length-drop, refl, subst, sym, take, take-append-drop, take_all, take_more, told, ℕ, ◌++◌, ◌+◌, ◌-◌, ◌<◌, ◌∙◌, ◌∷◌, ◌≡◌, ◌⊎◌}
 use Rattle.journal_log.proofs.Journals.{changes_append, changes_none}
 use Rattle.journal_log.proofs.Standing.{holds_none, holds_one, holds_then}
 use Rattle.journal_log.proofs.Leaving.{at_first, so_far, started, widened, goes_on}

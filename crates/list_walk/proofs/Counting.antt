@@ -1,12 +1,7 @@
 -- How many entries of a finite map pass a test, before and after one is put in or taken out.
-use Rattle.std.proofs.Common.{◌≡◌, ℕ, ◌+◌, ◌≤◌, Bool, true, false, not, cond, List, [], ◌∷◌, length, None, refl, sym, ap, subst, ◌∙◌, arith}
-use Rattle.s3_types.specs.Prelude.{FinMap, insert, remove, from_sorted, entries-from_sorted, get-from_sorted, get-from_entries, get-entries, get-remove, same_map, where_key, find-where_key}
-use Rattle.store_frame.specs.Prelude.{entries, entries_sorted, from_entries, entries-insert, find, put, by_order, filter, eq_by_cmp, is_eq, IsTotalOrder, eq_by_cmp_equiv, Ordering, Less, Equal, Greater}
-use Rattle.proof_base.proofs.Common.{CmpEqualImpliesEq}
-use Rattle.proof_base.proofs.Members.{none_some}
+use Rattle.list_walk.proofs.Common.{Bool, CmpEqualImpliesEq, Equal, FinMap, Greater, IsTotalOrder, Less, List, None, Ordering, [], ap, arith, by_order, cond, entries, entries-from_sorted, entries-insert, entries_empty, entries_sorted, eq_by_cmp, eq_by_cmp_equiv, false, filter, find, find-where_key, from_entries, from_sorted, get-entries, get-from_entries, get-from_sorted, get-remove, insert, is_eq, length, none_some, not, put, refl, remove, same_map, subst, sym, true, where_key, ℕ, ◌+◌, ◌∙◌, ◌∷◌, ◌≡◌, ◌≤◌}
 use Rattle.std.specs.FinMap.Entries.{is_sorted-where_key}
 use Rattle.std.specs.Cmp.{alike_right}
-use Rattle.proof_base.proofs.Tree.{entries_empty}
 use Rattle.list_walk.specs.Left.{one_if as one}
 
 abbrev pub count : {E : Type 0} → (E → Bool) → List E → ℕ

@@ -1,15 +1,8 @@
 -- What walks and sweeps have left falls.
-use Rattle.std.proofs.Common.{◌≡◌, ℕ, ◌+◌, ◌*◌, ◌-◌, ◌<◌, ◌≤◌, Bool, true, false, cond, nat_lt, List, [], ◌∷◌, ◌++◌, length, take, drop, Option, Some, None, refl, sym, ap, subst, ◌∙◌, arith, length-append, length-drop}
-use Rattle.proof_base.proofs.Common.{length-take, length-map}
-use Rattle.store_frame.specs.Prelude.{text_in, filter, Scene, BucketContent, answer, answer_at, apply, listed, Request, UploadRef, PageEntry}
+use Rattle.list_walk.proofs.Common.{Bool, BucketContent, Deleting, FitsPage, FitsSweep, FitsUploads, LessUploads, LessWalk, List, Listing, None, Option, PageEntry, Request, Scene, Some, Sweep, SweepLaws, UploadLaws, UploadRef, WalkLaws, [], adds_key, answer, answer_at, ap, apply, arith, below_is, cond, count_in, deleting, drop, false, filter, keys_left, keys_on, last_of, last_ref, left_of, length, length-append, length-drop, length-map, length-take, listed, nat_lt, one_if, page_after, refl, refs_left, sets_upload, subst, sweep_asks, sweep_hears, sweep_left, swept, sym, take, text_in, thousands, true, uploads_after, uploads_left, walk_left, walked, walked_by, walked_uploads, ℕ, ◌*◌, ◌++◌, ◌+◌, ◌-◌, ◌<◌, ◌∙◌, ◌∷◌, ◌≡◌, ◌≤◌}
 use Rattle.std.specs.FinMap as fin
-use Rattle.proof_base.proofs.Numbers.{below_is}
 use Rattle.s3_types.specs.Multipart as uploads
 use Rattle.store_frame.proofs.Reading.{reads_nothing}
-use Rattle.list_walk.specs.Walks.{walked_by, keys_on, last_of, last_ref, page_after, walked, uploads_after, walked_uploads, Sweep, Listing, Deleting, sweep_asks, sweep_hears, swept, deleting}
-use Rattle.list_walk.specs.Fitting.{FitsPage, FitsSweep, FitsUploads}
-use Rattle.list_walk.specs.Left.{count_in, keys_left, refs_left, thousands, walk_left, sweep_left, left_of, uploads_left, adds_key, sets_upload, one_if}
-use Rattle.list_walk.specs.Laws.{LessWalk, LessUploads, WalkLaws, SweepLaws, UploadLaws}
 use Rattle.list_walk.proofs.Listing.{last_from, last_append, behind_page}
 use Rattle.list_walk.proofs.Uploads.{behind_uploads, refs_append}
 use Rattle.list_walk.proofs.Growing.{growth}

@@ -1,10 +1,7 @@
 -- What the tests of replies say.
-use Rattle.std.proofs.Common.{◌≡◌, Bool, List, [], ◌∷◌, Decides, refl, sym, ap, subst, ◌∙◌, arith}
-use Rattle.proof_base.proofs.Common.{true≢false}
-use Rattle.store_frame.specs.Prelude.{list_all, Reply, Page, PageEntry, Prefix}
+use Rattle.list_walk.proofs.Common.{AreKeys, Bool, Decides, FitsPage, IsKey, List, Page, PageEntry, Prefix, Reply, [], ap, arith, is_key, list_all, refl, subst, sym, true≢false, ◌∙◌, ◌∷◌, ◌≡◌}
 use Rattle.std.proofs.lemmas.Bool.Decides.{Decides-at, Decides-and}
 use Rattle.s3_types.specs.declared.reply.PageEntry.TheVariants.{Object as Single}
-use Rattle.list_walk.specs.Fitting.{IsKey, is_key, AreKeys, FitsPage}
 
 key_decides : (e : PageEntry) → Decides (is_key e) (IsKey e)
 key_decides e = grind arith

@@ -1,15 +1,8 @@
 -- What one request adds to what is there.
-use Rattle.std.proofs.Common.{◌≡◌, ℕ, inl, inr, ◌+◌, ◌≤◌, true, false, cond, List, [], ◌∷◌, length, nat_lt, Option, Some, None, Ok, Err, refl, ap, ◌∙◌, arith}
-use Rattle.s3_types.specs.Prelude.{get-insert}
-use Rattle.store_frame.specs.Prelude.{filter, eq_by_cmp, nat_cmp, nat_cmp_total, text_cmp, text_total, is_bucket, Scene, Objects, Files, Upload, Uploads, BucketContent, Content, new_bucket, apply, apply_at, apply_in, bucket_of, without, copied, completed, renamed, aborted, part_put, begins, listed, live, is_part_number, joined, ref_of, with_part, Object, MOST_ENTRIES, Request, MakeBucket, PutObject, DeleteObject, DeleteObjects, CopyObject, CreateUpload, UploadPart, CompleteUpload, AbortUpload, ClusterPut, ClusterRename, ClusterGet, ClusterDelete, ClusterList, UploadRef}
-use Rattle.proof_base.proofs.Common.{exact_bytes}
-use Rattle.proof_base.proofs.Members.{true_or_false}
+use Rattle.list_walk.proofs.Common.{AbortUpload, BucketContent, ClusterDelete, ClusterGet, ClusterList, ClusterPut, ClusterRename, CompleteUpload, Content, CopyObject, CreateUpload, DeleteObject, DeleteObjects, Err, Files, Growth, List, MOST_ENTRIES, MakeBucket, None, Object, Objects, Ok, Option, PutObject, Request, Scene, Some, Upload, UploadPart, UploadRef, Uploads, [], aborted, adds_key, ap, apply, apply_at, apply_in, arith, begins, bucket_of, completed, cond, copied, count_in, entries_empty, eq_by_cmp, exact_bytes, false, files_left, filter, get-insert, in_bucket, inl, inr, is_bucket, is_part_number, joined, length, listed, live, nat_cmp, nat_cmp_total, nat_lt, new_bucket, one_if, part_put, ref_of, refl, renamed, sets_upload, text_cmp, text_total, tied, true, true_or_false, with_part, without, ℕ, ◌+◌, ◌∙◌, ◌∷◌, ◌≡◌, ◌≤◌}
 use Rattle.std.specs.FinMap as fin
-use Rattle.proof_base.proofs.Tree.{tied, entries_empty}
 use Rattle.s3_types.specs.Answer.{made}
 use Rattle.s3_types.specs.Multipart as uploads
-use Rattle.list_walk.specs.Left.{count_in, in_bucket, files_left, adds_key, sets_upload, one_if}
-use Rattle.list_walk.specs.Laws.{Growth}
 use Rattle.list_walk.proofs.Counting.{count, count_insert, count_remove}
 use Rattle.list_walk.proofs.Listing.{is_left, listed_count, is_left_ref, refs_count, count_mapped}
 

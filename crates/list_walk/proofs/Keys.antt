@@ -1,10 +1,6 @@
 -- Entries that are keys.
-use Rattle.std.proofs.Common.{◌≡◌, ℕ, suc, Bool, true, false, cond, List, [], ◌∷◌, ◌++◌, map, take, Option, Some, None, Result, Ok, Err, IfOk, refl, sym, ap, ◌∙◌, arith}
-use Rattle.proof_base.proofs.Common.{map-append}
-use Rattle.store_frame.specs.Prelude.{filter, is_lt, text_cmp, Objects, begins, entry_of, listed, text_in, folded_from, is_again, Object, PageEntry, Reply, Page}
+use Rattle.list_walk.proofs.Common.{AreKeys, Bool, Err, IfOk, List, More, None, Object, Objects, Ok, Option, Page, PageEntry, Reply, Result, Some, Walked, Whole, [], ap, arith, begins, cond, entry_of, false, filter, folded_from, is_again, is_lt, keys_on, listed, map, map-append, refl, suc, sym, take, text_cmp, text_in, true, walked, walked_by, walked_entries, ℕ, ◌++◌, ◌∙◌, ◌∷◌, ◌≡◌}
 use Rattle.std.specs.FinMap as fin
-use Rattle.list_walk.specs.Walks.{Walked, More, Whole, walked_by, keys_on, walked, walked_entries}
-use Rattle.list_walk.specs.Fitting.{AreKeys}
 
 pub are_keys : (es fs : List PageEntry) → AreKeys es → AreKeys fs → AreKeys (es ++ fs)
 are_keys [] fs h g = g

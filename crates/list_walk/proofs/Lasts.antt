@@ -1,7 +1,5 @@
 -- The last of a list.
-use Rattle.std.proofs.Common.{◌≡◌, ℕ, ◌-◌, suc, zero, List, [], ◌∷◌, length, Option, Some, sym, ap, arith}
-use Rattle.store_frame.specs.Prelude.{slice_get, text_in, UploadRef, PageEntry}
-use Rattle.list_walk.specs.Walks.{keys_on, last_of, last_ref}
+use Rattle.list_walk.proofs.Common.{List, Option, PageEntry, Some, UploadRef, [], ap, arith, keys_on, last_of, last_ref, length, slice_get, suc, sym, text_in, zero, ℕ, ◌-◌, ◌∷◌, ◌≡◌}
 
 last_got : (es : List PageEntry) (n : ℕ) (e : PageEntry) → suc n ≡ length es → slice_get es n ≡ Some e → last_of (keys_on es) ≡ text_in e
 last_got (x ∷ []) zero e l h = let i : x ≡ e = cc in ap text_in i

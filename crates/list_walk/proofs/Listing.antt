@@ -1,17 +1,10 @@
 -- How many keys and uploads are listed.
-use Rattle.std.proofs.Common.{◌≡◌, ℕ, inl, inr, ◌+◌, zero, suc, Bool, true, false, ◌&&◌, cond, List, [], ◌∷◌, ◌++◌, length, map, take, drop, Option, Some, None, refl, sym, ap, ◌∙◌, arith}
-use Rattle.store_frame.specs.Prelude.{find, filter, AllByRecursion, keys_of, is_lt, is_eq, nat_cmp, ordering_then, IsTotalOrder, nat_cmp_total, Ordering, Less, Equal, text_cmp, text_total, Objects, Upload, Uploads, begins, listed, text_in, ref_cmp, ref_of, refs, is_behind, Object, UploadRef, PageEntry}
+use Rattle.list_walk.proofs.Common.{AllByRecursion, Bool, Equal, IsStrictlySortedBy, IsTotalOrder, Less, List, None, Object, Objects, Option, Ordering, PageEntry, Some, Upload, UploadRef, Uploads, [], and_parts, ap, arith, begins, cond, drop, false, filter, find, inl, inr, is_behind, is_eq, is_lt, keys_of, keys_on, last_of, length, less_of, listed, lt, lt_trans, map, map_sorted, nat_cmp, nat_cmp_total, on_total, ordering_then, ref_cmp, ref_of, refl, refs, sorted_head, sorted_tail, suc, sym, take, text_cmp, text_in, text_total, then_total, true, true_or_false, zero, ℕ, ◌&&◌, ◌++◌, ◌+◌, ◌∙◌, ◌∷◌, ◌≡◌}
 use Rattle.std.proofs.Math.Bool.{and-false, and-true}
-use Rattle.proof_base.proofs.Members.{true_or_false}
-use Rattle.proof_base.proofs.Common.{and_parts, then_total, on_total, sorted_head, sorted_tail}
 use Rattle.std.specs.FinMap as fin
-use Rattle.std.specs.List.Sorted.{IsStrictlySortedBy}
-use Rattle.proof_base.proofs.Less.{lt, lt_trans, less_of}
-use Rattle.proof_base.proofs.Tree.{map_sorted}
 use Rattle.s3_types.specs.Multipart as uploads
 use Rattle.store_frame.specs.Walk.{walked}
 use Rattle.store_frame.proofs.Listed.{walked_listed, listed_behind}
-use Rattle.list_walk.specs.Walks.{keys_on, last_of}
 use Rattle.list_walk.specs.Left.{one_if as one}
 use Rattle.list_walk.proofs.Counting.{count, count_more, AreNew, count_made}
 

@@ -1,14 +1,7 @@
 -- What is left of the live uploads behind a page of them.
-use Rattle.std.proofs.Common.{◌≡◌, ℕ, inl, inr, zero, suc, Bool, true, false, List, [], ◌∷◌, ◌++◌, take, drop, map, Option, Some, None, refl, sym, ap, subst, ◌∙◌}
-use Rattle.proof_base.proofs.Members.{true_or_false}
-use Rattle.proof_base.proofs.Common.{sorted_head, sorted_tail}
-use Rattle.store_frame.specs.Prelude.{filter, AllByRecursion, is_lt, Less, Uploads, begins, ref_cmp, refs, is_behind, UploadRef}
-use Rattle.std.specs.List.Sorted.{IsStrictlySortedBy}
+use Rattle.list_walk.proofs.Common.{AllByRecursion, Bool, IsStrictlySortedBy, Less, List, None, Option, Some, UploadRef, Uploads, [], ap, begins, drop, false, filter, inl, inr, irrefl, is_behind, is_lt, last_ref, lt, lt_not, lt_trans, map, map_sorted, ref_cmp, refl, refs, sorted_head, sorted_tail, subst, suc, sym, take, true, true_or_false, zero, ℕ, ◌++◌, ◌∙◌, ◌∷◌, ◌≡◌}
 use Rattle.std.specs.FinMap as fin
-use Rattle.proof_base.proofs.Less.{lt, irrefl, lt_trans, lt_not}
-use Rattle.proof_base.proofs.Tree.{map_sorted}
 use Rattle.s3_types.specs.Multipart.{listed}
-use Rattle.list_walk.specs.Walks.{last_ref}
 use Rattle.list_walk.proofs.Listing.{refs_total}
 
 -- what comes behind those that come behind m does too

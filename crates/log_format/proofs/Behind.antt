@@ -1,9 +1,5 @@
 -- A row whose last field is read behind its others.
-use Rattle.std.proofs.Common.{◌≡◌, ℕ, List, Ok, Result, ap, ◌∙◌, sym, subst}
-use Rattle.s3_types.specs.Prelude.{◌>>=◌, Fails}
-use Rattle.s3_types.specs.declared.request.Request.{Request}
-use Rattle.log_format.specs.declared.fault.LogFault.{LogFault}
-use Rattle.log_format.specs.Fault.{wanting}
+use Rattle.log_format.proofs.Common.{Fails, List, LogFault, Ok, Request, Result, ap, subst, sym, wanting, ℕ, ◌>>=◌, ◌∙◌, ◌≡◌}
 use Rattle.log_format.specs.Reading.{Read, pair_at, paired, alone, row_of}
 
 module _ {A B : Type 0} (make : A × B → Request) (at : ℕ) (first : List ℕ → Read A) (second : List ℕ → Read B) (bytes : List ℕ) (a : A) (rest : List ℕ) where

@@ -1,15 +1,5 @@
 -- What is read of a change is spelled so, and what is spelled so is read.
-use Rattle.std.proofs.Common.{◌≡◌, ℕ, zero, suc, ◌+◌, ◌^◌, ◌<◌, false, eqb, ◌==◌, List, [], ◌∷◌, ◌++◌, length, Option, Some, None, Result, Ok, Err, refl, sym, ap, subst, ◌∙◌, arith, inl, inr}
-use Rattle.s3_types.specs.Prelude.{w32, w64, is_utf8, is_bucket, is_key}
-use Rattle.proof_base.proofs.Common.{cases_eq, eqb-true, nat_tests, append-nil, nil_from_length}
-use Rattle.proof_base.proofs.Reading.{parted, passed}
-use Rattle.proof_base.proofs.Bytes.{IsBytes, IsReader}
-use Rattle.s3_types.specs.declared.request.Request.{Request}
-use Rattle.s3_types.specs.declared.request.Request.TheVariants.{MakeBucket, PutObject, GetObject, HeadObject, DeleteObject, DeleteObjects, CopyObject, ListPage, CreateUpload, UploadPart, CompleteUpload, AbortUpload, ListParts, ListUploads, ClusterPut, ClusterRename, ClusterGet, ClusterDelete, ClusterList}
-use Rattle.log_format.specs.declared.fault.LogFault.{LogFault}
-use Rattle.log_format.specs.declared.fault.LogFault.TheVariants.{Bad}
-use Rattle.log_format.specs.Change.{header, IsAny, IsText, IsBucket, IsKey, IsBelow, IsNamed, AreBoth, AreFew, IsTarget, IsUpload, IsChange}
-use Rattle.log_format.specs.Log.{block, short, long, counted, target, upload, named, body}
+use Rattle.log_format.proofs.Common.{AbortUpload, AreBoth, AreFew, Bad, ClusterDelete, ClusterGet, ClusterList, ClusterPut, ClusterRename, CompleteUpload, CopyObject, CreateUpload, DeleteObject, DeleteObjects, Err, GetObject, HeadObject, IsAny, IsBelow, IsBucket, IsBytes, IsChange, IsKey, IsNamed, IsReader, IsTarget, IsText, IsUpload, List, ListPage, ListParts, ListUploads, LogFault, MakeBucket, None, Ok, Option, PutObject, Request, Result, Some, UploadPart, [], ap, append-nil, arith, block, body, cases_eq, counted, eqb, eqb-true, false, header, inl, inr, is_bucket, is_key, is_utf8, length, long, named, nat_tests, nil_from_length, parted, passed, refl, short, subst, suc, sym, target, upload, w32, w64, zero, ℕ, ◌++◌, ◌+◌, ◌<◌, ◌==◌, ◌^◌, ◌∙◌, ◌∷◌, ◌≡◌}
 use Rattle.log_format.specs.Reading.{Read, byte_at, number_at, block_at, text_at, pair_at, counted_at, named_at, target_at, upload_at, header_in, row_of, make_bucket_in, put_object_in, delete_object_in, delete_objects_in, copy_object_in, create_upload_in, upload_part_in, complete_upload_in, abort_upload_in, kind_in, change_in}
 use Rattle.log_format.proofs.Steps.{byte_takes, byte_again, short_reader, long_reader, block_reader, text_reader, pair_reader, counted_reader, named_reader}
 

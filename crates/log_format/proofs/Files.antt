@@ -1,15 +1,6 @@
 -- What is read of a file is what it stands for, and what a file stands for is read.
-use Rattle.std.proofs.Common.{◌≡◌, ◌≢◌, ℕ, zero, suc, ◌^◌, ◌<◌, ◌≤◌, ◌==◌, Bool, true, false, if◌then◌else◌, List, [], ◌∷◌, ◌++◌, length, take, drop, Result, Ok, Err, refl, sym, ap, subst, ◌∙◌, append_assoc, arith, inl, inr}
-use Rattle.s3_types.specs.Prelude.{AllByRecursion, ◌>>=◌}
-use Rattle.proof_base.proofs.Common.{cases_eq, nat_tests, take_at, drop_at, take-append-drop, length-append, append-nil, flat_map-cons, bytes_eq-Decides}
-use Rattle.proof_base.proofs.Reading.{parted, same_ok}
-use Rattle.proof_base.proofs.Bytes.{IsBytes, IsBytes-drop, Takes}
-use Rattle.s3_types.specs.declared.request.Request.{Request}
-use Rattle.log_format.specs.declared.fault.LogFault.{LogFault}
+use Rattle.log_format.proofs.Common.{AllByRecursion, Bool, Err, IsBytes, IsBytes-drop, IsChange, List, LogFault, Ok, Request, Result, StandsFor, Takes, [], ap, append-nil, append_assoc, arith, block, body, bytes_eq-Decides, cases_eq, drop, drop_at, false, flat_map-cons, headed, if◌then◌else◌, inl, inr, length, length-append, long, magic, nat_tests, opened, parted, record_of, refl, same_ok, subst, suc, sym, take, take-append-drop, take_at, true, zero, ℕ, ◌++◌, ◌<◌, ◌==◌, ◌>>=◌, ◌^◌, ◌∙◌, ◌∷◌, ◌≡◌, ◌≢◌, ◌≤◌}
 use Rattle.log_format.specs.declared.held.Held.{Held}
-use Rattle.log_format.specs.Change.{IsChange}
-use Rattle.log_format.specs.Log.{block, long, body, record_of, opened, magic, headed}
-use Rattle.log_format.specs.File.{StandsFor}
 use Rattle.log_format.specs.Reading.{place, byte_at, block_at, change_in, record_at, changes_at, logged_in, is_log, held_in}
 use Rattle.log_format.proofs.Steps.{byte_takes, byte_again, block_takes, block_again}
 use Rattle.log_format.proofs.Changes.{change_takes, change_again}

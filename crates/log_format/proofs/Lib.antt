@@ -3,3 +3,4 @@ pub mod Steps
 pub mod Changes
 pub mod Files
 pub mod Behind
+mod Common

@@ -1,13 +1,6 @@
 -- Steps of reading: what a step took from the front, and that it reads again what was written.
-use Rattle.std.proofs.Common.{◌≡◌, ℕ, zero, suc, ◌+◌, ◌^◌, ◌<◌, ◌≤◌, Bool, true, false, List, [], ◌∷◌, ◌++◌, length, slice_index, Ok, refl, sym, ap, subst, ◌∙◌, append_assoc, arith}
-use Rattle.s3_types.specs.Prelude.{Width, w32, w64, byte_len, from_be_bytes, to_be_bytes, list_all, flat_map, AllByRecursion, ◌>>=◌, is_hex}
-use Rattle.proof_base.proofs.Common.{length-append, flat_map-cons}
-use Rattle.proof_base.proofs.Bytes.{IsBytes, Takes, Takes-then, IsReader, front_takes, front_again, IsWide, wide32, wide64}
-use Rattle.proof_base.proofs.Reading.{parted, same_ok, passed, unmade}
+use Rattle.log_format.proofs.Common.{AllByRecursion, AreBoth, AreDigits, AreFew, Bad, Bool, IsAny, IsBelow, IsBytes, IsNamed, IsReader, IsWide, List, Ok, Takes, Takes-then, Width, [], ap, append_assoc, arith, block, byte_len, counted, false, flat_map, flat_map-cons, from_be_bytes, front_again, front_takes, is_hex, length, length-append, list_all, long, named, parted, passed, refl, same_ok, short, slice_index, subst, suc, sym, to_be_bytes, true, unmade, w32, w64, wide32, wide64, zero, ℕ, ◌++◌, ◌+◌, ◌<◌, ◌>>=◌, ◌^◌, ◌∙◌, ◌∷◌, ◌≡◌, ◌≤◌}
 use Rattle.s3_types.specs.declared.request.NamedPart.{NamedPart}
-use Rattle.log_format.specs.declared.fault.LogFault.TheVariants.{Bad}
-use Rattle.log_format.specs.Change.{IsAny, IsBelow, AreDigits, AreBoth, AreFew, IsNamed}
-use Rattle.log_format.specs.Log.{block, short, long, counted, named}
 use Rattle.log_format.specs.Reading.{Read, bytes_at, byte_at, number_at, block_at, text_at, pair_at, list_at, counted_at, digits_at, named_of, named_at}
 
 -- ---- bytes

@@ -1,6 +1,5 @@
 -- Counts of sendings one after another.
-use Rattle.std.proofs.Common.{◌≡◌, ℕ, ◌+◌, ◌≤◌, false, List, [], ◌∷◌, ◌++◌, length, Option, sym, ap, subst, ◌∙◌, arith, append_assoc, length-append}
-use Rattle.machine.specs.Prelude.{is_unanswered, Fate, Entry, AreAnswered, Counted}
+use Rattle.machine.proofs.Common.{AreAnswered, Counted, Entry, Fate, List, Option, [], ap, append_assoc, arith, false, is_unanswered, length, length-append, subst, sym, ℕ, ◌++◌, ◌+◌, ◌∙◌, ◌∷◌, ◌≡◌, ◌≤◌}
 
 cancel : (l a b : List Entry) → l ++ a ≡ l ++ b → a ≡ b
 cancel [] a b h = h

@@ -1,9 +1,5 @@
 -- A run whose machine asks nothing more is over, and whole where no request wore out.
-use Rattle.std.proofs.Common.{◌≡◌, ℕ, ◌<◌, Bool, true, false, List, Option, None, Ok, Err, sym, ap, subst, ◌∙◌}
-use Rattle.machine.specs.Prelude.{Scene, Fate, Request, Actor, Entry, Item, Standing, retried, Drove, Driving, IsRun, standing_after}
-use Rattle.machine.specs.Drove.{IsOver}
-use Rattle.machine.specs.declared.retrying.Retrying.{Retrying}
-use Rattle.machine.specs.declared.driving.DriveStop.TheVariants.{StoreFault}
+use Rattle.machine.proofs.Common.{Actor, Bool, Driving, Drove, Entry, Err, Fate, IsOver, IsRun, Item, List, None, Ok, Option, Request, Retrying, Scene, Standing, StoreFault, ap, false, retried, standing_after, subst, sym, true, ℕ, ◌<◌, ◌∙◌, ◌≡◌}
 use Rattle.machine.proofs.Tries.{tried_worn, tried_whole}
 use Rattle.machine.proofs.Literal.{literal_worn, literal_whole}
 

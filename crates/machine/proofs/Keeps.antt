@@ -1,6 +1,5 @@
 -- What each sending keeps, a run of a machine that is alone keeps.
-use Rattle.std.proofs.Common.{◌≡◌, ℕ, zero, suc, Bool, true, false, List, Option, Some, sym, subst, arith}
-use Rattle.machine.specs.Prelude.{Scene, answer, apply, effect, after_all, AreHonest, IsHonestOutcome, Request, Outcome, Answered, Slow, RequestLost, ReplyLost, Entry, Follows, run, Item, Retried, wants_of, step, unanswered_by}
+use Rattle.machine.proofs.Common.{Answered, AreHonest, Bool, Entry, Follows, IsHonestOutcome, Item, List, Option, Outcome, ReplyLost, Request, RequestLost, Retried, Scene, Slow, Some, after_all, answer, apply, arith, effect, false, run, step, subst, suc, sym, true, unanswered_by, wants_of, zero, ℕ, ◌≡◌}
 use Rattle.machine.proofs.Keeping.{Keeps}
 use Rattle.machine.proofs.Runs.{run_keeps}
 

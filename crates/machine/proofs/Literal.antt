@@ -1,8 +1,6 @@
 -- Where nothing of the present request was sent before, a run wore out exactly where the entries alone say so.
-use Rattle.std.proofs.Common.{◌≡◌, ℕ, Bool, true, false, List, Option, Some, None, is_some, sym, ap, subst, ◌∙◌, arith}
-use Rattle.machine.specs.Prelude.{Request, Entry, Follows, Item, Retried, wants_of, fresh, step, has_worn}
+use Rattle.machine.proofs.Common.{Bool, Entry, Follows, Item, List, None, Option, Request, Retried, Some, ap, arith, false, false≢true, fresh, has_worn, is_some, step, subst, sym, true, wants_of, ℕ, ◌∙◌, ◌≡◌}
 use Rattle.retries.specs.Prelude.{worn_in, WornFirst}
-use Rattle.std.proofs.lemmas.Bool.{false≢true}
 use Rattle.retries.proofs.First.{counted_first, some_worn}
 
 first_worn : (retries : ℕ) (part : List Entry) (o : Option Request) (b : Bool) → WornFirst retries part o → b ≡ is_some o → b ≡ true → (r : Request) × WornFirst retries part (Some r)

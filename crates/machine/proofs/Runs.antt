@@ -1,12 +1,7 @@
 -- A run goes on by one sending.
-use Rattle.std.proofs.Common.{◌≡◌, ℕ, zero, suc, take, ◌+◌, ◌*◌, ◌<◌, ◌≤◌, Bool, true, false, ◌||◌, List, [], ◌∷◌, ◌++◌, length, Option, Some, refl, sym, ap, subst, ◌∙◌, arith}
-use Rattle.std.specs.Prelude.{IsTrue}
+use Rattle.machine.proofs.Common.{Actor, Answered, AreBy, AreForetold, AreHonest, Bool, Counted, Driving, Entry, Fate, Follows, Got, IsForetold, IsHonestOutcome, IsRun, IsSent, IsTrue, Item, Laws, List, Option, Outcome, Reply, ReplyLost, Request, RequestLost, Retried, Retrying, Scene, Slow, Some, Standing, WornOut, [], after_all, answer, ap, append_assoc, apply, arith, effect, false, has_worn, is_unanswered, is_zero, length, length-append, refl, retried, run, standing_after, step, subst, suc, sym, take, tells_worn, true, unanswered_by, wants_of, wears, zero, ℕ, ◌*◌, ◌++◌, ◌+◌, ◌<◌, ◌||◌, ◌∙◌, ◌∷◌, ◌≡◌, ◌≤◌}
 use Rattle.retries.proofs.Runs.{run_more, follows_more, has_worn_more}
 use Rattle.machine.specs.Turns.{turn_if, turn_of}
-use Rattle.std.proofs.Common.{append_assoc, length-append}
-use Rattle.machine.specs.Prelude.{Scene, answer, apply, effect, after_all, AreHonest, IsHonestOutcome, is_unanswered, IsForetold, AreForetold, Fate, Request, Actor, Reply, Outcome, Answered, Slow, RequestLost, ReplyLost, Entry, Follows, run, Item, Got, WornOut, Retried, wants_of, step, wears, is_zero, has_worn, unanswered_by, Standing, Laws, retried, AreBy, tells_worn, Counted, IsRun, Driving, standing_after}
-use Rattle.machine.specs.Drove.{IsSent}
-use Rattle.machine.specs.declared.retrying.Retrying.{Retrying}
 use Rattle.machine.proofs.Counts.{counted_then}
 use Rattle.proof_base.proofs.Numbers.{more_times, no_more_times}
 

@@ -1,9 +1,6 @@
 -- A run falls into tries, and wore out exactly where one of them did.
-use Rattle.std.proofs.Common.{◌≡◌, ℕ, zero, suc, ◌+◌, ◌<◌, ◌≤◌, Bool, true, false, ◌||◌, List, [], ◌∷◌, ◌++◌, length, Option, Some, None, Ok, Err, refl, sym, ap, subst, ◌∙◌, arith, append_assoc, append-nil}
-use Rattle.machine.specs.Prelude.{is_unanswered, Request, Outcome, Answered, Slow, Entry, Follows, run, Item, Retried, wants_of, step, wears, is_zero, has_worn, unanswered_by, some_worn, HasUnanswered, Tried}
-use Rattle.std.proofs.lemmas.Bool.{false≢true, or_right}
+use Rattle.machine.proofs.Common.{Answered, Bool, Entry, Err, Follows, HasUnanswered, Item, List, NoMemory, None, Ok, Option, Outcome, Request, Retried, Slow, Some, StoreFault, Tried, [], ap, append-nil, append_assoc, arith, false, false≢true, has_worn, is_unanswered, is_zero, length, or_right, refl, run, some_worn, step, subst, suc, sym, true, unanswered_by, wants_of, wears, zero, ℕ, ◌++◌, ◌+◌, ◌<◌, ◌||◌, ◌∙◌, ◌∷◌, ◌≡◌, ◌≤◌}
 use Rattle.machine.specs.Tries.{AreUnanswered, Try, IsTry, AreTries, IsClosed, spare_after, answer_in, sendings_of, is_worn, IsBrokenOff}
-use Rattle.machine.specs.declared.driving.DriveStop.TheVariants.{StoreFault, NoMemory}
 
 -- the request that is present is the first of these
 abbrev Leads : Option Request → List Try → List Entry → Type 0

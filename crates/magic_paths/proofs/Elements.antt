@@ -1,13 +1,7 @@
 -- The elements of the layout's keys.
-use Rattle.std.proofs.Common.{◌≡◌, ◌≢◌, ℕ, ◌+◌, ◌<◌, ◌≤◌, ◌^◌, ◌%◌, ◌==◌, ◌&&◌, nat_le, Bool, true, false, List, [], ◌∷◌, ◌++◌, length, codes, refl, sym, ap, ◌∙◌, arith, append_assoc}
-use Rattle.s3_types.specs.Prelude.{list_all, decimal, is_other, are_elements, is_element, is_id_byte, is_job_id}
-use Rattle.path_keys.proofs.Common.{and_parts, nat_tests, list_all-append, decimal_nonempty, one_part}
+use Rattle.magic_paths.proofs.Common.{Bool, List, [], and_parts, ap, append_assoc, are_elements, arith, attempt_key, codes, decimal, decimal_nonempty, elements_append, false, is_element, is_id_byte, is_job_id, is_key, is_other, length, list_all, list_all-append, nat_le, nat_tests, one_part, refl, set_key, some_key, success_key, sym, true, ℕ, ◌%◌, ◌&&◌, ◌++◌, ◌+◌, ◌<◌, ◌==◌, ◌^◌, ◌∙◌, ◌∷◌, ◌≡◌, ◌≢◌, ◌≤◌}
 use Rattle.std.proofs.lemmas.Fmt.{decimal_by_steps}
 use Rattle.words.specs.Parts.{parts_from}
-use Rattle.path_keys.specs.Paths.{is_key}
-use Rattle.path_keys.proofs.Keys.{some_key}
-use Rattle.path_keys.proofs.Beneath.{elements_append}
-use Rattle.magic_paths.specs.Layout.{attempt_key, set_key, success_key}
 
 abbrev is_digit : ℕ → Bool
 is_digit b = nat_le 48 b && nat_le b 57

@@ -1,9 +1,5 @@
 -- The last element of a text.
-use Rattle.std.proofs.Common.{◌≡◌, ℕ, ◌+◌, ◌-◌, true, List, [], ◌∷◌, ◌++◌, length, drop, sym, ap, ◌∙◌, arith, length-append}
-use Rattle.s3_types.specs.Prelude.{list_all, is_other}
-use Rattle.path_keys.proofs.Common.{drop-append_seam, one_part}
-use Rattle.words.specs.Parts.{parts_of}
-use Rattle.path_keys.proofs.Last.{parts_round}
+use Rattle.magic_paths.proofs.Common.{List, [], ap, arith, drop, drop-append_seam, is_other, length, length-append, list_all, one_part, parts_of, parts_round, sym, true, ℕ, ◌++◌, ◌+◌, ◌-◌, ◌∙◌, ◌∷◌, ◌≡◌}
 
 last_of : (es : List (List ℕ)) (e : List ℕ) → drop (length (es ++ e ∷ []) - 1) (es ++ e ∷ []) ≡ e ∷ []
 last_of es e =

@@ -1,11 +1,6 @@
 -- What is kept of a key's elements, and that it makes a key.
-use Rattle.std.proofs.Common.{◌≡◌, ◌≢◌, ℕ, ◌+◌, ◌<◌, ◌≤◌, ◌-◌, ◌==◌, Bool, true, false, List, [], ◌∷◌, ◌++◌, length, take, drop, codes, if◌then◌else◌, refl, sym, ap, ◌∙◌, arith, length-append}
-use Rattle.s3_types.specs.Prelude.{list_all, list_any, after_first, position_or_len, is_element}
-use Rattle.path_keys.proofs.Common.{and_parts, take-append-drop, list_all-append}
+use Rattle.magic_paths.proofs.Common.{Bool, List, [], after_first, after_magic, and_parts, ap, arith, before_magic, codes, drop, false, final_elements, if◌then◌else◌, is_element, is_key, is_word, kept, key_from, length, length-append, list_all, list_all-append, list_any, position_or_len, refl, some_key, sym, take, take-append-drop, true, ℕ, ◌++◌, ◌+◌, ◌-◌, ◌<◌, ◌==◌, ◌∙◌, ◌∷◌, ◌≡◌, ◌≢◌, ◌≤◌}
 use Rattle.words.specs.Parts.{parts_of, parts_from}
-use Rattle.path_keys.specs.Paths.{is_key}
-use Rattle.path_keys.proofs.Keys.{some_key, key_from}
-use Rattle.magic_paths.specs.Finals.{is_word, before_magic, after_magic, kept, final_elements}
 
 parts_none : (s : ℕ) (part text : List ℕ) → parts_from s part text ≢ []
 unfolding parts_from
@@ -24,9 +19,9 @@ halves n es h = and_parts (list_all is_element (take n es)) (list_all is_element
 
 kept_elements : (es : List (List ℕ)) → list_all is_element es ≡ true → list_all is_element (kept es) ≡ true
 kept_elements es h = elim (list_any (is_word (codes "__base")) es) as (λ b. list_all is_element (if b then after_first (is_word (codes "__base")) es else drop (length es - 1) es) ≡ true) [
-      true ↦ (halves (position_or_len (is_word (codes "__base")) es + 1) es h).1
-    | false ↦ (halves (length es - 1) es h).1
-  ]
+  | true ↦ (halves (position_or_len (is_word (codes "__base")) es + 1) es h).1
+  | false ↦ (halves (length es - 1) es h).1
+]
 
 final_are : (es : List (List ℕ)) → list_all is_element es ≡ true → list_all is_element (final_elements es) ≡ true
 final_are es h =

@@ -1,8 +1,5 @@
 -- The lengths of the layout's keys.
-use Rattle.std.proofs.Common.{ℕ, ◌<◌, ◌≤◌, ◌^◌, ◌≡◌, true, List, length, arith, length-append}
-use Rattle.s3_types.specs.Prelude.{decimal, is_job_id}
-use Rattle.path_keys.proofs.Common.{and_parts, leb-true, length-decimal-le}
-use Rattle.magic_paths.specs.Layout.{attempt_key, set_key, success_key}
+use Rattle.magic_paths.proofs.Common.{List, and_parts, arith, attempt_key, decimal, is_job_id, leb-true, length, length-append, length-decimal-le, set_key, success_key, true, ℕ, ◌<◌, ◌^◌, ◌≡◌, ◌≤◌}
 use Rattle.proof_base.proofs.Lists.{short_number}
 
 id_short : (id : List ℕ) → is_job_id id ≡ true → length id ≤ 64

@@ -4,3 +4,4 @@ pub mod Kept
 pub mod Lengths
 pub mod Tails
 pub mod Walked
+mod Common

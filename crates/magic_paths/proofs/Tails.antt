@@ -1,9 +1,5 @@
 -- The keys and the cluster's paths of different places are different.
-use Rattle.std.proofs.Common.{◌≡◌, ℕ, ◌+◌, ◌-◌, ◌<◌, ◌≤◌, ◌^◌, not, nat_eq, true, false, cond, List, [], ◌∷◌, ◌++◌, length, drop, get_or, refl, sym, ap, ◌∙◌, arith, append_assoc, length-append, codes}
-use Rattle.s3_types.specs.Prelude.{decimal, list_all, ends_with, text_eq, text_equiv, is_other, is_job_id, begins}
-use Rattle.path_keys.proofs.Common.{append_cancel_left, append_cancel_right, decimal_injective, and_parts, true≢false, eqb-true, nat_tests}
-use Rattle.path_keys.specs.Paths.{below}
-use Rattle.magic_paths.specs.Layout.{magic_prefix, attempt_key}
+use Rattle.magic_paths.proofs.Common.{List, [], and_parts, ap, append_assoc, append_cancel_left, append_cancel_right, arith, attempt_key, begins, below, codes, cond, decimal, decimal_injective, drop, ends_with, eqb-true, false, get_or, is_job_id, is_other, length, length-append, list_all, magic_prefix, nat_eq, nat_tests, not, refl, sym, text_eq, text_equiv, true, true≢false, ℕ, ◌++◌, ◌+◌, ◌-◌, ◌<◌, ◌^◌, ◌∙◌, ◌∷◌, ◌≡◌, ◌≤◌}
 use Rattle.magic_paths.specs.Places.{Place, FilePlace, MarkerPlace, RecordPlace, SetPlace, SuccessPlace, ClusterPlace, TemporaryPlace, StagedSetPlace, key_at, path_at, is_record, IsPlace, IsClusterPlace, is_magic_place}
 use Rattle.magic_paths.proofs.Elements.{id_others, decimal_without}
 

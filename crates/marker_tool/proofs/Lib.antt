@@ -4,3 +4,4 @@ pub mod MissingLaws
 pub mod SameTree
 pub mod ToolLaws
 pub mod WorkLaws
+mod Common

@@ -1,15 +1,11 @@
 -- What a listing without a delimiter has: each object below a prefix behind a text, once and in order, with its length.
 use Rattle.std.specs.Prelude.{◌≡◌, ℕ, Bool, true, false, cond, List, [], ◌∷◌, ◌++◌, map, length, Some, None}
-use Rattle.std.proofs.Common.{refl, sym, ap, subst, ◌∙◌, inl, inr}
-use Rattle.fs_ops.specs.Prelude.{filter, is_lt, Less, text_cmp, text_total, Objects, begins, entry_of, listed, text_in, Object, PageEntry, IsIn, RisesFrom, last_from}
+use Rattle.marker_tool.proofs.Common.{IsIn, Less, Object, Objects, PageEntry, RisesFrom, ap, begins, entry_of, false_true, filter, found_at, from_prefix, in_filter, in_map, inl, inr, irrefl, is_lt, last_from, listed, listed_all, listed_rises, lower, lt, lt_trans, map_sorted, refl, some_is, subst, sym, text_cmp, text_exact, text_in, text_total, ◌∙◌}
 use Rattle.store_frame.specs.Prelude.{Ordering, Equal, Greater}
-use Rattle.path_keys.proofs.Common.{lt, irrefl, lt_trans, map_sorted, from_prefix, some_is, false_true, text_exact, in_map, in_filter}
 use Rattle.std.specs.FinMap as fin
 use Rattle.proof_base.proofs.Less.{lt_back}
 use Rattle.s3_types.specs.declared.reply.PageEntry.TheVariants.{Object as Single}
-use Rattle.bucket_ops.proofs.Rising.{lower}
 use Rattle.fs_ops.proofs.Children.{folded_sub}
-use Rattle.store_frame.proofs.Flat.{listed_rises, listed_all, found_at}
 
 -- each object that stands below a prefix behind a text, once, in order, with the length of its bytes
 pub record IsListing (q l : List ℕ) (z : Objects) (es : List PageEntry) : Type 0 where

@@ -1,15 +1,8 @@
 -- What the markers of a listing are where the objects stand that were listed.
 use Rattle.std.specs.Prelude.{◌≡◌, ℕ, zero, suc, ◌==◌, ◌<◌, Bool, true, false, cond, List, [], ◌∷◌, ◌++◌, map, length, Some, if◌then◌else◌}
-use Rattle.std.proofs.Common.{refl, sym, ap, subst, ◌∙◌, inl, inr, arith}
-use Rattle.path_keys.proofs.Common.{false≢true, eqb-true, lt, irrefl, lt_not, between, false_true, some_is, in_front, in_back, in_map, map_in, in_filter, filter_in}
-use Rattle.fs_ops.specs.Prelude.{filter, text_cmp, text_total, Objects, begins, text_in, Object, PageEntry, Prefix, below, IsIn, RisesFrom, is_marker, Stands, HasMore, IsSurplus, AreAll, MarkerKind, Surplus, Leaf, Odd, MarkerEntry}
+use Rattle.marker_tool.proofs.Common.{AreAll, HasBytes, HasMarkers, HasMore, IsBare, IsIn, IsKind, IsSurplus, Leaf, MarkerEntry, MarkerKind, Object, Objects, Odd, PageEntry, Prefix, RisesFrom, Stands, Surplus, ap, arith, begins, begins_trans, behind, below, between, eqb-true, false_true, false≢true, filter, filter_in, goes_on, in_back, in_filter, in_front, in_map, inl, inr, irrefl, is_marker, is_surplus, kind_of, lower, lt, lt_not, map_in, marker_at, markers_in, refl, some_is, sorted, subst, surplus_in, sym, text_cmp, text_in, text_total, ◌∙◌}
 use Rattle.std.specs.FinMap as fin
 use Rattle.s3_types.specs.declared.reply.PageEntry.TheVariants.{Object as Single}
-use Rattle.store_frame.proofs.Flat.{behind}
-use Rattle.fs_tree.specs.MarkerTool.{IsBare, HasBytes, IsKind, HasMarkers}
-use Rattle.fs_tree.proofs.Begins.{begins_trans}
-use Rattle.marker_tool.specs.Markers.{goes_on, kind_of, marker_at, markers_in, is_surplus, surplus_in}
-use Rattle.bucket_ops.proofs.Rising.{lower, sorted}
 use Rattle.marker_tool.proofs.Listing.{IsListing, above, rises_filter, behind_first}
 use Rattle.proof_base.proofs.Numbers.{positive}
 

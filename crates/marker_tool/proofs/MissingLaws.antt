@@ -1,17 +1,11 @@
 -- What the missing markers of a listing are where the objects stand that were listed.
 use Rattle.std.specs.Prelude.{◌≡◌, ◌⊎◌, ℕ, zero, suc, ◌<◌, ◌&&◌, not, Bool, true, false, List, [], ◌∷◌, ◌++◌, map, length, Option, Some, None}
-use Rattle.std.proofs.Common.{refl, sym, ap, subst, ◌∙◌, inl, inr, arith, length-append}
-use Rattle.path_keys.proofs.Common.{false≢true, map-append, not_so, lt, irrefl, lt_trans, lt_not, between, false_true, true_or_false, none_some, in_append, in_front, in_back, in_map, map_in, in_filter, filter_in}
-use Rattle.fs_ops.specs.Prelude.{filter, text_cmp, text_total, trimmed, Objects, begins, text_in, Object, PageEntry, Prefix, below, marker_of, keys_above, IsIn, RisesFrom, last_from, is_marker, IsMissing, AreAll}
+use Rattle.marker_tool.proofs.Common.{AreAll, Cut, IsIn, IsMissing, Object, Objects, PageEntry, Prefix, RisesFrom, above_begins, above_marker, ap, arith, begins, begins_above, behind, below, between, cut, false_true, false≢true, filter, filter_in, in_append, in_back, in_filter, in_front, in_map, inl, inr, irrefl, is_due, is_marker, joins, keys_above, last_from, length-append, lower, lt, lt_not, lt_trans, map-append, map_in, marker_ends, marker_of, markers_above, missing_at, missing_from, missing_in, more_above, none_above, none_some, not_so, other_end, refl, sorted, subst, sym, text_cmp, text_in, text_total, trimmed, true_or_false, ◌∙◌}
 use Rattle.std.specs.FinMap as fin
 use Rattle.s3_types.specs.declared.reply.PageEntry.TheVariants.{Object as Single}
 use Rattle.dir_markers.proofs.Above.{trimmed_marker}
-use Rattle.store_frame.proofs.Flat.{behind, joins}
 use Rattle.fs_tree.proofs.Begins.{begins_trans, begins_length, begins_all, begins_marker, marker_is, marker_at}
-use Rattle.fs_tree.proofs.Above.{Cut, cut, none_above, more_above, above_begins, begins_above, above_marker, marker_ends, other_end}
-use Rattle.marker_tool.specs.Markers.{markers_above, is_due, missing_at, missing_from, missing_in}
 use Rattle.marker_tool.proofs.MarkerLaws.{some_marker}
-use Rattle.bucket_ops.proofs.Rising.{lower, sorted}
 use Rattle.marker_tool.proofs.Listing.{IsListing, above, rises_from, rises_end, rises_some, last_less, behind_first}
 use Rattle.std.proofs.lemmas.Bool.{and_parts}
 

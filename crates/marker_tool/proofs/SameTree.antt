@@ -1,13 +1,8 @@
 -- The tree without surplus markers, and with missing ones put, is the same.
 use Rattle.std.specs.Prelude.{◌≡◌, ◌⊎◌, ℕ, true, List, [], ◌∷◌, ◌++◌, length, Some, None}
-use Rattle.std.proofs.Common.{refl, sym, subst, ◌∙◌, inl, inr}
-use Rattle.fs_ops.specs.Prelude.{Objects, without, begins, marker_of, IsIn, Stands, SomeBelow, marker, HasDir, IsDirectory, SameTree, HasMore, IsSurplus, IsMissing, AreAll, IsCleaning, IsFilling}
-use Rattle.path_keys.proofs.Common.{from_prefix, none_some, same_or_other, false_true, text_left, text_here, text_other}
+use Rattle.marker_tool.proofs.Common.{AreAll, CleansMarkers, FillsMarkers, HasDir, HasMore, IsCleaning, IsDirectory, IsFilling, IsIn, IsMissing, IsSurplus, Objects, SameTree, SomeBelow, Stands, begins, begins_trans, false_true, from_prefix, inl, inr, marker, marker_of, none_some, refl, same_or_other, subst, sym, text_here, text_left, text_other, with_markers, without, ◌∙◌}
 use Rattle.std.specs.FinMap as fin
 use Rattle.bucket_ops.proofs.Below.{is_in, gone_in, kept_out}
-use Rattle.fs_tree.specs.MarkerTool.{CleansMarkers, FillsMarkers}
-use Rattle.fs_tree.proofs.Begins.{begins_trans}
-use Rattle.marker_tool.specs.Works.{with_markers}
 use Rattle.marker_tool.proofs.Listing.{above}
 
 -- ---- what is kept at a moment

@@ -1,17 +1,13 @@
 -- The stages of the marker tool keep what they promise, whatever is done in a directory.
 use Rattle.std.specs.Prelude.{◌≡◌, ◌⊎◌, ℕ, ◌+◌, ◌<◌, ◌≤◌, nat_lt, Bool, true, false, cond, List, [], ◌∷◌, ◌++◌, length, take, drop, Result, Ok, Err, Option, Some}
-use Rattle.std.proofs.Common.{refl, sym, ap, subst, ◌∙◌, inl, inr, arith}
-use Rattle.path_keys.proofs.Common.{ltb-true, ltb-false, take-append-drop, take_all, length-drop, in_front, in_back}
-use Rattle.fs_ops.specs.Prelude.{Objects, PageEntry, IsIn, Step, Next, End, Goes, Falls, Look, There, look_of, Ask, reply_in, edited, IsPhases, MayAsk, Walked, More, Whole, walked_entries, all_below, walk_asks, fits, IsWalking, IsWalked, walk_left, LessWalked, marker_of, NoFile, IsDirectory, FsRefusal, NotFound, NotDirectory, NoSuchBucket, key_if, look_asks, prefix_of, goes_by, IsStages}
+use Rattle.marker_tool.proofs.Common.{Ask, End, Falls, FsRefusal, Goes, IsDirectory, IsIn, IsPhases, IsStages, IsWalked, IsWalking, IsWork, LessWalked, Look, MayAsk, More, Next, NoFile, NoSuchBucket, NotDirectory, NotFound, Objects, PageEntry, Step, There, Walked, Whole, all_below, ap, arith, edited, fits, goes_by, in_back, in_front, inl, inr, key_if, length-drop, look_asks, look_of, ltb-false, ltb-true, marker_of, prefix_of, refl, reply_in, subst, sym, take-append-drop, take_all, walk_asks, walk_begins, walk_falls, walk_fits, walk_goes, walk_left, walked_entries, ◌∙◌}
 use Rattle.std.proofs.Math.Seq.{take-add}
 use Rattle.std.specs.FinMap as fin
-use Rattle.bucket_ops.proofs.Walks.{walk_fits, walk_begins, walk_goes, walk_falls}
 use Rattle.fs_ops.proofs.Looks.{at_key, none_listed, first_listed}
 use Rattle.fs_ops.proofs.StepLaws.{phases_of}
 use Rattle.fs_ops.proofs.AtPathLaws.{looks_there, still_look}
 use Rattle.marker_tool.specs.declared.tool.ToolStage.{ToolStage}
 use Rattle.marker_tool.specs.declared.tool.ToolStage.TheVariants.{Here, Walk, Change}
-use Rattle.marker_tool.specs.code.Work.{IsWork}
 use Rattle.marker_tool.specs.code.Tool.{first, asks, on_key, begun, on_change, is_absent, whole, on_walked, on_walk, on, IsChanging, holds, left}
 
 module _ {A : Type 0} {keys : List ℕ → List PageEntry → List (List ℕ)} {answer : List ℕ → List PageEntry → A} {batch : ℕ} {changes : List (List ℕ) → Ask} {changed : Objects → List (List ℕ) → Objects} {gives : List ℕ → Objects → Result A FsRefusal → Objects → Type 0} {always : List ℕ → Objects → Objects → Type 0} {sends : List ℕ → Objects → Ask → Type 0} (w : IsWork keys answer batch changes changed gives always sends) where

@@ -1,17 +1,12 @@
 -- Telling, deleting and putting markers are such works.
 use Rattle.std.specs.Prelude.{◌≡◌, ℕ, List, [], ◌∷◌, length, take, drop, Result, Ok, Err}
-use Rattle.std.proofs.Common.{refl, sym, subst, inl, inr, arith}
-use Rattle.fs_ops.specs.Prelude.{Objects, without, IsIn, all_below, SameTree, IsSurplus, IsMissing, AreAll, Audits, Cleans, Fills, IsCleaning, IsFilling, FsRefusal, MarkerEntry, prefix_of, IsStill, OnlyLooks}
-use Rattle.path_keys.proofs.Common.{in_front, take-append-drop}
+use Rattle.marker_tool.proofs.Common.{AreAll, Audits, CleanSends, Cleans, FillSends, Fills, FsRefusal, IsCleaning, IsFilling, IsIn, IsMissing, IsStill, IsSurplus, IsWork, MarkerEntry, Objects, OnlyLooks, SameTree, all_below, arith, drops, in_front, inl, inr, markers_in, missing_in, prefix_of, puts, refl, subst, surplus_in, sym, take-append-drop, with_markers, without}
 use Rattle.bucket_ops.proofs.Batches.{batch_deletes}
-use Rattle.marker_tool.specs.Markers.{markers_in, surplus_in, missing_in}
 use Rattle.marker_tool.proofs.Listing.{is_listing}
 use Rattle.marker_tool.proofs.MarkerLaws.{has_markers, all_surplus}
 use Rattle.marker_tool.proofs.MissingLaws.{all_missing}
 use Rattle.marker_tool.proofs.SameTree.{without_append, with_append, cleaning_of, cleans, is_cleaning, filling_of, fills, is_filling}
-use Rattle.marker_tool.specs.code.Work.{IsWork}
 use Rattle.fs_ops.specs.Places.{bucket_asks}
-use Rattle.marker_tool.specs.Works.{drops, puts, CleanSends, FillSends, with_markers}
 
 same_tree : (z : Objects) → SameTree z z
 same_tree z = record { files = λ k f. refl; kept = λ q h. h; only = λ q h. h }

@@ -1,20 +1,10 @@
 -- The listing of uploads, walked from a place on.
-use Rattle.std.proofs.Common.{◌≡◌, ℕ, ◌≤◌, nat_lt, Bool, true, false, ◌&&◌, not, cond, List, [], ◌∷◌, ◌++◌, Option, Some, None, map, refl, sym, ap, ◌∙◌, length, take, subst, arith, append-nil}
-use Rattle.proof_base.proofs.Common.{false≢true, not-true, nat_tests, take_all, sorted_head, sorted_tail}
-use Rattle.s3_types.specs.Prelude.{filter, keys_of, entries_between, is_from_start, nat_cmp, ordering_then, is_lt, is_le, is_gt, Ordering, Less, Equal, Greater, Bound, Included, Excluded, Unbounded, text_cmp, text_total, begins, Uploads, ref_cmp, refs, is_behind}
+use Rattle.multipart.proofs.Common.{AreOwn, Bool, Bound, Equal, Excluded, Follows, Greater, Included, IsStrictlySortedBy, Less, List, None, Option, Ordering, Some, Unbounded, UploadRef, Uploads, [], and-true, ap, append-nil, arith, begins, below, cond, entries_between, false, false≢true, filter, is_behind, is_from_start, is_gt, is_le, is_lt, keyed, keys_of, le_le, length, less_of, lt, lt_back, lt_le, map, map_sorted, nat_cmp, nat_lt, nat_tests, no_less, not, not-true, ordering_then, ref_cmp, refl, refs, sorted_head, sorted_tail, subst, sym, take, take_all, text_cmp, text_total, true, ℕ, ◌&&◌, ◌++◌, ◌∙◌, ◌∷◌, ◌≡◌, ◌≤◌}
 use Rattle.std.specs.FinMap as fin
-use Rattle.std.specs.List.Sorted.{IsStrictlySortedBy}
 use Rattle.proof_base.proofs.Bools.{contrary}
-use Rattle.proof_base.proofs.Less.{lt, lt_back, le_le, lt_le, less_of}
-use Rattle.proof_base.proofs.Tree.{map_sorted}
 use Rattle.s3_types.specs.Multipart.{listed}
-use Rattle.s3_types.specs.declared.request.UploadRef.{UploadRef}
-use Rattle.multipart.specs.Index.{keyed}
-use Rattle.multipart.specs.Listing.{below, Follows, AreOwn}
 use Rattle.s3_types.proofs.Begins.{between, from_prefix}
 use Rattle.multipart.proofs.Keyed.{keys_keyed, keyed_own}
-use Rattle.proof_base.proofs.Numbers.{no_less}
-use Rattle.std.proofs.Math.Bool.{and-true}
 
 -- ---- the end of a page
 

@@ -1,14 +1,6 @@
 -- The index against the uploads.
-use Rattle.std.proofs.Common.{◌≡◌, ℕ, Bool, true, false, ◌&&◌, cond, List, [], ◌∷◌, Option, Some, None, map, refl, sym, ap, ◌∙◌, subst, T, arith}
+use Rattle.multipart.proofs.Common.{AllocError, AreOwn, Bool, CmpEqualImpliesEq, Equal, Err, FinMap, Greater, IsSomeAnd, IsTotalOrder, Less, List, None, Ok, OnErr, OnOk, Option, Ordering, Result, Some, T, Upload, UploadRef, Uploads, [], and-false, and-true, ap, arith, cond, empty, entries, entries-insert, entries_empty, entries_sorted, eq_by_cmp, exact_bytes, exact_pairs, exact_unsigned, false, false≢true, find, from_entries, get, get-entries, get-from_entries, get-insert, get-remove, insert, is_eq, is_lt, is_sorted, keyed, keyed_of, keys_of, map, nat_cmp, nat_cmp_total, on_total, ordering_then, ref_cmp, ref_of, refl, refs, remove, same_map, subst, sym, text_cmp, text_total, then_total, tied, true, with_part, ℕ, ◌&&◌, ◌∙◌, ◌∷◌, ◌≡◌}
 use Rattle.std.specs.FinMap.Entries as list
-use Rattle.std.specs.Prelude.{Result, Ok, Err, OnOk, OnErr}
-use Rattle.s3_types.specs.Prelude.{FinMap, from_entries, insert, remove, get, entries, empty, get-from_entries, get-insert, get-remove, get-entries, entries-insert, entries_sorted, same_map, find, is_sorted, eq_by_cmp, is_eq, is_lt, nat_cmp, ordering_then, Ordering, Less, Equal, Greater, IsTotalOrder, nat_cmp_total, IsSomeAnd, AllocError, text_cmp, text_total, Upload, Uploads, ref_cmp, ref_of, refs, with_part, keys_of}
-use Rattle.proof_base.proofs.Common.{then_total, on_total, false≢true, CmpEqualImpliesEq, exact_pairs, exact_bytes, exact_unsigned}
-use Rattle.proof_base.proofs.Tree.{entries_empty, tied}
-use Rattle.s3_types.specs.declared.request.UploadRef.{UploadRef}
-use Rattle.multipart.specs.Index.{keyed, keyed_of}
-use Rattle.multipart.specs.Listing.{AreOwn}
-use Rattle.std.proofs.Math.Bool.{and-false, and-true}
 
 pub refs_total : IsTotalOrder ref_cmp
 refs_total = then_total (on_total (λ r. r.key) text_total) (on_total (λ r. r.upload) nat_cmp_total)

@@ -2,3 +2,4 @@ pub mod Keyed
 pub mod Numbered
 pub mod Rows
 pub mod Follow
+mod Common

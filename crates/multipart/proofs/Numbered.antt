@@ -1,14 +1,6 @@
 -- Part numbers are 1 to 10,000, so that an upload has at most so many parts.
-use Rattle.std.proofs.Common.{◌≡◌, ℕ, ◌+◌, ◌<◌, ◌≤◌, Bool, true, false, cond, List, [], ◌∷◌, Option, Some, is_some, nat_lt, length, refl, sym, ap, ◌∙◌, arith}
-use Rattle.s3_types.specs.Prelude.{list_all, AllByRecursion, keys_of, insert, get, from_entries, get-insert, get-from_entries, get-entries, entries, find, nat_cmp, eq_by_cmp, nat_cmp_total, eq_by_cmp_equiv, Less, Parts, is_part_number, rises, rises_from}
-use Rattle.proof_base.specs.Prelude.{len, len-entries}
-use Rattle.proof_base.proofs.Common.{nat_tests, sorted_head, sorted_tail, false≢true, and_parts, exact_unsigned}
-use Rattle.std.specs.List.Sorted.{IsStrictlySortedBy}
-use Rattle.std.proofs.lemmas.Map.Entries.{length-keys_of}
-use Rattle.proof_base.proofs.Numbers.{less_is, below_is}
+use Rattle.multipart.proofs.Common.{AllByRecursion, AreNumbered, Bool, IsStrictlySortedBy, Less, List, Option, Parts, Some, [], and_parts, ap, arith, below_is, cond, entries, eq_by_cmp, eq_by_cmp_equiv, exact_unsigned, false, false≢true, find, from_entries, get, get-entries, get-from_entries, get-insert, insert, is_part_number, is_some, keys_of, len, len-entries, length, length-keys_of, less_is, list_all, map_sorted, nat_cmp, nat_cmp_total, nat_lt, nat_tests, refl, rises, rises_from, sorted_head, sorted_tail, sym, tied, true, ℕ, ◌+◌, ◌<◌, ◌∙◌, ◌∷◌, ◌≡◌, ◌≤◌}
 use Rattle.s3_types.specs.declared.request.NamedPart.{NamedPart}
-use Rattle.multipart.specs.Numbers.{AreNumbered}
-use Rattle.proof_base.proofs.Tree.{tied, map_sorted}
 
 -- no part, so no number
 pub numbered_none : (es : List (ℕ × List ℕ)) → es ≡ [] → AreNumbered (from_entries es)

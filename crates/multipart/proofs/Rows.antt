@@ -1,21 +1,12 @@
 -- A row of entries whose numbers rise, as a finite map.
-use Rattle.std.proofs.Common.{◌≡◌, ℕ, zero, suc, ◌+◌, ◌<◌, ◌≤◌, nat_eq, Bool, true, false, cond, List, [], ◌∷◌, ◌++◌, length, take, drop, get_or, set, Option, Some, None, refl, sym, ap, ◌∙◌, subst, inl, inr, arith}
-use Rattle.std.specs.List.{insert as inserted, slice_get, AllWithin}
-use Rattle.std.specs.List.Sorted.{IsStrictlySortedBy, IsNonDecreasingBy, IsSearchInRange, IsBinarySearchResult}
+use Rattle.multipart.proofs.Common.{Bool, Equal, Err, Excluded, FinMap, Greater, IfErr, IfOk, IsPlace, Less, List, None, Ok, Option, Ordering, Result, Some, Unbounded, [], ap, arith, by_order, cond, drop, entries, entries-insert, entries_between, entries_made, false, find, from_entries, get, get-from_entries, get_or, greater_is, inl, inr, insert, is_eq, is_number_at, keys_of, length, length-keys_of, less_is, map_sorted, nat_cmp, nat_cmp_total, nat_eq, nat_tests, put, range_contains, refl, set, sorted_head, sorted_tail, subst, suc, sym, take, true, zero, ℕ, ◌++◌, ◌+◌, ◌<◌, ◌∙◌, ◌∷◌, ◌≡◌, ◌≤◌}
+use Rattle.std.specs.List.Sorted.{IsBinarySearchResult, IsNonDecreasingBy, IsSearchInRange, IsStrictlySortedBy}
 use Rattle.std.specs.Ordering.{ordering_index}
-use Rattle.std.specs.Prelude.{Result, Ok, Err, IfOk, IfErr}
 use Rattle.std.proofs.lemmas.Cmp.{ranked}
-use Rattle.std.specs.Map.{keys_of}
-use Rattle.s3_types.specs.Prelude.{FinMap, from_entries, insert, get, get-from_entries, entries, entries-insert, find, put, entries_between, Excluded, Unbounded, nat_cmp, nat_cmp_total, is_eq, Ordering, Less, Equal, Greater}
-use Rattle.proof_base.specs.Prelude.{by_order, range_contains}
 use Rattle.std.specs.FinMap.{same_entries_map}
 use Rattle.std.proofs.lemmas.Bool.{cases_lt}
-use Rattle.std.proofs.lemmas.Map.Entries.{length-keys_of}
-use Rattle.std.proofs.lemmas.Map.Keys.{Less-from_sorted, sorted_head, sorted_tail}
-use Rattle.proof_base.proofs.Common.{nat_tests}
-use Rattle.proof_base.proofs.Numbers.{less_is, greater_is}
-use Rattle.proof_base.proofs.Tree.{entries_made, map_sorted}
-use Rattle.multipart.specs.Numbers.{IsPlace, is_number_at}
+use Rattle.std.proofs.lemmas.Map.Keys.{Less-from_sorted}
+use Rattle.std.specs.List.{insert as inserted, slice_get, AllWithin}
 
 cmp_less : (a b : ℕ) → a < b → nat_cmp a b ≡ Less
 cmp_less a b h = grind (arith, nat_tests)

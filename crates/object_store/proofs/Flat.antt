@@ -1,19 +1,10 @@
 -- Pages of keys that are not folded, walked from the start on.
-use Rattle.std.proofs.Common.{◌≡◌, ℕ, ◌≤◌, nat_lt, Bool, true, false, ◌&&◌, cond, List, [], ◌∷◌, ◌++◌, map, refl, sym, ap, ◌∙◌, length, take, subst, arith, append-nil}
-use Rattle.proof_base.proofs.Common.{and_from, and_parts, nat_tests, take_all, IsStrictlySortedBy-filter, sorted_head, sorted_tail}
-use Rattle.store_frame.specs.Prelude.{filter, AllByRecursion, keys_of, is_lt, is_from_start, entries_between, Less, Bound, Unbounded, text_cmp, text_total, begins, stem_if, entry_of, Objects, Object, PageEntry, start}
+use Rattle.object_store.proofs.Common.{AllByRecursion, AreOwn, Bool, Bound, Follows, Held, IsStrictlySortedBy, IsStrictlySortedBy-filter, Less, List, Object, Objects, PageEntry, Unbounded, [], and_from, and_parts, ap, append-nil, arith, begins, below, cond, contents, entries_between, entries_viewed, entry_of, false, filter, filter_map_same, from_start, is_from_start, is_lt, kept_between, keys_of, length, map, nat_lt, nat_tests, refl, single, sorted_head, sorted_tail, start, start_ge, stem_if, stems, subst, sym, take, take_all, text_cmp, text_total, true, viewed_sorted, walked, ℕ, ◌&&◌, ◌++◌, ◌∙◌, ◌∷◌, ◌≡◌, ◌≤◌}
 use Rattle.std.specs.FinMap as fin
-use Rattle.std.specs.List.Sorted.{IsStrictlySortedBy}
 use Rattle.proof_base.proofs.Bools.{contrary}
-use Rattle.proof_base.proofs.Viewed.{filter_map_same, viewed_sorted, entries_viewed}
 use Rattle.s3_types.proofs.Begins.{between}
-use Rattle.object_store.specs.declared.objects.Held.{Held}
-use Rattle.object_store.specs.Flat.{single, below, Follows}
-use Rattle.object_store.specs.Held.{contents, AreOwn}
-use Rattle.store_frame.specs.Walk.{walked}
 use Rattle.object_store.proofs.Own.{own_filter}
 use Rattle.store_frame.proofs.Prefix.{lt, le_le, lt_not}
-use Rattle.store_frame.proofs.Walked.{stems, from_start, start_ge, kept_between}
 use Rattle.proof_base.proofs.Numbers.{no_less}
 
 -- ---- the end of a page

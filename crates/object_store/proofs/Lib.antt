@@ -2,3 +2,4 @@ pub mod Flat
 pub mod Next
 pub mod Own
 pub mod Scan
+mod Common

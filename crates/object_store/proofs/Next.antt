@@ -1,11 +1,7 @@
 -- The entries in turn.
-use Rattle.std.proofs.Common.{◌≡◌, ℕ, List, [], ◌∷◌, Option, Some, None, refl, sym, ap, ◌∙◌, subst}
-use Rattle.store_frame.specs.Prelude.{slice_get, filter, keys_of, is_lt, text_cmp, text_total, Objects, Object}
+use Rattle.object_store.proofs.Common.{IsNext, IsStrictlySortedBy, List, None, Object, Objects, Option, Some, [], ap, filter, is_lt, keys_of, map_sorted, next_of, refl, rest_of, slice_get, subst, sym, text_cmp, text_total, ℕ, ◌∙◌, ◌∷◌, ◌≡◌}
 use Rattle.std.specs.FinMap as map
-use Rattle.std.specs.List.Sorted.{IsStrictlySortedBy}
 use Rattle.proof_base.proofs.Rest.{after_first, after_found}
-use Rattle.proof_base.proofs.Tree.{map_sorted}
-use Rattle.object_store.specs.Objects.{rest_of, next_of, IsNext}
 
 -- what comes next is followed by the rest after it
 pub is_next : (after : Option (List ℕ)) (m : Objects) → IsNext after m (next_of after m)

@@ -1,13 +1,7 @@
 -- Entries whose keys have the texts that they stand at.
-use Rattle.std.proofs.Common.{◌≡◌, ℕ, Bool, true, false, List, [], ◌∷◌, Option, refl, sym, ap, ◌∙◌, cond, arith}
-use Rattle.store_frame.specs.Prelude.{Ordering, Less, Equal, Greater, Bound, filter, slice_get, from_entries, lookup, option_map, is_at, entries_between, text_cmp, text_total, Object}
-use Rattle.s3_types.specs.Prelude.{get, match_ordering, insert_entry}
+use Rattle.object_store.proofs.Common.{AreOwn, Bool, Bound, Equal, Greater, Held, Less, List, Object, Option, Ordering, [], ap, arith, cond, contents, entries_between, exact_bytes, false, filter, first_between, first_map, from_entries, get, get_viewed, insert_entry, is_at, lent, lookup, match_ordering, option_map, refl, slice_get, sym, text_cmp, text_total, true, ℕ, ◌∙◌, ◌∷◌, ◌≡◌}
 use Rattle.proof_base.specs.Prelude.{range_contains}
-use Rattle.proof_base.proofs.Common.{exact_bytes}
 use Rattle.std.specs.Map.{remove_entry}
-use Rattle.proof_base.proofs.Viewed.{first_map, first_between, get_viewed}
-use Rattle.object_store.specs.declared.objects.Held.{Held}
-use Rattle.object_store.specs.Held.{contents, lent, AreOwn}
 
 pub own_insert : (es : List (List ℕ × Held)) (k : List ℕ) (h : Held) → h.key ≡ k → AreOwn es → AreOwn (insert_entry text_cmp es k h)
 own_insert [] k h is own = (is, tt)

@@ -1,7 +1,5 @@
 -- What the walk over a text finds.
-use Rattle.std.proofs.Common.{◌≡◌, ◌≢◌, ℕ, ◌+◌, ◌<◌, ◌≤◌, Bool, true, false, ◌&&◌, nat_eq, List, [], ◌∷◌, ◌++◌, Option, Some, None, refl, sym, ap, ◌∙◌, cond, length, take, drop, get_or, append_assoc, append-nil, arith}
-use Rattle.proof_base.proofs.Common.{false≢true, true≢false, ne_eqb, and_parts, eq-eqb, take_more, drop_more, drop_all}
-use Rattle.store_frame.specs.Prelude.{option_map, begins, before_slash, stem}
+use Rattle.object_store.proofs.Common.{Bool, List, None, Option, Some, [], and_parts, ap, append-nil, append_assoc, arith, before_slash, begins, cond, drop, drop_all, drop_more, eq-eqb, false, false≢true, get_or, length, nat_eq, ne_eqb, option_map, refl, stem, sym, take, take_more, true, true≢false, ℕ, ◌&&◌, ◌++◌, ◌+◌, ◌<◌, ◌∙◌, ◌∷◌, ◌≡◌, ◌≢◌, ◌≤◌}
 
 pub stem_none : (p q : List ℕ) → begins p q ≡ false → stem p q ≡ None
 stem_none [] q h = absurd (true≢false h)

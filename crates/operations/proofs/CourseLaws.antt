@@ -1,15 +1,7 @@
 -- The laws of a machine, for any operation that is a course.
 use Rattle.std.specs.Prelude.{◌≡◌, ℕ, ◌+◌, ◌<◌, ◌≤◌, Bool, true, false, Some}
-use Rattle.std.proofs.Common.{refl, subst, arith}
-use Rattle.machine.specs.Prelude.{Scene, answer, apply, Request, Reply, Fine, Laws}
+use Rattle.operations.proofs.Common.{End, Falls, Fine, Goes, IsCalm, IsCourse, IsReady, Kept, Laws, Next, On, Over, Reply, Request, Scene, Stage, Step, after, answer, any_reply, apply, arith, got, led, left, refl, standing, subst, unlost, wanted}
 use Rattle.machine.proofs.Keeping.{Keeps}
-use Rattle.operations.specs.declared.plan.Step.{Step}
-use Rattle.operations.specs.declared.plan.Step.TheVariants.{Next, End}
-use Rattle.operations.specs.declared.operation.Stage.{Stage}
-use Rattle.operations.specs.declared.operation.Stage.TheVariants.{On, Over}
-use Rattle.operations.specs.Plans.{Goes, Falls}
-use Rattle.operations.specs.Courses.{IsCourse, IsCalm, unlost}
-use Rattle.operations.specs.Operations.{wanted, led, got, after, any_reply, left, standing, Kept, IsReady}
 
 fine_led : {P A : Type 0} (x : Step P A) → standing (led x) ≡ Fine
 fine_led (Next p) = refl

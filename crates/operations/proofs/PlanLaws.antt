@@ -1,11 +1,6 @@
 -- An operation whose requests may all be made again is a course.
 use Rattle.std.specs.Prelude.{◌≡◌, ℕ, ◌≤◌}
-use Rattle.std.proofs.Common.{refl, sym, ap, subst, ◌∙◌, arith, inl, inr}
-use Rattle.machine.specs.Prelude.{Scene, answer, apply, Request, Reply}
-use Rattle.operations.specs.declared.plan.Step.{Step}
-use Rattle.operations.specs.declared.plan.Step.TheVariants.{Next, End}
-use Rattle.operations.specs.Plans.{Goes, Falls, IsPlan}
-use Rattle.operations.specs.Courses.{IsCourse, MaySend, once, Reached, reached}
+use Rattle.operations.proofs.Common.{End, Falls, Goes, IsCourse, IsPlan, MaySend, Next, Reached, Reply, Request, Scene, Step, answer, ap, apply, arith, inl, inr, once, reached, refl, subst, sym, ◌∙◌}
 
 module _ {P A : Type 0} {starts : P → Type 0} {asks : P → Request} {goes : P → Reply → Step P A} {holds : P → Scene → P → Scene → Type 0} {gives : P → Scene → A → Scene → Type 0} {always : P → Scene → Scene → Type 0} {more : P → Scene → ℕ} (plan : IsPlan starts asks goes holds gives always more) where
   module _ (o : P) (z : Scene) where

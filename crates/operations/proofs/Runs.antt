@@ -1,22 +1,12 @@
 -- What an operation keeps, a run of it that is alone keeps at every moment.
-use Rattle.std.proofs.Common.{append-nil, arith, ◌≡◌, ℕ, zero, suc, Bool, false, List, [], ◌∷◌, ◌++◌, take, Option, Some, refl, sym, ap, subst, ◌∙◌}
+use Rattle.operations.proofs.Common.{Actor, AllByRecursion, Answered, AreAnswered, AreForetold, AreHonest, Bool, Counted, DriveStop, End, Entry, Fate, Follows, Goes, HasUnanswered, IsCalm, IsCourse, IsFaultBy, IsHonestOutcome, IsReady, IsRun, Kept, List, MaySend, Next, On, Option, Outcome, Over, Reply, Request, Retried, Retrying, Scene, Slow, Some, Stage, Step, Tried, [], after, after_all, answer, ap, append-nil, apply, arith, effect, false, got, is_unanswered, led, refl, retried, run, some_worn, step, subst, suc, sym, take, wanted, wants_of, zero, ℕ, ◌++◌, ◌∙◌, ◌∷◌, ◌≡◌}
 use Rattle.retries.proofs.Runs.{follows_take}
 use Rattle.std.specs.Prelude.{Result, Ok, Err, ◌+◌, length}
-use Rattle.machine.specs.Prelude.{Scene, effect, after_all, IsHonestOutcome, AreHonest, is_unanswered, answer, apply, Outcome, Answered, Slow, Request, Reply, Actor, Entry, Follows, run, Retried, wants_of, step, IsRun, AreAnswered, Counted, AreForetold, Fate, AllByRecursion, Tried, IsFaultBy, HasUnanswered, some_worn, retried}
 use Rattle.std.proofs.lemmas.List.{take_all, append_cancel_left}
 use Rattle.machine.specs.Tries.{IsToldBy, IsFaultWhere}
-use Rattle.machine.specs.declared.driving.DriveStop.{DriveStop}
 use Rattle.machine.specs.declared.driving.DriveStop.TheVariants.{StoreFault as Worn, NoMemory as NoRoom}
-use Rattle.machine.specs.declared.retrying.Retrying.{Retrying}
 use Rattle.machine.proofs.Counts.{counted_none}
 use Rattle.machine.proofs.Keeps.{kept_run}
-use Rattle.operations.specs.declared.plan.Step.{Step}
-use Rattle.operations.specs.declared.plan.Step.TheVariants.{Next, End}
-use Rattle.operations.specs.Plans.{Goes}
-use Rattle.operations.specs.declared.operation.Stage.{Stage}
-use Rattle.operations.specs.declared.operation.Stage.TheVariants.{On, Over}
-use Rattle.operations.specs.Operations.{wanted, led, got, after, Kept, IsReady}
-use Rattle.operations.specs.Courses.{IsCourse, MaySend, IsCalm}
 use Rattle.operations.proofs.CourseLaws.{keeps, at_any}
 use Rattle.operations.specs.Performed.{Seen, Performed}
 

@@ -1,15 +1,9 @@
 -- Texts behind a key and a `/`.
-use Rattle.std.proofs.Common.{◌≡◌, ◌≢◌, ℕ, ◌<◌, ◌≤◌, ◌&&◌, nat_eq, Bool, true, false, List, [], ◌∷◌, ◌++◌, length, drop, Some, None, refl, sym, ap, ◌∙◌, arith, append_assoc}
-use Rattle.s3_types.specs.Prelude.{list_all, starts_with, are_elements, is_element, is_key_path}
-use Rattle.words.proofs.Common.{list_all-append, and_parts, false≢true, le-leb, Decides-eqb, starts_is}
-use Rattle.words.specs.Parts.{parts_of, parts_from}
-use Rattle.words.proofs.Pieces.{parts_append}
-use Rattle.path_keys.specs.Paths.{is_key, first_fault, below, relative_in}
+use Rattle.path_keys.proofs.Common.{Bool, Decides-eqb, List, None, Some, [], all_three, and_parts, ap, append_assoc, are_elements, arith, below, drop, drop_front, false, false≢true, first_fault, is_element, is_key, is_key_path, le-leb, length, list_all, list_all-append, nat_eq, parts_append, parts_of, refl, relative_in, starts_is, starts_with, sym, true, ℕ, ◌&&◌, ◌++◌, ◌<◌, ◌∙◌, ◌∷◌, ◌≡◌, ◌≢◌, ◌≤◌}
+use Rattle.words.specs.Parts.{parts_from}
 use Rattle.path_keys.proofs.Ends.{no_end}
-use Rattle.path_keys.proofs.Keys.{some_key, key_from}
+use Rattle.path_keys.proofs.Keys.{key_from, some_key}
 use Rattle.path_keys.proofs.Faults.{no_fault}
-use Rattle.proof_base.proofs.Bools.{all_three}
-use Rattle.proof_base.proofs.Lists.{drop_front}
 
 -- elements, a `/` and elements
 pub elements_append : (front back : List ℕ) → are_elements front ≡ true → are_elements back ≡ true → are_elements (front ++ 47 ∷ back) ≡ true

@@ -1,9 +1,6 @@
 -- A text that ends without a `/`.
-use Rattle.std.proofs.Common.{◌≡◌, ◌≢◌, ℕ, suc, ◌<◌, ◌-◌, ◌&&◌, ◌==◌, nat_lt, Bool, true, false, List, [], ◌∷◌, ◌++◌, length, take, drop, get_or, slice_index, refl, sym, ap, ◌∙◌, arith}
-use Rattle.words.proofs.Common.{and_parts, eqb-true, take-append-drop, drop_of_length-le, drop-cons}
-use Rattle.s3_types.specs.Prelude.{trimmed}
+use Rattle.path_keys.proofs.Common.{Bool, List, [], and_parts, ap, arith, drop, drop-cons, drop_of_length-le, eqb-true, false, get_or, last_is, length, nat_lt, refl, slice_index, suc, sym, take, take-append-drop, trimmed, true, ℕ, ◌&&◌, ◌++◌, ◌-◌, ◌<◌, ◌==◌, ◌∙◌, ◌∷◌, ◌≡◌, ◌≢◌}
 use borrow.Author.Tests.{ltb-true}
-use Rattle.proof_base.proofs.Lists.{last_is}
 
 pub no_end : (bs : List ℕ) → ((front : List ℕ) → bs ≢ front ++ 47 ∷ []) → bs ≡ trimmed bs
 no_end bs h = by (nat_lt 0 (length bs) && (slice_index bs (length bs - 1) == 47)) refl

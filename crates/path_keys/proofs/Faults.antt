@@ -1,8 +1,5 @@
 -- Faults of a key's elements.
-use Rattle.std.proofs.Common.{◌≡◌, ℕ, ◌==◌, ◌<◌, ◌≤◌, Bool, true, false, List, [], ◌∷◌, length, Option, Some, None, Ok, Err, if◌then◌else◌, refl, sym, ap, ◌∙◌, arith}
-use Rattle.s3_types.specs.Prelude.{list_all, option_or, is_element}
-use Rattle.words.specs.Parts.{parts_of}
-use Rattle.words.proofs.Pieces.{join_parts}
+use Rattle.path_keys.proofs.Common.{Bool, Err, List, None, Ok, Option, Some, [], ap, arith, false, if◌then◌else◌, is_element, join_parts, length, list_all, option_or, parts_of, refl, sym, true, ℕ, ◌<◌, ◌==◌, ◌∙◌, ◌∷◌, ◌≡◌, ◌≤◌}
 use Rattle.path_keys.specs.declared.fault.PathFault.{PathFault}
 use Rattle.path_keys.specs.declared.fault.PathFault.TheVariants.{EmptyElement, DotElement, TooLong}
 use Rattle.path_keys.specs.Paths.{first_fault, checked, key_of, is_key}

@@ -1,8 +1,5 @@
 -- What a path's key is.
-use Rattle.std.proofs.Common.{◌≡◌, ℕ, ◌<◌, ◌≤◌, nat_le, true, List, [], ◌∷◌, length, refl, arith}
-use Rattle.words.proofs.Common.{and_parts, leb-true, le-leb}
-use Rattle.s3_types.specs.Prelude.{are_elements}
-use Rattle.path_keys.specs.Paths.{is_key}
+use Rattle.path_keys.proofs.Common.{List, [], and_parts, are_elements, arith, is_key, le-leb, leb-true, length, nat_le, refl, true, ℕ, ◌<◌, ◌∷◌, ◌≡◌, ◌≤◌}
 
 -- a key that is not the root's has elements alone, and few bytes
 pub some_key : (key : List ℕ) → 0 < length key → is_key key ≡ true → (are_elements key ≡ true) × (length key ≤ 1023)

@@ -1,14 +1,8 @@
 -- A text cut at its last `/`.
-use Rattle.std.proofs.Common.{◌≡◌, ℕ, suc, ◌+◌, ◌==◌, true, List, [], ◌∷◌, ◌++◌, length, take, drop, refl, sym, ap, ◌∙◌, arith, length-append}
-use Rattle.s3_types.specs.Prelude.{list_all, join_with_byte, is_other, are_elements, is_element}
-use Rattle.words.proofs.Common.{take-append-drop, list_all-append, and_parts}
+use Rattle.path_keys.proofs.Common.{List, NoCharPasses-char, [], and_parts, ap, are_elements, arith, drop, drop_at_char, is_element, is_key, is_other, join_parts, join_with_byte, length, length-append, list_all, list_all-append, one_part, others_from_bytes, parts_append, parts_of, refl, suc, sym, take, take-append-drop, true, without_last, ℕ, ◌++◌, ◌+◌, ◌==◌, ◌∙◌, ◌∷◌, ◌≡◌}
 use Rattle.std.specs.Str.{NoCharPasses}
 use Rattle.std.specs.Str.Pattern.{RFindsChar, SplitsAroundMatch}
-use Rattle.std.proofs.lemmas.Str.Pattern.{drop_at_char, NoCharPasses-char}
-use Rattle.words.specs.Parts.{parts_of}
-use Rattle.words.proofs.Pieces.{join_parts, parts_append, others_from_bytes, one_part}
-use Rattle.path_keys.specs.Paths.{is_key, without_last}
-use Rattle.path_keys.proofs.Keys.{some_key, key_from}
+use Rattle.path_keys.proofs.Keys.{key_from, some_key}
 
 without_last-append : (parts : List (List ℕ)) (part : List ℕ) → without_last (parts ++ part ∷ []) ≡ parts
 without_last-append [] part = refl

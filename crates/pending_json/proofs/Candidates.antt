@@ -1,9 +1,7 @@
 -- What a quick look makes of a text may be a record.
-use Rattle.std.proofs.Common.{◌≡◌, true, List, [], ◌∷◌, ◌++◌, length, leb, Some, IfSome, IfOk, Result, Ok, Err, refl, ap, subst, ◌∙◌, ℕ, arith}
+use Rattle.pending_json.proofs.Common.{AllByRecursion, Err, IfOk, IfSome, List, Ok, Result, Some, Spelled, [], ap, are_tags, arith, bytes_eq-Decides, cond_some, is_count, is_plain_tag, is_tag_text, is_utf8, leb, length, list_all, list_all-append, list_any, refl, subst, tag_of, true, ℕ, ◌++◌, ◌∙◌, ◌∷◌, ◌≡◌}
 use Rattle.std.specs.Prelude.{bytes_eq}
 use Rattle.std.specs.Result.{result_ok}
-use Rattle.pending_json.specs.Prelude.{AllByRecursion, list_all, list_any, is_utf8, Spelled, is_plain_tag, is_count, is_tag_text, tag_of, are_tags}
-use Rattle.proof_base.proofs.Common.{list_all-append, cond_some, bytes_eq-Decides}
 use Rattle.pending_json.proofs.Values.{counted}
 
 -- one more of which P holds

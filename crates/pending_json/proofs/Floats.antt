@@ -1,9 +1,5 @@
 -- No record has a float.
-use Rattle.std.proofs.Common.{◌≡◌, ℕ, List, [], ◌∷◌, map, ◌||◌, false, Option, Some, None, refl, ap, ◌∙◌}
-use Rattle.pending_json.specs.Prelude.{items_of, Pending, texts, wholes, tag_digits, pending_tree, set_tree, success_tree}
-use Rattle.serde_json.specs.Written.{has_float, items_have_float}
-use Rattle.pending_json.specs.declared.records.PendingSet.{PendingSet}
-use Rattle.pending_json.specs.declared.records.SuccessMark.{SuccessMark}
+use Rattle.pending_json.proofs.Common.{List, None, Option, Pending, PendingSet, Some, SuccessMark, [], ap, false, has_float, items_have_float, items_of, map, pending_tree, refl, set_tree, success_tree, tag_digits, texts, wholes, ℕ, ◌||◌, ◌∙◌, ◌∷◌, ◌≡◌}
 
 texts_have_none : (all : List (List ℕ)) → items_have_float (texts all) ≡ false
 texts_have_none [] = refl

@@ -1,13 +1,6 @@
 -- The first name that a table has not is the least, where names rise.
-use Rattle.std.proofs.Common.{◌≡◌, ℕ, zero, suc, List, Bool, true, false, cond, Some, Result, Err, Ordering, Less, Equal, Greater, nat_cmp, true≢false, refl, sym, ap, subst, ◌∙◌}
-use Rattle.std.specs.Prelude.{⊤}
-use Rattle.s3_types.specs.Prelude.{is_le}
-use Rattle.pending_json.specs.Prelude.{slice_cmp, Data, array, object, Items, no_items, item, Members, no_members, member, get_member, only_fields, is_field_of, Spell}
-use Rattle.serde_json.specs.Find.{get, get_item}
-use Rattle.pending_json.specs.declared.fault.RecordFault.{RecordFault}
-use Rattle.pending_json.specs.declared.fault.RecordFault.TheVariants.{ExtraField}
+use Rattle.pending_json.proofs.Common.{Bool, Data, Equal, Err, ExtraField, Greater, IsLeastOther, Items, Less, List, Members, Ordering, RecordFault, Result, Some, Spell, ap, array, cond, false, get, get_item, get_member, is_field_of, is_le, item, member, nat_cmp, no_items, no_members, object, only_fields, refl, slice_cmp, subst, suc, sym, true, true≢false, zero, ℕ, ⊤, ◌∙◌, ◌≡◌}
 use Rattle.pending_json.specs.declared.table.Table.{Table}
-use Rattle.pending_json.specs.Records.{IsLeastOther}
 use Rattle.pending_json.proofs.Members.{Above, Rising, above_next, none_above, same, itself, turned, at_first, some_none}
 use Rattle.pending_json.proofs.Ordered.{Ordered, ItemsOrdered, tree_ordered, field_ordered}
 

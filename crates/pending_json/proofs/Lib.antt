@@ -12,3 +12,4 @@ pub mod PartLengths
 pub mod RoundTrip
 pub mod Values
 pub mod Whole
+mod Common

@@ -1,15 +1,8 @@
 -- Members whose names rise by their bytes, each once.
-use Rattle.std.proofs.Common.{◌≡◌, ℕ, List, [], ◌∷◌, Bool, true, false, ◌||◌, ◌&&◌, cond, Some, None, Ok, Err, Ordering, Less, Equal, Greater, nat_cmp, is_eq, bytes_eq, true≢false, refl, sym, ap, ap₂, subst, ◌∙◌}
-use Rattle.std.specs.Prelude.{⊤}
-use Rattle.pending_json.specs.Prelude.{AllByRecursion, match_ordering, ordering_reverse, is_lt, slice_cmp, Data, null, boolean, number, string, array, object, Members, no_members, member, get_member, only_fields}
-use Rattle.proof_base.proofs.Common.{and_parts, bytes_eq-Decides}
+use Rattle.pending_json.proofs.Common.{AllByRecursion, Bool, Data, Equal, Err, ExtraField, Greater, Less, List, Members, None, Ok, Ordering, Some, [], and_parts, ap, ap₂, array, boolean, bytes_eq, bytes_eq-Decides, cond, false, get_member, is_eq, is_lt, is_one_of, match_ordering, member, nat_cmp, no_members, null, number, object, only_fields, ordering_reverse, put, refl, same_Some, slice_cmp, string, subst, sym, true, true≢false, ℕ, ⊤, ◌&&◌, ◌||◌, ◌∙◌, ◌∷◌, ◌≡◌}
 use Rattle.std.proofs.lemmas.Cmp.{nat_list_cmp_total, tied_itself}
 use Rattle.std.proofs.lemmas.Map.Text.{is_eq-slice_cmp}
-use Rattle.serde_json.specs.Data.{put}
 use Rattle.proof_base.proofs.Less.{less_of}
-use Rattle.pending_json.specs.declared.fault.RecordFault.TheVariants.{ExtraField}
-use Rattle.pending_json.specs.Fields.{is_one_of}
-use Rattle.std.proofs.lemmas.Option.{same_Some}
 
 -- every name is above this one
 abbrev pub Above : List ℕ → Members → Type 0

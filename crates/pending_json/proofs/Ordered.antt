@@ -1,12 +1,7 @@
 -- In a tree that serde_json reads, each object's names rise.
-use Rattle.std.proofs.Common.{◌≡◌, ℕ, List, Bool, true, false, cond, Option, Some, None, option_map, option_and_then, Ordering, Less, Equal, Greater, nat_cmp, refl, subst}
-use Rattle.std.specs.Prelude.{⊤}
-use Rattle.pending_json.specs.Prelude.{match_ordering, slice_cmp, Data, null, boolean, number, string, array, object, Items, no_items, item, Members, no_members, member, of_json, of_items, max_depth, read, tokens, get_member, tree_read}
-use Rattle.proof_base.proofs.Common.{option_and_then_some}
+use Rattle.pending_json.proofs.Common.{Bool, Data, Equal, Greater, Items, Less, List, Members, None, Option, Ordering, Some, array, boolean, cond, false, get, get_member, item, match_ordering, max_depth, member, nat_cmp, no_items, no_members, null, number, object, of_items, of_json, option_and_then, option_and_then_some, option_map, put, read, refl, slice_cmp, string, subst, tokens, tree_read, true, ℕ, ⊤, ◌≡◌}
 use Rattle.json.specs.Json as json
-use Rattle.serde_json.specs.Data.{put}
 use Rattle.serde_json.specs.Read.{number_of, of_members}
-use Rattle.serde_json.specs.Find.{get}
 use Rattle.pending_json.proofs.Members.{Rising, put_rising}
 
 abbrev mutual

@@ -1,8 +1,5 @@
 -- What serde_json reads as a tree, and what it refuses.
-use Rattle.std.proofs.Common.{◌≡◌, ℕ, List, Bool, true, false, cond, Option, Some, None, Ok, Err, refl, ap}
-use Rattle.pending_json.specs.Prelude.{IsUtf8, is_utf8, Data, read, tree_read, parsed}
-use Rattle.proof_base.proofs.Common.{IsUtf8-from_is_utf8, is_utf8-from_IsUtf8}
-use Rattle.pending_json.specs.declared.fault.RecordFault.TheVariants.{NotJson}
+use Rattle.pending_json.proofs.Common.{Bool, Data, Err, IsUtf8, IsUtf8-from_is_utf8, List, None, NotJson, Ok, Option, Some, ap, cond, false, is_utf8, is_utf8-from_IsUtf8, parsed, read, refl, tree_read, true, ℕ, ◌≡◌}
 
 -- what is read of UTF-8 text
 pub tree_is : (bytes : List ℕ) (d : Data) → IsUtf8 bytes → read bytes ≡ Some d → tree_read bytes ≡ Some d

@@ -1,7 +1,5 @@
 -- Each part of a file is at most as long as the file.
-use Rattle.std.proofs.Common.{◌≡◌, ℕ, ◌+◌, ◌==◌, ◌<◌, ◌≤◌, ◌^◌, true, List, [], ◌∷◌, length, arith}
-use Rattle.pending_json.specs.Prelude.{AllByRecursion, sum, fit}
-use Rattle.proof_base.proofs.Common.{and_parts, eqb-true, sum_by-cons}
+use Rattle.pending_json.proofs.Common.{AllByRecursion, List, [], and_parts, arith, eqb-true, fit, length, sum, sum_by-cons, true, ℕ, ◌+◌, ◌<◌, ◌==◌, ◌^◌, ◌∷◌, ◌≡◌, ◌≤◌}
 use Rattle.proof_base.proofs.Lists.{sum_first}
 
 -- none is more than what all are at most

@@ -1,8 +1,5 @@
 -- What is printed of a tree of numbers and texts is read as that tree.
-use Rattle.std.proofs.Common.{◌≡◌, ℕ, ◌<◌, ◌≤◌, ◌^◌, [], ◌∷◌, ◌++◌, Bool, true, false, Some, option_and_then, decimal, refl, ap, sym, ◌∙◌}
-use Rattle.std.specs.Prelude.{⊤}
-use Rattle.pending_json.specs.Prelude.{IsUtf8, tokens, unsigned, Data, null, boolean, number, string, array, object, Items, no_items, item, Members, no_members, member, of_json, max_depth, outline, items_outline, compact_text, tree_read}
-use Rattle.proof_base.proofs.Common.{append-nil, IsUtf8-append, IsUtf8-from_ascii}
+use Rattle.pending_json.proofs.Common.{Bool, Data, IsUtf8, IsUtf8-append, IsUtf8-are_ascii, IsUtf8-from_ascii, IsUtf8-quoted, Items, Members, Some, [], ap, append-nil, array, boolean, comma_if, compact_text, decimal, false, float, item, items_outline, items_text, max_depth, member, members_outline, members_text, negative, no_items, no_members, null, number, object, of_json, option_and_then, outline, refl, string, sym, tokens, tree_read, true, unsigned, ℕ, ⊤, ◌++◌, ◌<◌, ◌^◌, ◌∙◌, ◌∷◌, ◌≡◌, ◌≤◌}
 use Rattle.std.proofs.lemmas.Fmt.{IsAscii-decimal}
 use Rattle.json.specs.Json as js
 use Rattle.json.specs.Print.{quoted}
@@ -10,9 +7,6 @@ use Rattle.json.specs.Tree as tr
 use Rattle.json.proofs.Printed.Decimals.{IsNumber-decimal}
 use Rattle.json.proofs.Printed.Tokens.{tokens-print}
 use Rattle.json.proofs.Printed.Trees.{value-json_tokens, ArePrintable-json_tokens}
-use Rattle.json.proofs.Printed.Utf8.{IsUtf8-quoted, IsUtf8-are_ascii}
-use Rattle.serde_json.specs.Data.{negative, float}
-use Rattle.serde_json.specs.Written.{members_outline, items_text, members_text, comma_if}
 use Rattle.serde_json.proofs.Texts.{print-outline}
 use Rattle.pending_json.proofs.Parsed.{tree_is}
 

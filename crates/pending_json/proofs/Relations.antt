@@ -1,14 +1,6 @@
 -- What is read is the one tree of its value, and the tree of a value is read as that value.
-use Rattle.std.proofs.Common.{◌≡◌, ℕ, ◌^◌, true, List, [], ◌∷◌, map, length, Option, Some, None, is_some, option_map, Result, Ok, Err, codes, refl, sym, ap, ap₂, subst, ◌∙◌}
-use Rattle.pending_json.specs.Prelude.{AllByRecursion, ◌>>=◌, Data, string, array, object, Items, no_items, item, Members, no_members, member, get_member, as_str, as_array, as_object, items_of, is_bucket, is_key, Pending, are_sizes, field, of_kind, as_whole, as_u32, as_word, as_bucket, as_key, as_committer, as_texts, as_tags, sizes_in, members_in, only_fields, is_field_of, tree_read, parsed, IsPending, IsSet, Spell, whole, wholes, version_of, texts, tag_digits, committer_word, with_stamp, pending_tree, set_tree, success_tree}
-use Rattle.proof_base.proofs.Common.{lt-ltb}
-use Rattle.proof_base.proofs.Reading.{parted, same_ok, needed}
-use Rattle.serde_json.specs.Find.{get}
-use Rattle.pending_json.specs.declared.fault.RecordFault.{RecordFault}
-use Rattle.pending_json.specs.declared.fault.RecordFault.TheVariants.{NotJson}
+use Rattle.pending_json.proofs.Common.{AllByRecursion, Data, Err, IsPending, IsSet, Items, List, Members, None, NotJson, Ok, Option, Pending, PendingSet, RecordFault, Result, Some, Spell, SuccessMark, [], ap, ap₂, are_sizes, array, as_array, as_bucket, as_committer, as_key, as_object, as_str, as_tags, as_texts, as_u32, as_whole, as_word, codes, committer_word, field, get, get_member, is_bucket, is_field_of, is_key, is_some, item, items_of, length, lt-ltb, map, member, members_in, needed, no_items, no_members, object, of_kind, only_fields, option_map, parsed, parted, pending_tree, refl, same_ok, set_tree, sizes_in, string, subst, success_tree, sym, tag_digits, texts, tree_read, true, version_of, whole, wholes, with_stamp, ℕ, ◌>>=◌, ◌^◌, ◌∙◌, ◌∷◌, ◌≡◌}
 use Rattle.pending_json.specs.declared.table.Table.TheVariants as tables
-use Rattle.pending_json.specs.declared.records.PendingSet.{PendingSet}
-use Rattle.pending_json.specs.declared.records.SuccessMark.{SuccessMark}
 use Rattle.pending_json.specs.Fields.{of_kind_if, version_in, is_sized}
 use Rattle.pending_json.specs.Reading.{field_names, pending_table, pending_in, pendings_in, set_in, success_in, pending_of, set_of, success_of}
 use Rattle.pending_json.proofs.Members.{Rising, one_table, rising_by, inside}

@@ -1,16 +1,8 @@
 -- What is printed of a record is read as that record.
-use Rattle.std.proofs.Common.{◌≡◌, ℕ, ◌<◌, ◌≤◌, ◌^◌, lit≤, lit<, List, [], ◌∷◌, map, true, Option, Some, None, is_some, length, Ok, codes, refl, sym, subst, arith}
-use Rattle.pending_json.specs.Prelude.{AllByRecursion, list_all, IsUtf8, is_utf8, no_members, member, Members, of_json, of_items, max_depth, items_of, outline, items_outline, compact_text, Spelled, is_plain_tag, Committer, Magic, Directory, Partitioned, is_count, Pending, are_sizes, IsPending, IsSet, whole, wholes, version_of, texts, tag_digits, committer_word, with_stamp, pending_tree, set_tree, success_tree}
-use Rattle.proof_base.proofs.Common.{and_parts, IsUtf8-from_is_utf8}
+use Rattle.pending_json.proofs.Common.{AllByRecursion, Committer, Directory, IsMark, IsPending, IsSet, IsStamp, IsUtf8, IsUtf8-are_ascii, IsUtf8-from_is_utf8, List, Magic, Members, None, Ok, Option, Partitioned, Pending, PendingSet, Some, Spelled, SuccessMark, [], and_parts, are_ascii, are_sizes, arith, codes, committer_word, compact_text, is_count, is_plain_tag, is_some, is_utf8, items_of, items_outline, length, list_all, lit<, lit≤, map, max_depth, member, no_members, of_items, of_json, outline, pending_of, pending_tree, refl, set_of, set_tree, subst, success_of, success_tree, sym, tag_digits, texts, true, version_of, whole, wholes, with_sizes, with_stamp, ℕ, ◌<◌, ◌^◌, ◌∷◌, ◌≡◌, ◌≤◌}
 use Rattle.json.specs.Tree as tr
-use Rattle.json.proofs.Printed.Utf8.{IsUtf8-are_ascii, are_ascii}
 use Rattle.serde_json.proofs.Numbers.{number_of-decimal}
 use Rattle.s3_types.proofs.Utf8.{bucket_utf8, hex_utf8}
-use Rattle.pending_json.specs.declared.records.PendingSet.{PendingSet}
-use Rattle.pending_json.specs.declared.records.SuccessMark.{SuccessMark}
-use Rattle.pending_json.specs.Reading.{pending_of, set_of, success_of}
-use Rattle.pending_json.specs.Records.{IsMark, IsStamp}
-use Rattle.pending_json.specs.Trees.{with_sizes}
 use Rattle.pending_json.proofs.Printed.{Plain, PlainItems, PlainMembers, printed_is_read}
 use Rattle.pending_json.proofs.Relations.{pending_only, set_only, success_only}
 use Rattle.pending_json.proofs.PartLengths.{each_below}

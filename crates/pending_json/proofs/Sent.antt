@@ -1,18 +1,13 @@
 -- What a record sends to a writer is its tree, and the text of that is the tree's.
-use Rattle.std.proofs.Common.{◌≡◌, ℕ, suc, List, [], ◌∷◌, map, length, Option, Some, None, is_some, option_map, codes, refl, sym, ap, subst}
+use Rattle.pending_json.proofs.Common.{Data, List, None, Option, Pending, PendingSet, SendsValue, Some, Spelled, SuccessMark, WritesEach, [], ap, array, codes, committer_word, compact_text, is_some, items_of, length, map, mark_tree, option_map, pending_tree, refl, set_tree, some_mapped, string, subst, suc, success_tree, sym, tag_digits, texts, upload_tree, version_of, whole, wholes, ℕ, ◌∷◌, ◌≡◌}
 use Rattle.std.specs.Prelude.{cond}
-use Rattle.pending_json.specs.Prelude.{WritesEach, Data, string, array, items_of, SendsValue, compact_text, Spelled, Pending, whole, wholes, texts, tag_digits, version_of, pending_tree, set_tree, success_tree, committer_word}
 use Rattle.serde.specs.Event.{Log, Logs, WritesSeq, text, unsigned, seq_begins, seq_ends, map_begins, map_ends, field_key}
 use Rattle.serde.specs.declared.name.Case.TheVariants.{AsIs}
 use Rattle.serde_json.specs.Events.{items_len, SendsItems}
 use Rattle.serde_json.specs.Sent.{IsTextOf}
 use Rattle.serde_json.proofs.FreeTexts.{text_of_value}
 use Rattle.pending_json.specs.Sending.{SendsMember, SendsSizes, SendsStamp}
-use Rattle.pending_json.specs.Trees.{upload_tree, mark_tree}
-use Rattle.pending_json.specs.declared.records.PendingSet.{PendingSet}
-use Rattle.pending_json.specs.declared.records.SuccessMark.{SuccessMark}
 use Rattle.pending_json.proofs.Floats.{pending_has_none, set_has_none, success_has_none}
-use Rattle.proof_base.proofs.Options.{some_mapped}
 
 -- ---- lists
 

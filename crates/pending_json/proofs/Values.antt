@@ -1,14 +1,6 @@
 -- What a value of a kind is, and that it is read as such.
-use Rattle.std.proofs.Common.{◌≡◌, ℕ, ◌<◌, ◌==◌, ltb, leb, ◌^◌, Bool, true, false, ◌&&◌, cond, List, [], ◌∷◌, map, length, Option, Some, None, is_some, option_map, option_and_then, Result, Ok, Err, codes, bytes_eq, refl, sym, ap, ap₂, subst, ◌∙◌}
-use Rattle.pending_json.specs.Prelude.{list_all, unsigned, Data, number, string, array, object, Items, no_items, item, Members, as_str, as_array, as_object, items_of, Spelled, is_plain_tag, Committer, Magic, Directory, Partitioned, of_kind, field, as_whole, as_u32, as_word, as_committer, all_of, as_texts, is_tag_text, tag_of, as_tag, is_count, as_tags, sizes_in, are_tags, fit, whole, wholes, version_of, texts, tag_digits, committer_word}
-use Rattle.proof_base.proofs.Common.{ltb-true, and_parts, eqb-true, cond_some, option_and_then_some, bytes_eq-Decides}
-use Rattle.proof_base.proofs.Options.{end_of}
-use Rattle.proof_base.proofs.Reading.{parted, passed, same_ok}
-use Rattle.serde_json.specs.Find.{get}
-use Rattle.pending_json.specs.declared.fault.RecordFault.{RecordFault}
-use Rattle.pending_json.specs.declared.fault.RecordFault.TheVariants.{WrongVersion}
+use Rattle.pending_json.proofs.Common.{Bool, Committer, Data, Directory, Err, Items, List, Magic, Members, None, Ok, Option, Partitioned, RecordFault, Result, Some, Spelled, WrongVersion, [], all_of, and_parts, ap, ap₂, are_tags, array, as_array, as_committer, as_object, as_str, as_tag, as_tags, as_texts, as_u32, as_whole, as_word, bytes_eq, bytes_eq-Decides, codes, committer_word, cond, cond_some, end_of, eqb-true, false, field, fit, get, is_count, is_plain_tag, is_some, is_tag_text, item, items_of, leb, length, list_all, ltb, ltb-true, map, no_items, number, object, of_kind, option_and_then, option_and_then_some, option_map, parted, passed, refl, same_Some, same_ok, sizes_in, string, subst, sym, tag_digits, tag_of, texts, true, unsigned, version_of, whole, wholes, ℕ, ◌&&◌, ◌<◌, ◌==◌, ◌^◌, ◌∙◌, ◌∷◌, ◌≡◌}
 use Rattle.pending_json.specs.Fields.{present, kept, committer_of, as_sizes, version_in, is_sized}
-use Rattle.std.proofs.lemmas.Option.{same_Some}
 
 -- ---- steps that gave something
 

@@ -1,8 +1,5 @@
 -- A record that is read in groups of fields is what reading it whole gives.
-use Rattle.std.proofs.Common.{◌≡◌, length, Result, Ok, Err, codes, refl, ◌∙◌}
-use Rattle.pending_json.specs.Prelude.{◌>>=◌, Data, as_str, as_array, field, as_whole, as_u32, as_word, as_bucket, as_key, as_committer, as_texts, as_tags, sizes_in, members_in}
-use Rattle.serde_json.specs.Find.{get}
-use Rattle.pending_json.specs.Fields.{version_in, is_sized, of_kind_if}
+use Rattle.pending_json.proofs.Common.{Data, Err, Ok, Result, as_array, as_bucket, as_committer, as_key, as_str, as_tags, as_texts, as_u32, as_whole, as_word, codes, field, get, is_sized, length, members_in, of_kind_if, refl, sizes_in, version_in, ◌>>=◌, ◌∙◌, ◌≡◌}
 use Rattle.pending_json.specs.Groups.{target_in, parts_in, numbers_in, pending_by, attempt_in, commits_in, set_end_in, set_by, mark_end_in, success_by}
 use Rattle.pending_json.specs.Reading.{pending_in, pendings_in, set_in, success_in}
 

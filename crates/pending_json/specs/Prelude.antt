@@ -6,12 +6,8 @@ pub use Rattle.pending_json.specs.Pending.{Pending, are_sizes, are_tags, fit}
 pub use Rattle.pending_json.specs.Reading.{is_field_of, parsed, tree_read}
 pub use Rattle.pending_json.specs.Records.{IsPending, IsSet, Spell}
 pub use Rattle.pending_json.specs.Trees.{committer_word, pending_tree, set_tree, success_tree, tag_digits, texts, version_of, whole, wholes, with_stamp}
-pub use Rattle.proof_base.specs.Order.{text_eq}
-pub use Rattle.proof_base.specs.Reading.{◌>>=◌}
-pub use Rattle.s3_types.specs.Fates.{FateMap, is_answer}
-pub use Rattle.s3_types.specs.Names.{is_bucket, is_job_id, is_key}
+pub use Rattle.s3_types.specs.Prelude.{AllByRecursion, FateMap, IsUtf8, Spelled, decimal, ends_with, is_answer, is_bucket, is_job_id, is_key, is_lt, is_plain_tag, is_utf8, join_with_byte, list_all, list_any, match_ordering, option_map, ordering_reverse, sum, text_eq, ◌>>=◌}
 pub use Rattle.s3_types.specs.Spelling.{actor_text}
-pub use Rattle.s3_types.specs.Tags.{Spelled, is_plain_tag}
 pub use Rattle.s3_types.specs.declared.fates.Fate.{Fate}
 pub use Rattle.s3_types.specs.declared.limits.TheConstants.{MOST_SCRIPT_BYTES}
 pub use Rattle.s3_types.specs.declared.request.Actor.{Actor}
@@ -28,9 +24,4 @@ pub use Rattle.serde_json.specs.Read.{max_depth, of_items, of_json, read}
 pub use Rattle.serde_json.specs.View.{items_of, items_view, view}
 pub use Rattle.serde_json.specs.Written.{compact_text, items_outline, outline}
 pub use Rattle.std.specs.Cmp.Lexicographic.{slice_cmp}
-pub use Rattle.std.specs.Fmt.{decimal}
-pub use Rattle.std.specs.List.{AllByRecursion, ends_with, join_with_byte, list_all, list_any, sum}
 pub use Rattle.std.specs.Map.{lookup}
-pub use Rattle.std.specs.Option.{option_map}
-pub use Rattle.std.specs.Ordering.{is_lt, match_ordering, ordering_reverse}
-pub use Rattle.std.specs.Str.{IsUtf8, is_utf8}

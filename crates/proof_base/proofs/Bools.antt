@@ -1,8 +1,5 @@
 -- Truth values.
-use Rattle.std.proofs.Common.{◌≡◌, Bool, true, false, not, ◌&&◌, T, refl}
-use Rattle.std.proofs.lemmas.Bool.{false≢true}
-use Rattle.std.proofs.Math.Bool.{and-true}
-use Rattle.std.proofs.Math.Facts.{and_yes}
+use Rattle.proof_base.proofs.Common.{Bool, T, and-true, and_yes, false, false≢true, not, refl, true, ◌&&◌, ◌≡◌}
 
 pub all_three : (a b c : Bool) → a ≡ true → b ≡ true → c ≡ true → (a && b && c) ≡ true
 all_three a b c h i j = rw (h, i, j) refl

@@ -1,8 +1,5 @@
 -- Readers of bytes: what a step took from the front, that it reads again what was written, and numbers of a fixed width.
-use Rattle.std.proofs.Common.{◌≡◌, ℕ, ◌+◌, ◌^◌, ◌<◌, ◌≤◌, Bool, false, cond, ltb, List, ◌++◌, length, get_or, take, drop, Result, Ok, Err, refl, sym, ap, subst, ◌∙◌, append_assoc, arith, inl, inr}
-use Rattle.proof_base.specs.Prelude.{Width, w16, w32, w64, byte_len, from_be_bytes, to_be_bytes, Read}
-use Rattle.std.proofs.lemmas.Bool.{cases_lt, ltb-false, le-ltb}
-use Rattle.std.proofs.lemmas.List.{take_at, drop_at, take-append-drop, length-append, length-take, get_or-drop, get_or-take, get_or_past}
+use Rattle.proof_base.proofs.Common.{Bool, Err, List, Ok, Read, Result, Width, ap, append_assoc, arith, byte_len, cases_lt, cond, drop, drop_at, false, from_be_bytes, get_or, get_or-drop, get_or-take, get_or_past, inl, inr, le-ltb, length, length-append, length-take, ltb, ltb-false, refl, subst, sym, take, take-append-drop, take_at, to_be_bytes, w16, w32, w64, ℕ, ◌++◌, ◌+◌, ◌<◌, ◌^◌, ◌∙◌, ◌≡◌, ◌≤◌}
 use Rattle.std.proofs.lemmas.Nat.{be_bytes_2, be_bytes_4, be_bytes_8, from_be_bytes-to_be_bytes_2, from_be_bytes-to_be_bytes_4, from_be_bytes-to_be_bytes_8}
 use Rattle.proof_base.proofs.Reading.{not_stopped}
 

@@ -1,14 +1,17 @@
 -- Lemmas of the crates below that proofs cite, passed on from one place. Declares nothing.
-pub use Rattle.std.proofs.Math.Bool.{or-false}
+pub use Rattle.proof_base.specs.Prelude.{AllByRecursion, Equal, Fails, FinMap, Greater, IsTotalOrder, Less, Ordering, Read, Unless, Width, byte_len, check, entries, eq_by_cmp, filter, find, from_be_bytes, get, get-entries, is_gt, is_le, is_lt, keys_of, list_all, nat_cmp, need, ordering_reverse, passing, to_be_bytes, w16, w32, w64, ◌>>=◌}
+pub use Rattle.std.proofs.Common.{Bool, Err, List, None, Ok, Option, Result, Some, T, [], ap, append_assoc, arith, cond, drop, false, get_or, inl, inr, length, ltb, map, nat_eq, nat_le, nat_lt, not, refl, subst, suc, sym, take, true, zero, ℕ, ◌&&◌, ◌*◌, ◌++◌, ◌+◌, ◌<◌, ◌==◌, ◌^◌, ◌||◌, ◌∙◌, ◌∷◌, ◌≡◌, ◌≤◌, ◌⊎◌}
+pub use Rattle.std.proofs.Math.Bool.{and-true, or-false}
+pub use Rattle.std.proofs.Math.Facts.{and_yes}
 pub use Rattle.std.proofs.Math.ListN.{drop_of_length-le}
 pub use Rattle.std.proofs.Math.Nat.{mul-le-mul_left}
 pub use Rattle.std.proofs.Math.Seq.{drop-append_seam, drop-cons, get_or-append_seam, take-append_seam}
-pub use Rattle.std.proofs.lemmas.Bool.{and_from, and_parts, and_right, cases_eq, cases_lt, eq-eqb, eqb-true, false≢true, le-leb, leb-true, lt-ltb, ltb-false, ltb-true, ne_eqb, not-true, or_parts, true≢false}
+pub use Rattle.std.proofs.lemmas.Bool.{and_from, and_parts, and_right, cases_eq, cases_lt, cases_order, eq-eqb, eqb-true, false≢true, le-leb, le-ltb, leb-true, lt-ltb, ltb-false, ltb-true, ne_eqb, not-true, or_parts, true≢false}
 pub use Rattle.std.proofs.lemmas.Bool.Decides.{nat_tests}
 pub use Rattle.std.proofs.lemmas.Cmp.{nat_cmp_total, on_total, then_total}
 pub use Rattle.std.proofs.lemmas.Fmt.{decimal_nonempty, length-decimal-le}
 pub use Rattle.std.proofs.lemmas.Grind.{common_steps}
-pub use Rattle.std.proofs.lemmas.List.{append-nil, drop-drop, drop_all, drop_at, drop_more, length-append, length-map, length-take, length-take-le, map-append, nil_from_length, take-append-drop, take-append-le, take_all, take_at, take_more}
+pub use Rattle.std.proofs.lemmas.List.{append-nil, drop-drop, drop_all, drop_at, drop_more, get_or-drop, get_or-take, get_or_past, length-append, length-map, length-take, length-take-le, map-append, nil_from_length, take-append-drop, take-append-le, take_all, take_at, take_more}
 pub use Rattle.std.proofs.lemmas.List.Concat.{flat_map-cons}
 pub use Rattle.std.proofs.lemmas.List.Elements.{filter-append}
 pub use Rattle.std.proofs.lemmas.List.Folds.{concat-append, list_all-append}
@@ -22,3 +25,5 @@ pub use Rattle.std.proofs.lemmas.Result.{IfOk-weaker, on_ok_weaker}
 pub use Rattle.std.proofs.lemmas.Slice.Eq.{bytes_eq-Decides}
 pub use Rattle.std.proofs.lemmas.Str.{IsCharBoundary-before_ascii, IsUtf8-append, IsUtf8-from_ascii, IsUtf8-from_is_utf8, IsUtf8-take, is_utf8-from_IsUtf8}
 pub use Rattle.std.proofs.lemmas.Str.Pattern.{split_parts, strip_suffix_char}
+pub use Rattle.std.specs.List.Sorted.{IsStrictlySortedBy}
+pub use Rattle.std.specs.Prelude.{IfOk, ⊤}

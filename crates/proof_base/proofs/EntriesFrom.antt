@@ -1,10 +1,6 @@
 -- The entries of a finite map over numbers from a number on, which are found one after another.
 use Rattle.std.proofs.Common.{◌≡◌, ℕ, ◌+◌, ◌<◌, ◌≤◌, true, false, true≢false, cond, nat_lt, List, [], ◌∷◌, Some, None, is_some, unwrap_or, refl, sym, ap, ◌∙◌, arith, inl, inr}
-use Rattle.proof_base.specs.Prelude.{FinMap, entries, get, get-entries, find, nat_cmp, eq_by_cmp, Less, AllByRecursion, keys_of}
-use Rattle.std.specs.List.Sorted.{IsStrictlySortedBy}
-use Rattle.std.proofs.lemmas.Bool.{cases_lt, cases_order}
-use Rattle.std.proofs.lemmas.Bool.Decides.{nat_tests}
-use Rattle.std.proofs.lemmas.Map.Keys.{sorted_head, sorted_tail}
+use Rattle.proof_base.proofs.Common.{AllByRecursion, FinMap, IsStrictlySortedBy, Less, cases_lt, cases_order, entries, eq_by_cmp, find, get, get-entries, keys_of, nat_cmp, nat_tests, sorted_head, sorted_tail}
 use Rattle.proof_base.proofs.Numbers.{less_is, below_so, not_below}
 use Rattle.proof_base.proofs.Tree.{map_sorted}
 

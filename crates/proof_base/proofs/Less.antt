@@ -1,7 +1,5 @@
 -- A total order by the test whether one is less than another.
-use Rattle.std.proofs.Common.{◌≡◌, Bool, true, false, not, refl, sym, ap, ◌∙◌, arith}
-use Rattle.proof_base.specs.Prelude.{Ordering, Less, Equal, Greater, is_lt, is_le, is_gt, ordering_reverse, IsTotalOrder}
-use Rattle.std.proofs.lemmas.Bool.{false≢true}
+use Rattle.proof_base.proofs.Common.{Bool, Equal, Greater, IsTotalOrder, Less, Ordering, ap, arith, false, false≢true, is_gt, is_le, is_lt, not, ordering_reverse, refl, sym, true, ◌∙◌, ◌≡◌}
 use Rattle.proof_base.proofs.Bools.{contrary}
 
 pub equal_self : (o : Ordering) → o ≡ ordering_reverse o → o ≡ Equal

@@ -1,17 +1,9 @@
 -- Lists of any values.
-use Rattle.std.proofs.Common.{◌≡◌, ℕ, ◌+◌, suc, ◌<◌, Bool, true, List, [], ◌∷◌, ◌++◌, length, length-append, take, drop, get_or, refl, sym, ap, ◌∙◌, arith, Some, append_assoc, slice_get, zero, ◌-◌, ◌^◌, ◌≤◌}
-use Rattle.proof_base.specs.Prelude.{list_all}
-use Rattle.std.proofs.lemmas.Bool.{and_parts}
-use Rattle.std.proofs.lemmas.List.{take-append-drop}
-use Rattle.std.proofs.Math.ListN.{drop_of_length-le}
-use Rattle.std.proofs.Math.Seq.{drop-cons, drop-append_seam}
-use Rattle.std.specs.List.{slice_get, sum}
-use Rattle.std.proofs.lemmas.Str.{IsUtf8-from_ascii}
-use Rattle.std.specs.Fmt.{decimal}
-use Rattle.std.proofs.lemmas.List.Sums.{sum_by-cons}
-use Rattle.std.proofs.lemmas.Fmt.{length-decimal-le}
+use Rattle.std.proofs.Common.{Bool, List, Some, [], ap, append_assoc, arith, drop, get_or, length, length-append, refl, slice_get, suc, sym, take, true, zero, ℕ, ◌++◌, ◌+◌, ◌-◌, ◌<◌, ◌^◌, ◌∙◌, ◌∷◌, ◌≡◌, ◌≤◌}
+use Rattle.proof_base.proofs.Common.{IsUtf8-from_ascii, and_parts, drop-append_seam, drop-cons, drop_of_length-le, length-decimal-le, sum_by-cons, take-append-drop}
+use Rattle.proof_base.specs.Prelude.{IsUtf8, decimal, list_all, slice_get}
+use Rattle.std.specs.List.{sum}
 use Rattle.std.proofs.lemmas.Str.Ascii.{IsAscii-cons, IsAscii-nil}
-use Rattle.std.specs.Str.{IsUtf8}
 
 pub sum_first : (n : ℕ) (ns : List ℕ) → sum (n ∷ ns) ≡ n + sum ns
 sum_first n ns = sum_by-cons (λ x. x) n ns

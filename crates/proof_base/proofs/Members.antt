@@ -1,7 +1,6 @@
 -- What is one of a list, texts and numbers that are the same or not, and maps at a key.
-use Rattle.std.proofs.Common.{◌≡◌, ℕ, ◌⊎◌, inl, inr, nat_eq, Bool, true, false, cond, List, [], ◌∷◌, ◌++◌, map, Option, Some, None, refl, sym, ap, subst, ◌∙◌, arith}
+use Rattle.proof_base.proofs.Common.{Bool, List, None, Option, Some, [], ap, arith, cond, false, inl, inr, map, nat_eq, nat_tests, refl, subst, sym, true, ℕ, ◌++◌, ◌∙◌, ◌∷◌, ◌≡◌, ◌⊎◌}
 use Rattle.proof_base.specs.Prelude.{filter, eq_by_cmp, nat_cmp, nat_cmp_total, FinMap, insert, remove, get, get-insert, get-remove, slice_cmp-IsAntisymmetric, nat_cmp-IsAntisymmetric, IsAntisymmetric, text_cmp, text_eq, text_equiv, text_ties, text_total, IsIn}
-use Rattle.std.proofs.lemmas.Bool.Decides.{nat_tests}
 use Rattle.proof_base.proofs.Tree.{tied}
 
 -- ---- plain facts

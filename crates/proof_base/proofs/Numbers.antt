@@ -1,8 +1,5 @@
 -- Comparisons of numbers as tests.
-use Rattle.std.proofs.Common.{◌≡◌, ℕ, ◌<◌, ◌≤◌, ◌==◌, nat_lt, nat_le, true, false, arith, Bool, cond, nat_eq, suc, zero, ◌*◌, ◌+◌, ◌||◌}
-use Rattle.proof_base.specs.Prelude.{Less, nat_cmp}
-use Rattle.std.proofs.lemmas.Bool.Decides.{nat_tests}
-use Rattle.std.specs.declared.cmp.Ordering.TheVariants.{Greater}
+use Rattle.proof_base.proofs.Common.{Bool, Greater, Less, arith, cond, false, nat_cmp, nat_eq, nat_le, nat_lt, nat_tests, suc, true, zero, ℕ, ◌*◌, ◌+◌, ◌<◌, ◌==◌, ◌||◌, ◌≡◌, ◌≤◌}
 
 pub not_below : (j k : ℕ) → k ≤ j → nat_lt j k ≡ false
 not_below j k h = grind (arith, nat_tests)

@@ -1,7 +1,5 @@
 -- Laws of reading that ends at the first fault.
-use Rattle.std.proofs.Common.{◌≡◌, ℕ, Bool, true, false, cond, List, [], ◌∷◌, ◌++◌, Option, Some, None, Result, Ok, Err, refl, sym, ap, subst, ◌∙◌, append_assoc}
-use Rattle.std.specs.Prelude.{⊤, IfOk}
-use Rattle.proof_base.specs.Prelude.{◌>>=◌, need, check, Read, passing, Unless, Fails}
+use Rattle.proof_base.proofs.Common.{Bool, Err, Fails, IfOk, List, None, Ok, Option, Read, Result, Some, Unless, [], ap, append_assoc, check, cond, false, need, passing, refl, subst, sym, true, ℕ, ⊤, ◌++◌, ◌>>=◌, ◌∙◌, ◌∷◌, ◌≡◌}
 use Rattle.proof_base.specs.Reading.{made, GivesBy, Gives}
 
 -- ---- steps that end well

@@ -1,9 +1,5 @@
 -- The entries whose keys are greater than one of them.
-use Rattle.std.proofs.Common.{◌≡◌, Bool, true, false, List, [], ◌∷◌, refl, sym, ap, ◌∙◌, subst, cond}
-use Rattle.proof_base.specs.Prelude.{Ordering, Less, is_lt, IsTotalOrder, filter, AllByRecursion, keys_of}
-use Rattle.std.proofs.lemmas.Bool.{false≢true}
-use Rattle.std.proofs.lemmas.Map.Keys.{sorted_head, sorted_tail}
-use Rattle.std.specs.List.Sorted.{IsStrictlySortedBy}
+use Rattle.proof_base.proofs.Common.{AllByRecursion, Bool, IsStrictlySortedBy, IsTotalOrder, Less, List, Ordering, [], ap, cond, false, false≢true, filter, is_lt, keys_of, refl, sorted_head, sorted_tail, subst, sym, true, ◌∙◌, ◌∷◌, ◌≡◌}
 use Rattle.proof_base.proofs.Less.{lt, irrefl, lt_trans}
 
 by_bool : (b : Bool) {G : Type 0} → (b ≡ true → G) → (b ≡ false → G) → G

@@ -1,12 +1,9 @@
 -- A `BTreeMap`'s entries seen as a finite map.
-use Rattle.std.proofs.Common.{◌≡◌, ℕ, Bool, List, [], ◌∷◌, Option, Some, None, refl, sym, ap, ◌∙◌, cond, length, arith, true, false, T, ◌&&◌}
+use Rattle.proof_base.proofs.Common.{Bool, CmpEqualImpliesEq, List, None, Option, Some, T, [], and_yes, ap, arith, cond, false, length, refl, sorted_head, sorted_tail, sym, true, ℕ, ◌&&◌, ◌∙◌, ◌∷◌, ◌≡◌}
 use Rattle.proof_base.specs.Prelude.{FinMap, from_entries, insert, remove, get, entries, len, get-from_entries, get-insert, get-remove, same_map, entries-insert, len-entries, empty, entries_sorted, find, put, by_order, below_all, is_sorted, eq_by_cmp, is_eq, is_lt, Ordering, Less, Equal, Greater, IsTotalOrder, eq_by_cmp_equiv, is_at, lookup, keys_of, AllByRecursion, filter, slice_get, option_map}
 use Rattle.std.specs.FinMap.{len-empty}
 use Rattle.std.specs.Map.Iter.{TakesFirst}
 use Rattle.std.specs.List.Sorted.{IsStrictlySortedBy}
-use Rattle.std.proofs.lemmas.Map.Keys.{sorted_head, sorted_tail}
-use Rattle.std.proofs.lemmas.Map.Lookups.{CmpEqualImpliesEq}
-use Rattle.std.proofs.Math.Facts.{and_yes}
 
 no_length : {A : Type 0} (es : List A) → length es ≡ 0 → es ≡ []
 no_length [] e = refl

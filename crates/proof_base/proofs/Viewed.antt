@@ -1,10 +1,7 @@
 -- A `BTreeMap`'s entries as a finite map, where each value is seen as another.
-use Rattle.std.proofs.Common.{◌≡◌, Bool, true, false, List, [], ◌∷◌, Option, Some, None, refl, sym, ap, ◌∙◌, subst, cond, length, map}
+use Rattle.proof_base.proofs.Common.{Bool, CmpEqualImpliesEq, IsStrictlySortedBy, List, None, Option, Some, [], ap, cond, false, length, length-map, map, refl, subst, sym, true, ◌∙◌, ◌∷◌, ◌≡◌}
 use Rattle.proof_base.specs.Prelude.{from_entries, insert, remove, get, entries, len, Ordering, IsTotalOrder, is_at, range_contains, entries_between, Bound, lookup, keys_of, filter, slice_get, option_map}
-use Rattle.std.specs.List.Sorted.{IsStrictlySortedBy}
-use Rattle.std.proofs.lemmas.List.{length-map}
 use Rattle.std.proofs.lemmas.Map.Made.{lookup-map_values, keys_of-map_values}
-use Rattle.std.proofs.lemmas.Map.Lookups.{CmpEqualImpliesEq}
 use Rattle.proof_base.proofs.Tree.{get_made, made_insert, made_remove, entries_made, len_made}
 
 -- what a function makes of the first of a list

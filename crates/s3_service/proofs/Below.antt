@@ -1,13 +1,7 @@
 -- The ids of all uploads are below the next id.
-use Rattle.std.proofs.Common.{◌≡◌, ℕ, ◌≤◌, ◌+◌, Bool, true, false, cond, List, Option, Some, None, refl, sym, ap, ◌∙◌, subst, arith}
+use Rattle.s3_service.proofs.Common.{AbortUpload, AreBelow, Bool, BucketContent, Buckets, ClusterDelete, ClusterGet, ClusterList, ClusterPut, ClusterRename, CompleteUpload, CopyObject, CreateUpload, DeleteObject, DeleteObjects, GetObject, HeadObject, IsFresh, List, ListPage, ListParts, ListUploads, MakeBucket, None, Objects, Option, PutObject, Request, Some, Upload, UploadPart, Uploads, aborted, ap, apply_in, arith, completed, cond, draws, empty, eq_by_cmp, false, get, get-empty, get-insert, get-remove, insert, is_part_number, joined, live, nat_cmp, nat_cmp_total, nat_tests, new_bucket, part_put, refl, remove, subst, sym, text_cmp, text_total, true, with_bucket, with_key, with_part, ℕ, ◌+◌, ◌∙◌, ◌≡◌, ◌≤◌}
 use Rattle.std.specs.Prelude.{Result, Ok, Err, OnOk, OnErr}
-use Rattle.s3_types.specs.Prelude.{insert, remove, get, empty, get-empty, get-insert, get-remove, eq_by_cmp, nat_cmp, nat_cmp_total, text_cmp, text_total, Objects, Upload, Uploads, BucketContent, Buckets, new_bucket, live, with_key, joined, is_part_number, with_part, apply_in, completed, part_put, aborted, draws}
-use Rattle.proof_base.proofs.Common.{nat_tests}
 use Rattle.s3_types.specs.declared.reply.Refusal.{Refusal}
-use Rattle.s3_types.specs.declared.request.Request.{Request}
-use Rattle.s3_types.specs.declared.request.Request.TheVariants.{MakeBucket, PutObject, GetObject, HeadObject, DeleteObject, DeleteObjects, CopyObject, ListPage, CreateUpload, UploadPart, CompleteUpload, AbortUpload, ListParts, ListUploads, ClusterPut, ClusterRename, ClusterGet, ClusterDelete, ClusterList}
-use Rattle.s3_service.specs.Ids.{IsFresh, AreBelow}
-use Rattle.s3_service.specs.Changed.{with_bucket}
 use Rattle.s3_service.proofs.Changed.{present, absent}
 use Rattle.proof_base.proofs.Numbers.{next_most}
 

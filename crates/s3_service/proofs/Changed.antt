@@ -1,11 +1,7 @@
 -- Buckets of which one is changed, by the entries of a tree that lends it.
-use Rattle.std.proofs.Common.{◌≡◌, ℕ, List, Bool, cond, Option, Some, None, sym, ap, ◌∙◌}
-use Rattle.s3_types.specs.Prelude.{text_cmp, text_total, BucketContent, Buckets}
+use Rattle.s3_service.proofs.Common.{Bool, BucketContent, Buckets, List, None, Option, Some, ap, changed, cond, exact_bytes, get_made, insert_same, made_insert, sym, text_cmp, text_total, with_bucket, ℕ, ◌∙◌, ◌≡◌}
 use Rattle.proof_base.specs.Prelude.{is_at, lookup}
-use Rattle.proof_base.proofs.Common.{exact_bytes}
 use Rattle.std.specs.FinMap as map
-use Rattle.proof_base.proofs.Tree.{get_made, made_insert, insert_same}
-use Rattle.s3_service.specs.Changed.{changed, with_bucket}
 
 pub present : (m : Buckets) (k : List ℕ) (f : BucketContent → BucketContent) (b : BucketContent) → map.get m k ≡ Some b → with_bucket m k f ≡ map.insert m k (f b)
 present m k f b e = ap (λ (o : Option BucketContent). changed o m k f) e

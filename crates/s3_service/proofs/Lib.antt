@@ -2,3 +2,4 @@ pub mod Below
 pub mod Changed
 pub mod Stores
 pub mod Next
+mod Common

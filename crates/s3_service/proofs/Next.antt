@@ -1,11 +1,8 @@
 -- The buckets in turn.
-use Rattle.std.proofs.Common.{◌≡◌, ℕ, List, [], ◌∷◌, Option, Some, None, refl, sym, ap, ◌∙◌, subst}
-use Rattle.s3_types.specs.Prelude.{slice_get, filter, keys_of, is_lt, text_cmp, text_total, BucketContent, Buckets}
+use Rattle.s3_service.proofs.Common.{BucketContent, Buckets, IsNext, List, None, Option, Some, [], ap, filter, is_lt, keys_of, map_sorted, next_of, refl, rest_of, slice_get, subst, sym, text_cmp, text_total, ℕ, ◌∙◌, ◌∷◌, ◌≡◌}
 use Rattle.std.specs.List.Sorted.{IsStrictlySortedBy}
 use Rattle.std.specs.FinMap as fin
 use Rattle.proof_base.proofs.Rest.{after_first, after_found}
-use Rattle.proof_base.proofs.Tree.{map_sorted}
-use Rattle.s3_service.specs.Next.{rest_of, next_of, IsNext}
 
 -- what comes next is followed by the rest after it
 pub is_next : (after : Option (List ℕ)) (m : Buckets) → IsNext after m (next_of after m)

@@ -1,9 +1,5 @@
 -- A request that names a bucket.
-use Rattle.std.proofs.Common.{◌≡◌, ℕ, List, Some, refl, sym, ap, ◌∙◌}
-use Rattle.s3_types.specs.Prelude.{get, Content, apply_store, answer_at, apply_at, bucket_of}
-use Rattle.s3_types.specs.Answer.{answer_store}
-use Rattle.s3_types.specs.declared.request.Request.{Request}
-use Rattle.s3_types.specs.declared.request.Request.TheVariants.{MakeBucket, PutObject, GetObject, HeadObject, DeleteObject, DeleteObjects, CopyObject, ListPage, CreateUpload, UploadPart, CompleteUpload, AbortUpload, ListParts, ListUploads, ClusterPut, ClusterRename, ClusterGet, ClusterDelete, ClusterList}
+use Rattle.s3_service.proofs.Common.{AbortUpload, ClusterDelete, ClusterGet, ClusterList, ClusterPut, ClusterRename, CompleteUpload, Content, CopyObject, CreateUpload, DeleteObject, DeleteObjects, GetObject, HeadObject, List, ListPage, ListParts, ListUploads, MakeBucket, PutObject, Request, Some, UploadPart, answer_at, answer_store, ap, apply_at, apply_store, bucket_of, get, refl, sym, ℕ, ◌∙◌, ◌≡◌}
 use Rattle.s3_service.specs.Named.{named}
 use Rattle.std.proofs.lemmas.Option.{same_Some}
 

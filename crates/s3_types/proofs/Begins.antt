@@ -1,7 +1,5 @@
 -- Texts in order, and what begins with what.
-use Rattle.std.proofs.Common.{◌≡◌, ℕ, Bool, true, false, ◌&&◌, nat_eq, arith, List, [], ◌∷◌, refl, ap}
-use Rattle.s3_types.specs.Prelude.{starts_with, Ordering, nat_cmp, is_lt, ordering_then, text_cmp, begins}
-use Rattle.words.proofs.Common.{nat_tests, false≢true, true≢false, lt}
+use Rattle.s3_types.proofs.Common.{Bool, List, Ordering, [], ap, arith, begins, false, false≢true, is_lt, lt, nat_cmp, nat_eq, nat_tests, ordering_then, refl, starts_with, text_cmp, true, true≢false, ℕ, ◌&&◌, ◌∷◌, ◌≡◌}
 
 pub begins_is : (p q : List ℕ) → starts_with nat_eq q p ≡ begins p q
 begins_is [] q = refl

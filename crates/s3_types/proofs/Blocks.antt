@@ -1,14 +1,10 @@
 -- The laws of a file's parts: how many there are, how long each is, and that they are the file again.
-use Rattle.std.proofs.Common.{◌≡◌, ℕ, zero, suc, ◌+◌, ◌-◌, ◌*◌, ◌/◌, ◌<◌, ◌≤◌, ◌⊎◌, inl, inr, nat_lt, Bool, true, false, cond, List, [], ◌∷◌, ◌++◌, map, length, take, drop, slice_get, None, Some, refl, sym, ap, subst, ◌∙◌, arith, length-drop, length-take-le, length-append, add-one}
-use Rattle.s3_types.specs.Prelude.{flat_map, sum, quotient_up, greater}
+use Rattle.s3_types.proofs.Common.{Bool, List, None, Some, [], add-one, ap, arith, cond, drop, drop-drop, false, flat_map, greater, inl, inr, length, length-append, length-drop, length-take-le, map, mul-le-mul_right, nat_lt, nat_tests, quotient_up, refl, same_Some, slice_get, subst, suc, sum, sum-map, sum_by-cons, sym, take, take-append-drop, take_all, true, zero, ℕ, ◌*◌, ◌++◌, ◌+◌, ◌-◌, ◌/◌, ◌<◌, ◌∙◌, ◌∷◌, ◌≡◌, ◌≤◌, ◌⊎◌}
 use Rattle.proof_base.proofs.Common.{mul-le-mul_left, nil_from_length}
-use Rattle.words.proofs.Common.{mul-le-mul_right, take-append-drop, drop-drop, take_all, sum_by-cons, nat_tests}
 use Rattle.std.proofs.Math.Nat.{mul-suc, suc-mul, mul_comm, div-lt_iff_lt-mul, le_trans}
-use Rattle.std.proofs.lemmas.List.Sums.{sum-map}
 use Rattle.proof_base.proofs.Options.{none_some}
 use Rattle.s3_types.specs.Blocks.{block_of, blocks, parts_of}
 use Rattle.proof_base.proofs.Lists.{sum_first}
-use Rattle.std.proofs.lemmas.Option.{same_Some}
 
 -- ---- as they are defined
 

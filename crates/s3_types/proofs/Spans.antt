@@ -1,12 +1,8 @@
 -- Rows of sendings as the map of their fates.
-use Rattle.std.proofs.Common.{◌≡◌, ℕ, zero, suc, ◌+◌, ◌-◌, ◌<◌, ◌≤◌, Bool, true, false, ◌&&◌, nat_lt, nat_le, cond, max, List, [], ◌∷◌, Option, Some, None, refl, sym, ap, subst, ◌∙◌, arith, ◌↔◌}
-use Rattle.std.specs.Prelude.{IsSome}
-use Rattle.words.proofs.Common.{nat_tests, false≢true, true≢false, exact_unsigned, less_is, below_is, below_not, at_most_so, at_most_not, above_so, at_most_is}
+use Rattle.s3_types.proofs.Common.{Bool, IsSome, List, None, Option, Some, Span, [], above_so, ap, arith, at_most_is, at_most_not, at_most_so, below_is, below_not, cond, exact_unsigned, false, false≢true, less_is, max, nat_le, nat_lt, nat_tests, refl, same_Some, subst, suc, sym, true, true≢false, zero, ℕ, ◌&&◌, ◌+◌, ◌-◌, ◌<◌, ◌↔◌, ◌∙◌, ◌∷◌, ◌≡◌, ◌≤◌}
 use Rattle.s3_types.specs.Prelude.{get, get-insert, get-empty, same_map, slice_get, nat_cmp_total, nat_cmp, eq_by_cmp, is_le, match_ordering, insert_entry, entries_between, Ordering, Less, Equal, Greater, Included, Unbounded, FateMap, is_answer, IsFirstNamed, IsFirstFrom, named, AreApart, from_on, first_in}
 use Rattle.s3_types.specs.Fates.{with_fates}
 use Rattle.s3_types.specs.declared.fates.Fate.{Fate}
-use Rattle.s3_types.specs.declared.fates.Span.{Span}
-use Rattle.std.proofs.lemmas.Option.{same_Some}
 use Rattle.proof_base.proofs.Numbers.{greater_is}
 
 -- ---- the map

@@ -1,7 +1,5 @@
 -- Bytes that are UTF-8.
-use Rattle.std.proofs.Common.{◌≡◌, ℕ, ◌<◌, Bool, true, false, List, [], ◌∷◌, refl, arith}
-use Rattle.s3_types.specs.Prelude.{list_all, IsUtf8, IsAscii, is_utf8, is_bucket, is_name_byte, is_hex}
-use Rattle.words.proofs.Common.{and_parts, IsUtf8-from_is_utf8, is_utf8-from_IsUtf8, IsUtf8-from_ascii, IsAscii-nil, IsAscii-cons}
+use Rattle.s3_types.proofs.Common.{Bool, IsAscii, IsAscii-cons, IsAscii-nil, IsUtf8, IsUtf8-from_ascii, IsUtf8-from_is_utf8, List, [], and_parts, arith, false, is_bucket, is_hex, is_name_byte, is_utf8, is_utf8-from_IsUtf8, list_all, refl, true, ℕ, ◌<◌, ◌∷◌, ◌≡◌}
 
 -- what is not UTF-8 does not pass the test
 pub not_utf8 : (bs : List ℕ) → ¬ (IsUtf8 bs) → is_utf8 bs ≡ false

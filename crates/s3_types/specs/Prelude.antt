@@ -1,8 +1,7 @@
 -- Definitions of this crate and of those below it that specifications and proofs cite, passed on from one place. Declares nothing.
 pub use Rattle.hex.specs.Hex.{IsBytes, encode_lower, lower_digits}
-pub use Rattle.proof_base.specs.Members.{IsIn, RisesFrom, last_from}
-pub use Rattle.proof_base.specs.Order.{text_cmp, text_eq, text_equiv, text_ties, text_total}
-pub use Rattle.proof_base.specs.Reading.{Fails, need, passing, ◌>>=◌}
+pub use Rattle.proof_base.specs.Members.{RisesFrom, last_from}
+pub use Rattle.proof_base.specs.Prelude.{AllByRecursion, Bound, Coded, Equal, Fails, FinMap, Greater, IsIn, IsTotalOrder, IsUtf8, Less, Ordering, Width, below_all, byte_len, code_by, coded_list, coded_option, coded_ℕ, coded×, decimal, empty, entries, entries-insert, entries_between, entries_sorted, eq_by_cmp, eq_by_cmp_equiv, filter, find, flat_map, from_be_bytes, from_entries, get, get-entries, get-from_entries, get-insert, get-remove, insert, is_at, is_eq, is_gt, is_le, is_lt, is_sorted, is_utf8, join_with_byte, keys_of, list_all, nat_cmp, nat_cmp_total, need, option_map, ordering_reverse, ordering_then, passing, put, remove, same_map, slice_get, text_cmp, text_eq, text_equiv, text_ties, text_total, to_be_bytes, w16, w32, w64, ◌>>=◌}
 pub use Rattle.s3_types.specs.Answer.{aborted, answer_at, answer_in, apply, apply_at, apply_in, apply_store, bucket_of, completed, draws, part_put, renamed, without}
 pub use Rattle.s3_types.specs.Blocks.{greater, named_from, quotient_up}
 pub use Rattle.s3_types.specs.Coded.{coded_text}
@@ -15,27 +14,20 @@ pub use Rattle.s3_types.specs.Requests.{only_reads}
 pub use Rattle.s3_types.specs.Spans.{AreApart, first_in, from_on, named}
 pub use Rattle.s3_types.specs.Store.{BucketContent, Buckets, Content, Files, Objects, Parts, Scene, Upload, Uploads, new_bucket}
 pub use Rattle.s3_types.specs.Tags.{Spelled, is_hex, is_plain_tag}
-pub use Rattle.std.specs.BTreeMap.{get_by, insert_entry, is_at}
-pub use Rattle.std.specs.BTreeMap.Range.{entries_between, is_from_start}
-pub use Rattle.std.specs.Cmp.{IsTotalOrder, eq_by_cmp_equiv, nat_cmp_total}
-pub use Rattle.std.specs.Coded.{Coded, code_by, coded_bool, coded_list, coded_option, coded_ℕ, coded×}
-pub use Rattle.std.specs.FinMap.{FinMap, empty, entries, entries-from_sorted, entries-insert, entries_sorted, from_entries, from_sorted, get, get-empty, get-entries, get-from_entries, get-from_sorted, get-insert, get-remove, insert, remove, same_map}
-pub use Rattle.std.specs.FinMap.Entries.{below_all, find, find-where_key, is_sorted, put, where_key}
-pub use Rattle.std.specs.Fmt.{decimal}
-pub use Rattle.std.specs.Int.{Width, byte_len, from_be_bytes, to_be_bytes, w16, w32, w64}
-pub use Rattle.std.specs.List.{AllByRecursion, after_first, before_first, ends_with, filter, flat_map, join_with_byte, list_all, list_any, position_or_len, slice_get, starts_with, sum}
-pub use Rattle.std.specs.Map.{keys_of}
+pub use Rattle.std.specs.BTreeMap.{get_by, insert_entry}
+pub use Rattle.std.specs.BTreeMap.Range.{is_from_start}
+pub use Rattle.std.specs.Coded.{coded_bool}
+pub use Rattle.std.specs.FinMap.{entries-from_sorted, from_sorted, get-empty, get-from_sorted}
+pub use Rattle.std.specs.FinMap.Entries.{find-where_key, where_key}
+pub use Rattle.std.specs.List.{after_first, before_first, ends_with, list_any, position_or_len, starts_with, sum}
 pub use Rattle.std.specs.Map.Iter.{deref_pair}
-pub use Rattle.std.specs.Option.{IsSome, IsSomeAnd, MatchOption, option_copied, option_map, option_or}
-pub use Rattle.std.specs.Ordering.{eq_by_cmp, is_eq, is_gt, is_le, is_lt, match_ordering, nat_cmp, ordering_reverse, ordering_then}
+pub use Rattle.std.specs.Option.{IsSome, IsSomeAnd, MatchOption, option_copied, option_or}
+pub use Rattle.std.specs.Ordering.{match_ordering}
 pub use Rattle.std.specs.Range.Bound.{bound_map}
-pub use Rattle.std.specs.Str.{IsAscii, IsUtf8, all_ascii_digits, bytes_eq, is_utf8}
+pub use Rattle.std.specs.Str.{IsAscii, all_ascii_digits, bytes_eq}
 pub use Rattle.std.specs.Str.Parse.{digits_value}
 pub use Rattle.std.specs.Str.Pattern.{FindsTextPrefix, StripsPrefix}
 pub use Rattle.std.specs.declared.alloc.AllocError.{AllocError}
-pub use Rattle.std.specs.declared.cmp.Ordering.{Ordering}
-pub use Rattle.std.specs.declared.cmp.Ordering.TheVariants.{Equal, Greater, Less}
-pub use Rattle.std.specs.declared.ops.Bound.{Bound}
 pub use Rattle.std.specs.declared.ops.Bound.TheVariants.{Excluded, Included, Unbounded}
 pub use Rattle.words.specs.Parts.{is_other}
 pub use Rattle.words.specs.Words.{IsBare}

@@ -1,18 +1,7 @@
 -- What is left once uploads were aborted one by one.
 use Rattle.std.specs.Prelude.{◌≡◌, ◌⊎◌, ℕ, ◌+◌, List, [], ◌∷◌, ◌++◌, length, take, Option, Some, None, option_map}
-use Rattle.std.proofs.Common.{refl, sym, ap, subst, ◌∙◌, inl, inr}
-use Rattle.fs_ops.specs.Prelude.{Upload, Uploads, BucketContent, Scene, apply, aborted, with_uploads, live, AbortUpload, UploadRef, IsIn, Path, below, uploads_from}
-use Rattle.journal_log.specs.Prelude.{listed, with_key}
-use Rattle.path_keys.proofs.Common.{same_or_not, nat_gone, nat_left, some_is}
-use Rattle.bucket_ops.specs.Prelude.{IsStill}
+use Rattle.s3a_shell.proofs.Common.{AbortUpload, AbortedIn, AbortedSome, AfterSome, AppliedOrNot, AreEnded, BucketContent, DidAbort, EndedSome, IsIn, IsStill, Path, Said, Scene, Sent, Session, Upload, UploadRef, Uploads, aborted, aborted_line, after_aborts, ap, apply, below, fine, inl, inr, listed, live, nat_gone, nat_left, placed, placed_by, placed_same, refl, same_or_not, some_is, subst, sym, uploads_from, with_key, with_uploads, ◌∙◌}
 use Rattle.std.specs.FinMap as fin
-use Rattle.fs_files.specs.Placed.{placed}
-use Rattle.fs_files.proofs.WritingLaws.{placed_same, placed_by}
-use Rattle.s3a_shell.specs.declared.said.Said.{Said}
-use Rattle.s3a_shell.specs.Texts.{fine}
-use Rattle.s3a_shell.specs.declared.session.Session.{Session}
-use Rattle.s3a_shell.specs.Sendings.{Sent, AppliedOrNot}
-use Rattle.s3a_shell.specs.Uploading.{AreEnded, after_aborts, AfterSome, aborted_line, AbortedIn, EndedSome, AbortedSome, DidAbort}
 use Rattle.s3a_shell.proofs.Joining.{sent_as, sent_both}
 
 abbrev without_all : Uploads → List UploadRef → Uploads

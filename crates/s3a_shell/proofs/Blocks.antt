@@ -1,8 +1,6 @@
 -- The parts of a file that is put are long enough and few enough.
 use Rattle.std.specs.Prelude.{◌≡◌, ℕ, ◌*◌, ◌≤◌}
-use Rattle.std.proofs.Common.{sym, subst, arith}
-use Rattle.s3_types.specs.Prelude.{quotient_up, greater}
-use Rattle.path_keys.proofs.Common.{some_size}
+use Rattle.s3a_shell.proofs.Common.{arith, greater, quotient_up, some_size, subst, sym}
 use Rattle.s3_types.specs.Blocks.{block_of}
 use Rattle.s3_types.proofs.Blocks.{block_is, greater_right, large_size}
 

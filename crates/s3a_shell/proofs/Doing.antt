@@ -1,16 +1,7 @@
 -- A command that the shell did on a store, by what the shell says of it.
-use Rattle.std.proofs.Common.{◌≡◌, ◌≤◌, ◌^◌, ℕ, Bool, true, false, None, List, length, sym, subst, ◌∙◌}
-use Rattle.machine.specs.Prelude.{Content, opening, moment, IsHonest, Shell, Entry, AreAnswered, AreBy}
-use Rattle.store_frame.specs.Held.{upload_at}
-use Rattle.s3a_words.specs.declared.command.Command.{Command}
-use Rattle.s3a_shell.specs.Doings.{only_looks, Does, MayStandAt}
-use Rattle.s3a_shell.specs.Sendings.{has_changed}
-use Rattle.s3a_shell.specs.Stays.{OnlyIn, bucket_in, ended_by}
-use Rattle.durable_store.specs.Works.{Work}
+use Rattle.s3a_shell.proofs.Common.{AreAnswered, AreBy, Bool, Command, Content, Does, Done, Entry, IsHonest, List, MayStandAt, None, OnlyIn, Shell, Store, Work, bucket_in, ended_by, false, has_changed, length, moment, only_looks, opening, subst, sym, true, upload_at, work_said, ℕ, ◌^◌, ◌∙◌, ◌≡◌, ◌≤◌}
 use Rattle.durable_store.specs.Outcomes.{IsSound}
-use Rattle.durable_store.specs.declared.held.Held.TheVariants.{Store}
 use Rattle.durable_store.proofs.Found.{few_ids}
-use Rattle.s3a_shell.specs.Commanded.{work_said, Done}
 
 -- a store that was found has ids left
 pub few_of : (c : Content) → IsSound (Store c) → c.next ≤ 2 ^ 62

@@ -1,19 +1,9 @@
 -- What a command's sendings lead to, from their beginning.
 use Rattle.std.specs.Prelude.{◌≡◌, ◌≤◌, ℕ, true, false, None, List, [], ◌++◌, take, length}
-use Rattle.std.proofs.Common.{sym, ap, subst, ◌∙◌, arith}
-use Rattle.path_keys.proofs.Common.{take_all}
-use Rattle.fs_ops.specs.Prelude.{Content, Scene, opening, AreHonest, IsHonest, after_all, moment, Shell, Entry}
-use Rattle.bucket_ops.specs.Prelude.{AreAnswered, AreBy}
-use Rattle.journal_log.specs.Prelude.{AreBelow}
-use Rattle.s3a_words.specs.declared.command.Command.{Command}
-use Rattle.s3a_shell.specs.declared.said.Said.{Said}
-use Rattle.s3a_shell.specs.Sendings.{Sends, has_changed}
-use Rattle.s3a_shell.specs.Doings.{Does}
-use Rattle.s3a_shell.specs.Stays.{OnlyIn, bucket_in, ended_by}
+use Rattle.s3a_shell.proofs.Common.{AreAnswered, AreBelow, AreBy, AreHonest, Command, Content, Does, Entry, IsHonest, OnlyIn, Said, Scene, Sends, Shell, after_all, ap, arith, bucket_in, ended_by, has_changed, moment, opening, subst, sym, take_all, upload_at, ◌∙◌}
 use Rattle.s3a_shell.proofs.Staying.{does_only}
 use Rattle.s3a_shell.proofs.Unchanged.{no_change}
 use Rattle.s3a_shell.proofs.Undone.{does_keeps}
-use Rattle.store_frame.specs.Held.{upload_at}
 use Rattle.s3a_shell.proofs.Finished.{below_none, does_ended}
 
 module _ (always : Scene → Type 0) (c : Content) (old es : List Entry) (z s : Scene) (first : old ≡ []) (begun : z ≡ opening c) (h : Sends always old z es s) where

@@ -1,20 +1,8 @@
 -- No upload that a command began itself is live when it has ended.
 use Rattle.std.specs.Prelude.{◌≡◌, ℕ, ◌≤◌, nat_lt, Bool, true, false, cond, List, length, Option, Some, None, Result, Err}
-use Rattle.std.proofs.Common.{refl, ap, subst, ◌∙◌, ◌⊎◌, inl, inr}
-use Rattle.fs_ops.specs.Prelude.{is_bucket, Objects, BucketContent, Content, Scene, new_bucket, upload_in, with_objects_if, objects_at, InScene, GivesIn, MarkerPolicy, Keep, Delete, Stats, Reads, Lists, Makes, Deletes, Audits, Cleans, Fills, FsRefusal, NoSuchBucket, Path}
-use Rattle.journal_log.specs.Prelude.{AreBelow}
+use Rattle.s3a_shell.proofs.Common.{AbortedIn, AreBelow, Audits, BucketContent, Cleans, Command, Content, CreatedUnless, Delete, Deletes, Did, DidBetween, Does, Fills, FsRefusal, GivesIn, InScene, Keep, Lists, Makes, MarkerPolicy, NoSuchBucket, Objects, Path, Reads, Said, Scene, Stats, ap, bucket_in, bytes_alone, cleaned_line, entry_lines, filled_line, inl, inr, is_bucket, made, marker_lines, most_input, new_bucket, nothing, objects_at, refl, same_or_other, status_line, subst, upload_at, upload_in, with_objects_if, ◌∙◌, ◌⊎◌}
 use Rattle.std.specs.FinMap as fin
-use Rattle.s3_types.specs.Answer.{made}
-use Rattle.store_frame.specs.Held.{upload_at}
-use Rattle.s3a_words.specs.declared.command.Command.{Command}
 use Rattle.s3a_words.specs.declared.command.Command.TheVariants.{Mb, Ls, Stat, Cat, Put, PutForce, PutDrop, Mkdir, Mv, Cp, Rm, Rmr, Uploads, AbortUploads, Markers, CleanMarkers, FillMarkers}
-use Rattle.s3a_shell.specs.declared.said.Said.{Said}
-use Rattle.s3a_shell.specs.Texts.{status_line, entry_lines, marker_lines, cleaned_line, filled_line, bytes_alone, nothing}
-use Rattle.s3a_shell.specs.Doings.{Did, most_input, CreatedUnless, Does}
-use Rattle.s3a_shell.specs.Stays.{bucket_in}
-use Rattle.s3a_shell.specs.Moving.{DidBetween}
-use Rattle.s3a_shell.specs.Uploading.{AbortedIn}
-use Rattle.proof_base.proofs.Members.{same_or_other}
 
 -- no upload has an id from n on
 abbrev NoneFrom : ℕ → Content → List ℕ → Type 0

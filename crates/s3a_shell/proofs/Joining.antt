@@ -1,11 +1,6 @@
 -- Sendings after sendings.
 use Rattle.std.specs.Prelude.{◌≡◌, ℕ, zero, suc, ◌+◌, true, List, [], ◌∷◌, ◌++◌, length, take}
-use Rattle.std.proofs.Common.{refl, sym, ap, subst, ◌∙◌, inl, inr, arith, append_assoc, append-nil, length-append}
-use Rattle.fs_ops.specs.Prelude.{Scene, Shell, answer, apply, Request, AreHonest, after_all, effect, Actor, Entry, only_reads}
-use Rattle.bucket_ops.specs.Prelude.{AreAnswered, AreBy, IsStill}
-use Rattle.s3a_shell.specs.declared.session.Session.{Session}
-use Rattle.store_frame.proofs.Reading.{reads_nothing}
-use Rattle.s3a_shell.specs.Sendings.{Sends, Sent, IsCounted, AppliedOrNot, answered_by}
+use Rattle.s3a_shell.proofs.Common.{Actor, AppliedOrNot, AreAnswered, AreBy, AreHonest, Entry, IsCounted, IsStill, Request, Scene, Sends, Sent, Session, Shell, after_all, answer, answered_by, ap, append-nil, append_assoc, apply, arith, effect, inl, inr, length-append, only_reads, reads_nothing, refl, subst, sym, ◌∙◌}
 
 after_both : (s : Scene) (es fs : List Entry) → after_all s (es ++ fs) ≡ after_all (after_all s es) fs
 after_both s [] fs = refl

@@ -13,3 +13,4 @@ mod Looking
 mod Finished
 pub mod Doing
 pub mod Plain
+mod Common

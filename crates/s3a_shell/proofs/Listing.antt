@@ -1,13 +1,7 @@
 -- What is listed of uploads.
 use Rattle.std.specs.Prelude.{◌≡◌, ℕ, ◌+◌, List, [], ◌∷◌, ◌++◌, drop, Option, Some, None, option_map}
-use Rattle.std.proofs.Common.{refl, sym, ap, ◌∙◌, append_assoc}
-use Rattle.fs_ops.specs.Prelude.{Upload, BucketContent, Scene, answer_at, live, ListParts, UploadRef, Path, below, uploads_from}
-use Rattle.journal_log.specs.Prelude.{listed}
-use Rattle.path_keys.proofs.Common.{some_is}
+use Rattle.s3a_shell.proofs.Common.{BucketContent, DidList, ListParts, ListedIn, Path, Said, Scene, Upload, UploadRef, answer_at, ap, append_assoc, asked_line, asked_lines, below, fine, listed, live, refl, sizes_in, sizes_of, some_is, sym, upload_line, upload_lines, uploads_from, ◌∙◌}
 use Rattle.std.specs.FinMap as fin
-use Rattle.s3a_shell.specs.declared.said.Said.{Said}
-use Rattle.s3a_shell.specs.Texts.{fine}
-use Rattle.s3a_shell.specs.Uploading.{sizes_of, sizes_in, upload_line, upload_lines, asked_line, asked_lines, ListedIn, DidList}
 
 -- the parts that are told are those of the upload that is live
 told : (o : Option Upload) (b : BucketContent) (k : List ℕ) (id next least : ℕ) (n : List ℕ) → live b.uploads k id ≡ o → sizes_in (answer_at (Some b) next least (ListParts n k id)) ≡ sizes_of o

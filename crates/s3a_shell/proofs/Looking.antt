@@ -1,13 +1,7 @@
 -- What only looks sends no change.
 use Rattle.std.specs.Prelude.{◌≡◌, ℕ, ◌++◌, ◌||◌, true, false, List, [], ◌∷◌, Option, Some, None}
-use Rattle.std.proofs.Common.{refl, ap, ◌∙◌}
-use Rattle.fs_ops.specs.Prelude.{AllByRecursion, Objects, Scene, Request, Entry, Ask, Head, Get, Page, is_look, request_of, objects_at, SendsIn, Reply}
-use Rattle.path_keys.proofs.Common.{list_any-append, or-false}
-use Rattle.journal_log.specs.Prelude.{is_changing}
-use Rattle.bucket_ops.specs.Prelude.{SendsAt}
+use Rattle.s3a_shell.proofs.Common.{AllByRecursion, Ask, Asked, Entry, Get, Head, Objects, Page, Reply, Request, Scene, SendsAt, SendsIn, Session, answered_by, ap, has_changed, is_change, is_changing, is_look, list_any-append, objects_at, or-false, refl, request_of, ◌∙◌}
 use Rattle.bucket_ops.specs.Uploads.{IsPageOf}
-use Rattle.s3a_shell.specs.declared.session.Session.{Session}
-use Rattle.s3a_shell.specs.Sendings.{Asked, answered_by, is_change, has_changed}
 
 -- a look is no change
 look_only : (b : List ℕ) (a : Ask) → is_look a ≡ true → is_changing (request_of b a) ≡ false

@@ -1,25 +1,13 @@
 -- What performing an operation over a store that answers every request sends.
 use Rattle.std.specs.Prelude.{◌≡◌, ℕ, ◌+◌, ◌<◌, ◌≤◌, nat_lt, Bool, true, false, List, [], ◌∷◌, length, codes, Option, Some, None, Result, Ok, Err, IfOk, OnOk}
-use Rattle.std.proofs.Common.{refl, sym, ap, subst, ◌∙◌, inl, inr, arith}
-use Rattle.path_keys.proofs.Common.{nat_tests}
-use Rattle.fs_ops.specs.Prelude.{Objects, BucketContent, Scene, answer, apply, is_unanswered, Request, MakeBucket, Shell, Outcome, Answered, Entry, Path, is_key, Seen, Performed, InScene, GivesIn, AlwaysIn, objects_at, with_objects, MarkerPolicy, Creates, Deletes, FsRefusal, NoSuchBucket, Deletion, gives}
-use Rattle.s3_types.specs.Prelude.{fate_of}
-use Rattle.machine.specs.Prelude.{AreForetold}
-use Rattle.bucket_ops.specs.Prelude.{IsStill, AreAnswered, DriveStop}
+use Rattle.s3a_shell.proofs.Common.{AlwaysIn, Answered, AreAnswered, AreForetold, Asked, BucketContent, Created, CreatedUnless, Creates, Deletes, Deletion, Did, DidMake, DidPut, DriveStop, Entry, FileOrNot, FsRefusal, GivesIn, InFile, InScene, IsCounted, IsMadeOrNot, IsStill, MakeBucket, MarkerPolicy, NoSuchBucket, NoneLeft, Objects, Outcome, Path, Performed, Request, Said, Scene, Seen, Sent, Session, Shell, answer, ap, apply, arith, fate_of, gives, inl, inr, is_key, is_unanswered, most_input, nat_tests, nothing, objects_at, placed_same, refl, refusal_word, refused_or_fine, refusing, said, subst, sym, with_objects, ◌∙◌}
 use Rattle.std.specs.FinMap as fin
 use Rattle.s3_types.specs.declared.fates.Fate.TheVariants.{Answer}
 use Rattle.bucket_ops.proofs.AskLaws.{with_same}
 use Rattle.fs_ops.proofs.Deleting.{deletes_in}
-use Rattle.fs_files.specs.Placed.{InFile, NoneLeft}
 use Rattle.fs_files.specs.code.Create.{IsUndone, GivesFile, least as least_of, always_in, AlwaysFile}
-use Rattle.fs_files.proofs.WritingLaws.{placed_same}
 use Rattle.fs_files.specs.Creation.{Creation}
-use Rattle.s3a_shell.specs.declared.said.Said.{Said}
-use Rattle.s3a_shell.specs.Texts.{said, nothing, refusing}
-use Rattle.s3a_shell.specs.declared.session.Session.{Session}
-use Rattle.s3a_shell.specs.Sendings.{Sent, Asked, IsCounted}
 use Rattle.s3a_shell.proofs.Joining.{sent_as}
-use Rattle.s3a_shell.specs.Doings.{Did, most_input, Created, CreatedUnless, IsMadeOrNot, FileOrNot, DidPut, refusal_word, refused_or_fine, DidMake}
 
 one : (o : Outcome) → fate_of o ≡ Answer → is_unanswered o ≡ false
 one (Answered r) h = refl

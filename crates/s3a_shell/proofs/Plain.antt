@@ -1,14 +1,8 @@
 -- What a command is to do is of one of the kinds that can be kept or said.
-use Rattle.std.proofs.Common.{◌≡◌, ℕ, Bool, true, false, List, [], ◌∷◌, Option, Result, Ok, Err, IfOk, refl, sym, subst}
+use Rattle.s3a_shell.proofs.Common.{Bool, Command, Err, Faulty, IfOk, IfOk-weaker, Init, IsPlain, List, Nothing, Ok, Option, Result, Store, Work, [], false, has_changed, refl, subst, sym, true, ℕ, ◌∷◌, ◌≡◌}
 use Rattle.machine.specs.Prelude.{AllByRecursion, Content, new_content, MOST_MINIMUM, Shell, Entry, AreBy}
-use Rattle.s3a_words.specs.declared.command.Command.{Command}
-use Rattle.s3a_words.specs.declared.command.Command.TheVariants.{Init}
-use Rattle.durable_store.specs.Works.{Work, IsPlain}
 use Rattle.durable_store.specs.declared.held.Held.{Held}
-use Rattle.durable_store.specs.declared.held.Held.TheVariants.{Nothing, Store, Faulty}
-use Rattle.s3a_shell.specs.Sendings.{has_changed}
 use Rattle.s3a_shell.specs.Commanded.{init_work, work_said, Done, DoneOn, IsWork}
-use Rattle.std.proofs.lemmas.Result.{IfOk-weaker}
 
 pub init_plain : (minimum : Option ℕ) (held : Held) → IsPlain (init_work minimum held)
 unfolding init_work

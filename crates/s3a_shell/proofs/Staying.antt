@@ -1,22 +1,8 @@
 -- What a command leaves as it was.
 use Rattle.std.specs.Prelude.{◌≡◌, ℕ, ◌<◌, ◌≤◌, nat_lt, Bool, true, false, cond, List, length, Option, Some, None, Result, Err}
-use Rattle.std.proofs.Common.{refl, sym, ap, subst, ◌∙◌, ◌⊎◌, inl, inr, arith}
-use Rattle.fs_ops.specs.Prelude.{nat_cmp, upload_in, is_bucket, Objects, BucketContent, Content, Scene, new_bucket, with_objects_if, with_objects, InScene, GivesIn, Path, MarkerPolicy, Keep, Delete, Stats, Reads, Lists, Creates, Makes, Deletes, Audits, Cleans, Fills, FsRefusal, NoSuchBucket}
-use Rattle.path_keys.proofs.Common.{text_here, text_other}
+use Rattle.s3a_shell.proofs.Common.{AbortedIn, Audits, BucketContent, Cleans, Command, Content, CreatedUnless, Creates, Delete, Deletes, Did, DidAbort, DidBetween, Does, Fills, FsRefusal, GivesIn, InFile, InScene, IsBelow, Keep, Lists, Makes, MarkerPolicy, NoSuchBucket, Objects, OnlyIn, Path, Reads, Said, Scene, Stats, ap, arith, bucket_in, bytes_alone, cleaned_line, ended_by, entry_lines, filled_line, inl, inr, is_bucket, made, marker_lines, most_input, nat_cmp, new_bucket, nothing, objects_of, refl, same_or_other, status_line, subst, sym, text_here, text_other, upload_at, upload_in, with_objects, with_objects_if, ◌∙◌, ◌⊎◌}
 use Rattle.std.specs.FinMap as fin
-use Rattle.store_frame.specs.Held.{upload_at}
-use Rattle.s3_types.specs.Answer.{made}
-use Rattle.bucket_ops.specs.Asks.{objects_of}
-use Rattle.fs_files.specs.Placed.{InFile}
-use Rattle.s3a_words.specs.declared.command.Command.{Command}
 use Rattle.s3a_words.specs.declared.command.Command.TheVariants.{Mb, Ls, Stat, Cat, Put, PutForce, PutDrop, Mkdir, Mv, Cp, Rm, Rmr, Uploads, AbortUploads, Markers, CleanMarkers, FillMarkers}
-use Rattle.s3a_shell.specs.declared.said.Said.{Said}
-use Rattle.s3a_shell.specs.Texts.{status_line, entry_lines, marker_lines, cleaned_line, filled_line, bytes_alone, nothing}
-use Rattle.s3a_shell.specs.Doings.{Did, most_input, CreatedUnless, Does}
-use Rattle.s3a_shell.specs.Stays.{OnlyIn, bucket_in, IsBelow, ended_by}
-use Rattle.s3a_shell.specs.Moving.{DidBetween}
-use Rattle.s3a_shell.specs.Uploading.{DidAbort, AbortedIn}
-use Rattle.proof_base.proofs.Members.{same_or_other}
 
 abbrev pub none : ℕ → Type 0
 none = λ id. ⊥

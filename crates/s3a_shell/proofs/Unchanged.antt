@@ -1,17 +1,10 @@
 -- Where no sending changes anything, the store stays as it is.
 use Rattle.std.specs.Prelude.{◌≡◌, ℕ, ◌&&◌, ◌||◌, nat_lt, Bool, true, false, not, cond, List, [], ◌∷◌, length, Option, Some, None, Result, Ok, Err}
-use Rattle.std.proofs.Common.{refl, ap, subst, ◌∙◌}
-use Rattle.path_keys.proofs.Common.{exact_bytes, insert_same}
-use Rattle.fs_ops.specs.Prelude.{text_total, is_bucket, Upload, BucketContent, Buckets, Content, Scene, new_bucket, answer, apply, answer_at, apply_at, make_answer, copied, copy_answer, part_put, complete_answer, completed, aborted, with_uploads, without, bucket_of, AreHonest, is_unanswered, effect, after_all, live, is_part_number, with_part, joined, Object, Request, MakeBucket, PutObject, DeleteObjects, CreateUpload, UploadPart, CompleteUpload, AbortUpload, Reply, Made, Part, Refused, Deleted, Refusal, TooManyKeys, BadName, Outcome, Answered, Entry}
-use Rattle.machine.specs.Prelude.{part_answer, IsHonestOutcome}
+use Rattle.s3a_shell.proofs.Common.{AbortUpload, Answered, AreAnswered, AreHonest, BadName, BucketContent, Buckets, CompleteUpload, Content, CopyObject, CreateUpload, DeleteObject, DeleteObjects, Deleted, Entry, IsHonestOutcome, MOST_ENTRIES, Made, MakeBucket, NamedPart, Object, Outcome, Part, PutObject, Refusal, Refused, Reply, Request, Scene, TooManyKeys, Upload, UploadPart, aborted, after_all, answer, answer_at, ap, apply, apply_at, bucket_of, complete_answer, completed, copied, copy_answer, effect, exact_bytes, has_changed, insert_same, is_bucket, is_change, is_changing, is_part_number, is_refusal, is_taken, is_unanswered, joined, live, made, make_answer, new_bucket, part_answer, part_put, refl, subst, text_total, with_part, with_uploads, without, ◌∙◌}
 use Rattle.store_frame.specs.Prelude.{abort_answer, with_objects, BadPartNumber}
-use Rattle.journal_log.specs.Prelude.{MOST_ENTRIES, NamedPart, DeleteObject, CopyObject, is_changing}
-use Rattle.bucket_ops.specs.Prelude.{AreAnswered}
 use Rattle.std.specs.FinMap as fin
-use Rattle.s3_types.specs.Answer.{made}
 use Rattle.s3_types.specs.Tags.{plain_tag}
 use Rattle.journal_log.proofs.Journals.{others_leave}
-use Rattle.s3a_shell.specs.Sendings.{is_refusal, is_taken, is_change, has_changed}
 use Rattle.std.proofs.lemmas.Bool.{not-false, or_parts}
 
 -- ---- a refused request
@@ -89,6 +82,7 @@ refused_leaves s _ t h = absurd (cc)
 answered_leaves : (s : Scene) (r : Request) (t : Bool) → is_changing r ≡ t → (t && not (is_refusal (answer s r))) ≡ false → (apply s r).content ≡ s.content
 answered_leaves s r false e h = others_leave s r e
 answered_leaves s r true e h = refused_leaves s r e (not-false (is_refusal (answer s r)) h)
+
 one_leaves : (s : Scene) (r : Request) (a : Reply) → a ≡ answer s r → (is_changing r && not (is_refusal a)) ≡ false → (apply s r).content ≡ s.content
 one_leaves s r a e h = answered_leaves s r (is_changing r) refl (subst (λ (x : Reply). (is_changing r && not (is_refusal x)) ≡ false) e h)
 

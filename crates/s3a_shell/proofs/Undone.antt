@@ -1,22 +1,10 @@
 -- A refused command leaves the scene as it was.
 use Rattle.std.specs.Prelude.{◌≡◌, ℕ, nat_lt, Bool, true, false, cond, List, [], ◌∷◌, length, Option, Some, None, Result, Ok, Err}
-use Rattle.std.proofs.Common.{refl, sym, ap, subst, ◌∙◌, ◌⊎◌, inl, inr}
-use Rattle.path_keys.proofs.Common.{exact_bytes, insert_same}
-use Rattle.fs_ops.specs.Prelude.{text_total, is_bucket, Objects, BucketContent, Buckets, Content, Scene, new_bucket, make_answer, Made, Refused, BadName, Path, with_objects_if, with_objects, InScene, GivesIn, MarkerPolicy, Keep, Delete, Stats, Reads, Lists, Makes, Deletes, Audits, Cleans, Fills, FsRefusal, NotFound, AlreadyExists, NotDirectory, NotEmpty, NoSuchBucket, SourceMissing, UnderSource, TargetFile, TargetExists, ParentMissing, ParentIsFile, TooLong, Renames, Copies}
+use Rattle.s3a_shell.proofs.Common.{AbortedIn, AlreadyExists, Audits, BadName, BucketContent, Buckets, Cleans, Command, Content, Copies, CreatedUnless, Delete, Deletes, Did, DidBetween, DidMake, Does, Fills, FsRefusal, GivesIn, InScene, IsUndone, Keep, Lists, Made, Makes, MarkerPolicy, NoSuchBucket, NotDirectory, NotEmpty, NotFound, Objects, ParentIsFile, ParentMissing, Path, Reads, Refused, Renames, Said, Scene, SourceMissing, Stats, TargetExists, TargetFile, TooLong, UnderSource, ap, bytes_alone, cleaned_line, entry_lines, exact_bytes, filled_line, inl, inr, insert_same, is_bucket, made, make_answer, marker_lines, most_input, new_bucket, nothing, objects_of, refl, refusal_word, refused_or_fine, said, same_or_other, status_line, subst, sym, text_total, with_objects, with_objects_if, ◌∙◌, ◌⊎◌}
 use Rattle.std.specs.FinMap as fin
-use Rattle.s3_types.specs.Answer.{made}
-use Rattle.bucket_ops.specs.Asks.{objects_of}
 use Rattle.fs_tree.specs.declared.answers.FsRefusal.TheVariants.{IsDirectory}
 use Rattle.fs_tree.specs.declared.copy.CopyRefusal.TheVariants as copy
-use Rattle.fs_files.specs.code.Create.{IsUndone}
-use Rattle.s3a_words.specs.declared.command.Command.{Command}
 use Rattle.s3a_words.specs.declared.command.Command.TheVariants.{Mb, Ls, Stat, Cat, Put, PutForce, PutDrop, Mkdir, Mv, Cp, Rm, Rmr, Uploads, AbortUploads, Markers, CleanMarkers, FillMarkers}
-use Rattle.s3a_shell.specs.declared.said.Said.{Said}
-use Rattle.s3a_shell.specs.Texts.{status_line, entry_lines, marker_lines, cleaned_line, filled_line, bytes_alone, nothing, said}
-use Rattle.s3a_shell.specs.Moving.{DidBetween}
-use Rattle.s3a_shell.specs.Uploading.{AbortedIn}
-use Rattle.s3a_shell.specs.Doings.{Did, most_input, CreatedUnless, refusal_word, refused_or_fine, DidMake, Does}
-use Rattle.proof_base.proofs.Members.{same_or_other}
 
 -- a refusal changes nothing
 abbrev pub Keeps : {A R : Type 0} → (Objects → Result A R → Objects → Type 0) → Type 0

@@ -1,8 +1,5 @@
 -- Over which stores a job may begin.
-use Rattle.std.proofs.Common.{◌≡◌, ℕ, ◌≤◌, ◌^◌, nat_le, Bool, true, false, cond, List, Option, Some, None, refl, sym, subst, arith}
-use Rattle.job_spec.proofs.Common.{and_parts, leb-true}
-use Rattle.job_spec.specs.Prelude.{Content, BucketContent, new_bucket, new_content, apply_store, is_bucket, MOST_MINIMUM, MakeBucket}
-use Rattle.journal_log.specs.Prelude.{IsContent}
+use Rattle.s3a_top.proofs.Common.{Bool, BucketContent, Content, IsContent, List, MOST_MINIMUM, MakeBucket, None, Option, Some, and_parts, apply_store, arith, cond, false, is_bucket, leb-true, nat_le, new_bucket, new_content, refl, subst, sym, true, ℕ, ◌^◌, ◌≡◌, ◌≤◌}
 use Rattle.std.specs.FinMap as map
 use Rattle.s3_types.specs.Answer.{made}
 use Rattle.journal_log.proofs.Imaged.{new, one}

@@ -1,17 +1,6 @@
 -- What comes of words, by what came of their command.
-use Rattle.std.proofs.Common.{◌≡◌, ◌⊎◌, inl, inr, ℕ, Bool, true, false, List, Option, Some, None, Result, Ok, Err, refl, sym, subst}
-use Rattle.journal_log.specs.Prelude.{Sight, CrashesLeave, IsTimed}
-use Rattle.exit_status.specs.Statuses.{code, written_text}
-use Rattle.s3a_words.specs.declared.command.Command.{Command}
-use Rattle.s3a_shell.specs.Commanded.{plays}
-use Rattle.s3a_top.specs.Jobs.{MayHaveLeft, JobPlayed, JobStopped}
-use Rattle.s3a_top.specs.Commands.{StoreDone, StoreStopped}
-use Rattle.s3a_top.specs.Works.{IsWritten}
-use Rattle.s3a_top.specs.Plays.{JobSince}
-use Rattle.s3a_top.specs.Workings.{Counted, IsStopped, IsAnswered, JobHalted, StoreHalted, JobGoes, StoreGoes, Goes, Comes}
-use Rattle.s3a_top.specs.declared.stop.Stop.{Stop}
+use Rattle.s3a_top.proofs.Common.{Bool, Comes, Command, Counted, CrashesLeave, Err, Goes, IsAnswered, IsStopped, IsTimed, IsWritten, JobGoes, JobHalted, JobPlayed, JobSince, JobStopped, List, MayHaveLeft, None, Ok, Option, Result, Sight, Some, Stop, StoreDone, StoreGoes, StoreHalted, StoreStopped, Work, code, false, inl, inr, plays, refl, subst, sym, true, written_text, ℕ, ◌≡◌, ◌⊎◌}
 use Rattle.s3a_top.specs.declared.stop.Stop.TheVariants.{Usage, NoMemory}
-use Rattle.s3a_top.specs.declared.work.Work.{Work}
 use Rattle.s3a_top.proofs.Crashing.{unmoved}
 use Rattle.s3a_top.proofs.Playing.{played_from}
 use Rattle.s3a_top.proofs.Telling.{tells_none, worked_usage, worked_due}

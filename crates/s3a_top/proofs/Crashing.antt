@@ -1,17 +1,7 @@
 -- What crashes leave of a job and of a command, since the shelf was loaded and before.
-use Rattle.std.proofs.Common.{◌≡◌, ◌⊎◌, inl, inr, ⊎_elim, ℕ, List, Option, Some, None, refl, sym, ap, ◌∙◌}
-use Rattle.job_spec.specs.Prelude.{Content}
-use Rattle.durable_job.specs.declared.jobs.Jobs.{Jobs}
-use Rattle.journal_log.specs.Prelude.{Holding, Stored, fresh, Sight, CrashesLeave, IsTimed, image, IsMoment}
+use Rattle.s3a_top.proofs.Common.{AreJobsOf, Command, Content, CrashesLeave, Held, Holding, IsFound, IsMoment, IsTimed, Jobs, List, MayHaveLeft, MightLeave, None, Opens, Option, Sight, Some, Stored, ap, fresh, image, inl, inr, opening_in, refl, started, sym, then_on, told_all, told_more, widened, ℕ, ⊎_elim, ◌∙◌, ◌≡◌, ◌⊎◌}
 use Rattle.durable_store.specs.Stores.{found}
 use Rattle.durable_store.specs.Works.{Work, Says, Saves}
-use Rattle.durable_store.specs.Outcomes.{MightLeave}
-use Rattle.durable_store.specs.declared.held.Held.{Held}
-use Rattle.journal_log.proofs.Leaving.{told_all, told_more, started, then_on, widened}
-use Rattle.s3a_words.specs.declared.command.Command.{Command}
-use Rattle.s3a_top.specs.Openings.{AreJobsOf, Opens, opening_in}
-use Rattle.s3a_top.specs.Jobs.{MayHaveLeft}
-use Rattle.s3a_top.specs.Openings.{IsFound}
 
 -- ---- what was found
 

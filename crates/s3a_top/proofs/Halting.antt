@@ -1,25 +1,7 @@
 -- What is told where the work stopped before anything was done.
-use Rattle.std.proofs.Common.{◌≡◌, ◌⊎◌, inl, inr, ℕ, true, List, Option, Some, None, IsErrOf, Err, refl, sym, ap, subst, ◌∙◌}
-use Rattle.job_spec.specs.Prelude.{Content, Entry}
-use Rattle.durable_job.specs.declared.jobs.Jobs.{Jobs}
-use Rattle.durable_job.specs.declared.jobs.Told.{Told}
-use Rattle.journal_log.specs.Prelude.{Stored, Sight, CrashesLeave, IsTimed, NotReplaced, ShelfStop}
-use Rattle.durable_store.specs.Outcomes.{Tells}
-use Rattle.durable_store.specs.declared.held.Held.{Held}
-use Rattle.durable_store.specs.declared.held.Held.TheVariants.{Faulty}
+use Rattle.s3a_top.proofs.Common.{AreJobsOf, Command, Content, CrashesLeave, Entry, Err, Faulty, HasCause, HasReason, Held, IsDue, IsErrOf, IsFaulty, IsFound, IsIdle, IsMade, IsSoundly, IsTimed, IsToldOf, JobBroke, JobHalted, JobStopped, Jobs, List, MayHaveLeft, NoCommand, None, NotReplaced, Opens, Option, ShelfStop, Sight, Some, Status, Stop, StoreHalted, StoreStopped, Stored, Tells, Told, ap, code, inl, inr, is_sound, memory_text, of_shelf, reads_jobs, refl, status_of, stop_text, subst, sym, true, usage_text, ℕ, ◌∙◌, ◌≡◌, ◌⊎◌}
 use Rattle.shelf.specs.declared.kept.ShelfStop.TheVariants as shelves
-use Rattle.s3a_top.specs.Openings.{is_sound, IsSoundly, IsFound, reads_jobs, AreJobsOf, Opens}
-use Rattle.exit_status.specs.Statuses.{code, memory_text, usage_text}
-use Rattle.s3a_top.specs.Statuses.{IsDue, IsIdle}
-use Rattle.s3a_top.specs.Stops.{status_of, of_shelf, stop_text}
-use Rattle.s3a_top.specs.Jobs.{IsFaulty, HasCause, MayHaveLeft, JobStopped}
-use Rattle.s3a_words.specs.declared.command.Command.{Command}
-use Rattle.s3a_top.specs.Commands.{NoCommand, HasReason, StoreStopped}
-use Rattle.s3a_top.specs.Plays.{JobBroke}
-use Rattle.s3a_top.specs.Workings.{IsMade, IsToldOf, JobHalted, StoreHalted}
-use Rattle.exit_status.specs.declared.statuses.Status.{Status}
 use Rattle.exit_status.specs.declared.statuses.Status.TheVariants as statuses
-use Rattle.s3a_top.specs.declared.stop.Stop.{Stop}
 use Rattle.s3a_top.specs.declared.stop.Stop.TheVariants.{Usage, ReadFault, ShelfFault, Script as BadScript, Twins as BadTwins, Image, NoMemory}
 use Rattle.s3a_top.proofs.Crashing.{unmoved, image_left, loaded_alone, loaded_first}
 use Rattle.s3a_top.proofs.Pieces.{taken_part}

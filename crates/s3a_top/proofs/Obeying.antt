@@ -1,27 +1,10 @@
 -- What comes of a command but a job.
-use Rattle.std.proofs.Common.{◌≡◌, inl, inr, ℕ, Bool, true, false, List, Option, Result, Ok, Err, IsErrOf, refl, sym, subst}
-use Rattle.job_spec.specs.Prelude.{Entry}
-use Rattle.journal_log.specs.Prelude.{Stored, IsDurable, Sight, CrashesLeave, IsTimed, ShelfStop}
+use Rattle.s3a_top.proofs.Common.{Answer, Bool, CallsBy, Command, CrashesLeave, Entry, Err, Faulty, HasImages, HasReason, HasReasonIn, Held, IsAnswer, IsDurable, IsDurableNow, IsErrOf, IsFound, IsHeld, IsInput, IsQuiet, IsSound, IsTimed, IsWork, IsWorked, IsWritten, List, MightLeave, Nothing, Ok, Option, Result, ShelfStop, Sight, Status, Stop, Store, StoreGoes, StoreHalted, StoreOver, StoreSince, Stored, WhereSound, Work, WorkDone, false, inl, inr, is_sound, of_shelf, reads_input, refl, subst, sym, takes_input, true, ℕ, ◌≡◌}
 use Rattle.durable_store.specs.Works.{Work as Doing, IsSaid, IsPlain}
-use Rattle.durable_store.specs.declared.work.Answer.{Answer}
-use Rattle.exit_status.specs.declared.statuses.Status.{Status}
 use Rattle.exit_status.specs.declared.statuses.Status.TheVariants as statuses
-use Rattle.durable_store.specs.Outcomes.{IsAnswer, IsHeld, WhereSound, MightLeave, IsDurableNow, CallsBy, IsSound, HasImages}
 use Rattle.durable_store.specs.Outcomes.IsAnswer.{said, saved}
-use Rattle.durable_store.specs.declared.held.Held.{Held}
-use Rattle.durable_store.specs.declared.held.Held.TheVariants.{Nothing, Store, Faulty}
 use Rattle.shelf.specs.declared.kept.ShelfStop.TheVariants as shelves
-use Rattle.s3a_words.specs.declared.command.Command.{Command}
-use Rattle.s3a_shell.specs.Commanded.{takes_input, IsWork}
-use Rattle.s3a_top.specs.Openings.{is_sound, IsFound}
-use Rattle.s3a_top.specs.Statuses.{IsWorked}
-use Rattle.s3a_top.specs.Stops.{of_shelf}
-use Rattle.s3a_top.specs.Commands.{reads_input, IsInput, HasReason, WorkDone}
-use Rattle.s3a_top.specs.Workings.{HasReasonIn, StoreOver, StoreHalted, IsQuiet, StoreSince, StoreGoes}
-use Rattle.s3a_top.specs.Works.{IsWritten}
-use Rattle.s3a_top.specs.declared.stop.Stop.{Stop}
 use Rattle.s3a_top.specs.declared.stop.Stop.TheVariants.{ReadFault, NoMemory}
-use Rattle.s3a_top.specs.declared.work.Work.{Work}
 use Rattle.s3a_top.proofs.Crashing.{command_since}
 use Rattle.s3a_top.proofs.Pieces.{read_taken, taken_part}
 use Rattle.s3a_top.proofs.Halting.{sound_of}

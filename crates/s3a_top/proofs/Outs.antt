@@ -1,19 +1,6 @@
 -- From what is to be said to what was written.
-use Rattle.std.proofs.Common.{◌≡◌, ◌⊎◌, inl, inr, ⊎_elim, ℕ, List, Option, sym, subst}
-use Rattle.job_spec.specs.Prelude.{Content, Entry}
-use Rattle.durable_job.specs.declared.jobs.Jobs.{Jobs}
-use Rattle.durable_job.specs.declared.jobs.Told.{Told}
-use Rattle.journal_log.specs.Prelude.{Sight}
+use Rattle.s3a_top.proofs.Common.{Comes, Command, Content, Entry, IsWritten, JobCut, JobEnded, JobPlayed, JobRan, JobStopped, Jobs, List, Option, Sight, Status, StoreDone, StoreStopped, Told, Work, WorkDone, Writes, code, inl, inr, subst, sym, written_text, ℕ, ⊎_elim, ◌≡◌, ◌⊎◌}
 use Rattle.durable_store.specs.Works.{Work as Doing}
-use Rattle.s3a_words.specs.declared.command.Command.{Command}
-use Rattle.s3a_top.specs.Statuses.{Writes}
-use Rattle.s3a_top.specs.Jobs.{JobEnded, JobCut, JobRan, JobPlayed, JobStopped}
-use Rattle.s3a_top.specs.Commands.{StoreStopped, WorkDone, StoreDone}
-use Rattle.s3a_top.specs.Works.{IsWritten}
-use Rattle.s3a_top.specs.Workings.{Comes}
-use Rattle.s3a_top.specs.declared.work.Work.{Work}
-use Rattle.exit_status.specs.Statuses.{code, written_text}
-use Rattle.exit_status.specs.declared.statuses.Status.{Status}
 
 -- one of two texts
 said_out : (P Q A B C D : Type 0) → (A → C) → (B → D) → (P × A) ⊎ (Q × B) → (P × C) ⊎ (Q × D)

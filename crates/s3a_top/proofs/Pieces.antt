@@ -1,10 +1,6 @@
 -- What was read and what was written so far.
-use Rattle.std.proofs.Common.{◌≡◌, ℕ, ◌+◌, ◌<◌, ◌≤◌, List, [], ◌++◌, length, take, drop, Option, Some, None, Result, Ok, Err, OnErr, refl, sym, ap, subst, ◌∙◌, arith, lit≤, append_assoc, length-append}
-use Rattle.job_spec.proofs.Common.{append-nil, drop_at, take_all, drop_all, length-take}
-use Rattle.proof_base.proofs.Common.{take-append-drop, take_at}
-use Rattle.journal_log.specs.Prelude.{Appends}
+use Rattle.s3a_top.proofs.Common.{Appends, Err, IsRead, IsTaken, List, None, Ok, OnErr, Option, Result, Some, TakesPart, WritesSome, [], ap, append-nil, append_assoc, arith, drop, drop_all, drop_at, length, length-append, length-take, lit≤, refl, subst, sym, take, take-append-drop, take_all, take_at, ℕ, ◌++◌, ◌+◌, ◌<◌, ◌∙◌, ◌≡◌, ◌≤◌}
 use Rattle.shelf.specs.Devices.{Takes}
-use Rattle.s3a_top.specs.Bytes.{IsRead, IsTaken, TakesPart, WritesSome}
 
 -- what was left before is what was read so far and what is left, where the source tells it
 abbrev pub IsReadSoFar : Option (List ℕ) → Option (List ℕ) → List ℕ → Type 0

@@ -1,24 +1,11 @@
 -- What is promised of jobs that were played.
-use Rattle.std.proofs.Common.{◌≡◌, ◌⊎◌, inl, inr, ⊎_elim, ℕ, List, [], ◌∷◌, ◌++◌, length, Option, Some, None, refl, sym, ap, subst, ◌∙◌, append_assoc, arith}
-use Rattle.job_spec.specs.Prelude.{Content, Entry}
-use Rattle.journal_log.specs.Prelude.{Holding, Stored, Sight, CrashesLeave, IsTimed, ShelfStop, Failed, NoMemory, IsContent, IsMoment, Holds, HasEarlier, HoldsPart, IsKept, WhereTold, IsLast}
+use Rattle.s3a_top.proofs.Common.{AreFinished, AreJobsOf, Command, Content, CrashesLeave, Entry, Failed, HasEarlier, Holding, Holds, HoldsPart, IsContent, IsKept, IsLast, IsMoment, IsReported, IsTimed, IsTold, IsWritten, JobCut, JobEnded, JobOver, JobPlayed, JobRan, Jobs, List, NoMemory, None, Opens, Option, ShelfStop, Sight, Some, Stored, Told, WhereTold, Work, [], ap, append_assoc, arith, code, inl, inr, job_text, length, memory_text, refl, subst, survives, sym, verdict_of, written_text, ℕ, ⊎_elim, ◌++◌, ◌∙◌, ◌∷◌, ◌≡◌, ◌⊎◌}
 use Rattle.journal_log.specs.Changes.{changes}
 use Rattle.journal_log.specs.Kept.{IsToEnd}
 use Rattle.journal_log.proofs.Journals.{changes_append}
 use Rattle.journal_log.proofs.Standing.{begins_all, last}
-use Rattle.journal_log.proofs.Leaving.{survives}
-use Rattle.durable_job.specs.Jobs.{AreFinished, verdict_of}
 use Rattle.durable_job.specs.Played.{IsPlayed, IsHeld}
-use Rattle.durable_job.specs.declared.jobs.Jobs.{Jobs}
-use Rattle.durable_job.specs.declared.jobs.Told.{Told}
 use Rattle.durable_job.specs.declared.playing.Kept.{Kept}
-use Rattle.exit_status.specs.Statuses.{code, memory_text, written_text}
-use Rattle.s3a_words.specs.declared.command.Command.{Command}
-use Rattle.s3a_top.specs.Jobs.{job_text, JobEnded, JobCut, JobRan, JobPlayed}
-use Rattle.s3a_top.specs.Openings.{AreJobsOf, Opens}
-use Rattle.s3a_top.specs.Plays.{IsReported, IsTold, JobOver}
-use Rattle.s3a_top.specs.Works.{IsWritten}
-use Rattle.s3a_top.specs.declared.work.Work.{Work}
 
 -- ---- what is kept
 

@@ -1,9 +1,6 @@
 -- What was read of the input, and what it is.
-use Rattle.std.proofs.Common.{◌≡◌, ◌≢◌, ◌≤◌, ◌<◌, ℕ, Bool, true, false, nat_le, List, length, take, Option, Some, None, Result, Ok, Err, refl, sym, ap, ◌∙◌, arith, lit≤}
-use Rattle.job_spec.proofs.Common.{nat_tests, take_all, drop_all}
-use Rattle.proof_base.proofs.Common.{length-take-le}
+use Rattle.s3a_top.proofs.Common.{AreJobsIn, AreJobsOf, Bool, Err, IsAllRead, IsFaultOf, IsRead, Jobs, List, None, Ok, One, Option, Result, Script, Some, TakesPart, Two, ap, arith, drop_all, false, length, length-take-le, lit≤, nat_le, nat_tests, reader, refl, sym, take, take_all, true, ℕ, ◌<◌, ◌∙◌, ◌≡◌, ◌≢◌, ◌≤◌}
 use Rattle.s3_types.specs.Prelude.{Fails}
-use Rattle.job_spec.specs.Prelude.{Script}
 use Rattle.job_script.specs.Fault as script
 use Rattle.job_script.specs.Script.{script_of}
 use Rattle.job_script.specs.declared.fault.ScriptFault.{ScriptFault}
@@ -13,12 +10,6 @@ use Rattle.twin_script.specs.TwinScripts.{Twins}
 use Rattle.twin_script.specs.Twins.{twins_of}
 use Rattle.twin_script.specs.declared.fault.TwinFault.{TwinFault}
 use Rattle.twin_script.specs.declared.fault.TwinFault.TheVariants as twin_faults
-use Rattle.durable_job.specs.declared.jobs.Jobs.{Jobs}
-use Rattle.durable_job.specs.declared.jobs.Jobs.TheVariants.{One, Two}
-use Rattle.s3a_top.specs.Bytes.{IsRead, TakesPart}
-use Rattle.s3a_top.specs.Openings.{IsAllRead, AreJobsOf}
-use Rattle.s3a_top.specs.Jobs.{IsFaultOf}
-use Rattle.s3a_top.specs.Reads.{reader, AreJobsIn}
 
 -- ---- what refuses all that is over the limit
 

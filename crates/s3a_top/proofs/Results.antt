@@ -1,10 +1,5 @@
 -- What is known of a result by what its function's callee says of it.
-use Rattle.std.proofs.Common.{◌≡◌, inr, ℕ, Bool, true, false, List, Option, Result, Ok, Err, IfOk, IfErr, refl, ap, subst}
-use Rattle.durable_job.specs.declared.jobs.Jobs.{Jobs}
-use Rattle.s3a_top.specs.Bytes.{IsRead}
-use Rattle.s3a_top.specs.Openings.{reads_jobs, AreJobsOf}
-use Rattle.s3a_top.specs.Reads.{reader, AreJobsIn, IsReadStop, IsNone}
-use Rattle.s3a_top.specs.declared.stop.Stop.{Stop}
+use Rattle.s3a_top.proofs.Common.{AreJobsIn, AreJobsOf, Bool, Err, IfErr, IfOk, IsNone, IsRead, IsReadStop, Jobs, List, Ok, Option, Result, Stop, ap, false, inr, reader, reads_jobs, refl, subst, true, ℕ, ◌≡◌}
 use Rattle.s3a_top.specs.declared.stop.Stop.TheVariants.{Script as BadScript, Twins as BadTwins, NoMemory}
 use Rattle.s3a_top.proofs.Pieces.{read_taken, taken_part}
 use Rattle.s3a_top.proofs.Readings.{jobs_are, no_script, no_twins}

@@ -1,29 +1,9 @@
 -- Which counts of faults rise, and which causes stops have.
-use Rattle.std.proofs.Common.{◌≡◌, ◌≢◌, inl, inr, ⊎_elim, ℕ, false, ◌<◌, List, Option, Some, None, Ok, Err, refl, sym, subst, ◌∙◌}
-use Rattle.journal_log.specs.Prelude.{ShelfStop, Stored}
-use Rattle.durable_job.specs.declared.jobs.Jobs.{Jobs}
-use Rattle.durable_job.specs.declared.jobs.Jobs.TheVariants.{One, Two}
+use Rattle.s3a_top.proofs.Common.{AreJobsOf, Command, Counted, Counts, CountsReads, Err, HasCause, HasReasonIn, Held, IsDue, IsOfStop, IsReadStop, IsSoundly, IsVerdict, IsWorked, Jobs, List, None, Ok, One, Option, ShelfStop, Some, Status, Stop, Stored, TakesIfRead, Tells, Two, Work, code, false, inl, inr, may_read, of_shelf, refl, status_of, subst, sym, takes_input, ℕ, ⊎_elim, ◌<◌, ◌∙◌, ◌≡◌, ◌≢◌}
 use Rattle.journal_log.specs.Images.{Counts as CountsLoad}
-use Rattle.durable_store.specs.Outcomes.{Tells}
-use Rattle.durable_store.specs.declared.held.Held.{Held}
 use Rattle.shelf.specs.declared.kept.ShelfStop.TheVariants as shelves
-use Rattle.durable_job.specs.Played.{Counts}
-use Rattle.s3a_words.specs.declared.command.Command.{Command}
 use Rattle.s3a_words.specs.declared.command.Command.TheVariants.{Job, Gen, Twins}
-use Rattle.s3a_top.specs.Openings.{AreJobsOf, TakesIfRead, IsSoundly}
-use Rattle.exit_status.specs.Statuses.{code}
-use Rattle.s3a_top.specs.Statuses.{IsDue, IsWorked}
-use Rattle.s3a_top.specs.Stops.{status_of, of_shelf}
-use Rattle.s3a_shell.specs.Commanded.{takes_input}
-use Rattle.s3a_top.specs.Commands.{may_read}
-use Rattle.s3a_top.specs.Reads.{IsReadStop, CountsReads}
-use Rattle.s3a_top.specs.Plays.{IsVerdict, IsOfStop}
-use Rattle.s3a_top.specs.Jobs.{HasCause}
-use Rattle.s3a_top.specs.Workings.{Counted, HasReasonIn}
-use Rattle.s3a_top.specs.declared.work.Work.{Work}
-use Rattle.exit_status.specs.declared.statuses.Status.{Status}
 use Rattle.exit_status.specs.declared.statuses.Status.TheVariants as statuses
-use Rattle.s3a_top.specs.declared.stop.Stop.{Stop}
 use Rattle.s3a_top.specs.declared.stop.Stop.TheVariants.{ReadFault, Script as BadScript, Twins as BadTwins, NoMemory}
 use Rattle.s3a_top.proofs.Readings.{script_part, twins_part}
 

@@ -1,16 +1,10 @@
 -- Which statuses are due of a job and of a command.
-use Rattle.std.proofs.Common.{inl, inr, ℕ, ◌==◌, if◌then◌else◌, Bool, true, false, List, refl}
-use Rattle.durable_job.specs.Jobs.{verdict_of_two, verdict_of}
-use Rattle.durable_job.specs.declared.jobs.Jobs.{Jobs}
-use Rattle.durable_job.specs.declared.jobs.Jobs.TheVariants.{One, Two}
-use Rattle.durable_job.specs.declared.jobs.Told.{Told}
-use Rattle.job_spec.specs.Prelude.{Script, SetupEnd, CommitEnd, OpEnd, EventEnd, Decided, NotBegun, Unended, EndedSo, past, end_verdict, verdict_or, verdict}
+use Rattle.s3a_top.proofs.Common.{Bool, CommitEnd, Decided, EndedSo, EventEnd, IsFinal, Jobs, List, NotBegun, One, OpEnd, Script, SetupEnd, Told, Two, Unended, end_verdict, false, if◌then◌else◌, inl, inr, past, refl, true, verdict, verdict_of, verdict_of_two, verdict_or, ℕ, ◌==◌}
 use Rattle.job_model.specs.declared.ends.SetupEnd.TheVariants as setups
 use Rattle.job_model.specs.declared.ends.CommitEnd.TheVariants as commits
 use Rattle.job_model.specs.declared.ends.CheckEnd.{CheckEnd}
 use Rattle.job_model.specs.declared.ends.CheckEnd.TheVariants as checks
 use Rattle.job_model.specs.declared.ends.OpEnd.TheVariants as ends
-use Rattle.s3a_top.specs.Plays.{IsFinal}
 
 -- ---- verdicts
 

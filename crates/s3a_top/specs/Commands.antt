@@ -1,23 +1,22 @@
 -- What comes of the other commands, and of words that are none.
-use Rattle.std.specs.Prelude.{◌≡◌, ◌⊎◌, ℕ, Bool, true, false, List, [], Option, Some, None}
-use Rattle.job_spec.specs.Prelude.{Entry}
+use Rattle.std.specs.Prelude.{Bool, List, None, Option, Some, [], false, true, ℕ, ◌≡◌, ◌⊎◌}
+use Rattle.journal_log.specs.Prelude.{CrashesLeave, Entry, IsDurable, Sight, Stored}
 use Rattle.durable_job.specs.declared.jobs.Told.{Told}
-use Rattle.journal_log.specs.Prelude.{Stored, IsDurable, Sight, CrashesLeave}
 use Rattle.durable_store.specs.Works.{Work}
-use Rattle.durable_store.specs.Outcomes.{IsSound, IsAnswer, IsHeld, HasImages, WhereSound, MightLeave, IsDurableNow, CallsBy}
+use Rattle.durable_store.specs.Outcomes.{CallsBy, HasImages, IsAnswer, IsDurableNow, IsHeld, IsSound, MightLeave, WhereSound}
 use Rattle.durable_store.specs.declared.held.Held.{Held}
 use Rattle.durable_store.specs.declared.held.Held.TheVariants.{Faulty}
 use Rattle.s3a_words.specs.declared.command.Command.{Command}
 use Rattle.s3a_words.specs.declared.command.Command.TheVariants.{Job, Twins}
-use Rattle.s3a_shell.specs.Commanded.{takes_input, IsWork}
+use Rattle.s3a_shell.specs.Commanded.{IsWork, takes_input}
 use Rattle.s3a_top.specs.Bytes.{IsRead, TakesPart}
 use Rattle.s3a_top.specs.Openings.{IsFound, IsSoundly}
-use Rattle.exit_status.specs.Statuses.{code, usage_text, memory_text, written_text}
+use Rattle.exit_status.specs.Statuses.{code, memory_text, usage_text, written_text}
 use Rattle.exit_status.specs.declared.statuses.Status.{Status}
 use Rattle.s3a_top.specs.Statuses.{IsIdle}
 use Rattle.s3a_top.specs.Stops.{status_of, stop_text}
 use Rattle.s3a_top.specs.declared.stop.Stop.{Stop}
-use Rattle.s3a_top.specs.declared.stop.Stop.TheVariants.{ReadFault, ShelfFault, NoMemory}
+use Rattle.s3a_top.specs.declared.stop.Stop.TheVariants.{NoMemory, ReadFault, ShelfFault}
 
 -- words that are no command: the usage is said, and nothing was done
 pub record NoCommand {S : Type 0} (due : ℕ) (old new : S) (es : List Entry) (told : Told) (Says : List ℕ → Type 0) : Type 0 where

@@ -1,18 +1,17 @@
 -- What comes of a job since its shelf was loaded.
-use Rattle.std.specs.Prelude.{◌≡◌, ◌⊎◌, ℕ, List, length, Option, Some, None, Result, Ok, Err}
-use Rattle.job_spec.specs.Prelude.{Content}
-use Rattle.journal_log.specs.Prelude.{fresh, Sight, CrashesLeave, ShelfStop, Failed, NoMemory, image, IsMoment, WhereTold}
+use Rattle.std.specs.Prelude.{Err, List, None, Ok, Option, Result, Some, length, ℕ, ◌≡◌, ◌⊎◌}
+use Rattle.journal_log.specs.Prelude.{Content, CrashesLeave, Failed, IsMoment, NoMemory, ShelfStop, Sight, WhereTold, fresh, image}
 use Rattle.durable_job.specs.declared.jobs.Jobs.{Jobs}
 use Rattle.durable_job.specs.declared.playing.Kept.{Kept}
-use Rattle.exit_status.specs.Statuses.{code, shelf_text, memory_text}
+use Rattle.exit_status.specs.Statuses.{code, memory_text, shelf_text}
 use Rattle.exit_status.specs.declared.statuses.Status.{Status}
-use Rattle.exit_status.specs.declared.statuses.Status.TheVariants as statuses
 use Rattle.s3a_words.specs.declared.command.Command.{Command}
 use Rattle.s3a_top.specs.Openings.{AreJobsOf, Opens}
-use Rattle.s3a_top.specs.Jobs.{HasCause, MayHaveLeft, job_text, JobRan}
+use Rattle.s3a_top.specs.Jobs.{HasCause, JobRan, MayHaveLeft, job_text}
 use Rattle.s3a_top.specs.Works.{IsWritten}
 use Rattle.s3a_top.specs.declared.stop.Stop.{Stop}
 use Rattle.s3a_top.specs.declared.work.Work.{Work}
+use Rattle.exit_status.specs.declared.statuses.Status.TheVariants as statuses
 
 -- ---- what is said of it
 

@@ -1,17 +1,16 @@
 -- What is due and what is written.
-use Rattle.std.specs.Prelude.{◌≡◌, ◌≢◌, ℕ, ◌++◌, List, [], ◌∷◌, codes, Option}
-use Rattle.job_spec.specs.Prelude.{decimal, Entry}
-use Rattle.journal_log.specs.Prelude.{Appends}
-use Rattle.job_script.specs.Fault.{number_of, line_of}
+use Rattle.std.specs.Prelude.{List, Option, [], codes, ℕ, ◌++◌, ◌∷◌, ◌≡◌, ◌≢◌}
+use Rattle.journal_log.specs.Prelude.{Appends, Entry, decimal}
+use Rattle.job_script.specs.Fault.{line_of, number_of}
 use Rattle.job_script.specs.declared.fault.ScriptFault.{ScriptFault}
-use Rattle.twin_script.specs.Fault as twins
 use Rattle.twin_script.specs.declared.fault.TwinFault.{TwinFault}
 use Rattle.durable_job.specs.Jobs.{nothing_told}
 use Rattle.durable_job.specs.declared.jobs.Told.{Told}
 use Rattle.exit_status.specs.Statuses.{code}
 use Rattle.exit_status.specs.declared.statuses.Status.{Status}
-use Rattle.exit_status.specs.declared.statuses.Status.TheVariants.{Usage, ReadFault, WriteFault, BadScript}
+use Rattle.exit_status.specs.declared.statuses.Status.TheVariants.{BadScript, ReadFault, Usage, WriteFault}
 use Rattle.s3a_top.specs.Bytes.{WritesSome}
+use Rattle.twin_script.specs.Fault as twins
 
 -- what may be due: any of them but that of a failed output
 abbrev pub IsDue : ℕ → Type 0

@@ -1,29 +1,28 @@
 -- What the work of the words gives before its text is written.
-use Rattle.std.specs.Prelude.{◌≡◌, ◌⊎◌, ◌<◌, ◌^◌, ◌-◌, ℕ, true, false, List, Option, Some, None, Result, Ok, Err, IfOk}
-use Rattle.job_spec.specs.Prelude.{Entry}
+use Rattle.std.specs.Prelude.{Err, IfOk, List, None, Ok, Option, Result, Some, false, true, ℕ, ◌-◌, ◌<◌, ◌^◌, ◌≡◌, ◌⊎◌}
+use Rattle.journal_log.specs.Prelude.{CrashesLeave, Entry, Sight}
 use Rattle.durable_job.specs.Jobs.{nothing_told}
 use Rattle.durable_job.specs.declared.jobs.Told.{Told}
-use Rattle.journal_log.specs.Prelude.{Sight, CrashesLeave}
-use Rattle.exit_status.specs.Statuses.{code, written_text, memory_text}
+use Rattle.exit_status.specs.Statuses.{code, memory_text, written_text}
 use Rattle.exit_status.specs.declared.statuses.Status.{Status}
-use Rattle.exit_status.specs.declared.statuses.Status.TheVariants as statuses
-use Rattle.durable_store.specs.Works.{Work as Doing}
 use Rattle.durable_store.specs.Outcomes.{CallsBy, Tells}
 use Rattle.durable_store.specs.declared.work.Answer.{Answer}
 use Rattle.durable_store.specs.declared.held.Held.{Held}
 use Rattle.s3a_words.specs.Words.{IsBounded}
 use Rattle.s3a_words.specs.declared.command.Command.{Command}
-use Rattle.s3a_shell.specs.Commanded.{takes_input, plays, IsWork}
+use Rattle.s3a_shell.specs.Commanded.{IsWork, plays, takes_input}
 use Rattle.s3a_top.specs.Bytes.{TakesPart}
 use Rattle.s3a_top.specs.Openings.{is_sound}
 use Rattle.s3a_top.specs.Statuses.{IsDue, IsIdle, IsWorked}
 use Rattle.s3a_top.specs.Stops.{status_of, stop_text}
-use Rattle.s3a_top.specs.Jobs.{HasCause, AreFew, MayHaveLeft, JobPlayed, JobStopped}
-use Rattle.s3a_top.specs.Commands.{reads_input, IsInput, HasReason, WorkDone, NoCommand, StoreDone, StoreStopped}
+use Rattle.s3a_top.specs.Jobs.{AreFew, HasCause, JobPlayed, JobStopped, MayHaveLeft}
+use Rattle.s3a_top.specs.Commands.{HasReason, IsInput, NoCommand, StoreDone, StoreStopped, WorkDone, reads_input}
 use Rattle.s3a_top.specs.Works.{IsWritten}
 use Rattle.s3a_top.specs.declared.stop.Stop.{Stop}
-use Rattle.s3a_top.specs.declared.stop.Stop.TheVariants.{ReadFault, Script as BadScript, Twins as BadTwins, Image, NoMemory}
 use Rattle.s3a_top.specs.declared.work.Work.{Work}
+use Rattle.exit_status.specs.declared.statuses.Status.TheVariants as statuses
+use Rattle.durable_store.specs.Works.{Work as Doing}
+use Rattle.s3a_top.specs.declared.stop.Stop.TheVariants.{ReadFault, Script as BadScript, Twins as BadTwins, Image, NoMemory}
 
 -- the counts of faults of the input and of the shelf may rise, and the command's numbers are within their bounds
 pub record MayDo (input shelf : ℕ) (command : Command) : Type 0 where

@@ -1,7 +1,6 @@
 -- The numbers that words name are within their bounds.
 use Rattle.std.specs.Prelude.{◌≡◌, ℕ, ◌≤◌, ◌&&◌, nat_le, Bool, true, false, cond, List, [], ◌∷◌, Option, Some, None, option_map, option_and_then}
-use Rattle.std.proofs.Common.{refl, subst}
-use Rattle.path_keys.proofs.Common.{and_parts, leb-true}
+use Rattle.s3a_words.proofs.Common.{and_parts, leb-true, refl, subst}
 use Rattle.path_keys.specs.Paths.{Path}
 use Rattle.s3_types.specs.declared.limits.TheConstants.{MOST_MINIMUM}
 use Rattle.s3a_words.specs.Numbers.{number_in, is_minimum, minimum_in, number_within}

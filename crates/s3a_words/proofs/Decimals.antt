@@ -1,10 +1,7 @@
 -- A word writes a number exactly where it is the number's decimal text.
-use Rattle.std.proofs.Common.{◌≡◌, ℕ, ◌<◌, ◌≤◌, ◌^◌, ◌==◌, ◌&&◌, ◌||◌, nat_le, not, true, false, List, length, get_or, Some, None, refl, ap, subst, arith}
-use Rattle.s3_types.specs.Prelude.{decimal, all_ascii_digits, digits_value}
-use Rattle.path_keys.proofs.Common.{and_parts, leb-true, le-leb, nat_tests, cond_some, decimal_nonempty, decimal_digit, length-decimal-le}
+use Rattle.s3a_words.proofs.Common.{List, None, Some, all_ascii_digits, and_parts, ap, arith, cond_some, decimal, decimal-digits_value, decimal_digit, decimal_nonempty, digits_decimal, digits_value, digits_value-decimal, false, first_decimal, get_or, le-leb, leb-true, length, length-decimal-le, nat_le, nat_tests, not, refl, subst, true, ℕ, ◌&&◌, ◌<◌, ◌==◌, ◌^◌, ◌||◌, ◌≡◌, ◌≤◌}
 use Rattle.std.proofs.lemmas.Bool.{false_from_ne_true}
 use Rattle.std.proofs.lemmas.Str.Parse.{IsNumeralModel, numerals_by_value, tells_all_ascii_digits, digits_value_short}
-use Rattle.std.proofs.lemmas.Fmt.{digits_decimal, digits_value-decimal, decimal-digits_value, first_decimal}
 use Rattle.s3a_words.specs.Numbers.{is_number, number_in, WritesDecimals}
 
 own : IsNumeralModel (λ ds. all_ascii_digits ds ≡ true) (digits_value 10)

@@ -1,3 +1,4 @@
 mod Decimals
 mod Bounds
 mod Parse
+mod Common

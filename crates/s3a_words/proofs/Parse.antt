@@ -1,8 +1,5 @@
 -- What clap makes of words that do not begin with `-`.
-use Rattle.std.proofs.Common.{◌≡◌, ◌∙◌, ℕ, ◌==◌, ◌&&◌, Bool, true, false, List, [], ◌∷◌, Option, None, is_some, refl, sym, ap, ap₂, subst, fold, arith, codes}
-use Rattle.std.specs.Prelude.{Err, IfOk, IsErr, Ok, Result}
-use Rattle.s3_types.specs.Prelude.{list_all, bytes_eq}
-use Rattle.path_keys.proofs.Common.{and_parts, nat_tests}
+use Rattle.s3a_words.proofs.Common.{Bool, Err, Gives, IfOk, IsErr, List, None, Ok, Option, Result, [], and_parts, ap, ap₂, arith, bytes_eq, codes, false, fold, found_of, given, grammar, is_plain, is_some, list_all, listed, nat_tests, refl, rows_of, said, subst, sym, true, ℕ, ◌&&◌, ◌==◌, ◌∙◌, ◌∷◌, ◌≡◌}
 use Rattle.clap.specs.Lexer.{long_of, short_of}
 use Rattle.clap.specs.Walk.{Held, Row, Text, Walk, arg_by_index, finished, first_of, idle, nothing_held, to_positional, value, walk, walked}
 use Rattle.clap.specs.Simple.{Shape, built, entered, is_simple, matches_of}
@@ -12,11 +9,8 @@ use Rattle.clap.specs.Kinds.{Kinds, or_else}
 use Rattle.clap.specs.declared.error.kind.ErrorKind.{ErrorKind}
 use Rattle.clap.specs.declared.error.kind.ErrorKind.TheVariants as kind
 use Rattle.clap.proofs.OnLiterals.{clap_on_literals}
-use Rattle.clap.specs.Words.{found_of, rows_of}
 use Rattle.clap.specs.declared.parser.matches.ArgMatches.{ArgMatches}
 use Rattle.clap.proofs.WalkLemmas.{first_value-rows}
-use Rattle.s3a_words.specs.Grammar.{Gives, given, grammar, listed}
-use Rattle.s3a_words.specs.Words.{is_plain, said}
 
 -- clap takes the word for no flag
 record IsBare (word : Text) : Type 0 where

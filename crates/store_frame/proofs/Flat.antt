@@ -1,14 +1,7 @@
 -- A listing without a delimiter has the keys that stand, in order.
-use Rattle.std.proofs.Common.{◌≡◌, ℕ, zero, suc, ◌⊎◌, inl, inr, ◌≤◌, nat_lt, Bool, true, false, List, [], ◌∷◌, ◌++◌, map, take, length, Some, None, refl, sym, ap, subst, ◌∙◌, arith}
-use Rattle.store_frame.specs.Prelude.{find, filter, AllByRecursion, keys_of, is_lt, eq_by_cmp, Less, text_cmp, text_total, text_ties, Objects, begins, entry_of, listed, text_in, folded_from, is_again, Object, PageEntry, IsIn, RisesFrom, last_from}
-use Rattle.proof_base.proofs.Common.{ltb-false, sorted_head, sorted_tail}
+use Rattle.store_frame.proofs.Common.{AllByRecursion, Bool, IsIn, IsStrictlySortedBy, Less, List, None, Object, Objects, PageEntry, RisesFrom, Some, [], ap, arith, begins, contrary, entry_of, eq_by_cmp, false, false_true, filter, filter_in, find, folded_from, in_filter, in_map, inl, inr, irrefl, is_again, is_lt, keys_of, last_from, length, listed, lt, lt_trans, ltb-false, map, map_in, map_sorted, nat_lt, none_some, refl, some_is, sorted_head, sorted_tail, subst, suc, sym, take, text_cmp, text_exact, text_false, text_in, text_ties, text_total, text_true, tied, true, true_or_false, zero, ℕ, ◌++◌, ◌∙◌, ◌∷◌, ◌≡◌, ◌≤◌, ◌⊎◌}
 use Rattle.std.specs.FinMap as fin
-use Rattle.std.specs.List.Sorted.{IsStrictlySortedBy}
-use Rattle.proof_base.proofs.Bools.{contrary}
-use Rattle.proof_base.proofs.Less.{lt, irrefl, lt_trans}
-use Rattle.proof_base.proofs.Tree.{tied, map_sorted}
 use Rattle.store_frame.specs.Laws.{keys_listed}
-use Rattle.proof_base.proofs.Members.{true_or_false, some_is, none_some, false_true, text_exact, text_true, text_false, map_in, in_map, in_filter, filter_in}
 
 -- ---- what is listed rises
 

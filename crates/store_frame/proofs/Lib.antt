@@ -5,3 +5,4 @@ pub mod Prefix
 pub mod Stem
 pub mod Walked
 pub mod Listed
+mod Common

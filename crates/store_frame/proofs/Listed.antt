@@ -1,14 +1,5 @@
 -- What the walk finds is what is listed.
-use Rattle.std.proofs.Common.{◌≡◌, ℕ, inl, inr, Bool, true, false, cond, List, [], ◌∷◌, ◌++◌, Option, Some, None, refl, sym, ap, ◌∙◌, subst, map, length, arith}
-use Rattle.proof_base.proofs.Common.{false≢true, exact_bytes, sorted_head, sorted_tail}
-use Rattle.std.proofs.lemmas.Bool.{cases_Bool}
-use Rattle.proof_base.proofs.Bools.{contrary}
-use Rattle.store_frame.specs.Prelude.{filter, keys_of, is_lt, is_eq, is_gt, Less, Equal, Greater, text_cmp, text_total, Object, PageEntry, begins, stem_if, entry_by, entry_of, text_in, is_again, folded_from, listed, text_of, entries, Objects}
-use Rattle.std.specs.List.Sorted.{IsStrictlySortedBy}
-use Rattle.store_frame.specs.Walk.{text_by, walked}
-use Rattle.proof_base.proofs.Tree.{map_sorted, tied}
-use Rattle.s3_types.proofs.Begins.{between}
-use Rattle.proof_base.proofs.Less.{lt_back, lt_le, le_lt, irrefl}
+use Rattle.store_frame.proofs.Common.{Bool, Equal, Greater, IsStrictlySortedBy, Less, List, None, Object, Objects, Option, PageEntry, Some, [], ap, arith, begins, between, cases_Bool, cond, contrary, entries, entry_by, entry_of, exact_bytes, false, false≢true, filter, folded_from, inl, inr, irrefl, is_again, is_eq, is_gt, is_lt, keys_of, le_lt, length, listed, lt_back, lt_le, map, map_sorted, refl, sorted_head, sorted_tail, stem_if, subst, sym, text_by, text_cmp, text_in, text_of, text_total, tied, true, walked, ℕ, ◌++◌, ◌∙◌, ◌∷◌, ◌≡◌}
 use Rattle.store_frame.proofs.Prefix.{lt, le_le, lt_not}
 use Rattle.store_frame.proofs.Walked.{stems, text_le}
 

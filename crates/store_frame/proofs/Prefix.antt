@@ -1,7 +1,5 @@
 -- What a text begins with, and the order of texts.
-use Rattle.std.proofs.Common.{◌≡◌, ℕ, Bool, true, false, ◌&&◌, nat_eq, List, [], ◌∷◌, ◌++◌, refl, arith}
-use Rattle.proof_base.proofs.Common.{nat_tests, false≢true, true≢false}
-use Rattle.store_frame.specs.Prelude.{Ordering, nat_cmp, is_lt, ordering_then, text_cmp, text_total, begins}
+use Rattle.store_frame.proofs.Common.{Bool, List, Ordering, [], arith, begins, false, false≢true, is_lt, nat_cmp, nat_eq, nat_tests, ordering_then, refl, text_cmp, text_total, true, true≢false, ℕ, ◌&&◌, ◌++◌, ◌∷◌, ◌≡◌}
 use Rattle.proof_base.proofs.Less as less
 
 -- whether a text is less than another

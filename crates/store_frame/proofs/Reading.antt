@@ -1,9 +1,6 @@
 -- A request that only reads changes nothing.
-use Rattle.std.proofs.Common.{◌≡◌, ◌+◌, true, false, cond, List, ℕ, [], Option, Some, None, refl, ap, ◌∙◌}
-use Rattle.store_frame.specs.Prelude.{text_total, BucketContent, Content, Scene, apply, apply_at, apply_in, bucket_of, draws, only_reads, Request, GetObject, HeadObject, ListPage, ListParts, ListUploads, ClusterGet, ClusterList}
+use Rattle.store_frame.proofs.Common.{BucketContent, ClusterGet, ClusterList, Content, GetObject, HeadObject, List, ListPage, ListParts, ListUploads, None, Option, Request, Scene, Some, [], ap, apply, apply_at, apply_in, bucket_of, cond, draws, false, false_true, insert_same, only_reads, refl, text_exact, text_total, true, ℕ, ◌+◌, ◌∙◌, ◌≡◌}
 use Rattle.std.specs.FinMap as fin
-use Rattle.proof_base.proofs.Tree.{insert_same}
-use Rattle.proof_base.proofs.Members.{text_exact, false_true}
 
 same_bucket : (c : Content) (n : List ℕ) (r : Request) (o : Option BucketContent) → fin.get c.buckets (bucket_of r) ≡ o → draws r ≡ false → ((b : BucketContent) → apply_in b c.next c.minimum r ≡ b) → apply_at o c r ≡ c
 same_bucket c n r None e d h = refl

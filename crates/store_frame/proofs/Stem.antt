@@ -1,9 +1,5 @@
 -- Common prefixes.
-use Rattle.std.proofs.Common.{◌≡◌, ℕ, inl, inr, Bool, true, false, ◌&&◌, nat_eq, List, [], ◌∷◌, ◌++◌, Option, Some, None, refl, sym, ap, ◌∙◌, subst, arith}
-use Rattle.proof_base.proofs.Members.{some_is}
-use Rattle.proof_base.proofs.Common.{and_parts, false≢true, eqb-true, eq-eqb}
-use Rattle.std.proofs.lemmas.Bool.{cases_Bool}
-use Rattle.store_frame.specs.Prelude.{option_map, begins, before_slash, stem}
+use Rattle.store_frame.proofs.Common.{Bool, List, None, Option, Some, [], and_parts, ap, arith, before_slash, begins, cases_Bool, eq-eqb, eqb-true, false, false≢true, inl, inr, nat_eq, option_map, refl, some_is, stem, subst, sym, true, ℕ, ◌&&◌, ◌++◌, ◌∙◌, ◌∷◌, ◌≡◌}
 
 record Mapped {A : Type 0} (f : A → A) (o : Option A) (s : A) : Type 0 where
   pub from : A

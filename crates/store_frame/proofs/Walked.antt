@@ -1,14 +1,5 @@
 -- What is walked after a text begins at the first key from `start` on.
-use Rattle.std.proofs.Common.{◌≡◌, ℕ, inl, inr, Bool, true, false, ◌&&◌, not, List, [], ◌∷◌, ◌++◌, Option, Some, None, refl, sym, ap, ◌∙◌, subst, cond}
-use Rattle.proof_base.proofs.Common.{and_parts, and_right, and_from, eq-eqb, not-true, sorted_head, sorted_tail}
-use Rattle.store_frame.specs.Prelude.{is_lt, filter, slice_get, AllByRecursion, keys_of, Unbounded, Less, is_from_start, entries_between, text_cmp, text_total, Object, begins, stem_if, text_of, start, ComesNext}
-use Rattle.std.proofs.lemmas.Bool.{and_left, cases_Bool, true_from_ne_false}
-use Rattle.proof_base.proofs.Bools.{contrary}
-use Rattle.proof_base.proofs.Members.{some_is, none_some, none_or_some, false_true}
-use Rattle.std.specs.List.Sorted.{IsStrictlySortedBy}
-use Rattle.store_frame.specs.Walk.{text_by, start_by, walked}
-use Rattle.s3_types.proofs.Begins.{between, from_prefix}
-use Rattle.proof_base.proofs.Less.{le_not, le_lt, lt_le, irrefl, lt_trans}
+use Rattle.store_frame.proofs.Common.{AllByRecursion, Bool, ComesNext, IsStrictlySortedBy, Less, List, None, Object, Option, Some, Unbounded, [], and_from, and_left, and_parts, and_right, ap, begins, between, cases_Bool, cond, contrary, entries_between, eq-eqb, false, false_true, filter, from_prefix, inl, inr, irrefl, is_from_start, is_lt, keys_of, le_lt, le_not, lt_le, lt_trans, none_or_some, none_some, not, not-true, refl, slice_get, some_is, sorted_head, sorted_tail, start, start_by, stem_if, subst, sym, text_by, text_cmp, text_of, text_total, true, true_from_ne_false, walked, ℕ, ◌&&◌, ◌++◌, ◌∙◌, ◌∷◌, ◌≡◌}
 use Rattle.store_frame.proofs.Prefix.{lt, up_to_next, before_next, le_le, lt_not}
 use Rattle.store_frame.proofs.Stem.{stem_below, stem_prefix, stem_same}
 

@@ -1,15 +1,7 @@
 -- Entries that rise: they are taken and read again, and they are those of the map that they make.
-use Rattle.std.proofs.Common.{◌≡◌, ℕ, zero, suc, ◌+◌, ◌^◌, ◌<◌, ◌≤◌, Bool, true, false, T, List, [], ◌∷◌, ◌++◌, length, Option, Some, None, Ok, refl, sym, ap, subst, ◌∙◌, append_assoc, length-append, arith}
+use Rattle.store_image.proofs.Common.{AllByRecursion, AreEntries, Bool, Greater, IsBytes, IsEntry, IsReader, IsTotalOrder, IsWide, List, None, Ok, Option, Ordering, Some, T, Takes, Takes-then, Width, [], ap, append-nil, append_assoc, arith, below_all, counted, entries_empty, entries_sorted, false, flat_map, flat_map-cons, is_lt, is_sorted, length, length-append, less_of, ordering_reverse, parted, put, refl, same_ok, subst, suc, sym, to_be_bytes, true, zero, ℕ, ◌++◌, ◌+◌, ◌<◌, ◌^◌, ◌∙◌, ◌∷◌, ◌≡◌, ◌≤◌}
 use Rattle.std.specs.Prelude.{◌&&◌}
-use Rattle.s3_types.specs.Prelude.{entries_sorted, put, below_all, is_sorted, Width, to_be_bytes, flat_map, AllByRecursion, is_lt, ordering_reverse, Ordering, Greater, IsTotalOrder}
-use Rattle.proof_base.proofs.Common.{append-nil, flat_map-cons}
 use Rattle.std.specs.FinMap as fin
-use Rattle.proof_base.proofs.Less.{less_of}
-use Rattle.proof_base.proofs.Tree.{entries_empty}
-use Rattle.proof_base.proofs.Reading.{parted, same_ok}
-use Rattle.proof_base.proofs.Bytes.{IsBytes, Takes, Takes-then, IsReader, IsWide}
-use Rattle.store_image.specs.Image.{counted}
-use Rattle.store_image.specs.Content.{IsEntry, AreEntries}
 use Rattle.store_image.specs.Reading.{Read, number_at, is_after, rising_at, with_entries, map_at, counted_at}
 use Rattle.store_image.proofs.Steps.{number_takes, number_again}
 use Rattle.store_image.proofs.Maps.{after_both}

@@ -4,3 +4,4 @@ pub mod Loop
 pub mod Entries
 pub mod Spelled
 pub mod Whole
+mod Common

@@ -1,12 +1,7 @@
 -- One more entry of a map that is read.
-use Rattle.std.proofs.Common.{◌≡◌, ℕ, suc, ◌+◌, ◌-◌, ◌<◌, ◌≤◌, List, ◌∷◌, Option, Some, None, Ok, Err, refl, sym, ap, ◌∙◌, arith}
-use Rattle.s3_types.specs.Prelude.{Ordering, ◌>>=◌, Fails, w16, w64, is_key, Parts, Uploads, Content}
-use Rattle.proof_base.proofs.Common.{nat_cmp_total}
+use Rattle.store_image.proofs.Common.{Content, Err, Fails, List, None, Ok, Option, Ordering, Parts, Some, Uploads, ap, arith, is_key, made, nat_cmp_total, refl, suc, sym, unless_more, w16, w64, wanting, ℕ, ◌+◌, ◌-◌, ◌<◌, ◌>>=◌, ◌∙◌, ◌∷◌, ◌≡◌, ◌≤◌}
 use Rattle.std.specs.FinMap as fin
-use Rattle.proof_base.specs.Reading.{made}
-use Rattle.proof_base.proofs.Reading.{unless_more}
 use Rattle.store_image.specs.declared.fault.ImageFault.{ImageFault}
-use Rattle.store_image.specs.Fault.{wanting}
 use Rattle.store_image.specs.Reading.{Read, number_at, block_at, name_at, part_number_at, rising_at, with_entries, map_at, counted_at, upload_at}
 use Rattle.store_image.proofs.Maps.{insert_again}
 

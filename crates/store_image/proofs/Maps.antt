@@ -1,10 +1,7 @@
 -- Maps that grow by keys that rise.
-use Rattle.std.proofs.Common.{◌≡◌, ℕ, ◌<◌, ◌≤◌, Bool, true, false, cond, List, Option, Some, None, refl, sym, ap, ◌∙◌, arith}
+use Rattle.store_image.proofs.Common.{Bool, List, None, Option, Some, ap, arith, cond, false, is_after, less_of, nat_cmp_total, nat_tests, refl, sym, true, ℕ, ◌<◌, ◌∙◌, ◌≡◌, ◌≤◌}
 use Rattle.s3_types.specs.Prelude.{is_lt, is_eq, eq_by_cmp, ordering_reverse, nat_cmp, Ordering, Less, Equal, Greater, IsTotalOrder, eq_by_cmp_equiv, text_equiv, Parts, Upload, Uploads, with_key, live, is_part_number, with_part, part_put}
-use Rattle.proof_base.proofs.Common.{nat_cmp_total, nat_tests}
 use Rattle.std.specs.FinMap as fin
-use Rattle.proof_base.proofs.Less.{less_of}
-use Rattle.store_image.specs.Reading.{is_after}
 
 module _ {K : Type 0} {R : K → K → Ordering} (o : IsTotalOrder R) where
   -- what comes after a key that comes after the last one comes after the last one

@@ -1,15 +1,10 @@
 -- What is read of each kind of value is spelled so, and what is spelled so is read.
-use Rattle.std.proofs.Common.{◌≡◌, ℕ, zero, suc, leb, ltb, ◌&&◌, ◌+◌, ◌-◌, ◌^◌, ◌<◌, ◌≤◌, Bool, true, List, [], ◌∷◌, ◌++◌, length, Option, Some, None, Ok, refl, sym, ap, subst, ◌∙◌, append_assoc, arith}
+use Rattle.store_image.proofs.Common.{AreEntries, Bool, IsBucket, IsBytes, IsEntry, IsObject, IsPart, IsReader, IsUpload, List, None, Ok, Option, Some, Takes, Takes-then, [], ap, append_assoc, arith, block, bucket, counted, header, is_id, leb, length, ltb, name, object, part, parted, refl, same_ok, slice_index, subst, suc, sym, tested, tested_again, true, upload, wide16, wide64, zero, ℕ, ◌&&◌, ◌++◌, ◌+◌, ◌-◌, ◌<◌, ◌^◌, ◌∙◌, ◌∷◌, ◌≡◌, ◌≤◌}
 use Rattle.std.specs.FinMap as fin
-use Rattle.std.specs.Prelude.{slice_index}
 use Rattle.proof_base.proofs.Common.{length-append, leb-true, ltb-true, and_parts, nat_cmp_total}
 use Rattle.s3_types.specs.Prelude.{w16, w64, to_be_bytes, AllByRecursion, list_all, nat_cmp, text_cmp, text_total, is_utf8, ◌>>=◌, is_bucket, is_key, is_key_path, are_elements, trimmed, is_name_byte, is_part_number, Upload, BucketContent}
-use Rattle.proof_base.proofs.Reading.{parted, same_ok, tested, tested_again}
-use Rattle.proof_base.proofs.Bytes.{IsBytes, Takes, Takes-then, IsReader, wide16, wide64}
 use Rattle.s3_types.specs.Names.{is_letter_or_digit}
 use Rattle.s3_types.specs.declared.object.Object.{Object}
-use Rattle.store_image.specs.Image.{name, block, counted, header, object, part, upload, bucket}
-use Rattle.store_image.specs.Content.{is_id, IsEntry, AreEntries, IsObject, IsPart, IsUpload, IsBucket}
 use Rattle.store_image.specs.Reading.{Read, is_after, number_at, block_at, name_at, id_at, part_number_at, counted_at, header_in, object_at, parts_at, upload_at, bucket_at}
 use Rattle.store_image.proofs.Steps.{IsBelow, number_takes, number_again, number_reader, block_reader, block_again, any_block}
 use Rattle.store_image.proofs.Maps.{lt_from}

@@ -1,12 +1,6 @@
 -- Steps of reading: what a step took from the front, and that it reads again what was written.
-use Rattle.std.proofs.Common.{◌≡◌, ℕ, ◌+◌, ◌^◌, ◌<◌, ◌≤◌, List, ◌++◌, length, Ok, refl, sym, ap, subst, ◌∙◌, append_assoc, arith}
-use Rattle.s3_types.specs.Prelude.{Width, w64, byte_len, from_be_bytes, to_be_bytes, ◌>>=◌}
+use Rattle.store_image.proofs.Common.{IsBytes, IsPart, IsReader, IsWide, List, Ok, Short, Takes, Takes-then, Width, ap, append_assoc, arith, block, byte_len, from_be_bytes, front_again, front_takes, length, parted, refl, same_ok, subst, sym, to_be_bytes, w64, wide64, ℕ, ◌++◌, ◌+◌, ◌<◌, ◌>>=◌, ◌^◌, ◌∙◌, ◌≡◌, ◌≤◌}
 use Rattle.proof_base.proofs.Common.{length-append}
-use Rattle.proof_base.proofs.Bytes.{IsBytes, Takes, Takes-then, IsReader, front_takes, front_again, IsWide, wide64}
-use Rattle.proof_base.proofs.Reading.{parted, same_ok}
-use Rattle.store_image.specs.declared.fault.ImageFault.TheVariants.{Short}
-use Rattle.store_image.specs.Image.{block}
-use Rattle.store_image.specs.Content.{IsPart}
 use Rattle.store_image.specs.Reading.{Read, place, bytes_at, number_at, block_at}
 
 -- ---- bytes

@@ -1,21 +1,14 @@
 -- Where replies lead a commit, by the places of the files that it commits.
-use Rattle.std.proofs.Common.{◌≡◌, ℕ, zero, suc, ◌+◌, ◌<◌, ◌≤◌, nat_lt, nat_le, Bool, true, false, cond, ◌||◌, List, [], ◌∷◌, ◌++◌, map, length, take, drop, get_or, slice_get, Option, Some, None, option_map, refl, sym, ap, subst, ◌∙◌, arith, add-one}
+use Rattle.task_magic.proofs.Common.{AreReady, AreRecords, Attempting, Bool, Creating, File, FitsRecord, GetObject, Got, HoldsCommit, IsPending, Known, List, NoSuchKey, None, Option, Publishing, Refused, Reply, Request, Script, Sending, Some, Task, TaskCommit, TaskCommitOver, TaskEnd, Who, [], add-one, and_parts, ap, are_places, arith, at_most_is, at_most_not, below_is, bytes_decides, commit_by, commit_of, cond, drawn_of, drop, drop_all, false, files, get_or, in_order, is_no_key, is_set_key, keys_on, known_if, least_missing, least_unseen, length, length-map, looked, looked_at, map, nat_le, nat_lt, option_map, or-true, own_files, picked, publishes, read_record, reading, record_key, record_of, refl, seen_in, slice_get, slice_get-get_or, slice_get_within, subst, suc, sym, take, take_all, task_commit_asks, task_commit_hears, task_commit_told, task_script, true, walked_by, who_of, with_known, with_sent, zero, ℕ, ◌++◌, ◌+◌, ◌<◌, ◌||◌, ◌∙◌, ◌∷◌, ◌≡◌, ◌≤◌}
 use Rattle.std.proofs.lemmas.Option.{slice_get_past}
-use Rattle.proof_base.proofs.Common.{slice_get-get_or}
-use Rattle.job_protocol.specs.Prelude.{bytes_decides, Request, GetObject, Reply, Refused, NoSuchKey, Got, File, Who, Known, Task, Script, TaskEnd, Attempting, task_script, who_of, with_known, task_commit_told, is_set_key, files, record_key, keys_on, walked_by, Creating, Sending, TaskCommit, Publishing, TaskCommitOver, task_commit_asks, task_commit_hears, in_order, reading, looked, looked_at, least_missing, read_record}
-use Rattle.path_keys.proofs.Common.{and_parts, drop_all, below_is, at_most_is, at_most_not, length-map, take_all, slice_get_within}
 use Rattle.s3_types.specs.declared.reply.Reply.TheVariants.{Object}
 use Rattle.magic_paths.specs.Layout as layout
 use Rattle.job_model.specs.declared.ends.TaskEnd.TheVariants as ends
 use Rattle.list_walk.specs.Walks.{walked}
 use Rattle.job_protocol.specs.TaskCommits as commits
 use Rattle.task_magic.specs.declared.committing.Committing.{Committing}
-use Rattle.task_requests.specs.Publishing.{picked, IsPending, AreReady, are_places, drawn_of, FitsRecord}
-use Rattle.task_magic.specs.Committing.{commit_by, commit_of, HoldsCommit, AreRecords, record_of, is_no_key, publishes, known_if, with_sent, seen_in, least_unseen}
 use Rattle.task_machines.specs.Commits.{FitsCommit}
 use Rattle.task_magic.proofs.Listed.{missing_by}
-use Rattle.task_requests.proofs.Told.{own_files}
-use Rattle.std.proofs.Math.Bool.{or-true}
 
 -- ---- the file at a place
 

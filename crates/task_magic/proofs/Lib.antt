@@ -2,3 +2,4 @@ pub mod Whole
 pub mod Undone
 pub mod Listed
 pub mod Committed
+mod Common

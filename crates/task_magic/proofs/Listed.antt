@@ -1,18 +1,11 @@
 -- Which files the keys of a listing are of.
-use Rattle.std.proofs.Common.{◌≡◌, ℕ, zero, suc, ◌+◌, ◌<◌, ◌≤◌, nat_eq, nat_lt, Bool, true, false, cond, ◌||◌, List, [], ◌∷◌, ◌++◌, map, length, drop, get_or, slice_get, Option, Some, None, option_map, codes, refl, sym, ap, subst, ◌∙◌, arith, add-one, append_assoc, length-append, replicate}
+use Rattle.task_magic.proofs.Common.{AllByRecursion, AreRecords, Bool, File, IfSome, IsDistinct, IsPlaceOf, IsRecordAt, List, None, Option, Some, Task, [], add-one, ap, append-nil, append_assoc, append_cancel_left, append_cancel_right, are_places, arith, attempt_dir, attempt_prefix, below, below_so, bytes_decides, codes, cond, drop, drop-cons, drop_all, false, files, filter, flat_map-append, get_or, in_order, is_at, is_some, keys_of, least_missing, least_of, least_unseen, length, length-append, length-map, list_all-append, list_any, list_any-append, lookup, map, map-append, nat_eq, nat_lt, nat_tests, option_map, or-false, or-true, own_files, picked, places_in, position, record_of, records_in, refl, replicate, seen_in, set_at, slice_get, slice_set, subst, suc, sym, task_script, text_eq, true, true≢false, who_of, zero, ℕ, ◌++◌, ◌+◌, ◌<◌, ◌||◌, ◌∙◌, ◌∷◌, ◌≡◌, ◌≤◌}
 use Rattle.proof_base.proofs.Members.{nat_true, text_false}
-use Rattle.std.specs.Prelude.{slice_set, is_some, IfSome}
-use Rattle.job_protocol.specs.Prelude.{filter, list_any, AllByRecursion, IsDistinct, position, keys_of, lookup, bytes_decides, text_eq, below, File, Task, task_script, who_of, files, attempt_dir, attempt_prefix, in_order, least_missing, least_of}
-use Rattle.path_keys.proofs.Common.{true≢false, nat_tests, flat_map-append, append_cancel_left, append_cancel_right, map-append, drop_all, list_any-append, list_all-append, or-false, drop-cons, below_so, append-nil, length-map}
 use Rattle.proof_base.proofs.Common.{slice_get-get_or, position-Some, IsDistinct-head, IsDistinct-tail, slice_get_within}
 use Rattle.std.proofs.lemmas.List.{get_or-map}
 use Rattle.magic_paths.proofs.Tails.{below_is}
-use Rattle.task_requests.specs.Publishing.{picked, are_places}
 use Rattle.job_model.specs.declared.ends.TaskEnd.TheVariants as ends
-use Rattle.task_magic.specs.Committing.{record_of, AreRecords, IsRecordAt, IsPlaceOf, is_at, places_in, records_in, set_at, seen_in, least_unseen}
-use Rattle.task_requests.proofs.Told.{own_files}
 use Rattle.proof_base.proofs.Numbers.{suc_not, suc_same, zero_not}
-use Rattle.std.proofs.Math.Bool.{or-true}
 
 -- ---- tests on texts
 

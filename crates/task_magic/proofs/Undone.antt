@@ -1,6 +1,5 @@
 -- Where replies lead an abort, by how many of its uploads are aborted.
-use Rattle.std.proofs.Common.{◌≡◌, ℕ, zero, suc, ◌+◌, ◌<◌, Bool, List, [], ◌∷◌, length, drop, Option, None, refl, sym, ap, ◌∙◌, arith, add-one}
-use Rattle.job_protocol.specs.Prelude.{Committer, Magic, Reply, Drawn, Known, Script, TaskEnd, as_made, Sweep, sweep_start, task_abort_hears, dropping}
+use Rattle.task_magic.proofs.Common.{Bool, Committer, Drawn, Known, List, Magic, None, Option, Reply, Script, Sweep, TaskEnd, [], add-one, ap, arith, as_made, drop, dropping, length, refl, suc, sweep_start, sym, task_abort_hears, zero, ℕ, ◌+◌, ◌<◌, ◌∙◌, ◌∷◌, ◌≡◌}
 use Rattle.task_magic.specs.Undoing.{abort_from, abort_by}
 
 -- ---- behind an upload

@@ -1,15 +1,9 @@
 -- A write as a whole: how it begins, and what it is told without a reply.
-use Rattle.std.proofs.Common.{◌≡◌, ℕ, ◌<◌, Bool, false, List, [], ◌∷◌, ◌++◌, length, drop, codes, Option, Some, None, refl, sym, ap, subst, ◌∙◌, arith, length-drop}
-use Rattle.std.specs.Prelude.{IsSome}
-use Rattle.path_keys.proofs.Common.{false≢true}
-use Rattle.job_protocol.specs.Prelude.{Committer, Magic, Reply, WornOut, File, Task, TaskEnd, Attempting, task_script, who_of, with_known, write_wants, write_told, files, Creating, Write, write_start, write_start_by, write_over, writing}
+use Rattle.task_magic.proofs.Common.{Attempting, Bool, Committer, Creating, File, IsOpen, IsSome, List, Magic, None, Option, Reply, Some, Task, TaskEnd, WornOut, Write, [], ap, arith, at_parts, at_stage, codes, done_if_none, drop, false, false≢true, files, length, length-drop, next_files, no_set, own_files, refl, same_known, seen_write, subst, sym, task_script, who_of, with_known, write_by, write_fits, write_over, write_start, write_start_by, write_told, write_wants, writing, ℕ, ◌++◌, ◌<◌, ◌∙◌, ◌∷◌, ◌≡◌}
 use Rattle.job_model.specs.declared.ends.TaskEnd.TheVariants as ends
 use Rattle.job_protocol.specs.Writes as writes
 use Rattle.task_requests.specs.declared.stage.WriteStage.{WriteStage}
 use Rattle.task_requests.specs.declared.stage.WriteStage.TheVariants as stage
-use Rattle.task_requests.specs.Writing.{at_parts, at_stage, write_by, seen_write, IsOpen, write_fits}
-use Rattle.task_magic.specs.Writing.{done_if_none}
-use Rattle.task_requests.proofs.Told.{own_files, next_files, same_known, no_set}
 
 -- ---- it begins with its first file
 

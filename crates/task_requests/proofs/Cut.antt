@@ -1,11 +1,7 @@
 -- What is cut of a plan's file, in numbers that fit.
-use Rattle.std.proofs.Common.{◌≡◌, ℕ, ◌+◌, ◌*◌, ◌<◌, ◌≤◌, ◌^◌, List, length, sym, ap, subst, ◌∙◌, arith}
+use Rattle.task_requests.proofs.Common.{IsTask, List, Task, ap, arith, count_of, few_parts, length, length-parts, most_size, size_of, some_size, subst, sym, ℕ, ◌*◌, ◌+◌, ◌<◌, ◌^◌, ◌∙◌, ◌≡◌, ◌≤◌}
 use Rattle.words.proofs.Common.{mul-le-mul_right}
 use Rattle.s3_types.specs.Prelude.{quotient_up, greater}
-use Rattle.path_keys.proofs.Common.{some_size, few_parts}
-use Rattle.job_protocol.specs.Prelude.{Task, IsTask}
-use Rattle.s3_types.proofs.Blocks.{most_size, length-parts}
-use Rattle.task_requests.specs.Writing.{size_of, count_of}
 
 most : (t : Task) (bytes : List ℕ) → IsTask t → length bytes ≤ 67108864 → size_of t bytes ≤ 67108864
 most t bytes k short =

@@ -1,7 +1,5 @@
 -- The uploads of an attempt in the order of their making.
-use Rattle.std.proofs.Common.{◌≡◌, List, [], ◌∷◌, ◌++◌, reverse, refl, sym, ap, ◌∙◌}
-use Rattle.path_keys.proofs.Common.{reverse-append}
-use Rattle.job_protocol.specs.Prelude.{Drawn, as_made}
+use Rattle.task_requests.proofs.Common.{Drawn, List, [], ap, as_made, refl, reverse, reverse-append, sym, ◌++◌, ◌∙◌, ◌∷◌, ◌≡◌}
 
 pub made_reverse : (ds : List Drawn) → as_made ds ≡ reverse ds
 made_reverse [] = refl

@@ -1,12 +1,7 @@
 -- Where the upload of a key that was drawn last stands.
-use Rattle.std.proofs.Common.{◌≡◌, ℕ, zero, suc, ◌+◌, ◌<◌, ◌≤◌, Bool, true, false, cond, List, [], ◌∷◌, ◌++◌, length, length-take-le, take, reverse, get_or, slice_get, Option, Some, None, refl, sym, ap, subst, ◌∙◌, arith}
-use Rattle.path_keys.proofs.Common.{true≢false, reverse-reverse, reverse-append, take_more, map-append, get_or_from_slice_get}
-use Rattle.job_protocol.specs.Prelude.{text_eq, Request, PutObject, Pending, are_tags, are_sizes, Task, task_script, who_of, Drawn, Known, File, Script, as_made, drawn_in, nothing_drawn, file_key, file_record, set_text, Publishing, task_commit_asks}
+use Rattle.task_requests.proofs.Common.{AreReady, Bool, Drawn, File, IsLastAt, IsPending, Known, List, None, Option, Pending, Publishing, PutObject, Request, Script, Some, Task, [], ap, are_sizes, are_tags, arith, as_made, cond, drawn_in, drawn_of, false, file_key, file_record, get_left, get_or, get_or_from_slice_get, length, length-take-le, map-append, nothing_drawn, picked, records_of, refl, reverse, reverse-append, reverse-reverse, same_Some, set_text, slice_get, subst, suc, sym, take, take_more, task_commit_asks, task_script, text_eq, true, true≢false, who_of, zero, ℕ, ◌++◌, ◌+◌, ◌<◌, ◌∙◌, ◌∷◌, ◌≡◌, ◌≤◌}
 use Rattle.magic_paths.specs.Layout as layout
-use Rattle.task_requests.specs.Publishing.{IsLastAt, IsPending, AreReady, picked, drawn_of, records_of}
 use Rattle.task_requests.proofs.InOrder.{made_reverse}
-use Rattle.proof_base.proofs.Lists.{get_left}
-use Rattle.std.proofs.lemmas.Option.{same_Some}
 
 get_end : (xs : List Drawn) (d : Drawn) → slice_get (xs ++ d ∷ []) (length xs) ≡ Some d
 get_end [] d = refl

@@ -4,3 +4,4 @@ pub mod Told
 pub mod Steps
 pub mod InOrder
 pub mod LastDrawn
+mod Common

@@ -1,18 +1,12 @@
 -- The paths of an attempt's files as parts of keys.
-use Rattle.std.proofs.Common.{◌≡◌, ℕ, zero, suc, ◌+◌, ◌<◌, ◌≤◌, ◌^◌, ◌==◌, ◌&&◌, ◌||◌, not, nat_eq, nat_le, Bool, true, false, List, [], ◌∷◌, ◌++◌, length, slice_get, Option, Some, None, codes, refl, sym, ap, subst, ◌∙◌, inl, inr, arith, length-append}
+use Rattle.task_requests.proofs.Common.{ArePlaced, Bool, File, IfSome, IsFile, IsGiven, IsJob, IsNamed, IsPlaced, IsTask, Job, List, None, Option, Path, Some, Task, [], and_parts, ap, are_elements, arith, attempt_key, begins_hidden, below, bytes_eq, bytes_eq-Decides, bytes_of, codes, contrary, decimal, dir_of, ends_with, false, inl, inr, is_element, is_full, is_job_id, is_reserved, join_parts, join_with_byte, leb-true, length, length-append, length-decimal-le, list_all, list_all-append, list_any, lone_from, nat_eq, nat_le, nat_tests, not, one_part, option_map, or_parts, refl, same_Some, short_number, slice_get, subst, suc, sym, true, unique_name, with_id, with_id_last, zero, ℕ, ◌&&◌, ◌++◌, ◌+◌, ◌<◌, ◌==◌, ◌^◌, ◌||◌, ◌∙◌, ◌∷◌, ◌≡◌, ◌≤◌}
 use Rattle.words.specs.Parts.{parts_from, parts_of}
 use Rattle.path_keys.proofs.Beneath.{elements_append}
 use Rattle.magic_paths.proofs.Elements.{id_others}
 use Rattle.magic_paths.proofs.Kept.{some_parts}
-use Rattle.std.specs.Prelude.{bytes_eq, option_map, IfSome}
-use Rattle.job_protocol.specs.Prelude.{list_all, list_any, join_with_byte, ends_with, is_element, are_elements, is_job_id, File, IsGiven, bytes_of, is_reserved, is_full, begins_hidden, with_id, with_id_last, unique_name, Job, Task, IsJob, IsTask, IsPlaced, ArePlaced, Path, below, attempt_key, decimal}
-use Rattle.path_keys.proofs.Common.{and_parts, or_parts, leb-true, nat_tests, list_all-append, join_parts, one_part, lone_from, contrary, bytes_eq-Decides, length-decimal-le}
 use Rattle.job_model.specs.Prelude.{is_other, is_dest_key, is_path}
 use Rattle.magic_paths.proofs.Tails.{below_is}
-use Rattle.task_requests.specs.Writing.{IsFile, IsNamed, dir_of}
-use Rattle.proof_base.proofs.Lists.{short_number}
 use Rattle.proof_base.proofs.Numbers.{dot_not}
-use Rattle.std.proofs.lemmas.Option.{same_Some}
 
 -- ---- one of the files
 

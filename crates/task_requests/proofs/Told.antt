@@ -1,18 +1,13 @@
 -- Where replies lead a write, at the file that it is about.
-use Rattle.std.proofs.Common.{◌≡◌, ℕ, zero, suc, ◌+◌, ◌<◌, ◌≤◌, ◌||◌, nat_eq, nat_lt, not, Bool, true, false, cond, List, [], ◌∷◌, ◌++◌, map, length, take, drop, slice_get, get_or, Some, None, codes, refl, sym, ap, ◌∙◌, arith, append_assoc, length-append, add-one, lit<}
+use Rattle.task_requests.proofs.Common.{Attempting, Bool, Drawn, File, Got, HasSent, Known, List, NoSuchUpload, None, Part, Refused, Reply, Script, Some, Spelled, Task, Upload, Who, Write, WriteStage, [], add-one, and_parts, ap, append_assoc, append_cancel_left, arith, at_parts, at_stage, below, below_not, bytes_decides, codes, cond, contrary, decimal, drop, drop_all, false, file_key, file_parts, files, first_drawn, get_or, is_new, is_plain_tag, is_set_key, length, length-append, list_all, list_all-append, lit<, map, map-append, nat_eq, nat_lt, nat_tests, next_stage, not, not_so, one_longer, or-false, placed, refl, same_name, sending, slice_get, suc, sym, take, task_script, text_eq, true, who_of, with_drawn, with_known, with_last, with_tag, write_told, writing, zero, ℕ, ◌++◌, ◌+◌, ◌<◌, ◌||◌, ◌∙◌, ◌∷◌, ◌≡◌, ◌≤◌}
 use Rattle.proof_base.proofs.Members.{nat_true}
-use Rattle.job_protocol.specs.Prelude.{list_all, decimal, text_eq, Spelled, is_plain_tag, Reply, Part, Refused, NoSuchUpload, below, bytes_decides, Got, File, Who, same_name, placed, Task, Drawn, Known, with_last, Script, Attempting, task_script, who_of, with_known, write_told, first_drawn, is_set_key, files, file_key, sending, file_parts, Write, writing}
-use Rattle.path_keys.proofs.Common.{and_parts, nat_tests, not_so, contrary, one_longer, below_not, drop_all, list_all-append, or-false, append_cancel_left, map-append}
-use Rattle.s3_types.specs.declared.reply.Reply.TheVariants.{Upload}
 use Rattle.magic_paths.specs.Layout as layout
 use Rattle.magic_paths.proofs.Tails.{below_is}
 use Rattle.job_model.specs.declared.ends.TaskEnd.TheVariants as ends
 use Rattle.job_protocol.specs.Knowledge.{with_part}
 use Rattle.job_protocol.specs.Writes as writes
 use Rattle.job_protocol.specs.Writes.{uploaded}
-use Rattle.task_requests.specs.declared.stage.WriteStage.{WriteStage}
 use Rattle.task_requests.specs.declared.stage.WriteStage.TheVariants as stage
-use Rattle.task_requests.specs.Writing.{at_parts, at_stage, is_new, HasSent, next_stage, with_drawn, with_tag}
 use Rattle.pending_json.proofs.Candidates.{plain_more}
 
 -- a write whose files from here on are to be written

@@ -1,7 +1,5 @@
 -- The files of an attempt in order: each stands at a key of its own.
-use Rattle.std.proofs.Common.{◌≡◌, ℕ, zero, suc, ◌+◌, ◌<◌, Bool, true, false, cond, is_some, List, [], ◌∷◌, ◌++◌, length, take, drop, get_or, Some, refl, sym, ap, ◌∙◌, arith, add-one, append_assoc}
-use Rattle.job_protocol.specs.Prelude.{lookup, bytes_decides, text_eq, below, File, has_path, ArePlaced, Script, file_key}
-use Rattle.path_keys.proofs.Common.{append-nil, take-append-drop, contrary}
+use Rattle.task_staging.proofs.Common.{ArePlaced, Bool, File, List, Script, Some, [], add-one, ap, append-nil, append_assoc, arith, below, bytes_decides, cond, contrary, drop, false, file_key, get_or, has_path, is_some, length, lookup, refl, suc, sym, take, take-append-drop, text_eq, true, zero, ℕ, ◌++◌, ◌+◌, ◌<◌, ◌∙◌, ◌∷◌, ◌≡◌}
 use Rattle.proof_base.proofs.Lists.{front_cancels}
 
 -- ---- the file at a place

@@ -4,3 +4,4 @@ pub mod Records
 pub mod Undone
 pub mod Written
 pub mod Opened
+mod Common

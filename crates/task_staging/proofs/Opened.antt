@@ -1,9 +1,6 @@
 -- The partitions that an attempt's commit checks.
-use Rattle.std.proofs.Common.{◌≡◌, ℕ, ◌+◌, ◌<◌, Bool, true, false, cond, List, [], ◌∷◌, ◌++◌, map, take, get_or, length, sym, ap, ◌∙◌, arith}
-use Rattle.path_keys.proofs.Common.{take_more, map-append}
-use Rattle.job_protocol.specs.Prelude.{File, Job, Task, task_script, who_of, files, paths_of, checks_partitions, partitions, to_check}
+use Rattle.task_staging.proofs.Common.{Bool, File, Job, List, Task, [], ap, arith, checks_partitions, cond, false, files, get_or, length, map, map-append, own_files, partitions, paths_of, sym, take, take_more, task_script, to_check, true, who_of, ℕ, ◌++◌, ◌+◌, ◌<◌, ◌∙◌, ◌∷◌, ◌≡◌}
 use Rattle.conflict.proofs.SamePartitions.{partitions_of_ordered}
-use Rattle.task_requests.proofs.Told.{own_files}
 
 checked_by : (t : Task) (j : Job) (b c : Bool) → j ≡ t.job → b ≡ checks_partitions j.committer j.mode → b ≡ c → checks_partitions t.job.committer t.job.mode ≡ c
 checked_by t j b c e h f = sym (ap (λ (x : Job). checks_partitions x.committer x.mode) e) ∙ (sym h ∙ f)

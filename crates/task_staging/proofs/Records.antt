@@ -1,11 +1,6 @@
 -- The records of files that are uploaded stay while the next file is, and its own comes behind them.
-use Rattle.std.proofs.Common.{◌≡◌, ℕ, ◌+◌, ◌<◌, Bool, true, false, cond, List, [], ◌∷◌, ◌++◌, length, take, get_or, slice_get, Some, refl, sym, ap, subst, ◌∙◌, arith}
-use Rattle.job_protocol.specs.Prelude.{bytes_decides, text_eq, Spelled, Pending, are_tags, fit, PendingSet, File, Task, Drawn, with_last, IsTask, task_script, who_of, with_known, drawn_in, first_drawn, drawn_last, file_key, file_record}
-use Rattle.path_keys.proofs.Common.{take_more, map-append}
+use Rattle.task_staging.proofs.Common.{Bool, Drawn, File, HasSent, IsLastPart, IsOfKey, IsTask, List, Pending, PendingSet, Some, Spelled, Task, [], ap, are_tags, arith, bytes_decides, cond, drawn_in, drawn_last, false, file_key, file_record, first_drawn, fit, get_or, length, map-append, one_more, parts_in, record_sizes, record_tags, refl, set_of, slice_get, subst, sym, take, take_more, task_script, text_eq, true, who_of, with_drawn, with_known, with_last, with_tag, ℕ, ◌++◌, ◌+◌, ◌<◌, ◌∙◌, ◌∷◌, ◌≡◌}
 use Rattle.task_requests.specs.Publishing.{drawn_of, records_of}
-use Rattle.task_requests.specs.Writing.{HasSent, one_more, parts_in, with_drawn, with_tag}
-use Rattle.task_requests.proofs.Steps.{record_tags, record_sizes}
-use Rattle.task_staging.specs.Staging.{IsOfKey, IsLastPart, set_of}
 use Rattle.task_staging.proofs.FilesApart.{AreOthers, others_before}
 
 -- ---- an upload that is begun

@@ -1,23 +1,16 @@
 -- What a staged commit asks, and where replies lead it.
-use Rattle.std.proofs.Common.{◌≡◌, ℕ, suc, ◌+◌, ◌<◌, ◌≤◌, ◌&&◌, nat_le, nat_lt, cond, Bool, true, false, List, [], ◌∷◌, ◌++◌, length, take, drop, get_or, slice_get, Option, Some, None, Result, Ok, Err, OnOk, OnErr, refl, sym, ap, subst, ◌∙◌, arith, length-drop, length-take-le}
-use Rattle.path_keys.proofs.Common.{true≢false, drop_all, take_all, at_most_is, at_most_so, below_is, below_not, some_parts}
-use Rattle.job_protocol.specs.Prelude.{Spelled, is_plain_tag, Committer, Magic, Request, CreateUpload, UploadPart, ClusterPut, Reply, Part, Refused, NoSuchUpload, Got, WornOut, Pending, PendingSet, File, Task, Drawn, Known, with_last, IsTask, Script, TaskEnd, Attempting, task_script, who_of, with_known, learned, task_commit_wants, task_commit_told, drawn_last, first_drawn, files, file_key, file_record, set_text, Creating, sending, TaskCommit, Storing, Renaming, TaskCommitOver, storing, checking, to_check, uploaded, renamed, temporary_path, task_commit_start, task_commit_start_by}
+use Rattle.task_staging.proofs.Common.{Attempting, Bool, ClusterPut, Committer, CreateUpload, Creating, Drawn, Err, File, FitsCreate, FitsPart, Got, HasSent, Holds, HoldsAt, HoldsSent, IsBehind, IsLastPart, IsOfKey, IsTask, KeepsBy, Known, List, Magic, NoSuchUpload, None, Ok, OnErr, OnOk, Option, Part, Pending, PendingSet, Refused, Renaming, Reply, Request, Result, Script, Some, Spelled, Staging, Storing, Task, TaskCommit, TaskCommitOver, TaskEnd, UploadPart, WornOut, [], ap, arith, asks_behind, at_most_is, at_most_so, below_is, below_not, checking, cond, drawn_last, drop, drop_all, false, file_is, file_key, file_record, files, first_drawn, first_part, first_tags, front_is, get_or, has_more, is_new, is_plain_tag, learn_last, learned, length, length-drop, length-take-le, nat_le, nat_lt, next_asks, next_stage, none_left, one_more, opening, own_files, part_behind, parts_in, refl, renamed, sending, sending_at, sending_from, set_of, set_text, size_of, slice_get, some_drawn, some_parts, staged_at, staged_by, storing, subst, suc, sym, tag_in, take, take_all, take_next, task_commit_start, task_commit_start_by, task_commit_told, task_commit_wants, task_script, temporary_path, text_of, to_check, true, true≢false, upload_in, uploaded, who_of, with_drawn, with_known, with_last, with_tag, worn_known, ℕ, ◌&&◌, ◌++◌, ◌+◌, ◌<◌, ◌∙◌, ◌∷◌, ◌≡◌, ◌≤◌}
 use Rattle.machine.specs.Prelude.{Upload}
 use Rattle.job_model.specs.declared.ends.TaskEnd.TheVariants as ends
 use Rattle.job_protocol.specs.TaskCommits as commits
 use Rattle.conflict.specs.Checks.{check_asks, found_below, left_after, is_none}
 use Rattle.conflict.specs.Laws.{commit_after_check}
 use Rattle.conflict.proofs.Tells.{checks_tell}
-use Rattle.task_requests.specs.Writing.{is_new, one_more, HasSent, with_drawn, with_tag, FitsCreate, FitsPart, upload_in, tag_in, IsBehind, asks_behind, part_behind, parts_in, size_of, next_stage}
 use Rattle.task_requests.specs.declared.stage.WriteStage.{WriteStage}
 use Rattle.task_requests.specs.declared.stage.WriteStage.TheVariants as write_stages
-use Rattle.task_requests.proofs.Told.{own_files, front_is, none_left, learn_last, has_more, take_next}
-use Rattle.task_requests.proofs.Steps.{file_is, first_part, first_tags, some_drawn}
 use Rattle.task_machines.specs.Commits.{FitsCommit}
 use Rattle.task_staging.specs.declared.staging.Stage.{Stage}
 use Rattle.task_staging.specs.declared.staging.Stage.TheVariants as stages
-use Rattle.task_staging.specs.declared.staging.Staging.{Staging}
-use Rattle.task_staging.specs.Staging.{IsLastPart, opening, sending_from, sending_at, staged_at, staged_by, IsOfKey, HoldsSent, HoldsAt, set_of, Holds, KeepsBy, text_of, next_asks, worn_known}
 use Rattle.task_staging.proofs.FilesApart.{front_at, all_taken}
 use Rattle.task_staging.proofs.Records.{set_drawn, set_sent, set_closed, first_known}
 

@@ -1,12 +1,8 @@
 -- Where replies lead an abort of a staging attempt, by how many of its uploads are aborted.
-use Rattle.std.proofs.Common.{◌≡◌, ℕ, ◌+◌, ◌<◌, ◌||◌, nat_lt, Bool, true, false, [], length, drop, Option, Some, None, refl, sym, ap, ◌∙◌, arith}
-use Rattle.std.specs.Prelude.{if◌then◌else◌}
-use Rattle.path_keys.proofs.Common.{drop_all, below_is, below_not}
-use Rattle.job_protocol.specs.Prelude.{Committer, Magic, Reply, Known, Task, TaskEnd, task_script, as_made, dropping, task_abort_by, task_abort_start, task_abort_hears}
+use Rattle.task_staging.proofs.Common.{Bool, Committer, Known, Magic, None, Option, Reply, Some, Task, TaskEnd, [], abort_by, abort_from, ap, arith, as_made, below_is, below_not, done_at, drop, drop_all, dropping, end_at, false, if◌then◌else◌, length, nat_lt, refl, sym, task_abort_by, task_abort_hears, task_abort_start, task_script, true, ℕ, ◌+◌, ◌<◌, ◌||◌, ◌∙◌, ◌≡◌}
 use Rattle.job_model.specs.declared.ends.TaskEnd.TheVariants as ends
 use Rattle.job_protocol.specs.TaskAborts.{dropped}
 use Rattle.conflict.proofs.Deleting.{first_of}
-use Rattle.task_staging.specs.Undoing.{abort_from, abort_by, done_at, end_at}
 
 -- once none is left
 none_left : (c : Committer) (k : Known) (at : ℕ) (sent : Bool) → (c ≡ Magic → ⊥) → k.put_sent ≡ sent → drop at (as_made k.drawn) ≡ []

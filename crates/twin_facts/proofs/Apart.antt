@@ -1,13 +1,7 @@
 -- What names only one job's own is a stranger's to the other.
-use Rattle.std.proofs.Common.{◌≡◌, ℕ, inl, inr, not, Bool, true, false, List, ◌∷◌, ◌++◌, Some, refl, sym, ap, ◌∙◌, append_assoc, codes, arith}
-use Rattle.job_spec.proofs.Common.{append_cancel_left, begins_back, false_true}
-use Rattle.job_facts.specs.Prelude.{is_job_id, begins, Request, CopyObject, UploadPart, ClusterPut, magic_prefix, cluster_prefix, Who, Script, Drawn, IsLegal, IsIn, changed_keys, changed_upload, changed_paths, IsKnown, IsForeign}
-use Rattle.job_protocol.specs.Prelude.{Path}
+use Rattle.twin_facts.proofs.Common.{AreTwins, Bool, ClusterPut, CopyObject, Drawn, Ids, IsForeign, IsIn, IsKnown, IsLegal, IsStranger, List, NamesOwn, Path, Request, Script, Some, UploadPart, Who, ap, append_assoc, append_cancel_left, arith, begins, begins_back, changed_keys, changed_paths, changed_upload, cluster_prefix, codes, false, false_true, inl, inr, is_job_id, magic_prefix, named_keys, named_paths, named_upload, no_magic, not, refl, sym, true, ℕ, ◌++◌, ◌∙◌, ◌∷◌, ◌≡◌}
 use Rattle.magic_paths.proofs.Elements.{id_others}
 use Rattle.magic_paths.proofs.Tails.{cut_once}
-use Rattle.job_facts.proofs.JobCommitting.{no_magic}
-use Rattle.twin_facts.specs.Names.{named_keys, named_upload, named_paths, NamesOwn, IsStranger, Ids}
-use Rattle.twin_facts.specs.Laws.{AreTwins}
 
 -- ---- directories of two jobs
 

@@ -1,11 +1,5 @@
 -- What is seen and told of each side by events, and so what readers are shown at each moment.
-use Rattle.std.proofs.Common.{ℕ, ◌≤◌, List, take, length, ap, subst, ◌∙◌}
-use Rattle.job_facts.specs.Prelude.{HasBucket, Content, Setting, Seen, nothing_told, tell_all, Times}
-use Rattle.job_traces.specs.Runs.{Stand}
-use Rattle.job_traces.proofs.EveryRun.{cleans_is}
-use Rattle.job_traces.proofs.Entries.{sees, tells_so}
-use Rattle.twin_facts.specs.Sides.{First, Second, TwinEntry, eyes, TwinRun, IsTwinOpening}
-use Rattle.twin_facts.specs.TwinLaws.{MayBeTwins, Shows, Marked}
+use Rattle.twin_facts.proofs.Common.{Content, First, HasBucket, IsTwinOpening, List, Marked, MayBeTwins, Second, Seen, Setting, Shows, Stand, Times, TwinEntry, TwinRun, ap, cleans_is, eyes, length, nothing_told, sees, subst, take, tell_all, tells_so, ℕ, ◌∙◌, ◌≤◌}
 use Rattle.twin_facts.specs.Events.{seen_twin, IsSaid, AtMoment}
 use Rattle.twin_facts.proofs.TwinRuns.{all_so, opens_first, opens_second, twins_keep, moments}
 

@@ -1,26 +1,9 @@
 -- What one request changes of what stands where files are shown.
-use Rattle.std.proofs.Common.{◌≡◌, ℕ, inl, inr, true, List, [], length, Option, Some, refl, sym, ap, subst, ◌∙◌, arith}
-use Rattle.job_facts.specs.Prelude.{Scene, apply, effect, only_reads, Object, Request, Committer, Magic, Outcome, below, Pending, IsLegal, Who, Script, nth, completion, abort, deletion, Picks, files, wanted_at, is_decided, is_file_path, all_commits, picks_of, Commit, Fetching, Replacing, Completing, Marking, Reverting, CommitOver, set_request, commit_asks, replaced, Setting, Operation, asks, Seen, IsIn, changed_keys, Told, known, at_key, IsAttempt, Hold, Fits, SweepsUnder, IsCommit, Commits, Gone}
-use Rattle.job_spec.proofs.Common.{some_is, same_or_other, true_or_false}
-use Rattle.job_facts.proofs.Placed.{one_key}
+use Rattle.twin_facts.proofs.Common.{Agrees, Check, Commit, CommitOver, Commits, Committer, Completing, Fetching, Fits, FitsSparing, Gone, Hold, IsAttempt, IsCommit, IsIn, IsLegal, List, Magic, Marking, Object, Operation, Option, Outcome, Pending, Picks, Replacing, Request, Reverting, Scene, Script, Seen, SetsUpBy, Setting, Some, Sparing, SweepsUnder, Told, Who, [], abort, all_commits, ap, apply, arith, asks, at_key, attempt, below, changed_keys, check_asks, check_reads, commit_asks, completion, decided_so, deletion, effect, effect_so, files, hidden_same, inl, inr, is_decided, is_file_path, known, length, no_success, nth, nth_of, of_sets, one_key, only_reads, operation_own, picks_apart, picks_of, prefix_unkept, reads_leave, refl, replaced, same_or_other, set_request, setup_alone, some_is, sparing_asks, sparing_hides, stranger_same, subst, sym, task_low, true, true_or_false, wanted_at, wanted_here, ℕ, ◌∙◌, ◌≡◌}
 use Rattle.job_facts.proofs.Shows.{shown_key}
-use Rattle.job_facts.proofs.SettingUp.{setup_alone, no_success}
-use Rattle.job_facts.proofs.Owning.{operation_own}
-use Rattle.job_facts.proofs.Held.{nth_of, of_sets, task_low}
 use Rattle.job_facts.proofs.Effects.{completes_file, completes_nothing, other_key, abort_keys, deletion_key, deletion_other}
-use Rattle.job_facts.proofs.FilingLaws.{stranger_same}
-use Rattle.job_facts.proofs.Agreeing.{Agrees, picks_apart, decided_so, prefix_unkept}
-use Rattle.job_facts.proofs.Wanted.{wanted_here}
-use Rattle.job_facts.proofs.Whose.{attempt}
 use Rattle.job_traces.proofs.Replacing.{keeps_same, taken_after}
-use Rattle.job_traces.proofs.Steps.{hidden_same}
-use Rattle.job_protocol.specs.Sparing.{Sparing, sparing_asks}
-use Rattle.job_protocol.specs.Rechecks.{Check, check_asks}
-use Rattle.job_facts.specs.Spares.{FitsSparing}
-use Rattle.job_facts.proofs.Sharing.{reads_leave, check_reads, sparing_hides}
-use Rattle.twin_facts.specs.Requests.{SetsUpBy}
 use Rattle.twin_facts.specs.Shown.{Changed, OfWanted, IsPickedSo}
-use Rattle.job_facts.proofs.Going.{effect_so}
 
 -- what is below a prefix that is emptied
 abbrev pub Under : Script → Commit → Type 0

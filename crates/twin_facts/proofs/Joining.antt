@@ -1,12 +1,7 @@
 -- Two runs over one journal, each as its side reads it, are a run of both.
-use Rattle.std.proofs.Common.{◌≡◌, ℕ, zero, suc, ◌≤◌, true, List, [], ◌∷◌, ◌++◌, map, length, refl, sym, ap, subst, ◌∙◌, arith, length-append, append_assoc, ◌+◌}
+use Rattle.twin_facts.proofs.Common.{Beginning, Content, Entry, First, IsForeign, IsHonestOutcome, IsTwinOpening, List, MayBeTwins, MayBegin, Outcome, Request, Runs, Scene, Second, Sends, Setting, Side, Stand, Times, TwinEntry, TwinRun, [], actor_begins, answer, ap, append-nil, append_assoc, arith, attempt_sends, begin, driver_entry, driver_sends, entry, eyes, false_true, first_begins, first_sends, first_stand, in_eyes, is_own, length, length-append, map, map-append, observed, other_side, refl, run_begins, saw, second_begins, second_sends, strange_entry, strays, subst, suc, sym, true, turned_entry, twins_begin, zero, ℕ, ◌++◌, ◌+◌, ◌∙◌, ◌∷◌, ◌≡◌, ◌≤◌}
 use Rattle.std.proofs.lemmas.List.{same_from_push}
-use Rattle.job_spec.proofs.Common.{append-nil, map-append, false_true}
-use Rattle.job_facts.specs.Prelude.{Content, Scene, Request, Outcome, Entry, Setting, entry, driver_entry, strange_entry, is_own, IsForeign, IsHonestOutcome, answer, Times}
-use Rattle.job_traces.specs.Runs.{Stand, first_stand, saw, Beginning, MayBegin, begin, Runs, run_begins, actor_begins, driver_sends, attempt_sends, strays}
 use Rattle.twin_facts.specs.Sides as sides
-use Rattle.twin_facts.specs.Sides.{Side, First, Second, TwinEntry, Sends, observed, in_eyes, eyes, TwinRun, twins_begin, first_begins, second_begins, first_sends, second_sends, IsTwinOpening}
-use Rattle.twin_facts.specs.TwinLaws.{MayBeTwins, turned_entry, other_side}
 use Rattle.twin_facts.specs.Joined.{AreActors, AreOf, AreForeign, EyesTurn}
 use Rattle.twin_facts.proofs.TwinRuns.{all_so, opens_first, eyes_more}
 use Rattle.twin_facts.proofs.Pairs.{foreign}

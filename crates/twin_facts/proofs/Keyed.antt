@@ -1,20 +1,11 @@
 -- An upload that an attempt knows has its key as long as it lives.
-use Rattle.std.proofs.Common.{◌≡◌, ℕ, ◌<◌, ◌⊎◌, inl, inr, List, [], ◌∷◌, Some, refl, sym, ap, subst, ◌∙◌, arith}
-use Rattle.job_facts.specs.Prelude.{Content, Scene, Upload, answer, apply, effect, IsHonestOutcome, Request, CreateUpload, UploadRef, Outcome, Entry, Who, Script, Drawn, Known, IsLegal, Creating, Listing, Write, write_asks, TaskCommit, task_commit_asks, TaskAbort, task_abort_asks, Walking, Setting, Operation, TheWrite, TheTaskCommit, TheTaskAbort, asks, IsIn, HasBucket, Told, known, tell_attempt, at_id, Fits, Times}
-use Rattle.job_spec.proofs.Common.{some_is}
+use Rattle.twin_facts.proofs.Common.{Content, CreateUpload, Creating, Drawn, Early, Entry, Fits, HasBucket, HasItsKey, IsHonestOutcome, IsIn, IsLegal, IsOpening, Known, Late, List, Listing, Operation, Outcome, Request, Runs, Scene, Script, Setting, Some, Stand, TaskAbort, TaskCommit, TheTaskAbort, TheTaskCommit, TheWrite, Times, Told, Upload, UploadRef, Walking, Who, Write, [], actor_begins, answer, ap, apply, arith, asks, at_id, attempt_sends, drawn_is_next, draws, driver_sends, effect, good, inl, inr, known, known_before, late_now, refl, run_begins, some_is, strays, subst, sym, task_abort_asks, task_commit_asks, tell_attempt, write_asks, ℕ, ◌<◌, ◌∙◌, ◌∷◌, ◌≡◌, ◌⊎◌}
 use Rattle.s3_types.specs.declared.reply.Reply.TheVariants.{Upload as DrawnUpload}
 use Rattle.job_protocol.specs.Writes as writes
 use Rattle.job_protocol.specs.TaskCommits as tasks
 use Rattle.job_protocol.specs.TaskAborts.{Removing}
 use Rattle.job_protocol.specs.TaskAborts as aborts
-use Rattle.job_facts.specs.Filed.{HasItsKey}
 use Rattle.job_facts.proofs.FoundKeys.{keys_stay}
-use Rattle.job_facts.proofs.Shapes.{draws}
-use Rattle.job_facts.proofs.Learning.{known_before, drawn_is_next}
-use Rattle.job_traces.specs.Runs.{Stand, Runs, run_begins, actor_begins, driver_sends, attempt_sends, strays, IsOpening}
-use Rattle.job_traces.proofs.Running.{Early, Late}
-use Rattle.job_traces.proofs.EveryRun.{good}
-use Rattle.job_traces.proofs.Entries.{late_now}
 use Rattle.twin_facts.proofs.OneSide.{driver_scene, attempt_scene}
 
 abbrev pub ref : Drawn → UploadRef

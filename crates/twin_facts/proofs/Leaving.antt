@@ -1,28 +1,17 @@
 -- How far an abort or clean at a shared destination has come with what is to go, while no attempt of its side sends.
-use Rattle.std.proofs.Common.{◌≡◌, ℕ, ◌<◌, ◌⊎◌, inl, inr, Bool, true, cond, List, [], ◌∷◌, ◌++◌, take, drop, Option, Some, None, refl, sym, ap, subst, ◌∙◌, arith}
-use Rattle.job_facts.specs.Prelude.{filter, text_cmp, Scene, begins, answer, apply, read_answer, effect, IsHonestOutcome, only_reads, Request, GetObject, AbortUpload, DeleteObjects, ClusterList, ClusterDelete, UploadRef, Committer, Magic, Reply, Outcome, ReplyLost, step, magic_prefix, cluster_prefix, is_record, Who, Script, Drawn, Sweep, Listing, Deleting, Walked, More, Whole, page_after, all_go, is_magic, is_staging, IsIn, HasBucket, at_key, at_id, end_left}
-use Rattle.job_spec.proofs.Common.{some_is, none_some, none_or_some, false_true, same_or_other, text_true, text_gone, text_left, in_front, in_back, map_in, filter_in, in_filter}
+use Rattle.twin_facts.proofs.Common.{AbortUpload, AllKnown, Bool, ClusterDelete, ClusterList, Committer, DeleteObjects, Deleting, Drawn, FitsSparing, GetObject, HasBucket, HasItsKey, IsHonestOutcome, IsIn, List, Listing, Magic, More, NamedAt, None, Option, Outcome, Reply, ReplyLost, Request, Scene, Script, Some, Sweep, UploadRef, Walked, Who, Whole, [], abort_turns, all_go, answer, answer_is, ap, apply, arith, at_id, at_key, begins, cluster_prefix, cond, drop, effect, effect_so, end_left, false_true, filter, filter_in, found, frame, in_back, in_filter, in_front, inl, inr, is_magic, is_record, is_staging, key_before, magic_prefix, map_in, none_or_some, none_some, only_reads, page_after, read_answer, refl, same_or_other, some_is, stays_gone, step, step_so, subst, sym, take, text_cmp, text_gone, text_left, text_true, true, walked, ℕ, ◌++◌, ◌<◌, ◌∙◌, ◌∷◌, ◌≡◌, ◌⊎◌}
 use Rattle.path_keys.proofs.Common.{text_exact}
 use Rattle.std.specs.FinMap as fin
-use Rattle.s3_types.specs.Answer.{found}
 use Rattle.job_model.specs.declared.ends.CleanEnd.TheVariants as ends
-use Rattle.list_walk.specs.Walks.{walked}
 use Rattle.list_walk.specs.Walks as walks
-use Rattle.store_frame.proofs.Framed.{frame}
 use Rattle.store_frame.proofs.Reading.{reads_nothing}
 use Rattle.job_facts.specs.Driver.{AllMagic}
 use Rattle.job_facts.specs.Emptying.{OnlyThese, Empties}
 use Rattle.job_facts.specs.Clearing.{FilesIn}
-use Rattle.job_facts.specs.Filed.{HasItsKey}
 use Rattle.job_facts.proofs.Emptying.{sweep_begins, sweep_empties, sweep_still, sweep_same, Emptied}
-use Rattle.job_facts.proofs.EndedGone.{stays_gone}
-use Rattle.job_facts.proofs.Going.{step_so, effect_so}
 use Rattle.job_facts.proofs.Live.{find_in}
-use Rattle.job_facts.proofs.Shapes.{answer_is, key_before, abort_turns}
 use Rattle.job_protocol.specs.Sparing.{Sparing, Walking, Naming, Reading, Aborting, Removing, SparingOver, sparing_start, record_request, sparing_asks, sparing_hears, sparing_after, names, record_names, set_names, deleting, removing, emptying, aborting, reading_on, walking, naming}
 use Rattle.job_protocol.specs.Sparing as sparing
-use Rattle.job_facts.specs.Spares.{AllKnown, FitsSparing}
-use Rattle.twin_facts.specs.Spared.{NamedAt}
 use Rattle.twin_facts.proofs.Keyed.{Keyed}
 
 -- an upload is gone

@@ -15,3 +15,4 @@ pub mod Spared
 pub mod ByEvents
 pub mod Joining
 pub mod Named
+mod Common

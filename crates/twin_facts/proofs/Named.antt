@@ -1,16 +1,9 @@
 -- Over a whole run what a side sent names nothing of the other's: an upload that it named was drawn by then, and what the other draws later is new.
-use Rattle.std.proofs.Common.{◌≡◌, ℕ, ◌<◌, ◌≤◌, ◌&&◌, ◌||◌, nat_lt, List, [], ◌∷◌, ◌++◌, map, Some, refl, sym, ap, subst, ◌∙◌, arith}
+use Rattle.twin_facts.proofs.Common.{Content, Entry, First, Ids, IsOpening, IsStranger, IsTwinOpening, List, MayBeTwins, Request, Scene, Script, Second, Sends, Setting, Side, Some, Stand, Times, TwinEntry, TwinRun, [], above_so, ap, arith, drawn_by, drew, drew_from, effect, eyes, first_begins, first_sends, is_side, map, named_upload, nat_lt, nothing_seen, observed, or-false, other_side, refl, second_begins, second_sends, subst, sym, turned_entry, twins_begin, ℕ, ◌&&◌, ◌++◌, ◌<◌, ◌||◌, ◌∙◌, ◌∷◌, ◌≡◌, ◌≤◌}
 use Rattle.std.specs.List.{AllByRecursion}
-use Rattle.job_spec.proofs.Common.{above_so}
-use Rattle.job_facts.specs.Prelude.{Content, Scene, effect, nothing_seen, Request, Entry, Script, Setting, Times}
-use Rattle.job_traces.specs.Runs.{Stand, IsOpening}
-use Rattle.twin_facts.specs.Names.{named_upload, IsStranger, Ids}
-use Rattle.twin_facts.specs.Sides.{Side, First, Second, is_side, TwinEntry, Sends, eyes, drawn_by, drew_from, drew, observed, TwinRun, twins_begin, first_begins, second_begins, first_sends, second_sends, IsTwinOpening}
-use Rattle.twin_facts.specs.TwinLaws.{MayBeTwins, other_side, turned_entry}
 use Rattle.twin_facts.specs.Named.{NamesNoneOfOthers}
 use Rattle.twin_facts.proofs.Pairs.{effect_later, own_of, sends_scene, strange}
 use Rattle.twin_facts.proofs.TwinRuns.{All, all_so, opens_first, turned_twins, turned_opening, drew_own, drew_not, turned}
-use Rattle.std.proofs.Math.Bool.{or-false}
 
 -- ---- what was sent, by the uploads that were drawn
 

@@ -1,27 +1,14 @@
 -- The requests of a job name only what is its own, or nobody's.
-use Rattle.std.proofs.Common.{◌≡◌, ℕ, ◌+◌, ◌<◌, inl, inr, not, nat_eq, true, false, List, [], ◌∷◌, ◌++◌, take, length, Option, Some, None, refl, sym, ap, subst, ◌∙◌, append_assoc, codes, arith}
-use Rattle.job_spec.proofs.Common.{false≢true, not-true, begins_behind, below_is, some_is, none_some, false_true, nat_true, nat_false}
-use Rattle.job_facts.specs.Prelude.{Scene, begins, Actor, Request, CreateUpload, UploadPart, AbortUpload, Committer, Magic, cluster_prefix, success_key, MarkerPlace, RecordPlace, TemporaryPlace, StagedSetPlace, is_open, Pending, Who, File, Script, Drawn, IsLegal, files, file_key, Uploading, Creating, Sending, upload_asks, Listing, Deleting, Write, Recording, WriteOver, write_asks, TaskCommit, Looking, Reading, Publishing, Checking, Storing, Renaming, TaskCommitOver, task_commit_asks, TaskAbort, Dropping, TaskAbortOver, task_abort_asks, Heading, SetupOver, nth, completion, abort, deletion, all_commits, Commit, Fetching, Replacing, Completing, Reverting, CommitOver, set_request, commit_asks, is_no_magic, Setting, Operation, TheWrite, TheTaskCommit, TheTaskAbort, asks, Seen, is_magic, is_staging, IsIn, Told, known, IsKnown, IsAttempt, Facts, Hold, Fits, FitsUpload, FitsWrite, FitsCommit, FitsAbort, IsCommit, Commits}
+use Rattle.twin_facts.proofs.Common.{AbortUpload, Actor, AllOwn, Check, CheckOver, Checking, Commit, CommitOver, Commits, Committer, Completing, CreateUpload, Creating, Deleting, Drawn, Dropping, Facts, Fetching, File, Fits, FitsAbort, FitsCommit, FitsSparing, FitsUpload, FitsWrite, Heading, Hold, IsAttempt, IsCommit, IsIn, IsKnown, IsLegal, IsOwnKey, IsSentBy, List, Listing, Looking, Magic, MarkerPlace, NamesOwn, None, Operation, Option, Pending, Publishing, Reading, RecordPlace, Recording, Renaming, Replacing, Request, Reverting, Scene, Script, Seen, Sending, SetsUpBy, Setting, SetupOver, Some, StagedSetPlace, Storing, TaskAbort, TaskAbortOver, TaskCommit, TaskCommitOver, TemporaryPlace, TheTaskAbort, TheTaskCommit, TheWrite, Told, UploadPart, Uploading, Who, Write, WriteOver, [], abort, all_commits, ap, append_assoc, arith, asks, begins, begins_behind, below_is, by_attempt, by_check, by_clean, by_commit, check_asks, cluster_prefix, codes, commit_asks, completion, deletion, false, false_true, false≢true, file_key, file_open, files, inl, inr, is_magic, is_no_magic, is_open, is_staging, known, length, named_keys, named_paths, named_upload, nat_eq, nat_false, nat_true, none_some, not, not-true, nth, nth_of, of_sets, own_directory, own_magic, path_below, record_below, refl, set_magic, set_request, some_dest, some_is, subst, success_key, sym, take, taken_in, task_abort_asks, task_commit_asks, true, upload_asks, write_asks, ℕ, ◌++◌, ◌+◌, ◌<◌, ◌∙◌, ◌∷◌, ◌≡◌}
 use Rattle.job_protocol.specs.Writes.{Marking}
 use Rattle.job_protocol.specs.Writes as writes
 use Rattle.job_protocol.specs.TaskCommits as tasks
 use Rattle.job_protocol.specs.TaskAborts.{Sweeping, Removing}
 use Rattle.job_protocol.specs.Setup as setups
 use Rattle.job_protocol.specs.JobCommits as commits
-use Rattle.job_facts.proofs.Legal.{some_dest}
-use Rattle.job_facts.proofs.Aborting.{taken_in}
-use Rattle.job_facts.proofs.Placed.{own_magic, set_magic, path_below}
-use Rattle.job_facts.proofs.Owning.{own_directory}
-use Rattle.job_facts.proofs.Apart.{record_below}
 use Rattle.job_facts.proofs.Uploads.{latest_in, asks_part}
-use Rattle.job_facts.proofs.JobCommitting.{file_open}
-use Rattle.job_facts.proofs.Held.{nth_of, of_sets}
-use Rattle.twin_facts.specs.Names.{named_keys, named_upload, named_paths, IsOwnKey, NamesOwn}
 use Rattle.job_protocol.specs.Sparing.{Sparing, Walking, Naming, Aborting, SparingOver, record_request, sparing_asks}
 use Rattle.job_protocol.specs.Sparing as sparing
-use Rattle.job_protocol.specs.Rechecks.{Check, CheckOver, check_asks}
-use Rattle.job_facts.specs.Spares.{AllOwn, FitsSparing}
-use Rattle.twin_facts.specs.Requests.{IsSentBy, by_attempt, by_commit, by_check, by_clean, SetsUpBy}
 
 -- ---- keys outside the magic directories
 

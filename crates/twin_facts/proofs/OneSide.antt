@@ -1,15 +1,6 @@
 -- A side's entries make its run go on; where its destination is shared no abort or clean of it is one of a job alone.
-use Rattle.std.proofs.Common.{◌≡◌, ℕ, ◌&&◌, ◌||◌, true, false, cond, List, [], ◌∷◌, ◌++◌, Option, Some, refl, sym, ap, subst, ◌∙◌, arith}
-use Rattle.job_facts.specs.Prelude.{Content, Scene, apply, effect, Request, Outcome, Answered, Slow, RequestLost, Entry, Retried, Script, is_effective, is_marking, Clean, Setting, Operation, TheClean, TheCheck, TheSparing, fresh, clean_start, who, Driver, tells, step, Seen, see, is_picking, Who, entry, driver_entry, Times, is_reading}
-use Rattle.job_protocol.proofs.Begun.{commit_of_so, after_check_so}
-use Rattle.job_protocol.specs.Sparing.{sparing_start}
-use Rattle.job_protocol.specs.Rechecks.{check_after}
-use Rattle.std.proofs.Math.Bool.{and-false, or-false, or-true}
-use Rattle.job_spec.proofs.Common.{false_true}
-use Rattle.job_traces.specs.Runs.{Stand, Runs, run_begins, actor_begins, driver_sends, attempt_sends, strays, BeginSetup, BeginCommit, BeginClean}
+use Rattle.twin_facts.proofs.Common.{Answered, BeginClean, BeginCommit, BeginSetup, Clean, Content, Driver, Entry, List, Operation, Option, Outcome, Request, RequestLost, Retried, Runs, Scene, Script, Seen, Sends, Setting, Slow, Some, Stand, TheCheck, TheClean, TheSparing, Times, Who, [], actor_begins, after_check_so, and-false, ap, apply, arith, attempt_sends, check_after, clean_start, commit_of_so, cond, driver_entry, driver_sends, effect, effect_so, entry, false, false_true, fresh, is_effective, is_marking, is_picking, is_reading, or-false, or-true, refl, run_begins, see, sparing_start, step, strays, subst, sym, tells, true, who, ℕ, ◌&&◌, ◌++◌, ◌||◌, ◌∙◌, ◌∷◌, ◌≡◌}
 use Rattle.twin_facts.specs.Sides as sides
-use Rattle.twin_facts.specs.Sides.{Sends}
-use Rattle.job_facts.proofs.Going.{effect_so}
 
 -- ---- the run of a side
 

@@ -1,29 +1,12 @@
 -- Of two sides at one destination the facts of both are kept by each step of either, and no upload is drawn by both.
-use Rattle.std.proofs.Common.{◌≡◌, ℕ, ◌+◌, ◌<◌, ◌≤◌, ◌⊎◌, inl, inr, ◌||◌, nat_le, nat_lt, true, false, List, [], ◌∷◌, ◌++◌, Option, Some, None, sym, ap, subst, ◌∙◌, arith}
-use Rattle.job_spec.proofs.Common.{and_parts, nat_tests, at_most_is, at_most_so, below_so, none_some, false_true, true_or_false}
-use Rattle.job_facts.specs.Prelude.{Content, Scene, effect, Driver, Request, Outcome, Entry, Script, IsLegal, setup_asks, Setting, Operation, TheSetup, TheCommit, TheClean, TheCheck, TheSparing, asks, who, strange_entry, HasBucket, IsKnown, IsForeign, Times}
-use Rattle.std.proofs.lemmas.Bool.{or_cases, and_from, cond_both}
-use Rattle.job_protocol.specs.Prelude.{Path}
+use Rattle.twin_facts.proofs.Common.{AreTwins, At, Beginning, Content, Driver, Early, Entry, HasBucket, Ids, IsForeign, IsKnown, IsLegal, IsOpening, IsStranger, Late, List, MayBeTwins, MayBegin, NamesOwn, None, Operation, Option, Outcome, Path, Request, Runs, Scene, Script, Setting, Some, Stand, TheCheck, TheClean, TheCommit, TheSetup, TheSparing, Times, [], actor_begins, and_from, and_parts, ap, arith, asks, at_most_is, at_most_so, begin, below_so, by_attempt, by_check, by_clean, by_commit, cond_both, effect, effect_so, false, false_true, frame, good, inl, inr, late_now, learnt, made, nat_le, nat_lt, nat_tests, none_some, nothing_learnt, or-true, or_cases, setup_asks, strange_entry, strays, subst, sym, true, true_or_false, who, ℕ, ◌++◌, ◌+◌, ◌<◌, ◌||◌, ◌∙◌, ◌∷◌, ◌≡◌, ◌≤◌, ◌⊎◌}
 use Rattle.std.specs.FinMap as fin
 use Rattle.store_frame.specs.Prelude.{MakeBucket, ClusterPut, ClusterRename, ClusterGet, ClusterDelete, ClusterList, apply, apply_at, bucket_of, draws, is_bucket}
-use Rattle.s3_types.specs.Answer.{made}
-use Rattle.store_frame.proofs.Framed.{frame}
-use Rattle.job_facts.proofs.Learning.{learnt}
-use Rattle.job_traces.specs.Runs.{Stand, nothing_learnt, Runs, actor_begins, strays, Beginning, MayBegin, begin, IsOpening}
-use Rattle.job_traces.proofs.Running.{At, Late, Early}
-use Rattle.job_traces.proofs.EveryRun.{good}
-use Rattle.job_traces.proofs.Entries.{late_now}
-use Rattle.twin_facts.specs.Names.{NamesOwn, IsStranger, Ids}
-use Rattle.twin_facts.specs.Laws.{AreTwins}
-use Rattle.twin_facts.specs.Requests.{by_attempt, by_commit, by_check, by_clean}
 use Rattle.twin_facts.specs.Sides.{observed, drawn_by, Sends, driver_sends, attempt_sends}
-use Rattle.twin_facts.specs.TwinLaws.{MayBeTwins}
 use Rattle.twin_facts.proofs.Apart.{not_true, twin_stranger, stranger_foreign}
 use Rattle.twin_facts.proofs.Naming.{sends_own, setup_own}
 use Rattle.twin_facts.proofs.OneSide.{goes_on, driver_scene, attempt_scene, never_cleans}
-use Rattle.std.proofs.Math.Bool.{or-true}
 use Rattle.proof_base.proofs.Numbers.{below_is}
-use Rattle.job_facts.proofs.Going.{effect_so}
 
 -- ---- ids
 

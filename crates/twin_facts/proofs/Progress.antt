@@ -1,24 +1,9 @@
 -- How far a job's commit has come that replaces nothing, in every run of the job among strangers.
-use Rattle.std.proofs.Common.{◌≡◌, ℕ, zero, suc, ◌+◌, nat_lt, ◌<◌, ◌≤◌, ◌^◌, inl, inr, not, ◌&&◌, Bool, true, false, cond, List, [], ◌∷◌, ◌++◌, length, Option, Some, None, refl, sym, ap, subst, ◌∙◌, arith, length-append}
-use Rattle.job_facts.specs.Prelude.{is_some, Content, answer, IsHonestOutcome, Request, Committer, Magic, Mode, Replace, Append, Fail, Reply, Outcome, Answered, Slow, IsLegal, Script, CommitEnd, Sweep, Listing, Deleting, sweep_asks, sweep_hears, Picks, same_path, picked_below, is_decided, is_clash, Turn, again, follow, dealt, revert, Sets, all_commits, picks_of, Commit, Fetching, Replacing, Completing, Marking, Reverting, CommitOver, set_request, set_read, ok_set, commit_asks, commit_hears, commit_misses, commit_tells, commit_start, completing, is_no_magic, replaced, replacing, decided, fetching, fetched, swept, reverting, worn_completion, Setting, Operation, TheCommit, TheCheck, Entry, Driver, who, step, strange_entry, tells, asks, files_set, Seen, see, is_begun, is_reading, is_marking, picks_by, Told, tell_driver, at_event, entry, driver_entry, sets_at, Hold, knowing, Decides, IsSetAnswer, Times, is_picking}
-use Rattle.job_spec.proofs.Common.{some_is, none_some, none_or_some, false_true, same_or_not}
+use Rattle.twin_facts.proofs.Common.{Answered, Append, At, BeginClean, BeginCommit, BeginSetup, Bool, Commit, CommitEnd, CommitOver, Committer, Completing, Content, Decides, Deleting, Driver, Entry, Fail, Fetching, Hold, Idle, InCommit, IsHonestOutcome, IsLegal, IsOpening, IsSetAnswer, IsTimely, List, Listing, Magic, Marking, Mode, None, Operation, Option, Outcome, Picks, Replace, Replacing, Reply, Request, Reverting, Runs, Script, Seen, Sets, Setting, Slow, Some, Stand, Sweep, TheCheck, TheCommit, Times, Told, Turn, [], actor_begins, after_check_so, again, all_commits, and-false, answer, ap, arith, asks, at_event, attempt_quiet, attempt_sends, check_after, check_plain, checked_idle, clean_of_so, cleans_is, commit_asks, commit_hears, commit_misses, commit_next, commit_of_so, commit_start, commit_tells, completing, cond, cond_both, dealt, decided, driver_entry, driver_sends, entry, false, false_true, fetched, fetching, files_set, follow, inl, inr, is_begun, is_clash, is_decided, is_marking, is_no_magic, is_picking, is_reading, is_replace, is_set, is_some, just_idle, just_set, knowing, late_now, length, length-append, nat_lt, none_or_some, none_some, not, nothing_learnt, ok_set, operation_own, picked_below, picks_by, picks_of, refl, replaced, replacing, revert, reverting, run_begins, same_or_not, same_path, see, set_read, set_request, sets_at, some_is, step, strange_entry, strays, subst, suc, sweep_asks, sweep_hears, swept, sym, tell_driver, tells, true, who, worn_completion, zero, ℕ, ◌&&◌, ◌++◌, ◌+◌, ◌<◌, ◌^◌, ◌∙◌, ◌∷◌, ◌≡◌, ◌≤◌}
 use Rattle.job_model.specs.declared.ends.CommitEnd.TheVariants as ends
 use Rattle.job_model.specs.declared.ends.Stage.TheVariants as stages
-use Rattle.std.proofs.Math.Bool.{and-false}
-use Rattle.std.proofs.lemmas.Bool.{cond_both}
 use Rattle.job_facts.proofs.Replies.{set_reply, bytes_read}
 use Rattle.job_facts.proofs.Reading.{reads_other}
-use Rattle.job_protocol.proofs.Begun.{commit_of_so, clean_of_so, after_check_so}
-use Rattle.job_protocol.specs.Rechecks.{check_after}
-use Rattle.job_facts.proofs.Owning.{operation_own}
-use Rattle.job_facts.proofs.Sharing.{check_plain}
-use Rattle.job_traces.specs.Runs.{Stand, is_set, IsTimely, nothing_learnt, BeginSetup, BeginCommit, BeginClean, Runs, run_begins, actor_begins, driver_sends, attempt_sends, strays, IsOpening}
-use Rattle.job_traces.proofs.Running.{InCommit, Idle, At}
-use Rattle.job_traces.proofs.Steps.{commit_next}
-use Rattle.job_traces.proofs.Keeping.{attempt_quiet}
-use Rattle.job_traces.proofs.EveryRun.{just_set, just_idle, checked_idle, cleans_is}
-use Rattle.job_traces.proofs.Entries.{late_now}
-use Rattle.twin_facts.specs.TwinLaws.{is_replace}
 use Rattle.twin_facts.proofs.OneSide.{unread_picks, mark_still}
 use Rattle.twin_facts.proofs.Changes.{Under}
 

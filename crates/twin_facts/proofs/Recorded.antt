@@ -1,35 +1,15 @@
 -- Of the magic committer: as long as its upload lives, the record of a file that an attempt has written stands; an abort or clean of the job deletes none whose upload lives.
-use Rattle.std.proofs.Common.{◌≡◌, ℕ, ◌≤◌, ◌^◌, ◌⊎◌, inl, inr, nat_lt, ◌||◌, Bool, true, false, List, [], ◌∷◌, ◌++◌, take, drop, length, Option, Some, None, refl, sym, ap, subst, ◌∙◌, arith}
-use Rattle.job_facts.specs.Prelude.{filter, Scene, begins, listed, answer, apply, bucket_of, effect, IsHonestOutcome, Request, GetObject, AbortUpload, UploadRef, Committer, Magic, Reply, Page, PageEntry, Outcome, Answered, Retried, step, magic_prefix, MarkerPlace, RecordPlace, is_record, Listing, Deleting, walked_by, keys_on, last_of, page_after, Who, File, Script, Drawn, IsLegal, learn, files, file_key, record_key, record_text, file_record, Uploading, Uploaded, Creating, Sending, IsGone, upload_asks, upload_hears, Write, Recording, WriteOver, writing, write_asks, write_after, TaskAbort, TaskAbortOver, task_abort_asks, Setting, Operation, TheWrite, TheTaskCommit, TheTaskAbort, asks, tells, is_magic, is_staging, IsIn, HasBucket, changed_keys, Told, known, undoes, tell_driver, tell_attempt, at_event, at_key, IsAttempt, Facts, Fits, FitsWrite}
-use Rattle.job_protocol.specs.Prelude.{drawn_last, write_hears}
-use Rattle.job_spec.proofs.Common.{some_is, false_true, in_append, in_front, in_back, filter_in}
-use Rattle.s3_types.specs.Answer.{found}
+use Rattle.twin_facts.proofs.Common.{AbortUpload, Answered, Bool, Committer, Creating, Deleting, Drawn, Facts, File, Fits, FitsSparing, FitsWrite, GetObject, HasBucket, HasItsKey, HasKey, IsAttempt, IsGone, IsHonestOutcome, IsIn, IsLegal, Knows, List, Listing, Magic, MarkerPlace, None, Operation, Option, Outcome, Page, PageEntry, RecordPlace, Recording, Reply, Request, Retried, Scene, Script, Sending, Setting, Some, Sweeping, TaskAbort, TaskAbortOver, TheTaskAbort, TheTaskCommit, TheWrite, Told, UploadRef, Uploaded, Uploading, Who, Write, WriteOver, [], abort_keys, another, answer, answer_is, ap, apply, arith, asks, at_event, at_key, begins, bucket_of, changed_keys, commit_keys, drawn_last, drop, dropped_in, effect, effect_so, false, false_true, file_key, file_record, files, filter, filter_in, found, in_append, in_back, in_front, in_or_not, inl, inr, is_magic, is_record, is_staging, key_before, key_left, keys_on, known, known_still, last_of, learn, length, listed, magic_prefix, nat_lt, or-false, or-true, page_after, puts, record_below, record_ends_so, record_key, record_read, record_text, refl, same_or_another, some_dest, some_is, stays_gone, step, step_so, subst, sym, take, taken_in, task_abort_asks, tell_attempt, tell_driver, tells, true, undoes, upload_asks, upload_hears, walked, walked_by, who_here, who_other, write_after, write_asks, write_hears, write_keys, writing, ℕ, ◌++◌, ◌^◌, ◌||◌, ◌∙◌, ◌∷◌, ◌≡◌, ◌≤◌, ◌⊎◌}
 use Rattle.pending_json.specs.Reading as reading
-use Rattle.list_walk.specs.Walks.{walked}
 use Rattle.job_model.specs.declared.ends.TaskEnd.TheVariants as ends
 use Rattle.job_protocol.specs.Writes.{Marking, uploaded}
 use Rattle.job_protocol.specs.Writes as writes
-use Rattle.job_protocol.specs.TaskAborts.{Sweeping}
 use Rattle.store_frame.proofs.Flat.{page_begins}
-use Rattle.job_facts.specs.Filed.{HasItsKey}
-use Rattle.job_facts.proofs.Aborting.{taken_in, dropped_in}
-use Rattle.job_facts.proofs.Apart.{HasKey, key_left, write_keys, commit_keys, abort_keys, another, record_below}
-use Rattle.job_facts.proofs.EndedGone.{stays_gone}
-use Rattle.job_facts.proofs.Going.{step_so, effect_so}
-use Rattle.job_facts.proofs.Legal.{some_dest}
-use Rattle.job_facts.proofs.Legible.{record_read}
 use Rattle.job_facts.proofs.Sent.{not_set}
-use Rattle.job_facts.proofs.Shapes.{answer_is, key_before, puts}
-use Rattle.job_facts.proofs.Whose.{same_or_another, who_here, who_other}
 use Rattle.job_protocol.specs.Sparing.{Sparing, Walking, Naming, Reading, Aborting, Removing, SparingOver, record_request, sparing_asks, sparing_hears, sparing_after, names, record_names, ref_of, deleting, removing, emptying, aborting, reading_on, walking}
 use Rattle.job_protocol.specs.Sparing as sparing
-use Rattle.job_facts.specs.Spares.{FitsSparing}
 use Rattle.twin_facts.proofs.Keyed.{Keyed, ref}
 use Rattle.twin_facts.proofs.Leaving.{Dead, abort_dead}
-use Rattle.job_facts.proofs.Learning.{Knows, known_still}
-use Rattle.job_facts.proofs.Spares.{in_or_not}
-use Rattle.job_facts.proofs.Suffix.{record_ends_so}
-use Rattle.std.proofs.Math.Bool.{or-false, or-true}
 
 -- ---- what becomes of a file's record
 

@@ -1,31 +1,12 @@
 -- In every run the records of files whose uploads live stand; so what a set names a record names too.
-use Rattle.std.proofs.Common.{◌≡◌, ℕ, ◌<◌, ◌≤◌, ◌^◌, ◌⊎◌, inl, inr, true, false, List, [], ◌∷◌, Option, Some, refl, sym, ap, subst, ◌∙◌, arith}
-use Rattle.job_facts.specs.Prelude.{Scene, begins, answer, bucket_of, effect, IsHonestOutcome, Driver, Committer, Magic, Request, UploadRef, Outcome, Entry, Retried, fresh, magic_prefix, staged_set_path, StagedSetPlace, Who, File, Script, Drawn, Known, IsLegal, files, record_key, file_record, setup_asks, writing, write_start, write_start_by, task_commit_start, task_abort_start, Setting, Operation, TheSetup, TheWrite, TheTaskCommit, TheTaskAbort, TheCommit, who, asks, tells, Clean, TheClean, TheCheck, TheSparing, Reports, commit_of, step, Setup, Content, is_magic, is_staging, IsIn, changed_keys, Told, known, IsForeign, IsAttempt, Times}
-use Rattle.job_spec.proofs.Common.{some_is, none_some, none_or_some, false_true}
+use Rattle.twin_facts.proofs.Common.{At, BeginAbort, BeginClean, BeginCommit, BeginPublish, BeginSetup, BeginWrite, Beginning, Clean, Committer, Content, Drawn, Driver, Early, Entry, File, HasKey, IsAttempt, IsForeign, IsHonestOutcome, IsIn, IsLegal, IsOpening, Known, Late, List, Magic, MayBegin, NamedAt, NamedBySet, Operation, Option, Outcome, Reports, Request, Retried, Runs, Scene, Script, Setting, Setup, Some, Sparing, StagedSetPlace, Stand, TheCheck, TheClean, TheCommit, TheSetup, TheSparing, TheTaskAbort, TheTaskCommit, TheWrite, Times, Told, UploadRef, Who, [], actor_begins, after_check_so, answer, ap, arith, asks, attempt_saw, attempt_sends, begin, begins, begun_attempts, begun_driver, bucket_of, changed_keys, check_after, check_reads, clean_of_so, commit_drives, commit_of, commit_of_so, driver_saw, driver_sends, effect, false, false_true, file_record, files, fresh, good, inl, inr, is_magic, is_set, is_staging, known, late_now, magic_prefix, none_or_some, none_some, nothing_learnt, path_below, put_at, record_below, record_ends_so, record_key, record_names, ref_of, refl, run_begins, same_or_another, set_file, setup_asks, some_dest, some_is, sparing_start, staged_set, staged_set_path, step, strays, subst, sym, task_abort_start, task_commit_start, tells, true, who, who_here, who_other, write_start, write_start_by, writing, ℕ, ◌<◌, ◌^◌, ◌∙◌, ◌∷◌, ◌≡◌, ◌≤◌, ◌⊎◌}
 use Rattle.pending_json.specs.Reading as reading
-use Rattle.job_protocol.proofs.Begun.{commit_of_so, clean_of_so, after_check_so}
-use Rattle.job_traces.specs.Runs.{Stand, is_set, Beginning, BeginSetup, BeginCommit, BeginClean, BeginWrite, BeginPublish, BeginAbort, MayBegin, begin, begun_attempts, begun_driver, nothing_learnt, Runs, run_begins, actor_begins, driver_sends, attempt_sends, strays, IsOpening}
-use Rattle.job_traces.proofs.Running.{At, Early, Late}
-use Rattle.job_traces.proofs.EveryRun.{good}
-use Rattle.job_traces.proofs.Entries.{late_now}
-use Rattle.job_facts.proofs.Sharing.{check_reads}
-use Rattle.job_facts.proofs.Apart.{HasKey, record_below}
 use Rattle.job_facts.proofs.Driving.{reads_drive}
-use Rattle.job_facts.proofs.JobCommitting.{commit_drives}
-use Rattle.job_facts.proofs.Legal.{some_dest}
 use Rattle.job_facts.proofs.Legible.{record_read, set_read}
-use Rattle.job_facts.proofs.Placed.{staged_set, path_below}
-use Rattle.job_facts.proofs.Whose.{same_or_another, who_here, who_other, put_at}
-use Rattle.job_protocol.specs.Sparing.{Sparing, sparing_start, record_names, ref_of}
-use Rattle.job_protocol.specs.Rechecks.{check_after}
-use Rattle.twin_facts.specs.Sides.{driver_saw, attempt_saw}
-use Rattle.twin_facts.specs.Spared.{NamedAt, NamedBySet}
 use Rattle.twin_facts.proofs.OneSide.{driver_scene, attempt_scene, never_cleans}
 use Rattle.twin_facts.proofs.Keyed.{Keyed, keyed_so}
 use Rattle.twin_facts.proofs.Leaving.{Dead}
 use Rattle.twin_facts.proofs.Recorded.{IsRecorded, AreRecorded, WriteRecords, Records, Covers, records_later, covers_later, free_keys, driver_later, strange_later, attempt_later, attempt_keys, own_records, sparing_left, covers_goes}
-use Rattle.job_facts.proofs.Spares.{set_file}
-use Rattle.job_facts.proofs.Suffix.{record_ends_so}
 
 module _ (g : Setting) where
   abbrev w : Script

@@ -1,16 +1,7 @@
 -- What an abort or clean at a shared destination leaves where it ends Done.
-use Rattle.std.proofs.Common.{◌≡◌, ℕ, ◌≤◌, ◌^◌, ◌⊎◌, inl, inr, true, cond, List, [], ◌∷◌, ◌++◌, Some, refl, sym, ap, subst, ◌∙◌, arith}
-use Rattle.job_facts.specs.Prelude.{Content, Scene, begins, answer, effect, IsHonestOutcome, Driver, Request, Committer, Magic, Outcome, Entry, Retried, fresh, step, Script, Setting, who, HasBucket, driver_entry, strange_entry, Operation, TheClean, TheSparing, clean_start, asks, IsForeign, Times, IsLegal}
-use Rattle.job_spec.proofs.Common.{some_is, false_true}
+use Rattle.twin_facts.proofs.Common.{At, BeginClean, Committer, Content, Driver, Entry, HasBucket, IsForeign, IsHonestOutcome, IsLegal, IsOpening, IsTimely, Late, List, Magic, Operation, Outcome, Request, Retried, Runs, Scene, Script, Setting, Some, SparesOn, Sparing, SparingLeaves, SparingOver, Stand, TheClean, TheSparing, Times, [], actor_begins, answer, ap, arith, asks, begin, begins, clean_start, cond, driver_entry, effect, false_true, frame, fresh, inl, inr, is_set, it_begins, it_sends, late_now, nothing_learnt, other_sends, refl, some_is, spares_begin, sparing_after, sparing_asks, sparing_start, stays_gone, step, strange_entry, strays, subst, sym, true, who, ℕ, ◌++◌, ◌^◌, ◌∙◌, ◌∷◌, ◌≡◌, ◌≤◌, ◌⊎◌}
 use Rattle.job_model.specs.declared.ends.CleanEnd.TheVariants as ends
-use Rattle.store_frame.proofs.Framed.{frame}
-use Rattle.job_traces.specs.Runs.{Stand, is_set, BeginClean, begin, IsTimely, nothing_learnt, Runs, actor_begins, strays, IsOpening}
-use Rattle.job_traces.proofs.Running.{At, Late}
-use Rattle.job_traces.proofs.Entries.{late_now}
-use Rattle.job_facts.proofs.EndedGone.{stays_gone}
-use Rattle.job_protocol.specs.Sparing.{Sparing, SparingOver, sparing_start, sparing_asks, sparing_after}
 use Rattle.twin_facts.specs.Sides.{driver_saw, Sends, driver_sends, attempt_sends}
-use Rattle.twin_facts.specs.Spared.{SparingLeaves, SparesOn, spares_begin, it_begins, it_sends, other_sends}
 use Rattle.twin_facts.proofs.OneSide.{goes_on, driver_scene}
 use Rattle.twin_facts.proofs.Keyed.{keyed_so}
 use Rattle.twin_facts.proofs.Leaving.{Dead, Leaving, LeftAlone, leaving_alone, alone_request, leaving_start, leaving_goes}

@@ -1,25 +1,7 @@
 -- What one entry of a side leaves: of its picks, of what stands where files are shown, and of the marker.
-use Rattle.std.proofs.Common.{◌≡◌, ℕ, ◌≤◌, ◌^◌, ◌⊎◌, inl, inr, ◌||◌, ◌&&◌, not, Bool, true, false, cond, List, Option, Some, None, refl, sym, ap, subst, ◌∙◌, arith}
-use Rattle.job_facts.specs.Prelude.{Content, Scene, answer, apply, effect, is_effective, IsHonestOutcome, Object, Driver, Request, PutObject, Mode, Replace, Append, Fail, Committer, Magic, Outcome, Answered, Entry, below, success_key, Retried, setup_asks, Script, IsLegal, keeps, partitions, wanted_at, wanted_paths, is_decided, mark_text, is_file_path, Sets, picks_of, Clean, Commit, Fetching, Marking, commit_asks, commit_tells, Setting, Operation, asks, TheSetup, TheCommit, TheClean, TheCheck, TheSparing, is_picking, who, is_driver, Seen, see, is_begun, is_marking, is_reading, IsIn, changed_keys, driver_entry, at_key, whole_of, Decides, FileStands, Wants, Commits, Times}
-use Rattle.job_protocol.specs.Prelude.{Path}
-use Rattle.job_spec.proofs.Common.{some_is, none_some, false_true, true_or_false, text_true}
+use Rattle.twin_facts.proofs.Common.{AgreeBelow, Agrees, Answered, Append, At, Bool, Clean, Commit, Commits, Committer, Content, Decides, Driver, Early, Entry, Fail, Fetching, FileStands, InCommit, IsHonestOutcome, IsIn, IsLegal, IsOpening, IsTimely, Late, List, Magic, Marking, Mode, None, Object, Operation, Option, Outcome, Path, PutObject, Replace, Request, Retried, Runs, Scene, Script, Seen, Sets, Setting, Some, Stand, TheCheck, TheClean, TheCommit, TheSetup, TheSparing, Times, Wants, and-false, answer, ap, apply, arith, asks, at_key, attempt_quiet, below, changed_keys, check_plain, cleans_is, commit_asks, commit_tells, cond, counted, decided_so, driver_entry, effect, effective_is, false, false_true, files_go, good, inl, inr, is_begun, is_decided, is_driver, is_effective, is_file_path, is_marking, is_picking, is_reading, is_replace, keeps, late_now, mark_text, no_success, none_some, not, nothing_learnt, operation_own, or-true, partitions, picks_of, puts, refl, same_mark, see, setup_asks, setup_plain, some_is, stranger_same, subst, success_key, sym, text_true, true, true_or_false, wanted_at, wanted_of, wanted_paths, wants_of, who, whole_of, ℕ, ◌&&◌, ◌^◌, ◌||◌, ◌∙◌, ◌≡◌, ◌≤◌, ◌⊎◌}
 use Rattle.job_protocol.specs.View.{object_at}
-use Rattle.job_traces.specs.Runs.{Stand, IsTimely, nothing_learnt, Runs, IsOpening}
-use Rattle.std.proofs.Math.Bool.{and-false, or-true}
-use Rattle.job_facts.proofs.EndedGone.{effective_is}
-use Rattle.job_facts.proofs.Owning.{operation_own}
-use Rattle.job_facts.proofs.SettingUp.{no_success}
-use Rattle.job_facts.proofs.Shapes.{puts}
-use Rattle.job_traces.proofs.Keeping.{attempt_quiet}
-use Rattle.job_facts.proofs.FilingLaws.{files_go, stranger_same}
-use Rattle.job_facts.proofs.Agreeing.{AgreeBelow, Agrees, decided_so}
-use Rattle.job_facts.proofs.Wanted.{same_mark, wanted_of}
-use Rattle.job_traces.proofs.Running.{InCommit, At, Early, Late, wants_of}
-use Rattle.job_traces.proofs.EveryRun.{good, cleans_is}
-use Rattle.job_traces.proofs.Entries.{late_now}
-use Rattle.job_facts.proofs.Sharing.{setup_plain, check_plain}
 use Rattle.job_protocol.specs.Sparing.{Sparing, Reading, SparingOver, record_request, sparing_asks}
-use Rattle.twin_facts.specs.TwinLaws.{counted, is_replace}
 use Rattle.twin_facts.specs.Sides.{Sends, driver_sends, attempt_sends, attempt_saw, driver_saw}
 use Rattle.twin_facts.proofs.Changes.{commit_shows_by, setup_shows, attempt_shows, check_shows, sparing_shows}
 use Rattle.twin_facts.proofs.Progress.{Committing, Unread, nothing_under, kind, is_fetching, is_mark_stage, undecided, picks_same, mark_same, put_before, committing_next, committing}

@@ -1,17 +1,6 @@
 -- All runs of two jobs at one destination.
-use Rattle.std.proofs.Common.{◌≡◌, ℕ, ◌+◌, ◌<◌, ◌≤◌, ◌⊎◌, inl, inr, ◌&&◌, ◌||◌, nat_le, Bool, true, false, cond, List, [], ◌∷◌, ◌++◌, map, take, length, Some, refl, sym, ap, subst, ◌∙◌, arith, length-append}
-use Rattle.job_facts.specs.Prelude.{strange_entry, HasBucket, list_any, text_eq, Content, Scene, Upload, nothing_seen, bucket_of, effect, is_effective, Request, Entry, success_key, Script, Setting, is_driver, is_marking, IsIn, changed_keys, Times}
-use Rattle.job_spec.proofs.Common.{and_parts, at_most_is, at_most_not, map-append, take-append-le, take_all, false_true, text_true, true_or_false}
-use Rattle.job_protocol.specs.Prelude.{Path}
+use Rattle.twin_facts.proofs.Common.{AreTwins, Beginning, Bool, Content, Entry, First, HasBucket, Ids, IsIn, IsOpening, IsTwinOpening, List, MayBeTwins, MayBegin, Path, Request, Scene, Script, Second, Sends, Setting, Side, Some, Stand, Times, TwinEntry, TwinRun, TwinsKeep, Upload, [], and_from, and_parts, ap, arith, at_most_is, at_most_not, begin, bucket_of, changed_keys, cond, drawn_by, drew, drew_from, effect, eyes, false, false_true, first_begins, first_sends, first_stand, in_eyes, inl, inr, is_driver, is_effective, is_marked_by, is_marking, is_side, late_now, length, length-append, list_any, map, map-append, marks_by, nat_le, nothing_seen, observed, or-false, or-true, or_assoc, refl, run_begins, second_begins, second_sends, strange_entry, subst, success_key, sym, take, take-append-le, take_all, text_eq, text_true, touches_mark, true, true_or_false, turned_entry, twins_begin, ℕ, ◌&&◌, ◌++◌, ◌+◌, ◌<◌, ◌||◌, ◌∙◌, ◌∷◌, ◌≡◌, ◌≤◌, ◌⊎◌}
 use Rattle.job_spec.specs.Scope.{upload_at}
-use Rattle.job_traces.specs.Runs.{Stand, first_stand, Beginning, MayBegin, begin, run_begins, IsOpening}
-use Rattle.job_traces.proofs.Entries.{late_now}
-use Rattle.std.proofs.Math.Bool.{or_assoc, or-false, or-true}
-use Rattle.std.proofs.lemmas.Bool.{and_from}
-use Rattle.twin_facts.specs.Names.{Ids}
-use Rattle.twin_facts.specs.Laws.{AreTwins}
-use Rattle.twin_facts.specs.TwinLaws.{turned_entry, touches_mark, marks_by, is_marked_by, MayBeTwins, TwinsKeep}
-use Rattle.twin_facts.specs.Sides.{Sends, observed, Side, First, Second, is_side, TwinEntry, in_eyes, eyes, drawn_by, drew_from, drew, TwinRun, twins_begin, first_begins, second_begins, first_sends, second_sends, IsTwinOpening}
 use Rattle.twin_facts.proofs.Pairs.{Pair, more, swapped, swap_twins, paired_begin, paired, strange, sends_scene}
 use Rattle.twin_facts.proofs.Steps.{sends_leaves}
 use Rattle.twin_facts.proofs.Views.{Views, views_swap, Touches, begins_views, entry_views, views_only, views_kept, views_marked}

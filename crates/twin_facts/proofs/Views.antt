@@ -1,17 +1,6 @@
 -- What readers of a destination of two jobs are shown is kept by each step of either.
-use Rattle.std.proofs.Common.{◌≡◌, ℕ, ◌⊎◌, inl, inr, not, Bool, true, false, cond, List, Option, Some, None, refl, sym, ap, subst, ◌∙◌, arith}
-use Rattle.job_facts.specs.Prelude.{option_map, Content, Scene, bucket_of, effect, is_effective, Object, Request, Outcome, Slow, RequestLost, Entry, success_key, Script, IsLegal, Picks, wanted_at, is_decided, is_picked, is_clash, mark_text, is_file_path, view, Commit, Marking, Setting, TheCommit, is_driver, is_marking, clean_of, IsIn, HasBucket, changed_keys, whole_of, Times}
-use Rattle.job_spec.proofs.Common.{and_parts, not-true, some_is, none_some, none_or_some, false_true, true_or_false}
-use Rattle.job_protocol.specs.Prelude.{Path}
-use Rattle.job_protocol.proofs.Begun.{clean_of_so}
-use Rattle.job_traces.specs.Runs.{Stand, is_just_set, Beginning, BeginSetup, BeginCommit, BeginClean, MayBegin, begin, Runs, IsOpening}
-use Rattle.job_traces.proofs.EveryRun.{just_set, just_idle}
-use Rattle.job_traces.proofs.Entries.{late_now}
+use Rattle.twin_facts.proofs.Common.{BeginClean, BeginCommit, BeginSetup, Beginning, Bool, Commit, Content, Entry, Gives, HasBucket, IsIn, IsLegal, IsOpening, List, Marking, MayBegin, None, Object, Option, Outcome, Path, Picks, Request, RequestLost, Runs, Scene, Script, Setting, Slow, Some, Stand, TheCommit, Times, and_parts, ap, arith, begin, bucket_of, changed_keys, clean_of, clean_of_so, cond, counted, effect, false, false_true, inl, inr, is_clash, is_decided, is_driver, is_effective, is_file_path, is_just_set, is_marking, is_picked, just_idle, just_set, late_now, mark_text, none_or_some, none_some, not, not-true, observed, option_map, refl, some_is, stranger_same, subst, success_key, sym, true, true_or_false, view, wanted_at, wanted_of, whole_of, ℕ, ◌∙◌, ◌≡◌, ◌⊎◌}
 use Rattle.job_facts.proofs.FilePaths.{file_path}
-use Rattle.job_facts.proofs.FilingLaws.{stranger_same}
-use Rattle.job_facts.proofs.Wanted.{wanted_of}
-use Rattle.twin_facts.specs.TwinLaws.{counted, Gives}
-use Rattle.twin_facts.specs.Sides.{observed}
 use Rattle.twin_facts.proofs.Steps.{obj, mark_at, count, FileAt, Leaves}
 
 -- ---- paths

@@ -1,9 +1,8 @@
 -- What each side has sent names, over the whole run of two jobs.
-use Rattle.std.specs.Prelude.{◌≡◌, List}
-use Rattle.std.specs.List.{AllByRecursion}
-use Rattle.job_facts.specs.Prelude.{Script}
-use Rattle.twin_facts.specs.Names.{IsStranger, Ids}
-use Rattle.twin_facts.specs.Sides.{Side, First, Second, TwinEntry, drew}
+use Rattle.std.specs.Prelude.{List, ◌≡◌}
+use Rattle.job_model.specs.Prelude.{AllByRecursion, Script}
+use Rattle.twin_facts.specs.Names.{Ids, IsStranger}
+use Rattle.twin_facts.specs.Sides.{First, Second, Side, TwinEntry, drew}
 use Rattle.twin_facts.specs.TwinLaws.{InEachRun}
 
 -- what this side sent names nothing of a job that drew these uploads

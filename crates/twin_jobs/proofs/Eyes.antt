@@ -1,16 +1,9 @@
 -- The journal of both, as each side reads it.
-use Rattle.std.proofs.Common.{◌≡◌, ℕ, not, Bool, true, false, cond, List, [], ◌∷◌, ◌++◌, refl, sym, ap, ◌∙◌}
-use Rattle.proof_base.specs.Prelude.{AllByRecursion}
-use Rattle.job_spec.proofs.Common.{map-append}
+use Rattle.twin_jobs.proofs.Common.{AllByRecursion, AreOf, Bool, List, TwinEntry, [], after_all, ap, both_of, cond, entry_by, eyes, false, in_eyes, map-append, not, number_in, refl, sym, true, ℕ, ◌++◌, ◌∙◌, ◌∷◌, ◌≡◌}
 use Rattle.job_facts.specs.Prelude.{Scene, answer, effect, IsHonestOutcome, Shell, Entry, Who, Script, Drawn, is_own, IsForeign, AreOwn}
-use Rattle.job_spec.specs.Prelude.{in_eyes, after_all}
-use Rattle.job_spec.specs.Eyes.{number_in}
-use Rattle.job_side.specs.Holds.{AreOf}
 use Rattle.job_side.specs.Beside as beside
 use Rattle.twin_facts.specs.Sides as two
-use Rattle.twin_facts.specs.Sides.{TwinEntry, eyes}
 use Rattle.twin_facts.specs.Joined as joined
-use Rattle.twin_jobs.specs.Worlds.{entry_by, both_of}
 
 -- the sending changes the scene alike in whose eyes it may be
 pub after_eyes : (mine : ℕ → Bool) (s : Scene) (es : List Entry) → after_all s (in_eyes mine es) ≡ after_all s es

@@ -5,3 +5,4 @@ pub mod Playing
 pub mod Whole
 pub mod Turning
 pub mod Starting
+mod Common

@@ -1,18 +1,8 @@
 -- The numbers of the events of each side, and how many there are.
-use Rattle.std.proofs.Common.{◌≡◌, ℕ, zero, suc, ◌+◌, ◌<◌, ◌≤◌, nat_eq, not, Bool, true, false, cond, List, [], ◌∷◌, ◌++◌, length, take, slice_get, Some, refl, sym, ap, subst, ◌∙◌, arith}
+use Rattle.twin_jobs.proofs.Common.{Bool, First, List, Second, Side, Some, [], ap, arith, cond, events_of, false, first_count, is_same, length, list_any, mine, nat_eq, nat_false, nat_true, none_some, not, number_in, other_of, others_in, refl, second_count, sides_in, slice_get, slice_get_within, some_is, subst, suc, sym, take, take_more, there, true, zero, ℕ, ◌++◌, ◌+◌, ◌<◌, ◌∙◌, ◌∷◌, ◌≡◌, ◌≤◌}
 use Rattle.std.specs.Prelude.{replicate, sum_by}
 use Rattle.std.proofs.lemmas.List.Sums.{sum_by-cons}
-use Rattle.job_facts.specs.Prelude.{list_any}
-use Rattle.job_spec.proofs.Common.{some_is, none_some, nat_false, nat_true, slice_get_within}
-use Rattle.job_spec.specs.Eyes.{number_in}
-use Rattle.job_side.proofs.Firsts.{take_more}
-use Rattle.job_side.proofs.Places.{there}
-use Rattle.twin_script.specs.declared.turns.Side.{Side}
-use Rattle.twin_script.specs.declared.turns.Side.TheVariants.{First, Second}
 use Rattle.twin_script.specs.declared.turns.TwinTurn.{TwinTurn}
-use Rattle.twin_script.specs.TwinScripts.{first_count, second_count, sides_in}
-use Rattle.twin_jobs.specs.Order.{is_same, other_of, events_of, others_in}
-use Rattle.twin_jobs.specs.Worlds.{mine}
 
 -- ---- whose an event is
 

@@ -1,34 +1,18 @@
 -- What a side that rests says of its job's run, and what another's event leaves of it.
-use Rattle.std.proofs.Common.{◌≡◌, ℕ, ◌+◌, ◌≤◌, not, Bool, true, false, List, [], ◌∷◌, ◌++◌, length, slice_get, Option, Some, None, refl, sym, ap, subst, ◌∙◌, arith}
-use Rattle.proof_base.specs.Prelude.{AllByRecursion}
-use Rattle.job_steps.specs.Prelude.{Content, Scene, Request, Actor, Entry, Who, actor_of, Known, Drawn, Script, EventEnd, Pick, Setting, Running, who, knows, by_actor, AreOwn, IsOpening, Play, times}
-use Rattle.job_spec.specs.Prelude.{in_eyes, after_all}
-use Rattle.s3_types.specs.Store as store
-use Rattle.job_traces.specs.Runs.{Stand, Runs}
-use Rattle.job_traces.proofs.Changes.{moment_scene}
+use Rattle.twin_jobs.proofs.Common.{Actor, AllByRecursion, AreOf, AreOwn, Body, Bool, Content, Drawn, Entry, EventEnd, IsAmong, IsOpening, IsTwinOpening, Known, List, MayBeTwins, None, Option, Pick, Play, Quiet, Request, RestsOne, RestsShared, Running, Scene, Script, Setting, Shared, Side, Some, TwinRun, Who, [], actor_of, after_all, ap, arith, both_of, by_actor, eyes, false, in_eyes, is_mine, knows, knows_of, length, mine, not, other_of, over, refl, setting, setting_of, slice_get, slice_get_within, subst, sym, take_whole, times, true, who, ℕ, ◌++◌, ◌+◌, ◌∙◌, ◌∷◌, ◌≡◌, ◌≤◌}
+use Rattle.job_traces.specs.Runs.{Runs, Stand}
+use Rattle.job_traces.proofs.Changes.{after_parts, moment_scene}
 use Rattle.job_steps.proofs.Running.{is_run}
-use Rattle.job_steps.proofs.Parts.{take_whole}
 use Rattle.job_safety.proofs.Ending.{ahead_none}
-use Rattle.job_traces.proofs.Changes.{after_parts}
-use Rattle.job_side.specs.Holds.{Quiet, AreOf, is_mine, setting_of}
-use Rattle.job_side.specs.Events.{knows_of}
 use Rattle.job_side.specs.Beside.{AreForeign}
 use Rattle.job_side.proofs.Beside.{rests_beside}
-use Rattle.job_spec.proofs.Common.{slice_get_within}
-use Rattle.job_side.specs.declared.body.Body.{Body}
-use Rattle.job_side.specs.declared.body.Side as body
-use Rattle.job_side.specs.declared.body.Shared.{Shared}
-use Rattle.twin_facts.specs.Sides as two
-use Rattle.twin_facts.specs.Sides.{TwinRun, IsTwinOpening, eyes}
-use Rattle.twin_facts.specs.Joined as joined
-use Rattle.twin_facts.specs.TwinLaws.{MayBeTwins}
-use Rattle.twin_facts.proofs.Joining as joining
-use Rattle.twin_script.specs.declared.turns.Side.{Side}
-use Rattle.twin_jobs.specs.Order.{other_of}
-use Rattle.twin_jobs.specs.Worlds.{mine, setting, both_of}
-use Rattle.twin_jobs.specs.Pairs.{over, IsAmong, RestsOne, RestsShared}
 use Rattle.twin_jobs.proofs.Numbers.{mine_at, opposite, same_self}
-use Rattle.twin_jobs.proofs.Eyes.{AreApart, after_eyes, own_on, first_eyes, second_eyes, actors, appended, by_first, foreign_by}
+use Rattle.twin_jobs.proofs.Eyes.{AreApart, actors, after_eyes, appended, by_first, first_eyes, foreign_by, own_on, second_eyes}
+use Rattle.s3_types.specs.Store as store
+use Rattle.job_side.specs.declared.body.Side as body
+use Rattle.twin_facts.specs.Sides as two
+use Rattle.twin_facts.specs.Joined as joined
+use Rattle.twin_facts.proofs.Joining as joining
 
 -- ---- what all share
 

@@ -1,22 +1,7 @@
 -- A pair of sides of which one plays its next event.
-use Rattle.std.proofs.Common.{◌≡◌, ℕ, ◌+◌, List, length, slice_get, Option, Some, refl, sym, ap, subst, ◌∙◌, arith}
-use Rattle.std.specs.Prelude.{Result, Ok, Err, OnOk, OnErr, IsSome, is_some}
-use Rattle.job_steps.specs.Prelude.{fate_at, Request, Actor, Known, Script, Pick, Setting, Running}
-use Rattle.job_spec.specs.Eyes.{number_in}
-use Rattle.job_side.specs.Holds.{Quiet, IsTurn, is_mine}
-use Rattle.job_side.specs.Events.{Grown, IsAsBefore}
-use Rattle.job_side.proofs.Places.{there}
-use Rattle.job_spec.proofs.Common.{slice_get_within}
-use Rattle.job_side.specs.declared.body.Body.{Body}
+use Rattle.twin_jobs.proofs.Common.{Actor, Body, Err, First, Grown, IsAsBefore, IsSome, IsTurn, Known, List, MayBeTwins, Ok, OnErr, OnOk, Option, Pair, Pick, Quiet, Request, Result, Running, Script, Second, Setting, Shared, Side, Some, ap, arith, fate_at, is_mine, is_some, length, mine, number_in, other_of, refl, slice_get, slice_get_within, subst, sym, there, ℕ, ◌+◌, ◌∙◌, ◌≡◌}
 use Rattle.job_side.specs.declared.body.Side as body
-use Rattle.job_side.specs.declared.body.Shared.{Shared}
-use Rattle.twin_facts.specs.TwinLaws.{MayBeTwins}
-use Rattle.twin_script.specs.declared.turns.Side.{Side}
-use Rattle.twin_script.specs.declared.turns.Side.TheVariants.{First, Second}
-use Rattle.twin_jobs.specs.Order.{other_of}
-use Rattle.twin_jobs.specs.Worlds.{mine}
 use Rattle.twin_jobs.specs.Pairs.{over, side_by, side_in, RestsOne, RestsShared, RestsBoth, Rests, IsTurnedTo, IsPlayed, IsUnplayed}
-use Rattle.twin_jobs.specs.declared.pair.Pair.{Pair}
 use Rattle.twin_jobs.proofs.Numbers.{mine_at, same_self, more_left}
 use Rattle.twin_jobs.proofs.OneSide.{twins_turned, shared_more, stays_beside}
 

@@ -1,23 +1,10 @@
 -- Two jobs of which nothing has happened.
-use Rattle.std.proofs.Common.{◌≡◌, ℕ, ◌+◌, ◌≤◌, ◌<◌, ◌^◌, false, List, [], length, slice_get, Option, refl, sym, ap, subst, ◌∙◌, arith}
-use Rattle.job_steps.specs.Prelude.{Content, fate_at, Request, Actor, Known, Script, IsLegal, Pick, Setting, Running}
-use Rattle.job_facts.specs.Prelude.{Mode}
+use Rattle.twin_jobs.proofs.Common.{Actor, AreTwins, Content, First, IsFresh, IsLegal, IsPaired, Known, List, MayBeTwins, Mode, Option, Pair, Pick, Request, Rests, RestsOne, Running, Script, Second, Setting, Shared, Side, Twins, [], ap, arith, begun, events_of, false, fate_at, first_quiet, is_replace, job_in, length, nothing_run, others_in, over, picks_in, refl, run_of, side_in, sides_in, slice_get, subst, sym, ℕ, ◌+◌, ◌<◌, ◌^◌, ◌∙◌, ◌≡◌, ◌≤◌}
 use Rattle.s3_types.specs.declared.request.Mode.TheVariants as modes
 use Rattle.s3_service.specs.Ids.{AreBelow}
-use Rattle.job_side.specs.Events.{picks_in}
 use Rattle.job_side.specs.Firsts.{IsFirstShared}
-use Rattle.job_side.proofs.Firsts.{first_quiet}
 use Rattle.job_side.specs.declared.body.Side as body
-use Rattle.job_side.specs.declared.body.Shared.{Shared}
 use Rattle.twin_facts.specs.TwinLaws as laws
-use Rattle.twin_facts.specs.TwinLaws.{MayBeTwins}
-use Rattle.twin_script.specs.declared.turns.Side.{Side}
-use Rattle.twin_script.specs.declared.turns.Side.TheVariants.{First, Second}
-use Rattle.twin_script.specs.TwinScripts.{Twins, AreTwins, is_replace, sides_in}
-use Rattle.twin_jobs.specs.Order.{events_of, others_in}
-use Rattle.twin_jobs.specs.Worlds.{begun, nothing_run}
-use Rattle.twin_jobs.specs.Pairs.{over, job_in, run_of, IsFresh, IsPaired, side_in, Rests, RestsOne}
-use Rattle.twin_jobs.specs.declared.pair.Pair.{Pair}
 use Rattle.twin_jobs.proofs.Numbers.{events_asked, all_sides}
 
 -- ---- an order

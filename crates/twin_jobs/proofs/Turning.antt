@@ -1,22 +1,7 @@
 -- What callers see of a pair, and of its turns.
-use Rattle.std.proofs.Common.{◌≡◌, ℕ, inl, inr, ◌+◌, ◌<◌, ◌≤◌, Bool, true, List, [], ◌∷◌, length, slice_get, Option, Some, None, refl, sym, ap, subst, ◌∙◌, arith}
-use Rattle.proof_base.specs.Prelude.{AllByRecursion}
-use Rattle.job_steps.specs.Prelude.{Request, Actor, Entry, Known, Pick, Setting, Running, moment, past, Past}
-use Rattle.job_states.specs.Stands.{Stands}
-use Rattle.job_spec.proofs.Common.{none_some, cases_lt}
-use Rattle.job_side.proofs.Places.{there}
-use Rattle.job_side.specs.Holds.{Quiet, AreOf}
-use Rattle.job_side.specs.Events.{IsAsBefore, picks_in}
-use Rattle.job_side.specs.declared.body.Body.{Body}
+use Rattle.twin_jobs.proofs.Common.{Actor, AllByRecursion, AreOf, Body, Bool, Entry, First, FoundNone, HasPicks, IsAsBefore, JobRun, Keeps, Known, List, None, Option, Pair, Past, Pick, Played, Quiet, Request, Run, Running, RunsAreKeptShared, Second, Setting, Shared, Side, Some, Stands, [], ap, arith, cases_lt, inl, inr, job_of, length, moment, none_some, past, picks_in, played, refl, slice_get, subst, sym, there, true, ℕ, ◌+◌, ◌<◌, ◌∙◌, ◌∷◌, ◌≡◌, ◌≤◌}
 use Rattle.job_side.specs.declared.body.Side as body
-use Rattle.job_side.specs.declared.body.Shared.{Shared}
-use Rattle.twin_script.specs.declared.turns.Side.{Side}
-use Rattle.twin_script.specs.declared.turns.Side.TheVariants.{First, Second}
-use Rattle.twin_jobs.specs.Worlds.{Run, JobRun, job_of, played, Keeps, Played, FoundNone}
 use Rattle.twin_jobs.specs.Pairs.{over, job_in, run_of, side_by, side_in, RestsBoth, Rests, IsPlayed, IsUnplayed}
-use Rattle.twin_jobs.specs.declared.pair.Pair.{Pair}
-use Rattle.job_side.proofs.KeptSides.{HasPicks}
-use Rattle.twin_safety.specs.Shared.{RunsAreKeptShared}
 use Rattle.twin_jobs.proofs.Whole.{played_is, keeps, scene_is, state_is}
 
 -- entries of an event, by its number

@@ -1,34 +1,19 @@
 -- What two jobs keep between their events.
-use Rattle.std.proofs.Common.{◌≡◌, ℕ, ◌+◌, Bool, List, [], ◌∷◌, length, Option, Some, sym, ap, subst, ◌∙◌, arith}
-use Rattle.job_steps.specs.Prelude.{Scene, moment, fate_at, Request, Actor, Entry, Known, Pick, Setting, Running, Sent, past, Past, IsPlayed}
+use Rattle.job_spec.specs.Prelude.{Actor, AreHonest, Entry, IsHonest, Known, Past, Pick, Request, Running, Scene, Sent, Setting, after_all, effect, fate_at, in_eyes, moment, past, times}
+use Rattle.twin_jobs.proofs.Common.{Body, Bool, First, HasPicks, IsPlayed, IsTwinOpening, Keeps, List, Option, Quiet, RestsBoth, RestsOne, RunsAreKeptShared, Second, Shared, SharedKept, Side, Some, Stands, TwinRun, [], all_sound, ap, arith, both_of, drew, is_mine, job_in, length, mine, number_in, over, run_of, setting, setting_of, subst, sym, take_whole, told, ℕ, ◌+◌, ◌∙◌, ◌∷◌, ◌≡◌}
 use Rattle.job_steps.proofs.Played.{happenings_play}
-use Rattle.job_spec.specs.Prelude.{IsHonest, AreHonest, in_eyes, after_all, effect}
-use Rattle.job_spec.specs.Eyes.{number_in}
-use Rattle.s3_types.specs.Store as store
-use Rattle.job_facts.specs.Prelude.{times}
 use Rattle.job_safety.specs.Laws.{KeptAmong}
-use Rattle.job_safety.proofs.Kept as kept
-use Rattle.job_steps.proofs.Parts.{take_whole}
-use Rattle.job_states.specs.Stands.{Stands}
-use Rattle.job_side.specs.Holds.{Quiet, is_mine, all_sound, setting_of}
-use Rattle.job_side.proofs.KeptSides.{HasPicks, told}
 use Rattle.job_side.proofs.Moments.{stands_of}
 use Rattle.job_side.proofs.Seen.{foretold_as}
-use Rattle.job_side.specs.declared.body.Body.{Body}
-use Rattle.job_side.specs.declared.body.Side as body
-use Rattle.job_side.specs.declared.body.Shared.{Shared}
-use Rattle.twin_facts.specs.Sides as two
-use Rattle.twin_facts.specs.Sides.{TwinRun, IsTwinOpening, drew}
 use Rattle.twin_facts.specs.Named.{NamesNoneOfOthers}
 use Rattle.twin_facts.proofs.ByEvents.{always}
 use Rattle.twin_facts.proofs.Named.{named}
-use Rattle.twin_safety.specs.Shared.{SharedKept, RunsAreKeptShared}
-use Rattle.twin_script.specs.declared.turns.Side.{Side}
-use Rattle.twin_script.specs.declared.turns.Side.TheVariants.{First, Second}
-use Rattle.twin_jobs.specs.Worlds.{Keeps, both_of, mine, setting}
-use Rattle.twin_jobs.specs.Pairs.{over, job_in, run_of, RestsOne, RestsBoth}
 use Rattle.twin_jobs.proofs.Numbers.{all_numbers}
-use Rattle.twin_jobs.proofs.OneSide.{in_words, idle, side_run, SideRun, twin_opening, twin_run, plain_scene}
+use Rattle.twin_jobs.proofs.OneSide.{SideRun, idle, in_words, plain_scene, side_run, twin_opening, twin_run}
+use Rattle.s3_types.specs.Store as store
+use Rattle.job_safety.proofs.Kept as kept
+use Rattle.job_side.specs.declared.body.Side as body
+use Rattle.twin_facts.specs.Sides as two
 
 module _ {W : Type 0} (wants : W → Option Request) (is_of : Setting → Actor → W → Type 0) (running : Known → W → Running) (picks_of : W → Option (List Pick)) where
   -- ---- one side

@@ -1,19 +1,18 @@
 -- Two sides over what they share, of which one is in hand.
-use Rattle.std.specs.Prelude.{◌≡◌, ◌+◌, ◌<◌, ◌≤◌, ◌^◌, ℕ, Bool, true, List, length, slice_get, Option}
-use Rattle.proof_base.specs.Prelude.{AllByRecursion}
-use Rattle.job_steps.specs.Prelude.{fate_at, Request, Actor, Entry, Known, Script, Pick, Setting, Running, AreOwn}
+use Rattle.std.specs.Prelude.{Bool, List, Option, length, slice_get, true, ℕ, ◌+◌, ◌<◌, ◌^◌, ◌≡◌, ◌≤◌}
+use Rattle.job_spec.specs.Prelude.{Actor, AllByRecursion, AreOwn, Entry, Known, Pick, Request, Running, Script, Setting, fate_at}
 use Rattle.job_side.specs.Holds.{Quiet}
 use Rattle.job_side.specs.Events.{Grown, IsAsBefore, picks_in}
 use Rattle.job_side.specs.Firsts.{IsFirstSide}
 use Rattle.job_side.specs.declared.body.Body.{Body}
-use Rattle.job_side.specs.declared.body.Side as body
 use Rattle.job_side.specs.declared.body.Shared.{Shared}
 use Rattle.twin_facts.specs.TwinLaws.{MayBeTwins}
 use Rattle.twin_script.specs.declared.turns.Side.{Side}
 use Rattle.twin_script.specs.declared.turns.Side.TheVariants.{First, Second}
-use Rattle.twin_jobs.specs.Order.{other_of, events_of, others_in}
+use Rattle.twin_jobs.specs.Order.{events_of, other_of, others_in}
 use Rattle.twin_jobs.specs.Worlds.{JobRun, Run}
 use Rattle.twin_jobs.specs.declared.pair.Pair.{Pair}
+use Rattle.job_side.specs.declared.body.Side as body
 
 -- the side of this name, where the one in hand is that of the other name
 abbrev pub side_by : {X : Type 0} → Side → Side → X → X → X

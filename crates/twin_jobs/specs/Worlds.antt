@@ -1,12 +1,10 @@
 -- A world of two jobs as its callers see it.
-use Rattle.std.specs.Prelude.{◌≡◌, ◌+◌, ◌≤◌, ℕ, Bool, true, false, List, [], ◌∷◌, ◌++◌, length, map, slice_get, Option, Some, None}
-use Rattle.proof_base.specs.Prelude.{AllByRecursion}
-use Rattle.job_facts.specs.Prelude.{Content, Entry, Script, Setting, HasBucket, Times, times, AreOwn}
-use Rattle.job_spec.specs.Prelude.{Pick, EventEnd, Sent, in_eyes}
+use Rattle.std.specs.Prelude.{Bool, List, None, Option, Some, [], false, length, map, slice_get, true, ℕ, ◌++◌, ◌+◌, ◌∷◌, ◌≡◌, ◌≤◌}
+use Rattle.job_spec.specs.Prelude.{AllByRecursion, AreOwn, Content, Entry, EventEnd, Pick, Script, Sent, Setting, Times, in_eyes, times}
+use Rattle.job_facts.specs.Prelude.{HasBucket}
 use Rattle.job_spec.specs.Eyes.{number_in}
 use Rattle.job_safety.specs.Laws.{KeptAmong}
 use Rattle.job_side.specs.Holds.{is_mine}
-use Rattle.twin_facts.specs.Sides as two
 use Rattle.twin_facts.specs.Sides.{TwinEntry, drew}
 use Rattle.twin_facts.specs.Named.{NamesNoneOfOthers}
 use Rattle.twin_facts.specs.Events.{AtMoment}
@@ -15,6 +13,7 @@ use Rattle.twin_script.specs.declared.turns.Side.{Side}
 use Rattle.twin_script.specs.declared.turns.Side.TheVariants.{First, Second}
 use Rattle.twin_script.specs.TwinScripts.{Twins, sides_in}
 use Rattle.twin_jobs.specs.Order.{other_of, others_in}
+use Rattle.twin_facts.specs.Sides as two
 
 -- what is a job's own: its script, the picks of its commit, and the ends of its events so far
 pub record JobRun : Type 0 where

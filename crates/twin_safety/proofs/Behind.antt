@@ -1,16 +1,8 @@
 -- Where the entries of a commit at a shared destination lead, by the reports that it began with: to its check, or behind that.
-use Rattle.std.proofs.Common.{◌≡◌, ℕ, Bool, true, false, List, [], ◌∷◌, ◌++◌, append_assoc, append-nil, Option, Some, None, refl, sym, ap, subst, ◌∙◌, arith}
-use Rattle.job_facts.specs.Prelude.{Driver, Mode, Fail, Append, Replace, Entry, Follows, run, Retried, wants_of, Script, Known, CommitEnd, Commit, CommitOver, commit_start, commit_asks, commit_tells, commit_over, Setting, Operation, Running, TheCommit, TheCheck, Reports, who, asks, tells, wants, advance, over}
-use Rattle.job_spec.proofs.Common.{run_more, follows_more, false_true}
-use Rattle.job_model.specs.declared.ends.CheckEnd.{CheckEnd}
-use Rattle.job_model.specs.declared.ends.CheckEnd.TheVariants.{Clear}
+use Rattle.twin_safety.proofs.Common.{Append, Bool, Check, CheckEnd, CheckOver, Checked, Clear, Commit, CommitEnd, CommitOver, Driver, Entry, Fail, Follows, IsCleared, Known, List, Mode, None, Operation, Option, Replace, Reports, Retried, Running, Script, Setting, Some, TheCheck, TheCommit, [], advance, ap, append-nil, append_assoc, arith, asks, check_asks, check_over, check_start, checking, commit_asks, commit_over, commit_start, commit_tells, commit_with, false, false_true, follows_more, next, over, refl, run, run_more, subst, sym, tells, true, wants, wants_of, who, ℕ, ◌++◌, ◌∙◌, ◌∷◌, ◌≡◌}
 use Rattle.job_model.specs.declared.ends.OpEnd.TheVariants as ends
 use Rattle.job_protocol.specs.Operations.{after_check_by, commit_by, commit_of}
-use Rattle.job_protocol.specs.Rechecks.{Check, CheckOver, check_start, check_asks, check_over}
-use Rattle.job_traces.specs.Runs.{commit_with}
 use Rattle.job_safety.proofs.Commits.{commit_back}
-use Rattle.twin_safety.specs.Checks.{checking, next, Checked}
-use Rattle.twin_safety.specs.Ends.{IsCleared}
 use Rattle.twin_safety.proofs.Checking.{over_is, checked_clear}
 use Rattle.proof_base.proofs.Options.{end_of}
 

@@ -1,14 +1,7 @@
 -- How the check before a commit ends, by its entries alone.
-use Rattle.std.proofs.Common.{◌≡◌, ℕ, zero, suc, ◌⊎◌, inl, inr, Bool, true, false, cond, List, [], ◌∷◌, ◌++◌, Option, Some, None, refl, sym, ap, subst, ◌∙◌, append-nil, append_assoc, arith}
-use Rattle.job_facts.specs.Prelude.{Request, Reply, Page, PageEntry, Outcome, Answered, Slow, Entry, Follows, run, Retried, Item, Got, WornOut, wants_of, step, unanswered_by, worn_in, is_zero, WornFirst, Walked, More, Whole, keys_on, Who, Script, partitions, checks_all, paths_of, first_shown}
+use Rattle.twin_safety.proofs.Common.{Answered, Bool, Check, CheckEnd, CheckIs, CheckOver, Checked, Clear, Conflict, Entry, Follows, Got, Item, List, Looking, More, NoMemory, None, Option, Outcome, Page, PageEntry, Probing, Reply, Request, Retried, Script, ShownBy, Slow, Some, StoreFault, Walked, Who, Whole, WornFirst, WornOut, [], ap, append-nil, append_assoc, arith, check_after, check_asks, check_by, check_hears, check_over, check_start, checking, checks_all, cond, counted_first, false, files_of_all, first_shown, inl, inr, is_zero, keys_on, looked, next, none_some, partitions, paths_of, probing, refl, run, some_is, step, subst, suc, sym, true, unanswered_by, walked, wants_of, worn_in, zero, ℕ, ◌++◌, ◌∙◌, ◌∷◌, ◌≡◌, ◌⊎◌}
 use Rattle.retries.specs.Prelude.{wears}
-use Rattle.job_spec.proofs.Common.{counted_first, some_is, none_some}
 use Rattle.job_protocol.specs.Prelude.{checks_partitions}
-use Rattle.list_walk.specs.Walks.{walked}
-use Rattle.job_model.specs.declared.ends.CheckEnd.{CheckEnd}
-use Rattle.job_model.specs.declared.ends.CheckEnd.TheVariants.{Clear, Conflict, StoreFault, NoMemory}
-use Rattle.job_protocol.specs.Rechecks.{Check, Looking, Probing, CheckOver, probing, files_of_all, check_by, check_start, check_asks, looked, check_hears, check_over, check_after}
-use Rattle.twin_safety.specs.Checks.{checking, next, Checked, ShownBy, CheckIs}
 
 -- ---- what one sending does
 

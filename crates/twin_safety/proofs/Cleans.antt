@@ -1,24 +1,14 @@
 -- How an abort or clean at a shared destination ends in a run, and what it leaves.
-use Rattle.std.proofs.Common.{◌≡◌, ℕ, ◌+◌, ◌⊎◌, inl, inr, nat_le, true, List, ◌++◌, length, Option, Some, None, refl, sym, ap, subst, ◌∙◌, arith}
-use Rattle.job_spec.proofs.Common.{filter-append, some_is, false_true}
+use Rattle.twin_safety.proofs.Common.{Began, CleanIs, Ending, List, None, Option, SharedCleans, Some, SparingLeaves, SparingOver, ahead_end, ahead_start, ap, arith, driver_clean, ending, false_true, filter-append, inl, inr, journal_until, kind_run, length, memory_clean, moment_scene, nat_le, over_kind, refl, some_is, sparing_start, subst, sym, taken_then, true, ℕ, ◌++◌, ◌+◌, ◌∙◌, ◌≡◌, ◌⊎◌}
 use Rattle.job_steps.specs.Prelude.{Content, moment, after_all, Driver, Request, Entry, run, Follows, fresh, WornFirst, IsLegal, Script, Known, CleanEnd, Setting, Operation, TheSparing, clean_of, wants, advance, over, Doing, is_own, own, until, before, since, by_actor, is_memory, AllBy, known_then, IsOpening, Play, Opens, happen, Reachable, IsRun, operation_of, times, Times}
-use Rattle.job_facts.specs.Prelude.{CleanIs}
 use Rattle.s3_types.specs.Store as store
 use Rattle.job_model.specs.declared.events.Op.TheVariants as ops
 use Rattle.job_model.specs.declared.ends.CleanEnd.TheVariants as cleans
 use Rattle.job_model.specs.declared.ends.OpEnd.TheVariants as ends
-use Rattle.job_protocol.specs.Sparing.{SparingOver, sparing_start}
 use Rattle.job_traces.proofs.Entries.{take_all}
-use Rattle.job_traces.proofs.Changes.{moment_scene}
 use Rattle.job_safety.proofs.Cuts.{all_by_front}
-use Rattle.job_safety.proofs.Sorts.{over_kind, kind_run, driver_clean, memory_clean}
-use Rattle.job_safety.proofs.History.{Began}
-use Rattle.job_safety.proofs.Ending.{Ending, ending, journal_until}
 use Rattle.job_safety.proofs.Spans.{start, scene_is, since_is}
-use Rattle.job_safety.proofs.Timed.{ahead_end, ahead_start, taken_then}
-use Rattle.twin_facts.specs.Spared.{SparingLeaves}
 use Rattle.twin_facts.proofs.Spared.{sparing_leaves}
-use Rattle.twin_safety.specs.Shared.{SharedCleans}
 use Rattle.twin_safety.proofs.Sparing.{sparing_ends, over_done}
 use Rattle.twin_safety.proofs.Meanwhile.{clean_shared, Going, going, run_from, set_from, goes_from, Rest, rest}
 

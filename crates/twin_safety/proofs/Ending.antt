@@ -1,14 +1,8 @@
 -- How the commit of a job whose destination others share ends, in every run among strangers.
-use Rattle.std.proofs.Common.{◌≡◌, ℕ, ◌⊎◌, inl, inr, Bool, true, false, cond, List, [], ◌∷◌, ◌++◌, Option, Some, None, refl, sym, ap, subst, ◌∙◌, arith}
-use Rattle.job_facts.specs.Prelude.{Content, Driver, Request, Outcome, Entry, run, Retried, Script, IsLegal, CommitEnd, Commit, CommitOver, Setting, Operation, TheSetup, TheWrite, TheTaskCommit, TheTaskAbort, TheCommit, TheClean, TheCheck, TheSparing, Reports, who, asks, tells, is_begun, entry, driver_entry, strange_entry, Times}
+use Rattle.twin_safety.proofs.Common.{BeginClean, BeginCommit, BeginSetup, Beginning, BehindCheck, Bool, ByCheck, Check, CheckEnd, CheckOver, Commit, CommitEnd, CommitOver, Content, Driver, Entry, IsLegal, IsOpening, IsTimely, List, MayBegin, None, Operation, Option, Outcome, Reports, Request, Retried, Runs, Script, Setting, Some, Stand, TheCheck, TheClean, TheCommit, TheSetup, TheSparing, TheTaskAbort, TheTaskCommit, TheWrite, Times, [], actor_begins, ap, arith, asks, attempt_sends, begin, commit_entries, commit_runs, commit_with, cond, driver_entry, driver_sends, entry, false, inl, inr, is_begun, is_commits, is_just_set, is_set, nothing_learnt, refl, run, run_begins, strange_entry, strays, subst, sym, tells, true, who, ℕ, ◌++◌, ◌∙◌, ◌∷◌, ◌≡◌, ◌⊎◌}
 use Rattle.job_spec.proofs.Common.{append-nil, filter-append, false_true}
 use Rattle.job_protocol.specs.Operations.{commit_of}
 use Rattle.job_protocol.proofs.Begun.{clean_of_so}
-use Rattle.job_traces.specs.Runs.{Stand, is_set, is_just_set, IsTimely, nothing_learnt, commit_with, Beginning, BeginSetup, BeginCommit, BeginClean, MayBegin, begin, Runs, run_begins, actor_begins, driver_sends, attempt_sends, strays, IsOpening}
-use Rattle.job_outcomes.proofs.CommitRuns.{commit_runs}
-use Rattle.job_model.specs.declared.ends.CheckEnd.{CheckEnd}
-use Rattle.job_protocol.specs.Rechecks.{Check, CheckOver}
-use Rattle.twin_safety.specs.Ends.{is_commits, commit_entries, ByCheck, BehindCheck}
 use Rattle.twin_safety.proofs.Checking.{checks_end}
 use Rattle.twin_safety.proofs.Behind.{Behind, IsAt, begins, more}
 

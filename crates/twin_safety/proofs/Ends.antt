@@ -1,21 +1,11 @@
 -- How the commit at a shared destination ends in a run, and the check before it.
-use Rattle.std.proofs.Common.{◌≡◌, ℕ, ◌+◌, inl, inr, not, ◌&&◌, ◌||◌, nat_le, Bool, true, false, cond, List, [], ◌∷◌, Option, Some, None, refl, sym, ap, subst, ◌∙◌, arith}
-use Rattle.job_spec.proofs.Common.{false_true}
+use Rattle.twin_safety.proofs.Common.{Bool, CheckEnd, CheckIs, EndedBehind, Ending, Fail, List, None, OfCommit, Option, Reports, SharedChecks, SharedCommits, Some, [], ap, arith, commit_due, commit_entries, commit_runs, cond, driver_commit, end_kind, ending, false, false_true, inl, inr, is_driver, kind_run, memory_check, memory_commit, nat_le, not, number_is, over_kind, picks_then, refl, run_then, subst, sym, true, unclean_then, ℕ, ◌&&◌, ◌+◌, ◌||◌, ◌∙◌, ◌∷◌, ◌≡◌}
 use Rattle.job_steps.specs.Prelude.{Content, Actor, Driver, Request, Entry, run, Follows, WornFirst, IsLegal, Script, Known, OpEnd, CommitEnd, CommitOver, commit_start, commit_tells, Setting, Operation, TheCommit, commit_of, wants, advance, over, is_begun, same_actor, Doing, since, by_actor, known_then, CommitEnded, seen_until, IsOpening, Play, Closes, happen, Reachable, IsRun, operation_of, times, Times, has_cleaned}
-use Rattle.job_facts.specs.Prelude.{Fail, Reports, is_driver, commit_due}
 use Rattle.job_model.specs.declared.events.Op.TheVariants as ops
 use Rattle.job_model.specs.declared.ends.OpEnd.TheVariants as ends
-use Rattle.job_model.specs.declared.ends.CheckEnd.{CheckEnd}
 use Rattle.job_outcomes.specs.CommitRuns.{CommitStands}
-use Rattle.job_outcomes.proofs.CommitRuns.{commit_runs}
-use Rattle.job_safety.proofs.Sorts.{OfCommit, end_kind, over_kind, kind_run, driver_commit, memory_commit, memory_check}
-use Rattle.job_safety.proofs.Ending.{Ending, ending}
-use Rattle.job_safety.proofs.Timed.{run_then, number_is, unclean_then, picks_then}
-use Rattle.twin_safety.specs.Checks.{CheckIs}
-use Rattle.twin_safety.specs.Ends.{commit_entries}
 use Rattle.twin_safety.proofs.Checking.{checks_end}
 use Rattle.twin_safety.proofs.Ending.{behind_so}
-use Rattle.twin_safety.specs.Shared.{EndedBehind, SharedCommits, SharedChecks}
 use Rattle.twin_safety.proofs.Pages.{one_rest}
 use Rattle.twin_safety.proofs.Behind.{Behind, IsAt, led, commit_ended, check_ended}
 

@@ -7,3 +7,4 @@ pub mod Cleans
 pub mod Kept
 pub mod Checking
 pub mod Ending
+mod Common

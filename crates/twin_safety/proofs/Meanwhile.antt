@@ -1,12 +1,7 @@
 -- What happens in a run while the driver's abort or clean goes on, and behind its end until the event is over, is an abort or clean that goes on request by request.
-use Rattle.std.proofs.Common.{◌≡◌, ℕ, ◌+◌, ◌<◌, ◌≤◌, ◌^◌, ◌⊎◌, inl, inr, ◌&&◌, nat_le, true, false, cond, List, [], ◌∷◌, ◌++◌, length, Some, refl, sym, ap, subst, ◌∙◌, arith, length-append}
-use Rattle.job_spec.proofs.Common.{at_most_is, at_most_not, some_is, none_some, true_or_false}
+use Rattle.twin_safety.proofs.Common.{Began, IsBegin, IsForeign, Later, List, Meanwhile, Some, SparesOn, Sparing, TheClean, [], ap, arith, at_most_is, at_most_not, at_once, begins_at, clean_start, cond, false, had_strayed, inl, inr, it_sends, later, length, length-append, moment_scene, nat_le, none_some, nothing_since, other_sends, refl, saw, some_is, spares_begin, sparing_after, sparing_start, subst, sym, true, true_or_false, was_sent, was_silent, ℕ, ◌&&◌, ◌++◌, ◌+◌, ◌<◌, ◌^◌, ◌∙◌, ◌∷◌, ◌≡◌, ◌≤◌, ◌⊎◌}
 use Rattle.job_steps.specs.Prelude.{Content, Scene, answer, moment, IsHonestOutcome, Driver, Shell, Request, Outcome, Entry, Retried, fresh, step, IsLegal, Op, Event, Do, Start, EventEnd, Refused, Setting, TheSparing, clean_of, who, asks, tells, is_begun, Past, Doing, is_new, needs_set, is_own, own, until, AllBy, AllUpTo, driver_entry, strange_entry, Stand, Runs, IsOpening, BeginClean, begin, actor_begins, strays, is_set, IsTimely, nothing_learnt, Play, Opens, Sends, Finishes, Closes, Strays, Refuses, MaySend, MayStray, happen, hear, open_running, Reachable, Ahead, IsRun, operation_of, times, Times}
-use Rattle.job_facts.specs.Prelude.{IsForeign, clean_start, TheClean}
 use Rattle.job_model.specs.declared.events.Op.TheVariants as ops
-use Rattle.job_protocol.specs.Sparing.{Sparing, sparing_start, sparing_after}
-use Rattle.job_traces.specs.Runs.{saw}
-use Rattle.job_traces.proofs.Changes.{moment_scene}
 use Rattle.job_steps.proofs.Actors.{put_here}
 use Rattle.job_steps.proofs.Parts.{up_to_more, up_to_last, until_all, until_late}
 use Rattle.job_steps.proofs.RunningNumbers.{begun_at}
@@ -14,11 +9,8 @@ use Rattle.job_steps.proofs.RunningStages.{IsTimed}
 use Rattle.job_steps.proofs.RunningAlong.{told_known}
 use Rattle.job_steps.proofs.Running.{number, is_run, carried, sent_ahead, strayed_ahead}
 use Rattle.job_steps.proofs.Told.{told_all}
-use Rattle.job_safety.proofs.History.{Later, at_once, later, Meanwhile, nothing_since, was_silent, was_sent, had_strayed, IsBegin, Began}
-use Rattle.job_safety.proofs.Timed.{begins_at}
 use Rattle.twin_facts.specs.Sides as sides
 use Rattle.twin_facts.specs.Sides.{driver_saw}
-use Rattle.twin_facts.specs.Spared.{SparesOn, spares_begin, it_sends, other_sends}
 use Rattle.twin_facts.proofs.OneSide.{goes_on}
 
 -- ---- whose entries these are

@@ -1,10 +1,5 @@
 -- The requests of a check all ask for a page, and the first of the commit behind it in the mode fail does not: so two partings of their entries are one.
-use Rattle.std.proofs.Common.{◌≡◌, ℕ, Bool, true, false, cond, List, [], ◌∷◌, ◌++◌, nat_lt, length, Option, Some, None, refl, sym, ap, subst, ◌∙◌, arith}
-use Rattle.job_facts.specs.Prelude.{Committer, Magic, Mode, Fail, Request, ListPage, Entry, Follows, Retried, wants_of, Script, Who, CommitEnd, Fetching, commit_start, commit_asks, commit_tells, completing, replaced, replacing, decided, picks_of, set_request, same_path, dealt, Turn, all_commits}
-use Rattle.job_spec.proofs.Common.{some_is, none_some}
-use Rattle.job_protocol.specs.Rechecks.{Check, CheckOver, check_asks}
-use Rattle.twin_safety.specs.Checks.{next, checking}
-use Rattle.twin_safety.specs.Ends.{IsCleared}
+use Rattle.twin_safety.proofs.Common.{Bool, Check, CheckOver, CommitEnd, Committer, Entry, Fail, Fetching, Follows, IsCleared, List, ListPage, Magic, Mode, None, Option, Request, Retried, Script, Some, Turn, Who, [], all_commits, ap, arith, check_asks, checking, commit_asks, commit_start, commit_tells, completing, cond, dealt, decided, false, length, nat_lt, next, none_some, picks_of, refl, replaced, replacing, same_path, set_request, some_is, subst, sym, true, wants_of, ℕ, ◌++◌, ◌∙◌, ◌∷◌, ◌≡◌}
 
 -- it asks for a page
 abbrev pub is_page : Request → Bool

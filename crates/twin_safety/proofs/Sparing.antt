@@ -1,12 +1,8 @@
 -- How an abort or clean at a shared destination ends, by its own entries.
-use Rattle.std.proofs.Common.{◌≡◌, ℕ, ◌⊎◌, inl, inr, true, false, List, [], ◌∷◌, ◌++◌, drop, Option, Some, None, refl, sym, ap, subst, ◌∙◌, arith}
-use Rattle.job_facts.specs.Prelude.{is_some, option_map, filter, is_record, Actor, Committer, Magic, Request, UploadRef, Reply, Entry, run, Follows, Retried, fresh, step, spent_in, WornFirst, Script, Known, CleanEnd, Walked, More, Whole, Setting, Running, TheSparing, wants, advance, over, is_fault, spare_of, CleanIs}
+use Rattle.twin_safety.proofs.Common.{Aborting, Actor, CleanEnd, CleanIs, Committer, Deleting, Entry, Follows, Known, List, Magic, More, Naming, None, Option, Reading, Removing, Reply, Request, Retried, Running, Script, Setting, Some, Sparing, SparingOver, TheSparing, UploadRef, Walked, Walking, Whole, WornFirst, [], aborting, advance, ap, arith, deleting, drop, emptying, false, false_true, faults, filter, first_spent, fresh, inl, inr, is_fault, is_record, is_some, names, naming, none_some, option_map, over, reading_on, refl, removing, run, spare_of, sparing_after, sparing_hears, sparing_over, sparing_start, spent_in, step, subst, sym, true, walked, walking, wants, ℕ, ◌++◌, ◌∙◌, ◌∷◌, ◌≡◌, ◌⊎◌}
 use Rattle.job_spec.specs.Prelude.{ClusterNames}
-use Rattle.job_spec.proofs.Common.{first_spent, faults, none_some, false_true}
 use Rattle.job_model.specs.declared.ends.CleanEnd.TheVariants as cleans
 use Rattle.job_model.specs.declared.ends.OpEnd.TheVariants as ends
-use Rattle.job_protocol.specs.Sparing.{Sparing, Walking, Naming, Reading, Aborting, Deleting, Removing, SparingOver, sparing_start, sparing_hears, sparing_after, sparing_over, names, deleting, removing, emptying, aborting, reading_on, walking, naming}
-use Rattle.list_walk.specs.Walks.{walked}
 use Rattle.job_facts.proofs.Going.{step_so}
 
 -- ---- it ends Done, or a request wore out

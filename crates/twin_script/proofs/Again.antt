@@ -1,28 +1,17 @@
 -- What is printed of two scripts and an order is read as the same again.
-use Rattle.std.proofs.Common.{◌≡◌, ℕ, ◌+◌, ◌≤◌, ◌==◌, Bool, true, false, not, List, [], ◌∷◌, ◌++◌, length, map, Some, None, Ok, refl, sym, ap, subst, ◌∙◌, arith, append_assoc, length-append, lit<}
-use Rattle.std.specs.Prelude.{codes, bytes_eq, sum_by, nat_le}
+use Rattle.twin_script.proofs.Common.{AllByRecursion, AreTwins, Bool, Draft, Fate, First, IsLegal, IsTurn, Line, List, None, Ok, Path, Script, Second, Side, Some, TwinTurn, Twins, [], ap, append-nil, append_assoc, arith, bytes_eq, bytes_eq-Decides, check, codes, decimal, ended, eqb-true, false, first_count, is_utf8, le-leb, len-empty, length, length-append, lines_of, lit<, map, nat_cmp, nat_le, not, parted, refl, second_count, subst, sum_by, sum_by-cons, sym, text_of, true, two, ℕ, ◌++◌, ◌+◌, ◌==◌, ◌>>=◌, ◌∙◌, ◌∷◌, ◌≡◌, ◌≤◌}
 use Rattle.std.specs.FinMap as fin
-use Rattle.std.specs.FinMap.{len-empty}
-use Rattle.job_model.specs.Prelude.{AllByRecursion, nat_cmp, is_utf8, ◌>>=◌, check, lines_of, decimal, ended, text_of, two, Fate, Path, Script, IsLegal}
 use Rattle.proof_base.proofs.Bools.{contrary}
-use Rattle.path_keys.proofs.Common.{parted, append-nil, eqb-true, le-leb, bytes_eq-Decides}
-use Rattle.std.proofs.lemmas.List.Sums.{sum_by-cons}
 use Rattle.words.specs.Lines.{lines_from}
 use Rattle.words.specs.Parts.{parts_from}
 use Rattle.words.specs.Words.{joined, IsWord, IsLine}
 use Rattle.words.proofs.Round.{words-joined, lines-text_of, number_in-decimal, decimal_word}
 use Rattle.job_script.specs.declared.draft.Draft as script_draft
 use Rattle.job_script.specs.declared.fault.ScriptFault.TheVariants as script_fault
-use Rattle.job_script.specs.Kinds.{Line}
 use Rattle.job_script.specs.Script as script
 use Rattle.job_script.specs.Script.{script_of}
 use Rattle.job_script.specs.Print.{script_lines, script_text}
 use Rattle.job_script.proofs.Whole.{read_again}
-use Rattle.twin_script.specs.declared.turns.Side.{Side}
-use Rattle.twin_script.specs.declared.turns.Side.TheVariants.{First, Second}
-use Rattle.twin_script.specs.declared.turns.TwinTurn.{TwinTurn}
-use Rattle.twin_script.specs.declared.order.Draft.{Draft}
-use Rattle.twin_script.specs.TwinScripts.{Twins, AreTwins, IsTurn, first_count, second_count}
 use Rattle.twin_script.specs.Cutting.{is_parting, cut_from, cut, three_parts}
 use Rattle.twin_script.specs.Order.{turn_by, turn_in, turn_of, left, with_turn, turn_at, line_at, lines_at, nothing, order_of}
 use Rattle.twin_script.specs.Twins.{is_same_dest, names_fate, fit, turns_of, paired, with_second, with_first, twins_of}

@@ -1,10 +1,7 @@
 -- Going over lines to the first parting line.
-use Rattle.std.proofs.Common.{◌≡◌, ℕ, ◌+◌, ◌≤◌, ◌==◌, true, false, List, [], ◌∷◌, ◌++◌, length, take, drop, sym, ap, ◌∙◌, arith, append_assoc, length-append}
+use Rattle.twin_script.proofs.Common.{List, [], and_parts, ap, append-nil, append_assoc, arith, drop, drop-append_seam, drop_of_length-le, false, is_inside, length, length-append, list_all, not_so, parts_of, sym, take, take-append-drop, take-append_seam, true, without_return, ℕ, ◌++◌, ◌+◌, ◌==◌, ◌∙◌, ◌∷◌, ◌≡◌, ◌≤◌}
 use Rattle.std.specs.Prelude.{Some, None, if◌then◌else◌}
-use Rattle.job_model.specs.Prelude.{list_all, is_inside, without_return}
-use Rattle.path_keys.proofs.Common.{and_parts, not_so, append-nil, take-append-drop, take-append_seam, drop-append_seam, drop_of_length-le}
 use Rattle.std.proofs.lemmas.List.{length-take-le}
-use Rattle.words.specs.Parts.{parts_of}
 use Rattle.twin_script.specs.Cutting.{is_parting, cut_from, cut}
 use Rattle.twin_script.proofs.Lines.{cut_at, lone_at}
 

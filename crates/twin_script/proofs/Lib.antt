@@ -4,3 +4,4 @@ pub mod OrderLines
 pub mod Pair
 pub mod Printed
 pub mod Again
+mod Common

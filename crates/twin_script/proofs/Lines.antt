@@ -1,15 +1,10 @@
 -- The first line of bytes that are cut at an LF, and bytes that write no number.
-use Rattle.std.proofs.Common.{◌≡◌, ℕ, ◌<◌, ◌==◌, Bool, true, false, List, [], ◌∷◌, ◌++◌, length, take, drop, refl, sym, ap, subst, ◌∙◌, arith}
-use Rattle.std.specs.Prelude.{None, ◌&&◌, nat_le}
-use Rattle.job_model.specs.Prelude.{list_all, IsUtf8, is_inside, without_return, lines_of, is_other}
-use Rattle.proof_base.specs.Prelude.{join_with_byte}
-use Rattle.path_keys.proofs.Common.{and_parts, join_parts, some_part, weaker, list_all-append, drop_of_length-le}
+use Rattle.twin_script.proofs.Common.{Bool, List, [], and_parts, ap, arith, drop, drop_of_length-le, false, first_from, is_digit, is_inside, join_parts, last_line, length, lines_of, list_all-append, number_in, refl, some_part, subst, sym, take, true, weaker, without_return, ℕ, ◌++◌, ◌<◌, ◌==◌, ◌∙◌, ◌∷◌, ◌≡◌}
+use Rattle.s3_types.specs.Prelude.{IsUtf8, is_hex, is_other, join_with_byte, list_all}
+use Rattle.std.specs.Prelude.{None, nat_le, ◌&&◌}
 use Rattle.std.proofs.Math.Seq.{take-length}
-use Rattle.s3_types.specs.Prelude.{is_hex}
 use Rattle.s3_types.proofs.Utf8.{hex_utf8}
-use Rattle.words.specs.Numbers.{number_in, is_digit}
-use Rattle.words.specs.Parts.{parts_of, parts_from}
-use Rattle.words.proofs.Split.{first_from, last_line}
+use Rattle.words.specs.Parts.{parts_from, parts_of}
 
 other : (s x : ℕ) → (x == s) ≡ false → is_other s x ≡ true
 other s x e = rw e refl

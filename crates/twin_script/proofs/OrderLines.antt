@@ -1,21 +1,9 @@
 -- What an order that was read keeps: each turn's count, and that no side is asked for more events than it has.
-use Rattle.std.proofs.Common.{◌≡◌, ℕ, ◌+◌, ◌≤◌, ◌==◌, Bool, true, false, List, [], ◌∷◌, ◌++◌, length, Option, Some, None, Ok, refl, ap, subst, arith}
+use Rattle.twin_script.proofs.Common.{AllByRecursion, Bool, Draft, First, IsTurn, List, None, Ok, Option, Second, Side, Some, TwinTurn, [], ap, arith, check, checked, false, first_count, leb-true, length, lines_of, named, need, needed, none_left, number_bounds, number_in, parted, refl, same_ok, second_count, subst, sum_by-append, true, two, words_of, ℕ, ◌++◌, ◌+◌, ◌==◌, ◌∷◌, ◌≡◌, ◌≤◌}
 use Rattle.std.specs.Prelude.{sum_by, nat_le, option_map, if◌then◌else◌}
-use Rattle.job_model.specs.Prelude.{AllByRecursion, need, check, lines_of, two, words_of}
-use Rattle.path_keys.proofs.Common.{parted, same_ok, needed, checked, leb-true}
-use Rattle.std.proofs.lemmas.List.Sums.{sum_by-append}
 use Rattle.std.proofs.lemmas.Option.{option_and_then_some}
 use Rattle.words.specs.Lines.{lines_from}
-use Rattle.words.specs.Numbers.{number_in}
-use Rattle.words.proofs.Split.{none_left}
-use Rattle.job_script.specs.Kinds.{named}
-use Rattle.job_script.proofs.Words.{number_bounds}
-use Rattle.twin_script.specs.declared.turns.Side.{Side}
-use Rattle.twin_script.specs.declared.turns.Side.TheVariants.{First, Second}
-use Rattle.twin_script.specs.declared.turns.TwinTurn.{TwinTurn}
 use Rattle.twin_script.specs.declared.fault.TwinFault.TheVariants.{BadOrder}
-use Rattle.twin_script.specs.declared.order.Draft.{Draft}
-use Rattle.twin_script.specs.TwinScripts.{IsTurn, first_count, second_count}
 use Rattle.twin_script.specs.Order.{sides, turn_by, turn_in, turn_of, left, with_turn, turn_at, line_at, lines_at, nothing, order_of}
 
 mapped : (side : Side) (o : Option ℕ) (turn : TwinTurn) → option_map (turn_by side) o ≡ Some turn → o ≡ Some turn.count

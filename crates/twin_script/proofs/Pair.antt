@@ -1,24 +1,15 @@
 -- Two scripts that may run as twins, and the faults of their parts and of their order.
-use Rattle.std.proofs.Common.{◌≡◌, ◌≢◌, ℕ, ◌==◌, Bool, true, false, not, List, length, Option, Some, None, Ok, refl, sym, ap, ◌∙◌, arith}
-use Rattle.std.specs.Prelude.{⊤, Result, is_some, bytes_eq, ◌||◌}
+use Rattle.twin_script.proofs.Common.{AreTwins, Bool, Fate, FateMap, List, None, Ok, Option, Result, Script, Some, TwinTurn, and_parts, ap, arith, bytes_eq, bytes_eq-Decides, check, checked, empty_of_len, eqb-true, false, first_fault, get-empty, is_replace, is_some, is_told, len-empty, length, nat_cmp, nat_cmp-IsAntisymmetric, nat_cmp_total, not, not_so, order_of, parted, refl, same_map, second_fault, sym, true, unless_more, wanting, ℕ, ⊤, ◌==◌, ◌>>=◌, ◌||◌, ◌∙◌, ◌≡◌, ◌≢◌}
 use Rattle.std.specs.FinMap as map
-use Rattle.std.specs.FinMap.{empty_of_len, len-empty, get-empty, same_map, nat_cmp-IsAntisymmetric}
-use Rattle.job_model.specs.Prelude.{FateMap, Fate, nat_cmp, nat_cmp_total, Script, check, ◌>>=◌}
-use Rattle.path_keys.proofs.Common.{and_parts, parted, checked, not_so, eqb-true, bytes_eq-Decides}
 use Rattle.std.proofs.lemmas.Bool.{not-false, or_parts}
 use Rattle.std.proofs.lemmas.Bool.Decides.{not_from_Decides}
 use Rattle.s3_types.specs.Fates.{IsFirstFrom}
 use Rattle.job_script.specs.Fault.{wanting as script_wanting}
 use Rattle.proof_base.specs.Reading as reading
-use Rattle.proof_base.proofs.Reading.{unless_more}
 use Rattle.job_script.specs.declared.fault.ScriptFault.{ScriptFault}
 use Rattle.job_script.specs.declared.fault.ScriptFault.TheVariants as script_fault
-use Rattle.twin_script.specs.declared.turns.TwinTurn.{TwinTurn}
 use Rattle.twin_script.specs.declared.fault.TwinFault.{TwinFault}
 use Rattle.twin_script.specs.declared.fault.TwinFault.TheVariants as fault
-use Rattle.twin_script.specs.Fault.{wanting, first_fault, second_fault, is_told}
-use Rattle.twin_script.specs.TwinScripts.{is_replace, AreTwins}
-use Rattle.twin_script.specs.Order.{order_of}
 use Rattle.twin_script.specs.Twins.{within, is_same_dest, names_fate, told, fit, turns_of, paired}
 use Rattle.twin_script.proofs.OrderLines.{order_sound}
 

@@ -1,17 +1,12 @@
 -- A script's printed text is UTF-8.
-use Rattle.std.proofs.Common.{◌≡◌, ℕ, ◌≤◌, true, List, [], ◌∷◌, ◌++◌, map, Some, None, refl, sym, subst, ◌∙◌, arith}
-use Rattle.std.specs.Prelude.{codes}
+use Rattle.twin_script.proofs.Common.{AllByRecursion, AreFates, Fate, FateMap, IsLegal, IsUtf8, IsUtf8-append, IsUtf8-from_is_utf8, Line, List, None, Script, Some, [], arith, codes, decimal, decimal_lettered, ended, fate_word, find, find_head, find_other, flat_map, flat_map-append, is_lettered, keys_of, map, map_sorted, nat_cmp, refl, sorted_head, sorted_tail, subst, sym, text_of, true, ℕ, ◌++◌, ◌∙◌, ◌∷◌, ◌≡◌, ◌≤◌}
 use Rattle.std.specs.FinMap as fin
 use Rattle.std.specs.List.Sorted.{IsStrictlySortedBy}
-use Rattle.job_model.specs.Prelude.{AllByRecursion, IsUtf8, flat_map, decimal, ended, text_of, keys_of, find, nat_cmp, Fate, FateMap, AreFates, Script, IsLegal}
-use Rattle.path_keys.proofs.Common.{IsUtf8-append, IsUtf8-from_is_utf8, flat_map-append, sorted_head, sorted_tail, map_sorted, find_head, find_other}
 use Rattle.proof_base.proofs.EntriesFrom.{not_found}
 use Rattle.s3_types.specs.declared.fates.Fate.TheVariants as fate
 use Rattle.job_script.specs.declared.draft.Group.TheVariants as group
-use Rattle.job_script.specs.Kinds.{Line, fate_word}
 use Rattle.job_script.specs.HeadLines.{no_head, head_order, row_lines, loss_line, loss_lines, head_lines}
 use Rattle.job_script.specs.Print.{attempt_lines, event_line, script_text}
-use Rattle.job_script.proofs.Words.{is_lettered, decimal_lettered}
 use Rattle.job_script.proofs.Lines.{IsPrinted, printed, printed_utf8}
 use Rattle.job_script.proofs.HeadLines.{said_by, head_goes}
 use Rattle.job_script.proofs.AttemptLines.{attempts_go}

@@ -1,10 +1,7 @@
 -- What the lines of an order say.
-use Rattle.std.specs.Prelude.{ℕ, ◌+◌, ◌-◌, ◌==◌, nat_le, List, [], ◌∷◌, ◌++◌, length, codes, Option, option_and_then, option_map, Result, Ok, if◌then◌else◌}
-use Rattle.proof_base.specs.Reading.{◌>>=◌, need, check}
-use Rattle.words.specs.Lines.{lines_of}
+use Rattle.std.specs.Prelude.{List, Ok, Option, Result, [], codes, if◌then◌else◌, length, nat_le, option_and_then, option_map, ℕ, ◌++◌, ◌+◌, ◌-◌, ◌==◌, ◌∷◌}
+use Rattle.job_model.specs.Prelude.{check, lines_of, need, two, words_of, ◌>>=◌}
 use Rattle.words.specs.Numbers.{number_in}
-use Rattle.words.specs.Shapes.{two}
-use Rattle.words.specs.Words.{words_of}
 use Rattle.job_script.specs.Kinds.{Names, named}
 use Rattle.twin_script.specs.declared.turns.Side.{Side}
 use Rattle.twin_script.specs.declared.turns.Side.TheVariants.{First, Second}

@@ -1,15 +1,13 @@
 -- Two scripts and the order of their turns.
-use Rattle.std.specs.Prelude.{◌≡◌, ◌≢◌, ℕ, zero, suc, ◌≤◌, Bool, true, false, List, length, sum_by, flat_map, replicate, refl, if◌then◌else◌}
-use Rattle.std.specs.FinMap as map
-use Rattle.proof_base.specs.Prelude.{AllByRecursion}
-use Rattle.s3_types.specs.Prelude.{Coded, code_by, coded×, coded_ℕ, coded_list}
-use Rattle.s3_types.specs.declared.request.Mode.{Mode}
-use Rattle.s3_types.specs.declared.request.Mode.TheVariants.{Fail, Append, Replace}
-use Rattle.job_model.specs.Prelude.{Script}
+use Rattle.std.specs.Prelude.{Bool, List, false, flat_map, if◌then◌else◌, length, refl, replicate, suc, sum_by, true, zero, ℕ, ◌≡◌, ◌≢◌, ◌≤◌}
+use Rattle.job_model.specs.Prelude.{AllByRecursion, Fail, Mode, Replace, Script}
+use Rattle.s3_types.specs.Prelude.{Coded, code_by, coded_list, coded_ℕ, coded×}
+use Rattle.s3_types.specs.declared.request.Mode.TheVariants.{Append}
 use Rattle.job_model.specs.Codes.{coded_script}
 use Rattle.twin_script.specs.declared.turns.Side.{Side}
 use Rattle.twin_script.specs.declared.turns.Side.TheVariants.{First, Second}
 use Rattle.twin_script.specs.declared.turns.TwinTurn.{TwinTurn}
+use Rattle.std.specs.FinMap as map
 
 -- two scripts, and turns that play their events
 pub record Twins : Type 0 where

@@ -1,16 +1,15 @@
 -- What the bytes of two scripts and an order mean.
-use Rattle.std.specs.Prelude.{ℕ, ◌==◌, ◌&&◌, ◌||◌, not, ⊤, Bool, List, length, bytes_eq, nat_le, Result, Ok, Err}
-use Rattle.std.specs.FinMap as map
-use Rattle.proof_base.specs.Reading.{◌>>=◌, need, check}
-use Rattle.job_model.specs.Prelude.{FateMap, Path, Script, MOST_SCRIPT_BYTES}
+use Rattle.std.specs.Prelude.{Bool, Err, List, Ok, Result, bytes_eq, length, nat_le, not, ℕ, ⊤, ◌&&◌, ◌==◌, ◌||◌}
+use Rattle.job_model.specs.Prelude.{FateMap, MOST_SCRIPT_BYTES, Path, Script, check, need, ◌>>=◌}
 use Rattle.job_script.specs.Script.{script_of}
 use Rattle.job_script.specs.declared.fault.ScriptFault.{ScriptFault}
 use Rattle.twin_script.specs.declared.turns.TwinTurn.{TwinTurn}
 use Rattle.twin_script.specs.declared.fault.TwinFault.{TwinFault}
-use Rattle.twin_script.specs.declared.fault.TwinFault.TheVariants as fault
 use Rattle.twin_script.specs.TwinScripts.{Twins, is_replace}
 use Rattle.twin_script.specs.Cutting.{three_parts}
 use Rattle.twin_script.specs.Order.{order_of}
+use Rattle.std.specs.FinMap as map
+use Rattle.twin_script.specs.declared.fault.TwinFault.TheVariants as fault
 
 -- a script of a part, or the part's fault
 abbrev pub within : (ScriptFault → TwinFault) → Result Script ScriptFault → Result Script TwinFault

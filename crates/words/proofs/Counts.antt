@@ -1,9 +1,8 @@
 -- What lines of too many words are not, and the words of a text joined again.
-use Rattle.std.proofs.Common.{◌≡◌, ℕ, ◌==◌, Bool, true, false, cond, List, [], ◌∷◌, ◌++◌, refl, sym, ap, ◌∙◌, append_assoc, Bor}
+use Rattle.words.proofs.Common.{Bool, Bor, List, [], ap, append_assoc, cond, false, joined, refl, sym, true, words_after, ℕ, ◌++◌, ◌==◌, ◌∙◌, ◌∷◌, ◌≡◌}
 use Rattle.std.specs.Prelude.{Option, None, Some, option_map}
 use Rattle.proof_base.proofs.Common.{eqb-true, append-nil}
 use Rattle.words.specs.Parts.{parts_of, parts_from}
-use Rattle.words.specs.Words.{joined, words_after}
 use Rattle.words.specs.Shapes.{one, two, at_most_one, text as text_of_words}
 
 some_part_at : (s : ℕ) (b : Bool) (part : List ℕ) (x : ℕ) (xs : List ℕ) → ((w : List ℕ) × (ws : List (List ℕ)) × (parts_from s (part ++ x ∷ []) xs ≡ w ∷ ws)) → (w : List ℕ) × (ws : List (List ℕ)) × (cond b (part ∷ parts_from s [] xs) (parts_from s (part ++ x ∷ []) xs) ≡ w ∷ ws)

@@ -1,10 +1,7 @@
 -- Lines and parts of a text that is cut at its first separator.
-use Rattle.std.proofs.Common.{◌≡◌, ◌≢◌, ℕ, suc, ◌<◌, ◌-◌, ◌==◌, Bool, true, false, List, [], ◌∷◌, ◌++◌, length, take, drop, get_or, refl, sym, ap, ◌∙◌, arith}
+use Rattle.words.proofs.Common.{Bool, List, [], ap, arith, drop, false, get_or, is_inside, last_is, length, lines_of, list_all, refl, suc, sym, take, true, without_return, ℕ, ◌++◌, ◌-◌, ◌<◌, ◌==◌, ◌∙◌, ◌∷◌, ◌≡◌, ◌≢◌}
 use Rattle.std.specs.Prelude.{◌&&◌, nat_lt, slice_index}
-use Rattle.proof_base.specs.Prelude.{list_all}
 use Rattle.proof_base.proofs.Common.{and_parts, eqb-true, ltb-true, lt-ltb, take-append-drop, append-nil, drop_of_length-le, drop-cons}
-use Rattle.proof_base.proofs.Lists.{last_is}
-use Rattle.words.specs.Lines.{lines_of, is_inside, without_return}
 use Rattle.words.proofs.Split.{first_from, last_line}
 use Rattle.words.proofs.Pieces.{others_from_bytes}
 

@@ -1,9 +1,6 @@
 -- The value of at most 18 digits.
-use Rattle.std.proofs.Common.{◌≡◌, ℕ, suc, ◌+◌, ◌*◌, ◌-◌, ◌^◌, ◌<◌, ◌≤◌, true, List, ◌∷◌, length, get_or, drop, refl, sym, ap, subst, ◌∙◌, arith}
-use Rattle.proof_base.specs.Prelude.{list_all}
-use Rattle.proof_base.proofs.Common.{and_parts, leb-true, drop_of_length-le, drop-cons}
-use Rattle.std.proofs.Math.Nat.{pow-suc, pow-le-pow_right}
-use Rattle.words.specs.Numbers.{is_digit, digits_from}
+use Rattle.words.proofs.Common.{List, and_parts, ap, arith, drop, drop-cons, drop_of_length-le, get_or, is_digit, leb-true, length, list_all, pow-le-pow_right, pow-suc, refl, subst, suc, sym, true, ℕ, ◌*◌, ◌+◌, ◌-◌, ◌<◌, ◌^◌, ◌∙◌, ◌∷◌, ◌≡◌, ◌≤◌}
+use Rattle.words.specs.Numbers.{digits_from}
 use Rattle.std.proofs.Math.Numerals.{suc-eq-add-one}
 
 pub power_more : (n i d : ℕ) → n < 10 ^ i → d ≤ 9 → n * 10 + d < 10 ^ (i + 1)

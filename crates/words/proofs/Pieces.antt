@@ -1,6 +1,5 @@
 -- The parts of a text: joined again, of two texts round a separator, and of a text without one.
-use Rattle.std.proofs.Common.{◌≡◌, ◌≢◌, ℕ, zero, suc, ◌+◌, ◌<◌, ◌==◌, Bool, true, false, not, List, [], ◌∷◌, ◌++◌, length, get_or, refl, sym, ap, ◌∙◌, arith, append_assoc, eq-eqb}
-use Rattle.proof_base.specs.Prelude.{list_all, join_with_byte}
+use Rattle.words.proofs.Common.{Bool, List, [], ap, append_assoc, arith, eq-eqb, false, get_or, join_with_byte, length, list_all, not, refl, suc, sym, true, zero, ℕ, ◌++◌, ◌+◌, ◌<◌, ◌==◌, ◌∙◌, ◌∷◌, ◌≡◌, ◌≢◌}
 use Rattle.proof_base.proofs.Common.{eqb-true, append-nil}
 use Rattle.words.specs.Parts.{parts_of, parts_from, is_other}
 use Rattle.words.proofs.Split.{lone_from}

@@ -1,20 +1,13 @@
 -- The lines of words that a text was made of are read in it again.
-use Rattle.std.proofs.Common.{◌≡◌, ℕ, zero, suc, ◌+◌, ◌-◌, ◌*◌, ◌<◌, ◌≤◌, ◌^◌, ◌==◌, ◌&&◌, Bool, true, false, not, cond, leb, List, [], ◌∷◌, ◌++◌, length, get_or, map, Some, refl, ap, ◌∙◌, arith, append_assoc, decimal, lit<}
-use Rattle.proof_base.specs.Prelude.{list_all, AllByRecursion}
-use Rattle.proof_base.proofs.Common.{and_parts, le-leb, leb-true, ne_eqb, flat_map-cons, length-decimal-le, decimal_nonempty}
+use Rattle.words.proofs.Common.{AllByRecursion, Bool, IsBare, IsLine, IsWord, List, Some, [], ap, append_assoc, arith, cond, decimal, digit_value_digit, ended, false, get_or, is_bare, is_other, is_plain, joined, leb, length, list_all, lit<, map, not, not_so, parts_of, refl, suc, text_of, true, weaker, words_of, zero, ℕ, ◌&&◌, ◌*◌, ◌++◌, ◌+◌, ◌-◌, ◌<◌, ◌==◌, ◌^◌, ◌∙◌, ◌∷◌, ◌≡◌, ◌≤◌}
+use Rattle.proof_base.proofs.Common.{and_parts, decimal_nonempty, flat_map-cons, le-leb, leb-true, length-decimal-le, ne_eqb}
 use Rattle.std.specs.Char.{digit_value}
 use Rattle.std.specs.Str.Parse.{AllDigits, digits_value_after}
-use Rattle.std.proofs.lemmas.Str.Parse.{IsNumeralModel}
+use Rattle.std.proofs.lemmas.Str.Parse.{IsNumeralModel, digit_from_value}
 use Rattle.std.proofs.lemmas.Fmt.{digits_decimal, digits_value-decimal}
-use Rattle.std.proofs.lemmas.Str.{digit_value_digit}
-use Rattle.std.proofs.lemmas.Str.Parse.{digit_from_value}
-use Rattle.proof_base.proofs.Lists.{weaker}
-use Rattle.words.specs.Lines.{is_inside, lines_of, lines_from, without_return}
-use Rattle.words.specs.Parts.{parts_of, is_other}
-use Rattle.words.specs.Numbers.{is_digit, number_in, number_of, digits_from}
-use Rattle.words.specs.Words.{is_plain, IsWord, IsLine, is_bare, IsBare, joined, ended, text_of, words_of}
-use Rattle.proof_base.proofs.Bools.{not_so}
-use Rattle.words.proofs.Split.{first_from, part_from, lone_from}
+use Rattle.words.specs.Lines.{is_inside, lines_from, lines_of, without_return}
+use Rattle.words.specs.Numbers.{digits_from, is_digit, number_in, number_of}
+use Rattle.words.proofs.Split.{first_from, lone_from, part_from}
 
 plain_letter : (b : ℕ) → is_plain b ≡ true → is_other 32 b ≡ true
 plain_letter b h = (and_parts (is_other 32 b) _ h).0

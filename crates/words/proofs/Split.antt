@@ -1,8 +1,7 @@
 -- The first part of a text and the first line of some bytes, found from the front.
 use Rattle.std.proofs.Common.{◌≡◌, ℕ, suc, ◌<◌, ◌==◌, Bool, true, false, not, inl, inr, true≢false, List, [], ◌∷◌, ◌++◌, length, get_or, take, drop, refl, sym, ap, subst, ◌∙◌, arith, append_assoc, eq-eqb}
-use Rattle.proof_base.specs.Prelude.{list_all}
+use Rattle.words.proofs.Common.{list_all, not_so}
 use Rattle.proof_base.proofs.Common.{and_parts, eqb-true, cases_lt, drop_of_length-le, append-nil, take-append-drop, nil_from_length, drop-cons}
-use Rattle.proof_base.proofs.Bools.{not_so}
 use Rattle.words.specs.Lines.{unless_empty, lines_of, lines_from, is_inside, without_return}
 use Rattle.words.specs.Parts.{parts_of, parts_from, is_other}
 

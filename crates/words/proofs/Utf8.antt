@@ -1,9 +1,5 @@
 -- A text in UTF-8 cut at an ASCII byte.
-use Rattle.std.proofs.Common.{◌≡◌, ℕ, ◌+◌, ◌<◌, List, [], ◌∷◌, ◌++◌, length, get_or, sym, subst, arith}
-use Rattle.proof_base.specs.Prelude.{IsUtf8}
-use Rattle.proof_base.proofs.Common.{IsUtf8-take, IsCharBoundary-before_ascii, take-append_seam, get_or-append_seam}
-use Rattle.std.proofs.lemmas.Str.{IsUtf8-drop, IsCharBoundary-after_ascii}
-use Rattle.std.proofs.Math.Seq.{drop-append-add}
+use Rattle.words.proofs.Common.{IsCharBoundary-after_ascii, IsCharBoundary-before_ascii, IsUtf8, IsUtf8-drop, IsUtf8-take, List, [], arith, drop-append-add, get_or, get_or-append_seam, length, subst, sym, take-append_seam, ℕ, ◌++◌, ◌+◌, ◌<◌, ◌∷◌, ◌≡◌}
 
 shorter : (xs : List ℕ) (b : ℕ) (ys : List ℕ) → length xs < length (xs ++ b ∷ ys)
 shorter [] b ys = omega arith

@@ -1,12 +1,11 @@
 -- The directories above a path are looked at for a file one by one, from the root on.
-use Rattle.std.specs.Prelude.{ℕ, List, [], ◌∷◌}
-use Rattle.bucket_ops.specs.Prelude.{Objects}
+use Rattle.std.specs.Prelude.{List, [], ℕ, ◌∷◌}
+use Rattle.fs_tree.specs.Prelude.{IsFirstFile, NoFiles, Objects}
 use Rattle.bucket_ops.specs.declared.look.Look.{Look}
 use Rattle.bucket_ops.specs.declared.look.Look.TheVariants.{There}
-use Rattle.fs_tree.specs.Prelude.{NoFiles, IsFirstFile}
 use Rattle.fs_ops.specs.declared.climb.Climb.{Climb}
 use Rattle.fs_ops.specs.declared.climb.Climbed.{Climbed}
-use Rattle.fs_ops.specs.declared.climb.Climbed.TheVariants.{File, On, Free}
+use Rattle.fs_ops.specs.declared.climb.Climbed.TheVariants.{File, Free, On}
 
 -- the first of these directories is looked at, until none is left
 abbrev pub climbing : List (List ℕ) → Climbed

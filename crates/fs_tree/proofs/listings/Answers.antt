@@ -1,7 +1,5 @@
-use Rattle.std.proofs.Common.{◌≡◌, ◌⊎◌, inl, inr, true, List, ℕ, sym, ◌∙◌, arith}
-use Rattle.path_keys.proofs.Common.{false≢true}
+use Rattle.fs_tree.proofs.Common.{Directory, File, HasOddKey, IsName, IsStatus, List, Objects, Stands, Status, arith, below, false≢true, inl, inr, sym, true, ℕ, ◌∙◌, ◌≡◌, ◌⊎◌}
 use Rattle.s3_types.specs.Prelude.{is_key}
-use Rattle.fs_tree.specs.Prelude.{Objects, below, Status, Directory, File, Stands, IsStatus, IsName, HasOddKey}
 use Rattle.fs_tree.proofs.listings.Goals as goal
 
 module _ (z : Objects) (keys : (k : List ℕ) → Stands z k → is_key k ≡ true) where

@@ -1,5 +1,4 @@
-use Rattle.std.proofs.Common.{lit<}
-use Rattle.job_spec.proofs.Common.{decimal_digit}
+use Rattle.job_examples.proofs.Common.{decimal_digit, lit<}
 use Rattle.job_examples.proofs.OnePlays.{goes}
 use Rattle.job_examples.proofs.OneEnds.{one_finished}
 use Rattle.job_examples.proofs.one_file.Goals as goal

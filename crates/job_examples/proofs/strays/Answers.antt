@@ -1,7 +1,5 @@
-use Rattle.std.proofs.Common.{◌≡◌, ◌≤◌, [], refl, arith}
-use Rattle.job_spec.specs.Prelude.{Do, Driver, Attempt}
+use Rattle.job_examples.proofs.Common.{Attempt, Do, Driver, [], arith, refl, worker, ◌≡◌, ◌≤◌}
 use Rattle.job_model.specs.declared.events.Op.TheVariants.{Setup}
-use Rattle.job_examples.specs.Jobs.{worker}
 use Rattle.job_examples.specs.Strays.{stray}
 use Rattle.job_examples.proofs.strays.Goals as goal
 

@@ -1,5 +1,4 @@
-use Rattle.job_spec.proofs.Common.{false≢true}
-use Rattle.job_facts.specs.Prelude.{HasPublished}
+use Rattle.job_facts.proofs.Common.{HasPublished, false≢true}
 use Rattle.job_facts.proofs.Closing.{reverts_start, commit_closes, clean_closes, attempt_closes, attempt_reverts}
 use Rattle.job_facts.proofs.JobCommitting.{commit_drives}
 use Rattle.job_facts.proofs.Remaining.{stands_kept, other_stood, driver_stood, strange_stood, write_begins, commit_begins, own_stands, write_never, commit_never, commit_done}

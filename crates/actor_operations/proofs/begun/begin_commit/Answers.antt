@@ -1,5 +1,4 @@
-use Rattle.std.proofs.Common.{◌≡◌, sym, subst, IfOk}
-use Rattle.commit_laws.specs.Fitting.{least_missing}
+use Rattle.actor_operations.proofs.Common.{IfOk, least_missing, subst, sym, ◌≡◌}
 use Rattle.actor_operations.specs.Laws.{commit_by}
 use Rattle.actor_operations.proofs.Beginnings.{commit_begun_if}
 use Rattle.actor_operations.proofs.begun.begin_commit.Goals as goal

@@ -1,7 +1,5 @@
-use Rattle.std.proofs.Common.{sym, subst, IfOk}
+use Rattle.actor_operations.proofs.Common.{IfOk, IsReport, Starts, subst, sym}
 use Rattle.job_model.specs.declared.events.Op.TheVariants as ops
-use Rattle.job_actor.specs.Reports.{IsReport}
-use Rattle.job_actor.specs.Works.{Starts}
 use Rattle.actor_operations.specs.Plans.{IsOf, running_of, picks_of}
 use Rattle.actor_operations.proofs.Beginnings.{commit_starts, starts_if}
 use Rattle.actor_operations.proofs.works.begin_job.Goals as goal

@@ -1,5 +1,4 @@
-use Rattle.std.proofs.Common.{arith}
-use Rattle.proof_base.proofs.Common.{common_steps}
+use Rattle.block_stream.proofs.Common.{arith, common_steps}
 use Rattle.s3_types.specs.Blocks.{block_of}
 use Rattle.block_stream.proofs.block.block_of.Goals as goal
 

@@ -1,6 +1,4 @@
-use Rattle.std.proofs.Common.{◌≡◌, ◌++◌, ◌<◌, length}
-use Rattle.machine.specs.Prelude.{concat}
-use Rattle.block_stream.specs.Holds.{AreLong}
+use Rattle.block_stream.proofs.Common.{AreLong, concat, length, ◌++◌, ◌<◌, ◌≡◌}
 use Rattle.block_stream.proofs.cutting.cut.Given as goal
 
 abbrev pub invariant-filling : goal.invariant-filling

@@ -1,5 +1,4 @@
-use Rattle.std.proofs.Common.{◌≡◌, ◌++◌, map, drop}
-use Rattle.job_protocol.specs.Sparing.{ref_of}
+use Rattle.cleanup.proofs.Common.{drop, map, ref_of, ◌++◌, ◌≡◌}
 use Rattle.cleanup.proofs.names.add_all.Given as goal
 
 -- the uploads so far and those that are left are all

@@ -1,6 +1,4 @@
-use Rattle.std.proofs.Common.{◌≡◌, ◌++◌, drop}
-use Rattle.job_protocol.specs.Prelude.{filter}
-use Rattle.magic_paths.specs.Places.{is_record}
+use Rattle.cleanup.proofs.Common.{drop, filter, is_record, ◌++◌, ◌≡◌}
 use Rattle.cleanup.proofs.names.records_in.Given as goal
 
 -- the records so far and those that are left are all

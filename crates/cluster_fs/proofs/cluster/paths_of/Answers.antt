@@ -1,6 +1,4 @@
-use Rattle.std.proofs.Common.{◌≡◌, ℕ, List, ◌∷◌, [], ◌++◌, false, true, ap, sym, ◌∙◌, subst, cond, append_assoc, append-nil}
-use Rattle.s3_types.specs.Prelude.{filter, keys_of, begins}
-use Rattle.cluster_fs.specs.Cluster.{Follows}
+use Rattle.cluster_fs.proofs.Common.{Follows, List, [], ap, append-nil, append_assoc, begins, cond, false, filter, keys_of, subst, sym, true, ℕ, ◌++◌, ◌∙◌, ◌∷◌, ◌≡◌}
 use Rattle.cluster_fs.proofs.Listed.{none_left, follows_rest}
 use Rattle.cluster_fs.proofs.cluster.paths_of.Goals as goal
 

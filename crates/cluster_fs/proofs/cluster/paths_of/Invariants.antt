@@ -1,6 +1,4 @@
-use Rattle.std.proofs.Common.{◌≡◌, ◌++◌, length}
-use Rattle.s3_types.specs.Prelude.{filter, keys_of, begins}
-use Rattle.cluster_fs.specs.Cluster.{Follows}
+use Rattle.cluster_fs.proofs.Common.{Follows, begins, filter, keys_of, length, ◌++◌, ◌≡◌}
 use Rattle.cluster_fs.proofs.cluster.paths_of.Given as goal
 
 -- the paths so far and those that are left are all

@@ -1,5 +1,4 @@
-use Rattle.std.proofs.Common.{◌≡◌}
-use Rattle.job_protocol.specs.Prelude.{first_turns}
+use Rattle.commit_parts.proofs.Common.{first_turns, ◌≡◌}
 use Rattle.commit_parts.proofs.lanes.first_turns.Given as goal
 
 abbrev pub invariant-loop-n : goal.invariant-loop-n

@@ -1,5 +1,4 @@
-use Rattle.std.proofs.Common.{◌≡◌, subst, IfOk, Some}
-use Rattle.job_protocol.specs.Prelude.{Job, wanted_paths, Marking, commit_asks, picks_of, read_script}
+use Rattle.commit_parts.proofs.Common.{IfOk, Job, Marking, Some, commit_asks, picks_of, read_script, subst, wanted_paths, ◌≡◌}
 use Rattle.commit_parts.proofs.ReadFiles.{mark_put}
 use Rattle.commit_parts.proofs.marker.mark_request.Goals as goal
 

@@ -1,6 +1,4 @@
-use Rattle.std.proofs.Common.{◌≡◌, ◌≤◌, drop, length}
-use Rattle.job_protocol.specs.Prelude.{ordered, all_commits}
-use Rattle.commit_parts.specs.Relatives.{paths_below}
+use Rattle.commit_parts.proofs.Common.{all_commits, drop, length, ordered, paths_below, ◌≡◌, ◌≤◌}
 use Rattle.commit_parts.proofs.marker.ordered_paths.Given as goal
 
 abbrev pub invariant-loop-n : goal.invariant-loop-n

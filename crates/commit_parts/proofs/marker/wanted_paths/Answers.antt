@@ -1,6 +1,4 @@
-use Rattle.std.proofs.Common.{◌≡◌, subst, IfOk}
-use Rattle.job_protocol.specs.Prelude.{Job, wanted_paths, picks_of, read_script}
-use Rattle.commit_parts.specs.ReadSets.{HasAll}
+use Rattle.commit_parts.proofs.Common.{HasAll, IfOk, Job, picks_of, read_script, subst, wanted_paths, ◌≡◌}
 use Rattle.commit_parts.proofs.ReadFiles.{wanted_listed}
 use Rattle.commit_parts.proofs.marker.wanted_paths.Goals as goal
 

@@ -1,5 +1,4 @@
-use Rattle.std.proofs.Common.{◌≡◌, ◌++◌}
-use Rattle.commit_parts.specs.Places.{row}
+use Rattle.commit_parts.proofs.Common.{row, ◌++◌, ◌≡◌}
 use Rattle.commit_parts.proofs.places.add_row.Given as goal
 
 abbrev pub invariant-loop-index : goal.invariant-loop-index

@@ -1,6 +1,5 @@
 use Rattle.commit_parts.proofs.Placing.{set_within, upload_within, upload_is, placed_at}
-use Rattle.std.proofs.Common.{ap, ◌∙◌, slice_get}
-use Rattle.path_keys.proofs.Common.{slice_get_within}
+use Rattle.commit_parts.proofs.Common.{ap, slice_get, slice_get_within, ◌∙◌}
 use Rattle.commit_parts.proofs.places.upload.Goals as goal
 
 pub place_at-place-requires : goal.place_at-place-requires

@@ -1,5 +1,4 @@
-use Rattle.std.proofs.Common.{inl, inr, ap}
-use Rattle.job_protocol.specs.Prelude.{Job}
+use Rattle.commit_parts.proofs.Common.{Job, ap, inl, inr}
 use Rattle.commit_parts.proofs.ReadFiles.{stored_asked, staged_asked}
 use Rattle.commit_parts.proofs.requests.set_request.Goals as goal
 

@@ -1,5 +1,4 @@
-use Rattle.std.proofs.Common.{◌≡◌, subst, IfOk}
-use Rattle.job_protocol.specs.Prelude.{ClusterGet, staged_set_path, Job}
+use Rattle.commit_parts.proofs.Common.{ClusterGet, IfOk, Job, staged_set_path, subst, ◌≡◌}
 use Rattle.commit_parts.proofs.ReadFiles.{cluster_asked}
 use Rattle.commit_parts.proofs.requests.staged_set.Goals as goal
 

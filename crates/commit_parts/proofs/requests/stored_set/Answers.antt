@@ -1,5 +1,4 @@
-use Rattle.std.proofs.Common.{◌≡◌, subst, IfOk}
-use Rattle.job_protocol.specs.Prelude.{GetObject, set_key, Job}
+use Rattle.commit_parts.proofs.Common.{GetObject, IfOk, Job, set_key, subst, ◌≡◌}
 use Rattle.commit_parts.proofs.ReadFiles.{get_asked}
 use Rattle.commit_parts.proofs.requests.stored_set.Goals as goal
 

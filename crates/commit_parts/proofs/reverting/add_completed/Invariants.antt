@@ -1,5 +1,4 @@
-use Rattle.std.proofs.Common.{◌≤◌, length}
-use Rattle.commit_parts.specs.Undos.{Adds, NumbersWithin}
+use Rattle.commit_parts.proofs.Common.{Adds, NumbersWithin, length, ◌≤◌}
 use Rattle.commit_parts.proofs.Undoing.{done_part}
 use Rattle.commit_parts.proofs.reverting.add_completed.Given as goal
 

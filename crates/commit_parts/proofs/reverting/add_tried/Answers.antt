@@ -1,5 +1,4 @@
-use Rattle.std.proofs.Common.{◌≡◌, ◌+◌, ◌-◌, ◌<◌, ◌≤◌, arith, refl}
-use Rattle.job_protocol.specs.Prelude.{undo, is_tried}
+use Rattle.commit_parts.proofs.Common.{arith, is_tried, refl, undo, ◌+◌, ◌-◌, ◌<◌, ◌≡◌, ◌≤◌}
 use Rattle.commit_parts.proofs.Undoing.{adds_begin, adds_end, tried_turn, tried_below}
 use Rattle.commit_parts.proofs.reverting.add_tried.Goals as goal
 

@@ -1,5 +1,4 @@
-use Rattle.std.proofs.Common.{◌≡◌, ◌+◌, ◌-◌, ◌<◌, ◌≤◌, ◌||◌, nat_eq, arith, refl, map, ap, ◌∙◌}
-use Rattle.job_protocol.specs.Prelude.{abort, is_tried, is_in, is_unsent}
+use Rattle.commit_parts.proofs.Common.{abort, ap, arith, is_in, is_tried, is_unsent, map, nat_eq, refl, ◌+◌, ◌-◌, ◌<◌, ◌||◌, ◌∙◌, ◌≡◌, ◌≤◌}
 use Rattle.commit_parts.proofs.Undoing.{adds_begin, adds_end, unsent_turn, unsent_below}
 use Rattle.commit_parts.proofs.reverting.add_unsent.Goals as goal
 

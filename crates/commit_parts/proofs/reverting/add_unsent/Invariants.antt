@@ -1,5 +1,4 @@
-use Rattle.std.proofs.Common.{◌≤◌}
-use Rattle.commit_parts.specs.Undos.{Adds, NumbersWithin}
+use Rattle.commit_parts.proofs.Common.{Adds, NumbersWithin, ◌≤◌}
 use Rattle.commit_parts.proofs.Undoing.{unsent_part}
 use Rattle.commit_parts.proofs.reverting.add_unsent.Given as goal
 

@@ -1,5 +1,4 @@
-use Rattle.std.proofs.Common.{◌≡◌, ℕ, reverse, take}
-use Rattle.job_protocol.specs.Prelude.{nat_cmp, is_in}
+use Rattle.commit_parts.proofs.Common.{is_in, nat_cmp, reverse, take, ℕ, ◌≡◌}
 use Rattle.std.specs.BTreeSet.{contains}
 use Rattle.commit_parts.proofs.reverting.numbers_in.Given as goal
 

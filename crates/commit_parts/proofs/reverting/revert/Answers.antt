@@ -1,5 +1,4 @@
-use Rattle.std.proofs.Common.{◌∙◌, ap, subst, ℕ, List}
-use Rattle.job_protocol.specs.Prelude.{is_in, In}
+use Rattle.commit_parts.proofs.Common.{In, List, ap, is_in, subst, ℕ, ◌∙◌}
 use Rattle.commit_parts.proofs.Undoing.{all_reverted, all_within, in_back}
 use Rattle.commit_parts.proofs.reverting.revert.Goals as goal
 

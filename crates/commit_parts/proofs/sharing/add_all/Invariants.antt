@@ -1,7 +1,4 @@
-use Rattle.std.proofs.Common.{ℕ, List, ◌++◌, ◌≤◌, map, take}
-use Rattle.std.specs.HashMap.{get}
-use Rattle.job_protocol.specs.Prelude.{text_eq, In}
-use Rattle.commit_parts.specs.Clashes.{Item, Finds}
+use Rattle.commit_parts.proofs.Common.{Finds, In, Item, List, get, map, take, text_eq, ℕ, ◌++◌, ◌≤◌}
 use Rattle.commit_parts.proofs.sharing.add_all.Given as goal
 
 abbrev pub invariant-loop-upload : goal.invariant-loop-upload

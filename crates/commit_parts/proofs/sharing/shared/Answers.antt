@@ -1,6 +1,4 @@
-use Rattle.std.proofs.Common.{◌+◌, arith}
-use Rattle.std.specs.HashMap.{get}
-use Rattle.job_protocol.specs.Prelude.{text_eq}
+use Rattle.commit_parts.proofs.Common.{arith, get, text_eq, ◌+◌}
 use Rattle.commit_parts.proofs.Searching.{adds_set}
 use Rattle.commit_parts.proofs.sharing.shared.Goals as goal
 

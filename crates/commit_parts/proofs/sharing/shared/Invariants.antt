@@ -1,7 +1,4 @@
-use Rattle.std.proofs.Common.{take}
-use Rattle.std.specs.HashMap.{get}
-use Rattle.job_protocol.specs.Prelude.{text_eq}
-use Rattle.commit_parts.specs.Clashes.{items_from, Finds}
+use Rattle.commit_parts.proofs.Common.{Finds, get, items_from, take, text_eq}
 use Rattle.commit_parts.proofs.sharing.shared.Given as goal
 
 abbrev pub invariant-loop-n : goal.invariant-loop-n

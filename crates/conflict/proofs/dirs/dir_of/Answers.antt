@@ -1,5 +1,4 @@
-use Rattle.std.proofs.Common.{◌∙◌, ap, sym}
-use Rattle.job_protocol.specs.Prelude.{dir_of}
+use Rattle.conflict.proofs.Common.{ap, dir_of, sym, ◌∙◌}
 use Rattle.path_keys.proofs.Last.{cut_last, no_slash}
 use Rattle.conflict.proofs.CutPaths.{dir_front, dir_none}
 use Rattle.conflict.proofs.dirs.dir_of.Goals as goal

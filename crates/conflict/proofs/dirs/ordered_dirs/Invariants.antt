@@ -1,5 +1,4 @@
-use Rattle.std.proofs.Common.{◌≡◌, ◌≤◌, drop, length}
-use Rattle.job_protocol.specs.Prelude.{partitions}
+use Rattle.conflict.proofs.Common.{drop, length, partitions, ◌≡◌, ◌≤◌}
 use Rattle.conflict.proofs.dirs.ordered_dirs.Given as goal
 
 abbrev pub invariant-loop-n : goal.invariant-loop-n

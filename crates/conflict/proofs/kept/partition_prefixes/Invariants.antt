@@ -1,5 +1,4 @@
-use Rattle.std.proofs.Common.{◌≡◌, map, take}
-use Rattle.conflict.specs.Deletions.{prefix_below}
+use Rattle.conflict.proofs.Common.{map, prefix_below, take, ◌≡◌}
 use Rattle.conflict.proofs.kept.partition_prefixes.Given as goal
 
 abbrev pub invariant-loop-partition : goal.invariant-loop-partition

@@ -1,6 +1,4 @@
-use Rattle.std.proofs.Common.{rules, ◌≡◌, true, false, List, length, drop, Err, refl, sym, ap, subst, ◌∙◌}
-use Rattle.job_spec.specs.Prelude.{Entry}
-use Rattle.durable_job.specs.Pace.{InPace}
+use Rattle.durable_job.proofs.Common.{Entry, Err, InPace, List, ap, drop, false, length, refl, rules, subst, sym, true, ◌∙◌, ◌≡◌}
 use Rattle.durable_job.proofs.Paces.{falls, adds_rest, within, sent_same, left_none, pace_begins, pace_on, pace_ends, pace_stops}
 use Rattle.durable_job.proofs.events.play_over.Goals as goal
 

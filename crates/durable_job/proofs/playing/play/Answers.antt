@@ -1,5 +1,4 @@
-use Rattle.std.proofs.Common.{IfOk, sym, subst}
-use Rattle.durable_job.specs.Played.{IsPlayed}
+use Rattle.durable_job.proofs.Common.{IfOk, IsPlayed, subst, sym}
 use Rattle.durable_job.specs.declared.jobs.Jobs.{Jobs}
 use Rattle.durable_job.proofs.playing.play.Goals as goal
 

@@ -1,9 +1,4 @@
-use Rattle.std.proofs.Common.{◌≡◌, ap, subst, ◌∙◌}
-use Rattle.job_spec.specs.Prelude.{Content}
-use Rattle.journal_log.proofs.Replaces.{not_called}
-use Rattle.job_world.specs.Worlds.{Run}
-use Rattle.durable_job.specs.Moves.{Stays}
-use Rattle.durable_job.specs.Played.{IsHeld, Survives}
+use Rattle.durable_job.proofs.Common.{Content, IsHeld, Run, Stays, Survives, ap, not_called, subst, ◌∙◌, ◌≡◌}
 use Rattle.durable_job.proofs.Held.{not_replaced_as}
 use Rattle.durable_job.proofs.Ends.{one_played}
 use Rattle.durable_job.proofs.playing.play_one.Goals as goal

@@ -1,11 +1,5 @@
-use Rattle.std.proofs.Common.{◌≡◌, sym, ap, subst, ◌∙◌}
-use Rattle.job_spec.specs.Prelude.{Content}
-use Rattle.journal_log.proofs.Replaces.{not_called}
-use Rattle.twin_script.specs.TwinScripts.{Twins, AreTwins}
+use Rattle.durable_job.proofs.Common.{AreTwins, Content, IsHeld, IsPlayed, Survives, Twins, TwinsStay, Two, ap, not_called, subst, sym, ◌∙◌, ◌≡◌}
 use Rattle.twin_jobs.specs.Worlds.{Run}
-use Rattle.durable_job.specs.Moves.{TwinsStay}
-use Rattle.durable_job.specs.Played.{IsHeld, Survives, IsPlayed}
-use Rattle.durable_job.specs.declared.jobs.Jobs.TheVariants.{Two}
 use Rattle.durable_job.specs.declared.playing.Kept.{Kept}
 use Rattle.durable_job.proofs.Held.{not_replaced_as}
 use Rattle.durable_job.proofs.Ends.{twins_are, two_played}

@@ -1,7 +1,4 @@
-use Rattle.std.proofs.Common.{ℕ, List, Option, sym, subst}
-use Rattle.exit_status.specs.declared.statuses.Status.{Status}
-use Rattle.durable_store.specs.Works.{Saves}
-use Rattle.durable_store.specs.Outcomes.{IsAnswer, text_at}
+use Rattle.durable_store.proofs.Common.{IsAnswer, List, Option, Saves, Status, subst, sym, text_at, ℕ}
 use Rattle.durable_store.proofs.Keeping.{saved_answer}
 use Rattle.durable_store.proofs.answers.keep.Goals as goal
 

@@ -1,5 +1,4 @@
-use Rattle.std.proofs.Common.{refl}
-use Rattle.durable_store.specs.Outcomes.IsAnswer.{said}
+use Rattle.durable_store.proofs.Common.{refl, said}
 use Rattle.durable_store.proofs.Keeping.{not_failed}
 use Rattle.durable_store.proofs.answers.obey.Goals as goal
 

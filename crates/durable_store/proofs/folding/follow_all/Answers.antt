@@ -1,5 +1,4 @@
-use Rattle.std.proofs.Common.{drop}
-use Rattle.journal_log.specs.Prelude.{content_after}
+use Rattle.durable_store.proofs.Common.{content_after, drop}
 use Rattle.durable_store.proofs.Following.{high}
 use Rattle.durable_store.proofs.folding.follow_all.Goals as goal
 

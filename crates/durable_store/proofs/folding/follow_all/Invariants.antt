@@ -1,5 +1,4 @@
-use Rattle.std.proofs.Common.{◌≡◌, drop}
-use Rattle.journal_log.specs.Prelude.{AllByRecursion, content_after, IsMade}
+use Rattle.durable_store.proofs.Common.{AllByRecursion, IsMade, content_after, drop, ◌≡◌}
 use Rattle.durable_store.proofs.folding.follow_all.Given as goal
 
 abbrev pub invariant-loop-change : goal.invariant-loop-change

@@ -1,7 +1,5 @@
-use Rattle.proof_base.proofs.Common.{on_ok_weaker}
-use Rattle.journal_log.specs.Prelude.{Stopped}
+use Rattle.durable_store.proofs.Common.{Stopped, changes, on_ok_weaker}
 use Rattle.std.proofs.lemmas.Result.{on_err_weaker}
-use Rattle.journal_log.specs.Changes.{changes}
 use Rattle.journal_log.proofs.Replaces.{counts}
 use Rattle.durable_store.proofs.Replacing.{refused, whole, partly, cut, survived, some_grown, if_error}
 use Rattle.durable_store.proofs.saving.save.Goals as goal

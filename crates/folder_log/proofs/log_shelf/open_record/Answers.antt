@@ -1,6 +1,4 @@
-use Rattle.std.proofs.Common.{◌≡◌, ◌⊎◌, ℕ, ◌+◌, List, [], ◌∷◌, ◌++◌, length, Option, Some, Result, Ok, Err, OnErr, subst, ◌∙◌, ap, arith}
-use Rattle.folder_log.specs.Disk.{File, Writes, IsTorn, Only, Settles, more, FewMore}
-use Rattle.folder_log.specs.Kept.{IsLeftOf}
+use Rattle.folder_log.proofs.Common.{Err, FewMore, File, IsLeftOf, IsTorn, List, Ok, OnErr, Only, Option, Result, Settles, Some, Writes, [], ap, arith, length, more, subst, ℕ, ◌++◌, ◌+◌, ◌∙◌, ◌∷◌, ◌≡◌, ◌⊎◌}
 use Rattle.folder_log.proofs.Moments.{then_on, widened, few_more}
 use Rattle.folder_log.proofs.Crash.{left_behind, left_opened, written_behind}
 use Rattle.folder_log.proofs.log_shelf.open_record.Goals as goal

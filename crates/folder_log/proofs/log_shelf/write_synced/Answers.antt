@@ -1,6 +1,4 @@
-use Rattle.std.proofs.Common.{◌≡◌, ◌⊎◌, ℕ, length, inl, inr, subst, arith}
-use Rattle.shelf.specs.Logged.{LeavesOnly}
-use Rattle.folder_log.specs.Disk.{File, IsTorn, Only, Follows, Elapses}
+use Rattle.folder_log.proofs.Common.{Elapses, File, Follows, IsTorn, LeavesOnly, Only, arith, inl, inr, length, subst, ℕ, ◌≡◌, ◌⊎◌}
 use Rattle.folder_log.proofs.Moments.{started, goes_on}
 use Rattle.folder_log.proofs.log_shelf.write_synced.Goals as goal
 

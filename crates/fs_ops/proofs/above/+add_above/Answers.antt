@@ -1,6 +1,4 @@
-use Rattle.std.proofs.Common.{◌≡◌, ◌∷◌, length, Result, OnOk, Ok, Err, ap, ◌∙◌, arith, length-append}
-use Rattle.fs_ops.specs.Prelude.{is_key_path}
-use Rattle.path_keys.proofs.Last.{cut_last, front_is_key, no_slash}
+use Rattle.fs_ops.proofs.Common.{Err, Ok, OnOk, Result, ap, arith, cut_last, front_is_key, is_key_path, length, length-append, no_slash, ◌∙◌, ◌∷◌, ◌≡◌}
 use Rattle.fs_ops.proofs.Names.{none_more, one_more, front_key}
 use Rattle.fs_ops.proofs.above.+add_above.Goals as goal
 

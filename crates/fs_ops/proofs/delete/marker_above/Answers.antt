@@ -1,5 +1,4 @@
-use Rattle.std.proofs.Common.{false}
-use Rattle.fs_ops.specs.Prelude.{deleted, parent, marker_if}
+use Rattle.fs_ops.proofs.Common.{deleted, false, marker_if, parent}
 use Rattle.fs_ops.proofs.Names.{at_end}
 use Rattle.fs_ops.proofs.MarkerAbove.{marker_parent, root_marker}
 use Rattle.fs_ops.proofs.delete.marker_above.Goals as goal

@@ -1,5 +1,4 @@
-use Rattle.std.proofs.Common.{◌≡◌, drop}
-use Rattle.fs_ops.specs.Prelude.{all_added, last_text}
+use Rattle.fs_ops.proofs.Common.{all_added, drop, last_text, ◌≡◌}
 use Rattle.fs_ops.proofs.list.add_all.Given as goal
 
 -- what was found and the entries that are left are all

@@ -1,5 +1,4 @@
-use Rattle.fs_ops.specs.Prelude.{parent}
-use Rattle.fs_ops.proofs.Names.{at_end}
+use Rattle.fs_rename.proofs.Common.{at_end, parent}
 use Rattle.fs_rename.proofs.Inside.{above_some, above_none}
 use Rattle.fs_rename.proofs.names.place_above.Goals as goal
 

@@ -1,5 +1,4 @@
-use Rattle.std.proofs.Common.{◌∙◌, ◌≤◌, sym, arith}
-use Rattle.job_protocol.specs.Prelude.{has_task}
+use Rattle.job_commit.proofs.Common.{arith, has_task, sym, ◌∙◌, ◌≤◌}
 use Rattle.job_commit.proofs.Searches.{first_that_fails, none_fails}
 use Rattle.job_commit.proofs.commit.missing.Goals as goal
 

@@ -1,5 +1,4 @@
-use Rattle.std.proofs.Common.{◌≡◌, ◌<◌, ℕ, true}
-use Rattle.job_protocol.specs.Prelude.{has_task}
+use Rattle.job_commit.proofs.Common.{has_task, true, ℕ, ◌<◌, ◌≡◌}
 use Rattle.job_commit.proofs.commit.missing.Given as goal
 
 abbrev pub invariant-loop-task : goal.invariant-loop-task

@@ -1,5 +1,4 @@
-use Rattle.std.proofs.Common.{◌≡◌, ◌+◌, ◌*◌, [], ◌++◌, sym, ap, subst, ◌∙◌, arith}
-use Rattle.job_spec.specs.Prelude.{declares, AreFiles, draw}
+use Rattle.job_gen.proofs.Common.{AreFiles, [], ap, arith, declares, draw, subst, sym, ◌*◌, ◌++◌, ◌+◌, ◌∙◌, ◌≡◌}
 use Rattle.job_gen.specs.Made.{attempt_of, attempts_of, part_files, made_attempts}
 use Rattle.job_gen.proofs.Ranges.{flat_map_next}
 use Rattle.job_gen.proofs.PartFiles.{files_fit}

@@ -1,6 +1,4 @@
-use Rattle.std.proofs.Common.{◌≡◌, ◌*◌}
-use Rattle.job_spec.specs.Prelude.{draw}
-use Rattle.job_gen.specs.Made.{part_files}
+use Rattle.job_gen.proofs.Common.{draw, part_files, ◌*◌, ◌≡◌}
 use Rattle.job_gen.proofs.Declaring.{attempts_from}
 use Rattle.job_gen.proofs.attempts.all_attempts.Given as goal
 

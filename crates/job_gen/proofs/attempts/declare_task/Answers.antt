@@ -1,6 +1,4 @@
-use Rattle.std.proofs.Common.{ap, ◌∙◌}
-use Rattle.job_spec.specs.Prelude.{declares}
-use Rattle.job_gen.specs.Made.{attempt_of}
+use Rattle.job_gen.proofs.Common.{ap, attempt_of, declares, ◌∙◌}
 use Rattle.job_gen.proofs.Declaring.{second_free}
 use Rattle.job_gen.proofs.attempts.declare_task.Goals as goal
 

@@ -1,5 +1,4 @@
-use Rattle.std.proofs.Common.{[], sym, ap, ◌∙◌}
-use Rattle.job_spec.specs.Prelude.{File, has_path, last_files}
+use Rattle.job_gen.proofs.Common.{File, [], ap, has_path, last_files, sym, ◌∙◌}
 use Rattle.job_gen.proofs.Adding.{next_free, next_added, all_added}
 use Rattle.job_gen.proofs.attempts.declare_with.Goals as goal
 

@@ -1,5 +1,4 @@
-use Rattle.std.proofs.Common.{◌≡◌, ◌+◌}
-use Rattle.job_spec.specs.Prelude.{bytes_of}
+use Rattle.job_gen.proofs.Common.{bytes_of, ◌+◌, ◌≡◌}
 use Rattle.job_gen.proofs.counting.file_bytes.Given as goal
 
 abbrev pub invariant-loop-bytes : goal.invariant-loop-bytes

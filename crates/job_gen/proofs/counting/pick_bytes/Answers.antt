@@ -1,6 +1,4 @@
-use Rattle.std.proofs.Common.{◌≡◌, ℕ, ◌+◌, ◌≤◌, Bool, true, false, cond, List, [], ◌∷◌, length, Option, Some, refl, ap, ◌∙◌, arith, sym, subst}
-use Rattle.job_spec.proofs.Common.{some_is}
-use Rattle.job_spec.specs.Prelude.{lookup, unwrap_or, option_map, MOST_SCRIPT_BYTES, File, Who, Declared, same_name, Script, IsLegal, bytes_of, bytes_in, placed, files}
+use Rattle.job_gen.proofs.Common.{Bool, Declared, File, IsLegal, List, MOST_SCRIPT_BYTES, Option, Script, Some, Who, [], ap, arith, bytes_in, bytes_of, cond, false, files, length, lookup, option_map, placed, refl, same_name, some_is, subst, sym, true, unwrap_or, ℕ, ◌+◌, ◌∙◌, ◌∷◌, ◌≡◌, ◌≤◌}
 use Rattle.job_gen.proofs.counting.pick_bytes.Goals as goal
 use Rattle.job_gen.proofs.counting.pick_bytes.Goals.{In-Some}
 

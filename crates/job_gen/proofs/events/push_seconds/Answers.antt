@@ -1,5 +1,4 @@
-use Rattle.std.proofs.Common.{sym, ◌∙◌}
-use Rattle.job_gen.specs.Made.{is_twice, second_writes}
+use Rattle.job_gen.proofs.Common.{is_twice, second_writes, sym, ◌∙◌}
 use Rattle.job_gen.proofs.Ranges.{taken_on, left_out}
 use Rattle.job_gen.proofs.events.push_seconds.Goals.{then-is_twice+in_ok-push_second, else-is_twice}
 use Rattle.job_gen.proofs.events.push_seconds.Goals as goal

@@ -1,6 +1,4 @@
-use Rattle.std.proofs.Common.{◌≡◌, ◌++◌, filter}
-use Rattle.job_spec.specs.Prelude.{flat_map}
-use Rattle.job_gen.specs.Made.{below, is_twice, second_writes}
+use Rattle.job_gen.proofs.Common.{below, filter, flat_map, is_twice, second_writes, ◌++◌, ◌≡◌}
 use Rattle.job_gen.proofs.events.push_seconds.Given as goal
 
 abbrev pub invariant-loop-task : goal.invariant-loop-task

@@ -1,10 +1,6 @@
-use Rattle.std.proofs.Common.{◌≡◌, ℕ, ◌+◌, ◌-◌, ◌/◌, ◌%◌, ◌^◌, ◌<◌, ◌≤◌, inl, inr, false, [], ◌∷◌, ◌++◌, refl, ap, ◌∙◌, arith}
-use Rattle.job_spec.specs.Prelude.{decimal}
-use Rattle.job_spec.proofs.Common.{decimal_digit, cases_lt, IfOk-weaker}
+use Rattle.job_gen.proofs.Common.{IfOk-weaker, [], ap, arith, cases_lt, decimal, decimal_digit, false, inl, inr, part_path, refl, string_bytes, three_digits, two_digits, ℕ, ◌%◌, ◌++◌, ◌+◌, ◌-◌, ◌/◌, ◌<◌, ◌^◌, ◌∙◌, ◌∷◌, ◌≡◌, ◌≤◌}
 use Rattle.std.specs.Fmt.{padded_integral, format_spec, char_count}
 use Rattle.std.proofs.lemmas.Fmt.{decimal_step}
-use Rattle.job_gen.specs.Made.{two_digits, three_digits, part_path}
-use Rattle.std.specs.Prelude.{string_bytes}
 use Rattle.job_gen.proofs.files.made_path.Goals as goal
 
 -- ---- numbers as they are written with zeros before them

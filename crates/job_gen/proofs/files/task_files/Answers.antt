@@ -1,5 +1,4 @@
-use Rattle.std.proofs.Common.{◌≡◌, ◌+◌, ◌*◌, map, ap, ◌∙◌, arith}
-use Rattle.job_spec.specs.Prelude.{has_path, draw}
+use Rattle.job_gen.proofs.Common.{ap, arith, draw, has_path, map, ◌*◌, ◌+◌, ◌∙◌, ◌≡◌}
 use Rattle.job_gen.specs.Made.{below, part_file, part_files}
 use Rattle.job_gen.proofs.PartPaths.{path_free}
 use Rattle.job_gen.proofs.PartFiles.{paths_on, files_on}

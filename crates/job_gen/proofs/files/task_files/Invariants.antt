@@ -1,6 +1,4 @@
-use Rattle.std.proofs.Common.{◌≡◌, ℕ, ◌+◌, ◌*◌, map}
-use Rattle.job_spec.specs.Prelude.{draw}
-use Rattle.job_gen.specs.Made.{below, part_path, part_file}
+use Rattle.job_gen.proofs.Common.{below, draw, map, part_file, part_path, ℕ, ◌*◌, ◌+◌, ◌≡◌}
 use Rattle.job_gen.proofs.files.task_files.Given as goal
 
 abbrev pub invariant-loop-file : goal.invariant-loop-file

@@ -1,6 +1,4 @@
-use Rattle.std.proofs.Common.{◌≡◌, ◌∙◌, append_assoc}
-use Rattle.std.specs.Prelude.{string_bytes}
-use Rattle.job_spec.proofs.Common.{IfOk-weaker}
+use Rattle.job_gen.proofs.Common.{IfOk-weaker, append_assoc, string_bytes, ◌∙◌, ◌≡◌}
 use Rattle.job_gen.specs.Summary.{summary}
 use Rattle.job_gen.proofs.summary.summary_text.Goals as goal
 

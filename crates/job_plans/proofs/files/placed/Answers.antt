@@ -1,8 +1,6 @@
-use Rattle.std.proofs.Common.{◌≡◌, ◌∙◌, [], IfOk, sym, ap, subst}
+use Rattle.job_plans.proofs.Common.{File, IfOk, [], ap, has_path, path_of, subst, sym, ◌∙◌, ◌≡◌}
 use Rattle.std.specs.Result.{MatchResult}
-use Rattle.job_protocol.specs.Prelude.{File, has_path}
-use Rattle.job_model.specs.Placed.{path_of}
-use Rattle.job_plans.proofs.FilePlans.{next_free, next_placed, all_placed}
+use Rattle.job_plans.proofs.FilePlans.{all_placed, next_free, next_placed}
 use Rattle.job_plans.proofs.files.placed.Goals as goal
 
 pub loop-path-init : goal.loop-path-init

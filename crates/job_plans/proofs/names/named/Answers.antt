@@ -1,8 +1,5 @@
-use Rattle.std.proofs.Common.{◌≡◌, ◌∙◌, None, Some, sym, arith}
-use Rattle.std.specs.Prelude.{string_bytes}
-use Rattle.path_keys.proofs.Common.{IfOk-weaker}
+use Rattle.job_plans.proofs.Common.{IfOk-weaker, None, Some, arith, string_bytes, sym, with_id, ◌∙◌, ◌≡◌}
 use Rattle.words.proofs.Common.{split_parts}
-use Rattle.job_protocol.specs.Prelude.{with_id}
 use Rattle.words.proofs.Pieces.{others_from_bytes}
 use Rattle.job_plans.proofs.CutNames.{dotted_name, dotless_name}
 use Rattle.job_plans.proofs.names.named.Goals as goal

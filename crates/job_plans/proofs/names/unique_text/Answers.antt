@@ -1,7 +1,4 @@
-use Rattle.std.proofs.Common.{◌≡◌, ◌∙◌, sym}
-use Rattle.std.specs.Prelude.{string_bytes}
-use Rattle.path_keys.proofs.Common.{IfOk-weaker}
-use Rattle.job_protocol.specs.Prelude.{unique_name}
+use Rattle.job_plans.proofs.Common.{IfOk-weaker, string_bytes, sym, unique_name, ◌∙◌, ◌≡◌}
 use Rattle.path_keys.proofs.Last.{cut_last, no_slash}
 use Rattle.job_plans.proofs.CutNames.{path_with_name, name_alone}
 use Rattle.job_plans.proofs.names.unique_text.Goals as goal

@@ -1,5 +1,4 @@
-use Rattle.std.proofs.Common.{◌≡◌, ◌∙◌, Some, slice_get, ap, subst}
-use Rattle.job_protocol.specs.Prelude.{lookup, same_name, Script, IsLegal, placed}
+use Rattle.job_plans.proofs.Common.{IsLegal, Script, Some, ap, lookup, placed, same_name, slice_get, subst, ◌∙◌, ◌≡◌}
 use Rattle.job_plans.proofs.PlanBounds.{legal_at, task_is, task_told}
 use Rattle.job_plans.proofs.plans.task_plan.Goals as goal
 

@@ -1,5 +1,4 @@
-use Rattle.std.proofs.Common.{◌≡◌, ◌++◌, map}
-use Rattle.job_protocol.specs.Prelude.{placed}
+use Rattle.job_plans.proofs.Common.{map, placed, ◌++◌, ◌≡◌}
 use Rattle.job_plans.proofs.reported.add_paths.Given as goal
 
 abbrev pub invariant-loop-path : goal.invariant-loop-path

@@ -1,9 +1,5 @@
-use Rattle.std.proofs.Common.{◌∙◌, ap, map, sym}
-use Rattle.path_keys.proofs.Common.{IfOk-weaker}
+use Rattle.job_plans.proofs.Common.{File, IfOk-weaker, ap, files_of_all, map, partitions, sym, those, ◌∙◌}
 use Rattle.conflict.proofs.SamePartitions.{partitions_of_ordered}
-use Rattle.job_protocol.specs.Prelude.{File, partitions}
-use Rattle.job_protocol.specs.Rechecks.{files_of_all}
-use Rattle.job_plans.specs.Reported.{those}
 use Rattle.job_plans.proofs.reported.reported_partitions.Goals as goal
 
 pub returns : goal.returns

@@ -1,7 +1,4 @@
-use Rattle.std.proofs.Common.{◌≡◌, ◌++◌, ◌∷◌, drop, codes, string_bytes}
-use Rattle.job_spec.specs.Prelude.{flat_map}
-use Rattle.job_model.specs.Prelude.{join_by}
-use Rattle.job_spec.specs.ReportText.{actor_end_text}
+use Rattle.job_report.proofs.Common.{actor_end_text, codes, drop, flat_map, join_by, string_bytes, ◌++◌, ◌∷◌, ◌≡◌}
 use Rattle.job_report.proofs.ends.write_mixed.Given as goal
 
 abbrev pub invariant-loop-actor_end : goal.invariant-loop-actor_end

@@ -1,7 +1,5 @@
-use Rattle.job_spec.specs.Prelude.{past}
-use Rattle.proof_base.proofs.Common.{on_ok_weaker}
+use Rattle.job_report.proofs.Common.{both_written, on_ok_weaker, past}
 use Rattle.job_report.proofs.lines.write_actors.Goals as goal
-use Rattle.proof_base.proofs.Lists.{both_written}
 
 pub returns : goal.returns
 returns c =

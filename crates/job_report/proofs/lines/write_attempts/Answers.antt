@@ -1,5 +1,4 @@
-use Rattle.std.proofs.Common.{[], ◌∷◌, ◌++◌}
-use Rattle.job_spec.specs.Prelude.{attempt_line}
+use Rattle.job_report.proofs.Common.{[], attempt_line, ◌++◌, ◌∷◌}
 use Rattle.job_report.proofs.LineLemmas.{declared_next, one_before, line_more}
 use Rattle.job_report.proofs.lines.write_attempts.Goals as goal
 

@@ -1,5 +1,4 @@
-use Rattle.std.proofs.Common.{◌≡◌, ◌++◌, List, string_bytes}
-use Rattle.job_spec.specs.Prelude.{flat_map, Declared, Past, attempt_line}
+use Rattle.job_report.proofs.Common.{Declared, List, Past, attempt_line, flat_map, string_bytes, ◌++◌, ◌≡◌}
 use Rattle.job_states.specs.Stands.{Stands}
 use Rattle.job_report.proofs.lines.write_attempts.Given as goal
 

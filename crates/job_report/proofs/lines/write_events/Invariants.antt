@@ -1,5 +1,4 @@
-use Rattle.std.proofs.Common.{◌≡◌, ◌++◌, string_bytes}
-use Rattle.job_spec.specs.Prelude.{flat_map, event_line, event_lines}
+use Rattle.job_report.proofs.Common.{event_line, event_lines, flat_map, string_bytes, ◌++◌, ◌≡◌}
 use Rattle.job_report.proofs.LineLemmas.{left_at}
 use Rattle.job_report.proofs.lines.write_events.Given as goal
 

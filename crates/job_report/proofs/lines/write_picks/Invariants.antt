@@ -1,5 +1,4 @@
-use Rattle.std.proofs.Common.{◌≡◌, ◌++◌, drop, string_bytes}
-use Rattle.job_spec.specs.Prelude.{flat_map, pick_line}
+use Rattle.job_report.proofs.Common.{drop, flat_map, pick_line, string_bytes, ◌++◌, ◌≡◌}
 use Rattle.job_report.proofs.lines.write_picks.Given as goal
 
 abbrev pub invariant-loop-pick : goal.invariant-loop-pick

@@ -1,6 +1,4 @@
-use Rattle.std.proofs.Common.{◌≡◌, ◌++◌, drop, string_bytes}
-use Rattle.job_report.specs.TwinText.{played_lines}
-use Rattle.job_report.specs.Left.{ended_in, IsWithin, left_lines}
+use Rattle.job_report.proofs.Common.{IsWithin, drop, ended_in, left_lines, played_lines, string_bytes, ◌++◌, ◌≡◌}
 use Rattle.job_report.proofs.played.write_played.Given as goal
 
 abbrev pub invariant-loop-turn : goal.invariant-loop-turn

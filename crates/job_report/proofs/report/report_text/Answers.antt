@@ -1,5 +1,4 @@
-use Rattle.std.proofs.Common.{◌≡◌, ◌∙◌, ap, subst, IfOk}
-use Rattle.job_spec.specs.Prelude.{Script}
+use Rattle.job_report.proofs.Common.{IfOk, Script, ap, subst, ◌∙◌, ◌≡◌}
 use Rattle.job_report.proofs.LineLemmas.{report_is}
 use Rattle.job_report.proofs.report.report_text.Goals as goal
 

@@ -1,5 +1,4 @@
-use Rattle.std.proofs.Common.{◌≡◌, ◌∙◌, ap, subst, IfOk}
-use Rattle.job_report.specs.TwinText.{told_of}
+use Rattle.job_report.proofs.Common.{IfOk, ap, subst, told_of, ◌∙◌, ◌≡◌}
 use Rattle.job_report.proofs.Whole.{report_is}
 use Rattle.job_report.proofs.twins.twins_report.Goals as goal
 

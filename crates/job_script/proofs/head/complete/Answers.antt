@@ -1,6 +1,4 @@
-use Rattle.std.proofs.Common.{ap}
-use Rattle.job_model.specs.Prelude.{need}
-use Rattle.job_script.specs.declared.fault.ScriptFault.TheVariants.{MissingHead}
+use Rattle.job_script.proofs.Common.{MissingHead, ap, need}
 use Rattle.job_script.proofs.Whole.{completed}
 use Rattle.job_script.proofs.head.complete.Goals as goal
 

@@ -1,5 +1,4 @@
-use Rattle.std.proofs.Common.{◌≡◌, ◌++◌, ◌∷◌, [], ◌∙◌, sym, subst, codes, string_bytes, append_assoc, OnOk}
-use Rattle.path_keys.proofs.Common.{append-nil}
+use Rattle.job_script.proofs.Common.{OnOk, [], append-nil, append_assoc, codes, string_bytes, subst, sym, ◌++◌, ◌∙◌, ◌∷◌, ◌≡◌}
 use Rattle.job_script.proofs.head.put_dest.Goals as goal
 
 pub returns : goal.returns

@@ -1,6 +1,5 @@
-use Rattle.std.proofs.Common.{◌≡◌, ◌∙◌, Some, refl, ap, subst, string_bytes, OnOk, decimal}
+use Rattle.job_script.proofs.Common.{OnOk, Some, ap, decimal, path_text, refl, string_bytes, subst, unless, ◌∙◌, ◌≡◌}
 use Rattle.std.specs.Prelude.{codes, option_map}
-use Rattle.job_script.specs.HeadLines.{path_text, unless}
 use Rattle.job_script.proofs.PrintLines.{line, behind, no_more, head_is}
 use Rattle.job_script.proofs.head.put_head.Goals as goal
 

@@ -1,6 +1,4 @@
-use Rattle.std.proofs.Common.{◌≡◌, length}
-use Rattle.job_model.specs.Prelude.{list_all, is_full}
-use Rattle.words.specs.Parts.{parts_of}
+use Rattle.job_script.proofs.Common.{is_full, length, list_all, parts_of, ◌≡◌}
 use Rattle.job_script.proofs.paths.are_full.Given as goal
 
 abbrev pub invariant-loop-more : goal.invariant-loop-more

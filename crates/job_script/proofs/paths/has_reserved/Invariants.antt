@@ -1,6 +1,4 @@
-use Rattle.std.proofs.Common.{◌≡◌, length}
-use Rattle.job_model.specs.Prelude.{list_any, is_reserved}
-use Rattle.words.specs.Parts.{parts_of}
+use Rattle.job_script.proofs.Common.{is_reserved, length, list_any, parts_of, ◌≡◌}
 use Rattle.job_script.proofs.paths.has_reserved.Given as goal
 
 abbrev pub invariant-loop-more : goal.invariant-loop-more

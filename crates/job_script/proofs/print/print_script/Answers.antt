@@ -1,9 +1,5 @@
-use Rattle.std.proofs.Common.{◌≡◌, ◌≤◌, ◌∙◌, ℕ, List, length, Ok, ap, subst, IfOk}
-use Rattle.path_keys.proofs.Common.{IfOk-weaker}
-use Rattle.job_model.specs.Prelude.{IsLegal}
+use Rattle.job_script.proofs.Common.{IfOk, IfOk-weaker, IsLegal, List, Ok, ap, length, script_of, script_text, subst, ℕ, ◌∙◌, ◌≡◌, ◌≤◌}
 use Rattle.std.specs.FinMap as map
-use Rattle.job_script.specs.Print.{script_text}
-use Rattle.job_script.specs.Script.{script_of}
 use Rattle.job_script.proofs.PrintLines.{script_is}
 use Rattle.job_script.proofs.Whole.{read_again}
 use Rattle.job_script.proofs.print.print_script.Goals as goal

@@ -1,6 +1,4 @@
-use Rattle.std.proofs.Common.{◌≡◌, ◌++◌, map, drop, string_bytes}
-use Rattle.job_model.specs.Prelude.{text_of}
-use Rattle.job_script.specs.Print.{event_line}
+use Rattle.job_script.proofs.Common.{drop, event_line, map, string_bytes, text_of, ◌++◌, ◌≡◌}
 use Rattle.job_script.proofs.print_events.put_events.Given as goal
 
 abbrev pub invariant-loop-event : goal.invariant-loop-event

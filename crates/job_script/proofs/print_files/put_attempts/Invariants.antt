@@ -1,6 +1,4 @@
-use Rattle.std.proofs.Common.{◌≡◌, ◌++◌, string_bytes}
-use Rattle.job_model.specs.Prelude.{flat_map, text_of}
-use Rattle.job_script.specs.Print.{attempt_lines}
+use Rattle.job_script.proofs.Common.{attempt_lines, flat_map, string_bytes, text_of, ◌++◌, ◌≡◌}
 use Rattle.job_script.proofs.print_files.put_attempts.Given as goal
 
 abbrev pub invariant-loop-name : goal.invariant-loop-name

@@ -1,6 +1,4 @@
-use Rattle.std.proofs.Common.{◌≡◌, ◌++◌, map, string_bytes}
-use Rattle.job_model.specs.Prelude.{text_of}
-use Rattle.job_script.specs.Print.{file_line}
+use Rattle.job_script.proofs.Common.{file_line, map, string_bytes, text_of, ◌++◌, ◌≡◌}
 use Rattle.job_script.proofs.print_files.put_files.Given as goal
 
 abbrev pub invariant-loop-path : goal.invariant-loop-path

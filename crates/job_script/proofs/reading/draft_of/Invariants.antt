@@ -1,8 +1,6 @@
-use Rattle.std.proofs.Common.{◌≡◌, ◌≤◌, ◌+◌, length}
-use Rattle.job_model.specs.Prelude.{lines_of}
+use Rattle.job_script.proofs.Common.{length, lines_at, lines_of, nothing, ◌+◌, ◌≡◌, ◌≤◌}
 use denote.Shadow.{shadow}
 use denote.Text.{Utf8}
-use Rattle.job_script.specs.Script.{lines_at, nothing}
 use Rattle.job_script.proofs.reading.draft_of.Given as goal
 
 abbrev pub invariant-loop-rest : goal.invariant-loop-rest

@@ -1,5 +1,4 @@
-use Rattle.std.proofs.Common.{sym, ap, ◌∙◌}
-use Rattle.job_model.specs.Prelude.{is_utf8}
+use Rattle.job_script.proofs.Common.{ap, is_utf8, sym, ◌∙◌}
 use Rattle.job_script.proofs.Whole.{draft_legal}
 use Rattle.job_script.proofs.reading.script_in.Goals as goal
 

@@ -1,5 +1,4 @@
-use Rattle.std.proofs.Common.{◌≡◌, ◌≤◌, ◌-◌, length}
-use Rattle.job_states.specs.Turning.{Going}
+use Rattle.job_states.proofs.Common.{Going, length, ◌-◌, ◌≡◌, ◌≤◌}
 use Rattle.job_states.proofs.alone.step.Given as goal
 
 abbrev pub invariant-turns : goal.invariant-turns

@@ -1,8 +1,7 @@
-use Rattle.std.proofs.Common.{◌≡◌, ◌%◌, length, vec_len, refl, ap, sym, ◌∙◌, arith, rules}
+use Rattle.job_states.proofs.Common.{ap, arith, length, mod_below, refl, rules, sym, vec_len, ◌%◌, ◌∙◌, ◌≡◌}
 use Rattle.job_states.proofs.Choices.{picked, next_small, is_zero}
 use Rattle.job_states.proofs.MixTurns.{mixes_begin, mixes_on, mixes_end, mixes_die, mixes_over}
 use Rattle.job_states.proofs.mixing.mix.Goals as goal
-use Rattle.std.proofs.lemmas.Nat.{mod_below}
 
 pub mixing-init : goal.mixing-init
 mixing-init g c = (

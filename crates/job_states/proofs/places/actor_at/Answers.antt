@@ -1,5 +1,4 @@
-use Rattle.std.proofs.Common.{◌≡◌, ◌∙◌, ◌-◌, suc, Some, None, ap, arith}
-use Rattle.job_spec.specs.Prelude.{Script}
+use Rattle.job_states.proofs.Common.{None, Script, Some, ap, arith, suc, ◌-◌, ◌∙◌, ◌≡◌}
 use Rattle.job_states.proofs.PlaceLemmas.{stands_at}
 use Rattle.job_states.proofs.places.actor_at.Goals as goal
 

@@ -1,6 +1,4 @@
-use Rattle.std.proofs.Common.{ap, sym, subst, ◌∙◌, ◌+◌, Some, None}
-use Rattle.job_spec.specs.Prelude.{Actor, Script}
-use Rattle.job_states.specs.Stands.{IsPlace}
+use Rattle.job_states.proofs.Common.{Actor, IsPlace, None, Script, Some, ap, subst, sym, ◌+◌, ◌∙◌}
 use Rattle.job_states.proofs.PlaceLemmas.{driver_place, attempt_place, no_attempt_place, shell_place}
 use Rattle.job_states.proofs.places.place_of.Goals as goal
 

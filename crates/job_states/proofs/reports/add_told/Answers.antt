@@ -1,5 +1,4 @@
-use Rattle.std.proofs.Common.{◌∙◌, ◌&&◌, ◌||◌, ℕ, List, nat_eq, sym, ap}
-use Rattle.job_spec.specs.Prelude.{has_task}
+use Rattle.job_states.proofs.Common.{List, ap, has_task, nat_eq, sym, ℕ, ◌&&◌, ◌||◌, ◌∙◌}
 use Rattle.job_states.proofs.ReportLemmas.{added_task}
 use Rattle.job_states.proofs.reports.add_told.Goals as goal
 

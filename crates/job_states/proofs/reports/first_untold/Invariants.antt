@@ -1,5 +1,4 @@
-use Rattle.std.proofs.Common.{◌≡◌, drop}
-use Rattle.job_states.specs.Stands.{first_false}
+use Rattle.job_states.proofs.Common.{drop, first_false, ◌≡◌}
 use Rattle.job_states.proofs.reports.first_untold.Given as goal
 
 abbrev pub invariant-loop-task : goal.invariant-loop-task

@@ -1,6 +1,4 @@
-use Rattle.std.proofs.Common.{◌∙◌, false, get_or, slice_get, unwrap_or}
-use Rattle.job_spec.specs.Prelude.{has_task}
-use Rattle.std.proofs.lemmas.Option.{unwrap_or-slice_get}
+use Rattle.job_states.proofs.Common.{false, get_or, has_task, slice_get, unwrap_or, unwrap_or-slice_get, ◌∙◌}
 use Rattle.job_states.proofs.ReportLemmas.{grown, all_told}
 use Rattle.job_states.proofs.reports.told_tasks.Goals as goal
 

@@ -1,5 +1,4 @@
-use Rattle.std.proofs.Common.{◌≡◌, ◌&&◌, ℕ, false, nat_lt, slice_get, unwrap_or}
-use Rattle.job_spec.specs.Prelude.{has_task}
+use Rattle.job_states.proofs.Common.{false, has_task, nat_lt, slice_get, unwrap_or, ℕ, ◌&&◌, ◌≡◌}
 use Rattle.job_states.proofs.reports.told_tasks.Given as goal
 
 abbrev pub invariant-loop-task : goal.invariant-loop-task

@@ -1,6 +1,4 @@
-use Rattle.std.proofs.Common.{◌∙◌, ◌+◌, length, ap}
-use Rattle.job_spec.specs.Prelude.{Script, actors}
-use Rattle.job_states.specs.Standing.{fresh}
+use Rattle.job_states.proofs.Common.{Script, actors, ap, fresh, length, ◌+◌, ◌∙◌}
 use Rattle.job_states.proofs.PlaceLemmas.{length_actors}
 use Rattle.job_states.proofs.ReportLemmas.{all_same}
 use Rattle.job_states.proofs.states.all_fresh.Goals as goal

@@ -1,6 +1,4 @@
-use Rattle.std.proofs.Common.{◌≡◌, ◌∙◌, ◌+◌, ◌++◌, List, suc, ℕ, map, set, take, drop, get_or, ap, arith}
-use Rattle.job_states.specs.declared.standing.Standing.{Standing}
-use Rattle.job_states.specs.Standing.{unreported_in}
+use Rattle.job_states.proofs.Common.{List, Standing, ap, arith, drop, get_or, map, set, suc, take, unreported_in, ℕ, ◌++◌, ◌+◌, ◌∙◌, ◌≡◌}
 use Rattle.job_states.proofs.ToldLemmas.{mapped_more}
 use Rattle.job_states.proofs.states.unreport.Goals as goal
 

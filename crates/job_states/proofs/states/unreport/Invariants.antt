@@ -1,5 +1,4 @@
-use Rattle.std.proofs.Common.{◌≡◌, ◌++◌, map, take, drop}
-use Rattle.job_states.specs.Standing.{unreported_in}
+use Rattle.job_states.proofs.Common.{drop, map, take, unreported_in, ◌++◌, ◌≡◌}
 use Rattle.job_states.proofs.states.unreport.Given as goal
 
 abbrev pub invariant-loop-standing : goal.invariant-loop-standing

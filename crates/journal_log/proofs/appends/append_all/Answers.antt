@@ -1,5 +1,4 @@
-use Rattle.std.proofs.Common.{rules, ◌≡◌, [], Err, drop, refl, ◌∙◌}
-use Rattle.journal_log.specs.Changes.{changes}
+use Rattle.journal_log.proofs.Common.{Err, [], changes, drop, refl, rules, ◌∙◌, ◌≡◌}
 use Rattle.journal_log.proofs.Steps.{rest_of, loop_first, left_first, loop_more, left_more, stopped_at, left_at, some_grown}
 use Rattle.journal_log.proofs.appends.append_all.Goals as goal
 

@@ -1,6 +1,4 @@
-use Rattle.std.proofs.Common.{◌≡◌, take}
-use Rattle.journal_log.specs.Prelude.{CrashesLeave, IsBetween, Appended}
-use Rattle.journal_log.specs.Changes.{changes}
+use Rattle.journal_log.proofs.Common.{Appended, CrashesLeave, IsBetween, changes, take, ◌≡◌}
 use Rattle.journal_log.proofs.appends.append_all.Given as goal
 
 abbrev pub invariant-loop-entry : goal.invariant-loop-entry

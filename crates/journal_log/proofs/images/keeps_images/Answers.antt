@@ -1,7 +1,4 @@
-use Rattle.std.proofs.Common.{List, [], ◌∷◌, take, sym, subst, ◌∙◌}
-use Rattle.journal_log.specs.Prelude.{AllByRecursion, Entry, IsMade}
-use Rattle.proof_base.proofs.Common.{take_all}
-use Rattle.journal_log.specs.Changes.{changes}
+use Rattle.journal_log.proofs.Common.{AllByRecursion, Entry, IsMade, List, [], changes, subst, sym, take, take_all, ◌∙◌, ◌∷◌}
 use Rattle.journal_log.proofs.Journals.{changes_none}
 use Rattle.journal_log.proofs.Imaged.{all_joined, moments}
 use Rattle.journal_log.proofs.Steps.{changes_more}

@@ -1,6 +1,4 @@
-use Rattle.std.proofs.Common.{take}
-use Rattle.journal_log.specs.Prelude.{AllByRecursion, IsMade}
-use Rattle.journal_log.specs.Changes.{changes}
+use Rattle.journal_log.proofs.Common.{AllByRecursion, IsMade, changes, take}
 use Rattle.journal_log.proofs.images.keeps_images.Given as goal
 
 -- the changes of the entries so far

@@ -1,6 +1,4 @@
-use Rattle.std.proofs.Common.{◌≡◌, ◌&&◌, true, sym, ap, ◌∙◌}
-use Rattle.store_frame.specs.Prelude.{is_utf8, is_key_path}
-use Rattle.proof_base.proofs.Common.{is_utf8-from_IsUtf8}
+use Rattle.journal_log.proofs.Common.{ap, is_key_path, is_utf8, is_utf8-from_IsUtf8, sym, true, ◌&&◌, ◌∙◌, ◌≡◌}
 use Rattle.journal_log.proofs.images.key.Goals as goal
 
 pub returns : goal.returns

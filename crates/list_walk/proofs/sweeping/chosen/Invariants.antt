@@ -1,7 +1,4 @@
-use Rattle.std.proofs.Common.{◌≡◌, ◌++◌, drop}
-use Rattle.store_frame.specs.Prelude.{filter}
-use Rattle.list_walk.specs.Walks.{keys_on}
-use Rattle.list_walk.specs.Fitting.{AreKeys}
+use Rattle.list_walk.proofs.Common.{AreKeys, drop, filter, keys_on, ◌++◌, ◌≡◌}
 use Rattle.list_walk.proofs.sweeping.chosen.Given as goal
 
 -- the keys so far and those that are left are all

@@ -1,6 +1,4 @@
-use Rattle.std.proofs.Common.{◌+◌, ◌-◌, ap, ◌∙◌}
-use Rattle.s3_types.specs.Prelude.{is_key}
-use Rattle.log_format.specs.Reading.{text_at, list_at}
+use Rattle.log_format.proofs.Common.{ap, is_key, list_at, text_at, ◌+◌, ◌-◌, ◌∙◌}
 use Rattle.log_format.proofs.Loop.{in_front, one_more, ends}
 use Rattle.log_format.proofs.fields.keys_in.Goals as goal
 

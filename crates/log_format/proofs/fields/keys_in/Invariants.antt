@@ -1,6 +1,4 @@
-use Rattle.std.proofs.Common.{◌≡◌, ◌-◌}
-use Rattle.s3_types.specs.Prelude.{is_key}
-use Rattle.log_format.specs.Reading.{text_at, list_at}
+use Rattle.log_format.proofs.Common.{is_key, list_at, text_at, ◌-◌, ◌≡◌}
 use Rattle.log_format.proofs.Loop.{in_front}
 use Rattle.log_format.proofs.fields.keys_in.Given as goal
 

@@ -1,5 +1,4 @@
-use Rattle.std.proofs.Common.{◌+◌, ◌-◌, ap, ◌∙◌}
-use Rattle.log_format.specs.Reading.{named_at, list_at}
+use Rattle.log_format.proofs.Common.{ap, list_at, named_at, ◌+◌, ◌-◌, ◌∙◌}
 use Rattle.log_format.proofs.Loop.{in_front, one_more, ends}
 use Rattle.log_format.proofs.fields.parts_in.Goals as goal
 

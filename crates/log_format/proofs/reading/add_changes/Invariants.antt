@@ -1,6 +1,4 @@
-use Rattle.std.proofs.Common.{◌≡◌, ◌-◌, length}
-use Rattle.proof_base.proofs.Reading.{with_front}
-use Rattle.log_format.specs.Reading.{changes_at}
+use Rattle.log_format.proofs.Common.{changes_at, length, with_front, ◌-◌, ◌≡◌}
 use Rattle.log_format.proofs.reading.add_changes.Given as goal
 
 abbrev pub invariant-loop : goal.invariant-loop

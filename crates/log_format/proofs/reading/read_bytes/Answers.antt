@@ -1,7 +1,4 @@
-use Rattle.std.proofs.Common.{arith}
-use Rattle.proof_base.proofs.Reading.{found_so, only}
-use Rattle.log_format.specs.Fault.{wanting}
-use Rattle.log_format.specs.File.{StandsFor}
+use Rattle.log_format.proofs.Common.{StandsFor, arith, found_so, only, wanting}
 use Rattle.log_format.proofs.Files.{file_takes, file_again}
 use Rattle.log_format.proofs.reading.read_bytes.Goals as goal
 

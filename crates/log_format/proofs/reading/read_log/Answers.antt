@@ -1,8 +1,5 @@
-use Rattle.std.proofs.Common.{List, ℕ, subst, sym}
+use Rattle.log_format.proofs.Common.{Gives, List, StandsFor, held_in, subst, sym, ℕ}
 use Rattle.std.specs.Prelude.{IfOk}
-use Rattle.log_format.specs.Fault.{Gives}
-use Rattle.log_format.specs.File.{StandsFor}
-use Rattle.log_format.specs.Reading.{held_in}
 use Rattle.log_format.proofs.reading.read_log.Goals as goal
 
 pub returns-clause-exact : goal.returns-clause-exact

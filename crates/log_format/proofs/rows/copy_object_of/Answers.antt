@@ -1,5 +1,4 @@
-use Rattle.s3_types.specs.declared.request.Request.TheVariants.{CopyObject}
-use Rattle.s3_types.specs.Prelude.{is_key}
+use Rattle.log_format.proofs.Common.{CopyObject, is_key}
 use Rattle.log_format.specs.Reading.{copy_object_in, target_at, text_at}
 use Rattle.log_format.proofs.Behind.{row, fault}
 use Rattle.log_format.proofs.rows.copy_object_of.Goals as goal

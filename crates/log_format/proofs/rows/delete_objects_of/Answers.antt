@@ -1,5 +1,4 @@
-use Rattle.s3_types.specs.declared.request.Request.TheVariants.{DeleteObjects}
-use Rattle.s3_types.specs.Prelude.{is_bucket, is_key}
+use Rattle.log_format.proofs.Common.{DeleteObjects, is_bucket, is_key}
 use Rattle.log_format.specs.Reading.{delete_objects_in, text_at, counted_at}
 use Rattle.log_format.proofs.Behind.{row, fault}
 use Rattle.log_format.proofs.rows.delete_objects_of.Goals as goal

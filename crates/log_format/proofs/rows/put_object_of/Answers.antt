@@ -1,5 +1,4 @@
-use Rattle.s3_types.specs.Prelude.{w64}
-use Rattle.s3_types.specs.declared.request.Request.TheVariants.{PutObject}
+use Rattle.log_format.proofs.Common.{PutObject, w64}
 use Rattle.log_format.specs.Reading.{put_object_in, pair_at, target_at, upload_at, number_at, block_at, header_in}
 use Rattle.log_format.proofs.Behind.{row, fault}
 use Rattle.log_format.proofs.rows.put_object_of.Goals as goal

@@ -1,5 +1,4 @@
-use Rattle.s3_types.specs.declared.request.Request.TheVariants.{UploadPart}
-use Rattle.s3_types.specs.Prelude.{w32}
+use Rattle.log_format.proofs.Common.{UploadPart, w32}
 use Rattle.log_format.specs.Reading.{upload_part_in, pair_at, upload_at, number_at, block_at}
 use Rattle.log_format.proofs.Behind.{row, fault}
 use Rattle.log_format.proofs.rows.upload_part_of.Goals as goal

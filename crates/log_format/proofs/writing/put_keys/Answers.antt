@@ -1,5 +1,4 @@
-use Rattle.log_format.specs.Change.{IsKey}
-use Rattle.log_format.specs.Log.{block}
+use Rattle.log_format.proofs.Common.{IsKey, block}
 use Rattle.log_format.proofs.Loop.{one_written, one_legal}
 use Rattle.log_format.proofs.writing.put_keys.Goals as goal
 

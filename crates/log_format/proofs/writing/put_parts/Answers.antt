@@ -1,5 +1,4 @@
-use Rattle.log_format.specs.Change.{IsNamed}
-use Rattle.log_format.specs.Log.{named}
+use Rattle.log_format.proofs.Common.{IsNamed, named}
 use Rattle.log_format.proofs.Loop.{one_written, one_legal}
 use Rattle.log_format.proofs.writing.put_parts.Goals as goal
 

@@ -1,7 +1,4 @@
-use Rattle.std.proofs.Common.{◌≡◌, ◌++◌, drop}
-use Rattle.s3_types.specs.Prelude.{flat_map, AllByRecursion}
-use Rattle.log_format.specs.Change.{IsNamed}
-use Rattle.log_format.specs.Log.{named, counted}
+use Rattle.log_format.proofs.Common.{AllByRecursion, IsNamed, counted, drop, flat_map, named, ◌++◌, ◌≡◌}
 use Rattle.log_format.proofs.writing.put_parts.Given as goal
 
 abbrev pub invariant-loop-part : goal.invariant-loop-part

@@ -1,6 +1,4 @@
-use Rattle.std.proofs.Common.{◌∙◌, subst}
-use Rattle.proof_base.proofs.Common.{is_utf8-from_IsUtf8}
-use Rattle.log_format.specs.Change.{IsText}
+use Rattle.log_format.proofs.Common.{IsText, is_utf8-from_IsUtf8, subst, ◌∙◌}
 use Rattle.log_format.proofs.writing.utf8_of.Goals as goal
 
 pub returns-clause-utf8 : goal.returns-clause-utf8

@@ -1,6 +1,4 @@
-use Rattle.std.proofs.Common.{refl, ◌≡◌, ◌+◌, ◌∙◌, ap, sym, subst, ◌||◌, inl, inr, [], ◌<◌, ◌++◌, append_assoc, append-nil, ◌∷◌, length}
-use Rattle.machine.specs.Prelude.{step, retried, tells_worn, IsForetold}
-use Rattle.std.proofs.lemmas.Bool.{false≢true}
+use Rattle.machine.proofs.Common.{IsForetold, [], ap, append-nil, append_assoc, false≢true, inl, inr, length, refl, retried, step, subst, sym, tells_worn, ◌++◌, ◌+◌, ◌<◌, ◌||◌, ◌∙◌, ◌∷◌, ◌≡◌}
 use Rattle.machine.proofs.Counts.{counted_none, counted_then}
 use Rattle.machine.proofs.Runs.{told_more, driving_more, next_number, falls_step, told, is_run_more, work}
 use Rattle.machine.proofs.Tries.{tried_short}

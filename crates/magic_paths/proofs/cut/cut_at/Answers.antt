@@ -1,5 +1,4 @@
-use Rattle.std.proofs.Common.{◌≡◌, true, false, sym, ◌∙◌, rules}
-use Rattle.magic_paths.specs.Finals.{is_word}
+use Rattle.magic_paths.proofs.Common.{false, is_word, rules, sym, true, ◌∙◌, ◌≡◌}
 use Rattle.magic_paths.proofs.Walked.{begun, stepped, front_at, behind_at, has_word}
 use Rattle.magic_paths.proofs.cut.cut_at.Goals as goal
 

@@ -1,5 +1,4 @@
-use Rattle.std.proofs.Common.{ap, ◌∙◌}
-use Rattle.magic_paths.specs.Finals.{kept}
+use Rattle.magic_paths.proofs.Common.{ap, kept, ◌∙◌}
 use Rattle.magic_paths.proofs.Kept.{final_parts, final_is_key, some_parts}
 use Rattle.magic_paths.proofs.finals.final_parts.Goals as goal
 

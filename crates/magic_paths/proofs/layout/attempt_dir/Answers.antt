@@ -1,7 +1,4 @@
-use Rattle.std.proofs.Common.{ap, sym, ◌∙◌, arith}
-use Rattle.path_keys.specs.Paths.{is_key}
-use Rattle.path_keys.proofs.Keys.{key_from}
-use Rattle.magic_paths.specs.Layout.{attempt_key}
+use Rattle.magic_paths.proofs.Common.{ap, arith, attempt_key, is_key, key_from, sym, ◌∙◌}
 use Rattle.magic_paths.proofs.Elements.{attempt_key_elements, dest_elements}
 use Rattle.magic_paths.proofs.Lengths.{attempt_key_short}
 use Rattle.magic_paths.proofs.layout.attempt_dir.Goals as goal

@@ -1,7 +1,4 @@
-use Rattle.std.proofs.Common.{ap, ◌∙◌}
-use Rattle.s3_types.specs.Prelude.{is_key_path}
-use Rattle.path_keys.specs.Paths.{below}
-use Rattle.path_keys.proofs.Beneath.{key_path_from, below_elements}
+use Rattle.magic_paths.proofs.Common.{ap, below, below_elements, is_key_path, key_path_from, ◌∙◌}
 use Rattle.magic_paths.proofs.layout.file_key.Goals as goal
 
 pub new-requires-2 : goal.new-requires-2

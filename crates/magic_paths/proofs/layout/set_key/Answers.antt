@@ -1,8 +1,4 @@
-use Rattle.std.proofs.Common.{ap, sym, ◌∙◌, arith}
-use Rattle.s3_types.specs.Prelude.{is_key_path}
-use Rattle.path_keys.specs.Paths.{is_key}
-use Rattle.path_keys.proofs.Beneath.{key_path_from}
-use Rattle.magic_paths.specs.Layout.{set_key}
+use Rattle.magic_paths.proofs.Common.{ap, arith, is_key, is_key_path, key_path_from, set_key, sym, ◌∙◌}
 use Rattle.magic_paths.proofs.Elements.{set_key_elements, dest_elements}
 use Rattle.magic_paths.proofs.Lengths.{set_key_short}
 use Rattle.magic_paths.proofs.layout.set_key.Goals as goal

@@ -1,8 +1,4 @@
-use Rattle.std.proofs.Common.{ap, sym, ◌∙◌}
-use Rattle.s3_types.specs.Prelude.{is_key_path}
-use Rattle.path_keys.specs.Paths.{is_key}
-use Rattle.path_keys.proofs.Beneath.{key_path_from}
-use Rattle.magic_paths.specs.Layout.{success_key}
+use Rattle.magic_paths.proofs.Common.{ap, is_key, is_key_path, key_path_from, success_key, sym, ◌∙◌}
 use Rattle.magic_paths.proofs.Elements.{success_key_elements, dest_elements}
 use Rattle.magic_paths.proofs.Lengths.{success_key_short}
 use Rattle.magic_paths.proofs.layout.success_key.Goals as goal

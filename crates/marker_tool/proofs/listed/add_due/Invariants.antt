@@ -1,6 +1,4 @@
-use Rattle.std.proofs.Common.{◌≡◌, ◌++◌, drop}
-use Rattle.fs_ops.specs.Prelude.{filter}
-use Rattle.marker_tool.specs.Markers.{is_due}
+use Rattle.marker_tool.proofs.Common.{drop, filter, is_due, ◌++◌, ◌≡◌}
 use Rattle.marker_tool.proofs.listed.add_due.Given as goal
 
 abbrev pub invariant-loop-marker : goal.invariant-loop-marker

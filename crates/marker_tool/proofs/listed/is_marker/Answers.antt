@@ -1,8 +1,4 @@
-use Rattle.std.proofs.Common.{◌≡◌, ◌∙◌, true, false, Some, None, refl, sym, ap, arith}
-use Rattle.path_keys.proofs.Common.{strip_suffix_char}
-use Rattle.fs_ops.specs.Prelude.{is_marker}
-use Rattle.fs_tree.proofs.Begins.{marker_is}
-use Rattle.fs_tree.proofs.Above.{marker_ends}
+use Rattle.marker_tool.proofs.Common.{None, Some, ap, arith, false, is_marker, marker_ends, marker_is, refl, strip_suffix_char, sym, true, ◌∙◌, ◌≡◌}
 use Rattle.marker_tool.proofs.listed.is_marker.Goals as goal
 
 pub returns-in-Some : goal.returns-in-Some

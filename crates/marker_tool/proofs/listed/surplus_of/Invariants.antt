@@ -1,6 +1,4 @@
-use Rattle.std.proofs.Common.{◌≡◌, ◌++◌, map, drop}
-use Rattle.fs_ops.specs.Prelude.{filter}
-use Rattle.marker_tool.specs.Markers.{is_surplus}
+use Rattle.marker_tool.proofs.Common.{drop, filter, is_surplus, map, ◌++◌, ◌≡◌}
 use Rattle.marker_tool.proofs.listed.surplus_of.Given as goal
 
 abbrev pub invariant-loop-marker : goal.invariant-loop-marker

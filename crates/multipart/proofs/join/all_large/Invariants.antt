@@ -1,5 +1,4 @@
-use Rattle.std.proofs.Common.{◌≡◌, drop}
-use Rattle.s3_types.specs.Prelude.{list_all, is_large}
+use Rattle.multipart.proofs.Common.{drop, is_large, list_all, ◌≡◌}
 use Rattle.multipart.proofs.join.all_large.Given as goal
 
 abbrev pub invariant-loop-named : goal.invariant-loop-named

@@ -1,5 +1,4 @@
-use Rattle.std.proofs.Common.{◌≡◌, drop}
-use Rattle.s3_types.specs.Prelude.{list_all, is_sent, is_part_number}
+use Rattle.multipart.proofs.Common.{drop, is_part_number, is_sent, list_all, ◌≡◌}
 use Rattle.multipart.proofs.join.all_sent.Given as goal
 
 abbrev pub invariant-loop-named : goal.invariant-loop-named

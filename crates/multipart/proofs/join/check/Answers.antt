@@ -1,5 +1,4 @@
-use Rattle.std.proofs.Common.{◌≡◌, true}
-use Rattle.s3_types.specs.Prelude.{rises}
+use Rattle.multipart.proofs.Common.{rises, true, ◌≡◌}
 use Rattle.multipart.proofs.Numbered.{few}
 use Rattle.multipart.proofs.join.check.Goals as goal
 

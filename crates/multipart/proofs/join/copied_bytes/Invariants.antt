@@ -1,5 +1,4 @@
-use Rattle.std.proofs.Common.{◌≡◌, drop, ◌++◌}
-use Rattle.s3_types.specs.Prelude.{flat_map, bytes_of}
+use Rattle.multipart.proofs.Common.{bytes_of, drop, flat_map, ◌++◌, ◌≡◌}
 use Rattle.multipart.proofs.join.copied_bytes.Given as goal
 
 abbrev pub invariant-loop-named : goal.invariant-loop-named

@@ -1,5 +1,4 @@
-use Rattle.std.proofs.Common.{◌≡◌, drop}
-use Rattle.s3_types.specs.Prelude.{rises_from}
+use Rattle.multipart.proofs.Common.{drop, rises_from, ◌≡◌}
 use Rattle.multipart.proofs.join.rises_from.Given as goal
 
 abbrev pub invariant-loop-named : goal.invariant-loop-named

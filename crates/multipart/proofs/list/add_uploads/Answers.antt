@@ -1,7 +1,4 @@
-use Rattle.std.proofs.Common.{◌≡◌, ℕ, List, [], ◌∷◌, ◌++◌, false, true, ap, sym, ◌∙◌, subst, cond, append_assoc, rules}
-use Rattle.s3_types.specs.Prelude.{keys_of, begins}
-use Rattle.s3_types.specs.declared.request.UploadRef.{UploadRef}
-use Rattle.multipart.specs.Listing.{below, Follows, AreOwn}
+use Rattle.multipart.proofs.Common.{AreOwn, Follows, List, UploadRef, [], ap, append_assoc, begins, below, cond, false, keys_of, rules, subst, sym, true, ℕ, ◌++◌, ◌∙◌, ◌∷◌, ◌≡◌}
 use Rattle.multipart.proofs.Follow.{none_left, taken, no_more, follows_rest}
 use Rattle.multipart.proofs.list.add_uploads.Goals as goal
 

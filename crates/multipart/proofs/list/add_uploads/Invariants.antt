@@ -1,6 +1,4 @@
-use Rattle.std.proofs.Common.{◌≡◌, ◌≤◌, ◌++◌, length}
-use Rattle.s3_types.specs.Prelude.{keys_of}
-use Rattle.multipart.specs.Listing.{below, Follows, AreOwn}
+use Rattle.multipart.proofs.Common.{AreOwn, Follows, below, keys_of, length, ◌++◌, ◌≡◌, ◌≤◌}
 use Rattle.multipart.proofs.list.add_uploads.Given as goal
 
 abbrev pub invariant-loop-place : goal.invariant-loop-place

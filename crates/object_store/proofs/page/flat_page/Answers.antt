@@ -1,8 +1,4 @@
-use Rattle.std.proofs.Common.{◌≡◌, ℕ, List, [], ◌∷◌, ◌++◌, false, true, ap, sym, ◌∙◌, subst, cond, map, append_assoc, length, rules}
-use Rattle.store_frame.specs.Prelude.{filter, begins, PageEntry}
-use Rattle.object_store.specs.declared.objects.Held.{Held}
-use Rattle.object_store.specs.Flat.{single, below, Follows}
-use Rattle.object_store.specs.Held.{AreOwn}
+use Rattle.object_store.proofs.Common.{AreOwn, Follows, Held, List, PageEntry, [], ap, append_assoc, begins, below, cond, false, filter, length, map, rules, single, subst, sym, true, ℕ, ◌++◌, ◌∙◌, ◌∷◌, ◌≡◌}
 use Rattle.object_store.proofs.Flat.{none_left, taken, no_more, follows_rest}
 use Rattle.object_store.proofs.page.flat_page.Goals as goal
 

@@ -1,6 +1,4 @@
-use Rattle.std.proofs.Common.{◌≡◌, ◌≤◌, ◌++◌, length}
-use Rattle.object_store.specs.Flat.{below, Follows}
-use Rattle.object_store.specs.Held.{AreOwn}
+use Rattle.object_store.proofs.Common.{AreOwn, Follows, below, length, ◌++◌, ◌≡◌, ◌≤◌}
 use Rattle.object_store.proofs.page.flat_page.Given as goal
 
 -- the entries so far and those that are left are all

@@ -1,5 +1,4 @@
-use Rattle.std.proofs.Common.{◌≡◌}
-use Rattle.store_frame.specs.Prelude.{stem}
+use Rattle.object_store.proofs.Common.{stem, ◌≡◌}
 use Rattle.object_store.proofs.Scan.{from}
 use Rattle.object_store.proofs.page.stem_of.Given as goal
 

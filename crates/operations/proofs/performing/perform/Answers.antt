@@ -1,8 +1,4 @@
-use Rattle.std.proofs.Common.{◌≡◌, ◌∙◌, ap, sym, refl, ℕ, Ok, Err, subst, List, Result}
-use Rattle.machine.specs.Prelude.{Retried, fresh, retried, Tried, IsFaultBy, Entry}
-use Rattle.machine.specs.declared.retrying.Retrying.{Retrying}
-use Rattle.machine.specs.declared.driving.DriveStop.{DriveStop}
-use Rattle.operations.specs.declared.operation.Stage.{Stage}
+use Rattle.operations.proofs.Common.{DriveStop, Entry, Err, IsFaultBy, List, Ok, Result, Retried, Retrying, Stage, Tried, ap, fresh, refl, retried, subst, sym, ℕ, ◌∙◌, ◌≡◌}
 use Rattle.operations.proofs.Runs.{ready_start, performed, given, left_calm, nothing_done, tried_ok, tried_err, literal_ok, literal_err}
 use Rattle.operations.proofs.performing.perform.Goals as goal
 

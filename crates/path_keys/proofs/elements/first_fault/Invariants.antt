@@ -1,6 +1,4 @@
-use Rattle.std.proofs.Common.{◌≡◌, length}
-use Rattle.words.specs.Parts.{parts_of}
-use Rattle.path_keys.specs.Paths.{first_fault}
+use Rattle.path_keys.proofs.Common.{first_fault, length, parts_of, ◌≡◌}
 use Rattle.path_keys.proofs.elements.first_fault.Given as goal
 
 abbrev pub invariant-loop-fault : goal.invariant-loop-fault

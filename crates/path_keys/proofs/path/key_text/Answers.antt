@@ -1,6 +1,4 @@
-use Rattle.std.proofs.Common.{◌≡◌, None, sym, ap, ◌∙◌, Ok, arith}
-use Rattle.words.specs.Parts.{parts_of}
-use Rattle.path_keys.specs.Paths.{first_fault, is_key}
+use Rattle.path_keys.proofs.Common.{None, Ok, ap, arith, first_fault, is_key, parts_of, sym, ◌∙◌, ◌≡◌}
 use Rattle.path_keys.proofs.Faults.{text_too_long, text_fits, key_is}
 use Rattle.path_keys.proofs.path.key_text.Goals as goal
 

@@ -1,7 +1,5 @@
-use Rattle.std.proofs.Common.{◌≡◌, ◌≢◌, ℕ, List, ◌++◌, [], ◌∷◌, Some, None, Option, option_map, Bor, sym}
-use Rattle.s3_types.specs.Prelude.{MatchOption}
+use Rattle.path_keys.proofs.Common.{Bor, List, MatchOption, None, Option, Some, [], option_map, relative_in, sym, ℕ, ◌++◌, ◌∷◌, ◌≡◌, ◌≢◌}
 use Rattle.words.proofs.Common.{Decides-eqb, strip_prefix_is}
-use Rattle.path_keys.specs.Paths.{relative_in}
 use Rattle.path_keys.proofs.Beneath.{behind_some, behind_none, behind_other}
 use Rattle.path_keys.proofs.relatives.behind.Goals as goal
 

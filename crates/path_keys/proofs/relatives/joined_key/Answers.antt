@@ -1,6 +1,4 @@
-use Rattle.std.proofs.Common.{◌≡◌, ◌≤◌, length, None, ap, ◌∙◌, arith}
-use Rattle.words.specs.Parts.{parts_of}
-use Rattle.path_keys.specs.Paths.{first_fault, is_key, below}
+use Rattle.path_keys.proofs.Common.{None, ap, arith, below, first_fault, is_key, length, parts_of, ◌∙◌, ◌≡◌, ◌≤◌}
 use Rattle.path_keys.proofs.Beneath.{key_below}
 use Rattle.path_keys.proofs.relatives.joined_key.Goals as goal
 

@@ -1,8 +1,4 @@
-use Rattle.std.proofs.Common.{[], None, Some, ap, ◌∙◌, arith}
-use Rattle.words.proofs.Common.{split_parts}
-use Rattle.words.specs.Parts.{parts_of}
-use Rattle.words.proofs.Split.{part_from}
-use Rattle.words.proofs.Pieces.{others_from_bytes, one_part}
+use Rattle.path_keys.proofs.Common.{None, Some, [], ap, arith, one_part, others_from_bytes, part_from, parts_of, split_parts, ◌∙◌}
 use Rattle.path_keys.proofs.split.first_element.Goals as goal
 
 pub returns-in-Some-clause-parts : goal.returns-in-Some-clause-parts

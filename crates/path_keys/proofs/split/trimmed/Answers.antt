@@ -1,5 +1,4 @@
-use Rattle.std.proofs.Common.{None, arith}
-use Rattle.words.proofs.Common.{strip_suffix_char}
+use Rattle.path_keys.proofs.Common.{None, arith, strip_suffix_char}
 use Rattle.path_keys.proofs.Ends.{no_end}
 use Rattle.path_keys.proofs.split.trimmed.Goals as goal
 

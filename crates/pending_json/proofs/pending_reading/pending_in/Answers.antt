@@ -1,6 +1,4 @@
-use Rattle.std.proofs.Common.{Result, subst}
-use Rattle.pending_json.specs.Prelude.{view, Gives, Pending}
-use Rattle.pending_json.specs.declared.fault.RecordFault.{RecordFault}
+use Rattle.pending_json.proofs.Common.{Gives, Pending, RecordFault, Result, subst, view}
 use Rattle.pending_json.proofs.Whole.{pending_whole}
 use Rattle.pending_json.proofs.pending_reading.pending_in.Goals as goal
 

@@ -1,5 +1,4 @@
-use Rattle.std.proofs.Common.{◌≡◌, length, true}
-use Rattle.pending_json.specs.Prelude.{list_all, is_plain_tag}
+use Rattle.pending_json.proofs.Common.{is_plain_tag, length, list_all, true, ◌≡◌}
 use Rattle.pending_json.proofs.quick.plain_tags.Given as goal
 
 abbrev pub invariant-loop-item : goal.invariant-loop-item

@@ -1,5 +1,4 @@
-use Rattle.std.proofs.Common.{◌≡◌, List, ℕ, Ok, subst, sym}
-use Rattle.pending_json.specs.Reading.{set_of}
+use Rattle.pending_json.proofs.Common.{List, Ok, set_of, subst, sym, ℕ, ◌≡◌}
 use Rattle.pending_json.proofs.RoundTrip.{set_text}
 use Rattle.pending_json.proofs.Sent.{set_written}
 use Rattle.pending_json.proofs.quick.printed_set.Goals as goal

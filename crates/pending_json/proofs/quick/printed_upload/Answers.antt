@@ -1,5 +1,4 @@
-use Rattle.std.proofs.Common.{◌≡◌, List, ℕ, Ok, subst, sym}
-use Rattle.pending_json.specs.Reading.{pending_of}
+use Rattle.pending_json.proofs.Common.{List, Ok, pending_of, subst, sym, ℕ, ◌≡◌}
 use Rattle.pending_json.proofs.RoundTrip.{pending_text}
 use Rattle.pending_json.proofs.Sent.{pending_written}
 use Rattle.pending_json.proofs.quick.printed_upload.Goals as goal

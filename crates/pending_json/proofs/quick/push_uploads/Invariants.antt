@@ -1,5 +1,4 @@
-use Rattle.std.proofs.Common.{length}
-use Rattle.pending_json.specs.Prelude.{AllByRecursion, IsPending}
+use Rattle.pending_json.proofs.Common.{AllByRecursion, IsPending, length}
 use Rattle.pending_json.proofs.quick.push_uploads.Given as goal
 
 abbrev pub invariant-loop-alloc : goal.invariant-loop-alloc

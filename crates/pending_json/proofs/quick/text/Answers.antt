@@ -1,6 +1,4 @@
-use Rattle.std.proofs.Common.{◌≡◌, ◌∙◌, ap, true, sym, subst, List, ℕ, Option, IfSome}
-use Rattle.proof_base.proofs.Common.{is_utf8-from_IsUtf8}
-use Rattle.pending_json.specs.Prelude.{is_utf8}
+use Rattle.pending_json.proofs.Common.{IfSome, List, Option, ap, is_utf8, is_utf8-from_IsUtf8, subst, sym, true, ℕ, ◌∙◌, ◌≡◌}
 use Rattle.pending_json.proofs.Candidates.{copied_text}
 use Rattle.pending_json.proofs.quick.text.Goals as goal
 

@@ -1,6 +1,4 @@
-use Rattle.std.proofs.Common.{rules, refl}
-use Rattle.proof_base.proofs.Common.{on_ok_weaker}
-use Rattle.serde.proofs.Events.{WritesEach-more, WritesSeq-ends}
+use Rattle.pending_json.proofs.Common.{WritesEach-more, WritesSeq-ends, on_ok_weaker, refl, rules}
 use Rattle.pending_json.proofs.Sent.{WritesText, texts_sent, said_is}
 use Rattle.pending_json.proofs.sending.send_texts.Goals as goal
 

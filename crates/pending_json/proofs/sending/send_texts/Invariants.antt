@@ -1,5 +1,4 @@
-use Rattle.std.proofs.Common.{take}
-use Rattle.pending_json.specs.Prelude.{WritesEach}
+use Rattle.pending_json.proofs.Common.{WritesEach, take}
 use Rattle.pending_json.proofs.Sent.{WritesText}
 use Rattle.pending_json.proofs.sending.send_texts.Given as goal
 

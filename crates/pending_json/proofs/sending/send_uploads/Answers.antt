@@ -1,5 +1,4 @@
-use Rattle.proof_base.proofs.Common.{on_ok_weaker}
-use Rattle.pending_json.specs.Prelude.{SendsValue, pending_tree}
+use Rattle.pending_json.proofs.Common.{SendsValue, on_ok_weaker, pending_tree}
 use Rattle.pending_json.proofs.Sent.{seq_sent}
 use Rattle.pending_json.proofs.sending.send_uploads.Goals as goal
 

@@ -1,9 +1,5 @@
-use Rattle.std.proofs.Common.{◌≡◌, ◌+◌, List, ◌∷◌, drop, sym, ap, subst, ◌∙◌}
-use Rattle.proof_base.proofs.Common.{drop_more}
-use Rattle.pending_json.specs.Prelude.{view, items_view, Pending}
-use Rattle.proof_base.proofs.Reading.{with_front}
+use Rattle.pending_json.proofs.Common.{List, Pending, ap, drop, drop_more, items_view, pendings_in, subst, sym, view, with_front, ◌+◌, ◌∙◌, ◌∷◌, ◌≡◌}
 use Rattle.serde_json.specs.declared.value.Value.{Value}
-use Rattle.pending_json.specs.Reading.{pendings_in}
 use Rattle.pending_json.proofs.Loop.{one_more}
 use Rattle.pending_json.proofs.set_reading.pendings_in.Goals as goal
 

@@ -1,7 +1,4 @@
-use Rattle.std.proofs.Common.{◌≡◌, drop}
-use Rattle.pending_json.specs.Prelude.{items_view}
-use Rattle.proof_base.proofs.Reading.{with_front}
-use Rattle.pending_json.specs.Reading.{pendings_in}
+use Rattle.pending_json.proofs.Common.{drop, items_view, pendings_in, with_front, ◌≡◌}
 use Rattle.pending_json.proofs.set_reading.pendings_in.Given as goal
 
 abbrev pub invariant-loop-value : goal.invariant-loop-value

@@ -1,5 +1,4 @@
-use Rattle.std.proofs.Common.{◌≡◌, ◌==◌, drop}
-use Rattle.pending_json.specs.Prelude.{sum}
+use Rattle.pending_json.proofs.Common.{drop, sum, ◌==◌, ◌≡◌}
 use Rattle.pending_json.proofs.sizes.fit.Given as goal
 
 abbrev pub invariant-loop-size : goal.invariant-loop-size

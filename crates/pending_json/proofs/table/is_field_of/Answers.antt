@@ -1,5 +1,4 @@
-use Rattle.std.proofs.Common.{◌∙◌}
-use Rattle.pending_json.specs.Reading.{field_names}
+use Rattle.pending_json.proofs.Common.{field_names, ◌∙◌}
 use Rattle.pending_json.specs.declared.table.Table.TheVariants as tables
 use Rattle.pending_json.proofs.Candidates.{among}
 use Rattle.pending_json.proofs.table.is_field_of.Goals as goal

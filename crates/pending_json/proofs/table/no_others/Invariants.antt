@@ -1,5 +1,4 @@
-use Rattle.std.proofs.Common.{◌≡◌}
-use Rattle.pending_json.specs.Prelude.{only_fields, is_field_of}
+use Rattle.pending_json.proofs.Common.{is_field_of, only_fields, ◌≡◌}
 use Rattle.serde_json.specs.View.{members_view}
 use Rattle.pending_json.proofs.table.no_others.Given as goal
 

@@ -1,5 +1,4 @@
-use Rattle.std.proofs.Common.{◌≡◌, ◌++◌, drop, option_map}
-use Rattle.pending_json.specs.Prelude.{items_view, all_of, as_tag}
+use Rattle.pending_json.proofs.Common.{all_of, as_tag, drop, items_view, option_map, ◌++◌, ◌≡◌}
 use Rattle.pending_json.proofs.tags.tags.Given as goal
 
 abbrev pub invariant-loop-value : goal.invariant-loop-value

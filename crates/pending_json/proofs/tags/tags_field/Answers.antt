@@ -1,5 +1,4 @@
-use Rattle.std.proofs.Common.{sym, ◌∙◌}
-use Rattle.pending_json.specs.Prelude.{items_view}
+use Rattle.pending_json.proofs.Common.{items_view, sym, ◌∙◌}
 use Rattle.pending_json.proofs.Values.{tags_pass}
 use Rattle.pending_json.proofs.tags.tags_field.Goals as goal
 

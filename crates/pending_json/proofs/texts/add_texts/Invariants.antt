@@ -1,5 +1,4 @@
-use Rattle.std.proofs.Common.{◌≡◌, ◌++◌, drop, option_map}
-use Rattle.pending_json.specs.Prelude.{as_str, items_view, all_of}
+use Rattle.pending_json.proofs.Common.{all_of, as_str, drop, items_view, option_map, ◌++◌, ◌≡◌}
 use Rattle.pending_json.proofs.texts.add_texts.Given as goal
 
 abbrev pub invariant-loop-value : goal.invariant-loop-value

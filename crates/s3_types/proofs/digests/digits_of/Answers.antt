@@ -1,5 +1,4 @@
-use Rattle.std.proofs.Common.{◌≡◌, true, subst, sym, List, ℕ}
-use Rattle.s3_types.specs.Prelude.{list_all, is_hex}
+use Rattle.s3_types.proofs.Common.{List, is_hex, list_all, subst, sym, true, ℕ, ◌≡◌}
 use Rattle.s3_types.proofs.Digits.{encoded_hex}
 use Rattle.s3_types.proofs.digests.digits_of.Goals as goal
 

@@ -1,7 +1,4 @@
-use Rattle.std.proofs.Common.{take}
-use Rattle.s3_types.specs.Prelude.{flat_map}
-use Rattle.md5.specs.Md5.{Holds}
-use Rattle.s3_types.specs.Tags.{digest_of}
+use Rattle.s3_types.proofs.Common.{Holds, digest_of, flat_map, take}
 use Rattle.s3_types.proofs.digests.joined_tag.Given as goal
 
 -- the hasher holds the digests so far

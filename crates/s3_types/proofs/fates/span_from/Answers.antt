@@ -1,6 +1,5 @@
-use Rattle.std.proofs.Common.{ℕ, ap, ◌∙◌, sym, List}
+use Rattle.s3_types.proofs.Common.{List, Span, ap, sym, ℕ, ◌∙◌}
 use Rattle.s3_types.specs.Prelude.{slice_get}
-use Rattle.s3_types.specs.declared.fates.Span.{Span}
 use Rattle.s3_types.proofs.Spans.{first_from}
 use Rattle.s3_types.proofs.fates.span_from.Goals as goal
 

@@ -1,5 +1,4 @@
-use Rattle.std.proofs.Common.{◌≡◌, length}
-use Rattle.s3_types.specs.Prelude.{are_elements}
+use Rattle.s3_types.proofs.Common.{are_elements, length, ◌≡◌}
 use Rattle.s3_types.proofs.names.are_elements.Given as goal
 
 abbrev pub invariant-loop-more : goal.invariant-loop-more

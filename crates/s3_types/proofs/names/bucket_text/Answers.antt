@@ -1,5 +1,4 @@
-use Rattle.std.proofs.Common.{◌≡◌, true, sym, ◌∙◌}
-use Rattle.s3_types.specs.Prelude.{is_bucket}
+use Rattle.s3_types.proofs.Common.{is_bucket, sym, true, ◌∙◌, ◌≡◌}
 use Rattle.s3_types.proofs.Utf8.{bucket_utf8}
 use Rattle.s3_types.proofs.names.bucket_text.Goals as goal
 

@@ -1,12 +1,5 @@
-use Rattle.std.proofs.Common.{◌≡◌, ◌≤◌, ◌∙◌, ℕ, true, false, None, ap, length, sym, subst}
-use Rattle.fs_ops.specs.Prelude.{Scene, opening, moment, IsHonest, Shell}
-use Rattle.bucket_ops.specs.Prelude.{AreAnswered, AreBy}
-use Rattle.journal_log.specs.Prelude.{AreBelow}
+use Rattle.s3a_shell.proofs.Common.{AreAnswered, AreBelow, AreBy, Does, IsHonest, MayStandAt, None, OnlyIn, Scene, Shell, ap, bucket_in, ended_by, false, has_changed, length, moment, only_looks, opening, subst, sym, true, upload_at, ℕ, ◌∙◌, ◌≡◌, ◌≤◌}
 use Rattle.s3a_shell.specs.declared.obeying.ShellEnd.{ShellEnd}
-use Rattle.s3a_shell.specs.Doings.{only_looks, Does, MayStandAt}
-use Rattle.store_frame.specs.Held.{upload_at}
-use Rattle.s3a_shell.specs.Sendings.{has_changed}
-use Rattle.s3a_shell.specs.Stays.{OnlyIn, bucket_in, ended_by}
 use Rattle.s3a_shell.proofs.Ending.{all_moments, all_by, all_answered, all_honest, did_at, only_at, ended_at, undone_at, same_at, content_at}
 use Rattle.s3a_shell.proofs.obeying.shell.Goals as goal
 

@@ -1,10 +1,7 @@
-use Rattle.std.proofs.Common.{◌≡◌, sym, subst}
-use Rattle.durable_store.specs.Works.{IsPlain}
+use Rattle.s3a_shell.proofs.Common.{DoneOn, IfOk-weaker, IsPlain, IsWork, init_work, subst, sym, ◌≡◌}
 use Rattle.durable_store.specs.Doing.{work_in}
-use Rattle.s3a_shell.specs.Commanded.{init_work, DoneOn, IsWork}
 use Rattle.s3a_shell.proofs.Plain.{init_plain, work_plain, not_init}
 use Rattle.s3a_shell.proofs.works.work_of.Goals as goal
-use Rattle.std.proofs.lemmas.Result.{IfOk-weaker}
 
 pub returns-in-Init-clause-plain : goal.returns-in-Init-clause-plain
 returns-in-Init-clause-plain c =

@@ -1,5 +1,4 @@
-use Rattle.std.proofs.Common.{arith, rules}
-use Rattle.job_spec.proofs.Common.{length-take}
+use Rattle.s3a_top.proofs.Common.{arith, length-take, rules}
 use Rattle.s3a_top.proofs.Pieces.{full_read, ended_read, more_taken}
 use Rattle.s3a_top.proofs.input.read_input.Goals as goal
 

@@ -1,10 +1,5 @@
-use Rattle.std.proofs.Common.{Err, refl, sym, subst}
-use Rattle.durable_job.specs.declared.jobs.Jobs.{Jobs}
-use Rattle.s3a_top.specs.Plays.{IsFinal, JobBroke}
-use Rattle.s3a_top.specs.Workings.{Counted}
-use Rattle.s3a_top.specs.declared.stop.Stop.{Stop}
+use Rattle.s3a_top.proofs.Common.{Counted, Err, IsFinal, JobBroke, Jobs, Stop, of_shelf, refl, subst, sym}
 use Rattle.s3a_top.specs.declared.stop.Stop.TheVariants.{Image, NoMemory}
-use Rattle.s3a_top.specs.Stops.{of_shelf}
 use Rattle.s3a_top.proofs.Crashing.{opens_so}
 use Rattle.s3a_top.proofs.Playing.{over_of}
 use Rattle.s3a_top.proofs.Verdicts.{jobs_final}

@@ -1,6 +1,4 @@
-use Rattle.std.proofs.Common.{ap, ◌∙◌}
-use Rattle.job_spec.specs.Prelude.{Content, apply_store, MakeBucket}
-use Rattle.durable_job.specs.Jobs.{dest_of}
+use Rattle.s3a_top.proofs.Common.{Content, MakeBucket, ap, apply_store, dest_of, ◌∙◌}
 use Rattle.s3a_top.proofs.Beginning.{new_image}
 use Rattle.s3a_top.proofs.jobs.new_store.Goals as goal
 

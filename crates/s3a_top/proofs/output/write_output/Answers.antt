@@ -1,5 +1,4 @@
-use Rattle.std.proofs.Common.{List, ℕ, Option, rules, sym, subst}
-use Rattle.s3a_top.specs.Bytes.{WritesSome}
+use Rattle.s3a_top.proofs.Common.{List, Option, WritesSome, rules, subst, sym, ℕ}
 use Rattle.s3a_top.proofs.Pieces.{IsWrittenSoFar, more_written, some_written, on_error}
 use Rattle.s3a_top.proofs.output.write_output.Goals as goal
 

@@ -1,5 +1,4 @@
-use Rattle.std.proofs.Common.{Bool, IfOk, IfErr, sym, subst}
-use Rattle.s3a_top.specs.Reads.{AreJobsIn, IsNone}
+use Rattle.s3a_top.proofs.Common.{AreJobsIn, Bool, IfErr, IfOk, IsNone, subst, sym}
 use Rattle.s3a_top.proofs.script.jobs_in.Goals as goal
 
 pub returns-then-both-clause-jobs : goal.returns-then-both-clause-jobs

@@ -1,9 +1,5 @@
-use Rattle.std.proofs.Common.{ℕ, List, refl, sym, subst}
-use Rattle.exit_status.specs.Statuses.{code}
+use Rattle.s3a_top.proofs.Common.{Answer, IsWorked, List, Tells, code, refl, subst, sym, ℕ}
 use Rattle.durable_store.specs.Doing.{work_in}
-use Rattle.durable_store.specs.Outcomes.{Tells}
-use Rattle.durable_store.specs.declared.work.Answer.{Answer}
-use Rattle.s3a_top.specs.Statuses.{IsWorked}
 use Rattle.s3a_top.specs.declared.stop.Stop.TheVariants.{NoMemory}
 use Rattle.s3a_top.proofs.Telling.{counted_done, counted_none, counted_bytes}
 use Rattle.s3a_top.proofs.Obeying.{answer_own, over_of, wanting_reason}

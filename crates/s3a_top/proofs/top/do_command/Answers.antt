@@ -1,7 +1,4 @@
-use Rattle.std.proofs.Common.{ℕ, Err, refl, sym, subst, ◌∙◌}
-use Rattle.durable_store.specs.declared.held.Held.{Held}
-use Rattle.s3a_top.specs.Workings.{Counted, Goes}
-use Rattle.s3a_top.specs.declared.stop.Stop.{Stop}
+use Rattle.s3a_top.proofs.Common.{Counted, Err, Goes, Held, Stop, refl, subst, sym, ℕ, ◌∙◌}
 use Rattle.s3a_top.proofs.Crashing.{as_found}
 use Rattle.s3a_top.proofs.Telling.{counted_shelf, load_counts, reads_less}
 use Rattle.s3a_top.proofs.Halting.{load_halted}

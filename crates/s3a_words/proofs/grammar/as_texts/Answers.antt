@@ -1,5 +1,4 @@
-use Rattle.std.proofs.Common.{◌∙◌, List, ℕ, rules}
-use Rattle.path_keys.proofs.Common.{IfOk-weaker}
+use Rattle.s3a_words.proofs.Common.{IfOk-weaker, List, rules, ℕ, ◌∙◌}
 use Rattle.std.proofs.lemmas.Iterator.{YieldsList-from_slice, YieldsList-from_map_by}
 use Rattle.std.proofs.lemmas.Iterator.Consumers.{map_from_collect}
 use Rattle.std.proofs.lemmas.List.{map-id}

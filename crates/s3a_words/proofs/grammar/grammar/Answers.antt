@@ -1,8 +1,4 @@
-use Rattle.std.proofs.Common.{◌≡◌, ◌∙◌, ap, ap₂, codes, rules, true}
-use Rattle.path_keys.proofs.Common.{IfOk-weaker}
-use Rattle.clap.specs.Words.{app_of, new_rule, rule_of, with_rule}
-use Rattle.clap.specs.Simple.{app_of_fields, on_top}
-use Rattle.s3a_words.specs.Grammar.{bare, command_rule, grammar}
+use Rattle.s3a_words.proofs.Common.{IfOk-weaker, ap, app_of, app_of_fields, ap₂, bare, codes, command_rule, grammar, new_rule, on_top, rule_of, rules, true, with_rule, ◌∙◌, ◌≡◌}
 use Rattle.s3a_words.proofs.grammar.grammar.Goals as goal
 
 pub returns : goal.returns

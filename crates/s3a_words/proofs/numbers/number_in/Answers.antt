@@ -1,6 +1,4 @@
-use Rattle.std.proofs.Common.{◌≡◌, ◌∙◌, sym, ap, arith, rules, string_bytes}
-use Rattle.s3_types.specs.Prelude.{decimal}
-use Rattle.std.proofs.lemmas.Fmt.{parse-decimal}
+use Rattle.s3a_words.proofs.Common.{ap, arith, decimal, parse-decimal, rules, string_bytes, sym, ◌∙◌, ◌≡◌}
 use Rattle.s3a_words.proofs.Decimals.{none_written, decimal_written, writes_decimals}
 use Rattle.s3a_words.proofs.numbers.number_in.Goals as goal
 

@@ -1,11 +1,5 @@
-use Rattle.std.proofs.Common.{◌≡◌, rules, ℕ, List, Option, None, Some, Ok, Err, refl, sym, ap, subst, ◌∙◌}
-use Rattle.s3_types.specs.Prelude.{text_cmp, text_total, Fails, is_bucket, BucketContent, Buckets, Content}
+use Rattle.store_image.proofs.Common.{BucketContent, Buckets, Content, Err, Fails, IsFresh, List, None, Ok, Option, Some, ap, bucket_at, gives_fault, is_bucket, made, made_fault, name_at, refl, rules, subst, sym, text_cmp, text_total, wanting, ℕ, ◌∙◌, ◌≡◌}
 use Rattle.std.specs.FinMap as fin
-use Rattle.proof_base.specs.Reading.{made}
-use Rattle.proof_base.proofs.Reading.{gives_fault, made_fault}
-use Rattle.s3_service.specs.Ids.{IsFresh}
-use Rattle.store_image.specs.Fault.{wanting}
-use Rattle.store_image.specs.Reading.{name_at, bucket_at}
 use Rattle.store_image.proofs.Loop.{first_step, one_more, last_step, restored, key_fails, value_fails}
 use Rattle.store_image.proofs.Maps.{IsFree, free_empty, still_free}
 use Rattle.store_image.proofs.reading.buckets_of.Goals as goal

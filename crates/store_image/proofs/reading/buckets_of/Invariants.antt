@@ -1,6 +1,4 @@
-use Rattle.std.proofs.Common.{◌≡◌, ◌-◌}
-use Rattle.s3_types.specs.Prelude.{text_cmp, is_bucket}
-use Rattle.store_image.specs.Reading.{name_at, bucket_at, rising_at, map_at}
+use Rattle.store_image.proofs.Common.{bucket_at, is_bucket, map_at, name_at, rising_at, text_cmp, ◌-◌, ◌≡◌}
 use Rattle.store_image.proofs.Loop.{built}
 use Rattle.store_image.proofs.Maps.{IsFree}
 use Rattle.store_image.proofs.reading.buckets_of.Given as goal

@@ -1,9 +1,4 @@
-use Rattle.std.proofs.Common.{◌≡◌, arith}
-use Rattle.s3_types.specs.Prelude.{Content}
-use Rattle.proof_base.proofs.Reading.{found_so, only}
-use Rattle.store_image.specs.Content.{IsContent}
-use Rattle.store_image.specs.Fault.{wanting}
-use Rattle.store_image.specs.Image.{image}
+use Rattle.store_image.proofs.Common.{Content, IsContent, arith, found_so, image, only, wanting, ◌≡◌}
 use Rattle.store_image.proofs.Whole.{content_takes, read_again, one}
 use Rattle.store_image.proofs.reading.decode.Goals as goal
 

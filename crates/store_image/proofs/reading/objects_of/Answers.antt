@@ -1,8 +1,4 @@
-use Rattle.std.proofs.Common.{◌≡◌, rules, Some, Err}
-use Rattle.s3_types.specs.Prelude.{is_key}
-use Rattle.proof_base.proofs.Reading.{gives_fault}
-use Rattle.store_image.specs.Fault.{wanting}
-use Rattle.store_image.specs.Reading.{name_at, object_at}
+use Rattle.store_image.proofs.Common.{Err, Some, gives_fault, is_key, name_at, object_at, rules, wanting, ◌≡◌}
 use Rattle.store_image.proofs.Loop.{first_step, one_more, last_step, value_fails}
 use Rattle.store_image.proofs.reading.objects_of.Goals as goal
 

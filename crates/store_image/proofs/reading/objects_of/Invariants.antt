@@ -1,6 +1,4 @@
-use Rattle.std.proofs.Common.{◌≡◌, ◌-◌}
-use Rattle.s3_types.specs.Prelude.{is_key}
-use Rattle.store_image.specs.Reading.{name_at, object_at, rising_at, map_at}
+use Rattle.store_image.proofs.Common.{is_key, map_at, name_at, object_at, rising_at, ◌-◌, ◌≡◌}
 use Rattle.store_image.proofs.Loop.{built}
 use Rattle.store_image.proofs.reading.objects_of.Given as goal
 

@@ -1,10 +1,5 @@
-use Rattle.std.proofs.Common.{◌≡◌, Option, Some, Ok, ap, subst, sym, refl, ◌∙◌, nat_cmp}
-use Rattle.s3_types.specs.Prelude.{IsSome, w64, Parts, Upload}
-use Rattle.proof_base.proofs.Common.{nat_cmp_total}
+use Rattle.store_image.proofs.Common.{IsSome, Ok, Option, Parts, Some, Upload, ap, block_at, insert_same, made, nat_cmp, nat_cmp_total, part_number_at, refl, subst, sym, w64, ◌∙◌, ◌≡◌}
 use Rattle.std.specs.FinMap as fin
-use Rattle.proof_base.specs.Reading.{made}
-use Rattle.proof_base.proofs.Tree.{insert_same}
-use Rattle.store_image.specs.Reading.{part_number_at, block_at}
 use Rattle.store_image.proofs.Loop.{first_step, one_more, last_step}
 use Rattle.store_image.proofs.Maps.{held_live, part_held}
 use Rattle.store_image.proofs.reading.parts_of.Goals as goal

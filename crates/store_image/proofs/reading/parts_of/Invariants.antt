@@ -1,7 +1,5 @@
-use Rattle.std.proofs.Common.{◌≡◌, ◌-◌}
-use Rattle.s3_types.specs.Prelude.{w64, Parts}
+use Rattle.store_image.proofs.Common.{Parts, block_at, map_at, part_number_at, rising_at, w64, ◌-◌, ◌≡◌}
 use Rattle.std.specs.FinMap as fin
-use Rattle.store_image.specs.Reading.{part_number_at, block_at, rising_at, map_at}
 use Rattle.store_image.proofs.Loop.{built}
 use Rattle.store_image.proofs.reading.parts_of.Given as goal
 

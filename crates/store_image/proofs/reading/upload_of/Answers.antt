@@ -1,7 +1,5 @@
-use Rattle.std.proofs.Common.{◌≡◌, ap, ◌∙◌, rules, subst, ℕ, List}
-use Rattle.s3_types.specs.Prelude.{Upload}
+use Rattle.store_image.proofs.Common.{GivesBy, List, Upload, ap, rules, subst, ℕ, ◌∙◌, ◌≡◌}
 use Rattle.std.specs.FinMap as fin
-use Rattle.store_image.specs.Fault.{GivesBy}
 use Rattle.store_image.proofs.Loop.{upload_is}
 use Rattle.store_image.proofs.Maps.{held_at}
 use Rattle.store_image.proofs.reading.upload_of.Goals as goal

@@ -1,11 +1,5 @@
-use Rattle.std.proofs.Common.{◌≡◌, rules, None, Some, Err, refl, sym, subst, nat_cmp}
-use Rattle.proof_base.proofs.Common.{nat_cmp_total}
-use Rattle.s3_types.specs.Prelude.{Upload}
+use Rattle.store_image.proofs.Common.{Err, IsFresh, None, Some, Upload, gives_fault, id_at, nat_cmp, nat_cmp_total, refl, rules, subst, sym, unmade, unmade_fault, upload_at, wanting, ◌≡◌}
 use Rattle.std.specs.FinMap as fin
-use Rattle.proof_base.proofs.Reading.{gives_fault, unmade, unmade_fault}
-use Rattle.s3_service.specs.Ids.{IsFresh}
-use Rattle.store_image.specs.Fault.{wanting}
-use Rattle.store_image.specs.Reading.{id_at, upload_at}
 use Rattle.store_image.proofs.Loop.{first_step, one_more, last_step, key_fails, value_fails}
 use Rattle.store_image.proofs.Maps.{IsFree, free_empty, still_free, from_id, still_fresh}
 use Rattle.store_image.proofs.reading.uploads_of.Goals as goal

@@ -1,6 +1,4 @@
-use Rattle.std.proofs.Common.{◌≡◌, ◌-◌, nat_cmp}
-use Rattle.s3_service.specs.Ids.{IsFresh}
-use Rattle.store_image.specs.Reading.{id_at, upload_at, rising_at, map_at}
+use Rattle.store_image.proofs.Common.{IsFresh, id_at, map_at, nat_cmp, rising_at, upload_at, ◌-◌, ◌≡◌}
 use Rattle.store_image.proofs.Loop.{built}
 use Rattle.store_image.proofs.Maps.{IsFree}
 use Rattle.store_image.proofs.reading.uploads_of.Given as goal

@@ -1,6 +1,4 @@
-use Rattle.std.proofs.Common.{◌≡◌, ◌++◌}
-use Rattle.s3_types.specs.Prelude.{w64, flat_map}
-use Rattle.store_image.specs.Image.{counted, bucket}
+use Rattle.store_image.proofs.Common.{bucket, counted, flat_map, w64, ◌++◌, ◌≡◌}
 use Rattle.store_image.proofs.writing.put_buckets.Given as goal
 
 abbrev pub invariant-loop-held : goal.invariant-loop-held

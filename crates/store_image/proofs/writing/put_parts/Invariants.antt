@@ -1,6 +1,4 @@
-use Rattle.std.proofs.Common.{◌≡◌, ◌++◌, true}
-use Rattle.s3_types.specs.Prelude.{w16, flat_map, AllByRecursion, is_part_number}
-use Rattle.store_image.specs.Image.{counted, part}
+use Rattle.store_image.proofs.Common.{AllByRecursion, counted, flat_map, is_part_number, part, true, w16, ◌++◌, ◌≡◌}
 use Rattle.store_image.proofs.writing.put_parts.Given as goal
 
 abbrev pub invariant-loop-number : goal.invariant-loop-number

@@ -1,6 +1,4 @@
-use Rattle.std.proofs.Common.{◌≡◌, ◌++◌}
-use Rattle.s3_types.specs.Prelude.{w64, flat_map}
-use Rattle.store_image.specs.Image.{counted, upload}
+use Rattle.store_image.proofs.Common.{counted, flat_map, upload, w64, ◌++◌, ◌≡◌}
 use Rattle.store_image.proofs.writing.put_uploads.Given as goal
 
 abbrev pub invariant-loop-live : goal.invariant-loop-live

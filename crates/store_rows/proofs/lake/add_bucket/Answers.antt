@@ -1,6 +1,5 @@
-use Rattle.std.proofs.Common.{◌∙◌, ap}
-use Rattle.s3_types.specs.Prelude.{get, get-empty}
-use Rattle.fs_ops.specs.Prelude.{nat_cmp, text_cmp, Content, Uploads}
+use Rattle.std.proofs.Common.{ap, ◌∙◌}
+use Rattle.s3_types.specs.Prelude.{Content, Uploads, get, get-empty, nat_cmp, text_cmp}
 use Rattle.store_rows.proofs.lake.add_bucket.Goals as goal
 
 pub add_bucket-requires-clause-absent : goal.add_bucket-requires-clause-absent

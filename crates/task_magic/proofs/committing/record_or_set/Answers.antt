@@ -1,7 +1,5 @@
-use Rattle.task_requests.proofs.Steps.{ok_as}
+use Rattle.task_magic.proofs.Common.{AreReady, ok_as, subst}
 use Rattle.task_magic.proofs.Committed.{asks_record, asks_set, no_place, all_taken}
-use Rattle.task_requests.specs.Publishing.{AreReady}
-use Rattle.std.proofs.Common.{subst}
 use Rattle.task_magic.proofs.committing.record_or_set.Goals as goal
 
 pub returns-in-Some : goal.returns-in-Some

@@ -1,8 +1,4 @@
-use Rattle.std.proofs.Common.{◌∙◌, ap, sym, length, take, List, ℕ, ◌++◌, ◌∷◌, [], ◌+◌, map, replicate, false}
-use Rattle.path_keys.proofs.Common.{take_more}
-use Rattle.job_protocol.specs.Prelude.{Task}
-use Rattle.task_requests.specs.Publishing.{are_places, picked}
-use Rattle.task_magic.specs.Committing.{record_of}
+use Rattle.task_magic.proofs.Common.{List, Task, [], ap, are_places, false, length, map, picked, record_of, replicate, sym, take, take_more, ℕ, ◌++◌, ◌+◌, ◌∙◌, ◌∷◌}
 use Rattle.task_magic.proofs.Listed.{ordered_with, records_with, seen_with, places_with, within_seen, nothing_seen}
 use Rattle.task_magic.proofs.listing.files_of_keys.Goals as goal
 

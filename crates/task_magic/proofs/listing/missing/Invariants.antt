@@ -1,5 +1,4 @@
-use Rattle.std.proofs.Common.{◌≡◌, ◌≤◌, length, drop, map}
-use Rattle.task_magic.specs.Committing.{record_of, least_unseen}
+use Rattle.task_magic.proofs.Common.{drop, least_unseen, length, map, record_of, ◌≡◌, ◌≤◌}
 use Rattle.task_magic.proofs.listing.missing.Given as goal
 
 abbrev pub invariant-loop-left : goal.invariant-loop-left

@@ -1,5 +1,4 @@
-use Rattle.std.proofs.Common.{◌∙◌, ap, sym}
-use Rattle.job_protocol.specs.Prelude.{Task}
+use Rattle.task_magic.proofs.Common.{Task, ap, sym, ◌∙◌}
 use Rattle.task_magic.proofs.Listed.{record_none, record_test, record_as, no_record_as, path_found}
 use Rattle.task_magic.proofs.listing.place_of.Goals as goal
 

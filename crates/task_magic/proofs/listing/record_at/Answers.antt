@@ -1,7 +1,5 @@
-use Rattle.std.proofs.Common.{ap, ◌∙◌, ◌++◌, codes}
+use Rattle.task_magic.proofs.Common.{ap, codes, file_is, ok_as, record_of, ◌++◌, ◌∙◌}
 use Rattle.path_keys.specs.Paths.{Path, below}
-use Rattle.task_requests.proofs.Steps.{file_is, ok_as}
-use Rattle.task_magic.specs.Committing.{record_of}
 use Rattle.task_magic.proofs.listing.record_at.Goals as goal
 
 pub returns : goal.returns

@@ -1,5 +1,4 @@
-use Rattle.std.proofs.Common.{◌∙◌}
-use Rattle.task_requests.proofs.Steps.{sending_within, behind_next, sent_told_by, sent_kept_by}
+use Rattle.task_magic.proofs.Common.{behind_next, sending_within, sent_kept_by, sent_told_by, ◌∙◌}
 use Rattle.task_magic.proofs.stepping.add_part.Goals as goal
 
 pub behind-stage-requires-clause-within : goal.behind-stage-requires-clause-within

@@ -1,6 +1,4 @@
-use Rattle.std.proofs.Common.{ap, sym, None, false}
-use Rattle.task_requests.specs.Writing.{seen_write}
-use Rattle.task_requests.proofs.Steps.{upload_new, upload_some, part_plain, part_none, told_as, marked_as, recorded_as}
+use Rattle.task_magic.proofs.Common.{None, ap, false, marked_as, part_none, part_plain, recorded_as, seen_write, sym, told_as, upload_new, upload_some}
 use Rattle.task_magic.proofs.stepping.advance.Goals as goal
 
 pub begin-requires-clause-new : goal.begin-requires-clause-new

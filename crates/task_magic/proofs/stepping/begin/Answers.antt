@@ -1,6 +1,4 @@
-use Rattle.std.proofs.Common.{refl, get_or, []}
-use Rattle.job_protocol.specs.Prelude.{task_script, file_key}
-use Rattle.task_requests.proofs.Steps.{at_place, begun_told_by, begun_kept_by}
+use Rattle.task_magic.proofs.Common.{[], at_place, begun_kept_by, begun_told_by, file_key, get_or, refl, task_script}
 use Rattle.task_magic.proofs.stepping.begin.Goals as goal
 
 pub returns-in-Ok-clause-told : goal.returns-in-Ok-clause-told

@@ -1,5 +1,4 @@
-use Rattle.std.proofs.Common.{ap, length, arith}
-use Rattle.job_protocol.specs.Prelude.{Task}
+use Rattle.task_magic.proofs.Common.{Task, ap, arith, length}
 use Rattle.task_magic.proofs.stepping.next_place.Goals as goal
 
 pub overflow_add-result : goal.overflow_add-result

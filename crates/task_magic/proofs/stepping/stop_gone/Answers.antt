@@ -1,5 +1,4 @@
-use Rattle.std.proofs.Common.{◌∙◌}
-use Rattle.task_requests.proofs.Steps.{gone_told_by}
+use Rattle.task_magic.proofs.Common.{gone_told_by, ◌∙◌}
 use Rattle.task_magic.proofs.stepping.stop_gone.Goals as goal
 
 pub returns-clause-told : goal.returns-clause-told

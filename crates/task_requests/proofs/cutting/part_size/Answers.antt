@@ -1,5 +1,4 @@
-use Rattle.std.proofs.Common.{arith}
-use Rattle.proof_base.proofs.Common.{common_steps}
+use Rattle.task_requests.proofs.Common.{arith, common_steps}
 use Rattle.s3_types.specs.Blocks.{block_of}
 use Rattle.task_requests.proofs.cutting.part_size.Goals as goal
 

@@ -1,6 +1,5 @@
 use Rattle.task_requests.proofs.InOrder.{made_reverse}
-use Rattle.path_keys.proofs.Common.{reverse-reverse}
-use Rattle.std.proofs.Common.{◌∙◌, sym, reverse, ap}
+use Rattle.task_requests.proofs.Common.{ap, reverse, reverse-reverse, sym, ◌∙◌}
 use Rattle.task_requests.proofs.drawn.made.Goals as goal
 
 pub returns : goal.returns

@@ -1,5 +1,4 @@
-use Rattle.std.proofs.Common.{◌∙◌, ap}
-use Rattle.job_protocol.specs.Prelude.{Task}
+use Rattle.task_requests.proofs.Common.{Task, ap, ◌∙◌}
 use Rattle.task_requests.proofs.Placed.{file_found}
 use Rattle.task_requests.proofs.names.file_at.Goals as goal
 

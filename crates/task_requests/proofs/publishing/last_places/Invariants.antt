@@ -1,7 +1,4 @@
-use Rattle.std.proofs.Common.{ℕ, List, take}
-use Rattle.job_protocol.specs.Prelude.{text_eq}
-use Rattle.indexmap.specs.IndexMap.{get}
-use Rattle.task_requests.specs.Publishing.{IsLastAt}
+use Rattle.task_requests.proofs.Common.{IsLastAt, List, get, take, text_eq, ℕ}
 use Rattle.task_requests.proofs.publishing.last_places.Given as goal
 
 abbrev pub invariant-loop-place : goal.invariant-loop-place

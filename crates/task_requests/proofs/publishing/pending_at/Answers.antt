@@ -1,6 +1,4 @@
-use Rattle.std.proofs.Common.{◌∙◌, ap, slice_get}
-use Rattle.job_protocol.specs.Prelude.{text_eq, Task, as_made}
-use Rattle.indexmap.specs.IndexMap.{get}
+use Rattle.task_requests.proofs.Common.{Task, ap, as_made, get, slice_get, text_eq, ◌∙◌}
 use Rattle.task_requests.proofs.Steps.{ok_as}
 use Rattle.task_requests.proofs.LastDrawn.{not_none, not_behind, drawn_tags, drawn_sizes, same_record}
 use Rattle.task_requests.proofs.publishing.pending_at.Goals as goal

@@ -1,9 +1,6 @@
-use Rattle.std.proofs.Common.{◌∙◌, ap, subst, ◌≡◌, IfOk}
-use Rattle.job_protocol.specs.Prelude.{Job, Task, task_script, who_of}
-use Rattle.job_protocol.specs.Records.{set_text}
-use Rattle.magic_paths.specs.Layout as layout
-use Rattle.task_requests.specs.Publishing.{picked}
+use Rattle.task_requests.proofs.Common.{IfOk, Job, Task, ap, picked, set_text, subst, task_script, who_of, ◌∙◌, ◌≡◌}
 use Rattle.task_requests.proofs.LastDrawn.{put_is}
+use Rattle.magic_paths.specs.Layout as layout
 use Rattle.task_requests.proofs.publishing.publish_request.Goals as goal
 
 pub returns-in-Ok : goal.returns-in-Ok

@@ -1,5 +1,4 @@
-use Rattle.std.proofs.Common.{◌∙◌, ap, Some}
-use Rattle.job_protocol.specs.Prelude.{Request}
+use Rattle.task_requests.proofs.Common.{Request, Some, ap, ◌∙◌}
 use Rattle.task_requests.proofs.Steps.{nothing_asked, sending_behind, recording_sent, creating_asked, sending_asked, marking_asked, recording_asked}
 use Rattle.task_requests.proofs.requests.ask.Goals as goal
 use Rattle.task_requests.proofs.requests.ask.Goals.{in-Creating+in_ok-asked-in-Creating, in-Sending+in_ok-asked-in-Sending, in-Marking+in_ok-asked-in-Marking, in-Recording+in_ok-asked-in-Recording}

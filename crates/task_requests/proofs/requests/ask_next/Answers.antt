@@ -1,6 +1,4 @@
-use Rattle.std.proofs.Common.{◌≡◌, ◌∙◌, ◌+◌, ap, List, [], ◌∷◌, ℕ, Some, slice_get, arith}
-use Rattle.job_protocol.specs.Prelude.{UploadPart, Task, Drawn, task_script, first_drawn, file_key}
-use Rattle.task_requests.specs.Writing.{part_behind}
+use Rattle.task_requests.proofs.Common.{Drawn, List, Some, Task, UploadPart, [], ap, arith, file_key, first_drawn, part_behind, slice_get, task_script, ℕ, ◌+◌, ◌∙◌, ◌∷◌, ◌≡◌}
 use Rattle.task_requests.proofs.Steps.{ok_as}
 use Rattle.task_requests.proofs.requests.ask_next.Goals as goal
 

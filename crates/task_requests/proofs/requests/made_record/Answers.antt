@@ -1,5 +1,4 @@
-use Rattle.std.proofs.Common.{◌≡◌, ℕ, true, List, length, Option, Some, sym, ap, subst, ◌∙◌}
-use Rattle.job_protocol.specs.Prelude.{are_sizes}
+use Rattle.task_requests.proofs.Common.{List, Option, Some, ap, are_sizes, length, subst, sym, true, ℕ, ◌∙◌, ◌≡◌}
 use Rattle.job_protocol.proofs.Sizes.{sizes_told}
 use Rattle.task_requests.proofs.requests.made_record.Goals as goal
 

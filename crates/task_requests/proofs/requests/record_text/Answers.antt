@@ -1,5 +1,4 @@
-use Rattle.std.proofs.Common.{◌∙◌, ap, slice_get}
-use Rattle.job_protocol.specs.Prelude.{compact_text, pending_tree, Pending, Task, Drawn, task_script, who_of, record_text}
+use Rattle.task_requests.proofs.Common.{Drawn, Pending, Task, ap, compact_text, pending_tree, record_text, slice_get, task_script, who_of, ◌∙◌}
 use Rattle.task_requests.proofs.Steps.{record_tags, record_sizes, record_last, ok_as}
 use Rattle.task_requests.proofs.requests.record_text.Goals as goal
 

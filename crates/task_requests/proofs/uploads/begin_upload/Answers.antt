@@ -1,8 +1,5 @@
-use Rattle.std.proofs.Common.{◌∙◌, ap, List, ℕ}
-use Rattle.job_protocol.specs.Prelude.{UploadPart, File, Task, Known}
-use Rattle.path_keys.proofs.Common.{some_parts}
+use Rattle.task_requests.proofs.Common.{File, Known, List, Task, UploadPart, ap, part_behind, size_of, some_parts, with_drawn, ℕ, ◌∙◌}
 use Rattle.job_model.specs.contracts.plan.TaskPlan.{the_view}
-use Rattle.task_requests.specs.Writing.{size_of, part_behind, with_drawn}
 use Rattle.task_requests.proofs.Steps.{known_of, begun_asked, begun_drawn}
 use Rattle.task_requests.proofs.uploads.begin_upload.Goals as goal
 use Rattle.task_requests.proofs.uploads.begin_upload.Goals.{in-Ok-draw, in-Err}

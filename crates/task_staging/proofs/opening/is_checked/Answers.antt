@@ -1,5 +1,4 @@
-use Rattle.std.proofs.Common.{ap, ◌∙◌}
-use Rattle.job_protocol.specs.Prelude.{Job, checks_partitions}
+use Rattle.task_staging.proofs.Common.{Job, ap, checks_partitions, ◌∙◌}
 use Rattle.task_staging.proofs.opening.is_checked.Goals as goal
 
 pub returns : goal.returns

@@ -1,6 +1,4 @@
-use Rattle.std.proofs.Common.{ap, ◌∙◌}
-use Rattle.job_protocol.specs.Prelude.{File}
-use Rattle.task_requests.proofs.Steps.{file_is}
+use Rattle.task_staging.proofs.Common.{File, ap, file_is, ◌∙◌}
 use Rattle.task_staging.proofs.opening.path_at.Goals as goal
 
 pub returns : goal.returns

@@ -1,5 +1,4 @@
-use Rattle.std.proofs.Common.{◌<◌, ap, ◌∙◌, length, arith}
-use Rattle.job_protocol.specs.Prelude.{Task}
+use Rattle.task_staging.proofs.Common.{Task, ap, arith, length, ◌<◌, ◌∙◌}
 use Rattle.task_staging.proofs.Opened.{paths_more}
 use Rattle.task_staging.proofs.opening.paths_of.Goals as goal
 

@@ -1,6 +1,4 @@
-use Rattle.std.proofs.Common.{◌≡◌, true, ap, ◌∙◌}
-use Rattle.job_protocol.specs.Prelude.{partitions}
-use Rattle.task_requests.proofs.Steps.{ok_as}
+use Rattle.task_staging.proofs.Common.{ap, ok_as, partitions, true, ◌∙◌, ◌≡◌}
 use Rattle.task_staging.proofs.Opened.{none_to_check, all_to_check}
 use Rattle.task_staging.proofs.opening.to_check.Goals as goal
 

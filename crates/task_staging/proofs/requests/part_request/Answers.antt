@@ -1,8 +1,5 @@
-use Rattle.std.proofs.Common.{ap, sym, subst}
-use Rattle.job_protocol.specs.Prelude.{File}
-use Rattle.task_requests.specs.Writing.{IsBehind, parts_in, asks_behind}
+use Rattle.task_staging.proofs.Common.{File, IsBehind, ap, asks_behind, file_is, ok_as, parts_in, subst, sym}
 use Rattle.task_requests.specs.declared.stage.WriteStage.TheVariants as write_stages
-use Rattle.task_requests.proofs.Steps.{file_is, ok_as}
 use Rattle.task_staging.proofs.requests.part_request.Goals as goal
 
 pub ask_next-requires-clause-within : goal.ask_next-requires-clause-within

@@ -1,6 +1,4 @@
-use Rattle.std.proofs.Common.{ap, sym, ◌∙◌, slice_get}
-use Rattle.job_protocol.specs.Prelude.{Task}
-use Rattle.task_requests.proofs.Steps.{file_is}
+use Rattle.task_staging.proofs.Common.{Task, ap, file_is, slice_get, sym, ◌∙◌}
 use Rattle.task_staging.proofs.Records.{last_tags, last_sizes}
 use Rattle.task_staging.proofs.Staged.{record_at, grown}
 use Rattle.task_staging.proofs.staging.add_record.Goals as goal

@@ -1,7 +1,4 @@
-use Rattle.std.proofs.Common.{◌<◌, ap, sym, subst, ◌∙◌, length}
-use Rattle.job_protocol.specs.Prelude.{File}
-use Rattle.task_requests.specs.Writing.{parts_in, part_behind, next_stage}
-use Rattle.task_requests.proofs.Steps.{file_is}
+use Rattle.task_staging.proofs.Common.{File, ap, file_is, length, next_stage, part_behind, parts_in, subst, sym, ◌<◌, ◌∙◌}
 use Rattle.task_staging.proofs.staging.behind_at.Goals as goal
 
 pub behind-requires-clause-within : goal.behind-requires-clause-within

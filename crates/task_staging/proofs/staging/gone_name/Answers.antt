@@ -1,6 +1,4 @@
-use Rattle.std.proofs.Common.{ap, ◌∙◌}
-use Rattle.job_protocol.specs.Prelude.{File, task_script, file_key}
-use Rattle.task_requests.proofs.Steps.{file_is}
+use Rattle.task_staging.proofs.Common.{File, ap, file_is, file_key, task_script, ◌∙◌}
 use Rattle.task_staging.proofs.staging.gone_name.Goals as goal
 
 pub returns : goal.returns

@@ -1,6 +1,4 @@
-use Rattle.std.proofs.Common.{◌∙◌, ◌∷◌, sym, ap, refl, option_map}
-use Rattle.words.specs.Parts.{parts_after}
-use Rattle.twin_script.specs.Cutting.{is_parting}
+use Rattle.twin_script.proofs.Common.{ap, is_parting, option_map, parts_after, refl, sym, ◌∙◌, ◌∷◌}
 use Rattle.twin_script.proofs.CutLines.{last_parts, last_none, parts_here, goes_on, none_parts}
 use Rattle.twin_script.proofs.cutting.cut.Goals as goal
 

@@ -1,5 +1,4 @@
-use Rattle.std.proofs.Common.{◌≡◌, ◌≤◌, ◌-◌, length, take, drop, []}
-use Rattle.twin_script.specs.Cutting.{cut_from, cut}
+use Rattle.twin_script.proofs.Common.{[], cut, cut_from, drop, length, take, ◌-◌, ◌≡◌, ◌≤◌}
 use Rattle.twin_script.proofs.cutting.cut.Given as goal
 
 abbrev pub invariant-loop-at : goal.invariant-loop-at

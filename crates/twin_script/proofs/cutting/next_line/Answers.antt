@@ -1,6 +1,4 @@
-use Rattle.std.proofs.Common.{◌∙◌, ◌∷◌, sym, ap, option_map, List, ℕ}
-use Rattle.job_model.specs.Prelude.{lines_of}
-use Rattle.words.specs.Parts.{parts_after}
+use Rattle.twin_script.proofs.Common.{List, ap, lines_of, option_map, parts_after, sym, ℕ, ◌∙◌, ◌∷◌}
 use Rattle.twin_script.proofs.Lines.{line_at_lf, line_at_end}
 use Rattle.twin_script.proofs.cutting.next_line.Goals as goal
 

@@ -1,6 +1,4 @@
-use Rattle.std.proofs.Common.{◌∷◌, ◌∙◌, sym, ap, option_map, List, ℕ}
-use Rattle.words.specs.Parts.{parts_after}
-use Rattle.words.specs.Shapes.{two}
+use Rattle.twin_script.proofs.Common.{List, ap, option_map, parts_after, sym, two, ℕ, ◌∙◌, ◌∷◌}
 use Rattle.words.proofs.Counts.{not_two}
 use Rattle.twin_script.proofs.cutting.two_words.Goals as goal
 

@@ -1,6 +1,4 @@
-use Rattle.std.proofs.Common.{◌≡◌, ◌≤◌, ◌+◌, length}
-use Rattle.job_model.specs.Prelude.{lines_of}
-use Rattle.twin_script.specs.Order.{lines_at, nothing}
+use Rattle.twin_script.proofs.Common.{length, lines_at, lines_of, nothing, ◌+◌, ◌≡◌, ◌≤◌}
 use Rattle.twin_script.proofs.order.draft_of.Given as goal
 
 abbrev pub invariant-loop-rest : goal.invariant-loop-rest

@@ -1,8 +1,4 @@
-use Rattle.std.proofs.Common.{◌≡◌, ◌≤◌, ◌∙◌, ℕ, List, length, ap, subst, string_bytes}
-use Rattle.job_model.specs.Prelude.{IsLegal}
-use Rattle.twin_script.specs.TwinScripts.{Twins, AreTwins}
-use Rattle.twin_script.specs.Print.{twins_text}
-use Rattle.twin_script.specs.Twins.{twins_of}
+use Rattle.twin_script.proofs.Common.{AreTwins, IsLegal, List, Twins, ap, length, string_bytes, subst, twins_of, twins_text, ℕ, ◌∙◌, ◌≡◌, ◌≤◌}
 use Rattle.twin_script.proofs.Again.{twins_again, twins_is}
 use Rattle.twin_script.proofs.print.print_twins.Goals as goal
 

@@ -1,6 +1,4 @@
-use Rattle.std.proofs.Common.{◌≡◌, ◌∙◌, sym, subst}
-use Rattle.job_model.specs.Prelude.{IsLegal, IsUtf8}
-use Rattle.job_script.specs.Print.{script_text}
+use Rattle.twin_script.proofs.Common.{IsLegal, IsUtf8, script_text, subst, sym, ◌∙◌, ◌≡◌}
 use Rattle.twin_script.proofs.Printed.{script_utf8}
 use Rattle.twin_script.proofs.print.put_script.Goals as goal
 

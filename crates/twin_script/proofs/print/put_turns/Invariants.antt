@@ -1,6 +1,4 @@
-use Rattle.std.proofs.Common.{◌≡◌, ◌++◌, map, drop, string_bytes}
-use Rattle.job_model.specs.Prelude.{text_of}
-use Rattle.twin_script.specs.Print.{turn_line}
+use Rattle.twin_script.proofs.Common.{drop, map, string_bytes, text_of, turn_line, ◌++◌, ◌≡◌}
 use Rattle.twin_script.proofs.print.put_turns.Given as goal
 
 abbrev pub invariant-loop-turn : goal.invariant-loop-turn

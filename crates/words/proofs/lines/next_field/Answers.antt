@@ -1,8 +1,6 @@
-use Rattle.std.proofs.Common.{[], None, Some, ap, ◌∙◌}
-use Rattle.proof_base.proofs.Common.{split_parts}
-use Rattle.words.specs.Parts.{parts_of}
+use Rattle.words.proofs.Common.{None, Some, [], ap, parts_of, split_parts, ◌∙◌}
 use Rattle.words.proofs.Split.{part_from}
-use Rattle.words.proofs.Pieces.{others_from_bytes, one_part}
+use Rattle.words.proofs.Pieces.{one_part, others_from_bytes}
 use Rattle.words.proofs.Cuts.{shorter_behind}
 use Rattle.words.proofs.lines.next_field.Goals as goal
 

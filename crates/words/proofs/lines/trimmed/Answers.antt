@@ -1,5 +1,4 @@
-use Rattle.std.proofs.Common.{None, Some, arith}
-use Rattle.proof_base.proofs.Common.{strip_suffix_char}
+use Rattle.words.proofs.Common.{None, Some, arith, strip_suffix_char}
 use Rattle.words.proofs.Cuts.{no_return, one_return}
 use Rattle.words.proofs.lines.trimmed.Goals as goal
 

@@ -1,5 +1,4 @@
-use Rattle.std.proofs.Common.{◌≡◌, ◌≤◌, ◌-◌, arith, get_or, ap, sym, ◌∙◌, ◌<◌, ◌+◌, ◌*◌, drop, ℕ}
-use Rattle.words.specs.Numbers.{digits_from}
+use Rattle.words.proofs.Common.{ap, arith, digits_from, drop, get_or, sym, ℕ, ◌*◌, ◌+◌, ◌-◌, ◌<◌, ◌∙◌, ◌≡◌, ◌≤◌}
 use Rattle.words.proofs.Digits.{power_fits, power_more, next_digit, one_more_digit, all_digits}
 use Rattle.words.proofs.numbers.value.Goals as goal
 

@@ -1,6 +1,4 @@
-use Rattle.std.proofs.Common.{◌≡◌, ◌<◌, ◌^◌, true, drop}
-use Rattle.proof_base.specs.Prelude.{list_all}
-use Rattle.words.specs.Numbers.{digits_from, is_digit}
+use Rattle.words.proofs.Common.{digits_from, drop, is_digit, list_all, true, ◌<◌, ◌^◌, ◌≡◌}
 use Rattle.words.proofs.numbers.value.Given as goal
 
 abbrev pub invariant-loop-b : goal.invariant-loop-b

@@ -1,5 +1,4 @@
-use Rattle.std.proofs.Common.{◌∷◌, ◌∙◌, sym, ap, option_map}
-use Rattle.words.specs.Words.{words_after}
+use Rattle.words.proofs.Common.{ap, option_map, sym, words_after, ◌∙◌, ◌∷◌}
 use Rattle.words.specs.Shapes.{at_most_one as the_one}
 use Rattle.words.proofs.Counts.{not_at_most_one}
 use Rattle.words.proofs.shapes.at_most_one.Goals as goal

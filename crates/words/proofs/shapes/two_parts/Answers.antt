@@ -1,5 +1,4 @@
-use Rattle.std.proofs.Common.{◌∷◌, ◌∙◌, sym, ap, option_map, List, ℕ}
-use Rattle.words.specs.Parts.{parts_after}
+use Rattle.words.proofs.Common.{List, ap, option_map, parts_after, sym, ℕ, ◌∙◌, ◌∷◌}
 use Rattle.words.specs.Shapes.{two as the_two}
 use Rattle.words.proofs.Counts.{not_two}
 use Rattle.words.proofs.shapes.two_parts.Goals as goal

@@ -1,7 +1,4 @@
-use Rattle.std.proofs.Common.{◌+◌, ◌*◌, ◌-◌, ◌<◌, ◌≤◌, ◌++◌, length, refl, sym, ap, subst, ◌∙◌}
-use Rattle.proof_base.proofs.Options.{none_is}
-use Rattle.block_stream.specs.Stream.{Stream, wrote}
-use Rattle.block_stream.specs.Kept.{front_of}
+use Rattle.block_stream.proofs.Common.{Stream, ap, front_of, length, none_is, refl, subst, sym, wrote, ◌*◌, ◌++◌, ◌+◌, ◌-◌, ◌<◌, ◌∙◌, ◌≤◌}
 use Rattle.block_stream.proofs.Invariant.{short_in, long_in}
 use Rattle.block_stream.proofs.stream.BlockStream.add.Goals as goal
 

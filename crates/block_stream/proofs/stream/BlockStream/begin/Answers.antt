@@ -1,5 +1,4 @@
-use Rattle.std.proofs.Common.{ap, ◌∙◌}
-use Rattle.block_stream.specs.Stream.{stage}
+use Rattle.block_stream.proofs.Common.{ap, stage, ◌∙◌}
 use Rattle.block_stream.proofs.Invariant.{begin_kept}
 use Rattle.block_stream.proofs.stream.BlockStream.begin.Goals as goal
 

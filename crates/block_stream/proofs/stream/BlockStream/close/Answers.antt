@@ -1,8 +1,5 @@
-use Rattle.std.proofs.Common.{refl, sym, ap, ◌∙◌}
-use Rattle.block_stream.specs.Stream.{Stream, shut, close}
-use Rattle.block_stream.specs.Kept.{seen, front_of, last_of}
+use Rattle.block_stream.proofs.Common.{Stream, ap, close, front_of, last_of, none_is, refl, seen, shut, sym, ◌∙◌}
 use Rattle.block_stream.proofs.Invariant.{close_in}
-use Rattle.proof_base.proofs.Options.{none_is}
 use Rattle.block_stream.proofs.Written.{shut_ended, holds_closed, asked_closed}
 use Rattle.block_stream.proofs.stream.BlockStream.close.Goals as goal
 

@@ -1,5 +1,4 @@
-use Rattle.std.proofs.Common.{ap, ◌∙◌}
-use Rattle.block_stream.specs.Stream.{stage, settled, parted}
+use Rattle.block_stream.proofs.Common.{ap, parted, settled, stage, ◌∙◌}
 use Rattle.block_stream.proofs.Invariant.{part_in}
 use Rattle.block_stream.proofs.stream.BlockStream.part.Goals as goal
 

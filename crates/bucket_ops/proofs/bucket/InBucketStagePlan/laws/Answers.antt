@@ -1,5 +1,4 @@
-use Rattle.operations.proofs.CourseLaws.{calm_of}
-use Rattle.operations.proofs.PlanLaws.{course_of}
+use Rattle.bucket_ops.proofs.Common.{calm_of, course_of}
 use Rattle.bucket_ops.proofs.PhaseLaws.{in_bucket, asked_in}
 use Rattle.bucket_ops.proofs.bucket.InBucketStagePlan.laws.Goals as goal
 

@@ -1,5 +1,4 @@
-use Rattle.operations.proofs.CourseLaws.{calm_of}
-use Rattle.operations.proofs.PlanLaws.{course_of}
+use Rattle.bucket_ops.proofs.Common.{calm_of, course_of}
 use Rattle.bucket_ops.proofs.UploadLaws.{uploads_plan, uploads_asked}
 use Rattle.bucket_ops.proofs.uploads.UploadsBelowPlan.laws.Goals as goal
 

@@ -1,5 +1,4 @@
-use Rattle.std.proofs.Common.{◌≡◌, None, sym, subst, ◌∙◌}
-use Rattle.job_protocol.specs.Prelude.{Driving, Clean, clean_over}
+use Rattle.cleanup.proofs.Common.{Clean, Driving, None, clean_over, subst, sym, ◌∙◌, ◌≡◌}
 use Rattle.cleanup.proofs.Places.{over_is, not_over}
 use Rattle.cleanup.proofs.cleaning.CleaningAsks.end.Goals as goal
 

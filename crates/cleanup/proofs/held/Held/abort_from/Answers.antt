@@ -1,5 +1,4 @@
-use Rattle.std.proofs.Common.{ap, ◌∙◌, length}
-use Rattle.cleanup.specs.Held.{abort_stage, clean_at}
+use Rattle.cleanup.proofs.Common.{abort_stage, ap, clean_at, length, ◌∙◌}
 use Rattle.cleanup.proofs.Places.{aborts_from}
 use Rattle.cleanup.proofs.held.Held.abort_from.Goals as goal
 

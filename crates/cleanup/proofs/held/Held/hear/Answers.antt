@@ -1,7 +1,5 @@
-use Rattle.std.proofs.Common.{ap, ◌∙◌, length, sym, drop}
-use Rattle.job_protocol.specs.Prelude.{Job, job_script, clean_hears, removing}
+use Rattle.cleanup.proofs.Common.{Job, ap, behind, clean_hears, drop, job_script, length, removing, sym, ◌∙◌}
 use Rattle.cleanup.specs.Held.{clean_of, within, clean_at}
-use Rattle.cleanup.specs.Places.{behind}
 use Rattle.cleanup.proofs.Places.{hears_aborting, remove_goes}
 use Rattle.cleanup.proofs.held.Held.hear.Goals as goal
 

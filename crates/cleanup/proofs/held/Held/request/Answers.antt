@@ -1,6 +1,4 @@
-use Rattle.std.proofs.Common.{◌≡◌, ap, ◌∙◌, subst, drop, IfOk, Option}
-use Rattle.job_protocol.specs.Prelude.{Request, Job, job_script}
-use Rattle.cleanup.specs.Places.{abort_asks, remove_asks}
+use Rattle.cleanup.proofs.Common.{IfOk, Job, Option, Request, abort_asks, ap, drop, job_script, remove_asks, subst, ◌∙◌, ◌≡◌}
 use Rattle.cleanup.proofs.Places.{asks_at_aborting, asks_at_removing}
 use Rattle.cleanup.proofs.held.Held.request.Goals as goal
 

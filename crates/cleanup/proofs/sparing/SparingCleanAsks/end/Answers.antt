@@ -1,6 +1,4 @@
-use Rattle.std.proofs.Common.{◌≡◌, None, sym, subst, ◌∙◌}
-use Rattle.job_protocol.specs.Prelude.{Driving}
-use Rattle.job_protocol.specs.Sparing.{Sparing, sparing_over}
+use Rattle.cleanup.proofs.Common.{Driving, None, Sparing, sparing_over, subst, sym, ◌∙◌, ◌≡◌}
 use Rattle.cleanup.proofs.SparingPlaces.{over_is, not_over}
 use Rattle.cleanup.proofs.sparing.SparingCleanAsks.end.Goals as goal
 

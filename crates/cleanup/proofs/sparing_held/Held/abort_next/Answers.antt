@@ -1,6 +1,5 @@
-use Rattle.std.proofs.Common.{ap, ◌∙◌}
+use Rattle.cleanup.proofs.Common.{all_of, ap, ◌∙◌}
 use Rattle.job_protocol.specs.Sparing.{aborting}
-use Rattle.cleanup.specs.SparingHeld.{all_of}
 use Rattle.cleanup.proofs.SparingPlaces.{next_behind}
 use Rattle.cleanup.proofs.sparing_held.Held.abort_next.Goals as goal
 

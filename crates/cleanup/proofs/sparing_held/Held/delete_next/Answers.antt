@@ -1,5 +1,4 @@
-use Rattle.std.proofs.Common.{ap, ◌∙◌}
-use Rattle.job_protocol.specs.Sparing.{deleting}
+use Rattle.cleanup.proofs.Common.{ap, deleting, ◌∙◌}
 use Rattle.cleanup.proofs.SparingPlaces.{next_behind}
 use Rattle.cleanup.proofs.sparing_held.Held.delete_next.Goals as goal
 

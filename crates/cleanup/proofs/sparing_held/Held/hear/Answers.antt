@@ -1,7 +1,5 @@
-use Rattle.std.proofs.Common.{◌≡◌, ap, subst, ◌∙◌, ◌++◌, drop, OnOk}
-use Rattle.job_protocol.specs.Prelude.{Committer, Job, job_script}
+use Rattle.cleanup.proofs.Common.{Committer, Job, OnOk, all_of, ap, drop, job_script, places_of, sparing_of, subst, ◌++◌, ◌∙◌, ◌≡◌}
 use Rattle.job_protocol.specs.Sparing.{Sparing, names, reading_on, aborting}
-use Rattle.cleanup.specs.SparingHeld.{places_of, all_of, sparing_of}
 use Rattle.cleanup.proofs.SparingPlaces.{hears_at_reading, hears_at_aborting}
 use Rattle.cleanup.proofs.sparing_held.Held.hear.Goals as goal
 

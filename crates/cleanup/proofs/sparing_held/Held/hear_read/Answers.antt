@@ -1,6 +1,4 @@
-use Rattle.std.proofs.Common.{ap, ◌∙◌, ◌++◌, drop}
-use Rattle.job_protocol.specs.Sparing.{names, reading_on}
-use Rattle.cleanup.specs.SparingHeld.{places_of, all_of}
+use Rattle.cleanup.proofs.Common.{all_of, ap, drop, names, places_of, reading_on, ◌++◌, ◌∙◌}
 use Rattle.cleanup.proofs.SparingPlaces.{next_behind}
 use Rattle.cleanup.proofs.sparing_held.Held.hear_read.Goals as goal
 

@@ -1,5 +1,4 @@
-use Rattle.std.proofs.Common.{arith}
-use Rattle.cleanup.specs.SparingHeld.{places_of, all_of}
+use Rattle.cleanup.proofs.Common.{all_of, arith, places_of}
 use Rattle.cleanup.proofs.SparingPlaces.{reads_at}
 use Rattle.cleanup.proofs.sparing_held.Held.read_from.Goals as goal
 

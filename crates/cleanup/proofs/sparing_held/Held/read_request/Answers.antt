@@ -1,6 +1,4 @@
-use Rattle.std.proofs.Common.{◌≡◌, ap, sym, ◌∙◌, subst, drop, IfOk, Option}
-use Rattle.job_protocol.specs.Prelude.{Request, Job, job_script}
-use Rattle.cleanup.specs.Places.{get_asks, get_file_asks}
+use Rattle.cleanup.proofs.Common.{IfOk, Job, Option, Request, ap, drop, get_asks, get_file_asks, job_script, subst, sym, ◌∙◌, ◌≡◌}
 use Rattle.cleanup.proofs.SparingPlaces.{reads_key, reads_file, reads_partition}
 use Rattle.cleanup.proofs.sparing_held.Held.read_request.Goals as goal
 

@@ -1,8 +1,5 @@
-use Rattle.std.proofs.Common.{◌∙◌, ap}
-use Rattle.proof_base.proofs.Common.{exact_bytes}
-use Rattle.s3_types.specs.Prelude.{text_total}
+use Rattle.cluster_fs.proofs.Common.{ap, exact_bytes, made_remove, text_total, ◌∙◌}
 use Rattle.std.specs.FinMap as map
-use Rattle.proof_base.proofs.Tree.{made_remove}
 use Rattle.cluster_fs.proofs.cluster.Cluster.delete.Goals as goal
 
 pub returns : goal.returns

@@ -1,8 +1,6 @@
-use Rattle.std.proofs.Common.{◌≡◌, ℕ, List, ap, sym, ◌∙◌, subst}
+use Rattle.cluster_fs.proofs.Common.{List, ap, begins, entries_made, filter, keys_of, subst, sym, text_total, ℕ, ◌∙◌, ◌≡◌}
 use Rattle.std.specs.Prelude.{IfOk}
-use Rattle.s3_types.specs.Prelude.{filter, keys_of, text_total, begins}
 use Rattle.std.specs.FinMap as map
-use Rattle.proof_base.proofs.Tree.{entries_made}
 use Rattle.cluster_fs.proofs.Listed.{is_rest}
 use Rattle.cluster_fs.proofs.cluster.Cluster.list.Goals as goal
 

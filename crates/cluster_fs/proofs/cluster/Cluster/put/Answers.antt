@@ -1,8 +1,5 @@
-use Rattle.std.proofs.Common.{◌∙◌, ap}
-use Rattle.proof_base.proofs.Common.{exact_bytes}
-use Rattle.s3_types.specs.Prelude.{text_total}
+use Rattle.cluster_fs.proofs.Common.{ap, exact_bytes, made_insert, text_total, ◌∙◌}
 use Rattle.std.specs.FinMap as map
-use Rattle.proof_base.proofs.Tree.{made_insert}
 use Rattle.cluster_fs.proofs.cluster.Cluster.put.Goals as goal
 
 pub returns-clause-ok : goal.returns-clause-ok

@@ -1,5 +1,4 @@
-use Rattle.std.proofs.Common.{◌≡◌, ℕ, List, Option, Some, Bool, true, false, not, ap, ◌∙◌, sym}
-use Rattle.s3_types.specs.Prelude.{text_eq, Files, renamed}
+use Rattle.cluster_fs.proofs.Common.{Bool, Files, List, Option, Some, ap, false, not, renamed, sym, text_eq, true, ℕ, ◌∙◌, ◌≡◌}
 use Rattle.std.specs.FinMap as map
 use Rattle.cluster_fs.proofs.Renamed.{onto_itself, onto_another}
 use Rattle.cluster_fs.proofs.cluster.Cluster.rename.Goals as goal

@@ -1,6 +1,4 @@
-use Rattle.std.proofs.Common.{ap, sym, ◌∙◌}
-use Rattle.fs_ops.specs.Prelude.{option_copied, is_marker, prefix_of}
-use Rattle.copy_tree.specs.code.Copy.{CopyPaths}
+use Rattle.copy_tree.proofs.Common.{CopyPaths, ap, is_marker, option_copied, prefix_of, sym, ◌∙◌}
 use Rattle.fs_rename.proofs.Places.{place_marker}
 use Rattle.copy_tree.proofs.names.CopyNames.placed.Goals as goal
 

@@ -1,6 +1,4 @@
-use Rattle.std.proofs.Common.{ℕ, List, subst, sym}
-use Rattle.folder_log.specs.Kept.{IsPrepared}
-use Rattle.folder_log.specs.Parts.{disk_of}
+use Rattle.folder_log.proofs.Common.{IsPrepared, List, disk_of, subst, sym, ℕ}
 use Rattle.folder_log.proofs.Appends.{settled_at, append_leaves, append_fails, append_shows}
 use Rattle.folder_log.proofs.log_shelf.LogShelfShelf.append.Goals as goal
 

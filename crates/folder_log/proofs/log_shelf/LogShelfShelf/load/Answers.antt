@@ -1,6 +1,5 @@
-use Rattle.std.proofs.Common.{◌≡◌, ℕ, List, Option, Some, refl, ap, subst, ◌∙◌, arith, rules}
+use Rattle.folder_log.proofs.Common.{IsRead, List, Option, Some, ap, arith, more, refl, rules, subst, ℕ, ◌∙◌, ◌≡◌}
 use Rattle.shelf.specs.Calls.{one_more}
-use Rattle.folder_log.specs.Disk.{IsRead, more}
 use Rattle.folder_log.proofs.Appends.{read_small}
 use Rattle.folder_log.proofs.Moments.{more_more}
 use Rattle.folder_log.proofs.log_shelf.LogShelfShelf.load.Goals as goal

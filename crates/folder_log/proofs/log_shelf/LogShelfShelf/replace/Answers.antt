@@ -1,6 +1,4 @@
-use Rattle.std.proofs.Common.{◌≡◌, inl, inr, ℕ, List, [], ◌∷◌, ◌++◌, ap, ◌∙◌, arith}
-use Rattle.log_format.specs.Log.{log}
-use Rattle.folder_log.specs.Parts.{disk_of}
+use Rattle.folder_log.proofs.Common.{List, [], ap, arith, disk_of, inl, inr, log, ℕ, ◌++◌, ◌∙◌, ◌∷◌, ◌≡◌}
 use Rattle.folder_log.proofs.Appends.{log_fresh, swap_shows, swap_leaves}
 use Rattle.folder_log.proofs.log_shelf.LogShelfShelf.replace.Goals as goal
 

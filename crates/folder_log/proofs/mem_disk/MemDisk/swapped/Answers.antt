@@ -1,6 +1,4 @@
-use Rattle.std.proofs.Common.{ℕ, List, Some, sym, ap, ◌∙◌}
-use Rattle.folder_log.specs.Calls.{at_rest}
-use Rattle.folder_log.specs.declared.state.DiskCall.TheVariants.{Swap}
+use Rattle.folder_log.proofs.Common.{List, Some, Swap, ap, at_rest, sym, ℕ, ◌∙◌}
 use Rattle.folder_log.proofs.Recorded.{set_either}
 use Rattle.folder_log.proofs.mem_disk.MemDisk.swapped.Goals as goal
 

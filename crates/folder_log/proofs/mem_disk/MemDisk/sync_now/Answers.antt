@@ -1,6 +1,4 @@
-use Rattle.std.proofs.Common.{◌≡◌, sym, ap, ◌∙◌}
-use Rattle.folder_log.specs.Calls.{Recorded, at_rest, state_in}
-use Rattle.folder_log.specs.declared.state.DiskCall.TheVariants.{Sync}
+use Rattle.folder_log.proofs.Common.{Recorded, Sync, ap, at_rest, state_in, sym, ◌∙◌, ◌≡◌}
 use Rattle.folder_log.proofs.Recorded.{set_either}
 use Rattle.folder_log.proofs.mem_disk.MemDisk.sync_now.Goals as goal
 

@@ -1,8 +1,4 @@
-use Rattle.std.proofs.Common.{◌≡◌, Some, subst, sym, ap, ◌∙◌}
-use Rattle.folder_log.specs.Disk.{IsWithin}
-use Rattle.folder_log.specs.declared.state.State.{State}
-use Rattle.folder_log.specs.Calls.{Recorded, state_of, state_in}
-use Rattle.folder_log.specs.declared.state.DiskCall.TheVariants.{Write}
+use Rattle.folder_log.proofs.Common.{IsWithin, Recorded, Some, State, Write, ap, state_in, state_of, subst, sym, ◌∙◌, ◌≡◌}
 use Rattle.folder_log.proofs.Recorded.{set_either, write_now, wrote_alike}
 use Rattle.folder_log.proofs.mem_disk.MemDisk.written.Goals as goal
 

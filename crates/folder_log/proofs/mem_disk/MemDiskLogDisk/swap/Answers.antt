@@ -1,7 +1,4 @@
-use Rattle.std.proofs.Common.{◌++◌, Some, subst, ap}
-use Rattle.folder_log.specs.declared.state.State.{State}
-use Rattle.folder_log.specs.Calls.{Recorded, IsImage}
-use Rattle.folder_log.specs.declared.state.DiskCall.TheVariants.{Swap}
+use Rattle.folder_log.proofs.Common.{IsImage, Recorded, Some, State, Swap, ap, subst, ◌++◌}
 use Rattle.folder_log.proofs.Recorded.{state_is}
 use Rattle.folder_log.proofs.mem_disk.MemDiskLogDisk.swap.Goals as goal
 

@@ -1,9 +1,4 @@
-use Rattle.std.proofs.Common.{◌≡◌, Some, subst, sym, ap, ◌∙◌}
-use Rattle.folder_log.specs.Disk.{File}
-use Rattle.folder_log.specs.declared.state.State.{State}
-use Rattle.folder_log.specs.Calls.{Recorded, state_of, state_in, IsImage}
-use Rattle.folder_log.specs.Images.{shown}
-use Rattle.folder_log.specs.declared.state.DiskCall.TheVariants.{Sync}
+use Rattle.folder_log.proofs.Common.{File, IsImage, Recorded, Some, State, Sync, ap, shown, state_in, state_of, subst, sym, ◌∙◌, ◌≡◌}
 use Rattle.folder_log.proofs.Recorded.{state_is}
 use Rattle.folder_log.proofs.mem_disk.MemDiskLogDisk.sync.Goals as goal
 

@@ -1,7 +1,4 @@
-use Rattle.std.proofs.Common.{◌≡◌, Some, sym, ap, ◌∙◌}
-use Rattle.folder_log.specs.Disk.{File}
-use Rattle.folder_log.specs.Calls.{Recorded, state_in, after}
-use Rattle.folder_log.specs.declared.state.DiskCall.TheVariants.{Write}
+use Rattle.folder_log.proofs.Common.{File, Recorded, Some, Write, after, ap, state_in, sym, ◌∙◌, ◌≡◌}
 use Rattle.folder_log.proofs.Recorded.{state_is, wrote_is, wrote_leaves}
 use Rattle.folder_log.proofs.mem_disk.MemDiskLogDisk.write_at.Goals as goal
 

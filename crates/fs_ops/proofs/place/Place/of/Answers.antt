@@ -1,5 +1,4 @@
-use Rattle.std.proofs.Common.{ap, sym, ◌∙◌}
-use Rattle.fs_ops.specs.Prelude.{is_key_path, is_key}
+use Rattle.fs_ops.proofs.Common.{ap, is_key, is_key_path, sym, ◌∙◌}
 use Rattle.fs_ops.proofs.Names.{is_place, path_key, kept_as}
 use Rattle.fs_ops.proofs.place.Place.of.Goals as goal
 

@@ -1,5 +1,4 @@
-use Rattle.std.proofs.Common.{ap, ◌∙◌}
-use Rattle.fs_ops.specs.Prelude.{are_elements}
+use Rattle.fs_rename.proofs.Common.{ap, are_elements, ◌∙◌}
 use Rattle.fs_rename.proofs.NewKeys.{base_key}
 use Rattle.fs_rename.proofs.base.Base.key.Goals as goal
 

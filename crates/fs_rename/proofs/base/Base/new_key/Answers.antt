@@ -1,5 +1,4 @@
-use Rattle.std.proofs.Common.{rules, ◌≡◌, ◌++◌, Some}
-use Rattle.fs_ops.specs.Prelude.{marker_of, rest_of}
+use Rattle.fs_rename.proofs.Common.{Some, marker_of, rest_of, rules, ◌++◌, ◌≡◌}
 use Rattle.fs_rename.proofs.NewKeys.{new_legal}
 use Rattle.fs_rename.proofs.base.Base.new_key.Goals as goal
 

@@ -1,7 +1,4 @@
-use Rattle.std.proofs.Common.{ℕ, ◌+◌, List, ◌∷◌, ◌∙◌, drop, ap, sym}
-use Rattle.std.proofs.lemmas.List.{drop_more}
-use Rattle.fs_ops.specs.Prelude.{marker_of}
-use Rattle.fs_rename.specs.Keys.{with_front, new_keys}
+use Rattle.fs_rename.proofs.Common.{List, ap, drop, drop_more, marker_of, new_keys, sym, with_front, ℕ, ◌+◌, ◌∙◌, ◌∷◌}
 use Rattle.fs_rename.proofs.NewKeys.{one_more}
 use Rattle.fs_rename.proofs.base.Base.new_keys.Goals as goal
 

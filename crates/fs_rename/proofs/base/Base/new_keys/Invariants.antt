@@ -1,6 +1,4 @@
-use Rattle.std.proofs.Common.{◌≡◌, drop}
-use Rattle.fs_ops.specs.Prelude.{marker_of}
-use Rattle.fs_rename.specs.Keys.{with_front, new_keys}
+use Rattle.fs_rename.proofs.Common.{drop, marker_of, new_keys, with_front, ◌≡◌}
 use Rattle.fs_rename.proofs.base.Base.new_keys.Given as goal
 
 -- the new keys so far and those of the keys that are left are all

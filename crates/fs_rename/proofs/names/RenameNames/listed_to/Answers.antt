@@ -1,6 +1,4 @@
-use Rattle.std.proofs.Common.{ap, sym, ◌∙◌}
-use Rattle.fs_ops.specs.Prelude.{option_copied, is_marker, prefix_of}
-use Rattle.fs_rename.specs.code.Rename.{Renaming}
+use Rattle.fs_rename.proofs.Common.{Renaming, ap, is_marker, option_copied, prefix_of, sym, ◌∙◌}
 use Rattle.fs_rename.proofs.Inside.{place_marker}
 use Rattle.fs_rename.proofs.names.RenameNames.listed_to.Goals as goal
 

@@ -1,5 +1,4 @@
-use Rattle.std.proofs.Common.{ap, ◌∙◌}
-use Rattle.job_protocol.specs.Prelude.{Job}
+use Rattle.job_commit.proofs.Common.{Job, ap, ◌∙◌}
 use Rattle.job_commit.proofs.Goings.{count_fits, again_counted}
 use Rattle.job_commit.proofs.basis.Basis.again.Goals as goal
 

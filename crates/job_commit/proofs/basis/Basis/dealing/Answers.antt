@@ -1,5 +1,4 @@
-use Rattle.std.proofs.Common.{ap}
-use Rattle.job_protocol.specs.Prelude.{Job}
+use Rattle.job_commit.proofs.Common.{Job, ap}
 use Rattle.job_commit.proofs.Steps.{dealt_within, dealt_next}
 use Rattle.job_commit.proofs.basis.Basis.dealing.Goals as goal
 

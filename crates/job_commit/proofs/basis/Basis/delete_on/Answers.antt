@@ -1,6 +1,5 @@
-use Rattle.std.proofs.Common.{refl, sym, ◌∙◌}
+use Rattle.job_commit.proofs.Common.{on_ok_weaker, refl, sym, ◌∙◌}
 use Rattle.job_commit.proofs.Steps.{deleting_next, over_below, next_same}
-use Rattle.path_keys.proofs.Common.{on_ok_weaker}
 use Rattle.job_commit.proofs.basis.Basis.delete_on.Goals as goal
 
 pub returns-in-Some-clause-ok : goal.returns-in-Some-clause-ok

@@ -1,6 +1,4 @@
-use Rattle.std.proofs.Common.{ap, ◌∙◌}
-use Rattle.job_commit.specs.declared.basis.Basis.{Basis}
-use Rattle.conflict.specs.Deletions.{deletion_asks}
+use Rattle.job_commit.proofs.Common.{Basis, ap, deletion_asks, ◌∙◌}
 use Rattle.job_commit.proofs.basis.Basis.deleting.Goals as goal
 
 pub delete_on-requires-clause-asked : goal.delete_on-requires-clause-asked

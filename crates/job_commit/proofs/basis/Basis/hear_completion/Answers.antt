@@ -1,5 +1,4 @@
-use Rattle.std.proofs.Common.{ap}
-use Rattle.job_protocol.specs.Prelude.{Job}
+use Rattle.job_commit.proofs.Common.{Job, ap}
 use Rattle.job_commit.proofs.Tables.{answered_still, answered_next}
 use Rattle.job_commit.proofs.basis.Basis.hear_completion.Goals as goal
 

@@ -1,7 +1,4 @@
-use Rattle.std.proofs.Common.{subst}
-use Rattle.job_commit.specs.Stages.{operation_of}
-use Rattle.commit_laws.specs.Fitting.{FitsReply}
-use Rattle.job_commit.specs.declared.step.Step.{Step}
+use Rattle.job_commit.proofs.Common.{FitsReply, Step, operation_of, subst}
 use Rattle.job_commit.proofs.Steps.{fits_deletion, deletion_told}
 use Rattle.job_commit.proofs.basis.Basis.heard.Goals as goal
 

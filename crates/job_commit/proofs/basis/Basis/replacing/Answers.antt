@@ -1,7 +1,5 @@
-use Rattle.std.proofs.Common.{ap, ◌∙◌, sym}
-use Rattle.job_protocol.specs.Prelude.{Job}
+use Rattle.job_commit.proofs.Common.{Job, ap, on_ok_weaker, sym, ◌∙◌}
 use Rattle.job_commit.proofs.Steps.{spared_is, kept_next, next_same, begins_deleting}
-use Rattle.path_keys.proofs.Common.{on_ok_weaker}
 use Rattle.job_commit.proofs.basis.Basis.replacing.Goals as goal
 
 pub returns-in-Fail-clause-ok : goal.returns-in-Fail-clause-ok

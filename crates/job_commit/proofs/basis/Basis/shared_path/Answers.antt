@@ -1,5 +1,4 @@
-use Rattle.std.proofs.Common.{ap}
-use Rattle.job_protocol.specs.Prelude.{Job}
+use Rattle.job_commit.proofs.Common.{Job, ap}
 use Rattle.job_commit.proofs.Steps.{shared_is, none_shared}
 use Rattle.job_commit.proofs.basis.Basis.shared_path.Goals as goal
 

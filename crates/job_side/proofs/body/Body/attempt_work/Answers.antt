@@ -1,5 +1,4 @@
-use Rattle.job_side.specs.Holds.{setting_of}
-use Rattle.job_side.specs.Events.{knows_of}
+use Rattle.job_side.proofs.Common.{knows_of, setting_of}
 use Rattle.job_side.proofs.Beginning.{works_of}
 use Rattle.job_side.proofs.Reported.{told_nothing}
 use Rattle.job_side.proofs.body.Body.attempt_work.Goals as goal

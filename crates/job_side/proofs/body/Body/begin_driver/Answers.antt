@@ -1,6 +1,4 @@
-use Rattle.std.proofs.Common.{refl}
-use Rattle.job_steps.specs.Prelude.{Driver}
-use Rattle.job_actor.proofs.Picking.{picks_go}
+use Rattle.job_side.proofs.Common.{Driver, picks_go, refl}
 use Rattle.job_side.proofs.Moments.{event_of, no_entries}
 use Rattle.job_side.proofs.Finishes.{has_hand}
 use Rattle.job_side.proofs.Standings.{placed}

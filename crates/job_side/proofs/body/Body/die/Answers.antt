@@ -1,7 +1,4 @@
-use Rattle.std.proofs.Common.{refl, ap, not}
-use Rattle.job_spec.proofs.Common.{length-set, nat_false}
-use Rattle.job_side.specs.Holds.{all_but}
-use Rattle.job_side.specs.declared.hands.Hand.TheVariants.{Empty}
+use Rattle.job_side.proofs.Common.{Empty, all_but, ap, length-set, nat_false, not, refl}
 use Rattle.job_side.proofs.Finishes.{has_hand, is_dead}
 use Rattle.job_side.proofs.Writes.{set_so, set_other}
 use Rattle.job_side.proofs.body.Body.die.Goals as goal

@@ -1,6 +1,4 @@
-use Rattle.job_steps.specs.Prelude.{Driver}
-use Rattle.job_side.specs.Holds.{setting_of}
-use Rattle.job_side.specs.Events.{knows_of}
+use Rattle.job_side.proofs.Common.{Driver, knows_of, setting_of}
 use Rattle.job_side.proofs.Beginning.{works_of}
 use Rattle.job_side.proofs.body.Body.driver_work.Goals as goal
 

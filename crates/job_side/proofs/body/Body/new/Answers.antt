@@ -1,6 +1,4 @@
-use Rattle.std.proofs.Common.{subst, ◌∙◌}
-use Rattle.job_steps.specs.Prelude.{Content}
-use Rattle.s3_service.specs.Ids.{AreBelow}
+use Rattle.job_side.proofs.Common.{AreBelow, Content, subst, ◌∙◌}
 use Rattle.job_side.proofs.Firsts.{is_begun}
 use Rattle.job_side.proofs.body.Body.new.Goals as goal
 

@@ -1,5 +1,4 @@
-use Rattle.std.proofs.Common.{refl}
-use Rattle.job_side.specs.Holds.{all_sound}
+use Rattle.job_side.proofs.Common.{all_sound, refl}
 use Rattle.job_side.proofs.Finishes.{is_over}
 use Rattle.job_side.proofs.body.Body.over.Goals as goal
 

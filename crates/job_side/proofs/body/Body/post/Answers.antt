@@ -1,6 +1,4 @@
-use Rattle.std.proofs.Common.{◌≡◌, ◌<◌, ◌^◌, length, Some, vec_len, sym, ap, ◌∙◌, rules, arith}
-use Rattle.job_spec.proofs.Common.{length-set, slice_get-get_or, some_is}
-use Rattle.job_side.specs.Holds.{all_sound}
+use Rattle.job_side.proofs.Common.{Some, all_sound, ap, arith, length, length-set, rules, slice_get-get_or, some_is, sym, vec_len, ◌<◌, ◌^◌, ◌∙◌, ◌≡◌}
 use Rattle.job_side.proofs.Finishes.{has_hand}
 use Rattle.job_side.proofs.Writes.{set_here, set_other}
 use Rattle.job_side.proofs.Postings.{posts_around, counted, due_fits, posted_at}

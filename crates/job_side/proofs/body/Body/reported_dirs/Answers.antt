@@ -1,6 +1,4 @@
-use Rattle.std.proofs.Common.{◌∙◌, ap, length}
-use Rattle.job_actor.specs.Reports.{report_dirs}
-use Rattle.job_plans.specs.Reported.{those}
+use Rattle.job_side.proofs.Common.{ap, length, report_dirs, those, ◌∙◌}
 use Rattle.job_side.proofs.Reported.{partitions_are, all_count}
 use Rattle.job_side.proofs.body.Body.reported_dirs.Goals as goal
 

@@ -1,6 +1,5 @@
-use Rattle.std.proofs.Common.{refl}
+use Rattle.job_side.proofs.Common.{refl, same_laws}
 use Rattle.job_side.proofs.Moments.{event_of}
-use Rattle.job_side.specs.Holds.{same_laws}
 use Rattle.job_side.proofs.Frames.{closing, grown_after}
 use Rattle.job_side.proofs.Beginning.{known_named}
 use Rattle.job_side.proofs.EventTurns.{start_turns}

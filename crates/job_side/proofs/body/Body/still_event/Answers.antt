@@ -1,5 +1,4 @@
-use Rattle.std.proofs.Common.{refl}
-use Rattle.job_side.specs.Holds.{same_laws}
+use Rattle.job_side.proofs.Common.{refl, same_laws}
 use Rattle.job_side.proofs.Frames.{closing, grown_after}
 use Rattle.job_side.proofs.Moving.{still_none}
 use Rattle.job_side.proofs.EventTurns.{still_turns}

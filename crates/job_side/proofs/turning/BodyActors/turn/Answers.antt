@@ -1,5 +1,4 @@
-use Rattle.std.proofs.Common.{refl, sym, ◌∙◌}
-use Rattle.job_steps.specs.Prelude.{NoMemory}
+use Rattle.job_side.proofs.Common.{NoMemory, refl, sym, ◌∙◌}
 use Rattle.job_side.proofs.Turns.{goes_on, has_ended, has_died}
 use Rattle.job_side.proofs.turning.BodyActors.turn.Goals as goal
 

@@ -1,5 +1,4 @@
-use Rattle.std.proofs.Common.{◌∙◌, List, sym, ap, subst, arith}
-use Rattle.job_spec.specs.Prelude.{Declared, Script, AreEvents, Event, after_event, past_from}
+use Rattle.job_states.proofs.Common.{AreEvents, Declared, Event, List, Script, after_event, ap, arith, past_from, subst, sym, ◌∙◌}
 use Rattle.job_states.proofs.FoldLemmas.{event_at, left_from}
 use Rattle.job_states.proofs.states.States.after.Goals as goal
 

@@ -1,6 +1,4 @@
-use Rattle.std.proofs.Common.{◌≡◌, ◌+◌, ◌≤◌, drop}
-use Rattle.job_spec.specs.Prelude.{Past, past_from, nothing_past}
-use Rattle.job_states.specs.Stands.{Stands}
+use Rattle.job_states.proofs.Common.{Past, Stands, drop, nothing_past, past_from, ◌+◌, ◌≡◌, ◌≤◌}
 use Rattle.job_states.proofs.states.States.after.Given as goal
 
 abbrev pub invariant-loop-index : goal.invariant-loop-index

@@ -1,8 +1,4 @@
-use Rattle.std.proofs.Common.{◌∙◌, true≢false, sym, subst}
-use Rattle.job_spec.specs.Prelude.{begin}
-use Rattle.job_states.specs.declared.standing.Standing.{Standing}
-use Rattle.job_states.specs.Standing.{standing}
-use Rattle.job_states.specs.Stands.{Kept, Stands, ChangesAt}
+use Rattle.job_states.proofs.Common.{ChangesAt, Kept, Standing, Stands, begin, standing, subst, sym, true≢false, ◌∙◌}
 use Rattle.job_states.proofs.StandsLemmas.{changes_begin, others_put}
 use Rattle.job_states.proofs.states.States.begin.Goals as goal
 

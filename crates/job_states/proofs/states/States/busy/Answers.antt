@@ -1,7 +1,4 @@
-use Rattle.std.proofs.Common.{◌∙◌, List, ℕ, map, slice_get, sym, ap, subst}
-use Rattle.job_spec.specs.Prelude.{actors}
-use Rattle.job_states.specs.Standing.{standing}
-use Rattle.job_states.specs.Stands.{Kept, Stands}
+use Rattle.job_states.proofs.Common.{Kept, List, Stands, actors, ap, map, slice_get, standing, subst, sym, ℕ, ◌∙◌}
 use Rattle.job_states.proofs.ReportLemmas.{busy_are}
 use Rattle.job_states.proofs.states.States.busy.Goals as goal
 

@@ -1,6 +1,4 @@
-use Rattle.std.proofs.Common.{◌≡◌, drop}
-use Rattle.job_spec.specs.Prelude.{Past, end_ops}
-use Rattle.job_states.specs.Stands.{Stands}
+use Rattle.job_states.proofs.Common.{Past, Stands, drop, end_ops, ◌≡◌}
 use Rattle.job_states.proofs.states.States.end_all.Given as goal
 
 abbrev pub invariant-loop-actor_end : goal.invariant-loop-actor_end

@@ -1,10 +1,4 @@
-use Rattle.std.proofs.Common.{◌≡◌, ◌∙◌, true, sym, subst}
-use Rattle.job_spec.specs.Prelude.{is_commit, is_known, is_reported, ActorEnd, end_op}
-use Rattle.job_spec.specs.States.{is_setup}
-use Rattle.job_model.specs.declared.events.Op.TheVariants.{Setup, Commit}
-use Rattle.job_states.specs.declared.standing.Standing.{Standing}
-use Rattle.job_states.specs.Standing.{standing}
-use Rattle.job_states.specs.Stands.{Kept, Stands, ChangesAt}
+use Rattle.job_states.proofs.Common.{ActorEnd, ChangesAt, Commit, Kept, Setup, Standing, Stands, end_op, is_commit, is_known, is_reported, is_setup, standing, subst, sym, true, ◌∙◌, ◌≡◌}
 use Rattle.job_states.proofs.StandsLemmas.{changes_end, never, others_put, same_report, same_stage, setup_was, commit_was, decides}
 use Rattle.job_states.proofs.states.States.end_of.Goals as goal
 

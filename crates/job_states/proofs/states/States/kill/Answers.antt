@@ -1,8 +1,4 @@
-use Rattle.std.proofs.Common.{◌∙◌, sym, subst}
-use Rattle.job_spec.specs.Prelude.{kill}
-use Rattle.job_states.specs.declared.standing.Standing.{Standing}
-use Rattle.job_states.specs.Standing.{standing}
-use Rattle.job_states.specs.Stands.{Kept, Stands, ChangesAt}
+use Rattle.job_states.proofs.Common.{ChangesAt, Kept, Standing, Stands, kill, standing, subst, sym, ◌∙◌}
 use Rattle.job_states.proofs.StandsLemmas.{changes_kill, others_put}
 use Rattle.job_states.proofs.states.States.kill.Goals as goal
 

@@ -1,6 +1,4 @@
-use Rattle.std.proofs.Common.{◌∙◌, sym, subst}
-use Rattle.job_spec.specs.Prelude.{is_reported}
-use Rattle.job_states.specs.Stands.{Kept, Stands}
+use Rattle.job_states.proofs.Common.{Kept, Stands, is_reported, subst, sym, ◌∙◌}
 use Rattle.job_states.proofs.ReportLemmas.{missing_is}
 use Rattle.job_states.proofs.states.States.missing.Goals as goal
 

@@ -1,6 +1,4 @@
-use Rattle.std.proofs.Common.{◌∙◌, false, ap, refl, sym}
-use Rattle.job_spec.specs.Prelude.{Script}
-use Rattle.job_states.specs.Stands.{tested}
+use Rattle.job_states.proofs.Common.{Script, ap, false, refl, sym, tested, ◌∙◌}
 use Rattle.job_states.proofs.ToldLemmas.{none_reported}
 use Rattle.job_states.proofs.states.States.new.Goals as goal
 

@@ -1,6 +1,4 @@
-use Rattle.std.proofs.Common.{sym, subst}
-use Rattle.job_spec.specs.Prelude.{Past}
-use Rattle.job_states.specs.Stands.{Stands}
+use Rattle.job_states.proofs.Common.{Past, Stands, subst, sym}
 use Rattle.job_states.proofs.states.States.pass.Goals as goal
 
 pub returns-clause-stands : goal.returns-clause-stands

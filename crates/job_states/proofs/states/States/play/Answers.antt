@@ -1,5 +1,4 @@
-use Rattle.std.proofs.Common.{ap}
-use Rattle.job_spec.specs.Prelude.{open_event, told, end_ops, after_event}
+use Rattle.job_states.proofs.Common.{after_event, ap, end_ops, open_event, told}
 use Rattle.job_states.proofs.FoldLemmas.{after_played}
 use Rattle.job_states.proofs.states.States.play.Goals as goal
 

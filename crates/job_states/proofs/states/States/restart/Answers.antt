@@ -1,8 +1,4 @@
-use Rattle.std.proofs.Common.{◌≡◌, ◌∙◌, ◌+◌, arith, true≢false, drop, length, map, sym, ap, subst}
-use Rattle.job_spec.specs.Prelude.{Driver, actors, is_reported}
-use Rattle.job_states.specs.declared.standing.Standing.{Standing}
-use Rattle.job_states.specs.Standing.{standing, unreported_in}
-use Rattle.job_states.specs.Stands.{Kept, Stands, ChangesAt}
+use Rattle.job_states.proofs.Common.{ChangesAt, Driver, Kept, Standing, Stands, actors, ap, arith, drop, is_reported, length, map, standing, subst, sym, true≢false, unreported_in, ◌+◌, ◌∙◌, ◌≡◌}
 use Rattle.job_states.proofs.StandsLemmas.{renew, changes_restart, others_put}
 use Rattle.job_states.proofs.ReportLemmas.{whole}
 use Rattle.job_states.proofs.ToldLemmas.{none_reported, map_twice}

@@ -1,5 +1,4 @@
-use Rattle.std.proofs.Common.{◌≡◌, true, length, slice_get, Some, sym, subst}
-use Rattle.job_world.specs.Worlds.{Run, WentOn, Keeps, run_of}
+use Rattle.job_world.proofs.Common.{Keeps, Run, Some, WentOn, length, run_of, slice_get, subst, sym, true, ◌≡◌}
 use Rattle.job_world.proofs.KeptWorlds.{counts_is, its_turn, keeps, went_on, still_alone, alone_before, alone_after}
 use Rattle.job_world.proofs.world.World.event.Goals as goal
 

@@ -1,6 +1,4 @@
-use Rattle.std.proofs.Common.{◌≡◌, length, subst, ap, ◌∙◌}
-use Rattle.job_steps.specs.Prelude.{Scene, moment, Finished}
-use Rattle.job_world.specs.Worlds.{Run, Keeps}
+use Rattle.job_world.proofs.Common.{Finished, Keeps, Run, Scene, ap, length, moment, subst, ◌∙◌, ◌≡◌}
 use Rattle.job_world.proofs.KeptWorlds.{scene_is, keeps, finished}
 use Rattle.job_world.proofs.world.World.finish.Goals as goal
 

@@ -1,5 +1,4 @@
-use Rattle.std.proofs.Common.{subst}
-use Rattle.job_world.specs.Worlds.{Keeps}
+use Rattle.job_world.proofs.Common.{Keeps, subst}
 use Rattle.job_world.proofs.KeptWorlds.{keeps}
 use Rattle.job_world.proofs.world.World.keeps.Goals as goal
 

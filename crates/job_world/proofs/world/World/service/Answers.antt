@@ -1,6 +1,4 @@
-use Rattle.std.proofs.Common.{◌≡◌, length, ap, subst, ◌∙◌}
-use Rattle.job_steps.specs.Prelude.{Scene, moment}
-use Rattle.job_world.specs.Worlds.{Run}
+use Rattle.job_world.proofs.Common.{Run, Scene, ap, length, moment, subst, ◌∙◌, ◌≡◌}
 use Rattle.job_world.proofs.KeptWorlds.{scene_is}
 use Rattle.job_world.proofs.world.World.service.Goals as goal
 

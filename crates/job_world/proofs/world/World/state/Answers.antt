@@ -1,6 +1,4 @@
-use Rattle.std.proofs.Common.{◌≡◌, subst}
-use Rattle.job_steps.specs.Prelude.{past}
-use Rattle.job_world.specs.Worlds.{Run}
+use Rattle.job_world.proofs.Common.{Run, past, subst, ◌≡◌}
 use Rattle.job_world.proofs.KeptWorlds.{state_is}
 use Rattle.job_world.proofs.world.World.state.Goals as goal
 

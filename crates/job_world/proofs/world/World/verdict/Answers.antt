@@ -1,6 +1,4 @@
-use Rattle.std.proofs.Common.{◌≡◌, subst}
-use Rattle.job_spec.specs.Prelude.{verdict, verdict_or}
-use Rattle.job_world.specs.Worlds.{Run}
+use Rattle.job_world.proofs.Common.{Run, subst, verdict, verdict_or, ◌≡◌}
 use Rattle.job_world.proofs.KeptWorlds.{state_is}
 use Rattle.job_world.proofs.world.World.verdict.Goals as goal
 

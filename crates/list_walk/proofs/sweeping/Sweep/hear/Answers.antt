@@ -1,6 +1,4 @@
-use Rattle.std.proofs.Common.{rules, ◌≡◌, false, length, Some, None, sym}
-use Rattle.list_walk.specs.Walks.{keys_on}
-use Rattle.list_walk.specs.Kept.{next_from}
+use Rattle.list_walk.proofs.Common.{None, Some, false, keys_on, length, next_from, rules, sym, ◌≡◌}
 use Rattle.list_walk.proofs.Batches.{batch_next, batch_last}
 use Rattle.list_walk.proofs.sweeping.Sweep.hear.Goals as goal
 

@@ -1,7 +1,5 @@
-use Rattle.std.proofs.Common.{ap, ◌∙◌, sym, ℕ, List, ◌≡◌, ◌≤◌, arith, subst, length}
-use Rattle.s3_types.specs.Prelude.{nat_cmp_total, nat_cmp}
+use Rattle.multipart.proofs.Common.{List, ap, arith, len_made, length, nat_cmp, nat_cmp_total, subst, sym, ℕ, ◌∙◌, ◌≡◌, ◌≤◌}
 use Rattle.std.specs.FinMap as fin
-use Rattle.proof_base.proofs.Tree.{len_made}
 use Rattle.multipart.proofs.Numbered.{few_parts}
 use Rattle.multipart.proofs.part.Parts.count.Goals as goal
 

@@ -1,9 +1,6 @@
-use Rattle.std.proofs.Common.{ap, ◌∙◌, sym, subst, is_some, ℕ, List, Some}
-use Rattle.std.specs.Map.{keys_of}
-use Rattle.std.specs.List.Sorted.{IsStrictlySortedBy}
-use Rattle.s3_types.specs.Prelude.{nat_cmp, nat_cmp_total, get-from_entries, find}
-use Rattle.std.specs.FinMap as fin
+use Rattle.multipart.proofs.Common.{IsStrictlySortedBy, List, Some, ap, find, get-from_entries, is_some, keys_of, nat_cmp, nat_cmp_total, subst, sym, ℕ, ◌∙◌}
 use Rattle.multipart.proofs.Rows.{found_at, none_at}
+use Rattle.std.specs.FinMap as fin
 use Rattle.multipart.proofs.part.Parts.get.Goals as goal
 
 pub returns-in-Ok-clause-found : goal.returns-in-Ok-clause-found

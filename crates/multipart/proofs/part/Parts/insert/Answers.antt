@@ -1,7 +1,5 @@
-use Rattle.std.proofs.Common.{ap, ◌∙◌, sym, subst, set, ℕ, List}
-use Rattle.s3_types.specs.Prelude.{nat_cmp}
+use Rattle.multipart.proofs.Common.{AreNumbered, IsPlace, List, ap, is_number_at, nat_cmp, set, subst, sym, ℕ, ◌∙◌}
 use Rattle.std.specs.FinMap as fin
-use Rattle.multipart.specs.Numbers.{AreNumbered, IsPlace, is_number_at}
 use Rattle.multipart.proofs.Numbered.{numbered_insert}
 use Rattle.multipart.proofs.Rows.{set_is, insert_is, put_sorted, put_made}
 use Rattle.multipart.proofs.part.Parts.insert.Goals as goal

@@ -1,7 +1,5 @@
-use Rattle.std.proofs.Common.{◌≡◌, true, ap, ◌∙◌, sym, subst, List, ℕ}
-use Rattle.s3_types.specs.Prelude.{AllByRecursion, nat_cmp_total, is_part_number}
+use Rattle.multipart.proofs.Common.{AllByRecursion, List, ap, entries_made, is_part_number, nat_cmp_total, subst, sym, true, ℕ, ◌∙◌, ◌≡◌}
 use Rattle.std.specs.FinMap as fin
-use Rattle.proof_base.proofs.Tree.{entries_made}
 use Rattle.multipart.proofs.Numbered.{all_numbered}
 use Rattle.multipart.proofs.part.Parts.iter.Goals as goal
 

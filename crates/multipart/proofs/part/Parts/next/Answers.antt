@@ -1,8 +1,6 @@
-use Rattle.std.proofs.Common.{ap, ◌∙◌, sym, refl, length, List, ℕ}
+use Rattle.multipart.proofs.Common.{Excluded, List, Unbounded, ap, entries_between, entries_made, length, nat_cmp, nat_cmp_total, refl, slice_get, sym, ℕ, ◌∙◌}
 use Rattle.std.proofs.lemmas.Option.{slice_get_read, slice_get_past}
-use Rattle.s3_types.specs.Prelude.{slice_get, nat_cmp, nat_cmp_total, entries_between, Excluded, Unbounded}
 use Rattle.std.specs.FinMap as fin
-use Rattle.proof_base.proofs.Tree.{entries_made}
 use Rattle.multipart.proofs.Rows.{next_at}
 use Rattle.multipart.proofs.part.Parts.next.Goals as goal
 

@@ -1,8 +1,5 @@
-use Rattle.std.proofs.Common.{ap, ◌∙◌, sym, map, List, ℕ}
-use Rattle.std.proofs.lemmas.List.{take_all}
-use Rattle.s3_types.specs.Prelude.{nat_cmp_total, size_of}
+use Rattle.multipart.proofs.Common.{List, ap, entries_made, map, nat_cmp_total, size_of, sym, take_all, ℕ, ◌∙◌}
 use Rattle.std.specs.FinMap as fin
-use Rattle.proof_base.proofs.Tree.{entries_made}
 use Rattle.multipart.proofs.part.Parts.sizes.Goals as goal
 
 pub returns : goal.returns

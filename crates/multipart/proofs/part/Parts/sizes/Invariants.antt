@@ -1,5 +1,4 @@
-use Rattle.std.proofs.Common.{◌≡◌, map, take}
-use Rattle.s3_types.specs.Prelude.{size_of}
+use Rattle.multipart.proofs.Common.{map, size_of, take, ◌≡◌}
 use Rattle.multipart.proofs.part.Parts.sizes.Given as goal
 
 abbrev pub invariant-loop-entry : goal.invariant-loop-entry

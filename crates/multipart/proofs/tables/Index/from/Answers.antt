@@ -1,8 +1,5 @@
-use Rattle.std.proofs.Common.{ap, ◌∙◌, sym, List, ℕ}
-use Rattle.s3_types.specs.Prelude.{bound_map, entries_between, Unbounded, ref_cmp}
+use Rattle.multipart.proofs.Common.{List, Unbounded, UploadRef, ap, bound_map, entries_between, entries_made, ref_cmp, sym, ℕ, ◌∙◌}
 use Rattle.std.specs.FinMap as fin
-use Rattle.proof_base.proofs.Tree.{entries_made}
-use Rattle.s3_types.specs.declared.request.UploadRef.{UploadRef}
 use Rattle.multipart.proofs.Keyed.{refs_total}
 use Rattle.multipart.proofs.tables.Index.from.Goals as goal
 

@@ -1,6 +1,5 @@
-use Rattle.std.proofs.Common.{ap, ◌∙◌}
+use Rattle.multipart.proofs.Common.{ap, made_insert, ◌∙◌}
 use Rattle.std.specs.FinMap as fin
-use Rattle.proof_base.proofs.Tree.{made_insert}
 use Rattle.multipart.proofs.Keyed.{refs_total, exact_refs}
 use Rattle.multipart.proofs.tables.Index.insert.Goals as goal
 

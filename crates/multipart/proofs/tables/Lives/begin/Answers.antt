@@ -1,8 +1,5 @@
-use Rattle.std.proofs.Common.{ap, ◌∙◌}
-use Rattle.s3_types.specs.Prelude.{nat_cmp_total}
-use Rattle.proof_base.proofs.Common.{exact_unsigned}
+use Rattle.multipart.proofs.Common.{ap, exact_unsigned, made_insert, nat_cmp_total, ◌∙◌}
 use Rattle.std.specs.FinMap as fin
-use Rattle.proof_base.proofs.Tree.{made_insert}
 use Rattle.multipart.proofs.tables.Lives.begin.Goals as goal
 
 pub returns-clause-ok : goal.returns-clause-ok

@@ -1,7 +1,5 @@
-use Rattle.std.proofs.Common.{ap, ◌∙◌, sym}
-use Rattle.s3_types.specs.Prelude.{nat_cmp_total}
+use Rattle.multipart.proofs.Common.{ap, entries_made, nat_cmp_total, sym, ◌∙◌}
 use Rattle.std.specs.FinMap as fin
-use Rattle.proof_base.proofs.Tree.{entries_made}
 use Rattle.multipart.proofs.tables.Lives.iter.Goals as goal
 
 pub returns : goal.returns

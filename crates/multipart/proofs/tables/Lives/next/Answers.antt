@@ -1,7 +1,5 @@
-use Rattle.std.proofs.Common.{ap, ◌∙◌, sym, List, ℕ}
-use Rattle.s3_types.specs.Prelude.{slice_get, option_map, nat_cmp, nat_cmp_total, deref_pair, entries_between, Excluded, Unbounded, Upload}
+use Rattle.multipart.proofs.Common.{Excluded, List, Unbounded, Upload, ap, deref_pair, entries_between, entries_made, first_taken, nat_cmp, nat_cmp_total, option_map, slice_get, sym, ℕ, ◌∙◌}
 use Rattle.std.specs.FinMap as fin
-use Rattle.proof_base.proofs.Tree.{first_taken, entries_made}
 use Rattle.multipart.proofs.tables.Lives.next.Goals as goal
 
 pub returns-in-Some : goal.returns-in-Some

@@ -1,8 +1,5 @@
-use Rattle.std.proofs.Common.{ap, ◌∙◌, sym, subst, refl, ◌≡◌, Some, None, Option}
-use Rattle.s3_types.specs.Prelude.{IsSome, IsSomeAnd, nat_cmp, get_by, nat_cmp_total, Upload, with_part}
-use Rattle.proof_base.proofs.Common.{false≢true, exact_unsigned}
+use Rattle.multipart.proofs.Common.{IsSome, IsSomeAnd, None, Option, Some, Upload, ap, exact_unsigned, false≢true, get_by, get_made, insert_same, made_insert, nat_cmp, nat_cmp_total, refl, subst, sym, with_part, ◌∙◌, ◌≡◌}
 use Rattle.std.specs.FinMap as fin
-use Rattle.proof_base.proofs.Tree.{get_made, made_insert, insert_same}
 use Rattle.multipart.proofs.tables.Lives.put_part.Goals as goal
 
 pub returns-in_default-clause-ok : goal.returns-in_default-clause-ok

@@ -1,8 +1,5 @@
-use Rattle.std.proofs.Common.{ap, ◌∙◌, sym}
-use Rattle.s3_types.specs.Prelude.{nat_cmp_total}
-use Rattle.proof_base.proofs.Common.{exact_unsigned}
+use Rattle.multipart.proofs.Common.{ap, exact_unsigned, get_made, made_remove, nat_cmp_total, sym, ◌∙◌}
 use Rattle.std.specs.FinMap as fin
-use Rattle.proof_base.proofs.Tree.{get_made, made_remove}
 use Rattle.multipart.proofs.tables.Lives.remove.Goals as goal
 
 pub returns-clause-value : goal.returns-clause-value

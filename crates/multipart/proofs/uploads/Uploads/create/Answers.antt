@@ -1,9 +1,5 @@
-use Rattle.std.proofs.Common.{ap, ◌∙◌, sym, ◌≡◌, ◌≤◌, None, arith}
-use Rattle.s3_types.specs.Prelude.{nat_cmp_total}
-use Rattle.proof_base.proofs.Common.{exact_unsigned}
+use Rattle.multipart.proofs.Common.{None, ap, arith, exact_unsigned, insert_remove, keyed, nat_cmp_total, sym, ◌∙◌, ◌≡◌, ◌≤◌}
 use Rattle.std.specs.FinMap as fin
-use Rattle.proof_base.proofs.Tree.{insert_remove}
-use Rattle.multipart.specs.Index.{keyed}
 use Rattle.multipart.proofs.Keyed.{keyed_insert}
 use Rattle.multipart.proofs.uploads.Uploads.create.Goals as goal
 

@@ -1,8 +1,4 @@
-use Rattle.std.proofs.Common.{List, subst, take, nat_lt, length, ◌≡◌, ◌∙◌, true, false}
-use Rattle.std.specs.Prelude.{IfOk}
-use Rattle.s3_types.specs.Prelude.{text_cmp}
-use Rattle.proof_base.proofs.Less.{lt}
-use Rattle.s3_types.specs.declared.request.UploadRef.{UploadRef}
+use Rattle.multipart.proofs.Common.{IfOk, List, UploadRef, false, length, lt, nat_lt, subst, take, text_cmp, true, ◌∙◌, ◌≡◌}
 use Rattle.multipart.proofs.Follow.{later_rest, first_after}
 use Rattle.multipart.proofs.uploads.Uploads.list_after.Goals as goal
 

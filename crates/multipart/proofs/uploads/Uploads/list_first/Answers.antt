@@ -1,6 +1,4 @@
-use Rattle.std.proofs.Common.{List, subst, take, nat_lt, length, ◌≡◌}
-use Rattle.std.specs.Prelude.{IfOk}
-use Rattle.s3_types.specs.declared.request.UploadRef.{UploadRef}
+use Rattle.multipart.proofs.Common.{IfOk, List, UploadRef, length, nat_lt, subst, take, ◌≡◌}
 use Rattle.multipart.proofs.Follow.{first_rest}
 use Rattle.multipart.proofs.uploads.Uploads.list_first.Goals as goal
 

@@ -1,8 +1,5 @@
-use Rattle.std.proofs.Common.{ap, ◌∙◌, sym}
-use Rattle.store_frame.specs.Prelude.{text_total}
+use Rattle.object_store.proofs.Common.{Held, ap, len_viewed, sym, text_total, ◌∙◌}
 use Rattle.std.specs.FinMap as map
-use Rattle.proof_base.proofs.Viewed.{len_viewed}
-use Rattle.object_store.specs.declared.objects.Held.{Held}
 use Rattle.object_store.proofs.objects.Objects.count.Goals as goal
 
 pub returns : goal.returns

@@ -1,10 +1,5 @@
-use Rattle.std.proofs.Common.{◌∙◌, sym, subst}
-use Rattle.store_frame.specs.Prelude.{is_at, text_total, text_cmp}
-use Rattle.proof_base.proofs.Common.{exact_bytes}
+use Rattle.object_store.proofs.Common.{AreOwn, Held, exact_bytes, is_at, subst, sym, text_cmp, text_total, viewed_remove, ◌∙◌}
 use Rattle.std.specs.FinMap as map
-use Rattle.proof_base.proofs.Viewed.{viewed_remove}
-use Rattle.object_store.specs.declared.objects.Held.{Held}
-use Rattle.object_store.specs.Held.{AreOwn}
 use Rattle.object_store.proofs.Own.{own_remove}
 use Rattle.object_store.proofs.objects.Objects.delete.Goals as goal
 

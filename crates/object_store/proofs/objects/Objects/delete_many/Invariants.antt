@@ -1,5 +1,4 @@
-use Rattle.std.proofs.Common.{◌≡◌, drop}
-use Rattle.store_frame.specs.Prelude.{without}
+use Rattle.object_store.proofs.Common.{drop, without, ◌≡◌}
 use Rattle.object_store.proofs.objects.Objects.delete_many.Given as goal
 
 -- what is left to remove, removed, leaves what all of them leave

@@ -1,8 +1,5 @@
-use Rattle.std.proofs.Common.{ap, ◌∙◌, sym, List, ℕ, ◌≡◌, Some, None}
-use Rattle.store_frame.specs.Prelude.{slice_get, option_map, bound_map, entries_between, Unbounded, text_total, text_cmp, Object}
+use Rattle.object_store.proofs.Common.{Held, List, None, Object, Some, Unbounded, ap, bound_map, entries_between, entries_viewed, option_map, slice_get, sym, text_cmp, text_total, ℕ, ◌∙◌, ◌≡◌}
 use Rattle.std.specs.FinMap as map
-use Rattle.proof_base.proofs.Viewed.{entries_viewed}
-use Rattle.object_store.specs.declared.objects.Held.{Held}
 use Rattle.object_store.proofs.Own.{first_lent, by_own_key}
 use Rattle.object_store.proofs.objects.Objects.first_from.Goals as goal
 

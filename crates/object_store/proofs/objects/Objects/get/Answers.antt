@@ -1,6 +1,4 @@
-use Rattle.std.proofs.Common.{ap, ◌∙◌, Some, None}
-use Rattle.s3_types.specs.Prelude.{get_by}
-use Rattle.store_frame.specs.Prelude.{text_cmp}
+use Rattle.object_store.proofs.Common.{None, Some, ap, get_by, text_cmp, ◌∙◌}
 use Rattle.std.specs.FinMap as map
 use Rattle.object_store.proofs.Own.{got}
 use Rattle.object_store.proofs.objects.Objects.get.Goals as goal

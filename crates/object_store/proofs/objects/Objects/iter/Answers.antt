@@ -1,9 +1,5 @@
-use Rattle.std.proofs.Common.{ap, ◌∙◌, sym}
-use Rattle.store_frame.specs.Prelude.{text_total}
+use Rattle.object_store.proofs.Common.{Held, ap, entries_viewed, lent, sym, text_total, ◌∙◌}
 use Rattle.std.specs.FinMap as map
-use Rattle.proof_base.proofs.Viewed.{entries_viewed}
-use Rattle.object_store.specs.declared.objects.Held.{Held}
-use Rattle.object_store.specs.Held.{lent}
 use Rattle.object_store.proofs.Own.{own_contents}
 use Rattle.object_store.proofs.objects.Objects.iter.Goals as goal
 

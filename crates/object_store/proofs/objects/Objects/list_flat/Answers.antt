@@ -1,6 +1,5 @@
-use Rattle.std.proofs.Common.{◌≡◌, List, subst, take, length}
+use Rattle.object_store.proofs.Common.{List, PageEntry, bound_map, length, subst, take, ◌≡◌}
 use Rattle.std.specs.Prelude.{IfOk, nat_lt}
-use Rattle.store_frame.specs.Prelude.{bound_map, PageEntry}
 use Rattle.object_store.proofs.Flat.{flat_rest}
 use Rattle.object_store.proofs.objects.Objects.list_flat.Goals as goal
 

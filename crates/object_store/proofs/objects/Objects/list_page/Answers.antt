@@ -1,10 +1,7 @@
-use Rattle.std.proofs.Common.{◌≡◌, ◌∙◌, ℕ, Bool, List, sym, ap, subst, take, length}
+use Rattle.object_store.proofs.Common.{AllocError, Bool, List, Objects, PageEntry, ap, length, listed, subst, sym, take, walked, ℕ, ◌∙◌, ◌≡◌}
 use Rattle.std.specs.FinMap as map
 use Rattle.std.specs.Prelude.{IfOk, nat_lt, Result}
-use Rattle.s3_types.specs.Prelude.{AllocError}
-use Rattle.store_frame.specs.Prelude.{listed, Objects, PageEntry}
 use Rattle.object_store.specs.declared.page.Page.{Page}
-use Rattle.store_frame.specs.Walk.{walked}
 use Rattle.store_frame.proofs.Listed.{walked_listed}
 use Rattle.object_store.proofs.objects.Objects.list_page.Goals as goal
 

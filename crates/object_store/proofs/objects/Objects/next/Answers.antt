@@ -1,8 +1,5 @@
-use Rattle.std.proofs.Common.{ap, ◌∙◌, sym, subst, ◌≡◌, List, ℕ, rules}
-use Rattle.store_frame.specs.Prelude.{option_copied, option_map, slice_get, Object}
+use Rattle.object_store.proofs.Common.{IsNext, List, Object, ap, filter_all, next_of, option_copied, option_map, rules, slice_get, subst, sym, ℕ, ◌∙◌, ◌≡◌}
 use Rattle.std.specs.FinMap as map
-use Rattle.proof_base.proofs.Tree.{filter_all}
-use Rattle.object_store.specs.Objects.{next_of, IsNext}
 use Rattle.object_store.proofs.Next.{is_next}
 use Rattle.object_store.proofs.objects.Objects.next.Goals as goal
 

@@ -1,8 +1,5 @@
-use Rattle.std.proofs.Common.{ap, ◌∙◌, sym, List, ℕ, ◌≡◌, subst, true, false, cond, Some, None}
-use Rattle.store_frame.specs.Prelude.{option_map, text_cmp, begins, Object, ComesNext}
+use Rattle.object_store.proofs.Common.{ComesNext, List, None, Object, Some, ap, begins, cond, false, found_next, map_sorted, option_map, subst, sym, text_cmp, true, ℕ, ◌∙◌, ◌≡◌}
 use Rattle.std.specs.FinMap as map
-use Rattle.proof_base.proofs.Tree.{map_sorted}
-use Rattle.store_frame.proofs.Walked.{found_next}
 use Rattle.object_store.proofs.objects.Objects.next_listed.Goals as goal
 
 pub returns-then-starts_with : goal.returns-then-starts_with

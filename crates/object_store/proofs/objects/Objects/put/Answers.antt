@@ -1,10 +1,5 @@
-use Rattle.std.proofs.Common.{◌∙◌, sym, subst, ◌≡◌}
-use Rattle.proof_base.proofs.Common.{exact_bytes}
-use Rattle.store_frame.specs.Prelude.{text_total}
+use Rattle.object_store.proofs.Common.{AreOwn, Held, exact_bytes, subst, sym, text_total, viewed_insert, ◌∙◌, ◌≡◌}
 use Rattle.std.specs.FinMap as map
-use Rattle.proof_base.proofs.Viewed.{viewed_insert}
-use Rattle.object_store.specs.declared.objects.Held.{Held}
-use Rattle.object_store.specs.Held.{AreOwn}
 use Rattle.object_store.proofs.Own.{own_insert}
 use Rattle.object_store.proofs.objects.Objects.put.Goals as goal
 

@@ -1,6 +1,5 @@
-use Rattle.std.proofs.Common.{◌≡◌, ◌≤◌, ◌-◌, ◌++◌, length, true}
+use Rattle.object_store.proofs.Common.{length, true, walked, ◌++◌, ◌-◌, ◌≡◌, ◌≤◌}
 use Rattle.std.specs.FinMap as map
-use Rattle.store_frame.specs.Walk.{walked}
 use Rattle.object_store.proofs.objects.Objects.walk.Given as goal
 
 -- the entries so far and those after the last of them are all

@@ -1,5 +1,4 @@
-use Rattle.pending_json.specs.Prelude.{Pending, wanting, Spell, pending_tree}
-use Rattle.proof_base.proofs.Reading.{found_so, only}
+use Rattle.pending_json.proofs.Common.{Pending, Spell, found_so, only, pending_tree, wanting}
 use Rattle.pending_json.proofs.Relations.{pending_found, pending_only}
 use Rattle.pending_json.proofs.pending.PendingUpload.read.Goals as goal
 

@@ -1,6 +1,4 @@
-use Rattle.pending_json.specs.Prelude.{wanting, Spell, set_tree}
-use Rattle.proof_base.proofs.Reading.{found_so, only}
-use Rattle.pending_json.specs.declared.records.PendingSet.{PendingSet}
+use Rattle.pending_json.proofs.Common.{PendingSet, Spell, found_so, only, set_tree, wanting}
 use Rattle.pending_json.proofs.Relations.{set_found, set_only}
 use Rattle.pending_json.proofs.records.PendingSet.read.Goals as goal
 

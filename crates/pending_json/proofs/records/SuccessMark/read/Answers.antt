@@ -1,6 +1,4 @@
-use Rattle.pending_json.specs.Prelude.{wanting, Spell, success_tree}
-use Rattle.proof_base.proofs.Reading.{found_so, only}
-use Rattle.pending_json.specs.declared.records.SuccessMark.{SuccessMark}
+use Rattle.pending_json.proofs.Common.{Spell, SuccessMark, found_so, only, success_tree, wanting}
 use Rattle.pending_json.proofs.Relations.{success_found, success_only}
 use Rattle.pending_json.proofs.records.SuccessMark.read.Goals as goal
 

@@ -1,9 +1,6 @@
-use Rattle.std.proofs.Common.{◌≡◌, is_some, cond, ap, sym, ◌∙◌}
-use Rattle.proof_base.proofs.Common.{on_ok_weaker}
-use Rattle.pending_json.specs.Prelude.{version_of}
+use Rattle.pending_json.proofs.Common.{ap, cond, is_some, on_ok_weaker, some_mapped, sym, version_of, ◌∙◌, ◌≡◌}
 use Rattle.pending_json.proofs.Sent.{text_is, whole_is, tags_are, sizes_are, begun_with, upload_sent}
 use Rattle.pending_json.proofs.sending.PendingUploadSerialize.serialize.Goals as goal
-use Rattle.proof_base.proofs.Options.{some_mapped}
 
 pub returns : goal.returns
 returns g c =

@@ -1,5 +1,4 @@
-use Rattle.std.proofs.Common.{cond, ap, ◌∙◌}
-use Rattle.proof_base.proofs.Common.{on_ok_weaker}
+use Rattle.pending_json.proofs.Common.{ap, cond, on_ok_weaker, ◌∙◌}
 use Rattle.pending_json.proofs.Sent.{text_is, texts_are, begun_with, mark_sent}
 use Rattle.pending_json.proofs.sending.SuccessMarkSerialize.serialize.Goals as goal
 

@@ -1,6 +1,4 @@
-use Rattle.std.proofs.Common.{ℕ, List, ap, ◌∙◌, sym, subst, refl, Some, None, Option}
-use Rattle.s3_types.specs.Prelude.{IsSome, text_cmp, option_map, BucketContent, answer_in, apply_in}
-use Rattle.std.specs.BTreeMap.{BTreeMap}
+use Rattle.s3_service.proofs.Common.{BTreeMap, BucketContent, IsSome, List, None, Option, Some, answer_in, ap, apply_in, option_map, refl, subst, sym, text_cmp, ℕ, ◌∙◌}
 use Rattle.std.specs.FinMap as map
 use Rattle.s3_service.proofs.Changed.{found, absent, written, unwritten}
 use Rattle.s3_service.proofs.buckets.Buckets.apply.Goals as goal

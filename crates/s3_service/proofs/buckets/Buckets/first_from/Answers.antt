@@ -1,7 +1,5 @@
-use Rattle.std.proofs.Common.{ap, ◌∙◌, sym, List, ℕ, Some, ◌≡◌}
-use Rattle.s3_types.specs.Prelude.{slice_get, option_map, bound_map, deref_pair, entries_between, Unbounded, text_total, text_cmp, BucketContent}
+use Rattle.s3_service.proofs.Common.{BucketContent, List, Some, Unbounded, ap, bound_map, deref_pair, entries_between, entries_made, first_taken, option_map, slice_get, sym, text_cmp, text_total, ℕ, ◌∙◌, ◌≡◌}
 use Rattle.std.specs.FinMap as fin
-use Rattle.proof_base.proofs.Tree.{first_taken, entries_made}
 use Rattle.s3_service.proofs.buckets.Buckets.first_from.Goals as goal
 
 pub returns-in-Some : goal.returns-in-Some

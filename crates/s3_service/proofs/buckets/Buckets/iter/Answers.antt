@@ -1,7 +1,5 @@
-use Rattle.std.proofs.Common.{ap, ◌∙◌, sym}
-use Rattle.s3_types.specs.Prelude.{text_total}
+use Rattle.s3_service.proofs.Common.{ap, entries_made, sym, text_total, ◌∙◌}
 use Rattle.std.specs.FinMap as map
-use Rattle.proof_base.proofs.Tree.{entries_made}
 use Rattle.s3_service.proofs.buckets.Buckets.iter.Goals as goal
 
 pub returns : goal.returns

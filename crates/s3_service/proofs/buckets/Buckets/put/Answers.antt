@@ -1,7 +1,4 @@
-use Rattle.std.proofs.Common.{ℕ, List, ap, ◌∙◌, sym, subst, refl, Some, None, Option}
-use Rattle.s3_types.specs.Prelude.{IsSome, text_cmp, BucketContent}
-use Rattle.s3_types.specs.Answer.{with_objects}
-use Rattle.std.specs.BTreeMap.{BTreeMap}
+use Rattle.s3_service.proofs.Common.{BTreeMap, BucketContent, IsSome, List, None, Option, Some, ap, refl, subst, sym, text_cmp, with_objects, ℕ, ◌∙◌}
 use Rattle.std.specs.FinMap as map
 use Rattle.s3_service.proofs.Changed.{found, absent, written, unwritten}
 use Rattle.s3_service.proofs.buckets.Buckets.put.Goals as goal

@@ -1,6 +1,4 @@
-use Rattle.std.proofs.Common.{◌≤◌, sym, subst, arith}
-use Rattle.s3_types.specs.Prelude.{Buckets}
-use Rattle.s3_service.specs.Ids.{AreBelow}
+use Rattle.s3_service.proofs.Common.{AreBelow, Buckets, arith, subst, sym, ◌≤◌}
 use Rattle.s3_service.proofs.Below.{below_insert, next_below}
 use Rattle.s3_service.proofs.service.Service.add_bucket.Goals as goal
 

@@ -1,5 +1,4 @@
-use Rattle.std.proofs.Common.{sym, subst, ℕ}
-use Rattle.s3_service.specs.Ids.{AreBelow}
+use Rattle.s3_service.proofs.Common.{AreBelow, subst, sym, ℕ}
 use Rattle.s3_service.proofs.Below.{kept_below}
 use Rattle.s3_service.proofs.service.Service.apply.Goals as goal
 

@@ -1,5 +1,4 @@
-use Rattle.std.proofs.Common.{refl}
-use Rattle.s3_types.specs.declared.request.Request.TheVariants.{PutObject}
+use Rattle.s3_service.proofs.Common.{PutObject, refl}
 use Rattle.s3_service.proofs.Below.{put_below}
 use Rattle.s3_service.proofs.service.Service.follow.Goals as goal
 

@@ -1,6 +1,4 @@
-use Rattle.std.proofs.Common.{◌≤◌, sym, subst, arith}
-use Rattle.s3_types.specs.Prelude.{Buckets, BucketContent}
-use Rattle.s3_service.specs.Ids.{AreBelow, IsFresh}
+use Rattle.s3_service.proofs.Common.{AreBelow, BucketContent, Buckets, IsFresh, arith, subst, sym, ◌≤◌}
 use Rattle.s3_service.proofs.Below.{below_insert, new_fresh}
 use Rattle.s3_service.proofs.service.Service.make.Goals as goal
 

@@ -1,6 +1,4 @@
-use Rattle.std.proofs.Common.{sym, subst}
-use Rattle.s3_types.specs.Prelude.{Buckets}
-use Rattle.s3_service.specs.Ids.{AreBelow}
+use Rattle.s3_service.proofs.Common.{AreBelow, Buckets, subst, sym}
 use Rattle.s3_service.proofs.Below.{none_below}
 use Rattle.s3_service.proofs.service.Service.new.Goals as goal
 

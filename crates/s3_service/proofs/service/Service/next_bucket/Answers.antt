@@ -1,8 +1,5 @@
-use Rattle.std.proofs.Common.{ap, ◌∙◌, sym, subst, ◌≡◌, List, ℕ, rules}
-use Rattle.s3_types.specs.Prelude.{option_copied, option_map, slice_get, BucketContent, Content}
+use Rattle.s3_service.proofs.Common.{BucketContent, Content, IsNext, List, ap, filter_all, next_of, option_copied, option_map, rules, slice_get, subst, sym, ℕ, ◌∙◌, ◌≡◌}
 use Rattle.std.specs.FinMap as fin
-use Rattle.proof_base.proofs.Tree.{filter_all}
-use Rattle.s3_service.specs.Next.{next_of, IsNext}
 use Rattle.s3_service.proofs.Next.{is_next}
 use Rattle.s3_service.proofs.service.Service.next_bucket.Goals as goal
 

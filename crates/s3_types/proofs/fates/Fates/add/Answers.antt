@@ -1,10 +1,6 @@
-use Rattle.std.proofs.Common.{◌≡◌, ◌≤◌, ◌+◌, ◌-◌, ◌↔◌, ℕ, List, ap, ◌∙◌, sym, subst, Some, None, Result, Ok, Err, arith}
-use Rattle.std.specs.Prelude.{IsErrOf, IsErrAnd}
-use Rattle.s3_types.specs.Prelude.{FateMap, IsFirstNamed, named, AreApart, from_on, first_in}
-use Rattle.s3_types.specs.Fates.{with_fates}
+use Rattle.s3_types.proofs.Common.{AreApart, Err, FateMap, IsErrAnd, IsErrOf, IsFirstNamed, List, None, Ok, Result, Some, Span, ap, arith, first_in, from_on, named, subst, sym, with_fates, ℕ, ◌+◌, ◌-◌, ◌↔◌, ◌∙◌, ◌≡◌, ◌≤◌}
 use Rattle.s3_types.specs.declared.fates.FateFault.{FateFault}
 use Rattle.s3_types.specs.declared.fates.FateFault.TheVariants.{Taken, NoMemory}
-use Rattle.s3_types.specs.declared.fates.Span.{Span}
 use Rattle.s3_types.proofs.Spans.{apart_insert, named_insert, first_named, one_first, no_first}
 use Rattle.s3_types.proofs.fates.Fates.add.Goals as goal
 

@@ -1,5 +1,4 @@
-use Rattle.std.proofs.Common.{ap, ◌∙◌, sym}
-use Rattle.s3_types.specs.Prelude.{fate_or}
+use Rattle.s3_types.proofs.Common.{ap, fate_or, sym, ◌∙◌}
 use Rattle.std.specs.FinMap as map
 use Rattle.s3_types.proofs.Spans.{fate_from, fate_past, no_fate_on, lost_named, answer_none}
 use Rattle.s3_types.proofs.fates.Fates.at.Goals as goal

@@ -1,5 +1,4 @@
-use Rattle.std.proofs.Common.{ℕ, Some, sym, subst}
-use Rattle.s3_types.specs.Prelude.{IsFirstFrom}
+use Rattle.s3_types.proofs.Common.{IsFirstFrom, Some, subst, sym, ℕ}
 use Rattle.s3_types.proofs.Spans.{first_fate, no_fate}
 use Rattle.s3_types.proofs.fates.Fates.first_from.Goals as goal
 

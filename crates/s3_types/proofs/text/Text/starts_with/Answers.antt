@@ -1,5 +1,4 @@
-use Rattle.std.proofs.Common.{◌∙◌}
-use Rattle.s3_types.specs.Prelude.{begins}
+use Rattle.s3_types.proofs.Common.{begins, ◌∙◌}
 use Rattle.s3_types.proofs.Begins.{begins_is}
 use Rattle.s3_types.proofs.text.Text.starts_with.Goals as goal
 

@@ -1,6 +1,4 @@
-use Rattle.std.proofs.Common.{◌∷◌, [], ◌++◌, ◌∙◌, take, ap, sym}
-use Rattle.path_keys.proofs.Common.{take_more}
-use Rattle.fs_ops.specs.Prelude.{UploadRef}
+use Rattle.s3a_shell.proofs.Common.{UploadRef, [], ap, sym, take, take_more, ◌++◌, ◌∙◌, ◌∷◌}
 use Rattle.s3a_shell.proofs.Aborting.{more_aborted, sent_more}
 use Rattle.s3a_shell.proofs.session.Session.abort_all.Goals as goal
 

@@ -1,6 +1,4 @@
-use Rattle.std.proofs.Common.{◌≡◌, take}
-use Rattle.s3a_shell.specs.Sendings.{Sent}
-use Rattle.s3a_shell.specs.Uploading.{after_aborts, AfterSome}
+use Rattle.s3a_shell.proofs.Common.{AfterSome, Sent, after_aborts, take, ◌≡◌}
 use Rattle.s3a_shell.proofs.session.Session.abort_all.Given as goal
 
 abbrev pub invariant-loop-upload : goal.invariant-loop-upload

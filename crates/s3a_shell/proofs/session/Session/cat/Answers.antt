@@ -1,6 +1,4 @@
-use Rattle.fs_ops.specs.Prelude.{Reads}
-use Rattle.s3a_shell.specs.Texts.{bytes_alone}
-use Rattle.fs_ops.proofs.AtPathLaws.{gets_there}
+use Rattle.s3a_shell.proofs.Common.{Reads, bytes_alone, gets_there}
 use Rattle.s3a_shell.proofs.Looking.{looked_same}
 use Rattle.s3a_shell.proofs.Performing.{did_at, on_ok, sent_still}
 use Rattle.s3a_shell.proofs.session.Session.cat.Goals as goal

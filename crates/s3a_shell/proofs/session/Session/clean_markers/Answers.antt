@@ -1,5 +1,4 @@
-use Rattle.fs_ops.specs.Prelude.{Cleans, IsCleaning}
-use Rattle.s3a_shell.specs.Texts.{cleaned_line}
+use Rattle.s3a_shell.proofs.Common.{Cleans, IsCleaning, cleaned_line}
 use Rattle.s3a_shell.proofs.Performing.{did_at, on_ok, sent_of}
 use Rattle.s3a_shell.proofs.session.Session.clean_markers.Goals as goal
 

@@ -1,7 +1,5 @@
-use Rattle.std.proofs.Common.{subst}
+use Rattle.s3a_shell.proofs.Common.{Route, route, said_of_copy, subst}
 use Rattle.copy_tree.specs.Public.{CopiesIn, StandsCopied}
-use Rattle.fs_rename.specs.Between.{Route}
-use Rattle.s3a_shell.specs.Moving.{route, said_of_copy}
 use Rattle.s3a_shell.proofs.Joining.{sent_as}
 use Rattle.s3a_shell.proofs.Performing.{sent, on_ok}
 use Rattle.s3a_shell.proofs.Moving.{between_if}

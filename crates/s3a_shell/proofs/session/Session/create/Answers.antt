@@ -1,8 +1,5 @@
-use Rattle.std.proofs.Common.{◌≤◌, ◌*◌, ◌+◌, ◌∙◌, ℕ, List, length, sym, ap, subst}
-use Rattle.fs_ops.specs.Prelude.{Content}
+use Rattle.s3a_shell.proofs.Common.{AlwaysFile, Content, FileOrNot, List, ap, length, subst, sym, ℕ, ◌*◌, ◌+◌, ◌∙◌, ◌≤◌}
 use Rattle.s3a_shell.proofs.Blocks.{some_block, least_block, has_room}
-use Rattle.fs_files.specs.code.Create.{AlwaysFile}
-use Rattle.s3a_shell.specs.Doings.{FileOrNot}
 use Rattle.s3a_shell.proofs.Joining.{sent_as}
 use Rattle.s3a_shell.proofs.Performing.{answered, sent, on_ok, file_if, file_stands}
 use Rattle.s3a_shell.proofs.session.Session.create.Goals as goal

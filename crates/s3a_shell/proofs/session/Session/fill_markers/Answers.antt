@@ -1,5 +1,4 @@
-use Rattle.fs_ops.specs.Prelude.{Fills, IsFilling}
-use Rattle.s3a_shell.specs.Texts.{filled_line}
+use Rattle.s3a_shell.proofs.Common.{Fills, IsFilling, filled_line}
 use Rattle.s3a_shell.proofs.Performing.{did_at, on_ok, sent_of}
 use Rattle.s3a_shell.proofs.session.Session.fill_markers.Goals as goal
 

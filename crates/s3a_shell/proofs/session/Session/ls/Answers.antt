@@ -1,5 +1,4 @@
-use Rattle.fs_ops.specs.Prelude.{Lists}
-use Rattle.s3a_shell.specs.Texts.{entry_lines}
+use Rattle.s3a_shell.proofs.Common.{Lists, entry_lines}
 use Rattle.fs_ops.proofs.ListLaws.{first_looks}
 use Rattle.s3a_shell.proofs.Looking.{looked_same}
 use Rattle.s3a_shell.proofs.Performing.{did_at, on_ok, sent_still}

@@ -1,8 +1,6 @@
-use Rattle.fs_ops.specs.Prelude.{Audits}
-use Rattle.s3a_shell.specs.Texts.{marker_lines}
+use Rattle.s3a_shell.proofs.Common.{Audits, looks_there, marker_lines}
 use Rattle.s3a_shell.proofs.Looking.{looked_same}
 use Rattle.s3a_shell.proofs.Performing.{did_at, on_ok, sent_still}
-use Rattle.fs_ops.proofs.AtPathLaws.{looks_there}
 use Rattle.s3a_shell.proofs.session.Session.markers.Goals as goal
 
 pub returns-clause-did : goal.returns-clause-did

@@ -1,6 +1,5 @@
-use Rattle.fs_ops.specs.Prelude.{Makes}
+use Rattle.s3a_shell.proofs.Common.{Makes, nothing}
 use Rattle.fs_ops.specs.code.Make as make
-use Rattle.s3a_shell.specs.Texts.{nothing}
 use Rattle.s3a_shell.proofs.Performing.{did_at, on_ok, sent_of}
 use Rattle.s3a_shell.proofs.session.Session.mkdir.Goals as goal
 

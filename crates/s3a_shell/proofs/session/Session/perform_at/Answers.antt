@@ -1,7 +1,4 @@
-use Rattle.std.proofs.Common.{◌≡◌, ℕ, List, subst, ◌∙◌}
-use Rattle.fs_ops.specs.Prelude.{Objects, Scene, Ask, AlwaysIn, SendsIn}
-use Rattle.s3a_shell.specs.declared.session.Session.{Session}
-use Rattle.s3a_shell.specs.Sendings.{Sent, Asked}
+use Rattle.s3a_shell.proofs.Common.{AlwaysIn, Ask, Asked, List, Objects, Scene, SendsIn, Sent, Session, subst, ℕ, ◌∙◌, ◌≡◌}
 use Rattle.s3a_shell.proofs.Performing.{sent, asked}
 use Rattle.s3a_shell.proofs.session.Session.perform_at.Goals as goal
 

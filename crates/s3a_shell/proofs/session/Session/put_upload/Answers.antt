@@ -1,8 +1,4 @@
-use Rattle.std.proofs.Common.{List, [], ◌∷◌, ◌++◌, ap, ◌∙◌}
-use Rattle.fs_ops.specs.Prelude.{only_reads, Entry, Reply}
-use Rattle.journal_log.specs.Prelude.{is_changing}
-use Rattle.store_frame.proofs.Reading.{reads_nothing}
-use Rattle.s3a_shell.specs.Sendings.{answered_by}
+use Rattle.s3a_shell.proofs.Common.{Entry, List, Reply, [], answered_by, ap, is_changing, only_reads, reads_nothing, ◌++◌, ◌∙◌, ◌∷◌}
 use Rattle.s3a_shell.proofs.Looking.{read_same}
 use Rattle.s3a_shell.proofs.Performing.{on_ok}
 use Rattle.s3a_shell.proofs.Joining.{sent_read, sent_one}

@@ -1,6 +1,4 @@
-use Rattle.fs_ops.specs.Prelude.{Stats}
-use Rattle.s3a_shell.specs.Texts.{status_line}
-use Rattle.fs_ops.proofs.AtPathLaws.{looks_there}
+use Rattle.s3a_shell.proofs.Common.{Stats, looks_there, status_line}
 use Rattle.s3a_shell.proofs.Looking.{looked_same}
 use Rattle.s3a_shell.proofs.Performing.{did_at, on_ok, sent_still}
 use Rattle.s3a_shell.proofs.session.Session.stat.Goals as goal

@@ -1,7 +1,4 @@
-use Rattle.std.proofs.Common.{◌≡◌, ◌++◌, drop, string_bytes}
-use Rattle.bucket_ops.specs.Prelude.{IsStill}
-use Rattle.s3a_shell.specs.Sendings.{Sent, has_changed}
-use Rattle.s3a_shell.specs.Uploading.{asked_lines}
+use Rattle.s3a_shell.proofs.Common.{IsStill, Sent, asked_lines, drop, has_changed, string_bytes, ◌++◌, ◌≡◌}
 use Rattle.s3a_shell.proofs.session.Session.upload_lines.Given as goal
 
 abbrev pub invariant-loop-upload : goal.invariant-loop-upload

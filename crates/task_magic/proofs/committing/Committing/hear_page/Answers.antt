@@ -1,6 +1,4 @@
-use Rattle.std.proofs.Common.{◌∙◌, ap, refl}
-use Rattle.job_protocol.specs.Prelude.{keys_on}
-use Rattle.task_requests.specs.Publishing.{picked}
+use Rattle.task_magic.proofs.Common.{ap, keys_on, picked, refl, ◌∙◌}
 use Rattle.task_magic.proofs.Committed.{page_looked}
 use Rattle.task_magic.proofs.committing.Committing.hear_page.Goals as goal
 

@@ -1,8 +1,4 @@
-use Rattle.std.proofs.Common.{◌∙◌, ap, sym, length, arith, subst}
-use Rattle.path_keys.proofs.Common.{slice_get_within}
-use Rattle.job_protocol.specs.Prelude.{keys_on}
-use Rattle.task_requests.specs.Publishing.{picked}
-use Rattle.task_magic.specs.Committing.{commit_by, commit_of, HoldsCommit}
+use Rattle.task_magic.proofs.Common.{HoldsCommit, ap, arith, commit_by, commit_of, keys_on, length, picked, slice_get_within, subst, sym, ◌∙◌}
 use Rattle.task_magic.proofs.Committed.{within_at, goes_gone_at, goes_read_at, keeps_read_at}
 use Rattle.task_magic.proofs.committing.Committing.hear_record.Goals as goal
 

@@ -1,5 +1,4 @@
-use Rattle.std.proofs.Common.{sym, subst}
-use Rattle.task_magic.specs.Committing.{Keeps}
+use Rattle.task_magic.proofs.Common.{Keeps, subst, sym}
 use Rattle.task_magic.proofs.Committed.{keeps_sent}
 use Rattle.task_magic.proofs.committing.CommittingHoldsTheCommit.wear.Goals as goal
 

@@ -1,5 +1,4 @@
-use Rattle.std.proofs.Common.{ap, ◌∙◌, length, arith}
-use Rattle.job_protocol.specs.Prelude.{Task, task_script, as_made}
+use Rattle.task_magic.proofs.Common.{Task, ap, arith, as_made, length, task_script, ◌∙◌}
 use Rattle.task_magic.proofs.Undone.{goes_drawn}
 use Rattle.task_magic.proofs.undoing.Undoing.go_on.Goals as goal
 

@@ -1,7 +1,4 @@
-use Rattle.std.proofs.Common.{refl, false, ap, sym, subst, ◌∙◌}
-use Rattle.job_protocol.specs.Prelude.{task_commit_wants}
-use Rattle.task_staging.specs.declared.staging.Staging.{Staging}
-use Rattle.task_staging.specs.Staging.{seen, Keeps}
+use Rattle.task_staging.proofs.Common.{Keeps, Staging, ap, false, refl, seen, subst, sym, task_commit_wants, ◌∙◌}
 use Rattle.task_staging.proofs.Staged.{keeps_open, holds_open, found_told, passed_told, passed_holds, at_ok, at_err}
 use Rattle.task_staging.proofs.staging.Staging.hear_check.Goals as goal
 

@@ -1,9 +1,5 @@
-use Rattle.std.proofs.Common.{ap, sym, subst, ◌∙◌}
-use Rattle.job_protocol.specs.Prelude.{task_commit_wants}
+use Rattle.task_staging.proofs.Common.{Keeps, Staging, ap, seen, subst, sym, tag_none, tag_plain, task_commit_wants, ◌∙◌}
 use Rattle.job_model.specs.declared.ends.TaskEnd.TheVariants as ends
-use Rattle.task_staging.specs.declared.staging.Staging.{Staging}
-use Rattle.task_staging.specs.Staging.{seen, Keeps}
-use Rattle.task_requests.proofs.Steps.{tag_plain, tag_none}
 use Rattle.task_staging.proofs.Staged.{holds_open, is_sent, sent_here, open_fits, gone_told, told_part}
 use Rattle.task_staging.proofs.staging.Staging.hear_part.Goals as goal
 

@@ -1,5 +1,4 @@
-use Rattle.std.proofs.Common.{ap, Some}
-use Rattle.job_protocol.specs.Prelude.{Request}
+use Rattle.task_staging.proofs.Common.{Request, Some, ap}
 use Rattle.task_staging.proofs.Staged.{keeps_open, holds_open, stored_told, stored_holds, stored_next}
 use Rattle.task_staging.proofs.staging.Staging.hear_stored.Goals as goal
 

@@ -1,5 +1,4 @@
-use Rattle.std.proofs.Common.{sym, ◌∙◌}
-use Rattle.task_requests.proofs.Steps.{created_new, created_some}
+use Rattle.task_staging.proofs.Common.{created_new, created_some, sym, ◌∙◌}
 use Rattle.task_staging.proofs.Staged.{keeps_open, holds_open, fits_create, upload_told, upload_holds, upload_next}
 use Rattle.task_staging.proofs.staging.Staging.hear_upload.Goals as goal
 

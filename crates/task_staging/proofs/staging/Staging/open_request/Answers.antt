@@ -1,6 +1,4 @@
-use Rattle.std.proofs.Common.{◌≡◌, ◌∙◌, true, sym, ap, Some}
-use Rattle.job_protocol.specs.Prelude.{Request}
-use Rattle.task_requests.proofs.Steps.{ok_as}
+use Rattle.task_staging.proofs.Common.{Request, Some, ap, ok_as, sym, true, ◌∙◌, ◌≡◌}
 use Rattle.task_staging.proofs.Staged.{holds_open, asks_check, asks_next}
 use Rattle.task_staging.proofs.staging.Staging.open_request.Goals as goal
 

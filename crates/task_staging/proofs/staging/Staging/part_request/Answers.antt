@@ -1,5 +1,4 @@
-use Rattle.std.proofs.Common.{ap, Some, ◌∙◌}
-use Rattle.job_protocol.specs.Prelude.{Request}
+use Rattle.task_staging.proofs.Common.{Request, Some, ap, ◌∙◌}
 use Rattle.task_staging.proofs.Staged.{holds_open, is_sent, sent_here, part_behind_is, asks_part}
 use Rattle.task_staging.proofs.staging.Staging.part_request.Goals as goal
 

@@ -1,5 +1,4 @@
-use Rattle.std.proofs.Common.{ap, Some}
-use Rattle.job_protocol.specs.Prelude.{Request}
+use Rattle.task_staging.proofs.Common.{Request, Some, ap}
 use Rattle.task_staging.proofs.Staged.{asks_rename}
 use Rattle.task_staging.proofs.staging.Staging.rename_request.Goals as goal
 

@@ -1,5 +1,4 @@
-use Rattle.std.proofs.Common.{refl, ◌∙◌, arith}
-use Rattle.path_keys.proofs.Common.{few_parts}
+use Rattle.task_staging.proofs.Common.{arith, few_parts, refl, ◌∙◌}
 use Rattle.task_staging.proofs.Staged.{keeps_open, file_at, holds_open, sent_here, next_behind, send_told, send_holds, send_next}
 use Rattle.task_staging.proofs.staging.Staging.send_next.Goals as goal
 

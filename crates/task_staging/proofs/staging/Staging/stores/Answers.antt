@@ -1,5 +1,4 @@
-use Rattle.std.proofs.Common.{ap, ◌∙◌, length, true, ◌≡◌}
-use Rattle.job_protocol.specs.Prelude.{Task}
+use Rattle.task_staging.proofs.Common.{Task, ap, length, true, ◌∙◌, ◌≡◌}
 use Rattle.task_staging.proofs.Staged.{stores_not, stores_all}
 use Rattle.task_staging.proofs.staging.Staging.stores.Goals as goal
 

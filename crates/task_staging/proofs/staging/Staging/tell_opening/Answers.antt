@@ -1,5 +1,4 @@
-use Rattle.std.proofs.Common.{ap, sym, ◌∙◌, true, ◌≡◌}
-use Rattle.job_protocol.specs.Prelude.{with_known}
+use Rattle.task_staging.proofs.Common.{ap, sym, true, with_known, ◌∙◌, ◌≡◌}
 use Rattle.task_staging.proofs.Staged.{worn_other, worn_stored}
 use Rattle.task_staging.proofs.staging.Staging.tell_opening.Goals as goal
 

@@ -1,5 +1,4 @@
-use Rattle.std.proofs.Common.{ap, ◌∙◌}
-use Rattle.job_protocol.specs.Prelude.{with_known}
+use Rattle.task_staging.proofs.Common.{ap, with_known, ◌∙◌}
 use Rattle.task_staging.proofs.Staged.{holds_open, is_sent, worn_part, worn_rename, worn_over}
 use Rattle.task_staging.proofs.staging.Staging.tell_sent.Goals as goal
 

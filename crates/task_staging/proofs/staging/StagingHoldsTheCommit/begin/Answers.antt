@@ -1,5 +1,4 @@
-use Rattle.std.proofs.Common.{◌≡◌, ℕ, List, IfOk, subst, ◌∙◌}
-use Rattle.job_protocol.specs.Prelude.{task_script, who_of, to_check}
+use Rattle.task_staging.proofs.Common.{IfOk, List, subst, task_script, to_check, who_of, ℕ, ◌∙◌, ◌≡◌}
 use Rattle.task_staging.proofs.Staged.{start_is}
 use Rattle.task_staging.proofs.staging.StagingHoldsTheCommit.begin.Goals as goal
 

@@ -1,5 +1,4 @@
-use Rattle.std.proofs.Common.{ap, ◌∙◌, length}
-use Rattle.job_protocol.specs.Prelude.{Task, as_made}
+use Rattle.task_staging.proofs.Common.{Task, ap, as_made, length, ◌∙◌}
 use Rattle.task_staging.proofs.Undone.{goes_drawn}
 use Rattle.task_staging.proofs.undoing.Undoing.go_on.Goals as goal
 

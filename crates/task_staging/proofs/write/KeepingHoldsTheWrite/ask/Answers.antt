@@ -1,7 +1,5 @@
-use Rattle.std.proofs.Common.{ap}
-use Rattle.job_protocol.specs.Prelude.{write_wants}
+use Rattle.task_staging.proofs.Common.{ap, at, write_wants}
 use Rattle.job_protocol.specs.Writes as writes
-use Rattle.task_machines.specs.Tasks.{at}
 use Rattle.task_staging.proofs.write.KeepingHoldsTheWrite.ask.Goals as goal
 
 pub returns : goal.returns

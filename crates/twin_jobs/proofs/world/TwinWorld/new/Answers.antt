@@ -1,7 +1,4 @@
-use Rattle.std.proofs.Common.{◌+◌, ◌<◌, ◌^◌, List, length, sym, ap, subst, ◌∙◌}
-use Rattle.twin_script.specs.declared.turns.Side.{Side}
-use Rattle.twin_script.specs.TwinScripts.{Twins, sides_in}
-use Rattle.twin_jobs.specs.Worlds.{begun}
+use Rattle.twin_jobs.proofs.Common.{List, Side, Twins, ap, begun, length, sides_in, subst, sym, ◌+◌, ◌<◌, ◌^◌, ◌∙◌}
 use Rattle.twin_jobs.proofs.Starting.{few_asked, pair_rests, pair_begun}
 use Rattle.twin_jobs.proofs.world.TwinWorld.new.Goals as goal
 

@@ -1,5 +1,4 @@
-use Rattle.std.proofs.Common.{ap, ◌∙◌}
-use Rattle.job_steps.specs.Prelude.{Scene}
+use Rattle.twin_jobs.proofs.Common.{Scene, ap, ◌∙◌}
 use Rattle.twin_jobs.proofs.Turning.{pair_scene}
 use Rattle.twin_jobs.proofs.world.TwinWorld.service.Goals as goal
 

@@ -1,5 +1,4 @@
-use Rattle.std.proofs.Common.{◌≡◌, true, length, slice_get, Some, None, refl, sym, subst, ◌∙◌}
-use Rattle.twin_jobs.specs.Worlds.{Run, played}
+use Rattle.twin_jobs.proofs.Common.{None, Run, Some, length, played, refl, slice_get, subst, sym, true, ◌∙◌, ◌≡◌}
 use Rattle.twin_jobs.proofs.Turning.{turn_is, played_run, found_none, pair_keeps, used_up}
 use Rattle.twin_jobs.proofs.world.TwinWorld.turn.Goals as goal
 
