@@ -2,15 +2,15 @@
 use Rattle.actor_operations.proofs.Common.{AttemptsStay, Bool, BucketContent, Committer, CompleteUpload, CopyObject, Deleting, Equal, Err, List, Listing, Magic, None, Object, Objects, Ok, Option, Ordering, PutObject, PutsNone, Refusal, Request, Result, Scene, Script, Some, Sweep, TaskAbort, TaskCommit, Who, [], ap, apply, arith, attempt_prefix, begins, completed, copied, exact_bytes, false, inl, joined, keys_left, last_of, length, listed, live, new_bucket, no_more_times, put, refl, subst, sweep_left, sweep_start, sym, task_script, text_cmp, text_total, thousands, walk_left, who_of, ℕ, ◌&&◌, ◌*◌, ◌+◌, ◌∙◌, ◌∷◌, ◌≡◌, ◌≤◌}
 use Rattle.store_frame.specs.Prelude.{entries-insert}
 use Rattle.std.specs.FinMap as fin
-use Rattle.proof_base.proofs.Less.{lt}
-use Rattle.proof_base.proofs.Tree.{entries_empty}
-use Rattle.list_walk.specs.Left.{one_if as one}
+use Rattle.basics.proofs.Less.{lt}
+use Rattle.basics.proofs.Tree.{entries_empty}
 use Rattle.list_walk.proofs.Counting.{count, count_more}
 use Rattle.list_walk.proofs.Listing.{is_left, listed_count}
 use Rattle.list_walk.proofs.Growing.{grows, growth}
 use Rattle.job_protocol.specs.TaskCommits as commits
 use Rattle.task_machines.specs.Commits.{commit_left_at, commit_left}
 use Rattle.task_machines.specs.Aborts.{after_left, abort_left_at, abort_left}
+use Rattle.list_walk.specs.Left.{one_if as one}
 
 module _ {K X : Type 0} (R : K → K → Ordering) (t : K × X → Bool) where
   -- one is put that does not pass, as none of its key does

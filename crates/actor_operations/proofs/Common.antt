@@ -29,5 +29,5 @@ pub use Rattle.job_steps.specs.Prelude.{Actor, Ahead, Answered, Attempt, Attempt
 pub use Rattle.job_traces.proofs.Running.{At, Early, InCommit, Late, Replaces}
 pub use Rattle.machine.specs.Prelude.{FitsOutcome, copied, retried}
 pub use Rattle.machine.specs.declared.retrying.Retrying.{Retrying}
-pub use Rattle.proof_base.proofs.Numbers.{above_zero, no_more_times}
+pub use Rattle.basics.proofs.Naturals.{above_zero, no_more_times}
 pub use Rattle.std.proofs.Common.{Bool, Err, IfOk, List, None, Ok, Option, Result, Some, [], ap, append-nil, append_assoc, arith, codes, cond, false, inl, inr, length, length-append, nat_lt, refl, subst, suc, sym, true, ℕ, ◌&&◌, ◌*◌, ◌++◌, ◌+◌, ◌<◌, ◌^◌, ◌∙◌, ◌∷◌, ◌≡◌, ◌≤◌, ◌⊎◌}

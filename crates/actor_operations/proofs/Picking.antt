@@ -5,7 +5,6 @@ use Rattle.job_protocol.specs.Setup as setups
 use Rattle.job_protocol.specs.Cleanups as cleans
 use Rattle.job_protocol.specs.Rechecks as checks
 use Rattle.job_protocol.specs.Sparing as sparings
-use Rattle.job_protocol.specs.JobCommits.{Commit as JobCommit}
 use Rattle.job_steps.proofs.RunningNumbers.{begun_at}
 use Rattle.job_steps.proofs.RunningStages.{IsTimed}
 use Rattle.job_commit.specs.Holds.{picks_from}
@@ -16,6 +15,7 @@ use Rattle.job_actor.proofs.Staying.{picks_stay, same_picks}
 use Rattle.actor_operations.specs.declared.act.Act.TheVariants.{Setup, Commit, Sparing, Checked}
 use Rattle.actor_operations.specs.Plans.{picks_of, running_of, IsAttempt, IsOf}
 use Rattle.actor_operations.proofs.WorksGo.{behind, asked_of}
+use Rattle.job_protocol.specs.JobCommits.{Commit as JobCommit}
 
 -- ---- the job's commit has picks
 

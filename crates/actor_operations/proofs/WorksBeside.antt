@@ -1,6 +1,5 @@
 -- What a job's actor has left beside the requests of the others: an attempt's is not raised, and the driver's by no more than so much.
 use Rattle.actor_operations.proofs.Common.{Act, Actor, Commit, CommitOver, Commits, Committer, Committing, Completing, Content, Driver, Fetching, File, FitsCommit, FitsWrite, IsAt, IsAttempt, IsDriving, IsLegal, IsOf, Job, Known, List, Magic, Marking, None, Option, Pending, PlannedCheck, Play, PutObject, PutsNone, Replacing, Request, Retrying, Reverting, Script, Seen, Sets, Setting, Some, Sweep, Task, Told, Uploading, Who, [], actor_of, adds_key, all_commits, ap, append-nil, append_assoc, apply, arith, attempt_dir, attempt_prefix, begins, begins_behind, below, below_is, bucket_of, codes, commit_asks, commit_start, decimal, false, false_true, inl, inr, is_magic, job_of, known_now, knows_now, left_of, length, length-append, marker_key, most_commits, no_more_times, none_some, nth, one_if, record_key, refl, rise, rise_for, rise_of, running_of, scene_of, set_key, set_request, some_dest, some_is, subst, sym, task_commit_wants, task_of, true, true_or_false, upload_asks, wants_of, write_wants, ℕ, ◌*◌, ◌++◌, ◌+◌, ◌∙◌, ◌∷◌, ◌≡◌, ◌≤◌}
-use Rattle.commit_laws.specs.Laws.{rise_of as commit_rise_of}
 use Rattle.job_protocol.specs.Setup as setups
 use Rattle.job_protocol.specs.Writes as writes
 use Rattle.job_protocol.specs.TaskCommits as commits
@@ -20,6 +19,7 @@ use Rattle.actor_operations.proofs.WorksGo.{commit_at, behind, asks}
 use Rattle.actor_operations.proofs.ActorsGo.{checked_plan}
 use Rattle.actor_operations.proofs.WorksDue.{by_attempt, fine_at}
 use Rattle.std.proofs.Math.Nat.{le_refl}
+use Rattle.commit_laws.specs.Laws.{rise_of as commit_rise_of}
 
 -- ---- keys that are apart from an attempt's directory
 

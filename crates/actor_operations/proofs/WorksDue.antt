@@ -1,18 +1,12 @@
 -- Each outcome that is due to what a job's actor asks fits.
-use Rattle.actor_operations.proofs.Common.{Act, Actor, Attempting, Bool, Committing, Content, Driver, Driving, FitsAct, FitsDue, FitsOutcome, FitsSparing, IsAt, IsHonestOutcome, Job, Known, Late, None, Operation, Option, Outcome, PlannedCheck, Play, Reply, Request, Retrying, Scene, Setting, Some, Stand, Task, Who, above_zero, actor_of, answer, ap, arith, check_wants, clean_wants, commit_asks, commit_wants, inl, inr, is_set, job_of, known, knows_now, nat_lt, none_some, scene_of, setup_wants, sparing_wants, subst, sym, task_abort_wants, task_commit_wants, task_of, task_script, true, wants_of, who_of, write_wants, ℕ, ◌<◌, ◌∙◌, ◌≡◌, ◌≤◌}
+use Rattle.actor_operations.proofs.Common.{Act, Actor, Attempting, Bool, Committing, Content, Driver, Driving, FitsAct, FitsDue, FitsOutcome, FitsSparing, IsAt, IsHonestOutcome, Job, Known, Late, None, Operation, Option, Outcome, PlannedCheck, Play, Reply, Request, Retrying, Scene, Setting, Some, Stand, Task, Who, above_zero, actor_of, answer, ap, arith, check_wants, clean_wants, commit_asks, commit_wants, inl, inr, is_set, job_of, known, knows_now, nat_lt, none_some, scene_of, setup_wants, sparing_wants, subst, sym, task_abort_wants, task_commit_wants, task_of, task_script, true, wants_of, who_of, write_wants, ◌<◌, ◌∙◌, ◌≡◌}
 use Rattle.job_protocol.specs.Setup as setups
 use Rattle.job_protocol.specs.Writes as writes
 use Rattle.job_protocol.specs.TaskCommits as commits
 use Rattle.job_protocol.specs.TaskAborts as aborts
 use Rattle.job_protocol.specs.Cleanups as cleans
 use Rattle.job_protocol.specs.Sparing as sparings
-use Rattle.conflict.specs.Fits.{FitsCheck as check_fits}
 use Rattle.task_requests.specs.Writing.{write_fits}
-use Rattle.task_machines.specs.Commits.{commit_fits as task_commit_fits}
-use Rattle.task_machines.specs.Aborts.{abort_fits as task_abort_fits}
-use Rattle.job_setup.specs.Fits.{FitsDriving as setup_fits}
-use Rattle.cleanup.specs.Fits.{FitsDriving as clean_fits}
-use Rattle.cleanup.specs.SparingFits.{FitsSparingDriving as sparing_fits}
 use Rattle.job_facts.specs.Prelude.{Fits, IsAttempt as IsDeclared}
 use Rattle.job_traces.proofs.Running as running
 use Rattle.commit_laws.specs.Fitting.{FitsCommit}
@@ -26,6 +20,12 @@ use Rattle.actor_operations.proofs.WorksStand.{run, stand, scene_is, driver_is, 
 use Rattle.actor_operations.proofs.WorksFew.{reads_few}
 use Rattle.actor_operations.proofs.WorksSparing.{sparing_due}
 use Rattle.actor_operations.proofs.WorksGo.{few_now, commit_at, behind, asks}
+use Rattle.conflict.specs.Fits.{FitsCheck as check_fits}
+use Rattle.task_machines.specs.Commits.{commit_fits as task_commit_fits}
+use Rattle.task_machines.specs.Aborts.{abort_fits as task_abort_fits}
+use Rattle.job_setup.specs.Fits.{FitsDriving as setup_fits}
+use Rattle.cleanup.specs.Fits.{FitsDriving as clean_fits}
+use Rattle.cleanup.specs.SparingFits.{FitsSparingDriving as sparing_fits}
 
 -- what is due to a machine's request fits it under its retries
 outcome_fits : {M : Type 0} (wants : M → Option Request) (fits : M → Reply → Bool → Type 0) (t : Retrying M) (s : Scene) → FitsDue wants fits t.machine s → (r : Request) (o : Outcome) → wants t.machine ≡ Some r → IsHonestOutcome o (answer s r) → FitsOutcome fits t o

@@ -1,5 +1,5 @@
 -- The operations of a job's actors ask and go on as the script's.
-use Rattle.actor_operations.proofs.Common.{Act, Actor, AsksSo, CheckedAsksSo, CheckedGoesSo, CommitAsksSo, CommitGoesSo, Committing, Content, Entry, GoesSo, IsAt, IsHonestOutcome, IsOf, Known, MaySend, None, Option, Outcome, PlannedCheck, Play, Request, Retrying, Scene, Setting, Some, advance, answer, ap, arith, asks_same, commit_asks, end_of, knows_now, over, running_of, scene_of, some_is, subst, sym, tells_of, tells_same, wants_of, ◌^◌, ◌∙◌, ◌≡◌, ◌≤◌}
+use Rattle.actor_operations.proofs.Common.{Act, Actor, AsksSo, CheckedAsksSo, CheckedGoesSo, CommitAsksSo, CommitGoesSo, Committing, Content, Entry, GoesSo, IsAt, IsHonestOutcome, IsOf, Known, MaySend, None, Option, Outcome, PlannedCheck, Play, Request, Retrying, Scene, Setting, Some, advance, answer, arith, asks_same, commit_asks, end_of, knows_now, over, running_of, scene_of, subst, sym, tells_of, tells_same, wants_of, ◌^◌, ◌∙◌, ◌≡◌, ◌≤◌}
 use Rattle.job_protocol.specs.Operations as operations
 use Rattle.actor_operations.specs.declared.act.Act.TheVariants.{Commit, Checked}
 use Rattle.actor_operations.proofs.ActorsGo.{actors_go}

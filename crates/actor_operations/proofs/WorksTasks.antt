@@ -1,5 +1,5 @@
 -- What attempts are at in a run: a task's commit reads records of its own files alone.
-use Rattle.actor_operations.proofs.Common.{BeginAbort, BeginPublish, BeginWrite, Beginning, Content, Entry, IsLegal, IsOpening, List, Operation, Outcome, ReadsOwn, Runs, Script, Setting, Some, Stand, TheCheck, TheTaskAbort, TheTaskCommit, TheWrite, Times, Who, actor_begins, after_check_so, arith, attempt_sends, begin, check_after, driver_sends, fresh, known, none_some, reads_begin, reads_go, refl, run_begins, step, strays, task_abort_start, task_commit_start, tells, write_start, ◌≡◌}
+use Rattle.actor_operations.proofs.Common.{BeginAbort, BeginPublish, BeginWrite, Beginning, Content, Entry, IsLegal, IsOpening, List, Operation, Outcome, ReadsOwn, Runs, Script, Setting, Some, Stand, TheTaskAbort, TheTaskCommit, TheWrite, Times, Who, actor_begins, after_check_so, arith, attempt_sends, begin, driver_sends, fresh, known, none_some, reads_begin, reads_go, refl, run_begins, strays, task_abort_start, task_commit_start, tells, write_start, ◌≡◌}
 use Rattle.job_facts.proofs.Whose.{put_at}
 
 abbrev pub OwnTask : Script → Who → Operation → Type 0

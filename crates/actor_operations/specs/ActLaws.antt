@@ -1,9 +1,9 @@
 -- What holds of every operation of a job's actors.
 use Rattle.std.specs.Prelude.{Bool, None, Option, Some, cond, false, is_some, not, true, ℕ, ◌+◌, ◌<◌, ◌≡◌, ◌≤◌}
 use Rattle.std.proofs.Common.{ap, arith, refl, sym, ◌∙◌}
-use Rattle.job_facts.specs.Prelude.{Answered, Attempting, Committing, Driving, IsHonestOutcome, Outcome, Reply, ReplyLost, Request, RequestLost, Scene, Slow, answer, apply, clean_wants, commit_wants, effect, only_reads, option_map, setup_wants, task_abort_wants, task_commit_wants, write_wants}
+use Rattle.job_facts.specs.Prelude.{Answered, Attempting, Committing, Driving, IsHonestOutcome, Outcome, Reply, Request, RequestLost, Scene, Slow, answer, apply, clean_wants, commit_wants, effect, only_reads, option_map, setup_wants, task_abort_wants, task_commit_wants, write_wants}
 use Rattle.job_protocol.specs.AtWork.{sparing_wants}
-use Rattle.proof_base.proofs.Members.{none_some, some_is}
+use Rattle.basics.proofs.Members.{none_some, some_is}
 use Rattle.store_frame.proofs.Reading.{reads_nothing}
 use Rattle.job_setup.proofs.Falling.{set_ups_end}
 use Rattle.task_machines.proofs.WriteFalls.{write_falls}
@@ -21,7 +21,6 @@ use Rattle.cleanup.specs.SparingFits.{most_commits}
 use Rattle.commit_laws.specs.Laws.{left}
 use Rattle.actor_operations.specs.Acts.{FitsAct, FitsChecked, checked_end, checked_left, checked_rise, checked_told, checked_wants, end_of, is_clear, left_of, rise_of, sendings_left, stepped, tells_of, wants_of}
 use Rattle.actor_operations.specs.Falls.{sending_falls, sending_rises}
-use Rattle.proof_base.proofs.Options.{some_mapped}
 use Rattle.job_protocol.specs.Setup as setups
 use Rattle.job_protocol.specs.Writes as writes
 use Rattle.job_protocol.specs.TaskCommits as commits
@@ -37,62 +36,35 @@ use Rattle.task_machines.proofs.AbortFalls.{abort_falls as task_abort_falls}
 
 setup_goes_on : (m : Driving setups.Setup) (o : setups.Setup) → is_some (setup_wants (record { plan = m.plan; operation = o })) ≡ not (is_some (setups.setup_over o))
 setup_goes_on m setups.Heading = refl
-setup_goes_on m (setups.Checking keys) = refl
-setup_goes_on m setups.Clearing = refl
-setup_goes_on m (setups.Sweeping s) = refl
-setup_goes_on m (setups.SetupOver end) = refl
+setup_goes_on m _ = refl
 
 write_goes_on : (m : Attempting writes.Write) (o : writes.Write) → is_some (write_wants (record { plan = m.plan; operation = o })) ≡ not (is_some (writes.write_over o))
 write_goes_on m (writes.Uploads f fs u) = refl
-write_goes_on m (writes.Marking f fs) = refl
-write_goes_on m (writes.Recording f fs) = refl
-write_goes_on m (writes.WriteOver end) = refl
+write_goes_on m _ = refl
 
 commit_goes_on : (m : Attempting commits.TaskCommit) (o : commits.TaskCommit) → is_some (task_commit_wants (record { plan = m.plan; operation = o })) ≡ not (is_some (commits.task_commit_over o))
 commit_goes_on m (commits.Looking keys) = refl
-commit_goes_on m (commits.Reading cs f fs) = refl
-commit_goes_on m (commits.Publishing cs) = refl
-commit_goes_on m (commits.Checking d ds) = refl
-commit_goes_on m (commits.Uploads f fs u) = refl
-commit_goes_on m commits.Storing = refl
-commit_goes_on m commits.Renaming = refl
-commit_goes_on m (commits.TaskCommitOver end) = refl
+commit_goes_on m _ = refl
 
 abort_goes_on : (m : Attempting aborts.TaskAbort) (o : aborts.TaskAbort) → is_some (task_abort_wants (record { plan = m.plan; operation = o })) ≡ not (is_some (aborts.task_abort_over o))
 abort_goes_on m (aborts.Dropping d ds sent) = refl
-abort_goes_on m (aborts.Sweeping s) = refl
-abort_goes_on m aborts.Removing = refl
-abort_goes_on m (aborts.TaskAbortOver end) = refl
+abort_goes_on m _ = refl
 
 job_goes_on : (m : Committing) (c : jobs.Commit) → is_some (commit_wants (record { plan = m.plan; picked = m.picked; operation = c })) ≡ not (is_some (jobs.commit_over c))
 job_goes_on m (jobs.Fetching sets n) = refl
-job_goes_on m (jobs.Replacing sets p ps s n) = refl
-job_goes_on m (jobs.Completing sets x xs finished) = refl
-job_goes_on m (jobs.Marking sets n) = refl
-job_goes_on m (jobs.Reverting r rs n) = refl
-job_goes_on m (jobs.CommitOver end) = refl
+job_goes_on m _ = refl
 
 clean_goes_on : (m : Driving cleans.Clean) (o : cleans.Clean) → is_some (clean_wants (record { plan = m.plan; operation = o })) ≡ not (is_some (cleans.clean_over o))
 clean_goes_on m (cleans.Walking found) = refl
-clean_goes_on m (cleans.Aborting u us) = refl
-clean_goes_on m (cleans.Sweeping s) = refl
-clean_goes_on m cleans.Naming = refl
-clean_goes_on m (cleans.Removing p ps) = refl
-clean_goes_on m (cleans.CleanOver end) = refl
+clean_goes_on m _ = refl
 
 sparing_goes_on : (m : Driving sparings.Sparing) (o : sparings.Sparing) → is_some (sparing_wants (record { plan = m.plan; operation = o })) ≡ not (is_some (sparings.sparing_over o))
 sparing_goes_on m (sparings.Walking keys) = refl
-sparing_goes_on m sparings.Naming = refl
-sparing_goes_on m (sparings.Reading named p ps all) = refl
-sparing_goes_on m (sparings.Aborting u us all) = refl
-sparing_goes_on m (sparings.Deleting k ks) = refl
-sparing_goes_on m (sparings.Removing p ps) = refl
-sparing_goes_on m (sparings.SparingOver end) = refl
+sparing_goes_on m _ = refl
 
 check_goes_on : (m : PlannedCheck) (o : checks.Check) → is_some (check_wants (record { plan = m.plan; operation = o })) ≡ not (is_some (checks.check_over o))
 check_goes_on m (checks.Looking keys) = refl
-check_goes_on m (checks.Probing d ds) = refl
-check_goes_on m (checks.CheckOver end) = refl
+check_goes_on m _ = refl
 
 asks_on : {X Y : Type 0} (f : X → Y) (o : Option X) (b : Bool) → b ≡ not (is_some o) → b ≡ not (is_some (option_map f o))
 asks_on f (Some x) b h = h
@@ -117,21 +89,17 @@ goes_on (Checked x) = checked_goes_on x.check x.commit
 -- an honest answer is the one that is due
 due_is : (o : Outcome) (due : Reply) → IsHonestOutcome o due → (a : Reply) → o ≡ Answered a → a ≡ due
 due_is (Answered b) due h a e = let k : b ≡ a = cc in sym k ∙ h
-due_is Slow due h a e = absurd (cc)
-due_is RequestLost due h a e = absurd (cc)
-due_is ReplyLost due h a e = absurd (cc)
+due_is _ due h a e = absurd (cc)
 
 -- a check only reads
 check_reads : (m : PlannedCheck) (o : checks.Check) (r : Request) → check_wants (record { plan = m.plan; operation = o }) ≡ Some r → only_reads r ≡ true
-check_reads m (checks.Looking keys) r e = ap only_reads (sym (some_is e))
-check_reads m (checks.Probing d ds) r e = ap only_reads (sym (some_is e))
 check_reads m (checks.CheckOver end) r e = absurd (none_some refl e)
+check_reads m _ r e = ap only_reads (sym (some_is e))
 
 reads_leave : (s : Scene) (r : Request) → only_reads r ≡ true → (o : Outcome) → effect s r o ≡ s
-reads_leave s r h (Answered y) = reads_nothing s r h
 reads_leave s r h Slow = refl
 reads_leave s r h RequestLost = refl
-reads_leave s r h ReplyLost = reads_nothing s r h
+reads_leave s r h _ = reads_nothing s r h
 
 -- once the check is clear only the commit is left
 past_check : (b : Bool) (u : Retrying PlannedCheck) (c : Committing) (s : Scene) (n : ℕ) → sendings_left check_left u s < n → checked_left (cond b None (Some u)) c s < n + left most_commits c s

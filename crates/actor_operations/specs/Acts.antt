@@ -13,20 +13,20 @@ use Rattle.job_protocol.specs.Sparing.{sparing_over}
 use Rattle.task_requests.specs.Writing.{write_fits, write_left}
 use Rattle.task_machines.specs.Commits.{commit_fits as task_commit_fits, commit_left as task_commit_left}
 use Rattle.task_machines.specs.Aborts.{abort_fits as task_abort_fits, abort_left as task_abort_left}
-use Rattle.job_setup.specs.Fits.{FitsDriving as setup_fits}
 use Rattle.job_setup.specs.Left.{setup_left}
-use Rattle.cleanup.specs.Fits.{FitsDriving as clean_fits}
 use Rattle.cleanup.specs.Left.{clean_left}
 use Rattle.cleanup.specs.SparingFits.{most_commits, FitsSparingDriving as sparing_fits}
 use Rattle.cleanup.specs.SparingLeft.{sparing_left}
 use Rattle.conflict.specs.Rechecks.{PlannedCheck, check_wants, check_told}
-use Rattle.conflict.specs.Fits.{FitsCheck as check_fits}
 use Rattle.conflict.specs.Left.{check_left}
 use Rattle.commit_laws.specs.Laws.{FitsFew, left, rise as commit_rise}
 use Rattle.actor_operations.specs.declared.act.Act.{Act}
 use Rattle.actor_operations.specs.declared.act.Act.TheVariants.{Setup, Write, CommitTask, AbortTask, Commit, Clean, Sparing}
 use Rattle.actor_operations.specs.declared.act.Act.TheVariants as acts
 use Rattle.actor_operations.specs.declared.checked.Checked.{Checked}
+use Rattle.job_setup.specs.Fits.{FitsDriving as setup_fits}
+use Rattle.cleanup.specs.Fits.{FitsDriving as clean_fits}
+use Rattle.conflict.specs.Fits.{FitsCheck as check_fits}
 
 -- ---- a machine under its retries
 

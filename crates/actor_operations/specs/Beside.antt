@@ -3,9 +3,9 @@ use Rattle.std.specs.Prelude.{◌≡◌, ℕ, ◌≤◌, true, false, List}
 use Rattle.job_steps.specs.Prelude.{Scene, apply, begins, Request, IsIn, adds_key, Task, TaskCommit, attempt_prefix, TaskAbort, Attempting, task_script, who_of}
 use Rattle.job_facts.specs.Prelude.{changed_keys}
 use Rattle.machine.specs.declared.retrying.Retrying.{Retrying}
-use Rattle.job_protocol.specs.Writes.{Write as Writing}
 use Rattle.actor_operations.specs.declared.act.Act.TheVariants.{Write, CommitTask, AbortTask}
 use Rattle.actor_operations.specs.Acts.{left_of}
+use Rattle.job_protocol.specs.Writes.{Write as Writing}
 
 -- no key that the request may add begins so
 abbrev pub PutsNone : List ℕ → Request → Type 0

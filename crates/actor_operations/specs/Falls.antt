@@ -6,7 +6,7 @@ use Rattle.job_protocol.specs.Prelude.{FallsAmong}
 use Rattle.std.proofs.Math.Nat.{add-mul}
 use Rattle.machine.specs.declared.retrying.Retrying.{Retrying}
 use Rattle.actor_operations.specs.Acts.{sendings_left, stepped, under}
-use Rattle.proof_base.proofs.Numbers.{more_times, no_more_times}
+use Rattle.basics.proofs.Naturals.{more_times, no_more_times}
 
 less_work : (a b n x : ℕ) → a < b → a * (n + 1) + n < b * (n + 1) + x
 less_work a b n x h = omega (arith, more_times a b n h)

@@ -5,14 +5,12 @@ pub use Rattle.block_stream.specs.Stream.{Fits, Stream, added, answers, asks, as
 pub use Rattle.block_stream.specs.declared.mode.StreamEnd.{StreamEnd}
 pub use Rattle.block_stream.specs.declared.mode.StreamEnd.TheVariants.{Done, Gone, NoMemory, StoreFault}
 pub use Rattle.block_stream.specs.declared.mode.StreamMode.{StreamMode}
-pub use Rattle.block_stream.specs.declared.mode.StreamMode.TheVariants.{Delayed, Direct}
 pub use Rattle.block_stream.specs.declared.stage.Stage.{Stage}
 pub use Rattle.block_stream.specs.declared.stage.Stage.TheVariants.{Beginning, Completing, Over, Putting, Sending, Waiting}
 pub use Rattle.machine.specs.Prelude.{Actor, BucketContent, CompleteUpload, Completed, Content, CreateUpload, Drove, Entry, Fate, Fine, Got, Laws, NamedPart, NoSuchUpload, Ordering, Part, Parts, PutObject, Refusal, Refused, Reply, Request, Retried, Scene, Spelled, Stored, Upload, UploadPart, answer, answer_at, answer_in, apply, apply_at, apply_in, bucket_of, complete_answer, completed, concat, eq_by_cmp_equiv, flat_map, is_part_number, joined, list_all, live, named_from, nat_cmp, nat_cmp_total, part_answer, part_put, retried, run, step, unwrap_or, with_key, with_part}
-pub use Rattle.proof_base.proofs.Common.{and_parts, and_right, append-nil, common_steps, concat-append, drop-append_seam, drop_all, exact_unsigned, length-map, length-take-le, map-append, nat_tests, none-some, or_parts, take-append-drop, take-append-le, take_all}
-pub use Rattle.proof_base.proofs.Lists.{one_longer}
-pub use Rattle.proof_base.proofs.Numbers.{above_so, at_most_is, at_most_not, at_most_so, below_is, below_so}
-pub use Rattle.proof_base.proofs.Options.{none_is}
+pub use Rattle.basics.proofs.Common.{and_parts, and_right, append-nil, common_steps, concat-append, drop-append_seam, drop_all, exact_unsigned, length-map, length-take-le, map-append, nat_tests, none-some, take-append-drop, take-append-le, take_all}
+pub use Rattle.basics.proofs.Lists.{one_longer}
+pub use Rattle.basics.proofs.Naturals.{above_so, at_most_so, below_so}
+pub use Rattle.basics.proofs.Options.{none_is}
 pub use Rattle.s3_types.specs.Tags.{joined_tag, plain_tag}
 pub use Rattle.std.proofs.Common.{List, [], ap, append_assoc, arith, drop, inl, inr, length, length-append, length-drop, refl, subst, sym, take, true≢false, ℕ, ◌*◌, ◌++◌, ◌+◌, ◌-◌, ◌<◌, ◌∙◌, ◌∷◌, ◌≡◌, ◌≤◌}
-pub use Rattle.std.proofs.lemmas.Bool.{or_right, true_from_ne_false}

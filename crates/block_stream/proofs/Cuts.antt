@@ -1,6 +1,6 @@
 -- What a stream's blocks tell of what is pending.
 use Rattle.std.specs.Prelude.{◌≡◌, ℕ, ◌+◌, ◌<◌, ◌≤◌, ◌&&◌, ◌||◌, Bool, true, false, not, nat_le, nat_lt, cond, List, [], ◌∷◌, ◌++◌, length, take, drop, Option, Some, None}
-use Rattle.block_stream.proofs.Common.{Completing, Delayed, Direct, Done, IsCutUp, Over, Putting, Sending, Spelled, Stage, Stream, StreamEnd, StreamMode, Waiting, above_so, and_right, ap, append-nil, append_assoc, arith, asks_with, at_most_so, begin_or_wait, complete_or_wait, concat, drop-append_seam, drop_all, ended, first_of, has_part, has_some, is_direct, is_due, is_settled, is_short, is_small, is_whole, length-append, nat_tests, next_at, or_right, refl, seen, settled, settles, stage_by, stage_of, subst, sym, take-append-le, take_all, unwrap_or, wanted, ◌∙◌}
+use Rattle.block_stream.proofs.Common.{Completing, Done, IsCutUp, Over, Putting, Sending, Spelled, Stage, Stream, StreamEnd, StreamMode, Waiting, above_so, ap, append-nil, append_assoc, arith, asks_with, at_most_so, begin_or_wait, complete_or_wait, concat, drop-append_seam, drop_all, ended, first_of, has_part, has_some, is_direct, is_due, is_settled, is_short, is_small, is_whole, length-append, nat_tests, next_at, refl, seen, settled, settles, stage_by, stage_of, subst, sym, take-append-le, take_all, unwrap_or, wanted, ◌∙◌}
 use Rattle.block_stream.proofs.FillingLaws.{AtStage, at_stage}
 
 -- bytes that begin with a whole block

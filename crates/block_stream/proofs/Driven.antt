@@ -1,6 +1,6 @@
 -- What driving a stream that is alone leaves.
 use Rattle.std.specs.Prelude.{◌≡◌, ℕ, Bool, true, false, List, Option, Result, Ok, Err, IfOk}
-use Rattle.block_stream.proofs.Common.{Actor, Beginning, Completed, Completing, Drove, Entry, Fate, Fine, Got, Holds, IsReady, NoSuchUpload, Part, Putting, Refusal, Refused, Reply, Retried, Scene, Sending, Stage, Stored, Stream, Upload, answer, arith, ended, moved, parted, refl, refused, retried, run, settled, stage, standing, step, subst, sym, told, wanted, ◌∙◌}
+use Rattle.block_stream.proofs.Common.{Actor, Beginning, Completed, Completing, Drove, Entry, Fate, Fine, Got, Holds, IsReady, Part, Putting, Refusal, Refused, Reply, Retried, Scene, Sending, Stage, Stored, Stream, Upload, answer, arith, ended, moved, parted, refl, refused, retried, run, settled, stage, standing, step, subst, sym, told, wanted, ◌∙◌}
 use Rattle.machine.proofs.Keeping.{Keeps}
 use Rattle.machine.specs.declared.retrying.Retrying.{Retrying}
 use Rattle.machine.specs.declared.driving.DriveStop.{DriveStop}

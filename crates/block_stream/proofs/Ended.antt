@@ -1,7 +1,6 @@
 -- What a stream that has ended well has stored.
-use Rattle.std.specs.Prelude.{◌≡◌, ℕ, Bool, true, false, cond, List, Option, Some, None}
-use Rattle.block_stream.proofs.Common.{BucketContent, Done, Fine, Gone, Holds, HoldsIn, IsWritten, Putting, Scene, Sending, Stream, StreamEnd, ap, arith, asks, begin_or_wait, complete_or_wait, has_part, is_small, none-some, refl, stage_of, standing, standing_of, subst, sym, wanted, ◌∙◌}
-use Rattle.block_stream.proofs.Cuts.{first_part}
+use Rattle.std.specs.Prelude.{◌≡◌, ℕ, Bool, true, List, Option, Some, None}
+use Rattle.block_stream.proofs.Common.{BucketContent, Done, Fine, Holds, HoldsIn, IsWritten, Scene, Stream, arith, asks, stage_of, standing, wanted}
 
 -- a closed stream that has not ended asks something
 asks_on : (m : Stream) (s : Scene) (repeated : Bool) (bytes : List ℕ) (c : BucketContent) (u : Option ℕ) → m.closed ≡ true → HoldsIn None u m c repeated bytes → asks (stage_of None u m) m ≡ None → ⊥

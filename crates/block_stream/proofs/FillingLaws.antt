@@ -1,10 +1,10 @@
 -- Laws of an upload that is being filled: its parts, its room, and what is known once all was sent. Contracts cite none of them.
-use Rattle.std.specs.Prelude.{◌≡◌, ◌⊎◌, ℕ, ◌+◌, ◌-◌, ◌*◌, ◌<◌, ◌≤◌, ◌&&◌, ◌||◌, Bool, true, false, not, nat_le, nat_lt, cond, List, [], ◌∷◌, ◌++◌, length, map, drop, Option, Some, None}
-use Rattle.block_stream.proofs.Common.{AreBlocks, AreLong, Beginning, BucketContent, Completing, Content, Delayed, Direct, Done, Fills, HasParts, HasRoom, Holds, HoldsIn, IsUpload, IsUploadOf, IsWritten, Putting, Request, Scene, Sending, Spelled, Stage, Stream, StreamEnd, StreamMode, UploadPart, and_parts, and_right, answer, answer_at, answer_in, ap, append-nil, apply, apply_at, apply_in, arith, at_most_is, at_most_not, begin_or_wait, begun, below_is, bucket_of, chunk, complete_or_wait, concat, drop_all, ended, exact_unsigned, has_part, has_some, id_of, inl, inr, is_direct, is_part_number, is_settled, is_small, length-drop, length-map, live, nat_cmp_total, nat_tests, none-some, numbered, one_longer, or_parts, part_put, parted, plain_tag, refl, settled, stage, stage_of, subst, sym, true_from_ne_false, true≢false, unwrap_or, with_key, with_part, ◌∙◌}
+use Rattle.std.specs.Prelude.{◌≡◌, ◌⊎◌, ℕ, ◌+◌, ◌-◌, ◌*◌, ◌<◌, ◌≤◌, ◌&&◌, Bool, true, false, not, cond, List, [], ◌∷◌, ◌++◌, length, map, drop, Option, Some, None}
+use Rattle.block_stream.proofs.Common.{AreBlocks, AreLong, Beginning, BucketContent, Completing, Content, Done, Fills, HasParts, HasRoom, Holds, HoldsIn, IsUpload, IsUploadOf, IsWritten, Putting, Request, Scene, Sending, Spelled, Stage, Stream, StreamEnd, StreamMode, UploadPart, and_parts, answer, answer_at, answer_in, ap, append-nil, apply, apply_at, apply_in, arith, begin_or_wait, begun, bucket_of, chunk, complete_or_wait, concat, drop_all, ended, exact_unsigned, has_part, has_some, id_of, inl, inr, is_direct, is_part_number, is_settled, is_small, length-drop, length-map, live, nat_cmp_total, nat_tests, none-some, numbered, one_longer, part_put, parted, plain_tag, refl, settled, stage, stage_of, subst, sym, true≢false, with_key, with_part, ◌∙◌}
 use Rattle.retries.specs.Prelude.{text_eq, text_equiv, text_total, Upload}
-use Rattle.proof_base.proofs.Bools.{not_so}
+use Rattle.basics.proofs.Bools.{not_so}
 use Rattle.std.specs.FinMap as fin
-use Rattle.proof_base.proofs.Tree.{insert_same}
+use Rattle.basics.proofs.Tree.{insert_same}
 use Rattle.block_stream.proofs.PartLaws.{get_same, numbered_more, last_stands}
 
 -- ---- what a stage tells

@@ -1,10 +1,10 @@
 -- Each change keeps what the fields of a stream keep.
-use Rattle.std.specs.Prelude.{◌≡◌, ℕ, ◌+◌, ◌-◌, ◌*◌, ◌<◌, ◌≤◌, ◌&&◌, ◌||◌, Bool, true, false, not, nat_le, cond, List, [], ◌∷◌, ◌++◌, length, drop, Option, Some, None}
-use Rattle.block_stream.proofs.Common.{AreCut, AreLong, Beginning, CutUp, Done, HasRoom, IsCutUp, IsKept, Request, Sending, Spelled, Stream, StreamEnd, StreamMode, added, ap, append-nil, append_assoc, arith, asks, asks_with, close, closed_by, complete_or_wait, concat, concat-append, ended, first_of, front_of, has_part, has_some, is_whole, last_of, length-append, next_by, none-some, parted, refl, seen, settled, shut, stage, stage_of, subst, sym, wanted, wrote, ◌∙◌}
+use Rattle.std.specs.Prelude.{◌≡◌, ℕ, ◌+◌, ◌-◌, ◌*◌, ◌<◌, ◌≤◌, Bool, true, false, cond, List, [], ◌∷◌, ◌++◌, length, drop, Option, Some, None}
+use Rattle.block_stream.proofs.Common.{AreCut, AreLong, Beginning, CutUp, Done, HasRoom, IsCutUp, IsKept, Request, Sending, Spelled, Stream, StreamEnd, StreamMode, added, ap, append-nil, append_assoc, arith, asks, asks_with, close, closed_by, complete_or_wait, concat, concat-append, ended, first_of, front_of, has_part, is_whole, last_of, length-append, next_by, none-some, parted, refl, seen, settled, shut, stage, stage_of, subst, sym, wanted, wrote, ◌∙◌}
 use Rattle.block_stream.proofs.FillingLaws.{AtStage, at_stage, settled_by, due, room_after, room_ended, room_begun}
 use Rattle.block_stream.proofs.KeepingLaws.{unsettled}
 use Rattle.block_stream.proofs.Grown.{room_wrote, room_shut}
-use Rattle.block_stream.proofs.Cuts.{whole_is, first_is, drop_is, cut_rest, asks_is, next_is, first_part}
+use Rattle.block_stream.proofs.Cuts.{first_is, drop_is, cut_rest, asks_is, next_is, first_part}
 
 -- the fields of a stream that has not ended are cut up
 pub cut_of : (e : Option StreamEnd) (n : ℕ) (closed : Bool) (q : List (List ℕ)) (r : List ℕ) → IsCutUp n closed q r → CutUp e n closed q r

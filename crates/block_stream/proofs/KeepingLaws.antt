@@ -1,6 +1,6 @@
 -- Laws of a stream that is alone: it holds what was written, whatever the store loses. Contracts cite none of them.
 use Rattle.std.specs.Prelude.{◌≡◌, ◌⊎◌, ℕ, ◌+◌, ◌-◌, ◌<◌, ◌≤◌, ◌&&◌, Bool, true, false, not, cond, List, [], ◌∷◌, ◌++◌, length, map, drop, Option, Some, None, Ok, Err}
-use Rattle.block_stream.proofs.Common.{AreBlocks, AreLong, Beginning, BucketContent, CompleteUpload, Completed, Completing, CreateUpload, Done, Fills, Gone, HasParts, HasRoom, Holds, HoldsIn, IsHidden, NamedPart, NoSuchUpload, Over, Part, PutObject, Putting, Refused, Reply, Request, Scene, Sending, Spelled, Stage, StoreFault, Stream, StreamEnd, UploadPart, Waiting, answer, answer_in, answers, ap, append-nil, append_assoc, apply, apply_in, arith, asks, begun, chunk, complete_answer, completed, concat, concat-append, drop_all, ended, eq_by_cmp_equiv, has_part, has_some, id_of, inl, inr, is_begun, is_direct, is_settled, is_small, joined, joined_tag, left, left_by, length-drop, length-take-le, live, map-append, named_from, nat_cmp_total, one_if, one_longer, part_answer, parted, plain_tag, refl, settled, stage, stage_of, subst, sym, take-append-drop, take_all, told, true≢false, wanted, with_key, ◌∙◌}
+use Rattle.block_stream.proofs.Common.{AreBlocks, AreLong, Beginning, BucketContent, CompleteUpload, Completed, Completing, CreateUpload, Done, Fills, Gone, HasParts, HasRoom, Holds, HoldsIn, IsHidden, NamedPart, NoSuchUpload, Over, Part, PutObject, Putting, Refused, Reply, Request, Scene, Sending, Spelled, Stage, StoreFault, Stream, StreamEnd, UploadPart, Waiting, answer, answer_in, answers, ap, append-nil, append_assoc, apply, apply_in, arith, asks, begun, chunk, complete_answer, completed, concat, concat-append, drop_all, ended, eq_by_cmp_equiv, has_part, has_some, id_of, inl, inr, is_begun, is_direct, is_settled, is_small, joined, joined_tag, left, left_by, length-drop, length-take-le, live, map-append, named_from, nat_cmp_total, one_if, one_longer, part_answer, parted, plain_tag, refl, stage, stage_of, subst, sym, take-append-drop, take_all, told, true≢false, wanted, with_key, ◌∙◌}
 use Rattle.retries.specs.Prelude.{get-remove, text_total, Upload}
 use Rattle.std.specs.FinMap as fin
 use Rattle.block_stream.proofs.PartLaws.{get_same, completes}

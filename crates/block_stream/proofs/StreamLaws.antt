@@ -1,6 +1,6 @@
 -- The laws of a stream as a machine. Contracts cite none of them; the machine names `stream_laws` as what holds of it.
-use Rattle.std.specs.Prelude.{◌≡◌, Bool, true, false, cond, Some}
-use Rattle.block_stream.proofs.Common.{Beginning, Completed, Completing, Done, Fine, Fits, Gone, IsReady, Laws, Part, Putting, Refusal, Refused, Reply, Sending, Stage, Stored, Stream, Upload, answers, ap, arith, is_no_upload, left, moved, parted, refl, refused, stage, standing, standing_of, sym, told, wanted, ◌∙◌}
+use Rattle.std.specs.Prelude.{◌≡◌, Bool, true, false}
+use Rattle.block_stream.proofs.Common.{Beginning, Completed, Completing, Fine, Fits, IsReady, Laws, Part, Putting, Refusal, Refused, Reply, Sending, Stage, Stored, Stream, Upload, answers, ap, arith, is_no_upload, left, moved, parted, refl, refused, stage, standing, standing_of, sym, told, wanted, ◌∙◌}
 use Rattle.block_stream.proofs.FillingLaws.{settled_by}
 use Rattle.block_stream.proofs.KeepingLaws.{hidden, took, lost, gave_up, fit, falls, some_left, asks_alive}
 

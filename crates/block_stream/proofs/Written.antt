@@ -1,8 +1,7 @@
 -- What a write and the close keep.
-use Rattle.std.specs.Prelude.{◌≡◌, ◌+◌, ◌*◌, ◌≤◌, ◌&&◌, ℕ, Bool, true, false, nat_lt, cond, List, [], ◌++◌, length, take, Option, Some, None, Result, Ok, Err, OnOk, IsSome, is_some}
-use Rattle.block_stream.proofs.Common.{Beginning, BucketContent, Completing, Done, Holds, Over, Putting, Request, Scene, Sending, Spelled, Stage, Stream, StreamMode, Waiting, added, and_right, ap, arith, asks, asks_with, begin_or_wait, close, closed_by, complete_or_wait, ended, fresh, has_part, id_of, is_direct, is_small, nat_tests, refl, seen, shut, stage, stage_of, subst, sym, take-append-le, true≢false, wanted, wrote, ◌∙◌}
+use Rattle.std.specs.Prelude.{◌≡◌, ◌+◌, ◌*◌, ◌≤◌, ◌&&◌, ℕ, Bool, true, false, nat_lt, cond, List, [], ◌++◌, length, take, Option, Some, None, IsSome, is_some}
+use Rattle.block_stream.proofs.Common.{Beginning, BucketContent, Done, Holds, Request, Scene, Sending, Spelled, Stage, Stream, StreamMode, added, and_right, ap, arith, asks, asks_with, close, closed_by, ended, fresh, has_part, id_of, is_direct, is_small, refl, seen, shut, stage_of, subst, sym, take-append-le, wanted, wrote, ◌∙◌}
 use Rattle.std.specs.FinMap as fin
-use Rattle.block_stream.proofs.FillingLaws.{AtStage, at_stage, small_parts}
 use Rattle.block_stream.proofs.KeepingLaws.{asks_alive, unsettled}
 use Rattle.block_stream.proofs.Grown.{open_due, is_due, longer, holds_wrote, holds_close}
 

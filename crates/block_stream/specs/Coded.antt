@@ -39,9 +39,7 @@ bits_end_by true true = NoMemory
 -- an end's bits give the end again
 abbrev pub end_and_back : (e : StreamEnd) → bits_end_by (end_bits e).0 (end_bits e).1 ≡ e
 end_and_back Done = refl
-end_and_back Gone = refl
-end_and_back StoreFault = refl
-end_and_back NoMemory = refl
+end_and_back _ = refl
 
 -- the code of a stream's mode
 abbrev pub coded_mode : Coded StreamMode

@@ -78,12 +78,11 @@ id_of m = unwrap_or m.upload 0
 
 -- what is asked at a stage, with this upload, the tags of its parts and the next part
 abbrev pub asks_with : Stage → List ℕ → List ℕ → ℕ → List Spelled → List ℕ → Option Request
-asks_with Waiting bucket key id tags next = None
 asks_with Putting bucket key id tags next = Some (PutObject bucket key next None)
 asks_with Beginning bucket key id tags next = Some (CreateUpload bucket key)
 asks_with Sending bucket key id tags next = Some (UploadPart bucket key id (length tags + 1) next)
 asks_with Completing bucket key id tags next = Some (CompleteUpload bucket key id (named_from 1 tags))
-asks_with Over bucket key id tags next = None
+asks_with _ bucket key id tags next = None
 
 -- what is asked for
 abbrev pub asks : Stage → Stream → Option Request
@@ -217,11 +216,9 @@ left m = left_by m.end m
 
 -- how a stream stands that has this end
 abbrev pub standing_of : Option StreamEnd → Standing
-standing_of None = Fine
-standing_of (Some Done) = Fine
-standing_of (Some Gone) = Fine
 standing_of (Some StoreFault) = Faulted
 standing_of (Some NoMemory) = Broken
+standing_of _ = Fine
 
 -- how a stream stands by its end
 abbrev pub standing : Stream → Standing

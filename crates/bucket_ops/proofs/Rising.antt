@@ -2,7 +2,7 @@
 use Rattle.std.specs.Prelude.{◌≡◌, ℕ, true, List, [], ◌∷◌}
 use Rattle.bucket_ops.specs.Prelude.{AllByRecursion, Less, text_cmp, text_total, RisesFrom}
 use Rattle.std.specs.List.Sorted.{IsStrictlySortedBy}
-use Rattle.proof_base.proofs.Less.{lt, lt_trans, less_of}
+use Rattle.basics.proofs.Less.{lt, lt_trans, less_of}
 
 -- what rises from a text rises from a lower one
 pub lower : (l k : List ℕ) (ks : List (List ℕ)) → lt text_cmp l k ≡ true → RisesFrom k ks → RisesFrom l ks

@@ -1,8 +1,8 @@
 -- A sweep lists all keys and deletes them, and ends.
 use Rattle.bucket_ops.proofs.Common.{Bool, Deleted, Deleting, DropAll, FitsSweep, IsDeleted, IsSweeping, IsSwept, IsWalked, IsWalking, LessLeft, LessWalked, List, Listing, More, Objects, PageEntry, Refused, Reply, Sweep, TooManyKeys, Walked, Whole, [], all_go, ap, arith, cond, deleting, drop, edited, false, false≢true, filter, filter_all, fits, keys_below, keys_on, last_of, length, length-drop, listed, map, nat_lt, on_keys, refl, reply_in, subst, suc, sweep_asks, sweep_hears, sweep_left, sweep_start, swept, sym, take, true, walk_asks, walked_entries, walked_keys, ℕ, ◌*◌, ◌+◌, ◌<◌, ◌∙◌, ◌∷◌, ◌≡◌}
-use Rattle.s3_types.specs.declared.reply.PageEntry.TheVariants.{Object as Single}
 use Rattle.bucket_ops.proofs.Walks.{fits_decides, page_fits, walk_goes, walk_falls}
 use Rattle.bucket_ops.proofs.Batches.{within, deleting_all, batch_goes}
+use Rattle.s3_types.specs.declared.reply.PageEntry.TheVariants.{Object as Single}
 
 pub sweep_fits : (q : List ℕ) (w : Sweep) (m : Objects) → fits (reply_in m (sweep_asks q w)) ≡ true
 sweep_fits q (Listing keys) m = page_fits 1000 q (last_of keys) m

@@ -1,5 +1,5 @@
 -- A walk goes on by pages, and ends.
-use Rattle.bucket_ops.proofs.Common.{Bool, Decides, FitsPage, IsWalked, IsWalking, LessWalked, List, NoSuchBucket, Objects, PageEntry, Refusal, Refused, Reply, [], ap, append_assoc, arith, below_is, below_not, drop, false, fits, keys_joined, keys_on, last_of, length, length-append, length-drop, length-take, listed, nat_lt, page, page_keys, refl, reply_in, sym, take, take-append-drop, take_all, true, true≢false, walk_asks, walk_left, walked_by, walked_entries, ℕ, ◌*◌, ◌++◌, ◌+◌, ◌∙◌, ◌≡◌}
+use Rattle.bucket_ops.proofs.Common.{Bool, Decides, FitsPage, IsWalked, IsWalking, LessWalked, List, NoSuchBucket, Objects, PageEntry, Refused, Reply, [], ap, append_assoc, arith, below_is, below_not, drop, false, fits, keys_joined, keys_on, last_of, length, length-append, length-drop, length-take, listed, nat_lt, page, page_keys, refl, reply_in, sym, take, take-append-drop, take_all, true, true≢false, walk_asks, walk_left, walked_by, walked_entries, ℕ, ◌*◌, ◌++◌, ◌+◌, ◌∙◌, ◌≡◌}
 use Rattle.machine.specs.Prelude.{Page}
 use Rattle.list_walk.proofs.Fitted.{keys_decide}
 use Rattle.list_walk.proofs.Listing.{last_append, behind_page}

@@ -34,10 +34,7 @@ abbrev pub is_look : Ask → Bool
 is_look (Head k) = true
 is_look (Get k) = true
 is_look (Page p d q n) = true
-is_look (Put k bytes) = false
-is_look (Drop k) = false
-is_look (DropAll ks) = false
-is_look (Copy k q) = false
+is_look _ = false
 
 -- what is answered where these objects stand
 abbrev pub reply_in : Objects → Ask → Reply
@@ -51,13 +48,11 @@ reply_in m (Copy k q) = copy_answer (fin.get m k)
 
 -- the objects after it
 abbrev pub edited : Ask → Objects → Objects
-edited (Head k) m = m
-edited (Get k) m = m
-edited (Page p d q n) m = m
 edited (Put k bytes) m = fin.insert m k (record { bytes = bytes; header = None })
 edited (Drop k) m = fin.remove m k
 edited (DropAll ks) m = cond (nat_lt 1000 (length ks)) m (without m ks)
 edited (Copy k q) m = copied m q (fin.get m k)
+edited _ m = m
 
 -- what an ask is answered, or NoSuchBucket
 abbrev pub reply_at : Option Objects → Ask → Reply

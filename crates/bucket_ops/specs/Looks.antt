@@ -1,9 +1,9 @@
 -- What replies to looks say.
 use Rattle.std.specs.Prelude.{◌==◌, length, if◌then◌else◌}
 use Rattle.machine.specs.Prelude.{Reply, Head, Page, Refused, Refusal, NoSuchBucket, NoSuchKey}
-use Rattle.s3_types.specs.declared.reply.Reply.TheVariants.{Object as Found}
 use Rattle.bucket_ops.specs.declared.look.Look.{Look}
 use Rattle.bucket_ops.specs.declared.look.Look.TheVariants.{There, Nothing, NoBucket, Other}
+use Rattle.s3_types.specs.declared.reply.Reply.TheVariants.{Object as Found}
 
 -- what a refused look says
 abbrev pub refused_look : Refusal → Look

@@ -1,5 +1,5 @@
 -- A sweep of all keys below a prefix: what is left of the objects while it lists and deletes in batches (Amazon S3 API: DeleteObjects).
-use Rattle.std.specs.Prelude.{List, None, Option, Some, [], false, length, take, ℕ, ◌*◌, ◌++◌, ◌+◌, ◌<◌, ◌∷◌, ◌≡◌}
+use Rattle.std.specs.Prelude.{List, None, Option, Some, false, length, take, ℕ, ◌*◌, ◌++◌, ◌+◌, ◌<◌, ◌∷◌, ◌≡◌}
 use Rattle.store_frame.specs.Prelude.{Objects, PageEntry, listed, without}
 use Rattle.bucket_ops.specs.Asks.{Ask, DropAll, Page}
 use Rattle.list_walk.specs.Walks.{Deleting, Listing, Sweep, keys_on, last_of}

@@ -1,12 +1,11 @@
 -- What a clean has left falls.
-use Rattle.cleanup.proofs.Common.{AbortUpload, Aborting, Bool, Clean, CleanOver, CleansEnd, ClusterDelete, Committer, Directory, IfSome, Job, List, Magic, More, Naming, None, Option, Partitioned, Removing, Request, Scene, Some, UploadRef, Walked, Walking, Whole, [], aborted, aborting, adds_key, all_go, answer, ap, apply, arith, begins, clean_asks, clean_hears, codes, false, filter, growth, job_script, left_of, length, one_if, one_most, refl, removing, sets_upload, subst, sweep_asks, sweep_hears, sweep_laws, sweep_start, sweeping, sym, true, upload_laws, uploads_after, uploads_left, walked_uploads, walking, ℕ, ◌++◌, ◌+◌, ◌<◌, ◌∷◌, ◌≡◌, ◌≤◌}
+use Rattle.cleanup.proofs.Common.{AbortUpload, Aborting, Clean, CleanOver, CleansEnd, ClusterDelete, Committer, Directory, IfSome, Job, List, Magic, More, Naming, None, Option, Partitioned, Removing, Request, Scene, Some, UploadRef, Walked, Walking, Whole, aborting, adds_key, all_go, answer, ap, apply, arith, begins, clean_asks, clean_hears, codes, false, filter, growth, job_script, left_of, length, one_if, one_most, refl, removing, sets_upload, subst, sweep_asks, sweep_hears, sweep_laws, sweep_start, sweeping, sym, upload_laws, uploads_after, uploads_left, walked_uploads, walking, ℕ, ◌++◌, ◌+◌, ◌<◌, ◌≡◌, ◌≤◌}
 use Rattle.std.specs.FinMap as fin
 use Rattle.magic_paths.specs.Layout as layout
 use Rattle.job_protocol.specs.Cleanups.{Sweeping}
 use Rattle.list_walk.specs.Laws.{LessUploads}
 use Rattle.cleanup.specs.Fits.{FitsClean}
 use Rattle.cleanup.specs.Left.{after_left, left_at}
-use Rattle.std.proofs.lemmas.Option.{same_Some}
 
 -- what holds of a request that is asked
 pub of_some : (P : Request → Type 0) (o : Option Request) (r : Request) → o ≡ Some r → IfSome o P → P r

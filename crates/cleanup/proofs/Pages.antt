@@ -1,8 +1,8 @@
 -- A page moves keys from those that are to come to those that are known.
 use Rattle.cleanup.proofs.Common.{Bool, BucketContent, FitsPage, List, More, None, Option, PageEntry, Scene, Some, Walked, Whole, answer, answer_at, ap, arith, count_in, false, keys_left, keys_on, last_of, length, length-append, length-drop, listed, nat_lt, page_after, refl, take, true, walked, walked_by, ℕ, ◌++◌, ◌+◌, ◌-◌, ◌<◌, ◌∙◌, ◌≡◌, ◌≤◌}
-use Rattle.proof_base.proofs.Common.{length-map, length-take}
+use Rattle.basics.proofs.Common.{length-map, length-take}
 use Rattle.std.specs.FinMap as fin
-use Rattle.proof_base.proofs.Numbers.{below_is}
+use Rattle.basics.proofs.Naturals.{below_is}
 use Rattle.s3_types.specs.Pages.{text_in}
 use Rattle.list_walk.proofs.Listing.{last_from, last_append, behind_page}
 

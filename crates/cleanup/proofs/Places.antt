@@ -1,5 +1,5 @@
 -- Places among uploads and paths.
-use Rattle.cleanup.proofs.Common.{Clean, CleanEnd, Committer, List, Magic, None, Option, Reply, Script, Some, Sweep, UploadRef, [], abort_asks, aborted, aborting, ap, arith, behind, clean_asks, clean_hears, clean_over, cond, drop, false, length, length-drop, nat_lt, refl, remove_asks, removing, sweep_start, sym, true, ℕ, ◌+◌, ◌-◌, ◌<◌, ◌∙◌, ◌∷◌, ◌≡◌}
+use Rattle.cleanup.proofs.Common.{Clean, CleanEnd, Committer, List, Magic, None, Option, Reply, Script, Some, Sweep, UploadRef, [], abort_asks, aborted, aborting, ap, arith, behind, clean_asks, clean_hears, clean_over, cond, drop, false, length, length-drop, nat_lt, refl, remove_asks, removing, sweep_start, sym, true, ℕ, ◌-◌, ◌<◌, ◌∙◌, ◌∷◌, ◌≡◌}
 use Rattle.path_keys.proofs.Common.{drop-drop, drop_all, below_is, below_not}
 use Rattle.cleanup.specs.Held.{clean_at, within, abort_stage, stage_after, aborting_from}
 use Rattle.cleanup.specs.declared.held.Stage.{Stage}

@@ -1,11 +1,11 @@
 -- What a sparing clean has left falls.
-use Rattle.cleanup.proofs.Common.{AbortUpload, BucketContent, ClusterDelete, Committer, DeleteObjects, Err, GetObject, IfSome, Job, List, Magic, More, None, Ok, Option, Request, Scene, Script, Some, SparingsEnd, UploadRef, Walked, Whole, [], adds_key, answer, answer_at, ap, apply, arith, begins, drop, files_left, filter, growth, is_record, job_script, keys_left, last_of, length, length-append, length-drop, not, one_most, page_after, refl, subst, sym, take, walk_laws, walked, ℕ, ◌++◌, ◌+◌, ◌-◌, ◌<◌, ◌∷◌, ◌≡◌, ◌≤◌}
+use Rattle.cleanup.proofs.Common.{AbortUpload, BucketContent, ClusterDelete, Committer, DeleteObjects, Err, GetObject, IfSome, Job, List, More, None, Ok, Option, Request, Scene, Script, Some, SparingsEnd, UploadRef, Walked, Whole, [], adds_key, answer, answer_at, ap, apply, arith, begins, drop, files_left, filter, growth, is_record, job_script, keys_left, last_of, length, length-append, length-drop, not, one_most, page_after, refl, subst, sym, take, walk_laws, walked, ℕ, ◌++◌, ◌+◌, ◌-◌, ◌<◌, ◌∷◌, ◌≡◌, ◌≤◌}
 use Rattle.std.specs.FinMap as fin
 use Rattle.std.proofs.lemmas.List.Filters.{length-filter_both}
 use Rattle.pending_json.specs.Reading as reading
-use Rattle.s3_types.specs.Answer.{found, read_answer}
+use Rattle.s3_types.specs.Answer.{found}
 use Rattle.magic_paths.specs.Layout as layout
-use Rattle.job_protocol.specs.Sparing.{Sparing, Walking, Naming, Reading, Aborting, Deleting, Removing, SparingOver, record_request, record_names, names, sparing_asks, sparing_hears, deleting, removing, emptying, aborting, reading_on, walking}
+use Rattle.job_protocol.specs.Sparing.{Sparing, Walking, Naming, Reading, Aborting, Deleting, Removing, SparingOver, record_request, record_names, names, sparing_asks, sparing_hears, deleting, removing, aborting, reading_on, walking}
 use Rattle.cleanup.specs.SparingFits.{most_commits, NamesFew, FitsSparing}
 use Rattle.cleanup.specs.SparingLeft.{named_most, reading_left, listing_left, walking_left, sparing_left_at}
 use Rattle.cleanup.proofs.Falling.{of_some}

@@ -1,6 +1,6 @@
 -- The replies that fit a clean, and how it stands.
 use Rattle.std.specs.Prelude.{Bool}
-use Rattle.job_protocol.specs.Prelude.{Reply, CleanEnd, Driving, Clean, Walking, Aborting, Naming, Removing, CleanOver, FitsUploads, FitsSweep}
+use Rattle.job_protocol.specs.Prelude.{Reply, CleanEnd, Driving, Clean, Walking, CleanOver, FitsUploads, FitsSweep}
 use Rattle.machine.specs.Prelude.{Standing, Fine, Faulted, Broken}
 use Rattle.job_model.specs.declared.ends.CleanEnd.TheVariants.{Done, StoreFault, NoMemory}
 use Rattle.job_protocol.specs.Cleanups.{Sweeping}
@@ -9,10 +9,7 @@ use Rattle.job_protocol.specs.Cleanups.{Sweeping}
 abbrev pub FitsClean : Clean → Reply → Type 0
 FitsClean (Walking found) r = FitsUploads r
 FitsClean (Sweeping s) r = FitsSweep s r
-FitsClean (Aborting u us) r = Unit {0}
-FitsClean Naming r = Unit {0}
-FitsClean (Removing p ps) r = Unit {0}
-FitsClean (CleanOver end) r = Unit {0}
+FitsClean _ r = Unit {0}
 
 -- a reply that a clean of a plan may be told
 abbrev pub FitsDriving : Driving Clean → Reply → Bool → Type 0

@@ -27,12 +27,9 @@ clean_of h = clean_at h.stage h.uploads h.sweep h.paths h.at
 
 -- the place is one of so many uploads or paths
 abbrev pub within : Stage → ℕ → ℕ → ℕ → Bool
-within stages.Walking at uploads paths = true
 within stages.Aborting at uploads paths = nat_lt at uploads
-within stages.Sweeping at uploads paths = true
-within stages.Naming at uploads paths = true
 within stages.Removing at uploads paths = nat_lt at paths
-within (stages.Over end) at uploads paths = true
+within _ at uploads paths = true
 
 -- the place is one of the uploads or paths that are kept
 abbrev pub within_of : Held → Bool

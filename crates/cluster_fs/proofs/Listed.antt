@@ -1,10 +1,9 @@
 -- The paths that begin with a text stand in a row.
-use Rattle.cluster_fs.proofs.Common.{Bool, Follows, Included, List, Unbounded, [], ap, begins, cond, entries_between, false, false≢true, filter, is_le, is_lt, keys_of, not, not-true, refl, sorted_head, sorted_tail, subst, sym, text_cmp, text_total, true, ℕ, ◌&&◌, ◌++◌, ◌∙◌, ◌∷◌, ◌≡◌}
-use Rattle.std.specs.List.Sorted.{IsStrictlySortedBy}
-use Rattle.proof_base.proofs.Bools.{contrary}
-use Rattle.proof_base.proofs.Less.{lt, le_not, le_le, lt_not}
+use Rattle.basics.proofs.Common.{Bool, IsStrictlySortedBy, List, [], and-true, ap, cond, false, false≢true, filter, is_le, is_lt, keys_of, not, not-true, refl, sorted_head, sorted_tail, subst, sym, true, ℕ, ◌&&◌, ◌∙◌, ◌∷◌, ◌≡◌}
+use Rattle.cluster_fs.proofs.Common.{Follows, Included, Unbounded, begins, entries_between, text_cmp, text_total}
+use Rattle.basics.proofs.Bools.{contrary}
+use Rattle.basics.proofs.Less.{le_le, le_not, lt, lt_not}
 use Rattle.s3_types.proofs.Begins.{between, from_prefix}
-use Rattle.std.proofs.Math.Bool.{and-true}
 
 none_after : (p k : List ℕ) (ks : List (List ℕ)) → lt text_cmp k p ≡ false → begins p k ≡ false → Follows k ks → filter (begins p) ks ≡ []
 none_after p k [] g n h = refl

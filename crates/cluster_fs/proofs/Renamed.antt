@@ -1,5 +1,5 @@
 -- A file that is put at the target and then taken from the source.
-use Rattle.cluster_fs.proofs.Common.{Bool, Files, FinMap, List, None, Option, Some, ap, cond, eq_by_cmp, exact_bytes, false, false≢true, get, get-insert, get-remove, insert, refl, remove, same_map, sym, text_cmp, text_eq, text_ties, text_total, tied, true, ℕ, ◌∙◌, ◌≡◌}
+use Rattle.cluster_fs.proofs.Common.{Bool, Files, List, None, Some, ap, cond, eq_by_cmp, exact_bytes, false, false≢true, get, get-insert, get-remove, insert, refl, remove, same_map, sym, text_cmp, text_eq, text_ties, text_total, tied, true, ℕ, ◌∙◌, ◌≡◌}
 
 -- whether two paths are one
 abbrev is_at : List ℕ → List ℕ → Bool

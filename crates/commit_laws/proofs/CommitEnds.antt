@@ -10,7 +10,7 @@ use Rattle.commit_parts.specs.ReadSets.{AreRead, IsSetOf}
 use Rattle.commit_laws.specs.Fitting.{FitsCommit, SpellsSet}
 use Rattle.commit_laws.specs.Laws.{AllFit, due, set_heard, sets_heard, start}
 use Rattle.commit_parts.proofs.KeysApart.{sets_apart}
-use Rattle.proof_base.proofs.Lists.{get_before}
+use Rattle.basics.proofs.Lists.{get_before}
 use Rattle.job_model.specs.declared.ends.CommitEnd.TheVariants as ends
 use Rattle.job_model.specs.declared.ends.Stage.TheVariants as stages
 

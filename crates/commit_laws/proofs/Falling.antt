@@ -3,7 +3,6 @@ use Rattle.std.proofs.Common.{◌≡◌, ℕ, zero, suc, ◌+◌, ◌-◌, ◌*�
 use Rattle.job_protocol.specs.Prelude.{insert_key, lookup, unwrap_or, option_map, text_cmp, Path, Scene, answer, apply, effect, Committer, Directory, Partitioned, Mode, Replace, Request, Reply, Outcome, Answered, Slow, RequestLost, ReplyLost, Pending, PendingSet, Who, same_name, placed, Script, Job, CommitEnd, Picks, files_picked, wanted_below, ordered, wanted_paths, same_path, dirs_of, partitions, partition_prefix, Sweep, sweep_start, sweep_asks, sweep_hears, Turn, fresh_turn, again, follow, first_turns, dealt, nth, chosen, undo, in_turn, abort, deletion, revert, is_tried, is_unsent, Sets, picks_of, all_commits, set_read, set_request, Commit, Fetching, Replacing, Completing, Marking, Reverting, CommitOver, completing, is_no_magic, replaced, replacing, swept, decided, fetched, reverting, worn_completion, commit_asks, commit_hears, commit_misses, Committing, declared_of, read_script, sets_in, sets_after, with_set, commit_wants, commit_told, FitsSweep, keys_left, sweep_left, adds_key, one_if}
 use Rattle.path_keys.proofs.Common.{and_parts, below_is, append-nil, length-map, lt, flat_map-append}
 use Rattle.job_protocol.proofs.Members.{none_some, some_is}
-use Rattle.list_walk.specs.Left.{left_of as sweeps_left}
 use Rattle.list_walk.proofs.Counting.{count, count_more}
 use Rattle.list_walk.proofs.Listing.{is_left, listed_count}
 use Rattle.list_walk.proofs.Falling.{sweep_laws}
@@ -11,6 +10,7 @@ use Rattle.job_model.specs.declared.ends.CommitEnd.TheVariants as ends
 use Rattle.job_model.specs.declared.ends.Stage.TheVariants as stages
 use Rattle.commit_laws.specs.Fitting.{SpellsSet, FitsReply}
 use Rattle.commit_laws.specs.Laws.{turn_left, turns_left, lanes_left, all_left, read_left, widest, prefixes_most, any_sweep, if_staging, deletion_left, left_of, rise_of, HasFew, ReadsFew, FitsFew, CommitFalls}
+use Rattle.list_walk.specs.Left.{left_of as sweeps_left}
 
 -- what is asked next
 abbrev asks : Job → Commit → Option Request

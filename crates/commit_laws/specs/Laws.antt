@@ -103,10 +103,7 @@ left most m s = left_of most m.plan m.operation s
 abbrev pub rise_of : ℕ → Job → Commit → ℕ
 rise_of most j (Fetching sets m) = if_staging j.committer (prefixes_most j (widest most sets) * (j.retries + 1))
 rise_of most j (Replacing sets p ps w m) = (1 + length ps) * (j.retries + 1)
-rise_of most j (Completing sets x xs done) = 0
-rise_of most j (Marking sets m) = 0
-rise_of most j (Reverting q qs m) = 0
-rise_of most j (CommitOver end) = 0
+rise_of most j _ = 0
 
 -- by how much a key that another adds may raise what is left
 abbrev pub rise : ℕ → Committing → ℕ

@@ -1,6 +1,5 @@
 -- a set of numbers that grows
-use Rattle.commit_parts.proofs.Common.{Bool, Equal, Greater, Less, List, [], ap, arith, cond, false, get_or, inl, inr, is_eq, is_in, length, nat_cmp, nat_eq, nat_false, nat_true, refl, reverse, reverse-append, subst, suc, sym, take, take_more, true, ℕ, ◌+◌, ◌<◌, ◌||◌, ◌∙◌, ◌∷◌, ◌≡◌, ◌⊎◌}
-use Rattle.std.specs.Cmp.{nat_cmp_is}
+use Rattle.commit_parts.proofs.Common.{Bool, List, [], ap, arith, cond, false, get_or, is_eq, is_in, length, nat_cmp, nat_eq, refl, reverse, reverse-append, subst, suc, sym, take, take_more, true, ℕ, ◌+◌, ◌<◌, ◌||◌, ◌∙◌, ◌∷◌, ◌≡◌, ◌⊎◌}
 
 pub three : (a b : ℕ) → (a < b) ⊎ ((a ≡ b) ⊎ (b < a))
 three a b = grind arith

@@ -1,5 +1,5 @@
 -- the places of uploads
-use Rattle.commit_parts.proofs.Common.{List, Pending, PendingSet, Place, Sets, Some, [], all_commits, ap, arith, cases_lt, get_left, get_or, get_or_from_slice_get, inl, inr, length, length-append, nth, places_from, refl, row, slice_get, slice_get_within, subst, suc, sym, zero, ℕ, ◌++◌, ◌+◌, ◌-◌, ◌<◌, ◌∙◌, ◌∷◌, ◌≡◌, ◌≤◌, ◌⊎◌}
+use Rattle.commit_parts.proofs.Common.{List, Pending, PendingSet, Place, Sets, Some, [], all_commits, ap, arith, cases_lt, get_left, get_or, get_or_from_slice_get, inl, inr, length, length-append, nth, places_from, refl, row, slice_get, slice_get_within, subst, suc, sym, zero, ℕ, ◌++◌, ◌+◌, ◌-◌, ◌<◌, ◌∙◌, ◌∷◌, ◌≡◌, ◌≤◌}
 
 -- where an upload stands
 pub record IsAt (n : ℕ) (sets : Sets) (p : Place) (c : Pending) : Type 0 where

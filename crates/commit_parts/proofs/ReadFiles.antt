@@ -1,5 +1,5 @@
 -- what the picks of the sets that were read write
-use Rattle.commit_parts.proofs.Common.{AreRead, Bool, ClusterGet, Committer, Directory, File, GetObject, HasAll, In, Item, Job, List, Magic, Marking, None, Option, Partitioned, Path, Pending, PendingSet, Place, PutObject, Request, Sets, Some, SuccessMark, Who, [], all_commits, ap, arith, bytes_decides, commit_asks, compact_text, cond, declared_of, drop, false, files, files_picked, flat_map, has_path, in_append, in_left, in_map, in_right, inl, inr, insert_key, is_some, items_from, job_script, length, lookup, map, map_in, mark_text, nat_eq, nth, option_map, ordered, paths_below, picks_of, placed, places_from, read_script, refl, relative_of, same_name, set_request, slice_get, some_is, subst, suc, success_tree, sym, take, text_cmp, text_eq, true, unwrap_or, wanted, wanted_below, wanted_paths, zero, ℕ, ◌&&◌, ◌++◌, ◌+◌, ◌<◌, ◌∙◌, ◌∷◌, ◌≡◌, ◌≤◌, ◌⊎◌}
+use Rattle.commit_parts.proofs.Common.{AreRead, Bool, ClusterGet, Committer, Directory, File, GetObject, HasAll, In, Item, Job, List, Magic, Marking, None, Option, Partitioned, Path, Pending, PendingSet, Place, PutObject, Request, Sets, Some, Who, [], all_commits, ap, arith, bytes_decides, commit_asks, compact_text, cond, declared_of, drop, false, files, files_picked, flat_map, has_path, in_append, in_left, in_map, in_right, inl, inr, insert_key, is_some, items_from, job_script, length, lookup, map, map_in, nat_eq, nth, option_map, ordered, paths_below, picks_of, placed, places_from, read_script, refl, relative_of, same_name, set_request, slice_get, some_is, subst, suc, success_tree, sym, take, text_cmp, text_eq, true, unwrap_or, wanted, wanted_below, wanted_paths, zero, ℕ, ◌&&◌, ◌++◌, ◌+◌, ◌<◌, ◌∙◌, ◌∷◌, ◌≡◌, ◌≤◌, ◌⊎◌}
 use Rattle.commit_parts.proofs.Trying.{take_next}
 use Rattle.std.specs.Prelude.{Result, IfOk}
 use Rattle.path_keys.proofs.Common.{IfOk-weaker, drop_of_length-le, nat_tests, map-append, flat_map-append, append-nil, take_all, get_or_from_slice_get}

@@ -3,7 +3,7 @@ use Rattle.commit_parts.proofs.Common.{AreRead, Bool, Clash, CommitEnd, Equal, F
 use Rattle.commit_parts.specs.Apart.{end_of}
 use Rattle.commit_parts.proofs.Numbers.{three}
 use Rattle.commit_parts.proofs.ReadFiles.{files_at, has_in, in_has, item_at, at_item}
-use Rattle.proof_base.proofs.Less.{equal_self}
+use Rattle.basics.proofs.Less.{equal_self}
 
 -- ---- keys below a destination
 

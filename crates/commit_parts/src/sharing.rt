@@ -1,7 +1,7 @@
 ghost use Rattle.std.specs.Prelude.{◌≡◌, ℕ, List, ◌++◌, ◌∷◌, [], ◌<◌, ◌≤◌, ◌^◌, map, length, Some, IfOk, OnOk};
 ghost use Rattle.std.specs.HashMap.{get as found, Updates};
 ghost use Rattle.std.specs.Option.{unwrap_or};
-ghost use Rattle.proof_base.specs.Order.{text_eq};
+ghost use Rattle.basics.specs.Order.{text_eq};
 ghost use Rattle.job_protocol.specs.LaneTable.{In};
 ghost use Rattle.commit_parts.specs.Clashes.{Item, items_from, IsBest, is_better, clash_of, Finds};
 

@@ -2,7 +2,7 @@
 use Rattle.conflict.proofs.Common.{BucketContent, ChecksFall, Job, LessWalk, List, ListPage, More, None, Option, Page, PageEntry, Reply, Request, Scene, Some, Walked, Whole, [], adds_key, answer, answer_at, ap, apply, arith, below, false, first_shown, job_script, keys_on, lacks_bucket, length, listed, page_after, refl, subst, sym, take, walk_left, ℕ, ◌++◌, ◌+◌, ◌<◌, ◌∷◌, ◌≡◌, ◌≤◌}
 use Rattle.std.specs.Prelude.{codes, IfSome}
 use Rattle.std.specs.FinMap as fin
-use Rattle.proof_base.proofs.Members.{some_is, none_some, false_true}
+use Rattle.basics.proofs.Members.{false_true}
 use Rattle.list_walk.specs.Walks.{walked}
 use Rattle.list_walk.proofs.Falling.{walk_laws}
 use Rattle.job_setup.proofs.Falling.{never_less, of_some}

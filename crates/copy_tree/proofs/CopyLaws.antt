@@ -1,6 +1,6 @@
 -- The stages of a copy keep what they promise.
 use Rattle.std.specs.Prelude.{◌≡◌, ℕ, List, [], ◌∷◌, drop, Ok, Err}
-use Rattle.copy_tree.proofs.Common.{Answer, Copies, CopiesTree, Copy, CopyCount, CopyPaths, CopyStage, Differs, Goes, Here, IsCopiedInPart, IsOverlap, IsPhases, MayAsk, MayCopy, MayStandCopied, NoSuchBucket, Objects, OtherBucket, Overlap, Source, Stands, Target, Up, Walk, WalkTarget, always, arith, asks, edited, first, gives, goes, holds, inl, inr, left, looks_there, none_some, on, refl, reply_in, sends, subst, sym, ◌∙◌}
+use Rattle.copy_tree.proofs.Common.{Answer, Copies, CopiesTree, Copy, CopyCount, CopyPaths, CopyStage, Differs, Goes, Here, IsCopiedInPart, IsOverlap, IsPhases, MayAsk, MayCopy, MayStandCopied, NoSuchBucket, Objects, OtherBucket, Overlap, Source, Stands, Target, always, arith, asks, edited, first, gives, goes, holds, inl, inr, left, looks_there, none_some, on, refl, reply_in, sends, subst, sym, ◌∙◌}
 use Rattle.std.specs.FinMap as fin
 use Rattle.fs_ops.proofs.StepLaws.{phases_of}
 use Rattle.copy_tree.proofs.Moved.{is_new}

@@ -1,12 +1,10 @@
 -- A copy comes to an end.
-use Rattle.std.specs.Prelude.{◌≡◌, ℕ, ◌+◌, ◌*◌, ◌<◌, ◌&&◌, nat_lt, Bool, true, false, cond, List, [], ◌∷◌, length, drop, Option, Some, None, Ok, Err}
-use Rattle.copy_tree.proofs.Common.{Climbed, Copy, CopyCount, CopyPaths, CopyStage, CopyStep, Falls, Here, LessCopies, LessWalked, Look, More, Next, Objects, PageEntry, Parts, Reply, Source, Target, There, Up, Walk, WalkTarget, Walked, Whole, ap, arith, asks, begun, climb, climbed, climbing, compared, copied_next, copies, copies_left, copying_falls, count_of, differ, edited, has_more, here, holds, keys_on, left, length-drop, listed, look_asks, look_of, ltb-true, marker_of, new_keys, on, on_climb, on_compare, on_copied, on_read, on_show, on_shown, on_walk, on_walked, overlaps, pairs, parts_of, place_of, placed, prefix_of, refl, reply_in, same_header, still_look, subst, sym, text_eq, walk_asks, walk_falls, walk_fits, walk_left, walked_entries, with_places}
-use Rattle.s3_types.specs.declared.reply.Reply.TheVariants.{Object as Found}
-use Rattle.fs_ops.specs.declared.climb.Climbed.TheVariants.{File, On as Goes_on, Free}
+use Rattle.std.specs.Prelude.{◌≡◌, ℕ, ◌+◌, ◌*◌, ◌<◌, ◌&&◌, nat_lt, Bool, true, false, cond, List, [], ◌∷◌, length, drop, Option}
+use Rattle.copy_tree.proofs.Common.{Climbed, Copy, CopyCount, CopyPaths, CopyStage, CopyStep, Falls, Here, LessCopies, LessWalked, Look, More, Next, Objects, PageEntry, Parts, Reply, Source, Target, Up, Walk, WalkTarget, Walked, Whole, arith, asks, begun, climb, climbed, climbing, compared, copied_next, copies, copies_left, copying_falls, count_of, differ, edited, has_more, here, holds, keys_on, left, length-drop, listed, look_asks, look_of, ltb-true, on, on_climb, on_compare, on_copied, on_read, on_shown, on_walked, overlaps, pairs, parts_of, prefix_of, refl, reply_in, same_header, still_look, subst, sym, text_eq, walk_falls, walk_fits, walk_left}
 use Rattle.fs_ops.proofs.Climbing.{IsShorter, climbing_falls, climbed_falls}
 use Rattle.bucket_ops.proofs.Sweeps.{length_keys}
-use Rattle.fs_rename.specs.declared.copying.CopyStep.TheVariants.{Next as NextCopy, All}
 use Rattle.copy_tree.proofs.PartLaws.{all_counted}
+use Rattle.s3_types.specs.declared.reply.Reply.TheVariants.{Object as Found}
 
 module _ (o : CopyPaths) (m : Objects) where
   -- ---- the copies

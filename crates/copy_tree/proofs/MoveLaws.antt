@@ -1,11 +1,11 @@
 -- The moves of a directory, in order, and those of them whose new key stands or is absent.
-use Rattle.std.specs.Prelude.{◌≡◌, ◌⊎◌, ℕ, true, false, List, [], ◌∷◌, ◌++◌, take, Some, None}
+use Rattle.std.specs.Prelude.{List, None, Some, [], false, take, true, ℕ, ◌++◌, ◌∷◌, ◌≡◌, ◌⊎◌}
 use Rattle.copy_tree.proofs.Common.{AreAll, AreFree, CopiesTree, CopyPaths, IsCopiedInPart, IsDirectory, IsIn, IsMove, IsOneOf, MayCopy, Object, Objects, RisesFrom, Stands, absent, all_below, all_parts, all_stand, ap, begins, below_stands, copied_all, copied_stand, copies_keep, count_of, dir_from, dir_to, in_targets, inl, inr, is_in, is_lt, is_target, keys_below, listed_rises, lt, marker_of, move_of, moves, moves_to, new_key, none_or_some, none_some, one_in_take, refl, rest_after, sorted, sources, sources_to, standing, subst, sym, targets, text_cmp, ◌∙◌}
-use Rattle.std.specs.FinMap as fin
 use Rattle.fs_ops.proofs.Showing.{cmp_behind}
 use Rattle.fs_rename.proofs.NewKeys.{new_is}
-use Rattle.copy_tree.proofs.Moved.{moved_rest, move_below, one_source}
+use Rattle.copy_tree.proofs.Moved.{move_below, moved_rest, one_source}
 use Rattle.copy_tree.proofs.PartLaws.{all_shown, kept_each, kept_has, sources_rise, targets_rise}
+use Rattle.std.specs.FinMap as fin
 
 -- a new key keeps the order of keys
 module _ (P Q : List ℕ) where

@@ -1,5 +1,5 @@
 -- The moves of a directory to a place, where neither path is the other or below it.
-use Rattle.std.specs.Prelude.{◌≡◌, ◌⊎◌, ℕ, ◌+◌, ◌≤◌, true, false, List, [], ◌∷◌, ◌++◌, length, Some, None}
+use Rattle.std.specs.Prelude.{◌≡◌, ◌⊎◌, ℕ, ◌+◌, ◌≤◌, true, List, [], ◌∷◌, ◌++◌, length, Some, None}
 use Rattle.copy_tree.proofs.Common.{IsDirectory, IsIn, IsMove, IsOverlap, Object, Objects, Stands, ap, append_cancel_left, arith, begins, false≢true, in_append, inl, inr, keys_above, length-append, marker_of, none_or_some, none_some, refl, rest_after, sym, to_target, true_or_false, ◌∙◌}
 use Rattle.std.specs.FinMap as fin
 use Rattle.fs_tree.proofs.Begins.{begins_more, begins_trans, begins_marker, begins_length, one_begins}

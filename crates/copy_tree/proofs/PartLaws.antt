@@ -1,6 +1,6 @@
 -- Of the moves those are kept whose new key stands, or those whose new key does not.
-use Rattle.std.specs.Prelude.{◌≡◌, ℕ, ◌+◌, ◌≤◌, Bool, true, false, cond, List, [], ◌∷◌, ◌++◌, map, length, Option, Some, None}
-use Rattle.copy_tree.proofs.Common.{IsIn, IsOneOf, Move, Object, Objects, PageEntry, RisesFrom, Stands, all_below, ap, arith, begins, behind, below_stands, chosen, false_true, false≢true, from_text, inl, inr, irrefl, is_first, is_wanted, kept, listed_rises, lower, lt, lt_not, lt_trans, none_some, refl, sources, stands_below, subst, sym, targets, text_cmp, text_in, text_is, text_total, text_true, ◌∙◌}
+use Rattle.std.specs.Prelude.{Bool, List, None, Option, Some, [], cond, false, length, map, true, ℕ, ◌++◌, ◌+◌, ◌∷◌, ◌≡◌, ◌≤◌}
+use Rattle.copy_tree.proofs.Common.{IsIn, IsOneOf, Move, Object, Objects, PageEntry, RisesFrom, Stands, all_below, ap, arith, begins, behind, below_stands, chosen, false_true, false≢true, from_text, inl, inr, irrefl, is_first, is_wanted, kept, listed_rises, lower, lt, lt_not, lt_trans, refl, sources, stands_below, subst, sym, targets, text_cmp, text_in, text_is, text_total, text_true, ◌∙◌}
 use Rattle.std.specs.FinMap as fin
 
 -- ---- entries from a text

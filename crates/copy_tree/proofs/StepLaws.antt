@@ -1,14 +1,12 @@
 -- A copy goes on, stage by stage.
 use Rattle.std.specs.Prelude.{◌≡◌, ◌⊎◌, ℕ, zero, suc, ◌+◌, ◌<◌, ◌≤◌, ◌||◌, ◌&&◌, nat_lt, Bool, true, false, cond, List, [], ◌∷◌, ◌++◌, length, drop, Option, Some, None, Result, Ok, Err}
-use Rattle.copy_tree.proofs.Common.{Climbed, CopiesTree, Copy, CopyCount, CopyStage, CopyStep, Goes, HasPlace, HasSource, Here, IsComparing, IsCopied, IsCopying, IsFirstOther, IsIn, IsMove, IsOneOf, IsOverlap, IsPlaced, IsWalked, IsWalking, MayCopy, More, Move, Next, Object, Objects, PageEntry, Parts, RisesFrom, Source, Stands, StandsFirst, Step, Target, Up, Walk, WalkTarget, Walked, Whole, absent, all_below, all_found, all_parts, ap, arith, begins, behind, climbed, climbing, copied_all, copied_next, copy_asks, copy_of, copying_goes, dir_fit, dir_long, edited, eq_nat, false_true, false≢true, fits, gives, has_more, head, holds, in_sources, in_targets, inl, inr, irrefl, is_look, is_lt, keys_below, keys_on, length-drop, length-map, look_of, lt, lt_not, ltb-false, ltb-true, marker_of, moves, nat_true, new_keys, none_or_some, none_some, refl, reply_in, sends, some_is, some_left, sources, sources_to, standing, subst, sym, targets, text_cmp, text_eq, text_is, text_total, text_true, walk_asks, walk_begins, walk_fits, walk_goes, walked_entries, ◌∙◌}
+use Rattle.copy_tree.proofs.Common.{Climbed, CopiesTree, Copy, CopyCount, CopyStage, CopyStep, Goes, HasPlace, HasSource, Here, IsComparing, IsCopied, IsCopying, IsFirstOther, IsIn, IsMove, IsOneOf, IsOverlap, IsPlaced, IsWalked, IsWalking, MayCopy, More, Move, Next, Object, Objects, PageEntry, Parts, RisesFrom, Source, Stands, StandsFirst, Step, Target, Up, Walk, WalkTarget, Walked, Whole, absent, all_below, all_found, all_parts, ap, arith, begins, behind, climbed, climbing, copied_all, copied_next, copy_asks, copy_of, copying_goes, dir_fit, dir_long, edited, false_true, fits, gives, has_more, head, holds, in_sources, in_targets, inl, inr, irrefl, is_look, is_lt, keys_below, keys_on, length-drop, length-map, look_of, lt, lt_not, ltb-false, ltb-true, marker_of, moves, new_keys, none_or_some, none_some, refl, reply_in, sends, some_is, some_left, sources, sources_to, standing, subst, sym, targets, text_cmp, text_eq, text_is, text_total, text_true, walk_asks, walk_begins, walk_fits, walk_goes, walked_entries, ◌∙◌}
 use Rattle.std.proofs.lemmas.List.{drop-map}
 use Rattle.std.specs.FinMap as fin
 use Rattle.s3_types.specs.Answer.{found}
-use Rattle.fs_ops.proofs.Looks.{head_tells, at_key, none_listed, first_listed}
-use Rattle.fs_ops.specs.declared.climb.Climbed.TheVariants.{File, On as Goes_on, Free}
+use Rattle.fs_ops.proofs.Looks.{head_tells, none_listed, first_listed}
 use Rattle.fs_ops.proofs.Climbing.{IsClimbed, seen_on as climb_on, all_on}
 use Rattle.fs_rename.specs.declared.copying.Copying.{Copying}
-use Rattle.fs_rename.specs.declared.copying.CopyStep.TheVariants.{Next as NextCopy, All}
 use Rattle.copy_tree.specs.code.Copy.{CopyPaths, Answer, asks, on, here as here_at, on_walked, on_walk, listed, climb, on_climb, with_places, on_shown, on_show, parts_of, pairs, read_of, on_read, same_header, differ, compared, on_compare, begun, copies, count_of, on_copied}
 use Rattle.copy_tree.proofs.Moved.{moved_rest}
 use Rattle.copy_tree.proofs.PartLaws.{chosen_sources, chosen_targets}

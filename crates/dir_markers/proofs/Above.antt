@@ -1,14 +1,11 @@
 -- The directories above a key.
-use Rattle.std.proofs.Common.{◌≡◌, ℕ, suc, ◌+◌, ◌<◌, ◌≤◌, ◌-◌, ◌&&◌, ◌==◌, nat_le, nat_lt, slice_index, take, if◌then◌else◌, eq-eqb, Bool, true, false, List, [], ◌∷◌, ◌++◌, map, length, refl, sym, ap, subst, ◌∙◌, arith, length-append, append_assoc}
-use Rattle.s3_types.specs.Prelude.{list_all, join_with_byte, is_other, is_element, are_elements, is_key_path, trimmed}
-use Rattle.proof_base.proofs.Common.{get_or-append_seam, length-take}
-use Rattle.path_keys.proofs.Common.{take-append_seam, false≢true, and_parts, leb-true, append-nil, list_all-append, nat_tests, at_most_so, join_parts, one_part}
-use Rattle.words.specs.Parts.{parts_of, parts_from}
-use Rattle.path_keys.specs.Paths.{is_key}
-use Rattle.path_keys.proofs.Keys.{some_key, key_from}
+use Rattle.path_keys.proofs.Common.{Bool, List, [], all_three, and_parts, ap, append-nil, append_assoc, are_elements, arith, at_most_so, false, false≢true, is_element, is_key, is_key_path, is_other, join_parts, join_with_byte, leb-true, length, length-append, list_all, list_all-append, nat_le, nat_lt, nat_tests, one_part, parts_of, refl, slice_index, suc, sym, take, take-append_seam, trimmed, true, ℕ, ◌&&◌, ◌++◌, ◌+◌, ◌-◌, ◌<◌, ◌==◌, ◌∙◌, ◌∷◌, ◌≡◌, ◌≤◌, if◌then◌else◌}
+use Rattle.std.proofs.Common.{eq-eqb, map, subst}
+use Rattle.basics.proofs.Common.{get_or-append_seam, length-take}
+use Rattle.basics.specs.Parts.{parts_from}
+use Rattle.path_keys.proofs.Keys.{key_from, some_key}
 use Rattle.path_keys.proofs.Last.{parts_round}
-use Rattle.dir_markers.specs.Markers.{marker_of, fronts, keys_above}
-use Rattle.proof_base.proofs.Bools.{all_three}
+use Rattle.dir_markers.specs.Markers.{fronts, keys_above, marker_of}
 
 map_append : {X Y : Type 0} (f : X → Y) (xs ys : List X) → map f (xs ++ ys) ≡ map f xs ++ map f ys
 map_append f [] ys = refl

@@ -1,7 +1,7 @@
 -- The markers of directories (Hadoop, S3A: directory markers; Hadoop FileSystem specification, directories).
 use Rattle.std.specs.Prelude.{ℕ, ◌==◌, ◌||◌, Bool, true, false, List, [], ◌∷◌, ◌++◌, map, length, Option, Some, None, if◌then◌else◌}
 use Rattle.s3_types.specs.Prelude.{join_with_byte}
-use Rattle.words.specs.Parts.{parts_of}
+use Rattle.basics.specs.Parts.{parts_of}
 use Rattle.path_keys.specs.Paths.{Path}
 use Rattle.dir_markers.specs.declared.status.Status.{Status}
 use Rattle.dir_markers.specs.declared.status.Status.TheVariants.{Directory, File}
@@ -20,9 +20,8 @@ marker_of key = key ++ 47 ∷ []
 
 -- the beginnings of a list, the shortest first, without the empty one and the whole
 abbrev pub fronts : {X : Type 0} → List X → List (List X)
-fronts [] = []
-fronts (x ∷ []) = []
 fronts (x ∷ y ∷ xs) = (x ∷ []) ∷ map (λ front. x ∷ front) (fronts (y ∷ xs))
+fronts _ = []
 
 -- the keys of the directories above a path, from the root on, without the root
 abbrev pub keys_above : List ℕ → List (List ℕ)

@@ -1,5 +1,5 @@
 -- One job or two that are played, what is told of them, and what is promised of them.
-use Rattle.std.specs.Prelude.{◌≡◌, ◌==◌, ℕ, List, [], length, if◌then◌else◌, false}
+use Rattle.std.specs.Prelude.{◌≡◌, ◌==◌, ℕ, List, [], length, false, if◌then◌else◌}
 use Rattle.path_keys.specs.Paths.{Path}
 use Rattle.job_spec.specs.Prelude.{Content, Entry, Script, AreOwn, Promised, Sent, Finished, verdict}
 use Rattle.twin_script.specs.TwinScripts.{Twins, sides_in}

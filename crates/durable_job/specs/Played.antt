@@ -1,6 +1,6 @@
 -- What comes of jobs that are played over a shelf.
 use Rattle.std.specs.Prelude.{List, None, Option, Some, length, ℕ, ◌<◌, ◌≡◌, ◌⊎◌}
-use Rattle.journal_log.specs.Prelude.{AreCalled, AreStopped, Content, CrashesLeave, Entry, Failed, Holds, HoldsPart, IsDurable, IsMoment, KeepsImages, NoMemory, ShelfStop, Sight, WhereTold, fresh, image, moment}
+use Rattle.journal_log.specs.Prelude.{AreCalled, AreStopped, Content, CrashesLeave, Entry, Failed, Holds, HoldsPart, IsDurable, IsMoment, KeepsImages, ShelfStop, Sight, WhereTold, fresh, image, moment}
 use Rattle.journal_log.specs.Changes.{changes}
 use Rattle.durable_job.specs.Jobs.{AreFinished, ArePromised, verdict_of}
 use Rattle.durable_job.specs.declared.jobs.Jobs.{Jobs}
@@ -21,9 +21,8 @@ Survives {S} F c es old new = (mid : S)
 
 -- the count of faults rose where the shelf failed, and else stands
 abbrev pub Counts : Option ShelfStop → ℕ → ℕ → Type 0
-Counts None before after = after ≡ before
 Counts (Some Failed) before after = before < after
-Counts (Some NoMemory) before after = after ≡ before
+Counts _ before after = after ≡ before
 
 -- ---- what was played
 

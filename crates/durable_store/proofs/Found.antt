@@ -1,5 +1,5 @@
 -- What is found on a shelf, by what was loaded.
-use Rattle.durable_store.proofs.Common.{AllByRecursion, AreAtKeys, Bool, Content, Err, IfOk, IsBucket, IsContent, IsMade, IsObject, IsOf, IsSmall, IsSound, List, None, Ok, Option, Request, Result, Some, Stored, all, and_parts, ap, arith, at, cond, content_after, false, image, inl, inr, is_bucket, is_key, kept, leb-true, length, most_base, most_file, nat_le, nat_lt, nat_tests, refl, subst, sym, text_cmp, text_total, true, ℕ, ◌<◌, ◌^◌, ◌||◌, ◌∙◌, ◌≡◌, ◌≤◌, ◌⊎◌}
+use Rattle.durable_store.proofs.Common.{AllByRecursion, AreAtKeys, Content, Err, IfOk, IsBucket, IsContent, IsMade, IsObject, IsOf, IsSmall, IsSound, List, None, Ok, Option, Request, Result, Some, Stored, all, and_parts, ap, arith, at, cond, content_after, false, image, inl, inr, is_bucket, is_key, kept, leb-true, length, most_base, most_file, nat_le, nat_lt, nat_tests, refl, subst, sym, text_cmp, text_total, true, ℕ, ◌<◌, ◌^◌, ◌||◌, ◌∙◌, ◌≡◌, ◌≤◌, ◌⊎◌}
 use Rattle.std.specs.FinMap as fin
 use Rattle.log_format.specs.declared.held.Held as logs
 use Rattle.shelf.specs.Logged.{IsLoaded, IsTooLarge, IsBad}

@@ -1,7 +1,7 @@
 -- What the work of the code is.
-use Rattle.durable_store.specs.declared.work.Work.{Work as Doing}
 use Rattle.durable_store.specs.declared.work.Work.TheVariants as doing
 use Rattle.durable_store.specs.Works.{Work, Says, Saves}
+use Rattle.durable_store.specs.declared.work.Work.{Work as Doing}
 
 abbrev pub work_in : Doing → Work
 work_in (doing.Says answer) = Says answer.due answer.text answer.sent.entries

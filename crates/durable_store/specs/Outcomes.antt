@@ -2,7 +2,6 @@
 use Rattle.std.specs.Prelude.{◌≡◌, ◌≢◌, ℕ, ◌<◌, ◌≤◌, ◌^◌, ◌⊎◌, true, List, length, Option, Some, None, Result, Ok, Err}
 use Rattle.journal_log.specs.Prelude.{is_key, BucketContent, Content, Object, Entry, Request, Holding, Stored, IsSmall, IsDurable, Sight, image, IsContent, content_after, KeepsImages, StandsFor, IsMoment, kept, Holds, HoldsPart, WhereTold, AreCalled, AreCut, ShelfStop}
 use Rattle.std.specs.FinMap as fin
-use Rattle.shelf.specs.Logged.Holding.{Nothing as Absent}
 use Rattle.journal_log.specs.Changes.{changes}
 use Rattle.durable_store.specs.Stores.{found}
 use Rattle.durable_store.specs.Works.{Work, Says, Saves}
@@ -11,14 +10,14 @@ use Rattle.durable_store.specs.declared.held.Held.TheVariants.{Nothing, Store, F
 use Rattle.shelf.specs.declared.kept.ShelfStop.TheVariants as stops
 use Rattle.exit_status.specs.declared.statuses.Status.{Status}
 use Rattle.exit_status.specs.declared.statuses.Status.TheVariants.{Done, ShelfFault, NoMemory}
+use Rattle.shelf.specs.Logged.Holding.{Nothing as Absent}
 
 -- ---- a load
 
 -- the store that was found can have an image
 abbrev pub IsSound : Held → Type 0
-IsSound Nothing = Unit {0}
 IsSound (Store c) = IsContent c
-IsSound (Faulty number place) = Unit {0}
+IsSound _ = Unit {0}
 
 -- the objects of a store stand at keys
 abbrev pub AreAtKeys : Content → Type 0

@@ -1,5 +1,5 @@
 -- What a log stands for while a change is appended to it.
-use Rattle.folder_log.proofs.Common.{Elapses, Err, File, Holding, HoldsFresh, HoldsGrown, HoldsOneOf, IsAtRest, IsBeforeOrAfter, IsClosed, IsDurable, IsLeftOf, IsPrepared, IsRead, IsSettled, IsWithin, Leaves, LeavesOnly, List, None, Ok, OnOk, Only, Option, Result, Settles, ShowsNow, Some, Stored, TakesAppends, [], ap, append-nil, append_assoc, arith, as_holding, cases_eq, file_length, fresh, grown, head, headed, holding_of, inl, inr, is_some, length, length-append, log, long, magic, most_file, opened, record_of, refl, stored, stored_of, subst, sym, told, true≢false, ℕ, ⊎_elim, ◌++◌, ◌+◌, ◌<◌, ◌^◌, ◌∙◌, ◌∷◌, ◌≡◌, ◌≢◌, ◌≤◌, ◌⊎◌}
+use Rattle.folder_log.proofs.Common.{Elapses, File, Holding, HoldsFresh, HoldsGrown, HoldsOneOf, IsAtRest, IsBeforeOrAfter, IsClosed, IsDurable, IsLeftOf, IsPrepared, IsRead, IsSettled, Leaves, LeavesOnly, List, None, Only, Option, Settles, ShowsNow, Some, Stored, TakesAppends, [], ap, append-nil, append_assoc, arith, as_holding, cases_eq, file_length, fresh, grown, head, headed, holding_of, inl, inr, is_some, length, length-append, log, long, magic, most_file, opened, record_of, refl, stored, stored_of, subst, sym, told, true≢false, ℕ, ⊎_elim, ◌++◌, ◌+◌, ◌<◌, ◌^◌, ◌∙◌, ◌∷◌, ◌≡◌, ◌≢◌, ◌≤◌, ◌⊎◌}
 use Rattle.s3_types.specs.Prelude.{AllByRecursion}
 use Rattle.std.proofs.lemmas.Grind.{flat_map-append}
 use Rattle.s3_types.specs.declared.request.Request.{Request}

@@ -1,5 +1,5 @@
 -- What a crash leaves by choice is one of what it may leave.
-use Rattle.folder_log.proofs.Common.{Bool, DiskCall, Err, File, IfOk, IsImage, IsTorn, IsTornBy, List, None, Ok, Recorded, Result, Some, Span, State, Swap, Sync, Write, [], after, after_all, after_torn, ap, arith, at_drop_more, at_rest, cond, drop, false, file_after, filled, get_or, is_within, le-leb, leb-true, left_by, length, length-append, length-drop, length-replicate, length-take, overwritten, refl, replicate, shown, span, state_in, subst, sym, take, torn_last, torn_same, true, wrote, ℕ, ◌++◌, ◌+◌, ◌<◌, ◌∙◌, ◌∷◌, ◌≡◌}
+use Rattle.folder_log.proofs.Common.{DiskCall, Err, File, IfOk, IsImage, IsTorn, IsTornBy, List, None, Ok, Recorded, Result, Some, Span, State, Swap, Sync, Write, [], after, after_all, after_torn, ap, arith, at_drop_more, at_rest, cond, drop, false, file_after, filled, get_or, is_within, left_by, length, length-append, length-drop, length-replicate, length-take, overwritten, refl, replicate, shown, span, state_in, subst, sym, take, torn_last, torn_same, true, wrote, ℕ, ◌++◌, ◌+◌, ◌<◌, ◌∙◌, ◌∷◌, ◌≡◌}
 use Rattle.folder_log.specs.declared.state.Choice.{Choice}
 use Rattle.folder_log.specs.declared.state.Choice.TheVariants.{Lost, Kept, Torn}
 

@@ -11,6 +11,6 @@ pub use Rattle.folder_log.specs.declared.state.State.{State}
 pub use Rattle.log_format.specs.Log.{head, headed, log, long, magic, opened, record_of}
 pub use Rattle.shelf.specs.Logged.{Holding, HoldsFresh, HoldsGrown, HoldsOneOf, IsBeforeOrAfter, IsDurable, LeavesOnly, Stored, fresh, grown, most_file, told}
 pub use Rattle.std.proofs.Common.{Bool, Err, List, None, Ok, OnErr, Option, Result, Some, [], ap, append_assoc, arith, cond, drop, false, get_or, inl, inr, length, length-append, length-drop, length-take, refl, replicate, rules, subst, sym, take, take-append-drop, true, true≢false, vec_len, ℕ, ⊎_elim, ◌++◌, ◌+◌, ◌<◌, ◌^◌, ◌∙◌, ◌∷◌, ◌≡◌, ◌≢◌, ◌≤◌, ◌⊎◌}
-pub use Rattle.std.proofs.lemmas.Bool.{cases_eq, le-leb, leb-true}
+pub use Rattle.std.proofs.lemmas.Bool.{cases_eq}
 pub use Rattle.std.proofs.lemmas.List.{append-nil, at_drop_more, drop_all, drop_at, drop_more, length-replicate, take_all, take_at}
-pub use Rattle.std.specs.Prelude.{IfOk, OnOk, is_some}
+pub use Rattle.std.specs.Prelude.{IfOk, is_some}

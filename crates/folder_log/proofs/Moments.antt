@@ -1,5 +1,5 @@
 -- How a run of calls goes on.
-use Rattle.folder_log.proofs.Common.{Elapses, FewMore, File, LeavesOnly, ap, arith, inl, inr, more, ℕ, ⊎_elim, ◌+◌, ◌∙◌, ◌≡◌, ◌≤◌}
+use Rattle.folder_log.proofs.Common.{Elapses, FewMore, File, LeavesOnly, ap, arith, inl, more, ℕ, ◌+◌, ◌∙◌, ◌≡◌, ◌≤◌}
 
 -- counts of calls, one run behind another
 pub more_more : (m n c : ℕ) → more n (more m c) ≡ more (m + n) c

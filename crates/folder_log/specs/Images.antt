@@ -7,7 +7,7 @@ use Rattle.folder_log.specs.Disk.{File, Torn, IsTorn, IsWithin, Follows, overwri
 use Rattle.folder_log.specs.declared.state.Span.{Span}
 use Rattle.folder_log.specs.declared.state.State.{State}
 use Rattle.folder_log.specs.declared.state.DiskCall.{DiskCall}
-use Rattle.folder_log.specs.declared.state.DiskCall.TheVariants.{Swap, Write, Sync}
+use Rattle.folder_log.specs.declared.state.DiskCall.TheVariants.{Write}
 use Rattle.folder_log.specs.Calls.{at_rest, is_within, wrote, after, after_all, state_of, IsTornBy, IsImage, LeftSince, Recorded, state_in}
 
 pub after_last : (s : State) (cs : List DiskCall) (c : DiskCall) → after_all s (cs ++ c ∷ []) ≡ after (after_all s cs) c
@@ -54,13 +54,12 @@ after_torn at bytes (Some old) h = written_torn at bytes old (leb-true at (lengt
 
 -- what a read gives is an image
 image_after : (s : State) (c : DiskCall) → IsImage s s.now → IsImage (after s c) (after s c).now
-image_after s (Swap bytes) h = refl
-image_after s Sync h = refl
 image_after s (Write place bytes) h = by (is_within place s.now) refl
   where
     by : (b : Bool) → is_within place s.now ≡ b → IsImage (cond b (wrote s place bytes) s) (cond b (wrote s place bytes) s).now
     by true e = torn_last s.ranges (span place bytes) s.synced s.now (file_after place bytes s.now) h (after_torn place bytes s.now e)
     by false e = h
+image_after s _ h = refl
 
 pub image_now : (s : State) (cs : List DiskCall) → IsImage s s.now → IsImage (after_all s cs) (after_all s cs).now
 image_now s [] h = h

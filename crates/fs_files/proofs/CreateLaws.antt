@@ -1,7 +1,7 @@
 -- Making a file, stage by stage.
 use Rattle.std.specs.Prelude.{◌≡◌, ◌⊎◌, ℕ, ◌+◌, ◌*◌, ◌<◌, ◌≤◌, nat_lt, Bool, true, false, cond, List, [], ◌∷◌, Ok, Err, Option, Some, None, length}
-use Rattle.fs_files.proofs.Common.{AlreadyExists, Ask, BucketContent, Creates, DeleteObjects, Deleted, Done, End, Falls, FsRefusal, Goes, HasFile, HasRoom, Head, Heard, InFile, IsAbsent, IsBeside, IsFileOrNot, Look, Next, NoBucket, NoFileAt, NoSuchBucket, NoneBut, NoneLeft, NotDirectory, Objects, On, Other, Refused, Refusing, Reply, Request, Scene, Step, There, TooManyKeys, Writing, all_gone, answer, answer_at, answered, ap, applied_none, apply, apply_in, are_gone, arith, below_asks, climbed, climbing, created, get_put, head, heard, inl, inr, is_key, key_no_marker, keys_above, look_asks, look_of, marker_of, object_of, objects_at, only_reads, placed, refl, reply_in, request_of, stream_of, subst, sym, true≢false, unless, unsent, upload_at, upload_in, without, ◌∙◌}
-use Rattle.bucket_ops.specs.Prelude.{MaySend, reply_at}
+use Rattle.fs_files.proofs.Common.{AlreadyExists, Ask, BucketContent, Creates, DeleteObjects, Done, End, Falls, FsRefusal, Goes, HasFile, HasRoom, Head, Heard, InFile, IsAbsent, IsBeside, IsFileOrNot, Look, Next, NoBucket, NoFileAt, NoSuchBucket, NoneBut, NoneLeft, Objects, On, Refusing, Reply, Request, Scene, Step, There, Writing, all_gone, answer, answered, ap, applied_none, apply, apply_in, are_gone, arith, below_asks, climbed, climbing, created, get_put, head, heard, inl, inr, is_key, key_no_marker, keys_above, look_asks, look_of, marker_of, objects_at, only_reads, placed, refl, reply_in, request_of, stream_of, subst, sym, true≢false, unless, unsent, upload_at, upload_in, without, ◌∙◌}
+use Rattle.bucket_ops.specs.Prelude.{MaySend}
 use Rattle.std.specs.FinMap as fin
 use Rattle.store_frame.proofs.Reading.{reads_nothing}
 use Rattle.operations.specs.Courses.{IsCourse, IsCalm}
@@ -11,13 +11,11 @@ use Rattle.fs_tree.specs.Tree as tree
 use Rattle.fs_ops.proofs.Looks.{head_tells, at_key, below_key}
 use Rattle.fs_ops.proofs.StepLaws.{not_missing}
 use Rattle.fs_ops.specs.declared.climb.Climbed.{Climbed}
-use Rattle.fs_ops.specs.declared.climb.Climbed.TheVariants.{File, On as Goes_on, Free}
 use Rattle.fs_ops.proofs.Climbing.{IsClimbed, seen_on, all_on, IsShorter, climbing_falls, climbed_falls}
 use Rattle.fs_files.specs.declared.create.CreateStage.{CreateStage}
 use Rattle.fs_files.specs.declared.create.CreateStage.TheVariants.{Here, Below, Up, Write, DropMarkers}
 use Rattle.fs_files.specs.declared.create.CreateFile.{CreateFile}
 use Rattle.fs_files.specs.code.Writing as writing
-use Rattle.fs_files.specs.code.Hearing as hearing
 use Rattle.fs_files.specs.Creation.{Creation, IsCreation}
 use Rattle.fs_files.proofs.WritingLaws as files
 use Rattle.fs_files.proofs.WritingLaws.{placed_same, placed_by, Wrote, HeardSo, OwnHeard, GoesOn, goes_further}

@@ -1,15 +1,14 @@
 -- Making a file, in the tree. Contracts cite none of these laws.
-use Rattle.std.specs.Prelude.{◌≡◌, ◌⊎◌, ℕ, zero, suc, ◌+◌, ◌*◌, ◌<◌, ◌≤◌, ◌&&◌, nat_lt, true, false, List, [], ◌∷◌, ◌++◌, length, Some}
-use Rattle.fs_files.proofs.Common.{Cut, Delete, HasDir, IsIn, Keep, MarkerPolicy, NoSlash, Objects, Path, above_begins, ap, arith, begins, begins_above, created, cut, false≢true, in_map, inl, inr, is_element, is_key, is_marker, keys_above, length-append, length-map, list_all, list_all-append, marker_of, more_above, nat_tests, none_above, none_some, object_of, refl, same_or_other, subst, sym, text_here, text_other, without, ◌∙◌}
-use Rattle.std.specs.FinMap as fin
-use Rattle.words.specs.Parts.{parts_of}
+use Rattle.std.specs.Prelude.{List, Some, [], false, length, nat_lt, suc, true, zero, ℕ, ◌&&◌, ◌*◌, ◌++◌, ◌+◌, ◌<◌, ◌∷◌, ◌≡◌, ◌≤◌, ◌⊎◌}
+use Rattle.fs_files.proofs.Common.{Cut, Delete, HasDir, IsIn, Keep, MarkerPolicy, NoSlash, Objects, Path, above_begins, begins, begins_above, created, cut, in_map, inl, inr, is_element, is_key, is_marker, keys_above, length-append, length-map, marker_of, more_above, none_above, none_some, object_of, same_or_other, text_here, text_other, without}
+use Rattle.basics.proofs.Common.{and_parts, ap, arith, false≢true, list_all, list_all-append, nat_tests, parts_of, refl, subst, sym, ◌∙◌}
 use Rattle.path_keys.proofs.Keys.{some_key}
-use Rattle.path_keys.proofs.Last.{parts_round, front_is_key}
+use Rattle.path_keys.proofs.Last.{front_is_key, parts_round}
 use Rattle.fs_tree.specs.Changes.{MakesFile}
-use Rattle.fs_tree.proofs.Begins.{begins_trans, begins_marker, marker_is, marker_at}
+use Rattle.fs_tree.proofs.Begins.{begins_marker, begins_trans, marker_at, marker_is}
 use Rattle.fs_ops.proofs.Showing.{element_some}
-use Rattle.bucket_ops.proofs.Below.{is_in, gone_in, kept_out}
-use Rattle.std.proofs.lemmas.Bool.{and_parts}
+use Rattle.bucket_ops.proofs.Below.{gone_in, is_in, kept_out}
+use Rattle.std.specs.FinMap as fin
 
 -- these are markers of directories above a path
 abbrev pub AreAbove : List ℕ → List (List ℕ) → Type 0

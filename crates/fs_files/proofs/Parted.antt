@@ -1,5 +1,5 @@
 -- A file that is written after one part more.
-use Rattle.fs_files.proofs.Common.{HasRoom, IsKept, IsSome, List, None, Option, Some, Spelled, Writing, [], ap, arith, drop, drop-drop, false≢true, is_due, length, length-drop, min, seen, stream_of, subst, sym, true, ℕ, ◌++◌, ◌+◌, ◌-◌, ◌∙◌, ◌∷◌, ◌≡◌, ◌≤◌}
+use Rattle.fs_files.proofs.Common.{HasRoom, IsKept, IsSome, List, None, Option, Spelled, Writing, [], ap, arith, drop, drop-drop, is_due, length, length-drop, min, seen, stream_of, subst, sym, true, ℕ, ◌++◌, ◌+◌, ◌-◌, ◌∙◌, ◌∷◌, ◌≡◌, ◌≤◌}
 use Rattle.std.proofs.lemmas.List.{drop_min}
 use Rattle.fs_files.proofs.WritingLaws.{parted_room}
 

@@ -1,18 +1,17 @@
 -- A file that is written is a closed stream: its bytes are held, whatever the store loses, and nothing else changes. Contracts cite none of these laws.
-use Rattle.std.specs.Prelude.{◌≡◌, ◌⊎◌, ℕ, ◌+◌, ◌-◌, ◌<◌, ◌≤◌, ◌||◌, not, nat_lt, nat_le, Bool, true, false, cond, List, [], ◌∷◌, take, length, Option, Some, None, Result, Ok, Err}
-use Rattle.fs_files.proofs.Common.{BucketContent, Buckets, CompleteUpload, Completed, CreateUpload, Done, HasRoom, Heard, Holds, IsBeside, IsFileOrNot, IsLater, NoBucket, NoSuchUpload, NoneBut, NoneLeft, Objects, On, Part, PutObject, Refusal, Refused, Refusing, Reply, Request, Scene, Spelled, Stored, Upload, UploadPart, Uploads, Writing, answer, answer_at, ap, apply, apply_at, apply_in, arith, asks, asks_at, begun, bucket_of, complete_answer, completed, exact_bytes, first_stage, get_put, heard, heard_at, id_in, inl, inr, insert_same, is_due, is_part_number, is_short, joined, later_stage, left, live, look_of, named_from, nat_gone, nat_left, nat_other, nat_tests, object_of, part_put, parted, placed, put_put, refl, refused, same_or_not, some_is, stage_by, stage_in, stream_of, subst, sym, take_all, text_total, unsent, unwrap_or, upload_at, upload_in, with_part, ◌∙◌}
+use Rattle.std.specs.Prelude.{◌≡◌, ◌⊎◌, ℕ, ◌+◌, ◌<◌, ◌≤◌, nat_lt, nat_le, Bool, true, false, cond, List, [], take, length, Option, Some, None, Result, Ok, Err}
+use Rattle.fs_files.proofs.Common.{BucketContent, Buckets, CompleteUpload, Completed, CreateUpload, Done, HasRoom, Heard, Holds, IsBeside, IsFileOrNot, IsLater, NoBucket, NoSuchUpload, NoneBut, NoneLeft, Objects, On, Part, PutObject, Refusal, Refused, Refusing, Reply, Request, Scene, Spelled, Stored, Upload, UploadPart, Uploads, Writing, answer, answer_at, ap, apply, apply_at, apply_in, arith, asks, asks_at, begun, bucket_of, complete_answer, completed, exact_bytes, first_stage, get_put, heard, heard_at, id_in, inl, inr, insert_same, is_due, is_short, joined, left, live, look_of, named_from, nat_gone, nat_left, nat_other, nat_tests, object_of, part_put, parted, placed, put_put, refl, refused, same_or_not, some_is, stage_in, stream_of, subst, sym, take_all, text_total, unsent, upload_at, upload_in, ◌∙◌}
 use Rattle.store_frame.specs.Prelude.{draws}
 use Rattle.std.specs.FinMap as fin
-use Rattle.s3_types.specs.declared.reply.Reply.TheVariants.{Upload as Drawn}
 use Rattle.block_stream.specs.declared.stage.Stage.{Stage}
 use Rattle.block_stream.specs.declared.stage.Stage.TheVariants.{Waiting, Putting, Beginning, Sending, Completing, Over}
-use Rattle.block_stream.specs.declared.mode.StreamEnd.TheVariants.{Done as Ended}
 use Rattle.block_stream.specs.Stream as streams
-use Rattle.block_stream.specs.Stream.{Stream, has_some, has_part, begin_or_wait, stage, stage_of, wanted, told, answers, ended}
+use Rattle.block_stream.specs.Stream.{Stream, has_part, begin_or_wait, stage, wanted, told, answers, ended}
 use Rattle.block_stream.proofs.FillingLaws.{due, room_after, room_begun, held_at}
 use Rattle.block_stream.proofs.KeepingLaws as keeping
 use Rattle.fs_files.specs.code.Create.{Writes}
-use Rattle.proof_base.proofs.Numbers.{at_most_is}
+use Rattle.s3_types.specs.declared.reply.Reply.TheVariants.{Upload as Drawn}
+use Rattle.block_stream.specs.declared.mode.StreamEnd.TheVariants.{Done as Ended}
 
 -- ---- what a stage tells
 

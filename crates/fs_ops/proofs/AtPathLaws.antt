@@ -1,7 +1,6 @@
 -- What stands at a path, stage by stage, whatever is asked of a file there.
-use Rattle.std.specs.Prelude.{◌≡◌, true, ℕ, List, [], ◌∷◌, Result, Err, Option, Some, None}
-use Rattle.fs_ops.proofs.Common.{Ask, Falls, FsRefusal, Get, Goes, Head, IsAbsent, IsDirectory, IsPhases, IsStages, IsStill, MayAsk, NoSuchBucket, NotFound, Objects, OnlyLooks, Page, Reply, There, arith, edited, false≢true, first, get_asks, goes_by, holds, is_look, left, look_asks, look_of, marker_of, refl, reply_in, subst, sym, told, ◌∙◌}
-use Rattle.std.specs.FinMap as fin
+use Rattle.std.specs.Prelude.{◌≡◌, true, ℕ, List, [], ◌∷◌, Result, Err, Option}
+use Rattle.fs_ops.proofs.Common.{Ask, Falls, FsRefusal, Goes, IsAbsent, IsDirectory, IsPhases, IsStages, IsStill, MayAsk, NoSuchBucket, NotFound, Objects, OnlyLooks, Reply, arith, edited, first, get_asks, goes_by, holds, is_look, left, look_asks, marker_of, refl, reply_in, subst, sym, told, ◌∙◌}
 use Rattle.fs_ops.specs.declared.at_path.PathStage.{PathStage}
 use Rattle.fs_ops.specs.declared.at_path.PathStage.TheVariants.{Here, Below}
 use Rattle.fs_ops.proofs.StepLaws.{phases_of}

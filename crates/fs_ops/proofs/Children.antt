@@ -3,8 +3,8 @@ use Rattle.std.specs.Prelude.{◌≡◌, ◌⊎◌, ℕ, ◌==◌, ◌&&◌, not
 use Rattle.fs_ops.proofs.Common.{DirEntry, Directory, File, IsIn, NoneBelow, Object, Objects, PageEntry, Prefix, RisesFrom, SomeBelow, Status, and_parts, ap, append_assoc, append_cancel_left, append_cancel_right, arith, begins, begins_more, entry_of, eqb-true, false≢true, filter, filter_in, folded_from, found_at, found_in, in_filter, in_map, inl, inr, is_again, is_lt, is_other, list_all, listed, lt, map_in, map_sorted, nat_true, none_some, not_so, refl, rest_after, some_is, subst, sym, text_by, text_cmp, text_exact, text_in, tied, walked_listed, ◌∙◌}
 use Rattle.store_frame.specs.Prelude.{option_map, before_slash, stem, entry_by}
 use Rattle.std.specs.FinMap as fin
-use Rattle.s3_types.specs.declared.reply.PageEntry.TheVariants.{Object as Single}
 use Rattle.store_frame.specs.Walk.{walked, text_of as walked_text}
+use Rattle.s3_types.specs.declared.reply.PageEntry.TheVariants.{Object as Single}
 
 abbrev pub NoSlash : List ℕ → Type 0
 NoSlash n = list_all (is_other 47) n ≡ true

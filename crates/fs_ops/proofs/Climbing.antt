@@ -1,6 +1,6 @@
 -- What a climb over the directories above a path has seen.
-use Rattle.std.specs.Prelude.{◌≡◌, ℕ, ◌<◌, List, [], ◌∷◌, None, length}
-use Rattle.fs_ops.proofs.Common.{Climbed, IsClimb, IsFirstFile, Look, NoFiles, Nothing, Objects, Stands, There, arith, climbed, climbing, inl, inr, refl}
+use Rattle.std.specs.Prelude.{◌≡◌, ℕ, ◌<◌, List, None, length}
+use Rattle.fs_ops.proofs.Common.{Climbed, IsClimb, IsFirstFile, Look, NoFiles, Objects, Stands, arith, climbed, climbing}
 use Rattle.std.specs.FinMap as fin
 use Rattle.fs_ops.proofs.Looks.{IsSeen}
 use Rattle.fs_ops.specs.declared.climb.Climb.{Climb}

@@ -1,6 +1,6 @@
 -- Deleting a path, stage by stage.
-use Rattle.std.specs.Prelude.{◌≡◌, ◌⊎◌, ℕ, ◌+◌, ◌<◌, Bool, true, false, List, [], ◌∷◌, Option, Some, None, Ok, Err, take, if◌then◌else◌, map}
-use Rattle.fs_ops.proofs.Common.{Answer, Deleting, Deletion, End, Falls, Goes, HasChildren, IsEmpty, IsIn, IsMarked, IsPhases, IsRoot, IsStages, IsWithoutBelow, LessLeft, Listing, Look, MayAsk, Next, NoFileAt, NoSuchBucket, NoneBelow, NotEmpty, NotFound, Nothing, Object, Objects, PageEntry, Removed, RisesFrom, SomeBelow, Step, There, all_go, ap, arith, begins, begins_all, edited, ends, entries_in, false≢true, fits, gives, goes_by, head, if_marker, in_front, inl, inr, irrefl, is_lt, keys_below, listed, listed_rises, look_of, marker, marker_if, marker_of, page, parent, prefix_of, refl, reply_in, same_or_other, subst, sweep_asks, sweep_begins, sweep_falls, sweep_fits, sweep_goes, sweep_hears, sweep_left, sweep_start, sweep_stays, sym, text_cmp, text_eq, text_gone, text_here, text_in, text_is, text_left, text_other, text_total, text_true, true_or_false, without, ◌∙◌}
+use Rattle.std.specs.Prelude.{◌≡◌, ◌⊎◌, ℕ, ◌+◌, ◌<◌, Bool, true, false, List, [], ◌∷◌, Option, Some, None, Ok, Err, take, map, if◌then◌else◌}
+use Rattle.fs_ops.proofs.Common.{Answer, Deletion, End, Falls, Goes, HasChildren, IsEmpty, IsIn, IsMarked, IsPhases, IsStages, IsWithoutBelow, LessLeft, Look, MayAsk, Next, NoFileAt, NoSuchBucket, NoneBelow, NotEmpty, Nothing, Object, Objects, PageEntry, Removed, RisesFrom, SomeBelow, Step, There, all_go, ap, arith, begins, begins_all, edited, ends, false≢true, fits, gives, goes_by, head, if_marker, in_front, inl, inr, irrefl, is_lt, keys_below, listed, listed_rises, look_of, marker, marker_if, marker_of, page, parent, prefix_of, refl, reply_in, same_or_other, subst, sweep_asks, sweep_falls, sweep_fits, sweep_goes, sweep_hears, sweep_left, sweep_start, sym, text_cmp, text_eq, text_gone, text_here, text_in, text_is, text_left, text_other, text_total, text_true, true_or_false, without, ◌∙◌, IsRoot, NotFound}
 use Rattle.bucket_ops.specs.Prelude.{IsSweeping, IsSwept}
 use Rattle.std.specs.FinMap as fin
 use Rattle.bucket_ops.proofs.AskLaws.{gone_still}
@@ -12,9 +12,9 @@ use Rattle.fs_ops.specs.declared.delete.DeleteStage.TheVariants.{Here, DropFile,
 use Rattle.fs_ops.proofs.StepLaws.{phases_of}
 use Rattle.fs_ops.proofs.AtPathLaws.{looks_there, still_look}
 use Rattle.fs_ops.proofs.Looks.{at_key, below_key, none_listed}
-use Rattle.bucket_ops.proofs.Below.{is_in, below_stands, stands_below, gone_in, kept_out}
 use Rattle.fs_ops.proofs.Deleting.{deletes}
-use Rattle.fs_ops.specs.code.Delete.{first, asks, up_to, up, here as here_at, on_here, inside, children, on_inside, swept, on_sweep, on_parent, on, holds, IsDue, sends, GoesWith, IsKept, always, left}
+use Rattle.fs_ops.specs.code.Delete.{first, asks, up_to, up, here as here_at, on_here, inside, on_inside, swept, on_sweep, on_parent, on, holds, IsDue, sends, GoesWith, IsKept, always, left}
+use Rattle.bucket_ops.proofs.Below.{is_in, below_stands, stands_below, gone_in, kept_out}
 
 -- without all keys below a prefix none is left there, and the others are as they were
 without_below : (x : ℕ) (q : List ℕ) (z : Objects) → IsWithoutBelow (x ∷ q) z (without z (keys_below (x ∷ q) z))

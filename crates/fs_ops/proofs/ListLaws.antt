@@ -1,6 +1,6 @@
 -- What a directory holds, stage by stage.
-use Rattle.std.specs.Prelude.{◌≡◌, ◌⊎◌, ℕ, suc, ◌+◌, ◌<◌, nat_lt, Bool, true, false, List, [], ◌∷◌, ◌++◌, map, take, drop, length, Ok, Err, Option, Some, None}
-use Rattle.fs_ops.proofs.Common.{DirEntry, Falls, Goes, HasDir, IsPhases, IsStages, IsStill, Lists, MayAsk, NoFile, NoSuchBucket, NotFound, Object, Objects, OnlyLooks, PageEntry, RisesFrom, SomeBelow, Step, added, all_added, ap, arith, children, edited, false≢true, goes_by, head, inl, inr, is_look, last_text, length-drop, length_in, listed, listed_behind, lt, ltb-false, ltb-true, prefix_of, refl, reply_in, shown, subst, sym, take_all, text_cmp, text_in, ◌∙◌}
+use Rattle.std.specs.Prelude.{◌≡◌, ◌⊎◌, ℕ, suc, ◌+◌, ◌<◌, nat_lt, Bool, true, false, List, [], ◌∷◌, map, take, drop, length, Ok, Err, Option, Some, None}
+use Rattle.fs_ops.proofs.Common.{DirEntry, Falls, Goes, HasDir, IsPhases, IsStages, IsStill, Lists, MayAsk, NoFile, NoSuchBucket, Object, Objects, OnlyLooks, PageEntry, RisesFrom, SomeBelow, Step, added, all_added, ap, arith, children, edited, false≢true, goes_by, head, inl, inr, is_look, last_text, length-drop, length_in, listed, listed_behind, lt, ltb-false, ltb-true, prefix_of, refl, reply_in, shown, subst, sym, take_all, text_cmp, text_in, ◌∙◌}
 use Rattle.std.specs.FinMap as fin
 use Rattle.fs_ops.specs.declared.list.ListStage.{ListStage}
 use Rattle.fs_ops.specs.declared.list.ListStage.TheVariants.{Here, Pages}

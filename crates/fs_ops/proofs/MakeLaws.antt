@@ -1,6 +1,6 @@
 -- Making a directory, stage by stage.
 use Rattle.std.specs.Prelude.{◌≡◌, ℕ, ◌+◌, List, [], ◌∷◌, Ok, Err, length}
-use Rattle.fs_ops.proofs.Common.{AlreadyExists, Climbed, Falls, Goes, IsAbsent, IsPhases, IsStages, Look, Makes, MayAsk, NoSuchBucket, NotDirectory, Objects, PutsDir, Reply, Step, There, arith, climbed, climbing, edited, goes_by, head, inl, inr, keys_above, look_of, marker, marker_of, refl, reply_in, subst, sym}
+use Rattle.fs_ops.proofs.Common.{Climbed, Falls, Goes, IsAbsent, IsPhases, IsStages, Look, Makes, MayAsk, NoSuchBucket, Objects, PutsDir, Reply, Step, There, arith, climbed, climbing, edited, goes_by, head, inl, inr, keys_above, look_of, marker, marker_of, refl, reply_in, subst, sym}
 use Rattle.std.specs.FinMap as fin
 use Rattle.fs_tree.proofs.Making.{makes_dirs}
 use Rattle.fs_ops.specs.declared.make_dirs.MakeStage.{MakeStage}
@@ -8,7 +8,6 @@ use Rattle.fs_ops.specs.declared.make_dirs.MakeStage.TheVariants.{Here, Below, U
 use Rattle.fs_ops.proofs.StepLaws.{phases_of}
 use Rattle.fs_ops.proofs.AtPathLaws.{looks_there}
 use Rattle.fs_ops.proofs.Looks.{head_tells, at_key, below_key}
-use Rattle.fs_ops.specs.declared.climb.Climbed.TheVariants.{File, On as Goes_on, Free}
 use Rattle.fs_ops.proofs.Climbing.{IsClimbed, seen_on, all_on, IsShorter, climbing_falls, climbed_falls}
 use Rattle.fs_ops.specs.code.Make.{Answer, first, asks, on_climb, here as here_at, on_here, on_below, on, holds, always, sends, left}
 

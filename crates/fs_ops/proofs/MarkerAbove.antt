@@ -1,6 +1,6 @@
 -- The marker above a path.
-use Rattle.fs_ops.proofs.Common.{Bool, List, None, Option, Path, Some, [], ap, arith, before_none, deleted, eqb-true, false, if◌then◌else◌, length, marker_if, marker_of, parent, parent_of, refl, some_is, suc, sym, true, ℕ, ◌==◌, ◌∙◌, ◌∷◌, ◌≡◌}
-use Rattle.proof_base.proofs.Options.{none_some}
+use Rattle.fs_ops.proofs.Common.{Bool, List, None, Option, Path, Some, [], ap, arith, before_none, deleted, false, length, marker_if, marker_of, parent, parent_of, refl, suc, sym, ℕ, ◌==◌, ◌∙◌, ◌∷◌, ◌≡◌, if◌then◌else◌}
+use Rattle.basics.proofs.Options.{none_some}
 
 pub not_zero : (n : ℕ) → (suc n == 0) ≡ false
 not_zero n = grind arith

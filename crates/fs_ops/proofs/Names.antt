@@ -1,5 +1,5 @@
 -- The keys of paths and of the directories above them, and what texts have behind a prefix.
-use Rattle.fs_ops.proofs.Common.{Bool, Bor, Decides-eqb, IfOk, List, None, Option, Result, Some, [], ap, append-nil, append_assoc, arith, drop, false, front_is_key, if◌then◌else◌, is_key, is_key_path, is_other, key_if, keys_above, last_of, length, list_all, marker_if, marker_of, more_above, nat_eq, none_above, one_part, option_map, own_name, parts_of, parts_round, prefix_of, refl, rest_of, starts_is, starts_with, subst, sym, true, ℕ, ◌++◌, ◌<◌, ◌==◌, ◌∙◌, ◌∷◌, ◌≡◌}
+use Rattle.fs_ops.proofs.Common.{Bool, Bor, Decides-eqb, IfOk, List, None, Option, Result, Some, [], ap, append-nil, append_assoc, arith, drop, false, front_is_key, is_key, is_key_path, is_other, key_if, keys_above, last_of, length, list_all, marker_if, marker_of, more_above, nat_eq, none_above, one_part, option_map, own_name, parts_of, parts_round, prefix_of, refl, rest_of, starts_is, starts_with, subst, sym, true, ℕ, ◌++◌, ◌<◌, ◌==◌, ◌∙◌, ◌∷◌, ◌≡◌, if◌then◌else◌}
 use Rattle.s3_types.specs.Prelude.{MatchOption, FindsTextPrefix, StripsPrefix}
 use Rattle.path_keys.proofs.Keys.{some_key}
 use Rattle.path_keys.proofs.Beneath.{key_path_from}

@@ -1,11 +1,11 @@
 -- The children that a listing shows are those of the directory. Contracts cite none of these laws.
-use Rattle.std.specs.Prelude.{◌≡◌, ◌⊎◌, ℕ, suc, ◌+◌, ◌<◌, ◌&&◌, ◌||◌, nat_eq, Bool, true, false, cond, List, [], ◌∷◌, ◌++◌, map, take, drop, take_while, reverse, length, Option, Some, None}
-use Rattle.fs_ops.proofs.Common.{AllByRecursion, DirEntry, Directory, File, HasDir, HasEntries, HasOddKey, IsIn, IsName, IsStatus, Less, NoFile, Object, Objects, RisesFrom, SomeBelow, Status, added, all_added, and_parts, ap, append-nil, append_assoc, arith, begins, begins_all, begins_is, begins_marker, begins_more, below, between, children, dir_by, dir_element, dir_named, drop-append_seam, eq_nat, false_true, false≢true, file_by, file_element, first_of, has_file, in_append, in_back, in_front, inl, inr, irrefl, is_element, is_file, is_file_named, is_key_path, is_lt, is_other, list_all, list_any, listed, lt, lt_not, lt_trans, marker_of, nat_cmp, none_some, one_part, parts_append, parts_of, prefix_of, refl, rest_after, rest_of, reverse-append, shown, subst, sym, text_by, text_cmp, text_eq, text_in, text_is, text_of, text_total, text_true, ◌∙◌}
+use Rattle.std.specs.Prelude.{◌≡◌, ◌⊎◌, ℕ, suc, ◌+◌, ◌<◌, ◌&&◌, ◌||◌, nat_eq, Bool, true, false, cond, List, [], ◌∷◌, ◌++◌, map, take, take_while, reverse, length, Option, Some, None}
+use Rattle.fs_ops.proofs.Common.{AllByRecursion, DirEntry, Directory, File, HasDir, HasEntries, HasOddKey, IsIn, IsName, IsStatus, Less, NoFile, Object, Objects, RisesFrom, SomeBelow, Status, added, all_added, and_parts, ap, append-nil, append_assoc, arith, begins, begins_all, begins_is, begins_marker, begins_more, below, between, children, dir_by, dir_element, dir_named, drop-append_seam, eq_nat, false_true, false≢true, file_by, file_element, first_of, has_file, in_append, in_back, in_front, inl, inr, irrefl, is_element, is_file, is_file_named, is_key_path, is_lt, is_other, list_all, list_any, listed, lt, lt_not, lt_trans, marker_of, nat_cmp, one_part, parts_append, parts_of, prefix_of, refl, rest_after, rest_of, reverse-append, shown, subst, sym, text_by, text_cmp, text_eq, text_in, text_is, text_of, text_total, text_true, ◌∙◌}
 use Rattle.store_frame.specs.Prelude.{is_utf8, ordering_then, is_key}
 use Rattle.std.specs.List.{prefix_len}
 use Rattle.std.specs.List.Sorted.{IsStrictlySortedBy}
 use Rattle.std.specs.FinMap as fin
-use Rattle.proof_base.proofs.Less.{less_of}
+use Rattle.basics.proofs.Less.{less_of}
 use Rattle.fs_tree.specs.Tree.{IsFile}
 use Rattle.fs_ops.proofs.Children.{NoSlash, Standing, entry_at, entry_from, text_at, IsChild, shown_in, listed_rises, are_shown, file_listed, dir_listed}
 

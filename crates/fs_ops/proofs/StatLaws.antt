@@ -1,8 +1,8 @@
 -- The status of a path is a question at it.
-use Rattle.std.specs.Prelude.{◌≡◌, ℕ, List, ◌∷◌, Ok, Err, Option, Some, None}
-use Rattle.fs_ops.proofs.Common.{Directory, Goes, IsPhases, IsStill, MayAsk, NoSuchBucket, NotFound, Object, Objects, OnlyLooks, Stats, arith, first, goes_by, head, holds, left, look_asks, refl, told}
+use Rattle.std.specs.Prelude.{◌≡◌, ℕ, List, ◌∷◌, Ok, Err, Option}
+use Rattle.fs_ops.proofs.Common.{Directory, Goes, IsPhases, IsStill, MayAsk, NoSuchBucket, Object, Objects, OnlyLooks, Stats, arith, first, goes_by, head, holds, left, look_asks, told}
 use Rattle.std.specs.FinMap as fin
-use Rattle.fs_ops.proofs.AtPathLaws.{IsQuestion, question_laws, question_asked, looks_there, still_look}
+use Rattle.fs_ops.proofs.AtPathLaws.{IsQuestion, question_laws, question_asked, looks_there}
 use Rattle.fs_ops.specs.code.Stat.{Answer, asks, status_in, on}
 
 here : (x : ℕ) (p : List ℕ) (z : Objects) (v : Option Object) → fin.get z (x ∷ p) ≡ v → Goes (holds (x ∷ p) z) (Stats (x ∷ p) z) (told (status_in (head v))) z

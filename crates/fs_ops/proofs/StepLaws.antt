@@ -1,7 +1,6 @@
 -- Stages of file operations are phases of one bucket's operations.
-use Rattle.std.specs.Prelude.{◌≡◌, ℕ, ◌==◌, nat_lt, true, false, cond, List, length, take, Option, Some, None, if◌then◌else◌}
-use Rattle.fs_ops.proofs.Common.{Ask, Copy, Deleted, DropAll, End, Falls, Get, Goes, Head, InScene, IsPhases, IsStages, Nothing, Objects, Page, Refused, Reply, Scene, Step, There, TooManyKeys, arith, copy_answer, edited, found, head, listed, look_of, refl, reply_in, subst, sym, unless}
-use Rattle.std.specs.FinMap as fin
+use Rattle.std.specs.Prelude.{◌≡◌, ℕ, List, Option, Some, None}
+use Rattle.fs_ops.proofs.Common.{Ask, End, InScene, IsPhases, IsStages, Objects, Reply, Scene, Step, arith, look_of, reply_in, unless}
 
 module _ {Y : Type 0} (absent y : Y) where
   -- a bucket that is there never tells that it is not

@@ -2,7 +2,7 @@
 pub use Rattle.bucket_ops.specs.Phases.{AlwaysIn, GivesIn}
 pub use Rattle.bucket_ops.specs.Prelude.{AllByRecursion, Ask, BucketContent, Buckets, Copy, Deleted, Deleting, DropAll, End, Falls, Get, Goes, Head, InScene, IsDeleted, IsDeleting, IsIn, IsPhases, IsWalked, IsWalking, Less, LessLeft, LessWalked, Listing, MayAsk, More, Next, Object, Objects, Page, PageEntry, Prefix, Put, Refusal, Refused, Reply, Request, RisesFrom, Scene, SendsIn, Step, TooManyKeys, UploadRef, Walked, Whole, all_below, all_go, answer, answer_at, apply, apply_at, begins, copied, copy_answer, deleting, edited, filter, fits, is_look, keys_below, keys_on, list_all, list_any, listed, look_of, objects_at, page, reply_in, request_of, starts_with, sweep_asks, sweep_hears, sweep_left, sweep_start, text_cmp, text_eq, text_in, text_total, uploads_from, walk_asks, walk_left, walked_entries, with_objects, with_objects_if, without}
 pub use Rattle.bucket_ops.specs.declared.look.Look.{Look}
-pub use Rattle.bucket_ops.specs.declared.look.Look.TheVariants.{NoBucket, Nothing, Other, There}
+pub use Rattle.bucket_ops.specs.declared.look.Look.TheVariants.{NoBucket, Nothing, There}
 pub use Rattle.dir_markers.specs.Markers.{created, deleted}
 pub use Rattle.dir_markers.specs.declared.marker.MarkerPolicy.{MarkerPolicy}
 pub use Rattle.dir_markers.specs.declared.marker.MarkerPolicy.TheVariants.{Delete, Keep}

@@ -1,5 +1,5 @@
 -- An operation in one bucket, or between two of them.
-use Rattle.fs_rename.proofs.Common.{Actor, AlwaysIn, Bool, GivesBetween, GivesIn, InScene, List, None, Objects, Ok, Option, Performed, Request, Scene, Seen, Some, [], after_all, ap, append-nil, arith, false, false≢true, length, length-append, none_some, not, objects_at, refl, slice_get, subst, suc, sym, take, text_eq, text_is, text_true, true, zero, ℕ, ◌++◌, ◌+◌, ◌<◌, ◌∙◌, ◌≡◌}
+use Rattle.fs_rename.proofs.Common.{Actor, AlwaysIn, GivesBetween, GivesIn, InScene, List, None, Objects, Ok, Option, Performed, Request, Scene, Seen, Some, [], after_all, ap, append-nil, arith, false, false≢true, length, length-append, none_some, not, objects_at, refl, slice_get, subst, suc, sym, take, text_eq, text_is, text_true, true, zero, ℕ, ◌++◌, ◌+◌, ◌<◌, ◌∙◌, ◌≡◌}
 use Rattle.machine.specs.Prelude.{HasUnanswered}
 use Rattle.bucket_ops.proofs.AskLaws.{with_same}
 

@@ -1,5 +1,5 @@
 -- Copies of keys, one after another.
-use Rattle.fs_rename.proofs.Common.{AreFree, Bool, Copying, IsCopied, IsCopying, IsIn, IsOneOf, LessCopies, List, Move, None, Object, Objects, Option, Some, Stands, [], and_parts, ap, arith, copied, copied_all, copied_next, copies_left, copy_asks, copy_of, drop, drop-map, edited, false, has_more, inl, inr, is_in, length, length-map, ltb-true, map, nat_lt, nat_tests, none_some, refl, sources, subst, suc, sym, take, take-map, take_all, targets, text_here, text_other, true, zero, ℕ, ◌&&◌, ◌++◌, ◌+◌, ◌-◌, ◌<◌, ◌∙◌, ◌∷◌, ◌≡◌, ◌≤◌, ◌⊎◌}
+use Rattle.fs_rename.proofs.Common.{AreFree, Bool, Copying, IsCopied, IsCopying, IsIn, IsOneOf, LessCopies, List, Move, None, Object, Objects, Option, Some, Stands, [], and_parts, ap, arith, copied, copied_all, copied_next, copies_left, copy_asks, copy_of, drop, drop-map, edited, false, has_more, inl, inr, is_in, length, length-map, ltb-true, nat_lt, nat_tests, none_some, refl, sources, subst, suc, sym, take, take_all, targets, text_here, text_other, true, zero, ℕ, ◌&&◌, ◌++◌, ◌+◌, ◌-◌, ◌<◌, ◌∙◌, ◌∷◌, ◌≡◌, ◌≤◌, ◌⊎◌}
 use Rattle.std.specs.FinMap as fin
 
 -- ---- lists of moves

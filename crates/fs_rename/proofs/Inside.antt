@@ -1,6 +1,6 @@
 -- The new place inside a directory, and the paths above the target.
-use Rattle.fs_rename.proofs.Common.{Bool, Cut, List, None, Option, Path, Some, [], above_by, and_parts, ap, are_elements, arith, below_elements, cut, false, false≢true, if◌then◌else◌, inl, inr, inside, inside_of, is_element, is_key, is_marker, key_if, last_end, last_of, length, list_all, list_all-append, marker_ends, marker_is, none_some, not_zero, one_part, own_name, parent, parent_of, parts_append, place_by, prefix_of, refl, some_is, some_key, sym, true, true≢false, ℕ, ◌&&◌, ◌++◌, ◌<◌, ◌==◌, ◌∙◌, ◌∷◌, ◌≡◌}
-use Rattle.words.specs.Parts.{parts_of}
+use Rattle.fs_rename.proofs.Common.{Bool, Cut, List, None, Option, Path, Some, [], above_by, and_parts, ap, are_elements, arith, below_elements, cut, false, false≢true, inl, inr, inside, inside_of, is_element, is_key, is_marker, key_if, last_end, last_of, length, list_all, list_all-append, marker_ends, marker_is, none_some, not_zero, one_part, own_name, parent, parent_of, parts_append, place_by, prefix_of, refl, some_key, sym, true, true≢false, ℕ, ◌<◌, ◌==◌, ◌∙◌, ◌∷◌, ◌≡◌}
+use Rattle.basics.specs.Parts.{parts_of}
 use Rattle.path_keys.proofs.Last.{parts_round, before_none}
 use Rattle.fs_rename.proofs.Places.{some_long}
 

@@ -1,8 +1,8 @@
 -- New keys are keys.
-use Rattle.fs_rename.proofs.Common.{Bool, Decides-eqb, Err, List, None, Ok, Result, Some, [], ap, append_assoc, are_elements, arith, cond, cut_elements, drop, elements_append, false, fitting, if◌then◌else◌, is_key_path, is_marker, is_too_long, key_elements, key_path_from, le-leb, length, length-append, ltb-false, marker_behind, marker_elements, marker_ends, marker_of, nat_eq, nat_lt, new_by, new_key, new_keys, none_some, other_end, refl, rest_of, slice_get, some_is, starts_is, starts_with, suc, sym, trimmed, true, with_front, zero, ℕ, ◌&&◌, ◌++◌, ◌-◌, ◌∙◌, ◌∷◌, ◌≡◌, ◌≤◌}
+use Rattle.fs_rename.proofs.Common.{Bool, Decides-eqb, Err, List, Ok, Result, Some, [], ap, append_assoc, are_elements, arith, cond, cut_elements, elements_append, false, fitting, is_key_path, is_marker, is_too_long, key_elements, key_path_from, le-leb, length, length-append, marker_behind, marker_elements, marker_ends, marker_of, nat_eq, nat_lt, new_by, new_key, new_keys, other_end, refl, rest_of, slice_get, some_is, starts_is, suc, sym, trimmed, true, with_front, zero, ℕ, ◌++◌, ◌-◌, ◌∙◌, ◌∷◌, ◌≡◌, ◌≤◌}
+use Rattle.basics.proofs.Bools.{all_three}
+use Rattle.basics.proofs.Lists.{some_length}
 use Rattle.fs_ops.proofs.Showing.{rest_is as rest_follows}
-use Rattle.proof_base.proofs.Bools.{all_three}
-use Rattle.proof_base.proofs.Lists.{some_length}
 
 -- ---- markers and limits
 

@@ -1,9 +1,9 @@
 -- The moves of a file, and of a directory with all that is below it.
 use Rattle.fs_rename.proofs.Common.{AllFit, AreFree, Bool, Err, HasFile, IsDirMoved, IsDirectory, IsFileMoved, IsFirstTooLong, IsIn, IsMove, IsOneOf, List, Move, None, NoneBelow, Object, Objects, Ok, Result, RisesFrom, Some, Stands, [], ap, append_cancel_left, arith, begins, begins_more, behind, below_stands, cond, copied_all, false, false≢true, inl, inr, irrefl, is_lt, is_marker, is_too_long, keys_below, listed_rises, lt_not, marker_if, marker_key, marker_not_below, marker_of, moves_of, moves_to, new_key, new_keys, none_or_some, none_some, one_begins, parent, refl, rest_after, sources, stands_below, subst, sym, targets, text_cmp, text_total, true, true_or_false, with_front, without, ℕ, ◌++◌, ◌∙◌, ◌∷◌, ◌≡◌, ◌⊎◌}
-use Rattle.std.specs.FinMap as fin
 use Rattle.fs_rename.proofs.CopyLaws.{is_source, is_target}
 use Rattle.fs_rename.proofs.Whole.{new_at_end, old_at_end, others_at_end}
 use Rattle.fs_rename.proofs.NewKeys.{new_is}
+use Rattle.std.specs.FinMap as fin
 
 -- ---- keys that are moved from one text behind another
 

@@ -1,5 +1,5 @@
 -- The target as a new place.
-use Rattle.fs_rename.proofs.Common.{List, None, Some, [], are_elements, arith, false, is_key, is_marker, length, marker_is, none_some, not_zero, place_of, prefix_of, refl, some_key, sym, true, true≢false, ℕ, ◌<◌, ◌==◌, ◌∙◌, ◌∷◌, ◌≡◌}
+use Rattle.fs_rename.proofs.Common.{List, None, Some, [], are_elements, arith, false, is_key, is_marker, length, marker_is, none_some, place_of, prefix_of, refl, some_key, true, ℕ, ◌<◌, ◌==◌, ◌∷◌, ◌≡◌}
 
 pub some_long : (s : List ℕ) → (length s == 0) ≡ false → 0 < length s
 some_long s h = grind arith

@@ -1,22 +1,22 @@
 -- Renaming, stage by stage.
-use Rattle.std.specs.Prelude.{◌≡◌, ℕ, ◌+◌, Bool, true, false, List, [], ◌∷◌, Option, Some, None, Result, Ok, Err, cond, drop}
-use Rattle.fs_rename.proofs.Common.{Above, AllFit, Before, Begun, Copying, Deleting, Directory, Falls, File, Goes, HasFile, Inside, IsAbsent, IsAtOrBelow, IsCopied, IsDeleted, IsDirectory, IsFirstTooLong, IsIn, IsMarked, IsMoved, IsPhases, IsReady, IsSource, IsWalked, IsWalking, Kind, LessCopies, Listing, Look, MayAsk, MayGo, More, NoFileIf, NoSuchBucket, Nothing, Objects, PageEntry, ParentIsFile, ParentMissing, RenameRefusal, Renames, RenamesPath, Source, SourceMissing, Spot, Step, Target, TargetExists, TargetFile, There, TooLong, UnderSource, Walked, Whole, all_go, always, ap, append-nil, arith, begins, begins_all, begins_marker, begins_trans, copied_all, copied_next, copies_left, copy_asks, deleting, edited, false≢true, fits, gives, has_more, holds, inl, inr, inside, irrefl, is_look, is_lt, is_too_long, key_if, keys_below, keys_on, left, look_of, marker, marker_at, marker_if, marker_of, moves_of, new_keys, parent, path_at, phases_of, prefix_of, refl, reply_in, sends, sources, stands_below, subst, sweep_asks, sweep_falls, sweep_fits, sweep_hears, sweep_stays, sym, text_cmp, text_total, walk_asks, walk_falls, walk_fits, walk_goes, walked_entries, ◌∙◌}
+use Rattle.std.specs.Prelude.{Bool, Err, List, None, Ok, Option, Result, Some, [], cond, drop, false, true, ℕ, ◌∷◌, ◌≡◌}
+use Rattle.fs_rename.proofs.Common.{AllFit, Before, Begun, Copying, Deleting, Directory, Falls, Goes, HasFile, IsAbsent, IsAtOrBelow, IsCopied, IsDeleted, IsDirectory, IsFirstTooLong, IsIn, IsMarked, IsMoved, IsPhases, IsReady, IsSource, IsWalked, IsWalking, Kind, LessCopies, Listing, Look, MayAsk, MayGo, More, NoFileIf, NoSuchBucket, Objects, PageEntry, RenameRefusal, Renames, RenamesPath, Spot, Step, Walked, Whole, all_go, always, ap, append-nil, arith, begins, begins_all, begins_marker, begins_trans, copied_all, copied_next, copies_left, copy_asks, deleting, edited, false≢true, fits, gives, has_more, holds, inl, inr, inside, irrefl, is_look, is_lt, is_too_long, key_if, keys_below, keys_on, left, look_of, marker, marker_at, marker_if, marker_of, moves_of, new_keys, parent, path_at, phases_of, prefix_of, refl, reply_in, sends, sources, stands_below, subst, sweep_asks, sweep_falls, sweep_fits, sweep_hears, sweep_stays, sym, text_cmp, text_total, walk_asks, walk_falls, walk_fits, walk_goes, ◌∙◌}
 use Rattle.fs_tree.specs.Prelude.{MayMove}
-use Rattle.std.specs.FinMap as fin
-use Rattle.list_walk.specs.Walks as walks
 use Rattle.fs_ops.proofs.AtPathLaws.{look_still}
 use Rattle.bucket_ops.proofs.Batches.{batch_goes, deleting_all}
 use Rattle.fs_ops.proofs.DeleteLaws.{parent_key}
 use Rattle.fs_rename.specs.declared.copying.CopyStep.{CopyStep}
-use Rattle.fs_rename.specs.declared.copying.CopyStep.TheVariants.{Next as NextCopy, All}
-use Rattle.fs_rename.proofs.CopyLaws.{copying_goes, copying_falls}
-use Rattle.fs_rename.proofs.Placed.{sources_to, all_found, only_file, dir_fit, dir_long}
+use Rattle.fs_rename.proofs.CopyLaws.{copying_falls, copying_goes}
+use Rattle.fs_rename.proofs.Placed.{all_found, dir_fit, dir_long, only_file, sources_to}
 use Rattle.fs_rename.specs.declared.stages.RenameStage.{RenameStage}
+use Rattle.fs_rename.proofs.Seen.{Tells, TellsKind, inside_tells, place_tells}
+use Rattle.fs_rename.proofs.Told.{stands}
+use Rattle.fs_rename.proofs.Steps.{fall_all, fall_looked, fall_parent, fall_swept, fall_walked}
+use Rattle.std.specs.FinMap as fin
+use Rattle.list_walk.specs.Walks as walks
+use Rattle.fs_rename.specs.declared.copying.CopyStep.TheVariants.{Next as NextCopy, All}
 use Rattle.fs_rename.specs.declared.stages.RenameStage.TheVariants.{Look as Looking, Walk, Copy, Batch, Parent, PutMarker}
-use Rattle.fs_rename.specs.code.Rename.{Renaming, Answer, place_at, asks_at, inside_asks_if, seen_inside, seen_at, is_root_at, is_none, kind_of, one_copy, file_to, go, begun as begun_at, on_source, on_target, on_inside, on_above, found, looked, with_places, listed_to, on_walked, on_walk, up_to, up, swept, on_copied, on_batch, on_parent, first, asks, on, goes, look_at_asks}
-use Rattle.fs_rename.proofs.Seen.{Tells, TellsKind, place_tells, inside_tells}
-use Rattle.fs_rename.proofs.Told.{no_root, stands}
-use Rattle.fs_rename.proofs.Steps.{fall_looked, fall_walked, fall_swept, fall_all, fall_parent}
+use Rattle.fs_rename.specs.code.Rename.{Renaming, Answer, inside_asks_if, seen_inside, seen_at, is_root_at, is_none, kind_of, one_copy, file_to, go, begun as begun_at, on_source, on_inside, on_above, found, looked, with_places, listed_to, on_walked, on_walk, up_to, up, swept, on_copied, on_batch, on_parent, first, asks, on, goes, look_at_asks}
 
 -- ---- a look changes nothing
 

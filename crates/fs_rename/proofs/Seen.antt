@@ -1,9 +1,9 @@
 -- What the looks of a renaming tell.
-use Rattle.fs_rename.proofs.Common.{Bool, Directory, File, HasFile, IsAbsent, IsDirectory, IsIn, Kind, List, NoFileAt, NoFileIf, None, Nothing, Object, Objects, Option, PageEntry, RisesFrom, Some, Stands, There, [], ap, append-nil, asks_at, begins, begins_all, behind, below_stands, false, false≢true, first_is, if◌then◌else◌, inl, inr, inside_asks, is_lt, is_root, keys_below, kind_of, listed, listed_rises, look_of, map, marker_of, none_or_some, refl, reply_in, rest_after, seen_inside, stands_below, subst, sym, take, text_cmp, text_eq, text_in, text_is, text_true, true, ℕ, ◌++◌, ◌∙◌, ◌∷◌, ◌≡◌}
+use Rattle.fs_rename.proofs.Common.{Bool, Directory, File, HasFile, IsAbsent, IsDirectory, IsIn, Kind, List, NoFileAt, NoFileIf, None, Nothing, Object, Objects, Option, PageEntry, RisesFrom, Some, Stands, There, [], ap, append-nil, asks_at, begins, begins_all, behind, below_stands, false, false≢true, first_is, inl, inr, inside_asks, is_lt, is_root, keys_below, kind_of, listed, listed_rises, look_of, map, marker_of, none_or_some, refl, reply_in, rest_after, seen_inside, stands_below, subst, sym, take, text_cmp, text_eq, text_in, text_is, text_true, true, ℕ, ◌++◌, ◌∙◌, ◌∷◌, ◌≡◌, if◌then◌else◌}
+use Rattle.fs_ops.proofs.Looks.{IsSeen, at_key, below_key, told}
+use Rattle.fs_ops.proofs.Showing.{cmp_behind}
 use Rattle.std.specs.FinMap as fin
 use Rattle.bucket_ops.specs.declared.look.Look.TheVariants.{Nothing as NothingThere}
-use Rattle.fs_ops.proofs.Looks.{IsSeen, told, at_key, below_key}
-use Rattle.fs_ops.proofs.Showing.{cmp_behind}
 
 -- what stands at a path
 abbrev pub TellsKind : Objects → List ℕ → Kind → Type 0

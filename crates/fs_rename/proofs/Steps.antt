@@ -1,6 +1,6 @@
 -- A renaming comes to an end.
-use Rattle.std.specs.Prelude.{◌≡◌, ℕ, ◌+◌, ◌*◌, ◌<◌, Bool, true, false, List, [], ◌∷◌, Result, Ok, Err, Option, Some, None, length}
-use Rattle.fs_rename.proofs.Common.{Above, Directory, Falls, File, Inside, Kind, LessLeft, LessWalked, Look, More, Nothing, Objects, PageEntry, Renaming, Source, Spot, Target, There, Walked, Whole, arith, begins, begun, deleting, file_to, fitting, found, go, key_if, keys_on, left, length_keys, listed_to, looked, looks_left, marker_if, on_above, on_copied, on_inside, on_parent, on_source, on_target, on_walked, one_copy, parent, place_at, prefix_of, refl, sweep_left, sweep_start, swept, up_to, with_places}
+use Rattle.std.specs.Prelude.{◌≡◌, ℕ, ◌+◌, ◌*◌, ◌<◌, Bool, true, List, Result, Option, Some, None, length}
+use Rattle.fs_rename.proofs.Common.{Falls, Kind, LessLeft, LessWalked, Look, More, Objects, PageEntry, Renaming, Spot, Walked, Whole, arith, begun, deleting, found, keys_on, left, length_keys, listed_to, looked, looks_left, marker_if, on_above, on_copied, on_inside, on_parent, on_source, on_target, on_walked, one_copy, parent, place_at, prefix_of, sweep_left, sweep_start, swept, up_to, with_places}
 use Rattle.list_walk.specs.Walks as walks
 use Rattle.fs_rename.specs.declared.copying.CopyStep.TheVariants.{All}
 

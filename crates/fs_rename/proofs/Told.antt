@@ -1,5 +1,5 @@
 -- A renaming, in the tree.
-use Rattle.fs_rename.proofs.Common.{AlwaysIn, Answer, AreFree, Bool, Err, GivesIn, HasDir, HasFile, IsAbsent, IsDeleting, IsDirMoved, IsDirectory, IsFileMoved, IsIn, IsMarked, IsOnWay, IsPlace, IsSource, IsWhole, List, MayGo, MayStand, Move, NoSuchBucket, Objects, Ok, Option, Renames, RenamesDir, RenamesFile, Renaming, Scene, Some, [], always, ap, arith, begins, begins_trans, copied_all, false, gives, in_front, inl, inr, inside, is_key, is_marker, key_no_marker, marker_if, marker_of, moved, moves_dir, moves_file, moves_of, none_some, objects_at, parent, place_above, place_apart, same_scene, sources, subst, sym, take, true, without, ℕ, ◌∙◌, ◌∷◌, ◌≡◌, ◌⊎◌}
+use Rattle.fs_rename.proofs.Common.{AlwaysIn, Answer, AreFree, Bool, Err, GivesIn, HasDir, HasFile, IsAbsent, IsDeleting, IsDirMoved, IsDirectory, IsFileMoved, IsIn, IsMarked, IsOnWay, IsPlace, IsSource, IsWhole, List, MayGo, MayStand, Move, NoSuchBucket, Objects, Ok, Option, Renames, RenamesDir, RenamesFile, Renaming, Scene, Some, [], always, arith, begins, begins_trans, copied_all, false, gives, in_front, inl, inr, is_key, is_marker, key_no_marker, marker_if, marker_of, moved, moves_dir, moves_file, moves_of, none_some, objects_at, parent, place_above, place_apart, same_scene, sources, subst, sym, take, true, without, ℕ, ◌∷◌, ◌≡◌, ◌⊎◌}
 use Rattle.fs_tree.specs.Moves.{IsFreePlace}
 use Rattle.fs_rename.proofs.Whole.{AreWhole, whole_copying, whole_emptying, whole_marked, is_whole}
 use Rattle.fs_rename.proofs.Placed.{file_free, file_to, file_from, file_apart, file_moved, dir_free, dir_to, dir_from, dir_apart, dir_moved}

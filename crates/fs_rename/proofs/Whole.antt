@@ -1,7 +1,7 @@
 -- Each object stands whole while it is moved.
-use Rattle.fs_rename.proofs.Common.{AreFree, IsIn, IsMarked, IsMove, IsOneOf, IsWhole, List, Move, None, NoneBelow, Objects, Option, RisesFrom, Some, [], ap, arith, begins_all, behind, copied_all, false, false≢true, gone_in, inl, inr, is_in, is_lt, kept_out, lt_not, marker, marker_if, marker_key, none_some, parent, refl, same_or_other, sources, subst, suc, sym, take, take-map, targets, text_cmp, text_here, text_other, text_total, true, without, ℕ, ◌∙◌, ◌∷◌, ◌≡◌, ◌⊎◌}
+use Rattle.fs_rename.proofs.Common.{AreFree, IsIn, IsMarked, IsMove, IsOneOf, IsWhole, List, Move, None, NoneBelow, Objects, Option, RisesFrom, Some, [], ap, arith, begins_all, behind, copied_all, false≢true, gone_in, inl, inr, is_in, is_lt, kept_out, lt_not, marker, marker_if, marker_key, none_some, parent, refl, same_or_other, sources, subst, suc, sym, take, take-map, targets, text_cmp, text_here, text_other, text_total, true, without, ℕ, ◌∙◌, ◌∷◌, ◌≡◌, ◌⊎◌}
+use Rattle.fs_rename.proofs.CopyLaws.{all_stand, copied_stand, copies_keep, in_sources, in_targets, is_source, is_target, not_target, one_in_take}
 use Rattle.std.specs.FinMap as fin
-use Rattle.fs_rename.proofs.CopyLaws.{in_targets, in_sources, is_target, is_source, one_in_take, copies_keep, not_target, copied_stand, all_stand}
 
 -- the moves are under way, or done and a marker u is put
 pub record AreWhole (u : Option (List ℕ)) (z : Objects) (ps : List Move) (m : Objects) : Type 0 where

@@ -1,6 +1,6 @@
 -- The paths above a path.
 use Rattle.fs_tree.proofs.Common.{IsIn, List, [], and_parts, ap, append_assoc, are_elements, arith, before_none, before_slash, begins, below, eq_nat, eqb-true, false, false≢true, in_append, in_front, in_last, inl, inr, is_element, is_key, is_key_path, is_marker, is_other, join_with_byte, keys_above, length, length-append, list_all, list_all-append, map, marker_of, nat_eq, nat_le, not, one_part, parent, parts_append, parts_of, parts_round, refl, subst, suc, sym, trimmed, true, true_or_false, zero, ℕ, ◌&&◌, ◌++◌, ◌<◌, ◌==◌, ◌∙◌, ◌∷◌, ◌≡◌, ◌⊎◌}
-use Rattle.proof_base.proofs.Bools.{contrary}
+use Rattle.basics.proofs.Bools.{contrary}
 use Rattle.path_keys.proofs.Ends.{no_end}
 use Rattle.path_keys.proofs.Keys.{some_key}
 use Rattle.dir_markers.specs.Markers.{fronts}
@@ -113,9 +113,8 @@ key_no_marker x p k = contrary (is_marker (x ∷ p)) (λ e.
 -- ---- the elements of an object's key
 
 pub marker_behind : (a : List ℕ) (x : ℕ) (r : List ℕ) → is_marker (a ++ x ∷ r) ≡ is_marker (x ∷ r)
-marker_behind [] x r = refl
-marker_behind (y ∷ []) x r = refl
 marker_behind (y ∷ z ∷ a) x r = marker_behind (z ∷ a) x r
+marker_behind _ x r = refl
 
 pub other_end : (t : List ℕ) → is_marker t ≡ false → t ≡ trimmed t
 other_end t h = no_end t (λ front e. false≢true (sym h ∙ ap is_marker e ∙ marker_is front))

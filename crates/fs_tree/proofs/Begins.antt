@@ -1,5 +1,5 @@
 -- Texts that begin with others, and markers.
-use Rattle.fs_tree.proofs.Common.{Bool, List, [], and_parts, ap, arith, begins, eq_nat, false, false≢true, inl, inr, is_marker, length, marker_of, nat_eq, nat_true, refl, sym, true, ℕ, ◌&&◌, ◌++◌, ◌∙◌, ◌∷◌, ◌≡◌, ◌≤◌, ◌⊎◌}
+use Rattle.fs_tree.proofs.Common.{List, [], and_parts, ap, arith, begins, eq_nat, false≢true, inl, inr, is_marker, length, marker_of, nat_eq, nat_true, refl, sym, true, ℕ, ◌&&◌, ◌++◌, ◌∙◌, ◌∷◌, ◌≡◌, ◌≤◌, ◌⊎◌}
 
 pub begins_more : (p t : List ℕ) → begins p (p ++ t) ≡ true
 begins_more [] t = refl
@@ -39,9 +39,8 @@ begins_length (x ∷ p) (y ∷ q) h = let e = begins_length p q (and_parts (nat_
 
 -- a marker's key ends in `/`
 pub marker_is : (p : List ℕ) → is_marker (marker_of p) ≡ true
-marker_is [] = refl
-marker_is (x ∷ []) = refl
 marker_is (x ∷ y ∷ p) = marker_is (y ∷ p)
+marker_is _ = refl
 
 pub no_empty : (q : List ℕ) → begins (marker_of q) [] ≡ true → ⊥
 no_empty [] h = false≢true h

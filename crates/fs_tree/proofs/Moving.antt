@@ -23,9 +23,8 @@ rest_after (x ∷ p) (y ∷ k) h =
 
 -- the last element of a path has no `/`
 last_end : (ps : List (List ℕ)) (p : List ℕ) → last_of (ps ++ p ∷ []) ≡ p
-last_end [] p = refl
-last_end (q ∷ []) p = refl
 last_end (q ∷ r ∷ ps) p = last_end (r ∷ ps) p
+last_end _ p = refl
 
 own_no_slash : (p : List ℕ) → NoSlash (own_name p)
 own_no_slash p =

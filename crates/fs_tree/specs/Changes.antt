@@ -3,7 +3,7 @@ use Rattle.std.specs.Prelude.{◌≡◌, ◌⊎◌, ℕ, ◌&&◌, true, false, 
 use Rattle.s3_types.specs.Prelude.{join_with_byte, list_all, text_cmp, is_other, is_element, is_key, Objects, begins, IsIn}
 use Rattle.std.specs.List.Sorted.{IsStrictlySortedBy}
 use Rattle.std.specs.FinMap as fin
-use Rattle.words.specs.Parts.{parts_of}
+use Rattle.basics.specs.Parts.{parts_of}
 use Rattle.path_keys.specs.Paths.{without_last, below}
 use Rattle.dir_markers.specs.Markers.{marker_of, keys_above}
 use Rattle.dir_markers.specs.declared.status.Status.{Status}

@@ -6,7 +6,7 @@ use Rattle.job_facts.proofs.Reading.{reads_it, reads_other}
 use Rattle.job_facts.proofs.Replies.{set_reply, bytes_read}
 use Rattle.job_facts.proofs.Sharing.{check_plain}
 use Rattle.job_actor.proofs.Picking.{unpicked}
-use Rattle.proof_base.proofs.Options.{both_hold}
+use Rattle.basics.proofs.Options.{both_hold}
 
 -- ---- what is read of a task
 

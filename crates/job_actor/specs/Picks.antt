@@ -1,6 +1,6 @@
 -- The picks of a job's commit, as a run goes on.
 use Rattle.std.specs.Prelude.{◌≡◌, Bool, true, false, List, [], ◌∷◌, ◌++◌, Option, Some, None}
-use Rattle.job_steps.specs.Prelude.{Content, Driver, Entry, IsLegal, Event, EventEnd, Pick, Setting, Operation, Running, TheSetup, TheWrite, TheTaskCommit, TheTaskAbort, TheCommit, TheClean, TheCheck, TheSparing, begins_commit, is_commit, all_picks, IsOpening, Play, Reachable, MayOpen, Ahead}
+use Rattle.job_steps.specs.Prelude.{Content, Driver, Entry, IsLegal, Event, EventEnd, Pick, Setting, Operation, Running, TheCommit, TheCheck, begins_commit, is_commit, all_picks, IsOpening, Play, Reachable, MayOpen, Ahead}
 
 -- these are the picks that are seen so far, however the run goes on
 abbrev pub ArePicksOf : Setting → Content → Play → List Pick → Type 0
@@ -17,14 +17,9 @@ LeavesPicks g opening x e = (xs : List EventEnd) → Ahead x xs → all_picks g.
 
 -- the operation is the job's commit, or the check that goes on as one
 abbrev pub is_job_commit : Operation → Bool
-is_job_commit (TheSetup t) = false
-is_job_commit (TheWrite t) = false
-is_job_commit (TheTaskCommit t) = false
-is_job_commit (TheTaskAbort t) = false
 is_job_commit (TheCommit c) = true
-is_job_commit (TheClean t) = false
 is_job_commit (TheCheck t) = true
-is_job_commit (TheSparing t) = false
+is_job_commit _ = false
 
 -- what an actor began last is the job's commit
 abbrev pub is_committing : Option Running → Bool

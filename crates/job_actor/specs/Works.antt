@@ -1,6 +1,6 @@
 -- What the operations of a job's actors owe to a world.
 use Rattle.std.specs.Prelude.{◌≡◌, ℕ, ◌+◌, ◌≤◌, ◌^◌, List, [], Option, Some, None, is_some, slice_get}
-use Rattle.job_steps.specs.Prelude.{Content, Scene, answer, apply, IsHonestOutcome, Request, Actor, Driver, Attempt, Shell, Outcome, Entry, Known, IsLegal, Script, Op, OpEnd, Pick, Reports, Setting, Running, advance, over, start_of, actors, IsOpening, Play, Reachable, Sends, MaySend, happen, scene_of, knows_now}
+use Rattle.job_steps.specs.Prelude.{Content, Scene, answer, apply, IsHonestOutcome, Request, Actor, Driver, Outcome, Entry, Known, IsLegal, Script, Op, OpEnd, Pick, Reports, Setting, Running, advance, over, start_of, actors, IsOpening, Play, Reachable, Sends, MaySend, happen, scene_of, knows_now}
 use Rattle.job_protocol.specs.Operations as operations
 use Rattle.job_actor.specs.Posting.{DueFits}
 use Rattle.job_actor.specs.Picks.{HasPicked, LeavesPicks, is_job_commit}
@@ -30,8 +30,7 @@ pub record IsAt {W : Type 0} (is_of : Setting → Actor → W → Type 0) (runni
 -- a request of one actor raises what another has left: never an attempt's, and the driver's by no more than so much
 abbrev pub rise_for : ℕ → Actor → ℕ
 rise_for most Driver = most
-rise_for most (Attempt t a) = 0
-rise_for most Shell = 0
+rise_for most _ = 0
 
 -- what holds of operations in every run of a legal script
 pub record WorkLaws {W : Type 0} (wants : W → Option Request) (tells : W → Outcome → W) (fits : W → Outcome → Type 0) (end_of : W → Option OpEnd) (left : W → Scene → ℕ) (is_of : Setting → Actor → W → Type 0) (running : Known → W → Running) (rise : Script → ℕ) (picks_of : W → Option (List Pick)) : Type 0 where

@@ -1,11 +1,11 @@
 -- where outcomes lead
-use Rattle.job_commit.proofs.Common.{AreRead, Basis, Bool, Commit, CommitOver, Deletion, Fetching, IsNext, IsSetOf, Job, LaneTable, List, Marking, Next, None, Option, PendingSet, Pick, PicksHold, Place, Reads, Replacing, Request, Reverting, Sets, Some, SpellsSet, Step, StepHolds, [], all_commits, ap, arith, asks, attempts_of, below_so, commit_misses, completing, cond, counted, false, first_missed, length, length-append, map, map-append, missed_in, missed_of, nat_lt, nat_tests, operation_of, picks_from, read_script, refl, replacing_at, reverting_from, sets_in, subst, suc, sym, true, undo_request, ℕ, ◌++◌, ◌+◌, ◌<◌, ◌^◌, ◌∙◌, ◌∷◌, ◌≡◌, ◌≤◌}
+use Rattle.job_commit.proofs.Common.{AreRead, Basis, Bool, Commit, CommitOver, Deletion, Fetching, IsNext, IsSetOf, Job, LaneTable, List, Marking, Next, None, Option, PendingSet, Pick, PicksHold, Place, Reads, Replacing, Request, Reverting, Sets, Some, SpellsSet, Step, StepHolds, [], all_commits, ap, arith, asks, attempts_of, below_so, commit_misses, completing, cond, counted, false, first_missed, length, length-append, map, map-append, missed_in, missed_of, operation_of, picks_from, read_script, refl, replacing_at, reverting_from, sets_in, subst, suc, sym, true, undo_request, ℕ, ◌++◌, ◌+◌, ◌<◌, ◌^◌, ◌∙◌, ◌∷◌, ◌≡◌, ◌≤◌}
 use Rattle.job_model.specs.declared.ends.CommitEnd.TheVariants as ends
 use Rattle.job_model.specs.declared.ends.Stage.TheVariants as stages
 use Rattle.commit_laws.proofs.CommitEnds.{read_more}
 use Rattle.job_commit.specs.declared.step.Step.TheVariants as steps
 use Rattle.job_commit.proofs.Steps.{some_so, holds_fetching, holds_replacing, holds_reverting, holds_over}
-use Rattle.proof_base.proofs.Numbers.{not_below}
+use Rattle.basics.proofs.Naturals.{not_below}
 
 -- ---- a set
 

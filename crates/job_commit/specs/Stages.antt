@@ -70,12 +70,8 @@ first_lost (x ∷ xs) = x.lost
 
 -- a sending of the completion in turn was lost
 abbrev pub lost_in : Step → Bool
-lost_in (steps.Fetching m) = false
-lost_in (steps.Replacing d m) = false
 lost_in (steps.Completing l) = first_lost l.turns
-lost_in (steps.Marking m) = false
-lost_in (steps.Reverting u m) = false
-lost_in (steps.Over end) = false
+lost_in _ = false
 
 -- memory was wanting
 abbrev pub wanting : Next

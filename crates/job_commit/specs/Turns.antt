@@ -1,6 +1,6 @@
 -- What a sending was for a commit.
 use Rattle.std.specs.Prelude.{nat_lt, Bool, false, cond}
-use Rattle.job_protocol.specs.Prelude.{Outcome, Answered, Commit, Fetching, Replacing, Completing, Marking, Reverting, CommitOver, Committing}
+use Rattle.job_protocol.specs.Prelude.{Outcome, Answered, Commit, Completing, Committing}
 use Rattle.machine.specs.declared.retrying.Turn.{Turn}
 use Rattle.machine.specs.declared.retrying.Turn.TheVariants as turns
 use Rattle.commit_laws.specs.Fitting.{missed_of}
@@ -16,9 +16,5 @@ turn_of m _ = turn_unanswered m
 
 -- whether a sending of the completion that is asked was lost
 abbrev pub lost_of : Commit → Bool
-lost_of (Fetching sets m) = false
-lost_of (Replacing sets p ps s m) = false
 lost_of (Completing sets x xs finished) = x.lost
-lost_of (Marking sets m) = false
-lost_of (Reverting r rs m) = false
-lost_of (CommitOver end) = false
+lost_of _ = false

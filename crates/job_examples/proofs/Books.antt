@@ -1,5 +1,5 @@
 -- A store of one bucket as lists: what it answers to requests, and what these leave of it, computed.
-use Rattle.job_examples.proofs.Common.{AbortUpload, BadPartNumber, Bool, BucketContent, Buckets, ClusterDelete, ClusterDone, ClusterGet, ClusterList, ClusterNames, ClusterPut, ClusterRename, CompleteUpload, Content, CopyObject, CreateUpload, DeleteObject, DeleteObjects, Err, Files, GetObject, Greater, HeadObject, IsAntisymmetric, IsTotalOrder, List, ListPage, ListParts, ListUploads, MOST_ENTRIES, MakeBucket, NamedPart, NoSuchUpload, None, Object, Objects, Ok, Option, PageEntry, Part, PutObject, Refusal, Refused, Reply, Request, Result, Scene, Some, Spelled, Upload, UploadPart, UploadRef, [], abort_answer, and_parts, answer, answer_at, answer_in, ap, apply, apply_at, apply_in, arith, begins, bucket_of, by_order, complete_answer, completed, cond, draws, empty, entries, exact_bytes, exact_pairs, exact_unsigned, false, filter, find, flat_map, from_entries, get, get-empty, get-insert, has_tag, head, insert, is_lt, is_none_named, is_part_number, is_sorted, joined, lake, length, list_all, live, map, nat_cmp, nat_cmp-IsAntisymmetric, nat_cmp_total, nat_le, nat_lt, on_total, option_map, part_answer, part_put, put, read_answer, ref_cmp, refl, remove, rename_answer, rises, sym, tag_eq, take, text_cmp, text_eq, text_exact, text_is, text_ties, text_total, then_total, true, unwrap_or, where_key, with_key, with_part, without, ℕ, ◌&&◌, ◌+◌, ◌-◌, ◌∙◌, ◌∷◌, ◌≡◌}
+use Rattle.job_examples.proofs.Common.{AbortUpload, BadPartNumber, Bool, BucketContent, Buckets, ClusterDelete, ClusterDone, ClusterGet, ClusterList, ClusterNames, ClusterPut, ClusterRename, CompleteUpload, Content, CopyObject, CreateUpload, DeleteObject, DeleteObjects, Err, Files, GetObject, Greater, HeadObject, IsAntisymmetric, IsTotalOrder, List, ListPage, ListParts, ListUploads, MOST_ENTRIES, MakeBucket, NamedPart, NoSuchUpload, None, Object, Objects, Ok, Option, PageEntry, Part, PutObject, Refusal, Refused, Reply, Request, Result, Scene, Some, Spelled, Upload, UploadPart, UploadRef, [], abort_answer, and_parts, answer, answer_at, answer_in, ap, apply, apply_at, apply_in, arith, begins, bucket_of, by_order, complete_answer, completed, cond, draws, empty, entries, exact_bytes, exact_pairs, exact_unsigned, false, filter, find, flat_map, from_entries, get, get-empty, get-insert, has_tag, head, insert, is_lt, is_none_named, is_part_number, is_sorted, joined, lake, length, list_all, live, map, nat_cmp, nat_cmp-IsAntisymmetric, nat_cmp_total, nat_le, nat_lt, on_total, option_map, part_answer, part_put, put, read_answer, ref_cmp, refl, remove, rename_answer, rises, sym, tag_eq, take, text_cmp, text_eq, text_exact, text_is, text_ties, text_total, then_total, true, unwrap_or, where_key, with_part, without, ℕ, ◌&&◌, ◌+◌, ◌-◌, ◌∙◌, ◌∷◌, ◌≡◌}
 use Rattle.job_model.specs.Prelude.{aborted, renamed}
 use Rattle.s3_types.specs.Pages as pages
 use Rattle.s3_types.specs.Multipart as uploads

@@ -1,5 +1,5 @@
 -- What a store as lists shows, and what a journal makes of it.
-use Rattle.job_examples.proofs.Common.{Bool, Entry, List, None, Object, Option, Outcome, Path, Request, RequestLost, Slow, Some, [], after_all, and_parts, ap, arith, below, codes, cond, drop, effect, eq_by_cmp, false, false≢true, find, inl, inr, is_file_path, lake, list_all, moment, nat_eq, none_some, not, object_at, object_in, option_map, or_cases, refl, relative_in, some_is, starts_with, sym, take, text_cmp, text_eq, text_exact, text_is, tied, true, true_or_false, view, ℕ, ◌&&◌, ◌++◌, ◌||◌, ◌∙◌, ◌∷◌, ◌≡◌, ◌⊎◌}
+use Rattle.job_examples.proofs.Common.{Bool, Entry, List, None, Object, Option, Outcome, Path, Request, RequestLost, Slow, Some, [], after_all, and_parts, ap, arith, below, codes, cond, drop, effect, eq_by_cmp, false, false≢true, find, inl, inr, is_file_path, lake, list_all, moment, nat_eq, none_some, not, object_at, object_in, option_map, refl, relative_in, some_is, starts_with, sym, take, text_cmp, text_eq, text_exact, text_is, tied, true, true_or_false, view, ℕ, ◌&&◌, ◌++◌, ◌||◌, ◌∙◌, ◌∷◌, ◌≡◌}
 use Rattle.path_keys.proofs.Common.{Decides-eqb, starts_is}
 use Rattle.job_examples.proofs.MapLists.{map_of, mapped}
 use Rattle.job_examples.proofs.Books.{Book, scene_of, content_of, text_found, at_bucket, after, is_ours, applies}

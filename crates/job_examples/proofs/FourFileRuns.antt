@@ -2,7 +2,7 @@
 use Rattle.job_examples.proofs.Common.{Driver, Event, FateMap, Goes, Keeps, List, None, Ok, Some, [], codes, commits_at, compact_text, drop, opening, refl, set_of, set_tree, ℕ, ◌∷◌, ◌≡◌}
 use Rattle.std.specs.Fmt.{digits}
 use Rattle.json.specs.Print.{escape_byte}
-use Rattle.words.specs.Parts.{parts_from}
+use Rattle.basics.specs.Parts.{parts_from}
 use Rattle.s3_types.specs.Blocks.{block_of, parts_of}
 use Rattle.job_model.specs.declared.events.Op.TheVariants as ops
 use Rattle.job_model.specs.declared.ends.CommitEnd.TheVariants as commits

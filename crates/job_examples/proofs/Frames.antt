@@ -1,5 +1,5 @@
 -- What each entry of a run over a store as lists may change, and what it was answered, as tests that compute.
-use Rattle.job_examples.proofs.Common.{Actor, Answered, AreHonest, Bool, Content, Driver, Entry, IsHonest, IsHonestOutcome, IsZeroRename, List, None, Option, Ordering, Outcome, OutsideStays, Reply, ReplyLost, RequestLost, Same, SameOutside, SameOutsideUpload, Script, Slow, Some, Upload, ZeroRename, [], and_parts, ap, arith, begins, codes, cond, dest_prefix, eq_by_cmp, false, false≢true, find, find-where_key, inl, inr, is_copy, is_driver, is_effective, is_own, lake, list_all, map, may_show, moment, nat_cmp, none_some, not, not_so, object_at, option_map, or_cases, refl, sends_data, slice_get, some_is, subst, suc, sym, take, text_cmp, text_eq, text_exact, true, true≢false, upload_at, upload_in, view, where_key, zero, ℕ, ◌&&◌, ◌++◌, ◌+◌, ◌||◌, ◌∙◌, ◌∷◌, ◌≡◌, ◌⊎◌}
+use Rattle.job_examples.proofs.Common.{Actor, Answered, AreHonest, Bool, Content, Driver, Entry, IsHonest, IsHonestOutcome, IsZeroRename, List, None, Option, Ordering, Outcome, OutsideStays, Reply, ReplyLost, RequestLost, Same, SameOutside, SameOutsideUpload, Script, Slow, Some, Upload, ZeroRename, [], and_parts, ap, arith, begins, codes, cond, dest_prefix, eq_by_cmp, false, find, find-where_key, inl, inr, is_copy, is_driver, is_effective, is_own, lake, list_all, map, may_show, moment, nat_cmp, none_some, not, not_so, object_at, option_map, or_cases, refl, sends_data, slice_get, some_is, subst, suc, sym, take, text_cmp, text_eq, text_exact, true, upload_at, upload_in, view, where_key, zero, ℕ, ◌&&◌, ◌++◌, ◌+◌, ◌||◌, ◌∙◌, ◌∷◌, ◌≡◌, ◌⊎◌}
 use Rattle.job_examples.proofs.MapLists.{map_of}
 use Rattle.job_examples.proofs.Books.{Book, Draft, upload_of, scene_of, content_of, is_ours, reply, is_ordered, answers, at_bucket, no_other, upload_found}
 use Rattle.job_examples.proofs.Checks.{implied, dest, same_files, files_are, visible, views, objects_at, are_ours, without_files, effect_on, effect_is, book_after, moment_is}

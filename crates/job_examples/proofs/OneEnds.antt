@@ -1,5 +1,5 @@
 -- The operations of the run of one attempt with one file end as is due, and the run is finished.
-use Rattle.job_examples.proofs.Common.{Actor, ActorEnd, AllByRecursion, Answered, Attempt, CommitEnds, Do, Doing, Driver, Ended, EndedIn, Entry, IsFree, IsSome, Keeps, List, Magic, None, OneFileFinished, Op, OpEnd, Option, Promised, Refusal, Refused, Reply, Request, SetupIs, Some, TaskIs, WasPublished, WornFirst, [], after_event, all_picks, ap, arith, before, by_actor, clean_event, codes, commit_entries, commits_at, computed, first_worn, has_cleaned, inr, is_marked, is_some, journal, known_then, length, moment, none_sent, none_some, ok_set, opening, past, refl, script, see_all, seen, seen_until, set_read, set_request, setting, since, slice_get, some_is, stage_of, subst, suc, sym, take, the_ends, the_picks, the_publishing, told, true, until, until_last, worker, zero, ℕ, ◌&&◌, ◌++◌, ◌+◌, ◌∙◌, ◌∷◌, ◌≡◌, ◌⊎◌}
+use Rattle.job_examples.proofs.Common.{Actor, ActorEnd, AllByRecursion, Answered, Attempt, CommitEnds, Do, Doing, Driver, Ended, EndedIn, Entry, IsFree, IsSome, Keeps, List, Magic, None, OneFileFinished, Op, OpEnd, Option, Promised, Refusal, Refused, Reply, Request, SetupIs, Some, TaskIs, WasPublished, WornFirst, [], after_event, all_picks, ap, arith, before, by_actor, clean_event, codes, commit_entries, commits_at, computed, first_worn, has_cleaned, inr, is_marked, is_some, journal, known_then, length, moment, none_sent, none_some, opening, past, refl, script, see_all, seen, seen_until, set_read, set_request, setting, since, slice_get, some_is, stage_of, subst, suc, sym, take, the_ends, the_picks, the_publishing, told, true, until, until_last, worker, zero, ℕ, ◌&&◌, ◌++◌, ◌+◌, ◌∙◌, ◌∷◌, ◌≡◌, ◌⊎◌}
 use Rattle.std.specs.Fmt.{digits}
 use Rattle.json.specs.Print.{escape_byte}
 use Rattle.job_examples.proofs.Books.{at_bucket}

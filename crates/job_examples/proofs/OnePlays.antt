@@ -1,5 +1,5 @@
 -- The run of one attempt with one file plays as its script says.
-use Rattle.job_examples.proofs.Common.{Actor, ActorEnd, AllBy, AllObeyed, Attempt, Do, Doing, Driver, Ended, Entry, Event, EventEnd, List, None, Obeyed, Op, OpEnd, OpFollows, Option, Plays, Setting, Shell, Some, [], after_event, and_parts, ap, arith, by_actor, cond, doing, eq_nat, false, false_true, inl, inr, is_busy, is_wanting, length, nat_eq, none_some, of_event, op_over, past, refl, refusal, slice_get, some_is, subst, suc, sym, take, the_ends, true, true_or_false, until, worker, zero, ℕ, ◌&&◌, ◌+◌, ◌∙◌, ◌∷◌, ◌≡◌, ◌⊎◌}
+use Rattle.job_examples.proofs.Common.{Actor, ActorEnd, AllBy, AllObeyed, Attempt, Do, Doing, Driver, Ended, Entry, Event, EventEnd, List, None, Obeyed, Op, OpEnd, OpFollows, Option, Plays, Setting, Shell, Some, [], after_event, ap, arith, by_actor, cond, doing, false, false_true, inr, is_busy, is_wanting, length, nat_eq, none_some, of_event, op_over, past, refl, refusal, slice_get, some_is, subst, suc, sym, take, the_ends, true, until, worker, zero, ℕ, ◌&&◌, ◌+◌, ◌∙◌, ◌∷◌, ◌≡◌, ◌⊎◌}
 use Rattle.std.specs.Fmt.{digits}
 use Rattle.s3_types.specs.Blocks.{block_of, parts_of}
 use Rattle.job_model.specs.declared.events.Op.TheVariants as ops

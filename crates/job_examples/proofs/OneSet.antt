@@ -1,10 +1,10 @@
 -- Sets are read as they were put.
 use Rattle.job_examples.proofs.Common.{AllByRecursion, Bool, IsAscii, IsAscii-cons, IsAscii-nil, IsPending, IsUtf8-from_ascii, List, Ok, Pending, PendingSet, [], and_parts, arith, compact_text, is_key_path, is_utf8, is_utf8-from_IsUtf8, list_all, nat_lt, pending_tree, refl, set_tree, the_set, true, ℕ, ◌&&◌, ◌^◌, ◌∷◌, ◌≡◌}
-use Rattle.proof_base.proofs.Numbers.{below_is}
+use Rattle.basics.proofs.Naturals.{below_is}
 use Rattle.pending_json.specs.Prelude.{are_tags, are_sizes, is_bucket}
 use Rattle.std.specs.Fmt.{digits}
 use Rattle.json.specs.Print.{escape_byte}
-use Rattle.words.specs.Parts.{parts_from}
+use Rattle.basics.specs.Parts.{parts_from}
 use Rattle.pending_json.specs.Reading.{pending_of, set_of as read}
 use Rattle.pending_json.proofs.RoundTrip.{pending_text, set_text}
 use Rattle.job_examples.specs.Modes.{staged_set, staged_text}

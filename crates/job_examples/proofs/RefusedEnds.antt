@@ -1,5 +1,5 @@
 -- Ends that are not due.
-use Rattle.job_examples.proofs.Common.{Actor, Always, Bool, CommitsEnd, Do, Doing, Driver, Ended, EndedIn, Entry, EventEnd, List, NoDeletionWorn, None, Op, OpEnd, Option, Plays, Request, Script, Some, [], after_event, ap, arith, by_actor, codes, commit_due, commits_at, cond, doing, false, inl, inr, is_some, is_wanting, none_some, op_over, past, refl, since, slice_get, some_is, subst, suc, sym, take, text_eq, true, until, zero, ℕ, ◌&&◌, ◌+◌, ◌∙◌, ◌∷◌, ◌≡◌, ◌≤◌, ◌⊎◌}
+use Rattle.job_examples.proofs.Common.{Actor, Always, Bool, CommitsEnd, Do, Doing, Driver, Ended, EndedIn, Entry, EventEnd, List, NoDeletionWorn, None, Op, OpEnd, Option, Plays, Request, Script, Some, [], after_event, ap, arith, by_actor, codes, commit_due, commits_at, cond, doing, false, inl, inr, is_some, is_wanting, none_some, op_over, past, refl, since, slice_get, some_is, subst, sym, take, text_eq, true, until, ℕ, ◌&&◌, ◌+◌, ◌∙◌, ◌∷◌, ◌≡◌, ◌≤◌, ◌⊎◌}
 use Rattle.std.specs.Fmt.{digits}
 use Rattle.job_model.specs.declared.events.Op.TheVariants as ops
 use Rattle.job_model.specs.declared.ends.CommitEnd.TheVariants as commits

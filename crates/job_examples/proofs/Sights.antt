@@ -1,5 +1,5 @@
 -- What is seen of a job, over a store as lists.
-use Rattle.job_examples.proofs.Common.{Actor, Answered, Attempt, Bool, Content, Driver, Entry, List, None, Object, Option, Outcome, Picks, Request, Script, Seen, Shell, Times, [], and_parts, ap, arith, effect, false, nothing_seen, opening, refl, see, see_all, see_by, true, ℕ, ◌∙◌, ◌∷◌, ◌≡◌}
+use Rattle.job_examples.proofs.Common.{Actor, Bool, Content, Entry, List, None, Object, Option, Outcome, Picks, Request, Script, Seen, Times, [], and_parts, ap, arith, effect, false, nothing_seen, opening, refl, see, see_all, see_by, true, ℕ, ◌∙◌, ◌∷◌, ◌≡◌}
 use Rattle.job_examples.proofs.MapLists.{map_of}
 use Rattle.job_examples.proofs.Books.{Book, content_of, scene_of, is_ours}
 use Rattle.job_examples.proofs.Checks.{effect_on, effect_is, are_ours, without_files}

@@ -2,7 +2,7 @@
 use Rattle.job_examples.proofs.Common.{After, Bool, Entry, Event, Keeps, List, Magic, NothingLeft, Ok, [], begins, codes, commits_at, compact_text, moment, none_some, not, not_so, opening, refl, set_key, set_of, set_tree, sym, ℕ, ◌∙◌, ◌∷◌, ◌≡◌}
 use Rattle.std.specs.Fmt.{digits}
 use Rattle.json.specs.Print.{escape_byte}
-use Rattle.words.specs.Parts.{parts_from}
+use Rattle.basics.specs.Parts.{parts_from}
 use Rattle.s3_types.specs.Blocks.{block_of, parts_of}
 use Rattle.job_examples.specs.LostMark as mark
 use Rattle.job_examples.specs.LostSet as lost

@@ -1,8 +1,8 @@
 -- What the definitions of two jobs say of a journal, by tests that compute.
-use Rattle.job_examples.proofs.Common.{AllStrange, AtMoment, Bool, Content, Entry, File, First, Ids, IsIn, IsStranger, List, None, Object, Option, Picks, Request, Scene, Script, Second, Seen, Shell, Side, Some, StrangeBy, Times, TwinEntry, [], after_all, and_parts, ap, arith, begins, cluster_prefix, codes, cond, effect, eyes, false, false≢true, find, in_eyes, inl, inr, is_clash, is_picked, is_side, lake, list_all, lookup, magic_prefix, mark_text, moment, named_keys, named_paths, named_upload, none_some, not, not_so, nothing_seen, object_at, opening, or_cases, refl, see, see_all, seen_twin, sided, some_is, suc, success_key, sym, take, text_cmp, text_eq, text_is, true, view, wanted, zero, ℕ, ◌&&◌, ◌||◌, ◌∙◌, ◌∷◌, ◌≡◌}
+use Rattle.job_examples.proofs.Common.{AllStrange, AtMoment, Bool, Content, Entry, File, First, Ids, IsIn, IsStranger, List, None, Object, Option, Picks, Request, Scene, Script, Second, Seen, Side, Some, StrangeBy, Times, TwinEntry, [], after_all, and_parts, ap, arith, begins, cluster_prefix, codes, cond, effect, eyes, false, false≢true, find, in_eyes, inl, inr, is_clash, is_picked, lake, list_all, lookup, magic_prefix, mark_text, moment, named_keys, named_paths, named_upload, none_some, not, not_so, nothing_seen, object_at, opening, or_cases, refl, see, see_all, seen_twin, sided, suc, success_key, sym, take, text_cmp, text_eq, text_is, true, view, wanted, zero, ℕ, ◌&&◌, ◌||◌, ◌∙◌, ◌∷◌, ◌≡◌}
 use Rattle.twin_facts.specs.TwinLaws.{Gives, counted, Marked, is_marked_by}
 use Rattle.job_examples.proofs.Checks.{implied, dest, are_ours, visible}
-use Rattle.job_examples.proofs.Sights.{nothing, scene_by}
+use Rattle.job_examples.proofs.Sights.{nothing}
 use Rattle.job_examples.proofs.Kept.{book_at, file_then, object_then, lookup_is}
 use Rattle.job_examples.proofs.Owed.{is_at, at_is, found_in}
 

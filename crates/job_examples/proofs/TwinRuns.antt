@@ -3,7 +3,7 @@ use Rattle.job_examples.proofs.Common.{AbortUpload, AtMoment, Driver, Follows, G
 use Rattle.job_protocol.specs.Sparing.{sparing_asks}
 use Rattle.std.specs.Fmt.{digits}
 use Rattle.json.specs.Print.{escape_byte}
-use Rattle.words.specs.Parts.{parts_from}
+use Rattle.basics.specs.Parts.{parts_from}
 use Rattle.s3_types.specs.Blocks.{block_of, parts_of}
 use Rattle.job_model.specs.declared.events.Op.TheVariants as ops
 use Rattle.job_model.specs.declared.ends.CheckEnd.TheVariants.{Conflict}

@@ -14,9 +14,9 @@ use Rattle.twin_facts.specs.Sides.{Second, TwinEntry}
 use Rattle.twin_facts.specs.TwinLaws.{is_marked_by}
 use Rattle.twin_facts.specs.Events.{AtMoment}
 use Rattle.job_examples.specs.TwoMagic.{AllStrange, drew_first, drew_second, sided}
-use Rattle.s3_types.specs.declared.reply.PageEntry.TheVariants.{Object as Listed}
 use Rattle.job_model.specs.declared.events.Op.TheVariants as ops
 use Rattle.job_model.specs.declared.ends.OpEnd.TheVariants as ends
+use Rattle.s3_types.specs.declared.reply.PageEntry.TheVariants.{Object as Listed}
 
 abbrev pub ja : Script
 ja = record (job Directory Fail 1 3 1 (attempt 0 0 ((codes "x", codes "hello") ∷ []) ∷ []) (Do Driver ops.Setup ∷ Do worker ops.Write ∷ Do worker ops.Commit ∷ Do Driver ops.Commit ∷ [])) { job = codes "ja" }

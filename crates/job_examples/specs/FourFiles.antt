@@ -1,18 +1,17 @@
 -- The run of one attempt with four files whose job's commit is killed after two completions.
-use Rattle.std.specs.Prelude.{◌≡◌, ℕ, true, false, List, [], ◌∷◌, ◌++◌, length, take, Some, None, codes}
-use Rattle.job_spec.specs.Prelude.{moment, Driver, Magic, Append, PageEntry, Entry, Script, Do, Start, Step, Kill, EventEnd, Done, Ended, view, OpFollows, op_over, Seen, seen, past, refusal, commit_event, verdict, dead, Turns, of_event, by_actor}
-use Rattle.job_protocol.specs.Prelude.{Pending, PendingSet}
-use Rattle.s3_types.specs.declared.reply.PageEntry.TheVariants.{Object as Listed}
-use Rattle.job_model.specs.declared.events.Op.TheVariants.{Setup, Write, Commit}
+use Rattle.std.specs.Prelude.{List, None, Some, [], codes, false, length, take, true, ℕ, ◌++◌, ◌∷◌, ◌≡◌}
+use Rattle.job_protocol.specs.Prelude.{Append, Do, Done, Driver, Ended, Entry, EventEnd, Kill, Magic, PageEntry, Pending, PendingSet, Script, Seen, Start, Step, moment, seen, upload_at, view}
+use Rattle.job_spec.specs.Prelude.{OpFollows, Turns, by_actor, commit_event, dead, of_event, op_over, past, refusal, verdict}
+use Rattle.job_model.specs.declared.events.Op.TheVariants.{Commit, Setup, Write}
+use Rattle.job_protocol.specs.View.{object_at}
+use Rattle.job_examples.specs.OneFile.{opening, setup_entries}
+use Rattle.job_examples.specs.Runs.{Goes, Keeps, completes, held, hello, lists, puts_set, reads_record, reads_set, set_of, upload, writes}
 use Rattle.job_model.specs.declared.ends.SetupEnd.TheVariants as setups
 use Rattle.job_model.specs.declared.ends.TaskEnd.TheVariants as tasks
 use Rattle.job_model.specs.declared.ends.OpEnd.TheVariants as ends
 use Rattle.job_model.specs.declared.states.ActorStage.TheVariants as stage
-use Rattle.job_protocol.specs.View.{object_at}
-use Rattle.job_spec.specs.Scope.{upload_at}
 use Rattle.job_examples.specs.Jobs.{lake, job, attempt, worker, directory, set_key, setting, doing as begun_so, commits_at}
-use Rattle.job_examples.specs.OneFile.{opening, setup_entries}
-use Rattle.job_examples.specs.Runs.{hello, upload, set_of, held, writes, lists, reads_record, puts_set, reads_set, completes, Goes, Keeps}
+use Rattle.s3_types.specs.declared.reply.PageEntry.TheVariants.{Object as Listed}
 
 -- the job's script
 abbrev pub script : Script

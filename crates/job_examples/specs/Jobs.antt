@@ -4,7 +4,7 @@ use Rattle.job_spec.specs.Prelude.{Actor, Answered, Attempt, Committer, Declared
 use Rattle.job_model.specs.declared.ends.SetupEnd.TheVariants as setups
 use Rattle.job_model.specs.declared.ends.TaskEnd.TheVariants as tasks
 use Rattle.job_model.specs.declared.ends.OpEnd.TheVariants as ends
-use Rattle.std.specs.FinMap as fin
+use Rattle.job_model.specs.JobScript.{plain_script}
 
 -- the bucket
 abbrev pub lake : List ℕ
@@ -12,21 +12,8 @@ lake = codes "lake"
 
 -- a job at s3a://lake/out that names no fate
 abbrev pub job : Committer → Mode → ℕ → ℕ → ℕ → List Declared → List Event → Script
-job committer mode tasks retries lanes attempts events = record {
-  job = codes "j1";
-  dest = record { bucket = lake; key = codes "out" };
-  committer = committer;
-  mode = mode;
-  unique = false;
-  tasks = tasks;
-  retries = retries;
-  block = 0;
-  lanes = lanes;
-  stamp = None;
-  fates = fin.empty;
-  attempts = attempts;
-  events = events;
-}
+job committer mode tasks retries lanes attempts events =
+    record (plain_script (codes "j1") (record { bucket = lake; key = codes "out" }) committer mode tasks) { retries = retries; lanes = lanes; attempts = attempts; events = events }
 
 -- an attempt that writes files
 abbrev pub attempt : ℕ → ℕ → List File → Declared

@@ -1,20 +1,19 @@
 -- The run of one file in which both sendings of the set's put lose their replies: the task is not reported, and the job's commit misses it.
-use Rattle.std.specs.Prelude.{◌≡◌, ℕ, false, List, [], ◌∷◌, ◌++◌, length, Some, None, codes}
-use Rattle.job_protocol.specs.Prelude.{compact_text, set_tree}
-use Rattle.job_spec.specs.Prelude.{moment, After, Driver, Request, PutObject, ReplyLost, Entry, first_worn, Script, Abort, Do, EventEnd, Ended, view, commit_due, Seen, seen, commit_event, verdict, by_actor, since}
+use Rattle.std.specs.Prelude.{List, None, Some, [], codes, false, length, ℕ, ◌++◌, ◌∷◌, ◌≡◌}
+use Rattle.job_protocol.specs.Prelude.{Abort, Do, Driver, Ended, Entry, EventEnd, PutObject, ReplyLost, Request, Script, Seen, compact_text, moment, seen, set_tree, upload_at, view}
+use Rattle.job_spec.specs.Prelude.{After, by_actor, commit_due, commit_event, first_worn, since, verdict}
+use Rattle.job_model.specs.declared.events.Op.TheVariants.{Commit, Setup, Write}
+use Rattle.job_protocol.specs.View.{object_at}
+use Rattle.job_examples.specs.Jobs.{commits_at, directory, entry, lake, worker}
+use Rattle.job_examples.specs.OneFile.{opening, setup_entries, the_record, the_set, write_entries}
+use Rattle.job_examples.specs.Runs.{Goes, Keeps, held, lists, reads_record}
 use Rattle.std.specs.FinMap as fin
-use Rattle.s3_types.specs.declared.reply.PageEntry.TheVariants.{Object as Listed}
-use Rattle.job_model.specs.declared.events.Op.TheVariants.{Setup, Write, Commit}
 use Rattle.job_model.specs.declared.ends.SetupEnd.TheVariants as setups
 use Rattle.job_model.specs.declared.ends.TaskEnd.TheVariants as tasks
 use Rattle.job_model.specs.declared.ends.CommitEnd.TheVariants as commits
 use Rattle.job_model.specs.declared.ends.OpEnd.TheVariants as ends
-use Rattle.job_protocol.specs.View.{object_at}
-use Rattle.job_spec.specs.Scope.{upload_at}
-use Rattle.job_examples.specs.Jobs.{lake, worker, entry, directory, commits_at}
 use Rattle.job_examples.specs.OneFile as one
-use Rattle.job_examples.specs.OneFile.{opening, setup_entries, write_entries, the_record, the_set}
-use Rattle.job_examples.specs.Runs.{held, lists, reads_record, Goes, Keeps}
+use Rattle.s3_types.specs.declared.reply.PageEntry.TheVariants.{Object as Listed}
 
 -- each request may be sent twice, and the replies of the sendings 10 and 11 are lost
 abbrev pub script : Script

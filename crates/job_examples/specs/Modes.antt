@@ -3,7 +3,6 @@ use Rattle.std.specs.Prelude.{◌≡◌, ℕ, true, false, List, [], ◌∷◌, 
 use Rattle.job_spec.specs.Prelude.{Driver, Request, HeadObject, PutObject, DeleteObject, DeleteObjects, ListPage, CreateUpload, UploadPart, CompleteUpload, AbortUpload, ListUploads, ClusterPut, ClusterGet, ClusterRename, ClusterDelete, ClusterList, Reply, Head, Stored, Deleted, Page, Part, Completed, Aborted, ClusterDone, ClusterNames, Refused, NoSuchBucket, NoSuchKey, NoSuchUpload, NoSuchFile, PageEntry, Outcome, Answered, Slow, ReplyLost, Committer, Magic, Directory, Partitioned, Mode, Fail, Append, Replace, File, Script, Abort, same_path, Known, nothing_known, decided, TheCommit, start_of}
 use Rattle.job_protocol.specs.Prelude.{ClusterBytes, Pending, PendingSet}
 use Rattle.s3_types.specs.declared.reply.Reply.TheVariants.{Upload, Uploads}
-use Rattle.s3_types.specs.declared.reply.PageEntry.TheVariants.{Object as Listed}
 use Rattle.job_model.specs.declared.events.Op.TheVariants.{Setup, Write, Commit, Clean}
 use Rattle.job_model.specs.declared.ends.SetupEnd.TheVariants as setups
 use Rattle.job_model.specs.declared.ends.TaskEnd.TheVariants as tasks
@@ -11,6 +10,7 @@ use Rattle.job_model.specs.declared.ends.CleanEnd.TheVariants as cleans
 use Rattle.job_model.specs.declared.ends.CommitEnd.TheVariants as commits
 use Rattle.job_model.specs.declared.ends.OpEnd.TheVariants as ends
 use Rattle.job_examples.specs.Jobs.{lake, job, attempt, worker, hello_tag, setting, told_of, Course, course, course_of}
+use Rattle.s3_types.specs.declared.reply.PageEntry.TheVariants.{Object as Listed}
 
 -- the script of one attempt with these files, of this committer and mode
 abbrev pub with_files : Committer → Mode → List File → Script

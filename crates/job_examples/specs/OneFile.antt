@@ -4,7 +4,6 @@ use Rattle.job_protocol.specs.Prelude.{compact_text, Pending, set_tree, success_
 use Rattle.job_spec.specs.Prelude.{Actor, Driver, PutObject, GetObject, HeadObject, DeleteObject, ListPage, CompleteUpload, Stored, Deleted, Page, Completed, Refused, NoSuchKey, Magic, Append, Entry, Script, Op, Do, OpEnd, Setting, wanted_at, is_decided, keeps_of, Seen, seen, commit_due, in_eyes, Content, new_bucket, until, by_actor, OpFollows, op_over}
 use Rattle.s3_types.specs.Tags.{plain_tag, joined_tag}
 use Rattle.s3_types.specs.declared.reply.Reply.TheVariants.{Object}
-use Rattle.s3_types.specs.declared.reply.PageEntry.TheVariants.{Object as Listed}
 use Rattle.job_model.specs.declared.events.Op.TheVariants.{Setup, Write, Commit}
 use Rattle.job_model.specs.declared.ends.SetupEnd.TheVariants as setups
 use Rattle.job_model.specs.declared.ends.TaskEnd.TheVariants as tasks
@@ -13,6 +12,7 @@ use Rattle.job_model.specs.declared.ends.OpEnd.TheVariants as ends
 use Rattle.std.specs.FinMap as fin
 use Rattle.job_examples.specs.Jobs.{lake, job, attempt, worker, said, hello_tag, directory, doing, commits_at}
 use Rattle.job_examples.specs.Runs.{hello, writes, lists, reads_record}
+use Rattle.s3_types.specs.declared.reply.PageEntry.TheVariants.{Object as Listed}
 
 -- the job's script
 abbrev pub script : Script

@@ -1,23 +1,22 @@
 -- Four files, and a driver that is killed in its commit after two whole files and restarted: its abort leaves these two and no live upload.
-use Rattle.std.specs.Prelude.{◌≡◌, ℕ, true, false, List, [], ◌∷◌, ◌++◌, length, Some, None, codes}
-use Rattle.job_spec.specs.Prelude.{lookup, text_eq, Object, IsHonest, moment, Driver, AbortUpload, DeleteObjects, ListPage, ListUploads, Deleted, Aborted, Page, Entry, Script, Do, Start, Step, Kill, Restart, Recover, EventEnd, Done, Ended, Always, ZeroRename, OutsideStays, Seen, seen, past, refusal, idle, commit_event, verdict}
-use Rattle.std.specs.FinMap as fin
+use Rattle.std.specs.Prelude.{List, None, Some, [], codes, false, length, true, ℕ, ◌++◌, ◌∷◌, ◌≡◌}
+use Rattle.job_protocol.specs.Prelude.{AbortUpload, DeleteObjects, Do, Done, Driver, Ended, Entry, EventEnd, IsHonest, Kill, ListPage, Object, Page, Recover, Restart, Script, Seen, Start, Step, compact_text, lookup, moment, seen, set_tree, text_eq, upload_at}
+use Rattle.job_spec.specs.Prelude.{Aborted, Always, Deleted, ListUploads, OutsideStays, ZeroRename, commit_event, idle, past, refusal, verdict}
 use Rattle.s3_types.specs.declared.reply.Reply.TheVariants.{Uploads}
-use Rattle.s3_types.specs.declared.reply.PageEntry.TheVariants.{Object as Listed}
+use Rattle.job_model.specs.declared.ends.EventEnd.TheVariants.{Refused}
+use Rattle.job_protocol.specs.View.{object_at}
+use Rattle.job_examples.specs.Jobs.{before_commit, commits_at, lake, said, set_key, worker}
+use Rattle.job_examples.specs.OneFile.{opening}
+use Rattle.job_examples.specs.FourFiles.{the_set}
+use Rattle.job_examples.specs.FourFileLanes.{Goes, Prepared, Shows, below_attempt, completes, hellos, out, pending, read_entries}
+use Rattle.std.specs.FinMap as fin
 use Rattle.job_model.specs.declared.events.Op.TheVariants as ops
 use Rattle.job_model.specs.declared.ends.CleanEnd.TheVariants as cleans
 use Rattle.job_model.specs.declared.ends.OpEnd.TheVariants as ends
-use Rattle.job_model.specs.declared.ends.EventEnd.TheVariants.{Refused}
 use Rattle.job_model.specs.declared.ends.EventFault.TheVariants as faults
 use Rattle.job_model.specs.declared.states.ActorStage.TheVariants as stage
-use Rattle.job_protocol.specs.View.{object_at}
-use Rattle.job_spec.specs.Scope.{upload_at}
-use Rattle.job_examples.specs.Jobs.{lake, worker, said, set_key, before_commit, commits_at}
-use Rattle.job_examples.specs.OneFile.{opening}
-use Rattle.job_protocol.specs.Prelude.{compact_text, set_tree}
-use Rattle.job_examples.specs.FourFiles.{the_set}
 use Rattle.job_examples.specs.FourFileLanes as files
-use Rattle.job_examples.specs.FourFileLanes.{out, below_attempt, pending, read_entries, completes, Shows, hellos, Goes, Prepared}
+use Rattle.s3_types.specs.declared.reply.PageEntry.TheVariants.{Object as Listed}
 
 -- three retries are the default, and one lane
 abbrev pub script : Script

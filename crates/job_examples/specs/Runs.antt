@@ -3,11 +3,11 @@ use Rattle.std.specs.Prelude.{◌≡◌, ℕ, ◌-◌, false, List, [], ◌∷�
 use Rattle.job_protocol.specs.Prelude.{compact_text, Pending, pending_tree, set_tree, PendingSet}
 use Rattle.job_spec.specs.Prelude.{Content, Spelled, Actor, Driver, PutObject, GetObject, ListPage, CreateUpload, UploadPart, CompleteUpload, Stored, Page, Part, Completed, PageEntry, Entry, Script, Op, Do, OpEnd, EventEnd, Ended, Always, ZeroRename, OutsideStays, Sent, OpFollows, op_over, past, refusal, until, of_event, by_actor, AllBy, Times, reports}
 use Rattle.std.specs.FinMap as fin
-use Rattle.s3_types.specs.Store.{Upload as Live}
 use Rattle.s3_types.specs.Tags.{plain_tag, joined_tag}
-use Rattle.s3_types.specs.declared.reply.PageEntry.TheVariants.{Object as Listed}
 use Rattle.s3_types.specs.declared.reply.Reply.TheVariants.{Object, Upload}
 use Rattle.job_examples.specs.Jobs.{lake, said, hello_tag, setting, begun_with}
+use Rattle.s3_types.specs.Store.{Upload as Live}
+use Rattle.s3_types.specs.declared.reply.PageEntry.TheVariants.{Object as Listed}
 
 -- ---- requests
 

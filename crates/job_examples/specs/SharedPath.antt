@@ -1,16 +1,15 @@
 -- The run of two tasks that both write the file `p`: the job's commit finds that they share it, and shows nothing.
-use Rattle.std.specs.Prelude.{◌≡◌, ℕ, List, [], ◌∷◌, ◌++◌, length, true, false, Some, None, codes}
-use Rattle.job_spec.specs.Prelude.{moment, Actor, Driver, Attempt, Magic, Append, Entry, first_worn, Script, Do, EventEnd, Ended, view, commit_due, Seen, seen, commit_event, verdict, by_actor, since}
-use Rattle.job_protocol.specs.Prelude.{Pending, PendingSet}
-use Rattle.job_model.specs.declared.events.Op.TheVariants.{Setup, Write, Commit}
+use Rattle.std.specs.Prelude.{List, None, Some, [], codes, false, length, true, ℕ, ◌++◌, ◌∷◌, ◌≡◌}
+use Rattle.job_protocol.specs.Prelude.{Actor, Append, Attempt, Do, Driver, Ended, Entry, EventEnd, Magic, Pending, PendingSet, Script, Seen, moment, seen, upload_at, view}
+use Rattle.job_spec.specs.Prelude.{by_actor, commit_due, commit_event, first_worn, since, verdict}
+use Rattle.job_model.specs.declared.events.Op.TheVariants.{Commit, Setup, Write}
+use Rattle.job_examples.specs.Jobs.{attempt, commits_at, directory, done_task, job, lake, worker}
+use Rattle.job_examples.specs.OneFile.{opening, setup_entries}
+use Rattle.job_examples.specs.Runs.{Goes, Keeps, commits_task, held, hello, reads_set, set_of, upload, writes}
 use Rattle.job_model.specs.declared.ends.SetupEnd.TheVariants as setups
 use Rattle.job_model.specs.declared.ends.TaskEnd.TheVariants as tasks
 use Rattle.job_model.specs.declared.ends.CommitEnd.TheVariants as commits
 use Rattle.job_model.specs.declared.ends.OpEnd.TheVariants as ends
-use Rattle.job_spec.specs.Scope.{upload_at}
-use Rattle.job_examples.specs.Jobs.{lake, job, attempt, worker, directory, done_task, commits_at}
-use Rattle.job_examples.specs.OneFile.{opening, setup_entries}
-use Rattle.job_examples.specs.Runs.{hello, upload, set_of, held, writes, reads_set, commits_task, Goes, Keeps}
 
 -- the other attempt
 abbrev pub other : Actor

@@ -2,7 +2,6 @@
 use Rattle.std.specs.Prelude.{◌≡◌, ℕ, false, List, [], ◌∷◌, length, Some, None, codes}
 use Rattle.job_spec.specs.Prelude.{moment, Content, Object, Driver, HeadObject, DeleteObject, ListPage, Deleted, Page, Refused, NoSuchKey, Partitioned, Fail, Entry, first_worn, Script, Abort, Do, EventEnd, Ended, view, commit_due, Same, Seen, seen, commit_event, verdict, by_actor, since}
 use Rattle.std.specs.FinMap as fin
-use Rattle.s3_types.specs.declared.reply.PageEntry.TheVariants.{Object as Listed}
 use Rattle.job_model.specs.declared.events.Op.TheVariants.{Setup, Write, Commit}
 use Rattle.job_model.specs.declared.ends.SetupEnd.TheVariants as setups
 use Rattle.job_model.specs.declared.ends.TaskEnd.TheVariants as tasks
@@ -10,6 +9,7 @@ use Rattle.job_model.specs.declared.ends.CommitEnd.TheVariants as commits
 use Rattle.job_model.specs.declared.ends.OpEnd.TheVariants as ends
 use Rattle.job_examples.specs.Jobs.{lake, job, attempt, worker, said, commits_at}
 use Rattle.job_examples.specs.Runs.{Goes, Keeps}
+use Rattle.s3_types.specs.declared.reply.PageEntry.TheVariants.{Object as Listed}
 
 -- the job's script
 abbrev pub script : Script

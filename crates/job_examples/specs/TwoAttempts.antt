@@ -4,7 +4,6 @@ use Rattle.job_protocol.specs.Prelude.{compact_text, Pending, success_tree, Pend
 use Rattle.job_spec.specs.Prelude.{moment, Driver, DeleteObjects, CompleteUpload, AbortUpload, ListUploads, Deleted, Completed, Aborted, Magic, Append, Entry, first_worn, Script, Event, Do, Pick, EventEnd, Ended, view, commit_due, all_picks, NothingLeft, seen, commit_event, verdict, by_actor, since, until}
 use Rattle.s3_types.specs.Tags.{joined_tag}
 use Rattle.s3_types.specs.declared.reply.Reply.TheVariants.{Uploads}
-use Rattle.s3_types.specs.declared.reply.PageEntry.TheVariants.{Object as Listed}
 use Rattle.job_model.specs.declared.events.Op.TheVariants.{Setup, Write, Commit, Clean}
 use Rattle.job_model.specs.declared.ends.SetupEnd.TheVariants as setups
 use Rattle.job_model.specs.declared.ends.TaskEnd.TheVariants as tasks
@@ -15,6 +14,7 @@ use Rattle.job_protocol.specs.View.{object_at}
 use Rattle.job_examples.specs.Jobs.{lake, job, attempt, worker, other, said, directory, set_key, done_task, commits_at}
 use Rattle.job_examples.specs.OneFile.{opening, setup_entries}
 use Rattle.job_examples.specs.Runs.{Text, hello, upload, set_of, writes, lists, puts, reads_set, commits_task, Goes, Keeps}
+use Rattle.s3_types.specs.declared.reply.PageEntry.TheVariants.{Object as Listed}
 
 -- the text `world`
 abbrev pub world : Text

@@ -3,8 +3,6 @@ use Rattle.std.specs.Prelude.{◌≡◌, ℕ, ◌+◌, ◌||◌, not, nat_le, Bo
 use Rattle.job_protocol.specs.Prelude.{compact_text, set_tree, success_tree, PendingSet}
 use Rattle.job_spec.specs.Prelude.{IsHonest, moment, Object, Driver, PutObject, GetObject, HeadObject, DeleteObject, DeleteObjects, ListPage, AbortUpload, Stored, Deleted, Page, Refused, NoSuchKey, NoSuchUpload, Magic, Append, Entry, first_worn, Script, Event, Do, EventEnd, Ended, ZeroRename, commit_due, in_eyes, OpFollows, Seen, seen, verdict, until, since, by_actor}
 use Rattle.s3_types.specs.Tags.{plain_tag}
-use Rattle.s3_types.specs.declared.reply.Reply.TheVariants.{Object as Read}
-use Rattle.s3_types.specs.declared.reply.PageEntry.TheVariants.{Object as Listed}
 use Rattle.job_model.specs.declared.events.Op.TheVariants as ops
 use Rattle.job_model.specs.declared.ends.CommitEnd.TheVariants as commits
 use Rattle.job_model.specs.declared.ends.CleanEnd.TheVariants as cleans
@@ -15,6 +13,8 @@ use Rattle.job_examples.specs.OneFile.{opening}
 use Rattle.job_examples.specs.Runs.{hello, writes}
 use Rattle.job_examples.specs.FourFiles.{of_file}
 use Rattle.job_examples.specs.FourFileLanes.{out, completes, record_bytes, Shows, hellos, Goes, Prepared}
+use Rattle.s3_types.specs.declared.reply.Reply.TheVariants.{Object as Read}
+use Rattle.s3_types.specs.declared.reply.PageEntry.TheVariants.{Object as Listed}
 
 -- ---- the jobs
 

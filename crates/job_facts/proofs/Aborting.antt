@@ -1,5 +1,5 @@
 -- An attempt's abort of its task keeps the facts with each of its requests, whatever becomes of it, and goes on as it should.
-use Rattle.job_facts.proofs.Common.{AllOwn, Bool, Committer, Deleting, Drawn, Dropping, FitsAbort, Hold, IsAttempt, IsHonestOutcome, IsIn, IsLegal, Known, List, Listing, Magic, Outcome, Reply, Request, Retried, Script, Seen, Some, TaskAbort, TaskAbortOver, TaskEnd, Times, Told, Who, [], all_go, answer, arith, as_made, attempt_prefix, begins, deleting, drop, dropping, false, false_true, filter, in_append, in_filter, inl, inr, known, learn, refl, step, subst, suc, sym, take, task_abort_after, task_abort_asks, task_abort_by, task_abort_hears, task_abort_start, true, walked_by, zero, ℕ, ◌∷◌, ◌≡◌}
+use Rattle.job_facts.proofs.Common.{AllOwn, Bool, Committer, Deleting, Drawn, Dropping, FitsAbort, Hold, IsAttempt, IsHonestOutcome, IsIn, IsLegal, Known, List, Listing, Outcome, Reply, Request, Retried, Script, Seen, Some, TaskAbort, TaskAbortOver, TaskEnd, Times, Told, Who, [], all_go, answer, arith, as_made, attempt_prefix, begins, deleting, drop, dropping, false, false_true, filter, in_append, in_filter, inl, inr, known, learn, refl, step, subst, suc, sym, take, task_abort_after, task_abort_asks, task_abort_by, task_abort_hears, task_abort_start, true, walked_by, zero, ℕ, ◌∷◌, ◌≡◌}
 use Rattle.job_model.specs.declared.ends.TaskEnd.TheVariants as tasks
 use Rattle.list_walk.specs.Walks.{swept}
 use Rattle.job_protocol.specs.TaskAborts.{Sweeping, Removing, removing, sweeping}

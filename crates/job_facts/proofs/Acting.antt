@@ -1,5 +1,5 @@
 -- Every operation of an attempt keeps the facts with each of its requests, and goes on as it should; and it names only what is its own.
-use Rattle.job_facts.proofs.Common.{AllSent, AllWritten, Answered, AreCommits, Begun, Bool, Checking, ClusterRename, Committer, Creating, Drawn, File, Fits, FitsAbort, FitsCommit, FitsUpload, FitsWrite, Goes, GoesOn, Hold, IsAttempt, IsGone, IsHonestOutcome, IsLegal, IsOpen, IsOwnPlace, Known, List, Looking, Magic, MarkerPlace, NoSuchFile, NoSuchKey, None, Operation, Option, Outcome, Page, Place, Publishing, PutObject, Reading, RecordPlace, Recording, Refused, Renaming, Reply, Request, Retried, RisesFrom, Script, Seen, Sending, SetPlace, Setting, Some, Storing, TaskCommit, TaskCommitOver, TheTaskAbort, TheTaskCommit, TheWrite, Times, Todo, Told, Uploaded, Uploading, Uploads, Who, Write, WriteOver, Wrote, [], answer, ap, arith, asks, attempt_prefix, checked, checking, entry, false, false≢true, files, first_drawn, in_order, inl, is_magic, is_staging, joins, key_at, keys_on, known, last_of, learn, least_missing, length, listed, looked, looked_at, map, map_in, or-false, or-true, page_rises, read_record, reading, record_key, record_text, refl, renamed, step, storing, subst, sym, take, task_abort_after, task_commit_after, task_commit_asks, task_commit_hears, tell, tell_attempt, tells, temporary_path, true, undoes, upload_asks, upload_hears, uploaded, walked_by, write_after, write_asks, write_hears, writing, ℕ, ◌++◌, ◌||◌, ◌∙◌, ◌∷◌, ◌≡◌, ◌⊎◌}
+use Rattle.job_facts.proofs.Common.{AllSent, AllWritten, Answered, AreCommits, Bool, Checking, ClusterRename, Drawn, File, Fits, FitsAbort, FitsCommit, FitsUpload, FitsWrite, Goes, GoesOn, Hold, IsAttempt, IsGone, IsHonestOutcome, IsLegal, IsOpen, IsOwnPlace, Known, List, Looking, MarkerPlace, None, Operation, Option, Outcome, Page, Place, Publishing, PutObject, Reading, RecordPlace, Recording, Renaming, Reply, Request, Retried, RisesFrom, Script, Seen, SetPlace, Setting, Some, Storing, TaskCommit, TaskCommitOver, TheTaskAbort, TheTaskCommit, TheWrite, Times, Todo, Told, Uploaded, Uploading, Uploads, Who, Write, WriteOver, [], answer, ap, arith, asks, attempt_prefix, checked, checking, entry, false, files, first_drawn, in_order, inl, is_magic, is_staging, joins, key_at, keys_on, known, last_of, learn, least_missing, length, listed, looked, looked_at, map, map_in, or-false, or-true, page_rises, read_record, reading, record_key, record_text, refl, renamed, step, storing, subst, sym, take, task_abort_after, task_commit_after, task_commit_asks, task_commit_hears, tell, tell_attempt, tells, temporary_path, true, undoes, upload_asks, upload_hears, uploaded, walked_by, write_after, write_asks, write_hears, writing, ℕ, ◌++◌, ◌||◌, ◌∙◌, ◌∷◌, ◌≡◌, ◌⊎◌}
 use Rattle.job_facts.proofs.Whose.{who_here}
 use Rattle.job_facts.proofs.Going.{known_now, Each, step_asked, unlearnt}
 use Rattle.job_facts.proofs.Aborting.{abort_goes}

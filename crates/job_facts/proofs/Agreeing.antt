@@ -1,13 +1,14 @@
 -- The picks that are seen are those of the sets that the driver holds, as its commit goes on.
 use Rattle.job_facts.proofs.Common.{Bool, List, None, Option, Some, [], ap, arith, begins_behind, codes, false, false_true, in_map, inl, inr, length, map_in, not, not-false, or-true, refl, shared_found, subst, suc, sym, true, true_or_false, zero, ℕ, ◌&&◌, ◌++◌, ◌<◌, ◌||◌, ◌∙◌, ◌∷◌, ◌≡◌, ◌≤◌}
-use Rattle.job_facts.specs.Prelude.{is_some, Scene, Request, Reply, Outcome, Answered, Committer, Directory, Partitioned, Mode, Replace, begins, below, dest_prefix, partition_prefix, sweep_hears, Pending, IsLegal, Script, Picks, files, wanted_paths, wanted_at, same_path, picked_below, is_decided, keeps, keeps_of, partitions, again, follow, dealt, revert, Sets, all_commits, picks_of, Commit, Fetching, Replacing, Completing, Marking, Reverting, CommitOver, commit_hears, commit_tells, commit_start, is_no_magic, replaced, fetching, reverting, Tabled, is_untouched, IsIn, changed_keys, Told, Facts, Reads, FitsJobCommit, AreDecided, Decides}
-use Rattle.magic_paths.proofs.Tails.{below_is as paths_below}
+use Rattle.job_protocol.specs.JobCommits.{is_untouched}
+use Rattle.job_facts.specs.Prelude.{is_some, Scene, Request, Reply, Outcome, Answered, Committer, Directory, Partitioned, Mode, Replace, begins, below, dest_prefix, partition_prefix, sweep_hears, Pending, IsLegal, Script, Picks, files, wanted_paths, wanted_at, same_path, picked_below, is_decided, keeps, keeps_of, partitions, again, follow, revert, Sets, all_commits, picks_of, Commit, Fetching, Replacing, Completing, Marking, Reverting, CommitOver, commit_hears, commit_tells, commit_start, is_no_magic, replaced, fetching, reverting, Tabled, IsIn, changed_keys, Told, Facts, Reads, FitsJobCommit, AreDecided, Decides}
 use Rattle.job_facts.proofs.Legal.{some_dest}
 use Rattle.job_facts.proofs.JobCommitting.{dest_below}
 use Rattle.job_protocol.specs.Conflicts.{is_below_any}
 use Rattle.job_facts.proofs.Whose.{attempt}
 use Rattle.job_facts.proofs.Held.{of_sets, task_low, revert_each, missed, worn, tells_so, Course, fetching_so, swept_so, completing_so}
 use Rattle.job_facts.proofs.Wanted.{wanted_here, still_apart}
+use Rattle.magic_paths.proofs.Tails.{below_is as paths_below}
 
 -- ---- what a replace mode deletes is what it does not keep
 

@@ -1,7 +1,6 @@
 -- Operations as they begin; and what an attempt sends leaves the driver's commit as it is.
-use Rattle.job_facts.proofs.Common.{AreCommits, Bool, ClusterRename, Commit, CommitOver, Committer, Completing, Drawn, Fetching, Fits, FitsCommit, FitsJobCommit, FitsWrite, IsHeldSet, IsIn, IsLegal, IsOpen, Known, List, Magic, None, Operation, Option, Outcome, PendingSet, PutObject, Replacing, Request, Reverting, Script, Setting, Some, Todo, Told, Who, WriteOver, Wrote, [], ap, arith, asks, commit_start, false_true, files, files_set, inl, inr, is_magic, is_set_key, is_staging, knowing, known, learn, none_some, refl, subst, sym, task_commit_start, task_commit_start_by, tell_attempt, to_check, true, write_start, write_start_by, ℕ, ◌||◌, ◌∙◌, ◌≡◌}
+use Rattle.job_facts.proofs.Common.{AreCommits, Bool, Commit, Committer, Drawn, Fits, FitsCommit, FitsJobCommit, FitsWrite, IsHeldSet, IsIn, IsLegal, IsOpen, Known, List, Magic, None, Operation, Option, Outcome, PendingSet, Request, Script, Setting, Some, Todo, Told, Who, WriteOver, Wrote, [], ap, arith, asks, commit_start, false_true, files, files_set, inl, inr, is_magic, is_staging, knowing, known, learn, none_some, refl, subst, sym, task_commit_start, task_commit_start_by, tell_attempt, to_check, true, write_start, write_start_by, ℕ, ◌∙◌, ◌≡◌}
 use Rattle.job_model.specs.declared.ends.TaskEnd.TheVariants as tasks
-use Rattle.job_protocol.specs.JobCommits.{Marking as MarkingJob}
 use Rattle.job_facts.proofs.Whose.{same_or_another, who_here, who_other}
 use Rattle.job_facts.proofs.Legal.{files_apart}
 use Rattle.job_facts.proofs.JobCommitting.{fits_course}

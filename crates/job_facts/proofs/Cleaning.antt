@@ -1,5 +1,5 @@
 -- The driver's abort or clean of the job keeps the facts with each of its requests, goes on as it should, and no reader of the destination sees it.
-use Rattle.job_facts.proofs.Common.{Aborting, AllBelow, AllCluster, AllMagic, Bool, Clean, CleanOver, Committer, Deleting, FitsClean, Hold, IsHonestOutcome, IsIn, IsLegal, List, Listing, Magic, Naming, None, Outcome, Removing, Reply, Request, Retried, Same, Script, Seen, Some, Times, Told, UploadRef, Walking, [], aborting, all_go, answer, ap, arith, begins, clean_after, clean_asks, clean_hears, cluster_prefix, deleting, dest_prefix, driver_entry, drop, effect, false, filter, in_append, in_filter, inl, inr, is_begun, last_ref, magic_prefix, naming, only_reads, or-true, refl, removing, see, some_is, step, subst, sweeping, sym, take, tell, true, view, walked_by, walking, ℕ, ◌++◌, ◌||◌, ◌∙◌, ◌∷◌, ◌≡◌}
+use Rattle.job_facts.proofs.Common.{Aborting, AllBelow, AllCluster, AllMagic, Bool, Clean, CleanOver, Committer, Deleting, FitsClean, Hold, IsHonestOutcome, IsIn, IsLegal, List, Listing, Naming, None, Outcome, Removing, Reply, Request, Retried, Same, Script, Seen, Some, Times, Told, UploadRef, Walking, [], aborting, all_go, answer, ap, arith, begins, clean_after, clean_asks, clean_hears, cluster_prefix, deleting, dest_prefix, driver_entry, drop, effect, false, filter, in_append, in_filter, inl, inr, is_begun, last_ref, magic_prefix, naming, only_reads, or-true, refl, removing, see, some_is, step, subst, sweeping, sym, take, tell, true, view, walked_by, walking, ℕ, ◌++◌, ◌||◌, ◌∙◌, ◌∷◌, ◌≡◌}
 use Rattle.job_model.specs.Prelude.{Uploads}
 use Rattle.std.specs.FinMap as fin
 use Rattle.s3_types.specs.Multipart as multipart

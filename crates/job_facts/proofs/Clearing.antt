@@ -1,5 +1,5 @@
 -- The driver's abort or clean of the job leaves nothing of it, where nobody else sends.
-use Rattle.job_facts.proofs.Common.{AbortUpload, Aborting, Bool, Clean, CleanOver, Clears, ClusterDelete, ClusterList, Committer, Content, Deleting, HasBucket, IsHonestOutcome, IsIn, List, Listing, Magic, Naming, None, NoneLive, NothingLeft, OnlyThese, Option, Outcome, Removing, Reply, ReplyLost, Request, Retried, Scene, Script, Some, Sweep, Upload, UploadRef, Walking, [], aborting, all_go, answer, ap, apply, arith, at_id, begins, clean_after, clean_asks, clean_hears, cluster_prefix, cond, dest_prefix, effect, end_left, false, false_true, filter, filter_in, in_back, in_front, inl, inr, is_magic, is_staging, last_ref, length, magic_prefix, map_in, naming, nat_lt, none_some, only_reads, reads_nothing, ref_at, refl, refs_append, removing, same_or_not, some_is, step, subst, sweep_asks, sweep_hears, sweeping, sym, take, text_cmp, text_eq, text_exact, text_gone, text_true, true, true_or_false, uploads_after, walked_by, walked_uploads, walking, ℕ, ◌++◌, ◌∙◌, ◌∷◌, ◌≡◌}
+use Rattle.job_facts.proofs.Common.{AbortUpload, Aborting, Bool, Clean, CleanOver, Clears, ClusterDelete, ClusterList, Committer, Content, Deleting, HasBucket, IsHonestOutcome, IsIn, List, Listing, Magic, Naming, None, NoneLive, NothingLeft, Option, Outcome, Removing, Reply, ReplyLost, Request, Retried, Scene, Script, Some, Sweep, Upload, UploadRef, Walking, [], aborting, all_go, answer, ap, apply, arith, at_id, begins, clean_after, clean_asks, clean_hears, cluster_prefix, dest_prefix, effect, end_left, false, filter, filter_in, in_back, in_front, inl, inr, is_magic, is_staging, last_ref, length, magic_prefix, map_in, naming, nat_lt, none_some, only_reads, reads_nothing, ref_at, refl, refs_append, removing, same_or_not, step, subst, sweep_asks, sweep_hears, sweeping, sym, take, text_cmp, text_exact, text_gone, text_true, true, true_or_false, uploads_after, walked_by, walked_uploads, walking, ℕ, ◌++◌, ◌∙◌, ◌∷◌, ◌≡◌}
 use Rattle.std.specs.FinMap as fin
 use Rattle.s3_types.specs.Multipart as multipart
 use Rattle.job_protocol.specs.Cleanups.{Sweeping}

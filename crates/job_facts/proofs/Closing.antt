@@ -1,6 +1,6 @@
 -- Until it cleans up, the driver ends only uploads of attempts that have sent their publishing requests.
-use Rattle.job_facts.proofs.Common.{Bool, Closed, Commit, CommitOver, Completing, Drawn, EndsSent, Facts, Fetching, Fits, FitsJobCommit, Hold, IsIn, IsLegal, IsSent, List, Marking, None, Operation, Option, Outcome, Pending, Reads, Replacing, Reply, Request, Reverting, Reverts, Scene, Script, Seen, Sets, Setting, Some, Tabled, Told, Who, [], again, all_commits, and_parts, ap, arith, asks, at_event, commit_asks, commit_hears, commit_start, commit_tells, dealt, ends, eq_nat, false, false_true, follow, inl, inr, is_begun, is_effective, is_no_magic, known, length, nat_eq, nth, or-true, or_parts, refl, revert, reverting, set_read, set_request, some_is, subst, sweep_asks, sweep_hears, sym, tell_attempt, tell_driver, true, true_or_false, ℕ, ◌&&◌, ◌++◌, ◌||◌, ◌∙◌, ◌∷◌, ◌≡◌}
-use Rattle.job_facts.proofs.Held.{nth_of, of_sets, revert_each, missed, worn, tells_so, Course, fetching_so, swept_so, fetched_so, completing_so}
+use Rattle.job_facts.proofs.Common.{Bool, Closed, Commit, CommitOver, Completing, Drawn, EndsSent, Facts, Fetching, Fits, FitsJobCommit, Hold, IsIn, IsLegal, IsSent, List, Marking, Operation, Option, Outcome, Pending, Reads, Replacing, Reply, Request, Reverting, Reverts, Scene, Script, Seen, Sets, Setting, Some, Tabled, Told, Who, [], all_commits, and_parts, ap, arith, asks, at_event, commit_asks, commit_hears, commit_start, commit_tells, dealt, ends, eq_nat, false, false_true, follow, inl, inr, is_begun, is_effective, is_no_magic, known, length, nat_eq, nth, or-true, or_parts, refl, revert, reverting, set_read, set_request, some_is, subst, sweep_asks, sweep_hears, sym, tell_attempt, tell_driver, true, true_or_false, ℕ, ◌&&◌, ◌++◌, ◌||◌, ◌∙◌, ◌∷◌, ◌≡◌}
+use Rattle.job_facts.proofs.Held.{nth_of, of_sets, revert_each, missed, worn, tells_so, Course, swept_so, fetched_so, completing_so}
 use Rattle.job_facts.proofs.Beside.{still_sent, still_known}
 use Rattle.job_facts.proofs.Foreign.{set_reads, reads_name}
 use Rattle.job_facts.proofs.Turning.{sweep_none}

@@ -1,5 +1,5 @@
 -- The driver's commit has decided as it goes on with its sets, and a revert names their uploads alone.
-use Rattle.job_facts.proofs.Common.{AreDecided, AreReverts, Bool, Commit, Completing, Decides, Drawn, Facts, Fetching, FitsJobCommit, IsLegal, List, None, Option, Outcome, Replacing, Reply, Request, Reverting, Scene, Script, Some, Tabled, Told, Who, [], again, all_commits, arith, commit_hears, commit_start, commit_tells, dealt, follow, inl, inr, is_no_magic, length, length-append, refl, revert, reverting, set_read, sweep_hears, ℕ, ◌++◌, ◌+◌, ◌∷◌, ◌≡◌, ◌≤◌}
+use Rattle.job_facts.proofs.Common.{AreDecided, AreReverts, Bool, Commit, Completing, Decides, Drawn, Facts, Fetching, FitsJobCommit, IsLegal, List, None, Option, Outcome, Replacing, Reply, Request, Reverting, Scene, Script, Some, Tabled, Told, Who, [], all_commits, arith, commit_hears, commit_start, commit_tells, follow, inl, inr, is_no_magic, length, length-append, refl, revert, reverting, set_read, sweep_hears, ℕ, ◌++◌, ◌+◌, ◌∷◌, ◌≡◌, ◌≤◌}
 use Rattle.job_facts.proofs.Held.{of_sets, revert_each, missed, worn, tells_so, Course, fetching_so, fetched_so, swept_so, completing_so}
 
 module _ (w : Script) (minimum : ℕ) (sent : Who → Bool) (drawn : Who → List Drawn) where

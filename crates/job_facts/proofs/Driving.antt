@@ -1,7 +1,7 @@
 -- The driver's requests keep the facts: those of a commit, and those of an abort or clean of the job.
-use Rattle.job_facts.proofs.Common.{AbortUpload, AllMagic, Answered, Bool, ClusterDelete, DeleteObjects, Facts, Hold, IsDriving, IsIn, IsLegal, List, Option, Outcome, Request, Scene, Script, Seen, Times, Told, UploadRef, ap, apply, arith, at_event, begins, dest_prefix, driver_entry, effect, ends, false_true, nat_true, none_some, only_reads, or_parts, see, some_is, subst, sym, tell, tell_driver, true, ℕ, ◌&&◌, ◌∙◌, ◌≡◌}
+use Rattle.job_facts.proofs.Common.{AbortUpload, AllMagic, Answered, Bool, ClusterDelete, DeleteObjects, Facts, Hold, IsDriving, IsLegal, List, Option, Outcome, Request, Scene, Script, Seen, Times, Told, UploadRef, ap, apply, arith, at_event, begins, dest_prefix, driver_entry, effect, ends, false_true, nat_true, only_reads, or_parts, see, some_is, sym, tell, tell_driver, true, ℕ, ◌&&◌, ◌∙◌, ◌≡◌}
 use Rattle.job_facts.proofs.Keep.{Drops, facts_so, owned_by, leaves_keep, drops_keep}
-use Rattle.job_facts.proofs.Foreign.{stood, reads_name, frame_leaves}
+use Rattle.job_facts.proofs.Foreign.{stood, frame_leaves}
 use Rattle.job_facts.proofs.Staged.{remove_drops}
 use Rattle.job_facts.proofs.Undone.{deletes_drop}
 use Rattle.job_facts.proofs.Going.{effect_by}

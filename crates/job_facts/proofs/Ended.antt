@@ -1,5 +1,5 @@
 -- A live upload keeps its key, and one that is gone never comes back; a completion that is due puts the file, and leaves its upload gone.
-use Rattle.job_facts.proofs.Common.{AbortUpload, Bool, BucketContent, CompleteUpload, Content, Err, HasBucket, List, NamedPart, None, Ok, Option, Refusal, Request, Result, Scene, Script, Some, Upload, UploadPart, ap, apply, apply_store, arith, at_id, at_key, bucket_of, completed, cond, end_left, false, frame, inl, inr, is_part_number, joined, live, nat_gone, nat_left, none_or_some, none_some, part_left, refl, same_or_not, same_or_other, some_is, subst, sym, text_eq, text_here, true, with_key, with_part, ℕ, ◌&&◌, ◌<◌, ◌∙◌, ◌≡◌, ◌⊎◌}
+use Rattle.job_facts.proofs.Common.{AbortUpload, BucketContent, CompleteUpload, Content, Err, HasBucket, List, NamedPart, None, Ok, Option, Refusal, Request, Result, Scene, Script, Some, Upload, UploadPart, ap, apply, apply_store, arith, at_id, at_key, bucket_of, completed, cond, end_left, false, frame, inl, inr, is_part_number, joined, live, nat_gone, nat_left, none_or_some, none_some, part_left, refl, same_or_not, same_or_other, some_is, subst, sym, text_eq, text_here, true, with_key, with_part, ℕ, ◌&&◌, ◌<◌, ◌∙◌, ◌≡◌, ◌⊎◌}
 use Rattle.std.specs.FinMap as fin
 use Rattle.job_facts.proofs.Shapes.{key_before, key_after, id_before, id_after, store_is, part_turns, abort_turns}
 

@@ -1,5 +1,5 @@
 -- Each upload that the driver has ended is gone; what stands where files go after each entry of its commit.
-use Rattle.job_facts.proofs.Common.{Bool, Commit, CommitOver, Completing, Decides, Facts, Fetching, FitsJobCommit, Gone, HasBucket, IsCommit, IsLegal, Marking, None, Option, Outcome, Pending, Replacing, Request, RequestLost, Reverting, Scene, Script, Slow, Some, Tabled, Told, abort, all_commits, and_parts, ap, apply, arith, at_id, commit_asks, completion, deletion, effect, ends, eq_nat, false, false_true, false≢true, frame, inl, inr, is_effective, length, nothing_told, nth, refl, set_request, some_is, subst, sym, tell_driver, true, true_or_false, ℕ, ◌&&◌, ◌<◌, ◌||◌, ◌∙◌, ◌≡◌, ◌≤◌, ◌⊎◌}
+use Rattle.job_facts.proofs.Common.{Bool, Commit, CommitOver, Completing, Decides, Facts, Fetching, FitsJobCommit, Gone, HasBucket, IsCommit, IsLegal, Marking, None, Option, Outcome, Pending, Replacing, Request, Reverting, Scene, Script, Some, Tabled, Told, abort, all_commits, and_parts, ap, apply, arith, at_id, commit_asks, completion, deletion, effect, ends, eq_nat, false, false_true, false≢true, frame, inl, inr, is_effective, length, nothing_told, nth, refl, set_request, some_is, subst, sym, tell_driver, true, true_or_false, ℕ, ◌&&◌, ◌<◌, ◌||◌, ◌∙◌, ◌≡◌, ◌≤◌, ◌⊎◌}
 use Rattle.job_facts.proofs.Held.{nth_of, of_sets}
 use Rattle.job_facts.proofs.Ended.{gone_stays}
 use Rattle.job_facts.proofs.Effects.{upload_low, completion_ends, abort_ends}

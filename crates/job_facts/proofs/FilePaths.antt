@@ -1,6 +1,6 @@
 -- The paths of the job's files are such as a reader of the destination is shown.
-use Rattle.job_facts.proofs.Common.{Bool, File, IsGiven, IsIn, IsLegal, LeadsTo, List, MarkerPlace, MarkersLead, Script, Who, [], after_first, and_parts, ap, append_assoc, arith, attempt_key, below, below_is, codes, decimal, decimal_nonempty, decimal_without, drop, false, false_true, false≢true, files, id_bytes, if◌then◌else◌, inl, inr, is_file_path, is_folder, is_full, is_job_id, is_open, is_other, is_reserved, length, list_all, list_all-append, list_any, lt-ltb, nat_eq, nat_tests, not-true, not_so, one_part, or_parts, parts_append, path_of, refl, sym, tail_is, true, true_or_false, unique_parts, with_id, with_id_last, ℕ, ◌++◌, ◌-◌, ◌<◌, ◌==◌, ◌^◌, ◌∙◌, ◌∷◌, ◌≡◌, ◌≤◌}
-use Rattle.words.specs.Parts.{parts_from, parts_of}
+use Rattle.job_facts.proofs.Common.{Bool, File, IsGiven, IsIn, IsLegal, LeadsTo, List, MarkerPlace, MarkersLead, Script, Who, [], and_parts, ap, append_assoc, arith, attempt_key, below, below_is, codes, decimal, decimal_nonempty, decimal_without, false, false_true, false≢true, files, id_bytes, inl, inr, is_file_path, is_folder, is_full, is_job_id, is_open, is_other, is_reserved, length, list_all, list_all-append, list_any, lt-ltb, nat_eq, nat_tests, not-true, not_so, one_part, or_parts, parts_append, path_of, refl, sym, tail_is, true, true_or_false, unique_parts, with_id, with_id_last, ℕ, ◌++◌, ◌-◌, ◌<◌, ◌==◌, ◌^◌, ◌∙◌, ◌∷◌, ◌≡◌, ◌≤◌, if◌then◌else◌}
+use Rattle.basics.specs.Parts.{parts_from, parts_of}
 use Rattle.job_facts.proofs.Legal.{from_script, given_of, some_dest, is_attempt, small_attempt}
 use Rattle.job_facts.proofs.JobCommitting.{file_open}
 use Rattle.magic_paths.specs.Finals.{is_word, has_magic, after_magic, kept}

@@ -1,5 +1,5 @@
 -- What stands where the files of the sets go, while the driver's commit completes their uploads and where it reverts.
-use Rattle.job_facts.proofs.Common.{Answered, AreDecided, Bool, Commit, CommitOver, Completing, DeleteObject, Entry, Facts, Fetching, FileStands, FitsJobCommit, Gone, In, IsBefore, IsCommit, IsIn, IsLegal, IsWorn, List, Marking, None, NoneEnded, Object, Option, Outcome, Pending, PendingSet, Reads, Replacing, Reply, ReplyLost, Request, RequestLost, Reverting, Scene, Script, Sets, Slow, Some, Sweep, Table, Tabled, Told, Turn, Turned, Wants, [], abort, above_zero, again, all_commits, and-false, ap, apply, arith, at_key, below, changed_upload, commit_misses, commit_tells, completing, completion, cond, dealt, deletes, deletion, driver_entry, effect, false, false_true, files, follow, in_append, inl, inr, is_effective, is_no_magic, length, ltb-false, nat_false, nat_lt, nat_true, none_or_some, none_some, nth, option_map, or-false, or-true, picks_of, refl, revert, reverting, same_or_not, same_or_other, same_path, same_self, set_read, shared_found, slice_get, some_is, streak, subst, sweep_hears, sym, tell_driver, true, true_or_false, wanted_at, was_answered, whole_of, worn_completion, ℕ, ◌&&◌, ◌++◌, ◌+◌, ◌<◌, ◌||◌, ◌∙◌, ◌∷◌, ◌≡◌, ◌≤◌, ◌⊎◌}
+use Rattle.job_facts.proofs.Common.{Answered, AreDecided, Bool, Commit, CommitOver, Completing, DeleteObject, Entry, Facts, Fetching, FileStands, FitsJobCommit, Gone, In, IsBefore, IsCommit, IsIn, IsLegal, IsWorn, List, Marking, None, NoneEnded, Object, Option, Outcome, Pending, PendingSet, Reads, Replacing, Reply, ReplyLost, Request, RequestLost, Reverting, Scene, Script, Sets, Slow, Some, Sweep, Table, Tabled, Told, Turn, Turned, Wants, [], abort, above_zero, again, all_commits, and-false, ap, apply, arith, at_key, below, changed_upload, commit_misses, commit_tells, completing, completion, cond, dealt, deletes, deletion, driver_entry, effect, false, false_true, files, follow, in_append, inl, inr, is_effective, is_no_magic, length, ltb-false, nat_false, nat_lt, nat_true, none_some, nth, or-false, or-true, picks_of, refl, revert, reverting, same_or_not, same_or_other, same_path, same_self, set_read, shared_found, slice_get, some_is, streak, subst, sweep_hears, sym, tell_driver, true, true_or_false, wanted_at, was_answered, whole_of, worn_completion, ℕ, ◌&&◌, ◌++◌, ◌+◌, ◌<◌, ◌||◌, ◌∙◌, ◌∷◌, ◌≡◌, ◌≤◌, ◌⊎◌}
 use Rattle.path_keys.proofs.Common.{below_is}
 use Rattle.retries.proofs.Misses.{streak_same, worn_now, worn_more}
 use Rattle.job_protocol.proofs.Tables.{table_dealt, table_answered, table_again, all_done}

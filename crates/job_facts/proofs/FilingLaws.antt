@@ -1,5 +1,5 @@
 -- What stands where wanted files go, entry by entry: the driver's commit's, and those of others.
-use Rattle.job_facts.proofs.Common.{Commit, CommitOver, Commits, Completing, Decides, DeleteObjects, Deleting, Entry, Fetching, FilePlace, FileStands, Fits, FitsJobCommit, HasBucket, Hold, IsAttempt, IsBefore, IsCommit, IsHonestOutcome, IsIn, IsLegal, IsWorn, List, Listing, Marking, None, NoneEnded, Object, Operation, Option, Outcome, Pending, PutObject, Replacing, Request, Reverting, Scene, Script, Seen, Setting, Some, Sweep, Told, Wants, Who, [], answer, ap, arith, asks, at_key, below, bucket_of, changed_keys, commit_asks, commit_start, commit_tells, deletes, driver_entry, effect, ends, false_true, frame, inl, inr, is_file_path, is_open, key_magic, known, length, mark_text, only_reads, page_after, picks_of, refl, set_request, some_is, subst, success_key, sweep_asks, sym, take, tell_attempt, tell_driver, true, whole_of, ℕ, ◌++◌, ◌^◌, ◌∙◌, ◌∷◌, ◌≡◌, ◌≤◌, ◌⊎◌}
+use Rattle.job_facts.proofs.Common.{Commit, CommitOver, Commits, Completing, Decides, Entry, Fetching, FilePlace, FileStands, Fits, FitsJobCommit, HasBucket, Hold, IsAttempt, IsBefore, IsCommit, IsHonestOutcome, IsIn, IsLegal, IsWorn, List, Marking, None, NoneEnded, Object, Operation, Option, Outcome, Pending, PutObject, Replacing, Request, Reverting, Scene, Script, Seen, Setting, Some, Sweep, Told, Wants, Who, [], answer, ap, arith, asks, at_key, below, bucket_of, changed_keys, commit_asks, commit_start, commit_tells, deletes, driver_entry, effect, ends, false_true, frame, inl, inr, is_file_path, is_open, key_magic, known, length, mark_text, only_reads, picks_of, refl, set_request, some_is, subst, success_key, sweep_asks, sym, tell_attempt, tell_driver, true, whole_of, ℕ, ◌++◌, ◌^◌, ◌∙◌, ◌∷◌, ◌≡◌, ◌≤◌, ◌⊎◌}
 use Rattle.job_facts.proofs.Legal.{some_dest}
 use Rattle.job_facts.proofs.Beside.{still_sent, still_known, job_commit_begins}
 use Rattle.job_facts.proofs.Owning.{operation_own}

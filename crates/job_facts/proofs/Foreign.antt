@@ -1,5 +1,5 @@
 -- A foreign request leaves the job alone; so does one that changes nothing, and one that begins an upload.
-use Rattle.job_facts.proofs.Common.{Bool, ClusterGet, ClusterList, Committer, Drawn, Facts, GetObject, HasBucket, HeadObject, Hold, IsForeign, IsIn, IsKnown, IsLegal, IsWithin, Known, Leaves, List, ListPage, ListParts, ListUploads, Magic, None, Option, Outcome, Request, RequestLost, Scene, Script, Seen, Slow, Some, Times, Told, Upload, Who, [], apply, arith, at_id, begins, bucket_of, changed_keys, changed_paths, changed_upload, cluster_prefix, ends, false, false_true, frame, is_publishing, learn, magic_prefix, only_reads, reads_nothing, refl, see, sends_data, set_request, strange_entry, subst, sym, tell, true, undoes, ℕ, ◌<◌, ◌≡◌}
+use Rattle.job_facts.proofs.Common.{Bool, Committer, Drawn, Facts, HasBucket, Hold, IsForeign, IsIn, IsKnown, IsLegal, IsWithin, Known, Leaves, List, None, Option, Outcome, Request, RequestLost, Scene, Script, Seen, Slow, Some, Times, Told, Upload, Who, [], apply, arith, at_id, begins, bucket_of, changed_keys, changed_paths, changed_upload, cluster_prefix, ends, false, false_true, frame, is_publishing, learn, magic_prefix, only_reads, reads_nothing, see, sends_data, set_request, strange_entry, subst, sym, tell, true, undoes, ℕ, ◌<◌, ◌≡◌}
 use Rattle.job_facts.proofs.Keep.{leaves_keep}
 
 -- what is known of the scene before

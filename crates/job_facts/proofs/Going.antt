@@ -1,6 +1,5 @@
 -- What an attempt knows after one more of its own requests, and where a request that got no answer leads.
-use Rattle.job_facts.proofs.Common.{Answered, Bool, CreateUpload, Got, IsHonestOutcome, Item, Known, None, Option, Outcome, Reply, ReplyLost, Request, RequestLost, Retried, Scene, Script, Slow, Some, Told, Who, WornOut, apply, arith, effect, false, is_effective, known, learn, refl, step, subst, suc, tell_attempt, true, unanswered_by, zero, ℕ, ◌≡◌}
-use Rattle.job_facts.proofs.Whose.{who_here}
+use Rattle.job_facts.proofs.Common.{Answered, Got, IsHonestOutcome, Item, Known, None, Option, Outcome, Reply, Request, Retried, Scene, Script, Some, Told, Who, WornOut, apply, arith, effect, false, is_effective, known, learn, step, subst, tell_attempt, true, ℕ, ◌≡◌}
 
 module _ (w : Script) (m : Told) (a : Who) (r : Request) (o : Outcome) where
   pub known_now : known (tell_attempt w m a r o) a ≡ learn w a (known m a) r o

@@ -1,5 +1,5 @@
 -- The uploads of the sets that the driver holds: whose they are, and that no two have one upload or, where no two attempts write one path, one destination.
-use Rattle.job_facts.proofs.Common.{Answered, ApartFiles, Bool, Commit, CommitEnd, CommitOver, Completing, Drawn, Facts, Fetching, File, In, IsCommit, IsHeldSet, IsIn, IsLegal, List, Listing, Marking, None, Option, Outcome, Pending, PendingSet, Picks, Reads, Replacing, Reply, Request, Reverting, Scene, Script, Sets, Slow, Some, Sweep, Told, Turn, Who, [], abort, again, all_commits, ap, arith, cases_lt, chosen, commit_hears, commit_misses, commit_tells, completing, cond, dealt, decided, deletion, drawn_for, drawn_in, false, fetched, fetching, file_key, file_record, files, files_picked, in_append, in_back, in_front, in_map, in_turn, inl, inr, is_tried, is_unsent, knowing, length, lt-ltb, ltb-false, map, map_in, nat_eq, nat_lt, nat_true, none_some, nth, option_map, or-true, picks_of, refl, replaced, replacing, revert, reverting, same_path, shared_none, slice_get, some_is, subst, suc, swept, sym, true, undo, worn_completion, writes, zero, ℕ, ◌&&◌, ◌++◌, ◌+◌, ◌<◌, ◌||◌, ◌∙◌, ◌∷◌, ◌≡◌, ◌≤◌, ◌⊎◌}
+use Rattle.job_facts.proofs.Common.{Answered, ApartFiles, Bool, Commit, CommitEnd, CommitOver, Completing, Drawn, Facts, Fetching, File, In, IsCommit, IsHeldSet, IsIn, IsLegal, List, Listing, Marking, None, Option, Outcome, Pending, PendingSet, Picks, Reads, Replacing, Reply, Request, Reverting, Scene, Script, Sets, Some, Sweep, Told, Turn, Who, [], abort, again, all_commits, ap, arith, cases_lt, chosen, commit_hears, commit_misses, commit_tells, completing, cond, dealt, decided, deletion, drawn_for, drawn_in, false, fetched, fetching, file_key, file_record, files, files_picked, in_append, in_back, in_front, in_map, in_turn, inl, inr, is_tried, is_unsent, knowing, length, lt-ltb, ltb-false, map, map_in, nat_eq, nat_lt, nat_true, none_some, nth, option_map, or-true, picks_of, refl, replaced, replacing, revert, reverting, same_path, shared_none, slice_get, some_is, subst, suc, swept, sym, true, undo, worn_completion, writes, zero, ℕ, ◌&&◌, ◌++◌, ◌+◌, ◌<◌, ◌||◌, ◌∙◌, ◌∷◌, ◌≡◌, ◌≤◌, ◌⊎◌}
 use Rattle.job_facts.proofs.Whose.{attempt}
 use Rattle.job_facts.proofs.Legal.{is_attempt, has}
 use Rattle.job_facts.proofs.Placed.{one_key}

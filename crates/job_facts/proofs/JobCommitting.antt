@@ -1,6 +1,5 @@
 -- The driver's commit keeps the facts with each of its requests, holds the sets as it read them, and goes on as it should.
-use Rattle.job_facts.proofs.Common.{AllDriving, AllUnder, Bool, Commit, CommitOver, Committer, Completing, Deleting, Directory, Drawn, Fetching, File, FilePlace, FitsJobCommit, FitsReplace, HasBucket, Hold, IsDriving, IsGiven, IsHeldSet, IsHonestOutcome, IsIn, IsLegal, IsPlaced, List, Listing, Marking, Mode, None, Option, Outcome, Partitioned, Pending, PendingSet, Picks, Reads, Replace, Replacing, Reply, Request, Reverting, Scene, Script, Seen, Sets, Some, SuccessPlace, Sweep, Times, Told, Turn, Who, [], abort, again, all_commits, and_parts, answer, ap, append_assoc, arith, begins, begins_behind, below, codes, commit_asks, commit_hears, commit_tells, completion, dealt, deleting, deletion, dest_prefix, drawn_for, drop, eq_nat, false, false_true, false≢true, file_key, file_record, files, filter, follow, in_append, in_filter, in_map, inl, inr, is_bucket, is_no_magic, is_open, key_magic, knowing, length, magic_prefix, map, nat_eq, nat_true, none_some, not-true, nth, page_after, partition_prefix, partitions, path_of, picks_of, placed_open, refl, replaced, revert, reverting, set_read, set_request, slice_get, some_is, subst, suc, sweep_asks, sweep_hears, sym, true, true_or_false, walked, walked_by, wanted_paths, zero, ℕ, ◌++◌, ◌<◌, ◌^◌, ◌∙◌, ◌∷◌, ◌≡◌, ◌≤◌, ◌⊎◌}
-use Rattle.magic_paths.proofs.Tails.{below_is as paths_below}
+use Rattle.job_facts.proofs.Common.{AllDriving, AllUnder, Bool, Commit, CommitOver, Committer, Completing, Deleting, Directory, Drawn, Fetching, File, FilePlace, FitsJobCommit, FitsReplace, HasBucket, Hold, IsDriving, IsGiven, IsHeldSet, IsHonestOutcome, IsIn, IsLegal, IsPlaced, List, Listing, Marking, Mode, None, Option, Outcome, Partitioned, Pending, PendingSet, Picks, Reads, Replace, Replacing, Reply, Request, Reverting, Scene, Script, Seen, Sets, Some, SuccessPlace, Sweep, Times, Told, Turn, Who, [], abort, again, all_commits, and_parts, answer, ap, append_assoc, arith, begins, begins_behind, below, codes, commit_asks, commit_hears, commit_tells, completion, deleting, deletion, dest_prefix, drawn_for, drop, eq_nat, false, false_true, false≢true, file_key, file_record, files, filter, follow, in_append, in_filter, in_map, inl, inr, is_bucket, is_no_magic, is_open, key_magic, knowing, length, magic_prefix, map, nat_eq, nat_true, none_some, not-true, nth, page_after, partition_prefix, partitions, path_of, placed_open, refl, replaced, revert, reverting, set_read, set_request, slice_get, some_is, subst, suc, sweep_asks, sweep_hears, sym, true, true_or_false, walked_by, wanted_paths, zero, ℕ, ◌++◌, ◌<◌, ◌^◌, ◌∙◌, ◌∷◌, ◌≡◌, ◌≤◌, ◌⊎◌}
 use Rattle.list_walk.specs.Walks as walks
 use Rattle.job_facts.proofs.Legal.{some_dest, from_script, given_of}
 use Rattle.job_facts.proofs.Driving.{reads_drive}
@@ -10,6 +9,7 @@ use Rattle.job_facts.proofs.Shows.{begins_front}
 use Rattle.job_facts.proofs.Foreign.{set_reads}
 use Rattle.job_facts.proofs.Held.{revert_so, missed, worn, tells_so, Course, fetched_so, swept_so, completing_so}
 use Rattle.job_facts.proofs.Shapes.{more_keys, page_is, page_each}
+use Rattle.magic_paths.proofs.Tails.{below_is as paths_below}
 
 -- ---- the uploads that are completed are those of files
 

@@ -4,9 +4,9 @@ use Rattle.std.specs.FinMap as fin
 use Rattle.job_facts.specs.Facts.{Owned, Ids, Records, Sets, Standing, Temporaries, Kept}
 use Rattle.job_facts.proofs.Placed.{not_both, record_place, own_place, record_magic, set_magic, one_place, key_file, path_below, magic_set, set_same, set_stood, set_object}
 use Rattle.job_facts.proofs.Legal.{small_task}
-use Rattle.job_protocol.specs.Knowledge.{with_part as drawn_part}
 use Rattle.job_facts.proofs.Whose.{same_or_another, who_here, who_other}
 use Rattle.job_facts.specs.Told.{with_known}
+use Rattle.job_protocol.specs.Knowledge.{with_part as drawn_part}
 
 -- ---- what stays
 

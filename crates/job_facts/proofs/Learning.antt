@@ -1,10 +1,9 @@
 -- What an attempt learns from an entry of its own: an upload that it has begun, or more parts of one that it knows.
-use Rattle.job_facts.proofs.Common.{Answered, CreateUpload, Drawn, IsHonestOutcome, IsIn, IsKnown, List, None, Outcome, Part, Request, Scene, Script, Some, Told, UploadPart, Who, answer, answer_at, ap, arith, in_map, inl, inr, known, learn, length, map_in, refl, subst, sym, tell_attempt, ℕ, ◌∙◌, ◌≡◌, ◌≤◌, ◌⊎◌}
-use Rattle.std.specs.FinMap as fin
-use Rattle.s3_types.specs.declared.reply.Reply.TheVariants.{Upload as DrawnUpload}
+use Rattle.job_facts.proofs.Common.{Answered, CreateUpload, Drawn, IsHonestOutcome, IsIn, IsKnown, List, Outcome, Part, Request, Scene, Script, Told, UploadPart, Who, answer, ap, arith, in_map, inl, inr, known, learn, length, map_in, refl, subst, sym, tell_attempt, ℕ, ◌∙◌, ◌≡◌, ◌≤◌, ◌⊎◌}
 use Rattle.job_protocol.specs.Knowledge.{with_part}
 use Rattle.job_facts.proofs.Whose.{same_or_another, who_here, who_other}
 use Rattle.job_facts.proofs.Keep.{part_upload}
+use Rattle.s3_types.specs.declared.reply.Reply.TheVariants.{Upload as DrawnUpload}
 
 -- these know an upload of this id and this key
 abbrev pub Knows : List Drawn → Drawn → Type 0

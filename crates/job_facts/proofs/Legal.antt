@@ -1,5 +1,5 @@
 -- What the bounds of a script give of its attempts' files.
-use Rattle.job_facts.proofs.Common.{ApartFiles, AreAttempts, AreFiles, Bool, Committer, Declared, File, FitsMagic, IsAttempt, IsGiven, IsIn, IsLegal, List, Magic, Mode, None, Script, Some, Who, [], and_parts, ap, arith, cond, eq_nat, false, false_true, false≢true, files, given_place, has_path, in_front, in_last, in_map, inl, inr, is_job_id, is_magic, is_record, is_some, leb-true, length, lookup, option_map, path_of, path_same, placed, refl, same_name, subst, sym, text_eq, text_true, true, unwrap_or, ℕ, ◌++◌, ◌<◌, ◌^◌, ◌∙◌, ◌∷◌, ◌≡◌, ◌≤◌}
+use Rattle.job_facts.proofs.Common.{ApartFiles, AreAttempts, AreFiles, Bool, Committer, Declared, File, FitsMagic, IsAttempt, IsGiven, IsIn, IsLegal, List, Mode, None, Script, Some, Who, [], and_parts, ap, arith, cond, eq_nat, false, false_true, files, given_place, has_path, in_front, in_last, in_map, inl, inr, is_job_id, is_magic, is_record, is_some, leb-true, length, lookup, option_map, path_of, path_same, placed, refl, same_name, subst, sym, text_eq, text_true, true, unwrap_or, ℕ, ◌++◌, ◌<◌, ◌^◌, ◌∙◌, ◌∷◌, ◌≡◌, ◌≤◌}
 
 -- ---- the destination's key is not empty
 

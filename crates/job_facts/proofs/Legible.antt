@@ -1,7 +1,7 @@
 -- The records and sets that attempts put are within their bounds, so that what reads them gets them back.
-use Rattle.job_facts.proofs.Common.{AllByRecursion, AreCommits, Bool, Cut, Declared, Drawn, Facts, File, IsAscii, IsAscii-cons, IsAscii-nil, IsAttempt, IsBytes, IsGiven, IsIn, IsLegal, IsPending, IsUtf8, IsUtf8-append, IsUtf8-from_ascii, IsUtf8-from_is_utf8, IsWritten, List, Ok, Option, Scene, Script, Some, Told, Who, [], and_parts, ap, append-nil, are_elements, are_sizes, arith, begins_hidden, below, below_is, both_true, bytes_in, bytes_of, compact_text, cond, cut_id, dot_not, drawn_in, eq-eqb, false, false≢true, file_key, file_parts, file_record, files, files_set, flat_map, id_bytes, inl, inr, is_element, is_full, is_hex, is_id_byte, is_job_id, is_plain_tag, is_utf8, is_utf8-from_IsUtf8, join_parts, join_with_byte, knowing, le-leb, leb-true, length, length-append, length-map, list_all, list_any, lookup, map, nat_eq, nat_le, nat_tests, nat_true, one_byte, or_parts, parts_of, path_of, pending_tree, placed, refl, same_name, same_or_other, set_tree, slice_index, some_part, subst, suc, sum, sym, take_all, text_false, text_true, true, unique_name, unique_parts, unwrap_or, utf8_cut, w32, with_id, with_id_last, zero, ℕ, ◌++◌, ◌+◌, ◌<◌, ◌==◌, ◌^◌, ◌||◌, ◌∙◌, ◌∷◌, ◌≡◌, ◌≤◌}
+use Rattle.job_facts.proofs.Common.{AllByRecursion, AreCommits, Bool, Cut, Declared, Drawn, Facts, File, IsAscii, IsAscii-cons, IsAscii-nil, IsAttempt, IsBytes, IsGiven, IsIn, IsLegal, IsPending, IsUtf8, IsUtf8-append, IsUtf8-from_ascii, IsUtf8-from_is_utf8, IsWritten, List, Ok, Option, Scene, Script, Some, Told, Who, [], and_parts, ap, append-nil, are_elements, are_sizes, arith, begins_hidden, below, below_is, both_true, bytes_in, bytes_of, compact_text, cond, cut_id, drawn_in, eq-eqb, false, file_key, file_parts, file_record, files, files_set, flat_map, id_bytes, inl, inr, is_element, is_full, is_hex, is_id_byte, is_job_id, is_plain_tag, is_utf8, is_utf8-from_IsUtf8, join_parts, join_with_byte, knowing, le-leb, leb-true, length, length-append, length-map, list_all, list_any, lookup, map, nat_le, nat_tests, nat_true, one_byte, or_parts, parts_of, path_of, pending_tree, placed, refl, same_name, same_or_other, set_tree, slice_index, some_part, subst, suc, sum, sym, take_all, text_false, text_true, true, unique_name, unique_parts, unwrap_or, utf8_cut, w32, with_id, with_id_last, zero, ℕ, ◌++◌, ◌+◌, ◌<◌, ◌^◌, ◌∙◌, ◌∷◌, ◌≡◌, ◌≤◌}
 use Rattle.std.specs.Int.{to_le_bytes}
-use Rattle.words.proofs.Common.{sum_by-cons}
+use Rattle.basics.proofs.Common.{sum_by-cons}
 use Rattle.md5.specs.Md5.{md5, digest_bytes}
 use Rattle.s3_types.proofs.Digits.{encoded_hex, plain_tag_length}
 use Rattle.s3_types.specs.Tags.{plain_tag}

@@ -22,7 +22,6 @@ pub mod Legible
 pub mod Replies
 pub mod JobCommitting
 pub mod Beside
-pub mod Learnt
 pub mod Emptying
 pub mod SettingUp
 pub mod Live

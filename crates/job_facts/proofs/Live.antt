@@ -1,12 +1,11 @@
 -- A walk over live uploads finds each of them.
-use Rattle.job_facts.proofs.Common.{AllByRecursion, Equal, HasBucket, IsIn, IsTotalOrder, Less, List, None, Option, Ordering, Reply, Scene, Script, Some, Upload, UploadRef, [], answer, ap, arith, begins, cond, dest_prefix, eq_by_cmp, exact_bytes, exact_pairs, exact_unsigned, false, filter, filter_in, find, find_head, find_other, in_filter, in_map, inl, inr, is_behind, is_eq, is_lt, keys_of, last_ref, length, ltb-false, map, map_in, map_sorted, nat_cmp, nat_cmp_total, nat_lt, nat_true, none_some, on_total, ordering_then, ref_at, ref_cmp, ref_of, refl, refs, refs_append, some_is, sorted_head, sorted_tail, subst, suc, sym, take, take_all, text_cmp, text_ties, text_total, text_true, then_total, tied, true, true_or_false, uploads_after, walked_by, walked_uploads, zero, ℕ, ◌++◌, ◌∙◌, ◌∷◌, ◌≡◌, ◌⊎◌}
-use Rattle.proof_base.proofs.Common.{IsStrictlySortedBy-filter, CmpEqualImpliesEq}
+use Rattle.basics.proofs.Common.{AllByRecursion, CmpEqualImpliesEq, Equal, IsStrictlySortedBy, IsStrictlySortedBy-filter, IsTotalOrder, Less, List, None, Option, Ordering, Some, [], ap, arith, cond, eq_by_cmp, exact_bytes, exact_pairs, exact_unsigned, false, filter, find, inl, inr, is_lt, keys_of, length, ltb-false, map, nat_cmp, nat_lt, on_total, refl, sorted_head, sorted_tail, subst, suc, sym, take, take_all, then_total, true, zero, ℕ, ◌++◌, ◌∙◌, ◌∷◌, ◌≡◌, ◌⊎◌}
+use Rattle.job_facts.proofs.Common.{HasBucket, IsIn, Reply, Scene, Script, Upload, UploadRef, answer, begins, dest_prefix, filter_in, find_head, find_other, in_filter, in_map, is_behind, is_eq, last_ref, map_in, map_sorted, nat_cmp_total, nat_true, none_some, ordering_then, ref_at, ref_cmp, ref_of, refs, some_is, text_cmp, text_ties, text_total, text_true, tied, true_or_false, uploads_after, walked_by, walked_uploads}
 use Rattle.job_model.specs.Prelude.{Uploads}
-use Rattle.std.specs.FinMap as fin
-use Rattle.std.specs.List.Sorted.{IsStrictlySortedBy}
 use Rattle.s3_types.specs.Multipart.{listed}
-use Rattle.proof_base.proofs.Members.{ties}
+use Rattle.basics.proofs.Members.{ties}
 use Rattle.job_facts.proofs.Shapes.{answer_is}
+use Rattle.std.specs.FinMap as fin
 
 refs_total : IsTotalOrder ref_cmp
 refs_total = then_total (on_total (λ r. r.key) text_total) (on_total (λ r. r.upload) nat_cmp_total)

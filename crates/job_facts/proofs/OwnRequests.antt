@@ -10,7 +10,7 @@ use Rattle.job_facts.proofs.JobCommitting.{begins_through, dest_below}
 use Rattle.job_facts.proofs.Held.{nth_of, of_sets}
 use Rattle.job_facts.proofs.Driving.{IsClearing, reads, aborts, batches, removes, clearing_hides}
 use Rattle.job_facts.proofs.Foreign.{reads_name, set_reads}
-use Rattle.job_facts.proofs.Going.{effect_by, effect_so}
+use Rattle.job_facts.proofs.Going.{effect_so}
 use Rattle.job_facts.proofs.Placed.{own_magic, set_magic}
 use Rattle.job_facts.proofs.Owning as Asks
 use Rattle.std.specs.FinMap as fin

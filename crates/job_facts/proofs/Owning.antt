@@ -1,5 +1,5 @@
 -- An attempt names only what is its own, and takes nothing back once it has sent its publishing request.
-use Rattle.job_facts.proofs.Common.{AbortUpload, AllOwn, AreCommits, Bool, ClusterDelete, ClusterPut, ClusterRename, CreateUpload, Creating, DeleteObjects, Deleting, Drawn, Dropping, File, Fits, FitsAbort, FitsCommit, FitsUpload, FitsWrite, Hold, IsAttempt, IsHonestOutcome, IsIn, IsLegal, IsOpen, IsOwn, IsWritten, List, MarkerPlace, None, Operation, Option, Outcome, Publishing, PutObject, RecordPlace, Recording, Renaming, Request, Script, Seen, Sending, Setting, Some, StagedSetPlace, Storing, TaskAbort, TaskAbortOver, TaskCommit, TaskCommitOver, TemporaryPlace, TheTaskAbort, TheTaskCommit, TheWrite, Times, Told, UploadPart, Uploading, Who, Write, WriteOver, [], answer, ap, append_assoc, arith, asks, attempt_prefix, begins, changed_keys, changed_paths, changed_upload, cluster_prefix, codes, decimal, entry, false, false_true, file_key, file_parts, files, first_drawn, inl, inr, is_magic, is_staging, known, length, magic_prefix, marker_key, none_some, only_reads, record_key, record_text, refl, see, set_key, set_text, slice_get, some_is, staged_set_path, subst, sym, take, task_abort_asks, task_commit_asks, tell, temporary_path, true, undoes, upload_asks, write_asks, ℕ, ◌++◌, ◌+◌, ◌∙◌, ◌∷◌, ◌≡◌, ◌⊎◌}
+use Rattle.job_facts.proofs.Common.{AbortUpload, AllOwn, AreCommits, Bool, ClusterDelete, ClusterPut, ClusterRename, CreateUpload, Creating, DeleteObjects, Deleting, Drawn, Dropping, File, Fits, FitsAbort, FitsCommit, FitsUpload, FitsWrite, Hold, IsAttempt, IsHonestOutcome, IsIn, IsLegal, IsOpen, IsOwn, IsWritten, List, MarkerPlace, None, Operation, Option, Outcome, Publishing, PutObject, RecordPlace, Recording, Renaming, Request, Script, Seen, Sending, Setting, Some, StagedSetPlace, Storing, TaskAbort, TaskAbortOver, TaskCommit, TaskCommitOver, TemporaryPlace, TheTaskAbort, Times, Told, UploadPart, Uploading, Who, Write, WriteOver, [], answer, ap, append_assoc, arith, asks, attempt_prefix, begins, changed_keys, changed_paths, changed_upload, cluster_prefix, codes, decimal, entry, false, file_key, file_parts, files, first_drawn, inl, inr, is_magic, is_staging, known, length, magic_prefix, marker_key, none_some, only_reads, record_key, record_text, refl, see, set_key, set_text, slice_get, some_is, staged_set_path, subst, sym, take, task_abort_asks, task_commit_asks, tell, temporary_path, true, undoes, upload_asks, write_asks, ℕ, ◌++◌, ◌+◌, ◌∙◌, ◌∷◌, ◌≡◌, ◌⊎◌}
 use Rattle.job_facts.proofs.Placed.{own_magic, set_magic, path_below}
 use Rattle.job_facts.proofs.Shows.{begins_front}
 use Rattle.job_facts.proofs.Foreign.{reads_name}

@@ -1,5 +1,5 @@
 -- Places of a job: where they are, and that they are apart.
-use Rattle.job_facts.proofs.Common.{ClusterPlace, Committer, File, FilePlace, IsAttempt, IsIn, IsLegal, IsOwnPlace, List, Magic, MarkerPlace, None, Object, Option, Place, RecordPlace, Scene, Script, SetPlace, Some, StagedSetPlace, SuccessPlace, TemporaryPlace, Who, [], ap, append_cancel_left, arith, at_path, at_place, begins, begins_behind, below_is, cluster_prefix, codes, decimal, false≢true, file_key, files, is_magic, is_record, is_staging, key_at, key_magic, keys_apart, magic_prefix, option_map, path_at, paths_apart, refl, set_at, sym, true, ℕ, ◌++◌, ◌<◌, ◌∙◌, ◌∷◌, ◌≡◌}
+use Rattle.job_facts.proofs.Common.{ClusterPlace, Committer, File, IsAttempt, IsIn, IsLegal, IsOwnPlace, List, MarkerPlace, Object, Option, Place, RecordPlace, Scene, Script, SetPlace, Some, StagedSetPlace, TemporaryPlace, Who, [], ap, append_cancel_left, arith, at_path, at_place, begins, begins_behind, below_is, cluster_prefix, codes, decimal, file_key, files, is_magic, is_record, is_staging, key_at, key_magic, keys_apart, magic_prefix, option_map, path_at, paths_apart, refl, set_at, sym, true, ℕ, ◌++◌, ◌<◌, ◌∙◌, ◌∷◌, ◌≡◌}
 use Rattle.magic_paths.specs.Places.{IsPlace, IsClusterPlace, is_magic_place}
 use Rattle.job_facts.proofs.Whose.{attempt, who_of}
 use Rattle.job_facts.proofs.Legal.{some_dest, is_attempt, no_record, same_file, small_task, small_attempt}

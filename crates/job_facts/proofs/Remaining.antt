@@ -1,7 +1,5 @@
 -- What an attempt has written stands, whatever others send, until the driver cleans up; and so it goes on.
-use Rattle.job_facts.proofs.Common.{AllSent, Answered, Bool, Checking, Closed, ClusterDone, CommitStands, CommitStandsBy, Committer, Creating, Drawn, File, Fits, FitsCommit, FitsUpload, FitsWrite, GetObject, GoesOn, Got, HasBucket, HasPublished, HasRecord, HasRecords, HasTemporary, Hold, IsAttempt, IsDriving, IsForeign, IsGone, IsHonestOutcome, IsIn, IsLegal, IsOpen, IsSet, Item, List, Listed, Looking, Magic, NoSuchFile, None, NotGone, Operation, Option, Outcome, Page, Part, Publishing, Reading, Recording, Refused, Renaming, Reply, ReplyLost, Request, RequestLost, Retried, Script, Seen, Sending, Setting, Slow, Some, Stands, Storing, TaskCommit, TaskCommitOver, TemporaryPlace, TheCheck, TheTaskAbort, TheTaskCommit, TheWrite, Times, Told, UploadPart, Uploaded, Uploading, Who, WornOut, Write, WriteOver, WriteStands, [], answer, ap, apply, arith, asks, attempt_prefix, begins, bucket_of, changed_keys, changed_paths, checked, checking, cluster_prefix, cond, created, driver_entry, effect, entry, false, false_true, false≢true, file_parts, files, found, in_map, in_order, inl, inr, is_effective, is_magic, is_publishing, is_set_key, is_set_path, is_some, is_staging, known, least_missing, least_of, length, list_any, looked, looked_at, magic_prefix, map, nat_eq, nat_true, or-true, plain_tag, read_record, reading, record_key, refl, rename_answer, renamed, see, sending, sent_part, set_key, sets_at, some_is, staged_set_path, step, storing, strange_entry, subst, suc, sym, task_commit_after, task_commit_asks, task_commit_hears, task_commit_over, task_commit_start, task_commit_start_by, tells, temporary_path, text_eq, text_here, text_true, to_check, true, true_or_false, unanswered_by, upload_asks, upload_hears, walked, walked_by, write_after, write_asks, write_hears, write_over, write_start, write_start_by, writing, zero, ℕ, ◌&&◌, ◌+◌, ◌||◌, ◌∙◌, ◌∷◌, ◌≡◌}
-use Rattle.std.specs.FinMap as fin
-use Rattle.s3_types.specs.declared.reply.Reply.TheVariants.{Upload}
+use Rattle.job_facts.proofs.Common.{Answered, Bool, Checking, Closed, CommitStands, CommitStandsBy, Committer, Creating, Drawn, File, Fits, FitsCommit, FitsUpload, FitsWrite, GetObject, Got, HasBucket, HasPublished, HasRecord, HasRecords, HasTemporary, Hold, IsAttempt, IsDriving, IsForeign, IsGone, IsHonestOutcome, IsIn, IsLegal, IsOpen, IsSet, Item, List, Listed, Looking, Magic, None, Operation, Option, Outcome, Part, Publishing, Reading, Recording, Renaming, Reply, ReplyLost, Request, RequestLost, Retried, Script, Seen, Sending, Setting, Slow, Some, Stands, Storing, TaskCommit, TaskCommitOver, TemporaryPlace, TheCheck, TheTaskAbort, TheTaskCommit, TheWrite, Times, Told, UploadPart, Uploaded, Uploading, Who, WornOut, Write, WriteOver, WriteStands, [], answer, ap, apply, arith, asks, attempt_prefix, begins, bucket_of, changed_keys, changed_paths, checked, checking, cluster_prefix, cond, created, driver_entry, effect, entry, false, false_true, false≢true, file_parts, files, found, in_map, in_order, inl, inr, is_effective, is_magic, is_publishing, is_set_key, is_staging, known, least_missing, least_of, length, list_any, looked, looked_at, magic_prefix, map, nat_eq, nat_true, or-true, plain_tag, read_record, reading, record_key, refl, renamed, see, sending, sent_part, set_key, sets_at, some_is, step, strange_entry, subst, sym, task_commit_after, task_commit_asks, task_commit_hears, task_commit_over, task_commit_start, task_commit_start_by, tells, temporary_path, text_eq, text_here, text_true, to_check, true, true_or_false, upload_asks, upload_hears, walked, walked_by, write_after, write_asks, write_hears, write_over, write_start, writing, ℕ, ◌&&◌, ◌+◌, ◌||◌, ◌∙◌, ◌∷◌, ◌≡◌}
 use Rattle.job_model.specs.declared.ends.TaskEnd.TheVariants as tasks
 use Rattle.job_protocol.specs.Writes.{Marking}
 use Rattle.job_protocol.specs.Writes as writes

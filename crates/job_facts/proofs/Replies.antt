@@ -1,6 +1,5 @@
 -- The answers that are due, where the facts hold.
-use Rattle.job_facts.proofs.Common.{BadPartNumber, Committer, CompleteUpload, Completed, Drawn, Facts, File, GetObject, IsAttempt, IsHeld, IsIn, IsLegal, IsSet, IsSetAnswer, IsWritten, List, Magic, NoSuchKey, None, Object, Ok, Option, Part, Refused, Scene, Script, SetAnswered, SetPlace, Some, Told, UploadPart, Who, answer, ap, arith, at_id, at_key, at_place, complete_answer, cond, drawn_in, false, file_key, file_parts, files, files_set, found, inl, inr, is_magic, joined, joined_tag, key_at, knowing, length, live, map, named_from, none_or_some, ok_set, option_map, part_answer, plain_tag, read_answer, record_key, record_text, refl, set_at, set_read, set_request, sets_at, slice_get, slice_get_within, subst, sym, text_true, true, with_key, ℕ, ◌+◌, ◌<◌, ◌^◌, ◌∙◌, ◌≡◌, ◌≤◌, ◌⊎◌}
-use Rattle.s3_types.specs.declared.reply.Reply.TheVariants.{Object as Found}
+use Rattle.job_facts.proofs.Common.{BadPartNumber, Committer, CompleteUpload, Completed, Drawn, Facts, File, GetObject, IsAttempt, IsHeld, IsIn, IsLegal, IsSet, IsSetAnswer, IsWritten, List, Magic, NoSuchKey, None, Object, Ok, Option, Part, Refused, Scene, Script, SetAnswered, SetPlace, Some, Told, UploadPart, Who, answer, ap, arith, at_id, at_key, at_place, complete_answer, cond, drawn_in, false, file_key, file_parts, files, files_set, found, inl, inr, is_magic, joined, joined_tag, key_at, knowing, length, live, map, named_from, none_or_some, ok_set, option_map, part_answer, plain_tag, read_answer, record_key, record_text, refl, set_at, set_read, set_request, sets_at, slice_get, slice_get_within, subst, sym, text_true, true, ℕ, ◌+◌, ◌<◌, ◌^◌, ◌∙◌, ◌≡◌, ◌≤◌, ◌⊎◌}
 use Rattle.pending_json.specs.Reading as reading
 use Rattle.job_facts.proofs.Cut.{parts_few, held_joined}
 use Rattle.job_facts.proofs.Legible as legible
@@ -8,6 +7,7 @@ use Rattle.job_facts.proofs.Legible.{drawn_is, written_tags}
 use Rattle.job_facts.proofs.Placed.{key_file}
 use Rattle.job_facts.proofs.Shapes.{key_before, id_before, answer_is}
 use Rattle.job_facts.proofs.Uploads.{number_fits}
+use Rattle.s3_types.specs.declared.reply.Reply.TheVariants.{Object as Found}
 
 module _ {w : Script} {minimum : ℕ} {s : Scene} {last : ℕ → Option ℕ} {m : Told} (j : IsLegal w) (f : Facts w minimum s last m) where
   -- ---- uploads

@@ -1,5 +1,5 @@
 -- Each kind of request of an attempt keeps the facts, whatever becomes of it.
-use Rattle.job_facts.proofs.Common.{AbortUpload, Answered, AreCommits, BadPartNumber, Bool, ClusterDelete, ClusterPut, ClusterRename, CreateUpload, DeleteObjects, Drawn, Facts, File, Hold, IsAttempt, IsHonestOutcome, IsIn, IsKnown, IsLegal, IsOpen, IsOwnPlace, IsRecord, IsSet, IsWritten, Known, List, None, Option, Outcome, Part, Place, PutObject, RecordPlace, Refused, Reply, Request, Scene, Script, Seen, SetPlace, Some, Times, Told, Turns, Upload, UploadPart, Who, and-false, answer, ap, apply, arith, at_id, attempt_prefix, begins, cond, entry, false, false_true, file_key, file_parts, files, frame, inl, inr, is_magic, is_part_number, is_publishing, is_set_key, is_set_path, is_some, is_staging, key_at, known, last_by, learn, learn_part, length, nat_eq, nat_false, nat_here, nat_true, none_some, only_reads, or-false, or-true, part_answer, part_left, plain_tag, put_who, record_key, record_text, refl, see, set_key, set_text, slice_get, slice_get_within, some_is, staged_set_path, subst, suc, sym, tell, tell_attempt, temporary_path, text_eq, text_false, text_left, text_true, true, undoes, with_files, with_key, with_part, ℕ, ◌&&◌, ◌+◌, ◌<◌, ◌||◌, ◌∙◌, ◌≡◌, ◌⊎◌}
+use Rattle.job_facts.proofs.Common.{AbortUpload, Answered, AreCommits, Bool, ClusterDelete, ClusterPut, ClusterRename, CreateUpload, DeleteObjects, Drawn, Facts, File, Hold, IsAttempt, IsHonestOutcome, IsIn, IsKnown, IsLegal, IsOpen, IsOwnPlace, IsRecord, IsSet, IsWritten, Known, List, None, Option, Outcome, Part, Place, PutObject, RecordPlace, Reply, Request, Scene, Script, Seen, SetPlace, Some, Times, Told, Turns, Upload, UploadPart, Who, and-false, answer, ap, apply, arith, at_id, attempt_prefix, begins, cond, entry, false, false_true, file_key, file_parts, files, frame, inl, inr, is_magic, is_publishing, is_set_key, is_set_path, is_some, is_staging, key_at, known, last_by, learn, learn_part, length, nat_eq, nat_false, nat_here, nat_true, none_some, only_reads, or-false, or-true, part_answer, part_left, plain_tag, put_who, record_key, record_text, refl, see, set_key, set_text, slice_get, slice_get_within, staged_set_path, subst, suc, sym, tell, tell_attempt, temporary_path, text_eq, text_false, text_left, text_true, true, undoes, with_files, with_key, ℕ, ◌&&◌, ◌+◌, ◌<◌, ◌||◌, ◌∙◌, ◌≡◌, ◌⊎◌}
 use Rattle.std.specs.FinMap as fin
 use Rattle.job_facts.proofs.Whose.{who_of, who_same, who_here}
 use Rattle.job_facts.proofs.Legal.{same_file, small_task}

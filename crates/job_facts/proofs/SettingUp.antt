@@ -1,5 +1,5 @@
 -- The driver's set-up leaves nothing in the job's magic directory, and changes nothing else but the marker of a committed job.
-use Rattle.job_facts.proofs.Common.{Bool, BucketContent, Clearing, ClearsAlone, ClusterDelete, ClusterPut, ClusterRename, Committer, Content, DeleteObject, DeleteObjects, Deleting, Drawn, Files, HasBucket, HeadObject, Heading, IsBare, IsForeign, IsHonestOutcome, IsIn, IsLegal, List, Magic, More, NoClusterFile, None, Option, Outcome, Page, Reply, ReplyLost, Request, Retried, Same, Scene, Script, SetsUp, Setup, SetupOver, Some, Sweep, Sweeping, Walked, Who, Whole, [], all_go, and_parts, answer, answer_at, ap, append_cancel_left, apply, arith, at_id, at_key, begins, below, below_is, bytes_eq, changed_paths, checked_by, checks_all, cleared, cluster_prefix, codes, cond, dest_prefix, effect, false, false_true, false≢true, first_shown, frame, head, headed, if_bucket, if_bucket_so, inl, inr, is_file_path, is_folder, is_magic, is_staging, keys_on, magic_prefix, none_or_some, none_some, not, not-true, only_reads, page_after, reads_nothing, refl, setup_after, setup_asks, setup_hears, some_is, step, subst, success_key, sweep_asks, sweep_hears, sym, take, text_cmp, text_left, text_other, true, true_or_false, view, walked, with_objects, ℕ, ◌&&◌, ◌∙◌, ◌∷◌, ◌≡◌}
+use Rattle.job_facts.proofs.Common.{Bool, BucketContent, Clearing, ClearsAlone, Committer, Content, DeleteObject, DeleteObjects, Deleting, Drawn, Files, HasBucket, HeadObject, Heading, IsBare, IsForeign, IsHonestOutcome, IsIn, IsLegal, List, Magic, NoClusterFile, None, Option, Outcome, Reply, ReplyLost, Request, Retried, Same, Scene, Script, SetsUp, Setup, SetupOver, Some, Sweep, Sweeping, Who, [], all_go, and_parts, answer, answer_at, ap, append_cancel_left, apply, arith, at_id, at_key, begins, below, below_is, bytes_eq, changed_paths, checks_all, cleared, cluster_prefix, codes, cond, dest_prefix, effect, false, false_true, false≢true, frame, head, headed, if_bucket, if_bucket_so, inl, inr, is_file_path, is_folder, is_magic, is_staging, magic_prefix, none_or_some, none_some, not, not-true, only_reads, page_after, reads_nothing, refl, setup_after, setup_asks, setup_hears, some_is, step, subst, success_key, sweep_asks, sweep_hears, sym, take, text_cmp, text_left, text_other, true, true_or_false, view, with_objects, ℕ, ◌&&◌, ◌∙◌, ◌∷◌, ◌≡◌}
 use Rattle.job_model.specs.Prelude.{renamed}
 use Rattle.job_protocol.specs.Prelude.{checked}
 use Rattle.std.specs.FinMap as fin
@@ -11,7 +11,7 @@ use Rattle.job_facts.proofs.Undone.{deletes_drop}
 use Rattle.job_facts.proofs.Shows.{hidden_shows, view_by}
 use Rattle.job_facts.proofs.Aborting.{taken_in}
 use Rattle.job_facts.proofs.Going.{Each, step_asked, effect_so}
-use Rattle.job_facts.proofs.Emptying.{still_there, reads_same, sweep_begins, sweep_empties, sweep_still, sweep_same, Emptied}
+use Rattle.job_facts.proofs.Emptying.{still_there, reads_same, sweep_begins, sweep_empties, sweep_still, Emptied}
 
 -- ---- as its requests are answered
 

@@ -1,5 +1,5 @@
 -- What each request leaves of a store and of the cluster's files, told at keys, ids and paths.
-use Rattle.job_facts.proofs.Common.{AbortUpload, Bool, BucketContent, Content, CreateUpload, Draws, HasBucket, IsIn, List, None, Object, Option, PageEntry, PutObject, Puts, Reply, Request, Scene, Script, Some, Turns, Upload, UploadPart, [], answer, answer_at, answer_in, ap, apply, apply_at, arith, at_id, at_key, begins, bucket_of, cond, end_left, false, in_append, in_back, in_front, inl, inr, is_lt, is_part_number, keys_on, last_append, last_from, last_of, length, listed, live, nat_gone, nat_here, nat_left, nat_lt, nat_other, object_in, page_after, page_all, page_begins, page_covers, part_left, part_others, part_put, refl, subst, sym, take, text_cmp, text_eq, text_here, text_other, true, upload_in, walked, walked_by, with_bucket, with_key, with_objects, with_part, with_uploads, ℕ, ◌&&◌, ◌++◌, ◌+◌, ◌∙◌, ◌∷◌, ◌≡◌, ◌⊎◌}
+use Rattle.job_facts.proofs.Common.{AbortUpload, Bool, BucketContent, Content, CreateUpload, Draws, HasBucket, IsIn, List, None, Object, Option, PageEntry, PutObject, Puts, Reply, Request, Scene, Script, Some, Turns, Upload, UploadPart, [], answer, answer_at, answer_in, ap, apply, apply_at, arith, at_id, at_key, begins, bucket_of, cond, end_left, false, in_append, in_back, in_front, inl, inr, is_lt, keys_on, last_append, last_from, last_of, length, listed, live, nat_gone, nat_here, nat_left, nat_lt, nat_other, object_in, page_after, page_all, page_begins, page_covers, part_left, part_others, part_put, refl, subst, sym, take, text_cmp, text_eq, text_here, text_other, true, upload_in, walked, walked_by, with_bucket, with_key, with_objects, with_uploads, ℕ, ◌++◌, ◌+◌, ◌∙◌, ◌∷◌, ◌≡◌, ◌⊎◌}
 use Rattle.job_model.specs.Prelude.{Uploads, aborted}
 use Rattle.std.specs.FinMap as fin
 

@@ -1,7 +1,7 @@
 -- The requests of a check before the commit, and of an abort or clean that spares what is another job's.
-use Rattle.job_facts.proofs.Common.{AllKnown, Deleting, Fits, FitsSparing, Hold, IsAttempt, IsIn, IsLegal, IsOwnPath, IsZeroRename, List, Listing, Operation, Outcome, Request, Scene, Script, Seen, Setting, Setup, SetupOver, Some, Sweeping, Told, UploadRef, Who, ap, arith, asks, changed_paths, driver_entry, effect, ends, false, inl, inr, is_marking, is_reading, known, only_reads, refl, setup_asks, some_is, subst, sym, tell_attempt, true, ℕ, ◌∙◌, ◌∷◌, ◌≡◌}
-use Rattle.job_protocol.specs.Rechecks.{Check, Looking, Probing, CheckOver, check_asks}
-use Rattle.job_protocol.specs.Sparing.{Sparing, Walking, Naming, Aborting, SparingOver, sparing_asks, record_request}
+use Rattle.job_facts.proofs.Common.{AllKnown, Fits, FitsSparing, Hold, IsAttempt, IsIn, IsLegal, IsOwnPath, IsZeroRename, List, Operation, Outcome, Request, Scene, Script, Seen, Setting, Setup, Some, Told, UploadRef, Who, arith, asks, changed_paths, driver_entry, effect, ends, false, inl, inr, is_marking, is_reading, known, only_reads, setup_asks, tell_attempt, true, ℕ, ◌∙◌, ◌∷◌, ◌≡◌}
+use Rattle.job_protocol.specs.Rechecks.{Check, check_asks}
+use Rattle.job_protocol.specs.Sparing.{Sparing, Aborting, sparing_asks}
 use Rattle.job_protocol.specs.Sparing as sparing
 use Rattle.job_facts.proofs.Shows.{HidesAll}
 use Rattle.job_facts.proofs.OwnRequests.{clearing_changes}

@@ -1,5 +1,5 @@
 -- The facts begin where the set-up is done; and what only reads keeps them, whoever sends it.
-use Rattle.job_facts.proofs.Common.{Actor, Attempt, Committer, Driver, Entry, Facts, HasBucket, Hold, IsBare, IsHonestOutcome, IsLegal, List, Magic, None, Object, Option, Outcome, RequestLost, Scene, Script, Seen, SetPlace, Shell, Slow, Some, StagedSetPlace, TemporaryPlace, Times, Told, Upload, answer, ap, arith, at_id, at_path, at_place, is_magic, is_staging, none_some, nothing_told, only_reads, option_map, refl, see, set_at, tell, true, ℕ, ◌<◌, ◌≡◌}
+use Rattle.job_facts.proofs.Common.{Actor, Attempt, Committer, Driver, Entry, Facts, HasBucket, Hold, IsBare, IsHonestOutcome, IsLegal, List, None, Option, Outcome, RequestLost, Scene, Script, Seen, SetPlace, Shell, Slow, Some, StagedSetPlace, TemporaryPlace, Times, Told, Upload, answer, arith, at_id, at_path, at_place, is_magic, is_staging, none_some, nothing_told, only_reads, refl, see, set_at, tell, true, ℕ, ◌<◌, ◌≡◌}
 use Rattle.job_facts.proofs.Whose.{attempt}
 use Rattle.job_facts.proofs.Placed.{record_magic, set_magic, path_below}
 use Rattle.job_facts.proofs.Sent.{read_keeps}

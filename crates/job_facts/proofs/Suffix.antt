@@ -49,9 +49,8 @@ last_byte (x ∷ []) = x
 last_byte (x ∷ y ∷ l) = last_byte (y ∷ l)
 
 last_behind : (a : List ℕ) (x : ℕ) (l : List ℕ) → last_byte (a ++ x ∷ l) ≡ last_byte (x ∷ l)
-last_behind [] x l = refl
-last_behind (y ∷ []) x l = refl
 last_behind (y ∷ z ∷ a) x l = last_behind (z ∷ a) x l
+last_behind _ x l = refl
 
 pub set_no_record : (dest job : List ℕ) (t : ℕ) → is_record (set_key dest job t) ≡ true → ⊥
 set_no_record dest job t g =

@@ -1,8 +1,8 @@
 -- While the driver's commit completes: the uploads of its sets are apart, and an upload that is ended is done or had a sending lost.
-use Rattle.job_facts.proofs.Common.{Answered, Bool, Commit, CommitOver, Completed, Completing, Deleting, Fetching, FitsJobCommit, Hold, IsIn, IsLegal, List, Listing, Marking, None, NoneEnded, Option, Outcome, Pending, Reads, Replacing, Reply, Request, Reverting, Script, Seen, Sets, Setting, Slow, Some, Sweep, Tabled, Told, Turn, Turned, [], again, all_commits, and-false, and_parts, answer, ap, arith, commit_asks, commit_misses, commit_start, commit_tells, completing, completion, dealt, ends, eq_nat, false, false_true, false≢true, follow, in_front, in_last, inl, inr, is_effective, is_no_magic, joined_tag, length, map, named_from, nat_eq, nat_lt, nat_true, nth, or-true, refl, revert, reverting, set_read, set_request, some_is, subst, sweep_asks, sweep_hears, sym, tell_driver, true, true_or_false, worn_completion, ℕ, ◌&&◌, ◌++◌, ◌<◌, ◌||◌, ◌∙◌, ◌∷◌, ◌≡◌, ◌⊎◌}
+use Rattle.job_facts.proofs.Common.{Answered, Bool, Commit, CommitOver, Completed, Completing, Fetching, FitsJobCommit, Hold, IsIn, IsLegal, List, Marking, NoneEnded, Option, Outcome, Pending, Reads, Replacing, Reply, Request, Reverting, Script, Seen, Sets, Setting, Slow, Some, Sweep, Tabled, Told, Turn, Turned, [], again, all_commits, and-false, and_parts, answer, ap, arith, commit_asks, commit_misses, commit_start, commit_tells, completing, completion, ends, eq_nat, false, false_true, false≢true, follow, in_front, in_last, inl, inr, is_effective, is_no_magic, joined_tag, length, map, named_from, nat_lt, nat_true, nth, or-true, refl, revert, reverting, set_read, set_request, some_is, subst, sweep_asks, sweep_hears, sym, tell_driver, true, true_or_false, worn_completion, ℕ, ◌&&◌, ◌++◌, ◌<◌, ◌||◌, ◌∙◌, ◌∷◌, ◌≡◌, ◌⊎◌}
 use Rattle.job_facts.specs.Turning.{Turns}
 use Rattle.job_facts.proofs.Replies.{completed}
-use Rattle.job_facts.proofs.Held.{nth_of, of_sets, uploads_uniq, to_in, either, tells_so, Course, fetching_so, fetched_so, swept_so}
+use Rattle.job_facts.proofs.Held.{nth_of, of_sets, uploads_uniq, to_in, either, tells_so, Course, fetched_so, swept_so}
 use Rattle.job_facts.proofs.Foreign.{set_reads, reads_name}
 
 module _ (w : Script) (minimum : ℕ) (s : Seen) (m : Told) (j : IsLegal w) (f : Hold w minimum s m) where

@@ -1,12 +1,12 @@
 -- How a file's upload goes on, of any committer: what it asks keeps the facts, and it comes as far as it says.
-use Rattle.job_facts.proofs.Common.{AllSent, AllWritten, Answered, AreCommits, BadPartNumber, Begun, CreateUpload, Creating, Drawn, File, FitsUpload, GoesOn, Hold, IsGone, IsIn, IsLegal, IsOpen, IsWritten, Known, List, NoSuchUpload, None, Option, Outcome, Part, Refused, Reply, Request, Script, Seen, Sending, Some, Spelled, Todo, Told, Upload, UploadPart, Uploaded, Uploading, Who, [], answer, ap, arith, cond, created, drop, file_key, file_parts, files, first_drawn, in_map, inl, inr, is_part_number, known, learn, length, length-drop, live, map, map_in, nat_tests, part_answer, plain_tag, refl, sending, sent_part, slice_get, subst, suc, sym, true, upload_asks, upload_hears, zero, ℕ, ◌++◌, ◌+◌, ◌-◌, ◌<◌, ◌∙◌, ◌∷◌, ◌≡◌, ◌≤◌, ◌⊎◌}
-use Rattle.s3_types.specs.declared.reply.Reply.TheVariants.{Upload as TheUpload}
+use Rattle.job_facts.proofs.Common.{AllSent, AllWritten, Answered, AreCommits, Begun, CreateUpload, Creating, Drawn, File, FitsUpload, GoesOn, Hold, IsGone, IsIn, IsLegal, IsOpen, IsWritten, Known, List, NoSuchUpload, Option, Outcome, Part, Refused, Reply, Request, Script, Seen, Sending, Some, Spelled, Todo, Told, Upload, UploadPart, Uploaded, Uploading, Who, [], answer, ap, arith, created, drop, file_key, file_parts, files, first_drawn, in_map, inl, inr, is_part_number, known, learn, length, length-drop, live, map, map_in, nat_tests, part_answer, plain_tag, refl, sending, sent_part, slice_get, subst, suc, sym, true, upload_asks, upload_hears, zero, ℕ, ◌++◌, ◌+◌, ◌-◌, ◌<◌, ◌∙◌, ◌∷◌, ◌≡◌, ◌≤◌, ◌⊎◌}
 use Rattle.job_protocol.specs.Knowledge.{with_part}
 use Rattle.job_facts.proofs.Cut.{parts_few}
 use Rattle.job_facts.proofs.Legal.{files_apart}
 use Rattle.job_facts.proofs.Placed.{key_file, one_key}
 use Rattle.job_facts.proofs.Shapes.{answer_is}
 use Rattle.job_facts.proofs.Keep.{part_other, part_here, part_upload, one_more, longer, new_drawn}
+use Rattle.s3_types.specs.declared.reply.Reply.TheVariants.{Upload as TheUpload}
 
 -- ---- what is begun, and what is written
 

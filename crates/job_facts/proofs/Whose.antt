@@ -1,5 +1,5 @@
 -- Attempts that are the same or not, and functions of them.
-use Rattle.job_facts.proofs.Common.{Bool, Option, Some, Who, and-false, and_parts, ap, arith, cond, eq_nat, false, false_true, inl, inr, nat_eq, nat_true, or-false, or-true, put_who, refl, same_name, some_is, subst, sym, true, true_or_false, ℕ, ◌&&◌, ◌||◌, ◌∙◌, ◌≡◌, ◌⊎◌}
+use Rattle.job_facts.proofs.Common.{Option, Some, Who, ap, arith, cond, false, false_true, inl, inr, nat_true, put_who, refl, same_name, sym, true, true_or_false, ℕ, ◌∙◌, ◌≡◌, ◌⊎◌}
 
 abbrev pub attempt : ℕ → ℕ → Who
 attempt t n = record { task = t; attempt = n }

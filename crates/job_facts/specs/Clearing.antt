@@ -1,14 +1,15 @@
 -- How far the driver's abort or clean of the job has come with what is to go, while nobody else sends.
-use Rattle.std.specs.Prelude.{◌≡◌, ℕ, ◌⊎◌, true, List, ◌∷◌, Some, None}
-use Rattle.job_spec.specs.Prelude.{Content, Scene, Upload, begins, is_behind, answer, effect, IsHonestOutcome, Request, UploadRef, Outcome, Retried, step, cluster_prefix, Script, dest_prefix, Clean, Walking, Aborting, Naming, Removing, CleanOver, clean_start, clean_asks, clean_after, NoneLive, NothingLeft, is_magic, is_staging, IsIn}
-use Rattle.job_protocol.specs.Prelude.{last_ref}
-use Rattle.store_frame.specs.Prelude.{HasBucket}
-use Rattle.std.specs.FinMap as fin
-use Rattle.job_model.specs.declared.ends.CleanEnd.TheVariants as ends
-use Rattle.job_protocol.specs.Cleanups.{Sweeping}
+use Rattle.std.specs.Prelude.{List, None, Some, true, ℕ, ◌∷◌, ◌≡◌, ◌⊎◌}
+use Rattle.job_protocol.specs.Prelude.{Aborting, Clean, CleanOver, Content, IsIn, Naming, NoneLive, NothingLeft, Outcome, Removing, Request, Retried, Scene, Script, Upload, UploadRef, Walking, answer, begins, clean_asks, dest_prefix, effect, is_magic, is_staging, last_ref, step}
+use Rattle.store_frame.specs.Prelude.{HasBucket, is_behind}
+use Rattle.job_protocol.specs.Cleanups.{Sweeping, clean_after, clean_start}
 use Rattle.job_facts.specs.Stores.{at_id}
 use Rattle.job_facts.specs.Driver.{FitsSweep}
 use Rattle.job_facts.specs.Emptying.{Empties}
+use Rattle.magic_paths.specs.Layout.{cluster_prefix}
+use Rattle.retries.specs.Prelude.{IsHonestOutcome}
+use Rattle.std.specs.FinMap as fin
+use Rattle.job_model.specs.declared.ends.CleanEnd.TheVariants as ends
 
 -- an upload as a listing has it
 abbrev pub ref_at : ℕ → Upload → UploadRef

@@ -1,10 +1,10 @@
 -- How far the driver's commit, and its abort or clean of the job, have come.
 use Rattle.std.specs.Prelude.{◌≡◌, ℕ, ◌<◌, ◌≤◌, Bool, true, List, [], ◌∷◌, length, slice_get, Some}
-use Rattle.job_spec.specs.Prelude.{begins, Request, UploadRef, IsIn, magic_prefix, cluster_prefix, File, Who, Script, Drawn, files_set, Sets, Commit, Fetching, Replacing, Completing, Marking, Reverting, CommitOver, is_no_magic, dest_prefix, Clean, Walking, Aborting, Naming, Removing, CleanOver}
-use Rattle.job_protocol.specs.Prelude.{PendingSet, Sweep, Listing, Deleting}
+use Rattle.job_protocol.specs.Prelude.{PendingSet, Sweep, Listing, Deleting, begins, Request, UploadRef, IsIn, File, Who, Script, Drawn, files_set, Sets, Commit, Fetching, Replacing, Completing, Marking, Reverting, CommitOver, is_no_magic, dest_prefix, Clean, Walking, Aborting, Naming, Removing, CleanOver}
 use Rattle.job_protocol.specs.Cleanups.{Sweeping}
 use Rattle.job_facts.specs.Foreign.{IsDriving}
 use Rattle.job_facts.specs.Facts.{AreCommits, knowing}
+use Rattle.magic_paths.specs.Layout.{magic_prefix, cluster_prefix}
 
 -- keys below a prefix
 abbrev pub AllUnder : List ℕ → List (List ℕ) → Type 0

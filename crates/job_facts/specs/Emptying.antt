@@ -1,12 +1,11 @@
 -- How far a sweep of the job's magic directory has come, while none but the driver changes it; and the set-up, which begins with one.
-use Rattle.std.specs.Prelude.{◌≡◌, ℕ, Bool, ◌⊎◌, true, List, [], ◌∷◌, Some}
-use Rattle.job_spec.specs.Prelude.{is_lt, text_cmp, Content, begins, Object, magic_prefix, Script, Setup, Heading, Clearing, Sweeping, SetupOver, is_magic, IsIn}
-use Rattle.job_protocol.specs.Prelude.{Sweep, Listing, Deleting, last_of, all_go}
+use Rattle.std.specs.Prelude.{Bool, List, Some, [], true, ℕ, ◌∷◌, ◌≡◌, ◌⊎◌}
+use Rattle.job_protocol.specs.Prelude.{Content, Deleting, Heading, IsIn, Listing, Object, Script, Setup, SetupOver, Sweep, Sweeping, all_go, begins, is_lt, is_magic, last_of, text_cmp}
 use Rattle.store_frame.specs.Prelude.{HasBucket}
-use Rattle.job_model.specs.declared.ends.SetupEnd.TheVariants as ends
-use Rattle.job_protocol.specs.Setup.{Checking}
 use Rattle.job_facts.specs.Stores.{at_key}
 use Rattle.job_facts.specs.Driver.{FitsSweep}
+use Rattle.magic_paths.specs.Layout.{magic_prefix}
+use Rattle.job_model.specs.declared.ends.SetupEnd.TheVariants as ends
 
 -- what stands below a prefix and is to go has one of these keys
 abbrev pub OnlyThose : Script → List ℕ → (List ℕ → Bool) → Content → List (List ℕ) → Type 0
@@ -32,7 +31,6 @@ Empties w c t = EmptiesBy w (magic_prefix w.dest.key w.job) all_go c t
 -- the bucket is there, and behind its first requests a set-up of the magic committer empties the job's directory; where it ends Done nothing stands there
 abbrev pub SetsUp : Script → Content → Setup → Type 0
 SetsUp w c Heading = Unit {0}
-SetsUp w c (Checking keys) = HasBucket c w.dest.bucket
-SetsUp w c Clearing = HasBucket c w.dest.bucket
 SetsUp w c (Sweeping t) = HasBucket c w.dest.bucket × FitsSweep w t × Empties w c t
 SetsUp w c (SetupOver end) = end ≡ ends.Done → HasBucket c w.dest.bucket × (is_magic w.committer ≡ true → OnlyThese w c [])
+SetsUp w c _ = HasBucket c w.dest.bucket

@@ -1,11 +1,14 @@
 -- What holds of one job's store, of the cluster and of what its attempts know, from the end of its set-up on, whatever strangers send.
-use Rattle.std.specs.Prelude.{◌≡◌, ℕ, suc, ◌<◌, ◌≤◌, Bool, true, false, List, [], ◌∷◌, length, map, take, slice_get, Option, Some}
-use Rattle.job_spec.specs.Prelude.{Scene, Upload, Parts, begins, Object, IsIn, magic_prefix, Place, MarkerPlace, RecordPlace, SetPlace, FilePlace, SuccessPlace, ClusterPlace, TemporaryPlace, key_at, File, Who, Script, files, Drawn, Known, file_key, record_text, set_text, file_parts, Seen, is_magic, is_staging}
+use Rattle.std.specs.Prelude.{Bool, List, Option, Some, [], false, length, map, slice_get, suc, take, true, ℕ, ◌<◌, ◌∷◌, ◌≡◌, ◌≤◌}
 use Rattle.store_frame.specs.Prelude.{HasBucket}
-use Rattle.std.specs.FinMap as fin
 use Rattle.s3_types.specs.Tags.{plain_tag}
 use Rattle.job_facts.specs.Told.{Told}
-use Rattle.job_facts.specs.Stores.{at_key, at_place, at_id, at_path, sets_at}
+use Rattle.job_facts.specs.Stores.{at_id, at_key, at_path, at_place, sets_at}
+use Rattle.job_protocol.specs.Prelude.{Drawn, File, IsIn, Known, Object, Scene, Script, Seen, Upload, Who, begins, file_key, file_parts, files, is_magic, is_staging, record_text, set_text}
+use Rattle.magic_paths.specs.Places.{ClusterPlace, MarkerPlace, Place, RecordPlace, SetPlace, TemporaryPlace, key_at}
+use Rattle.magic_paths.specs.Layout.{magic_prefix}
+use Rattle.s3_types.specs.Prelude.{Parts}
+use Rattle.std.specs.FinMap as fin
 
 -- an attempt of one of the job's tasks, with a number that a script may give
 pub record IsAttempt (w : Script) (a : Who) : Type 0 where
@@ -68,11 +71,10 @@ Records w minimum objects drawn = (a : Who) (f : File) (x : Object) → IsIn f (
 
 -- a place of the job below its magic directory
 abbrev pub IsOwnPlace : Script → Place → Type 0
-IsOwnPlace w (FilePlace p) = ⊥
 IsOwnPlace w (MarkerPlace t a p) = (f : File) × IsIn f (files w (record { task = t; attempt = a })) × (p ≡ f.0)
 IsOwnPlace w (RecordPlace t a p) = (f : File) × IsIn f (files w (record { task = t; attempt = a })) × (p ≡ f.0)
 IsOwnPlace w (SetPlace t) = t < w.tasks
-IsOwnPlace w SuccessPlace = ⊥
+IsOwnPlace w _ = ⊥
 
 -- each key that stands there is that of such a place
 abbrev pub Below : Script → (List ℕ → Option Object) → Type 0

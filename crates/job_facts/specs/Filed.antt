@@ -1,10 +1,9 @@
 -- The uploads of the sets that the driver holds, and what stands where their files go while its commit runs.
 use Rattle.std.specs.Prelude.{Bool, List, None, Option, Some, false, length, true, ℕ, ◌<◌, ◌∷◌, ◌≡◌, ◌≤◌, ◌⊎◌}
-use Rattle.job_protocol.specs.Prelude.{Aborting, Clean, CleanOver, Commit, CommitEnd, CommitOver, Completing, Content, DeleteObject, Drawn, Entry, Fetching, File, IsIn, IsWorn, Marking, Naming, Object, Pending, Removing, Replacing, Request, Reverting, Script, Sets, Upload, UploadRef, Walking, Who, abort, all_commits, below, deletion, file_record, files, picks_of, same_path, streak, wanted_at}
+use Rattle.job_protocol.specs.Prelude.{Aborting, Clean, Commit, CommitEnd, CommitOver, Completing, Content, DeleteObject, Drawn, Entry, Fetching, File, IsIn, IsWorn, Marking, Object, Pending, Replacing, Request, Reverting, Script, Sets, Upload, UploadRef, Walking, Who, abort, all_commits, below, deletion, file_record, files, picks_of, same_path, streak, wanted_at}
 use Rattle.job_facts.specs.Told.{Told}
 use Rattle.job_facts.specs.Stores.{at_id}
 use Rattle.job_facts.specs.Facts.{IsWritten}
-use Rattle.job_protocol.specs.Cleanups.{Sweeping}
 use Rattle.job_model.specs.declared.ends.CommitEnd.TheVariants as ends
 use Rattle.job_model.specs.declared.ends.Stage.TheVariants as stages
 
@@ -35,10 +34,7 @@ AllHaveKeys w c found = (r : UploadRef) → IsIn r found → HasItsKey w c r
 abbrev pub FoundWithKeys : Script → Content → Clean → Type 0
 FoundWithKeys w c (Walking found) = AllHaveKeys w c found
 FoundWithKeys w c (Aborting u us) = AllHaveKeys w c (u ∷ us)
-FoundWithKeys w c (Sweeping t) = Unit {0}
-FoundWithKeys w c Naming = Unit {0}
-FoundWithKeys w c (Removing p ps) = Unit {0}
-FoundWithKeys w c (CleanOver end) = Unit {0}
+FoundWithKeys w c _ = Unit {0}
 
 -- each of these requests aborts such an upload, or deletes its file's key
 abbrev pub AreReverts : Script → ℕ → (Who → Bool) → (Who → List Drawn) → List Request → Type 0
@@ -74,12 +70,10 @@ deletes w q = DeleteObject w.dest.bucket (below w.dest.key q)
 
 -- these bytes are wanted at the path, where the commit goes on with its sets
 abbrev pub Wants : Script → List ℕ → List ℕ → Commit → Type 0
-Wants w q b (Fetching sets n) = Unit {0}
 Wants w q b (Replacing sets p ps s n) = wanted_at w (picks_of sets) q ≡ Some b
 Wants w q b (Completing sets x xs finished) = wanted_at w (picks_of sets) q ≡ Some b
 Wants w q b (Marking sets n) = wanted_at w (picks_of sets) q ≡ Some b
-Wants w q b (Reverting r rs n) = Unit {0}
-Wants w q b (CommitOver end) = Unit {0}
+Wants w q b _ = Unit {0}
 
 -- how a commit that is over leaves it
 abbrev pub FileLeft : Script → List ℕ → List ℕ → Option Object → List Entry → Option Object → CommitEnd → Type 0

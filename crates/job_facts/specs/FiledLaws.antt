@@ -1,17 +1,19 @@
 -- The laws of what stands where the job's files go, and of uploads that are ended.
-use Rattle.std.specs.Prelude.{◌≡◌, ℕ, ◌<◌, ◌≤◌, ◌^◌, true, List, [], ◌∷◌, ◌++◌, Option, Some, None}
-use Rattle.job_spec.specs.Prelude.{Scene, Content, apply, answer, bucket_of, effect, IsHonestOutcome, Object, Request, Outcome, Entry, IsWorn, is_open, Who, IsLegal, Script, Sets, Commit, Marking, CommitOver, commit_start, commit_asks, commit_tells, Tabled, Setting, Operation, asks, Seen, IsIn, Retried, step, Clean, clean_start, clean_asks, clean_after}
-use Rattle.job_protocol.specs.Prelude.{below}
-use Rattle.store_frame.specs.Prelude.{HasBucket, changed_keys}
-use Rattle.job_model.specs.declared.ends.CommitEnd.TheVariants as ends
-use Rattle.job_model.specs.declared.ends.Stage.TheVariants as stages
-use Rattle.job_facts.specs.Told.{Told, known, nothing_told, tell, entry, driver_entry, strange_entry}
-use Rattle.job_facts.specs.Stores.{at_key, at_id}
-use Rattle.job_facts.specs.Facts.{IsAttempt, Hold}
+use Rattle.std.specs.Prelude.{List, None, Option, Some, [], true, ℕ, ◌++◌, ◌<◌, ◌^◌, ◌∷◌, ◌≡◌, ◌≤◌}
+use Rattle.job_protocol.specs.Prelude.{Clean, Commit, CommitOver, Content, Entry, IsIn, IsLegal, IsWorn, Marking, Object, Operation, Outcome, Request, Retried, Scene, Script, Seen, Sets, Setting, Tabled, Who, answer, apply, asks, below, clean_asks, commit_asks, commit_start, commit_tells, effect, step}
+use Rattle.store_frame.specs.Prelude.{HasBucket, bucket_of, changed_keys}
+use Rattle.job_facts.specs.Told.{Told, driver_entry, entry, known, nothing_told, strange_entry, tell}
+use Rattle.job_facts.specs.Stores.{at_id, at_key}
+use Rattle.job_facts.specs.Facts.{Hold, IsAttempt}
 use Rattle.job_facts.specs.Fits.{Fits}
 use Rattle.job_facts.specs.Driver.{FitsJobCommit}
 use Rattle.job_facts.specs.Turning.{NoneEnded, Turns}
-use Rattle.job_facts.specs.Filed.{Gone, Decides, whole_of, IsBefore, deletes, Wants, FileStands, FoundWithKeys}
+use Rattle.job_facts.specs.Filed.{Decides, FileStands, FoundWithKeys, Gone, IsBefore, Wants, deletes, whole_of}
+use Rattle.job_protocol.specs.Cleanups.{clean_after, clean_start}
+use Rattle.magic_paths.specs.Places.{is_open}
+use Rattle.retries.specs.Prelude.{IsHonestOutcome}
+use Rattle.job_model.specs.declared.ends.CommitEnd.TheVariants as ends
+use Rattle.job_model.specs.declared.ends.Stage.TheVariants as stages
 
 -- how far the driver's commit has come: with the sets that it holds, its lanes, and the uploads that it has ended
 pub record Commits (w : Script) (minimum : ℕ) (s : Seen) (m : Told) (c : Commit) : Type 0 where

@@ -1,14 +1,13 @@
 -- How far an attempt's operation has come, by what the attempt knows and has sent.
-use Rattle.std.specs.Prelude.{◌≡◌, ℕ, ◌≤◌, ◌⊎◌, true, false, List, [], ◌∷◌, length, drop}
-use Rattle.job_spec.specs.Prelude.{begins, Committer, Magic, Directory, Partitioned, IsIn, RisesFrom, File, Who, Script, files, Drawn, Known, file_key, Uploading, Creating, Sending, file_parts, Write, Recording, WriteOver, TaskCommit, Looking, Reading, Publishing, Checking, Storing, Renaming, TaskCommitOver, attempt_prefix, TaskAbort, Dropping, TaskAbortOver, Operation, TheSetup, TheWrite, TheTaskCommit, TheTaskAbort, TheCommit, TheClean, is_magic, is_staging}
-use Rattle.job_protocol.specs.Prelude.{Sweep, Listing, Deleting}
+use Rattle.std.specs.Prelude.{List, [], drop, false, length, true, ℕ, ◌∷◌, ◌≡◌, ◌≤◌, ◌⊎◌}
+use Rattle.job_protocol.specs.Prelude.{Checking, Committer, Creating, Deleting, Directory, Drawn, Dropping, File, IsIn, Known, Listing, Looking, Magic, Operation, Partitioned, Publishing, Reading, Renaming, RisesFrom, Script, Sending, Storing, Sweep, TaskAbort, TaskAbortOver, TaskCommit, TaskCommitOver, TheTaskAbort, TheTaskCommit, TheWrite, Uploading, Who, Write, WriteOver, attempt_prefix, begins, file_key, file_parts, files, is_magic, is_staging}
+use Rattle.job_protocol.specs.Writes.{Marking, Recording}
+use Rattle.job_protocol.specs.TaskAborts.{Removing, Sweeping}
+use Rattle.job_facts.specs.Told.{Told, known}
+use Rattle.job_facts.specs.Facts.{ApartFiles, AreCommits, IsWritten}
 use Rattle.job_model.specs.declared.ends.TaskEnd.TheVariants as tasks
-use Rattle.job_protocol.specs.Writes.{Marking}
 use Rattle.job_protocol.specs.Writes as writes
 use Rattle.job_protocol.specs.TaskCommits as commits
-use Rattle.job_protocol.specs.TaskAborts.{Sweeping, Removing}
-use Rattle.job_facts.specs.Told.{Told, known}
-use Rattle.job_facts.specs.Facts.{IsWritten, ApartFiles, AreCommits}
 
 -- these files are left to upload: no upload of them is known, and all others are written
 pub record Todo (w : Script) (minimum : ℕ) (a : Who) (ds : List Drawn) (fs : List File) : Type 0 where

@@ -1,9 +1,10 @@
 -- Requests that leave a job's own keys, uploads and cluster files alone.
 use Rattle.std.specs.Prelude.{◌≡◌, ℕ, true, false, List, Some}
-use Rattle.job_spec.specs.Prelude.{begins, bucket_of, Request, IsIn, magic_prefix, cluster_prefix, Who, Script, Drawn}
-use Rattle.store_frame.specs.Prelude.{changed_keys, changed_upload, changed_paths}
+use Rattle.store_frame.specs.Prelude.{changed_keys, changed_upload, changed_paths, bucket_of}
 use Rattle.job_facts.specs.Told.{ends}
 use Rattle.job_facts.specs.Stores.{IsKnown}
+use Rattle.magic_paths.specs.Layout.{magic_prefix, cluster_prefix}
+use Rattle.job_protocol.specs.Prelude.{begins, Request, IsIn, Who, Script, Drawn}
 
 -- it changes no key below the job's magic directory, no upload that an attempt knows, and no path below the job's directory in the cluster
 pub record IsForeign (w : Script) (drawn : Who → List Drawn) (r : Request) : Type 0 where

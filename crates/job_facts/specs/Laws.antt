@@ -1,27 +1,24 @@
 -- The laws of this crate.
-use Rattle.std.specs.Prelude.{◌≡◌, ℕ, ◌+◌, ◌<◌, ◌≤◌, ◌^◌, ◌⊎◌, true, false, List, [], map, length, slice_get, Option, Some, None, Ok}
-use Rattle.job_spec.specs.Prelude.{Scene, Upload, begins, effect, only_reads, Entry, named_from, GetObject, UploadPart, CompleteUpload, Reply, Part, Completed, Refused, NoSuchKey, NoSuchFile, File, files, Drawn, Known, knows, drawn_in, file_key, marker_key, record_key, file_record, record_text, files_set, file_parts, WriteOver, write_start, task_commit_start, task_abort_start, Commit, commit_start, commit_asks, commit_tells, set_request, set_read, ok_set, IsIn, Retried, step, magic_prefix, cluster_prefix, IsHonestOutcome, answer, Request, Outcome, Who, actor_of, IsLegal, Script, view, Clean, clean_asks, clean_after, Setting, Operation, asks, tells, has_cleaned, by_actor, Same, Seen, see, is_begun, is_magic, is_staging, Times}
-use Rattle.store_frame.specs.Prelude.{HasBucket}
-use Rattle.job_protocol.specs.Prelude.{Path}
+use Rattle.std.specs.Prelude.{List, None, Ok, Option, Some, [], false, length, map, slice_get, true, ℕ, ◌+◌, ◌<◌, ◌^◌, ◌≡◌, ◌≤◌, ◌⊎◌}
+use Rattle.store_frame.specs.Prelude.{HasBucket, only_reads}
+use Rattle.job_protocol.specs.Prelude.{Clean, Commit, CompleteUpload, Drawn, Entry, File, GetObject, IsIn, IsLegal, Known, NoSuchFile, NoSuchKey, Operation, Outcome, Part, Path, Refused, Reply, Request, Retried, Same, Scene, Script, Seen, Setting, Times, Upload, UploadPart, Who, WriteOver, answer, asks, begins, clean_asks, commit_asks, commit_start, commit_tells, drawn_in, effect, file_key, file_parts, file_record, files, files_set, is_begun, is_magic, is_staging, marker_key, record_key, record_text, see, set_read, set_request, step, task_abort_start, task_commit_start, tells, view, write_start}
+use Rattle.s3_types.specs.Tags.{joined_tag, plain_tag}
+use Rattle.job_facts.specs.Told.{Told, driver_entry, entry, known, nothing_told, strange_entry, tell, undoes}
+use Rattle.job_facts.specs.Stores.{at_id, at_key, sets_at}
+use Rattle.job_facts.specs.Foreign.{IsDriving, IsForeign, IsOwn}
+use Rattle.job_facts.specs.Facts.{Facts, Hold, IsAttempt, IsSet, IsWritten, knowing}
+use Rattle.job_facts.specs.Fits.{Fits, FitsAbort, FitsCommit, FitsWrite, IsOpen}
+use Rattle.job_facts.specs.Driver.{FitsClean, FitsJobCommit}
+use Rattle.job_protocol.specs.Cleanups.{clean_after}
+use Rattle.retries.specs.Prelude.{IsHonestOutcome}
+use Rattle.magic_paths.specs.Layout.{cluster_prefix, magic_prefix}
+use Rattle.job_protocol.specs.JobCommits.{ok_set}
+use Rattle.job_model.specs.Prelude.{Completed, named_from}
 use Rattle.std.specs.FinMap as fin
-use Rattle.s3_types.specs.Tags.{plain_tag, joined_tag}
-use Rattle.s3_types.specs.declared.reply.Reply.TheVariants.{Object as Found}
 use Rattle.pending_json.specs.Reading as reading
 use Rattle.job_model.specs.declared.ends.TaskEnd.TheVariants as tasks
 use Rattle.magic_paths.specs.Finals as finals
-use Rattle.job_facts.specs.Told.{Told, known, undoes, nothing_told, tell, tell_all, entry, driver_entry, strange_entry}
-use Rattle.job_facts.specs.Stores.{at_key, at_id, sets_at}
-use Rattle.job_facts.specs.Foreign.{IsForeign, IsDriving, IsOwn}
-use Rattle.job_facts.specs.Facts.{IsAttempt, IsWritten, IsSet, Facts, Hold, knowing}
-use Rattle.job_facts.specs.Fits.{IsOpen, Fits, FitsWrite, FitsCommit, FitsAbort}
-use Rattle.job_facts.specs.Driver.{FitsClean, FitsJobCommit}
-
--- ---- what is told
-
--- of an attempt it is what the attempt knows by its own entries, and of a clean that its event has begun
-pub record ToldIsSaid : Type 0 where
-  pub known : (w : Script) (c : Option ℕ) (a : Who) (es : List Entry) → known (tell_all w (nothing_told c) es) a ≡ knows w a (by_actor (actor_of a) es)
-  pub cleaned : (w : Script) (c : Option ℕ) (es : List Entry) → (tell_all w (nothing_told c) es).cleaned ≡ has_cleaned c es
+use Rattle.s3_types.specs.declared.reply.Reply.TheVariants.{Object as Found}
 
 -- ---- the beginning, and what changes nothing
 

@@ -1,13 +1,16 @@
 -- The laws of the driver's set-up.
-use Rattle.std.specs.Prelude.{◌≡◌, ℕ, true, false, List, Some}
-use Rattle.job_spec.specs.Prelude.{Scene, begins, answer, effect, IsHonestOutcome, Request, Outcome, Retried, step, magic_prefix, success_key, Who, IsLegal, Script, Drawn, view, Setup, SetupOver, setup_start, setup_asks, setup_after, NoClusterFile, Same, is_staging}
+use Rattle.std.specs.Prelude.{List, Some, false, true, ℕ, ◌≡◌}
 use Rattle.store_frame.specs.Prelude.{HasBucket}
-use Rattle.std.specs.FinMap as fin
-use Rattle.job_model.specs.declared.ends.SetupEnd.TheVariants as ends
-use Rattle.job_facts.specs.Stores.{at_key, at_id}
+use Rattle.job_facts.specs.Stores.{at_id, at_key}
 use Rattle.job_facts.specs.Foreign.{IsForeign}
 use Rattle.job_facts.specs.Emptying.{SetsUp}
 use Rattle.job_facts.specs.Laws.{IsBare}
+use Rattle.job_protocol.specs.Prelude.{Drawn, IsLegal, NoClusterFile, Outcome, Request, Retried, Same, Scene, Script, Setup, SetupOver, Who, answer, begins, effect, is_staging, setup_after, setup_asks, step, success_key, view}
+use Rattle.job_protocol.specs.Setup.{setup_start}
+use Rattle.magic_paths.specs.Layout.{magic_prefix}
+use Rattle.retries.specs.Prelude.{IsHonestOutcome}
+use Rattle.std.specs.FinMap as fin
+use Rattle.job_model.specs.declared.ends.SetupEnd.TheVariants as ends
 
 -- of the job's bucket and of the cluster nothing changes from one scene to another but the job's magic directory and the marker of a committed job: no file that a reader is shown, no live upload, no cluster file
 pub record ClearsAlone (w : Script) (s t : Scene) : Type 0 where

@@ -1,11 +1,11 @@
 -- How far an abort or clean has come that spares what is another job's, and what stands in the job's directory of the cluster.
 use Rattle.std.specs.Prelude.{List, Some, true, ℕ, ◌<◌, ◌∷◌, ◌≡◌, ◌⊎◌}
-use Rattle.job_protocol.specs.Prelude.{Drawn, IsIn, Scene, Script, UploadRef, Who, begins, staged_set_path, temporary_path}
-use Rattle.job_spec.specs.Prelude.{cluster_prefix, is_magic, is_staging}
-use Rattle.job_model.specs.Prelude.{is_record}
+use Rattle.job_protocol.specs.Prelude.{Drawn, IsIn, Scene, Script, UploadRef, Who, begins, is_magic, is_staging, staged_set_path, temporary_path}
 use Rattle.job_protocol.specs.Sparing.{Aborting, Deleting, Naming, Reading, Removing, Sparing, SparingOver, Walking}
 use Rattle.job_facts.specs.Driver.{AllCluster, AllMagic}
 use Rattle.job_facts.specs.Facts.{IsAttempt}
+use Rattle.magic_paths.specs.Places.{is_record}
+use Rattle.magic_paths.specs.Layout.{cluster_prefix}
 use Rattle.std.specs.FinMap as fin
 
 -- each is an upload that an attempt of the job knows, with its key

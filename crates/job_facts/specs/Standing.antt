@@ -1,14 +1,13 @@
 -- Until the driver's abort or clean of the job begins, what an attempt has written stands, and the driver ends no upload that may still be sent to: so no write or commit finds its own gone.
-use Rattle.std.specs.Prelude.{◌≡◌, ℕ, ◌⊎◌, Bool, true, false, List, [], ◌∷◌, Some}
-use Rattle.job_spec.specs.Prelude.{is_lt, text_cmp, Object, Request, TemporaryPlace, File, Who, Script, Drawn, TaskEnd, files, record_key, Write, Recording, WriteOver, TaskCommit, Looking, Reading, Publishing, Checking, Storing, Renaming, TaskCommitOver, Commit, Fetching, Replacing, Completing, Reverting, CommitOver, Operation, TheSetup, TheWrite, TheTaskCommit, TheTaskAbort, TheCommit, TheClean, Seen, is_magic, IsIn}
-use Rattle.job_protocol.specs.Prelude.{last_of}
-use Rattle.job_model.specs.declared.ends.TaskEnd.TheVariants as tasks
-use Rattle.job_protocol.specs.Writes.{Marking}
-use Rattle.job_protocol.specs.Writes as writes
-use Rattle.job_protocol.specs.TaskCommits as commits
-use Rattle.job_protocol.specs.JobCommits.{Marking as MarkingJob}
+use Rattle.std.specs.Prelude.{Bool, List, Some, [], false, true, ℕ, ◌∷◌, ◌≡◌, ◌⊎◌}
+use Rattle.job_protocol.specs.Prelude.{Checking, Commit, Drawn, File, IsIn, Looking, Object, Operation, Publishing, Reading, Renaming, Request, Reverting, Script, Seen, Storing, TaskCommit, TaskCommitOver, TaskEnd, TheTaskCommit, TheWrite, Who, Write, WriteOver, files, is_lt, is_magic, last_of, record_key, text_cmp}
+use Rattle.job_protocol.specs.Writes.{Marking, Recording}
 use Rattle.job_facts.specs.Told.{Told, ends}
 use Rattle.job_facts.specs.Stores.{at_key, at_path}
+use Rattle.magic_paths.specs.Places.{TemporaryPlace}
+use Rattle.job_model.specs.declared.ends.TaskEnd.TheVariants as tasks
+use Rattle.job_protocol.specs.Writes as writes
+use Rattle.job_protocol.specs.TaskCommits as commits
 
 -- ---- what the driver ends
 
@@ -27,12 +26,8 @@ EndsSent sent drawn (r ∷ rs) = ((id : ℕ) → ends r id ≡ true → IsSent s
 
 -- what is left of a revert ends only such uploads
 abbrev pub Reverts : (Who → Bool) → (Who → List Drawn) → Commit → Type 0
-Reverts sent drawn (Fetching sets n) = Unit {0}
-Reverts sent drawn (Replacing sets p ps s n) = Unit {0}
-Reverts sent drawn (Completing sets x xs finished) = Unit {0}
-Reverts sent drawn (MarkingJob sets n) = Unit {0}
 Reverts sent drawn (Reverting r rs n) = EndsSent sent drawn (r ∷ rs)
-Reverts sent drawn (CommitOver end) = Unit {0}
+Reverts sent drawn _ = Unit {0}
 
 -- ---- what an attempt has written
 

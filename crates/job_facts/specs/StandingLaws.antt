@@ -1,14 +1,15 @@
 -- The laws of what stands until the driver's abort or clean of the job begins.
-use Rattle.std.specs.Prelude.{◌≡◌, ℕ, Bool, true, false, List, Option, Some}
-use Rattle.job_spec.specs.Prelude.{answer, IsHonestOutcome, Request, Outcome, Who, IsLegal, Script, Write, WriteOver, write_start, write_over, TaskCommit, TaskCommitOver, task_commit_start, task_commit_over, Commit, commit_start, commit_asks, commit_tells, Clean, clean_asks, Tabled, Setting, Operation, asks, tells, Seen, see, is_begun, Times}
-use Rattle.job_model.specs.declared.ends.TaskEnd.TheVariants as tasks
-use Rattle.job_facts.specs.Told.{Told, known, nothing_told, tell, entry, driver_entry, strange_entry}
+use Rattle.std.specs.Prelude.{Bool, List, Option, Some, false, true, ℕ, ◌≡◌}
+use Rattle.job_facts.specs.Told.{Told, driver_entry, entry, known, nothing_told, strange_entry, tell}
 use Rattle.job_facts.specs.Stores.{sets_at}
 use Rattle.job_facts.specs.Foreign.{IsForeign}
-use Rattle.job_facts.specs.Facts.{IsAttempt, IsSet, Hold}
+use Rattle.job_facts.specs.Facts.{Hold, IsAttempt, IsSet}
 use Rattle.job_facts.specs.Fits.{Fits}
 use Rattle.job_facts.specs.Driver.{FitsClean, FitsJobCommit}
-use Rattle.job_facts.specs.Standing.{Closed, Reverts, WriteStands, CommitStands, Stands}
+use Rattle.job_facts.specs.Standing.{Closed, CommitStands, Reverts, Stands, WriteStands}
+use Rattle.job_protocol.specs.Prelude.{Clean, Commit, IsLegal, Operation, Outcome, Request, Script, Seen, Setting, Tabled, TaskCommit, TaskCommitOver, Times, Who, Write, WriteOver, answer, asks, clean_asks, commit_asks, commit_start, commit_tells, is_begun, see, task_commit_over, task_commit_start, tells, write_over, write_start}
+use Rattle.retries.specs.Prelude.{IsHonestOutcome}
+use Rattle.job_model.specs.declared.ends.TaskEnd.TheVariants as tasks
 
 -- Until it cleans up, the driver ends only uploads of attempts that have sent their publishing requests. Of a commit's lanes it takes that their numbers are those of uploads (`Tabled`, which `job_protocol` keeps); of a stranger's entry nothing is told.
 pub record DriverCloses : Type 0 where

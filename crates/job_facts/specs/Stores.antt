@@ -1,10 +1,11 @@
 -- What a store and the cluster have at the places of a job, and how a request may change it.
-use Rattle.std.specs.Prelude.{◌≡◌, ℕ, ◌+◌, ◌≤◌, ◌<◌, ◌&&◌, Bool, true, false, cond, List, Option, Some, None}
-use Rattle.job_spec.specs.Prelude.{option_map, text_eq, Content, Scene, Upload, begins, is_part_number, with_part, Object, Committer, Magic, Directory, Partitioned, IsIn, magic_prefix, cluster_prefix, Place, SetPlace, ClusterPlace, StagedSetPlace, key_at, path_at, Who, Script, Drawn}
-use Rattle.store_frame.specs.Prelude.{HasBucket}
-use Rattle.std.specs.FinMap as fin
+use Rattle.std.specs.Prelude.{Bool, List, None, Option, Some, cond, false, true, ℕ, ◌&&◌, ◌+◌, ◌<◌, ◌≡◌, ◌≤◌}
+use Rattle.store_frame.specs.Prelude.{HasBucket, is_part_number, with_part}
 use Rattle.job_protocol.specs.View.{object_at}
-use Rattle.job_spec.specs.Scope.{upload_at}
+use Rattle.job_protocol.specs.Prelude.{Committer, Content, Directory, Drawn, IsIn, Magic, Object, Partitioned, Scene, Script, Upload, Who, begins, option_map, text_eq, upload_at}
+use Rattle.magic_paths.specs.Places.{ClusterPlace, Place, SetPlace, StagedSetPlace, key_at, path_at}
+use Rattle.magic_paths.specs.Layout.{cluster_prefix, magic_prefix}
+use Rattle.std.specs.FinMap as fin
 
 -- what stands at a key of the job's bucket, and at a place
 abbrev pub at_key : Script → Content → List ℕ → Option Object

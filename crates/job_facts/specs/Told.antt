@@ -1,6 +1,6 @@
 -- What a journal tells beside what is seen: of each attempt what it knows and has undone, and which uploads the driver has ended.
-use Rattle.std.specs.Prelude.{ℕ, ◌&&◌, ◌||◌, nat_eq, Bool, true, false, cond, List, [], ◌∷◌, Option}
-use Rattle.job_spec.specs.Prelude.{is_effective, Actor, Driver, Attempt, Shell, Request, CompleteUpload, AbortUpload, DeleteObject, DeleteObjects, ClusterDelete, Outcome, Entry, Who, same_name, actor_of, Script, Drawn, Known, learn, is_begun}
+use Rattle.std.specs.Prelude.{Bool, List, Option, [], cond, false, nat_eq, true, ℕ, ◌&&◌, ◌||◌, ◌∷◌}
+use Rattle.job_protocol.specs.Prelude.{AbortUpload, Actor, Attempt, ClusterDelete, CompleteUpload, DeleteObject, DeleteObjects, Drawn, Driver, Entry, Known, Outcome, Request, Script, Shell, Who, actor_of, is_begun, is_effective, learn, same_name}
 
 -- what a journal tells of a job's attempts and of what its driver ended
 pub record Told : Type 0 where

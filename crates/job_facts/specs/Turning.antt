@@ -1,10 +1,11 @@
 -- While the driver's commit completes the uploads of the sets that it holds: which of them it has ended.
-use Rattle.std.specs.Prelude.{◌≡◌, ℕ, ◌<◌, ◌⊎◌, Bool, true, false, map, length, List, ◌∷◌, Option, Some}
-use Rattle.job_spec.specs.Prelude.{answer, named_from, Request, Completed, Outcome, Who, IsLegal, Script, Turn, nth, completion, Sets, all_commits, Commit, Fetching, Replacing, Completing, Marking, Reverting, CommitOver, commit_start, commit_asks, commit_tells, Tabled, Setting, Seen, IsIn}
+use Rattle.std.specs.Prelude.{Bool, List, Option, Some, false, length, map, true, ℕ, ◌<◌, ◌∷◌, ◌≡◌, ◌⊎◌}
 use Rattle.s3_types.specs.Tags.{joined_tag}
-use Rattle.job_facts.specs.Told.{Told, nothing_told, tell, entry, driver_entry, strange_entry}
+use Rattle.job_facts.specs.Told.{Told, driver_entry, entry, nothing_told, strange_entry, tell}
 use Rattle.job_facts.specs.Facts.{Hold}
-use Rattle.job_facts.specs.Driver.{Reads, FitsJobCommit}
+use Rattle.job_facts.specs.Driver.{FitsJobCommit, Reads}
+use Rattle.job_protocol.specs.Prelude.{Commit, Completing, Fetching, IsIn, IsLegal, Outcome, Replacing, Request, Script, Seen, Sets, Setting, Tabled, Turn, Who, all_commits, answer, commit_asks, commit_start, commit_tells, completion, nth}
+use Rattle.job_model.specs.Prelude.{Completed, named_from}
 
 -- the driver has ended no upload
 abbrev pub NoneEnded : Told → Type 0
@@ -20,9 +21,7 @@ abbrev pub Turns : Told → Commit → Type 0
 Turns m (Fetching sets n) = NoneEnded m
 Turns m (Replacing sets p ps s n) = NoneEnded m
 Turns m (Completing sets x xs finished) = Turned m.ended sets (x ∷ xs) finished
-Turns m (Marking sets n) = Unit {0}
-Turns m (Reverting r rs n) = Unit {0}
-Turns m (CommitOver end) = Unit {0}
+Turns m _ = Unit {0}
 
 -- with every number of lanes (`Tabled`, which `job_protocol` keeps)
 pub record CommitTurns : Type 0 where

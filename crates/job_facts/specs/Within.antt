@@ -1,12 +1,13 @@
 -- Requests that leave all that is outside the destination as it is, and that no operation of the job sends others.
-use Rattle.std.specs.Prelude.{◌≡◌, ℕ, true, List, Some}
-use Rattle.job_spec.specs.Prelude.{Scene, begins, effect, Outcome, Request, MakeBucket, PutObject, DeleteObject, DeleteObjects, CopyObject, CreateUpload, UploadPart, CompleteUpload, AbortUpload, Who, IsLegal, Script, dest_prefix, Setup, setup_asks, Commit, commit_asks, Clean, clean_asks, Setting, Operation, asks, IsZeroRename, Seen, IsIn}
-use Rattle.job_facts.specs.Told.{Told, known, entry, driver_entry}
-use Rattle.job_facts.specs.Facts.{IsAttempt, Hold}
+use Rattle.std.specs.Prelude.{List, Some, true, ℕ, ◌≡◌}
+use Rattle.job_facts.specs.Told.{Told, driver_entry, entry, known}
+use Rattle.job_facts.specs.Facts.{Hold, IsAttempt}
 use Rattle.job_facts.specs.Fits.{Fits}
 use Rattle.job_facts.specs.Emptying.{SetsUp}
 use Rattle.job_facts.specs.Driver.{FitsClean}
 use Rattle.job_facts.specs.FiledLaws.{Commits}
+use Rattle.job_protocol.specs.Prelude.{AbortUpload, Clean, Commit, CompleteUpload, CopyObject, CreateUpload, DeleteObject, DeleteObjects, IsIn, IsLegal, IsZeroRename, Operation, Outcome, PutObject, Request, Scene, Script, Seen, Setting, Setup, UploadPart, Who, asks, begins, clean_asks, commit_asks, dest_prefix, effect, setup_asks}
+use Rattle.retries.specs.Prelude.{MakeBucket}
 
 -- a key below the destination, in its bucket
 abbrev pub IsBelow : Script → List ℕ → List ℕ → Type 0

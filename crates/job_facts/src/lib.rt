@@ -21,7 +21,7 @@
 //! request of the job's actors leaves all that is outside the destination.
 #![tactic(auto)]
 
-ghost use Rattle.job_facts.specs.Laws.{AnswersFit, AttemptBegins, AttemptGoes, AttemptNames, CleanGoes, CommitGoes, DrivingKeeps, FactsBegin, ForeignKeeps, MarkersLead, ReadsKeep, ToldIsSaid};
+ghost use Rattle.job_facts.specs.Laws.{AnswersFit, AttemptBegins, AttemptGoes, AttemptNames, CleanGoes, CommitGoes, DrivingKeeps, FactsBegin, ForeignKeeps, MarkersLead, ReadsKeep};
 ghost use Rattle.job_facts.specs.SetupLaws.{SetupGoes};
 ghost use Rattle.job_facts.specs.Clearing.{CleanClears};
 ghost use Rattle.job_facts.specs.Turning.{CommitTurns};
@@ -34,9 +34,8 @@ pub fn setups()
     ensures goes { SetupGoes }
 {}
 
-/// What is told of a journal, where the facts begin, and requests that change nothing.
+/// Where the facts begin, and requests that change nothing.
 pub fn beginning()
-    ensures told { ToldIsSaid }
     ensures begins { FactsBegin }
     ensures reads { ReadsKeep }
 {}

@@ -1,6 +1,5 @@
 -- The attempts of a made job.
 use Rattle.job_gen.proofs.Common.{AreAttempts, AreFiles, Bool, Declared, File, List, Some, Who, [], append_assoc, arith, attempt_of, attempts_of, cases_lt, cond, declares, eq-eqb, false, flat_map, inl, inr, is_some, is_twice, lookup, range_with_len, refl, same_name, subst, suc, sym, true, zero, ℕ, ◌++◌, ◌+◌, ◌<◌, ◌∷◌, ◌≡◌, ◌≤◌}
-use Rattle.proof_base.proofs.Common.{ne_eqb}
 use Rattle.job_gen.proofs.Ranges.{flat_map_next}
 
 -- ---- which attempts are declared

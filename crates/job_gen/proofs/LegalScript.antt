@@ -1,11 +1,10 @@
 -- A made script keeps the bounds of a script.
-use Rattle.job_gen.proofs.Common.{AllByRecursion, AreFates, Declared, File, IsDest, IsLegal, List, [], ap, arith, bytes_in, bytes_of, eqb-true, false, files_in, length, length-append, nat_cmp, none_some, refl, suc, true, zero, ℕ, ◌%◌, ◌*◌, ◌++◌, ◌+◌, ◌∷◌, ◌≡◌, ◌≤◌}
-use Rattle.std.proofs.lemmas.Bool.{eqb-false}
+use Rattle.job_gen.proofs.Common.{AllByRecursion, AreFates, Declared, File, IsDest, IsLegal, List, [], ap, arith, bytes_in, bytes_of, false, files_in, length, length-append, nat_cmp, none_some, refl, suc, true, zero, ℕ, ◌%◌, ◌*◌, ◌++◌, ◌+◌, ◌∷◌, ◌≡◌, ◌≤◌}
 use Rattle.job_gen.specs.Made.{attempt_of, is_twice, attempts_of, part_files, made_attempts, made_dest, made_script}
 use Rattle.job_gen.proofs.Declaring.{attempts_from, one_or_two, attempts_fit, has_first, has_second, known}
 use Rattle.std.specs.Prelude.{codes}
 use Rattle.std.specs.FinMap as fin
-use Rattle.words.specs.Parts.{parts_from}
+use Rattle.basics.specs.Parts.{parts_from}
 use Rattle.job_gen.proofs.PartPaths.{text_fits}
 use Rattle.job_gen.proofs.PartFiles.{files_fit, files_bytes}
 use Rattle.job_gen.proofs.PartFiles as made

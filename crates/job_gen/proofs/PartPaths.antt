@@ -1,5 +1,5 @@
 -- The paths of a made job's files.
-use Rattle.job_gen.proofs.Common.{Bool, File, IsAscii, IsAscii-cons, IsAscii-nil, IsGiven, IsUtf8-from_ascii, List, Some, [], and_parts, ap, arith, below_is, codes, cond, false, has_path, is_bare, is_other, is_some, is_utf8, is_utf8-from_IsUtf8, list_all, list_all-append, lookup, map, nat_lt, nat_tests, one_part, part_path, range_with_len, refl, suc, text_eq, text_false, three_digits, true, two_digits, zero, ℕ, ◌%◌, ◌&&◌, ◌++◌, ◌+◌, ◌/◌, ◌<◌, ◌∙◌, ◌∷◌, ◌≡◌, ◌≤◌}
+use Rattle.job_gen.proofs.Common.{Bool, File, IsAscii, IsAscii-cons, IsAscii-nil, IsGiven, IsUtf8-from_ascii, List, Some, [], and_parts, ap, arith, below_is, codes, cond, false, has_path, is_bare, is_other, is_some, is_utf8, is_utf8-from_IsUtf8, list_all, lookup, map, nat_lt, nat_tests, one_part, part_path, range_with_len, refl, suc, text_eq, text_false, true, zero, ℕ, ◌+◌, ◌<◌, ◌∙◌, ◌∷◌, ◌≡◌, ◌≤◌}
 
 -- a test that holds of the letters and of each digit holds of the whole path
 all_part : (p : ℕ → Bool) (t j : ℕ) → t < 1000 → j < 100 → list_all p (codes "part-") ≡ true → p 45 ≡ true → ((d : ℕ) → d < 10 → p (48 + d) ≡ true) → list_all p (part_path t j) ≡ true

@@ -1,9 +1,8 @@
 -- The script that is made of a seed and the numbers of tasks and of files of each.
-use Rattle.std.specs.Prelude.{ℕ, ◌+◌, ◌*◌, ◌/◌, ◌%◌, ◌^◌, ◌==◌, Bool, false, List, [], ◌∷◌, ◌++◌, map, filter, None, codes, replicate, if◌then◌else◌}
-use Rattle.job_spec.specs.Prelude.{flat_map, range_with_len, Actor, Driver, Magic, Append, File, Who, actor_of, Declared, Script, Event, Do, Start, Kill, Mix, draw}
-use Rattle.job_protocol.specs.Prelude.{Path}
-use Rattle.std.specs.FinMap as fin
-use Rattle.job_model.specs.declared.events.Op.TheVariants.{Setup, Write, Commit, Clean}
+use Rattle.std.specs.Prelude.{Bool, List, [], codes, filter, map, replicate, ℕ, ◌%◌, ◌*◌, ◌++◌, ◌+◌, ◌/◌, ◌==◌, ◌^◌, ◌∷◌, if◌then◌else◌}
+use Rattle.job_model.specs.Prelude.{Actor, Declared, Driver, File, Magic, Path, Script, Who, actor_of, flat_map, plain_script}
+use Rattle.job_spec.specs.Prelude.{Append, Do, Event, Kill, Mix, Start, draw, range_with_len}
+use Rattle.job_model.specs.declared.events.Op.TheVariants.{Clean, Commit, Setup, Write}
 
 -- the i-th number of a seed's sequence, from 1 on
 abbrev pub number : ℕ → ℕ → ℕ
@@ -96,18 +95,4 @@ made_dest = record { bucket = codes "lake"; key = codes "gen" }
 
 -- the script; its head says what a script says where no line tells another thing
 unfoldable pub made_script : (seed tasks files : ℕ) → Script
-made_script seed tasks files = record {
-  job = codes "gen";
-  dest = made_dest;
-  committer = Magic;
-  mode = Append;
-  unique = false;
-  tasks = tasks;
-  retries = 3;
-  block = 0;
-  lanes = 1;
-  stamp = None;
-  fates = fin.empty;
-  attempts = made_attempts seed tasks files;
-  events = made_events seed tasks;
-}
+made_script seed tasks files = record (plain_script (codes "gen") made_dest Magic Append tasks) { attempts = made_attempts seed tasks files; events = made_events seed tasks }

@@ -2,8 +2,8 @@
 use Rattle.std.proofs.Common.{◌≡◌, ℕ, ◌==◌, not, ◌⊎◌, inl, inr, Bool, true, false, List, [], ◌∷◌, ◌++◌, refl, sym, ap, ◌∙◌, subst}
 use Rattle.job_model.specs.Prelude.{list_all, join_with_byte, is_other, is_job_id, is_id_byte, with_id, with_id_last, unique_name, path_of}
 use Rattle.path_keys.proofs.Common.{and_parts, false≢true, eqb-true, append-nil, append_cancel_right, list_all-append, some_part, join_parts, parts_append, one_part}
-use Rattle.words.specs.Parts.{parts_of, parts_from}
-use Rattle.magic_paths.proofs.Tails.{cut_once}
+use Rattle.basics.specs.Parts.{parts_of, parts_from}
+use Rattle.basics.proofs.Cuts.{cut_once}
 
 -- ---- a job's id has neither a dot nor a slash
 

@@ -43,8 +43,7 @@ numbered_mode (suc (suc n)) = Replace
 -- a mode's number gives the mode again
 abbrev pub mode_again : (m : Mode) → numbered_mode (mode_number m) ≡ m
 mode_again Fail = refl
-mode_again Append = refl
-mode_again Replace = refl
+mode_again _ = refl
 
 -- operations by number
 abbrev pub op_number : Op → ℕ
@@ -65,10 +64,7 @@ numbered_op (suc (suc (suc (suc n)))) = op.Clean
 -- an operation's number gives the operation again
 abbrev pub op_again : (o : Op) → numbered_op (op_number o) ≡ o
 op_again op.Setup = refl
-op_again op.Write = refl
-op_again op.Commit = refl
-op_again op.Abort = refl
-op_again op.Clean = refl
+op_again _ = refl
 
 -- actors by kind and numbers
 abbrev pub actor_numbers : Actor → ℕ × (ℕ × ℕ)
@@ -85,8 +81,7 @@ numbered_actor (suc (suc n)) task attempt = Shell
 -- an actor's numbers give the actor again
 abbrev pub actor_again : (a : Actor) → numbered_actor (actor_numbers a).0 (actor_numbers a).1.0 (actor_numbers a).1.1 ≡ a
 actor_again Driver = refl
-actor_again (Attempt task attempt) = refl
-actor_again Shell = refl
+actor_again _ = refl
 
 -- the code of an actor
 abbrev pub coded_actor : Coded Actor
@@ -121,13 +116,7 @@ event_of (suc (suc (suc (suc (suc (suc (suc n))))))) actor op number = event.Rec
 -- an event's parts give the event again
 abbrev pub event_again : (e : Event) → event_of (event_parts e).0 (event_parts e).1.0 (event_parts e).1.1.0 (event_parts e).1.1.1 ≡ e
 event_again (event.Do actor op) = refl
-event_again (event.Start actor op) = refl
-event_again (event.Step actor count) = refl
-event_again (event.Run actor) = refl
-event_again (event.Kill actor) = refl
-event_again (event.Mix seed) = refl
-event_again event.Restart = refl
-event_again (event.Recover actor) = refl
+event_again _ = refl
 
 -- the code of an event
 abbrev pub coded_event : Coded Event

@@ -1,7 +1,8 @@
 -- What a job script says.
-use Rattle.std.specs.Prelude.{ℕ, Bool, List, Option}
+use Rattle.std.specs.Prelude.{ℕ, Bool, false, List, [], Option, None}
 use Rattle.pending_json.specs.Prelude.{FateMap, Committer, Mode}
 use Rattle.path_keys.specs.Paths.{Path}
+use Rattle.std.specs.FinMap as fin
 use Rattle.job_model.specs.Attempts.{Declared}
 use Rattle.job_model.specs.declared.events.Event.{Event}
 
@@ -28,3 +29,21 @@ pub record Script : Type 0 where
   pub fates : FateMap
   pub attempts : List Declared
   pub events : List Event
+
+-- a script that says no more than this: all else is as where no line of its head tells it, and nothing is declared or happens
+abbrev pub plain_script : List ℕ → Path → Committer → Mode → ℕ → Script
+plain_script job dest committer mode tasks = record {
+  job = job;
+  dest = dest;
+  committer = committer;
+  mode = mode;
+  unique = false;
+  tasks = tasks;
+  retries = 3;
+  block = 0;
+  lanes = 1;
+  stamp = None;
+  fates = fin.empty;
+  attempts = [];
+  events = [];
+}

@@ -93,9 +93,8 @@ HasOp actor.Shell op = ⊥
 
 -- a declared attempt
 abbrev pub IsRecovered : List Declared → Actor → Type 0
-IsRecovered attempts actor.Driver = ⊥
 IsRecovered attempts (actor.Attempt task attempt) = declares attempts (record { task = task; attempt = attempt }) ≡ true
-IsRecovered attempts actor.Shell = ⊥
+IsRecovered attempts _ = ⊥
 
 -- an event of the driver or a declared attempt, with its numbers in their ranges
 abbrev pub IsEvent : List Declared → Event → Type 0

@@ -8,6 +8,5 @@ pub mod Codes
 pub mod Legal
 pub mod Placed
 pub mod Plans
-pub mod PathLaws
 pub mod Words
 pub mod Prelude

@@ -1,7 +1,7 @@
 -- The paths of files, and the keys of destinations.
 use Rattle.std.specs.Prelude.{ℕ, Bool, false, not, ◌&&◌, ◌||◌, List, [], ◌∷◌, length, nat_le, nat_lt, nat_eq, codes, bytes_eq}
 use Rattle.pending_json.specs.Prelude.{list_all, list_any, ends_with}
-use Rattle.words.specs.Parts.{parts_of}
+use Rattle.basics.specs.Parts.{parts_of}
 
 -- an element that is not empty
 abbrev pub is_full : List ℕ → Bool

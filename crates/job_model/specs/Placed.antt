@@ -1,7 +1,7 @@
 -- The files of an attempt at their paths below the destination.
 use Rattle.std.specs.Prelude.{ℕ, ◌==◌, Bool, true, false, List, [], ◌∷◌, ◌++◌, map, Option, if◌then◌else◌}
 use Rattle.pending_json.specs.Prelude.{join_with_byte, lookup, option_map}
-use Rattle.words.specs.Parts.{parts_of}
+use Rattle.basics.specs.Parts.{parts_of}
 use Rattle.job_model.specs.Files.{File}
 use Rattle.job_model.specs.Attempts.{Who, same_name}
 use Rattle.job_model.specs.JobScript.{Script}

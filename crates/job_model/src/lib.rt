@@ -5,8 +5,7 @@
 //!
 //! scripts, plans and their parts: Attempts and files keep their order and each name once. A script
 //! keeps the bounds of `Legal.antt`, plans those of `Plans.antt`. Events, ends and states are written
-//! by the words of `Words.antt`. The paths of a script's files keep the bounds of the layout's places
-//! (`paths_are_places`).
+//! by the words of `Words.antt`.
 #![tactic(auto)]
 
 mod attempts;
@@ -14,7 +13,6 @@ mod ends;
 mod events;
 mod files;
 mod known;
-mod laws;
 mod plan;
 mod script;
 mod states;
@@ -27,7 +25,6 @@ pub use ends::{
 pub use events::{Event, EventList, Op};
 pub use files::FileList;
 pub use known::{DrawnPart, DrawnUpload, Knowledge};
-pub use laws::paths_are_places;
 pub use plan::{JobPlan, TaskPlan, TaskSet};
 pub use script::Script;
 pub use states::{ActorStage, ActorState, Life};

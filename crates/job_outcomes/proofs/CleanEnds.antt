@@ -1,6 +1,6 @@
 -- How the driver's abort or clean of the job ends, by its own entries.
-use Rattle.job_outcomes.proofs.Common.{Bool, ClusterNames, List, None, Option, Some, [], ap, arith, false_true, faults, first_spent, inl, inr, none_some, reads_nothing, refl, some_is, step_so, subst, sym, true, ℕ, ◌∙◌, ◌∷◌, ◌≡◌, ◌⊎◌}
-use Rattle.job_facts.specs.Prelude.{is_some, option_map, BucketContent, Scene, answer, answer_at, apply, after_all, AreHonest, Actor, Committer, Magic, Request, UploadRef, Reply, Refused, NoSuchBucket, Answered, ReplyLost, Entry, run, Follows, Retried, fresh, step, spent_in, WornFirst, IsLegal, Script, Known, CleanEnd, view, uploads_after, More, Whole, walked_uploads, Listing, Deleting, sweep_hears, all_go, dest_prefix, Clean, Walking, Aborting, Naming, Removing, CleanOver, clean_start, clean_asks, clean_hears, clean_after, clean_over, aborted, aborting, walking, sweeping, removing, naming, Setting, wants, advance, over, is_fault, spare_of, Same, CleanIs, Cleaned, Clears}
+use Rattle.job_outcomes.proofs.Common.{Bool, List, None, Option, Some, [], ap, arith, faults, first_spent, inl, inr, none_some, refl, some_is, step_so, subst, sym, true, ◌∙◌, ◌∷◌, ◌≡◌, ◌⊎◌}
+use Rattle.job_facts.specs.Prelude.{is_some, option_map, BucketContent, Scene, answer, apply, after_all, AreHonest, Actor, Committer, Request, UploadRef, Reply, Answered, ReplyLost, Entry, run, Follows, Retried, fresh, step, spent_in, WornFirst, IsLegal, Script, Known, CleanEnd, view, Listing, Deleting, Clean, Walking, Naming, Removing, CleanOver, clean_start, clean_asks, clean_hears, clean_after, clean_over, aborting, naming, Setting, wants, advance, over, is_fault, spare_of, Same, Clears}
 use Rattle.std.specs.FinMap as fin
 use Rattle.job_model.specs.declared.ends.CleanEnd.TheVariants as cleans
 use Rattle.job_model.specs.declared.ends.OpEnd.TheVariants as ends
@@ -11,6 +11,7 @@ use Rattle.job_facts.proofs.Shows.{HidesAll, hidden_shows}
 use Rattle.job_outcomes.specs.CleanEnds.{cleaning, CleanEnds}
 use Rattle.job_outcomes.proofs.Alone.{clean_follows, clean_run}
 use Rattle.job_outcomes.proofs.Went.{Went, went}
+use Rattle.job_spec.specs.OperationEnds.{CleanIs, Cleaned}
 
 -- ---- it ends Done, or a request wore out
 

@@ -1,10 +1,12 @@
 -- The picks at each moment of a run.
-use Rattle.job_outcomes.proofs.Common.{At, CommitStands, IsDue, IsOpening, IsTimely, List, None, Option, PicksGrow, Runs, Some, Stand, [], and-false, ap, arith, check_plain, clean_plain, closed_picks, each_run, entry_picks, false, false_true, good, inl, inr, length, length-append, none_some, not, nothing_learnt, one_scene, plain_picks, refl, same_or_not, same_picked, see_more, sees, setup_plain, slice_get_past, some_is, subst, suc, sym, take, take-append-add, take_all, true, true_or_false, zero, ℕ, ◌&&◌, ◌++◌, ◌+◌, ◌-◌, ◌<◌, ◌^◌, ◌||◌, ◌∙◌, ◌∷◌, ◌≡◌, ◌≤◌, ◌⊎◌}
-use Rattle.proof_base.proofs.Common.{and_parts, cases_lt, take-append-le}
-use Rattle.job_facts.specs.Prelude.{Always, Commit, CommitEnd, CommitOver, Content, Driver, Entry, IsHonestOutcome, IsLegal, Operation, Outcome, PendingSet, Picks, Request, Same, Scene, Script, Seen, Sets, Setting, TheCheck, TheClean, TheCommit, TheSetup, TheSparing, TheTaskAbort, TheTaskCommit, TheWrite, Times, Told, after_all, answer, asks, commit_due, commit_tells, driver_entry, end_or, entry, is_begun, is_clash, is_decided, is_picked, is_some, is_untouched, moment, nothing_seen, option_map, picked_below, picks_of, same_path, see, see_all, seen, strange_entry, view, who}
+use Rattle.job_outcomes.proofs.Common.{At, CommitStands, IsDue, IsOpening, IsTimely, List, None, Option, PicksGrow, Runs, Some, Stand, [], and-false, ap, arith, check_plain, clean_plain, closed_picks, each_run, entry_picks, false, false_true, good, inl, inr, length, length-append, not, nothing_learnt, one_scene, plain_picks, refl, same_picked, see_more, sees, setup_plain, slice_get_past, subst, suc, sym, take, take-append-add, take_all, true, true_or_false, zero, ℕ, ◌&&◌, ◌++◌, ◌+◌, ◌-◌, ◌<◌, ◌^◌, ◌||◌, ◌∙◌, ◌∷◌, ◌≡◌, ◌≤◌, ◌⊎◌}
+use Rattle.basics.proofs.Common.{and_parts, cases_lt, take-append-le}
+use Rattle.job_facts.specs.Prelude.{Commit, CommitEnd, CommitOver, Content, Driver, Entry, IsHonestOutcome, IsLegal, Operation, Outcome, PendingSet, Picks, Request, Same, Scene, Script, Seen, Sets, Setting, TheCheck, TheClean, TheCommit, TheSetup, TheSparing, TheTaskAbort, TheTaskCommit, TheWrite, Times, Told, after_all, answer, asks, commit_tells, driver_entry, entry, is_begun, is_clash, is_decided, is_picked, is_some, moment, nothing_seen, option_map, picked_below, picks_of, same_path, see, see_all, seen, strange_entry, view, who}
 use Rattle.job_outcomes.specs.CommitMoments.{CommitMoments, NoneRead}
 use Rattle.job_outcomes.proofs.Shared.{same_shared}
 use Rattle.job_outcomes.proofs.CommitRuns.{attempts_leave, picks_on, stood}
+use Rattle.job_protocol.specs.JobCommits.{is_untouched}
+use Rattle.job_spec.specs.Prelude.{Always, commit_due, end_or}
 use Rattle.job_model.specs.declared.ends.CommitEnd.TheVariants as commits
 use Rattle.job_model.specs.declared.ends.Stage.TheVariants as stages
 

@@ -1,12 +1,15 @@
 -- The driver's commit in every run.
 use Rattle.job_outcomes.proofs.Common.{At, BeginClean, BeginCommit, BeginKeeps, BeginSetup, Beginning, CommitRuns, CommitStands, DriverKeeps, EndIs, EndsDue, IsDue, IsOpening, IsTimely, List, None, Option, PicksGrow, PicksOneMore, Runs, Some, Stand, WhereCommitted, [], after_check_so, ap, append-nil, arith, begin, check_after, check_plain, check_unsent, checked_idle, clean_of_so, clean_plain, cleans_is, commit_is, commit_of_so, commit_picks, each_run, ends_by_worn, entry_picks, false_true, follows_more, good, in_commit, inl, inr, is_just_set, is_set, just_idle, just_set, key_magic, late, length, none_or_some, none_sent, none_some, own_front, own_last, plain_picks, refl, run_more, same_or_not, saw, setup_plain, some_dest, subst, suc, sym, true, with_commit, with_driver, zero, ℕ, ◌&&◌, ◌++◌, ◌<◌, ◌^◌, ◌∙◌, ◌∷◌, ◌≡◌, ◌≤◌}
-use Rattle.job_facts.specs.Prelude.{is_some, Content, answer, IsHonestOutcome, Driver, Request, Outcome, Entry, success_key, SuccessPlace, run, Follows, WornFirst, Who, IsLegal, Script, CommitEnd, Picks, picks_of, Commit, CommitOver, commit_start, commit_asks, commit_tells, commit_over, Sound, AllSound, Setting, Operation, TheCommit, who, tells, AreOwn, commit_due, end_or, is_mark_answered, CommitEnded, picks_below, picked, Seen, see, is_marked, entry, driver_entry, at_key, Times, TheCheck, step}
+use Rattle.job_facts.specs.Prelude.{is_some, Content, answer, IsHonestOutcome, Driver, Request, Outcome, Entry, success_key, SuccessPlace, run, Follows, WornFirst, Who, IsLegal, Script, CommitEnd, Picks, picks_of, Commit, CommitOver, commit_start, commit_asks, commit_tells, commit_over, Sound, AllSound, Setting, Operation, TheCommit, who, tells, Seen, see, is_marked, entry, driver_entry, at_key, Times, TheCheck, step}
 use Rattle.job_model.specs.declared.ends.CommitEnd.TheVariants as commits
 use Rattle.job_facts.proofs.Owning.{operation_own}
 use Rattle.job_traces.proofs.Keeping.{attempt_quiet}
 use Rattle.job_outcomes.proofs.Shared.{same_shared}
 use Rattle.job_outcomes.proofs.CommitSteps.{at_start, one_start, where_on, where_start, answered_next, marked_next, sound_now, sound_more}
 use Rattle.job_outcomes.proofs.Picks.{after_entry}
+use Rattle.job_spec.specs.Promise.{picks_below, picked}
+use Rattle.job_spec.specs.Ends.{CommitEnded}
+use Rattle.job_spec.specs.Prelude.{AreOwn, commit_due, end_or, is_mark_answered}
 
 pub attempts_leave : (w : Script) (k : Times) (s : Seen) (a : Who) (n : ℕ) (r : Request) (o : Outcome) → (see w k s (entry a n r o)).picks ≡ s.picks
 attempts_leave w k s a n r o = λ i t. entry_picks w k s (entry a n r o) (λ e. absurd cc) t i

@@ -1,11 +1,12 @@
 -- One entry of the driver's commit, and where it leads with the sets that it holds.
 use Rattle.job_outcomes.proofs.Common.{Bool, IsAt, List, None, Option, RequestsApart, Some, Stage, WhereCommitted, [], ap, arith, false, is_unanswered, length, none_some, not, or-true, puts, refl, some_is, subst, sym, text_true, true, uploads_apart, ℕ, ◌&&◌, ◌++◌, ◌<◌, ◌||◌, ◌∙◌, ◌∷◌, ◌≡◌}
-use Rattle.job_facts.specs.Prelude.{list_any, is_some, apply, Request, CompleteUpload, Reply, Outcome, Answered, Entry, run, IsLegal, Script, CommitEnd, same_path, mark_text, nth, completion, Sets, picks_of, all_commits, Commit, Fetching, Completing, Marking, CommitOver, fetching, commit_asks, commit_tells, commit_start, Sound, AllSound, commit_due, end_or, is_driver, is_mark_answered, Seen, see, is_marking, is_marked, HasBucket, Told, driver_entry, at_key, Hold, FitsJobCommit, Decides, Times}
+use Rattle.job_facts.specs.Prelude.{list_any, is_some, apply, Request, CompleteUpload, Reply, Outcome, Answered, Entry, run, IsLegal, Script, CommitEnd, same_path, mark_text, nth, completion, Sets, picks_of, all_commits, Commit, Fetching, Completing, Marking, CommitOver, fetching, commit_asks, commit_tells, commit_start, Sound, AllSound, Seen, see, is_marking, is_marked, HasBucket, Told, driver_entry, at_key, Hold, FitsJobCommit, Decides, Times}
 use Rattle.magic_paths.specs.Layout as layout
 use Rattle.retries.proofs.SameRequest.{same_is}
 use Rattle.job_model.specs.declared.ends.CommitEnd.TheVariants as commits
 use Rattle.job_model.specs.declared.ends.Stage.TheVariants as stages
-use Rattle.job_traces.proofs.Leads.{Enters, is_shared, enters, Leads, fetches, reads_none, is_marked as marked_now, is_reverted, stays_over, read_worn, sweep_worn, mark_worn, reverts, none_reverts, leads}
+use Rattle.job_traces.proofs.Leads.{Enters, enters, Leads, fetches, reads_none, is_marked as marked_now, is_reverted, stays_over, read_worn, sweep_worn, mark_worn, reverts, none_reverts, leads}
+use Rattle.job_spec.specs.Prelude.{commit_due, end_or, is_driver, is_mark_answered}
 
 -- ---- where outcomes lead with the sets
 

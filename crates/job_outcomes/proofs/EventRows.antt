@@ -1,9 +1,9 @@
 -- Entries whose events never fall, cut before an event and behind one.
-use Rattle.job_outcomes.proofs.Common.{Actor, AllBy, AllFrom, AreHonest, Attempt, Bool, Content, Entry, IsHonest, IsRising, List, Scene, [], above_so, after_all, ap, arith, at_most_not, at_most_so, before, by_actor, cond, effect, false, filter, inl, inr, length, moment, nat_eq, nat_le, nat_lt, nat_tests, nat_true, refl, same_actor, since, subst, sym, take, take-append_seam, true, true_or_false, until, ℕ, ◌&&◌, ◌++◌, ◌+◌, ◌<◌, ◌∙◌, ◌∷◌, ◌≡◌, ◌≤◌}
+use Rattle.job_outcomes.proofs.Common.{Actor, AllBy, AllFrom, AreHonest, Bool, Content, Entry, IsHonest, IsRising, List, Scene, [], above_so, after_all, ap, arith, at_most_so, before, by_actor, cond, effect, false, filter, inl, inr, length, moment, nat_le, nat_lt, nat_tests, refl, same_actor, since, subst, sym, take, take-append_seam, true, true_or_false, until, ℕ, ◌++◌, ◌+◌, ◌∙◌, ◌∷◌, ◌≡◌, ◌≤◌}
 use Rattle.path_keys.proofs.Common.{below_is, below_not}
-use Rattle.s3_types.specs.Store.{opening as opening_scene}
 use Rattle.job_outcomes.specs.EventRows.{EventRows}
 use Rattle.job_traces.proofs.Changes.{after_parts}
+use Rattle.s3_types.specs.Store.{opening as opening_scene}
 
 -- ---- cut
 

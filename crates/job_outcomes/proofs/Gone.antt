@@ -1,15 +1,14 @@
 -- In a run, until the driver's abort or clean has begun an attempt's write or commit finds nothing gone, and a commit that is done has published.
-use Rattle.job_outcomes.proofs.Common.{Bool, CommitStandsBy, Committer, Content, Entry, File, IsLegal, IsOpening, Known, List, Magic, None, NotGone, Op, OpEnd, Operation, Option, Own, Runs, Seen, Setting, Some, Stand, StandsBy, TaskEnd, TheCheck, TheClean, TheCommit, TheSetup, TheSparing, TheTaskAbort, TheTaskCommit, TheWrite, Times, Told, WasPublished, Who, WriteStands, [], actor_of, ap, arith, check_over, clean_over, commit_over, false, false_true, files, fresh, has_cleaned, has_published, inl, inr, longer_published, none_some, nothing_told, option_map, over, refl, setup_over, some_is, standing, start_of, subst, sym, tells_so, true, true_or_false, until_last, ℕ, ◌∙◌, ◌∷◌, ◌≡◌}
+use Rattle.job_outcomes.proofs.Common.{Bool, CommitStandsBy, Committer, Content, Entry, File, IsLegal, IsOpening, Known, List, None, Op, OpEnd, Operation, Option, Own, Runs, Seen, Setting, Some, Stand, StandsBy, TheTaskCommit, Times, Told, WasPublished, Who, [], actor_of, ap, arith, false, false_true, files, fresh, has_cleaned, has_published, inl, inr, longer_published, none_some, nothing_told, option_map, over, refl, some_is, standing, start_of, subst, sym, tells_so, true, true_or_false, until_last, ℕ, ◌∙◌, ◌≡◌}
 use Rattle.job_model.specs.declared.events.Op.TheVariants as ops
 use Rattle.job_model.specs.declared.ends.TaskEnd.TheVariants as tasks
 use Rattle.job_model.specs.declared.ends.OpEnd.TheVariants as ends
 use Rattle.job_protocol.specs.Writes as writes
 use Rattle.job_protocol.specs.TaskCommits as commits
-use Rattle.job_facts.proofs.Learnt.{cleaned_is}
 use Rattle.job_outcomes.specs.TaskEnds.{is_abort}
 use Rattle.job_outcomes.proofs.TaskEnds.{commit_going}
 use Rattle.job_outcomes.proofs.RunEntries.{at_last, behind_last}
-use Rattle.job_protocol.specs.Sparing.{sparing_over}
+use Rattle.job_traces.proofs.Learnt.{cleaned_is}
 
 module _ (g : Setting) (k : Times) (opening : Content) (j : IsLegal g.script) (is_opening : IsOpening g opening) where
   never_commit : (P : Type 0) (s : Seen) (a : Who) (repeated : Bool) (t : commits.TaskCommit) (name : List ℕ) → CommitStandsBy P g.script s a repeated t → option_map ends.Task (commits.task_commit_over t) ≡ Some (ends.Task (tasks.Gone name)) → ⊥

@@ -1,7 +1,7 @@
 -- The first file that is shown among the keys below a destination, as they are listed page by page.
-use Rattle.job_outcomes.proofs.Common.{Bool, Equal, IsIn, IsLegal, List, None, Option, Ordering, RisesFrom, Script, Some, [], ap, append_assoc, arith, begins, begins_back, behind, below, below_is, codes, cond, dest_prefix, false, false_true, first_shown, inl, inr, irrefl, is_file_path, is_lt, last_from, le_lt, lt_not, nat_cmp, nat_cmp_total, none_some, or_next, ordering_reverse, ordering_then, refl, relative_in, shown_path, some_dest, some_is, sym, text_cmp, text_total, true, true_or_false, ℕ, ◌++◌, ◌∙◌, ◌∷◌, ◌≡◌, ◌⊎◌}
+use Rattle.job_outcomes.proofs.Common.{Bool, IsIn, IsLegal, List, None, Option, RisesFrom, Script, Some, [], ap, append_assoc, arith, begins, begins_back, behind, below, below_is, codes, cond, dest_prefix, false, false_true, first_shown, inl, inr, irrefl, is_file_path, is_lt, last_from, le_lt, lt_not, nat_cmp, nat_cmp_total, none_some, or_next, ordering_then, refl, relative_in, shown_path, some_dest, some_is, sym, text_cmp, text_total, true, true_or_false, ℕ, ◌++◌, ◌∙◌, ◌∷◌, ◌≡◌, ◌⊎◌}
 use Rattle.path_keys.proofs.Beneath.{behind_some}
-use Rattle.proof_base.proofs.Less.{equal_self}
+use Rattle.basics.proofs.Less.{equal_self}
 
 -- a common front does not matter
 pub front_cmp : (pre p q : List ℕ) → text_cmp (pre ++ p) (pre ++ q) ≡ text_cmp p q

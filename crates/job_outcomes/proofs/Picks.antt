@@ -2,7 +2,7 @@
 use Rattle.job_outcomes.proofs.Common.{Answered, ArePicks, Bool, Commit, CommitOver, Committer, Decides, Fetching, Hold, IsAt, IsHonestOutcome, IsLegal, List, Magic, NoSuchFile, NoSuchKey, None, Object, Option, Outcome, PendingSet, Picks, PicksGrow, Refused, Reply, Request, Script, Seen, SetPlace, Sets, Setting, Some, Times, Told, [], and-false, answer, answer_is, ap, arith, at_place, commit_asks, commit_tells, commit_unread, cond, driver_entry, false, fetched, files_set, inl, inr, is_picking, key_at, key_before, knowing, length, none_or_some, none_some, option_map, picks_by, picks_of, plain_picks, read_answer, reads_it, reads_other, refl, same_or_not, see, set_answered, set_at, set_read, set_request, sets_at, slice_get, slice_get_past, some_is, subst, suc, sym, true, zero, ℕ, ◌&&◌, ◌++◌, ◌<◌, ◌^◌, ◌∙◌, ◌∷◌, ◌≡◌, ◌≤◌, ◌⊎◌}
 use Rattle.s3_types.specs.Answer.{found}
 use Rattle.job_outcomes.proofs.CommitSteps.{at_fetching, IsRead, at_tells}
-use Rattle.proof_base.proofs.Lists.{slice_last}
+use Rattle.basics.proofs.Lists.{slice_last}
 
 -- ---- one more set
 

@@ -1,5 +1,5 @@
 -- Whose the entries of a run are.
-use Rattle.job_outcomes.proofs.Common.{Actor, AllBy, AllUpTo, BeginAbort, BeginClean, BeginCommit, BeginPublish, BeginSetup, BeginWrite, Beginning, Bool, Content, Driver, Entry, IsTimely, Known, List, MayBegin, MaySetUp, None, Op, Operation, Option, Outcome, Request, Runs, Script, Setting, Setup, SetupOver, Some, Stand, TheCheck, TheClean, TheCommit, TheSetup, TheSparing, Times, Who, [], actor_of, after_check_so, ap, arith, asks, attempt_sends, begin, by_actor, check_after, clean_of_so, commit_alone, commit_of, commit_of_so, commit_with, cond, driver_entry, each_run, entry, false, filter, inl, inr, is_begun, is_done, is_just_set, is_own, is_set, known, list_any, longer_published, nothing_learnt, or-false, or-true, own, put_who, refl, same_actor, setup_asks, slice_get, start_of, step, strange_entry, subst, suc, sym, tells, true, until_last, who, zero, ℕ, ◌++◌, ◌||◌, ◌∙◌, ◌∷◌, ◌≡◌, ◌≤◌, ◌⊎◌}
+use Rattle.job_outcomes.proofs.Common.{Actor, AllBy, AllUpTo, BeginAbort, BeginClean, BeginCommit, BeginPublish, BeginSetup, BeginWrite, Beginning, Content, Driver, Entry, IsTimely, Known, List, MayBegin, None, Op, Operation, Option, Outcome, Request, Runs, Script, Setting, Setup, Some, Stand, TheCheck, TheClean, TheCommit, TheSparing, Times, Who, [], actor_of, after_check_so, ap, arith, asks, attempt_sends, begin, by_actor, clean_of_so, commit_of_so, commit_with, cond, driver_entry, each_run, entry, false, filter, inl, inr, is_begun, is_done, is_own, is_set, known, list_any, longer_published, nothing_learnt, or-false, or-true, own, put_who, refl, same_actor, setup_asks, slice_get, start_of, strange_entry, subst, suc, sym, tells, true, until_last, who, zero, ℕ, ◌++◌, ◌||◌, ◌∙◌, ◌∷◌, ◌≡◌, ◌≤◌, ◌⊎◌, TheSetup}
 use Rattle.job_spec.proofs.Common.{append-nil, filter-append, list_any-append, some_is, none_some, false_true}
 use Rattle.job_model.specs.declared.events.Op.TheVariants as ops
 use Rattle.job_facts.proofs.Whose.{same_or_another, who_true, who_false, who_here, who_other}

@@ -5,7 +5,7 @@ use Rattle.job_protocol.proofs.Members.{in_append, in_push}
 use Rattle.job_protocol.proofs.Tables.{dealt_fresh, follow_cases}
 use Rattle.job_facts.specs.Turning.{Turns}
 use Rattle.job_facts.proofs.Held.{nth_of, of_sets}
-use Rattle.job_traces.proofs.Leads.{Enters, deals, enters, Leads, fetches, deals_then, completes, completes_again, leads}
+use Rattle.job_traces.proofs.Leads.{Enters, deals, Leads, fetches, deals_then, completes, completes_again, leads}
 use Rattle.job_outcomes.proofs.Picks.{brings}
 use Rattle.job_outcomes.proofs.CommitRuns.{stood}
 use Rattle.job_outcomes.proofs.CommitMoments.{no_driver}

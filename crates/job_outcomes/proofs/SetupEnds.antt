@@ -1,6 +1,6 @@
 -- How the driver's set-up ends, by its entries alone.
-use Rattle.job_outcomes.proofs.Common.{Bool, IsFree, IsLeastShown, IsSome, List, None, Option, SetupEnds, Some, TooManyKeys, [], answer_is, ap, arith, checked, cond, counted_first, false, false≢true, in_back, in_front, inl, inr, key_before, lacks_bucket, last_append, le_lt, length, lt_not, nat_lt, none_or_some, none_some, page_all, page_begins, page_covers, page_rises, reads_nothing, refl, some_is, subst, sym, take, true, ℕ, ◌++◌, ◌∙◌, ◌∷◌, ◌≡◌}
-use Rattle.job_facts.specs.Prelude.{is_some, option_map, is_lt, text_cmp, text_total, BucketContent, Content, Scene, listed, answer, answer_at, apply, head, after_all, AreHonest, Object, Magic, Request, HeadObject, DeleteObject, Reply, Page, Deleted, Refused, PageEntry, Entry, Answered, ReplyLost, MOST_ENTRIES, below, magic_prefix, success_key, run, Follows, fresh, step, wants_of, worn_in, WornFirst, IsLegal, Script, SetupEnd, view, is_file_path, checks_all, Sweep, Listing, Deleting, sweep_asks, walked_by, keys_on, last_of, page_after, sweep_hears, all_go, Setup, Heading, Clearing, Sweeping, SetupOver, dest_prefix, if_bucket, headed, checked_on, checked_by, first_shown, cleared, setup_start, setup_asks, setup_hears, setup_after, setup_over, over, SetupIs, last_from, HasBucket, at_key, ThoseOrBehind}
+use Rattle.job_outcomes.proofs.Common.{Bool, IsFree, IsLeastShown, IsSome, List, None, Option, SetupEnds, Some, [], answer_is, ap, arith, checked, cond, counted_first, false, false≢true, in_back, in_front, inl, inr, key_before, lacks_bucket, last_append, le_lt, length, lt_not, nat_lt, none_or_some, none_some, page_all, page_begins, page_covers, page_rises, reads_nothing, refl, some_is, subst, sym, take, true, ℕ, ◌++◌, ◌∙◌, ◌≡◌}
+use Rattle.job_facts.specs.Prelude.{is_some, option_map, is_lt, text_cmp, text_total, BucketContent, Content, Scene, listed, answer, answer_at, apply, head, after_all, AreHonest, Object, Magic, Request, HeadObject, DeleteObject, Reply, Page, PageEntry, Entry, Answered, ReplyLost, below, magic_prefix, success_key, run, Follows, fresh, step, wants_of, worn_in, WornFirst, IsLegal, Script, SetupEnd, view, is_file_path, checks_all, Sweep, sweep_asks, walked_by, keys_on, last_of, page_after, sweep_hears, all_go, Setup, Heading, Clearing, Sweeping, SetupOver, dest_prefix, if_bucket, headed, checked_on, checked_by, first_shown, cleared, setup_start, setup_asks, setup_hears, setup_after, setup_over, last_from, HasBucket, at_key, ThoseOrBehind}
 use Rattle.std.specs.FinMap as fin
 use Rattle.job_model.specs.declared.ends.OpEnd.TheVariants as op_ends
 use Rattle.job_model.specs.declared.ends.SetupEnd.TheVariants as setups
@@ -12,7 +12,8 @@ use Rattle.job_outcomes.proofs.Went.{went}
 use Rattle.job_outcomes.proofs.SetupListed.{setup_listed}
 use Rattle.job_outcomes.proofs.Least.{last_of_all, seen_below, shown_at, below_cmp, unseen_in, shown_later, first_of}
 use Rattle.job_traces.proofs.Replacing.{some_behind}
-use Rattle.proof_base.proofs.Options.{some_of}
+use Rattle.basics.proofs.Options.{some_of}
+use Rattle.job_spec.specs.Prelude.{SetupIs}
 
 module _ (w : Script) (j : IsLegal w) (first : Scene) where
   abbrev c : Content

@@ -1,5 +1,5 @@
 -- How the driver's set-up ends by what its pages listed, whoever else sends.
-use Rattle.job_outcomes.proofs.Common.{Answered, Bool, Clearing, Committer, Entry, Follows, Head, Heading, List, Magic, NoSuchBucket, None, Option, Outcome, Page, Refused, Reply, Request, Retried, Script, Setup, SetupEnd, SetupListed, SetupOver, Slow, Some, Sweeping, WornFirst, [], all_go, ap, append-nil, append_assoc, arith, checked_by, checked_on, checks_all, cleared, cond, counted_first, dest_prefix, false, false≢true, first_shown, fresh, headed, if_bucket_so, is_zero, keys_listed, keys_on, keys_told, none_some, page_after, refl, run, setup_after, setup_asks, setup_hears, setup_over, setup_start, some_is, step, subst, suc, sweep_hears, sym, true, unanswered_by, walked_by, wants_of, worn_in, zero, ℕ, ◌++◌, ◌∙◌, ◌∷◌, ◌≡◌}
+use Rattle.job_outcomes.proofs.Common.{Answered, Bool, Clearing, Committer, Entry, Follows, Heading, List, Magic, None, Option, Outcome, Reply, Request, Retried, Script, Setup, SetupEnd, SetupListed, SetupOver, Slow, Some, Sweeping, WornFirst, [], all_go, ap, append-nil, append_assoc, arith, checks_all, cleared, cond, counted_first, false≢true, first_shown, fresh, headed, if_bucket_so, is_zero, keys_listed, keys_told, none_some, refl, run, setup_after, setup_asks, setup_hears, setup_over, setup_start, some_is, step, subst, suc, sweep_hears, sym, true, unanswered_by, wants_of, worn_in, zero, ℕ, ◌++◌, ◌∙◌, ◌∷◌, ◌≡◌}
 use Rattle.job_model.specs.declared.ends.SetupEnd.TheVariants as setups
 use Rattle.job_protocol.specs.Setup.{Checking, sweeping}
 use Rattle.job_outcomes.proofs.Least.{shown_later}

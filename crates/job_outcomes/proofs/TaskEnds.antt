@@ -1,11 +1,12 @@
 -- How an attempt's operations end, by its own entries alone.
-use Rattle.job_outcomes.proofs.Common.{All, Bool, Contains, List, None, Option, Some, TaskMay, WasListed, [], ap, append_assoc, arith, checks_partitions, cond, false, false_true, faults, first_spent, inl, inr, is_serial, map, none_some, refl, some_is, step_so, subst, sym, true, ℕ, ◌++◌, ◌∙◌, ◌∷◌, ◌≡◌, ◌⊎◌}
-use Rattle.job_facts.specs.Prelude.{option_map, is_some, Actor, Attempt, Committer, Magic, Request, ListPage, PageEntry, Reply, Page, Refused, NoSuchKey, NoSuchFile, Answered, Entry, run, Follows, spent_in, WornFirst, File, Who, Script, Drawn, Known, Op, TaskEnd, files, paths_of, partitions, as_made, record_key, Walked, More, Whole, sweep_hears, all_go, GoesOn, AllSent, IsGone, upload_hears, Setting, Operation, TheWrite, TheTaskCommit, TheTaskAbort, Running, who, asks, wants, advance, tells, start_of, over, spare_of, is_fault, TaskIs, Reports, actor_of}
-use Rattle.std.proofs.lemmas.List.Elements.{All-nil, All-push, Contains-append_left, Contains-append_right, Contains-push}
+use Rattle.job_outcomes.proofs.Common.{All, Bool, Contains, List, None, Option, Some, TaskMay, WasListed, [], ap, append_assoc, arith, checks_partitions, cond, false, faults, first_spent, inl, inr, is_serial, none_some, refl, some_is, step_so, subst, sym, true, ℕ, ◌++◌, ◌∙◌, ◌∷◌, ◌≡◌, ◌⊎◌}
+use Rattle.job_facts.specs.Prelude.{option_map, is_some, Actor, Attempt, Committer, Magic, Request, ListPage, PageEntry, Reply, Page, Answered, Entry, run, Follows, spent_in, WornFirst, File, Who, Script, Known, Op, TaskEnd, files, paths_of, partitions, Walked, GoesOn, AllSent, IsGone, upload_hears, Setting, Operation, TheWrite, TheTaskCommit, TheTaskAbort, Running, who, asks, wants, advance, tells, start_of, over, spare_of, is_fault, Reports, actor_of}
+use Rattle.std.proofs.lemmas.List.Elements.{All-push, Contains-append_left, Contains-append_right, Contains-push}
 use Rattle.job_model.specs.declared.events.Op.TheVariants as ops
 use Rattle.job_model.specs.declared.ends.TaskEnd.TheVariants as tasks
 use Rattle.job_model.specs.declared.ends.OpEnd.TheVariants as ends
 use Rattle.list_walk.specs.Walks.{walked}
+use Rattle.job_spec.specs.Prelude.{TaskIs}
 use Rattle.job_protocol.specs.Writes as writes
 use Rattle.job_protocol.specs.TaskCommits as commits
 use Rattle.job_protocol.specs.TaskAborts as aborts

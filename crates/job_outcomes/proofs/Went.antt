@@ -1,5 +1,5 @@
 -- An operation of replies, by entries in a row: what holds as it begins holds at its end, or a request of it wore out.
-use Rattle.job_outcomes.proofs.Common.{Answered, AreHonest, Bool, Entry, Follows, Got, IsHonestOutcome, Item, List, None, Option, Outcome, Reply, ReplyLost, Request, RequestLost, Retried, Scene, Slow, Some, WornOut, [], after_all, answer, ap, apply, arith, cond, effect, inl, inr, is_zero, none_some, refl, run, step, suc, true, unanswered_by, wants_of, worn_in, zero, ℕ, ◌∙◌, ◌∷◌, ◌≡◌, ◌⊎◌}
+use Rattle.job_outcomes.proofs.Common.{Answered, AreHonest, Bool, Entry, Follows, Got, IsHonestOutcome, Item, List, None, Option, Outcome, Reply, ReplyLost, Request, RequestLost, Retried, Scene, Slow, Some, WornOut, [], after_all, answer, ap, apply, arith, cond, effect, inl, is_zero, none_some, refl, run, step, true, unanswered_by, wants_of, worn_in, ℕ, ◌∙◌, ◌∷◌, ◌≡◌, ◌⊎◌}
 use Rattle.retries.specs.Prelude.{wears}
 
 module _ {M : Type 0} (retries : ℕ) (asks : M → Option Request) (after : M → Item → M) (holds : Scene → M → Type 0)

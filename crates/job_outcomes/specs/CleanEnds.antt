@@ -1,6 +1,7 @@
 -- How the driver's abort or clean of the job ends.
 use Rattle.std.specs.Prelude.{◌≡◌, List, Option, Some}
-use Rattle.job_facts.specs.Prelude.{Scene, after_all, AreHonest, Actor, Request, Entry, run, Follows, fresh, WornFirst, IsLegal, Known, CleanEnd, clean_start, Setting, Running, TheClean, wants, advance, over, CleanIs, Cleaned}
+use Rattle.job_facts.specs.Prelude.{Scene, after_all, AreHonest, Actor, Request, Entry, run, Follows, fresh, WornFirst, IsLegal, Known, CleanEnd, clean_start, Setting, Running, TheClean, wants, advance, over}
+use Rattle.job_spec.specs.OperationEnds.{CleanIs, Cleaned}
 use Rattle.job_model.specs.declared.ends.CleanEnd.TheVariants as cleans
 use Rattle.job_model.specs.declared.ends.OpEnd.TheVariants as op_ends
 

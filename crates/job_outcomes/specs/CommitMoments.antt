@@ -1,8 +1,9 @@
 -- The picks at each moment of a run, and that a commit which ended before its first completion has hidden nothing.
-use Rattle.std.specs.Prelude.{◌≡◌, ℕ, ◌<◌, ◌≤◌, ◌⊎◌, true, false, List, [], ◌∷◌, ◌++◌, length, Some, None}
-use Rattle.job_facts.specs.Prelude.{Content, moment, Driver, Request, Entry, IsLegal, Script, CommitEnd, view, Clean, clean_asks, CommitOver, Setting, TheCommit, Same, Always, is_untouched, Seen, is_reading, see_all, seen, Times}
+use Rattle.std.specs.Prelude.{List, None, Some, [], false, length, true, ℕ, ◌++◌, ◌<◌, ◌∷◌, ◌≡◌, ◌≤◌, ◌⊎◌}
+use Rattle.job_protocol.specs.Prelude.{Clean, CommitEnd, CommitOver, Content, Driver, Entry, IsLegal, Request, Same, Script, Seen, Setting, TheCommit, Times, clean_asks, is_reading, is_untouched, moment, see_all, seen, view}
+use Rattle.job_traces.specs.Runs.{IsOpening, Runs, Stand}
+use Rattle.job_spec.specs.Prelude.{Always}
 use Rattle.job_model.specs.declared.ends.CommitEnd.TheVariants as commits
-use Rattle.job_traces.specs.Runs.{Stand, Runs, IsOpening}
 
 -- none of these reads a task's set for the driver
 abbrev pub NoneRead : Script → List Entry → Type 0

@@ -1,9 +1,13 @@
 -- The driver's commit in a run: by which entries it came where it stands, the sets that it holds and the picks that are seen; and how it ends.
 use Rattle.std.specs.Prelude.{◌≡◌, ℕ, ◌<◌, ◌≤◌, ◌^◌, ◌⊎◌, true, List, [], ◌∷◌, ◌++◌, length, Option, Some, None, IsSome, false}
-use Rattle.job_facts.specs.Prelude.{Content, answer, IsHonestOutcome, Driver, Request, Refusal, NoSuchUpload, Reply, Refused, Outcome, Answered, Entry, PendingSet, run, Follows, WornFirst, Who, IsLegal, Script, CommitEnd, Picks, Sets, picks_of, Commit, Fetching, Replacing, Completing, Marking, Reverting, CommitOver, commit_start, commit_asks, commit_tells, fetching, set_request, set_read, stage_of, Setup, setup_asks, Clean, clean_asks, AllSound, Setting, TheCommit, was_lost, AreOwn, commit_due, is_mark_answered, CommitEnded, picks_below, picked, Seen, see, see_all, nothing_seen, is_marked, entry, driver_entry, Times, is_begun}
+use Rattle.job_facts.specs.Prelude.{Content, answer, IsHonestOutcome, Driver, Request, Refusal, NoSuchUpload, Reply, Refused, Outcome, Answered, Entry, PendingSet, run, Follows, WornFirst, Who, IsLegal, Script, CommitEnd, Picks, Sets, picks_of, Commit, Fetching, Replacing, Completing, Marking, Reverting, CommitOver, commit_start, commit_asks, commit_tells, fetching, set_request, set_read, stage_of, Setup, setup_asks, Clean, clean_asks, AllSound, Setting, TheCommit, Seen, see, see_all, nothing_seen, is_marked, entry, driver_entry, Times, is_begun}
 use Rattle.job_model.specs.declared.ends.CommitEnd.TheVariants as commits
 use Rattle.job_model.specs.declared.ends.Stage.TheVariants as stages
 use Rattle.job_traces.specs.Runs.{Stand, Runs, IsOpening, IsTimely}
+use Rattle.job_spec.specs.Promise.{picks_below, picked}
+use Rattle.job_spec.specs.Ends.{CommitEnded}
+use Rattle.job_spec.specs.Prelude.{AreOwn, commit_due, is_mark_answered}
+use Rattle.job_spec.specs.OperationEnds.{was_lost}
 
 -- the end that is due with these sets, where no request wore out; of a read that wore out that not all were read
 abbrev pub IsDue : Script → Option ℕ → Sets → CommitEnd → Type 0

@@ -1,6 +1,6 @@
 -- Entries whose events never fall, cut before an event and behind one.
-use Rattle.std.specs.Prelude.{◌≡◌, ℕ, ◌+◌, ◌≤◌, List, ◌++◌, length}
-use Rattle.job_facts.specs.Prelude.{Content, after_all, moment, AreHonest, IsHonest, Actor, Entry, until, before, since, by_actor, AllBy, IsRising}
+use Rattle.std.specs.Prelude.{List, length, ℕ, ◌++◌, ◌+◌, ◌≡◌, ◌≤◌}
+use Rattle.job_spec.specs.Prelude.{Actor, AllBy, AreHonest, Content, Entry, IsHonest, IsRising, after_all, before, by_actor, moment, since, until}
 
 pub record EventRows : Type 0 where
   pub parts : (k : ℕ) (es : List Entry) → IsRising es → before k es ++ since k es ≡ es

@@ -1,7 +1,7 @@
 -- Whose the entries of a run are.
-use Rattle.std.specs.Prelude.{◌≡◌, ℕ, false, List, ◌++◌, Some, None, []}
-use Rattle.job_facts.specs.Prelude.{filter, Content, Driver, Entry, Retried, Who, actor_of, Script, Known, Op, Setup, Commit, Setting, Operation, TheSetup, TheCommit, start_of, WasPublished, is_begun, by_actor, until_last, AllBy, AllUpTo, own, Times}
-use Rattle.job_traces.specs.Runs.{Stand, Runs, is_done}
+use Rattle.std.specs.Prelude.{List, None, Some, [], false, ℕ, ◌++◌, ◌≡◌}
+use Rattle.job_spec.specs.Prelude.{AllBy, AllUpTo, Commit, Content, Driver, Entry, Known, Op, Operation, Retried, Script, Setting, Setup, TheCommit, TheSetup, Times, WasPublished, Who, actor_of, by_actor, filter, is_begun, own, start_of, until_last}
+use Rattle.job_traces.specs.Runs.{Runs, Stand, is_done}
 
 pub record RunEntries : Type 0 where
   -- where no other job shares the destination the entries of the driver's commit are all of the driver's in the event of the commit and later ones

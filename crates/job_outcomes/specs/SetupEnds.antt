@@ -1,6 +1,7 @@
 -- How the driver's set-up ends, by its entries alone: by what its pages listed, and, where nobody else sends between them, by what stood as it began.
 use Rattle.std.specs.Prelude.{◌≡◌, ℕ, true, List, [], ◌∷◌, ◌++◌, Option, Some, None}
-use Rattle.job_facts.specs.Prelude.{Scene, AreHonest, Actor, Request, ListPage, Reply, Page, Outcome, Answered, Entry, run, Follows, fresh, step, wants_of, WornFirst, IsLegal, Script, Known, SetupEnd, checks_all, keys_on, first_shown, setup_start, setup_asks, setup_after, setup_over, Setting, Running, TheSetup, wants, advance, over, SetupIs}
+use Rattle.job_facts.specs.Prelude.{Scene, AreHonest, Actor, Request, ListPage, Reply, Page, Outcome, Answered, Entry, run, Follows, fresh, step, wants_of, WornFirst, IsLegal, Script, Known, SetupEnd, checks_all, keys_on, first_shown, setup_start, setup_asks, setup_after, setup_over, Setting, Running, TheSetup, wants, advance, over}
+use Rattle.job_spec.specs.Prelude.{SetupIs}
 use Rattle.job_model.specs.declared.ends.OpEnd.TheVariants as op_ends
 use Rattle.job_model.specs.declared.ends.SetupEnd.TheVariants as setups
 

@@ -1,10 +1,11 @@
 -- How an attempt's operations end.
 use Rattle.std.specs.Prelude.{◌≡◌, ℕ, Bool, true, false, List, Option, Some}
-use Rattle.job_facts.specs.Prelude.{Content, Attempt, Request, Entry, run, Follows, WornFirst, Who, actor_of, IsLegal, Script, Known, Op, TaskEnd, TaskCommitOver, Setting, Operation, TheTaskCommit, TheTaskAbort, wants, advance, start_of, over, has_cleaned, TaskIs, WasPublished, until_last, Times, Reports}
+use Rattle.job_facts.specs.Prelude.{Content, Attempt, Request, Entry, run, Follows, WornFirst, Who, actor_of, IsLegal, Script, Known, Op, TaskEnd, TaskCommitOver, Setting, Operation, TheTaskCommit, TheTaskAbort, wants, advance, start_of, over, Times, Reports}
 use Rattle.job_model.specs.declared.events.Op.TheVariants as ops
 use Rattle.job_model.specs.declared.ends.TaskEnd.TheVariants as tasks
 use Rattle.job_model.specs.declared.ends.OpEnd.TheVariants as op_ends
 use Rattle.job_traces.specs.Runs.{Runs, Stand, IsOpening}
+use Rattle.job_spec.specs.Prelude.{has_cleaned, TaskIs, WasPublished, until_last}
 
 -- the operation is a task's abort
 abbrev pub is_abort : Operation → Bool

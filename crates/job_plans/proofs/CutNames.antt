@@ -1,7 +1,6 @@
 -- A name with a job's id, by where it is cut, and a path by its last element.
-use Rattle.job_plans.proofs.Common.{Bool, List, [], and_parts, ap, append_assoc, false, join_parts, join_with_byte, list_all, not, one_part, parts_append, refl, some_part, sym, true, true≢false, unique_name, with_id, with_id_last, ℕ, ◌++◌, ◌==◌, ◌∙◌, ◌∷◌, ◌≡◌}
-use Rattle.job_model.specs.Prelude.{is_other}
-use Rattle.words.specs.Parts.{parts_of}
+use Rattle.basics.proofs.Common.{Bool, List, [], and_parts, ap, append_assoc, false, is_other, join_with_byte, list_all, not, parts_of, refl, sym, true, true≢false, ℕ, ◌++◌, ◌==◌, ◌∙◌, ◌∷◌, ◌≡◌}
+use Rattle.job_plans.proofs.Common.{join_parts, one_part, parts_append, some_part, unique_name, with_id, with_id_last}
 
 -- ---- a name
 

@@ -4,4 +4,4 @@ pub use Rattle.job_protocol.specs.Prelude.{Actor, AllSound, ClusterPut, Commit, 
 pub use Rattle.path_keys.proofs.Common.{nat_tests}
 pub use Rattle.retries.proofs.SameRequest.{same_is, same_self}
 pub use Rattle.retries.specs.Prelude.{Counting, NoneWorn, fresh}
-pub use Rattle.std.proofs.Common.{Bool, List, None, Option, Some, [], ap, append-nil, append_assoc, arith, cond, drop, false, inl, inr, is_some, length, map, min, mod-eq_of_lt, mod-lt, nat_lt, not, refl, slice_get, subst, suc, sym, true, zero, ℕ, ◌%◌, ◌&&◌, ◌++◌, ◌+◌, ◌-◌, ◌<◌, ◌∙◌, ◌∷◌, ◌≡◌, ◌≤◌, ◌⊎◌}
+pub use Rattle.std.proofs.Common.{Bool, List, None, Option, Some, [], ap, append-nil, append_assoc, arith, cond, drop, false, inl, inr, is_some, length, map, min, mod-eq_of_lt, mod-lt, nat_lt, not, refl, subst, suc, sym, true, zero, ℕ, ◌%◌, ◌&&◌, ◌++◌, ◌+◌, ◌-◌, ◌<◌, ◌∙◌, ◌∷◌, ◌≡◌, ◌≤◌, ◌⊎◌}

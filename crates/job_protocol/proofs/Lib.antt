@@ -1,3 +1,4 @@
+pub mod PathBounds
 mod Tabled
 pub mod Wearing
 pub mod Faults

@@ -1,6 +1,5 @@
 -- members, places and appended lists
-use Rattle.job_protocol.proofs.Common.{In, List, Some, [], ap, arith, inl, inr, length, map, refl, slice_get, suc, zero, ℕ, ◌++◌, ◌<◌, ◌∷◌, ◌≡◌, ◌⊎◌}
-use Rattle.proof_base.proofs.Lists.{get_before, get_left}
+use Rattle.job_protocol.proofs.Common.{In, List, [], ap, inl, inr, map, refl, ◌++◌, ◌∷◌, ◌≡◌, ◌⊎◌}
 pub use Rattle.path_keys.proofs.Common.{false_true, map-append, none_some, some_is, true_or_false}
 
 pub in_append : {X : Type 0} (x : X) (xs ys : List X) → In x (xs ++ ys) → In x xs ⊎ In x ys

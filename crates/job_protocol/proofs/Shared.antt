@@ -1,6 +1,6 @@
 -- the least path that two picks write, with the two least tasks that do
 use Rattle.job_protocol.proofs.Common.{Bool, CommitEnd, Equal, File, Greater, In, IsShared, Less, List, None, Option, Ordering, Picks, SamePath, Script, Some, [], ap, arith, bytes_decides, cond, false, files_picked, first_shared, first_where, has_path, inl, inr, insert_key, is_lt, map, match_ordering, nat_cmp-IsAntisymmetric, option_map, ordered, ordering_reverse, refl, same_path, second_where, shared_by, slice_cmp-IsAntisymmetric, subst, suc, sym, text_cmp, text_eq, text_total, true, two_where, wanted, wanted_below, wanted_paths, writes, zero, ℕ, ◌+◌, ◌-◌, ◌<◌, ◌∙◌, ◌∷◌, ◌≡◌, ◌≤◌, ◌⊎◌}
-use Rattle.proof_base.proofs.Less.{irrefl, lt_not}
+use Rattle.basics.proofs.Less.{irrefl, lt_not}
 use Rattle.job_protocol.proofs.Members.{false_true, true_or_false, in_left, in_right, map-append}
 
 -- ---- the least number that passes a test

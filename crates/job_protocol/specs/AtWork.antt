@@ -1,8 +1,7 @@
 -- Operations beside the plans that they are made from: what an actor knows of the job, in place of the job's whole script.
-use Rattle.std.specs.Prelude.{ℕ, false, List, [], ◌∷◌, ◌++◌, map, Option, Some, None}
-use Rattle.job_model.specs.Prelude.{unwrap_or, Request, Outcome, Answered, RequestLost, Path, relative_in, PendingSet, Who, Declared, Known, Job, Task, Script}
+use Rattle.std.specs.Prelude.{ℕ, List, [], ◌∷◌, ◌++◌, map, Option, Some, None}
+use Rattle.job_model.specs.Prelude.{unwrap_or, Request, Outcome, Answered, RequestLost, Path, relative_in, PendingSet, Who, Declared, Known, Job, Task, Script, plain_script}
 use Rattle.retries.specs.Prelude.{Item, Got, WornOut, OutOfMemory}
-use Rattle.std.specs.FinMap as fin
 use Rattle.job_protocol.specs.Knowledge.{learn}
 use Rattle.job_protocol.specs.Outputs.{files}
 use Rattle.job_protocol.specs.Setup.{Setup, setup_asks, setup_after}
@@ -11,27 +10,13 @@ use Rattle.job_protocol.specs.TaskCommits.{TaskCommit, task_commit_asks, task_co
 use Rattle.job_protocol.specs.TaskAborts.{TaskAbort, task_abort_asks, task_abort_after}
 use Rattle.job_protocol.specs.Cleanups.{Clean, clean_asks, clean_after}
 use Rattle.job_protocol.specs.Sparing.{Sparing, sparing_asks, sparing_after}
-use Rattle.job_protocol.specs.JobCommits.{Sets, set_read, Commit, Fetching, Replacing, Completing, Marking, Reverting, CommitOver, commit_asks, commit_tells}
+use Rattle.job_protocol.specs.JobCommits.{Sets, set_read, Commit, Fetching, Replacing, Completing, Marking, commit_asks, commit_tells}
 
 -- ---- a script as far as a plan tells it
 
 -- a script with this head, this block and these attempts
 abbrev pub script_of : Job → ℕ → List Declared → Script
-script_of j block attempts = record {
-  job = j.job;
-  dest = j.dest;
-  committer = j.committer;
-  mode = j.mode;
-  unique = false;
-  tasks = j.tasks;
-  retries = j.retries;
-  block = block;
-  lanes = j.lanes;
-  stamp = j.stamp;
-  fates = fin.empty;
-  attempts = attempts;
-  events = [];
-}
+script_of j block attempts = record (plain_script j.job j.dest j.committer j.mode j.tasks) { retries = j.retries; block = block; lanes = j.lanes; stamp = j.stamp; attempts = attempts }
 
 -- the attempt that a plan is of
 abbrev pub who_of : Task → Who
@@ -138,8 +123,7 @@ sets_in (Fetching sets m) = sets
 sets_in (Replacing sets p ps s m) = sets
 sets_in (Completing sets x xs finished) = sets
 sets_in (Marking sets m) = sets
-sets_in (Reverting r rs m) = []
-sets_in (CommitOver end) = []
+sets_in _ = []
 
 -- the sets that were read, with one more where it was one
 abbrev pub with_set : Sets → Option PendingSet → Sets

@@ -1,6 +1,6 @@
 -- The driver's commit of a job (Hadoop, S3A committer architecture: job commit; fs.s3a.committer.staging.conflict-mode).
 use Rattle.std.specs.Prelude.{◌≡◌, ℕ, ◌+◌, not, nat_lt, Bool, true, false, cond, List, [], ◌∷◌, ◌++◌, map, length, codes, slice_get, Option, Some, None, Result, Ok, Err}
-use Rattle.job_model.specs.Prelude.{flat_map, option_map, begins, Request, PutObject, GetObject, ClusterGet, ListPage, DeleteObjects, CompleteUpload, Committer, Magic, Directory, Partitioned, Mode, Replace, Reply, ClusterBytes, Completed, Refused, NoSuchUpload, Outcome, Answered, Slow, RequestLost, ReplyLost, Pending, PendingSet, Script}
+use Rattle.job_model.specs.Prelude.{flat_map, option_map, begins, Request, PutObject, GetObject, ClusterGet, ListPage, DeleteObjects, CompleteUpload, Committer, Magic, Directory, Partitioned, Mode, Replace, Reply, ClusterBytes, Completed, Refused, NoSuchUpload, Outcome, Answered, Slow, Pending, PendingSet, Script}
 use Rattle.s3_types.specs.declared.reply.Reply.TheVariants.{Object}
 use Rattle.magic_paths.specs.Layout as layout
 use Rattle.pending_json.specs.Reading as reading
@@ -147,8 +147,7 @@ commit_misses w (CommitOver end) lost = CommitOver end
 abbrev pub commit_tells : Script → Commit → Outcome → Commit
 commit_tells w c (Answered r) = commit_hears w c r
 commit_tells w c Slow = commit_misses w c false
-commit_tells w c RequestLost = commit_misses w c true
-commit_tells w c ReplyLost = commit_misses w c true
+commit_tells w c _ = commit_misses w c true
 
 -- an answer to a completion: that there is no such upload only where a sending of it was lost
 abbrev pub FitsCompletion : Turn → Reply → Type 0
@@ -165,6 +164,13 @@ commit_start w None = fetching w []
 abbrev pub commit_over : Commit → Option CommitEnd
 commit_over (CommitOver end) = Some end
 commit_over _ = None
+
+-- the commit ended before anything was deleted or completed
+abbrev pub is_untouched : CommitEnd → Bool
+is_untouched (ends.Missing t) = true
+is_untouched (ends.SamePath p t u) = true
+is_untouched (ends.StoreFault stages.Read) = true
+is_untouched _ = false
 
 -- the part of a commit that a request belongs to
 abbrev pub stage_of : Request → Stage

@@ -3,7 +3,7 @@ use Rattle.std.specs.Prelude.{◌≡◌, ℕ, zero, suc, ◌+◌, ◌<◌, ◌�
 use Rattle.job_model.specs.Prelude.{Script, Entry}
 use Rattle.retries.specs.Prelude.{same_request}
 use Rattle.job_protocol.specs.Lanes.{Turn, nth, completion}
-use Rattle.job_protocol.specs.JobCommits.{Sets, all_commits, Commit, Fetching, Replacing, Completing, Marking, Reverting, CommitOver, commit_tells}
+use Rattle.job_protocol.specs.JobCommits.{Sets, all_commits, Commit, Completing, commit_tells}
 
 -- x is a member
 abbrev pub In : {X : Type 0} → X → List X → Type 0
@@ -39,11 +39,7 @@ pub record Table (lanes retries total : ℕ) (waiting : List Turn) (finished : L
 -- a commit that completes has such a table
 abbrev pub Tabled : Script → Commit → Type 0
 Tabled w (Completing sets x xs finished) = Table w.lanes w.retries (length (all_commits sets)) (x ∷ xs) finished
-Tabled w (Fetching sets m) = Unit {0}
-Tabled w (Replacing sets p ps s m) = Unit {0}
-Tabled w (Marking sets m) = Unit {0}
-Tabled w (Reverting q qs m) = Unit {0}
-Tabled w (CommitOver end) = Unit {0}
+Tabled w _ = Unit {0}
 
 -- two of the uploads are two requests
 abbrev pub RequestsApart : Sets → Type 0
@@ -52,11 +48,7 @@ RequestsApart sets = (m n : ℕ) → m < length (all_commits sets) → n < lengt
 -- two of the uploads that a commit completes are two requests
 abbrev pub Sound : Commit → Type 0
 Sound (Completing sets x xs finished) = RequestsApart sets
-Sound (Fetching sets m) = Unit {0}
-Sound (Replacing sets p ps s m) = Unit {0}
-Sound (Marking sets m) = Unit {0}
-Sound (Reverting q qs m) = Unit {0}
-Sound (CommitOver end) = Unit {0}
+Sound _ = Unit {0}
 
 -- two of the uploads are two requests at each of these sendings
 abbrev pub AllSound : Script → Commit → List Entry → Type 0

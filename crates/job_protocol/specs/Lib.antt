@@ -1,7 +1,9 @@
+pub mod PathLaws
 pub mod View
 pub mod Outputs
 pub mod Conflicts
 pub mod Knowledge
+pub mod Seen
 pub mod Records
 pub mod Setup
 pub mod Uploading
@@ -9,6 +11,7 @@ pub mod Writes
 pub mod TaskCommits
 pub mod TaskAborts
 pub mod Cleanups
+pub mod Scope
 pub mod Rechecks
 pub mod Sparing
 pub mod Lanes

@@ -1,6 +1,6 @@
 -- All operations of a job's actors, by one table.
-use Rattle.std.specs.Prelude.{ℕ, Bool, true, false, cond, List, Option, Some, None}
-use Rattle.job_model.specs.Prelude.{option_map, Actor, Driver, Attempt, Shell, Request, Outcome, Who, Mode, Fail, Script, Known}
+use Rattle.std.specs.Prelude.{ℕ, Bool, true, cond, List, Option, Some, None}
+use Rattle.job_model.specs.Prelude.{option_map, Actor, Driver, Attempt, Request, Outcome, Who, Mode, Fail, Script, Known}
 use Rattle.retries.specs.Prelude.{Retried, fresh, step}
 use Rattle.job_model.specs.declared.events.Op.{Op}
 use Rattle.job_model.specs.declared.events.Op.TheVariants as ops
@@ -38,8 +38,7 @@ pub record Setting : Type 0 where
 -- the attempt that an actor is; of the others nothing asks this
 abbrev pub who : Actor → Who
 who (Attempt task attempt) = record { task = task; attempt = attempt }
-who Driver = record { task = 0; attempt = 0 }
-who Shell = record { task = 0; attempt = 0 }
+who _ = record { task = 0; attempt = 0 }
 
 -- the request that is asked next, by an attempt that knows this, or none
 abbrev pub asks : Setting → Who → Known → Operation → Option Request

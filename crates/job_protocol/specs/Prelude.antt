@@ -26,7 +26,7 @@ pub use Rattle.job_model.specs.declared.states.Life.TheVariants.{Busy, Dead, Idl
 pub use Rattle.job_protocol.specs.AtWork.{Attempting, Committing, Driving, clean_told, clean_wants, commit_told, commit_wants, declared_of, job_of, job_script, learned, picked_after, read_script, sets_after, sets_in, setup_told, setup_wants, task_abort_told, task_abort_wants, task_commit_told, task_commit_wants, task_of, task_script, who_of, with_known, with_pick, with_set, write_told, write_wants}
 pub use Rattle.job_protocol.specs.Cleanups.{Aborting, Clean, CleanOver, Naming, Removing, Walking, aborted, aborting, clean_asks, clean_hears, clean_over, naming, removing, sweeping, walking}
 pub use Rattle.job_protocol.specs.Conflicts.{checks_all, checks_partitions, dir_of, dirs_of, keeps_of, partitions, with_dir}
-pub use Rattle.job_protocol.specs.JobCommits.{Commit, CommitOver, Completing, Fetching, FitsCompletion, Marking, Replacing, Reverting, Sets, all_commits, commit_asks, commit_hears, commit_misses, commit_over, commit_start, commit_tells, completing, decided, fetched, fetching, is_no_magic, picks_of, replaced, replacing, reverting, set_read, set_request, stage_of, swept, worn_completion}
+pub use Rattle.job_protocol.specs.JobCommits.{Commit, CommitOver, Completing, Fetching, FitsCompletion, Marking, Replacing, Reverting, Sets, all_commits, commit_asks, commit_hears, commit_misses, commit_over, commit_start, commit_tells, completing, decided, fetched, fetching, is_untouched, is_no_magic, picks_of, replaced, replacing, reverting, set_read, set_request, stage_of, swept, worn_completion}
 pub use Rattle.job_protocol.specs.Knowledge.{as_made, drawn_for, drawn_in, drawn_last, first_drawn, is_set_key, is_set_path, knows, learn, learn_part, nothing_drawn}
 pub use Rattle.job_protocol.specs.LaneTable.{AllSound, In, RequestsApart, Sound, Table, Tabled, ahead}
 pub use Rattle.job_protocol.specs.Lanes.{Turn, abort, again, chosen, completion, dealt, deletion, first_turns, follow, fresh_turn, in_turn, is_in, is_tried, is_unsent, nth, revert, undo}
@@ -35,11 +35,13 @@ pub use Rattle.job_protocol.specs.Measures.{FallsAmong}
 pub use Rattle.job_protocol.specs.Operations.{Operation, Reports, Running, Setting, TheCheck, TheClean, TheCommit, TheSetup, TheSparing, TheTaskAbort, TheTaskCommit, TheWrite, advance, after_check, after_check_by, asks, clean_of, commit_by, commit_of, learn_of, over, start_of, tells, wants, who}
 pub use Rattle.job_protocol.specs.Outputs.{Picks, files, files_picked, first_shared, first_where, is_clash, is_decided, is_picked, ordered, paths_of, same_path, second_where, shared_by, two_where, wanted, wanted_at, wanted_below, wanted_paths, writes}
 pub use Rattle.job_protocol.specs.Records.{attempt_dir, file_key, file_record, files_set, mark_text, marker_key, record_key, record_text, set_text}
+pub use Rattle.job_protocol.specs.Scope.{IsZeroRename, NoClusterFile, NoneLive, NothingLeft, SameOutside, SameOutsideUpload, is_copy, may_show, sends_data, upload_at, upload_in}
+pub use Rattle.job_protocol.specs.Seen.{Seen, Times, is_begun, is_magic, is_marked, is_marking, is_picking, is_publishing, is_reading, is_staging, last_by, nothing_seen, picks_by, see, see_all, see_by, seen}
 pub use Rattle.job_protocol.specs.Setup.{Clearing, Heading, Setup, SetupOver, Sweeping, checked, checked_by, checked_on, cleared, dest_prefix, first_shown, headed, if_bucket, lacks_bucket, or_next, setup_after, setup_asks, setup_hears, shown_path}
 pub use Rattle.job_protocol.specs.TaskAborts.{Dropping, TaskAbort, TaskAbortOver, dropping, task_abort_asks, task_abort_by, task_abort_hears, task_abort_over, task_abort_start}
 pub use Rattle.job_protocol.specs.TaskCommits.{Checking, Looking, Publishing, Reading, Renaming, Storing, TaskCommit, TaskCommitOver, attempt_prefix, checking, in_order, least_missing, least_of, looked, looked_at, partition_prefix, read_record, reading, renamed, storing, task_commit_asks, task_commit_hears, task_commit_over, task_commit_start, task_commit_start_by, temporary_path, to_check, uploaded}
 pub use Rattle.job_protocol.specs.Uploading.{AllSent, Creating, GoesOn, IsGone, Sending, Uploaded, Uploading, created, file_parts, sending, sent_part, upload_asks, upload_hears}
-pub use Rattle.job_protocol.specs.View.{is_folder, view}
+pub use Rattle.job_protocol.specs.View.{Same, is_folder, view}
 pub use Rattle.job_protocol.specs.Writes.{Write, WriteOver, write_hears, write_over, write_start, write_start_by, writing}
 pub use Rattle.list_walk.specs.Fitting.{FitsPage, FitsSweep, FitsUploads}
 pub use Rattle.list_walk.specs.Laws.{LessWalk}
@@ -55,6 +57,5 @@ pub use Rattle.s3_types.specs.Store.{opening}
 pub use Rattle.s3_types.specs.declared.limits.TheConstants.{MOST_MINIMUM}
 pub use Rattle.s3_types.specs.declared.reply.PageEntry.{PageEntry}
 pub use Rattle.s3_types.specs.declared.reply.Refusal.{Refusal}
-pub use Rattle.std.specs.BTreeMap.{get}
 pub use Rattle.std.specs.FinMap.{nat_cmp-IsAntisymmetric, slice_cmp-IsAntisymmetric}
 pub use Rattle.std.specs.List.{All, Contains, IsDistinct, position}

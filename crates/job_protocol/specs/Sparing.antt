@@ -1,11 +1,12 @@
 -- The driver's abort or clean of a job at a shared destination: it aborts only the uploads that the job's own records and sets name, and lists no uploads (Hadoop, S3A committer architecture: cleanup by the job's own pending files).
 use Rattle.std.specs.Prelude.{Err, List, None, Ok, Option, Result, Some, [], drop, map, take, ℕ, ◌++◌, ◌∷◌}
-use Rattle.job_model.specs.Prelude.{ClusterBytes, Committer, Directory, Magic, Partitioned, Pending, PendingSet, Script, filter, is_record}
+use Rattle.job_model.specs.Prelude.{ClusterBytes, Committer, Directory, Magic, Partitioned, Pending, PendingSet, Script, filter}
 use Rattle.retries.specs.Prelude.{AbortUpload, ClusterDelete, ClusterGet, ClusterList, DeleteObjects, GetObject, Got, Item, OutOfMemory, Reply, Request, UploadRef, WornOut}
 use Rattle.s3_types.specs.declared.reply.Reply.TheVariants.{ClusterNames, Object}
 use Rattle.pending_json.specs.declared.fault.RecordFault.{RecordFault}
 use Rattle.job_model.specs.declared.ends.CleanEnd.{CleanEnd}
 use Rattle.list_walk.specs.Walks.{More, Walked, Whole, page_after, walked}
+use Rattle.magic_paths.specs.Places.{is_record}
 use Rattle.magic_paths.specs.Layout as layout
 use Rattle.pending_json.specs.Reading as reading
 use Rattle.job_model.specs.declared.ends.CleanEnd.TheVariants as ends

@@ -1,11 +1,15 @@
 -- What a reader of a destination is shown (Hadoop, S3A committers: the magic directory and `_SUCCESS` are no data).
-use Rattle.std.specs.Prelude.{ℕ, ◌==◌, ◌&&◌, not, Bool, true, cond, List, [], ◌∷◌, Option, Some, None, codes, bytes_eq}
+use Rattle.std.specs.Prelude.{◌≡◌, ℕ, ◌==◌, ◌&&◌, not, Bool, true, cond, List, [], ◌∷◌, Option, Some, None, codes, bytes_eq}
 use Rattle.job_model.specs.Prelude.{option_map, BucketContent, Content, begins, Object, Path, below}
 use Rattle.std.specs.FinMap as fin
 
 -- paths below a destination, each with a file's bytes or with none
 abbrev pub Shown : Type 0
 Shown = List ℕ → Option (List ℕ)
+
+-- two views show the same files
+abbrev pub Same : Shown → Shown → Type 0
+Same v u = (p : List ℕ) → v p ≡ u p
 
 -- a path is empty or ends in `/`
 abbrev pub is_folder : List ℕ → Bool

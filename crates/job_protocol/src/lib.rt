@@ -3,7 +3,7 @@
 //!
 //! # What is proved
 //!
-//! For every committer: an operation asks a request exactly until it is over. One that sends one
+//! The paths of a script's files keep the bounds of the layout's places (`paths`). For every committer: an operation asks a request exactly until it is over. One that sends one
 //! request at a time is at fault exactly where a request of it wore out. The end SamePath names the
 //! least path that two picks write, with the two least tasks. In a job's commit each upload is done or
 //! in one lane's turn, the lanes send in their cyclic order, and the commit ends by the first of its
@@ -12,7 +12,13 @@
 #![tactic(auto)]
 
 ghost use Rattle.job_protocol.specs.Laws.{OperationTable, FaultsAreWorn, SharedPaths, LanesKeep, CommitsInLanes};
+ghost use Rattle.job_protocol.specs.PathLaws.{ArePlaces};
 ghost use Rattle.job_protocol.specs.PlanLaws.{TasksTell, JobsTell};
+
+/// The paths of a script's files keep the bounds that make the keys of different places different.
+pub fn paths()
+    ensures places { ArePlaces }
+{}
 
 /// The operations of a job's actors.
 pub fn operations()

@@ -3,7 +3,7 @@ use Rattle.job_refinement.proofs.Common.{Answered, Bool, Commit, CommitEnd, Comm
 use Rattle.pending_json.specs.Reading as reading
 use Rattle.job_facts.proofs.Reading.{reads_it, reads_other}
 use Rattle.job_refinement.specs.Picked.{ArePicked, IsEachPicked}
-use Rattle.proof_base.proofs.Options.{both_hold}
+use Rattle.basics.proofs.Options.{both_hold}
 
 -- ---- lists with one more
 

@@ -1,6 +1,6 @@
 -- What is asked of the answers that are due, and what must be known of an operation beside the facts of its job.
 use Rattle.std.specs.Prelude.{◌≡◌, ℕ, ◌<◌, Bool, List, ◌∷◌, length, Option, Some}
-use Rattle.job_facts.specs.Prelude.{Scene, answer, Request, Reply, IsIn, File, Who, Script, files, TaskCommit, Looking, Reading, Publishing, Checking, Uploads, Storing, Renaming, TaskCommitOver, Commit, Fetching, Replacing, Completing, Marking, Reverting, CommitOver, Seen, Told, known, sets_at, HasPublished}
+use Rattle.job_facts.specs.Prelude.{Scene, answer, Request, Reply, IsIn, File, Who, Script, files, TaskCommit, Reading, Commit, Fetching, Seen, Told, known, sets_at, HasPublished}
 
 -- the answer that is due to what is asked fits, whether or not an earlier sending of it was lost
 abbrev pub FitsDue : {O : Type 0} → (O → Option Request) → (O → Reply → Bool → Type 0) → O → Scene → Type 0
@@ -8,23 +8,13 @@ FitsDue wants fits o s = (r : Request) → wants o ≡ Some r → (repeated : Bo
 
 -- the records that a task's commit has yet to read are of its own files
 abbrev pub ReadsOwn : Script → Who → TaskCommit → Type 0
-ReadsOwn w a (Looking keys) = Unit {0}
 ReadsOwn w a (Reading cs f fs) = (g : File) → IsIn g (f ∷ fs) → IsIn g (files w a)
-ReadsOwn w a (Publishing cs) = Unit {0}
-ReadsOwn w a (Checking d ds) = Unit {0}
-ReadsOwn w a (Uploads f fs u) = Unit {0}
-ReadsOwn w a Storing = Unit {0}
-ReadsOwn w a Renaming = Unit {0}
-ReadsOwn w a (TaskCommitOver end) = Unit {0}
+ReadsOwn w a _ = Unit {0}
 
 -- the set that a job's commit reads next stands
 abbrev pub SetStands : Script → Seen → Commit → Type 0
 SetStands w s (Fetching sets n) = (bytes : List ℕ) × (sets_at w s.scene (length sets) ≡ Some bytes)
-SetStands w s (Replacing sets p ps v n) = Unit {0}
-SetStands w s (Completing sets x xs finished) = Unit {0}
-SetStands w s (Marking sets n) = Unit {0}
-SetStands w s (Reverting r rs n) = Unit {0}
-SetStands w s (CommitOver end) = Unit {0}
+SetStands w s _ = Unit {0}
 
 -- each task has a last publisher
 abbrev pub AllPublished : Script → Seen → Type 0

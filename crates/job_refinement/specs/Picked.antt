@@ -1,6 +1,6 @@
 -- The attempts that the driver's commit has picked, beside those that are seen.
 use Rattle.std.specs.Prelude.{◌≡◌, ℕ, ◌<◌, List, length, slice_get}
-use Rattle.job_facts.specs.Prelude.{Script, Commit, Fetching, Replacing, Completing, Marking, Reverting, CommitOver, Seen}
+use Rattle.job_facts.specs.Prelude.{Script, Commit, Fetching, Seen}
 
 -- of each task the attempt that was picked, or none, is the one that is seen; they stand by task from 0 on
 abbrev pub ArePicked : Script → Seen → List ℕ → Type 0
@@ -9,8 +9,4 @@ ArePicked w s picked = (t : ℕ) → t < w.tasks → s.picks t ≡ slice_get pic
 -- while it reads there is one for each set
 abbrev pub IsEachPicked : List ℕ → Commit → Type 0
 IsEachPicked picked (Fetching sets n) = length picked ≡ length sets
-IsEachPicked picked (Replacing sets p ps s n) = Unit {0}
-IsEachPicked picked (Completing sets x xs finished) = Unit {0}
-IsEachPicked picked (Marking sets n) = Unit {0}
-IsEachPicked picked (Reverting r rs n) = Unit {0}
-IsEachPicked picked (CommitOver end) = Unit {0}
+IsEachPicked picked _ = Unit {0}

@@ -1,6 +1,6 @@
 -- Where the machines of a job's actors stand, by the script that their plans are of.
 use Rattle.std.specs.Prelude.{ℕ, Bool, true, false, List, Option, Some, None}
-use Rattle.job_facts.specs.Prelude.{Request, Outcome, Answered, Slow, RequestLost, ReplyLost, Item, Got, WornOut, Retried, is_zero, Who, Known, Script, Commit, Attempting, Driving, Committing, job_of, task_of, learned}
+use Rattle.job_facts.specs.Prelude.{Request, Outcome, Answered, Item, Got, WornOut, Retried, is_zero, Who, Known, Script, Commit, Attempting, Driving, Committing, job_of, task_of, learned}
 use Rattle.job_protocol.specs.Rechecks.{Check}
 use Rattle.conflict.specs.Rechecks.{PlannedCheck}
 
@@ -40,9 +40,7 @@ worn_if false = None
 -- the reply, or that the request wore out; nothing where the request is sent again
 abbrev pub heard : {O : Type 0} → Retried O → Outcome → Option Item
 heard t (Answered r) = Some (Got r t.repeated)
-heard t Slow = worn_if (is_zero t.spare)
-heard t RequestLost = worn_if (is_zero t.spare)
-heard t ReplyLost = worn_if (is_zero t.spare)
+heard t _ = worn_if (is_zero t.spare)
 
 -- what the plan of an attempt's machine knows then
 abbrev pub known_then : Script → Who → Known → Option Request → Option Item → Known

@@ -1,5 +1,5 @@
 -- The lines of a report as they are written one after another.
-use Rattle.job_report.proofs.Common.{Bool, Declared, Event, EventEnd, List, Pick, Script, Who, [], ap, append_assoc, both_written, cond, declares, drop, enumerate_from, event_lines, false, flat_map, length, lookup, pick_line, refl, same_name, subst, sym, true, zip, ℕ, ◌++◌, ◌+◌, ◌∙◌, ◌∷◌, ◌≡◌, ◌≤◌}
+use Rattle.job_report.proofs.Common.{Bool, Declared, Event, EventEnd, List, Pick, Script, Who, [], ap, append_assoc, cond, declares, drop, enumerate_from, event_lines, false, flat_map, length, lookup, pick_line, refl, same_name, subst, sym, true, zip, ℕ, ◌++◌, ◌+◌, ◌∙◌, ◌∷◌, ◌≡◌, ◌≤◌}
 use Rattle.std.specs.Prelude.{is_some, Some}
 use Rattle.job_spec.proofs.Common.{drop_all, append-nil, eq-eqb}
 use Rattle.job_spec.specs.ReportText.{actor_lines, closing, report_text}

@@ -1,5 +1,5 @@
 -- Once the job's commit is over, its driver does no more than abort and clean, and reads no set.
-use Rattle.job_safety.proofs.Common.{Begins, Commit, CommitOver, Content, Do, Driver, Entry, Event, IsLegal, IsOpening, IsSettingUp, List, MayOpen, MaySend, None, Op, Opens, Operation, Option, Play, Reachable, Request, Running, Script, Sends, Setting, Some, Start, Strays, TheClean, TheCommit, Transition, [], ap, append-nil, append_assoc, arith, asks, begins_so, clean_alone, clean_plain, commit_asks, false, false_true, happen, hear, inl, inr, is_just_set, is_reading, length, may_commit_job, may_setup, none_some, open_running, operation_of, put, put_here, put_other, refl, same_or_not, strange_entry, subst, sym, tells, true, wants, who, ℕ, ◌++◌, ◌∙◌, ◌∷◌, ◌≡◌}
+use Rattle.job_safety.proofs.Common.{Begins, Commit, CommitOver, Content, Do, Driver, Entry, Event, IsLegal, IsOpening, IsSettingUp, List, MayOpen, MaySend, None, Op, Opens, Operation, Option, Play, Reachable, Request, Running, Script, Sends, Setting, Some, Strays, TheClean, TheCommit, Transition, [], ap, append-nil, append_assoc, arith, begins_so, clean_alone, false, false_true, happen, hear, is_just_set, is_reading, length, may_commit_job, may_setup, open_running, operation_of, put, put_here, put_other, refl, same_or_not, strange_entry, subst, sym, true, wants, ℕ, ◌++◌, ◌∙◌, ◌∷◌, ◌≡◌}
 use Rattle.job_model.specs.declared.events.Op.TheVariants as ops
 use Rattle.job_outcomes.specs.CommitMoments.{NoneRead}
 use Rattle.job_safety.proofs.History.{Later, at_once, later}

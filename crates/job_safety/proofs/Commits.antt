@@ -1,24 +1,25 @@
 -- How the driver's commit ends in a run, and what it leaves.
-use Rattle.job_safety.proofs.Common.{Answered, AreOwn, Bool, Closes, Commit, CommitEnd, CommitEnded, CommitOver, CommitServed, CommitsEndAmong, Content, Doing, Driver, Entry, Follows, HasPublished, IsIn, IsLegal, IsOpening, IsRun, IsSome, Known, List, None, Op, Opens, Option, Play, Reachable, Reply, Running, Scene, Script, Setting, Some, TheCommit, Told, [], advance, after_all, always, ap, append_assoc, arith, by_actor, clean_event, commit_alone, commit_asks, commit_moments, commit_over, commit_start, commit_tells, computed, cond, end_of, false, false_true, filter, first_not, happen, happens, in_back, in_commit, in_filter, inl, inr, is_begun, is_run, is_wanting, known_then, length, missing, moment, moment_scene, none_or_some, none_sent, none_some, nothing_seen, nothing_told, open_running, operation_of, option_map, or_parts, over, own_front, refl, reverted_now, run, run_entries, same_actor, same_is, see_all, see_parts, seen_until, sees, set_read, set_request, some_is, start_of, subst, suc, sym, take_all, tell_all, tells_so, times, told_all, true, true_or_false, until, zero, ℕ, ◌&&◌, ◌++◌, ◌+◌, ◌<◌, ◌∙◌, ◌∷◌, ◌≡◌, ◌≤◌}
-use Rattle.job_spec.specs.Prelude.{first_worn, CommitsEnd, reports, is_reported}
-use Rattle.job_facts.specs.Prelude.{view, Same, Always, is_marked, commit_due, is_untouched, NoDeletionWorn, OnlyOpening, Times, Actor, Reports, list_any, is_driver}
+use Rattle.job_protocol.specs.Prelude.{Actor, Answered, Commit, CommitEnd, CommitOver, Content, Driver, Entry, Follows, IsIn, IsLegal, Known, Op, Reply, Reports, Running, Same, Scene, Script, Setting, TheCommit, Times, advance, commit_asks, commit_over, commit_start, commit_tells, is_begun, is_marked, is_untouched, list_any, moment, nothing_seen, option_map, over, run, see_all, set_read, set_request, start_of, view}
+use Rattle.job_safety.proofs.Common.{AreOwn, Bool, Closes, CommitEnded, CommitServed, CommitsEndAmong, Doing, HasPublished, IsOpening, IsRun, IsSome, List, None, Opens, Option, Play, Reachable, Some, Told, [], after_all, always, ap, append_assoc, arith, by_actor, clean_event, commit_alone, commit_moments, computed, cond, false, false_true, filter, first_not, happen, happens, in_back, in_commit, in_filter, inl, inr, is_run, is_wanting, known_then, length, missing, moment_scene, none_or_some, none_sent, none_some, nothing_told, open_running, operation_of, or_parts, own_front, refl, reverted_now, run_entries, same_actor, same_is, see_parts, seen_until, sees, some_is, subst, suc, sym, take_all, tell_all, tells_so, times, told_all, true, true_or_false, until, zero, ℕ, ◌&&◌, ◌++◌, ◌+◌, ◌<◌, ◌∙◌, ◌∷◌, ◌≡◌, ◌≤◌}
+use Rattle.job_spec.specs.Prelude.{Always, CommitsEnd, NoDeletionWorn, commit_due, first_worn, is_driver, is_reported, reports}
+use Rattle.job_steps.proofs.Reported.{all_published, last_more, reported}
+use Rattle.job_outcomes.specs.CommitRuns.{CommitStands, IsDue}
+use Rattle.job_outcomes.proofs.Alone.{go_alone}
+use Rattle.job_outcomes.proofs.CommitRuns.{commit_runs, no_entry}
+use Rattle.job_outcomes.proofs.Served.{commit_answers}
+use Rattle.job_safety.proofs.Cuts.{moment_cut}
+use Rattle.job_safety.proofs.Sorts.{driver_commit, kind_run, memory_commit, over_kind}
+use Rattle.job_safety.proofs.History.{Began, IsBegin}
+use Rattle.job_safety.proofs.Ending.{Ending, ahead_none, ending, until_own}
+use Rattle.job_safety.proofs.Spans.{mine, start}
+use Rattle.job_safety.proofs.Timed.{ahead_opened, ahead_start, number_is, opened_commit, picks_then, run_then, taken_then, unclean_then}
+use Rattle.job_safety.proofs.After.{After, IsAfter, after_commit}
+use Rattle.job_spec.specs.OperationEnds.{OnlyOpening}
 use Rattle.s3_types.specs.Store as store
 use Rattle.job_model.specs.declared.events.Op.TheVariants as ops
 use Rattle.job_model.specs.declared.ends.CommitEnd.TheVariants as commits
 use Rattle.job_model.specs.declared.ends.Stage.TheVariants as stages
 use Rattle.job_model.specs.declared.ends.OpEnd.TheVariants as ends
-use Rattle.job_steps.proofs.Reported.{last_more, all_published, reported}
-use Rattle.job_outcomes.specs.CommitRuns.{IsDue, CommitStands}
-use Rattle.job_outcomes.proofs.Alone.{go_alone}
-use Rattle.job_outcomes.proofs.CommitRuns.{no_entry, commit_runs}
-use Rattle.job_outcomes.proofs.Served.{commit_answers}
-use Rattle.job_safety.proofs.Cuts.{moment_cut}
-use Rattle.job_safety.proofs.Sorts.{over_kind, kind_run, driver_commit, memory_commit}
-use Rattle.job_safety.proofs.History.{Began, IsBegin}
-use Rattle.job_safety.proofs.Ending.{Ending, ahead_none, ending, until_own}
-use Rattle.job_safety.proofs.Spans.{start, mine}
-use Rattle.job_safety.proofs.Timed.{run_then, ahead_opened, ahead_start, opened_commit, number_is, unclean_then, taken_then, picks_then}
-use Rattle.job_safety.proofs.After.{IsAfter, After, after_commit}
 
 -- ---- plain facts
 

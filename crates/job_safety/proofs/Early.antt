@@ -1,9 +1,8 @@
 -- Until the driver's set-up is over all of the job's entries are the driver's: no attempt has begun before.
-use Rattle.job_safety.proofs.Common.{Actor, ActorEnd, ActorStage, ActorState, AllBy, Busy, Closes, Content, Do, Done, Driver, DriverAt, Entry, Event, Finishes, IsBehind, IsLegal, IsOpening, Kill, MayFinish, MaySend, None, Op, OpEnd, Opens, Operation, Option, Past, Play, Reachable, Refuses, Restart, Running, Script, Sends, Setting, SetupEnd, Some, Start, Strays, TheCheck, TheClean, TheCommit, TheSparing, [], all_more, ap, arith, begins_so, carried, cond, driver_ends, ended, false, false_true, filter-append, get_last, happens, inl, inr, is_memory, is_new, is_own, length, may_end, memory_dies, needs_set, none_some, nothing_happened, open_event, open_running, operation_of, over, own, own_own, put, put_here, put_other, refl, refusal, restarted_new, same_or_not, slice_get, stage_begun, subst, sym, told_all, true, ℕ, ◌&&◌, ◌++◌, ◌∙◌, ◌∷◌, ◌≡◌, ◌⊎◌}
-use Rattle.job_model.specs.declared.events.Op.TheVariants as ops
+use Rattle.job_safety.proofs.Common.{Actor, ActorEnd, ActorStage, ActorState, AllBy, Busy, Closes, Content, Do, Done, Driver, DriverAt, Entry, Event, Finishes, IsBehind, IsLegal, IsOpening, MayFinish, MaySend, None, Op, OpEnd, Opens, Operation, Option, Past, Play, Reachable, Refuses, Running, Script, Sends, Setting, SetupEnd, Some, Start, Strays, [], all_more, ap, arith, begins_so, carried, cond, driver_ends, ended, false, filter-append, get_last, happens, inl, inr, is_memory, is_new, is_own, length, may_end, memory_dies, needs_set, none_some, nothing_happened, open_event, open_running, operation_of, over, own, own_own, put, put_here, put_other, refl, refusal, same_or_not, slice_get, subst, sym, told_all, true, ℕ, ◌&&◌, ◌++◌, ◌∙◌, ◌∷◌, ◌≡◌, ◌⊎◌}
 use Rattle.job_model.specs.declared.ends.OpEnd.TheVariants as ends
 use Rattle.job_model.specs.declared.states.ActorStage.TheVariants as stage
-use Rattle.job_safety.proofs.Sorts.{kind, OfSetup, OfCommit, OfClean, over_kind}
+use Rattle.job_safety.proofs.Sorts.{kind, OfSetup, over_kind}
 
 -- ---- stages
 

@@ -1,5 +1,5 @@
 -- An operation that ended in an event of a run, at the moment right before that event was over.
-use Rattle.job_safety.proofs.Common.{Actor, ActorEnd, Ahead, AllFrom, AllUpTo, AreOwn, Content, Doing, EndedIn, Entry, Event, EventEnd, Follows, List, None, OpEnd, Operation, Past, Play, Reachable, Refused, Running, Script, Setting, Some, [], advance, after_event, ap, append-nil, append_assoc, arith, by_actor, end_ops, false, filter-append, inl, inr, is_memory, is_own, is_refused, known_then, length, memory_or, nat_le, none_some, open_event, over, own, past, refl, run, same_actor, since, slice_get, some_is, start_of, subst, sym, take, take-append-le, take_whole, told, told_all, true, until, until_all, wants, ℕ, ◌++◌, ◌+◌, ◌∙◌, ◌∷◌, ◌≡◌, ◌≤◌, ◌⊎◌}
+use Rattle.job_safety.proofs.Common.{Actor, ActorEnd, Ahead, AllFrom, AllUpTo, AreOwn, Content, Doing, EndedIn, Entry, Event, EventEnd, Follows, List, None, OpEnd, Operation, Play, Reachable, Running, Script, Setting, Some, [], advance, after_event, ap, append-nil, append_assoc, arith, by_actor, false, filter-append, inl, inr, is_memory, is_own, is_refused, known_then, length, memory_or, nat_le, none_some, over, own, past, run, same_actor, since, slice_get, some_is, start_of, subst, sym, take, take-append-le, take_whole, told, told_all, true, until, until_all, wants, ℕ, ◌++◌, ◌+◌, ◌∙◌, ◌∷◌, ◌≡◌, ◌≤◌, ◌⊎◌}
 use Rattle.job_spec.specs.States.{count}
 use Rattle.job_steps.proofs.PastMore.{after_is, turns_refused}
 use Rattle.job_safety.proofs.Strange.{AreStrange, strange_until, strange_by, strange_none, own_back, own_part}

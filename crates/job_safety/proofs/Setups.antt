@@ -4,12 +4,12 @@ use Rattle.s3_types.specs.Store as store
 use Rattle.job_model.specs.declared.ends.OpEnd.TheVariants as ends
 use Rattle.job_outcomes.proofs.SetupEnds.{setups_end}
 use Rattle.job_safety.proofs.Cuts.{all_by_back}
-use Rattle.job_outcomes.proofs.EventRows.{alone as by_all}
 use Rattle.job_safety.proofs.Strange.{own_all}
 use Rattle.job_safety.proofs.Sorts.{over_kind, kind_run, driver_setup, memory_setup}
 use Rattle.job_safety.proofs.Ending.{Ending, ending}
 use Rattle.job_safety.proofs.Early.{early}
 use Rattle.job_safety.proofs.Spans.{start, scene_is, mine, honest}
+use Rattle.job_outcomes.proofs.EventRows.{alone as by_all}
 
 module _ (g : Setting) (opening : Content) (j : IsLegal g.script) (is_opening : IsOpening g opening) (x : Play) (run_x : Reachable g opening x) (idle : x.now ≡ None) where
   module _ (i : ℕ) (d : Doing) (e : SetupEnd) (es : List Entry) (n : Ending g opening x i Driver d (ends.Setup e) es) where

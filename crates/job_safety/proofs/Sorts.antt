@@ -1,5 +1,5 @@
 -- Of which kind an operation is, from its beginning to its end.
-use Rattle.job_safety.proofs.Common.{Actor, CleanEnd, CommitEnd, Driver, Entry, Known, List, None, Op, OpEnd, Operation, Option, Outcome, Reports, Running, Setting, SetupEnd, Some, TaskEnd, TheCheck, TheClean, TheCommit, TheSetup, TheSparing, Who, [], advance, after_check_so, ap, arith, check_after, check_over, clean_of, clean_of_so, clean_over, commit_of, commit_of_so, commit_over, end_of, false_true, fresh, inl, inr, is_memory, none_some, option_map, over, refl, run, setup_over, setup_start, some_is, start_of, step, sym, tells, true, who, ◌∙◌, ◌∷◌, ◌≡◌, ◌⊎◌}
+use Rattle.job_safety.proofs.Common.{Actor, CleanEnd, CommitEnd, Driver, Entry, Known, List, Op, OpEnd, Operation, Outcome, Reports, Running, Setting, SetupEnd, Some, TaskEnd, TheCheck, TheClean, TheCommit, TheSetup, TheSparing, Who, [], advance, ap, arith, check_over, clean_of, clean_over, commit_of, commit_of_so, commit_over, end_of, fresh, is_memory, over, refl, run, setup_over, setup_start, start_of, tells, true, who, ◌∙◌, ◌∷◌, ◌≡◌, ◌⊎◌}
 use Rattle.job_model.specs.declared.events.Op.TheVariants as ops
 use Rattle.job_model.specs.declared.ends.SetupEnd.TheVariants as setups
 use Rattle.job_model.specs.declared.ends.TaskEnd.TheVariants as tasks
@@ -27,11 +27,10 @@ kind _ = OfTask
 
 abbrev pub end_kind : OpEnd → Kind
 end_kind (ends.Setup e) = OfSetup
-end_kind (ends.Check e) = OfCommit
-end_kind (ends.Commit e) = OfCommit
 end_kind (ends.Clean e) = OfClean
 end_kind (ends.Task e) = OfTask
 end_kind ends.NoMemory = OfNone
+end_kind _ = OfCommit
 
 pub over_kind : (op : Operation) (e : OpEnd) → over op ≡ Some e → kind op ≡ end_kind e
 over_kind (TheSetup t) e o = ap end_kind (end_of ends.Setup (setup_over t.operation) e o).2

@@ -1,6 +1,6 @@
 -- Entries of strangers between the events of a run: no actor of the job sent them, and nothing is told of them.
-use Rattle.job_safety.proofs.Common.{Bool, List, [], above_so, ap, arith, cond, entry_picks, false, false_true, last_other, nat_le, refl, same_false, true, ℕ, ◌++◌, ◌+◌, ◌<◌, ◌||◌, ◌∙◌, ◌∷◌, ◌≡◌, ◌≤◌}
-use Rattle.job_facts.specs.Prelude.{Actor, AllBy, AllFrom, AreOwn, Driver, Entry, Script, Seen, Times, by_actor, filter, is_own, list_any, own, same_actor, see, see_all, until, until_last}
+use Rattle.job_safety.proofs.Common.{Actor, AllBy, AllFrom, AreOwn, Bool, Driver, Entry, List, Script, Seen, Times, [], ap, arith, by_actor, cond, entry_picks, false, false_true, is_own, last_other, nat_le, own, refl, same_actor, same_false, see_all, true, until, until_last, ℕ, ◌++◌, ◌+◌, ◌||◌, ◌∙◌, ◌∷◌, ◌≡◌}
+use Rattle.job_facts.specs.Prelude.{filter, list_any, see}
 
 abbrev pub AreStrange : List Entry → Type 0
 AreStrange [] = Unit {0}

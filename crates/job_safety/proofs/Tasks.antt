@@ -1,5 +1,5 @@
 -- How attempts' operations end in a run, and that a commit that is done has published.
-use Rattle.job_safety.proofs.Common.{Attempt, Bool, Closes, Content, Doing, Entry, IsLegal, IsOpening, IsRun, Known, List, None, Op, Operation, Option, Outcome, Play, PublishesAmong, Reachable, Reports, Request, Running, Setting, Some, TaskCommitOver, TaskEnd, TaskIs, TasksEndAmong, TheCheck, TheSetup, TheTaskCommit, WasPublished, Who, WornFirst, [], advance, after_check_so, ap, arith, by_actor, check_after, clean_event, false, false_true, happen, happens, has_cleaned, inl, inr, is_run, known_then, knows, missing, none_some, operation_of, option_map, over, refl, run, run_entries, setting, some_is, start_of, step, subst, sym, task_commit_over, tells, times, true, until, until_last, ℕ, ◌+◌, ◌∙◌, ◌∷◌, ◌≡◌}
+use Rattle.job_safety.proofs.Common.{Attempt, Bool, Closes, Content, Doing, Entry, IsLegal, IsOpening, IsRun, Known, List, None, Op, Operation, Option, Outcome, Play, PublishesAmong, Reachable, Reports, Request, Running, Setting, Some, TaskCommitOver, TaskEnd, TaskIs, TasksEndAmong, TheTaskCommit, WasPublished, Who, WornFirst, [], advance, ap, arith, by_actor, clean_event, false, false_true, happen, happens, has_cleaned, inl, inr, is_run, known_then, knows, none_some, operation_of, option_map, over, refl, run, run_entries, setting, some_is, start_of, subst, sym, task_commit_over, tells, times, true, until, until_last, ℕ, ◌+◌, ◌∙◌, ◌∷◌, ◌≡◌}
 use Rattle.job_model.specs.declared.events.Op.TheVariants as ops
 use Rattle.job_model.specs.declared.ends.TaskEnd.TheVariants as tasks
 use Rattle.job_model.specs.declared.ends.OpEnd.TheVariants as ends

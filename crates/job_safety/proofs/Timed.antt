@@ -1,12 +1,12 @@
 -- At the end of an event in which the driver's operation ended: the run then, the event in which its commit began, and what is seen.
-use Rattle.job_safety.proofs.Common.{Ahead, Begins, Begun, Closes, Commit, Content, Doing, Driver, Entry, Event, IsLegal, IsOpening, IsRun, IsSettingUp, IsTimed, List, MayOpen, None, Op, OpEnd, Opens, Operation, Option, Play, Reachable, Script, Seen, Setting, Some, TheCommit, TheSetup, Times, Told, ap, arith, at_most_is, at_most_not, begins_so, carried, closed_ahead, commit_of, commit_of_so, driver_may, event_rows, false, false_true, happen, happens, has_cleaned, in_commit, inl, inr, is_begun, is_just_set, is_run, length, may_commit_job, not_refused, nothing_seen, nothing_told, number, open_running, opened_ahead, operation_of, refl, refusal, reports, see_all, see_parts, seen_until, sees, since, subst, sym, take, take-append_seam, tells_so, timed_setting, times, told_all, true, until, ℕ, ◌+◌, ◌<◌, ◌∙◌, ◌≡◌, ◌≤◌}
-use Rattle.job_facts.proofs.Learnt.{cleaned_is}
+use Rattle.job_safety.proofs.Common.{Ahead, Begins, Begun, Closes, Commit, Content, Doing, Driver, Entry, Event, IsLegal, IsOpening, IsRun, IsSettingUp, IsTimed, List, MayOpen, None, Op, OpEnd, Opens, Operation, Option, Play, Reachable, Script, Seen, Setting, Some, TheCommit, Times, Told, ap, arith, begins_so, carried, closed_ahead, commit_of, commit_of_so, driver_may, event_rows, false, happen, happens, has_cleaned, in_commit, inl, inr, is_begun, is_just_set, is_run, length, may_commit_job, not_refused, nothing_seen, nothing_told, number, open_running, opened_ahead, operation_of, refusal, reports, see_all, see_parts, seen_until, sees, since, subst, sym, take, take-append_seam, tells_so, timed_setting, times, told_all, true, until, ℕ, ◌+◌, ◌∙◌, ◌≡◌}
 use Rattle.job_steps.proofs.RunningNumbers.{begun_at}
 use Rattle.job_safety.proofs.History.{Began, IsBegin}
 use Rattle.job_safety.proofs.Ending.{Ending, ahead_none, journal_until, until_strange}
 use Rattle.job_safety.proofs.Spans.{start}
 use Rattle.job_safety.proofs.Strange.{strange_picks}
 use Rattle.job_safety.proofs.Early.{driver_past}
+use Rattle.job_traces.proofs.Learnt.{cleaned_is}
 use Rattle.job_model.specs.declared.events.Op.TheVariants as ops
 
 -- ---- plain facts

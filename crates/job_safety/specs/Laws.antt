@@ -1,12 +1,12 @@
 -- That every run keeps what is promised of its job.
 use Rattle.std.specs.Prelude.{◌≡◌, not, true, Bool, None, List, ℕ, ◌+◌, ◌⊎◌, false, Option}
-use Rattle.job_steps.specs.Prelude.{Content, Driver, Attempt, Entry, Script, Request, WornFirst, IsLegal, Pick, SetupEnd, TaskEnd, CommitEnd, EventEnd, Setting, Promised, ArePicked, all_picks, setting, seen_until, CleansEnd, nothing_seen, see_all, is_new, past, Doing, clean_event, Hold, until, until_last, by_actor, Plays, known_then, EndedIn, CommitEnded, has_cleaned, TaskIs, WasPublished, CommitServed, IsOpening, nothing_told, tell_all, Play, Reachable}
-use Rattle.job_facts.specs.Prelude.{ZeroRename, times}
+use Rattle.job_steps.specs.Prelude.{Content, Driver, Attempt, Entry, Script, Request, WornFirst, IsLegal, Pick, SetupEnd, TaskEnd, CommitEnd, EventEnd, Setting, Promised, ArePicked, all_picks, setting, seen_until, CleansEnd, nothing_seen, see_all, is_new, past, Doing, clean_event, Hold, until, until_last, by_actor, Plays, known_then, EndedIn, CommitEnded, has_cleaned, TaskIs, WasPublished, CommitServed, IsOpening, nothing_told, tell_all, Play, Reachable, times}
 use Rattle.job_model.specs.declared.events.Op.TheVariants as ops
 use Rattle.job_model.specs.declared.ends.SetupEnd.TheVariants as setups
 use Rattle.job_model.specs.declared.ends.TaskEnd.TheVariants as tasks
 use Rattle.job_model.specs.declared.ends.OpEnd.TheVariants as ends
 use Rattle.job_outcomes.specs.SetupEnds.{keys_listed, SetupListed}
+use Rattle.job_spec.specs.Prelude.{ZeroRename}
 
 -- ---- among strangers that leave the job's own alone
 

@@ -29,14 +29,12 @@ bytes_over (f ∷ fs) gs = let old = bytes_over fs gs in omega (arith, old)
 -- ---- a file is read again
 
 last_of : (before : List Declared) (a : Declared) → last_files (before ++ a ∷ []) ≡ a.1
-last_of [] a = refl
-last_of (b ∷ []) a = refl
 last_of (b ∷ c ∷ cs) a = last_of (c ∷ cs) a
+last_of _ a = refl
 
 added_to : (before : List Declared) (name : AttemptName) (fs : List File) (path bytes : List ℕ) → with_file (before ++ (name, fs) ∷ []) path bytes ≡ before ++ (name, fs ++ (path, bytes) ∷ []) ∷ []
-added_to [] name fs path bytes = refl
-added_to (b ∷ []) name fs path bytes = refl
 added_to (b ∷ c ∷ cs) name fs path bytes = ap (λ (l : List Declared). b ∷ l) (added_to (c ∷ cs) name fs path bytes)
+added_to _ name fs path bytes = refl
 
 hex_content : (n : ℕ) (word bytes : List ℕ) → hex_bytes word ≡ Some bytes → content_at n (codes "hex") (word ∷ []) ≡ Ok bytes
 unfolding content_at hex_at

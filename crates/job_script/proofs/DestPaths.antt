@@ -2,7 +2,7 @@
 use Rattle.job_script.proofs.Common.{Decides-eqb, IsDest, IsScriptWord, IsUtf8-append, IsUtf8-from_is_utf8, IsUtf8-nil, List, None, Ok, Option, Path, PathFault, Some, [], and_parts, ap, append_assoc, arith, bucket_in, bucket_utf8, cond_some, drop, ends_with, false, first_fault, is_bare, is_bucket, is_dest_key, is_element, is_key, is_name_byte, is_other, is_utf8-from_IsUtf8, join_parts, join_with_byte, leb-true, length, list_all, list_all-append, named, need, needed, not, not_so, option_or, part_from, parted, parts_of, passed, path_in, path_text, refl, same_ok, starts_is, starts_with, subst, sym, trimmed, true, true≢false, weaker, without_return, ℕ, ◌++◌, ◌<◌, ◌∙◌, ◌∷◌, ◌≡◌, ◌≢◌}
 use Rattle.std.specs.Prelude.{nat_eq, codes, nat_le}
 use Rattle.std.proofs.lemmas.Slice.Eq.{ends_is}
-use Rattle.words.proofs.Cuts.{no_return}
+use Rattle.basics.proofs.Cuts.{no_return}
 use Rattle.path_keys.specs.Paths.{key_of, element_fault, without_scheme}
 use Rattle.path_keys.specs.declared.fault.PathFault.TheVariants.{BadScheme, BadBucket, TooLong}
 use Rattle.path_keys.proofs.Ends.{no_end}

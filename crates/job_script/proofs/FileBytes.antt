@@ -1,5 +1,5 @@
 -- The bytes of a file: what is printed is read again, and what is read are bytes.
-use Rattle.job_script.proofs.Common.{AllByRecursion, BadLine, Bool, IsBytes, IsScriptWord, IsUtf8, IsUtf8-from_is_utf8, List, None, Ok, Result, Some, [], and_parts, ap, are_bytes, arith, encode_lower, encodes-chars, false, hex_word, if◌then◌else◌, joined, length, list_all, list_all-append, lower_digits, lt-ltb, ltb, ltb-true, nat_lt, needed, refl, replicate, scalars-chars, slice_index, subst, suc, text, true, zero, ℕ, ◌%◌, ◌&&◌, ◌++◌, ◌+◌, ◌/◌, ◌<◌, ◌==◌, ◌∙◌, ◌∷◌, ◌≡◌, ◌≤◌}
+use Rattle.job_script.proofs.Common.{AllByRecursion, BadLine, Bool, IsBytes, IsScriptWord, IsUtf8, IsUtf8-from_is_utf8, List, None, Ok, Result, Some, [], and_parts, ap, are_bytes, arith, encode_lower, encodes-chars, false, hex_word, joined, length, list_all, list_all-append, lower_digits, lt-ltb, ltb, ltb-true, nat_lt, needed, refl, replicate, scalars-chars, slice_index, subst, suc, text, true, zero, ℕ, ◌%◌, ◌&&◌, ◌++◌, ◌+◌, ◌/◌, ◌<◌, ◌==◌, ◌∙◌, ◌∷◌, ◌≡◌, ◌≤◌, if◌then◌else◌}
 use Rattle.std.specs.Str.{chars}
 use Rattle.job_script.specs.Content.{hex_bytes, text_at, hex_at, fill_at, content_at}
 use Rattle.std.proofs.Math.Utf8.{encode, encodes, next, scalar, scalars, scalar_cases}

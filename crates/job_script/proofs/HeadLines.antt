@@ -1,7 +1,7 @@
 -- The lines of a script's head that give one value: what is printed is read again, and what is read is within bounds.
 use Rattle.job_script.proofs.Common.{AllByRecursion, AreFates, BadLine, BadNumber, BadPath, Bool, Committer, Declared, DestIsRoot, Draft, Event, Group, Head, HeadWord, IsDest, IsLegal, IsScriptWord, List, Mode, None, Ok, Option, Path, PathFault, Result, Script, ScriptFault, Some, [], ap, arith, bytes_in, check, checked, committer_word, decimal, false, files_in, flat_map, is_dest_key, is_job_id, length, lit<, lt-ltb, need, needed, number_in-decimal, one, parted, path_in, refl, same_ok, subst, sym, true, ℕ, ◌++◌, ◌+◌, ◌<◌, ◌==◌, ◌^◌, ◌∙◌, ◌∷◌, ◌≡◌, ◌≤◌}
 use Rattle.std.specs.Prelude.{codes, nat_lt, option_map, IfSome}
-use Rattle.proof_base.proofs.Numbers.{positive}
+use Rattle.basics.proofs.Naturals.{positive}
 use Rattle.s3_types.specs.declared.request.Committer.TheVariants as committer
 use Rattle.s3_types.specs.declared.request.Mode.TheVariants as mode
 use Rattle.job_script.specs.declared.draft.Group.TheVariants as group

@@ -1,5 +1,5 @@
 -- The lines of a printed text are read again, one after another.
-use Rattle.job_script.proofs.Common.{AllByRecursion, AreLines, Draft, Group, IsAscii-cons, IsAscii-nil, IsBare, IsScriptWord, IsUtf8, IsUtf8-append, IsUtf8-from_ascii, IsUtf8-from_is_utf8, IsUtf8-nil, Kind, Line, List, Ok, Some, [], and_parts, ap, append-nil, append_assoc, arith, bare-joined, ended, false, is_utf8, is_utf8-from_IsUtf8, joined, kept_end, length, length-append, lines_again, lines_of, list_all, map, map-append, nat_lt, one_byte, subst, sym, text_of, true, without_return, ℕ, ◌++◌, ◌+◌, ◌<◌, ◌>>=◌, ◌∙◌, ◌∷◌, ◌≡◌}
+use Rattle.job_script.proofs.Common.{AllByRecursion, AreLines, Draft, Group, IsBare, IsScriptWord, IsUtf8, IsUtf8-append, IsUtf8-from_is_utf8, IsUtf8-nil, Kind, Line, List, Ok, Some, [], and_parts, ap, append-nil, append_assoc, arith, bare-joined, ended, false, is_utf8, is_utf8-from_IsUtf8, joined, kept_end, length, length-append, lines_again, lines_of, list_all, map, map-append, nat_lt, one_byte, subst, sym, text_of, true, without_return, ℕ, ◌++◌, ◌+◌, ◌>>=◌, ◌∙◌, ◌∷◌, ◌≡◌}
 use Rattle.job_script.specs.Script.{kind_of, enters, is_skipped, said_at, words_at, line_at, lines_at}
 use Rattle.job_script.proofs.Words.{is_letter, is_lettered, literal_word, plain_word}
 

@@ -1,12 +1,11 @@
 -- The lines of sendings that have a fate: what is printed is read again, and what is read is within bounds.
 use Rattle.job_script.proofs.Common.{AllByRecursion, AreFates, Bool, Err, Fate, FateMap, Head, HeadWord, IsFirstFrom, IsFirstNamed, List, None, Ok, Option, RepeatedName, Result, ScriptFault, Some, TooLarge, [], ap, append-nil, append_assoc, arith, cases_lt, check, cond, contrary, decimal, ended, eq_by_cmp, exact_unsigned, false, fate_word, fates, find, find_head, find_other, inl, inr, is_answer, is_some, keys_of, le-leb, length, lit<, lt-ltb, map, map_sorted, nat_cmp, nat_cmp_total, nat_tests, need, none_is, number_in-decimal, parted, refl, same_ok, sorted_head, sorted_tail, subst, suc, sym, text_of, true, true≢false, zero, ℕ, ◌++◌, ◌+◌, ◌<◌, ◌>>=◌, ◌||◌, ◌↔◌, ◌∙◌, ◌∷◌, ◌≡◌, ◌≤◌}
 use Rattle.std.specs.Prelude.{IfSome, codes, is_some, ◌&&◌, nat_le, nat_lt, ⊤, IsErrOf, OnOk}
-use Rattle.words.proofs.Common.{less_is}
 use Rattle.std.specs.List.Sorted.{IsStrictlySortedBy}
 use Rattle.s3_types.specs.Fates.{with_fates}
 use Rattle.job_script.specs.declared.draft.Loss.{Loss}
 use Rattle.job_script.specs.HeadLines.{loss_at, loss_of, named_at, has_one, count_of, row, loss_line, loss_lines}
-use Rattle.proof_base.proofs.EntriesFrom.{AreAbove, other_key, not_found, entries_from, no_entry_from, entry_from, all_entries_from}
+use Rattle.basics.proofs.EntriesFrom.{AreAbove, other_key, not_found, entries_from, no_entry_from, entry_from, all_entries_from}
 use Rattle.job_script.proofs.Words.{number_bounds, decimal_lettered}
 use Rattle.job_script.proofs.Lines.{IsPrinted, printed, Goes, goes_nowhere, goes_on, said, goes_through}
 use Rattle.s3_types.proofs.Spans.{get_with_fates}
@@ -14,6 +13,7 @@ use Rattle.s3_types.specs.declared.fates.FateFault.{FateFault}
 use Rattle.s3_types.specs.declared.fates.FateFault.TheVariants.{Taken}
 use Rattle.job_script.specs.Script.{words_at, said_at}
 use Rattle.job_script.proofs.HeadLines.{headed, Holds, IsName, IsSoundHead}
+use Rattle.basics.proofs.Naturals.{less_is}
 use Rattle.std.specs.FinMap as fin
 use Rattle.s3_types.specs.declared.fates.Fate.TheVariants as fate
 use Rattle.job_script.specs.declared.head.HeadWord.TheVariants as head

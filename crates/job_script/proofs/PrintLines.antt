@@ -1,5 +1,5 @@
 -- Lines that are written one after another.
-use Rattle.job_script.proofs.Common.{Event, HeadWord, Line, List, Option, Script, [], ap, append-nil, append_assoc, both_written, ended, flat_map, head_lines, head_order, loss_lines, map, refl, row_lines, sym, text_of, value_lines, ℕ, ◌++◌, ◌∙◌, ◌∷◌, ◌≡◌}
+use Rattle.job_script.proofs.Common.{Event, HeadWord, Line, List, Option, Script, [], ap, append-nil, both_written, ended, flat_map, head_lines, head_order, loss_lines, map, refl, row_lines, sym, text_of, value_lines, ℕ, ◌++◌, ◌∙◌, ◌∷◌, ◌≡◌}
 use Rattle.std.proofs.lemmas.List.Concat.{flat_map-append}
 use Rattle.job_script.specs.Print.{attempt_lines, event_line, script_text}
 

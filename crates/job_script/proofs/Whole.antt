@@ -1,7 +1,7 @@
 -- The whole script: its printed text is read again, and what is read has the bounds of a script.
-use Rattle.job_script.proofs.Common.{AllByRecursion, AreAttempts, AreEvents, AreFates, BadLine, Bool, Committer, Declared, Draft, Event, Fate, FitsMagic, Group, Head, IfSome, IsLegal, IsScriptWord, Kind, List, MissingHead, Mode, None, Ok, Option, Path, Script, Some, UnknownWord, [], ap, arith, false, flat_map, head_at, head_lines, head_order, if◌then◌else◌, is_inside, is_utf8, le-leb, length, lines_of, loss_at, loss_lines, map, nat_cmp, need, needed, no_head, none_left, one_longer, parted, refl, row_lines, same_ok, subst, sym, text_of, true, unless, unwrap_or, words_of, ℕ, ⊤, ◌++◌, ◌+◌, ◌<◌, ◌==◌, ◌^◌, ◌∙◌, ◌∷◌, ◌≡◌, ◌≤◌}
+use Rattle.job_script.proofs.Common.{AllByRecursion, AreAttempts, AreEvents, AreFates, BadLine, Bool, Committer, Declared, Draft, Event, Fate, FitsMagic, Group, Head, IfSome, IsLegal, IsScriptWord, Kind, List, MissingHead, Mode, None, Ok, Option, Path, Script, Some, UnknownWord, [], ap, arith, false, flat_map, head_at, head_lines, head_order, is_inside, is_utf8, le-leb, length, lines_of, loss_at, loss_lines, map, nat_cmp, need, needed, no_head, none_left, one_longer, parted, refl, row_lines, same_ok, subst, sym, text_of, true, unless, unwrap_or, words_of, ℕ, ⊤, ◌++◌, ◌+◌, ◌<◌, ◌==◌, ◌^◌, ◌∙◌, ◌∷◌, ◌≡◌, ◌≤◌, if◌then◌else◌}
 use Rattle.std.specs.FinMap as fin
-use Rattle.words.specs.Lines.{lines_from}
+use Rattle.basics.specs.Lines.{lines_from}
 use Rattle.job_script.specs.declared.draft.Group.TheVariants as group
 use Rattle.job_script.specs.declared.head.HeadWord.TheVariants as head
 use Rattle.job_script.specs.declared.kinds.Kind.TheVariants as kind

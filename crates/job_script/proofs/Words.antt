@@ -1,9 +1,9 @@
 -- Numbers and names that words tell, words of letters, and the words of a text in UTF-8.
 use Rattle.job_script.proofs.Common.{AllByRecursion, Bool, IsAscii, IsAscii-cons, IsAscii-nil, IsBare, IsCharBoundary-before_ascii, IsScriptWord, IsUtf8, IsUtf8-from_ascii, IsUtf8-from_is_utf8, IsUtf8-take, IsWord, List, Option, Some, [], and_parts, ap, append-nil, append_assoc, arith, cond, decimal, decimal_nonempty, digit_inside, drop, eqb-true, false, get_or, is_bare, is_id_byte, is_inside, is_job_id, is_plain, is_utf8, is_utf8-from_IsUtf8, leb-true, length, lines_of, list_all, list_all-append, lt-ltb, ltb-true, nat_tests, refl, subst, sym, take, take-append-drop, true, utf8_cut, weaker, without_return, word_bare, words_of, ℕ, ◌++◌, ◌-◌, ◌<◌, ◌==◌, ◌^◌, ◌∙◌, ◌∷◌, ◌≡◌, ◌≤◌}
 use Rattle.std.specs.Prelude.{◌&&◌, nat_lt, bytes_eq, slice_index, if◌then◌else◌}
-use Rattle.words.specs.Lines.{lines_from, unless_empty}
-use Rattle.words.specs.Numbers.{number_in, is_digit}
-use Rattle.words.specs.Parts.{parts_from}
+use Rattle.basics.specs.Lines.{lines_from, unless_empty}
+use Rattle.basics.specs.Numbers.{number_in, is_digit}
+use Rattle.basics.specs.Parts.{parts_from}
 use Rattle.job_script.specs.Kinds.{Names, named}
 
 pub either : {A : Type 0} (P : A → Type 0) (b : Bool) (x y : A) → (b ≡ true → P x) → (b ≡ false → P y) → P (cond b x y)

@@ -1,8 +1,8 @@
 -- What an attempt's line and a file's line say.
 use Rattle.std.specs.Prelude.{ℕ, ◌+◌, not, List, [], ◌∷◌, ◌++◌, length, Option, Some, None, Result, Ok, nat_le, nat_lt, if◌then◌else◌}
-use Rattle.job_model.specs.Prelude.{◌>>=◌, need, check, one, two, two_and_more, MOST_SCRIPT_BYTES, has_path, declares, last_files, with_file, option_or, is_path, is_hidden}
-use Rattle.words.specs.Parts.{parts_of}
-use Rattle.words.specs.Numbers.{number_in}
+use Rattle.job_model.specs.Prelude.{need, check, one, two, two_and_more, MOST_SCRIPT_BYTES, has_path, declares, last_files, with_file, option_or, is_path, is_hidden, ◌>>=◌}
+use Rattle.basics.specs.Parts.{parts_of}
+use Rattle.basics.specs.Numbers.{number_in}
 use Rattle.job_model.specs.declared.attempts.AttemptName.{AttemptName}
 use Rattle.job_script.specs.declared.fault.ScriptFault.{ScriptFault}
 use Rattle.job_script.specs.declared.fault.ScriptFault.TheVariants.{BadLine, RepeatedName, BadPath, HiddenPath, TooLarge, BadNumber}

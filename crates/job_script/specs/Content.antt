@@ -1,9 +1,9 @@
 -- The bytes of a file.
 use Rattle.std.specs.Prelude.{ℕ, List, [], length, Option, Some, None, Result, Ok, Err, nat_lt, codes, bytes_eq, replicate, if◌then◌else◌}
-use Rattle.job_model.specs.Prelude.{◌>>=◌, need, one, two, text, MOST_SCRIPT_BYTES}
+use Rattle.job_model.specs.Prelude.{need, one, two, text, MOST_SCRIPT_BYTES, ◌>>=◌}
 use Rattle.std.specs.Result.{result_ok}
 use Rattle.hex.specs.Hex.{decode_of}
-use Rattle.words.specs.Numbers.{number_in}
+use Rattle.basics.specs.Numbers.{number_in}
 use Rattle.job_script.specs.declared.fault.ScriptFault.{ScriptFault}
 use Rattle.job_script.specs.declared.fault.ScriptFault.TheVariants.{BadLine, BadNumber}
 

@@ -1,7 +1,7 @@
 -- What an event's line says.
 use Rattle.std.specs.Prelude.{ℕ, Bool, List, [], ◌∷◌, ◌++◌, length, Option, Result, Ok, nat_lt, codes, bytes_eq, if◌then◌else◌}
 use Rattle.job_model.specs.Prelude.{◌>>=◌, need, check, one, two, is_known, actor_of, declares, Actor}
-use Rattle.words.specs.Numbers.{number_in}
+use Rattle.basics.specs.Numbers.{number_in}
 use Rattle.s3_types.specs.declared.request.Actor.TheVariants as actor
 use Rattle.job_model.specs.declared.events.Op.{Op}
 use Rattle.job_model.specs.declared.events.Event.{Event}

@@ -1,6 +1,6 @@
 -- Faults by their numbers and lines, and what a call returned of what reading gives.
 use Rattle.std.specs.Prelude.{ℕ, ⊤, Bool, true, false, Result}
-use Rattle.proof_base.specs.Reading as reading
+use Rattle.basics.specs.Reading as reading
 use Rattle.job_script.specs.declared.fault.ScriptFault.{ScriptFault}
 use Rattle.job_script.specs.declared.fault.ScriptFault.TheVariants.{NotUtf8, BadLine, UnknownWord, MissingHead, RepeatedName, BadPath, HiddenPath, UnknownActor, DestIsRoot, TooLarge, BadNumber, NoMemory}
 

@@ -2,7 +2,7 @@
 use Rattle.std.specs.Prelude.{ℕ, ◌+◌, ◌==◌, not, ◌||◌, Bool, zero, suc, false, is_some, List, [], ◌∷◌, ◌++◌, map, Option, Some, None, option_map, Result, Ok, Err, length, nat_le, nat_lt, codes, if◌then◌else◌}
 use Rattle.job_model.specs.Prelude.{flat_map, decimal, ◌>>=◌, need, check, free, one, two_and_more, at_most_one, FateMap, is_job_id, Fate, MOST_SCRIPT_BYTES, Committer, Mode, Path, path_in, PathFault, committer_word, Script, is_dest_key}
 use Rattle.std.specs.FinMap as fin
-use Rattle.words.specs.Numbers.{number_in}
+use Rattle.basics.specs.Numbers.{number_in}
 use Rattle.s3_types.specs.Fates.{with_fates}
 use Rattle.job_script.specs.declared.fault.ScriptFault.{ScriptFault}
 use Rattle.job_script.specs.declared.fault.ScriptFault.TheVariants.{BadLine, RepeatedName, BadPath, DestIsRoot, TooLarge, BadNumber}

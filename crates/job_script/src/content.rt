@@ -1,16 +1,16 @@
 ghost use Rattle.std.specs.Prelude.{option_map};
-ghost use Rattle.proof_base.specs.Reading.{GivesBy, need};
-ghost use Rattle.words.specs.Words.{words_after};
+ghost use Rattle.basics.specs.Reading.{GivesBy, need};
+ghost use Rattle.basics.specs.Words.{words_after};
 ghost use Rattle.job_script.specs.Fault.{Gives, wanting};
 ghost use Rattle.job_script.specs.Content as content;
 ghost use Rattle.job_script.specs.declared.fault.ScriptFault.TheVariants.{BadLine};
 
 use crate::fault::ScriptFault;
 use crate::head::one_word;
+use basics::{number_within, text, two};
 use hex::FromHexError;
 use s3_types::{Bytes, MOST_SCRIPT_BYTES};
 use std::alloc::Global;
-use words::{number_within, text, two};
 
 /// The bytes that hex digits, two at least, or `-` write.
 fn hex_bytes(alloc: Global, line: u64, digits: &str) -> Result<Vec<u8>, ScriptFault>

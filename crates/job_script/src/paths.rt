@@ -1,9 +1,9 @@
 ghost use Rattle.std.specs.Prelude.{◌≡◌};
 ghost use Rattle.std.specs.List.{list_all, list_any};
-ghost use Rattle.words.specs.Parts.{parts_of};
+ghost use Rattle.basics.specs.Parts.{parts_of};
 ghost use Rattle.job_model.specs.Paths as paths;
 
-use words::next_part;
+use basics::next_part;
 
 fn are_full(path: &[u8]) -> bool
     ensures { result ≡ list_all paths.is_full (parts_of 47 path.now) }

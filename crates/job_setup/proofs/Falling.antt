@@ -1,5 +1,5 @@
 -- What a set-up has left falls.
-use Rattle.std.proofs.Common.{◌≡◌, ℕ, ◌+◌, ◌<◌, ◌≤◌, ◌⊎◌, inl, inr, Bool, true, false, cond, List, [], ◌++◌, Option, Some, None, refl, sym, ap, subst, arith}
+use Rattle.std.proofs.Common.{◌≡◌, ℕ, ◌+◌, ◌<◌, ◌≤◌, ◌⊎◌, inl, inr, true, false, cond, List, [], ◌++◌, Option, Some, None, refl, sym, ap, subst, arith}
 use Rattle.std.specs.Prelude.{codes, IfSome}
 use Rattle.job_protocol.specs.Prelude.{Scene, answer, apply, Committer, Magic, Request, HeadObject, DeleteObject, Reply, Head, Page, Job, job_script, checks_all, Walked, More, Whole, keys_on, page_after, sweep_start, sweep_asks, sweep_hears, all_go, Setup, Heading, Clearing, Sweeping, SetupOver, setup_asks, setup_hears, lacks_bucket, if_bucket, headed, first_shown, checked_by, checked, cleared, walk_left, left_of, adds_key, one_if, LessWalk}
 use Rattle.magic_paths.specs.Layout as layout

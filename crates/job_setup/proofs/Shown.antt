@@ -1,12 +1,10 @@
 -- The first file of a destination on a page.
-use Rattle.std.proofs.Common.{◌≡◌, ◌≢◌, ℕ, ◌+◌, ◌-◌, suc, zero, ◌≤◌, ◌==◌, nat_le, not, nat_eq, Bool, true, false, List, [], ◌∷◌, ◌++◌, length, drop, Option, Some, None, option_map, Bor, refl, sym, ap, ◌∙◌, arith}
+use Rattle.path_keys.proofs.Common.{Bool, Bor, Decides-eqb, List, MatchOption, None, Option, Some, [], and_parts, ap, arith, at_most_is, drop, false, length, nat_eq, nat_le, option_map, parts_of, refl, relative_in, starts_is, starts_with, suc, sym, true, ℕ, ◌++◌, ◌+◌, ◌-◌, ◌==◌, ◌∙◌, ◌∷◌, ◌≡◌, ◌≢◌, ◌≤◌}
+use Rattle.std.proofs.Common.{not, zero}
 use Rattle.std.specs.Prelude.{codes}
-use Rattle.job_protocol.specs.Prelude.{slice_get, starts_with, ends_with, list_any, FindsTextPrefix, relative_in, Job, Script, is_reserved, IsJob, is_folder, first_shown, shown_path, or_next}
-use Rattle.s3_types.specs.Prelude.{MatchOption}
-use Rattle.path_keys.proofs.Common.{Decides-eqb, starts_is, and_parts, at_most_is}
-use Rattle.words.specs.Parts.{parts_of}
-use Rattle.job_setup.specs.Files.{path_behind, first_of}
-use Rattle.proof_base.proofs.Lists.{some_length}
+use Rattle.job_protocol.specs.Prelude.{FindsTextPrefix, IsJob, Job, Script, ends_with, first_shown, is_folder, is_reserved, list_any, or_next, shown_path, slice_get}
+use Rattle.job_setup.specs.Files.{first_of, path_behind}
+use Rattle.basics.proofs.Lists.{some_length}
 
 path_is : (key k : List ℕ) → 1 ≤ length key → path_behind (key ++ codes "/") k ≡ relative_in key k
 path_is [] k h = absurd (omega arith)

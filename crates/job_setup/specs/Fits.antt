@@ -1,17 +1,15 @@
 -- The replies that fit a set-up, and how it stands.
 use Rattle.std.specs.Prelude.{◌≡◌, ◌⊎◌, Bool, true}
-use Rattle.job_protocol.specs.Prelude.{Reply, SetupEnd, Driving, Setup, Heading, Clearing, Sweeping, SetupOver, lacks_bucket, FitsPage, FitsSweep}
+use Rattle.job_protocol.specs.Prelude.{Reply, SetupEnd, Driving, Setup, Sweeping, SetupOver, lacks_bucket, FitsPage, FitsSweep}
 use Rattle.machine.specs.Prelude.{Standing, Fine, Faulted, Broken}
 use Rattle.job_model.specs.declared.ends.SetupEnd.TheVariants.{StoreFault, NoMemory}
 use Rattle.job_protocol.specs.Setup.{Checking}
 
 -- a page that is not folded has keys alone; that the bucket is not there fits at each request
 abbrev pub FitsSetup : Setup → Reply → Type 0
-FitsSetup Heading r = Unit {0}
 FitsSetup (Checking keys) r = FitsPage r ⊎ (lacks_bucket r ≡ true)
-FitsSetup Clearing r = Unit {0}
 FitsSetup (Sweeping s) r = FitsSweep s r ⊎ (lacks_bucket r ≡ true)
-FitsSetup (SetupOver end) r = Unit {0}
+FitsSetup _ r = Unit {0}
 
 -- a reply that a set-up of a plan may be told
 abbrev pub FitsDriving : Driving Setup → Reply → Bool → Type 0

@@ -34,7 +34,7 @@ pub use Rattle.job_steps.proofs.PastMore.{busy_is, busy_so, ended_idle, event_at
 pub use Rattle.job_steps.proofs.Running.{closed_ahead, finished_ahead, not_refused, opened_ahead, refused_ahead, sent_ahead}
 pub use Rattle.job_steps.proofs.Told.{Told, told_all}
 pub use Rattle.job_steps.specs.Prelude.{Actor, ActorEnd, ActorState, Ahead, AllBy, AreAttempts, AreForetold, ArePicked, Attempt, Busy, Closes, Content, Dead, Decided, Declared, Do, Drawn, Driver, Enabled, Entry, Event, EventEnd, EventFault, Fate, Finishes, HasOp, Idle, IsEvent, IsForetold, IsHonestOutcome, IsLegal, IsOpening, Kill, Known, Ledger, Life, MayClose, MayFinish, MayOpen, MaySend, Mix, NoMemory, Op, OpEnd, Opens, Operation, Outcome, Past, Pick, Play, Reachable, Recover, Refused, Refuses, Reports, Request, RequestLost, Restart, Run, Running, Scene, Script, Sends, Setting, Shell, Slow, Start, Step, Strays, Task, TheCheck, TheSetup, Transition, Turns, Who, actor_of, actors, advance, after_all, all_picks, answer, apply, begin_running, begins_commit, begun, busy_actors, by_actor, commit_begun, dead, decide, effect, end_op, ended, fate_at, filter, happen, happens, hear, idle, is_busy, is_commit, is_known, is_memory, is_own, is_wanting, knows, knows_now, lacked_memory, learn, learn_of, lookup, missing, moment, nothing_happened, nothing_known, nothing_past, nothing_played, of_event, open_event, open_running, over, past, put, refusal, refuse_begin, reports, restarted, same_name, scene_of, start_of, step, strange_entry, task_of, tells, who}
-pub use Rattle.proof_base.proofs.Options.{none_is, some_of}
+pub use Rattle.basics.proofs.Options.{none_is, some_of}
 pub use Rattle.s3_service.specs.Ids.{AreBelow}
 pub use Rattle.std.proofs.Common.{Bool, Global, IsSome, List, None, Option, Some, Vec, [], ap, append-nil, append_assoc, arith, cond, false, inl, inr, length, length-append, map, nat_eq, not, refl, rules, slice_get, slice_set, subst, suc, sym, take, true, vec_capacity, vec_len, zero, ℕ, ◌&&◌, ◌++◌, ◌+◌, ◌-◌, ◌<◌, ◌^◌, ◌||◌, ◌∙◌, ◌∷◌, ◌≡◌, ◌≤◌, ◌⊎◌}
 pub use Rattle.std.specs.Prelude.{IfOk, Ok, Result, is_some, option_map, unwrap_or}

@@ -1,10 +1,10 @@
 -- What holds of a world where an operation of one of its actors ends.
-use Rattle.job_side.proofs.Common.{Actor, ActorEnd, ActorState, AreOf, At, Body, Bool, Content, Driver, Empty, Entry, Finishes, Global, Hand, HandIs, HandsAre, Holds, IsLegal, IsLost, IsOver, IsSome, Kept, Known, List, MayFinish, Op, OpEnd, Option, Past, Pick, Plan, Play, Reachable, Running, Script, Setting, Some, Stands, Vec, [], actors, all_sound, ap, append-nil, arith, busy_is, decide, end_op, ended, ended_idle, false, false_true, hand_end, happen, happens, inl, inr, is_busy, is_busy_at, is_commit, is_committing, is_memory, is_some, is_wanting, knows_now, lacked_memory, length, none_or_some, none_some, over, put_here, put_other, refl, setting_of, slice_get, slice_get_within, some_is, some_of, subst, sym, told_all, true, vec_capacity, ℕ, ◌++◌, ◌+◌, ◌<◌, ◌∙◌, ◌∷◌, ◌≡◌, ◌≤◌, ◌⊎◌}
-use Rattle.proof_base.proofs.Members.{same_or_not as same_number}
+use Rattle.job_side.proofs.Common.{Actor, ActorEnd, ActorState, AreOf, At, Body, Bool, Content, Driver, Empty, Entry, Finishes, Global, Hand, HandIs, HandsAre, Holds, IsLegal, IsLost, IsOver, IsSome, Kept, Known, List, MayFinish, Op, OpEnd, Option, Past, Pick, Plan, Play, Reachable, Running, Script, Setting, Some, Stands, Vec, [], actors, all_sound, ap, append-nil, arith, busy_is, decide, end_op, ended, ended_idle, false, false_true, hand_end, happen, happens, inl, inr, is_busy, is_busy_at, is_commit, is_committing, is_memory, is_wanting, knows_now, lacked_memory, length, none_or_some, none_some, over, put_here, put_other, refl, setting_of, slice_get, slice_get_within, some_is, some_of, subst, sym, told_all, true, vec_capacity, ℕ, ◌++◌, ◌+◌, ◌<◌, ◌∙◌, ◌∷◌, ◌≡◌, ◌≤◌, ◌⊎◌}
 use Rattle.job_model.specs.declared.ends.OpEnd.TheVariants as ends
 use Rattle.job_side.proofs.Places.{apart}
 use Rattle.job_side.proofs.Standings.{busy_at, busy_nowhere}
 use Rattle.job_side.proofs.PicksStay.{decides_not, picked_ended, put_by_ended}
+use Rattle.basics.proofs.Members.{same_or_not as same_number}
 
 -- ---- places
 

@@ -6,7 +6,7 @@ use Rattle.job_side.proofs.Places.{get_map, map_get}
 use Rattle.job_side.proofs.Moments.{never}
 use Rattle.job_actor.specs.declared.plan.Plan.TheVariants as plans
 use Rattle.job_side.specs.Firsts.{IsBegun, IsFirstShared, IsFirstSide, planned}
-use Rattle.proof_base.proofs.Options.{end_of}
+use Rattle.basics.proofs.Options.{end_of}
 
 -- ---- hands
 

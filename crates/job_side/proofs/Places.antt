@@ -1,7 +1,7 @@
 -- The actors of a legal script stand apart, each at one place.
 use Rattle.job_side.proofs.Common.{Actor, AreAttempts, Bool, Declared, Driver, IsLegal, List, None, Script, Some, Who, [], actor_of, actors, ap, arith, cond, declares, false, false_true, is_own, is_some, length, lookup, map, nat_eq, nat_true, none_some, option_map, or_parts, refl, same_name, slice_get, some_is, subst, suc, sym, true, zero, ℕ, ◌&&◌, ◌++◌, ◌<◌, ◌||◌, ◌∙◌, ◌∷◌, ◌≡◌}
 use Rattle.std.proofs.lemmas.Option.{slice_get-map}
-use Rattle.proof_base.proofs.Options.{end_of}
+use Rattle.basics.proofs.Options.{end_of}
 
 -- ---- lists
 

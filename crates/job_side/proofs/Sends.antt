@@ -1,6 +1,5 @@
 -- What holds of a world where one of its busy actors has sent a request.
 use Rattle.job_side.proofs.Common.{Actor, AreForetold, At, Body, Bool, ClusterDelete, ClusterGet, ClusterList, ClusterPut, ClusterRename, Content, Driver, Empty, Entry, Fate, Global, Hand, HandIs, HandsAre, HasPicked, Holds, IsAt, IsForetold, IsHonestOutcome, IsPlanOf, IsSome, IsTurn, Known, LeavesPicks, Ledger, List, LossyLink, MaySend, None, OpEnd, Option, Outcome, Pick, Plan, Play, RaisedBy, Request, RequestLost, Running, Scene, Script, Sends, Setting, Slow, Some, Vec, WorkLaws, [], actors, advance, after_all, all_sound, answer, ap, apply, arith, busy_is, effect, false, false_true, fate_at, hand_left, happen, happens, hear, in_eyes, inl, inr, is_busy_at, is_committing, is_job_commit, is_mine, knows_now, length, length-append, moment, none_is, number_in, put_here, put_other, raised, refl, rise_for, same_or_not, seen_by, setting_of, slice_get, slice_get_within, some_of, subst, suc, sym, take_whole, true, true_or_false, zero, ℕ, ◌++◌, ◌+◌, ◌<◌, ◌^◌, ◌∙◌, ◌∷◌, ◌≡◌, ◌≤◌}
-use Rattle.s3_types.specs.Store.{opening as scene_at_first}
 use Rattle.store_link.proofs.Ids.{next_store}
 use Rattle.job_side.proofs.Places.{apart, driver_first, attempt_at, there}
 use Rattle.job_side.proofs.Standings.{busy_at}
@@ -9,6 +8,7 @@ use Rattle.job_side.proofs.Seen.{eyes_more, foretold_as, foretold_last}
 use Rattle.job_side.proofs.Along.{carried, others_know}
 use Rattle.job_side.proofs.PicksStay.{same_picked, put_by_sent}
 use Rattle.job_side.proofs.Finishes.{hands_by}
+use Rattle.s3_types.specs.Store.{opening as scene_at_first}
 
 -- ---- scenes
 

@@ -1,11 +1,11 @@
 -- What a turn of a busy actor of a world comes to.
 use Rattle.job_side.proofs.Common.{ActLaws, Actor, ActorEnd, AreOf, Around, Asks, Beside, Body, Bool, Ending, Entry, FellAt, Global, Going, Hand, Holds, IsOver, IsSome, IsWorking, Kept, Known, List, NoMemory, None, OpEnd, Option, Outcome, Pick, RaisedBy, Request, Running, Same, Scene, Script, Sending, Setting, Some, Table, Turned, Vec, Wrote, [], actor_or, actors, all_sound, ap, append-nil, arith, cond, false_true, filter, filter-append, hand_end, in_eyes, inl, inr, is_busy_at, is_memory, is_mine, is_own, is_some, length, length-append, nat_eq, nat_true, not, of_event, refl, rules, same_laws, seen_by, slice_get, some_is, subst, sym, table_of, true, vec_capacity, vec_len, ℕ, ◌&&◌, ◌++◌, ◌+◌, ◌-◌, ◌<◌, ◌∙◌, ◌∷◌, ◌≡◌, ◌≤◌}
-use Rattle.proof_base.proofs.Members.{same_or_not as same_number}
 use Rattle.job_states.specs.declared.actors.Turn.{Turn}
 use Rattle.job_states.specs.declared.actors.Turn.TheVariants.{GoesOn, Ended, Died}
 use Rattle.job_side.proofs.Places.{own_at}
 use Rattle.job_side.proofs.Weights.{Lighter, lighter}
 use Rattle.job_side.proofs.Finishes.{has_hand}
+use Rattle.basics.proofs.Members.{same_or_not as same_number}
 
 -- ---- entries
 

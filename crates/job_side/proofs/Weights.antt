@@ -1,6 +1,6 @@
 -- What the busy actors of a world weigh falls with each turn.
 use Rattle.job_side.proofs.Common.{Bool, Hand, List, Scene, Some, Standing, [], arith, cond, false, hand_left, inl, inr, is_busy_at, length, raised, refl, slice_get, some_is, suc, sym, true, weight, weights, zero, ℕ, ◌+◌, ◌<◌, ◌∙◌, ◌∷◌, ◌≡◌, ◌≤◌, ◌⊎◌}
-use Rattle.proof_base.proofs.Common.{mul-le-mul_left}
+use Rattle.basics.proofs.Common.{mul-le-mul_left}
 
 -- what one hand weighs at its place
 abbrev share : {W : Type 0} → (W → Scene → ℕ) → ℕ → Scene → List Standing → ℕ → Hand W → ℕ

@@ -1,13 +1,13 @@
 -- The events of a world.
 use Rattle.std.specs.Prelude.{◌≡◌, ℕ, ◌+◌, ◌<◌, ◌≤◌, ◌-◌, Bool, true, false, List, [], ◌∷◌, ◌++◌, length, map, slice_get, Option, Some, None, IsSome, IfOk, unwrap_or, Result, vec_len, vec_capacity}
-use Rattle.job_steps.specs.Prelude.{Entry, Request, Actor, Known, Op, Event, Do, Start, Step, Run, Kill, Mix, Restart, Recover, ActorEnd, EventEnd, Done, Ended, EventFault, OpEnd, Pick, knows, Reports, reports, Setting, Running, who, start_of, Past, actors, refusal, past, told, open_event, Turns, AllBy, busy_actors, of_event, by_actor, begun}
+use Rattle.job_steps.specs.Prelude.{Entry, Request, Actor, Known, Op, Event, Do, Start, Kill, Mix, Restart, Recover, ActorEnd, EventEnd, Done, Ended, EventFault, OpEnd, Pick, knows, Reports, reports, Setting, Running, who, start_of, Past, actors, refusal, past, told, open_event, Turns, AllBy, busy_actors, of_event, by_actor, begun}
 use Rattle.job_protocol.specs.Prelude.{Mixed}
 use Rattle.job_states.specs.Stands.{Stands, IsPlace}
 use Rattle.job_actor.specs.Plans.{IsPlanOf}
 use Rattle.job_side.specs.Sending.{Asks}
 use Rattle.job_side.specs.Holds.{Holds, Going, Quiet, IsTurn, Stays, HandIs, AreOf, seen_by, all_sound, all_but, setting_of, is_busy_at}
 use Rattle.job_side.specs.declared.hands.Hand.{Hand}
-use Rattle.job_side.specs.declared.hands.Hand.TheVariants.{Plan, At, Empty}
+use Rattle.job_side.specs.declared.hands.Hand.TheVariants.{Plan, At}
 use Rattle.job_side.specs.declared.body.Body.{Body}
 
 -- the event is the script's next one
@@ -35,13 +35,7 @@ one_end (x ∷ xs) = Ended x.end
 -- the end that an event has, by its kind and the operations that ended in it
 abbrev pub end_of : Event → List ActorEnd → EventEnd
 end_of (Mix seed) xs = Mixed xs
-end_of (Do a op) xs = one_end xs
-end_of (Start a op) xs = one_end xs
-end_of (Step a n) xs = one_end xs
-end_of (Run a) xs = one_end xs
-end_of (Kill a) xs = one_end xs
-end_of Restart xs = one_end xs
-end_of (Recover a) xs = one_end xs
+end_of _ xs = one_end xs
 
 -- the entries of the event that goes on
 abbrev pub event_entries : {W : Type 0} → Body W → List Entry
@@ -90,34 +84,20 @@ pub record IsAsBefore {W : Type 0} (b c : Body W) : Type 0 where
 abbrev pub BeginsBy : Event → Actor → Op → Type 0
 BeginsBy (Do b o) a op = (b ≡ a) × (o ≡ op)
 BeginsBy (Start b o) a op = (b ≡ a) × (o ≡ op)
-BeginsBy (Step b n) a op = ⊥
-BeginsBy (Run b) a op = ⊥
-BeginsBy (Kill b) a op = ⊥
-BeginsBy (Mix seed) a op = ⊥
-BeginsBy Restart a op = ⊥
-BeginsBy (Recover b) a op = ⊥
+BeginsBy _ a op = ⊥
 
 -- the event begins no operation
 abbrev pub BeginsNone : Event → Type 0
 BeginsNone (Do a op) = ⊥
 BeginsNone (Start a op) = ⊥
-BeginsNone (Step a n) = Unit {0}
-BeginsNone (Run a) = Unit {0}
-BeginsNone (Kill a) = Unit {0}
-BeginsNone (Mix seed) = Unit {0}
-BeginsNone Restart = Unit {0}
-BeginsNone (Recover a) = Unit {0}
+BeginsNone _ = Unit {0}
 
 -- the event moves nobody
 abbrev pub IsStill : Event → Type 0
-IsStill (Do a op) = ⊥
-IsStill (Start a op) = ⊥
-IsStill (Step a n) = ⊥
-IsStill (Run a) = ⊥
 IsStill (Kill a) = Unit {0}
-IsStill (Mix seed) = ⊥
 IsStill Restart = Unit {0}
 IsStill (Recover a) = Unit {0}
+IsStill _ = ⊥
 
 -- ---- an event begins
 
@@ -135,9 +115,7 @@ pub record Emptied {W : Type 0} (place : ℕ) (b c : Body W) : Type 0 where
 -- the picks that a hand has, or else those that were put by
 abbrev pub picks_in : {W : Type 0} → (W → Option (List Pick)) → List Pick → Option (Hand W) → List Pick
 picks_in picks_of ps (Some (At m)) = unwrap_or (picks_of m) ps
-picks_in picks_of ps (Some (Plan p)) = ps
-picks_in picks_of ps (Some Empty) = ps
-picks_in picks_of ps None = ps
+picks_in picks_of ps _ = ps
 
 -- what an actor knows by its own entries
 abbrev pub knows_of : {W : Type 0} → Body W → Actor → Known
@@ -147,8 +125,7 @@ knows_of b a = knows b.side.script (who a) (by_actor a (seen_by b))
 abbrev pub GivesPlan : {W : Type 0} → (W → Option Request) → (Setting → Actor → W → Type 0) → (Known → W → Running) → Setting → Actor → Known → Option (Hand W) → Type 0
 GivesPlan wants is_of running g a k (Some (Plan p)) = IsPlanOf g a k p
 GivesPlan wants is_of running g a k (Some (At m)) = is_of g a m × (wants m ≡ None) × ((running k m).known ≡ k)
-GivesPlan wants is_of running g a k (Some Empty) = ⊥
-GivesPlan wants is_of running g a k None = ⊥
+GivesPlan wants is_of running g a k _ = ⊥
 
 -- reports of which the first missing task is told alone
 abbrev pub of_tasks : Option ℕ → Reports

@@ -180,8 +180,7 @@ actor_or None = Shell
 -- what a hand has left to send
 abbrev pub hand_left : {W : Type 0} → (W → Scene → ℕ) → Scene → Hand W → ℕ
 hand_left left s (At m) = left m s
-hand_left left s (Plan p) = 0
-hand_left left s Empty = 0
+hand_left left s _ = 0
 
 -- what a busy actor weighs: an attempt's sendings count for what they may raise the driver's by
 abbrev pub weight : ℕ → ℕ → ℕ → ℕ

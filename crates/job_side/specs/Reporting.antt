@@ -1,6 +1,6 @@
 -- What a driver is told of its tasks as it begins an operation.
 use Rattle.std.specs.Prelude.{◌≡◌, ℕ, Bool, true, List, map, take, length, Option, Some, is_some}
-use Rattle.job_steps.specs.Prelude.{Actor, Who, actor_of, Known, Op, Script, Setting, Past, Reports, reports, start_of}
+use Rattle.job_steps.specs.Prelude.{Actor, Who, actor_of, Known, Op, Script, Past, Reports, reports, start_of}
 use Rattle.job_states.specs.Stands.{Kept, Stands}
 use Rattle.job_actor.specs.Reports.{IsReport, report_dirs}
 use Rattle.job_actor.specs.declared.reported.Reported.{Reported}

@@ -4,19 +4,17 @@ use Rattle.job_steps.specs.Prelude.{Scene, Request, Actor, Outcome, OpEnd}
 use Rattle.job_actor.specs.Posting.{Sight, PostedBy, DueFits}
 use Rattle.job_actor.specs.declared.posting.Posted.{Posted}
 use Rattle.job_side.specs.declared.hands.Hand.{Hand}
-use Rattle.job_side.specs.declared.hands.Hand.TheVariants.{Plan, At, Empty}
+use Rattle.job_side.specs.declared.hands.Hand.TheVariants.{At}
 
 -- the hand is at an operation that asks a request
 abbrev pub Asks : {W : Type 0} → (W → Option Request) → Hand W → Type 0
 Asks wants (At m) = IsSome (wants m)
-Asks wants (Plan p) = ⊥
-Asks wants Empty = ⊥
+Asks wants _ = ⊥
 
 -- each outcome that a sending of it may have here fits
 abbrev pub HandDue : {W : Type 0} → (W → Option Request) → (W → Outcome → Type 0) → Hand W → Scene → Type 0
 HandDue wants fits (At m) s = DueFits wants fits m s
-HandDue wants fits (Plan p) s = ⊥
-HandDue wants fits Empty s = ⊥
+HandDue wants fits _ s = ⊥
 
 -- it was sent, or not, by what was in hand
 abbrev pub HandPosted : {W : Type 0} → (W → Option Request) → (W → Outcome → W) → (W → Option OpEnd) → Actor → ℕ → Hand W → Hand W → Sight → Sight → Posted → Type 0
@@ -26,6 +24,4 @@ HandPosted wants tells end_of actor event _ _ c d posted = ⊥
 -- how what is in hand ended, if it did
 abbrev pub hand_end : {W : Type 0} → (W → Option OpEnd) → Option (Hand W) → Option OpEnd
 hand_end end_of (Some (At m)) = end_of m
-hand_end end_of (Some (Plan p)) = None
-hand_end end_of (Some Empty) = None
-hand_end end_of None = None
+hand_end end_of _ = None

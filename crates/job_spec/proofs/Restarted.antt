@@ -1,5 +1,5 @@
 -- what a restart leaves, and which operation decides a verdict
-use Rattle.std.proofs.Common.{◌≡◌, ℕ, suc, refl, ap, sym, ◌∙◌, ◌⊎◌, inl, inr, Bool, true, false, List, [], ◌∷◌, ◌++◌, length, Some, cond, nat_eq, ◌&&◌, ◌||◌}
+use Rattle.std.proofs.Common.{◌≡◌, ℕ, suc, refl, ap, sym, ◌∙◌, ◌⊎◌, inl, inr, false, List, [], ◌∷◌, ◌++◌, length, Some, cond, nat_eq, ◌&&◌, ◌||◌}
 use Rattle.job_spec.specs.Prelude.{slice_get, Driver, Attempt, Script, Event, Start, Restart, SetupEnd, CommitEnd, OpEnd, EventEnd, Done, EventFault, Idle, ActorStage, Past, Decided, NotBegun, Unended, EndedSo, restarted, restart, first_not, missing, past, past_from, nothing_past, after_event, is_committing, end_verdict, verdict_or, verdict, Actor, Declared, is_reported}
 use Rattle.job_model.specs.declared.events.Op.TheVariants.{Commit}
 use Rattle.job_model.specs.declared.ends.SetupEnd.TheVariants as setups

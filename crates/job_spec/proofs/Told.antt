@@ -1,9 +1,9 @@
 -- the folds and the journal in one job's eyes
 use Rattle.std.proofs.Common.{◌≡◌, ℕ, zero, suc, ◌+◌, ◌-◌, ◌≤◌, refl, ap, sym, subst, ◌∙◌, Bool, true, false, cond, arith, nat_eq, ◌&&◌, List, [], ◌∷◌, take, Option, Some}
 use Rattle.job_spec.specs.Prelude.{Content, Scene, opening, effect, after_all, moment, AreHonest, IsHonest, Actor, Driver, Attempt, Shell, Request, Outcome, Answered, Slow, RequestLost, ReplyLost, Entry, Script, Seen, see, see_by, see_all, nothing_seen, seen, Times, is_publishing, AllFrom, IsRising, in_eyes}
-use Rattle.job_spec.specs.Seen.{see_driver, see_attempt}
 use Rattle.job_spec.specs.Eyes.{number_in, entry_in}
 use Rattle.std.proofs.Math.Nat.{le_refl, le_trans}
+use Rattle.job_protocol.specs.Seen.{see_driver, see_attempt}
 
 -- ---- what is seen
 

@@ -1,10 +1,9 @@
 -- How operations end, by their entries and by what is seen.
-use Rattle.std.specs.Prelude.{◌≡◌, ℕ, ◌+◌, ◌⊎◌, ◌&&◌, not, Bool, true, false, List, take, slice_get, Option, Some, None}
-use Rattle.job_protocol.specs.Prelude.{list_any, is_unanswered, Actor, Driver, Request, Entry, WornFirst, Script, Event, CommitEnd, OpEnd, EventEnd, Picks, same_path, stage_of}
+use Rattle.std.specs.Prelude.{Bool, List, None, Option, Some, false, not, slice_get, take, true, ℕ, ◌&&◌, ◌+◌, ◌≡◌, ◌⊎◌}
+use Rattle.job_protocol.specs.Prelude.{Actor, CommitEnd, Driver, Entry, Event, EventEnd, OpEnd, Picks, Request, Script, Seen, WornFirst, is_begun, is_marking, is_unanswered, list_any, same_path, stage_of}
+use Rattle.job_spec.specs.States.{Doing, after_event, past, told}
+use Rattle.job_spec.specs.Turns.{by_actor, since, until}
 use Rattle.job_model.specs.declared.ends.CommitEnd.TheVariants as commits
-use Rattle.job_spec.specs.Seen.{Seen, is_begun, is_marking}
-use Rattle.job_spec.specs.States.{Doing, past, after_event, told}
-use Rattle.job_spec.specs.Turns.{until, since, by_actor}
 
 -- ---- an operation that ended
 

@@ -1,12 +1,7 @@
 -- What a reader of a job's destination may rely on, at each moment of a run.
-use Rattle.std.specs.Prelude.{◌≡◌, ℕ, ◌≤◌, ◌⊎◌, true, false, cond, List, length, Option, Some, None}
-use Rattle.job_protocol.specs.Prelude.{Content, Entry, Object, success_key, Script, view, Picks, wanted_at, is_picked, is_clash, is_decided, keeps_of, mark_text}
-use Rattle.job_protocol.specs.View.{Shown, object_at}
-use Rattle.job_spec.specs.Seen.{Seen, Times, seen, is_marked}
-
--- two views show the same files
-abbrev pub Same : Shown → Shown → Type 0
-Same v u = (p : List ℕ) → v p ≡ u p
+use Rattle.std.specs.Prelude.{List, None, Option, Some, cond, false, length, true, ℕ, ◌≡◌, ◌≤◌, ◌⊎◌}
+use Rattle.job_protocol.specs.Prelude.{Content, Entry, Object, Picks, Script, Seen, Times, is_clash, is_decided, is_marked, is_picked, keeps_of, mark_text, seen, success_key, view, wanted_at}
+use Rattle.job_protocol.specs.View.{Same, Shown, object_at}
 
 -- the bytes, where there are any, and else others
 abbrev pub or_else : Option (List ℕ) → Option (List ℕ) → Option (List ℕ)

@@ -1,18 +1,17 @@
 -- The laws of this crate.
-use Rattle.std.specs.Prelude.{◌≡◌, ℕ, suc, ◌⊎◌, Bool, true, false, List, [], ◌∷◌, ◌++◌, length, slice_get, Some, None}
-use Rattle.job_protocol.specs.Prelude.{Content, effect, moment, IsHonest, Actor, Driver, Attempt, Shell, Entry, WornFirst, Script, Start, Restart, SetupEnd, OpEnd, EventEnd, Done, EventFault, Idle, Picks, is_clash}
-use Rattle.std.specs.FinMap as fin
+use Rattle.std.specs.Prelude.{Bool, List, None, Some, [], false, length, slice_get, suc, true, ℕ, ◌++◌, ◌∷◌, ◌≡◌, ◌⊎◌}
+use Rattle.job_protocol.specs.Prelude.{Actor, Attempt, Content, Done, Driver, Entry, EventEnd, EventFault, Idle, IsHonest, OpEnd, Picks, Restart, Script, Seen, SetupEnd, Shell, Start, Times, WornFirst, effect, is_clash, moment, see, seen}
 use Rattle.job_model.specs.declared.events.Op.TheVariants.{Commit}
-use Rattle.job_model.specs.declared.ends.CommitEnd.TheVariants as commits
-use Rattle.job_model.specs.declared.ends.OpEnd.TheVariants as ends
 use Rattle.job_model.specs.declared.ends.EventEnd.TheVariants.{Refused}
-use Rattle.job_model.specs.declared.states.ActorStage.TheVariants as stage
 use Rattle.job_spec.specs.Ends.{EndedIn, commit_due}
-use Rattle.job_spec.specs.Seen.{Seen, Times, see, seen}
-use Rattle.job_spec.specs.States.{Doing, NotBegun, Unended, EndedSo, past, missing, is_committing, end_verdict, verdict_or, verdict}
+use Rattle.job_spec.specs.States.{Doing, EndedSo, NotBegun, Unended, end_verdict, is_committing, missing, past, verdict, verdict_or}
 use Rattle.job_spec.specs.Turns.{IsRising}
 use Rattle.job_spec.specs.Promise.{Sent}
 use Rattle.job_spec.specs.Eyes.{in_eyes}
+use Rattle.std.specs.FinMap as fin
+use Rattle.job_model.specs.declared.ends.CommitEnd.TheVariants as commits
+use Rattle.job_model.specs.declared.ends.OpEnd.TheVariants as ends
+use Rattle.job_model.specs.declared.states.ActorStage.TheVariants as stage
 
 -- what is seen of the store is its moment, and of a stranger nothing else is seen
 pub record SeenIsMoment : Type 0 where

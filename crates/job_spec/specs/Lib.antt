@@ -1,10 +1,8 @@
-pub mod Seen
 pub mod Headline
 pub mod States
 pub mod Turns
 pub mod Follows
 pub mod Ends
-pub mod Scope
 pub mod Entries
 pub mod OperationEnds
 pub mod Promise

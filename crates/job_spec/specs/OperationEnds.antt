@@ -1,17 +1,13 @@
 -- The causes of the ends of operations, and what holds at them.
-use Rattle.std.specs.Prelude.{◌≡◌, ℕ, ◌≤◌, ◌&&◌, Bool, true, false, List, [], ◌∷◌, ◌++◌, slice_get, Option, Some, None, IsSome}
-use Rattle.job_protocol.specs.Prelude.{All, Contains, list_any, is_lt, text_cmp, Content, Scene, moment, is_effective, Attempt, Request, DeleteObject, ListPage, PageEntry, Refusal, NoSuchUpload, Reply, Page, Refused, Outcome, Answered, RequestLost, ReplyLost, Entry, same_request, IsWorn, Who, Script, Op, SetupEnd, TaskEnd, CleanEnd, CommitEnd, view, files, paths_of, partitions, checks_all, checks_partitions, partition_prefix, set_request, set_read, stage_of}
+use Rattle.std.specs.Prelude.{Bool, IsSome, List, None, Option, Some, [], false, slice_get, true, ℕ, ◌&&◌, ◌++◌, ◌∷◌, ◌≡◌, ◌≤◌}
+use Rattle.job_protocol.specs.Prelude.{All, Answered, Attempt, CleanEnd, Contains, Content, DeleteObject, Entry, IsWorn, ListPage, NoSuchUpload, NothingLeft, Op, Outcome, Page, PageEntry, Refusal, Refused, Reply, ReplyLost, Request, RequestLost, Same, Scene, Script, SetupEnd, TaskEnd, Who, checks_all, checks_partitions, files, is_effective, is_lt, is_publishing, list_any, moment, partition_prefix, partitions, paths_of, same_request, set_read, set_request, stage_of, text_cmp, view}
+use Rattle.job_protocol.specs.View.{object_at}
 use Rattle.std.specs.FinMap as fin
 use Rattle.job_model.specs.declared.events.Op.TheVariants as ops
 use Rattle.job_model.specs.declared.ends.SetupEnd.TheVariants as setups
 use Rattle.job_model.specs.declared.ends.TaskEnd.TheVariants as tasks
 use Rattle.job_model.specs.declared.ends.CleanEnd.TheVariants as cleans
-use Rattle.job_model.specs.declared.ends.CommitEnd.TheVariants as commits
 use Rattle.job_model.specs.declared.ends.Stage.TheVariants as stages
-use Rattle.job_protocol.specs.View.{object_at}
-use Rattle.job_spec.specs.Headline.{Same}
-use Rattle.job_spec.specs.Seen.{is_publishing}
-use Rattle.job_spec.specs.Scope.{NothingLeft}
 
 -- ---- set-up
 
@@ -95,13 +91,6 @@ pub record Cleaned (w : Script) (s t : Scene) : Type 0 where
   pub view_stays : Same (view w.dest t.content) (view w.dest s.content)
 
 -- ---- the driver's commit
-
--- the commit ended before anything was deleted or completed
-abbrev pub is_untouched : CommitEnd → Bool
-is_untouched (commits.Missing t) = true
-is_untouched (commits.SamePath p t u) = true
-is_untouched (commits.StoreFault stages.Read) = true
-is_untouched _ = false
 
 -- no deletion of an object wore out
 abbrev pub NoDeletionWorn : ℕ → List Entry → Type 0

@@ -1,6 +1,13 @@
 -- What a run promises of its job.
-use Rattle.std.specs.Prelude.{◌≡◌, ℕ, zero, suc, ◌+◌, ◌≤◌, ◌⊎◌, Bool, true, false, List, [], ◌∷◌, ◌++◌, length, Option, Some, None}
-use Rattle.job_protocol.specs.Prelude.{Content, IsHonest, moment, fate_at, AreForetold, Driver, Attempt, Request, Entry, WornFirst, Script, Pick, SetupEnd, TaskEnd, CleanEnd, CommitEnd, EventEnd, view, Picks, Setting}
+use Rattle.std.specs.Prelude.{Bool, List, None, Option, Some, [], false, length, suc, true, zero, ℕ, ◌++◌, ◌+◌, ◌∷◌, ◌≡◌, ◌≤◌, ◌⊎◌}
+use Rattle.job_protocol.specs.Prelude.{AreForetold, Attempt, CleanEnd, CommitEnd, Content, Driver, Entry, EventEnd, IsHonest, Pick, Picks, Request, Same, Script, Seen, Setting, SetupEnd, TaskEnd, WornFirst, fate_at, is_marked, is_untouched, moment, seen, view}
+use Rattle.job_spec.specs.Headline.{Always}
+use Rattle.job_spec.specs.States.{Decided, Doing, EndedSo, clean_event, past, times}
+use Rattle.job_spec.specs.Turns.{AllBy, before, by_actor, is_memory, since, until, until_last}
+use Rattle.job_spec.specs.Follows.{Plays, known_then}
+use Rattle.job_spec.specs.Ends.{CommitEnded, EndedIn, has_cleaned}
+use Rattle.job_spec.specs.Entries.{AreOwn, OutsideStays, ZeroRename}
+use Rattle.job_spec.specs.OperationEnds.{CleanIs, Cleaned, CommitServed, NoDeletionWorn, OnlyOpening, SetupIs, TaskIs, WasPublished}
 use Rattle.job_model.specs.declared.events.Op.TheVariants as ops
 use Rattle.job_model.specs.declared.ends.SetupEnd.TheVariants as setups
 use Rattle.job_model.specs.declared.ends.TaskEnd.TheVariants as tasks
@@ -8,14 +15,6 @@ use Rattle.job_model.specs.declared.ends.CleanEnd.TheVariants as cleans
 use Rattle.job_model.specs.declared.ends.CommitEnd.TheVariants as commits
 use Rattle.job_model.specs.declared.ends.Stage.TheVariants as stages
 use Rattle.job_model.specs.declared.ends.OpEnd.TheVariants as ends
-use Rattle.job_spec.specs.Seen.{Seen, seen, is_marked}
-use Rattle.job_spec.specs.Headline.{Same, Always}
-use Rattle.job_spec.specs.States.{Doing, Decided, NotBegun, Unended, EndedSo, past, clean_event, times}
-use Rattle.job_spec.specs.Turns.{until, before, since, by_actor, until_last, AllBy, is_memory}
-use Rattle.job_spec.specs.Follows.{Plays, known_then}
-use Rattle.job_spec.specs.Ends.{EndedIn, CommitEnded, has_cleaned}
-use Rattle.job_spec.specs.Entries.{ZeroRename, OutsideStays, AreOwn}
-use Rattle.job_spec.specs.OperationEnds.{SetupIs, TaskIs, WasPublished, CleanIs, Cleaned, is_untouched, NoDeletionWorn, OnlyOpening, CommitServed}
 
 -- ---- the picks of a report
 
@@ -119,8 +118,7 @@ pub record Sent (w : Script) (opening : Content) (journal : List Entry) : Type 0
 -- what decided ended for want of memory
 abbrev pub lacked_memory : Decided → Bool
 lacked_memory (EndedSo e) = is_memory e
-lacked_memory NotBegun = false
-lacked_memory Unended = false
+lacked_memory _ = false
 
 -- what a run promises that went to its end
 pub record Finished (w : Script) (opening : Content) (journal : List Entry) (ps : List Pick) (xs : List EventEnd) : Type 0 where

@@ -1,18 +1,17 @@
 -- Lives and stages of a job's actors, what each began last, and what its driver knows: one fold over its events and their ends.
-use Rattle.std.specs.Prelude.{ℕ, zero, suc, ◌+◌, ◌&&◌, ◌||◌, nat_eq, not, Bool, true, false, cond, List, [], ◌∷◌, map, Option, Some, None, if◌then◌else◌}
-use Rattle.job_protocol.specs.Prelude.{list_any, filter, Reports, Actor, Driver, Attempt, Shell, actor_of, Script, Op, Abort, Event, Do, Start, Step, Run, Kill, Mix, Restart, Recover, SetupEnd, TaskEnd, CommitEnd, CleanEnd, OpEnd, ActorEnd, EventEnd, Done, Ended, Mixed, EventFault, Life, Idle, Busy, Dead, ActorStage, ActorState}
-use Rattle.job_model.specs.declared.events.Op.TheVariants.{Setup, Write, Commit, Clean}
+use Rattle.std.specs.Prelude.{Bool, List, None, Option, Some, [], cond, false, map, nat_eq, not, suc, true, zero, ℕ, ◌&&◌, ◌+◌, ◌||◌, ◌∷◌, if◌then◌else◌}
+use Rattle.job_protocol.specs.Prelude.{Abort, Actor, ActorEnd, ActorStage, ActorState, Attempt, Busy, CleanEnd, CommitEnd, Dead, Do, Done, Driver, Ended, Event, EventEnd, EventFault, Idle, Kill, Life, Mix, Mixed, Op, OpEnd, Recover, Reports, Restart, Run, Script, SetupEnd, Shell, Start, Step, TaskEnd, Times, actor_of, filter, list_any}
+use Rattle.job_model.specs.declared.events.Op.TheVariants.{Clean, Commit, Setup, Write}
+use Rattle.job_model.specs.declared.ends.CheckEnd.{CheckEnd}
+use Rattle.job_model.specs.declared.ends.EventEnd.TheVariants.{Refused}
 use Rattle.job_model.specs.declared.ends.SetupEnd.TheVariants as setups
 use Rattle.job_model.specs.declared.ends.TaskEnd.TheVariants as tasks
-use Rattle.job_model.specs.declared.ends.CheckEnd.{CheckEnd}
 use Rattle.job_model.specs.declared.ends.CheckEnd.TheVariants as checks
 use Rattle.job_model.specs.declared.ends.CommitEnd.TheVariants as commits
 use Rattle.job_model.specs.declared.ends.CleanEnd.TheVariants as cleans
 use Rattle.job_model.specs.declared.ends.OpEnd.TheVariants as ends
-use Rattle.job_model.specs.declared.ends.EventEnd.TheVariants.{Refused}
 use Rattle.job_model.specs.declared.ends.EventFault.TheVariants as faults
 use Rattle.job_model.specs.declared.states.ActorStage.TheVariants as stage
-use Rattle.job_spec.specs.Seen.{Times}
 
 -- ---- actors
 
@@ -180,12 +179,9 @@ restart p = record p { state = put p.state Driver (idle (restarted (p.state Driv
 abbrev pub open_event : Script → Past → Event → Past
 open_event w p (Do a op) = begin w p a op
 open_event w p (Start a op) = begin w p a op
-open_event w p (Step a n) = p
-open_event w p (Run a) = p
 open_event w p (Kill a) = kill p a
-open_event w p (Mix seed) = p
 open_event w p Restart = restart p
-open_event w p (Recover a) = p
+open_event w p _ = p
 
 -- the stage of a commit that goes on
 abbrev pub is_committing : ActorStage → Bool
@@ -254,10 +250,9 @@ actor_named (Recover a) = a
 
 -- the operations that ended in an event, in order
 abbrev pub told : Event → EventEnd → List ActorEnd
-told ev Done = []
 told ev (Ended e) = record { actor = actor_named ev; end = e } ∷ []
 told ev (Mixed xs) = xs
-told ev (Refused f) = []
+told ev _ = []
 
 -- what is past once an event is over
 abbrev pub count : Past → Past
@@ -327,8 +322,7 @@ abbrev pub attempt_may : Op → ActorStage → Bool
 attempt_may Write s = is_new s
 attempt_may Commit s = is_written s
 attempt_may Abort s = not (is_aborted s)
-attempt_may Setup s = false
-attempt_may Clean s = false
+attempt_may _ s = false
 
 -- the stages in which an actor may begin an operation
 abbrev pub may : Actor → Op → ActorStage → Bool
@@ -360,14 +354,12 @@ refuse_move Busy = None
 -- who is dead is not killed again
 abbrev pub refuse_kill : Life → Option EventFault
 refuse_kill Dead = Some faults.Dead
-refuse_kill Idle = None
-refuse_kill Busy = None
+refuse_kill _ = None
 
 -- a driver that is not dead is not restarted
 abbrev pub refuse_restart : Life → Option EventFault
 refuse_restart Dead = None
-refuse_restart Idle = Some faults.NotDead
-refuse_restart Busy = Some faults.NotDead
+refuse_restart _ = Some faults.NotDead
 
 -- why an event is refused, or None; a task's recovery always is
 abbrev pub refusal : (Actor → ActorState) → Event → Option EventFault

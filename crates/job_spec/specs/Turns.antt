@@ -1,6 +1,6 @@
 -- Whose turn it is: which entries an event has.
 use Rattle.std.specs.Prelude.{◌≡◌, ℕ, zero, suc, ◌+◌, ◌*◌, ◌/◌, ◌%◌, ◌^◌, ◌<◌, ◌≤◌, ◌&&◌, nat_eq, nat_le, nat_lt, Some, Bool, true, false, cond, List, [], ◌∷◌, ◌++◌, length, slice_get}
-use Rattle.job_protocol.specs.Prelude.{filter, list_any, Actor, Driver, Attempt, Shell, Entry, Script, Op, Event, Do, Start, Step, Run, Kill, Mix, Restart, Recover, OpEnd, EventEnd, Done, Ended, Mixed, ActorEnd, Life, Idle, Busy, Dead, ActorState}
+use Rattle.job_protocol.specs.Prelude.{filter, list_any, Actor, Driver, Attempt, Shell, Entry, Script, Op, Event, Do, Start, Step, Run, Kill, Mix, Restart, OpEnd, EventEnd, Done, Ended, Mixed, ActorEnd, Life, Busy, ActorState}
 use Rattle.job_model.specs.Prelude.{remove}
 use Rattle.job_model.specs.declared.events.Op.TheVariants as ops
 use Rattle.job_model.specs.declared.ends.OpEnd.TheVariants as ends
@@ -15,9 +15,8 @@ use Rattle.job_spec.specs.States.{same_actor, actors}
 
 -- an entry is of one of the job's actors, and no stranger's
 abbrev pub is_own : Actor → Bool
-is_own Driver = true
-is_own (Attempt task attempt) = true
 is_own Shell = false
+is_own _ = true
 
 -- the entries of the job's own actors
 abbrev pub own : List Entry → List Entry
@@ -67,8 +66,7 @@ place seed i n = draw seed i / 65536 % n
 -- the actor has an operation that goes on
 abbrev pub is_busy : Life → Bool
 is_busy Busy = true
-is_busy Idle = false
-is_busy Dead = false
+is_busy _ = false
 
 -- the busy actors, the driver first and then the attempts in script order
 abbrev pub busy_actors : Script → (Actor → ActorState) → List Actor
@@ -132,13 +130,10 @@ Turns w st ev end es = ⊥
 -- which entries an event has that has begun and has no end yet, by the states before it
 abbrev pub OpenTurns : Script → (Actor → ActorState) → Event → List Entry → Type 0
 OpenTurns w st (Do a op) es = AllBy a es
-OpenTurns w st (Start a op) es = es ≡ []
 OpenTurns w st (Step a n) es = AllBy a es × (length es ≤ n)
 OpenTurns w st (Run a) es = AllBy a es
-OpenTurns w st (Kill a) es = es ≡ []
 OpenTurns w st (Mix seed) es = (xs : List ActorEnd) × (busy : List Actor) × Mixing seed (busy_actors w st) es xs busy
-OpenTurns w st Restart es = es ≡ []
-OpenTurns w st (Recover a) es = es ≡ []
+OpenTurns w st _ es = es ≡ []
 
 -- the events of the entries never fall
 abbrev pub AllFrom : ℕ → List Entry → Type 0

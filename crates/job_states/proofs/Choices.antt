@@ -1,5 +1,5 @@
 -- The choice of who sends next in a mix.
-use Rattle.job_states.proofs.Common.{List, Some, ap, arith, draw, false, get_or, length, mod_below, nat_tests, place, rules, slice_get, slice_get-get_or, true, ℕ, ◌%◌, ◌*◌, ◌+◌, ◌/◌, ◌<◌, ◌==◌, ◌^◌, ◌≡◌}
+use Rattle.job_states.proofs.Common.{List, Some, ap, arith, draw, false, get_or, length, mod_below, nat_tests, place, slice_get, slice_get-get_or, true, ℕ, ◌%◌, ◌*◌, ◌+◌, ◌/◌, ◌<◌, ◌==◌, ◌^◌, ◌≡◌}
 
 pub next_drawn : (seed n drawn : ℕ) → drawn ≡ draw seed n → (1103515245 * drawn + 12345) % 2147483648 ≡ draw seed (n + 1)
 next_drawn seed n drawn h = grind arith

@@ -10,7 +10,7 @@ pub use Rattle.job_states.specs.Stands.{ChangesAt, IsPlace, Kept, Stands, busy_f
 pub use Rattle.job_states.specs.Turning.{Beside, Ending, Going, Ran, Table, Turned}
 pub use Rattle.job_states.specs.declared.actors.Turn.TheVariants.{Died, Ended, GoesOn}
 pub use Rattle.job_states.specs.declared.standing.Standing.{Standing}
-pub use Rattle.proof_base.proofs.Common.{drop_more, take-append_seam}
+pub use Rattle.basics.proofs.Common.{drop_more, take-append_seam}
 pub use Rattle.std.proofs.Common.{Bool, List, None, Option, Some, [], ap, append-nil, append_assoc, arith, cond, drop, false, get_or, inl, inr, length, length-append, map, nat_eq, nat_lt, not, refl, replicate, rules, set, slice_get, subst, suc, sym, take, true, true≢false, unwrap_or, vec_len, zero, ℕ, ◌%◌, ◌&&◌, ◌*◌, ◌++◌, ◌+◌, ◌-◌, ◌/◌, ◌<◌, ◌==◌, ◌^◌, ◌||◌, ◌∙◌, ◌∷◌, ◌≡◌, ◌≤◌, ◌⊎◌}
 pub use Rattle.std.proofs.lemmas.Nat.{mod_below}
 pub use Rattle.std.proofs.lemmas.Option.{same_Some, slice_get-map, slice_get_past, slice_get_read, unwrap_or-slice_get}

@@ -1,8 +1,8 @@
 -- Actors at their places.
 use Rattle.job_states.proofs.Common.{Actor, AllByRecursion, ChangesAt, Declared, Driver, IsDistinct, IsPlace, List, None, Option, Script, Shell, Some, Standing, Who, [], actor_of, actors, ap, arith, false, get_or, is_at, is_known, is_some, keys_of, length, lookup, map, nat_eq, nat_tests, option_map, position, refl, same_Some, same_actor, same_name, set, slice_get, slice_get-get_or, slice_get-map, subst, suc, sym, true, true≢false, zero, ℕ, ◌+◌, ◌<◌, ◌∙◌, ◌∷◌, ◌≡◌}
-use Rattle.proof_base.proofs.Common.{length-map, position-Some, IsDistinct-head, IsDistinct-tail}
+use Rattle.basics.proofs.Common.{length-map, position-Some, IsDistinct-head, IsDistinct-tail}
 use Rattle.std.specs.Option.{IfSome}
-use Rattle.proof_base.proofs.Numbers.{suc_not, suc_same, zero_not}
+use Rattle.basics.proofs.Naturals.{suc_not, suc_same, zero_not}
 
 -- ---- tests
 

@@ -1,5 +1,5 @@
 -- Actors that are the same or not, and what is put at one of them.
-use Rattle.job_steps.proofs.Common.{Actor, Attempt, Driver, Shell, and_parts, ap, arith, cond, eq_nat, false, false_true, inl, inr, nat_eq, nat_true, put, refl, same_actor, subst, sym, true, true_or_false, ℕ, ◌∙◌, ◌≡◌, ◌⊎◌}
+use Rattle.job_steps.proofs.Common.{Actor, ap, arith, cond, false, false_true, inl, inr, put, same_actor, subst, sym, true, true_or_false, ◌∙◌, ◌≡◌, ◌⊎◌}
 
 same_itself : (a : Actor) → same_actor a a ≡ true
 same_itself a = grind arith

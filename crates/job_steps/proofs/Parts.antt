@@ -1,6 +1,6 @@
 -- Parts of a journal to which one entry is added.
-use Rattle.job_steps.proofs.Common.{Actor, AllFrom, AllUpTo, AreHonest, Bool, Entry, IsHonestOutcome, IsRising, List, Outcome, Request, Scene, Shell, Some, [], above_so, after_all, and-false, answer, ap, append-nil, arith, at_most_so, before, below_so, by_actor, cond, effect, false, false_true, filter, filter-append, inl, inr, is_own, length, nat_eq, nat_false, nat_le, nat_lt, nat_tests, none_some, of_event, own, refl, same_actor, since, slice_get, some_is, strange_entry, subst, suc, sym, take, take_all, true, true_or_false, until, zero, ℕ, ◌&&◌, ◌++◌, ◌+◌, ◌<◌, ◌∙◌, ◌∷◌, ◌≡◌, ◌≤◌, ◌⊎◌}
-use Rattle.proof_base.proofs.Numbers.{not_below}
+use Rattle.job_steps.proofs.Common.{Actor, AllFrom, AllUpTo, AreHonest, Bool, Entry, IsHonestOutcome, IsRising, List, Outcome, Request, Scene, Shell, Some, [], above_so, after_all, and-false, answer, ap, append-nil, arith, at_most_so, before, below_so, by_actor, cond, effect, false, false_true, filter, filter-append, inl, inr, is_own, length, nat_eq, nat_false, nat_le, nat_lt, none_some, of_event, own, refl, same_actor, since, slice_get, some_is, strange_entry, suc, take, take_all, true, true_or_false, until, zero, ℕ, ◌&&◌, ◌++◌, ◌+◌, ◌<◌, ◌∙◌, ◌∷◌, ◌≡◌, ◌≤◌, ◌⊎◌}
+use Rattle.basics.proofs.Naturals.{not_below}
 
 -- ---- any lists
 

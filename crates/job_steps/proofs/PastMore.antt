@@ -2,12 +2,6 @@
 use Rattle.job_steps.proofs.Common.{Actor, ActorEnd, ActorStage, ActorState, AreEvents, Attempt, Busy, Declared, Do, Driver, Entry, Event, EventEnd, EventFault, HasOp, IsEvent, Known, Life, List, Mix, None, Op, OpEnd, OpenTurns, Operation, Past, Refused, Run, Script, Setting, Shell, Some, Start, Step, Turns, [], after_event, ap, arith, busy_actors, count, end_op, end_ops, ended, false, false_true, is_busy, length, may, none_some, open_event, refl, refusal, refuse_begin, refuse_op, slice_get, some_is, start_of, subst, suc, told, true, zero, ℕ, ◌++◌, ◌∷◌, ◌≡◌, ◌≤◌}
 use Rattle.job_spec.specs.Prelude.{past_from, mix_begins, Reports}
 use Rattle.job_model.specs.declared.events.Op.TheVariants as ops
-use Rattle.job_model.specs.declared.ends.SetupEnd.TheVariants as setups
-use Rattle.job_model.specs.declared.ends.TaskEnd.TheVariants as tasks
-use Rattle.job_model.specs.declared.ends.CommitEnd.TheVariants as commits
-use Rattle.job_model.specs.declared.ends.CleanEnd.TheVariants as cleans
-use Rattle.job_model.specs.declared.ends.OpEnd.TheVariants as ends
-use Rattle.job_model.specs.declared.ends.CheckEnd.TheVariants as checks
 use Rattle.job_steps.proofs.RunningStages.{begins_so}
 
 -- ---- one more

@@ -1,17 +1,16 @@
 -- Until the driver cleans up each task that is reported has a last publisher.
-use Rattle.job_steps.proofs.Common.{Actor, ActorEnd, ActorStage, Ahead, Attempt, Bool, Busy, Closes, Commit, Content, Driver, Entry, Event, EventEnd, Finishes, HasPublished, IsLegal, IsOpening, IsRun, List, MayFinish, None, OpEnd, Opens, Operation, Outcome, Play, Reachable, Refuses, Request, RequestLost, Restart, Retried, Running, Runs, Script, Seen, Sends, Setting, Slow, Some, Stand, Strays, TaskCommit, TaskCommitOver, TaskEnd, TheTaskCommit, Told, Who, [], actor_of, and_parts, ap, arith, attempt, clean_event, cond, eq_nat, false, false_true, first_not, happen, happens, inl, inr, is_begun, is_committing, is_memory, length, nat_eq, nat_true, none_some, nothing_happened, nothing_seen, nothing_told, open_event, operation_of, or_cases, over, refl, same_or_not, see, see_all, see_by, see_more, seen, sees, slice_get, some_is, strange_entry, subst, suc, sym, take, task_commit_over, tell_all, tells_so, times, true, true_or_false, zero, ℕ, ◌&&◌, ◌++◌, ◌+◌, ◌<◌, ◌||◌, ◌∙◌, ◌∷◌, ◌≡◌, ◌≤◌, ◌⊎◌}
-use Rattle.job_facts.specs.Prelude.{is_publishing, tell, tell_by, is_effective, Times, Declared, missing, list_any}
-use Rattle.job_spec.specs.Prelude.{report, is_done, is_reported}
-use Rattle.job_model.specs.declared.ends.TaskEnd.TheVariants as tasks
-use Rattle.job_model.specs.declared.ends.OpEnd.TheVariants as ends
-use Rattle.job_steps.proofs.RunningStages.{may_end, of_sort}
-use Rattle.job_steps.proofs.Running.{carried, is_run, sent_ahead, strayed_ahead, finished_ahead, opened_ahead, refused_ahead, not_refused, closed_ahead}
-use Rattle.job_spec.proofs.Told.{scene_is, last_still}
+use Rattle.job_spec.specs.Prelude.{Actor, ActorEnd, ActorStage, Attempt, Busy, Content, Declared, Driver, Entry, Event, EventEnd, IsLegal, OpEnd, Operation, Outcome, Request, RequestLost, Retried, Running, Script, Seen, Setting, Slow, TaskCommit, TaskCommitOver, TaskEnd, TheTaskCommit, Times, Who, actor_of, clean_event, first_not, is_begun, is_committing, is_done, is_effective, is_memory, is_publishing, is_reported, missing, nothing_seen, open_event, over, report, see, see_all, see_by, seen, times}
+use Rattle.job_steps.proofs.Common.{Ahead, Bool, Closes, Commit, Finishes, HasPublished, IsOpening, IsRun, List, MayFinish, None, Opens, Play, Reachable, Refuses, Runs, Sends, Some, Stand, Strays, Told, [], and_parts, ap, arith, attempt, cond, eq_nat, false, false_true, happen, happens, inl, inr, length, nat_eq, nat_true, none_some, nothing_happened, nothing_told, operation_of, or_cases, refl, same_or_not, see_more, sees, slice_get, some_is, strange_entry, subst, suc, sym, take, tell_all, tells_so, true, true_or_false, zero, ℕ, ◌&&◌, ◌++◌, ◌+◌, ◌<◌, ◌||◌, ◌∙◌, ◌∷◌, ◌≡◌, ◌≤◌, ◌⊎◌}
+use Rattle.job_facts.specs.Prelude.{list_any, tell, tell_by}
+use Rattle.job_steps.proofs.RunningStages.{may_end}
+use Rattle.job_steps.proofs.Running.{carried, closed_ahead, finished_ahead, is_run, not_refused, opened_ahead, refused_ahead, sent_ahead, strayed_ahead}
+use Rattle.job_spec.proofs.Told.{last_still, scene_is}
 use Rattle.job_traces.proofs.Published.{has_published}
-use Rattle.job_steps.proofs.RunningCommits.{over_is}
 use Rattle.job_steps.proofs.RunningTasks.{Held, at_commit}
 use Rattle.job_steps.proofs.RunningAlong.{busy_at}
 use Rattle.job_steps.proofs.Actors.{one_put}
+use Rattle.job_model.specs.declared.ends.TaskEnd.TheVariants as tasks
+use Rattle.job_model.specs.declared.ends.OpEnd.TheVariants as ends
 
 -- who has begun to clean up has begun to ever after
 tell_keeps : (w : Script) (m : Told) (e : Entry) → m.cleaned ≡ true → (tell w m e).cleaned ≡ true

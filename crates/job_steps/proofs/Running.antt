@@ -1,6 +1,6 @@
 -- What happens in a run is one of the job's runs, by each kind of happening.
-use Rattle.job_steps.proofs.Common.{Actor, ActorEnd, ActorState, Ahead, Attempt, Busy, Closes, Commit, Content, Do, Driver, Entry, Event, EventEnd, EventFault, Finishes, IsEvent, IsHonestOutcome, IsLegal, IsOpening, IsRun, Kill, List, MayClose, MayFinish, MayOpen, MaySend, None, Op, OpEnd, Opens, Option, Outcome, Play, Reachable, Recover, Refused, Refuses, Request, Restart, Running, Script, Sends, Setting, Shell, Some, Start, Strays, Times, Turns, [], advance, and-false, answer, ap, append_assoc, arith, attempt, begins_clean, begins_commit, dead, ended, false, first_stand, happen, happens, hear, idle, inl, inr, is_begun, is_memory, is_refused, length, length-append, moment, none_some, not, nothing_happened, nothing_played, open_event, open_running, operation_of, over, put, refl, refusal, reports, restarted, run_begins, subst, sym, times, true, wants, ℕ, ◌++◌, ◌+◌, ◌^◌, ◌||◌, ◌∙◌, ◌∷◌, ◌≡◌, ◌≤◌, ◌⊎◌}
-use Rattle.job_steps.proofs.PastMore.{turns_refused, event_at}
+use Rattle.job_steps.proofs.Common.{Actor, ActorEnd, ActorState, Ahead, Attempt, Busy, Closes, Content, Do, Driver, Entry, Event, EventEnd, EventFault, Finishes, IsEvent, IsHonestOutcome, IsLegal, IsOpening, IsRun, Kill, List, MayClose, MayFinish, MayOpen, MaySend, None, Op, OpEnd, Opens, Option, Outcome, Play, Reachable, Recover, Refused, Refuses, Request, Restart, Running, Script, Sends, Setting, Shell, Some, Start, Strays, Times, Turns, [], advance, and-false, answer, ap, append_assoc, arith, attempt, begins_clean, begins_commit, dead, ended, false, first_stand, happen, happens, hear, idle, inl, inr, is_begun, is_memory, is_refused, length, length-append, moment, none_some, not, nothing_happened, nothing_played, open_event, open_running, operation_of, over, put, refl, refusal, reports, restarted, run_begins, subst, sym, times, true, wants, ℕ, ◌++◌, ◌+◌, ◌^◌, ◌||◌, ◌∙◌, ◌∷◌, ◌≡◌, ◌≤◌, ◌⊎◌}
+use Rattle.job_steps.proofs.PastMore.{event_at}
 use Rattle.job_steps.proofs.RunningNumbers.{begun_next, unbegun, begun_at}
 use Rattle.job_steps.proofs.RunningStages.{begins_so, memory_dies, may_end, driver_restarts, restarted_new, Begun, with_event, still_begun}
 use Rattle.job_steps.proofs.RunningAlong.{Along, ActorAt, actor_dies, actor_ends, told_known, set_up, at_of, busy_at, state_so, driver_sent, attempt_sent, strays_on}

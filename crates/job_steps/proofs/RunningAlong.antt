@@ -1,11 +1,11 @@
 -- How far a run has come with a job: it is one of the job's runs, and what its actors are at is by their lives and stages.
 use Rattle.job_steps.proofs.Common.{Actor, ActorStage, ActorState, Attempt, Busy, Content, Dead, Driver, Entry, IsForeign, IsHonestOutcome, IsLegal, IsOpening, Life, List, None, OpEnd, Operation, Option, Outcome, Request, Running, Runs, Scene, Setting, Shell, Some, Stand, Times, Told, Who, [], actor_of, advance, answer, ap, arith, asks, attempt, attempt_sends, by_actor, commit_with, cond, driver_entry, driver_sends, ended, entry, false, false_true, inl, inr, is_new, is_set, known, knows, learn, learn_of, length, moment, none_some, nothing_told, operation_of, over, put, refl, same_name, saw, some_is, strange_entry, strays, subst, sym, tells, tells_so, true, true_or_false, wants, who, who_is, with_attempt, with_commit, with_driver, ℕ, ◌++◌, ◌^◌, ◌∙◌, ◌∷◌, ◌≡◌, ◌≤◌}
-use Rattle.job_facts.proofs.Learnt.{known_is}
 use Rattle.job_traces.proofs.Changes.{moment_scene}
 use Rattle.job_steps.proofs.Actors.{one_put}
 use Rattle.job_steps.proofs.RunningNumbers.{begun_at}
-use Rattle.job_steps.proofs.RunningStages.{Begun, DriverAt, IsTimed, driver_stops, driver_ends, driver_set, driver_kind, driver_asks, driver_hears, timed_sends, timed_tells}
-use Rattle.job_steps.proofs.RunningTasks.{AttemptAt, attempt_dies, attempt_ends, attempt_hears}
+use Rattle.job_steps.proofs.RunningStages.{Begun, DriverAt, IsTimed, driver_ends, driver_set, driver_kind, driver_asks, driver_hears, timed_sends, timed_tells}
+use Rattle.job_steps.proofs.RunningTasks.{AttemptAt, attempt_ends, attempt_hears}
+use Rattle.job_traces.proofs.Learnt.{known_is}
 
 -- where it stands is where one of the job's runs does, and its actors began these operations last
 pub record Ran (g : Setting) (opening : Content) (k : Times) (journal : List Entry) (running : Actor → Option Running) (stand : Stand) : Type 0 where

@@ -1,8 +1,7 @@
 -- A task's commit never ends Kept; and a run may go on.
-use Rattle.job_steps.proofs.Common.{Ahead, Bool, Done, File, List, Magic, None, Option, Outcome, Play, Reply, Retried, Script, Some, TaskCommit, TaskCommitOver, TaskEnd, Uploaded, Who, [], ap, arith, false, files, map, none_some, record_key, refl, some_is, step, step_so, task_commit_over, task_commit_start, true, upload_hears, ℕ, ◌++◌, ◌∷◌, ◌≡◌}
-use Rattle.job_facts.specs.Prelude.{Looking, Reading, Checking, Uploads, Renaming, least_missing, in_order, reading, looked_at, looked, storing, checking, to_check, uploaded, task_commit_start_by, task_commit_hears, task_commit_after, Page, Refused, NoSuchKey, NoSuchFile, AllSent, Walked, More, Whole}
+use Rattle.job_steps.proofs.Common.{Ahead, Bool, Done, File, List, Magic, Option, Outcome, Play, Reply, Retried, Script, Some, TaskCommit, TaskCommitOver, TaskEnd, Uploaded, Who, [], arith, false, refl, step, step_so, task_commit_over, task_commit_start, true, ℕ, ◌++◌, ◌∷◌, ◌≡◌}
+use Rattle.job_facts.specs.Prelude.{reading, looked, storing, checking, to_check, uploaded, task_commit_start_by, task_commit_hears, task_commit_after, Walked}
 use Rattle.job_model.specs.declared.ends.TaskEnd.TheVariants as tasks
-use Rattle.list_walk.specs.Walks.{walked}
 
 -- ---- a task's commit never ends Kept
 

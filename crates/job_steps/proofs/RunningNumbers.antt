@@ -1,5 +1,5 @@
 -- Where the event of the job's commit is, by the events and ends that are there and to come; and what a script's bounds say of its events.
-use Rattle.job_steps.proofs.Common.{AreAttempts, Attempt, Bool, Declared, Event, EventEnd, IsAttempt, IsLegal, List, Option, Script, Some, Times, Who, [], above_so, ap, arith, at_most_so, attempt, begins_clean, begins_commit, clean_event, commit_event, cond, cond_both, event_from, false, inl, inr, is_begun, is_known, is_refused, is_some, length, lookup, none_some, not, refl, same_name, slice_get, some_is, subst, sym, times, true, true_or_false, who_is, ℕ, ◌&&◌, ◌++◌, ◌+◌, ◌<◌, ◌||◌, ◌∙◌, ◌∷◌, ◌≡◌, ◌≤◌}
+use Rattle.job_steps.proofs.Common.{AreAttempts, Attempt, Bool, Declared, Event, EventEnd, IsAttempt, IsLegal, List, Option, Script, Some, Times, Who, [], above_so, ap, arith, attempt, begins_clean, begins_commit, clean_event, commit_event, cond, cond_both, event_from, false, inl, inr, is_begun, is_known, is_refused, is_some, length, lookup, none_some, not, refl, same_name, slice_get, some_is, subst, sym, times, true, true_or_false, who_is, ℕ, ◌&&◌, ◌++◌, ◌+◌, ◌<◌, ◌||◌, ◌∙◌, ◌∷◌, ◌≡◌, ◌≤◌}
 use Rattle.job_steps.proofs.RunningStages.{Begun, with_event}
 
 -- ---- the first event that passes a test

@@ -1,17 +1,12 @@
 -- What the driver is at, by its life and stage.
-use Rattle.job_steps.proofs.Common.{Abort, Actor, ActorEnd, ActorStage, Attempt, Bool, Busy, Clean, CleanEnd, Commit, CommitEnd, Dead, Driver, Event, EventFault, Idle, IsTimely, Known, Life, MayFinish, None, Op, OpEnd, Operation, Option, Outcome, Play, Request, Retried, Running, Setting, Setup, SetupEnd, Some, TheCheck, TheClean, TheCommit, TheSetup, TheSparing, TheTaskAbort, TheTaskCommit, TheWrite, Times, after_check_so, ap, arith, asks, begins_clean, begins_commit, clean_over, commit_over, dead, driver_may, ended, false, false_true, inl, inr, is_begun, is_busy, is_done, is_just_set, is_memory, is_new, is_set, is_wanting, may, needs_set, none_some, nothing_learnt, option_map, or-false, over, refl, refuse_begin, refuse_op, restarted, setup_over, some_is, step, subst, sym, tells, true, true_or_false, who, ℕ, ◌&&◌, ◌||◌, ◌≡◌, ◌⊎◌}
 use Rattle.std.specs.Prelude.{if◌then◌else◌}
+use Rattle.job_steps.proofs.Common.{Actor, ActorEnd, ActorStage, Bool, Busy, Clean, CleanEnd, Commit, CommitEnd, Driver, Event, EventFault, Idle, IsTimely, Known, Life, MayFinish, None, Op, OpEnd, Operation, Option, Outcome, Play, Request, Retried, Running, Setting, Setup, SetupEnd, Some, TheCheck, TheClean, TheCommit, TheSetup, TheSparing, Times, after_check_so, ap, arith, asks, begins_clean, begins_commit, clean_over, commit_over, dead, driver_may, ended, false, inl, inr, is_begun, is_busy, is_done, is_just_set, is_memory, is_new, is_set, is_wanting, may, needs_set, nothing_learnt, option_map, or-false, over, refuse_begin, refuse_op, restarted, setup_over, step, subst, sym, tells, true, who, ℕ, ◌&&◌, ◌||◌, ◌≡◌, ◌⊎◌}
 use Rattle.job_model.specs.declared.ends.SetupEnd.TheVariants as setups
-use Rattle.job_model.specs.declared.ends.CommitEnd.TheVariants as commits
-use Rattle.job_model.specs.declared.ends.CleanEnd.TheVariants as cleans
-use Rattle.job_model.specs.declared.ends.TaskEnd.TheVariants as tasks
 use Rattle.job_model.specs.declared.ends.OpEnd.TheVariants as ends
 use Rattle.job_model.specs.declared.ends.EventFault.TheVariants as faults
 use Rattle.job_model.specs.declared.states.ActorStage.TheVariants as stage
 use Rattle.job_protocol.specs.Setup as setup
-use Rattle.job_traces.proofs.EveryRun.{just_set}
 use Rattle.job_model.specs.declared.ends.CheckEnd.{CheckEnd}
-use Rattle.job_model.specs.declared.ends.CheckEnd.TheVariants as checks
 use Rattle.job_protocol.specs.Rechecks.{check_after, check_over}
 use Rattle.job_protocol.specs.Sparing.{sparing_over}
 

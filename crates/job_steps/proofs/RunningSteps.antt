@@ -1,5 +1,5 @@
 -- An actor's operation begins: it is one that the job's runs let begin.
-use Rattle.job_steps.proofs.Common.{Abort, Actor, ActorStage, ActorState, Attempt, BeginAbort, BeginClean, BeginCommit, BeginPublish, BeginSetup, BeginWrite, Busy, Clean, Commit, Content, Do, Driver, Entry, HasOp, Idle, IsAttempt, IsLegal, IsOpening, Known, List, MaySetUp, None, Op, Operation, Option, Reports, Retried, Running, Runs, Script, Setting, Setup, Shell, Some, Stand, TaskAbort, TheSetup, TheTaskAbort, TheTaskCommit, TheWrite, Times, Who, Write, WriteOver, actor_begins, actor_of, ap, arith, attempt, begin, begun, by_actor, clean_of, clean_of_so, commit_of, commit_of_so, false, false_true, fresh, inl, inr, is_just_set, is_known, is_new, is_set, known, knows, late_now, operation_of, or-false, or-true, put, refl, setup_start, stage_begun, start_of, subst, sym, task_abort_start, task_commit_start, true, who, with_attempt, write_start, ◌||◌, ◌∙◌, ◌≡◌}
+use Rattle.job_steps.proofs.Common.{Abort, Actor, ActorStage, ActorState, Attempt, BeginAbort, BeginClean, BeginCommit, BeginPublish, BeginSetup, BeginWrite, Busy, Clean, Commit, Content, Do, Driver, Entry, HasOp, Idle, IsAttempt, IsLegal, IsOpening, Known, List, MaySetUp, None, Op, Operation, Option, Reports, Retried, Running, Runs, Script, Setting, Setup, Shell, Some, Stand, TaskAbort, TheSetup, TheTaskAbort, TheTaskCommit, TheWrite, Times, Who, Write, WriteOver, actor_begins, actor_of, ap, arith, attempt, begin, begun, by_actor, clean_of, clean_of_so, commit_of, commit_of_so, false, false_true, fresh, is_just_set, is_known, is_new, known, knows, late_now, operation_of, or-false, or-true, put, refl, setup_start, stage_begun, start_of, subst, sym, task_abort_start, task_commit_start, true, who, with_attempt, write_start, ◌||◌, ◌∙◌, ◌≡◌}
 use Rattle.job_model.specs.declared.ends.TaskEnd.TheVariants as tasks
 use Rattle.job_traces.proofs.Running.{Late}
 use Rattle.job_steps.proofs.RunningNumbers.{known_attempt}

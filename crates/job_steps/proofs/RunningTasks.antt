@@ -1,5 +1,5 @@
 -- What an attempt is at, by its life and stage.
-use Rattle.job_steps.proofs.Common.{Abort, ActorStage, Bool, Busy, Commit, Committer, Dead, Drawn, File, GoesOn, Got, Idle, Item, Known, Life, List, Magic, None, Op, OpEnd, Operation, Option, Outcome, Retried, Script, Setting, Some, TaskAbort, TaskEnd, TheCheck, TheTaskAbort, TheTaskCommit, TheWrite, Who, WornOut, Write, [], all_go, ap, arith, as_made, attempt_may, ended, false, false_true, files, is_committing, none_some, over, refl, some_is, step, step_so, subst, sweep_hears, sym, task_abort_after, task_abort_by, task_abort_over, task_abort_start, task_commit_over, task_ended, tells, true, upload_hears, write_after, write_over, write_start, ℕ, ◌∷◌, ◌≡◌}
+use Rattle.job_steps.proofs.Common.{Abort, ActorStage, Bool, Busy, Commit, Committer, Dead, Drawn, File, Got, Idle, Item, Known, Life, List, Magic, None, Op, OpEnd, Operation, Option, Outcome, Retried, Script, Setting, Some, TaskAbort, TaskEnd, TheTaskAbort, TheTaskCommit, TheWrite, Who, WornOut, Write, ap, arith, as_made, attempt_may, ended, false, false_true, files, is_committing, over, refl, step, step_so, subst, sym, task_abort_after, task_abort_by, task_abort_over, task_abort_start, task_commit_over, task_ended, tells, true, write_after, write_over, write_start, ℕ, ◌≡◌}
 use Rattle.job_model.specs.declared.ends.TaskEnd.TheVariants as tasks
 use Rattle.job_model.specs.declared.ends.OpEnd.TheVariants as ends
 use Rattle.job_model.specs.declared.states.ActorStage.TheVariants as stage

@@ -1,6 +1,6 @@
 -- The laws of this crate.
-use Rattle.std.specs.Prelude.{◌≡◌, None}
-use Rattle.job_facts.specs.Prelude.{Content, IsHonest, IsLegal, Setting, past, Plays}
+use Rattle.std.specs.Prelude.{None, ◌≡◌}
+use Rattle.job_spec.specs.Prelude.{Content, IsHonest, IsLegal, Plays, Setting, past}
 use Rattle.job_steps.specs.Transitions.{Play, Reachable}
 
 -- between events a run has done what its events say, by its journal and its ends alone

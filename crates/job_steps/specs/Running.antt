@@ -1,8 +1,10 @@
 -- That what happens in a run is one of the job's runs, whose every moment is known.
 use Rattle.std.specs.Prelude.{◌≡◌, true, false, List, ◌∷◌, ◌++◌, Option, Some, None}
-use Rattle.job_facts.specs.Prelude.{Content, Driver, Who, actor_of, IsLegal, Event, EventEnd, Setting, Operation, Running, is_new, Times, times, is_refused, known}
+use Rattle.job_facts.specs.Prelude.{Content, Driver, Who, actor_of, IsLegal, Event, EventEnd, Setting, Operation, Running, Times, known}
 use Rattle.job_traces.specs.Runs.{Stand, Runs, IsOpening, is_set}
 use Rattle.job_steps.specs.Transitions.{Play, Reachable, knows_now}
+use Rattle.job_spec.specs.Prelude.{times}
+use Rattle.job_spec.specs.States.{is_new, is_refused}
 
 -- the ends go on so, and the event that goes on is not to be refused
 pub record Ahead (x : Play) (ends : List EventEnd) : Type 0 where

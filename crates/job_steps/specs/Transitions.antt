@@ -1,8 +1,9 @@
 -- What happens in a run of a job, one thing after another, and where it leads. Between events strangers may send what leaves the job's own alone.
 use Rattle.std.specs.Prelude.{◌≡◌, ◌+◌, ◌≤◌, ◌^◌, ◌⊎◌, true, List, [], ◌∷◌, ◌++◌, length, slice_get, Option, Some, None}
-use Rattle.job_facts.specs.Prelude.{Content, Scene, answer, moment, IsHonestOutcome, Actor, Request, Outcome, Entry, actor_of, Known, Op, Event, Do, Start, Step, Run, Kill, Mix, Restart, Recover, ActorEnd, EventEnd, EventFault, Busy, knows, Setting, Operation, Running, who, wants, advance, start_of, over, Past, Doing, put, missing, refusal, open_event, end_op, told, nothing_past, of_event, by_actor, is_wanting, Turns, strange_entry, IsForeign}
+use Rattle.job_facts.specs.Prelude.{Content, Scene, answer, moment, IsHonestOutcome, Actor, Request, Outcome, Entry, actor_of, Known, Op, Event, Do, Start, ActorEnd, EventEnd, EventFault, Busy, knows, Setting, Operation, Running, who, wants, advance, start_of, over, strange_entry, IsForeign}
 use Rattle.job_model.specs.declared.ends.EventEnd.TheVariants.{Refused}
 use Rattle.job_spec.specs.States.{count, reports}
+use Rattle.job_spec.specs.Prelude.{Past, Doing, put, refusal, open_event, end_op, told, nothing_past, of_event, by_actor, is_wanting, Turns}
 
 -- ---- how far a run has come
 
@@ -64,12 +65,7 @@ begin_running g x a op = put x.running a (begun (start_of g a op (reports g.scri
 abbrev pub open_running : Setting → Play → Event → Actor → Option Running
 open_running g x (Do a op) = begin_running g x a op
 open_running g x (Start a op) = begin_running g x a op
-open_running g x (Step a n) = x.running
-open_running g x (Run a) = x.running
-open_running g x (Kill a) = x.running
-open_running g x (Mix seed) = x.running
-open_running g x Restart = x.running
-open_running g x (Recover a) = x.running
+open_running g x _ = x.running
 
 -- where the outcome of a sending leads
 abbrev pub hear : Setting → Actor → Option Running → Entry → Option Running

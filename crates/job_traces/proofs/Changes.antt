@@ -1,9 +1,7 @@
 -- What the entries of a run change, one by one and together.
-use Rattle.job_traces.proofs.Common.{AreOwn, Content, Driver, Entry, HasBucket, IsLegal, IsOpening, IsZeroRename, List, None, Operation, Option, Outcome, Request, RequestLost, Runs, SameOutside, SameOutsideUpload, Scene, Script, Setting, Slow, Some, Stand, TheCheck, TheClean, TheCommit, TheSetup, TheSparing, Times, Upload, Who, ZeroRename, [], after_all, ap, arith, asks, at_id, begins, cases_lt, check_changes, dest_prefix, driver_entry, effect, entry, false, false_true, inl, inr, is_own, is_set, known, length, length-append, moment, none_some, nothing_learnt, refl, see, setup_alone, setup_asks, slice_get, slice_get_within, slice_last, some_is, sparing_changes, strange_entry, subst, sym, take, take-append-le, text_eq, true, true_or_false, who, ℕ, ◌++◌, ◌+◌, ◌<◌, ◌∙◌, ◌∷◌, ◌≡◌, ◌≤◌, ◌⊎◌}
+use Rattle.job_traces.proofs.Common.{AreOwn, Content, Driver, Entry, HasBucket, IsLegal, IsOpening, IsZeroRename, List, None, Operation, Option, Outcome, Request, RequestLost, Runs, SameOutside, SameOutsideUpload, Scene, Script, Setting, Slow, Some, Stand, TheCheck, TheClean, TheCommit, TheSetup, TheSparing, Times, Upload, Who, ZeroRename, [], after_all, ap, arith, asks, at_id, begins, cases_lt, check_changes, dest_prefix, driver_entry, effect, entry, false, false_true, inl, inr, is_own, is_set, known, length, length-append, moment, none_some, nothing_learnt, refl, see, setup_alone, setup_asks, slice_get, slice_get_within, slice_last, some_is, sparing_changes, strange_entry, subst, sym, take, take-append-le, text_eq, true, who, ℕ, ◌++◌, ◌+◌, ◌<◌, ◌∙◌, ◌∷◌, ◌≡◌, ◌≤◌, ◌⊎◌}
 use Rattle.std.specs.FinMap as fin
-use Rattle.s3_types.specs.Store.{opening as opening_scene}
 use Rattle.job_protocol.specs.View.{object_at}
-use Rattle.job_spec.specs.Scope.{upload_at}
 use Rattle.job_facts.proofs.Ended.{stood_so}
 use Rattle.job_traces.proofs.Running.{At, Late}
 use Rattle.job_facts.proofs.OwnRequests.{setup_changes, attempt_changes, commit_changes, clean_changes}
@@ -12,6 +10,8 @@ use Rattle.job_traces.proofs.Entries.{take_all, front, own_taken}
 use Rattle.job_traces.proofs.Lists.{slice_front}
 use Rattle.job_traces.proofs.Plain.{one_scene}
 use Rattle.job_traces.proofs.Folds.{each_run, each_seen}
+use Rattle.job_protocol.specs.Scope.{upload_at}
+use Rattle.s3_types.specs.Store.{opening as opening_scene}
 
 -- ---- contents that are the same outside
 

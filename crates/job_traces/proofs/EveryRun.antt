@@ -1,8 +1,7 @@
 -- Every run comes as far as it says, whatever strangers send that leave the job's own alone; and among none a reader is shown what the headline says.
-use Rattle.job_traces.proofs.Common.{AreOwn, BeginAbort, BeginClean, BeginCommit, BeginPublish, BeginSetup, BeginWrite, Beginning, Bool, BucketContent, Clean, CleanOver, ClusterDelete, ClusterGet, ClusterList, ClusterPut, ClusterRename, Content, Deleting, Driver, Entry, Facts, Filed, Fits, Gone, HasBucket, HidesAll, Hold, IsAttempt, IsForeign, IsHonestOutcome, IsIn, IsLegal, IsOpening, IsTimely, Kept, Known, List, Listing, Magic, MakeBucket, MayBegin, MaySetUp, NoClusterFile, None, Operation, Option, Outcome, Plain, Request, RequestLost, Retried, Runs, Scene, Script, Seen, SetsUp, Setting, Setup, SetupOver, Slow, Some, Stand, SuccessPlace, TheCheck, TheClean, TheCommit, TheSetup, TheSparing, Times, Told, Upload, Who, [], abort_fits, actor_begins, after_check_so, and-false, answer, ap, apply, apply_at, apply_in, arith, asks, at_event, at_id, at_key, attempt_sends, begin, begins, begins_commit, begins_write, below, bucket_of, changed_paths, check_plain, check_reads, clean_asks, clean_begun, clean_of_so, cluster_prefix, commit_drives, commit_of_so, commit_start, commit_with, driver_entry, driver_sends, driving_keeps, effect, empty_none, ends, entry, false, false_true, filed_keeps, first_stand, fits_start, frame, fresh, hidden_shows, inl, inr, is_begun, is_bucket, is_done, is_effective, is_just_set, is_marking, is_own, is_picking, is_set, key_magic, known, nat_cmp, new_bucket, no_success, none_or_some, none_some, not, nothing_learnt, nothing_told, only_reads, operation_paths, put_who, reads_drive, reads_leave, record_reads, refl, run_begins, same_or_another, same_or_other, saw, see, setup_after, setup_alone, setup_asks, setup_beside, setup_done, setup_goes, setup_no_file, setup_start, shown_key, some_dest, some_is, sparing_goes, sparing_hides, sparing_keeps, step, still_none, strange_entry, strange_no_file, strays, subst, success_key, sym, tell_attempt, tell_driver, tells, text_here, text_other, true, view, who, who_here, who_other, with_attempt, with_commit, with_driver, ℕ, ◌&&◌, ◌++◌, ◌<◌, ◌^◌, ◌||◌, ◌∙◌, ◌∷◌, ◌≡◌, ◌≤◌, ◌⊎◌}
+use Rattle.job_traces.proofs.Common.{AreOwn, BeginAbort, BeginClean, BeginCommit, BeginPublish, BeginSetup, BeginWrite, Beginning, Bool, BucketContent, Clean, CleanOver, ClusterDelete, ClusterPut, ClusterRename, Content, Deleting, Driver, Entry, Facts, Filed, Fits, Gone, HasBucket, HidesAll, Hold, IsAttempt, IsForeign, IsHonestOutcome, IsIn, IsLegal, IsOpening, IsTimely, Kept, Known, List, Listing, MayBegin, MaySetUp, NoClusterFile, None, Operation, Option, Outcome, Plain, Request, RequestLost, Retried, Runs, Scene, Script, Seen, SetsUp, Setting, Setup, SetupOver, Slow, Some, Stand, SuccessPlace, TheCheck, TheClean, TheCommit, TheSetup, TheSparing, Times, Told, Upload, Who, [], abort_fits, actor_begins, after_check_so, and-false, answer, ap, apply, apply_at, arith, asks, at_event, at_id, at_key, attempt_sends, begin, begins, begins_commit, begins_write, below, bucket_of, changed_paths, check_plain, check_reads, clean_asks, clean_begun, clean_of_so, cluster_prefix, commit_drives, commit_of_so, commit_start, commit_with, driver_entry, driver_sends, driving_keeps, effect, empty_none, ends, entry, false, false_true, filed_keeps, first_stand, fits_start, frame, fresh, hidden_shows, inl, inr, is_begun, is_bucket, is_done, is_effective, is_just_set, is_marking, is_own, is_picking, is_set, key_magic, known, nat_cmp, new_bucket, no_success, none_or_some, none_some, not, nothing_learnt, nothing_told, only_reads, operation_paths, put_who, reads_drive, reads_leave, record_reads, refl, run_begins, same_or_another, same_or_other, saw, see, setup_after, setup_alone, setup_asks, setup_beside, setup_done, setup_goes, setup_no_file, setup_start, shown_key, some_dest, some_is, sparing_goes, sparing_hides, sparing_keeps, step, still_none, strange_entry, strange_no_file, strays, subst, success_key, sym, tell_attempt, tell_driver, tells, text_here, text_other, true, view, who, who_here, who_other, with_attempt, with_commit, with_driver, ℕ, ◌&&◌, ◌++◌, ◌<◌, ◌^◌, ◌||◌, ◌∙◌, ◌∷◌, ◌≡◌, ◌≤◌, ◌⊎◌}
 use Rattle.store_frame.specs.Prelude.{upload_in}
 use Rattle.std.specs.FinMap as fin
-use Rattle.s3_types.specs.Store.{opening as opening_scene}
 use Rattle.s3_types.specs.Answer.{made}
 use Rattle.job_model.specs.declared.ends.SetupEnd.TheVariants as setups
 use Rattle.job_protocol.specs.Cleanups as cleanups
@@ -19,9 +18,10 @@ use Rattle.job_traces.proofs.Folds.{DriverKeeps, each_run, driven}
 use Rattle.job_traces.proofs.Plain.{one_scene, plain_picks, closed_picks, plain_mark, driver_last, driver_begun, setup_plain, clean_plain}
 use Rattle.job_traces.proofs.Keeping.{kept_next, at_beside, shows_beside, other_fits, other_known, commit_starts, commit_shows}
 use Rattle.job_protocol.specs.Rechecks.{Check, check_after}
-use Rattle.job_protocol.specs.Sparing.{Sparing, sparing_asks, sparing_after, record_request}
+use Rattle.job_protocol.specs.Sparing.{Sparing, sparing_asks, record_request}
 use Rattle.job_protocol.specs.Sparing as sparing
 use Rattle.job_facts.proofs.Staged.{remove_drops}
+use Rattle.s3_types.specs.Store.{opening as opening_scene}
 
 -- who has just set up has set up
 pub just_set : (d : Option Operation) → is_just_set d ≡ true → is_set d ≡ true

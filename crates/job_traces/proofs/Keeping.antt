@@ -1,5 +1,5 @@
 -- What holds of a run's stand is kept by every step of the run.
-use Rattle.job_traces.proofs.Common.{Agrees, Answered, Between, Bool, Commit, CommitOver, Content, Deleting, EmptiesBy, Entry, FileStands, Fits, FitsAbort, FitsCommit, FitsWrite, HasBucket, HidesAll, Hold, IsLegal, Kept, List, Listing, Marking, None, OnlyThose, Operation, Option, Outcome, Picks, Replacing, ReplyLost, Request, Same, Scene, Script, Seen, Setting, Some, SuccessPlace, Sweep, TheCheck, TheClean, TheCommit, TheSetup, TheSparing, TheTaskAbort, TheTaskCommit, TheWrite, Times, Told, Turns, Who, Whole, [], agrees_start, ap, arith, asks, at_key, begins, below, beside, commit_start, d_start, decides_beside, entry, false, false_true, files_begin, hidden_shows, inl, inr, is_file_path, is_no_magic, is_some, job_commit_begins, key_magic, known, learn, magic_prefix, no_magic, picks_of, refl, replaced_under, see, shown_key, some_dest, sparing_still, subst, success_key, sym, tabled_start, tell_attempt, true, true_or_false, turns_start, view, who_other, ℕ, ◌&&◌, ◌∙◌, ◌∷◌, ◌≡◌}
+use Rattle.job_traces.proofs.Common.{Agrees, Answered, Between, Bool, Commit, CommitOver, Content, Deleting, EmptiesBy, Entry, FileStands, Fits, FitsAbort, FitsCommit, FitsWrite, HasBucket, HidesAll, Hold, IsLegal, Kept, List, Listing, Marking, None, OnlyThose, Operation, Option, Outcome, Picks, Replacing, ReplyLost, Request, Same, Scene, Script, Seen, Setting, Some, SuccessPlace, Sweep, TheCheck, TheClean, TheCommit, TheSparing, TheTaskAbort, TheTaskCommit, TheWrite, Times, Told, Who, Whole, [], agrees_start, ap, arith, asks, at_key, begins, below, beside, commit_start, d_start, decides_beside, entry, false, false_true, files_begin, hidden_shows, inl, inr, is_file_path, is_no_magic, is_some, job_commit_begins, key_magic, known, magic_prefix, no_magic, picks_of, refl, replaced_under, see, shown_key, some_dest, sparing_still, subst, success_key, sym, tabled_start, tell_attempt, true, true_or_false, turns_start, view, who_other, ℕ, ◌&&◌, ◌∙◌, ◌∷◌, ◌≡◌, TheSetup}
 use Rattle.job_model.specs.declared.ends.CommitEnd.TheVariants as commits
 use Rattle.job_model.specs.declared.ends.Stage.TheVariants as stages
 use Rattle.job_traces.proofs.Replacing.{empty_enter, others_enter, start_replaces}

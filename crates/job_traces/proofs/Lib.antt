@@ -1,3 +1,4 @@
+pub mod Learnt
 pub mod Lists
 pub mod Leads
 pub mod Folds

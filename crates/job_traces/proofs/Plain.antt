@@ -1,6 +1,5 @@
 -- What is seen of one more entry: its scene, and that one which reads no set leaves the picks and one which puts no marker leaves the marker.
-use Rattle.job_traces.proofs.Common.{Actor, Answered, Attempt, Bool, Clean, CleanOver, Commit, CommitOver, Decides, Deleting, Driver, Entry, Fetching, List, Listing, Outcome, Plain, Replacing, Request, RequestLost, Reverting, Script, Seen, Setup, SetupOver, Shell, Slow, Some, Sweep, Sweeping, Times, Told, and-false, ap, arith, clean_asks, commit_asks, cond, driver_entry, effect, false, false_true, inl, inr, is_begun, is_marking, is_picking, is_reading, or-false, refl, see, setup_asks, some_is, subst, sweep_asks, sym, true, ℕ, ◌&&◌, ◌||◌, ◌∙◌, ◌≡◌}
-use Rattle.job_protocol.specs.Cleanups as cleanups
+use Rattle.job_traces.proofs.Common.{Bool, Clean, Commit, CommitOver, Decides, Driver, Entry, Fetching, List, Outcome, Plain, Replacing, Request, Reverting, Script, Seen, Setup, Some, Sweep, Times, Told, and-false, ap, arith, clean_asks, commit_asks, driver_entry, effect, false, false_true, inl, inr, is_begun, is_marking, is_picking, is_reading, refl, see, setup_asks, some_is, sweep_asks, sym, true, ℕ, ◌||◌, ◌∙◌, ◌≡◌}
 
 pub one_scene : (w : Script) (k : Times) (s : Seen) (e : Entry) → (see w k s e).scene ≡ effect s.scene e.request e.outcome
 one_scene w k s e = grind arith

@@ -1,5 +1,5 @@
 -- In a run, until the driver cleans up, an attempt's commit that is done has published its own set.
-use Rattle.job_traces.proofs.Common.{BeginAbort, BeginClean, BeginCommit, BeginPublish, BeginSetup, BeginWrite, Bool, Closed, Commit, CommitStandsBy, Content, Driver, Entry, Fits, IsHonestOutcome, IsLegal, IsOpening, IsTimely, List, None, Operation, Outcome, Request, Reverts, Runs, Script, Seen, Setting, Some, Stand, TaskCommitOver, TheCheck, TheCommit, TheSetup, TheTaskAbort, TheTaskCommit, TheWrite, Times, WasPublished, Who, WriteStands, [], after_all, after_check_so, answer, ap, arith, asks, attempt_closes, attempt_reverts, check_plain, check_reads, clean_begun, clean_closes, clean_of_so, commit_closes, commit_drives, commit_of_so, driver_closes, driver_entry, entry, false, false_true, false≢true, fresh, inl, inr, is_begun, is_effective, is_publishing, known, length, none_some, nothing_learnt, put_at, reads_drive, refl, reverts_start, see, setup_after, setup_asks, slice_get_within, slice_last, some_is, step, strange_entry, subst, sym, take-append-le, task_abort_start, task_commit_start, tells, true, who, with_attempt, write_start, ℕ, ◌++◌, ◌<◌, ◌∙◌, ◌∷◌, ◌≡◌, ◌≤◌}
+use Rattle.job_traces.proofs.Common.{BeginAbort, BeginClean, BeginCommit, BeginPublish, BeginSetup, BeginWrite, Bool, Closed, Commit, CommitStandsBy, Content, Driver, Entry, Fits, IsHonestOutcome, IsLegal, IsOpening, IsTimely, List, None, Operation, Outcome, Request, Reverts, Runs, Script, Seen, Setting, Some, Stand, TaskCommitOver, TheCheck, TheCommit, TheSetup, TheTaskAbort, TheTaskCommit, TheWrite, Times, WasPublished, Who, WriteStands, [], after_check_so, answer, ap, arith, asks, attempt_closes, attempt_reverts, check_plain, check_reads, clean_begun, clean_closes, clean_of_so, commit_closes, commit_drives, commit_of_so, driver_closes, driver_entry, entry, false, false_true, false≢true, fresh, inl, inr, is_begun, is_effective, is_publishing, known, length, none_some, nothing_learnt, put_at, reads_drive, refl, reverts_start, see, setup_after, setup_asks, slice_get_within, slice_last, some_is, step, strange_entry, subst, sym, take-append-le, task_abort_start, task_commit_start, tells, true, who, with_attempt, write_start, ℕ, ◌++◌, ◌∙◌, ◌∷◌, ◌≡◌, ◌≤◌}
 use Rattle.job_model.specs.declared.ends.TaskEnd.TheVariants as tasks
 use Rattle.job_facts.proofs.Remaining.{Stood, write_kept, commit_kept_by, other_stood, driver_stood, strange_stood, write_stands, commit_stands}
 use Rattle.job_facts.proofs.Remaining as remaining
@@ -8,7 +8,6 @@ use Rattle.job_traces.proofs.EveryRun.{good, cleans_is, late, put_each}
 use Rattle.job_traces.proofs.Folds.{BeginKeeps, DriverKeeps, AttemptKeeps, StrangerKeeps, each_run, commit_is, driven}
 use Rattle.job_traces.proofs.Changes.{earlier, moment_scene}
 use Rattle.job_traces.proofs.Lists.{slice_front}
-use Rattle.s3_types.specs.Store.{opening as opening_scene}
 use Rattle.job_traces.proofs.Plain.{setup_plain}
 
 -- what was published is so in a longer journal

@@ -1,5 +1,5 @@
 -- How far a replace mode has come with what it does not keep, and what becomes of paths that are not wanted.
-use Rattle.job_traces.proofs.Common.{AgreeBelow, Agrees, AllUnder, Commit, Content, DeleteObjects, Deleting, HasBucket, IsIn, IsLegal, List, Listing, None, OnlyThose, Option, Outcome, Picks, Request, RequestLost, Scene, Script, Sets, Setting, Slow, Some, Sweep, SweepsUnder, [], and_parts, ap, append_assoc, apply, arith, at_key, begins, begins_behind, begins_through, below, below_is, codes, commit_start, commit_tells, cond, dest_prefix, effect, false_true, false≢true, frame, in_or_not, inl, inr, is_file_path, is_folder, is_lt, is_no_magic, keeps, keeps_of, none_or_some, none_some, not, page_after, partitions, paths_of, picks_of, refl, replaced, same_or_other, same_wanted, some_dest, subst, sweep_asks, sweep_start, sym, take, taken_in, text_cmp, true, true_or_false, unkept_prefix, ℕ, ◌&&◌, ◌++◌, ◌∙◌, ◌∷◌, ◌≡◌, ◌⊎◌}
+use Rattle.job_traces.proofs.Common.{AgreeBelow, Agrees, AllUnder, Commit, Content, DeleteObjects, Deleting, HasBucket, IsIn, IsLegal, List, Listing, None, OnlyThose, Option, Outcome, Picks, Request, Scene, Script, Sets, Setting, Some, Sweep, SweepsUnder, [], and_parts, ap, append_assoc, apply, arith, at_key, begins, begins_behind, below, below_is, codes, commit_start, commit_tells, cond, dest_prefix, effect, false_true, false≢true, frame, in_or_not, inl, inr, is_file_path, is_folder, is_lt, is_no_magic, keeps, keeps_of, none_or_some, none_some, not, page_after, partitions, paths_of, picks_of, refl, replaced, same_wanted, some_dest, subst, sweep_asks, sweep_start, sym, take, taken_in, text_cmp, true, true_or_false, unkept_prefix, ℕ, ◌&&◌, ◌++◌, ◌∙◌, ◌∷◌, ◌≡◌, ◌⊎◌}
 use Rattle.std.specs.Prelude.{bytes_eq}
 use Rattle.store_frame.proofs.Reading.{reads_nothing}
 use Rattle.job_facts.proofs.Effects.{deleted_or_not}

@@ -1,5 +1,5 @@
 -- What holds of a run's stand: before its set-up is done, while its commit goes on, and while it cleans up. How far the job has come no stranger can change; what a reader is shown is told of a run among no strangers.
-use Rattle.job_traces.proofs.Common.{Agrees, Bool, Commit, CommitEnd, CommitOver, Completing, Content, Decides, EmptiesBy, Entry, Fetching, FileStands, Filed, Fits, FitsClean, FitsJobCommit, FitsSparing, Gone, Hold, IsAttempt, IsBefore, IsIn, IsLegal, Kept, List, Marking, NoClusterFile, NoDeletionWorn, None, NoneEnded, Object, OnlyOpening, OnlyThose, Operation, Option, Picks, Replacing, Retried, Reverting, Same, Script, Seen, Sets, SetsUp, Setting, Setup, SetupOver, Some, Stand, Sweep, SweepsUnder, Tabled, TheCheck, TheClean, TheCommit, TheSetup, TheSparing, Told, Turns, Upload, Wants, Who, Whole, [], and_parts, ap, arith, at_id, at_key, below, cond, decided_so, done, false, false_true, inl, inr, is_clash, is_decided, is_file_path, is_marked, is_no_magic, is_picked, is_untouched, keeps_of, known, lookup, mark_text, none_or_some, none_some, not, not-true, nothing_told, option_map, or_else, picks_of, refl, replaced, same_wanted, success_key, sym, text_eq, true, true_or_false, view, wanted_at, wanted_of, whole_of, ℕ, ◌++◌, ◌<◌, ◌∙◌, ◌∷◌, ◌≡◌, ◌⊎◌}
+use Rattle.job_traces.proofs.Common.{Agrees, Bool, Commit, CommitEnd, CommitOver, Completing, Content, Decides, EmptiesBy, Entry, Fetching, FileStands, Filed, Fits, FitsClean, FitsJobCommit, FitsSparing, Gone, Hold, IsAttempt, IsBefore, IsIn, IsLegal, Kept, List, Marking, NoClusterFile, NoDeletionWorn, None, NoneEnded, Object, OnlyOpening, OnlyThose, Operation, Option, Picks, Replacing, Retried, Reverting, Same, Script, Seen, Sets, SetsUp, Setting, Setup, SetupOver, Some, Stand, Sweep, SweepsUnder, Tabled, TheCheck, TheClean, TheCommit, TheSetup, TheSparing, Told, Turns, Upload, Wants, Who, Whole, [], and_parts, ap, arith, at_id, at_key, below, cond, decided_so, done, false, false_true, inl, inr, is_decided, is_file_path, is_marked, is_no_magic, is_untouched, keeps_of, known, mark_text, none_or_some, none_some, not-true, nothing_told, option_map, or_else, picks_of, refl, replaced, same_wanted, success_key, sym, true, true_or_false, view, wanted_at, wanted_of, whole_of, ℕ, ◌++◌, ◌<◌, ◌∙◌, ◌∷◌, ◌≡◌, ◌⊎◌}
 use Rattle.job_model.specs.declared.ends.CommitEnd.TheVariants as commits
 use Rattle.job_model.specs.declared.ends.Stage.TheVariants as stages
 use Rattle.job_model.specs.declared.ends.SetupEnd.TheVariants as setups

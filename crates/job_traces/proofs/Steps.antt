@@ -1,5 +1,5 @@
 -- Each step of a run keeps what holds of its stand.
-use Rattle.job_traces.proofs.Common.{AgreeBelow, Agrees, AllUnder, Answered, Bool, Commit, CommitOver, Commits, Committer, Completing, Content, Decides, EmptiesBy, Entry, Fetching, FileStands, FitsJobCommit, Gone, HasBucket, HidesAll, Hold, IsHonestOutcome, IsIn, IsLegal, IsRead, List, Magic, Marking, None, Object, OnlyThose, Option, Outcome, Picks, PutObject, Replacing, Reply, ReplyLost, Request, Reverting, Scene, Script, Seen, Sets, Setting, Some, Sweep, Table, Tabled, Times, Told, Wants, [], agrees_tells, all_commits, answer, ap, append_assoc, apply, arith, at_event, at_key, begins, below, changed_keys, commit_asks, commit_fits, commit_tells, commit_turns, decides_goes, dest_prefix, driver_entry, effect, false, false_true, fetched, files_go, in_append, in_back, inl, inr, is_begun, is_file_path, is_marking, is_no_magic, is_picking, keeps_of, length, magic_prefix, mark_text, no_success, none_or_some, none_some, not, nth, or-true, picks_by, picks_of, prefix_unkept, refl, replaced, replaced_under, same_mark, see, set_read, set_request, some_is, stranger_same, subst, success_key, sweep_asks, sweep_hears, sym, tabled_tells, tell_driver, true, upload_wanted, wanted_at, ℕ, ◌&&◌, ◌++◌, ◌<◌, ◌^◌, ◌||◌, ◌∙◌, ◌∷◌, ◌≡◌, ◌≤◌}
+use Rattle.job_traces.proofs.Common.{AgreeBelow, Agrees, AllUnder, Answered, Bool, Commit, CommitOver, Commits, Committer, Completing, Content, Decides, EmptiesBy, Entry, Fetching, FileStands, FitsJobCommit, Gone, HasBucket, HidesAll, Hold, IsHonestOutcome, IsIn, IsLegal, IsRead, List, Marking, None, Object, OnlyThose, Option, Outcome, Picks, PutObject, Replacing, Reply, Request, Reverting, Scene, Script, Seen, Sets, Setting, Some, Sweep, Table, Tabled, Times, Told, Wants, [], agrees_tells, all_commits, answer, ap, append_assoc, apply, arith, at_event, at_key, begins, below, changed_keys, commit_asks, commit_fits, commit_tells, commit_turns, decides_goes, dest_prefix, driver_entry, effect, false, false_true, fetched, files_go, in_append, in_back, inl, inr, is_begun, is_file_path, is_marking, is_no_magic, is_picking, keeps_of, length, magic_prefix, mark_text, no_success, none_or_some, none_some, not, nth, or-true, picks_by, picks_of, prefix_unkept, refl, replaced, replaced_under, same_mark, see, set_read, set_request, some_is, stranger_same, subst, success_key, sweep_asks, sweep_hears, sym, tabled_tells, tell_driver, true, upload_wanted, wanted_at, ℕ, ◌&&◌, ◌++◌, ◌<◌, ◌^◌, ◌||◌, ◌∙◌, ◌∷◌, ◌≡◌, ◌≤◌}
 use Rattle.job_facts.proofs.Placed.{one_key}
 use Rattle.job_facts.proofs.Shapes.{puts}
 use Rattle.job_facts.proofs.Held.{nth_of}

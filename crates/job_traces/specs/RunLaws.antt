@@ -1,10 +1,18 @@
 -- The laws of whole runs: what a reader of the destination may rely on, at each of their moments.
-use Rattle.std.specs.Prelude.{◌≡◌, ℕ, ◌≤◌, Bool, true, false, List, length, Some}
-use Rattle.job_facts.specs.Prelude.{Content, moment, Entry, IsLegal, CommitEnd, view, Who, TaskCommitOver, CommitOver, Setting, TheTaskCommit, TheCommit, ZeroRename, AreOwn, SameOutside, Same, Always, WasPublished, is_untouched, NoDeletionWorn, OnlyOpening, nothing_seen, see_all, nothing_told, tell_all, Hold, Times}
+use Rattle.std.specs.Prelude.{Bool, List, Option, Some, false, length, true, ℕ, ◌≡◌, ◌≤◌}
+use Rattle.job_facts.specs.Prelude.{CommitEnd, CommitOver, Content, Entry, Hold, IsLegal, Same, SameOutside, Setting, TaskCommitOver, TheCommit, TheTaskCommit, Times, Who, actor_of, known, knows, moment, nothing_seen, nothing_told, see_all, tell_all, view}
+use Rattle.job_spec.specs.Prelude.{Always, AreOwn, NoDeletionWorn, Script, WasPublished, ZeroRename, by_actor, has_cleaned}
+use Rattle.job_traces.specs.Runs.{IsOpening, Runs, Stand, is_set}
+use Rattle.job_spec.specs.OperationEnds.{OnlyOpening}
+use Rattle.job_protocol.specs.JobCommits.{is_untouched}
 use Rattle.job_model.specs.declared.ends.CommitEnd.TheVariants as commits
 use Rattle.job_model.specs.declared.ends.Stage.TheVariants as stages
 use Rattle.job_model.specs.declared.ends.TaskEnd.TheVariants as tasks
-use Rattle.job_traces.specs.Runs.{Stand, Runs, IsOpening, is_set}
+
+-- what is told of an attempt is what the attempt knows by its own entries, and of a clean that its event has begun
+pub record ToldIsSaid : Type 0 where
+  pub known : (w : Script) (c : Option ℕ) (a : Who) (es : List Entry) → known (tell_all w (nothing_told c) es) a ≡ knows w a (by_actor (actor_of a) es)
+  pub cleaned : (w : Script) (c : Option ℕ) (es : List Entry) → (tell_all w (nothing_told c) es).cleaned ≡ has_cleaned c es
 
 -- a run of a job, of every committer and mode, whose operations send what they ask and hear what is answered, in any order of its actors, among strangers that leave its own alone; what a reader is shown is told where none of them sends
 pub record RunsKeep (g : Setting) (k : Times) (opening : Content) (es : List Entry) (x : Stand) : Type 0 where

@@ -1,8 +1,8 @@
 -- What requests leave of a content that an image can have.
-use Rattle.journal_log.proofs.Common.{AbortUpload, AllByRecursion, Bool, BucketContent, CompleteUpload, Content, CopyObject, CreateUpload, DeleteObject, DeleteObjects, Entry, Err, IsBucket, IsContent, IsMade, IsObject, IsTotalOrder, KeepsImages, Less, List, MOST_ENTRIES, MakeBucket, NamedPart, None, Object, Objects, Ok, Option, Ordering, PutObject, Request, Some, T, Upload, UploadPart, Uploads, [], aborted, and_parts, ap, apply_at, apply_in, apply_store, arith, bucket_of, changes, completed, cond, content_after, copied, draws, drop, entries_sorted, eq_by_cmp, eq_by_cmp_equiv, false, find, inl, inr, is_bucket, is_eq, is_key, is_lt, is_part_number, joined, le-leb, leb-true, length, live, moment, nat_cmp_total, nat_le, nat_lt, nat_tests, new_bucket, new_content, none_or_some, none_some, part_put, refl, some_is, subst, sym, take, take-append-drop, take_all, text_eq, text_exact, text_is, text_total, true, true_or_false, with_part, without, ℕ, ◌&&◌, ◌++◌, ◌+◌, ◌^◌, ◌∙◌, ◌∷◌, ◌≡◌, ◌≤◌}
+use Rattle.journal_log.proofs.Common.{AbortUpload, AllByRecursion, Bool, BucketContent, CompleteUpload, Content, CopyObject, CreateUpload, DeleteObject, DeleteObjects, Entry, Err, IsBucket, IsContent, IsMade, IsObject, IsTotalOrder, KeepsImages, List, MOST_ENTRIES, MakeBucket, NamedPart, None, Object, Objects, Ok, Option, Ordering, PutObject, Request, Some, T, Upload, UploadPart, Uploads, [], aborted, and_parts, ap, apply_at, apply_in, apply_store, arith, bucket_of, changes, completed, cond, content_after, copied, draws, drop, entries_sorted, eq_by_cmp, eq_by_cmp_equiv, false, find, inl, inr, is_bucket, is_eq, is_key, is_lt, is_part_number, joined, le-leb, leb-true, length, live, moment, nat_cmp_total, nat_le, nat_lt, nat_tests, new_bucket, new_content, none_or_some, none_some, part_put, refl, some_is, subst, sym, take, take-append-drop, take_all, text_eq, text_exact, text_is, text_total, true, true_or_false, with_part, without, ℕ, ◌&&◌, ◌++◌, ◌+◌, ◌^◌, ◌∙◌, ◌∷◌, ◌≡◌, ◌≤◌}
 use Rattle.s3_types.specs.Prelude.{below_all, is_sorted}
 use Rattle.std.specs.FinMap as fin
-use Rattle.proof_base.proofs.Tree.{tied, entries_empty}
+use Rattle.basics.proofs.Tree.{tied, entries_empty}
 use Rattle.s3_types.specs.Answer.{made}
 use Rattle.store_image.specs.Content.{is_minimum, is_counter, is_id, IsEntry, AreEntries, IsPart, IsUpload}
 use Rattle.journal_log.proofs.Journals.{folded, changes_append, content_append}

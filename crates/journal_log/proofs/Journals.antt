@@ -1,5 +1,5 @@
 -- The changes of journals, and what they make of a content.
-use Rattle.journal_log.proofs.Common.{Begins, Bool, ClusterDelete, ClusterPut, ClusterRename, Content, Entry, List, MakeBucket, Outcome, Request, RequestLost, Scene, Slow, [], after_all, ap, apply, apply_store, arith, cond, content_after, effect, false, filter, filter-append, inl, inr, is_changing, is_effective, length, map, map-append, moment, opening, refl, suc, sym, take, true, true_or_false, ℕ, ◌++◌, ◌∙◌, ◌∷◌, ◌≡◌, ◌≤◌, ◌⊎◌}
+use Rattle.journal_log.proofs.Common.{Begins, Bool, Content, Entry, List, Outcome, Request, Scene, [], after_all, ap, apply, apply_store, arith, cond, content_after, effect, false, filter, filter-append, inl, inr, is_changing, is_effective, length, map, map-append, moment, opening, refl, suc, sym, take, true, ℕ, ◌++◌, ◌∙◌, ◌∷◌, ◌≡◌, ◌≤◌, ◌⊎◌}
 use Rattle.store_frame.proofs.Reading.{reads_nothing}
 use Rattle.journal_log.specs.Changes.{changes}
 

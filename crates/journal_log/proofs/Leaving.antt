@@ -1,5 +1,5 @@
 -- How what crashes leave goes on from one call to the next.
-use Rattle.journal_log.proofs.Common.{Begins, Content, CrashesLeave, Entry, Holding, Holds, HoldsGrownBy, HoldsSome, IsBeforeOrAfter, IsBetween, IsDurable, IsMoment, IsTimed, List, None, Option, Request, Sight, Some, Stored, WhereTold, [], ap, arith, changes, fresh, grown_by, image, inl, inr, refl, subst, sym, ⊎_elim, ◌++◌, ◌∙◌, ◌∷◌, ◌≡◌, ◌⊎◌}
+use Rattle.journal_log.proofs.Common.{Begins, Content, CrashesLeave, Entry, Holding, Holds, HoldsGrownBy, HoldsSome, IsBeforeOrAfter, IsBetween, IsDurable, IsMoment, IsTimed, List, None, Option, Request, Sight, Some, Stored, WhereTold, [], arith, changes, fresh, image, inl, inr, refl, subst, sym, ⊎_elim, ◌++◌, ◌∙◌, ◌∷◌, ◌≡◌, ◌⊎◌}
 use Rattle.journal_log.specs.Crashes.{IsAppended, AreAppended}
 use Rattle.journal_log.proofs.Standing.{begins_all, begins_more, begins_longer, grown_none, grown_one, grown_then, holds_one, some, longer, between}
 

@@ -1,5 +1,5 @@
 -- What a call of `replace` leaves of a shelf.
-use Rattle.journal_log.proofs.Common.{Content, CrashesLeave, Err, Failed, Holds, HoldsFresh, IsDurable, IsErrOf, IsTimed, List, NoMemory, None, NotReplaced, Ok, Option, Replaced, Result, Rose, ShelfStop, Sight, Some, Stored, [], ap, arith, fresh, image, inl, inr, refl, subst, ℕ, ◌-◌, ◌<◌, ◌^◌, ◌∙◌, ◌≡◌, ◌⊎◌}
+use Rattle.journal_log.proofs.Common.{Content, CrashesLeave, Failed, Holds, HoldsFresh, IsDurable, IsErrOf, IsTimed, List, NotReplaced, Option, Replaced, Result, Rose, ShelfStop, Sight, Stored, [], arith, fresh, image, inl, refl, subst, ℕ, ◌-◌, ◌<◌, ◌^◌, ◌≡◌, ◌⊎◌}
 use Rattle.journal_log.proofs.Leaving.{started}
 use Rattle.journal_log.specs.Images.{Counts}
 

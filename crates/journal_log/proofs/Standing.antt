@@ -1,7 +1,7 @@
 -- What a shelf stands for that holds changes of a run.
 use Rattle.journal_log.proofs.Common.{AllByRecursion, Begins, Content, Entry, HasEarlier, Holding, Holds, HoldsGrown, HoldsGrownBy, HoldsPart, HoldsSome, IsBetween, IsContent, IsDurable, IsLast, IsMoment, List, None, Option, Request, Some, StandsFor, Stored, WhereTold, [], after_all, ap, append-nil, append_assoc, arith, changes, content_after, grown, grown_by, inl, inr, kept, length, length-append, moment, opening, refl, subst, sym, take, take-append-le, take_all, ℕ, ◌++◌, ◌<◌, ◌^◌, ◌∙◌, ◌∷◌, ◌≡◌, ◌⊎◌}
 use Rattle.log_format.specs.declared.held.Held.{Held}
-use Rattle.shelf.specs.Logged.Holding.{Nothing, Stands}
+use Rattle.shelf.specs.Logged.Holding.{Stands}
 use Rattle.store_image.proofs.Whole as images
 use Rattle.journal_log.specs.Kept.{Unfolds, last_event}
 use Rattle.journal_log.proofs.Journals.{changes_append, cut, folded}

@@ -1,5 +1,5 @@
 -- How a run of appends goes on by one entry.
-use Rattle.journal_log.proofs.Common.{Appended, AreAnswered, CrashesLeave, Entry, Err, Failed, HoldsGrown, HoldsGrownBy, HoldsOneOf, HoldsSome, IfErr, IsBetween, IsDurable, IsErrOf, IsTimed, List, NoMemory, Ok, OnOk, Request, Result, ShelfStop, Sight, Stopped, Stops, [], ap, append_assoc, arith, changes, drop, get_or, inl, inr, length, length-drop, refl, subst, sym, take, take-append-drop, take_all, take_more, told, ℕ, ◌++◌, ◌+◌, ◌-◌, ◌<◌, ◌∙◌, ◌∷◌, ◌≡◌, ◌⊎◌}
+use Rattle.journal_log.proofs.Common.{Appended, AreAnswered, CrashesLeave, Entry, Failed, HoldsGrown, HoldsGrownBy, HoldsOneOf, HoldsSome, IfErr, IsBetween, IsDurable, IsErrOf, IsTimed, List, NoMemory, OnOk, Request, Result, ShelfStop, Sight, Stopped, Stops, [], ap, append_assoc, arith, changes, drop, get_or, inl, inr, length, length-drop, refl, subst, sym, take, take-append-drop, take_all, take_more, told, ℕ, ◌++◌, ◌+◌, ◌-◌, ◌<◌, ◌∙◌, ◌∷◌, ◌≡◌}
 use Rattle.journal_log.proofs.Journals.{changes_append, changes_none}
 use Rattle.journal_log.proofs.Standing.{holds_none, holds_one, holds_then}
 use Rattle.journal_log.proofs.Leaving.{at_first, so_far, started, widened, goes_on}

@@ -1,9 +1,9 @@
 -- What comes of putting the image of a store in place of what a shelf holds.
-use Rattle.std.specs.Prelude.{◌≡◌, ◌⊎◌, ℕ, ◌<◌, [], Result, Ok, Err}
+use Rattle.std.specs.Prelude.{◌≡◌, ◌⊎◌, ℕ, ◌<◌, [], Result, Err}
 use Rattle.store_frame.specs.Prelude.{Content}
 use Rattle.shelf.specs.Logged.{fresh, IsDurable, Sight, CrashesLeave}
 use Rattle.shelf.specs.declared.kept.ShelfStop.{ShelfStop}
-use Rattle.shelf.specs.declared.kept.ShelfStop.TheVariants.{Failed, NoMemory}
+use Rattle.shelf.specs.declared.kept.ShelfStop.TheVariants.{Failed}
 use Rattle.store_image.specs.Image.{image}
 use Rattle.journal_log.specs.Kept.{Holds}
 
@@ -22,6 +22,5 @@ pub record NotReplaced {S : Type 0} (F : Sight S) (c : Content) (old new : S) : 
 
 -- a shelf's count of faults rose where it failed, and else stands
 abbrev pub Counts : {A : Type 0} → Result A ShelfStop → ℕ → ℕ → Type 0
-Counts (Ok x) before after = after ≡ before
 Counts (Err Failed) before after = before < after
-Counts (Err NoMemory) before after = after ≡ before
+Counts _ before after = after ≡ before

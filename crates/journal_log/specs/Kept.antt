@@ -17,9 +17,8 @@ pub record Unfolds (held : Held) (c : Content) : Type 0 where
 
 -- what a shelf holds stands for this content of a store
 abbrev pub StandsFor : Holding → Content → Type 0
-StandsFor Nothing c = ⊥
 StandsFor (Stands held) c = Unfolds held c
-StandsFor (BadAt place) c = ⊥
+StandsFor _ c = ⊥
 
 -- what is held stands for a moment of the run
 abbrev pub IsMoment : Content → List Entry → Holding → Type 0

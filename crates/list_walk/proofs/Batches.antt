@@ -1,5 +1,5 @@
 -- Batch after batch.
-use Rattle.list_walk.proofs.Common.{Bool, List, None, Reply, Some, [], ap, arith, below_is, below_not, deleting, deleting_from, drop, drop-drop, false, from_if, length, length-drop, nat_lt, next_from, refl, sweep_at, sweep_hears, sym, true, ℕ, ◌&&◌, ◌+◌, ◌-◌, ◌<◌, ◌∙◌, ◌∷◌, ◌≡◌, ◌≤◌}
+use Rattle.list_walk.proofs.Common.{Bool, List, None, Reply, Some, ap, arith, deleting, deleting_from, drop, drop-drop, false, from_if, length, length-drop, nat_lt, next_from, refl, sweep_at, sweep_hears, sym, true, ℕ, ◌&&◌, ◌+◌, ◌-◌, ◌<◌, ◌∙◌, ◌≡◌, ◌≤◌}
 
 hears_from : (goes : List ℕ → Bool) (r : Reply) (l : List (List ℕ)) → 0 < length l → sweep_hears goes (deleting_from l) r ≡ deleting (drop 1000 l)
 hears_from goes r l h = grind arith

@@ -1,7 +1,6 @@
 -- What the tests of replies say.
-use Rattle.list_walk.proofs.Common.{AreKeys, Bool, Decides, FitsPage, IsKey, List, Page, PageEntry, Prefix, Reply, [], ap, arith, is_key, list_all, refl, subst, sym, true≢false, ◌∙◌, ◌∷◌, ◌≡◌}
+use Rattle.list_walk.proofs.Common.{AreKeys, Bool, Decides, FitsPage, IsKey, List, Page, PageEntry, Reply, [], ap, arith, is_key, list_all, refl, subst, sym, ◌∙◌, ◌∷◌, ◌≡◌}
 use Rattle.std.proofs.lemmas.Bool.Decides.{Decides-at, Decides-and}
-use Rattle.s3_types.specs.declared.reply.PageEntry.TheVariants.{Object as Single}
 
 key_decides : (e : PageEntry) → Decides (is_key e) (IsKey e)
 key_decides e = grind arith

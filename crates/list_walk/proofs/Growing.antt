@@ -1,5 +1,5 @@
 -- What one request adds to what is there.
-use Rattle.list_walk.proofs.Common.{AbortUpload, BucketContent, ClusterDelete, ClusterGet, ClusterList, ClusterPut, ClusterRename, CompleteUpload, Content, CopyObject, CreateUpload, DeleteObject, DeleteObjects, Err, Files, Growth, List, MOST_ENTRIES, MakeBucket, None, Object, Objects, Ok, Option, PutObject, Request, Scene, Some, Upload, UploadPart, UploadRef, Uploads, [], aborted, adds_key, ap, apply, apply_at, apply_in, arith, begins, bucket_of, completed, cond, copied, count_in, entries_empty, eq_by_cmp, exact_bytes, false, files_left, filter, get-insert, in_bucket, inl, inr, is_bucket, is_part_number, joined, length, listed, live, nat_cmp, nat_cmp_total, nat_lt, new_bucket, one_if, part_put, ref_of, refl, renamed, sets_upload, text_cmp, text_total, tied, true, true_or_false, with_part, without, ℕ, ◌+◌, ◌∙◌, ◌∷◌, ◌≡◌, ◌≤◌}
+use Rattle.list_walk.proofs.Common.{BucketContent, ClusterDelete, ClusterGet, ClusterList, ClusterPut, ClusterRename, Content, Files, Growth, List, MakeBucket, None, Object, Objects, Option, Request, Scene, Some, Upload, UploadRef, Uploads, [], adds_key, ap, apply, apply_at, apply_in, arith, begins, bucket_of, cond, count_in, entries_empty, eq_by_cmp, exact_bytes, false, files_left, filter, get-insert, in_bucket, inl, inr, is_bucket, is_part_number, length, listed, nat_cmp, nat_cmp_total, new_bucket, one_if, part_put, ref_of, refl, renamed, sets_upload, text_cmp, text_total, tied, true, true_or_false, with_part, without, ℕ, ◌+◌, ◌∙◌, ◌∷◌, ◌≡◌, ◌≤◌}
 use Rattle.std.specs.FinMap as fin
 use Rattle.s3_types.specs.Answer.{made}
 use Rattle.s3_types.specs.Multipart as uploads

@@ -1,5 +1,5 @@
 -- Entries that are keys.
-use Rattle.list_walk.proofs.Common.{AreKeys, Bool, Err, IfOk, List, More, None, Object, Objects, Ok, Option, Page, PageEntry, Reply, Result, Some, Walked, Whole, [], ap, arith, begins, cond, entry_of, false, filter, folded_from, is_again, is_lt, keys_on, listed, map, map-append, refl, suc, sym, take, text_cmp, text_in, true, walked, walked_by, walked_entries, ℕ, ◌++◌, ◌∙◌, ◌∷◌, ◌≡◌}
+use Rattle.list_walk.proofs.Common.{AreKeys, Bool, Err, IfOk, List, More, None, Object, Objects, Ok, Option, PageEntry, Reply, Result, Some, Walked, Whole, [], ap, arith, begins, cond, entry_of, false, filter, folded_from, is_again, is_lt, keys_on, listed, map, map-append, refl, suc, take, text_cmp, text_in, true, walked, walked_by, walked_entries, ℕ, ◌++◌, ◌∙◌, ◌∷◌, ◌≡◌}
 use Rattle.std.specs.FinMap as fin
 
 pub are_keys : (es fs : List PageEntry) → AreKeys es → AreKeys fs → AreKeys (es ++ fs)

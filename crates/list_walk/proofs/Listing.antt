@@ -5,8 +5,8 @@ use Rattle.std.specs.FinMap as fin
 use Rattle.s3_types.specs.Multipart as uploads
 use Rattle.store_frame.specs.Walk.{walked}
 use Rattle.store_frame.proofs.Listed.{walked_listed, listed_behind}
-use Rattle.list_walk.specs.Left.{one_if as one}
 use Rattle.list_walk.proofs.Counting.{count, count_more, AreNew, count_made}
+use Rattle.list_walk.specs.Left.{one_if as one}
 
 -- ---- keys
 

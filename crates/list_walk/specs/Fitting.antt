@@ -1,8 +1,8 @@
 -- The replies that walks and sweeps are given where their bucket is there.
 use Rattle.std.specs.Prelude.{Bool, true, false, List}
 use Rattle.store_frame.specs.Prelude.{AllByRecursion, Reply, Page, Refused, NoSuchBucket, PageEntry, Prefix}
-use Rattle.s3_types.specs.declared.reply.PageEntry.TheVariants.{Object as Single}
 use Rattle.list_walk.specs.Walks.{Sweep, Listing, Deleting}
+use Rattle.s3_types.specs.declared.reply.PageEntry.TheVariants.{Object as Single}
 
 -- an entry of a page that is not folded
 abbrev pub IsKey : PageEntry → Type 0

@@ -1,5 +1,5 @@
 -- What is read of a change is spelled so, and what is spelled so is read.
-use Rattle.log_format.proofs.Common.{AbortUpload, AreBoth, AreFew, Bad, ClusterDelete, ClusterGet, ClusterList, ClusterPut, ClusterRename, CompleteUpload, CopyObject, CreateUpload, DeleteObject, DeleteObjects, Err, GetObject, HeadObject, IsAny, IsBelow, IsBucket, IsBytes, IsChange, IsKey, IsNamed, IsReader, IsTarget, IsText, IsUpload, List, ListPage, ListParts, ListUploads, LogFault, MakeBucket, None, Ok, Option, PutObject, Request, Result, Some, UploadPart, [], ap, append-nil, arith, block, body, cases_eq, counted, eqb, eqb-true, false, header, inl, inr, is_bucket, is_key, is_utf8, length, long, named, nat_tests, nil_from_length, parted, passed, refl, short, subst, suc, sym, target, upload, w32, w64, zero, ℕ, ◌++◌, ◌+◌, ◌<◌, ◌==◌, ◌^◌, ◌∙◌, ◌∷◌, ◌≡◌}
+use Rattle.log_format.proofs.Common.{AbortUpload, AreBoth, AreFew, Bad, CompleteUpload, CopyObject, CreateUpload, DeleteObject, DeleteObjects, Err, IsAny, IsBelow, IsBucket, IsBytes, IsChange, IsKey, IsNamed, IsReader, IsTarget, IsText, IsUpload, List, LogFault, MakeBucket, None, Ok, Option, PutObject, Request, Result, Some, UploadPart, [], ap, append-nil, arith, block, body, cases_eq, counted, eqb, eqb-true, false, header, inl, inr, is_bucket, is_key, is_utf8, length, long, named, nat_tests, nil_from_length, parted, passed, refl, short, subst, suc, sym, target, upload, w32, w64, zero, ℕ, ◌++◌, ◌+◌, ◌<◌, ◌==◌, ◌^◌, ◌∙◌, ◌∷◌, ◌≡◌}
 use Rattle.log_format.specs.Reading.{Read, byte_at, number_at, block_at, text_at, pair_at, counted_at, named_at, target_at, upload_at, header_in, row_of, make_bucket_in, put_object_in, delete_object_in, delete_objects_in, copy_object_in, create_upload_in, upload_part_in, complete_upload_in, abort_upload_in, kind_in, change_in}
 use Rattle.log_format.proofs.Steps.{byte_takes, byte_again, short_reader, long_reader, block_reader, text_reader, pair_reader, counted_reader, named_reader}
 

@@ -1,5 +1,5 @@
 -- What is read of a file is what it stands for, and what a file stands for is read.
-use Rattle.log_format.proofs.Common.{AllByRecursion, Bool, Err, IsBytes, IsBytes-drop, IsChange, List, LogFault, Ok, Request, Result, StandsFor, Takes, [], ap, append-nil, append_assoc, arith, block, body, bytes_eq-Decides, cases_eq, drop, drop_at, false, flat_map-cons, headed, if◌then◌else◌, inl, inr, length, length-append, long, magic, nat_tests, opened, parted, record_of, refl, same_ok, subst, suc, sym, take, take-append-drop, take_at, true, zero, ℕ, ◌++◌, ◌<◌, ◌==◌, ◌>>=◌, ◌^◌, ◌∙◌, ◌∷◌, ◌≡◌, ◌≢◌, ◌≤◌}
+use Rattle.log_format.proofs.Common.{AllByRecursion, Bool, Err, IsBytes, IsBytes-drop, IsChange, List, LogFault, Ok, Request, Result, StandsFor, Takes, [], ap, append-nil, append_assoc, arith, block, body, bytes_eq-Decides, cases_eq, drop, drop_at, false, flat_map-cons, headed, inl, inr, length, length-append, long, magic, nat_tests, opened, parted, record_of, refl, same_ok, subst, suc, sym, take, take-append-drop, take_at, true, zero, ℕ, ◌++◌, ◌<◌, ◌==◌, ◌>>=◌, ◌^◌, ◌∙◌, ◌∷◌, ◌≡◌, ◌≢◌, ◌≤◌, if◌then◌else◌}
 use Rattle.log_format.specs.declared.held.Held.{Held}
 use Rattle.log_format.specs.Reading.{place, byte_at, block_at, change_in, record_at, changes_at, logged_in, is_log, held_in}
 use Rattle.log_format.proofs.Steps.{byte_takes, byte_again, block_takes, block_again}

@@ -1,7 +1,7 @@
 -- One more value of a list that is read or written.
-use Rattle.log_format.proofs.Common.{AllByRecursion, Err, Fails, List, LogFault, Ok, Request, Result, [], ap, append-nil, append_assoc, arith, drop, drop_more, flat_map, flat_map-cons, get_or, if◌then◌else◌, length, refl, subst, suc, sym, wanting, ℕ, ◌++◌, ◌+◌, ◌-◌, ◌<◌, ◌==◌, ◌>>=◌, ◌∙◌, ◌∷◌, ◌≡◌, ◌≤◌}
-use Rattle.proof_base.specs.Reading.{made}
-use Rattle.proof_base.proofs.Reading.{unless_more, unmade, with_front, listed, one_more as next_value}
+use Rattle.log_format.proofs.Common.{AllByRecursion, Err, Fails, List, LogFault, Ok, Request, Result, [], ap, append-nil, append_assoc, arith, drop, drop_more, flat_map, flat_map-cons, get_or, length, refl, subst, suc, sym, wanting, ℕ, ◌++◌, ◌+◌, ◌-◌, ◌<◌, ◌==◌, ◌>>=◌, ◌∙◌, ◌∷◌, ◌≡◌, ◌≤◌, if◌then◌else◌}
+use Rattle.basics.specs.Reading.{made}
+use Rattle.basics.proofs.Reading.{unless_more, unmade, with_front, listed, one_more as next_value}
 use Rattle.log_format.specs.Reading.{Read, place, byte_at, list_at, record_at, changes_at}
 
 -- values that were read, and those that are read behind them

@@ -1,5 +1,5 @@
 -- Steps of reading: what a step took from the front, and that it reads again what was written.
-use Rattle.log_format.proofs.Common.{AllByRecursion, AreBoth, AreDigits, AreFew, Bad, Bool, IsAny, IsBelow, IsBytes, IsNamed, IsReader, IsWide, List, Ok, Takes, Takes-then, Width, [], ap, append_assoc, arith, block, byte_len, counted, false, flat_map, flat_map-cons, from_be_bytes, front_again, front_takes, is_hex, length, length-append, list_all, long, named, parted, passed, refl, same_ok, short, slice_index, subst, suc, sym, to_be_bytes, true, unmade, w32, w64, wide32, wide64, zero, ℕ, ◌++◌, ◌+◌, ◌<◌, ◌>>=◌, ◌^◌, ◌∙◌, ◌∷◌, ◌≡◌, ◌≤◌}
+use Rattle.log_format.proofs.Common.{AllByRecursion, AreBoth, AreDigits, AreFew, Bad, Bool, IsAny, IsBelow, IsBytes, IsNamed, IsReader, IsWide, List, Ok, Takes, Takes-then, Width, [], ap, append_assoc, arith, block, byte_len, counted, flat_map, flat_map-cons, from_be_bytes, front_again, front_takes, is_hex, length, length-append, list_all, long, named, parted, passed, refl, same_ok, short, slice_index, subst, suc, sym, to_be_bytes, true, unmade, w32, w64, wide32, wide64, zero, ℕ, ◌++◌, ◌+◌, ◌<◌, ◌>>=◌, ◌^◌, ◌∙◌, ◌∷◌, ◌≡◌}
 use Rattle.s3_types.specs.declared.request.NamedPart.{NamedPart}
 use Rattle.log_format.specs.Reading.{Read, bytes_at, byte_at, number_at, block_at, text_at, pair_at, list_at, counted_at, digits_at, named_of, named_at}
 
@@ -15,9 +15,8 @@ bytes_again at text rest = front_again (Bad at) text rest
 
 -- the only byte
 only_byte : (text : List ℕ) → length text ≡ 1 → text ≡ slice_index text 0 ∷ []
-only_byte [] e = absurd (omega arith)
 only_byte (b ∷ []) e = refl
-only_byte (b ∷ c ∷ bs) e = absurd (omega arith)
+only_byte _ e = absurd (omega arith)
 
 pub byte_takes : (at : ℕ) (bytes : List ℕ) (b : ℕ) (rest : List ℕ) → IsBytes bytes → byte_at at bytes ≡ Ok (b, rest) → Takes bytes (b ∷ []) rest
 unfolding byte_at

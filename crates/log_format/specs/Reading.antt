@@ -1,8 +1,8 @@
 -- Reading a file from left to right, with the first fault that is met. All faults within a record are told at one place, that of its length.
-use Rattle.std.specs.Prelude.{ℕ, ◌-◌, zero, suc, ◌==◌, nat_lt, Bool, if◌then◌else◌, List, [], ◌∷◌, length, take, drop, slice_index, bytes_eq, Option, Some, None, Result, Ok, Err}
+use Rattle.std.specs.Prelude.{ℕ, ◌-◌, zero, suc, ◌==◌, nat_lt, Bool, List, [], ◌∷◌, length, take, drop, slice_index, bytes_eq, Option, Some, None, Result, Ok, Err, if◌then◌else◌}
 use Rattle.s3_types.specs.Prelude.{Width, w32, w64, byte_len, from_be_bytes, list_all, is_utf8, ◌>>=◌, passing, is_bucket, is_key, is_hex}
-use Rattle.proof_base.specs.Reading as reading
-use Rattle.proof_base.specs.Reading.{made}
+use Rattle.basics.specs.Reading as reading
+use Rattle.basics.specs.Reading.{made}
 use Rattle.s3_types.specs.declared.request.NamedPart.{NamedPart}
 use Rattle.s3_types.specs.declared.request.Request.{Request}
 use Rattle.s3_types.specs.declared.request.Request.TheVariants.{MakeBucket, PutObject, DeleteObject, DeleteObjects, CopyObject, CreateUpload, UploadPart, CompleteUpload, AbortUpload}

@@ -1,6 +1,6 @@
 ghost use Rattle.std.specs.Prelude.{◌≡◌, ◌∷◌, ◌++◌, [], List, length, drop, Ok, Err, IfOk, IfSome, is_some};
-ghost use Rattle.proof_base.specs.Reading.{made};
-ghost use Rattle.proof_base.proofs.Reading.{with_front};
+ghost use Rattle.basics.specs.Reading.{made};
+ghost use Rattle.basics.proofs.Reading.{with_front};
 ghost use Rattle.log_format.specs.Fault.{Gives, GivesBy};
 ghost use Rattle.log_format.specs.File.{StandsFor};
 ghost use Rattle.log_format.specs.Reading.{record_at, changes_at, logged_in, is_log, base_length, held_in};

@@ -1,5 +1,5 @@
 -- What each sending keeps, a run of a machine that is alone keeps.
-use Rattle.machine.proofs.Common.{Answered, AreHonest, Bool, Entry, Follows, IsHonestOutcome, Item, List, Option, Outcome, ReplyLost, Request, RequestLost, Retried, Scene, Slow, Some, after_all, answer, apply, arith, effect, false, run, step, subst, suc, sym, true, unanswered_by, wants_of, zero, ℕ, ◌≡◌}
+use Rattle.machine.proofs.Common.{Answered, AreHonest, Bool, Entry, Follows, IsHonestOutcome, Item, List, Option, Outcome, ReplyLost, Request, RequestLost, Retried, Scene, Slow, Some, after_all, answer, apply, arith, effect, false, run, step, subst, sym, true, unanswered_by, wants_of, ℕ, ◌≡◌}
 use Rattle.machine.proofs.Keeping.{Keeps}
 use Rattle.machine.proofs.Runs.{run_keeps}
 

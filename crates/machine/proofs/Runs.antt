@@ -1,9 +1,9 @@
 -- A run goes on by one sending.
-use Rattle.machine.proofs.Common.{Actor, Answered, AreBy, AreForetold, AreHonest, Bool, Counted, Driving, Entry, Fate, Follows, Got, IsForetold, IsHonestOutcome, IsRun, IsSent, IsTrue, Item, Laws, List, Option, Outcome, Reply, ReplyLost, Request, RequestLost, Retried, Retrying, Scene, Slow, Some, Standing, WornOut, [], after_all, answer, ap, append_assoc, apply, arith, effect, false, has_worn, is_unanswered, is_zero, length, length-append, refl, retried, run, standing_after, step, subst, suc, sym, take, tells_worn, true, unanswered_by, wants_of, wears, zero, ℕ, ◌*◌, ◌++◌, ◌+◌, ◌<◌, ◌||◌, ◌∙◌, ◌∷◌, ◌≡◌, ◌≤◌}
+use Rattle.machine.proofs.Common.{Actor, Answered, AreBy, AreForetold, AreHonest, Bool, Counted, Driving, Entry, Fate, Follows, Got, IsForetold, IsHonestOutcome, IsRun, IsSent, IsTrue, Item, Laws, List, Option, Outcome, Reply, ReplyLost, Request, RequestLost, Retried, Retrying, Scene, Slow, Some, Standing, WornOut, [], after_all, answer, ap, append_assoc, apply, arith, effect, false, has_worn, is_unanswered, is_zero, length, length-append, refl, retried, run, standing_after, step, subst, suc, sym, tells_worn, true, unanswered_by, wears, zero, ℕ, ◌*◌, ◌++◌, ◌+◌, ◌<◌, ◌||◌, ◌∙◌, ◌∷◌, ◌≡◌, ◌≤◌}
 use Rattle.retries.proofs.Runs.{run_more, follows_more, has_worn_more}
-use Rattle.machine.specs.Turns.{turn_if, turn_of}
+use Rattle.machine.specs.Turns.{turn_of}
 use Rattle.machine.proofs.Counts.{counted_then}
-use Rattle.proof_base.proofs.Numbers.{more_times, no_more_times}
+use Rattle.basics.proofs.Naturals.{more_times, no_more_times}
 
 pub after_all_more : (s : Scene) (part : List Entry) (e : Entry) → after_all s (part ++ e ∷ []) ≡ effect (after_all s part) e.request e.outcome
 after_all_more s [] e = refl

@@ -1,6 +1,6 @@
 -- A machine under its retries as an operation of replies, and what its sendings are for it.
 use Rattle.std.specs.Prelude.{◌≡◌, ℕ, Bool, true, false, List, [], ◌∷◌}
-use Rattle.retries.specs.Prelude.{Actor, Reply, Outcome, Answered, Slow, RequestLost, ReplyLost, Entry, was_answered, Item, OutOfMemory, Retried, wears}
+use Rattle.retries.specs.Prelude.{Actor, Reply, Outcome, Answered, Entry, was_answered, Item, OutOfMemory, Retried, wears}
 use Rattle.machine.specs.declared.retrying.Retrying.{Retrying}
 use Rattle.machine.specs.declared.retrying.Turn.{Turn}
 use Rattle.machine.specs.declared.retrying.Turn.TheVariants.{Again, Moved, WornOut as Worn}
@@ -31,12 +31,9 @@ turn_of t o = turn_if (was_answered o) (wears t o)
 -- a request wore out with this sending
 abbrev pub tells_worn : Turn → Bool
 tells_worn Worn = true
-tells_worn Again = false
-tells_worn Moved = false
+tells_worn _ = false
 
 -- a reply that was given fits
 abbrev pub FitsOutcome : {M : Type 0} → (M → Reply → Bool → Type 0) → Retrying M → Outcome → Type 0
 FitsOutcome fits t (Answered r) = fits t.machine r t.repeated
-FitsOutcome fits t Slow = Unit {0}
-FitsOutcome fits t RequestLost = Unit {0}
-FitsOutcome fits t ReplyLost = Unit {0}
+FitsOutcome fits t _ = Unit {0}

@@ -1,7 +1,7 @@
 -- The elements of the layout's keys.
-use Rattle.magic_paths.proofs.Common.{Bool, List, [], and_parts, ap, append_assoc, are_elements, arith, attempt_key, codes, decimal, decimal_nonempty, elements_append, false, is_element, is_id_byte, is_job_id, is_key, is_other, length, list_all, list_all-append, nat_le, nat_tests, one_part, refl, set_key, some_key, success_key, sym, true, ℕ, ◌%◌, ◌&&◌, ◌++◌, ◌+◌, ◌<◌, ◌==◌, ◌^◌, ◌∙◌, ◌∷◌, ◌≡◌, ◌≢◌, ◌≤◌}
+use Rattle.magic_paths.proofs.Common.{Bool, List, [], and_parts, ap, append_assoc, are_elements, arith, attempt_key, codes, decimal, decimal_nonempty, elements_append, false, is_element, is_id_byte, is_job_id, is_key, is_other, length, list_all, list_all-append, nat_le, nat_tests, one_part, refl, set_key, some_key, success_key, sym, true, ℕ, ◌%◌, ◌&&◌, ◌++◌, ◌+◌, ◌<◌, ◌^◌, ◌∙◌, ◌∷◌, ◌≡◌, ◌≢◌, ◌≤◌}
 use Rattle.std.proofs.lemmas.Fmt.{decimal_by_steps}
-use Rattle.words.specs.Parts.{parts_from}
+use Rattle.basics.specs.Parts.{parts_from}
 
 abbrev is_digit : ℕ → Bool
 is_digit b = nat_le 48 b && nat_le b 57

@@ -1,6 +1,6 @@
 -- What is kept of a key's elements, and that it makes a key.
-use Rattle.magic_paths.proofs.Common.{Bool, List, [], after_first, after_magic, and_parts, ap, arith, before_magic, codes, drop, false, final_elements, if◌then◌else◌, is_element, is_key, is_word, kept, key_from, length, length-append, list_all, list_all-append, list_any, position_or_len, refl, some_key, sym, take, take-append-drop, true, ℕ, ◌++◌, ◌+◌, ◌-◌, ◌<◌, ◌==◌, ◌∙◌, ◌∷◌, ◌≡◌, ◌≢◌, ◌≤◌}
-use Rattle.words.specs.Parts.{parts_of, parts_from}
+use Rattle.magic_paths.proofs.Common.{Bool, List, [], after_first, after_magic, and_parts, ap, arith, before_magic, codes, drop, false, final_elements, is_element, is_key, is_word, kept, key_from, length, length-append, list_all, list_all-append, list_any, position_or_len, refl, some_key, sym, take, take-append-drop, true, ℕ, ◌++◌, ◌+◌, ◌-◌, ◌<◌, ◌==◌, ◌∙◌, ◌∷◌, ◌≡◌, ◌≢◌, ◌≤◌, if◌then◌else◌}
+use Rattle.basics.specs.Parts.{parts_of, parts_from}
 
 parts_none : (s : ℕ) (part text : List ℕ) → parts_from s part text ≢ []
 unfolding parts_from

@@ -1,6 +1,6 @@
 -- The lengths of the layout's keys.
-use Rattle.magic_paths.proofs.Common.{List, and_parts, arith, attempt_key, decimal, is_job_id, leb-true, length, length-append, length-decimal-le, set_key, success_key, true, ℕ, ◌<◌, ◌^◌, ◌≡◌, ◌≤◌}
-use Rattle.proof_base.proofs.Lists.{short_number}
+use Rattle.magic_paths.proofs.Common.{List, and_parts, arith, attempt_key, is_job_id, leb-true, length, length-append, set_key, success_key, true, ℕ, ◌<◌, ◌^◌, ◌≡◌, ◌≤◌}
+use Rattle.basics.proofs.Lists.{short_number}
 
 id_short : (id : List ℕ) → is_job_id id ≡ true → length id ≤ 64
 id_short id h = leb-true _ _ (and_parts _ _ (and_parts _ _ h).0).1

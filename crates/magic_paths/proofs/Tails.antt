@@ -1,7 +1,8 @@
 -- The keys and the cluster's paths of different places are different.
-use Rattle.magic_paths.proofs.Common.{List, [], and_parts, ap, append_assoc, append_cancel_left, append_cancel_right, arith, attempt_key, begins, below, codes, cond, decimal, decimal_injective, drop, ends_with, eqb-true, false, get_or, is_job_id, is_other, length, length-append, list_all, magic_prefix, nat_eq, nat_tests, not, refl, sym, text_eq, text_equiv, true, true≢false, ℕ, ◌++◌, ◌+◌, ◌-◌, ◌<◌, ◌^◌, ◌∙◌, ◌∷◌, ◌≡◌, ◌≤◌}
+use Rattle.magic_paths.proofs.Common.{List, [], and_parts, ap, append_assoc, append_cancel_left, append_cancel_right, arith, attempt_key, begins, below, codes, cond, decimal, decimal_injective, drop, ends_with, eqb-true, false, get_or, is_job_id, length, length-append, magic_prefix, nat_eq, nat_tests, not, refl, sym, text_eq, text_equiv, true, true≢false, ℕ, ◌++◌, ◌+◌, ◌-◌, ◌<◌, ◌^◌, ◌∙◌, ◌∷◌, ◌≡◌, ◌≤◌}
 use Rattle.magic_paths.specs.Places.{Place, FilePlace, MarkerPlace, RecordPlace, SetPlace, SuccessPlace, ClusterPlace, TemporaryPlace, StagedSetPlace, key_at, path_at, is_record, IsPlace, IsClusterPlace, is_magic_place}
 use Rattle.magic_paths.proofs.Elements.{id_others, decimal_without}
+use Rattle.basics.proofs.Cuts.{Cut, cut_once}
 
 nat_same : (n : ℕ) → nat_eq n n ≡ true
 nat_same n = grind (arith, nat_tests)
@@ -24,28 +25,11 @@ begins_back (x ∷ p) (y ∷ q) h =
 pub below_is : (k q : List ℕ) → 1 ≤ length k → below k q ≡ k ++ 47 ∷ q
 below_is k q h = grind arith
 
--- ---- a text cut at the first of a byte
-
-pub record Cut (a b x y : List ℕ) : Type 0 where
-  pub front : a ≡ b
-  pub back : x ≡ y
-
 heads : {x y : ℕ} {xs ys : List ℕ} → x ∷ xs ≡ y ∷ ys → x ≡ y
 heads e = cc
 
 tails : {x y : ℕ} {xs ys : List ℕ} → x ∷ xs ≡ y ∷ ys → xs ≡ ys
 tails e = cc
-
-other_not : (s c : ℕ) → is_other s c ≡ true → c ≡ s → ⊥
-other_not s c h e = true≢false (sym h ∙ grind (arith, nat_tests))
-
-pub cut_once : (s : ℕ) (a b x y : List ℕ) → list_all (is_other s) a ≡ true → list_all (is_other s) b ≡ true → a ++ s ∷ x ≡ b ++ s ∷ y → Cut a b x y
-cut_once s [] [] x y h g e = record { front = refl; back = tails e }
-cut_once s [] (c ∷ b) x y h g e = absurd (other_not s c (and_parts (is_other s c) _ g).0 (sym (heads e)))
-cut_once s (c ∷ a) [] x y h g e = absurd (other_not s c (and_parts (is_other s c) _ h).0 (heads e))
-cut_once s (c ∷ a) (d ∷ b) x y h g e =
-    let old = cut_once s a b x y (and_parts (is_other s c) _ h).1 (and_parts (is_other s d) _ g).1 (tails e) in
-    record { front = ap (λ l. c ∷ l) old.front ∙ ap (λ z. z ∷ b) (heads e); back = old.back }
 
 -- ---- records
 

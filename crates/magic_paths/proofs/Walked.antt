@@ -1,5 +1,5 @@
 -- A walk over the elements of a text up to a word.
-use Rattle.magic_paths.proofs.Common.{Bool, List, [], after_first, ap, append_assoc, append_cancel_right, arith, before_first, drop, drop-append_seam, false, is_word, length, length-append, list_any, list_any-append, parts_append, parts_of, position_or_len, refl, sym, take, take-append_seam, true, ℕ, ◌++◌, ◌+◌, ◌||◌, ◌∙◌, ◌∷◌, ◌≡◌}
+use Rattle.magic_paths.proofs.Common.{Bool, List, [], after_first, ap, append_assoc, append_cancel_right, arith, before_first, drop, drop-append_seam, false, is_word, length, length-append, list_any, list_any-append, parts_append, parts_of, position_or_len, refl, sym, take-append_seam, true, ℕ, ◌++◌, ◌+◌, ◌||◌, ◌∙◌, ◌∷◌, ◌≡◌}
 use Rattle.std.proofs.lemmas.Bool.{or_parts}
 
 -- a front of a text is passed, whose elements are seen, and none of these is the word

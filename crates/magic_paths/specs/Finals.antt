@@ -1,7 +1,7 @@
 -- Where a file that is written below a magic directory stands in the end (modelled on the magic paths of Hadoop's S3A committer architecture; the rule itself is this project's own).
 use Rattle.std.specs.Prelude.{ℕ, ◌-◌, Bool, List, ◌++◌, length, drop, codes, bytes_eq, if◌then◌else◌}
 use Rattle.s3_types.specs.Prelude.{list_any, before_first, after_first}
-use Rattle.words.specs.Parts.{parts_of}
+use Rattle.basics.specs.Parts.{parts_of}
 use Rattle.path_keys.specs.Paths.{Path}
 
 -- the elements of a path's key

@@ -55,10 +55,8 @@ IsClusterPlace (StagedSetPlace t) = t < 2 ^ 64
 -- below the job's magic directory
 abbrev pub is_magic_place : Place → Bool
 is_magic_place (FilePlace p) = false
-is_magic_place (MarkerPlace t a p) = true
-is_magic_place (RecordPlace t a p) = true
-is_magic_place (SetPlace t) = true
 is_magic_place SuccessPlace = false
+is_magic_place _ = true
 
 -- Two keys at a destination that is no bucket's root, or two paths of the cluster, are equal only where the places are, also
 -- those of two jobs; and then both are one job's, where they are a job's own.

@@ -3,9 +3,9 @@ use Rattle.std.specs.Prelude.{◌≡◌, ℕ, Bool, true, false, cond, List, [],
 use Rattle.marker_tool.proofs.Common.{IsIn, Less, Object, Objects, PageEntry, RisesFrom, ap, begins, entry_of, false_true, filter, found_at, from_prefix, in_filter, in_map, inl, inr, irrefl, is_lt, last_from, listed, listed_all, listed_rises, lower, lt, lt_trans, map_sorted, refl, some_is, subst, sym, text_cmp, text_exact, text_in, text_total, ◌∙◌}
 use Rattle.store_frame.specs.Prelude.{Ordering, Equal, Greater}
 use Rattle.std.specs.FinMap as fin
-use Rattle.proof_base.proofs.Less.{lt_back}
-use Rattle.s3_types.specs.declared.reply.PageEntry.TheVariants.{Object as Single}
+use Rattle.basics.proofs.Less.{lt_back}
 use Rattle.fs_ops.proofs.Children.{folded_sub}
+use Rattle.s3_types.specs.declared.reply.PageEntry.TheVariants.{Object as Single}
 
 -- each object that stands below a prefix behind a text, once, in order, with the length of its bytes
 pub record IsListing (q l : List ℕ) (z : Objects) (es : List PageEntry) : Type 0 where

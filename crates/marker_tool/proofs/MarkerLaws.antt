@@ -1,10 +1,10 @@
 -- What the markers of a listing are where the objects stand that were listed.
-use Rattle.std.specs.Prelude.{◌≡◌, ℕ, zero, suc, ◌==◌, ◌<◌, Bool, true, false, cond, List, [], ◌∷◌, ◌++◌, map, length, Some, if◌then◌else◌}
+use Rattle.std.specs.Prelude.{◌≡◌, ℕ, ◌==◌, ◌<◌, Bool, true, false, cond, List, [], ◌∷◌, ◌++◌, map, length, Some, if◌then◌else◌}
 use Rattle.marker_tool.proofs.Common.{AreAll, HasBytes, HasMarkers, HasMore, IsBare, IsIn, IsKind, IsSurplus, Leaf, MarkerEntry, MarkerKind, Object, Objects, Odd, PageEntry, Prefix, RisesFrom, Stands, Surplus, ap, arith, begins, begins_trans, behind, below, between, eqb-true, false_true, false≢true, filter, filter_in, goes_on, in_back, in_filter, in_front, in_map, inl, inr, irrefl, is_marker, is_surplus, kind_of, lower, lt, lt_not, map_in, marker_at, markers_in, refl, some_is, sorted, subst, surplus_in, sym, text_cmp, text_in, text_total, ◌∙◌}
 use Rattle.std.specs.FinMap as fin
-use Rattle.s3_types.specs.declared.reply.PageEntry.TheVariants.{Object as Single}
 use Rattle.marker_tool.proofs.Listing.{IsListing, above, rises_filter, behind_first}
-use Rattle.proof_base.proofs.Numbers.{positive}
+use Rattle.basics.proofs.Naturals.{positive}
+use Rattle.s3_types.specs.declared.reply.PageEntry.TheVariants.{Object as Single}
 
 -- ---- what a marker is
 

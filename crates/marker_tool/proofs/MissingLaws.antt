@@ -2,12 +2,12 @@
 use Rattle.std.specs.Prelude.{◌≡◌, ◌⊎◌, ℕ, zero, suc, ◌<◌, ◌&&◌, not, Bool, true, false, List, [], ◌∷◌, ◌++◌, map, length, Option, Some, None}
 use Rattle.marker_tool.proofs.Common.{AreAll, Cut, IsIn, IsMissing, Object, Objects, PageEntry, Prefix, RisesFrom, above_begins, above_marker, ap, arith, begins, begins_above, behind, below, between, cut, false_true, false≢true, filter, filter_in, in_append, in_back, in_filter, in_front, in_map, inl, inr, irrefl, is_due, is_marker, joins, keys_above, last_from, length-append, lower, lt, lt_not, lt_trans, map-append, map_in, marker_ends, marker_of, markers_above, missing_at, missing_from, missing_in, more_above, none_above, none_some, not_so, other_end, refl, sorted, subst, sym, text_cmp, text_in, text_total, trimmed, true_or_false, ◌∙◌}
 use Rattle.std.specs.FinMap as fin
-use Rattle.s3_types.specs.declared.reply.PageEntry.TheVariants.{Object as Single}
 use Rattle.dir_markers.proofs.Above.{trimmed_marker}
 use Rattle.fs_tree.proofs.Begins.{begins_trans, begins_length, begins_all, begins_marker, marker_is, marker_at}
 use Rattle.marker_tool.proofs.MarkerLaws.{some_marker}
 use Rattle.marker_tool.proofs.Listing.{IsListing, above, rises_from, rises_end, rises_some, last_less, behind_first}
 use Rattle.std.proofs.lemmas.Bool.{and_parts}
+use Rattle.s3_types.specs.declared.reply.PageEntry.TheVariants.{Object as Single}
 
 -- ---- the markers above a key
 

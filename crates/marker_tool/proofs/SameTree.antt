@@ -2,8 +2,8 @@
 use Rattle.std.specs.Prelude.{◌≡◌, ◌⊎◌, ℕ, true, List, [], ◌∷◌, ◌++◌, length, Some, None}
 use Rattle.marker_tool.proofs.Common.{AreAll, CleansMarkers, FillsMarkers, HasDir, HasMore, IsCleaning, IsDirectory, IsFilling, IsIn, IsMissing, IsSurplus, Objects, SameTree, SomeBelow, Stands, begins, begins_trans, false_true, from_prefix, inl, inr, marker, marker_of, none_some, refl, same_or_other, subst, sym, text_here, text_left, text_other, with_markers, without, ◌∙◌}
 use Rattle.std.specs.FinMap as fin
-use Rattle.bucket_ops.proofs.Below.{is_in, gone_in, kept_out}
 use Rattle.marker_tool.proofs.Listing.{above}
+use Rattle.bucket_ops.proofs.Below.{is_in, gone_in, kept_out}
 
 -- ---- what is kept at a moment
 

@@ -2,7 +2,6 @@
 use Rattle.std.specs.Prelude.{◌≡◌, ◌⊎◌, ℕ, ◌+◌, ◌<◌, ◌≤◌, nat_lt, Bool, true, false, cond, List, [], ◌∷◌, ◌++◌, length, take, drop, Result, Ok, Err, Option, Some}
 use Rattle.marker_tool.proofs.Common.{Ask, End, Falls, FsRefusal, Goes, IsDirectory, IsIn, IsPhases, IsStages, IsWalked, IsWalking, IsWork, LessWalked, Look, MayAsk, More, Next, NoFile, NoSuchBucket, NotDirectory, NotFound, Objects, PageEntry, Step, There, Walked, Whole, all_below, ap, arith, edited, fits, goes_by, in_back, in_front, inl, inr, key_if, length-drop, look_asks, look_of, ltb-false, ltb-true, marker_of, prefix_of, refl, reply_in, subst, sym, take-append-drop, take_all, walk_asks, walk_begins, walk_falls, walk_fits, walk_goes, walk_left, walked_entries, ◌∙◌}
 use Rattle.std.proofs.Math.Seq.{take-add}
-use Rattle.std.specs.FinMap as fin
 use Rattle.fs_ops.proofs.Looks.{at_key, none_listed, first_listed}
 use Rattle.fs_ops.proofs.StepLaws.{phases_of}
 use Rattle.fs_ops.proofs.AtPathLaws.{looks_there, still_look}

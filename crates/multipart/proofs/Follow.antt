@@ -1,7 +1,7 @@
 -- The listing of uploads, walked from a place on.
 use Rattle.multipart.proofs.Common.{AreOwn, Bool, Bound, Equal, Excluded, Follows, Greater, Included, IsStrictlySortedBy, Less, List, None, Option, Ordering, Some, Unbounded, UploadRef, Uploads, [], and-true, ap, append-nil, arith, begins, below, cond, entries_between, false, false≢true, filter, is_behind, is_from_start, is_gt, is_le, is_lt, keyed, keys_of, le_le, length, less_of, lt, lt_back, lt_le, map, map_sorted, nat_cmp, nat_lt, nat_tests, no_less, not, not-true, ordering_then, ref_cmp, refl, refs, sorted_head, sorted_tail, subst, sym, take, take_all, text_cmp, text_total, true, ℕ, ◌&&◌, ◌++◌, ◌∙◌, ◌∷◌, ◌≡◌, ◌≤◌}
 use Rattle.std.specs.FinMap as fin
-use Rattle.proof_base.proofs.Bools.{contrary}
+use Rattle.basics.proofs.Bools.{contrary}
 use Rattle.s3_types.specs.Multipart.{listed}
 use Rattle.s3_types.proofs.Begins.{between, from_prefix}
 use Rattle.multipart.proofs.Keyed.{keys_keyed, keyed_own}

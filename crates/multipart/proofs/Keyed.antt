@@ -1,5 +1,5 @@
 -- The index against the uploads.
-use Rattle.multipart.proofs.Common.{AllocError, AreOwn, Bool, CmpEqualImpliesEq, Equal, Err, FinMap, Greater, IsSomeAnd, IsTotalOrder, Less, List, None, Ok, OnErr, OnOk, Option, Ordering, Result, Some, T, Upload, UploadRef, Uploads, [], and-false, and-true, ap, arith, cond, empty, entries, entries-insert, entries_empty, entries_sorted, eq_by_cmp, exact_bytes, exact_pairs, exact_unsigned, false, false≢true, find, from_entries, get, get-entries, get-from_entries, get-insert, get-remove, insert, is_eq, is_lt, is_sorted, keyed, keyed_of, keys_of, map, nat_cmp, nat_cmp_total, on_total, ordering_then, ref_cmp, ref_of, refl, refs, remove, same_map, subst, sym, text_cmp, text_total, then_total, tied, true, with_part, ℕ, ◌&&◌, ◌∙◌, ◌∷◌, ◌≡◌}
+use Rattle.multipart.proofs.Common.{AllocError, AreOwn, Bool, CmpEqualImpliesEq, Equal, Err, FinMap, Greater, IsSomeAnd, IsTotalOrder, Less, List, None, Ok, OnErr, OnOk, Option, Ordering, Result, Some, T, Upload, UploadRef, Uploads, [], and-false, and-true, ap, arith, cond, empty, entries, entries-insert, entries_empty, entries_sorted, eq_by_cmp, exact_bytes, exact_pairs, exact_unsigned, false, find, from_entries, get, get-entries, get-from_entries, get-insert, get-remove, insert, is_eq, is_lt, is_sorted, keyed, keyed_of, keys_of, map, nat_cmp, nat_cmp_total, on_total, ordering_then, ref_cmp, ref_of, refl, refs, remove, same_map, subst, sym, text_cmp, text_total, then_total, tied, true, with_part, ℕ, ◌&&◌, ◌∙◌, ◌∷◌, ◌≡◌}
 use Rattle.std.specs.FinMap.Entries as list
 
 pub refs_total : IsTotalOrder ref_cmp

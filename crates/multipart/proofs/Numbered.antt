@@ -1,5 +1,5 @@
 -- Part numbers are 1 to 10,000, so that an upload has at most so many parts.
-use Rattle.multipart.proofs.Common.{AllByRecursion, AreNumbered, Bool, IsStrictlySortedBy, Less, List, Option, Parts, Some, [], and_parts, ap, arith, below_is, cond, entries, eq_by_cmp, eq_by_cmp_equiv, exact_unsigned, false, false≢true, find, from_entries, get, get-entries, get-from_entries, get-insert, insert, is_part_number, is_some, keys_of, len, len-entries, length, length-keys_of, less_is, list_all, map_sorted, nat_cmp, nat_cmp_total, nat_lt, nat_tests, refl, rises, rises_from, sorted_head, sorted_tail, sym, tied, true, ℕ, ◌+◌, ◌<◌, ◌∙◌, ◌∷◌, ◌≡◌, ◌≤◌}
+use Rattle.multipart.proofs.Common.{AllByRecursion, AreNumbered, Bool, IsStrictlySortedBy, List, Option, Parts, Some, [], and_parts, ap, arith, below_is, cond, entries, eq_by_cmp, eq_by_cmp_equiv, exact_unsigned, false, false≢true, find, from_entries, get, get-entries, get-from_entries, get-insert, insert, is_part_number, is_some, keys_of, len, len-entries, length, length-keys_of, less_is, list_all, map_sorted, nat_cmp, nat_cmp_total, refl, rises, rises_from, sorted_head, sorted_tail, sym, tied, true, ℕ, ◌+◌, ◌<◌, ◌∙◌, ◌∷◌, ◌≡◌, ◌≤◌}
 use Rattle.s3_types.specs.declared.request.NamedPart.{NamedPart}
 
 -- no part, so no number

@@ -1,5 +1,5 @@
 -- A row of entries whose numbers rise, as a finite map.
-use Rattle.multipart.proofs.Common.{Bool, Equal, Err, Excluded, FinMap, Greater, IfErr, IfOk, IsPlace, Less, List, None, Ok, Option, Ordering, Result, Some, Unbounded, [], ap, arith, by_order, cond, drop, entries, entries-insert, entries_between, entries_made, false, find, from_entries, get, get-from_entries, get_or, greater_is, inl, inr, insert, is_eq, is_number_at, keys_of, length, length-keys_of, less_is, map_sorted, nat_cmp, nat_cmp_total, nat_eq, nat_tests, put, range_contains, refl, set, sorted_head, sorted_tail, subst, suc, sym, take, true, zero, ℕ, ◌++◌, ◌+◌, ◌<◌, ◌∙◌, ◌∷◌, ◌≡◌, ◌≤◌}
+use Rattle.multipart.proofs.Common.{Equal, Err, Excluded, Greater, IfErr, IfOk, IsPlace, Less, List, None, Ok, Result, Some, Unbounded, [], ap, arith, by_order, cond, entries, entries-insert, entries_between, entries_made, false, find, from_entries, get_or, greater_is, inl, inr, insert, is_eq, is_number_at, keys_of, length, length-keys_of, less_is, map_sorted, nat_cmp, nat_cmp_total, nat_eq, nat_tests, put, range_contains, refl, set, sorted_head, sorted_tail, subst, suc, sym, true, zero, ℕ, ◌+◌, ◌<◌, ◌∙◌, ◌∷◌, ◌≡◌, ◌≤◌}
 use Rattle.std.specs.List.Sorted.{IsBinarySearchResult, IsNonDecreasingBy, IsSearchInRange, IsStrictlySortedBy}
 use Rattle.std.specs.Ordering.{ordering_index}
 use Rattle.std.proofs.lemmas.Cmp.{ranked}

@@ -1,11 +1,11 @@
 -- Pages of keys that are not folded, walked from the start on.
-use Rattle.object_store.proofs.Common.{AllByRecursion, AreOwn, Bool, Bound, Follows, Held, IsStrictlySortedBy, IsStrictlySortedBy-filter, Less, List, Object, Objects, PageEntry, Unbounded, [], and_from, and_parts, ap, append-nil, arith, begins, below, cond, contents, entries_between, entries_viewed, entry_of, false, filter, filter_map_same, from_start, is_from_start, is_lt, kept_between, keys_of, length, map, nat_lt, nat_tests, refl, single, sorted_head, sorted_tail, start, start_ge, stem_if, stems, subst, sym, take, take_all, text_cmp, text_total, true, viewed_sorted, walked, ℕ, ◌&&◌, ◌++◌, ◌∙◌, ◌∷◌, ◌≡◌, ◌≤◌}
+use Rattle.object_store.proofs.Common.{AllByRecursion, AreOwn, Bool, Bound, Follows, Held, IsStrictlySortedBy, IsStrictlySortedBy-filter, Less, List, Object, Objects, PageEntry, Unbounded, [], ap, append-nil, arith, begins, below, cond, contents, entries_between, entries_viewed, entry_of, false, filter, filter_map_same, from_start, is_from_start, is_lt, kept_between, keys_of, length, map, nat_lt, refl, single, sorted_head, sorted_tail, start, start_ge, stem_if, stems, subst, sym, take, take_all, text_cmp, text_total, true, viewed_sorted, walked, ℕ, ◌&&◌, ◌++◌, ◌∙◌, ◌∷◌, ◌≡◌, ◌≤◌}
 use Rattle.std.specs.FinMap as fin
-use Rattle.proof_base.proofs.Bools.{contrary}
+use Rattle.basics.proofs.Bools.{contrary}
 use Rattle.s3_types.proofs.Begins.{between}
 use Rattle.object_store.proofs.Own.{own_filter}
 use Rattle.store_frame.proofs.Prefix.{lt, le_le, lt_not}
-use Rattle.proof_base.proofs.Numbers.{no_less}
+use Rattle.basics.proofs.Naturals.{no_less}
 
 -- ---- the end of a page
 

@@ -1,7 +1,7 @@
 -- The entries in turn.
 use Rattle.object_store.proofs.Common.{IsNext, IsStrictlySortedBy, List, None, Object, Objects, Option, Some, [], ap, filter, is_lt, keys_of, map_sorted, next_of, refl, rest_of, slice_get, subst, sym, text_cmp, text_total, ℕ, ◌∙◌, ◌∷◌, ◌≡◌}
 use Rattle.std.specs.FinMap as map
-use Rattle.proof_base.proofs.Rest.{after_first, after_found}
+use Rattle.basics.proofs.Rest.{after_first, after_found}
 
 -- what comes next is followed by the rest after it
 pub is_next : (after : Option (List ℕ)) (m : Objects) → IsNext after m (next_of after m)

@@ -1,6 +1,6 @@
 -- Entries whose keys have the texts that they stand at.
-use Rattle.object_store.proofs.Common.{AreOwn, Bool, Bound, Equal, Greater, Held, Less, List, Object, Option, Ordering, [], ap, arith, cond, contents, entries_between, exact_bytes, false, filter, first_between, first_map, from_entries, get, get_viewed, insert_entry, is_at, lent, lookup, match_ordering, option_map, refl, slice_get, sym, text_cmp, text_total, true, ℕ, ◌∙◌, ◌∷◌, ◌≡◌}
-use Rattle.proof_base.specs.Prelude.{range_contains}
+use Rattle.object_store.proofs.Common.{AreOwn, Bool, Bound, Held, List, Object, Option, Ordering, [], ap, arith, cond, contents, entries_between, exact_bytes, false, filter, first_between, first_map, from_entries, get, get_viewed, insert_entry, is_at, lent, lookup, match_ordering, option_map, refl, slice_get, sym, text_cmp, text_total, true, ℕ, ◌∙◌, ◌∷◌, ◌≡◌}
+use Rattle.basics.specs.Prelude.{range_contains}
 use Rattle.std.specs.Map.{remove_entry}
 
 pub own_insert : (es : List (List ℕ × Held)) (k : List ℕ) (h : Held) → h.key ≡ k → AreOwn es → AreOwn (insert_entry text_cmp es k h)

@@ -1,5 +1,5 @@
 -- What the walk over a text finds.
-use Rattle.object_store.proofs.Common.{Bool, List, None, Option, Some, [], and_parts, ap, append-nil, append_assoc, arith, before_slash, begins, cond, drop, drop_all, drop_more, eq-eqb, false, false≢true, get_or, length, nat_eq, ne_eqb, option_map, refl, stem, sym, take, take_more, true, true≢false, ℕ, ◌&&◌, ◌++◌, ◌+◌, ◌<◌, ◌∙◌, ◌∷◌, ◌≡◌, ◌≢◌, ◌≤◌}
+use Rattle.object_store.proofs.Common.{Bool, List, None, Option, Some, [], and_parts, ap, append-nil, append_assoc, arith, before_slash, begins, cond, drop, drop_more, eq-eqb, false, false≢true, get_or, length, nat_eq, ne_eqb, option_map, refl, stem, sym, take, take_more, true, true≢false, ℕ, ◌&&◌, ◌++◌, ◌+◌, ◌<◌, ◌∙◌, ◌∷◌, ◌≡◌, ◌≢◌}
 
 pub stem_none : (p q : List ℕ) → begins p q ≡ false → stem p q ≡ None
 stem_none [] q h = absurd (true≢false h)

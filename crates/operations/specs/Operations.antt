@@ -9,9 +9,7 @@ use Rattle.operations.specs.declared.operation.Stage.TheVariants.{On, Over, Stor
 -- a phase asks its request, and an end asks nothing
 abbrev pub wanted : {P A : Type 0} → (P → Request) → Stage P A → Option Request
 wanted asks (On p) = Some (asks p)
-wanted asks (Over a) = None
-wanted asks StoreFault = None
-wanted asks NoMemory = None
+wanted asks _ = None
 
 -- where a step leads
 abbrev pub led : {P A : Type 0} → Step P A → Stage P A
@@ -38,23 +36,19 @@ any_reply m r b = Unit {0}
 -- at most so many answers are to come
 abbrev pub left : {P A : Type 0} → (P → Scene → ℕ) → Stage P A → Scene → ℕ
 left more (On p) s = 1 + more p s
-left more (Over a) s = 0
-left more StoreFault s = 0
-left more NoMemory s = 0
+left more _ s = 0
 
 -- StoreFault and NoMemory by their causes
 abbrev pub standing : {P A : Type 0} → Stage P A → Standing
-standing (On p) = Fine
-standing (Over a) = Fine
 standing StoreFault = Faulted
 standing NoMemory = Broken
+standing _ = Fine
 
 -- what holds of an operation between two sendings
 abbrev pub Kept : {P A : Type 0} → (P → Scene → Bool → Type 0) → (A → Scene → Type 0) → (Scene → Type 0) → Stage P A → Scene → Bool → Type 0
 Kept holds gives always (On p) s b = holds p s b
 Kept holds gives always (Over a) s b = gives a s
-Kept holds gives always StoreFault s b = always s
-Kept holds gives always NoMemory s b = always s
+Kept holds gives always _ s b = always s
 
 -- it was begun somewhere, and went on well since
 pub record IsReady {P A : Type 0} (holds : P → Scene → P → Scene → Bool → Type 0) (gives : P → Scene → A → Scene → Type 0) (always : P → Scene → Scene → Type 0) (m : Stage P A) (s : Scene) (b : Bool) : Type 0 where

@@ -1,6 +1,6 @@
 -- Texts behind a key and a `/`.
-use Rattle.path_keys.proofs.Common.{Bool, Decides-eqb, List, None, Some, [], all_three, and_parts, ap, append_assoc, are_elements, arith, below, drop, drop_front, false, false≢true, first_fault, is_element, is_key, is_key_path, le-leb, length, list_all, list_all-append, nat_eq, parts_append, parts_of, refl, relative_in, starts_is, starts_with, sym, true, ℕ, ◌&&◌, ◌++◌, ◌<◌, ◌∙◌, ◌∷◌, ◌≡◌, ◌≢◌, ◌≤◌}
-use Rattle.words.specs.Parts.{parts_from}
+use Rattle.path_keys.proofs.Common.{Bool, Decides-eqb, List, None, Some, [], all_three, and_parts, ap, append_assoc, are_elements, arith, below, drop, drop_front, false, false≢true, first_fault, is_element, is_key, is_key_path, le-leb, length, list_all, list_all-append, nat_eq, parts_append, parts_of, refl, relative_in, starts_is, starts_with, sym, true, ℕ, ◌++◌, ◌<◌, ◌∙◌, ◌∷◌, ◌≡◌, ◌≢◌, ◌≤◌}
+use Rattle.basics.specs.Parts.{parts_from}
 use Rattle.path_keys.proofs.Ends.{no_end}
 use Rattle.path_keys.proofs.Keys.{key_from, some_key}
 use Rattle.path_keys.proofs.Faults.{no_fault}

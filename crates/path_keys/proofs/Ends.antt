@@ -1,5 +1,5 @@
 -- A text that ends without a `/`.
-use Rattle.path_keys.proofs.Common.{Bool, List, [], and_parts, ap, arith, drop, drop-cons, drop_of_length-le, eqb-true, false, get_or, last_is, length, nat_lt, refl, slice_index, suc, sym, take, take-append-drop, trimmed, true, ℕ, ◌&&◌, ◌++◌, ◌-◌, ◌<◌, ◌==◌, ◌∙◌, ◌∷◌, ◌≡◌, ◌≢◌}
+use Rattle.path_keys.proofs.Common.{Bool, List, [], and_parts, arith, eqb-true, false, last_is, length, nat_lt, refl, slice_index, take, trimmed, true, ℕ, ◌&&◌, ◌++◌, ◌-◌, ◌<◌, ◌==◌, ◌∷◌, ◌≡◌, ◌≢◌}
 use borrow.Author.Tests.{ltb-true}
 
 pub no_end : (bs : List ℕ) → ((front : List ℕ) → bs ≢ front ++ 47 ∷ []) → bs ≡ trimmed bs

@@ -1,5 +1,5 @@
 -- Faults of a key's elements.
-use Rattle.path_keys.proofs.Common.{Bool, Err, List, None, Ok, Option, Some, [], ap, arith, false, if◌then◌else◌, is_element, join_parts, length, list_all, option_or, parts_of, refl, sym, true, ℕ, ◌<◌, ◌==◌, ◌∙◌, ◌∷◌, ◌≡◌, ◌≤◌}
+use Rattle.path_keys.proofs.Common.{Bool, Err, List, None, Ok, Option, Some, [], ap, arith, false, is_element, join_parts, length, list_all, option_or, parts_of, refl, sym, true, ℕ, ◌<◌, ◌==◌, ◌∙◌, ◌∷◌, ◌≡◌, ◌≤◌, if◌then◌else◌}
 use Rattle.path_keys.specs.declared.fault.PathFault.{PathFault}
 use Rattle.path_keys.specs.declared.fault.PathFault.TheVariants.{EmptyElement, DotElement, TooLong}
 use Rattle.path_keys.specs.Paths.{first_fault, checked, key_of, is_key}

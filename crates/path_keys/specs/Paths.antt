@@ -1,8 +1,8 @@
 -- Paths `s3a://BUCKET/KEY` (Hadoop FileSystem specification, paths; Amazon S3, object key names).
 use Rattle.std.specs.Prelude.{ℕ, ◌==◌, ◌&&◌, nat_le, nat_eq, Bool, true, false, List, [], ◌∷◌, ◌++◌, length, drop, codes, Option, Some, None, Result, Ok, Err, if◌then◌else◌}
-use Rattle.s3_types.specs.Prelude.{starts_with, join_with_byte, option_or, ◌>>=◌, need, are_elements, is_element, is_bucket, trimmed}
-use Rattle.proof_base.specs.Reading as reading
-use Rattle.words.specs.Parts.{parts_of}
+use Rattle.s3_types.specs.Prelude.{starts_with, join_with_byte, option_or, need, are_elements, is_element, is_bucket, trimmed, ◌>>=◌}
+use Rattle.basics.specs.Reading as reading
+use Rattle.basics.specs.Parts.{parts_of}
 use Rattle.path_keys.specs.declared.fault.PathFault.{PathFault}
 use Rattle.path_keys.specs.declared.fault.PathFault.TheVariants.{BadScheme, BadBucket, EmptyElement, DotElement, TooLong, NoMemory}
 
@@ -71,9 +71,8 @@ joined p relative = path_of (Ok p.bucket) (checked (first_fault (parts_of 47 rel
 
 -- the elements but the last one
 abbrev pub without_last : List (List ℕ) → List (List ℕ)
-without_last [] = []
-without_last (e ∷ []) = []
 without_last (e ∷ f ∷ es) = e ∷ without_last (f ∷ es)
+without_last _ = []
 
 -- the path without its last element; a root has none
 abbrev pub parent_of : Path → Option Path

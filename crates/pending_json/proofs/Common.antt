@@ -9,14 +9,12 @@ pub use Rattle.pending_json.specs.declared.fault.RecordFault.{RecordFault}
 pub use Rattle.pending_json.specs.declared.fault.RecordFault.TheVariants.{ExtraField, NotJson, WrongVersion}
 pub use Rattle.pending_json.specs.declared.records.PendingSet.{PendingSet}
 pub use Rattle.pending_json.specs.declared.records.SuccessMark.{SuccessMark}
-pub use Rattle.proof_base.proofs.Common.{IsUtf8-append, IsUtf8-from_ascii, IsUtf8-from_is_utf8, and_parts, append-nil, bytes_eq-Decides, cond_some, drop_more, eqb-true, is_utf8-from_IsUtf8, list_all-append, lt-ltb, ltb-true, on_ok_weaker, option_and_then_some, sum_by-cons}
-pub use Rattle.proof_base.proofs.Options.{end_of, some_mapped}
-pub use Rattle.proof_base.proofs.Reading.{found_so, needed, only, parted, passed, same_ok, with_front}
-pub use Rattle.s3_types.specs.Prelude.{Fails, is_le}
+pub use Rattle.basics.proofs.Common.{Bool, Err, Fails, IsUtf8-append, IsUtf8-from_ascii, IsUtf8-from_is_utf8, List, None, Ok, Option, Result, Some, [], and_parts, ap, append-nil, arith, bytes_eq-Decides, cond, cond_some, drop, drop_more, eqb-true, false, is_le, is_utf8-from_IsUtf8, length, list_all-append, lt-ltb, ltb, ltb-true, map, on_ok_weaker, option_and_then_some, refl, subst, suc, sym, take, true, zero, ℕ, ⊤, ◌&&◌, ◌++◌, ◌+◌, ◌<◌, ◌==◌, ◌^◌, ◌||◌, ◌∙◌, ◌∷◌, ◌≡◌, ◌≤◌}
+pub use Rattle.basics.proofs.Options.{end_of, some_mapped}
+pub use Rattle.basics.proofs.Reading.{found_so, needed, only, parted, passed, same_ok, with_front}
 pub use Rattle.serde.proofs.Events.{WritesEach-more, WritesSeq-ends}
 pub use Rattle.serde_json.specs.Data.{float, negative, put}
 pub use Rattle.serde_json.specs.Find.{get, get_item}
 pub use Rattle.serde_json.specs.Written.{comma_if, has_float, items_have_float, items_text, members_outline, members_text}
-pub use Rattle.std.proofs.Common.{Bool, Equal, Err, Greater, IfOk, IfSome, Less, List, None, Ok, Option, Ordering, Result, Some, [], ap, ap₂, arith, bytes_eq, codes, cond, decimal, drop, false, is_eq, is_some, leb, length, lit<, lit≤, ltb, map, nat_cmp, option_and_then, option_map, refl, rules, subst, suc, sym, take, true, true≢false, zero, ℕ, ◌&&◌, ◌++◌, ◌+◌, ◌<◌, ◌==◌, ◌^◌, ◌||◌, ◌∙◌, ◌∷◌, ◌≡◌, ◌≤◌}
+pub use Rattle.std.proofs.Common.{Equal, Greater, IfOk, IfSome, Less, Ordering, ap₂, bytes_eq, codes, decimal, is_eq, is_some, leb, lit<, lit≤, nat_cmp, option_and_then, option_map, rules, true≢false}
 pub use Rattle.std.proofs.lemmas.Option.{same_Some}
-pub use Rattle.std.specs.Prelude.{⊤}

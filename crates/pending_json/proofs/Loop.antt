@@ -1,6 +1,6 @@
 -- One more pending upload of a list.
 use Rattle.pending_json.proofs.Common.{Data, Fails, Items, List, Ok, Pending, RecordFault, Result, [], item, wanting, with_front, ◌++◌, ◌∷◌, ◌≡◌}
-use Rattle.proof_base.proofs.Reading as reading
+use Rattle.basics.proofs.Reading as reading
 use Rattle.pending_json.specs.Reading.{pending_in, pendings_in}
 
 pub one_more : (front : List Pending) (d : Data) (ds : Items) (p : Pending) (total : Result (List Pending) RecordFault) → pending_in d ≡ Ok p

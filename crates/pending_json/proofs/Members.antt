@@ -2,7 +2,7 @@
 use Rattle.pending_json.proofs.Common.{AllByRecursion, Bool, Data, Equal, Err, ExtraField, Greater, Less, List, Members, None, Ok, Ordering, Some, [], and_parts, ap, ap₂, array, boolean, bytes_eq, bytes_eq-Decides, cond, false, get_member, is_eq, is_lt, is_one_of, match_ordering, member, nat_cmp, no_members, null, number, object, only_fields, ordering_reverse, put, refl, same_Some, slice_cmp, string, subst, sym, true, true≢false, ℕ, ⊤, ◌&&◌, ◌||◌, ◌∙◌, ◌∷◌, ◌≡◌}
 use Rattle.std.proofs.lemmas.Cmp.{nat_list_cmp_total, tied_itself}
 use Rattle.std.proofs.lemmas.Map.Text.{is_eq-slice_cmp}
-use Rattle.proof_base.proofs.Less.{less_of}
+use Rattle.basics.proofs.Less.{less_of}
 
 -- every name is above this one
 abbrev pub Above : List ℕ → Members → Type 0

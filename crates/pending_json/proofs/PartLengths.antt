@@ -1,6 +1,6 @@
 -- Each part of a file is at most as long as the file.
-use Rattle.pending_json.proofs.Common.{AllByRecursion, List, [], and_parts, arith, eqb-true, fit, length, sum, sum_by-cons, true, ℕ, ◌+◌, ◌<◌, ◌==◌, ◌^◌, ◌∷◌, ◌≡◌, ◌≤◌}
-use Rattle.proof_base.proofs.Lists.{sum_first}
+use Rattle.pending_json.proofs.Common.{AllByRecursion, List, [], and_parts, arith, eqb-true, fit, length, sum, true, ℕ, ◌<◌, ◌==◌, ◌^◌, ◌∷◌, ◌≡◌, ◌≤◌}
+use Rattle.basics.proofs.Lists.{sum_first}
 
 -- none is more than what all are at most
 below_all : (ns : List ℕ) (most : ℕ) → sum ns ≤ most → most < 2 ^ 64 → AllByRecursion (λ n. n < 2 ^ 64) ns

@@ -1,5 +1,5 @@
 -- What a record sends to a writer is its tree, and the text of that is the tree's.
-use Rattle.pending_json.proofs.Common.{Data, List, None, Option, Pending, PendingSet, SendsValue, Some, Spelled, SuccessMark, WritesEach, [], ap, array, codes, committer_word, compact_text, is_some, items_of, length, map, mark_tree, option_map, pending_tree, refl, set_tree, some_mapped, string, subst, suc, success_tree, sym, tag_digits, texts, upload_tree, version_of, whole, wholes, ℕ, ◌∷◌, ◌≡◌}
+use Rattle.pending_json.proofs.Common.{Data, List, None, Option, Pending, PendingSet, SendsValue, Some, Spelled, SuccessMark, WritesEach, [], ap, array, codes, committer_word, compact_text, is_some, items_of, length, map, mark_tree, pending_tree, refl, set_tree, string, subst, suc, success_tree, sym, tag_digits, texts, upload_tree, version_of, whole, wholes, ℕ, ◌∷◌, ◌≡◌}
 use Rattle.std.specs.Prelude.{cond}
 use Rattle.serde.specs.Event.{Log, Logs, WritesSeq, text, unsigned, seq_begins, seq_ends, map_begins, map_ends, field_key}
 use Rattle.serde.specs.declared.name.Case.TheVariants.{AsIs}

@@ -1,6 +1,6 @@
 -- What a call returned of what reading a record gives.
 use Rattle.std.specs.Prelude.{◌≡◌, Bool, true, false, Result}
-use Rattle.proof_base.specs.Reading as reading
+use Rattle.basics.specs.Reading as reading
 use Rattle.pending_json.specs.declared.fault.RecordFault.{RecordFault}
 use Rattle.pending_json.specs.declared.fault.RecordFault.TheVariants.{NoMemory}
 

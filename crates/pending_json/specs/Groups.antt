@@ -1,6 +1,6 @@
 -- Reading a record in groups of fields, as the code does: each group ends at its first fault. What `Reading` says of the whole record is the same.
-use Rattle.std.specs.Prelude.{ℕ, Bool, List, length, Option, Result, Ok, codes}
 use Rattle.s3_types.specs.Prelude.{◌>>=◌}
+use Rattle.std.specs.Prelude.{ℕ, Bool, List, length, Option, Result, Ok, codes}
 use Rattle.serde_json.specs.Data.{Data, Members}
 use Rattle.serde_json.specs.Find.{get, as_str, as_array}
 use Rattle.pending_json.specs.declared.fault.RecordFault.{RecordFault}

@@ -1,6 +1,6 @@
 -- Reading a JSON tree as a record: the first fault in the order of the checks, or the record.
 use Rattle.std.specs.Prelude.{ℕ, Bool, true, false, List, [], ◌∷◌, length, Option, None, Result, Ok, codes, if◌then◌else◌}
-use Rattle.s3_types.specs.Prelude.{is_utf8, ◌>>=◌, need}
+use Rattle.s3_types.specs.Prelude.{is_utf8, need, ◌>>=◌}
 use Rattle.serde_json.specs.Data.{Data, Items, no_items, item}
 use Rattle.serde_json.specs.Find.{get, as_str, as_array}
 use Rattle.serde_json.specs.Read as json

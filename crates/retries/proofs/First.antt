@@ -1,9 +1,9 @@
 -- the first request that wore out: there is one answer, it is computed, and a counter of one request at a time finds it
 use Rattle.std.proofs.Common.{◌≡◌, ℕ, ◌+◌, ◌<◌, ◌&&◌, ◌||◌, not, zero, suc, refl, ap, sym, subst, ◌∙◌, inl, inr, Bool, true, false, cond, nat_lt, arith, List, [], ◌∷◌, ◌++◌, Option, Some, None, is_some, append_assoc, append-nil}
-use Rattle.proof_base.proofs.Common.{ltb-true, ltb-false}
+use Rattle.basics.proofs.Common.{ltb-true, ltb-false}
 use Rattle.std.proofs.Math.Bool.{and-false, and-true}
-use Rattle.proof_base.proofs.Members.{some_is, true_or_false, false_true}
-use Rattle.retries.specs.Prelude.{Request, Outcome, Answered, Entry, same_request, Follows, Item, Retried, wants_of, fresh, step, wears, is_zero, has_worn, worn_in, Counting, spent_in, was_answered, streak, IsWorn, NoneWorn, IsFirstWorn, WornFirst}
+use Rattle.basics.proofs.Members.{some_is, true_or_false, false_true}
+use Rattle.retries.specs.Prelude.{Request, Outcome, Entry, same_request, Follows, Item, Retried, wants_of, fresh, step, wears, is_zero, has_worn, worn_in, Counting, spent_in, was_answered, streak, IsWorn, NoneWorn, IsFirstWorn, WornFirst}
 use Rattle.retries.specs.Worn.{first_worn_after}
 use Rattle.retries.proofs.Lists.{parted}
 use Rattle.retries.proofs.SameRequest.{same_is, same_self}

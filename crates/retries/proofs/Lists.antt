@@ -1,6 +1,5 @@
 -- places in appended lists, and ways to part one
-use Rattle.std.proofs.Common.{◌≡◌, ℕ, ◌<◌, zero, suc, Some, refl, ap, sym, ◌∙◌, ◌⊎◌, inl, inr, arith, List, [], ◌∷◌, ◌++◌, length, slice_get}
-use Rattle.proof_base.proofs.Lists.{get_before, get_left}
+use Rattle.std.proofs.Common.{◌≡◌, refl, ap, sym, ◌∙◌, ◌⊎◌, inl, inr, List, [], ◌∷◌, ◌++◌}
 
 -- two ways to part a list
 pub parted : {X : Type 0} (fs : List X) (a : X) (bs : List X) (cs : List X) (c : X) (ds : List X) → fs ++ a ∷ bs ≡ cs ++ c ∷ ds

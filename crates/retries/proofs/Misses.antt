@@ -1,10 +1,10 @@
 -- the count of the last misses, and somewhere a row of them
 use Rattle.std.proofs.Common.{◌≡◌, ℕ, ◌+◌, ◌-◌, ◌<◌, ◌≤◌, zero, suc, Some, refl, ap, sym, subst, ◌∙◌, ◌⊎◌, inl, inr, Bool, true, false, cond, arith, List, [], ◌∷◌, ◌++◌, length, slice_get, length-append, append-nil}
-use Rattle.proof_base.proofs.Common.{slice_get_within, cases_lt}
-use Rattle.proof_base.proofs.Members.{true_or_false}
+use Rattle.basics.proofs.Common.{slice_get_within, cases_lt}
+use Rattle.basics.proofs.Members.{true_or_false}
 use Rattle.retries.specs.Prelude.{Request, Entry, same_request, answers, was_answered, IsWorn, streak}
 use Rattle.retries.specs.Worn.{trail}
-use Rattle.proof_base.proofs.Lists.{get_before, get_left}
+use Rattle.basics.proofs.Lists.{get_before, get_left}
 
 -- ---- lists of answers
 

@@ -1,7 +1,7 @@
 -- requests that are the same by the test are equal
-use Rattle.std.proofs.Common.{◌≡◌, ℕ, refl, ap, ◌∙◌, Bool, true, false, nat_eq, ◌&&◌, List, [], ◌∷◌, Option, Some, None, arith}
-use Rattle.proof_base.proofs.Common.{and_parts as both, and_from as and_true}
-use Rattle.proof_base.proofs.Members.{eq_nat as number_is, nat_true, text_is, text_true, false_true}
+use Rattle.std.proofs.Common.{◌≡◌, ℕ, refl, ap, ◌∙◌, Bool, true, nat_eq, ◌&&◌, List, [], ◌∷◌, Option, arith}
+use Rattle.basics.proofs.Common.{and_parts as both, and_from as and_true}
+use Rattle.basics.proofs.Members.{eq_nat as number_is, nat_true, text_is, text_true, false_true}
 use Rattle.retries.specs.Prelude.{text_eq, Spelled, NamedPart, UploadRef, Request, MakeBucket, PutObject, GetObject, HeadObject, DeleteObject, DeleteObjects, CopyObject, ListPage, CreateUpload, UploadPart, CompleteUpload, AbortUpload, ListParts, ListUploads, ClusterPut, ClusterRename, ClusterGet, ClusterDelete, ClusterList, same_request}
 use Rattle.retries.specs.Same.{same_list, same_option, same_bool, same_part, same_ref}
 

@@ -3,7 +3,7 @@ use Rattle.std.specs.Prelude.{◌≡◌, ℕ, zero, suc, ◌&&◌, ◌||◌, not
 use Rattle.s3_types.specs.declared.request.Request.{Request}
 use Rattle.s3_types.specs.declared.reply.Reply.{Reply}
 use Rattle.s3_types.specs.declared.journal.Outcome.{Outcome}
-use Rattle.s3_types.specs.declared.journal.Outcome.TheVariants.{Answered, Slow, RequestLost, ReplyLost}
+use Rattle.s3_types.specs.declared.journal.Outcome.TheVariants.{Answered, Slow}
 use Rattle.s3_types.specs.declared.journal.Entry.{Entry}
 use Rattle.retries.specs.Worn.{was_answered}
 
@@ -43,8 +43,7 @@ unanswered retries after t repeated = unanswered_by retries after t.operation re
 abbrev pub step : {M : Type 0} → ℕ → (M → Item → M) → Retried M → Outcome → Retried M
 step retries after t (Answered r) = fresh retries (after t.operation (Got r t.repeated))
 step retries after t Slow = unanswered retries after t t.repeated
-step retries after t RequestLost = unanswered retries after t true
-step retries after t ReplyLost = unanswered retries after t true
+step retries after t _ = unanswered retries after t true
 
 -- a number is zero
 abbrev pub is_zero : ℕ → Bool
@@ -54,9 +53,7 @@ is_zero (suc n) = false
 -- the sending was the last that its request had, and got no answer
 abbrev pub wears : {M : Type 0} → Retried M → Outcome → Bool
 wears t (Answered r) = false
-wears t Slow = is_zero t.spare
-wears t RequestLost = is_zero t.spare
-wears t ReplyLost = is_zero t.spare
+wears t _ = is_zero t.spare
 
 -- some request wore out
 abbrev pub has_worn : {M : Type 0} → ℕ → (M → Item → M) → Retried M → List Entry → Bool

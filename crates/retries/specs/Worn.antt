@@ -2,16 +2,14 @@
 use Rattle.std.specs.Prelude.{◌≡◌, ℕ, ◌+◌, ◌≤◌, nat_lt, Bool, true, false, cond, List, [], ◌∷◌, ◌++◌, slice_get, Option, Some, None}
 use Rattle.s3_types.specs.declared.request.Request.{Request}
 use Rattle.s3_types.specs.declared.journal.Outcome.{Outcome}
-use Rattle.s3_types.specs.declared.journal.Outcome.TheVariants.{Answered, Slow, RequestLost, ReplyLost}
+use Rattle.s3_types.specs.declared.journal.Outcome.TheVariants.{Answered}
 use Rattle.s3_types.specs.declared.journal.Entry.{Entry}
 use Rattle.retries.specs.Same.{same_request}
 
 -- a sending got an answer; SlowDown is none
 abbrev pub was_answered : Outcome → Bool
 was_answered (Answered r) = true
-was_answered Slow = false
-was_answered RequestLost = false
-was_answered ReplyLost = false
+was_answered _ = false
 
 -- of each sending of one request, in turn, whether it was answered
 abbrev pub answers : Request → List Entry → List Bool

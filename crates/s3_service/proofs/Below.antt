@@ -1,9 +1,9 @@
 -- The ids of all uploads are below the next id.
-use Rattle.s3_service.proofs.Common.{AbortUpload, AreBelow, Bool, BucketContent, Buckets, ClusterDelete, ClusterGet, ClusterList, ClusterPut, ClusterRename, CompleteUpload, CopyObject, CreateUpload, DeleteObject, DeleteObjects, GetObject, HeadObject, IsFresh, List, ListPage, ListParts, ListUploads, MakeBucket, None, Objects, Option, PutObject, Request, Some, Upload, UploadPart, Uploads, aborted, ap, apply_in, arith, completed, cond, draws, empty, eq_by_cmp, false, get, get-empty, get-insert, get-remove, insert, is_part_number, joined, live, nat_cmp, nat_cmp_total, nat_tests, new_bucket, part_put, refl, remove, subst, sym, text_cmp, text_total, true, with_bucket, with_key, with_part, ℕ, ◌+◌, ◌∙◌, ◌≡◌, ◌≤◌}
+use Rattle.s3_service.proofs.Common.{AbortUpload, AreBelow, Bool, BucketContent, Buckets, CompleteUpload, CreateUpload, IsFresh, List, None, Objects, Option, Request, Some, Upload, UploadPart, Uploads, aborted, ap, apply_in, arith, completed, cond, draws, empty, eq_by_cmp, false, get, get-empty, get-insert, get-remove, insert, is_part_number, joined, live, nat_cmp, nat_cmp_total, nat_tests, new_bucket, part_put, refl, remove, subst, sym, text_cmp, text_total, true, with_bucket, with_key, with_part, ℕ, ◌+◌, ◌∙◌, ◌≡◌, ◌≤◌}
 use Rattle.std.specs.Prelude.{Result, Ok, Err, OnOk, OnErr}
 use Rattle.s3_types.specs.declared.reply.Refusal.{Refusal}
 use Rattle.s3_service.proofs.Changed.{present, absent}
-use Rattle.proof_base.proofs.Numbers.{next_most}
+use Rattle.basics.proofs.Naturals.{next_most}
 
 inner : (x y : BucketContent) → Some x ≡ Some y → x ≡ y
 inner x y e = cc

@@ -1,6 +1,6 @@
 -- Buckets of which one is changed, by the entries of a tree that lends it.
-use Rattle.s3_service.proofs.Common.{Bool, BucketContent, Buckets, List, None, Option, Some, ap, changed, cond, exact_bytes, get_made, insert_same, made_insert, sym, text_cmp, text_total, with_bucket, ℕ, ◌∙◌, ◌≡◌}
-use Rattle.proof_base.specs.Prelude.{is_at, lookup}
+use Rattle.s3_service.proofs.Common.{BucketContent, Buckets, List, None, Option, Some, ap, changed, cond, exact_bytes, get_made, insert_same, made_insert, sym, text_cmp, text_total, with_bucket, ℕ, ◌∙◌, ◌≡◌}
+use Rattle.basics.specs.Prelude.{is_at, lookup}
 use Rattle.std.specs.FinMap as map
 
 pub present : (m : Buckets) (k : List ℕ) (f : BucketContent → BucketContent) (b : BucketContent) → map.get m k ≡ Some b → with_bucket m k f ≡ map.insert m k (f b)

@@ -2,7 +2,7 @@
 use Rattle.s3_service.proofs.Common.{BucketContent, Buckets, IsNext, List, None, Option, Some, [], ap, filter, is_lt, keys_of, map_sorted, next_of, refl, rest_of, slice_get, subst, sym, text_cmp, text_total, ℕ, ◌∙◌, ◌∷◌, ◌≡◌}
 use Rattle.std.specs.List.Sorted.{IsStrictlySortedBy}
 use Rattle.std.specs.FinMap as fin
-use Rattle.proof_base.proofs.Rest.{after_first, after_found}
+use Rattle.basics.proofs.Rest.{after_first, after_found}
 
 -- what comes next is followed by the rest after it
 pub is_next : (after : Option (List ℕ)) (m : Buckets) → IsNext after m (next_of after m)

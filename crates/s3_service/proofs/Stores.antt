@@ -1,5 +1,5 @@
 -- A request that names a bucket.
-use Rattle.s3_service.proofs.Common.{AbortUpload, ClusterDelete, ClusterGet, ClusterList, ClusterPut, ClusterRename, CompleteUpload, Content, CopyObject, CreateUpload, DeleteObject, DeleteObjects, GetObject, HeadObject, List, ListPage, ListParts, ListUploads, MakeBucket, PutObject, Request, Some, UploadPart, answer_at, answer_store, ap, apply_at, apply_store, bucket_of, get, refl, sym, ℕ, ◌∙◌, ◌≡◌}
+use Rattle.s3_service.proofs.Common.{ClusterDelete, ClusterGet, ClusterList, ClusterPut, ClusterRename, Content, List, MakeBucket, Request, Some, answer_at, answer_store, ap, apply_at, apply_store, bucket_of, get, refl, sym, ℕ, ◌∙◌, ◌≡◌}
 use Rattle.s3_service.specs.Named.{named}
 use Rattle.std.proofs.lemmas.Option.{same_Some}
 

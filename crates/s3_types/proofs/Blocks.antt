@@ -1,10 +1,10 @@
 -- The laws of a file's parts: how many there are, how long each is, and that they are the file again.
-use Rattle.s3_types.proofs.Common.{Bool, List, None, Some, [], add-one, ap, arith, cond, drop, drop-drop, false, flat_map, greater, inl, inr, length, length-append, length-drop, length-take-le, map, mul-le-mul_right, nat_lt, nat_tests, quotient_up, refl, same_Some, slice_get, subst, suc, sum, sum-map, sum_by-cons, sym, take, take-append-drop, take_all, true, zero, ℕ, ◌*◌, ◌++◌, ◌+◌, ◌-◌, ◌/◌, ◌<◌, ◌∙◌, ◌∷◌, ◌≡◌, ◌≤◌, ◌⊎◌}
-use Rattle.proof_base.proofs.Common.{mul-le-mul_left, nil_from_length}
+use Rattle.s3_types.proofs.Common.{Bool, List, Some, [], add-one, ap, arith, cond, drop, drop-drop, false, flat_map, greater, inl, inr, length, length-append, length-drop, length-take-le, map, mul-le-mul_right, nat_lt, nat_tests, quotient_up, refl, same_Some, slice_get, subst, suc, sum, sym, take, take-append-drop, take_all, true, zero, ℕ, ◌*◌, ◌++◌, ◌+◌, ◌-◌, ◌/◌, ◌<◌, ◌∙◌, ◌∷◌, ◌≡◌, ◌≤◌, ◌⊎◌}
+use Rattle.basics.proofs.Common.{mul-le-mul_left, nil_from_length}
 use Rattle.std.proofs.Math.Nat.{mul-suc, suc-mul, mul_comm, div-lt_iff_lt-mul, le_trans}
-use Rattle.proof_base.proofs.Options.{none_some}
+use Rattle.basics.proofs.Options.{none_some}
 use Rattle.s3_types.specs.Blocks.{block_of, blocks, parts_of}
-use Rattle.proof_base.proofs.Lists.{sum_first}
+use Rattle.basics.proofs.Lists.{sum_first}
 
 -- ---- as they are defined
 

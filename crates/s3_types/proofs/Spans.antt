@@ -3,7 +3,7 @@ use Rattle.s3_types.proofs.Common.{Bool, IsSome, List, None, Option, Some, Span,
 use Rattle.s3_types.specs.Prelude.{get, get-insert, get-empty, same_map, slice_get, nat_cmp_total, nat_cmp, eq_by_cmp, is_le, match_ordering, insert_entry, entries_between, Ordering, Less, Equal, Greater, Included, Unbounded, FateMap, is_answer, IsFirstNamed, IsFirstFrom, named, AreApart, from_on, first_in}
 use Rattle.s3_types.specs.Fates.{with_fates}
 use Rattle.s3_types.specs.declared.fates.Fate.{Fate}
-use Rattle.proof_base.proofs.Numbers.{greater_is}
+use Rattle.basics.proofs.Naturals.{greater_is}
 
 -- ---- the map
 

@@ -1,6 +1,6 @@
 -- What a request is answered, and what it leaves. A refused request changes nothing.
 use Rattle.std.specs.Prelude.{ℕ, ◌+◌, Bool, true, false, nat_lt, cond, List, [], ◌∷◌, Option, Some, None, Result, Ok, Err, length, map}
-use Rattle.proof_base.specs.Prelude.{filter}
+use Rattle.basics.specs.Prelude.{filter}
 use Rattle.std.specs.FinMap as fin
 use Rattle.s3_types.specs.Names.{is_bucket}
 use Rattle.s3_types.specs.Store.{Objects, Upload, Uploads, BucketContent, Content, Files, Scene, new_bucket}

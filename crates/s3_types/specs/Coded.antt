@@ -1,6 +1,6 @@
 -- Codes of what a store holds, by which proofs tell its values apart.
 use Rattle.std.specs.Prelude.{ℕ, List, Option, refl}
-use Rattle.proof_base.specs.Prelude.{Coded, code_by, coded×, coded_ℕ, coded_list, coded_option}
+use Rattle.basics.specs.Prelude.{Coded, code_by, coded×, coded_ℕ, coded_list, coded_option}
 use Rattle.std.specs.FinMap as map
 use Rattle.s3_types.specs.Store.{Objects, Parts, Upload, Uploads, BucketContent, Buckets, Content, Files}
 use Rattle.s3_types.specs.declared.object.Object.{Object}

@@ -1,6 +1,6 @@
 -- The fates of sendings.
 use Rattle.std.specs.Prelude.{◌≡◌, ℕ, zero, suc, ◌+◌, ◌<◌, ◌≤◌, Bool, true, false, Option, Some, None, IsSome, refl}
-use Rattle.proof_base.specs.Prelude.{nat_cmp, Coded, code_by, coded_ℕ}
+use Rattle.basics.specs.Prelude.{nat_cmp, Coded, code_by, coded_ℕ}
 use Rattle.std.specs.FinMap as map
 use Rattle.s3_types.specs.declared.fates.Fate.{Fate}
 use Rattle.s3_types.specs.declared.fates.Fate.TheVariants.{Answer, Slow, Before, After}
@@ -12,9 +12,7 @@ FateMap = map.FinMap nat_cmp Fate
 -- the sending is answered
 abbrev pub is_answer : Fate → Bool
 is_answer Answer = true
-is_answer Slow = false
-is_answer Before = false
-is_answer After = false
+is_answer _ = false
 
 -- what is not named is answered
 abbrev pub fate_or : Option Fate → Fate
@@ -59,9 +57,7 @@ of_number (suc (suc (suc n))) = After
 -- a fate's number gives the fate again
 abbrev pub there_and_back : (f : Fate) → of_number (to_number f) ≡ f
 there_and_back Answer = refl
-there_and_back Slow = refl
-there_and_back Before = refl
-there_and_back After = refl
+there_and_back _ = refl
 
 -- the code of the fates of sendings
 abbrev pub coded_fates : Coded FateMap

@@ -5,22 +5,20 @@ use Rattle.s3_types.specs.Answer.{answer, apply}
 use Rattle.s3_types.specs.declared.request.Request.{Request}
 use Rattle.s3_types.specs.declared.reply.Reply.{Reply}
 use Rattle.s3_types.specs.declared.journal.Outcome.{Outcome}
-use Rattle.s3_types.specs.declared.journal.Outcome.TheVariants.{Answered, Slow, RequestLost, ReplyLost}
+use Rattle.s3_types.specs.declared.journal.Outcome.TheVariants.{Answered, Slow, RequestLost}
 use Rattle.s3_types.specs.declared.journal.Entry.{Entry}
 
 -- a sending takes effect where it was answered or its reply was lost
 abbrev pub is_effective : Outcome → Bool
-is_effective (Answered r) = true
 is_effective Slow = false
 is_effective RequestLost = false
-is_effective ReplyLost = true
+is_effective _ = true
 
 -- the scene after a sending with this outcome
 abbrev pub effect : Scene → Request → Outcome → Scene
-effect s r (Answered a) = apply s r
 effect s r Slow = s
 effect s r RequestLost = s
-effect s r ReplyLost = apply s r
+effect s r _ = apply s r
 
 -- the scene after all these entries
 abbrev pub after_all : Scene → List Entry → Scene
@@ -34,9 +32,7 @@ moment content es m = after_all (opening content) (take m es)
 -- an answer is the one that is due
 abbrev pub IsHonestOutcome : Outcome → Reply → Type 0
 IsHonestOutcome (Answered a) due = a ≡ due
-IsHonestOutcome Slow due = Unit {0}
-IsHonestOutcome RequestLost due = Unit {0}
-IsHonestOutcome ReplyLost due = Unit {0}
+IsHonestOutcome _ due = Unit {0}
 
 -- each answer is the one that is due where it was given
 abbrev pub AreHonest : Scene → List Entry → Type 0
@@ -50,6 +46,4 @@ IsHonest content es = AreHonest (opening content) es
 -- there was no answer
 abbrev pub is_unanswered : Outcome → Bool
 is_unanswered (Answered a) = false
-is_unanswered Slow = true
-is_unanswered RequestLost = true
-is_unanswered ReplyLost = true
+is_unanswered _ = true

@@ -1,6 +1,6 @@
 -- Multipart uploads (Amazon S3 API: UploadPart, CompleteMultipartUpload, ListParts, ListMultipartUploads).
 use Rattle.std.specs.Prelude.{ℕ, ◌-◌, Bool, true, false, ◌&&◌, nat_eq, nat_le, nat_lt, cond, List, [], ◌∷◌, Option, Some, None, Result, Ok, Err, length, take, map}
-use Rattle.proof_base.specs.Prelude.{filter, list_all, flat_map, unwrap_or, is_lt, nat_cmp, ordering_then, Ordering, text_cmp, text_eq}
+use Rattle.basics.specs.Prelude.{filter, list_all, flat_map, unwrap_or, is_lt, nat_cmp, ordering_then, Ordering, text_cmp, text_eq}
 use Rattle.std.specs.FinMap as fin
 use Rattle.s3_types.specs.Store.{Upload, Uploads, Parts}
 use Rattle.s3_types.specs.Tags.{Spelled, plain_tag}
@@ -10,9 +10,9 @@ use Rattle.s3_types.specs.declared.request.NamedPart.{NamedPart}
 use Rattle.s3_types.specs.declared.request.UploadRef.{UploadRef}
 use Rattle.s3_types.specs.declared.reply.PartSize.{PartSize}
 use Rattle.s3_types.specs.declared.reply.Reply.{Reply}
-use Rattle.s3_types.specs.declared.reply.Reply.TheVariants.{Uploads as UploadsPage}
 use Rattle.s3_types.specs.declared.reply.Refusal.{Refusal}
 use Rattle.s3_types.specs.declared.reply.Refusal.TheVariants.{NoSuchUpload, MalformedList, InvalidPartOrder, InvalidPart, EntityTooSmall}
+use Rattle.s3_types.specs.declared.reply.Reply.TheVariants.{Uploads as UploadsPage}
 
 -- an id counts as live only with its own key
 abbrev pub with_key : List ℕ → Option Upload → Option Upload

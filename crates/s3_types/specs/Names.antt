@@ -1,7 +1,7 @@
 -- The names of buckets, of objects and of jobs.
 use Rattle.std.specs.Prelude.{ℕ, ◌-◌, ◌==◌, ◌&&◌, ◌||◌, nat_le, nat_lt, nat_eq, not, Bool, List, length, take, slice_index, codes, bytes_eq, if◌then◌else◌}
-use Rattle.proof_base.specs.Prelude.{list_all, is_utf8}
-use Rattle.words.specs.Parts.{parts_of}
+use Rattle.basics.specs.Prelude.{list_all, is_utf8}
+use Rattle.basics.specs.Parts.{parts_of}
 use Rattle.s3_types.specs.declared.limits.TheConstants.{MOST_KEY_BYTES}
 
 -- an element of a key is neither empty nor `.` nor `..`

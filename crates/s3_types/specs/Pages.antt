@@ -1,6 +1,6 @@
 -- Pages of a bucket's objects (Amazon S3 API: ListObjectsV2).
 use Rattle.std.specs.Prelude.{ℕ, Bool, true, false, ◌&&◌, nat_eq, nat_lt, cond, List, [], ◌∷◌, ◌++◌, Option, Some, None, length, take, map}
-use Rattle.proof_base.specs.Prelude.{filter, option_map, is_lt, eq_by_cmp, text_cmp}
+use Rattle.basics.specs.Prelude.{filter, option_map, is_lt, eq_by_cmp, text_cmp}
 use Rattle.std.specs.FinMap as fin
 use Rattle.s3_types.specs.Store.{Objects}
 use Rattle.s3_types.specs.declared.object.Object.{Object}

@@ -1,7 +1,7 @@
 -- Definitions of this crate and of those below it that specifications and proofs cite, passed on from one place. Declares nothing.
 pub use Rattle.hex.specs.Hex.{IsBytes, encode_lower, lower_digits}
-pub use Rattle.proof_base.specs.Members.{RisesFrom, last_from}
-pub use Rattle.proof_base.specs.Prelude.{AllByRecursion, Bound, Coded, Equal, Fails, FinMap, Greater, IsIn, IsTotalOrder, IsUtf8, Less, Ordering, Width, below_all, byte_len, code_by, coded_list, coded_option, coded_ℕ, coded×, decimal, empty, entries, entries-insert, entries_between, entries_sorted, eq_by_cmp, eq_by_cmp_equiv, filter, find, flat_map, from_be_bytes, from_entries, get, get-entries, get-from_entries, get-insert, get-remove, insert, is_at, is_eq, is_gt, is_le, is_lt, is_sorted, is_utf8, join_with_byte, keys_of, list_all, nat_cmp, nat_cmp_total, need, option_map, ordering_reverse, ordering_then, passing, put, remove, same_map, slice_get, text_cmp, text_eq, text_equiv, text_ties, text_total, to_be_bytes, w16, w32, w64, ◌>>=◌}
+pub use Rattle.basics.specs.Members.{RisesFrom, last_from}
+pub use Rattle.basics.specs.Prelude.{AllByRecursion, Bound, Coded, Equal, Fails, FinMap, Greater, IsIn, IsTotalOrder, IsUtf8, Less, Ordering, Width, below_all, byte_len, code_by, coded_list, coded_option, coded_ℕ, coded×, decimal, empty, entries, entries-insert, entries_between, entries_sorted, eq_by_cmp, eq_by_cmp_equiv, filter, find, flat_map, from_be_bytes, from_entries, get, get-entries, get-from_entries, get-insert, get-remove, insert, is_at, is_eq, is_gt, is_le, is_lt, is_sorted, is_utf8, join_with_byte, keys_of, list_all, nat_cmp, nat_cmp_total, need, option_map, ordering_reverse, ordering_then, passing, put, remove, same_map, slice_get, text_cmp, text_eq, text_equiv, text_ties, text_total, to_be_bytes, w16, w32, w64, ◌>>=◌}
 pub use Rattle.s3_types.specs.Answer.{aborted, answer_at, answer_in, apply, apply_at, apply_in, apply_store, bucket_of, completed, draws, part_put, renamed, without}
 pub use Rattle.s3_types.specs.Blocks.{greater, named_from, quotient_up}
 pub use Rattle.s3_types.specs.Coded.{coded_text}
@@ -29,5 +29,5 @@ pub use Rattle.std.specs.Str.Parse.{digits_value}
 pub use Rattle.std.specs.Str.Pattern.{FindsTextPrefix, StripsPrefix}
 pub use Rattle.std.specs.declared.alloc.AllocError.{AllocError}
 pub use Rattle.std.specs.declared.ops.Bound.TheVariants.{Excluded, Included, Unbounded}
-pub use Rattle.words.specs.Parts.{is_other}
-pub use Rattle.words.specs.Words.{IsBare}
+pub use Rattle.basics.specs.Parts.{is_other}
+pub use Rattle.basics.specs.Words.{IsBare}

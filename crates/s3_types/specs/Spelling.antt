@@ -1,6 +1,6 @@
 -- How actors and tags are written.
 use Rattle.std.specs.Prelude.{ℕ, List, [], ◌∷◌, ◌++◌, ◌==◌, codes, if◌then◌else◌}
-use Rattle.proof_base.specs.Prelude.{join_with_byte, decimal}
+use Rattle.basics.specs.Prelude.{join_with_byte, decimal}
 use Rattle.s3_types.specs.Tags.{Spelled}
 use Rattle.s3_types.specs.declared.request.Actor.{Actor}
 use Rattle.s3_types.specs.declared.request.Actor.TheVariants.{Driver, Attempt, Shell}

@@ -1,6 +1,6 @@
 -- What a store and the cluster file system beside it hold.
 use Rattle.std.specs.Prelude.{ℕ, List}
-use Rattle.proof_base.specs.Prelude.{nat_cmp, text_cmp}
+use Rattle.basics.specs.Prelude.{nat_cmp, text_cmp}
 use Rattle.std.specs.FinMap as map
 use Rattle.s3_types.specs.declared.object.Object.{Object}
 

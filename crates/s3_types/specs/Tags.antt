@@ -1,6 +1,6 @@
 -- Tags of objects and parts (Amazon S3, common response headers: ETag).
 use Rattle.std.specs.Prelude.{ℕ, ◌&&◌, ◌||◌, nat_le, nat_eq, Bool, List, [], length}
-use Rattle.proof_base.specs.Prelude.{list_all, flat_map}
+use Rattle.basics.specs.Prelude.{list_all, flat_map}
 use Rattle.std.specs.Result.{result_unwrap_or}
 use Rattle.hex.specs.Hex.{encode_lower, decode_of}
 use Rattle.md5.specs.Md5.{md5}

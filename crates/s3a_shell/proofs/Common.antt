@@ -11,9 +11,9 @@ pub use Rattle.fs_ops.specs.Prelude.{AbortUpload, Actor, AllByRecursion, Already
 pub use Rattle.fs_rename.specs.Between.{GivesBetween, Route}
 pub use Rattle.journal_log.specs.Prelude.{AreBelow, CopyObject, DeleteObject, MOST_ENTRIES, NamedPart, is_changing, listed, with_key}
 pub use Rattle.machine.specs.Prelude.{AreForetold, IsHonestOutcome, part_answer}
-pub use Rattle.path_keys.proofs.Common.{IfOk-weaker, bytes_eq-Decides, exact_bytes, insert_same, list_any-append, nat_gone, nat_left, nat_tests, or-false, same_or_not, same_or_other, some_is, some_size, take_all, take_more, text_here, text_other, true≢false}
+pub use Rattle.path_keys.proofs.Common.{IfOk-weaker, exact_bytes, insert_same, list_any-append, nat_gone, nat_left, nat_tests, or-false, same_or_not, same_or_other, some_is, some_size, take_all, take_more, text_here, text_other}
 pub use Rattle.s3_types.specs.Answer.{made}
-pub use Rattle.s3_types.specs.Prelude.{bytes_eq, fate_of, greater, quotient_up}
+pub use Rattle.s3_types.specs.Prelude.{fate_of, greater, quotient_up}
 pub use Rattle.s3a_shell.specs.Commanded.{Done, DoneOn, IsWork, init_work, work_said}
 pub use Rattle.s3a_shell.specs.Doings.{Created, CreatedUnless, Did, DidMake, DidPut, Does, FileOrNot, IsMadeOrNot, MayStandAt, most_input, only_looks, refusal_word, refused_or_fine}
 pub use Rattle.s3a_shell.specs.Moving.{DidBetween, route, said_of_copy, said_of_move}
@@ -25,6 +25,6 @@ pub use Rattle.s3a_shell.specs.declared.said.Said.{Said}
 pub use Rattle.s3a_shell.specs.declared.session.Session.{Session}
 pub use Rattle.s3a_words.specs.declared.command.Command.{Command}
 pub use Rattle.s3a_words.specs.declared.command.Command.TheVariants.{Init}
-pub use Rattle.std.proofs.Common.{Bool, Err, IfOk, List, None, Ok, Option, Result, [], ap, append-nil, append_assoc, arith, drop, false, inl, inr, length, length-append, refl, string_bytes, subst, sym, take, true, ℕ, ◌*◌, ◌++◌, ◌+◌, ◌^◌, ◌∙◌, ◌∷◌, ◌≡◌, ◌≤◌, ◌⊎◌}
+pub use Rattle.std.proofs.Common.{Bool, List, None, Option, [], ap, append-nil, append_assoc, arith, drop, false, inl, inr, length, length-append, refl, string_bytes, subst, sym, take, true, ℕ, ◌*◌, ◌++◌, ◌+◌, ◌^◌, ◌∙◌, ◌∷◌, ◌≡◌, ◌≤◌, ◌⊎◌}
 pub use Rattle.store_frame.proofs.Reading.{reads_nothing}
 pub use Rattle.store_frame.specs.Held.{upload_at}

@@ -1,5 +1,5 @@
 -- What a command is to do is of one of the kinds that can be kept or said.
-use Rattle.s3a_shell.proofs.Common.{Bool, Command, Err, Faulty, IfOk, IfOk-weaker, Init, IsPlain, List, Nothing, Ok, Option, Result, Store, Work, [], false, has_changed, refl, subst, sym, true, ℕ, ◌∷◌, ◌≡◌}
+use Rattle.s3a_shell.proofs.Common.{Bool, Command, Faulty, Init, IsPlain, List, Nothing, Option, Store, Work, [], false, has_changed, refl, subst, sym, true, ℕ, ◌∷◌, ◌≡◌}
 use Rattle.machine.specs.Prelude.{AllByRecursion, Content, new_content, MOST_MINIMUM, Shell, Entry, AreBy}
 use Rattle.durable_store.specs.declared.held.Held.{Held}
 use Rattle.s3a_shell.specs.Commanded.{init_work, work_said, Done, DoneOn, IsWork}

@@ -1,5 +1,5 @@
 -- Where no sending changes anything, the store stays as it is.
-use Rattle.std.specs.Prelude.{◌≡◌, ℕ, ◌&&◌, ◌||◌, nat_lt, Bool, true, false, not, cond, List, [], ◌∷◌, length, Option, Some, None, Result, Ok, Err}
+use Rattle.std.specs.Prelude.{◌≡◌, ℕ, ◌&&◌, nat_lt, Bool, true, false, not, cond, List, [], ◌∷◌, length, Option, Some, None, Result, Ok, Err}
 use Rattle.s3a_shell.proofs.Common.{AbortUpload, Answered, AreAnswered, AreHonest, BadName, BucketContent, Buckets, CompleteUpload, Content, CopyObject, CreateUpload, DeleteObject, DeleteObjects, Deleted, Entry, IsHonestOutcome, MOST_ENTRIES, Made, MakeBucket, NamedPart, Object, Outcome, Part, PutObject, Refusal, Refused, Reply, Request, Scene, TooManyKeys, Upload, UploadPart, aborted, after_all, answer, answer_at, ap, apply, apply_at, bucket_of, complete_answer, completed, copied, copy_answer, effect, exact_bytes, has_changed, insert_same, is_bucket, is_change, is_changing, is_part_number, is_refusal, is_taken, is_unanswered, joined, live, made, make_answer, new_bucket, part_answer, part_put, refl, subst, text_total, with_part, with_uploads, without, ◌∙◌}
 use Rattle.store_frame.specs.Prelude.{abort_answer, with_objects, BadPartNumber}
 use Rattle.std.specs.FinMap as fin

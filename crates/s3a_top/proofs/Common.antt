@@ -13,7 +13,7 @@ pub use Rattle.exit_status.specs.declared.statuses.Status.{Status}
 pub use Rattle.job_spec.specs.Prelude.{CommitEnd, Decided, EndedSo, EventEnd, MOST_MINIMUM, NotBegun, OpEnd, Script, SetupEnd, Unended, end_verdict, past, verdict, verdict_or}
 pub use Rattle.journal_log.proofs.Leaving.{started, survives, then_on, told_all, told_more, widened}
 pub use Rattle.journal_log.specs.Prelude.{Appends, BucketContent, Content, CrashesLeave, Entry, Failed, HasEarlier, Holding, Holds, HoldsPart, IsContent, IsDurable, IsKept, IsLast, IsMoment, IsTimed, MakeBucket, NoMemory, NotReplaced, ShelfStop, Sight, Stored, WhereTold, apply_store, fresh, image, is_bucket, new_bucket, new_content}
-pub use Rattle.proof_base.proofs.Common.{and_parts, append-nil, drop_all, drop_at, leb-true, length-take, length-take-le, nat_tests, take-append-drop, take_all, take_at}
+pub use Rattle.basics.proofs.Common.{and_parts, append-nil, drop_all, drop_at, leb-true, length-take, length-take-le, nat_tests, take-append-drop, take_all, take_at}
 pub use Rattle.s3a_shell.specs.Commanded.{IsWork, plays, takes_input}
 pub use Rattle.s3a_top.specs.Bytes.{IsRead, IsTaken, TakesPart, WritesSome}
 pub use Rattle.s3a_top.specs.Commands.{HasReason, IsInput, NoCommand, StoreDone, StoreStopped, WorkDone, may_read, reads_input}
@@ -28,4 +28,4 @@ pub use Rattle.s3a_top.specs.Works.{IsWritten}
 pub use Rattle.s3a_top.specs.declared.stop.Stop.{Stop}
 pub use Rattle.s3a_top.specs.declared.work.Work.{Work}
 pub use Rattle.s3a_words.specs.declared.command.Command.{Command}
-pub use Rattle.std.proofs.Common.{Bool, Err, IfErr, IfOk, IsErrOf, List, None, Ok, OnErr, Option, Result, Some, [], ap, append_assoc, arith, cond, drop, false, if◌then◌else◌, inl, inr, length, length-append, lit≤, nat_le, refl, rules, subst, sym, take, true, ℕ, ⊎_elim, ◌++◌, ◌+◌, ◌<◌, ◌==◌, ◌^◌, ◌∙◌, ◌∷◌, ◌≡◌, ◌≢◌, ◌≤◌, ◌⊎◌}
+pub use Rattle.std.proofs.Common.{Bool, Err, IfErr, IfOk, IsErrOf, List, None, Ok, OnErr, Option, Result, Some, [], ap, append_assoc, arith, cond, drop, false, inl, inr, length, length-append, lit≤, nat_le, refl, rules, subst, sym, take, true, ℕ, ⊎_elim, ◌++◌, ◌+◌, ◌<◌, ◌==◌, ◌^◌, ◌∙◌, ◌∷◌, ◌≡◌, ◌≢◌, ◌≤◌, ◌⊎◌, if◌then◌else◌}

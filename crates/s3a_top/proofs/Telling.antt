@@ -1,11 +1,11 @@
 -- Which counts of faults rise, and which causes stops have.
 use Rattle.s3a_top.proofs.Common.{AreJobsOf, Command, Counted, Counts, CountsReads, Err, HasCause, HasReasonIn, Held, IsDue, IsOfStop, IsReadStop, IsSoundly, IsVerdict, IsWorked, Jobs, List, None, Ok, One, Option, ShelfStop, Some, Status, Stop, Stored, TakesIfRead, Tells, Two, Work, code, false, inl, inr, may_read, of_shelf, refl, status_of, subst, sym, takes_input, ℕ, ⊎_elim, ◌<◌, ◌∙◌, ◌≡◌, ◌≢◌}
-use Rattle.journal_log.specs.Images.{Counts as CountsLoad}
 use Rattle.shelf.specs.declared.kept.ShelfStop.TheVariants as shelves
 use Rattle.s3a_words.specs.declared.command.Command.TheVariants.{Job, Gen, Twins}
 use Rattle.exit_status.specs.declared.statuses.Status.TheVariants as statuses
 use Rattle.s3a_top.specs.declared.stop.Stop.TheVariants.{ReadFault, Script as BadScript, Twins as BadTwins, NoMemory}
 use Rattle.s3a_top.proofs.Readings.{script_part, twins_part}
+use Rattle.journal_log.specs.Images.{Counts as CountsLoad}
 
 -- ---- counts of faults
 

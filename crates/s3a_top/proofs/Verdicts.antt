@@ -1,5 +1,5 @@
 -- Which statuses are due of a job and of a command.
-use Rattle.s3a_top.proofs.Common.{Bool, CommitEnd, Decided, EndedSo, EventEnd, IsFinal, Jobs, List, NotBegun, One, OpEnd, Script, SetupEnd, Told, Two, Unended, end_verdict, false, if◌then◌else◌, inl, inr, past, refl, true, verdict, verdict_of, verdict_of_two, verdict_or, ℕ, ◌==◌}
+use Rattle.s3a_top.proofs.Common.{Bool, CommitEnd, Decided, EndedSo, EventEnd, IsFinal, Jobs, List, NotBegun, One, OpEnd, Script, SetupEnd, Told, Two, Unended, end_verdict, false, inl, inr, past, refl, true, verdict, verdict_of, verdict_of_two, verdict_or, ℕ, ◌==◌, if◌then◌else◌}
 use Rattle.job_model.specs.declared.ends.SetupEnd.TheVariants as setups
 use Rattle.job_model.specs.declared.ends.CommitEnd.TheVariants as commits
 use Rattle.job_model.specs.declared.ends.CheckEnd.{CheckEnd}

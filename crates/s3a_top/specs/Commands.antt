@@ -1,4 +1,5 @@
 -- What comes of the other commands, and of words that are none.
+use Rattle.s3a_words.specs.declared.command.Command.TheVariants.{Job, Twins}
 use Rattle.std.specs.Prelude.{Bool, List, None, Option, Some, [], false, true, ℕ, ◌≡◌, ◌⊎◌}
 use Rattle.journal_log.specs.Prelude.{CrashesLeave, Entry, IsDurable, Sight, Stored}
 use Rattle.durable_job.specs.declared.jobs.Told.{Told}
@@ -7,7 +8,6 @@ use Rattle.durable_store.specs.Outcomes.{CallsBy, HasImages, IsAnswer, IsDurable
 use Rattle.durable_store.specs.declared.held.Held.{Held}
 use Rattle.durable_store.specs.declared.held.Held.TheVariants.{Faulty}
 use Rattle.s3a_words.specs.declared.command.Command.{Command}
-use Rattle.s3a_words.specs.declared.command.Command.TheVariants.{Job, Twins}
 use Rattle.s3a_shell.specs.Commanded.{IsWork, takes_input}
 use Rattle.s3a_top.specs.Bytes.{IsRead, TakesPart}
 use Rattle.s3a_top.specs.Openings.{IsFound, IsSoundly}

@@ -54,9 +54,8 @@ Opens (Some s) jobs c = opening_in (found s) jobs ≡ Some c
 
 -- the shelf holds a store, or nothing, where it tells it
 abbrev pub is_sound : Held → Type 0
-is_sound Nothing = Unit {0}
-is_sound (Store c) = Unit {0}
 is_sound (Faulty number place) = ⊥
+is_sound _ = Unit {0}
 
 -- the shelf holds a store or nothing, where it tells it
 abbrev pub IsSoundly : Option Stored → Type 0

@@ -15,10 +15,9 @@ abbrev pub status_of : Stop → Status
 status_of Usage = statuses.Usage
 status_of ReadFault = statuses.ReadFault
 status_of ShelfFault = statuses.ShelfFault
-status_of (BadScript e) = statuses.BadScript
-status_of (BadTwins e) = statuses.BadScript
 status_of (Image number place) = statuses.BadImage
 status_of NoMemory = statuses.NoMemory
+status_of _ = statuses.BadScript
 
 -- the stop that a shelf's failed call is
 abbrev pub of_shelf : ShelfStop → Stop

@@ -21,8 +21,8 @@ use Rattle.s3a_top.specs.Works.{IsWritten}
 use Rattle.s3a_top.specs.declared.stop.Stop.{Stop}
 use Rattle.s3a_top.specs.declared.work.Work.{Work}
 use Rattle.exit_status.specs.declared.statuses.Status.TheVariants as statuses
-use Rattle.durable_store.specs.Works.{Work as Doing}
 use Rattle.s3a_top.specs.declared.stop.Stop.TheVariants.{ReadFault, Script as BadScript, Twins as BadTwins, Image, NoMemory}
+use Rattle.durable_store.specs.Works.{Work as Doing}
 
 -- the counts of faults of the input and of the shelf may rise, and the command's numbers are within their bounds
 pub record MayDo (input shelf : ℕ) (command : Command) : Type 0 where

@@ -1,10 +1,10 @@
 -- A request changes only the keys, the upload and the paths that it names, and the ids that it draws.
-use Rattle.store_frame.proofs.Common.{AbortUpload, Bool, BucketContent, ClusterDelete, ClusterGet, ClusterList, ClusterPut, ClusterRename, CompleteUpload, Content, CopyObject, CreateUpload, DeleteObject, DeleteObjects, Err, Files, HasBucket, IsIn, List, MOST_ENTRIES, MakeBucket, None, Object, Objects, Ok, Option, PutObject, Refusal, Request, Result, Scene, Some, Upload, UploadPart, Uploads, [], aborted, ap, apply, apply_at, apply_in, arith, bucket_of, changed_keys, changed_paths, changed_upload, completed, cond, copied, draws, false, inl, inr, is_bucket, is_part_number, joined, length, live, nat_gone, nat_left, nat_lt, nat_other, new_bucket, none_some, part_put, refl, renamed, same_or_not, same_or_other, subst, sym, text_here, text_left, text_other, true, upload_in, with_key, with_part, without, ℕ, ◌+◌, ◌<◌, ◌∙◌, ◌∷◌, ◌≡◌, ◌≤◌, ◌⊎◌}
+use Rattle.store_frame.proofs.Common.{AbortUpload, Bool, BucketContent, ClusterDelete, ClusterGet, ClusterList, ClusterPut, ClusterRename, CompleteUpload, Content, CopyObject, CreateUpload, DeleteObject, DeleteObjects, Err, Files, HasBucket, IsIn, List, MOST_ENTRIES, MakeBucket, None, Object, Objects, Ok, Option, PutObject, Refusal, Request, Result, Scene, Some, Upload, UploadPart, Uploads, [], aborted, ap, apply, apply_at, apply_in, arith, bucket_of, changed_keys, changed_paths, changed_upload, completed, cond, copied, draws, false, inl, inr, is_bucket, joined, length, live, nat_gone, nat_left, nat_lt, nat_other, new_bucket, none_some, part_put, refl, renamed, same_or_not, same_or_other, subst, sym, text_here, text_left, text_other, true, upload_in, with_key, without, ℕ, ◌+◌, ◌<◌, ◌∙◌, ◌∷◌, ◌≡◌, ◌≤◌, ◌⊎◌}
 use Rattle.std.specs.FinMap as fin
 use Rattle.s3_types.specs.Answer.{made}
 use Rattle.store_frame.specs.Held.{object_in, upload_at}
 use Rattle.store_frame.specs.Frame.{Frame}
-use Rattle.proof_base.proofs.Numbers.{next_most}
+use Rattle.basics.proofs.Naturals.{next_most}
 
 -- a store with this in place of a bucket
 abbrev pub with_bucket : Content → List ℕ → BucketContent → ℕ → Content

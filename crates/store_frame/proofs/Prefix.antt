@@ -1,6 +1,6 @@
 -- What a text begins with, and the order of texts.
 use Rattle.store_frame.proofs.Common.{Bool, List, Ordering, [], arith, begins, false, false≢true, is_lt, nat_cmp, nat_eq, nat_tests, ordering_then, refl, text_cmp, text_total, true, true≢false, ℕ, ◌&&◌, ◌++◌, ◌∷◌, ◌≡◌}
-use Rattle.proof_base.proofs.Less as less
+use Rattle.basics.proofs.Less as less
 
 -- whether a text is less than another
 abbrev pub lt : List ℕ → List ℕ → Bool

@@ -1,5 +1,5 @@
 -- Common prefixes.
-use Rattle.store_frame.proofs.Common.{Bool, List, None, Option, Some, [], and_parts, ap, arith, before_slash, begins, cases_Bool, eq-eqb, eqb-true, false, false≢true, inl, inr, nat_eq, option_map, refl, some_is, stem, subst, sym, true, ℕ, ◌&&◌, ◌++◌, ◌∙◌, ◌∷◌, ◌≡◌}
+use Rattle.store_frame.proofs.Common.{Bool, List, Option, Some, [], and_parts, ap, arith, before_slash, begins, cases_Bool, eq-eqb, eqb-true, false, false≢true, inl, inr, nat_eq, option_map, refl, some_is, stem, subst, sym, true, ℕ, ◌&&◌, ◌++◌, ◌∙◌, ◌∷◌, ◌≡◌}
 
 record Mapped {A : Type 0} (f : A → A) (o : Option A) (s : A) : Type 0 where
   pub from : A

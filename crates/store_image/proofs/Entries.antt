@@ -1,6 +1,5 @@
 -- Entries that rise: they are taken and read again, and they are those of the map that they make.
 use Rattle.store_image.proofs.Common.{AllByRecursion, AreEntries, Bool, Greater, IsBytes, IsEntry, IsReader, IsTotalOrder, IsWide, List, None, Ok, Option, Ordering, Some, T, Takes, Takes-then, Width, [], ap, append-nil, append_assoc, arith, below_all, counted, entries_empty, entries_sorted, false, flat_map, flat_map-cons, is_lt, is_sorted, length, length-append, less_of, ordering_reverse, parted, put, refl, same_ok, subst, suc, sym, to_be_bytes, true, zero, ℕ, ◌++◌, ◌+◌, ◌<◌, ◌^◌, ◌∙◌, ◌∷◌, ◌≡◌, ◌≤◌}
-use Rattle.std.specs.Prelude.{◌&&◌}
 use Rattle.std.specs.FinMap as fin
 use Rattle.store_image.specs.Reading.{Read, number_at, is_after, rising_at, with_entries, map_at, counted_at}
 use Rattle.store_image.proofs.Steps.{number_takes, number_again}

@@ -1,6 +1,6 @@
 -- Maps that grow by keys that rise.
 use Rattle.store_image.proofs.Common.{Bool, List, None, Option, Some, ap, arith, cond, false, is_after, less_of, nat_cmp_total, nat_tests, refl, sym, true, ℕ, ◌<◌, ◌∙◌, ◌≡◌, ◌≤◌}
-use Rattle.s3_types.specs.Prelude.{is_lt, is_eq, eq_by_cmp, ordering_reverse, nat_cmp, Ordering, Less, Equal, Greater, IsTotalOrder, eq_by_cmp_equiv, text_equiv, Parts, Upload, Uploads, with_key, live, is_part_number, with_part, part_put}
+use Rattle.s3_types.specs.Prelude.{is_lt, is_eq, eq_by_cmp, ordering_reverse, nat_cmp, Ordering, IsTotalOrder, eq_by_cmp_equiv, text_equiv, Parts, Upload, Uploads, with_key, live, is_part_number, with_part, part_put}
 use Rattle.std.specs.FinMap as fin
 
 module _ {K : Type 0} {R : K → K → Ordering} (o : IsTotalOrder R) where

@@ -1,7 +1,7 @@
 -- What is read of each kind of value is spelled so, and what is spelled so is read.
 use Rattle.store_image.proofs.Common.{AreEntries, Bool, IsBucket, IsBytes, IsEntry, IsObject, IsPart, IsReader, IsUpload, List, None, Ok, Option, Some, Takes, Takes-then, [], ap, append_assoc, arith, block, bucket, counted, header, is_id, leb, length, ltb, name, object, part, parted, refl, same_ok, slice_index, subst, suc, sym, tested, tested_again, true, upload, wide16, wide64, zero, ℕ, ◌&&◌, ◌++◌, ◌+◌, ◌-◌, ◌<◌, ◌^◌, ◌∙◌, ◌∷◌, ◌≡◌, ◌≤◌}
 use Rattle.std.specs.FinMap as fin
-use Rattle.proof_base.proofs.Common.{length-append, leb-true, ltb-true, and_parts, nat_cmp_total}
+use Rattle.basics.proofs.Common.{length-append, leb-true, ltb-true, and_parts, nat_cmp_total}
 use Rattle.s3_types.specs.Prelude.{w16, w64, to_be_bytes, AllByRecursion, list_all, nat_cmp, text_cmp, text_total, is_utf8, ◌>>=◌, is_bucket, is_key, is_key_path, are_elements, trimmed, is_name_byte, is_part_number, Upload, BucketContent}
 use Rattle.s3_types.specs.Names.{is_letter_or_digit}
 use Rattle.s3_types.specs.declared.object.Object.{Object}

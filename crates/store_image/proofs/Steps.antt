@@ -1,6 +1,6 @@
 -- Steps of reading: what a step took from the front, and that it reads again what was written.
-use Rattle.store_image.proofs.Common.{IsBytes, IsPart, IsReader, IsWide, List, Ok, Short, Takes, Takes-then, Width, ap, append_assoc, arith, block, byte_len, from_be_bytes, front_again, front_takes, length, parted, refl, same_ok, subst, sym, to_be_bytes, w64, wide64, ℕ, ◌++◌, ◌+◌, ◌<◌, ◌>>=◌, ◌^◌, ◌∙◌, ◌≡◌, ◌≤◌}
-use Rattle.proof_base.proofs.Common.{length-append}
+use Rattle.store_image.proofs.Common.{IsBytes, IsPart, IsReader, IsWide, List, Ok, Short, Takes, Takes-then, Width, ap, append_assoc, arith, block, byte_len, from_be_bytes, front_again, front_takes, length, parted, refl, same_ok, subst, sym, to_be_bytes, w64, wide64, ℕ, ◌++◌, ◌+◌, ◌<◌, ◌>>=◌, ◌^◌, ◌∙◌, ◌≡◌}
+use Rattle.basics.proofs.Common.{length-append}
 use Rattle.store_image.specs.Reading.{Read, place, bytes_at, number_at, block_at}
 
 -- ---- bytes

@@ -1,6 +1,6 @@
 -- The two laws of the whole: what is read is spelled so, and what is spelled so is read.
 use Rattle.store_image.proofs.Common.{BadHead, Content, CounterTooHigh, Err, IsBytes, IsContent, List, Ok, Takes, Takes-then, Trailing, [], ap, append_assoc, arith, bucket, bytes_eq, cond, counted, eqb, image, is_bucket, is_counter, is_minimum, leb, length, magic, parted, passed, passing, refl, same_ok, subst, sym, text_cmp, to_be_bytes, true, w64, wide64, ℕ, ◌++◌, ◌<◌, ◌>>=◌, ◌^◌, ◌∙◌, ◌≡◌, ◌≤◌}
-use Rattle.proof_base.proofs.Common.{eqb-true, leb-true, and_parts, append-nil, nil_from_length, length-append, bytes_eq-Decides}
+use Rattle.basics.proofs.Common.{eqb-true, leb-true, and_parts, append-nil, nil_from_length, length-append, bytes_eq-Decides}
 use Rattle.store_image.specs.Reading.{Read, place, bytes_at, number_at, name_at, bucket_at, counted_at, head_at, store_at, content_in}
 use Rattle.store_image.proofs.Steps.{bytes_take, bytes_again, number_takes, number_again}
 use Rattle.store_image.proofs.Spelled.{buckets_reader}

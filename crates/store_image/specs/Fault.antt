@@ -1,6 +1,6 @@
 -- Faults of an image by their numbers and places, and what a call returned of what reading gives.
 use Rattle.std.specs.Prelude.{ℕ, Bool, true, false, Result}
-use Rattle.proof_base.specs.Reading as reading
+use Rattle.basics.specs.Reading as reading
 use Rattle.store_image.specs.declared.fault.ImageFault.{ImageFault}
 use Rattle.store_image.specs.declared.fault.ImageFault.TheVariants.{BadHead, Short, BadOrder, BadName, CounterTooHigh, Trailing, NoMemory}
 
@@ -16,13 +16,11 @@ number_of NoMemory = 7
 
 -- a fault's place, 0 where it has none
 abbrev pub place_in : ImageFault → ℕ
-place_in BadHead = 0
 place_in (Short place) = place
 place_in (BadOrder place) = place
 place_in (BadName place) = place
-place_in CounterTooHigh = 0
 place_in (Trailing place) = place
-place_in NoMemory = 0
+place_in _ = 0
 
 -- want of memory
 abbrev pub wanting : ImageFault → Bool

@@ -1,9 +1,9 @@
 -- Reading an image from left to right, with the first fault that is met. A field's place is how much of the whole, which is told by its length, stands before it.
-use Rattle.std.specs.Prelude.{ℕ, ◌-◌, zero, suc, ◌==◌, nat_lt, Bool, true, if◌then◌else◌, List, [], ◌∷◌, length, take, drop, bytes_eq, Option, Some, None, Result, Ok, Err}
-use Rattle.s3_types.specs.Prelude.{Width, w16, w64, byte_len, from_be_bytes, is_lt, nat_cmp, Ordering, text_cmp, ◌>>=◌, passing, is_bucket, is_key, is_part_number, Parts, Upload, BucketContent, Content}
+use Rattle.std.specs.Prelude.{ℕ, ◌-◌, zero, suc, ◌==◌, nat_lt, Bool, true, List, [], ◌∷◌, length, take, drop, bytes_eq, Option, Some, None, Result, Ok, Err, if◌then◌else◌}
+use Rattle.s3_types.specs.Prelude.{Width, w16, w64, byte_len, from_be_bytes, is_lt, nat_cmp, Ordering, text_cmp, passing, is_bucket, is_key, is_part_number, Parts, Upload, BucketContent, Content, ◌>>=◌}
 use Rattle.std.specs.FinMap as fin
-use Rattle.proof_base.specs.Reading as reading
-use Rattle.proof_base.specs.Reading.{made}
+use Rattle.basics.specs.Reading as reading
+use Rattle.basics.specs.Reading.{made}
 use Rattle.s3_types.specs.declared.object.Object.{Object}
 use Rattle.store_image.specs.Image.{magic}
 use Rattle.store_image.specs.Content.{is_minimum, is_counter, is_id}

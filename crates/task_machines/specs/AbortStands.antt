@@ -1,9 +1,9 @@
 -- How an abort of a task stands.
 use Rattle.std.specs.Prelude.{◌≡◌, Bool, true, false, List, [], ◌∷◌, Option, Some, None}
 use Rattle.std.proofs.Common.{refl}
-use Rattle.job_protocol.specs.Prelude.{Committer, Magic, Directory, Partitioned, Reply, Drawn, Script, Attempting, task_script, task_abort_wants, task_abort_told, Sweep, sweep_hears, all_go, TaskAbort, Dropping, TaskAbortOver, task_abort_over, task_abort_hears, dropping}
+use Rattle.job_protocol.specs.Prelude.{Committer, Magic, Directory, Partitioned, Reply, Drawn, Script, Attempting, task_script, task_abort_wants, task_abort_told, Sweep, sweep_hears, all_go, TaskAbort, Dropping, task_abort_over, task_abort_hears, dropping}
 use Rattle.machine.specs.Prelude.{Standing, Fine, AskLaws}
-use Rattle.job_protocol.specs.TaskAborts.{Sweeping, Removing, removing, dropped, sweeping}
+use Rattle.job_protocol.specs.TaskAborts.{Sweeping, removing, dropped, sweeping}
 use Rattle.task_machines.specs.Standing.{standing_by}
 use Rattle.task_machines.specs.Aborts.{abort_fits}
 
@@ -30,8 +30,7 @@ fine_sweeping None = refl
 goes_on : (w : Script) (o : TaskAbort) (a : Reply) → standing_by (task_abort_over (task_abort_hears w o a)) ≡ standing_by (task_abort_over o)
 goes_on w (Dropping d ds sent) a = fine_dropping w.committer sent ds
 goes_on w (Sweeping s) a = fine_sweeping (sweep_hears all_go s a)
-goes_on w Removing a = refl
-goes_on w (TaskAbortOver end) a = refl
+goes_on w _ a = refl
 
 pub abort_laws : AskLaws task_abort_wants task_abort_told abort_fits abort_standing
 abort_laws = record {

@@ -5,10 +5,8 @@ use Rattle.job_protocol.specs.TaskAborts.{Sweeping, Removing}
 
 -- a page that is not folded has keys alone, and the bucket is there
 abbrev pub FitsAbort : TaskAbort → Reply → Type 0
-FitsAbort (Dropping d ds sent) r = Unit {0}
 FitsAbort (Sweeping s) r = FitsSweep s r
-FitsAbort Removing r = Unit {0}
-FitsAbort (TaskAbortOver end) r = Unit {0}
+FitsAbort _ r = Unit {0}
 
 -- a reply that a task's abort may be told
 abbrev pub abort_fits : Attempting TaskAbort → Reply → Bool → Type 0

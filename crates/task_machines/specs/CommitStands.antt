@@ -1,7 +1,7 @@
 -- How a commit of a task stands.
 use Rattle.std.specs.Prelude.{◌≡◌, ℕ, Bool, true, false, List, [], ◌∷◌, Option, Some, None}
 use Rattle.std.proofs.Common.{refl}
-use Rattle.job_protocol.specs.Prelude.{Reply, Page, Refused, NoSuchKey, NoSuchUpload, NoSuchFile, File, Who, Known, Script, Attempting, task_script, who_of, task_commit_wants, task_commit_told, files, Uploading, Creating, Sending, file_parts, sending, created, sent_part, upload_hears, Walked, More, Whole, TaskCommit, Looking, Reading, Publishing, Checking, Storing, Renaming, TaskCommitOver, task_commit_over, task_commit_hears, reading, looked_at, looked, read_record, storing, checking, uploaded, renamed}
+use Rattle.job_protocol.specs.Prelude.{Reply, Page, Refused, NoSuchKey, NoSuchUpload, NoSuchFile, File, Who, Known, Script, Attempting, task_script, who_of, task_commit_wants, task_commit_told, files, Uploading, Creating, Sending, file_parts, sending, created, sent_part, upload_hears, Walked, More, Whole, TaskCommit, Looking, Reading, Checking, Renaming, task_commit_over, task_commit_hears, reading, looked_at, looked, read_record, storing, checking, uploaded, renamed}
 use Rattle.machine.specs.Prelude.{Upload, Standing, Fine, AskLaws}
 use Rattle.s3_types.specs.declared.reply.Reply.TheVariants.{Object}
 use Rattle.list_walk.specs.Walks.{walked}
@@ -68,12 +68,10 @@ fine_renamed w a _ repeated = refl
 goes_on : (w : Script) (minimum : ℕ) (a : Who) (k : Known) (o : TaskCommit) (r : Reply) (b : Bool) → FitsCommit w a k o r → standing_by (task_commit_over (task_commit_hears w minimum a o r b)) ≡ standing_by (task_commit_over o)
 goes_on w minimum a k (Looking keys) r b h = fine_looked w a (walked keys r)
 goes_on w minimum a k (Reading cs f fs) r b h = fine_read w a k cs f fs r h
-goes_on w minimum a k (Publishing cs) r b h = refl
 goes_on w minimum a k (Checking d ds) r b h = fine_checked w a d ds r
 goes_on w minimum a k (commits.Uploads f fs u) r b h = fine_uploaded w minimum f fs u r
-goes_on w minimum a k Storing r b h = refl
 goes_on w minimum a k Renaming r b h = fine_renamed w a r b
-goes_on w minimum a k (TaskCommitOver end) r b h = refl
+goes_on w minimum a k _ r b h = refl
 
 pub commit_laws : AskLaws task_commit_wants task_commit_told commit_fits commit_standing
 commit_laws = record {

@@ -1,6 +1,6 @@
 -- The replies that fit a commit of a task, and what it has left, for every committer.
 use Rattle.std.specs.Prelude.{ℕ, ◌+◌, Bool, List, [], ◌∷◌, ◌++◌, length}
-use Rattle.job_protocol.specs.Prelude.{Scene, Reply, Page, RisesFrom, File, Who, Known, Script, Attempting, task_script, who_of, files, Uploading, Creating, Sending, file_parts, keys_on, TaskCommit, Looking, Reading, Publishing, Checking, Storing, Renaming, TaskCommitOver, attempt_prefix, FitsPage, walk_left}
+use Rattle.job_protocol.specs.Prelude.{Scene, Reply, Page, RisesFrom, File, Who, Known, Script, Attempting, task_script, who_of, files, Uploading, Creating, Sending, file_parts, keys_on, TaskCommit, Looking, Reading, Checking, Storing, TaskCommitOver, attempt_prefix, FitsPage, walk_left}
 use Rattle.job_protocol.specs.TaskCommits as commits
 use Rattle.task_requests.specs.Publishing.{FitsRecord}
 use Rattle.task_requests.specs.Writing.{FitsUpload}
@@ -16,12 +16,9 @@ FitsListing keys r = FitsPage r
 abbrev pub FitsCommit : Script → Who → Known → TaskCommit → Reply → Type 0
 FitsCommit w a k (Looking keys) r = FitsListing keys r
 FitsCommit w a k (Reading cs f fs) r = FitsRecord w a k f r
-FitsCommit w a k (Publishing cs) r = Unit {0}
 FitsCommit w a k (Checking d ds) r = FitsPage r
 FitsCommit w a k (commits.Uploads f fs u) r = FitsUpload k.drawn u r
-FitsCommit w a k Storing r = Unit {0}
-FitsCommit w a k Renaming r = Unit {0}
-FitsCommit w a k (TaskCommitOver end) r = Unit {0}
+FitsCommit w a k _ r = Unit {0}
 
 -- a reply that a task's commit may be told
 abbrev pub commit_fits : Attempting TaskCommit → Reply → Bool → Type 0
@@ -43,12 +40,11 @@ uploads_left w minimum (f ∷ fs) = upload_left w minimum f Creating + uploads_l
 abbrev pub commit_left_at : Script → ℕ → Who → TaskCommit → Scene → ℕ
 commit_left_at w minimum a (Looking keys) s = walk_left w.dest.bucket (attempt_prefix w a) keys s + (1 + length (files w a))
 commit_left_at w minimum a (Reading cs f fs) s = 2 + length fs
-commit_left_at w minimum a (Publishing cs) s = 1
 commit_left_at w minimum a (Checking d ds) s = (1 + length ds) + (uploads_left w minimum (files w a) + 2)
 commit_left_at w minimum a (commits.Uploads f fs u) s = upload_left w minimum f u + (uploads_left w minimum fs + 2)
 commit_left_at w minimum a Storing s = 2
-commit_left_at w minimum a Renaming s = 1
 commit_left_at w minimum a (TaskCommitOver end) s = 0
+commit_left_at w minimum a _ s = 1
 
 -- the requests that a task's commit of a plan has yet to send
 abbrev pub commit_left : Attempting TaskCommit → Scene → ℕ

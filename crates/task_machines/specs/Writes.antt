@@ -39,9 +39,8 @@ written_fine (f ∷ fs) = refl
 fine_at : (t : Task) (o : Write) (r : Request) (a : Reply) → write_wants (record { plan = t; operation = o }) ≡ Some r → FitsWrite t.known o a → standing_at (write_hears (task_script t) t.minimum o a) ≡ standing_at o
 fine_at t (writes.Uploads f fs Creating) r a w h = begun_fine (task_script t) t.minimum f fs t.known.drawn a h
 fine_at t (writes.Uploads f fs (Sending p ps)) r a w h = part_fine (task_script t) f fs ps a h
-fine_at t (writes.Marking f fs) r a w h = refl
 fine_at t (writes.Recording f fs) r a w h = written_fine fs
-fine_at t (writes.WriteOver end) r a w h = refl
+fine_at t _ r a w h = refl
 
 -- of an operation that an actor holds
 pub write_asks : AskLaws write_wants write_told write_fits write_standing

@@ -1,11 +1,11 @@
 -- Which files the keys of a listing are of.
-use Rattle.task_magic.proofs.Common.{AllByRecursion, AreRecords, Bool, File, IfSome, IsDistinct, IsPlaceOf, IsRecordAt, List, None, Option, Some, Task, [], add-one, ap, append-nil, append_assoc, append_cancel_left, append_cancel_right, are_places, arith, attempt_dir, attempt_prefix, below, below_so, bytes_decides, codes, cond, drop, drop-cons, drop_all, false, files, filter, flat_map-append, get_or, in_order, is_at, is_some, keys_of, least_missing, least_of, least_unseen, length, length-append, length-map, list_all-append, list_any, list_any-append, lookup, map, map-append, nat_eq, nat_lt, nat_tests, option_map, or-false, or-true, own_files, picked, places_in, position, record_of, records_in, refl, replicate, seen_in, set_at, slice_get, slice_set, subst, suc, sym, task_script, text_eq, true, true≢false, who_of, zero, ℕ, ◌++◌, ◌+◌, ◌<◌, ◌||◌, ◌∙◌, ◌∷◌, ◌≡◌, ◌≤◌}
-use Rattle.proof_base.proofs.Members.{nat_true, text_false}
-use Rattle.proof_base.proofs.Common.{slice_get-get_or, position-Some, IsDistinct-head, IsDistinct-tail, slice_get_within}
+use Rattle.task_magic.proofs.Common.{AllByRecursion, AreRecords, Bool, File, IfSome, IsDistinct, IsPlaceOf, IsRecordAt, List, None, Option, Some, Task, [], add-one, ap, append-nil, append_assoc, append_cancel_left, append_cancel_right, are_places, arith, attempt_dir, attempt_prefix, below, below_so, bytes_decides, codes, cond, drop, drop-cons, drop_all, false, files, filter, flat_map-append, get_or, in_order, is_at, is_some, keys_of, least_missing, least_of, least_unseen, length, length-append, length-map, list_all-append, list_any, list_any-append, lookup, map, map-append, nat_eq, nat_lt, option_map, or-false, or-true, own_files, picked, places_in, position, record_of, records_in, refl, replicate, seen_in, set_at, slice_get, slice_set, subst, suc, sym, task_script, text_eq, true, true≢false, who_of, zero, ℕ, ◌++◌, ◌+◌, ◌<◌, ◌||◌, ◌∙◌, ◌∷◌, ◌≡◌, ◌≤◌}
+use Rattle.basics.proofs.Members.{nat_true, text_false}
+use Rattle.basics.proofs.Common.{slice_get-get_or, position-Some, IsDistinct-head, IsDistinct-tail, slice_get_within}
 use Rattle.std.proofs.lemmas.List.{get_or-map}
 use Rattle.magic_paths.proofs.Tails.{below_is}
 use Rattle.job_model.specs.declared.ends.TaskEnd.TheVariants as ends
-use Rattle.proof_base.proofs.Numbers.{suc_not, suc_same, zero_not}
+use Rattle.basics.proofs.Naturals.{suc_not, suc_same, zero_not}
 
 -- ---- tests on texts
 

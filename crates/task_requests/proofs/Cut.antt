@@ -1,6 +1,5 @@
 -- What is cut of a plan's file, in numbers that fit.
 use Rattle.task_requests.proofs.Common.{IsTask, List, Task, ap, arith, count_of, few_parts, length, length-parts, most_size, size_of, some_size, subst, sym, ℕ, ◌*◌, ◌+◌, ◌<◌, ◌^◌, ◌∙◌, ◌≡◌, ◌≤◌}
-use Rattle.words.proofs.Common.{mul-le-mul_right}
 use Rattle.s3_types.specs.Prelude.{quotient_up, greater}
 
 most : (t : Task) (bytes : List ℕ) → IsTask t → length bytes ≤ 67108864 → size_of t bytes ≤ 67108864

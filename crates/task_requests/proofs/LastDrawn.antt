@@ -1,5 +1,5 @@
 -- Where the upload of a key that was drawn last stands.
-use Rattle.task_requests.proofs.Common.{AreReady, Bool, Drawn, File, IsLastAt, IsPending, Known, List, None, Option, Pending, Publishing, PutObject, Request, Script, Some, Task, [], ap, are_sizes, are_tags, arith, as_made, cond, drawn_in, drawn_of, false, file_key, file_record, get_left, get_or, get_or_from_slice_get, length, length-take-le, map-append, nothing_drawn, picked, records_of, refl, reverse, reverse-append, reverse-reverse, same_Some, set_text, slice_get, subst, suc, sym, take, take_more, task_commit_asks, task_script, text_eq, true, true≢false, who_of, zero, ℕ, ◌++◌, ◌+◌, ◌<◌, ◌∙◌, ◌∷◌, ◌≡◌, ◌≤◌}
+use Rattle.task_requests.proofs.Common.{AreReady, Bool, Drawn, File, IsLastAt, IsPending, Known, List, None, Option, Pending, Publishing, PutObject, Request, Script, Some, Task, [], ap, are_sizes, are_tags, arith, as_made, cond, drawn_in, drawn_of, false, file_key, file_record, get_left, get_or, get_or_from_slice_get, length, length-take-le, map-append, picked, records_of, refl, reverse, reverse-append, reverse-reverse, same_Some, set_text, slice_get, subst, suc, sym, take, take_more, task_commit_asks, task_script, text_eq, true, who_of, zero, ℕ, ◌++◌, ◌+◌, ◌<◌, ◌∙◌, ◌∷◌, ◌≡◌, ◌≤◌}
 use Rattle.magic_paths.specs.Layout as layout
 use Rattle.task_requests.proofs.InOrder.{made_reverse}
 

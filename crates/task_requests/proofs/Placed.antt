@@ -1,12 +1,11 @@
 -- The paths of an attempt's files as parts of keys.
-use Rattle.task_requests.proofs.Common.{ArePlaced, Bool, File, IfSome, IsFile, IsGiven, IsJob, IsNamed, IsPlaced, IsTask, Job, List, None, Option, Path, Some, Task, [], and_parts, ap, are_elements, arith, attempt_key, begins_hidden, below, bytes_eq, bytes_eq-Decides, bytes_of, codes, contrary, decimal, dir_of, ends_with, false, inl, inr, is_element, is_full, is_job_id, is_reserved, join_parts, join_with_byte, leb-true, length, length-append, length-decimal-le, list_all, list_all-append, list_any, lone_from, nat_eq, nat_le, nat_tests, not, one_part, option_map, or_parts, refl, same_Some, short_number, slice_get, subst, suc, sym, true, unique_name, with_id, with_id_last, zero, ℕ, ◌&&◌, ◌++◌, ◌+◌, ◌<◌, ◌==◌, ◌^◌, ◌||◌, ◌∙◌, ◌∷◌, ◌≡◌, ◌≤◌}
-use Rattle.words.specs.Parts.{parts_from, parts_of}
+use Rattle.task_requests.proofs.Common.{ArePlaced, Bool, File, IfSome, IsFile, IsGiven, IsJob, IsNamed, IsPlaced, IsTask, Job, List, Option, Path, Some, Task, [], and_parts, ap, are_elements, arith, attempt_key, begins_hidden, below, bytes_eq, bytes_eq-Decides, bytes_of, codes, contrary, dir_of, false, inl, inr, is_element, is_full, is_job_id, join_parts, join_with_byte, leb-true, length, length-append, list_all, list_all-append, list_any, lone_from, one_part, option_map, or_parts, refl, same_Some, short_number, slice_get, subst, suc, sym, true, unique_name, with_id, with_id_last, zero, ℕ, ◌++◌, ◌+◌, ◌<◌, ◌==◌, ◌^◌, ◌∙◌, ◌∷◌, ◌≡◌, ◌≤◌}
+use Rattle.basics.specs.Parts.{parts_from, parts_of}
 use Rattle.path_keys.proofs.Beneath.{elements_append}
 use Rattle.magic_paths.proofs.Elements.{id_others}
 use Rattle.magic_paths.proofs.Kept.{some_parts}
 use Rattle.job_model.specs.Prelude.{is_other, is_dest_key, is_path}
 use Rattle.magic_paths.proofs.Tails.{below_is}
-use Rattle.proof_base.proofs.Numbers.{dot_not}
 
 -- ---- one of the files
 

@@ -1,8 +1,7 @@
 -- The steps of a write, by the parts that its machine keeps.
-use Rattle.task_requests.proofs.Common.{Attempting, Bool, CreateUpload, Drawn, Err, File, FitsCreate, FitsPart, Got, HasSent, Holds, HoldsAt, IsBehind, IsWrite, Known, List, NoSuchUpload, None, Ok, Option, Part, Path, PutObject, Refused, Reply, Request, Result, Some, Spelled, Task, Upload, UploadPart, Write, WriteStage, [], ap, are_tags, arith, asks_behind, at_most_so, at_parts, below_is, below_not, below_so, cond, dir_of, drawn_last, drop, drop-parts, ended_by, false, few_parts, file_key, first_drawn, fit, get_or, get_or_from_slice_get, is_new, is_plain_tag, length, length-drop, length-map, length-take-le, list_all, map, nat_le, nat_lt, nat_tests, next_stage, part_behind, parts_in, record_key, record_text, refl, seen_write, size_of, slice_get, slice_get-get_or, slice_get_within, some_parts, some_size, subst, sum, sum_parts, sym, tag_in, take, take_all, task_script, true, upload_in, who_of, with_drawn, with_known, with_last, with_tag, write_fits, write_told, write_wants, ℕ, ◌+◌, ◌<◌, ◌==◌, ◌∙◌, ◌∷◌, ◌≡◌, ◌≤◌}
+use Rattle.task_requests.proofs.Common.{Attempting, Bool, CreateUpload, Drawn, File, FitsCreate, FitsPart, Got, HasSent, Holds, HoldsAt, IsBehind, IsWrite, Known, List, NoSuchUpload, None, Option, Part, Path, PutObject, Refused, Reply, Request, Result, Some, Spelled, Task, Upload, UploadPart, Write, WriteStage, [], ap, are_tags, arith, asks_behind, at_most_so, at_parts, below_is, below_not, below_so, cond, dir_of, drawn_last, drop, drop-parts, ended_by, false, few_parts, file_key, first_drawn, fit, get_or, get_or_from_slice_get, is_new, is_plain_tag, length, length-drop, length-map, length-take-le, list_all, map, nat_lt, nat_tests, next_stage, part_behind, parts_in, record_key, record_text, refl, seen_write, size_of, slice_get, slice_get-get_or, slice_get_within, some_parts, some_size, subst, sum_parts, sym, tag_in, take, take_all, task_script, true, upload_in, who_of, with_drawn, with_known, with_tag, write_fits, write_told, write_wants, ℕ, ◌+◌, ◌<◌, ◌==◌, ◌∙◌, ◌∷◌, ◌≡◌, ◌≤◌}
 use Rattle.std.specs.Prelude.{option_map, IfOk}
 use Rattle.job_model.specs.declared.ends.TaskEnd.TheVariants as ends
-use Rattle.job_protocol.specs.Writes as writes
 use Rattle.task_requests.specs.declared.stage.WriteStage.TheVariants as stage
 use Rattle.task_requests.proofs.Told.{seen_at, front_is, none_left, created, part_gone, part_sent, has_more, take_next, marked, recorded}
 

@@ -1,6 +1,6 @@
 -- Where replies lead a write, at the file that it is about.
-use Rattle.task_requests.proofs.Common.{Attempting, Bool, Drawn, File, Got, HasSent, Known, List, NoSuchUpload, None, Part, Refused, Reply, Script, Some, Spelled, Task, Upload, Who, Write, WriteStage, [], add-one, and_parts, ap, append_assoc, append_cancel_left, arith, at_parts, at_stage, below, below_not, bytes_decides, codes, cond, contrary, decimal, drop, drop_all, false, file_key, file_parts, files, first_drawn, get_or, is_new, is_plain_tag, is_set_key, length, length-append, list_all, list_all-append, lit<, map, map-append, nat_eq, nat_lt, nat_tests, next_stage, not, not_so, one_longer, or-false, placed, refl, same_name, sending, slice_get, suc, sym, take, task_script, text_eq, true, who_of, with_drawn, with_known, with_last, with_tag, write_told, writing, zero, ℕ, ◌++◌, ◌+◌, ◌<◌, ◌||◌, ◌∙◌, ◌∷◌, ◌≡◌, ◌≤◌}
-use Rattle.proof_base.proofs.Members.{nat_true}
+use Rattle.task_requests.proofs.Common.{Attempting, Bool, Drawn, File, Got, HasSent, Known, List, NoSuchUpload, None, Part, Refused, Reply, Script, Some, Spelled, Task, Upload, Who, Write, WriteStage, [], add-one, and_parts, ap, append_assoc, append_cancel_left, arith, at_parts, at_stage, below, below_not, bytes_decides, codes, cond, contrary, decimal, drop, drop_all, false, file_key, file_parts, files, first_drawn, get_or, is_new, is_plain_tag, is_set_key, length, length-append, lit<, map, map-append, nat_eq, nat_lt, nat_tests, next_stage, not, not_so, one_longer, or-false, placed, refl, same_name, sending, slice_get, suc, sym, take, task_script, text_eq, true, who_of, with_drawn, with_known, with_last, with_tag, write_told, writing, zero, ℕ, ◌++◌, ◌+◌, ◌<◌, ◌||◌, ◌∙◌, ◌∷◌, ◌≡◌, ◌≤◌}
+use Rattle.basics.proofs.Members.{nat_true}
 use Rattle.magic_paths.specs.Layout as layout
 use Rattle.magic_paths.proofs.Tails.{below_is}
 use Rattle.job_model.specs.declared.ends.TaskEnd.TheVariants as ends

@@ -109,9 +109,7 @@ FitsUpload ds (Sending p ps) r = FitsPart r
 -- a reply that a write may be told
 abbrev pub FitsWrite : Known → Write → Reply → Type 0
 FitsWrite k (writes.Uploads f fs u) r = FitsUpload k.drawn u r
-FitsWrite k (writes.Marking f fs) r = Unit {0}
-FitsWrite k (writes.Recording f fs) r = Unit {0}
-FitsWrite k (writes.WriteOver end) r = Unit {0}
+FitsWrite k _ r = Unit {0}
 
 -- a reply that a write of a plan may be told
 abbrev pub write_fits : Attempting Write → Reply → Bool → Type 0
@@ -188,9 +186,7 @@ tag_in _ = None
 -- the stage of a file of which a part was just answered
 abbrev pub IsBehind : List (List ℕ) → List Drawn → WriteStage → Type 0
 IsBehind parts ds (stage.Sending n) = (n < length parts) × (0 < length ds)
-IsBehind parts ds stage.Creating = Unit {0}
-IsBehind parts ds stage.Marking = Unit {0}
-IsBehind parts ds stage.Recording = Unit {0}
+IsBehind parts ds _ = Unit {0}
 
 -- the next part of the upload that was drawn last, else the marker
 abbrev pub asks_behind : Task → File → WriteStage → Request

@@ -1,6 +1,6 @@
 -- The files of an attempt in order: each stands at a key of its own.
 use Rattle.task_staging.proofs.Common.{ArePlaced, Bool, File, List, Script, Some, [], add-one, ap, append-nil, append_assoc, arith, below, bytes_decides, cond, contrary, drop, false, file_key, get_or, has_path, is_some, length, lookup, refl, suc, sym, take, take-append-drop, text_eq, true, zero, ℕ, ◌++◌, ◌+◌, ◌<◌, ◌∙◌, ◌∷◌, ◌≡◌}
-use Rattle.proof_base.proofs.Lists.{front_cancels}
+use Rattle.basics.proofs.Lists.{front_cancels}
 
 -- ---- the file at a place
 

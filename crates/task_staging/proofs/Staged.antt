@@ -1,5 +1,5 @@
 -- What a staged commit asks, and where replies lead it.
-use Rattle.task_staging.proofs.Common.{Attempting, Bool, ClusterPut, Committer, CreateUpload, Creating, Drawn, Err, File, FitsCreate, FitsPart, Got, HasSent, Holds, HoldsAt, HoldsSent, IsBehind, IsLastPart, IsOfKey, IsTask, KeepsBy, Known, List, Magic, NoSuchUpload, None, Ok, OnErr, OnOk, Option, Part, Pending, PendingSet, Refused, Renaming, Reply, Request, Result, Script, Some, Spelled, Staging, Storing, Task, TaskCommit, TaskCommitOver, TaskEnd, UploadPart, WornOut, [], ap, arith, asks_behind, at_most_is, at_most_so, below_is, below_not, checking, cond, drawn_last, drop, drop_all, false, file_is, file_key, file_record, files, first_drawn, first_part, first_tags, front_is, get_or, has_more, is_new, is_plain_tag, learn_last, learned, length, length-drop, length-take-le, nat_le, nat_lt, next_asks, next_stage, none_left, one_more, opening, own_files, part_behind, parts_in, refl, renamed, sending, sending_at, sending_from, set_of, set_text, size_of, slice_get, some_drawn, some_parts, staged_at, staged_by, storing, subst, suc, sym, tag_in, take, take_all, take_next, task_commit_start, task_commit_start_by, task_commit_told, task_commit_wants, task_script, temporary_path, text_of, to_check, true, true≢false, upload_in, uploaded, who_of, with_drawn, with_known, with_last, with_tag, worn_known, ℕ, ◌&&◌, ◌++◌, ◌+◌, ◌<◌, ◌∙◌, ◌∷◌, ◌≡◌, ◌≤◌}
+use Rattle.task_staging.proofs.Common.{Attempting, Bool, ClusterPut, CreateUpload, Creating, Drawn, File, FitsCreate, FitsPart, Got, HasSent, Holds, HoldsAt, HoldsSent, IsBehind, IsLastPart, IsOfKey, IsTask, KeepsBy, Known, List, Magic, NoSuchUpload, None, OnErr, OnOk, Option, Part, Pending, PendingSet, Refused, Renaming, Reply, Request, Result, Script, Some, Spelled, Staging, Storing, Task, TaskCommit, TaskCommitOver, TaskEnd, UploadPart, WornOut, [], ap, arith, asks_behind, at_most_is, at_most_so, checking, drawn_last, drop, drop_all, false, file_is, file_key, file_record, files, first_part, first_tags, front_is, get_or, has_more, is_new, is_plain_tag, learn_last, learned, length, length-drop, length-take-le, nat_le, next_asks, next_stage, none_left, one_more, opening, own_files, part_behind, parts_in, refl, renamed, sending, sending_at, sending_from, set_of, set_text, size_of, slice_get, some_drawn, some_parts, staged_at, staged_by, storing, subst, suc, sym, tag_in, take, take_all, take_next, task_commit_start, task_commit_told, task_commit_wants, task_script, temporary_path, text_of, to_check, true, true≢false, upload_in, uploaded, who_of, with_drawn, with_known, with_last, with_tag, worn_known, ℕ, ◌&&◌, ◌++◌, ◌+◌, ◌<◌, ◌∙◌, ◌∷◌, ◌≡◌, ◌≤◌}
 use Rattle.machine.specs.Prelude.{Upload}
 use Rattle.job_model.specs.declared.ends.TaskEnd.TheVariants as ends
 use Rattle.job_protocol.specs.TaskCommits as commits

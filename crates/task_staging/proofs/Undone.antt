@@ -1,5 +1,5 @@
 -- Where replies lead an abort of a staging attempt, by how many of its uploads are aborted.
-use Rattle.task_staging.proofs.Common.{Bool, Committer, Known, Magic, None, Option, Reply, Some, Task, TaskEnd, [], abort_by, abort_from, ap, arith, as_made, below_is, below_not, done_at, drop, drop_all, dropping, end_at, false, if◌then◌else◌, length, nat_lt, refl, sym, task_abort_by, task_abort_hears, task_abort_start, task_script, true, ℕ, ◌+◌, ◌<◌, ◌||◌, ◌∙◌, ◌≡◌}
+use Rattle.task_staging.proofs.Common.{Bool, Committer, Known, Magic, None, Option, Reply, Some, Task, TaskEnd, [], abort_by, abort_from, ap, arith, as_made, below_is, below_not, done_at, drop, drop_all, dropping, end_at, false, length, nat_lt, refl, sym, task_abort_hears, task_abort_start, task_script, true, ℕ, ◌+◌, ◌<◌, ◌||◌, ◌∙◌, ◌≡◌, if◌then◌else◌}
 use Rattle.job_model.specs.declared.ends.TaskEnd.TheVariants as ends
 use Rattle.job_protocol.specs.TaskAborts.{dropped}
 use Rattle.conflict.proofs.Deleting.{first_of}

@@ -1,7 +1,7 @@
 -- What names only one job's own is a stranger's to the other.
-use Rattle.twin_facts.proofs.Common.{AreTwins, Bool, ClusterPut, CopyObject, Drawn, Ids, IsForeign, IsIn, IsKnown, IsLegal, IsStranger, List, NamesOwn, Path, Request, Script, Some, UploadPart, Who, ap, append_assoc, append_cancel_left, arith, begins, begins_back, changed_keys, changed_paths, changed_upload, cluster_prefix, codes, false, false_true, inl, inr, is_job_id, magic_prefix, named_keys, named_paths, named_upload, no_magic, not, refl, sym, true, ℕ, ◌++◌, ◌∙◌, ◌∷◌, ◌≡◌}
+use Rattle.twin_facts.proofs.Common.{AreTwins, Bool, Drawn, Ids, IsForeign, IsIn, IsKnown, IsLegal, IsStranger, List, NamesOwn, Path, Request, Script, Some, Who, ap, append_assoc, append_cancel_left, arith, begins, begins_back, changed_keys, changed_paths, changed_upload, cluster_prefix, codes, false, false_true, inl, inr, is_job_id, magic_prefix, named_keys, named_paths, named_upload, no_magic, not, refl, sym, true, ℕ, ◌++◌, ◌∙◌, ◌∷◌, ◌≡◌}
 use Rattle.magic_paths.proofs.Elements.{id_others}
-use Rattle.magic_paths.proofs.Tails.{cut_once}
+use Rattle.basics.proofs.Cuts.{cut_once}
 
 -- ---- directories of two jobs
 

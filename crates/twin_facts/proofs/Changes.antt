@@ -1,5 +1,5 @@
 -- What one request changes of what stands where files are shown.
-use Rattle.twin_facts.proofs.Common.{Agrees, Check, Commit, CommitOver, Commits, Committer, Completing, Fetching, Fits, FitsSparing, Gone, Hold, IsAttempt, IsCommit, IsIn, IsLegal, List, Magic, Marking, Object, Operation, Option, Outcome, Pending, Picks, Replacing, Request, Reverting, Scene, Script, Seen, SetsUpBy, Setting, Some, Sparing, SweepsUnder, Told, Who, [], abort, all_commits, ap, apply, arith, asks, at_key, attempt, below, changed_keys, check_asks, check_reads, commit_asks, completion, decided_so, deletion, effect, effect_so, files, hidden_same, inl, inr, is_decided, is_file_path, known, length, no_success, nth, nth_of, of_sets, one_key, only_reads, operation_own, picks_apart, picks_of, prefix_unkept, reads_leave, refl, replaced, same_or_other, set_request, setup_alone, some_is, sparing_asks, sparing_hides, stranger_same, subst, sym, task_low, true, true_or_false, wanted_at, wanted_here, ℕ, ◌∙◌, ◌≡◌}
+use Rattle.twin_facts.proofs.Common.{Agrees, Check, Commit, CommitOver, Commits, Committer, Completing, Fetching, Fits, FitsSparing, Gone, Hold, IsAttempt, IsCommit, IsIn, IsLegal, List, Marking, Object, Operation, Option, Outcome, Pending, Picks, Replacing, Request, Reverting, Scene, Script, Seen, SetsUpBy, Setting, Some, Sparing, SweepsUnder, Told, Who, [], abort, all_commits, ap, apply, arith, asks, at_key, attempt, below, changed_keys, check_asks, check_reads, commit_asks, completion, decided_so, deletion, effect, effect_so, files, hidden_same, inl, inr, is_decided, is_file_path, known, length, no_success, nth, nth_of, of_sets, one_key, only_reads, operation_own, picks_apart, picks_of, prefix_unkept, reads_leave, refl, replaced, same_or_other, set_request, setup_alone, some_is, sparing_asks, sparing_hides, stranger_same, subst, sym, task_low, true, true_or_false, wanted_at, wanted_here, ℕ, ◌∙◌, ◌≡◌}
 use Rattle.job_facts.proofs.Shows.{shown_key}
 use Rattle.job_facts.proofs.Effects.{completes_file, completes_nothing, other_key, abort_keys, deletion_key, deletion_other}
 use Rattle.job_traces.proofs.Replacing.{keeps_same, taken_after}

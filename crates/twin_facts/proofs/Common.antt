@@ -20,14 +20,13 @@ pub use Rattle.job_facts.proofs.Suffix.{record_ends_so}
 pub use Rattle.job_facts.proofs.Wanted.{same_mark, wanted_here, wanted_of}
 pub use Rattle.job_facts.proofs.Whose.{attempt, put_at, same_or_another, who_here, who_other}
 pub use Rattle.job_facts.specs.Filed.{HasItsKey}
-pub use Rattle.job_facts.specs.Prelude.{AbortUpload, Actor, Answered, Append, Checking, Clean, ClusterDelete, ClusterList, ClusterPut, Commit, CommitEnd, CommitOver, Commits, Committer, Completing, Content, CopyObject, CreateUpload, Creating, Decides, DeleteObjects, Deleting, Drawn, Driver, Dropping, Entry, Facts, Fail, Fetching, File, FileStands, Fits, FitsAbort, FitsCommit, FitsUpload, FitsWrite, GetObject, Gone, HasBucket, Heading, Hold, IsAttempt, IsCommit, IsForeign, IsGone, IsHonestOutcome, IsIn, IsKnown, IsLegal, IsSetAnswer, Known, Listing, Looking, Magic, MarkerPlace, Marking, Mode, More, Object, Operation, Outcome, Page, PageEntry, Pending, Picks, Publishing, PutObject, Reading, RecordPlace, Recording, Renaming, Replace, Replacing, Reply, ReplyLost, Reports, Request, RequestLost, Retried, Reverting, Scene, Script, Seen, Sending, Sets, Setting, Setup, SetupOver, Slow, StagedSetPlace, Storing, Sweep, SweepsUnder, TaskAbort, TaskAbortOver, TaskCommit, TaskCommitOver, TemporaryPlace, TheCheck, TheClean, TheCommit, TheSetup, TheSparing, TheTaskAbort, TheTaskCommit, TheWrite, Times, Told, Turn, Upload, UploadPart, UploadRef, Uploaded, Uploading, Walked, Walking, Wants, Who, Whole, Write, WriteOver, abort, again, all_commits, all_go, answer, apply, asks, at_event, at_id, at_key, begins, below, bucket_of, changed_keys, changed_paths, changed_upload, clean_of, clean_start, cluster_prefix, commit_asks, commit_hears, commit_misses, commit_of, commit_start, commit_tells, completing, completion, dealt, decided, deletion, driver_entry, effect, end_left, entry, fetched, fetching, file_key, file_record, files, files_set, filter, follow, fresh, is_begun, is_clash, is_decided, is_driver, is_effective, is_file_path, is_job_id, is_magic, is_marking, is_no_magic, is_open, is_own, is_picked, is_picking, is_reading, is_record, is_some, is_staging, keeps, keys_on, knowing, known, last_of, learn, list_any, listed, magic_prefix, mark_text, nothing_seen, nothing_told, nth, ok_set, only_reads, option_map, page_after, partitions, picked_below, picks_by, picks_of, read_answer, record_key, record_text, replaced, replacing, revert, reverting, same_path, see, set_read, set_request, sets_at, setup_asks, staged_set_path, step, strange_entry, success_key, sweep_asks, sweep_hears, swept, task_abort_asks, task_abort_start, task_commit_asks, task_commit_start, tell_all, tell_attempt, tell_driver, tells, text_cmp, text_eq, undoes, upload_asks, upload_hears, view, walked_by, wanted_at, wanted_paths, who, whole_of, worn_completion, write_after, write_asks, write_start, write_start_by, writing}
+pub use Rattle.job_facts.specs.Prelude.{AbortUpload, Actor, Answered, Checking, Clean, ClusterDelete, ClusterList, Commit, CommitOver, Commits, Committer, Completing, Content, CreateUpload, Creating, Decides, DeleteObjects, Deleting, Drawn, Driver, Dropping, Entry, Facts, Fetching, File, FileStands, Fits, FitsAbort, FitsCommit, FitsUpload, FitsWrite, GetObject, Gone, HasBucket, Heading, Hold, IsAttempt, IsCommit, IsForeign, IsHonestOutcome, IsIn, IsKnown, IsLegal, IsSetAnswer, Known, Listing, Magic, MarkerPlace, Marking, Mode, More, Object, Operation, Outcome, Page, PageEntry, Pending, Picks, Publishing, PutObject, Reading, RecordPlace, Recording, Renaming, Replacing, Reply, ReplyLost, Reports, Request, Retried, Reverting, Scene, Script, Seen, Sending, Sets, Setting, Setup, SetupOver, Slow, StagedSetPlace, Storing, Sweep, SweepsUnder, TaskAbort, TaskAbortOver, TaskCommit, TaskCommitOver, TemporaryPlace, TheCheck, TheClean, TheCommit, TheSetup, TheSparing, TheTaskAbort, TheTaskCommit, TheWrite, Times, Told, Upload, UploadPart, UploadRef, Uploaded, Uploading, Walked, Walking, Wants, Who, Whole, Write, WriteOver, abort, all_commits, all_go, answer, apply, asks, at_event, at_id, at_key, begins, below, bucket_of, changed_keys, changed_paths, changed_upload, clean_of, clean_start, cluster_prefix, commit_asks, commit_hears, commit_misses, commit_of, commit_start, commit_tells, completion, deletion, driver_entry, effect, entry, fetched, fetching, file_key, file_record, files, files_set, filter, fresh, is_begun, is_clash, is_decided, is_effective, is_file_path, is_job_id, is_magic, is_marking, is_no_magic, is_open, is_picked, is_picking, is_reading, is_record, is_staging, keeps, keys_on, knowing, known, last_of, learn, list_any, listed, magic_prefix, mark_text, nothing_seen, nothing_told, nth, ok_set, only_reads, option_map, page_after, partitions, picks_by, picks_of, record_key, record_text, replaced, see, set_read, set_request, sets_at, setup_asks, staged_set_path, step, strange_entry, success_key, sweep_asks, task_abort_asks, task_abort_start, task_commit_asks, task_commit_start, tell_all, tell_attempt, tell_driver, tells, text_cmp, text_eq, undoes, upload_asks, upload_hears, view, walked_by, wanted_at, wanted_paths, who, whole_of, write_after, write_asks, write_start, writing}
 pub use Rattle.job_facts.specs.Spares.{AllKnown, AllOwn, FitsSparing}
 pub use Rattle.job_protocol.proofs.Begun.{after_check_so, clean_of_so, commit_of_so}
 pub use Rattle.job_protocol.specs.Prelude.{Path, drawn_last, write_hears}
-pub use Rattle.job_protocol.specs.Rechecks.{Check, CheckOver, check_after, check_asks}
+pub use Rattle.job_protocol.specs.Rechecks.{Check, check_after, check_asks}
 pub use Rattle.job_protocol.specs.Sparing.{Sparing, SparingOver, record_names, ref_of, sparing_after, sparing_asks, sparing_start}
-pub use Rattle.job_protocol.specs.TaskAborts.{Sweeping}
-pub use Rattle.job_spec.proofs.Common.{above_so, and_parts, append-nil, append_cancel_left, at_most_is, at_most_not, at_most_so, begins_back, begins_behind, below_is, below_so, false_true, false≢true, filter_in, in_append, in_back, in_filter, in_front, map-append, map_in, nat_false, nat_tests, nat_true, none_or_some, none_some, not-true, same_or_not, same_or_other, some_is, take-append-le, take_all, text_gone, text_left, text_true, true_or_false}
+pub use Rattle.job_spec.proofs.Common.{above_so, and_parts, append-nil, append_cancel_left, at_most_is, at_most_not, at_most_so, begins_back, begins_behind, below_is, below_so, false_true, false≢true, filter_in, in_append, in_back, in_filter, in_front, map-append, map_in, nat_false, nat_true, none_or_some, none_some, not-true, same_or_not, same_or_other, some_is, take-append-le, take_all, text_gone, text_left, text_true, true_or_false}
 pub use Rattle.job_traces.proofs.Entries.{late_now, sees, tells_so}
 pub use Rattle.job_traces.proofs.EveryRun.{checked_idle, cleans_is, good, just_idle, just_set}
 pub use Rattle.job_traces.proofs.Keeping.{attempt_quiet}
@@ -46,3 +45,4 @@ pub use Rattle.twin_facts.specs.Requests.{IsSentBy, SetsUpBy, by_attempt, by_che
 pub use Rattle.twin_facts.specs.Sides.{First, IsTwinOpening, Second, Sends, Side, TwinEntry, TwinRun, attempt_saw, drawn_by, drew, drew_from, driver_saw, eyes, first_begins, first_sends, in_eyes, is_side, observed, second_begins, second_sends, twins_begin}
 pub use Rattle.twin_facts.specs.Spared.{NamedAt, NamedBySet, SparesOn, SparingLeaves, it_begins, it_sends, other_sends, spares_begin}
 pub use Rattle.twin_facts.specs.TwinLaws.{Gives, Marked, MayBeTwins, Shows, TwinsKeep, counted, is_marked_by, is_replace, marks_by, other_side, touches_mark, turned_entry}
+pub use Rattle.job_spec.specs.Prelude.{is_driver, is_own}

@@ -1,5 +1,5 @@
 -- Two runs over one journal, each as its side reads it, are a run of both.
-use Rattle.twin_facts.proofs.Common.{Beginning, Content, Entry, First, IsForeign, IsHonestOutcome, IsTwinOpening, List, MayBeTwins, MayBegin, Outcome, Request, Runs, Scene, Second, Sends, Setting, Side, Stand, Times, TwinEntry, TwinRun, [], actor_begins, answer, ap, append-nil, append_assoc, arith, attempt_sends, begin, driver_entry, driver_sends, entry, eyes, false_true, first_begins, first_sends, first_stand, in_eyes, is_own, length, length-append, map, map-append, observed, other_side, refl, run_begins, saw, second_begins, second_sends, strange_entry, strays, subst, suc, sym, true, turned_entry, twins_begin, zero, ℕ, ◌++◌, ◌+◌, ◌∙◌, ◌∷◌, ◌≡◌, ◌≤◌}
+use Rattle.twin_facts.proofs.Common.{Beginning, Content, Entry, First, IsForeign, IsHonestOutcome, IsTwinOpening, List, MayBeTwins, MayBegin, Outcome, Request, Runs, Scene, Second, Sends, Setting, Side, Stand, Times, TwinEntry, TwinRun, [], actor_begins, answer, ap, append-nil, append_assoc, arith, attempt_sends, begin, driver_entry, driver_sends, entry, eyes, false_true, first_begins, first_sends, first_stand, in_eyes, is_own, length, length-append, map, map-append, other_side, refl, run_begins, saw, second_begins, second_sends, strange_entry, strays, subst, suc, sym, true, turned_entry, twins_begin, zero, ℕ, ◌++◌, ◌+◌, ◌∙◌, ◌∷◌, ◌≡◌, ◌≤◌}
 use Rattle.std.proofs.lemmas.List.{same_from_push}
 use Rattle.twin_facts.specs.Sides as sides
 use Rattle.twin_facts.specs.Joined.{AreActors, AreOf, AreForeign, EyesTurn}

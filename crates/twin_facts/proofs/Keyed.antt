@@ -1,12 +1,8 @@
 -- An upload that an attempt knows has its key as long as it lives.
-use Rattle.twin_facts.proofs.Common.{Content, CreateUpload, Creating, Drawn, Early, Entry, Fits, HasBucket, HasItsKey, IsHonestOutcome, IsIn, IsLegal, IsOpening, Known, Late, List, Listing, Operation, Outcome, Request, Runs, Scene, Script, Setting, Some, Stand, TaskAbort, TaskCommit, TheTaskAbort, TheTaskCommit, TheWrite, Times, Told, Upload, UploadRef, Walking, Who, Write, [], actor_begins, answer, ap, apply, arith, asks, at_id, attempt_sends, drawn_is_next, draws, driver_sends, effect, good, inl, inr, known, known_before, late_now, refl, run_begins, some_is, strays, subst, sym, task_abort_asks, task_commit_asks, tell_attempt, write_asks, ℕ, ◌<◌, ◌∙◌, ◌∷◌, ◌≡◌, ◌⊎◌}
-use Rattle.s3_types.specs.declared.reply.Reply.TheVariants.{Upload as DrawnUpload}
-use Rattle.job_protocol.specs.Writes as writes
-use Rattle.job_protocol.specs.TaskCommits as tasks
-use Rattle.job_protocol.specs.TaskAborts.{Removing}
-use Rattle.job_protocol.specs.TaskAborts as aborts
+use Rattle.twin_facts.proofs.Common.{Content, CreateUpload, Drawn, Early, Entry, Fits, HasBucket, HasItsKey, IsHonestOutcome, IsIn, IsLegal, IsOpening, Known, Late, List, Operation, Outcome, Request, Runs, Scene, Script, Setting, Some, Stand, TaskAbort, TaskCommit, Times, Told, Upload, UploadRef, Walking, Who, Write, [], actor_begins, answer, ap, apply, arith, asks, at_id, attempt_sends, drawn_is_next, draws, driver_sends, effect, good, inl, inr, known, known_before, late_now, refl, run_begins, some_is, strays, subst, sym, task_abort_asks, task_commit_asks, tell_attempt, write_asks, ℕ, ◌<◌, ◌∙◌, ◌∷◌, ◌≡◌, ◌⊎◌}
 use Rattle.job_facts.proofs.FoundKeys.{keys_stay}
 use Rattle.twin_facts.proofs.OneSide.{driver_scene, attempt_scene}
+use Rattle.s3_types.specs.declared.reply.Reply.TheVariants.{Upload as DrawnUpload}
 
 abbrev pub ref : Drawn → UploadRef
 ref d = record { key = d.key; upload = d.upload }

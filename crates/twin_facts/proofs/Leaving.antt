@@ -1,5 +1,5 @@
 -- How far an abort or clean at a shared destination has come with what is to go, while no attempt of its side sends.
-use Rattle.twin_facts.proofs.Common.{AbortUpload, AllKnown, Bool, ClusterDelete, ClusterList, Committer, DeleteObjects, Deleting, Drawn, FitsSparing, GetObject, HasBucket, HasItsKey, IsHonestOutcome, IsIn, List, Listing, Magic, More, NamedAt, None, Option, Outcome, Reply, ReplyLost, Request, Scene, Script, Some, Sweep, UploadRef, Walked, Who, Whole, [], abort_turns, all_go, answer, answer_is, ap, apply, arith, at_id, at_key, begins, cluster_prefix, cond, drop, effect, effect_so, end_left, false_true, filter, filter_in, found, frame, in_back, in_filter, in_front, inl, inr, is_magic, is_record, is_staging, key_before, magic_prefix, map_in, none_or_some, none_some, only_reads, page_after, read_answer, refl, same_or_other, some_is, stays_gone, step, step_so, subst, sym, take, text_cmp, text_gone, text_left, text_true, true, walked, ℕ, ◌++◌, ◌<◌, ◌∙◌, ◌∷◌, ◌≡◌, ◌⊎◌}
+use Rattle.twin_facts.proofs.Common.{AbortUpload, AllKnown, Bool, ClusterDelete, ClusterList, Committer, DeleteObjects, Deleting, Drawn, FitsSparing, HasBucket, HasItsKey, IsHonestOutcome, IsIn, List, Listing, Magic, More, NamedAt, None, Option, Outcome, Reply, ReplyLost, Request, Scene, Script, Some, Sweep, UploadRef, Walked, Who, Whole, [], abort_turns, all_go, answer, ap, apply, arith, at_id, at_key, begins, cluster_prefix, drop, effect, effect_so, false_true, filter, filter_in, frame, in_back, in_filter, in_front, inl, inr, is_magic, is_record, is_staging, magic_prefix, map_in, none_or_some, none_some, only_reads, page_after, refl, same_or_other, some_is, stays_gone, step, step_so, subst, sym, take, text_cmp, text_gone, text_left, text_true, true, walked, ℕ, ◌++◌, ◌<◌, ◌∙◌, ◌∷◌, ◌≡◌, ◌⊎◌}
 use Rattle.path_keys.proofs.Common.{text_exact}
 use Rattle.std.specs.FinMap as fin
 use Rattle.job_model.specs.declared.ends.CleanEnd.TheVariants as ends
@@ -10,7 +10,7 @@ use Rattle.job_facts.specs.Emptying.{OnlyThese, Empties}
 use Rattle.job_facts.specs.Clearing.{FilesIn}
 use Rattle.job_facts.proofs.Emptying.{sweep_begins, sweep_empties, sweep_still, sweep_same, Emptied}
 use Rattle.job_facts.proofs.Live.{find_in}
-use Rattle.job_protocol.specs.Sparing.{Sparing, Walking, Naming, Reading, Aborting, Removing, SparingOver, sparing_start, record_request, sparing_asks, sparing_hears, sparing_after, names, record_names, set_names, deleting, removing, emptying, aborting, reading_on, walking, naming}
+use Rattle.job_protocol.specs.Sparing.{Sparing, Walking, Naming, Reading, Aborting, Removing, SparingOver, sparing_start, record_request, sparing_asks, sparing_hears, sparing_after, names, deleting, removing, emptying, aborting, reading_on, walking, naming}
 use Rattle.job_protocol.specs.Sparing as sparing
 use Rattle.twin_facts.proofs.Keyed.{Keyed}
 

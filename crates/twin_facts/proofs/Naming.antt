@@ -1,5 +1,5 @@
 -- The requests of a job name only what is its own, or nobody's.
-use Rattle.twin_facts.proofs.Common.{AbortUpload, Actor, AllOwn, Check, CheckOver, Checking, Commit, CommitOver, Commits, Committer, Completing, CreateUpload, Creating, Deleting, Drawn, Dropping, Facts, Fetching, File, Fits, FitsAbort, FitsCommit, FitsSparing, FitsUpload, FitsWrite, Heading, Hold, IsAttempt, IsCommit, IsIn, IsKnown, IsLegal, IsOwnKey, IsSentBy, List, Listing, Looking, Magic, MarkerPlace, NamesOwn, None, Operation, Option, Pending, Publishing, Reading, RecordPlace, Recording, Renaming, Replacing, Request, Reverting, Scene, Script, Seen, Sending, SetsUpBy, Setting, SetupOver, Some, StagedSetPlace, Storing, TaskAbort, TaskAbortOver, TaskCommit, TaskCommitOver, TemporaryPlace, TheTaskAbort, TheTaskCommit, TheWrite, Told, UploadPart, Uploading, Who, Write, WriteOver, [], abort, all_commits, ap, append_assoc, arith, asks, begins, begins_behind, below_is, by_attempt, by_check, by_clean, by_commit, check_asks, cluster_prefix, codes, commit_asks, completion, deletion, false, false_true, false≢true, file_key, file_open, files, inl, inr, is_magic, is_no_magic, is_open, is_staging, known, length, named_keys, named_paths, named_upload, nat_eq, nat_false, nat_true, none_some, not, not-true, nth, nth_of, of_sets, own_directory, own_magic, path_below, record_below, refl, set_magic, set_request, some_dest, some_is, subst, success_key, sym, take, taken_in, task_abort_asks, task_commit_asks, true, upload_asks, write_asks, ℕ, ◌++◌, ◌+◌, ◌<◌, ◌∙◌, ◌∷◌, ◌≡◌}
+use Rattle.twin_facts.proofs.Common.{AbortUpload, Actor, AllOwn, Check, Checking, Commit, CommitOver, Commits, Committer, Completing, CreateUpload, Creating, Deleting, Drawn, Dropping, Facts, Fetching, File, Fits, FitsAbort, FitsCommit, FitsSparing, FitsUpload, FitsWrite, Heading, Hold, IsAttempt, IsCommit, IsIn, IsKnown, IsLegal, IsOwnKey, IsSentBy, List, Listing, Magic, MarkerPlace, NamesOwn, None, Operation, Option, Pending, Publishing, Reading, RecordPlace, Recording, Renaming, Replacing, Request, Reverting, Scene, Script, Seen, Sending, SetsUpBy, Setting, SetupOver, Some, StagedSetPlace, Storing, TaskAbort, TaskAbortOver, TaskCommit, TaskCommitOver, TemporaryPlace, TheTaskAbort, TheTaskCommit, TheWrite, Told, UploadPart, Uploading, Who, Write, WriteOver, [], abort, all_commits, ap, append_assoc, arith, asks, begins, begins_behind, below_is, by_attempt, by_check, by_clean, by_commit, check_asks, cluster_prefix, codes, commit_asks, completion, deletion, false, false_true, false≢true, file_key, file_open, files, inl, inr, is_magic, is_no_magic, is_open, is_staging, known, length, named_keys, named_paths, named_upload, nat_eq, nat_false, nat_true, not, not-true, nth, nth_of, of_sets, own_directory, own_magic, path_below, record_below, refl, set_magic, set_request, some_dest, some_is, subst, success_key, sym, take, taken_in, task_abort_asks, task_commit_asks, true, upload_asks, write_asks, ℕ, ◌++◌, ◌+◌, ◌<◌, ◌∙◌, ◌∷◌, ◌≡◌}
 use Rattle.job_protocol.specs.Writes.{Marking}
 use Rattle.job_protocol.specs.Writes as writes
 use Rattle.job_protocol.specs.TaskCommits as tasks
@@ -7,7 +7,7 @@ use Rattle.job_protocol.specs.TaskAborts.{Sweeping, Removing}
 use Rattle.job_protocol.specs.Setup as setups
 use Rattle.job_protocol.specs.JobCommits as commits
 use Rattle.job_facts.proofs.Uploads.{latest_in, asks_part}
-use Rattle.job_protocol.specs.Sparing.{Sparing, Walking, Naming, Aborting, SparingOver, record_request, sparing_asks}
+use Rattle.job_protocol.specs.Sparing.{Sparing, Aborting, SparingOver, record_request, sparing_asks}
 use Rattle.job_protocol.specs.Sparing as sparing
 
 -- ---- keys outside the magic directories
@@ -83,10 +83,8 @@ module _ {w : Script} (j : IsLegal w) (minimum : ℕ) (m : Told) where
     write_own (WriteOver end) h r e = absurd cc
 
     commit_own : (t : TaskCommit) → FitsCommit w minimum a (known m a) t → (r : Request) → task_commit_asks w a (known m a) t ≡ Some r → Own r
-    commit_own (Looking keys) h r e = asked e (names_nothing _ refl refl refl)
     commit_own (Reading cs f fs) h r e = asked e (names_key _ _ refl refl refl (inr (record_below j a f)))
     commit_own (Publishing cs) h r e = asked e (names_key _ _ refl refl refl (inr (set_magic j a.task d.task)))
-    commit_own (Checking p ps) h r e = asked e (names_nothing _ refl refl refl)
     commit_own (tasks.Uploads f fs u) h r e = asked e (upload_own f fs u h.2)
     commit_own Storing h r e = asked e (names_path _ _ refl refl refl (path_below w (TemporaryPlace a.task a.attempt)))
     commit_own Renaming h r e = asked e (names_paths _ _ refl refl refl (λ p i. elim i [
@@ -94,6 +92,7 @@ module _ {w : Script} (j : IsLegal w) (minimum : ℕ) (m : Told) where
       | inr more ↦ elim more [ inl is ↦ ap (begins (cluster_prefix w.job)) is ∙ path_below w (StagedSetPlace a.task) | inr none ↦ absurd none ]
     ]))
     commit_own (TaskCommitOver end) h r e = absurd cc
+    commit_own _ h r e = asked e (names_nothing _ refl refl refl)
 
     abort_own : {s : Scene} {last : ℕ → Option ℕ} → Facts w minimum s last m → (t : TaskAbort) → FitsAbort w a (known m a) t → (r : Request) → task_abort_asks w a t ≡ Some r → Own r
     abort_own f (Dropping x xs sent) h r e =
@@ -140,9 +139,8 @@ module _ {w : Script} (j : IsLegal w) (minimum : ℕ) (m : Told) where
   record_own _ is p ps h = names_path _ _ refl refl refl (h.paths (ap is_staging is) p (inl refl))
 
   sparing_own : {s : Scene} {last : ℕ → Option ℕ} → Facts w minimum s last m → (c : Sparing) → FitsSparing w m.drawn c → (r : Request) → sparing_asks w c ≡ Some r → Own r
-  sparing_own f (Walking keys) h r e = subst Own (some_is e) (names_nothing _ refl refl refl)
-  sparing_own f Naming h r e = subst Own (some_is e) (names_nothing _ refl refl refl)
   sparing_own f (sparing.Reading named p ps all) h r e = subst Own (some_is e) (record_own w.committer refl p ps h.1)
+  sparing_own f _ h r e = subst Own (some_is e) (names_nothing _ refl refl refl)
   sparing_own f (Aborting u us all) h r e =
       let x = h.0 u (inl refl) in
       let o = f.owned x.0 x.1 x.2 in

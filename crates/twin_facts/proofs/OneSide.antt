@@ -1,5 +1,5 @@
 -- A side's entries make its run go on; where its destination is shared no abort or clean of it is one of a job alone.
-use Rattle.twin_facts.proofs.Common.{Answered, BeginClean, BeginCommit, BeginSetup, Clean, Content, Driver, Entry, List, Operation, Option, Outcome, Request, RequestLost, Retried, Runs, Scene, Script, Seen, Sends, Setting, Slow, Some, Stand, TheCheck, TheClean, TheSparing, Times, Who, [], actor_begins, after_check_so, and-false, ap, apply, arith, attempt_sends, check_after, clean_start, commit_of_so, cond, driver_entry, driver_sends, effect, effect_so, entry, false, false_true, fresh, is_effective, is_marking, is_picking, is_reading, or-false, or-true, refl, run_begins, see, sparing_start, step, strays, subst, sym, tells, true, who, ℕ, ◌&&◌, ◌++◌, ◌||◌, ◌∙◌, ◌∷◌, ◌≡◌}
+use Rattle.twin_facts.proofs.Common.{Answered, BeginClean, BeginCommit, BeginSetup, Clean, Content, Driver, Entry, List, Operation, Option, Outcome, Request, Retried, Runs, Script, Seen, Sends, Setting, Slow, Some, Stand, TheClean, TheSparing, Times, Who, [], actor_begins, and-false, ap, arith, attempt_sends, clean_start, commit_of_so, cond, driver_entry, driver_sends, effect, entry, false, fresh, is_effective, is_marking, is_picking, is_reading, refl, run_begins, see, sparing_start, strays, subst, sym, tells, true, who, ℕ, ◌&&◌, ◌++◌, ◌∙◌, ◌∷◌, ◌≡◌}
 use Rattle.twin_facts.specs.Sides as sides
 
 -- ---- the run of a side

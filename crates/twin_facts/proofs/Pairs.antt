@@ -1,12 +1,12 @@
 -- Of two sides at one destination the facts of both are kept by each step of either, and no upload is drawn by both.
-use Rattle.twin_facts.proofs.Common.{AreTwins, At, Beginning, Content, Driver, Early, Entry, HasBucket, Ids, IsForeign, IsKnown, IsLegal, IsOpening, IsStranger, Late, List, MayBeTwins, MayBegin, NamesOwn, None, Operation, Option, Outcome, Path, Request, Runs, Scene, Script, Setting, Some, Stand, TheCheck, TheClean, TheCommit, TheSetup, TheSparing, Times, [], actor_begins, and_from, and_parts, ap, arith, asks, at_most_is, at_most_so, begin, below_so, by_attempt, by_check, by_clean, by_commit, cond_both, effect, effect_so, false, false_true, frame, good, inl, inr, late_now, learnt, made, nat_le, nat_lt, nat_tests, none_some, nothing_learnt, or-true, or_cases, setup_asks, strange_entry, strays, subst, sym, true, true_or_false, who, ℕ, ◌++◌, ◌+◌, ◌<◌, ◌||◌, ◌∙◌, ◌∷◌, ◌≡◌, ◌≤◌, ◌⊎◌}
+use Rattle.twin_facts.proofs.Common.{AreTwins, At, Beginning, Content, Driver, Early, Entry, HasBucket, Ids, IsForeign, IsKnown, IsLegal, IsOpening, IsStranger, Late, List, MayBeTwins, MayBegin, NamesOwn, None, Operation, Option, Outcome, Path, Request, Runs, Scene, Script, Setting, Some, Stand, TheCheck, TheClean, TheCommit, TheSetup, TheSparing, Times, [], actor_begins, and_from, and_parts, ap, arith, asks, at_most_is, at_most_so, begin, below_so, by_attempt, by_check, by_clean, by_commit, cond_both, effect, effect_so, false, false_true, frame, good, inl, inr, late_now, learnt, made, nat_le, nat_lt, none_some, nothing_learnt, or-true, or_cases, setup_asks, strange_entry, strays, subst, sym, true, true_or_false, who, ℕ, ◌++◌, ◌+◌, ◌<◌, ◌||◌, ◌∙◌, ◌∷◌, ◌≡◌, ◌≤◌, ◌⊎◌}
 use Rattle.std.specs.FinMap as fin
 use Rattle.store_frame.specs.Prelude.{MakeBucket, ClusterPut, ClusterRename, ClusterGet, ClusterDelete, ClusterList, apply, apply_at, bucket_of, draws, is_bucket}
 use Rattle.twin_facts.specs.Sides.{observed, drawn_by, Sends, driver_sends, attempt_sends}
 use Rattle.twin_facts.proofs.Apart.{not_true, twin_stranger, stranger_foreign}
 use Rattle.twin_facts.proofs.Naming.{sends_own, setup_own}
 use Rattle.twin_facts.proofs.OneSide.{goes_on, driver_scene, attempt_scene, never_cleans}
-use Rattle.proof_base.proofs.Numbers.{below_is}
+use Rattle.basics.proofs.Naturals.{below_is}
 
 -- ---- ids
 

@@ -1,5 +1,5 @@
 -- How far a job's commit has come that replaces nothing, in every run of the job among strangers.
-use Rattle.twin_facts.proofs.Common.{Answered, Append, At, BeginClean, BeginCommit, BeginSetup, Bool, Commit, CommitEnd, CommitOver, Committer, Completing, Content, Decides, Deleting, Driver, Entry, Fail, Fetching, Hold, Idle, InCommit, IsHonestOutcome, IsLegal, IsOpening, IsSetAnswer, IsTimely, List, Listing, Magic, Marking, Mode, None, Operation, Option, Outcome, Picks, Replace, Replacing, Reply, Request, Reverting, Runs, Script, Seen, Sets, Setting, Slow, Some, Stand, Sweep, TheCheck, TheCommit, Times, Told, Turn, [], actor_begins, after_check_so, again, all_commits, and-false, answer, ap, arith, asks, at_event, attempt_quiet, attempt_sends, check_after, check_plain, checked_idle, clean_of_so, cleans_is, commit_asks, commit_hears, commit_misses, commit_next, commit_of_so, commit_start, commit_tells, completing, cond, cond_both, dealt, decided, driver_entry, driver_sends, entry, false, false_true, fetched, fetching, files_set, follow, inl, inr, is_begun, is_clash, is_decided, is_marking, is_no_magic, is_picking, is_reading, is_replace, is_set, is_some, just_idle, just_set, knowing, late_now, length, length-append, nat_lt, none_or_some, none_some, not, nothing_learnt, ok_set, operation_own, picked_below, picks_by, picks_of, refl, replaced, replacing, revert, reverting, run_begins, same_or_not, same_path, see, set_read, set_request, sets_at, some_is, step, strange_entry, strays, subst, suc, sweep_asks, sweep_hears, swept, sym, tell_driver, tells, true, who, worn_completion, zero, ℕ, ◌&&◌, ◌++◌, ◌+◌, ◌<◌, ◌^◌, ◌∙◌, ◌∷◌, ◌≡◌, ◌≤◌}
+use Rattle.twin_facts.proofs.Common.{Answered, At, BeginClean, BeginCommit, BeginSetup, Bool, Commit, CommitOver, Committer, Completing, Content, Decides, Driver, Entry, Fetching, Hold, Idle, InCommit, IsHonestOutcome, IsLegal, IsOpening, IsSetAnswer, IsTimely, List, Marking, Mode, None, Operation, Option, Outcome, Picks, Replacing, Reply, Request, Reverting, Runs, Script, Seen, Sets, Setting, Slow, Some, Stand, Sweep, TheCheck, TheCommit, Times, Told, [], actor_begins, after_check_so, and-false, answer, ap, arith, asks, at_event, attempt_quiet, attempt_sends, check_after, check_plain, checked_idle, clean_of_so, cleans_is, commit_asks, commit_hears, commit_misses, commit_next, commit_of_so, commit_start, commit_tells, cond, cond_both, driver_entry, driver_sends, entry, false, false_true, fetched, fetching, files_set, inl, inr, is_begun, is_decided, is_marking, is_picking, is_reading, is_replace, is_set, just_idle, just_set, knowing, late_now, length, length-append, nat_lt, none_or_some, none_some, nothing_learnt, ok_set, operation_own, picks_by, picks_of, refl, replaced, run_begins, same_or_not, see, set_read, set_request, sets_at, some_is, step, strange_entry, strays, subst, sweep_asks, sym, tell_driver, tells, true, who, ℕ, ◌&&◌, ◌++◌, ◌+◌, ◌<◌, ◌^◌, ◌∙◌, ◌∷◌, ◌≡◌, ◌≤◌}
 use Rattle.job_model.specs.declared.ends.CommitEnd.TheVariants as ends
 use Rattle.job_model.specs.declared.ends.Stage.TheVariants as stages
 use Rattle.job_facts.proofs.Replies.{set_reply, bytes_read}

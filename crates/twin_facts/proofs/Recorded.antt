@@ -1,5 +1,5 @@
 -- Of the magic committer: as long as its upload lives, the record of a file that an attempt has written stands; an abort or clean of the job deletes none whose upload lives.
-use Rattle.twin_facts.proofs.Common.{AbortUpload, Answered, Bool, Committer, Creating, Deleting, Drawn, Facts, File, Fits, FitsSparing, FitsWrite, GetObject, HasBucket, HasItsKey, HasKey, IsAttempt, IsGone, IsHonestOutcome, IsIn, IsLegal, Knows, List, Listing, Magic, MarkerPlace, None, Operation, Option, Outcome, Page, PageEntry, RecordPlace, Recording, Reply, Request, Retried, Scene, Script, Sending, Setting, Some, Sweeping, TaskAbort, TaskAbortOver, TheTaskAbort, TheTaskCommit, TheWrite, Told, UploadRef, Uploaded, Uploading, Who, Write, WriteOver, [], abort_keys, another, answer, answer_is, ap, apply, arith, asks, at_event, at_key, begins, bucket_of, changed_keys, commit_keys, drawn_last, drop, dropped_in, effect, effect_so, false, false_true, file_key, file_record, files, filter, filter_in, found, in_append, in_back, in_front, in_or_not, inl, inr, is_magic, is_record, is_staging, key_before, key_left, keys_on, known, known_still, last_of, learn, length, listed, magic_prefix, nat_lt, or-false, or-true, page_after, puts, record_below, record_ends_so, record_key, record_read, record_text, refl, same_or_another, some_dest, some_is, stays_gone, step, step_so, subst, sym, take, taken_in, task_abort_asks, tell_attempt, tell_driver, tells, true, undoes, upload_asks, upload_hears, walked, walked_by, who_here, who_other, write_after, write_asks, write_hears, write_keys, writing, ℕ, ◌++◌, ◌^◌, ◌||◌, ◌∙◌, ◌∷◌, ◌≡◌, ◌≤◌, ◌⊎◌}
+use Rattle.twin_facts.proofs.Common.{AbortUpload, Answered, Bool, Committer, Deleting, Drawn, Facts, File, Fits, FitsSparing, FitsWrite, GetObject, HasBucket, HasItsKey, HasKey, IsAttempt, IsHonestOutcome, IsIn, IsLegal, Knows, List, Magic, MarkerPlace, None, Operation, Option, Outcome, Page, PageEntry, RecordPlace, Recording, Reply, Request, Retried, Scene, Script, Setting, Some, TaskAbort, TheTaskAbort, TheTaskCommit, TheWrite, Told, UploadRef, Uploaded, Uploading, Who, Write, WriteOver, [], abort_keys, another, answer, answer_is, ap, apply, arith, asks, at_event, at_key, begins, bucket_of, changed_keys, commit_keys, drawn_last, drop, dropped_in, effect, effect_so, false, false_true, file_key, file_record, files, filter, filter_in, found, in_append, in_back, in_front, in_or_not, inl, inr, is_magic, is_record, is_staging, key_before, key_left, keys_on, known, known_still, last_of, learn, length, listed, magic_prefix, nat_lt, or-false, or-true, page_after, puts, record_below, record_ends_so, record_key, record_read, record_text, refl, same_or_another, some_dest, some_is, stays_gone, step, step_so, subst, sym, take, taken_in, task_abort_asks, tell_attempt, tell_driver, tells, true, undoes, upload_asks, upload_hears, walked, walked_by, who_here, who_other, write_after, write_asks, write_hears, write_keys, writing, ℕ, ◌++◌, ◌^◌, ◌||◌, ◌∙◌, ◌∷◌, ◌≡◌, ◌≤◌, ◌⊎◌}
 use Rattle.pending_json.specs.Reading as reading
 use Rattle.job_model.specs.declared.ends.TaskEnd.TheVariants as ends
 use Rattle.job_protocol.specs.Writes.{Marking, uploaded}

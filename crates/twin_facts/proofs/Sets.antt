@@ -1,5 +1,5 @@
 -- In every run the records of files whose uploads live stand; so what a set names a record names too.
-use Rattle.twin_facts.proofs.Common.{At, BeginAbort, BeginClean, BeginCommit, BeginPublish, BeginSetup, BeginWrite, Beginning, Clean, Committer, Content, Drawn, Driver, Early, Entry, File, HasKey, IsAttempt, IsForeign, IsHonestOutcome, IsIn, IsLegal, IsOpening, Known, Late, List, Magic, MayBegin, NamedAt, NamedBySet, Operation, Option, Outcome, Reports, Request, Retried, Runs, Scene, Script, Setting, Setup, Some, Sparing, StagedSetPlace, Stand, TheCheck, TheClean, TheCommit, TheSetup, TheSparing, TheTaskAbort, TheTaskCommit, TheWrite, Times, Told, UploadRef, Who, [], actor_begins, after_check_so, answer, ap, arith, asks, attempt_saw, attempt_sends, begin, begins, begun_attempts, begun_driver, bucket_of, changed_keys, check_after, check_reads, clean_of_so, commit_drives, commit_of, commit_of_so, driver_saw, driver_sends, effect, false, false_true, file_record, files, fresh, good, inl, inr, is_magic, is_set, is_staging, known, late_now, magic_prefix, none_or_some, none_some, nothing_learnt, path_below, put_at, record_below, record_ends_so, record_key, record_names, ref_of, refl, run_begins, same_or_another, set_file, setup_asks, some_dest, some_is, sparing_start, staged_set, staged_set_path, step, strays, subst, sym, task_abort_start, task_commit_start, tells, true, who, who_here, who_other, write_start, write_start_by, writing, ℕ, ◌<◌, ◌^◌, ◌∙◌, ◌∷◌, ◌≡◌, ◌≤◌, ◌⊎◌}
+use Rattle.twin_facts.proofs.Common.{At, BeginAbort, BeginClean, BeginCommit, BeginPublish, BeginSetup, BeginWrite, Beginning, Clean, Committer, Content, Drawn, Driver, Early, Entry, File, HasKey, IsAttempt, IsForeign, IsHonestOutcome, IsIn, IsLegal, IsOpening, Known, Late, List, Magic, MayBegin, NamedAt, NamedBySet, Operation, Option, Outcome, Reports, Request, Retried, Runs, Scene, Script, Setting, Setup, Some, Sparing, StagedSetPlace, Stand, TheCheck, TheClean, TheCommit, TheSetup, TheSparing, TheTaskAbort, TheTaskCommit, TheWrite, Times, Told, UploadRef, Who, [], actor_begins, after_check_so, answer, ap, arith, asks, attempt_saw, attempt_sends, begin, begins, begun_attempts, begun_driver, bucket_of, changed_keys, check_after, check_reads, clean_of_so, commit_drives, commit_of, commit_of_so, driver_saw, driver_sends, effect, false, false_true, file_record, files, fresh, good, inl, inr, is_magic, is_set, is_staging, known, late_now, magic_prefix, none_or_some, none_some, nothing_learnt, path_below, put_at, record_below, record_ends_so, record_key, record_names, ref_of, refl, run_begins, same_or_another, set_file, setup_asks, some_dest, some_is, sparing_start, staged_set, staged_set_path, step, strays, subst, sym, task_abort_start, task_commit_start, tells, true, who, who_here, who_other, write_start, ℕ, ◌<◌, ◌^◌, ◌∙◌, ◌∷◌, ◌≡◌, ◌≤◌, ◌⊎◌}
 use Rattle.pending_json.specs.Reading as reading
 use Rattle.job_facts.proofs.Driving.{reads_drive}
 use Rattle.job_facts.proofs.Legible.{record_read, set_read}

@@ -1,5 +1,5 @@
 -- What an abort or clean at a shared destination leaves where it ends Done.
-use Rattle.twin_facts.proofs.Common.{At, BeginClean, Committer, Content, Driver, Entry, HasBucket, IsForeign, IsHonestOutcome, IsLegal, IsOpening, IsTimely, Late, List, Magic, Operation, Outcome, Request, Retried, Runs, Scene, Script, Setting, Some, SparesOn, Sparing, SparingLeaves, SparingOver, Stand, TheClean, TheSparing, Times, [], actor_begins, answer, ap, arith, asks, begin, begins, clean_start, cond, driver_entry, effect, false_true, frame, fresh, inl, inr, is_set, it_begins, it_sends, late_now, nothing_learnt, other_sends, refl, some_is, spares_begin, sparing_after, sparing_asks, sparing_start, stays_gone, step, strange_entry, strays, subst, sym, true, who, ℕ, ◌++◌, ◌^◌, ◌∙◌, ◌∷◌, ◌≡◌, ◌≤◌, ◌⊎◌}
+use Rattle.twin_facts.proofs.Common.{At, BeginClean, Committer, Content, Driver, Entry, HasBucket, IsForeign, IsHonestOutcome, IsLegal, IsOpening, IsTimely, Late, List, Operation, Outcome, Request, Retried, Runs, Scene, Script, Setting, Some, SparesOn, Sparing, SparingLeaves, SparingOver, Stand, TheClean, TheSparing, Times, [], actor_begins, answer, ap, arith, asks, begin, begins, clean_start, cond, driver_entry, effect, false_true, frame, fresh, inl, inr, is_set, it_begins, it_sends, late_now, nothing_learnt, other_sends, refl, some_is, spares_begin, sparing_after, sparing_asks, sparing_start, stays_gone, step, strange_entry, strays, subst, sym, true, who, ℕ, ◌++◌, ◌^◌, ◌∙◌, ◌∷◌, ◌≡◌, ◌≤◌, ◌⊎◌}
 use Rattle.job_model.specs.declared.ends.CleanEnd.TheVariants as ends
 use Rattle.twin_facts.specs.Sides.{driver_saw, Sends, driver_sends, attempt_sends}
 use Rattle.twin_facts.proofs.OneSide.{goes_on, driver_scene}

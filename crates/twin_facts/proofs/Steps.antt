@@ -1,11 +1,10 @@
 -- What one entry of a side leaves: of its picks, of what stands where files are shown, and of the marker.
-use Rattle.twin_facts.proofs.Common.{AgreeBelow, Agrees, Answered, Append, At, Bool, Clean, Commit, Commits, Committer, Content, Decides, Driver, Early, Entry, Fail, Fetching, FileStands, InCommit, IsHonestOutcome, IsIn, IsLegal, IsOpening, IsTimely, Late, List, Magic, Marking, Mode, None, Object, Operation, Option, Outcome, Path, PutObject, Replace, Request, Retried, Runs, Scene, Script, Seen, Sets, Setting, Some, Stand, TheCheck, TheClean, TheCommit, TheSetup, TheSparing, Times, Wants, and-false, answer, ap, apply, arith, asks, at_key, attempt_quiet, below, changed_keys, check_plain, cleans_is, commit_asks, commit_tells, cond, counted, decided_so, driver_entry, effect, effective_is, false, false_true, files_go, good, inl, inr, is_begun, is_decided, is_driver, is_effective, is_file_path, is_marking, is_picking, is_reading, is_replace, keeps, late_now, mark_text, no_success, none_some, not, nothing_learnt, operation_own, or-true, partitions, picks_of, puts, refl, same_mark, see, setup_asks, setup_plain, some_is, stranger_same, subst, success_key, sym, text_true, true, true_or_false, wanted_at, wanted_of, wanted_paths, wants_of, who, whole_of, ℕ, ◌&&◌, ◌^◌, ◌||◌, ◌∙◌, ◌≡◌, ◌≤◌, ◌⊎◌}
+use Rattle.twin_facts.proofs.Common.{AgreeBelow, Agrees, At, Bool, Clean, Commit, Commits, Committer, Content, Decides, Driver, Early, Entry, Fetching, FileStands, InCommit, IsHonestOutcome, IsIn, IsLegal, IsOpening, IsTimely, Late, List, Marking, Mode, None, Object, Operation, Option, Outcome, Path, PutObject, Request, Retried, Runs, Scene, Script, Seen, Sends, Sets, Setting, Some, Sparing, Stand, TheCheck, TheClean, TheCommit, TheSetup, TheSparing, Times, Wants, and-false, answer, ap, apply, arith, asks, at_key, attempt_quiet, attempt_saw, below, changed_keys, check_plain, cleans_is, commit_asks, commit_tells, cond, counted, decided_so, driver_entry, driver_saw, effect, effective_is, false, false_true, files_go, good, inl, inr, is_begun, is_decided, is_driver, is_effective, is_file_path, is_marking, is_picking, is_reading, is_replace, keeps, late_now, mark_text, no_success, none_some, not, nothing_learnt, operation_own, or-true, partitions, picks_of, puts, refl, same_mark, see, setup_asks, setup_plain, some_is, sparing_asks, stranger_same, subst, success_key, sym, text_true, true, true_or_false, wanted_at, wanted_of, wanted_paths, wants_of, who, whole_of, ℕ, ◌&&◌, ◌^◌, ◌||◌, ◌∙◌, ◌≡◌, ◌≤◌, ◌⊎◌}
 use Rattle.job_protocol.specs.View.{object_at}
-use Rattle.job_protocol.specs.Sparing.{Sparing, Reading, SparingOver, record_request, sparing_asks}
-use Rattle.twin_facts.specs.Sides.{Sends, driver_sends, attempt_sends, attempt_saw, driver_saw}
-use Rattle.twin_facts.proofs.Changes.{commit_shows_by, setup_shows, attempt_shows, check_shows, sparing_shows}
-use Rattle.twin_facts.proofs.Progress.{Committing, Unread, nothing_under, kind, is_fetching, is_mark_stage, undecided, picks_same, mark_same, put_before, committing_next, committing}
-use Rattle.twin_facts.proofs.OneSide.{picks_still, unread_picks, mark_still, mark_stays, mark_puts, never_cleans}
+use Rattle.twin_facts.specs.Sides.{attempt_sends, driver_sends}
+use Rattle.twin_facts.proofs.Changes.{attempt_shows, check_shows, commit_shows_by, setup_shows, sparing_shows}
+use Rattle.twin_facts.proofs.Progress.{Committing, Unread, committing, committing_next, is_fetching, is_mark_stage, kind, mark_same, nothing_under, picks_same, put_before, undecided}
+use Rattle.twin_facts.proofs.OneSide.{mark_puts, mark_stays, mark_still, never_cleans, picks_still, unread_picks}
 use Rattle.job_traces.proofs.Folds.{commit_is}
 
 -- the object at a path of a destination

@@ -1,9 +1,9 @@
 -- All runs of two jobs at one destination.
 use Rattle.twin_facts.proofs.Common.{AreTwins, Beginning, Bool, Content, Entry, First, HasBucket, Ids, IsIn, IsOpening, IsTwinOpening, List, MayBeTwins, MayBegin, Path, Request, Scene, Script, Second, Sends, Setting, Side, Some, Stand, Times, TwinEntry, TwinRun, TwinsKeep, Upload, [], and_from, and_parts, ap, arith, at_most_is, at_most_not, begin, bucket_of, changed_keys, cond, drawn_by, drew, drew_from, effect, eyes, false, false_true, first_begins, first_sends, first_stand, in_eyes, inl, inr, is_driver, is_effective, is_marked_by, is_marking, is_side, late_now, length, length-append, list_any, map, map-append, marks_by, nat_le, nothing_seen, observed, or-false, or-true, or_assoc, refl, run_begins, second_begins, second_sends, strange_entry, subst, success_key, sym, take, take-append-le, take_all, text_eq, text_true, touches_mark, true, true_or_false, turned_entry, twins_begin, ℕ, ◌&&◌, ◌++◌, ◌+◌, ◌<◌, ◌||◌, ◌∙◌, ◌∷◌, ◌≡◌, ◌≤◌, ◌⊎◌}
-use Rattle.job_spec.specs.Scope.{upload_at}
 use Rattle.twin_facts.proofs.Pairs.{Pair, more, swapped, swap_twins, paired_begin, paired, strange, sends_scene}
 use Rattle.twin_facts.proofs.Steps.{sends_leaves}
 use Rattle.twin_facts.proofs.Views.{Views, views_swap, Touches, begins_views, entry_views, views_only, views_kept, views_marked}
+use Rattle.job_protocol.specs.Scope.{upload_at}
 
 -- ---- the marker's last put or deletion
 

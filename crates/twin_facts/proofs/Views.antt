@@ -1,5 +1,5 @@
 -- What readers of a destination of two jobs are shown is kept by each step of either.
-use Rattle.twin_facts.proofs.Common.{BeginClean, BeginCommit, BeginSetup, Beginning, Bool, Commit, Content, Entry, Gives, HasBucket, IsIn, IsLegal, IsOpening, List, Marking, MayBegin, None, Object, Option, Outcome, Path, Picks, Request, RequestLost, Runs, Scene, Script, Setting, Slow, Some, Stand, TheCommit, Times, and_parts, ap, arith, begin, bucket_of, changed_keys, clean_of, clean_of_so, cond, counted, effect, false, false_true, inl, inr, is_clash, is_decided, is_driver, is_effective, is_file_path, is_just_set, is_marking, is_picked, just_idle, just_set, late_now, mark_text, none_or_some, none_some, not, not-true, observed, option_map, refl, some_is, stranger_same, subst, success_key, sym, true, true_or_false, view, wanted_at, wanted_of, whole_of, ℕ, ◌∙◌, ◌≡◌, ◌⊎◌}
+use Rattle.twin_facts.proofs.Common.{BeginClean, BeginCommit, BeginSetup, Beginning, Bool, Commit, Content, Entry, Gives, HasBucket, IsIn, IsLegal, IsOpening, List, Marking, MayBegin, None, Object, Option, Path, Picks, Request, Runs, Scene, Script, Setting, Some, Stand, TheCommit, Times, and_parts, ap, arith, begin, bucket_of, changed_keys, clean_of, clean_of_so, cond, counted, effect, false, false_true, inl, inr, is_clash, is_decided, is_driver, is_effective, is_file_path, is_just_set, is_marking, is_picked, just_idle, just_set, late_now, mark_text, none_or_some, none_some, not, not-true, observed, option_map, refl, some_is, stranger_same, subst, success_key, sym, true, true_or_false, view, wanted_at, wanted_of, whole_of, ℕ, ◌∙◌, ◌≡◌, ◌⊎◌}
 use Rattle.job_facts.proofs.FilePaths.{file_path}
 use Rattle.twin_facts.proofs.Steps.{obj, mark_at, count, FileAt, Leaves}
 

@@ -1,8 +1,8 @@
 -- What is seen and told of a side by the numbers of events alone.
 use Rattle.std.specs.Prelude.{◌≡◌, ℕ, ◌≤◌, true, false, List, length, take}
-use Rattle.job_facts.specs.Prelude.{HasBucket, Content, Script, Setting, Seen, see_all, nothing_seen, nothing_told, tell_all, Times}
+use Rattle.job_facts.specs.Prelude.{HasBucket, Content, Script, Seen, see_all, nothing_seen, nothing_told, tell_all, Times}
 use Rattle.job_traces.specs.Runs.{Stand}
-use Rattle.twin_facts.specs.Sides.{Side, First, Second, TwinEntry, eyes, TwinRun}
+use Rattle.twin_facts.specs.Sides.{Side, First, Second, TwinEntry, eyes}
 use Rattle.twin_facts.specs.TwinLaws.{InEachRun, Shows, Marked, is_marked_by}
 
 -- what is seen of a side at moment m

@@ -1,9 +1,10 @@
 -- Two runs over one journal, each as its side reads it, are a run of both; and what one sends is foreign to the other.
 use Rattle.std.specs.Prelude.{List, [], map, true, ◌++◌, ◌∷◌, ◌≡◌}
-use Rattle.job_facts.specs.Prelude.{AllByRecursion, Content, Drawn, IsForeign, IsHonestOutcome, Scene, Script, Setting, Times, Who, answer, effect, is_own}
+use Rattle.job_facts.specs.Prelude.{AllByRecursion, Content, Drawn, IsForeign, IsHonestOutcome, Scene, Script, Setting, Times, Who, answer, effect}
 use Rattle.job_traces.specs.Runs.{Runs, Stand}
 use Rattle.twin_facts.specs.Sides.{First, IsTwinOpening, Second, Side, TwinEntry, TwinRun, eyes}
 use Rattle.twin_facts.specs.TwinLaws.{MayBeTwins, turned_entry}
+use Rattle.job_spec.specs.Prelude.{is_own}
 
 -- each entry is of a job's driver or attempt
 abbrev pub AreActors : List TwinEntry → Type 0

@@ -1,6 +1,6 @@
 -- The requests that a side sends: those of its attempts, and those of its driver's set-up, check, commit, and abort or clean.
-use Rattle.std.specs.Prelude.{◌≡◌, ℕ, true, List, ◌∷◌, Some}
-use Rattle.job_facts.specs.Prelude.{Actor, Driver, Request, UploadRef, IsIn, is_record, Who, actor_of, Script, Drawn, Setup, setup_asks, Commit, commit_asks, Setting, Operation, asks, Seen, is_magic, is_staging, Told, known, IsAttempt, Fits, SetsUp, Commits}
+use Rattle.std.specs.Prelude.{◌≡◌, Some}
+use Rattle.job_facts.specs.Prelude.{Actor, Driver, Request, Who, actor_of, Setup, setup_asks, Commit, commit_asks, Setting, Operation, asks, Seen, Told, known, IsAttempt, Fits, SetsUp, Commits}
 use Rattle.job_protocol.specs.Sparing.{Sparing, sparing_asks}
 use Rattle.job_facts.specs.Spares.{FitsSparing}
 use Rattle.job_protocol.specs.Rechecks.{Check, check_asks}

@@ -1,10 +1,11 @@
 -- What one request of a job's driver changes of what stands where files are shown.
 use Rattle.std.specs.Prelude.{◌≡◌, ℕ, ◌<◌, ◌⊎◌, true, false, List, ◌∷◌, length, Option, Some, None}
-use Rattle.job_facts.specs.Prelude.{Object, Request, Outcome, Scene, effect, below, IsIn, changed_keys, Script, IsLegal, keeps_of, Sets, picks_of, Commit, Fetching, Replacing, Completing, Marking, Reverting, CommitOver, replaced, commit_asks, Setting, Operation, asks, Who, is_untouched, IsAttempt, Hold, Fits, Picks, wanted_at, is_decided, is_file_path, Seen, Told, known, at_key, SweepsUnder, whole_of, Commits}
+use Rattle.job_facts.specs.Prelude.{Object, Request, Outcome, Scene, effect, below, IsIn, changed_keys, Script, IsLegal, keeps_of, Sets, picks_of, Commit, Fetching, Replacing, Completing, Marking, Reverting, CommitOver, replaced, commit_asks, Setting, Operation, asks, Who, IsAttempt, Hold, Fits, Picks, wanted_at, is_decided, is_file_path, Seen, Told, known, at_key, SweepsUnder, whole_of, Commits}
 use Rattle.job_protocol.specs.Sparing.{Sparing, sparing_asks}
 use Rattle.job_protocol.specs.Rechecks.{Check, check_asks}
 use Rattle.job_facts.specs.Spares.{FitsSparing}
 use Rattle.twin_facts.specs.Requests.{SetsUpBy}
+use Rattle.job_protocol.specs.JobCommits.{is_untouched}
 
 -- It stays as it is. Or the job's picks are decided, and it is the whole wanted file or nothing where one is wanted, or nothing where the mode does not keep what was there.
 abbrev pub Changed : Script → Picks → List ℕ → Option Object → Option Object → Type 0

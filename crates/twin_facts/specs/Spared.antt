@@ -1,13 +1,13 @@
 -- What an abort or clean of a job at a shared destination leaves.
-use Rattle.std.specs.Prelude.{◌≡◌, ℕ, ◌<◌, true, List, [], Some, None}
-use Rattle.job_facts.specs.Prelude.{Scene, begins, Object, Driver, UploadRef, Committer, Magic, Directory, Partitioned, Entry, Request, Outcome, Retried, Content, IsLegal, TheSparing, strange_entry, IsForeign, IsIn, magic_prefix, cluster_prefix, is_record, Who, Script, Setting, NoClusterFile, is_magic, is_staging, at_key, at_id, sets_at, Times}
+use Rattle.std.specs.Prelude.{◌≡◌, ℕ, ◌<◌, true, List, Some, None}
+use Rattle.job_facts.specs.Prelude.{Scene, begins, Object, Driver, UploadRef, Committer, Magic, Directory, Partitioned, Entry, Request, Outcome, Retried, Content, IsLegal, TheSparing, strange_entry, IsForeign, IsIn, magic_prefix, cluster_prefix, is_record, Script, Setting, NoClusterFile, is_magic, is_staging, at_key, at_id, sets_at, Times}
 use Rattle.std.specs.FinMap as fin
 use Rattle.pending_json.specs.Reading as reading
 use Rattle.job_model.specs.declared.ends.CleanEnd.TheVariants as ends
-use Rattle.job_spec.specs.Scope.{NoMagicKey}
 use Rattle.job_traces.specs.Runs.{Stand, is_set, saw, Beginning, BeginClean, begun_driver, begin, MayBegin, Runs, IsOpening}
 use Rattle.job_protocol.specs.Sparing.{Sparing, SparingOver, record_names, set_names}
 use Rattle.twin_facts.specs.Sides.{Sends}
+use Rattle.job_protocol.specs.Scope.{NoMagicKey}
 
 -- what stands at a place below the job's directory names the upload: a record of the magic committer, a set or temporary file of the others
 abbrev pub NamedAt : Committer → Script → Scene → List ℕ → UploadRef → Type 0

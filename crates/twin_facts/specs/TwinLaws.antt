@@ -1,11 +1,12 @@
 -- What readers of a destination may rely on while two jobs go on there.
 use Rattle.std.specs.Prelude.{◌≡◌, ℕ, ◌≤◌, ◌⊎◌, ◌&&◌, Bool, true, false, cond, List, [], ◌∷◌, length, map, take, Some, None}
-use Rattle.job_facts.specs.Prelude.{HasBucket, list_any, text_eq, Content, bucket_of, is_effective, Object, Request, Entry, changed_keys, success_key, Script, IsLegal, Mode, Replace, Picks, wanted_at, is_picked, is_clash, is_decided, mark_text, view, Setting, is_driver, Seen, is_marking, Hold, IsKnown, Times}
+use Rattle.job_facts.specs.Prelude.{HasBucket, list_any, text_eq, Content, bucket_of, is_effective, Object, Request, Entry, changed_keys, success_key, Script, IsLegal, Mode, Replace, Picks, wanted_at, is_picked, is_clash, is_decided, mark_text, view, Setting, Seen, is_marking, Hold, IsKnown, Times}
 use Rattle.job_protocol.specs.View.{Shown, object_at}
 use Rattle.twin_facts.specs.Names.{IsStranger}
 use Rattle.twin_facts.specs.Laws.{AreTwins}
 use Rattle.job_traces.specs.Runs.{Stand, is_set}
 use Rattle.twin_facts.specs.Sides.{Side, First, Second, is_side, TwinEntry, Sends, drew, TwinRun, IsTwinOpening}
+use Rattle.job_spec.specs.Prelude.{is_driver}
 
 -- what counts of a side's wanted files: nothing until each of its tasks has a pick and no two write one path
 abbrev pub counted : Script → Picks → Shown

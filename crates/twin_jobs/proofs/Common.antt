@@ -12,7 +12,7 @@ pub use Rattle.job_spec.specs.Eyes.{number_in}
 pub use Rattle.job_spec.specs.Prelude.{in_eyes}
 pub use Rattle.job_states.specs.Stands.{Stands}
 pub use Rattle.job_steps.proofs.Parts.{take_whole}
-pub use Rattle.job_steps.specs.Prelude.{Actor, AllByRecursion, AreOwn, Content, Drawn, Entry, EventEnd, IsLegal, IsOpening, IsPlayed, Known, Past, Pick, Play, Request, Running, Scene, Script, Sent, Setting, Who, actor_of, after_all, by_actor, fate_at, knows, moment, past, times, who}
+pub use Rattle.job_steps.specs.Prelude.{Actor, AllByRecursion, AreOwn, Content, Drawn, Entry, EventEnd, IsLegal, IsOpening, IsPlayed, Known, Past, Pick, Play, Request, Running, Scene, Script, Setting, Who, actor_of, after_all, by_actor, fate_at, knows, moment, past, times, who}
 pub use Rattle.std.proofs.Common.{Bool, List, None, Option, Some, [], ap, arith, cond, drop, false, inl, inr, length, nat_eq, not, refl, slice_get, subst, suc, sym, take, true, zero, ℕ, ◌++◌, ◌+◌, ◌<◌, ◌^◌, ◌∙◌, ◌∷◌, ◌≡◌, ◌≤◌}
 pub use Rattle.std.specs.Prelude.{Err, IsSome, Ok, OnErr, OnOk, Result, is_some}
 pub use Rattle.twin_facts.specs.Sides.{IsTwinOpening, TwinEntry, TwinRun, drew, eyes}

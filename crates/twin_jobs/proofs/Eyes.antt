@@ -1,6 +1,7 @@
 -- The journal of both, as each side reads it.
 use Rattle.twin_jobs.proofs.Common.{AllByRecursion, AreOf, Bool, List, TwinEntry, [], after_all, ap, both_of, cond, entry_by, eyes, false, in_eyes, map-append, not, number_in, refl, sym, true, ℕ, ◌++◌, ◌∙◌, ◌∷◌, ◌≡◌}
-use Rattle.job_facts.specs.Prelude.{Scene, answer, effect, IsHonestOutcome, Shell, Entry, Who, Script, Drawn, is_own, IsForeign, AreOwn}
+use Rattle.job_facts.specs.Prelude.{Scene, answer, effect, IsHonestOutcome, Shell, Entry, Who, Script, Drawn, IsForeign}
+use Rattle.job_steps.specs.Prelude.{is_own, AreOwn}
 use Rattle.job_side.specs.Beside as beside
 use Rattle.twin_facts.specs.Sides as two
 use Rattle.twin_facts.specs.Joined as joined

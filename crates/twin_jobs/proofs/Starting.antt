@@ -21,9 +21,8 @@ enough_second : (t : Twins) → AreTwins t → events_of Second (sides_in t.orde
 enough_second t a = rw (events_asked Second t.order) a.second_events
 
 keeps_so : (m : Mode) → is_replace m ≡ false → laws.is_replace m ≡ false
-keeps_so modes.Fail e = refl
-keeps_so modes.Append e = refl
 keeps_so modes.Replace e = e
+keeps_so _ e = refl
 
 pub may_be : (t : Twins) → AreTwins t → IsLegal t.first → IsLegal t.second → MayBeTwins t.first t.second
 may_be t a first second = assumption (keeps_so t.first.mode a.first_keeps, keeps_so t.second.mode a.second_keeps, a, first, second)

@@ -1,10 +1,8 @@
 -- Where the entries of a commit at a shared destination lead, by the reports that it began with: to its check, or behind that.
-use Rattle.twin_safety.proofs.Common.{Append, Bool, Check, CheckEnd, CheckOver, Checked, Clear, Commit, CommitEnd, CommitOver, Driver, Entry, Fail, Follows, IsCleared, Known, List, Mode, None, Operation, Option, Replace, Reports, Retried, Running, Script, Setting, Some, TheCheck, TheCommit, [], advance, ap, append-nil, append_assoc, arith, asks, check_asks, check_over, check_start, checking, commit_asks, commit_over, commit_start, commit_tells, commit_with, false, false_true, follows_more, next, over, refl, run, run_more, subst, sym, tells, true, wants, wants_of, who, ℕ, ◌++◌, ◌∙◌, ◌∷◌, ◌≡◌}
+use Rattle.twin_safety.proofs.Common.{Bool, Check, CheckEnd, CheckOver, Checked, Clear, Commit, CommitEnd, CommitOver, Driver, Entry, Fail, Follows, IsCleared, Known, List, Mode, None, Operation, Option, Reports, Retried, Running, Script, Setting, Some, TheCheck, TheCommit, [], advance, ap, append-nil, append_assoc, arith, asks, check_asks, checking, commit_asks, commit_start, commit_tells, commit_with, follows_more, next, over, refl, run, run_more, subst, sym, tells, true, wants, wants_of, who, ℕ, ◌++◌, ◌∙◌, ◌∷◌, ◌≡◌}
 use Rattle.job_model.specs.declared.ends.OpEnd.TheVariants as ends
 use Rattle.job_protocol.specs.Operations.{after_check_by, commit_by, commit_of}
-use Rattle.job_safety.proofs.Commits.{commit_back}
-use Rattle.twin_safety.proofs.Checking.{over_is, checked_clear}
-use Rattle.proof_base.proofs.Options.{end_of}
+use Rattle.twin_safety.proofs.Checking.{checked_clear}
 
 -- at its check, which asked for all of these
 pub record Within (w : Script) (r : Reports) (es : List Entry) (t : Retried Check) : Type 0 where

@@ -1,7 +1,6 @@
 -- How the check before a commit ends, by its entries alone.
-use Rattle.twin_safety.proofs.Common.{Answered, Bool, Check, CheckEnd, CheckIs, CheckOver, Checked, Clear, Conflict, Entry, Follows, Got, Item, List, Looking, More, NoMemory, None, Option, Outcome, Page, PageEntry, Probing, Reply, Request, Retried, Script, ShownBy, Slow, Some, StoreFault, Walked, Who, Whole, WornFirst, WornOut, [], ap, append-nil, append_assoc, arith, check_after, check_asks, check_by, check_hears, check_over, check_start, checking, checks_all, cond, counted_first, false, files_of_all, first_shown, inl, inr, is_zero, keys_on, looked, next, none_some, partitions, paths_of, probing, refl, run, some_is, step, subst, suc, sym, true, unanswered_by, walked, wants_of, worn_in, zero, ℕ, ◌++◌, ◌∙◌, ◌∷◌, ◌≡◌, ◌⊎◌}
+use Rattle.twin_safety.proofs.Common.{Answered, Bool, Check, CheckEnd, CheckIs, CheckOver, Checked, Clear, Conflict, Entry, Follows, Got, Item, List, NoMemory, None, Option, Outcome, Reply, Request, Retried, Script, ShownBy, Some, StoreFault, Who, WornFirst, WornOut, [], ap, append-nil, append_assoc, arith, check_after, check_asks, check_hears, check_over, check_start, checking, cond, counted_first, false, inl, inr, is_zero, next, none_some, refl, run, step, subst, sym, true, unanswered_by, wants_of, worn_in, ℕ, ◌++◌, ◌∙◌, ◌∷◌, ◌≡◌, ◌⊎◌}
 use Rattle.retries.specs.Prelude.{wears}
-use Rattle.job_protocol.specs.Prelude.{checks_partitions}
 
 -- ---- what one sending does
 

@@ -1,7 +1,6 @@
 -- How the commit of a job whose destination others share ends, in every run among strangers.
-use Rattle.twin_safety.proofs.Common.{BeginClean, BeginCommit, BeginSetup, Beginning, BehindCheck, Bool, ByCheck, Check, CheckEnd, CheckOver, Commit, CommitEnd, CommitOver, Content, Driver, Entry, IsLegal, IsOpening, IsTimely, List, MayBegin, None, Operation, Option, Outcome, Reports, Request, Retried, Runs, Script, Setting, Some, Stand, TheCheck, TheClean, TheCommit, TheSetup, TheSparing, TheTaskAbort, TheTaskCommit, TheWrite, Times, [], actor_begins, ap, arith, asks, attempt_sends, begin, commit_entries, commit_runs, commit_with, cond, driver_entry, driver_sends, entry, false, inl, inr, is_begun, is_commits, is_just_set, is_set, nothing_learnt, refl, run, run_begins, strange_entry, strays, subst, sym, tells, true, who, ℕ, ◌++◌, ◌∙◌, ◌∷◌, ◌≡◌, ◌⊎◌}
-use Rattle.job_spec.proofs.Common.{append-nil, filter-append, false_true}
-use Rattle.job_protocol.specs.Operations.{commit_of}
+use Rattle.twin_safety.proofs.Common.{Beginning, BehindCheck, Bool, ByCheck, Check, CheckEnd, CheckOver, Commit, CommitEnd, CommitOver, Content, Driver, Entry, IsLegal, IsOpening, IsTimely, List, MayBegin, Operation, Option, Outcome, Reports, Request, Retried, Runs, Script, Setting, Some, Stand, TheCheck, TheClean, TheCommit, TheSetup, TheSparing, Times, [], actor_begins, ap, arith, asks, attempt_sends, begin, commit_entries, commit_runs, commit_with, cond, driver_entry, driver_sends, entry, false, is_begun, is_commits, is_just_set, is_set, nothing_learnt, refl, run, run_begins, strange_entry, strays, subst, sym, tells, true, who, ℕ, ◌++◌, ◌∙◌, ◌∷◌, ◌≡◌, ◌⊎◌, None}
+use Rattle.job_spec.proofs.Common.{append-nil, filter-append}
 use Rattle.job_protocol.proofs.Begun.{clean_of_so}
 use Rattle.twin_safety.proofs.Checking.{checks_end}
 use Rattle.twin_safety.proofs.Behind.{Behind, IsAt, begins, more}

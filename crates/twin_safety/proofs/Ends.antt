@@ -1,5 +1,5 @@
 -- How the commit at a shared destination ends in a run, and the check before it.
-use Rattle.twin_safety.proofs.Common.{Bool, CheckEnd, CheckIs, EndedBehind, Ending, Fail, List, None, OfCommit, Option, Reports, SharedChecks, SharedCommits, Some, [], ap, arith, commit_due, commit_entries, commit_runs, cond, driver_commit, end_kind, ending, false, false_true, inl, inr, is_driver, kind_run, memory_check, memory_commit, nat_le, not, number_is, over_kind, picks_then, refl, run_then, subst, sym, true, unclean_then, ℕ, ◌&&◌, ◌+◌, ◌||◌, ◌∙◌, ◌∷◌, ◌≡◌}
+use Rattle.twin_safety.proofs.Common.{Bool, CheckEnd, CheckIs, EndedBehind, Ending, Fail, List, None, OfCommit, Option, Reports, SharedChecks, SharedCommits, Some, [], ap, arith, commit_due, commit_entries, commit_runs, cond, driver_commit, end_kind, ending, false, inl, inr, is_driver, kind_run, memory_check, memory_commit, nat_le, not, number_is, over_kind, picks_then, refl, run_then, subst, sym, true, unclean_then, ℕ, ◌&&◌, ◌+◌, ◌||◌, ◌∙◌, ◌∷◌, ◌≡◌}
 use Rattle.job_steps.specs.Prelude.{Content, Actor, Driver, Request, Entry, run, Follows, WornFirst, IsLegal, Script, Known, OpEnd, CommitEnd, CommitOver, commit_start, commit_tells, Setting, Operation, TheCommit, commit_of, wants, advance, over, is_begun, same_actor, Doing, since, by_actor, known_then, CommitEnded, seen_until, IsOpening, Play, Closes, happen, Reachable, IsRun, operation_of, times, Times, has_cleaned}
 use Rattle.job_model.specs.declared.events.Op.TheVariants as ops
 use Rattle.job_model.specs.declared.ends.OpEnd.TheVariants as ends

@@ -1,6 +1,6 @@
 -- What happens in a run while the driver's abort or clean goes on, and behind its end until the event is over, is an abort or clean that goes on request by request.
-use Rattle.twin_safety.proofs.Common.{Began, IsBegin, IsForeign, Later, List, Meanwhile, Some, SparesOn, Sparing, TheClean, [], ap, arith, at_most_is, at_most_not, at_once, begins_at, clean_start, cond, false, had_strayed, inl, inr, it_sends, later, length, length-append, moment_scene, nat_le, none_some, nothing_since, other_sends, refl, saw, some_is, spares_begin, sparing_after, sparing_start, subst, sym, true, true_or_false, was_sent, was_silent, ℕ, ◌&&◌, ◌++◌, ◌+◌, ◌<◌, ◌^◌, ◌∙◌, ◌∷◌, ◌≡◌, ◌≤◌, ◌⊎◌}
-use Rattle.job_steps.specs.Prelude.{Content, Scene, answer, moment, IsHonestOutcome, Driver, Shell, Request, Outcome, Entry, Retried, fresh, step, IsLegal, Op, Event, Do, Start, EventEnd, Refused, Setting, TheSparing, clean_of, who, asks, tells, is_begun, Past, Doing, is_new, needs_set, is_own, own, until, AllBy, AllUpTo, driver_entry, strange_entry, Stand, Runs, IsOpening, BeginClean, begin, actor_begins, strays, is_set, IsTimely, nothing_learnt, Play, Opens, Sends, Finishes, Closes, Strays, Refuses, MaySend, MayStray, happen, hear, open_running, Reachable, Ahead, IsRun, operation_of, times, Times}
+use Rattle.twin_safety.proofs.Common.{Began, IsBegin, IsForeign, Later, List, Meanwhile, Some, SparesOn, Sparing, TheClean, [], ap, arith, at_most_is, at_most_not, at_once, begins_at, clean_start, cond, false, had_strayed, inl, inr, it_sends, later, length, length-append, moment_scene, nat_le, none_some, nothing_since, other_sends, refl, saw, some_is, spares_begin, sparing_after, sparing_start, subst, sym, true, true_or_false, was_sent, was_silent, ℕ, ◌++◌, ◌+◌, ◌<◌, ◌^◌, ◌∙◌, ◌∷◌, ◌≡◌, ◌≤◌, ◌⊎◌}
+use Rattle.job_steps.specs.Prelude.{Content, Scene, answer, moment, IsHonestOutcome, Driver, Shell, Request, Outcome, Entry, Retried, fresh, step, IsLegal, Op, Event, EventEnd, Refused, Setting, TheSparing, clean_of, who, asks, tells, is_begun, Doing, is_new, needs_set, is_own, own, until, AllBy, AllUpTo, driver_entry, strange_entry, Stand, Runs, IsOpening, BeginClean, begin, actor_begins, strays, is_set, IsTimely, nothing_learnt, Play, Opens, Sends, Finishes, Closes, Strays, Refuses, MaySend, MayStray, happen, hear, open_running, Reachable, Ahead, IsRun, operation_of, times, Times}
 use Rattle.job_model.specs.declared.events.Op.TheVariants as ops
 use Rattle.job_steps.proofs.Actors.{put_here}
 use Rattle.job_steps.proofs.Parts.{up_to_more, up_to_last, until_all, until_late}

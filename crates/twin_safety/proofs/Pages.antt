@@ -1,5 +1,5 @@
 -- The requests of a check all ask for a page, and the first of the commit behind it in the mode fail does not: so two partings of their entries are one.
-use Rattle.twin_safety.proofs.Common.{Bool, Check, CheckOver, CommitEnd, Committer, Entry, Fail, Fetching, Follows, IsCleared, List, ListPage, Magic, Mode, None, Option, Request, Retried, Script, Some, Turn, Who, [], all_commits, ap, arith, check_asks, checking, commit_asks, commit_start, commit_tells, completing, cond, dealt, decided, false, length, nat_lt, next, none_some, picks_of, refl, replaced, replacing, same_path, set_request, some_is, subst, sym, true, wants_of, ℕ, ◌++◌, ◌∙◌, ◌∷◌, ◌≡◌}
+use Rattle.twin_safety.proofs.Common.{Bool, Check, Committer, Entry, Fail, Follows, IsCleared, List, ListPage, Mode, None, Option, Request, Retried, Script, Some, Who, [], ap, arith, check_asks, checking, commit_asks, commit_start, commit_tells, cond, false, next, picks_of, refl, replaced, subst, sym, true, wants_of, ℕ, ◌++◌, ◌∙◌, ◌∷◌, ◌≡◌}
 
 -- it asks for a page
 abbrev pub is_page : Request → Bool

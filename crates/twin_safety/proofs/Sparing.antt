@@ -1,6 +1,5 @@
 -- How an abort or clean at a shared destination ends, by its own entries.
-use Rattle.twin_safety.proofs.Common.{Aborting, Actor, CleanEnd, CleanIs, Committer, Deleting, Entry, Follows, Known, List, Magic, More, Naming, None, Option, Reading, Removing, Reply, Request, Retried, Running, Script, Setting, Some, Sparing, SparingOver, TheSparing, UploadRef, Walked, Walking, Whole, WornFirst, [], aborting, advance, ap, arith, deleting, drop, emptying, false, false_true, faults, filter, first_spent, fresh, inl, inr, is_fault, is_record, is_some, names, naming, none_some, option_map, over, reading_on, refl, removing, run, spare_of, sparing_after, sparing_hears, sparing_over, sparing_start, spent_in, step, subst, sym, true, walked, walking, wants, ℕ, ◌++◌, ◌∙◌, ◌∷◌, ◌≡◌, ◌⊎◌}
-use Rattle.job_spec.specs.Prelude.{ClusterNames}
+use Rattle.twin_safety.proofs.Common.{Actor, CleanEnd, CleanIs, Committer, Entry, Follows, Known, List, Option, Reply, Request, Retried, Running, Script, Setting, Some, Sparing, SparingOver, TheSparing, UploadRef, Walked, WornFirst, [], aborting, advance, ap, arith, deleting, false, faults, first_spent, fresh, inl, is_fault, is_some, naming, option_map, over, reading_on, refl, run, spare_of, sparing_after, sparing_hears, sparing_over, sparing_start, spent_in, step, sym, true, walking, wants, ℕ, ◌∙◌, ◌∷◌, ◌≡◌, ◌⊎◌}
 use Rattle.job_model.specs.declared.ends.CleanEnd.TheVariants as cleans
 use Rattle.job_model.specs.declared.ends.OpEnd.TheVariants as ends
 use Rattle.job_facts.proofs.Going.{step_so}

@@ -1,12 +1,12 @@
 -- How the commit of a job whose destination others share ends, whatever they send: by a missing task, by its check, or as that of a job alone.
-use Rattle.std.specs.Prelude.{◌≡◌, ℕ, not, ◌&&◌, Bool, List, [], ◌++◌, Option, Some, None}
-use Rattle.job_facts.specs.Prelude.{filter, Mode, Fail, Request, Entry, Retried, WornFirst, Who, Script, CommitEnd, CommitOver, CommitEnded, TheCommit, TheCheck, is_driver, is_begun, Times}
+use Rattle.std.specs.Prelude.{Bool, List, None, Option, Some, [], not, ℕ, ◌&&◌, ◌++◌, ◌≡◌}
+use Rattle.job_steps.specs.Prelude.{CommitEnd, CommitEnded, CommitOver, Entry, Request, Retried, Script, Stand, TheCheck, TheCommit, Times, Who, WornFirst, filter, is_begun}
+use Rattle.job_spec.specs.Prelude.{Fail, Mode, is_driver}
 use Rattle.job_model.specs.declared.ends.CheckEnd.{CheckEnd}
 use Rattle.job_model.specs.declared.ends.CheckEnd.TheVariants.{Clear}
 use Rattle.job_protocol.specs.Rechecks.{Check, CheckOver}
-use Rattle.job_traces.specs.Runs.{Stand}
 use Rattle.twin_facts.specs.Spared.{InEachShared}
-use Rattle.twin_safety.specs.Checks.{Checked, CheckIs}
+use Rattle.twin_safety.specs.Checks.{CheckIs, Checked}
 
 -- the entries of its commit, check and all: its driver's since that began, before an abort or clean
 abbrev pub is_commits : Times → Entry → Bool

@@ -1,7 +1,7 @@
 -- How the driver's operations end in a run of a job whose destination others share.
 use Rattle.std.specs.Prelude.{◌≡◌, ℕ, ◌+◌, ◌⊎◌, true, List, ◌++◌, length, Option, None}
 use Rattle.job_steps.specs.Prelude.{Content, moment, Driver, Request, Entry, WornFirst, IsLegal, Script, Doing, CommitEnd, CleanEnd, EventEnd, Setting, Seen, EndedIn, CommitEnded, seen_until, until, before, since, own, AllBy, IsOpening, Play, Reachable}
-use Rattle.job_facts.specs.Prelude.{Fail, CleanIs}
+use Rattle.job_facts.specs.Prelude.{Fail}
 use Rattle.job_model.specs.declared.ends.CheckEnd.{CheckEnd}
 use Rattle.job_model.specs.declared.ends.CheckEnd.TheVariants as check_ends
 use Rattle.job_model.specs.declared.ends.CommitEnd.TheVariants as commit_ends
@@ -10,6 +10,7 @@ use Rattle.job_model.specs.declared.ends.OpEnd.TheVariants as ends
 use Rattle.twin_facts.specs.Spared.{SparingLeaves}
 use Rattle.twin_safety.specs.Checks.{CheckIs}
 use Rattle.twin_safety.specs.Ends.{IsCleared}
+use Rattle.job_spec.specs.OperationEnds.{CleanIs}
 
 -- the commit ended behind its check, if there was one, as is due of a job alone by the task that was missing, the first of its requests that wore out, and the picks
 pub record EndedBehind (w : Script) (s : Seen) (d : Doing) (es : List Entry) (e : CommitEnd) : Type 0 where

@@ -1,11 +1,11 @@
 -- What is printed of two scripts and an order is read as the same again.
 use Rattle.twin_script.proofs.Common.{AllByRecursion, AreTwins, Bool, Draft, Fate, First, IsLegal, IsTurn, Line, List, None, Ok, Path, Script, Second, Side, Some, TwinTurn, Twins, [], ap, append-nil, append_assoc, arith, bytes_eq, bytes_eq-Decides, check, codes, decimal, ended, eqb-true, false, first_count, is_utf8, le-leb, len-empty, length, length-append, lines_of, lit<, map, nat_cmp, nat_le, not, parted, refl, second_count, subst, sum_by, sum_by-cons, sym, text_of, true, two, ℕ, ◌++◌, ◌+◌, ◌==◌, ◌>>=◌, ◌∙◌, ◌∷◌, ◌≡◌, ◌≤◌}
 use Rattle.std.specs.FinMap as fin
-use Rattle.proof_base.proofs.Bools.{contrary}
-use Rattle.words.specs.Lines.{lines_from}
-use Rattle.words.specs.Parts.{parts_from}
-use Rattle.words.specs.Words.{joined, IsWord, IsLine}
-use Rattle.words.proofs.Round.{words-joined, lines-text_of, number_in-decimal, decimal_word}
+use Rattle.basics.proofs.Bools.{contrary}
+use Rattle.basics.specs.Lines.{lines_from}
+use Rattle.basics.specs.Parts.{parts_from}
+use Rattle.basics.specs.Words.{joined, IsWord, IsLine}
+use Rattle.basics.proofs.Round.{words-joined, lines-text_of, number_in-decimal, decimal_word}
 use Rattle.job_script.specs.declared.draft.Draft as script_draft
 use Rattle.job_script.specs.declared.fault.ScriptFault.TheVariants as script_fault
 use Rattle.job_script.specs.Script as script

@@ -4,7 +4,7 @@ use Rattle.s3_types.specs.Prelude.{IsUtf8, is_hex, is_other, join_with_byte, lis
 use Rattle.std.specs.Prelude.{None, nat_le, ◌&&◌}
 use Rattle.std.proofs.Math.Seq.{take-length}
 use Rattle.s3_types.proofs.Utf8.{hex_utf8}
-use Rattle.words.specs.Parts.{parts_from, parts_of}
+use Rattle.basics.specs.Parts.{parts_from, parts_of}
 
 other : (s x : ℕ) → (x == s) ≡ false → is_other s x ≡ true
 other s x e = rw e refl

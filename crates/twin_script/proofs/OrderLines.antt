@@ -1,8 +1,8 @@
 -- What an order that was read keeps: each turn's count, and that no side is asked for more events than it has.
-use Rattle.twin_script.proofs.Common.{AllByRecursion, Bool, Draft, First, IsTurn, List, None, Ok, Option, Second, Side, Some, TwinTurn, [], ap, arith, check, checked, false, first_count, leb-true, length, lines_of, named, need, needed, none_left, number_bounds, number_in, parted, refl, same_ok, second_count, subst, sum_by-append, true, two, words_of, ℕ, ◌++◌, ◌+◌, ◌==◌, ◌∷◌, ◌≡◌, ◌≤◌}
+use Rattle.twin_script.proofs.Common.{AllByRecursion, Bool, Draft, IsTurn, List, Ok, Option, Side, Some, TwinTurn, [], arith, check, checked, false, first_count, leb-true, length, lines_of, named, need, needed, none_left, number_bounds, number_in, parted, refl, same_ok, second_count, subst, sum_by-append, true, two, words_of, ℕ, ◌++◌, ◌+◌, ◌==◌, ◌∷◌, ◌≡◌, ◌≤◌}
 use Rattle.std.specs.Prelude.{sum_by, nat_le, option_map, if◌then◌else◌}
 use Rattle.std.proofs.lemmas.Option.{option_and_then_some}
-use Rattle.words.specs.Lines.{lines_from}
+use Rattle.basics.specs.Lines.{lines_from}
 use Rattle.twin_script.specs.declared.fault.TwinFault.TheVariants.{BadOrder}
 use Rattle.twin_script.specs.Order.{sides, turn_by, turn_in, turn_of, left, with_turn, turn_at, line_at, lines_at, nothing, order_of}
 

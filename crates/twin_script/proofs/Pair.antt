@@ -4,14 +4,14 @@ use Rattle.std.specs.FinMap as map
 use Rattle.std.proofs.lemmas.Bool.{not-false, or_parts}
 use Rattle.std.proofs.lemmas.Bool.Decides.{not_from_Decides}
 use Rattle.s3_types.specs.Fates.{IsFirstFrom}
-use Rattle.job_script.specs.Fault.{wanting as script_wanting}
-use Rattle.proof_base.specs.Reading as reading
+use Rattle.basics.specs.Reading as reading
 use Rattle.job_script.specs.declared.fault.ScriptFault.{ScriptFault}
 use Rattle.job_script.specs.declared.fault.ScriptFault.TheVariants as script_fault
 use Rattle.twin_script.specs.declared.fault.TwinFault.{TwinFault}
 use Rattle.twin_script.specs.declared.fault.TwinFault.TheVariants as fault
 use Rattle.twin_script.specs.Twins.{within, is_same_dest, names_fate, told, fit, turns_of, paired}
 use Rattle.twin_script.proofs.OrderLines.{order_sound}
+use Rattle.job_script.specs.Fault.{wanting as script_wanting}
 
 -- no sending has a fate
 pub no_fates : (m : FateMap) → IsFirstFrom m 0 None → map.len m ≡ 0

@@ -2,8 +2,7 @@
 use Rattle.twin_script.proofs.Common.{AllByRecursion, AreFates, Fate, FateMap, IsLegal, IsUtf8, IsUtf8-append, IsUtf8-from_is_utf8, Line, List, None, Script, Some, [], arith, codes, decimal, decimal_lettered, ended, fate_word, find, find_head, find_other, flat_map, flat_map-append, is_lettered, keys_of, map, map_sorted, nat_cmp, refl, sorted_head, sorted_tail, subst, sym, text_of, true, ℕ, ◌++◌, ◌∙◌, ◌∷◌, ◌≡◌, ◌≤◌}
 use Rattle.std.specs.FinMap as fin
 use Rattle.std.specs.List.Sorted.{IsStrictlySortedBy}
-use Rattle.proof_base.proofs.EntriesFrom.{not_found}
-use Rattle.s3_types.specs.declared.fates.Fate.TheVariants as fate
+use Rattle.basics.proofs.EntriesFrom.{not_found}
 use Rattle.job_script.specs.declared.draft.Group.TheVariants as group
 use Rattle.job_script.specs.HeadLines.{no_head, head_order, row_lines, loss_line, loss_lines, head_lines}
 use Rattle.job_script.specs.Print.{attempt_lines, event_line, script_text}

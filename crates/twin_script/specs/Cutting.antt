@@ -1,6 +1,6 @@
 -- The parts of some bytes between two parting lines.
 use Rattle.std.specs.Prelude.{ℕ, ◌==◌, Bool, List, [], ◌∷◌, ◌++◌, codes, bytes_eq, Option, Some, None, is_some, option_and_then, if◌then◌else◌}
-use Rattle.words.specs.Lines.{without_return}
+use Rattle.basics.specs.Lines.{without_return}
 
 -- the line =====
 abbrev pub is_parting : List ℕ → Bool

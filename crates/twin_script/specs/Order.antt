@@ -1,7 +1,7 @@
 -- What the lines of an order say.
-use Rattle.std.specs.Prelude.{List, Ok, Option, Result, [], codes, if◌then◌else◌, length, nat_le, option_and_then, option_map, ℕ, ◌++◌, ◌+◌, ◌-◌, ◌==◌, ◌∷◌}
+use Rattle.std.specs.Prelude.{List, Ok, Option, Result, [], codes, length, nat_le, option_and_then, option_map, ℕ, ◌++◌, ◌+◌, ◌-◌, ◌==◌, ◌∷◌, if◌then◌else◌}
 use Rattle.job_model.specs.Prelude.{check, lines_of, need, two, words_of, ◌>>=◌}
-use Rattle.words.specs.Numbers.{number_in}
+use Rattle.basics.specs.Numbers.{number_in}
 use Rattle.job_script.specs.Kinds.{Names, named}
 use Rattle.twin_script.specs.declared.turns.Side.{Side}
 use Rattle.twin_script.specs.declared.turns.Side.TheVariants.{First, Second}

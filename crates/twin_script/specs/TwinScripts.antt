@@ -1,8 +1,7 @@
 -- Two scripts and the order of their turns.
-use Rattle.std.specs.Prelude.{Bool, List, false, flat_map, if◌then◌else◌, length, refl, replicate, suc, sum_by, true, zero, ℕ, ◌≡◌, ◌≢◌, ◌≤◌}
-use Rattle.job_model.specs.Prelude.{AllByRecursion, Fail, Mode, Replace, Script}
+use Rattle.std.specs.Prelude.{Bool, List, false, flat_map, length, refl, replicate, suc, sum_by, true, zero, ℕ, ◌≡◌, ◌≢◌, ◌≤◌, if◌then◌else◌}
+use Rattle.job_model.specs.Prelude.{AllByRecursion, Mode, Replace, Script}
 use Rattle.s3_types.specs.Prelude.{Coded, code_by, coded_list, coded_ℕ, coded×}
-use Rattle.s3_types.specs.declared.request.Mode.TheVariants.{Append}
 use Rattle.job_model.specs.Codes.{coded_script}
 use Rattle.twin_script.specs.declared.turns.Side.{Side}
 use Rattle.twin_script.specs.declared.turns.Side.TheVariants.{First, Second}
@@ -17,9 +16,8 @@ pub record Twins : Type 0 where
 
 -- a job deletes what it finds at its destination
 abbrev pub is_replace : Mode → Bool
-is_replace Fail = false
-is_replace Append = false
 is_replace Replace = true
+is_replace _ = false
 
 -- the first of two jobs
 abbrev pub is_first : Side → Bool

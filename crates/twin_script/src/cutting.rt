@@ -1,12 +1,12 @@
 //! The parts of some bytes between two parting lines, and their lines. The bytes need not be text.
 
 ghost use Rattle.std.specs.Prelude.{◌≡◌, ◌<◌, ◌∷◌, length, option_map};
-ghost use Rattle.words.specs.Lines.{lines_of, without_return};
-ghost use Rattle.words.specs.Shapes.{two};
-ghost use Rattle.words.specs.Words.{words_of};
+ghost use Rattle.basics.specs.Lines.{lines_of, without_return};
+ghost use Rattle.basics.specs.Shapes.{two};
+ghost use Rattle.basics.specs.Words.{words_of};
 ghost use Rattle.twin_script.specs.Cutting as cutting;
 
-use words::next_part;
+use basics::next_part;
 
 /// A line without one CR at its end.
 fn trimmed(line: &[u8]) -> &[u8]

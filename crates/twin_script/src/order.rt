@@ -1,6 +1,6 @@
 ghost use Rattle.std.specs.Prelude.{◌≡◌, true, IfErr};
-ghost use Rattle.words.specs.Lines.{lines_of};
-ghost use Rattle.words.specs.Numbers.{number_in};
+ghost use Rattle.basics.specs.Lines.{lines_of};
+ghost use Rattle.basics.specs.Numbers.{number_in};
 ghost use Rattle.job_script.specs.Kinds.{named};
 ghost use Rattle.twin_script.specs.Fault.{Gives, Makes, is_told};
 ghost use Rattle.twin_script.specs.Order as order;
@@ -8,8 +8,8 @@ ghost use Rattle.twin_script.specs.Order as order;
 use crate::cutting::{next_line, two_words};
 use crate::fault::TwinFault;
 use crate::turns::{Side, TurnList, TwinTurn};
+use basics::number_within;
 use std::alloc::Global;
-use words::number_within;
 
 /// What the lines of an order said so far, and how many events are left of each script.
 #[derive(Drop)]

@@ -1,7 +1,6 @@
 -- Copying all that is below a directory, by its stages.
 use Rattle.std.specs.Prelude.{ℕ, ◌+◌, ◌||◌, ◌&&◌, nat_lt, nat_eq, Bool, true, false, cond, List, [], ◌∷◌, ◌++◌, length, drop, Option, Some, None, Result, Ok, Err}
 use Rattle.fs_ops.specs.Prelude.{text_eq, begins, PageEntry, Reply, Step, Next, End, Look, There, look_of, Ask, Head, Get, bucket_asks, marker_of, keys_above, keys_on, Walked, More, Whole, walked_entries, CopyRefusal, Overlap, SourceIsFile, Differs, CopyCount, key_if, prefix_of, look_asks, unless, climbing, climbed, walk_asks, fits}
-use Rattle.s3_types.specs.declared.reply.Reply.TheVariants.{Object as Found}
 use Rattle.fs_tree.specs.declared.copy.CopyRefusal.TheVariants.{NoSuchBucket, SourceMissing, TargetFile, TooLong}
 use Rattle.fs_ops.specs.declared.climb.Climbed.{Climbed}
 use Rattle.fs_ops.specs.declared.climb.Climbed.TheVariants.{File, On as Goes_on, Free}
@@ -13,6 +12,7 @@ use Rattle.copy_tree.specs.declared.stages.Parts.{Parts}
 use Rattle.copy_tree.specs.declared.stages.CopyStage.{CopyStage}
 use Rattle.copy_tree.specs.declared.stages.CopyStage.TheVariants.{Here, Walk, Up, WalkTarget, Source, Target, Copy}
 use Rattle.copy_tree.specs.Parts.{chosen}
+use Rattle.s3_types.specs.declared.reply.Reply.TheVariants.{Object as Found}
 
 -- the paths of a source and a target
 pub record CopyPaths : Type 0 where

@@ -2,13 +2,13 @@
 use Rattle.std.specs.Prelude.{◌≡◌, ◌⊎◌, ℕ, ◌+◌, ◌*◌, ◌<◌, true, false, List, [], ◌∷◌, length, drop, Option, None, Some}
 use Rattle.fs_ops.specs.Prelude.{Objects, Ask, is_look, NoFile, IsMove, AllFit, IsOverlap, HasSource, HasPlace, MayCopy, Copies, MayStandCopied, prefix_of, IsClimb, all_below, keys_below, IsWalking, walk_left}
 use Rattle.std.specs.FinMap as fin
-use Rattle.bucket_ops.specs.Asks.{Copy as CopyKey}
 use Rattle.fs_rename.specs.Copies.{Move, IsOneOf, sources, targets, IsCopying, copies_left, moves_of}
 use Rattle.copy_tree.specs.declared.stages.Parts.{Parts}
 use Rattle.copy_tree.specs.declared.stages.CopyStage.{CopyStage}
 use Rattle.copy_tree.specs.declared.stages.CopyStage.TheVariants.{Here, Walk, Up, WalkTarget, Source, Target, Copy}
 use Rattle.copy_tree.specs.Parts.{kept}
 use Rattle.copy_tree.specs.code.Copy.{CopyPaths, Answer, count_of, climb}
+use Rattle.bucket_ops.specs.Asks.{Copy as CopyKey}
 
 -- each key of the source with its new key
 abbrev pub moves : CopyPaths → Objects → List Move

@@ -5,7 +5,6 @@ use Rattle.bucket_ops.specs.declared.look.Look.{Look}
 use Rattle.bucket_ops.specs.declared.look.Look.TheVariants.{There}
 use Rattle.fs_tree.specs.Prelude.{is_key, SomeBelow, NoneBelow, marker, HasFile, IsAbsent, IsEmpty, HasChildren, Deletes, parent, marker_if, IsMarked, IsWithoutBelow}
 use Rattle.std.specs.FinMap as fin
-use Rattle.s3_types.specs.declared.reply.Reply.TheVariants.{Page as APage}
 use Rattle.list_walk.specs.Walks as walks
 use Rattle.fs_tree.specs.declared.answers.FsRefusal.{FsRefusal}
 use Rattle.fs_tree.specs.declared.answers.FsRefusal.TheVariants.{NotFound, NotEmpty, IsRoot}
@@ -14,6 +13,7 @@ use Rattle.fs_ops.specs.declared.delete.Inside.TheVariants.{Empty, MarkerAlone, 
 use Rattle.fs_ops.specs.declared.delete.DeleteStage.{DeleteStage}
 use Rattle.fs_ops.specs.declared.delete.DeleteStage.TheVariants.{Here, DropFile, Below, DropMarker, Sweep, Parent, PutMarker}
 use Rattle.fs_ops.specs.Places.{look_asks, below_asks, drop_asks, drop_marker_asks, prefix_of, NoFileAt}
+use Rattle.s3_types.specs.declared.reply.Reply.TheVariants.{Page as APage}
 
 -- a path, and whether what is below it goes with it
 pub record Deletion : Type 0 where
@@ -100,12 +100,11 @@ on_parent k _ = Next (PutMarker k)
 -- where a reply leads at each stage
 abbrev pub on : Deletion → DeleteStage → Reply → Step DeleteStage Answer
 on o Here r = on_here o.path (look_of r)
-on o DropFile r = up o
 on o Below r = on_below o r
-on o DropMarker r = up o
 on o (Sweep w) r = on_sweep o w r (fits r)
 on o (Parent k) r = on_parent k (look_of r)
 on o (PutMarker k) r = End (Ok tt)
+on o _ r = up o
 
 -- ---- what holds
 
@@ -158,9 +157,8 @@ gives o z a m = (is_key o.path ≡ true → Deletes o.recursive o.path z a m) ×
 -- the requests that are to come
 abbrev pub left : Deletion → DeleteStage → Objects → ℕ
 left o Here m = sweep_left (prefix_of o.path) sweep_start m + 4
-left o DropFile m = 2
 left o Below m = sweep_left (prefix_of o.path) sweep_start m + 3
-left o DropMarker m = 2
 left o (Sweep w) m = sweep_left (prefix_of o.path) w m + 2
 left o (Parent k) m = 1
 left o (PutMarker k) m = 0
+left o _ m = 2

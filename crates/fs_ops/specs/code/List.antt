@@ -2,9 +2,7 @@
 use Rattle.std.specs.Prelude.{◌≡◌, ◌⊎◌, ℕ, ◌+◌, ◌&&◌, nat_eq, Bool, true, false, List, [], ◌∷◌, ◌++◌, take_while, reverse, drop, length, Result, Ok, Err, Option, Some, None, if◌then◌else◌}
 use Rattle.bucket_ops.specs.Prelude.{starts_with, list_any, text_eq, Objects, begins, listed, text_in, PageEntry, Prefix, Reply, Step, Next, End, Ask, Page}
 use Rattle.fs_tree.specs.Prelude.{Status, Directory, File, NoFile, HasDir, own_name}
-use Rattle.words.specs.Parts.{parts_of}
-use Rattle.s3_types.specs.declared.reply.PageEntry.TheVariants.{Object as Single}
-use Rattle.s3_types.specs.declared.reply.Reply.TheVariants.{Page as APage}
+use Rattle.basics.specs.Parts.{parts_of}
 use Rattle.fs_tree.specs.declared.answers.DirEntry.{DirEntry}
 use Rattle.fs_tree.specs.declared.answers.FsRefusal.{FsRefusal}
 use Rattle.fs_tree.specs.declared.answers.FsRefusal.TheVariants.{NotFound}
@@ -13,6 +11,8 @@ use Rattle.fs_ops.specs.declared.list.ListStage.TheVariants.{Here, Pages}
 use Rattle.fs_ops.specs.Places.{look_asks, prefix_of}
 use Rattle.fs_ops.specs.code.Stat.{length_in}
 use Rattle.fs_ops.specs.code.Delete.{entries_in}
+use Rattle.s3_types.specs.declared.reply.PageEntry.TheVariants.{Object as Single}
+use Rattle.s3_types.specs.declared.reply.Reply.TheVariants.{Page as APage}
 
 -- what a listing answers
 abbrev pub Answer : Type 0
@@ -39,9 +39,8 @@ has_file found n = list_any (is_file_named n) (take_while (λ e. begins n e.name
 
 -- a file; the key that is the prefix itself is the directory's own marker
 abbrev pub file_by : Option (List ℕ) → ℕ → Option DirEntry
-file_by None n = None
-file_by (Some []) n = None
 file_by (Some (x ∷ r)) n = Some (record { name = x ∷ r; status = File n })
+file_by _ n = None
 
 -- the first part of a text
 abbrev pub first_of : List (List ℕ) → List ℕ

@@ -1,12 +1,12 @@
 -- The bytes of a file.
 use Rattle.std.specs.Prelude.{ℕ, List, Result, Err, Option, Some, None}
 use Rattle.bucket_ops.specs.Prelude.{Reply, Step, Ask}
-use Rattle.s3_types.specs.declared.reply.Reply.TheVariants.{Object as Found}
 use Rattle.fs_tree.specs.declared.answers.FsRefusal.{FsRefusal}
 use Rattle.fs_tree.specs.declared.answers.FsRefusal.TheVariants.{IsDirectory}
 use Rattle.fs_ops.specs.declared.at_path.PathStage.{PathStage}
 use Rattle.fs_ops.specs.Places.{get_asks}
 use Rattle.fs_ops.specs.code.AtPath as path
+use Rattle.s3_types.specs.declared.reply.Reply.TheVariants.{Object as Found}
 
 -- what a read answers
 abbrev pub Answer : Type 0

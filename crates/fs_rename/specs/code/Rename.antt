@@ -1,7 +1,6 @@
 -- Renaming a file or a directory, by its stages.
 use Rattle.std.specs.Prelude.{ℕ, Bool, true, false, List, [], ◌∷◌, Result, Ok, Err, Option, Some, None, if◌then◌else◌}
 use Rattle.fs_ops.specs.Prelude.{text_eq, begins, text_in, PageEntry, Reply, Step, Next, End, Look, There, look_of, Ask, Page, Put, marker_of, keys_on, Walked, More, Whole, walked_entries, sweep_hears, deleting, all_go, RenameRefusal, SourceMissing, UnderSource, TargetFile, TargetExists, ParentMissing, ParentIsFile, TooLong, parent, marker_if, inside, key_if, prefix_of, look_asks, below_asks, entries_in, unless, sweep_asks, walk_asks, fits}
-use Rattle.bucket_ops.specs.declared.look.Look.TheVariants.{Nothing as NothingThere}
 use Rattle.list_walk.specs.Walks as walks
 use Rattle.fs_tree.specs.declared.rename.RenameRefusal.TheVariants.{SourceRoot, NoSuchBucket}
 use Rattle.fs_rename.specs.declared.copying.CopyStep.{CopyStep}
@@ -14,6 +13,7 @@ use Rattle.fs_rename.specs.declared.stages.Kind.{Kind}
 use Rattle.fs_rename.specs.declared.stages.Kind.TheVariants.{File, Directory, Nothing}
 use Rattle.fs_rename.specs.declared.stages.RenameStage.{RenameStage}
 use Rattle.fs_rename.specs.declared.stages.RenameStage.TheVariants.{Look as Looking, Walk, Copy, Batch, Parent, PutMarker}
+use Rattle.bucket_ops.specs.declared.look.Look.TheVariants.{Nothing as NothingThere}
 
 -- the paths of a source and a target
 pub record Renaming : Type 0 where
@@ -76,9 +76,7 @@ seen_inside None b r = NothingThere
 -- what a look saw at each path
 abbrev pub seen_at : Renaming → Spot → Bool → Reply → Look
 seen_at o Inside b r = seen_inside (place_at o true) b r
-seen_at o Source b r = look_of r
-seen_at o Target b r = look_of r
-seen_at o Above b r = look_of r
+seen_at o _ b r = look_of r
 
 -- the path is a bucket's root
 abbrev pub is_root : List ℕ → Bool

@@ -1,4 +1,4 @@
-use Rattle.fs_tree.proofs.Common.{Directory, File, HasOddKey, IsName, IsStatus, List, Objects, Stands, Status, arith, below, false≢true, inl, inr, sym, true, ℕ, ◌∙◌, ◌≡◌, ◌⊎◌}
+use Rattle.fs_tree.proofs.Common.{HasOddKey, IsName, IsStatus, List, Objects, Stands, Status, arith, below, true, ℕ, ◌≡◌, ◌⊎◌}
 use Rattle.s3_types.specs.Prelude.{is_key}
 use Rattle.fs_tree.proofs.listings.Goals as goal
 

@@ -1,5 +1,5 @@
 use Rattle.conflict.proofs.Common.{Decides-eqb, None, Some, [], begins_is, sym, ◌∙◌, ◌∷◌}
-use Rattle.words.proofs.Common.{strip_prefix_is}
+use Rattle.basics.proofs.Common.{strip_prefix_is}
 use Rattle.conflict.proofs.CutPaths.{begins_so, begins_not}
 use Rattle.conflict.proofs.keeping.is_below.Goals as goal
 

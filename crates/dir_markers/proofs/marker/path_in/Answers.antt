@@ -1,6 +1,4 @@
-use Rattle.std.proofs.Common.{◌∙◌, None, ap, arith}
-use Rattle.path_keys.proofs.Common.{strip_suffix_char}
-use Rattle.s3_types.specs.Prelude.{trimmed}
+use Rattle.path_keys.proofs.Common.{None, ap, arith, strip_suffix_char, trimmed, ◌∙◌}
 use Rattle.path_keys.proofs.Ends.{no_end}
 use Rattle.dir_markers.proofs.marker.path_in.Goals as goal
 

@@ -1,5 +1,5 @@
-use Rattle.folder_log.proofs.Common.{Elapses, File, Follows, IsTorn, LeavesOnly, Only, arith, inl, inr, length, subst, ℕ, ◌≡◌, ◌⊎◌}
-use Rattle.folder_log.proofs.Moments.{started, goes_on}
+use Rattle.folder_log.proofs.Common.{Elapses, File, Follows, IsTorn, LeavesOnly, Only, arith, inr, length, subst, ℕ, ◌≡◌, ◌⊎◌}
+use Rattle.folder_log.proofs.Moments.{goes_on}
 use Rattle.folder_log.proofs.log_shelf.write_synced.Goals as goal
 
 -- a write over a disk that a crash leaves so

@@ -1,4 +1,4 @@
-use Rattle.fs_ops.proofs.Common.{Err, Ok, OnOk, Result, ap, arith, cut_last, front_is_key, is_key_path, length, length-append, no_slash, ◌∙◌, ◌∷◌, ◌≡◌}
+use Rattle.fs_ops.proofs.Common.{OnOk, Result, ap, arith, cut_last, front_is_key, is_key_path, length, length-append, no_slash, ◌∙◌, ◌∷◌, ◌≡◌}
 use Rattle.fs_ops.proofs.Names.{none_more, one_more, front_key}
 use Rattle.fs_ops.proofs.above.+add_above.Goals as goal
 

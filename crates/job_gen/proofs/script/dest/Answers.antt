@@ -1,9 +1,9 @@
-use Rattle.job_gen.proofs.Common.{Err, Ok, PathFault, Result, arith, made_dest, refl, same_ok, sym, ◌≡◌}
-use Rattle.proof_base.specs.Prelude.{Unless}
+use Rattle.job_gen.proofs.Common.{Err, Ok, PathFault, Result, arith, made_dest, same_ok, sym, ◌≡◌}
+use Rattle.basics.specs.Prelude.{Unless}
 use Rattle.job_protocol.specs.Prelude.{Path}
 use Rattle.path_keys.specs.Paths.{wanting}
 use Rattle.path_keys.specs.declared.fault.PathFault.TheVariants.{NoMemory}
-use Rattle.words.specs.Parts.{parts_from}
+use Rattle.basics.specs.Parts.{parts_from}
 use Rattle.job_gen.proofs.script.dest.Goals as goal
 
 -- the faults of a path that is one give want of memory alone

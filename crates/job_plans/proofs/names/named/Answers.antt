@@ -1,7 +1,6 @@
-use Rattle.job_plans.proofs.Common.{IfOk-weaker, None, Some, arith, string_bytes, sym, with_id, ◌∙◌, ◌≡◌}
-use Rattle.words.proofs.Common.{split_parts}
-use Rattle.words.proofs.Pieces.{others_from_bytes}
-use Rattle.job_plans.proofs.CutNames.{dotted_name, dotless_name}
+use Rattle.path_keys.proofs.Common.{IfOk-weaker, None, Some, arith, others_from_bytes, split_parts, sym, ◌∙◌, ◌≡◌}
+use Rattle.job_plans.proofs.Common.{string_bytes, with_id}
+use Rattle.job_plans.proofs.CutNames.{dotless_name, dotted_name}
 use Rattle.job_plans.proofs.names.named.Goals as goal
 
 pub returns-in-Some : goal.returns-in-Some

@@ -1,6 +1,4 @@
-use Rattle.std.proofs.Common.{ap, sym, ◌∙◌, ◌≤◌, length, arith}
-use Rattle.job_protocol.specs.Prelude.{is_key_path}
-use Rattle.job_model.specs.Prelude.{is_key}
+use Rattle.path_keys.proofs.Common.{ap, arith, is_key, is_key_path, length, sym, ◌∙◌, ◌≤◌}
 use Rattle.path_keys.proofs.Beneath.{key_path_from}
 use Rattle.magic_paths.proofs.Elements.{dest_elements}
 use Rattle.job_setup.proofs.requests.head_request.Goals as goal

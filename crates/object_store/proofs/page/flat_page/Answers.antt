@@ -1,4 +1,4 @@
-use Rattle.object_store.proofs.Common.{AreOwn, Follows, Held, List, PageEntry, [], ap, append_assoc, begins, below, cond, false, filter, length, map, rules, single, subst, sym, true, ℕ, ◌++◌, ◌∙◌, ◌∷◌, ◌≡◌}
+use Rattle.object_store.proofs.Common.{AreOwn, Follows, Held, List, PageEntry, [], ap, append_assoc, begins, below, cond, false, filter, map, rules, single, subst, sym, true, ℕ, ◌++◌, ◌∙◌, ◌∷◌, ◌≡◌}
 use Rattle.object_store.proofs.Flat.{none_left, taken, no_more, follows_rest}
 use Rattle.object_store.proofs.page.flat_page.Goals as goal
 

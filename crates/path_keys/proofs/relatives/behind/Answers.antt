@@ -1,5 +1,5 @@
 use Rattle.path_keys.proofs.Common.{Bor, List, MatchOption, None, Option, Some, [], option_map, relative_in, sym, ℕ, ◌++◌, ◌∷◌, ◌≡◌, ◌≢◌}
-use Rattle.words.proofs.Common.{Decides-eqb, strip_prefix_is}
+use Rattle.basics.proofs.Common.{Decides-eqb, strip_prefix_is}
 use Rattle.path_keys.proofs.Beneath.{behind_some, behind_none, behind_other}
 use Rattle.path_keys.proofs.relatives.behind.Goals as goal
 

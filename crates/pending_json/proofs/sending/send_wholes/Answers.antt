@@ -1,4 +1,4 @@
-use Rattle.proof_base.proofs.Common.{on_ok_weaker}
+use Rattle.basics.proofs.Common.{on_ok_weaker}
 use Rattle.pending_json.proofs.Sent.{wholes_sent}
 use Rattle.pending_json.proofs.sending.send_wholes.Goals as goal
 

@@ -1,4 +1,4 @@
-use Rattle.task_requests.proofs.Common.{Drawn, List, Some, Task, UploadPart, [], ap, arith, file_key, first_drawn, part_behind, slice_get, task_script, ℕ, ◌+◌, ◌∙◌, ◌∷◌, ◌≡◌}
+use Rattle.task_requests.proofs.Common.{Drawn, List, Some, Task, UploadPart, ap, arith, file_key, first_drawn, part_behind, slice_get, task_script, ℕ, ◌+◌, ◌∙◌, ◌≡◌}
 use Rattle.task_requests.proofs.Steps.{ok_as}
 use Rattle.task_requests.proofs.requests.ask_next.Goals as goal
 

@@ -1,5 +1,5 @@
 use Rattle.twin_script.proofs.Common.{List, ap, option_map, parts_after, sym, two, ℕ, ◌∙◌, ◌∷◌}
-use Rattle.words.proofs.Counts.{not_two}
+use Rattle.basics.proofs.Counts.{not_two}
 use Rattle.twin_script.proofs.cutting.two_words.Goals as goal
 
 pub returns-in-Some-after : goal.returns-in-Some-after

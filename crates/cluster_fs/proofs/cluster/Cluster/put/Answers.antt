@@ -1,4 +1,4 @@
-use Rattle.cluster_fs.proofs.Common.{ap, exact_bytes, made_insert, text_total, ◌∙◌}
+use Rattle.cluster_fs.proofs.Common.{exact_bytes, made_insert, text_total, ◌∙◌}
 use Rattle.std.specs.FinMap as map
 use Rattle.cluster_fs.proofs.cluster.Cluster.put.Goals as goal
 

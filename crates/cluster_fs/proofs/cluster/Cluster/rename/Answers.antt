@@ -1,4 +1,4 @@
-use Rattle.cluster_fs.proofs.Common.{Bool, Files, List, Option, Some, ap, false, not, renamed, sym, text_eq, true, ℕ, ◌∙◌, ◌≡◌}
+use Rattle.cluster_fs.proofs.Common.{Bool, Files, Some, ap, false, not, renamed, sym, text_eq, true, ◌∙◌, ◌≡◌}
 use Rattle.std.specs.FinMap as map
 use Rattle.cluster_fs.proofs.Renamed.{onto_itself, onto_another}
 use Rattle.cluster_fs.proofs.cluster.Cluster.rename.Goals as goal

@@ -1,4 +1,4 @@
-use Rattle.std.proofs.Common.{◌≡◌, ◌∙◌, sym, ap, is_some}
+use Rattle.std.proofs.Common.{◌∙◌, sym, ap, is_some}
 use Rattle.job_model.specs.contracts.known.Knowledge.{the_view}
 use Rattle.job_model.proofs.Drawn.{drawn_more, none_more, known_is, on_ok}
 use Rattle.job_model.proofs.known.Knowledge.draw_part.Goals as goal

@@ -1,4 +1,4 @@
-use Rattle.multipart.proofs.Common.{AreNumbered, IsPlace, List, ap, is_number_at, nat_cmp, set, subst, sym, ℕ, ◌∙◌}
+use Rattle.multipart.proofs.Common.{AreNumbered, IsPlace, List, ap, is_number_at, set, subst, sym, ℕ, ◌∙◌}
 use Rattle.std.specs.FinMap as fin
 use Rattle.multipart.proofs.Numbered.{numbered_insert}
 use Rattle.multipart.proofs.Rows.{set_is, insert_is, put_sorted, put_made}

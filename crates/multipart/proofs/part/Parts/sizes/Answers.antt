@@ -1,4 +1,4 @@
-use Rattle.multipart.proofs.Common.{List, ap, entries_made, map, nat_cmp_total, size_of, sym, take_all, ℕ, ◌∙◌}
+use Rattle.multipart.proofs.Common.{ap, entries_made, map, nat_cmp_total, size_of, sym, take_all, ◌∙◌}
 use Rattle.std.specs.FinMap as fin
 use Rattle.multipart.proofs.part.Parts.sizes.Goals as goal
 

@@ -1,4 +1,4 @@
-use Rattle.proof_base.proofs.Common.{IfOk-weaker}
+use Rattle.basics.proofs.Common.{IfOk-weaker}
 use Rattle.pending_json.proofs.Sent.{set_written}
 use Rattle.pending_json.proofs.records.PendingSet.print.Goals as goal
 

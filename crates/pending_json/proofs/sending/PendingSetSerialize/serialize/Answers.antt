@@ -1,4 +1,4 @@
-use Rattle.proof_base.proofs.Common.{on_ok_weaker}
+use Rattle.basics.proofs.Common.{on_ok_weaker}
 use Rattle.pending_json.proofs.Sent.{text_is, whole_is, uploads_are, set_sent}
 use Rattle.pending_json.proofs.sending.PendingSetSerialize.serialize.Goals as goal
 

@@ -1,4 +1,4 @@
-use Rattle.s3_service.proofs.Common.{BTreeMap, BucketContent, IsSome, List, None, Option, Some, ap, refl, subst, sym, text_cmp, with_objects, ℕ, ◌∙◌}
+use Rattle.s3_service.proofs.Common.{BTreeMap, BucketContent, IsSome, List, None, Option, ap, refl, subst, sym, text_cmp, with_objects, ℕ, ◌∙◌}
 use Rattle.std.specs.FinMap as map
 use Rattle.s3_service.proofs.Changed.{found, absent, written, unwritten}
 use Rattle.s3_service.proofs.buckets.Buckets.put.Goals as goal

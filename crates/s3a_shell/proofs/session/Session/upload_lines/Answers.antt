@@ -1,5 +1,5 @@
 use Rattle.s3a_shell.proofs.Common.{UploadRef, ap, drop, string_bytes, sym, ◌+◌, ◌∙◌, ◌∷◌}
-use Rattle.proof_base.proofs.Common.{drop_more}
+use Rattle.basics.proofs.Common.{drop_more}
 use Rattle.s3a_shell.proofs.Joining.{still_both}
 use Rattle.s3a_shell.proofs.Listing.{more_lines}
 use Rattle.s3a_shell.proofs.session.Session.upload_lines.Goals as goal

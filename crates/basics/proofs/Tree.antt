@@ -1,0 +1,94 @@
+-- A `BTreeMap`'s entries seen as a finite map.
+use Rattle.basics.proofs.Common.{Bool, CmpEqualImpliesEq, List, None, Option, Some, T, [], and_yes, ap, arith, cond, false, length, refl, sorted_head, sorted_tail, sym, true, ◌∙◌, ◌∷◌, ◌≡◌}
+use Rattle.basics.specs.Prelude.{FinMap, from_entries, insert, remove, get, entries, len, get-from_entries, get-insert, get-remove, same_map, entries-insert, len-entries, empty, entries_sorted, find, put, by_order, below_all, is_sorted, eq_by_cmp, is_eq, is_lt, Ordering, Less, Equal, IsTotalOrder, eq_by_cmp_equiv, is_at, lookup, keys_of, AllByRecursion, filter, slice_get, option_map}
+use Rattle.std.specs.FinMap.{len-empty}
+use Rattle.std.specs.Map.Iter.{TakesFirst}
+use Rattle.std.specs.List.Sorted.{IsStrictlySortedBy}
+
+no_length : {A : Type 0} (es : List A) → length es ≡ 0 → es ≡ []
+no_length [] e = refl
+no_length (x ∷ es) e = absurd (omega arith)
+
+pub entries_empty : {K X : Type 0} (R : K → K → Ordering) → entries (empty {X = X} {R = R}) ≡ []
+entries_empty {K} {X} R = no_length _ (sym (len-entries (empty {X = X} {R = R})) ∙ len-empty R X)
+
+pub tied : (r : Ordering) → is_eq r ≡ true → r ≡ Equal
+tied Equal h = refl
+tied _ h = absurd (cc)
+
+module _ {K X : Type 0} {R : K → K → Ordering} (o : IsTotalOrder R) (exact : CmpEqualImpliesEq R) where
+  -- what is there already is put there
+  pub insert_same : (m : FinMap R X) (k : K) (v : X) → get m k ≡ Some v → insert m k v ≡ m
+  insert_same m k v h = same_map o exact _ _ (λ q. get-insert o m k v q ∙ by q (eq_by_cmp R q k) refl)
+    where
+      by : (q : K) (b : Bool) → eq_by_cmp R q k ≡ b → cond (eq_by_cmp R q k) (Some v) (get m q) ≡ get m q
+      by q true e = ap (λ b. cond b (Some v) (get m q)) e ∙ sym h ∙ ap (get m) (sym (exact q k (tied (R q k) e)))
+      by q false e = ap (λ b. cond b (Some v) (get m q)) e
+
+  -- a new key that is put in and taken out
+  pub insert_remove : (m : FinMap R X) (k : K) (v : X) → get m k ≡ None → remove (insert m k v) k ≡ m
+  insert_remove m k v h = same_map o exact _ _ (λ q. get-remove o (insert m k v) k q ∙ ap (cond (eq_by_cmp R q k) None) (get-insert o m k v q) ∙ by q (eq_by_cmp R q k) refl)
+    where
+      by : (q : K) (b : Bool) → eq_by_cmp R q k ≡ b → cond (eq_by_cmp R q k) None (cond (eq_by_cmp R q k) (Some v) (get m q)) ≡ get m q
+      by q true e = ap (λ b. cond b None (cond b (Some v) (get m q))) e ∙ sym h ∙ ap (get m) (sym (exact q k (tied (R q k) e)))
+      by q false e = ap (λ b. cond b None (cond b (Some v) (get m q))) e
+
+module _ {K X : Type 0} {R : K → K → Ordering} (o : IsTotalOrder R) where
+  find_lookup : (es : List (K × X)) (q : K) → find R q es ≡ lookup (is_at (R q)) es
+  find_lookup [] q = refl
+  find_lookup (e ∷ es) q = ap (cond (is_at (R q) e.0) (Some e.1)) (find_lookup es q)
+
+  -- what the map that the entries make has at a key
+  pub get_made : (es : List (K × X)) (q : K) → get (from_entries {R = R} es) q ≡ lookup (is_at (R q)) es
+  get_made es q = get-from_entries o es q ∙ find_lookup es q
+
+  pub made_insert : CmpEqualImpliesEq R → (es fs : List (K × X)) (k : K) (v : X) → ((q : K) → lookup (is_at (R q)) fs ≡ cond (is_at (R k) q) (Some v) (lookup (is_at (R q)) es)) → from_entries {R = R} fs ≡ insert (from_entries es) k v
+  made_insert exact es fs k v h = same_map o exact _ _ (λ q.
+      get_made fs q ∙ h q ∙ ap (λ b. cond b (Some v) (lookup (is_at (R q)) es)) ((eq_by_cmp_equiv o).symm k q)
+      ∙ sym (get-insert o (from_entries es) k v q ∙ ap (cond (is_at (R q) k) (Some v)) (get_made es q)))
+
+  pub made_remove : CmpEqualImpliesEq R → (es fs : List (K × X)) (k : K) → ((q : K) → lookup (is_at (R q)) fs ≡ cond (is_at (R k) q) None (lookup (is_at (R q)) es)) → from_entries {R = R} fs ≡ remove (from_entries es) k
+  made_remove exact es fs k h = same_map o exact _ _ (λ q.
+      get_made fs q ∙ h q ∙ ap (λ b. cond b None (lookup (is_at (R q)) es)) ((eq_by_cmp_equiv o).symm k q)
+      ∙ sym (get-remove o (from_entries es) k q ∙ ap (cond (is_at (R q) k) None) (get_made es q)))
+
+  put_first : (e : K × X) (es : List (K × X)) → AllByRecursion (λ y. R e.0 y ≡ Less) (keys_of es) → put R e.0 e.1 es ≡ e ∷ es
+  put_first e [] h = refl
+  put_first e (f ∷ fs) h = ap (λ r. by_order r (e ∷ f ∷ fs) ((f.0, e.1) ∷ fs) (f ∷ put R e.0 e.1 fs)) h.0
+
+  -- entries in order are those of the map that they make
+  pub entries_made : (es : List (K × X)) → IsStrictlySortedBy R (keys_of es) → entries (from_entries {R = R} es) ≡ es
+  entries_made [] s = entries_empty R
+  entries_made (e ∷ es) s =
+      entries-insert o (from_entries es) e.0 e.1 ∙ ap (put R e.0 e.1) (entries_made es (sorted_tail R e.0 (keys_of es) s))
+      ∙ put_first e es (sorted_head R e.0 (keys_of es) s)
+
+  pub len_made : (es : List (K × X)) → IsStrictlySortedBy R (keys_of es) → len (from_entries {R = R} es) ≡ length es
+  len_made es s = len-entries (from_entries es) ∙ ap length (entries_made es s)
+
+-- what `next` answers is the first of what was left
+pub first_taken : {A X : Type 0} (shows : A → X) (s t : List X) (r : Option A) → TakesFirst shows s r t → option_map shows r ≡ slice_get s 0
+first_taken shows s t None h = sym (ap (λ (l : List _). slice_get l 0) h.0)
+first_taken shows s t (Some x) h = sym (ap (λ (l : List _). slice_get l 0) h)
+
+pub filter_all : {A : Type 0} (es : List A) → filter (λ e. true) es ≡ es
+filter_all [] = refl
+filter_all (e ∷ es) = ap (λ l. e ∷ l) (filter_all es)
+
+less_T : (r : Ordering) → T (is_lt r) → r ≡ Less
+less_T Less h = refl
+less_T _ h = absurd h
+
+module _ {K X : Type 0} (R : K → K → Ordering) where
+  all_above : (k : K) (es : List (K × X)) → T (below_all R k es) → AllByRecursion (λ y. R k y ≡ Less) (keys_of es)
+  all_above k [] h = tt
+  all_above k (e ∷ es) h = let p = and_yes (is_lt (R k e.0)) (below_all R k es) h in (less_T _ p.0, all_above k es p.1)
+
+  sorted_keys : (es : List (K × X)) → T (is_sorted R es) → IsStrictlySortedBy R (keys_of es)
+  unfolding IsStrictlySortedBy
+  sorted_keys [] h = tt
+  sorted_keys (e ∷ es) h = let p = and_yes (below_all R e.0 es) (is_sorted R es) h in (all_above e.0 es p.0, sorted_keys es p.1)
+
+  -- the keys of any finite map rise
+  pub map_sorted : (m : FinMap R X) → IsStrictlySortedBy R (keys_of (entries m))
+  map_sorted m = sorted_keys (entries m) (entries_sorted m)

@@ -1,0 +1,47 @@
+-- The words of a line, and the text of lines of words.
+use Rattle.std.specs.Prelude.{◌≡◌, true, ℕ, ◌==◌, ◌&&◌, not, List, [], ◌∷◌, ◌++◌, Bool, Option}
+use Rattle.basics.specs.Prelude.{list_all, flat_map, AllByRecursion}
+use Rattle.basics.specs.Parts.{parts_of, parts_after}
+
+-- one blank stands between two words
+abbrev pub words_of : List ℕ → List (List ℕ)
+words_of text = parts_of 32 text
+
+-- the words behind a blank, or none where the line has ended
+abbrev pub words_after : Option (List ℕ) → List (List ℕ)
+words_after rest = parts_after 32 rest
+
+-- words with one blank between two
+abbrev pub joined : List (List ℕ) → List ℕ
+joined [] = []
+joined (w ∷ []) = w
+joined (w ∷ v ∷ ws) = w ++ 32 ∷ joined (v ∷ ws)
+
+-- a line of words with its LF
+abbrev pub ended : List (List ℕ) → List ℕ
+ended ws = joined ws ++ 10 ∷ []
+
+-- the text of lines of words
+abbrev pub text_of : List (List (List ℕ)) → List ℕ
+text_of ls = flat_map ended ls
+
+-- no blank, LF or CR
+abbrev pub is_plain : ℕ → Bool
+is_plain b = not (b == 32) && (not (b == 10) && not (b == 13))
+
+-- a text of plain bytes
+abbrev pub IsWord : List ℕ → Type 0
+IsWord w = list_all is_plain w ≡ true
+
+-- a line of one word or more
+abbrev pub IsLine : List (List ℕ) → Type 0
+IsLine [] = ⊥
+IsLine (w ∷ ws) = IsWord w × AllByRecursion IsWord ws
+
+-- no blank and no LF
+abbrev pub is_bare : ℕ → Bool
+is_bare b = not (b == 32) && not (b == 10)
+
+-- a text of such bytes
+abbrev pub IsBare : List ℕ → Type 0
+IsBare w = list_all is_bare w ≡ true

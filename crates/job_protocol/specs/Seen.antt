@@ -1,0 +1,118 @@
+-- What a journal says of a job: one fold over its entries, from the first on.
+use Rattle.std.specs.Prelude.{ℕ, ◌&&◌, ◌||◌, nat_eq, nat_le, not, Bool, true, false, cond, List, [], ◌∷◌, Option, Some, None, is_some, take}
+use Rattle.job_model.specs.Prelude.{text_eq, Content, Scene, apply, effect, Request, PutObject, GetObject, ClusterRename, ClusterGet, Actor, Driver, Attempt, Shell, Committer, Magic, Directory, Partitioned, Outcome, Answered, Slow, RequestLost, ReplyLost, Entry, Script}
+use Rattle.s3_types.specs.Store.{opening}
+use Rattle.job_protocol.specs.Outputs.{Picks}
+use Rattle.job_protocol.specs.Knowledge.{is_set_key, is_set_path}
+use Rattle.std.specs.FinMap as fin
+use Rattle.magic_paths.specs.Layout as layout
+use Rattle.job_protocol.specs.View.{object_at}
+
+-- ---- requests that publish, read and mark
+
+-- the magic committer
+abbrev pub is_magic : Committer → Bool
+is_magic Magic = true
+is_magic Directory = false
+is_magic Partitioned = false
+
+-- a staging committer: directory or partitioned
+abbrev pub is_staging : Committer → Bool
+is_staging Magic = false
+is_staging Directory = true
+is_staging Partitioned = true
+
+-- the request publishes a task's set: a put of it, or a rename onto it of a file that stands
+abbrev pub is_publishing : Script → Scene → ℕ → Request → Bool
+is_publishing w s task (PutObject bucket key bytes header) = is_magic w.committer && is_set_key w task bucket key
+is_publishing w s task (ClusterRename source target) = is_staging w.committer && (is_set_path w task target && is_some (fin.get s.files source))
+is_publishing w s task _ = false
+
+-- the request reads a task's set
+abbrev pub is_reading : Script → ℕ → Request → Bool
+is_reading w task (GetObject bucket key) = is_magic w.committer && is_set_key w task bucket key
+is_reading w task (ClusterGet path) = is_staging w.committer && is_set_path w task path
+is_reading w task _ = false
+
+-- the request puts the marker of a committed job
+abbrev pub is_marking : Script → Request → Bool
+is_marking w (PutObject bucket key bytes header) = text_eq bucket w.dest.bucket && text_eq key (layout.success_key w.dest.key)
+is_marking w _ = false
+
+-- ---- the fold
+
+-- what is seen of a job
+pub record Seen : Type 0 where
+  -- the store and the cluster
+  pub scene : Scene
+  -- the job's commit has begun
+  pub begun : Bool
+  -- of each task the attempt that published last
+  pub last : ℕ → Option ℕ
+  -- of each task the attempt whose set the driver's commit read: the last one that had published then
+  pub picks : Picks
+  -- the driver has put the marker of a committed job
+  pub put_mark : Bool
+
+-- the events of a job's commit and of its first abort or clean, if they are any
+pub record Times : Type 0 where
+  pub commit : Option ℕ
+  pub clean : Option ℕ
+
+-- what is this event has begun in that event
+abbrev pub is_begun : Option ℕ → ℕ → Bool
+is_begun None n = false
+is_begun (Some k) n = nat_le k n
+
+-- the commit has begun before event n or in it, and no abort or clean has
+abbrev pub is_picking : Times → Bool → ℕ → Bool
+is_picking k begun n = (begun || is_begun k.commit n) && not (is_begun k.clean n)
+
+-- the last publishers after a request of an attempt that took effect
+abbrev pub last_by : Script → Scene → (ℕ → Option ℕ) → ℕ → ℕ → Request → ℕ → Option ℕ
+last_by w s last task attempt r t = cond (nat_eq t task && is_publishing w s task r) (Some attempt) (last t)
+
+-- the picks after an answered request of the driver, while its commit may pick
+abbrev pub picks_by : Script → Bool → (ℕ → Option ℕ) → Picks → Request → ℕ → Option ℕ
+picks_by w picking last picks r t = cond (picking && is_reading w t r) (last t) (picks t)
+
+-- an attempt's request
+abbrev pub see_attempt : Script → Seen → ℕ → ℕ → Request → Outcome → Seen
+see_attempt w s task attempt r (Answered reply) = record { scene = apply s.scene r; begun = s.begun; last = last_by w s.scene s.last task attempt r; picks = s.picks; put_mark = s.put_mark }
+see_attempt w s task attempt r Slow = s
+see_attempt w s task attempt r RequestLost = s
+see_attempt w s task attempt r ReplyLost = record { scene = apply s.scene r; begun = s.begun; last = last_by w s.scene s.last task attempt r; picks = s.picks; put_mark = s.put_mark }
+
+-- the driver's, with whether its commit has begun then, and whether it may pick
+abbrev pub see_driver : Script → Bool → Bool → Seen → Request → Outcome → Seen
+see_driver w begun picking s r (Answered reply) = record { scene = apply s.scene r; begun = begun; last = s.last; picks = picks_by w picking s.last s.picks r; put_mark = s.put_mark || is_marking w r }
+see_driver w begun picking s r Slow = record { scene = s.scene; begun = begun; last = s.last; picks = s.picks; put_mark = s.put_mark }
+see_driver w begun picking s r RequestLost = record { scene = s.scene; begun = begun; last = s.last; picks = s.picks; put_mark = s.put_mark }
+see_driver w begun picking s r ReplyLost = record { scene = apply s.scene r; begun = begun; last = s.last; picks = s.picks; put_mark = s.put_mark || is_marking w r }
+
+-- what is seen after one more sending, in event `n`, with these times; of a stranger's the effect alone
+abbrev pub see_by : Script → Times → Seen → ℕ → Request → Outcome → Actor → Seen
+see_by w k s n r o Driver = see_driver w (s.begun || is_begun k.commit n) (is_picking k s.begun n) s r o
+see_by w k s n r o (Attempt task attempt) = see_attempt w s task attempt r o
+see_by w k s n r o Shell = record { scene = effect s.scene r o; begun = s.begun; last = s.last; picks = s.picks; put_mark = s.put_mark }
+
+-- what is seen after one more entry of the journal
+abbrev pub see : Script → Times → Seen → Entry → Seen
+see w k s e = see_by w k s e.event e.request e.outcome e.actor
+
+-- what is seen before the first entry
+abbrev pub nothing_seen : Content → Seen
+nothing_seen content = record { scene = opening content; begun = false; last = λ t. None; picks = λ t. None; put_mark = false }
+
+-- what is seen after these entries
+abbrev pub see_all : Script → Times → Seen → List Entry → Seen
+see_all w k s [] = s
+see_all w k s (e ∷ es) = see_all w k (see w k s e) es
+
+-- what is seen at moment m of a journal: after its first m entries
+abbrev pub seen : Script → Times → Content → List Entry → ℕ → Seen
+seen w k content journal m = see_all w k (nothing_seen content) (take m journal)
+
+-- this run's marker of a committed job stands
+abbrev pub is_marked : Script → Seen → Bool
+is_marked w s = s.put_mark && is_some (object_at s.scene.content w.dest.bucket (layout.success_key w.dest.key))

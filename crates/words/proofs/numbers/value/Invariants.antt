@@ -1,9 +1,0 @@
-use Rattle.words.proofs.Common.{digits_from, drop, is_digit, list_all, true, ◌<◌, ◌^◌, ◌≡◌}
-use Rattle.words.proofs.numbers.value.Given as goal
-
-abbrev pub invariant-loop-b : goal.invariant-loop-b
-invariant-loop-b l = record {
-  so_far : digits_from l.n (drop l.b-index l.text) ≡ digits_from 0 l.text;
-  digits : list_all is_digit (drop l.b-index l.text) ≡ true;
-  small : l.n < 10 ^ l.b-index;
-}

@@ -1,5 +1,0 @@
-use Rattle.words.proofs.Common.{is_other, list_all, take, true, ◌≡◌}
-use Rattle.words.proofs.parts.part_end.Given as goal
-
-abbrev pub invariant-loop-i : goal.invariant-loop-i
-invariant-loop-i l = list_all (is_other l.separator) (take l.i l.text) ≡ true
