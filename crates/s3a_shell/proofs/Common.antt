@@ -7,7 +7,7 @@ pub use Rattle.fs_files.proofs.WritingLaws.{placed_by, placed_same}
 pub use Rattle.fs_files.specs.Placed.{InFile, NoneLeft, placed}
 pub use Rattle.fs_files.specs.code.Create.{AlwaysFile, IsUndone}
 pub use Rattle.fs_ops.proofs.AtPathLaws.{gets_there, looks_there}
-pub use Rattle.fs_ops.specs.Prelude.{AbortUpload, Actor, AllByRecursion, AlreadyExists, AlwaysIn, Answered, AreHonest, Ask, Audits, BadName, BucketContent, Buckets, Cleans, CompleteUpload, Content, Copies, CreateUpload, Creates, Delete, DeleteObjects, Deleted, Deletes, Deletion, Entry, Fills, FsRefusal, Get, GivesIn, Head, InScene, IsCleaning, IsFilling, IsHonest, IsIn, Keep, ListParts, Lists, Made, MakeBucket, Makes, MarkerPolicy, NoSuchBucket, NotDirectory, NotEmpty, NotFound, Object, Objects, Outcome, Page, ParentIsFile, ParentMissing, Part, Path, Performed, PutObject, Reads, Refusal, Refused, Renames, Reply, Request, Scene, Seen, SendsIn, Shell, SourceMissing, Stats, TargetExists, TargetFile, TooLong, TooManyKeys, UnderSource, Upload, UploadPart, UploadRef, Uploads, aborted, after_all, answer, answer_at, apply, apply_at, below, bucket_of, complete_answer, completed, copied, copy_answer, effect, flat_map, gives, is_bucket, is_key, is_look, is_part_number, is_unanswered, joined, live, make_answer, moment, nat_cmp, new_bucket, objects_at, only_reads, opening, part_put, request_of, text_total, upload_in, uploads_from, with_objects, with_objects_if, with_part, with_uploads, without}
+pub use Rattle.fs_ops.specs.Prelude.{AbortUpload, Actor, AllByRecursion, AlwaysIn, Answered, AreHonest, Ask, Audits, BadName, BucketContent, Buckets, Cleans, CompleteUpload, Content, CreateUpload, Creates, DeleteObjects, Deleted, Deletes, Deletion, Entry, Fills, FsRefusal, Get, GivesIn, Head, InScene, IsCleaning, IsFilling, IsHonest, IsIn, ListParts, Lists, Made, MakeBucket, Makes, MarkerPolicy, NoSuchBucket, Object, Objects, Outcome, Page, Part, Path, Performed, PutObject, Reads, Refusal, Refused, Reply, Request, Scene, Seen, SendsIn, Shell, Stats, TooManyKeys, Upload, UploadPart, UploadRef, Uploads, aborted, after_all, answer, answer_at, apply, apply_at, below, bucket_of, complete_answer, completed, copied, copy_answer, effect, flat_map, gives, is_bucket, is_key, is_look, is_part_number, is_unanswered, joined, live, make_answer, moment, nat_cmp, new_bucket, objects_at, only_reads, opening, part_put, request_of, text_total, upload_in, uploads_from, with_objects, with_part, with_uploads, without}
 pub use Rattle.fs_rename.specs.Between.{GivesBetween, Route}
 pub use Rattle.journal_log.specs.Prelude.{AreBelow, CopyObject, DeleteObject, MOST_ENTRIES, NamedPart, is_changing, listed, with_key}
 pub use Rattle.machine.specs.Prelude.{AreForetold, IsHonestOutcome, part_answer}

@@ -1,10 +1,9 @@
 -- What a command's sendings lead to, from their beginning.
 use Rattle.std.specs.Prelude.{◌≡◌, ◌≤◌, ℕ, true, false, None, List, [], ◌++◌, take, length}
 use Rattle.s3a_shell.proofs.Common.{AreAnswered, AreBelow, AreBy, AreHonest, Command, Content, Does, Entry, IsHonest, OnlyIn, Said, Scene, Sends, Shell, after_all, ap, arith, bucket_in, ended_by, has_changed, moment, opening, subst, sym, take_all, upload_at, ◌∙◌}
-use Rattle.s3a_shell.proofs.Staying.{does_only}
+use Rattle.s3a_shell.proofs.Staying.{Leaves, below_none}
+use Rattle.s3a_shell.proofs.EachCommand.{left_by}
 use Rattle.s3a_shell.proofs.Unchanged.{no_change}
-use Rattle.s3a_shell.proofs.Undone.{does_keeps}
-use Rattle.s3a_shell.proofs.Finished.{below_none, does_ended}
 
 module _ (always : Scene → Type 0) (c : Content) (old es : List Entry) (z s : Scene) (first : old ≡ []) (begun : z ≡ opening c) (h : Sends always old z es s) where
   whole : es ≡ h.part
@@ -41,18 +40,19 @@ module _ (always : Scene → Type 0) (c : Content) (old es : List Entry) (z s : 
         subst (λ (v : Scene). Does command bytes v what (moment c es (length es))) begun
         (subst (λ (v : Scene). Does command bytes z what v) at_last did)
 
+    left : Leaves (bucket_in command) (ended_by command c) (opening c) what s
+    left = subst (λ (v : Scene). Leaves (bucket_in command) (ended_by command v.content) v what s) begun (left_by bytes z what s command did)
+
     pub only_at : OnlyIn (bucket_in command) (ended_by command c) c s.content
-    only_at = subst (λ (v : Scene). OnlyIn (bucket_in command) (ended_by command v.content) v.content s.content) begun (does_only command bytes z what s did)
+    only_at = left.only
 
     -- and of the uploads that it began
     pub ended_at : AreBelow c.buckets c.next → AreBelow s.content.buckets s.content.next → (id : ℕ) → c.next ≤ id → upload_at s.content (bucket_in command) id ≡ None
-    ended_at first last =
-        let fresh : (z : Scene) → z ≡ opening c → (b : List ℕ) (id : ℕ) → z.content.next ≤ id → upload_at z.content b id ≡ None = λ z e b. subst (λ (v : Scene). (id : ℕ) → v.content.next ≤ id → upload_at v.content b id ≡ None) (sym e) (below_none c b first) in
-        subst (λ (v : Scene). (id : ℕ) → v.content.next ≤ id → upload_at s.content (bucket_in command) id ≡ None) begun (does_ended z s (fresh z begun) (λ b. below_none s.content b last) command bytes what did)
+    ended_at first last = left.ended (below_none c (bucket_in command) first) (below_none s.content (bucket_in command) last)
 
     -- it is the first where the command was refused
     pub undone_at : what.refused ≡ true → s.content ≡ c
-    undone_at e = ap (λ (v : Scene). v.content) (does_keeps command bytes z what s did e ∙ begun)
+    undone_at e = ap (λ (v : Scene). v.content) (left.keeps e)
 
   pub content_at : s.content ≡ (moment c es (length es)).content
   content_at = ap (λ (v : Scene). v.content) at_last

@@ -1,6 +1,6 @@
 -- What performing an operation over a store that answers every request sends.
 use Rattle.std.specs.Prelude.{◌≡◌, ℕ, ◌+◌, ◌<◌, ◌≤◌, nat_lt, Bool, true, false, List, [], ◌∷◌, length, codes, Option, Some, None, Result, Ok, Err, IfOk, OnOk}
-use Rattle.s3a_shell.proofs.Common.{AlwaysIn, Answered, AreAnswered, AreForetold, Asked, BucketContent, Created, CreatedUnless, Creates, Deletes, Deletion, Did, DidMake, DidPut, DriveStop, Entry, FileOrNot, FsRefusal, GivesIn, InFile, InScene, IsCounted, IsMadeOrNot, IsStill, MakeBucket, MarkerPolicy, NoSuchBucket, NoneLeft, Objects, Outcome, Path, Performed, Request, Said, Scene, Seen, Sent, Session, Shell, answer, ap, apply, arith, fate_of, gives, inl, inr, is_key, is_unanswered, most_input, nat_tests, nothing, objects_at, placed_same, refl, refusal_word, refused_or_fine, refusing, said, subst, sym, with_objects, ◌∙◌}
+use Rattle.s3a_shell.proofs.Common.{AlwaysIn, Answered, AreAnswered, AreForetold, Asked, BucketContent, Created, CreatedUnless, Creates, Deletes, Deletion, Did, DidBetween, DidMake, DidPut, DriveStop, Entry, FileOrNot, FsRefusal, GivesBetween, GivesIn, InFile, InScene, IsCounted, IsMadeOrNot, IsStill, MakeBucket, MarkerPolicy, NoSuchBucket, NoneLeft, Objects, Outcome, Path, Performed, Request, Said, Scene, Seen, Sent, Session, Shell, answer, ap, apply, arith, fate_of, gives, inl, inr, is_key, is_unanswered, most_input, nat_tests, nothing, objects_at, placed_same, refl, refusal_word, refused_or_fine, refusing, said, subst, sym, with_objects, ◌∙◌}
 use Rattle.std.specs.FinMap as fin
 use Rattle.s3_types.specs.declared.fates.Fate.TheVariants.{Answer}
 use Rattle.bucket_ops.proofs.AskLaws.{with_same}
@@ -63,6 +63,12 @@ pub did_if : {A E : Type 0} (path : Path) (gives : Objects → Result A FsRefusa
     → GivesIn path.bucket gives (Err NoSuchBucket) z a s → IfOk r (λ w. w ≡ said text a) → IfOk r (λ w. Did path gives text z w s)
 did_if path gives text z s a (Ok w) g e = record { answer = a; given = g; told = e }
 did_if path gives text z s a (Err x) g e = tt
+
+-- of one from one path to another one
+pub between_if : {A E : Type 0} {gives : Objects → A → Objects → Type 0} {absent refused : A} (says : A → Said) (from to : Path) (z s : Scene) (a : A) (r : Result Said E)
+    → GivesBetween from.bucket to.bucket gives absent refused z a s → IfOk r (λ w. w ≡ says a) → IfOk r (λ w. DidBetween from to gives absent refused says z w s)
+between_if says from to z s a (Ok w) g e = record { answer = a; given = g; told = e }
+between_if says from to z s a (Err x) g e = tt
 
 -- of one that names the path's key
 pub did_at : {A E : Type 0} (path : Path) (gives : List ℕ → Objects → Result A FsRefusal → Objects → Type 0) (text : A → List ℕ) (z s : Scene) (key : List ℕ) (a : Result A FsRefusal) (r : Result Said E)

@@ -1,101 +1,138 @@
--- What a command leaves as it was.
-use Rattle.std.specs.Prelude.{◌≡◌, ℕ, ◌<◌, ◌≤◌, nat_lt, Bool, true, false, cond, List, length, Option, Some, None, Result, Err}
-use Rattle.s3a_shell.proofs.Common.{AbortedIn, Audits, BucketContent, Cleans, Command, Content, CreatedUnless, Creates, Delete, Deletes, Did, DidAbort, DidBetween, Does, Fills, FsRefusal, GivesIn, InFile, InScene, IsBelow, Keep, Lists, Makes, MarkerPolicy, NoSuchBucket, Objects, OnlyIn, Path, Reads, Said, Scene, Stats, ap, arith, bucket_in, bytes_alone, cleaned_line, ended_by, entry_lines, filled_line, inl, inr, is_bucket, made, marker_lines, most_input, nat_cmp, new_bucket, nothing, objects_of, refl, same_or_other, status_line, subst, sym, text_here, text_other, upload_at, upload_in, with_objects, with_objects_if, ◌∙◌, ◌⊎◌}
+-- What a command left: other buckets, other uploads, no upload of its own, and all where it was refused.
+use Rattle.std.specs.Prelude.{◌≡◌, ℕ, ◌<◌, ◌≤◌, Bool, true, false, cond, List, Option, Some, None, Result, Ok, Err}
+use Rattle.s3a_shell.proofs.Common.{AbortedIn, AreBelow, BadName, BucketContent, Content, CreatedUnless, Creates, Did, DidAbort, DidBetween, DidMake, FsRefusal, GivesIn, InFile, InScene, IsBelow, IsUndone, Made, MarkerPolicy, NoSuchBucket, Objects, OnlyIn, Path, Refused, Said, Scene, ap, arith, inl, inr, is_bucket, made, make_answer, nat_cmp, new_bucket, nothing, objects_of, placed, refl, refusal_word, refused_or_fine, said, same_or_other, subst, sym, text_here, text_other, upload_at, upload_in, with_objects, ◌∙◌, ◌⊎◌}
 use Rattle.std.specs.FinMap as fin
-use Rattle.s3a_words.specs.declared.command.Command.TheVariants.{Mb, Ls, Stat, Cat, Put, PutForce, PutDrop, Mkdir, Mv, Cp, Rm, Rmr, Uploads, AbortUploads, Markers, CleanMarkers, FillMarkers}
+use Rattle.bucket_ops.proofs.AskLaws.{with_same}
+use Rattle.bucket_ops.specs.Asks.{with_objects_if}
 
-abbrev pub none : ℕ → Type 0
+-- no upload has an id from n on
+abbrev NoneFrom : ℕ → Content → List ℕ → Type 0
+NoneFrom n c b = (id : ℕ) → n ≤ id → upload_at c b id ≡ None
+
+pub below_none : (c : Content) (b : List ℕ) → AreBelow c.buckets c.next → NoneFrom c.next c b
+below_none c b h id l = by (fin.get c.buckets b) refl
+  where
+    by : (o : Option BucketContent) → fin.get c.buckets b ≡ o → upload_in o id ≡ None
+    by None e = refl
+    by (Some d) e = h b d e id l
+
+-- no upload that was begun since z is live in the bucket
+abbrev pub Ends : List ℕ → Scene → Scene → Type 0
+Ends b z s = NoneFrom z.content.next z.content b → NoneFrom s.content.next s.content b → NoneFrom z.content.next s.content b
+
+-- nothing changed but in a bucket, and there no upload but those that were ended; and where a refusal was said, nothing at all
+pub record Leaves (b : List ℕ) (Ended : ℕ → Type 0) (z : Scene) (what : Said) (s : Scene) : Type 0 where
+  pub only : OnlyIn b Ended z.content s.content
+  pub ended : Ends b z s
+  pub keeps : what.refused ≡ true → s ≡ z
+
+-- a bucket's uploads that were begun before z are in d what they were, but for those that were ended
+abbrev Stand : List ℕ → (ℕ → Type 0) → Scene → BucketContent → Type 0
+Stand b Ended z d = (id : ℕ) → id < z.content.next → (Ended id → ⊥) → fin.get d.uploads id ≡ upload_at z.content b id
+
+there : (c : Content) (b : List ℕ) (d : BucketContent) → fin.get c.buckets b ≡ Some d → (id : ℕ) → fin.get d.uploads id ≡ upload_at c b id
+there c b d e id = ap (λ (o : Option BucketContent). upload_in o id) (sym e)
+
+module _ {b : List ℕ} {Ended : ℕ → Type 0} {z s : Scene} {what : Said} where
+  -- all is as it was
+  pub same : s ≡ z → Leaves b Ended z what s
+  same e = subst (Leaves b Ended z what) (sym e) (record {
+    only = record { others = λ name ne. refl; uploads = λ id h g. refl; minimum = refl; next = omega arith };
+    ended = λ first last. first;
+    keeps = λ r. refl;
+  })
+
+  -- or the bucket is another, and no refusal was said
+  changed : (d : BucketContent) (n : ℕ) → s ≡ placed z b d n → z.content.next ≤ n → Stand b Ended z d → Ends b z s → what.refused ≡ false → Leaves b Ended z what s
+  changed d n e le uploads ended fine = record {
+    only = subst (λ (t : Scene). OnlyIn b Ended z.content t.content) (sym e) (record {
+      others = λ name ne. text_other z.content.buckets b name d ne;
+      uploads = λ id h g. ap (λ (o : Option BucketContent). upload_in o id) (text_here z.content.buckets b b d refl) ∙ uploads id h g;
+      minimum = refl;
+      next = le;
+    });
+    ended = ended;
+    keeps = λ refused. let no : false ≡ true = sym fine ∙ refused in absurd (cc);
+  }
+
+  -- and no id was drawn
+  edited : (d : BucketContent) → s ≡ placed z b d z.content.next → Stand b Ended z d → what.refused ≡ false → Leaves b Ended z what s
+  edited d e uploads fine =
+      changed d z.content.next e (omega arith) uploads (λ first last. subst (λ n. NoneFrom n s.content b) (ap (λ (s : Scene). s.content.next) e) last) fine
+
+-- it ends no upload
+abbrev none : ℕ → Type 0
 none = λ id. ⊥
 
-only_same : (b : List ℕ) (E : ℕ → Type 0) (c : Content) → OnlyIn b E c c
-only_same b E c = record { others = λ name ne. refl; uploads = λ id h g. refl; minimum = refl; next = omega arith }
+-- a refusal changes nothing
+abbrev pub Keeps : {A R : Type 0} → (Objects → Result A R → Objects → Type 0) → Type 0
+Keeps {R = R} gives = (m n : Objects) (r : R) → gives m (Err r) n → n ≡ m
 
--- one bucket is another
-only_placed : (b : List ℕ) (E : ℕ → Type 0) (c : Content) (d : BucketContent) (n : ℕ) → c.next ≤ n → ((id : ℕ) → id < c.next → (E id → ⊥) → fin.get d.uploads id ≡ upload_at c b id)
-    → OnlyIn b E c (record { buckets = fin.insert c.buckets b d; next = n; minimum = c.minimum })
-only_placed b E c d n le same = record {
-  others = λ name ne. text_other c.buckets b name d ne;
-  uploads = λ id h g. ap (λ (o : Option BucketContent). upload_in o id) (text_here c.buckets b b d refl) ∙ same id h g;
-  minimum = refl;
-  next = le;
-}
+-- ---- what was done on the objects of a bucket
 
--- the objects of one bucket are others
-with_only : (b : List ℕ) (z : Scene) (n : Objects) (c : BucketContent) → fin.get z.content.buckets b ≡ Some c → OnlyIn b none z.content (with_objects z b n).content
-with_only b z n c e =
-    let le : z.content.next ≤ z.content.next = omega arith in
-    subst (λ (o : Option BucketContent). OnlyIn b none z.content (with_objects_if o z b n).content) (sym e)
-    (only_placed b none z.content (record { objects = n; uploads = c.uploads }) z.content.next le (λ id h g. ap (λ (o : Option BucketContent). upload_in o id) (sym e)))
-
-given_only : {A : Type 0} (b : List ℕ) (gives : Objects → A → Objects → Type 0) (absent : A) (z : Scene) (a : A) (s : Scene) → GivesIn b gives absent z a s → OnlyIn b none z.content s.content
-given_only b gives absent z a s = by (fin.get z.content.buckets b) refl
+given : {A R : Type 0} (b : List ℕ) (gives : Objects → Result A R → Objects → Type 0) (absent : Result A R) (says : Result A R → Said) (z s : Scene) (what : Said)
+    → (a : Result A R) → Keeps gives → ((x : A) → (says (Ok x)).refused ≡ false) → GivesIn b gives absent z a s → what ≡ says a → Leaves b none z what s
+given {A = A} {R = R} b gives absent says z s what a keeps fine h = by (fin.get z.content.buckets b) a refl h
   where
-    by : (o : Option BucketContent) → fin.get z.content.buckets b ≡ o → InScene (objects_of o) (λ m n. gives m a n) (a ≡ absent) z b s → OnlyIn b none z.content s.content
-    by None e h = subst (λ (t : Scene). OnlyIn b none z.content t.content) (sym h.0) (only_same b none z.content)
-    by (Some c) e h = subst (λ (t : Scene). OnlyIn b none z.content t.content) (sym h.1) (with_only b z h.0 c e)
+    by : (o : Option BucketContent) (a : Result A R) → fin.get z.content.buckets b ≡ o → InScene (objects_of o) (λ m n. gives m a n) (a ≡ absent) z b s → what ≡ says a
+        → Leaves b none z what s
+    by None a e g t = same g.0
+    by (Some c) (Err r) e g t = same (g.1 ∙ (ap (with_objects z b) (keeps c.objects g.0 r g.2) ∙ with_same z b c.objects (ap objects_of e)))
+    by (Some c) (Ok x) e g t =
+        edited (record { objects = g.0; uploads = c.uploads }) (g.1 ∙ ap (λ (o : Option BucketContent). with_objects_if o z b g.0) e)
+        (λ id l f. there z.content b c e id) (ap (λ (w : Said). w.refused) t ∙ fine x)
 
-file_only : (b : List ℕ) (holds : Objects → Objects → Type 0) (absent : Type 0) (z s : Scene) → InFile (fin.get z.content.buckets b) holds absent z b s → OnlyIn b none z.content s.content
-file_only b holds absent z s = by (fin.get z.content.buckets b) refl
+-- on a path
+pub done : {A : Type 0} {p : Path} {gives : Objects → Result A FsRefusal → Objects → Type 0} {text : A → List ℕ} {z s : Scene} {what : Said}
+    → Did p gives text z what s → Keeps gives → Leaves p.bucket none z what s
+done {p = p} {gives = gives} {text = text} {z = z} {s = s} {what = what} h keeps =
+    given p.bucket gives (Err NoSuchBucket) (said text) z s what h.answer keeps (λ x. refl) h.given h.told
+
+-- from one path to another one
+pub done_between : {A R : Type 0} {from to : Path} {gives : Objects → Result A R → Objects → Type 0} {absent refused : Result A R} {says : Result A R → Said}
+    {z s : Scene} {what : Said} → DidBetween from to gives absent refused says z what s → Keeps gives → ((x : A) → (says (Ok x)).refused ≡ false) → Leaves from.bucket none z what s
+done_between {from = from} {to = to} {gives = gives} {absent = absent} {says = says} {z = z} {s = s} {what = what} h keeps fine = by (same_or_other from.bucket to.bucket)
   where
-    by : (o : Option BucketContent) → fin.get z.content.buckets b ≡ o → InFile o holds absent z b s → OnlyIn b none z.content s.content
-    by None e h = subst (λ (t : Scene). OnlyIn b none z.content t.content) (sym h.0) (only_same b none z.content)
+    by : (from.bucket ≡ to.bucket) ⊎ (from.bucket ≡ to.bucket → ⊥) → Leaves from.bucket none z what s
+    by (inl f) = given from.bucket gives absent says z s what h.answer keeps fine (h.given.one f) h.told
+    by (inr f) = same (h.given.other f).1
+
+-- ---- the other commands
+
+-- a file was put
+pub put : (p : Path) (bytes : List ℕ) (overwrite : Bool) (policy : MarkerPolicy) (z : Scene) (what : Said) (s : Scene) (t : Bool)
+    → CreatedUnless t p bytes overwrite policy z what s → Leaves p.bucket none z what s
+put p bytes overwrite policy z what s true h = same h.1
+put p bytes overwrite policy z what s false h = by h.answer (fin.get z.content.buckets p.bucket) refl h.given h.undone h.told
+  where
+    by : (a : Result (Unit {0}) FsRefusal) (o : Option BucketContent) → fin.get z.content.buckets p.bucket ≡ o
+        → InFile o (λ m n. Creates p bytes overwrite policy m a n) (a ≡ Err NoSuchBucket) z p.bucket s → IsUndone a z s → what ≡ said nothing a → Leaves p.bucket none z what s
+    by (Err r) o e g u t = same u
+    by (Ok x) None e g u t = same g.0
+    by (Ok x) (Some c) e g u t =
+        changed g.content g.next g.scene g.later.drawn (λ id l f. g.later.uploads id l ∙ there z.content p.bucket c e id)
+        (λ first last id l. h.none id l (first id l)) (ap (λ (w : Said). w.refused) t)
+
+-- a bucket was made
+pub make : (name : List ℕ) (z : Scene) (what : Said) (s : Scene) → DidMake name z what s → Leaves name none z what s
+make name z what s h = by (fin.get z.content.buckets name) refl h.0 h.1
+  where
+    new : (t : Bool) → fin.get z.content.buckets name ≡ None → what ≡ refused_or_fine (refusal_word (cond t Made (Refused BadName)))
+        → s ≡ record { content = cond t (placed z name new_bucket z.content.next).content z.content; files = z.files } → Leaves name none z what s
+    new true e w g =
+        edited new_bucket g (λ id l f. fin.get-empty nat_cmp id ∙ ap (λ (o : Option BucketContent). upload_in o id) (sym e)) (ap (λ (w : Said). w.refused) w)
+    new false e w g = same g
+
+    by : (o : Option BucketContent) → fin.get z.content.buckets name ≡ o → what ≡ refused_or_fine (refusal_word (make_answer name o))
+        → s ≡ record { content = made z.content name o; files = z.files } → Leaves name none z what s
+    by None e w g = new (is_bucket name) e w g
+    by (Some c) e w g = same g
+
+-- uploads were aborted
+pub abort : (p : Path) (z : Scene) (what : Said) (s : Scene) → DidAbort p z what s → Leaves p.bucket (λ id. IsBelow (fin.get z.content.buckets p.bucket) p id) z what s
+abort p z what s = by (fin.get z.content.buckets p.bucket) refl
+  where
+    by : (o : Option BucketContent) → fin.get z.content.buckets p.bucket ≡ o → AbortedIn o p z what s → Leaves p.bucket (λ id. IsBelow o p id) z what s
+    by None e h = same h.1
     by (Some c) e h =
-        subst (λ (t : Scene). OnlyIn b none z.content t.content) (sym h.scene)
-        (only_placed b none z.content h.content h.next h.later.drawn (λ id l g. h.later.uploads id l ∙ ap (λ (o : Option BucketContent). upload_in o id) (sym e)))
-
--- a new bucket
-made_only : (b : List ℕ) (c : Content) (o : Option BucketContent) → fin.get c.buckets b ≡ o → OnlyIn b none c (made c b o)
-made_only b c (Some d) e = only_same b none c
-made_only b c None e = by (is_bucket b)
-  where
-    by : (t : Bool) → OnlyIn b none c (cond t (record { buckets = fin.insert c.buckets b new_bucket; next = c.next; minimum = c.minimum }) c)
-    by true =
-        let le : c.next ≤ c.next = omega arith in
-        only_placed b none c new_bucket c.next le (λ id h g. fin.get-empty nat_cmp id ∙ ap (λ (o : Option BucketContent). upload_in o id) (sym e))
-    by false = only_same b none c
-
-put_only : (p : Path) (bytes : List ℕ) (overwrite : Bool) (policy : MarkerPolicy) (z : Scene) (what : Said) (s : Scene) (t : Bool) → CreatedUnless t p bytes overwrite policy z what s → OnlyIn p.bucket none z.content s.content
-put_only p bytes overwrite policy z what s true h = subst (λ (t : Scene). OnlyIn p.bucket none z.content t.content) (sym h.1) (only_same p.bucket none z.content)
-put_only p bytes overwrite policy z what s false h = file_only p.bucket (λ m n. Creates p bytes overwrite policy m h.answer n) (h.answer ≡ Err NoSuchBucket) z s h.given
-
-did_only : {A : Type 0} (p : Path) (gives : Objects → Result A FsRefusal → Objects → Type 0) (text : A → List ℕ) (z : Scene) (what : Said) (s : Scene) → Did p gives text z what s → OnlyIn p.bucket none z.content s.content
-did_only p gives text z what s h = given_only p.bucket gives (Err NoSuchBucket) z h.answer s h.given
-
-between_only : {A : Type 0} {gives : Objects → A → Objects → Type 0} {absent refused : A} {says : A → Said} (from to : Path) (z : Scene) (what : Said) (s : Scene) → DidBetween from to gives absent refused says z what s → OnlyIn from.bucket none z.content s.content
-between_only {gives = gives} {absent = absent} from to z what s h = by (same_or_other from.bucket to.bucket)
-  where
-    by : (from.bucket ≡ to.bucket) ⊎ (from.bucket ≡ to.bucket → ⊥) → OnlyIn from.bucket none z.content s.content
-    by (inl f) = given_only from.bucket gives absent z h.answer s (h.given.one f)
-    by (inr f) = subst (λ (t : Scene). OnlyIn from.bucket none z.content t.content) (sym (h.given.other f).1) (only_same from.bucket none z.content)
-
-abort_only : (p : Path) (z : Scene) (what : Said) (s : Scene) → DidAbort p z what s → OnlyIn p.bucket (λ id. IsBelow (fin.get z.content.buckets p.bucket) p id) z.content s.content
-abort_only p z what s = by (fin.get z.content.buckets p.bucket) refl
-  where
-    by : (o : Option BucketContent) → fin.get z.content.buckets p.bucket ≡ o → AbortedIn o p z what s → OnlyIn p.bucket (λ id. IsBelow o p id) z.content s.content
-    by None e h = subst (λ (t : Scene). OnlyIn p.bucket (λ id. IsBelow None p id) z.content t.content) (sym h.1) (only_same p.bucket (λ id. IsBelow None p id) z.content)
-    by (Some c) e h =
-        let le : z.content.next ≤ z.content.next = omega arith in
-        subst (λ (t : Scene). OnlyIn p.bucket (λ id. IsBelow (Some c) p id) z.content t.content) (sym h.1.scene)
-        (only_placed p.bucket (λ id. IsBelow (Some c) p id) z.content h.1.content z.content.next le
-        (λ id l ne. h.1.kept id (λ r i f. ne (r, i, f)) ∙ ap (λ (o : Option BucketContent). upload_in o id) (sym e)))
-
--- nothing changes but in the bucket that a command names
-pub does_only : (command : Command) (bytes : List ℕ) (z : Scene) (what : Said) (s : Scene) → Does command bytes z what s → OnlyIn (bucket_in command) (ended_by command z.content) z.content s.content
-does_only (Mb name) bytes z what s h = subst (λ (t : Scene). OnlyIn name none z.content t.content) (sym h.1) (made_only name z.content (fin.get z.content.buckets name) refl)
-does_only (Ls p) bytes z what s h = did_only p (Lists p.key) entry_lines z what s h
-does_only (Stat p) bytes z what s h = did_only p (Stats p.key) status_line z what s h
-does_only (Cat p) bytes z what s h = did_only p (Reads p.key) bytes_alone z what s h
-does_only (Put p) bytes z what s h = put_only p bytes false Keep z what s (nat_lt most_input (length bytes)) h
-does_only (PutForce p) bytes z what s h = put_only p bytes true Keep z what s (nat_lt most_input (length bytes)) h
-does_only (PutDrop p) bytes z what s h = put_only p bytes false Delete z what s (nat_lt most_input (length bytes)) h
-does_only (Mkdir p) bytes z what s h = did_only p (Makes p.key) nothing z what s h
-does_only (Mv from to) bytes z what s h = between_only from to z what s h
-does_only (Cp from to) bytes z what s h = between_only from to z what s h
-does_only (Rm p) bytes z what s h = did_only p (Deletes false p.key) nothing z what s h
-does_only (Rmr p) bytes z what s h = did_only p (Deletes true p.key) nothing z what s h
-does_only (Uploads p) bytes z what s h = subst (λ (t : Scene). OnlyIn p.bucket none z.content t.content) (sym h.1) (only_same p.bucket none z.content)
-does_only (AbortUploads p) bytes z what s h = abort_only p z what s h
-does_only (Markers p) bytes z what s h = did_only p (Audits p.key) marker_lines z what s h
-does_only (CleanMarkers p) bytes z what s h = did_only p (Cleans p.key) cleaned_line z what s h
-does_only (FillMarkers p) bytes z what s h = did_only p (Fills p.key) filled_line z what s h
-does_only _ bytes z what s h = absurd h
+        edited h.1.content h.1.scene (λ id l ne. h.1.kept id (λ r i f. ne (r, i, f)) ∙ there z.content p.bucket c e id) (ap (λ (w : Said). w.refused) h.0)

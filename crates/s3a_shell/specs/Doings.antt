@@ -10,7 +10,7 @@ use Rattle.fs_files.specs.code.Create.{IsUndone}
 use Rattle.fs_rename.specs.Public.{StandsWhole}
 use Rattle.copy_tree.specs.Public.{StandsCopied}
 use Rattle.s3a_words.specs.declared.command.Command.{Command}
-use Rattle.s3a_words.specs.declared.command.Command.TheVariants.{Init, Mb, Ls, Stat, Cat, Put, PutForce, PutDrop, Mkdir, Mv, Cp, Rm, Rmr, Uploads, AbortUploads, Markers, CleanMarkers, FillMarkers, Job, Gen, Twins}
+use Rattle.s3a_words.specs.declared.command.Command.TheVariants.{Mb, Ls, Stat, Cat, Put, PutForce, PutDrop, Mkdir, Mv, Cp, Rm, Rmr, Uploads, AbortUploads, Markers, CleanMarkers, FillMarkers}
 use Rattle.s3a_words.specs.Kinds.{kind_of, is_on_buckets, is_look}
 use Rattle.s3a_shell.specs.declared.said.Said.{Said}
 use Rattle.s3a_shell.specs.Texts.{status_line, entry_lines, marker_lines, cleaned_line, filled_line, bytes_alone, nothing, fine, refusing, said}
@@ -91,7 +91,6 @@ only_looks command = is_look (kind_of command)
 
 -- what a command does in a scene with the bytes of its input, says, and leaves
 abbrev pub Does : Command → List ℕ → Scene → Said → Scene → Type 0
-Does (Init minimum) bytes z what s = ⊥
 Does (Mb name) bytes z what s = DidMake name z what s
 Does (Ls path) bytes z what s = Did path (Lists path.key) entry_lines z what s
 Does (Stat path) bytes z what s = Did path (Stats path.key) status_line z what s
@@ -109,9 +108,7 @@ Does (AbortUploads path) bytes z what s = DidAbort path z what s
 Does (Markers path) bytes z what s = Did path (Audits path.key) marker_lines z what s
 Does (CleanMarkers path) bytes z what s = Did path (Cleans path.key) cleaned_line z what s
 Does (FillMarkers path) bytes z what s = Did path (Fills path.key) filled_line z what s
-Does Job bytes z what s = ⊥
-Does (Gen seed tasks files) bytes z what s = ⊥
-Does Twins bytes z what s = ⊥
+Does _ bytes z what s = ⊥
 
 -- a path is deleted in part
 abbrev pub DeletedSome : Bool → Path → Scene → Scene → Type 0
@@ -119,11 +116,7 @@ DeletedSome recursive path z s = AlwaysIn path.bucket (delete.always (record { p
 
 -- what may stand at any moment of a command that was begun in the scene z, with the bytes of its input: wherever it stops, this is left
 abbrev pub MayStandAt : Command → List ℕ → Scene → Scene → Type 0
-MayStandAt (Init minimum) bytes z s = s ≡ z
 MayStandAt (Mb name) bytes z s = AppliedOrNot (MakeBucket name) z s
-MayStandAt (Ls path) bytes z s = s ≡ z
-MayStandAt (Stat path) bytes z s = s ≡ z
-MayStandAt (Cat path) bytes z s = s ≡ z
 MayStandAt (Put path) bytes z s = FileOrNot Keep path bytes z s
 MayStandAt (PutForce path) bytes z s = FileOrNot Keep path bytes z s
 MayStandAt (PutDrop path) bytes z s = FileOrNot Delete path bytes z s
@@ -132,11 +125,7 @@ MayStandAt (Mv from to) bytes z s = StandsWhole (route from to) z s
 MayStandAt (Cp from to) bytes z s = StandsCopied (route from to) z s
 MayStandAt (Rm path) bytes z s = DeletedSome false path z s
 MayStandAt (Rmr path) bytes z s = DeletedSome true path z s
-MayStandAt (Uploads path) bytes z s = s ≡ z
 MayStandAt (AbortUploads path) bytes z s = AbortedSome path z s
-MayStandAt (Markers path) bytes z s = s ≡ z
 MayStandAt (CleanMarkers path) bytes z s = AlwaysIn path.bucket (IsCleaning path.key) z s
 MayStandAt (FillMarkers path) bytes z s = AlwaysIn path.bucket (IsFilling path.key) z s
-MayStandAt Job bytes z s = s ≡ z
-MayStandAt (Gen seed tasks files) bytes z s = s ≡ z
-MayStandAt Twins bytes z s = s ≡ z
+MayStandAt _ bytes z s = s ≡ z

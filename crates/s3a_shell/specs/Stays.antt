@@ -4,8 +4,8 @@ use Rattle.fs_ops.specs.Prelude.{BucketContent, Content, UploadRef, Path, IsIn}
 use Rattle.std.specs.FinMap as fin
 use Rattle.store_frame.specs.Held.{upload_at}
 use Rattle.s3a_words.specs.declared.command.Command.{Command}
-use Rattle.s3a_words.specs.declared.kind.CommandKind.{CommandKind}
-use Rattle.s3a_words.specs.declared.kind.CommandKind.TheVariants.{Aborts}
+use Rattle.s3a_words.specs.declared.command.CommandKind.{CommandKind}
+use Rattle.s3a_words.specs.declared.command.CommandKind.TheVariants.{Aborts}
 use Rattle.s3a_words.specs.Kinds.{kind_of, path_of}
 use Rattle.s3a_shell.specs.Uploading.{uploads_below}
 

@@ -9,8 +9,8 @@
 //! shell's, in event 0, each with the answer that was due, and the store that it leaves is what they
 //! make of the one that it was given. Other buckets stand, and so do all uploads but those that
 //! `abort-uploads` ends (`stays`); what was refused, or sent no change, leaves the store as it was.
-//! `ls`, `stat`, `cat` and `uploads` send no change (`reads`), and no upload is live at the end that
-//! was begun by the command (`ended`).
+//! One that only looks sends no change (`reads`), and no upload is live at the end that was begun by
+//! the command (`ended`).
 //!
 //! `work_of`: What a command but `job`, `gen` and `twins` is to do on what is held: `init` keeps a new store, or
 //! says that one stands; of the others, done by `shell` on the store that is held, or on a new one,
@@ -20,15 +20,13 @@
 #![tactic(auto)]
 
 mod buckets;
-mod copies;
 mod files;
 mod markers;
-mod moves;
+mod moving;
 mod obeying;
 mod paths;
 mod said;
 mod session;
-mod statuses;
 mod uploads;
 mod works;
 

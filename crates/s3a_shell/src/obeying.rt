@@ -138,8 +138,8 @@ impl Session {
 /// refusal: `refused WORD`, and behind a blank the value that is kept. `changed` tells whether some request was
 /// answered that is no read and no list and was not refused; where it is false, the store is as it was, and so it is
 /// where the command was refused. At any moment, wherever it stops, there stands what may stand then of the command
-/// (`MayStandAt`). `ls`, `stat`, `cat` and `uploads` send no change, and at the end no upload is live that the
-/// command began. Markers are kept, but by `put-drop`, and each request is sent once. (Hadoop FileSystem specification.)
+/// (`MayStandAt`). One that only looks sends no change, and at the end no upload is live that the command began.
+/// Markers are kept, but by `put-drop`, and each request is sent once. (Hadoop FileSystem specification.)
 pub fn shell(
     alloc: Global,
     command: &Command,

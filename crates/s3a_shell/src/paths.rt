@@ -1,18 +1,73 @@
-ghost use Rattle.std.specs.Prelude.{◌≡◌, IfOk, OnOk};
+ghost use Rattle.std.specs.Prelude.{◌≡◌, ◌++◌, IfOk, OnOk, string_bytes};
 ghost use Rattle.bucket_ops.specs.Phases.{AlwaysIn};
 ghost use Rattle.fs_tree.specs.Answers.{Stats, Reads, Lists, Makes, Deletes};
 ghost use Rattle.fs_ops.specs.code.Make as make;
 ghost use Rattle.bucket_ops.specs.Uploads.{IsStill};
-ghost use Rattle.s3a_shell.specs.Texts.{status_line, entry_lines, bytes_alone, nothing};
+ghost use Rattle.s3a_shell.specs.Texts.{status_line, entry_line, entry_lines, bytes_alone, nothing, said};
 ghost use Rattle.s3a_shell.specs.Sendings.{IsCounted, Sent, has_changed};
 ghost use Rattle.s3a_shell.specs.Doings.{Did, DeletedSome};
 
-use crate::said::{Said, bytes_said, nothing_said};
+use crate::said::{Said, bytes_said, fine, nothing_said, refused};
 use crate::session::Session;
-use crate::statuses::{list_said, status_said};
+use dir_markers::Status;
 use fs_ops::{DeletePath, ListDir, MakeDirs, ReadFile, Stat};
+use fs_tree::{DirEntry, DirList, FsRefusal};
 use path_keys::S3Path;
-use std::alloc::AllocError;
+use s3_types::Bytes;
+use std::alloc::{AllocError, Global};
+
+/// `file LENGTH` or `directory`.
+fn status_line(alloc: Global, status: Status) -> Result<Bytes, AllocError>
+    ensures { IfOk result (λ line. line ≡ status_line status) }
+{
+    let line = match status {
+        Status::File(length) => format!(in alloc; "file {length}\n")?,
+        Status::Directory => format!(in alloc; "directory\n")?,
+    };
+    Bytes::new(alloc, line.into_bytes())
+}
+
+/// Adds `f LENGTH NAME` or `d NAME`.
+fn put_entry(lines: &mut String, entry: &DirEntry) -> Result<(), AllocError>
+    ensures { OnOk result (string_bytes lines.new ≡ string_bytes lines.old ++ entry_line entry.now) }
+{
+    let name = entry.name.as_str();
+    match entry.status {
+        Status::File(length) => write!(lines, "f {length} {name}\n"),
+        Status::Directory => write!(lines, "d {name}\n"),
+    }
+}
+
+/// A line for each entry.
+fn entry_lines(alloc: Global, entries: &[DirEntry]) -> Result<Bytes, AllocError>
+    ensures { IfOk result (λ lines. lines ≡ entry_lines entries.now) }
+{
+    let mut lines = String::new(alloc);
+    for entry in entries {
+        put_entry(&mut lines, entry)?;
+    }
+    Bytes::new(alloc, lines.into_bytes())
+}
+
+/// What an operation says that answers a status.
+fn status_said(alloc: Global, answer: Result<Status, FsRefusal>) -> Result<Said, AllocError>
+    ensures { IfOk result (λ what. what ≡ said status_line answer) }
+{
+    match answer {
+        Ok(status) => Ok(fine(status_line(alloc, status)?)),
+        Err(refusal) => refused(alloc, &refusal),
+    }
+}
+
+/// What an operation says that answers what a directory holds.
+fn list_said(alloc: Global, answer: Result<DirList, FsRefusal>) -> Result<Said, AllocError>
+    ensures { IfOk result (λ what. what ≡ said entry_lines answer) }
+{
+    match answer {
+        Ok(entries) => Ok(fine(entry_lines(alloc, entries.as_slice())?)),
+        Err(refusal) => refused(alloc, &refusal),
+    }
+}
 
 impl Session {
     /// What stands at a path.

@@ -1,12 +1,11 @@
 -- The numbers that words name are within their bounds.
 use Rattle.std.specs.Prelude.{◌≡◌, ℕ, ◌≤◌, ◌&&◌, nat_le, Bool, true, false, cond, List, [], ◌∷◌, Option, Some, None, option_map, option_and_then}
 use Rattle.s3a_words.proofs.Common.{and_parts, leb-true, refl, subst}
-use Rattle.path_keys.specs.Paths.{Path}
 use Rattle.s3_types.specs.declared.limits.TheConstants.{MOST_MINIMUM}
 use Rattle.s3a_words.specs.Numbers.{number_in, is_minimum, minimum_in, number_within}
-use Rattle.s3a_words.specs.Words.{path_named, alone, with_path, with_operand, with_paths, with_two, made, with_three, said, command_of, IsBounded}
+use Rattle.s3a_words.specs.Words.{alone, with_path, with_operand, with_paths, with_two, made, with_three, said, command_of, IsBounded}
 use Rattle.s3a_words.specs.declared.command.Command.{Command}
-use Rattle.s3a_words.specs.declared.command.Command.TheVariants.{Init, Mb, Ls, Stat, Cat, Put, PutForce, PutDrop, Mkdir, Rm, Rmr, Mv, Cp, Uploads, AbortUploads, Markers, CleanMarkers, FillMarkers, Job, Gen, Twins}
+use Rattle.s3a_words.specs.declared.command.Command.TheVariants.{Init, Gen}
 
 abbrev Of : Option Command → Type 0
 Of None = Unit {0}
@@ -27,22 +26,16 @@ either : (b : Bool) (o p : Option Command) → AreBounded o → AreBounded p →
 either true o p h g = h
 either false o p h g = g
 
-alone_bounded : (name : List ℕ) → AreBounded (alone name)
-unfolding alone
-alone_bounded name = either _ _ _ (is Job tt) (either _ _ _ (is Twins tt) (either _ _ _ (is (Init None) tt) none))
-
-path_bounded : (name : List ℕ) (p : Path) → AreBounded (with_path name p)
-unfolding with_path
-path_bounded name p =
-    either _ _ _ (is (Ls p) tt) (either _ _ _ (is (Stat p) tt) (either _ _ _ (is (Cat p) tt) (either _ _ _ (is (Put p) tt) (either _ _ _ (is (PutForce p) tt) (either _ _ _ (is (PutDrop p) tt) (either _ _ _ (is (Mkdir p) tt) (either _ _ _ (is (Rm p) tt) (either _ _ _ (is (Rmr p) tt) (either _ _ _ (is (Uploads p) tt) (either _ _ _ (is (AbortUploads p) tt) (either _ _ _ (is (Markers p) tt) (either _ _ _ (is (CleanMarkers p) tt) (either _ _ _ (is (FillMarkers p) tt) none)))))))))))))
-
-paths_bounded : (name : List ℕ) (p q : Path) → AreBounded (with_paths name p q)
-unfolding with_paths
-paths_bounded name p q = either _ _ _ (is (Mv p q) tt) (either _ _ _ (is (Cp p q) tt) none)
-
 and_then : {A : Type 0} (f : A → Option Command) (o : Option A) → ((a : A) → AreBounded (f a)) → AreBounded (option_and_then f o)
 and_then f None h = none
 and_then f (Some a) h = h a
+
+-- so it is where no command among those names a number
+ruleset each = (either, and_then, is, none)
+
+alone_bounded : (name : List ℕ) → AreBounded (alone name)
+unfolding alone
+alone_bounded name = search each depth 40
 
 least : (n : ℕ) (b : Bool) → is_minimum n ≡ b → AreBounded (option_map (λ m. Init (Some m)) (cond b (Some n) None))
 least n true e = let both = and_parts (nat_le 1 n) (nat_le n MOST_MINIMUM) e in is (Init (Some n)) (leb-true 1 n both.0, leb-true n MOST_MINIMUM both.1)
@@ -57,12 +50,12 @@ unfolding minimum_in
 minimum_bounded word = least_in (number_in word)
 
 operand_bounded : (name word : List ℕ) → AreBounded (with_operand name word)
-unfolding with_operand
-operand_bounded name word = either _ _ _ (minimum_bounded word) (either _ _ _ (is (Mb word) tt) (and_then (with_path name) (path_named word) (path_bounded name)))
+unfolding with_operand with_path
+operand_bounded name word = search (each, minimum_bounded) depth 40
 
 two_bounded : (name first second : List ℕ) → AreBounded (with_two name first second)
-unfolding with_two
-two_bounded name first second = and_then (λ p. option_and_then (with_paths name p) (path_named second)) (path_named first) (λ p. and_then (with_paths name p) (path_named second) (paths_bounded name p))
+unfolding with_two with_paths
+two_bounded name first second = search each depth 40
 
 -- a number that a word writes, if it writes one, is within its bounds
 abbrev Within : ℕ → ℕ → Option ℕ → Type 0

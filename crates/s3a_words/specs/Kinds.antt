@@ -3,8 +3,8 @@ use Rattle.std.specs.Prelude.{ℕ, Bool, true, false, List, []}
 use Rattle.path_keys.specs.Paths.{Path}
 use Rattle.s3a_words.specs.declared.command.Command.{Command}
 use Rattle.s3a_words.specs.declared.command.Command.TheVariants.{Init, Mb, Ls, Stat, Cat, Put, PutForce, PutDrop, Mkdir, Rm, Rmr, Mv, Cp, Uploads, AbortUploads, Markers, CleanMarkers, FillMarkers, Job, Gen, Twins}
-use Rattle.s3a_words.specs.declared.kind.CommandKind.{CommandKind}
-use Rattle.s3a_words.specs.declared.kind.CommandKind.TheVariants.{Begins, Looks, Changes, Puts, Aborts, Plays}
+use Rattle.s3a_words.specs.declared.command.CommandKind.{CommandKind}
+use Rattle.s3a_words.specs.declared.command.CommandKind.TheVariants.{Begins, Looks, Changes, Puts, Aborts, Plays}
 
 -- the root of a bucket
 abbrev root_of : List ℕ → Path

@@ -8,10 +8,8 @@
 
 mod command;
 mod grammar;
-mod kind;
 mod numbers;
 mod reading;
 
-pub use command::{Command, WordFault};
-pub use kind::CommandKind;
+pub use command::{Command, CommandKind, WordFault};
 pub use reading::read_words;

@@ -1,8 +1,7 @@
 use Rattle.s3a_shell.proofs.Common.{Route, route, said_of_move, subst}
 use Rattle.fs_rename.specs.Public.{RenamesIn, StandsWhole}
 use Rattle.s3a_shell.proofs.Joining.{sent_as}
-use Rattle.s3a_shell.proofs.Performing.{sent, on_ok}
-use Rattle.s3a_shell.proofs.Moving.{between_if}
+use Rattle.s3a_shell.proofs.Performing.{between_if, sent, on_ok}
 use Rattle.s3a_shell.proofs.session.Session.rename.Goals as goal
 
 pub returns-in-Ok-clause-did : goal.returns-in-Ok-clause-did

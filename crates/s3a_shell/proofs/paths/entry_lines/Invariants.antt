@@ -1,5 +1,5 @@
 use Rattle.s3a_shell.proofs.Common.{drop, entry_line, flat_map, string_bytes, ◌++◌, ◌≡◌}
-use Rattle.s3a_shell.proofs.statuses.entry_lines.Given as goal
+use Rattle.s3a_shell.proofs.paths.entry_lines.Given as goal
 
 abbrev pub invariant-loop-entry : goal.invariant-loop-entry
 invariant-loop-entry l = string_bytes l.lines ++ flat_map entry_line (drop l.entry-index l.entries) ≡ flat_map entry_line l.entries

@@ -1,1 +1,0 @@
--- Two buckets are one or not.
