@@ -1,7 +1,7 @@
 -- The parts of a script as numbers and pairs, by which proofs tell scripts apart.
 use Rattle.std.specs.Prelude.{◌≡◌, ℕ, zero, suc, Bool, List, Option, refl}
 use Rattle.s3_types.specs.Prelude.{Coded, code_by, coded×, coded_ℕ, coded_bool, coded_list, coded_option, coded_text, coded_fates}
-use Rattle.pending_json.specs.Prelude.{FateMap, Actor, Driver, Attempt, Shell, Committer, Magic, Directory, Partitioned, Mode, Fail, Append, Replace}
+use Rattle.pending_json.specs.Prelude.{FateMap, Actor, Driver, Attempt, Shell, Committer, coded_committer, Mode, Fail, Append, Replace}
 use Rattle.path_keys.specs.Paths.{Path}
 use Rattle.job_model.specs.Attempts.{Who, Declared}
 use Rattle.job_model.specs.JobScript.{Script}
@@ -9,24 +9,6 @@ use Rattle.job_model.specs.declared.events.Op.{Op}
 use Rattle.job_model.specs.declared.events.Op.TheVariants as op
 use Rattle.job_model.specs.declared.events.Event.{Event}
 use Rattle.job_model.specs.declared.events.Event.TheVariants as event
-
--- committers by number
-abbrev pub committer_number : Committer → ℕ
-committer_number Magic = 0
-committer_number Directory = 1
-committer_number Partitioned = 2
-
--- the committer of a number
-abbrev pub numbered_committer : ℕ → Committer
-numbered_committer zero = Magic
-numbered_committer (suc zero) = Directory
-numbered_committer (suc (suc n)) = Partitioned
-
--- a committer's number gives the committer again
-abbrev pub committer_again : (c : Committer) → numbered_committer (committer_number c) ≡ c
-committer_again Magic = refl
-committer_again Directory = refl
-committer_again Partitioned = refl
 
 -- conflict modes by number
 abbrev pub mode_number : Mode → ℕ
@@ -138,7 +120,7 @@ coded_path = code_by (List ℕ × List ℕ) (coded× coded_text coded_text) (λ 
 abbrev pub coded_script : Coded Script
 coded_script =
     code_by (List ℕ × (Path × (Committer × (Mode × (Bool × (ℕ × (ℕ × (ℕ × (ℕ × (Option ℕ × (FateMap × (List Declared × List Event))))))))))))
-    (coded× coded_text (coded× coded_path (coded× (code_by ℕ coded_ℕ committer_number numbered_committer committer_again) (coded× (code_by ℕ coded_ℕ mode_number numbered_mode mode_again) (coded× coded_bool (coded× coded_ℕ (coded× coded_ℕ (coded× coded_ℕ (coded× coded_ℕ (coded× (coded_option coded_ℕ) (coded× coded_fates (coded× (coded_list coded_declared) (coded_list coded_event)))))))))))))
+    (coded× coded_text (coded× coded_path (coded× coded_committer (coded× (code_by ℕ coded_ℕ mode_number numbered_mode mode_again) (coded× coded_bool (coded× coded_ℕ (coded× coded_ℕ (coded× coded_ℕ (coded× coded_ℕ (coded× (coded_option coded_ℕ) (coded× coded_fates (coded× (coded_list coded_declared) (coded_list coded_event)))))))))))))
     (λ s. (s.job, (s.dest, (s.committer, (s.mode, (s.unique, (s.tasks, (s.retries, (s.block, (s.lanes, (s.stamp, (s.fates, (s.attempts, s.events)))))))))))))
     (λ p. record { job = p.0; dest = p.1.0; committer = p.1.1.0; mode = p.1.1.1.0; unique = p.1.1.1.1.0; tasks = p.1.1.1.1.1.0; retries = p.1.1.1.1.1.1.0; block = p.1.1.1.1.1.1.1.0; lanes = p.1.1.1.1.1.1.1.1.0; stamp = p.1.1.1.1.1.1.1.1.1.0; fates = p.1.1.1.1.1.1.1.1.1.1.0; attempts = p.1.1.1.1.1.1.1.1.1.1.1.0; events = p.1.1.1.1.1.1.1.1.1.1.1.1 })
     (λ _. refl)

@@ -1,9 +1,9 @@
 -- The words of a script, and what they name.
-use Rattle.std.specs.Prelude.{ℕ, Bool, true, false, List, [], ◌∷◌, Option, Some, None, codes, bytes_eq, if◌then◌else◌}
-use Rattle.job_model.specs.Prelude.{Committer, Mode, Fate}
+use Rattle.std.specs.Prelude.{ℕ, Bool, true, false, List, [], ◌∷◌, map, Option, Some, None, codes, bytes_eq, if◌then◌else◌}
+use Rattle.job_model.specs.Prelude.{Committer, committer_word, Mode, Fate}
 use Rattle.job_script.specs.declared.kinds.EventWord.{EventWord}
 use Rattle.job_script.specs.declared.kinds.EventWord.TheVariants as event
-use Rattle.s3_types.specs.declared.request.Committer.TheVariants as committer
+use Rattle.pending_json.specs.Committers as all
 use Rattle.s3_types.specs.declared.request.Mode.TheVariants as mode
 use Rattle.s3_types.specs.declared.fates.Fate.TheVariants as fate
 use Rattle.job_model.specs.declared.events.Op.{Op}
@@ -30,7 +30,7 @@ event_words =
 
 -- the words of committers
 abbrev pub committers : Names Committer
-committers = (codes "magic", committer.Magic) ∷ (codes "directory", committer.Directory) ∷ (codes "partitioned", committer.Partitioned) ∷ []
+committers = map (λ c. (committer_word c, c)) all.committers
 
 -- the words of modes
 abbrev pub modes : Names Mode

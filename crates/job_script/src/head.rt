@@ -17,13 +17,14 @@ ghost use Rattle.job_script.specs.declared.fault.ScriptFault.TheVariants.{BadLin
 
 use crate::draft::Draft;
 use crate::fault::ScriptFault;
-use crate::kinds::{answer_of, committer_of, mode_of};
+use crate::kinds::{answer_of, mode_of};
 use crate::paths::is_dest_key;
 use crate::print_losses::put_losses;
-use crate::print_words::{answer_word, committer_word, mode_word};
+use crate::print_words::{answer_word, mode_word};
 use basics::{number_within, one};
 use job_model::Script;
 use path_keys::{PathFault, S3Path};
+use pending_json::{committer_of, committer_word};
 use s3_types::{Committer, Fates, MOST_SCRIPT_BYTES, Mode, Text, let_go};
 use std::alloc::{AllocError, Global};
 

@@ -5,7 +5,7 @@ ghost use Rattle.job_script.specs.Script as script;
 use crate::draft::Group;
 use crate::head::{HeadWord, head_word};
 use job_model::Op;
-use s3_types::{Committer, Fate, Mode};
+use s3_types::{Fate, Mode};
 
 #[derive(Clone, Copy)]
 pub enum EventWord {
@@ -60,18 +60,6 @@ pub fn kind_of(word: &str) -> Option<Kind>
             Some(event) => Some(Kind::Event(event)),
             None => None,
         },
-    }
-}
-
-/// The committer of this name, if there is one.
-pub fn committer_of(word: &str) -> Option<Committer>
-    ensures { result ≡ table.named table.committers word.now }
-{
-    match word {
-        "magic" => Some(Committer::Magic),
-        "directory" => Some(Committer::Directory),
-        "partitioned" => Some(Committer::Partitioned),
-        _ => None,
     }
 }
 

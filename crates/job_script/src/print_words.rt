@@ -1,19 +1,7 @@
 ghost use Rattle.std.specs.Prelude.{◌≡◌};
-ghost use Rattle.pending_json.specs.Trees.{committer_word};
 ghost use Rattle.job_script.specs.Kinds as table;
 
-use s3_types::{Committer, Fate, Mode};
-
-/// The name of a committer.
-pub fn committer_word(committer: Committer) -> &'static str
-    ensures { result.now ≡ committer_word committer }
-{
-    match committer {
-        Committer::Magic => "magic",
-        Committer::Directory => "directory",
-        Committer::Partitioned => "partitioned",
-    }
-}
+use s3_types::{Fate, Mode};
 
 /// The name of a conflict mode.
 pub fn mode_word(mode: Mode) -> &'static str

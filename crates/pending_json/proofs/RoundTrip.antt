@@ -1,5 +1,5 @@
 -- What is printed of a record is read as that record.
-use Rattle.pending_json.proofs.Common.{AllByRecursion, Committer, Directory, IsMark, IsPending, IsSet, IsStamp, IsUtf8, IsUtf8-are_ascii, IsUtf8-from_is_utf8, List, Magic, Members, None, Ok, Option, Partitioned, Pending, PendingSet, Some, Spelled, SuccessMark, [], and_parts, are_ascii, are_sizes, arith, codes, committer_word, compact_text, is_count, is_plain_tag, is_some, is_utf8, items_of, items_outline, length, list_all, lit<, lit≤, map, max_depth, member, no_members, of_items, of_json, outline, pending_of, pending_tree, refl, set_of, set_tree, subst, success_of, success_tree, sym, tag_digits, texts, true, version_of, whole, wholes, with_sizes, with_stamp, ℕ, ◌<◌, ◌^◌, ◌∷◌, ◌≡◌, ◌≤◌}
+use Rattle.pending_json.proofs.Common.{AllByRecursion, Committer, IsMark, IsPending, IsSet, IsStamp, IsUtf8, IsUtf8-are_ascii, IsUtf8-from_is_utf8, List, Magic, Members, None, Ok, Option, Pending, PendingSet, Some, Spelled, SuccessMark, [], and_parts, are_ascii, are_sizes, arith, codes, committer_word, compact_text, is_count, is_plain_tag, is_some, is_utf8, items_of, items_outline, length, list_all, lit<, lit≤, map, max_depth, member, no_members, of_items, of_json, outline, pending_of, pending_tree, refl, set_of, set_tree, subst, success_of, success_tree, sym, tag_digits, texts, true, version_of, whole, wholes, with_sizes, with_stamp, ℕ, ◌<◌, ◌^◌, ◌∷◌, ◌≡◌, ◌≤◌}
 use Rattle.json.specs.Tree as tr
 use Rattle.serde_json.proofs.Numbers.{number_of-decimal}
 use Rattle.s3_types.proofs.Utf8.{bucket_utf8, hex_utf8}
@@ -152,9 +152,7 @@ set_text s f = set_only _ s f (printed_is_read (set_tree s) (set_plain s f) (set
 -- ---- markers
 
 committer_plain : (c : Committer) → IsUtf8 (committer_word c)
-committer_plain Magic = key (codes "magic") refl
-committer_plain Directory = key (codes "directory") refl
-committer_plain Partitioned = key (codes "partitioned") refl
+committer_plain c = key (committer_word c) (elim c as (λ c. are_ascii (committer_word c) ≡ true) [ Magic ↦ refl | _ ↦ refl ])
 
 -- the last members of a marker
 stamp_plain : (stamp : Option ℕ) → IsStamp stamp → PlainMembers (with_stamp stamp (member (codes "version") (whole 1) no_members))

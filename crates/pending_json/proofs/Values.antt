@@ -1,6 +1,7 @@
 -- What a value of a kind is, and that it is read as such.
-use Rattle.pending_json.proofs.Common.{Bool, Committer, Data, Directory, Err, Items, List, Magic, Members, None, Ok, Option, Partitioned, RecordFault, Result, Some, Spelled, WrongVersion, [], all_of, and_parts, ap, ap₂, are_tags, array, as_array, as_committer, as_object, as_str, as_tag, as_tags, as_texts, as_u32, as_whole, as_word, bytes_eq, bytes_eq-Decides, codes, committer_word, cond, cond_some, end_of, eqb-true, false, field, fit, get, is_count, is_plain_tag, is_some, is_tag_text, item, items_of, leb, length, list_all, ltb, ltb-true, map, no_items, number, object, of_kind, option_and_then, option_and_then_some, option_map, parted, passed, refl, same_Some, same_ok, sizes_in, string, subst, sym, tag_digits, tag_of, texts, true, unsigned, version_of, whole, wholes, ℕ, ◌&&◌, ◌<◌, ◌==◌, ◌^◌, ◌∙◌, ◌∷◌, ◌≡◌}
-use Rattle.pending_json.specs.Fields.{present, kept, committer_of, as_sizes, version_in, is_sized}
+use Rattle.pending_json.proofs.Common.{Bool, Committer, Data, Err, Items, List, Magic, Members, None, Ok, Option, RecordFault, Result, Some, Spelled, WrongVersion, [], all_of, and_parts, ap, ap₂, are_tags, array, as_array, as_committer, as_object, as_str, as_tag, as_tags, as_texts, as_u32, as_whole, as_word, bytes_eq, bytes_eq-Decides, codes, committer_word, cond, cond_some, end_of, eqb-true, false, field, fit, get, is_count, is_plain_tag, is_some, is_tag_text, item, items_of, leb, length, list_all, ltb, ltb-true, map, no_items, number, object, of_kind, option_and_then, option_and_then_some, option_map, parted, passed, refl, same_Some, same_ok, sizes_in, string, subst, sym, tag_digits, tag_of, texts, true, unsigned, version_of, whole, wholes, ℕ, ◌&&◌, ◌<◌, ◌==◌, ◌^◌, ◌∙◌, ◌∷◌, ◌≡◌}
+use Rattle.pending_json.specs.Committers.{committer_among, committer_of, committers}
+use Rattle.pending_json.specs.Fields.{present, kept, as_sizes, version_in, is_sized}
 
 -- ---- steps that gave something
 
@@ -47,21 +48,19 @@ is_word word v e = option_and_then_some (λ s. cond (bytes_eq s word) (Some tt) 
 pub is_kept : (test : List ℕ → Bool) (v : Data) (s : List ℕ) → option_and_then (kept test) (as_str v) ≡ Some s → (v ≡ string s) × (test s ≡ true)
 is_kept test v s e = option_and_then_some (kept test) (as_str v) s e (λ t e1 e2. let q = kept_ok test t s e2 in (is_string v s (e1 ∙ ap Some q.0), q.1))
 
-word_is : (word known : List ℕ) (c d : Committer) (rest : Option Committer) → cond (bytes_eq word known) (Some c) rest ≡ Some d → (known ≡ committer_word c) → (rest ≡ Some d → word ≡ committer_word d) → word ≡ committer_word d
-word_is word known c d rest e is other = by (bytes_eq word known) refl e
+word_is : (word : List ℕ) (c d : Committer) (rest : Option Committer) → cond (bytes_eq word (committer_word d)) (Some d) rest ≡ Some c → (rest ≡ Some c → word ≡ committer_word c) → word ≡ committer_word c
+word_is word c d rest e other = by (bytes_eq word (committer_word d)) refl e
   where
-    by : (b : Bool) → bytes_eq word known ≡ b → cond b (Some c) rest ≡ Some d → word ≡ committer_word d
-    by true at h = let same : c ≡ d = cc in (bytes_eq-Decides word known).0 at ∙ is ∙ ap committer_word same
+    by : (b : Bool) → bytes_eq word (committer_word d) ≡ b → cond b (Some d) rest ≡ Some c → word ≡ committer_word c
+    by true at h = let same : d ≡ c = cc in (bytes_eq-Decides word (committer_word d)).0 at ∙ ap committer_word same
     by false at h = other h
 
-committer_is : (word : List ℕ) (c : Committer) → committer_of word ≡ Some c → word ≡ committer_word c
-committer_is word c e =
-    word_is word (committer_word Magic) Magic c _ e refl (λ e2.
-    word_is word (committer_word Directory) Directory c _ e2 refl (λ e3.
-    word_is word (committer_word Partitioned) Partitioned c _ e3 refl (λ e4. absurd cc)))
+committer_is : (cs : List Committer) (word : List ℕ) (c : Committer) → committer_among cs word ≡ Some c → word ≡ committer_word c
+committer_is [] word c e = absurd cc
+committer_is (d ∷ cs) word c e = word_is word c d (committer_among cs word) e (committer_is cs word c)
 
 pub is_committer : (v : Data) (c : Committer) → as_committer v ≡ Some c → v ≡ string (committer_word c)
-is_committer v c e = option_and_then_some committer_of (as_str v) c e (λ s e1 e2. is_string v (committer_word c) (e1 ∙ ap Some (committer_is s c e2)))
+is_committer v c e = option_and_then_some committer_of (as_str v) c e (λ s e1 e2. is_string v (committer_word c) (e1 ∙ ap Some (committer_is committers s c e2)))
 
 -- ---- lists
 

@@ -5,11 +5,10 @@ use Rattle.serde_json.specs.Data.{Data, Items, no_items, item, Members, no_membe
 use Rattle.serde_json.specs.Find.{get, as_number, as_u64, as_str, as_array, as_object}
 use Rattle.s3_types.specs.declared.limits.TheConstants.{MOST_PARTS}
 use Rattle.s3_types.specs.declared.request.Committer.{Committer}
-use Rattle.s3_types.specs.declared.request.Committer.TheVariants.{Magic, Directory, Partitioned}
 use Rattle.pending_json.specs.declared.fault.RecordFault.{RecordFault}
 use Rattle.pending_json.specs.declared.fault.RecordFault.TheVariants.{MissingField, WrongKind, WrongVersion, ExtraField}
 use Rattle.pending_json.specs.Pending.{fit}
-use Rattle.pending_json.specs.Trees.{committer_word}
+use Rattle.pending_json.specs.Committers.{committer_of}
 
 -- a value that is of its field's kind
 abbrev pub of_kind : {A : Type 0} → List ℕ → Option A → Result A RecordFault
@@ -53,10 +52,6 @@ as_bucket d = option_and_then (kept is_bucket) (as_str d)
 -- an object's key
 abbrev pub as_key : Data → Option (List ℕ)
 as_key d = option_and_then (kept is_key) (as_str d)
-
--- the committer of a word
-abbrev pub committer_of : List ℕ → Option Committer
-committer_of word = if bytes_eq word (committer_word Magic) then Some Magic else (if bytes_eq word (committer_word Directory) then Some Directory else (if bytes_eq word (committer_word Partitioned) then Some Partitioned else None))
 
 -- a committer
 abbrev pub as_committer : Data → Option Committer

@@ -4,6 +4,7 @@ pub mod Groups
 pub mod Pending
 pub mod Reading
 pub mod Records
+pub mod Committers
 pub mod Trees
 pub mod Sending
 pub mod Prelude

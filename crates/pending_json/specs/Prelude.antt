@@ -1,11 +1,12 @@
 -- Definitions of this crate and of those below it that specifications and proofs cite, passed on from one place. Declares nothing.
 pub use Rattle.json.specs.Lex.{tokens}
+pub use Rattle.pending_json.specs.Committers.{coded_committer, committer_word}
 pub use Rattle.pending_json.specs.Fault.{Gives, wanting}
 pub use Rattle.pending_json.specs.Fields.{all_of, as_bucket, as_committer, as_key, as_tag, as_tags, as_texts, as_u32, as_whole, as_word, field, is_count, is_tag_text, members_in, of_kind, only_fields, sizes_in, tag_of}
 pub use Rattle.pending_json.specs.Pending.{Pending, are_sizes, are_tags, fit}
 pub use Rattle.pending_json.specs.Reading.{is_field_of, parsed, tree_read}
 pub use Rattle.pending_json.specs.Records.{IsPending, IsSet, Spell}
-pub use Rattle.pending_json.specs.Trees.{committer_word, pending_tree, set_tree, success_tree, tag_digits, texts, version_of, whole, wholes, with_stamp}
+pub use Rattle.pending_json.specs.Trees.{pending_tree, set_tree, success_tree, tag_digits, texts, version_of, whole, wholes, with_stamp}
 pub use Rattle.s3_types.specs.Prelude.{AllByRecursion, FateMap, IsUtf8, Spelled, decimal, ends_with, is_answer, is_bucket, is_job_id, is_key, is_lt, is_plain_tag, is_utf8, join_with_byte, list_all, list_any, match_ordering, option_map, ordering_reverse, sum, text_eq, ◌>>=◌}
 pub use Rattle.s3_types.specs.Spelling.{actor_text}
 pub use Rattle.s3_types.specs.declared.fates.Fate.{Fate}

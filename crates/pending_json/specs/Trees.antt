@@ -3,8 +3,7 @@ use Rattle.std.specs.Prelude.{ℕ, Bool, true, false, List, map, codes, Option, 
 use Rattle.s3_types.specs.Prelude.{Spelled}
 use Rattle.serde_json.specs.Data.{unsigned, Data, number, string, array, object, Items, Members, no_members, member}
 use Rattle.serde_json.specs.View.{items_of}
-use Rattle.s3_types.specs.declared.request.Committer.{Committer}
-use Rattle.s3_types.specs.declared.request.Committer.TheVariants.{Magic, Directory, Partitioned}
+use Rattle.pending_json.specs.Committers.{committer_word}
 use Rattle.pending_json.specs.Pending.{Pending}
 use Rattle.pending_json.specs.declared.records.PendingSet.{PendingSet}
 use Rattle.pending_json.specs.declared.records.SuccessMark.{SuccessMark}
@@ -62,12 +61,6 @@ set_tree s = object
     (member (codes "kind") (string (codes "pendingset"))
     (member (codes "task") (whole s.task)
     (member (codes "version") (whole 1) no_members))))))
-
--- a committer's name as `_SUCCESS` spells it
-abbrev pub committer_word : Committer → List ℕ
-committer_word Magic = codes "magic"
-committer_word Directory = codes "directory"
-committer_word Partitioned = codes "partitioned"
 
 -- a stamp, where there is one, before other members
 abbrev pub with_stamp : Option ℕ → Members → Members

@@ -25,6 +25,7 @@ ghost use Rattle.pending_json.specs.Reading.{is_field_of, pending_of, set_of, su
 ghost use Rattle.pending_json.specs.Records.{IsPending, IsSet, IsMark, IsLeastOther, Spell};
 ghost use Rattle.pending_json.specs.Trees.{pending_tree, set_tree, success_tree};
 
+mod committers;
 mod drafts;
 mod fault;
 mod fields;
@@ -44,6 +45,7 @@ mod table;
 mod tags;
 mod texts;
 
+pub use committers::{committer_of, committer_word};
 pub use fault::RecordFault;
 pub use pending::PendingUpload;
 pub use records::{PendingList, PendingSet, SuccessMark};

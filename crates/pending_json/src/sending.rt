@@ -4,11 +4,12 @@ ghost use Rattle.std.specs.Option.{option_copied};
 ghost use Rattle.serde_json.specs.Data.{array, string};
 ghost use Rattle.serde_json.specs.View.{items_of};
 ghost use Rattle.pending_json.specs.Sending.{SendsMember, SendsSizes, SendsStamp};
-ghost use Rattle.pending_json.specs.Trees.{whole, texts, wholes, tag_digits, version_of, pending_tree, set_tree, committer_word, success_tree};
+ghost use Rattle.pending_json.specs.Trees.{whole, texts, wholes, tag_digits, version_of, pending_tree, set_tree, success_tree};
 
+use crate::committers::committer_word;
 use crate::pending::PendingUpload;
 use crate::records::{PendingSet, SuccessMark};
-use s3_types::{Committer, SizeList, Tag, Text};
+use s3_types::{SizeList, Tag, Text};
 use serde::{Described, Serialize, Serializer};
 
 /// The version of the form of a set and of a marker.
@@ -148,16 +149,6 @@ impl Serialize for PendingSet {
         send_whole(out, "task", u64::from(self.task))?;
         send_whole(out, "version", VERSION)?;
         out.end_map()
-    }
-}
-
-fn committer_word(committer: Committer) -> &'static str
-    ensures { result.now ≡ committer_word committer }
-{
-    match committer {
-        Committer::Magic => "magic",
-        Committer::Directory => "directory",
-        Committer::Partitioned => "partitioned",
     }
 }
 

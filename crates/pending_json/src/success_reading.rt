@@ -3,12 +3,13 @@ ghost use Rattle.serde_json.specs.View.{view, members_view};
 ghost use Rattle.serde_json.specs.Find.{get};
 ghost use Rattle.pending_json.specs.declared.records.SuccessMark.{SuccessMark};
 ghost use Rattle.pending_json.specs.Fault.{Gives};
-ghost use Rattle.pending_json.specs.Fields.{field, of_kind_if, as_whole, as_committer, committer_of};
+ghost use Rattle.pending_json.specs.Fields.{field, of_kind_if, as_whole, as_committer};
 ghost use Rattle.pending_json.specs.Groups.{mark_end_in, success_by};
 ghost use Rattle.pending_json.specs.Reading.{success_of};
 ghost use Rattle.pending_json.specs.Records.{Spell};
 ghost use Rattle.pending_json.specs.Trees.{success_tree};
 
+use crate::committers::committer_of;
 use crate::fault::{RecordFault, wrong_kind};
 use crate::fields::{members_of, str_field, version_field, word_field};
 use crate::parsing::tree;
@@ -18,17 +19,6 @@ use crate::texts::texts_field;
 use s3_types::{Committer, Text, let_go};
 use serde_json::{Map, Value};
 use std::alloc::Global;
-
-fn committer_of(word: &str) -> Option<Committer>
-    ensures { result ≡ committer_of word.now }
-{
-    match word {
-        "magic" => Some(Committer::Magic),
-        "directory" => Some(Committer::Directory),
-        "partitioned" => Some(Committer::Partitioned),
-        _ => None,
-    }
-}
 
 /// A committer's word.
 fn committer_field(alloc: Global, value: &Value, name: &str) -> Result<Committer, RecordFault>

@@ -1,0 +1,45 @@
+-- The committers by word and by number.
+use Rattle.std.specs.Prelude.{◌≡◌, ℕ, zero, suc, refl, List, [], ◌∷◌, Option, Some, None, codes, bytes_eq, if◌then◌else◌}
+use Rattle.s3_types.specs.Prelude.{Coded, code_by, coded_ℕ}
+use Rattle.s3_types.specs.declared.request.Committer.{Committer}
+use Rattle.s3_types.specs.declared.request.Committer.TheVariants.{Magic, Directory, Partitioned}
+
+-- all of them
+abbrev pub committers : List Committer
+committers = Magic ∷ Directory ∷ Partitioned ∷ []
+
+-- a committer's name as scripts and `_SUCCESS` spell it
+abbrev pub committer_word : Committer → List ℕ
+committer_word Magic = codes "magic"
+committer_word Directory = codes "directory"
+committer_word Partitioned = codes "partitioned"
+
+-- the first of these committers that a word names
+abbrev pub committer_among : List Committer → List ℕ → Option Committer
+committer_among [] word = None
+committer_among (c ∷ cs) word = if bytes_eq word (committer_word c) then Some c else committer_among cs word
+
+-- the committer of a word
+abbrev pub committer_of : List ℕ → Option Committer
+committer_of word = committer_among committers word
+
+-- committers by number
+abbrev pub committer_number : Committer → ℕ
+committer_number Magic = 0
+committer_number Directory = 1
+committer_number Partitioned = 2
+
+-- the committer of a number
+abbrev pub numbered_committer : ℕ → Committer
+numbered_committer zero = Magic
+numbered_committer (suc zero) = Directory
+numbered_committer (suc (suc n)) = Partitioned
+
+-- a committer's number gives the committer again
+abbrev pub committer_again : (c : Committer) → numbered_committer (committer_number c) ≡ c
+committer_again Magic = refl
+committer_again _ = refl
+
+-- committers are told apart by their numbers
+abbrev pub coded_committer : Coded Committer
+coded_committer = code_by ℕ coded_ℕ committer_number numbered_committer committer_again
