@@ -1,5 +1,5 @@
 -- What a clean has left falls.
-use Rattle.cleanup.proofs.Common.{AbortUpload, Aborting, Clean, CleanOver, CleansEnd, ClusterDelete, Committer, Directory, IfSome, Job, List, Magic, More, Naming, None, Option, Partitioned, Removing, Request, Scene, Some, UploadRef, Walked, Walking, Whole, aborting, adds_key, all_go, answer, ap, apply, arith, begins, clean_asks, clean_hears, codes, false, filter, growth, job_script, left_of, length, one_if, one_most, refl, removing, sets_upload, subst, sweep_asks, sweep_hears, sweep_laws, sweep_start, sweeping, sym, upload_laws, uploads_after, uploads_left, walked_uploads, walking, ℕ, ◌++◌, ◌+◌, ◌<◌, ◌≡◌, ◌≤◌}
+use Rattle.cleanup.proofs.Common.{AbortUpload, Aborting, Clean, CleanOver, CleansEnd, ClusterDelete, Committer, IfSome, Job, List, Magic, More, Naming, None, Option, Removing, Request, Scene, Some, UploadRef, Walked, Walking, Whole, aborting, adds_key, all_go, answer, ap, apply, arith, begins, clean_asks, clean_hears, codes, false, filter, growth, job_script, left_of, length, one_if, one_most, refl, removing, sets_upload, subst, sweep_asks, sweep_hears, sweep_laws, sweep_start, sweeping, sym, upload_laws, uploads_after, uploads_left, walked_uploads, walking, ℕ, ◌++◌, ◌+◌, ◌<◌, ◌≡◌, ◌≤◌}
 use Rattle.std.specs.FinMap as fin
 use Rattle.magic_paths.specs.Layout as layout
 use Rattle.job_protocol.specs.Cleanups.{Sweeping}
@@ -18,16 +18,14 @@ after_keeps Magic j s r a f =
     let o = sweep_laws.others j.dest.bucket (layout.magic_prefix j.dest.key j.job) sweep_start s r in
     let z : one_if (adds_key r) ≡ 0 = ap one_if a in
     omega (arith, o, z)
-after_keeps Directory j s r a f = let e = ap (λ m. length (filter (begins (layout.cluster_prefix j.job)) (fin.keys m))) f in omega (arith, e)
-after_keeps Partitioned j s r a f = let e = ap (λ m. length (filter (begins (layout.cluster_prefix j.job)) (fin.keys m))) f in omega (arith, e)
+after_keeps _ j s r a f = let e = ap (λ m. length (filter (begins (layout.cluster_prefix j.job)) (fin.keys m))) f in omega (arith, e)
 
 after_rises : (c : Committer) (j : Job) (s : Scene) (r : Request) → after_left c j (apply s r) ≤ after_left c j s + 1
 after_rises Magic j s r =
     let o = sweep_laws.others j.dest.bucket (layout.magic_prefix j.dest.key j.job) sweep_start s r in
     let z = one_most (adds_key r) in
     omega (arith, o, z)
-after_rises Directory j s r = let o = growth.files (layout.cluster_prefix j.job) s r in omega (arith, o)
-after_rises Partitioned j s r = let o = growth.files (layout.cluster_prefix j.job) s r in omega (arith, o)
+after_rises _ j s r = let o = growth.files (layout.cluster_prefix j.job) s r in omega (arith, o)
 
 aborting_left : (j : Job) (us : List UploadRef) (s : Scene) → left_at j (aborting j.committer us) s ≡ length us + after_left j.committer j s
 aborting_left j us s = grind arith

@@ -1,5 +1,5 @@
 -- Places among what a sparing clean listed.
-use Rattle.cleanup.proofs.Common.{Bool, CleanEnd, Committer, Directory, List, Magic, None, Option, Partitioned, Reply, Script, Some, UploadRef, abort_asks, aborting_from, all_of, ap, arith, behind, delete_asks, drop, get_asks, get_file_asks, keys_on, length, length-drop, lists_keys, places_of, read_asks, reading_from, refl, remove_asks, sparing_at, sparing_of, sym, true, within, within_of, ℕ, ◌++◌, ◌<◌, ◌∙◌, ◌≡◌}
+use Rattle.cleanup.proofs.Common.{Bool, CleanEnd, Committer, List, Magic, None, Option, Reply, Script, Some, UploadRef, abort_asks, aborting_from, all_of, ap, arith, behind, delete_asks, drop, get_asks, get_file_asks, keys_on, length, length-drop, lists_keys, places_of, read_asks, reading_from, refl, remove_asks, sparing_at, sparing_of, sym, true, within, within_of, ℕ, ◌++◌, ◌<◌, ◌∙◌, ◌≡◌}
 use Rattle.job_protocol.specs.Sparing.{Sparing, sparing_asks, sparing_hears, sparing_over, names, deleting, removing, aborting, reading_on}
 use Rattle.cleanup.proofs.Places.{some_so, some_at, drop_behind}
 use Rattle.cleanup.specs.declared.sparing_held.Held.{Held}
@@ -24,11 +24,8 @@ next_behind at step n len xs e l = ap (λ m. drop m xs) (e ∙ ap (behind at ste
 pub reads_key : (w : Script) (c : Committer) (h : Held) → c ≡ Magic → get_asks w.dest.bucket (drop h.at h.records) ≡ read_asks c w (drop h.at (places_of c h))
 reads_key w c h g = grind arith
 
-pub reads_file : (w : Script) (c : Committer) (h : Held) → c ≡ Directory → get_file_asks (drop h.at h.paths) ≡ read_asks c w (drop h.at (places_of c h))
+pub reads_file : (w : Script) (c : Committer) (h : Held) → (c ≡ Magic → ⊥) → get_file_asks (drop h.at h.paths) ≡ read_asks c w (drop h.at (places_of c h))
 reads_file w c h g = grind arith
-
-pub reads_partition : (w : Script) (c : Committer) (h : Held) → c ≡ Partitioned → get_file_asks (drop h.at h.paths) ≡ read_asks c w (drop h.at (places_of c h))
-reads_partition w c h g = grind arith
 
 -- ---- by the stage
 

@@ -1,6 +1,6 @@
 -- A clean as it is kept.
 use Rattle.std.specs.Prelude.{ℕ, nat_lt, Bool, true, cond, List, [], ◌∷◌, drop, length}
-use Rattle.job_protocol.specs.Prelude.{Committer, Magic, Directory, Partitioned, UploadRef, Sweep, Clean, Walking, Aborting, Naming, CleanOver, removing}
+use Rattle.job_protocol.specs.Prelude.{Committer, Magic, UploadRef, Sweep, Clean, Walking, Aborting, Naming, CleanOver, removing}
 use Rattle.job_model.specs.declared.ends.CleanEnd.TheVariants as ends
 use Rattle.job_protocol.specs.Cleanups.{Sweeping}
 use Rattle.cleanup.specs.declared.held.Held.{Held}
@@ -38,8 +38,7 @@ within_of h = within h.stage h.at (length h.uploads) (length h.paths)
 -- the stage once all uploads are aborted
 abbrev pub stage_after : Committer → Stage
 stage_after Magic = stages.Sweeping
-stage_after Directory = stages.Naming
-stage_after Partitioned = stages.Naming
+stage_after _ = stages.Naming
 
 -- the stage at a place among the uploads, or behind the last one
 abbrev pub abort_stage : Committer → ℕ → ℕ → Stage

@@ -1,6 +1,6 @@
 -- What a clean has left in a scene.
 use Rattle.std.specs.Prelude.{ℕ, ◌+◌, ◌++◌, length, codes}
-use Rattle.job_protocol.specs.Prelude.{Scene, Committer, Magic, Directory, Partitioned, Job, Driving, sweep_start, Clean, Walking, Aborting, Naming, Removing, CleanOver, uploads_left, sweep_left}
+use Rattle.job_protocol.specs.Prelude.{Scene, Committer, Magic, Job, Driving, sweep_start, Clean, Walking, Aborting, Naming, Removing, CleanOver, uploads_left, sweep_left}
 use Rattle.magic_paths.specs.Layout as layout
 use Rattle.job_protocol.specs.Cleanups.{Sweeping}
 use Rattle.list_walk.specs.Left.{files_left}
@@ -8,8 +8,7 @@ use Rattle.list_walk.specs.Left.{files_left}
 -- once the uploads are aborted: the sweep, or the list of the files and each of them
 abbrev pub after_left : Committer → Job → Scene → ℕ
 after_left Magic j s = sweep_left j.dest.bucket (layout.magic_prefix j.dest.key j.job) sweep_start s
-after_left Directory j s = 1 + files_left (layout.cluster_prefix j.job) s
-after_left Partitioned j s = 1 + files_left (layout.cluster_prefix j.job) s
+after_left _ j s = 1 + files_left (layout.cluster_prefix j.job) s
 
 -- the requests that a clean has yet to send
 abbrev pub left_at : Job → Clean → Scene → ℕ

@@ -1,6 +1,6 @@
 -- A sparing clean as it is kept.
 use Rattle.std.specs.Prelude.{ℕ, nat_lt, Bool, true, false, not, List, [], ◌∷◌, drop, length, Option, Some, None}
-use Rattle.job_protocol.specs.Prelude.{Committer, Magic, Directory, Partitioned, Request, UploadRef, Script, keys_on}
+use Rattle.job_protocol.specs.Prelude.{Committer, Magic, Request, UploadRef, Script, keys_on}
 use Rattle.job_model.specs.declared.ends.CleanEnd.TheVariants as ends
 use Rattle.job_protocol.specs.Sparing.{Sparing, Walking, Naming, Reading, Aborting, SparingOver, record_request, deleting, removing}
 use Rattle.cleanup.specs.declared.sparing_held.Held.{Held}
@@ -10,20 +10,17 @@ use Rattle.cleanup.specs.declared.sparing_held.Stage.TheVariants as stages
 -- a magic job's clean lists keys of the store, and a staging job's files of the cluster
 abbrev pub lists_keys : Committer → Bool
 lists_keys Magic = true
-lists_keys Directory = false
-lists_keys Partitioned = false
+lists_keys _ = false
 
 -- what is listed first
 abbrev pub start_stage : Committer → Stage
 start_stage Magic = stages.Walking
-start_stage Directory = stages.Naming
-start_stage Partitioned = stages.Naming
+start_stage _ = stages.Naming
 
 -- by the committer the one or the other
 abbrev pub by_committer : {X : Type 0} → Committer → X → X → X
 by_committer Magic magic staging = magic
-by_committer Directory magic staging = staging
-by_committer Partitioned magic staging = staging
+by_committer _ magic staging = staging
 
 -- the places that are read: the keys of a magic job's records, or the paths of a staging job's files
 abbrev pub places_of : Committer → Held → List (List ℕ)

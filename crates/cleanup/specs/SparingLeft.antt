@@ -1,6 +1,6 @@
 -- What a sparing clean has left in a scene.
 use Rattle.std.specs.Prelude.{ℕ, ◌+◌, ◌*◌, length}
-use Rattle.job_protocol.specs.Prelude.{Scene, Committer, Magic, Directory, Partitioned, Job, Driving, last_of, keys_left}
+use Rattle.job_protocol.specs.Prelude.{Scene, Committer, Magic, Job, Driving, last_of, keys_left}
 use Rattle.magic_paths.specs.Layout as layout
 use Rattle.list_walk.specs.Left.{files_left}
 use Rattle.job_protocol.specs.Sparing.{Sparing, Walking, Naming, Reading, Aborting, Deleting, Removing, SparingOver}
@@ -9,8 +9,7 @@ use Rattle.cleanup.specs.SparingFits.{most_commits}
 -- the most uploads that a place names: a record its own, a set those of an attempt's files
 abbrev pub named_most : Committer → ℕ
 named_most Magic = 1
-named_most Directory = most_commits
-named_most Partitioned = most_commits
+named_most _ = most_commits
 
 -- the reads of so many places, with the abort of all that they may name, of so many more uploads, and the deletion of so many things
 abbrev pub reading_left : Committer → (places named all : ℕ) → ℕ

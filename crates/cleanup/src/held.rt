@@ -45,8 +45,7 @@ fn after_uploads(committer: Committer) -> Stage
 {
     match committer {
         Committer::Magic => Stage::Sweeping,
-        Committer::Directory => Stage::Naming,
-        Committer::Partitioned => Stage::Naming,
+        _ => Stage::Naming,
     }
 }
 

@@ -59,8 +59,7 @@ fn start_stage(committer: Committer) -> Stage
 {
     match committer {
         Committer::Magic => Stage::Walking,
-        Committer::Directory => Stage::Naming,
-        Committer::Partitioned => Stage::Naming,
+        _ => Stage::Naming,
     }
 }
 
@@ -90,8 +89,7 @@ impl Held {
             Committer::Magic => {
                 get_request(plan.dest.bucket(), self.records.as_slice(), self.at)
             }
-            Committer::Directory => get_file_request(self.paths.as_slice(), self.at),
-            Committer::Partitioned => get_file_request(self.paths.as_slice(), self.at),
+            _ => get_file_request(self.paths.as_slice(), self.at),
         }
     }
 
@@ -146,8 +144,7 @@ impl Held {
     {
         match committer {
             Committer::Magic => self.delete_from(0),
-            Committer::Directory => self.remove_from(0),
-            Committer::Partitioned => self.remove_from(0),
+            _ => self.remove_from(0),
         }
     }
 
@@ -171,8 +168,7 @@ impl Held {
     {
         match committer {
             Committer::Magic => self.records.len(),
-            Committer::Directory => self.paths.len(),
-            Committer::Partitioned => self.paths.len(),
+            _ => self.paths.len(),
         }
     }
 

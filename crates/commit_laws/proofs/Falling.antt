@@ -1,6 +1,6 @@
 -- a commit has less left after each sending
 use Rattle.std.proofs.Common.{◌≡◌, ℕ, zero, suc, ◌+◌, ◌-◌, ◌*◌, ◌<◌, ◌≤◌, nat_lt, refl, ap, sym, subst, ◌∙◌, Bool, true, false, cond, arith, List, [], ◌∷◌, ◌++◌, map, length, Option, Some, None, length-append}
-use Rattle.job_protocol.specs.Prelude.{insert_key, lookup, unwrap_or, option_map, text_cmp, Path, Scene, answer, apply, effect, Committer, Directory, Partitioned, Mode, Replace, Request, Reply, Outcome, Answered, Slow, RequestLost, ReplyLost, Pending, PendingSet, Who, same_name, placed, Script, Job, CommitEnd, Picks, files_picked, wanted_below, ordered, wanted_paths, same_path, dirs_of, partitions, partition_prefix, Sweep, sweep_start, sweep_asks, sweep_hears, Turn, fresh_turn, again, follow, first_turns, dealt, nth, chosen, undo, in_turn, abort, deletion, revert, is_tried, is_unsent, Sets, picks_of, all_commits, set_read, set_request, Commit, Fetching, Replacing, Completing, Marking, Reverting, CommitOver, completing, is_no_magic, replaced, replacing, swept, decided, fetched, reverting, worn_completion, commit_asks, commit_hears, commit_misses, Committing, declared_of, read_script, sets_in, sets_after, with_set, commit_wants, commit_told, FitsSweep, keys_left, sweep_left, adds_key, one_if}
+use Rattle.job_protocol.specs.Prelude.{insert_key, lookup, unwrap_or, option_map, text_cmp, Path, Scene, answer, apply, effect, Committer, Magic, Mode, Displaced, Nothing, Everything, Partitions, displaced, emptied, Request, Reply, Outcome, Answered, Slow, RequestLost, ReplyLost, Pending, PendingSet, Who, same_name, placed, Script, Job, CommitEnd, Picks, files_picked, wanted_below, ordered, wanted_paths, same_path, dirs_of, partitions, partition_prefix, Sweep, sweep_start, sweep_asks, sweep_hears, Turn, fresh_turn, again, follow, first_turns, dealt, nth, chosen, undo, in_turn, abort, deletion, revert, is_tried, is_unsent, Sets, picks_of, all_commits, set_read, set_request, Commit, Fetching, Replacing, Completing, Marking, Reverting, CommitOver, completing, is_no_magic, replacing, swept, decided, fetched, reverting, worn_completion, commit_asks, commit_hears, commit_misses, Committing, declared_of, read_script, sets_in, sets_after, with_set, commit_wants, commit_told, FitsSweep, keys_left, sweep_left, adds_key, one_if}
 use Rattle.path_keys.proofs.Common.{and_parts, below_is, append-nil, length-map, lt, flat_map-append}
 use Rattle.job_protocol.proofs.Members.{none_some, some_is}
 use Rattle.list_walk.proofs.Counting.{count, count_more}
@@ -220,19 +220,23 @@ module _ (most : ℕ) (j : Job) (sc : Scene) (sets : Sets) where
   no_prefix : (w : Script) → w.lanes ≡ j.lanes → left_of most j (replacing w sets []) sc ≤ all_now + j.retries + deletion_left j (widest most sets) sc
   no_prefix w e = let a = begun_left w e in omega (arith, a)
 
-  replaced_left : (c : Committer) (mode : Mode) → c ≡ j.committer → left_of most j (replacing (read_script j sets) sets (replaced c mode (read_script j sets) (picks_of sets))) sc ≤ all_now + j.retries + deletion_left j (widest most sets) sc
-  replaced_left Directory Replace e = some_prefixes (read_script j sets) (replaced Directory Replace (read_script j sets) (picks_of sets)) refl (omega arith) (λ n. ap (λ x. if_staging x n) (sym e))
-  replaced_left Partitioned Replace e =
+  displacing : (c : Committer) (m : Mode) → (displaced c m ≡ Nothing → ⊥) → (n : ℕ) → if_staging c n ≡ n
+  displacing Magic m h n = absurd (h refl)
+  displacing _ m h n = refl
+
+  replaced_left : (d : Displaced) → displaced j.committer j.mode ≡ d → left_of most j (replacing (read_script j sets) sets (emptied d j.dest (partitions (wanted_paths (read_script j sets) (picks_of sets))))) sc ≤ all_now + j.retries + deletion_left j (widest most sets) sc
+  replaced_left Nothing e = no_prefix (read_script j sets) refl
+  replaced_left Everything e = some_prefixes (read_script j sets) (emptied Everything j.dest []) refl (omega arith) (displacing j.committer j.mode (λ none. cc))
+  replaced_left Partitions e =
       let w = read_script j sets in
       let ps = partitions (wanted_paths w (picks_of sets)) in
       let a = partitions_length most j sets (picks_of sets) in
       let b = length-map ps (partition_prefix w) in
-      some_prefixes w (map (partition_prefix w) ps) refl (omega (arith, a, b)) (λ n. ap (λ x. if_staging x n) (sym e))
-  replaced_left _ _ e = no_prefix (read_script j sets) refl
+      some_prefixes w (map (partition_prefix w) ps) refl (omega (arith, a, b)) (displacing j.committer j.mode (λ none. cc))
 
   decided_left : (o : Option CommitEnd) → left_of most j (decided (read_script j sets) sets o) sc ≤ all_now + j.retries + deletion_left j (widest most sets) sc
   decided_left (Some end) = omega arith
-  decided_left None = replaced_left j.committer j.mode refl
+  decided_left None = replaced_left (displaced j.committer j.mode) refl
 
 -- after a set there is less than before it
 fetching_left : (most : ℕ) (j : Job) (sc now : Scene) (sets : Sets) (s : PendingSet) (m : ℕ) (b : Bool) → nat_lt (length (sets ++ s ∷ [])) j.tasks ≡ b → any_sweep j now ≤ any_sweep j sc → length s.commits ≤ most

@@ -1,6 +1,6 @@
 -- What holds of a job's commit alone.
 use Rattle.std.specs.Prelude.{◌≡◌, ℕ, ◌+◌, ◌-◌, ◌*◌, ◌<◌, ◌≤◌, max, List, [], ◌∷◌, ◌++◌, length, Option, Some, None}
-use Rattle.job_protocol.specs.Prelude.{Scene, Request, GetObject, ClusterGet, Outcome, Answered, Entry, Reply, Committer, Magic, Directory, Partitioned, answer, apply, effect, PendingSet, run, Follows, WornFirst, Job, CommitEnd, same_path, Sets, set_read, picks_of, all_commits, Commit, Fetching, Replacing, Completing, Marking, Reverting, CommitOver, commit_start, commit_over, stage_of, Turn, sweep_start, sweep_left, adds_key, one_if, Committing, read_script, commit_wants, commit_told}
+use Rattle.job_protocol.specs.Prelude.{Scene, Request, GetObject, ClusterGet, Outcome, Answered, Entry, Reply, Committer, Magic, answer, apply, effect, PendingSet, run, Follows, WornFirst, Job, CommitEnd, same_path, Sets, set_read, picks_of, all_commits, Commit, Fetching, Replacing, Completing, Marking, Reverting, CommitOver, commit_start, commit_over, stage_of, Turn, sweep_start, sweep_left, adds_key, one_if, Committing, read_script, commit_wants, commit_told}
 use Rattle.job_model.specs.declared.ends.CommitEnd.TheVariants as ends
 use Rattle.commit_parts.specs.Tables.{listed}
 use Rattle.commit_laws.specs.Fitting.{FitsCommit}
@@ -79,8 +79,7 @@ any_sweep j s = sweep_left j.dest.bucket [] sweep_start s
 -- the magic committer deletes nothing
 abbrev pub if_staging : Committer → ℕ → ℕ
 if_staging Magic n = 0
-if_staging Directory n = n
-if_staging Partitioned n = n
+if_staging _ n = n
 
 -- a deletion that is to come, where no set has more uploads than so many
 abbrev pub deletion_left : Job → ℕ → Scene → ℕ

@@ -1,5 +1,5 @@
 -- what the picks of the sets that were read write
-use Rattle.commit_parts.proofs.Common.{AreRead, Bool, ClusterGet, Committer, Directory, File, GetObject, HasAll, In, Item, Job, List, Magic, Marking, None, Option, Partitioned, Path, Pending, PendingSet, Place, PutObject, Request, Sets, Some, Who, [], all_commits, ap, arith, bytes_decides, commit_asks, compact_text, cond, declared_of, drop, false, files, files_picked, flat_map, has_path, in_append, in_left, in_map, in_right, inl, inr, insert_key, is_some, items_from, job_script, length, lookup, map, map_in, nat_eq, nth, option_map, ordered, paths_below, picks_of, placed, places_from, read_script, refl, relative_of, same_name, set_request, slice_get, some_is, subst, suc, success_tree, sym, take, text_cmp, text_eq, true, unwrap_or, wanted, wanted_below, wanted_paths, zero, ℕ, ◌&&◌, ◌++◌, ◌+◌, ◌<◌, ◌∙◌, ◌∷◌, ◌≡◌, ◌≤◌, ◌⊎◌}
+use Rattle.commit_parts.proofs.Common.{AreRead, Bool, ClusterGet, Committer, File, GetObject, HasAll, In, Item, Job, List, Magic, Marking, None, Option, Path, Pending, PendingSet, Place, PutObject, Request, Sets, Some, Who, [], all_commits, ap, arith, bytes_decides, commit_asks, compact_text, cond, declared_of, drop, false, files, files_picked, flat_map, has_path, in_append, in_left, in_map, in_right, inl, inr, insert_key, is_some, items_from, job_script, length, lookup, map, map_in, nat_eq, nth, option_map, ordered, paths_below, picks_of, placed, places_from, read_script, refl, relative_of, same_name, set_request, slice_get, some_is, subst, suc, success_tree, sym, take, text_cmp, text_eq, true, unwrap_or, wanted, wanted_below, wanted_paths, zero, ℕ, ◌&&◌, ◌++◌, ◌+◌, ◌<◌, ◌∙◌, ◌∷◌, ◌≡◌, ◌≤◌}
 use Rattle.commit_parts.proofs.Trying.{take_next}
 use Rattle.std.specs.Prelude.{Result, IfOk}
 use Rattle.path_keys.proofs.Common.{IfOk-weaker, drop_of_length-le, nat_tests, map-append, flat_map-append, append-nil, take_all, get_or_from_slice_get}
@@ -178,7 +178,7 @@ wanted_listed r j sets places keys h g all =
 pub stored_asked : {E : Type 0} (r : Result Request E) (j : Job) (t : ℕ) (c : Committer) → c ≡ Magic → c ≡ j.committer → IfOk r (λ q. q ≡ GetObject j.dest.bucket (layout.set_key j.dest.key j.job t)) → IfOk r (λ q. q ≡ set_request j.committer (job_script j) t)
 stored_asked r j t c m e h = let P : Committer → Type 0 = λ x. IfOk r (λ q. q ≡ set_request x (job_script j) t) in subst P (sym m ∙ e) h
 
-pub staged_asked : {E : Type 0} (r : Result Request E) (j : Job) (t : ℕ) (c : Committer) → (c ≡ Directory) ⊎ (c ≡ Partitioned) → c ≡ j.committer → IfOk r (λ q. q ≡ ClusterGet (layout.staged_set_path j.job t)) → IfOk r (λ q. q ≡ set_request j.committer (job_script j) t)
+pub staged_asked : {E : Type 0} (r : Result Request E) (j : Job) (t : ℕ) (c : Committer) → (c ≡ Magic → ⊥) → c ≡ j.committer → IfOk r (λ q. q ≡ ClusterGet (layout.staged_set_path j.job t)) → IfOk r (λ q. q ≡ set_request j.committer (job_script j) t)
 staged_asked r j t c h g e = grind arith
 
 pub mark_put : {E : Type 0} (r : Result Request E) (j : Job) (sets : Sets) (bucket key bytes job : List ℕ) (files : List (List ℕ)) → IfOk r (λ q. q ≡ PutObject bucket key bytes None) → bucket ≡ j.dest.bucket → key ≡ layout.success_key j.dest.key

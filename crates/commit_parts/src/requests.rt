@@ -35,8 +35,7 @@ pub fn set_request(alloc: Global, plan: &JobPlan, task: u32) -> Result<Request, 
 {
     match plan.committer {
         Committer::Magic => stored_set(alloc, plan, task),
-        Committer::Directory => staged_set(alloc, plan, task),
-        Committer::Partitioned => staged_set(alloc, plan, task),
+        _ => staged_set(alloc, plan, task),
     }
 }
 

@@ -1,5 +1,5 @@
 -- Checks and deletions lead where the operations that hold them go.
-use Rattle.conflict.proofs.Common.{Bool, Checking, ChecksTell, Committer, DeletionsTell, List, Magic, Mode, None, Option, Page, Picks, Replace, Reply, Script, Sets, Some, Sweep, Who, [], ap, commit_after_check, commit_deleting, deleted, deletion_of, found_below, is_no_magic, left_after, partitions, refl, replaced, replacing, sweep_hears, sweep_start, swept, swept_on, task_commit_hears, wanted_paths, ℕ, ◌∙◌, ◌∷◌, ◌≡◌}
+use Rattle.conflict.proofs.Common.{Bool, Checking, ChecksTell, DeletionsTell, List, None, Option, Page, Reply, Script, Sets, Some, Sweep, Who, [], ap, commit_after_check, commit_deleting, deletion_of, found_below, is_no_magic, left_after, refl, replaced, replacing, sweep_hears, sweep_start, swept, swept_on, task_commit_hears, ℕ, ◌∙◌, ◌∷◌, ◌≡◌}
 
 -- ---- a check
 
@@ -14,9 +14,6 @@ checks_tell = record { asks = λ w a k d ds. refl; goes = check_goes }
 
 -- ---- a deletion
 
-same_prefixes : (w : Script) (picks : Picks) (c : Committer) (m : Mode) → m ≡ Replace → replaced c m w picks ≡ deleted c w.dest (partitions (wanted_paths w picks))
-same_prefixes w picks c m e = ap (λ m. replaced c m w picks) e ∙ (elim c as (λ c. replaced c Replace w picks ≡ deleted c w.dest (partitions (wanted_paths w picks))) [ Magic ↦ refl | _ ↦ refl ])
-
 goes_by : (w : Script) (sets : Sets) (p : List ℕ) (ps : List (List ℕ)) (o : Option Sweep) → swept w sets p ps o ≡ commit_deleting w sets (swept_on (deletion_of w [] sweep_start).spared p ps o)
 goes_by w sets p ps (Some s) = refl
 goes_by w sets p [] None = refl
@@ -24,7 +21,7 @@ goes_by w sets p (q ∷ qs) None = refl
 
 pub deletions_tell : DeletionsTell
 deletions_tell = record {
-  prefixes = λ w picks e. same_prefixes w picks w.committer w.mode e;
+  prefixes = λ w picks e. ap (λ m. replaced w.committer m w picks) e;
   starts = λ w sets prefixes. elim prefixes as (λ ps. replacing w sets ps ≡ commit_deleting w sets (deletion_of w ps sweep_start)) [ [] ↦ refl | p ∷ ps ↦ refl ];
   asks = λ w sets p ps sweep missed. refl;
   goes = λ w sets p ps sweep missed r. goes_by w sets p ps (sweep_hears (is_no_magic w) sweep r);

@@ -1,6 +1,6 @@
 -- The deletion of what a replace mode does not keep, by the prefixes below which it still deletes.
-use Rattle.std.specs.Prelude.{ℕ, not, List, [], ◌∷◌, ◌++◌, codes, map, Option, Some, None}
-use Rattle.job_protocol.specs.Prelude.{begins, Request, Committer, Magic, Directory, Partitioned, Reply, Path, below, Sweep, sweep_start, sweep_asks, sweep_hears, FitsSweep}
+use Rattle.std.specs.Prelude.{ℕ, not, List, [], ◌∷◌, ◌++◌, codes, Option, Some, None}
+use Rattle.job_protocol.specs.Prelude.{begins, Request, Committer, Replace, displaced, emptied, Reply, Path, Sweep, sweep_start, sweep_asks, sweep_hears, FitsSweep}
 
 -- the prefixes, the sweep below the first of them, and the prefix of the keys that stay
 pub record Deletion : Type 0 where
@@ -8,15 +8,9 @@ pub record Deletion : Type 0 where
   pub sweep : Sweep
   pub spared : List ℕ
 
--- what the keys below a partition begin with
-abbrev pub prefix_below : Path → List ℕ → List ℕ
-prefix_below dest d = below dest.key (d ++ codes "/")
-
 -- below which prefixes a committer's replace mode deletes, where these partitions are written
 abbrev pub deleted : Committer → Path → List (List ℕ) → List (List ℕ)
-deleted Magic dest partitions = []
-deleted Directory dest partitions = (dest.key ++ codes "/") ∷ []
-deleted Partitioned dest partitions = map (prefix_below dest) partitions
+deleted c dest partitions = emptied (displaced c Replace) dest partitions
 
 -- what the keys below a destination's magic directories begin with
 abbrev pub spared : Path → List ℕ

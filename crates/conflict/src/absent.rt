@@ -1,28 +1,12 @@
 ghost use Rattle.std.specs.Prelude.{◌≡◌, ◌++◌, [], false, codes, IfOk, OnOk, Some};
 ghost use Rattle.s3_types.specs.declared.request.Request.TheVariants.{ListPage};
 ghost use Rattle.path_keys.specs.Paths.{below};
-ghost use Rattle.job_protocol.specs.Conflicts.{checks_partitions};
 ghost use Rattle.conflict.specs.Checks.{check_asks, found_below, is_none, left_after};
 
 use path_keys::S3Path;
-use s3_types::{Committer, Mode, PageLimit, Reply, Request, Text, TextList};
+use s3_types::{PageLimit, Reply, Request, Text, TextList};
 use std::alloc::{AllocError, Global};
 use std::marker::Model;
-
-/// Whether a job's mode is to fail for files in the partitions that it writes. Takes no memory.
-pub fn checks_partitions(committer: Committer, mode: Mode) -> bool
-    ensures { result ≡ checks_partitions committer mode }
-{
-    match committer {
-        Committer::Magic => false,
-        Committer::Directory => false,
-        Committer::Partitioned => match mode {
-            Mode::Fail => true,
-            Mode::Append => false,
-            Mode::Replace => false,
-        },
-    }
-}
 
 /// What the keys below a partition of a destination begin with.
 pub fn partition_prefix(alloc: Global, dest: &S3Path, partition: &Text) -> Result<Text, AllocError>

@@ -9,8 +9,9 @@ ghost use Rattle.conflict.specs.Rechecks.{check_of_plan};
 ghost use Rattle.conflict.specs.Held.{check_at, check_of, after_key};
 ghost use Rattle.conflict.specs.Fits.{FitsLook};
 
-use crate::absent::{CheckAbsent, checks_partitions};
+use crate::absent::CheckAbsent;
 use crate::check_plan::CheckPlan;
+use crate::displacing::checks_partitions;
 use job_model::{CheckEnd, JobPlan};
 use job_setup::{checks_all, first_shown, page_request};
 use list_walk::KeyWalk;

@@ -2,6 +2,8 @@ ghost use Rattle.std.specs.Prelude.{◌≡◌, ◌++◌, ◌∷◌, []};
 ghost use Rattle.s3_types.specs.Pages.{begins};
 ghost use Rattle.job_protocol.specs.Conflicts.{is_below_any, keeps};
 
+use crate::displacing::displaced;
+use job_model::Displaced;
 use s3_types::{Committer, Mode, Text};
 
 /// Whether a path is below a directory.
@@ -25,13 +27,9 @@ fn is_below_any(dirs: &[Text], path: &[u8]) -> bool
 pub fn keeps(committer: Committer, mode: Mode, partitions: &[Text], path: &[u8]) -> bool
     ensures { result ≡ keeps committer mode partitions.now path.now }
 {
-    match mode {
-        Mode::Replace => match committer {
-            Committer::Magic => true,
-            Committer::Directory => false,
-            Committer::Partitioned => !is_below_any(partitions, path),
-        },
-        Mode::Append => true,
-        Mode::Fail => true,
+    match displaced(committer, mode) {
+        Displaced::Nothing => true,
+        Displaced::Everything => false,
+        Displaced::Partitions => !is_below_any(partitions, path),
     }
 }

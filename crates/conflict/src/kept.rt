@@ -1,12 +1,15 @@
 ghost use Rattle.std.specs.Prelude.{◌≡◌, ◌++◌, ◌∷◌, [], codes, map, IfOk, OnOk};
 ghost use Rattle.list_walk.specs.Walks.{sweep_start};
-ghost use Rattle.conflict.specs.Deletions.{prefix_below, deleted, spared, FitsDeletion, deletion_asks, deletion_hears};
+ghost use Rattle.job_protocol.specs.Conflicts.{prefix_below};
+ghost use Rattle.conflict.specs.Deletions.{deleted, spared, FitsDeletion, deletion_asks, deletion_hears};
 
 use crate::absent::partition_prefix;
+use crate::displacing::displaced;
+use job_model::Displaced;
 use list_walk::{AllBut, Sweep};
 use magic_paths::dest_prefix;
 use path_keys::S3Path;
-use s3_types::{Bucket, Committer, Reply, Request, Sequence, Text, TextList, put};
+use s3_types::{Bucket, Committer, Mode, Reply, Request, Sequence, Text, TextList, put};
 use std::alloc::{AllocError, Global};
 use std::marker::Model;
 
@@ -53,10 +56,10 @@ fn prefixes(
 ) -> Result<TextList, AllocError>
     ensures { IfOk result (λ prefixes. prefixes ≡ deleted committer dest.now partitions.now) }
 {
-    match committer {
-        Committer::Magic => Ok(Sequence::new(alloc)),
-        Committer::Directory => whole(alloc, dest),
-        Committer::Partitioned => partition_prefixes(alloc, dest, partitions),
+    match displaced(committer, Mode::Replace) {
+        Displaced::Nothing => Ok(Sequence::new(alloc)),
+        Displaced::Everything => whole(alloc, dest),
+        Displaced::Partitions => partition_prefixes(alloc, dest, partitions),
     }
 }
 

@@ -22,15 +22,17 @@
 mod absent;
 mod check_plan;
 mod dirs;
+mod displacing;
 mod held;
 mod keeping;
 mod kept;
 mod laws;
 mod rechecking;
 
-pub use absent::{CheckAbsent, checks_partitions};
+pub use absent::CheckAbsent;
 pub use check_plan::CheckPlan;
 pub use dirs::partitions;
+pub use displacing::checks_partitions;
 pub use keeping::keeps;
 pub use kept::DeleteKept;
 pub use laws::{checks_end, checks_tell, deletions_tell, partitions_tell};

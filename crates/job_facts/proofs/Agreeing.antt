@@ -1,10 +1,11 @@
 -- The picks that are seen are those of the sets that the driver holds, as its commit goes on.
 use Rattle.job_facts.proofs.Common.{Bool, List, None, Option, Some, [], ap, arith, begins_behind, codes, false, false_true, in_map, inl, inr, length, map_in, not, not-false, or-true, refl, shared_found, subst, suc, sym, true, true_or_false, zero, ℕ, ◌&&◌, ◌++◌, ◌<◌, ◌||◌, ◌∙◌, ◌∷◌, ◌≡◌, ◌≤◌}
 use Rattle.job_protocol.specs.JobCommits.{is_untouched}
-use Rattle.job_facts.specs.Prelude.{is_some, Scene, Request, Reply, Outcome, Answered, Committer, Directory, Partitioned, Mode, Replace, begins, below, dest_prefix, partition_prefix, sweep_hears, Pending, IsLegal, Script, Picks, files, wanted_paths, wanted_at, same_path, picked_below, is_decided, keeps, keeps_of, partitions, again, follow, revert, Sets, all_commits, picks_of, Commit, Fetching, Replacing, Completing, Marking, Reverting, CommitOver, commit_hears, commit_tells, commit_start, is_no_magic, replaced, fetching, reverting, Tabled, IsIn, changed_keys, Told, Facts, Reads, FitsJobCommit, AreDecided, Decides}
+use Rattle.job_facts.specs.Prelude.{is_some, Scene, Request, Reply, Outcome, Answered, begins, below, dest_prefix, partition_prefix, sweep_hears, Pending, IsLegal, Script, Picks, files, wanted_paths, wanted_at, same_path, picked_below, is_decided, keeps_of, partitions, again, follow, revert, Sets, all_commits, picks_of, Commit, Fetching, Replacing, Completing, Marking, Reverting, CommitOver, commit_hears, commit_tells, commit_start, is_no_magic, replaced, fetching, reverting, Tabled, IsIn, changed_keys, Told, Facts, Reads, FitsJobCommit, AreDecided, Decides}
 use Rattle.job_facts.proofs.Legal.{some_dest}
 use Rattle.job_facts.proofs.JobCommitting.{dest_below}
 use Rattle.job_protocol.specs.Conflicts.{is_below_any}
+use Rattle.job_protocol.specs.Prelude.{Displaced, Everything, Nothing, Partitions, displaced, emptied, stays}
 use Rattle.job_facts.proofs.Whose.{attempt}
 use Rattle.job_facts.proofs.Held.{of_sets, task_low, revert_each, missed, worn, tells_so, Course, fetching_so, swept_so, completing_so}
 use Rattle.job_facts.proofs.Wanted.{wanted_here, still_apart}
@@ -33,32 +34,26 @@ partition_is {w = w} j d q =
     ∙ begins_behind w.dest.key (47 ∷ (d ++ codes "/")) (47 ∷ q)
 
 module _ {w : Script} (j : IsLegal w) (picks : Picks) where
-  abbrev Prefixes : Committer → Mode → List (List ℕ)
-  Prefixes c m = replaced c m w picks
-
-  abbrev Keeps : Committer → Mode → List ℕ → Bool
-  Keeps c m q = keeps c m (partitions (wanted_paths w picks)) q
-
-  prefix_of : (c : Committer) (m : Mode) (q : List ℕ) → Keeps c m q ≡ false → (p : List ℕ) × IsIn p (Prefixes c m) × (begins p (below w.dest.key q) ≡ true)
-  prefix_of Directory Replace q h = (dest_prefix w, inl refl, dest_below j q)
-  prefix_of Partitioned Replace q h =
+  prefix_of : (d : Displaced) (q : List ℕ) → stays d (partitions (wanted_paths w picks)) q ≡ false → (p : List ℕ) × IsIn p (emptied d w.dest (partitions (wanted_paths w picks))) × (begins p (below w.dest.key q) ≡ true)
+  prefix_of Nothing q h = absurd (false_true h refl)
+  prefix_of Everything q h = (dest_prefix w, inl refl, dest_below j q)
+  prefix_of Partitions q h =
       let o = below_some (partitions (wanted_paths w picks)) q (not-false (is_below_any (partitions (wanted_paths w picks)) q) h) in
       (partition_prefix w o.0, map_in (partition_prefix w) o.0 (partitions (wanted_paths w picks)) o.1, partition_is j o.0 q ∙ o.2)
-  prefix_of _ _ q h = absurd (false_true h refl)
 
-  not_kept : (c : Committer) (m : Mode) (q p : List ℕ) → IsIn p (Prefixes c m) → begins p (below w.dest.key q) ≡ true → Keeps c m q ≡ false
-  not_kept Directory Replace q p i h = refl
-  not_kept Partitioned Replace q p i h =
+  not_kept : (d : Displaced) (q p : List ℕ) → IsIn p (emptied d w.dest (partitions (wanted_paths w picks))) → begins p (below w.dest.key q) ≡ true → stays d (partitions (wanted_paths w picks)) q ≡ false
+  not_kept Nothing q p i h = absurd i
+  not_kept Everything q p i h = refl
+  not_kept Partitions q p i h =
       let o = in_map (partition_prefix w) p (partitions (wanted_paths w picks)) i in
       ap not (below_one (partitions (wanted_paths w picks)) q o.0 o.1 (sym (partition_is j o.0 q) ∙ ap (λ x. begins x (below w.dest.key q)) (sym o.2) ∙ h))
-  not_kept _ _ q p i h = absurd i
 
   -- what is not kept is below a prefix that is emptied
   pub unkept_prefix : (q : List ℕ) → keeps_of w picks q ≡ false → (p : List ℕ) × IsIn p (replaced w.committer w.mode w picks) × (begins p (below w.dest.key q) ≡ true)
-  unkept_prefix q h = prefix_of w.committer w.mode q h
+  unkept_prefix q h = prefix_of (displaced w.committer w.mode) q h
 
   pub prefix_unkept : (q p : List ℕ) → IsIn p (replaced w.committer w.mode w picks) → begins p (below w.dest.key q) ≡ true → keeps_of w picks q ≡ false
-  prefix_unkept q p i h = not_kept w.committer w.mode q p i h
+  prefix_unkept q p i h = not_kept (displaced w.committer w.mode) q p i h
 
 -- ---- picks that are those of sets
 

@@ -4,7 +4,7 @@ pub use Rattle.job_facts.specs.Emptying.{Empties}
 pub use Rattle.job_facts.specs.Filed.{AllHaveKeys, AreReverts, FoundWithKeys, HasItsKey}
 pub use Rattle.job_facts.specs.Fits.{AllOwn}
 pub use Rattle.job_facts.specs.Laws.{Goes, LeadsTo, MarkersLead, SetAnswered}
-pub use Rattle.job_facts.specs.Prelude.{AbortUpload, Aborting, Actor, AllByRecursion, AllSent, AllUnder, AllWritten, Answered, ApartFiles, AreAttempts, AreCommits, AreDecided, Attempt, BadPartNumber, Begun, BucketContent, Checking, Clean, CleanOver, Clearing, Clears, ClearsAlone, Closed, ClusterDelete, ClusterGet, ClusterList, ClusterPut, ClusterRename, Commit, CommitEnd, CommitOver, CommitStandsBy, Commits, Committer, CompleteUpload, Completed, Completing, Content, CopyObject, CreateUpload, Creating, Decides, Declared, DeleteObject, DeleteObjects, Deleting, Directory, Drawn, Driver, Dropping, EmptiesBy, Entry, Facts, Fetching, File, FilePlace, FileStands, Files, Fits, FitsAbort, FitsClean, FitsCommit, FitsJobCommit, FitsUpload, FitsWrite, GetObject, GoesOn, Gone, Got, HasBucket, HasPublished, HeadObject, Heading, Hold, In, IsAttempt, IsBare, IsBefore, IsCommit, IsDriving, IsForeign, IsGiven, IsGone, IsHeld, IsHeldSet, IsHonestOutcome, IsIn, IsKnown, IsLegal, IsOpen, IsOwn, IsOwnPlace, IsOwned, IsRecord, IsSet, IsSetAnswer, IsTemporary, IsWithin, IsWorn, IsWritten, IsZeroRename, Item, Known, Leaves, ListPage, ListParts, ListUploads, Listing, Looking, MOST_ENTRIES, Magic, MakeBucket, MarkerPlace, Marking, Mode, NamedPart, Naming, NoClusterFile, NoSuchKey, NoSuchUpload, NoneEnded, Object, Objects, OnlyThose, Operation, Outcome, Page, PageEntry, Part, Partitioned, Pending, PendingSet, Picks, Place, Publishing, PutObject, Puts, Reading, Reads, RecordPlace, Recording, Refusal, Refused, Removing, Renaming, Replace, Replacing, Reply, ReplyLost, Request, RequestLost, Retried, Reverting, Reverts, RisesFrom, Same, SameOutside, SameOutsideUpload, Scene, Script, Seen, Sending, SetPlace, Sets, SetsUp, Setting, Setup, SetupOver, Shell, Slow, Spelled, StagedSetPlace, Storing, SuccessPlace, Sweep, Sweeping, SweepsUnder, Table, Tabled, TaskAbort, TaskAbortOver, TaskCommit, TaskCommitOver, TaskEnd, TemporaryPlace, TheCheck, TheTaskAbort, TheTaskCommit, TheWrite, ThoseOrBehind, Times, Todo, Told, Turn, Turned, Upload, UploadPart, UploadRef, Uploaded, Uploading, Uploads, Walking, Wants, Who, WornOut, Write, WriteOver, WriteStands, Wrote, abort, aborting, again, all_commits, all_go, answer, answer_at, apply, apply_at, apply_store, as_made, asks, at_event, at_id, at_key, at_path, at_place, attempt_dir, attempt_prefix, begins, below, bucket_of, changed_keys, changed_paths, changed_upload, checked, checking, checks_all, chosen, clean_after, clean_asks, clean_hears, cleared, cluster_prefix, commit_asks, commit_hears, commit_misses, commit_start, commit_tells, compact_text, complete_answer, completed, completing, completion, created, dealt, decided, decimal, deletes, deleting, deletion, dest_prefix, drawn_for, drawn_in, driver_entry, effect, end_left, ends, entry, eq_by_cmp, fetched, fetching, file_key, file_parts, file_record, files, files_picked, files_set, filter, first_drawn, flat_map, follow, has_path, head, headed, if_bucket, in_order, in_turn, is_begun, is_bucket, is_copy, is_effective, is_file_path, is_folder, is_full, is_job_id, is_lt, is_magic, is_marking, is_no_magic, is_open, is_part_number, is_publishing, is_reading, is_record, is_set_key, is_set_path, is_staging, is_tried, is_unsent, joined, key_at, keys_on, knowing, known, last_by, last_from, last_of, last_ref, learn, least_missing, least_of, list_all, list_any, listed, live, looked, looked_at, lookup, magic_prefix, mark_text, marker_key, named_from, naming, nat_cmp, nothing_told, nth, ok_set, only_reads, option_map, ordering_then, page_after, part_answer, part_left, partition_prefix, partitions, path_at, path_of, picks_by, picks_of, placed, put_who, read_answer, read_record, reading, record_key, record_text, ref_at, removing, renamed, replaced, replacing, revert, reverting, same_name, same_path, see, sending, sent_part, set_at, set_key, set_read, set_request, set_text, sets_at, setup_after, setup_asks, setup_hears, staged_set_path, step, storing, strange_entry, success_key, sweep_asks, sweep_hears, sweeping, swept, task_abort_after, task_abort_asks, task_abort_by, task_abort_start, task_commit_after, task_commit_asks, task_commit_hears, task_commit_over, task_commit_start, task_commit_start_by, tell, tell_attempt, tell_driver, tells, temporary_path, text_cmp, text_eq, text_ties, text_total, to_check, undo, undoes, unwrap_or, upload_asks, upload_hears, upload_in, uploaded, uploads_after, view, walked_by, walked_uploads, walking, wanted_at, wanted_paths, whole_of, with_files, with_id, with_id_last, with_key, with_objects, with_part, without, worn_completion, write_after, write_asks, write_over, write_start, write_start_by, writes, writing}
+pub use Rattle.job_facts.specs.Prelude.{AbortUpload, Aborting, Actor, AllByRecursion, AllSent, AllUnder, AllWritten, Answered, ApartFiles, AreAttempts, AreCommits, AreDecided, Attempt, BadPartNumber, Begun, BucketContent, Checking, Clean, CleanOver, Clearing, Clears, ClearsAlone, Closed, ClusterDelete, ClusterGet, ClusterList, ClusterPut, ClusterRename, Commit, CommitEnd, CommitOver, CommitStandsBy, Commits, Committer, CompleteUpload, Completed, Completing, Content, CopyObject, CreateUpload, Creating, Decides, Declared, DeleteObject, DeleteObjects, Deleting, Drawn, Driver, Dropping, EmptiesBy, Entry, Facts, Fetching, File, FilePlace, FileStands, Files, Fits, FitsAbort, FitsClean, FitsCommit, FitsJobCommit, FitsUpload, FitsWrite, GetObject, GoesOn, Gone, Got, HasBucket, HasPublished, HeadObject, Heading, Hold, In, IsAttempt, IsBare, IsBefore, IsCommit, IsDriving, IsForeign, IsGiven, IsGone, IsHeld, IsHeldSet, IsHonestOutcome, IsIn, IsKnown, IsLegal, IsOpen, IsOwn, IsOwnPlace, IsOwned, IsRecord, IsSet, IsSetAnswer, IsTemporary, IsWithin, IsWorn, IsWritten, IsZeroRename, Item, Known, Leaves, ListPage, ListParts, ListUploads, Listing, Looking, MOST_ENTRIES, Magic, MakeBucket, MarkerPlace, Marking, Mode, NamedPart, Naming, NoClusterFile, NoSuchKey, NoSuchUpload, NoneEnded, Object, Objects, OnlyThose, Operation, Outcome, Page, PageEntry, Part, Pending, PendingSet, Picks, Place, Publishing, PutObject, Puts, Reading, Reads, RecordPlace, Recording, Refusal, Refused, Removing, Renaming, Replacing, Reply, ReplyLost, Request, RequestLost, Retried, Reverting, Reverts, RisesFrom, Same, SameOutside, SameOutsideUpload, Scene, Script, Seen, Sending, SetPlace, Sets, SetsUp, Setting, Setup, SetupOver, Shell, Slow, Spelled, StagedSetPlace, Storing, SuccessPlace, Sweep, Sweeping, SweepsUnder, Table, Tabled, TaskAbort, TaskAbortOver, TaskCommit, TaskCommitOver, TaskEnd, TemporaryPlace, TheCheck, TheTaskAbort, TheTaskCommit, TheWrite, ThoseOrBehind, Times, Todo, Told, Turn, Turned, Upload, UploadPart, UploadRef, Uploaded, Uploading, Uploads, Walking, Wants, Who, WornOut, Write, WriteOver, WriteStands, Wrote, abort, aborting, again, all_commits, all_go, answer, answer_at, apply, apply_at, apply_store, as_made, asks, at_event, at_id, at_key, at_path, at_place, attempt_dir, attempt_prefix, begins, below, bucket_of, changed_keys, changed_paths, changed_upload, checked, checking, checks_all, chosen, clean_after, clean_asks, clean_hears, cleared, cluster_prefix, commit_asks, commit_hears, commit_misses, commit_start, commit_tells, compact_text, complete_answer, completed, completing, completion, created, dealt, decided, decimal, deletes, deleting, deletion, dest_prefix, drawn_for, drawn_in, driver_entry, effect, end_left, ends, entry, eq_by_cmp, fetched, fetching, file_key, file_parts, file_record, files, files_picked, files_set, filter, first_drawn, flat_map, follow, has_path, head, headed, if_bucket, in_order, in_turn, is_begun, is_bucket, is_copy, is_effective, is_file_path, is_folder, is_full, is_job_id, is_lt, is_magic, is_marking, is_no_magic, is_open, is_part_number, is_publishing, is_reading, is_record, is_set_key, is_set_path, is_staging, is_tried, is_unsent, joined, key_at, keys_on, knowing, known, last_by, last_from, last_of, last_ref, learn, least_missing, least_of, list_all, list_any, listed, live, looked, looked_at, lookup, magic_prefix, mark_text, marker_key, named_from, naming, nat_cmp, nothing_told, nth, ok_set, only_reads, option_map, ordering_then, page_after, part_answer, part_left, partition_prefix, partitions, path_at, path_of, picks_by, picks_of, placed, put_who, read_answer, read_record, reading, record_key, record_text, ref_at, removing, renamed, replaced, replacing, revert, reverting, same_name, same_path, see, sending, sent_part, set_at, set_key, set_read, set_request, set_text, sets_at, setup_after, setup_asks, setup_hears, staged_set_path, step, storing, strange_entry, success_key, sweep_asks, sweep_hears, sweeping, swept, task_abort_after, task_abort_asks, task_abort_by, task_abort_start, task_commit_after, task_commit_asks, task_commit_hears, task_commit_over, task_commit_start, task_commit_start_by, tell, tell_attempt, tell_driver, tells, temporary_path, text_cmp, text_eq, text_ties, text_total, to_check, undo, undoes, unwrap_or, upload_asks, upload_hears, upload_in, uploaded, uploads_after, view, walked_by, walked_uploads, walking, wanted_at, wanted_paths, whole_of, with_files, with_id, with_id_last, with_key, with_objects, with_part, without, worn_completion, write_after, write_asks, write_over, write_start, write_start_by, writes, writing}
 pub use Rattle.job_facts.specs.Spares.{AllKnown, FitsSparing, IsOwnPath}
 pub use Rattle.job_facts.specs.Standing.{CommitStands, EndsSent, HasRecord, HasRecords, HasTemporary, IsSent, Listed, Stands}
 pub use Rattle.job_facts.specs.Stores.{Draws, Turns}

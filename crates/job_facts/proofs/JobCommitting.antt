@@ -1,6 +1,7 @@
 -- The driver's commit keeps the facts with each of its requests, holds the sets as it read them, and goes on as it should.
-use Rattle.job_facts.proofs.Common.{AllDriving, AllUnder, Bool, Commit, CommitOver, Committer, Completing, Deleting, Directory, Drawn, Fetching, File, FilePlace, FitsJobCommit, FitsReplace, HasBucket, Hold, IsDriving, IsGiven, IsHeldSet, IsHonestOutcome, IsIn, IsLegal, IsPlaced, List, Listing, Marking, Mode, None, Option, Outcome, Partitioned, Pending, PendingSet, Picks, Reads, Replace, Replacing, Reply, Request, Reverting, Scene, Script, Seen, Sets, Some, SuccessPlace, Sweep, Times, Told, Turn, Who, [], abort, again, all_commits, and_parts, answer, ap, append_assoc, arith, begins, begins_behind, below, codes, commit_asks, commit_hears, commit_tells, completion, deleting, deletion, dest_prefix, drawn_for, drop, eq_nat, false, false_true, false≢true, file_key, file_record, files, filter, follow, in_append, in_filter, in_map, inl, inr, is_bucket, is_no_magic, is_open, key_magic, knowing, length, magic_prefix, map, nat_eq, nat_true, none_some, not-true, nth, page_after, partition_prefix, partitions, path_of, placed_open, refl, replaced, revert, reverting, set_read, set_request, slice_get, some_is, subst, suc, sweep_asks, sweep_hears, sym, true, true_or_false, walked_by, wanted_paths, zero, ℕ, ◌++◌, ◌<◌, ◌^◌, ◌∙◌, ◌∷◌, ◌≡◌, ◌≤◌, ◌⊎◌}
+use Rattle.job_facts.proofs.Common.{AllDriving, AllUnder, Bool, Commit, CommitOver, Committer, Completing, Deleting, Drawn, Fetching, File, FilePlace, FitsJobCommit, FitsReplace, HasBucket, Hold, IsDriving, IsGiven, IsHeldSet, IsHonestOutcome, IsIn, IsLegal, IsPlaced, List, Listing, Marking, Mode, None, Option, Outcome, Pending, PendingSet, Picks, Reads, Replacing, Reply, Request, Reverting, Scene, Script, Seen, Sets, Some, SuccessPlace, Sweep, Times, Told, Turn, Who, [], abort, again, all_commits, and_parts, answer, ap, append_assoc, arith, begins, begins_behind, below, codes, commit_asks, commit_hears, commit_tells, completion, deleting, deletion, dest_prefix, drawn_for, drop, eq_nat, false, false_true, false≢true, file_key, file_record, files, filter, follow, in_append, in_filter, in_map, inl, inr, is_bucket, is_no_magic, is_open, key_magic, knowing, length, magic_prefix, map, nat_eq, nat_true, none_some, not-true, nth, page_after, partition_prefix, partitions, path_of, placed_open, refl, replaced, revert, reverting, set_read, set_request, slice_get, some_is, subst, suc, sweep_asks, sweep_hears, sym, true, true_or_false, walked_by, wanted_paths, zero, ℕ, ◌++◌, ◌<◌, ◌^◌, ◌∙◌, ◌∷◌, ◌≡◌, ◌≤◌, ◌⊎◌}
 use Rattle.list_walk.specs.Walks as walks
+use Rattle.job_protocol.specs.Prelude.{Displaced, Everything, Nothing, Partitions, displaced, emptied}
 use Rattle.job_facts.proofs.Legal.{some_dest, from_script, given_of}
 use Rattle.job_facts.proofs.Driving.{reads_drive}
 use Rattle.job_facts.proofs.Aborting.{taken_in, dropped_in}
@@ -65,11 +66,15 @@ begins_self (x ∷ p) = rw (nat_true x x refl, begins_self p) refl
 pub dest_below : {w : Script} → IsLegal w → (q : List ℕ) → begins (dest_prefix w) (below w.dest.key q) ≡ true
 dest_below {w = w} j q = ap (begins (dest_prefix w)) (paths_below w.dest.key q (some_dest j)) ∙ begins_behind w.dest.key (codes "/") (47 ∷ q)
 
+-- so much is deleted below prefixes of the destination
+prefixes_under : {w : Script} → IsLegal w → (d : Displaced) (picks : Picks) → AllUnder (dest_prefix w) (emptied d w.dest (partitions (wanted_paths w picks)))
+prefixes_under j Nothing picks = λ q i. absurd i
+prefixes_under {w = w} j Everything picks = λ q i. elim i [ inl is ↦ ap (begins (dest_prefix w)) is ∙ begins_self (dest_prefix w) | inr none ↦ absurd none ]
+prefixes_under {w = w} j Partitions picks = λ q i. let o = in_map (partition_prefix w) q (partitions (wanted_paths w picks)) i in ap (begins (dest_prefix w)) o.2 ∙ dest_below j (o.0 ++ codes "/")
+
 -- a replace mode deletes below such prefixes
 pub replaced_under : {w : Script} → IsLegal w → (c : Committer) (m : Mode) (picks : Picks) → AllUnder (dest_prefix w) (replaced c m w picks)
-replaced_under {w = w} j Directory Replace picks = λ q i. elim i [ inl is ↦ ap (begins (dest_prefix w)) is ∙ begins_self (dest_prefix w) | inr none ↦ absurd none ]
-replaced_under {w = w} j Partitioned Replace picks = λ q i. let o = in_map (partition_prefix w) q (partitions (wanted_paths w picks)) i in ap (begins (dest_prefix w)) o.2 ∙ dest_below j (o.0 ++ codes "/")
-replaced_under j _ _ picks = λ q i. absurd i
+replaced_under j c m picks = prefixes_under j (displaced c m) picks
 
 module _ {w : Script} (j : IsLegal w) where
   pub file_open : (a : Who) (f : File) → IsIn f (files w a) → is_open f.0 ≡ true

@@ -1,6 +1,6 @@
 -- How far an attempt's operation has come, by what the attempt knows and has sent.
 use Rattle.std.specs.Prelude.{List, [], drop, false, length, true, ℕ, ◌∷◌, ◌≡◌, ◌≤◌, ◌⊎◌}
-use Rattle.job_protocol.specs.Prelude.{Checking, Committer, Creating, Deleting, Directory, Drawn, Dropping, File, IsIn, Known, Listing, Looking, Magic, Operation, Partitioned, Publishing, Reading, Renaming, RisesFrom, Script, Sending, Storing, Sweep, TaskAbort, TaskAbortOver, TaskCommit, TaskCommitOver, TheTaskAbort, TheTaskCommit, TheWrite, Uploading, Who, Write, WriteOver, attempt_prefix, begins, file_key, file_parts, files, is_magic, is_staging}
+use Rattle.job_protocol.specs.Prelude.{Checking, Committer, Creating, Deleting, Drawn, Dropping, File, IsIn, Known, Listing, Looking, Magic, Operation, Publishing, Reading, Renaming, RisesFrom, Script, Sending, Storing, Sweep, TaskAbort, TaskAbortOver, TaskCommit, TaskCommitOver, TheTaskAbort, TheTaskCommit, TheWrite, Uploading, Who, Write, WriteOver, attempt_prefix, begins, file_key, file_parts, files, is_magic, is_staging}
 use Rattle.job_protocol.specs.Writes.{Marking, Recording}
 use Rattle.job_protocol.specs.TaskAborts.{Removing, Sweeping}
 use Rattle.job_facts.specs.Told.{Told, known}
@@ -49,8 +49,7 @@ FitsUpload w minimum a k f fs (Sending p ps) = Begun w minimum a k.drawn f fs (p
 -- what a write that is done has done: of the magic committer all, of the others nothing yet
 abbrev pub Wrote : Committer → Script → ℕ → Who → List Drawn → Type 0
 Wrote Magic w minimum a ds = AllWritten w minimum a ds
-Wrote Directory w minimum a ds = Todo w minimum a ds (files w a)
-Wrote Partitioned w minimum a ds = Todo w minimum a ds (files w a)
+Wrote _ w minimum a ds = Todo w minimum a ds (files w a)
 
 -- how far a write has come, by what the attempt knows
 abbrev pub FitsWrite : Script → ℕ → Who → Known → Write → Type 0

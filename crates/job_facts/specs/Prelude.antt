@@ -20,7 +20,7 @@ pub use Rattle.job_protocol.specs.Conflicts.{keeps}
 pub use Rattle.job_protocol.specs.JobCommits.{ok_set}
 pub use Rattle.job_protocol.specs.Knowledge.{knows_from}
 pub use Rattle.job_protocol.specs.Outputs.{picked_below}
-pub use Rattle.job_protocol.specs.Prelude.{AbortUpload, Aborting, Actor, ActorEnd, AllByRecursion, AllSent, AllSound, Answered, AreAttempts, Attempt, Attempting, BucketContent, Busy, Checking, Clean, CleanEnd, CleanOver, Clearing, ClusterDelete, ClusterGet, ClusterPut, ClusterRename, Commit, CommitEnd, CommitOver, Committer, Committing, CompleteUpload, Completing, Content, CopyObject, CreateUpload, Creating, Declared, DeleteObject, DeleteObjects, Deleting, Directory, Do, Drawn, Driver, Driving, Dropping, Entry, Equal, Event, EventEnd, EventFault, Fail, Fetching, File, FitsPage, FitsSweep, Follows, GetObject, GoesOn, Got, HeadObject, Heading, In, IsGiven, IsGone, IsHonest, IsIn, IsLegal, IsWorn, IsZeroRename, Item, Known, ListPage, Listing, Looking, Magic, Marking, Mode, More, Naming, NoClusterFile, NoSuchBucket, NoSuchFile, NoSuchKey, NoSuchUpload, Object, Op, OpEnd, Operation, Ordering, Outcome, Page, PageEntry, Part, Partitioned, Pending, PendingSet, Picks, Publishing, PutObject, Reading, Refusal, Refused, Removing, Renaming, Replace, Replacing, Reply, ReplyLost, Reports, Request, RequestLost, Retried, Reverting, RisesFrom, Running, Same, SameOutside, SameOutsideUpload, Scene, Script, Seen, Sending, Sets, Setting, Setup, SetupEnd, SetupOver, Shell, Slow, Sound, Spelled, Start, Storing, Sweep, Sweeping, Table, Tabled, TaskAbort, TaskAbortOver, TaskCommit, TaskCommitOver, TaskEnd, TheCheck, TheClean, TheCommit, TheSetup, TheSparing, TheTaskAbort, TheTaskCommit, TheWrite, Times, Turn, Upload, UploadPart, UploadRef, Uploaded, Uploading, Walked, Walking, Who, Whole, WornFirst, WornOut, Write, WriteOver, abort, aborting, actor_of, advance, again, all_commits, all_go, answer, answer_at, apply, as_made, asks, attempt_dir, attempt_prefix, begins, below, checked_by, checked_on, checking, checks_all, chosen, clean_asks, clean_hears, clean_of, clean_over, clean_told, clean_wants, cleared, commit_asks, commit_hears, commit_misses, commit_of, commit_over, commit_start, commit_tells, commit_told, commit_wants, compact_text, completing, completion, created, dealt, decided, decimal, deletion, dest_prefix, drawn_for, drawn_in, effect, fetched, fetching, file_key, file_parts, file_record, files, files_picked, files_set, filter, first_drawn, first_shared, first_shown, flat_map, follow, has_path, headed, if_bucket, in_order, in_turn, is_begun, is_clash, is_copy, is_decided, is_effective, is_fault, is_folder, is_full, is_job_id, is_lt, is_magic, is_marked, is_marking, is_no_magic, is_picked, is_picking, is_publishing, is_reading, is_set_key, is_set_path, is_staging, is_tried, is_unsent, is_zero, job_of, keeps_of, keys_on, knows, last_by, last_of, last_ref, learn, learned, least_missing, least_of, list_all, list_any, listed, looked, looked_at, lookup, mark_text, marker_key, moment, naming, nat_cmp, nothing_seen, nth, option_map, or_next, ordering_then, over, page_after, partition_prefix, partitions, path_of, paths_of, picked_after, picks_by, picks_of, placed, read_record, read_script, reading, record_key, record_text, relative_in, removing, renamed, replaced, replacing, revert, reverting, run, same_name, same_path, see, see_all, seen, sending, sent_part, set_key, set_read, set_request, set_text, sets_after, sets_in, setup_after, setup_asks, setup_hears, setup_told, setup_wants, shared_by, shown_path, spare_of, spent_in, stage_of, staged_set_path, start_of, step, storing, success_key, success_tree, sweep_asks, sweep_hears, sweeping, swept, task_abort_asks, task_abort_by, task_abort_start, task_abort_told, task_abort_wants, task_commit_asks, task_commit_hears, task_commit_over, task_commit_start, task_commit_start_by, task_commit_told, task_commit_wants, task_of, task_script, tells, temporary_path, text_cmp, text_eq, text_total, to_check, two_where, unanswered_by, undo, unwrap_or, upload_asks, upload_hears, upload_in, uploaded, uploads_after, view, walked_by, walked_uploads, walking, wanted, wanted_at, wanted_below, wanted_paths, wants, who, who_of, with_id, with_id_last, with_pick, worn_completion, write_over, write_start, write_start_by, write_told, write_wants, writes, writing}
+pub use Rattle.job_protocol.specs.Prelude.{AbortUpload, Aborting, Actor, ActorEnd, AllByRecursion, AllSent, AllSound, Answered, AreAttempts, Attempt, Attempting, BucketContent, Busy, Checking, Clean, CleanEnd, CleanOver, Clearing, ClusterDelete, ClusterGet, ClusterPut, ClusterRename, Commit, CommitEnd, CommitOver, Committer, Committing, CompleteUpload, Completing, Content, CopyObject, CreateUpload, Creating, Declared, DeleteObject, DeleteObjects, Deleting, Do, Drawn, Driver, Driving, Dropping, Entry, Equal, Event, EventEnd, EventFault, Fail, Fetching, File, FitsPage, FitsSweep, Follows, GetObject, GoesOn, Got, HeadObject, Heading, In, IsGiven, IsGone, IsHonest, IsIn, IsLegal, IsWorn, IsZeroRename, Item, Kill, Known, ListPage, Listing, Looking, Magic, Marking, Mix, Mode, More, Naming, NoClusterFile, NoSuchBucket, NoSuchFile, NoSuchKey, NoSuchUpload, Object, Op, OpEnd, Operation, Ordering, Outcome, Page, PageEntry, Part, Pending, PendingSet, Picks, Publishing, PutObject, Reading, Recover, Refusal, Refused, Removing, Renaming, Replace, Replacing, Reply, ReplyLost, Reports, Request, RequestLost, Restart, Retried, Reverting, RisesFrom, Run, Running, Same, SameOutside, SameOutsideUpload, Scene, Script, Seen, Sending, Sets, Setting, Setup, SetupEnd, SetupOver, Shell, Slow, Sound, Spelled, Start, Step, Storing, Sweep, Sweeping, Table, Tabled, TaskAbort, TaskAbortOver, TaskCommit, TaskCommitOver, TaskEnd, TheCheck, TheClean, TheCommit, TheSetup, TheSparing, TheTaskAbort, TheTaskCommit, TheWrite, Times, Turn, Upload, UploadPart, UploadRef, Uploaded, Uploading, Walked, Walking, Who, Whole, WornFirst, WornOut, Write, WriteOver, abort, aborting, actor_of, advance, again, all_commits, all_go, answer, answer_at, apply, as_made, asks, attempt_dir, attempt_prefix, begins, below, checked_by, checked_on, checking, checks_all, chosen, clean_asks, clean_hears, clean_of, clean_over, clean_told, clean_wants, cleared, commit_asks, commit_hears, commit_misses, commit_of, commit_over, commit_start, commit_tells, commit_told, commit_wants, compact_text, completing, completion, created, dealt, decided, decimal, deletion, dest_prefix, drawn_for, drawn_in, effect, fetched, fetching, file_key, file_parts, file_record, files, files_picked, files_set, filter, first_drawn, first_shared, first_shown, flat_map, follow, has_path, headed, if_bucket, in_order, in_turn, is_begun, is_clash, is_copy, is_decided, is_effective, is_fault, is_folder, is_full, is_job_id, is_lt, is_magic, is_marked, is_marking, is_no_magic, is_picked, is_picking, is_publishing, is_reading, is_set_key, is_set_path, is_staging, is_tried, is_unsent, is_zero, job_of, keeps_of, keys_on, knows, last_by, last_of, last_ref, learn, learned, least_missing, least_of, list_all, list_any, listed, looked, looked_at, lookup, mark_text, marker_key, moment, naming, nat_cmp, nothing_seen, nth, option_map, or_next, ordering_then, over, page_after, partition_prefix, partitions, path_of, paths_of, picked_after, picks_by, picks_of, placed, read_record, read_script, reading, record_key, record_text, relative_in, removing, renamed, replaced, replacing, revert, reverting, run, same_name, same_path, see, see_all, seen, sending, sent_part, set_key, set_read, set_request, set_text, sets_after, sets_in, setup_after, setup_asks, setup_hears, setup_told, setup_wants, shared_by, shown_path, spare_of, spent_in, stage_of, staged_set_path, start_of, step, storing, success_key, success_tree, sweep_asks, sweep_hears, sweeping, swept, task_abort_asks, task_abort_by, task_abort_start, task_abort_told, task_abort_wants, task_commit_asks, task_commit_hears, task_commit_over, task_commit_start, task_commit_start_by, task_commit_told, task_commit_wants, task_of, task_script, tells, temporary_path, text_cmp, text_eq, text_total, to_check, two_where, unanswered_by, undo, unwrap_or, upload_asks, upload_hears, upload_in, uploaded, uploads_after, view, walked_by, walked_uploads, walking, wanted, wanted_at, wanted_below, wanted_paths, wants, who, who_of, with_id, with_id_last, with_pick, worn_completion, write_over, write_start, write_start_by, write_told, write_wants, writes, writing}
 pub use Rattle.job_protocol.specs.Setup.{setup_over, setup_start}
 pub use Rattle.job_protocol.specs.TaskAborts.{task_abort_after}
 pub use Rattle.job_protocol.specs.TaskCommits.{Uploads, checked, task_commit_after}

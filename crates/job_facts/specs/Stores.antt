@@ -2,7 +2,7 @@
 use Rattle.std.specs.Prelude.{Bool, List, None, Option, Some, cond, false, true, ℕ, ◌&&◌, ◌+◌, ◌<◌, ◌≡◌, ◌≤◌}
 use Rattle.store_frame.specs.Prelude.{HasBucket, is_part_number, with_part}
 use Rattle.job_protocol.specs.View.{object_at}
-use Rattle.job_protocol.specs.Prelude.{Committer, Content, Directory, Drawn, IsIn, Magic, Object, Partitioned, Scene, Script, Upload, Who, begins, option_map, text_eq, upload_at}
+use Rattle.job_protocol.specs.Prelude.{Committer, Content, Drawn, IsIn, Magic, Object, Scene, Script, Upload, Who, begins, option_map, text_eq, upload_at}
 use Rattle.magic_paths.specs.Places.{ClusterPlace, Place, SetPlace, StagedSetPlace, key_at, path_at}
 use Rattle.magic_paths.specs.Layout.{cluster_prefix, magic_prefix}
 use Rattle.std.specs.FinMap as fin
@@ -26,8 +26,7 @@ at_path w s p = fin.get s.files (path_at w.job p)
 -- the bytes of a task's set where its committer keeps it: in the store or in the cluster
 abbrev pub set_at : Committer → Script → Scene → ℕ → Option (List ℕ)
 set_at Magic w s t = option_map (λ o. o.bytes) (at_place w s.content (SetPlace t))
-set_at Directory w s t = at_path w s (StagedSetPlace t)
-set_at Partitioned w s t = at_path w s (StagedSetPlace t)
+set_at _ w s t = at_path w s (StagedSetPlace t)
 
 -- the bytes of the set that stands for a task, where the committer keeps it
 abbrev pub sets_at : Script → Scene → ℕ → Option (List ℕ)

@@ -30,8 +30,7 @@ pub record IsDest (dest : Path) : Type 0 where
 -- what `magic` allows: `append`, and names as they are
 abbrev pub FitsMagic : Committer → Mode → Bool → Type 0
 FitsMagic committer.Magic m unique = (m ≡ mode.Append) × (unique ≡ false)
-FitsMagic committer.Directory m unique = Unit {0}
-FitsMagic committer.Partitioned m unique = Unit {0}
+FitsMagic _ m unique = Unit {0}
 
 -- only sendings from 1 to 1,000,000,000 have a fate, and it is never that they are answered
 abbrev pub AreFates : FateMap → Type 0

@@ -9,6 +9,7 @@
 #![tactic(auto)]
 
 mod attempts;
+mod displaced;
 mod ends;
 mod events;
 mod files;
@@ -18,6 +19,7 @@ mod script;
 mod states;
 
 pub use attempts::{AttemptName, Attempts};
+pub use displaced::Displaced;
 pub use ends::{
     ActorEnd, ActorEndList, CheckEnd, CleanEnd, CommitEnd, EndList, EventEnd, EventFault, OpEnd,
     Pick, PickList, SetupEnd, Stage, TaskEnd,

@@ -1,6 +1,6 @@
 -- The driver's abort or clean of a whole job (Hadoop, S3A committer architecture: job abort and cleanup).
 use Rattle.std.specs.Prelude.{ℕ, List, [], ◌∷◌, Option, Some, None}
-use Rattle.job_model.specs.Prelude.{Request, AbortUpload, ClusterList, ClusterDelete, UploadRef, Committer, Magic, Directory, Partitioned, Reply, ClusterNames, Script}
+use Rattle.job_model.specs.Prelude.{Request, AbortUpload, ClusterList, ClusterDelete, UploadRef, Committer, Magic, Reply, ClusterNames, Script}
 use Rattle.retries.specs.Prelude.{Item, Got, WornOut, OutOfMemory}
 use Rattle.magic_paths.specs.Layout as layout
 use Rattle.job_model.specs.declared.ends.CleanEnd.{CleanEnd}
@@ -38,8 +38,7 @@ clean_asks w (CleanOver end) = None
 -- what follows once all uploads are aborted: a sweep of the magic directory, or the job's files in the cluster
 abbrev pub aborted : Committer → Clean
 aborted Magic = Sweeping sweep_start
-aborted Directory = Naming
-aborted Partitioned = Naming
+aborted _ = Naming
 
 -- the next of these uploads is aborted, until none is left
 abbrev pub aborting : Committer → List UploadRef → Clean

@@ -1,6 +1,9 @@
 -- What a conflict mode checks and keeps (Hadoop, S3A committers: fs.s3a.committer.staging.conflict-mode).
-use Rattle.std.specs.Prelude.{ℕ, nat_eq, not, Bool, true, false, cond, List, [], ◌∷◌, ◌++◌, Option, Some, None}
-use Rattle.job_model.specs.Prelude.{list_any, begins, Committer, Directory, Partitioned, Mode, Fail, Replace, Script}
+use Rattle.std.specs.Prelude.{ℕ, nat_eq, not, Bool, true, false, cond, List, [], ◌∷◌, ◌++◌, codes, map, Option, Some, None}
+use Rattle.job_model.specs.Prelude.{list_any, begins, below, Path, Committer, Mode, Fail, Replace, Script}
+use Rattle.s3_types.specs.declared.request.Committer.TheVariants.{Directory, Partitioned}
+use Rattle.job_model.specs.declared.displaced.Displaced.{Displaced}
+use Rattle.job_model.specs.declared.displaced.Displaced.TheVariants.{Nothing, Everything, Partitions}
 use Rattle.job_protocol.specs.Outputs.{Picks, ordered, wanted_paths}
 
 -- the directory of a path with one more byte in front
@@ -31,11 +34,31 @@ partitions paths = ordered (dirs_of paths)
 abbrev pub is_below_any : List (List ℕ) → List ℕ → Bool
 is_below_any dirs p = list_any (λ d. begins (d ++ 47 ∷ []) p) dirs
 
+-- what a committer's mode deletes
+abbrev pub displaced : Committer → Mode → Displaced
+displaced Directory Replace = Everything
+displaced Partitioned Replace = Partitions
+displaced _ _ = Nothing
+
+-- a path that stood before the job stays, where so much is deleted and these partitions are written
+abbrev pub stays : Displaced → List (List ℕ) → List ℕ → Bool
+stays Nothing dirs p = true
+stays Everything dirs p = false
+stays Partitions dirs p = not (is_below_any dirs p)
+
 -- a path that stood before the job stays, where these partitions are written
 abbrev pub keeps : Committer → Mode → List (List ℕ) → List ℕ → Bool
-keeps Directory Replace dirs p = false
-keeps Partitioned Replace dirs p = not (is_below_any dirs p)
-keeps _ _ dirs p = true
+keeps c m dirs p = stays (displaced c m) dirs p
+
+-- what the keys below a partition begin with
+abbrev pub prefix_below : Path → List ℕ → List ℕ
+prefix_below dest d = below dest.key (d ++ codes "/")
+
+-- below which prefixes so much is deleted, where these partitions are written
+abbrev pub emptied : Displaced → Path → List (List ℕ) → List (List ℕ)
+emptied Nothing dest dirs = []
+emptied Everything dest dirs = (dest.key ++ codes "/") ∷ []
+emptied Partitions dest dirs = map (prefix_below dest) dirs
 
 -- a path that stood before the job stays, where these picks are written
 abbrev pub keeps_of : Script → Picks → List ℕ → Bool

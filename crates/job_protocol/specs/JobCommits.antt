@@ -1,6 +1,6 @@
 -- The driver's commit of a job (Hadoop, S3A committer architecture: job commit; fs.s3a.committer.staging.conflict-mode).
-use Rattle.std.specs.Prelude.{◌≡◌, ℕ, ◌+◌, not, nat_lt, Bool, true, false, cond, List, [], ◌∷◌, ◌++◌, map, length, codes, slice_get, Option, Some, None, Result, Ok, Err}
-use Rattle.job_model.specs.Prelude.{flat_map, option_map, begins, Request, PutObject, GetObject, ClusterGet, ListPage, DeleteObjects, CompleteUpload, Committer, Magic, Directory, Partitioned, Mode, Replace, Reply, ClusterBytes, Completed, Refused, NoSuchUpload, Outcome, Answered, Slow, Pending, PendingSet, Script}
+use Rattle.std.specs.Prelude.{◌≡◌, ℕ, ◌+◌, not, nat_lt, Bool, true, false, cond, List, [], ◌∷◌, ◌++◌, length, codes, slice_get, Option, Some, None, Result, Ok, Err}
+use Rattle.job_model.specs.Prelude.{flat_map, option_map, begins, Request, PutObject, GetObject, ClusterGet, ListPage, DeleteObjects, CompleteUpload, Committer, Magic, Mode, Reply, ClusterBytes, Completed, Refused, NoSuchUpload, Outcome, Answered, Slow, RequestLost, ReplyLost, Pending, PendingSet, Script}
 use Rattle.s3_types.specs.declared.reply.Reply.TheVariants.{Object}
 use Rattle.magic_paths.specs.Layout as layout
 use Rattle.pending_json.specs.Reading as reading
@@ -10,11 +10,10 @@ use Rattle.job_model.specs.declared.ends.CommitEnd.TheVariants as ends
 use Rattle.job_model.specs.declared.ends.Stage.{Stage}
 use Rattle.job_model.specs.declared.ends.Stage.TheVariants as stages
 use Rattle.job_protocol.specs.Outputs.{Picks, wanted_paths, same_path}
-use Rattle.job_protocol.specs.Conflicts.{partitions}
+use Rattle.job_protocol.specs.Conflicts.{displaced, emptied, partitions}
 use Rattle.list_walk.specs.Walks.{Sweep, sweep_start, sweep_asks, sweep_hears}
 use Rattle.job_protocol.specs.Records.{mark_text}
 use Rattle.job_protocol.specs.Setup.{dest_prefix}
-use Rattle.job_protocol.specs.TaskCommits.{partition_prefix}
 use Rattle.job_protocol.specs.Lanes.{Turn, again, follow, dealt, nth, completion, revert}
 
 -- ---- what the driver read
@@ -61,8 +60,7 @@ pub data Commit : Type 0 where
 -- the read of a task's set
 abbrev pub set_request : Committer → Script → ℕ → Request
 set_request Magic w t = GetObject w.dest.bucket (layout.set_key w.dest.key w.job t)
-set_request Directory w t = ClusterGet (layout.staged_set_path w.job t)
-set_request Partitioned w t = ClusterGet (layout.staged_set_path w.job t)
+set_request _ w t = ClusterGet (layout.staged_set_path w.job t)
 
 -- what a job's commit asks next, or nothing where it is over
 abbrev pub commit_asks : Script → Commit → Option Request
@@ -86,9 +84,7 @@ is_no_magic w key = not (begins (dest_prefix w ++ codes "__magic/") key)
 
 -- below which prefixes a replace mode deletes
 abbrev pub replaced : Committer → Mode → Script → Picks → List (List ℕ)
-replaced Directory Replace w picks = dest_prefix w ∷ []
-replaced Partitioned Replace w picks = map (partition_prefix w) (partitions (wanted_paths w picks))
-replaced _ _ w picks = []
+replaced c m w picks = emptied (displaced c m) w.dest (partitions (wanted_paths w picks))
 
 -- the next prefix is emptied; behind the last one the uploads are completed
 abbrev pub replacing : Script → Sets → List (List ℕ) → Commit

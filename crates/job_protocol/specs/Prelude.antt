@@ -3,6 +3,8 @@ pub use Rattle.job_model.specs.Jobs.{has_task}
 pub use Rattle.job_model.specs.Placed.{placed}
 pub use Rattle.job_model.specs.Plans.{ArePlaced, IsJob, IsTask}
 pub use Rattle.job_model.specs.Prelude.{AbortUpload, Actor, AllByRecursion, Answered, AreAttempts, AreFiles, Attempt, BucketContent, ClusterBytes, ClusterDelete, ClusterGet, ClusterNames, ClusterPut, ClusterRename, Committer, CompleteUpload, Content, CreateUpload, Declared, DeleteObject, DeleteObjects, Directory, Drawn, Driver, Entry, Fail, File, GetObject, Head, HeadObject, IsGiven, IsLegal, IsPlaced, Job, Known, ListPage, MOST_SCRIPT_BYTES, Magic, Mode, NoSuchBucket, NoSuchFile, NoSuchKey, NoSuchUpload, Object, Outcome, Page, Part, Partitioned, Path, Pending, PendingSet, PutObject, Refused, Replace, Reply, ReplyLost, Request, RequestLost, Scene, Script, Shell, Slow, Spelled, SuccessMark, Task, UploadPart, UploadRef, Who, actor_of, answer, apply, begins, begins_hidden, below, bytes_in, bytes_of, decimal, effect, ends_with, files_in, filter, flat_map, has_path, insert_key, is_element, is_full, is_job_id, is_lt, is_reserved, join_with_byte, keys_of, list_all, list_any, lookup, nat_cmp, nothing_known, option_map, path_of, pending_tree, relative_in, same_name, set_tree, starts_with, success_tree, text_cmp, text_eq, unique_name, unwrap_or, with_id, with_id_last, with_last}
+pub use Rattle.job_model.specs.declared.displaced.Displaced.{Displaced}
+pub use Rattle.job_model.specs.declared.displaced.Displaced.TheVariants.{Everything, Nothing, Partitions}
 pub use Rattle.job_model.specs.declared.ends.ActorEnd.{ActorEnd}
 pub use Rattle.job_model.specs.declared.ends.CleanEnd.{CleanEnd}
 pub use Rattle.job_model.specs.declared.ends.CommitEnd.{CommitEnd}
@@ -25,7 +27,7 @@ pub use Rattle.job_model.specs.declared.states.Life.{Life}
 pub use Rattle.job_model.specs.declared.states.Life.TheVariants.{Busy, Dead, Idle}
 pub use Rattle.job_protocol.specs.AtWork.{Attempting, Committing, Driving, clean_told, clean_wants, commit_told, commit_wants, declared_of, job_of, job_script, learned, picked_after, read_script, sets_after, sets_in, setup_told, setup_wants, task_abort_told, task_abort_wants, task_commit_told, task_commit_wants, task_of, task_script, who_of, with_known, with_pick, with_set, write_told, write_wants}
 pub use Rattle.job_protocol.specs.Cleanups.{Aborting, Clean, CleanOver, Naming, Removing, Walking, aborted, aborting, clean_asks, clean_hears, clean_over, naming, removing, sweeping, walking}
-pub use Rattle.job_protocol.specs.Conflicts.{checks_all, checks_partitions, dir_of, dirs_of, keeps_of, partitions, with_dir}
+pub use Rattle.job_protocol.specs.Conflicts.{checks_all, checks_partitions, dir_of, dirs_of, displaced, emptied, keeps_of, partitions, prefix_below, stays, with_dir}
 pub use Rattle.job_protocol.specs.JobCommits.{Commit, CommitOver, Completing, Fetching, FitsCompletion, Marking, Replacing, Reverting, Sets, all_commits, commit_asks, commit_hears, commit_misses, commit_over, commit_start, commit_tells, completing, decided, fetched, fetching, is_untouched, is_no_magic, picks_of, replaced, replacing, reverting, set_read, set_request, stage_of, swept, worn_completion}
 pub use Rattle.job_protocol.specs.Knowledge.{as_made, drawn_for, drawn_in, drawn_last, first_drawn, is_set_key, is_set_path, knows, learn, learn_part, nothing_drawn}
 pub use Rattle.job_protocol.specs.LaneTable.{AllSound, In, RequestsApart, Sound, Table, Tabled, ahead}

@@ -1,7 +1,7 @@
 -- The records that a job's actors write (Hadoop, S3A committer architecture: SinglePendingCommit, PendingSet, SuccessData).
 use Rattle.std.specs.Prelude.{ℕ, List, ◌++◌, map, length, codes, Option, Some, None}
 use Rattle.pending_json.specs.Prelude.{compact_text}
-use Rattle.job_model.specs.Prelude.{Committer, Magic, Directory, Partitioned, below, Pending, pending_tree, set_tree, success_tree, PendingSet, SuccessMark, File, Who, Script, Drawn, Known}
+use Rattle.job_model.specs.Prelude.{Committer, Magic, below, Pending, pending_tree, set_tree, success_tree, PendingSet, SuccessMark, File, Who, Script, Drawn, Known}
 use Rattle.magic_paths.specs.Layout as layout
 use Rattle.job_protocol.specs.Outputs.{Picks, wanted_paths}
 use Rattle.job_protocol.specs.Knowledge.{drawn_for}
@@ -29,8 +29,7 @@ record_key w a f = below (attempt_dir w a) (f.0 ++ codes ".pending")
 -- the sizes that a record tells: magic attempts write version 2 of it, staging ones version 1, which has none
 abbrev pub sizes_by : Committer → List ℕ → Option (List ℕ)
 sizes_by Magic sizes = Some sizes
-sizes_by Directory sizes = None
-sizes_by Partitioned sizes = None
+sizes_by _ sizes = None
 
 -- the record of a file's upload
 abbrev pub file_record : Script → Who → File → Drawn → Pending

@@ -1,7 +1,7 @@
 -- What of a store is a job's and what is not, and what one of its own requests may change.
 use Rattle.std.specs.Prelude.{Bool, List, None, Option, Some, false, true, ℕ, ◌≡◌, ◌⊎◌}
 use Rattle.retries.specs.Prelude.{CompleteUpload, CopyObject, CreateUpload, DeleteObject, DeleteObjects, Entry, Request, Scene, Upload, UploadPart, text_eq}
-use Rattle.job_model.specs.Prelude.{BucketContent, Committer, Content, Directory, Driver, Magic, Object, Partitioned, Script, begins}
+use Rattle.job_model.specs.Prelude.{BucketContent, Committer, Content, Driver, Magic, Object, Script, begins}
 use Rattle.s3_types.specs.Moment.{is_effective}
 use Rattle.job_protocol.specs.Setup.{dest_prefix}
 use Rattle.job_protocol.specs.View.{Same, object_at, view}
@@ -48,8 +48,7 @@ NoClusterFile w s = (p bytes : List ℕ) → fin.get s.files p ≡ Some bytes �
 -- nothing is left of what the committer keeps for itself
 abbrev pub NothingLeft : Committer → Script → Scene → Type 0
 NothingLeft Magic w s = NoneLive w s.content × NoMagicKey w s.content
-NothingLeft Directory w s = NoneLive w s.content × NoClusterFile w s
-NothingLeft Partitioned w s = NoneLive w s.content × NoClusterFile w s
+NothingLeft _ w s = NoneLive w s.content × NoClusterFile w s
 
 -- ---- one request of the job's own
 

@@ -1,6 +1,6 @@
 -- What a journal says of a job: one fold over its entries, from the first on.
 use Rattle.std.specs.Prelude.{ℕ, ◌&&◌, ◌||◌, nat_eq, nat_le, not, Bool, true, false, cond, List, [], ◌∷◌, Option, Some, None, is_some, take}
-use Rattle.job_model.specs.Prelude.{text_eq, Content, Scene, apply, effect, Request, PutObject, GetObject, ClusterRename, ClusterGet, Actor, Driver, Attempt, Shell, Committer, Magic, Directory, Partitioned, Outcome, Answered, Slow, RequestLost, ReplyLost, Entry, Script}
+use Rattle.job_model.specs.Prelude.{text_eq, Content, Scene, apply, effect, Request, PutObject, GetObject, ClusterRename, ClusterGet, Actor, Driver, Attempt, Shell, Committer, Magic, Outcome, Answered, Slow, RequestLost, ReplyLost, Entry, Script}
 use Rattle.s3_types.specs.Store.{opening}
 use Rattle.job_protocol.specs.Outputs.{Picks}
 use Rattle.job_protocol.specs.Knowledge.{is_set_key, is_set_path}
@@ -13,14 +13,12 @@ use Rattle.job_protocol.specs.View.{object_at}
 -- the magic committer
 abbrev pub is_magic : Committer → Bool
 is_magic Magic = true
-is_magic Directory = false
-is_magic Partitioned = false
+is_magic _ = false
 
 -- a staging committer: directory or partitioned
 abbrev pub is_staging : Committer → Bool
 is_staging Magic = false
-is_staging Directory = true
-is_staging Partitioned = true
+is_staging _ = true
 
 -- the request publishes a task's set: a put of it, or a rename onto it of a file that stands
 abbrev pub is_publishing : Script → Scene → ℕ → Request → Bool

@@ -1,6 +1,6 @@
 -- The driver's set-up of a job (Hadoop, S3A committers: job setup; fs.s3a.committer.staging.conflict-mode).
 use Rattle.std.specs.Prelude.{ℕ, Bool, true, false, cond, List, [], ◌∷◌, ◌++◌, codes, Option, Some, None}
-use Rattle.job_model.specs.Prelude.{Request, HeadObject, DeleteObject, Committer, Magic, Directory, Partitioned, Reply, Head, Page, Refused, NoSuchBucket, relative_in, Script}
+use Rattle.job_model.specs.Prelude.{Request, HeadObject, DeleteObject, Committer, Magic, Reply, Head, Page, Refused, NoSuchBucket, relative_in, Script}
 use Rattle.retries.specs.Prelude.{Item, Got, WornOut, OutOfMemory}
 use Rattle.magic_paths.specs.Layout as layout
 use Rattle.job_model.specs.declared.ends.SetupEnd.{SetupEnd}
@@ -75,8 +75,7 @@ checked w keys _ = Checking keys
 -- what follows once the old marker is gone: the magic committer sweeps its directory, the others are Done
 abbrev pub cleared : Committer → Setup
 cleared Magic = Sweeping sweep_start
-cleared Directory = SetupOver ends.Done
-cleared Partitioned = SetupOver ends.Done
+cleared _ = SetupOver ends.Done
 
 -- where a reply to the sweep leads; behind the last one it is Done
 abbrev pub sweeping : Option Sweep → Setup

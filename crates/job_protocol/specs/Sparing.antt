@@ -1,6 +1,6 @@
 -- The driver's abort or clean of a job at a shared destination: it aborts only the uploads that the job's own records and sets name, and lists no uploads (Hadoop, S3A committer architecture: cleanup by the job's own pending files).
 use Rattle.std.specs.Prelude.{Err, List, None, Ok, Option, Result, Some, [], drop, map, take, ℕ, ◌++◌, ◌∷◌}
-use Rattle.job_model.specs.Prelude.{ClusterBytes, Committer, Directory, Magic, Partitioned, Pending, PendingSet, Script, filter}
+use Rattle.job_model.specs.Prelude.{ClusterBytes, Committer, Magic, Pending, PendingSet, Script, filter}
 use Rattle.retries.specs.Prelude.{AbortUpload, ClusterDelete, ClusterGet, ClusterList, DeleteObjects, GetObject, Got, Item, OutOfMemory, Reply, Request, UploadRef, WornOut}
 use Rattle.s3_types.specs.declared.reply.Reply.TheVariants.{ClusterNames, Object}
 use Rattle.pending_json.specs.declared.fault.RecordFault.{RecordFault}
@@ -30,14 +30,12 @@ pub data Sparing : Type 0 where
 -- it begins with the keys of the job's magic directory, or with the job's files in the cluster
 abbrev pub sparing_start : Committer → Sparing
 sparing_start Magic = Walking []
-sparing_start Directory = Naming
-sparing_start Partitioned = Naming
+sparing_start _ = Naming
 
 -- the read of a record, or of a file in the cluster
 abbrev pub record_request : Committer → Script → List ℕ → Request
 record_request Magic w place = GetObject w.dest.bucket place
-record_request Directory w place = ClusterGet place
-record_request Partitioned w place = ClusterGet place
+record_request _ w place = ClusterGet place
 
 -- what it asks next, or nothing where it is over
 abbrev pub sparing_asks : Script → Sparing → Option Request
@@ -85,8 +83,7 @@ removing (p ∷ ps) = Removing p ps
 -- once all uploads are aborted, what was listed is deleted
 abbrev pub emptying : Committer → List (List ℕ) → Sparing
 emptying Magic all = deleting all
-emptying Directory all = removing all
-emptying Partitioned all = removing all
+emptying _ all = removing all
 
 -- the next of these uploads is aborted, until none is left
 abbrev pub aborting : Committer → List UploadRef → List (List ℕ) → Sparing

@@ -1,6 +1,6 @@
 -- An attempt's abort of its task (Hadoop, S3A committer architecture: task abort).
 use Rattle.std.specs.Prelude.{Bool, true, false, List, [], ◌∷◌, Option, Some, None}
-use Rattle.job_model.specs.Prelude.{Request, AbortUpload, ClusterDelete, Committer, Magic, Directory, Partitioned, Reply, Who, Script, Drawn, Known}
+use Rattle.job_model.specs.Prelude.{Request, AbortUpload, ClusterDelete, Committer, Magic, Reply, Who, Script, Drawn, Known}
 use Rattle.retries.specs.Prelude.{Item, Got, WornOut, OutOfMemory}
 use Rattle.job_model.specs.declared.ends.TaskEnd.{TaskEnd}
 use Rattle.job_model.specs.declared.ends.TaskEnd.TheVariants as ends
@@ -33,8 +33,7 @@ removing false = TaskAbortOver ends.Done
 -- what follows once its uploads are aborted: a sweep of its directory, or its temporary file
 abbrev pub dropped : Committer → Bool → TaskAbort
 dropped Magic sent = Sweeping sweep_start
-dropped Directory sent = removing sent
-dropped Partitioned sent = removing sent
+dropped _ sent = removing sent
 
 -- the next of its uploads is aborted, until none is left
 abbrev pub dropping : Committer → Bool → List Drawn → TaskAbort

@@ -1,6 +1,6 @@
 -- An attempt's commit of its task, which publishes a set of its uploads (Hadoop, S3A committer architecture: task commit).
 use Rattle.std.specs.Prelude.{ℕ, Bool, false, cond, List, [], ◌∷◌, ◌++◌, map, codes, Option, Some, None}
-use Rattle.job_model.specs.Prelude.{filter, list_any, flat_map, is_lt, text_cmp, text_eq, Request, PutObject, GetObject, ListPage, ClusterPut, ClusterRename, Committer, Magic, Directory, Partitioned, Reply, Page, Refused, NoSuchKey, NoSuchFile, below, File, Who, Script, Known}
+use Rattle.job_model.specs.Prelude.{filter, list_any, flat_map, is_lt, text_cmp, text_eq, Request, PutObject, GetObject, ListPage, ClusterPut, ClusterRename, Committer, Magic, Reply, Page, Refused, NoSuchKey, NoSuchFile, below, File, Who, Script, Known}
 use Rattle.retries.specs.Prelude.{Item, Got, WornOut, OutOfMemory}
 use Rattle.magic_paths.specs.Layout as layout
 use Rattle.job_model.specs.declared.ends.TaskEnd.{TaskEnd}
@@ -126,8 +126,7 @@ to_check w a = cond (checks_partitions w.committer w.mode) (partitions (paths_of
 -- how each committer's task commit begins
 abbrev pub task_commit_start_by : Committer → Script → Who → TaskCommit
 task_commit_start_by Magic w a = Looking []
-task_commit_start_by Directory w a = checking w a (to_check w a)
-task_commit_start_by Partitioned w a = checking w a (to_check w a)
+task_commit_start_by _ w a = checking w a (to_check w a)
 
 -- where a task's commit begins
 abbrev pub task_commit_start : Script → Who → TaskCommit

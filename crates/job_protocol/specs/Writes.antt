@@ -1,6 +1,6 @@
 -- An attempt's write of its files (Hadoop, S3A committer architecture: the magic committer writes delayed uploads, the staging committers local files).
 use Rattle.std.specs.Prelude.{ℕ, List, [], ◌∷◌, length, Option, Some, None}
-use Rattle.job_model.specs.Prelude.{Request, PutObject, Committer, Magic, Directory, Partitioned, Reply, File, Who, Script, Known}
+use Rattle.job_model.specs.Prelude.{Request, PutObject, Committer, Magic, Reply, File, Who, Script, Known}
 use Rattle.retries.specs.Prelude.{Item, Got, WornOut, OutOfMemory}
 use Rattle.job_model.specs.declared.ends.TaskEnd.{TaskEnd}
 use Rattle.job_model.specs.declared.ends.TaskEnd.TheVariants as ends
@@ -27,8 +27,7 @@ writing (f ∷ fs) = Uploads f fs Creating
 -- the staging committers keep their files locally and send nothing
 abbrev pub write_start_by : Committer → List File → Write
 write_start_by Magic fs = writing fs
-write_start_by Directory fs = WriteOver ends.Done
-write_start_by Partitioned fs = WriteOver ends.Done
+write_start_by _ fs = WriteOver ends.Done
 
 -- where a write begins
 abbrev pub write_start : Script → Who → Write

@@ -1,14 +1,13 @@
 -- What a set-up has left in a scene.
 use Rattle.std.specs.Prelude.{ℕ, ◌+◌, ◌++◌, [], codes}
-use Rattle.job_protocol.specs.Prelude.{Scene, Committer, Magic, Directory, Partitioned, Job, Driving, sweep_start, Setup, Heading, Clearing, Sweeping, SetupOver, walk_left, sweep_left}
+use Rattle.job_protocol.specs.Prelude.{Scene, Committer, Magic, Job, Driving, sweep_start, Setup, Heading, Clearing, Sweeping, SetupOver, walk_left, sweep_left}
 use Rattle.magic_paths.specs.Layout as layout
 use Rattle.job_protocol.specs.Setup.{Checking}
 
 -- once the marker is deleted
 abbrev pub cleared_left : Committer → Job → Scene → ℕ
 cleared_left Magic j s = sweep_left j.dest.bucket (layout.magic_prefix j.dest.key j.job) sweep_start s
-cleared_left Directory j s = 0
-cleared_left Partitioned j s = 0
+cleared_left _ j s = 0
 
 -- the requests that a set-up has yet to send
 abbrev pub left_at : Job → Setup → Scene → ℕ

@@ -42,13 +42,12 @@ pub fn checks_all(committer: Committer, mode: Mode) -> bool
     ensures { result ≡ checks_all committer mode }
 {
     match committer {
-        Committer::Magic => false,
         Committer::Directory => match mode {
             Mode::Fail => true,
             Mode::Append => false,
             Mode::Replace => false,
         },
-        Committer::Partitioned => false,
+        _ => false,
     }
 }
 
@@ -147,8 +146,7 @@ impl Held {
                 put(&mut self.sweep, Sweep::new(alloc));
                 self.stage = Stage::Sweeping;
             }
-            Committer::Directory => self.finish(SetupEnd::Done),
-            Committer::Partitioned => self.finish(SetupEnd::Done),
+            _ => self.finish(SetupEnd::Done),
         }
     }
 

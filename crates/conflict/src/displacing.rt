@@ -1,0 +1,26 @@
+ghost use Rattle.std.specs.Prelude.{◌≡◌};
+ghost use Rattle.job_protocol.specs.Conflicts.{checks_partitions, displaced};
+
+use job_model::Displaced;
+use s3_types::{Committer, Mode};
+
+/// What a committer's mode deletes of the files that stood at a destination before the job. Takes no memory.
+pub fn displaced(committer: Committer, mode: Mode) -> Displaced
+    ensures { result ≡ displaced committer mode }
+{
+    match (committer, mode) {
+        (Committer::Directory, Mode::Replace) => Displaced::Everything,
+        (Committer::Partitioned, Mode::Replace) => Displaced::Partitions,
+        _ => Displaced::Nothing,
+    }
+}
+
+/// Whether a job's mode is to fail for files in the partitions that it writes. Takes no memory.
+pub fn checks_partitions(committer: Committer, mode: Mode) -> bool
+    ensures { result ≡ checks_partitions committer mode }
+{
+    match (committer, mode) {
+        (Committer::Partitioned, Mode::Fail) => true,
+        _ => false,
+    }
+}
