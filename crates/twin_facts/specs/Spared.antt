@@ -1,6 +1,6 @@
 -- What an abort or clean of a job at a shared destination leaves.
 use Rattle.std.specs.Prelude.{◌≡◌, ℕ, ◌<◌, true, List, Some, None}
-use Rattle.job_facts.specs.Prelude.{Scene, begins, Object, Driver, UploadRef, Committer, Magic, Directory, Partitioned, Entry, Request, Outcome, Retried, Content, IsLegal, TheSparing, strange_entry, IsForeign, IsIn, magic_prefix, cluster_prefix, is_record, Script, Setting, NoClusterFile, is_magic, is_staging, at_key, at_id, sets_at, Times}
+use Rattle.job_facts.specs.Prelude.{Scene, begins, Object, Driver, UploadRef, Committer, Magic, Entry, Request, Outcome, Retried, Content, IsLegal, TheSparing, strange_entry, IsForeign, IsIn, magic_prefix, cluster_prefix, is_record, Script, Setting, NoClusterFile, is_magic, is_staging, at_key, at_id, sets_at, Times}
 use Rattle.std.specs.FinMap as fin
 use Rattle.pending_json.specs.Reading as reading
 use Rattle.job_model.specs.declared.ends.CleanEnd.TheVariants as ends
@@ -12,8 +12,7 @@ use Rattle.job_protocol.specs.Scope.{NoMagicKey}
 -- what stands at a place below the job's directory names the upload: a record of the magic committer, a set or temporary file of the others
 abbrev pub NamedAt : Committer → Script → Scene → List ℕ → UploadRef → Type 0
 NamedAt Magic w s k u = (x : Object) × (begins (magic_prefix w.dest.key w.job) k ≡ true) × (is_record k ≡ true) × (at_key w s.content k ≡ Some x) × IsIn u (record_names (reading.pending_of x.bytes))
-NamedAt Directory w s p u = (bytes : List ℕ) × (begins (cluster_prefix w.job) p ≡ true) × (fin.get s.files p ≡ Some bytes) × IsIn u (set_names (reading.set_of bytes))
-NamedAt Partitioned w s p u = (bytes : List ℕ) × (begins (cluster_prefix w.job) p ≡ true) × (fin.get s.files p ≡ Some bytes) × IsIn u (set_names (reading.set_of bytes))
+NamedAt _ w s p u = (bytes : List ℕ) × (begins (cluster_prefix w.job) p ≡ true) × (fin.get s.files p ≡ Some bytes) × IsIn u (set_names (reading.set_of bytes))
 
 -- the set that stands for a task, where the committer keeps it, names the upload
 abbrev pub NamedBySet : Script → Scene → UploadRef → Type 0
