@@ -140,7 +140,6 @@ module _ {w : Script} (j : IsLegal w) (minimum : ℕ) (m : Told) where
 
   sparing_own : {s : Scene} {last : ℕ → Option ℕ} → Facts w minimum s last m → (c : Sparing) → FitsSparing w m.drawn c → (r : Request) → sparing_asks w c ≡ Some r → Own r
   sparing_own f (sparing.Reading named p ps all) h r e = subst Own (some_is e) (record_own w.committer refl p ps h.1)
-  sparing_own f _ h r e = subst Own (some_is e) (names_nothing _ refl refl refl)
   sparing_own f (Aborting u us all) h r e =
       let x = h.0 u (inl refl) in
       let o = f.owned x.0 x.1 x.2 in
@@ -148,6 +147,7 @@ module _ {w : Script} (j : IsLegal w) (minimum : ℕ) (m : Told) where
   sparing_own f (sparing.Deleting k ks) h r e = subst Own (some_is e) (names_keys _ (take 1000 (k ∷ ks)) refl refl refl (λ q i. inr (h q (taken_in 1000 (k ∷ ks) q i))))
   sparing_own f (sparing.Removing p ps) h r e = subst Own (some_is e) (names_path _ _ refl refl refl (h p (inl refl)))
   sparing_own f (SparingOver end) h r e = absurd cc
+  sparing_own f _ h r e = subst Own (some_is e) (names_nothing _ refl refl refl)
 
 -- ---- all of them
 
