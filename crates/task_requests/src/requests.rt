@@ -44,7 +44,7 @@ fn told_sizes(plan: &TaskPlan, sizes: SizeList) -> Option<SizeList>
 {
     match plan.job.committer {
         Committer::Magic => Some(sizes),
-        Committer::Directory | Committer::Partitioned => None,
+        _ => None,
     }
 }
 
