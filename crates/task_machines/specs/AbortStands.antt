@@ -1,7 +1,7 @@
 -- How an abort of a task stands.
 use Rattle.std.specs.Prelude.{◌≡◌, Bool, true, false, List, [], ◌∷◌, Option, Some, None}
 use Rattle.std.proofs.Common.{refl}
-use Rattle.job_protocol.specs.Prelude.{Committer, Magic, Directory, Partitioned, Reply, Drawn, Script, Attempting, task_script, task_abort_wants, task_abort_told, Sweep, sweep_hears, all_go, TaskAbort, Dropping, task_abort_over, task_abort_hears, dropping}
+use Rattle.job_protocol.specs.Prelude.{Committer, Magic, Reply, Drawn, Script, Attempting, task_script, task_abort_wants, task_abort_told, Sweep, sweep_hears, all_go, TaskAbort, Dropping, TaskAbortOver, task_abort_over, task_abort_hears, dropping}
 use Rattle.machine.specs.Prelude.{Standing, Fine, AskLaws}
 use Rattle.job_protocol.specs.TaskAborts.{Sweeping, removing, dropped, sweeping}
 use Rattle.task_machines.specs.Standing.{standing_by}
@@ -16,8 +16,7 @@ fine_removing false = refl
 
 fine_dropped : (c : Committer) (sent : Bool) → standing_by (task_abort_over (dropped c sent)) ≡ Fine
 fine_dropped Magic sent = refl
-fine_dropped Directory sent = fine_removing sent
-fine_dropped Partitioned sent = fine_removing sent
+fine_dropped _ sent = fine_removing sent
 
 fine_dropping : (c : Committer) (sent : Bool) (ds : List Drawn) → standing_by (task_abort_over (dropping c sent ds)) ≡ Fine
 fine_dropping c sent [] = fine_dropped c sent

@@ -1,6 +1,6 @@
 -- The replies that fit an abort of a task, and what it has left, for every committer.
 use Rattle.std.specs.Prelude.{ℕ, ◌+◌, Bool, length}
-use Rattle.job_protocol.specs.Prelude.{Scene, Committer, Magic, Directory, Partitioned, Reply, Who, Script, Attempting, task_script, who_of, Sweep, sweep_start, attempt_prefix, TaskAbort, Dropping, TaskAbortOver, FitsSweep, sweep_left}
+use Rattle.job_protocol.specs.Prelude.{Scene, Committer, Magic, Reply, Who, Script, Attempting, task_script, who_of, Sweep, sweep_start, attempt_prefix, TaskAbort, Dropping, TaskAbortOver, FitsSweep, sweep_left}
 use Rattle.job_protocol.specs.TaskAborts.{Sweeping, Removing}
 
 -- a page that is not folded has keys alone, and the bucket is there
@@ -19,8 +19,7 @@ own_left w a v s = sweep_left w.dest.bucket (attempt_prefix w a) v s
 -- once the uploads are aborted: the sweep, or the deletion of the temporary file
 abbrev pub after_left : Committer → Script → Who → Scene → ℕ
 after_left Magic w a s = own_left w a sweep_start s
-after_left Directory w a s = 1
-after_left Partitioned w a s = 1
+after_left _ w a s = 1
 
 -- the requests that a task's abort has yet to send
 abbrev pub abort_left_at : Script → Who → TaskAbort → Scene → ℕ

@@ -27,7 +27,7 @@ impl<O: TaskOperation, M: Holds<O>, S: Holds<O>> Holds<O> for ByCommitter<M, S> 
                 Ok(held) => Ok(ByCommitter::Magic(held)),
                 Err(error) => Err(error),
             },
-            Committer::Directory | Committer::Partitioned => match S::begin(alloc, plan) {
+            _ => match S::begin(alloc, plan) {
                 Ok(held) => Ok(ByCommitter::Staging(held)),
                 Err(error) => Err(error),
             },
