@@ -13,7 +13,7 @@ pub use Rattle.job_commit.specs.Stages.{answered, counted, first_lost, lost_in, 
 pub use Rattle.job_commit.specs.declared.basis.Basis.{Basis}
 pub use Rattle.job_commit.specs.declared.step.Next.{Next}
 pub use Rattle.job_commit.specs.declared.step.Step.{Step}
-pub use Rattle.job_protocol.specs.Prelude.{Answered, Commit, CommitEnd, CommitOver, Committer, Committing, Directory, Fetching, In, Job, Magic, Marking, Mode, Partitioned, Path, PendingSet, Pick, Picks, Replace, Replacing, Reply, Request, Reverting, Script, Sets, Sweep, Table, Turn, again, all_commits, commit_hears, commit_misses, commit_over, completing, dealt, decided, fetching, first_where, follow, fresh_turn, has_task, job_script, partitions, picked_after, picks_of, read_script, replaced, replacing, revert, reverting, same_path, set_request, sets_after, sets_in, sweep_hears, sweep_start, wanted_paths, worn_completion}
+pub use Rattle.job_protocol.specs.Prelude.{Answered, Commit, CommitEnd, CommitOver, Committer, Committing, Fetching, In, Job, Magic, Marking, Mode, Path, PendingSet, Pick, Picks, Replace, Replacing, Reply, Request, Reverting, Script, Sets, Sweep, Table, Turn, again, all_commits, commit_hears, commit_misses, commit_over, completing, dealt, decided, fetching, first_where, follow, fresh_turn, has_task, job_script, partitions, picked_after, picks_of, read_script, replaced, replacing, revert, reverting, same_path, set_request, sets_after, sets_in, sweep_hears, sweep_start, wanted_paths, worn_completion}
 pub use Rattle.path_keys.proofs.Common.{append-nil, below_is, below_so, map-append, on_ok_weaker}
 pub use Rattle.std.proofs.Common.{Bool, List, None, OnOk, Option, Result, Some, [], ap, arith, cond, drop, false, inl, inr, length, length-append, map, nat_lt, not, refl, subst, suc, sym, true, zero, ℕ, ◌++◌, ◌+◌, ◌<◌, ◌^◌, ◌∙◌, ◌∷◌, ◌≡◌, ◌≤◌, ◌⊎◌}
 pub use Rattle.std.specs.Prelude.{⊤}

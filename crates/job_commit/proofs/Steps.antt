@@ -1,5 +1,5 @@
 -- what is done next
-use Rattle.job_commit.proofs.Common.{Answered, AreRead, Bool, Commit, CommitEnd, Committer, Deletes, Deletion, Directory, Fetching, FitsDeletion, FitsReply, HasAll, Heard, In, IsNext, IsRevert, Job, LaneTable, LanesWithin, List, Magic, Mode, Next, None, OnOk, Option, Partitioned, Path, Pick, Picks, Place, Reads, Replace, Reply, Request, Result, Script, Sets, Some, Step, StepHolds, Sweep, Table, Turn, Undo, UndoWithin, [], again, all_commits, answered, ap, append-nil, arith, asks, asks_below, attempts_of, below_is, below_so, commit_hears, completing, cond, dealt, decided, deleted, deletion_asks, deletion_hears, drop, false, fetching, first_of, follow, fresh_turn, hears_below, inl, inr, job_script, length, listed, map, nat_lt, next_turn, on_ok_weaker, operation_of, partitions, picked_after, picks_of, places_from, places_length, read_script, refl, replaced, replacing, replacing_at, revert, reverting, reverting_from, same_path, set_request, sets_after, spared, subst, sweep_hears, sweep_start, swept_on, sym, true, undo_request, wanted_paths, worn_completion, worn_out, ℕ, ⊤, ◌++◌, ◌+◌, ◌<◌, ◌∙◌, ◌∷◌, ◌≡◌, ◌≤◌}
+use Rattle.job_commit.proofs.Common.{Answered, AreRead, Bool, Commit, CommitEnd, Committer, Deletes, Deletion, Fetching, FitsDeletion, FitsReply, HasAll, Heard, In, IsNext, IsRevert, Job, LaneTable, LanesWithin, List, Magic, Mode, Next, None, OnOk, Option, Path, Pick, Picks, Place, Reads, Replace, Reply, Request, Result, Script, Sets, Some, Step, StepHolds, Sweep, Table, Turn, Undo, UndoWithin, [], again, all_commits, answered, ap, append-nil, arith, asks, asks_below, attempts_of, below_is, below_so, commit_hears, completing, cond, dealt, decided, deleted, deletion_asks, deletion_hears, drop, false, fetching, first_of, follow, fresh_turn, hears_below, inl, inr, job_script, length, listed, map, nat_lt, next_turn, on_ok_weaker, operation_of, partitions, picked_after, picks_of, places_from, places_length, read_script, refl, replaced, replacing, replacing_at, revert, reverting, reverting_from, same_path, set_request, sets_after, spared, subst, sweep_hears, sweep_start, swept_on, sym, true, undo_request, wanted_paths, worn_completion, worn_out, ℕ, ⊤, ◌++◌, ◌+◌, ◌<◌, ◌∙◌, ◌∷◌, ◌≡◌, ◌≤◌}
 use Rattle.job_model.specs.declared.ends.CommitEnd.TheVariants as ends
 use Rattle.job_protocol.proofs.Members.{in_push, in_append, some_is}
 use Rattle.conflict.specs.Laws.{deleting_below, commit_deleting, deletion_of}
@@ -211,8 +211,7 @@ spared_is d j ps sweep e = ap (λ (v : Deletion). v.spared) e
 -- a mode that keeps all
 kept_prefixes : (c : Committer) (m : Mode) (w : Script) (picks : Picks) → (m ≡ Replace → ⊥) → [] ≡ replaced c m w picks
 kept_prefixes Magic m w picks h = refl
-kept_prefixes Directory Replace w picks h = absurd (h refl)
-kept_prefixes Partitioned Replace w picks h = absurd (h refl)
+kept_prefixes _ Replace w picks h = absurd (h refl)
 kept_prefixes _ _ w picks h = refl
 
 pub kept_next : {E : Type 0} (r : Result ⊤ E) (j : Job) (sets : Sets) (places : List Place) (mode : Mode) (next : Next) → mode ≡ j.mode → (mode ≡ Replace → ⊥)
