@@ -1,6 +1,6 @@
 -- Each answer that is due to a sparing abort or clean fits: a set that it reads names no more uploads than the job has files.
 use Rattle.actor_operations.proofs.Common.{AllOwn, ClusterBytes, Filed, FitsDue, FitsSparing, List, None, Ok, Option, Some, [], ap, arith, inl, inr, length, length-map, refl, some_is, sparing_wants, subst, sym, true, ℕ, ◌<◌, ◌^◌, ◌∙◌, ◌∷◌, ◌≡◌, ◌≤◌}
-use Rattle.job_facts.specs.Prelude.{Scene, answer, read_answer, begins, GetObject, ClusterGet, Committer, Magic, Directory, Partitioned, File, Who, IsLegal, Script, files, files_set, magic_prefix, cluster_prefix, Told, IsAttempt, is_staging, AreCommits, Facts, knowing}
+use Rattle.job_facts.specs.Prelude.{Scene, answer, read_answer, begins, GetObject, ClusterGet, Committer, Magic, File, Who, IsLegal, Script, files, files_set, magic_prefix, cluster_prefix, Told, IsAttempt, is_staging, AreCommits, Facts, knowing}
 use Rattle.std.specs.FinMap as fin
 use Rattle.pending_json.specs.Reading as reading
 use Rattle.job_protocol.specs.Sparing.{Sparing, Walking, Reading, record_request, ref_of, set_names}
@@ -43,8 +43,7 @@ module _ (w : Script) (minimum : ℕ) (s : Scene) (last : ℕ → Option ℕ) (m
 
     read_few : (c : Committer) → w.committer ≡ c → (p : List ℕ) → AllOwn w (p ∷ []) → NamesFew (answer s (record_request c w p))
     read_few Magic e p own = object_few p
-    read_few Directory e p own = path_few (ap is_staging e) p (own.paths (ap is_staging e) p (inl refl))
-    read_few Partitioned e p own = path_few (ap is_staging e) p (own.paths (ap is_staging e) p (inl refl))
+    read_few _ e p own = path_few (ap is_staging e) p (own.paths (ap is_staging e) p (inl refl))
 
     first_own : (p : List ℕ) (ps : List (List ℕ)) → AllOwn w (p ∷ ps) → AllOwn w (p ∷ [])
     first_own p ps h = record {
