@@ -2,9 +2,9 @@
 use Rattle.std.specs.Prelude.{◌≡◌, ℕ, ◌<◌, ◌≤◌, ◌^◌, ◌-◌, ◌⊎◌, List, [], ◌++◌, Option, Some, None, length, take, drop, Bool}
 use Rattle.shelf.specs.declared.calls.Calls.{Calls}
 
--- the count of faults rose, or stands where it can rise no more
+-- the count of faults rose, or was at its most, 2^64 - 1, and stands
 abbrev pub Rose : ℕ → ℕ → Type 0
-Rose before after = (before < after) ⊎ (2 ^ 64 - 1 ≤ before)
+Rose before after = (before < after) ⊎ ((2 ^ 64 - 1 ≤ before) × (after ≡ before))
 
 -- the first n bytes that were left stand at the buffer's front and are left no more; none for a buffer that has room is the end
 pub record TakesFirst (left rest : List ℕ) (n : ℕ) (buffer : List ℕ) : Type 0 where
