@@ -56,6 +56,10 @@ abbrev pub TakesAppends : Option File → (File → Type 0) → Option ℕ → T
 TakesAppends seen leaves None = ⊥
 TakesAppends seen leaves (Some gate) = IsSettled seen leaves gate
 
+-- where there is a gate, a crash leaves what a read gives, where it is told
+abbrev pub IsSure : Option File → (File → Type 0) → Option ℕ → Type 0
+IsSure seen leaves gate = (place : ℕ) (file c : File) → gate ≡ Some place → seen ≡ Some file → leaves c → c ≡ file
+
 -- a front with a closed gate behind it is all that a disk has
 pub record IsClosed (front : List ℕ) (gate : ℕ) (seen : Option File) (leaves : File → Type 0) : Type 0 where
   pub at : length front ≡ gate

@@ -4,8 +4,7 @@ ghost use Rattle.shelf.specs.Devices.{Rose};
 ghost use Rattle.shelf.specs.Causes.{IfBadLog};
 ghost use Rattle.shelf.specs.Logged.{LeavesOnly, most_file, IsLoaded, IsTooLarge, IsBad};
 ghost use Rattle.folder_log.specs.Disk.{File, IsWithin, Writes, IsTorn, Only, Settles, more, FewMore};
-ghost use Rattle.folder_log.specs.Kept.{IsClosed, IsLeftOf, IsPrepared, stored_of, stored, Leaves, TakesAppends};
-ghost use Rattle.folder_log.specs.Parts.{disk_of, IsUnused, Answers, Fails};
+ghost use Rattle.folder_log.specs.Kept.{IsClosed, IsLeftOf, IsPrepared, IsSure, stored_of, stored, Leaves, TakesAppends};
 
 use crate::disk::{DiskFault, LogDisk};
 use log_format::{LogFault, base_length, can_write, head_of, read_log, write_record};
@@ -106,9 +105,12 @@ pub struct LogShelf<D: LogDisk> {
     /// The record that was written last.
     buffer: Vec<u8>,
     alloc: Global,
+    ghost sure: { IsSure (D.seen disk) (D.may_leave disk) gate },
 }
 
 impl<D: LogDisk + Drop> LogShelf<D> {
+    ghost use Rattle.folder_log.specs.Parts.{disk_of, IsUnused};
+
     /// Touches nothing. It takes no appends before a `replace`.
     pub fn new(alloc: Global, disk: D) -> LogShelf<D>
         ensures disk { disk_of result ≡ disk }
@@ -132,6 +134,8 @@ impl<D: LogDisk + Drop> LogShelf<D> {
 }
 
 impl<D: LogDisk + Drop> Shelf for LogShelf<D> {
+    ghost use Rattle.folder_log.specs.Parts.{Answers, Fails};
+
     ghost sight = { record {
       held = λ s. stored (D.seen s.disk);
       answers = λ s t. Answers D.calls s t;

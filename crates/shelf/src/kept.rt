@@ -55,6 +55,8 @@ pub trait Shelf {
         ensures bad { IfBadLog result (λ place. IsBad (sight.held self.old) place) }
         ensures same { sight.held self.new ≡ sight.held self.old }
         ensures appends { (IsErrOf result LoadFault.Failed → ⊥) → takes_appends self.old → takes_appends self.new }
+        ensures begins_none { takes_appends self.new → takes_appends self.old }
+        ensures ends { IsErrOf result LoadFault.Failed → takes_appends self.new → ⊥ }
         ensures any_moment { CrashesLeave sight self.old self.new (sight.may_leave self.old) }
         ensures durable { OnOk result (IsDurable (sight.held self.new) (sight.may_leave self.new)) }
         ensures failed { IsErrOf result LoadFault.Failed → Rose (faults self.old) (faults self.new) }
@@ -68,6 +70,7 @@ pub trait Shelf {
     fn replace(&mut self, bytes: &[u8]) -> Result<(), Failed>
         ensures replaced { OnOk result (HoldsFresh (sight.held self.old) (sight.held self.new) bytes.now) }
         ensures appends { OnOk result (takes_appends self.new) }
+        ensures ends { OnErr result (takes_appends self.new → ⊥) }
         ensures same { OnErr result (sight.held self.new ≡ sight.held self.old) }
         ensures any_moment { CrashesLeave sight self.old self.new
             (λ h. sight.may_leave self.old h ⊎ (h ≡ fresh bytes.now)) }
@@ -86,6 +89,7 @@ pub trait Shelf {
         requires appends { takes_appends self.old }
         ensures grown { OnOk result (HoldsGrown (sight.held self.old) (sight.held self.new) change.now) }
         ensures appends { (IsErrOf result ShelfStop.Failed → ⊥) → takes_appends self.new }
+        ensures ends { IsErrOf result ShelfStop.Failed → takes_appends self.new → ⊥ }
         ensures same { IsErrOf result ShelfStop.NoMemory → sight.held self.new ≡ sight.held self.old }
         ensures one_of { IsErrOf result ShelfStop.Failed
             → HoldsOneOf (sight.held self.old) (sight.held self.new) change.now }

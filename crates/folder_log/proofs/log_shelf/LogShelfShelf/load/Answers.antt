@@ -1,12 +1,21 @@
-use Rattle.folder_log.proofs.Common.{IsRead, List, Option, Some, ap, arith, more, refl, rules, subst, ℕ, ◌∙◌, ◌≡◌}
+use Rattle.folder_log.proofs.Common.{Some, ap, arith, more, refl, rules, ◌∙◌, ◌≡◌}
 use Rattle.shelf.specs.Calls.{one_more}
-use Rattle.folder_log.proofs.Appends.{read_small}
+use Rattle.folder_log.proofs.Appends.{begins_none, read_small}
 use Rattle.folder_log.proofs.Moments.{more_more}
 use Rattle.folder_log.proofs.log_shelf.LogShelfShelf.load.Goals as goal
 
 pub loaded-requires : goal.loaded-requires
 loaded-requires g c =
-    read_small (g.D.LogDisk.seen c.sync.new.self) (Some c.in-Ok-Some.file) (subst (λ (o : Option (List ℕ)). IsRead (g.D.LogDisk.seen c.sync.new.self) o) c.in-Ok-Some.field-0-is c.in-Ok-Some.ensures.bytes)
+    rw c.in-Ok-Some.field-0-is (read_small (g.D.LogDisk.seen c.sync.new.self) (Some c.in-Ok-Some.file) (rw c.in-Ok-Some.field-0-is at c.in-Ok-Some.ensures.bytes))
+
+pub returns-in-Ok-Some-clause-begins_none : goal.returns-in-Ok-Some-clause-begins_none
+returns-in-Ok-Some-clause-begins_none g c = begins_none _ _ _ _ _ c.args.self.now.sure (c.read.ensures.seen ∙ c.sync.ensures.seen)
+
+pub returns-in-Err-TooLarge-clause-begins_none : goal.returns-in-Err-TooLarge-clause-begins_none
+returns-in-Err-TooLarge-clause-begins_none g c = begins_none _ _ _ _ _ c.args.self.now.sure (c.read.ensures.seen ∙ c.sync.ensures.seen)
+
+pub returns-in-Err-NoMemory-clause-begins_none : goal.returns-in-Err-NoMemory-clause-begins_none
+returns-in-Err-NoMemory-clause-begins_none g c = begins_none _ _ _ _ _ c.args.self.now.sure (c.read.ensures.seen ∙ c.sync.ensures.seen)
 
 pub returns-in-Err-Failed-clause-broken : goal.returns-in-Err-Failed-clause-broken
 returns-in-Err-Failed-clause-broken g c _ =
