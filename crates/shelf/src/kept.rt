@@ -91,6 +91,8 @@ pub trait Shelf {
         ensures appends { (IsErrOf result ShelfStop.Failed → ⊥) → takes_appends self.new }
         ensures ends { IsErrOf result ShelfStop.Failed → takes_appends self.new → ⊥ }
         ensures same { IsErrOf result ShelfStop.NoMemory → sight.held self.new ≡ sight.held self.old }
+        ensures kept { IsErrOf result ShelfStop.NoMemory
+            → (h : Holding) → sight.may_leave self.new h → sight.may_leave self.old h }
         ensures one_of { IsErrOf result ShelfStop.Failed
             → HoldsOneOf (sight.held self.old) (sight.held self.new) change.now }
         ensures any_moment { CrashesLeave sight self.old self.new
