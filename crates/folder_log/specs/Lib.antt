@@ -3,3 +3,4 @@ pub mod Kept
 pub mod Parts
 pub mod Calls
 pub mod Images
+pub mod Lengths

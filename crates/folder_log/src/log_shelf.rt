@@ -135,6 +135,7 @@ impl<D: LogDisk + Drop> LogShelf<D> {
 
 impl<D: LogDisk + Drop> Shelf for LogShelf<D> {
     ghost use Rattle.folder_log.specs.Parts.{Answers, Fails};
+    ghost use Rattle.folder_log.specs.Lengths.{has_base_length, is_within_log};
 
     ghost sight = { record {
       held = λ s. stored (D.seen s.disk);
@@ -152,6 +153,11 @@ impl<D: LogDisk + Drop> Shelf for LogShelf<D> {
     ghost timed = { record {
       counts_now = λ s t h le left. (left.0, D.counts_now s.disk t left.0 le left.1, left.2);
       only_now = λ s h left. (left.0, D.only_now s.disk left.0 left.1, left.2);
+    } };
+
+    ghost measured = { record {
+      base = λ s. has_base_length (D.seen s.disk);
+      file = λ s takes. is_within_log (D.seen s.disk) (D.may_leave s.disk) s.gate takes;
     } };
 
     /// Syncs, and then reads the file once: O(bytes), in memory for the file, its base and its changes.

@@ -1,7 +1,8 @@
 -- A shelf that takes changes one by one: what it holds, what its calls make of that, and what a crash leaves of it.
-use Rattle.std.specs.Prelude.{◌≡◌, ◌⊎◌, ℕ, ◌<◌, ◌≤◌, List, [], ◌∷◌, ◌++◌, Option, Some, None}
+use Rattle.std.specs.Prelude.{◌≡◌, ◌⊎◌, ℕ, ◌<◌, ◌≤◌, List, [], ◌∷◌, ◌++◌, length, Option, Some, None}
 use Rattle.s3_types.specs.Prelude.{option_map}
 use Rattle.s3_types.specs.declared.request.Request.{Request}
+use Rattle.log_format.specs.Log.{log}
 use Rattle.log_format.specs.declared.held.Held.{Held}
 
 -- nothing, a base and the changes after it, or a file that is bad at a place
@@ -111,3 +112,18 @@ CrashesLeave F old new P = LeavesOnly F.moment F.left_since old new P
 pub record IsTimed {S : Type 0} (F : Sight S) : Type 0 where
   pub counts_now : (s : S) (t : ℕ) (h : Holding) → t ≤ F.moment s → F.may_leave s h → F.left_since s t h
   pub only_now : (s : S) (h : Holding) → F.left_since s (F.moment s) h → F.may_leave s h
+
+-- the length of the base is that of the base that is held, where it is told
+abbrev pub HasBaseLength : Option Stored → Type 0
+HasBaseLength None = Unit {0}
+HasBaseLength (Some s) = (held : Held) → s.holding ≡ Stands held → s.base_length ≡ length held.base
+
+-- the file is no longer than a log of what is held, where it is told
+abbrev pub IsWithinLog : Option Stored → Type 0
+IsWithinLog None = Unit {0}
+IsWithinLog (Some s) = (held : Held) → s.holding ≡ Stands held → s.file_length ≤ length (log held.base held.changes)
+
+-- the two lengths by which a load decides what is too large
+pub record IsMeasured {S : Type 0} (F : Sight S) (takes_appends : S → Type 0) : Type 0 where
+  pub base : (s : S) → HasBaseLength (F.held s)
+  pub file : (s : S) → takes_appends s → IsWithinLog (F.held s)

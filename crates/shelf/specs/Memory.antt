@@ -1,8 +1,9 @@
 -- A shelf in memory that takes changes.
-use Rattle.std.specs.Prelude.{Bool, length, Option, Some, None}
+use Rattle.std.specs.Prelude.{◌≡◌, Bool, length, Option, Some, None}
+use Rattle.std.proofs.Common.{ap, arith}
 use Rattle.log_format.specs.declared.held.Held.{Held}
 use Rattle.shelf.specs.declared.calls.Calls.{Calls}
-use Rattle.shelf.specs.Logged.{Stored}
+use Rattle.shelf.specs.Logged.{Holding, Stored, HasBaseLength, IsWithinLog}
 use Rattle.shelf.specs.Logged.Holding.{Nothing, Stands}
 
 -- what it holds, whether it takes appends, and its calls
@@ -15,3 +16,14 @@ pub record Stocked : Type 0 where
 abbrev pub stock : Option Held → Stored
 stock None = record { holding = Nothing; base_length = 0; file_length = 0 }
 stock (Some held) = record { holding = Stands held; base_length = length held.base; file_length = 0 }
+
+one_held : (a b : Held) → Stands a ≡ Stands b → a ≡ b
+one_held a b is = cc
+
+pub stock_measured : (held : Option Held) → HasBaseLength (Some (stock held))
+stock_measured None h is = cc
+stock_measured (Some held) h is = ap (λ (x : Held). length x.base) (one_held held h is)
+
+pub stock_within : (held : Option Held) → IsWithinLog (Some (stock held))
+stock_within None h is = omega arith
+stock_within (Some held) h is = omega arith

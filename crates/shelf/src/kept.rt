@@ -2,7 +2,7 @@
 ghost use Rattle.std.specs.Prelude.{◌≡◌, ℕ, ◌⊎◌, IfOk, OnOk, OnErr, IsErrOf, true};
 ghost use Rattle.log_format.specs.Change.{is_changing};
 ghost use Rattle.shelf.specs.Devices.{Rose};
-ghost use Rattle.shelf.specs.Logged.{Sight, Holding, IsLoaded, IsTooLarge, IsBad, fresh, HoldsFresh, HoldsGrown, HoldsOneOf, IsBeforeOrAfter, IsDurable, CrashesLeave, IsTimed};
+ghost use Rattle.shelf.specs.Logged.{Sight, Holding, IsLoaded, IsTooLarge, IsBad, fresh, HoldsFresh, HoldsGrown, HoldsOneOf, IsBeforeOrAfter, IsDurable, CrashesLeave, IsTimed, IsMeasured};
 ghost use Rattle.shelf.specs.Causes.{IfBadLog};
 
 mod memory;
@@ -105,4 +105,7 @@ pub trait Shelf {
 
     /// What its moments are.
     ghost timed: { IsTimed sight };
+
+    /// By which lengths a load decides what is too large.
+    ghost measured: { IsMeasured sight takes_appends };
 }

@@ -4,7 +4,7 @@ ghost use Rattle.shelf.specs.Calls as calls_of;
 ghost use Rattle.shelf.specs.Calls.{unused};
 ghost use Rattle.shelf.specs.Logged.{IsLoaded, IsTooLarge};
 ghost use Rattle.shelf.specs.Causes.{IfBadLog};
-ghost use Rattle.shelf.specs.Memory.{stock};
+ghost use Rattle.shelf.specs.Memory.{stock, stock_measured, stock_within};
 
 use super::{Held, LoadFault, MOST_BASE, RequestList, Shelf, ShelfStop};
 use crate::calls::Calls;
@@ -130,6 +130,8 @@ impl Shelf for MemShelf {
     ghost takes_appends = { λ s. s.takes ≡ true };
 
     ghost timed = { record { counts_now = λ s t h le left. left; only_now = λ s h left. left } };
+
+    ghost measured = { record { base = λ s. stock_measured s.held; file = λ s takes. stock_within s.held } };
 
     fn load(&mut self) -> Result<Option<Held>, LoadFault> {
         match self.calls.next() {

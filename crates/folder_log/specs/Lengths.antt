@@ -1,0 +1,68 @@
+-- The two lengths by which a load of a log file decides what is too large.
+use Rattle.std.specs.Prelude.{◌≡◌, ℕ, Bool, true, false, if◌then◌else◌, List, [], length, drop, Option, Some, None, Result, Ok, Err, refl}
+use Rattle.std.proofs.Common.{sym, ap, subst, inr, ◌∙◌, arith, rules}
+use Rattle.s3_types.specs.Prelude.{◌>>=◌}
+use Rattle.log_format.specs.Log.{log}
+use Rattle.log_format.specs.Reading.{Read, held_in, logged_in, block_at, changes_at, is_log, length_of, base_length}
+use Rattle.s3_types.specs.declared.request.Request.{Request}
+use Rattle.log_format.specs.declared.held.Held.{Held}
+use Rattle.log_format.specs.declared.fault.LogFault.{LogFault}
+use Rattle.shelf.specs.Logged.{Holding, HasBaseLength, IsWithinLog}
+use Rattle.shelf.specs.Logged.Holding.{Stands}
+use Rattle.folder_log.specs.Disk.{File}
+use Rattle.folder_log.specs.Kept.{IsAtRest, as_holding, stored, TakesAppends}
+use Rattle.log_format.proofs.Files.{file_again}
+
+one_held : (a b : Held) → Stands a ≡ Stands b → a ≡ b
+one_held a b is = cc
+
+-- what stands was read
+read_is : (r : Result Held LogFault) (held : Held) → as_holding r ≡ Stands held → r ≡ Ok held
+read_is r held is = grind arith
+
+abbrev base_in : Result Held LogFault → ℕ
+base_in (Ok held) = length held.base
+base_in (Err fault) = 0
+
+-- the base of a log has the length that was read
+logged_length : (whole : ℕ) (r : Read (List ℕ)) (held : Held)
+    → (r >>= λ base. changes_at (length base.1) whole base.1 >>= λ changes. Ok (record { base = base.0; changes = changes })) ≡ Ok held
+    → length_of r ≡ length held.base
+logged_length whole (Err fault) held is = cc
+logged_length whole (Ok base) held is = by (changes_at (length base.1) whole base.1) is
+  where
+    by : (cs : Result (List Request) LogFault) → (cs >>= λ changes. Ok (record { base = base.0; changes = changes })) ≡ Ok held → length base.0 ≡ length held.base
+    by (Err fault) is = cc
+    by (Ok changes) is = ap base_in is
+
+read_length : (bytes : List ℕ) (held : Held) → held_in bytes ≡ Ok held → base_length bytes ≡ length held.base
+unfolding held_in base_length logged_in
+read_length bytes held is = by (is_log bytes) is
+  where
+    by : (b : Bool) → (if b then logged_in (length bytes) (drop 8 bytes) else Ok (record { base = bytes; changes = [] })) ≡ Ok held
+        → (if b then length_of (block_at 8 (drop 8 bytes)) else length bytes) ≡ length held.base
+    by true is = logged_length (length bytes) (block_at 8 (drop 8 bytes)) held is
+    by false is = ap base_in is
+
+pub has_base_length : (seen : Option File) → HasBaseLength (stored seen)
+has_base_length None = tt
+has_base_length (Some None) = λ held is. cc
+has_base_length (Some (Some bytes)) = λ held is. read_length bytes held (read_is (held_in bytes) held is)
+
+-- a log at rest holds its base and its changes
+at_rest_held : (gate : ℕ) (bytes : List ℕ) (rest : IsAtRest gate bytes) → held_in bytes ≡ Ok (record { base = rest.base; changes = rest.changes })
+at_rest_held gate bytes rest =
+    file_again bytes (record { base = rest.base; changes = rest.changes }) rest.fits (inr (record { gate = 0; behind = []; not_open = omega arith; spelled = rest.spelled; legal = rest.legal }))
+
+at_rest_within : (gate : ℕ) (bytes : List ℕ) → IsAtRest gate bytes → IsWithinLog (stored (Some (Some bytes)))
+at_rest_within gate bytes rest held is =
+    let here : Held = record { base = rest.base; changes = rest.changes } in
+    let same : here ≡ held = one_held here held (sym (ap as_holding (at_rest_held gate bytes rest)) ∙ is) in
+    let file : length bytes ≡ length (log held.base held.changes) = ap length rest.spelled ∙ ap (λ (h : Held). length (log h.base h.changes)) same in
+    omega arith
+
+pub is_within_log : (seen : Option File) (leaves : File → Type 0) (gate : Option ℕ) → TakesAppends seen leaves gate → IsWithinLog (stored seen)
+is_within_log seen leaves None takes = absurd takes
+is_within_log None leaves (Some gate) takes = tt
+is_within_log (Some None) leaves (Some gate) takes = absurd takes
+is_within_log (Some (Some bytes)) leaves (Some gate) takes = at_rest_within gate bytes takes.0
