@@ -19,8 +19,13 @@ use Rattle.fs_files.specs.code.Writing as writing
 use Rattle.fs_files.specs.Creation.{Creation, IsCreation}
 use Rattle.fs_files.proofs.WritingLaws as files
 use Rattle.fs_files.proofs.WritingLaws.{placed_same, placed_by, Wrote, HeardSo, OwnHeard, GoesOn, goes_further}
+use Rattle.fs_files.specs.Requests.{IsWriteOf, Cleans}
+use Rattle.fs_files.proofs.Sending.{GoesOnSo, applied, is_write, sending_begins, sends_on}
 use Rattle.fs_files.proofs.Creating.{created_above, makes_file, few_created}
-use Rattle.fs_files.specs.code.Create.{Answer, CreateStep, asks, write_at, on_climb, climb, replace, here as here_at, on_here, on_below, drop_from, written, on, goes, IsOpen, IsDue, SomeDue, file_in, IsMade, least, HoldsIn, bucket_at, HoldsAt, holds, IsUndone, GivesFile, always_in, AlwaysFile, starts, request, stepped, led, gives, always, sends, upload_of, calm, leaves, write_left, left_at, left, Writes}
+use Rattle.fs_files.specs.code.Create.{Answer, CreateStep, asks, write_at, on_climb, climb, replace, here as here_at, on_here, on_below}
+use Rattle.fs_files.specs.code.Create.{drop_from, written, on, goes, IsOpen, IsDue, SomeDue, file_in, IsMade, IsSending, least, HoldsIn}
+use Rattle.fs_files.specs.code.Create.{bucket_at, HoldsAt, holds, IsUndone, GivesFile, always_in, AlwaysFile, starts, request, stepped, led}
+use Rattle.fs_files.specs.code.Create.{gives, always, sends, upload_of, calm, leaves, write_left, left_at, left, Writes}
 
 -- where there is no bucket it ends, and else it goes on
 unless_so : {X : Type 0} (l : Look) (absent y : X) (P : X → Type 0) → (l ≡ NoBucket → P absent) → P y → P (unless l absent y)
@@ -55,7 +60,7 @@ module _ (o : Creation) (z : Scene) (ok : IsCreation o) where
     hides : HoldsAt v o z x (apply s (asks o x)) true
     loses : HoldsAt v o z x s true
     moments : least o z → InFile v (always_in o) (Unit {0}) z B s
-    asked : (only_reads (asks o x) ≡ true) ⊎ SomeDue o v
+    asked : (only_reads (asks o x) ≡ true) ⊎ (SomeDue o v × IsWriteOf o z.content.next (asks o x))
 
   -- ---- no bucket
 
@@ -95,7 +100,14 @@ module _ (o : Creation) (z : Scene) (ok : IsCreation o) where
         no_root : (HasFile Z [] × (o.overwrite ≡ true)) ⊎ IsAbsent Z [] → ⊥
         no_root (inl h) = h.0.1
         no_root (inr h) = h
-    write_goes (x ∷ p) e d = (d, room_of (x ∷ p), sym e, refl, λ l. files.begins z B o.bytes (x ∷ p) o.block c there l (room_of (x ∷ p)))
+    write_goes (x ∷ p) e d = (
+      d,
+      room_of (x ∷ p),
+      sym e,
+      refl,
+      λ l. files.begins z B o.bytes (x ∷ p) o.block c there l (room_of (x ∷ p)),
+      sending_begins o z (x ∷ p),
+    )
 
     on_goes : (d : Climbed) → IsOpen o Z → IsClimbed Z (keys_above o.path.key) d → At (on_climb o d) z
     on_goes d h g = grind (arith, refuses, write_goes)
@@ -136,26 +148,34 @@ module _ (o : Creation) (z : Scene) (ok : IsCreation o) where
         let t = makes_file o.path.key o.bytes Ks Z (plain o.path.key refl d.allowed) (created_above o.policy o.path) in
         (d.allowed, d.free, subst (Rattle.fs_tree.specs.Changes.MakesFile o.path.key o.bytes Z) (sym e) t, e)
 
+    cons_nil : {X : Type 0} {x : X} {xs : List X} → x ∷ xs ≡ [] → ⊥
+    cons_nil e = cc
+
     wrote_goes : (ks : List (List ℕ)) → Ks ≡ ks → IsDue o Z → (s : Scene) → (least o z → Wrote z B o.path.key o.bytes c s) → At (drop_from ks) s
     wrote_goes [] e d s f = λ l. (map_beside (λ m. m ≡ file_in o Z) (λ m. Creates o.path o.bytes o.overwrite o.policy Z (Ok tt) m) s (λ m g. makes m d (g ∙ ap (without (file_in o Z)) (sym e))) (f l), tt)
-    wrote_goes (k ∷ ks) e d s f = (d, λ l. map_beside (λ m. m ≡ file_in o Z) (IsMade o Z) s (λ m g. inl g) (f l))
+    wrote_goes (k ∷ ks) e d s f =
+        (d, λ g. absurd (cons_nil (sym e ∙ g)), λ l. map_beside (λ m. m ≡ file_in o Z) (IsMade o Z) s (λ m g. inl g) (f l))
 
     -- ---- the bytes
 
-    module _ (w : Writing) (s : Scene) (repeated : Bool) (d : IsDue o Z) (room : HasRoom (stream_of B w)) (key : w.key ≡ o.path.key) (block : w.block ≡ o.block) (writes : least o z → Writes z B o.bytes c w s repeated) where
+    module _ (w : Writing) (s : Scene) (repeated : Bool) (d : IsDue o Z) (room : HasRoom (stream_of B w))
+        (key : w.key ≡ o.path.key) (block : w.block ≡ o.block)
+        (writes : least o z → Writes z B o.bytes c w s repeated) (sending : IsSending o z w s) where
       abbrev r : Request
       r = writing.asks B w
 
-      heard_goes : (h : Heard) → GoesOn B w h → (least o z → HeardSo z B w.key o.bytes c h (apply s r)) → At (written o h) (apply s r)
-      heard_goes Done k f = wrote_goes Ks refl d (apply s r) (λ l. subst (λ k. Wrote z B k o.bytes c (apply s r)) key (f l))
-      heard_goes (On v) k f = (d, k.1, k.2 ∙ key, k.3 ∙ block, f)
-      heard_goes Refusing k f = λ l. absurd (f l)
+      heard_goes : (h : Heard) → GoesOn B w h → GoesOnSo o z ok w s sending key block h (apply s r)
+          → (least o z → HeardSo z B w.key o.bytes c h (apply s r)) → At (written o h) (apply s r)
+      heard_goes Done k x f = wrote_goes Ks refl d (apply s r) (λ l. subst (λ k. Wrote z B k o.bytes c (apply s r)) key (f l))
+      heard_goes (On v) k x f = (d, k.1, k.2 ∙ key, k.3 ∙ block, f, x)
+      heard_goes Refusing k x f = λ l. absurd (f l)
 
       stream_goes : At (goes o (Write w) (answer s r) repeated) (apply s r)
       stream_goes =
           unless_so (look_of (answer s r)) (End (Err NoSuchBucket)) (written o (heard w (answer s r) repeated)) (λ y. At y (apply s r))
           (λ e l. absurd (files.no_missing z B o.bytes c w s repeated (writes l) e))
-          (heard_goes (heard w (answer s r) repeated) (goes_further B w room (answer s r) repeated) (λ l. files.goes_on z B o.bytes c w s repeated (writes l)))
+          (heard_goes (heard w (answer s r) repeated) (goes_further B w room (answer s r) repeated)
+          (sends_on o z ok w s sending key block repeated) (λ l. files.goes_on z B o.bytes c w s repeated (writes l)))
 
     -- ---- the markers' deletion
 
@@ -216,18 +236,19 @@ module _ (o : Creation) (z : Scene) (ok : IsCreation o) where
         let l = look_of (head (fin.get Z d.first)) in
         looks (Up d) (Head d.first) refl refl repeated (λ s g. (g, h.1, h.2)) (on_goes (climbed d l) h.1 (seen_on Z (keys_above o.path.key) d l h.2 (head_tells Z d.first))) s h.0
     leads (Write w) s repeated h = record {
-      steps = stream_goes w s repeated h.0 h.1 h.2 h.3 h.4;
-      hides = (h.0, h.1, h.2, h.3, λ l. files.hidden z B o.bytes c w s repeated (h.4 l));
-      loses = (h.0, h.1, h.2, h.3, λ l. files.lost z B o.bytes c w s repeated (h.4 l));
+      steps = stream_goes w s repeated h.0 h.1 h.2 h.3 h.4 h.5;
+      hides = (h.0, h.1, h.2, h.3, λ l. files.hidden z B o.bytes c w s repeated (h.4 l), applied o z ok w s h.5 h.2 h.3);
+      loses = (h.0, h.1, h.2, h.3, λ l. files.lost z B o.bytes c w s repeated (h.4 l), h.5);
       moments = λ l. map_beside (IsFileOrNot Z w.key o.bytes) (always_in o Z) s (λ m e. written_so w m h.0 h.2 e) (h.4 l).beside;
-      asked = inr h.0;
+      asked = inr (h.0, is_write o z ok w s h.5 h.2 h.3);
     }
     leads DropMarkers s repeated h = record {
-      steps = drop_goes s repeated h.0 h.1;
-      hides = (h.0, λ l. map_beside (λ m. m ≡ without (file_in o Z) Ks) (IsMade o Z) (apply s drops) (λ m e. inr e) (dropped s (h.1 l)));
+      steps = drop_goes s repeated h.0 h.2;
+      hides =
+          (h.0, h.1, λ l. map_beside (λ m. m ≡ without (file_in o Z) Ks) (IsMade o Z) (apply s drops) (λ m e. inr e) (dropped s (h.2 l)));
       loses = h;
-      moments = λ l. map_beside (IsMade o Z) (always_in o Z) s (λ m e. inr (h.0, e)) (h.1 l);
-      asked = inr h.0;
+      moments = λ l. map_beside (IsMade o Z) (always_in o Z) s (λ m e. inr (h.0, e)) (h.2 l);
+      asked = inr (h.0, Cleans h.1 refl);
     }
 
     -- ---- where each sending was answered
@@ -260,7 +281,7 @@ module _ (o : Creation) (z : Scene) (ok : IsCreation o) where
     owns Below s h l g = here_own (goes o Below (answer s (asks o Below)) false) (apply s (asks o Below)) (same_look (below_asks o.path.key 1) refl s h.0)
     owns (Up d) s h l g = here_own (goes o (Up d) (answer s (asks o (Up d))) false) (apply s (asks o (Up d))) (same_look (Head d.first) refl s h.0)
     owns (Write w) s h l g = stream_own w s (h.4 l) g
-    owns DropMarkers s h l g = drop_own s (h.1 l) g
+    owns DropMarkers s h l g = drop_own s (h.2 l) g
 
   -- ---- whether there is the bucket or not
 
@@ -403,5 +424,7 @@ create_calm = record {
 
 pub create_asked : MaySend request holds sends
 create_asked o z p s repeated h =
-    subst (λ n. (only_reads (asks n p.stage) ≡ true) ⊎ SomeDue o.file (bucket_at z o.file.path.bucket)) (sym h.0)
+    subst
+    (λ n. (only_reads (asks n p.stage) ≡ true)
+    ⊎ (SomeDue o.file (bucket_at z o.file.path.bucket) × IsWriteOf o.file z.content.next (asks n p.stage))) (sym h.0)
     (all_led o.file z h.1 (bucket_at z o.file.path.bucket) refl p.stage s repeated h.2).asked

@@ -3,3 +3,4 @@ pub mod CreateLaws
 pub mod Creating
 pub mod WritingLaws
 mod Common
+mod Sending

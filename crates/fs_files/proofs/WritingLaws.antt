@@ -15,14 +15,14 @@ use Rattle.block_stream.specs.declared.mode.StreamEnd.TheVariants.{Done as Ended
 
 -- ---- what a stage tells
 
-abbrev Known : Writing → Stage → Type 0
+abbrev pub Known : Writing → Stage → Type 0
 Known w Putting = (w.upload ≡ None) × (is_short w ≡ true)
-Known w Beginning = w.upload ≡ None
+Known w Beginning = (w.upload ≡ None) × (is_short w ≡ false)
 Known w Sending = (w.upload ≡ Some (id_in w)) × (is_due w ≡ true)
-Known w Completing = w.upload ≡ Some (id_in w)
+Known w Completing = (w.upload ≡ Some (id_in w)) × (is_due w ≡ false)
 Known w _ = ⊥
 
-known : (w : Writing) → Known w (stage_in w)
+pub known : (w : Writing) → Known w (stage_in w)
 known w = grind arith
 
 -- ---- the stages are the stream's
@@ -290,7 +290,7 @@ module _ (z : Scene) (b bytes : List ℕ) (c : BucketContent) (w : Writing) (s :
       let q = drawn_same i nn (sym e ∙ answered_there z b dd nn s h.beside.scene (CreateUpload b w.key) refl) in
       since Beginning id
       ∙ nat_other dd.uploads nn id (record { key = w.key; parts = fin.empty }) (λ g. ne (ap Some (q ∙ sym g)))
-      ∙ other id l f (no_own w.upload id k)
+      ∙ other id l f (no_own w.upload id k.0)
   own_at Sending k (Part t) e = λ id l f ne.
       since Sending id
       ∙ part_kept dd.uploads (id_in w) id (live dd.uploads w.key (id_in w)) (length w.tags + 1) (take w.block w.pending) (λ g. ne (k.0 ∙ ap Some (sym g)))
@@ -302,7 +302,8 @@ module _ (z : Scene) (b bytes : List ℕ) (c : BucketContent) (w : Writing) (s :
           ended_gone id t (joined (live dd.uploads w.key (id_in w)) (named_from 1 w.tags) z.content.minimum) g
           (sym (answered_there z b dd nn s h.beside.scene (CompleteUpload b w.key (id_in w) (named_from 1 w.tags)) refl) ∙ e)
       by id l f (inr g) =
-          ended_kept dd w.key (id_in w) id (joined (live dd.uploads w.key (id_in w)) (named_from 1 w.tags) z.content.minimum) g ∙ other id l f (λ e. g (some_is (sym e ∙ k)))
+          ended_kept dd w.key (id_in w) id (joined (live dd.uploads w.key (id_in w)) (named_from 1 w.tags) z.content.minimum) g
+          ∙ other id l f (λ e. g (some_is (sym e ∙ k.0)))
   own_at Waiting k a e = absurd k
   own_at Over k a e = absurd k
   own_at _ k _ e = tt
@@ -334,7 +335,7 @@ goes_further b w room r repeated = by (stage_in w) (known w) repeated r
   where
     by : (g : Stage) → Known w g → (repeated : Bool) (r : Reply) → GoesOn b w (heard_at g w r repeated)
     by Putting k repeated (Stored t) = tt
-    by Beginning k repeated (Drawn id) = (begun_left w id k, room_begun (stream_of b w) id room, refl, refl)
+    by Beginning k repeated (Drawn id) = (begun_left w id k.0, room_begun (stream_of b w) id room, refl, refl)
     by Sending k repeated (Part t) = (parted_left w t room.some k.1, parted_room b w t room k.1, refl, refl)
     by Completing k true (Refused NoSuchUpload) = tt
     by Completing k false (Refused r) = tt

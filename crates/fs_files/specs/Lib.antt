@@ -1,3 +1,4 @@
 pub mod Placed
 pub mod Creation
+pub mod Requests
 pub mod code

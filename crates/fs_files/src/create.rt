@@ -275,6 +275,6 @@ impl Plan for CreateFile {
         }
     }
 
-    #[tactic(auto, using(crate::proofs::CreateLaws::create_laws, crate::proofs::CreateLaws::create_asked, crate::proofs::CreateLaws::create_calm))]
+    #[tactic(auto, using(crate::proofs::CreateLaws::create_laws, crate::proofs::CreateLaws::create_calm))]
     fn laws() {}
 }

@@ -11,8 +11,11 @@
 //! was, header included (`MakesFile`), and the markers above it are gone exactly where the policy keeps
 //! none, and are all else that changed of the bucket's objects. Of uploads those that were begun before
 //! are as they were; of other buckets and the cluster nothing changes (`IsBeside`). At each moment the
-//! file is as it was, or whole, and nothing but looks is sent unless the file is to be written
-//! (`performed`). Where each sending was answered no upload is left that was begun since (`answered`).
+//! file is as it was, or whole, and nothing but looks is sent unless the file is to be written. Then
+//! exactly its bytes are sent: by one PutObject where they are fewer than a block, else by an upload
+//! whose part n is the n-th block and whose completion names all parts; and one DeleteObjects names the
+//! markers above it that go (`performed`). Where each sending was answered no upload is left that was
+//! begun since (`answered`).
 #![tactic(auto)]
 
 mod create;

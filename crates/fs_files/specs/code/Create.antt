@@ -1,5 +1,6 @@
 -- Making a file, by its stages: look-ups, then its bytes, then the markers above it.
-use Rattle.std.specs.Prelude.{◌≡◌, ◌⊎◌, ℕ, ◌+◌, ◌≤◌, Bool, true, false, List, [], ◌∷◌, Result, Ok, Err, Option, Some, None, length}
+use Rattle.std.specs.Prelude.{◌≡◌, ◌⊎◌, ℕ, ◌+◌, ◌*◌, ◌≤◌, Bool, true, false, List, [], ◌∷◌, Result, Ok, Err, Option, Some, None, length}
+use Rattle.std.specs.Prelude.{map, take, drop}
 use Rattle.fs_ops.specs.Prelude.{Objects, BucketContent, Scene, without, only_reads, Request, Reply, Step, Next, End, Look, There, look_of, request_of, Head, DropAll, keys_above, created, FsRefusal, NotFound, AlreadyExists, NotDirectory, NoSuchBucket, HasFile, IsAbsent, NoFiles, Creates, look_asks, below_asks, NoFileAt, unless, climbing, climbed, IsClimb}
 use Rattle.std.specs.FinMap as fin
 use Rattle.fs_tree.specs.declared.answers.FsRefusal.TheVariants.{IsDirectory}
@@ -16,7 +17,9 @@ use Rattle.fs_files.specs.code.Writing.{Writing, unsent, stream_of}
 use Rattle.fs_files.specs.code.Hearing as hearing
 use Rattle.fs_files.specs.code.Hearing.{heard}
 use Rattle.fs_files.specs.Creation.{Creation, IsCreation}
+use Rattle.fs_files.specs.Requests.{IsWriteOf, parts_in}
 use Rattle.block_stream.specs.Holds.{HasRoom, Holds}
+use Rattle.s3_types.specs.Tags.{plain_tag}
 
 -- what the making of a file answers
 abbrev pub Answer : Type 0
@@ -128,13 +131,25 @@ pub record Writes (z : Scene) (b bytes : List ℕ) (c : BucketContent) (w : Writ
   pub drawn : (id : ℕ) → w.upload ≡ Some id → z.content.next ≤ id
   pub holds : Holds (stream_of b w) s repeated bytes
 
+-- the tags are those of the first parts, and all behind these is pending; a file with an upload, begun since, is no shorter than a block
+pub record IsSending (o : Creation) (z : Scene) (w : Writing) (s : Scene) : Type 0 where
+  pub tags : w.tags ≡ map plain_tag (take (length w.tags) (parts_in o))
+  pub pending : w.pending ≡ drop (length w.tags * o.block) o.bytes
+  pub unbegun : w.upload ≡ None → w.tags ≡ []
+  pub begun : (id : ℕ) → w.upload ≡ Some id → (z.content.next ≤ id) × (o.block ≤ length o.bytes)
+  pub later : z.content.next ≤ s.content.next
+
 -- what holds of a stage in a bucket that held c
 abbrev pub HoldsIn : Creation → Scene → BucketContent → CreateStage → Scene → Bool → Type 0
 HoldsIn o z c Here s repeated = s ≡ z
 HoldsIn o z c Below s repeated = (s ≡ z) × NoFileAt c.objects o.path.key
 HoldsIn o z c (Up d) s repeated = (s ≡ z) × IsOpen o c.objects × IsClimb c.objects (keys_above o.path.key) d
-HoldsIn o z c (Write w) s repeated = IsDue o c.objects × HasRoom (stream_of o.path.bucket w) × (w.key ≡ o.path.key) × (w.block ≡ o.block) × (least o z → Writes z o.path.bucket o.bytes c w s repeated)
-HoldsIn o z c DropMarkers s repeated = IsDue o c.objects × (least o z → IsBeside z o.path.bucket c (IsMade o c.objects) s)
+HoldsIn o z c (Write w) s repeated =
+    IsDue o c.objects × HasRoom (stream_of o.path.bucket w) × (w.key ≡ o.path.key) × (w.block ≡ o.block)
+    × (least o z → Writes z o.path.bucket o.bytes c w s repeated) × IsSending o z w s
+HoldsIn o z c DropMarkers s repeated =
+    IsDue o c.objects × (created o.policy o.path ≡ [] → ⊥)
+    × (least o z → IsBeside z o.path.bucket c (IsMade o c.objects) s)
 
 -- what a bucket of the scene holds, where it is there
 abbrev pub bucket_at : Scene → List ℕ → Option BucketContent
@@ -191,9 +206,9 @@ gives o z a s = GivesFile o.file z a s
 abbrev pub always : CreateFile → Scene → Scene → Type 0
 always o z s = AlwaysFile o.file z s
 
--- it looks, and sends something else only where the file is to be written
+-- it looks; else the file is to be written, and it sends the file's bytes or deletes the markers above it
 abbrev pub sends : CreateFile → Scene → Request → Type 0
-sends o z r = (only_reads r ≡ true) ⊎ SomeDue o.file (bucket_at z o.file.path.bucket)
+sends o z r = (only_reads r ≡ true) ⊎ (SomeDue o.file (bucket_at z o.file.path.bucket) × IsWriteOf o.file z.content.next r)
 
 -- the upload at hand
 abbrev pub upload_of : CreateStage → Option ℕ
