@@ -6,7 +6,8 @@
 //! a number behind it; and `go on` the file that the last `run` left.
 //!
 //! `run` runs the command over devices that do not fail. It tells the status, the one that was due, how many picks,
-//! ends and sendings were reported and how many calls the disk had, then what was written, and the file.
+//! ends and sendings were reported (of two jobs the picks and ends of the first) and how many calls the disk had, then
+//! what was written, and the file.
 //! `source COUNT`, `disk COUNT` and `sink COUNT` run it again for each of so many calls of a device, which fails
 //! alone, and `stops COUNT` for each number of calls after which the disk stops, from 0 on. Of each it is told what
 //! was reported; what was said, `all` for what the whole run said; and what is left: what a crash at the end
