@@ -10,8 +10,8 @@
 //! whatever is lost: what was written stays held, and where the stream is closed and no request of it
 //! wore out it is stored: the object, or the parts of the live upload joined in order, are the bytes of
 //! all pieces joined, each part but the last has the block's length, and the last is no longer
-//! (`holds`, `stored`). `delayed` gives the upload, its tags and its length; `block_of` is the length
-//! of a file's parts.
+//! (`holds`, `stored`). `delayed` gives the upload, its tags and its length; `is_answer` tells whether
+//! a reply answers what is asked; `block_of` is the length of a file's parts.
 #![tactic(auto)]
 
 mod asking;

@@ -4,7 +4,7 @@ ghost use Rattle.std.specs.FinMap as fin;
 ghost use Rattle.s3_types.specs.Store.{Scene, BucketContent};
 ghost use Rattle.s3_types.specs.declared.limits.TheConstants.{MOST_PARTS};
 ghost use Rattle.retries.specs.Retries.{OutOfMemory};
-ghost use Rattle.block_stream.specs.Stream.{fresh, is_direct, delayed_of, stage, wanted, moved, Fits, told, begun, parted, settled, ended, broken, wrote, close, end_of, left, standing};
+ghost use Rattle.block_stream.specs.Stream.{fresh, is_direct, delayed_of, stage, wanted, moved, answers, Fits, told, begun, parted, settled, ended, broken, wrote, close, end_of, left, standing};
 ghost use Rattle.block_stream.specs.Holds.{Holds, IsReady};
 ghost use Rattle.block_stream.specs.Kept.{next_by, front_of, last_of};
 ghost use Rattle.block_stream.specs.declared.mode.StreamEnd.TheVariants.{Done};
@@ -228,6 +228,20 @@ impl BlockStream {
         self.end = end;
         put(&mut self.asked, asked);
         Ok(())
+    }
+
+    /// Whether this reply answers what is asked, so that it may be taken. Takes no memory.
+    pub fn is_answer(&self, reply: &Reply) -> bool
+        ensures { result ≡ answers (stage self.now) reply.now }
+    {
+        match (self.stage(), reply) {
+            (Stage::Putting, Reply::Stored(_)) => true,
+            (Stage::Beginning, Reply::Upload(_)) => true,
+            (Stage::Sending, Reply::Part(_)) => true,
+            (Stage::Completing, Reply::Completed(_)) => true,
+            (Stage::Sending | Stage::Completing, Reply::Refused(Refusal::NoSuchUpload)) => true,
+            _ => false,
+        }
     }
 
     fn finish(&mut self, end: StreamEnd)

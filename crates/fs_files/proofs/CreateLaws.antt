@@ -1,12 +1,20 @@
 -- Making a file, stage by stage.
-use Rattle.std.specs.Prelude.{◌≡◌, ◌⊎◌, ℕ, ◌+◌, ◌*◌, ◌<◌, ◌≤◌, nat_lt, Bool, true, false, cond, List, [], ◌∷◌, Ok, Err, Option, Some, None, length}
-use Rattle.fs_files.proofs.Common.{AlreadyExists, Ask, BucketContent, Creates, DeleteObjects, Done, End, Falls, FsRefusal, Goes, HasFile, HasRoom, Head, Heard, InFile, IsAbsent, IsBeside, IsFileOrNot, Look, Next, NoBucket, NoFileAt, NoSuchBucket, NoneBut, NoneLeft, Objects, On, Refusing, Reply, Request, Scene, Step, There, Writing, all_gone, answer, answered, ap, applied_none, apply, apply_in, are_gone, arith, below_asks, climbed, climbing, created, get_put, head, heard, inl, inr, is_key, key_no_marker, keys_above, look_asks, look_of, marker_of, objects_at, only_reads, placed, refl, reply_in, request_of, stream_of, subst, sym, true≢false, unless, unsent, upload_at, upload_in, without, ◌∙◌}
+use Rattle.std.specs.Prelude.{◌≡◌, ◌⊎◌, ℕ, ◌+◌, ◌*◌, ◌<◌, ◌≤◌, nat_lt, Bool, true, false, cond, List, [], ◌∷◌, Ok, Err, Option, Some, None}
+use Rattle.std.specs.Prelude.{length}
+use Rattle.fs_files.proofs.Common.{AlreadyExists, Ask, BucketContent, Completed, Creates, DeleteObjects, Done, End, Falls, FsRefusal, Goes}
+use Rattle.fs_files.proofs.Common.{HasFile, HasRoom, Head, Heard, InFile, IsAbsent, IsBeside, IsFileOrNot, Look, Next, NoBucket, NoFileAt}
+use Rattle.fs_files.proofs.Common.{NoSuchBucket, NoSuchUpload, NoneBut, NoneLeft, Objects, On, Part, Refused, Refusing, Reply, Request}
+use Rattle.fs_files.proofs.Common.{Scene, Step, Stored, There, Writing, all_gone, answer, answered, ap, applied_none, apply, apply_in}
+use Rattle.fs_files.proofs.Common.{are_gone, arith, below_asks, climbed, climbing, created, get_put, head, heard, heard_at, inl, inr}
+use Rattle.fs_files.proofs.Common.{is_key, key_no_marker, keys_above, look_asks, look_of, marker_of, objects_at, only_reads, placed, refl}
+use Rattle.fs_files.proofs.Common.{reply_in, request_of, stage_in, stream_of, subst, sym, true≢false, unless, unsent, upload_at, upload_in}
+use Rattle.fs_files.proofs.Common.{without, ◌∙◌}
 use Rattle.bucket_ops.specs.Prelude.{MaySend}
 use Rattle.std.specs.FinMap as fin
 use Rattle.store_frame.proofs.Reading.{reads_nothing}
 use Rattle.operations.specs.Courses.{IsCourse, IsCalm}
 use Rattle.bucket_ops.specs.Asks.{objects_of}
-use Rattle.fs_tree.specs.declared.answers.FsRefusal.TheVariants.{IsDirectory}
+use Rattle.fs_tree.specs.declared.answers.FsRefusal.TheVariants.{IsDirectory, NotFound}
 use Rattle.fs_tree.specs.Tree as tree
 use Rattle.fs_ops.proofs.Looks.{head_tells, at_key, below_key}
 use Rattle.fs_ops.proofs.StepLaws.{not_missing}
@@ -15,17 +23,24 @@ use Rattle.fs_ops.proofs.Climbing.{IsClimbed, seen_on, all_on, IsShorter, climbi
 use Rattle.fs_files.specs.declared.create.CreateStage.{CreateStage}
 use Rattle.fs_files.specs.declared.create.CreateStage.TheVariants.{Here, Below, Up, Write, DropMarkers}
 use Rattle.fs_files.specs.declared.create.CreateFile.{CreateFile}
-use Rattle.fs_files.specs.code.Writing as writing
+use Rattle.fs_files.proofs.Writing as writing
+use Rattle.fs_files.proofs.Writing.{is_due, is_short}
 use Rattle.fs_files.specs.Creation.{Creation, IsCreation}
 use Rattle.fs_files.proofs.WritingLaws as files
-use Rattle.fs_files.proofs.WritingLaws.{placed_same, placed_by, Wrote, HeardSo, OwnHeard, GoesOn, goes_further}
+use Rattle.fs_files.proofs.WritingLaws.{Known, known, stage_is, wanted_is, placed_same, placed_by, Wrote, HeardSo, OwnHeard, GoesOn}
+use Rattle.fs_files.proofs.WritingLaws.{goes_further}
 use Rattle.fs_files.specs.Requests.{IsWriteOf, Cleans}
 use Rattle.fs_files.proofs.Sending.{GoesOnSo, applied, is_write, sending_begins, sends_on}
 use Rattle.fs_files.proofs.Creating.{created_above, makes_file, few_created}
-use Rattle.fs_files.specs.code.Create.{Answer, CreateStep, asks, write_at, on_climb, climb, replace, here as here_at, on_here, on_below}
-use Rattle.fs_files.specs.code.Create.{drop_from, written, on, goes, IsOpen, IsDue, SomeDue, file_in, IsMade, IsSending, least, HoldsIn}
-use Rattle.fs_files.specs.code.Create.{bucket_at, HoldsAt, holds, IsUndone, GivesFile, always_in, AlwaysFile, starts, request, stepped, led}
-use Rattle.fs_files.specs.code.Create.{gives, always, sends, upload_of, calm, leaves, write_left, left_at, left, Writes}
+use Rattle.block_stream.specs.declared.stage.Stage.{Stage}
+use Rattle.block_stream.specs.declared.stage.Stage.TheVariants.{Waiting, Putting, Beginning, Sending, Completing, Over}
+use Rattle.block_stream.specs.Stream.{Stream, answers, told}
+use Rattle.s3_types.specs.declared.reply.Reply.TheVariants.{Upload as Drawn}
+use Rattle.fs_files.specs.code.Create.{Answer, CreateStep, asks, asked_or, write_at, on_climb, climb, replace, here as here_at, on_here}
+use Rattle.fs_files.specs.code.Create.{on_below, drop_from, moved, heard as heard_in, on, goes, IsOpen, IsDue, SomeDue, file_in}
+use Rattle.fs_files.specs.code.Create.{IsMade, IsSending, least, HoldsIn, bucket_at, HoldsAt, holds, IsUndone, GivesFile, always_in}
+use Rattle.fs_files.specs.code.Create.{AlwaysFile, starts, request, stepped, led, gives, always, sends, upload_of, calm, leaves, write_left}
+use Rattle.fs_files.specs.code.Create.{left_at, left, Writes}
 
 -- where there is no bucket it ends, and else it goes on
 unless_so : {X : Type 0} (l : Look) (absent y : X) (P : X → Type 0) → (l ≡ NoBucket → P absent) → P y → P (unless l absent y)
@@ -36,6 +51,36 @@ no_parts k n h = let e : k * 0 ≡ 0 = Rattle.std.proofs.Math.Nat.mul-zero k in 
 
 reads_look : (b k : List ℕ) → only_reads (request_of b (look_asks k)) ≡ true
 reads_look b k = grind arith
+
+-- where the writing of a file's bytes leads
+abbrev step_of : Creation → Heard → CreateStep
+step_of o Done = drop_from (created o.policy o.path)
+step_of o (On w) = Next (Write (stream_of o.path.bucket w))
+step_of o Refusing = End (Err NotFound)
+
+-- so the stream goes, whatever is answered
+module _ (o : Creation) (w : Writing) (some : 1 ≤ w.block) where
+  abbrev at_stage : Stage → Reply → Bool → CreateStep
+  at_stage g r repeated = cond (answers g r) (moved o (told g (stream_of o.path.bucket w) repeated r)) (End (Err NotFound))
+
+  stepped_at : (g : Stage) → Known w g → (r : Reply) (repeated : Bool) → at_stage g r repeated ≡ step_of o (heard_at g w r repeated)
+  stepped_at Putting k (Stored t) repeated = refl
+  stepped_at Beginning k (Drawn id) repeated = refl
+  stepped_at Sending k (Part t) repeated = refl
+  stepped_at Sending k (Refused NoSuchUpload) repeated = refl
+  stepped_at Completing k (Completed t) repeated = refl
+  stepped_at Completing k (Refused NoSuchUpload) true = refl
+  stepped_at Completing k (Refused NoSuchUpload) false = refl
+  stepped_at Completing k (Refused r) repeated = grind arith
+  stepped_at Waiting k r repeated = absurd k
+  stepped_at Over k r repeated = absurd k
+  stepped_at g k r repeated = refl
+
+  heard_is : (r : Reply) (repeated : Bool) → heard_in o (stream_of o.path.bucket w) r repeated ≡ step_of o (heard w r repeated)
+  heard_is r repeated = ap (λ g. at_stage g r repeated) (stage_is o.path.bucket w some) ∙ stepped_at (stage_in w) (known w) r repeated
+
+  request_is : asks o (Write (stream_of o.path.bucket w)) ≡ writing.asks o.path.bucket w
+  request_is = ap (asked_or o) (wanted_is o.path.bucket w some)
 
 -- of the uploads that were begun since, the one at hand alone is live
 abbrev OwnStep : Creation → Scene → CreateStep → Scene → Type 0
@@ -100,14 +145,16 @@ module _ (o : Creation) (z : Scene) (ok : IsCreation o) where
         no_root : (HasFile Z [] × (o.overwrite ≡ true)) ⊎ IsAbsent Z [] → ⊥
         no_root (inl h) = h.0.1
         no_root (inr h) = h
-    write_goes (x ∷ p) e d = (
-      d,
-      room_of (x ∷ p),
-      sym e,
-      refl,
-      λ l. files.begins z B o.bytes (x ∷ p) o.block c there l (room_of (x ∷ p)),
-      sending_begins o z (x ∷ p),
-    )
+    write_goes (x ∷ p) e d = record {
+      so_far = unsent (x ∷ p) o.block o.bytes;
+      is = refl;
+      due = d;
+      room = room_of (x ∷ p);
+      key = sym e;
+      block = refl;
+      writes = λ l. files.begins z B o.bytes (x ∷ p) o.block c there l (room_of (x ∷ p));
+      sending = sending_begins o z (x ∷ p);
+    }
 
     on_goes : (d : Climbed) → IsOpen o Z → IsClimbed Z (keys_above o.path.key) d → At (on_climb o d) z
     on_goes d h g = grind (arith, refuses, write_goes)
@@ -165,17 +212,20 @@ module _ (o : Creation) (z : Scene) (ok : IsCreation o) where
       r = writing.asks B w
 
       heard_goes : (h : Heard) → GoesOn B w h → GoesOnSo o z ok w s sending key block h (apply s r)
-          → (least o z → HeardSo z B w.key o.bytes c h (apply s r)) → At (written o h) (apply s r)
+          → (least o z → HeardSo z B w.key o.bytes c h (apply s r)) → At (step_of o h) (apply s r)
       heard_goes Done k x f = wrote_goes Ks refl d (apply s r) (λ l. subst (λ k. Wrote z B k o.bytes c (apply s r)) key (f l))
-      heard_goes (On v) k x f = (d, k.1, k.2 ∙ key, k.3 ∙ block, f, x)
+      heard_goes (On v) k x f =
+          record { so_far = v; is = refl; due = d; room = k.1; key = k.2 ∙ key; block = k.3 ∙ block; writes = f; sending = x }
       heard_goes Refusing k x f = λ l. absurd (f l)
 
-      stream_goes : At (goes o (Write w) (answer s r) repeated) (apply s r)
+      stream_goes : At (goes o (Write (stream_of B w)) (answer s r) repeated) (apply s r)
       stream_goes =
-          unless_so (look_of (answer s r)) (End (Err NoSuchBucket)) (written o (heard w (answer s r) repeated)) (λ y. At y (apply s r))
+          unless_so (look_of (answer s r)) (End (Err NoSuchBucket)) (heard_in o (stream_of B w) (answer s r) repeated)
+          (λ y. At y (apply s r))
           (λ e l. absurd (files.no_missing z B o.bytes c w s repeated (writes l) e))
+          (subst (λ y. At y (apply s r)) (sym (heard_is o w room.some (answer s r) repeated))
           (heard_goes (heard w (answer s r) repeated) (goes_further B w room (answer s r) repeated)
-          (sends_on o z ok w s sending key block repeated) (λ l. files.goes_on z B o.bytes c w s repeated (writes l)))
+          (sends_on o z ok w s sending key block repeated) (λ l. files.goes_on z B o.bytes c w s repeated (writes l))))
 
     -- ---- the markers' deletion
 
@@ -229,19 +279,39 @@ module _ (o : Creation) (z : Scene) (ok : IsCreation o) where
     written_so : (w : Writing) (m : Objects) → IsDue o Z → w.key ≡ o.path.key → IsFileOrNot Z w.key o.bytes m → always_in o Z m
     written_so w m h g e = grind arith
 
+    -- a stream that has come so far
+    writing_so : (w : Writing) (s : Scene) (repeated : Bool) → IsDue o Z → HasRoom (stream_of B w) → w.key ≡ o.path.key
+        → w.block ≡ o.block → (least o z → Writes z B o.bytes c w s repeated) → IsSending o z w s
+        → HoldsIn o z c (Write (stream_of B w)) s repeated
+    writing_so w s repeated d room key block writes sending =
+        record { so_far = w; is = refl; due = d; room = room; key = key; block = block; writes = writes; sending = sending }
+
+    writes_led : (w : Writing) (s : Scene) (repeated : Bool) → IsDue o Z → HasRoom (stream_of B w) → w.key ≡ o.path.key
+        → w.block ≡ o.block → (least o z → Writes z B o.bytes c w s repeated) → IsSending o z w s
+        → IsLed (Some c) (Write (stream_of B w)) s repeated
+    writes_led w s repeated d room key block writes sending =
+        let S = stream_of B w in
+        let e = sym (request_is o w room.some) in
+        record {
+          steps = subst (λ r. At (goes o (Write S) (answer s r) repeated) (apply s r)) e
+              (stream_goes w s repeated d room key block writes sending);
+          hides = subst (λ r. HoldsIn o z c (Write S) (apply s r) true) e
+              (writing_so w (apply s (writing.asks B w)) true d room key block
+              (λ l. files.hidden z B o.bytes c w s repeated (writes l)) (applied o z ok w s sending key block));
+          loses = writing_so w s true d room key block (λ l. files.lost z B o.bytes c w s repeated (writes l)) sending;
+          moments = λ l. map_beside (IsFileOrNot Z w.key o.bytes) (always_in o Z) s (λ m e. written_so w m d key e) (writes l).beside;
+          asked = inr (d, subst (IsWriteOf o z.content.next) e (is_write o z ok w s sending key block));
+        }
+
     leads : (x : CreateStage) (s : Scene) (repeated : Bool) → HoldsIn o z c x s repeated → IsLed (Some c) x s repeated
     leads Here s repeated h = looks Here (look_asks o.path.key) refl (reads_look B o.path.key) repeated (λ s g. g) (look_goes o.path.key refl) s h
     leads Below s repeated h = looks Below (below_asks o.path.key 1) refl refl repeated (λ s g. (g, h.1)) (page_goes o.path.key refl h.1) s h.0
     leads (Up d) s repeated h =
         let l = look_of (head (fin.get Z d.first)) in
         looks (Up d) (Head d.first) refl refl repeated (λ s g. (g, h.1, h.2)) (on_goes (climbed d l) h.1 (seen_on Z (keys_above o.path.key) d l h.2 (head_tells Z d.first))) s h.0
-    leads (Write w) s repeated h = record {
-      steps = stream_goes w s repeated h.0 h.1 h.2 h.3 h.4 h.5;
-      hides = (h.0, h.1, h.2, h.3, λ l. files.hidden z B o.bytes c w s repeated (h.4 l), applied o z ok w s h.5 h.2 h.3);
-      loses = (h.0, h.1, h.2, h.3, λ l. files.lost z B o.bytes c w s repeated (h.4 l), h.5);
-      moments = λ l. map_beside (IsFileOrNot Z w.key o.bytes) (always_in o Z) s (λ m e. written_so w m h.0 h.2 e) (h.4 l).beside;
-      asked = inr (h.0, is_write o z ok w s h.5 h.2 h.3);
-    }
+    leads (Write m) s repeated h =
+        subst (λ m. IsLed (Some c) (Write m) s repeated) (sym h.is)
+        (writes_led h.so_far s repeated h.due h.room h.key h.block h.writes h.sending)
     leads DropMarkers s repeated h = record {
       steps = drop_goes s repeated h.0 h.2;
       hides =
@@ -256,15 +326,21 @@ module _ (o : Creation) (z : Scene) (ok : IsCreation o) where
     here_own : (y : CreateStep) (s : Scene) → s ≡ z → OwnStep o z y s
     here_own y s e = subst (OwnStep o z y) (sym e) (own_z o z y)
 
-    written_own : (w : Writing) (v : Heard) (s : Scene) → HeardSo z B w.key o.bytes c v s → OwnHeard z B v s → OwnStep o z (written o v) s
+    written_own : (w : Writing) (v : Heard) (s : Scene) → HeardSo z B w.key o.bytes c v s → OwnHeard z B v s → OwnStep o z (step_of o v) s
     written_own w v s h g = grind arith
 
-    stream_own : (w : Writing) (s : Scene) → Writes z B o.bytes c w s false → NoneBut w.upload z B s → OwnStep o z (goes o (Write w) (answer s (writing.asks B w)) false) (apply s (writing.asks B w))
-    stream_own w s h g =
+    stream_own : (w : Writing) (s : Scene) → HasRoom (stream_of B w) → Writes z B o.bytes c w s false → NoneBut w.upload z B s
+        → OwnStep o z (goes o (Write (stream_of B w)) (answer s (asks o (Write (stream_of B w)))) false)
+        (apply s (asks o (Write (stream_of B w))))
+    stream_own w s room h g =
         let a = answer s (writing.asks B w) in
-        unless_so (look_of a) (End (Err NoSuchBucket)) (written o (heard w a false)) (λ y. OwnStep o z y (apply s (writing.asks B w)))
+        subst (λ r. OwnStep o z (goes o (Write (stream_of B w)) (answer s r) false) (apply s r)) (sym (request_is o w room.some))
+        (unless_so (look_of a) (End (Err NoSuchBucket)) (heard_in o (stream_of B w) a false)
+        (λ y. OwnStep o z y (apply s (writing.asks B w)))
         (λ e. absurd (files.no_missing z B o.bytes c w s false h e))
-        (written_own w (heard w a false) (apply s (writing.asks B w)) (files.goes_on z B o.bytes c w s false h) (files.own_goes z B o.bytes c w s h g))
+        (subst (λ y. OwnStep o z y (apply s (writing.asks B w))) (sym (heard_is o w room.some a false))
+        (written_own w (heard w a false) (apply s (writing.asks B w))
+        (files.goes_on z B o.bytes c w s false h) (files.own_goes z B o.bytes c w s h g))))
 
     drop_own : (s : Scene) → IsBeside z B c (IsMade o Z) s → NoneBut None z B s → OwnStep o z (goes o DropMarkers (answer s drops) false) (apply s drops)
     unfolding dropped
@@ -280,7 +356,11 @@ module _ (o : Creation) (z : Scene) (ok : IsCreation o) where
     owns Here s h l g = here_own (goes o Here (answer s (asks o Here)) false) (apply s (asks o Here)) (same_look (look_asks o.path.key) (reads_look B o.path.key) s h)
     owns Below s h l g = here_own (goes o Below (answer s (asks o Below)) false) (apply s (asks o Below)) (same_look (below_asks o.path.key 1) refl s h.0)
     owns (Up d) s h l g = here_own (goes o (Up d) (answer s (asks o (Up d))) false) (apply s (asks o (Up d))) (same_look (Head d.first) refl s h.0)
-    owns (Write w) s h l g = stream_own w s (h.4 l) g
+    owns (Write m) s h l g =
+        subst
+        (λ (m : Stream). NoneBut m.upload z B s
+        → OwnStep o z (goes o (Write m) (answer s (asks o (Write m))) false) (apply s (asks o (Write m)))) (sym h.is)
+        (stream_own h.so_far s h.room (h.writes l)) g
     owns DropMarkers s h l g = drop_own s (h.2 l) g
 
   -- ---- whether there is the bucket or not
@@ -336,19 +416,23 @@ fall_all o n h = fall_climb o (climbing (keys_above o.path.key)) (length (keys_a
 fall_here : (o : Creation) (l : Look) → FallsTo o (here_at o l) (left_at o Here)
 fall_here o l = grind arith
 
-fall_heard : (o : Creation) (w : Writing) (h : Heard) → GoesOn o.path.bucket w h → FallsTo o (written o h) (left_at o (Write w))
+fall_heard : (o : Creation) (w : Writing) (h : Heard) → GoesOn o.path.bucket w h
+    → FallsTo o (step_of o h) (left_at o (Write (stream_of o.path.bucket w)))
 fall_heard o w h g = grind arith
 
 -- a stage's writing has room
 abbrev HasBlock : Creation → CreateStage → Type 0
-HasBlock o (Write w) = HasRoom (stream_of o.path.bucket w)
+HasBlock o (Write m) = (w : Writing) × (m ≡ stream_of o.path.bucket w) × HasRoom (stream_of o.path.bucket w)
 HasBlock o _ = Unit {0}
 
 falls_on : (o : Creation) (x : CreateStage) (r : Reply) (repeated : Bool) → HasBlock o x → FallsTo o (on o x r repeated) (left_at o x)
 falls_on o Here r repeated h = elim o.path.key as (λ k. FallsTo o (on_here k o (look_of r)) (left_at o Here)) [ [] ↦ tt | x ∷ p ↦ fall_here o (look_of r) ]
 falls_on o Below r repeated h = elim (look_of r) as (λ l. FallsTo o (on_below o l) (left_at o Below)) [ There ↦ tt | _ ↦ fall_all o (left_at o Below) (omega arith) ]
 falls_on o (Up c) r repeated h = fall_climb o (climbed c (look_of r)) (length c.rest) (left_at o (Up c)) (climbed_falls c (look_of r)) (omega arith)
-falls_on o (Write w) r repeated h = fall_heard o w (heard w r repeated) (goes_further o.path.bucket w h r repeated)
+falls_on o (Write m) r repeated h =
+    subst (λ (m : Stream). FallsTo o (heard_in o m r repeated) (left_at o (Write m))) (sym h.1)
+    (subst (λ y. FallsTo o y (left_at o (Write (stream_of o.path.bucket h.0)))) (sym (heard_is o h.0 h.2.some r repeated))
+    (fall_heard o h.0 (heard h.0 r repeated) (goes_further o.path.bucket h.0 h.2 r repeated)))
 falls_on o DropMarkers r repeated h = tt
 
 falls_to : (o : Creation) (x : CreateStage) (r : Reply) (repeated : Bool) → HasBlock o x → FallsTo o (goes o x r repeated) (left_at o x)
@@ -358,6 +442,7 @@ stepped_falls : (o : Creation) (y : CreateStep) (s : Scene) (n : ℕ) → FallsT
 stepped_falls o y s n h = grind arith
 
 has_block : (v : Option BucketContent) (o : Creation) (z : Scene) (x : CreateStage) (s : Scene) (repeated : Bool) → HoldsAt v o z x s repeated → HasBlock o x
+has_block (Some c) o z (Write m) s repeated h = (h.so_far, h.is, h.room)
 has_block v o z x s repeated h = grind arith
 
 -- ---- the laws

@@ -1,6 +1,6 @@
-pub mod Parted
 pub mod CreateLaws
 pub mod Creating
 pub mod WritingLaws
 mod Common
 mod Sending
+pub mod Writing

@@ -1,16 +1,19 @@
 ghost use Rattle.std.specs.Prelude.{◌≡◌, ◌*◌, ◌≤◌, length, IfOk};
 ghost use Rattle.s3_types.specs.declared.limits.TheConstants.{MOST_PARTS};
 ghost use Rattle.fs_files.specs.code.Create as create;
-ghost use Rattle.fs_files.specs.code.Create.{write_at, on_climb, on_here, on_below, written, climb};
+ghost use Rattle.fs_files.specs.code.Create.{write_at, on_climb, on_here, on_below, ended, written, heard, asked_or, climb};
+ghost use Rattle.fs_files.specs.code.Writing.{filled};
+ghost use Rattle.block_stream.specs.Stream.{wanted, end_of};
 
-use crate::writing::{FileStream, Heard};
+use block_stream::{BlockStream, StreamEnd, StreamMode};
 use bucket_ops::{Look, seen_in};
 use dir_markers::{MarkerPolicy, after_create};
 use fs_ops::{Climb, Climbed, Place, keys_above};
 use fs_tree::FsRefusal;
+use machine::Machine;
 use operations::{Plan, Step};
 use path_keys::S3Path;
-use s3_types::{Bucket, Bytes, KeyList, PageLimit, Reply, Request, both, copied_keys, let_go};
+use s3_types::{Bucket, Bytes, Key, KeyList, PageLimit, Reply, Request, both, copied_keys, let_go};
 use std::alloc::{AllocError, Global};
 use std::marker::Model;
 
@@ -24,7 +27,7 @@ pub enum CreateStage {
     /// Whether a file stands at one of the directories above.
     Up(Climb),
     /// The bytes are written.
-    Write(FileStream),
+    Write(BlockStream),
     /// The markers above are deleted.
     DropMarkers,
 }
@@ -62,15 +65,31 @@ type Answer = Result<(), FsRefusal>;
 type CreateStep = Step<CreateStage, Answer>;
 
 impl NewFile {
+    /// A closed stream of all bytes.
+    fn stream(&self, key: &Key) -> Result<BlockStream, AllocError>
+        ensures { IfOk result (λ stream. stream ≡ filled self.now.path.bucket key.now self.now.block self.now.bytes) }
+    {
+        let (bucket, key) = both(self.bucket.clone(), key.clone())?;
+        let mut stream = BlockStream::start(
+            self.alloc,
+            StreamMode::Direct,
+            bucket,
+            key,
+            self.block,
+        );
+        let written = stream.write(self.bytes.as_slice()).is_ok();
+        if written && stream.close().is_ok() {
+            return Ok(stream);
+        }
+        let_go(stream);
+        Err(AllocError)
+    }
+
     fn write(&self) -> Result<CreateStep, AllocError>
         ensures { IfOk result (λ step. step ≡ write_at self.now.path.key self.now) }
     {
         match self.place.key() {
-            Some(key) => {
-                let (key, bytes) = both(key.clone(), self.bytes.clone())?;
-                let stream = FileStream::new(self.alloc, key, self.block, bytes);
-                Ok(Step::Next(CreateStage::Write(stream)))
-            }
+            Some(key) => Ok(Step::Next(CreateStage::Write(self.stream(key)?))),
             None => Ok(Step::End(Err(FsRefusal::IsDirectory))),
         }
     }
@@ -118,19 +137,59 @@ impl NewFile {
         }
     }
 
-    fn written(&self, heard: Heard) -> CreateStep
-        ensures { result ≡ written self.now heard }
+    fn ended(&self, end: StreamEnd) -> CreateStep
+        ensures { result ≡ ended self.now end }
     {
-        match heard {
-            Heard::Done => {
+        match end {
+            StreamEnd::Done => {
                 if self.markers.len() == 0 {
                     Step::End(Ok(()))
                 } else {
                     Step::Next(CreateStage::DropMarkers)
                 }
             }
-            Heard::On(stream) => Step::Next(CreateStage::Write(stream)),
-            Heard::Refusing => Step::End(Err(FsRefusal::NotFound)),
+            _ => Step::End(Err(FsRefusal::NotFound)),
+        }
+    }
+
+    fn written(&self, stream: BlockStream) -> CreateStep
+        ensures { result ≡ written self.now (end_of stream) stream }
+    {
+        match stream.end() {
+            None => Step::Next(CreateStage::Write(stream)),
+            Some(end) => {
+                let_go(stream);
+                self.ended(end)
+            }
+        }
+    }
+
+    fn heard(
+        &self,
+        stream: BlockStream,
+        reply: &Reply,
+        repeated: bool,
+    ) -> Result<CreateStep, AllocError>
+        ensures { IfOk result (λ step. step ≡ heard self.now stream reply.now repeated) }
+    {
+        let mut stream = stream;
+        if !stream.is_answer(reply) {
+            let_go(stream);
+            return Ok(Step::End(Err(FsRefusal::NotFound)));
+        }
+        let Ok(()) = stream.take(reply, repeated) else {
+            let_go(stream);
+            return Err(AllocError);
+        };
+        Ok(self.written(stream))
+    }
+
+    fn ask_stream(&self, stream: &BlockStream) -> Result<Request, AllocError>
+        ensures { IfOk result (λ request. request ≡ asked_or self.now (wanted stream.now)) }
+    {
+        match stream.request() {
+            Some(request) => request.copied(self.alloc),
+            None => self.place.look(&self.bucket),
         }
     }
 
@@ -141,7 +200,7 @@ impl NewFile {
             CreateStage::Here => self.place.look(&self.bucket),
             CreateStage::Below => self.place.below(&self.bucket, PageLimit::new(1)),
             CreateStage::Up(climb) => climb.request(&self.bucket),
-            CreateStage::Write(stream) => stream.ask(&self.bucket),
+            CreateStage::Write(stream) => self.ask_stream(stream),
             CreateStage::DropMarkers => {
                 Request::delete_objects(self.alloc, &self.bucket, &self.markers)
             }
@@ -165,7 +224,7 @@ impl NewFile {
             CreateStage::Here => self.on_here(seen),
             CreateStage::Below => self.on_below(seen),
             CreateStage::Up(climb) => self.on_climb(climb.hear(seen)?),
-            CreateStage::Write(stream) => Ok(self.written(stream.hear(reply, repeated)?)),
+            CreateStage::Write(stream) => self.heard(stream, reply, repeated),
             CreateStage::DropMarkers => Ok(Step::End(Ok(()))),
         }
     }
@@ -178,7 +237,7 @@ impl NewFile {
 /// directory above, from the root on, at which a file stands; and before that NoSuchBucket. This is so on a
 /// store whose least part is not longer than the block; else the upload may be refused, and the answer is
 /// then NotFound. Two requests, one for each directory above, one for each block, and three more. It holds
-/// one block beside the bytes. (Hadoop FileSystem specification, create.)
+/// the bytes once more, cut into blocks. (Hadoop FileSystem specification, create.)
 #[derive(Drop)]
 pub struct CreateFile {
     pub file: NewFile,

@@ -19,6 +19,5 @@
 #![tactic(auto)]
 
 mod create;
-mod writing;
 
 pub use create::{CreateFile, CreateStage, NewFile};

@@ -1,7 +1,10 @@
 -- Making a file, by its stages: look-ups, then its bytes, then the markers above it.
-use Rattle.std.specs.Prelude.{◌≡◌, ◌⊎◌, ℕ, ◌+◌, ◌*◌, ◌≤◌, Bool, true, false, List, [], ◌∷◌, Result, Ok, Err, Option, Some, None, length}
-use Rattle.std.specs.Prelude.{map, take, drop}
-use Rattle.fs_ops.specs.Prelude.{Objects, BucketContent, Scene, without, only_reads, Request, Reply, Step, Next, End, Look, There, look_of, request_of, Head, DropAll, keys_above, created, FsRefusal, NotFound, AlreadyExists, NotDirectory, NoSuchBucket, HasFile, IsAbsent, NoFiles, Creates, look_asks, below_asks, NoFileAt, unless, climbing, climbed, IsClimb}
+use Rattle.std.specs.Prelude.{◌≡◌, ◌⊎◌, ℕ, ◌+◌, ◌*◌, ◌≤◌, Bool, true, false, cond, List, [], ◌∷◌, Result, Ok, Err, Option, Some, None}
+use Rattle.std.specs.Prelude.{length, map, take, drop}
+use Rattle.fs_ops.specs.Prelude.{Objects, BucketContent, Scene, without, only_reads, Request, Reply, Step, Next, End, Look, There, look_of}
+use Rattle.fs_ops.specs.Prelude.{request_of, Head, DropAll, keys_above, created, FsRefusal, NotFound, AlreadyExists, NotDirectory}
+use Rattle.fs_ops.specs.Prelude.{NoSuchBucket, HasFile, IsAbsent, NoFiles, Creates, look_asks, below_asks, NoFileAt, unless, climbing}
+use Rattle.fs_ops.specs.Prelude.{climbed, IsClimb}
 use Rattle.std.specs.FinMap as fin
 use Rattle.fs_tree.specs.declared.answers.FsRefusal.TheVariants.{IsDirectory}
 use Rattle.fs_ops.specs.declared.climb.Climbed.{Climbed}
@@ -10,12 +13,11 @@ use Rattle.fs_files.specs.declared.create.CreateStage.{CreateStage}
 use Rattle.fs_files.specs.declared.create.CreateStage.TheVariants.{Here, Below, Up, Write, DropMarkers}
 use Rattle.fs_files.specs.declared.create.CreateFile.{CreateFile}
 use Rattle.fs_files.specs.Placed.{InFile, IsBeside, IsFileOrNot, NoneBut, NoneLeft, object_of}
-use Rattle.fs_files.specs.code.Writing as writing
-use Rattle.fs_files.specs.declared.writing.Heard.{Heard}
-use Rattle.fs_files.specs.declared.writing.Heard.TheVariants.{Done, On, Refusing}
-use Rattle.fs_files.specs.code.Writing.{Writing, unsent, stream_of}
-use Rattle.fs_files.specs.code.Hearing as hearing
-use Rattle.fs_files.specs.code.Hearing.{heard}
+use Rattle.fs_files.specs.code.Writing.{Writing, filled, stream_of}
+use Rattle.block_stream.specs.declared.mode.StreamEnd.{StreamEnd}
+use Rattle.block_stream.specs.declared.mode.StreamEnd.TheVariants.{Done}
+use Rattle.block_stream.specs.Stream as streams
+use Rattle.block_stream.specs.Stream.{Stream, wanted, stage, answers, told, end_of}
 use Rattle.fs_files.specs.Creation.{Creation, IsCreation}
 use Rattle.fs_files.specs.Requests.{IsWriteOf, parts_in}
 use Rattle.block_stream.specs.Holds.{HasRoom, Holds}
@@ -31,18 +33,23 @@ CreateStep = Step CreateStage Answer
 
 -- ---- the stages
 
+-- what the stream asks; where that were nothing, it looks
+abbrev pub asked_or : Creation → Option Request → Request
+asked_or o (Some r) = r
+asked_or o None = request_of o.path.bucket (look_asks o.path.key)
+
 -- what it asks at each stage
 abbrev pub asks : Creation → CreateStage → Request
 asks o Here = request_of o.path.bucket (look_asks o.path.key)
 asks o Below = request_of o.path.bucket (below_asks o.path.key 1)
 asks o (Up c) = request_of o.path.bucket (Head c.first)
-asks o (Write w) = writing.asks o.path.bucket w
+asks o (Write m) = asked_or o (wanted m)
 asks o DropMarkers = request_of o.path.bucket (DropAll (created o.policy o.path))
 
 -- its bytes are written; the root is never a file
 abbrev pub write_at : List ℕ → Creation → CreateStep
 write_at [] o = End (Err IsDirectory)
-write_at (x ∷ p) o = Next (Write (unsent (x ∷ p) o.block o.bytes))
+write_at (x ∷ p) o = Next (Write (filled o.path.bucket (x ∷ p) o.block o.bytes))
 
 -- the directories above are looked at one by one before that
 abbrev pub on_climb : Creation → Climbed → CreateStep
@@ -79,18 +86,30 @@ abbrev pub drop_from : List (List ℕ) → CreateStep
 drop_from [] = End (Ok tt)
 drop_from (k ∷ ks) = Next DropMarkers
 
--- where the writing of its bytes leads
-abbrev pub written : Creation → Heard → CreateStep
-written o Done = drop_from (created o.policy o.path)
-written o (On w) = Next (Write w)
-written o Refusing = End (Err NotFound)
+-- where the end of the stream leads
+abbrev pub ended : Creation → StreamEnd → CreateStep
+ended o Done = drop_from (created o.policy o.path)
+ended o _ = End (Err NotFound)
+
+-- the stream goes on until it has ended
+abbrev pub written : Creation → Option StreamEnd → Stream → CreateStep
+written o None m = Next (Write m)
+written o (Some e) m = ended o e
+
+-- a reply that the stream can take moves it on
+abbrev pub moved : Creation → Stream → CreateStep
+moved o m = written o (end_of m) m
+
+-- where a reply to the stream leads; one that is none to its request ends all
+abbrev pub heard : Creation → Stream → Reply → Bool → CreateStep
+heard o m r repeated = cond (answers (stage m) r) (moved o (told (stage m) m repeated r)) (End (Err NotFound))
 
 -- where a reply leads at each stage
 abbrev pub on : Creation → CreateStage → Reply → Bool → CreateStep
 on o Here r repeated = on_here o.path.key o (look_of r)
 on o Below r repeated = on_below o (look_of r)
 on o (Up c) r repeated = on_climb o (climbed c (look_of r))
-on o (Write w) r repeated = written o (heard w r repeated)
+on o (Write m) r repeated = heard o m r repeated
 on o DropMarkers r repeated = End (Ok tt)
 
 -- where a reply leads; without the bucket it ends so
@@ -139,14 +158,23 @@ pub record IsSending (o : Creation) (z : Scene) (w : Writing) (s : Scene) : Type
   pub begun : (id : ℕ) → w.upload ≡ Some id → (z.content.next ≤ id) × (o.block ≤ length o.bytes)
   pub later : z.content.next ≤ s.content.next
 
+-- the stream is the file's, and has come so far
+pub record IsWriting (o : Creation) (z : Scene) (c : BucketContent) (m : Stream) (s : Scene) (repeated : Bool) : Type 0 where
+  pub so_far : Writing
+  pub is : m ≡ stream_of o.path.bucket so_far
+  pub due : IsDue o c.objects
+  pub room : HasRoom (stream_of o.path.bucket so_far)
+  pub key : so_far.key ≡ o.path.key
+  pub block : so_far.block ≡ o.block
+  pub writes : least o z → Writes z o.path.bucket o.bytes c so_far s repeated
+  pub sending : IsSending o z so_far s
+
 -- what holds of a stage in a bucket that held c
 abbrev pub HoldsIn : Creation → Scene → BucketContent → CreateStage → Scene → Bool → Type 0
 HoldsIn o z c Here s repeated = s ≡ z
 HoldsIn o z c Below s repeated = (s ≡ z) × NoFileAt c.objects o.path.key
 HoldsIn o z c (Up d) s repeated = (s ≡ z) × IsOpen o c.objects × IsClimb c.objects (keys_above o.path.key) d
-HoldsIn o z c (Write w) s repeated =
-    IsDue o c.objects × HasRoom (stream_of o.path.bucket w) × (w.key ≡ o.path.key) × (w.block ≡ o.block)
-    × (least o z → Writes z o.path.bucket o.bytes c w s repeated) × IsSending o z w s
+HoldsIn o z c (Write m) s repeated = IsWriting o z c m s repeated
 HoldsIn o z c DropMarkers s repeated =
     IsDue o c.objects × (created o.policy o.path ≡ [] → ⊥)
     × (least o z → IsBeside z o.path.bucket c (IsMade o c.objects) s)
@@ -212,7 +240,7 @@ sends o z r = (only_reads r ≡ true) ⊎ (SomeDue o.file (bucket_at z o.file.pa
 
 -- the upload at hand
 abbrev pub upload_of : CreateStage → Option ℕ
-upload_of (Write w) = w.upload
+upload_of (Write m) = m.upload
 upload_of _ = None
 
 -- where each sending was answered, of the uploads that were begun since the one at hand alone is live, and at the end none
@@ -232,7 +260,7 @@ abbrev pub left_at : Creation → CreateStage → ℕ
 left_at o Here = length (keys_above o.path.key) + 1 + write_left o
 left_at o Below = length (keys_above o.path.key) + write_left o
 left_at o (Up c) = length c.rest + write_left o
-left_at o (Write w) = hearing.left w + 1
+left_at o (Write m) = streams.left m
 left_at o DropMarkers = 0
 
 -- the most requests that it has yet to send

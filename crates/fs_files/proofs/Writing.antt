@@ -1,0 +1,115 @@
+-- How far a file is written, as proofs go through it stage by stage: what is asked, and where replies lead.
+use Rattle.std.specs.Prelude.{ℕ, ◌+◌, ◌||◌, not, nat_lt, Bool, true, false, List, [], ◌∷◌, ◌++◌, take, drop, length, Option, Some, None}
+use Rattle.fs_ops.specs.Prelude.{unwrap_or, Spelled, named_from, Request, PutObject, CreateUpload, UploadPart, CompleteUpload, Reply}
+use Rattle.fs_ops.specs.Prelude.{Stored, Part, Completed, Refused, Refusal, NoSuchUpload}
+use Rattle.s3_types.specs.declared.reply.Reply.TheVariants.{Upload}
+use Rattle.block_stream.specs.declared.stage.Stage.{Stage}
+use Rattle.block_stream.specs.declared.stage.Stage.TheVariants.{Putting, Beginning, Sending, Completing}
+use Rattle.block_stream.specs.Stream.{has_some, one_if, is_begun}
+use Rattle.fs_files.specs.code.Writing.{Writing}
+
+-- nothing was sent yet
+abbrev pub unsent : List ℕ → ℕ → List ℕ → Writing
+unsent key block bytes = record { key = key; block = block; pending = bytes; upload = None; tags = []; count = 0 + length bytes }
+
+-- ---- what is asked
+
+-- a short file is put, a longer one begun as an upload
+abbrev pub first_stage : Bool → Stage
+first_stage true = Putting
+first_stage false = Beginning
+
+-- the next part is sent, or the upload completed
+abbrev pub later_stage : Bool → Stage
+later_stage true = Sending
+later_stage false = Completing
+
+-- fewer bytes than a block are put at once
+abbrev pub is_short : Writing → Bool
+is_short w = nat_lt (length w.pending) w.block
+
+-- a part is to be sent
+abbrev pub is_due : Writing → Bool
+is_due w = has_some w.pending || not (has_some w.tags)
+
+-- what is due next, by whether the upload is begun
+abbrev pub stage_by : Option ℕ → Writing → Stage
+stage_by None w = first_stage (is_short w)
+stage_by (Some id) w = later_stage (is_due w)
+
+-- what it is about
+abbrev pub stage_in : Writing → Stage
+stage_in w = stage_by w.upload w
+
+-- the id of its upload
+abbrev pub id_in : Writing → ℕ
+id_in w = unwrap_or w.upload 0
+
+-- the request of each stage
+abbrev pub asks_at : Stage → List ℕ → Writing → Request
+asks_at Putting bucket w = PutObject bucket w.key w.pending None
+asks_at Beginning bucket w = CreateUpload bucket w.key
+asks_at Sending bucket w = UploadPart bucket w.key (id_in w) (length w.tags + 1) (take w.block w.pending)
+asks_at _ bucket w = CompleteUpload bucket w.key (id_in w) (named_from 1 w.tags)
+
+-- what the writing asks next
+abbrev pub asks : List ℕ → Writing → Request
+asks bucket w = asks_at (stage_in w) bucket w
+
+-- ---- where replies lead
+
+-- where a reply has led: the file stands, more is to be sent, or the store refused
+pub data Heard : Type 0 where
+  Done : Heard
+  On : (w : Writing) → Heard
+  Refusing : Heard
+
+-- the file with its upload
+abbrev pub begun : Writing → ℕ → Writing
+begun w id = record { key = w.key; block = w.block; pending = w.pending; upload = Some id; tags = w.tags; count = w.count }
+
+-- the next part was answered
+abbrev pub parted : Writing → Spelled → Writing
+parted w t =
+    record { key = w.key; block = w.block; pending = drop w.block w.pending; upload = w.upload; tags = w.tags ++ t ∷ []; count = w.count }
+
+-- where the reply to the put leads
+abbrev pub put_heard : Reply → Heard
+put_heard (Stored t) = Done
+put_heard _ = Refusing
+
+-- where the reply to CreateUpload leads
+abbrev pub begin_heard : Writing → Reply → Heard
+begin_heard w (Upload id) = On (begun w id)
+begin_heard w _ = Refusing
+
+-- where the reply to UploadPart leads
+abbrev pub send_heard : Writing → Reply → Heard
+send_heard w (Part t) = On (parted w t)
+send_heard w _ = Refusing
+
+-- where there is no upload, a completion that was sent before has ended it
+abbrev pub refused : Bool → Refusal → Heard
+refused true NoSuchUpload = Done
+refused _ _ = Refusing
+
+-- where the reply to CompleteUpload leads
+abbrev pub end_heard : Bool → Reply → Heard
+end_heard repeated (Completed t) = Done
+end_heard repeated (Refused r) = refused repeated r
+end_heard repeated _ = Refusing
+
+-- where a reply leads at each stage
+abbrev pub heard_at : Stage → Writing → Reply → Bool → Heard
+heard_at Putting w r repeated = put_heard r
+heard_at Beginning w r repeated = begin_heard w r
+heard_at Sending w r repeated = send_heard w r
+heard_at _ w r repeated = end_heard repeated r
+
+-- where a reply leads
+abbrev pub heard : Writing → Reply → Bool → Heard
+heard w r repeated = heard_at (stage_in w) w r repeated
+
+-- at most so many answers are to come
+abbrev pub left : Writing → ℕ
+left w = length w.pending + (one_if (not (is_begun w.upload)) + one_if (not (has_some w.tags)))
