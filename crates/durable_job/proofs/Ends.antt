@@ -64,7 +64,7 @@ module _ (w : Script) (c : Content) (s : one.Run) (stop : Option ShelfStop) (due
   one_promised : KeepsOne w c journal.entries told
   one_promised =
       let k : one.Keeps (one_run w c journal.entries told.picks told.ends s.stuck) = subst (λ (r : one.Run). one.Keeps r) (sym one_is) leaves.keeps in
-      record { promised = k.promised; sent = k.sent; own = k.own; alone = left.alone }
+      record { promised = k.promised; whole = k.whole; sent = k.sent; own = k.own; alone = left.alone }
 
   one_verdict : due ≡ verdict w told.ends
   one_verdict = subst (λ (r : one.Run). due ≡ verdict r.script r.ends) (sym one_is) leaves.due_is
@@ -94,12 +94,23 @@ one_played F w c s stop due script service journal told old new leaves left held
 -- whether an event found no memory is nothing to what is kept
 unstuck : (s : two.Run) → two.Keeps s → two.Keeps (record s { stuck = false })
 unstuck s k = record {
-  first = record { among = k.first.among; shared = k.first.shared; counts = k.first.counts };
-  second = record { among = k.second.among; shared = k.second.shared; counts = k.second.counts };
+  first = record {
+    among = k.first.among;
+    shared = k.first.shared;
+    counts = k.first.counts;
+    whole = k.first.whole;
+  };
+  second = record {
+    among = k.second.among;
+    shared = k.second.shared;
+    counts = k.second.counts;
+    whole = k.second.whole;
+  };
   shows = k.shows;
   named_first = k.named_first;
   named_second = k.named_second;
   own = k.own;
+  numbered = k.numbered;
   sent = k.sent;
 }
 

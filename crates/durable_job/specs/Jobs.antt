@@ -2,6 +2,8 @@
 use Rattle.std.specs.Prelude.{◌≡◌, ◌==◌, ℕ, List, [], length, false, if◌then◌else◌}
 use Rattle.path_keys.specs.Paths.{Path}
 use Rattle.job_spec.specs.Prelude.{Content, Entry, Script, AreOwn, Promised, Sent, Finished, verdict}
+use Rattle.job_spec.specs.Promise.{all_picks, lacked_memory}
+use Rattle.job_spec.specs.States.{past}
 use Rattle.twin_script.specs.TwinScripts.{Twins, sides_in}
 use Rattle.twin_jobs.specs.Worlds.{Run, played, Keeps}
 use Rattle.twin_jobs.specs.declared.played.JobLeft.{JobLeft}
@@ -44,6 +46,8 @@ run_told t c es told = record {
 pub record KeepsOne (w : Script) (c : Content) (es : List Entry) (told : Told) : Type 0 where
   -- readers are shown what they may rely on at every moment, and each event, turn and operation is as the script says
   pub promised : Promised w c es told.picks told.ends
+  -- all picks of its commit are told, unless that ran out of memory
+  pub whole : lacked_memory (past w told.ends).commit ≡ false → told.picks ≡ all_picks w c es told.ends
   -- each answer is the one that was due, and each sending has the fate that the script names
   pub sent : Sent w c es
   -- no stranger sent anything

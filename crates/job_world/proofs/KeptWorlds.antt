@@ -87,14 +87,14 @@ module _ {W : Type 0} (wants : W → Option Request) (is_of : Setting → Actor 
         (subst (λ xs. FactsHold b.side.script b.shared.opening play.journal xs) (sym q.holds.ends)
         (runs_hold_facts (setting_of b) b.shared.opening play q.holds.legal q.holds.opens q.holds.happened idle))
 
-    pub keeps : (stuck : Bool) → Keeps (run_of picks_of b stuck)
-    keeps stuck = record { promised = promised; own = own; sent = sent; facts = facts }
-
     whole : lacked_memory (past b.side.script b.side.ends.items).commit ≡ false → picks_in picks_of b.side.picks (slice_get b.side.hands.items 0) ≡ all_picks b.side.script b.shared.opening b.shared.journal.entries b.side.ends.items
     whole l =
         told.whole (ap (λ (p : Past). lacked_memory p.commit) past_is ∙ l)
         ∙ ap (λ es. all_picks b.side.script b.shared.opening es play.ends) (sym journal_is)
         ∙ ap (all_picks b.side.script b.shared.opening b.shared.journal.entries) (sym q.holds.ends)
+
+    pub keeps : (stuck : Bool) → Keeps (run_of picks_of b stuck)
+    keeps stuck = record { promised = promised; whole = whole; own = own; sent = sent; facts = facts }
 
     pub finished : length b.side.ends.items ≡ length b.side.script.events → Finished b.side.script b.shared.opening b.shared.journal.entries (picks_in picks_of b.side.picks (slice_get b.side.hands.items 0)) b.side.ends.items
     finished e = record { promised = promised; sent = sent; events = e; picks = whole }

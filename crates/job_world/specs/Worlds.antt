@@ -1,6 +1,8 @@
 -- A world as its callers see it.
 use Rattle.std.specs.Prelude.{Bool, List, Option, [], false, length, slice_get, true, ◌++◌, ◌+◌, ◌^◌, ◌∷◌, ◌≡◌, ◌≤◌}
 use Rattle.job_spec.specs.Prelude.{AllByRecursion, AreOwn, Content, Entry, EventEnd, MOST_MINIMUM, Pick, Promised, Script, Sent}
+use Rattle.job_spec.specs.Promise.{all_picks, lacked_memory}
+use Rattle.job_spec.specs.States.{past}
 use Rattle.job_safety.specs.Laws.{FactsHold}
 use Rattle.job_side.specs.Events.{picks_in}
 use Rattle.job_side.specs.declared.body.Body.{Body}
@@ -28,9 +30,12 @@ pub record MayBegin (c : Content) : Type 0 where
 abbrev pub begun : Script → Content → Run
 begun w opening = record { script = w; opening = opening; journal = []; picks = []; ends = []; stuck = false }
 
--- the run keeps what is promised of its job, its entries are of the job's actors, each sending has the outcome that was due and foretold, and the facts of the job hold
+-- the run keeps what is promised of its job, its entries are of the job's actors, each send has the outcome that was due and foretold,
+-- its picks are all those that the commit has made, and the facts of the job hold
 pub record Keeps (r : Run) : Type 0 where
   pub promised : Promised r.script r.opening r.journal r.picks r.ends
+  -- unless the commit ran out of memory
+  pub whole : lacked_memory (past r.script r.ends).commit ≡ false → r.picks ≡ all_picks r.script r.opening r.journal r.ends
   pub own : AreOwn r.journal
   pub sent : Sent r.script r.opening r.journal
   pub facts : FactsHold r.script r.opening r.journal r.ends

@@ -1,13 +1,17 @@
 -- What two jobs keep between their events.
 use Rattle.job_spec.specs.Prelude.{Actor, AreHonest, Entry, IsHonest, Known, Past, Pick, Request, Running, Scene, Sent, Setting, after_all, effect, fate_at, in_eyes, moment, past, times}
 use Rattle.twin_jobs.proofs.Common.{Body, Bool, First, HasPicks, IsPlayed, IsTwinOpening, Keeps, List, Option, Quiet, RestsBoth, RestsOne, RunsAreKeptShared, Second, Shared, SharedKept, Side, Some, Stands, TwinRun, [], all_sound, ap, arith, both_of, drew, is_mine, job_in, length, mine, number_in, over, run_of, setting, setting_of, subst, sym, take_whole, told, ℕ, ◌+◌, ◌∙◌, ◌∷◌, ◌≡◌}
+use Rattle.std.specs.Prelude.{false}
+use Rattle.job_spec.specs.Promise.{all_picks, lacked_memory}
 use Rattle.job_steps.proofs.Played.{happenings_play}
 use Rattle.job_safety.specs.Laws.{KeptAmong}
 use Rattle.job_side.proofs.Moments.{stands_of}
 use Rattle.job_side.proofs.Seen.{foretold_as}
+use Rattle.job_steps.specs.Prelude.{AllByRecursion}
 use Rattle.twin_facts.specs.Named.{NamesNoneOfOthers}
 use Rattle.twin_facts.proofs.ByEvents.{always}
 use Rattle.twin_facts.proofs.Named.{named}
+use Rattle.twin_jobs.specs.Pairs.{IsAmong}
 use Rattle.twin_jobs.proofs.Numbers.{all_numbers}
 use Rattle.twin_jobs.proofs.OneSide.{SideRun, idle, in_words, plain_scene, side_run, twin_opening, twin_run}
 use Rattle.s3_types.specs.Store as store
@@ -36,6 +40,19 @@ module _ {W : Type 0} (wants : W → Option Request) (is_of : Setting → Actor 
       let h = r.quiet.holds in
       in_words wants is_of running picks_of (λ g es xs. SharedKept g shared.opening es xs) sides name s shared r
       (law (setting_of (over s shared)) shared.opening h.play h.legal h.opens h.happened (idle wants is_of running picks_of (over s shared) r.quiet) r.shares)
+
+  whole : (has : HasPicks running picks_of) (sides : List Side) (name : Side) (s : body.Side W) (shared : Shared) → One sides name s shared
+      → lacked_memory (past s.script s.ends.items).commit ≡ false
+      → (job_in picks_of s).picks ≡ all_picks s.script shared.opening (in_eyes (mine sides name) shared.journal.entries) s.ends.items
+  whole has sides name s shared r =
+      let q = r.quiet in
+      let b = over s shared in
+      let ps = (job_in picks_of s).picks in
+      let still = idle wants is_of running picks_of b q in
+      let done = happenings_play (setting_of b) shared.opening q.holds.play q.holds.legal q.holds.happened still in
+      in_words wants is_of running picks_of
+      (λ g es xs. lacked_memory (past g.script xs).commit ≡ false → ps ≡ all_picks g.script shared.opening es xs) sides name s shared r
+      (λ l. (told wants is_of running picks_of b q has).whole (ap (λ (p : Past). lacked_memory p.commit) (done.live ∙ done.past) ∙ l))
 
   played_so : (sides : List Side) (name : Side) (s : body.Side W) (shared : Shared) → One sides name s shared → number_in (mine sides name) shared.events ≡ length s.ends.items
   played_so sides name s shared r = ap (λ os. number_in (is_mine os) shared.events) (sym r.others) ∙ r.quiet.holds.counts
@@ -83,13 +100,31 @@ module _ {W : Type 0} (wants : W → Option Request) (is_of : Setting → Actor 
       fated = foretold_as (λ n. Some (fate_at shared.store.fates n)) (λ n. Some (fate_at s.script.fates n)) 1 shared.journal.entries (λ n. ap (λ f. Some f) (sym (r.fates n))) r.first.quiet.holds.fated;
     }
 
+    ended : shared.events ≡ length s.ends.items + length t.ends.items
+    ended = played_is sides s t shared r
+
+    counted : (name : Side) (n : ℕ) → number_in (mine sides name) shared.events ≡ n
+        → number_in (mine sides name) (length s.ends.items + length t.ends.items) ≡ n
+    counted name n so = subst (λ m. number_in (mine sides name) m ≡ n) ended so
+
     pub keeps : (stuck : Bool) → Keeps (run_of picks_of sides s t shared stuck)
     keeps stuck = record {
-      first = record { among = among has sides First s shared r.first; shared = shared_kept shared_law sides First s shared r.first; counts = subst (λ n. number_in (mine sides First) n ≡ length s.ends.items) (played_is sides s t shared r) (played_so sides First s shared r.first) };
-      second = record { among = among has sides Second t shared r.second; shared = shared_kept shared_law sides Second t shared r.second; counts = subst (λ n. number_in (mine sides Second) n ≡ length t.ends.items) (played_is sides s t shared r) (played_so sides Second t shared r.second) };
+      first = record {
+        among = among has sides First s shared r.first;
+        shared = shared_kept shared_law sides First s shared r.first;
+        counts = counted First (length s.ends.items) (played_so sides First s shared r.first);
+        whole = whole has sides First s shared r.first;
+      };
+      second = record {
+        among = among has sides Second t shared r.second;
+        shared = shared_kept shared_law sides Second t shared r.second;
+        counts = counted Second (length t.ends.items) (played_so sides Second t shared r.second);
+        whole = whole has sides Second t shared r.second;
+      };
       shows = always (setting s.script shared.opening) (setting t.script shared.opening) r.twins (times s.script s.ends.items) (times t.script t.ends.items) shared.opening opens (both_of (mine sides First) (mine sides Second) shared.journal.entries) a.stand b.stand run;
       named_first = names.0;
       named_second = names.1;
       own = r.common.own;
+      numbered = subst (λ n. AllByRecursion (IsAmong n) shared.journal.entries) ended r.common.among;
       sent = sent;
     }

@@ -3,6 +3,8 @@ use Rattle.std.specs.Prelude.{Bool, List, None, Option, Some, [], false, length,
 use Rattle.job_spec.specs.Prelude.{AllByRecursion, AreOwn, Content, Entry, EventEnd, Pick, Script, Sent, Setting, Times, in_eyes, times}
 use Rattle.job_facts.specs.Prelude.{HasBucket}
 use Rattle.job_spec.specs.Eyes.{number_in}
+use Rattle.job_spec.specs.Promise.{all_picks, lacked_memory}
+use Rattle.job_spec.specs.States.{past}
 use Rattle.job_safety.specs.Laws.{KeptAmong}
 use Rattle.job_side.specs.Holds.{is_mine}
 use Rattle.twin_facts.specs.Sides.{TwinEntry, drew}
@@ -69,6 +71,9 @@ pub record KeepsSide (r : Run) (side : Side) : Type 0 where
   pub shared : let j = job_of r side in SharedKept (setting j.script r.opening) r.opening (seen_by r side) j.ends
   -- its events that were played are those of the order's first
   pub counts : number_in (mine r.sides side) (played r) ≡ length (job_of r side).ends
+  -- the picks are all those that its commit has made, unless that commit ran out of memory
+  pub whole : let j = job_of r side in
+      lacked_memory (past j.script j.ends).commit ≡ false → j.picks ≡ all_picks j.script r.opening (seen_by r side) j.ends
 
 -- ---- the journal of both
 
@@ -102,6 +107,8 @@ pub record Keeps (r : Run) : Type 0 where
   pub named_second : NamesNoneOfOthers two.Second r.first.script (drew two.First r.opening (entries_of r)) (entries_of r)
   -- all was sent by actors of the two, with outcomes that were due and that the first script foretells
   pub own : AreOwn r.journal
+  -- each was sent in an event that has its end
+  pub numbered : AllByRecursion (λ e. (1 ≤ e.event) × (e.event ≤ played r)) r.journal
   pub sent : Sent r.first.script r.opening r.journal
 
 -- ---- a turn
