@@ -99,12 +99,14 @@ unstuck s k = record {
     shared = k.first.shared;
     counts = k.first.counts;
     whole = k.first.whole;
+    facts = k.first.facts;
   };
   second = record {
     among = k.second.among;
     shared = k.second.shared;
     counts = k.second.counts;
     whole = k.second.whole;
+    facts = k.second.facts;
   };
   shows = k.shows;
   named_first = k.named_first;

@@ -1,5 +1,5 @@
 -- That every run keeps what is promised of its job.
-use Rattle.std.specs.Prelude.{◌≡◌, not, true, Bool, None, List, ℕ, ◌+◌, ◌⊎◌, false, Option}
+use Rattle.std.specs.Prelude.{◌≡◌, not, true, Bool, None, List, ℕ, ◌+◌, ◌≤◌, ◌⊎◌, false, Option, length, take}
 use Rattle.job_steps.specs.Prelude.{Content, Driver, Attempt, Entry, Script, Request, WornFirst, IsLegal, Pick, SetupEnd, TaskEnd, CommitEnd, EventEnd, Setting, Promised, ArePicked, all_picks, setting, seen_until, CleansEnd, nothing_seen, see_all, is_new, past, Doing, clean_event, Hold, until, until_last, by_actor, Plays, known_then, EndedIn, CommitEnded, has_cleaned, TaskIs, WasPublished, CommitServed, IsOpening, nothing_told, tell_all, Play, Reachable, times}
 use Rattle.job_model.specs.declared.events.Op.TheVariants as ops
 use Rattle.job_model.specs.declared.ends.SetupEnd.TheVariants as setups
@@ -58,10 +58,13 @@ RunsAreKept = (g : Setting) → g.shared ≡ false → (opening : Content) (x : 
 abbrev pub is_set_up : Script → List EventEnd → Bool
 is_set_up w xs = not (is_new ((past w xs).state Driver).stage)
 
--- from then on what holds of one job between any two requests holds of what its journal leaves and tells
+-- from the end of the event by which a set-up has ended Done, what holds of one job between any two requests holds after each send
 abbrev pub FactsHold : Script → Content → List Entry → List EventEnd → Type 0
-FactsHold w opening journal xs = is_set_up w xs ≡ true → Hold w opening.minimum (see_all w (times w xs) (nothing_seen opening) journal) (tell_all w (nothing_told (clean_event w xs)) journal)
+FactsHold w opening journal xs = (j m : ℕ) → is_set_up w (take j xs) ≡ true → length (until j journal) ≤ m → m ≤ length journal
+    → Hold w opening.minimum (see_all w (times w xs) (nothing_seen opening) (take m journal))
+    (tell_all w (nothing_told (clean_event w xs)) (take m journal))
 
--- between events the facts hold of what has happened, from the end of a set-up on
+-- of what has happened between two events the facts hold at each moment, from the end of a set-up on
 abbrev pub RunsHoldFacts : Type 0
-RunsHoldFacts = (g : Setting) (opening : Content) (x : Play) → IsLegal g.script → IsOpening g opening → Reachable g opening x → x.now ≡ None → FactsHold g.script opening x.journal x.ends
+RunsHoldFacts = (g : Setting) (opening : Content) (x : Play) → IsLegal g.script → IsOpening g opening → Reachable g opening x → x.now ≡ None
+    → FactsHold g.script opening x.journal x.ends

@@ -4,7 +4,8 @@ use Rattle.twin_jobs.proofs.Common.{Body, Bool, First, HasPicks, IsPlayed, IsTwi
 use Rattle.std.specs.Prelude.{false}
 use Rattle.job_spec.specs.Promise.{all_picks, lacked_memory}
 use Rattle.job_steps.proofs.Played.{happenings_play}
-use Rattle.job_safety.specs.Laws.{KeptAmong}
+use Rattle.job_safety.specs.Laws.{FactsHold, KeptAmong}
+use Rattle.job_safety.proofs.Facts.{runs_hold_facts}
 use Rattle.job_side.proofs.Moments.{stands_of}
 use Rattle.job_side.proofs.Seen.{foretold_as}
 use Rattle.job_steps.specs.Prelude.{AllByRecursion}
@@ -53,6 +54,14 @@ module _ {W : Type 0} (wants : W → Option Request) (is_of : Setting → Actor 
       in_words wants is_of running picks_of
       (λ g es xs. lacked_memory (past g.script xs).commit ≡ false → ps ≡ all_picks g.script shared.opening es xs) sides name s shared r
       (λ l. (told wants is_of running picks_of b q has).whole (ap (λ (p : Past). lacked_memory p.commit) (done.live ∙ done.past) ∙ l))
+
+  facts : (sides : List Side) (name : Side) (s : body.Side W) (shared : Shared) → One sides name s shared
+      → FactsHold s.script shared.opening (in_eyes (mine sides name) shared.journal.entries) s.ends.items
+  facts sides name s shared r =
+      let h = r.quiet.holds in
+      let b = over s shared in
+      in_words wants is_of running picks_of (λ g es xs. FactsHold g.script shared.opening es xs) sides name s shared r
+      (runs_hold_facts (setting_of b) shared.opening h.play h.legal h.opens h.happened (idle wants is_of running picks_of b r.quiet))
 
   played_so : (sides : List Side) (name : Side) (s : body.Side W) (shared : Shared) → One sides name s shared → number_in (mine sides name) shared.events ≡ length s.ends.items
   played_so sides name s shared r = ap (λ os. number_in (is_mine os) shared.events) (sym r.others) ∙ r.quiet.holds.counts
@@ -114,12 +123,14 @@ module _ {W : Type 0} (wants : W → Option Request) (is_of : Setting → Actor 
         shared = shared_kept shared_law sides First s shared r.first;
         counts = counted First (length s.ends.items) (played_so sides First s shared r.first);
         whole = whole has sides First s shared r.first;
+        facts = facts sides First s shared r.first;
       };
       second = record {
         among = among has sides Second t shared r.second;
         shared = shared_kept shared_law sides Second t shared r.second;
         counts = counted Second (length t.ends.items) (played_so sides Second t shared r.second);
         whole = whole has sides Second t shared r.second;
+        facts = facts sides Second t shared r.second;
       };
       shows = always (setting s.script shared.opening) (setting t.script shared.opening) r.twins (times s.script s.ends.items) (times t.script t.ends.items) shared.opening opens (both_of (mine sides First) (mine sides Second) shared.journal.entries) a.stand b.stand run;
       named_first = names.0;

@@ -5,7 +5,7 @@ use Rattle.job_facts.specs.Prelude.{HasBucket}
 use Rattle.job_spec.specs.Eyes.{number_in}
 use Rattle.job_spec.specs.Promise.{all_picks, lacked_memory}
 use Rattle.job_spec.specs.States.{past}
-use Rattle.job_safety.specs.Laws.{KeptAmong}
+use Rattle.job_safety.specs.Laws.{FactsHold, KeptAmong}
 use Rattle.job_side.specs.Holds.{is_mine}
 use Rattle.twin_facts.specs.Sides.{TwinEntry, drew}
 use Rattle.twin_facts.specs.Named.{NamesNoneOfOthers}
@@ -74,6 +74,8 @@ pub record KeepsSide (r : Run) (side : Side) : Type 0 where
   -- the picks are all those that its commit has made, unless that commit ran out of memory
   pub whole : let j = job_of r side in
       lacked_memory (past j.script j.ends).commit ≡ false → j.picks ≡ all_picks j.script r.opening (seen_by r side) j.ends
+  -- once its set-up has ended, the facts of the job hold after each send
+  pub facts : let j = job_of r side in FactsHold j.script r.opening (seen_by r side) j.ends
 
 -- ---- the journal of both
 
