@@ -1,5 +1,7 @@
 -- What is seen and told of each side by events, and so what readers are shown at each moment.
-use Rattle.twin_facts.proofs.Common.{Content, First, HasBucket, IsTwinOpening, List, Marked, MayBeTwins, Second, Seen, Setting, Shows, Stand, Times, TwinEntry, TwinRun, ap, cleans_is, eyes, length, nothing_told, sees, subst, take, tell_all, tells_so, ℕ, ◌∙◌, ◌≤◌}
+use Rattle.twin_facts.proofs.Common.{Content, First, IsTwinOpening, List, Marked, MayBeTwins, Second, Seen, Setting, Shows, Stand, Times}
+use Rattle.twin_facts.proofs.Common.{TwinEntry, TwinRun, ap, cleans_is, eyes, length, nothing_told, sees, subst, take, tell_all, tells_so}
+use Rattle.twin_facts.proofs.Common.{ℕ, ◌∙◌, ◌≤◌}
 use Rattle.twin_facts.specs.Events.{seen_twin, IsSaid, AtMoment}
 use Rattle.twin_facts.proofs.TwinRuns.{all_so, opens_first, opens_second, twins_keep, moments}
 
@@ -14,10 +16,11 @@ module _ (g h : Setting) (m : MayBeTwins g.script h.script) (k l : Times) (openi
       )
 
   -- and so at each moment
-  pub always : (es : List TwinEntry) (x y : Stand) → TwinRun g h k l opening es x y → HasBucket opening g.script.dest.bucket → (n : ℕ) → n ≤ length es → AtMoment g.script h.script k l opening es n
-  always es x y run stood n few =
+  pub always : (es : List TwinEntry) (x y : Stand) → TwinRun g h k l opening es x y
+      → (n : ℕ) → n ≤ length es → AtMoment g.script h.script k l opening es n
+  always es x y run n few =
       let r = moments g h k l opening es x y run n few in
-      let keep = (twins_keep g h m k l opening is (take n es) r.0 r.1 r.2).shown stood in
+      let keep = (twins_keep g h m k l opening is (take n es) r.0 r.1 r.2).shown in
       let both = said (take n es) r.0 r.1 r.2 in
       let a = (both.0).seen in
       let b = (both.1).seen in

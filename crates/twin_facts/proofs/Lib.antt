@@ -6,6 +6,7 @@ pub mod OneSide
 pub mod Pairs
 pub mod Steps
 pub mod Views
+pub mod Bare
 pub mod TwinRuns
 pub mod Keyed
 pub mod Leaving

@@ -4,6 +4,10 @@ use Rattle.twin_facts.proofs.Pairs.{Pair, more, swapped, swap_twins, paired_begi
 use Rattle.twin_facts.proofs.Steps.{sends_leaves}
 use Rattle.twin_facts.proofs.Views.{Views, views_swap, Touches, begins_views, entry_views, views_only, views_kept, views_marked}
 use Rattle.job_protocol.specs.Scope.{upload_at}
+use Rattle.std.specs.FinMap as fin
+use Rattle.twin_facts.proofs.Bare.{IsBare, bare_sends, bare_view}
+use Rattle.twin_facts.proofs.Common.{and-false, none_or_some, none_some}
+use Rattle.twin_facts.specs.TwinLaws.{AreShown}
 
 -- ---- the marker's last put or deletion
 
@@ -36,6 +40,16 @@ own_marks w side m e n h = elim (marks_of w side m (record { side = side; entry 
 
 other_marks : (w : Script) (side other : Side) → is_side side other ≡ false → (m : Bool) (e : Entry) (n : ℕ) → marks_by w side m (record { side = other; entry = e; theirs = n }) ≡ true → (m ≡ true) × ((is_effective e.outcome ≡ true) → Touches w.dest e.request → ⊥)
 other_marks w side other differ m e n h = elim (marks_of w side m (record { side = other; entry = e; theirs = n }) h) [ inl x ↦ absurd (false_true differ x.1) | inr x ↦ x ]
+
+-- it is none where none was before and the entry puts none
+unmarked : (w : Script) (side : Side) (m : Bool) (t : TwinEntry)
+    → (is_side side t.side && (is_driver t.entry.actor && is_marking w t.entry.request)) ≡ false → m ≡ false
+    → marks_by w side m t ≡ false
+unmarked w side m t puts was = by (is_effective t.entry.outcome && touches_mark w t.entry.request)
+  where
+    by : (b : Bool) → cond b (is_side side t.side && (is_driver t.entry.actor && is_marking w t.entry.request)) m ≡ false
+    by true = puts
+    by false = was
 
 -- ---- what each side sees, and drew
 
@@ -177,6 +191,75 @@ module _ (g h : Setting) (m : MayBeTwins g.script h.script) (k l : Times) (openi
       (swap m.twins (all_so fs u v run)) e n (marks_by h.script Second (two fs) t) (marks_by g.script First (one fs) t) sends
       (own_marks h.script Second (two fs) e n) (other_marks g.script First Second refl (one fs) e n)))
 
+  -- ---- what is shown: where their bucket stood, and where it did not
+
+  shown : (es : List TwinEntry) (x y : Stand) → TwinRun g h k l opening es x y → HasBucket opening g.script.dest.bucket
+      → AreShown g h opening es x y
+  shown es x y run stood =
+      let a = all_so es x y run in
+      let views = a.views stood in
+      let other = (swap m.twins a).views (subst (λ (d : Path). HasBucket opening d.bucket) m.twins.dest stood) in
+      record {
+        shows = record { only = views_only views; kept = views_kept views };
+        first = λ t. let v = views_marked views m.first t in record { picked = v.0; apart = v.1; files = v.2; mark = v.3 };
+        second = λ t. let v = views_marked other m.second t in record { picked = v.0; apart = v.1; files = v.2; mark = v.3 };
+      }
+
+  -- it is not made, and no marker is put
+  record Bare (es : List TwinEntry) (x : Stand) : Type 0 where
+    pub none : IsBare x.seen.scene.content g.script.dest.bucket
+    pub unmarked_first : one es ≡ false
+    pub unmarked_second : two es ≡ false
+
+  bare : (es : List TwinEntry) (x y : Stand) → TwinRun g h k l opening es x y → IsBare opening g.script.dest.bucket → Bare es x
+  bare es x y (twins_begin) none = record { none = none; unmarked_first = refl; unmarked_second = refl }
+  bare es x y (first_begins fs u v b run may) none =
+      let o = bare fs u v run none in record { none = o.none; unmarked_first = o.unmarked_first; unmarked_second = o.unmarked_second }
+  bare es x y (second_begins fs u v b run may) none = bare fs u v run none
+  bare es x y (first_sends fs u v z e n run sends) none =
+      let t : TwinEntry = record { side = First; entry = e; theirs = n } in
+      let o = bare fs u v run none in
+      let a = opens_first g h m k l opening is in
+      let s = bare_sends g k opening m.first a (eyes First fs) u z e sends (all_so fs u v run).pair.first o.none in
+      record {
+        none = ap (λ (c : Scene). fin.get c.content.buckets g.script.dest.bucket)
+            (sends_scene g m.first is.shared_first k opening a u z e sends) ∙ s.0;
+        unmarked_first = snoc_marked g.script First false fs t ∙ unmarked g.script First (one fs) t
+            (ap (λ b. is_driver e.actor && b) s.1 ∙ and-false (is_driver e.actor)) o.unmarked_first;
+        unmarked_second = snoc_marked h.script Second false fs t ∙ unmarked h.script Second (two fs) t refl o.unmarked_second;
+      }
+  bare es x y (second_sends fs u v z e n run sends) none =
+      let t : TwinEntry = record { side = Second; entry = e; theirs = n } in
+      let o = bare fs u v run none in
+      let a = opens_second g h m k l opening is in
+      let before = all_so fs u v run in
+      let after = all_so (fs ++ t ∷ []) (observed g k u n e) z (second_sends fs u v z e n run sends) in
+      let here : IsBare v.seen.scene.content h.script.dest.bucket =
+      subst (λ (d : Path). IsBare v.seen.scene.content d.bucket) m.twins.dest
+      (ap (λ (c : Scene). fin.get c.content.buckets g.script.dest.bucket) (sym before.pair.scenes) ∙ o.none) in
+      let s = bare_sends h l opening m.second a (eyes Second fs) v z e sends before.pair.second here in
+      let at = after.pair.scenes ∙ sends_scene h m.second is.shared_second l opening a v z e sends in
+      record {
+        none = ap (λ (c : Scene). fin.get c.content.buckets g.script.dest.bucket) at
+            ∙ subst (λ (d : Path). IsBare (effect v.seen.scene e.request e.outcome).content d.bucket) (sym m.twins.dest) s.0;
+        unmarked_first = snoc_marked g.script First false fs t ∙ unmarked g.script First (one fs) t refl o.unmarked_first;
+        unmarked_second = snoc_marked h.script Second false fs t ∙ unmarked h.script Second (two fs) t
+            (ap (λ b. is_driver e.actor && b) s.1 ∙ and-false (is_driver e.actor)) o.unmarked_second;
+      }
+
+  bare_shown : (es : List TwinEntry) (x y : Stand) → TwinRun g h k l opening es x y → IsBare opening g.script.dest.bucket
+      → AreShown g h opening es x y
+  bare_shown es x y run none =
+      let b = bare es x y run none in
+      record {
+        shows = record {
+          only = λ p bytes e. absurd (none_some (bare_view g.script.dest x.seen.scene.content b.none p) e);
+          kept = λ p bytes e mine others. absurd (none_some (bare_view g.script.dest opening none p) e);
+        };
+        first = λ t. absurd (false_true b.unmarked_first t);
+        second = λ t. absurd (false_true b.unmarked_second t);
+      }
+
   pub twins_keep : (es : List TwinEntry) (x y : Stand) → TwinRun g h k l opening es x y → TwinsKeep g h k l opening es x y
   twins_keep es x y run =
       let a = all_so es x y run in
@@ -189,14 +272,8 @@ module _ (g h : Setting) (m : MayBeTwins g.script h.script) (k l : Times) (openi
         strange_first = λ e z sends. strange m is.shared_first k l (opens_first g h m k l opening is) e 0 sends a.pair;
         strange_second = λ e z sends. strange (turned_twins g h m k l opening is) is.shared_second l k (opens_second g h m k l opening is) e 0 sends (swapped m.twins a.pair);
         one_scene = a.pair.scenes;
-        shown = λ stood.
-            let views = a.views stood in
-            let other = (swap m.twins a).views (subst (λ (d : Path). HasBucket opening d.bucket) m.twins.dest stood) in
-            record {
-              shows = record { only = views_only views; kept = views_kept views };
-              first = λ t. let v = views_marked views m.first t in record { picked = v.0; apart = v.1; files = v.2; mark = v.3 };
-              second = λ t. let v = views_marked other m.second t in record { picked = v.0; apart = v.1; files = v.2; mark = v.3 };
-            };
+        shown = elim (none_or_some (fin.get opening.buckets g.script.dest.bucket))
+            [ inl none ↦ bare_shown es x y run none | inr stood ↦ shown es x y run stood ];
       }
 
 -- ---- moments

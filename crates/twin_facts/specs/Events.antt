@@ -1,6 +1,6 @@
 -- What is seen and told of a side by the numbers of events alone.
 use Rattle.std.specs.Prelude.{◌≡◌, ℕ, ◌≤◌, true, false, List, length, take}
-use Rattle.job_facts.specs.Prelude.{HasBucket, Content, Script, Seen, see_all, nothing_seen, nothing_told, tell_all, Times}
+use Rattle.job_facts.specs.Prelude.{Content, Script, Seen, see_all, nothing_seen, nothing_told, tell_all, Times}
 use Rattle.job_traces.specs.Runs.{Stand}
 use Rattle.twin_facts.specs.Sides.{Side, First, Second, TwinEntry, eyes}
 use Rattle.twin_facts.specs.TwinLaws.{InEachRun, Shows, Marked, is_marked_by}
@@ -24,4 +24,4 @@ pub record AtMoment (w v : Script) (k l : Times) (opening : Content) (es : List 
   pub second : is_marked_by v Second false (take m es) ≡ true → let s = seen_twin w k First opening es m in let t = seen_twin v l Second opening es m in Marked v w t.scene.content t.picks s.picks
 
 abbrev pub TwinsAlways : Type 0
-TwinsAlways = InEachRun (λ g h k l opening es x y. HasBucket opening g.script.dest.bucket → (m : ℕ) → m ≤ length es → AtMoment g.script h.script k l opening es m)
+TwinsAlways = InEachRun (λ g h k l opening es x y. (m : ℕ) → m ≤ length es → AtMoment g.script h.script k l opening es m)

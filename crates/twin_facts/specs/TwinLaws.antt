@@ -1,6 +1,8 @@
 -- What readers of a destination may rely on while two jobs go on there.
 use Rattle.std.specs.Prelude.{◌≡◌, ℕ, ◌≤◌, ◌⊎◌, ◌&&◌, Bool, true, false, cond, List, [], ◌∷◌, length, map, take, Some, None}
-use Rattle.job_facts.specs.Prelude.{HasBucket, list_any, text_eq, Content, bucket_of, is_effective, Object, Request, Entry, changed_keys, success_key, Script, IsLegal, Mode, Replace, Picks, wanted_at, is_picked, is_clash, is_decided, mark_text, view, Setting, Seen, is_marking, Hold, IsKnown, Times}
+use Rattle.job_facts.specs.Prelude.{list_any, text_eq, Content, bucket_of, is_effective, Object, Request, Entry, changed_keys, success_key}
+use Rattle.job_facts.specs.Prelude.{Script, IsLegal, Mode, Replace, Picks, wanted_at, is_picked, is_clash, is_decided, mark_text, view}
+use Rattle.job_facts.specs.Prelude.{Setting, Seen, is_marking, Hold, IsKnown, Times}
 use Rattle.job_protocol.specs.View.{Shown, object_at}
 use Rattle.twin_facts.specs.Names.{IsStranger}
 use Rattle.twin_facts.specs.Laws.{AreTwins}
@@ -77,9 +79,9 @@ pub record TwinsKeep (g h : Setting) (k l : Times) (opening : Content) (es : Lis
   -- what a side sends names nothing of the other's
   pub strange_first : (e : Entry) (z : Stand) → Sends g k x e z → IsStranger h.script (drew Second opening es) e.request
   pub strange_second : (e : Entry) (z : Stand) → Sends h l y e z → IsStranger g.script (drew First opening es) e.request
-  -- what is shown, where their bucket stood
+  -- what is shown
   pub one_scene : x.seen.scene ≡ y.seen.scene
-  pub shown : HasBucket opening g.script.dest.bucket → AreShown g h opening es x y
+  pub shown : AreShown g h opening es x y
 
 abbrev pub AllTwinsKeep : Type 0
 AllTwinsKeep = InEachRun TwinsKeep

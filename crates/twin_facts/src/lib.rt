@@ -11,8 +11,7 @@
 //! the cluster (`names`); so it is a stranger to the other job, over all that this drew in the whole run, and
 //! foreign to its facts, which each step of either keeps (`twins`). By one request of a job what stands at a path
 //! stays, or becomes a picked file, or goes where one is wanted or the mode does not keep it, and that by the
-//! job's commit alone (`shown`). At each moment, where
-//! their bucket stood as the run began, each path has its opening bytes or those of a side whose commit has
+//! job's commit alone (`shown`). At each moment each path has its opening bytes or those of a side whose commit has
 //! begun, and what neither wants stands; where the last put or deletion of `_SUCCESS` is a put by a side's
 //! driver, each task of that side has a pick, its files stand that are not the other's too, and the marker says
 //! so: by what is seen, and by the numbers of events in the journal of both alone (`moments`). An abort or clean

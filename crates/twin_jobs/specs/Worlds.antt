@@ -1,7 +1,6 @@
 -- A world of two jobs as its callers see it.
 use Rattle.std.specs.Prelude.{Bool, List, None, Option, Some, [], false, length, map, slice_get, true, ℕ, ◌++◌, ◌+◌, ◌∷◌, ◌≡◌, ◌≤◌}
 use Rattle.job_spec.specs.Prelude.{AllByRecursion, AreOwn, Content, Entry, EventEnd, Pick, Script, Sent, Setting, Times, in_eyes, times}
-use Rattle.job_facts.specs.Prelude.{HasBucket}
 use Rattle.job_spec.specs.Eyes.{number_in}
 use Rattle.job_spec.specs.Promise.{all_picks, lacked_memory}
 use Rattle.job_spec.specs.States.{past}
@@ -95,9 +94,10 @@ entries_of r = both_of (mine r.sides First) (mine r.sides Second) r.journal
 abbrev pub times_of : JobRun → Times
 times_of j = times j.script j.ends
 
--- what readers are shown at each moment, and what the marker says, where the bucket of both stood
+-- what readers are shown at each moment, and what the marker says
 abbrev pub ShowsBoth : Run → Type 0
-ShowsBoth r = HasBucket r.opening r.first.script.dest.bucket → (m : ℕ) → m ≤ length (entries_of r) → AtMoment r.first.script r.second.script (times_of r.first) (times_of r.second) r.opening (entries_of r) m
+ShowsBoth r = (m : ℕ) → m ≤ length (entries_of r)
+    → AtMoment r.first.script r.second.script (times_of r.first) (times_of r.second) r.opening (entries_of r) m
 
 -- What a run of two jobs keeps.
 pub record Keeps (r : Run) : Type 0 where

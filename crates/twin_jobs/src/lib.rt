@@ -7,8 +7,8 @@
 //! order, and after each call, whatever was lost and wherever memory ran out, `Keeps` holds of both scripts, the
 //! opening content, the journal, and the picks and ends of each side so far: of each side, in its own eyes, what
 //! no stranger breaks, how its commit, its check and its abort or clean end, that all picks of its commit are told
-//! unless that ran out of memory, and the facts of the job from its set-up's end on; of both, where their bucket
-//! stood as the run began, what a reader of the destination is shown at each moment of the journal; that each entry is of an event that has its end; and that no
+//! unless that ran out of memory, and the facts of the job from its set-up's end on; of both, what a reader of the
+//! destination is shown at each moment of the journal; that each entry is of an event that has its end; and that no
 //! request of one names what is the other's. The event's end is added (`Turned`), or no event happened for want of
 //! memory, and none will (`FoundNone`). `finish` hands out what the run leaves.
 #![tactic(auto)]
