@@ -46,7 +46,7 @@ wanting_commit : (op : Op) (e : CommitEnd) → is_wanting Driver op (ends.Commit
 wanting_commit op e h = grind arith
 
 -- where a member stands in its list
-parted_at : {X : Type 0} (x : X) (xs : List X) → IsIn x xs → (before : List X) × (later : List X) × (xs ≡ before ++ x ∷ later)
+pub parted_at : {X : Type 0} (x : X) (xs : List X) → IsIn x xs → (before : List X) × (later : List X) × (xs ≡ before ++ x ∷ later)
 parted_at x [] i = absurd i
 parted_at x (y ∷ ys) (inl e) = ([], ys, ap (λ v. v ∷ ys) (sym e))
 parted_at x (y ∷ ys) (inr i) = let r = parted_at x ys i in (y ∷ r.0, r.1, ap (λ v. y ∷ v) r.2)

@@ -3,11 +3,36 @@ use Rattle.twin_safety.proofs.Common.{Bool, CheckEnd, CheckIs, EndedBehind, Endi
 use Rattle.job_steps.specs.Prelude.{Content, Actor, Driver, Request, Entry, run, Follows, WornFirst, IsLegal, Script, Known, OpEnd, CommitEnd, CommitOver, commit_start, commit_tells, Setting, Operation, TheCommit, commit_of, wants, advance, over, is_begun, same_actor, Doing, since, by_actor, known_then, CommitEnded, seen_until, IsOpening, Play, Closes, happen, Reachable, IsRun, operation_of, times, Times, has_cleaned}
 use Rattle.job_model.specs.declared.events.Op.TheVariants as ops
 use Rattle.job_model.specs.declared.ends.OpEnd.TheVariants as ends
+use Rattle.job_model.specs.declared.ends.CommitEnd.TheVariants as commits
 use Rattle.job_outcomes.specs.CommitRuns.{CommitStands}
+use Rattle.job_outcomes.proofs.CommitMoments.{see_parts}
+use Rattle.job_outcomes.proofs.CommitRuns.{no_entry}
+use Rattle.job_outcomes.proofs.Served.{commit_answers}
+use Rattle.job_protocol.specs.Prelude.{Answered, IsIn, Reply, commit_asks, list_any, set_read, set_request}
+use Rattle.job_safety.proofs.Commits.{parted_at}
+use Rattle.job_safety.proofs.History.{Began}
+use Rattle.job_safety.proofs.Spans.{mine, start}
+use Rattle.job_safety.proofs.Timed.{ahead_start}
+use Rattle.job_spec.proofs.Common.{in_back, in_filter, list_any-append, none_or_some, none_some, or_parts}
+use Rattle.job_spec.specs.OperationEnds.{CommitServed}
+use Rattle.job_spec.specs.States.{clean_event, missing}
+use Rattle.job_steps.proofs.Actors.{same_is}
+use Rattle.job_steps.proofs.Reported.{all_published, last_more, reported}
+use Rattle.job_steps.specs.Prelude.{HasPublished, nothing_seen, nothing_told, see_all, tell_all}
+use Rattle.job_traces.proofs.Learnt.{cleaned_is}
+use Rattle.std.proofs.Common.{append_assoc}
+use Rattle.std.specs.Prelude.{IsSome, ◌++◌, ◌<◌}
 use Rattle.twin_safety.proofs.Checking.{checks_end}
 use Rattle.twin_safety.proofs.Ending.{behind_so}
 use Rattle.twin_safety.proofs.Pages.{one_rest}
 use Rattle.twin_safety.proofs.Behind.{Behind, IsAt, led, commit_ended, check_ended}
+
+-- ---- lists
+
+none_of : (f : Entry → Bool) (u : Entry) (l : List Entry) → list_any f l ≡ false → IsIn u l → f u ≡ false
+none_of f u [] h i = absurd i
+none_of f u (v ∷ l) h (inl is) = ap f is ∙ (or_parts (f v) (list_any f l) h).0
+none_of f u (v ∷ l) h (inr more) = none_of f u l (or_parts (f v) (list_any f l) h).1 more
 
 -- ---- the entries of the commit, by events
 
@@ -112,6 +137,79 @@ module _ (g : Setting) (shared : g.shared ≡ true) (opening : Content) (j : IsL
         subst (λ l. CommitEnded w then.stand.seen d.reports.missing l e) own_is
         (commit_runs.ended g j k opening is_opening z.journal then.stand then.runs e at_end d.reports.missing (ap (run (commit_tells w) (commit_start w d.reports.missing)) own_is ∙ behind.0.leads))
 
+    -- ---- what it was answered
+
+    abbrev s : Began g opening z Driver d
+    s = start g opening x i Driver d (ends.Commit e) es n
+
+    abbrev has_begun : Entry → Bool
+    has_begun u = is_driver u.actor && is_begun k.clean u.event
+
+    clean : list_any has_begun z.journal ≡ false
+    clean = unclean_then g opening j is_opening x run_x idle i d (ends.Commit e) es n (CommitOver e) at_end
+
+    unclean : (tell_all w (nothing_told (clean_event w x.ends)) s.at.journal).cleaned ≡ false
+    unclean =
+        let parts : (list_any has_begun s.at.journal || list_any has_begun s.entries) ≡ false =
+        sym (list_any-append has_begun s.at.journal s.entries) ∙ ap (list_any has_begun) (sym s.all) ∙ clean in
+        cleaned_is w s.at.journal (nothing_told (clean_event w x.ends)) ∙
+        (or_parts (list_any has_begun s.at.journal) (list_any has_begun s.entries) parts).0
+
+    -- an entry of its own is one of the driver's since it began
+    sent : (u : Entry) → IsIn u led_so.0 → IsIn u s.entries × (same_actor u.actor Driver ≡ true)
+    sent u there =
+        let one : IsIn u es = subst (IsIn u) (sym behind.0.entries) (in_back u behind.0.checks led_so.0 there) in
+        in_filter (λ (v : Entry). same_actor v.actor Driver) u s.entries
+        (subst (IsIn u) (mine g opening x i Driver d (ends.Commit e) es n) one)
+
+    before_clean : (u : Entry) → IsIn u led_so.0 → is_begun k.clean u.event ≡ false
+    before_clean u there =
+        let own = sent u there in
+        let here : IsIn u z.journal = subst (IsIn u) (sym s.all) (in_back u s.at.journal s.entries own.0) in
+        sym (ap (λ a. is_driver a && is_begun k.clean u.event) (same_is u.actor Driver own.1)) ∙ none_of has_begun u z.journal clean here
+
+    -- where it has sent a request no task was missing, and each has a last publisher from then on
+    none_missing : (u : Entry) → IsIn u led_so.0 → d.reports.missing ≡ None
+    none_missing u there = elim (none_or_some d.reports.missing) [
+      | inl none ↦ none
+      | inr t ↦
+          let f = subst (λ m. Follows (commit_asks w) (commit_tells w) (commit_start w m) led_so.0) t.1 behind.0.follows in
+          absurd (subst (IsIn u) (no_entry w (commits.Missing t.0) led_so.0 f) there)
+    ]
+
+    published : (u : Entry) → IsIn u led_so.0 → (fs : List Entry) (t : ℕ) → t < w.tasks
+        → HasPublished (see_all w k (nothing_seen opening) (s.at.journal ++ fs)) t
+    published u there fs t low =
+        let none : missing w s.at.past.reported ≡ None = sym (ap (λ (r : Reports). r.missing) s.reports_is) ∙ none_missing u there in
+        let seen = see_all w k (nothing_seen opening) s.at.journal in
+        let past = (reported g opening j is_opening x.ends s.at s.happened
+        (ahead_start g opening j is_opening x run_x idle i d (ends.Commit e) es n) unclean).past in
+        subst (λ v. HasPublished v t) (sym (see_parts w k (nothing_seen opening) s.at.journal fs))
+        (last_more w k seen fs t (all_published w s.at.past.reported seen past none t low))
+
+    read_there : (before : List Entry) (u : Entry) (later : List Entry) (t : ℕ) (r : Reply) → led_so.0 ≡ before ++ u ∷ later
+        → u.request ≡ set_request w.committer w t → u.outcome ≡ Answered r → IsSome (set_read r)
+    read_there before u later t r is asks got =
+        let there : IsIn u led_so.0 = subst (IsIn u) (sym is) (in_back u before (u ∷ later) (inl refl)) in
+        let own = sent u there in
+        let at = parted_at u s.entries own.0 in
+        let all : z.journal ≡ (s.at.journal ++ at.0) ++ u ∷ at.1 =
+        s.all ∙ ap (λ l. s.at.journal ++ l) at.2 ∙ sym (append_assoc s.at.journal at.0 (u ∷ at.1)) in
+        let driver = same_is u.actor Driver own.1 in
+        elim (commit_answers.there g j k opening is_opening z.journal then.stand then.runs (s.at.journal ++ at.0) u at.1 t r all driver
+        (before_clean u there) asks got) [
+          | inl some ↦ some
+          | inr none ↦ absurd (none_some none.2 (published u there at.0 none.0 none.1).1)
+        ]
+
+    served : CommitServed w led_so.0
+    served = record {
+      sets = read_there;
+      completions = λ before u later why is stage got.
+          commit_answers.refused g j k opening is_opening z.journal then.stand then.runs (CommitOver e) at_end before u later why
+          (own_is ∙ is) stage got;
+    }
+
     commit_so : EndedBehind w (seen_until w opening x.journal x.ends (i + 1)) d es e
     commit_so =
         let picks = picks_then g opening j is_opening x run_x idle i d (ends.Commit e) es n in
@@ -126,6 +224,7 @@ module _ (g : Setting) (shared : g.shared ≡ true) (opening : Content) (j : IsL
             due = elim due_then.due [ inl memory ↦ inl memory | inr is ↦ inr (is ∙ ap (λ p. commit_due w p d.reports.missing due_then.worn) picks) ];
             answered = due_then.answered;
           };
+          served = served;
         }
 
   pub commits_kept : SharedCommits w opening x.journal x.ends

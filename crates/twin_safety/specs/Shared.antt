@@ -10,7 +10,7 @@ use Rattle.job_model.specs.declared.ends.OpEnd.TheVariants as ends
 use Rattle.twin_facts.specs.Spared.{SparingLeaves}
 use Rattle.twin_safety.specs.Checks.{CheckIs}
 use Rattle.twin_safety.specs.Ends.{IsCleared}
-use Rattle.job_spec.specs.OperationEnds.{CleanIs}
+use Rattle.job_spec.specs.OperationEnds.{CleanIs, CommitServed}
 
 -- the commit ended behind its check, if there was one, as is due of a job alone by the task that was missing, the first of its requests that wore out, and the picks
 pub record EndedBehind (w : Script) (s : Seen) (d : Doing) (es : List Entry) (e : CommitEnd) : Type 0 where
@@ -20,6 +20,8 @@ pub record EndedBehind (w : Script) (s : Seen) (d : Doing) (es : List Entry) (e 
   pub entries : es ≡ checks ++ own
   pub cleared : IsCleared w.mode d.reports.missing w d.reports.attempts checks
   pub ended : CommitEnded w s d.reports.missing own e
+  -- each answered read of a task's set gave one, and a completion was refused only where an earlier send of it was lost
+  pub served : CommitServed w own
 
 -- the driver's commit, want of memory aside
 abbrev pub SharedCommits : Script → Content → List Entry → List EventEnd → Type 0
