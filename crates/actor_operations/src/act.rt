@@ -1,8 +1,9 @@
-ghost use Rattle.std.specs.Prelude.{◌≡◌, IfOk, OnOk, OnErr, IsSome};
+ghost use Rattle.std.specs.Prelude.{◌≡◌, IfOk, OnOk, OnErr, IsSome, true};
 ghost use Rattle.std.specs.Option.{option_copied, option_map};
 ghost use Rattle.retries.specs.Retries.{OutOfMemory};
 ghost use Rattle.machine.specs.Turns.{FitsOutcome};
 ghost use Rattle.job_model.specs.declared.ends.OpEnd.TheVariants as ends;
+ghost use Rattle.job_actor.specs.Acts.{ends_with_path};
 ghost use Rattle.job_protocol.specs.AtWork.{commit_wants, commit_told};
 ghost use Rattle.commit_laws.specs.Fitting.{without_memory};
 ghost use Rattle.commit_laws.specs.Laws.{FitsFew};
@@ -79,7 +80,8 @@ pub fn told_commit(commit: &mut CommitJob, outcome: &Outcome) -> Result<(), Allo
 }
 
 fn ended_setup(end: Option<&SetupEnd>) -> Result<Option<OpEnd>, AllocError>
-    ensures { IfOk result (λ x. x ≡ option_map ends.Setup (option_copied end.entry)) }
+    ensures ok { IfOk result (λ x. x ≡ option_map ends.Setup (option_copied end.entry)) }
+    ensures err { OnErr result (ends_with_path (option_map ends.Setup (option_copied end.entry)) ≡ true) }
 {
     match end {
         Some(end) => Ok(Some(OpEnd::Setup(setup_end(end)?))),
@@ -88,7 +90,8 @@ fn ended_setup(end: Option<&SetupEnd>) -> Result<Option<OpEnd>, AllocError>
 }
 
 fn ended_task(end: Option<&TaskEnd>) -> Result<Option<OpEnd>, AllocError>
-    ensures { IfOk result (λ x. x ≡ option_map ends.Task (option_copied end.entry)) }
+    ensures ok { IfOk result (λ x. x ≡ option_map ends.Task (option_copied end.entry)) }
+    ensures err { OnErr result (ends_with_path (option_map ends.Task (option_copied end.entry)) ≡ true) }
 {
     match end {
         Some(end) => Ok(Some(OpEnd::Task(task_end(end)?))),
@@ -97,7 +100,8 @@ fn ended_task(end: Option<&TaskEnd>) -> Result<Option<OpEnd>, AllocError>
 }
 
 pub fn ended_commit(end: Option<&CommitEnd>) -> Result<Option<OpEnd>, AllocError>
-    ensures { IfOk result (λ x. x ≡ option_map ends.Commit (option_copied end.entry)) }
+    ensures ok { IfOk result (λ x. x ≡ option_map ends.Commit (option_copied end.entry)) }
+    ensures err { OnErr result (ends_with_path (option_map ends.Commit (option_copied end.entry)) ≡ true) }
 {
     match end {
         Some(end) => Ok(Some(OpEnd::Commit(commit_end(end)?))),
@@ -106,7 +110,8 @@ pub fn ended_commit(end: Option<&CommitEnd>) -> Result<Option<OpEnd>, AllocError
 }
 
 pub fn ended_check(end: Option<&CheckEnd>) -> Result<Option<OpEnd>, AllocError>
-    ensures { IfOk result (λ x. x ≡ option_map ends.Check (option_copied end.entry)) }
+    ensures ok { IfOk result (λ x. x ≡ option_map ends.Check (option_copied end.entry)) }
+    ensures err { OnErr result (ends_with_path (option_map ends.Check (option_copied end.entry)) ≡ true) }
 {
     match end {
         Some(end) => Ok(Some(OpEnd::Check(check_end(end)?))),

@@ -1,4 +1,4 @@
-ghost use Rattle.std.specs.Prelude.{◌≡◌, IfOk, OnOk, OnErr, IsSome};
+ghost use Rattle.std.specs.Prelude.{◌≡◌, IfOk, OnOk, OnErr, IsSome, true};
 ghost use Rattle.std.specs.Option.{option_copied};
 ghost use Rattle.retries.specs.Retries.{OutOfMemory};
 ghost use Rattle.machine.specs.Turns.{FitsOutcome};
@@ -6,7 +6,7 @@ ghost use Rattle.conflict.specs.Rechecks.{check_wants, check_told};
 ghost use Rattle.conflict.specs.Fits.{FitsCheck};
 ghost use Rattle.job_commit.specs.Holds.{picks_from};
 ghost use Rattle.job_protocol.specs.Rechecks.{check_over};
-ghost use Rattle.job_actor.specs.Acts.{EndsWanting};
+ghost use Rattle.job_actor.specs.Acts.{EndsWanting, ends_with_path};
 ghost use Rattle.actor_operations.specs.Acts.{stepped, is_clear, until_clear, checked_wants, checked_told, FitsChecked, checked_end};
 
 use crate::act::{ended_check, ended_commit, told, told_commit};
@@ -100,9 +100,11 @@ impl Checked {
         }
     }
 
-    /// How it ended, or None while it asks a request. A path in the end is shared, and not copied.
+    /// How it ended, or None while it asks a request. A path in the end is shared, and not copied; an error comes only
+    /// where there is one.
     pub fn end(&self) -> Result<Option<OpEnd>, AllocError>
-        ensures { IfOk result (λ end. end ≡ checked_end self.now.check self.now.commit) }
+        ensures ok { IfOk result (λ end. end ≡ checked_end self.now.check self.now.commit) }
+        ensures err { OnErr result (ends_with_path (checked_end self.now.check self.now.commit) ≡ true) }
     {
         match &self.check {
             Some(check) => ended_check(check.machine().end()),

@@ -1,11 +1,14 @@
-ghost use Rattle.std.specs.Prelude.{◌≡◌, IfOk};
+ghost use Rattle.std.specs.Prelude.{◌≡◌, IfOk, OnErr, true};
+ghost use Rattle.job_model.specs.declared.ends.OpEnd.TheVariants as ends;
+ghost use Rattle.job_actor.specs.Acts.{names_path};
 
 use job_model::{CheckEnd, CommitEnd, SetupEnd, TaskEnd};
 use std::alloc::AllocError;
 
-/// The same end of a set-up; a path in it is shared.
+/// The same end of a set-up; a path in it is shared, and an error comes only where there is one.
 pub fn setup_end(end: &SetupEnd) -> Result<SetupEnd, AllocError>
-    ensures { IfOk result (λ copy. copy ≡ end.now) }
+    ensures ok { IfOk result (λ copy. copy ≡ end.now) }
+    ensures err { OnErr result (names_path (ends.Setup end.now) ≡ true) }
 {
     match end {
         SetupEnd::Done => Ok(SetupEnd::Done),
@@ -17,9 +20,10 @@ pub fn setup_end(end: &SetupEnd) -> Result<SetupEnd, AllocError>
     }
 }
 
-/// The same end of an attempt's operation; a path in it is shared.
+/// The same end of an attempt's operation; a path in it is shared, and an error comes only where there is one.
 pub fn task_end(end: &TaskEnd) -> Result<TaskEnd, AllocError>
-    ensures { IfOk result (λ copy. copy ≡ end.now) }
+    ensures ok { IfOk result (λ copy. copy ≡ end.now) }
+    ensures err { OnErr result (names_path (ends.Task end.now) ≡ true) }
 {
     match end {
         TaskEnd::Done => Ok(TaskEnd::Done),
@@ -31,9 +35,10 @@ pub fn task_end(end: &TaskEnd) -> Result<TaskEnd, AllocError>
     }
 }
 
-/// The same end of a job's commit; a path in it is shared.
+/// The same end of a job's commit; a path in it is shared, and an error comes only where there is one.
 pub fn commit_end(end: &CommitEnd) -> Result<CommitEnd, AllocError>
-    ensures { IfOk result (λ copy. copy ≡ end.now) }
+    ensures ok { IfOk result (λ copy. copy ≡ end.now) }
+    ensures err { OnErr result (names_path (ends.Commit end.now) ≡ true) }
 {
     match end {
         CommitEnd::Committed => Ok(CommitEnd::Committed),
@@ -52,9 +57,10 @@ pub fn commit_end(end: &CommitEnd) -> Result<CommitEnd, AllocError>
     }
 }
 
-/// The same end of a check before a job's commit; a path in it is shared.
+/// The same end of a check before a job's commit; a path in it is shared, and an error comes only where there is one.
 pub fn check_end(end: &CheckEnd) -> Result<CheckEnd, AllocError>
-    ensures { IfOk result (λ copy. copy ≡ end.now) }
+    ensures ok { IfOk result (λ copy. copy ≡ end.now) }
+    ensures err { OnErr result (names_path (ends.Check end.now) ≡ true) }
 {
     match end {
         CheckEnd::Clear => Ok(CheckEnd::Clear),

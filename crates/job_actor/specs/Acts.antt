@@ -1,6 +1,25 @@
 -- What an actor is at, beside the contracts of its calls.
 use Rattle.std.specs.Prelude.{◌≡◌, ℕ, ◌+◌, ◌<◌, ◌≤◌, Bool, true, false, not, Option, Some, None, is_some}
+use Rattle.job_model.specs.declared.ends.SetupEnd.TheVariants as setups
+use Rattle.job_model.specs.declared.ends.CheckEnd.TheVariants as checks
+use Rattle.job_model.specs.declared.ends.TaskEnd.TheVariants as tasks
+use Rattle.job_model.specs.declared.ends.CommitEnd.TheVariants as commits
+use Rattle.job_model.specs.declared.ends.OpEnd.TheVariants as ends
 use Rattle.job_steps.specs.Prelude.{Scene, answer, apply, effect, IsHonestOutcome, Request, Outcome, OpEnd, is_memory}
+
+-- the end names a path: one at which files clash, one that two tasks write, or what is gone
+abbrev pub names_path : OpEnd → Bool
+names_path (ends.Setup (setups.Conflict path)) = true
+names_path (ends.Check (checks.Conflict path)) = true
+names_path (ends.Task (tasks.Conflict partition)) = true
+names_path (ends.Task (tasks.Gone name)) = true
+names_path (ends.Commit (commits.SamePath path first second)) = true
+names_path _ = false
+
+-- it ended, and its end names a path
+abbrev pub ends_with_path : Option OpEnd → Bool
+ends_with_path (Some end) = names_path end
+ends_with_path None = false
 
 -- it ended, and for want of memory
 abbrev pub ends_wanting : Option OpEnd → Bool

@@ -1,10 +1,10 @@
-ghost use Rattle.std.specs.Prelude.{◌≡◌, ℕ, Option, IfOk, OnOk, OnErr, IsSome, is_some};
+ghost use Rattle.std.specs.Prelude.{◌≡◌, ℕ, Option, IfOk, OnOk, OnErr, IsSome, is_some, true};
 ghost use Rattle.std.specs.Option.{option_copied};
 ghost use Rattle.s3_types.specs.Store.{Scene};
 ghost use Rattle.s3_types.specs.declared.request.Request.{Request};
 ghost use Rattle.s3_types.specs.declared.journal.Outcome.{Outcome};
 ghost use Rattle.job_model.specs.declared.ends.OpEnd.{OpEnd};
-ghost use Rattle.job_actor.specs.Acts.{ActLaws, EndsWanting};
+ghost use Rattle.job_actor.specs.Acts.{ActLaws, EndsWanting, ends_with_path};
 
 use job_model::OpEnd;
 use s3_types::{Outcome, Request};
@@ -42,9 +42,11 @@ pub trait Acts: Drop {
         ensures ok { OnOk result (self.new ≡ tells self.old outcome.now) }
         ensures err { OnErr result (EndsWanting (wants self.new) (end_of self.new)) };
 
-    /// How it ended, or None while it asks a request. A path in the end is shared, and not copied.
+    /// How it ended, or None while it asks a request. A path in the end is shared, and not copied; an error comes only
+    /// where there is one.
     fn end(&self) -> Result<Option<OpEnd>, AllocError>
-        ensures { IfOk result (λ end. end ≡ end_of self.now) };
+        ensures ok { IfOk result (λ end. end ≡ end_of self.now) }
+        ensures err { OnErr result (ends_with_path (end_of self.now) ≡ true) };
 
     /// What holds of these.
     ghost laws: { ActLaws wants tells fits end_of left rise };

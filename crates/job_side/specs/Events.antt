@@ -1,8 +1,11 @@
 -- The events of a world.
-use Rattle.std.specs.Prelude.{◌≡◌, ℕ, ◌+◌, ◌<◌, ◌≤◌, ◌-◌, Bool, true, false, List, [], ◌∷◌, ◌++◌, length, map, slice_get, Option, Some, None, IsSome, IfOk, unwrap_or, Result, vec_len, vec_capacity}
+use Rattle.std.specs.Prelude.{◌≡◌, ◌⊎◌, ℕ, ◌+◌, ◌<◌, ◌≤◌, ◌-◌, Bool, true, false, List, [], ◌∷◌, ◌++◌, length, map, slice_get, Option, Some}
+use Rattle.std.specs.Prelude.{None, IsSome, IfOk, unwrap_or, Result, vec_len, vec_capacity}
 use Rattle.job_steps.specs.Prelude.{Entry, Request, Actor, Known, Op, Event, Do, Start, Kill, Mix, Restart, Recover, ActorEnd, EventEnd, Done, Ended, EventFault, OpEnd, Pick, knows, Reports, reports, Setting, Running, who, start_of, Past, actors, refusal, past, told, open_event, Turns, AllBy, busy_actors, of_event, by_actor, begun}
 use Rattle.job_protocol.specs.Prelude.{Mixed}
 use Rattle.job_states.specs.Stands.{Stands, IsPlace}
+use Rattle.job_model.specs.declared.ends.OpEnd.TheVariants.{NoMemory}
+use Rattle.job_actor.specs.Acts.{ends_with_path}
 use Rattle.job_actor.specs.Plans.{IsPlanOf}
 use Rattle.job_side.specs.Sending.{Asks}
 use Rattle.job_side.specs.Holds.{Holds, Going, Quiet, IsTurn, Stays, HandIs, AreOf, seen_by, all_sound, all_but, setting_of, is_busy_at}
@@ -172,6 +175,15 @@ pub record InHand {W : Type 0} (wants : W → Option Request) (is_of : Setting �
 abbrev pub TakenUp : {W : Type 0} → ℕ → Actor → Body W → Bool → Type 0
 TakenUp place a b true = (is_busy_at b.side.states.actors place ≡ true) × (b.side.finished.items ≡ []) × (vec_len b.side.finished < vec_capacity b.side.finished)
 TakenUp place a b false = (end : OpEnd) × (b.side.finished.items ≡ record { actor = a; end = end } ∷ [])
+
+-- this is told of an operation that ended so: its end, or out of memory where its end names a path
+abbrev pub IsToldOf : Option OpEnd → OpEnd → Type 0
+IsToldOf due end = (due ≡ Some end) ⊎ ((ends_with_path due ≡ true) × (end ≡ NoMemory))
+
+-- the actor goes on where its operation has no end yet; else what is told of it is all that ended in the event
+abbrev pub EndsAtOnce : {W : Type 0} → Option OpEnd → Actor → Body W → Bool → Type 0
+EndsAtOnce due a b true = due ≡ None
+EndsAtOnce due a b false = (end : OpEnd) × (b.side.finished.items ≡ record { actor = a; end = end } ∷ []) × IsToldOf due end
 
 -- an event goes on that was opened, and has no entry yet
 pub record Entered {W : Type 0} (event : Event) (b c : Body W) : Type 0 where

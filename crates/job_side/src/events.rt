@@ -14,7 +14,7 @@ ghost use Rattle.job_side.specs.declared.hands.Hand.TheVariants.{Empty};
 ghost use Rattle.job_side.specs.Sending.{Asks, hand_end};
 ghost use Rattle.job_side.specs.Holds.{Holds, Going, Quiet, IsTurn, Same, seen_by, all_sound, setting_of, is_busy_at};
 ghost use Rattle.job_side.specs.Beside.{RestsBeside};
-ghost use Rattle.job_side.specs.Events.{Next, Refuses, IsFine, HasRoom, end_of, ByTurns, Grown, IsAsBefore, IsOpened, Emptied, picks_in, knows_of, GivesPlan, of_tasks, IsWork, Begun, InHand, TakenUp, AllOf, BeginsBy, BeginsNone, HasBegun, HasEntered, AreBusy, IsStill, MayPlay, IsPast, event_entries};
+ghost use Rattle.job_side.specs.Events.{Next, Refuses, IsFine, HasRoom, end_of, ByTurns, Grown, IsAsBefore, IsOpened, Emptied, picks_in, knows_of, GivesPlan, of_tasks, IsWork, Begun, InHand, TakenUp, EndsAtOnce, AllOf, BeginsBy, BeginsNone, HasBegun, HasEntered, AreBusy, IsStill, MayPlay, IsPast, event_entries};
 
 use crate::body::Body;
 use crate::hands::Hand;
@@ -164,13 +164,15 @@ impl<W: Works> Body<W> {
         W::begin(self.shared.alloc, plan, actor, op, none)
     }
 
-    /// An operation that has nothing to send ends. Says whether it goes on.
+    /// An operation that has nothing to send ends, and is told to have ended as it did; or out of memory, where a path in
+    /// its end cannot be shared. Says whether it goes on.
     fn goes_on(&mut self, place: usize, actor: Actor) -> bool
         requires { InHand W.wants W.is_of W.running W.picks_of place actor self.old }
         ensures going { Going W.wants W.is_of W.running W.picks_of self.new }
         ensures same { Same self.old self.new }
         ensures journal { self.new.shared.journal ≡ self.old.shared.journal }
         ensures taken { TakenUp place actor self.new result }
+        ensures ended { EndsAtOnce (hand_end W.end_of (slice_get self.old.side.hands.items place)) actor self.new result }
     {
         match self.end_at(place) {
             Ok(None) => true,

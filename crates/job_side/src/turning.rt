@@ -1,4 +1,5 @@
-ghost use Rattle.std.specs.Prelude.{◌≡◌, ◌<◌, ◌≤◌, [], ◌∷◌, ◌++◌, slice_get, Some, IfOk, IsSome, true, vec_len, vec_capacity};
+ghost use Rattle.std.specs.Prelude.{◌≡◌, ◌<◌, ◌≤◌, [], ◌∷◌, ◌++◌, slice_get, Some, IfOk, OnErr, IsSome, true, vec_len, vec_capacity};
+ghost use Rattle.job_actor.specs.Acts.{ends_with_path};
 ghost use Rattle.job_spec.specs.States.{actors};
 ghost use Rattle.job_model.specs.declared.ends.OpEnd.TheVariants.{NoMemory};
 ghost use Rattle.job_side.specs.Sending.{hand_end};
@@ -49,9 +50,10 @@ impl<W: Works> Body<W> {
     }
 
     /// How what the actor at a place has in hand ended, or None while it has more to send. A path in the end is
-    /// shared.
+    /// shared, and an error comes only where there is one.
     pub fn end_at(&self, place: usize) -> Result<Option<OpEnd>, AllocError>
-        ensures { IfOk result (λ end. end ≡ hand_end W.end_of (slice_get self.now.side.hands.items place)) }
+        ensures ok { IfOk result (λ end. end ≡ hand_end W.end_of (slice_get self.now.side.hands.items place)) }
+        ensures err { OnErr result (ends_with_path (hand_end W.end_of (slice_get self.now.side.hands.items place)) ≡ true) }
     {
         match self.side.hands.get(place) {
             Some(Hand::At(work)) => work.end(),

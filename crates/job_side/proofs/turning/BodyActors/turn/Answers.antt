@@ -21,7 +21,7 @@ pub returns-in-Ok-None : goal.returns-in-Ok-None
 returns-in-Ok-None g c =
     let posted = c.in-Heard.ensures.posted in
     goes_on _ _ _ _ _ _ _ g.W.Works.rise _ _ g.met.W.Acts.laws _ _ c.args.place c.actor_at-actor.result c.actor_at-actor.ensures c.requires.going c.requires.holds
-    c.in-Heard.ensures.around posted.0 posted.1 posted.2 posted.3 posted.4 (sym c.in-Ok-None.ensures ∙ c.in-Ok-None.field-0-is)
+    c.in-Heard.ensures.around posted.0 posted.1 posted.2 posted.3 posted.4 (sym c.in-Ok-None.ensures.ok ∙ c.in-Ok-None.field-0-is)
 
 pub returns-in-Ok-Some : goal.returns-in-Ok-Some
 returns-in-Ok-Some g c =
