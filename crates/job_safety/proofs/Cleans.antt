@@ -1,17 +1,79 @@
 -- How the driver's abort or clean of the job ends in a run.
-use Rattle.job_safety.proofs.Common.{AllBy, AreHonest, CleanEnd, Cleaned, CleansEnd, Content, Doing, Driver, Entry, Follows, IsLegal, Known, List, None, Operation, Play, Reachable, Scene, Setting, Some, TheClean, [], advance, after_all, ap, append-nil, arith, before, by_actor, clean_alone, clean_start, false, false_true, filter-append, fresh, from_part, inl, inr, is_memory, known_then, length, moment, nat_le, over, refl, run, since, subst, sym, until, wants, ℕ, ◌++◌, ◌+◌, ◌∙◌, ◌≡◌}
+use Rattle.job_safety.proofs.Common.{AllBy, AllFrom, AreHonest, Bool, CleanEnd, Cleaned, CleansEnd, Content, Doing, Driver, Entry}
+use Rattle.job_safety.proofs.Common.{Follows, IsLegal, Known, List, None, Operation, Play, Reachable, Scene, Setting, TheClean}
+use Rattle.job_safety.proofs.Common.{Actor, Some, [], advance, after_all, after_parts, ap, append_assoc, arith, before}
+use Rattle.job_safety.proofs.Common.{by_actor}
+use Rattle.job_safety.proofs.Common.{clean_alone, clean_start, cond, false, false_true, fresh, inl, inr, is_memory, known_then, length}
+use Rattle.job_safety.proofs.Common.{moment}
+use Rattle.job_safety.proofs.Common.{none_some, over, refl, run, same_actor, since, subst, sym, true, true_or_false, until, until_last}
+use Rattle.job_safety.proofs.Common.{wants}
+use Rattle.job_safety.proofs.Common.{ℕ, ◌++◌, ◌+◌, ◌∙◌, ◌∷◌, ◌||◌, ◌≡◌, ◌⊎◌}
 use Rattle.s3_types.specs.Store as store
+use Rattle.job_facts.specs.Prelude.{effect, list_any}
 use Rattle.job_model.specs.declared.ends.CleanEnd.TheVariants as cleans
 use Rattle.job_model.specs.declared.ends.OpEnd.TheVariants as ends
 use Rattle.job_outcomes.proofs.CleanEnds.{cleans_end}
-use Rattle.job_safety.proofs.Cuts.{moment_cut, all_by_back}
-use Rattle.job_outcomes.proofs.EventRows.{alone as by_all, all_since}
-use Rattle.job_safety.proofs.Strange.{driver_none}
+use Rattle.job_outcomes.proofs.RunEntries.{behind_last}
+use Rattle.job_safety.proofs.Cuts.{moment_cut, since_cut}
 use Rattle.job_safety.proofs.Sorts.{over_kind, kind_run, driver_clean, memory_clean}
 use Rattle.job_safety.proofs.Ending.{Ending, ending, journal_until, until_strange}
-use Rattle.job_safety.proofs.Spans.{start, late, scene_is, since_is, mine, honest, after_is}
+use Rattle.job_safety.proofs.Strange.{strange_last}
+use Rattle.job_safety.proofs.Spans.{start, scene_is, mine, honest, early}
 
-module _ (g : Setting) (single : g.shared ≡ false) (opening : Content) (j : IsLegal g.script) (x : Play) (run_x : Reachable g opening x) (idle : x.now ≡ None) where
+-- ---- a front of entries
+
+from_front : (n : ℕ) (es fs : List Entry) → AllFrom n (es ++ fs) → AllFrom n es
+from_front n [] fs h = tt
+from_front n (e ∷ es) fs h = (h.0, from_front n es fs h.1)
+
+honest_front : (s : Scene) (es fs : List Entry) → AreHonest s (es ++ fs) → AreHonest s es
+honest_front s [] fs h = tt
+honest_front s (e ∷ es) fs h = (h.0, honest_front (effect s e.request e.outcome) es fs h.1)
+
+-- ---- up to an actor's last entry
+
+abbrev has_entry : Actor → List Entry → Bool
+has_entry a es = list_any (λ e. same_actor e.actor a) es
+
+has_more : (a : Actor) (es fs : List Entry) → has_entry a fs ≡ true → has_entry a (es ++ fs) ≡ true
+has_more a [] fs h = h
+has_more a (e ∷ es) fs h = by (same_actor e.actor a) (has_more a es fs h)
+  where
+    by : (b : Bool) → has_entry a (es ++ fs) ≡ true → (b || has_entry a (es ++ fs)) ≡ true
+    by true g = refl
+    by false g = g
+
+-- it lies in the part behind, where that has one
+last_behind : (a : Actor) (es fs : List Entry) → has_entry a fs ≡ true → until_last a (es ++ fs) ≡ es ++ until_last a fs
+last_behind a [] fs h = refl
+last_behind a (e ∷ es) fs h =
+    ap (λ b. cond b (e ∷ until_last a (es ++ fs)) []) (has_more a (e ∷ es) fs h) ∙ ap (λ l. e ∷ l) (last_behind a es fs h)
+
+none_of : (a : Actor) (es : List Entry) → has_entry a es ≡ false → by_actor a es ≡ []
+none_of a [] h = refl
+none_of a (e ∷ es) h = by (same_actor e.actor a) h (λ g. none_of a es g)
+  where
+    by : (b : Bool) → (b || has_entry a es) ≡ false → (has_entry a es ≡ false → by_actor a es ≡ [])
+        → cond b (e ∷ by_actor a es) (by_actor a es) ≡ []
+    by true g rest = absurd (false_true g refl)
+    by false g rest = rest g
+
+same_so : (e : Entry) → e.actor ≡ Driver → same_actor e.actor Driver ≡ true
+same_so e is = ap (λ a. same_actor a Driver) is
+
+-- where all up to there are the driver's, they are all of the driver's
+only_last : (es : List Entry) → AllBy Driver (until_last Driver es) → by_actor Driver es ≡ until_last Driver es
+only_last [] h = refl
+only_last (e ∷ es) h = by (has_entry Driver (e ∷ es)) refl h (λ all. only_last es all)
+  where
+    by : (b : Bool) → has_entry Driver (e ∷ es) ≡ b → AllBy Driver (cond b (e ∷ until_last Driver es) [])
+        → (AllBy Driver (until_last Driver es) → by_actor Driver es ≡ until_last Driver es) → by_actor Driver (e ∷ es) ≡ cond b
+        (e ∷ until_last Driver es) []
+    by true is all rest = ap (λ b. cond b (e ∷ by_actor Driver es) (by_actor Driver es)) (same_so e all.0) ∙ ap (λ l. e ∷ l) (rest all.1)
+    by false is all rest = none_of Driver (e ∷ es) is
+
+module _ (g : Setting) (single : g.shared ≡ false) (opening : Content) (j : IsLegal g.script) (x : Play) (run_x : Reachable g opening x)
+    (idle : x.now ≡ None) where
   module _ (i : ℕ) (d : Doing) (e : CleanEnd) (es : List Entry) (n : Ending g opening x i Driver d (ends.Clean e) es) where
     abbrev k : Known
     k = known_then g Driver d (by_actor Driver n.closed.at.journal)
@@ -19,40 +81,111 @@ module _ (g : Setting) (single : g.shared ≡ false) (opening : Content) (j : Is
     abbrev first : Operation
     first = TheClean (fresh g.script.retries clean_start)
 
-    abbrev EndsSo : Operation → Type 0
-    EndsSo v = over (run (advance g Driver) (record { operation = v; known = k }) es).operation ≡ Some (ends.Clean e)
+    abbrev EndsSo : Operation → List Entry → Type 0
+    EndsSo v fs = over (run (advance g Driver) (record { operation = v; known = k }) fs).operation ≡ Some (ends.Clean e)
 
-    begun : EndsSo n.op → n.op ≡ first
-    begun o = (driver_clean g d.op d.reports k n.op n.begun_is (sym (kind_run g Driver (record { operation = n.op; known = k }) es) ∙ over_kind _ (ends.Clean e) o)).1 ∙ clean_alone g single
+    begun : EndsSo n.op es → n.op ≡ first
+    begun o =
+        let kind = sym (kind_run g Driver (record { operation = n.op; known = k }) es) ∙ over_kind _ (ends.Clean e) o in
+        (driver_clean g d.op d.reports k n.op n.begun_is kind).1 ∙ clean_alone g single
 
     follows_so : n.op ≡ first → Follows (wants g Driver) (advance g Driver) (record { operation = first; known = k }) es
     follows_so is = subst (λ v. Follows (wants g Driver) (advance g Driver) (record { operation = v; known = k }) es) is n.follows
 
-    -- where nobody else has sent since it began
-    cleaned_so : e ≡ cleans.Done → AllBy Driver (since d.since (until (i + 1) x.journal)) → Cleaned g.script (moment opening x.journal (length (before d.since x.journal))) (moment opening x.journal (length (until (i + 1) x.journal)))
-    cleaned_so is only =
-        let s = start g opening x i Driver d (ends.Clean e) es n in
-        let o : EndsSo n.op = elim n.ended [ inl memory ↦ absurd (false_true (ap (λ v. is_memory (ends.Clean v)) is) memory) | inr o ↦ o ] in
+    -- it has sent something
+    has_sent : (fs : List Entry) → es ≡ by_actor Driver fs → EndsSo first es → has_entry Driver fs ≡ true
+    has_sent fs mine o = elim (true_or_false (has_entry Driver fs)) [
+      | inl is ↦ is
+      | inr none ↦ absurd (none_some refl (subst (EndsSo first) (mine ∙ none_of Driver fs none) o))
+    ]
+
+    -- the entries up to its last one, where nobody else has sent since it began
+    module _ (done : e ≡ cleans.Done) (o : EndsSo first es)
+        (follows : Follows (wants g Driver) (advance g Driver) (record { operation = first; known = k }) es) where
+      abbrev s : Play
+      s = (start g opening x i Driver d (ends.Clean e) es n).at
+
+      abbrev fs : List Entry
+      fs = (start g opening x i Driver d (ends.Clean e) es n).entries
+
+      abbrev us : List Entry
+      us = until_last Driver fs
+
+      last_is : until_last Driver (until (i + 1) x.journal) ≡ s.journal ++ us
+      last_is =
+          ap (until_last Driver) (journal_until g opening x run_x idle i n.event_end n.closed)
+          ∙ strange_last Driver refl n.closed.at.journal (until (i + 1) n.closed.entries)
+          (until_strange g opening x run_x idle i n.event_end n.closed)
+          ∙ ap (until_last Driver) (start g opening x i Driver d (ends.Clean e) es n).all
+          ∙ last_behind Driver s.journal fs (has_sent fs (mine g opening x i Driver d (ends.Clean e) es n) o)
+
+      parts : us ++ (behind_last Driver fs).0 ≡ fs
+      parts = (behind_last Driver fs).1
+
+      since_so : since d.since (s.journal ++ us) ≡ us
+      since_so =
+          let b = start g opening x i Driver d (ends.Clean e) es n in
+          let late = from_front d.since us (behind_last Driver fs).0 (subst (AllFrom d.since) (sym parts) b.after) in
+          subst (λ v. AllFrom v us → since v (s.journal ++ us) ≡ us) (sym b.since_is)
+          (since_cut (length s.ends) s.journal us (early g opening x i Driver d (ends.Clean e) es n)) late
+
+      journal_so : x.journal ≡ (s.journal ++ us) ++ ((behind_last Driver fs).0 ++ n.closed.entries)
+      journal_so =
+          let more = (behind_last Driver fs).0 in
+          n.closed.all ∙ ap (λ l. l ++ n.closed.entries)
+          ((start g opening x i Driver d (ends.Clean e) es n).all ∙ ap (λ l. s.journal ++ l) (sym parts) ∙ sym
+          (append_assoc s.journal us more))
+          ∙ append_assoc (s.journal ++ us) more n.closed.entries
+
+      abbrev scene : Scene
+      scene = after_all (store.opening opening) s.journal
+
+      moment_so : moment opening x.journal (length (s.journal ++ us)) ≡ after_all scene us
+      moment_so =
+          ap (λ l. moment opening l (length (s.journal ++ us))) journal_so ∙ moment_cut opening (s.journal ++ us)
+          ((behind_last Driver fs).0 ++ n.closed.entries)
+          ∙ after_parts (store.opening opening) s.journal us
+
+      left : AllBy Driver us → Cleaned g.script scene (after_all scene us)
+      left all =
+          let own : es ≡ us = mine g opening x i Driver d (ends.Clean e) es n ∙ only_last fs all in
+          let true_so : AreHonest scene us = honest_front scene us (behind_last Driver fs).0
+          (subst (AreHonest scene) (sym parts) (honest g opening x i Driver d (ends.Clean e) es n)) in
+          let over_so = subst (λ v. over (run (advance g Driver) (record { operation = first; known = k }) us).operation ≡ Some
+          (ends.Clean v)) done (subst (EndsSo first) own o) in
+          cleans_end.cleaned g j Driver k scene us
+          (subst (Follows (wants g Driver) (advance g Driver) (record { operation = first; known = k })) own follows) true_so over_so
+
+      cleaned_last : AllBy Driver (since d.since (s.journal ++ us))
+          → Cleaned g.script (moment opening x.journal (length (before d.since x.journal)))
+          (moment opening x.journal (length (s.journal ++ us)))
+      cleaned_last all =
+          subst (λ v. Cleaned g.script v (moment opening x.journal (length (s.journal ++ us))))
+          (sym (scene_is g opening x i Driver d (ends.Clean e) es n))
+          (subst (Cleaned g.script scene) (sym moment_so) (left (subst (AllBy Driver) since_so all)))
+
+    abbrev CleanedAt : List Entry → Type 0
+    CleanedAt ls =
+        AllBy Driver (since d.since ls) → Cleaned g.script (moment opening x.journal (length (before d.since x.journal)))
+        (moment opening x.journal (length ls))
+
+    cleaned_so : e ≡ cleans.Done → CleanedAt (until_last Driver (until (i + 1) x.journal))
+    cleaned_so is =
+        let o : EndsSo n.op es = elim n.ended
+        [ inl memory ↦ absurd (false_true (ap (λ v. is_memory (ends.Clean v)) is) memory) | inr o ↦ o ] in
         let b = begun o in
-        let strays = until (i + 1) n.closed.entries in
-        let parts : since d.since (until (i + 1) x.journal) ≡ since d.since n.closed.at.journal ++ since d.since strays = ap (since d.since) (journal_until g opening x run_x idle i n.event_end n.closed) ∙ filter-append (λ e. nat_le d.since e.event) n.closed.at.journal strays in
-        let back : AllBy Driver strays = subst (AllBy Driver) (all_since d.since d.since strays (omega arith) (from_part d.since (λ e. nat_le e.event (i + 1)) n.closed.entries (late g opening x i Driver d (ends.Clean e) es n)))
-        (all_by_back Driver (since d.since n.closed.at.journal) (since d.since strays) (subst (AllBy Driver) parts only)) in
-        let none : strays ≡ [] = driver_none strays back (until_strange g opening x run_x idle i n.event_end n.closed) in
-        let until_is : until (i + 1) x.journal ≡ n.closed.at.journal = journal_until g opening x run_x idle i n.event_end n.closed ∙ ap (λ l. n.closed.at.journal ++ l) none ∙ append-nil n.closed.at.journal in
-        let all : AllBy Driver s.entries = subst (AllBy Driver) (ap (since d.since) until_is ∙ since_is g opening x i Driver d (ends.Clean e) es n) only in
-        let own : es ≡ s.entries = mine g opening x i Driver d (ends.Clean e) es n ∙ by_all Driver s.entries all in
-        let scene : Scene = after_all (store.opening opening) s.at.journal in
-        let true_so : AreHonest scene es = subst (AreHonest scene) (sym own) (honest g opening x i Driver d (ends.Clean e) es n) in
-        let done : over (run (advance g Driver) (record { operation = first; known = k }) es).operation ≡ Some (ends.Clean cleans.Done) =
-        subst (λ v. over (run (advance g Driver) (record { operation = first; known = k }) es).operation ≡ Some (ends.Clean v)) is (subst EndsSo b o) in
-        let r : Cleaned g.script scene (after_all scene es) = cleans_end.cleaned g j Driver k scene es (follows_so b) true_so done in
-        let last : moment opening x.journal (length (until (i + 1) x.journal)) ≡ after_all scene es =
-        ap (λ l. moment opening x.journal (length l)) until_is ∙ ap (λ l. moment opening l (length n.closed.at.journal)) n.closed.all ∙ moment_cut opening n.closed.at.journal n.closed.entries
-        ∙ after_is g opening x i Driver d (ends.Clean e) es n ∙ ap (after_all scene) (sym own) in
-        subst (λ v. Cleaned g.script v (moment opening x.journal (length (until (i + 1) x.journal)))) (sym (scene_is g opening x i Driver d (ends.Clean e) es n)) (subst (Cleaned g.script scene) (sym last) r)
+        let from_first = subst (λ v. EndsSo v es) b o in
+        let follows = follows_so b in
+        subst CleanedAt (sym (last_is is from_first follows)) (cleaned_last is from_first follows)
 
   pub cleans_kept : CleansEnd g.script opening x.journal x.ends
   cleans_kept i d e es h =
-      let n = ending g opening x run_x idle i Driver refl d (ends.Clean e) es h in
-      (elim n.ended [ inl memory ↦ inl (memory_clean e memory) | inr o ↦ (let b = begun i d e es n o in inr (cleans_end.ends g Driver (k i d e es n) es (follows_so i d e es n b) e (subst (EndsSo i d e es n) b o))) ], cleaned_so i d e es n)
+      let n = ending g opening x run_x idle i Driver refl d (ends.Clean e) es h in (
+        elim n.ended [
+          | inl memory ↦ inl (memory_clean e memory)
+          | inr o ↦
+              let b = begun i d e es n o in
+              inr (cleans_end.ends g Driver (k i d e es n) es (follows_so i d e es n b) e (subst (λ v. EndsSo i d e es n v es) b o))
+        ],
+        cleaned_so i d e es n,
+      )

@@ -16,7 +16,7 @@ module _ (g : Setting) (opening : Content) (x : Play) (j : ℕ) (a : Actor) (d :
   abbrev s : Play
   s = start.at
 
-  early : AllUpTo (length s.ends) s.journal
+  pub early : AllUpTo (length s.ends) s.journal
   early = ((told_all g opening s start.happened).closed start.may.idle).1
 
   -- all that came after the event it ended in is of later events than that it began in

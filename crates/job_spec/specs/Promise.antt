@@ -62,11 +62,14 @@ abbrev pub Publishes : Script → Content → List Entry → List EventEnd → T
 Publishes w opening journal xs = AreOwn journal → (j t a : ℕ) (d : Doing) (es : List Entry) → EndedIn w xs journal j (Attempt t a) d (ends.Task tasks.Done) es → d.op ≡ ops.Commit
     → has_cleaned (clean_event w xs) (until_last (Attempt t a) (until (j + 1) journal)) ≡ false → WasPublished w opening journal t a (j + 1)
 
--- the driver's abort or clean; where it is Done and nobody else has sent since it began, nothing is left and nothing was hidden
+-- the driver's abort or clean; where it is Done and nobody else has sent from the beginning of its event to its own last entry, nothing
+-- is left then and nothing was hidden, whatever others send behind it in that event
 abbrev pub CleansEnd : Script → Content → List Entry → List EventEnd → Type 0
 CleansEnd w opening journal xs = (j : ℕ) (d : Doing) (e : CleanEnd) (es : List Entry) → EndedIn w xs journal j Driver d (ends.Clean e) es
     → ((e ≡ cleans.NoMemory) ⊎ ((worn : Option Request) × WornFirst w.retries es worn × CleanIs worn e))
-    × (e ≡ cleans.Done → AllBy Driver (since d.since (until (j + 1) journal)) → Cleaned w (moment opening journal (length (before d.since journal))) (moment opening journal (length (until (j + 1) journal))))
+    × (e ≡ cleans.Done → let last = until_last Driver (until (j + 1) journal) in
+    AllBy Driver (since d.since last)
+    → Cleaned w (moment opening journal (length (before d.since journal))) (moment opening journal (length last)))
 
 -- the driver's commit, where no stranger sends: the end that is due, and what it leaves
 pub record CommitEnds (w : Script) (opening : Content) (journal : List Entry) (xs : List EventEnd) (j : ℕ) (d : Doing) (e : CommitEnd) (es : List Entry) : Type 0 where
