@@ -8,4 +8,5 @@ pub mod Telling
 pub mod Picking
 pub mod Planned
 pub mod Others
+pub mod Deleted
 mod Common

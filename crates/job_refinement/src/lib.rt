@@ -8,9 +8,11 @@
 //! script that the driver's commit tells from the sets that it read asks and leads on as the job's own
 //! does, and the attempts that it picked are those that are seen (`sets`). Each machine wants what its
 //! operation asks by the job's script and goes where that is told; what others send leaves it
-//! (`machines`).
+//! (`machines`). The deletion of a replace mode, sent to its end over a store that nobody else changes, leaves no object
+//! below what it deletes but those of the destination's magic directories (`deletions`).
 #![tactic(auto)]
 
+ghost use Rattle.job_refinement.specs.Deleted.{DeletionsLeave};
 ghost use Rattle.job_refinement.specs.Laws.{CommitsKeep, DueFits, MachinesTell, OthersLeave, PicksTell, PremisesKeep, ReadsTell};
 
 /// The answers that are due to what the machines of a job ask.
@@ -30,4 +32,9 @@ pub fn sets()
 pub fn machines()
     ensures tell { MachinesTell }
     ensures others { OthersLeave }
+{}
+
+/// The deletion of what a replace mode displaces.
+pub fn deletions()
+    ensures leave { DeletionsLeave }
 {}

@@ -1,0 +1,28 @@
+-- What the deletion of a replace mode leaves, where nobody else changes the store (Hadoop, S3A committers: conflict mode replace).
+use Rattle.std.specs.Prelude.{List, None, Some, false, true, ℕ, ◌≡◌}
+use Rattle.conflict.specs.Deletions.{Deletion, deleted, deletion_asks, deletion_hears, spared}
+use Rattle.job_protocol.specs.Prelude.{IsIn, Outcome, Request, Scene, Script, begins, is_unanswered, sweep_start}
+use Rattle.job_protocol.specs.View.{object_at}
+use Rattle.s3_types.specs.Answer.{answer, apply}
+use Rattle.s3_types.specs.Moment.{effect}
+use Rattle.store_frame.specs.Prelude.{HasBucket}
+
+-- A deletion in this bucket came from the one scene and stage to the other: each request that it asked either had the answer that S3
+-- must give, which led it on, or got no answer, and was sent again.
+pub data Deletes (bucket : List ℕ) (s : Scene) (d : Deletion) : Scene → Deletion → Type 0 where
+  nothing_sent : Deletes bucket s d s d
+  had_answer : (t : Scene) (e : Deletion) (r : Request) → Deletes bucket s d t e → deletion_asks bucket e ≡ Some r
+      → Deletes bucket s d (apply t r) (deletion_hears e (answer t r))
+  had_none : (t : Scene) (e : Deletion) (r : Request) (o : Outcome) → Deletes bucket s d t e → deletion_asks bucket e ≡ Some r
+      → is_unanswered o ≡ true → Deletes bucket s d (effect t r o) e
+
+-- the deletion of what a script's committer displaces in the mode replace, where these partitions are written, as it begins
+abbrev pub deleting : Script → List (List ℕ) → Deletion
+deleting w partitions = record { prefixes = deleted w.committer w.dest partitions; sweep = sweep_start; spared = spared w.dest }
+
+-- Where such a deletion asks nothing more, no object is left below one of its prefixes but those of the destination's magic directories.
+abbrev pub DeletionsLeave : Type 0
+DeletionsLeave = (w : Script) (partitions : List (List ℕ)) (s t : Scene) (e : Deletion) → HasBucket s.content w.dest.bucket
+    → Deletes w.dest.bucket s (deleting w partitions) t e → deletion_asks w.dest.bucket e ≡ None
+    → (p k : List ℕ) → IsIn p (deleted w.committer w.dest partitions) → begins p k ≡ true → begins (spared w.dest) k ≡ false
+    → object_at t.content w.dest.bucket k ≡ None
