@@ -37,7 +37,7 @@ during p t z Here m h = inl h
 during [] t z (Copy c count) m h = absurd (h.0.place.source.apart (inl refl))
 during (x ∷ p) [] z (Copy c count) m h = absurd (h.0.place.source.apart (inr refl))
 during (x ∷ p) (y ∷ t) z (Copy c count) m h =
-    inr (h.0, subst (IsCopiedInPart (x ∷ p) (y ∷ t) z) (sym h.2.copied) (in_part z x p y t h.0.place.source.directory c.from))
+    inr (h.0, subst (IsCopiedInPart (x ∷ p) (y ∷ t) z) (sym h.2.copied) (in_part z x p y t h.0.place.source.directory h.0 c.from))
 during p t z _ m h = inl h.0
 
 -- ---- at the end
@@ -50,7 +50,7 @@ module _ (x : ℕ) (p : List ℕ) (y : ℕ) (t : List ℕ) (z m : Objects) (coun
   ]
 
   all_copied : IsCopiedInPart (x ∷ p) (y ∷ t) z m
-  all_copied = record { new = λ k l i n. inr (g.copies k l i); old = old_stays; others = g.others }
+  all_copied = record { new = λ k l i n. inr (g.copies k l i); in_order = λ k l j i a b n less e. g.copies j i b; old = old_stays; others = g.others }
 
 at_end : (p t : List ℕ) (z : Objects) (a : Answer) (m : Objects) → Copies p t z a m → MayStandCopied p t z m
 at_end p t z (Err OtherBucket) m h = absurd h

@@ -3,6 +3,7 @@ use Rattle.std.specs.Prelude.{List, None, Some, [], false, take, true, ℕ, ◌+
 use Rattle.copy_tree.proofs.Common.{AreAll, AreFree, CopiesTree, CopyPaths, IsCopiedInPart, IsDirectory, IsIn, IsMove, IsOneOf, MayCopy, Object, Objects, RisesFrom, Stands, absent, all_below, all_parts, all_stand, ap, begins, below_stands, copied_all, copied_stand, copies_keep, count_of, dir_from, dir_to, in_targets, inl, inr, is_in, is_lt, is_target, keys_below, listed_rises, lt, marker_of, move_of, moves, moves_to, new_key, none_or_some, none_some, one_in_take, refl, rest_after, sorted, sources, sources_to, standing, subst, sym, targets, text_cmp, ◌∙◌}
 use Rattle.fs_ops.proofs.Showing.{cmp_behind}
 use Rattle.fs_rename.proofs.NewKeys.{new_is}
+use Rattle.fs_rename.proofs.Whole.{whole_copying}
 use Rattle.copy_tree.proofs.Moved.{move_below, moved_rest, one_source}
 use Rattle.copy_tree.proofs.PartLaws.{all_shown, kept_each, kept_has, sources_rise, targets_rise}
 use Rattle.std.specs.FinMap as fin
@@ -89,9 +90,21 @@ module _ (z : Objects) (x : ℕ) (p : List ℕ) (y : ℕ) (t : List ℕ) where
     not_touched : (n : ℕ) (q : List ℕ) → ((k : List ℕ) → IsOneOf k q (absent O z) → ⊥) → fin.get (copied_all z (take n (absent O z))) q ≡ fin.get z q
     not_touched n q f = copies_keep z (take n (absent O z)) q (λ i. let w = is_target (take n (absent O z)) q i in f w.0 (one_in_take n w.0 q (absent O z) w.1))
 
-    pub in_part : (n : ℕ) → IsCopiedInPart (x ∷ p) (y ∷ t) z (copied_all z (take n (absent O z)))
-    in_part n = record {
+    -- they come in the order of their keys
+    order : MayCopy z (x ∷ p) (y ∷ t) → (n : ℕ) (k l j i : List ℕ) → IsMove z (x ∷ p) (y ∷ t) k l → IsMove z (x ∷ p) (y ∷ t) j i → fin.get z l ≡ None
+        → is_lt (text_cmp j k) ≡ true → fin.get (copied_all z (take n (absent O z))) l ≡ fin.get z k → fin.get (copied_all z (take n (absent O z))) i ≡ fin.get z j
+    order may n k l j i a b e less copied = by (none_or_some (fin.get z i))
+      where
+        by : (fin.get z i ≡ None) ⊎ ((v : Object) × (fin.get z i ≡ Some v)) → fin.get (copied_all z (take n (absent O z))) i ≡ fin.get z j
+        by (inl f) = (whole_copying None z (absent O z) absent_free n).in_order k l j i (absent_has k l a e) (absent_has j i b f) less copied
+        by (inr s) =
+            not_touched n i (λ k q. none_some (absent_each k i q).1 s.1)
+            ∙ (elim (may.agree j i b) [ inl f ↦ absurd (none_some f s.1) | inr g ↦ g ])
+
+    pub in_part : MayCopy z (x ∷ p) (y ∷ t) → (n : ℕ) → IsCopiedInPart (x ∷ p) (y ∷ t) z (copied_all z (take n (absent O z)))
+    in_part may n = record {
       new = λ k l m e. by k l m e (is_in l (targets (take n (absent O z))));
+      in_order = order may n;
       old = λ q s. not_touched n q (λ k i. none_some (absent_each k q i).1 s.1);
       others = λ q f. not_touched n q (λ k i. f k (absent_each k q i).0);
     }

@@ -72,15 +72,18 @@ Copies p t z (Err (TooLong k)) m = HasPlace z p t × IsFirstTooLong z p t k × (
 Copies p t z (Err (Differs l)) m = HasPlace z p t × AllFit z p t × IsFirstOther z p t l × (m ≡ z)
 Copies p t z (Err r) m = ⊥
 
--- at any moment: each new key that was absent is so or is its source's copy, whole, and every other key is as it was
+-- at any moment: each new key that was absent is so or is its source's copy, whole; they come in the order of their keys; and every other key is as it was
 pub record IsCopiedInPart (p t : List ℕ) (z m : Objects) : Type 0 where
   -- a new key that was absent is so or has its source's object
   pub new : (k l : List ℕ) → IsMove z p t k l → fin.get z l ≡ None → (fin.get m l ≡ None) ⊎ (fin.get m l ≡ fin.get z k)
+  -- copies come in the order of their keys
+  pub in_order : (k l j i : List ℕ) → IsMove z p t k l → IsMove z p t j i → fin.get z l ≡ None → is_lt (text_cmp j k) ≡ true
+      → fin.get m l ≡ fin.get z k → fin.get m i ≡ fin.get z j
   -- what stood there stays
   pub old : (q : List ℕ) → Stands z q → fin.get m q ≡ fin.get z q
   pub others : (q : List ℕ) → ((k : List ℕ) → IsMove z p t k q → ⊥) → fin.get m q ≡ fin.get z q
 
--- what may stand at any moment of a copy: nothing changed, or only some of the new keys are there, each whole
+-- what may stand at any moment of a copy: nothing changed, or the first of the new keys that were absent are there, each whole
 abbrev pub MayStandCopied : List ℕ → List ℕ → Objects → Objects → Type 0
 MayStandCopied p t z m = (m ≡ z) ⊎ (MayCopy z p t × IsCopiedInPart p t z m)
 
