@@ -50,7 +50,13 @@ module _ (x : ℕ) (p : List ℕ) (y : ℕ) (t : List ℕ) (z m : Objects) (coun
   ]
 
   all_copied : IsCopiedInPart (x ∷ p) (y ∷ t) z m
-  all_copied = record { new = λ k l i n. inr (g.copies k l i); in_order = λ k l j i a b n less e. g.copies j i b; old = old_stays; others = g.others }
+  all_copied = record {
+    new = λ k l i n. inr (g.copies k l i);
+    in_order = λ k l j i a b n less e. g.copies j i b;
+    old =
+        old_stays;
+    others = g.others;
+  }
 
 at_end : (p t : List ℕ) (z : Objects) (a : Answer) (m : Objects) → Copies p t z a m → MayStandCopied p t z m
 at_end p t z (Err OtherBucket) m h = absurd h

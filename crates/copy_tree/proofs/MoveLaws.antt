@@ -91,12 +91,15 @@ module _ (z : Objects) (x : ℕ) (p : List ℕ) (y : ℕ) (t : List ℕ) where
     not_touched n q f = copies_keep z (take n (absent O z)) q (λ i. let w = is_target (take n (absent O z)) q i in f w.0 (one_in_take n w.0 q (absent O z) w.1))
 
     -- they come in the order of their keys
-    order : MayCopy z (x ∷ p) (y ∷ t) → (n : ℕ) (k l j i : List ℕ) → IsMove z (x ∷ p) (y ∷ t) k l → IsMove z (x ∷ p) (y ∷ t) j i → fin.get z l ≡ None
-        → is_lt (text_cmp j k) ≡ true → fin.get (copied_all z (take n (absent O z))) l ≡ fin.get z k → fin.get (copied_all z (take n (absent O z))) i ≡ fin.get z j
+    order : MayCopy z (x ∷ p) (y ∷ t) → (n : ℕ) (k l j i : List ℕ) → IsMove z (x ∷ p) (y ∷ t) k l → IsMove z (x ∷ p) (y ∷ t) j i
+        → fin.get z l ≡ None
+        → is_lt (text_cmp j k) ≡ true → fin.get (copied_all z (take n (absent O z))) l ≡ fin.get z k
+        → fin.get (copied_all z (take n (absent O z))) i ≡ fin.get z j
     order may n k l j i a b e less copied = by (none_or_some (fin.get z i))
       where
         by : (fin.get z i ≡ None) ⊎ ((v : Object) × (fin.get z i ≡ Some v)) → fin.get (copied_all z (take n (absent O z))) i ≡ fin.get z j
-        by (inl f) = (whole_copying None z (absent O z) absent_free n).in_order k l j i (absent_has k l a e) (absent_has j i b f) less copied
+        by (inl f) = (whole_copying None z (absent O z) absent_free n).in_order k l j i (absent_has k l a e) (absent_has j i b f) less
+            copied
         by (inr s) =
             not_touched n i (λ k q. none_some (absent_each k i q).1 s.1)
             ∙ (elim (may.agree j i b) [ inl f ↦ absurd (none_some f s.1) | inr g ↦ g ])

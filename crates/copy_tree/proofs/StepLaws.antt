@@ -8,6 +8,7 @@ use Rattle.fs_ops.proofs.Looks.{head_tells, none_listed, first_listed}
 use Rattle.fs_ops.proofs.Climbing.{IsClimbed, seen_on as climb_on, all_on}
 use Rattle.fs_rename.specs.declared.copying.Copying.{Copying}
 use Rattle.copy_tree.specs.code.Copy.{CopyPaths, Answer, asks, on, here as here_at, on_walked, on_walk, listed, climb, on_climb, with_places, on_shown, on_show, parts_of, pairs, read_of, on_read, same_header, differ, compared, on_compare, begun, copies, count_of, on_copied}
+use Rattle.fs_rename.proofs.CopyLaws.{copy_of_one, one_in_drop}
 use Rattle.copy_tree.proofs.Moved.{moved_rest}
 use Rattle.copy_tree.proofs.PartLaws.{chosen_sources, chosen_targets}
 use Rattle.copy_tree.proofs.MoveLaws.{standing_rise, standing_each, standing_has, absent_each, tree_copied}
@@ -19,11 +20,6 @@ behind_one : (n : ℕ) (ps : List Move) (s : Move) (rest : List Move) → drop n
 behind_one zero (r ∷ ps) s rest e = cc
 behind_one (suc n) (r ∷ ps) s rest e = behind_one n ps s rest e
 behind_one _ _ s rest e = absurd (cc)
-
-one_in_drop : (n : ℕ) (ps : List Move) (k l : List ℕ) → IsOneOf k l (drop n ps) → IsOneOf k l ps
-one_in_drop zero ps k l i = i
-one_in_drop (suc n) [] k l i = absurd i
-one_in_drop (suc n) (s ∷ ps) k l i = inr (one_in_drop n ps k l i)
 
 none_in : (ps : List Move) (k l : List ℕ) → length ps ≤ 0 → IsOneOf k l ps → ⊥
 none_in [] k l h i = i
@@ -269,11 +265,6 @@ module _ (z : Objects) (x : ℕ) (p : List ℕ) (y : ℕ) (t : List ℕ) where
 
   pub sent_copy : (c : Copying) (m : Objects) → MayCopy z (x ∷ p) (y ∷ t) → IsCopying z (absent O z) c m → sends O z (copy_asks c)
   sent_copy c m h g =
-      let count : length c.keys ≡ length (absent O z) = ap length g.keys ∙ length-map (absent O z) (λ (p : Move). p.0) in
-      let some : c.from < length (absent O z) = subst (λ n. c.from < n) count g.some in
-      let w = some_left c.from (absent O z) some in
-      let ks : drop c.from c.keys ≡ w.0.0 ∷ sources w.1 = ap (drop c.from) g.keys ∙ drop-map (λ (p : Move). p.0) c.from (absent O z) ∙ ap sources w.2 in
-      let ls : drop c.from c.places ≡ w.0.1 ∷ targets w.1 = ap (drop c.from) g.places ∙ drop-map (λ (p : Move). p.1) c.from (absent O z) ∙ ap targets w.2 in
-      let i = one_in_drop c.from (absent O z) w.0.0 w.0.1 (subst (IsOneOf w.0.0 w.0.1) (sym w.2) (inl (refl, refl))) in
-      let m = absent_each z x p y t h.place.source.directory w.0.0 w.0.1 i in
-      inr (w.0.0, w.0.1, (λ i. copy_of (ks i) (ls i)), h, m.0, m.1)
+      let w = copy_of_one z (absent O z) c m g in
+      let a = absent_each z x p y t h.place.source.directory w.0 w.1 w.3 in
+      inr (w.0, w.1, w.2, h, a.0, a.1)

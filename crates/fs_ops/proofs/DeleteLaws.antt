@@ -1,7 +1,21 @@
 -- Deleting a path, stage by stage.
-use Rattle.std.specs.Prelude.{◌≡◌, ◌⊎◌, ℕ, ◌+◌, ◌<◌, Bool, true, false, List, [], ◌∷◌, Option, Some, None, Ok, Err, take, map, if◌then◌else◌}
-use Rattle.fs_ops.proofs.Common.{Answer, Deletion, End, Falls, Goes, HasChildren, IsEmpty, IsIn, IsMarked, IsPhases, IsStages, IsWithoutBelow, LessLeft, Look, MayAsk, Next, NoFileAt, NoSuchBucket, NoneBelow, NotEmpty, Nothing, Object, Objects, PageEntry, Removed, RisesFrom, SomeBelow, Step, There, all_go, ap, arith, begins, begins_all, edited, ends, false≢true, fits, gives, goes_by, head, if_marker, in_front, inl, inr, irrefl, is_lt, keys_below, listed, listed_rises, look_of, marker, marker_if, marker_of, page, parent, prefix_of, refl, reply_in, same_or_other, subst, sweep_asks, sweep_falls, sweep_fits, sweep_goes, sweep_hears, sweep_left, sweep_start, sym, text_cmp, text_eq, text_gone, text_here, text_in, text_is, text_left, text_other, text_total, text_true, true_or_false, without, ◌∙◌, IsRoot, NotFound}
-use Rattle.bucket_ops.specs.Prelude.{IsSweeping, IsSwept}
+use Rattle.std.specs.Prelude.{◌≡◌, ◌⊎◌, ℕ, ◌+◌, ◌<◌, Bool, true, false, List, [], ◌∷◌, Option, Some, None, Ok, Err, take, drop, map}
+use Rattle.std.specs.Prelude.{if◌then◌else◌}
+use Rattle.fs_ops.proofs.Common.{Answer, Deletion, End, Falls, Goes, HasChildren, IsEmpty, IsIn, IsMarked, IsPhases, IsStages}
+use Rattle.fs_ops.proofs.Common.{IsWithoutBelow, LessLeft, Look, MayAsk, Next, NoFileAt, NoSuchBucket, NoneBelow, NotEmpty, Nothing}
+use Rattle.fs_ops.proofs.Common.{Object, Objects, PageEntry, Removed, RisesFrom, SomeBelow, Step, There, all_go, ap, arith, begins}
+use Rattle.fs_ops.proofs.Common.{begins_all, edited, ends, false≢true, fits, gives, goes_by, head, if_marker, in_back, in_front, inl, inr}
+use Rattle.fs_ops.proofs.Common.{irrefl, is_key, is_lt, key_no_marker, keys_below, listed, listed_rises, look_of, marker, marker_if}
+use Rattle.fs_ops.proofs.Common.{marker_of, page, parent, prefix_of, refl, reply_in, same_or_other, subst, sweep_asks, sweep_falls}
+use Rattle.fs_ops.proofs.Common.{sweep_fits, sweep_goes, sweep_hears, sweep_left, sweep_start, sym, text_cmp, text_eq, text_gone}
+use Rattle.fs_ops.proofs.Common.{text_here, text_in, text_is, text_left, text_other, text_total, text_true, true_or_false, without, ◌∙◌}
+use Rattle.fs_ops.proofs.Common.{IsRoot, NotFound}
+use Rattle.bucket_ops.specs.Prelude.{Drop, IsDeleting, IsSweeping, IsSwept}
+use Rattle.list_walk.specs.Walks.{Listing, Deleting as Batch}
+use Rattle.fs_tree.specs.Prelude.{HasFile, is_marker}
+use Rattle.fs_tree.proofs.Dropping.{marker_key, marker_not_below}
+use Rattle.basics.proofs.Common.{length-take, take-append-drop}
+use Rattle.fs_ops.specs.Places.{drop_asks, drop_marker_asks}
 use Rattle.std.specs.FinMap as fin
 use Rattle.bucket_ops.proofs.AskLaws.{gone_still}
 use Rattle.list_walk.specs.Walks as walks
@@ -13,7 +27,8 @@ use Rattle.fs_ops.proofs.StepLaws.{phases_of}
 use Rattle.fs_ops.proofs.AtPathLaws.{looks_there, still_look}
 use Rattle.fs_ops.proofs.Looks.{at_key, below_key, none_listed}
 use Rattle.fs_ops.proofs.Deleting.{deletes}
-use Rattle.fs_ops.specs.code.Delete.{first, asks, up_to, up, here as here_at, on_here, inside, on_inside, swept, on_sweep, on_parent, on, holds, IsDue, sends, GoesWith, IsKept, always, left}
+use Rattle.fs_ops.specs.code.Delete.{first, asks, up_to, up, here as here_at, on_here, inside, on_inside, swept, on_sweep, on_parent, on}
+use Rattle.fs_ops.specs.code.Delete.{holds, IsDue, IsBatch, Asks, sends, GoesWith, IsKept, InPart, always, left}
 use Rattle.bucket_ops.proofs.Below.{is_in, below_stands, stands_below, gone_in, kept_out}
 
 -- without all keys below a prefix none is left there, and the others are as they were
@@ -141,6 +156,15 @@ due_removed o z m h = grind arith
 
 -- ---- at any moment
 
+-- the marker above does not go with a key
+stays_above : (p : List ℕ) (recursive : Bool) (z : Objects) → is_key p ≡ true → (q : List ℕ) → marker_if (parent p) ≡ Some q
+    → GoesWith (record { path = p; recursive = recursive }) z q → ⊥
+stays_above [] recursive z key q e (inl h) = h.0.1
+stays_above [] recursive z key q e (inr h) = h.0
+stays_above (x ∷ p) recursive z key q e (inl h) =
+    false≢true (sym (key_no_marker x p key) ∙ ap is_marker (sym h.1) ∙ marker_key (parent (x ∷ p)) q e)
+stays_above (x ∷ p) recursive z key q e (inr h) = marker_not_below x p (parent (x ∷ p)) q refl e h.1
+
 module _ (o : Deletion) (z : Objects) where
   abbrev Gone : Objects → List ℕ → Type 0
   Gone m k = (fin.get m k ≡ fin.get z k) ⊎ ((fin.get m k ≡ None) × GoesWith o z k)
@@ -162,13 +186,22 @@ module _ (o : Deletion) (z : Objects) where
       by (inr g) = inl (text_left z o.path k g)
   gone_removed n (inr h) k = elim (true_or_false (begins (prefix_of o.path) k)) [ inl t ↦ inr (h.3.gone k t, inr (h.0, t)) | inr f ↦ inl (h.3.others k f) ]
 
-  kept_marked : (q : List ℕ) (n : Objects) → marker_if (parent o.path) ≡ Some q → ((k : List ℕ) → Gone n k) → (k : List ℕ) → IsKept o z (fin.insert n q marker) k
-  kept_marked q n e h k = elim (same_or_other k q) [
-    | inl i ↦ inr (inr (e ∙ ap Some (sym i), text_here n q k marker i))
+  -- where the marker above is put, nothing stood
+  pub was_free : is_key o.path ≡ true → (q : List ℕ) (n : Objects) → marker_if (parent o.path) ≡ Some q → Removed o z n → NoneBelow n q
+      → fin.get z q ≡ None
+  was_free key q n e h none = elim (gone_removed n h q) [
+    | inl g ↦ sym g ∙ none q (begins_all q)
+    | inr g ↦ absurd (stays_above o.path o.recursive z key q e g.1)
+  ]
+
+  kept_marked : (q : List ℕ) (n : Objects) → marker_if (parent o.path) ≡ Some q → fin.get z q ≡ None → ((k : List ℕ) → Gone n k)
+      → (k : List ℕ) → IsKept o z (fin.insert n q marker) k
+  kept_marked q n e free h k = elim (same_or_other k q) [
+    | inl i ↦ inr (inr (e ∙ ap Some (sym i), ap (fin.get z) i ∙ free, text_here n q k marker i))
     | inr i ↦ elim (h k) [ inl g ↦ inl (text_other n q k marker i ∙ g) | inr g ↦ inr (inl (text_other n q k marker i ∙ g.0, g.1)) ]
   ]
 
-  during : (x : DeleteStage) (m : Objects) → holds o z x m → always o z m
+  during : (x : DeleteStage) (m : Objects) → holds o z x m → InPart o z m
   during Here m h = inl h
   during DropMarker m h = inl h.2
   during (Sweep w) m h = inr (inr (h.0, h.1, λ e. absurd (false≢true (sym e ∙ h.2))), λ k. as_kept m k (gone_swept w m h.0 h.3 k))
@@ -176,17 +209,19 @@ module _ (o : Deletion) (z : Objects) where
   during (PutMarker q) m h = inr (due_removed o z m h.1, λ k. as_kept m k (gone_removed m h.1 k))
   during _ m h = inl h.1
 
-  marked_end : (q : Option (List ℕ)) (n m : Objects) → marker_if (parent o.path) ≡ q → Removed o z n → IsMarked q n m → (k : List ℕ) → IsKept o z m k
-  marked_end None n m e h g k = subst (λ m. IsKept o z m k) (sym g) (as_kept n k (gone_removed n h k))
-  marked_end (Some q) n m e h (inl g) k = subst (λ m. IsKept o z m k) (sym g.1) (as_kept n k (gone_removed n h k))
-  marked_end (Some q) n m e h (inr g) k = subst (λ m. IsKept o z m k) (sym g.1) (kept_marked q n e (gone_removed n h) k)
+  marked_end : is_key o.path ≡ true → (q : Option (List ℕ)) (n m : Objects) → marker_if (parent o.path) ≡ q → Removed o z n → IsMarked q n m
+      → (k : List ℕ) → IsKept o z m k
+  marked_end key None n m e h g k = subst (λ m. IsKept o z m k) (sym g) (as_kept n k (gone_removed n h k))
+  marked_end key (Some q) n m e h (inl g) k = subst (λ m. IsKept o z m k) (sym g.1) (as_kept n k (gone_removed n h k))
+  marked_end key (Some q) n m e h (inr g) k =
+      subst (λ m. IsKept o z m k) (sym g.1) (kept_marked q n e (was_free key q n e h g.0) (gone_removed n h) k)
 
   at_end : (a : Answer) (m : Objects) → ends o z a m → always o z m
-  at_end (Ok x) m h = inr (due_removed o z h.0 h.1, marked_end (marker_if (parent o.path)) h.0 m refl h.1 h.2)
-  at_end (Err IsRoot) m h = inl h.1
-  at_end (Err NotFound) m h = inl h.1
-  at_end (Err NotEmpty) m h = inl h.3
-  at_end (Err r) m h = absurd h
+  at_end (Ok x) m h key = inr (due_removed o z h.0 h.1, marked_end key (marker_if (parent o.path)) h.0 m refl h.1 h.2)
+  at_end (Err IsRoot) m h key = inl h.1
+  at_end (Err NotFound) m h key = inl h.1
+  at_end (Err NotEmpty) m h key = inl h.3
+  at_end (Err r) m h key = absurd h
 
   -- ---- what is left
 
@@ -224,7 +259,7 @@ stages = record {
   goes_on = λ o z x m h. goes o z (on o x (reply_in m (asks o x))) (edited (asks o x) m) (step o.recursive z o.path x m h);
   falls = λ o z x m h. falls o z x m;
   stays = λ o z x m h. stays o x m;
-  during = λ o z x m h. during o z x m h;
+  during = λ o z x m h key. during o z x m h;
   at_end = λ o z a m h. h.1;
 }
 
@@ -233,10 +268,40 @@ delete_laws = phases_of (Err NoSuchBucket) stages
 
 -- ---- what is asked
 
+-- the file's own key is deleted, and the marker of a directory that is empty
+drops_file_key : (p : List ℕ) (z : Objects) → HasFile z p → drop_asks p ≡ Drop p
+drops_file_key [] z h = absurd h.1
+drops_file_key (x ∷ p) z h = refl
+
+drops_marker_key : (p : List ℕ) (z : Objects) → NoFileAt z p → drop_marker_asks p ≡ Drop (marker_of p)
+drops_marker_key [] z h = absurd h
+drops_marker_key (x ∷ p) z h = refl
+
+-- what is deleted next stands below the directory
+batch_of : (o : Deletion) (z m : Objects) (k : List ℕ) (ks : List (List ℕ)) → NoFileAt z o.path → o.recursive ≡ true
+    → IsDeleting z (keys_below (prefix_of o.path) z) (k ∷ ks) m
+    → IsBatch o z (take 1000 (k ∷ ks))
+batch_of o z m k ks free e h = record {
+  recursive = e;
+  directory = free;
+  few = omega (arith, length-take 1000 (k ∷ ks));
+  each = λ j i. below_stands (prefix_of o.path) z j (subst (IsIn j) h.1 (in_back j h.0 (k ∷ ks) (taken 1000 (k ∷ ks) j i)));
+}
+  where
+    taken : (n : ℕ) (ls : List (List ℕ)) (j : List ℕ) → IsIn j (take n ls) → IsIn j ls
+    taken n ls j i = subst (IsIn j) (take-append-drop n ls) (in_front j (take n ls) (drop n ls) i)
+
+swept_asks : (o : Deletion) (z m : Objects) (w : walks.Sweep) → NoFileAt z o.path → SomeBelow z (prefix_of o.path) → o.recursive ≡ true
+    → IsSweeping (prefix_of o.path) z w m
+    → Asks o z (sweep_asks (prefix_of o.path) w)
+swept_asks o z m (Listing keys) free s e h = inl refl
+swept_asks o z m (Batch k ks) free s e h =
+    inr (inr (free, s, λ f. absurd (false≢true (sym f ∙ e))), inr (inr (inl (k, take 999 ks, refl, batch_of o z m k ks free e h))))
+
 pub delete_asked : MayAsk {O = Deletion} asks holds sends
-delete_asked o z Here m h = inl (looks_there o.path)
-delete_asked o z DropFile m h = inr (inl h.0)
-delete_asked o z DropMarker m h = inr (due_empty o.recursive o.path z h.0 h.1)
-delete_asked o z (Sweep w) m h = inr (inr (h.0, h.1, λ e. absurd (false≢true (sym e ∙ h.2))))
-delete_asked o z (PutMarker k) m h = inr (due_removed o z m h.1)
-delete_asked o z _ m h = inl refl
+delete_asked o z Here m h key = inl (looks_there o.path)
+delete_asked o z DropFile m h key = inr (inl h.0, inl (h.0, drops_file_key o.path z h.0))
+delete_asked o z DropMarker m h key = inr (due_empty o.recursive o.path z h.0 h.1, inr (inl (h.0, h.1, drops_marker_key o.path z h.0)))
+delete_asked o z (Sweep w) m h key = swept_asks o z m w h.0 h.1 h.2 h.3
+delete_asked o z (PutMarker k) m h key = inr (due_removed o z m h.1, inr (inr (inr (k, refl, h.0, was_free o z key k m h.0 h.1 h.2))))
+delete_asked o z _ m h key = inl refl

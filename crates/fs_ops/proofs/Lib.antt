@@ -1,5 +1,6 @@
 pub mod Names
 pub mod MarkerAbove
+pub mod Asking
 pub mod AtPathLaws
 pub mod Children
 pub mod Climbing

@@ -251,7 +251,7 @@ impl Phases for DeletePath {
         }
     }
 
-    #[tactic(auto, using(crate::proofs::DeleteLaws::delete_laws, crate::proofs::DeleteLaws::delete_asked))]
+    #[tactic(auto, using(crate::proofs::DeleteLaws::delete_laws))]
     fn laws() {}
 }
 

@@ -17,9 +17,10 @@
 //! IsRoot, NotFound, and NotEmpty exactly where something else than the marker stands below a directory
 //! and the deletion is not recursive; else the file, or the directory with all below it, is no more,
 //! all else is as it was, and the marker of the directory above is put exactly where that is no root
-//! and is left empty; at each moment every key is as it was, or goes with the path and is gone, or that
-//! marker. The first three ask nothing but looks, `MakeDirs` puts its marker only where it is due, and
-//! `DeletePath` changes something only where there is something to delete (`sends`).
+//! and is left empty; at each moment every key is as it was, or goes with the path and is gone, or is that
+//! marker, which is put only where nothing stood. The first three ask nothing but looks, and `MakeDirs` puts its
+//! marker only where it is due. `DeletePath` asks looks, and, where there is something to delete, deletes the file,
+//! the marker of an empty directory, or keys below the directory in batches, and puts the marker above (`sends`).
 #![tactic(auto)]
 
 mod above;

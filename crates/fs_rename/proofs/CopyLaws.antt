@@ -1,5 +1,6 @@
 -- Copies of keys, one after another.
 use Rattle.fs_rename.proofs.Common.{AreFree, Bool, Copying, IsCopied, IsCopying, IsIn, IsOneOf, LessCopies, List, Move, None, Object, Objects, Option, Some, Stands, [], and_parts, ap, arith, copied, copied_all, copied_next, copies_left, copy_asks, copy_of, drop, drop-map, edited, false, has_more, inl, inr, is_in, length, length-map, ltb-true, nat_lt, nat_tests, none_some, refl, sources, subst, suc, sym, take, take_all, targets, text_here, text_other, true, zero, ℕ, ◌&&◌, ◌++◌, ◌+◌, ◌-◌, ◌<◌, ◌∙◌, ◌∷◌, ◌≡◌, ◌≤◌, ◌⊎◌}
+use Rattle.bucket_ops.specs.Asks.{Copy as CopyKey}
 use Rattle.std.specs.FinMap as fin
 
 -- ---- lists of moves
@@ -108,7 +109,29 @@ more_true n l h = let w = ltb-true 1 (l - n) (and_parts (nat_lt n l) (nat_lt 1 (
 more_false : (n l : ℕ) → n < l → (nat_lt n l && nat_lt 1 (l - n)) ≡ false → l ≤ suc n
 more_false n l k h = grind (arith, nat_tests, h, k)
 
+pub one_in_drop : (n : ℕ) (ps : List Move) (k l : List ℕ) → IsOneOf k l (drop n ps) → IsOneOf k l ps
+one_in_drop zero ps k l i = i
+one_in_drop (suc n) [] k l i = absurd i
+one_in_drop (suc n) (s ∷ ps) k l i = inr (one_in_drop n ps k l i)
+
 module _ (z : Objects) (ps : List Move) where
+  -- what is asked is the copy of one of them
+  pub copy_of_one : (c : Copying) (m : Objects) → IsCopying z ps c m → (k : List ℕ) × (l : List ℕ) × (copy_asks c ≡ CopyKey k l)
+      × IsOneOf k l ps
+  copy_of_one c m h =
+      let some : c.from < length ps = subst (λ n. c.from < n) (ap length h.keys ∙ length-map ps (λ (p : Move). p.0)) h.some in
+      let w = some_left c.from ps some in
+      let ks : drop c.from c.keys ≡ w.0.0 ∷ sources w.1 = ap (drop c.from) h.keys ∙ drop-map (λ (p : Move). p.0) c.from ps
+      ∙ ap sources w.2 in
+      let ls : drop c.from c.places ≡ w.0.1 ∷ targets w.1 = ap (drop c.from) h.places ∙ drop-map (λ (p : Move). p.1) c.from ps
+      ∙ ap targets w.2 in (
+        w.0.0,
+        w.0.1,
+        (λ i. copy_of (ks i) (ls i)),
+        one_in_drop c.from ps w.0.0 w.0.1
+            (subst (IsOneOf w.0.0 w.0.1) (sym w.2) (inl (refl, refl))),
+      )
+
   copied_one : (c : Copying) (m : Objects) → IsCopying z ps c m → edited (copy_asks c) m ≡ copied_all z (take (suc c.from) ps)
   copied_one c m h =
       let some : c.from < length ps = subst (λ n. c.from < n) (ap length h.keys ∙ length-map ps (λ (p : Move). p.0)) h.some in

@@ -2,6 +2,8 @@
 use Rattle.fs_rename.proofs.Common.{Actor, AlwaysIn, Err, GivesBetween, IfOk, List, NoSuchBucket, Ok, OtherBucket, Performed, Result, Route, Scene, Seen, SendsIn, after_all, always, gives, is_key, sends, subst, take, true, ℕ, ◌≡◌}
 use Rattle.bucket_ops.specs.Prelude.{DriveStop}
 use Rattle.fs_rename.specs.code.Rename.{Renaming, Answer, first as first_stage, asks}
+use Rattle.fs_ops.proofs.Asking.{asked_in, each_asked}
+use Rattle.fs_rename.specs.code.Meaning.{Asks}
 use Rattle.fs_rename.specs.Public.{RenamesIn, StandsWhole, RenameSends}
 use Rattle.fs_rename.proofs.Told.{renames_in, whole_in}
 
@@ -29,7 +31,9 @@ module _ {A : Type 0} {actor : Actor} {event retries : ℕ} {old new : Seen} {re
         honest = h.honest;
         scene = h.scene;
         moments = λ m. whole_in b o old.scene (after_all old.scene (take m h.part)) k (h.moments m);
-        sent = h.sent;
+        sent =
+            each_asked (SendsIn b (asks o (first_stage o)) (sends o) old.scene) (SendsIn b (asks o (first_stage o)) (Asks o) old.scene)
+            (asked_in b (asks o (first_stage o)) (sends o) (Asks o) old.scene (λ z a g. g k)) h.part h.sent;
         tried = h.tried;
         literal = h.literal;
         foretold = h.foretold;

@@ -1,16 +1,30 @@
 -- Renaming, stage by stage.
-use Rattle.std.specs.Prelude.{Bool, Err, List, None, Ok, Option, Result, Some, [], cond, drop, false, true, ℕ, ◌∷◌, ◌≡◌}
-use Rattle.fs_rename.proofs.Common.{AllFit, Before, Begun, Copying, Deleting, Directory, Falls, Goes, HasFile, IsAbsent, IsAtOrBelow, IsCopied, IsDeleted, IsDirectory, IsFirstTooLong, IsIn, IsMarked, IsMoved, IsPhases, IsReady, IsSource, IsWalked, IsWalking, Kind, LessCopies, Listing, Look, MayAsk, MayGo, More, NoFileIf, NoSuchBucket, Objects, PageEntry, RenameRefusal, Renames, RenamesPath, Spot, Step, Walked, Whole, all_go, always, ap, append-nil, arith, begins, begins_all, begins_marker, begins_trans, copied_all, copied_next, copies_left, copy_asks, deleting, edited, false≢true, fits, gives, has_more, holds, inl, inr, inside, irrefl, is_look, is_lt, is_too_long, key_if, keys_below, keys_on, left, look_of, marker, marker_at, marker_if, marker_of, moves_of, new_keys, parent, path_at, phases_of, prefix_of, refl, reply_in, sends, sources, stands_below, subst, sweep_asks, sweep_falls, sweep_fits, sweep_hears, sweep_stays, sym, text_cmp, text_total, walk_asks, walk_falls, walk_fits, walk_goes, ◌∙◌}
+use Rattle.std.specs.Prelude.{Bool, Err, List, None, Ok, Option, Result, Some, [], cond, drop, false, take, true, ℕ, ◌∷◌, ◌≡◌}
+use Rattle.fs_rename.proofs.Common.{AllFit, Before, Begun, Copying, Deleting, Directory, Falls, Goes, HasFile, IsAbsent, IsAtOrBelow}
+use Rattle.fs_rename.proofs.Common.{IsCopied, IsCopying, IsDeleted, IsDeleting, IsDirectory, IsFirstTooLong, IsIn, IsMarked, IsMoved}
+use Rattle.fs_rename.proofs.Common.{IsPhases, IsReady, IsSource, IsWalked, IsWalking, Kind, LessCopies, Listing, Look, MayAsk, MayGo}
+use Rattle.fs_rename.proofs.Common.{More, NoFileIf, NoSuchBucket, NoneBelow, Objects, PageEntry, RenameRefusal, Renames, RenamesPath}
+use Rattle.fs_rename.proofs.Common.{Spot, Step, Walked, Whole, all_go, always, ap, append-nil, arith, begins, begins_all, begins_marker}
+use Rattle.fs_rename.proofs.Common.{begins_trans, copied_all, copied_next, copies_left, copy_asks, deleting, edited, false≢true, fits}
+use Rattle.fs_rename.proofs.Common.{gives, has_more, holds, in_front, inl, inr, inside, irrefl, is_key, is_look, is_lt, is_too_long}
+use Rattle.fs_rename.proofs.Common.{key_if, key_no_marker, keys_below, keys_on, left, look_of, marker, marker_at, marker_if, marker_of}
+use Rattle.fs_rename.proofs.Common.{moves_of, new_keys, parent, path_at, phases_of, prefix_of, refl, reply_in, sends, sources}
+use Rattle.fs_rename.proofs.Common.{stands_below, subst, sweep_asks, sweep_falls, sweep_fits, sweep_hears, sweep_stays, sym, text_cmp}
+use Rattle.fs_rename.proofs.Common.{text_total, walk_asks, walk_falls, walk_fits, walk_goes, ◌∙◌}
 use Rattle.fs_tree.specs.Prelude.{MayMove}
+use Rattle.bucket_ops.specs.Prelude.{Ask, Put}
+use Rattle.basics.proofs.Common.{length-take, take-append-drop}
+use Rattle.basics.proofs.Members.{in_back}
+use Rattle.fs_rename.specs.code.Meaning.{Asks, IsBatch, Moves}
 use Rattle.fs_ops.proofs.AtPathLaws.{look_still}
 use Rattle.bucket_ops.proofs.Batches.{batch_goes, deleting_all}
 use Rattle.fs_ops.proofs.DeleteLaws.{parent_key}
 use Rattle.fs_rename.specs.declared.copying.CopyStep.{CopyStep}
-use Rattle.fs_rename.proofs.CopyLaws.{copying_falls, copying_goes}
+use Rattle.fs_rename.proofs.CopyLaws.{copy_of_one, copying_falls, copying_goes, is_source}
 use Rattle.fs_rename.proofs.Placed.{all_found, dir_fit, dir_long, only_file, sources_to}
 use Rattle.fs_rename.specs.declared.stages.RenameStage.{RenameStage}
 use Rattle.fs_rename.proofs.Seen.{Tells, TellsKind, inside_tells, place_tells}
-use Rattle.fs_rename.proofs.Told.{stands}
+use Rattle.fs_rename.proofs.Told.{free_place, moves_from, no_root, stands, was_free_above}
 use Rattle.fs_rename.proofs.Steps.{fall_all, fall_looked, fall_parent, fall_swept, fall_walked}
 use Rattle.std.specs.FinMap as fin
 use Rattle.list_walk.specs.Walks as walks
@@ -261,9 +275,62 @@ rename_laws = phases_of (Err NoSuchBucket) (record {
 
 -- ---- what is asked
 
+module _ (x : ℕ) (p t : List ℕ) (z : Objects) where
+  abbrev A : Renaming
+  A = record { source = x ∷ p; target = t }
+
+  -- on the way to its new place
+  on_way : (d i : Bool) (q : List ℕ) → MayGo A z d i q → (a : Ask) → Moves A z q a → Asks A z a
+  on_way d i q g a h = inr (q, free_place x p t z d i q g, g.fit, h)
+
+  copy_asked : (d i : Bool) (q : List ℕ) → MayGo A z d i q → (c : Copying) (m : Objects) → IsCopying z (moves_of d (x ∷ p) q z) c m
+      → Asks A z (copy_asks c)
+  copy_asked d i q g c m h =
+      let w = copy_of_one z (moves_of d (x ∷ p) q z) c m h in
+      on_way d i q g (copy_asks c) (inl (w.0, w.1, w.2, moves_from x p t z d i q g w.0 w.1 w.3))
+
+  taken : (n : ℕ) (ls : List (List ℕ)) (j : List ℕ) → IsIn j (take n ls) → IsIn j ls
+  taken n ls j i = subst (IsIn j) (take-append-drop n ls) (in_front j (take n ls) (drop n ls) i)
+
+  batch_of : (d i : Bool) (q : List ℕ) → MayGo A z d i q → (k : List ℕ) (ks : List (List ℕ)) (n m : Objects)
+      → IsDeleting n (sources (moves_of d (x ∷ p) q z)) (k ∷ ks) m
+      → IsBatch A z q (take 1000 (k ∷ ks))
+  batch_of d i q g k ks n m h = record {
+    few = omega (arith, length-take 1000 (k ∷ ks));
+    each = λ j e.
+        let w = is_source (moves_of d (x ∷ p) q z) j (subst (IsIn j) h.1 (in_back j h.0 (k ∷ ks) (taken 1000 (k ∷ ks) j e))) in
+        (w.0, moves_from x p t z d i q g j w.0 w.1);
+  }
+
+  batch_asked : (d i : Bool) (q : List ℕ) → MayGo A z d i q → (w : walks.Sweep) (n m : Objects)
+      → IsDeleted n (sources (moves_of d (x ∷ p) q z)) (Some w) m
+      → Asks A z (sweep_asks (marker_of (x ∷ p)) w)
+  batch_asked d i q g (Listing keys) n m h = absurd h
+  batch_asked d i q g (Deleting k ks) n m h =
+      on_way d i q g (sweep_asks (marker_of (x ∷ p)) (Deleting k ks)) (inr (inl (k, take 999 ks, refl, batch_of d i q g k ks n m h)))
+
+  asked_at : is_key (x ∷ p) ≡ true → (s : RenameStage) (m : Objects) → holds A z s m → Asks A z (asks A s)
+  asked_at key (Looking s b d) m h = inl (looks_there A s b)
+  asked_at key (Copy c) m h = copy_asked h.0 h.1 h.2 h.3 c m h.4
+  asked_at key (Batch w) m h = batch_asked h.0 h.1 h.2 h.3 w (copied_all z (moves_of h.0 (x ∷ p) h.2 z)) m h.4
+  asked_at key (PutMarker k) m h =
+      let v = h.1 in
+      on_way v.0 v.1 v.2 v.3 (Put k [])
+      (inr (inr (k, refl, h.0, was_free_above x p t z v.0 v.1 v.2 k (key_no_marker x p key) v.3 h.0 (subst (λ n. NoneBelow n k) v.4 h.2))))
+  asked_at key _ m h = inl refl
+
+asked_root : (t : List ℕ) (z : Objects) (s : RenameStage) (m : Objects) → holds (record { source = []; target = t }) z s m
+    → Asks (record { source = []; target = t }) z (asks (record { source = []; target = t }) s)
+asked_root t z (Looking s b d) m h = inl (looks_there (record { source = []; target = t }) s b)
+asked_root t z (Copy c) m h = absurd (no_root h.0 z h.3.ready.begun.source)
+asked_root t z (Batch w) m h = absurd (no_root h.0 z h.3.ready.begun.source)
+asked_root t z (PutMarker k) m h = absurd (no_root h.1.0 z h.1.3.ready.begun.source)
+asked_root t z _ m h = inl refl
+
+asked_by : (p t : List ℕ) (z : Objects) (s : RenameStage) (m : Objects) → holds (record { source = p; target = t }) z s m → is_key p ≡ true
+    → Asks (record { source = p; target = t }) z (asks (record { source = p; target = t }) s)
+asked_by [] t z s m h key = asked_root t z s m h
+asked_by (x ∷ p) t z s m h key = asked_at x p t z key s m h
+
 pub rename_asked : MayAsk {O = Renaming} asks holds sends
-rename_asked o z (Looking s b d) m h = inl (looks_there o s b)
-rename_asked o z (Copy c) m h = inr (h.0, h.1, h.2, h.3)
-rename_asked o z (Batch w) m h = inr (h.0, h.1, h.2, h.3)
-rename_asked o z (PutMarker k) m h = inr (h.1.0, h.1.1, h.1.2, h.1.3)
-rename_asked o z _ m h = inl refl
+rename_asked o z s m h key = asked_by o.source o.target z s m h key

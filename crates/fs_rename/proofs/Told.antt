@@ -1,7 +1,14 @@
 -- A renaming, in the tree.
-use Rattle.fs_rename.proofs.Common.{AlwaysIn, Answer, AreFree, Bool, Err, GivesIn, HasDir, HasFile, IsAbsent, IsDeleting, IsDirMoved, IsDirectory, IsFileMoved, IsIn, IsMarked, IsOnWay, IsPlace, IsSource, IsWhole, List, MayGo, MayStand, Move, NoSuchBucket, Objects, Ok, Option, Renames, RenamesDir, RenamesFile, Renaming, Scene, Some, [], always, arith, begins, begins_trans, copied_all, false, gives, in_front, inl, inr, is_key, is_marker, key_no_marker, marker_if, marker_of, moved, moves_dir, moves_file, moves_of, none_some, objects_at, parent, place_above, place_apart, same_scene, sources, subst, sym, take, true, without, ℕ, ◌∷◌, ◌≡◌, ◌⊎◌}
+use Rattle.fs_rename.proofs.Common.{AlwaysIn, Answer, AreFree, Bool, Err, GivesIn, HasDir, HasFile, IsAbsent, IsDeleting, IsDirMoved}
+use Rattle.fs_rename.proofs.Common.{IsDirectory, IsFileMoved, IsIn, IsMarked, IsMove, IsOnWay, IsOneOf, IsPlace, IsSource, IsWhole, List}
+use Rattle.fs_rename.proofs.Common.{MayGo, MayStand, Move, NoSuchBucket, None, NoneBelow, Objects, Ok, Option, Renames, RenamesDir}
+use Rattle.fs_rename.proofs.Common.{RenamesFile, Renaming, Scene, Some, [], always, arith, begins, begins_trans, copied_all, false, gives}
+use Rattle.fs_rename.proofs.Common.{in_front, inl, inr, is_key, is_marker, key_no_marker, marker_if, marker_of, moved, moves_dir}
+use Rattle.fs_rename.proofs.Common.{moves_file, moves_of, none_some, objects_at, parent, place_above, place_apart, same_scene, sources}
+use Rattle.fs_rename.proofs.Common.{subst, sym, take, true, without, ℕ, ◌∷◌, ◌≡◌, ◌⊎◌}
 use Rattle.fs_tree.specs.Moves.{IsFreePlace}
-use Rattle.fs_rename.proofs.Whole.{AreWhole, whole_copying, whole_emptying, whole_marked, is_whole}
+use Rattle.fs_rename.proofs.Whole.{AreWhole, was_free, whole_copying, whole_emptying, whole_marked, is_whole}
+use Rattle.std.specs.FinMap as fin
 use Rattle.fs_rename.proofs.Placed.{file_free, file_to, file_from, file_apart, file_moved, dir_free, dir_to, dir_from, dir_apart, dir_moved}
 use Rattle.fs_rename.proofs.Inside.{no_marker, inside_elements}
 
@@ -36,8 +43,25 @@ module _ (x : ℕ) (p t : List ℕ) (z : Objects) where
       is_whole (x ∷ p) (y ∷ q) z m (moves_of true (x ∷ p) (y ∷ q) z) (dir_to z x p y q h) (dir_from z x p y q h)
       (whole_of (marker_if (parent (x ∷ p))) z (moves_of true (x ∷ p) (y ∷ q) z) m (dir_free z x p y q g.ready.free.1) (dir_apart z x p y q) w)
 
-  free_place : (d i : Bool) (q : List ℕ) → MayGo O z d i q → IsFreePlace z (x ∷ p) t q
+  pub free_place : (d i : Bool) (q : List ℕ) → MayGo O z d i q → IsFreePlace z (x ∷ p) t q
   free_place d i q g = record { source = record { stands = stands d z x p g.ready.begun.source; apart = g.ready.begun.apart }; place = g.ready.place; free = g.ready.free }
+
+  -- a move is of a key of the source
+  pub moves_from : (d i : Bool) (q : List ℕ) → MayGo O z d i q → (k l : List ℕ) → IsOneOf k l (moves_of d (x ∷ p) q z)
+      → IsMove z (x ∷ p) q k l
+  moves_from d i [] g k l h = absurd g.ready.free
+  moves_from false i (y ∷ q) g k l h = file_from z x p y q g.ready.begun.source k l h
+  moves_from true i (y ∷ q) g k l h = dir_from z x p y q g.ready.begun.source k l h
+
+  -- where the marker above is put, nothing stood
+  pub was_free_above : (d i : Bool) (q k : List ℕ) → is_marker (x ∷ p) ≡ false → MayGo O z d i q → marker_if (parent (x ∷ p)) ≡ Some k
+      → NoneBelow (moved O z d q) k → fin.get z k ≡ None
+  was_free_above d i [] k f g e none = absurd g.ready.free
+  was_free_above false i (y ∷ q) k f g e none =
+      was_free None z (moves_of false (x ∷ p) (y ∷ q) z) (file_free z x p y q g.ready.begun.source g.ready.free.0) k none
+      (file_apart z x p y q f k e)
+  was_free_above true i (y ∷ q) k f g e none =
+      was_free None z (moves_of true (x ∷ p) (y ∷ q) z) (dir_free z x p y q g.ready.free.1) k none (dir_apart z x p y q k e)
 
   may_stand : (m : Objects) → is_marker (x ∷ p) ≡ false → always O z m → MayStand (x ∷ p) t z m
   may_stand m f (inl e) = inl e

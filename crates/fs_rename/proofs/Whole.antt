@@ -3,13 +3,17 @@ use Rattle.fs_rename.proofs.Common.{AreFree, IsIn, IsMarked, IsMove, IsOneOf, Is
 use Rattle.fs_rename.proofs.CopyLaws.{all_stand, copied_stand, copies_keep, in_sources, in_targets, is_source, is_target, not_target, one_in_take}
 use Rattle.std.specs.FinMap as fin
 
+-- a key is the marker u, which was put where nothing stood
+abbrev IsPut : Option (List ℕ) → Objects → Objects → List ℕ → Type 0
+IsPut u z m k = (u ≡ Some k) × (fin.get z k ≡ None) × (fin.get m k ≡ Some marker)
+
 -- the moves are under way, or done and a marker u is put
 pub record AreWhole (u : Option (List ℕ)) (z : Objects) (ps : List Move) (m : Objects) : Type 0 where
   pub moved : (k l : List ℕ) → IsOneOf k l ps → (fin.get m k ≡ fin.get z k) ⊎ ((fin.get m k ≡ None) × (fin.get m l ≡ fin.get z k))
   pub new : (k l : List ℕ) → IsOneOf k l ps → (fin.get m l ≡ None) ⊎ (fin.get m l ≡ fin.get z k)
   pub in_order : (k l j i : List ℕ) → IsOneOf k l ps → IsOneOf j i ps → is_lt (text_cmp j k) ≡ true → fin.get m l ≡ fin.get z k → fin.get m i ≡ fin.get z j
   pub all_first : (k l j i : List ℕ) → IsOneOf k l ps → IsOneOf j i ps → fin.get m k ≡ None → fin.get m i ≡ fin.get z j
-  pub others : (k : List ℕ) → (IsIn k (sources ps) → ⊥) → (IsIn k (targets ps) → ⊥) → (fin.get m k ≡ fin.get z k) ⊎ ((u ≡ Some k) × (fin.get m k ≡ Some marker))
+  pub others : (k : List ℕ) → (IsIn k (sources ps) → ⊥) → (IsIn k (targets ps) → ⊥) → (fin.get m k ≡ fin.get z k) ⊎ IsPut u z m k
 
 -- of keys that rise, those before one of the first are among the first
 earlier : (x : List ℕ) (ks : List (List ℕ)) → RisesFrom x ks → (n : ℕ) (k j : List ℕ) → IsIn k (take n ks) → IsIn j ks → is_lt (text_cmp j k) ≡ true → IsIn j (take n ks)
@@ -107,6 +111,13 @@ module _ (u : Option (List ℕ)) (z : Objects) (ps : List Move) (h : AreFree z p
   pub others_at_end : (k : List ℕ) → (IsIn k (sources ps) → ⊥) → (IsIn k (targets ps) → ⊥) → fin.get D k ≡ fin.get z k
   others_at_end k s t = others_stay (sources ps) (λ k g. g) k s t
 
+  -- where it is put, nothing stood
+  pub was_free : (q : List ℕ) → NoneBelow D q → (IsIn q (sources ps) → ⊥) → fin.get z q ≡ None
+  was_free q none apart =
+      sym (others_at_end q apart (λ i. let w = is_target ps q i in none_some (none q (begins_all q))
+      (new_at_end w.0 q w.1 ∙ (h.stands w.0 q w.1).1)))
+      ∙ none q (begins_all q)
+
   module _ (q : List ℕ) (e : u ≡ Some q) (none : NoneBelow D q) (apart : IsIn q (sources ps) → ⊥) where
     abbrev E : Objects
     E = fin.insert D q marker
@@ -120,9 +131,11 @@ module _ (u : Option (List ℕ)) (z : Objects) (ps : List Move) (h : AreFree z p
     put_old : (k l : List ℕ) → IsOneOf k l ps → fin.get E k ≡ None
     put_old k l i = text_other D q k marker (λ f. apart (subst (λ v. IsIn v (sources ps)) f (in_sources ps k l i))) ∙ old_at_end k l i
 
-    put_others : (k : List ℕ) → (IsIn k (sources ps) → ⊥) → (IsIn k (targets ps) → ⊥) → (fin.get E k ≡ fin.get z k) ⊎ ((u ≡ Some k) × (fin.get E k ≡ Some marker))
-    put_others k s t =
-        elim (same_or_other k q) [ inl f ↦ inr (e ∙ ap Some (sym f), text_here D q k marker f) | inr f ↦ inl (text_other D q k marker f ∙ others_at_end k s t) ]
+    put_others : (k : List ℕ) → (IsIn k (sources ps) → ⊥) → (IsIn k (targets ps) → ⊥) → (fin.get E k ≡ fin.get z k) ⊎ IsPut u z E k
+    put_others k s t = elim (same_or_other k q) [
+      | inl f ↦ inr (e ∙ ap Some (sym f), ap (fin.get z) f ∙ was_free q none apart, text_here D q k marker f)
+      | inr f ↦ inl (text_other D q k marker f ∙ others_at_end k s t)
+    ]
 
     whole_put : AreWhole u z ps E
     whole_put = grind (arith, put_old, put_new, put_others)

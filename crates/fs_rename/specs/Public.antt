@@ -4,7 +4,7 @@ use Rattle.fs_ops.specs.Prelude.{Scene, Request, AlwaysIn, SendsIn, MayStand, Re
 use Rattle.fs_tree.specs.declared.rename.RenameRefusal.TheVariants.{OtherBucket, NoSuchBucket}
 use Rattle.fs_rename.specs.Between.{Route, GivesBetween}
 use Rattle.fs_rename.specs.code.Rename.{Renaming, Answer, first, asks}
-use Rattle.fs_rename.specs.code.Meaning.{sends}
+use Rattle.fs_rename.specs.code.Meaning.{Asks}
 
 -- in one bucket it is what it is among the bucket's objects, and nothing else changes; between two buckets it is refused, before anything else, and nothing changes
 abbrev pub RenamesIn : Route → Scene → Answer → Scene → Type 0
@@ -14,9 +14,10 @@ RenamesIn r z a s = GivesBetween r.bucket r.to_bucket (Renames r.source r.target
 abbrev pub renaming_of : Route → Renaming
 renaming_of r = record { source = r.source; target = r.target }
 
--- what it may send: looks, and more where the source may be moved
+-- what it may send: looks, and where the source may be moved the copies of its keys to their new keys, the deletion of its keys in
+-- batches, and the put of the marker above it
 abbrev pub RenameSends : Route → Scene → Request → Type 0
-RenameSends r z e = SendsIn r.bucket (asks (renaming_of r) (first (renaming_of r))) (sends (renaming_of r)) z e
+RenameSends r z e = SendsIn r.bucket (asks (renaming_of r) (first (renaming_of r))) (Asks (renaming_of r)) z e
 
 -- at any moment each object of the source stands whole at its old or at its new place, and all else is as it was
 abbrev pub StandsWhole : Route → Scene → Scene → Type 0

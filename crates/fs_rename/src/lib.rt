@@ -17,7 +17,9 @@
 //! the directory above the source is put exactly where that is no root and is left empty (`renames`). At any moment,
 //! whatever is lost and wherever it stops, each file of the source stands whole at its old or its new place; they come
 //! there in the order of their keys, and only when all are there does one leave; and every other file is as it was,
-//! header included; and unless something may be moved nothing but looks is sent (`performed`).
+//! header included, and every other marker, but that the one above the source is put where none stood. Nothing is
+//! sent but looks, and, where the source may be moved, copies of its keys to their new keys, the deletion of its keys in
+//! batches, and the put of that marker (`performed`).
 #![tactic(auto)]
 
 mod base;

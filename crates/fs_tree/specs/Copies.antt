@@ -72,7 +72,8 @@ Copies p t z (Err (TooLong k)) m = HasPlace z p t × IsFirstTooLong z p t k × (
 Copies p t z (Err (Differs l)) m = HasPlace z p t × AllFit z p t × IsFirstOther z p t l × (m ≡ z)
 Copies p t z (Err r) m = ⊥
 
--- at any moment: each new key that was absent is so or is its source's copy, whole; they come in the order of their keys; and every other key is as it was
+-- at any moment: each new key that was absent is so or is its source's copy, whole; they come in the order of their keys; and every other
+-- key is as it was
 pub record IsCopiedInPart (p t : List ℕ) (z m : Objects) : Type 0 where
   -- a new key that was absent is so or has its source's object
   pub new : (k l : List ℕ) → IsMove z p t k l → fin.get z l ≡ None → (fin.get m l ≡ None) ⊎ (fin.get m l ≡ fin.get z k)

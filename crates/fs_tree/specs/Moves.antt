@@ -95,7 +95,9 @@ pub record MovesDir (p q : List ℕ) (z m : Objects) : Type 0 where
 abbrev pub IsElsewhere : Objects → List ℕ → List ℕ → List ℕ → Type 0
 IsElsewhere z p q k = ((l : List ℕ) → IsMove z p q k l → ⊥) × ((j : List ℕ) → IsMove z p q j k → ⊥)
 
--- each object of the source stands whole at its old or at its new place, and nothing else is at the new places; they come there in the order of their keys, and only when all are there does one leave its old place; every file that is at neither is as it was, header included, and so is every marker but that of the directory above the source
+-- each object of the source stands whole at its old or at its new place, and nothing else is at the new places; they come there in the
+-- order of their keys, and only when all are there does one leave its old place; every file that is at neither is as it was, header
+-- included, and so is every marker, unless it is that of the directory above the source, which is put only where none stood
 pub record IsWhole (p q : List ℕ) (z m : Objects) : Type 0 where
   -- a key of the source that is gone stands at its new place
   pub moved : (k l : List ℕ) → IsMove z p q k l → (fin.get m k ≡ fin.get z k) ⊎ ((fin.get m k ≡ None) × (fin.get m l ≡ fin.get z k))
@@ -106,7 +108,8 @@ pub record IsWhole (p q : List ℕ) (z m : Objects) : Type 0 where
   -- nothing goes before all are copied
   pub all_first : (k l j i : List ℕ) → IsMove z p q k l → IsMove z p q j i → fin.get m k ≡ None → fin.get m i ≡ fin.get z j
   pub files : (k : List ℕ) → is_marker k ≡ false → IsElsewhere z p q k → fin.get m k ≡ fin.get z k
-  pub markers : (k : List ℕ) → IsElsewhere z p q k → (fin.get m k ≡ fin.get z k) ⊎ ((marker_if (parent p) ≡ Some k) × (fin.get m k ≡ Some marker))
+  pub markers : (k : List ℕ) → IsElsewhere z p q k
+      → (fin.get m k ≡ fin.get z k) ⊎ ((marker_if (parent p) ≡ Some k) × (fin.get z k ≡ None) × (fin.get m k ≡ Some marker))
 
 -- at any moment: nothing has changed, or the source is on its way to its new place
 abbrev pub MayStand : List ℕ → List ℕ → Objects → Objects → Type 0

@@ -1,9 +1,12 @@
 -- Deleting a path, by its stages.
-use Rattle.std.specs.Prelude.{◌≡◌, ◌⊎◌, ℕ, ◌+◌, ◌==◌, ◌&&◌, Bool, true, false, List, [], ◌∷◌, Result, Ok, Err, Option, Some, None, length, if◌then◌else◌}
-use Rattle.bucket_ops.specs.Prelude.{text_eq, Objects, begins, text_in, PageEntry, Reply, Step, Next, End, look_of, Ask, Page, Put, is_look, sweep_start, sweep_hears, all_go, sweep_asks, IsSweeping, sweep_left, fits}
+use Rattle.std.specs.Prelude.{◌≡◌, ◌⊎◌, ℕ, ◌+◌, ◌≤◌, ◌==◌, ◌&&◌, Bool, true, false, List, [], ◌∷◌, Result, Ok, Err, Option, Some, None}
+use Rattle.std.specs.Prelude.{length, if◌then◌else◌}
+use Rattle.bucket_ops.specs.Prelude.{text_eq, Objects, begins, text_in, PageEntry, Reply, Step, Next, End, look_of, Ask, Page, Put, Drop}
+use Rattle.bucket_ops.specs.Prelude.{DropAll, IsIn, is_look, sweep_start, sweep_hears, all_go, sweep_asks, IsSweeping, sweep_left, fits}
 use Rattle.bucket_ops.specs.declared.look.Look.{Look}
 use Rattle.bucket_ops.specs.declared.look.Look.TheVariants.{There}
-use Rattle.fs_tree.specs.Prelude.{is_key, SomeBelow, NoneBelow, marker, HasFile, IsAbsent, IsEmpty, HasChildren, Deletes, parent, marker_if, IsMarked, IsWithoutBelow}
+use Rattle.fs_tree.specs.Prelude.{is_key, Stands, SomeBelow, NoneBelow, marker, marker_of, HasFile, IsAbsent, IsEmpty, HasChildren}
+use Rattle.fs_tree.specs.Prelude.{Deletes, parent, marker_if, IsMarked, IsWithoutBelow}
 use Rattle.std.specs.FinMap as fin
 use Rattle.list_walk.specs.Walks as walks
 use Rattle.fs_tree.specs.declared.answers.FsRefusal.{FsRefusal}
@@ -126,9 +129,33 @@ holds o z (PutMarker k) m = (marker_if (parent o.path) ≡ Some k) × Removed o 
 abbrev pub IsDue : Deletion → Objects → Type 0
 IsDue o z = HasFile z o.path ⊎ (NoFileAt z o.path × SomeBelow z (prefix_of o.path) × (o.recursive ≡ false → IsEmpty z o.path))
 
--- it looks, and asks something else only where there is something to delete
+-- these keys, at most a thousand, stand below the directory, whose deletion is recursive
+pub record IsBatch (o : Deletion) (z : Objects) (ks : List (List ℕ)) : Type 0 where
+  pub recursive : o.recursive ≡ true
+  pub directory : NoFileAt z o.path
+  pub few : length ks ≤ 1000
+  pub each : (k : List ℕ) → IsIn k ks → (begins (prefix_of o.path) k ≡ true) × Stands z k
+
+-- the marker of the directory above is put, where nothing stood
+abbrev pub PutsAbove : List ℕ → Objects → Ask → Type 0
+PutsAbove p z a = (k : List ℕ) × (a ≡ Put k []) × (marker_if (parent p) ≡ Some k) × (fin.get z k ≡ None)
+
+-- the file is deleted, or the marker of an empty directory, or keys below a directory in one batch; or the marker of the directory above
+-- is put
+abbrev pub Changes : Deletion → Objects → Ask → Type 0
+Changes o z a =
+    (HasFile z o.path × (a ≡ Drop o.path))
+    ⊎ ((NoFileAt z o.path × IsEmpty z o.path × (a ≡ Drop (marker_of o.path)))
+    ⊎ (((k : List ℕ) × (ks : List (List ℕ)) × (a ≡ DropAll (k ∷ ks)) × IsBatch o z (k ∷ ks))
+    ⊎ PutsAbove o.path z a))
+
+-- it looks; and where there is something to delete, it deletes that, or puts the marker above
+abbrev pub Asks : Deletion → Objects → Ask → Type 0
+Asks o z a = (is_look a ≡ true) ⊎ (IsDue o z × Changes o z a)
+
+-- what the deletion of a key sends
 abbrev pub sends : Deletion → Objects → Ask → Type 0
-sends o z a = (is_look a ≡ true) ⊎ IsDue o z
+sends o z a = is_key o.path ≡ true → Asks o z a
 
 -- what is deleted, and the marker that is put
 abbrev pub ends : Deletion → Objects → Answer → Objects → Type 0
@@ -142,13 +169,21 @@ ends o z (Err r) m = ⊥
 abbrev pub GoesWith : Deletion → Objects → List ℕ → Type 0
 GoesWith o z k = (HasFile z o.path × (k ≡ o.path)) ⊎ (NoFileAt z o.path × (begins (prefix_of o.path) k ≡ true))
 
--- a key is as it was, or it goes with the path and is gone, or it is the marker of the directory above, which is put
-abbrev pub IsKept : Deletion → Objects → Objects → List ℕ → Type 0
-IsKept o z m k = (fin.get m k ≡ fin.get z k) ⊎ (((fin.get m k ≡ None) × GoesWith o z k) ⊎ ((marker_if (parent o.path) ≡ Some k) × (fin.get m k ≡ Some marker)))
+-- a key is the marker of the directory above, which was put where nothing stood
+abbrev pub IsPut : Deletion → Objects → Objects → List ℕ → Type 0
+IsPut o z m k = (marker_if (parent o.path) ≡ Some k) × (fin.get z k ≡ None) × (fin.get m k ≡ Some marker)
 
--- at any moment nothing has changed, or there is something to delete, and each key is so
+-- a key is as it was, or it goes with the path and is gone, or it is the marker of the directory above, which was put where nothing stood
+abbrev pub IsKept : Deletion → Objects → Objects → List ℕ → Type 0
+IsKept o z m k = (fin.get m k ≡ fin.get z k) ⊎ (((fin.get m k ≡ None) × GoesWith o z k) ⊎ IsPut o z m k)
+
+-- nothing has changed, or there is something to delete, and each key is so
+abbrev pub InPart : Deletion → Objects → Objects → Type 0
+InPart o z m = (m ≡ z) ⊎ (IsDue o z × ((k : List ℕ) → IsKept o z m k))
+
+-- what stands at any moment of the deletion of a key
 abbrev pub always : Deletion → Objects → Objects → Type 0
-always o z m = (m ≡ z) ⊎ (IsDue o z × ((k : List ℕ) → IsKept o z m k))
+always o z m = is_key o.path ≡ true → InPart o z m
 
 -- what the deletion of a key answers and leaves in the tree, and that each key is then as at any moment
 abbrev pub gives : Deletion → Objects → Answer → Objects → Type 0

@@ -1,6 +1,11 @@
 -- What holds at each stage of a renaming, what it gives, and what stands at any moment.
-use Rattle.std.specs.Prelude.{◌≡◌, ◌⊎◌, ℕ, ◌+◌, ◌*◌, Bool, true, false, List, length, Ok, Err, Some, take}
-use Rattle.fs_ops.specs.Prelude.{Objects, without, Ask, is_look, NoneBelow, HasDir, HasFile, IsDirectory, IsAbsent, parent, marker_if, IsMarked, IsAtOrBelow, inside, IsPlace, AllFit, Renames, prefix_of, NoFileAt, IsWalking, walk_left, sweep_start, IsDeleting, IsDeleted, sweep_left}
+use Rattle.std.specs.Prelude.{◌≡◌, ◌⊎◌, ℕ, ◌+◌, ◌*◌, ◌≤◌, Bool, true, false, List, ◌∷◌, length, Ok, Err, Some, take}
+use Rattle.fs_ops.specs.Prelude.{Objects, without, Ask, DropAll, is_look, is_key, IsIn, IsMove, NoneBelow, HasDir, HasFile, IsDirectory}
+use Rattle.fs_ops.specs.Prelude.{IsAbsent, parent, marker_if, IsMarked, IsAtOrBelow, inside, IsPlace, AllFit, Renames, prefix_of}
+use Rattle.fs_ops.specs.Prelude.{NoFileAt, IsWalking, walk_left, sweep_start, IsDeleting, IsDeleted, sweep_left}
+use Rattle.bucket_ops.specs.Asks.{Copy as CopyKey}
+use Rattle.fs_tree.specs.Moves.{IsFreePlace}
+use Rattle.fs_ops.specs.code.Delete.{PutsAbove}
 use Rattle.fs_rename.specs.Copies.{sources, copied_all, IsCopying, moves_of, copies_left}
 use Rattle.fs_rename.specs.declared.stages.Spot.{Spot}
 use Rattle.fs_rename.specs.declared.stages.Spot.TheVariants.{Source, Target, Inside, Above}
@@ -82,9 +87,26 @@ IsOnWay o z d q m =
 abbrev pub always : Renaming → Objects → Objects → Type 0
 always o z m = (m ≡ z) ⊎ ((d : Bool) × (i : Bool) × (q : List ℕ) × MayGo o z d i q × IsOnWay o z d q m)
 
--- it looks, and asks something else only where the source may be moved
+-- these are keys of the source, at most a thousand
+pub record IsBatch (o : Renaming) (z : Objects) (q : List ℕ) (ks : List (List ℕ)) : Type 0 where
+  pub few : length ks ≤ 1000
+  pub each : (k : List ℕ) → IsIn k ks → (l : List ℕ) × IsMove z o.source q k l
+
+-- on the way to the new place q a key is copied to its new key, or old keys are deleted in one batch, or the marker of the directory
+-- above is put
+abbrev pub Moves : Renaming → Objects → List ℕ → Ask → Type 0
+Moves o z q a =
+    ((k : List ℕ) × (l : List ℕ) × (a ≡ CopyKey k l) × IsMove z o.source q k l)
+    ⊎ (((k : List ℕ) × (ks : List (List ℕ)) × (a ≡ DropAll (k ∷ ks)) × IsBatch o z q (k ∷ ks))
+    ⊎ PutsAbove o.source z a)
+
+-- it looks; and where the source may be moved to a new place at which all its keys fit, it moves it there
+abbrev pub Asks : Renaming → Objects → Ask → Type 0
+Asks o z a = (is_look a ≡ true) ⊎ ((q : List ℕ) × IsFreePlace z o.source o.target q × AllFit z o.source q × Moves o z q a)
+
+-- what the renaming of a key sends
 abbrev pub sends : Renaming → Objects → Ask → Type 0
-sends o z a = (is_look a ≡ true) ⊎ ((d : Bool) × (i : Bool) × (q : List ℕ) × MayGo o z d i q)
+sends o z a = is_key o.source ≡ true → Asks o z a
 
 -- so many looks are to come
 abbrev pub looks_left : Spot → Bool → ℕ
